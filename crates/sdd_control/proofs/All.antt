@@ -6,7 +6,7 @@ pub use Rattle.sdd_control.specs.Keys.{key_of}
 pub use Rattle.sdd_control.specs.Laws.{AllWritten, LeaderEnds, NeverUnknown, NoMessages, NoSends, NoneWritten, OneValue}
 pub use Rattle.sdd_control.specs.LineRules.{delivery_of, end_of, event_rules, head_of, head_rules, key_rules, most_events, number_within, site_number, site_of, sound_rules, with_act, within, words_rules}
 pub use Rattle.sdd_control.specs.Links.{gone_below, link, messages_at, put, taken}
-pub use Rattle.sdd_control.specs.Log.{Log, Stands, noted}
+pub use Rattle.sdd_control.specs.Log.{IsNoted, Log, noted}
 pub use Rattle.sdd_control.specs.NoteTests.{is_above, is_finish, is_gone, is_number, is_ok, is_stop, is_tell, is_value, is_write}
 pub use Rattle.sdd_control.specs.Report.{note_lines, site_line, site_lines}
 pub use Rattle.sdd_control.specs.Script.{IsSound}

@@ -1,5 +1,5 @@
 -- What every log keeps: one event more.
-use Rattle.sdd_control.proofs.All.{Act, All, Deliver, Finish, GONE, Gone, List, Log, Message, None, Note, OK, Ok, Option, Some, Stands, Stop, Tell, VALUE, Val, Value, Write, [], all_answered, and_both, answered, ap, append-nil, arith, cases_Bool, cases_lt, cond, drop, false, heir, inl, inr, is_above, is_gone, is_ok, is_stop, is_value, is_write, knows, last, last_of, link, lt-ltb, nat_lt, not, not_false, noted, or_left, or_right, put, refl, stopped, subst, sym, taken, true, untold, unwritten, value, value_by, ℕ, ◌++◌, ◌+◌, ◌-◌, ◌<◌, ◌==◌, ◌||◌, ◌∙◌, ◌∷◌, ◌≡◌, ◌≤◌, ◌⊎◌}
+use Rattle.sdd_control.proofs.All.{Act, All, Deliver, Finish, GONE, Gone, IsNoted, List, Log, Message, None, Note, OK, Ok, Option, Some, Stop, Tell, VALUE, Val, Value, Write, [], all_answered, and_both, answered, ap, append-nil, arith, cases_Bool, cases_lt, cond, drop, false, heir, inl, inr, is_above, is_gone, is_ok, is_stop, is_value, is_write, knows, last, last_of, link, lt-ltb, nat_lt, not, not_false, noted, or_left, or_right, put, refl, stopped, subst, sym, taken, true, untold, unwritten, value, value_by, ℕ, ◌++◌, ◌+◌, ◌-◌, ◌<◌, ◌==◌, ◌||◌, ◌∙◌, ◌∷◌, ◌≡◌, ◌≤◌, ◌⊎◌}
 use Rattle.sdd_control.proofs.Lists.{or_cases, not_both, every_at, every_all, first_at, none_at, Has, Tidy, has_append, has_first, tidy_drop, tidy_append, tidy_gone}
 use Rattle.sdd_control.proofs.Cases.{Case}
 use Rattle.sdd_control.proofs.Cases.Case.{tells, writes_one, finishes, learns, hears, takes, stops}
@@ -36,9 +36,9 @@ pub record Kept (backups writes : ℕ) (log : Log) : Type 0 where
   pub rising : (i j : ℕ) → noted (is_value j i) log ≡ true → Latest log i j
   pub ok_noted : (i j : ℕ) → noted (is_ok i j) log ≡ true → noted (is_value j i) log ≡ true
   pub ok_link : (i j : ℕ) → Has (link log j i) OK → noted (is_value j i) log ≡ true
-  pub finished : (i : ℕ) (v : Val) → Stands log (Finish i v) → Ready backups log i v
-  pub wrote : (i k : ℕ) → Stands log (Write i k) → Ready backups log i All
-  pub all_written : (i k : ℕ) → Stands log (Finish i All) → 1 ≤ k → k ≤ writes → noted (is_write i k) log ≡ true
+  pub finished : (i : ℕ) (v : Val) → IsNoted log (Finish i v) → Ready backups log i v
+  pub wrote : (i k : ℕ) → IsNoted log (Write i k) → Ready backups log i All
+  pub all_written : (i k : ℕ) → IsNoted log (Finish i All) → 1 ≤ k → k ≤ writes → noted (is_write i k) log ≡ true
 
 pub kept_nil : (backups writes : ℕ) → Kept backups writes []
 kept_nil backups writes =
@@ -273,15 +273,15 @@ module _ (backups writes : ℕ) (log : Log) (a : Act) (n : Note) (c : Case backu
         | inr x ↦ or_left (is_value j i n) (noted (is_value j i) log) (put_ok n j i x)
       ]
 
-  finished_on : (i : ℕ) (v : Val) → Stands (more log a n) (Finish i v) → Ready backups (more log a n) i v
+  finished_on : (i : ℕ) (v : Val) → IsNoted (more log a n) (Finish i v) → Ready backups (more log a n) i v
   finished_on i v (inl e) = let h = finish_case backups writes log a i v (subst (λ z. Case backups writes log a z) e c) in ready_on i v h.0
   finished_on i v (inr s) = ready_on i v (k.finished i v s)
 
-  wrote_on : (i m : ℕ) → Stands (more log a n) (Write i m) → Ready backups (more log a n) i All
+  wrote_on : (i m : ℕ) → IsNoted (more log a n) (Write i m) → Ready backups (more log a n) i All
   wrote_on i m (inl e) = let h = write_case backups writes log a i m (subst (λ z. Case backups writes log a z) e c) in ready_on i All h.0
   wrote_on i m (inr s) = ready_on i All (k.wrote i m s)
 
-  all_written_on : (i m : ℕ) → Stands (more log a n) (Finish i All) → 1 ≤ m → m ≤ writes → noted (is_write i m) (more log a n) ≡ true
+  all_written_on : (i m : ℕ) → IsNoted (more log a n) (Finish i All) → 1 ≤ m → m ≤ writes → noted (is_write i m) (more log a n) ≡ true
   all_written_on i m (inl e) l u =
       let h = finish_case backups writes log a i All (subst (λ z. Case backups writes log a z) e c) in
       let f = none_at (λ z. not (noted (is_write i z) log)) 1 writes m (h.1 refl) l (omega arith) in

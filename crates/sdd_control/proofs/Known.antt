@@ -1,5 +1,5 @@
 -- An heir's value is never unknown.
-use Rattle.sdd_control.proofs.All.{Act, Bool, Finish, FitAll, List, Log, NeverUnknown, None, Option, Some, Stands, Unknown, Val, ap, arith, false, heir, inl, inr, last, log_of, refl, suc, sym, true, value, value_by, zero, ℕ, ◌<◌, ◌==◌, ◌∙◌, ◌≡◌, ◌≢◌, ◌⊎◌}
+use Rattle.sdd_control.proofs.All.{Act, Bool, Finish, FitAll, IsNoted, List, Log, NeverUnknown, None, Option, Some, Unknown, Val, ap, arith, false, heir, inl, inr, last, log_of, refl, suc, sym, true, value, value_by, zero, ℕ, ◌<◌, ◌==◌, ◌∙◌, ◌≡◌, ◌≢◌, ◌⊎◌}
 use Rattle.sdd_control.proofs.Kept.{Kept}
 use Rattle.sdd_control.proofs.Promises.{kept}
 
@@ -26,7 +26,7 @@ module _ (backups writes : ℕ) (log : Log) (k : Kept backups writes log) where
       ]
 
   -- so a Finish note has all or none
-  pub finish_known : (i : ℕ) (v : Val) → Stands log (Finish i v) → v ≢ Unknown
+  pub finish_known : (i : ℕ) (v : Val) → IsNoted log (Finish i v) → v ≢ Unknown
   finish_known i v s e = let r = k.finished i v s in known (suc i) i (omega arith) r.heir (r.value ∙ e)
 
 pub never_unknown_of : (backups writes : ℕ) (acts : List Act) → FitAll backups acts → NeverUnknown (log_of backups writes acts)

@@ -5,28 +5,28 @@ use Rattle.sdd_control.specs.declared.note.Note.TheVariants.{Write, Finish, Noth
 use Rattle.sdd_control.specs.declared.value.Val.{Val}
 use Rattle.sdd_control.specs.declared.value.Val.TheVariants.{Unknown, All, Nought}
 use Rattle.sdd_control.specs.Links.{link}
-use Rattle.sdd_control.specs.Log.{Log, Stands, noted}
+use Rattle.sdd_control.specs.Log.{IsNoted, Log, noted}
 use Rattle.sdd_control.specs.NoteTests.{is_number}
 use Rattle.sdd_control.specs.Standing.{finished, stopped}
 use Rattle.sdd_control.specs.Steps.{note_of}
 
 -- two sites that finish have one value
 abbrev pub OneValue : Log → Type 0
-OneValue log = (i j : ℕ) (v w : Val) → Stands log (Finish i v) → Stands log (Finish j w) → v ≡ w
+OneValue log = (i j : ℕ) (v w : Val) → IsNoted log (Finish i v) → IsNoted log (Finish j w) → v ≡ w
 
 -- where a site finished with all, every number was written
 abbrev pub AllWritten : ℕ → Log → Type 0
 AllWritten writes log =
-    (i number : ℕ) → Stands log (Finish i All)
+    (i number : ℕ) → IsNoted log (Finish i All)
     → 1 ≤ number → number ≤ writes → noted (is_number number) log ≡ true
 
 -- where a site finished with none, no number was written, before or after
 abbrev pub NoneWritten : Log → Type 0
-NoneWritten log = (i j number : ℕ) → Stands log (Finish i Nought) → ¬ Stands log (Write j number)
+NoneWritten log = (i j number : ℕ) → IsNoted log (Finish i Nought) → ¬ IsNoted log (Write j number)
 
 -- a site that finishes knows whether the writes are made
 abbrev pub NeverUnknown : Log → Type 0
-NeverUnknown log = (i : ℕ) → ¬ Stands log (Finish i Unknown)
+NeverUnknown log = (i : ℕ) → ¬ IsNoted log (Finish i Unknown)
 
 -- no message is on its way to a site that hasn't stopped
 abbrev pub NoMessages : ℕ → Log → Type 0

@@ -17,6 +17,6 @@ noted p [] = false
 noted p (e ∷ log) = p e.note || noted p log
 
 -- the note is one of them
-abbrev pub Stands : Log → Note → Type 0
-Stands [] note = ⊥
-Stands (e ∷ log) note = (e.note ≡ note) ⊎ Stands log note
+abbrev pub IsNoted : Log → Note → Type 0
+IsNoted [] note = ⊥
+IsNoted (e ∷ log) note = (e.note ≡ note) ⊎ IsNoted log note

@@ -43,15 +43,15 @@ note_lines number run [] = []
 note_lines number run (act ∷ acts) =
     note_line number (next_note run act) ++ note_lines (number + 1) (with_event run act) acts
 
-abbrev pub standing_words : Bool → Val → Bool → List ℕ
-standing_words true val ended = codes "stopped"
-standing_words false val true = value_word val ++ codes " finished"
-standing_words false val false = value_word val
+abbrev pub status_words : Bool → Val → Bool → List ℕ
+status_words true val ended = codes "stopped"
+status_words false val true = value_word val ++ codes " finished"
+status_words false val false = value_word val
 
 abbrev pub site_line : Log → ℕ → List ℕ
 site_line log i =
     codes "site" ++ spaced i
-    ++ 32 ∷ standing_words (stopped log i) (value log i) (finished log i) ++ 10 ∷ []
+    ++ 32 ∷ status_words (stopped log i) (value log i) (finished log i) ++ 10 ∷ []
 
 -- the lines of n sites from i on
 abbrev pub site_lines : Log → ℕ → ℕ → List ℕ

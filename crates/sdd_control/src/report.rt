@@ -1,7 +1,7 @@
 //! The text that a control file makes, piece by piece.
 ghost use Rattle.std.specs.Prelude.{◌≡◌, ◌+◌, ◌-◌, ◌<◌, ◌≤◌, ◌^◌, ◌∷◌, ◌++◌, length, IsTrue, IfOk, OnOk};
 ghost use Rattle.sdd_control.specs.Control.{live_at, next_note, run_after, with_event};
-ghost use Rattle.sdd_control.specs.Report.{ending, note_line, note_lines, note_words, report, site_line, site_lines, spaced, standing_words, value_word};
+ghost use Rattle.sdd_control.specs.Report.{ending, note_line, note_lines, note_words, report, site_line, site_lines, spaced, status_words, value_word};
 ghost use Rattle.sdd_control.specs.Script.{IsSound};
 ghost use Rattle.sdd_control.specs.Standing.{finished, stopped, value};
 ghost use Rattle.sdd_control.specs.Steps.{FitAll, Fits};
@@ -134,13 +134,13 @@ fn put_events(text: &mut Vec<u8>, control: &mut Control, acts: &[Act]) -> Result
     Ok(())
 }
 
-fn put_standing(text: &mut Vec<u8>, control: &Control, site: u32) -> Result<(), NoMemory>
+fn put_status(text: &mut Vec<u8>, control: &Control, site: u32) -> Result<(), NoMemory>
     requires live { IsTrue control.now.live }
     requires site { site ≤ control.now.value.backups }
     ensures { let log = control.now.value.log in
         OnOk result (text.new.items
         ≡ text.old.items
-        ++ standing_words (stopped log site) (value log site) (finished log site)) }
+        ++ status_words (stopped log site) (value log site) (finished log site)) }
 {
     if control.stopped(site) {
         return put(text, b"stopped");
@@ -160,7 +160,7 @@ fn put_site_line(text: &mut Vec<u8>, control: &Control, site: u32) -> Result<(),
 {
     put_site(text, b"site", site)?;
     put(text, b" ")?;
-    put_standing(text, control, site)?;
+    put_status(text, control, site)?;
     put(text, b"\n")
 }
 

@@ -1,7 +1,7 @@
 -- The names of std, of the crates below and of this crate's definitions that its proofs cite. Declares nothing.
 pub use Rattle.sdd_copy.specs.Ascending.{ascend}
 pub use Rattle.sdd_copy.specs.Contents.{Dated, contents, keys_in, latest, newer, of_fragment, row_left, rows_left}
-pub use Rattle.sdd_copy.specs.Copies.{AreHere, Held, IsLive, StandFor, changed_at, held_in, is_here, items_at, or_none, rows_at, with_change}
+pub use Rattle.sdd_copy.specs.Copies.{AreHere, Held, IsLive, Represent, changed_at, held_in, is_here, items_at, or_none, rows_at, with_change}
 pub use Rattle.sdd_copy.specs.Frozen.{CopyRows, Frozen, all_rows, chosen, frozen_for, is_among, or_nothing, reduced, rows_for, rows_of, with_keyed}
 pub use Rattle.sdd_copy.specs.Items.{Items, dated, entries_in, initial, initial_row, is_newer, items_of, row_at, row_in, row_of_item, rows_in, written}
 pub use Rattle.sdd_copy.specs.Keyed.{AreHeld, AreKeyed, HasHeldKey, HasKey, IsNear, is_within, one_at, rows_meeting}

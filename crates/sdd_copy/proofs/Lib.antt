@@ -6,6 +6,6 @@ pub mod OneKey
 pub mod Order
 pub mod Ranges
 pub mod Sorting
-pub mod Standing
+pub mod Represented
 pub mod Uses
 pub mod Writing

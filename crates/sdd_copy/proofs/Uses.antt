@@ -1,27 +1,27 @@
 -- The rows of uses: frozen from copies that stand for changes, and reduced one use after the other.
-use Rattle.sdd_copy.proofs.All.{All, AllByRecursion, AreHere, Bool, CopyRows, Dated, FragNo, Frozen, Held, List, None, Restriction, Some, StandFor, Use, Value, [], ap, arith, chosen, column, cond, contents, drop, entries_in, eq-eqb, false, filter, filter_same, first_some, flat_map, fold, frozen_for, is_among, is_here, is_known, known_use, length, map, map_over_more, recursion_from_All, reduced, refl, rows_at, rows_for, slice_index_or, slice_set, suc, sym, take, take_all, true, with_keyed, with_values, zero, ℕ, ℤ, ◌++◌, ◌+◌, ◌<◌, ◌==◌, ◌∙◌, ◌∷◌, ◌≡◌, ◌≤◌}
+use Rattle.sdd_copy.proofs.All.{All, AllByRecursion, AreHere, Bool, CopyRows, Dated, FragNo, Frozen, Held, List, None, Represent, Restriction, Some, Use, Value, [], ap, arith, chosen, column, cond, contents, drop, entries_in, eq-eqb, false, filter, filter_same, first_some, flat_map, fold, frozen_for, is_among, is_here, is_known, known_use, length, map, map_over_more, recursion_from_All, reduced, refl, rows_at, rows_for, slice_index_or, slice_set, suc, sym, take, take_all, true, with_keyed, with_values, zero, ℕ, ℤ, ◌++◌, ◌+◌, ◌<◌, ◌==◌, ◌∙◌, ◌∷◌, ◌≡◌, ◌≤◌}
 use Rattle.sdd_copy.proofs.Contents.{items_tell}
 use Rattle.sdd_copy.proofs.Members.{known_among}
 
 -- copies that stand for changes give the contents of these
 
-rows_told : (copies : Held) (xs : Dated) (f : ℕ) → StandFor copies xs → is_here copies f ≡ true → rows_at copies f ≡ contents f xs
-rows_told copies xs f stand here = ap entries_in (stand f here) ∙ items_tell f xs
+rows_told : (copies : Held) (xs : Dated) (f : ℕ) → Represent copies xs → is_here copies f ≡ true → rows_at copies f ≡ contents f xs
+rows_told copies xs f represent here = ap entries_in (represent f here) ∙ items_tell f xs
 
 frags_told : (copies : Held) (xs : Dated) (restrictions : List Restriction) (frags : List FragNo)
-    → StandFor copies xs → AllByRecursion (λ f. is_here copies f.0 ≡ true) frags
+    → Represent copies xs → AllByRecursion (λ f. is_here copies f.0 ≡ true) frags
     → flat_map (λ f. chosen restrictions (rows_at copies f.0)) frags ≡ flat_map (λ f. chosen restrictions (contents f.0 xs)) frags
-frags_told copies xs restrictions [] stand here = refl
-frags_told copies xs restrictions (f ∷ frags) stand here =
-    rw (rows_told copies xs f.0 stand here.0, frags_told copies xs restrictions frags stand here.1) refl
+frags_told copies xs restrictions [] represent here = refl
+frags_told copies xs restrictions (f ∷ frags) represent here =
+    rw (rows_told copies xs f.0 represent here.0, frags_told copies xs restrictions frags represent here.1) refl
 
 abbrev rows_in_order : List (ℤ × List Value) → List (List Value)
 rows_in_order rows = map (λ e. e.1) (fold with_keyed [] rows)
 
-use_told : (copies : Held) (xs : Dated) (u : Use) → StandFor copies xs → AreHere copies u
+use_told : (copies : Held) (xs : Dated) (u : Use) → Represent copies xs → AreHere copies u
     → rows_for (rows_at copies) u ≡ rows_for (λ f. contents f xs) u
-use_told copies xs u stand here =
-    ap rows_in_order (frags_told copies xs u.restrictions u.frags stand (recursion_from_All (λ f. is_here copies f.0 ≡ true) u.frags here))
+use_told copies xs u represent here =
+    ap rows_in_order (frags_told copies xs u.restrictions u.frags represent (recursion_from_All (λ f. is_here copies f.0 ≡ true) u.frags here))
 
 abbrev numbered : ℕ → List (List Value) → ℕ × List (List Value)
 numbered n rows = (n, rows)
@@ -29,22 +29,22 @@ numbered n rows = (n, rows)
 abbrev pub held_for : CopyRows → Use → ℕ × List (List Value)
 held_for copies u = (u.number, rows_for copies u)
 
-uses_told : (copies : Held) (xs : Dated) (uses : List Use) → StandFor copies xs → AllByRecursion (AreHere copies) uses
+uses_told : (copies : Held) (xs : Dated) (uses : List Use) → Represent copies xs → AllByRecursion (AreHere copies) uses
     → map (held_for (rows_at copies)) uses ≡ map (held_for (λ f. contents f xs)) uses
-uses_told copies xs [] stand here = refl
-uses_told copies xs (u ∷ uses) stand here = rw (ap (numbered u.number) (use_told copies xs u stand here.0), uses_told copies xs uses stand here.1) refl
+uses_told copies xs [] represent here = refl
+uses_told copies xs (u ∷ uses) represent here = rw (ap (numbered u.number) (use_told copies xs u represent here.0), uses_told copies xs uses represent here.1) refl
 
 abbrev pub with_uses : ℕ → List (ℕ × List (List Value)) → Frozen
 with_uses ts uses = record { ts = ts; uses = uses }
 
 pub frozen_told : (copies : Held) (xs : Dated) (ts : ℕ) (uses : List Use) (frozen : List (ℕ × List (List Value))) (i : ℕ)
     → frozen ≡ map (held_for (rows_at copies)) (take i uses) → length uses ≤ i
-    → StandFor copies xs → All (AreHere copies) uses → with_uses ts frozen ≡ frozen_for (λ f. contents f xs) ts uses
-frozen_told copies xs ts uses frozen i so_far end stand here =
+    → Represent copies xs → All (AreHere copies) uses → with_uses ts frozen ≡ frozen_for (λ f. contents f xs) ts uses
+frozen_told copies xs ts uses frozen i so_far end represent here =
     ap (with_uses ts) (
     so_far
     ∙ ap (map (held_for (rows_at copies))) (take_all i uses end)
-    ∙ uses_told copies xs uses stand (recursion_from_All (AreHere copies) uses here)
+    ∙ uses_told copies xs uses represent (recursion_from_All (AreHere copies) uses here)
     )
 
 -- the first use with a number

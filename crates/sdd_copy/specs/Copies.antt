@@ -37,8 +37,8 @@ abbrev pub with_change : Held → ℕ × Change → Held
 with_change copies x = changed_at x.1.frag.0 (option_map (λ items. written items x)) copies
 
 -- the copies hold what these changes of their fragments leave
-abbrev pub StandFor : Held → Dated → Type 0
-StandFor copies xs = (f : ℕ) → is_here copies f ≡ true → items_at copies f ≡ items_of (of_fragment f xs)
+abbrev pub Represent : Held → Dated → Type 0
+Represent copies xs = (f : ℕ) → is_here copies f ≡ true → items_at copies f ≡ items_of (of_fragment f xs)
 
 -- there is a copy of each fragment of a use
 abbrev pub AreHere : Held → Use → Type 0

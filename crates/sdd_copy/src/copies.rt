@@ -2,7 +2,7 @@ ghost use Rattle.std.specs.Prelude.{◌≡◌, [], ◌∷◌, ◌++◌, ◌<◌,
 ghost use Rattle.std.specs.Option.{option_map};
 ghost use Rattle.std.specs.List.{All};
 ghost use Rattle.sdd_copy.specs.Contents.{Dated};
-ghost use Rattle.sdd_copy.specs.Copies.{is_here, items_at, with_change, held_in, IsLive, StandFor};
+ghost use Rattle.sdd_copy.specs.Copies.{is_here, items_at, with_change, held_in, IsLive, Represent};
 ghost use Rattle.sdd_copy.specs.Items.{written, dated};
 
 use crate::frag_copy::FragCopy;
@@ -38,7 +38,7 @@ impl Copies {
     pub fn new(alloc: Global, keys: &[Option<u32>]) -> Result<Copies, NoMemory>
         ensures empty { IfOk result (λ copies.
             copies ≡ record { live = true; value = map (option_map (λ key. [])) keys.now }) }
-        ensures stand { IfOk result (λ copies. StandFor copies.value []) }
+        ensures represent { IfOk result (λ copies. Represent copies.value []) }
         ensures here { IfOk result (λ copies. (f : ℕ) →
             is_here copies.value f ≡ is_some (slice_index_or keys.now f None)) }
     {
@@ -65,8 +65,8 @@ impl Copies {
         ensures ok { OnOk result (
             self.new
             ≡ record { live = true; value = with_change self.old.value (ts.0, change) }) }
-        ensures stand { OnOk result ((xs : Dated) → StandFor self.old.value xs
-            → StandFor self.new.value (xs ++ (ts.0, change) ∷ [])) }
+        ensures represent { OnOk result ((xs : Dated) → Represent self.old.value xs
+            → Represent self.new.value (xs ++ (ts.0, change) ∷ [])) }
         ensures here { OnOk result ((f : ℕ) →
             is_here self.new.value f ≡ is_here self.old.value f) }
         ensures err { OnErr result (self.new.live ≡ false) }
@@ -86,8 +86,8 @@ impl Copies {
         ensures ok { OnOk result (
             self.new
             ≡ record { live = true; value = fold with_change self.old.value (dated ts.0 changes) }) }
-        ensures stand { OnOk result ((xs : Dated) → StandFor self.old.value xs
-            → StandFor self.new.value (xs ++ dated ts.0 changes)) }
+        ensures represent { OnOk result ((xs : Dated) → Represent self.old.value xs
+            → Represent self.new.value (xs ++ dated ts.0 changes)) }
         ensures here { OnOk result ((f : ℕ) →
             is_here self.new.value f ≡ is_here self.old.value f) }
         ensures err { OnErr result (self.new.live ≡ false) }

@@ -2,7 +2,7 @@
 ghost use Rattle.std.specs.Prelude.{◌≡◌, ℕ};
 ghost use Rattle.sdd_copy.specs.Contents.{Dated, of_fragment, contents};
 ghost use Rattle.sdd_copy.specs.Items.{items_of, entries_in};
-ghost use Rattle.sdd_copy.specs.Copies.{Held, StandFor};
+ghost use Rattle.sdd_copy.specs.Copies.{Held, Represent};
 ghost use Rattle.sdd_copy.specs.Sets.{DatesDiffer, AreSame};
 
 /// The rows of what the write rule leaves of the changes of a fragment are its contents.
@@ -20,5 +20,5 @@ pub fn law_order()
 /// Copies that stand for changes stand for the same changes in whatever order.
 pub fn law_copies_order()
     ensures { (copies : Held) (xs ys : Dated) → DatesDiffer xs → AreSame xs ys
-        → StandFor copies xs → StandFor copies ys }
+        → Represent copies xs → Represent copies ys }
 {}

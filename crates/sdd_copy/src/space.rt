@@ -1,7 +1,7 @@
 ghost use Rattle.std.specs.Prelude.{◌≡◌, ℕ, OnOk, OnErr, IfOk, IsTrue, length};
 ghost use Rattle.std.specs.List.{All};
 ghost use Rattle.sdd_copy.specs.Contents.{Dated, contents};
-ghost use Rattle.sdd_copy.specs.Copies.{rows_at, StandFor, AreHere};
+ghost use Rattle.sdd_copy.specs.Copies.{rows_at, Represent, AreHere};
 ghost use Rattle.sdd_copy.specs.Frozen.{frozen_for, rows_of, values_in, reduced, counts_of, all_rows};
 
 use crate::copies::Copies;
@@ -41,7 +41,7 @@ impl Space {
         requires { IsTrue copies.now.live }
         ensures rows { IfOk result (λ space.
             space ≡ frozen_for (rows_at copies.now.value) ts.0 uses.now) }
-        ensures contents { IfOk result (λ space. (xs : Dated) → StandFor copies.now.value xs
+        ensures contents { IfOk result (λ space. (xs : Dated) → Represent copies.now.value xs
             → All (AreHere copies.now.value) uses.now
             → space ≡ frozen_for (λ f. contents f xs) ts.0 uses.now) }
     {

@@ -1,9 +1,9 @@
 -- The names of std, of the crates below and of this crate's definitions that its proofs cite. Declares nothing.
 pub use Rattle.sdd_copy.proofs.Contents.{is_own}
-pub use Rattle.sdd_copy.proofs.Standing.{here_all, here_applied, here_more, stand_all, stand_applied, stand_same}
+pub use Rattle.sdd_copy.proofs.Represented.{here_all, here_applied, here_more, represent_all, represent_applied, represent_same}
 pub use Rattle.sdd_copy.proofs.Uses.{frozen_told, held_for}
 pub use Rattle.sdd_copy.specs.Contents.{Dated, contents}
-pub use Rattle.sdd_copy.specs.Copies.{AreHere, Held, StandFor, changed_at, is_here, rows_at, with_change}
+pub use Rattle.sdd_copy.specs.Copies.{AreHere, Held, Represent, changed_at, is_here, rows_at, with_change}
 pub use Rattle.sdd_copy.specs.Frozen.{Frozen, counts_of, frozen_for, values_in}
 pub use Rattle.sdd_copy.specs.Items.{Items}
 pub use Rattle.sdd_copy.specs.Sets.{AreSame, DatesDiffer}
@@ -14,7 +14,7 @@ pub use Rattle.sdd_dm.specs.Heads.{first_step, head_at, holds_in, is_held_in, is
 pub use Rattle.sdd_dm.specs.Opens.{Open, is_asked_of, is_read_of, opens, opens_acted}
 pub use Rattle.sdd_dm.specs.Pipes.{is_processing, is_wait, pipe, pipe_acted, waits}
 pub use Rattle.sdd_dm.specs.Ranks.{IsLowest, rank_of_act}
-pub use Rattle.sdd_dm.specs.Stands.{EachHanded, HasCopies, Shows, ShowsClass, Stands, Worked, all_dated, written}
+pub use Rattle.sdd_dm.specs.Represents.{EachHanded, HasCopies, Represents, Shows, ShowsClass, Worked, all_dated, written}
 pub use Rattle.sdd_dm.specs.Starts.{lent, own_rows, with_own}
 pub use Rattle.sdd_dm.specs.State.{State, act_in, class_piped, frozen_now, frozen_of, head_taken, notes_after, notes_handed, state_after, state_by, state_handed, state_told, stepped, steps_in, steps_left, with_out}
 pub use Rattle.sdd_dm.specs.Views.{ClassView, Home, View, after, at_class, class_after, class_view, dated_in, home_of, source_of, view_of}

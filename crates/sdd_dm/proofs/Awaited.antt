@@ -1,5 +1,5 @@
 -- What a module tells of its READs that wait.
-use Rattle.sdd_dm.proofs.All.{Bool, Cond, IsAwaited, Kept, List, Log, Msg, None, Option, Processes, Read, Setting, Shows, Some, Stands, State, Step, [], ap, arith, conds_of, false, find, first_some, first_step, first_unmet, head_at, if◌then◌else◌, is_met, is_met_in, length, list_all, not, of_class, or_else, range_with_len, refl, step_at, step_by, subst, suc, sym, true, view_of, waiting_at, waiting_in, waits, waits_at, zero, ℕ, ◌&&◌, ◌+◌, ◌<◌, ◌==◌, ◌∙◌, ◌∷◌, ◌≡◌, ◌≤◌}
+use Rattle.sdd_dm.proofs.All.{Bool, Cond, IsAwaited, Kept, List, Log, Msg, None, Option, Processes, Read, Represents, Setting, Shows, Some, State, Step, [], ap, arith, conds_of, false, find, first_some, first_step, first_unmet, head_at, if◌then◌else◌, is_met, is_met_in, length, list_all, not, of_class, or_else, range_with_len, refl, step_at, step_by, subst, suc, sym, true, view_of, waiting_at, waiting_in, waits, waits_at, zero, ℕ, ◌&&◌, ◌+◌, ◌<◌, ◌==◌, ◌∙◌, ◌∷◌, ◌≡◌, ◌≤◌}
 use Rattle.sdd_dm.proofs.Shown.{met_is, waits_shown, head_shown}
 
 -- where none of a range is there, each isn't
@@ -86,7 +86,7 @@ awaited_by s st log c t (Some conds) shows l quiet e =
       found_same (λ x. not (is_met (view_of s log) x)) (λ x. not (is_met_in st.pipes x)) conds (λ x. ap not (sym (met_is s st log shows x))) ∙ d.1,
     )
 
-pub awaited_is : (k : Kept State) (s : Setting) (log : Log) (c t : ℕ) (answer : Option Cond) → Stands k s log → c ≤ length s.catalogue.classes
+pub awaited_is : (k : Kept State) (s : Setting) (log : Log) (c t : ℕ) (answer : Option Cond) → Represents k s log → c ≤ length s.catalogue.classes
     → answer ≡ first_unmet k.value.pipes (waiting_in k.value.pipes k.value.waits c t) → IsAwaited s log c t answer
-awaited_is k s log c t answer stands l is =
-    subst (IsAwaited s log c t) (sym is) (awaited_by s k.value log c t (waiting_in k.value.pipes k.value.waits c t) stands.shows l stands.quiet refl)
+awaited_is k s log c t answer represents l is =
+    subst (IsAwaited s log c t) (sym is) (awaited_by s k.value log c t (waiting_in k.value.pipes k.value.waits c t) represents.shows l represents.quiet refl)

@@ -1,5 +1,5 @@
 -- A module to which nothing was handed stands for the empty log.
-use Rattle.sdd_dm.proofs.All.{All-contains, AllByRecursion, Catalogue, Contains, Contains-cases, Contains-nil, D, Database, DatesDiffer, DmNo, IsDatabase, IsDigest, IsDistinct, IsDistinct-from_sorted, IsDistinct-head, IsDistinct-tail, IsEntry, IsSound, IsTrue, Item, List, None, RelNo, Row, Setting, Shows, StandFor, State, [], ap, append-nil, arith, classes_of, database_of, dated, empty_digest, empty_pipe, eq_by_cmp, false, first_row, first_rows, first_step, flat_map, fragment_at, fragment_holds, fragment_of, has_copy, home_of, inl, inr, is_empty_digest, is_here, item_cmp, key_in_range, keys_of, length, length-replicate, map, of_class, range_with_len, refl, replicate, slice_index_or, step_at, subst, suc, sym, true, zero, ℕ, ◌++◌, ◌+◌, ◌∙◌, ◌∷◌, ◌≡◌}
+use Rattle.sdd_dm.proofs.All.{All-contains, AllByRecursion, Catalogue, Contains, Contains-cases, Contains-nil, D, Database, DatesDiffer, DmNo, IsDatabase, IsDigest, IsDistinct, IsDistinct-from_sorted, IsDistinct-head, IsDistinct-tail, IsEntry, IsSound, IsTrue, Item, List, None, RelNo, Represent, Row, Setting, Shows, State, [], ap, append-nil, arith, classes_of, database_of, dated, empty_digest, empty_pipe, eq_by_cmp, false, first_row, first_rows, first_step, flat_map, fragment_at, fragment_holds, fragment_of, has_copy, home_of, inl, inr, is_empty_digest, is_here, item_cmp, key_in_range, keys_of, length, length-replicate, map, of_class, range_with_len, refl, replicate, slice_index_or, step_at, subst, suc, sym, true, zero, ℕ, ◌++◌, ◌+◌, ◌∙◌, ◌∷◌, ◌≡◌}
 use Rattle.sdd_dm.proofs.ByClass.{first_none}
 use Rattle.sdd_dm.proofs.Dates.{from_map, each_map, own_item}
 
@@ -72,9 +72,9 @@ pub first_shown : (cat : Catalogue) (dm : DmNo) (rows : List (RelNo × Row)) (n 
     → n ≡ length cat.classes + 1
     → st.home ≡ home_of (setting_of cat dm rows) → st.pipes ≡ replicate n empty_digest → st.waits ≡ replicate n false
     → st.frozen ≡ replicate n None
-    → IsTrue st.pipes_live → IsTrue st.copies.live → StandFor st.copies.value (map (first_row cat) (database_of cat rows))
+    → IsTrue st.pipes_live → IsTrue st.copies.live → Represent st.copies.value (map (first_row cat) (database_of cat rows))
     → ((f : ℕ) → has_copy cat dm.0 f ≡ true → is_here st.copies.value f ≡ true) → Shows (setting_of cat dm rows) st []
-first_shown cat dm rows n st sound is many home pipes waits frozen pipes_live live stand here =
+first_shown cat dm rows n st sound is many home pipes waits frozen pipes_live live represent here =
     let s : Setting = setting_of cat dm rows in
     let all : dated s [] ≡ first_rows s = ap (λ xs. first_rows s ++ xs) (flat_none (classes_of s)) ∙ append-nil (first_rows s) in
     record {
@@ -90,7 +90,7 @@ first_shown cat dm rows n st sound is many home pipes waits frozen pipes_live li
       answered = refl;
       pipes_live = pipes_live;
       live = live;
-      copies = subst (StandFor st.copies.value) (sym all) stand;
+      copies = subst (Represent st.copies.value) (sym all) represent;
       here = here;
       dates = subst DatesDiffer (sym (append-nil (first_rows s))) (first_differ cat (database_of cat rows) sound is);
       reads = tt;

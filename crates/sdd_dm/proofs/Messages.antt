@@ -1,5 +1,5 @@
 -- A message is handed: it goes to its pipe, or it is answered at once.
-use Rattle.sdd_dm.proofs.All.{Act, Arrive, Bool, ClassNo, ClassView, Cond, DatesDiffer, Did, Handed, HasCopies, Home, IsDigest, List, Log, Msg, None, Open, Read, Rec, Records, Setting, Shows, ShowsClass, Site, Some, StandFor, State, Ts, TxnNo, Use, View, Worked, [], all_dated, answer_of, answer_to, ap, arith, class_view, classes_of, dated, due, empty_digest, false, filter, first_some, frozen, frozen_at, goes_through, hands, head, head_due, head_of, home_of, if◌then◌else◌, is_answer, is_asked_of, is_processing, is_put, is_read_of, is_wait, length, length-update, made_one, next, notes_handed, nothing_noted, open_due, opens, opens_acted, or_else, pipe, pipe_at, put_digest, refl, state_handed, subst, suc, sym, true, update, view_of, waits, ℕ, ◌&&◌, ◌++◌, ◌==◌, ◌||◌, ◌∙◌, ◌∷◌, ◌≡◌, ◌≤◌}
+use Rattle.sdd_dm.proofs.All.{Act, Arrive, Bool, ClassNo, ClassView, Cond, DatesDiffer, Did, Handed, HasCopies, Home, IsDigest, List, Log, Msg, None, Open, Read, Rec, Records, Represent, Setting, Shows, ShowsClass, Site, Some, State, Ts, TxnNo, Use, View, Worked, [], all_dated, answer_of, answer_to, ap, arith, class_view, classes_of, dated, due, empty_digest, false, filter, first_some, frozen, frozen_at, goes_through, hands, head, head_due, head_of, home_of, if◌then◌else◌, is_answer, is_asked_of, is_processing, is_put, is_read_of, is_wait, length, length-update, made_one, next, notes_handed, nothing_noted, open_due, opens, opens_acted, or_else, pipe, pipe_at, put_digest, refl, state_handed, subst, suc, sym, true, update, view_of, waits, ℕ, ◌&&◌, ◌++◌, ◌==◌, ◌||◌, ◌∙◌, ◌∷◌, ◌≡◌, ◌≤◌}
 use Rattle.sdd_dm.proofs.ByClass.{at_own, at_other, same_number, other_number, by_class, first_map, only_class}
 use Rattle.sdd_dm.proofs.Applied.{dated_kept}
 
@@ -116,7 +116,7 @@ read_worked from st ts class txn attempt conds uses s bases log shows fit =
       answered = read_closed (suc (hands log)) from c ts class txn attempt conds uses st.home.dm (opens after) there;
       pipes_live = shows.pipes_live;
       live = shows.live;
-      copies = subst (StandFor st.copies.value) (sym (dated_kept s after c r [] refl)) shows.copies;
+      copies = subst (Represent st.copies.value) (sym (dated_kept s after c r [] refl)) shows.copies;
       here = shows.here;
       dates = shows.dates;
       reads = (fit.here, shows.reads);

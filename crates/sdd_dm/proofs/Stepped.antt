@@ -1,5 +1,5 @@
 -- The state after a step of a head shows the log with the act of that head.
-use Rattle.sdd_dm.proofs.All.{All, All-weaker, AreHere, AreSame, Bool, ClassNo, Cond, Dated, DatesDiffer, Did, Frozen, HasCopies, Held, IsDigest, IsHere, IsTrue, Kept, List, Log, Msg, None, Option, Read, Rec, Records, Setting, Shows, ShowsClass, Site, Some, StandFor, State, Ts, TxnNo, Use, ap, arith, changes_in, contents, dated, empty_digest, false, fold, frozen, frozen_at, frozen_for, frozen_now, frozen_of, frozen_told, has_copy, head, head_processed, head_taken, held_for, here_all, if◌then◌else◌, is_answer, is_apply, is_here, is_processing, is_taken, is_wait, length, length-update, map, number_of, opens, pipe, pipe_at, refl, rows_at, stand_all, stand_same, subst, sym, take_all, take_digest, true, update, waits, waits_at, with_change, ℕ, ◌&&◌, ◌++◌, ◌==◌, ◌∙◌, ◌∷◌, ◌≡◌, ◌≢◌, ◌≤◌}
+use Rattle.sdd_dm.proofs.All.{All, All-weaker, AreHere, AreSame, Bool, ClassNo, Cond, Dated, DatesDiffer, Did, Frozen, HasCopies, Held, IsDigest, IsHere, IsTrue, Kept, List, Log, Msg, None, Option, Read, Rec, Records, Represent, Setting, Shows, ShowsClass, Site, Some, State, Ts, TxnNo, Use, ap, arith, changes_in, contents, dated, empty_digest, false, fold, frozen, frozen_at, frozen_for, frozen_now, frozen_of, frozen_told, has_copy, head, head_processed, head_taken, held_for, here_all, if◌then◌else◌, is_answer, is_apply, is_here, is_processing, is_taken, is_wait, length, length-update, map, number_of, opens, pipe, pipe_at, refl, represent_all, represent_same, rows_at, subst, sym, take_all, take_digest, true, update, waits, waits_at, with_change, ℕ, ◌&&◌, ◌++◌, ◌==◌, ◌∙◌, ◌∷◌, ◌≡◌, ◌≢◌, ◌≤◌}
 use Rattle.sdd_dm.proofs.ByClass.{at_own, at_other, same_number, other_number, by_class}
 use Rattle.sdd_dm.proofs.Handed.{head_handed}
 use Rattle.sdd_dm.proofs.Applied.{applied_differ, same_dated, dated_kept}
@@ -77,12 +77,12 @@ taken_class s st log c k r sends copies rows shows l m e f = record {
 -- A record that processes the head of class c. The copies and the held rows are as the log gives them.
 taken_shown : (s : Setting) (st : State) (log : Log) (c : ℕ) (r : Rec) (sends : List (Site × Msg)) (copies : Kept Held) (rows : List (Option Frozen))
     → Shows s st log → c ≤ length s.catalogue.classes → is_processing r ≡ true → opens (Did (Records c r sends) ∷ log) ≡ opens log
-    → IsTrue copies.live → StandFor copies.value (dated s (Did (Records c r sends) ∷ log))
+    → IsTrue copies.live → Represent copies.value (dated s (Did (Records c r sends) ∷ log))
     → ((f : ℕ) → is_here copies.value f ≡ is_here st.copies.value f)
     → length rows ≡ length st.frozen
     → ((k : ℕ) → k ≤ length s.catalogue.classes → frozen_of rows k ≡ frozen s k (Did (Records c r sends) ∷ log))
     → Shows s (taken c copies rows st) (Did (Records c r sends) ∷ log)
-taken_shown s st log c r sends copies rows shows l e same_opens live stand here many held = record {
+taken_shown s st log c r sends copies rows shows l e same_opens live represent here many held = record {
   home = shows.home;
   pipes = length-update c take_digest st.pipes ∙ shows.pipes;
   waits = length-update c (λ w. false) st.waits ∙ shows.waits;
@@ -91,7 +91,7 @@ taken_shown s st log c r sends copies rows shows l e same_opens live stand here 
   answered = same_opens ∙ shows.answered;
   pipes_live = shows.pipes_live;
   live = live;
-  copies = stand;
+  copies = represent;
   here = λ f h. here f ∙ shows.here f h;
   dates = shows.dates;
   reads = shows.reads;
@@ -104,7 +104,7 @@ pub passed_shown : (s : Setting) (st : State) (log : Log) (c : ℕ) (r : Rec) (s
     → Shows s (head_taken c st) (Did (Records c r sends) ∷ log)
 passed_shown s st log c r sends shows l e f g same_opens =
     taken_shown s st log c r sends st.copies st.frozen shows l e same_opens shows.live
-    (subst (StandFor st.copies.value) (sym (dated_kept s log c r sends f)) shows.copies) (λ f. refl) refl
+    (subst (Represent st.copies.value) (sym (dated_kept s log c r sends f)) shows.copies) (λ f. refl) refl
     (λ k m. (shows.classes k m).frozen ∙ sym (frozen_kept s c k r sends log g))
 
 -- a WRITE is applied
@@ -119,10 +119,10 @@ pub applied_shown : (s : Setting) (st : State) (log : Log) (c : ℕ) (r : Rec) (
     → Shows s (taken c (copies_with st xs) st.frozen st) (Did (Records c r sends) ∷ log)
 applied_shown s st log c r sends xs shows l e f g same_opens is =
     taken_shown s st log c r sends (copies_with st xs) st.frozen shows l e same_opens refl
-    (stand_same (fold with_change st.copies.value xs) (dated s log ++ xs) (dated s (Did (Records c r sends) ∷ log))
+    (represent_same (fold with_change st.copies.value xs) (dated s log ++ xs) (dated s (Did (Records c r sends) ∷ log))
     (subst (λ ys. DatesDiffer (dated s log ++ ys)) is (applied_differ s log c shows.dates))
     (subst (λ ys. AreSame (dated s log ++ ys) (dated s (Did (Records c r sends) ∷ log))) is (same_dated s log c r sends l f))
-    (stand_all xs st.copies.value (dated s log) shows.copies))
+    (represent_all xs st.copies.value (dated s log) shows.copies))
     (here_all xs st.copies.value) refl
     (λ k m. (shows.classes k m).frozen ∙ sym (frozen_kept s c k r sends log g))
 
@@ -150,7 +150,7 @@ pub answered_shown : (s : Setting) (st : State) (log : Log) (c : ℕ) (r : Rec) 
     → Shows s (taken c st.copies (update c (λ old. Some f) st.frozen) st) (Did (Records c r sends) ∷ log)
 answered_shown s st log c r sends f shows l e g h same_opens is =
     taken_shown s st log c r sends st.copies (update c (λ old. Some f) st.frozen) shows l e same_opens shows.live
-    (subst (StandFor st.copies.value) (sym (dated_kept s log c r sends g)) shows.copies) (λ f. refl) (length-update c (λ old. Some f) st.frozen)
+    (subst (Represent st.copies.value) (sym (dated_kept s log c r sends g)) shows.copies) (λ f. refl) (length-update c (λ old. Some f) st.frozen)
     (λ k m. by_class (λ j. j ≤ length s.catalogue.classes → frozen_of (update c (λ old. Some f) st.frozen) j ≡ frozen s j (Did (Records c r sends) ∷ log)) c k
     (λ p. at_own (λ old. Some f) st.frozen c None (omega (arith, shows.frozen)) ∙ sym (frozen_own s c r sends log h ∙ is))
     (λ q p. at_other (λ old. Some f) st.frozen c k None q ∙ (shows.classes k p).frozen ∙ sym (frozen_other s c k r sends log q))
@@ -188,7 +188,7 @@ waiting_shown s st log c r sends shows l e f g h same_opens = record {
   answered = same_opens ∙ shows.answered;
   pipes_live = shows.pipes_live;
   live = shows.live;
-  copies = subst (StandFor st.copies.value) (sym (dated_kept s log c r sends h)) shows.copies;
+  copies = subst (Represent st.copies.value) (sym (dated_kept s log c r sends h)) shows.copies;
   here = shows.here;
   dates = shows.dates;
   reads = shows.reads;

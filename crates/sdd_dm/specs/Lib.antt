@@ -5,7 +5,7 @@ pub mod Heads
 pub mod Opens
 pub mod Pipes
 pub mod Ranks
-pub mod Stands
+pub mod Represents
 pub mod Starts
 pub mod State
 pub mod Views

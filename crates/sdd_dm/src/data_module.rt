@@ -2,11 +2,11 @@ ghost use Rattle.std.specs.Prelude.{◌≡◌, ◌≤◌, ℕ, [], IfOk, OnErr, 
 ghost use Rattle.std.specs.Option.{option_copied, option_map};
 ghost use Rattle.std.specs.List.{All};
 ghost use Rattle.sdd_module.specs.All.{D, Does, FitsStart, Handed, Log, Setting, has_copy, number_of};
-ghost use Rattle.sdd_copy.specs.Copies.{is_here, StandFor};
+ghost use Rattle.sdd_copy.specs.Copies.{is_here, Represent};
 ghost use Rattle.sdd_dm.specs.Copies.{dated};
 ghost use Rattle.sdd_dm.specs.Due.{next};
 ghost use Rattle.sdd_dm.specs.Fits.{fits};
-ghost use Rattle.sdd_dm.specs.Stands.{Stands};
+ghost use Rattle.sdd_dm.specs.Represents.{Represents};
 ghost use Rattle.sdd_dm.specs.Waiting.{IsAwaited, holders_in, lacking_in};
 ghost use Rattle.sdd_pipe.specs.Digest.{passed_to};
 ghost use Rattle.sdd_pipe.specs.Pipes.{pipe_at};
@@ -57,7 +57,7 @@ impl DataModule {
         rows: &[(RelNo, Row)],
     ) -> Result<DataModule, NoMemory>
         requires { All (FitsStart cat.now) rows.now }
-        ensures { IfOk result (λ made. Stands made
+        ensures { IfOk result (λ made. Represents made
             (record { catalogue = cat.now; site = D dm; rows = rows.now }) []) }
     {
         Ok(DataModule {
@@ -69,11 +69,11 @@ impl DataModule {
     /// The copies of its fragments, lent: they hold what the changes in the log leave. O(1),
     /// and takes no memory.
     pub fn copies(&self) -> &Copies
-        ensures live { (setting : Setting) (log : Log) → Stands self.now setting log
+        ensures live { (setting : Setting) (log : Log) → Represents self.now setting log
             → IsTrue result.now.live }
-        ensures stand { (setting : Setting) (log : Log) → Stands self.now setting log
-            → StandFor result.now.value (dated setting log) }
-        ensures here { (setting : Setting) (log : Log) → Stands self.now setting log
+        ensures represent { (setting : Setting) (log : Log) → Represents self.now setting log
+            → Represent result.now.value (dated setting log) }
+        ensures here { (setting : Setting) (log : Log) → Represents self.now setting log
             → (f : ℕ) → has_copy setting.catalogue (number_of setting.site) f ≡ true
             → is_here result.now.value f ≡ true }
     {
@@ -125,7 +125,7 @@ impl DataModule {
     /// hasn't passed its time; None exactly where no such READ waits. O(n) for n conditions, and
     /// takes no memory.
     pub fn waits(&self, class: ClassNo, ts: Ts) -> Option<&Cond>
-        ensures { (setting : Setting) (log : Log) → Stands self.now setting log
+        ensures { (setting : Setting) (log : Log) → Represents self.now setting log
             → class.0 ≤ length setting.catalogue.classes
             → IsAwaited setting log class.0 ts.0 (option_copied result) }
     {
@@ -134,7 +134,7 @@ impl DataModule {
 }
 
 impl Module for DataModule {
-    ghost stands = { Stands };
+    ghost represents = { Represents };
 
     ghost next = { next };
 

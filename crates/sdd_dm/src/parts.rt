@@ -4,7 +4,7 @@ ghost use Rattle.std.specs.List.{All};
 ghost use Rattle.std.specs.Option.{option_copied};
 ghost use Rattle.sdd_module.specs.All.{D, FitsStart};
 ghost use Rattle.sdd_dm.specs.Heads.{first_step};
-ghost use Rattle.sdd_dm.specs.Stands.{Shows, Worked};
+ghost use Rattle.sdd_dm.specs.Represents.{Shows, Worked};
 ghost use Rattle.sdd_dm.specs.State.{class_piped};
 ghost use Rattle.sdd_dm.specs.Views.{source_of};
 ghost use Rattle.sdd_dm.specs.Waiting.{waiting_in, first_unmet, holders_in, lacking_in};

@@ -2,7 +2,7 @@
 ghost use Rattle.std.specs.Prelude.{◌≡◌, ◌≤◌, ◌∷◌, ℕ, IfOk, OnOk, IsTrue, length, map, fold, replicate, is_some, slice_index_or, true, false, Some, None};
 ghost use Rattle.std.specs.List.{All};
 ghost use Rattle.sdd_module.specs.All.{FitsStart, IsEntry, T, U, database_of, has_copy};
-ghost use Rattle.sdd_copy.specs.Copies.{is_here, with_change, StandFor};
+ghost use Rattle.sdd_copy.specs.Copies.{is_here, with_change, Represent};
 ghost use Rattle.sdd_dm.specs.Copies.{first_row};
 ghost use Rattle.sdd_dm.specs.Starts.{lent, own_rows, with_own};
 
@@ -58,7 +58,7 @@ pub fn first_copies(
 ) -> Result<Copies, NoMemory>
     requires { All (FitsStart cat.now) rows.now }
     ensures live { IfOk result (λ copies. IsTrue copies.live) }
-    ensures stand { IfOk result (λ copies. StandFor copies.value
+    ensures represent { IfOk result (λ copies. Represent copies.value
         (map (first_row cat.now) (database_of cat.now rows.now))) }
     ensures here { IfOk result (λ copies. (f : ℕ) →
         has_copy cat.now dm.0 f ≡ true → is_here copies.value f ≡ true) }

@@ -2,7 +2,7 @@
 pub use Rattle.sdd_exec.specs.Choices.{Choice, Has, HasAll, IsComplete, NoRepeats, extended, extensions, is_taken, is_there, key_for, key_of, keyed, passes, passes_one, picked, placed, places, row_from, row_of_tuple, same_row, tie_between, tie_of, ties_of, with_found}
 pub use Rattle.sdd_exec.specs.Rising.{by_keys, keyed_rows, to_last, to_last_key}
 pub use Rattle.sdd_exec.specs.Serves.{AreEnoughAlong, AreHeld, IsRowOf, Serves}
-pub use Rattle.sdd_exec.specs.Sifting.{AreEnough, HasLike, IsCovered, IsSieve, IsSifted, Offered, Stands, TellsAnswer, TooMany, all_rows, choices_of_part, extended_by, found_with, is_apart, joined, link_between, links_of, outs_of, pair_of, pairs_of, values_of}
+pub use Rattle.sdd_exec.specs.Sifting.{AreEnough, HasLike, IsAnswered, IsCovered, IsSieve, IsSifted, Offered, TellsAnswer, TooMany, all_rows, choices_of_part, extended_by, found_with, is_apart, joined, link_between, links_of, outs_of, pair_of, pairs_of, values_of}
 pub use Rattle.sdd_exec.specs.Snapshots.{Shipped, chosen_for, found_for, of_relation, parts_for, rows_for, with_chosen}
 pub use Rattle.sdd_exec.specs.Splicing.{Agrees, AllAlike, AllInside, Answers, AreSound, IsOutside, IsThereIn, LinksAlike, MeetsInside, OutsAlike, spliced}
 pub use Rattle.sdd_exec.specs.declared.sieve.Mesh.{Mesh}

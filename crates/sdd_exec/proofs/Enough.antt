@@ -1,5 +1,5 @@
 -- The kept choices stay enough to tell the answer.
-use Rattle.sdd_exec.proofs.All.{Agrees, Answers, AreEnough, AreSound, Choice, Condition, Has, IsOutside, IsSifted, List, NoRepeats, None, Ref, Row, Some, Stands, TellsAnswer, Tie, TooMany, Tuple, [], all_rows, ap, arith, cases_Bool, choices_of_part, distinct, eq-eqb, extended, false, filter_map, inl, inr, is_taken, is_there, joined, key_for, key_of, keyed, length, lt-ltb, map, meets_all, nat_lt, pair_of, pairs_of, passes, picked, placed, product, refl, row_from, selection, slice_index, slice_index_or, subst, sym, ties_of, true, value_at, within, ℕ, ⊎_elim, ◌++◌, ◌+◌, ◌<◌, ◌==◌, ◌∙◌, ◌∷◌, ◌≡◌, ◌≤◌, ◌⊎◌}
+use Rattle.sdd_exec.proofs.All.{Agrees, Answers, AreEnough, AreSound, Choice, Condition, Has, IsAnswered, IsOutside, IsSifted, List, NoRepeats, None, Ref, Row, Some, TellsAnswer, Tie, TooMany, Tuple, [], all_rows, ap, arith, cases_Bool, choices_of_part, distinct, eq-eqb, extended, false, filter_map, inl, inr, is_taken, is_there, joined, key_for, key_of, keyed, length, lt-ltb, map, meets_all, nat_lt, pair_of, pairs_of, passes, picked, placed, product, refl, row_from, selection, slice_index, slice_index_or, subst, sym, ties_of, true, value_at, within, ℕ, ⊎_elim, ◌++◌, ◌+◌, ◌<◌, ◌==◌, ◌∙◌, ◌∷◌, ◌≡◌, ◌≤◌, ◌⊎◌}
 use Rattle.sdd_exec.proofs.Complete.{place_is_there, passes_all, ties_hold, keys_meet, keys_agree, has_keyed, has_place, placed_at, taken_or_new, same_places}
 use Rattle.sdd_exec.proofs.Distinct.{distinct_same, in_distinct, no_more_rows}
 use Rattle.sdd_exec.proofs.Inside.{place_old, sound_part, sound_joined}
@@ -62,7 +62,7 @@ module _ (parts : List (List Row)) (conds : List Condition) (out : List Ref) (ro
         before.2 p within old ∙ same p within apart,
   )
 
-  in_part : (row : Row) → Stands parts conds out taken kept row → Answers parts conds out Before (part ∷ []) (choices_of_part parts conds part) row
+  in_part : (row : Row) → IsAnswered parts conds out taken kept row → Answers parts conds out Before (part ∷ []) (choices_of_part parts conds part) row
   in_part row a =
       let t : Choice = a.0 in
       let there : is_there parts t ≡ true = a.1 in
@@ -148,10 +148,10 @@ module _ (parts : List (List Row)) (conds : List Condition) (out : List Ref) (ro
       sound_kept group (joined parts conds taken part thin kept) next (sound_joined parts conds taken part thin kept less new sound first.only) second.only in
       let all : List Row = all_rows parts conds out in
       let thinned : IsEnough all room (Answers parts conds out Before (part ∷ []) thin) =
-      enough_step all room (Stands parts conds out taken kept) (Answers parts conds out Before (part ∷ []) thin)
+      enough_step all room (IsAnswered parts conds out taken kept) (Answers parts conds out Before (part ∷ []) thin)
       (λ row a. sifted_answers parts conds out room Before (part ∷ []) (choices_of_part parts conds part) thin row before_outside sound_thin first (in_part row a)) enough in (
         sound_next,
-        enough_step all room (Answers parts conds out Before (part ∷ []) thin) (Stands parts conds out group next)
+        enough_step all room (Answers parts conds out Before (part ∷ []) thin) (IsAnswered parts conds out group next)
             (λ row a. sifted_answers parts conds out room (λ t. Unit {0}) group (joined parts conds taken part thin kept) next row (λ s t same rest. tt) sound_next second (in_joined thin row a)) thinned,
       )
 
@@ -169,7 +169,7 @@ enough_start parts conds out room =
 -- a row that stands when all parts are taken is found, and is one of the answer
 found_at_end : (parts : List (List Row)) (conds : List Condition) (out : List Ref) (taken : List ℕ) (kept : List Choice)
     → ((p : ℕ) → p < length parts → is_taken taken p ≡ true)
-    → (row : Row) → Stands parts conds out taken kept row → Has (filter_map (row_from parts out conds) kept) row × Has (all_rows parts conds out) row
+    → (row : Row) → IsAnswered parts conds out taken kept row → Has (filter_map (row_from parts out conds) kept) row × Has (all_rows parts conds out) row
 found_at_end parts conds out taken kept all row a =
     let t : Choice = a.0 in
     let c : Choice = a.5.0 in

@@ -105,13 +105,13 @@ abbrev pub all_rows : List (List Row) → List Condition → List Ref → List R
 all_rows parts conds out = projection out (selection conds (product parts))
 
 -- a row is answered by a choice that agrees with a kept one in the parts that were taken
-abbrev pub Stands : List (List Row) → List Condition → List Ref → List ℕ → List Choice → Row → Type 0
-Stands parts conds out taken kept row = Answers parts conds out (λ t. Unit {0}) taken kept row
+abbrev pub IsAnswered : List (List Row) → List Condition → List Ref → List ℕ → List Choice → Row → Type 0
+IsAnswered parts conds out taken kept row = Answers parts conds out (λ t. Unit {0}) taken kept row
 
 -- the kept choices are enough to tell the answer: each of its rows stands, or else more than there is room for
 abbrev pub AreEnough : List (List Row) → List Condition → List Ref → ℕ → List ℕ → List Choice → Type 0
 AreEnough parts conds out room taken kept =
-    ((row : Row) → Has (all_rows parts conds out) row → Stands parts conds out taken kept row) ⊎ TooMany room (Stands parts conds out taken kept)
+    ((row : Row) → Has (all_rows parts conds out) row → IsAnswered parts conds out taken kept row) ⊎ TooMany room (IsAnswered parts conds out taken kept)
 
 -- the rows of these choices are the answer where there is room for it, and more than there is room for where there isn't
 abbrev pub TellsAnswer : List (List Row) → List Condition → List Ref → ℕ → List Choice → Type 0

@@ -1,5 +1,5 @@
 -- Tests that tell that a history keeps the law of Answers and Commits.
-use Rattle.sdd_history_examples.proofs.All.{AllByRecursion, Answer, AnsweredBefore, Asks, Attempt, Bool, Catalogue, Committed, Contains, History, IsCommitted, KeepsAnswers, List, None, Option, RelNo, Row, Some, Stands, Txn, base_of, by_use, committed, dm_no, each_has, effect, eq-eqb, eqb-true, fragments_in, is_answer, is_answered, list_all, list_any, numbers_to, passes_before, reads_at, refl, subst, take, true, txn_at, txn_no, ℕ, ◌==◌, ◌≡◌}
+use Rattle.sdd_history_examples.proofs.All.{AllByRecursion, Answer, AnsweredBefore, Asks, Attempt, Bool, Catalogue, Committed, Contains, History, IsCommitted, IsRecordAt, KeepsAnswers, List, None, Option, RelNo, Row, Some, Txn, base_of, by_use, committed, dm_no, each_has, effect, eq-eqb, eqb-true, fragments_in, is_answer, is_answered, list_all, list_any, numbers_to, passes_before, reads_at, refl, subst, take, true, txn_at, txn_no, ℕ, ◌==◌, ◌≡◌}
 use Rattle.sdd_history_examples.proofs.Each.{if_so, so, each, all_pairs, each_pair, each_number, each_to}
 use Rattle.sdd_history_examples.proofs.Listed.{CommitAt, AnswerAt, commits, in_commits, answers, in_answers, is_started, started_before}
 use Rattle.sdd_laws.specs.Deeds.Asks.{by_no_class}
@@ -11,7 +11,7 @@ is_answered_before h a d k = list_any (λ e. is_answer a.txn a.number d e.1) (ta
 answered_before : (h : History) (a : Attempt) (d k : ℕ) → is_answered_before h a d k ≡ true → AnsweredBefore h a d k
 answered_before h a d k e =
     let r = passes_before (is_answer a.txn a.number d) h k e in
-    record { place = r.place; answered = is_answered h a.txn a.number d r.place r.rec r.stands r.passes; before = r.before }
+    record { place = r.place; answered = is_answered h a.txn a.number d r.place r.rec r.is_recorded r.passes; before = r.before }
 
 -- whether it is answered before its Commit where its class reads a fragment
 abbrev answered_for : Catalogue → History → Committed → ℕ → Bool
@@ -48,7 +48,7 @@ tells cat rows txns h t txn e r = subst (TellsEffectOf cat rows h t) e r
 module _ (cat : Catalogue) (rows : List (RelNo × Row)) (txns : List Txn) (h : History)
     (there : (t : Committed) → IsCommitted h t → Contains (committed h) t) (pass : PassAnswers cat rows txns h)
   where
-    one_answer : (n number d j k : ℕ) → Stands h j (Answer (txn_no n) number (dm_no d)) → Stands h k (Answer (txn_no n) number (dm_no d)) → j ≡ k
+    one_answer : (n number d j k : ℕ) → IsRecordAt h j (Answer (txn_no n) number (dm_no d)) → IsRecordAt h k (Answer (txn_no n) number (dm_no d)) → j ≡ k
     one_answer n number d j k p q =
         let e = each_pair same_answer (answers h) (answers h) _ _ pass.one_answer (in_answers h n number d j p) (in_answers h n number d k q) in
         let u = so (n == n) (if_so (number == number) (if_so (d == d) (j == k))) e (eq-eqb n n refl) in

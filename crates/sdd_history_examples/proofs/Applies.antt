@@ -1,5 +1,5 @@
 -- Tests that tell that a history keeps the law of Applies.
-use Rattle.sdd_history_examples.proofs.All.{AppliedBefore, Apply, Attempt, Bool, Catalogue, Change, Committed, Contains, GoesTo, History, IsAnswered, IsApplied, IsCommitted, IsEarlier, IsOfCommit, KeepsApplies, Stands, Touches, and_from, and_parts, ap, applied_before, by_change, by_no_class, changes_member, class_no, committed, dm_no, eq-eqb, eqb-true, from_committed, has_copy, inl, inr, is_applied, is_from_1_to, le-leb, list_all, list_any, lt-ltb, ltb-true, member_passes, nat_le, nat_lt, or_cases, or_left, or_right, passes_member, refl, time_at, true, txn_no, ℕ, ◌&&◌, ◌<◌, ◌==◌, ◌||◌, ◌∙◌, ◌≡◌}
+use Rattle.sdd_history_examples.proofs.All.{AppliedBefore, Apply, Attempt, Bool, Catalogue, Change, Committed, Contains, GoesTo, History, IsAnswered, IsApplied, IsCommitted, IsEarlier, IsOfCommit, IsRecordAt, KeepsApplies, Touches, and_from, and_parts, ap, applied_before, by_change, by_no_class, changes_member, class_no, committed, dm_no, eq-eqb, eqb-true, from_committed, has_copy, inl, inr, is_applied, is_from_1_to, le-leb, list_all, list_any, lt-ltb, ltb-true, member_passes, nat_le, nat_lt, or_cases, or_left, or_right, passes_member, refl, time_at, true, txn_no, ℕ, ◌&&◌, ◌<◌, ◌==◌, ◌||◌, ◌∙◌, ◌≡◌}
 use Rattle.sdd_history_examples.proofs.Each.{if_so, so, each, all_pairs, each_pair}
 use Rattle.sdd_history_examples.proofs.Fitting.{from_1_to}
 use Rattle.sdd_history_examples.proofs.Listed.{AnswerAt, ApplyAt, answers, in_answers, applies, in_applies}
@@ -93,7 +93,7 @@ module _ (cat : Catalogue) (h : History) (there : (t : Committed) → IsCommitte
       (and_from (x.start.class == y.start.class) (nat_lt x.start.ts y.start.ts) (eq-eqb x.start.class y.start.class e.class) (lt-ltb x.start.ts y.start.ts e.time))
 
   module _ (pass : PassApplies cat h) where
-    of_commit : (n class d ts k : ℕ) → Stands h k (Apply (txn_no n) (class_no class) (dm_no d) (time_at ts)) → IsOfCommit cat h n class d ts k
+    of_commit : (n class d ts k : ℕ) → IsRecordAt h k (Apply (txn_no n) (class_no class) (dm_no d) (time_at ts)) → IsOfCommit cat h n class d ts k
     of_commit n class d ts k s =
         let x : ApplyAt = record { txn = n; class = class; dm = d; ts = ts; place = k } in
         let some = each (λ (x : ApplyAt). list_any (is_of cat x) (committed h)) (applies h) x pass.of_commit (in_applies h n class d ts k s) in
@@ -115,8 +115,8 @@ module _ (cat : Catalogue) (h : History) (there : (t : Committed) → IsCommitte
 
     one_apply : (n d j k : ℕ) → IsApplied h n d j → IsApplied h n d k → j ≡ k
     one_apply n d j k p q =
-        let e = each_pair same_apply (applies h) (applies h) _ _ pass.one_apply (in_applies h n p.class d p.ts j p.stands)
-        (in_applies h n q.class d q.ts k q.stands) in
+        let e = each_pair same_apply (applies h) (applies h) _ _ pass.one_apply (in_applies h n p.class d p.ts j p.is_recorded)
+        (in_applies h n q.class d q.ts k q.is_recorded) in
         let u = so (n == n) (if_so (d == d) (j == k)) e (eq-eqb n n refl) in
         eqb-true j k (so (d == d) (j == k) u (eq-eqb d d refl))
 
@@ -125,8 +125,8 @@ module _ (cat : Catalogue) (h : History) (there : (t : Committed) → IsCommitte
         let n = x.start.txn in
         let m = y.start.txn in
         let t = of_earlier (λ x y. all_pairs (applies_rise x y) (applies h) (applies h)) x y e pass.rise in
-        let u = each_pair (applies_rise x y) (applies h) (applies h) _ _ t (in_applies h n p.class d p.ts j p.stands)
-        (in_applies h m q.class d q.ts k q.stands) in
+        let u = each_pair (applies_rise x y) (applies h) (applies h) _ _ t (in_applies h n p.class d p.ts j p.is_recorded)
+        (in_applies h m q.class d q.ts k q.is_recorded) in
         let v = so (n == n) (if_so (m == m) (if_so (d == d) (nat_lt j k))) u (eq-eqb n n refl) in
         let w = so (m == m) (if_so (d == d) (nat_lt j k)) v (eq-eqb m m refl) in
         ltb-true j k (so (d == d) (nat_lt j k) w (eq-eqb d d refl))
@@ -136,7 +136,7 @@ module _ (cat : Catalogue) (h : History) (there : (t : Committed) → IsCommitte
         let m = y.start.txn in
         let last = is_applied h d k x.start.txn in
         let t = of_earlier (λ x y. list_all (applied_first cat h x y) (applies h)) x y e pass.none_left_out in
-        let u = each (applied_first cat h x y) (applies h) _ t (in_applies h m q.class d q.ts k q.stands) in
+        let u = each (applied_first cat h x y) (applies h) _ t (in_applies h m q.class d q.ts k q.is_recorded) in
         let v = so (m == m) (if_so (touches cat x d) last) u (eq-eqb m m refl) in
         applied_before h x.start.txn d k (so (touches cat x d) last v (touches_is cat x d touch))
 
@@ -145,7 +145,7 @@ module _ (cat : Catalogue) (h : History) (there : (t : Committed) → IsCommitte
         let n = x.start.txn in
         let own = is_answer_of y.start (record { txn = y.start.txn; number = y.start.number; dm = d; place = k }) in
         let t = of_earlier (λ x y. all_pairs (answered_after x y) (applies h) (answers h)) x y e pass.after_earlier in
-        let u = each_pair (answered_after x y) (applies h) (answers h) _ _ t (in_applies h n p.class d p.ts j p.stands)
+        let u = each_pair (answered_after x y) (applies h) (answers h) _ _ t (in_applies h n p.class d p.ts j p.is_recorded)
         (in_answers h y.start.txn y.start.number d k a) in
         let v = so (n == n) (if_so own (if_so (d == d) (nat_lt j k))) u (eq-eqb n n refl) in
         let w = so own (if_so (d == d) (nat_lt j k)) v (own_answer y.start d k) in
@@ -166,7 +166,7 @@ module _ (cat : Catalogue) (h : History) (there : (t : Committed) → IsCommitte
         let own = is_answer_of x.start (record { txn = x.start.txn; number = x.start.number; dm = d; place = j }) in
         let t = of_earlier (λ x y. all_pairs (answered_first x y) (answers h) (applies h)) x y e pass.before_later in
         let u = each_pair (answered_first x y) (answers h) (applies h) _ _ t (in_answers h x.start.txn x.start.number d j a)
-        (in_applies h m q.class d q.ts k q.stands) in
+        (in_applies h m q.class d q.ts k q.is_recorded) in
         let v = so own (if_so (m == m) (if_so (d == d) (nat_lt j k))) u (own_answer x.start d j) in
         let w = so (m == m) (if_so (d == d) (nat_lt j k)) v (eq-eqb m m refl) in
         ltb-true j k (so (d == d) (nat_lt j k) w (eq-eqb d d refl))

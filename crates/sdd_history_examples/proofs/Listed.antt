@@ -1,5 +1,5 @@
 -- The Submits, Commits, Answers and Applies of a history, as lists.
-use Rattle.sdd_history_examples.proofs.All.{Answer, Apply, Attempt, Bool, Commit, Committed, CommittedBefore, Contains, Contains-filter_map, HasCommit, History, IsSubmitted, List, None, Option, Rec, Some, Stands, StartedBefore, Submit, and_parts, at_place, attempts, class_no, commit_of, committed, dm_no, eqb-true, filter_map, from_attempts, from_committed, list_any, ltb-true, member_passes, nat_lt, placed, refl, subst, time_at, true, txn_no, ℕ, ◌&&◌, ◌==◌, ◌≡◌}
+use Rattle.sdd_history_examples.proofs.All.{Answer, Apply, Attempt, Bool, Commit, Committed, CommittedBefore, Contains, Contains-filter_map, HasCommit, History, IsRecordAt, IsSubmitted, List, None, Option, Rec, Some, StartedBefore, Submit, and_parts, at_place, attempts, class_no, commit_of, committed, dm_no, eqb-true, filter_map, from_attempts, from_committed, list_any, ltb-true, member_passes, nat_lt, placed, refl, subst, time_at, true, txn_no, ℕ, ◌&&◌, ◌==◌, ◌≡◌}
 
 -- a transaction and the place of its Submit
 abbrev submit_of : ℕ × Rec → Option (ℕ × ℕ)
@@ -28,7 +28,7 @@ commits h = filter_map commit_in (placed 0 h)
 pub in_commits : (h : History) (n number k : ℕ) → HasCommit h n number k → Contains (commits h) (record { txn = n; number = number; place = k })
 in_commits h n number k c =
     let r : Rec = Commit (txn_no n) number c.reply c.changes c.values c.rows in
-    Contains-filter_map commit_in (placed 0 h) (k, r) (record { txn = n; number = number; place = k }) (at_place h k r c.stands) refl
+    Contains-filter_map commit_in (placed 0 h) (k, r) (record { txn = n; number = number; place = k }) (at_place h k r c.is_recorded) refl
 
 -- an attempt, and the module and place of its Answer
 pub record AnswerAt : Type 0 where
@@ -44,7 +44,7 @@ answer_in _ = None
 abbrev pub answers : History → List AnswerAt
 answers h = filter_map answer_in (placed 0 h)
 
-pub in_answers : (h : History) (n number d k : ℕ) → Stands h k (Answer (txn_no n) number (dm_no d))
+pub in_answers : (h : History) (n number d k : ℕ) → IsRecordAt h k (Answer (txn_no n) number (dm_no d))
     → Contains (answers h) (record { txn = n; number = number; dm = d; place = k })
 in_answers h n number d k s =
     let r : Rec = Answer (txn_no n) number (dm_no d) in
@@ -65,7 +65,7 @@ apply_in _ = None
 abbrev pub applies : History → List ApplyAt
 applies h = filter_map apply_in (placed 0 h)
 
-pub in_applies : (h : History) (n class d ts k : ℕ) → Stands h k (Apply (txn_no n) (class_no class) (dm_no d) (time_at ts))
+pub in_applies : (h : History) (n class d ts k : ℕ) → IsRecordAt h k (Apply (txn_no n) (class_no class) (dm_no d) (time_at ts))
     → Contains (applies h) (record { txn = n; class = class; dm = d; ts = ts; place = k })
 in_applies h n class d ts k s =
     let r : Rec = Apply (txn_no n) (class_no class) (dm_no d) (time_at ts) in

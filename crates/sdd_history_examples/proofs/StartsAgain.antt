@@ -100,7 +100,7 @@ starts_since =
       writer_class = refl;
       writer_time = refl;
       changes = record { fragment = 1; changed = refl; named = refl };
-      applied = record { place = 5; applied = record { class = 2; ts = 66; stands = refl }; before = lit< tt };
+      applied = record { place = 5; applied = record { class = 2; ts = 66; is_recorded = refl }; before = lit< tt };
       below = lit< tt;
       below_bound = below;
     }

@@ -48,7 +48,7 @@ pub use Rattle.sdd_lang.specs.Run.{effect_after}
 pub use Rattle.sdd_lang.specs.Serial.{after_changes, changed_by, item_of, set_to}
 pub use Rattle.sdd_lang.specs.Sound.{IsDatabase, IsEntry, IsHeld, PutsHeld}
 pub use Rattle.sdd_lang.specs.Source.{AgreeAlong, Chosen, Found, chosen_in, effect_by, effect_over, entries_of, found_in, uses_in}
-pub use Rattle.sdd_lang.specs.Tuples.{may_stand, rows_lent}
+pub use Rattle.sdd_lang.specs.Tuples.{may_join, rows_lent}
 pub use Rattle.sdd_lang.specs.Update.{added, assigned, assigned_all, chosen, in_range, replaced}
 pub use Rattle.sdd_lang.specs.Uses.{Interval, IsOfKeys, IsWithin, all_keys, allowed_keys, common, fragments_for, holds_some, keys_for, larger, meets_keys, part_uses, restriction_of, restrictions_of, smaller, statement_uses, uses_from, uses_of}
 pub use Rattle.sdd_lang.specs.declared.assign.Assign.{Assign}

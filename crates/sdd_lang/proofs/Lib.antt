@@ -13,7 +13,7 @@ pub mod Sets
 pub mod SoFar
 pub mod SortedEntries
 pub mod Sources
-pub mod Standing
+pub mod Joining
 pub mod StatementSets
 pub mod StaysDatabase
 pub mod UseLists

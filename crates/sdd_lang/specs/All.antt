@@ -11,7 +11,7 @@ pub use Rattle.sdd_lang.specs.Query.{answer, distinct, product, projection, sele
 pub use Rattle.sdd_lang.specs.Serial.{after_changes, after_reply, changed_by, item_of, serial, set_to}
 pub use Rattle.sdd_lang.specs.Sound.{IsDatabase, IsEntry, IsHeld, PutsHeld}
 pub use Rattle.sdd_lang.specs.Source.{AgreeAlong, AgreeAt, chosen_in, effect_over, entries_of, uses_in, within}
-pub use Rattle.sdd_lang.specs.Tuples.{held, may_stand, rows_lent}
+pub use Rattle.sdd_lang.specs.Tuples.{held, may_join, rows_lent}
 pub use Rattle.sdd_lang.specs.Update.{chosen}
 pub use Rattle.sdd_lang.specs.Uses.{Interval, IsOfKeys, IsWithin, all_keys, allowed_keys, common, holds_some, part_uses, restrictions_of, statement_uses, use_of, uses_from, uses_of}
 pub use Rattle.sdd_lang.specs.base.Exactly.{lists_decide}

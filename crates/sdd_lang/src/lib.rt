@@ -40,7 +40,7 @@ pub use replace::replaced;
 pub use source::{Entries, Entry, Source};
 pub use statement::{Rels, Statements, Stmt};
 pub use transaction::Txn;
-pub use tuple::{compare, copied, key_of, may_stand, meets_all, project, value_at, value_in};
+pub use tuple::{compare, copied, key_of, may_join, meets_all, project, value_at, value_in};
 pub use usage::{restrictions_of, uses};
 
 // What lies below, for the crates above.

@@ -5,7 +5,7 @@ ghost use Rattle.sdd_base.specs.Order.{column, value_cmp};
 ghost use Rattle.sdd_lang.specs.Condition.{value_at, meets, meets_all};
 ghost use Rattle.sdd_lang.specs.Database.{key_in};
 ghost use Rattle.sdd_lang.specs.Fits.{IsRelation};
-ghost use Rattle.sdd_lang.specs.Tuples.{held, rows_lent, may_stand};
+ghost use Rattle.sdd_lang.specs.Tuples.{held, rows_lent, may_join};
 
 use crate::condition::{Condition, Ref};
 use sdd_base::{NoMemory, Parcel, RelNo, Row, Value};
@@ -73,7 +73,7 @@ pub fn meets_all(conds: &[Condition], tuple: &[&Row]) -> bool
 
 /// Whether the row meets the condition, where this compares one of the part's columns with a constant.
 fn meets_own(condition: &Condition, part: usize, row: &Row) -> bool
-    ensures { result ≡ may_stand (condition.now ∷ []) part row.now }
+    ensures { result ≡ may_join (condition.now ∷ []) part row.now }
 {
     match condition {
         Condition::Const { left, op, value } => {
@@ -84,8 +84,8 @@ fn meets_own(condition: &Condition, part: usize, row: &Row) -> bool
     }
 }
 
-fn each_lets_stand(conds: &[Condition], part: usize, row: &Row) -> bool
-    ensures { result ≡ list_all (λ c. may_stand (c ∷ []) part row.now) conds.now }
+fn each_lets_join(conds: &[Condition], part: usize, row: &Row) -> bool
+    ensures { result ≡ list_all (λ c. may_join (c ∷ []) part row.now) conds.now }
 {
     conds
         .iter()
@@ -94,10 +94,10 @@ fn each_lets_stand(conds: &[Condition], part: usize, row: &Row) -> bool
 
 /// Whether the row may stand in the part of a tuple that meets the conditions, as far as they
 /// compare one of the part's columns with a constant. Takes no memory.
-pub fn may_stand(conds: &[Condition], part: usize, row: &Row) -> bool
-    ensures { result ≡ may_stand conds.now part row.now }
+pub fn may_join(conds: &[Condition], part: usize, row: &Row) -> bool
+    ensures { result ≡ may_join conds.now part row.now }
 {
-    each_lets_stand(conds, part, row)
+    each_lets_join(conds, part, row)
 }
 
 /// A copy of the value, or the number 0 where it isn't there.

@@ -1,10 +1,10 @@
 -- The Answers of a history, as acts of data modules, each with the READ that it answers and the Start that sent it.
-use Rattle.sdd_lawful.proofs.All.{Act, Answer, Attempt, Bool, Catalogue, ClassNo, Cond, D, DmNo, Does, Entry, Input, IsAnswered, IsAttempt, IsMadeAt, IsPermitted, IsRead, IsReadStep, IsSound, List, Log, May, Msg, None, Read, Rec, Records, Setting, Site, Some, Stands, Ts, TxnNo, Use, View, [], allowed_act, ap, arith, ascending, bound, by_record, by_wait, class_no, class_number, conditions, conditions_at, contains, current_era, d_step, dm_no, false, filter_map, frag_no, fragments_in, head, head_put, history, home, if◌then◌else◌, in_passing, inl, inr, is_processing, length, local_of, map, modules_asked, modules_of, next_stamp, not_both, option_map, or_left, or_right, p2_of, p2_time, pipe, pipe_at, record_of, refl, same_number, same_or_not, sends_of_act, setting_of, slice_get, start_at, start_read, subst, suc, sym, time_at, to_site, true, txn_no, undeclared_conditions, unwrap_or, use_there, uses_of, view_of, waits, zero, ℕ, ◌++◌, ◌<◌, ◌==◌, ◌∙◌, ◌∷◌, ◌≡◌}
+use Rattle.sdd_lawful.proofs.All.{Act, Answer, Attempt, Bool, Catalogue, ClassNo, Cond, D, DmNo, Does, Entry, Input, IsAnswered, IsAttempt, IsMadeAt, IsPermitted, IsRead, IsReadStep, IsRecordAt, IsSound, List, Log, May, Msg, None, Read, Rec, Records, Setting, Site, Some, Ts, TxnNo, Use, View, [], allowed_act, ap, arith, ascending, bound, by_record, by_wait, class_no, class_number, conditions, conditions_at, contains, current_era, d_step, dm_no, false, filter_map, frag_no, fragments_in, head, head_put, history, home, if◌then◌else◌, in_passing, inl, inr, is_processing, length, local_of, map, modules_asked, modules_of, next_stamp, not_both, option_map, or_left, or_right, p2_of, p2_time, pipe, pipe_at, record_of, refl, same_number, same_or_not, sends_of_act, setting_of, slice_get, start_at, start_read, subst, suc, sym, time_at, to_site, true, txn_no, undeclared_conditions, unwrap_or, use_there, uses_of, view_of, waits, zero, ℕ, ◌++◌, ◌<◌, ◌==◌, ◌∙◌, ◌∷◌, ◌≡◌}
 use Rattle.sdd_lawful.proofs.Applied.{IsDataIn, data_in}
 use Rattle.sdd_lawful.proofs.Classes.{at_home, further_back, home_setting}
 use Rattle.sdd_lawful.proofs.Commits.{begun_as}
 use Rattle.sdd_lawful.proofs.Committed.{same_attempt}
-use Rattle.sdd_lawful.proofs.Places.{place_rises, stands_there}
+use Rattle.sdd_lawful.proofs.Places.{place_rises, recorded_there}
 use Rattle.sdd_lawful.proofs.Started.{start_of}
 use Rattle.sdd_invariants.specs.protocol.declared.entry.Entry as line
 use Rattle.sdd_invariants.specs.site_module.SiteLog as site
@@ -130,7 +130,7 @@ read_of_some g log later before e c n number d ts of ds us h is top =
     let size : length (history before) ≡ length (history (p.later ++ Does at start ∷ p.before)) = ap (λ y. length (history y)) start_is in
     record {
       attempt = b;
-      started = subst (λ y. IsAttempt (history y) b) (sym f.1) (stands_there f.0 (Does at start) p.before (start_of b) refl);
+      started = subst (λ y. IsAttempt (history y) b) (sym f.1) (recorded_there f.0 (Does at start) p.before (start_of b) refl);
       txn_is = sym r.number_is;
       number_is = sym r.try_is;
       class_is = refl;
@@ -192,7 +192,7 @@ answer_as g log later sends before b c n number d k p q r is place h read =
     }
 
 pub answer_of_some : (g : Input) (log : Log) (n number d k : ℕ) → IsPermitted g log
-    → Stands (history log) k (Answer (txn_no n) number (dm_no d)) → IsAnswerOfSome g log n number d k
+    → IsRecordAt (history log) k (Answer (txn_no n) number (dm_no d)) → IsAnswerOfSome g log n number d k
 answer_of_some g log n number d k h st =
     let x : IsDataIn g log k (Answer (txn_no n) number (dm_no d)) (dm_no d) = data_in g log k (Answer (txn_no n) number (dm_no d)) (dm_no d) h refl refl
     (λ e p. sym p) st in

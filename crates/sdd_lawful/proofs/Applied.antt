@@ -1,8 +1,8 @@
 -- The Applies of a history, as acts of data modules; and what a data module has applied at one of its acts.
-use Rattle.sdd_lawful.proofs.All.{Act, AppliedBefore, Apply, Bases, Bool, Catalogue, Change, ClassNo, D, Did, DmNo, Does, Handed, Input, IsApplied, IsApplyOf, IsMadeAt, IsModule, IsOfWrite, IsPermitted, IsPutAt, IsWrite, List, Log, Msg, Option, Rec, Records, Redeclared, Running, Sends, Site, SiteLog, Some, Stands, Submits, Ticked, Ts, TxnNo, Write, [], and_left, ap, append_assoc, apply_follows, apply_of_head, arith, at_seam, class_no, commit_act, dm_no, effect, eqb-true, false, filter_map, goes_write, head, head_put, history, if◌then◌else◌, in_either, in_left, in_one, inl, inr, is_processing, length, local_of, permitted_before, pipe_at, place_of_act, range_with_len, refl, results, same_number, same_or_not, sends_of_act, slice_get, subst, suc, sym, time_at, to_site, true, true_or_false, txn_no, write_to, zero, ℕ, ◌&&◌, ◌++◌, ◌+◌, ◌<◌, ◌==◌, ◌∙◌, ◌∷◌, ◌≡◌, ◌≤◌}
+use Rattle.sdd_lawful.proofs.All.{Act, AppliedBefore, Apply, Bases, Bool, Catalogue, Change, ClassNo, D, Did, DmNo, Does, Handed, Input, IsApplied, IsApplyOf, IsMadeAt, IsModule, IsOfWrite, IsPermitted, IsPutAt, IsRecordAt, IsWrite, List, Log, Msg, Option, Rec, Records, Redeclared, Running, Sends, Site, SiteLog, Some, Submits, Ticked, Ts, TxnNo, Write, [], and_left, ap, append_assoc, apply_follows, apply_of_head, arith, at_seam, class_no, commit_act, dm_no, effect, eqb-true, false, filter_map, goes_write, head, head_put, history, if◌then◌else◌, in_either, in_left, in_one, inl, inr, is_processing, length, local_of, permitted_before, pipe_at, place_of_act, range_with_len, refl, results, same_number, same_or_not, sends_of_act, slice_get, subst, suc, sym, time_at, to_site, true, true_or_false, txn_no, write_to, zero, ℕ, ◌&&◌, ◌++◌, ◌+◌, ◌<◌, ◌==◌, ◌∙◌, ◌∷◌, ◌≡◌, ◌≤◌}
 use Rattle.sdd_lawful.proofs.Classes.{at_home, home_setting}
 use Rattle.sdd_lawful.proofs.Makers.{IsOfData, act_kind, data_home, is_of_run, is_own}
-use Rattle.sdd_lawful.proofs.Places.{made_at, place_rises, stands_there}
+use Rattle.sdd_lawful.proofs.Places.{made_at, place_rises, recorded_there}
 use Rattle.sdd_lawful.proofs.Started.{act_local, act_of_record}
 use Rattle.sdd_invariants.proofs.Sites.{GoesTo}
 use Rattle.sdd_invariants.specs.site_module.SiteLog as site
@@ -18,7 +18,7 @@ pub record IsDataIn (g : Input) (log : Log) (k : ℕ) (r : Rec) (d : DmNo) : Typ
   pub permitted : IsPermitted g (Does (D d) (Records class r sends) ∷ before)
 
 pub data_in : (g : Input) (log : Log) (k : ℕ) (r : Rec) (d : DmNo) → IsPermitted g log → is_of_run r ≡ false → is_own r ≡ false
-    → ((e : DmNo) → IsOfData e r → e ≡ d) → Stands (history log) k r → IsDataIn g log k r d
+    → ((e : DmNo) → IsOfData e r → e ≡ d) → IsRecordAt (history log) k r → IsDataIn g log k r d
 data_in g log k r d h e f number s =
     let m = made_at log k r s in
     let a = act_of_record m.entry r m.makes f in
@@ -98,7 +98,7 @@ apply_as g log n class d ts k c later sends before changes e is place h head_is 
   at_module = m;
 }
 
-pub apply_in : (g : Input) (log : Log) (n class d ts k : ℕ) → IsPermitted g log → Stands (history log) k (apply_rec n class d ts)
+pub apply_in : (g : Input) (log : Log) (n class d ts k : ℕ) → IsPermitted g log → IsRecordAt (history log) k (apply_rec n class d ts)
     → IsApplyIn g log n class d ts k
 apply_in g log n class d ts k h s =
     let x = data_in g log k (apply_rec n class d ts) (dm_no d) h refl refl (λ e p. sym p) s in
@@ -163,15 +163,15 @@ applied_rec g full front log d c n ts (Apply t j dm w) is h of x =
     let same : dm ≡ d = act_kind g (D d) act p.rest now in
     let whole : full ≡ (front ++ p.later) ++ Does (D d) act ∷ p.rest = is ∙ ap (λ l. front ++ l) p.is
     ∙ sym (append_assoc front p.later (Does (D d) act ∷ p.rest)) in
-    let there : Stands (history full) (length (history p.rest)) (Apply t j dm w) = subst (λ l. Stands (history l) (length (history p.rest)) (Apply t j dm w))
-    (sym whole) (stands_there (front ++ p.later) (Does (D d) act) p.rest (Apply t j dm w) refl) in
-    let at_d : Stands (history full) (length (history p.rest)) (Apply t j d w) = subst
-    (λ y. Stands (history full) (length (history p.rest)) (Apply t j y w)) same there in
+    let there : IsRecordAt (history full) (length (history p.rest)) (Apply t j dm w) = subst (λ l. IsRecordAt (history l) (length (history p.rest)) (Apply t j dm w))
+    (sym whole) (recorded_there (front ++ p.later) (Does (D d) act) p.rest (Apply t j dm w) refl) in
+    let at_d : IsRecordAt (history full) (length (history p.rest)) (Apply t j d w) = subst
+    (λ y. IsRecordAt (history full) (length (history p.rest)) (Apply t j y w)) same there in
     let rises = place_rises p.later (Does (D d) act) p.rest (Apply t j dm w) refl in
     let size : length (history log) ≡ length (history (p.later ++ Does (D d) act ∷ p.rest)) = ap (λ l. length (history l)) p.is in
     record {
       place = length (history p.rest);
-      applied = record { class = j.0; ts = w.0; stands = subst (λ y. Stands (history full) (length (history p.rest)) (Apply (txn_no y) j d w)) of.0 at_d };
+      applied = record { class = j.0; ts = w.0; is_recorded = subst (λ y. IsRecordAt (history full) (length (history p.rest)) (Apply (txn_no y) j d w)) of.0 at_d };
       before = omega arith;
     }
 applied_rec g full front log d c n ts r is h of x = absurd of

@@ -1,5 +1,5 @@
 -- The history of a permitted log keeps the law of Applies.
-use Rattle.sdd_lawful.proofs.All.{AppliedBefore, Attempt, Committed, D, Does, GoesTo, Input, IsAnswered, IsApplied, IsCommitted, IsEarlier, IsMadeAt, IsOfCommit, IsPermitted, IsSound, KeepsApplies, Log, Msg, Rec, Records, Some, Stands, Touches, TxnNo, Write, [], ap, append_assoc, applied_below, arith, around_applied, by_change, changes_to, class_no, commit_act, dm_no, head, history, home, inl, inr, length, lower_same_higher, pipe_at, record_at, refl, subst, sym, time_at, time_of, true, txn_no, ℕ, ◌++◌, ◌<◌, ◌==◌, ◌∙◌, ◌∷◌, ◌≡◌, ◌⊎◌}
+use Rattle.sdd_lawful.proofs.All.{AppliedBefore, Attempt, Committed, D, Does, GoesTo, Input, IsAnswered, IsApplied, IsCommitted, IsEarlier, IsMadeAt, IsOfCommit, IsPermitted, IsRecordAt, IsSound, KeepsApplies, Log, Msg, Rec, Records, Some, Touches, TxnNo, Write, [], ap, append_assoc, applied_below, arith, around_applied, by_change, changes_to, class_no, commit_act, dm_no, head, history, home, inl, inr, length, lower_same_higher, pipe_at, record_at, refl, subst, sym, time_at, time_of, true, txn_no, ℕ, ◌++◌, ◌<◌, ◌==◌, ◌∙◌, ◌∷◌, ◌≡◌, ◌⊎◌}
 use Rattle.sdd_lawful.proofs.Answered.{IsAnswerIn, answer_in, answer_made, answer_rec, read_msg}
 use Rattle.sdd_lawful.proofs.Applied.{IsApplyIn, applied_before, applied_there, apply_in, apply_made, apply_rec}
 use Rattle.sdd_lawful.proofs.Classes.{further_back}
@@ -11,7 +11,7 @@ use Rattle.sdd_laws.specs.Deeds as deeds
 
 -- an Apply is of a committed transaction
 pub of_commit : (g : Input) (log : Log) → IsSound g.catalogue → IsPermitted g log → (n class d ts k : ℕ)
-    → Stands (history log) k (apply_rec n class d ts) → IsOfCommit g.catalogue (history log) n class d ts k
+    → IsRecordAt (history log) k (apply_rec n class d ts) → IsOfCommit g.catalogue (history log) n class d ts k
 of_commit g log sound h n class d ts k s =
     let x = apply_in g log n class d ts k h s in
     let y = x.of in
@@ -42,13 +42,13 @@ pub record IsApplyOfCommitted (g : Input) (log : Log) (t : Committed) (d k : ℕ
 pub apply_of_committed : (g : Input) (log : Log) (t : Committed) (d k : ℕ) → IsSound g.catalogue → IsPermitted g log
     → IsCommitted (history log) t → deeds.IsApplied (history log) t.start.txn d k → IsApplyOfCommitted g log t d k
 apply_of_committed g log t d k sound h c a =
-    let o = of_commit g log sound h t.start.txn a.class d a.ts k a.stands in
+    let o = of_commit g log sound h t.start.txn a.class d a.ts k a.is_recorded in
     let same : o.committed ≡ t = same_committed g log sound h o.committed t o.is_committed c o.txn_is in
     let class : a.class ≡ t.start.class = sym o.class_is ∙ ap (λ (y : Committed). y.start.class) same in
     let ts : a.ts ≡ t.start.ts = sym o.ts_is ∙ ap (λ (y : Committed). y.start.ts) same in
-    let there : Stands (history log) k (apply_rec t.start.txn t.start.class d t.start.ts) = subst
-    (λ j. Stands (history log) k (apply_rec t.start.txn t.start.class d j)) ts
-    (subst (λ j. Stands (history log) k (apply_rec t.start.txn j d a.ts)) class a.stands) in
+    let there : IsRecordAt (history log) k (apply_rec t.start.txn t.start.class d t.start.ts) = subst
+    (λ j. IsRecordAt (history log) k (apply_rec t.start.txn t.start.class d j)) ts
+    (subst (λ j. IsRecordAt (history log) k (apply_rec t.start.txn j d a.ts)) class a.is_recorded) in
     record { apply = apply_in g log t.start.txn t.start.class d t.start.ts k h there; goes = subst (λ y. GoesTo g.catalogue y d) same o.goes }
 
 -- what is applied before a place of the history is applied in the log up to there
@@ -103,7 +103,7 @@ not_twice g log t c d j k sound h x y l =
 pub one_apply : (g : Input) (log : Log) → IsSound g.catalogue → IsPermitted g log → (n d j k : ℕ) → deeds.IsApplied (history log) n d j
     → deeds.IsApplied (history log) n d k → j ≡ k
 one_apply g log sound h n d j k a b =
-    let o = of_commit g log sound h n a.class d a.ts j a.stands in
+    let o = of_commit g log sound h n a.class d a.ts j a.is_recorded in
     let t : Committed = o.committed in
     let c = committed_in g log t sound h o.is_committed in
     let x = (apply_of_committed g log t d j sound h o.is_committed (subst (λ m. deeds.IsApplied (history log) m d j) (sym o.txn_is) a)).apply in
@@ -130,7 +130,7 @@ no_earlier_after g log x y cy d j k sound h e time p q l =
     let ts = cy.ts_is in
     absurd (omega arith)
 
-same_apply : (log : Log) (n m c b d s t j k : ℕ) → Stands (history log) j (apply_rec n c d s) → Stands (history log) k (apply_rec m b d t) → j ≡ k → n ≡ m
+same_apply : (log : Log) (n m c b d s t j k : ℕ) → IsRecordAt (history log) j (apply_rec n c d s) → IsRecordAt (history log) k (apply_rec m b d t) → j ≡ k → n ≡ m
 same_apply log n m c b d s t j k p q e =
     let z : Some (apply_rec n c d s) ≡ Some (apply_rec m b d t) = sym p ∙ ap (record_at (history log)) e ∙ q in
     let w : txn_no n ≡ txn_no m = cc in ap (λ (y : TxnNo). y.0) w
@@ -143,7 +143,7 @@ rise g log sound h x y d j k e a b =
     elim (lower_same_higher j k) [
       | inl l ↦ l
       | inr l ↦ elim l [
-        | inl same ↦ (let n = same_apply log x.start.txn y.start.txn a.class b.class d a.ts b.ts j k a.stands b.stands same in
+        | inl same ↦ (let n = same_apply log x.start.txn y.start.txn a.class b.class d a.ts b.ts j k a.is_recorded b.is_recorded same in
             let one = same_committed g log sound h x y e.first e.second n in
             let ts : x.start.ts ≡ y.start.ts = ap (λ (z : Committed). z.start.ts) one in
             let less = e.time in absurd (omega arith))
@@ -198,7 +198,7 @@ before_later g log sound h x y d j k e s b =
     elim (lower_same_higher j k) [
       | inl l ↦ l
       | inr l ↦ elim l [
-        | inl same ↦ (let z : Some (answer_rec x.start d) ≡ Some (apply_rec y.start.txn b.class d b.ts) = sym s ∙ ap (record_at (history log)) same ∙ b.stands in cc)
+        | inl same ↦ (let z : Some (answer_rec x.start d) ≡ Some (apply_rec y.start.txn b.class d b.ts) = sym s ∙ ap (record_at (history log)) same ∙ b.is_recorded in cc)
         | inr l ↦ (let i = seen_applied g log y c d k j (answer_rec x.start d) (answer_made g log x.start d j w) q.apply l in
             absurd ((at_answer g log sound h y x d j c (sym e.class) q.goes w).greater e.time i))
       ]

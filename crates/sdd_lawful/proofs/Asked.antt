@@ -1,13 +1,13 @@
 -- The Answers and Commits of a history: one Answer of an attempt at a module, after its Start, and before its Commit one
 -- at each module that is asked.
-use Rattle.sdd_lawful.proofs.All.{Act, Answer, AnsweredBefore, Asks, Attempt, Catalogue, Committed, D, Does, HasCommit, Input, IsAttempt, IsCommitted, IsPermitted, IsSound, List, Log, None, Option, Records, Some, Stands, StartedBefore, [], answered_once, ap, arith, ascending, by_no_class, by_use, class_no, commit_act, commit_answered, cons_option, contains, contains_at, dm_no, each_in_range, filter_map, found_has, fragments_in, has_copy, head, history, home, home_of, in_ascending, inl, inr, length, lower_same_higher, lowest_copy, modules_of, numbers_to, only_right, or_left, or_right, pipe_at, range_with_len, reads_at, refl, same_number, same_or_not, setting_of, subst, sym, time_at, true, txn_no, ℕ, ◌++◌, ◌+◌, ◌<◌, ◌==◌, ◌∙◌, ◌∷◌, ◌≡◌, ◌≤◌}
+use Rattle.sdd_lawful.proofs.All.{Act, Answer, AnsweredBefore, Asks, Attempt, Catalogue, Committed, D, Does, HasCommit, Input, IsAttempt, IsCommitted, IsPermitted, IsRecordAt, IsSound, List, Log, None, Option, Records, Some, StartedBefore, [], answered_once, ap, arith, ascending, by_no_class, by_use, class_no, commit_act, commit_answered, cons_option, contains, contains_at, dm_no, each_in_range, filter_map, found_has, fragments_in, has_copy, head, history, home, home_of, in_ascending, inl, inr, length, lower_same_higher, lowest_copy, modules_of, numbers_to, only_right, or_left, or_right, pipe_at, range_with_len, reads_at, refl, same_number, same_or_not, setting_of, subst, sym, time_at, true, txn_no, ℕ, ◌++◌, ◌+◌, ◌<◌, ◌==◌, ◌∙◌, ◌∷◌, ◌≡◌, ◌≤◌}
 use Rattle.sdd_lawful.proofs.Answered.{IsAnswerIn, answer_in, answer_made, answer_of_some, answer_rec, read_msg}
 use Rattle.sdd_lawful.proofs.Beginnings.{in_numbers}
 use Rattle.sdd_lawful.proofs.Classes.{further_back}
 use Rattle.sdd_lawful.proofs.Commits.{Told, begun, commit_in}
 use Rattle.sdd_lawful.proofs.Committed.{committed_in}
 use Rattle.sdd_lawful.proofs.Homes.{home_small}
-use Rattle.sdd_lawful.proofs.Places.{entries_in_order, place_rises, stands_there}
+use Rattle.sdd_lawful.proofs.Places.{entries_in_order, place_rises, recorded_there}
 
 not_behind : {A : Type 0} (g : Input) (log : Log) (a : Attempt) (d j k : ℕ) → IsSound g.catalogue → IsPermitted g log
     → IsAnswerIn g log a d j → IsAnswerIn g log a d k → j < k → A
@@ -20,13 +20,13 @@ not_behind g log a d j k sound h x y l =
     (subst (λ b. head (pipe_at g a.class (dm_no d) b) ≡ Some (read_msg a y.read.conds y.read.uses)) z.is y.read.head_is) refl refl)
 
 answer_at : (g : Input) (log : Log) (a : Attempt) (n number d k : ℕ) → IsSound g.catalogue → IsPermitted g log → IsAttempt (history log) a
-    → a.txn ≡ n → a.number ≡ number → Stands (history log) k (Answer (txn_no n) number (dm_no d)) → IsAnswerIn g log a d k
+    → a.txn ≡ n → a.number ≡ number → IsRecordAt (history log) k (Answer (txn_no n) number (dm_no d)) → IsAnswerIn g log a d k
 answer_at g log a n number d k sound h s e f st =
     answer_in g log a d k sound h s
-    (subst (λ i. Stands (history log) k (Answer (txn_no a.txn) i (dm_no d))) (sym f) (subst (λ i. Stands (history log) k (Answer (txn_no i) number (dm_no d))) (sym e) st))
+    (subst (λ i. IsRecordAt (history log) k (Answer (txn_no a.txn) i (dm_no d))) (sym f) (subst (λ i. IsRecordAt (history log) k (Answer (txn_no i) number (dm_no d))) (sym e) st))
 
 pub one_answer : (g : Input) (log : Log) → IsSound g.catalogue → IsPermitted g log → (n number d j k : ℕ)
-    → Stands (history log) j (Answer (txn_no n) number (dm_no d)) → Stands (history log) k (Answer (txn_no n) number (dm_no d)) → j ≡ k
+    → IsRecordAt (history log) j (Answer (txn_no n) number (dm_no d)) → IsRecordAt (history log) k (Answer (txn_no n) number (dm_no d)) → j ≡ k
 one_answer g log sound h n number d j k s t =
     let x = answer_of_some g log n number d j h s in
     let a : Attempt = x.attempt in
@@ -37,7 +37,7 @@ one_answer g log sound h n number d j k s t =
     ]
 
 pub answer_after : (g : Input) (log : Log) → IsSound g.catalogue → IsPermitted g log → (n number d k : ℕ)
-    → Stands (history log) k (Answer (txn_no n) number (dm_no d)) → StartedBefore (history log) n number k
+    → IsRecordAt (history log) k (Answer (txn_no n) number (dm_no d)) → StartedBefore (history log) n number k
 answer_after g log sound h n number d k s =
     let x = answer_of_some g log n number d k h s in
     let before = x.answer.read.start_before in let place = x.answer.place_is in
@@ -47,7 +47,7 @@ pub commit_after : (g : Input) (log : Log) → IsSound g.catalogue → IsPermitt
     → StartedBefore (history log) n number k
 commit_after g log sound h n number k c =
     let told : Told = record { reply = c.reply; changes = c.changes; values = c.values; rows = c.rows } in
-    let b = begun g log n number k told (commit_in g log n number k told sound h c.stands) in
+    let b = begun g log n number k told (commit_in g log n number k told sound h c.is_recorded) in
     record { attempt = b.attempt; started = b.started; txn_is = b.txn_is; number_is = b.number_is; before = b.before }
 
 -- the modules that are asked
@@ -89,15 +89,15 @@ answered g log sound h t d ct asks =
     let ans : Act = Records t.start.class (Answer a.txn a.attempt (home_of (setting_of g (D (dm_no d)))).dm) a.sends in
     let f = further_back log c.later c.before (Does (home g.catalogue t.start.class) (commit_act g.catalogue c.bases t.start.class c.running))
     (Does (D (dm_no d)) ans) a.later a.before c.is a.is in
-    let there : Stands (history log) (length (history a.before)) (Answer a.txn a.attempt (dm_no d)) = subst
-    (λ l. Stands (history l) (length (history a.before)) (Answer a.txn a.attempt (dm_no d))) (sym f.1)
-    (stands_there f.0 (Does (D (dm_no d)) ans) a.before (Answer a.txn a.attempt (dm_no d)) refl) in
+    let there : IsRecordAt (history log) (length (history a.before)) (Answer a.txn a.attempt (dm_no d)) = subst
+    (λ l. IsRecordAt (history l) (length (history a.before)) (Answer a.txn a.attempt (dm_no d))) (sym f.1)
+    (recorded_there f.0 (Does (D (dm_no d)) ans) a.before (Answer a.txn a.attempt (dm_no d)) refl) in
     let rises = place_rises a.later (Does (D (dm_no d)) ans) a.before (Answer a.txn a.attempt (dm_no d)) refl in
     let size : length (history c.before) ≡ length (history (a.later ++ Does (D (dm_no d)) ans ∷ a.before)) = ap (λ l. length (history l)) a.is in
     let place = c.place_is in
     record {
       place = length (history a.before);
-      answered = subst (λ i. Stands (history log) (length (history a.before)) (Answer (txn_no t.start.txn) i (dm_no d))) (a.try_is ∙ c.number_is)
-          (subst (λ i. Stands (history log) (length (history a.before)) (Answer (txn_no i) a.attempt (dm_no d))) (a.number_is ∙ c.txn_is) there);
+      answered = subst (λ i. IsRecordAt (history log) (length (history a.before)) (Answer (txn_no t.start.txn) i (dm_no d))) (a.try_is ∙ c.number_is)
+          (subst (λ i. IsRecordAt (history log) (length (history a.before)) (Answer (txn_no i) a.attempt (dm_no d))) (a.number_is ∙ c.txn_is) there);
       before = omega arith;
     }

@@ -1,9 +1,9 @@
 -- The Commits of a history, as acts of the sites that run their classes, each with the Start of its attempt.
-use Rattle.sdd_lawful.proofs.All.{Act, Attempt, Change, Commit, Did, Does, HasCommit, Input, IsAttempt, IsCommitRecord, IsMadeAt, IsPermitted, IsSound, List, Log, Msg, Queued, Rec, Records, Reply, Site, Some, Stands, Txn, all_new, ap, arith, bound, compare, false, head_left, head_of, history, home, home_fair, inl, inr, is_committed, length, next_stamp, p2_of, permitted_before, place_of_act, place_of_submit, queue, refl, says_at, start_at, subst, suc, sym, true, txn_at, txn_no, uses_of, was_submitted, ℕ, ◌++◌, ◌<◌, ◌∙◌, ◌∷◌, ◌≡◌}
+use Rattle.sdd_lawful.proofs.All.{Act, Attempt, Change, Commit, Did, Does, HasCommit, Input, IsAttempt, IsCommitRecord, IsMadeAt, IsPermitted, IsRecordAt, IsSound, List, Log, Msg, Queued, Rec, Records, Reply, Site, Some, Txn, all_new, ap, arith, bound, compare, false, head_left, head_of, history, home, home_fair, inl, inr, is_committed, length, next_stamp, p2_of, permitted_before, place_of_act, place_of_submit, queue, refl, says_at, start_at, subst, suc, sym, true, txn_at, txn_no, uses_of, was_submitted, ℕ, ◌++◌, ◌<◌, ◌∙◌, ◌∷◌, ◌≡◌}
 use Rattle.sdd_lawful.proofs.Classes.{at_home, further_back, home_setting}
 use Rattle.sdd_lawful.proofs.Homes.{home_small}
 use Rattle.sdd_lawful.proofs.Locals.{committed_here, committed_later}
-use Rattle.sdd_lawful.proofs.Places.{place_rises, stands_there}
+use Rattle.sdd_lawful.proofs.Places.{place_rises, recorded_there}
 use Rattle.sdd_lawful.proofs.Started.{act_local, one_start_class, run_in, start_in, start_of}
 use Rattle.sdd_invariants.specs.site_module.SiteLog as site
 
@@ -28,7 +28,7 @@ pub record IsCommitIn (g : Input) (log : Log) (n number k : ℕ) (told : Told) :
   pub says : IsCommitRecord (home_setting g class) (at_home g class before) class (txn_no n) number told.changes
 
 pub commit_in : (g : Input) (log : Log) (n number k : ℕ) (told : Told) → IsSound g.catalogue → IsPermitted g log
-    → Stands (history log) k (commit_rec n number told) → IsCommitIn g log n number k told
+    → IsRecordAt (history log) k (commit_rec n number told) → IsCommitIn g log n number k told
 commit_in g log n number k told sound h s =
     let m = run_in g log k (commit_rec n number told) h refl refl s in
     let small = home_small g.catalogue sound m.class in
@@ -89,7 +89,7 @@ begun g log n number k told x =
     let front : length (history x.before) ≡ length (history (p.later ++ Does at act ∷ p.rest)) = ap (λ l. length (history l)) p.is in
     record {
       attempt = a;
-      started = subst (λ l. IsAttempt (history l) a) (sym w.1) (stands_there w.0 (Does at act) p.rest (start_of a) refl);
+      started = subst (λ l. IsAttempt (history l) a) (sym w.1) (recorded_there w.0 (Does at act) p.rest (start_of a) refl);
       txn_is = sym s.number_is;
       number_is = sym s.try_is;
       class_is = refl;
@@ -136,8 +136,8 @@ pub one_commit : (g : Input) (log : Log) → IsSound g.catalogue → IsPermitted
 one_commit g log sound h n i j k l p q =
     let t : Told = record { reply = p.reply; changes = p.changes; values = p.values; rows = p.rows } in
     let u : Told = record { reply = q.reply; changes = q.changes; values = q.values; rows = q.rows } in
-    let x = commit_in g log n i k t sound h p.stands in
-    let y = commit_in g log n j l u sound h q.stands in
+    let x = commit_in g log n i k t sound h p.is_recorded in
+    let y = commit_in g log n j l u sound h q.is_recorded in
     let b = begun g log n i k t x in
     let e : x.class ≡ y.class = sym b.class_is ∙ commit_class g log n j l u y b.attempt sound h b.started b.txn_is in
     let px = x.place_is in let py = y.place_is in

@@ -1,10 +1,10 @@
 -- A committed transaction of a history, as the Commit of an active attempt; and what makes one of each.
-use Rattle.sdd_lawful.proofs.All.{Act, Attempt, Bases, Change, Commit, Committed, Does, Each, Effect, Input, IsAttempt, IsCommitted, IsFair, IsMadeAt, IsPermitted, IsSound, IsStep, List, Log, Records, Reply, Running, Setting, Some, Stands, TxnNo, active, ap, arith, commit_act, effect, history, home, home_fair, length, one_active, one_attempt, one_of_txn, one_start, own_act, permitted_before, refl, same_start, says_at, sends_of_act, step_way, subst, sym, txn_at, txn_no, uses_of, ℕ, ◌++◌, ◌∙◌, ◌∷◌, ◌≡◌}
+use Rattle.sdd_lawful.proofs.All.{Act, Attempt, Bases, Change, Commit, Committed, Does, Each, Effect, Input, IsAttempt, IsCommitted, IsFair, IsMadeAt, IsPermitted, IsRecordAt, IsSound, IsStep, List, Log, Records, Reply, Running, Setting, Some, TxnNo, active, ap, arith, commit_act, effect, history, home, home_fair, length, one_active, one_attempt, one_of_txn, one_start, own_act, permitted_before, refl, same_start, says_at, sends_of_act, step_way, subst, sym, txn_at, txn_no, uses_of, ℕ, ◌++◌, ◌∙◌, ◌∷◌, ◌≡◌}
 use Rattle.sdd_lawful.proofs.Classes.{at_home, home_setting}
 use Rattle.sdd_lawful.proofs.Commits.{IsCommitIn, Told, begun, commit_class, commit_in, commit_rec, one_commit}
 use Rattle.sdd_lawful.proofs.Counted.{numbered}
 use Rattle.sdd_lawful.proofs.Homes.{home_small}
-use Rattle.sdd_lawful.proofs.Places.{stands_there}
+use Rattle.sdd_lawful.proofs.Places.{recorded_there}
 use Rattle.sdd_invariants.specs.site_module.SiteLog as site
 
 -- of one transaction and number there is one attempt
@@ -152,12 +152,12 @@ commit_of_log g log later before class bases running sound h is active_is =
     } in
     let b = begun g log running.txn running.attempt (length (history before)) told x in
     let same : x.says.now ≡ running = one_active (home_setting g class) class (at_home g class before) x.says.now running x.says.active_is active_is in
-    let there : Stands (history log) (length (history before)) (commit_rec running.txn running.attempt told) = subst
-    (λ l. Stands (history l) (length (history before)) (commit_rec running.txn running.attempt told)) (sym is)
-    (stands_there later (Does (home g.catalogue class) act) before (commit_rec running.txn running.attempt told) refl) in
-    let named : Stands (history log) (length (history before)) (commit_rec b.attempt.txn b.attempt.number told) = subst
-    (λ n. Stands (history log) (length (history before)) (commit_rec b.attempt.txn n told)) (sym b.number_is)
-    (subst (λ n. Stands (history log) (length (history before)) (commit_rec n running.attempt told)) (sym b.txn_is) there) in
+    let there : IsRecordAt (history log) (length (history before)) (commit_rec running.txn running.attempt told) = subst
+    (λ l. IsRecordAt (history l) (length (history before)) (commit_rec running.txn running.attempt told)) (sym is)
+    (recorded_there later (Does (home g.catalogue class) act) before (commit_rec running.txn running.attempt told) refl) in
+    let named : IsRecordAt (history log) (length (history before)) (commit_rec b.attempt.txn b.attempt.number told) = subst
+    (λ n. IsRecordAt (history log) (length (history before)) (commit_rec b.attempt.txn n told)) (sym b.number_is)
+    (subst (λ n. IsRecordAt (history log) (length (history before)) (commit_rec n running.attempt told)) (sym b.txn_is) there) in
     record {
       committed = record { start = b.attempt; reply = told.reply; changes = told.changes; values = told.values; rows = told.rows; place = length (history before) };
       is_committed = record { started = b.started; committed = named };

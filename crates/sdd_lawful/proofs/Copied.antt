@@ -1,11 +1,11 @@
 -- The copies of a data module, by its own log, are those that the history gives.
-use Rattle.sdd_lawful.proofs.All.{Act, AppliedBefore, Apply, Change, ClassNo, Committed, Contains, Contains-append_cases, Contains-append_right, Contains-filter, Contains-from_filter, Contains-from_map, Contains-map, Contains-nil, D, Did, DmNo, Does, Handed, Input, IsCommitted, IsMadeAt, IsPermitted, IsSound, IsWrite, List, Log, Msg, Rec, Records, Redeclared, Sends, Site, SiteLog, Some, Stands, Submits, Ticked, Ts, TxnNo, Write, [], and_left, and_right, ap, append_assoc, applied, applied_if, apply_of_head, arith, changes_at, changes_in, class_no, class_number, commit_act, commit_put_is, dm_no, eqb-true, has_copy, head, head_put, history, home, inl, inr, is_apply, length, local_of, map, permitted_before, pipe, pipe_at, place_of_act, refl, same_number, sends_of_act, slice_get, subst, sym, time_at, to_site, true, true_or_false, txn_no, ℕ, ◌&&◌, ◌++◌, ◌==◌, ◌∙◌, ◌∷◌, ◌≡◌}
+use Rattle.sdd_lawful.proofs.All.{Act, AppliedBefore, Apply, Change, ClassNo, Committed, Contains, Contains-append_cases, Contains-append_right, Contains-filter, Contains-from_filter, Contains-from_map, Contains-map, Contains-nil, D, Did, DmNo, Does, Handed, Input, IsCommitted, IsMadeAt, IsPermitted, IsRecordAt, IsSound, IsWrite, List, Log, Msg, Rec, Records, Redeclared, Sends, Site, SiteLog, Some, Submits, Ticked, Ts, TxnNo, Write, [], and_left, and_right, ap, append_assoc, applied, applied_if, apply_of_head, arith, changes_at, changes_in, class_no, class_number, commit_act, commit_put_is, dm_no, eqb-true, has_copy, head, head_put, history, home, inl, inr, is_apply, length, local_of, map, permitted_before, pipe, pipe_at, place_of_act, refl, same_number, sends_of_act, slice_get, subst, sym, time_at, to_site, true, true_or_false, txn_no, ℕ, ◌&&◌, ◌++◌, ◌==◌, ◌∙◌, ◌∷◌, ◌≡◌}
 use Rattle.sdd_lawful.proofs.Applied.{IsApplyIn, apply_made, apply_rec}
 use Rattle.sdd_lawful.proofs.Applies.{apply_of_committed}
 use Rattle.sdd_lawful.proofs.Classes.{at_home, further_back, home_setting}
 use Rattle.sdd_lawful.proofs.Committed.{commit_of_log, same_committed}
 use Rattle.sdd_lawful.proofs.Makers.{act_kind}
-use Rattle.sdd_lawful.proofs.Places.{entries_in_order, place_rises, stands_there}
+use Rattle.sdd_lawful.proofs.Places.{entries_in_order, place_rises, recorded_there}
 use Rattle.sdd_lawful.proofs.Started.{act_local}
 use Rattle.sdd_invariants.specs.site_module.SiteLog as site
 
@@ -121,11 +121,11 @@ change_of g log d k q m c x sound h i r =
     let o = head_commit g log (f.0 ++ Does (D (dm_no d)) act ∷ []) p.rest c d r.ts r.class r.txn w.0 sound h
     (f.1 ∙ sym (append_assoc f.0 (Does (D (dm_no d)) act ∷ []) p.rest)) w.1 in
     let dm : r.dm ≡ dm_no d = act_kind g (D (dm_no d)) act p.rest now in
-    let there : Stands (history log) (length (history p.rest)) (Apply r.txn r.class r.dm r.ts) = subst
-    (λ l. Stands (history l) (length (history p.rest)) (Apply r.txn r.class r.dm r.ts)) (sym f.1)
-    (stands_there f.0 (Does (D (dm_no d)) act) p.rest (Apply r.txn r.class r.dm r.ts) refl) in
-    let at_d : Stands (history log) (length (history p.rest)) (Apply r.txn r.class (dm_no d) r.ts) = subst
-    (λ y. Stands (history log) (length (history p.rest)) (Apply r.txn r.class y r.ts)) dm there in
+    let there : IsRecordAt (history log) (length (history p.rest)) (Apply r.txn r.class r.dm r.ts) = subst
+    (λ l. IsRecordAt (history l) (length (history p.rest)) (Apply r.txn r.class r.dm r.ts)) (sym f.1)
+    (recorded_there f.0 (Does (D (dm_no d)) act) p.rest (Apply r.txn r.class r.dm r.ts) refl) in
+    let at_d : IsRecordAt (history log) (length (history p.rest)) (Apply r.txn r.class (dm_no d) r.ts) = subst
+    (λ y. IsRecordAt (history log) (length (history p.rest)) (Apply r.txn r.class y r.ts)) dm there in
     let rises = place_rises p.later (Does (D (dm_no d)) act) p.rest (Apply r.txn r.class r.dm r.ts) refl in
     let size : length (history m.before) ≡ length (history (p.later ++ Does (D (dm_no d)) act ∷ p.rest)) = ap (λ l. length (history l)) p.is in
     let place = m.place_is in
@@ -140,7 +140,7 @@ change_of g log d k q m c x sound h i r =
       is_committed = o.is_committed;
       applied = record {
         place = length (history p.rest);
-        applied = record { class = r.class.0; ts = r.ts.0; stands = subst (λ n. Stands (history log) (length (history p.rest)) (Apply (txn_no n) r.class (dm_no d) r.ts)) (sym o.txn_is) at_d };
+        applied = record { class = r.class.0; ts = r.ts.0; is_recorded = subst (λ n. IsRecordAt (history log) (length (history p.rest)) (Apply (txn_no n) r.class (dm_no d) r.ts)) (sym o.txn_is) at_d };
         before = omega arith;
       };
       date_is = ap (λ (y : ℕ × Change). y.0) z.2 ∙ sym o.ts_is;

@@ -1,5 +1,5 @@
 -- All that the records of a history name is there.
-use Rattle.sdd_lawful.proofs.All.{Act, All-from_recursion, AllByRecursion, Answer, Apply, AreErasOf, AreNumbered, Arrive, Ask, Attempt, Catalogue, Change, ChangeExists, ClassNo, Commit, Committed, Cond, CondExists, D, DmNo, Does, Entry, Eras, ExistsIn, Fits, FitsStatement, Hand, HasSoundData, History, Input, IsAskBy, IsAttempt, IsClass, IsCommitted, IsDueAt, IsFrom1To, IsModule, IsPermitted, IsPutAt, IsRead, IsReadStep, IsSound, List, Log, Mark, Msg, NamesOneOf, None, Notes, Nothing, Null, NumbersExist, Option, Pass, Read, Rec, Records, Rejected, RelNo, Row, Sends, Setting, Site, Some, Stands, Start, Submit, Submitted, Ts, TxnNo, TxnsExist, Use, UseExists, Wait, [], all_join, allowed_act, ap, append_assoc, arith, ascending, class_number, contains, d_step, dm_no, false, first_of_filter, fragments_in, from_ascending, hand_was_put, handed, head, head_put, history, home, in_class, length, local_of, marks, modules_asked, modules_of, number_member, origin, p2_time, permitted_before, pipe_at, place_of_hand, put_at_home, put_in_by_d, puts_to, record_of, recursion_from_All, refl, same_number, sends_of_act, setting_of, slice_get, spoils, start_at, start_read, subst, suc, sym, to_site, true, txn_no, view_of, ℕ, ◌++◌, ◌-◌, ◌<◌, ◌∙◌, ◌∷◌, ◌≡◌, ◌≤◌}
+use Rattle.sdd_lawful.proofs.All.{Act, All-from_recursion, AllByRecursion, Answer, Apply, AreErasOf, AreNumbered, Arrive, Ask, Attempt, Catalogue, Change, ChangeExists, ClassNo, Commit, Committed, Cond, CondExists, D, DmNo, Does, Entry, Eras, ExistsIn, Fits, FitsStatement, Hand, HasSoundData, History, Input, IsAskBy, IsAttempt, IsClass, IsCommitted, IsDueAt, IsFrom1To, IsModule, IsPermitted, IsPutAt, IsRead, IsReadStep, IsRecordAt, IsSound, List, Log, Mark, Msg, NamesOneOf, None, Notes, Nothing, Null, NumbersExist, Option, Pass, Read, Rec, Records, Rejected, RelNo, Row, Sends, Setting, Site, Some, Start, Submit, Submitted, Ts, TxnNo, TxnsExist, Use, UseExists, Wait, [], all_join, allowed_act, ap, append_assoc, arith, ascending, class_number, contains, d_step, dm_no, false, first_of_filter, fragments_in, from_ascending, hand_was_put, handed, head, head_put, history, home, in_class, length, local_of, marks, modules_asked, modules_of, number_member, origin, p2_time, permitted_before, pipe_at, place_of_hand, put_at_home, put_in_by_d, puts_to, record_of, recursion_from_All, refl, same_number, sends_of_act, setting_of, slice_get, spoils, start_at, start_read, subst, suc, sym, to_site, true, txn_no, view_of, ℕ, ◌++◌, ◌-◌, ◌<◌, ◌∙◌, ◌∷◌, ◌≡◌, ◌≤◌}
 use Rattle.sdd_lawful.proofs.Answered.{answer_head, in_reads, read_of_some}
 use Rattle.sdd_lawful.proofs.Applied.{apply_in}
 use Rattle.sdd_lawful.proofs.Applies.{of_commit}
@@ -9,7 +9,7 @@ use Rattle.sdd_lawful.proofs.Commits.{Told, begun, begun_as, commit_in, commit_r
 use Rattle.sdd_lawful.proofs.Dues.{arrives, home_runs, null_asked, passing, sends_null, waiting}
 use Rattle.sdd_lawful.proofs.Existing.{cond_exists, fragment_exists, module_exists, uses_exist}
 use Rattle.sdd_lawful.proofs.Makers.{IsOfData, data_home, is_of_run, is_own, none_own}
-use Rattle.sdd_lawful.proofs.Places.{history_step, recorded, stands_there}
+use Rattle.sdd_lawful.proofs.Places.{history_step, recorded, recorded_there}
 use Rattle.sdd_lawful.proofs.Rejected.{rejecting}
 use Rattle.sdd_lawful.proofs.Started.{attempt_from, given_of_attempt, start_in, start_of}
 use Rattle.sdd_lawful.proofs.Starts.{start_within}
@@ -101,7 +101,7 @@ module _ (g : Input) (rows : List (RelNo × Row)) (eras : Eras) (log : Log) (sou
       ∙ ap (λ y. front ++ y) (p.is ∙ ap (λ y. p.later ++ Does (home cat c) y ∷ p.before) r.act_is)
       ∙ sym (append_assoc front p.later (Does (home cat c) start ∷ p.before)) in
       let s : IsAttempt (history log) b = subst (λ y. IsAttempt (history y) b) (sym whole)
-      (stands_there (front ++ p.later) (Does (home cat c) start) p.before (start_of b) refl) in
+      (recorded_there (front ++ p.later) (Does (home cat c) start) p.before (start_of b) refl) in
       (asked_module b d s i.0, subst IsTxn (sym r.number_is) (attempt_txn b s))
 
   start_known : (later : Log) (at : Site) (c : ℕ) (txn : TxnNo) (number : ℕ) (class : ClassNo) (ts : Ts) (p2 : Option Ts) (uses : List Use) (sends : List (Site × Msg)) (before : Log)
@@ -109,20 +109,20 @@ module _ (g : Input) (rows : List (RelNo × Row)) (eras : Eras) (log : Log) (sou
   start_known later at c txn number class ts p2 uses sends before is =
       let a : Attempt = attempt_from txn number class ts p2 uses (length (history before)) in
       let s : IsAttempt (history log) a = subst (λ y. IsAttempt (history y) a) (sym is)
-      (stands_there later (Does at (Records c (start_of a) sends)) before (start_of a) refl) in
+      (recorded_there later (Does at (Records c (start_of a) sends)) before (start_of a) refl) in
       ((attempt_class a s, All-from_recursion (UseExists cat) uses (attempt_uses a s)), attempt_txn a s)
 
   commit_known : (later : Log) (at : Site) (c : ℕ) (txn : TxnNo) (number : ℕ) (told : Told) (sends : List (Site × Msg)) (before : Log)
       → log ≡ later ++ Does at (Records c (commit_rec txn.0 number told) sends) ∷ before → IsKnown (commit_rec txn.0 number told)
   commit_known later at c txn number told sends before is =
       let k : ℕ = length (history before) in
-      let st : Stands (history log) k (commit_rec txn.0 number told) = subst (λ y. Stands (history y) k (commit_rec txn.0 number told)) (sym is)
-      (stands_there later (Does at (Records c (commit_rec txn.0 number told) sends)) before (commit_rec txn.0 number told) refl) in
+      let st : IsRecordAt (history log) k (commit_rec txn.0 number told) = subst (λ y. IsRecordAt (history y) k (commit_rec txn.0 number told)) (sym is)
+      (recorded_there later (Does at (Records c (commit_rec txn.0 number told) sends)) before (commit_rec txn.0 number told) refl) in
       let b = begun g log txn.0 number k told (commit_in g log txn.0 number k told sound h st) in
       let t : Committed = record { start = b.attempt; reply = told.reply; changes = told.changes; values = told.values; rows = told.rows; place = k } in
-      let named : Stands (history log) k (commit_rec b.attempt.txn b.attempt.number told) = subst
-      (λ i. Stands (history log) k (commit_rec b.attempt.txn i told)) (sym b.number_is)
-      (subst (λ i. Stands (history log) k (commit_rec i number told)) (sym b.txn_is) st) in
+      let named : IsRecordAt (history log) k (commit_rec b.attempt.txn b.attempt.number told) = subst
+      (λ i. IsRecordAt (history log) k (commit_rec b.attempt.txn i told)) (sym b.number_is)
+      (subst (λ i. IsRecordAt (history log) k (commit_rec i number told)) (sym b.txn_is) st) in
       let ct : IsCommitted (history log) t = record { started = b.started; committed = named } in (
         All-from_recursion (ChangeExists cat) told.changes
             (each_exists cat sound told.changes (changes_valid g rows log sound fine h t ct)),
@@ -205,8 +205,8 @@ module _ (g : Input) (rows : List (RelNo × Row)) (eras : Eras) (log : Log) (sou
       → OfModule later c (Apply txn class dm ts) sends before d → dm ≡ d → IsKnown (Apply txn class dm ts)
   apply_known later c txn class dm ts sends before d is e =
       let k : ℕ = length (history before) in
-      let st : Stands (history log) k (Apply txn class dm ts) = subst (λ y. Stands (history y) k (Apply txn class dm ts)) (sym is)
-      (stands_there later (Does (D d) (Records c (Apply txn class dm ts) sends)) before (Apply txn class dm ts) refl) in
+      let st : IsRecordAt (history log) k (Apply txn class dm ts) = subst (λ y. IsRecordAt (history y) k (Apply txn class dm ts)) (sym is)
+      (recorded_there later (Does (D d) (Records c (Apply txn class dm ts) sends)) before (Apply txn class dm ts) refl) in
       let x = apply_in g log txn.0 class.0 dm.0 ts.0 k h st in
       let o = of_commit g log sound h txn.0 class.0 dm.0 ts.0 k st in (
         (x.at_module, subst (IsClass cat) o.class_is (attempt_class o.committed.start o.is_committed.started)),

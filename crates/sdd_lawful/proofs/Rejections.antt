@@ -1,12 +1,12 @@
 -- The history of a permitted log keeps the law of rejections.
-use Rattle.sdd_lawful.proofs.All.{Act, AppliedBefore, AreErasOf, Attempt, ClassNo, Cond, D, DmNo, Does, Entry, Eras, Input, IsAgain, IsAttempt, IsConditionOf, IsPermitted, IsSound, IsStep, IsTable, KeepsRejections, List, Log, Msg, None, Queued, Rec, Records, Rejected, Setting, Site, Some, Stands, Start, Ts, TxnNo, [], active, again, allowed_act, ap, append_assoc, arith, bound, commit_act, conditions_of, d_step, event_at, first_of_filter, head_of, history, home, home_of, length, local_of, nth_era, permitted_before, queue, redeclares, refl, setting_of, slice_get, spoils, step_way, subst, suc, sym, txn_no, view_of, ℕ, ◌++◌, ◌<◌, ◌∙◌, ◌∷◌, ◌≡◌}
+use Rattle.sdd_lawful.proofs.All.{Act, AppliedBefore, AreErasOf, Attempt, ClassNo, Cond, D, DmNo, Does, Entry, Eras, Input, IsAgain, IsAttempt, IsConditionOf, IsPermitted, IsRecordAt, IsSound, IsStep, IsTable, KeepsRejections, List, Log, Msg, None, Queued, Rec, Records, Rejected, Setting, Site, Some, Start, Ts, TxnNo, [], active, again, allowed_act, ap, append_assoc, arith, bound, commit_act, conditions_of, d_step, event_at, first_of_filter, head_of, history, home, home_of, length, local_of, nth_era, permitted_before, queue, redeclares, refl, setting_of, slice_get, spoils, step_way, subst, suc, sym, txn_no, view_of, ℕ, ◌++◌, ◌<◌, ◌∙◌, ◌∷◌, ◌≡◌}
 use Rattle.sdd_lawful.proofs.Answered.{IsReadIn, read_of_some}
 use Rattle.sdd_lawful.proofs.Applied.{applied_before}
 use Rattle.sdd_lawful.proofs.Classes.{at_home, further_back, home_setting}
 use Rattle.sdd_lawful.proofs.Committed.{commit_of_log, home_step}
 use Rattle.sdd_lawful.proofs.Conditions.{conds_are, member_of, start_event}
 use Rattle.sdd_lawful.proofs.Homes.{home_small}
-use Rattle.sdd_lawful.proofs.Places.{place_rises, stands_there}
+use Rattle.sdd_lawful.proofs.Places.{place_rises, recorded_there}
 use Rattle.sdd_lawful.proofs.Rejected.{rejecting, spoilt_by, touched_one}
 use Rattle.sdd_lawful.proofs.Started.{start_act_of, start_in}
 use Rattle.sdd_lawful.proofs.Starts.{p2_bound}
@@ -48,13 +48,13 @@ read_condition g log eras a d later before e are is x k q there =
 
 rejected_there : (g : Input) (log later before : Log) (class : ℕ) (txn : TxnNo) (attempt : ℕ) (d : DmNo) (by : ClassNo) (write : Ts) (sends : List (Site × Msg)) (n number : ℕ)
     → log ≡ later ++ Does (D d) (Records class (Rejected txn attempt (home_of (setting_of g (D d))).dm by write) sends) ∷ before → txn.0 ≡ n
-    → attempt ≡ number → Stands (history log) (length (history before)) (Rejected (txn_no n) number d by write)
+    → attempt ≡ number → IsRecordAt (history log) (length (history before)) (Rejected (txn_no n) number d by write)
 rejected_there g log later before class txn attempt d by write sends n number is e f =
     let r : Rec = Rejected txn attempt (home_of (setting_of g (D d))).dm by write in
-    let s : Stands (history log) (length (history before)) r = subst (λ l. Stands (history l) (length (history before)) r) (sym is)
-    (stands_there later (Does (D d) (Records class r sends)) before r refl) in
-    subst (λ j. Stands (history log) (length (history before)) (Rejected (txn_no n) j d by write)) f
-    (subst (λ j. Stands (history log) (length (history before)) (Rejected (txn_no j) attempt d by write)) e s)
+    let s : IsRecordAt (history log) (length (history before)) r = subst (λ l. IsRecordAt (history l) (length (history before)) r) (sym is)
+    (recorded_there later (Does (D d) (Records class r sends)) before r refl) in
+    subst (λ j. IsRecordAt (history log) (length (history before)) (Rejected (txn_no n) j d by write)) f
+    (subst (λ j. IsRecordAt (history log) (length (history before)) (Rejected (txn_no j) attempt d by write)) e s)
 
 pub again_of : (g : Input) (log : Log) (eras : Eras) → IsSound g.catalogue → IsPermitted g log → AreErasOf g log eras
     → (a : Attempt) → IsAttempt (history log) a → 1 < a.number → IsAgain g.catalogue eras (history log) a

@@ -1,8 +1,8 @@
 -- What an attempt reads at a module is what the log of the module gives at its Answer.
-use Rattle.sdd_lawful.proofs.All.{Act, Answer, AreErasOf, Attempt, Bool, ClassNo, Cond, D, Did, DmNo, Does, Eras, Handed, Input, IsAnswered, IsAttempt, IsMadeAt, IsPermitted, IsSound, List, Log, Msg, Option, Read, Rec, Records, Redeclared, Sends, Setting, Site, SiteLog, Some, Stands, Submits, Ticked, Ts, TxnNo, Use, [], allowed_act, ap, append_assoc, class_no, d_step, dated, dm_no, eqb-true, false, flat_map, frags_asked, head, history, inl, inr, is_at, items_of, length, local_of, not_both, permitted_before, pipe, place_of_act, refl, same_start, setting_of, snapshots, subst, sym, time_at, true, true_or_false, txn_no, ℕ, ◌++◌, ◌∙◌, ◌∷◌, ◌≡◌, ◌⊎◌}
+use Rattle.sdd_lawful.proofs.All.{Act, Answer, AreErasOf, Attempt, Bool, ClassNo, Cond, D, Did, DmNo, Does, Eras, Handed, Input, IsAnswered, IsAttempt, IsMadeAt, IsPermitted, IsRecordAt, IsSound, List, Log, Msg, Option, Read, Rec, Records, Redeclared, Sends, Setting, Site, SiteLog, Some, Submits, Ticked, Ts, TxnNo, Use, [], allowed_act, ap, append_assoc, class_no, d_step, dated, dm_no, eqb-true, false, flat_map, frags_asked, head, history, inl, inr, is_at, items_of, length, local_of, not_both, permitted_before, pipe, place_of_act, refl, same_start, setting_of, snapshots, subst, sym, time_at, true, true_or_false, txn_no, ℕ, ◌++◌, ◌∙◌, ◌∷◌, ◌≡◌, ◌⊎◌}
 use Rattle.sdd_lawful.proofs.Answered.{IsAnswerIn, answer_head, answer_made, answer_rec, read_msg, read_of_some}
 use Rattle.sdd_lawful.proofs.Makers.{act_kind}
-use Rattle.sdd_lawful.proofs.Places.{one_entry, stands_there}
+use Rattle.sdd_lawful.proofs.Places.{one_entry, recorded_there}
 use Rattle.sdd_lawful.proofs.Starts.{one_time}
 use Rattle.sdd_invariants.specs.site_module.SiteLog as site
 
@@ -140,13 +140,13 @@ the_answer g log front part eras a d later k n i dm ss l sound h are s is split 
     let module_is : dm ≡ dm_no d = act_kind g site_d act p.rest now in
     let rec_is : Answer n i dm ≡ answer_rec a d = ap (λ y. Answer (txn_no y) i dm) (sym r.txn_is ∙ same.txn)
     ∙ ap (λ y. Answer (txn_no a.txn) y dm) (sym r.number_is ∙ same.number) ∙ ap (λ y. Answer (txn_no a.txn) a.number y) module_is in
-    let there : Stands (history log) (length (history p.rest)) (Answer n i dm) = subst (λ y. Stands (history y) (length (history p.rest)) (Answer n i dm))
-    (sym whole) (stands_there (front ++ p.later) (Does site_d act) p.rest (Answer n i dm) refl) in
+    let there : IsRecordAt (history log) (length (history p.rest)) (Answer n i dm) = subst (λ y. IsRecordAt (history y) (length (history p.rest)) (Answer n i dm))
+    (sym whole) (recorded_there (front ++ p.later) (Does site_d act) p.rest (Answer n i dm) refl) in
     let made : IsMadeAt log (length (history p.rest))
     (Answer n i dm) = record { later = front ++ p.later; entry = Does site_d act; before = p.rest; is = whole; makes = refl; place_is = refl } in
     record {
       place = length (history p.rest);
-      answered = subst (Stands (history log) (length (history p.rest))) rec_is there;
+      answered = subst (IsRecordAt (history log) (length (history p.rest))) rec_is there;
       class_is = sym r.class_is ∙ same.class;
       local_is = λ w. ap (local_of g site_d)
           (one_entry log (length (history p.rest)) (answer_rec a d) (Answer n i dm) (answer_made g log a d (length (history p.rest)) w) made).0 ∙ p.local_is;

@@ -1,5 +1,5 @@
 -- The Starts of a history, as acts of the sites that run their classes.
-use Rattle.sdd_lawful.proofs.All.{Act, AllCommitted, Attempt, ClassNo, Did, Does, Entry, Input, IsAttempt, IsMadeAt, IsPermitted, IsSound, IsStartRecord, List, Log, Msg, Notes, Option, Rec, Records, Site, Some, Stands, Start, Submitted, Ts, TxnNo, Use, ap, arith, class_no, current_era, false, history, home, is_for, length, local_at, local_of, own_made, permitted_before, place_of_submit, record_of, refl, says_at, setting_of, submits_of, subst, sym, time_at, true, txn_no, ℕ, ◌++◌, ◌∙◌, ◌∷◌, ◌≡◌}
+use Rattle.sdd_lawful.proofs.All.{Act, AllCommitted, Attempt, ClassNo, Did, Does, Entry, Input, IsAttempt, IsMadeAt, IsPermitted, IsRecordAt, IsSound, IsStartRecord, List, Log, Msg, Notes, Option, Rec, Records, Site, Some, Start, Submitted, Ts, TxnNo, Use, ap, arith, class_no, current_era, false, history, home, is_for, length, local_at, local_of, own_made, permitted_before, place_of_submit, record_of, refl, says_at, setting_of, submits_of, subst, sym, time_at, true, txn_no, ℕ, ◌++◌, ◌∙◌, ◌∷◌, ◌≡◌}
 use Rattle.sdd_lawful.proofs.Classes.{IsForClass, IsGivenTo, at_home, class_given, given_in, home_setting, one_class}
 use Rattle.sdd_lawful.proofs.Homes.{home_small}
 use Rattle.sdd_lawful.proofs.Makers.{is_of_run, is_own, run_home}
@@ -34,7 +34,7 @@ pub record IsRunIn (g : Input) (log : Log) (k : ℕ) (r : Rec) : Type 0 where
   pub permitted : IsPermitted g (Does (home g.catalogue class) (Records class r sends) ∷ before)
 
 pub run_in : (g : Input) (log : Log) (k : ℕ) (r : Rec) → IsPermitted g log → is_of_run r ≡ true → is_own r ≡ false
-    → Stands (history log) k r → IsRunIn g log k r
+    → IsRecordAt (history log) k r → IsRunIn g log k r
 run_in g log k r h e f s =
     let m = made_at log k r s in
     let a = act_of_record m.entry r m.makes f in

@@ -1,11 +1,11 @@
 -- The history of a permitted log keeps the law of Starts.
-use Rattle.sdd_lawful.proofs.All.{Act, AreErasOf, Attempt, Catalogue, Committed, CommittedBefore, Did, Does, Era, Eras, Input, IsAttempt, IsBound, IsCommitted, IsEraOf, IsMadeAt, IsOfSubmit, IsPermitted, IsSound, IsSubmitted, KeepsStarts, List, Log, Msg, None, Option, Records, Setting, Site, Some, Stands, Start, Submit, Submits, Submitted, T, TmNo, Ts, Txn, [], and_left, ap, append_assoc, arith, bound, class_at, class_for, class_no, clock, covered, covers, dec_le, eqb-true, era_is, event_at, false, filter, first_passes, head_of, history, home, home_fair, if◌then◌else◌, inl, inr, is_committed, is_for, is_some, length, local_of, lower_same_higher, marks, mul-add-mod_self_right, not, nth_era, number_of, numbers_to, option_map, or_right, p2_of, permitted_before, place_of_act, promises, record_at, redeclares, refl, same_number, same_or_not, setting_of, slice_get, stamps, stamps_differ, starts_of, submits_of, subst, sym, time_at, tm_no, true, txn_at, txn_no, unwrap_or, ℕ, ◌%◌, ◌++◌, ◌<◌, ◌==◌, ◌∙◌, ◌∷◌, ◌≡◌, ◌≢◌, ◌≤◌}
+use Rattle.sdd_lawful.proofs.All.{Act, AreErasOf, Attempt, Catalogue, Committed, CommittedBefore, Did, Does, Era, Eras, Input, IsAttempt, IsBound, IsCommitted, IsEraOf, IsMadeAt, IsOfSubmit, IsPermitted, IsRecordAt, IsSound, IsSubmitted, KeepsStarts, List, Log, Msg, None, Option, Records, Setting, Site, Some, Start, Submit, Submits, Submitted, T, TmNo, Ts, Txn, [], and_left, ap, append_assoc, arith, bound, class_at, class_for, class_no, clock, covered, covers, dec_le, eqb-true, era_is, event_at, false, filter, first_passes, head_of, history, home, home_fair, if◌then◌else◌, inl, inr, is_committed, is_for, is_some, length, local_of, lower_same_higher, marks, mul-add-mod_self_right, not, nth_era, number_of, numbers_to, option_map, or_right, p2_of, permitted_before, place_of_act, promises, record_at, redeclares, refl, same_number, same_or_not, setting_of, slice_get, stamps, stamps_differ, starts_of, submits_of, subst, sym, time_at, tm_no, true, txn_at, txn_no, unwrap_or, ℕ, ◌%◌, ◌++◌, ◌<◌, ◌==◌, ◌∙◌, ◌∷◌, ◌≡◌, ◌≢◌, ◌≤◌}
 use Rattle.sdd_lawful.proofs.Classes.{IsForClass, IsGivenTo, at_home, era_there, further_back, home_by, home_setting, submit_local}
 use Rattle.sdd_lawful.proofs.Commits.{Told, commit_class, commit_in, commit_made, commit_rec, commit_seen, one_commit}
 use Rattle.sdd_lawful.proofs.Counted.{numbered}
 use Rattle.sdd_lawful.proofs.Homes.{home_small, homes_differ, positive}
 use Rattle.sdd_lawful.proofs.Locals.{all_committed_at, below_at, commit_act_in, committed_later, most_at, promise_in, stamp_in, starts_grow, submitted_in}
-use Rattle.sdd_lawful.proofs.Places.{entries_in_order, event_there, place_rises, stands_there}
+use Rattle.sdd_lawful.proofs.Places.{entries_in_order, event_there, place_rises, recorded_there}
 use Rattle.sdd_lawful.proofs.Started.{IsStartIn, act_local, given_of_attempt, given_of_start, start_act_of, start_in, start_made, start_of}
 use Rattle.sdd_lawful.proofs.Submissions.{IsSubmitIn, given_at, one_submit, same_submission, submit_in}
 use Rattle.sdd_invariants.specs.logs.Due.{home_of}
@@ -56,7 +56,7 @@ submitted_of g log eras sound h are a s =
     record {
       place = length (history w.rest);
       submitted = subst (λ l. IsSubmitted (history l) a.txn (length (history w.rest))) (sym b.1)
-          (stands_there b.0 (Submitted at a.txn) w.rest (Submit (txn_no a.txn)) refl);
+          (recorded_there b.0 (Submitted at a.txn) w.rest (Submit (txn_no a.txn)) refl);
       before = omega arith;
       txn = x.says.text;
       txn_is = w.text_is;
@@ -237,7 +237,7 @@ commit_before g log a x n e =
     record {
       place = length (history p.rest);
       number = m.attempt;
-      commit = record { reply = m.reply; changes = m.changes; values = m.values; rows = m.rows; stands = subst (λ l. Stands (history l) (length (history p.rest)) (commit_rec n m.attempt t)) (sym b.1) (stands_there b.0 (Does at act) p.rest (commit_rec n m.attempt t) refl) };
+      commit = record { reply = m.reply; changes = m.changes; values = m.values; rows = m.rows; is_recorded = subst (λ l. IsRecordAt (history l) (length (history p.rest)) (commit_rec n m.attempt t)) (sym b.1) (recorded_there b.0 (Does at act) p.rest (commit_rec n m.attempt t) refl) };
       before = omega arith;
     }
 

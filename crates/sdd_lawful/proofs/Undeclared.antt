@@ -1,5 +1,5 @@
 -- The history of a permitted log keeps the law of undeclared transactions.
-use Rattle.sdd_lawful.proofs.All.{Act, AppliedBefore, Apply, AreErasOf, Attempt, Bases, Catalogue, Committed, Cond, D, Does, Done, Entry, Eras, GoesTo, HasApply, Input, IsAnswered, IsAttempt, IsCommitted, IsMadeAt, IsModule, IsPermitted, IsSound, IsWhollyAfter, IsWhollyBefore, KeepsUndeclared, Log, Queued, Rec, Records, Setting, Site, Some, Stands, T, Touches, U, [], all_applied, ap, append_assoc, arith, bound, by_change, by_no_class, class_at, classes_of, commit_act, commit_of, commit_t, cond_of, dm_no, false, frag_no, fragments_of, history, home, home_of, inl, inr, length, low_or_high, lower_same_higher, map, next_stamp, number_of, numbers_to, p2_of, permitted_before, refl, same_number, same_or_not, same_start, setting_of, slice_get, sound_whole, start_at, start_u, subst, suc, sym, tm_no, true, u_stamp, undeclared_conditions, uses_of, zero_applied, zero_pair, ℕ, ◌++◌, ◌<◌, ◌==◌, ◌∙◌, ◌∷◌, ◌≡◌, ◌≢◌, ◌≤◌, ◌⊎◌}
+use Rattle.sdd_lawful.proofs.All.{Act, AppliedBefore, Apply, AreErasOf, Attempt, Bases, Catalogue, Committed, Cond, D, Does, Done, Entry, Eras, GoesTo, HasApply, Input, IsAnswered, IsAttempt, IsCommitted, IsMadeAt, IsModule, IsPermitted, IsRecordAt, IsSound, IsWhollyAfter, IsWhollyBefore, KeepsUndeclared, Log, Queued, Rec, Records, Setting, Site, Some, T, Touches, U, [], all_applied, ap, append_assoc, arith, bound, by_change, by_no_class, class_at, classes_of, commit_act, commit_of, commit_t, cond_of, dm_no, false, frag_no, fragments_of, history, home, home_of, inl, inr, length, low_or_high, lower_same_higher, map, next_stamp, number_of, numbers_to, p2_of, permitted_before, refl, same_number, same_or_not, same_start, setting_of, slice_get, sound_whole, start_at, start_u, subst, suc, sym, tm_no, true, u_stamp, undeclared_conditions, uses_of, zero_applied, zero_pair, ℕ, ◌++◌, ◌<◌, ◌==◌, ◌∙◌, ◌∷◌, ◌≡◌, ◌≢◌, ◌≤◌, ◌⊎◌}
 use Rattle.sdd_lawful.proofs.Answered.{answer_in, answer_rec, conds_sent}
 use Rattle.sdd_lawful.proofs.Applied.{apply_rec}
 use Rattle.sdd_lawful.proofs.Applies.{of_commit}
@@ -9,7 +9,7 @@ use Rattle.sdd_lawful.proofs.Commits.{Told, begun_as, commit_rec, one_commit}
 use Rattle.sdd_lawful.proofs.Committed.{IsCommittedIn, committed_in, same_committed, told_by}
 use Rattle.sdd_lawful.proofs.Conditions.{met}
 use Rattle.sdd_lawful.proofs.Homes.{positive, served}
-use Rattle.sdd_lawful.proofs.Places.{entries_in_order, place_rises, stands_there}
+use Rattle.sdd_lawful.proofs.Places.{entries_in_order, place_rises, recorded_there}
 use Rattle.sdd_lawful.proofs.Rejections.{read_condition}
 use Rattle.sdd_lawful.proofs.Started.{start_in, start_of}
 use Rattle.sdd_lawful.proofs.Starts.{one_time, start_within}
@@ -26,8 +26,8 @@ own_apply g log eras u d front before sound h are c is x =
     let whole : log ≡ (front ++ x.later) ++ Does (D (dm_no d)) act ∷ x.before = is ∙ ap (λ l. front ++ l) x.is
     ∙ sym (append_assoc front x.later (Does (D (dm_no d)) act ∷ x.before)) in
     let r : Rec = apply_rec x.txn.0 x.of.0 d x.ts.0 in
-    let there : Stands (history log) (length (history x.before)) r = subst (λ l. Stands (history l) (length (history x.before)) r) (sym whole)
-    (stands_there (front ++ x.later) (Does (D (dm_no d)) act) x.before r refl) in
+    let there : IsRecordAt (history log) (length (history x.before)) r = subst (λ l. IsRecordAt (history l) (length (history x.before)) r) (sym whole)
+    (recorded_there (front ++ x.later) (Does (D (dm_no d)) act) x.before r refl) in
     let o = of_commit g log sound h x.txn.0 x.of.0 d x.ts.0 (length (history x.before)) there in
     let time : o.committed.start.ts ≡ u.start.ts = o.ts_is ∙ x.ts_is in
     let place = one_time g log eras sound h are o.committed.start u.start o.is_committed.started c.started time in
@@ -37,7 +37,7 @@ own_apply g log eras u d front before sound h are c is x =
     let size : length (history before) ≡ length (history (x.later ++ Does (D (dm_no d)) act ∷ x.before)) = ap (λ l. length (history l)) x.is in
     record {
       place = length (history x.before);
-      applied = record { class = x.of.0; ts = x.ts.0; stands = subst (λ n. Stands (history log) (length (history x.before)) (apply_rec n x.of.0 d x.ts.0)) txn there };
+      applied = record { class = x.of.0; ts = x.ts.0; is_recorded = subst (λ n. IsRecordAt (history log) (length (history x.before)) (apply_rec n x.of.0 d x.ts.0)) txn there };
       before = omega arith;
     }
 
@@ -89,7 +89,7 @@ done_committed : (g : Input) (log : Log) (x : Committed) (a : Attempt) → IsSou
 done_committed g log x a sound h c done =
     let some = (sound_whole g.catalogue sound).some_dm in
     let b = done.applied 1 (omega arith, some) in
-    let o = of_commit g log sound h x.start.txn b.applied.class 1 b.applied.ts b.place b.applied.stands in
+    let o = of_commit g log sound h x.start.txn b.applied.class 1 b.applied.ts b.place b.applied.is_recorded in
     let same = same_committed g log sound h o.committed x o.is_committed c o.txn_is in
     let p : o.committed.place ≡ x.place = ap (λ (y : Committed). y.place) same in
     let l1 = o.before in let l2 = b.before in omega arith
@@ -159,12 +159,12 @@ committed_low g log t c at bases later before later2 rest e sound h ct is p =
     let told : Told = told_by g bases c.running in
     let f = further_back log later before e (Does at act) later2 rest is p in
     let r : Rec = commit_rec c.running.txn c.running.attempt told in
-    let there : Stands (history log) (length (history rest)) r = subst (λ l. Stands (history l) (length (history rest)) r) (sym f.1)
-    (stands_there f.0 (Does at act) rest r refl) in
-    let named : Stands (history log) (length (history rest)) (commit_rec t.start.txn c.running.attempt told) = subst
-    (λ n. Stands (history log) (length (history rest)) (commit_rec n c.running.attempt told)) c.txn_is there in
+    let there : IsRecordAt (history log) (length (history rest)) r = subst (λ l. IsRecordAt (history l) (length (history rest)) r) (sym f.1)
+    (recorded_there f.0 (Does at act) rest r refl) in
+    let named : IsRecordAt (history log) (length (history rest)) (commit_rec t.start.txn c.running.attempt told) = subst
+    (λ n. IsRecordAt (history log) (length (history rest)) (commit_rec n c.running.attempt told)) c.txn_is there in
     let same = one_commit g log sound h t.start.txn c.running.attempt t.start.number (length (history rest)) t.place
-    (record { reply = told.reply; changes = told.changes; values = told.values; rows = told.rows; stands = named }) (commit_of (history log) t ct) in
+    (record { reply = told.reply; changes = told.changes; values = told.values; rows = told.rows; is_recorded = named }) (commit_of (history log) t ct) in
     let rises = place_rises later2 (Does at act) rest r refl in
     let size : length (history before) ≡ length (history (later2 ++ Does at act ∷ rest)) = ap (λ l. length (history l)) p in
     omega arith
@@ -177,7 +177,7 @@ start_place : (g : Input) (log : Log) (eras : Eras) (t : Committed) (s : Setting
 start_place g log eras t s l at q later rest sound h are ct is e =
     let b : Attempt = record { txn = q.number; number = suc q.tries; class = t.start.class; ts = next_stamp s l; p2 = p2_of t.start.class (bound s l); uses = uses_of s.catalogue q.text; place = length (history rest) } in
     let there : IsAttempt (history log) b = subst (λ y. IsAttempt (history y) b) (sym is)
-    (stands_there later (Does at (start_at s t.start.class l q)) rest (start_of b) refl) in
+    (recorded_there later (Does at (start_at s t.start.class l q)) rest (start_of b) refl) in
     one_time g log eras sound h are b t.start there ct.started e
 
 declared_one : (g : Input) (log : Log) (eras : Eras) (u t : Committed) → IsSound g.catalogue → IsPermitted g log → AreErasOf g log eras

@@ -1,6 +1,6 @@
 ghost use Rattle.std.specs.Prelude.{◌≡◌, ◌<◌, ◌++◌, ◌∷◌, ℕ, List, length, Some};
 ghost use Rattle.sdd_invariants.specs.All.{Entry, Input, IsEra, IsPermitted, Log, Rec, RelNo, Row, history, marks, nth_era, redeclares};
-ghost use Rattle.sdd_laws.specs.All.{Eras, KeepsAnswers, KeepsApplies, KeepsConditions, KeepsEras, KeepsRejections, KeepsStarts, KeepsUndeclared, Stands, event_at};
+ghost use Rattle.sdd_laws.specs.All.{Eras, IsRecordAt, KeepsAnswers, KeepsApplies, KeepsConditions, KeepsEras, KeepsRejections, KeepsStarts, KeepsUndeclared, event_at};
 ghost use Rattle.sdd_lawful.specs.SoundInput.{AreErasOf, HasSoundData, IsSoundInput, one_era};
 ghost use Rattle.sdd_lawful.specs.Made.{IsBefore, IsMadeAt, record_of};
 
@@ -8,10 +8,10 @@ ghost use Rattle.sdd_lawful.specs.Made.{IsBefore, IsMadeAt, record_of};
 /// there, with the number of events till then; of two records the earlier one is that of the
 /// earlier entry.
 pub fn law_places()
-    ensures made { (log : Log) (k : ℕ) (r : Rec) → Stands (history log) k r → IsMadeAt log k r }
-    ensures stands { (later : Log) (entry : Entry) (before : Log) (r : Rec)
+    ensures made { (log : Log) (k : ℕ) (r : Rec) → IsRecordAt (history log) k r → IsMadeAt log k r }
+    ensures is_recorded { (later : Log) (entry : Entry) (before : Log) (r : Rec)
         → record_of entry ≡ Some r
-        → Stands (history (later ++ entry ∷ before)) (length (history before)) r }
+        → IsRecordAt (history (later ++ entry ∷ before)) (length (history before)) r }
     ensures event { (later : Log) (entry : Entry) (before : Log) (r : Rec)
         → record_of entry ≡ Some r
         → event_at (history (later ++ entry ∷ before)) (length (history before)) ≡ marks before }

@@ -55,7 +55,7 @@ orderable cat sound eras rows txns h first held fit laws =
           let s = laws.answers.answered t d c (by_use f r e) in
           record {
             place = s.place;
-            stands = s.answered;
+            is_recorded = s.answered;
             one = λ k p. laws.answers.one_answer t.start.txn t.start.number d k s.place p s.answered;
           };
     }

@@ -49,7 +49,7 @@ pub use Rattle.sdd_laws.specs.Eras.{AreEras, Eras, catalogue_at, eras_begun}
 pub use Rattle.sdd_laws.specs.Few.{AreFew, commits_of_others, is_commit_of_other, starts_of}
 pub use Rattle.sdd_laws.specs.Kept.{FitTogether, KeepsLaws}
 pub use Rattle.sdd_laws.specs.Ledger.{Ledger, Reads, gathered, snapshot, with_item, writers}
-pub use Rattle.sdd_laws.specs.Order.{IsAlong, IsOrder, MayStandFirst, may_stand_first}
+pub use Rattle.sdd_laws.specs.Order.{IsAlong, IsOrder, MayComeFirst, may_come_first}
 pub use Rattle.sdd_laws.specs.Order.Meets.{both_write, reads_write, writes_read}
 pub use Rattle.sdd_laws.specs.Recorded.{ArePieces, AreRecorded}
 pub use Rattle.sdd_laws.specs.Redeclares.{IsOfEarlierEra, KeepsEras}
@@ -71,7 +71,7 @@ pub use Rattle.sdd_order.specs.Attempts.{Attempt, Committed, IsAttempt, IsCommit
 pub use Rattle.sdd_order.specs.Numbers.{ChangeExists, ExistsIn, IsClass, IsFragment, IsModule, NumbersExist}
 pub use Rattle.sdd_order.specs.Orders.{IsOrderable, IsSerial}
 pub use Rattle.sdd_order.specs.Paths.{IsOrderly, IsPath}
-pub use Rattle.sdd_order.specs.Places.{Stands, comes_before, event_at}
+pub use Rattle.sdd_order.specs.Places.{IsRecordAt, comes_before, event_at}
 pub use Rattle.sdd_order.specs.Precedence.{HasNoCycle, Precedes, is_answer, is_apply, is_earlier, is_overwritten, is_read_by, misses, module_of, precedes, was_seen}
 pub use Rattle.sdd_protocol.proofs.Tables.{all_at}
 pub use Rattle.sdd_protocol.specs.Conditions.{asked_by, cond_for, cond_of, condition_on, conditions, is_asked, undeclared_conditions}

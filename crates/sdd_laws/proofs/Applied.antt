@@ -1,12 +1,12 @@
 -- Applied before a place, as a test and by places.
-use Rattle.sdd_laws.proofs.All.{AppliedBefore, Bool, History, Rec, Stands, [], ap, apply_passes, arith, false, inl, inr, is_applied, is_apply, list_any, or_cases, or_left, or_right, refl, suc, sym, take, true, zero, ℕ, ◌<◌, ◌↔◌, ◌∙◌, ◌∷◌, ◌≡◌}
+use Rattle.sdd_laws.proofs.All.{AppliedBefore, Bool, History, IsRecordAt, Rec, [], ap, apply_passes, arith, false, inl, inr, is_applied, is_apply, list_any, or_cases, or_left, or_right, refl, suc, sym, take, true, zero, ℕ, ◌<◌, ◌↔◌, ◌∙◌, ◌∷◌, ◌≡◌}
 use Rattle.sdd_laws.proofs.Precedes as by_places
 
 -- a record before the place passes
 pub record PassesBefore (p : Rec → Bool) (h : History) (k : ℕ) : Type 0 where
   pub place : ℕ
   pub rec : Rec
-  pub stands : Stands h place rec
+  pub is_recorded : IsRecordAt h place rec
   pub passes : p rec ≡ true
   pub before : place < k
 
@@ -16,14 +16,14 @@ passes_before p [] (suc k) e = absurd (cc)
 passes_before p (x ∷ h) zero e = absurd (cc)
 passes_before p (x ∷ h) (suc k) e =
     elim (or_cases (p x.1) (list_any (λ e. p e.1) (take k h)) e) [
-      | inl t ↦ record { place = 0; rec = x.1; stands = refl; passes = t; before = omega arith }
+      | inl t ↦ record { place = 0; rec = x.1; is_recorded = refl; passes = t; before = omega arith }
       | inr t ↦
           let r = passes_before p h k t in
           let l = r.before in
-          record { place = suc r.place; rec = r.rec; stands = r.stands; passes = r.passes; before = omega arith }
+          record { place = suc r.place; rec = r.rec; is_recorded = r.is_recorded; passes = r.passes; before = omega arith }
     ]
 
-before_passes : (p : Rec → Bool) (h : History) (k j : ℕ) (r : Rec) → Stands h j r → p r ≡ true → j < k
+before_passes : (p : Rec → Bool) (h : History) (k j : ℕ) (r : Rec) → IsRecordAt h j r → p r ≡ true → j < k
     → list_any (λ e. p e.1) (take k h) ≡ true
 before_passes p [] k j r s t l = absurd (cc)
 before_passes p (x ∷ h) zero j r s t l = absurd (omega arith)
@@ -37,11 +37,11 @@ pub applied_before : (h : History) (n d k : ℕ) → is_applied h d k n ≡ true
 applied_before h n d k e =
     let r = passes_before (is_apply n d) h k e in
     record
-    { place = r.place; applied = by_places.is_applied h n d r.place r.rec r.stands r.passes; before = r.before }
+    { place = r.place; applied = by_places.is_applied h n d r.place r.rec r.is_recorded r.passes; before = r.before }
 
 pub before_applied : (h : History) (n d k : ℕ) → AppliedBefore h n d k → is_applied h d k n ≡ true
 before_applied h n d k a =
-    before_passes (is_apply n d) h k a.place _ a.applied.stands (apply_passes n d a.applied.class a.applied.ts)
+    before_passes (is_apply n d) h k a.place _ a.applied.is_recorded (apply_passes n d a.applied.class a.applied.ts)
     a.before
 
 -- tests that follow from one another are the same

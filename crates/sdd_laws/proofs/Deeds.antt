@@ -67,7 +67,7 @@ module _ (cat : Catalogue) (sound : IsSound cat) (eras : Eras) (are : AreEras ca
 
     pub apply_after : (t : Committed) (d k : ℕ) → IsCommitted h t → IsApplied h t.start.txn d k → t.place < k
     apply_after t d k p q =
-        let s = applying.of_commit t.start.txn q.class d q.ts k q.stands in
+        let s = applying.of_commit t.start.txn q.class d q.ts k q.is_recorded in
         let e : s.committed.place ≡ t.place = ap (λ (z : Committed). z.place) (same_txn s.committed t s.is_committed p s.txn_is) in
         let l = s.before in
         omega arith

@@ -1,5 +1,5 @@
 -- A transaction starts again only since another one was committed: each Start but the first has a writer of its own.
-use Rattle.sdd_laws.proofs.All.{AllByRecursion, Answer, Apply, AreFew, Arrive, Attempt, Bool, Catalogue, Commit, Committed, Eras, History, IsAgain, IsAttempt, IsCommitted, KeepsRejections, KeepsStarts, List, Nothing, Pass, Rec, Reject, Some, Stands, Start, Submit, Ts, Txn, Wait, [], ap, arith, cases_Bool, cases_lt, catalogue_at, class_for, commits_of_others, cond, each_more, eq-eqb, eqb, eqb-true, event_at, false, filter, inl, inr, is_commit_of_other, is_start_of, length, length-le_from_is_member, list_any, nat_eq_equiv, ne_eqb, not, or_left, or_right, refl, same_Some, same_commit, same_start, starts_before, starts_of, subst, suc, sym, take, true, txn_at, txn_no, zero, ℕ, ◌+◌, ◌<◌, ◌||◌, ◌∙◌, ◌∷◌, ◌≡◌, ◌≢◌, ◌≤◌}
+use Rattle.sdd_laws.proofs.All.{AllByRecursion, Answer, Apply, AreFew, Arrive, Attempt, Bool, Catalogue, Commit, Committed, Eras, History, IsAgain, IsAttempt, IsCommitted, IsRecordAt, KeepsRejections, KeepsStarts, List, Nothing, Pass, Rec, Reject, Some, Start, Submit, Ts, Txn, Wait, [], ap, arith, cases_Bool, cases_lt, catalogue_at, class_for, commits_of_others, cond, each_more, eq-eqb, eqb, eqb-true, event_at, false, filter, inl, inr, is_commit_of_other, is_start_of, length, length-le_from_is_member, list_any, nat_eq_equiv, ne_eqb, not, or_left, or_right, refl, same_Some, same_commit, same_start, starts_before, starts_of, subst, suc, sym, take, true, txn_at, txn_no, zero, ℕ, ◌+◌, ◌<◌, ◌||◌, ◌∙◌, ◌∷◌, ◌≡◌, ◌≢◌, ◌≤◌}
 use Rattle.std.specs.List.{IsDistinct}
 use Rattle.sdd_laws.proofs.NumberedStarts.{one_start, start_counts}
 use Rattle.sdd_laws.proofs.Times.{condition_time}
@@ -19,7 +19,7 @@ as_many test k (e ∷ h) =
       | false ↦ as_many test (suc k) h
     ]
 
-place_there : (test : Rec → Bool) (k : ℕ) (h : History) (j : ℕ) (r : Rec) → Stands h j r → test r ≡ true
+place_there : (test : Rec → Bool) (k : ℕ) (h : History) (j : ℕ) (r : Rec) → IsRecordAt h j r → test r ≡ true
     → list_any (eqb (k + j)) (places_of test k h) ≡ true
 unfolding places_of
 place_there test k [] j r s t = absurd (cc)
@@ -40,7 +40,7 @@ place_there test k (e ∷ h) (suc j) r s t =
 pub record LastPassing (test : Rec → Bool) (h : History) (n : ℕ) : Type 0 where
   pub place : ℕ
   pub rec : Rec
-  pub stands : Stands h place rec
+  pub is_recorded : IsRecordAt h place rec
   pub passes : test rec ≡ true
   pub before : length (filter (λ e. test e.1) (take place h)) ≡ n
 
@@ -49,13 +49,13 @@ last_passing test [] n e = absurd (omega arith)
 last_passing test (x ∷ h) n e =
     elim (test x.1) as (λ b. test x.1 ≡ b → length (cond b (x ∷ filter (λ d. test d.1) h) (filter (λ d. test d.1) h)) ≡ suc n → LastPassing test (x ∷ h) n) [
       | true ↦ λ t l. elim n as (λ m. n ≡ m → LastPassing test (x ∷ h) m) [
-        | zero ↦ λ z. record { place = 0; rec = x.1; stands = refl; passes = t; before = refl }
+        | zero ↦ λ z. record { place = 0; rec = x.1; is_recorded = refl; passes = t; before = refl }
         | suc m ↦ λ z.
             let r = last_passing test h m (omega arith) in
             record {
               place = suc r.place;
               rec = r.rec;
-              stands = r.stands;
+              is_recorded = r.is_recorded;
               passes = r.passes;
               before = ap (λ b. length (cond b (x ∷ filter (λ d. test d.1) (take r.place h)) (filter (λ d. test d.1) (take r.place h)))) t
                   ∙ ap suc r.before;
@@ -66,14 +66,14 @@ last_passing test (x ∷ h) n e =
           record {
             place = suc r.place;
             rec = r.rec;
-            stands = r.stands;
+            is_recorded = r.is_recorded;
             passes = r.passes;
             before = ap (λ b. length (cond b (x ∷ filter (λ d. test d.1) (take r.place h)) (filter (λ d. test d.1) (take r.place h)))) t ∙ r.before;
           }
     ] refl e
 
 -- a Start at a place is that of an attempt
-attempt_at : (h : History) (n k : ℕ) (r : Rec) → Stands h k r → is_start_of n r ≡ true
+attempt_at : (h : History) (n k : ℕ) (r : Rec) → IsRecordAt h k r → is_start_of n r ≡ true
     → (a : Attempt) × IsAttempt h a × (a.txn ≡ n) × (a.place ≡ k)
 attempt_at h n k (Start txn attempt class ts p2 uses) s t = (
   record { txn = txn.0; number = attempt; class = class.0; ts = ts.0; p2 = p2; uses = uses; place = k },
@@ -106,7 +106,7 @@ module _ (cat : Catalogue) (eras : Eras) (txns : List Txn) (h : History) (starti
       let s = starting.submitted a p in
       let t = starting.submitted b q in
       let at : s.place ≡ t.place =
-      starting.one_submit b.txn s.place t.place (subst (λ n. Stands h s.place (Submit (txn_no n))) e s.submitted) t.submitted in
+      starting.one_submit b.txn s.place t.place (subst (λ n. IsRecordAt h s.place (Submit (txn_no n))) e s.submitted) t.submitted in
       let text : s.txn ≡ t.txn = same_Some s.txn t.txn (sym s.txn_is ∙ ap (txn_at txns) e ∙ t.txn_is) in
       s.class_is
       ∙ ap (λ k. class_for (catalogue_at cat eras (event_at h k)) s.txn) at
@@ -236,7 +236,7 @@ module _ (cat : Catalogue) (eras : Eras) (txns : List Txn) (h : History) (starti
   few_of : (n m : ℕ) → starts_of h n ≡ suc m → m ≤ commits_of_others h n
   few_of n m e =
       let l = last_passing (is_start_of n) h m e in
-      let at = attempt_at h n l.place l.rec l.stands l.passes in
+      let at = attempt_at h n l.place l.rec l.is_recorded l.passes in
       let a = at.0 in
       let number : a.number ≡ suc m =
       starting.numbered a at.1 ∙ ap suc (ap (λ z. starts_before h z a.place) at.2 ∙ ap (λ z. starts_before h n z) at.3 ∙ l.before) in

@@ -1,5 +1,5 @@
 -- The transactions of an era fit its catalogue, and meet the read conditions of its table.
-use Rattle.sdd_laws.proofs.All.{All, All-contains, AllByRecursion, AppliedBefore, AreEras, Attempt, Catalogue, Change, ChangeExists, Commit, Committed, Cond, Contains, Declared, Effect, Entry, Eras, ExistsIn, Fits as TextFits, FragNo, Fragment, History, IsAnswered, IsCommitted, IsConditionOf, IsCovered, IsDatabase, IsEraOf, IsFragment, IsFragmentOf, IsOfSubmit, IsSeen, IsSound, IsTable, KeepsAnswers, KeepsApplies, KeepsConditions, KeepsEras, KeepsStarts, List, Meets, None, NumbersExist, Rec, RelNo, Row, Some, Stands, TouchesOne, Txn as Text, [], all_at, ap, arith, ascending, ascending_back, at_member, base_of, catalogue_at, changes, cond, conditions, contains, declared, eq-eqb, eqb-true, eras_begun, event_at, false, frag_no, fragments_in, has_copy, is_some, length, lie_in_write_set, map, member_passes, module_of, ne_eqb, numbers_back, of_era, option_map, or_left, or_right, p2_time, reads, reads_at, refl, same_Some, slice_get, slice_index_or, subst, sym, true, txn_no, undeclared_conditions, write_set, write_set_in_era, ℕ, ◌-◌, ◌<◌, ◌==◌, ◌↔◌, ◌∙◌, ◌∷◌, ◌≡◌}
+use Rattle.sdd_laws.proofs.All.{All, All-contains, AllByRecursion, AppliedBefore, AreEras, Attempt, Catalogue, Change, ChangeExists, Commit, Committed, Cond, Contains, Declared, Effect, Entry, Eras, ExistsIn, Fits as TextFits, FragNo, Fragment, History, IsAnswered, IsCommitted, IsConditionOf, IsCovered, IsDatabase, IsEraOf, IsFragment, IsFragmentOf, IsOfSubmit, IsRecordAt, IsSeen, IsSound, IsTable, KeepsAnswers, KeepsApplies, KeepsConditions, KeepsEras, KeepsStarts, List, Meets, None, NumbersExist, Rec, RelNo, Row, Some, TouchesOne, Txn as Text, [], all_at, ap, arith, ascending, ascending_back, at_member, base_of, catalogue_at, changes, cond, conditions, contains, declared, eq-eqb, eqb-true, eras_begun, event_at, false, frag_no, fragments_in, has_copy, is_some, length, lie_in_write_set, map, member_passes, module_of, ne_eqb, numbers_back, of_era, option_map, or_left, or_right, p2_time, reads, reads_at, refl, same_Some, slice_get, slice_index_or, subst, sym, true, txn_no, undeclared_conditions, write_set, write_set_in_era, ℕ, ◌-◌, ◌<◌, ◌==◌, ◌↔◌, ◌∙◌, ◌∷◌, ◌≡◌}
 use Rattle.sdd_laws.proofs.Deeds.{Placed, deeds, are_starts}
 use Rattle.sdd_laws.proofs.InForce.{era_is}
 use Rattle.sdd_laws.proofs.Reading.{IsReadAt, class_covers, read_at_event, reads_there}
@@ -22,17 +22,17 @@ abbrev pub frags_of : Placed → List FragNo
 frags_of x = map frag_no (ascending (fragments_in x.txn.start.uses))
 
 -- a record at a place is that of an entry
-stands_entry : (h : History) (k : ℕ) (r : Rec) → Stands h k r → (e : ℕ × Rec) × (slice_get h k ≡ Some e) × (e.1 ≡ r)
-stands_entry h k r s =
+recorded_entry : (h : History) (k : ℕ) (r : Rec) → IsRecordAt h k r → (e : ℕ × Rec) × (slice_get h k ≡ Some e) × (e.1 ≡ r)
+recorded_entry h k r s =
     elim (slice_get h k) as
     (λ o. slice_get h k ≡ o → option_map (λ (e : ℕ × Rec). e.1) o ≡ Some r → (e : ℕ × Rec) × (slice_get h k ≡ Some e) × (e.1 ≡ r)) [
       | None ↦ λ p q. absurd (cc)
       | Some e ↦ λ p q. (e, p, same_Some e.1 r q)
     ] refl s
 
-pub exists_at : (cat : Catalogue) (h : History) → NumbersExist cat h → (k : ℕ) (r : Rec) → Stands h k r → ExistsIn cat r
+pub exists_at : (cat : Catalogue) (h : History) → NumbersExist cat h → (k : ℕ) (r : Rec) → IsRecordAt h k r → ExistsIn cat r
 exists_at cat h exist k r s =
-    let e = stands_entry h k r s in
+    let e = recorded_entry h k r s in
     subst (ExistsIn cat) e.2 (all_at (λ (x : ℕ × Rec). ExistsIn cat x.1) h k e.0 exist e.1)
 
 module _ (cat : Catalogue) (sound : IsSound cat) (eras : Eras) (are : AreEras cat eras) (rows : List (RelNo × Row)) (txns : List Text) (h : History)

@@ -1,8 +1,8 @@
 -- A Start whose number says how many Starts of its transaction stand before it is the only one with that number.
-use Rattle.sdd_laws.proofs.All.{Attempt, Bool, History, IsAttempt, Rec, Stands, Start, [], ap, arith, cases_eq, cases_lt, class_no, cond, eq-eqb, false, filter, inl, inr, is_start_of, length, refl, same_Some, starts_before, subst, suc, sym, take, time_at, true, txn_no, zero, ℕ, ◌<◌, ◌∙◌, ◌∷◌, ◌≡◌}
+use Rattle.sdd_laws.proofs.All.{Attempt, Bool, History, IsAttempt, IsRecordAt, Rec, Start, [], ap, arith, cases_eq, cases_lt, class_no, cond, eq-eqb, false, filter, inl, inr, is_start_of, length, refl, same_Some, starts_before, subst, suc, sym, take, time_at, true, txn_no, zero, ℕ, ◌<◌, ◌∙◌, ◌∷◌, ◌≡◌}
 
 -- one that passes makes the number of those before a later place greater
-counts_rise : (test : Rec → Bool) (p q : ℕ) (h : History) (r : Rec) → p < q → Stands h p r → test r ≡ true
+counts_rise : (test : Rec → Bool) (p q : ℕ) (h : History) (r : Rec) → p < q → IsRecordAt h p r → test r ≡ true
     → length (filter (λ e. test e.1) (take p h)) < length (filter (λ e. test e.1) (take q h))
 counts_rise test p zero h r l s t = absurd (omega arith)
 counts_rise test p (suc q) [] r l s t = absurd (cc)

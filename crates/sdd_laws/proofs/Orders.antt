@@ -1,5 +1,5 @@
 -- A serial order of a history agrees with what its transactions did.
-use Rattle.sdd_laws.proofs.All.{All, AreEras, Catalogue, Change, Committed, Contains, Contains-cases, Contains-here, Contains-later, Contains-nil, Eras, Fits, History, IsCommitted, IsSerial, IsSound, KeepsAnswers, KeepsApplies, KeepsStarts, List, MayStandFirst, PutsHeld, Reads, RelNo, Row, Txn, TxnNo, [], and_of, ap, arith, both_write, cases_Bool, changes, committed, eqb-true, false, false≢true, fragments_in, from_committed, in_committed, inl, inr, is_earlier, is_overwritten, is_read_by, list_any, member_passes, misses, module_of, nat_lt, nat_tests, not, or_left, or_right, passes_member, precedes, reads_write, same_start, subst, sym, true, txn_no, was_seen, writes_read, ℕ, ◌&&◌, ◌==◌, ◌||◌, ◌∙◌, ◌∷◌, ◌≡◌, ◌≢◌}
+use Rattle.sdd_laws.proofs.All.{All, AreEras, Catalogue, Change, Committed, Contains, Contains-cases, Contains-here, Contains-later, Contains-nil, Eras, Fits, History, IsCommitted, IsSerial, IsSound, KeepsAnswers, KeepsApplies, KeepsStarts, List, MayComeFirst, PutsHeld, Reads, RelNo, Row, Txn, TxnNo, [], and_of, ap, arith, both_write, cases_Bool, changes, committed, eqb-true, false, false≢true, fragments_in, from_committed, in_committed, inl, inr, is_earlier, is_overwritten, is_read_by, list_any, member_passes, misses, module_of, nat_lt, nat_tests, not, or_left, or_right, passes_member, precedes, reads_write, same_start, subst, sym, true, txn_no, was_seen, writes_read, ℕ, ◌&&◌, ◌==◌, ◌||◌, ◌∙◌, ◌∷◌, ◌≡◌, ◌≢◌}
 use Rattle.sdd_laws.proofs.NumberedStarts.{one_start}
 use Rattle.sdd_laws.proofs.Deeds.{same_txn}
 use Rattle.sdd_laws.proofs.Precedes.{changes_member}
@@ -145,13 +145,13 @@ module _ (cat : Catalogue) (sound : IsSound cat) (eras : Eras) (are : AreEras ca
         (sym
         (same_start h t.start u.start c.started b.started (starting.one_time t.start u.start c.started b.started e)).txn)
 
-    may_stand : (x y : Committed) → IsCommitted h x → IsCommitted h y → y.start.txn ≢ x.start.txn
-        → precedes cat h y x ≡ false → MayStandFirst cat (ledger cat txns h) x y
-    may_stand x y a b other behind m (both_write c d p q same) =
+    may_join : (x y : Committed) → IsCommitted h x → IsCommitted h y → y.start.txn ≢ x.start.txn
+        → precedes cat h y x ≡ false → MayComeFirst cat (ledger cat txns h) x y
+    may_join x y a b other behind m (both_write c d p q same) =
         writes_in_order cat h x y other behind c d p q same (λ e. apart x y a b other e)
-    may_stand x y a b other behind m (writes_read c p r) =
+    may_join x y a b other behind m (writes_read c p r) =
         read_sees cat h x y other behind c.frag.0 (changes_member x c p) (used y b c.frag.0 r)
-    may_stand x y a b other behind m (reads_write c p r) =
+    may_join x y a b other behind m (reads_write c p r) =
         read_misses cat h x y other behind c.frag.0 (changes_member y c p) (used x a c.frag.0 r)
 
     along_listed : (order : List TxnNo) (of : OfEach h order) → IsAlong cat h order
@@ -162,7 +162,7 @@ module _ (cat : Catalogue) (sound : IsSound cat) (eras : Eras) (are : AreEras ca
           (λ y m.
               let r = from_listed h rest (rest_of h n rest of) y m in
               let other : y.start.txn ≢ (x.0).start.txn = λ e. along.0.other (txn_no y.start.txn) r.1 (e ∙ x.2) in
-              may_stand x.0 y x.1 r.0 other (along.0.first x.0 y x.1 r.0 x.2 r.1)),
+              may_join x.0 y x.1 r.0 other (along.0.first x.0 y x.1 r.0 x.2 r.1)),
           along_listed rest (rest_of h n rest of) along.1,
         )
 

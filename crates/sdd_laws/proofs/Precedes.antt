@@ -1,10 +1,10 @@
 -- What precedes by the test precedes by the deeds, so that a cycle of the one is one of the other.
-use Rattle.sdd_laws.proofs.All.{Answer, Apply, Arrive, Attempt, Catalogue, Change, Commit, Committed, Contains, HasNoCycle, History, IsApplied, IsCommitted, IsOrderly, IsPath, IsSeen, IsSubmitted, List, Nothing, Pass, Precedes, Rec, Reject, Stands, Start, Submit, Wait, [], and_parts, answer_passes, apply_passes, by_class, by_seen, by_unseen, by_writes, changes, comes_from, dm_no, eq-eqb, eqb-false, eqb-true, false≢true, fragments_in, in_turn, inl, inr, is_answer, is_answered, is_apply, is_earlier, is_overwritten, is_read_by, list_any, ltb-true, member_passes, misses, module_of, nat_lt, not, not-true, or_cases, passes_member, precedes, reads, refl, subst, sym, system, true, txn_no, was_seen, ℕ, ◌&&◌, ◌==◌, ◌||◌, ◌∙◌, ◌∷◌, ◌≡◌, ◌≢◌}
+use Rattle.sdd_laws.proofs.All.{Answer, Apply, Arrive, Attempt, Catalogue, Change, Commit, Committed, Contains, HasNoCycle, History, IsApplied, IsCommitted, IsOrderly, IsPath, IsRecordAt, IsSeen, IsSubmitted, List, Nothing, Pass, Precedes, Rec, Reject, Start, Submit, Wait, [], and_parts, answer_passes, apply_passes, by_class, by_seen, by_unseen, by_writes, changes, comes_from, dm_no, eq-eqb, eqb-false, eqb-true, false≢true, fragments_in, in_turn, inl, inr, is_answer, is_answered, is_apply, is_earlier, is_overwritten, is_read_by, list_any, ltb-true, member_passes, misses, module_of, nat_lt, not, not-true, or_cases, passes_member, precedes, reads, refl, subst, sym, system, true, txn_no, was_seen, ℕ, ◌&&◌, ◌==◌, ◌||◌, ◌∙◌, ◌∷◌, ◌≡◌, ◌≢◌}
 use Rattle.sdd_laws.proofs.Deeds.{Placed, deeds}
 use Rattle.sdd_acyclic.specs.Deeds.{Txn}
 use Rattle.sdd_acyclic.specs.System as core
 
-pub is_applied : (h : History) (n d k : ℕ) (r : Rec) → Stands h k r → is_apply n d r ≡ true → IsApplied h n d k
+pub is_applied : (h : History) (n d k : ℕ) (r : Rec) → IsRecordAt h k r → is_apply n d r ≡ true → IsApplied h n d k
 is_applied h n d k (Apply txn class dm ts) s t =
     let both = and_parts (txn.0 == n) (dm.0 == d) t in
     let one : txn.0 ≡ n = eqb-true txn.0 n both.0 in
@@ -12,9 +12,9 @@ is_applied h n d k (Apply txn class dm ts) s t =
     record {
       class = class.0;
       ts = ts.0;
-      stands =
-          subst (λ m. Stands h k (Apply (txn_no m) class (dm_no d) ts)) one
-          (subst (λ m. Stands h k (Apply txn class (dm_no m) ts)) two s);
+      is_recorded =
+          subst (λ m. IsRecordAt h k (Apply (txn_no m) class (dm_no d) ts)) one
+          (subst (λ m. IsRecordAt h k (Apply txn class (dm_no m) ts)) two s);
     }
 is_applied h n d k (Submit txn) s t = absurd (cc)
 is_applied h n d k (Start txn attempt class ts p2 uses) s t = absurd (cc)
@@ -41,10 +41,10 @@ module _ (cat : Catalogue) (h : History) where
       let t = in_turn p q h e in
       record {
         answer = t.second.place;
-        answered = is_answered h y.txn.start.txn y.txn.start.number d t.second.place t.second.rec t.second.stands t.second.passes;
+        answered = is_answered h y.txn.start.txn y.txn.start.number d t.second.place t.second.rec t.second.is_recorded t.second.passes;
         applied = record {
           place = t.first.place;
-          applied = is_applied h x.txn.start.txn d t.first.place t.first.rec t.first.stands t.first.passes;
+          applied = is_applied h x.txn.start.txn d t.first.place t.first.rec t.first.is_recorded t.first.passes;
           before = t.before;
         };
       }
@@ -53,7 +53,7 @@ module _ (cat : Catalogue) (h : History) where
   is_seen x y d s =
       let a = s.applied.applied in
       comes_from (is_apply x.txn.start.txn d) (is_answer y.txn.start.txn y.txn.start.number d) h s.applied.place s.answer _ _
-      a.stands s.answered s.applied.before (apply_passes x.txn.start.txn d a.class a.ts)
+      a.is_recorded s.answered s.applied.before (apply_passes x.txn.start.txn d a.class a.ts)
       (answer_passes y.txn.start.txn y.txn.start.number d)
 
   pub precedes_is : (x y : Txn (deeds cat h)) → precedes cat h x.no.txn y.no.txn ≡ true → core.Precedes (system (deeds cat h)) x y

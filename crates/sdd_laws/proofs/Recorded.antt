@@ -1,5 +1,5 @@
 -- What the laws say of the committed transactions' texts, results and snapshots, so far as replay needs it.
-use Rattle.sdd_laws.proofs.All.{All, All-ascending, All-contains, All-nil, Answer, AreEras, ArePieces, AreRecorded, Attempt, Bool, Catalogue, Committed, Contains, Contains-here, Contains-later, Eras, Fits, History, IsCommitted, IsDatabase, IsOfSubmit, IsSound, Item, KeepsAnswers, KeepsApplies, KeepsStarts, Ledger, List, PutsHeld, Reads, Rec, RelNo, Row, Stands, Txn as Text, [], all_at, answer_at, answer_passes, answer_place, any_from, ap, arith, ascending, base_of, by_use, cases_Bool, comes_before, committed, cond, contains, contents, database_of, dm_no, effect, facts, false, filter, first_rows, flat_map, fragments_in, from_committed, in_committed, inl, inr, is_answer, is_answered, is_applied, is_apply, items_of, list_any, module_of, not, or_cases, or_right, position_or_len, read_set, reads, refl, same_start, snapshot as snapshot_by, subst, suc, sym, take, tm_no, true, txn_at, txn_no, unwrap_or, was_seen, ℕ, ◌&&◌, ◌++◌, ◌+◌, ◌-◌, ◌<◌, ◌||◌, ◌∙◌, ◌∷◌, ◌≡◌}
+use Rattle.sdd_laws.proofs.All.{All, All-ascending, All-contains, All-nil, Answer, AreEras, ArePieces, AreRecorded, Attempt, Bool, Catalogue, Committed, Contains, Contains-here, Contains-later, Eras, Fits, History, IsCommitted, IsDatabase, IsOfSubmit, IsRecordAt, IsSound, Item, KeepsAnswers, KeepsApplies, KeepsStarts, Ledger, List, PutsHeld, Reads, Rec, RelNo, Row, Txn as Text, [], all_at, answer_at, answer_passes, answer_place, any_from, ap, arith, ascending, base_of, by_use, cases_Bool, comes_before, committed, cond, contains, contents, database_of, dm_no, effect, facts, false, filter, first_rows, flat_map, fragments_in, from_committed, in_committed, inl, inr, is_answer, is_answered, is_applied, is_apply, items_of, list_any, module_of, not, or_cases, or_right, position_or_len, read_set, reads, refl, same_start, snapshot as snapshot_by, subst, suc, sym, take, tm_no, true, txn_at, txn_no, unwrap_or, was_seen, ℕ, ◌&&◌, ◌++◌, ◌+◌, ◌-◌, ◌<◌, ◌||◌, ◌∙◌, ◌∷◌, ◌≡◌}
 use Rattle.sdd_laws.proofs.Members.{Contains-flat_map, Contains-from_flat_map}
 use Rattle.sdd_laws.proofs.Snapshots.{bases_are}
 use Rattle.sdd_laws.proofs.NumberedStarts.{one_start}
@@ -14,9 +14,9 @@ use Rattle.sdd_laws.specs.Snapshots.{dated, snapshot}
 
 -- no two records pass
 abbrev OneAtMost : (Rec → Bool) → History → Type 0
-OneAtMost q h = (j k : ℕ) (r s : Rec) → Stands h j r → Stands h k s → q r ≡ true → q s ≡ true → j ≡ k
+OneAtMost q h = (j k : ℕ) (r s : Rec) → IsRecordAt h j r → IsRecordAt h k s → q r ≡ true → q s ≡ true → j ≡ k
 
-passing_place : (q : Rec → Bool) (h : History) → list_any (λ e. q e.1) h ≡ true → (k : ℕ) × (r : Rec) × Stands h k r × (q r ≡ true)
+passing_place : (q : Rec → Bool) (h : History) → list_any (λ e. q e.1) h ≡ true → (k : ℕ) × (r : Rec) × IsRecordAt h k r × (q r ≡ true)
 passing_place q [] e = absurd (cc)
 passing_place q (x ∷ h) e =
     elim (or_cases (q x.1) (list_any (λ y. q y.1) h) e) [

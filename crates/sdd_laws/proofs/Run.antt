@@ -1,5 +1,5 @@
 -- The serial run along an order: each transaction gives the result of its Commit, and what is left has the values.
-use Rattle.sdd_laws.proofs.All.{All-from_recursion, AreRecorded, Catalogue, ChangesOf, Contains, Contains-cases, Contains-here, Contains-later, Contains-nil, Database, Effect, Gives, HasValues, IsAlong, IsDatabase, IsOrder, IsReplayed, IsSound, Ledger, List, MayStandFirst, ReadWrite, Reads, WriteRead, [], after_changes, after_reply, ap, effect, false≢true, filter, gathered, inl, inr, map, not, read_set, read_set_decides, reads_write, refl, rows_in_fragment, serial, stays_database, subst, sym, true, writers, writes_read, ℕ, ◌∙◌, ◌∷◌, ◌≡◌, ◌⊎◌}
+use Rattle.sdd_laws.proofs.All.{All-from_recursion, AreRecorded, Catalogue, ChangesOf, Contains, Contains-cases, Contains-here, Contains-later, Contains-nil, Database, Effect, Gives, HasValues, IsAlong, IsDatabase, IsOrder, IsReplayed, IsSound, Ledger, List, MayComeFirst, ReadWrite, Reads, WriteRead, [], after_changes, after_reply, ap, effect, false≢true, filter, gathered, inl, inr, map, not, read_set, read_set_decides, reads_write, refl, rows_in_fragment, serial, stays_database, subst, sym, true, writers, writes_read, ℕ, ◌∙◌, ◌∷◌, ◌≡◌, ◌⊎◌}
 use Rattle.sdd_laws.proofs.Members.{all_have, Contains-filter, Contains-from_filter}
 use Rattle.sdd_laws.proofs.Origins.{origin, from_origin, more_origins}
 use Rattle.sdd_laws.proofs.Values.{same_value}
@@ -30,7 +30,7 @@ module _ {T : Type 0} (cat : Catalogue) (sound : IsSound cat) (first : Database)
     all : (z : T) → Contains commits z → Contains done z ⊎ Contains rest z
     of_done : (z : T) → Contains done z → Contains commits z
     of_rest : (z : T) → Contains rest z → Contains commits z
-    before : (z y : T) → Contains done z → Contains rest y → MayStandFirst cat L z y
+    before : (z y : T) → Contains done z → Contains rest y → MayComeFirst cat L z y
     along : IsAlong cat L rest
 
   next_stage : (done : List T) (x : T) (rest : List T) → Stage done (x ∷ rest) → Stage (x ∷ done) rest
@@ -45,8 +45,8 @@ module _ {T : Type 0} (cat : Catalogue) (sound : IsSound cat) (first : Database)
             elim (Contains-cases x done z h) as (λ s. Contains commits z)
             [ inl e ↦ subst (Contains commits) (sym e) (st.of_rest x (Contains-here x rest)) | inr k ↦ st.of_done z k ];
         of_rest = λ z h. st.of_rest z (Contains-later x rest z h);
-        before = λ z y h k. elim (Contains-cases x done z h) as (λ s. MayStandFirst cat L z y) [
-          | inl e ↦ subst (λ w. MayStandFirst cat L w y) (sym e) (st.along.0 y k)
+        before = λ z y h k. elim (Contains-cases x done z h) as (λ s. MayComeFirst cat L z y) [
+          | inl e ↦ subst (λ w. MayComeFirst cat L w y) (sym e) (st.along.0 y k)
           | inr d ↦ st.before z y d (Contains-later x rest y k)
         ];
         along = st.along.1;

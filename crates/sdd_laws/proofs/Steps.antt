@@ -1,5 +1,5 @@
 -- The values of the items before the first transaction, and with one more.
-use Rattle.sdd_laws.proofs.All.{AreWriters, Catalogue, Change, Contains, Contains-cases, Contains-here, Contains-later, Contains-nil, Database, HasValues, IsDatabase, IsSound, IsValue, Item, Ledger, List, MayStandFirst, None, Option, Row, Some, Writes, [], after_changes, all_dated, ap, arith, both_write, first_row, fragment_of, inl, inr, item_cmp, item_cmp_exact, item_cmp_total, item_of, nat_lt, nat_tests, refl, row_at, subst, sym, time_at, true, untouched, writers, written, ℕ, ◌<◌, ◌∙◌, ◌∷◌, ◌≡◌, ◌≤◌, ◌⊎◌}
+use Rattle.sdd_laws.proofs.All.{AreWriters, Catalogue, Change, Contains, Contains-cases, Contains-here, Contains-later, Contains-nil, Database, HasValues, IsDatabase, IsSound, IsValue, Item, Ledger, List, MayComeFirst, None, Option, Row, Some, Writes, [], after_changes, all_dated, ap, arith, both_write, first_row, fragment_of, inl, inr, item_cmp, item_cmp_exact, item_cmp_total, item_of, nat_lt, nat_tests, refl, row_at, subst, sym, time_at, true, untouched, writers, written, ℕ, ◌<◌, ◌∙◌, ◌∷◌, ◌≡◌, ◌≤◌, ◌⊎◌}
 use Rattle.sdd_laws.proofs.LookUps.{entry_at, at_entry}
 use Rattle.sdd_laws.proofs.Origins.{Origin, origin, from_origin, first_item, more_origins}
 use Rattle.sdd_laws.proofs.Origins.Origin.{initial, made}
@@ -9,7 +9,7 @@ use Rattle.sdd_laws.specs.Ledger.{changes}
 
 -- two that change one item stand in the order of their timestamps
 pub written_in_order : {T : Type 0} (cat : Catalogue) (L : Ledger T) (x y : T) (c d : Change)
-    → MayStandFirst cat L x y → Contains (changes L x) c → Contains (changes L y) d → c.frag.0 ≡ d.frag.0
+    → MayComeFirst cat L x y → Contains (changes L x) c → Contains (changes L y) d → c.frag.0 ≡ d.frag.0
     → L.ts x < L.ts y
 written_in_order cat L x y c d may h k e =
     let less : nat_lt (L.ts x) (L.ts y) ≡ true =
@@ -53,7 +53,7 @@ module _ {T : Type 0} (cat : Catalogue) (sound : IsSound cat) (first : Database)
 
   module _ (commits : List T) (ok : AreWriters cat (writers L) commits) (done : List T) (x : T)
       (within : (t : T) → Contains (x ∷ done) t → Contains commits t)
-      (before : (z : T) → Contains done z → MayStandFirst cat L z x) where
+      (before : (z : T) → Contains done z → MayComeFirst cat L z x) where
     x_there : Contains commits x
     x_there = within x (Contains-here x done)
 

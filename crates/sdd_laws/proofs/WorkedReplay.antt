@@ -1,5 +1,5 @@
 -- Two transactions that meet the theorem's conditions: one puts a row, and the other, which saw it, asks for all rows.
-use Rattle.sdd_laws.proofs.All.{All-from_recursion, AreRecorded, Bool, Contains, Contains-cases, Contains-here, Contains-nil, FitsCondition, FitsRef, FitsStatement, IsHeld, IsOrder, IsRelation, Item, Ledger, List, MayStandFirst, Meeting, Put, PutsHeld, ReadWrite, Reads, Row, Some, Stmt, Txn, [], accounts, arith, both_write, cond, effect, false, false≢true, frag_no, gathered, get_all, inl, inr, lit<, lit≤, may_stand_first, not, not_itself, pos, reads_write, ref, refl, rel, snapshot, subst, sym, true, two, txn, writes_read, ℕ, ◌&&◌, ◌<◌, ◌∷◌, ◌≡◌, ◌≤◌}
+use Rattle.sdd_laws.proofs.All.{All-from_recursion, AreRecorded, Bool, Contains, Contains-cases, Contains-here, Contains-nil, FitsCondition, FitsRef, FitsStatement, IsHeld, IsOrder, IsRelation, Item, Ledger, List, MayComeFirst, Meeting, Put, PutsHeld, ReadWrite, Reads, Row, Some, Stmt, Txn, [], accounts, arith, both_write, cond, effect, false, false≢true, frag_no, gathered, get_all, inl, inr, lit<, lit≤, may_come_first, not, not_itself, pos, reads_write, ref, refl, rel, snapshot, subst, sym, true, two, txn, writes_read, ℕ, ◌&&◌, ◌<◌, ◌∷◌, ◌≡◌, ◌≤◌}
 use Rattle.sdd_laws.specs.Order.{Meets}
 
 abbrev put_five : Stmt
@@ -93,13 +93,13 @@ recorded =
       effect_is = λ x there. refl;
     }
 
-writer_first : (m : Meeting) → Meets accounts pair false true m → may_stand_first m ≡ true
+writer_first : (m : Meeting) → Meets accounts pair false true m → may_come_first m ≡ true
 writer_first m (both_write c d h k e) = refl
 writer_first m (writes_read c h r) = refl
 writer_first m (reads_write c h r) = refl
 
 -- the reader may not stand first
-pub reader_not_first : MayStandFirst accounts pair true false → ⊥
+pub reader_not_first : MayComeFirst accounts pair true false → ⊥
 reader_not_first may =
     false≢true
     (may (ReadWrite true)
@@ -113,8 +113,8 @@ order =
       same = λ x. ((λ h. h), (λ h. h));
       along = (
         (λ y h.
-            elim (Contains-cases true [] y h) as (λ s. MayStandFirst accounts pair false y)
-            [ inl e ↦ subst (λ z. MayStandFirst accounts pair false z) (sym e) writer_first | inr none ↦ absurd (Contains-nil y none) ]),
+            elim (Contains-cases true [] y h) as (λ s. MayComeFirst accounts pair false y)
+            [ inl e ↦ subst (λ z. MayComeFirst accounts pair false z) (sym e) writer_first | inr none ↦ absurd (Contains-nil y none) ]),
         ((λ y h. absurd (Contains-nil y h)), tt),
       );
     }

@@ -74,6 +74,6 @@ pub use Rattle.sdd_laws.specs.serial_orders.Attempts.{Attempt, Committed, HasCom
 pub use Rattle.sdd_laws.specs.serial_orders.Examples.{high_keys, low_keys, misses_both, put, reads_before, row_of, starts_again, waits_at_two, waits_for_other, with_classes}
 pub use Rattle.sdd_laws.specs.serial_orders.Numbers.{AreFragments, ChangeExists, CondExists, ExistsIn, IsClass, IsFragment, IsFrom1To, IsModule, NumbersExist, UseExists}
 pub use Rattle.sdd_laws.specs.serial_orders.Orders.{IsOrderable, IsSerial}
-pub use Rattle.sdd_laws.specs.serial_orders.Places.{Stands, event_at, placed, record_at}
+pub use Rattle.sdd_laws.specs.serial_orders.Places.{IsRecordAt, event_at, placed, record_at}
 pub use Rattle.sdd_laws.specs.serial_orders.Precedence.{HasNoCycle, is_answer, module_of}
 pub use Rattle.sdd_laws.specs.serial_orders.SerialOrder.{serial_order}

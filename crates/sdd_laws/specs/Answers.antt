@@ -5,15 +5,15 @@ use Rattle.sdd_history.specs.declared.record.Rec.TheVariants.{Answer}
 use Rattle.sdd_history.specs.Records.{History}
 use Rattle.sdd_lang.specs.declared.transaction.Txn.{Txn}
 use Rattle.sdd_order.specs.Attempts.{Committed, IsCommitted, HasCommit}
-use Rattle.sdd_order.specs.Places.{Stands}
+use Rattle.sdd_order.specs.Places.{IsRecordAt}
 use Rattle.sdd_laws.specs.Deeds.{txn_at, Asks, AnsweredBefore, StartedBefore}
 use Rattle.sdd_laws.specs.Snapshots.{base_of}
 
 -- every module begins with these rows
 pub record KeepsAnswers (cat : Catalogue) (rows : List (RelNo × Row)) (txns : List Txn) (h : History) : Type 0 where
   -- an attempt is answered at most once at each module, after its Start
-  pub one_answer : (n number d j k : ℕ) → Stands h j (Answer (txn_no n) number (dm_no d)) → Stands h k (Answer (txn_no n) number (dm_no d)) → j ≡ k
-  pub answer_after : (n number d k : ℕ) → Stands h k (Answer (txn_no n) number (dm_no d)) → StartedBefore h n number k
+  pub one_answer : (n number d j k : ℕ) → IsRecordAt h j (Answer (txn_no n) number (dm_no d)) → IsRecordAt h k (Answer (txn_no n) number (dm_no d)) → j ≡ k
+  pub answer_after : (n number d k : ℕ) → IsRecordAt h k (Answer (txn_no n) number (dm_no d)) → StartedBefore h n number k
   -- a Commit stands after the Start of its attempt, and after its Answer at each module that is asked
   pub commit_after : (n number k : ℕ) → HasCommit h n number k → StartedBefore h n number k
   pub answered : (t : Committed) (d : ℕ) → IsCommitted h t → Asks cat t.start d → AnsweredBefore h t.start d t.place

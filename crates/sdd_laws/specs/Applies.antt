@@ -4,7 +4,7 @@ use Rattle.sdd_lang.specs.All.{Catalogue, class_no, dm_no, time_at, txn_no}
 use Rattle.sdd_history.specs.declared.record.Rec.TheVariants.{Apply}
 use Rattle.sdd_history.specs.Records.{History}
 use Rattle.sdd_order.specs.Attempts.{Committed, IsCommitted}
-use Rattle.sdd_order.specs.Places.{Stands}
+use Rattle.sdd_order.specs.Places.{IsRecordAt}
 use Rattle.sdd_laws.specs.Deeds.{IsAnswered, IsApplied, AppliedBefore, Touches, GoesTo}
 
 -- the transaction of an Apply is committed before, with this timestamp and class, and is to be applied at the module
@@ -25,7 +25,7 @@ pub record IsEarlier (h : History) (x y : Committed) : Type 0 where
   pub time : x.start.ts < y.start.ts
 
 pub record KeepsApplies (cat : Catalogue) (h : History) : Type 0 where
-  pub of_commit : (n class d ts k : ℕ) → Stands h k (Apply (txn_no n) (class_no class) (dm_no d) (time_at ts)) → IsOfCommit cat h n class d ts k
+  pub of_commit : (n class d ts k : ℕ) → IsRecordAt h k (Apply (txn_no n) (class_no class) (dm_no d) (time_at ts)) → IsOfCommit cat h n class d ts k
   -- at each module there is at most one of a transaction
   pub one_apply : (n d j k : ℕ) → IsApplied h n d j → IsApplied h n d k → j ≡ k
   -- in one class at one module they rise, and leave none out

@@ -6,7 +6,7 @@ use Rattle.sdd_history.specs.Records.{History}
 use Rattle.sdd_lang.specs.declared.transaction.Txn.{Txn}
 use Rattle.sdd_order.specs.Attempts.{Attempt, Committed, IsAttempt, HasCommit, reads, changes}
 use Rattle.sdd_order.specs.Numbers.{IsModule}
-use Rattle.sdd_order.specs.Places.{Stands}
+use Rattle.sdd_order.specs.Places.{IsRecordAt}
 
 -- the transaction with a number, counted from 1
 abbrev pub txn_at : List Txn → ℕ → Option Txn
@@ -15,16 +15,16 @@ txn_at txns n = slice_get txns (n - 1)
 -- records at places
 
 abbrev pub IsSubmitted : History → ℕ → ℕ → Type 0
-IsSubmitted h n k = Stands h k (Submit (txn_no n))
+IsSubmitted h n k = IsRecordAt h k (Submit (txn_no n))
 
 abbrev pub IsAnswered : History → Attempt → ℕ → ℕ → Type 0
-IsAnswered h a d k = Stands h k (Answer (txn_no a.txn) a.number (dm_no d))
+IsAnswered h a d k = IsRecordAt h k (Answer (txn_no a.txn) a.number (dm_no d))
 
 -- an Apply of transaction n at module d, whatever its class and timestamp
 pub record IsApplied (h : History) (n d k : ℕ) : Type 0 where
   pub class : ℕ
   pub ts : ℕ
-  pub stands : Stands h k (Apply (txn_no n) (class_no class) (dm_no d) (time_at ts))
+  pub is_recorded : IsRecordAt h k (Apply (txn_no n) (class_no class) (dm_no d) (time_at ts))
 
 -- what stands before a place
 

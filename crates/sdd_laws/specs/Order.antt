@@ -7,10 +7,10 @@ use Rattle.sdd_laws.specs.declared.meeting.Meeting.TheVariants.{Writes, WriteRea
 use Rattle.sdd_laws.specs.Ledger.{Ledger, Reads, changes}
 
 -- whether the first of two that meet may stand before the second
-abbrev pub may_stand_first : Meeting → Bool
-may_stand_first (Writes first second) = nat_lt first.0 second.0
-may_stand_first (WriteRead seen) = seen
-may_stand_first (ReadWrite seen) = not seen
+abbrev pub may_come_first : Meeting → Bool
+may_come_first (Writes first second) = nat_lt first.0 second.0
+may_come_first (WriteRead seen) = seen
+may_come_first (ReadWrite seen) = not seen
 
 -- how two transactions meet at a fragment
 pub data Meets {T : Type 0} (cat : Catalogue) (L : Ledger T) (x y : T) : Meeting → Type 0 where
@@ -20,13 +20,13 @@ pub data Meets {T : Type 0} (cat : Catalogue) (L : Ledger T) (x y : T) : Meeting
   reads_write : (c : Change) → Contains (changes L y) c → Reads cat L x c.frag.0 → Meets cat L x y (ReadWrite (L.saw x c.frag.0 y))
 
 -- the first may stand before the second, however they meet
-abbrev pub MayStandFirst : {T : Type 0} → Catalogue → Ledger T → T → T → Type 0
-MayStandFirst cat L x y = (m : Meeting) → Meets cat L x y m → may_stand_first m ≡ true
+abbrev pub MayComeFirst : {T : Type 0} → Catalogue → Ledger T → T → T → Type 0
+MayComeFirst cat L x y = (m : Meeting) → Meets cat L x y m → may_come_first m ≡ true
 
 -- each may stand before those after it
 abbrev pub IsAlong : {T : Type 0} → Catalogue → Ledger T → List T → Type 0
 IsAlong cat L [] = Unit {0}
-IsAlong cat L (x ∷ rest) = ((y : _) → Contains rest y → MayStandFirst cat L x y) × IsAlong cat L rest
+IsAlong cat L (x ∷ rest) = ((y : _) → Contains rest y → MayComeFirst cat L x y) × IsAlong cat L rest
 
 -- an order of these transactions that agrees with what they did
 pub record IsOrder {T : Type 0} (cat : Catalogue) (L : Ledger T) (commits order : List T) : Type 0 where

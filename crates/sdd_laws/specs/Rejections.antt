@@ -5,7 +5,7 @@ use Rattle.sdd_lang.specs.All.{Catalogue, Cond, Ts, class_no, dm_no, time_at, tx
 use Rattle.sdd_history.specs.declared.record.Rec.TheVariants.{Reject}
 use Rattle.sdd_history.specs.Records.{History}
 use Rattle.sdd_order.specs.Attempts.{Attempt, Committed, IsAttempt, IsCommitted}
-use Rattle.sdd_order.specs.Places.{Stands}
+use Rattle.sdd_order.specs.Places.{IsRecordAt}
 use Rattle.sdd_laws.specs.Conditions.{IsConditionOf}
 use Rattle.sdd_laws.specs.Deeds.{AppliedBefore, ChangesOne}
 use Rattle.sdd_laws.specs.Eras.{Eras}
@@ -22,7 +22,7 @@ pub record IsAgain (cat : Catalogue) (eras : Eras) (h : History) (a : Attempt) :
   pub class : ℕ
   pub write : ℕ
   pub place : ℕ
-  pub rejected : Stands h place (Reject (txn_no a.txn) earlier.number (dm_no dm) (class_no class) (time_at write))
+  pub rejected : IsRecordAt h place (Reject (txn_no a.txn) earlier.number (dm_no dm) (class_no class) (time_at write))
   pub before : place < a.place
   -- it had a condition there on that class, up to that timestamp or to a time before
   pub cond : Cond

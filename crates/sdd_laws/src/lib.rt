@@ -27,7 +27,7 @@ pub use contents_law::{
 };
 pub use copies::{date_of, is_applied, law_copies};
 pub use law::{law_acyclic, law_attempts};
-pub use meeting::{Meeting, may_stand_first};
+pub use meeting::{Meeting, may_come_first};
 pub use replay::law_replay;
 pub use replay_along_law::law_replay_along;
 pub use taking::{counts, outdoes};

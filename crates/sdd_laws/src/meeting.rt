@@ -1,5 +1,5 @@
 ghost use Rattle.std.specs.Prelude.{◌≡◌};
-ghost use Rattle.sdd_laws.specs.Order.{may_stand_first};
+ghost use Rattle.sdd_laws.specs.Order.{may_come_first};
 
 use sdd_lang::sdd_base::Ts;
 
@@ -15,8 +15,8 @@ pub enum Meeting {
 }
 
 /// Whether the first of two transactions that meet may stand before the second in a serial order.
-pub fn may_stand_first(meeting: Meeting) -> bool
-    ensures { result ≡ may_stand_first meeting }
+pub fn may_come_first(meeting: Meeting) -> bool
+    ensures { result ≡ may_come_first meeting }
 {
     match meeting {
         Meeting::Writes(first, second) => first.0 < second.0,

@@ -6,7 +6,7 @@ abbrev fragments_of : Catalogue → List Text
 fragments_of cat = map (λ (f : Fragment). f.name) cat.fragments
 
 -- a catalogue with other classes, behind which these lists may follow
-pub record Stands (cat last : Catalogue) (lists : List (List ClassPart)) : Type 0 where
+pub record IsExtendedBy (cat last : Catalogue) (lists : List (List ClassPart)) : Type 0 where
   pub is : last ≡ over cat last.classes
   pub may : MayFollow cat last.classes lists
 
@@ -20,23 +20,23 @@ added_is cat last first same =
 
 -- nothing is broken where they may follow
 pub none_broken : (cat last : Catalogue) (first : List ClassPart) (lists : List (List ClassPart))
-    → Stands cat last (first ∷ lists) → further_faults last first ≡ []
+    → IsExtendedBy cat last (first ∷ lists) → further_faults last first ≡ []
 none_broken cat last first lists s =
     subst (λ (c : Catalogue). further_faults c first ≡ []) (sym s.is) (none_further cat last.classes first lists s.may)
 
 -- with them the others may follow
-pub stands_more : (cat last next : Catalogue) (first : List ClassPart) (lists : List (List ClassPart)) → Stands cat last (first ∷ lists)
-    → next ≡ with_further first last → Stands cat next lists
-stands_more cat last next first lists s e =
+pub follows_more : (cat last next : Catalogue) (first : List ClassPart) (lists : List (List ClassPart)) → IsExtendedBy cat last (first ∷ lists)
+    → next ≡ with_further first last → IsExtendedBy cat next lists
+follows_more cat last next first lists s e =
     let now : next ≡ added cat last first = e ∙ added_is cat last first (ap (λ (c : Catalogue). c.fragments) s.is) in
-    subst (λ (c : Catalogue). Stands cat c lists) (sym now) (record {
+    subst (λ (c : Catalogue). IsExtendedBy cat c lists) (sym now) (record {
       is = ap (λ (c : Catalogue). extended (map (class_of (fragments_of cat)) first) c) s.is;
       may = others_may cat (fragments_of cat) last.classes first lists s.may;
     })
 
 -- and it is so where own classes are emptied
-pub stands_retired : (cat last : Catalogue) (n : ℕ) (lists : List (List ClassPart)) → Stands cat last lists → Stands cat (retired n last) lists
-stands_retired cat last n lists s = record {
+pub follows_retired : (cat last : Catalogue) (n : ℕ) (lists : List (List ClassPart)) → IsExtendedBy cat last lists → IsExtendedBy cat (retired n last) lists
+follows_retired cat last n lists s = record {
   is = ap (λ (c : Catalogue). retired n c) s.is;
   may = retired_may cat last.classes n lists s.may;
 }
@@ -47,9 +47,9 @@ followed_by last first = with_further first (retired (length last.classes) last)
 
 -- before the first list
 
-pub begins : (cat last : Catalogue) (lists : List (List ClassPart)) → last ≡ cat → AreValidLists cat lists → Stands cat last lists
+pub begins : (cat last : Catalogue) (lists : List (List ClassPart)) → last ≡ cat → AreValidLists cat lists → IsExtendedBy cat last lists
 begins cat last lists is valid =
-    subst (λ (c : Catalogue). Stands cat c lists) (sym is) (record { is = refl; may = all_may_follow cat lists valid })
+    subst (λ (c : Catalogue). IsExtendedBy cat c lists) (sym is) (record { is = refl; may = all_may_follow cat lists valid })
 
 pub eras_begin : (last cat : Catalogue) (before : List Catalogue) (lists : List (List Class)) → before ≡ [] → last ≡ cat
     → before ++ eras last lists ≡ eras cat lists
@@ -57,33 +57,33 @@ eras_begin last cat before lists none is = ap (λ (l : List Catalogue). l ++ era
 
 -- one list more, the first of those that are left
 module _ (cat last : Catalogue) (lists : List (List ClassPart)) (i : ℕ) (item first : List ClassPart)
-    (within : i < length lists) (there : item ≡ get_or lists i item) (same : first ≡ item) (stands : Stands cat last (drop i lists)) where
+    (within : i < length lists) (there : item ≡ get_or lists i item) (same : first ≡ item) (follows : IsExtendedBy cat last (drop i lists)) where
   abbrev Others : List (List ClassPart)
   Others = drop (i + 1) lists
 
   left : drop i lists ≡ first ∷ Others
   left = drop_more lists i item within ∙ ap (λ (l : List ClassPart). l ∷ Others) (sym there ∙ sym same)
 
-  stands_here : Stands cat last (first ∷ Others)
-  stands_here = subst (λ (l : List (List ClassPart)). Stands cat last l) left stands
+  follows_here : IsExtendedBy cat last (first ∷ Others)
+  follows_here = subst (λ (l : List (List ClassPart)). IsExtendedBy cat last l) left follows
 
   -- in the catalogue in force
 
-  retired_here : Stands cat (retired (length last.classes) last) (first ∷ Others)
-  retired_here = stands_retired cat last (length last.classes) (first ∷ Others) stands_here
+  retired_here : IsExtendedBy cat (retired (length last.classes) last) (first ∷ Others)
+  retired_here = follows_retired cat last (length last.classes) (first ∷ Others) follows_here
 
   pub era_allowed : further_faults (retired (length last.classes) last) first ≡ []
   era_allowed = none_broken cat (retired (length last.classes) last) first Others retired_here
 
-  pub era_stands : (next : Catalogue) → next ≡ followed_by last first → Stands cat next Others
-  era_stands next e = stands_more cat (retired (length last.classes) last) next first Others retired_here e
+  pub era_stands : (next : Catalogue) → next ≡ followed_by last first → IsExtendedBy cat next Others
+  era_stands next e = follows_more cat (retired (length last.classes) last) next first Others retired_here e
 
   pub era_more : (next old : Catalogue) (before after total : List Catalogue) → next ≡ followed_by last first → old ≡ last
       → after ≡ before ++ old ∷ [] → before ++ eras last (numbered cat (drop i lists)) ≡ total → after ++ eras next (numbered cat Others) ≡ total
   era_more next old before after total e is grown so_far =
       let retired_now : Catalogue = retired (length last.classes) last in
       let now : next ≡ added cat retired_now first =
-      e ∙ added_is cat retired_now first (ap (λ (c : Catalogue). c.fragments) stands.is) in
+      e ∙ added_is cat retired_now first (ap (λ (c : Catalogue). c.fragments) follows.is) in
       ap (λ (l : List Catalogue). l ++ eras next (numbered cat Others)) grown
       ∙ ap (λ (c : Catalogue). (before ++ c ∷ []) ++ eras next (numbered cat Others)) is
       ∙ append_assoc before (last ∷ []) (eras next (numbered cat Others))
@@ -94,15 +94,15 @@ module _ (cat last : Catalogue) (lists : List (List ClassPart)) (i : ℕ) (item 
   -- in the whole catalogue
 
   pub whole_allowed : further_faults last first ≡ []
-  whole_allowed = none_broken cat last first Others stands_here
+  whole_allowed = none_broken cat last first Others follows_here
 
-  pub whole_stands : (next : Catalogue) → next ≡ with_further first last → Stands cat next Others
-  whole_stands next e = stands_more cat last next first Others stands_here e
+  pub whole_stands : (next : Catalogue) → next ≡ with_further first last → IsExtendedBy cat next Others
+  whole_stands next e = follows_more cat last next first Others follows_here e
 
   pub whole_more : (next total : Catalogue) → next ≡ with_further first last
       → whole last (numbered cat (drop i lists)) ≡ total → whole next (numbered cat Others) ≡ total
   whole_more next total e so_far =
-      let now : next ≡ added cat last first = e ∙ added_is cat last first (ap (λ (c : Catalogue). c.fragments) stands.is) in
+      let now : next ≡ added cat last first = e ∙ added_is cat last first (ap (λ (c : Catalogue). c.fragments) follows.is) in
       ap (λ (c : Catalogue). whole c (numbered cat Others)) now
       ∙ ap (λ (l : List (List ClassPart)). whole last (numbered cat l)) (sym left)
       ∙ so_far

@@ -10,7 +10,7 @@ use sdd_wire::{Msg, Outcome};
 /// newest first.
 pub trait Module: Drop {
     /// Made in this setting, the module stands for this log.
-    ghost stands: { Self → Setting → Log → Type 0 };
+    ghost represents: { Self → Setting → Log → Type 0 };
 
     /// The act that is due next at the site, where these are the databases that its attempts read.
     ghost next: { Setting → Bases → Log → Option Act };
@@ -29,12 +29,12 @@ pub trait Module: Drop {
     /// nothing more.
     fn take(&mut self, from: Site, msg: Msg) -> Result<Outcome, NoMemory>
         requires lives { IsTrue (is_live self.old) }
-        requires stands { (setting : Setting) × (bases : Bases) × (log : Log)
-            × stands self.old setting log × fits setting bases log from msg }
+        requires represents { (setting : Setting) × (bases : Bases) × (log : Log)
+            × represents self.old setting log × fits setting bases log from msg }
         ensures law { IfOk result (λ outcome. (setting : Setting) (bases : Bases) (log : Log)
-            → stands self.old setting log → fits setting bases log from msg
+            → represents self.old setting log → fits setting bases log from msg
             → Does (next setting bases) (Handed from msg ∷ log) outcome.recs outcome.out
-            (stands self.new setting)) }
+            (represents self.new setting)) }
         ensures lives_on { IfOk result (λ _. IsTrue (is_live self.new)) }
         ensures dies { OnErr result (¬ IsTrue (is_live self.new)) };
 }

@@ -1,5 +1,5 @@
 -- What each call of the network does to what it stands for.
-use Rattle.sdd_net.proofs.All.{ArePair, Bool, Call, Changes, ChangesPair, Channel, Delivers, Directions, Does, Fits, HasLink, IsNet, IsSound, IsTrue, Kept, Link, List, Loses, Matches, None, Ok, Option, Packet, PlacedLink, Repeats, Result, Site, Some, Stands, StandsFor, Way, [], after_call, ap, arith, deliver, false, index_of, is_link, is_some, length, link, lose, mul-add-lt, on_link, packet_at, refl, repeat, replicate, site_count, slice_get, slice_get_within, subst, suc, sym, true, unused, unused_channel, with_flight, with_packet, without_at, zero, ℕ, ◌*◌, ◌++◌, ◌-◌, ◌<◌, ◌∙◌, ◌∷◌, ◌≡◌, ◌≤◌}
+use Rattle.sdd_net.proofs.All.{ArePair, Bool, Call, Changes, ChangesPair, Channel, ChannelsRepresent, Delivers, Directions, Does, Fits, HasLink, IsNet, IsSound, IsTrue, Kept, Link, List, Loses, Matches, None, Ok, Option, Packet, PlacedLink, Repeats, Represents, Result, Site, Some, Way, [], after_call, ap, arith, deliver, false, index_of, is_link, is_some, length, link, lose, mul-add-lt, on_link, packet_at, refl, repeat, replicate, site_count, slice_get, slice_get_within, subst, suc, sym, true, unused, unused_channel, with_flight, with_packet, without_at, zero, ℕ, ◌*◌, ◌++◌, ◌-◌, ◌<◌, ◌∙◌, ◌∷◌, ◌≡◌, ◌≤◌}
 use Rattle.sdd_net.proofs.Lists.{without-past}
 use Rattle.sdd_net.proofs.Directions.{link_parts, link_back, place_below, index_apart, back_is, step, one_way}
 use Rattle.sdd_net.proofs.Sound.{sound}
@@ -23,9 +23,9 @@ module _ {M : Type 0} where
       → net_of live tms dms channels ≡ net → IsTrue net.live → live ≡ true
   live_is net live tms dms channels e h = ap (λ n. n.live) e ∙ h
 
-  pub stands_of : (net : Kept (Directions M)) (live : Bool) (tms dms : ℕ) (channels : List (Channel M)) (calls : List (Call M))
-      → net_of live tms dms channels ≡ net → StandsFor net calls → Stands tms dms channels calls
-  stands_of net live tms dms channels calls e h = subst (λ n. StandsFor n calls) (sym e) h
+  pub represents_of : (net : Kept (Directions M)) (live : Bool) (tms dms : ℕ) (channels : List (Channel M)) (calls : List (Call M))
+      → net_of live tms dms channels ≡ net → Represents net calls → ChannelsRepresent tms dms channels calls
+  represents_of net live tms dms channels calls e h = subst (λ n. Represents n calls) (sym e) h
 
   pub exists_of : (net : Kept (Directions M)) (live : Bool) (tms dms : ℕ) (channels : List (Channel M)) (a b : Site)
       → net_of live tms dms channels ≡ net → HasLink net a b → IsTrue (is_link tms dms a b)
@@ -33,23 +33,23 @@ module _ {M : Type 0} where
 
   pub does : (net : Kept (Directions M)) (live after : Bool) (tms dms : ℕ) (old new : List (Channel M)) (call : Call M)
       → net_of live tms dms old ≡ net → after ≡ true
-      → ((calls : List (Call M)) → Stands tms dms old calls → Stands tms dms new (call ∷ calls)) → Does net (net_of after tms dms new) call
+      → ((calls : List (Call M)) → ChannelsRepresent tms dms old calls → ChannelsRepresent tms dms new (call ∷ calls)) → Does net (net_of after tms dms new) call
   does net live after tms dms old new call e l h = record {
     live = l;
     tms = ap (λ n. n.value.tms) e;
     dms = ap (λ n. n.value.dms) e;
-    calls = λ calls s. h calls (stands_of net live tms dms old calls e s);
+    calls = λ calls s. h calls (represents_of net live tms dms old calls e s);
   }
 
   -- the fields still make a network
   pub still : (tms dms : ℕ) (all : List PlacedLink) (live after : Bool) (old new : List (Channel M)) (call : Call M)
       → IsNet tms dms all live old → live ≡ true
-      → ((calls : List (Call M)) → Stands tms dms old calls → Stands tms dms new (call ∷ calls)) → IsNet tms dms all after new
+      → ((calls : List (Call M)) → ChannelsRepresent tms dms old calls → ChannelsRepresent tms dms new (call ∷ calls)) → IsNet tms dms all after new
   still tms dms all live after old new call n l h = record {
     few_tms = n.few_tms;
     few_dms = n.few_dms;
     all_links = n.all_links;
-    stands = λ _. (let before = n.stands l in (call ∷ before.0, h before.0 before.1));
+    represents = λ _. (let before = n.represents l in (call ∷ before.0, h before.0 before.1));
   }
 
   -- a call that changes one direction
@@ -57,11 +57,11 @@ module _ {M : Type 0} where
       → ((a b : Site) (l : Link M) → after_call a b call l ≡ on_link a b from to f l) → ((l : Link M) → (f l).back ≡ l.back)
       → at ≡ index_of tms dms from to → IsTrue (is_link tms dms from to)
       → ((l : Link M) → IsSound l → Fits (slice_get old at) l.there → Changes old new at (f l).there)
-      → (calls : List (Call M)) → Stands tms dms old calls → Stands tms dms new (call ∷ calls)
-  way_does tms dms old new at from to call f is same e exists change calls stands =
+      → (calls : List (Call M)) → ChannelsRepresent tms dms old calls → ChannelsRepresent tms dms new (call ∷ calls)
+  way_does tms dms old new at from to call f is same e exists change calls represents =
       let l : Link M = link from to calls in
-      let c : Changes old new at (f l).there = change l (sound from to calls) (subst (λ k. Fits (slice_get old k) l.there) (sym e) (stands from to exists)) in
-      one_way tms dms old new calls call from to f is same exists stands
+      let c : Changes old new at (f l).there = change l (sound from to calls) (subst (λ k. Fits (slice_get old k) l.there) (sym e) (represents from to exists)) in
+      one_way tms dms old new calls call from to f is same exists represents
       (subst (λ k. Fits (slice_get new k) (f l).there) e c.fits)
       (λ k ne. c.others k (λ x. ne (x ∙ e)))
 
@@ -79,7 +79,7 @@ module _ {M : Type 0} where
   pub lose_does : (tms dms : ℕ) (old new : List (Channel M)) (at place : ℕ) (from to : Site)
       → at ≡ index_of tms dms from to → IsTrue (is_link tms dms from to)
       → ((w : Way M) → Fits (slice_get old at) w → Changes old new at (with_flight (without_at w.flight (place - 1)) w))
-      → (calls : List (Call M)) → Stands tms dms old calls → Stands tms dms new (Loses from to place ∷ calls)
+      → (calls : List (Call M)) → ChannelsRepresent tms dms old calls → ChannelsRepresent tms dms new (Loses from to place ∷ calls)
   lose_does tms dms old new at place from to e exists change =
       way_does tms dms old new at from to (Loses from to place) (lose place) (λ a b l. refl)
       (λ l. back_kept (packet_at place l) (λ p. with_flight (without_at l.there.flight (place - 1)) l.there) l) e exists
@@ -103,7 +103,7 @@ module _ {M : Type 0} where
   pub repeat_does : (tms dms : ℕ) (old new : List (Channel M)) (at place : ℕ) (from to : Site)
       → at ≡ index_of tms dms from to → IsTrue (is_link tms dms from to)
       → ((l : Link M) → Fits (slice_get old at) l.there → Changes old new at (repeat place l).there)
-      → (calls : List (Call M)) → Stands tms dms old calls → Stands tms dms new (Repeats from to place ∷ calls)
+      → (calls : List (Call M)) → ChannelsRepresent tms dms old calls → ChannelsRepresent tms dms new (Repeats from to place ∷ calls)
   repeat_does tms dms old new at place from to e exists change =
       way_does tms dms old new at from to (Repeats from to place) (repeat place) (λ a b l. refl)
       (λ l. back_kept (packet_at place l) (λ p. with_flight (l.there.flight ++ p ∷ []) l.there) l) e exists (λ l s h. change l h)
@@ -111,23 +111,23 @@ module _ {M : Type 0} where
   -- the two directions of a link
   pub pair_of : (tms dms : ℕ) (channels : List (Channel M)) (there back : ℕ) (from to : Site) (calls : List (Call M))
       → there ≡ index_of tms dms from to → back ≡ index_of tms dms to from → IsTrue (is_link tms dms from to)
-      → Stands tms dms channels calls → ArePair channels there back (link from to calls)
-  pair_of tms dms channels there back from to calls e f exists stands = record {
+      → ChannelsRepresent tms dms channels calls → ArePair channels there back (link from to calls)
+  pair_of tms dms channels there back from to calls e f exists represents = record {
     apart = λ x. index_apart tms dms from to exists (sym e ∙ x ∙ f);
-    fits_there = subst (λ k. Fits (slice_get channels k) (link from to calls).there) (sym e) (stands from to exists);
+    fits_there = subst (λ k. Fits (slice_get channels k) (link from to calls).there) (sym e) (represents from to exists);
     fits_back = subst (λ k. Fits (slice_get channels k) (link from to calls).back) (sym f)
-        (subst (λ w. Fits (slice_get channels (index_of tms dms to from)) w) (back_is tms dms from to calls exists) (stands to from (link_back tms dms from to exists)));
+        (subst (λ w. Fits (slice_get channels (index_of tms dms to from)) w) (back_is tms dms from to calls exists) (represents to from (link_back tms dms from to exists)));
   }
 
   pub deliver_does : (tms dms : ℕ) (old new : List (Channel M)) (there back place : ℕ) (from to : Site)
       → there ≡ index_of tms dms from to → back ≡ index_of tms dms to from → IsTrue (is_link tms dms from to)
       → ((l : Link M) → ArePair old there back l → IsSound l → ChangesPair old new there back (deliver place l))
-      → (calls : List (Call M)) → Stands tms dms old calls → Stands tms dms new (Delivers from to place ∷ calls)
-  deliver_does tms dms old new there back place from to e f exists change calls stands =
+      → (calls : List (Call M)) → ChannelsRepresent tms dms old calls → ChannelsRepresent tms dms new (Delivers from to place ∷ calls)
+  deliver_does tms dms old new there back place from to e f exists change calls represents =
       let l : Link M = link from to calls in
-      let c : ChangesPair old new there back (deliver place l) = change l (pair_of tms dms old there back from to calls e f exists stands)
+      let c : ChangesPair old new there back (deliver place l) = change l (pair_of tms dms old there back from to calls e f exists represents)
       (sound from to calls) in
-      step tms dms old new calls (Delivers from to place) from to (deliver place) (λ a b l. refl) exists stands
+      step tms dms old new calls (Delivers from to place) from to (deliver place) (λ a b l. refl) exists represents
       (subst (λ k. Fits (slice_get new k) (deliver place l).there) e c.fits_there)
       (subst (λ k. Fits (slice_get new k) (deliver place l).back) f c.fits_back)
       (λ k x y. c.others k (λ z. x (z ∙ e)) (λ z. y (z ∙ f)))
@@ -142,7 +142,7 @@ unused_matches M = record {
 }
 
 pub unused_stands : (M : Type 0) (tms dms : ℕ) (channels : List (Channel M))
-    → channels ≡ replicate (site_count tms dms * site_count tms dms) unused_channel → Stands tms dms channels []
+    → channels ≡ replicate (site_count tms dms * site_count tms dms) unused_channel → ChannelsRepresent tms dms channels []
 unused_stands M tms dms channels e a b exists =
     let p = link_parts tms dms a b exists in
     let below : index_of tms dms a b < site_count tms dms * site_count tms dms = mul-add-lt _ _ _ _ (place_below tms dms a p.from)

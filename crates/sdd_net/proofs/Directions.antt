@@ -1,5 +1,5 @@
 -- A call on one link changes that link and the link back, and no other.
-use Rattle.sdd_net.proofs.All.{Bool, Call, Channel, D, Delivers, Fits, IsTrue, Link, List, Loses, Puts, Repeats, Resends, Site, Stands, T, U, [], after_call, and_parts, ap, are_linked, arith, both_ways, deliver, eq-eqb, eqb-true, false, if◌then◌else◌, index_of, is_link, is_site, leb-true, link, lose, nat_le, on_link, put, refl, repeat, resend, same_from_place, same_site, site_count, slice_get, subst, sym, true, turned, ℕ, ◌&&◌, ◌<◌, ◌∙◌, ◌∷◌, ◌≡◌, ◌≢◌, ◌≤◌}
+use Rattle.sdd_net.proofs.All.{Bool, Call, Channel, ChannelsRepresent, D, Delivers, Fits, IsTrue, Link, List, Loses, Puts, Repeats, Resends, Site, T, U, [], after_call, and_parts, ap, are_linked, arith, both_ways, deliver, eq-eqb, eqb-true, false, if◌then◌else◌, index_of, is_link, is_site, leb-true, link, lose, nat_le, on_link, put, refl, repeat, resend, same_from_place, same_site, site_count, slice_get, subst, sym, true, turned, ℕ, ◌&&◌, ◌<◌, ◌∙◌, ◌∷◌, ◌≡◌, ◌≢◌, ◌≤◌}
 use Rattle.sdd_net.specs.Nets.{place_of}
 
 pub same_is : (a b : Site) → same_site a b ≡ true → a ≡ b
@@ -135,12 +135,12 @@ back_is tms dms a b calls h = ap (λ l. l.there) (link_turned a b calls (linked_
 -- what a call does to the channels of its link makes the network stand for the calls with it
 pub step : {M : Type 0} (tms dms : ℕ) (old new : List (Channel M)) (calls : List (Call M)) (call : Call M) (from to : Site) (f : Link M → Link M)
     → ((a b : Site) (l : Link M) → after_call a b call l ≡ on_link a b from to f l)
-    → IsTrue (is_link tms dms from to) → Stands tms dms old calls
+    → IsTrue (is_link tms dms from to) → ChannelsRepresent tms dms old calls
     → Fits (slice_get new (index_of tms dms from to)) (f (link from to calls)).there
     → Fits (slice_get new (index_of tms dms to from)) (f (link from to calls)).back
     → ((k : ℕ) → k ≢ index_of tms dms from to → k ≢ index_of tms dms to from → slice_get new k ≡ slice_get old k)
-    → Stands tms dms new (call ∷ calls)
-step {M = M} tms dms old new calls call from to f is exists stands there back others = λ a b linked.
+    → ChannelsRepresent tms dms new (call ∷ calls)
+step {M = M} tms dms old new calls call from to f is exists represents there back others = λ a b linked.
     let G : Link M → Type 0 = λ l. Fits (slice_get new (index_of tms dms a b)) l.there in
     subst G (sym (is a b (link a b calls)))
     (elim (same_site a from && same_site b to) as (λ c. (same_site a from && same_site b to) ≡ c → G (if c then f (link a b calls) else if same_site a to && same_site b from then turned (f (turned (link a b calls))) else link a b calls)) [
@@ -160,20 +160,20 @@ step {M = M} tms dms old new calls call from to f is exists stands there back ot
                 both_ways (same_site a from && same_site b to) p (rw (q.0, q.1, same_here from, same_here to) refl))
                 (λ e. let q = index_is tms dms a b to from linked (link_back tms dms from to exists) e in
                 both_ways (same_site a to && same_site b from) t (rw (q.0, q.1, same_here from, same_here to) refl))))
-                (stands a b linked)
+                (represents a b linked)
           ] refl
     ] refl)
 
 -- where the call changes one direction
 pub one_way : {M : Type 0} (tms dms : ℕ) (old new : List (Channel M)) (calls : List (Call M)) (call : Call M) (from to : Site) (f : Link M → Link M)
     → ((a b : Site) (l : Link M) → after_call a b call l ≡ on_link a b from to f l)
-    → ((l : Link M) → (f l).back ≡ l.back) → IsTrue (is_link tms dms from to) → Stands tms dms old calls
+    → ((l : Link M) → (f l).back ≡ l.back) → IsTrue (is_link tms dms from to) → ChannelsRepresent tms dms old calls
     → Fits (slice_get new (index_of tms dms from to)) (f (link from to calls)).there
-    → ((k : ℕ) → k ≢ index_of tms dms from to → slice_get new k ≡ slice_get old k) → Stands tms dms new (call ∷ calls)
-one_way {M = M} tms dms old new calls call from to f is same exists stands there others =
-    step tms dms old new calls call from to f is exists stands there
+    → ((k : ℕ) → k ≢ index_of tms dms from to → slice_get new k ≡ slice_get old k) → ChannelsRepresent tms dms new (call ∷ calls)
+one_way {M = M} tms dms old new calls call from to f is same exists represents there others =
+    step tms dms old new calls call from to f is exists represents there
     (subst (λ w. Fits (slice_get new (index_of tms dms to from)) w) (sym (same (link from to calls)))
     (subst (λ w. Fits (slice_get new (index_of tms dms to from)) w) (back_is tms dms from to calls exists)
     (subst (λ o. Fits o (link to from calls).there) (sym (others (index_of tms dms to from) (λ e. index_apart tms dms from to exists (sym e))))
-    (stands to from (link_back tms dms from to exists)))))
+    (represents to from (link_back tms dms from to exists)))))
     (λ k here back. others k here)

@@ -89,7 +89,7 @@ module _ {M : Type 0} where
         sender = s ∙ h.sender;
         flight = f ∙ h.flight;
         receiver_live = ap (λ x. x.live) r;
-        received = subst (λ x. HasReceived x.value (n ∷ w.arrived) w.sent) (sym r) got.stands;
+        received = subst (λ x. HasReceived x.value (n ∷ w.arrived) w.sent) (sym r) got.represents;
       }
 
   -- something is unacknowledged

@@ -121,7 +121,7 @@ turns_to {M = M} k ns sent ((x, m) ∷ rest) h below = elim (x == k + 1) as (λ 
 
 -- the arrival of message n: the receiver stands for one number more, and hands on what just came to belong to 1 to k
 pub record Receives {M : Type 0} (n : ℕ) (m : M) (arrived : List ℕ) (sent : List M) (r : Receiving M) : Type 0 where
-  pub stands : HasReceived (received n m r) (n ∷ arrived) sent
+  pub represents : HasReceived (received n m r) (n ∷ arrived) sent
   pub handed : handed_on n m r ≡ drop (top arrived) (take (top (n ∷ arrived)) sent)
 
 receives_old : {M : Type 0} (n : ℕ) (m : M) (arrived : List ℕ) (sent : List M) (r : Receiving M)
@@ -132,7 +132,7 @@ receives_old {M = M} n m arrived sent r one old h =
     let same : top (n ∷ arrived) ≡ top arrived = repeated n arrived there in
     let test : nat_le n r.count ≡ true = le-leb n r.count (omega (arith, h.count)) in
     record {
-      stands = record {
+      represents = record {
         count = rw (test, same) h.count;
         early = rw (test, same) (record {
           ascends = h.early.ascends;
@@ -152,7 +152,7 @@ receives_new {M = M} n m arrived sent r new is h =
     turns_to (top arrived) (n ∷ arrived) sent (insert_entry nat_cmp r.early n m) (insert_early (top arrived) arrived sent n m r.early new is h.early)
     (starts n arrived) in
     record {
-      stands = record { count = rw (test, e) t.count; early = rw (test, e) t.waits };
+      represents = record { count = rw (test, e) t.count; early = rw (test, e) t.waits };
       handed = rw (test, e) t.handed;
     }
 
@@ -168,7 +168,7 @@ pub arrival_stands : {M : Type 0} (n : ℕ) (m : M) (old : Receiving M) (new : K
     → HasReceived new.value (n ∷ arrived) sent × (handed ≡ drop (top arrived) (take (top (n ∷ arrived)) sent))
 arrival_stands n m old new handed one e f arrived sent is h =
     let got : Receives n m arrived sent old = receives n m arrived sent old one is h in
-    (subst (λ k. HasReceived k.value (n ∷ arrived) sent) (sym e) got.stands, f ∙ got.handed)
+    (subst (λ k. HasReceived k.value (n ∷ arrived) sent) (sym e) got.represents, f ∙ got.handed)
 
 -- a message that was handed on before changes nothing
 pub old_arrival : {M : Type 0} (n : ℕ) (m : M) (r : Kept (Receiving M)) → IsTrue r.live → n ≤ r.value.count

@@ -1,5 +1,5 @@
 -- What the network tells of all its links is what the definitions say of them.
-use Rattle.sdd_net.proofs.All.{All, All-append, All-cons, All-head, All-map, All-nil, All-same, All-tail, All-weaker, Bool, Call, Channel, D, Deliver, Directions, Event, Fits, IsLiveAt, IsNet, IsTrue, Kept, List, None, Option, PlacedLink, Resend, Site, Some, Stands, StandsFor, T, U, Way, [], ap, are_linked, arith, channel_on, cond, cons_option, deliveries_on, false, filter_map, filter_map-append, flat_map, flat_map-append, get_or, in_flight, in_flight_at, index_of, is_empty, is_link, is_quiet_link, is_site, le-leb, length, link, links, list_all, list_all_at, lt-leb, map, nat_le, nat_lt, placed, quiet, quiet_at, quiet_on, range_with_len, refl, replicate, resend_on, resends_at, resends_now, round, sites, slice_get, subst, suc, sym, take, take_all, take_more, true, zero, ℕ, ◌&&◌, ◌++◌, ◌+◌, ◌-◌, ◌<◌, ◌∙◌, ◌∷◌, ◌≡◌, ◌≤◌}
+use Rattle.sdd_net.proofs.All.{All, All-append, All-cons, All-head, All-map, All-nil, All-same, All-tail, All-weaker, Bool, Call, Channel, ChannelsRepresent, D, Deliver, Directions, Event, Fits, IsLiveAt, IsNet, IsTrue, Kept, List, None, Option, PlacedLink, Represents, Resend, Site, Some, T, U, Way, [], ap, are_linked, arith, channel_on, cond, cons_option, deliveries_on, false, filter_map, filter_map-append, flat_map, flat_map-append, get_or, in_flight, in_flight_at, index_of, is_empty, is_link, is_quiet_link, is_site, le-leb, length, link, links, list_all, list_all_at, lt-leb, map, nat_le, nat_lt, placed, quiet, quiet_at, quiet_on, range_with_len, refl, replicate, resend_on, resends_at, resends_now, round, sites, slice_get, subst, suc, sym, take, take_all, take_more, true, zero, ℕ, ◌&&◌, ◌++◌, ◌+◌, ◌-◌, ◌<◌, ◌∙◌, ◌∷◌, ◌≡◌, ◌≤◌}
 use Rattle.sdd_net.proofs.Matching.{flight_is, unacked_count, not_empty}
 use Rattle.sdd_net.proofs.Directions.{link_back, back_is}
 use Rattle.sdd_net.proofs.Deliveries.{fits_live}
@@ -113,7 +113,7 @@ module _ {M : Type 0} where
 
   -- the channel back stands for the link back
   fits_back : (tms dms : ℕ) (channels : List (Channel M)) (calls : List (Call M)) (a b : Site)
-      → Stands tms dms channels calls → IsTrue (is_link tms dms a b)
+      → ChannelsRepresent tms dms channels calls → IsTrue (is_link tms dms a b)
       → Fits (slice_get channels (index_of tms dms b a)) (link a b calls).back
   fits_back tms dms channels calls a b s h = subst (λ w. Fits (slice_get channels (index_of tms dms b a)) w) (back_is tms dms a b calls h) (s b a (link_back tms dms a b h))
 
@@ -127,7 +127,7 @@ module _ {M : Type 0} where
   abbrev deliveries_due : List (Call M) → Site × Site → List Event
   deliveries_due calls l = replicate (in_flight (link l.0 l.1 calls)) (Deliver l.0 l.1 1)
 
-  module _ (d : Directions M) (calls : List (Call M)) (s : Stands d.tms d.dms d.channels calls) where
+  module _ (d : Directions M) (calls : List (Call M)) (s : ChannelsRepresent d.tms d.dms d.channels calls) where
     quiet_is : list_all (quiet_on d.channels) (all_placed d) ≡ quiet (links d.tms d.dms) calls
     quiet_is =
         list_all_mapped (quiet_on d.channels) (λ l. is_quiet_link (link l.0 l.1 calls)) (placed d.tms d.dms)
@@ -161,7 +161,7 @@ module _ {M : Type 0} where
   abbrev pub IsLiveLink : List (Channel M) → PlacedLink → Type 0
   IsLiveLink channels l = IsLiveAt (slice_get channels l.there) × IsLiveAt (slice_get channels l.back)
 
-  links_live : (d : Directions M) (calls : List (Call M)) → Stands d.tms d.dms d.channels calls
+  links_live : (d : Directions M) (calls : List (Call M)) → ChannelsRepresent d.tms d.dms d.channels calls
       → All (IsLiveLink d.channels) (all_placed d)
   links_live d calls s =
       All-map (IsLiveLink d.channels) (placed d.tms d.dms) (links d.tms d.dms)
@@ -182,7 +182,7 @@ module _ {M : Type 0} where
       → net_of live tms dms channels ≡ net → IsNet tms dms all live channels → IsTrue net.live
       → items ≡ all → k < length items → IsLiveLink net.value.channels (get_or items k l)
   live_at net live tms dms channels items all k l e n h f within =
-      let before = n.stands (live_is net live tms dms channels e h) in
+      let before = n.represents (live_is net live tms dms channels e h) in
       let d = (net_of live tms dms channels).value in
       subst (λ n. IsLiveLink n.value.channels (get_or items k l)) e
       (All-same (IsLiveLink channels) items (all_placed d) (f ∙ n.all_links)
@@ -190,7 +190,7 @@ module _ {M : Type 0} where
 
   pub quiet_all : (net : Kept (Directions M)) (items : List PlacedLink) (k : ℕ) (calls : List (Call M))
       → items ≡ all_placed net.value → length items ≤ k
-      → list_all (quiet_on net.value.channels) (take k items) ≡ true → StandsFor net calls
+      → list_all (quiet_on net.value.channels) (take k items) ≡ true → Represents net calls
       → true ≡ quiet (links net.value.tms net.value.dms) calls
   quiet_all net items k calls e l h s =
       sym (rw (take_all k items l) at h) ∙ ap (list_all (quiet_on net.value.channels)) e
@@ -199,7 +199,7 @@ module _ {M : Type 0} where
   pub quiet_not : (net : Kept (Directions M)) (items : List PlacedLink) (k : ℕ) (d : PlacedLink)
       (calls : List (Call M))
       → items ≡ all_placed net.value → k < length items
-      → quiet_on net.value.channels (get_or items k d) ≡ false → StandsFor net calls
+      → quiet_on net.value.channels (get_or items k d) ≡ false → Represents net calls
       → false ≡ quiet (links net.value.tms net.value.dms) calls
   quiet_not net items k d calls e l h s =
       sym (list_all_at (quiet_on net.value.channels) items k d l h)
@@ -210,7 +210,7 @@ module _ {M : Type 0} where
       → items ≡ all_placed net.value → length items ≤ k
       → resends ≡ filter_map (resend_on net.value.channels) (take k items)
       → deliveries ≡ flat_map (deliveries_on net.value.channels) (take k items)
-      → events ≡ resends ++ deliveries → StandsFor net calls → events ≡ round (links net.value.tms net.value.dms) calls
+      → events ≡ resends ++ deliveries → Represents net calls → events ≡ round (links net.value.tms net.value.dms) calls
   round_all net items k resends deliveries events calls e l f g h s =
       rw (h, f, g, take_all k items l, e, resends_are net.value calls s, deliveries_are net.value calls s) refl
 

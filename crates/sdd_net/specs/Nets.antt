@@ -74,13 +74,13 @@ Fits None w = ⊥
 Fits (Some c) w = Matches c w
 
 -- each direction of the network is what the calls, newest first, made of it
-abbrev pub Stands : {M : Type 0} → ℕ → ℕ → List (Channel M) → List (Call M) → Type 0
-Stands tms dms channels calls =
+abbrev pub ChannelsRepresent : {M : Type 0} → ℕ → ℕ → List (Channel M) → List (Call M) → Type 0
+ChannelsRepresent tms dms channels calls =
     (a b : Site) → IsTrue (is_link tms dms a b)
     → Fits (slice_get channels (index_of tms dms a b)) (link a b calls).there
 
-abbrev pub StandsFor : {M : Type 0} → Kept (Directions M) → List (Call M) → Type 0
-StandsFor net calls = Stands net.value.tms net.value.dms net.value.channels calls
+abbrev pub Represents : {M : Type 0} → Kept (Directions M) → List (Call M) → Type 0
+Represents net calls = ChannelsRepresent net.value.tms net.value.dms net.value.channels calls
 
 -- no call on a channel's parts has answered want of memory
 pub record IsLive {M : Type 0} (c : Channel M) : Type 0 where
@@ -154,14 +154,14 @@ pub record IsNet {M : Type 0} (tms dms : ℕ) (all : List PlacedLink) (live : Bo
   pub few_tms : tms ≤ MAX_TMS
   pub few_dms : dms ≤ MAX_DMS
   pub all_links : all ≡ map (placed tms dms) (links tms dms)
-  pub stands : live ≡ true → (calls : List (Call M)) × Stands tms dms channels calls
+  pub represents : live ≡ true → (calls : List (Call M)) × ChannelsRepresent tms dms channels calls
 
 -- a call was made: the network is live, has the sites that it had, and stands for the calls with it
 pub record Does {M : Type 0} (old new : Kept (Directions M)) (call : Call M) : Type 0 where
   pub live : IsTrue new.live
   pub tms : new.value.tms ≡ old.value.tms
   pub dms : new.value.dms ≡ old.value.dms
-  pub calls : (calls : List (Call M)) → StandsFor old calls → StandsFor new (call ∷ calls)
+  pub calls : (calls : List (Call M)) → Represents old calls → Represents new (call ∷ calls)
 
 -- there is a link from a to b in this network
 abbrev pub HasLink : {M : Type 0} → Kept (Directions M) → Site → Site → Type 0

@@ -2,7 +2,7 @@ ghost use Rattle.std.specs.Prelude.{◌≡◌, ◌↔◌, ◌+◌, ◌-◌, ◌^
 ghost use Rattle.std.specs.List.{filter_map, flat_map};
 ghost use Rattle.sdd_base.specs.Sites.{links};
 ghost use Rattle.sdd_net.specs.Links.{Call, Puts, Delivers, Loses, Repeats, Resends, link, packet_at, delivery, quiet, round};
-ghost use Rattle.sdd_net.specs.Nets.{StandsFor, HasLink, Matches, Does, IsLiveAt, sent_on, unused_channel, quiet_at, resend_on, deliveries_on};
+ghost use Rattle.sdd_net.specs.Nets.{Represents, HasLink, Matches, Does, IsLiveAt, sent_on, unused_channel, quiet_at, resend_on, deliveries_on};
 
 use crate::channel::Channel;
 use crate::channels::{deliver_at, put_at, repeat_at, resend_at, take_at};
@@ -55,7 +55,7 @@ impl<M: Parcel> Net<M> {
         ensures live { IfOk result (λ net. IsTrue net.live) }
         ensures tms { IfOk result (λ net. net.value.tms ≡ tms) }
         ensures dms { IfOk result (λ net. net.value.dms ≡ dms) }
-        ensures unused { IfOk result (λ net. StandsFor net []) }
+        ensures unused { IfOk result (λ net. Represents net []) }
     {
         let pairs = all_links(alloc, tms, dms)?;
         let links = place_all(alloc, tms, dms, &pairs)?;
@@ -89,7 +89,7 @@ impl<M: Parcel> Net<M> {
     pub fn direction(&self, from: Site, to: Site) -> &Channel<M>
         requires live { IsTrue self.now.live }
         requires exists { HasLink self.now from to }
-        ensures calls { (calls : List (Call M)) → StandsFor self.now calls
+        ensures calls { (calls : List (Call M)) → Represents self.now calls
             → Matches result.now (link from to calls).there }
     {
         let channel = &self.channels[index_of(self.tms, self.dms, from, to)];
@@ -101,7 +101,7 @@ impl<M: Parcel> Net<M> {
         requires live { IsTrue self.now.live }
         requires exists { HasLink self.now from to }
         ensures count { result ≡ sent_on self.now.value from to }
-        ensures calls { (calls : List (Call M)) → StandsFor self.now calls
+        ensures calls { (calls : List (Call M)) → Represents self.now calls
             → result ≡ length (link from to calls).there.sent }
     {
         let channel = &self.channels[index_of(self.tms, self.dms, from, to)];
@@ -135,7 +135,7 @@ impl<M: Parcel> Net<M> {
         requires exists { HasLink self.old from to }
         requires place { 1 ≤ place }
         ensures given { IfOk result (λ given.
-            (calls : List (Call M)) → StandsFor self.old calls
+            (calls : List (Call M)) → Represents self.old calls
             → given ≡ delivery place (link from to calls)) }
         ensures ok { OnOk result (Does self.old self.new (Delivers from to place)) }
         ensures err { OnErr result (self.new.live ≡ false) }
@@ -156,7 +156,7 @@ impl<M: Parcel> Net<M> {
         requires live { IsTrue self.old.live }
         requires exists { HasLink self.old from to }
         requires place { 1 ≤ place }
-        ensures there { (calls : List (Call M)) → StandsFor self.old calls
+        ensures there { (calls : List (Call M)) → Represents self.old calls
             → result ≡ is_some (packet_at place (link from to calls)) }
         ensures ok { Does self.old self.new (Loses from to place) }
     {
@@ -173,7 +173,7 @@ impl<M: Parcel> Net<M> {
         requires exists { HasLink self.old from to }
         requires place { 1 ≤ place }
         ensures there { IfOk result (λ there.
-            (calls : List (Call M)) → StandsFor self.old calls
+            (calls : List (Call M)) → Represents self.old calls
             → there ≡ is_some (packet_at place (link from to calls))) }
         ensures ok { OnOk result (Does self.old self.new (Repeats from to place)) }
         ensures err { OnErr result (self.new.live ≡ false) }
@@ -193,7 +193,7 @@ impl<M: Parcel> Net<M> {
         requires live { IsTrue self.old.live }
         requires exists { HasLink self.old from to }
         ensures some { IfOk result (λ some.
-            (calls : List (Call M)) → StandsFor self.old calls
+            (calls : List (Call M)) → Represents self.old calls
             → some ≡ nat_lt (link from to calls).there.acked
             (length (link from to calls).there.sent)) }
         ensures ok { OnOk result (Does self.old self.new (Resends from to)) }
@@ -211,7 +211,7 @@ impl<M: Parcel> Net<M> {
     /// Takes no memory, and constant time for each link.
     pub fn quiet(&self) -> bool
         requires { IsTrue self.now.live }
-        ensures { (calls : List (Call M)) → StandsFor self.now calls
+        ensures { (calls : List (Call M)) → Represents self.now calls
             → result ≡ quiet (links self.now.value.tms self.now.value.dms) calls }
     {
         for link in &self.links {
@@ -231,7 +231,7 @@ impl<M: Parcel> Net<M> {
     pub fn round(&self) -> Result<Vec<Event>, NoMemory>
         requires { IsTrue self.now.live }
         ensures { IfOk result (λ events.
-            (calls : List (Call M)) → StandsFor self.now calls
+            (calls : List (Call M)) → Represents self.now calls
             → events.items ≡ round (links self.now.value.tms self.now.value.dms) calls) }
     {
         let mut resends = Vec::new(self.alloc);

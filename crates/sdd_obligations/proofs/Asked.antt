@@ -1,7 +1,7 @@
 -- Along the log of the site of a class the questions of the active attempt are those of its phase.
 use Rattle.sdd_obligations.proofs.All.{Act, AllByRecursion, Asks, AsksPhase, Attempt, Bases, D, Did, DmNo, Each, Handed, IsFair, IsStep, List, Msg, None, Option, Queued, Redeclared, Reject, Sends, Setting, Silent, Site, Some, Submits, T, Ticked, Turn, U, [], active, active_handed, active_sent, after_hand, after_send, and_no, ap, asked, asked_by, asks_rows, commit_act, commit_puts, cond, dm_no, false, head_of, if◌then◌else◌, inl, inr, is_a_read, is_a_refusal, is_answer, is_question, next_stamp, question_of, questions, queue, refl, rejects, same_number, same_or_not, same_site, sends_of_act, stamp_below_next, start_at, start_puts, start_read, started, step_way, subst, sym, tail_of, to_site, told, true, turn_at, uses_by, uses_in, ℕ, ◌&&◌, ◌==◌, ◌∙◌, ◌∷◌, ◌≡◌, ◌⊎◌}
 use Rattle.sdd_obligations.proofs.Asking.{in_turn, send_is_question, one_attempt as one_active, and_true}
-use Rattle.sdd_obligations.proofs.AtTurn.{StandsAt, hand_not}
+use Rattle.sdd_obligations.proofs.AtTurn.{IsAtTurn, hand_not}
 use Rattle.sdd_obligations.proofs.FirstSends.{IsFirstEach, IsFirstSend}
 use Rattle.sdd_obligations.proofs.Hearing.{AtTurn, InTurn, IsTimely, asked_one, told_one}
 use Rattle.sdd_obligations.proofs.Questions.{after_answer, hand_asks}
@@ -19,8 +19,8 @@ same_turns c log more (Some a) e h = subst (AsksPhase a.ts c a.exchange) (λ i d
 
 -- a hand from a module
 
-stands_of : (s : Setting) (c : ℕ) (log : Log) (a : Attempt) → InTurn s c log → active s c log ≡ Some a → (d : ℕ) → StandsAt d a.exchange (turn_at a.ts c d log)
-stands_of s c log a h e d = (subst (λ o. AtTurn a.ts d o (turn_at a.ts c d log)) e (h.turns a.ts d)).0 refl
+at_turn_of : (s : Setting) (c : ℕ) (log : Log) (a : Attempt) → InTurn s c log → active s c log ≡ Some a → (d : ℕ) → IsAtTurn d a.exchange (turn_at a.ts c d log)
+at_turn_of s c log a h e d = (subst (λ o. AtTurn a.ts d o (turn_at a.ts c d log)) e (h.turns a.ts d)).0 refl
 
 not_refusal : (ts c : ℕ) (m : Msg) → is_answer ts c m ≡ true → rejects m ts c ≡ false → is_a_refusal m ≡ false
 not_refusal ts c (Reject t k b write) e f = never (is_answer ts c (Reject t k b write)) e f
@@ -42,7 +42,7 @@ hand_phase s c log n m (Some a) e turns timely h =
             ∙ ap (λ b. if (d == n.0) && b then told m (v d) else v d) own ∙ and_true (d ==
             n.0) (told m (v d)) (v d) in
             subst (AsksPhase a.ts c (after_hand a.ts c n.0 m a.exchange)) (λ i d. sym (now d) i)
-            (hand_asks a.ts c n.0 m v a.exchange own (not_refusal a.ts c m own r) (stands_of s c log a turns e) (timely a.ts n.0 refl own) h)
+            (hand_asks a.ts c n.0 m v a.exchange own (not_refusal a.ts c m own r) (at_turn_of s c log a turns e) (timely a.ts n.0 refl own) h)
         | false ↦ λ own.
             let now : (d : ℕ) → w d ≡ v d = λ d. told_one a.ts c (d == n.0) m (v d) ∙ ap (λ b. if (d == n.0) && b then told m (v d) else v d) own
             ∙ ap (λ b. if b then told m (v d) else v d) (and_no (d == n.0)) in

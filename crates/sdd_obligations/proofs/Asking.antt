@@ -1,6 +1,6 @@
 -- A site that makes attempts asks in turn, where each answer that is handed to it comes in turn.
 use Rattle.sdd_obligations.proofs.All.{Act, Asks, Attempt, Bases, Bool, D, Did, Each, Fetch, Handed, IsFair, IsOfUses, IsSend, IsStep, IsStrict, List, MayAsk, Msg, None, Option, Phase, Queued, Read, Reading, Redeclared, Reduce, Sends, Setting, Ship, Silent, Site, Some, Submits, Ticked, Turn, [], a_held, a_hold, a_null, a_release, active, active_sent, after_send, and_left, and_no, ap, arith, ascending, asked, asked_by, asks_rows, asks_whose, begins, commit_act, commit_puts, cond, contains, differ, dm_no, drawn_at, eqb-true, false, first_phase, fragments_in, head_of, if_way, if◌then◌else◌, inl, inr, is_a_read, is_exchanging, is_over, is_question, last_stamp, modules_asked, next_stamp, not_both, not_true as asks_not, number_of, of_exchange, questions, queue, refl, same_number, same_or_not, same_site, sends_of_act, site_is, stamp_below_next, stamp_rises, start_at, start_read, started, step_way_over, strict_modules, subst, sym, tail_of, to_site, true, turn_at, uses_by, uses_in, uses_of, ℕ, ◌&&◌, ◌<◌, ◌==◌, ◌∙◌, ◌∷◌, ◌≡◌, ◌⊎◌}
-use Rattle.sdd_obligations.proofs.AtTurn.{IsAt, StandsAt, answered_last, apart, awaited, awaits, unsent}
+use Rattle.sdd_obligations.proofs.AtTurn.{IsAt, IsAtTurn, answered_last, apart, awaited, awaits, unsent}
 use Rattle.sdd_obligations.proofs.FirstSends.{IsFirstEach, IsFirstSend}
 use Rattle.sdd_obligations.proofs.Modules.{firsts, read_firsts, read_modules, read_uses, sent_to_each, to_module, below_not as not_below}
 use Rattle.sdd_obligations.proofs.Hearing.{AllAtTurn, AtTurn, InTurn, IsStrictOf, IsTimely, Turns, asked_one, in_turn_hand, quiet_but, quiet_over, turns_now}
@@ -73,7 +73,7 @@ and_true false x y = refl
 
 asked_own : (s : Setting) (c : ℕ) (log : Log) (to : Site) (m : Msg) (hand : Option ℕ) (a : Attempt) (v : Turns) (ts d : ℕ)
     → IsFirstSend s log (Sends to m hand) → active s c log ≡ Some a → AllAtTurn (Some a) v → asks_rows a.ts c m ≡ true
-    → StandsAt d (after_send a.exchange) (after_question c to m v a.ts d)
+    → IsAtTurn d (after_send a.exchange) (after_question c to m v a.ts d)
 asked_own s c log to m hand a v ts d first e h q =
     let f = first a.ts c q in
     let same : f.attempt ≡ a = one_attempt s c log a f.attempt e f.active_is in
@@ -100,7 +100,7 @@ sent_turns s c log to m hand (Some a) v first i h =
     → AllAtTurn (if b then Some (record a { exchange = after_send a.exchange }) else Some a)
     (after_question c to m v)) [
       | true ↦ λ q ts d. (
-        λ p. subst (λ t. StandsAt d (after_send a.exchange) (after_question c to m v t d)) p (asked_own s c log to m hand a v a.ts d first i h q),
+        λ p. subst (λ t. IsAtTurn d (after_send a.exchange) (after_question c to m v t d)) p (asked_own s c log to m hand a v a.ts d first i h q),
         λ p. (let r : asks_rows ts c m ≡ false = asks_not (asks_rows ts c m) (λ e. differ a.ts ts p (asks_whose a.ts c ts c m q e).0) in
             subst (λ w. is_exchanging w ≡ false) (sym (not_asked_turn c to m v ts d r)) ((h ts d).1 p)),
       )
@@ -171,7 +171,7 @@ abbrev start_numbers : Setting → ℕ → Log → Queued → ℕ → List ℕ
 start_numbers s k log q d = uses_by (start_read s k log q d) []
 
 start_stands : (s : Setting) (k : ℕ) (log : Log) (q : Queued) (d : ℕ) (v : Turns) → v (next_stamp s log) d ≡ Silent
-    → StandsAt d (begins q.text (sends_of_act (start_at s k log q))) (after_start s k log q k v (next_stamp s log) d)
+    → IsAtTurn d (begins q.text (sends_of_act (start_at s k log q))) (after_start s k log q k v (next_stamp s log) d)
 start_stands s k log q d v e =
     let n : ℕ = next_stamp s log in
     let ds : List ℕ = modules_asked s k q.text in
@@ -180,7 +180,7 @@ start_stands s k log q d v e =
     let all : firsts ms ≡ ds = read_firsts f (start_numbers s k log q) ds (λ x. refl) in
     let own : after_start s k log q k v n d ≡ (if contains ds d then asked (f d) (v n d) else v n d) =
     ap (λ (b : Bool). if contains ds d && b then asked (f d) (v n d) else v n d) (own_started n k) ∙ and_true (contains ds d) (asked (f d) (v n d)) (v n d) in
-    elim (contains ds d) as (λ b. contains ds d ≡ b → StandsAt d (begins q.text (sends_of_act (start_at s k log q))) (after_start s k log q k v n d)) [
+    elim (contains ds d) as (λ b. contains ds d ≡ b → IsAtTurn d (begins q.text (sends_of_act (start_at s k log q))) (after_start s k log q k v n d)) [
       | true ↦ λ b.
           let here : contains (firsts ms) d ≡ true = ap (λ l. contains l d) all ∙ b in
           awaited (f d) (start_numbers s k log q d) refl here (own ∙ ap (λ (x : Bool). if x then asked (f d) (v n d) else v n d) b)
@@ -194,7 +194,7 @@ start_stands s k log q d v e =
 start_turns : (s : Setting) (k : ℕ) (log : Log) (q : Queued) (v : Turns) → ((d : ℕ) → v (next_stamp s log) d ≡ Silent) → AllAtTurn None v
     → AllAtTurn (started (next_stamp s log) (sends_of_act (start_at s k log q)) (Some q)) (after_start s k log q k v)
 start_turns s k log q v e h ts d = (
-  λ p. subst (λ t. StandsAt d (begins q.text (sends_of_act (start_at s k log q))) (after_start s k log q k v t d)) p (start_stands s k log q d v (e d)),
+  λ p. subst (λ t. IsAtTurn d (begins q.text (sends_of_act (start_at s k log q))) (after_start s k log q k v t d)) p (start_stands s k log q d v (e d)),
   λ p. (let r : ((next_stamp s log == ts) && (k == k)) ≡ false = rw p refl in
       subst (λ w. is_exchanging w ≡ false) (sym (not_started_turn s k log q k ts d v r)) (h ts d)),
 )

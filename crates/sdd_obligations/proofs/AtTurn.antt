@@ -37,8 +37,8 @@ pub data IsAt (d : ℕ) (ms : List (ℕ × List ℕ)) (p : Phase) (sends : List 
       → (is_a_ship q ≡ false) ⊎ (is_last p ≡ true) → uses_at ms d ≡ ns → contains (firsts ms) d ≡ true → IsAt d ms p sends lacks v
   apart : to_module d sends ≡ [] → contains lacks d ≡ false → v ≡ Silent → contains (firsts ms) d ≡ false → IsAt d ms p sends lacks v
 
-abbrev pub StandsAt : ℕ → Exchange → Turn → Type 0
-StandsAt d x v = IsAt d x.modules x.phase x.to_send x.lacks v
+abbrev pub IsAtTurn : ℕ → Exchange → Turn → Type 0
+IsAtTurn d x v = IsAt d x.modules x.phase x.to_send x.lacks v
 
 -- nothing is under way with the module
 pub data IsIdle (d : ℕ) (ms : List (ℕ × List ℕ)) (v : Turn) : Type 0 where
@@ -75,27 +75,27 @@ ask_all d ms p m ds v h w f (unread e g) =
 
 -- the next phase
 
-to_reduce : (ts c d : ℕ) (m : Move) (x : Exchange) (v : Turn) → IsStrict (firsts x.modules) → IsIdle d x.modules v → StandsAt d (reduces ts c m x) v
+to_reduce : (ts c d : ℕ) (m : Move) (x : Exchange) (v : Turn) → IsStrict (firsts x.modules) → IsIdle d x.modules v → IsAtTurn d (reduces ts c m x) v
 to_reduce ts c d m x v h i =
     ask_all d x.modules (Reducing m) (Reduce (time_at ts) (class_no c) m.target.part m.target.column x.union) (with_use x m.target.part) v
     (reading_ascends x.modules m.target.part h) (same_number m.target.part) (λ e. reading_reads x.modules m.target.part d e) i
 
 to_fetch_from : (ts c d : ℕ) (m : Move) (x : Exchange) (ds : List ℕ) (v : Turn) → with_use x m.source.part ≡ ds
-    → IsStrict (firsts x.modules) → IsIdle d x.modules v → StandsAt d (fetches_from ts c m x ds) v
+    → IsStrict (firsts x.modules) → IsIdle d x.modules v → IsAtTurn d (fetches_from ts c m x ds) v
 to_fetch_from ts c d m x [] v e h i = to_reduce ts c d m (record x { union = [] }) v h i
 to_fetch_from ts c d m x (y ∷ ds) v e h i =
     ask_all d x.modules (Fetching m) (Fetch (time_at ts) (class_no c) m.source.part m.source.column) (y ∷ ds) v
     (subst IsStrict e (reading_ascends x.modules m.source.part h)) (same_number m.source.part)
     (λ b. reading_reads x.modules m.source.part d (subst (λ l. contains l d ≡ true) (sym e) b)) i
 
-to_ship : (ts c d : ℕ) (x : Exchange) (v : Turn) → IsStrict (firsts x.modules) → IsIdle d x.modules v → StandsAt d (ships ts c x) v
+to_ship : (ts c d : ℕ) (x : Exchange) (v : Turn) → IsStrict (firsts x.modules) → IsIdle d x.modules v → IsAtTurn d (ships ts c x) v
 to_ship ts c d x v h i = ask_all d x.modules Shipping (Ship (time_at ts) (class_no c)) (firsts x.modules) v h refl (λ e. (e, tt)) i
 
 to_next : (ts c d : ℕ) (x : Exchange) (qs : List Asking) (done : List Step) (v : Turn) → IsStrict (firsts x.modules)
-    → IsIdle d x.modules v → StandsAt d (goes_on ts c x qs done) v
+    → IsIdle d x.modules v → IsAtTurn d (goes_on ts c x qs done) v
 to_next ts c d x [] done v h i = to_ship ts c d x v h i
 to_next ts c d x (q ∷ rest) done v h i =
-    elim (next_move q.conds (counts_for x.counts q) done) as (λ o. StandsAt d
+    elim (next_move q.conds (counts_for x.counts q) done) as (λ o. IsAtTurn d
     (elim o as (λ _. Exchange) [
       | None ↦ goes_on ts c x rest []
       | Some m ↦ fetches ts c (move_at q.before m) (record x { left = q ∷ rest; done = done ++ m.step ∷ [] })
@@ -115,7 +115,7 @@ over_at d ms sends lacks v z (answered_last q ns a b e s f g) = answered_last q 
 over_at d ms sends lacks v z (apart a b e g) = apart a b e g
 
 ended_at : (ts c d : ℕ) (x : Exchange) (p : Phase) (v : Turn) → IsStrict (firsts x.modules) → x.lacks ≡ []
-    → IsAt d x.modules p x.to_send x.lacks v → x.phase ≡ p → StandsAt d (phase_ends ts c x p) v
+    → IsAt d x.modules p x.to_send x.lacks v → x.phase ≡ p → IsAtTurn d (phase_ends ts c x p) v
 ended_at ts c d x Reading v h z i e = to_next ts c d x x.left x.done v h (idle_of d x.modules Reading x.to_send x.lacks v z refl i)
 ended_at ts c d x (Fetching m) v h z i e = to_reduce ts c d m x v h (idle_of d x.modules (Fetching m) x.to_send x.lacks v z refl i)
 ended_at ts c d x (Reducing m) v h z i e = to_next ts c d x x.left x.done v h (idle_of d x.modules (Reducing m) x.to_send x.lacks v z refl i)
@@ -169,21 +169,21 @@ less_at n d ms p sends lacks v w (inr r) (answered_last q ns a b e s f g) = answ
 less_at n d ms p sends lacks v w (inr r) (apart a b e g) = apart a (without_other lacks n d r.0 ∙ b) (r.1 ∙ e) g
 
 lacking_at : (ts c d : ℕ) (x : Exchange) (ds : List ℕ) (w : Turn) → IsStrict (firsts x.modules)
-    → IsAt d x.modules x.phase x.to_send ds w → StandsAt d (lacking ts c x ds) w
+    → IsAt d x.modules x.phase x.to_send ds w → IsAtTurn d (lacking ts c x ds) w
 lacking_at ts c d x [] w h i = ended_at ts c d (record x { lacks = [] }) x.phase w h refl i refl
 lacking_at ts c d x (y ∷ ds) w h i = i
 
-answered_at : (ts c n d : ℕ) (x : Exchange) (v w : Turn) → IsStrict (firsts x.modules) → IsNext n d v w → StandsAt d x v → StandsAt d (answered ts c n x) w
+answered_at : (ts c n d : ℕ) (x : Exchange) (v w : Turn) → IsStrict (firsts x.modules) → IsNext n d v w → IsAtTurn d x v → IsAtTurn d (answered ts c n x) w
 answered_at ts c n d x v w h r i = lacking_at ts c d x (without x.lacks n) w h (less_at n d x.modules x.phase x.to_send x.lacks v w r i)
 
 answered_if : (ts c n d : ℕ) (b : Bool) (x y : Exchange) (v w : Turn) → b ≡ true → IsStrict (firsts y.modules) → IsNext n d v w
-    → StandsAt d y v → StandsAt d (if b then answered ts c n y else x) w
+    → IsAtTurn d y v → IsAtTurn d (if b then answered ts c n y else x) w
 answered_if ts c n d true x y v w e h r i = answered_at ts c n d y v w h r i
 answered_if ts c n d false x y v w e h r i = cc
 
 -- an answer of module n to the attempt, other than a rejection
 pub hand_at : (ts c n d : ℕ) (x : Exchange) (v w : Turn) (m : Msg) → IsStrict (firsts x.modules) → is_answer ts c m ≡ true
-    → is_a_refusal m ≡ false → IsNext n d v w → StandsAt d x v → StandsAt d (after_hand ts c n m x) w
+    → is_a_refusal m ≡ false → IsNext n d v w → IsAtTurn d x v → IsAtTurn d (after_hand ts c n m x) w
 hand_at ts c n d x v w (Ready t k counts) h e f r i =
     answered_if ts c n d ((t.0 == ts) && (k.0 == c)) x (record x { counts = counted n counts x.counts }) v w e h r i
 hand_at ts c n d x v w (Values t k u vs) h e f r i =

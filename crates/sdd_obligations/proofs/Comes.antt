@@ -83,9 +83,9 @@ questions_are_servable g log a d n (Ship t k) h few = (for_held g log a d n (Shi
 questions_are_servable g log a d n m h few = tt
 
 -- a question that is next to be handed over is the one of its site's turn
-pub question_stands : (g : Input) (c : ℕ) (log : all.Log) (d : DmNo) (n : ℕ) (m : Msg) (ts : ℕ) → IsPermitted g log → number_of (home g.catalogue c) ≤ 63
+pub next_question_is : (g : Input) (c : ℕ) (log : all.Log) (d : DmNo) (n : ℕ) (m : Msg) (ts : ℕ) → IsPermitted g log → number_of (home g.catalogue c) ≤ 63
     → IsAllowed g log (Hand (home g.catalogue c) (D d) n m) → is_question ts c m ≡ true → (ns : List ℕ) × (turn_at ts c d.0 (home_log g c log) ≡ Asks ns m)
-question_stands g c log d n m ts h few i q =
+next_question_is g c log d n m ts h few i q =
     let f = first_in_flight g log (home g.catalogue c) (D d) n m i in (
       _,
       question_flies _ _ _ _ m (questions ts c f.0) (first_of_kind (is_question ts c)
@@ -93,7 +93,7 @@ question_stands g c log d n m ts h few i q =
     )
 
 -- an answer that is next to be handed over answers the question of its site's turn, and is the last of its module
-pub record IsStanding (g : Input) (c : ℕ) (log : all.Log) (d : DmNo) (x : Msg) (ts : ℕ) : Type 0 where
+pub record IsNextAnswer (g : Input) (c : ℕ) (log : all.Log) (d : DmNo) (x : Msg) (ts : ℕ) : Type 0 where
   pub uses : List ℕ
   pub question : Msg
   pub asks : turn_at ts c d.0 (home_log g c log) ≡ Asks uses question
@@ -101,9 +101,9 @@ pub record IsStanding (g : Input) (c : ℕ) (log : all.Log) (d : DmNo) (x : Msg)
   pub tells : turn_with ts c (home g.catalogue c) (data_log g d.0 log) ≡ told x (Asks uses question)
   pub alone : answers ts c (flight g (D d) (home g.catalogue c) log) ≡ x ∷ []
 
-pub answer_stands : (g : Input) (c : ℕ) (log : all.Log) (d : DmNo) (n : ℕ) (x : Msg) (ts : ℕ) → IsPermitted g log → number_of (home g.catalogue c) ≤ 63
-    → IsAllowed g log (Hand (D d) (home g.catalogue c) n x) → is_answer ts c x ≡ true → IsStanding g c log d x ts
-answer_stands g c log d n x ts h few i a =
+pub next_answer_is : (g : Input) (c : ℕ) (log : all.Log) (d : DmNo) (n : ℕ) (x : Msg) (ts : ℕ) → IsPermitted g log → number_of (home g.catalogue c) ≤ 63
+    → IsAllowed g log (Hand (D d) (home g.catalogue c) n x) → is_answer ts c x ≡ true → IsNextAnswer g c log d x ts
+next_answer_is g c log d n x ts h few i a =
     let k = spoken g c log h few in
     let by = answers_asked (turn_at ts c d.0 (home_log g c log)) x (answer_in_turn g c log d.0 n x ts k i a) in
     let f = first_in_flight g log (D d) (home g.catalogue c) n x i in

@@ -11,8 +11,8 @@ all_gathered P f [] h = tt
 all_gathered P f (x ∷ xs) h = all_joined P (f x) (flat_map f xs) (h x) (all_gathered P f xs h)
 
 -- the change that stands at a key is one of the changes, and of that key
-abbrev Stands : Catalogue → ℕ → ℤ → ℕ × Change → Type 0
-Stands cat f k x = IsItemChange cat x.1 × (x.1.frag.0 ≡ f) × (x.1.key ≡ k)
+abbrev IsChangeOf : Catalogue → ℕ → ℤ → ℕ × Change → Type 0
+IsChangeOf cat f k x = IsItemChange cat x.1 × (x.1.frag.0 ≡ f) × (x.1.key ≡ k)
 
 abbrev IsOf : Catalogue → ℕ → ℕ × Change → Type 0
 IsOf cat f x = IsItemChange cat x.1 × (x.1.frag.0 ≡ f)
@@ -23,13 +23,13 @@ one_of_two P y None x here rest e = let p : y ≡ x = cc in subst P p here
 one_of_two P y (Some z) x here rest e =
     elim (nat_lt y.0 z.0) as (λ b. cond b (Some z) (Some y) ≡ Some x → P x) [ true ↦ λ q. rest x q | false ↦ λ q. let p : y ≡ x = cc in subst P p here ] e
 
-latest_stands : (cat : Catalogue) (f : ℕ) (k : ℤ) (xs : Dated) → AllByRecursion (IsOf cat f) xs → (x : ℕ × Change) → latest k xs ≡ Some x → Stands cat f k x
+latest_stands : (cat : Catalogue) (f : ℕ) (k : ℤ) (xs : Dated) → AllByRecursion (IsOf cat f) xs → (x : ℕ × Change) → latest k xs ≡ Some x → IsChangeOf cat f k x
 latest_stands cat f k [] all x e = cc
 latest_stands cat f k (y ∷ ys) all x e =
-    elim (is_eq (int_cmp y.1.key k)) as (λ b. is_eq (int_cmp y.1.key k) ≡ b → (if b then newer y (latest k ys) else latest k ys) ≡ Some x → Stands cat f k x) [
+    elim (is_eq (int_cmp y.1.key k)) as (λ b. is_eq (int_cmp y.1.key k) ≡ b → (if b then newer y (latest k ys) else latest k ys) ≡ Some x → IsChangeOf cat f k x) [
       | true ↦ λ own q.
           let same : y.1.key ≡ k = same_key y.1.key k (eq_is (int_cmp y.1.key k) own) in
-          one_of_two (Stands cat f k) y (latest k ys) x (all.0.0, all.0.1, same) (λ z p. latest_stands cat f k ys all.1 z p) q
+          one_of_two (IsChangeOf cat f k) y (latest k ys) x (all.0.0, all.0.1, same) (λ z p. latest_stands cat f k ys all.1 z p) q
       | false ↦ λ own q. latest_stands cat f k ys all.1 x q
     ] refl e
 
@@ -47,22 +47,22 @@ abbrev entry_at : Catalogue → ℕ → ℤ × Row → Item × Row
 entry_at cat f e = (((fragment_at cat f).rel.0, e.0), e.1)
 
 row_is_entry : (cat : Catalogue) → IsSound cat → (f : ℕ) (k : ℤ) (x : ℕ × Change) (row : Row)
-    → Stands cat f k x → x.1.row ≡ Some row → IsEntry cat (entry_at cat f (k, row))
-row_is_entry cat sound f k x row stands e =
+    → IsChangeOf cat f k x → x.1.row ≡ Some row → IsEntry cat (entry_at cat f (k, row))
+row_is_entry cat sound f k x row change e =
     let c : Change = x.1 in
-    let h : IsChange cat ((c.frag.0, c.key), c.row) = stands.0 in
+    let h : IsChange cat ((c.frag.0, c.key), c.row) = change.0 in
     let rel : h.rel ≡ (fragment_at cat f).rel.0 =
-    sym (entry_placed cat sound h.rel c.key h.there h.held) ∙ ap (λ n. (fragment_at cat n).rel.0) (sym h.frag ∙ stands.1) in
+    sym (entry_placed cat sound h.rel c.key h.there h.held) ∙ ap (λ n. (fragment_at cat n).rel.0) (sym h.frag ∙ change.1) in
     let has : HasRow cat h.rel c.key (Some row) = subst (HasRow cat h.rel c.key) e h.row in
     record {
       relation = subst (IsRelation cat) rel h.there;
       row = subst (λ r. FitsRow cat r row) rel has.0;
-      key = sym stands.2 ∙ has.1 ∙ ap (λ r. key_in cat r row) rel;
-      key_held = subst (λ n. in_range n ≡ true) stands.2 h.held;
+      key = sym change.2 ∙ has.1 ∙ ap (λ r. key_in cat r row) rel;
+      key_held = subst (λ n. in_range n ≡ true) change.2 h.held;
     }
 
 one_more : (cat : Catalogue) → IsSound cat → (f : ℕ) (k : ℤ) (o : Option (ℕ × Change))
-    (rest : List (ℤ × Row)) → ((x : ℕ × Change) → o ≡ Some x → Stands cat f k x)
+    (rest : List (ℤ × Row)) → ((x : ℕ × Change) → o ≡ Some x → IsChangeOf cat f k x)
     → AllByRecursion (IsEntry cat) (map (entry_at cat f) rest) → AllByRecursion (IsEntry cat) (map (entry_at cat f) (cons_option (row_left k o) rest))
 one_more cat sound f k None rest h all = all
 one_more cat sound f k (Some x) rest h all =

@@ -1,6 +1,6 @@
 -- An answer that is handed in turn to a site that makes attempts keeps its turns.
 use Rattle.sdd_obligations.proofs.All.{Asks, Attempt, Bool, D, Did, Exchange, Fetch, Fetching, Handed, IsStrict, List, MayAnswer, Msg, None, Option, Over, Phase, Read, Reading, Redeclared, Reduce, Reducing, Refused, Reject, Replies, RepliesToFetch, RepliesToReduce, RepliesToShip, Setting, Ship, Shipping, Silent, Site, Some, Submits, T, Ticked, Told, Turn, U, [], active, active_handed, after_hand, and_no, answers, ap, arith, asked, asked_by, cond, contains, dm_no, false, hand_goes, if_way, if◌then◌else◌, inl, inr, is_a_read, is_a_refusal, is_a_ship, is_answer, is_exchanging, is_over, is_question, is_reading, last_stamp, not, questions, refl, rejects, same_number, same_or_not, stamp_rises, subst, sym, told, told_by, true, turn_at, uses_at, ℕ, ◌&&◌, ◌<◌, ◌==◌, ◌∙◌, ◌∷◌, ◌≡◌}
-use Rattle.sdd_obligations.proofs.AtTurn.{IsNext, StandsAt, answered_last, apart, awaited, awaits, hand_at, hand_not, is_fetch_of, is_reduce_of, silent_not_asks, told_not_asks, unsent, read_no_ship}
+use Rattle.sdd_obligations.proofs.AtTurn.{IsNext, IsAtTurn, answered_last, apart, awaited, awaits, hand_at, hand_not, is_fetch_of, is_reduce_of, silent_not_asks, told_not_asks, unsent, read_no_ship}
 use Rattle.sdd_obligations.proofs.Modules.{firsts}
 use Rattle.sdd_obligations.proofs.InStep.{never}
 use Rattle.sdd_invariants.specs.site_module.SiteLog.{Entry, Log}
@@ -8,7 +8,7 @@ use Rattle.sdd_invariants.specs.site_module.SiteLog.{Entry, Log}
 -- the turn of an attempt with timestamp ts at module d, where this is the active attempt of its class
 abbrev pub AtTurn : ℕ → ℕ → Option Attempt → Turn → Type 0
 AtTurn ts d None v = is_exchanging v ≡ false
-AtTurn ts d (Some a) v = (a.ts ≡ ts → StandsAt d a.exchange v) × ((a.ts == ts) ≡ false → is_exchanging v ≡ false)
+AtTurn ts d (Some a) v = (a.ts ≡ ts → IsAtTurn d a.exchange v) × ((a.ts == ts) ≡ false → is_exchanging v ≡ false)
 
 abbrev pub IsStrictOf : Option Attempt → Type 0
 IsStrictOf None = Unit {0}
@@ -113,7 +113,7 @@ pub record IsAwaited (d : ℕ) (x : Exchange) (ns : List ℕ) (q : Msg) : Type 0
   pub lacks : contains x.lacks d ≡ true
   pub uses : uses_at x.modules d ≡ ns
 
-pub is_awaited : (d : ℕ) (x : Exchange) (v : Turn) (ns : List ℕ) (q : Msg) → StandsAt d x v → v ≡ Asks ns q → IsAwaited d x ns q
+pub is_awaited : (d : ℕ) (x : Exchange) (v : Turn) (ns : List ℕ) (q : Msg) → IsAtTurn d x v → v ≡ Asks ns q → IsAwaited d x ns q
 is_awaited d x v ns q (unsent m r ms a b e s u w f g) z = told_not_asks v ms ns r q e z
 is_awaited d x v ns q (awaited m ms a b e w f g) z =
     let both : Asks ms m ≡ Asks ns q = sym e ∙ z in
@@ -124,13 +124,13 @@ is_awaited d x v ns q (answered_last r ms a b e s f g) z = told_not_asks v ms ns
 is_awaited d x v ns q (apart a b e g) z = silent_not_asks v ns q e z
 
 -- while READs are awaited, and once all is over, no rows are
-quiet_reading : (d : ℕ) (x : Exchange) (v : Turn) → is_reading x.phase ≡ true → StandsAt d x v → is_exchanging v ≡ false
+quiet_reading : (d : ℕ) (x : Exchange) (v : Turn) → is_reading x.phase ≡ true → IsAtTurn d x v → is_exchanging v ≡ false
 quiet_reading d x v r (unsent m q ms a b e s u w f g) = ap is_exchanging e
 quiet_reading d x v r (awaited m ms a b e w f g) = ap is_exchanging e ∙ ap not (reading_awaits x.phase m r w)
 quiet_reading d x v r (answered_last q ms a b e s f g) = ap is_exchanging e
 quiet_reading d x v r (apart a b e g) = ap is_exchanging e
 
-pub quiet_over : (d : ℕ) (x : Exchange) (v : Turn) → is_over x.phase ≡ true → StandsAt d x v → is_exchanging v ≡ false
+pub quiet_over : (d : ℕ) (x : Exchange) (v : Turn) → is_over x.phase ≡ true → IsAtTurn d x v → is_exchanging v ≡ false
 quiet_over d x v r (unsent m q ms a b e s u w f g) = ap is_exchanging e
 quiet_over d x v r (awaited m ms a b e w f g) = over_awaits x.phase m r w
 quiet_over d x v r (answered_last q ms a b e s f g) = ap is_exchanging e
@@ -156,7 +156,7 @@ not_refused : (m : Msg) (ts c : ℕ) → is_answer ts c m ≡ true → rejects m
 not_refused (Reject t k by w) ts c e f = never (is_answer ts c (Reject t k by w)) e f
 not_refused m ts c e f = refl
 
-pub quiet_but : (a : Attempt) (v : Turns) (ts d : ℕ) → AllAtTurn (Some a) v → (StandsAt d a.exchange (v ts d) → is_exchanging (v ts d) ≡ false)
+pub quiet_but : (a : Attempt) (v : Turns) (ts d : ℕ) → AllAtTurn (Some a) v → (IsAtTurn d a.exchange (v ts d) → is_exchanging (v ts d) ≡ false)
     → is_exchanging (v ts d) ≡ false
 quiet_but a v ts d h f = elim (same_or_not a.ts ts) [ inl p ↦ f ((h ts d).0 p) | inr p ↦ (h ts d).1 p ]
 
@@ -177,18 +177,18 @@ next_of n d true m v ns q e f g = elim (same_or_not d n) [
 ]
 next_of n d false m v ns q e f g = cc
 
-stands_on : (c n d : ℕ) (m : Msg) (a : Attempt) (v : Turns) → IsStrict (firsts a.exchange.modules) → AllAtTurn (Some a) v
+at_turn_on : (c n d : ℕ) (m : Msg) (a : Attempt) (v : Turns) → IsStrict (firsts a.exchange.modules) → AllAtTurn (Some a) v
     → rejects m a.ts c ≡ false → (is_answer a.ts c m ≡ true → MayAnswer (v a.ts n) m)
-    → StandsAt d (after_hand a.ts c n m a.exchange) (after_answer c n m v a.ts d)
-stands_on c n d m a v strict h e timely = elim (is_answer a.ts c m) as (λ b. is_answer a.ts c m ≡ b
-    → StandsAt d (after_hand a.ts c n m a.exchange) (after_answer c n m v a.ts d)) [
+    → IsAtTurn d (after_hand a.ts c n m a.exchange) (after_answer c n m v a.ts d)
+at_turn_on c n d m a v strict h e timely = elim (is_answer a.ts c m) as (λ b. is_answer a.ts c m ≡ b
+    → IsAtTurn d (after_hand a.ts c n m a.exchange) (after_answer c n m v a.ts d)) [
       | true ↦ λ f.
           (let by = answers_asked (v a.ts n) m (timely f) in
           let g : is_a_refusal m ≡ false = not_refused m a.ts c f e in
           hand_at a.ts c n d a.exchange (v a.ts d) (after_answer c n m v a.ts d) m strict f g
           (next_of n d (is_answer a.ts c m) m (v a.ts d) by.uses by.question f (λ p. ap (v a.ts) p ∙ by.is) g) ((h a.ts d).0 refl))
-      | false ↦ λ f. subst (λ x. StandsAt d x (after_answer c n m v a.ts d)) (sym (hand_not a.ts c n a.exchange m f))
-          (subst (λ (w : Turn). StandsAt d a.exchange w)
+      | false ↦ λ f. subst (λ x. IsAtTurn d x (after_answer c n m v a.ts d)) (sym (hand_not a.ts c n a.exchange m f))
+          (subst (λ (w : Turn). IsAtTurn d a.exchange w)
           (sym (ap (λ (b : Bool). if (d == n) && b then told m (v a.ts d) else v a.ts d) f
           ∙ ap (λ (b : Bool). if b then told m (v a.ts d) else v a.ts d) (and_no (d == n)))) ((h a.ts d).0 refl))
     ] refl
@@ -202,7 +202,7 @@ handed_turns c n m (Some a) v strict h timely =
     (after_answer c n m v)) [
       | true ↦ λ e. rejected_turns c n m a v h e (timely a.ts)
       | false ↦ λ e ts d. (
-        λ p. subst (λ t. StandsAt d (after_hand a.ts c n m a.exchange) (after_answer c n m v t d)) p (stands_on c n d m a v strict h e (timely a.ts)),
+        λ p. subst (λ t. IsAtTurn d (after_hand a.ts c n m a.exchange) (after_answer c n m v t d)) p (at_turn_on c n d m a v strict h e (timely a.ts)),
         λ p. quiet_if ((d == n) && is_answer ts c m) m (v ts d) ((h ts d).1 p),
       )
     ] refl

@@ -1,6 +1,6 @@
 -- What it means that the exchange of an attempt goes in step with the modules that it reads at.
 use Rattle.sdd_obligations.proofs.All.{Act, Answer, Asks, AsksPhase, Attempt, Bool, D, Did, DmNo, Does, Exchange, Fetching, FitsInput, Frozen, Hand, Has, Input, IsPermitted, List, Log, Move, Msg, Option, Over, Phase, Reading, Records, Reduce, Reducing, Replies, Shipping, Silent, Site, Some, Tells, Turn, Value, [], ap, arith, contains, eqb-true, false, first_phase, home, inl, inr, is_a_read, is_answer, is_question, is_shipped, length, local_of, longer, not_both, refl, subst, sym, true, turn_at, ℕ, ◌++◌, ◌==◌, ◌||◌, ◌∙◌, ◌∷◌, ◌≡◌}
-use Rattle.sdd_obligations.proofs.AtTurn.{StandsAt, answered_last, apart, awaited, awaits, unsent}
+use Rattle.sdd_obligations.proofs.AtTurn.{IsAtTurn, answered_last, apart, awaited, awaits, unsent}
 use Rattle.sdd_obligations.proofs.Modules.{firsts}
 use Rattle.sdd_obligations.proofs.Places.{IsAnswerAt, one_answer}
 use Rattle.sdd_obligations.proofs.Snapped.{answer_more}
@@ -27,7 +27,7 @@ pub record IsAnswered (turn : Turn) (rows : Option Frozen) (m : Msg) : Type 0 wh
 
 -- how the exchange of an active attempt and its modules go in step
 pub record InStep (g : Input) (c : ℕ) (log : Log) (a : Attempt) : Type 0 where
-  pub stands : (d : ℕ) → StandsAt d a.exchange (turn_at a.ts c d (local_of g (home g.catalogue c) log))
+  pub at_turn : (d : ℕ) → IsAtTurn d a.exchange (turn_at a.ts c d (local_of g (home g.catalogue c) log))
   pub asks : AsksPhase a.ts c a.exchange (λ d. turn_at a.ts c d (local_of g (home g.catalogue c) log))
   pub question : (from : Site) (d : DmNo) (n : ℕ) (m : Msg) → IsPermitted g (Hand from (D d) n m ∷ log) → is_question a.ts c m ≡ true
       → (ns : List ℕ) × (turn_at a.ts c d.0 (local_of g (home g.catalogue c) log) ≡ Asks ns m)
@@ -35,7 +35,7 @@ pub record InStep (g : Input) (c : ℕ) (log : Log) (a : Attempt) : Type 0 where
       → IsAnswered (turn_at a.ts c d.0 (local_of g (home g.catalogue c) log)) (kept_at g c a.ts d.0 log) m
 
 -- a module whose answer is awaited is one of the exchange's
-pub awaited_there : (d : ℕ) (x : Exchange) (v : Turn) (ns : List ℕ) (q : Msg) → StandsAt d x v → v ≡ Asks ns q → contains (firsts x.modules) d ≡ true
+pub awaited_there : (d : ℕ) (x : Exchange) (v : Turn) (ns : List ℕ) (q : Msg) → IsAtTurn d x v → v ≡ Asks ns q → contains (firsts x.modules) d ≡ true
 awaited_there d x v ns q (unsent m r ms a b e s u w f g) z = g
 awaited_there d x v ns q (awaited m ms a b e w f g) z = g
 awaited_there d x v ns q (answered_last r ms a b e s f g) z = g

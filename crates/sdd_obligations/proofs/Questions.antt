@@ -1,6 +1,6 @@
 -- The questions that an exchange puts are those of its phase.
 use Rattle.sdd_obligations.proofs.All.{AllByRecursion, Asking, Asks, AsksPhase, Bool, Exchange, Fetch, Fetching, List, MayAnswer, Move, Msg, None, Over, Phase, Read, Ready, Reduce, Reduced, Reducing, Refused, Reject, Replies, Rows, Ship, Shipping, Some, Step, Told, Turn, Value, Values, [], after_hand, answered, ap, contains, counted, counts_for, false, fetches, fetches_from, goes_on, if◌then◌else◌, is_a_refusal, is_answer, lacking, length, map, move_at, next_move, phase_ends, question, question_of, reduces, refl, subst, sym, to_all, told, true, with_use, with_values, without, ℕ, ◌&&◌, ◌++◌, ◌+◌, ◌==◌, ◌∙◌, ◌∷◌, ◌≡◌}
-use Rattle.sdd_obligations.proofs.AtTurn.{StandsAt, awaits}
+use Rattle.sdd_obligations.proofs.AtTurn.{IsAtTurn, awaits}
 use Rattle.sdd_obligations.proofs.Hearing.{answers_asked, is_awaited}
 use Rattle.sdd_obligations.proofs.Modules.{without_other}
 use Rattle.sdd_obligations.proofs.InStep.{never}
@@ -68,7 +68,7 @@ module _ (ts c n : ℕ) (m : Msg) (v : ℕ → Turn) where
   w d = after_answer n m v d
 
   -- y is the exchange x with what the answer told
-  module _ (x y : Exchange) (stands : (d : ℕ) → StandsAt d x (v d)) (lacks_are : y.lacks ≡ x.lacks)
+  module _ (x y : Exchange) (at_turn : (d : ℕ) → IsAtTurn d x (v d)) (lacks_are : y.lacks ≡ x.lacks)
       (same : question_of ts c x ≡ question_of ts c y) (sends : SendsPhase ts c y)
       (h : AsksPhase ts c x v) where
     lack_asks : (ds : List ℕ) → without y.lacks n ≡ ds → AsksPhase ts c (lacking ts c y ds) w
@@ -76,7 +76,7 @@ module _ (ts c n : ℕ) (m : Msg) (v : ℕ → Turn) where
       sends = sends_end ts c (record y { lacks = [] }) y.phase refl sends;
       asked = λ d ns q a r.
           (let k = still_asked n d m q ns v a in
-          let l : contains x.lacks d ≡ true = (is_awaited d x (v d) ns q (stands d) k.0).lacks in
+          let l : contains x.lacks d ≡ true = (is_awaited d x (v d) ns q (at_turn d) k.0).lacks in
           let none : contains x.lacks d ≡ false = sym (without_other x.lacks n d k.1)
           ∙ ap (λ ls. contains ls d) (ap (λ ls. without ls n) (sym lacks_are) ∙ e) in
           never (contains x.lacks d) l none);
@@ -104,27 +104,27 @@ module _ (ts c n : ℕ) (m : Msg) (v : ℕ → Turn) where
   answered_if false x y e h = cc
 
   -- an answer to the attempt, other than a rejection
-  pub hand_asks : (x : Exchange) → is_answer ts c m ≡ true → is_a_refusal m ≡ false → ((d : ℕ) → StandsAt d x (v d)) → MayAnswer (v n) m → AsksPhase ts c x v
+  pub hand_asks : (x : Exchange) → is_answer ts c m ≡ true → is_a_refusal m ≡ false → ((d : ℕ) → IsAtTurn d x (v d)) → MayAnswer (v n) m → AsksPhase ts c x v
       → AsksPhase ts c (after_hand ts c n m x) w
-  hand_asks x own kind stands may h = by m refl own
+  hand_asks x own kind at_turn may h = by m refl own
     where
       by : (z : Msg) → m ≡ z → is_answer ts c z ≡ true → AsksPhase ts c (after_hand ts c n z x) w
       by (Ready t k counts) e i = answered_if ((t.0 == ts) && (k.0 == c)) x (record x {
         counts = counted n counts x.counts;
-      }) i (answer_asks x (record x { counts = counted n counts x.counts }) stands refl refl h.sends h)
+      }) i (answer_asks x (record x { counts = counted n counts x.counts }) at_turn refl refl h.sends h)
       by (Values t k u vs) e i =
           let a = answers_asked (v n) m may in
-          let q = is_awaited n x (v n) a.uses a.question (stands n) a.is in
+          let q = is_awaited n x (v n) a.uses a.question (at_turn n) a.is in
           let same : question ts c x.phase x.union ≡ question ts c x.phase (with_values x.union vs) =
           fetched x a.uses a.question u vs t k q.phase (subst (Replies a.uses a.question) e a.replies) (with_values x.union vs) in
           answered_if ((t.0 == ts) && (k.0 == c)) x (record x { union = with_values x.union vs; values = x.values + length vs }) i
-          (answer_asks x (record x { union = with_values x.union vs; values = x.values + length vs }) stands
+          (answer_asks x (record x { union = with_values x.union vs; values = x.values + length vs }) at_turn
           refl same (subst (λ z. AllByRecursion (λ (p : ℕ × Msg). p.1 ≡ z) x.to_send) same h.sends) h)
       by (Reduced t k u y) e i = answered_if ((t.0 == ts) && (k.0 == c)) x (record x {
         counts = counted n ((u, y) ∷ []) x.counts;
-      }) i (answer_asks x (record x { counts = counted n ((u, y) ∷ []) x.counts }) stands refl refl h.sends h)
+      }) i (answer_asks x (record x { counts = counted n ((u, y) ∷ []) x.counts }) at_turn refl refl h.sends h)
       by (Rows t k rows) e i = answered_if ((t.0 == ts) && (k.0 == c)) x (record x { found = x.found ++ rows; rows = x.rows + length rows }) i
-          (answer_asks x (record x { found = x.found ++ rows; rows = x.rows + length rows }) stands refl refl
+          (answer_asks x (record x { found = x.found ++ rows; rows = x.rows + length rows }) at_turn refl refl
           h.sends h)
       by (Reject t k b write) e i = let r : true ≡ false = sym (ap is_a_refusal e) ∙ kind in absurd cc
       by z e i = cc

@@ -76,7 +76,7 @@ module _ (g : Input) (good : FitsInput g) (eras : HasEras g) (c : ℕ) where
       let small = small_home cat good.sound c (within log a h.1 e) in
       let step = in_step g c small log h.1 a e in
       let r = step.answer d n m h (both (t.0 == a.ts) (k.0 == c) (ap (λ z. z == a.ts) own_ts ∙ same_number a.ts) (ap (λ z. z == c) of ∙ same_number c)) in
-      let w = is_awaited d.0 a.exchange _ r.uses r.question (step.stands d.0) r.is in
+      let w = is_awaited d.0 a.exchange _ r.uses r.question (step.at_turn d.0) r.is in
       let ships : a.exchange.phase ≡ Shipping = shipping_is a.exchange.phase r.question w.phase (rows_kind r.uses r.question t k rows r.replies).0 in
       let over : Exchange = record a.exchange { found = a.exchange.found ++ rows; rows = a.exchange.rows + length rows; lacks = []; phase = Over } in
       let b : Attempt = record a { exchange = over } in

@@ -70,7 +70,7 @@ module _ (g : Input) (good : FitsInput g) (eras : HasEras g) (c : ℕ) (in_step 
       → IsReply a.ts c d.0 (space_at g c a.ts (first_of a copies) log) a.exchange m × (contains (firsts a.exchange.modules) d.0 ≡ true)
   reply_of log a copies d n m step h own =
       let r = step.answer d n m h own in
-      let w = is_awaited d.0 a.exchange (turn_at a.ts c d.0 (mine log)) r.uses r.question (step.stands d.0) r.is in (
+      let w = is_awaited d.0 a.exchange (turn_at a.ts c d.0 (mine log)) r.uses r.question (step.at_turn d.0) r.is in (
         record {
           uses = r.uses;
           question = r.question;
@@ -79,7 +79,7 @@ module _ (g : Input) (good : FitsInput g) (eras : HasEras g) (c : ℕ) (in_step 
           content = λ e. step.asks.asked d.0 r.uses r.question r.is e;
           tells = λ e. (let t = r.tells e in subst (λ o. Tells r.question m (or_first o (first_of a copies d.0))) (sym t.1) t.2);
         },
-        awaited_there d.0 a.exchange (turn_at a.ts c d.0 (mine log)) r.uses r.question (step.stands d.0) r.is,
+        awaited_there d.0 a.exchange (turn_at a.ts c d.0 (mine log)) r.uses r.question (step.at_turn d.0) r.is,
       )
 
   not_refusal : (a : Attempt) (m : Msg) → is_answer a.ts c m ≡ true → rejects m a.ts c ≡ false → is_a_refusal m ≡ false
@@ -137,7 +137,7 @@ module _ (g : Input) (good : FitsInput g) (eras : HasEras g) (c : ℕ) (in_step 
       let mine_is : is_question a.ts c q ≡ true = rw (ap (λ x. x == a.ts) r.ts_is ∙ same_number a.ts, ap (λ x. x == c) r.class_is ∙ same_number c) refl in
       let t = step.question from d n m hand (ap (is_question a.ts c) r.is ∙ mine_is) in
       let turn : turn_at a.ts c d.0 (mine log) ≡ Asks t.0 q = t.1 ∙ ap (Asks t.0) r.is in
-      let w = is_awaited d.0 a.exchange (turn_at a.ts c d.0 (mine log)) t.0 q (step.stands d.0) turn in
+      let w = is_awaited d.0 a.exchange (turn_at a.ts c d.0 (mine log)) t.0 q (step.at_turn d.0) turn in
       let v = reducing_is a.exchange.phase q w.phase refl in
       let same : q ≡ question_of a.ts c a.exchange = step.asks.asked d.0 t.0 q turn refl in
       let now : q ≡ Reduce (time_at a.ts) (class_no c) v.0.target.part v.0.target.column a.exchange.union =

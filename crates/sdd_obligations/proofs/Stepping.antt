@@ -1,6 +1,6 @@
 -- The exchange of an active attempt and its modules go in step.
 use Rattle.sdd_obligations.proofs.All.{Act, Asks, Attempt, Bases, Bool, D, Did, DmNo, Does, Each, Entry, Fetch, Hand, Handed, Input, IsAllowed, IsFair, IsPermitted, IsStage, List, Log, Mark, MayAnswer, Msg, None, Notes, Option, Queued, Read, Redeclared, Redeclares, Reduce, Reject, Replies, Round, Sends, Setting, Ship, Silent, Site, Some, Submits, Submitted, T, Tells, Ticked, Told, Turn, U, [], active, active_handed, active_sent, agreed, allowed_act, answer_goes, answers, ap, beginning, class_at, commit_act, dm_no, drop, false, filter-append, flight, handed, handed_way, head_of, home, home_fair, if_way, if◌then◌else◌, inl, inr, is_a_read, is_a_refusal, is_answer, is_question, kept, local_of, local_step, made, next_stamp, number_of, own_act, puts_to, question_goes, queue, refl, same_number, same_or_not, same_site, sends_of_act, sent_way, setting_of, site_is, site_self, stamp_below_next, start_at, started, step_way, subst, sym, take, take-append-drop, tm_no, told, true, turn_at, turn_with, uses_by, uses_in, with_made, ℕ, ◌++◌, ◌==◌, ◌∙◌, ◌∷◌, ◌≡◌, ◌≤◌}
-use Rattle.sdd_obligations.proofs.Comes.{answer_stands, question_stands}
+use Rattle.sdd_obligations.proofs.Comes.{next_answer_is, next_question_is}
 use Rattle.sdd_obligations.proofs.DataSteps.{data_step}
 use Rattle.sdd_obligations.proofs.Halves.{active_last, data_turns, home_source, home_turns}
 use Rattle.sdd_obligations.proofs.Hearing.{AtTurn, told_is}
@@ -253,7 +253,7 @@ module _ (g : Input) (c : ℕ) (small : number_of (home g.catalogue c) ≤ 63) w
       → (d : DmNo) (n : ℕ) (m : Msg) → IsPermitted g (Hand (D d) at n m ∷ log) → is_answer a.ts c m ≡ true
       → IsAnswered (turn_at a.ts c d.0 (mine log)) (kept (set g d.0) c a.ts (own g d.0 log)) m
   answered log a h e d n m hand own_answer =
-      let st = answer_stands g c log d n m a.ts h small hand.0 own_answer in
+      let st = next_answer_is g c log d n m a.ts h small hand.0 own_answer in
       record {
         uses = st.uses;
         question = st.question;
@@ -272,9 +272,9 @@ module _ (g : Input) (c : ℕ) (small : number_of (home g.catalogue c) ≤ 63) w
   in_step log h a e =
       let sp = spoken g c log h small in
       record {
-        stands = λ d. (subst (λ o. AtTurn a.ts d o (turn_at a.ts c d (mine log))) e ((home_turns g c log h sp).turns a.ts d)).0 refl;
+        at_turn = λ d. (subst (λ o. AtTurn a.ts d o (turn_at a.ts c d (mine log))) e ((home_turns g c log h sp).turns a.ts d)).0 refl;
         asks = subst (AllAskPhase c (mine log)) e (asks_phase s c (mine log) (home_fair g c log h) (home_first g c log h) sp.timely_at);
-        question = λ from d n m hand q. question_stands g c log d n m a.ts h small
+        question = λ from d n m hand q. next_question_is g c log d n m a.ts h small
             (subst (λ x. IsAllowed g log (Hand x (D d) n m)) (question_from log from d n m a.ts hand q)
             hand.0) q;
         answer = λ d n m hand own_answer. answered log a h e d n m hand own_answer;

@@ -46,7 +46,7 @@ pub use Rattle.sdd_obligations.specs.catalog.declared.resolved.Class.{Class}
 pub use Rattle.sdd_obligations.specs.catalog.declared.resolved.Fragment.{Fragment}
 pub use Rattle.sdd_obligations.specs.class_eras.EraOf.{IsEraOf}
 pub use Rattle.sdd_obligations.specs.copy.Contents.{contents}
-pub use Rattle.sdd_obligations.specs.copy.Copies.{StandFor, is_here}
+pub use Rattle.sdd_obligations.specs.copy.Copies.{Represent, is_here}
 pub use Rattle.sdd_obligations.specs.dm.Copies.{dated}
 pub use Rattle.sdd_obligations.specs.dm.Due.{IsDue, act_by, act_where, answer_of, answer_to, ask_for, by_head, by_open, done_for, due, head_due, holds_back, is_at_least, is_held, is_met, judged, last_write_for, open_due, or_zero, spoils, step_on}
 pub use Rattle.sdd_obligations.specs.dm.Opens.{Open, class_asked, is_asked_of, is_number, opens}
@@ -116,7 +116,7 @@ pub use Rattle.sdd_obligations.specs.logs.Spelled.{call_as, delivered_as, link_a
 pub use Rattle.sdd_obligations.specs.logs.Traffic.{all_links, calls_of, handed, is_down, link_of, message_at, puts, sent, takes_part}
 pub use Rattle.sdd_obligations.specs.net.Links.{Call, Delivers, Link, Loses, Puts, Repeats, Resends, arrives, deliver, delivered, delivery, given_by, in_flight, is_quiet_link, link, lose, newly_delivered, on_link, packet_at, quiet, repeat, resend, resends_now, round, turned, with_flight, with_packet, without_packet}
 pub use Rattle.sdd_obligations.specs.net.Mailboxes.{IsBefore, IsLowest, IsSender, IsWithin, Mailbox, OnlyAt, empty_mailbox, kept_count, kept_from, mailbox_at, number_of_t, place_of, queue_at}
-pub use Rattle.sdd_obligations.specs.net.Nets.{Directions, HasLink, StandsFor, index_of, is_link, is_site, sent_on}
+pub use Rattle.sdd_obligations.specs.net.Nets.{Directions, HasLink, Represents, index_of, is_link, is_site, sent_on}
 pub use Rattle.sdd_obligations.specs.net.declared.delivered.Delivered.{Delivered}
 pub use Rattle.sdd_obligations.specs.net.declared.delivered.Delivered.TheVariants.{Acked, Messages}
 pub use Rattle.sdd_obligations.specs.net.declared.packet.Packet.{Packet}
@@ -132,11 +132,11 @@ pub use Rattle.sdd_obligations.specs.serial_orders.Attempts.{Committed, HasCommi
 pub use Rattle.sdd_obligations.specs.serial_orders.Examples.{row_of}
 pub use Rattle.sdd_obligations.specs.serial_orders.Numbers.{IsClass, IsFrom1To, IsModule}
 pub use Rattle.sdd_obligations.specs.serial_orders.Orders.{IsOrderable, IsSerial}
-pub use Rattle.sdd_obligations.specs.serial_orders.Places.{Stands, event_at, placed}
+pub use Rattle.sdd_obligations.specs.serial_orders.Places.{IsRecordAt, event_at, placed}
 pub use Rattle.sdd_obligations.specs.serial_orders.Precedence.{HasNoCycle, is_apply}
 pub use Rattle.sdd_obligations.specs.site_module.SiteLog.{Act, AreDue, Bases, Did, Each, Era, Handed, Records, Redeclared, Sends, Setting, Submits, Ticked, answers_hand, current_era, hands, log_after, records_of, records_of_act, sends_of, sends_of_act}
 pub use Rattle.sdd_obligations.specs.tm.Due.{by_ask, exchange_due, held_due, null_at, null_due, null_time, null_to, start_due, start_of}
-pub use Rattle.sdd_obligations.specs.tm.Stands.{AreOpen, Rise}
+pub use Rattle.sdd_obligations.specs.tm.Represents.{AreOpen, Rise}
 pub use Rattle.sdd_obligations.specs.tm.State.{ClassState, state_of}
 pub use Rattle.sdd_obligations.specs.tm.Views.{Question, asks, asks_acted, asks_handed, class_view, holds, on_hold, runs}
 pub use Rattle.sdd_obligations.specs.umod.Due.{by_exchange, by_hold, by_release, by_start, hold_to}

@@ -11,7 +11,7 @@ pub use Rattle.sdd_order.specs.Linked.{by_class, by_fragment, end_of, fragment_l
 pub use Rattle.sdd_order.specs.Numbers.{ChangeExists, ExistsIn, IsClass, IsFragment, NumbersExist, UseExists}
 pub use Rattle.sdd_order.specs.Orders.{IsAlong, IsOrderable, IsSerial}
 pub use Rattle.sdd_order.specs.Paths.{IsOrderly, IsPath}
-pub use Rattle.sdd_order.specs.Places.{Stands, comes_before, placed}
+pub use Rattle.sdd_order.specs.Places.{IsRecordAt, comes_before, placed}
 pub use Rattle.sdd_order.specs.Precedence.{Precedes, is_answer, is_apply, is_earlier, is_overwritten, is_read_by, misses, module_of, precedes, was_seen}
 pub use Rattle.sdd_order.specs.SerialOrder.{in_order, serial_order}
 pub use Rattle.sdd_order.specs.Taken.{earlier, earliest, is_ready, taken, without}

@@ -1,5 +1,5 @@
 -- That a record comes before another, as a test and by their places.
-use Rattle.sdd_order.proofs.All.{Answer, Apply, Arrive, Bool, Commit, History, Nothing, Pass, Rec, Reject, Stands, Start, Submit, Wait, [], and_from, and_parts, ap, arith, class_no, comes_before, dm_no, eq-eqb, eqb-true, false, inl, inr, is_answer, is_apply, list_any, or_left, or_right, refl, same_Some, subst, suc, time_at, true, txn_no, zero, ℕ, ◌&&◌, ◌<◌, ◌==◌, ◌||◌, ◌∙◌, ◌∷◌, ◌≡◌, ◌⊎◌}
+use Rattle.sdd_order.proofs.All.{Answer, Apply, Arrive, Bool, Commit, History, IsRecordAt, Nothing, Pass, Rec, Reject, Start, Submit, Wait, [], and_from, and_parts, ap, arith, class_no, comes_before, dm_no, eq-eqb, eqb-true, false, inl, inr, is_answer, is_apply, list_any, or_left, or_right, refl, same_Some, subst, suc, time_at, true, txn_no, zero, ℕ, ◌&&◌, ◌<◌, ◌==◌, ◌||◌, ◌∙◌, ◌∷◌, ◌≡◌, ◌⊎◌}
 
 -- either of two tests
 pub or_cases : (a b : Bool) → (a || b) ≡ true → (a ≡ true) ⊎ (b ≡ true)
@@ -10,20 +10,20 @@ or_cases false b e = inr e
 pub record Passing (p : Rec → Bool) (h : History) : Type 0 where
   pub place : ℕ
   pub rec : Rec
-  pub stands : Stands h place rec
+  pub is_recorded : IsRecordAt h place rec
   pub passes : p rec ≡ true
 
 passing : (p : Rec → Bool) (h : History) → list_any (λ e. p e.1) h ≡ true → Passing p h
 passing p [] e = absurd (cc)
 passing p (x ∷ h) e =
     elim (or_cases (p x.1) (list_any (λ y. p y.1) h) e) [
-      | inl t ↦ record { place = 0; rec = x.1; stands = refl; passes = t }
+      | inl t ↦ record { place = 0; rec = x.1; is_recorded = refl; passes = t }
       | inr t ↦
           let r = passing p h t in
-          record { place = suc r.place; rec = r.rec; stands = r.stands; passes = r.passes }
+          record { place = suc r.place; rec = r.rec; is_recorded = r.is_recorded; passes = r.passes }
     ]
 
-pub any_from : (p : Rec → Bool) (h : History) (k : ℕ) (r : Rec) → Stands h k r → p r ≡ true
+pub any_from : (p : Rec → Bool) (h : History) (k : ℕ) (r : Rec) → IsRecordAt h k r → p r ≡ true
     → list_any (λ e. p e.1) h ≡ true
 any_from p [] k r s t = absurd (cc)
 any_from p (x ∷ h) zero r s t = or_left (p x.1) (list_any (λ y. p y.1) h) (ap p (same_Some x.1 r s) ∙ t)
@@ -43,21 +43,21 @@ in_turn p q (x ∷ h) e =
           let both = and_parts (p x.1) (list_any (λ d. q d.1) h) t in
           let r = passing q h both.1 in
           record {
-            first = record { place = 0; rec = x.1; stands = refl; passes = both.0 };
-            second = record { place = suc r.place; rec = r.rec; stands = r.stands; passes = r.passes };
+            first = record { place = 0; rec = x.1; is_recorded = refl; passes = both.0 };
+            second = record { place = suc r.place; rec = r.rec; is_recorded = r.is_recorded; passes = r.passes };
             before = omega arith;
           }
       | inr t ↦
           let r = in_turn p q h t in
           let l = r.before in
           record {
-            first = record { place = suc r.first.place; rec = r.first.rec; stands = r.first.stands; passes = r.first.passes };
-            second = record { place = suc r.second.place; rec = r.second.rec; stands = r.second.stands; passes = r.second.passes };
+            first = record { place = suc r.first.place; rec = r.first.rec; is_recorded = r.first.is_recorded; passes = r.first.passes };
+            second = record { place = suc r.second.place; rec = r.second.rec; is_recorded = r.second.is_recorded; passes = r.second.passes };
             before = omega arith;
           }
     ]
 
-pub comes_from : (p q : Rec → Bool) (h : History) (j k : ℕ) (r s : Rec) → Stands h j r → Stands h k s → j < k
+pub comes_from : (p q : Rec → Bool) (h : History) (j k : ℕ) (r s : Rec) → IsRecordAt h j r → IsRecordAt h k s → j < k
     → p r ≡ true → q s ≡ true → comes_before p q h ≡ true
 comes_from p q [] j k r s a b l t u = absurd (cc)
 comes_from p q (x ∷ h) zero zero r s a b l t u = absurd (omega arith)
@@ -78,17 +78,17 @@ answer_passes n number d =
     and_from (n == n) ((number == number) && (d == d)) (eq-eqb n n refl)
     (and_from (number == number) (d == d) (eq-eqb number number refl) (eq-eqb d d refl))
 
-pub is_answered : (h : History) (n number d k : ℕ) (r : Rec) → Stands h k r → is_answer n number d r ≡ true
-    → Stands h k (Answer (txn_no n) number (dm_no d))
+pub is_answered : (h : History) (n number d k : ℕ) (r : Rec) → IsRecordAt h k r → is_answer n number d r ≡ true
+    → IsRecordAt h k (Answer (txn_no n) number (dm_no d))
 is_answered h n number d k (Answer txn attempt dm) s t =
     let both = and_parts (txn.0 == n) ((attempt == number) && (dm.0 == d)) t in
     let rest = and_parts (attempt == number) (dm.0 == d) both.1 in
     let one : txn.0 ≡ n = eqb-true txn.0 n both.0 in
     let two : attempt ≡ number = eqb-true attempt number rest.0 in
     let three : dm.0 ≡ d = eqb-true dm.0 d rest.1 in
-    subst (λ m. Stands h k (Answer (txn_no m) number (dm_no d))) one
-    (subst (λ m. Stands h k (Answer txn m (dm_no d))) two
-    (subst (λ m. Stands h k (Answer txn attempt (dm_no m))) three s))
+    subst (λ m. IsRecordAt h k (Answer (txn_no m) number (dm_no d))) one
+    (subst (λ m. IsRecordAt h k (Answer txn m (dm_no d))) two
+    (subst (λ m. IsRecordAt h k (Answer txn attempt (dm_no m))) three s))
 is_answered h n number d k (Submit txn) s t = absurd (cc)
 is_answered h n number d k (Start txn attempt class ts p2 uses) s t = absurd (cc)
 is_answered h n number d k (Arrive txn attempt dm) s t = absurd (cc)

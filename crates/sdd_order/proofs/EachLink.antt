@@ -1,5 +1,5 @@
 -- Each link that is found is a precedence.
-use Rattle.sdd_order.proofs.All.{All, All-contains, All-head, All-tail, AreMarks, Bool, Catalogue, ChangeExists, Committed, Contains, Contains-append_cases, Contains-cases, Contains-get_or, Contains-nil, ExistsIn, FragNo, History, IsClass, IsCommitted, IsFragment, IsOrderable, List, Marks, NumbersExist, Rec, Some, Stands, Use, UseExists, [], arith, by_class, by_fragment, chains, changes, cond, end_of, enumerate_from, eqb-true, false, flat_map, fragment_links, fragments_in, get_or as slice_index_or, group, groups, has_seen, inl, inr, length, links, links_at, ltb-true, map, module_of, nat_lt, read_links, refl, same_Some, slice_get, subst, suc, sym, true, was_seen, zero, ℕ, ◌++◌, ◌+◌, ◌-◌, ◌<◌, ◌==◌, ◌∙◌, ◌∷◌, ◌≡◌, ◌⊎◌}
+use Rattle.sdd_order.proofs.All.{All, All-contains, All-head, All-tail, AreMarks, Bool, Catalogue, ChangeExists, Committed, Contains, Contains-append_cases, Contains-cases, Contains-get_or, Contains-nil, ExistsIn, FragNo, History, IsClass, IsCommitted, IsFragment, IsOrderable, IsRecordAt, List, Marks, NumbersExist, Rec, Some, Use, UseExists, [], arith, by_class, by_fragment, chains, changes, cond, end_of, enumerate_from, eqb-true, false, flat_map, fragment_links, fragments_in, get_or as slice_index_or, group, groups, has_seen, inl, inr, length, links, links_at, ltb-true, map, module_of, nat_lt, read_links, refl, same_Some, slice_get, subst, suc, sym, true, was_seen, zero, ℕ, ◌++◌, ◌+◌, ◌-◌, ◌<◌, ◌==◌, ◌∙◌, ◌∷◌, ◌≡◌, ◌⊎◌}
 use Rattle.sdd_order.proofs.Chained.{from_group, chains_are}
 use Rattle.sdd_order.proofs.Grouped.{group_at}
 use Rattle.sdd_order.proofs.Members.{Contains-from_flat_map, Contains-from_map, member_passes}
@@ -8,7 +8,7 @@ use Rattle.sdd_order.proofs.Implied.{overwrites, goes_before, reads_from, misses
 use Rattle.sdd_order.proofs.Nodes.{at_enumerated, from_class, from_fragment, classes_rise, fragments_rise}
 
 -- the numbers in a record that stands somewhere exist
-pub exists_at : (cat : Catalogue) (h : History) → NumbersExist cat h → (k : ℕ) (r : Rec) → Stands h k r → ExistsIn cat r
+pub exists_at : (cat : Catalogue) (h : History) → NumbersExist cat h → (k : ℕ) (r : Rec) → IsRecordAt h k r → ExistsIn cat r
 exists_at cat [] all k r s = absurd (cc)
 exists_at cat (e ∷ h) all zero r s = subst (ExistsIn cat) (same_Some e.1 r s) (All-head (λ x. ExistsIn cat x.1) e h all)
 exists_at cat (e ∷ h) all (suc k) r s = exists_at cat h (All-tail (λ x. ExistsIn cat x.1) e h all) k r s

@@ -1,5 +1,5 @@
 -- The first and the last place of records that pass a test: what they tell of which comes before which.
-use Rattle.sdd_order.proofs.All.{Bool, History, None, Option, Rec, Some, Stands, [], ap, arith, cases_Bool, comes_before, cond, false, find, find-append, first_place, get_or, inl, inr, is_below, last_place, length, lt-ltb, ltb-true, nat_lt, option_map, option_or, placed, refl, reverse, reverse-append, same_Some, suc, sym, take, true, zero, ℕ, ◌+◌, ◌<◌, ◌∙◌, ◌∷◌, ◌≡◌, ◌≤◌}
+use Rattle.sdd_order.proofs.All.{Bool, History, IsRecordAt, None, Option, Rec, Some, [], ap, arith, cases_Bool, comes_before, cond, false, find, find-append, first_place, get_or, inl, inr, is_below, last_place, length, lt-ltb, ltb-true, nat_lt, option_map, option_or, placed, refl, reverse, reverse-append, same_Some, suc, sym, take, true, zero, ℕ, ◌+◌, ◌<◌, ◌∙◌, ◌∷◌, ◌≡◌, ◌≤◌}
 use Rattle.sdd_order.proofs.Before.{in_turn, comes_from}
 use Rattle.sdd_order.proofs.Reading.{placed_more}
 
@@ -22,7 +22,7 @@ module _ (p : Rec → Bool) where
 
   -- such a record stands there
   abbrev Passes : History → ℕ → Type 0
-  Passes h a = (r : Rec) × Stands h a r × (p r ≡ true)
+  Passes h a = (r : Rec) × IsRecordAt h a r × (p r ≡ true)
 
   first_step : (k : ℕ) (e : ℕ × Rec) (h : History) → first_from k (e ∷ h) ≡ cond (p e.1) (Some k) (first_from (suc k) h)
   first_step k e h =
@@ -58,7 +58,7 @@ module _ (p : Rec → Bool) where
       ]
 
   first_least : (k : ℕ) (h : History) (j : ℕ) → Passes h j → (a : ℕ) × (first_from k h ≡ Some (k + a)) × (a ≤ j)
-  first_least k [] j s = absurd (let stands = s.1 in cc)
+  first_least k [] j s = absurd (let is_recorded = s.1 in cc)
   first_least k (x ∷ h) zero s =
       let passes : p x.1 ≡ true = ap p (same_Some x.1 s.0 s.1) ∙ s.2 in
       let same : k ≡ k + 0 = omega arith in
@@ -100,7 +100,7 @@ module _ (p : Rec → Bool) where
       ] refl (sym (last_step k x h) ∙ e)
 
   last_greatest : (k : ℕ) (h : History) (j : ℕ) → Passes h j → (a : ℕ) × (last_from k h ≡ Some (k + a)) × (j ≤ a)
-  last_greatest k [] j s = absurd (let stands = s.1 in cc)
+  last_greatest k [] j s = absurd (let is_recorded = s.1 in cc)
   last_greatest k (x ∷ h) zero s =
       let passes : p x.1 ≡ true = ap p (same_Some x.1 s.0 s.1) ∙ s.2 in
       elim (last_from (suc k) h) as
@@ -165,8 +165,8 @@ comes_before_is p q h =
     elim (cases_Bool (comes_before p q h)) [
       | inl t ↦
           let r = in_turn p q h t in
-          let a = first_least p 0 h r.first.place (r.first.rec, r.first.stands, r.first.passes) in
-          let b = last_greatest q 0 h r.second.place (r.second.rec, r.second.stands, r.second.passes) in
+          let a = first_least p 0 h r.first.place (r.first.rec, r.first.is_recorded, r.first.passes) in
+          let b = last_greatest q 0 h r.second.place (r.second.rec, r.second.is_recorded, r.second.passes) in
           let i_first = r.before in
           let a_least = a.2 in
           let b_greatest = b.2 in

@@ -1,11 +1,11 @@
 -- The lists of attempts and of committed transactions have exactly those that the history has.
-use Rattle.sdd_order.proofs.All.{Answer, Apply, Arrive, Attempt, Bool, Commit, Committed, Contains, Contains-cases, Contains-here, Contains-later, Contains-nil, History, IsAttempt, IsCommitted, List, None, Nothing, Pass, Rec, Reject, Some, Stands, Start, Submit, Wait, [], and_from, and_parts, ap, arith, attempt_of, attempts, class_no, committed, committed_of, cond, eq-eqb, eqb-true, false, find, inl, inr, is_attempt_of, option_map, placed, refl, same_Some, subst, suc, sym, time_at, true, txn_no, zero, ℕ, ◌+◌, ◌==◌, ◌∙◌, ◌∷◌, ◌≡◌}
+use Rattle.sdd_order.proofs.All.{Answer, Apply, Arrive, Attempt, Bool, Commit, Committed, Contains, Contains-cases, Contains-here, Contains-later, Contains-nil, History, IsAttempt, IsCommitted, IsRecordAt, List, None, Nothing, Pass, Rec, Reject, Some, Start, Submit, Wait, [], and_from, and_parts, ap, arith, attempt_of, attempts, class_no, committed, committed_of, cond, eq-eqb, eqb-true, false, find, inl, inr, is_attempt_of, option_map, placed, refl, same_Some, subst, suc, sym, time_at, true, txn_no, zero, ℕ, ◌+◌, ◌==◌, ◌∙◌, ◌∷◌, ◌≡◌}
 use Rattle.sdd_order.proofs.Members.{Contains-filter_map, Contains-from_filter_map}
 use Rattle.sdd_order.proofs.Places.{same_start, one_attempt}
 
 -- each record is there with its place
 
-placed_there : (h : History) (k j : ℕ) (r : Rec) → Stands h j r → Contains (placed k h) (k + j, r)
+placed_there : (h : History) (k j : ℕ) (r : Rec) → IsRecordAt h j r → Contains (placed k h) (k + j, r)
 placed_there [] k j r s = absurd (cc)
 placed_there (e ∷ h) k zero r s =
     let same : k ≡ k + 0 = omega arith in
@@ -16,7 +16,7 @@ placed_there (e ∷ h) k (suc j) r s =
     Contains-later (k, e.1) (placed (suc k) h) (k + suc j, r)
     (subst (λ z. Contains (placed (suc k) h) (z, r)) same (placed_there h (suc k) j r s))
 
-placed_from : (h : History) (k : ℕ) (x : ℕ × Rec) → Contains (placed k h) x → (j : ℕ) × (x.0 ≡ k + j) × Stands h j x.1
+placed_from : (h : History) (k : ℕ) (x : ℕ × Rec) → Contains (placed k h) x → (j : ℕ) × (x.0 ≡ k + j) × IsRecordAt h j x.1
 placed_from [] k x h = absurd (Contains-nil x h)
 placed_from (e ∷ rest) k x h =
     elim (Contains-cases (k, e.1) (placed (suc k) rest) x h) [
@@ -29,14 +29,14 @@ placed_from (e ∷ rest) k x h =
           (suc r.0, omega arith, r.2)
     ]
 
-pub at_place : (h : History) (k : ℕ) (r : Rec) → Stands h k r → Contains (placed 0 h) (k, r)
+pub at_place : (h : History) (k : ℕ) (r : Rec) → IsRecordAt h k r → Contains (placed 0 h) (k, r)
 at_place h k r s = let same : 0 + k ≡ k = omega arith in subst (λ z. Contains (placed 0 h) (z, r)) same (placed_there h 0 k r s)
 
-pub stands_at : (h : History) (x : ℕ × Rec) → Contains (placed 0 h) x → Stands h x.0 x.1
-stands_at h x m =
+pub recorded_at : (h : History) (x : ℕ × Rec) → Contains (placed 0 h) x → IsRecordAt h x.0 x.1
+recorded_at h x m =
     let r = placed_from h 0 x m in
     let same : r.0 ≡ x.0 = let p = r.1 in omega arith in
-    subst (λ k. Stands h k x.1) same r.2
+    subst (λ k. IsRecordAt h k x.1) same r.2
 
 -- attempts
 
@@ -45,7 +45,7 @@ in_attempts h a s =
     let r : Rec = Start (txn_no a.txn) a.number (class_no a.class) (time_at a.ts) a.p2 a.uses in
     Contains-filter_map attempt_of (placed 0 h) (a.place, r) a (at_place h a.place r s) refl
 
-attempt_from : (h : History) (x : ℕ × Rec) (a : Attempt) → Stands h x.0 x.1 → attempt_of x ≡ Some a → IsAttempt h a
+attempt_from : (h : History) (x : ℕ × Rec) (a : Attempt) → IsRecordAt h x.0 x.1 → attempt_of x ≡ Some a → IsAttempt h a
 attempt_from h (k, Start txn attempt class ts p2 uses) a s e =
     let found : Attempt = record { txn = txn.0; number = attempt; class = class.0; ts = ts.0; p2 = p2; uses = uses; place = k } in
     let same : found ≡ a = same_Some found a e in
@@ -63,7 +63,7 @@ attempt_from h (k, Nothing) a s e = absurd (cc)
 pub from_attempts : (h : History) (a : Attempt) → Contains (attempts h) a → IsAttempt h a
 from_attempts h a m =
     let r = Contains-from_filter_map attempt_of (placed 0 h) a m in
-    attempt_from h r.0 a (stands_at h r.0 r.1) r.2
+    attempt_from h r.0 a (recorded_at h r.0 r.1) r.2
 
 -- the attempt that is found
 
@@ -92,7 +92,7 @@ find_there p (y ∷ xs) x m t =
 
 -- committed transactions
 
-committed_from : (h : History) (x : ℕ × Rec) (t : Committed) → Stands h x.0 x.1 → committed_of (attempts h) x ≡ Some t → IsCommitted h t
+committed_from : (h : History) (x : ℕ × Rec) (t : Committed) → IsRecordAt h x.0 x.1 → committed_of (attempts h) x ≡ Some t → IsCommitted h t
 committed_from h (k, Commit txn attempt reply changes values rows) t s e =
     elim (find (is_attempt_of txn.0 attempt) (attempts h)) as
     (λ o. find (is_attempt_of txn.0 attempt) (attempts h) ≡ o → option_map (λ (a : Attempt). record { start = a; reply = reply; changes = changes; values = values; rows = rows; place = k }) o ≡ Some t → IsCommitted h t) [
@@ -104,9 +104,9 @@ committed_from h (k, Commit txn attempt reply changes values rows) t s e =
           let same : made ≡ t = same_Some made t g in
           let one : a.txn ≡ txn.0 = eqb-true a.txn txn.0 both.0 in
           let two : a.number ≡ attempt = eqb-true a.number attempt both.1 in
-          let commit : Stands h k (Commit (txn_no a.txn) a.number reply changes values rows) =
-          subst (λ n. Stands h k (Commit (txn_no n) a.number reply changes values rows)) (sym one)
-          (subst (λ n. Stands h k (Commit txn n reply changes values rows)) (sym two) s) in
+          let commit : IsRecordAt h k (Commit (txn_no a.txn) a.number reply changes values rows) =
+          subst (λ n. IsRecordAt h k (Commit (txn_no n) a.number reply changes values rows)) (sym one)
+          (subst (λ n. IsRecordAt h k (Commit txn n reply changes values rows)) (sym two) s) in
           let is : IsCommitted h made = record { started = from_attempts h a found.0; committed = commit } in
           subst (IsCommitted h) same is
     ] refl e
@@ -123,7 +123,7 @@ committed_from h (k, Nothing) t s e = absurd (cc)
 pub from_committed : (h : History) (t : Committed) → Contains (committed h) t → IsCommitted h t
 from_committed h t m =
     let r = Contains-from_filter_map (committed_of (attempts h)) (placed 0 h) t m in
-    committed_from h r.0 t (stands_at h r.0 r.1) r.2
+    committed_from h r.0 t (recorded_at h r.0 r.1) r.2
 
 -- where of a transaction and number there is one Start
 pub in_committed : (h : History)

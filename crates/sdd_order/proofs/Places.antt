@@ -1,8 +1,8 @@
 -- A record at a place is one record.
-use Rattle.sdd_order.proofs.All.{Attempt, ClassNo, Commit, Committed, HasCommit, History, IsAttempt, IsCommitted, Some, Stands, Start, Submit, Ts, TxnNo, ap, class_no, subst, sym, time_at, txn_no, ℕ, ◌∙◌, ◌≡◌}
+use Rattle.sdd_order.proofs.All.{Attempt, ClassNo, Commit, Committed, HasCommit, History, IsAttempt, IsCommitted, IsRecordAt, Some, Start, Submit, Ts, TxnNo, ap, class_no, subst, sym, time_at, txn_no, ℕ, ◌∙◌, ◌≡◌}
 
 -- two Submits at one place are of one transaction
-pub one_submitted : (h : History) (n m k : ℕ) → Stands h k (Submit (txn_no n)) → Stands h k (Submit (txn_no m)) → n ≡ m
+pub one_submitted : (h : History) (n m k : ℕ) → IsRecordAt h k (Submit (txn_no n)) → IsRecordAt h k (Submit (txn_no m)) → n ≡ m
 one_submitted h n m k a b =
     let e : Some (Submit (txn_no n)) ≡ Some (Submit (txn_no m)) = sym a ∙ b in
     let t : txn_no n ≡ txn_no m = cc in
@@ -22,7 +22,7 @@ pub same_start : (h : History) (a b : Attempt) → IsAttempt h a → IsAttempt h
 same_start h a b p q same =
     let e : Some (Start (txn_no a.txn) a.number (class_no a.class) (time_at a.ts) a.p2 a.uses)
     ≡ Some (Start (txn_no b.txn) b.number (class_no b.class) (time_at b.ts) b.p2 b.uses) =
-    sym p ∙ subst (λ k. Stands h k (Start (txn_no b.txn) b.number (class_no b.class) (time_at b.ts) b.p2 b.uses)) (sym same) q in
+    sym p ∙ subst (λ k. IsRecordAt h k (Start (txn_no b.txn) b.number (class_no b.class) (time_at b.ts) b.p2 b.uses)) (sym same) q in
     let t : txn_no a.txn ≡ txn_no b.txn = cc in
     let c : class_no a.class ≡ class_no b.class = cc in
     let s : time_at a.ts ≡ time_at b.ts = cc in
@@ -62,12 +62,12 @@ pub same_commit : (h : History) (t u : Committed) → IsCommitted h t → IsComm
 same_commit h t u p q same =
     let e : Some (Commit (txn_no t.start.txn) t.start.number t.reply t.changes t.values t.rows)
     ≡ Some (Commit (txn_no u.start.txn) u.start.number u.reply u.changes u.values u.rows) =
-    sym p.committed ∙ subst (λ k. Stands h k (Commit (txn_no u.start.txn) u.start.number u.reply u.changes u.values u.rows)) (sym same) q.committed in
+    sym p.committed ∙ subst (λ k. IsRecordAt h k (Commit (txn_no u.start.txn) u.start.number u.reply u.changes u.values u.rows)) (sym same) q.committed in
     let n : txn_no t.start.txn ≡ txn_no u.start.txn = cc in
     record { reply = cc; changes = cc; values = cc; rows = cc; txn = ap (λ (z : TxnNo). z.0) n; number = cc }
 
 pub commit_of : (h : History) (t : Committed) → IsCommitted h t → HasCommit h t.start.txn t.start.number t.place
-commit_of h t c = record { reply = t.reply; changes = t.changes; values = t.values; rows = t.rows; stands = c.committed }
+commit_of h t c = record { reply = t.reply; changes = t.changes; values = t.values; rows = t.rows; is_recorded = c.committed }
 
 pub one_committed : (t u : Committed) → t.start ≡ u.start → SameCommit t u → t.place ≡ u.place → t ≡ u
 one_committed t u start s place =

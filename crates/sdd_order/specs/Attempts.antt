@@ -5,7 +5,7 @@ use Rattle.sdd_lang.specs.All.{Change, Reply, Ts, Use, class_no, contains, fragm
 use Rattle.sdd_history.specs.declared.record.Rec.{Rec}
 use Rattle.sdd_history.specs.declared.record.Rec.TheVariants.{Start, Commit}
 use Rattle.sdd_history.specs.Records.{History}
-use Rattle.sdd_order.specs.Places.{Stands, placed}
+use Rattle.sdd_order.specs.Places.{IsRecordAt, placed}
 
 -- an attempt, as its Start records it, and the place of that record; the attempts of a transaction are numbered from 1
 pub record Attempt : Type 0 where
@@ -28,12 +28,12 @@ pub record Committed : Type 0 where
 
 -- the history has the Start of the attempt
 abbrev pub IsAttempt : History → Attempt → Type 0
-IsAttempt h a = Stands h a.place (Start (txn_no a.txn) a.number (class_no a.class) (time_at a.ts) a.p2 a.uses)
+IsAttempt h a = IsRecordAt h a.place (Start (txn_no a.txn) a.number (class_no a.class) (time_at a.ts) a.p2 a.uses)
 
 -- the history has the Commit of the transaction, and the Start of the attempt that the Commit names
 pub record IsCommitted (h : History) (t : Committed) : Type 0 where
   pub started : IsAttempt h t.start
-  pub committed : Stands h t.place (Commit (txn_no t.start.txn) t.start.number t.reply t.changes t.values t.rows)
+  pub committed : IsRecordAt h t.place (Commit (txn_no t.start.txn) t.start.number t.reply t.changes t.values t.rows)
 
 -- a Commit of an attempt stands at the place, whatever else it tells
 pub record HasCommit (h : History) (txn number place : ℕ) : Type 0 where
@@ -41,7 +41,7 @@ pub record HasCommit (h : History) (txn number place : ℕ) : Type 0 where
   pub changes : List Change
   pub values : ℕ
   pub rows : ℕ
-  pub stands : Stands h place (Commit (txn_no txn) number reply changes values rows)
+  pub is_recorded : IsRecordAt h place (Commit (txn_no txn) number reply changes values rows)
 
 -- the time up to which protocol P2 asks, where there is one
 abbrev pub p2_time : Attempt → ℕ

@@ -5,7 +5,7 @@ use Rattle.sdd_history.specs.declared.record.Rec.TheVariants.{Answer}
 use Rattle.sdd_history.specs.Records.{History}
 use Rattle.sdd_order.specs.Attempts.{Attempt, Committed, IsAttempt, IsCommitted, HasCommit, reads}
 use Rattle.sdd_order.specs.Numbers.{NumbersExist}
-use Rattle.sdd_order.specs.Places.{Stands}
+use Rattle.sdd_order.specs.Places.{IsRecordAt}
 use Rattle.sdd_order.specs.Precedence.{precedes, HasNoCycle}
 
 -- a transaction is none of these, and none of these precedes it
@@ -28,8 +28,8 @@ pub record IsSerial (cat : Catalogue) (h : History) (order : List TxnNo) : Type 
 -- a committed attempt has one Answer at a module
 pub record IsAnsweredOnce (h : History) (t : Committed) (d : ℕ) : Type 0 where
   pub place : ℕ
-  pub stands : Stands h place (Answer (txn_no t.start.txn) t.start.number (dm_no d))
-  pub one : (k : ℕ) → Stands h k (Answer (txn_no t.start.txn) t.start.number (dm_no d)) → k ≡ place
+  pub is_recorded : IsRecordAt h place (Answer (txn_no t.start.txn) t.start.number (dm_no d))
+  pub one : (k : ℕ) → IsRecordAt h k (Answer (txn_no t.start.txn) t.start.number (dm_no d)) → k ≡ place
 
 -- a history that has a serial order
 pub record IsOrderable (cat : Catalogue) (h : History) : Type 0 where

@@ -12,8 +12,8 @@ abbrev pub event_at : History → ℕ → ℕ
 event_at h k = unwrap_or (option_map (λ e. e.0) (slice_get h k)) 0
 
 -- the record stands at the place
-abbrev pub Stands : History → ℕ → Rec → Type 0
-Stands h k r = record_at h k ≡ Some r
+abbrev pub IsRecordAt : History → ℕ → Rec → Type 0
+IsRecordAt h k r = record_at h k ≡ Some r
 
 -- all records, each with its place, where the first stands at k
 abbrev pub placed : ℕ → History → List (ℕ × Rec)

@@ -4,7 +4,7 @@ pub use Rattle.sdd_lang.proofs.Pushdown.{filter-map, filter_none, filter_same, k
 pub use Rattle.sdd_lang.proofs.ReadSetDecides.{rows_picked}
 pub use Rattle.sdd_lang.proofs.SortedEntries.{each_inserted, each_left, item_cmp_exact}
 pub use Rattle.sdd_lang.proofs.catalog.FragmentOf.{le_true}
-pub use Rattle.sdd_lang.specs.All.{Catalogue, Change, Database, Int, Interval, IsOfKeys, IsWithin, Item, RelNo, Row, Tuple, after_changes, all_keys, allowed_keys, answer, changed_by, chosen, column, common, database_of, distinct, entries_of, fragment_at, holds_some, item_cmp, key_in, may_stand, meets_all, product, projection, restrictions_of, rows_lent, rows_of, selection, serial, set_to, with_row, without_row}
+pub use Rattle.sdd_lang.specs.All.{Catalogue, Change, Database, Int, Interval, IsOfKeys, IsWithin, Item, RelNo, Row, Tuple, after_changes, all_keys, allowed_keys, answer, changed_by, chosen, column, common, database_of, distinct, entries_of, fragment_at, holds_some, item_cmp, key_in, may_join, meets_all, product, projection, restrictions_of, rows_lent, rows_of, selection, serial, set_to, with_row, without_row}
 pub use Rattle.sdd_lang.specs.declared.condition.Condition.{Condition}
 pub use Rattle.sdd_lang.specs.declared.condition.Ref.{Ref}
 pub use Rattle.sdd_plain.specs.Held.{AreHeld, AreKeyed, AreKeysOf, AreNear, HasHeldKey, HasKey, is_within}

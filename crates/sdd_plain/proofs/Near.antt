@@ -1,5 +1,5 @@
 -- Rows near a part: among them are all that may stand in it.
-use Rattle.sdd_plain.proofs.All.{All, All-from_recursion, AllByRecursion, AreHeld, AreKeyed, AreKeysOf, AreNear, Bool, Condition, Database, FitsSigned, HasHeldKey, HasKey, Int, Interval, IsOfKeys, IsWithin, Item, List, Row, [], all_keys, allowed_key, allowed_keys, and_both, ap, arith, as_of, chosen, column, common, cond, each_inserted, each_left, eqb-true, false, filter, filter-map, filter_same, int_le, ints, is_at, is_within, item_cmp, item_cmp_exact, keys_of, le_true, map, may_stand, meets_all, parts_meet, recursion_from_All, refl, restrictions_of, rows_of, rows_picked, slice_index, subst, sym, true, w64, with_row, within_common, without_row, ℕ, ℤ, ◌&&◌, ◌-◌, ◌==◌, ◌∙◌, ◌∷◌, ◌≡◌}
+use Rattle.sdd_plain.proofs.All.{All, All-from_recursion, AllByRecursion, AreHeld, AreKeyed, AreKeysOf, AreNear, Bool, Condition, Database, FitsSigned, HasHeldKey, HasKey, Int, Interval, IsOfKeys, IsWithin, Item, List, Row, [], all_keys, allowed_key, allowed_keys, and_both, ap, arith, as_of, chosen, column, common, cond, each_inserted, each_left, eqb-true, false, filter, filter-map, filter_same, int_le, ints, is_at, is_within, item_cmp, item_cmp_exact, keys_of, le_true, map, may_join, meets_all, parts_meet, recursion_from_All, refl, restrictions_of, rows_of, rows_picked, slice_index, subst, sym, true, w64, with_row, within_common, without_row, ℕ, ℤ, ◌&&◌, ◌-◌, ◌==◌, ◌∙◌, ◌∷◌, ◌≡◌}
 use Rattle.sdd_plain.proofs.Chosen.{chosen_of_relation}
 
 abbrev Entry : Type 0
@@ -35,7 +35,7 @@ held_within k fits = grind (arith, ints)
 
 -- an entry's key is among the keys where its row may stand
 abbrev IsNear : ℕ → ℕ → List Condition → Interval → Entry → Type 0
-IsNear rel part conds keys e = e.0.0 ≡ rel → may_stand conds part e.1 ≡ true → IsWithin e.0.1 (common keys all_keys)
+IsNear rel part conds keys e = e.0.0 ≡ rel → may_join conds part e.1 ≡ true → IsWithin e.0.1 (common keys all_keys)
 
 keyed_each : (columns : List ℕ) (rel part : ℕ) (conds : List Condition) (keys : Interval) (db : Database)
     → AreKeysOf part conds (slice_index columns (rel - 1)) keys
@@ -95,23 +95,23 @@ within_test : (k : ℤ) (keys : Interval) → IsWithin k keys → is_within keys
 within_test k keys h = and_both (int_le keys.0 k) (int_le k keys.1) (le_true keys.0 k h.0) (le_true k keys.1 h.1)
 
 abbrev IsTested : ℕ → ℕ → List Condition → Interval → Entry → Type 0
-IsTested rel part conds keys e = e.0.0 ≡ rel → may_stand conds part e.1 ≡ true → is_within keys e.0.1 ≡ true
+IsTested rel part conds keys e = e.0.0 ≡ rel → may_join conds part e.1 ≡ true → is_within keys e.0.1 ≡ true
 
 same_test : (rel part : ℕ) (conds : List Condition) (keys : Interval) (e : Entry) → IsTested rel part conds keys e
-    → (((e.0.0 == rel) && is_within keys e.0.1) && may_stand conds part e.1) ≡ ((e.0.0 == rel) && may_stand conds part e.1)
+    → (((e.0.0 == rel) && is_within keys e.0.1) && may_join conds part e.1) ≡ ((e.0.0 == rel) && may_join conds part e.1)
 same_test rel part conds keys e near =
-    elim (e.0.0 == rel) as (λ b. (e.0.0 == rel) ≡ b → ((b && is_within keys e.0.1) && may_stand conds part e.1) ≡ (b && may_stand conds part e.1)) [
-      | true ↦ λ is. and_follows (may_stand conds part e.1) (is_within keys e.0.1) (near (eqb-true e.0.0 rel is))
+    elim (e.0.0 == rel) as (λ b. (e.0.0 == rel) ≡ b → ((b && is_within keys e.0.1) && may_join conds part e.1) ≡ (b && may_join conds part e.1)) [
+      | true ↦ λ is. and_follows (may_join conds part e.1) (is_within keys e.0.1) (near (eqb-true e.0.0 rel is))
       | false ↦ λ is. refl
     ] refl
 
 tested_rows : (rel part : ℕ) (conds : List Condition) (keys : Interval) (db : Database) → AllByRecursion (IsTested rel part conds keys) db
-    → filter (λ e. ((e.0.0 == rel) && is_within keys e.0.1) && may_stand conds part e.1) db ≡ filter (λ e. (e.0.0 == rel) && may_stand conds part e.1) db
+    → filter (λ e. ((e.0.0 == rel) && is_within keys e.0.1) && may_join conds part e.1) db ≡ filter (λ e. (e.0.0 == rel) && may_join conds part e.1) db
 tested_rows rel part conds keys [] near = refl
 tested_rows rel part conds keys (e ∷ db) near =
     let rest = tested_rows rel part conds keys db near.1 in
-    ap (λ b. cond b (e ∷ filter (λ x. ((x.0.0 == rel) && is_within keys x.0.1) && may_stand conds part x.1) db) (filter (λ x. ((x.0.0 == rel) && is_within keys x.0.1) && may_stand conds part x.1) db)) (same_test rel part conds keys e near.0)
-    ∙ ap (λ es. cond ((e.0.0 == rel) && may_stand conds part e.1) (e ∷ es) es) rest
+    ap (λ b. cond b (e ∷ filter (λ x. ((x.0.0 == rel) && is_within keys x.0.1) && may_join conds part x.1) db) (filter (λ x. ((x.0.0 == rel) && is_within keys x.0.1) && may_join conds part x.1) db)) (same_test rel part conds keys e near.0)
+    ∙ ap (λ es. cond ((e.0.0 == rel) && may_join conds part e.1) (e ∷ es) es) rest
 
 each_tested : (rel part : ℕ) (conds : List Condition) (keys : Interval) (db : Database) → AllByRecursion (IsNear rel part conds keys) db
     → AllByRecursion (IsTested rel part conds (common keys all_keys)) db
@@ -121,32 +121,32 @@ each_tested rel part conds keys (e ∷ db) near =
 
 -- among the rows with such keys are all that may stand
 pub near_rows : (rel part : ℕ) (conds : List Condition) (keys : Interval) (db : Database) → AreNear db rel part conds keys
-    → filter (λ e. may_stand conds part e.1) (filter (λ e. (e.0.0 == rel) && is_within (common keys all_keys) e.0.1) db) ≡ filter (λ e. (e.0.0 == rel) && may_stand conds part e.1) db
+    → filter (λ e. may_join conds part e.1) (filter (λ e. (e.0.0 == rel) && is_within (common keys all_keys) e.0.1) db) ≡ filter (λ e. (e.0.0 == rel) && may_join conds part e.1) db
 near_rows rel part conds keys db near =
-    filter_filter (λ (e : Entry). may_stand conds part e.1) (λ (e : Entry). (e.0.0 == rel) && is_within (common keys all_keys) e.0.1) db
+    filter_filter (λ (e : Entry). may_join conds part e.1) (λ (e : Entry). (e.0.0 == rel) && is_within (common keys all_keys) e.0.1) db
     ∙ tested_rows rel part conds (common keys all_keys) db (each_tested rel part conds keys db (recursion_from_All (IsNear rel part conds keys) db near))
 
 -- what near rows give
 
 -- the rows of the part
 pub part_rows : (rel part : ℕ) (conds : List Condition) (db rows : Database)
-    → filter (λ e. may_stand conds part e.1) rows ≡ filter (λ e. (e.0.0 == rel) && may_stand conds part e.1) db
-    → filter (may_stand conds part) (map (λ e. e.1) rows) ≡ filter (may_stand conds part) (rows_of db rel)
+    → filter (λ e. may_join conds part e.1) rows ≡ filter (λ e. (e.0.0 == rel) && may_join conds part e.1) db
+    → filter (may_join conds part) (map (λ e. e.1) rows) ≡ filter (may_join conds part) (rows_of db rel)
 part_rows rel part conds db rows near =
-    filter-map (may_stand conds part) (λ (e : Entry). e.1) rows
+    filter-map (may_join conds part) (λ (e : Entry). e.1) rows
     ∙ ap (map (λ (e : Entry). e.1)) near
-    ∙ sym (rows_picked (may_stand conds part) rel db)
+    ∙ sym (rows_picked (may_join conds part) rel db)
 
-meets_may : (conds : List Condition) (e : Entry) → meets_all conds (e.1 ∷ []) ≡ true → may_stand conds 1 e.1 ≡ true
+meets_may : (conds : List Condition) (e : Entry) → meets_all conds (e.1 ∷ []) ≡ true → may_join conds 1 e.1 ≡ true
 meets_may conds e h = parts_meet conds (e.1 ∷ []) 1 h
 
 -- the rows that an update or a delete works on
 pub matching_rows : (rel : ℕ) (conds : List Condition) (db rows : Database)
-    → filter (λ e. may_stand conds 1 e.1) rows ≡ filter (λ e. (e.0.0 == rel) && may_stand conds 1 e.1) db
+    → filter (λ e. may_join conds 1 e.1) rows ≡ filter (λ e. (e.0.0 == rel) && may_join conds 1 e.1) db
     → map (as_of rel) (filter (λ e. meets_all conds (e.1 ∷ [])) rows) ≡ chosen db rel conds
 matching_rows rel conds db rows near =
     let met : Entry → Bool = λ e. meets_all conds (e.1 ∷ []) in
-    let may : Entry → Bool = λ e. may_stand conds 1 e.1 in
+    let may : Entry → Bool = λ e. may_join conds 1 e.1 in
     let of : Entry → Bool = λ e. e.0.0 == rel in
     let first : filter met rows ≡ filter met (filter may rows) =
     filter_same met (λ e. may e && met e) (λ e. sym (and_follows (met e) (may e) (meets_may conds e))) rows ∙ sym (filter_filter met may rows) in

@@ -1,6 +1,6 @@
 //! The rows of all relations in memory.
 ghost use Rattle.std.specs.Prelude.{◌≡◌, ◌==◌, ◌&&◌, ◌-◌, [], All, IsTrue, IfOk, OnOk, filter, slice_index};
-ghost use Rattle.sdd_lang.specs.All.{FitsStart, Item, Row as OfRow, after_changes, all_keys, changed_by, chosen, common, database_of, entries_of, fragment_at, may_stand, rows_lent, rows_of, with_row, without_row};
+ghost use Rattle.sdd_lang.specs.All.{FitsStart, Item, Row as OfRow, after_changes, all_keys, changed_by, chosen, common, database_of, entries_of, fragment_at, may_join, rows_lent, rows_of, with_row, without_row};
 ghost use Rattle.sdd_plain.specs.Held.{HasKey, AreNear, is_within};
 ghost use Rattle.sdd_plain.specs.Parts.{standing};
 
@@ -8,7 +8,7 @@ use crate::narrowing::keys_of_part;
 use sdd_exec::Parts;
 use sdd_lang::sdd_base::{Change, Changes, FragNo, NoMemory, Parcel, RelNo, Row, Value};
 use sdd_lang::sdd_catalog::Catalogue;
-use sdd_lang::{Condition, Entries, Entry, Keys, key_of, may_stand, meets_all, value_in};
+use sdd_lang::{Condition, Entries, Entry, Keys, key_of, may_join, meets_all, value_in};
 use std::alloc::Global;
 use std::collections::BTreeMap;
 use std::collections::btree_map::Range;
@@ -115,7 +115,7 @@ impl Rows {
         part: usize,
         conds: &[Condition],
     ) -> Result<Range<'_, (u32, i64), Row>, NoMemory>
-        ensures { let stands = λ (e : Item × OfRow). may_stand conds.now part e.1 in
+        ensures { let stands = λ (e : Item × OfRow). may_join conds.now part e.1 in
             IfOk result (λ rows. filter stands rows ≡ filter (λ e. (e.0.0 == rel.0) && stands e) self.now) }
     {
         let keys = self.keys_near(alloc, rel, part, conds)?;
@@ -151,11 +151,11 @@ impl Rows {
         part: usize,
         conds: &[Condition],
     ) -> Result<Vec<&Row>, NoMemory>
-        ensures { IfOk result (λ rows. rows_lent rows.items ≡ filter (may_stand conds.now part) (rows_of self.now rel.0)) }
+        ensures { IfOk result (λ rows. rows_lent rows.items ≡ filter (may_join conds.now part) (rows_of self.now rel.0)) }
     {
         let mut rows = Vec::new(alloc);
         'rows: for (_, row) in self.near(alloc, rel, part, conds)? {
-            if may_stand(conds, part, row) {
+            if may_join(conds, part, row) {
                 rows.push(row)?;
             }
         }

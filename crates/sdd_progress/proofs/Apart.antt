@@ -3,7 +3,7 @@
 use Rattle.sdd_progress.proofs.All.{AppliedBefore, Committed, Entry, GoesTo, Input, IsAttempt, IsOfEarlierEra, IsSubmitted, Log, Redeclares, Submit, Submitted, [], ap, append_assoc, arith, eras_begun, eras_of, event_at, history, inl, inr, length, length-append, redeclares, refl, submit_in, subst, sym, txn_no, ℕ, ◌++◌, ◌+◌, ◌<◌, ◌∙◌, ◌∷◌, ◌≡◌, ◌≢◌, ◌≤◌}
 use Rattle.sdd_progress.proofs.SinceRedeclare.{redeclares_back}
 use Rattle.sdd_progress.proofs.AtRest.{IsRest, applied_by, committed_by, rest}
-use Rattle.sdd_progress.proofs.Fronts.{ends, history_le, redeclare_between, stands_front}
+use Rattle.sdd_progress.proofs.Fronts.{ends, history_le, recorded_front, redeclare_between}
 use Rattle.sdd_progress.proofs.Known.{Known, begun_at}
 use Rattle.sdd_obligations.specs.serial_orders.Attempts.{Attempt}
 
@@ -49,7 +49,7 @@ module _ (g : Input) (log : Log) (w : Known g log) where
               record {
                 mid = b.mid;
                 at_rest = r;
-                submitted = stands_front (history b.mid) r.more place (Submit (txn_no n)) (omega (arith, inside, mid_long, one, there))
+                submitted = recorded_front (history b.mid) r.more place (Submit (txn_no n)) (omega (arith, inside, mid_long, one, there))
                     (subst (λ z. IsSubmitted z n place) r.history_is s);
                 below = omega (arith, le, up);
               })

@@ -1,11 +1,11 @@
 -- Where a list of classes was put in force: all that was submitted before is committed and applied there.
-use Rattle.sdd_progress.proofs.All.{AllCommitted, AppliedBefore, Apply, AreNumbered, Commit, Committed, GoesTo, HasCommit, HasSoundLists, History, Input, IsAttempt, IsCommitted, IsIdle, IsLawful, IsQuiet, IsSubmitted, Log, Redeclares, Some, Stands, [], ap, append_assoc, applied_before, arith, class_no, committed_in, dm_no, eras_of, goes_module, goes_some, history, history_grows, length, next, redeclares, refl, start_in, start_within, subst, sym, time_at, txn_no, ℕ, ◌++◌, ◌<◌, ◌∙◌, ◌∷◌, ◌≡◌}
+use Rattle.sdd_progress.proofs.All.{AllCommitted, AppliedBefore, Apply, AreNumbered, Commit, Committed, GoesTo, HasCommit, HasSoundLists, History, Input, IsAttempt, IsCommitted, IsIdle, IsLawful, IsQuiet, IsRecordAt, IsSubmitted, Log, Redeclares, Some, [], ap, append_assoc, applied_before, arith, class_no, committed_in, dm_no, eras_of, goes_module, goes_some, history, history_grows, length, next, redeclares, refl, start_in, start_within, subst, sym, time_at, txn_no, ℕ, ◌++◌, ◌<◌, ◌∙◌, ◌∷◌, ◌≡◌}
 use Rattle.sdd_progress.proofs.Applied.{all_applied}
 use Rattle.sdd_progress.proofs.Committed.{all_committed}
 use Rattle.sdd_progress.proofs.ErasOf.{are_eras_of}
 use Rattle.sdd_progress.proofs.Finished.{finished}
 use Rattle.sdd_progress.proofs.SinceRedeclare.{redeclares_back}
-use Rattle.sdd_progress.proofs.Fronts.{stands_front, stands_more, stands_within}
+use Rattle.sdd_progress.proofs.Fronts.{recorded_front, recorded_more, recorded_within}
 use Rattle.sdd_progress.proofs.Known.{Known, started_before}
 
 pub next_at_redeclare : (g : Input) (log later mid : Log) (t : ℕ) → IsLawful g log → log ≡ later ++ Redeclares t ∷ mid → next g mid ≡ Some (Redeclares t)
@@ -62,14 +62,14 @@ module _ (g : Input) (log : Log) (w : Known g log) where
       let c = r.all n k s in (
         c.number,
         c.place,
-        stands_within (history mid) c.place _ c.commit.stands,
+        recorded_within (history mid) c.place _ c.commit.is_recorded,
         record {
           reply = c.commit.reply;
           changes = c.commit.changes;
           values = c.commit.values;
           rows = c.commit.rows;
-          stands = subst (λ z. Stands z c.place (Commit (txn_no n) c.number c.commit.reply c.commit.changes c.commit.values c.commit.rows)) (sym r.history_is)
-              (stands_more (history mid) r.more c.place _ c.commit.stands);
+          is_recorded = subst (λ z. IsRecordAt z c.place (Commit (txn_no n) c.number c.commit.reply c.commit.changes c.commit.values c.commit.rows)) (sym r.history_is)
+              (recorded_more (history mid) r.more c.place _ c.commit.is_recorded);
         },
       )
 
@@ -84,7 +84,7 @@ module _ (g : Input) (log : Log) (w : Known g log) where
         changes = x.changes;
         values = x.values;
         rows = x.rows;
-        stands = subst (λ m. Stands (history log) x.place (Commit (txn_no m) x.start.number x.reply x.changes x.values x.rows)) e c.committed;
+        is_recorded = subst (λ m. IsRecordAt (history log) x.place (Commit (txn_no m) x.start.number x.reply x.changes x.values x.rows)) e c.committed;
       } in
       let one = w.starts.one_commit n there.0 x.start.number there.1 x.place there.3 own in
       omega (arith, within, one)
@@ -95,9 +95,9 @@ module _ (g : Input) (log : Log) (w : Known g log) where
   applied_by mid r x d c l goes =
       let before = started_before g log w x c in
       let ct : IsCommitted (history mid) x = record {
-        started = stands_front (history mid) r.more x.start.place _ (omega (arith, l, before)) (subst (λ z. IsAttempt z x.start) r.history_is c.started);
-        committed = stands_front (history mid) r.more x.place _ l
-            (subst (λ z. Stands z x.place (Commit (txn_no x.start.txn) x.start.number x.reply x.changes x.values x.rows)) r.history_is c.committed);
+        started = recorded_front (history mid) r.more x.start.place _ (omega (arith, l, before)) (subst (λ z. IsAttempt z x.start) r.history_is c.started);
+        committed = recorded_front (history mid) r.more x.place _ l
+            (subst (λ z. IsRecordAt z x.place (Commit (txn_no x.start.txn) x.start.number x.reply x.changes x.values x.rows)) r.history_is c.committed);
       } in
       let t = committed_in g mid x w.sound r.quiet.permitted ct in
       let are = are_eras_of g mid r.lists in
@@ -112,8 +112,8 @@ module _ (g : Input) (log : Log) (w : Known g log) where
         applied = record {
           class = a.applied.class;
           ts = a.applied.ts;
-          stands = subst (λ z. Stands z a.place (Apply (txn_no x.start.txn) (class_no a.applied.class) (dm_no d) (time_at a.applied.ts))) (sym r.history_is)
-              (stands_more (history mid) r.more a.place (Apply (txn_no x.start.txn) (class_no a.applied.class) (dm_no d) (time_at a.applied.ts)) a.applied.stands);
+          is_recorded = subst (λ z. IsRecordAt z a.place (Apply (txn_no x.start.txn) (class_no a.applied.class) (dm_no d) (time_at a.applied.ts))) (sym r.history_is)
+              (recorded_more (history mid) r.more a.place (Apply (txn_no x.start.txn) (class_no a.applied.class) (dm_no d) (time_at a.applied.ts)) a.applied.is_recorded);
         };
         before = a.before;
       }

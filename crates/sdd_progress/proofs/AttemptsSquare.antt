@@ -43,7 +43,7 @@ abbrev Commits : ℕ → ℕ → History → ℕ → Type 0
 Commits n count h q = (place : ℕ) × IsCommitter n count h q place
 
 commit_later : (e : ℕ × Rec) (h : History) (q number place : ℕ) → HasCommit h q number place → HasCommit (e ∷ h) q number (suc place)
-commit_later e h q number place m = record { reply = m.reply; changes = m.changes; values = m.values; rows = m.rows; stands = m.stands }
+commit_later e h q number place m = record { reply = m.reply; changes = m.changes; values = m.values; rows = m.rows; is_recorded = m.is_recorded }
 
 commits_later : (n count : ℕ) (e : ℕ × Rec) (h : History) (q : ℕ) → Commits n count h q → Commits n count (e ∷ h) q
 commits_later n count e h q c =
@@ -63,7 +63,7 @@ commits_here n count (k, Commit txn attempt reply changes values rows) h q named
             from = named.0;
             to = named.1;
             number = attempt;
-            commit = record { reply = reply; changes = changes; values = values; rows = rows; stands = refl };
+            commit = record { reply = reply; changes = changes; values = values; rows = rows; is_recorded = refl };
           })
     ] refl e
 commits_here n count (k, _) h q named e = absurd (cc)

@@ -1,5 +1,5 @@
 -- Where all is finished, every transaction that was submitted is committed, and nothing is pending.
-use Rattle.sdd_progress.proofs.All.{Act, AllCommitted, AreNumbered, Bool, Catalogue, Change, Commit, Did, Does, HasSoundLists, History, Input, IsClass, IsEraOf, IsFinished, IsNotLeft, IsPermitted, IsSubmitIn, IsSubmitted, List, Log, Mark, None, Option, Queued, Rec, Records, Reply, Site, Some, Stands, Submit, Submits, Submitted, T, TmNo, Told, Txn, WasCommitted, [], all_new, ap, arith, class_at, class_for, commit_act_in, commit_rec, cons_none, cons_option, covered, covers_home, dec_le, false, filter_map, for_class, further_back, given_at, history, home, home_by, home_fair, home_setting, if◌then◌else◌, inl, inr, is_committed, length, list_any, member_there, nth_era, option_map, or_left, or_right, permitted_before, place_of_act, positive, queue, queue_is, queued, redeclares, refl, same_or_not, slice_get, stands_there, submit_in, submit_local, submits_of, submitted_in, subst, suc, sym, tm_no, true, txn_no, zero, ℕ, ◌++◌, ◌-◌, ◌∙◌, ◌∷◌, ◌≡◌, ◌⊎◌}
+use Rattle.sdd_progress.proofs.All.{Act, AllCommitted, AreNumbered, Bool, Catalogue, Change, Commit, Did, Does, HasSoundLists, History, Input, IsClass, IsEraOf, IsFinished, IsNotLeft, IsPermitted, IsRecordAt, IsSubmitIn, IsSubmitted, List, Log, Mark, None, Option, Queued, Rec, Records, Reply, Site, Some, Submit, Submits, Submitted, T, TmNo, Told, Txn, WasCommitted, [], all_new, ap, arith, class_at, class_for, commit_act_in, commit_rec, cons_none, cons_option, covered, covers_home, dec_le, false, filter_map, for_class, further_back, given_at, history, home, home_by, home_fair, home_setting, if◌then◌else◌, inl, inr, is_committed, length, list_any, member_there, nth_era, option_map, or_left, or_right, permitted_before, place_of_act, positive, queue, queue_is, queued, recorded_there, redeclares, refl, same_or_not, slice_get, submit_in, submit_local, submits_of, submitted_in, subst, suc, sym, tm_no, true, txn_no, zero, ℕ, ◌++◌, ◌-◌, ◌∙◌, ◌∷◌, ◌≡◌, ◌⊎◌}
 use Rattle.sdd_progress.proofs.SinceRedeclare.{redeclares_back}
 use Rattle.sdd_obligations.specs.All.{Submit as Submitting, txn_at}
 use Rattle.sdd_obligations.specs.logs.Due.{home_of}
@@ -48,13 +48,13 @@ committed_there g log c n e =
     m.is ∙ ap (λ j. m.later ++ Did (Records c (commit_rec j m.attempt t) m.sends) ∷ m.before) m.number_is
     in
     let p = place_of_act g at log m.later act m.before is in
-    let stands : Stands (history log) (length (history p.rest)) (commit_rec n m.attempt t) =
-    subst (λ l. Stands (history l) (length (history p.rest)) (commit_rec n m.attempt t)) (sym p.is)
-    (stands_there p.later (Does at act) p.rest (commit_rec n m.attempt t) refl) in
+    let is_recorded : IsRecordAt (history log) (length (history p.rest)) (commit_rec n m.attempt t) =
+    subst (λ l. IsRecordAt (history l) (length (history p.rest)) (commit_rec n m.attempt t)) (sym p.is)
+    (recorded_there p.later (Does at act) p.rest (commit_rec n m.attempt t) refl) in
     record {
       place = length (history p.rest);
       number = m.attempt;
-      commit = record { reply = m.reply; changes = m.changes; values = m.values; rows = m.rows; stands = stands };
+      commit = record { reply = m.reply; changes = m.changes; values = m.values; rows = m.rows; is_recorded = is_recorded };
     }
 
 -- the text of what is given
@@ -173,7 +173,7 @@ committed_or_queued g log permitted lists numbered n k submitted =
 
 -- what is found of what is left is nothing
 
-any_at : (p : ℕ × Rec → Bool) (h : History) (k : ℕ) (r : Rec) → ((event : ℕ) → p (event, r) ≡ true) → Stands h k r → list_any p h ≡ true
+any_at : (p : ℕ × Rec → Bool) (h : History) (k : ℕ) (r : Rec) → ((event : ℕ) → p (event, r) ≡ true) → IsRecordAt h k r → list_any p h ≡ true
 any_at p [] k r f e = cc
 any_at p ((event, x) ∷ h) zero r f e = let q : x ≡ r = cc in or_left (p (event, x)) (list_any p h) (subst (λ y. p (event, y) ≡ true) (sym q) (f event))
 any_at p (x ∷ h) (suc k) r f e = or_right (p x) (list_any p h) (any_at p h k r f e)
@@ -184,7 +184,7 @@ pub any_commit : (h : History) (p : ℕ × Rec → Bool) (n : ℕ)
     → WasCommitted h n → list_any p h ≡ true
 any_commit h p n f d = let c =
     d.commit in any_at p h d.place (Commit (txn_no n) d.number c.reply c.changes c.values c.rows)
-    (λ event. f event d.number c.reply c.changes c.values c.rows) c.stands
+    (λ event. f event d.number c.reply c.changes c.values c.rows) c.is_recorded
 
 none_found : {A B : Type 0} (f : A → Option B) (xs : List A) → ((k : ℕ) (x : A) → slice_get xs k ≡ Some x → f x ≡ None) → filter_map f xs ≡ []
 none_found f [] h = refl

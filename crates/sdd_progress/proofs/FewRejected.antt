@@ -1,6 +1,6 @@
 -- A transaction's rejected attempts are at most the Commits of other transactions: those before the last have a writer
 -- each, since another attempt started after them; and so has the last, by its Reject.
-use Rattle.sdd_progress.proofs.All.{AreFewRejected, Catalogue, Eras, History, IsAttempt, KeepsRejections, KeepsRejects, KeepsStarts, List, Rec, Reject, Stands, Start, Txn, and_parts, any_at, ap, arith, cases_Bool, class_no, commits_of_others, dm_no, eqb-true, inl, inr, is_reject_of, is_rejected, is_rejected_start, is_start_of, option_map, refl, rejected_of, starts_before, starts_of, subst, suc, time_at, true, txn_no, zero, ℕ, ◌&&◌, ◌==◌, ◌∙◌, ◌≡◌, ◌≤◌}
+use Rattle.sdd_progress.proofs.All.{AreFewRejected, Catalogue, Eras, History, IsAttempt, IsRecordAt, KeepsRejections, KeepsRejects, KeepsStarts, List, Rec, Reject, Start, Txn, and_parts, any_at, ap, arith, cases_Bool, class_no, commits_of_others, dm_no, eqb-true, inl, inr, is_reject_of, is_rejected, is_rejected_start, is_start_of, option_map, refl, rejected_of, starts_before, starts_of, subst, suc, time_at, true, txn_no, zero, ℕ, ◌&&◌, ◌==◌, ◌∙◌, ◌≡◌, ◌≤◌}
 use Rattle.sdd_progress.proofs.Last.{fewer, last_passing, less}
 use Rattle.sdd_progress.proofs.Writers.{WritersBelow, low_of_condition, low_time, one_more, writers, writers_count}
 use Rattle.sdd_obligations.specs.serial_orders.Attempts.{Attempt}
@@ -13,7 +13,7 @@ pub record IsStartAt (h : History) (n k : ℕ) (r : Rec) : Type 0 where
   pub place_is : attempt.place ≡ k
   pub rejected_is : is_rejected_start h n r ≡ is_rejected h n attempt.number
 
-start_at : (h : History) (n k : ℕ) (r : Rec) → Stands h k r → is_start_of n r ≡ true → IsStartAt h n k r
+start_at : (h : History) (n k : ℕ) (r : Rec) → IsRecordAt h k r → is_start_of n r ≡ true → IsStartAt h n k r
 start_at h n k (Start txn attempt class ts p2 uses) s t =
     record {
       attempt = record { txn = txn.0; number = attempt; class = class.0; ts = ts.0; p2 = p2; uses = uses; place = k };
@@ -34,15 +34,15 @@ pub record IsRejectAt (h : History) (n number : ℕ) : Type 0 where
   pub dm : ℕ
   pub class : ℕ
   pub write : ℕ
-  pub stands : Stands h place (Reject (txn_no n) number (dm_no dm) (class_no class) (time_at write))
+  pub is_recorded : IsRecordAt h place (Reject (txn_no n) number (dm_no dm) (class_no class) (time_at write))
 
-reject_is : (h : History) (n number k : ℕ) (r : Rec) → Stands h k r → is_reject_of n number r ≡ true → IsRejectAt h n number
+reject_is : (h : History) (n number k : ℕ) (r : Rec) → IsRecordAt h k r → is_reject_of n number r ≡ true → IsRejectAt h n number
 reject_is h n number k (Reject txn attempt dm class ts) s t =
     let both = and_parts (txn.0 == n) (attempt == number) t in
     let named : Reject txn attempt dm class ts ≡ Reject (txn_no n) number dm class ts =
     ap (λ z. Reject (txn_no z) attempt dm class ts) (eqb-true txn.0 n both.0)
     ∙ ap (λ z. Reject (txn_no n) z dm class ts) (eqb-true attempt number both.1) in
-    record { place = k; dm = dm.0; class = class.0; write = ts.0; stands = subst (Stands h k) named s }
+    record { place = k; dm = dm.0; class = class.0; write = ts.0; is_recorded = subst (IsRecordAt h k) named s }
 reject_is h n number k _ s t = absurd (cc)
 
 reject_at : (h : History) (n number : ℕ) → is_rejected h n number ≡ true → IsRejectAt h n number
@@ -56,7 +56,7 @@ module _ (cat : Catalogue) (eras : Eras) (txns : List Txn) (h : History)
     -- as many writers as attempts up to one that is rejected
     up_to_rejected : (n number count : ℕ) → number ≡ suc count → IsRejectAt h n number → suc count ≤ commits_of_others h n
     up_to_rejected n number count e at =
-        let r = rejects n number at.dm at.class at.write at.place at.stands in
+        let r = rejects n number at.dm at.class at.write at.place at.is_recorded in
         let least = low_of_condition cat eras txns h starting r.attempt at.dm r.cond r.started r.condition in
         let late = r.late in
         let time = r.writer_time in
@@ -69,7 +69,7 @@ module _ (cat : Catalogue) (eras : Eras) (txns : List Txn) (h : History)
     few_of : (n m : ℕ) → starts_of h n ≡ suc m → rejected_of h n ≤ commits_of_others h n
     few_of n m e =
         let l = last_passing (is_start_of n) h m e in
-        let s = start_at h n l.place l.rec l.stands l.passes in
+        let s = start_at h n l.place l.rec l.is_recorded l.passes in
         let a = s.attempt in
         let number : a.number ≡ suc m =
         starting.numbered a s.started ∙ ap suc (ap (λ z. starts_before h z a.place) s.txn_is ∙ ap (λ z. starts_before h n z) s.place_is ∙ l.before) in
@@ -77,7 +77,7 @@ module _ (cat : Catalogue) (eras : Eras) (txns : List Txn) (h : History)
         elim (cases_Bool (is_rejected h n a.number)) [
           | inl rejected ↦ let all = up_to_rejected n a.number m number (reject_at h n a.number rejected) in omega arith
           | inr not_rejected ↦
-              let fewer_by_one = less (is_rejected_start h n) (is_start_of n) (within h n) h l.place l.rec l.stands l.passes (s.rejected_is ∙ not_rejected) in
+              let fewer_by_one = less (is_rejected_start h n) (is_start_of n) (within h n) h l.place l.rec l.is_recorded l.passes (s.rejected_is ∙ not_rejected) in
               let all = writers_count h a.txn (low_time a) m (writers cat eras txns h starting rejecting m a s.started number) in
               let same : commits_of_others h a.txn ≡ commits_of_others h n = ap (commits_of_others h) s.txn_is in
               omega arith

@@ -1,24 +1,24 @@
 -- Fronts of a log and of its history: which entries and records a front has, and where a list of classes was put in force
 -- among the rest.
-use Rattle.sdd_progress.proofs.All.{Entry, History, Log, Rec, Redeclares, Stands, [], ap, append_assoc, arith, history, history_grows, inl, inr, length, length-append, redeclares, refl, suc, sym, zero, ℕ, ◌++◌, ◌<◌, ◌∙◌, ◌∷◌, ◌≡◌, ◌≤◌, ◌⊎◌}
+use Rattle.sdd_progress.proofs.All.{Entry, History, IsRecordAt, Log, Rec, Redeclares, [], ap, append_assoc, arith, history, history_grows, inl, inr, length, length-append, redeclares, refl, suc, sym, zero, ℕ, ◌++◌, ◌<◌, ◌∙◌, ◌∷◌, ◌≡◌, ◌≤◌, ◌⊎◌}
 use Rattle.sdd_progress.proofs.SinceRedeclare.{redeclare_in}
 
 -- records of a front of a history
 
-pub stands_more : (h more : History) (k : ℕ) (r : Rec) → Stands h k r → Stands (h ++ more) k r
-stands_more [] more k r e = cc
-stands_more (x ∷ h) more zero r e = e
-stands_more (x ∷ h) more (suc k) r e = stands_more h more k r e
+pub recorded_more : (h more : History) (k : ℕ) (r : Rec) → IsRecordAt h k r → IsRecordAt (h ++ more) k r
+recorded_more [] more k r e = cc
+recorded_more (x ∷ h) more zero r e = e
+recorded_more (x ∷ h) more (suc k) r e = recorded_more h more k r e
 
-pub stands_front : (h more : History) (k : ℕ) (r : Rec) → k < length h → Stands (h ++ more) k r → Stands h k r
-stands_front [] more k r l e = absurd (omega (arith, l))
-stands_front (x ∷ h) more zero r l e = e
-stands_front (x ∷ h) more (suc k) r l e = stands_front h more k r (omega (arith, l)) e
+pub recorded_front : (h more : History) (k : ℕ) (r : Rec) → k < length h → IsRecordAt (h ++ more) k r → IsRecordAt h k r
+recorded_front [] more k r l e = absurd (omega (arith, l))
+recorded_front (x ∷ h) more zero r l e = e
+recorded_front (x ∷ h) more (suc k) r l e = recorded_front h more k r (omega (arith, l)) e
 
-pub stands_within : (h : History) (k : ℕ) (r : Rec) → Stands h k r → k < length h
-stands_within [] k r e = cc
-stands_within (x ∷ h) zero r e = omega arith
-stands_within (x ∷ h) (suc k) r e = let i = stands_within h k r e in omega (arith, i)
+pub recorded_within : (h : History) (k : ℕ) (r : Rec) → IsRecordAt h k r → k < length h
+recorded_within [] k r e = cc
+recorded_within (x ∷ h) zero r e = omega arith
+recorded_within (x ∷ h) (suc k) r e = let i = recorded_within h k r e in omega (arith, i)
 
 -- two ends of a log: one of them is an end of the other
 pub ends : (a b xs ys : Log) → a ++ xs ≡ b ++ ys → ((p : Log) × (xs ≡ p ++ ys)) ⊎ ((p : Log) × (ys ≡ p ++ xs))

@@ -1,5 +1,5 @@
 -- Every step of the exchange of an active attempt leaves it over, or lacking an answer.
-use Rattle.sdd_progress.proofs.All.{AllAskParts, Asking, AtTurn, Attempt, Bool, ClassNo, Commit, CountsRead, D, Did, Each, Exchange, Fetch, Fetching, Handed, InTurn, IsCounted, IsFair, IsFirstEach, IsGoing, IsRead, IsTimely, List, MayAnswer, Move, Msg, None, Option, Over, Phase, Queued, Read, Reading, Ready, Rec, Records, Reduce, Reduced, ReducesRead, Reducing, Replies, Rows, Sends, Setting, Ship, Shipping, Site, Some, StandsAt, Start, Step, Ts, Turn, Values, [], active, active_after, active_handed, active_sent, after_hand, after_send, answered, answers_asked, ap, askings, asks_rows, awaits, begins, cond, cons_option, contains, contains_either, counted, counts_for, dm_no, eqb-true, false, fetches, fetches_from, filter, filter_map, first_phase, goes_on, head_of, if_way, if◌then◌else◌, in_turn, inl, inr, is_answer, is_awaited, is_empty, is_over, lacking, length, map, module_read, move_at, never, next_move, not, or_left, or_right, phase_ends, queue, readers, reduces, refl, rejects, same_number, ships, started, subst, sym, true, turn_at, uses_at, with_use, with_values, without, ℕ, ◌&&◌, ◌++◌, ◌+◌, ◌==◌, ◌∙◌, ◌∷◌, ◌≡◌}
+use Rattle.sdd_progress.proofs.All.{AllAskParts, Asking, AtTurn, Attempt, Bool, ClassNo, Commit, CountsRead, D, Did, Each, Exchange, Fetch, Fetching, Handed, InTurn, IsAtTurn, IsCounted, IsFair, IsFirstEach, IsGoing, IsRead, IsTimely, List, MayAnswer, Move, Msg, None, Option, Over, Phase, Queued, Read, Reading, Ready, Rec, Records, Reduce, Reduced, ReducesRead, Reducing, Replies, Rows, Sends, Setting, Ship, Shipping, Site, Some, Start, Step, Ts, Turn, Values, [], active, active_after, active_handed, active_sent, after_hand, after_send, answered, answers_asked, ap, askings, asks_rows, awaits, begins, cond, cons_option, contains, contains_either, counted, counts_for, dm_no, eqb-true, false, fetches, fetches_from, filter, filter_map, first_phase, goes_on, head_of, if_way, if◌then◌else◌, in_turn, inl, inr, is_answer, is_awaited, is_empty, is_over, lacking, length, map, module_read, move_at, never, next_move, not, or_left, or_right, phase_ends, queue, readers, reduces, refl, rejects, same_number, ships, started, subst, sym, true, turn_at, uses_at, with_use, with_values, without, ℕ, ◌&&◌, ◌++◌, ◌+◌, ◌==◌, ◌∙◌, ◌∷◌, ◌≡◌}
 use Rattle.sdd_progress.proofs.Lists.{either}
 use Rattle.sdd_progress.proofs.Moves.{move_reads}
 use Rattle.sdd_obligations.specs.site_module.SiteLog.{Log}
@@ -143,7 +143,7 @@ record IsReplyTo (x : Exchange) (d : ℕ) (m : Msg) : Type 0 where
   awaited : awaits x.phase question ≡ true
   uses_are : uses_at x.modules d ≡ uses
 
-reply_to : (x : Exchange) (d : ℕ) (v : Turn) (m : Msg) → StandsAt d x v → MayAnswer v m → IsReplyTo x d m
+reply_to : (x : Exchange) (d : ℕ) (v : Turn) (m : Msg) → IsAtTurn d x v → MayAnswer v m → IsReplyTo x d m
 reply_to x d v m st may =
     let a = answers_asked v m may in
     let w = is_awaited d x v a.uses a.question st a.is in

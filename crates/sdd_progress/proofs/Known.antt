@@ -39,7 +39,7 @@ known g rows log sound fine submits lawful lists up =
 pub started_before : (g : Input) (log : Log) → Known g log → (x : Committed) → IsCommitted (history log) x → x.start.place < x.place
 started_before g log w x c =
     let b = w.after_start x.start.txn x.start.number x.place
-    (record { reply = x.reply; changes = x.changes; values = x.values; rows = x.rows; stands = c.committed }) in
+    (record { reply = x.reply; changes = x.changes; values = x.values; rows = x.rows; is_recorded = c.committed }) in
     let same = one_place g log w.sound w.permitted b.attempt x.start b.started c.started b.txn_is b.number_is in
     let l = b.before in omega (arith, same, l)
 

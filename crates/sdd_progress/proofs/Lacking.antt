@@ -1,5 +1,5 @@
 -- Where nothing goes on, an active attempt has a READ that is not processed.
-use Rattle.sdd_progress.proofs.All.{AllAskParts, AllByRecursion, AllHaveParts, Asks, AtTurn, Attempt, Bool, Catalogue, ClassView, Condition, Const, D, Delete, Exchange, Fetch, FitsCondition, FitsInput, FitsQuery, FitsStatement, FitsText, HasNear, HasParts, HasTurn, Home, Input, IsClass, IsGoing, IsModule, IsNear, IsNearBy, IsPermitted, IsQuiet, IsSound, IsStage, IsUnanswered, List, Log, Msg, None, Open, Option, Put, Query, Read, Reduce, RelNo, Same, Ship, Site, Some, StandsAt, Stmt, Turn, Update, View, [], active, active_near, active_so, agreed, all_new, and_right, answer_goes, answer_of, answer_to, answered_last, answers, ap, apart, arith, asker, askings, asks_open, asks_rows, at_home, at_map, at_module, attempt_due, awaited, base_of, class_asked, class_view, classes_of, cond, contains, data_turns, dm_no, eqb-true, false, filter, first_send, first_some, firsts, from_site, head_of, home, home_fair, home_first, home_of, home_turns, if◌then◌else◌, in_filtered, inl, inr, is_asked_of, is_empty, is_number, is_over, is_question, is_read, length, map, not_both, open_due, opens, or_left, or_none, pipe, question_goes, questions, range_at, reads_asked, recursion_from_All, refl, rows_asked, same_number, send_due, setting_of, slice_get, small_home, sound_whole, spoken, submitted_fit, subst, suc, sym, to_module, true, turn_at, turn_with, unsent, uses_in, view_of, ℕ, ◌+◌, ◌==◌, ◌∙◌, ◌∷◌, ◌≡◌, ◌≤◌}
+use Rattle.sdd_progress.proofs.All.{AllAskParts, AllByRecursion, AllHaveParts, Asks, AtTurn, Attempt, Bool, Catalogue, ClassView, Condition, Const, D, Delete, Exchange, Fetch, FitsCondition, FitsInput, FitsQuery, FitsStatement, FitsText, HasNear, HasParts, HasTurn, Home, Input, IsAtTurn, IsClass, IsGoing, IsModule, IsNear, IsNearBy, IsPermitted, IsQuiet, IsSound, IsStage, IsUnanswered, List, Log, Msg, None, Open, Option, Put, Query, Read, Reduce, RelNo, Same, Ship, Site, Some, Stmt, Turn, Update, View, [], active, active_near, active_so, agreed, all_new, and_right, answer_goes, answer_of, answer_to, answered_last, answers, ap, apart, arith, asker, askings, asks_open, asks_rows, at_home, at_map, at_module, attempt_due, awaited, base_of, class_asked, class_view, classes_of, cond, contains, data_turns, dm_no, eqb-true, false, filter, first_send, first_some, firsts, from_site, head_of, home, home_fair, home_first, home_of, home_turns, if◌then◌else◌, in_filtered, inl, inr, is_asked_of, is_empty, is_number, is_over, is_question, is_read, length, map, not_both, open_due, opens, or_left, or_none, pipe, question_goes, questions, range_at, reads_asked, recursion_from_All, refl, rows_asked, same_number, send_due, setting_of, slice_get, small_home, sound_whole, spoken, submitted_fit, subst, suc, sym, to_module, true, turn_at, turn_with, unsent, uses_in, view_of, ℕ, ◌+◌, ◌==◌, ◌∙◌, ◌∷◌, ◌≡◌, ◌≤◌}
 use Rattle.sdd_progress.proofs.Going.{is_going}
 use Rattle.sdd_progress.proofs.Handed.{none_in_flight}
 use Rattle.sdd_progress.proofs.Lists.{either, head_at, no_head, none_at}
@@ -57,7 +57,7 @@ record IsAskedAt (d : ℕ) (x : Exchange) (v : Turn) : Type 0 where
   is : v ≡ Asks uses question
   within : contains (firsts x.modules) d ≡ true
 
-asked_at : (d : ℕ) (x : Exchange) (v : Turn) → x.to_send ≡ [] → contains x.lacks d ≡ true → StandsAt d x v → IsAskedAt d x v
+asked_at : (d : ℕ) (x : Exchange) (v : Turn) → x.to_send ≡ [] → contains x.lacks d ≡ true → IsAtTurn d x v → IsAskedAt d x v
 asked_at d x v e l (unsent m q ns a b s t u w f h) = let z : [] ≡ m ∷ [] = sym (ap (to_module d) e) ∙ a in cc
 asked_at d x v e l (awaited m ns a b s w f h) = record { uses = ns; question = m; is = s; within = h }
 asked_at d x v e l (answered_last q ns a b s t f h) = absurd (not_both (contains x.lacks d) l b)
@@ -175,9 +175,9 @@ has_unanswered g log c a h good l e =
     (subst (λ o. attempt_due g.catalogue (base_of g log) c o ≡ None) e (exchange_none g log c h good.sound l)) in
     let lack = lacking_one a.exchange.lacks (going.lacks waits.not_over) in
     let d : ℕ = lack.0 in
-    let stands : AtTurn a.ts d (Some a) (turn_at a.ts c d (at_home g c log)) =
+    let is_recorded : AtTurn a.ts d (Some a) (turn_at a.ts c d (at_home g c log)) =
     subst (λ o. AtTurn a.ts d o (turn_at a.ts c d (at_home g c log))) e (turns.turns a.ts d) in
-    let q = asked_at d a.exchange (turn_at a.ts c d (at_home g c log)) waits.nothing_to_send lack.1 (stands.0 refl) in
+    let q = asked_at d a.exchange (turn_at a.ts c d (at_home g c log)) waits.nothing_to_send lack.1 (is_recorded.0 refl) in
     let near : IsNearBy g.catalogue.dms a.exchange =
     subst (HasNear g.catalogue.dms) e (active_near s c (at_home g c log) (sound_whole g.catalogue good.sound) (home_fair g c log h.permitted)) in
     let m : IsModule g.catalogue d = near_one g.catalogue.dms d a.exchange.modules a.exchange near q.within in

@@ -1,5 +1,5 @@
 -- The last record that passes a test; and that fewer pass a narrower one.
-use Rattle.sdd_progress.proofs.All.{Bool, History, List, Rec, Stands, [], ap, arith, cond, false, false≢true, filter, length, refl, same_Some, subst, suc, sym, take, true, zero, ℕ, ◌<◌, ◌∙◌, ◌∷◌, ◌≡◌, ◌≤◌}
+use Rattle.sdd_progress.proofs.All.{Bool, History, IsRecordAt, List, Rec, [], ap, arith, cond, false, false≢true, filter, length, refl, same_Some, subst, suc, sym, take, true, zero, ℕ, ◌<◌, ◌∙◌, ◌∷◌, ◌≡◌, ◌≤◌}
 
 abbrev pub passing : (Rec → Bool) → History → ℕ
 passing test h = length (filter (λ e. test e.1) h)
@@ -7,7 +7,7 @@ passing test h = length (filter (λ e. test e.1) h)
 pub record LastPassing (test : Rec → Bool) (h : History) (n : ℕ) : Type 0 where
   pub place : ℕ
   pub rec : Rec
-  pub stands : Stands h place rec
+  pub is_recorded : IsRecordAt h place rec
   pub passes : test rec ≡ true
   pub before : passing test (take place h) ≡ n
 
@@ -16,13 +16,13 @@ last_passing test [] n e = absurd (omega arith)
 last_passing test (x ∷ h) n e =
     elim (test x.1) as (λ b. test x.1 ≡ b → length (cond b (x ∷ filter (λ d. test d.1) h) (filter (λ d. test d.1) h)) ≡ suc n → LastPassing test (x ∷ h) n) [
       | true ↦ λ t l. elim n as (λ m. n ≡ m → LastPassing test (x ∷ h) m) [
-        | zero ↦ λ z. record { place = 0; rec = x.1; stands = refl; passes = t; before = refl }
+        | zero ↦ λ z. record { place = 0; rec = x.1; is_recorded = refl; passes = t; before = refl }
         | suc m ↦ λ z.
             let r = last_passing test h m (omega arith) in
             record {
               place = suc r.place;
               rec = r.rec;
-              stands = r.stands;
+              is_recorded = r.is_recorded;
               passes = r.passes;
               before = ap (λ b. length (cond b (x ∷ filter (λ d. test d.1) (take r.place h)) (filter (λ d. test d.1) (take r.place h)))) t ∙ ap suc r.before;
             }
@@ -32,7 +32,7 @@ last_passing test (x ∷ h) n e =
           record {
             place = suc r.place;
             rec = r.rec;
-            stands = r.stands;
+            is_recorded = r.is_recorded;
             passes = r.passes;
             before = ap (λ b. length (cond b (x ∷ filter (λ d. test d.1) (take r.place h)) (filter (λ d. test d.1) (take r.place h)))) t ∙ r.before;
           }
@@ -60,7 +60,7 @@ module _ (narrow test : Rec → Bool) (within : (r : Rec) → narrow r ≡ true 
   fewer (e ∷ h) = counted_fewer (narrow e.1) (test e.1) e (filter (λ d. narrow d.1) h) (filter (λ d. test d.1) h) (within e.1) (fewer h)
 
   -- and less where one passes the wider test alone
-  pub less : (h : History) (k : ℕ) (r : Rec) → Stands h k r → test r ≡ true → narrow r ≡ false → passing narrow h < passing test h
+  pub less : (h : History) (k : ℕ) (r : Rec) → IsRecordAt h k r → test r ≡ true → narrow r ≡ false → passing narrow h < passing test h
   less [] k r s t n = absurd (cc)
   less (e ∷ h) zero r s t n =
       let same = same_Some e.1 r s in

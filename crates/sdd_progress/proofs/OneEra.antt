@@ -1,5 +1,5 @@
 -- No list of classes is put in force between the Submit of a transaction and one of its Starts.
-use Rattle.sdd_progress.proofs.All.{Commit, Committed, Did, Does, HasCommit, Input, IsAttempt, IsCommitted, IsSubmitted, Log, Stands, Submit, Submitted, [], act_local, ap, append_assoc, arith, commit_act, committed_in, committed_later, dec_le, eras_begun, eras_of, event_at, false, history, home, is_committed, length, length-append, one_start_class, redeclares, refl, start_act_of, start_in, submit_in, subst, sym, true, txn_no, ℕ, ◌++◌, ◌+◌, ◌<◌, ◌∙◌, ◌∷◌, ◌≡◌, ◌≤◌}
+use Rattle.sdd_progress.proofs.All.{Commit, Committed, Did, Does, HasCommit, Input, IsAttempt, IsCommitted, IsRecordAt, IsSubmitted, Log, Submit, Submitted, [], act_local, ap, append_assoc, arith, commit_act, committed_in, committed_later, dec_le, eras_begun, eras_of, event_at, false, history, home, is_committed, length, length-append, one_start_class, redeclares, refl, start_act_of, start_in, submit_in, subst, sym, true, txn_no, ℕ, ◌++◌, ◌+◌, ◌<◌, ◌∙◌, ◌∷◌, ◌≡◌, ◌≤◌}
 use Rattle.sdd_progress.proofs.SinceRedeclare.{redeclares_back}
 use Rattle.sdd_progress.proofs.Apart.{apart}
 use Rattle.sdd_progress.proofs.AtRest.{commit_there}
@@ -18,8 +18,8 @@ module _ (g : Input) (log : Log) (w : Known g log) where
       let t : Committed = record { start = b.attempt; reply = c.reply; changes = c.changes; values = c.values; rows = c.rows; place = place } in
       let ct : IsCommitted (history log) t = record {
         started = b.started;
-        committed = subst (λ m. Stands (history log) place (Commit (txn_no m) b.attempt.number c.reply c.changes c.values c.rows)) (sym b.txn_is)
-            (subst (λ m. Stands (history log) place (Commit (txn_no a.txn) m c.reply c.changes c.values c.rows)) (sym b.number_is) c.stands);
+        committed = subst (λ m. IsRecordAt (history log) place (Commit (txn_no m) b.attempt.number c.reply c.changes c.values c.rows)) (sym b.txn_is)
+            (subst (λ m. IsRecordAt (history log) place (Commit (txn_no a.txn) m c.reply c.changes c.values c.rows)) (sym b.number_is) c.is_recorded);
       } in
       let t0 = committed_in g log t w.sound w.permitted ct in
       let class : a.class ≡ b.attempt.class = one_start_class g log a b.attempt w.permitted (start_in g log a w.sound w.permitted s)

@@ -1,5 +1,5 @@
 -- Different places at which records pass a test are at most as many as records that pass it.
-use Rattle.sdd_progress.proofs.All.{AllByRecursion, Bool, History, IsDistinct, List, Rec, Stands, [], ap, arith, cases_Bool, cond, eq-eqb, eqb, eqb-true, false, filter, inl, inr, length, length-le_from_is_member, list_any, nat_eq_equiv, refl, same_Some, subst, suc, true, zero, ℕ, ◌+◌, ◌||◌, ◌∙◌, ◌∷◌, ◌≡◌, ◌≤◌}
+use Rattle.sdd_progress.proofs.All.{AllByRecursion, Bool, History, IsDistinct, IsRecordAt, List, Rec, [], ap, arith, cases_Bool, cond, eq-eqb, eqb, eqb-true, false, filter, inl, inr, length, length-le_from_is_member, list_any, nat_eq_equiv, refl, same_Some, subst, suc, true, zero, ℕ, ◌+◌, ◌||◌, ◌∙◌, ◌∷◌, ◌≡◌, ◌≤◌}
 
 -- all such places, the first counted as k
 places : (Rec → Bool) → ℕ → History → List ℕ
@@ -16,7 +16,7 @@ as_many test k (e ∷ h) =
       | false ↦ as_many test (suc k) h
     ]
 
-there : (test : Rec → Bool) (k : ℕ) (h : History) (j : ℕ) (r : Rec) → Stands h j r → test r ≡ true → list_any (eqb (k + j)) (places test k h) ≡ true
+there : (test : Rec → Bool) (k : ℕ) (h : History) (j : ℕ) (r : Rec) → IsRecordAt h j r → test r ≡ true → list_any (eqb (k + j)) (places test k h) ≡ true
 unfolding places
 there test k [] j r s t = absurd (cc)
 there test k (e ∷ h) zero r s t =
@@ -35,7 +35,7 @@ there test k (e ∷ h) (suc j) r s t =
 -- a record that passes stands at the place
 pub record Passes (test : Rec → Bool) (h : History) (place : ℕ) : Type 0 where
   pub rec : Rec
-  pub stands : Stands h place rec
+  pub is_recorded : IsRecordAt h place rec
   pub passes : test rec ≡ true
 
 each_there : (test : Rec → Bool) (h : History) (ks : List ℕ) → AllByRecursion (Passes test h) ks → (q : ℕ)
@@ -46,7 +46,7 @@ each_there test h (k ∷ ks) all q e =
       | inl same ↦
           let p = all.0 in
           let z : 0 + k ≡ q = omega (arith, eqb-true q k same) in
-          subst (λ m. list_any (eqb m) (places test 0 h) ≡ true) z (there test 0 h k p.rec p.stands p.passes)
+          subst (λ m. list_any (eqb m) (places test 0 h) ≡ true) z (there test 0 h k p.rec p.is_recorded p.passes)
       | inr other ↦ each_there test h ks all.1 q (rw other at e)
     ]
 

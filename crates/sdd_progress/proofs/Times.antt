@@ -1,5 +1,5 @@
 -- Of two committed transactions of different eras the first has the smaller timestamp.
-use Rattle.sdd_progress.proofs.All.{Commit, Committed, Did, Does, Entry, HasCommit, Input, IsCommitted, IsOfEarlierEra, Log, Redeclares, Site, Stands, T, [], act_local, ap, append_assoc, arith, clock, clock_grows, eras_of, false, greatest_bound, history, home, home_small, inl, inr, length, length-append, local_grows, local_of, number_of, refl, same_or_not, setting_of, sound_whole, stamp_ticks, start_act_of, start_in, start_within, subst, sym, tm_no, txn_no, ℕ, ◌*◌, ◌++◌, ◌+◌, ◌/◌, ◌<◌, ◌==◌, ◌∙◌, ◌∷◌, ◌≡◌, ◌≤◌}
+use Rattle.sdd_progress.proofs.All.{Commit, Committed, Did, Does, Entry, HasCommit, Input, IsCommitted, IsOfEarlierEra, IsRecordAt, Log, Redeclares, Site, T, [], act_local, ap, append_assoc, arith, clock, clock_grows, eras_of, false, greatest_bound, history, home, home_small, inl, inr, length, length-append, local_grows, local_of, number_of, refl, same_or_not, setting_of, sound_whole, stamp_ticks, start_act_of, start_in, start_within, subst, sym, tm_no, txn_no, ℕ, ◌*◌, ◌++◌, ◌+◌, ◌/◌, ◌<◌, ◌==◌, ◌∙◌, ◌∷◌, ◌≡◌, ◌≤◌}
 use Rattle.sdd_progress.proofs.ErasOf.{are_eras_of}
 use Rattle.sdd_progress.proofs.IdleAtRedeclares.{at_redeclare}
 use Rattle.sdd_progress.proofs.Apart.{committed_first, earlier, other_txn}
@@ -75,7 +75,7 @@ module _ (g : Input) (log : Log) (w : Known g log) where
             | inl b ↦ b.time
             | inr a ↦ (let some = (sound_whole g.catalogue w.sound).some_dm in
                 let b = a.applied 1 (omega arith, some) in
-                let c = w.applies.of_commit y.start.txn b.applied.class 1 b.applied.ts b.place b.applied.stands in
+                let c = w.applies.of_commit y.start.txn b.applied.class 1 b.applied.ts b.place b.applied.is_recorded in
                 let one = w.starts.one_commit y.start.txn c.committed.start.number y.start.number c.committed.place y.place
                 (commit_of c.committed y.start.txn c.is_committed c.txn_is) (commit_of y y.start.txn o.second refl) in
                 let l = c.before in let m = b.before in
@@ -91,5 +91,5 @@ module _ (g : Input) (log : Log) (w : Known g log) where
         changes = t.changes;
         values = t.values;
         rows = t.rows;
-        stands = subst (λ m. Stands (history log) t.place (Commit (txn_no m) t.start.number t.reply t.changes t.values t.rows)) e c.committed;
+        is_recorded = subst (λ m. IsRecordAt (history log) t.place (Commit (txn_no m) t.start.number t.reply t.changes t.values t.rows)) e c.committed;
       }

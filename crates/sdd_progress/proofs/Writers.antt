@@ -1,5 +1,5 @@
 -- The writers by which the attempts of a transaction are rejected: each has a later timestamp than the ones before.
-use Rattle.sdd_progress.proofs.All.{AllByRecursion, Catalogue, Commit, Committed, Cond, Eras, History, IsAgain, IsAttempt, IsCommitted, IsConditionOf, IsDistinct-cons, KeepsRejections, KeepsStarts, List, None, Option, Some, Stands, Submit, Ts, Txn, [], ap, arith, cases_lt, catalogue_at, class_for, commits_of_others, condition_time, eqb, event_at, false, inl, inr, is_commit_of_other, length, ne_eqb, not, one_start, option_map, refl, same_Some, same_commit, same_start, start_counts, starts_before, subst, suc, sym, txn_at, txn_no, unwrap_or, zero, ℕ, ◌<◌, ◌∙◌, ◌∷◌, ◌≡◌, ◌≢◌, ◌≤◌, ◌⊎◌}
+use Rattle.sdd_progress.proofs.All.{AllByRecursion, Catalogue, Commit, Committed, Cond, Eras, History, IsAgain, IsAttempt, IsCommitted, IsConditionOf, IsDistinct-cons, IsRecordAt, KeepsRejections, KeepsStarts, List, None, Option, Some, Submit, Ts, Txn, [], ap, arith, cases_lt, catalogue_at, class_for, commits_of_others, condition_time, eqb, event_at, false, inl, inr, is_commit_of_other, length, ne_eqb, not, one_start, option_map, refl, same_Some, same_commit, same_start, start_counts, starts_before, subst, suc, sym, txn_at, txn_no, unwrap_or, zero, ℕ, ◌<◌, ◌∙◌, ◌∷◌, ◌≡◌, ◌≢◌, ◌≤◌, ◌⊎◌}
 use Rattle.std.specs.List.{IsDistinct}
 use Rattle.sdd_progress.proofs.Places.{Passes, few_places}
 use Rattle.sdd_obligations.specs.serial_orders.Attempts.{Attempt}
@@ -54,7 +54,7 @@ passing h n bound place w =
     let t = w.txn in
     record {
       rec = Commit (txn_no t.start.txn) t.start.number t.reply t.changes t.values t.rows;
-      stands = subst (λ k. Stands h k (Commit (txn_no t.start.txn) t.start.number t.reply t.changes t.values t.rows)) w.at w.committed.committed;
+      is_recorded = subst (λ k. IsRecordAt h k (Commit (txn_no t.start.txn) t.start.number t.reply t.changes t.values t.rows)) w.at w.committed.committed;
       passes = ap not (ne_eqb t.start.txn n w.other);
     }
 
@@ -71,7 +71,7 @@ module _ (cat : Catalogue) (eras : Eras) (txns : List Txn) (h : History) (starti
       let s = starting.submitted a p in
       let t = starting.submitted b q in
       let at : s.place ≡ t.place =
-      starting.one_submit b.txn s.place t.place (subst (λ n. Stands h s.place (Submit (txn_no n))) e s.submitted) t.submitted in
+      starting.one_submit b.txn s.place t.place (subst (λ n. IsRecordAt h s.place (Submit (txn_no n))) e s.submitted) t.submitted in
       let text : s.txn ≡ t.txn = same_Some s.txn t.txn (sym s.txn_is ∙ ap (txn_at txns) e ∙ t.txn_is) in
       s.class_is ∙ ap (λ k. class_for (catalogue_at cat eras (event_at h k)) s.txn) at ∙ ap (class_for (catalogue_at cat eras (event_at h t.place))) text
       ∙ sym t.class_is

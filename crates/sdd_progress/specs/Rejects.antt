@@ -1,6 +1,6 @@
 -- The law of Rejects: why each attempt that is rejected is so.
 use Rattle.std.specs.Prelude.{ℕ, ◌<◌, ◌≤◌, ◌≡◌, ◌≢◌}
-use Rattle.sdd_obligations.specs.All.{AppliedBefore, Catalogue, ChangesOne, Committed, Cond, Eras, History, IsAttempt, IsCommitted, IsConditionOf, Reject, Stands, class_no, dm_no, time_at, txn_no}
+use Rattle.sdd_obligations.specs.All.{AppliedBefore, Catalogue, ChangesOne, Committed, Cond, Eras, History, IsAttempt, IsCommitted, IsConditionOf, IsRecordAt, Reject, class_no, dm_no, time_at, txn_no}
 use Rattle.sdd_obligations.specs.serial_orders.Attempts.{Attempt}
 
 -- why a Reject at the place is of attempt `number` of transaction n, at module dm, and names the class and the timestamp
@@ -29,5 +29,5 @@ pub record IsRejected (cat : Catalogue) (eras : Eras) (h : History) (n number dm
 abbrev pub KeepsRejects : Catalogue → Eras → History → Type 0
 KeepsRejects cat eras h =
     (n number dm class write place : ℕ)
-    → Stands h place (Reject (txn_no n) number (dm_no dm) (class_no class) (time_at write))
+    → IsRecordAt h place (Reject (txn_no n) number (dm_no dm) (class_no class) (time_at write))
     → IsRejected cat eras h n number dm class write place

@@ -3,7 +3,7 @@ pub use Rattle.sdd_lists.proofs.WholeSound.{whole_sound}
 pub use Rattle.sdd_lists.specs.InForce.{classes_in, eras_in, whole_in}
 pub use Rattle.sdd_make.specs.Summary.{summary_of, summary_text}
 pub use Rattle.sdd_make.specs.declared.summary.Summary.{Summary}
-pub use Rattle.sdd_obligations.proofs.AtTurn.{StandsAt, answered_last, apart, awaited, unsent}
+pub use Rattle.sdd_obligations.proofs.AtTurn.{IsAtTurn, answered_last, apart, awaited, unsent}
 pub use Rattle.sdd_obligations.proofs.Done.{count_join}
 pub use Rattle.sdd_obligations.proofs.Halves.{home_turns}
 pub use Rattle.sdd_obligations.proofs.Hearing.{AtTurn}
@@ -45,7 +45,7 @@ pub use Rattle.sdd_obligations.proofs.protocol.Laws.{one_table}
 pub use Rattle.sdd_obligations.proofs.serial_orders.Places.{same_start}
 pub use Rattle.sdd_obligations.proofs.serial_orders.Serial.{serial_order_is}
 pub use Rattle.sdd_obligations.specs.AfterEvents.{down_from}
-pub use Rattle.sdd_obligations.specs.All.{Act, AllFewTicks, Answer, Apply, AreAllApplied, AreSubmittedOnce, Arrive, Catalogue, Class, ClassNo, ClassState, Commit, Committed, Cond, Condition, Const, D, Delete, Deliver, DmNo, Does, Down, EndsByLimit, Era, Eras, Event, Exchange, FitsCondition, FitsInput, FitsStart, FitsStatement, FragNo, Hand, HasCommit, History, Input, IsAttempt, IsAwaited, IsClass, IsClassOf, IsCommitted, IsDatabase, IsEra, IsEraOf, IsGood, IsHeld, IsLawful, IsModule, IsOrderable, IsPermitted, IsPossible, IsSerial, IsSound, IsSubmitted, IsTable, IsTheLog, KeepsStarts, Kept, Log, Lose, MAX_DMS, MAX_TMS, Mark, Msg, Notes, Nothing, Pass, Put, PutsHeld, Query, Queued, Read, Rec, Records, Redeclare, Redeclares, Reject, RelNo, Repeat, Reply, Resend, Round, Row, Same, Setting, Settle, Site, Standing, Stands, Start, Stmt, Submitted, T, Tick, TmCounts, Ts, Turn, Txn, TxnNo, U, Up, Update, Use, Wait, active, after_mark, all_links, are_linked, attempt_due, attempt_of, attempts, base_of, by_event, by_mark, calls_of, class_at, class_no, committed, committed_of, contains, contents, counts, database_of, dated, delivered, dm_no, does_at, due_by, event_at, hand_due, hand_number, hand_on, handed, has_copy, head, head_of, history, home, is_apply, is_empty, is_link, is_over, is_site, last_served, left, link_of, local_of, mark_from, mark_of, marks, next, next_at, next_number, note_if, nth_era, numbers_to, one_if, pipe_at, placed, queue, quiet, redeclares, redeclares_in, round, rows_of, run, runs, send_due, setting_of, site_due, sites, standing_among, standing_in, submits_in, time_at, tm_no, turn_at, txn_at, txn_no, with_event}
+pub use Rattle.sdd_obligations.specs.All.{Act, AllFewTicks, Answer, Apply, AreAllApplied, AreSubmittedOnce, Arrive, Catalogue, Class, ClassNo, ClassState, Commit, Committed, Cond, Condition, Const, D, Delete, Deliver, DmNo, Does, Down, EndsByLimit, Era, Eras, Event, Exchange, FitsCondition, FitsInput, FitsStart, FitsStatement, FragNo, Hand, HasCommit, History, Input, IsAttempt, IsAwaited, IsClass, IsClassOf, IsCommitted, IsDatabase, IsEra, IsEraOf, IsGood, IsHeld, IsLawful, IsModule, IsOrderable, IsPermitted, IsPossible, IsRecordAt, IsSerial, IsSound, IsSubmitted, IsTable, IsTheLog, KeepsStarts, Kept, Log, Lose, MAX_DMS, MAX_TMS, Mark, Msg, Notes, Nothing, Pass, Put, PutsHeld, Query, Queued, Read, Rec, Records, Redeclare, Redeclares, Reject, RelNo, Repeat, Reply, Resend, Round, Row, Same, Setting, Settle, Site, Standing, Start, Stmt, Submitted, T, Tick, TmCounts, Ts, Turn, Txn, TxnNo, U, Up, Update, Use, Wait, active, after_mark, all_links, are_linked, attempt_due, attempt_of, attempts, base_of, by_event, by_mark, calls_of, class_at, class_no, committed, committed_of, contains, contents, counts, database_of, dated, delivered, dm_no, does_at, due_by, event_at, hand_due, hand_number, hand_on, handed, has_copy, head, head_of, history, home, is_apply, is_empty, is_link, is_over, is_site, last_served, left, link_of, local_of, mark_from, mark_of, marks, next, next_at, next_number, note_if, nth_era, numbers_to, one_if, pipe_at, placed, queue, quiet, redeclares, redeclares_in, round, rows_of, run, runs, send_due, setting_of, site_due, sites, standing_among, standing_in, submits_in, time_at, tm_no, turn_at, txn_at, txn_no, with_event}
 pub use Rattle.sdd_obligations.specs.Bounds.{IsSmall}
 pub use Rattle.sdd_obligations.specs.Heights.{ticks_of}
 pub use Rattle.sdd_obligations.specs.Reading.{HasEras}
@@ -78,7 +78,7 @@ pub use Rattle.sdd_progress.proofs.AtRest.{commit_there, rest}
 pub use Rattle.sdd_progress.proofs.Committed.{IsQueued, any_commit, committed_or_queued}
 pub use Rattle.sdd_progress.proofs.Copies.{applied_at_copies}
 pub use Rattle.sdd_progress.proofs.ErasOf.{are_eras_of, marks_up as marks_later}
-pub use Rattle.sdd_progress.proofs.Fronts.{history_le, redeclare_between, stands_front}
+pub use Rattle.sdd_progress.proofs.Fronts.{history_le, recorded_front, redeclare_between}
 pub use Rattle.sdd_progress.proofs.IdleAtRedeclares.{at_redeclare}
 pub use Rattle.sdd_progress.proofs.Known.{Known, known}
 pub use Rattle.sdd_progress.proofs.Lacking.{goes_on, near_one, no_sends}
@@ -96,7 +96,7 @@ pub use Rattle.sdd_progress.proofs.lawful.Classes.{at_home, home_setting}
 pub use Rattle.sdd_progress.proofs.lawful.Homes.{positive}
 pub use Rattle.sdd_progress.proofs.lawful.Makers.{act_kind}
 pub use Rattle.sdd_progress.proofs.lawful.Numbered.{lawful_numbered}
-pub use Rattle.sdd_progress.proofs.lawful.Places.{event_there, stands_there}
+pub use Rattle.sdd_progress.proofs.lawful.Places.{event_there, recorded_there}
 pub use Rattle.sdd_progress.proofs.lawful.SameCopies.{same_copy}
 pub use Rattle.sdd_progress.proofs.lawful.Submissions.{given_at, one_submit, submit_in}
 pub use Rattle.sdd_progress.proofs.lawful.Together.{copies as left_in_copies, replies}
@@ -138,7 +138,7 @@ pub use Rattle.sdd_run.specs.Reasons.{IsNumberedSite, IsReason, IsStanding}
 pub use Rattle.sdd_run.specs.Reports.{report_by, report_of}
 pub use Rattle.sdd_run.specs.Runs.{AreTables, EndsAtLimit, IsFreeInEach, IsReportOn, IsSummaryOn, begun, eras_with_tables, input_of, order_of, plain_run}
 pub use Rattle.sdd_run.specs.Settled.{EndsAtRest, EndsQuiet, IsAtRest, LosesNothing, NoneIsDown, TellsAllCommitted}
-pub use Rattle.sdd_run.specs.Standing.{IsSubmittedBefore, StandsBefore, times_in, times_pending}
+pub use Rattle.sdd_run.specs.ComesBefore.{ComesBefore, IsSubmittedBefore, times_in, times_pending}
 pub use Rattle.sdd_run.specs.Worlds.{IsRunOf}
 pub use Rattle.sdd_script.proofs.NamePlaces.{none_found}
 pub use Rattle.sdd_script.proofs.WordCuts.{NonePasses}
@@ -150,9 +150,9 @@ pub use Rattle.sdd_world.proofs.Turning.{t_site as within}
 pub use Rattle.sdd_world.specs.AtSites.{standing_at}
 pub use Rattle.sdd_world.specs.Beginnings.{AllBegin, BeginsD, IsBegun, There}
 pub use Rattle.sdd_world.specs.Copies.{rows_left, table_of, tables_at, tables_of}
-pub use Rattle.sdd_world.specs.Pending.{AreAtLastHomes, Homes, IsListed, Telling, commits, last_home, pending_as, pending_at, pending_by, pending_of, reason_of, stands_at, submitted_at, unmet, wait_at, wait_for, waits_of, why_of}
+pub use Rattle.sdd_world.specs.Pending.{AreAtLastHomes, Homes, IsListed, Telling, commits, last_home, pending_as, pending_at, pending_by, pending_of, reason_of, status_at, submitted_at, unmet, wait_at, wait_for, waits_of, why_of}
 pub use Rattle.sdd_world.specs.Schedules.{AreAllowed, lists_after, takes_rounds, with_events}
-pub use Rattle.sdd_world.specs.Standing.{EndsBy, StandsFor}
+pub use Rattle.sdd_world.specs.Represents.{EndsBy, Represents}
 pub use Rattle.sdd_world.specs.Standings.{standing_at_t, standing_at_u}
 pub use Rattle.sdd_world.specs.declared.schedule.ClassList.{ClassList}
 pub use Rattle.sdd_world.specs.declared.world.World.{World}

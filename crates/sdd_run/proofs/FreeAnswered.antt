@@ -1,5 +1,5 @@
 -- A READ of a free class is answered in the event in which it is handed over.
-use Rattle.sdd_run.proofs.All.{Answer, AreSubmittedOnce, ClassNo, Cond, D, DmNo, Does, EndsAnEvent, Hand, Input, IsAnsweredIn, IsAnsweredWithin, IsEventOver, IsFreeClass, IsLawful, IsPermitted, IsSound, IsTheLog, List, Log, Mark, Msg, Read, Rec, Records, Redeclares, Site, Stands, Ts, TxnNo, Use, [], act_kind, answered_by_end, ap, append_assoc, arith, begins_event, event_at, event_there, false, history, inl, inr, lawful_end, lawful_permitted, length, marks, marks_later, over_at_end, over_before, permitted_before, refl, stands_there, subst, sym, true, ℕ, ◌++◌, ◌∙◌, ◌∷◌, ◌≡◌, ◌≤◌, ◌⊎◌}
+use Rattle.sdd_run.proofs.All.{Answer, AreSubmittedOnce, ClassNo, Cond, D, DmNo, Does, EndsAnEvent, Hand, Input, IsAnsweredIn, IsAnsweredWithin, IsEventOver, IsFreeClass, IsLawful, IsPermitted, IsRecordAt, IsSound, IsTheLog, List, Log, Mark, Msg, Read, Rec, Records, Redeclares, Site, Ts, TxnNo, Use, [], act_kind, answered_by_end, ap, append_assoc, arith, begins_event, event_at, event_there, false, history, inl, inr, lawful_end, lawful_permitted, length, marks, marks_later, over_at_end, over_before, permitted_before, recorded_there, refl, subst, sym, true, ℕ, ◌++◌, ◌∙◌, ◌∷◌, ◌≡◌, ◌≤◌, ◌⊎◌}
 use Rattle.sdd_obligations.specs.All.{Entry}
 
 -- the entries behind a place, till the event there is over
@@ -59,9 +59,9 @@ answered_there g log front later before entry_log rest c d dm txn attempt sends 
     let event : marks (before ++ rest) ≡ marks rest = omega (arith, low, high, joined) in
     record {
       place = length (history (before ++ rest));
-      answered = subst (λ l. Stands (history l) (length (history (before ++ rest))) (Answer txn attempt d)) (sym there)
-          (subst (λ m. Stands (history ((front ++ later) ++ entry ∷ (before ++ rest))) (length (history (before ++ rest))) (Answer txn attempt m)) named
-          (stands_there (front ++ later) entry (before ++ rest) rec refl));
+      answered = subst (λ l. IsRecordAt (history l) (length (history (before ++ rest))) (Answer txn attempt d)) (sym there)
+          (subst (λ m. IsRecordAt (history ((front ++ later) ++ entry ∷ (before ++ rest))) (length (history (before ++ rest))) (Answer txn attempt m)) named
+          (recorded_there (front ++ later) entry (before ++ rest) rec refl));
       event_is = ap (λ l. event_at (history l) (length (history (before ++ rest)))) there
           ∙ event_there (front ++ later) entry (before ++ rest) rec refl ∙ event;
     }

@@ -1,5 +1,5 @@
 -- An attempt of a free class neither waits nor is rejected.
-use Rattle.sdd_run.proofs.All.{Act, Attempt, ClassNo, Cond, D, DmNo, Does, Eras, Input, IsAttempt, IsDataIn, IsFreeClass, IsPermitted, IsRejectOf, IsUndisturbed, IsWaitOf, KeepsStarts, List, Log, Msg, Read, Rec, Records, Reject, Setting, Site, Some, Stands, Ts, TxnNo, Use, Wait, allowed_act, ap, class_no, data_in, dm_no, head, history, local_of, never_rejected, never_waits, one_class, pipe_at, read_of_some, refl, rejected, setting_of, subst, sym, time_at, txn_no, wait_due, ℕ, ◌++◌, ◌∙◌, ◌∷◌, ◌≡◌}
+use Rattle.sdd_run.proofs.All.{Act, Attempt, ClassNo, Cond, D, DmNo, Does, Eras, Input, IsAttempt, IsDataIn, IsFreeClass, IsPermitted, IsRecordAt, IsRejectOf, IsUndisturbed, IsWaitOf, KeepsStarts, List, Log, Msg, Read, Rec, Records, Reject, Setting, Site, Some, Ts, TxnNo, Use, Wait, allowed_act, ap, class_no, data_in, dm_no, head, history, local_of, never_rejected, never_waits, one_class, pipe_at, read_of_some, refl, rejected, setting_of, subst, sym, time_at, txn_no, wait_due, ℕ, ◌++◌, ◌∙◌, ◌∷◌, ◌≡◌}
 use Rattle.sdd_obligations.specs.All.{Entry}
 use Rattle.sdd_obligations.specs.site_module.SiteLog as site
 
@@ -16,7 +16,7 @@ module _ (g : Input) (log : Log) (eras : Eras) (h : IsPermitted g log) (starting
       let r = read_of_some g log later before e c a.txn a.number d ts of ds us now is top in
       sym (one_class g.catalogue eras g.txns (history log) starting r.attempt a r.started started r.txn_is) ∙ r.class_is
 
-  no_wait : (d k : ℕ) (conds : List Cond) → Stands (history log) k (Wait (txn_no a.txn) a.number (dm_no d) conds) → ⊥
+  no_wait : (d k : ℕ) (conds : List Cond) → IsRecordAt (history log) k (Wait (txn_no a.txn) a.number (dm_no d) conds) → ⊥
   no_wait d k conds s =
       let rec : Rec = Wait (txn_no a.txn) a.number (dm_no d) conds in
       let x : IsDataIn g log k rec (dm_no d) = data_in g log k rec (dm_no d) h refl refl (λ e p. sym p) s in
@@ -32,7 +32,7 @@ module _ (g : Input) (log : Log) (eras : Eras) (h : IsPermitted g log) (starting
       let class = of_its_class x.later x.before entry x.class d w.ts w.of w.conds w.uses x.permitted.1 x.is top in
       never_waits g x.before x.class (dm_no d) rec x.sends (subst (IsFreeClass g) class free) x.permitted refl
 
-  no_reject : (d k class write : ℕ) → Stands (history log) k (Reject (txn_no a.txn) a.number (dm_no d) (class_no class) (time_at write)) → ⊥
+  no_reject : (d k class write : ℕ) → IsRecordAt (history log) k (Reject (txn_no a.txn) a.number (dm_no d) (class_no class) (time_at write)) → ⊥
   no_reject d k by write s =
       let rec : Rec = Reject (txn_no a.txn) a.number (dm_no d) (class_no by) (time_at write) in
       let x : IsDataIn g log k rec (dm_no d) = data_in g log k rec (dm_no d) h refl refl (λ e p. sym p) s in

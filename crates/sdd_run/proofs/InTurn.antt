@@ -1,5 +1,5 @@
 -- Of two committed transactions of one class the one that was submitted first stands first in a serial order.
-use Rattle.sdd_run.proofs.All.{Catalogue, Committed, Contains, Contains-cases, Contains-nil, Eras, History, IsAlong, IsCommitted, IsSerial, IsSubmitted, IsSubmittedBefore, KeepsStarts, List, StandsBefore, Txn, TxnNo, [], ap, arith, cases_eq, cases_lt, eq-eqb, false≢true, inl, inr, is_earlier, is_overwritten, is_read_by, lt-ltb, misses, nat_lt, ne_eqb, not, precedes, same_start, subst, sym, true, txn_no, ◌&&◌, ◌<◌, ◌||◌, ◌∙◌, ◌∷◌, ◌≡◌, ◌≢◌}
+use Rattle.sdd_run.proofs.All.{Catalogue, ComesBefore, Committed, Contains, Contains-cases, Contains-nil, Eras, History, IsAlong, IsCommitted, IsSerial, IsSubmitted, IsSubmittedBefore, KeepsStarts, List, Txn, TxnNo, [], ap, arith, cases_eq, cases_lt, eq-eqb, false≢true, inl, inr, is_earlier, is_overwritten, is_read_by, lt-ltb, misses, nat_lt, ne_eqb, not, precedes, same_start, subst, sym, true, txn_no, ◌&&◌, ◌<◌, ◌||◌, ◌∙◌, ◌∷◌, ◌≡◌, ◌≢◌}
 
 -- one that precedes another stands before it
 module _ (cat : Catalogue) (h : History) (x y : Committed) (first : IsCommitted h x) (second : IsCommitted h y) (precedes_it : precedes cat h x y ≡ true)
@@ -12,11 +12,11 @@ module _ (cat : Catalogue) (h : History) (x y : Committed) (first : IsCommitted 
       ]
 
   -- where both stand behind the first of the order
-  later : (n : TxnNo) (rest : List TxnNo) → StandsBefore rest x.start.txn y.start.txn → StandsBefore (n ∷ rest) x.start.txn y.start.txn
+  later : (n : TxnNo) (rest : List TxnNo) → ComesBefore rest x.start.txn y.start.txn → ComesBefore (n ∷ rest) x.start.txn y.start.txn
   later n rest b = record { front = n ∷ b.front; rest = b.rest; is = ap (λ l. n ∷ l) b.is; behind = b.behind }
 
   stands_before : (order : List TxnNo) → IsAlong cat h order → Contains order (txn_no x.start.txn) → Contains order (txn_no y.start.txn)
-      → StandsBefore order x.start.txn y.start.txn
+      → ComesBefore order x.start.txn y.start.txn
   stands_before [] along there also = absurd (Contains-nil (txn_no x.start.txn) there)
   stands_before (n ∷ rest) along there also =
       elim (Contains-cases n rest (txn_no x.start.txn) there) [
@@ -62,7 +62,7 @@ module _ (cat : Catalogue) (eras : Eras) (txns : List Txn) (h : History) (starts
             ])
       ]
 
-  pub in_turn : (order : List TxnNo) → IsSerial cat h order → StandsBefore order x.start.txn y.start.txn
+  pub in_turn : (order : List TxnNo) → IsSerial cat h order → ComesBefore order x.start.txn y.start.txn
   in_turn order serial =
       let time = starts.rise x.start y.start first.started second.started class starts_first in
       stands_before cat h x y first second (precedes_later cat h x y other class time) other order serial.along (serial.whole x first) (serial.whole y second)

@@ -1,6 +1,6 @@
 -- A transaction that is pending when a run ends was submitted under the list of classes that is in force then: all that
 -- was submitted under an earlier one is committed. So it is looked for at the site of its class by that list.
-use Rattle.sdd_run.proofs.All.{AreAtLastHomes, Bool, Does, Hand, Homes, Input, IsPermitted, IsSubmitted, Known, List, Log, Mark, None, Notes, Option, Rec, Redeclares, Round, Site, Some, Submit, Submitted, Telling, TxnNo, [], ap, append_assoc, arith, commit_there, commits, cons_option, eqb-true, false, filter_map, given_at, history, history_le, home_of, if◌then◌else◌, inl, inr, last_home, length, length-append, list_any, not_both, nth_era, one_submit, option_map, pending_as, pending_at, pending_by, pending_of, permitted_before, reason_of, redeclare_between, redeclares, refl, rest, same_number, slice_get, stands_at, stands_front, stands_there, submit_in, submitted_at, subst, suc, sym, true, txn_at, txn_no, why_of, ℕ, ◌++◌, ◌+◌, ◌==◌, ◌∙◌, ◌∷◌, ◌≡◌}
+use Rattle.sdd_run.proofs.All.{AreAtLastHomes, Bool, Does, Hand, Homes, Input, IsPermitted, IsSubmitted, Known, List, Log, Mark, None, Notes, Option, Rec, Redeclares, Round, Site, Some, Submit, Submitted, Telling, TxnNo, [], ap, append_assoc, arith, commit_there, commits, cons_option, eqb-true, false, filter_map, given_at, history, history_le, home_of, if◌then◌else◌, inl, inr, last_home, length, length-append, list_any, not_both, nth_era, one_submit, option_map, pending_as, pending_at, pending_by, pending_of, permitted_before, reason_of, recorded_front, recorded_there, redeclare_between, redeclares, refl, rest, same_number, slice_get, status_at, submit_in, submitted_at, subst, suc, sym, true, txn_at, txn_no, why_of, ℕ, ◌++◌, ◌+◌, ◌==◌, ◌∙◌, ◌∷◌, ◌≡◌}
 use Rattle.sdd_run.proofs.Lossless.{commits_it}
 
 -- the site that a log tells is that of the one place where it submits the transaction
@@ -28,14 +28,14 @@ pub submitted_there : (g : Input) (log later rest : Log) (at : Site) (n : ℕ) �
     → submitted_at log n ≡ at
 submitted_there g log later rest at n h is =
     let here : IsSubmitted (history log) n (length (history rest)) =
-    subst (λ l. IsSubmitted (history l) n (length (history rest))) (sym is) (stands_there later (Submitted at n) rest (Submit (txn_no n)) refl) in
+    subst (λ l. IsSubmitted (history l) n (length (history rest))) (sym is) (recorded_there later (Submitted at n) rest (Submit (txn_no n)) refl) in
     ap (λ l. submitted_at l n) is
     ∙ at_submit later rest at n (λ front after other e.
     (let between : Log = after ++ Submitted at n ∷ rest in
     let whole : log ≡ front ++ Submitted other n ∷ between =
     is ∙ ap (λ l. l ++ Submitted at n ∷ rest) e ∙ append_assoc front (Submitted other n ∷ after) (Submitted at n ∷ rest) in
     let there : IsSubmitted (history log) n (length (history between)) =
-    subst (λ l. IsSubmitted (history l) n (length (history between))) (sym whole) (stands_there front (Submitted other n) between (Submit (txn_no n)) refl) in
+    subst (λ l. IsSubmitted (history l) n (length (history between))) (sym whole) (recorded_there front (Submitted other n) between (Submit (txn_no n)) refl) in
     let one = one_submit g log n (length (history between)) (length (history rest)) h there here in
     let up = history_le after (Submitted at n ∷ rest) in
     let more : length (history (Submitted at n ∷ rest)) ≡ length (history rest) + 1 = length-append (history rest) _ in
@@ -58,7 +58,7 @@ last_home_is g log w n k submitted unmade =
           let one : length (history (Submitted s.at n ∷ s.rest)) ≡ length (history s.rest) + 1 = length-append (history s.rest) _ in
           let place = s.place_is in
           let before : IsSubmitted (history b.mid) n k =
-          stands_front (history b.mid) r.more k (Submit (txn_no n)) (omega (arith, inside, mid_long, one, place))
+          recorded_front (history b.mid) r.more k (Submit (txn_no n)) (omega (arith, inside, mid_long, one, place))
           (subst (λ h. IsSubmitted h n k) r.history_is submitted) in
           let c = commit_there g log w b.mid r n k before in
           absurd (not_both (list_any (commits n) (history log)) (commits_it (history log) n (record { place = c.1; number = c.0; commit = c.3 })) unmade))
@@ -76,7 +76,7 @@ chosen_alike f g (x ∷ xs) h = ap (λ o. cons_option o (filter_map f xs)) (h 0 
 same_if : (tell : Telling) (g : Input) (log : Log) (homes others : Homes) (n : TxnNo) (b : Bool) → (b ≡ false → homes n.0 ≡ others n.0)
     → (if b then None else pending_as n (reason_of tell homes g log n.0)) ≡ (if b then None else pending_as n (reason_of tell others g log n.0))
 same_if tell g log homes others n true h = refl
-same_if tell g log homes others n false h = ap (λ at. pending_as n (why_of g log (stands_at tell g log at n.0))) (h refl)
+same_if tell g log homes others n false h = ap (λ at. pending_as n (why_of g log (status_at tell g log at n.0))) (h refl)
 
 same_one : (tell : Telling) (g : Input) (log : Log) → AreAtLastHomes g log → (k : ℕ) (e : ℕ × Rec) → slice_get (history log) k ≡ Some e
     → pending_by tell (last_home g log) g log (history log) e ≡ pending_by tell (submitted_at log) g log (history log) e

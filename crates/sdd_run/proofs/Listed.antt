@@ -1,5 +1,5 @@
 -- Each transaction that was submitted and isn't committed is listed as pending.
-use Rattle.sdd_run.proofs.All.{Answer, Apply, AreNumbered, Arrive, Bool, ClassState, Commit, HasSoundLists, History, Input, IsClass, IsClassOf, IsListed, IsPermitted, IsQueued, IsSubmitted, Line, List, Log, None, NonePasses, Nothing, Option, Pass, Pending, Queued, Rec, Reject, Site, Some, Standing, Stands, Start, Submit, T, U, Wait, WasCommitted, Why, [], active, ap, at_home, at_map, class_at, class_of, commits, committed_or_queued, cons_option, either, eqb-true, false, filter_map, first_underway, history, home, home_setting, if◌then◌else◌, in_runs, inl, inr, is_awaiting_helds, is_some, kept_there, lacking_site, list_any, local_of, map, none_found, not, or_standing, pending_as, pending_by, pending_of, position, positive, queue, queued_at, reason_of, refl, runs, same_number, same_or_not, setting_of, slice_get, standing_among, standing_at, standing_at_t, standing_at_u, standing_by, standing_in, standing_of, submitted_at, subst, suc, sym, tm_no, true, txn_no, underway, waiting, why_of, zero, ℕ, ◌-◌, ◌==◌, ◌∙◌, ◌∷◌, ◌≡◌, ◌⊎◌}
+use Rattle.sdd_run.proofs.All.{Answer, Apply, AreNumbered, Arrive, Bool, ClassState, Commit, HasSoundLists, History, Input, IsClass, IsClassOf, IsListed, IsPermitted, IsQueued, IsRecordAt, IsSubmitted, Line, List, Log, None, NonePasses, Nothing, Option, Pass, Pending, Queued, Rec, Reject, Site, Some, Standing, Start, Submit, T, U, Wait, WasCommitted, Why, [], active, ap, at_home, at_map, class_at, class_of, commits, committed_or_queued, cons_option, either, eqb-true, false, filter_map, first_underway, history, home, home_setting, if◌then◌else◌, in_runs, inl, inr, is_awaiting_helds, is_some, kept_there, lacking_site, list_any, local_of, map, none_found, not, or_standing, pending_as, pending_by, pending_of, position, positive, queue, queued_at, reason_of, refl, runs, same_number, same_or_not, setting_of, slice_get, standing_among, standing_at, standing_at_t, standing_at_u, standing_by, standing_in, standing_of, submitted_at, subst, suc, sym, tm_no, true, txn_no, underway, waiting, why_of, zero, ℕ, ◌-◌, ◌==◌, ◌∙◌, ◌∷◌, ◌≡◌, ◌⊎◌}
 use Rattle.sdd_run.proofs.LastHomes.{submitted_there}
 use Rattle.sdd_obligations.specs.All.{Attempt}
 use Rattle.sdd_obligations.specs.attempt.declared.standing.Standing.TheVariants as standings
@@ -136,7 +136,7 @@ later_commit : (e : ℕ × Rec) (h : History) (n : ℕ) → WasCommitted h n →
 later_commit e h n w = let c = w.commit in record {
   place = suc w.place;
   number = w.number;
-  commit = record { reply = c.reply; changes = c.changes; values = c.values; rows = c.rows; stands = c.stands };
+  commit = record { reply = c.reply; changes = c.changes; values = c.values; rows = c.rows; is_recorded = c.is_recorded };
 }
 
 was_committed : (h : History) (n : ℕ) → list_any (commits n) h ≡ true → WasCommitted h n
@@ -145,7 +145,7 @@ was_committed ((event, Commit txn attempt reply changes values rows) ∷ h) n e 
   | inl p ↦
       (let same : Commit txn attempt reply changes values rows ≡ Commit (txn_no n) attempt reply changes values rows =
       ap (λ k. Commit (txn_no k) attempt reply changes values rows) (eqb-true txn.0 n p) in
-      record { place = 0; number = attempt; commit = record { reply = reply; changes = changes; values = values; rows = rows; stands = ap (λ r. Some r) same } })
+      record { place = 0; number = attempt; commit = record { reply = reply; changes = changes; values = values; rows = rows; is_recorded = ap (λ r. Some r) same } })
   | inr p ↦ later_commit (event, Commit txn attempt reply changes values rows) h n (was_committed h n p)
 ]
 was_committed ((event, Submit txn) ∷ h) n e = later_commit (event, Submit txn) h n (was_committed h n e)
@@ -158,7 +158,7 @@ was_committed ((event, Apply txn class dm ts) ∷ h) n e = later_commit (event, 
 was_committed ((event, Pass class dm time) ∷ h) n e = later_commit (event, Pass class dm time) h n (was_committed h n e)
 was_committed ((event, Nothing) ∷ h) n e = later_commit (event, Nothing) h n (was_committed h n e)
 
-listed_at : (f : ℕ × Rec → Option Pending) (h : History) (n k : ℕ) (one : Pending) → Stands h k (Submit (txn_no n))
+listed_at : (f : ℕ × Rec → Option Pending) (h : History) (n k : ℕ) (one : Pending) → IsRecordAt h k (Submit (txn_no n))
     → ((event : ℕ) → f (event, Submit (txn_no n)) ≡ Some one) → (j : ℕ) × (slice_get (filter_map f h) j ≡ Some one)
 listed_at f [] n k one e h = cc
 listed_at f ((event, r) ∷ rest) n zero one e h =

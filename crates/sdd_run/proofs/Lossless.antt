@@ -1,5 +1,5 @@
 -- Each transaction that was submitted stands in the order once, or is listed as pending once.
-use Rattle.sdd_run.proofs.All.{Catalogue, Committed, History, Homes, Input, IsCommitted, IsListed, IsSerial, IsSubmitted, List, Log, None, Option, Pending, Rec, Some, Stands, Submit, Telling, TxnNo, WasCommitted, Why, [], any_commit, ap, arith, commits, cond, cons_option, eq-eqb, false, filter_map, history, if◌then◌else◌, inl, inr, list_any, map, ne_eqb, not_both, option_map, pending_as, pending_by, pending_of, reason_of, refl, same_number, slice_get, submitted_at, subst, suc, sym, times_in, times_pending, true, txn_no, zero, ℕ, ◌+◌, ◌∙◌, ◌∷◌, ◌≡◌, ◌≢◌, ◌⊎◌}
+use Rattle.sdd_run.proofs.All.{Catalogue, Committed, History, Homes, Input, IsCommitted, IsListed, IsRecordAt, IsSerial, IsSubmitted, List, Log, None, Option, Pending, Rec, Some, Submit, Telling, TxnNo, WasCommitted, Why, [], any_commit, ap, arith, commits, cond, cons_option, eq-eqb, false, filter_map, history, if◌then◌else◌, inl, inr, list_any, map, ne_eqb, not_both, option_map, pending_as, pending_by, pending_of, reason_of, refl, same_number, slice_get, submitted_at, subst, suc, sym, times_in, times_pending, true, txn_no, zero, ℕ, ◌+◌, ◌∙◌, ◌∷◌, ◌≡◌, ◌≢◌, ◌⊎◌}
 use Rattle.sdd_run.proofs.Once.{none_there, times_more}
 
 -- how often what is chosen of a history names a transaction
@@ -86,8 +86,8 @@ of_submit tell homes g log all (event, _) p e = cc
 pub commits_it : (all : History) (n : ℕ) → WasCommitted all n → list_any (commits n) all ≡ true
 commits_it all n w = any_commit all (commits n) n (λ e attempt reply changes values rows. same_number n) w
 
-stands_there : (h : History) (k : ℕ) (e : ℕ × Rec) (r : Rec) → slice_get h k ≡ Some e → e.1 ≡ r → Stands h k r
-stands_there h k e r there is = ap (option_map (λ (x : ℕ × Rec). x.1)) there ∙ ap (λ x. Some x) is
+recorded_there : (h : History) (k : ℕ) (e : ℕ × Rec) (r : Rec) → slice_get h k ≡ Some e → e.1 ≡ r → IsRecordAt h k r
+recorded_there h k e r there is = ap (option_map (λ (x : ℕ × Rec). x.1)) there ∙ ap (λ x. Some x) is
 
 -- what is listed was submitted
 pub listed_submits : (tell : Telling) (g : Input) (log : Log) (j : ℕ) (p : Pending) → slice_get (pending_of tell g log) j ≡ Some p
@@ -95,7 +95,7 @@ pub listed_submits : (tell : Telling) (g : Input) (log : Log) (j : ℕ) (p : Pen
 listed_submits tell g log j p e =
     let x = chosen_from (pending_by tell (submitted_at log) g log (history log)) (history log) j p e in
     let s = of_submit tell (submitted_at log) g log (history log) x.entry p x.gives in
-    (x.place, stands_there (history log) x.place x.entry (Submit p.txn) x.there s.0)
+    (x.place, recorded_there (history log) x.place x.entry (Submit p.txn) x.there s.0)
 
 module _ (tell : Telling) (g : Input) (log : Log) where
   -- one that is committed isn't listed
@@ -115,7 +115,7 @@ module _ (tell : Telling) (g : Input) (log : Log) where
       let at : (j : ℕ) (e : ℕ × Rec) (q : Pending) → slice_get (history log) j ≡ Some e
       → pending_by tell (submitted_at log) g log (history log) e ≡ Some q → q.txn.0 ≡ n → IsSubmitted (history log) n j =
       λ j e q there gives same.
-      stands_there (history log) j e (Submit (txn_no n)) there
+      recorded_there (history log) j e (Submit (txn_no n)) there
       ((of_submit tell (submitted_at log) g log (history log) e q gives).0 ∙ ap (λ m. Submit (txn_no m)) same) in (
         count_one (pending_by tell (submitted_at log) g log (history log)) (history log) n c.place c.entry x.one c.there c.gives x.txn_is
             (λ j e q there gives same. one n j c.place (at j e q there gives same) (at c.place c.entry x.one c.there c.gives x.txn_is)),
@@ -126,7 +126,7 @@ module _ (tell : Telling) (g : Input) (log : Log) where
   was_in t n c same = subst (WasCommitted (history log)) same (record {
     place = t.place;
     number = t.start.number;
-    commit = record { reply = t.reply; changes = t.changes; values = t.values; rows = t.rows; stands = c.committed };
+    commit = record { reply = t.reply; changes = t.changes; values = t.values; rows = t.rows; is_recorded = c.committed };
   })
 
   -- so each transaction that was submitted stands in the order or in the list, and in one of them once

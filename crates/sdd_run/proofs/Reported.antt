@@ -1,5 +1,5 @@
 -- What is told of a world that has carried out all events of a workload is told of its run.
-use Rattle.sdd_run.proofs.All.{AreAtLastHomes, AreTables, Catalogue, EndsAtLimit, EndsBy, EndsByLimit, Entry, Err, Event, History, IfOk, IsReportOn, IsRunOf, IsSound, IsSummaryOn, IsTheLog, IsValid, List, Log, Ok, Result, StandsFor, Summary, Txn, Workload, World, ap, begun, eras_of, history, input_of, length, marks, none_due, order_of, over_at_end, report_of, report_text, subst, summary_of, summary_text, whole_in, with_events, ℕ, ◌∙◌, ◌≡◌}
+use Rattle.sdd_run.proofs.All.{AreAtLastHomes, AreTables, Catalogue, EndsAtLimit, EndsBy, EndsByLimit, Entry, Err, Event, History, IfOk, IsReportOn, IsRunOf, IsSound, IsSummaryOn, IsTheLog, IsValid, List, Log, Ok, Represents, Result, Summary, Txn, Workload, World, ap, begun, eras_of, history, input_of, length, marks, none_due, order_of, over_at_end, report_of, report_text, subst, summary_of, summary_text, whole_in, with_events, ℕ, ◌∙◌, ◌≡◌}
 use Rattle.sdd_run.proofs.Beginning.{all_given}
 use Rattle.sdd_run.proofs.Goods.{fits_given}
 use Rattle.sdd_run.proofs.InTurn.{in_turn}
@@ -23,10 +23,10 @@ given_all : (cat : Catalogue) (tables : List (List Entry)) (work : Workload) (ev
 given_all cat tables work events same = ap (with_events (begun cat tables work)) same ∙ all_given cat tables work
 
 pub run_of : (cat : Catalogue) (tables : List (List Entry)) (work : Workload) (events : List Event) → events ≡ work.events
-    → (w : World) (log : Log) → StandsFor w (with_events (begun cat tables work) events) log → IsRunOf cat tables work w
-run_of cat tables work events same w log stands =
-    let s = subst (λ g. StandsFor w g log) (given_all cat tables work events same) stands in
-    record { log = log; log_is = record { lawful = s.calm.rests.lawful; within = s.calm.rests.within; complete = s.complete }; stands = s }
+    → (w : World) (log : Log) → Represents w (with_events (begun cat tables work) events) log → IsRunOf cat tables work w
+run_of cat tables work events same w log represents =
+    let s = subst (λ g. Represents w g log) (given_all cat tables work events same) represents in
+    record { log = log; log_is = record { lawful = s.calm.rests.lawful; within = s.calm.rests.within; complete = s.complete }; represents = s }
 
 pub ended : (cat : Catalogue) (tables : List (List Entry)) (work : Workload) → AreTables cat work tables → (events : List Event) → events ≡ work.events
     → EndsBy (with_events (begun cat tables work) events) → EndsAtLimit cat work

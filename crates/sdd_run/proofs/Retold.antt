@@ -48,7 +48,7 @@ commit_of n k (Commit txn attempt reply changes values rows) t h there tells is 
         changes = changes;
         values = values;
         rows = rows;
-        stands = there ∙ ap (λ m. Some (Commit (txn_no m) attempt reply changes values rows)) named;
+        is_recorded = there ∙ ap (λ m. Some (Commit (txn_no m) attempt reply changes values rows)) named;
       },
     )
 commit_of n k _ t h there tells is = absurd cc
@@ -71,7 +71,7 @@ module _ (h : History) (one_commit : (n i j k l : ℕ) → HasCommit h n i k →
         changes = t.changes;
         values = t.values;
         rows = t.rows;
-        stands = is.committed;
+        is_recorded = is.committed;
       } in
       let made = made_at (slice_get h t.place) commit is.committed in
       told_by t.start.txn h t.place made.0 (told t) made.1 (ap told_in made.2) (eq-eqb t.start.txn t.start.txn refl)

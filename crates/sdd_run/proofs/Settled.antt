@@ -1,5 +1,5 @@
 -- A run that a settle or a redeclare ends leaves nothing undone, where no data module is down at its end.
-use Rattle.sdd_run.proofs.All.{AllCommitted, AreAllApplied, AreTables, Attempt, Catalogue, Commit, Committed, Contains, Contains-from_filter, Contains-from_flat_map, Contains-from_map, CopyTable, D, EndsAtRest, EndsQuiet, Entry, HasCommit, HasSoundLists, History, Input, IsAtEnd, IsAttempt, IsCommitted, IsLawful, IsListed, IsOrderable, IsSerial, IsSettled, IsSound, IsSubmitted, IsTheLog, IsValid, List, Log, LosesNothing, None, NoneIsDown, Stands, SubmitGiven, TellsAllCommitted, TxnNo, WasCommitted, Workload, ap, applied_at_copies, dated, dm_no, has_copy, history, input_of, lawful_numbered, lawful_permitted, length, local_of, next, numbers_to, order_of, report_of, setting_of, settled_is_committed, settled_is_finished, settled_is_quiet, standing_at, standing_at_t, standing_at_u, subst, sym, table_of, tables_at, tables_of, times_in, txn_no, whole_in, with_event, ℕ, ◌≡◌, ◌⊎◌}
+use Rattle.sdd_run.proofs.All.{AllCommitted, AreAllApplied, AreTables, Attempt, Catalogue, Commit, Committed, Contains, Contains-from_filter, Contains-from_flat_map, Contains-from_map, CopyTable, D, EndsAtRest, EndsQuiet, Entry, HasCommit, HasSoundLists, History, Input, IsAtEnd, IsAttempt, IsCommitted, IsLawful, IsListed, IsOrderable, IsRecordAt, IsSerial, IsSettled, IsSound, IsSubmitted, IsTheLog, IsValid, List, Log, LosesNothing, None, NoneIsDown, SubmitGiven, TellsAllCommitted, TxnNo, WasCommitted, Workload, ap, applied_at_copies, dated, dm_no, has_copy, history, input_of, lawful_numbered, lawful_permitted, length, local_of, next, numbers_to, order_of, report_of, setting_of, settled_is_committed, settled_is_finished, settled_is_quiet, standing_at, standing_at_t, standing_at_u, subst, sym, table_of, tables_at, tables_of, times_in, txn_no, whole_in, with_event, ℕ, ◌≡◌, ◌⊎◌}
 use Rattle.sdd_run.proofs.AtRest.{quiet_at_rest}
 use Rattle.sdd_run.proofs.RunOf.{lists, submit_given, up}
 use Rattle.sdd_run.proofs.Listed.{each_listed}
@@ -12,9 +12,9 @@ use Rattle.sdd_run.proofs.Once.{each_once}
 committed_by : (h : History) (n number place : ℕ) → HasCommit h n number place → (a : Attempt) → IsAttempt h a → a.txn ≡ n → a.number ≡ number
     → (t : Committed) × IsCommitted h t × (t.start.txn ≡ n)
 committed_by h n number place c a started txn attempt =
-    let of_attempt = subst (λ k. Stands h place (Commit (txn_no n) k c.reply c.changes c.values c.rows)) (sym attempt) c.stands in (
+    let of_attempt = subst (λ k. IsRecordAt h place (Commit (txn_no n) k c.reply c.changes c.values c.rows)) (sym attempt) c.is_recorded in (
       record { start = a; reply = c.reply; changes = c.changes; values = c.values; rows = c.rows; place = place },
-      record { started = started; committed = subst (λ m. Stands h place (Commit (txn_no m) a.number c.reply c.changes c.values c.rows)) (sym txn) of_attempt },
+      record { started = started; committed = subst (λ m. IsRecordAt h place (Commit (txn_no m) a.number c.reply c.changes c.values c.rows)) (sym txn) of_attempt },
       txn,
     )
 

@@ -1,11 +1,11 @@
 -- A new world of a workload stands for the empty log of what is given before its first event.
-use Rattle.sdd_run.proofs.All.{AllBegin, AreAllowed, AreTables, BeginsD, Catalogue, Class, ClassList, D, Entry, Era, Event, Input, IsBegun, IsGood, IsSound, IsValid, Kept, List, MAX_DMS, MAX_TMS, RelNo, Row, Some, StandsFor, State, There, Txn, Workload, World, [], ap, begun, classes_in, dm_no, drop, era_of_list, eras, eras_in, eras_with_tables, get_or, map, refl, rows_of, slice_get, subst, sym, tail_of, whole_in, ◌-◌, ◌∙◌, ◌∷◌, ◌≡◌, ◌≤◌}
+use Rattle.sdd_run.proofs.All.{AllBegin, AreAllowed, AreTables, BeginsD, Catalogue, Class, ClassList, D, Entry, Era, Event, Input, IsBegun, IsGood, IsSound, IsValid, Kept, List, MAX_DMS, MAX_TMS, RelNo, Represents, Row, Some, State, There, Txn, Workload, World, [], ap, begun, classes_in, dm_no, drop, era_of_list, eras, eras_in, eras_with_tables, get_or, map, refl, rows_of, slice_get, subst, sym, tail_of, whole_in, ◌-◌, ◌∙◌, ◌∷◌, ◌≡◌, ◌≤◌}
 use Rattle.sdd_run.proofs.Allowed.{HasLists, allowed}
 use Rattle.sdd_run.proofs.Beginning.{begins_sound, rows_given}
 use Rattle.sdd_run.proofs.Goods.{good_along, good_begun}
 use Rattle.sdd_run.proofs.Timely.{timely}
 use Rattle.sdd_run.proofs.Whole.{events_valid}
-use Rattle.sdd_world.specs.Standing as standing
+use Rattle.sdd_world.specs.Represents as standing
 
 abbrev with_table : Catalogue → List Entry → Era
 with_table cat table = record { catalogue = cat; table = table }
@@ -49,8 +49,8 @@ module _ (cat : Catalogue) (tables : List (List Entry)) (work : Workload) (sound
   pub starts : (rows : List (RelNo × Row)) (txns : List Txn) (table : List Entry) (dms : List (Kept State)) (w : World)
       → (whole_in cat work).tms ≤ MAX_TMS → (whole_in cat work).dms ≤ MAX_DMS → slice_get tables 0 ≡ Some table → rows ≡ work.rows → txns ≡ work.txns
       → AllBegin (BeginsD (whole_in cat work) rows) (whole_in cat work).dms dms
-      → ((g : Input) → IsGood g → standing.IsSound g → IsBegun g (whole_in cat work) cat table txns dms → StandsFor w g [])
-      → StandsFor w (begun cat tables work) []
+      → ((g : Input) → IsGood g → standing.IsSound g → IsBegun g (whole_in cat work) cat table txns dms → Represents w g [])
+      → Represents w (begun cat tables work) []
   starts rows txns table dms w few_tms few_dms first r t all made =
       made (begun cat tables work) (good_begun cat tables work sound valid tabled) (begins_sound cat tables work few_tms few_dms valid)
       (record {

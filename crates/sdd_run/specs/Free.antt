@@ -1,16 +1,16 @@
 -- What an attempt of a class that lies on no simple cycle of the conflict graph never meets.
 use Rattle.std.specs.Prelude.{ℕ, ◌≡◌, List}
-use Rattle.sdd_obligations.specs.All.{Answer, Cond, DmNo, History, Reject, Stands, TxnNo, Wait, class_no, dm_no, event_at, time_at, txn_no}
+use Rattle.sdd_obligations.specs.All.{Answer, Cond, DmNo, History, IsRecordAt, Reject, TxnNo, Wait, class_no, dm_no, event_at, time_at, txn_no}
 use Rattle.sdd_obligations.specs.serial_orders.Attempts.{Attempt}
 
 -- no module lets the attempt wait, and none rejects it
 pub record IsUndisturbed (h : History) (a : Attempt) : Type 0 where
-  pub no_wait : (d place : ℕ) (conds : List Cond) → Stands h place (Wait (txn_no a.txn) a.number (dm_no d) conds) → ⊥
+  pub no_wait : (d place : ℕ) (conds : List Cond) → IsRecordAt h place (Wait (txn_no a.txn) a.number (dm_no d) conds) → ⊥
   pub no_reject : (d place class write : ℕ)
-      → Stands h place (Reject (txn_no a.txn) a.number (dm_no d) (class_no class) (time_at write)) → ⊥
+      → IsRecordAt h place (Reject (txn_no a.txn) a.number (dm_no d) (class_no class) (time_at write)) → ⊥
 
 -- within the event with this number an attempt is answered at the module
 pub record IsAnsweredWithin (h : History) (d : DmNo) (txn : TxnNo) (attempt event : ℕ) : Type 0 where
   pub place : ℕ
-  pub answered : Stands h place (Answer txn attempt d)
+  pub answered : IsRecordAt h place (Answer txn attempt d)
   pub event_is : event_at h place ≡ event

@@ -4,7 +4,7 @@ pub mod Lent
 pub mod Reasons
 pub mod Reports
 pub mod Runs
-pub mod Standing
+pub mod ComesBefore
 pub mod Worlds
 pub mod Settled
 pub use Rattle.sdd_script.specs as script

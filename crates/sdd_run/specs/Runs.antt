@@ -25,7 +25,7 @@ use Rattle.sdd_progress.specs.Few.{AreFewRejected}
 use Rattle.sdd_progress.specs.Free.{IsFree}
 use Rattle.sdd_run.specs.Free.{IsUndisturbed}
 use Rattle.sdd_run.specs.Settled.{EndsAtRest, EndsQuiet, LosesNothing, NoneIsDown, TellsAllCommitted}
-use Rattle.sdd_run.specs.Standing.{IsSubmittedBefore, StandsBefore, times_in}
+use Rattle.sdd_run.specs.ComesBefore.{ComesBefore, IsSubmittedBefore, times_in}
 use Rattle.sdd_run.specs.Reasons.{IsReason}
 use Rattle.sdd_run.specs.Reports.{report_of}
 
@@ -79,7 +79,7 @@ pub record IsReportOn (cat : Catalogue) (work : Workload) (text : List ℕ) : Ty
   pub serial : IsSerial (whole_in cat work) (history log) (order_of cat work log)
   pub once : (t : Committed) → IsCommitted (history log) t → times_in t.start.txn (order_of cat work log) ≡ 1
   pub in_turn : (x y : Committed) → IsCommitted (history log) x → IsCommitted (history log) y → x.start.class ≡ y.start.class
-      → IsSubmittedBefore (history log) x y → StandsBefore (order_of cat work log) x.start.txn y.start.txn
+      → IsSubmittedBefore (history log) x y → ComesBefore (order_of cat work log) x.start.txn y.start.txn
   -- One plain database that begins with the workload's rows and runs the transactions in that order gives the replies of their
   -- Commits; and these are the replies in the text, after the trace and the order.
   pub replies : AllZip (IsReplyOf (history log)) (order_of cat work log) (plain_run cat work log).0

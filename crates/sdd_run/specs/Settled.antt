@@ -9,7 +9,7 @@ use Rattle.sdd_report.specs.Report.{Report}
 use Rattle.sdd_report.specs.declared.pending.Pending.{Pending}
 use Rattle.sdd_report.specs.declared.pending.Why.TheVariants.{Queued}
 use Rattle.sdd_progress.specs.Committed.{AllCommitted}
-use Rattle.sdd_run.specs.Standing.{times_in, times_pending}
+use Rattle.sdd_run.specs.ComesBefore.{times_in, times_pending}
 
 -- an event before which rounds go on until the links are quiet
 abbrev pub IsAtRest : Event → Type 0

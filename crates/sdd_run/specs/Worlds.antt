@@ -3,7 +3,7 @@ use Rattle.std.specs.Prelude.{List}
 use Rattle.sdd_obligations.specs.All.{Catalogue, IsTheLog, Log}
 use Rattle.sdd_obligations.specs.protocol.declared.entry.Entry.{Entry}
 use Rattle.sdd_script.specs.declared.workload.Workload.{Workload}
-use Rattle.sdd_world.specs.Standing.{StandsFor}
+use Rattle.sdd_world.specs.Represents.{Represents}
 use Rattle.sdd_world.specs.declared.world.World.{World}
 use Rattle.sdd_run.specs.Runs.{input_of}
 
@@ -11,4 +11,4 @@ use Rattle.sdd_run.specs.Runs.{input_of}
 pub record IsRunOf (cat : Catalogue) (tables : List (List Entry)) (work : Workload) (w : World) : Type 0 where
   pub log : Log
   pub log_is : IsTheLog (input_of cat tables work) log
-  pub stands : StandsFor w (input_of cat tables work) log
+  pub represents : Represents w (input_of cat tables work) log

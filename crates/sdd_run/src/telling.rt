@@ -4,7 +4,7 @@ ghost use Rattle.sdd_obligations.specs.All.{Input, IsOrderable, Log, history};
 ghost use Rattle.sdd_report.specs.Report.{report_text as text_of};
 ghost use Rattle.sdd_run.specs.Reports.{report_by};
 ghost use Rattle.sdd_world.specs.Pending.{AreAtLastHomes};
-ghost use Rattle.sdd_world.specs.Standing.{StandsFor};
+ghost use Rattle.sdd_world.specs.Represents.{Represents};
 ghost use Rattle.sdd_world.specs.Standings.{standing_of};
 
 use sdd_obligations::sdd_base::{NoMemory, Pages};
@@ -18,8 +18,8 @@ use std::alloc::Global;
 /// transactions, the copies and the text cost.
 pub fn report_on(alloc: Global, world: &World<'_>) -> Result<Pages, NoMemory>
     requires { (g : Input) × (log : Log) × IsOrderable g.catalogue (history log)
-        × StandsFor world.now g log }
-    ensures { IfOk result (λ text. (g : Input) (log : Log) → StandsFor world.now g log
+        × Represents world.now g log }
+    ensures { IfOk result (λ text. (g : Input) (log : Log) → Represents world.now g log
         → AreAtLastHomes g log → text ≡ text_of (report_by standing_of g log)) }
 {
     let catalogue = world.whole();

@@ -109,7 +109,7 @@ still (places.Inside h) t = absurd cc
 still (places.Listing list) t = absurd cc
 still places.Ended t = absurd cc
 
-record CanStand (cat : Catalogue) (place : Place) (lists : List (List ClassPart)) (submitted : List TxnNo) (events : List Event) (e : Event) : Type 0 where
+record MayComeNext (cat : Catalogue) (place : Place) (lists : List (List ClassPart)) (submitted : List TxnNo) (events : List Event) (e : Event) : Type 0 where
   takes : takes_events place ≡ true
   new : is_submitted submitted e ≡ false
   may : may_follow cat.dms (length lists) events e ≡ true
@@ -118,7 +118,7 @@ record CanStand (cat : Catalogue) (place : Place) (lists : List (List ClassPart)
 event_rules_again : (cat : Catalogue) (place : Place) (rows : List (RelNo × List Value)) (written : ℕ)
     (txns : List Txn) (lists : List (List ClassPart)) (classes : ℕ) (submitted : List TxnNo)
     (events : List Event) (e : Event) (reading : Result Event WorkRule)
-    → reading ≡ Ok e → CanStand cat place lists submitted events e
+    → reading ≡ Ok e → MayComeNext cat place lists submitted events e
     → event_rules cat (scheduled place rows written txns lists classes submitted events) reading ≡ Ok
     (scheduled places.Events rows written txns lists classes (with_submitted submitted e)
     (events ++ e ∷ []))
@@ -137,7 +137,7 @@ event_rules_again cat place rows written txns lists classes submitted events e r
 event_step : (cat : Catalogue) → IsKnown cat → (place : Place) (rows : List (RelNo × List Value))
     (written : ℕ) (txns : List Txn) (lists : List (List ClassPart)) (classes : ℕ) (submitted : List TxnNo)
     (events : List Event) (e : Event)
-    → All (IsValidTxn cat) txns → repeats (names_of txns) ≡ false → IsValidEvent cat (length txns) e → CanStand cat place lists submitted events e
+    → All (IsValidTxn cat) txns → repeats (names_of txns) ≡ false → IsValidEvent cat (length txns) e → MayComeNext cat place lists submitted events e
     → IsStep cat (scheduled place rows written txns lists classes submitted events)
     (scheduled places.Events rows written txns lists classes (with_submitted submitted e)
     (events ++ e ∷ [])) (line_bytes (event_words txns e))

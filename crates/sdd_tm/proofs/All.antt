@@ -31,7 +31,7 @@ pub use Rattle.sdd_eras.specs.EraOf.{IsEraOf}
 pub use Rattle.sdd_tm.specs.Due.{IsDue, by_ask, by_exchange, by_hold, by_start, due, exchange_due, held_due, next, null_at, null_due, null_time, null_to, start_due, start_of}
 pub use Rattle.sdd_tm.specs.Fits.{FitsSubmit, fits, fits_kind}
 pub use Rattle.sdd_tm.specs.Handing.{all_places, ask_handed, class_given, class_handed, class_named, heeded, hold_handed, one_place, owed_handed, place_of, push_of, state_given, state_handed, touched, touched_by}
-pub use Rattle.sdd_tm.specs.Stands.{AreApart, AreOpen, AreSettled, InTurn, IsAmid, IsCalm, IsKept, IsSettingOf, IsSound, Rise, Stands, all_starts}
+pub use Rattle.sdd_tm.specs.Represents.{AreApart, AreOpen, AreSettled, InTurn, IsAmid, IsCalm, IsKept, IsSettingOf, IsSound, Represents, Rise, all_starts}
 pub use Rattle.sdd_tm.specs.State.{ClassState, State, asked, asks_of, class_of, state_of}
 pub use Rattle.sdd_tm.specs.Steps.{act_of, answer_time, answer_to, answers, asks_done, can_answer, class_done, class_step, held_of, is_idle, of_line, own_step, start_step, state_done, step_at, told, told_by, without_first}
 pub use Rattle.sdd_tm.specs.Views.{ClassView, HoldCounts, Question, View, after, asks, asks_acted, asks_handed, class_after, class_view, holds, holds_acted, holds_handed, on_hold, runs, view_of}

@@ -1,5 +1,5 @@
 -- What a call of a transaction module does, of every log for which the module stands.
-use Rattle.sdd_tm.proofs.All.{AreSettled, Bases, Catalogue, ClassState, Does, DoesMore, Entry, Era, Fits, FitsSubmit, Handed, IsAmid, IsCalm, IsEraOf, IsKept, IsLineOf, IsTrue, IsWhole, Kept, List, Log, Msg, None, Notes, Places, Rec, Redeclared, RelNo, Row, Setting, Site, Some, Stands, State, Submit, Submits, T, Ticked, TmNo, Txn, TxnNo, Works, [], all_noted, ap, arith, at_zero, bound_of, class_for, class_given, class_handed, class_of, class_step, classes_of, clock, current_era, does_from, false, first_class, first_state, fits, held_of, length, length-map, line_redeclared, line_ticked, map, next, noted, nothing_noted, one_place, place_of, pushed, records_of, refl, runs, slice_get, stamped_still, state_given, state_handed, state_of, subst, suc, sym, ticked, told, touched, zero, ℕ, ◌<◌, ◌^◌, ◌∙◌, ◌∷◌, ◌≡◌}
+use Rattle.sdd_tm.proofs.All.{AreSettled, Bases, Catalogue, ClassState, Does, DoesMore, Entry, Era, Fits, FitsSubmit, Handed, IsAmid, IsCalm, IsEraOf, IsKept, IsLineOf, IsTrue, IsWhole, Kept, List, Log, Msg, None, Notes, Places, Rec, Redeclared, RelNo, Represents, Row, Setting, Site, Some, State, Submit, Submits, T, Ticked, TmNo, Txn, TxnNo, Works, [], all_noted, ap, arith, at_zero, bound_of, class_for, class_given, class_handed, class_of, class_step, classes_of, clock, current_era, does_from, false, first_class, first_state, fits, held_of, length, length-map, line_redeclared, line_ticked, map, next, noted, nothing_noted, one_place, place_of, pushed, records_of, refl, runs, slice_get, stamped_still, state_given, state_handed, state_of, subst, suc, sym, ticked, told, touched, zero, ℕ, ◌<◌, ◌^◌, ◌∙◌, ◌∷◌, ◌≡◌}
 use Rattle.sdd_tm.proofs.Lists.{some_is}
 use Rattle.sdd_tm.proofs.Handing.{amid_handed}
 use Rattle.sdd_tm.proofs.Taking.{few_kept, apart_kept, fits_now}
@@ -20,20 +20,20 @@ pub record Called (taken now : State) (old notes new : Notes) : Type 0 where
 called_works : (taken now : State) (old notes new : Notes) → Called taken now old notes new → Works taken now old new
 called_works taken now old notes new c = rw (c.told_is, c.noted_is) (works_told taken c.settled_state old notes c.works c.settled)
 
-stands_now : (new : Kept State) (s : Setting) (bases : Bases) (log : Log) → IsTrue new.live → AreSettled new.value
-    → held_of new.value ≡ None → IsAmid s bases new.value log → Stands new s log
-stands_now new s bases log live settled none amid =
+represents_now : (new : Kept State) (s : Setting) (bases : Bases) (log : Log) → IsTrue new.live → AreSettled new.value
+    → held_of new.value ≡ None → IsAmid s bases new.value log → Represents new s log
+represents_now new s bases log live settled none amid =
     record { live = live; setting = amid.setting; sound = amid.sound; state_is = amid.state_is; settled = settled; told = none }
 
 call_does : (taken : State) (new : Kept State) (old notes all : Notes) (s : Setting) (bases : Bases) (start : Log)
-    → IsTrue new.live → Called taken new.value old notes all → IsAmid s bases taken start → DoesMore (next s bases) start old all (Stands new s)
+    → IsTrue new.live → Called taken new.value old notes all → IsAmid s bases taken start → DoesMore (next s bases) start old all (Represents new s)
 call_does taken new old notes all s bases start live c amid =
     let r = called_works taken new.value old notes all c s bases start amid in
     let settled : AreSettled new.value = rw c.told_is (told_settled c.settled_state c.settled) in
     let none : held_of new.value ≡ None = rw c.told_is (told_once c.settled_state) in
-    let stands = stands_now new s bases r.view live settled none r.shown in
+    let represents = represents_now new s bases r.view live settled none r.shown in
     does_from (λ l. l) (next s bases) (λ e l. e ∷ l) (λ e log. refl) start start r.view old all refl r.made
-    (nothing_due s bases new.value r.view r.shown.state_is settled none) (Stands new s) (λ log e. subst (Stands new s) (sym e) stands)
+    (nothing_due s bases new.value r.view r.shown.state_is settled none) (Represents new s) (λ log e. subst (Represents new s) (sym e) represents)
 
 amid_of_state : (s : Setting) (bases : Bases) (log : Log) (f : State → State) (old : State) (taken : State)
     (e : Entry) → state_of s log ≡ old → taken ≡ f old → IsAmid s bases (f (state_of s log)) (e ∷ log)
@@ -42,10 +42,10 @@ amid_of_state s bases log f old taken e is t amid = subst (λ st. IsAmid s bases
 
 -- a message
 
-kept_of : (k : Kept State) (s : Setting) (log : Log) → Stands k s log → IsKept s log k.value
+kept_of : (k : Kept State) (s : Setting) (log : Log) → Represents k s log → IsKept s log k.value
 kept_of k s log st = record { setting = st.setting; sound = st.sound; state_is = st.state_is }
 
-pub few_handed : (k : Kept State) (s : Setting) (log : Log) (from : Site) (m : Msg) (taken : State) → Stands k s log
+pub few_handed : (k : Kept State) (s : Setting) (log : Log) (from : Site) (m : Msg) (taken : State) → Represents k s log
     → taken ≡ state_handed from m k.value → length taken.classes < 2 ^ 32
 few_handed k s log from m taken st t =
     let few = few_kept s log k.value (kept_of k s log st) in
@@ -53,21 +53,21 @@ few_handed k s log from m taken st t =
     omega arith
 
 pub calm_for : (k : Kept State) (s : Setting) (log : Log) (from : Site) (m : Msg) (taken : State) (places : Places)
-    → Stands k s log → taken ≡ state_handed from m k.value → places ≡ touched k.value.classes m → IsCalm places.from places.end taken
+    → Represents k s log → taken ≡ state_handed from m k.value → places ≡ touched k.value.classes m → IsCalm places.from places.end taken
 calm_for k s log from m taken places st t e = rw (t, e) (calm_handed k.value from m st.settled (apart_kept s log k.value (kept_of k s log st)))
 
 pub amid_for : (k : Kept State) (s : Setting) (bases : Bases) (log : Log) (from : Site) (m : Msg) (taken : State)
-    → Stands k s log → fits s bases log from m → taken ≡ state_handed from m k.value → IsAmid s bases taken (Handed from m ∷ log)
+    → Represents k s log → fits s bases log from m → taken ≡ state_handed from m k.value → IsAmid s bases taken (Handed from m ∷ log)
 amid_for k s bases log from m taken st fit t =
     amid_of_state s bases log (state_handed from m) k.value taken (Handed from m) st.state_is t
     (amid_handed s bases log from m st.setting st.sound (subst AreSettled (sym st.state_is) st.settled) fit)
 
 pub take_does : (from : Site) (m : Msg) (old new : Kept State) (taken : State) (notes all : Notes)
     (records : List Rec) (sends : List (Site × Msg)) → IsTrue new.live → taken ≡ state_handed from m old.value
-    → Called taken new.value nothing_noted notes all → records ≡ all.recs → sends ≡ all.out → (s : Setting) (bases : Bases) (log : Log) → Stands old s log
-    → fits s bases log from m → Does (next s bases) (Handed from m ∷ log) records sends (Stands new s)
+    → Called taken new.value nothing_noted notes all → records ≡ all.recs → sends ≡ all.out → (s : Setting) (bases : Bases) (log : Log) → Represents old s log
+    → fits s bases log from m → Does (next s bases) (Handed from m ∷ log) records sends (Represents new s)
 take_does from m old new taken notes all records sends live t c e f s bases log st fit =
-    all_noted (next s bases) (Handed from m ∷ log) all records sends (Stands new s)
+    all_noted (next s bases) (Handed from m ∷ log) all records sends (Represents new s)
     (call_does taken new nothing_noted notes all s bases (Handed from m ∷ log) live c (amid_for old s bases log from m taken st fit t)) e f
 
 -- a transaction
@@ -77,15 +77,15 @@ submitted n = record { recs = Submit n ∷ []; out = [] }
 
 -- the class by the list in force is that by what the module keeps
 
-pub class_here : (k : Kept State) (s : Setting) (log : Log) (txn : Txn) (class : ℕ) → Stands k s log
+pub class_here : (k : Kept State) (s : Setting) (log : Log) (txn : Txn) (class : ℕ) → Represents k s log
     → class ≡ class_for (current_era s log).catalogue txn → class ≡ class_for k.value.era.catalogue txn
 class_here k s log txn class st e = e ∙ ap (λ (x : State). class_for x.era.catalogue txn) st.state_is
 
-pub class_in_era : (k : Kept State) (s : Setting) (log : Log) (txn : Txn) (class : ℕ) → Stands k s log
+pub class_in_era : (k : Kept State) (s : Setting) (log : Log) (txn : Txn) (class : ℕ) → Represents k s log
     → class ≡ class_for k.value.era.catalogue txn → class ≡ class_for (current_era s log).catalogue txn
 class_in_era k s log txn class st e = e ∙ sym (ap (λ (x : State). class_for x.era.catalogue txn) st.state_is)
 
-pub fits_here : (k : Kept State) (s : Setting) (bases : Bases) (log : Log) (n : ℕ) (txn : Txn) → Stands k s log
+pub fits_here : (k : Kept State) (s : Setting) (bases : Bases) (log : Log) (n : ℕ) (txn : Txn) → Represents k s log
     → FitsSubmit s bases log n txn → Fits k.value.era.catalogue txn
 fits_here k s bases log n txn st f = fits_now s bases log k.value n txn (kept_of k s log st) f
 
@@ -93,20 +93,20 @@ fits_here k s bases log n txn st f = fits_now s bases log k.value n txn (kept_of
 abbrev pub given_to : Kept State → ℕ → Txn → State
 given_to k n txn = state_given (class_for k.value.era.catalogue txn) n txn k.value
 
-pub few_given : (k : Kept State) (s : Setting) (log : Log) (n : ℕ) (txn : Txn) (taken : State) → Stands k s log
+pub few_given : (k : Kept State) (s : Setting) (log : Log) (n : ℕ) (txn : Txn) (taken : State) → Represents k s log
     → taken ≡ given_to k n txn → length taken.classes < 2 ^ 32
 few_given k s log n txn taken st t =
     let few = few_kept s log k.value (kept_of k s log st) in
     let same = ap (λ (x : State). length x.classes) t ∙ length-map k.value.classes (class_given (class_for k.value.era.catalogue txn) n txn) in
     omega arith
 
-pub calm_after : (k : Kept State) (s : Setting) (log : Log) (n : ℕ) (txn : Txn) (taken : State) (places : Places) → Stands k s log → taken ≡ given_to k n txn
+pub calm_after : (k : Kept State) (s : Setting) (log : Log) (n : ℕ) (txn : Txn) (taken : State) (places : Places) → Represents k s log → taken ≡ given_to k n txn
     → places ≡ one_place (place_of k.value.classes (class_for k.value.era.catalogue txn)) → IsCalm places.from places.end taken
 calm_after k s log n txn taken places st t e =
     rw (t, e) (calm_given k.value (class_for k.value.era.catalogue txn) n txn st.settled (apart_kept s log k.value (kept_of k s log st)))
 
 pub amid_after : (k : Kept State) (s : Setting) (bases : Bases) (log : Log) (n : ℕ) (txn : Txn) (taken : State)
-    → n < 2 ^ 32 → Stands k s log → FitsSubmit s bases log n txn → taken ≡ given_to k n txn → IsAmid s bases taken (Submits n txn ∷ log)
+    → n < 2 ^ 32 → Represents k s log → FitsSubmit s bases log n txn → taken ≡ given_to k n txn → IsAmid s bases taken (Submits n txn ∷ log)
 amid_after k s bases log n txn taken small st fit t =
     let here : (current_era s log) ≡ k.value.era = ap (λ (x : State). x.era) st.state_is in
     let given = λ (x : State). state_given (class_for (current_era s log).catalogue txn) n txn x in
@@ -117,22 +117,22 @@ amid_after k s bases log n txn taken small st fit t =
 pub submit_does : (n : TxnNo) (txn : Txn) (old new : Kept State) (taken : State) (notes all : Notes)
     (records : List Rec) (sends : List (Site × Msg)) → n.0 < 2 ^ 32 → IsTrue new.live
     → taken ≡ given_to old n.0 txn → Called taken new.value (submitted n) notes all → records ≡ all.recs → sends ≡ all.out
-    → (s : Setting) (bases : Bases) (log : Log) → Stands old s log → FitsSubmit s bases log n.0 txn
-    → (rest : List Rec) × (records ≡ Submit n ∷ rest) × Does (next s bases) (Submits n.0 txn ∷ log) rest sends (Stands new s)
+    → (s : Setting) (bases : Bases) (log : Log) → Represents old s log → FitsSubmit s bases log n.0 txn
+    → (rest : List Rec) × (records ≡ Submit n ∷ rest) × Does (next s bases) (Submits n.0 txn ∷ log) rest sends (Represents new s)
 submit_does n txn old new taken notes all records sends small live t c e f s bases log st fit =
     let d = call_does taken new (submitted n) notes all s bases (Submits n.0 txn ∷ log) live c
     (amid_after old s bases log n.0 txn taken small st fit t) in (
       records_of d.acts,
       e ∙ d.recs_are,
-      subst (λ xs. Does (next s bases) (Submits n.0 txn ∷ log) (records_of d.acts) xs (Stands new s)) (sym (f ∙ d.out_is)) d.does,
+      subst (λ xs. Does (next s bases) (Submits n.0 txn ∷ log) (records_of d.acts) xs (Represents new s)) (sym (f ∙ d.out_is)) d.does,
     )
 
 -- a tick
 
-pub tick_stands : (old new : Kept State) (n : ℕ)
+pub tick_represents : (old new : Kept State) (n : ℕ)
     → new ≡ record old { value = record old.value { clock = ticked old.value.clock n } } → (s : Setting) (log : Log)
-    → Stands old s log → Stands new s (Ticked n ∷ log)
-tick_stands old new n e s log st =
+    → Represents old s log → Represents new s (Ticked n ∷ log)
+tick_represents old new n e s log st =
     rw e (record {
       live = st.live;
       setting = record { valid = st.setting.valid; whole = st.setting.whole; era = st.setting.era };
@@ -172,10 +172,10 @@ first_is s whole era tm e f =
     ap (λ x. record s { catalogue = x }) e ∙ ap (λ x. record { catalogue = whole; site = x; rows = s.rows }) f in
     ap (λ x. state_of x (Redeclared era 0 ∷ [])) is ∙ first_at whole era tm s.rows
 
-pub new_stands : (k : Kept State) (whole : Catalogue) (era : Era) (tm : TmNo) → IsTrue k.live
+pub new_represents : (k : Kept State) (whole : Catalogue) (era : Era) (tm : TmNo) → IsTrue k.live
     → k.value ≡ first_state whole era tm.0 → catalogues.IsSound whole → IsWhole whole → IsEraOf whole era.catalogue
-    → (s : Setting) → s.catalogue ≡ whole → s.site ≡ T tm → Stands k s (Redeclared era 0 ∷ [])
-new_stands k whole era tm live is valid counts of_whole s e f =
+    → (s : Setting) → s.catalogue ≡ whole → s.site ≡ T tm → Represents k s (Redeclared era 0 ∷ [])
+new_represents k whole era tm live is valid counts of_whole s e f =
     let log : Log = Redeclared era 0 ∷ [] in
     let state : state_of s log ≡ k.value = first_is s whole era tm e f ∙ sym is in
     record {
@@ -199,10 +199,10 @@ new_stands k whole era tm live is valid counts of_whole s e f =
 
 -- a list of classes is put in force
 
-pub redeclared_stands : (old new : Kept State) (era : Era) (t : ℕ)
+pub redeclared_represents : (old new : Kept State) (era : Era) (t : ℕ)
     → new ≡ record old { value = record old.value { era = era; clock = pushed old.value.clock t } }
-    → (s : Setting) (log : Log) → Stands old s log → IsEraOf s.catalogue era.catalogue → Stands new s (Redeclared era t ∷ log)
-redeclared_stands old new era t e s log st of_whole =
+    → (s : Setting) (log : Log) → Represents old s log → IsEraOf s.catalogue era.catalogue → Represents new s (Redeclared era t ∷ log)
+redeclared_represents old new era t e s log st of_whole =
     rw e (record {
       live = st.live;
       setting = record { valid = st.setting.valid; whole = st.setting.whole; era = of_whole };
@@ -218,5 +218,5 @@ redeclared_stands old new era t e s log st of_whole =
     })
 
 -- the bound of the clock
-pub bound_is : (k : Kept State) (s : Setting) (log : Log) (n : ℕ) → n ≡ bound_of k.value.clock → Stands k s log → n ≡ bound_of (clock s.site log)
+pub bound_is : (k : Kept State) (s : Setting) (log : Log) (n : ℕ) → n ≡ bound_of k.value.clock → Represents k s log → n ≡ bound_of (clock s.site log)
 bound_is k s log n e st = e ∙ ap (λ (x : State). bound_of x.clock) (sym st.state_is)

@@ -3,7 +3,7 @@ use Rattle.std.specs.Prelude.{ℕ, ◌==◌, false, List, [], ◌∷◌, map, fi
 use Rattle.sdd_attempt.specs.All.{Bases, Catalogue, Era, Log, Notes, Reached, Setting, at_zero, class_at, no_line, numbers_to}
 use Rattle.sdd_tm.specs.Due.{next}
 use Rattle.sdd_tm.specs.State.{ClassState, State}
-use Rattle.sdd_tm.specs.Stands.{IsAmid}
+use Rattle.sdd_tm.specs.Represents.{IsAmid}
 
 -- From one state acts were made to another, each of which was due, and this is what was noted for them: by whatever log
 -- the first state was kept, and for whatever databases.

@@ -4,7 +4,7 @@ ghost use Rattle.sdd_attempt.specs.All.{AreTried, Bases, IsAwaited, IsDatabase, 
 ghost use Rattle.sdd_tm.specs.Fits.{fits, FitsSubmit};
 ghost use Rattle.sdd_tm.specs.Handing.{push_of, heeded, class_handed, state_handed, state_given, class_named, place_of, one_place, all_places, touched};
 ghost use Rattle.sdd_tm.specs.State.{ClassState};
-ghost use Rattle.sdd_tm.specs.Stands.{AreApart, AreSettled, IsKept, IsAmid, IsCalm};
+ghost use Rattle.sdd_tm.specs.Represents.{AreApart, AreSettled, IsKept, IsAmid, IsCalm};
 ghost use Rattle.sdd_tm.specs.Steps.{is_idle, step_at, act_of, state_done, held_of, told};
 ghost use Rattle.sdd_tm.specs.Works.{Works, first_state};
 ghost use Rattle.sdd_tm.specs.declared.step.Step.TheVariants.{Commit, Start};

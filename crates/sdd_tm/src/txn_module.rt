@@ -5,7 +5,7 @@ ghost use Rattle.sdd_eras.specs.EraOf.{IsEraOf};
 ghost use Rattle.sdd_tm.specs.Due.{next};
 ghost use Rattle.sdd_tm.specs.Fits.{fits, FitsSubmit};
 ghost use Rattle.sdd_tm.specs.State.{ClassState};
-ghost use Rattle.sdd_tm.specs.Stands.{Stands};
+ghost use Rattle.sdd_tm.specs.Represents.{Represents};
 
 use crate::class_run::ClassRun;
 use crate::parts::Parts;
@@ -49,7 +49,7 @@ impl<'a> TxnModule<'a> {
         requires { IsEraOf whole.now catalogue.now }
         ensures { IfOk result (λ new. (setting : Setting)
             → setting.catalogue ≡ whole.now → setting.site ≡ T tm
-            → Stands new setting
+            → Represents new setting
             (Redeclared (record { catalogue = catalogue.now; table = table.now }) 0 ∷ [])) }
     {
         whole.known();
@@ -95,13 +95,13 @@ impl<'a> TxnModule<'a> {
     /// of memory it takes nothing more. Costs, before these acts, what `class_for` does.
     pub fn submit(&mut self, number: TxnNo, txn: &Txn) -> Result<Outcome, NoMemory>
         requires lives { IsTrue self.old.live }
-        requires stands { (setting : Setting) × (bases : Bases) × (log : Log)
-            × Stands self.old setting log × FitsSubmit setting bases log number.0 txn.now }
+        requires represents { (setting : Setting) × (bases : Bases) × (log : Log)
+            × Represents self.old setting log × FitsSubmit setting bases log number.0 txn.now }
         ensures law { IfOk result (λ outcome. (setting : Setting) (bases : Bases) (log : Log)
-            → Stands self.old setting log → FitsSubmit setting bases log number.0 txn.now
+            → Represents self.old setting log → FitsSubmit setting bases log number.0 txn.now
             → (recs : List Record) × (outcome.recs ≡ Submit number ∷ recs)
             × Does (next setting bases) (Submits number.0 txn.now ∷ log) recs outcome.out
-            (Stands self.new setting)) }
+            (Represents self.new setting)) }
         ensures lives_on { IfOk result (λ _. IsTrue self.new.live) }
         ensures dies { OnErr result (¬ IsTrue self.new.live) }
     {
@@ -117,14 +117,14 @@ impl<'a> TxnModule<'a> {
         class: ClassNo,
     ) -> Result<Outcome, NoMemory>
         requires lives { IsTrue self.old.live }
-        requires stands { (setting : Setting) × (bases : Bases) × (log : Log)
-            × Stands self.old setting log × FitsSubmit setting bases log number.0 txn.now
+        requires represents { (setting : Setting) × (bases : Bases) × (log : Log)
+            × Represents self.old setting log × FitsSubmit setting bases log number.0 txn.now
             × (class.0 ≡ class_for (current_era setting log).catalogue txn.now) }
         ensures law { IfOk result (λ outcome. (setting : Setting) (bases : Bases) (log : Log)
-            → Stands self.old setting log → FitsSubmit setting bases log number.0 txn.now
+            → Represents self.old setting log → FitsSubmit setting bases log number.0 txn.now
             → (recs : List Record) × (outcome.recs ≡ Submit number ∷ recs)
             × Does (next setting bases) (Submits number.0 txn.now ∷ log) recs outcome.out
-            (Stands self.new setting)) }
+            (Represents self.new setting)) }
         ensures lives_on { IfOk result (λ _. IsTrue self.new.live) }
         ensures dies { OnErr result (¬ IsTrue self.new.live) }
     {
@@ -141,10 +141,10 @@ impl<'a> TxnModule<'a> {
     /// Lets time pass. Takes no memory.
     pub fn tick(&mut self, n: u32)
         requires lives { IsTrue self.old.live }
-        requires stands { (setting : Setting) × (bases : Bases) × (log : Log)
-            × Stands self.old setting log × FitsSite setting bases log }
+        requires represents { (setting : Setting) × (bases : Bases) × (log : Log)
+            × Represents self.old setting log × FitsSite setting bases log }
         ensures law { (setting : Setting) (log : Log)
-            → Stands self.old setting log → Stands self.new setting (Ticked n ∷ log) }
+            → Represents self.old setting log → Represents self.new setting (Ticked n ∷ log) }
         ensures lives_on { IsTrue self.new.live }
     {
         self.parts.tick(n);
@@ -154,7 +154,7 @@ impl<'a> TxnModule<'a> {
     pub fn bound(&self) -> Ts
         requires { IsTrue self.now.live }
         ensures { (setting : Setting) (log : Log)
-            → Stands self.now setting log → result.0 ≡ bound_of (clock setting.site log) }
+            → Represents self.now setting log → result.0 ≡ bound_of (clock setting.site log) }
     {
         self.parts.bound()
     }
@@ -165,8 +165,8 @@ impl<'a> TxnModule<'a> {
         requires lives { IsTrue self.old.live }
         requires early { t.0 / 64 < 2 ^ 57 }
         ensures law { (setting : Setting) (log : Log)
-            → Stands self.old setting log → IsEraOf setting.catalogue catalogue.now
-            → Stands self.new setting
+            → Represents self.old setting log → IsEraOf setting.catalogue catalogue.now
+            → Represents self.new setting
             (Redeclared (record { catalogue = catalogue.now; table = table.now }) t.0 ∷ log) }
         ensures lives_on { IsTrue self.new.live }
     {
@@ -175,7 +175,7 @@ impl<'a> TxnModule<'a> {
 }
 
 impl<'a> Module for TxnModule<'a> {
-    ghost stands = { Stands };
+    ghost represents = { Represents };
 
     ghost next = { next };
 

@@ -22,7 +22,7 @@ pub use Rattle.sdd_attempt.specs.history.declared.record.Rec.TheVariants.{Submit
 pub use Rattle.sdd_umod.specs.Due.{IsDue, by_exchange, by_hold, by_release, by_start, due, hold_due, next, release_due, start_due}
 pub use Rattle.sdd_umod.specs.Fits.{FitsSubmit, fits, fits_kind}
 pub use Rattle.sdd_umod.specs.Handing.{IsEarly, clock_heeded, counts_heeded, served_heeded, state_given, state_handed}
-pub use Rattle.sdd_umod.specs.Stands.{AreStarted, InTurn, IsAmid, IsKept, IsSetting, IsSound, Stands, running}
+pub use Rattle.sdd_umod.specs.Represents.{AreStarted, InTurn, IsAmid, IsKept, IsSetting, IsSound, Represents, running}
 pub use Rattle.sdd_umod.specs.State.{State, as_counted, line_of, state_of}
 pub use Rattle.sdd_umod.specs.Steps.{act_of, committed, counted, hold_step, is_applied, is_free, is_kept_on_hold, may_start, of_line, release_step, start_step, state_done, step_of, tm_of}
 pub use Rattle.sdd_umod.specs.Views.{Served, TmCounts, View, after, counts, counts_acted, counts_handed, last_served, served_handed as served_now, ts_of, view_of}

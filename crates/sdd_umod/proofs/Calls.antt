@@ -1,34 +1,34 @@
 -- What a call of the module does, of every log for which the module stands.
-use Rattle.sdd_umod.proofs.All.{Bases, Bool, Catalogue, Does, DoesMore, FitsSubmit, Handed, IsAmid, IsKept, IsTrue, IsWhole, Kept, List, Log, Msg, None, Notes, Option, Rec, RelNo, Release, Row, Setting, Site, Some, Stands, State, Submit, Submits, TmCounts, Txn, TxnNo, U, Works, [], all_noted, ap, arith, does_from, find, first_state, fits, if◌then◌else◌, is_kept_on_hold, map, next, no_counts, nothing_noted, numbers_to, option_map, or_else, records_of, refl, state_given, state_handed, state_of, step_of, subst, sym, tm_of, true, ℕ, ◌<◌, ◌==◌, ◌^◌, ◌∙◌, ◌∷◌, ◌≡◌}
+use Rattle.sdd_umod.proofs.All.{Bases, Bool, Catalogue, Does, DoesMore, FitsSubmit, Handed, IsAmid, IsKept, IsTrue, IsWhole, Kept, List, Log, Msg, None, Notes, Option, Rec, RelNo, Release, Represents, Row, Setting, Site, Some, State, Submit, Submits, TmCounts, Txn, TxnNo, U, Works, [], all_noted, ap, arith, does_from, find, first_state, fits, if◌then◌else◌, is_kept_on_hold, map, next, no_counts, nothing_noted, numbers_to, option_map, or_else, records_of, refl, state_given, state_handed, state_of, step_of, subst, sym, tm_of, true, ℕ, ◌<◌, ◌==◌, ◌^◌, ◌∙◌, ◌∷◌, ◌≡◌}
 use Rattle.sdd_umod.proofs.Handing.{amid_handed}
 use Rattle.sdd_umod.proofs.Giving.{amid_given}
 use Rattle.sdd_umod.proofs.Dues.{nothing_due}
 use Rattle.sdd_attempt.specs.catalog.Rules as catalogues
 
-stands_now : (new : Kept State) (s : Setting) (bases : Bases) (log : Log) → IsTrue new.live → step_of new.value ≡ None
-    → IsAmid s bases new.value log → Stands new s log
-stands_now new s bases log live settled amid = record { live = live; setting = amid.setting; sound = amid.sound; state_is = amid.state_is; settled = settled }
+represents_now : (new : Kept State) (s : Setting) (bases : Bases) (log : Log) → IsTrue new.live → step_of new.value ≡ None
+    → IsAmid s bases new.value log → Represents new s log
+represents_now new s bases log live settled amid = record { live = live; setting = amid.setting; sound = amid.sound; state_is = amid.state_is; settled = settled }
 
 -- from what the module keeps once the entry is taken in
 call_does : (taken : State) (new : Kept State) (old all : Notes) (s : Setting) (bases : Bases) (start : Log)
     → IsTrue new.live → Works taken new.value old all → step_of new.value ≡ None → IsAmid s bases taken start
-    → DoesMore (next s bases) start old all (Stands new s)
+    → DoesMore (next s bases) start old all (Represents new s)
 call_does taken new old all s bases start live works settled amid =
     let r = works s bases start amid in
-    let stands = stands_now new s bases r.view live settled r.shown in
+    let represents = represents_now new s bases r.view live settled r.shown in
     does_from (λ l. l) (next s bases) (λ e l. e ∷ l) (λ e log. refl) start start r.view old all refl r.made
-    (nothing_due s bases new.value r.view r.shown.setting.whole r.shown.state_is settled) (Stands new s) (λ log e. subst (Stands new s) (sym e) stands)
+    (nothing_due s bases new.value r.view r.shown.setting.whole r.shown.state_is settled) (Represents new s) (λ log e. subst (Represents new s) (sym e) represents)
 
-pub kept_of : (k : Kept State) (s : Setting) (log : Log) → Stands k s log → IsKept s log k.value
+pub kept_of : (k : Kept State) (s : Setting) (log : Log) → Represents k s log → IsKept s log k.value
 kept_of k s log st = record { setting = st.setting; sound = st.sound; state_is = st.state_is }
 
-settled_of : (k : Kept State) (s : Setting) (log : Log) → Stands k s log → step_of (state_of s log) ≡ None
+settled_of : (k : Kept State) (s : Setting) (log : Log) → Represents k s log → step_of (state_of s log) ≡ None
 settled_of k s log st = subst (λ x. step_of x ≡ None) (sym st.state_is) st.settled
 
 -- a message
 
 pub amid_for : (k : Kept State) (s : Setting) (bases : Bases) (log : Log) (from : Site) (m : Msg) (taken : State)
-    → Stands k s log → fits s bases log from m → taken ≡ state_handed from m k.value → IsAmid s bases taken (Handed from m ∷ log)
+    → Represents k s log → fits s bases log from m → taken ≡ state_handed from m k.value → IsAmid s bases taken (Handed from m ∷ log)
 amid_for k s bases log from m taken st fit t =
     subst (λ x. IsAmid s bases x (Handed from m ∷ log)) (ap (state_handed from m) st.state_is ∙ sym t)
     (amid_handed s bases log from m st.setting st.sound (settled_of k s log st) fit)
@@ -36,10 +36,10 @@ amid_for k s bases log from m taken st fit t =
 pub take_does : (from : Site) (m : Msg) (old new : Kept State) (taken : State) (all : Notes)
     (records : List Rec) (sends : List (Site × Msg)) → IsTrue new.live → taken ≡ state_handed from m old.value
     → Works taken new.value nothing_noted all → step_of new.value ≡ None
-    → records ≡ all.recs → sends ≡ all.out → (s : Setting) (bases : Bases) (log : Log) → Stands old s log
-    → fits s bases log from m → Does (next s bases) (Handed from m ∷ log) records sends (Stands new s)
+    → records ≡ all.recs → sends ≡ all.out → (s : Setting) (bases : Bases) (log : Log) → Represents old s log
+    → fits s bases log from m → Does (next s bases) (Handed from m ∷ log) records sends (Represents new s)
 take_does from m old new taken all records sends live t works settled e f s bases log st fit =
-    all_noted (next s bases) (Handed from m ∷ log) all records sends (Stands new s)
+    all_noted (next s bases) (Handed from m ∷ log) all records sends (Represents new s)
     (call_does taken new nothing_noted all s bases (Handed from m ∷ log) live works settled (amid_for old s bases log from m taken st fit t)) e f
 
 -- a transaction
@@ -48,7 +48,7 @@ abbrev pub submitted : TxnNo → Notes
 submitted n = record { recs = Submit n ∷ []; out = [] }
 
 pub amid_after : (k : Kept State) (s : Setting) (bases : Bases) (log : Log) (n : ℕ) (txn : Txn) (taken : State)
-    → n < 2 ^ 32 → Stands k s log → FitsSubmit s bases log n txn → taken ≡ state_given n txn k.value → IsAmid s bases taken (Submits n txn ∷ log)
+    → n < 2 ^ 32 → Represents k s log → FitsSubmit s bases log n txn → taken ≡ state_given n txn k.value → IsAmid s bases taken (Submits n txn ∷ log)
 amid_after k s bases log n txn taken small st fit t =
     subst (λ x. IsAmid s bases x (Submits n txn ∷ log)) (ap (state_given n txn) st.state_is ∙ sym t)
     (amid_given s bases log n txn small st.setting st.sound (settled_of k s log st) fit)
@@ -56,14 +56,14 @@ amid_after k s bases log n txn taken small st fit t =
 pub submit_does : (n : TxnNo) (txn : Txn) (old new : Kept State) (taken : State) (all : Notes)
     (records : List Rec) (sends : List (Site × Msg)) → n.0 < 2 ^ 32 → IsTrue new.live
     → taken ≡ state_given n.0 txn old.value → Works taken new.value (submitted n) all → step_of new.value ≡ None → records ≡ all.recs → sends ≡ all.out
-    → (s : Setting) (bases : Bases) (log : Log) → Stands old s log → FitsSubmit s bases log n.0 txn
-    → (rest : List Rec) × (records ≡ Submit n ∷ rest) × Does (next s bases) (Submits n.0 txn ∷ log) rest sends (Stands new s)
+    → (s : Setting) (bases : Bases) (log : Log) → Represents old s log → FitsSubmit s bases log n.0 txn
+    → (rest : List Rec) × (records ≡ Submit n ∷ rest) × Does (next s bases) (Submits n.0 txn ∷ log) rest sends (Represents new s)
 submit_does n txn old new taken all records sends small live t works settled e f s bases log st fit =
     let d = call_does taken new (submitted n) all s bases (Submits n.0 txn ∷ log) live works settled
     (amid_after old s bases log n.0 txn taken small st fit t) in (
       records_of d.acts,
       e ∙ d.recs_are,
-      subst (λ xs. Does (next s bases) (Submits n.0 txn ∷ log) (records_of d.acts) xs (Stands new s)) (sym (f ∙ d.out_is)) d.does,
+      subst (λ xs. Does (next s bases) (Submits n.0 txn ∷ log) (records_of d.acts) xs (Represents new s)) (sym (f ∙ d.out_is)) d.does,
     )
 
 -- before the first message
@@ -91,9 +91,9 @@ first_is s cat e f =
     ap (λ x. record s { catalogue = x }) e ∙ ap (λ x. record { catalogue = cat; site = x; rows = s.rows }) f in
     ap (λ x. state_of x []) is ∙ first_at cat s.rows
 
-pub new_stands : (k : Kept State) (cat : Catalogue) → IsTrue k.live → k.value ≡ first_state cat → catalogues.IsSound cat → IsWhole cat
-    → (s : Setting) → s.catalogue ≡ cat → s.site ≡ U → Stands k s []
-new_stands k cat live is valid whole s e f =
+pub new_represents : (k : Kept State) (cat : Catalogue) → IsTrue k.live → k.value ≡ first_state cat → catalogues.IsSound cat → IsWhole cat
+    → (s : Setting) → s.catalogue ≡ cat → s.site ≡ U → Represents k s []
+new_represents k cat live is valid whole s e f =
     let state : state_of s [] ≡ k.value = first_is s cat e f ∙ sym is in
     record {
       live = live;

@@ -4,7 +4,7 @@ use Rattle.sdd_attempt.specs.All.{Bases, Catalogue, Log, Notes, Reached, Setting
 use Rattle.sdd_umod.specs.Due.{next}
 use Rattle.sdd_umod.specs.Views.{Served, TmCounts}
 use Rattle.sdd_umod.specs.State.{State}
-use Rattle.sdd_umod.specs.Stands.{IsAmid}
+use Rattle.sdd_umod.specs.Represents.{IsAmid}
 
 -- From one state acts were made to another, each of which was due, and this is what was noted for them: by whatever log
 -- the first state was kept, and for whatever databases.

@@ -5,7 +5,7 @@ ghost use Rattle.sdd_attempt.specs.wire.declared.msg.Msg.TheVariants as messages
 ghost use Rattle.sdd_attempt.specs.declared.standing.Standing.TheVariants.{Queued};
 ghost use Rattle.sdd_umod.specs.Fits.{fits, FitsSubmit};
 ghost use Rattle.sdd_umod.specs.Handing.{IsEarly, heeded, held_from, state_handed, state_given};
-ghost use Rattle.sdd_umod.specs.Stands.{IsKept, IsAmid};
+ghost use Rattle.sdd_umod.specs.Represents.{IsKept, IsAmid};
 ghost use Rattle.sdd_umod.specs.Standing.{first_underway, is_awaiting_helds, lacking_site, unheld_by, standing_in};
 ghost use Rattle.sdd_umod.specs.Steps.{act_of, counted, hold_step, is_kept_on_hold, may_start, release_step, state_done, step_of, turn};
 ghost use Rattle.sdd_umod.specs.Works.{first_state, no_counts, HaveRoom, Works};

@@ -5,7 +5,7 @@ ghost use Rattle.sdd_attempt.specs.history.declared.record.Rec.TheVariants.{Subm
 ghost use Rattle.sdd_umod.specs.Due.{next};
 ghost use Rattle.sdd_umod.specs.Fits.{fits, FitsSubmit};
 ghost use Rattle.sdd_umod.specs.Standing.{is_awaiting_helds, standing_in, unheld_by};
-ghost use Rattle.sdd_umod.specs.Stands.{Stands};
+ghost use Rattle.sdd_umod.specs.Represents.{Represents};
 ghost use Rattle.sdd_umod.specs.Steps.{is_kept_on_hold, turn};
 
 use crate::parts::Parts;
@@ -40,7 +40,7 @@ impl<'a> UModule<'a> {
     /// A module before its first message. Costs a look at each transaction module.
     pub fn new(alloc: Global, catalogue: &'a Catalogue) -> Result<UModule<'a>, NoMemory>
         ensures { IfOk result (λ new. (setting : Setting)
-            → setting.catalogue ≡ catalogue.now → setting.site ≡ U → Stands new setting []) }
+            → setting.catalogue ≡ catalogue.now → setting.site ≡ U → Represents new setting []) }
     {
         catalogue.known();
         Ok(UModule {
@@ -109,13 +109,13 @@ impl<'a> UModule<'a> {
     /// of memory it takes nothing more.
     pub fn submit(&mut self, number: TxnNo, txn: &Txn) -> Result<Outcome, NoMemory>
         requires lives { IsTrue self.old.live }
-        requires stands { (setting : Setting) × (bases : Bases) × (log : Log)
-            × Stands self.old setting log × FitsSubmit setting bases log number.0 txn.now }
+        requires represents { (setting : Setting) × (bases : Bases) × (log : Log)
+            × Represents self.old setting log × FitsSubmit setting bases log number.0 txn.now }
         ensures law { IfOk result (λ outcome. (setting : Setting) (bases : Bases) (log : Log)
-            → Stands self.old setting log → FitsSubmit setting bases log number.0 txn.now
+            → Represents self.old setting log → FitsSubmit setting bases log number.0 txn.now
             → (recs : List Record) × (outcome.recs ≡ Submit number ∷ recs)
             × Does (next setting bases) (Submits number.0 txn.now ∷ log) recs outcome.out
-            (Stands self.new setting)) }
+            (Represents self.new setting)) }
         ensures lives_on { IfOk result (λ _. IsTrue self.new.live) }
         ensures dies { OnErr result (¬ IsTrue self.new.live) }
     {
@@ -130,7 +130,7 @@ impl<'a> UModule<'a> {
 }
 
 impl<'a> Module for UModule<'a> {
-    ghost stands = { Stands };
+    ghost represents = { Represents };
 
     ghost next = { next };
 

@@ -2,7 +2,7 @@
 pub use Rattle.sdd_acyclic.proofs.EachTable.{each_table}
 pub use Rattle.sdd_watch.proofs.run.progress.lawful.Applies.{keeps_applies}
 pub use Rattle.sdd_watch.proofs.run.progress.lawful.Effects.{keeps_answers}
-pub use Rattle.sdd_watch.proofs.run.progress.lawful.Places.{place_rises, stands_there}
+pub use Rattle.sdd_watch.proofs.run.progress.lawful.Places.{place_rises, recorded_there}
 pub use Rattle.sdd_watch.proofs.run.progress.lawful.Starts.{event_of_submit, keeps_starts}
 pub use Rattle.sdd_watch.proofs.run.progress.lawful.Submissions.{given_at, submit_in}
 pub use Rattle.sdd_watch.specs.run.progress.lawful.SoundInput.{AreErasOf, HasSoundData}
@@ -79,7 +79,7 @@ pub use Rattle.sdd_watch.proofs.run.script.WordLooks.{name_fine, no_newline-appe
 pub use Rattle.sdd_watch.specs.run.Reports.{report_of}
 pub use Rattle.sdd_watch.specs.run.Runs.{EndsAtLimit, IsReportOn, IsSummaryOn, input_of, order_of}
 pub use Rattle.sdd_watch.specs.run.Settled.{EndsQuiet, NoneIsDown}
-pub use Rattle.sdd_watch.specs.run.Standing.{IsSubmittedBefore, StandsBefore}
+pub use Rattle.sdd_watch.specs.run.ComesBefore.{ComesBefore, IsSubmittedBefore}
 pub use Rattle.sdd_watch.specs.run.class_lists.InForce.{classes_in, eras_in, whole_in}
 pub use Rattle.sdd_watch.specs.run.make.Bank.{bank}
 pub use Rattle.sdd_watch.specs.run.make.Draws.{draw, shown}

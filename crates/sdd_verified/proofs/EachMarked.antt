@@ -1,5 +1,5 @@
 -- In a complete log each transaction that its events submit is submitted.
-use Rattle.sdd_verified.proofs.All.{Bool, Does, Entry, Event, Hand, Input, IsLawful, IsSubmitted, List, Log, Mark, None, Notes, Option, Redeclare, Redeclares, Round, Settle, Site, Some, Submission, Submit, Submitted, Tick, TxnNo, [], all_links, ap, arith, calls_of, due_by, eqb-true, false, from_event, hand_due, history, home_of, inl, inr, left, left_is, length, mark_due, mark_from, mark_of, marked, next, next_mark, note_if, nth_era, one_if, or_else, quiet, redeclares, refl, round, site_due, stands_there, submits_by, submits_in, subst, sym, true, txn_no, ℕ, ◌++◌, ◌+◌, ◌==◌, ◌∙◌, ◌∷◌, ◌≡◌, ◌≤◌, ◌⊎◌}
+use Rattle.sdd_verified.proofs.All.{Bool, Does, Entry, Event, Hand, Input, IsLawful, IsSubmitted, List, Log, Mark, None, Notes, Option, Redeclare, Redeclares, Round, Settle, Site, Some, Submission, Submit, Submitted, Tick, TxnNo, [], all_links, ap, arith, calls_of, due_by, eqb-true, false, from_event, hand_due, history, home_of, inl, inr, left, left_is, length, mark_due, mark_from, mark_of, marked, next, next_mark, note_if, nth_era, one_if, or_else, quiet, recorded_there, redeclares, refl, round, site_due, submits_by, submits_in, subst, sym, true, txn_no, ℕ, ◌++◌, ◌+◌, ◌==◌, ◌∙◌, ◌∷◌, ◌≡◌, ◌≤◌, ◌⊎◌}
 use Rattle.sdd_obligations.specs.All.{txn_at}
 
 -- of what a complete log leaves no event has a mark
@@ -152,5 +152,5 @@ each_submitted g log n lawful complete some =
       place = length (history x.rest);
       submitted =
           subst (λ l. IsSubmitted (history l) n (length (history x.rest))) (sym x.is)
-          (stands_there x.later (Submitted x.at n) x.rest (Submission (txn_no n)) refl);
+          (recorded_there x.later (Submitted x.at n) x.rest (Submission (txn_no n)) refl);
     }

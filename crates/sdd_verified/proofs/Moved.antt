@@ -64,12 +64,12 @@ module _ (cat : Catalogue) (work : Workload) (valid : IsValid cat work) where
   Classes = classes_submitted cat work
 
   -- of two in the order the one behind is another one, and of one class the one that is submitted later
-  abbrev pub StandInTurn : List TxnNo → Type 0
-  StandInTurn order = (i k : ℕ) → i < k → k < length order
+  abbrev pub AreInTurn : List TxnNo → Type 0
+  AreInTurn order = (i k : ℕ) → i < k → k < length order
       → ((moved (at order i)).0 ≢ (moved (at order k)).0)
       × (class_of Classes (moved (at order i)) ≡ class_of Classes (moved (at order k)) → (moved (at order i)).0 < (moved (at order k)).0)
 
-  pub moved_turn : (order : List TxnNo) → StandInTurn order → IsInTurn (classes_submitted cat work) (map moved order)
+  pub moved_turn : (order : List TxnNo) → AreInTurn order → IsInTurn (classes_submitted cat work) (map moved order)
   moved_turn order h i k less within =
       let long = moved_length order in
       let lt_k : k < length order = omega (arith, within, long) in

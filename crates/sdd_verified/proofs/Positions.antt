@@ -1,5 +1,5 @@
 -- Members of an order by their places, where none stands twice.
-use Rattle.sdd_verified.proofs.All.{Catalogue, Contains, Contains-here, Contains-later, History, IsAlong, List, StandsBefore, TxnNo, [], ap, arith, at, cases_lt, inl, inr, length, refl, slice_index_or as get_or, suc, sym, txn_no, zero, ℕ, ◌++◌, ◌+◌, ◌<◌, ◌∙◌, ◌∷◌, ◌≡◌, ◌≢◌}
+use Rattle.sdd_verified.proofs.All.{Catalogue, ComesBefore, Contains, Contains-here, Contains-later, History, IsAlong, List, TxnNo, [], ap, arith, at, cases_lt, inl, inr, length, refl, slice_index_or as get_or, suc, sym, txn_no, zero, ℕ, ◌++◌, ◌+◌, ◌<◌, ◌∙◌, ◌∷◌, ◌≡◌, ◌≢◌}
 
 pub member : (order : List TxnNo) (i : ℕ) → i < length order → Contains order (at order i)
 member [] i lt = absurd (omega arith)
@@ -46,7 +46,7 @@ front_length [] n rest = omega arith
 front_length (x ∷ front) n rest = let more = front_length front n rest in omega (arith, more)
 
 -- of two members the one that stands before the other has the smaller place
-pub not_before : (order : List TxnNo) (i k : ℕ) → AreDifferent order → i < k → k < length order → StandsBefore order (at order k).0 (at order i).0 → ⊥
+pub not_before : (order : List TxnNo) (i k : ℕ) → AreDifferent order → i < k → k < length order → ComesBefore order (at order k).0 (at order i).0 → ⊥
 not_before order i k apart less within b =
     let first : TxnNo = txn_no (at order k).0 in
     let front = b.front in

@@ -1,9 +1,9 @@
 -- The report on a run is verified.
-use Rattle.sdd_verified.proofs.All.{All, All-cons, All-head, All-nil, All-tail, AllFewTicks, AreNamed, AreSubmittedOnce, Catalogue, Committed, Contains, History, Input, IsCommitted, IsFrom1To, IsName, IsOfSubmit, IsReportOn, IsSound, IsSubmitted, IsSubmittedBefore, IsValid, IsValidTxn, IsVerified, KeepsStarts, List, MAX_REPORT_BYTES, Reply, Report, Some, StandsBefore, Txn, TxnNo, Workload, [], after_replies, all_members, ap, arith, at, cases_lt, catalogue_at, class_for, class_of, classes_in, classes_submitted, copies_lines, database_of, era_at, eras_are, eras_in, eras_of, event_at, event_of_submit, few_lists, few_ticks, flat_map, history, index_or, inl, input_of, inr, length, list_at_number, map, named_by_events, names_of, nth_era, once, order_line, pending_lines, redeclares, refl, replies, replies_along, reply_lines, report_of, run, serial, serial_order, serial_replies, shipped_of, slice_get, spelled_lines, starts, submits_in, submitted, subst, sym, texts_of, txn_of, whole_in, whole_over, ℕ, ◌++◌, ◌-◌, ◌<◌, ◌∙◌, ◌∷◌, ◌≡◌, ◌≢◌, ◌≤◌}
+use Rattle.sdd_verified.proofs.All.{All, All-cons, All-head, All-nil, All-tail, AllFewTicks, AreNamed, AreSubmittedOnce, Catalogue, ComesBefore, Committed, Contains, History, Input, IsCommitted, IsFrom1To, IsName, IsOfSubmit, IsReportOn, IsSound, IsSubmitted, IsSubmittedBefore, IsValid, IsValidTxn, IsVerified, KeepsStarts, List, MAX_REPORT_BYTES, Reply, Report, Some, Txn, TxnNo, Workload, [], after_replies, all_members, ap, arith, at, cases_lt, catalogue_at, class_for, class_of, classes_in, classes_submitted, copies_lines, database_of, era_at, eras_are, eras_in, eras_of, event_at, event_of_submit, few_lists, few_ticks, flat_map, history, index_or, inl, input_of, inr, length, list_at_number, map, named_by_events, names_of, nth_era, once, order_line, pending_lines, redeclares, refl, replies, replies_along, reply_lines, report_of, run, serial, serial_order, serial_replies, shipped_of, slice_get, spelled_lines, starts, submits_in, submitted, subst, sym, texts_of, txn_of, whole_in, whole_over, ℕ, ◌++◌, ◌-◌, ◌<◌, ◌∙◌, ◌∷◌, ◌≡◌, ◌≢◌, ◌≤◌}
 use Rattle.sdd_verified.proofs.ClassPlaces.{class_at, redeclared_at}
 use Rattle.sdd_verified.proofs.ListAt.{list_at}
 use Rattle.sdd_verified.proofs.FirstLines.{FirstLine, first_line, whole_end}
-use Rattle.sdd_verified.proofs.Moved.{IsSubmittedOne, StandInTurn, moved, moved_line, moved_texts, moved_there, moved_turn}
+use Rattle.sdd_verified.proofs.Moved.{AreInTurn, IsSubmittedOne, moved, moved_line, moved_texts, moved_there, moved_turn}
 use Rattle.sdd_verified.proofs.Numbered.{one_place, separates}
 use Rattle.sdd_verified.proofs.Positions.{AreDifferent, different, member, not_before}
 use Rattle.sdd_verified.proofs.ReportLines.{lines_in, rest_begins, trace_is, trace_lines, trace_others}
@@ -131,12 +131,12 @@ module _ (cat : Catalogue) (work : Workload) (text : List ℕ) (sound : IsSound 
         before = before;
       } in
       let one_class : y.committed.start.class ≡ x.committed.start.class = sym (class_is (at order k) y) ∙ sym class ∙ class_is (at order i) x in
-      let stands = r.in_turn y.committed x.committed y.is_committed x.is_committed one_class submitted_before in
+      let is_recorded = r.in_turn y.committed x.committed y.is_committed x.is_committed one_class submitted_before in
       not_before order i k apart less within
-      (subst (λ (n : ℕ). StandsBefore order n (at order i).0) y.number_is
-      (subst (λ (n : ℕ). StandsBefore order y.committed.start.txn n) x.number_is stands))
+      (subst (λ (n : ℕ). ComesBefore order n (at order i).0) y.number_is
+      (subst (λ (n : ℕ). ComesBefore order y.committed.start.txn n) x.number_is is_recorded))
 
-  in_turn : StandInTurn cat work valid order
+  in_turn : AreInTurn cat work valid order
   in_turn i k less within =
       let x = is_member (at order i) (member order i (omega (arith, less, within))) in
       let y = is_member (at order k) (member order k within) in

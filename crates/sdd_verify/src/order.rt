@@ -88,7 +88,7 @@ fn class_of(classes: &[u32], number: TxnNo) -> u32
 }
 
 /// Whether a transaction may stand after the last one of its class.
-fn may_stand_behind(last: Option<&u32>, number: TxnNo) -> bool
+fn may_come_after(last: Option<&u32>, number: TxnNo) -> bool
     ensures { result ≡ allows (option_copied last.entry) number.0 }
 {
     match last {
@@ -105,7 +105,7 @@ fn is_in_turn(alloc: Global, classes: &[u32], order: &[TxnNo]) -> Result<bool, N
     let mut last: BTreeMap<u32, u32> = BTreeMap::new(alloc);
     'order: for number in order {
         let class = class_of(classes, *number);
-        if !may_stand_behind(last.get(&class), *number) {
+        if !may_come_after(last.get(&class), *number) {
             return Ok(false);
         }
         last.insert(class, number.0)?;

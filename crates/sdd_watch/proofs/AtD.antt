@@ -3,7 +3,7 @@ use Rattle.std.proofs.Common.{Bool, List, None, Option, Some, ap, arith, filter,
 use Rattle.std.specs.List.{filter_map, range_with_len}
 use Rattle.sdd_obligations.specs.All.{Change, ClassNo, Cond, DmNo, Kept, Msg, Read, Setting, Write, class_no, head, holds_back, is_met, pipe, view_of, waits}
 use Rattle.sdd_obligations.specs.dm.Heads.{head_at, holds_in, is_met_in, unmet}
-use Rattle.sdd_obligations.specs.dm.Stands.{Shows, Stands}
+use Rattle.sdd_obligations.specs.dm.Represents.{Represents, Shows}
 use Rattle.sdd_obligations.specs.dm.State.{State}
 use Rattle.sdd_obligations.specs.dm.Views.{ClassView, class_view}
 use Rattle.sdd_obligations.specs.dm.Waiting.{holder_at, holders_in, holders_of, lacking_in, lacking_of}
@@ -73,10 +73,10 @@ told_head st s log c conds readers shows l e f =
     ∙ head_is s st log c.0 (waits c.0 log) (head (pipe c.0 log)) shows
 
 -- all of it
-pub told_is : (k : Kept State) (s : Setting) (log : Log) (d : DmNo) (down : Bool) (heads : List Head) (n : ℕ) → Stands k s log
+pub told_is : (k : Kept State) (s : Setting) (log : Log) (d : DmNo) (down : Bool) (heads : List Head) (n : ℕ) → Represents k s log
     → n ≡ length k.value.pipes → heads ≡ filter_map (head_told (view_of s log)) (map (class_view s log) (range_with_len 0 n))
     → dm_told s log d.0 down ≡ record { dm = d; is_down = down; heads = heads }
-told_is k s log d down heads n stands e f =
+told_is k s log d down heads n represents e f =
     let all : heads ≡ filter_map (head_told (view_of s log)) (view_of s log).classes =
-    f ∙ ap (λ m. filter_map (head_told (view_of s log)) (map (class_view s log) (range_with_len 0 m))) (e ∙ stands.shows.pipes) in
+    f ∙ ap (λ m. filter_map (head_told (view_of s log)) (map (class_view s log) (range_with_len 0 m))) (e ∙ represents.shows.pipes) in
     rw all refl

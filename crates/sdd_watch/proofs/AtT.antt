@@ -7,7 +7,7 @@ use Rattle.std.proofs.lemmas.Simd.{map-map}
 use Rattle.sdd_obligations.specs.All.{ClassState, Kept, Setting, TmNo, asks, bound_of, clock, holds, runs, state_of}
 use Rattle.sdd_obligations.specs.attempt.Sound.{IsLineOf}
 use Rattle.sdd_obligations.specs.site_module.SiteLog.{Log}
-use Rattle.sdd_obligations.specs.tm.Stands.{Stands}
+use Rattle.sdd_obligations.specs.tm.Represents.{Represents}
 use Rattle.sdd_obligations.specs.tm.State.{State, asked, class_of}
 use Rattle.sdd_inside.specs.declared.standing.Active.{Active}
 use Rattle.sdd_inside.specs.declared.standing.Question.{Question}
@@ -25,10 +25,10 @@ lines_of : (s : Setting) (log : Log) (cs : List ℕ) → ((place c : ℕ) → sl
 lines_of s log [] h = tt
 lines_of s log (c ∷ cs) h = ((h 0 c refl).of_head, lines_of s log cs (λ place d e. h (suc place) d e))
 
-pub lines_in_order : (k : Kept State) (s : Setting) (log : Log) → Stands k s log → All (λ (r : ClassState). IsLineInOrder r.line) k.value.classes
-lines_in_order k s log stands =
-    subst (λ (st : State). All (λ (r : ClassState). IsLineInOrder r.line) st.classes) stands.state_is
-    (All-from_recursion (λ (r : ClassState). IsLineInOrder r.line) (map (class_of s log) (runs s)) (lines_of s log (runs s) stands.sound.lines))
+pub lines_in_order : (k : Kept State) (s : Setting) (log : Log) → Represents k s log → All (λ (r : ClassState). IsLineInOrder r.line) k.value.classes
+lines_in_order k s log represents =
+    subst (λ (st : State). All (λ (r : ClassState). IsLineInOrder r.line) st.classes) represents.state_is
+    (All-from_recursion (λ (r : ClassState). IsLineInOrder r.line) (map (class_of s log) (runs s)) (lines_of s log (runs s) represents.sound.lines))
 
 -- the open ASKs and the attempts
 
@@ -39,11 +39,11 @@ asks_of s log (c ∷ cs) =
     ap (λ l. l ++ flat_map questions_in (map (class_of s log) cs)) here ∙ ap (λ l. questions_to (asks log) c ++ l) (asks_of s log cs)
 
 pub told_is : (k : Kept State) (s : Setting) (log : Log) (t : TmNo) (ticks bound : ℕ) (on owes : Bool) (qs : List Question) (acts : List Active)
-    → Stands k s log → ticks ≡ bound / 64 → bound ≡ bound_of (clock s.site log) → on ≡ k.value.on_hold → owes ≡ k.value.owes_held
+    → Represents k s log → ticks ≡ bound / 64 → bound ≡ bound_of (clock s.site log) → on ≡ k.value.on_hold → owes ≡ k.value.owes_held
     → qs ≡ flat_map questions_in k.value.classes → acts ≡ filter_map active_of k.value.classes
     → tm_told s log t.0 ≡ record { tm = t; clock = ticks; on_hold = on; owes_held = owes; asks = qs; active = acts }
-told_is k s log t ticks bound on owes qs acts stands e f g h i j =
-    let is : state_of s log ≡ k.value = stands.state_is in
+told_is k s log t ticks bound on owes qs acts represents e f g h i j =
+    let is : state_of s log ≡ k.value = represents.state_is in
     let clk : ticks ≡ (clock s.site log).ticks = ticks_of (clock s.site log).ticks ticks bound e f in
     let hold : on ≡ nat_lt (holds log).releases (holds log).holds = g ∙ ap (λ (v : State). v.on_hold) (sym is) in
     let owed : owes ≡ nat_lt (holds log).helds (holds log).holds = h ∙ ap (λ (v : State). v.owes_held) (sym is) in

@@ -12,7 +12,7 @@ use Rattle.sdd_run.specs.script.All.{IsValid}
 use Rattle.sdd_run.specs.script.declared.workload.Workload.{Workload}
 use Rattle.sdd_run.specs.world.Copies.{tables_of}
 use Rattle.sdd_run.specs.world.Schedules.{AreAllowed, with_events}
-use Rattle.sdd_run.specs.world.Standing.{StandsFor}
+use Rattle.sdd_run.specs.world.Represents.{Represents}
 use Rattle.sdd_run.specs.world.declared.schedule.ClassList.{ClassList}
 use Rattle.sdd_run.specs.world.declared.world.World.{World}
 use Rattle.sdd_run.proofs.Beginning.{all_given}
@@ -43,14 +43,14 @@ pub record BeginsAll (cat : Catalogue) (tables : List (List Entry)) (work : Work
   pub few : length events < 2 ^ 32
 
 pub begins_all : (cat : Catalogue) (tables : List (List Entry)) (work : Workload) → IsSound (whole_in cat work) → IsValid cat work
-    → AreTables cat work tables → (w : World) (events : List Event) (lists : List ClassList) (t : Teller) → StandsFor w (begun cat tables work) []
+    → AreTables cat work tables → (w : World) (events : List Event) (lists : List ClassList) (t : Teller) → Represents w (begun cat tables work) []
     → events ≡ work.events → map era_of_list lists ≡ tail_of (eras_with_tables (eras_in cat work) tables) → Tells (begun cat tables work) [] t
     → BeginsAll cat tables work w events lists t
-begins_all cat tables work sound valid tabled w events lists t stands same left tells =
+begins_all cat tables work sound valid tabled w events lists t represents same left tells =
     let few = valid.few_events in
     let count : length events ≡ length work.events = ap length same in
     record {
-      told = record { stands = stands; tells = tells; place_is = refl };
+      told = record { represents = represents; tells = tells; place_is = refl };
       allowed = all_allowed cat tables work sound valid tabled events lists same left;
       few = omega (arith, few, count);
     }

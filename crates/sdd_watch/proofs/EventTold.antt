@@ -7,7 +7,7 @@ use Rattle.sdd_obligations.specs.logs.Marks.{from_event, mark_of}
 use Rattle.sdd_obligations.proofs.logs.Completing.{one_more}
 use Rattle.sdd_obligations.proofs.logs.Grows.{grows, lawful_grows}
 use Rattle.sdd_inside.specs.Lines.{line}
-use Rattle.sdd_run.specs.world.Standing.{StandsFor}
+use Rattle.sdd_run.specs.world.Represents.{Represents}
 use Rattle.sdd_run.specs.world.declared.world.World.{World}
 use Rattle.sdd_run.proofs.world.Rounds.{single}
 use Rattle.sdd_watch.specs.Happens.{place_in, round_in, rounds}
@@ -118,8 +118,8 @@ tellable_given g f (Up d) p = p
 tellable_given g f Settle p = absurd p
 tellable_given g f Redeclare p = tt
 
-module _ (w w2 : World) (g : Input) (log more : Log) (e : Event) (s : StandsFor w g log) (p : IsPossible g e)
-    (s2 : StandsFor w2 (with_event g e) more) where
+module _ (w w2 : World) (g : Input) (log more : Log) (e : Event) (s : Represents w g log) (p : IsPossible g e)
+    (s2 : Represents w2 (with_event g e) more) where
   step_marked : IsMarkedBetween (with_event g e) log more e
   step_marked =
       let n = one_more g e log (single g e p) s.calm.rests.lawful s.complete in
@@ -149,7 +149,7 @@ module _ (w w2 : World) (g : Input) (log more : Log) (e : Event) (s : StandsFor 
   pub step_told : (t t2 : Teller) (place : ℕ) → IsTold w g log t place → GetsTold (with_event g e) log more t t2
       → IsTold w2 (with_event g e) more t2 (suc place)
   step_told t t2 place h gets = record {
-    stands = s2;
+    represents = s2;
     tells = tells_on (with_event g e) log more e t t2 step_marked (tells_given g e log t s.calm.rests.lawful h.tells) gets;
     place_is = ap (λ n. suc n) (h.place_is ∙ sym (one_longer g.events e));
   }

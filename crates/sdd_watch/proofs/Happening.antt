@@ -90,11 +90,11 @@ of_parts number scheduled round event found rows sites = record {
 pub happened_is : (g : Input) (old new : Log) (w : World) (turn : Turn) (found : Found) (number : ℕ) (rows : List RowDelta) (states : List SiteState)
     → IsOver g old new w turn.event found → IsTurn g old new turn → number ≡ marks new → rows ≡ rows_of g old new → states ≡ states_of g old new
     → of_parts number turn.scheduled turn.round turn.event found rows states ≡ happened_at g old new
-happened_is g old new w turn found number rows states over at count told stand =
+happened_is g old new w turn found number rows states over at count told represent =
     ap (λ x. of_parts x turn.scheduled turn.round turn.event found rows states) count
     ∙ ap (λ x. of_parts (marks new) x turn.round turn.event found rows states) at.scheduled
     ∙ ap (λ x. of_parts (marks new) (scheduled_at g old) x turn.event found rows states) at.round
     ∙ ap (λ x. of_parts (marks new) (scheduled_at g old) (round_at g old) turn.event x rows states) over.found_is
     ∙ ap (λ x. of_parts (marks new) (scheduled_at g old) (round_at g old) x (found_by x old new) rows states) over.event_is
     ∙ ap (λ x. of_parts (marks new) (scheduled_at g old) (round_at g old) (last_event new) (found_by (last_event new) old new) x states) told
-    ∙ ap (of_parts (marks new) (scheduled_at g old) (round_at g old) (last_event new) (found_by (last_event new) old new) (rows_of g old new)) stand
+    ∙ ap (of_parts (marks new) (scheduled_at g old) (round_at g old) (last_event new) (found_by (last_event new) old new) (rows_of g old new)) represent

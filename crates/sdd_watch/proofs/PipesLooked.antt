@@ -10,7 +10,7 @@ use Rattle.sdd_obligations.specs.pipe.Pipes.{pipe_at}
 use Rattle.sdd_obligations.specs.site_module.SiteLog as site
 use Rattle.sdd_obligations.proofs.logs.NewMarks.{lawful_permitted}
 use Rattle.sdd_inside.specs.declared.moment.PipeMoment.{PipeMoment}
-use Rattle.sdd_run.specs.world.Modules.{AllStandFor, LivesD, StandFor}
+use Rattle.sdd_run.specs.world.Modules.{AllRepresent, LivesD, Represent}
 use Rattle.sdd_run.specs.world.declared.sites.Sites.{Sites}
 use Rattle.sdd_watch.specs.Looking.{numbers_for}
 use Rattle.sdd_watch.specs.Moments.{came, passed_to, source, time_passed}
@@ -22,18 +22,18 @@ use Rattle.sdd_watch.proofs.Sourced.{source_there}
 
 -- the pipe in the module
 
-lives_at : (g : Input) (log : Log) (sites : Sites) (dm : DmNo) (d : ℕ) (k : Kept State) → dm ≡ dm_no d → AllStandFor sites g log → IsSiteOf g (D (dm_no d))
-    → ((setting : Setting) (own : site.Log) → StandFor sites (D dm) setting own → LivesD k setting own)
+lives_at : (g : Input) (log : Log) (sites : Sites) (dm : DmNo) (d : ℕ) (k : Kept State) → dm ≡ dm_no d → AllRepresent sites g log → IsSiteOf g (D (dm_no d))
+    → ((setting : Setting) (own : site.Log) → Represent sites (D dm) setting own → LivesD k setting own)
     → LivesD k (setting_of g (D (dm_no d))) (local_of g (D (dm_no d)) log)
 lives_at g log sites dm d k is all here lives =
-    let f : (setting : Setting) (own : site.Log) → StandFor sites (D (dm_no d)) setting own → LivesD k setting own =
-    subst (λ (x : DmNo). (setting : Setting) (own : site.Log) → StandFor sites (D x) setting own → LivesD k setting own) is lives in
+    let f : (setting : Setting) (own : site.Log) → Represent sites (D (dm_no d)) setting own → LivesD k setting own =
+    subst (λ (x : DmNo). (setting : Setting) (own : site.Log) → Represent sites (D x) setting own → LivesD k setting own) is lives in
     f (setting_of g (D (dm_no d))) (local_of g (D (dm_no d)) log) (all (D (dm_no d)) here)
 
 -- what the module keeps of a pipe is of that of the log
 digest_at : (g : Input) (log : Log) (d c : ℕ) (k : Kept State) → LivesD k (setting_of g (D (dm_no d))) (local_of g (D (dm_no d)) log)
     → c ≤ length g.catalogue.classes → IsDigest (pipe_at k.value.pipes c) (pipe c (local_of g (D (dm_no d)) log))
-digest_at g log d c k lives few = (lives.stands_for.shows.classes c few).pipe
+digest_at g log d c k lives few = (lives.represents_log.shows.classes c few).pipe
 
 passed_by_head : (o : Option Msg) (processed : List Msg) → or_zero (passed_with o (greatest (map time_of processed))) ≡ time_passed o processed
 passed_by_head None processed = refl
@@ -50,8 +50,8 @@ pub record IsRead (g : Input) (new : Log) (d c : ℕ) (unprocessed : ℕ) (passe
   pub passed_is : passed ≡ time_at (passed_to (pipe c (local_of g (D (dm_no d)) new)))
 
 pub read_pipe : (g : Input) (old new : Log) (d c : ℕ) (w : WatchedPipe) (sites : Sites) (k : Kept State) (unprocessed : ℕ) (passed : Ts)
-    → w ≡ watched_pipe g old (d, c) → AllStandFor sites g new → IsSiteOf g (D (dm_no d)) → c ≤ length g.catalogue.classes
-    → ((setting : Setting) (own : site.Log) → StandFor sites (D w.dm) setting own → LivesD k setting own)
+    → w ≡ watched_pipe g old (d, c) → AllRepresent sites g new → IsSiteOf g (D (dm_no d)) → c ≤ length g.catalogue.classes
+    → ((setting : Setting) (own : site.Log) → Represent sites (D w.dm) setting own → LivesD k setting own)
     → unprocessed ≡ length (pipe_at k.value.pipes w.class.0).unprocessed
     → passed ≡ time_at (or_zero (digest.passed_to (pipe_at k.value.pipes w.class.0))) → IsRead g new d c unprocessed passed
 read_pipe g old new d c w sites k unprocessed passed is all here few lives u p =

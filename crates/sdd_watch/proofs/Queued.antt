@@ -4,9 +4,9 @@ use Rattle.std.proofs.lemmas.Simd.{map-map}
 use Rattle.sdd_obligations.specs.All.{Catalogue, Input, IsSiteOf, Kept, Log, Setting, T, TmNo, U, local_of, numbers_to, runs, setting_of}
 use Rattle.sdd_obligations.specs.attempt.Lines.{Line}
 use Rattle.sdd_obligations.specs.site_module.SiteLog as site
-use Rattle.sdd_obligations.specs.tm.Stands as tm
+use Rattle.sdd_obligations.specs.tm.Represents as tm
 use Rattle.sdd_obligations.specs.tm.State as tm_state
-use Rattle.sdd_obligations.specs.umod.Stands as um
+use Rattle.sdd_obligations.specs.umod.Represents as um
 use Rattle.sdd_obligations.specs.umod.State as um_state
 use Rattle.sdd_obligations.proofs.graph.Lists.{each_more, up_to}
 use Rattle.sdd_run.proofs.progress.Still.{t_site}
@@ -14,21 +14,21 @@ use Rattle.sdd_inside.specs.declared.moment.QueueMoment.{QueueMoment}
 use Rattle.sdd_watch.specs.Looking.{queue_in, queue_of}
 use Rattle.sdd_watch.specs.Moments.{queue_moment, queues_at}
 
-pub queues_told : (g : Input) (log : Log) (t : TmNo) (k : Kept tm_state.State) → tm.Stands k (setting_of g (T t)) (local_of g (T t) log)
+pub queues_told : (g : Input) (log : Log) (t : TmNo) (k : Kept tm_state.State) → tm.Represents k (setting_of g (T t)) (local_of g (T t) log)
     → map queue_in k.value.classes ≡ queues_at g log t.0
-queues_told g log t k stands =
+queues_told g log t k represents =
     let s : Setting = setting_of g (T t) in
     let own : site.Log = local_of g (T t) log in
-    ap (λ (v : tm_state.State). map queue_in v.classes) (sym stands.state_is)
+    ap (λ (v : tm_state.State). map queue_in v.classes) (sym represents.state_is)
     ∙ map-map queue_in (tm_state.class_of s own) (runs s)
 
-queue_told : (g : Input) (log : Log) (k : Kept um_state.State) → um.Stands k (setting_of g U) (local_of g U log)
+queue_told : (g : Input) (log : Log) (k : Kept um_state.State) → um.Represents k (setting_of g U) (local_of g U log)
     → queue_of k.value.line.class k.value.line.queue ≡ queue_moment g log U 0
-queue_told g log k stands = ap (λ (v : um_state.State). queue_of v.line.class v.line.queue) (sym stands.state_is)
+queue_told g log k represents = ap (λ (v : um_state.State). queue_of v.line.class v.line.queue) (sym represents.state_is)
 
 pub first_queue : (g : Input) (log : Log) (k : Kept um_state.State) (line : Line) (first : QueueMoment) → first ≡ queue_of line.class line.queue
-    → line ≡ k.value.line → um.Stands k (setting_of g U) (local_of g U log) → first ≡ queue_moment g log U 0
-first_queue g log k line first is lent stands = is ∙ ap (λ (l : Line). queue_of l.class l.queue) lent ∙ queue_told g log k stands
+    → line ≡ k.value.line → um.Represents k (setting_of g U) (local_of g U log) → first ≡ queue_moment g log U 0
+first_queue g log k line first is lent represents = is ∙ ap (λ (l : Line). queue_of l.class l.queue) lent ∙ queue_told g log k represents
 
 -- the first one, and those of the transaction modules so far
 

@@ -3,7 +3,7 @@ use Rattle.std.proofs.Common.{ℕ, suc, ◌-◌, ◌+◌, ◌^◌, ◌<◌, ◌�
 use Rattle.std.specs.Prelude.{MatchOption}
 use Rattle.sdd_obligations.specs.All.{Deliver, Down, Event, Input, IsLawful, IsPossible, Log, Lose, MAX_RUN_EVENTS, Mark, Redeclare, Redeclares, Repeat, Resend, Round, Settle, Submit, Tick, Up, after_mark, all_links, calls_of, greatest_bound, left, marks, next, quiet, with_event}
 use Rattle.sdd_obligations.proofs.logs.Completing.{redeclare_next, settled}
-use Rattle.sdd_run.specs.world.Standing.{Rounding, Settling, StandsFor, events_of}
+use Rattle.sdd_run.specs.world.Represents.{Represents, Rounding, Settling, events_of}
 use Rattle.sdd_run.specs.world.declared.world.World.{World}
 use Rattle.sdd_run.proofs.world.Rounds.{few, free, round_before, round_ends}
 use Rattle.sdd_watch.specs.Happens.{place_in, round_in, rounds, unless_in_round}
@@ -30,8 +30,8 @@ none_of o P Q h is = subst (λ k. MatchOption k P Q) is h
 pub begins : (w w2 : World) (g : Input) (log : Log) (e : Event) (t : Teller) (place : ℕ) → IsTold w g log t place
     → Settling w2 (with_event g e) log e → TellsBetween w2 (with_event g e) log e t place 0
 begins w w2 g log e t place h s =
-    let lawful = h.stands.calm.rests.lawful in
-    let done = h.stands.complete in
+    let lawful = h.represents.calm.rests.lawful in
+    let done = h.represents.complete in
     record {
       settling = s;
       tells = tells_given g e log t lawful h.tells;
@@ -227,14 +227,14 @@ settle_told w g t place h =
     let log = h.settled.more in (
       log,
       record {
-        stands = record { calm = s.calm; complete = settled g log s.waiting (free g log s.calm.rests) s.left_is s.ends h.settled.is_quiet };
+        represents = record { calm = s.calm; complete = settled g log s.waiting (free g log s.calm.rests) s.left_is s.ends h.settled.is_quiet };
         tells = h.tells;
         place_is = ap (λ n. suc n) h.place_is;
       },
     )
 
 -- a redeclare has one, behind its rounds
-module _ (w w2 : World) (g : Input) (t : Teller) (place : ℕ) (h : TellsSettled w g Redeclare t place) (more : Log) (s2 : StandsFor w2 g more) where
+module _ (w w2 : World) (g : Input) (t : Teller) (place : ℕ) (h : TellsSettled w g Redeclare t place) (more : Log) (s2 : Represents w2 g more) where
   abbrev last_log : Log
   last_log = h.settled.more
 
@@ -269,7 +269,7 @@ module _ (w w2 : World) (g : Input) (t : Teller) (place : ℕ) (h : TellsSettled
   list_told t2 gets = (
     more,
     record {
-      stands = s2;
+      represents = s2;
       tells = tells_on g last_log more Redeclare t t2 list_marked h.tells gets;
       place_is = ap (λ n. suc n) h.place_is;
     },

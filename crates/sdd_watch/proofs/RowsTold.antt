@@ -4,7 +4,7 @@ use Rattle.std.specs.List.{list_any}
 use Rattle.std.proofs.lemmas.List.{get_or_past, map-append}
 use Rattle.std.proofs.lemmas.List.Concat.{flat_map-append}
 use Rattle.std.proofs.lemmas.List.Elements.{filter-append}
-use Rattle.sdd_obligations.specs.All.{Apply, Catalogue, Change, D, DmNo, FragNo, Fragment, History, Input, IsSiteOf, IsSound, Kept, Log, Rec, StandFor, TxnNo, has_copy, is_here, rel_no}
+use Rattle.sdd_obligations.specs.All.{Apply, Catalogue, Change, D, DmNo, FragNo, Fragment, History, Input, IsSiteOf, IsSound, Kept, Log, Rec, Represent, TxnNo, has_copy, is_here, rel_no}
 use Rattle.sdd_obligations.specs.base.declared.value.Value.{Value}
 use Rattle.sdd_obligations.specs.copy.Contents.{Dated, latest, of_fragment}
 use Rattle.sdd_obligations.specs.copy.Copies.{Held, items_at}
@@ -44,12 +44,12 @@ shown_row (Some x) = refl
 
 pub row_is : (copies : Held) (copy : Kept Items) (frag : FragNo) (key : ℤ) (row : Option (List Value)) → is_here copies frag.0 ≡ true
     → copy ≡ record { live = true; value = items_at copies frag.0 } → row ≡ row_in copy.value key
-    → (xs : Dated) → StandFor copies xs → (change : Change) → change.frag ≡ frag → change.key ≡ key → row ≡ row_left xs change
-row_is copies copy frag key row here is read xs stand change f k =
+    → (xs : Dated) → Represent copies xs → (change : Change) → change.frag ≡ frag → change.key ≡ key → row ≡ row_left xs change
+row_is copies copy frag key row here is read xs represent change f k =
     let mine : Dated = of_fragment frag.0 xs in
     read
     ∙ ap (λ (c : Kept Items). row_in c.value key) is
-    ∙ ap (λ es. row_in es key) (stand frag.0 here)
+    ∙ ap (λ es. row_in es key) (represent frag.0 here)
     ∙ ap row_of_item (sym ((items_keep mine).rows_are key)) ∙ shown_row (latest key mine)
     ∙ sym (ap (λ (n : FragNo). row_by (latest change.key (of_fragment n.0 xs))) f ∙ ap (λ j. row_by (latest j mine)) k)
 

@@ -3,7 +3,7 @@ use Rattle.std.proofs.Common.{ℕ, suc, ◌+◌, ◌≡◌, ◌∙◌, ap, arith
 use Rattle.std.specs.Prelude.{IfOk, OnOk}
 use Rattle.sdd_obligations.specs.All.{Event, Input, IsGood, IsPossible, Log, Settle, TakesRounds, Redeclare, with_event}
 use Rattle.sdd_run.specs.world.Schedules.{IsAllowed, takes_rounds, with_events}
-use Rattle.sdd_run.specs.world.Standing.{EndsBy}
+use Rattle.sdd_run.specs.world.Represents.{EndsBy}
 use Rattle.sdd_run.specs.world.declared.ends.WorldEnd.{WorldEnd}
 use Rattle.sdd_run.specs.world.declared.schedule.ClassList.{ClassList}
 use Rattle.sdd_run.specs.world.declared.world.World.{World}
@@ -72,6 +72,6 @@ told_all w now log t place events all h none is =
     subst (λ g. IsTextOf g t.text.items) same
     (record {
       log = log;
-      log_is = record { lawful = h.stands.calm.rests.lawful; within = h.stands.calm.rests.within; complete = h.stands.complete };
+      log_is = record { lawful = h.represents.calm.rests.lawful; within = h.represents.calm.rests.within; complete = h.represents.complete };
       text_is = h.tells.text_is;
     })

@@ -2,7 +2,7 @@
 use Rattle.std.proofs.Common.{◌≡◌}
 use Rattle.sdd_obligations.specs.All.{Input, Log}
 use Rattle.sdd_inside.specs.declared.delta.Found.{Found}
-use Rattle.sdd_run.specs.world.Standing.{Calm}
+use Rattle.sdd_run.specs.world.Represents.{Calm}
 use Rattle.sdd_run.specs.world.declared.world.World.{World}
 use Rattle.sdd_watch.specs.Happens.{found_by}
 use Rattle.sdd_watch.specs.Watching.{IsOver, IsTellable, IsToTell, foreseen_by}

@@ -8,12 +8,12 @@ use Rattle.sdd_obligations.specs.All.{D, Done, Handed, Input, IsLinkOf, IsPermit
 use Rattle.sdd_obligations.specs.net.Links.{numbered}
 use Rattle.sdd_obligations.specs.serial_orders.Finding.{pair_cmp}
 use Rattle.sdd_obligations.specs.site_module.SiteLog as site
-use Rattle.sdd_obligations.specs.umod.Stands.{Stands}
+use Rattle.sdd_obligations.specs.umod.Represents.{Represents}
 use Rattle.sdd_obligations.specs.umod.State.{State}
 use Rattle.sdd_obligations.proofs.invariants.InOrder.{in_order}
 use Rattle.sdd_obligations.proofs.invariants.Sent.{sent_is}
 use Rattle.sdd_obligations.proofs.logs.NewMarks.{lawful_permitted}
-use Rattle.sdd_run.specs.world.Standing.{Calm}
+use Rattle.sdd_run.specs.world.Represents.{Calm}
 use Rattle.sdd_run.specs.world.declared.world.World.{World}
 use Rattle.sdd_run.proofs.progress.Still.{d_site}
 use Rattle.sdd_watch.specs.Moments.{handed_on}
@@ -102,9 +102,9 @@ done_link g d low high = ap (λ b. b && true) (d_site g.catalogue d (low, high))
 
 -- so what is kept tells which data modules haven't said that they applied what was committed last
 pub unapplied_is : (g : Input) (w : World) (log : Log) (dones : Dones) (k : Kept State) (ts dms : ℕ) → Calm w g log
-    → Stands k (setting_of g U) (local_of g U log) → AreDones g log dones → ts ≡ k.value.served.ts → dms ≡ g.catalogue.dms
+    → Represents k (setting_of g U) (local_of g U log) → AreDones g log dones → ts ≡ k.value.served.ts → dms ≡ g.catalogue.dms
     → map dm_no (filter (λ d. not (contains pair_cmp dones.said (ts, d))) (numbers_to dms)) ≡ unapplied_of g log
-unapplied_is g w log dones k ts dms calm stands known last count =
+unapplied_is g w log dones k ts dms calm represents known last count =
     let own : site.Log = local_of g U log in
     let permitted = lawful_permitted g log calm.parts.good.once calm.rests.lawful in
     let heard : (d : ℕ) → 1 ≤ d → d < 1 + g.catalogue.dms → not (contains pair_cmp dones.said (ts, d)) ≡ not (list_any (says_applied ts d) own) =
@@ -112,4 +112,4 @@ unapplied_is g w log dones k ts dms calm stands known last count =
     ap (λ n. map dm_no (filter (λ d. not (contains pair_cmp dones.said (ts, d))) (numbers_to n))) count
     ∙ ap (map dm_no) (alike (λ d. not (contains pair_cmp dones.said (ts, d))) (λ d. not (list_any (says_applied ts d) own)) 1 g.catalogue.dms heard)
     ∙ ap (λ t. map dm_no (filter (λ d. not (list_any (says_applied t d) own)) (numbers_to g.catalogue.dms)))
-    (last ∙ ap (λ (v : State). v.served.ts) (sym stands.state_is))
+    (last ∙ ap (λ (v : State). v.served.ts) (sym represents.state_is))

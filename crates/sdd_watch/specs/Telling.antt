@@ -1,7 +1,7 @@
 -- What is told so far, while a world carries out a schedule.
 use Rattle.std.specs.Prelude.{ℕ, suc, ◌≤◌, ◌≡◌, false, List, [], ◌∷◌, length}
 use Rattle.sdd_obligations.specs.All.{Event, Input, IsTheLog, Log, all_links, calls_of, left, marks, quiet}
-use Rattle.sdd_run.specs.world.Standing.{IsSettled, Rounding, Settling, StandsFor}
+use Rattle.sdd_run.specs.world.Represents.{IsSettled, Represents, Rounding, Settling}
 use Rattle.sdd_run.specs.world.declared.world.World.{World}
 use Rattle.sdd_watch.specs.Happens.{rounds}
 use Rattle.sdd_watch.specs.Text.{inside_text}
@@ -16,7 +16,7 @@ pub record Tells (g : Input) (log : Log) (t : Teller) : Type 0 where
 
 -- All that was given is carried out and told; the next event of the schedule has this place.
 pub record IsTold (w : World) (g : Input) (log : Log) (t : Teller) (place : ℕ) : Type 0 where
-  pub stands : StandsFor w g log
+  pub represents : Represents w g log
   pub tells : Tells g log t
   pub place_is : place ≡ suc (length g.events)
 

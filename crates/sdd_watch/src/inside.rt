@@ -4,7 +4,7 @@ ghost use Rattle.sdd_obligations.specs.All.{Input};
 ghost use Rattle.sdd_run.specs.Runs.{AreTables, EndsAtLimit, begun};
 ghost use Rattle.sdd_run.specs.class_lists.InForce.{eras_in, whole_in};
 ghost use Rattle.sdd_run.specs.script.All.{IsValid};
-ghost use Rattle.sdd_run.specs.world.Standing.{StandsFor};
+ghost use Rattle.sdd_run.specs.world.Represents.{Represents};
 ghost use Rattle.sdd_watch.specs.Telling.{Tells};
 ghost use Rattle.sdd_watch.specs.Text.{IsInsideOf};
 
@@ -27,8 +27,8 @@ fn begin<'c>(
     catalogue: &'c Catalogue,
     world: &World<'_>,
 ) -> Result<Teller<'c>, NoMemory>
-    requires { (g : Input) × StandsFor world.now g [] × (catalogue.now ≡ g.catalogue) }
-    ensures { IfOk result (λ teller. (g : Input) → StandsFor world.now g []
+    requires { (g : Input) × Represents world.now g [] × (catalogue.now ≡ g.catalogue) }
+    ensures { IfOk result (λ teller. (g : Input) → Represents world.now g []
         → catalogue.now ≡ g.catalogue → Tells g [] teller) }
 {
     let copies = world.tables(alloc)?;
@@ -67,7 +67,7 @@ fn first_world<'a>(
     requires whole { lists.now.whole ≡ whole_in catalogue.now work }
     requires tabled { AreTables catalogue.now work tables.now }
     ensures world { IfOk result (λ first.
-        StandsFor first.world (begun catalogue.now tables.now work) []) }
+        Represents first.world (begun catalogue.now tables.now work) []) }
     ensures events { IfOk result (λ first. first.events.items ≡ work.events) }
 {
     let whole = lists.whole();

@@ -1,7 +1,7 @@
 //! The queues of classes.
 ghost use Rattle.std.specs.Prelude.{◌≡◌, ◌++◌, ◌∷◌, [], ℕ, map, IfOk, OnOk};
 ghost use Rattle.sdd_obligations.specs.All.{Input, IsSiteOf, Log, T};
-ghost use Rattle.sdd_run.specs.world.Standing.{Calm};
+ghost use Rattle.sdd_run.specs.world.Represents.{Calm};
 ghost use Rattle.sdd_watch.specs.Looking.{queue_in, queue_of};
 ghost use Rattle.sdd_watch.specs.Moments.{queues_at, queues_of};
 

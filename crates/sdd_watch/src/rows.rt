@@ -2,9 +2,9 @@
 ghost use Rattle.std.specs.Prelude.{◌≡◌, ◌∷◌, [], fold, length, true, IfOk, IsTrue, OnOk};
 ghost use Rattle.std.specs.List.{list_any};
 ghost use Rattle.std.specs.Option.{option_copied};
-ghost use Rattle.sdd_obligations.specs.All.{Change as Item, Input, Log, StandFor, has_copy, history, is_here};
+ghost use Rattle.sdd_obligations.specs.All.{Change as Item, Input, Log, Represent, has_copy, history, is_here};
 ghost use Rattle.sdd_obligations.specs.copy.Contents.{Dated};
-ghost use Rattle.sdd_run.specs.world.Standing.{Calm};
+ghost use Rattle.sdd_run.specs.world.Represents.{Calm};
 ghost use Rattle.sdd_watch.specs.Happens.{applied_by, applied_in, changes_applied, is_of_item, row_left, row_told, rows_of, with_row};
 ghost use Rattle.sdd_watch.specs.Watching.{AreCommits, IsBetween};
 
@@ -33,7 +33,7 @@ fn has_copy(catalogue: &Catalogue, dm: DmNo, frag: FragNo) -> bool
 fn row_at<'c>(copies: &'c Copies, frag: FragNo, key: &i64) -> Option<&'c Row>
     requires live { IsTrue copies.now.live }
     requires here { is_here copies.now.value frag.0 ≡ true }
-    ensures { (xs : Dated) → StandFor copies.now.value xs → (change : Item) → change.frag ≡ frag
+    ensures { (xs : Dated) → Represent copies.now.value xs → (change : Item) → change.frag ≡ frag
         → change.key ≡ key.now → option_copied result ≡ row_left xs change }
 {
     match copies.at(frag) {
@@ -46,7 +46,7 @@ fn row_at<'c>(copies: &'c Copies, frag: FragNo, key: &i64) -> Option<&'c Row>
 fn row_in(copies: &Copies, frag: FragNo, key: &i64) -> Result<Option<Row>, NoMemory>
     requires live { IsTrue copies.now.live }
     requires here { is_here copies.now.value frag.0 ≡ true }
-    ensures { IfOk result (λ row. (xs : Dated) → StandFor copies.now.value xs
+    ensures { IfOk result (λ row. (xs : Dated) → Represent copies.now.value xs
         → (change : Item) → change.frag ≡ frag → change.key ≡ key.now → row ≡ row_left xs change) }
 {
     match row_at(copies, frag, key) {

@@ -3,12 +3,12 @@ ghost use Rattle.std.specs.Prelude.{◌≡◌, ◌≤◌, ◌/◌, ◌++◌, ◌
 ghost use Rattle.std.specs.List.{All, flat_map};
 ghost use Rattle.sdd_obligations.specs.All.{ClassState, Input, IsSiteOf, Log, Setting, T, dm_no, view_of};
 ghost use Rattle.sdd_obligations.specs.attempt.Lines.{awaited_by, lacked_by};
-ghost use Rattle.sdd_obligations.specs.dm.Stands as data_stands;
+ghost use Rattle.sdd_obligations.specs.dm.Represents as data_represents;
 ghost use Rattle.sdd_obligations.specs.dm.Views as data_views;
 ghost use Rattle.sdd_obligations.specs.site_module.SiteLog as site;
-ghost use Rattle.sdd_obligations.specs.tm.Stands as tm_stands;
-ghost use Rattle.sdd_obligations.specs.umod.Stands as u_stands;
-ghost use Rattle.sdd_run.specs.world.Standing.{Calm};
+ghost use Rattle.sdd_obligations.specs.tm.Represents as tm_represents;
+ghost use Rattle.sdd_obligations.specs.umod.Represents as u_represents;
+ghost use Rattle.sdd_run.specs.world.Represents.{Calm};
 ghost use Rattle.sdd_watch.specs.Keeping.{IsLineInOrder, active_in, active_of, head_in, question_by, questions_in};
 ghost use Rattle.sdd_watch.specs.States.{data_sites, dm_told, head_told, lacks_in, phase_by, stage_at, stage_by, state_of, tm_told, u_told, unapplied_last, unapplied_of};
 
@@ -135,8 +135,8 @@ fn open_questions(alloc: Global, runs: &[ClassRun<'_>]) -> Result<Vec<Question>,
 }
 
 fn tm_state(alloc: Global, tm: TmNo, tm_module: &TxnModule<'_>) -> Result<TmState, NoMemory>
-    requires { (s : Setting) × (log : site.Log) × tm_stands.Stands tm_module.now s log }
-    ensures { IfOk result (λ state. (s : Setting) (log : site.Log) → tm_stands.Stands tm_module.now s log
+    requires { (s : Setting) × (log : site.Log) × tm_represents.Represents tm_module.now s log }
+    ensures { IfOk result (λ state. (s : Setting) (log : site.Log) → tm_represents.Represents tm_module.now s log
         → state ≡ tm_told s log tm.0) }
 {
     let runs = tm_module.classes();
@@ -185,7 +185,7 @@ fn stage_by(reading: bool, holding: bool, writing: bool) -> Stage
 
 /// What the module of U does.
 fn stage_at(u_module: &UModule<'_>) -> Stage
-    ensures { (s : Setting) (log : site.Log) → u_stands.Stands u_module.now s log → result ≡ stage_at s log }
+    ensures { (s : Setting) (log : site.Log) → u_represents.Represents u_module.now s log → result ≡ stage_at s log }
 {
     let idle = u_module.line().is_idle();
     stage_by(!idle, u_module.is_awaiting_helds(), u_module.is_releasing())
@@ -199,7 +199,7 @@ fn lacking_sites(
     stage: Stage,
     unapplied: &[DmNo],
 ) -> Result<Vec<Site>, NoMemory>
-    ensures { IfOk result (λ sites. (s : Setting) (log : site.Log) → u_stands.Stands u_module.now s log
+    ensures { IfOk result (λ sites. (s : Setting) (log : site.Log) → u_represents.Represents u_module.now s log
         → unapplied.now ≡ unapplied_last s log → sites.items ≡ lacks_in s log stage) }
 {
     match stage {
@@ -211,8 +211,8 @@ fn lacking_sites(
 }
 
 fn u_state(alloc: Global, u_module: &UModule<'_>, unapplied: &[DmNo]) -> Result<UState, NoMemory>
-    requires { (s : Setting) × (log : site.Log) × u_stands.Stands u_module.now s log }
-    ensures { IfOk result (λ state. (s : Setting) (log : site.Log) → u_stands.Stands u_module.now s log
+    requires { (s : Setting) × (log : site.Log) × u_represents.Represents u_module.now s log }
+    ensures { IfOk result (λ state. (s : Setting) (log : site.Log) → u_represents.Represents u_module.now s log
         → unapplied.now ≡ unapplied_last s log → state ≡ u_told s log) }
 {
     let stage = stage_at(u_module);
@@ -243,7 +243,7 @@ fn head_in(class: ClassNo, conds: Option<Conds>, readers: Option<ClassNos>) -> O
 
 /// The head of the pipe of a class, where it can't be processed.
 fn head_told(dm_module: &DataModule, class: ClassNo) -> Result<Option<Head>, NoMemory>
-    ensures { IfOk result (λ head. (s : Setting) (log : site.Log) → data_stands.Stands dm_module.now s log
+    ensures { IfOk result (λ head. (s : Setting) (log : site.Log) → data_represents.Represents dm_module.now s log
         → class.0 ≤ length s.catalogue.classes
         → head ≡ head_told (view_of s log) (data_views.class_view s log class.0)) }
 {
@@ -254,7 +254,7 @@ fn head_told(dm_module: &DataModule, class: ClassNo) -> Result<Option<Head>, NoM
 
 /// Adds the head of the pipe of a class, where it can't be processed.
 fn add_head(dm_module: &DataModule, class: ClassNo, heads: &mut Vec<Head>) -> Result<(), NoMemory>
-    ensures { OnOk result ((s : Setting) (log : site.Log) → data_stands.Stands dm_module.now s log
+    ensures { OnOk result ((s : Setting) (log : site.Log) → data_represents.Represents dm_module.now s log
         → class.0 ≤ length s.catalogue.classes
         → heads.new.items ≡ heads.old.items
         ++ filter_map (head_told (view_of s log)) (data_views.class_view s log class.0 ∷ [])) }
@@ -274,7 +274,7 @@ fn dm_state(
     is_down: bool,
     dm_module: &DataModule,
 ) -> Result<DmState, NoMemory>
-    ensures { IfOk result (λ state. (s : Setting) (log : site.Log) → data_stands.Stands dm_module.now s log
+    ensures { IfOk result (λ state. (s : Setting) (log : site.Log) → data_represents.Represents dm_module.now s log
         → state ≡ dm_told s log dm.0 is_down) }
 {
     let mut heads = Vec::new(alloc);

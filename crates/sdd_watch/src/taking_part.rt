@@ -4,7 +4,7 @@ ghost use Rattle.std.specs.List.{list_any};
 ghost use Rattle.sdd_obligations.specs.All.{Input, IsSiteOf, Log, Redeclare, nth_era, redeclares, same_site, txn_at};
 ghost use Rattle.sdd_obligations.specs.logs.Due.{home_of as class_site};
 ghost use Rattle.sdd_inside.specs.declared.delta.Found.{Found as Finding};
-ghost use Rattle.sdd_run.specs.world.Standing.{Calm};
+ghost use Rattle.sdd_run.specs.world.Represents.{Calm};
 ghost use Rattle.sdd_watch.specs.Happens.{concerns, is_something, takes_part};
 ghost use Rattle.sdd_watch.specs.States.{state_of};
 ghost use Rattle.sdd_watch.specs.Watching.{AreDones, IsOver, arrived as arrived_between};

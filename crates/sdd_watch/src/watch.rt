@@ -1,7 +1,7 @@
 //! What stood where when an event was over, and what the next one changed.
 ghost use Rattle.std.specs.Prelude.{◌≡◌, [], length, map, IfOk, OnOk};
 ghost use Rattle.sdd_obligations.specs.All.{Input, Log, history};
-ghost use Rattle.sdd_run.specs.world.Standing.{Calm};
+ghost use Rattle.sdd_run.specs.world.Represents.{Calm};
 ghost use Rattle.sdd_watch.specs.Happens.{happened_at, rows_of};
 ghost use Rattle.sdd_watch.specs.Moments.{queues_of};
 ghost use Rattle.sdd_watch.specs.Text.{change};

@@ -5,7 +5,7 @@ ghost use Rattle.sdd_obligations.specs.All.{D, Input, IsSiteOf, Log, dm_no, time
 ghost use Rattle.sdd_obligations.specs.dm.Due.{or_zero};
 ghost use Rattle.sdd_obligations.specs.pipe.Digest as digest;
 ghost use Rattle.sdd_obligations.specs.pipe.Pipes.{pipe_at};
-ghost use Rattle.sdd_run.specs.world.Standing.{Calm};
+ghost use Rattle.sdd_run.specs.world.Represents.{Calm};
 ghost use Rattle.sdd_watch.specs.Awaiting.{number_for};
 ghost use Rattle.sdd_watch.specs.Looking.{messages_in, numbers_for};
 ghost use Rattle.sdd_watch.specs.Moments.{all_pipes, pipes_at_module, source};

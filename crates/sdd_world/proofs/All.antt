@@ -56,17 +56,17 @@ pub use Rattle.sdd_obligations.specs.net.Links.{put}
 pub use Rattle.sdd_obligations.specs.net.Mailboxes.{Takes as TakesFrom}
 pub use Rattle.sdd_obligations.specs.net.declared.delivered.Delivered.TheVariants.{Nothing}
 pub use Rattle.sdd_obligations.specs.protocol.declared.entry.Entry.{Entry}
-pub use Rattle.sdd_world.specs.AtSites.{At, IsClassAt, Lives, Standing, StandsAt}
+pub use Rattle.sdd_world.specs.AtSites.{At, IsClassAt, Lives, Representation, RepresentsAt}
 pub use Rattle.sdd_world.specs.Beginnings.{AllBegin, BeginsD, BeginsT, IsBegun, There}
 pub use Rattle.sdd_world.specs.Carries.{AllDelivered, AllPut, Carries, IsPacketSpelling, IsSpelling, NetValue, PacketFits, Spells, in_bytes}
 pub use Rattle.sdd_world.specs.Copies.{table_of, tables_at, tables_in}
 pub use Rattle.sdd_world.specs.DueAt.{next_of}
 pub use Rattle.sdd_world.specs.Following.{Followed, IsPast, MaySend, Sending}
 pub use Rattle.sdd_world.specs.Kinds.{AreLinked}
-pub use Rattle.sdd_world.specs.Modules.{AllStandFor, AreRedeclared, LivesD, LivesT, LivesU, StandFor}
-pub use Rattle.sdd_world.specs.Pending.{AreCommitted, commits, last_home, pending_by, stands_at, unmet, wait_at, wait_for, waits_of, why_of}
+pub use Rattle.sdd_world.specs.Modules.{AllRepresent, AreRedeclared, LivesD, LivesT, LivesU, Represent}
+pub use Rattle.sdd_world.specs.Pending.{AreCommitted, commits, last_home, pending_by, status_at, unmet, wait_at, wait_for, waits_of, why_of}
 pub use Rattle.sdd_world.specs.Schedules.{AreAllowed, IsAllowed, IsListed, lists_after, takes_rounds, with_events}
-pub use Rattle.sdd_world.specs.Standing.{Ahead, Arrives, Before, Calm, EndsBy, HandedOn, Handing, Happened, IsNextList, IsSettled, IsSound, Keeping, KeepsFor, Marked, Parts, Redeclaring, Risen, Rising, Rounding, Settles, Settling, Spooled, StandsFor, ahead_of}
+pub use Rattle.sdd_world.specs.Represents.{Ahead, Arrives, Before, Calm, EndsBy, HandedOn, Handing, Happened, IsNextList, IsSettled, IsSound, Keeping, KeepsFor, Marked, Parts, Redeclaring, Represents, Risen, Rising, Rounding, Settles, Settling, Spooled, ahead_of}
 pub use Rattle.sdd_world.specs.Standings.{standing_of}
 pub use Rattle.sdd_world.specs.declared.ends.WorldEnd.{WorldEnd}
 pub use Rattle.sdd_world.specs.declared.ends.WorldEnd.TheVariants.{Limit}

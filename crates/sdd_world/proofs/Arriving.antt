@@ -1,5 +1,5 @@
 -- Messages have come to a site: they are handed over, or kept.
-use Rattle.sdd_world.proofs.All.{Arrives, D, Deliver, DmNo, HandedOn, Handing, Happened, Input, IsSiteOf, Keeping, List, Log, Mark, Msg, Site, Spooled, StandFor, U, World, [], ahead_of, ap, delivers_messages, from_one, is_down, link_parts, local_of, setting_of, subst, sym, takes_part, true, ℕ, ◌∙◌, ◌∷◌, ◌≡◌}
+use Rattle.sdd_world.proofs.All.{Arrives, D, Deliver, DmNo, HandedOn, Handing, Happened, Input, IsSiteOf, Keeping, List, Log, Mark, Msg, Represent, Site, Spooled, U, World, [], ahead_of, ap, delivers_messages, from_one, is_down, link_parts, local_of, setting_of, subst, sym, takes_part, true, ℕ, ◌∙◌, ◌∷◌, ◌≡◌}
 use Rattle.sdd_world.proofs.Keeping.{keeping_begins, kept_happened}
 use Rattle.sdd_world.proofs.Delivering.{beside, but_for, handed_calm}
 
@@ -27,7 +27,7 @@ module _ (w now : World) (g : Input) (log : Log) (a b : Site) (k : ℕ) (message
       txns_are = ap (λ v. v.txns) h.same ∙ h.marked.parts.txns_are;
       given_is = ap (λ v. v.given.items) h.same ∙ h.marked.parts.given_is;
       history_is = ap (λ v. v.history) h.same ∙ h.marked.parts.history_is;
-      sites = λ x here. subst (λ z. StandFor z x (setting_of g x) (local_of g x (Mark (Deliver a b k) ∷ log))) (sym (ap (λ v. v.sites) h.same))
+      sites = λ x here. subst (λ z. Represent z x (setting_of g x) (local_of g x (Mark (Deliver a b k) ∷ log))) (sym (ap (λ v. v.sites) h.same))
           (h.marked.parts.sites x here);
       net = h.net;
     };

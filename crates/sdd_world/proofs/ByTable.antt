@@ -1,5 +1,5 @@
 -- What one module's law says of all sites.
-use Rattle.sdd_world.proofs.All.{Act, AreDue, At, Bases, Bool, D, Did, DmNo, Err, Fitting, FittingSubmit, Handed, IfOk, IsTrue, List, Lives, Msg, NoMemory, Ok, Option, Outcome, Rec, Result, Setting, Site, Some, Standing, StandsAt, Submission, Submits, T, TmNo, Txn, TxnNo, U, [], ap, fits_at, fits_submit_at, get-set_same, get_or as slice_index_or, log_after, next_of, refl, slice_get, slice_set, subst, suc, sym, zero, ℕ, ◌-◌, ◌∙◌, ◌∷◌, ◌≡◌}
+use Rattle.sdd_world.proofs.All.{Act, AreDue, At, Bases, Bool, D, Did, DmNo, Err, Fitting, FittingSubmit, Handed, IfOk, IsTrue, List, Lives, Msg, NoMemory, Ok, Option, Outcome, Rec, Representation, RepresentsAt, Result, Setting, Site, Some, Submission, Submits, T, TmNo, Txn, TxnNo, U, [], ap, fits_at, fits_submit_at, get-set_same, get_or as slice_index_or, log_after, next_of, refl, slice_get, slice_set, subst, suc, sym, zero, ℕ, ◌-◌, ◌∙◌, ◌∷◌, ◌≡◌}
 use Rattle.sdd_obligations.specs.site_module.SiteLog.{Does}
 use Rattle.sdd_obligations.specs.site_module.SiteLog as site
 use Rattle.sdd_obligations.specs.dm.Due as dm
@@ -33,81 +33,81 @@ if_ok (Ok o) P Q h k = h o k
 if_ok (Err e) P Q h k = tt
 
 -- the laws of `take` and `submit`, for whatever stands for logs and acts by a table
-module _ {V : Type 0} (stands : Standing V) (next : Table) where
+module _ {V : Type 0} (represents : Representation V) (next : Table) where
   abbrev pub Takes : Fitting → V → V → Site → Msg → Outcome → Type 0
   Takes fits v v2 from msg o =
-      (setting : Setting) (bases : Bases) (log : site.Log) → stands v setting log → fits setting bases log from msg
-      → Does (next setting bases) (Handed from msg ∷ log) o.recs o.out (stands v2 setting)
+      (setting : Setting) (bases : Bases) (log : site.Log) → represents v setting log → fits setting bases log from msg
+      → Does (next setting bases) (Handed from msg ∷ log) o.recs o.out (represents v2 setting)
 
   abbrev pub Input : FittingSubmit → V → V → TxnNo → Txn → Outcome → Type 0
   Input fits v v2 n txn o =
-      (setting : Setting) (bases : Bases) (log : site.Log) → stands v setting log → fits setting bases log n.0 txn
-      → (recs : List Rec) × (o.recs ≡ Submission n ∷ recs) × Does (next setting bases) (Submits n.0 txn ∷ log) recs o.out (stands v2 setting)
+      (setting : Setting) (bases : Bases) (log : site.Log) → represents v setting log → fits setting bases log n.0 txn
+      → (recs : List Rec) × (o.recs ≡ Submission n ∷ recs) × Does (next setting bases) (Submits n.0 txn ∷ log) recs o.out (represents v2 setting)
 
 -- what stands for a log in a wider sense does in the narrower, and after a call does again
-record Widens {V W : Type 0} (stands : Standing V) (wide : Standing W) (v v2 : V) (w w2 : W) : Type 0 where
-  narrow : (setting : Setting) (log : site.Log) → wide w setting log → stands v setting log
-  widen : (setting : Setting) (log more : site.Log) → wide w setting log → stands v2 setting more → wide w2 setting more
+record Widens {V W : Type 0} (represents : Representation V) (wide : Representation W) (v v2 : V) (w w2 : W) : Type 0 where
+  narrow : (setting : Setting) (log : site.Log) → wide w setting log → represents v setting log
+  widen : (setting : Setting) (log more : site.Log) → wide w setting log → represents v2 setting more → wide w2 setting more
 
-module _ {V W : Type 0} (stands : Standing V) (wide : Standing W) (next table : Table) (agree : Agree next table) (v v2 : V) (w w2 : W)
-    (widens : Widens stands wide v v2 w w2) where
-  takes_so : (fits : Fitting) (from : Site) (msg : Msg) (o : Outcome) → Takes stands next fits v v2 from msg o → Takes wide table fits w w2 from msg o
+module _ {V W : Type 0} (represents : Representation V) (wide : Representation W) (next table : Table) (agree : Agree next table) (v v2 : V) (w w2 : W)
+    (widens : Widens represents wide v v2 w w2) where
+  takes_so : (fits : Fitting) (from : Site) (msg : Msg) (o : Outcome) → Takes represents next fits v v2 from msg o → Takes wide table fits w w2 from msg o
   takes_so fits from msg o law = λ setting bases log s f.
-      does_by (next setting bases) (table setting bases) (agree setting bases) (Handed from msg ∷ log) o.recs o.out (stands v2 setting)
+      does_by (next setting bases) (table setting bases) (agree setting bases) (Handed from msg ∷ log) o.recs o.out (represents v2 setting)
       (wide w2 setting) (λ k x. widens.widen setting log k s x) (law setting bases log (widens.narrow setting log s) f)
 
-  given_so : (fits : FittingSubmit) (n : TxnNo) (txn : Txn) (o : Outcome) → Input stands next fits v v2 n txn o → Input wide table fits w w2 n txn o
+  given_so : (fits : FittingSubmit) (n : TxnNo) (txn : Txn) (o : Outcome) → Input represents next fits v v2 n txn o → Input wide table fits w w2 n txn o
   given_so fits n txn o law = λ setting bases log s f.
       let d = law setting bases log (widens.narrow setting log s) f in (
         d.0,
         d.1,
-        does_by (next setting bases) (table setting bases) (agree setting bases) (Submits n.0 txn ∷ log) d.0 o.out (stands v2 setting)
+        does_by (next setting bases) (table setting bases) (agree setting bases) (Submits n.0 txn ∷ log) d.0 o.out (represents v2 setting)
             (wide w2 setting) (λ k x. widens.widen setting log k s x) d.2,
       )
 
 -- a module that is live after the call
-module _ {V : Type 0} (is_live : V → Bool) (stands : Standing V) (next : Table) (v v2 : V) where
-  lives : IsTrue (is_live v2) → Widens stands (Lives is_live stands) v v2 v v2
-  lives live = record { narrow = λ setting log x. x.stands_for; widen = λ setting log more x y. record { live = live; stands_for = y } }
+module _ {V : Type 0} (is_live : V → Bool) (represents : Representation V) (next : Table) (v v2 : V) where
+  lives : IsTrue (is_live v2) → Widens represents (Lives is_live represents) v v2 v v2
+  lives live = record { narrow = λ setting log x. x.represents_log; widen = λ setting log more x y. record { live = live; represents_log = y } }
 
-  pub lives_take : (fits : Fitting) (from : Site) (msg : Msg) (res : Result Outcome NoMemory) → IfOk res (Takes stands next fits v v2 from msg)
-      → IfOk res (λ o. IsTrue (is_live v2)) → IfOk res (Takes (Lives is_live stands) next fits v v2 from msg)
-  lives_take fits from msg (Ok o) law live = takes_so stands (Lives is_live stands) next next (λ s b l. refl) v v2 v v2 (lives live) fits from msg o law
+  pub lives_take : (fits : Fitting) (from : Site) (msg : Msg) (res : Result Outcome NoMemory) → IfOk res (Takes represents next fits v v2 from msg)
+      → IfOk res (λ o. IsTrue (is_live v2)) → IfOk res (Takes (Lives is_live represents) next fits v v2 from msg)
+  lives_take fits from msg (Ok o) law live = takes_so represents (Lives is_live represents) next next (λ s b l. refl) v v2 v v2 (lives live) fits from msg o law
   lives_take fits from msg (Err e) law live = tt
 
-  pub lives_submit : (fits : FittingSubmit) (n : TxnNo) (txn : Txn) (res : Result Outcome NoMemory) → IfOk res (Input stands next fits v v2 n txn)
-      → IfOk res (λ o. IsTrue (is_live v2)) → IfOk res (Input (Lives is_live stands) next fits v v2 n txn)
-  lives_submit fits n txn (Ok o) law live = given_so stands (Lives is_live stands) next next (λ s b l. refl) v v2 v v2 (lives live) fits n txn o law
+  pub lives_submit : (fits : FittingSubmit) (n : TxnNo) (txn : Txn) (res : Result Outcome NoMemory) → IfOk res (Input represents next fits v v2 n txn)
+      → IfOk res (λ o. IsTrue (is_live v2)) → IfOk res (Input (Lives is_live represents) next fits v v2 n txn)
+  lives_submit fits n txn (Ok o) law live = given_so represents (Lives is_live represents) next next (λ s b l. refl) v v2 v v2 (lives live) fits n txn o law
   lives_submit fits n txn (Err e) law live = tt
 
 -- an element of a list is read, and written anew
-there_at : {V : Type 0} (stands : Standing V) (xs : List V) (k : ℕ) (x : V) (setting : Setting) (log : site.Log) → x ≡ slice_index_or xs k x
-    → At stands (slice_get xs k) setting log → slice_get xs k ≡ Some x
-there_at stands [] k x setting log e h = absurd h
-there_at stands (y ∷ xs) zero x setting log e h = ap Some (sym e)
-there_at stands (y ∷ xs) (suc k) x setting log e h = there_at stands xs k x setting log e h
+there_at : {V : Type 0} (represents : Representation V) (xs : List V) (k : ℕ) (x : V) (setting : Setting) (log : site.Log) → x ≡ slice_index_or xs k x
+    → At represents (slice_get xs k) setting log → slice_get xs k ≡ Some x
+there_at represents [] k x setting log e h = absurd h
+there_at represents (y ∷ xs) zero x setting log e h = ap Some (sym e)
+there_at represents (y ∷ xs) (suc k) x setting log e h = there_at represents xs k x setting log e h
 
-pub submitted_in : {V : Type 0} (is_live : V → Bool) (stands : Standing V) (next : Table) (xs : List V) (k : ℕ) (v v2 : V)
+pub submitted_in : {V : Type 0} (is_live : V → Bool) (represents : Representation V) (next : Table) (xs : List V) (k : ℕ) (v v2 : V)
     (fits : FittingSubmit) (n : TxnNo) (txn : Txn) (res : Result Outcome NoMemory) → v ≡ slice_index_or xs k v
-    → IfOk res (Input stands next fits v v2 n txn) → IfOk res (λ o. IsTrue (is_live v2))
-    → IfOk res (Input (At (Lives is_live stands)) next fits (slice_get xs k) (slice_get (slice_set xs k v2) k) n txn)
-submitted_in is_live stands next xs k v v2 fits n txn (Ok o) e law live = λ setting bases log s f.
-    let there = there_at (Lives is_live stands) xs k v setting log e s in
-    let here : Lives is_live stands v setting log = subst (λ x. At (Lives is_live stands) x setting log) there s in
-    let d = law setting bases log here.stands_for f in (
+    → IfOk res (Input represents next fits v v2 n txn) → IfOk res (λ o. IsTrue (is_live v2))
+    → IfOk res (Input (At (Lives is_live represents)) next fits (slice_get xs k) (slice_get (slice_set xs k v2) k) n txn)
+submitted_in is_live represents next xs k v v2 fits n txn (Ok o) e law live = λ setting bases log s f.
+    let there = there_at (Lives is_live represents) xs k v setting log e s in
+    let here : Lives is_live represents v setting log = subst (λ x. At (Lives is_live represents) x setting log) there s in
+    let d = law setting bases log here.represents_log f in (
       d.0,
       d.1,
-      does_by (next setting bases) (next setting bases) (λ l. refl) (Submits n.0 txn ∷ log) d.0 o.out (stands v2 setting)
-          (At (Lives is_live stands) (slice_get (slice_set xs k v2) k) setting)
-          (λ more x. let l : Lives is_live stands v2 setting more = record { live = live; stands_for = x } in
-          subst (λ y. At (Lives is_live stands) y setting more) (sym (get-set_same xs k v v2 there)) l) d.2,
+      does_by (next setting bases) (next setting bases) (λ l. refl) (Submits n.0 txn ∷ log) d.0 o.out (represents v2 setting)
+          (At (Lives is_live represents) (slice_get (slice_set xs k v2) k) setting)
+          (λ more x. let l : Lives is_live represents v2 setting more = record { live = live; represents_log = x } in
+          subst (λ y. At (Lives is_live represents) y setting more) (sym (get-set_same xs k v v2 there)) l) d.2,
     )
-submitted_in is_live stands next xs k v v2 fits n txn (Err e) is law live = tt
+submitted_in is_live represents next xs k v v2 fits n txn (Err e) is law live = tt
 
 -- the modules of all sites, where that of one site makes the call
-module _ {A B C : Type 0} (p : Standing A) (q : Standing B) (r : Standing C) where
-  abbrev pub AllAt : Site → Standing (A × List B × List C)
-  AllAt at m setting log = StandsAt p q r m.0 m.1 m.2 at setting log
+module _ {A B C : Type 0} (p : Representation A) (q : Representation B) (r : Representation C) where
+  abbrev pub AllAt : Site → Representation (A × List B × List C)
+  AllAt at m setting log = RepresentsAt p q r m.0 m.1 m.2 at setting log
 
   at_u : (u u2 : A) (ts : List B) (ds : List C) → Widens p (AllAt U) u u2 (u, ts, ds) (u2, ts, ds)
   at_u u u2 ts ds = record { narrow = λ setting log x. x; widen = λ setting log more x y. y }

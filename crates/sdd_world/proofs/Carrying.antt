@@ -1,5 +1,5 @@
 -- Steps of a schedule.
-use Rattle.sdd_world.proofs.All.{AreAllowed, ClassList, EndsBy, Err, Event, IfOk, Input, IsAllowed, IsGood, IsListed, IsNextList, IsPossible, List, Log, Ok, Redeclare, Result, Settle, StandsFor, World, WorldEnd, [], ap, false, lawful_grows, lists_after, next_grows, refl, subst, sym, takes_rounds, with_event, with_events, ◌∙◌, ◌∷◌, ◌≡◌, ◌≢◌}
+use Rattle.sdd_world.proofs.All.{AreAllowed, ClassList, EndsBy, Err, Event, IfOk, Input, IsAllowed, IsGood, IsListed, IsNextList, IsPossible, List, Log, Ok, Redeclare, Represents, Result, Settle, World, WorldEnd, [], ap, false, lawful_grows, lists_after, next_grows, refl, subst, sym, takes_rounds, with_event, with_events, ◌∙◌, ◌∷◌, ◌≡◌, ◌≢◌}
 
 -- an event that is reached by no rounds
 pub no_rounds : (e : Event) → e ≢ Settle → e ≢ Redeclare → takes_rounds e ≡ false
@@ -49,22 +49,22 @@ ends_from g now events rest e all is same h = subst EndsBy (with_first now event
 -- what is promised of one event that is allowed
 
 abbrev pub GoesOn : World → Event → List ClassList → World → Type 0
-GoesOn w e lists next = (g : Input) (log : Log) → StandsFor w g log → IsAllowed g e lists → (more : Log) × StandsFor next (with_event g e) more
+GoesOn w e lists next = (g : Input) (log : Log) → Represents w g log → IsAllowed g e lists → (more : Log) × Represents next (with_event g e) more
 
 abbrev pub EndsIt : World → Event → List ClassList → Type 0
-EndsIt w e lists = (g : Input) (log : Log) → StandsFor w g log → IsAllowed g e lists → EndsBy (with_event g e)
+EndsIt w e lists = (g : Input) (log : Log) → Represents w g log → IsAllowed g e lists → EndsBy (with_event g e)
 
 -- a settle is carried out as the event that it is
 pub settle_goes : (w : World) (e : Event) (lists : List ClassList) (res : Result World WorldEnd) → e ≡ Settle
-    → IfOk res (λ next. (g : Input) (log : Log) → StandsFor w g log → IsGood (with_event g Settle)
-    → (more : Log) × StandsFor next (with_event g Settle) more)
+    → IfOk res (λ next. (g : Input) (log : Log) → Represents w g log → IsGood (with_event g Settle)
+    → (more : Log) × Represents next (with_event g Settle) more)
     → IfOk res (GoesOn w e lists)
 settle_goes w e lists (Ok next) is law = λ g log s a.
-    subst (λ x. (more : Log) × StandsFor next (with_event g x) more) (sym is) (law g log s (subst (λ x. IsGood (with_event g x)) is a.good))
+    subst (λ x. (more : Log) × Represents next (with_event g x) more) (sym is) (law g log s (subst (λ x. IsGood (with_event g x)) is a.good))
 settle_goes w e lists (Err end) is law = tt
 
 pub settle_ends : (w : World) (e : Event) (lists : List ClassList) → e ≡ Settle
-    → ((g : Input) (log : Log) → StandsFor w g log → IsGood (with_event g Settle) → EndsBy (with_event g Settle)) → EndsIt w e lists
+    → ((g : Input) (log : Log) → Represents w g log → IsGood (with_event g Settle) → EndsBy (with_event g Settle)) → EndsIt w e lists
 settle_ends w e lists is law = λ g log s a. subst (λ x. EndsBy (with_event g x)) (sym is) (law g log s (subst (λ x. IsGood (with_event g x)) is a.good))
 
 -- a redeclare puts the first of the lists in force
@@ -83,13 +83,13 @@ redeclare_goes w e lists (Err end) is law = tt
 
 -- any other event is carried out by a step
 pub step_goes : (w : World) (e : Event) (lists : List ClassList) (res : Result World WorldEnd) → takes_rounds e ≡ false
-    → IfOk res (λ next. (g : Input) (log : Log) → StandsFor w g log → IsPossible g e
-    → IsGood (with_event g e) → (more : Log) × StandsFor next (with_event g e) more)
+    → IfOk res (λ next. (g : Input) (log : Log) → Represents w g log → IsPossible g e
+    → IsGood (with_event g e) → (more : Log) × Represents next (with_event g e) more)
     → IfOk res (GoesOn w e lists)
 step_goes w e lists (Ok next) is law = λ g log s a. law g log s (a.possible is) a.good
 step_goes w e lists (Err end) is law = tt
 
 -- all events are carried out
-pub carried_all : (w : World) (g now : Input) (log : Log) (events : List Event) (all : Input) → StandsFor w now log → events ≡ []
-    → with_events now events ≡ all → (more : Log) × StandsFor w all more
-carried_all w g now log events all s none is = let same : now ≡ all = sym (ap (with_events now) none) ∙ is in (log, subst (λ x. StandsFor w x log) same s)
+pub carried_all : (w : World) (g now : Input) (log : Log) (events : List Event) (all : Input) → Represents w now log → events ≡ []
+    → with_events now events ≡ all → (more : Log) × Represents w all more
+carried_all w g now log events all s none is = let same : now ≡ all = sym (ap (with_events now) none) ∙ is in (log, subst (λ x. Represents w x log) same s)

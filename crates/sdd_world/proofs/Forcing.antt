@@ -1,14 +1,14 @@
 -- A list of classes is put in force at all transaction modules, one after the other.
-use Rattle.sdd_world.proofs.All.{AllStandFor, AreRedeclared, D, Era, FitsEra, Input, IsSiteOf, Log, Redeclared, Setting, Site, Sites, StandFor, T, TmNo, U, and_from, and_parts, ap, arith, cases_lt, differ, false, fold, inl, inr, le-leb, leb-true, local_of, map, max, nat_le, number_of, range_with_len, refl, same_is, same_site, setting_of, subst, suc, sym, tm_no, true, ℕ, ◌+◌, ◌-◌, ◌<◌, ◌∙◌, ◌∷◌, ◌≡◌, ◌≤◌}
+use Rattle.sdd_world.proofs.All.{AllRepresent, AreRedeclared, D, Era, FitsEra, Input, IsSiteOf, Log, Redeclared, Represent, Setting, Site, Sites, T, TmNo, U, and_from, and_parts, ap, arith, cases_lt, differ, false, fold, inl, inr, le-leb, leb-true, local_of, map, max, nat_le, number_of, range_with_len, refl, same_is, same_site, setting_of, subst, suc, sym, tm_no, true, ℕ, ◌+◌, ◌-◌, ◌<◌, ◌∙◌, ◌∷◌, ◌≡◌, ◌≤◌}
 use Rattle.sdd_obligations.specs.site_module.SiteLog as site
 
 -- the transaction modules before number n stand for logs with the list, all other modules for theirs
 pub record RedeclaredAt (m : Sites) (g : Input) (log : Log) (era : Era) (t n : ℕ) : Type 0 where
   pub redeclared_at : (k : ℕ) → 1 ≤ k → k < n → IsSiteOf g (T (tm_no k))
-      → StandFor m (T (tm_no k)) (setting_of g (T (tm_no k))) (Redeclared era t ∷ local_of g (T (tm_no k)) log)
-  pub others : (at : Site) → ((k : ℕ) → at ≡ T (tm_no k) → n ≤ k) → IsSiteOf g at → StandFor m at (setting_of g at) (local_of g at log)
+      → Represent m (T (tm_no k)) (setting_of g (T (tm_no k))) (Redeclared era t ∷ local_of g (T (tm_no k)) log)
+  pub others : (at : Site) → ((k : ℕ) → at ≡ T (tm_no k) → n ≤ k) → IsSiteOf g at → Represent m at (setting_of g at) (local_of g at log)
 
-pub none_redeclared : (m : Sites) (g : Input) (log : Log) (era : Era) (t : ℕ) → AllStandFor m g log → RedeclaredAt m g log era t 1
+pub none_redeclared : (m : Sites) (g : Input) (log : Log) (era : Era) (t : ℕ) → AllRepresent m g log → RedeclaredAt m g log era t 1
 none_redeclared m g log era t all = record { redeclared_at = λ k low high here. absurd (omega arith); others = λ at later here. all at here }
 
 -- transaction modules within the network
@@ -22,18 +22,18 @@ t_within g t here =
     (leb-true 1 t.0 p.0, leb-true t.0 g.catalogue.tms p.1)
 
 -- what the module that comes next stands for
-pub t_stands : (m : Sites) (g : Input) (log : Log) (era : Era) (t n : ℕ) → RedeclaredAt m g log era t n → IsSiteOf g (T (tm_no n))
-    → StandFor m (T (tm_no n)) (setting_of g (T (tm_no n))) (local_of g (T (tm_no n)) log)
-t_stands m g log era t n f here = f.others (T (tm_no n)) (λ k e. (let same : n ≡ k = ap number_of e in omega (arith, same))) here
+pub t_represents : (m : Sites) (g : Input) (log : Log) (era : Era) (t n : ℕ) → RedeclaredAt m g log era t n → IsSiteOf g (T (tm_no n))
+    → Represent m (T (tm_no n)) (setting_of g (T (tm_no n))) (local_of g (T (tm_no n)) log)
+t_represents m g log era t n f here = f.others (T (tm_no n)) (λ k e. (let same : n ≡ k = ap number_of e in omega (arith, same))) here
 
 -- what the call at one module does
 
 abbrev pub EraLaw : Sites → Sites → Era → ℕ → ℕ → Type 0
-EraLaw m m2 era t n = (setting : Setting) (l : site.Log) → StandFor m (T (tm_no n)) setting l → FitsEra setting.catalogue era t
-    → StandFor m2 (T (tm_no n)) setting (Redeclared era t ∷ l)
+EraLaw m m2 era t n = (setting : Setting) (l : site.Log) → Represent m (T (tm_no n)) setting l → FitsEra setting.catalogue era t
+    → Represent m2 (T (tm_no n)) setting (Redeclared era t ∷ l)
 
 abbrev pub OthersLaw : Sites → Sites → ℕ → Type 0
-OthersLaw m m2 n = (x : Site) (setting : Setting) (l : site.Log) → same_site x (T (tm_no n)) ≡ false → StandFor m x setting l → StandFor m2 x setting l
+OthersLaw m m2 n = (x : Site) (setting : Setting) (l : site.Log) → same_site x (T (tm_no n)) ≡ false → Represent m x setting l → Represent m2 x setting l
 
 apart_from : (at : Site) (n : ℕ) → ((k : ℕ) → at ≡ T (tm_no k) → n + 1 ≤ k) → same_site at (T (tm_no n)) ≡ false
 apart_from at n later = elim (same_site at (T (tm_no n))) as (λ b. same_site at (T (tm_no n)) ≡ b → b ≡ false) [
@@ -48,8 +48,8 @@ one_redeclared m m2 g log era t n f here fits law stay = record {
     | inl l ↦ stay (T (tm_no k)) (setting_of g (T (tm_no k))) (Redeclared era t ∷ local_of g (T (tm_no k)) log) (differ k n l) (f.redeclared_at k low l there)
     | inr l ↦
         (let same : n ≡ k = omega (arith, l, high) in
-        subst (λ j. StandFor m2 (T (tm_no j)) (setting_of g (T (tm_no j))) (Redeclared era t ∷ local_of g (T (tm_no j)) log)) same
-        (law (setting_of g (T (tm_no n))) (local_of g (T (tm_no n)) log) (t_stands m g log era t n f here) fits))
+        subst (λ j. Represent m2 (T (tm_no j)) (setting_of g (T (tm_no j))) (Redeclared era t ∷ local_of g (T (tm_no j)) log)) same
+        (law (setting_of g (T (tm_no n))) (local_of g (T (tm_no n)) log) (t_represents m g log era t n f here) fits))
   ];
   others = λ at later there. stay at (setting_of g at) (local_of g at log) (apart_from at n later)
       (f.others at (λ k e. (let l = later k e in omega (arith, l))) there);

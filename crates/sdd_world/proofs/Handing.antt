@@ -1,5 +1,5 @@
 -- A message is handed over, and its module does what is due, over plain worlds.
-use Rattle.sdd_world.proofs.All.{Act, All, AllLinked, AreDue, AreLinked, Bases, Carries, D, EndsBy, Followed, Hand, HandedOn, Handing, Input, IsFirst, IsLawful, IsPast, IsSiteOf, List, Log, MaySend, Msg, Outcome, Rec, Setting, Site, Sites, Some, Spooled, StandFor, Takes, U, World, [], after_acts, ahead_of, all_facts, and_right, ap, base_of, calls_acts, calls_of, dm_no, ends_in_acts, false, first_lawful, first_next, fits, handed, hands_first, history_acts, link_parts, linked_acts, local_of, log_after, map, marks, marks_acts, next, next_in, next_of, nth_era, other_acts, other_hand, own_acts, puts, puts_past, records_of, refl, remain_other, same_here, same_is, same_site, sends_of, setting_of, subst, suc, sym, true, ℕ, ◌++◌, ◌∙◌, ◌∷◌, ◌≡◌, ◌≤◌}
+use Rattle.sdd_world.proofs.All.{Act, All, AllLinked, AreDue, AreLinked, Bases, Carries, D, EndsBy, Followed, Hand, HandedOn, Handing, Input, IsFirst, IsLawful, IsPast, IsSiteOf, List, Log, MaySend, Msg, Outcome, Rec, Represent, Setting, Site, Sites, Some, Spooled, Takes, U, World, [], after_acts, ahead_of, all_facts, and_right, ap, base_of, calls_acts, calls_of, dm_no, ends_in_acts, false, first_lawful, first_next, fits, handed, hands_first, history_acts, link_parts, linked_acts, local_of, log_after, map, marks, marks_acts, next, next_in, next_of, nth_era, other_acts, other_hand, own_acts, puts, puts_past, records_of, refl, remain_other, same_here, same_is, same_site, sends_of, setting_of, subst, suc, sym, true, ℕ, ◌++◌, ◌∙◌, ◌∷◌, ◌≡◌, ◌≤◌}
 use Rattle.sdd_world.proofs.Parting.{ahead_acts, events_before, redeclares_acts, spooled_acts, spooled_on}
 use Rattle.sdd_obligations.specs.site_module.SiteLog as site
 
@@ -36,11 +36,11 @@ module _ (w : World) (g : Input) (log : Log) (a b : Site) (m : Msg) (kept : Site
   pub hand_fits : fits b (setting_of g b) (base_of g handed_log) (local_of g b log) a m
   hand_fits = all_facts.hand g h.parts.good log a b (suc (handed a b log)) m h.waits.lawful h.waits.within hand_next
 
-  pub hand_stands : StandFor w.sites b (setting_of g b) (local_of g b log)
-  hand_stands = h.parts.sites b site_here
+  pub hand_represents : Represent w.sites b (setting_of g b) (local_of g b log)
+  hand_represents = h.parts.sites b site_here
 
-  pub hand_asks : (setting : Setting) × (bases : Bases) × (l : site.Log) × StandFor w.sites b setting l × fits b setting bases l a m
-  hand_asks = (setting_of g b, base_of g handed_log, local_of g b log, hand_stands, hand_fits)
+  pub hand_asks : (setting : Setting) × (bases : Bases) × (l : site.Log) × Represent w.sites b setting l × fits b setting bases l a m
+  hand_asks = (setting_of g b, base_of g handed_log, local_of g b log, hand_represents, hand_fits)
 
   pub events_order : All {X = ℕ × Rec} (λ e. e.0 ≤ w.marks) w.history
   events_order = rw (h.marks_are, h.parts.history_is) (events_before log)
@@ -51,14 +51,14 @@ module _ (w : World) (g : Input) (log : Log) (a b : Site) (m : Msg) (kept : Site
     pub due : AreDue (next_in g b (base_of g handed_log)) (site.Handed a m ∷ local_of g b log) acts
     pub records_are : outcome.recs ≡ records_of acts
     pub sends_are : outcome.out ≡ sends_of acts
-    pub after : StandFor s b (setting_of g b) (log_after acts (site.Handed a m ∷ local_of g b log))
+    pub after : Represent s b (setting_of g b) (log_after acts (site.Handed a m ∷ local_of g b log))
 
   pub taken : (s : Sites) (outcome : Outcome)
-      → ((setting : Setting) (bases : Bases) (l : site.Log) → StandFor w.sites b setting l → fits b setting bases l a m
-      → site.Does (next_of b setting bases) (site.Handed a m ∷ l) outcome.recs outcome.out (StandFor s b setting))
+      → ((setting : Setting) (bases : Bases) (l : site.Log) → Represent w.sites b setting l → fits b setting bases l a m
+      → site.Does (next_of b setting bases) (site.Handed a m ∷ l) outcome.recs outcome.out (Represent s b setting))
       → Taken s outcome
   taken s outcome law =
-      let d = law (setting_of g b) (base_of g handed_log) (local_of g b log) hand_stands hand_fits in
+      let d = law (setting_of g b) (base_of g handed_log) (local_of g b log) hand_represents hand_fits in
       record {
         acts = d.acts;
         due = due_same g b (base_of g handed_log) (site.Handed a m ∷ local_of g b log) d.acts d.due;
@@ -92,21 +92,21 @@ module _ (w : World) (g : Input) (log : Log) (a b : Site) (m : Msg) (kept : Site
       (refl, h.waits.within) lawful
 
   done_sites : (s : Sites) (outcome : Outcome) → (t : Taken s outcome)
-      → ((x : Site) (setting : Setting) (l : site.Log) → same_site x b ≡ false → StandFor w.sites x setting l → StandFor s x setting l)
-      → (x : Site) → IsSiteOf g x → StandFor s x (setting_of g x) (local_of g x (after_acts b t.acts handed_log))
+      → ((x : Site) (setting : Setting) (l : site.Log) → same_site x b ≡ false → Represent w.sites x setting l → Represent s x setting l)
+      → (x : Site) → IsSiteOf g x → Represent s x (setting_of g x) (local_of g x (after_acts b t.acts handed_log))
   done_sites s outcome t others x here =
-      elim (same_site x b) as (λ c. same_site x b ≡ c → StandFor s x (setting_of g x) (local_of g x (after_acts b t.acts handed_log))) [
-        | true ↦ λ p. here_at x b (same_is x b p) (λ z. StandFor s z (setting_of g z) (local_of g z (after_acts b t.acts handed_log)))
-            (at_log (StandFor s b (setting_of g b)) (local_of g b (after_acts b t.acts handed_log)) (log_after t.acts (site.Handed a m ∷ local_of g b log))
+      elim (same_site x b) as (λ c. same_site x b ≡ c → Represent s x (setting_of g x) (local_of g x (after_acts b t.acts handed_log))) [
+        | true ↦ λ p. here_at x b (same_is x b p) (λ z. Represent s z (setting_of g z) (local_of g z (after_acts b t.acts handed_log)))
+            (at_log (Represent s b (setting_of g b)) (local_of g b (after_acts b t.acts handed_log)) (log_after t.acts (site.Handed a m ∷ local_of g b log))
             (own_acts g b t.acts handed_log ∙ ap (λ l. log_after t.acts l) (own_hand g a b (suc (handed a b log)) m log)) t.after)
-        | false ↦ λ p. at_log (StandFor s x (setting_of g x)) (local_of g x (after_acts b t.acts handed_log)) (local_of g x log)
+        | false ↦ λ p. at_log (Represent s x (setting_of g x)) (local_of g x (after_acts b t.acts handed_log)) (local_of g x log)
             (other_acts g x b t.acts handed_log p ∙ other_hand g x a b (suc (handed a b log)) m log p)
             (others x (setting_of g x) (local_of g x log) p (h.parts.sites x here))
       ] refl
 
   -- it is recorded and sent
   pub hand_done : (s : Sites) (outcome : Outcome) (w2 : World) (less : Site → List Msg) → Taken s outcome → Takes kept less a rest
-      → ((x : Site) (setting : Setting) (l : site.Log) → same_site x b ≡ false → StandFor w.sites x setting l → StandFor s x setting l)
+      → ((x : Site) (setting : Setting) (l : site.Log) → same_site x b ≡ false → Represent w.sites x setting l → Represent s x setting l)
       → Followed (record w { sites = s }) w2 b outcome → HandedOn w2 g b less (ahead_of g log) w.spool
   hand_done s outcome w2 less t k others d =
       let sent_all = d.net g.catalogue.tms g.catalogue.dms (calls_of log) h.parts.net (linked_out s outcome t) in
@@ -125,7 +125,7 @@ module _ (w : World) (g : Input) (log : Log) (a b : Site) (m : Msg) (kept : Site
             history_is = d.history ∙ ap (λ r. w.history ++ map (λ x. (w.marks, x)) r) t.records_are
                 ∙ ap (λ k. w.history ++ map (λ x. (k, x)) (records_of t.acts)) h.marks_are
                 ∙ ap (λ xs. xs ++ map (λ x. (marks log, x)) (records_of t.acts)) h.parts.history_is ∙ sym (history_acts b t.acts handed_log);
-            sites = λ x here. subst (λ z. StandFor z x (setting_of g x) (local_of g x (after_acts b t.acts handed_log))) (sym d.sites)
+            sites = λ x here. subst (λ z. Represent z x (setting_of g x) (local_of g x (after_acts b t.acts handed_log))) (sym d.sites)
                 (done_sites s outcome t others x here);
             net = subst (λ c. Carries w2.net g.catalogue.tms g.catalogue.dms c) (sym calls) sent_all.1;
           };

@@ -1,5 +1,5 @@
 -- Events of which nothing more is due, or that find nothing to do, over plain worlds.
-use Rattle.sdd_world.proofs.All.{All, Bool, Call, Carries, D, Down, Event, Happened, Input, IsNoTick, IsSiteOf, List, Log, Lose, Loses, Mailbox, Mark, Marked, Msg, NetValue, None, Noted, Notes, Option, Packet, Remain, Repeat, Repeats, Resend, Resends, Rests, Site, Some, Spooled, StandFor, TurnsNone, U, Up, World, [], after_mark, ap, arith, calls_of, delivered, delivered_lose, delivered_repeat, delivered_resend, dm_no, due_by, false, handed, handed_still, history, is_down, is_none, is_some, left, length, link, link_of, local_of, mark_local, marks, nat_lt, none_by_mark, note_if, nth_era, packet_at, redeclares, refl, rests_marked, rests_noted, sent_stays, setting_of, slice_get, subst, suc, sym, true, unacked_none, unacked_some, ℕ, ◌++◌, ◌+◌, ◌∙◌, ◌∷◌, ◌≡◌, ◌≤◌}
+use Rattle.sdd_world.proofs.All.{All, Bool, Call, Carries, D, Down, Event, Happened, Input, IsNoTick, IsSiteOf, List, Log, Lose, Loses, Mailbox, Mark, Marked, Msg, NetValue, None, Noted, Notes, Option, Packet, Remain, Repeat, Repeats, Represent, Resend, Resends, Rests, Site, Some, Spooled, TurnsNone, U, Up, World, [], after_mark, ap, arith, calls_of, delivered, delivered_lose, delivered_repeat, delivered_resend, dm_no, due_by, false, handed, handed_still, history, is_down, is_none, is_some, left, length, link, link_of, local_of, mark_local, marks, nat_lt, none_by_mark, note_if, nth_era, packet_at, redeclares, refl, rests_marked, rests_noted, sent_stays, setting_of, slice_get, subst, suc, sym, true, unacked_none, unacked_some, ℕ, ◌++◌, ◌+◌, ◌∙◌, ◌∷◌, ◌≡◌, ◌≤◌}
 use Rattle.sdd_world.proofs.Parting.{events_before, later, same_ahead, spooled_on}
 use Rattle.sdd_world.proofs.Handing.{at_log}
 
@@ -54,7 +54,7 @@ pub record Results (w2 : World) (g : Input) (log more : Log) : Type 0 where
   pub left_is : left g.events more ≡ after_mark (left g.events log)
   pub redeclares_is : redeclares more ≡ redeclares log
   pub history_is : w2.history ≡ history more
-  pub sites : (x : Site) → IsSiteOf g x → StandFor w2.sites x (setting_of g x) (local_of g x more)
+  pub sites : (x : Site) → IsSiteOf g x → Represent w2.sites x (setting_of g x) (local_of g x more)
   pub net : Carries w2.net g.catalogue.tms g.catalogue.dms (calls_of more)
   pub spooled : Spooled g more w2.spool U
 
@@ -81,9 +81,9 @@ happened w w2 g log e more m s r = record {
 }
 
 sites_marked : (w : World) (g : Input) (log : Log) (e : Event) → Marked w g log e → IsNoTick e → (x : Site) → IsSiteOf g x
-    → StandFor w.sites x (setting_of g x) (local_of g x (Mark e ∷ log))
+    → Represent w.sites x (setting_of g x) (local_of g x (Mark e ∷ log))
 sites_marked w g log e m i x here =
-    at_log (StandFor w.sites x (setting_of g x)) (local_of g x (Mark e ∷ log)) (local_of g x log) (mark_local g e log x i) (m.parts.sites x here)
+    at_log (Represent w.sites x (setting_of g x)) (local_of g x (Mark e ∷ log)) (local_of g x log) (mark_local g e log x i) (m.parts.sites x here)
 
 -- an event of which nothing more is due
 pub marked_plain : (w w2 : World) (g : Input) (log : Log) (e : Event) → Marked w g log e → IsNoTick e → Rests g (Mark e ∷ log)
@@ -99,7 +99,7 @@ marked_plain w w2 g log e m i r same n s =
       left_is = refl;
       redeclares_is = refl;
       history_is = ap (λ v. v.history) same ∙ m.parts.history_is;
-      sites = λ x here. subst (λ z. StandFor z x (setting_of g x) (local_of g x (Mark e ∷ log)))
+      sites = λ x here. subst (λ z. Represent z x (setting_of g x) (local_of g x (Mark e ∷ log)))
           (sym (ap (λ v. v.sites) same)) (sites_marked w g log e m i x here);
       net = n;
       spooled = s;
@@ -121,7 +121,7 @@ marked_noted w w2 g log e m i r same noted n s =
       left_is = refl;
       redeclares_is = refl;
       history_is = noted ∙ ap (λ k. w.history ++ (k, Noted) ∷ []) m.marks_are ∙ ap (λ xs. xs ++ (suc (marks log), Noted) ∷ []) m.parts.history_is;
-      sites = λ x here. subst (λ z. StandFor z x (setting_of g x) (local_of g x (Notes ∷ Mark e ∷ log)))
+      sites = λ x here. subst (λ z. Represent z x (setting_of g x) (local_of g x (Notes ∷ Mark e ∷ log)))
           (sym (ap (λ v. v.sites) same)) (sites_marked w g log e m i x here);
       net = n;
       spooled = noted_spool g (Mark e ∷ log) w2.spool s;

@@ -1,5 +1,5 @@
 -- Another list of classes is put in force, once the links are quiet, over plain worlds.
-use Rattle.sdd_world.proofs.All.{AllStandFor, AreRedeclared, Carries, Catalogue, EndsBy, EndsIn, Entry, Era, Event, FitsEra, Input, IsNextList, IsSettled, List, Log, MAX_RUN_EVENTS, Redeclare, Redeclares, Redeclaring, Sites, Spooled, StandFor, StandsFor, U, World, [], all_facts, ap, arith, calls_of, count_join, greatest_bound, left, local_of, lt-ltb, marks, none_left, nth_era, redeclare_next, redeclares, redeclares_in, redeclares_left, refl, rests_redeclared, setting_of, settles_before, subst, suc, sym, with_era, with_event, zero, ℕ, ◌+◌, ◌∙◌, ◌∷◌, ◌≡◌, ◌≢◌, ◌≤◌}
+use Rattle.sdd_world.proofs.All.{AllRepresent, AreRedeclared, Carries, Catalogue, EndsBy, EndsIn, Entry, Era, Event, FitsEra, Input, IsNextList, IsSettled, List, Log, MAX_RUN_EVENTS, Redeclare, Redeclares, Redeclaring, Represent, Represents, Sites, Spooled, U, World, [], all_facts, ap, arith, calls_of, count_join, greatest_bound, left, local_of, lt-ltb, marks, none_left, nth_era, redeclare_next, redeclares, redeclares_in, redeclares_left, refl, rests_redeclared, setting_of, settles_before, subst, suc, sym, with_era, with_event, zero, ℕ, ◌+◌, ◌∙◌, ◌∷◌, ◌≡◌, ◌≢◌, ◌≤◌}
 use Rattle.sdd_world.proofs.Parting.{spooled_on}
 use Rattle.sdd_world.proofs.Rounds.{few, free}
 
@@ -55,15 +55,15 @@ module _ (w : World) (g : Input) (log : Log) (era : Era) (f : Redeclaring w g lo
       (all_facts.redeclare g f.calm.parts.good log (greatest_bound g log) f.calm.rests.lawful f.calm.rests.within f.next_is))
 
   sites_redeclared : (w2 : World) (s : Sites) (t : ℕ) → t ≡ greatest_bound g log → AreRedeclared s g log era t → w2.sites ≡ s
-      → AllStandFor w2.sites g (Redeclares (greatest_bound g log) ∷ log)
+      → AllRepresent w2.sites g (Redeclares (greatest_bound g log) ∷ log)
   sites_redeclared w2 s t e redeclared_at is at here =
-      subst (λ z. StandFor z at (setting_of g at) (local_of g at (Redeclares (greatest_bound g log) ∷ log))) (sym is)
-      (subst (λ x. StandFor s at (setting_of g at) (with_era at x (greatest_bound g log) (local_of g at log))) (sym f.era_is)
-      (subst (λ x. StandFor s at (setting_of g at) (with_era at era x (local_of g at log))) e (redeclared_at at here)))
+      subst (λ z. Represent z at (setting_of g at) (local_of g at (Redeclares (greatest_bound g log) ∷ log))) (sym is)
+      (subst (λ x. Represent s at (setting_of g at) (with_era at x (greatest_bound g log) (local_of g at log))) (sym f.era_is)
+      (subst (λ x. Represent s at (setting_of g at) (with_era at era x (local_of g at log))) e (redeclared_at at here)))
 
   -- it is in force
   pub is_redeclared : (w2 : World) (s : Sites) (t : ℕ) → t ≡ greatest_bound g log → w.marks ≢ MAX_RUN_EVENTS → AreRedeclared s g log era t
-      → w2 ≡ record w { sites = s; marks = w.marks + 1; catalogue = w2.catalogue } → w2.catalogue.now ≡ era.catalogue → (more : Log) × StandsFor w2 g more
+      → w2 ≡ record w { sites = s; marks = w.marks + 1; catalogue = w2.catalogue } → w2.catalogue.now ≡ era.catalogue → (more : Log) × Represents w2 g more
   is_redeclared w2 s t e number redeclared_at same is =
       let now : ℕ = greatest_bound g log in
       let more : Log = Redeclares now ∷ log in

@@ -1,5 +1,5 @@
 -- Rounds, settles and single events, over plain worlds.
-use Rattle.sdd_world.proofs.All.{AtEach, Before, Call, Calm, Carries, EndsBy, Event, Happened, Input, IsFree, IsGood, IsPossible, IsSettled, IsSingle, IsSound, List, Log, MAX_RUN_EVENTS, Mailbox, Mark, Marked, Msg, Parts, Redeclare, Rests, Round, Rounding, Settle, Settling, Site, Some, Spooled, StandFor, StandsFor, TakesRounds, U, World, [], after_mark, all_links, ap, arith, calls_of, each_of_round, event_left, false, few_marks, in_round, lawful_grows, left, length, links, local_of, lt-ltb, marks, next, no_events_quiet, none_left, none_to_hand, one_more, quiet, refl, round, round_next, setting_of, settled, still_none, subst, suc, sym, takes_part, true, with_event, ℕ, ◌++◌, ◌+◌, ◌<◌, ◌∙◌, ◌∷◌, ◌≡◌, ◌≢◌, ◌≤◌}
+use Rattle.sdd_world.proofs.All.{AtEach, Before, Call, Calm, Carries, EndsBy, Event, Happened, Input, IsFree, IsGood, IsPossible, IsSettled, IsSingle, IsSound, List, Log, MAX_RUN_EVENTS, Mailbox, Mark, Marked, Msg, Parts, Redeclare, Represent, Represents, Rests, Round, Rounding, Settle, Settling, Site, Some, Spooled, TakesRounds, U, World, [], after_mark, all_links, ap, arith, calls_of, each_of_round, event_left, false, few_marks, in_round, lawful_grows, left, length, links, local_of, lt-ltb, marks, next, no_events_quiet, none_left, none_to_hand, one_more, quiet, refl, round, round_next, setting_of, settled, still_none, subst, suc, sym, takes_part, true, with_event, ℕ, ◌++◌, ◌+◌, ◌<◌, ◌∙◌, ◌∷◌, ◌≡◌, ◌≢◌, ◌≤◌}
 use Rattle.sdd_world.proofs.Parting.{spooled_on}
 
 pub single : (g : Input) (e : Event) → IsPossible g e → IsSingle e
@@ -124,7 +124,7 @@ round_ends w g log e events r same = record {
 }
 
 -- a settle that is reached is carried out
-pub settle_ends : (w : World) (g : Input) → IsSettled w g Settle → (more : Log) × StandsFor w g more
+pub settle_ends : (w : World) (g : Input) → IsSettled w g Settle → (more : Log) × Represents w g more
 settle_ends w g s =
     let c = s.settling.calm in
     (s.more, record { calm = c; complete = settled g s.more s.settling.waiting (free g s.more c.rests) s.settling.left_is s.settling.ends s.is_quiet })
@@ -141,7 +141,7 @@ given_more w w2 g log e good c same pushed = record {
     txns_are = ap (λ v. v.txns) same ∙ c.parts.txns_are;
     given_is = pushed ∙ ap (λ xs. xs ++ e ∷ []) c.parts.given_is;
     history_is = ap (λ v. v.history) same ∙ c.parts.history_is;
-    sites = λ x here. subst (λ z. StandFor z x (setting_of g x) (local_of g x log)) (sym (ap (λ v. v.sites) same)) (c.parts.sites x here);
+    sites = λ x here. subst (λ z. Represent z x (setting_of g x) (local_of g x log)) (sym (ap (λ v. v.sites) same)) (c.parts.sites x here);
     net = subst (λ z. Carries z g.catalogue.tms g.catalogue.dms (calls_of log)) (sym (ap (λ v. v.net) same)) c.parts.net;
   };
   rests = rests_more g e log c.rests;
@@ -150,7 +150,7 @@ given_more w w2 g log e good c same pushed = record {
 }
 
 pub step_before : (w w2 : World) (g : Input) (log : Log) (e : Event) → IsGood (with_event g e)
-    → StandsFor w g log → IsPossible g e → w2 ≡ record w { given = w2.given } → w2.given.items ≡ w.given.items ++ e ∷ [] → Before w2 (with_event g e) log e
+    → Represents w g log → IsPossible g e → w2 ≡ record w { given = w2.given } → w2.given.items ≡ w.given.items ++ e ∷ [] → Before w2 (with_event g e) log e
 step_before w w2 g log e good s p same pushed = record {
   calm = given_more w w2 g log e good s.calm same pushed;
   next_is = (one_more g e log (single g e p) s.calm.rests.lawful s.complete).0;
@@ -158,9 +158,9 @@ step_before w w2 g log e good s p same pushed = record {
 }
 
 pub step_after : (w w2 : World) (g : Input) (log : Log) (e : Event)
-    → StandsFor w g log → IsPossible g e → Happened w2
+    → Represents w g log → IsPossible g e → Happened w2
     (with_event g e) log
-    → (more : Log) × StandsFor w2 (with_event g e) more
+    → (more : Log) × Represents w2 (with_event g e) more
 step_after w w2 g log e s p h = (
   h.more,
   record {
@@ -171,7 +171,7 @@ step_after w w2 g log e s p h = (
 )
 
 pub settle_begins : (w w2 : World) (g : Input) (log : Log) (e : Event) → TakesRounds e → IsGood (with_event g e)
-    → StandsFor w g log → w2 ≡ record w { given = w2.given } → w2.given.items ≡ w.given.items ++ e ∷ [] → Settling w2 (with_event g e) log e
+    → Represents w g log → w2 ≡ record w { given = w2.given } → w2.given.items ≡ w.given.items ++ e ∷ [] → Settling w2 (with_event g e) log e
 settle_begins w w2 g log e rounds good s same pushed =
     let l = event_left g e log s.calm.rests.lawful s.complete in
     record { calm = given_more w w2 g log e good s.calm same pushed; waiting = l.0; left_is = l.1; rounds = rounds; ends = l.2 }
@@ -209,7 +209,7 @@ marked_next w w2 g log e e2 b is left same =
         txns_are = ap (λ v. v.txns) same ∙ parts.txns_are;
         given_is = ap (λ v. v.given.items) same ∙ parts.given_is;
         history_is = ap (λ v. v.history) same ∙ parts.history_is;
-        sites = λ x here. subst (λ z. StandFor z x (setting_of g x) (local_of g x log)) (sym (ap (λ v. v.sites) same)) (parts.sites x here);
+        sites = λ x here. subst (λ z. Represent z x (setting_of g x) (local_of g x log)) (sym (ap (λ v. v.sites) same)) (parts.sites x here);
         net = subst (λ z. Carries z g.catalogue.tms g.catalogue.dms (calls_of log)) (sym (ap (λ v. v.net) same)) parts.net;
       };
       marked = record { rests = b.calm.rests; next_is = b.next_is ∙ ap (λ x. Some (Mark x)) is; few = omega (arith, f, left, m) };

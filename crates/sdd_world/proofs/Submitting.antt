@@ -1,5 +1,5 @@
 -- A transaction is given to its module, which does what is due, over plain worlds.
-use Rattle.sdd_world.proofs.All.{Act, All, AreDue, AreLinked, Bases, Carries, EndsBy, Era, Fits, Followed, Happened, Input, IsClassAt, IsLawful, IsPast, IsSiteOf, List, Log, Mailbox, Mark, Marked, MaySend, Msg, Outcome, Rec, Setting, Site, Sites, Some, Spooled, StandFor, Submission, Submit, Submits, T, Txn, TxnNo, U, World, [], acts_lawful, after_acts, all_facts, ap, append_assoc, arith, base_of, calls_acts, calls_of, class_for, ends_in_acts, false, fits_in_era, fits_submit, get_or, history, history_acts, home_in, home_of, left_acts, linked_acts, listed, local_of, log_after, map, mark_within, marks, marks_acts, next_in, next_of, nth_era, other_acts, other_local, own_acts, puts, puts_past, records_of, redeclared_is, redeclares, refl, same_is, same_site, sends_of, setting_of, slice_get, submits_and_acts, submitted, submitted_local, submitted_within, subst, suc, sym, true, txn_at, zero, ℕ, ◌++◌, ◌-◌, ◌∙◌, ◌∷◌, ◌≡◌, ◌≤◌}
+use Rattle.sdd_world.proofs.All.{Act, All, AreDue, AreLinked, Bases, Carries, EndsBy, Era, Fits, Followed, Happened, Input, IsClassAt, IsLawful, IsPast, IsSiteOf, List, Log, Mailbox, Mark, Marked, MaySend, Msg, Outcome, Rec, Represent, Setting, Site, Sites, Some, Spooled, Submission, Submit, Submits, T, Txn, TxnNo, U, World, [], acts_lawful, after_acts, all_facts, ap, append_assoc, arith, base_of, calls_acts, calls_of, class_for, ends_in_acts, false, fits_in_era, fits_submit, get_or, history, history_acts, home_in, home_of, left_acts, linked_acts, listed, local_of, log_after, map, mark_within, marks, marks_acts, next_in, next_of, nth_era, other_acts, other_local, own_acts, puts, puts_past, records_of, redeclared_is, redeclares, refl, same_is, same_site, sends_of, setting_of, slice_get, submits_and_acts, submitted, submitted_local, submitted_within, subst, suc, sym, true, txn_at, zero, ℕ, ◌++◌, ◌-◌, ◌∙◌, ◌∷◌, ◌≡◌, ◌≤◌}
 use Rattle.sdd_world.proofs.Handing.{are_linked, at_log, due_same, here_at}
 use Rattle.sdd_world.proofs.Marking.{happened}
 use Rattle.sdd_world.proofs.Parting.{events_before, later, redeclares_acts, spooled_acts, spooled_on}
@@ -48,8 +48,8 @@ module _ (w : World) (g : Input) (log : Log) (n : TxnNo) (m : Marked w g log (Su
     submit_fits = all_facts.submit g m.parts.good (Mark (Submit n) ∷ log) home n.0 txn lawful_here
         (mark_within log (Submit n) m.marked.few, m.marked.rests.within) refl is
 
-    submit_stands : StandFor w.sites home (setting_of g home) (local_of g home log)
-    submit_stands = m.parts.sites home home_here
+    submit_represents : Represent w.sites home (setting_of g home) (local_of g home log)
+    submit_represents = m.parts.sites home home_here
 
     -- the list in force at a transaction module is that of the world
     class_at : (at : Site) (class : ℕ) → class ≡ class_for (w.catalogue.now) txn → IsClassAt at (setting_of g at) (local_of g at log) class txn
@@ -57,11 +57,11 @@ module _ (w : World) (g : Input) (log : Log) (n : TxnNo) (m : Marked w g log (Su
     class_at _ class e = tt
 
     pub submit_asks : (at : Site) (class : ℕ) → at ≡ home → class ≡ class_for (w.catalogue.now) txn → (setting : Setting) × (bases : Bases) × (l : site.Log)
-        × StandFor w.sites at setting l × fits_submit at setting bases l n.0 txn × IsClassAt at setting l class txn
+        × Represent w.sites at setting l × fits_submit at setting bases l n.0 txn × IsClassAt at setting l class txn
     submit_asks at class e is =
-        subst (λ z. (setting : Setting) × (bases : Bases) × (l : site.Log) × StandFor w.sites z setting l
+        subst (λ z. (setting : Setting) × (bases : Bases) × (l : site.Log) × Represent w.sites z setting l
         × fits_submit z setting bases l n.0 txn × IsClassAt z setting l class txn) (sym e)
-        (setting_of g home, base_of g submitted_log, local_of g home log, submit_stands, submit_fits, class_at home class is)
+        (setting_of g home, base_of g submitted_log, local_of g home log, submit_represents, submit_fits, class_at home class is)
 
     -- what the module of the site did
     pub record Taken (s : Sites) (outcome : Outcome) : Type 0 where
@@ -69,17 +69,17 @@ module _ (w : World) (g : Input) (log : Log) (n : TxnNo) (m : Marked w g log (Su
       pub due : AreDue (next_in g home (base_of g submitted_log)) (Submits n.0 txn ∷ local_of g home log) acts
       pub records_are : outcome.recs ≡ Submission n ∷ records_of acts
       pub sends_are : outcome.out ≡ sends_of acts
-      pub after : StandFor s home (setting_of g home) (log_after acts (Submits n.0 txn ∷ local_of g home log))
+      pub after : Represent s home (setting_of g home) (log_after acts (Submits n.0 txn ∷ local_of g home log))
 
     abbrev pub SubmitLaw : Sites → Site → Outcome → Type 0
-    SubmitLaw s at outcome = (setting : Setting) (bases : Bases) (l : site.Log) → StandFor w.sites at setting l → fits_submit at setting bases l n.0 txn
+    SubmitLaw s at outcome = (setting : Setting) (bases : Bases) (l : site.Log) → Represent w.sites at setting l → fits_submit at setting bases l n.0 txn
         → (recs : List Rec) × (outcome.recs ≡ Submission n ∷ recs) × site.Does (next_of at setting bases)
-        (Submits n.0 txn ∷ l) recs outcome.out (StandFor s at setting)
+        (Submits n.0 txn ∷ l) recs outcome.out (Represent s at setting)
 
     pub taken : (s : Sites) (at : Site) (outcome : Outcome) → at ≡ home → SubmitLaw s at outcome → Taken s outcome
     taken s at outcome e law =
         let mine : SubmitLaw s home outcome = subst (λ z. SubmitLaw s z outcome) e law in
-        let d = mine (setting_of g home) (base_of g submitted_log) (local_of g home log) submit_stands submit_fits in
+        let d = mine (setting_of g home) (base_of g submitted_log) (local_of g home log) submit_represents submit_fits in
         record {
           acts = d.2.acts;
           due = due_same g home (base_of g submitted_log) (Submits n.0 txn ∷ local_of g home log) d.2.acts d.2.due;
@@ -115,21 +115,21 @@ module _ (w : World) (g : Input) (log : Log) (n : TxnNo) (m : Marked w g log (Su
         g.catalogue.dms (calls_of log) m.parts.net (linked_out s outcome t)) (submitted_within g n log m.marked) (acts_lawful_here s outcome t)
 
     done_sites : (s : Sites) (outcome : Outcome) → (t : Taken s outcome)
-        → ((x : Site) (setting : Setting) (l : site.Log) → same_site x home ≡ false → StandFor w.sites x setting l → StandFor s x setting l)
-        → (x : Site) → IsSiteOf g x → StandFor s x (setting_of g x) (local_of g x (after_acts home t.acts submitted_log))
+        → ((x : Site) (setting : Setting) (l : site.Log) → same_site x home ≡ false → Represent w.sites x setting l → Represent s x setting l)
+        → (x : Site) → IsSiteOf g x → Represent s x (setting_of g x) (local_of g x (after_acts home t.acts submitted_log))
     done_sites s outcome t others x here =
-        elim (same_site x home) as (λ c. same_site x home ≡ c → StandFor s x (setting_of g x) (local_of g x (after_acts home t.acts submitted_log))) [
-          | true ↦ λ p. here_at x home (same_is x home p) (λ z. StandFor s z (setting_of g z) (local_of g z (after_acts home t.acts submitted_log)))
-              (at_log (StandFor s home (setting_of g home))
+        elim (same_site x home) as (λ c. same_site x home ≡ c → Represent s x (setting_of g x) (local_of g x (after_acts home t.acts submitted_log))) [
+          | true ↦ λ p. here_at x home (same_is x home p) (λ z. Represent s z (setting_of g z) (local_of g z (after_acts home t.acts submitted_log)))
+              (at_log (Represent s home (setting_of g home))
               (local_of g home (after_acts home t.acts submitted_log)) (log_after t.acts (Submits n.0 txn ∷ local_of g home log))
               (own_acts g home t.acts submitted_log ∙ ap (λ l. log_after t.acts l) (submitted_local g n log m.marked txn is)) t.after)
-          | false ↦ λ p. at_log (StandFor s x (setting_of g x)) (local_of g x (after_acts home t.acts submitted_log)) (local_of g x log)
+          | false ↦ λ p. at_log (Represent s x (setting_of g x)) (local_of g x (after_acts home t.acts submitted_log)) (local_of g x log)
               (other_acts g x home t.acts submitted_log p ∙ other_local g x home n.0 (Mark (Submit n) ∷ log) p)
               (others x (setting_of g x) (local_of g x log) p (m.parts.sites x here))
         ] refl
 
     abbrev pub OthersLaw : Sites → Site → Type 0
-    OthersLaw s at = (x : Site) (setting : Setting) (l : site.Log) → same_site x at ≡ false → StandFor w.sites x setting l → StandFor s x setting l
+    OthersLaw s at = (x : Site) (setting : Setting) (l : site.Log) → same_site x at ≡ false → Represent w.sites x setting l → Represent s x setting l
 
     -- it is recorded and sent
     pub submit_done : (s : Sites) (w2 : World) (at : Site) (outcome : Outcome) → at ≡ home → Taken s outcome → OthersLaw s at
@@ -154,7 +154,7 @@ module _ (w : World) (g : Input) (log : Log) (n : TxnNo) (m : Marked w g log (Su
               ∙ ap (λ xs. xs ++ map (λ x. (suc (marks log), x)) (Submission n ∷ records_of t.acts)) m.parts.history_is
               ∙ sym (append_assoc (history log) ((suc (marks log), Submission n) ∷ []) (map (λ x. (suc (marks log), x)) (records_of t.acts)))
               ∙ sym (history_acts home t.acts submitted_log);
-          sites = λ x here. subst (λ z. StandFor z x (setting_of g x) (local_of g x (after_acts home t.acts submitted_log))) (sym f.sites)
+          sites = λ x here. subst (λ z. Represent z x (setting_of g x) (local_of g x (after_acts home t.acts submitted_log))) (sym f.sites)
               (done_sites s outcome t others x here);
           net = subst (λ c. Carries w2.net g.catalogue.tms g.catalogue.dms c) (sym calls) sent_all.1;
           spooled = subst (λ boxes. Spooled g (after_acts home t.acts submitted_log) boxes U) (sym f.spool)

@@ -1,5 +1,5 @@
 -- The clock of a transaction module goes on, over plain worlds.
-use Rattle.sdd_world.proofs.All.{Happened, Input, IsSiteOf, List, Log, Mailbox, Mark, Marked, Msg, Setting, Site, Sites, Spooled, StandFor, T, Tick, Ticked, TmNo, U, World, all_facts, false, fits_tick, handed_still, local_of, refl, rests_marked, same_here, same_is, same_site, setting_of, ticked_none, true, ℕ, ◌∷◌, ◌≡◌}
+use Rattle.sdd_world.proofs.All.{Happened, Input, IsSiteOf, List, Log, Mailbox, Mark, Marked, Msg, Represent, Setting, Site, Sites, Spooled, T, Tick, Ticked, TmNo, U, World, all_facts, false, fits_tick, handed_still, local_of, refl, rests_marked, same_here, same_is, same_site, setting_of, ticked_none, true, ℕ, ◌∷◌, ◌≡◌}
 use Rattle.sdd_world.proofs.Handing.{at_log, here_at}
 use Rattle.sdd_world.proofs.Marking.{happened}
 use Rattle.sdd_world.proofs.Parting.{spooled_on}
@@ -19,22 +19,22 @@ module _ (w : World) (g : Input) (log : Log) (t : TmNo) (n : ℕ) (m : Marked w 
   tick_fits : fits_tick (T t) (setting_of g (T t)) (local_of g (T t) log) n
   tick_fits = all_facts.tick g m.parts.good log t.0 n m.marked.rests.lawful m.marked.rests.within m.marked.next_is
 
-  pub tick_asks : (setting : Setting) × (l : site.Log) × StandFor w.sites (T t) setting l × fits_tick (T t) setting l n
+  pub tick_asks : (setting : Setting) × (l : site.Log) × Represent w.sites (T t) setting l × fits_tick (T t) setting l n
   tick_asks = (setting_of g (T t), local_of g (T t) log, m.parts.sites (T t) m.possible.0, tick_fits)
 
   abbrev pub TickLaw : Sites → Type 0
-  TickLaw s = (setting : Setting) (l : site.Log) → StandFor w.sites (T t) setting l → fits_tick (T t) setting l n → StandFor s (T t) setting (Ticked n ∷ l)
+  TickLaw s = (setting : Setting) (l : site.Log) → Represent w.sites (T t) setting l → fits_tick (T t) setting l n → Represent s (T t) setting (Ticked n ∷ l)
 
   abbrev pub OthersLaw : Sites → Type 0
-  OthersLaw s = (x : Site) (setting : Setting) (l : site.Log) → same_site x (T t) ≡ false → StandFor w.sites x setting l → StandFor s x setting l
+  OthersLaw s = (x : Site) (setting : Setting) (l : site.Log) → same_site x (T t) ≡ false → Represent w.sites x setting l → Represent s x setting l
 
-  ticked_sites : (s : Sites) → TickLaw s → OthersLaw s → (x : Site) → IsSiteOf g x → StandFor s x (setting_of g x) (local_of g x (Mark (Tick t n) ∷ log))
+  ticked_sites : (s : Sites) → TickLaw s → OthersLaw s → (x : Site) → IsSiteOf g x → Represent s x (setting_of g x) (local_of g x (Mark (Tick t n) ∷ log))
   ticked_sites s law others x here =
-      elim (same_site x (T t)) as (λ c. same_site x (T t) ≡ c → StandFor s x (setting_of g x) (local_of g x (Mark (Tick t n) ∷ log))) [
-        | true ↦ λ p. here_at x (T t) (same_is x (T t) p) (λ z. StandFor s z (setting_of g z) (local_of g z (Mark (Tick t n) ∷ log)))
-            (at_log (StandFor s (T t) (setting_of g (T t))) (local_of g (T t) (Mark (Tick t n) ∷ log)) (Ticked n ∷ local_of g (T t) log) (own_tick g t n log)
+      elim (same_site x (T t)) as (λ c. same_site x (T t) ≡ c → Represent s x (setting_of g x) (local_of g x (Mark (Tick t n) ∷ log))) [
+        | true ↦ λ p. here_at x (T t) (same_is x (T t) p) (λ z. Represent s z (setting_of g z) (local_of g z (Mark (Tick t n) ∷ log)))
+            (at_log (Represent s (T t) (setting_of g (T t))) (local_of g (T t) (Mark (Tick t n) ∷ log)) (Ticked n ∷ local_of g (T t) log) (own_tick g t n log)
             (law (setting_of g (T t)) (local_of g (T t) log) (m.parts.sites (T t) m.possible.0) tick_fits))
-        | false ↦ λ p. at_log (StandFor s x (setting_of g x)) (local_of g x (Mark (Tick t n) ∷ log)) (local_of g x log) (other_tick g x t n log p)
+        | false ↦ λ p. at_log (Represent s x (setting_of g x)) (local_of g x (Mark (Tick t n) ∷ log)) (local_of g x log) (other_tick g x t n log p)
             (others x (setting_of g x) (local_of g x log) p (m.parts.sites x here))
       ] refl
 

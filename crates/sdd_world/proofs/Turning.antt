@@ -1,5 +1,5 @@
 -- A data module goes down, and comes up: what was kept for it is then handed over.
-use Rattle.sdd_world.proofs.All.{AllHanded, Bool, Carries, Cut, D, DmNo, Down, Event, HandedOn, Handing, Happened, Input, IsBefore, IsBelow, IsFirst, IsLowest, IsNoTick, IsSender, IsSiteOf, KeepsFor, List, Log, Mailbox, Mark, Marked, Msg, Noted, Notes, OnlyAt, Parts, Remain, Rests, Risen, Rising, Site, Some, Spooled, StandFor, T, Takes, TakesFrom, U, Up, World, [], ahead_of, all_handed, and_from, ap, arith, calls_of, comes_up, cut_at_t, dm_no, eq-eqb, eqb-true, false, goes_down, if◌then◌else◌, is_down, is_down_already, is_site, isnt_down, kept_count, kept_from, le-leb, length, local_of, mailbox_at, nat_le, none_remains, not, not_false, number_of_t, refl, same_site, setting_of, sites, subst, suc, sym, tm_no, true, up_of as not_true, zero, ℕ, ◌&&◌, ◌++◌, ◌<◌, ◌==◌, ◌∙◌, ◌∷◌, ◌≡◌, ◌≢◌, ◌≤◌}
+use Rattle.sdd_world.proofs.All.{AllHanded, Bool, Carries, Cut, D, DmNo, Down, Event, HandedOn, Handing, Happened, Input, IsBefore, IsBelow, IsFirst, IsLowest, IsNoTick, IsSender, IsSiteOf, KeepsFor, List, Log, Mailbox, Mark, Marked, Msg, Noted, Notes, OnlyAt, Parts, Remain, Represent, Rests, Risen, Rising, Site, Some, Spooled, T, Takes, TakesFrom, U, Up, World, [], ahead_of, all_handed, and_from, ap, arith, calls_of, comes_up, cut_at_t, dm_no, eq-eqb, eqb-true, false, goes_down, if◌then◌else◌, is_down, is_down_already, is_site, isnt_down, kept_count, kept_from, le-leb, length, local_of, mailbox_at, nat_le, none_remains, not, not_false, number_of_t, refl, same_site, setting_of, sites, subst, suc, sym, tm_no, true, up_of as not_true, zero, ℕ, ◌&&◌, ◌++◌, ◌<◌, ◌==◌, ◌∙◌, ◌∷◌, ◌≡◌, ◌≢◌, ◌≤◌}
 use Rattle.sdd_world.proofs.Marking.{marked_noted, marked_plain}
 use Rattle.sdd_world.proofs.Keeping.{dm_within, same_dm as apart_of}
 use Rattle.sdd_world.proofs.Parting.{keeps_on as still_box}
@@ -219,7 +219,7 @@ rises w w1 g log d turned m t s e same =
           txns_are = ap (λ v. v.txns) same ∙ m.parts.txns_are;
           given_is = ap (λ v. v.given.items) same ∙ m.parts.given_is;
           history_is = ap (λ v. v.history) same ∙ m.parts.history_is;
-          sites = λ x here. subst (λ z. StandFor z x (setting_of g x) (local_of g x log)) (sym (ap (λ v. v.sites) same)) (m.parts.sites x here);
+          sites = λ x here. subst (λ z. Represent z x (setting_of g x) (local_of g x log)) (sym (ap (λ v. v.sites) same)) (m.parts.sites x here);
           net = subst (λ z. Carries z g.catalogue.tms g.catalogue.dms (calls_of log)) (sym (ap (λ v. v.net) same)) m.parts.net;
         };
         waits = comes_up g d log (kept_from (mailbox_at w1.spool d.0)) m.marked down
@@ -246,7 +246,7 @@ taken_out w w1 g log d from m h r t count only same = (
       txns_are = ap (λ v. v.txns) same ∙ h.parts.txns_are;
       given_is = ap (λ v. v.given.items) same ∙ h.parts.given_is;
       history_is = ap (λ v. v.history) same ∙ h.parts.history_is;
-      sites = λ x here. subst (λ z. StandFor z x (setting_of g x) (local_of g x log)) (sym (ap (λ v. v.sites) same)) (h.parts.sites x here);
+      sites = λ x here. subst (λ z. Represent z x (setting_of g x) (local_of g x log)) (sym (ap (λ v. v.sites) same)) (h.parts.sites x here);
       net = subst (λ z. Carries z g.catalogue.tms g.catalogue.dms (calls_of log)) (sym (ap (λ v. v.net) same)) h.parts.net;
     };
     waits = h.waits;

@@ -2,9 +2,9 @@
 use Rattle.std.specs.Prelude.{ℕ, ◌-◌, ◌≤◌, ◌≡◌, List, [], ◌∷◌, length, slice_get, Option, Some, None}
 use Rattle.sdd_obligations.specs.All.{Catalogue, D, Input, Kept, Redeclared, RelNo, Row, Setting, T, Txn, dm_no, nth_era, rows_of, tm_no}
 use Rattle.sdd_obligations.specs.protocol.declared.entry.Entry.{Entry}
-use Rattle.sdd_obligations.specs.dm.Stands as dm
+use Rattle.sdd_obligations.specs.dm.Represents as dm
 use Rattle.sdd_obligations.specs.dm.State as dm_state
-use Rattle.sdd_obligations.specs.tm.Stands as tm
+use Rattle.sdd_obligations.specs.tm.Represents as tm
 use Rattle.sdd_obligations.specs.tm.State as tm_state
 
 -- the module that is looked for is there, and has this
@@ -20,11 +20,11 @@ pub record AllBegin {V : Type 0} (P : ℕ → V → Type 0) (count : ℕ) (made 
 -- transaction module n of the whole catalogue, where these classes of it and their protocol table are in force
 abbrev pub BeginsT : Catalogue → Catalogue → List Entry → ℕ → Kept tm_state.State → Type 0
 BeginsT whole cat table n made = (s : Setting) → s.catalogue ≡ whole → s.site ≡ T (tm_no n)
-    → tm.Stands made s (Redeclared (record { catalogue = cat; table = table }) 0 ∷ [])
+    → tm.Represents made s (Redeclared (record { catalogue = cat; table = table }) 0 ∷ [])
 
 -- data module n, made of these rows
 abbrev pub BeginsD : Catalogue → List (RelNo × Row) → ℕ → Kept dm_state.State → Type 0
-BeginsD cat rows n made = dm.Stands made (record { catalogue = cat; site = D (dm_no n); rows = rows }) []
+BeginsD cat rows n made = dm.Represents made (record { catalogue = cat; site = D (dm_no n); rows = rows }) []
 
 -- What is given is of the whole catalogue and of these transactions, and has no events yet; the first list of classes in
 -- force is that of a catalogue with its table; and of these data modules each is the one of its number, made of the rows

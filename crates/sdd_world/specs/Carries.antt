@@ -1,7 +1,7 @@
 -- For which calls the mail stands: the network of spellings stands for them, each message spelled.
 use Rattle.std.specs.Prelude.{ℕ, ◌≡◌, IsTrue, List, [], ◌∷◌, map}
 use Rattle.std.specs.List.{AllByRecursion}
-use Rattle.sdd_obligations.specs.All.{Ack, Call, Delivered, Directions, Fits, Kept, Message, Messages, Msg, Packet, Puts, StandsFor, call_as, delivered_as, spelled}
+use Rattle.sdd_obligations.specs.All.{Ack, Call, Delivered, Directions, Fits, Kept, Message, Messages, Msg, Packet, Puts, Represents, call_as, delivered_as, spelled}
 
 -- what contracts see of a mail: whether it is live, and the network of spellings
 abbrev pub NetValue : Type 0
@@ -27,7 +27,7 @@ pub record Carries (net : Kept (Directions (List ℕ))) (tms dms : ℕ) (calls :
   pub live : IsTrue net.live
   pub tms_are : net.value.tms ≡ tms
   pub dms_are : net.value.dms ≡ dms
-  pub stands : StandsFor net (in_bytes calls)
+  pub represents : Represents net (in_bytes calls)
   pub fit : AllPut Fits calls
 
 -- bytes spell a message

@@ -6,7 +6,7 @@ pub mod Following
 pub mod Kinds
 pub mod Modules
 pub mod Schedules
-pub mod Standing
+pub mod Represents
 pub mod Standings
 pub mod Copies
 pub mod Pending

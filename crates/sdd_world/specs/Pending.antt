@@ -72,11 +72,11 @@ abbrev pub last_home : Input → Log → Homes
 last_home g log n = home_of (nth_era g (redeclares log)).catalogue (txn_at g n)
 
 -- how transaction n stands at a site
-abbrev pub stands_at : Telling → Input → Log → Site → ℕ → Standing
-stands_at tell g log at n = tell at (setting_of g at) (local_of g at log) n
+abbrev pub status_at : Telling → Input → Log → Site → ℕ → Standing
+status_at tell g log at n = tell at (setting_of g at) (local_of g at log) n
 
 abbrev pub reason_of : Telling → Homes → Input → Log → ℕ → Option Why
-reason_of tell homes g log n = why_of g log (stands_at tell g log (homes n) n)
+reason_of tell homes g log n = why_of g log (status_at tell g log (homes n) n)
 
 abbrev pub pending_as : TxnNo → Option Why → Option Pending
 pending_as n why = option_map (λ w. record { txn = n; why = w }) why

@@ -2,7 +2,7 @@
 use Rattle.std.specs.Prelude.{Bool, true, false, ◌≡◌, List, [], ◌∷◌}
 use Rattle.sdd_obligations.specs.All.{Event, Input, IsGood, IsPossible, Redeclare, Settle, with_event}
 use Rattle.sdd_world.specs.declared.schedule.ClassList.{ClassList}
-use Rattle.sdd_world.specs.Standing.{IsNextList}
+use Rattle.sdd_world.specs.Represents.{IsNextList}
 
 -- an event that is reached by rounds
 abbrev pub takes_rounds : Event → Bool

@@ -2,7 +2,7 @@
 ghost use Rattle.std.specs.Prelude.{◌≡◌, ◌++◌, ◌∷◌, [], filter_map, IfOk, OnOk};
 ghost use Rattle.sdd_obligations.specs.All.{History, Input, Log};
 ghost use Rattle.sdd_world.specs.Pending.{AreCommitted, last_home, pending_as, pending_at, pending_by, reason_of};
-ghost use Rattle.sdd_world.specs.Standing.{StandsFor};
+ghost use Rattle.sdd_world.specs.Represents.{Represents};
 ghost use Rattle.sdd_world.specs.Standings.{standing_of};
 
 use crate::commits::committed;
@@ -16,8 +16,8 @@ use std::collections::BTreeSet;
 impl World<'_> {
     /// The transaction, where its site has it, and why it is pending.
     fn pending_one(&self, alloc: Global, number: TxnNo) -> Result<Option<Pending>, NoMemory>
-        requires { (g : Input) × (log : Log) × StandsFor self.now g log }
-        ensures { IfOk result (λ one. (g : Input) (log : Log) → StandsFor self.now g log
+        requires { (g : Input) × (log : Log) × Represents self.now g log }
+        ensures { IfOk result (λ one. (g : Input) (log : Log) → Represents self.now g log
             → one ≡ pending_as number (reason_of standing_of (last_home g log) g log number.0)) }
     {
         match self.why(alloc, number)? {
@@ -33,9 +33,9 @@ impl World<'_> {
         entry: &(u32, Rec),
         committed: &BTreeSet<u32>,
     ) -> Result<Option<Pending>, NoMemory>
-        requires { (g : Input) × (log : Log) × StandsFor self.now g log }
+        requires { (g : Input) × (log : Log) × Represents self.now g log }
         ensures { IfOk result (λ one. (g : Input) (log : Log) (all : History)
-            → StandsFor self.now g log → AreCommitted committed.now all
+            → Represents self.now g log → AreCommitted committed.now all
             → one ≡ pending_by standing_of (last_home g log) g log all entry.now) }
     {
         let Rec::Submit(number) = &entry.1 else {
@@ -55,9 +55,9 @@ impl World<'_> {
         committed: &BTreeSet<u32>,
         found: &mut Vec<Pending>,
     ) -> Result<(), NoMemory>
-        requires { (g : Input) × (log : Log) × StandsFor self.now g log }
+        requires { (g : Input) × (log : Log) × Represents self.now g log }
         ensures { OnOk result ((g : Input) (log : Log) (all : History)
-            → StandsFor self.now g log → AreCommitted committed.now all
+            → Represents self.now g log → AreCommitted committed.now all
             → found.new.items ≡ found.old.items
             ++ filter_map (pending_by standing_of (last_home g log) g log all) (entry.now ∷ [])) }
     {
@@ -78,8 +78,8 @@ impl World<'_> {
     ///
     /// Only where memory runs out.
     pub fn pending(&self, alloc: Global) -> Result<Vec<Pending>, NoMemory>
-        requires { (g : Input) × (log : Log) × StandsFor self.now g log }
-        ensures { IfOk result (λ found. (g : Input) (log : Log) → StandsFor self.now g log
+        requires { (g : Input) × (log : Log) × Represents self.now g log }
+        ensures { IfOk result (λ found. (g : Input) (log : Log) → Represents self.now g log
             → found.items ≡ pending_at standing_of (last_home g log) g log) }
     {
         let history = self.history().as_slice();

@@ -1,11 +1,11 @@
 ghost use Rattle.std.specs.Prelude.{◌≡◌, ◌≤◌, [], ℕ, List, length, true, IfOk, IsTrue};
 ghost use Rattle.std.specs.Option.{option_copied};
-ghost use Rattle.sdd_obligations.specs.All.{Call, D, Input, IsAwaited, IsEraOf, IsGood, IsLinkOf, IsSiteOf, Log, Msg, Site, StandFor, T, U, all_links, calls_of, dated, handed, has_copy, history, is_down, is_here, local_of, marks, nth_era, number_of, quiet, redeclares, setting_of};
+ghost use Rattle.sdd_obligations.specs.All.{Call, D, Input, IsAwaited, IsEraOf, IsGood, IsLinkOf, IsSiteOf, Log, Msg, Represent, Site, T, U, all_links, calls_of, dated, handed, has_copy, history, is_down, is_here, local_of, marks, nth_era, number_of, quiet, redeclares, setting_of};
 ghost use Rattle.sdd_world.specs.Beginnings.{IsBegun};
 ghost use Rattle.sdd_world.specs.Carries.{Carries};
-ghost use Rattle.sdd_world.specs.Modules.{AllStandFor, LivesD, LivesT, LivesU};
+ghost use Rattle.sdd_world.specs.Modules.{AllRepresent, LivesD, LivesT, LivesU};
 ghost use Rattle.sdd_world.specs.Standings.{standing_of};
-ghost use Rattle.sdd_world.specs.Standing.{Calm, IsSound, StandsFor};
+ghost use Rattle.sdd_world.specs.Represents.{Calm, IsSound, Represents};
 
 use crate::mail::Mail;
 use crate::making::txn_modules;
@@ -46,7 +46,7 @@ impl<'a> World<'a> {
     ) -> Result<World<'a>, NoMemory>
         requires { IsEraOf whole.now catalogue.now }
         ensures { IfOk result (λ world. (g : Input) → IsGood g → IsSound g
-            → IsBegun g whole.now catalogue.now table.now txns modules.items → StandsFor world g []) }
+            → IsBegun g whole.now catalogue.now table.now txns modules.items → Represents world g []) }
     {
         whole.known();
         let u = UModule::new(alloc, whole)?;
@@ -101,7 +101,7 @@ impl<'a> World<'a> {
 
     /// The module of U, lent. Takes no memory.
     pub fn u_module(&self) -> &UModule<'a>
-        ensures { (g : Input) (log : Log) → StandsFor self.now g log
+        ensures { (g : Input) (log : Log) → Represents self.now g log
             → LivesU result.now (setting_of g U) (local_of g U log) }
     {
         &self.sites.u
@@ -109,8 +109,8 @@ impl<'a> World<'a> {
 
     /// A transaction module, lent. Takes no memory.
     pub fn txn_module(&self, tm: TmNo) -> &TxnModule<'a>
-        requires { (g : Input) × (log : Log) × IsSiteOf g (T tm) × StandsFor self.now g log }
-        ensures { (g : Input) (log : Log) → IsSiteOf g (T tm) → StandsFor self.now g log
+        requires { (g : Input) × (log : Log) × IsSiteOf g (T tm) × Represents self.now g log }
+        ensures { (g : Input) (log : Log) → IsSiteOf g (T tm) → Represents self.now g log
             → LivesT result.now (setting_of g (T tm)) (local_of g (T tm) log) }
     {
         self.sites.txn_module(tm)
@@ -118,8 +118,8 @@ impl<'a> World<'a> {
 
     /// A data module, lent. Takes no memory.
     pub fn data_module(&self, dm: DmNo) -> &DataModule
-        requires { (g : Input) × (log : Log) × IsSiteOf g (D dm) × StandsFor self.now g log }
-        ensures { (g : Input) (log : Log) → IsSiteOf g (D dm) → StandsFor self.now g log
+        requires { (g : Input) × (log : Log) × IsSiteOf g (D dm) × Represents self.now g log }
+        ensures { (g : Input) (log : Log) → IsSiteOf g (D dm) → Represents self.now g log
             → LivesD result.now (setting_of g (D dm)) (local_of g (D dm) log) }
     {
         self.sites.data_module(dm)
@@ -127,7 +127,7 @@ impl<'a> World<'a> {
 
     /// The modules of all sites, lent. Takes no memory.
     pub fn sites(&self) -> &Sites<'a>
-        ensures { (g : Input) (log : Log) → Calm self.now g log → AllStandFor result.now g log }
+        ensures { (g : Input) (log : Log) → Calm self.now g log → AllRepresent result.now g log }
     {
         &self.sites
     }
@@ -166,8 +166,8 @@ impl<'a> World<'a> {
 
     /// The net of spellings, lent. Takes no memory.
     pub fn net(&self) -> &Net<Spelling>
-        requires { (g : Input) × (log : Log) × StandsFor self.now g log }
-        ensures { (g : Input) (log : Log) → StandsFor self.now g log
+        requires { (g : Input) × (log : Log) × Represents self.now g log }
+        ensures { (g : Input) (log : Log) → Represents self.now g log
             → Carries result.now g.catalogue.tms g.catalogue.dms (calls_of log) }
     {
         self.net.net()
@@ -192,7 +192,7 @@ impl<'a> World<'a> {
 
     /// The events that were given. Takes no memory.
     pub fn given(&self) -> &[Event]
-        ensures { (g : Input) (log : Log) → StandsFor self.now g log → result.now ≡ g.events }
+        ensures { (g : Input) (log : Log) → Represents self.now g log → result.now ≡ g.events }
     {
         self.given.as_slice()
     }
@@ -200,9 +200,9 @@ impl<'a> World<'a> {
     /// How a site has a transaction. Takes no memory.
     pub fn standing(&self, at: Site, number: TxnNo) -> Standing
         requires { (g : Input) × (log : Log) × IsSiteOf g at
-            × StandsFor self.now g log }
+            × Represents self.now g log }
         ensures { (g : Input) (log : Log) → IsSiteOf g at
-            → StandsFor self.now g log
+            → Represents self.now g log
             → result ≡ standing_of at (setting_of g at) (local_of g at log) number.0 }
     {
         self.sites.standing(at, number)
@@ -212,16 +212,16 @@ impl<'a> World<'a> {
     /// Takes no memory.
     pub fn copies(&self, dm: DmNo) -> &Copies
         requires { (g : Input) × (log : Log) × IsSiteOf g (D dm)
-            × StandsFor self.now g log }
+            × Represents self.now g log }
         ensures live { (g : Input) (log : Log) → IsSiteOf g (D dm)
-            → StandsFor self.now g log
+            → Represents self.now g log
             → IsTrue result.now.live }
-        ensures stand { (g : Input) (log : Log) → IsSiteOf g (D dm)
-            → StandsFor self.now g log
-            → StandFor result.now.value
+        ensures represent { (g : Input) (log : Log) → IsSiteOf g (D dm)
+            → Represents self.now g log
+            → Represent result.now.value
             (dated (setting_of g (D dm)) (local_of g (D dm) log)) }
         ensures here { (g : Input) (log : Log) → IsSiteOf g (D dm)
-            → StandsFor self.now g log
+            → Represents self.now g log
             → (f : ℕ) → has_copy g.catalogue (number_of (D dm)) f ≡ true
             → is_here result.now.value f ≡ true }
     {
@@ -232,9 +232,9 @@ impl<'a> World<'a> {
     /// condition whose class hasn't passed its time. Takes no memory.
     pub fn waits(&self, dm: DmNo, class: ClassNo, ts: Ts) -> Option<&Cond>
         requires { (g : Input) × (log : Log) × IsSiteOf g (D dm)
-            × StandsFor self.now g log }
+            × Represents self.now g log }
         ensures { (g : Input) (log : Log) → IsSiteOf g (D dm)
-            → StandsFor self.now g log
+            → Represents self.now g log
             → class.0 ≤ length g.catalogue.classes
             → IsAwaited (setting_of g (D dm)) (local_of g (D dm) log) class.0 ts.0
             (option_copied result) }

@@ -1,7 +1,7 @@
 //! Another list of classes is put in force in a world, once its links are quiet.
 ghost use Rattle.std.specs.Prelude.{◌≡◌, IfOk, IsErrOf};
 ghost use Rattle.sdd_obligations.specs.All.{Input, IsGood, Log, Redeclare, with_event};
-ghost use Rattle.sdd_world.specs.Standing.{EndsBy, IsNextList, Redeclaring, StandsFor};
+ghost use Rattle.sdd_world.specs.Represents.{EndsBy, IsNextList, Redeclaring, Represents};
 
 use crate::ends::WorldEnd;
 use crate::world::World;
@@ -21,7 +21,7 @@ impl<'a> World<'a> {
             (record { catalogue = catalogue.now; table = table.now }) }
         ensures ok { IfOk result (λ _. (g : Input) (log : Log) → Redeclaring self.old g log
             (record { catalogue = catalogue.now; table = table.now })
-            → (more : Log) × StandsFor self.new g more) }
+            → (more : Log) × Represents self.new g more) }
         ensures limit { IsErrOf result WorldEnd.Limit → (g : Input) (log : Log)
             → Redeclaring self.old g log (record { catalogue = catalogue.now; table = table.now })
             → EndsBy g }
@@ -48,13 +48,13 @@ impl<'a> World<'a> {
         catalogue: &'a Catalogue,
         table: &'a Table,
     ) -> Result<World<'a>, WorldEnd>
-        requires { (g : Input) × (log : Log) × StandsFor self g log
+        requires { (g : Input) × (log : Log) × Represents self g log
             × IsGood (with_event g Redeclare) × IsNextList g catalogue.now table.now }
-        ensures log { IfOk result (λ world. (g : Input) (log : Log) → StandsFor self.entry g log
+        ensures log { IfOk result (λ world. (g : Input) (log : Log) → Represents self.entry g log
             → IsGood (with_event g Redeclare) → IsNextList g catalogue.now table.now
-            → (more : Log) × StandsFor world (with_event g Redeclare) more) }
+            → (more : Log) × Represents world (with_event g Redeclare) more) }
         ensures limit { IsErrOf result WorldEnd.Limit → (g : Input) (log : Log)
-            → StandsFor self.entry g log → IsGood (with_event g Redeclare)
+            → Represents self.entry g log → IsGood (with_event g Redeclare)
             → IsNextList g catalogue.now table.now → EndsBy (with_event g Redeclare) }
     {
         self.given.push(Event::Redeclare)?;

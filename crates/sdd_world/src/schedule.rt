@@ -1,6 +1,6 @@
 ghost use Rattle.std.specs.Prelude.{◌≡◌, IfOk, IsErrOf};
 ghost use Rattle.sdd_obligations.specs.All.{Input, Log, Redeclare, with_event};
-ghost use Rattle.sdd_world.specs.Standing.{EndsBy, StandsFor};
+ghost use Rattle.sdd_world.specs.Represents.{EndsBy, Represents};
 ghost use Rattle.sdd_world.specs.Schedules.{AreAllowed, IsAllowed, lists_after, with_events};
 
 use crate::ends::WorldEnd;
@@ -22,13 +22,13 @@ fn redeclare_first<'a>(
     world: World<'a>,
     lists: &mut VecDeque<ClassList<'a>>,
 ) -> Result<World<'a>, WorldEnd>
-    requires { (g : Input) × (log : Log) × StandsFor world g log
+    requires { (g : Input) × (log : Log) × Represents world g log
         × IsAllowed g Redeclare lists.old.items }
-    ensures log { IfOk result (λ next. (g : Input) (log : Log) → StandsFor world.entry g log
+    ensures log { IfOk result (λ next. (g : Input) (log : Log) → Represents world.entry g log
         → IsAllowed g Redeclare lists.old.items
-        → (more : Log) × StandsFor next (with_event g Redeclare) more) }
+        → (more : Log) × Represents next (with_event g Redeclare) more) }
     ensures limit { IsErrOf result WorldEnd.Limit → (g : Input) (log : Log)
-        → StandsFor world.entry g log → IsAllowed g Redeclare lists.old.items
+        → Represents world.entry g log → IsAllowed g Redeclare lists.old.items
         → EndsBy (with_event g Redeclare) }
     ensures others { lists.new.items ≡ lists_after Redeclare lists.old.items }
 {
@@ -44,13 +44,13 @@ fn carry_out_one<'a>(
     event: &Event,
     lists: &mut VecDeque<ClassList<'a>>,
 ) -> Result<World<'a>, WorldEnd>
-    requires { (g : Input) × (log : Log) × StandsFor world g log
+    requires { (g : Input) × (log : Log) × Represents world g log
         × IsAllowed g event.now lists.old.items }
-    ensures log { IfOk result (λ next. (g : Input) (log : Log) → StandsFor world.entry g log
+    ensures log { IfOk result (λ next. (g : Input) (log : Log) → Represents world.entry g log
         → IsAllowed g event.now lists.old.items
-        → (more : Log) × StandsFor next (with_event g event.now) more) }
+        → (more : Log) × Represents next (with_event g event.now) more) }
     ensures limit { IsErrOf result WorldEnd.Limit → (g : Input) (log : Log)
-        → StandsFor world.entry g log → IsAllowed g event.now lists.old.items
+        → Represents world.entry g log → IsAllowed g event.now lists.old.items
         → EndsBy (with_event g event.now) }
     ensures others { lists.new.items ≡ lists_after event.now lists.old.items }
 {
@@ -75,13 +75,13 @@ pub fn carry_out<'a>(
     events: Vec<Event>,
     lists: Vec<ClassList<'a>>,
 ) -> Result<World<'a>, WorldEnd>
-    requires { (g : Input) × (log : Log) × StandsFor world g log
+    requires { (g : Input) × (log : Log) × Represents world g log
         × AreAllowed g events.items lists.items }
-    ensures log { IfOk result (λ last. (g : Input) (log : Log) → StandsFor world.entry g log
+    ensures log { IfOk result (λ last. (g : Input) (log : Log) → Represents world.entry g log
         → AreAllowed g events.items lists.entry.items
-        → (more : Log) × StandsFor last (with_events g events.items) more) }
+        → (more : Log) × Represents last (with_events g events.items) more) }
     ensures limit { IsErrOf result WorldEnd.Limit → (g : Input) (log : Log)
-        → StandsFor world.entry g log → AreAllowed g events.items lists.entry.items
+        → Represents world.entry g log → AreAllowed g events.items lists.entry.items
         → EndsBy (with_events g events.items) }
 {
     let mut now = world;

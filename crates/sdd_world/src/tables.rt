@@ -1,9 +1,9 @@
 //! The copies of data modules.
 ghost use Rattle.std.specs.Prelude.{◌≡◌, ◌≤◌, ◌++◌, ◌∷◌, [], ℕ, map, filter, length, true, IfOk, IsTrue, OnOk};
-ghost use Rattle.sdd_obligations.specs.All.{D, Input, IsSiteOf, Log, StandFor, contents, has_copy, is_here};
+ghost use Rattle.sdd_obligations.specs.All.{D, Input, IsSiteOf, Log, Represent, contents, has_copy, is_here};
 ghost use Rattle.sdd_obligations.specs.copy.Contents.{Dated};
 ghost use Rattle.sdd_world.specs.Copies.{table_of, tables_in, tables_at, tables_of};
-ghost use Rattle.sdd_world.specs.Standing.{StandsFor};
+ghost use Rattle.sdd_world.specs.Represents.{Represents};
 
 use crate::world::World;
 use sdd_obligations::sdd_base::{DmNo, FragNo, Listed, NoMemory, RowList};
@@ -16,7 +16,7 @@ use std::alloc::Global;
 fn rows_at(copies: &Copies, frag: FragNo) -> Result<RowList, NoMemory>
     requires live { IsTrue copies.now.live }
     requires here { is_here copies.now.value frag.0 ≡ true }
-    ensures { IfOk result (λ rows. (xs : Dated) → StandFor copies.now.value xs
+    ensures { IfOk result (λ rows. (xs : Dated) → Represent copies.now.value xs
         → rows ≡ map (λ e. e.1) (contents frag.0 xs)) }
 {
     match copies.at(frag) {
@@ -37,7 +37,7 @@ fn add_copy(
     requires to { frag.0 ≤ length catalogue.now.fragments }
     requires live { IsTrue copies.now.live }
     requires here { has_copy catalogue.now dm.0 frag.0 ≡ true → is_here copies.now.value frag.0 ≡ true }
-    ensures { OnOk result ((xs : Dated) → StandFor copies.now.value xs
+    ensures { OnOk result ((xs : Dated) → Represent copies.now.value xs
         → tables.new.items
         ≡ tables.old.items
         ++ map (table_of dm.0 xs) (filter (has_copy catalogue.now dm.0) (frag.0 ∷ []))) }
@@ -59,7 +59,7 @@ fn add_copies(
 ) -> Result<(), NoMemory>
     requires live { IsTrue copies.now.live }
     requires here { (f : ℕ) → has_copy catalogue.now dm.0 f ≡ true → is_here copies.now.value f ≡ true }
-    ensures { OnOk result ((xs : Dated) → StandFor copies.now.value xs
+    ensures { OnOk result ((xs : Dated) → Represent copies.now.value xs
         → tables.new.items ≡ tables.old.items ++ tables_in catalogue.now dm.0 xs) }
 {
     catalogue.known();
@@ -72,8 +72,8 @@ fn add_copies(
 impl World<'_> {
     /// Adds the copies of a data module.
     fn add_tables(&self, dm: DmNo, tables: &mut Vec<CopyTable>) -> Result<(), NoMemory>
-        requires { (g : Input) × (log : Log) × IsSiteOf g (D dm) × StandsFor self.now g log }
-        ensures { OnOk result ((g : Input) (log : Log) → IsSiteOf g (D dm) → StandsFor self.now g log
+        requires { (g : Input) × (log : Log) × IsSiteOf g (D dm) × Represents self.now g log }
+        ensures { OnOk result ((g : Input) (log : Log) → IsSiteOf g (D dm) → Represents self.now g log
             → tables.new.items ≡ tables.old.items ++ tables_at g log dm.0) }
     {
         let copies = self.copies(dm);
@@ -87,8 +87,8 @@ impl World<'_> {
     ///
     /// Only where memory runs out.
     pub fn tables(&self, alloc: Global) -> Result<Vec<CopyTable>, NoMemory>
-        requires { (g : Input) × (log : Log) × StandsFor self.now g log }
-        ensures { IfOk result (λ tables. (g : Input) (log : Log) → StandsFor self.now g log
+        requires { (g : Input) × (log : Log) × Represents self.now g log }
+        ensures { IfOk result (λ tables. (g : Input) (log : Log) → Represents self.now g log
             → tables.items ≡ tables_of g log) }
     {
         self.whole.known();

@@ -1,7 +1,7 @@
 //! The events of a settle or a redeclare, carried out one by one.
 ghost use Rattle.std.specs.Prelude.{◌≡◌, ◌∷◌, List, suc, true, false, IfOk, IsErrOf, MatchOption};
 ghost use Rattle.sdd_obligations.specs.All.{Event as Happening, Input, IsGood, Log, Redeclare, Round, TakesRounds, all_links, calls_of, quiet, with_event};
-ghost use Rattle.sdd_world.specs.Standing.{EndsBy, IsNextList, IsSettled, Rounding, Settling, StandsFor, events_of};
+ghost use Rattle.sdd_world.specs.Represents.{EndsBy, IsNextList, IsSettled, Represents, Rounding, Settling, events_of};
 
 use crate::ends::WorldEnd;
 use crate::world::World;
@@ -17,9 +17,9 @@ impl<'a> World<'a> {
     ///
     /// Only where memory runs out; the world is gone then.
     pub fn begin_rounds(mut self, event: Event) -> Result<Self, NoMemory>
-        requires { (g : Input) × (log : Log) × StandsFor self g log × TakesRounds event
+        requires { (g : Input) × (log : Log) × Represents self g log × TakesRounds event
             × IsGood (with_event g event) }
-        ensures { IfOk result (λ world. (g : Input) (log : Log) → StandsFor self.entry g log
+        ensures { IfOk result (λ world. (g : Input) (log : Log) → Represents self.entry g log
             → TakesRounds event → IsGood (with_event g event)
             → Settling world (with_event g event) log event) }
     {
@@ -78,7 +78,7 @@ impl<'a> World<'a> {
             × IsSettled self (with_event g Redeclare) Redeclare }
         ensures log { IfOk result (λ world. (g : Input) → IsNextList g catalogue.now table.now
             → IsSettled self.entry (with_event g Redeclare) Redeclare
-            → (more : Log) × StandsFor world (with_event g Redeclare) more) }
+            → (more : Log) × Represents world (with_event g Redeclare) more) }
         ensures limit { IsErrOf result WorldEnd.Limit → (g : Input)
             → IsNextList g catalogue.now table.now
             → IsSettled self.entry (with_event g Redeclare) Redeclare

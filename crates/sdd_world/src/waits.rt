@@ -2,7 +2,7 @@
 ghost use Rattle.std.specs.Prelude.{◌≡◌, ◌≤◌, ◌++◌, ◌∷◌, [], ℕ, filter_map, length, IfOk, OnOk};
 ghost use Rattle.sdd_obligations.specs.All.{D, Input, IsSiteOf, Log};
 ghost use Rattle.sdd_world.specs.Pending.{last_home, reason_of, wait_at, waits_of, why_of};
-ghost use Rattle.sdd_world.specs.Standing.{StandsFor};
+ghost use Rattle.sdd_world.specs.Represents.{Represents};
 ghost use Rattle.sdd_world.specs.Standings.{standing_of};
 
 use crate::homes::home;
@@ -21,8 +21,8 @@ impl World<'_> {
         ts: Ts,
         found: &mut Vec<Waiting>,
     ) -> Result<(), NoMemory>
-        requires { (g : Input) × (log : Log) × IsSiteOf g (D dm) × StandsFor self.now g log }
-        ensures { OnOk result ((g : Input) (log : Log) → IsSiteOf g (D dm) → StandsFor self.now g log
+        requires { (g : Input) × (log : Log) × IsSiteOf g (D dm) × Represents self.now g log }
+        ensures { OnOk result ((g : Input) (log : Log) → IsSiteOf g (D dm) → Represents self.now g log
             → class.0 ≤ length g.catalogue.classes → found.new.items
             ≡ found.old.items ++ filter_map (wait_at g log class.0 ts.0) (dm.0 ∷ [])) }
     {
@@ -39,8 +39,8 @@ impl World<'_> {
 
     /// Where a READ waits, ascending by module, and for what.
     fn all_waits(&self, alloc: Global, class: ClassNo, ts: Ts) -> Result<Vec<Waiting>, NoMemory>
-        requires { (g : Input) × (log : Log) × StandsFor self.now g log }
-        ensures { IfOk result (λ found. (g : Input) (log : Log) → StandsFor self.now g log
+        requires { (g : Input) × (log : Log) × Represents self.now g log }
+        ensures { IfOk result (λ found. (g : Input) (log : Log) → Represents self.now g log
             → found.items ≡ waits_of g log class.0 ts.0) }
     {
         self.whole.known();
@@ -56,8 +56,8 @@ impl World<'_> {
 
     /// Why a transaction is pending that stands so.
     fn why_so(&self, alloc: Global, standing: Standing) -> Result<Option<Why>, NoMemory>
-        requires { (g : Input) × (log : Log) × StandsFor self.now g log }
-        ensures { IfOk result (λ why. (g : Input) (log : Log) → StandsFor self.now g log
+        requires { (g : Input) × (log : Log) × Represents self.now g log }
+        ensures { IfOk result (λ why. (g : Input) (log : Log) → Represents self.now g log
             → why ≡ why_of g log standing) }
     {
         match standing {
@@ -73,8 +73,8 @@ impl World<'_> {
 
     /// The site of a transaction's class, by its number and by the list of classes in force.
     fn last_home(&self, number: TxnNo) -> Site
-        requires { (g : Input) × (log : Log) × StandsFor self.now g log }
-        ensures { (g : Input) (log : Log) → StandsFor self.now g log → result ≡ last_home g log number.0 }
+        requires { (g : Input) × (log : Log) × Represents self.now g log }
+        ensures { (g : Input) (log : Log) → Represents self.now g log → result ≡ last_home g log number.0 }
     {
         let place = number.0.saturating_sub(1);
         match self.transactions().get(place as usize) {
@@ -86,8 +86,8 @@ impl World<'_> {
     /// Why a transaction is pending, or None where the site of its class, by the list in force,
     /// doesn't have it.
     pub(crate) fn why(&self, alloc: Global, number: TxnNo) -> Result<Option<Why>, NoMemory>
-        requires { (g : Input) × (log : Log) × StandsFor self.now g log }
-        ensures { IfOk result (λ why. (g : Input) (log : Log) → StandsFor self.now g log
+        requires { (g : Input) × (log : Log) × Represents self.now g log }
+        ensures { IfOk result (λ why. (g : Input) (log : Log) → Represents self.now g log
             → why ≡ reason_of standing_of (last_home g log) g log number.0) }
     {
         let at = self.last_home(number);

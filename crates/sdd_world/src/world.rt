@@ -2,7 +2,7 @@ ghost use Rattle.std.specs.Prelude.{◌≡◌, ◌<◌, ◌≤◌, All, ◌++◌
 ghost use Rattle.sdd_obligations.specs.All.{D, Deliver, Down, Event, Input, IsFirst, IsGood, IsLinkOf, IsPossible, IsSiteOf, Log, Lose, Msg, Repeat, Resend, Settle, Site, Submit, Takes, Tick, U, Up, all_links, calls_of, from_one, history, is_down, kept_from, mailbox_at, quiet, takes_part, with_event};
 ghost use Rattle.sdd_world.specs.declared.world.World.{World};
 ghost use Rattle.sdd_world.specs.Following.{MaySend, Followed, IsPast};
-ghost use Rattle.sdd_world.specs.Standing.{ahead_of, Arrives, Before, EndsBy, HandedOn, Handing, Happened, IsSettled, Keeping, Marked, Rising, Risen, Settles, Settling, Spooled, StandsFor};
+ghost use Rattle.sdd_world.specs.Represents.{ahead_of, Arrives, Before, EndsBy, HandedOn, Handing, Happened, IsSettled, Keeping, Marked, Rising, Risen, Settles, Settling, Spooled, Represents};
 
 use crate::ends::WorldEnd;
 use crate::homes::home_in;
@@ -317,13 +317,13 @@ impl<'a> World<'a> {
     /// Where an event, or a message of a link, would pass the limit, and where memory runs out;
     /// the world is gone then.
     pub fn step(mut self, event: &Event) -> Result<Self, WorldEnd>
-        requires { (g : Input) × (log : Log) × StandsFor self g log × IsPossible g event.now
+        requires { (g : Input) × (log : Log) × Represents self g log × IsPossible g event.now
             × IsGood (with_event g event.now) }
-        ensures log { IfOk result (λ world. (g : Input) (log : Log) → StandsFor self.entry g log
+        ensures log { IfOk result (λ world. (g : Input) (log : Log) → Represents self.entry g log
             → IsPossible g event.now → IsGood (with_event g event.now)
-            → (more : Log) × StandsFor world (with_event g event.now) more) }
+            → (more : Log) × Represents world (with_event g event.now) more) }
         ensures limit { IsErrOf result WorldEnd.Limit → (g : Input) (log : Log)
-            → StandsFor self.entry g log → IsPossible g event.now → IsGood (with_event g event.now)
+            → Represents self.entry g log → IsPossible g event.now → IsGood (with_event g event.now)
             → EndsBy (with_event g event.now) }
     {
         self.given.push(*event)?;
@@ -338,13 +338,13 @@ impl<'a> World<'a> {
     ///
     /// As of `step`.
     pub fn settle(mut self) -> Result<Self, WorldEnd>
-        requires { (g : Input) × (log : Log) × StandsFor self g log
+        requires { (g : Input) × (log : Log) × Represents self g log
             × IsGood (with_event g Settle) }
-        ensures log { IfOk result (λ world. (g : Input) (log : Log) → StandsFor self.entry g log
+        ensures log { IfOk result (λ world. (g : Input) (log : Log) → Represents self.entry g log
             → IsGood (with_event g Settle)
-            → (more : Log) × StandsFor world (with_event g Settle) more) }
+            → (more : Log) × Represents world (with_event g Settle) more) }
         ensures limit { IsErrOf result WorldEnd.Limit → (g : Input) (log : Log)
-            → StandsFor self.entry g log → IsGood (with_event g Settle)
+            → Represents self.entry g log → IsGood (with_event g Settle)
             → EndsBy (with_event g Settle) }
     {
         self.given.push(Event::Settle)?;

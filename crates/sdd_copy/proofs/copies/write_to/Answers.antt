@@ -1,5 +1,5 @@
 use Rattle.sdd_copy.proofs.All.{arith, on_ok_weaker, option_map, written}
-use Rattle.sdd_copy.proofs.Standing.{held_past, map_changed}
+use Rattle.sdd_copy.proofs.Represented.{held_past, map_changed}
 use Rattle.sdd_copy.proofs.copies.write_to.Goals as goal
 
 pub returns-then-at-len-clause-held : goal.returns-then-at-len-clause-held

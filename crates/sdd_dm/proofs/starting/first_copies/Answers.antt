@@ -1,14 +1,14 @@
-use Rattle.sdd_dm.proofs.All.{None, [], ap, database_of, first_row, fold, here_applied, is_some, map, own_rows, slice_index_or, stand_applied, with_change, ◌∙◌}
+use Rattle.sdd_dm.proofs.All.{None, [], ap, database_of, first_row, fold, here_applied, is_some, map, own_rows, represent_applied, slice_index_or, with_change, ◌∙◌}
 use Rattle.sdd_dm.proofs.OwnRows.{own_are_enough, own_entries}
 use Rattle.sdd_dm.proofs.starting.first_copies.Goals as goal
 
-pub returns-clause-stand : goal.returns-clause-stand
-returns-clause-stand c =
-    stand_applied c.write_rows.new.copies.value c.in_ok-copies.copies.value (map (first_row c.args.cat.now) (database_of c.args.cat.now c.args.rows.now))
+pub returns-clause-represent : goal.returns-clause-represent
+returns-clause-represent c =
+    represent_applied c.write_rows.new.copies.value c.in_ok-copies.copies.value (map (first_row c.args.cat.now) (database_of c.args.cat.now c.args.rows.now))
     (c.in_ok-write_rows.ensures.value
     ∙ ap (λ es. fold with_change c.in_ok-copies.copies.value (map (first_row c.args.cat.now) es)) c.in_ok-own.ensures
     ∙ own_are_enough c.args.cat.now c.in_ok-copies.copies.value c.args.rows.now)
-    [] c.in_ok-copies.ensures.stand
+    [] c.in_ok-copies.ensures.represent
 
 pub write_rows-requires-clause-entries : goal.write_rows-requires-clause-entries
 write_rows-requires-clause-entries c =

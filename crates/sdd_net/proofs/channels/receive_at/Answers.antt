@@ -18,7 +18,7 @@ returns-clause-count g c =
     let there = c.index_mut-channel.ensures.value in
     if_both c.receive.result _ _ _ c.receive.ensures.count c.receive.ensures.receiver (λ given e r w sent fits.
     e ∙ ap (λ y. y.value.count) r ∙
-    (message_received x w c.args.no c.args.msg c.requires.number sent (fits_there channels c.args.at x w c.requires.live there fits)).stands.count)
+    (message_received x w c.args.no c.args.msg c.requires.number sent (fits_there channels c.args.at x w c.requires.live there fits)).represents.count)
 
 pub returns-clause-law : goal.returns-clause-law
 returns-clause-law g c =

@@ -22,7 +22,7 @@ report_on-requires c =
       input_of cat tables c.args.work,
       r.log,
       orderable cat tables c.args.work sound c.requires.valid tabled r.log r.log_is,
-      r.stands,
+      r.represents,
     )
 
 pub returns-clause-report : goal.returns-clause-report
@@ -36,4 +36,4 @@ returns-clause-report c =
     (subst (λ cats. AllZip IsTable cats c.in_ok-tables.tables.items) (c.eras.ensures ∙ c.in_ok-lists.ensures.eras) c.in_ok-tables.ensures) in
     let sound = subst IsSound is c.known.ensures.sound in
     reported cat tables c.args.work r.log sound c.requires.valid tabled r.log_is c.in_ok-report_on.field-0
-    (c.in_ok-report_on.ensures given r.log r.stands (last_homes cat tables c.args.work sound c.requires.valid tabled r.log r.log_is))
+    (c.in_ok-report_on.ensures given r.log r.represents (last_homes cat tables c.args.work sound c.requires.valid tabled r.log r.log_is))

@@ -20,4 +20,4 @@ returns-clause-summary c =
     summed_up cat tables c.args.work c.in_ok-world.world tabled r
     c.in_ok-summary_text.field-0.items c.summary_of-summary.result c.as_slice.result.now
     c.as_slice-3.result.now c.events.result c.in_ok-summary_text.ensures c.summary_of-summary.ensures c.as_slice.ensures
-    (c.as_slice-3.ensures ∙ c.history.ensures given r.log r.stands.calm) (c.events.ensures given r.log r.stands.calm)
+    (c.as_slice-3.ensures ∙ c.history.ensures given r.log r.represents.calm) (c.events.ensures given r.log r.represents.calm)

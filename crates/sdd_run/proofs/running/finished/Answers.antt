@@ -1,9 +1,9 @@
-use Rattle.sdd_run.proofs.All.{All, AllBegin, BeginsD, Catalogue, FitsStart, Input, IsBegun, IsEraOf, IsGood, IsSound, MAX_DMS, MAX_TMS, StandsFor, [], ap, arith, begun, eras_with_tables, length, refl, subst, sym, tail_of, whole_in, ◌∙◌, ◌≤◌}
+use Rattle.sdd_run.proofs.All.{All, AllBegin, BeginsD, Catalogue, FitsStart, Input, IsBegun, IsEraOf, IsGood, IsSound, MAX_DMS, MAX_TMS, Represents, [], ap, arith, begun, eras_with_tables, length, refl, subst, sym, tail_of, whole_in, ◌∙◌, ◌≤◌}
 use Rattle.sdd_run.proofs.Forces.{first_era, some_table, tables_are}
 use Rattle.sdd_run.proofs.Reported.{ended, if_ok, run_of}
 use Rattle.sdd_run.proofs.Starting.{all_allowed, starts}
 use Rattle.sdd_run.proofs.Whole.{rows_start}
-use Rattle.sdd_world.specs.Standing as standing
+use Rattle.sdd_world.specs.Represents as standing
 use Rattle.sdd_run.proofs.running.finished.Goals as goal
 
 pub further-requires : goal.further-requires
@@ -37,7 +37,7 @@ carry_out-requires c =
     let dms = c.in_ok-modules.modules.items in
     let table = c.first_table.result.now in
     let made = subst (λ (k : Catalogue). AllBegin (BeginsD k c.as_slice.result.now) k.dms dms) is c.in_ok-modules.ensures in
-    let new = subst (λ k. (g : Input) → IsGood g → standing.IsSound g → IsBegun g k cat table work.txns dms → StandsFor c.in_ok-world.world g [])
+    let new = subst (λ k. (g : Input) → IsGood g → standing.IsSound g → IsBegun g k cat table work.txns dms → Represents c.in_ok-world.world g [])
     is c.in_ok-world.ensures in
     let begins = starts cat tables work sound c.requires.valid tabled c.as_slice.result.now work.txns table dms c.in_ok-world.world
     few_tms few_dms c.first_table.ensures c.as_slice.ensures refl made new in
@@ -58,7 +58,7 @@ returns-clause-run c =
     let dms = c.in_ok-modules.modules.items in
     let table = c.first_table.result.now in
     let made = subst (λ (k : Catalogue). AllBegin (BeginsD k c.as_slice.result.now) k.dms dms) is c.in_ok-modules.ensures in
-    let new = subst (λ k. (g : Input) → IsGood g → standing.IsSound g → IsBegun g k cat table work.txns dms → StandsFor c.in_ok-world.world g [])
+    let new = subst (λ k. (g : Input) → IsGood g → standing.IsSound g → IsBegun g k cat table work.txns dms → Represents c.in_ok-world.world g [])
     is c.in_ok-world.ensures in
     let begins = starts cat tables work sound c.requires.valid tabled c.as_slice.result.now work.txns table dms c.in_ok-world.world
     few_tms few_dms c.first_table.ensures c.as_slice.ensures refl made new in
@@ -83,7 +83,7 @@ returns-clause-limit c = λ is_limit.
     let dms = c.in_ok-modules.modules.items in
     let table = c.first_table.result.now in
     let made = subst (λ (k : Catalogue). AllBegin (BeginsD k c.as_slice.result.now) k.dms dms) is c.in_ok-modules.ensures in
-    let new = subst (λ k. (g : Input) → IsGood g → standing.IsSound g → IsBegun g k cat table work.txns dms → StandsFor c.in_ok-world.world g [])
+    let new = subst (λ k. (g : Input) → IsGood g → standing.IsSound g → IsBegun g k cat table work.txns dms → Represents c.in_ok-world.world g [])
     is c.in_ok-world.ensures in
     let begins = starts cat tables work sound c.requires.valid tabled c.as_slice.result.now work.txns table dms c.in_ok-world.world
     few_tms few_dms c.first_table.ensures c.as_slice.ensures refl made new in

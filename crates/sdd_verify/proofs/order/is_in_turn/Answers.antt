@@ -2,11 +2,11 @@ use Rattle.sdd_verify.proofs.All.{Option, allows, ap, at, get, nat_cmp, sym, txn
 use Rattle.sdd_verify.proofs.Turns.{goes_on, last_at, stops}
 use Rattle.sdd_verify.proofs.order.is_in_turn.Goals as goal
 
-pub returns-then-not-may_stand_behind : goal.returns-then-not-may_stand_behind
-returns-then-not-may_stand_behind c =
+pub returns-then-not-may_come_after : goal.returns-then-not-may_come_after
+returns-then-not-may_come_after c =
     let kept : ℕ → Option ℕ = λ n. get nat_cmp c.order.last n in
     let refused = ap (λ (o : Option ℕ). allows o (at c.args.order.now c.order.number-index).0)
-    (sym c.get.ensures.value) ∙ sym c.may_stand_behind.ensures ∙ c.if-not-may_stand_behind.true in
+    (sym c.get.ensures.value) ∙ sym c.may_come_after.ensures ∙ c.if-not-may_come_after.true in
     sym (stops c.args.classes.now c.args.order.now c.order.number-index (txn_no 0) c.class_of-class.result kept
     c.order-test.true c.class_of-class.ensures c.order.invariant.in_turn c.order.invariant.last refused)
 
@@ -21,7 +21,7 @@ order-preserved c =
     let new : ℕ → Option ℕ = λ n. get nat_cmp c.insert.new.self n in
     let h = c.order.invariant in
     let allowed = ap (λ (o : Option ℕ). allows o (at c.args.order.now c.order.number-index).0)
-    (sym c.get.ensures.value) ∙ sym c.may_stand_behind.ensures ∙ c.if-not-may_stand_behind.false in
+    (sym c.get.ensures.value) ∙ sym c.may_come_after.ensures ∙ c.if-not-may_come_after.false in
     record {
       in_turn = goes_on classes order i (txn_no 0) c.class_of-class.result kept within class h.in_turn h.last allowed;
       last = last_at classes order i (txn_no 0) c.class_of-class.result kept new within class h.last c.in_ok-insert.ensures.updates.0;

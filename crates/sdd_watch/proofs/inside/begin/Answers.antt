@@ -9,7 +9,7 @@ pub new-requires : goal.new-requires
 new-requires c = let r = c.requires in (r.0, r.1.calm)
 
 pub returns : goal.returns
-returns c = λ g stands is.
+returns c = λ g represents is.
     begins_told g _ _ _ _ is c.new-text.ensures.items
-    (c.transactions.ensures g [] stands.calm) (c.as_slice.ensures.value ∙ c.in_ok-copies.ensures g [] stands) c.in_ok-put_beginning.ensures
-    (c.in_ok-watch.ensures g stands.calm is)
+    (c.transactions.ensures g [] represents.calm) (c.as_slice.ensures.value ∙ c.in_ok-copies.ensures g [] represents) c.in_ok-put_beginning.ensures
+    (c.in_ok-watch.ensures g represents.calm is)

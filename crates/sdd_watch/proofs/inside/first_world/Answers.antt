@@ -3,8 +3,8 @@ use Rattle.std.specs.List.{All}
 use Rattle.sdd_obligations.specs.All.{Catalogue, FitsStart, Input, IsEraOf, IsGood, IsSound, MAX_DMS, MAX_TMS}
 use Rattle.sdd_run.specs.class_lists.InForce.{whole_in}
 use Rattle.sdd_run.specs.world.Beginnings.{AllBegin, BeginsD, IsBegun}
-use Rattle.sdd_run.specs.world.Standing as standing
-use Rattle.sdd_run.specs.world.Standing.{StandsFor}
+use Rattle.sdd_run.specs.world.Represents as standing
+use Rattle.sdd_run.specs.world.Represents.{Represents}
 use Rattle.sdd_run.proofs.Forces.{first_era, some_table}
 use Rattle.sdd_run.proofs.Starting.{starts}
 use Rattle.sdd_run.proofs.Whole.{rows_start}
@@ -36,7 +36,7 @@ returns-clause-world c =
     let dms = c.in_ok-modules.modules.items in
     let table = c.first_table.result.now in
     let made = subst (λ (k : Catalogue). AllBegin (BeginsD k c.as_slice.result.now) k.dms dms) is c.in_ok-modules.ensures in
-    let new = subst (λ k. (g : Input) → IsGood g → standing.IsSound g → IsBegun g k cat table work.txns dms → StandsFor c.in_ok-world.world g [])
+    let new = subst (λ k. (g : Input) → IsGood g → standing.IsSound g → IsBegun g k cat table work.txns dms → Represents c.in_ok-world.world g [])
     is c.in_ok-world.ensures in
     starts cat c.args.tables.now work sound c.requires.valid c.requires.tabled c.as_slice.result.now work.txns table dms c.in_ok-world.world
     few_tms few_dms c.first_table.ensures c.as_slice.ensures refl made new

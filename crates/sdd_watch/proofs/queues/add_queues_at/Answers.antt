@@ -13,7 +13,7 @@ txn_module-requires c =
 pub returns : goal.returns
 returns c = λ g log calm here.
     let at = T c.args.tm in
-    let stands = (c.txn_module.ensures (setting_of g at) (local_of g at log) (c.sites.ensures g log calm at here)).stands_for in
+    let represents = (c.txn_module.ensures (setting_of g at) (local_of g at log) (c.sites.ensures g log calm at here)).represents_log in
     c.in_ok-add_queues.ensures
     ∙ ap (λ qs. c.args.queues.now.items ++ qs)
-    (ap (map queue_in) c.classes.ensures ∙ queues_told g log c.args.tm c.txn_module.result.now stands)
+    (ap (map queue_in) c.classes.ensures ∙ queues_told g log c.args.tm c.txn_module.result.now represents)

@@ -5,9 +5,9 @@ use Rattle.sdd_watch.proofs.queues.all_queues.Goals as goal
 
 pub loop-number-init : goal.loop-number-init
 loop-number-init c = λ g log calm.
-    let stands = (c.u_module.ensures (setting_of g U) (local_of g U log) (c.sites.ensures g log calm U refl)).stands_for in
+    let represents = (c.u_module.ensures (setting_of g U) (local_of g U log) (c.sites.ensures g log calm U refl)).represents_log in
     queues_begin g log c.in_ok-queue.field-0 c.new-queues.result.items c.push.new.self.items
-    (first_queue g log c.u_module.result.now c.line.result.now c.in_ok-queue.field-0 c.in_ok-queue.ensures c.line.ensures stands)
+    (first_queue g log c.u_module.result.now c.line.result.now c.in_ok-queue.field-0 c.in_ok-queue.ensures c.line.ensures represents)
     c.new-queues.ensures.items c.in_ok-push.ensures.items
 
 pub add_queues_at-requires : goal.add_queues_at-requires

@@ -1,6 +1,6 @@
 use Rattle.std.proofs.Common.{◌-◌, ◌≡◌}
 use Rattle.sdd_obligations.specs.All.{Input, Log}
-use Rattle.sdd_run.specs.world.Standing.{Calm}
+use Rattle.sdd_run.specs.world.Represents.{Calm}
 use Rattle.sdd_watch.proofs.Queued.{queues_to}
 use Rattle.sdd_watch.proofs.queues.all_queues.Given as goal
 

@@ -1,6 +1,6 @@
 use Rattle.std.proofs.Common.{drop, fold, ◌≡◌}
 use Rattle.sdd_obligations.specs.All.{Input, Log}
-use Rattle.sdd_run.specs.world.Standing.{Calm}
+use Rattle.sdd_run.specs.world.Represents.{Calm}
 use Rattle.sdd_watch.specs.Happens.{changes_applied, with_row}
 use Rattle.sdd_watch.proofs.rows.add_rows.Given as goal
 

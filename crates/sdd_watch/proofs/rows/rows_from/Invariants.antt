@@ -1,6 +1,6 @@
 use Rattle.std.proofs.Common.{[], drop, flat_map, fold, ◌≡◌}
 use Rattle.sdd_obligations.specs.All.{Input, Log, history}
-use Rattle.sdd_run.specs.world.Standing.{Calm}
+use Rattle.sdd_run.specs.world.Represents.{Calm}
 use Rattle.sdd_watch.specs.Happens.{applied_by, with_row}
 use Rattle.sdd_watch.proofs.rows.rows_from.Given as goal
 

@@ -5,13 +5,13 @@ use Rattle.sdd_watch.proofs.RoundsTold.{begins, none_of, next_fits, round_begins
 use Rattle.sdd_watch.proofs.schedule.rounds.Goals as goal
 
 pub begin_rounds-requires : goal.begin_rounds-requires
-begin_rounds-requires c = let r = c.requires in (r.0, r.1, r.2.stands, r.3, r.4)
+begin_rounds-requires c = let r = c.requires in (r.0, r.1, r.2.represents, r.3, r.4)
 
 pub loop-now-init : goal.loop-now-init
 loop-now-init c = record {
   so_far = λ g log h takes good. (
     log,
-    begins c.args.world c.in_ok-now.now g log c.args.event c.args.teller.now c.args.place h (c.in_ok-now.ensures g log h.stands takes good),
+    begins c.args.world c.in_ok-now.now g log c.args.event c.args.teller.now c.args.place h (c.in_ok-now.ensures g log h.represents takes good),
   );
 }
 

@@ -2,7 +2,7 @@
 use Rattle.std.proofs.Common.{map, ◌≡◌}
 use Rattle.std.specs.List.{filter_map, range_with_len}
 use Rattle.sdd_obligations.specs.All.{Setting, view_of}
-use Rattle.sdd_obligations.specs.dm.Stands.{Stands}
+use Rattle.sdd_obligations.specs.dm.Represents.{Represents}
 use Rattle.sdd_obligations.specs.dm.Views.{class_view}
 use Rattle.sdd_obligations.specs.site_module.SiteLog.{Log}
 use Rattle.sdd_watch.specs.States.{head_told}
@@ -10,5 +10,5 @@ use Rattle.sdd_watch.proofs.states.dm_state.Given as goal
 
 abbrev pub invariant-loop-class : goal.invariant-loop-class
 invariant-loop-class l =
-    (s : Setting) (log : Log) → Stands l.dm_module s log
+    (s : Setting) (log : Log) → Represents l.dm_module s log
     → l.heads.items ≡ filter_map (head_told (view_of s log)) (map (class_view s log) (range_with_len 0 l.class))

@@ -10,6 +10,6 @@ returns-in_ok-dm_state-in-D c = λ g log here calm un.
     let s = setting_of g at in
     let own = local_of g at log in
     let site = subst (IsSiteOf g) c.in-D.is here in
-    let stands = (c.data_module.ensures s own (c.sites-sites.ensures g log calm at site)).stands_for in
-    ap states.D (c.in_ok-dm_state-in-D.ensures s own stands ∙ ap (dm_told s own c.in-D.dm.0) (c.is_down-down.ensures g log site calm))
+    let represents = (c.data_module.ensures s own (c.sites-sites.ensures g log calm at site)).represents_log in
+    ap states.D (c.in_ok-dm_state-in-D.ensures s own represents ∙ ap (dm_told s own c.in-D.dm.0) (c.is_down-down.ensures g log site calm))
     ∙ ap (state_of g log) (sym c.in-D.is)

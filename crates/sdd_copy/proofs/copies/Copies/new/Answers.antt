@@ -1,5 +1,5 @@
 use Rattle.sdd_copy.proofs.All.{All, IsLive, ap, map, subst, sym, take_all, ◌∙◌}
-use Rattle.sdd_copy.proofs.Standing.{made, live_made, made_whole, stand_made, here_made}
+use Rattle.sdd_copy.proofs.Represented.{made, live_made, made_whole, represent_made, here_made}
 use Rattle.sdd_copy.proofs.copies.Copies.new.Goals as goal
 
 pub invariant_of-result : goal.invariant_of-result
@@ -12,10 +12,10 @@ returns-clause-empty c =
     let whole = c.loop-key.invariant ∙ ap (map made) (take_all c.loop-key.key-index c.args.keys.now c.loop-key-test.false) in
     made_whole c.loop-key.copies.items c.args.keys.now whole
 
-pub returns-clause-stand : goal.returns-clause-stand
-returns-clause-stand c =
+pub returns-clause-represent : goal.returns-clause-represent
+returns-clause-represent c =
     let whole = c.loop-key.invariant ∙ ap (map made) (take_all c.loop-key.key-index c.args.keys.now c.loop-key-test.false) in
-    stand_made c.loop-key.copies.items c.args.keys.now whole
+    represent_made c.loop-key.copies.items c.args.keys.now whole
 
 pub returns-clause-here : goal.returns-clause-here
 returns-clause-here c =

@@ -1,5 +1,5 @@
 use Rattle.sdd_copy.proofs.All.{map, take, ◌≡◌}
-use Rattle.sdd_copy.proofs.Standing.{made}
+use Rattle.sdd_copy.proofs.Represented.{made}
 use Rattle.sdd_copy.proofs.copies.Copies.new.Given as goal
 
 -- the copies so far are those of the fragments so far

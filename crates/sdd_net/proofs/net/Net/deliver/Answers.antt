@@ -1,6 +1,6 @@
 use Rattle.sdd_net.proofs.All.{Delivers, link, refl, true}
 use Rattle.sdd_net.proofs.Sound.{sound}
-use Rattle.sdd_net.proofs.Calls.{live_is, stands_of, exists_of, still, does, deliver_does, pair_of}
+use Rattle.sdd_net.proofs.Calls.{live_is, represents_of, exists_of, still, does, deliver_does, pair_of}
 use Rattle.sdd_net.proofs.net.Net.deliver.Goals as goal
 
 pub invariant_of-self-2 : goal.invariant_of-self-2
@@ -26,18 +26,18 @@ deliver_at-requires-clause-pair g c =
     let i = c.self.inside in
     let live = live_is c.args.self.now i.live i.tms i.dms i.channels.items c.self.view_is c.requires.live in
     let exists = exists_of c.args.self.now i.live i.tms i.dms i.channels.items c.args.from c.args.to c.self.view_is c.requires.exists in
-    let before = c.self.invariant.stands live in (
+    let before = c.self.invariant.represents live in (
       link c.args.from c.args.to before.0,
       pair_of i.tms i.dms i.channels.items c.index_of-there.result c.index_of-back.result c.args.from c.args.to before.0 c.index_of-there.ensures c.index_of-back.ensures exists before.1,
       sound c.args.from c.args.to before.0,
     )
 
 pub returns-clause-given : goal.returns-clause-given
-returns-clause-given g c calls stands =
+returns-clause-given g c calls represents =
     let i = c.self.inside in
     let live = live_is c.args.self.now i.live i.tms i.dms i.channels.items c.self.view_is c.requires.live in
     let exists = exists_of c.args.self.now i.live i.tms i.dms i.channels.items c.args.from c.args.to c.self.view_is c.requires.exists in
-    let h = stands_of c.args.self.now i.live i.tms i.dms i.channels.items calls c.self.view_is stands in
+    let h = represents_of c.args.self.now i.live i.tms i.dms i.channels.items calls c.self.view_is represents in
     c.in_ok-delivered.ensures.given (link c.args.from c.args.to calls)
     (pair_of i.tms i.dms i.channels.items c.index_of-there.result c.index_of-back.result c.args.from c.args.to calls c.index_of-there.ensures c.index_of-back.ensures exists h)
     (sound c.args.from c.args.to calls)

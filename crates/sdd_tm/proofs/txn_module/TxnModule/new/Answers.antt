@@ -1,10 +1,10 @@
 -- A module before its first message stands for the log of what is in force.
 use Rattle.sdd_tm.proofs.All.{Era, refl}
-use Rattle.sdd_tm.proofs.Calls.{new_stands}
+use Rattle.sdd_tm.proofs.Calls.{new_represents}
 use Rattle.sdd_tm.proofs.txn_module.TxnModule.new.Goals as goal
 
 pub returns : goal.returns
 returns c =
     let era : Era = record { catalogue = c.args.catalogue.now; table = c.args.table.now } in
-    new_stands (record { live = _; value = c.in_ok-new.field-0 }) c.args.whole.now era c.args.tm refl
+    new_represents (record { live = _; value = c.in_ok-new.field-0 }) c.args.whole.now era c.args.tm refl
     c.in_ok-new.ensures c.known.ensures.sound c.known.ensures.whole c.requires

@@ -5,7 +5,7 @@ use Rattle.sdd_tm.proofs.txn_module.TxnModule.submit_in_class.Goals as goal
 
 taken_is : (c : goal.After-draft-2-1) → c.submit.new.self ≡ given_to c.args.self.now c.args.number.0 c.args.txn.now
 taken_is c =
-    let r = c.requires.stands in
+    let r = c.requires.represents in
     let now = c.args.self.now in
     let class = class_here now r.0 r.2 c.args.txn.now c.args.class.0 r.3 r.5 in
     c.in_ok-places.ensures.state ∙ ap (λ (k : Kept State). state_given c.args.class.0 c.args.number.0 c.args.txn.now k.value) c.self.view_is
@@ -13,12 +13,12 @@ taken_is c =
 
 pub settle-requires-clause-few : goal.settle-requires-clause-few
 settle-requires-clause-few c =
-    let r = c.requires.stands in
+    let r = c.requires.represents in
     few_given c.args.self.now r.0 r.2 c.args.number.0 c.args.txn.now c.submit.new.self r.3 (taken_is c)
 
 pub settle-requires-clause-calm : goal.settle-requires-clause-calm
 settle-requires-clause-calm c =
-    let r = c.requires.stands in
+    let r = c.requires.represents in
     let now = c.args.self.now in
     let class = class_here now r.0 r.2 c.args.txn.now c.args.class.0 r.3 r.5 in
     calm_after now r.0 r.2 c.args.number.0 c.args.txn.now c.submit.new.self c.in_ok-places.places r.3 (taken_is c)
@@ -28,7 +28,7 @@ settle-requires-clause-calm c =
 
 pub settle-requires-clause-amid : goal.settle-requires-clause-amid
 settle-requires-clause-amid c =
-    let r = c.requires.stands in (
+    let r = c.requires.represents in (
       r.0,
       r.1,
       Submits c.args.number.0 c.args.txn.now ∷ r.2,
@@ -37,7 +37,7 @@ settle-requires-clause-amid c =
 
 pub returns-clause-law : goal.returns-clause-law
 returns-clause-law c =
-    let r = c.requires.stands in
+    let r = c.requires.represents in
     let number = c.args.number in
     let txn = c.args.txn.now in
     let old = c.args.self.now in

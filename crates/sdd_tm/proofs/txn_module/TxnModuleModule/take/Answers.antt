@@ -8,18 +8,18 @@ taken_is c = c.in_ok-places.ensures.state ∙ ap (λ (k : Kept State). state_han
 
 pub settle-requires-clause-few : goal.settle-requires-clause-few
 settle-requires-clause-few c =
-    let r = c.requires.stands in
+    let r = c.requires.represents in
     few_handed c.args.self.now r.0 r.2 c.args.from c.args.msg c.hand.new.self r.3 (taken_is c)
 
 pub settle-requires-clause-calm : goal.settle-requires-clause-calm
 settle-requires-clause-calm c =
-    let r = c.requires.stands in
+    let r = c.requires.represents in
     calm_for c.args.self.now r.0 r.2 c.args.from c.args.msg c.hand.new.self c.in_ok-places.places r.3 (taken_is c)
     (c.in_ok-places.ensures.places ∙ ap (λ (k : Kept State). touched k.value.classes c.args.msg) c.self.view_is)
 
 pub settle-requires-clause-amid : goal.settle-requires-clause-amid
 settle-requires-clause-amid c =
-    let r = c.requires.stands in (
+    let r = c.requires.represents in (
       r.0,
       r.1,
       Handed c.args.from c.args.msg ∷ r.2,

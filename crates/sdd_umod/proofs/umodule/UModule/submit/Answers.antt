@@ -5,7 +5,7 @@ use Rattle.sdd_umod.proofs.umodule.UModule.submit.Goals as goal
 
 pub settle-requires : goal.settle-requires
 settle-requires c =
-    let r = c.requires.stands in
+    let r = c.requires.represents in
     let number = c.args.number.0 in
     let txn = c.args.txn.now in
     let taken = c.in_ok-submit.ensures ∙ ap (λ (k : Kept State). state_given number txn k.value) c.self.view_is in

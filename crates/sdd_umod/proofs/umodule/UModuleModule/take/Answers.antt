@@ -5,7 +5,7 @@ use Rattle.sdd_umod.proofs.umodule.UModuleModule.take.Goals as goal
 
 pub settle-requires : goal.settle-requires
 settle-requires c =
-    let r = c.requires.stands in
+    let r = c.requires.represents in
     let from = c.args.from in
     let m = c.args.msg in
     let taken = c.in_ok-hand.ensures ∙ ap (λ (k : Kept State). state_handed from m k.value) c.self.view_is in

@@ -1,4 +1,4 @@
-use Rattle.sdd_world.proofs.All.{AllStandFor, FitsEra, Input, Log}
+use Rattle.sdd_world.proofs.All.{AllRepresent, FitsEra, Input, Log}
 use Rattle.sdd_world.proofs.Redeclaring.{RedeclaredAt}
 use Rattle.sdd_world.proofs.sites.Sites.put_in_force.Given as goal
 
@@ -6,6 +6,6 @@ abbrev pub invariant-loop-number : goal.invariant-loop-number
 invariant-loop-number l = record {
   some : (g : Input) × (log : Log) × FitsEra g.catalogue (record { catalogue = l.catalogue; table = l.table }) l.t.0
       × RedeclaredAt l.self g log (record { catalogue = l.catalogue; table = l.table }) l.t.0 l.number;
-  so_far : (g : Input) (log : Log) → AllStandFor l.fn.self g log → FitsEra g.catalogue (record { catalogue = l.catalogue; table = l.table }) l.t.0
+  so_far : (g : Input) (log : Log) → AllRepresent l.fn.self g log → FitsEra g.catalogue (record { catalogue = l.catalogue; table = l.table }) l.t.0
       → RedeclaredAt l.self g log (record { catalogue = l.catalogue; table = l.table }) l.t.0 l.number;
 }

@@ -16,6 +16,6 @@ add_copies-requires-clause-here c = λ f h.
 pub returns : goal.returns
 returns c =
     after_ok c.add_copies.result _ _ c.add_copies.ensures (λ made given log here s.
-    made (dated (setting_of given (D c.args.dm)) (local_of given (D c.args.dm) log)) (c.copies-copies.ensures.stand given log here s)
+    made (dated (setting_of given (D c.args.dm)) (local_of given (D c.args.dm) log)) (c.copies-copies.ensures.represent given log here s)
     ∙ ap (λ cat. c.args.tables.now.items ++ tables_in cat c.args.dm.0
     (dated (setting_of given (D c.args.dm)) (local_of given (D c.args.dm) log))) s.calm.parts.whole_is)

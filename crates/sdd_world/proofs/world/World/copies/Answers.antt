@@ -8,9 +8,9 @@ pub returns-clause-live : goal.returns-clause-live
 returns-clause-live c = λ given log here s. let at =
     D c.args.dm in c.copies.ensures.live (setting_of given at) (local_of given at log) (s.calm.parts.sites at here)
 
-pub returns-clause-stand : goal.returns-clause-stand
-returns-clause-stand c = λ given log here s. let at =
-    D c.args.dm in c.copies.ensures.stand (setting_of given at) (local_of given at log) (s.calm.parts.sites at here)
+pub returns-clause-represent : goal.returns-clause-represent
+returns-clause-represent c = λ given log here s. let at =
+    D c.args.dm in c.copies.ensures.represent (setting_of given at) (local_of given at log) (s.calm.parts.sites at here)
 
 pub returns-clause-here : goal.returns-clause-here
 returns-clause-here c = λ given log here s. let at =

@@ -4,7 +4,7 @@ use Rattle.sdd_obligations.specs.All.{AtEach, Catalogue, D, Deliver, EndsByLimit
 use Rattle.sdd_obligations.specs.protocol.declared.entry.Entry.{Entry}
 use Rattle.sdd_obligations.specs.lang.Fits.{Fits}
 use Rattle.sdd_world.specs.Carries.{Carries}
-use Rattle.sdd_world.specs.Modules.{AllStandFor}
+use Rattle.sdd_world.specs.Modules.{AllRepresent}
 use Rattle.sdd_world.specs.declared.world.World.{World}
 
 -- What is given is sound: the network isn't too large, and the transactions fit the catalogue.
@@ -51,7 +51,7 @@ pub record Parts (w : World) (g : Input) (log : Log) : Type 0 where
   pub txns_are : w.txns ≡ g.txns
   pub given_is : w.given.items ≡ g.events
   pub history_is : w.history ≡ history log
-  pub sites : AllStandFor w.sites g log
+  pub sites : AllRepresent w.sites g log
   pub net : Carries w.net g.catalogue.tms g.catalogue.dms (calls_of log)
 
 -- between events
@@ -114,7 +114,7 @@ pub record HandedOn (w : World) (g : Input) (b : Site) (kept : Site → List Msg
   pub spool_is : w.spool ≡ boxes
 
 -- between events all that was given is carried out: the log is complete
-pub record StandsFor (w : World) (g : Input) (log : Log) : Type 0 where
+pub record Represents (w : World) (g : Input) (log : Log) : Type 0 where
   pub calm : Calm w g log
   pub complete : next g log ≡ None
 

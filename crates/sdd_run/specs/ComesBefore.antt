@@ -14,7 +14,7 @@ abbrev pub times_pending : ℕ → List Pending → ℕ
 times_pending n left = times_in n (map (λ (p : Pending). p.txn) left)
 
 -- of two transactions the first stands in the order before the second
-pub record StandsBefore (order : List TxnNo) (n m : ℕ) : Type 0 where
+pub record ComesBefore (order : List TxnNo) (n m : ℕ) : Type 0 where
   pub front : List TxnNo
   pub rest : List TxnNo
   pub is : order ≡ front ++ txn_no n ∷ rest
@@ -29,7 +29,7 @@ pub record IsSubmittedBefore (h : History) (x y : Committed) : Type 0 where
   pub before : first_place < second_place
 
 -- worked: the second stands before the first, and none stands there twice
-pub turned : StandsBefore (txn_no 2 ∷ txn_no 3 ∷ txn_no 1 ∷ []) 2 1
+pub turned : ComesBefore (txn_no 2 ∷ txn_no 3 ∷ txn_no 1 ∷ []) 2 1
 turned = record { front = []; rest = txn_no 3 ∷ txn_no 1 ∷ []; is = refl; behind = (1, lit< tt, refl) }
 
 pub once_there : times_in 3 (txn_no 2 ∷ txn_no 3 ∷ txn_no 1 ∷ []) ≡ 1

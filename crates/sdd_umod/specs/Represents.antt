@@ -41,7 +41,7 @@ pub record IsKept (s : Setting) (log : Log) (state : State) : Type 0 where
   pub state_is : state_of s log ≡ state
 
 -- between calls: the module stands for the log, it keeps what follows from the log, and nothing is due
-pub record Stands (k : Kept State) (s : Setting) (log : Log) : Type 0 where
+pub record Represents (k : Kept State) (s : Setting) (log : Log) : Type 0 where
   pub live : IsTrue k.live
   pub setting : IsSetting s
   pub sound : IsSound s log

@@ -52,7 +52,7 @@ abbrev pub AreSettled : State → Type 0
 AreSettled state = (place : ℕ) (k : ClassState) → slice_get state.classes place ≡ Some k → class_step state.on_hold k ≡ None
 
 -- the module stands for the log: it keeps what follows from the log, and nothing is due
-pub record Stands (k : Kept State) (s : Setting) (log : Log) : Type 0 where
+pub record Represents (k : Kept State) (s : Setting) (log : Log) : Type 0 where
   pub live : IsTrue k.live
   pub setting : IsSettingOf s log
   pub sound : IsSound s log

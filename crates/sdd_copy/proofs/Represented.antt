@@ -1,5 +1,5 @@
 -- Copies stand for the changes that were applied to them.
-use Rattle.sdd_copy.proofs.All.{All, All-from_recursion, AllByRecursion, AreSame, Bool, Change, Dated, DatesDiffer, Held, IsLive, Items, Kept, List, None, Option, Some, StandFor, [], ap, append-nil, append_assoc, arith, changed_at, cond, eq-eqb, eqb-true, false, filter-append, fold, fold-append, held_in, is_here, is_some, items_at, items_of, length, length-map, map, of_fragment, option_map, or_none, refl, slice_index_or, slice_set, subst, suc, sym, true, with_change, written, zero, ℕ, ◌++◌, ◌==◌, ◌∙◌, ◌∷◌, ◌≡◌, ◌≤◌}
+use Rattle.sdd_copy.proofs.All.{All, All-from_recursion, AllByRecursion, AreSame, Bool, Change, Dated, DatesDiffer, Held, IsLive, Items, Kept, List, None, Option, Represent, Some, [], ap, append-nil, append_assoc, arith, changed_at, cond, eq-eqb, eqb-true, false, filter-append, fold, fold-append, held_in, is_here, is_some, items_at, items_of, length, length-map, map, of_fragment, option_map, or_none, refl, slice_index_or, slice_set, subst, suc, sym, true, with_change, written, zero, ℕ, ◌++◌, ◌==◌, ◌∙◌, ◌∷◌, ◌≡◌, ◌≤◌}
 use Rattle.sdd_copy.proofs.Order.{same_items_left}
 
 -- copies without items
@@ -19,8 +19,8 @@ none_at [] f = refl
 none_at (key ∷ keys) zero = none_in key
 none_at (key ∷ keys) (suc f) = none_at keys f
 
-stand_empty : (keys : List (Option ℕ)) → StandFor (without_items keys) []
-stand_empty keys f here = none_at keys f
+represent_empty : (keys : List (Option ℕ)) → Represent (without_items keys) []
+represent_empty keys f here = none_at keys f
 
 here_in : (key : Option ℕ) → is_some (option_map no_items key) ≡ is_some key
 here_in None = refl
@@ -62,9 +62,9 @@ pub made_whole : (copies : List (Option (Kept Items))) (keys : List (Option ℕ)
     → live_with (held_in copies) ≡ live_with (map (option_map (λ key. [])) keys)
 made_whole copies keys whole = ap live_with (ap held_in whole ∙ held_made keys)
 
-pub stand_made : (copies : List (Option (Kept Items))) (keys : List (Option ℕ)) → copies ≡ map made keys
-    → StandFor (held_in copies) []
-stand_made copies keys whole = subst (λ held. StandFor held []) (sym (ap held_in whole ∙ held_made keys)) (stand_empty keys)
+pub represent_made : (copies : List (Option (Kept Items))) (keys : List (Option ℕ)) → copies ≡ map made keys
+    → Represent (held_in copies) []
+represent_made copies keys whole = subst (λ held. Represent held []) (sym (ap held_in whole ∙ held_made keys)) (represent_empty keys)
 
 pub here_made : (copies : List (Option (Kept Items))) (keys : List (Option ℕ)) → copies ≡ map made keys
     → (f : ℕ) → is_here (held_in copies) f ≡ is_some (slice_index_or keys f None)
@@ -145,9 +145,9 @@ one_more copies xs x f false other h here =
     ∙ h (sym (ap is_some at) ∙ here)
     ∙ ap items_of (sym (append-nil (of_fragment f xs)))
 
-pub stand_more : (copies : Held) (xs : Dated) (x : ℕ × Change) → StandFor copies xs
-    → StandFor (with_change copies x) (xs ++ x ∷ [])
-stand_more copies xs x h f here = one_more copies xs x f (x.1.frag.0 == f) refl (h f) here ∙ ap items_of (sym (of_one_more f xs x))
+pub represent_more : (copies : Held) (xs : Dated) (x : ℕ × Change) → Represent copies xs
+    → Represent (with_change copies x) (xs ++ x ∷ [])
+represent_more copies xs x h f here = one_more copies xs x f (x.1.frag.0 == f) refl (h f) here ∙ ap items_of (sym (of_one_more f xs x))
 
 here_by : (copies : Held) (x : ℕ × Change) (f : ℕ) (own : Bool) → (x.1.frag.0 == f) ≡ own
     → is_here (with_change copies x) f ≡ is_here copies f
@@ -162,30 +162,30 @@ here_more copies x f = here_by copies x f (x.1.frag.0 == f) refl
 
 -- many changes more
 
-pub stand_all : (ys : Dated) (copies : Held) (xs : Dated) → StandFor copies xs → StandFor (fold with_change copies ys) (xs ++ ys)
-stand_all [] copies xs h = subst (StandFor copies) (sym (append-nil xs)) h
-stand_all (y ∷ ys) copies xs h =
-    subst (StandFor (fold with_change (with_change copies y) ys)) (append_assoc xs (y ∷ []) ys)
-    (stand_all ys (with_change copies y) (xs ++ y ∷ []) (stand_more copies xs y h))
+pub represent_all : (ys : Dated) (copies : Held) (xs : Dated) → Represent copies xs → Represent (fold with_change copies ys) (xs ++ ys)
+represent_all [] copies xs h = subst (Represent copies) (sym (append-nil xs)) h
+represent_all (y ∷ ys) copies xs h =
+    subst (Represent (fold with_change (with_change copies y) ys)) (append_assoc xs (y ∷ []) ys)
+    (represent_all ys (with_change copies y) (xs ++ y ∷ []) (represent_more copies xs y h))
 
 pub here_all : (ys : Dated) (copies : Held) (f : ℕ) → is_here (fold with_change copies ys) f ≡ is_here copies f
 here_all [] copies f = refl
 here_all (y ∷ ys) copies f = here_all ys (with_change copies y) f ∙ here_more copies y f
 
-pub stand_written : (new old : Held) (x : ℕ × Change) → new ≡ with_change old x → (xs : Dated) → StandFor old xs
-    → StandFor new (xs ++ x ∷ [])
-stand_written new old x is xs h = subst (λ v. StandFor v (xs ++ x ∷ [])) (sym is) (stand_more old xs x h)
+pub represent_written : (new old : Held) (x : ℕ × Change) → new ≡ with_change old x → (xs : Dated) → Represent old xs
+    → Represent new (xs ++ x ∷ [])
+represent_written new old x is xs h = subst (λ v. Represent v (xs ++ x ∷ [])) (sym is) (represent_more old xs x h)
 
 pub here_written : (new old : Held) (x : ℕ × Change) → new ≡ with_change old x → (f : ℕ) → is_here new f ≡ is_here old f
 here_written new old x is f = ap (λ v. is_here v f) is ∙ here_more old x f
 
-pub stand_applied : (new old : Held) (ys : Dated) → new ≡ fold with_change old ys → (xs : Dated)
-    → StandFor old xs → StandFor new (xs ++ ys)
-stand_applied new old ys is xs h = subst (λ v. StandFor v (xs ++ ys)) (sym is) (stand_all ys old xs h)
+pub represent_applied : (new old : Held) (ys : Dated) → new ≡ fold with_change old ys → (xs : Dated)
+    → Represent old xs → Represent new (xs ++ ys)
+represent_applied new old ys is xs h = subst (λ v. Represent v (xs ++ ys)) (sym is) (represent_all ys old xs h)
 
 pub here_applied : (new old : Held) (ys : Dated) → new ≡ fold with_change old ys → (f : ℕ) → is_here new f ≡ is_here old f
 here_applied new old ys is f = ap (λ v. is_here v f) is ∙ here_all ys old f
 
 -- the same changes in another order
-pub stand_same : (copies : Held) (xs ys : Dated) → DatesDiffer xs → AreSame xs ys → StandFor copies xs → StandFor copies ys
-stand_same copies xs ys d s h f here = h f here ∙ same_items_left f xs ys d s
+pub represent_same : (copies : Held) (xs ys : Dated) → DatesDiffer xs → AreSame xs ys → Represent copies xs → Represent copies ys
+represent_same copies xs ys d s h f here = h f here ∙ same_items_left f xs ys d s

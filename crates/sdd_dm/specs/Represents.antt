@@ -4,7 +4,7 @@ use Rattle.std.specs.List.{All}
 use Rattle.sdd_module.specs.All.{Bases, Handed, Kept, Log, Msg, Notes, Reached, Read, Setting, Site, has_copy, nothing_noted, number_of}
 use Rattle.sdd_copy.specs.Contents.{Dated}
 use Rattle.sdd_copy.specs.Sets.{DatesDiffer}
-use Rattle.sdd_copy.specs.Copies.{is_here, StandFor}
+use Rattle.sdd_copy.specs.Copies.{is_here, Represent}
 use Rattle.sdd_pipe.specs.Digest.{IsDigest}
 use Rattle.sdd_pipe.specs.Pipes.{pipe_at}
 use Rattle.sdd_dm.specs.Pipes.{pipe, waits}
@@ -53,7 +53,7 @@ pub record Shows (s : Setting) (st : State) (log : Log) : Type 0 where
   pub answered : opens log ≡ []
   pub pipes_live : IsTrue st.pipes_live
   pub live : IsTrue st.copies.live
-  pub copies : StandFor st.copies.value (dated s log)
+  pub copies : Represent st.copies.value (dated s log)
   pub here : (f : ℕ) → has_copy s.catalogue (number_of s.site) f ≡ true → is_here st.copies.value f ≡ true
   pub dates : DatesDiffer (all_dated s log)
   pub reads : EachHanded (HasCopies s) log
@@ -65,7 +65,7 @@ Worked from m old new notes =
     → Reached (Shows s) (next s bases) ◌∷◌ (Handed from m ∷ log) new nothing_noted notes
 
 -- a module, made in this setting, stands for this log; nothing more is due
-pub record Stands (k : Kept State) (s : Setting) (log : Log) : Type 0 where
+pub record Represents (k : Kept State) (s : Setting) (log : Log) : Type 0 where
   pub live : IsTrue k.live
   pub shows : Shows s k.value log
   pub quiet : first_step k.value.pipes k.value.waits ≡ None
