@@ -1,7 +1,7 @@
 -- The names of std, of the crates below and of this crate's definitions that its proofs cite. Declares nothing.
 pub use Rattle.sdd_acyclic.specs.Deeds.{Applies, Deeds, ErasApart, IsHigh, IsLow, IsSeen, Starts, Touches, Txn, ZeroAlone, system}
 pub use Rattle.sdd_acyclic.specs.Eras.{Ranked, of_era}
-pub use Rattle.sdd_acyclic.specs.Fits.{Fits, IsFragmentOf, Meets}
+pub use Rattle.sdd_acyclic.specs.Fits.{FitsSystem, IsFragmentOf, Meets}
 pub use Rattle.sdd_acyclic.specs.Graphs.{Covers, IsDiagonal, IsHorizontal, IsVertical, Waits, time_in}
 pub use Rattle.sdd_acyclic.specs.System.{Below, Facts, Precedes, System, over}
 pub use Rattle.sdd_acyclic.specs.System.Precedes.{by_class, by_seen, by_unseen, by_writes}

@@ -1,5 +1,5 @@
 -- No cycle of precedence, where what one era submits is done before what a later one submits starts.
-use Rattle.sdd_acyclic.proofs.All.{Applies, Catalogue, Declared, Deeds, Entry, ErasApart, Fits, FragNo, HasBarriers, IsOrderly, IsTable, List, Meets, Precedes, Ranked, Starts, Touches, Txn, ZeroAlone, arith, blocks_of, by_class, by_seen, by_unseen, by_writes, cases_lt, conflict_graph, declared, inl, inr, of_era, path_as, system, ℕ, ◌<◌, ◌≡◌, ◌≤◌}
+use Rattle.sdd_acyclic.proofs.All.{Applies, Catalogue, Declared, Deeds, Entry, ErasApart, FitsSystem, FragNo, HasBarriers, IsOrderly, IsTable, List, Meets, Precedes, Ranked, Starts, Touches, Txn, ZeroAlone, arith, blocks_of, by_class, by_seen, by_unseen, by_writes, cases_lt, conflict_graph, declared, inl, inr, of_era, path_as, system, ℕ, ◌<◌, ◌≡◌, ◌≤◌}
 use Rattle.sdd_acyclic.proofs.Barriers.{orderly_with_barriers}
 use Rattle.sdd_acyclic.proofs.ByRank.{orderly_by_rank}
 use Rattle.sdd_acyclic.proofs.Covers.{covers}
@@ -38,7 +38,7 @@ module _ {K : Type 0} (D : Deeds K) (starts : Starts D) (applies : Applies D) (e
   era_rises x y p = elim (cases_lt (era y.no) (era x.no)) [ inl l ↦ absurd (never_back y x l p) | inr l ↦ l ]
 
   module _ (zero : ZeroAlone D) (cat : Catalogue) (catalogue_of : ℕ → Catalogue) (frags : K → List FragNo)
-      (fits : (n : ℕ) → Fits (catalogue_of n) (declared (of_era D era n)))
+      (fits : (n : ℕ) → FitsSystem (catalogue_of n) (declared (of_era D era n)))
       (meets : (n : ℕ) (entries : List Entry) → IsTable (catalogue_of n) entries → Meets cat entries (declared (of_era D era n)) (λ x. frags x.txn.item.no))
     where
       -- the transactions of one era have no cycle

@@ -1,5 +1,5 @@
 -- The conflict graph has an edge for each way in which transactions can meet.
-use Rattle.sdd_acyclic.proofs.All.{Bool, Catalogue, Contains, Contains-append_left, Contains-append_right, Contains-filter, Contains-flat_map, Contains-map, Contains-range, Covers, Diagonal, Edge, Fits, Horizontal, IsClassOf, IsDiagonal, IsFragmentOf, IsHorizontal, IsVertical, List, Some, System, Vertical, and_from, ap, arith, cases_lt, class_no, classes_of, conflict_graph, diagonal_edges, diagonals_between, diagonals_from, filter, frag_no, fragments_of, horizontal_edges, horizontals_from, inl, inr, is_some, length, lt-ltb, map, nat_lt, ne_eqb, not, passes_member, place_of, range_with_len, reads_at, slice_get, subst, suc, true, vertical_edges, write_sets_meet, writes, zero, ℕ, ◌&&◌, ◌++◌, ◌+◌, ◌-◌, ◌<◌, ◌==◌, ◌∙◌, ◌≡◌, ◌≢◌}
+use Rattle.sdd_acyclic.proofs.All.{Bool, Catalogue, Contains, Contains-append_left, Contains-append_right, Contains-filter, Contains-flat_map, Contains-map, Contains-range, Covers, Diagonal, Edge, FitsSystem, Horizontal, IsClassOf, IsDiagonal, IsFragmentOf, IsHorizontal, IsVertical, List, Some, System, Vertical, and_from, ap, arith, cases_lt, class_no, classes_of, conflict_graph, diagonal_edges, diagonals_between, diagonals_from, filter, frag_no, fragments_of, horizontal_edges, horizontals_from, inl, inr, is_some, length, lt-ltb, map, nat_lt, ne_eqb, not, passes_member, place_of, range_with_len, reads_at, slice_get, subst, suc, true, vertical_edges, write_sets_meet, writes, zero, ℕ, ◌&&◌, ◌++◌, ◌+◌, ◌-◌, ◌<◌, ◌==◌, ◌∙◌, ◌≡◌, ◌≢◌}
 
 module _ (cat : Catalogue) where
   pub class_is : (i : ℕ) → IsClassOf cat i → Contains (classes_of cat) i
@@ -58,7 +58,7 @@ module _ (cat : Catalogue) where
       (Contains-append_right (vertical_edges cat) (horizontal_edges cat ++ diagonal_edges cat) edge
       (Contains-append_right (horizontal_edges cat) (diagonal_edges cat) edge all))
 
-  module _ {T : Type 0} (S : System T) (fits : Fits cat S) where
+  module _ {T : Type 0} (S : System T) (fits : FitsSystem cat S) where
     vertical : (x : T) → IsVertical (conflict_graph cat) (S.class x - 1) (S.class x)
     vertical x =
         let c = fits.class x in

@@ -1,5 +1,5 @@
 -- What a reader sees of the writers of a block: those below its time.
-use Rattle.sdd_acyclic.proofs.All.{Bool, Catalogue, ClassNo, Cond, Contains, Contains-filter_map, Contains-map, Contains-nil, Diagonal, Edge, Entry, Fits, FragNo, Horizontal, IsClassOf, IsDiagonal, IsTable, List, Meets, None, Option, P1, P2, P3, Protocol, Some, System, Vertical, Waits, [], all_at, and_from, and_parts, ap, arith, asked_by, asked_in, asked_on, blocks_of, cases_Bool, cases_eq, class_no, cond, cond_for, cond_of, condition_on, conflict_graph, cons_option, contains, diagonal_edges, diagonal_protocol, ends, eq-eqb, eqb-true, false, filter_map, first_block, first_block-vertical, frag_no, get_or, get_or-map, horizontal_edges, inl, inr, is_asked, is_read_at, is_vertical_of, length, length-append, length-map, length-map-range_with_len, list_any, map, ne_eqb, numbers_to, one_protocol, option_eq, option_map, option_or, passes_member, protocol_in, refl, same_Some, same_protocol, slice_get, slice_get-get_or, slice_get-map, slice_get_within, slice_index, subst, suc, sym, time_in, true, vertical_block, vertical_block-lists, vertical_edges, zero, ℕ, ◌&&◌, ◌++◌, ◌+◌, ◌-◌, ◌<◌, ◌==◌, ◌||◌, ◌↔◌, ◌∙◌, ◌∷◌, ◌≡◌, ◌≢◌, ◌≤◌}
+use Rattle.sdd_acyclic.proofs.All.{Bool, Catalogue, ClassNo, Cond, Contains, Contains-filter_map, Contains-map, Contains-nil, Diagonal, Edge, Entry, FitsSystem, FragNo, Horizontal, IsClassOf, IsDiagonal, IsTable, List, Meets, None, Option, P1, P2, P3, Protocol, Some, System, Vertical, Waits, [], all_at, and_from, and_parts, ap, arith, asked_by, asked_in, asked_on, blocks_of, cases_Bool, cases_eq, class_no, cond, cond_for, cond_of, condition_on, conflict_graph, cons_option, contains, diagonal_edges, diagonal_protocol, ends, eq-eqb, eqb-true, false, filter_map, first_block, first_block-vertical, frag_no, get_or, get_or-map, horizontal_edges, inl, inr, is_asked, is_read_at, is_vertical_of, length, length-append, length-map, length-map-range_with_len, list_any, map, ne_eqb, numbers_to, one_protocol, option_eq, option_map, option_or, passes_member, protocol_in, refl, same_Some, same_protocol, slice_get, slice_get-get_or, slice_get-map, slice_get_within, slice_index, subst, suc, sym, time_in, true, vertical_block, vertical_block-lists, vertical_edges, zero, ℕ, ◌&&◌, ◌++◌, ◌+◌, ◌-◌, ◌<◌, ◌==◌, ◌||◌, ◌↔◌, ◌∙◌, ◌∷◌, ◌≡◌, ◌≢◌, ◌≤◌}
 use Rattle.sdd_acyclic.proofs.Covers.{class_is}
 use Rattle.sdd_protocol.proofs.Tables.{edges_of}
 
@@ -189,7 +189,7 @@ module _ (era : Catalogue) (entries : List Entry) (table : IsTable era entries) 
             (ap (λ l. option_or (cond_for j own l) (cond_for j p2 seconds)) none ∙ cond_there j p2 seconds (frag_no f) m) m
       ] d.protocol
 
-  module _ (cat : Catalogue) {T : Type 0} (S : System T) (fits : Fits era S) (frags : T → List FragNo) (meets : Meets cat entries S frags) where
+  module _ (cat : Catalogue) {T : Type 0} (S : System T) (fits : FitsSystem era S) (frags : T → List FragNo) (meets : Meets cat entries S frags) where
     asked_of : (y : T) (f : ℕ) → S.Reads y f → is_asked cat (S.class y) (S.dm (S.class y) f) (frags y) f ≡ true
     asked_of y f r =
         let d = S.dm (S.class y) f in

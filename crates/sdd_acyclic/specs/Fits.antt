@@ -16,7 +16,7 @@ pub record IsFragmentOf (cat : Catalogue) (f : ℕ) : Type 0 where
   pub to : f ≤ length cat.fragments
 
 -- transactions have declared classes, and read and write what these may
-pub record Fits {T : Type 0} (cat : Catalogue) (S : System T) : Type 0 where
+pub record FitsSystem {T : Type 0} (cat : Catalogue) (S : System T) : Type 0 where
   pub class : (x : T) → IsClassOf cat (S.class x)
   pub fragment_read : (x : T) (f : ℕ) → S.Reads x f → IsFragmentOf cat f
   pub fragment_changed : (x : T) (f : ℕ) → S.Changes x f → IsFragmentOf cat f

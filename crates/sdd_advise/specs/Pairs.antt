@@ -29,15 +29,15 @@ IsLink edges reader write (Linked closed) = IsClosed edges reader write closed.i
 IsLink edges reader write (Apart nodes) = LieApart edges reader write nodes.items
 
 -- what a pair says of its link is so
-abbrev pub IsSound : List Edge → Pair → Type 0
-IsSound edges pair = IsLink edges pair.reader pair.write pair.link
+abbrev pub IsSoundPair : List Edge → Pair → Type 0
+IsSoundPair edges pair = IsLink edges pair.reader pair.write pair.link
 
 -- and so is what the last pair says, where there was one
 abbrev pub IsSoundLast : List Edge → Option Pair → Type 0
-IsSoundLast edges last = MatchOption last (Unit {0}) (IsSound edges)
+IsSoundLast edges last = MatchOption last (Unit {0}) (IsSoundPair edges)
 
 -- it is the pair of a reader's diagonal
 pub record IsPairOf (edges : List Edge) (reader : ClassNo) (edge : Edge) (pair : Pair) : Type 0 where
   pub reader_is : pair.reader ≡ reader
   pub write_is : pair.write ≡ (ends edge).1
-  pub sound : IsSound edges pair
+  pub sound : IsSoundPair edges pair

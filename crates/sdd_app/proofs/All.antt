@@ -21,7 +21,7 @@ pub use Rattle.sdd_control.specs.declared.script.ControlScript.{ControlScript}
 pub use Rattle.sdd_graph.proofs.Known.{edges_known}
 pub use Rattle.sdd_graph.specs.Edges.{IsEdgeOf}
 pub use Rattle.sdd_graph.specs.declared.edge.Edge.{Edge}
-pub use Rattle.sdd_lang.specs.All.{CatFault, Catalogue, Event, Fits, FitsStart, MAX_TXNS, MAX_WORKLOAD_BYTES, Submit, database_of}
+pub use Rattle.sdd_lang.specs.All.{CatFault, Catalogue, Event, FitsStart, FitsTxn, MAX_TXNS, MAX_WORKLOAD_BYTES, Submit, database_of}
 pub use Rattle.sdd_lang.specs.base.Outside.{HasRead, KeepsOpen, Opened, ReadsTo, Rose, find_file, with_end}
 pub use Rattle.sdd_lang.specs.base.declared.files.ShelfFile.{ShelfFile}
 pub use Rattle.sdd_lang.specs.base.declared.limits.TheConstants.{MAX_CATALOGUE_BYTES}

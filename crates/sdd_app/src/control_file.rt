@@ -3,7 +3,7 @@ ghost use Rattle.std.specs.Prelude.{◌≡◌, ◌≤◌, ◌+◌, ◌∷◌, []
 ghost use Rattle.sdd_lang.specs.base.declared.files.ShelfFile.{ShelfFile};
 ghost use Rattle.sdd_lang.specs.All.{MAX_WORKLOAD_BYTES};
 ghost use Rattle.sdd_lang.specs.base.Outside.{Rose, find_file};
-ghost use Rattle.sdd_control.specs.Script.{IsSound};
+ghost use Rattle.sdd_control.specs.Script.{IsSoundScript};
 ghost use Rattle.sdd_control.specs.Walk.{control_script};
 ghost use Rattle.sdd_app.specs.Answer.{BlamesScript, ComesToControl, script_named};
 ghost use Rattle.sdd_app.specs.Endings.{FilesRead, IsRead, ToItsEnd, ToItsLimit};
@@ -18,7 +18,7 @@ use std::alloc::Global;
 /// The script that the bytes give.
 fn judged(alloc: Global, bytes: &[u8]) -> Result<ControlScript, Status>
     ensures told { MatchResult result (λ s. control_script bytes.now ≡ Ok s) (λ s. Explains s (BlamesScript (Some (control_script bytes.now)))) }
-    ensures sound { IfOk result IsSound }
+    ensures sound { IfOk result IsSoundScript }
     ensures errors { IfErr result ComesOfFiles }
     ensures read { IfErr result (λ s. s ≡ Status.ReadFault → ⊥) }
 {
@@ -33,7 +33,7 @@ fn accepted_script<S: Shelf>(
 ) -> Result<ControlScript, Status>
     ensures told { (fs : List ShelfFile) → S.files shelf.old ≡ Some fs → MatchResult result
         (λ s. script_named fs name.now ≡ Some (Ok s)) (λ s. Explains s (BlamesScript (script_named fs name.now))) }
-    ensures sound { IfOk result IsSound }
+    ensures sound { IfOk result IsSoundScript }
     ensures ended { OnOk result ((file : ℕ) × IsRead (S.files shelf.old) (S.is_open shelf.old) (S.is_open shelf.new) (S.opened shelf.new) (ToItsEnd name.now) file) }
     ensures at_fault { IfErr result (AtFault ⊥ ((file : ℕ) × IsRead (S.files shelf.old) (S.is_open shelf.old)
         (S.is_open shelf.new) (S.opened shelf.new) (ToItsLimit MAX_WORKLOAD_BYTES name.now) file)) }

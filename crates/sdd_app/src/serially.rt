@@ -1,6 +1,6 @@
 //! The submitted transactions of a workload, run one after the other on one database.
 ghost use Rattle.std.specs.Prelude.{◌≡◌, ◌++◌, ◌∷◌, [], List, map, flat_map, filter_map, All, IfOk, OnOk};
-ghost use Rattle.sdd_lang.specs.All.{Fits, FitsStart, database_of};
+ghost use Rattle.sdd_lang.specs.All.{FitsStart, FitsTxn, database_of};
 ghost use Rattle.sdd_verified.specs.script.Valid.{IsValid};
 ghost use Rattle.std.specs.Option.{option_copied};
 ghost use Rattle.sdd_verified.specs.report.Names.{spaced};
@@ -81,7 +81,7 @@ fn put_replies(
     txns: &[&Txn],
 ) -> Result<(), NoMemory>
     requires rows { All (FitsStart catalogue.now) rows.now }
-    requires txns { All (λ t. Fits catalogue.now t.now) txns.now }
+    requires txns { All (λ t. FitsTxn catalogue.now t.now) txns.now }
     ensures { OnOk result (text.new.items ≡ text.old.items ++ replies_of catalogue.now (database_of catalogue.now rows.now) (map (λ t. t.now) txns.now)) }
 {
     let mut plain = Plain::new(alloc, catalogue, rows.as_slice())?;

@@ -26,7 +26,7 @@ pub use Rattle.sdd_graph.specs.Edges.{IsClassOf}
 pub use Rattle.sdd_module.proofs.Making.{with_sends-append}
 pub use Rattle.sdd_module.proofs.lang.Sets.{IsThere, each_filtered as all_kept, fragments_there, reads_there}
 pub use Rattle.sdd_module.proofs.lang.catalog.RangeLemmas.{position_from_later as later}
-pub use Rattle.sdd_module.specs.All.{Act, Ask, Bases, Catalogue, Change, ClassNo, Commit, Condition, Const, D, Database, Delete, Did, DmNo, Effect, Entry, Era, Fetch, Fits, FitsCondition, FitsStatement, FragNo, Handed, Held, IsWhole, Log, Msg, Notes, Nothing, Put, Query, Read, Ready, Rec, Records, Redeclared, Reduce, Reduced, Reject, RelNo, Release, Restriction, Row, Rows, Same, Sends, Setting, Ship, Site, Start, Stmt, Submits, T, Ticked, Ticking, Ts, Txn, TxnNo, U, Update, Use, Value, Values, Write, allowed_keys, ascending, bound_of, class_no, conditions, contains, current_era, dm_no, effect, frag_no, fragments_for, fragments_in, has_copy, head_of, is_empty, is_read_at, key_column, meets_keys, numbers_to, or_else, part_uses, pushed, read_set, reads_at, restrictions_of, same_site, sends_of_act, statement_uses, submits, tail_of, ticked, time_at, timestamp, txn_no, undeclared_conditions, uses_from, uses_in, uses_of, value_cmp, with_act, with_values}
+pub use Rattle.sdd_module.specs.All.{Act, Ask, Bases, Catalogue, Change, ClassNo, Commit, Condition, Const, D, Database, Delete, Did, DmNo, Effect, Entry, Era, Fetch, FitsCondition, FitsStatement, FitsTxn, FragNo, Handed, Held, IsWhole, Log, Msg, Notes, Nothing, Put, Query, Read, Ready, Rec, Records, Redeclared, Reduce, Reduced, Reject, RelNo, Release, Restriction, Row, Rows, Same, Sends, Setting, Ship, Site, Start, Stmt, Submits, T, Ticked, Ticking, Ts, Txn, TxnNo, U, Update, Use, Value, Values, Write, allowed_keys, ascending, bound_of, class_no, conditions, contains, current_era, dm_no, effect, frag_no, fragments_for, fragments_in, has_copy, head_of, is_empty, is_read_at, key_column, meets_keys, numbers_to, or_else, part_uses, pushed, read_set, reads_at, restrictions_of, same_site, sends_of_act, statement_uses, submits, tail_of, ticked, time_at, timestamp, txn_no, undeclared_conditions, uses_from, uses_in, uses_of, value_cmp, with_act, with_values}
 pub use Rattle.sdd_semijoin.proofs.Undone.{few_undone, fewer_left}
 pub use Rattle.sdd_semijoin.specs.Steps.{Join, Move, better, fewest, is_candidate, joins_from, moves, moves_by, next_move, rows_at}
 pub use Rattle.sdd_semijoin.specs.declared.step.Step.{Step}

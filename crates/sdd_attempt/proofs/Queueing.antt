@@ -1,5 +1,5 @@
 -- The line of a class after each step: what it keeps, and that it is what the act makes of it.
-use Rattle.sdd_attempt.proofs.All.{All-append, All-cons, All-head, All-nil, All-tail, AllByRecursion, AreAwaitedFrom, AreDistinct, Attempt, Bases, Bool, CarriesFew, Catalogue, D, Exchange, Fetching, Fits, IsAwaited, IsLine, IsRunning, IsWhole, List, Msg, None, Option, Phase, Queued, Running, RunsFirst, Site, Some, Ticking, [], active_handed, active_of, after_hand, after_send, ap, arith, ascending, asks_rows, attempt_of, begins, bound_of, commit_next, cond, contains, drop, eqb-true, false, fetches_use, filter, fragments_in, get_or, handed_by, if◌then◌else◌, is_fetching, length, line_done, line_of, map, map-append, modules_of, nat_tests, neither, not, option_map, read_to, refl, rejects, rules, second_so, send_next, sends_of_act, slice_set, start_act, start_next, subst, suc, sym, tail_of, ticked, timestamp, tried, true, uses_of, ℕ, ◌++◌, ◌<◌, ◌==◌, ◌∙◌, ◌∷◌, ◌≡◌}
+use Rattle.sdd_attempt.proofs.All.{All-append, All-cons, All-head, All-nil, All-tail, AllByRecursion, AreAwaitedFrom, AreDistinct, Attempt, Bases, Bool, CarriesFew, Catalogue, D, Exchange, Fetching, FitsTxn, IsAwaited, IsLine, IsRunning, IsWhole, List, Msg, None, Option, Phase, Queued, Running, RunsFirst, Site, Some, Ticking, [], active_handed, active_of, after_hand, after_send, ap, arith, ascending, asks_rows, attempt_of, begins, bound_of, commit_next, cond, contains, drop, eqb-true, false, fetches_use, filter, fragments_in, get_or, handed_by, if◌then◌else◌, is_fetching, length, line_done, line_of, map, map-append, modules_of, nat_tests, neither, not, option_map, read_to, refl, rejects, rules, second_so, send_next, sends_of_act, slice_set, start_act, start_next, subst, suc, sym, tail_of, ticked, timestamp, tried, true, uses_of, ℕ, ◌++◌, ◌<◌, ◌==◌, ◌∙◌, ◌∷◌, ◌≡◌}
 use Rattle.sdd_attempt.proofs.Phases.{asks_stay}
 use Rattle.sdd_attempt.proofs.Uses.{few_modules, same_length, small_text}
 use Rattle.sdd_attempt.proofs.Room.{begins_room, handed_room, sent_room}
@@ -50,14 +50,14 @@ runs_more c queue q None h = tt
 runs_more c [] q (Some r) h = absurd h
 runs_more c (x ∷ queue) q (Some r) h = h
 
-pub submitted_line : (cat : Catalogue) (c : ℕ) (queue more : List Queued) (r : Option Running) (q : Queued) → IsLine cat c queue r → Fits cat q.text
+pub submitted_line : (cat : Catalogue) (c : ℕ) (queue more : List Queued) (r : Option Running) (q : Queued) → IsLine cat c queue r → FitsTxn cat q.text
     → contains (map number_of queue) q.number ≡ false → more ≡ queue ++ q ∷ [] → IsLine cat c more r
 submitted_line cat c queue more r q line fits fresh e =
     subst (λ qs. IsLine cat c qs r) (sym e) (record {
       class = line.class;
       distinct = subst AreDistinct (sym (map-append number_of queue (q ∷ []))) (distinct_more (map number_of queue) q.number line.distinct fresh);
-      fits = All-append (λ (x : Queued). Fits cat x.text) queue (q ∷ []) line.fits
-          (All-cons (λ (x : Queued). Fits cat x.text) q [] fits (All-nil (λ (x : Queued). Fits cat x.text)));
+      fits = All-append (λ (x : Queued). FitsTxn cat x.text) queue (q ∷ []) line.fits
+          (All-cons (λ (x : Queued). FitsTxn cat x.text) q [] fits (All-nil (λ (x : Queued). FitsTxn cat x.text)));
       runs = runs_more c queue q r line.runs;
     })
 
@@ -177,14 +177,14 @@ begun_view cat c table clock q queue distinct =
 pub begun_line : (cat : Catalogue) (c : ℕ) (table : List line.Entry) (clock : Ticking) (q : Queued) (queue : List Queued) → IsWhole cat
     → IsLine cat c (q ∷ queue) None → IsLine cat c (one_try q ∷ queue) (Some (start_of cat c table clock q))
 begun_line cat c table clock q queue whole line =
-    let fits : Fits cat q.text = All-head (λ (x : Queued). Fits cat x.text) q queue line.fits in
+    let fits : FitsTxn cat q.text = All-head (λ (x : Queued). FitsTxn cat x.text) q queue line.fits in
     let small = small_text cat q.text fits in
     let reads = same_length (read_to cat table c q (uses_of cat q.text) (timestamp (ticked clock 1)) (bound_of clock))
     (modules_of cat c (ascending (fragments_in (uses_of cat q.text)))) in
     record {
       class = line.class;
       distinct = line.distinct;
-      fits = All-cons (λ (x : Queued). Fits cat x.text) (one_try q) queue fits (All-tail (λ (x : Queued). Fits cat x.text) q queue line.fits);
+      fits = All-cons (λ (x : Queued). FitsTxn cat x.text) (one_try q) queue fits (All-tail (λ (x : Queued). FitsTxn cat x.text) q queue line.fits);
       runs = record {
         started = omega arith;
         room = begins_room q.text (sends_of_act (start_act cat table c clock q)) small (omega (arith, reads, few_modules cat c q.text whole small));
@@ -198,7 +198,7 @@ pub ended_line : (cat : Catalogue) (c : ℕ) (q : Queued) (queue : List Queued) 
 ended_line cat c q queue r line = record {
   class = line.class;
   distinct = line.distinct.1;
-  fits = All-tail (λ (x : Queued). Fits cat x.text) q queue line.fits;
+  fits = All-tail (λ (x : Queued). FitsTxn cat x.text) q queue line.fits;
   runs = tt;
 }
 

@@ -1,5 +1,5 @@
 -- The uses of a transaction and their fragments: each is there, and they are few.
-use Rattle.sdd_attempt.proofs.All.{All, All-append, All-cons, All-from_recursion, All-head, All-nil, All-tail, All-weaker, AllByRecursion, AreThere, Bool, Catalogue, Condition, Const, Delete, Fits, FitsCondition, FitsStatement, FragNo, Greater, IsClassOf, IsSmallStatement, IsSmallText, IsThere, IsWhole, JoinsWithin, List, Ordering, Put, Query, RelNo, Restriction, Same, Stmt, Txn, Update, Use, [], allowed_keys, ap, arith, ascending, conditions, conditions_at, false, filter, filter_map, flat_map-append, fold, frag_no, fragments_for, fragments_in, fragments_there, if◌then◌else◌, insert_key, key_column, length, length-append, length-range_with_len, map, match_ordering, meets_keys, modules_of, nat_cmp, nat_tests, numbers_to, part_uses, reads_at, refl, restrictions_of, statement_uses, suc, sym, true, undeclared_conditions, uses_from, uses_of, ℕ, ◌*◌, ◌+◌, ◌==◌, ◌∙◌, ◌∷◌, ◌≡◌, ◌≤◌}
+use Rattle.sdd_attempt.proofs.All.{All, All-append, All-cons, All-from_recursion, All-head, All-nil, All-tail, All-weaker, AllByRecursion, AreThere, Bool, Catalogue, Condition, Const, Delete, FitsCondition, FitsStatement, FitsTxn, FragNo, Greater, IsClassOf, IsSmallStatement, IsSmallText, IsThere, IsWhole, JoinsWithin, List, Ordering, Put, Query, RelNo, Restriction, Same, Stmt, Txn, Update, Use, [], allowed_keys, ap, arith, ascending, conditions, conditions_at, false, filter, filter_map, flat_map-append, fold, frag_no, fragments_for, fragments_in, fragments_there, if◌then◌else◌, insert_key, key_column, length, length-append, length-range_with_len, map, match_ordering, meets_keys, modules_of, nat_cmp, nat_tests, numbers_to, part_uses, reads_at, refl, restrictions_of, statement_uses, suc, sym, true, undeclared_conditions, uses_from, uses_of, ℕ, ◌*◌, ◌+◌, ◌==◌, ◌∙◌, ◌∷◌, ◌≡◌, ◌≤◌}
 use Rattle.sdd_attempt.proofs.Lists.{few_filtered, few_picked}
 use Rattle.sdd_module.specs.protocol.declared.entry.Entry as line
 
@@ -125,7 +125,7 @@ small_statement cat (Query out rels conds) fits =
     (few, fits.4.0, All-weaker (FitsCondition cat rels) (JoinsWithin 0 6) (small_join cat rels few) conds fits.4.1)
 small_statement cat _ fits = tt
 
-pub small_text : (cat : Catalogue) (txn : Txn) → Fits cat txn → IsSmallText txn
+pub small_text : (cat : Catalogue) (txn : Txn) → FitsTxn cat txn → IsSmallText txn
 small_text cat txn fits =
     record { few = fits.few; statements = All-weaker (FitsStatement cat) IsSmallStatement (small_statement cat) txn.statements fits.statements }
 

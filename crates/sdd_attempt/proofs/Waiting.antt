@@ -1,6 +1,6 @@
 -- The queue of a class after each entry of the log: its transactions stay different ones that fit, and the active
 -- attempt is of the first of them.
-use Rattle.sdd_attempt.proofs.All.{Act, AllByRecursion, Attempt, Bool, Catalogue, Commit, D, Differ, Fits, IsOfHead, IsQueue, IsWaiting, List, Msg, None, Option, Queued, Rec, Records, Sends, Site, Some, Start, Txn, [], active_handed, active_sent, after_hand, after_send, all_kept, ap, arith, asks_rows, cond, contains, eq-eqb, eqb-true, false, false≢true, filter, head_of, if◌then◌else◌, is_for, is_some, length, list_all, map, not, or_right, queue_after, read_set, reads_at, refl, rejects, started, submitted, subst, suc, sym, tried, true, zero, ℕ, ◌++◌, ◌<◌, ◌==◌, ◌^◌, ◌∙◌, ◌∷◌, ◌≡◌, ◌≢◌, ◌≤◌}
+use Rattle.sdd_attempt.proofs.All.{Act, AllByRecursion, Attempt, Bool, Catalogue, Commit, D, Differ, FitsTxn, IsOfHead, IsQueue, IsWaiting, List, Msg, None, Option, Queued, Rec, Records, Sends, Site, Some, Start, Txn, [], active_handed, active_sent, after_hand, after_send, all_kept, ap, arith, asks_rows, cond, contains, eq-eqb, eqb-true, false, false≢true, filter, head_of, if◌then◌else◌, is_for, is_some, length, list_all, map, not, or_right, queue_after, read_set, reads_at, refl, rejects, started, submitted, subst, suc, sym, tried, true, zero, ℕ, ◌++◌, ◌<◌, ◌==◌, ◌^◌, ◌∙◌, ◌∷◌, ◌≡◌, ◌≢◌, ◌≤◌}
 
 -- a try changes no number and no text
 
@@ -78,7 +78,7 @@ differ_push cat c given (q ∷ qs) r all fresh h =
     (all_push (λ (x : Queued). x.number ≢ q.number) qs r h.0 apart, differ_push cat c given qs r all.1 fresh h.1)
 
 pub queue_submitted : (cat : Catalogue) (c : ℕ) (given : List ℕ) (here : Catalogue) (n : ℕ) (txn : Txn) (qs : List Queued) → contains given n ≡ false
-    → n < 2 ^ 32 → Fits cat txn → (is_for c here txn ≡ true → list_all (λ f. is_some (reads_at cat c f)) (read_set cat txn) ≡ true) → IsQueue cat c given qs
+    → n < 2 ^ 32 → FitsTxn cat txn → (is_for c here txn ≡ true → list_all (λ f. is_some (reads_at cat c f)) (read_set cat txn) ≡ true) → IsQueue cat c given qs
     → IsQueue cat c (n ∷ given) (submitted c here n txn qs)
 queue_submitted cat c given here n txn qs fresh small fits covered h =
     let new : Queued = record { number = n; text = txn; tries = 0 } in

@@ -29,7 +29,7 @@ pub use Rattle.sdd_attempt.specs.base.declared.site.Site.TheVariants.{D, T, U}
 pub use Rattle.sdd_attempt.specs.base.declared.usage.Use.{Use}
 pub use Rattle.sdd_attempt.specs.catalog.Catalogue.{Catalogue, catalogue_of, class_at, fragment_at, fragment_from, fragment_of, has_copy, lowest_copy, numbers_to, parts_of, reads_at, relation_names, writes}
 pub use Rattle.sdd_attempt.specs.catalog.Numbers.{IsPlaced, IsWhole}
-pub use Rattle.sdd_attempt.specs.catalog.Rules.{IsSound, fragment_rules}
+pub use Rattle.sdd_attempt.specs.catalog.Rules.{IsSoundCatalogue, fragment_rules}
 pub use Rattle.sdd_attempt.specs.catalog.declared.parts.FragmentPart.{FragmentPart}
 pub use Rattle.sdd_attempt.specs.catalog.declared.parts.Parts.{Parts}
 pub use Rattle.sdd_attempt.specs.catalog.declared.resolved.Fragment.{Fragment}
@@ -42,7 +42,7 @@ pub use Rattle.sdd_attempt.specs.history.declared.record.Rec.TheVariants.{Answer
 pub use Rattle.sdd_attempt.specs.lang.Classes.{class_for, covers, fragments_in, read_set, write_set}
 pub use Rattle.sdd_attempt.specs.lang.Condition.{Tuple, part_of}
 pub use Rattle.sdd_attempt.specs.lang.Database.{Database, Item, Row, rows_of, with_row}
-pub use Rattle.sdd_attempt.specs.lang.Fits.{Fits, FitsCondition, FitsStatement, IsRelation, rel_of}
+pub use Rattle.sdd_attempt.specs.lang.Fits.{FitsCondition, FitsStatement, FitsTxn, IsRelation, rel_of}
 pub use Rattle.sdd_attempt.specs.lang.Query.{product}
 pub use Rattle.sdd_attempt.specs.lang.Sound.{IsDatabase, IsEntry}
 pub use Rattle.sdd_attempt.specs.lang.Source.{uses_in}

@@ -1,7 +1,7 @@
 -- The line of a class: its queue and its active attempt, at a site that makes its attempts.
 use Rattle.std.specs.Prelude.{ℕ, ◌≡◌, ◌≤◌, ◌==◌, Bool, true, false, if◌then◌else◌, List, [], ◌∷◌, length, map, option_map, Option, Some, None}
 use Rattle.std.specs.List.{All, AllByRecursion}
-use Rattle.sdd_module.specs.All.{Act, Bases, Catalogue, D, Fits, Msg, Site, Ticking, Values, contains, head_of}
+use Rattle.sdd_module.specs.All.{Act, Bases, Catalogue, D, FitsTxn, Msg, Site, Ticking, Values, contains, head_of}
 use Rattle.sdd_module.specs.protocol.declared.entry.Entry as line
 use Rattle.sdd_exec.specs.Serves.{Serves}
 use Rattle.sdd_attempt.specs.Acts.{start_act, commit_act}
@@ -141,5 +141,5 @@ RunsFirst c (q ∷ queue) (Some r) = IsRunning c q r
 pub record IsLine (cat : Catalogue) (c : ℕ) (queue : List Queued) (running : Option Running) : Type 0 where
   pub class : c ≤ length cat.classes
   pub distinct : AreDistinct (map (λ q. q.number) queue)
-  pub fits : All (λ q. Fits cat q.text) queue
+  pub fits : All (λ q. FitsTxn cat q.text) queue
   pub runs : RunsFirst c queue running

@@ -1,7 +1,7 @@
 -- What holds of the queue of a class and of its attempt in every log of a site whose messages and transactions fit.
 use Rattle.std.specs.Prelude.{ℕ, ◌<◌, ◌≤◌, ◌^◌, ◌≡◌, ◌≢◌, Bool, true, false, ◌&&◌, List, [], ◌∷◌, map, Option, Some, None, is_some}
 use Rattle.std.specs.List.{AllByRecursion, list_any, list_all}
-use Rattle.sdd_module.specs.All.{Bases, Catalogue, D, Fits, Log, Msg, Read, Ready, Reduced, Reject, Rows, Setting, Site, Values, contains, dm_no, head_of, read_set, reads_at, submits, timestamp}
+use Rattle.sdd_module.specs.All.{Bases, Catalogue, D, FitsTxn, Log, Msg, Read, Ready, Reduced, Reject, Rows, Setting, Site, Values, contains, dm_no, head_of, read_set, reads_at, submits, timestamp}
 use Rattle.sdd_exec.specs.Serves.{Serves}
 use Rattle.sdd_attempt.specs.Clocks.{clock}
 use Rattle.sdd_attempt.specs.Queues.{Queued, queue}
@@ -21,7 +21,7 @@ Differ (q ∷ queue) = AllByRecursion (λ r. r.number ≢ q.number) queue × Dif
 pub record IsWaiting (cat : Catalogue) (c : ℕ) (given : List ℕ) (q : Queued) : Type 0 where
   pub is_given : contains given q.number ≡ true
   pub small : q.number < 2 ^ 32
-  pub fitting : Fits cat q.text
+  pub fitting : FitsTxn cat q.text
   pub covered : list_all (λ f. is_some (reads_at cat c f)) (read_set cat q.text) ≡ true
 
 pub record IsQueue (cat : Catalogue) (c : ℕ) (given : List ℕ) (queue : List Queued) : Type 0 where

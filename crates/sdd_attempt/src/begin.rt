@@ -1,5 +1,5 @@
 ghost use Rattle.std.specs.Prelude.{◌≡◌, ◌<◌, ◌+◌, ◌^◌, [], suc, option_map, unwrap_or, IfOk, OnOk};
-ghost use Rattle.sdd_module.specs.All.{Fits, sends_of_act, ticked, timestamp, with_act};
+ghost use Rattle.sdd_module.specs.All.{FitsTxn, sends_of_act, ticked, timestamp, with_act};
 ghost use Rattle.sdd_attempt.specs.Acts.{start_act};
 ghost use Rattle.sdd_attempt.specs.Exchange.{begins};
 ghost use Rattle.sdd_attempt.specs.Reads.{IsDeclared};
@@ -25,7 +25,7 @@ pub(crate) fn begun(
     clock: &mut Clock,
     draft: &mut Draft,
 ) -> Result<Running, NoMemory>
-    requires fits { Fits cat.now queued.now.text }
+    requires fits { FitsTxn cat.now queued.now.text }
     requires declared { IsDeclared cat.now class.0 (option_map (λ t. t.now) table) }
     requires tries { suc queued.now.tries < 2 ^ 64 }
     requires time { clock.old.ticks + 1 < 2 ^ 57 }

@@ -1,6 +1,6 @@
 ghost use Rattle.std.specs.Prelude.{◌≡◌, ℕ, IfOk, OnOk};
 ghost use Rattle.sdd_exec.specs.Serves.{Serves};
-ghost use Rattle.sdd_module.specs.All.{Bases, Database, Fits, IsDatabase, effect, with_act};
+ghost use Rattle.sdd_module.specs.All.{Bases, Database, FitsTxn, IsDatabase, effect, with_act};
 ghost use Rattle.sdd_attempt.specs.Acts.{commit_act};
 ghost use Rattle.sdd_attempt.specs.Lines.{attempt_of};
 
@@ -24,7 +24,7 @@ pub(crate) fn committed(
     running: Running,
     draft: &mut Draft,
 ) -> Result<(), NoMemory>
-    requires { Fits cat.now queued.text }
+    requires { FitsTxn cat.now queued.text }
     ensures { OnOk result (
         (bases : Bases) → ((ts : ℕ) → IsDatabase cat.now (bases ts))
         → Serves cat.now queued.text running.exchange.found (bases running.ts)
@@ -59,7 +59,7 @@ fn effect_from(
     text: &Txn,
     rows: Vec<(u32, Row)>,
 ) -> Result<Effect, NoMemory>
-    requires { Fits cat.now text.now }
+    requires { FitsTxn cat.now text.now }
     ensures { IfOk result (λ made.
         (db : Database) → IsDatabase cat.now db → Serves cat.now text.now rows.items db
         → made ≡ effect cat.now db text.now) }

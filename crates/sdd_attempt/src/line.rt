@@ -1,5 +1,5 @@
 ghost use Rattle.std.specs.Prelude.{◌≡◌, ◌<◌, ◌≤◌, ◌+◌, ◌++◌, ◌∷◌, ◌^◌, ◌==◌, ◌&&◌, ℕ, [], is_none, length, map, not, option_map, position, unwrap_or, IfOk, IsTrue, OnOk, None, false};
-ghost use Rattle.sdd_module.specs.All.{Bases, Fits, IsDatabase, contains, head_of, is_empty, noted};
+ghost use Rattle.sdd_module.specs.All.{Bases, FitsTxn, IsDatabase, contains, head_of, is_empty, noted};
 ghost use Rattle.sdd_attempt.specs.Attempts.{active_handed};
 ghost use Rattle.sdd_attempt.specs.Lines.{AreTried, IsAwaited, ServesAt, awaited_by, clock_done, commit_next, head_is_untried, lacked_by, line_done, line_step, no_line, send_next, start_next, tries_of_first};
 ghost use Rattle.sdd_attempt.specs.Queues.{txn_of};
@@ -202,7 +202,7 @@ impl<'a> Line<'a> {
 
     /// Puts a transaction at the end of the queue. Costs a copy of it.
     pub fn submit(&mut self, number: TxnNo, text: &Txn) -> Result<(), NoMemory>
-        requires fits { Fits self.old.catalogue text.now }
+        requires fits { FitsTxn self.old.catalogue text.now }
         requires fresh { contains (map (λ q. q.number) self.old.queue) number.0 ≡ false }
         ensures line { OnOk result (
             self.new

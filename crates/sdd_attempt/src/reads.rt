@@ -1,7 +1,7 @@
 ghost use Rattle.std.specs.Prelude.{◌≡◌, ◌<◌, ◌≤◌, ◌^◌, ◌++◌, ◌∷◌, [], nat_lt, not, suc, All, option_to_list, filter, filter_map, fold, length, map, option_map, position, unwrap_or, IfOk, OnOk};
 ghost use Rattle.std.specs.Ordering.{nat_cmp};
 ghost use Rattle.std.specs.BTreeSet.{insert_key};
-ghost use Rattle.sdd_module.specs.All.{Fits, ascending, class_no, fragments_in, is_read_at, numbers_to, reads_at, time_at, txn_no, uses_of};
+ghost use Rattle.sdd_module.specs.All.{FitsTxn, ascending, class_no, fragments_in, is_read_at, numbers_to, reads_at, time_at, txn_no, uses_of};
 ghost use Rattle.sdd_attempt.specs.Acts.{conditions_at, modules_of, p2_of, read_to, use_there};
 ghost use Rattle.sdd_attempt.specs.Exchange.{module_read};
 ghost use Rattle.sdd_attempt.specs.Reads.{AreThere, IsDeclared, reads_of, reads_to};
@@ -69,7 +69,7 @@ impl<'a> Beginning<'a> {
         own: Ts,
         p2: Ts,
     ) -> Result<Beginning<'a>, NoMemory>
-        requires fits { Fits cat.now queued.now.text }
+        requires fits { FitsTxn cat.now queued.now.text }
         requires declared { IsDeclared cat.now class.0 (option_map (λ t. t.now) table) }
         requires tries { suc queued.now.tries < 2 ^ 64 }
         ensures { IfOk result (λ b.

@@ -28,6 +28,6 @@ abbrev pub Fails : {E F Y : Type 0} → (E → Option F) → E → Result Y F �
 Fails fault_in e reading = IfSome (fault_in e) (λ fault. reading ≡ Err fault)
 
 -- a result, seen by view, is what the reading gives
-abbrev pub Gives : {E F X Y : Type 0} → (E → Option F) → (X → Y) → Result X E → Result Y F → Type 0
-Gives fault_in view (Ok x) reading = reading ≡ Ok (view x)
-Gives fault_in view (Err e) reading = Fails fault_in e reading
+abbrev pub GivesReading : {E F X Y : Type 0} → (E → Option F) → (X → Y) → Result X E → Result Y F → Type 0
+GivesReading fault_in view (Ok x) reading = reading ≡ Ok (view x)
+GivesReading fault_in view (Err e) reading = Fails fault_in e reading

@@ -11,7 +11,7 @@ pub use Rattle.sdd_catalog.specs.Names.{Text, is_at, name_at, number_of, place_o
 pub use Rattle.sdd_catalog.specs.Naming.{AreNamed, IsNamed}
 pub use Rattle.sdd_catalog.specs.Numbers.{HasKey, IsPlaced, IsServed, IsServedClass, IsWhole, NamesFragments, NamesRelation}
 pub use Rattle.sdd_catalog.specs.Resolving.{HaveNumbers, IsAtModules, IsModule, RunsAtModules}
-pub use Rattle.sdd_catalog.specs.Rules.{IsSound, IsValid, class_faults, class_rules, column_named, copies_in, copies_of, copy_rules, count_faults, count_rules, cover_faults, faults_after, faults_at, faults_of_class, faults_of_fragment, faults_of_ranges, faults_of_relation, found_from, found_in, fragment_faults, fragment_rules, greatest_key, has_name, is_from_1_to, key_rules, least_key, next_rules, range_faults, range_of, ranges_of, read_rules, relation_faults, relation_rules, sorted, sorted_from, when, with_range, write_rules}
+pub use Rattle.sdd_catalog.specs.Rules.{IsSoundCatalogue, IsValid, class_faults, class_rules, column_named, copies_in, copies_of, copy_rules, count_faults, count_rules, cover_faults, faults_after, faults_at, faults_of_class, faults_of_fragment, faults_of_ranges, faults_of_relation, found_from, found_in, fragment_faults, fragment_rules, greatest_key, has_name, is_from_1_to, key_rules, least_key, next_rules, range_faults, range_of, ranges_of, read_rules, relation_faults, relation_rules, sorted, sorted_from, when, with_range, write_rules}
 pub use Rattle.sdd_catalog.specs.declared.fault.CatFault.{CatFault}
 pub use Rattle.sdd_catalog.specs.declared.fault.CatRule.{CatRule}
 pub use Rattle.sdd_catalog.specs.declared.fault.CatRule.TheVariants.{DuplicateName, RangeGap, UnknownName}

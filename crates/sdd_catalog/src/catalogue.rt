@@ -4,7 +4,7 @@ ghost use Rattle.sdd_catalog.specs.Catalogue.{catalogue_of, parts_of, relation_a
 ghost use Rattle.sdd_catalog.specs.Cover.{Cover, ranges_for};
 ghost use Rattle.sdd_catalog.specs.Naming.{AreNamed};
 ghost use Rattle.sdd_catalog.specs.Numbers.{IsWhole};
-ghost use Rattle.sdd_catalog.specs.Rules.{IsValid, IsSound, TellsFirst, faults_of};
+ghost use Rattle.sdd_catalog.specs.Rules.{IsValid, IsSoundCatalogue, TellsFirst, faults_of};
 
 use crate::fault::CatError;
 use crate::first_fault::first_fault;
@@ -78,7 +78,7 @@ impl Catalogue {
     /// numbers name is there, and its names are names. Takes no memory.
     #[tactic(auto, using(crate::proofs::Sound::sound_whole))]
     pub fn known(&self)
-        ensures sound { IsSound self.now }
+        ensures sound { IsSoundCatalogue self.now }
         ensures whole { IsWhole self.now }
         ensures named { AreNamed self.now }
     {

@@ -4,7 +4,7 @@ ghost use Rattle.std.specs.Map.{keys_of};
 ghost use Rattle.std.specs.Str.{bytes_eq};
 ghost use Rattle.toml.specs.View.{view as data_of, table_view};
 ghost use Rattle.toml.specs.Data.{get_member};
-ghost use Rattle.sdd_base.specs.Readings.{Gives};
+ghost use Rattle.sdd_base.specs.Readings.{GivesReading};
 ghost use Rattle.sdd_catalog.specs.Rules.{fault_in};
 ghost use Rattle.sdd_catread.specs.Values.{table_of, only, present, whole_of, key_of, key_or, name_in, name_of, kind_in, kind_of, elements_of, is_table, array_of_tables, tables_or_none};
 
@@ -16,7 +16,7 @@ use toml::{Table, Value};
 
 /// The fields of a table.
 pub(crate) fn table(location: Location, value: &Value) -> Result<&Table, CatError>
-    ensures { Gives fault_in (λ t. table_view t.now) result (table_of location (data_of value.now)) }
+    ensures { GivesReading fault_in (λ t. table_view t.now) result (table_of location (data_of value.now)) }
 {
     match value {
         Value::Table(fields) => Ok(fields),
@@ -38,7 +38,7 @@ fn has_only(table: &Table, names: &[&str]) -> bool
 
 /// Refuses a table with a field that isn't listed.
 pub(crate) fn only(location: Location, table: &Table, names: &[&str]) -> Result<(), CatError>
-    ensures { Gives fault_in (λ _. table_view table.now) result (only location (map (λ n. n.now) names.now) (table_view table.now)) }
+    ensures { GivesReading fault_in (λ _. table_view table.now) result (only location (map (λ n. n.now) names.now) (table_view table.now)) }
 {
     if has_only(table, names) {
         Ok(())
@@ -60,7 +60,7 @@ pub(crate) fn field<'a>(
     table: &'a Table,
     key: &str,
 ) -> Result<&'a Value, CatError>
-    ensures { Gives fault_in (λ v. data_of v.now) result (present location (get_member key.now (table_view table.now))) }
+    ensures { GivesReading fault_in (λ v. data_of v.now) result (present location (get_member key.now (table_view table.now))) }
 {
     match find(table, key) {
         Some(value) => Ok(value),
@@ -70,7 +70,7 @@ pub(crate) fn field<'a>(
 
 /// A whole number from 0 to 4294967295.
 pub(crate) fn whole(location: Location, value: &Value) -> Result<u32, CatError>
-    ensures { Gives fault_in (λ n. n) result (whole_of location (data_of value.now)) }
+    ensures { GivesReading fault_in (λ n. n) result (whole_of location (data_of value.now)) }
 {
     match value {
         Value::Integer(number) => match u32::try_from(*number) {
@@ -82,7 +82,7 @@ pub(crate) fn whole(location: Location, value: &Value) -> Result<u32, CatError>
 }
 
 fn key(location: Location, value: &Value) -> Result<i64, CatError>
-    ensures { Gives fault_in (λ k. k) result (key_of location (data_of value.now)) }
+    ensures { GivesReading fault_in (λ k. k) result (key_of location (data_of value.now)) }
 {
     match value {
         Value::Integer(number) => Ok(*number),
@@ -97,7 +97,7 @@ pub(crate) fn key_or(
     name: &str,
     absent: i64,
 ) -> Result<i64, CatError>
-    ensures { Gives fault_in (λ k. k) result (key_or location absent (get_member name.now (table_view table.now))) }
+    ensures { GivesReading fault_in (λ k. k) result (key_or location absent (get_member name.now (table_view table.now))) }
 {
     match find(table, name) {
         Some(value) => key(location, value),
@@ -106,7 +106,7 @@ pub(crate) fn key_or(
 }
 
 fn spelled_name(alloc: Global, location: Location, text: &str) -> Result<Name, CatError>
-    ensures { Gives fault_in (λ n. n) result (name_in location text.now) }
+    ensures { GivesReading fault_in (λ n. n) result (name_in location text.now) }
 {
     match Name::new(alloc, text)? {
         Some(name) => Ok(name),
@@ -116,7 +116,7 @@ fn spelled_name(alloc: Global, location: Location, text: &str) -> Result<Name, C
 
 /// A name.
 pub(crate) fn name(alloc: Global, location: Location, value: &Value) -> Result<Name, CatError>
-    ensures { Gives fault_in (λ n. n) result (name_of location (data_of value.now)) }
+    ensures { GivesReading fault_in (λ n. n) result (name_of location (data_of value.now)) }
 {
     match value {
         Value::String(text) => spelled_name(alloc, location, text.as_str()),
@@ -125,7 +125,7 @@ pub(crate) fn name(alloc: Global, location: Location, value: &Value) -> Result<N
 }
 
 fn spelled_kind(location: Location, word: &str) -> Result<Kind, CatError>
-    ensures { Gives fault_in (λ k. k) result (kind_in location word.now) }
+    ensures { GivesReading fault_in (λ k. k) result (kind_in location word.now) }
 {
     if word == "int" {
         Ok(Kind::Int)
@@ -138,7 +138,7 @@ fn spelled_kind(location: Location, word: &str) -> Result<Kind, CatError>
 
 /// The kind of a column.
 pub(crate) fn kind(location: Location, value: &Value) -> Result<Kind, CatError>
-    ensures { Gives fault_in (λ k. k) result (kind_of location (data_of value.now)) }
+    ensures { GivesReading fault_in (λ k. k) result (kind_of location (data_of value.now)) }
 {
     match value {
         Value::String(word) => spelled_kind(location, word.as_str()),
@@ -148,7 +148,7 @@ pub(crate) fn kind(location: Location, value: &Value) -> Result<Kind, CatError>
 
 /// The elements of an array.
 pub(crate) fn elements(location: Location, value: &Value) -> Result<&[Value], CatError>
-    ensures { Gives fault_in (λ vs. map data_of vs.now) result (elements_of location (data_of value.now)) }
+    ensures { GivesReading fault_in (λ vs. map data_of vs.now) result (elements_of location (data_of value.now)) }
 {
     match value {
         Value::Array(values) => Ok(values.as_slice()),
@@ -164,7 +164,7 @@ fn all_tables(values: &[Value]) -> bool
 
 #[tactic(auto, using(crate::proofs::Views::list_all_map))]
 fn array_of_tables(location: Location, value: &Value) -> Result<&[Value], CatError>
-    ensures { Gives fault_in (λ vs. map data_of vs.now) result (array_of_tables location (data_of value.now)) }
+    ensures { GivesReading fault_in (λ vs. map data_of vs.now) result (array_of_tables location (data_of value.now)) }
 {
     let tables = elements(location, value)?;
     if all_tables(tables) {
@@ -180,7 +180,7 @@ pub(crate) fn tables<'a>(
     table: &'a Table,
     name: &str,
 ) -> Result<&'a [Value], CatError>
-    ensures { Gives fault_in (λ vs. map data_of vs.now) result (tables_or_none location (get_member name.now (table_view table.now))) }
+    ensures { GivesReading fault_in (λ vs. map data_of vs.now) result (tables_or_none location (get_member name.now (table_view table.now))) }
 {
     match find(table, name) {
         Some(value) => array_of_tables(location, value),

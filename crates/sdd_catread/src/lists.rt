@@ -1,7 +1,7 @@
 ghost use Rattle.std.specs.Prelude.{◌≡◌, map};
 ghost use Rattle.toml.specs.View.{view as data_of, table_view};
 ghost use Rattle.toml.specs.Data.{get_member};
-ghost use Rattle.sdd_base.specs.Readings.{Gives, along};
+ghost use Rattle.sdd_base.specs.Readings.{GivesReading, along};
 ghost use Rattle.sdd_catalog.specs.Rules.{fault_in};
 ghost use Rattle.sdd_catread.specs.Faults.{numbered};
 ghost use Rattle.sdd_catread.specs.Form.{list_of, list_or_none};
@@ -19,7 +19,7 @@ fn read_each<T: Spelled>(
     location: Location,
     values: &[Value],
 ) -> Result<Listed<T>, CatError>
-    ensures { Gives fault_in (λ l. l) result (along (λ _. T.spelled location) 1 (map data_of values.now)) }
+    ensures { GivesReading fault_in (λ l. l) result (along (λ _. T.spelled location) 1 (map data_of values.now)) }
 {
     let mut items = Vec::new(alloc);
     'values: for value in values {
@@ -34,7 +34,7 @@ pub(crate) fn read_parts<T: Spelled>(
     part: Part,
     tables: &[Value],
 ) -> Result<Listed<T>, CatError>
-    ensures { Gives fault_in (λ l. l) result (numbered T.spelled part (map data_of tables.now)) }
+    ensures { GivesReading fault_in (λ l. l) result (numbered T.spelled part (map data_of tables.now)) }
 {
     let mut items = Vec::new(alloc);
     'tables: for (index, table) in tables.iter().enumerate() {
@@ -50,7 +50,7 @@ pub(crate) fn list<T: Spelled>(
     location: Location,
     value: &Value,
 ) -> Result<Listed<T>, CatError>
-    ensures { Gives fault_in (λ l. l) result (list_of T.spelled location (data_of value.now)) }
+    ensures { GivesReading fault_in (λ l. l) result (list_of T.spelled location (data_of value.now)) }
 {
     read_each(alloc, location, elements(location, value)?)
 }
@@ -62,7 +62,7 @@ pub(crate) fn list_or_none<T: Spelled>(
     table: &Table,
     name: &str,
 ) -> Result<Listed<T>, CatError>
-    ensures { Gives fault_in (λ l. l) result (list_or_none T.spelled location (get_member name.now (table_view table.now))) }
+    ensures { GivesReading fault_in (λ l. l) result (list_or_none T.spelled location (get_member name.now (table_view table.now))) }
 {
     match find(table, name) {
         Some(value) => list(alloc, location, value),

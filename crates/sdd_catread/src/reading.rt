@@ -1,7 +1,7 @@
 ghost use Rattle.std.specs.Prelude.{◌≡◌, IfOk, Ok};
 ghost use Rattle.toml.specs.View.{table_view};
 ghost use Rattle.sdd_catalog.specs.Catalogue.{parts_of};
-ghost use Rattle.sdd_base.specs.Readings.{Gives};
+ghost use Rattle.sdd_base.specs.Readings.{GivesReading};
 ghost use Rattle.sdd_catalog.specs.Rules.{fault_in};
 ghost use Rattle.sdd_catread.specs.Form.{parts_at};
 ghost use Rattle.sdd_catread.specs.Reading.{parts_in, catalogue_in};
@@ -16,7 +16,7 @@ use toml::Table;
 
 #[tactic(auto, unfolding(crate::specs::Form::parts_at))]
 fn parts(alloc: Global, fields: &Table) -> Result<Parts, CatError>
-    ensures { Gives fault_in (λ p. p) result (parts_at (table_view fields.now)) }
+    ensures { GivesReading fault_in (λ p. p) result (parts_at (table_view fields.now)) }
 {
     let top = Location {
         part: Part::Top,
@@ -43,7 +43,7 @@ fn parts(alloc: Global, fields: &Table) -> Result<Parts, CatError>
 
 #[tactic(auto, unfolding(crate::specs::Reading::parts_in), using(crate::proofs::Views::document_of_slice, crate::proofs::Views::no_document))]
 fn parts_in(alloc: Global, bytes: &[u8]) -> Result<Parts, CatError>
-    ensures { Gives fault_in (λ p. p) result (parts_in bytes.now) }
+    ensures { GivesReading fault_in (λ p. p) result (parts_in bytes.now) }
 {
     let top = Location {
         part: Part::Top,
@@ -65,7 +65,7 @@ fn parts_in(alloc: Global, bytes: &[u8]) -> Result<Parts, CatError>
 /// Costs the reading of the TOML, and what `Catalogue::build` does.
 #[tactic(auto, unfolding(crate::specs::Reading::catalogue_in))]
 pub fn read_catalogue(alloc: Global, bytes: &[u8]) -> Result<Catalogue, CatError>
-    ensures exact { Gives fault_in (λ built. built) result (catalogue_in bytes.now) }
+    ensures exact { GivesReading fault_in (λ built. built) result (catalogue_in bytes.now) }
     ensures parts { IfOk result (λ built. parts_in bytes.now ≡ Ok (parts_of built)) }
 {
     let parts = parts_in(alloc, bytes)?;

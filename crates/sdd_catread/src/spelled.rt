@@ -3,7 +3,7 @@ ghost use Rattle.toml.specs.Data.{Data};
 ghost use Rattle.toml.specs.View.{view as data_of};
 ghost use Rattle.sdd_catalog.specs.declared.fault.CatFault.{CatFault};
 ghost use Rattle.sdd_catread.specs.declared.location.Location.{Location as LocationOf};
-ghost use Rattle.sdd_base.specs.Readings.{Gives};
+ghost use Rattle.sdd_base.specs.Readings.{GivesReading};
 ghost use Rattle.sdd_catalog.specs.Rules.{fault_in};
 ghost use Rattle.sdd_catread.specs.Values.{whole_of, name_of};
 
@@ -20,7 +20,7 @@ pub(crate) trait Spelled: Sized + Drop {
     ghost spelled: { LocationOf → Data → Result Self CatFault };
 
     fn read(alloc: Global, location: Location, value: &Value) -> Result<Self, CatError>
-        ensures { Gives fault_in (λ x. x) result (spelled location (data_of value.now)) };
+        ensures { GivesReading fault_in (λ x. x) result (spelled location (data_of value.now)) };
 }
 
 impl Spelled for u32 {

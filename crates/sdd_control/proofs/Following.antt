@@ -1,5 +1,5 @@
 -- The tables follow the log of all events.
-use Rattle.sdd_control.proofs.All.{Act, Adds, Bool, FitAll, Fits, Follows, List, Live, Log, Note, Run, State, Takes, Tracks, [], ap, count_from, happened, is_number, log_after, log_of, note_in, note_of, noted, refl, run_of, subst, sym, true, value, value_in, with_event, ℕ, ◌++◌, ◌∙◌, ◌∷◌, ◌≡◌, ◌≤◌}
+use Rattle.sdd_control.proofs.All.{Act, Adds, Bool, FitAll, FitsAct, Follows, List, Live, Log, Note, Run, State, TakesAct, Tracks, [], ap, count_from, happened, is_number, log_after, log_of, note_in, note_of, noted, refl, run_of, subst, sym, true, value, value_in, with_event, ℕ, ◌++◌, ◌∙◌, ◌∷◌, ◌≡◌, ◌≤◌}
 use Rattle.sdd_control.proofs.Numbers.{count_written, numbered}
 use Rattle.sdd_control.proofs.Promises.{kept}
 use Rattle.sdd_control.proofs.Tracking.{note_same, tracks_on, value_same}
@@ -10,18 +10,18 @@ log_after-append : (backups writes : ℕ) (log : Log) (acts : List Act) (act : A
 log_after-append backups writes log [] act = refl
 log_after-append backups writes log (x ∷ acts) act = log_after-append backups writes (happened backups writes log x) acts act
 
-pub FitAll-append : (backups : ℕ) (acts : List Act) (act : Act) → FitAll backups acts → Fits backups act → FitAll backups (acts ++ act ∷ [])
+pub FitAll-append : (backups : ℕ) (acts : List Act) (act : Act) → FitAll backups acts → FitsAct backups act → FitAll backups (acts ++ act ∷ [])
 FitAll-append backups [] act f g = (g, tt)
 FitAll-append backups (x ∷ acts) act f g = (f.0, FitAll-append backups acts act f.1 g)
 
 -- the note by the tables is the note by the log
-pub followed_note : (st : State) (acts : List Act) (act : Act) → Follows st acts → Fits st.backups act
+pub followed_note : (st : State) (acts : List Act) (act : Act) → Follows st acts → FitsAct st.backups act
     → note_in st act ≡ note_of st.backups st.writes (log_of st.backups st.writes acts) act
 followed_note st acts act f fits =
     note_same st (log_of st.backups st.writes acts) f.tracks (kept st.backups st.writes acts f.fit) (numbered st.backups st.writes acts f.fit) act fits
 
-module _ (old mid new : State) (acts : List Act) (act : Act) (note : Note) (f : Follows old acts) (fits : Fits old.backups act) (is : note ≡ note_in old act)
-    (taking : Takes old mid act) (adding : Adds mid new note) where
+module _ (old mid new : State) (acts : List Act) (act : Act) (note : Note) (f : Follows old acts) (fits : FitsAct old.backups act) (is : note ≡ note_in old act)
+    (taking : TakesAct old mid act) (adding : Adds mid new note) where
   same_backups : new.backups ≡ old.backups
   same_backups = adding.backups ∙ ap (λ (z : State). z.backups) taking.others
 
@@ -62,10 +62,10 @@ module _ (st : State) (acts : List Act) (live : Bool) (seen : Live Run) (view : 
   pub backups_now : st.backups ≡ seen.value.backups
   backups_now = ap (λ (z : Run). z.backups) run_now
 
-  pub fits_now : (act : Act) → Fits seen.value.backups act → Fits st.backups act
-  fits_now act f = subst (λ z. Fits z act) (sym backups_now) f
+  pub fits_now : (act : Act) → FitsAct seen.value.backups act → FitsAct st.backups act
+  fits_now act f = subst (λ z. FitsAct z act) (sym backups_now) f
 
-  pub note_now : (act : Act) → Fits seen.value.backups act → note_in st act ≡ note_of seen.value.backups seen.value.writes seen.value.log act
+  pub note_now : (act : Act) → FitsAct seen.value.backups act → note_in st act ≡ note_of seen.value.backups seen.value.writes seen.value.log act
   note_now act f = followed_note st acts act follows_now (fits_now act f) ∙ ap (λ (z : Run). note_of z.backups z.writes z.log act) run_now
 
   pub value_now : (i : ℕ) → i ≤ seen.value.backups → value_in st i ≡ value seen.value.log i

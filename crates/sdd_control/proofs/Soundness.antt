@@ -1,5 +1,5 @@
 -- A script that a file gives is sound.
-use Rattle.sdd_control.proofs.All.{Act, BadEvent, BadLine, BadNumber, Bool, ControlScript, Deliver, Draft, Ended, Err, Event, Events, First, FitAll, Fits, Halt as Stop, Head, IfOk, IsSound, Key, List, NoEnd, None, NotUtf8, Option, Plain, Quoted, Result, Send as Step, Some, Stage, T, Tells, TooLong, TooMany, Word, WorkError, WorkFault, WorkRule, [], ap, arith, at_line, cond, control_script, cut_lines, delivery_of, end_of, eq-eqb, event_rules, false, head_of, head_rules, is_ended, is_free, is_sound, is_utf8, key_of, key_rules, known, leb→le, length, length-append, list_all, ltb→lt, most_bytes, most_events, must, nat_le, nat_lt, negsuc, not, nothing_read, number_of, number_within, one_line, pos, refl, site_number, site_of, sound_rules, subst, sym, tail_rules, true, walk_bytes, with_act, within, words_of, words_rules, ℕ, ℤ, ◌&&◌, ◌++◌, ◌+◌, ◌<◌, ◌==◌, ◌>>=◌, ◌^◌, ◌∷◌, ◌≡◌, ◌≤◌}
+use Rattle.sdd_control.proofs.All.{Act, BadEvent, BadLine, BadNumber, Bool, ControlScript, Deliver, Draft, Ended, Err, Event, Events, First, FitAll, FitsAct, Halt as Stop, Head, IfOk, IsSoundScript, Key, List, NoEnd, None, NotUtf8, Option, Plain, Quoted, Result, Send as Step, Some, Stage, T, Tells, TooLong, TooMany, Word, WorkError, WorkFault, WorkRule, [], ap, arith, at_line, cond, control_script, cut_lines, delivery_of, end_of, eq-eqb, event_rules, false, head_of, head_rules, is_ended, is_free, is_sound, is_utf8, key_of, key_rules, known, leb→le, length, length-append, list_all, ltb→lt, most_bytes, most_events, must, nat_le, nat_lt, negsuc, not, nothing_read, number_of, number_within, one_line, pos, refl, site_number, site_of, sound_rules, subst, sym, tail_rules, true, walk_bytes, with_act, within, words_of, words_rules, ℕ, ℤ, ◌&&◌, ◌++◌, ◌+◌, ◌<◌, ◌==◌, ◌>>=◌, ◌^◌, ◌∷◌, ◌≡◌, ◌≤◌}
 use Rattle.sdd_control.specs.LineRules.{line_rules}
 use Rattle.sdd_control.specs.Walk.{walk}
 use Rattle.sdd_control.proofs.Following.{FitAll-append}
@@ -81,7 +81,7 @@ site_gets backups (site ∷ []) =
     (λ _. Ok i) (gets_must BadEvent (nat_le i backups)) (λ _ e. leb→le i backups (subst T (sym e) tt))))
 site_gets backups _ = tt
 
-linked_fits : (backups i j : ℕ) → (nat_le i backups && nat_le j backups && not (i == j)) ≡ true → Fits backups (Deliver i j)
+linked_fits : (backups i j : ℕ) → (nat_le i backups && nat_le j backups && not (i == j)) ≡ true → FitsAct backups (Deliver i j)
 linked_fits backups i j e =
     let both = and_left (nat_le i backups && nat_le j backups) (not (i == j)) e in
     let other = and_right (nat_le i backups && nat_le j backups) (not (i == j)) e in (
@@ -90,22 +90,22 @@ linked_fits backups i j e =
       λ s. let t : (i == j) ≡ true = eq-eqb i j s in let u : not (i == j) ≡ false = ap not t in cc,
     )
 
-delivery_gets : (backups : ℕ) (words : List Word) → Gets (Fits backups) (delivery_of backups words)
+delivery_gets : (backups : ℕ) (words : List Word) → Gets (FitsAct backups) (delivery_of backups words)
 delivery_gets backups (from ∷ to ∷ []) =
-    gets_on (λ _. (is_free from && is_free to) ≡ true) (Fits backups) (must BadLine (is_free from && is_free to))
+    gets_on (λ _. (is_free from && is_free to) ≡ true) (FitsAct backups) (must BadLine (is_free from && is_free to))
     (λ _. site_number from >>= λ i. site_number to >>= λ j. must BadEvent (nat_le i backups && nat_le j backups && not (i == j)) >>= λ _. Ok (Deliver i j))
     (gets_must BadLine (is_free from && is_free to))
-    (λ _ _. gets_on (λ i. (0 ≤ i) × (i ≤ 4294967295)) (Fits backups) (site_number from)
+    (λ _ _. gets_on (λ i. (0 ≤ i) × (i ≤ 4294967295)) (FitsAct backups) (site_number from)
     (λ i. site_number to >>= λ j. must BadEvent (nat_le i backups && nat_le j backups && not (i == j)) >>= λ _. Ok (Deliver i j))
     (number_gets 0 4294967295 from)
-    (λ i _. gets_on (λ j. (0 ≤ j) × (j ≤ 4294967295)) (Fits backups) (site_number to)
+    (λ i _. gets_on (λ j. (0 ≤ j) × (j ≤ 4294967295)) (FitsAct backups) (site_number to)
     (λ j. must BadEvent (nat_le i backups && nat_le j backups && not (i == j)) >>= λ _. Ok (Deliver i j)) (number_gets 0 4294967295 to)
-    (λ j _. gets_on (λ _. (nat_le i backups && nat_le j backups && not (i == j)) ≡ true) (Fits backups)
+    (λ j _. gets_on (λ _. (nat_le i backups && nat_le j backups && not (i == j)) ≡ true) (FitsAct backups)
     (must BadEvent (nat_le i backups && nat_le j backups && not (i == j))) (λ _. Ok (Deliver i j))
     (gets_must BadEvent (nat_le i backups && nat_le j backups && not (i == j))) (λ _ e. linked_fits backups i j e))))
 delivery_gets backups _ = tt
 
-act_gets : (head : Head) (draft : Draft) (act : Act) → draft.stage ≡ Events head → IsDraft draft → Fits head.backups act → Gets IsDraft (with_act draft act)
+act_gets : (head : Head) (draft : Draft) (act : Act) → draft.stage ≡ Events head → IsDraft draft → FitsAct head.backups act → Gets IsDraft (with_act draft act)
 act_gets head draft act at d f =
     let fits : IsHead head × FitAll head.backups draft.acts = subst (λ z. StageFits z draft.acts) at d.fits in
     gets_on (λ _. nat_lt (length draft.acts) most_events ≡ true) IsDraft (must (TooMany Event) (nat_lt (length draft.acts) most_events))
@@ -125,7 +125,7 @@ event_gets keys.Step head draft words at d =
     gets_on (λ i. i ≤ head.backups) IsDraft (site_of head.backups words) (λ i. with_act draft (Step i))
     (site_gets head.backups words) (λ i l. act_gets head draft (Step i) at d l)
 event_gets keys.Deliver head draft words at d =
-    gets_on (Fits head.backups) IsDraft (delivery_of head.backups words) (λ act. with_act draft act)
+    gets_on (FitsAct head.backups) IsDraft (delivery_of head.backups words) (λ act. with_act draft act)
     (delivery_gets head.backups words) (λ act f. act_gets head draft act at d f)
 event_gets keys.Stop head draft words at d =
     gets_on (λ i. i ≤ head.backups) IsDraft (site_of head.backups words) (λ i. with_act draft (Stop i))
@@ -169,11 +169,11 @@ one_gets draft line d = by_test (is_ended draft.stage)
     by_test true = tt
     by_test false = line_gets draft line d
 
-no_script : (b : Bool) → Gets IsSound (cond b (Err NoEnd) (Err NotUtf8))
+no_script : (b : Bool) → Gets IsSoundScript (cond b (Err NoEnd) (Err NotUtf8))
 no_script true = tt
 no_script false = tt
 
-tail_gets : (stage : Stage) (acts : List Act) (tail : List ℕ) → length acts ≤ 2 ^ 18 → StageFits stage acts → Gets IsSound (tail_rules stage acts tail)
+tail_gets : (stage : Stage) (acts : List Act) (tail : List ℕ) → length acts ≤ 2 ^ 18 → StageFits stage acts → Gets IsSoundScript (tail_rules stage acts tail)
 tail_gets (Ended head) acts [] few fits =
     let h = fits.0 in
     record { some_backups = h.some_backups; most_backups = h.most_backups; some_writes = h.some_writes; most_writes = h.most_writes; few = few; fit = fits.1 }
@@ -183,27 +183,27 @@ tail_gets _ acts _ few fits = tt
 
 at_line_gets : {A : Type 0} (P : A → Type 0) (line : ℕ) (reading : Result A WorkRule)
     (read_on : A → Result ControlScript WorkFault)
-    → Gets P reading → ((x : A) → P x → Gets IsSound (read_on x)) → Gets IsSound (at_line line reading read_on)
+    → Gets P reading → ((x : A) → P x → Gets IsSoundScript (read_on x)) → Gets IsSoundScript (at_line line reading read_on)
 at_line_gets P line (Ok x) read_on h on = on x h
 at_line_gets P line (Err rule) read_on h on = tt
 
-walk_gets : (line : ℕ) (draft : Draft) (lines : List (List ℕ)) (tail : List ℕ) → IsDraft draft → Gets IsSound (walk line draft lines tail)
+walk_gets : (line : ℕ) (draft : Draft) (lines : List (List ℕ)) (tail : List ℕ) → IsDraft draft → Gets IsSoundScript (walk line draft lines tail)
 unfolding walk
 walk_gets line draft [] tail d =
-    at_line_gets IsSound line (tail_rules draft.stage draft.acts tail) (λ script. Ok script)
+    at_line_gets IsSoundScript line (tail_rules draft.stage draft.acts tail) (λ script. Ok script)
     (tail_gets draft.stage draft.acts tail d.few d.fits) (λ script s. s)
 walk_gets line draft (l ∷ ls) tail d =
     at_line_gets IsDraft line (one_line draft l) (λ next. walk (line + 1) next ls tail)
     (one_gets draft l d) (λ next n. walk_gets (line + 1) next ls tail n)
 
-script_gets : (bytes : List ℕ) → Gets IsSound (control_script bytes)
+script_gets : (bytes : List ℕ) → Gets IsSoundScript (control_script bytes)
 script_gets bytes = by_test (nat_lt most_bytes (length bytes))
   where
-    by_test : (b : Bool) → Gets IsSound (cond b (Err (record { line = 0; rule = TooLong })) (walk_bytes 1 nothing_read bytes))
+    by_test : (b : Bool) → Gets IsSoundScript (cond b (Err (record { line = 0; rule = TooLong })) (walk_bytes 1 nothing_read bytes))
     by_test true = tt
     by_test false = walk_gets 1 nothing_read (cut_lines bytes).0 (cut_lines bytes).1 (record { few = omega arith; fits = refl })
 
 -- what was read is sound
-pub told_sound : (bytes : List ℕ) (r : Result ControlScript WorkError) → Tells r (control_script bytes) → IfOk r IsSound
-told_sound bytes (Ok script) t = subst (Gets IsSound) t (script_gets bytes)
+pub told_sound : (bytes : List ℕ) (r : Result ControlScript WorkError) → Tells r (control_script bytes) → IfOk r IsSoundScript
+told_sound bytes (Ok script) t = subst (Gets IsSoundScript) t (script_gets bytes)
 told_sound bytes (Err e) t = tt

@@ -1,5 +1,5 @@
 -- What the tables say is what the log says.
-use Rattle.sdd_control.proofs.All.{Act, Adds, All, Bool, Deliver, Fits, GONE, Halt, List, Log, Message, None, Note, NoteFits, Nothing, OK, Option, Send, Some, State, Stop, Takes, Tracks, VALUE, Val, [], all_answered, answered, answered_in, ap, arith, arrival, arrival_in, cases_Bool, cases_lt, cond, every_from, false, finished, first_from, greatest_of, has_finished, has_heard, has_stopped, has_told, heir, heir_in, inl, inr, is_finish, is_from_above, is_gone, is_ok, is_stop, is_tell, is_write, knows, knows_in, last, last_number, last_number_in, last_number_of, last_of, leads, link, lt-ltb, may_send, messages_in, nat_lt, nat_tests, next_number_in, next_send, next_send_in, next_untold, not, note_in, note_of, noted, number_after, put, refl, send, stopped, suc, sym, taken, taken_in, true, untold, untold_in, unwritten, value, value_by, value_in, zero, ℕ, ◌&&◌, ◌++◌, ◌+◌, ◌-◌, ◌<◌, ◌==◌, ◌||◌, ◌∙◌, ◌∷◌, ◌≡◌, ◌≤◌}
+use Rattle.sdd_control.proofs.All.{Act, Adds, All, Bool, Deliver, FitsAct, GONE, Halt, List, Log, Message, None, Note, NoteFits, Nothing, OK, Option, Send, Some, State, Stop, TakesAct, Tracks, VALUE, Val, [], all_answered, answered, answered_in, ap, arith, arrival, arrival_in, cases_Bool, cases_lt, cond, every_from, false, finished, first_from, greatest_of, has_finished, has_heard, has_stopped, has_told, heir, heir_in, inl, inr, is_finish, is_from_above, is_gone, is_ok, is_stop, is_tell, is_write, knows, knows_in, last, last_number, last_number_in, last_number_of, last_of, leads, link, lt-ltb, may_send, messages_in, nat_lt, nat_tests, next_number_in, next_send, next_send_in, next_untold, not, note_in, note_of, noted, number_after, put, refl, send, stopped, suc, sym, taken, taken_in, true, untold, untold_in, unwritten, value, value_by, value_in, zero, ℕ, ◌&&◌, ◌++◌, ◌+◌, ◌-◌, ◌<◌, ◌==◌, ◌||◌, ◌∙◌, ◌∷◌, ◌≡◌, ◌≤◌}
 use Rattle.sdd_control.proofs.Above.{above_is_last}
 use Rattle.sdd_control.proofs.Kept.{Kept}
 use Rattle.sdd_control.proofs.Lists.{first_at}
@@ -102,7 +102,7 @@ module _ (st : State) (log : Log) (t : Tracks st log) where
       (sym (above_is_last st.backups st.writes log k i j))
 
   pub note_same : Kept st.backups st.writes log → Numbered st.writes log → (act : Act)
-      → Fits st.backups act → note_in st act ≡ note_of st.backups st.writes log act
+      → FitsAct st.backups act → note_in st act ≡ note_of st.backups st.writes log act
   note_same k h (Send i) l = next_send_same h i l
   note_same k h (Deliver i j) f = arrival_same k i j f.0 f.1
   note_same k h (Halt i) l = ap (λ z. cond z Nothing (Stop i)) (t.stopped i l)
@@ -128,7 +128,7 @@ halt_fits : (backups i : ℕ) (halted : Bool) → i ≤ backups → NoteFits bac
 halt_fits backups i true l = tt
 halt_fits backups i false l = l
 
-pub note_fits : (st : State) (act : Act) → Fits st.backups act → NoteFits st.backups (note_in st act)
+pub note_fits : (st : State) (act : Act) → FitsAct st.backups act → NoteFits st.backups (note_in st act)
 note_fits st (Send i) l =
     send_fits st.backups i (may_send st i) (first_from (untold_in st i) (i + 1) (st.backups - i))
     (every_from (answered_in st i) (i + 1) (st.backups - i)) (value_in st i) (next_number_in st i) l
@@ -138,7 +138,7 @@ note_fits st (Halt i) l = halt_fits st.backups i (has_stopped st i) l
 
 -- the tables follow the log with one event more
 pub tracks_on : (old mid new : State) (log : Log) (act : Act) (note : Note)
-    → Tracks old log → Takes old mid act → Adds mid new note → Tracks new (record { act = act; note = note } ∷ log)
+    → Tracks old log → TakesAct old mid act → Adds mid new note → Tracks new (record { act = act; note = note } ∷ log)
 tracks_on old mid new log act note t taking adding = record {
   stopped = λ i l. adding.stopped i (up i l) ∙ ap (λ z. is_stop i note || has_stopped z i) taking.others
       ∙ ap (λ z. is_stop i note || z) (t.stopped i (back i l));

@@ -1,6 +1,6 @@
 -- What a function that reads a line or a file answers, by the reading that its definition is.
 use Rattle.std.specs.Prelude.{ℕ, Option, Some, None, Result}
-use Rattle.sdd_script.specs.All.{Gives as GivesBy}
+use Rattle.sdd_script.specs.All.{GivesReading as GivesBy}
 use Rattle.sdd_script.specs.declared.fault.WorkError.{WorkError}
 use Rattle.sdd_script.specs.declared.fault.WorkError.TheVariants as told
 use Rattle.sdd_script.specs.declared.fault.WorkFault.{WorkFault}
@@ -13,8 +13,8 @@ abbrev pub rule_in : LineError → Option WorkRule
 rule_in (Broken rule) = Some rule
 rule_in NoMemory = None
 
-abbrev pub Gives : {X Y : Type 0} → (X → Y) → Result X LineError → Result Y WorkRule → Type 0
-Gives view result reading = GivesBy rule_in view result reading
+abbrev pub GivesLine : {X Y : Type 0} → (X → Y) → Result X LineError → Result Y WorkRule → Type 0
+GivesLine view result reading = GivesBy rule_in view result reading
 
 -- the fault of a file
 abbrev pub fault_in : WorkError → Option WorkFault

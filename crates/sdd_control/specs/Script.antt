@@ -3,7 +3,7 @@ use Rattle.std.specs.Prelude.{◌≤◌, ◌^◌, length}
 use Rattle.sdd_control.specs.Steps.{FitAll}
 use Rattle.sdd_control.specs.declared.script.ControlScript.{ControlScript}
 
-pub record IsSound (script : ControlScript) : Type 0 where
+pub record IsSoundScript (script : ControlScript) : Type 0 where
   pub some_backups : 1 ≤ script.backups
   pub most_backups : script.backups ≤ 8
   pub some_writes : 1 ≤ script.writes

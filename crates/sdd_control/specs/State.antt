@@ -146,7 +146,7 @@ pub record Adds (old new : State) (note : Note) : Type 0 where
   pub most : new.most ≡ greatest_of note old.most
 
 -- the links are the old ones without what the event takes; all else is as it was
-pub record Takes (old new : State) (act : Act) : Type 0 where
+pub record TakesAct (old new : State) (act : Act) : Type 0 where
   pub sized : IsSized new
   pub links : (i j : ℕ) → i ≤ old.backups → j ≤ old.backups
       → messages_in new i j ≡ taken act i j (messages_in old i j)

@@ -43,11 +43,11 @@ abbrev pub log_of : ℕ → ℕ → List Act → Log
 log_of backups writes acts = log_after backups writes [] acts
 
 -- the sites of the event exist, and a delivery's two differ
-abbrev pub Fits : ℕ → Act → Type 0
-Fits backups (Send i) = i ≤ backups
-Fits backups (Deliver i j) = (i ≤ backups) × (j ≤ backups) × (i ≢ j)
-Fits backups (Halt i) = i ≤ backups
+abbrev pub FitsAct : ℕ → Act → Type 0
+FitsAct backups (Send i) = i ≤ backups
+FitsAct backups (Deliver i j) = (i ≤ backups) × (j ≤ backups) × (i ≢ j)
+FitsAct backups (Halt i) = i ≤ backups
 
 abbrev pub FitAll : ℕ → List Act → Type 0
 FitAll backups [] = Unit {0}
-FitAll backups (act ∷ acts) = Fits backups act × FitAll backups acts
+FitAll backups (act ∷ acts) = FitsAct backups act × FitAll backups acts

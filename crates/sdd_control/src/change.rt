@@ -1,7 +1,7 @@
 ghost use Rattle.std.specs.Prelude.{◌≡◌, ◌==◌, ◌≤◌, ◌<◌, ◌++◌, ◌∷◌, ◌+◌, ◌&&◌, [], not, cond, length, ℕ, OnOk};
 ghost use Rattle.sdd_control.specs.Links.{gone_below, messages_at, put};
-ghost use Rattle.sdd_control.specs.State.{Adds, IsSized, NoteFits, Takes};
-ghost use Rattle.sdd_control.specs.Steps.{Fits};
+ghost use Rattle.sdd_control.specs.State.{Adds, IsSized, NoteFits, TakesAct};
+ghost use Rattle.sdd_control.specs.Steps.{FitsAct};
 ghost use Rattle.sdd_control.specs.declared.message.Message.TheVariants.{Gone as GONE};
 ghost use Rattle.sdd_control.specs.declared.note.Note.TheVariants.{Tell as Telling, Write as Writing, Finish as Finishing};
 ghost use Rattle.sdd_control.specs.declared.note.Note.TheVariants.{Gone as Going, Ok as Hearing, Value as Taking, Stop as Stopping};
@@ -48,11 +48,11 @@ fn say_gone_to_all(links: &mut Links, backups: u32, site: u32) -> Result<(), NoM
 }
 
 impl State {
-    /// Takes the message that an event delivers.
+    /// TakesAct the message that an event delivers.
     pub fn take(&mut self, act: &Act)
         requires sized { IsSized self.old }
-        requires fits { Fits self.old.backups act.now }
-        ensures { Takes self.old self.new act.now }
+        requires fits { FitsAct self.old.backups act.now }
+        ensures { TakesAct self.old self.new act.now }
     {
         match *act {
             Act::Deliver(from, to) => self.links.take(pair(from, to)),

@@ -1,7 +1,7 @@
 ghost use Rattle.std.specs.Prelude.{◌≡◌, ◌≤◌, [], false, IsTrue, IfOk, OnOk, OnErr};
 ghost use Rattle.sdd_control.specs.Control.{live_at, next_note, run_of, with_event, written};
 ghost use Rattle.sdd_control.specs.Standing.{finished, stopped, value};
-ghost use Rattle.sdd_control.specs.Steps.{Fits};
+ghost use Rattle.sdd_control.specs.Steps.{FitsAct};
 
 use crate::act::Act;
 use crate::note::Note;
@@ -56,7 +56,7 @@ impl Control {
     /// Lets an event happen, and gives its note. Costs time linear in the sites.
     pub fn step(&mut self, act: &Act) -> Result<Note, NoMemory>
         requires live { IsTrue self.old.live }
-        requires fits { Fits self.old.value.backups act.now }
+        requires fits { FitsAct self.old.value.backups act.now }
         ensures note { IfOk result (λ note. note ≡ next_note self.old.value act.now) }
         ensures after { OnOk result (self.new ≡ live_at (with_event self.old.value act.now)) }
         ensures err { OnErr result (self.new.live ≡ false) }

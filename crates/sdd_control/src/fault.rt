@@ -1,6 +1,6 @@
 ghost use Rattle.std.specs.Prelude.{◌≡◌, Err, MatchResult, Ok};
 ghost use Rattle.sdd_script.specs.All.{known, must};
-ghost use Rattle.sdd_control.specs.Faults.{Gives, told_at};
+ghost use Rattle.sdd_control.specs.Faults.{GivesLine, told_at};
 ghost use Rattle.sdd_control.specs.declared.fault.LineError.TheVariants.{Broken};
 
 use sdd_script::sdd_base::NoMemory;
@@ -35,7 +35,7 @@ pub fn broken<T>(rule: WorkRule) -> Result<T, LineError>
 
 /// The value, or the rule that is broken where it isn't there.
 pub fn known<T>(rule: WorkRule, value: Option<T>) -> Result<T, LineError>
-    ensures { Gives (λ x. x) result (known rule value) }
+    ensures { GivesLine (λ x. x) result (known rule value) }
 {
     match value {
         Some(value) => Ok(value),
@@ -45,7 +45,7 @@ pub fn known<T>(rule: WorkRule, value: Option<T>) -> Result<T, LineError>
 
 /// The rule is broken where the test fails.
 pub fn must(rule: WorkRule, holds: bool) -> Result<(), LineError>
-    ensures { Gives (λ u. u) result (must rule holds) }
+    ensures { GivesLine (λ u. u) result (must rule holds) }
 {
     if holds { Ok(()) } else { broken(rule) }
 }

@@ -1,7 +1,7 @@
 //! One line of a control file.
 ghost use Rattle.std.specs.Prelude.{◌≡◌, ◌==◌, ◌&&◌, nat_le, not, Some};
 ghost use Rattle.sdd_script.specs.All.{number_of};
-ghost use Rattle.sdd_control.specs.Faults.{Gives};
+ghost use Rattle.sdd_control.specs.Faults.{GivesLine};
 ghost use Rattle.sdd_control.specs.LineRules.{delivery_of, end_of, event_rules, head_of, head_rules, key_rules, line_rules, number_within, site_number, site_of, sound_rules, with_act, within, words_rules};
 
 use crate::act::Act;
@@ -34,7 +34,7 @@ fn number_in_bytes(least: u32, most: u32, bytes: &[u8]) -> Option<u32>
 }
 
 fn read_number(least: u32, most: u32, word: &Token<'_>) -> Result<u32, LineError>
-    ensures { Gives (λ n. n) result (number_within least most word.now) }
+    ensures { GivesLine (λ n. n) result (number_within least most word.now) }
 {
     match word.plain() {
         Some(bytes) => known(WorkRule::BadNumber, number_in_bytes(least, most, bytes)),
@@ -43,13 +43,13 @@ fn read_number(least: u32, most: u32, word: &Token<'_>) -> Result<u32, LineError
 }
 
 fn read_site_number(word: &Token<'_>) -> Result<u32, LineError>
-    ensures { Gives (λ n. n) result (site_number word.now) }
+    ensures { GivesLine (λ n. n) result (site_number word.now) }
 {
     read_number(0, u32::MAX, word)
 }
 
 fn read_head(words: &mut Tokens<'_>) -> Result<Head, LineError>
-    ensures { Gives (λ head. head) result (head_of words.old) }
+    ensures { GivesLine (λ head. head) result (head_of words.old) }
 {
     match words.only_two() {
         Some((backups, writes)) => {
@@ -66,7 +66,7 @@ fn read_head(words: &mut Tokens<'_>) -> Result<Head, LineError>
 }
 
 fn read_site(backups: u32, words: &mut Tokens<'_>) -> Result<u32, LineError>
-    ensures { Gives (λ site. site) result (site_of backups words.old) }
+    ensures { GivesLine (λ site. site) result (site_of backups words.old) }
 {
     match words.only_one() {
         Some(site) => {
@@ -86,7 +86,7 @@ fn are_linked(backups: u32, from: u32, to: u32) -> bool
 }
 
 fn read_delivery(backups: u32, words: &mut Tokens<'_>) -> Result<Act, LineError>
-    ensures { Gives (λ act. act) result (delivery_of backups words.old) }
+    ensures { GivesLine (λ act. act) result (delivery_of backups words.old) }
 {
     match words.only_two() {
         Some((from, to)) => {
@@ -101,7 +101,7 @@ fn read_delivery(backups: u32, words: &mut Tokens<'_>) -> Result<Act, LineError>
 }
 
 fn add_act(draft: &mut Draft, act: Act) -> Result<(), LineError>
-    ensures { Gives (λ _. draft.new) result (with_act draft.old act) }
+    ensures { GivesLine (λ _. draft.new) result (with_act draft.old act) }
 {
     must(WorkRule::TooMany(Counts::Event), draft.len() < MAX_EVENTS)?;
     draft.push(act)?;
@@ -109,7 +109,7 @@ fn add_act(draft: &mut Draft, act: Act) -> Result<(), LineError>
 }
 
 fn read_end(head: Head, draft: &mut Draft, words: &mut Tokens<'_>) -> Result<(), LineError>
-    ensures { Gives (λ _. draft.new) result (end_of head draft.old words.old) }
+    ensures { GivesLine (λ _. draft.new) result (end_of head draft.old words.old) }
 {
     match words.next() {
         None => {
@@ -126,7 +126,7 @@ fn read_event_line(
     draft: &mut Draft,
     words: &mut Tokens<'_>,
 ) -> Result<(), LineError>
-    ensures { Gives (λ _. draft.new) result (event_rules key head draft.old words.old) }
+    ensures { GivesLine (λ _. draft.new) result (event_rules key head draft.old words.old) }
 {
     match key {
         Key::Step => {
@@ -147,7 +147,7 @@ fn read_event_line(
 }
 
 fn read_first_line(key: Key, draft: &mut Draft, words: &mut Tokens<'_>) -> Result<(), LineError>
-    ensures { Gives (λ _. draft.new) result (head_rules key draft.old words.old) }
+    ensures { GivesLine (λ _. draft.new) result (head_rules key draft.old words.old) }
 {
     match key {
         Key::Control => {
@@ -160,7 +160,7 @@ fn read_first_line(key: Key, draft: &mut Draft, words: &mut Tokens<'_>) -> Resul
 }
 
 fn read_key_line(key: Key, draft: &mut Draft, words: &mut Tokens<'_>) -> Result<(), LineError>
-    ensures { Gives (λ _. draft.new) result (key_rules draft.old.stage key draft.old words.old) }
+    ensures { GivesLine (λ _. draft.new) result (key_rules draft.old.stage key draft.old words.old) }
 {
     match draft.stage() {
         Stage::First => read_first_line(key, draft, words),
@@ -170,7 +170,7 @@ fn read_key_line(key: Key, draft: &mut Draft, words: &mut Tokens<'_>) -> Result<
 }
 
 fn read_words(draft: &mut Draft, words: &mut Tokens<'_>) -> Result<(), LineError>
-    ensures { Gives (λ _. draft.new) result (words_rules draft.old words.old) }
+    ensures { GivesLine (λ _. draft.new) result (words_rules draft.old words.old) }
 {
     match words.next() {
         None => broken(WorkRule::BadLine),
@@ -186,7 +186,7 @@ fn read_sound_words(
     draft: &mut Draft,
     words: &mut Tokens<'_>,
 ) -> Result<(), LineError>
-    ensures { Gives (λ _. draft.new) result (sound_rules draft.old words.old) }
+    ensures { GivesLine (λ _. draft.new) result (sound_rules draft.old words.old) }
 {
     must(WorkRule::BadLine, are_sound(alloc, words)?)?;
     read_words(draft, words)
@@ -195,7 +195,7 @@ fn read_sound_words(
 /// What the lines have said with one line more. Where it has a fault, the draft is not used again.
 #[tactic(auto, unfolding(crate::specs::LineRules::line_rules))]
 pub fn read_line(alloc: Global, draft: &mut Draft, line: &[u8]) -> Result<(), LineError>
-    ensures { Gives (λ _. draft.new) result (line_rules draft.old line.now) }
+    ensures { GivesLine (λ _. draft.new) result (line_rules draft.old line.now) }
 {
     match text_of(line) {
         None => broken(WorkRule::NotUtf8),

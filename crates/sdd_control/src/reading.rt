@@ -1,8 +1,8 @@
 //! The lines of a control file, one after the other.
 ghost use Rattle.std.specs.Prelude.{◌≡◌, ◌≤◌, ◌^◌, [], Err, length, IfOk};
-ghost use Rattle.sdd_control.specs.Script.{IsSound};
+ghost use Rattle.sdd_control.specs.Script.{IsSoundScript};
 ghost use Rattle.sdd_control.specs.declared.stage.Stage.TheVariants.{First};
-ghost use Rattle.sdd_control.specs.Faults.{Gives, Tells};
+ghost use Rattle.sdd_control.specs.Faults.{GivesLine, Tells};
 ghost use Rattle.sdd_control.specs.Walk.{control_script, is_ended, nothing_read, one_line, tail_rules, walk_bytes};
 
 use crate::draft::Draft;
@@ -25,7 +25,7 @@ fn is_ended(stage: Stage) -> bool
 }
 
 fn read_one(alloc: Global, draft: &mut Draft, line: &[u8]) -> Result<(), LineError>
-    ensures { Gives (λ _. draft.new) result (one_line draft.old line.now) }
+    ensures { GivesLine (λ _. draft.new) result (one_line draft.old line.now) }
 {
     must(WorkRule::BadLine, !is_ended(draft.stage()))?;
     read_line(alloc, draft, line)
@@ -45,7 +45,7 @@ fn unended(tail: &[u8]) -> WorkRule
 
 /// The script, where nothing stands after the last newline.
 fn finish(draft: Draft, tail: &[u8]) -> Result<ControlScript, LineError>
-    ensures { Gives (λ script. script) result (tail_rules draft.stage draft.acts tail.now) }
+    ensures { GivesLine (λ script. script) result (tail_rules draft.stage draft.acts tail.now) }
 {
     match draft.stage() {
         Stage::Ended(head) => match tail {
@@ -80,7 +80,7 @@ fn read_lines(alloc: Global, draft: Draft, bytes: &[u8]) -> Result<ControlScript
 /// first rule that is broken. Costs time and memory linear in the bytes.
 pub fn read_control(alloc: Global, bytes: &[u8]) -> Result<ControlScript, WorkError>
     ensures exact { Tells result (control_script bytes.now) }
-    ensures sound { IfOk result IsSound }
+    ensures sound { IfOk result IsSoundScript }
 {
     read_bytes(alloc, bytes)
 }

@@ -2,9 +2,9 @@
 ghost use Rattle.std.specs.Prelude.{◌≡◌, ◌+◌, ◌-◌, ◌<◌, ◌≤◌, ◌^◌, ◌∷◌, ◌++◌, length, IsTrue, IfOk, OnOk};
 ghost use Rattle.sdd_control.specs.Control.{live_at, next_note, run_after, with_event};
 ghost use Rattle.sdd_control.specs.Report.{ending, note_line, note_lines, note_words, report, site_line, site_lines, spaced, status_words, value_word};
-ghost use Rattle.sdd_control.specs.Script.{IsSound};
+ghost use Rattle.sdd_control.specs.Script.{IsSoundScript};
 ghost use Rattle.sdd_control.specs.Standing.{finished, stopped, value};
-ghost use Rattle.sdd_control.specs.Steps.{FitAll, Fits};
+ghost use Rattle.sdd_control.specs.Steps.{FitAll, FitsAct};
 ghost use Rattle.sdd_control.specs.declared.note.Note.TheVariants.{Tell as Telling};
 
 use crate::act::Act;
@@ -106,7 +106,7 @@ fn put_event(
     act: &Act,
 ) -> Result<(), NoMemory>
     requires live { IsTrue control.old.live }
-    requires fits { Fits control.old.value.backups act.now }
+    requires fits { FitsAct control.old.value.backups act.now }
     ensures text { OnOk result (
         text.new.items
         ≡ text.old.items ++ note_line number (next_note control.old.value act.now)) }
@@ -191,7 +191,7 @@ fn put_ending(text: &mut Vec<u8>, control: &Control, backups: u32) -> Result<(),
 /// The text that a script makes. Costs time and memory linear in its events, each of which takes
 /// time linear in the sites.
 pub fn write_report(alloc: Global, script: &ControlScript) -> Result<Bytes, NoMemory>
-    requires { IsSound script.now }
+    requires { IsSoundScript script.now }
     ensures { IfOk result (λ text. text ≡ report script.now) }
 {
     let mut control = Control::new(alloc, script.backups, script.writes)?;

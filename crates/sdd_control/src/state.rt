@@ -3,7 +3,7 @@ ghost use Rattle.sdd_control.specs.Log.{Log};
 ghost use Rattle.sdd_control.specs.Standing.{value_by};
 ghost use Rattle.sdd_control.specs.Stretches.{every_from, first_from};
 ghost use Rattle.sdd_control.specs.Sends.{send};
-ghost use Rattle.sdd_control.specs.Steps.{Fits, arrival};
+ghost use Rattle.sdd_control.specs.Steps.{FitsAct, arrival};
 ghost use Rattle.sdd_control.specs.State.{IsSized, Tracks, answered_in, arrival_in, has_finished, has_heard, has_stopped, has_told, heir_in, knows_in, may_send, messages_in, next_number_in, next_send_in, note_in, untold_in, value_in, taken_in, is_from_above};
 
 use crate::act::Act;
@@ -306,7 +306,7 @@ impl State {
     /// The note of an event. Costs time linear in the sites.
     pub fn note(&self, act: &Act) -> Note
         requires sized { IsSized self.now }
-        requires fits { Fits self.now.backups act.now }
+        requires fits { FitsAct self.now.backups act.now }
         ensures { result ≡ note_in self.now act.now }
     {
         match *act {

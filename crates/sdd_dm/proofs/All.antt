@@ -27,7 +27,7 @@ pub use Rattle.sdd_module.proofs.Making.{made_nothing, made_one}
 pub use Rattle.sdd_module.proofs.base.Membership.{Contains-cases, Contains-here, Contains-later, Contains-nil}
 pub use Rattle.sdd_module.proofs.lang.KeyRanges.{fragment_holds, key_in_range}
 pub use Rattle.sdd_module.proofs.lang.SortedEntries.{inserted_sorted, item_cmp_exact, item_cmp_total, sorted_nil}
-pub use Rattle.sdd_module.specs.All.{Act, Answer, Apply, Arrive, Bases, Catalogue, Change, ClassNo, Cond, D, Database, Did, DmNo, Does, Done, Entry, Fetch, FragNo, Handed, IsDatabase, IsEntry, IsSound, Item, Kept, Log, Msg, Notes, Null, Pass, Reached, Read, Ready, Rec, Records, Redeclared, Reduce, Reduced, Reject, RelNo, Row, Rows, Sends, Setting, Ship, Site, Submits, T, Ticked, Ts, TxnNo, U, Use, Value, Values, Wait, Write, contains, database_of, first_some, frag_no, fragment_at, fragment_of, goes_through, hands, has_copy, head_of, item_cmp, key_in, nothing_noted, number_of, or_else, tail_of, time_at, with_act, with_row, with_sends}
+pub use Rattle.sdd_module.specs.All.{Act, Answer, Apply, Arrive, Bases, Catalogue, Change, ClassNo, Cond, D, Database, Did, DmNo, Does, Done, Entry, Fetch, FragNo, Handed, IsDatabase, IsEntry, IsSoundCatalogue, Item, Kept, Log, Msg, Notes, Null, Pass, Reached, Read, Ready, Rec, Records, Redeclared, Reduce, Reduced, Reject, RelNo, Row, Rows, Sends, Setting, Ship, Site, Submits, T, Ticked, Ts, TxnNo, U, Use, Value, Values, Wait, Write, contains, database_of, first_some, frag_no, fragment_at, fragment_of, goes_through, hands, has_copy, head_of, item_cmp, key_in, nothing_noted, number_of, or_else, tail_of, time_at, with_act, with_row, with_sends}
 pub use Rattle.sdd_module.specs.history.declared.record.Rec.TheVariants.{Reject as Rejected}
 pub use Rattle.sdd_pipe.proofs.Digests.{is_empty_digest, is_put, is_taken, last_write_is, passed_is}
 pub use Rattle.sdd_pipe.proofs.Updates.{length-update, set_is_update, update_past}

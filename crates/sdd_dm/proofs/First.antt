@@ -1,5 +1,5 @@
 -- A module to which nothing was handed stands for the empty log.
-use Rattle.sdd_dm.proofs.All.{All-contains, AllByRecursion, Catalogue, Contains, Contains-cases, Contains-nil, D, Database, DatesDiffer, DmNo, IsDatabase, IsDigest, IsDistinct, IsDistinct-from_sorted, IsDistinct-head, IsDistinct-tail, IsEntry, IsSound, IsTrue, Item, List, None, RelNo, Represent, Row, Setting, Shows, State, [], ap, append-nil, arith, classes_of, database_of, dated, empty_digest, empty_pipe, eq_by_cmp, false, first_row, first_rows, first_step, flat_map, fragment_at, fragment_holds, fragment_of, has_copy, home_of, inl, inr, is_empty_digest, is_here, item_cmp, key_in_range, keys_of, length, length-replicate, map, of_class, range_with_len, refl, replicate, slice_index_or, step_at, subst, suc, sym, true, zero, ℕ, ◌++◌, ◌+◌, ◌∙◌, ◌∷◌, ◌≡◌}
+use Rattle.sdd_dm.proofs.All.{All-contains, AllByRecursion, Catalogue, Contains, Contains-cases, Contains-nil, D, Database, DatesDiffer, DmNo, IsDatabase, IsDigest, IsDistinct, IsDistinct-from_sorted, IsDistinct-head, IsDistinct-tail, IsEntry, IsSoundCatalogue, IsTrue, Item, List, None, RelNo, Represent, Row, Setting, Shows, State, [], ap, append-nil, arith, classes_of, database_of, dated, empty_digest, empty_pipe, eq_by_cmp, false, first_row, first_rows, first_step, flat_map, fragment_at, fragment_holds, fragment_of, has_copy, home_of, inl, inr, is_empty_digest, is_here, item_cmp, key_in_range, keys_of, length, length-replicate, map, of_class, range_with_len, refl, replicate, slice_index_or, step_at, subst, suc, sym, true, zero, ℕ, ◌++◌, ◌+◌, ◌∙◌, ◌∷◌, ◌≡◌}
 use Rattle.sdd_dm.proofs.ByClass.{first_none}
 use Rattle.sdd_dm.proofs.Dates.{from_map, each_map, own_item}
 
@@ -42,10 +42,10 @@ one_entry (z ∷ db) x y d i j e =
 
 -- the rows with which a module begins are of different items
 
-row_rel : (cat : Catalogue) (e : Item × Row) → IsSound cat → IsEntry cat e → (fragment_at cat (fragment_of cat e.0.0 e.0.1)).rel.0 ≡ e.0.0
+row_rel : (cat : Catalogue) (e : Item × Row) → IsSoundCatalogue cat → IsEntry cat e → (fragment_at cat (fragment_of cat e.0.0 e.0.1)).rel.0 ≡ e.0.0
 row_rel cat e sound entry = (fragment_holds cat sound e.0.0 e.0.1 entry.relation.0 entry.relation.1 (key_in_range e.0.1 entry.key_held)).there.rel_is
 
-first_differ : (cat : Catalogue) (db : Database) → IsSound cat → IsDatabase cat db → DatesDiffer (map (first_row cat) db)
+first_differ : (cat : Catalogue) (db : Database) → IsSoundCatalogue cat → IsDatabase cat db → DatesDiffer (map (first_row cat) db)
 first_differ cat db sound is = λ x y i j frag key time.
     let p = from_map (first_row cat) db x i in
     let q = from_map (first_row cat) db y j in
@@ -68,7 +68,7 @@ no_step n m c =
 abbrev setting_of : Catalogue → DmNo → List (RelNo × Row) → Setting
 setting_of cat dm rows = record { catalogue = cat; site = D dm; rows = rows }
 
-pub first_shown : (cat : Catalogue) (dm : DmNo) (rows : List (RelNo × Row)) (n : ℕ) (st : State) → IsSound cat → IsDatabase cat (database_of cat rows)
+pub first_shown : (cat : Catalogue) (dm : DmNo) (rows : List (RelNo × Row)) (n : ℕ) (st : State) → IsSoundCatalogue cat → IsDatabase cat (database_of cat rows)
     → n ≡ length cat.classes + 1
     → st.home ≡ home_of (setting_of cat dm rows) → st.pipes ≡ replicate n empty_digest → st.waits ≡ replicate n false
     → st.frozen ≡ replicate n None

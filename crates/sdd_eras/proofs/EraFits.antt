@@ -1,5 +1,5 @@
 -- A transaction that fits the whole catalogue fits each catalogue in force.
-use Rattle.sdd_eras.proofs.All.{Add, All-weaker, Assign, Catalogue, Class, Condition, Const, Delete, Fits, FitsAssign, FitsCondition, FitsConditions, FitsStatement, IsEraOf, List, Put, Query, RelNo, Same, Stmt, To, Txn, Update, [], subst, sym, ℕ, ◌∷◌}
+use Rattle.sdd_eras.proofs.All.{Add, All-weaker, Assign, Catalogue, Class, Condition, Const, Delete, FitsAssign, FitsCondition, FitsConditions, FitsStatement, FitsTxn, IsEraOf, List, Put, Query, RelNo, Same, Stmt, To, Txn, Update, [], subst, sym, ℕ, ◌∷◌}
 use Rattle.sdd_eras.proofs.EraSets.{era_is, with_classes}
 
 module _ (cat : Catalogue) (classes : List Class) where
@@ -24,12 +24,12 @@ module _ (cat : Catalogue) (classes : List Class) where
       (h.0, h.1, All-weaker (FitsAssign cat rel.0) (FitsAssign other rel.0) (assign_fits rel.0) sets h.2, conds_fit (rel ∷ []) conds h.3)
   statement_fits (Delete rel conds) h = (h.0, conds_fit (rel ∷ []) conds h.1)
 
-  txn_fits : (txn : Txn) → Fits cat txn → Fits other txn
+  txn_fits : (txn : Txn) → FitsTxn cat txn → FitsTxn other txn
   txn_fits txn f = record {
     module_is_there = f.module_is_there;
     few = f.few;
     statements = All-weaker (FitsStatement cat) (FitsStatement other) statement_fits txn.statements f.statements;
   }
 
-pub fits_in_era : (cat era : Catalogue) → IsEraOf cat era → (txn : Txn) → Fits cat txn → Fits era txn
-fits_in_era cat era h txn f = subst (λ c. Fits c txn) (sym (era_is cat era h)) (txn_fits cat era.classes txn f)
+pub fits_in_era : (cat era : Catalogue) → IsEraOf cat era → (txn : Txn) → FitsTxn cat txn → FitsTxn era txn
+fits_in_era cat era h txn f = subst (λ c. FitsTxn c txn) (sym (era_is cat era h)) (txn_fits cat era.classes txn f)

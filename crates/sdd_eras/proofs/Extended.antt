@@ -1,5 +1,5 @@
 -- Classes behind those that are there.
-use Rattle.sdd_eras.proofs.All.{CatFault, Catalogue, ClassPart, IsSound, IsValid, List, Parts, [], ap, append-nil, append_assoc, catalogue_of, class_of, count_faults, extended, faults_of_class, found_from, found_in, fragment_faults, fragment_names, fragment_part, further_faults, map, map-append, map-map, no_faults, parts_of, range_faults, refl, relation_faults, sym, with_classes, with_further, ◌++◌, ◌∙◌, ◌∷◌, ◌≡◌}
+use Rattle.sdd_eras.proofs.All.{CatFault, Catalogue, ClassPart, IsSoundCatalogue, IsValid, List, Parts, [], ap, append-nil, append_assoc, catalogue_of, class_of, count_faults, extended, faults_of_class, found_from, found_in, fragment_faults, fragment_names, fragment_part, further_faults, map, map-append, map-map, no_faults, parts_of, range_faults, refl, relation_faults, sym, with_classes, with_further, ◌++◌, ◌∙◌, ◌∷◌, ◌≡◌}
 use Rattle.sdd_lang.specs.catalog.Rules.{faults_of}
 
 -- what is found in two lists joined
@@ -25,7 +25,7 @@ faults_of_classes parts classes valid =
     none.counts none.relations none.fragments none.ranges
 
 -- with further classes they are those of these
-pub further_are_all : (cat : Catalogue) (classes : List ClassPart) → IsSound cat
+pub further_are_all : (cat : Catalogue) (classes : List ClassPart) → IsSoundCatalogue cat
     → faults_of (with_classes ((parts_of cat).classes ++ classes) (parts_of cat)) ≡ further_faults cat classes
 further_are_all cat classes sound =
     let parts : Parts = parts_of cat in
@@ -35,7 +35,7 @@ further_are_all cat classes sound =
     ∙ ap (λ own. own ++ further) (no_faults parts sound.valid).classes
 
 -- the catalogue of the parts with further classes
-pub extended_is : (cat : Catalogue) (classes : List ClassPart) → IsSound cat
+pub extended_is : (cat : Catalogue) (classes : List ClassPart) → IsSoundCatalogue cat
     → catalogue_of (with_classes ((parts_of cat).classes ++ classes) (parts_of cat)) ≡ with_further classes cat
 extended_is cat classes sound =
     let parts : Parts = parts_of cat in

@@ -1,5 +1,5 @@
 -- Classes that retire keep the rules.
-use Rattle.sdd_eras.proofs.All.{CatRule, Catalogue, ClassPart, DuplicateName, IsSound, IsValid, List, MAX_CLASSES, MAX_READS, Parts, Text, TooMany, UnknownName, [], ap, both_empty, catalogue_of, class_of, class_rules, drop, emptied, emptied_part, empty_of_map, faults_at, faults_of_class, found_from, found_in, fragment_names, has_name, is_from_1_to, length, length-map, map, map-append, nat_le, nat_lt, no_faults, not, parts_of, read_rules, refl, retired, retired_parts, suc, sym, take, when, with_classes, write_rules, zero, ℕ, ◌++◌, ◌+◌, ◌∙◌, ◌∷◌, ◌≡◌}
+use Rattle.sdd_eras.proofs.All.{CatRule, Catalogue, ClassPart, DuplicateName, IsSoundCatalogue, IsValid, List, MAX_CLASSES, MAX_READS, Parts, Text, TooMany, UnknownName, [], ap, both_empty, catalogue_of, class_of, class_rules, drop, emptied, emptied_part, empty_of_map, faults_at, faults_of_class, found_from, found_in, fragment_names, has_name, is_from_1_to, length, length-map, map, map-append, nat_le, nat_lt, no_faults, not, parts_of, read_rules, refl, retired, retired_parts, suc, sym, take, when, with_classes, write_rules, zero, ℕ, ◌++◌, ◌+◌, ◌∙◌, ◌∷◌, ◌≡◌}
 use Rattle.sdd_eras.proofs.Extended.{faults_of_classes}
 use Rattle.sdd_lang.specs.catalog.declared.fault.Part.TheVariants.{Class}
 use Rattle.sdd_lang.specs.catalog.declared.fault.Counted.TheVariants as counted
@@ -88,7 +88,7 @@ retired_by_numbers names zero (c ∷ cs) = refl
 retired_by_numbers names (suc n) (c ∷ cs) = ap (λ rest. emptied (class_of names c) ∷ rest) (retired_by_numbers names n cs)
 
 -- the catalogue of the parts whose first so many classes are emptied
-pub retired_is : (cat : Catalogue) (n : ℕ) → IsSound cat
+pub retired_is : (cat : Catalogue) (n : ℕ) → IsSoundCatalogue cat
     → catalogue_of (with_classes (retired_parts n (parts_of cat).classes) (parts_of cat)) ≡ retired n cat
 retired_is cat n sound =
     let parts : Parts = parts_of cat in

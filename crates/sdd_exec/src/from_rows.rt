@@ -1,7 +1,7 @@
 ghost use Rattle.std.specs.Prelude.{◌≡◌, IfOk};
 ghost use Rattle.sdd_lang.specs.catalog.Catalogue as catalogues;
 ghost use Rattle.sdd_lang.specs.declared.transaction.Txn as transactions;
-ghost use Rattle.sdd_lang.specs.All.{Database, Fits, IsDatabase};
+ghost use Rattle.sdd_lang.specs.All.{Database, FitsTxn, IsDatabase};
 ghost use Rattle.sdd_lang.specs.Effect as of_databases;
 ghost use Rattle.sdd_exec.specs.Serves.{Serves};
 ghost use Rattle.sdd_exec.specs.Snapshots as snapshots;
@@ -26,7 +26,7 @@ pub fn effect(
     txn: &Txn,
     snap: &Snapshot,
 ) -> Result<Effect, NoMemory>
-    requires { Fits cat.now txn.now }
+    requires { FitsTxn cat.now txn.now }
     ensures { (db : Database) → IsDatabase cat.now db → Serves cat.now txn.now snap.now.value db → IfOk result (λ effect. effect ≡ of_databases.effect cat.now db txn.now) }
 {
     effect_over(alloc, cat, txn, &Shipped { cat, snap })

@@ -1,5 +1,5 @@
 -- Tests that tell that what the laws speak of fits together.
-use Rattle.sdd_history_examples.proofs.All.{All, All-from_recursion, AllByRecursion, Answer, Apply, AreEras, AreFragments, Arrive, Bool, Catalogue, Change, ChangeExists, Commit, Cond, CondExists, Eras, ExistsIn, FitTogether, Fits, FitsStart, FragNo, History, IsEraOf, List, NamesOneOf, Nothing, Pass, Rec, Reject, RelNo, Row, Some, Start, Submit, Txn, Use, UseExists, Wait, [], and_parts, era_of_itself, is_from_1_to, leb-true, length, list_all, nat_le, one_era, refl, same_Some, slice_get, subst, suc, true, zero, ℕ, ◌&&◌, ◌<◌, ◌∷◌, ◌≡◌, ◌≤◌}
+use Rattle.sdd_history_examples.proofs.All.{All, All-from_recursion, AllByRecursion, Answer, Apply, AreEras, AreFragments, Arrive, Bool, Catalogue, Change, ChangeExists, Commit, Cond, CondExists, Eras, ExistsIn, FitTogether, FitsStart, FitsTxn, FragNo, History, IsEraOf, List, NamesOneOf, Nothing, Pass, Rec, Reject, RelNo, Row, Some, Start, Submit, Txn, Use, UseExists, Wait, [], and_parts, era_of_itself, is_from_1_to, leb-true, length, list_all, nat_le, one_era, refl, same_Some, slice_get, subst, suc, true, zero, ℕ, ◌&&◌, ◌<◌, ◌∷◌, ◌≡◌, ◌≤◌}
 use Rattle.sdd_laws.specs.All.{IsFrom1To}
 
 -- what a test tells of each member
@@ -115,7 +115,7 @@ are_eras cat = record { first = (cat, refl); rise = rise; each = each }
 pub record PassFit (cat : Catalogue) (eras : Eras) (rows : List (RelNo × Row)) (txns : List Txn) (h : History) : Type 0 where
   pub are_eras : AreEras cat eras
   pub rows_fit : AllByRecursion (FitsStart cat) rows
-  pub txns_fit : AllByRecursion (Fits cat) txns
+  pub txns_fit : AllByRecursion (FitsTxn cat) txns
   pub numbers_exist : list_all (λ e. exists_in cat e.1) h ≡ true
   pub txns_exist : list_all (λ e. names_one_of (length txns) e.1) h ≡ true
 
@@ -125,7 +125,7 @@ fit_together cat eras rows txns h pass =
     record {
       are_eras = pass.are_eras;
       rows_fit = All-from_recursion (FitsStart cat) rows pass.rows_fit;
-      txns_fit = All-from_recursion (Fits cat) txns pass.txns_fit;
+      txns_fit = All-from_recursion (FitsTxn cat) txns pass.txns_fit;
       numbers_exist = all_by (λ (e : ℕ × Rec). ExistsIn cat e.1) (λ e. exists_in cat e.1) (λ e t. exists cat e.1 t) h pass.numbers_exist;
       txns_exist = all_by (λ (e : ℕ × Rec). NamesOneOf (length txns) e.1) (λ e. names_one_of (length txns) e.1)
           (λ e t. names (length txns) e.1 t) h pass.txns_exist;

@@ -1,36 +1,36 @@
 -- The worked catalogues are valid.
-use Rattle.sdd_history_examples.proofs.All.{All-from_recursion, AreSound, Catalogue, IsSound, both_classes, bridge, crossing, further_classes, one_class, one_era, one_reader, one_writer, refl, two_eras, ℕ}
+use Rattle.sdd_history_examples.proofs.All.{All-from_recursion, AreSound, Catalogue, IsSoundCatalogue, both_classes, bridge, crossing, further_classes, one_class, one_era, one_reader, one_writer, refl, two_eras, ℕ}
 use Rattle.sdd_laws.specs.catalog.Rules.{faults_of}
 
 -- one list of classes
-one_sound : (cat : Catalogue) → IsSound cat → AreSound cat (one_era cat)
-one_sound cat s = record { whole = s; each = All-from_recursion (λ (e : ℕ × Catalogue). IsSound e.1) (one_era cat) (s, tt) }
+one_sound : (cat : Catalogue) → IsSoundCatalogue cat → AreSound cat (one_era cat)
+one_sound cat s = record { whole = s; each = All-from_recursion (λ (e : ℕ × Catalogue). IsSoundCatalogue e.1) (one_era cat) (s, tt) }
 
-bridge_is : IsSound bridge
+bridge_is : IsSoundCatalogue bridge
 unfolding faults_of
 bridge_is = record { valid = refl; same = refl }
 
-one_reader_is : IsSound one_reader
+one_reader_is : IsSoundCatalogue one_reader
 unfolding faults_of
 one_reader_is = record { valid = refl; same = refl }
 
-crossing_is : IsSound crossing
+crossing_is : IsSoundCatalogue crossing
 unfolding faults_of
 crossing_is = record { valid = refl; same = refl }
 
-one_class_is : IsSound one_class
+one_class_is : IsSoundCatalogue one_class
 unfolding faults_of
 one_class_is = record { valid = refl; same = refl }
 
-one_writer_is : IsSound one_writer
+one_writer_is : IsSoundCatalogue one_writer
 unfolding faults_of
 one_writer_is = record { valid = refl; same = refl }
 
-both_classes_are : IsSound both_classes
+both_classes_are : IsSoundCatalogue both_classes
 unfolding faults_of
 both_classes_are = record { valid = refl; same = refl }
 
-further_classes_are : IsSound further_classes
+further_classes_are : IsSoundCatalogue further_classes
 unfolding faults_of
 further_classes_are = record { valid = refl; same = refl }
 
@@ -51,4 +51,4 @@ sound_one_writer = one_sound one_writer one_writer_is
 
 pub sound_both_classes : AreSound both_classes two_eras
 sound_both_classes =
-    record { whole = both_classes_are; each = All-from_recursion (λ (e : ℕ × Catalogue). IsSound e.1) two_eras (one_class_is, (further_classes_are, tt)) }
+    record { whole = both_classes_are; each = All-from_recursion (λ (e : ℕ × Catalogue). IsSoundCatalogue e.1) two_eras (one_class_is, (further_classes_are, tt)) }

@@ -1,5 +1,5 @@
 -- The transactions of the worked histories fit the catalogues, whatever the classes.
-use Rattle.sdd_history_examples.proofs.All.{All-from_recursion, Class, Const, Fits, FitsCondition, FitsRef, FitsStart, FitsStatement, Int, IsFrom1To, IsRelation, List, Op, RelNo, Stmt, [], all_rows, column, given_to, lit≤, named, pos, put_row, refl, rel_no, row_of, values_by, with_classes, ℕ, ◌∷◌}
+use Rattle.sdd_history_examples.proofs.All.{All-from_recursion, Class, Const, FitsCondition, FitsRef, FitsStart, FitsStatement, FitsTxn, Int, IsFrom1To, IsRelation, List, Op, RelNo, Stmt, [], all_rows, column, given_to, lit≤, named, pos, put_row, refl, rel_no, row_of, values_by, with_classes, ℕ, ◌∷◌}
 
 module _ (high : ℕ) (classes : List Class) where
   pub row_fits : (id value : ℕ) → FitsStart (named (with_classes high classes)) (rel_no 1, row_of id value)
@@ -27,12 +27,12 @@ module _ (high : ℕ) (classes : List Class) where
   )
 
   -- a transaction of one statement, and of two
-  pub one_fits : (t : ℕ) → IsFrom1To 2 t → (s : Stmt) → FitsStatement (named (with_classes high classes)) s → Fits (named (with_classes high classes)) (given_to t (s ∷ []))
+  pub one_fits : (t : ℕ) → IsFrom1To 2 t → (s : Stmt) → FitsStatement (named (with_classes high classes)) s → FitsTxn (named (with_classes high classes)) (given_to t (s ∷ []))
   one_fits t m s p =
       record { module_is_there = m; few = lit≤ tt; statements = All-from_recursion (FitsStatement (named (with_classes high classes))) (s ∷ []) (p, tt) }
 
   pub two_fit : (t : ℕ) → IsFrom1To 2 t → (r s : Stmt) → FitsStatement (named (with_classes high classes)) r → FitsStatement (named (with_classes high classes)) s
-      → Fits (named (with_classes high classes)) (given_to t (r ∷ s ∷ []))
+      → FitsTxn (named (with_classes high classes)) (given_to t (r ∷ s ∷ []))
   two_fit t m r s p q =
       record {
         module_is_there = m;

@@ -1,12 +1,12 @@
 -- Histories that keep all laws, and that break one.
 use Rattle.std.specs.Prelude.{List}
 use Rattle.std.specs.List.{All}
-use Rattle.sdd_laws.specs.All.{Catalogue, Eras, FitTogether, HasNoCycle, History, IsSound, KeepsAnswers, KeepsApplies, KeepsConditions, KeepsEras, KeepsLaws, KeepsRejections, KeepsStarts, KeepsUndeclared, RelNo, Row, Txn}
+use Rattle.sdd_laws.specs.All.{Catalogue, Eras, FitTogether, HasNoCycle, History, IsSoundCatalogue, KeepsAnswers, KeepsApplies, KeepsConditions, KeepsEras, KeepsLaws, KeepsRejections, KeepsStarts, KeepsUndeclared, RelNo, Row, Txn}
 
 -- the catalogue, and that of each list of classes, is valid
 pub record AreSound (cat : Catalogue) (eras : Eras) : Type 0 where
-  pub whole : IsSound cat
-  pub each : All (λ e. IsSound e.1) eras
+  pub whole : IsSoundCatalogue cat
+  pub each : All (λ e. IsSoundCatalogue e.1) eras
 
 -- it keeps every law
 pub record KeepsAll (cat : Catalogue) (eras : Eras) (rows : List (RelNo × Row)) (txns : List Txn) (h : History) : Type 0 where

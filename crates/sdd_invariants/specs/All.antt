@@ -50,7 +50,7 @@ pub use Rattle.sdd_invariants.specs.base.declared.usage.Use.{Use}
 pub use Rattle.sdd_invariants.specs.base.declared.value.Value.{Value}
 pub use Rattle.sdd_invariants.specs.catalog.Catalogue.{Catalogue, class_at, fragment_at, fragment_of, has_copy, lowest_copy, numbers_to, reads_at}
 pub use Rattle.sdd_invariants.specs.catalog.Numbers.{IsPlaced, IsServedClass, IsWhole}
-pub use Rattle.sdd_invariants.specs.catalog.Rules.{IsSound}
+pub use Rattle.sdd_invariants.specs.catalog.Rules.{IsSoundCatalogue}
 pub use Rattle.sdd_invariants.specs.catalog.declared.resolved.Class.{Class}
 pub use Rattle.sdd_invariants.specs.catalog.declared.resolved.Fragment.{Fragment}
 pub use Rattle.sdd_invariants.specs.dm.Copies.{all_held, applied, applied_acted, changes_in, copies, dated, first_row, first_rows, frozen, frozen_at, frozen_handed, given_up, is_answer, is_apply, reduced_at, rows_held}
@@ -71,7 +71,7 @@ pub use Rattle.sdd_invariants.specs.lang.Changes.{HasRow, IsChange}
 pub use Rattle.sdd_invariants.specs.lang.Classes.{class_for, covers, fragments_in}
 pub use Rattle.sdd_invariants.specs.lang.Database.{Database, Item, Row, database_of, item_cmp, key_in}
 pub use Rattle.sdd_invariants.specs.lang.Effect.{Changed, change_of, effect}
-pub use Rattle.sdd_invariants.specs.lang.Fits.{Fits, FitsRow, FitsStart, FitsStatement, IsRelation}
+pub use Rattle.sdd_invariants.specs.lang.Fits.{FitsRow, FitsStart, FitsStatement, FitsTxn, IsRelation}
 pub use Rattle.sdd_invariants.specs.lang.Sound.{IsDatabase, IsEntry, IsHeld, PutsHeld}
 pub use Rattle.sdd_invariants.specs.lang.Update.{in_range}
 pub use Rattle.sdd_invariants.specs.lang.Uses.{fragments_for, part_uses, restrictions_of, statement_uses, use_of, uses_from, uses_of}

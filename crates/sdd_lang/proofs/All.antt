@@ -25,7 +25,7 @@ pub use Rattle.sdd_catalog.specs.Catalogue.{Catalogue, HoldsKey, IsOf, column_of
 pub use Rattle.sdd_catalog.specs.Cover.{Cover, IsNumberFor, ranges_for}
 pub use Rattle.sdd_catalog.specs.Names.{number_of}
 pub use Rattle.sdd_catalog.specs.Numbers.{HasKey}
-pub use Rattle.sdd_catalog.specs.Rules.{IsSound, column_named, greatest_key, is_int, key_rules, least_key, relation_rules}
+pub use Rattle.sdd_catalog.specs.Rules.{IsSoundCatalogue, column_named, greatest_key, is_int, key_rules, least_key, relation_rules}
 pub use Rattle.sdd_catalog.specs.declared.parts.ColumnPart.{ColumnPart}
 pub use Rattle.sdd_catalog.specs.declared.parts.Kind.{Kind}
 pub use Rattle.sdd_catalog.specs.declared.parts.Parts.{Parts}
@@ -39,7 +39,7 @@ pub use Rattle.sdd_lang.specs.Classes.{class_for, covers, fragments_in, read_set
 pub use Rattle.sdd_lang.specs.Condition.{Tuple, meets_all, part_of, value_at}
 pub use Rattle.sdd_lang.specs.Database.{Database, Item, Row, database_of, item_cmp, key_in, rows_of, with_row, without_row}
 pub use Rattle.sdd_lang.specs.Effect.{Changed, change_of, effect, effect_from, failed, rows_in, with_change, with_deletes, with_updates}
-pub use Rattle.sdd_lang.specs.Fits.{Fits, FitsAssign, FitsCondition, FitsRow, FitsStart, FitsStatement, IsRelation, kind_of, rel_of}
+pub use Rattle.sdd_lang.specs.Fits.{FitsAssign, FitsCondition, FitsRow, FitsStart, FitsStatement, FitsTxn, IsRelation, kind_of, rel_of}
 pub use Rattle.sdd_lang.specs.FragSets.{has, members, put_all}
 pub use Rattle.sdd_lang.specs.Narrowing.{keys_left}
 pub use Rattle.sdd_lang.specs.Query.{answer, distinct, product, projection, selection}

@@ -1,5 +1,5 @@
 -- The changes of an effect: they ascend, each is of an item, in the write set, and of an item there is one.
-use Rattle.sdd_lang.proofs.All.{All, All-from_recursion, AllByRecursion, ArePlaced, Assign, Catalogue, Change, Changed, ChangesItems, Condition, Contains, Database, Decides-eqb, Delete, Effect, Equal, Fits, FitsCondition, FitsStatement, FragNo, IsChange, IsDatabase, IsEntry, IsIn, IsRelation, IsSound, IsStrictlySortedBy, Item, Less, LieIn, List, MAX_REPLY_ROWS, None, OneAnItem, Option, Overflow, Put, PutsHeld, Query, RelNo, Row, Some, Stmt, TooMany, Txn, Update, [], answer, ap, append-nil, at_in, change_of, chosen, cond, contains, effect, effect_from, failed, false, flat_map, fragment_at, fragment_of, fragments_for, get_or, if◌then◌else◌, in_range, inl, inr, item_cmp, item_of, key_in, keys_of, length, map, meets_all, nat_lt, or_holds, recursion_from_All, refl, replaced, restrictions_of, rows_in, sorted_head, sorted_tail, subst, sym, tied_itself, true, with_change, with_deletes, with_updates, write_set, written_by, ℕ, ℤ, ◌&&◌, ◌++◌, ◌+◌, ◌==◌, ◌||◌, ◌∙◌, ◌∷◌, ◌≡◌}
+use Rattle.sdd_lang.proofs.All.{All, All-from_recursion, AllByRecursion, ArePlaced, Assign, Catalogue, Change, Changed, ChangesItems, Condition, Contains, Database, Decides-eqb, Delete, Effect, Equal, FitsCondition, FitsStatement, FitsTxn, FragNo, IsChange, IsDatabase, IsEntry, IsIn, IsRelation, IsSoundCatalogue, IsStrictlySortedBy, Item, Less, LieIn, List, MAX_REPLY_ROWS, None, OneAnItem, Option, Overflow, Put, PutsHeld, Query, RelNo, Row, Some, Stmt, TooMany, Txn, Update, [], answer, ap, append-nil, at_in, change_of, chosen, cond, contains, effect, effect_from, failed, false, flat_map, fragment_at, fragment_of, fragments_for, get_or, if◌then◌else◌, in_range, inl, inr, item_cmp, item_of, key_in, keys_of, length, map, meets_all, nat_lt, or_holds, recursion_from_All, refl, replaced, restrictions_of, rows_in, sorted_head, sorted_tail, subst, sym, tied_itself, true, with_change, with_deletes, with_updates, write_set, written_by, ℕ, ℤ, ◌&&◌, ◌++◌, ◌+◌, ◌==◌, ◌||◌, ◌∙◌, ◌∷◌, ◌≡◌}
 use Rattle.sdd_lang.proofs.KeyRanges.{fragment_holds, key_in_range}
 use Rattle.sdd_lang.proofs.Pushdown.{and_parts, parts_meet}
 use Rattle.sdd_lang.proofs.ReadSetDecides.{at_has, ascending_back, lies_in_use}
@@ -97,11 +97,11 @@ one_entry (f ∷ es) d e sorted (inr h) (inl b) same =
 one_entry (f ∷ es) d e sorted (inr h) (inr k) same = one_entry es d e (sorted_tail item_cmp f.0 (keys_of es) sorted) h k same
 
 -- an item of a relation is of its fragment
-pub entry_placed : (cat : Catalogue) → IsSound cat → (rel : ℕ) (key : ℤ) → IsRelation cat rel → in_range key ≡ true
+pub entry_placed : (cat : Catalogue) → IsSoundCatalogue cat → (rel : ℕ) (key : ℤ) → IsRelation cat rel → in_range key ≡ true
     → (fragment_at cat (fragment_of cat rel key)).rel.0 ≡ rel
 entry_placed cat sound rel key there held = (fragment_holds cat sound rel key there.0 there.1 (key_in_range key held)).there.rel_is
 
-module _ (cat : Catalogue) (sound : IsSound cat) (txn : Txn) (fits : Fits cat txn) (held : All PutsHeld txn.statements) (db : Database) (is : IsDatabase cat db) where
+module _ (cat : Catalogue) (sound : IsSoundCatalogue cat) (txn : Txn) (fits : FitsTxn cat txn) (held : All PutsHeld txn.statements) (db : Database) (is : IsDatabase cat db) where
   -- each change is of an item
   pub changes_items : ChangesItems cat (effect cat db txn)
   changes_items =
@@ -177,7 +177,7 @@ updates_in cat ws sets changed next (f ∷ es) all h e =
     ] e
 
 -- the rows that an update or a delete works on lie in its fragments
-chosen_in : (cat : Catalogue) → IsSound cat → (ws : List ℕ) (rel : RelNo) (conds : List Condition) → IsRelation cat rel.0
+chosen_in : (cat : Catalogue) → IsSoundCatalogue cat → (ws : List ℕ) (rel : RelNo) (conds : List Condition) → IsRelation cat rel.0
     → AllByRecursion (FitsCondition cat (rel ∷ [])) conds
     → AllByRecursion (InSet ws) (map (λ (f : FragNo). f.0) (fragments_for cat rel.0 (restrictions_of 1 conds))) → (db : Database)
     → AllByRecursion (IsEntry cat) db → AllByRecursion (EntryIn cat ws) (chosen db rel.0 conds)
@@ -201,7 +201,7 @@ changes_in ws (c ∷ changed) all = (all.0, changes_in ws changed all.1)
 abbrev EffectIn : List ℕ → Effect → Type 0
 EffectIn ws e = AllByRecursion (λ (c : Change). InSet ws c.frag.0) e.changes
 
-effect_in : (cat : Catalogue) → IsSound cat → (ws : List ℕ) (db : Database) → AllByRecursion (IsEntry cat) db
+effect_in : (cat : Catalogue) → IsSoundCatalogue cat → (ws : List ℕ) (db : Database) → AllByRecursion (IsEntry cat) db
     → (statements : List Stmt) (answers : List (List Row)) (changed : Changed) → AllByRecursion (FitsStatement cat) statements
     → AllByRecursion (Written cat ws) statements → AllByRecursion (ChangedIn ws) changed → EffectIn ws (effect_from cat db statements answers changed)
 effect_in cat sound ws db is [] answers changed fits written all = changes_in ws changed all
@@ -247,7 +247,7 @@ each_written cat ws (s ∷ rest) all =
     let both = each_front (InSet ws) (written_by cat s) (flat_map (written_by cat) rest) all in (both.0, each_written cat ws rest both.1)
 
 -- the changes of an effect lie in the transaction's write set
-pub lie_in_write_set : (cat : Catalogue) → IsSound cat → (txn : Txn) → Fits cat txn → (db : Database) → IsDatabase cat db
+pub lie_in_write_set : (cat : Catalogue) → IsSoundCatalogue cat → (txn : Txn) → FitsTxn cat txn → (db : Database) → IsDatabase cat db
     → LieIn (write_set cat txn) (effect cat db txn)
 lie_in_write_set cat sound txn fits db is =
     let ws : List ℕ = write_set cat txn in

@@ -1,5 +1,5 @@
 -- What rows make is a database, and what a transaction leaves of one is.
-use Rattle.sdd_lang.proofs.All.{Add, All, All-from_recursion, All-nil, AllByRecursion, Assign, Catalogue, Change, Changed, ChangesItems, Column, Condition, Database, Decides-eqb, Delete, Effect, Fits, FitsAssign, FitsRow, FitsStart, FitsStatement, HasKey, HasRow, Int, IsChange, IsDatabase, IsEntry, IsHeld, IsRelation, IsSound, Item, List, MAX_REPLY_ROWS, None, Option, Overflow, Put, PutsHeld, Query, RelNo, Row, Some, Stmt, Text, To, TooMany, Txn, Update, Value, [], added, after_changes, answer, ap, arith, assigned, assigned_all, at_number, cases_lt, change_of, changed_by, chosen, column, cond, database_of, effect, effect_from, failed, false, fold, fragment_at, fragment_of, get_or as slice_index_or, get_or-set_other, get_or_past, if◌then◌else◌, in_range, inl, inr, is_at, item_cmp, key_column, key_in, kind_at, kind_of, length, map, meets_all, nat_lt, number_in, pos, recursion_from_All, refl, relation_at, replaced, rows_in, set_to, slice_set, sound_relations, subst, suc, sym, true, with_change, with_deletes, with_row, with_updates, without_row, zero, ℕ, ℤ, ◌&&◌, ◌++◌, ◌+ℤ◌, ◌+◌, ◌-◌, ◌==◌, ◌∙◌, ◌∷◌, ◌≡◌, ◌≢◌, ◌≤◌}
+use Rattle.sdd_lang.proofs.All.{Add, All, All-from_recursion, All-nil, AllByRecursion, Assign, Catalogue, Change, Changed, ChangesItems, Column, Condition, Database, Decides-eqb, Delete, Effect, FitsAssign, FitsRow, FitsStart, FitsStatement, FitsTxn, HasKey, HasRow, Int, IsChange, IsDatabase, IsEntry, IsHeld, IsRelation, IsSoundCatalogue, Item, List, MAX_REPLY_ROWS, None, Option, Overflow, Put, PutsHeld, Query, RelNo, Row, Some, Stmt, Text, To, TooMany, Txn, Update, Value, [], added, after_changes, answer, ap, arith, assigned, assigned_all, at_number, cases_lt, change_of, changed_by, chosen, column, cond, database_of, effect, effect_from, failed, false, fold, fragment_at, fragment_of, get_or as slice_index_or, get_or-set_other, get_or_past, if◌then◌else◌, in_range, inl, inr, is_at, item_cmp, key_column, key_in, kind_at, kind_of, length, map, meets_all, nat_lt, number_in, pos, recursion_from_All, refl, relation_at, replaced, rows_in, set_to, slice_set, sound_relations, subst, suc, sym, true, with_change, with_deletes, with_row, with_updates, without_row, zero, ℕ, ℤ, ◌&&◌, ◌++◌, ◌+ℤ◌, ◌+◌, ◌-◌, ◌==◌, ◌∙◌, ◌∷◌, ◌≡◌, ◌≢◌, ◌≤◌}
 use Rattle.sdd_lang.proofs.KeyKinds.{kinds_at}
 use Rattle.sdd_lang.proofs.KeyRanges.{fragment_holds, key_in_range}
 use Rattle.sdd_lang.proofs.Pushdown.{and_parts}
@@ -77,7 +77,7 @@ set_fits (w ∷ row) (c ∷ columns) (suc i) v e kind =
     let more : map kind_of (slice_set row i v) ≡ map (λ (c : Column). c.kind) columns = set_fits row columns i v rest kind in
     cc
 
-set_follows : (cat : Catalogue) → IsSound cat → (rel : ℕ) (old row : Row) (n : ℕ) (v : Value) → IsRelation cat rel → 1 ≤ n
+set_follows : (cat : Catalogue) → IsSoundCatalogue cat → (rel : ℕ) (old row : Row) (n : ℕ) (v : Value) → IsRelation cat rel → 1 ≤ n
     → n ≢ key_column cat rel → kind_of v ≡ kind_at cat rel n → Follows cat rel old row → Follows cat rel old (slice_set row (n - 1) v)
 set_follows cat sound rel old row n v there from other kind follows =
     let key : HasKey (relation_at cat rel) = at_number HasKey cat.relations rel (record { name = []; columns = []; key = 0 })
@@ -94,7 +94,7 @@ added_kind (Int n) w by e =
       | false ↦ λ k. cc
     ] e
 
-assigned_follows : (cat : Catalogue) → IsSound cat → (rel : ℕ) (old row next : Row) (a : Assign) → IsRelation cat rel → FitsRow cat rel old
+assigned_follows : (cat : Catalogue) → IsSoundCatalogue cat → (rel : ℕ) (old row next : Row) (a : Assign) → IsRelation cat rel → FitsRow cat rel old
     → FitsAssign cat rel a → Follows cat rel old row → assigned old row a ≡ Some next → Follows cat rel old next
 assigned_follows cat sound rel old row next (To n value) there fit fits follows e =
     let same : slice_set row (n - 1) value ≡ next = cc in
@@ -109,7 +109,7 @@ assigned_follows cat sound rel old row next (Add n by) there fit fits follows e 
           subst (Follows cat rel old) same (set_follows cat sound rel old row n value there fits.0.0 fits.1 kind follows)
     ] refl e
 
-all_follow : (cat : Catalogue) → IsSound cat → (rel : ℕ) (old row next : Row) (sets : List Assign) → IsRelation cat rel → FitsRow cat rel old
+all_follow : (cat : Catalogue) → IsSoundCatalogue cat → (rel : ℕ) (old row next : Row) (sets : List Assign) → IsRelation cat rel → FitsRow cat rel old
     → AllByRecursion (FitsAssign cat rel) sets → Follows cat rel old row → assigned_all old row sets ≡ Some next → Follows cat rel old next
 all_follow cat sound rel old row next [] there fit fits follows e = let same : row ≡ next = cc in subst (Follows cat rel old) same follows
 all_follow cat sound rel old row next (a ∷ sets) there fit fits follows e =
@@ -121,7 +121,7 @@ all_follow cat sound rel old row next (a ∷ sets) there fit fits follows e =
     ] refl e
 
 -- an update leaves a row that fits, with the key of the old one
-pub replaced_follows : (cat : Catalogue) → IsSound cat → (rel : ℕ) (old next : Row) (sets : List Assign) → IsRelation cat rel → FitsRow cat rel old
+pub replaced_follows : (cat : Catalogue) → IsSoundCatalogue cat → (rel : ℕ) (old next : Row) (sets : List Assign) → IsRelation cat rel → FitsRow cat rel old
     → AllByRecursion (FitsAssign cat rel) sets → replaced sets old ≡ Some next → Follows cat rel old next
 replaced_follows cat sound rel old next sets there fit fits e = all_follow cat sound rel old old next sets there fit fits (record { fits = fit; key = refl }) e
 
@@ -154,7 +154,7 @@ deletes_change cat rel changed [] all of = all
 deletes_change cat rel changed (e ∷ es) all of =
     deletes_change cat rel (with_change cat changed e.0.0 e.0.1 None) es (change_more cat changed e.0.0 e.0.1 None all of.0.0.relation of.0.0.key_held tt) of.1
 
-updates_change : (cat : Catalogue) → IsSound cat → (rel : ℕ) (sets : List Assign) → IsRelation cat rel → AllByRecursion (FitsAssign cat rel) sets
+updates_change : (cat : Catalogue) → IsSoundCatalogue cat → (rel : ℕ) (sets : List Assign) → IsRelation cat rel → AllByRecursion (FitsAssign cat rel) sets
     → (changed next : Changed) (es : Database) → AllByRecursion (IsChange cat) changed → AllByRecursion (IsOf cat rel) es
     → with_updates cat sets changed es ≡ Some next → AllByRecursion (IsChange cat) next
 updates_change cat sound rel sets there fits changed next [] all of e = let same : changed ≡ next = cc in subst (AllByRecursion (IsChange cat)) same all
@@ -179,7 +179,7 @@ made_changes : (cat : Catalogue) (changed : Changed) → AllByRecursion (IsChang
 made_changes cat [] all = tt
 made_changes cat (c ∷ changed) all = (all.0, made_changes cat changed all.1)
 
-pub effect_changes : (cat : Catalogue) → IsSound cat → (db : Database) → AllByRecursion (IsEntry cat) db
+pub effect_changes : (cat : Catalogue) → IsSoundCatalogue cat → (db : Database) → AllByRecursion (IsEntry cat) db
     → (statements : List Stmt) (answers : List (List Row)) (changed : Changed) → AllByRecursion (FitsStatement cat) statements
     → AllByRecursion PutsHeld statements → AllByRecursion (IsChange cat) changed → ChangesItems cat (effect_from cat db statements answers changed)
 effect_changes cat sound db is [] answers changed fits held all = made_changes cat changed all
@@ -210,20 +210,20 @@ set_stays cat db rel key None is there held has = without_row_stays cat db (rel,
 set_stays cat db rel key (Some row) is there held has =
     with_row_stays cat db (rel, key) row is (record { relation = there; row = has.0; key = has.1; key_held = held })
 
-pub change_stays : (cat : Catalogue) → IsSound cat → (db : Database) (c : Change) → IsDatabase cat db → IsChange cat ((c.frag.0, c.key), c.row)
+pub change_stays : (cat : Catalogue) → IsSoundCatalogue cat → (db : Database) (c : Change) → IsDatabase cat db → IsChange cat ((c.frag.0, c.key), c.row)
     → IsDatabase cat (changed_by cat db c)
 change_stays cat sound db c is change =
     let holder = fragment_holds cat sound change.rel c.key change.there.0 change.there.1 (key_in_range c.key change.held) in
     let rel : (fragment_at cat c.frag.0).rel.0 ≡ change.rel = ap (λ f. (fragment_at cat f).rel.0) change.frag ∙ holder.there.rel_is in
     subst (λ r. IsDatabase cat (set_to db (r, c.key) c.row)) (sym rel) (set_stays cat db change.rel c.key c.row is change.there change.held change.row)
 
-pub changes_stay : (cat : Catalogue) → IsSound cat → (db : Database) (changes : List Change) → IsDatabase cat db
+pub changes_stay : (cat : Catalogue) → IsSoundCatalogue cat → (db : Database) (changes : List Change) → IsDatabase cat db
     → AllByRecursion (λ (c : Change). IsChange cat ((c.frag.0, c.key), c.row)) changes → IsDatabase cat (after_changes cat db changes)
 changes_stay cat sound db [] is all = is
 changes_stay cat sound db (c ∷ changes) is all = changes_stay cat sound (changed_by cat db c) changes (change_stays cat sound db c is all.0) all.1
 
 -- a transaction leaves a database one
-pub stays_database : (cat : Catalogue) → IsSound cat → (txn : Txn) → Fits cat txn → All PutsHeld txn.statements → (db : Database)
+pub stays_database : (cat : Catalogue) → IsSoundCatalogue cat → (txn : Txn) → FitsTxn cat txn → All PutsHeld txn.statements → (db : Database)
     → IsDatabase cat db → IsDatabase cat (after_changes cat db (effect cat db txn).changes)
 stays_database cat sound txn fits held db is =
     changes_stay cat sound db (effect cat db txn).changes is

@@ -6,7 +6,7 @@ pub use Rattle.sdd_lang.specs.Condition.{Tuple, meets_all, part_of, value_at}
 pub use Rattle.sdd_lang.specs.Database.{Database, Item, Row, database_of, item_cmp, key_in, rows_of, with_row, without_row}
 pub use Rattle.sdd_lang.specs.Effect.{effect}
 pub use Rattle.sdd_lang.specs.Examples.{accounts, get_all, ref, rel, two, txn}
-pub use Rattle.sdd_lang.specs.Fits.{Fits, FitsAssign, FitsCondition, FitsConditions, FitsRef, FitsRow, FitsStart, FitsStatement, IsColumn, IsFrom1To, IsRelation, kind_of, kind_of_ref, rel_of}
+pub use Rattle.sdd_lang.specs.Fits.{FitsAssign, FitsCondition, FitsConditions, FitsRef, FitsRow, FitsStart, FitsStatement, FitsTxn, IsColumn, IsFrom1To, IsRelation, kind_of, kind_of_ref, rel_of}
 pub use Rattle.sdd_lang.specs.Query.{answer, distinct, product, projection, selection}
 pub use Rattle.sdd_lang.specs.Serial.{after_changes, after_reply, changed_by, item_of, serial, set_to}
 pub use Rattle.sdd_lang.specs.Sound.{IsDatabase, IsEntry, IsHeld, PutsHeld}
@@ -19,7 +19,7 @@ pub use Rattle.sdd_lang.specs.base.Kept.{Kept}
 pub use Rattle.sdd_lang.specs.base.Name.{IsName, begins_with_letter, is_digit, is_keyword, is_letter, is_name, is_name_byte}
 pub use Rattle.sdd_lang.specs.base.Numbers.{class_no, dm_no, frag_no, rel_no, time_at, tm_no, txn_no}
 pub use Rattle.sdd_lang.specs.base.Order.{admits, column, meets, number_in, row_cmp, value_cmp, with_values}
-pub use Rattle.sdd_lang.specs.base.Readings.{Fails, Gives, along, known, must, ◌>>=◌}
+pub use Rattle.sdd_lang.specs.base.Readings.{Fails, GivesReading, along, known, must, ◌>>=◌}
 pub use Rattle.sdd_lang.specs.base.Sites.{are_linked}
 pub use Rattle.sdd_lang.specs.base.ValueOrder.{value_cmp_total, value_decides}
 pub use Rattle.sdd_lang.specs.base.Words.{ascending, contains, first_some, head_of, or_else}
@@ -51,7 +51,7 @@ pub use Rattle.sdd_lang.specs.catalog.Eras.{emptied, eras, extended, retired, wh
 pub use Rattle.sdd_lang.specs.catalog.Names.{Text, number_of}
 pub use Rattle.sdd_lang.specs.catalog.Naming.{AreNamed, IsNamed}
 pub use Rattle.sdd_lang.specs.catalog.Numbers.{HasKey, IsPlaced, IsWhole}
-pub use Rattle.sdd_lang.specs.catalog.Rules.{IsSound, IsValid, TellsFirst, class_rules, count_faults, faults_at, faults_of, faults_of_class, faults_of_relation, found_from, found_in, fragment_faults, fragment_rules, has_name, is_from_1_to, range_faults, read_rules, relation_faults, relation_rules, repeats, when, write_rules}
+pub use Rattle.sdd_lang.specs.catalog.Rules.{IsSoundCatalogue, IsValid, TellsFirst, class_rules, count_faults, faults_at, faults_of, faults_of_class, faults_of_relation, found_from, found_in, fragment_faults, fragment_rules, has_name, is_from_1_to, range_faults, read_rules, relation_faults, relation_rules, repeats, when, write_rules}
 pub use Rattle.sdd_lang.specs.catalog.declared.fault.CatFault.{CatFault}
 pub use Rattle.sdd_lang.specs.catalog.declared.fault.CatRule.{CatRule}
 pub use Rattle.sdd_lang.specs.catalog.declared.fault.CatRule.TheVariants.{DuplicateName, TooMany, UnknownName}

@@ -2,7 +2,7 @@
 ghost use Rattle.std.specs.Prelude.{◌≡◌, ◌≤◌, ◌||◌, not, is_some, map, length, IfOk};
 ghost use Rattle.std.specs.List.{list_all};
 ghost use Rattle.sdd_catalog.specs.Catalogue.{reads_at, writes};
-ghost use Rattle.sdd_lang.specs.Fits.{Fits};
+ghost use Rattle.sdd_lang.specs.Fits.{FitsTxn};
 ghost use Rattle.sdd_lang.specs.FragSets.{has, members};
 ghost use Rattle.sdd_lang.specs.Classes.{read_set, write_set, covers, class_for};
 
@@ -18,7 +18,7 @@ use std::alloc::Global;
 /// Costs, for each use, time in the conditions of its statement and the fragments of the catalogue;
 /// of memory only the result.
 pub fn read_set(alloc: Global, cat: &Catalogue, txn: &Txn) -> Result<Vec<FragNo>, NoMemory>
-    requires { Fits cat.now txn.now }
+    requires { FitsTxn cat.now txn.now }
     ensures { IfOk result (λ frags. map (λ f. f.0) frags.items ≡ read_set cat.now txn.now) }
 {
     let mut touched = Touched::none();
@@ -32,7 +32,7 @@ pub fn read_set(alloc: Global, cat: &Catalogue, txn: &Txn) -> Result<Vec<FragNo>
 /// Costs, for each use, time in the conditions of its statement and the fragments of the catalogue;
 /// of memory only the result.
 pub fn write_set(alloc: Global, cat: &Catalogue, txn: &Txn) -> Result<Vec<FragNo>, NoMemory>
-    requires { Fits cat.now txn.now }
+    requires { FitsTxn cat.now txn.now }
     ensures { IfOk result (λ frags. map (λ f. f.0) frags.items ≡ write_set cat.now txn.now) }
 {
     let mut touched = Touched::none();
@@ -46,7 +46,7 @@ pub fn write_set(alloc: Global, cat: &Catalogue, txn: &Txn) -> Result<Vec<FragNo
 /// Costs what the two sets cost, and, for each class of its module, time in the fragments of the
 /// catalogue, and for each fragment of the sets time in the class's lists. Takes no memory.
 pub fn class_for(cat: &Catalogue, txn: &Txn) -> ClassNo
-    requires { Fits cat.now txn.now }
+    requires { FitsTxn cat.now txn.now }
     ensures { result.0 ≡ class_for cat.now txn.now }
 {
     let mut touched = Touched::none();

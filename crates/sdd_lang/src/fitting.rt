@@ -3,7 +3,7 @@ ghost use Rattle.std.specs.Prelude.{◌≡◌, ◌≢◌, ◌↔◌, ◌≤◌, 
 ghost use Rattle.sdd_catalog.specs.Catalogue.{relation_at, key_column, kind_at};
 ghost use Rattle.sdd_catalog.specs.declared.resolved.Column.{Column as OfColumn};
 ghost use Rattle.sdd_catalog.specs.declared.parts.Kind.TheVariants.{Int};
-ghost use Rattle.sdd_lang.specs.Fits.{Fits, FitsStatement, FitsQuery, FitsAssign, FitsConditions, FitsCondition, FitsRef, FitsRow, IsColumn, IsRelation, IsFrom1To, kind_of, kind_of_ref, rel_of};
+ghost use Rattle.sdd_lang.specs.Fits.{FitsTxn, FitsStatement, FitsQuery, FitsAssign, FitsConditions, FitsCondition, FitsRef, FitsRow, IsColumn, IsRelation, IsFrom1To, kind_of, kind_of_ref, rel_of};
 
 use crate::assign::Assign;
 use crate::condition::{Condition, Ref};
@@ -17,7 +17,7 @@ use sdd_catalog::{Catalogue, Column, Kind};
 ///
 /// Costs time in the transaction.
 pub fn fits(cat: &Catalogue, txn: &Txn) -> bool
-    ensures { IsTrue result ↔ Fits cat.now txn.now }
+    ensures { IsTrue result ↔ FitsTxn cat.now txn.now }
 {
     is_from_1_to(cat.tms(), u32::from(txn.tm.0))
         && txn.statements.as_slice().len() <= 32

@@ -6,7 +6,7 @@ ghost use Rattle.sdd_lang.specs.Changes.{ChangesItems, ArePlaced, LieIn, OneAnIt
 ghost use Rattle.sdd_lang.specs.Classes.{write_set};
 ghost use Rattle.sdd_lang.specs.Database.{Database, database_of};
 ghost use Rattle.sdd_lang.specs.Effect.{effect};
-ghost use Rattle.sdd_lang.specs.Fits.{Fits, FitsStart};
+ghost use Rattle.sdd_lang.specs.Fits.{FitsStart, FitsTxn};
 ghost use Rattle.sdd_lang.specs.Serial.{after_changes};
 ghost use Rattle.sdd_lang.specs.Sound.{IsDatabase, IsHeld, PutsHeld};
 
@@ -19,7 +19,7 @@ use sdd_catalog::Catalogue;
 /// same entries in each fragment of its read set it has the same effect. Takes no memory.
 #[tactic(auto, using(crate::proofs::ReadSetDecides::read_set_decides))]
 pub fn law_read_set_decides(cat: &Catalogue, txn: &Txn)
-    requires { Fits cat.now txn.now }
+    requires { FitsTxn cat.now txn.now }
     ensures { ReadSetDecides cat.now txn.now }
 {
     cat.known();
@@ -28,7 +28,7 @@ pub fn law_read_set_decides(cat: &Catalogue, txn: &Txn)
 /// A transaction leaves a database a database. Costs time in the values of the rows that it puts.
 /// Takes no memory.
 pub fn law_stays_database(cat: &Catalogue, txn: &Txn)
-    requires { Fits cat.now txn.now }
+    requires { FitsTxn cat.now txn.now }
     ensures { (db : Database) → IsDatabase cat.now db → IsDatabase cat.now (after_changes cat.now db (effect cat.now db txn.now).changes) }
 {
     cat.known();
@@ -39,7 +39,7 @@ pub fn law_stays_database(cat: &Catalogue, txn: &Txn)
 /// item's key, or none; it names the fragment that holds the item, which is one of the write set; and
 /// of an item there is one. Costs time in the values of the rows that it puts. Takes no memory.
 pub fn law_changes(cat: &Catalogue, txn: &Txn)
-    requires { Fits cat.now txn.now }
+    requires { FitsTxn cat.now txn.now }
     ensures items { (db : Database) → IsDatabase cat.now db → ChangesItems cat.now (effect cat.now db txn.now) }
     ensures placed { (db : Database) → IsDatabase cat.now db → ArePlaced cat.now (effect cat.now db txn.now) }
     ensures written { (db : Database) → IsDatabase cat.now db → LieIn (write_set cat.now txn.now) (effect cat.now db txn.now) }

@@ -1,6 +1,6 @@
 ghost use Rattle.std.specs.Prelude.{◌≡◌, IfOk};
 ghost use Rattle.sdd_lang.specs.Effect.{failed};
-ghost use Rattle.sdd_lang.specs.Fits.{Fits};
+ghost use Rattle.sdd_lang.specs.Fits.{FitsTxn};
 ghost use Rattle.sdd_lang.specs.Source.{effect_over};
 
 use crate::effect::Effect;
@@ -35,7 +35,7 @@ pub fn effect_over<S: Source>(
     txn: &Txn,
     source: &S,
 ) -> Result<Effect, NoMemory>
-    requires { Fits cat.now txn.now }
+    requires { FitsTxn cat.now txn.now }
     ensures { IfOk result (λ effect. effect ≡ effect_over cat.now (S.found source.now) (S.chosen source.now) txn.now) }
 {
     let mut run = Run::new(alloc);

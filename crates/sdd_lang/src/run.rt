@@ -5,7 +5,7 @@ ghost use Rattle.sdd_base.specs.declared.reply.Reply.TheVariants.{Rows};
 ghost use Rattle.sdd_lang.specs.Database.{key_in};
 ghost use Rattle.sdd_lang.specs.Effect.{with_change, with_updates, with_deletes, rows_in, change_of};
 ghost use Rattle.sdd_lang.specs.Fits.{IsRelation, FitsStatement};
-ghost use Rattle.sdd_lang.specs.Run.{Run, Takes};
+ghost use Rattle.sdd_lang.specs.Run.{Run, TakesStatement};
 ghost use Rattle.sdd_lang.specs.Source.{uses_in};
 
 use crate::assign::Assign;
@@ -128,7 +128,7 @@ impl Run {
         self.changes.delete(cat, rel, entries.as_slice())
     }
 
-    /// Takes one more statement, or answers how the transaction fails at it.
+    /// TakesStatement one more statement, or answers how the transaction fails at it.
     pub(crate) fn take<S: Source>(
         &mut self,
         alloc: Global,
@@ -139,7 +139,7 @@ impl Run {
         requires fits { FitsStatement cat.now statement.now }
         requires few { self.old.before + uses_in statement.now < 2 ^ 32 }
         ensures before { IfOk result (λ failure. failure ≡ None → self.new.before ≡ self.old.before + uses_in statement.now) }
-        ensures takes { IfOk result (Takes cat.now (S.found source.now) (S.chosen source.now) statement.now self.old self.new) }
+        ensures takes { IfOk result (TakesStatement cat.now (S.found source.now) (S.chosen source.now) statement.now self.old self.new) }
     {
         match statement {
             Stmt::Put { rel, row } => {

@@ -5,7 +5,7 @@ ghost use Rattle.std.specs.BTreeSet.{insert_key};
 ghost use Rattle.sdd_catalog.specs.Catalogue.{Catalogue as OfCatalogue, fragment_of, numbers_to};
 ghost use Rattle.sdd_lang.specs.Classes.{fragments_in, read_set, write_set, written_by};
 ghost use Rattle.sdd_lang.specs.Database.{key_in};
-ghost use Rattle.sdd_lang.specs.Fits.{Fits, FitsStatement, IsRelation};
+ghost use Rattle.sdd_lang.specs.Fits.{FitsStatement, FitsTxn, IsRelation};
 ghost use Rattle.sdd_lang.specs.FragSets.{members, put_all};
 ghost use Rattle.sdd_lang.specs.Uses.{meets_keys, part_uses, statement_uses};
 
@@ -42,7 +42,7 @@ impl Touched {
     /// Costs, for each use, time in the conditions of its statement and the fragments of the
     /// catalogue. Takes no memory.
     pub(crate) fn add_all(&mut self, cat: &Catalogue, txn: &Txn)
-        requires fits { Fits cat.now txn.now }
+        requires fits { FitsTxn cat.now txn.now }
         requires no_reads { members cat.now self.old.reads ≡ [] }
         requires no_writes { members cat.now self.old.writes ≡ [] }
         ensures reads { members cat.now self.new.reads ≡ read_set cat.now txn.now }

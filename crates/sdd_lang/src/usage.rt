@@ -1,6 +1,6 @@
 //! The uses of a transaction.
 ghost use Rattle.std.specs.Prelude.{◌≡◌, ◌≤◌, ◌++◌, IfOk, OnOk, All, length, is_some};
-ghost use Rattle.sdd_lang.specs.Fits.{Fits, FitsStatement, IsRelation};
+ghost use Rattle.sdd_lang.specs.Fits.{FitsStatement, FitsTxn, IsRelation};
 ghost use Rattle.sdd_lang.specs.Uses.{restriction_of, restrictions_of, meets_keys, fragments_for, use_of, part_uses, statement_uses, uses_of};
 
 use crate::condition::Condition;
@@ -16,7 +16,7 @@ use std::alloc::Global;
 ///
 /// Costs, for each use, time in the conditions of its statement and the fragments of the catalogue.
 pub fn uses(alloc: Global, cat: &Catalogue, txn: &Txn) -> Result<Vec<Use>, NoMemory>
-    requires { Fits cat.now txn.now }
+    requires { FitsTxn cat.now txn.now }
     ensures { IfOk result (λ uses. uses.items ≡ uses_of cat.now txn.now) }
 {
     // Most statements have one use.

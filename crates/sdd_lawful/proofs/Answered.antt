@@ -1,5 +1,5 @@
 -- The Answers of a history, as acts of data modules, each with the READ that it answers and the Start that sent it.
-use Rattle.sdd_lawful.proofs.All.{Act, Answer, Attempt, Bool, Catalogue, ClassNo, Cond, D, DmNo, Does, Entry, Input, IsAnswered, IsAttempt, IsMadeAt, IsPermitted, IsRead, IsReadStep, IsRecordAt, IsSound, List, Log, May, Msg, None, Read, Rec, Records, Setting, Site, Some, Ts, TxnNo, Use, View, [], allowed_act, ap, arith, ascending, bound, by_record, by_wait, class_no, class_number, conditions, conditions_at, contains, current_era, d_step, dm_no, false, filter_map, frag_no, fragments_in, head, head_put, history, home, if◌then◌else◌, in_passing, inl, inr, is_processing, length, local_of, map, modules_asked, modules_of, next_stamp, not_both, option_map, or_left, or_right, p2_of, p2_time, pipe, pipe_at, record_of, refl, same_number, same_or_not, sends_of_act, setting_of, slice_get, start_at, start_read, subst, suc, sym, time_at, to_site, true, txn_no, undeclared_conditions, unwrap_or, use_there, uses_of, view_of, waits, zero, ℕ, ◌++◌, ◌<◌, ◌==◌, ◌∙◌, ◌∷◌, ◌≡◌}
+use Rattle.sdd_lawful.proofs.All.{Act, Answer, Attempt, Bool, Catalogue, ClassNo, Cond, D, DmNo, Does, Entry, Input, IsAnswered, IsAttempt, IsMadeAt, IsPermitted, IsRead, IsReadStep, IsRecordAt, IsSoundCatalogue, List, Log, May, Msg, None, Read, Rec, Records, Setting, Site, Some, Ts, TxnNo, Use, View, [], allowed_act, ap, arith, ascending, bound, by_record, by_wait, class_no, class_number, conditions, conditions_at, contains, current_era, d_step, dm_no, false, filter_map, frag_no, fragments_in, head, head_put, history, home, if◌then◌else◌, in_passing, inl, inr, is_processing, length, local_of, map, modules_asked, modules_of, next_stamp, not_both, option_map, or_left, or_right, p2_of, p2_time, pipe, pipe_at, record_of, refl, same_number, same_or_not, sends_of_act, setting_of, slice_get, start_at, start_read, subst, suc, sym, time_at, to_site, true, txn_no, undeclared_conditions, unwrap_or, use_there, uses_of, view_of, waits, zero, ℕ, ◌++◌, ◌<◌, ◌==◌, ◌∙◌, ◌∷◌, ◌≡◌}
 use Rattle.sdd_lawful.proofs.Applied.{IsDataIn, data_in}
 use Rattle.sdd_lawful.proofs.Classes.{at_home, further_back, home_setting}
 use Rattle.sdd_lawful.proofs.Commits.{begun_as}
@@ -209,7 +209,7 @@ answer_of_some g log n number d k h st =
       answer = answer_as g log x.later x.sends x.before r.attempt x.class n number d k r.class_is r.txn_is r.number_is x.is x.place_is x.permitted r.read;
     }
 
-pub answer_in : (g : Input) (log : Log) (a : Attempt) (d k : ℕ) → IsSound g.catalogue → IsPermitted g log → IsAttempt (history log) a
+pub answer_in : (g : Input) (log : Log) (a : Attempt) (d k : ℕ) → IsSoundCatalogue g.catalogue → IsPermitted g log → IsAttempt (history log) a
     → IsAnswered (history log) a d k → IsAnswerIn g log a d k
 answer_in g log a d k sound h s e =
     let x = answer_of_some g log a.txn a.number d k h e in

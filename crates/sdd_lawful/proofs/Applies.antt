@@ -1,5 +1,5 @@
 -- The history of a permitted log keeps the law of Applies.
-use Rattle.sdd_lawful.proofs.All.{AppliedBefore, Attempt, Committed, D, Does, GoesTo, Input, IsAnswered, IsApplied, IsCommitted, IsEarlier, IsMadeAt, IsOfCommit, IsPermitted, IsRecordAt, IsSound, KeepsApplies, Log, Msg, Rec, Records, Some, Touches, TxnNo, Write, [], ap, append_assoc, applied_below, arith, around_applied, by_change, changes_to, class_no, commit_act, dm_no, head, history, home, inl, inr, length, lower_same_higher, pipe_at, record_at, refl, subst, sym, time_at, time_of, true, txn_no, ℕ, ◌++◌, ◌<◌, ◌==◌, ◌∙◌, ◌∷◌, ◌≡◌, ◌⊎◌}
+use Rattle.sdd_lawful.proofs.All.{AppliedBefore, Attempt, Committed, D, Does, GoesTo, Input, IsAnswered, IsApplied, IsCommitted, IsEarlier, IsMadeAt, IsOfCommit, IsPermitted, IsRecordAt, IsSoundCatalogue, KeepsApplies, Log, Msg, Rec, Records, Some, Touches, TxnNo, Write, [], ap, append_assoc, applied_below, arith, around_applied, by_change, changes_to, class_no, commit_act, dm_no, head, history, home, inl, inr, length, lower_same_higher, pipe_at, record_at, refl, subst, sym, time_at, time_of, true, txn_no, ℕ, ◌++◌, ◌<◌, ◌==◌, ◌∙◌, ◌∷◌, ◌≡◌, ◌⊎◌}
 use Rattle.sdd_lawful.proofs.Answered.{IsAnswerIn, answer_in, answer_made, answer_rec, read_msg}
 use Rattle.sdd_lawful.proofs.Applied.{IsApplyIn, applied_before, applied_there, apply_in, apply_made, apply_rec}
 use Rattle.sdd_lawful.proofs.Classes.{further_back}
@@ -10,7 +10,7 @@ use Rattle.sdd_lawful.proofs.Touched.{goes_module, goes_some, some_goes}
 use Rattle.sdd_laws.specs.Deeds as deeds
 
 -- an Apply is of a committed transaction
-pub of_commit : (g : Input) (log : Log) → IsSound g.catalogue → IsPermitted g log → (n class d ts k : ℕ)
+pub of_commit : (g : Input) (log : Log) → IsSoundCatalogue g.catalogue → IsPermitted g log → (n class d ts k : ℕ)
     → IsRecordAt (history log) k (apply_rec n class d ts) → IsOfCommit g.catalogue (history log) n class d ts k
 of_commit g log sound h n class d ts k s =
     let x = apply_in g log n class d ts k h s in
@@ -39,7 +39,7 @@ pub record IsApplyOfCommitted (g : Input) (log : Log) (t : Committed) (d k : ℕ
   pub apply : IsApplyIn g log t.start.txn t.start.class d t.start.ts k
   pub goes : GoesTo g.catalogue t d
 
-pub apply_of_committed : (g : Input) (log : Log) (t : Committed) (d k : ℕ) → IsSound g.catalogue → IsPermitted g log
+pub apply_of_committed : (g : Input) (log : Log) (t : Committed) (d k : ℕ) → IsSoundCatalogue g.catalogue → IsPermitted g log
     → IsCommitted (history log) t → deeds.IsApplied (history log) t.start.txn d k → IsApplyOfCommitted g log t d k
 apply_of_committed g log t d k sound h c a =
     let o = of_commit g log sound h t.start.txn a.class d a.ts k a.is_recorded in
@@ -76,7 +76,7 @@ pub record IsSplitAt (g : Input) (full : Log) (t : Committed) (c : IsCommittedIn
   pub greater : time < t.start.ts → IsApplied g m.before (dm_no d) t.start.class c.running → ⊥
 
 pub split_at : (g : Input) (full : Log) (t : Committed) (c : IsCommittedIn g full t) (d k : ℕ) (r : Rec) (m : IsMadeAt full k r) (msg : Msg)
-    → IsSound g.catalogue → IsPermitted g full → GoesTo g.catalogue t d → head (pipe_at g t.start.class (dm_no d) m.before) ≡ Some msg
+    → IsSoundCatalogue g.catalogue → IsPermitted g full → GoesTo g.catalogue t d → head (pipe_at g t.start.class (dm_no d) m.before) ≡ Some msg
     → IsSplitAt g full t c d k r m (time_of msg)
 split_at g full t c d k r m msg sound h goes e =
     let front : Log = m.later ++ m.entry ∷ [] in
@@ -89,7 +89,7 @@ split_at g full t c d k r m msg sound h goes e =
     record { smaller = λ l. applied_seen g full t c d k r m h (w.0 (omega arith)); greater = λ l x. w.1 (omega arith) x }
 
 -- one Apply of a transaction at a module
-not_twice : {A : Type 0} (g : Input) (log : Log) (t : Committed) (c : IsCommittedIn g log t) (d j k : ℕ) → IsSound g.catalogue → IsPermitted g log
+not_twice : {A : Type 0} (g : Input) (log : Log) (t : Committed) (c : IsCommittedIn g log t) (d j k : ℕ) → IsSoundCatalogue g.catalogue → IsPermitted g log
     → IsApplyIn g log t.start.txn t.start.class d t.start.ts j → IsApplyIn g log t.start.txn t.start.class d t.start.ts k → j < k → A
 not_twice g log t c d j k sound h x y l =
     let r : Rec = apply_rec t.start.txn t.start.class d t.start.ts in
@@ -100,7 +100,7 @@ not_twice g log t c d j k sound h x y l =
     let ts = c.ts_is in
     absurd (omega arith)
 
-pub one_apply : (g : Input) (log : Log) → IsSound g.catalogue → IsPermitted g log → (n d j k : ℕ) → deeds.IsApplied (history log) n d j
+pub one_apply : (g : Input) (log : Log) → IsSoundCatalogue g.catalogue → IsPermitted g log → (n d j k : ℕ) → deeds.IsApplied (history log) n d j
     → deeds.IsApplied (history log) n d k → j ≡ k
 one_apply g log sound h n d j k a b =
     let o = of_commit g log sound h n a.class d a.ts j a.is_recorded in
@@ -117,7 +117,7 @@ one_apply g log sound h n d j k a b =
     ]
 
 -- two Applies of a class at a module
-no_earlier_after : {A : Type 0} (g : Input) (log : Log) (x y : Committed) (cy : IsCommittedIn g log y) (d j k : ℕ) → IsSound g.catalogue → IsPermitted g log
+no_earlier_after : {A : Type 0} (g : Input) (log : Log) (x y : Committed) (cy : IsCommittedIn g log y) (d j k : ℕ) → IsSoundCatalogue g.catalogue → IsPermitted g log
     → x.start.class ≡ y.start.class → x.start.ts < y.start.ts → IsApplyIn g log x.start.txn x.start.class d x.start.ts j
     → IsApplyIn g log y.start.txn y.start.class d y.start.ts k → k < j → A
 no_earlier_after g log x y cy d j k sound h e time p q l =
@@ -135,7 +135,7 @@ same_apply log n m c b d s t j k p q e =
     let z : Some (apply_rec n c d s) ≡ Some (apply_rec m b d t) = sym p ∙ ap (record_at (history log)) e ∙ q in
     let w : txn_no n ≡ txn_no m = cc in ap (λ (y : TxnNo). y.0) w
 
-rise : (g : Input) (log : Log) → IsSound g.catalogue → IsPermitted g log → (x y : Committed) (d j k : ℕ) → IsEarlier (history log) x y
+rise : (g : Input) (log : Log) → IsSoundCatalogue g.catalogue → IsPermitted g log → (x y : Committed) (d j k : ℕ) → IsEarlier (history log) x y
     → deeds.IsApplied (history log) x.start.txn d j → deeds.IsApplied (history log) y.start.txn d k → j < k
 rise g log sound h x y d j k e a b =
     let p = (apply_of_committed g log x d j sound h e.first a).apply in
@@ -152,7 +152,7 @@ rise g log sound h x y d j k e a b =
     ]
 
 -- what is left out nowhere
-none_left_out : (g : Input) (log : Log) → IsSound g.catalogue → IsPermitted g log → (x y : Committed) (d k : ℕ) → IsEarlier (history log) x y
+none_left_out : (g : Input) (log : Log) → IsSoundCatalogue g.catalogue → IsPermitted g log → (x y : Committed) (d k : ℕ) → IsEarlier (history log) x y
     → Touches g.catalogue x d → deeds.IsApplied (history log) y.start.txn d k → AppliedBefore (history log) x.start.txn d k
 none_left_out g log sound h x y d k e t b =
     let q = (apply_of_committed g log y d k sound h e.second b).apply in
@@ -169,19 +169,19 @@ head_of_class : (g : Input) (a : Attempt) (c : ℕ) (d : ℕ) (before : Log) (m 
     → head (pipe_at g a.class (dm_no d) before) ≡ Some m → head (pipe_at g c (dm_no d) before) ≡ Some m
 head_of_class g a c d before m e p = subst (λ k. head (pipe_at g k (dm_no d) before) ≡ Some m) (sym e) p
 
-at_answer : (g : Input) (log : Log) → (sound : IsSound g.catalogue) (h : IsPermitted g log) (x y : Committed) (d k : ℕ) (c : IsCommittedIn g log x)
+at_answer : (g : Input) (log : Log) → (sound : IsSoundCatalogue g.catalogue) (h : IsPermitted g log) (x y : Committed) (d k : ℕ) (c : IsCommittedIn g log x)
     → x.start.class ≡ y.start.class → GoesTo g.catalogue x d → (w : IsAnswerIn g log y.start d k)
     → IsSplitAt g log x c d k (answer_rec y.start d) (answer_made g log y.start d k w) y.start.ts
 at_answer g log sound h x y d k c e goes w =
     split_at g log x c d k (answer_rec y.start d) (answer_made g log y.start d k w) (read_msg y.start w.read.conds w.read.uses) sound h goes
     (head_of_class g y.start x.start.class d w.before (read_msg y.start w.read.conds w.read.uses) e w.read.head_is)
 
-has_earlier : (g : Input) (log : Log) → IsSound g.catalogue → IsPermitted g log → (x y : Committed) (d k : ℕ) → IsEarlier (history log) x y
+has_earlier : (g : Input) (log : Log) → IsSoundCatalogue g.catalogue → IsPermitted g log → (x y : Committed) (d k : ℕ) → IsEarlier (history log) x y
     → GoesTo g.catalogue x d → IsAnswered (history log) y.start d k → AppliedBefore (history log) x.start.txn d k
 has_earlier g log sound h x y d k e goes s =
     (at_answer g log sound h x y d k (committed_in g log x sound h e.first) e.class goes (answer_in g log y.start d k sound h e.second.started s)).smaller e.time
 
-after_earlier : (g : Input) (log : Log) → IsSound g.catalogue → IsPermitted g log → (x y : Committed) (d j k : ℕ) → IsEarlier (history log) x y
+after_earlier : (g : Input) (log : Log) → IsSoundCatalogue g.catalogue → IsPermitted g log → (x y : Committed) (d j k : ℕ) → IsEarlier (history log) x y
     → deeds.IsApplied (history log) x.start.txn d j → IsAnswered (history log) y.start d k → j < k
 after_earlier g log sound h x y d j k e a s =
     let goes = (apply_of_committed g log x d j sound h e.first a).goes in
@@ -189,7 +189,7 @@ after_earlier g log sound h x y d j k e a s =
     let same = one_apply g log sound h x.start.txn d b.place j b.applied a in
     let l = b.before in omega arith
 
-before_later : (g : Input) (log : Log) → IsSound g.catalogue → IsPermitted g log → (x y : Committed) (d j k : ℕ) → IsEarlier (history log) x y
+before_later : (g : Input) (log : Log) → IsSoundCatalogue g.catalogue → IsPermitted g log → (x y : Committed) (d j k : ℕ) → IsEarlier (history log) x y
     → IsAnswered (history log) x.start d j → deeds.IsApplied (history log) y.start.txn d k → j < k
 before_later g log sound h x y d j k e s b =
     let w = answer_in g log x.start d j sound h e.first.started s in
@@ -204,7 +204,7 @@ before_later g log sound h x y d j k e s b =
       ]
     ]
 
-pub keeps_applies : (g : Input) (log : Log) → IsSound g.catalogue → IsPermitted g log → KeepsApplies g.catalogue (history log)
+pub keeps_applies : (g : Input) (log : Log) → IsSoundCatalogue g.catalogue → IsPermitted g log → KeepsApplies g.catalogue (history log)
 keeps_applies g log sound h = record {
   of_commit = of_commit g log sound h;
   one_apply = one_apply g log sound h;

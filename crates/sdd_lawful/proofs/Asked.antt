@@ -1,6 +1,6 @@
 -- The Answers and Commits of a history: one Answer of an attempt at a module, after its Start, and before its Commit one
 -- at each module that is asked.
-use Rattle.sdd_lawful.proofs.All.{Act, Answer, AnsweredBefore, Asks, Attempt, Catalogue, Committed, D, Does, HasCommit, Input, IsAttempt, IsCommitted, IsPermitted, IsRecordAt, IsSound, List, Log, None, Option, Records, Some, StartedBefore, [], answered_once, ap, arith, ascending, by_no_class, by_use, class_no, commit_act, commit_answered, cons_option, contains, contains_at, dm_no, each_in_range, filter_map, found_has, fragments_in, has_copy, head, history, home, home_of, in_ascending, inl, inr, length, lower_same_higher, lowest_copy, modules_of, numbers_to, only_right, or_left, or_right, pipe_at, range_with_len, reads_at, refl, same_number, same_or_not, setting_of, subst, sym, time_at, true, txn_no, ℕ, ◌++◌, ◌+◌, ◌<◌, ◌==◌, ◌∙◌, ◌∷◌, ◌≡◌, ◌≤◌}
+use Rattle.sdd_lawful.proofs.All.{Act, Answer, AnsweredBefore, Asks, Attempt, Catalogue, Committed, D, Does, HasCommit, Input, IsAttempt, IsCommitted, IsPermitted, IsRecordAt, IsSoundCatalogue, List, Log, None, Option, Records, Some, StartedBefore, [], answered_once, ap, arith, ascending, by_no_class, by_use, class_no, commit_act, commit_answered, cons_option, contains, contains_at, dm_no, each_in_range, filter_map, found_has, fragments_in, has_copy, head, history, home, home_of, in_ascending, inl, inr, length, lower_same_higher, lowest_copy, modules_of, numbers_to, only_right, or_left, or_right, pipe_at, range_with_len, reads_at, refl, same_number, same_or_not, setting_of, subst, sym, time_at, true, txn_no, ℕ, ◌++◌, ◌+◌, ◌<◌, ◌==◌, ◌∙◌, ◌∷◌, ◌≡◌, ◌≤◌}
 use Rattle.sdd_lawful.proofs.Answered.{IsAnswerIn, answer_in, answer_made, answer_of_some, answer_rec, read_msg}
 use Rattle.sdd_lawful.proofs.Beginnings.{in_numbers}
 use Rattle.sdd_lawful.proofs.Classes.{further_back}
@@ -9,7 +9,7 @@ use Rattle.sdd_lawful.proofs.Committed.{committed_in}
 use Rattle.sdd_lawful.proofs.Homes.{home_small}
 use Rattle.sdd_lawful.proofs.Places.{entries_in_order, place_rises, recorded_there}
 
-not_behind : {A : Type 0} (g : Input) (log : Log) (a : Attempt) (d j k : ℕ) → IsSound g.catalogue → IsPermitted g log
+not_behind : {A : Type 0} (g : Input) (log : Log) (a : Attempt) (d j k : ℕ) → IsSoundCatalogue g.catalogue → IsPermitted g log
     → IsAnswerIn g log a d j → IsAnswerIn g log a d k → j < k → A
 not_behind g log a d j k sound h x y l =
     let z = entries_in_order log j k (answer_rec a d) (answer_rec a d) (answer_made g log a d j x) (answer_made g log a d k y) l in
@@ -19,13 +19,13 @@ not_behind g log a d j k sound h x y l =
     absurd (answered_once g a.class (dm_no d) z.between x.before (dm_no d) x.sends (time_at a.ts) (time_at a.ts) (class_no a.class) (class_no a.class) (txn_no a.txn) (txn_no a.txn) a.number a.number x.read.conds y.read.conds x.read.uses y.read.uses now (omega arith) x.read.head_is
     (subst (λ b. head (pipe_at g a.class (dm_no d) b) ≡ Some (read_msg a y.read.conds y.read.uses)) z.is y.read.head_is) refl refl)
 
-answer_at : (g : Input) (log : Log) (a : Attempt) (n number d k : ℕ) → IsSound g.catalogue → IsPermitted g log → IsAttempt (history log) a
+answer_at : (g : Input) (log : Log) (a : Attempt) (n number d k : ℕ) → IsSoundCatalogue g.catalogue → IsPermitted g log → IsAttempt (history log) a
     → a.txn ≡ n → a.number ≡ number → IsRecordAt (history log) k (Answer (txn_no n) number (dm_no d)) → IsAnswerIn g log a d k
 answer_at g log a n number d k sound h s e f st =
     answer_in g log a d k sound h s
     (subst (λ i. IsRecordAt (history log) k (Answer (txn_no a.txn) i (dm_no d))) (sym f) (subst (λ i. IsRecordAt (history log) k (Answer (txn_no i) number (dm_no d))) (sym e) st))
 
-pub one_answer : (g : Input) (log : Log) → IsSound g.catalogue → IsPermitted g log → (n number d j k : ℕ)
+pub one_answer : (g : Input) (log : Log) → IsSoundCatalogue g.catalogue → IsPermitted g log → (n number d j k : ℕ)
     → IsRecordAt (history log) j (Answer (txn_no n) number (dm_no d)) → IsRecordAt (history log) k (Answer (txn_no n) number (dm_no d)) → j ≡ k
 one_answer g log sound h n number d j k s t =
     let x = answer_of_some g log n number d j h s in
@@ -36,14 +36,14 @@ one_answer g log sound h n number d j k s t =
       | inr r ↦ elim r [ inl e ↦ e | inr l ↦ not_behind g log a d k j sound h y x.answer l ]
     ]
 
-pub answer_after : (g : Input) (log : Log) → IsSound g.catalogue → IsPermitted g log → (n number d k : ℕ)
+pub answer_after : (g : Input) (log : Log) → IsSoundCatalogue g.catalogue → IsPermitted g log → (n number d k : ℕ)
     → IsRecordAt (history log) k (Answer (txn_no n) number (dm_no d)) → StartedBefore (history log) n number k
 answer_after g log sound h n number d k s =
     let x = answer_of_some g log n number d k h s in
     let before = x.answer.read.start_before in let place = x.answer.place_is in
     record { attempt = x.attempt; started = x.started; txn_is = x.txn_is; number_is = x.number_is; before = omega arith }
 
-pub commit_after : (g : Input) (log : Log) → IsSound g.catalogue → IsPermitted g log → (n number k : ℕ) → HasCommit (history log) n number k
+pub commit_after : (g : Input) (log : Log) → IsSoundCatalogue g.catalogue → IsPermitted g log → (n number k : ℕ) → HasCommit (history log) n number k
     → StartedBefore (history log) n number k
 commit_after g log sound h n number k c =
     let told : Told = record { reply = c.reply; changes = c.changes; values = c.values; rows = c.rows } in
@@ -79,7 +79,7 @@ asks_module cat a d (by_use f r e) = elim (same_or_not a.class 0) [
   | inr p ↦ rw p (in_ascending (filter_map (reads_at cat a.class) (ascending (fragments_in a.uses))) d (contains_made (reads_at cat a.class) (ascending (fragments_in a.uses)) f d (in_ascending (fragments_in a.uses) f r) e))
 ]
 
-pub answered : (g : Input) (log : Log) → IsSound g.catalogue → IsPermitted g log → (t : Committed) (d : ℕ) → IsCommitted (history log) t
+pub answered : (g : Input) (log : Log) → IsSoundCatalogue g.catalogue → IsPermitted g log → (t : Committed) (d : ℕ) → IsCommitted (history log) t
     → Asks g.catalogue t.start d → AnsweredBefore (history log) t.start d t.place
 answered g log sound h t d ct asks =
     let c = committed_in g log t sound h ct in

@@ -1,5 +1,5 @@
 -- The Starts of undeclared transactions, as acts of U; and what is there in every catalogue.
-use Rattle.sdd_lawful.proofs.All.{Act, Attempt, Committed, Does, FragNo, History, Input, IsAttempt, IsCommitted, IsFragment, IsPermitted, IsSound, IsStartOf, List, Log, Queued, Some, U, [], ap, arith, changes, contains, differ, frag_no, history, home, inl, inr, length, lower_same_higher, map, next_stamp, or_left, or_right, range_with_len, recorded, same_number, same_or_not, slice_get, start_at, start_u, subst, suc, true, u_stamp, zero, ℕ, ◌++◌, ◌+◌, ◌<◌, ◌==◌, ◌∙◌, ◌∷◌, ◌≡◌, ◌≤◌}
+use Rattle.sdd_lawful.proofs.All.{Act, Attempt, Committed, Does, FragNo, History, Input, IsAttempt, IsCommitted, IsFragment, IsPermitted, IsSoundCatalogue, IsStartOf, List, Log, Queued, Some, U, [], ap, arith, changes, contains, differ, frag_no, history, home, inl, inr, length, lower_same_higher, map, next_stamp, or_left, or_right, range_with_len, recorded, same_number, same_or_not, slice_get, start_at, start_u, subst, suc, true, u_stamp, zero, ℕ, ◌++◌, ◌+◌, ◌<◌, ◌==◌, ◌∙◌, ◌∷◌, ◌≡◌, ◌≤◌}
 use Rattle.sdd_lawful.proofs.Classes.{at_home, home_setting}
 use Rattle.sdd_lawful.proofs.Committed.{home_step}
 use Rattle.sdd_lawful.proofs.Started.{start_act_of, start_in}
@@ -45,7 +45,7 @@ pub record IsStartedAtU (g : Input) (log : Log) (a : Attempt) : Type 0 where
   pub permitted : IsPermitted g (Does U (start_u g before queued) ∷ before)
   pub ts_is : a.ts ≡ u_stamp g before
 
-pub started_at_u : (g : Input) (log : Log) (a : Attempt) → IsSound g.catalogue → IsPermitted g log → IsAttempt (history log) a → a.class ≡ 0
+pub started_at_u : (g : Input) (log : Log) (a : Attempt) → IsSoundCatalogue g.catalogue → IsPermitted g log → IsAttempt (history log) a → a.class ≡ 0
     → IsStartedAtU g log a
 started_at_u g log a sound h s e =
     let x = start_in g log a sound h s in

@@ -1,5 +1,5 @@
 -- The Commits of a history, as acts of the sites that run their classes, each with the Start of its attempt.
-use Rattle.sdd_lawful.proofs.All.{Act, Attempt, Change, Commit, Did, Does, HasCommit, Input, IsAttempt, IsCommitRecord, IsMadeAt, IsPermitted, IsRecordAt, IsSound, List, Log, Msg, Queued, Rec, Records, Reply, Site, Some, Txn, all_new, ap, arith, bound, compare, false, head_left, head_of, history, home, home_fair, inl, inr, is_committed, length, next_stamp, p2_of, permitted_before, place_of_act, place_of_submit, queue, refl, says_at, start_at, subst, suc, sym, true, txn_at, txn_no, uses_of, was_submitted, ℕ, ◌++◌, ◌<◌, ◌∙◌, ◌∷◌, ◌≡◌}
+use Rattle.sdd_lawful.proofs.All.{Act, Attempt, Change, Commit, Did, Does, HasCommit, Input, IsAttempt, IsCommitRecord, IsMadeAt, IsPermitted, IsRecordAt, IsSoundCatalogue, List, Log, Msg, Queued, Rec, Records, Reply, Site, Some, Txn, all_new, ap, arith, bound, compare, false, head_left, head_of, history, home, home_fair, inl, inr, is_committed, length, next_stamp, p2_of, permitted_before, place_of_act, place_of_submit, queue, refl, says_at, start_at, subst, suc, sym, true, txn_at, txn_no, uses_of, was_submitted, ℕ, ◌++◌, ◌<◌, ◌∙◌, ◌∷◌, ◌≡◌}
 use Rattle.sdd_lawful.proofs.Classes.{at_home, further_back, home_setting}
 use Rattle.sdd_lawful.proofs.Homes.{home_small}
 use Rattle.sdd_lawful.proofs.Locals.{committed_here, committed_later}
@@ -27,7 +27,7 @@ pub record IsCommitIn (g : Input) (log : Log) (n number k : ℕ) (told : Told) :
   pub permitted : IsPermitted g (Does (home g.catalogue class) (Records class (commit_rec n number told) sends) ∷ before)
   pub says : IsCommitRecord (home_setting g class) (at_home g class before) class (txn_no n) number told.changes
 
-pub commit_in : (g : Input) (log : Log) (n number k : ℕ) (told : Told) → IsSound g.catalogue → IsPermitted g log
+pub commit_in : (g : Input) (log : Log) (n number k : ℕ) (told : Told) → IsSoundCatalogue g.catalogue → IsPermitted g log
     → IsRecordAt (history log) k (commit_rec n number told) → IsCommitIn g log n number k told
 commit_in g log n number k told sound h s =
     let m = run_in g log k (commit_rec n number told) h refl refl s in
@@ -108,7 +108,7 @@ commit_made g log n number k told x =
 
 -- a transaction's Commit has the class of its Starts
 pub commit_class : (g : Input) (log : Log) (n number k : ℕ) (told : Told) (x : IsCommitIn g log n number k told) (a : Attempt)
-    → IsSound g.catalogue → IsPermitted g log → IsAttempt (history log) a → a.txn ≡ n → a.class ≡ x.class
+    → IsSoundCatalogue g.catalogue → IsPermitted g log → IsAttempt (history log) a → a.txn ≡ n → a.class ≡ x.class
 commit_class g log n number k told x a sound h s e =
     let b = begun g log n number k told x in
     one_start_class g log a b.attempt h (start_in g log a sound h s) (start_in g log b.attempt sound h b.started) (e ∙ sym b.txn_is) ∙ b.class_is
@@ -131,7 +131,7 @@ not_after g log n i j k l t u x y e between p =
     let none : true ≡ false = sym there ∙ y.says.first in cc
 
 -- a transaction has one Commit
-pub one_commit : (g : Input) (log : Log) → IsSound g.catalogue → IsPermitted g log → (n i j k l : ℕ) → HasCommit (history log) n i k
+pub one_commit : (g : Input) (log : Log) → IsSoundCatalogue g.catalogue → IsPermitted g log → (n i j k l : ℕ) → HasCommit (history log) n i k
     → HasCommit (history log) n j l → k ≡ l
 one_commit g log sound h n i j k l p q =
     let t : Told = record { reply = p.reply; changes = p.changes; values = p.values; rows = p.rows } in

@@ -1,5 +1,5 @@
 -- A committed transaction of a history, as the Commit of an active attempt; and what makes one of each.
-use Rattle.sdd_lawful.proofs.All.{Act, Attempt, Bases, Change, Commit, Committed, Does, Each, Effect, Input, IsAttempt, IsCommitted, IsFair, IsMadeAt, IsPermitted, IsRecordAt, IsSound, IsStep, List, Log, Records, Reply, Running, Setting, Some, TxnNo, active, ap, arith, commit_act, effect, history, home, home_fair, length, one_active, one_attempt, one_of_txn, one_start, own_act, permitted_before, refl, same_start, says_at, sends_of_act, step_way, subst, sym, txn_at, txn_no, uses_of, ℕ, ◌++◌, ◌∙◌, ◌∷◌, ◌≡◌}
+use Rattle.sdd_lawful.proofs.All.{Act, Attempt, Bases, Change, Commit, Committed, Does, Each, Effect, Input, IsAttempt, IsCommitted, IsFair, IsMadeAt, IsPermitted, IsRecordAt, IsSoundCatalogue, IsStep, List, Log, Records, Reply, Running, Setting, Some, TxnNo, active, ap, arith, commit_act, effect, history, home, home_fair, length, one_active, one_attempt, one_of_txn, one_start, own_act, permitted_before, refl, same_start, says_at, sends_of_act, step_way, subst, sym, txn_at, txn_no, uses_of, ℕ, ◌++◌, ◌∙◌, ◌∷◌, ◌≡◌}
 use Rattle.sdd_lawful.proofs.Classes.{at_home, home_setting}
 use Rattle.sdd_lawful.proofs.Commits.{IsCommitIn, Told, begun, commit_class, commit_in, commit_rec, one_commit}
 use Rattle.sdd_lawful.proofs.Counted.{numbered}
@@ -8,16 +8,16 @@ use Rattle.sdd_lawful.proofs.Places.{recorded_there}
 use Rattle.sdd_invariants.specs.site_module.SiteLog as site
 
 -- of one transaction and number there is one attempt
-pub one_place : (g : Input) (log : Log) → IsSound g.catalogue → IsPermitted g log → (a b : Attempt) → IsAttempt (history log) a
+pub one_place : (g : Input) (log : Log) → IsSoundCatalogue g.catalogue → IsPermitted g log → (a b : Attempt) → IsAttempt (history log) a
     → IsAttempt (history log) b → a.txn ≡ b.txn → a.number ≡ b.number → a.place ≡ b.place
 one_place g log sound h a b s t e f = one_start (history log) (numbered g log sound h) a b s t e f
 
-pub same_attempt : (g : Input) (log : Log) → IsSound g.catalogue → IsPermitted g log → (a b : Attempt) → IsAttempt (history log) a
+pub same_attempt : (g : Input) (log : Log) → IsSoundCatalogue g.catalogue → IsPermitted g log → (a b : Attempt) → IsAttempt (history log) a
     → IsAttempt (history log) b → a.txn ≡ b.txn → a.number ≡ b.number → a ≡ b
 same_attempt g log sound h a b s t e f = one_attempt a b (same_start (history log) a b s t (one_place g log sound h a b s t e f))
 
 -- of one transaction one is committed
-pub same_committed : (g : Input) (log : Log) → IsSound g.catalogue → IsPermitted g log → (t u : Committed)
+pub same_committed : (g : Input) (log : Log) → IsSoundCatalogue g.catalogue → IsPermitted g log → (t u : Committed)
     → IsCommitted (history log) t → IsCommitted (history log) u → t.start.txn ≡ u.start.txn → t ≡ u
 same_committed g log sound h t u c d e = one_of_txn (history log) (one_commit g log sound h) (one_place g log sound h) t u c d e
 
@@ -90,7 +90,7 @@ committed_as g log t k later before bases running e is place h active_is n i ts 
   changes_are = changes;
 }
 
-pub committed_in : (g : Input) (log : Log) (t : Committed) → IsSound g.catalogue → IsPermitted g log → IsCommitted (history log) t → IsCommittedIn g log t
+pub committed_in : (g : Input) (log : Log) (t : Committed) → IsSoundCatalogue g.catalogue → IsPermitted g log → IsCommitted (history log) t → IsCommittedIn g log t
 committed_in g log t sound h c =
     let told : Told = record { reply = t.reply; changes = t.changes; values = t.values; rows = t.rows } in
     let x = commit_in g log t.start.txn t.start.number t.place told sound h c.committed in
@@ -130,7 +130,7 @@ told_by g bases a =
     let e : Effect = effect g.catalogue (bases a.ts) a.text in
     record { reply = e.reply; changes = e.changes; values = a.exchange.values; rows = a.exchange.rows }
 
-pub commit_of_log : (g : Input) (log later before : Log) (class : ℕ) (bases : Bases) (running : Running) → IsSound g.catalogue
+pub commit_of_log : (g : Input) (log later before : Log) (class : ℕ) (bases : Bases) (running : Running) → IsSoundCatalogue g.catalogue
     → IsPermitted g log → log ≡ later ++ Does (home g.catalogue class) (commit_act g.catalogue bases class running) ∷ before
     → active (home_setting g class) class (at_home g class before) ≡ Some running → IsCommitOfLog g log class bases running before
 commit_of_log g log later before class bases running sound h is active_is =

@@ -1,5 +1,5 @@
 -- The history of a permitted log keeps the law of read conditions.
-use Rattle.sdd_lawful.proofs.All.{AppliedBefore, AreErasOf, Attempt, Catalogue, Change, Committed, Cond, Contains, D, Does, Entry, Era, Eras, FragNo, Input, IsAnswerWith, IsAnswered, IsApplied, IsAttempt, IsCommitted, IsConditionOf, IsPermitted, IsSound, IsTable, KeepsConditions, List, Log, None, Option, P2, P3, Records, Some, T, TmNo, TouchesOne, [], any_at, ap, append_assoc, arith, ascending, asked_by, class_at, class_no, classes_of, commit_act, cond_for, cond_of, condition_on, conditions, conditions_at, conditions_of, cons_option, contains, current_era, dm_no, eqb-true, event_at, false, filter, filter_map, frag_no, fragments_in, fragments_of, get_or_from_slice_get, has_copy, history, home, if◌then◌else◌, in_mapped, in_range, inl, inr, is_asked, length, list_any, local_of, map, marks, member_at, nth_era, one_table, option_or, p2_time, place_within, redeclares, refl, same_or_not, setting_of, slice_get, split_applied, subst, suc, sym, time_at, tm_no, touches, true, txn_no, undeclared_conditions, zero, ℕ, ◌++◌, ◌<◌, ◌==◌, ◌||◌, ◌∙◌, ◌∷◌, ◌≡◌, ◌≤◌}
+use Rattle.sdd_lawful.proofs.All.{AppliedBefore, AreErasOf, Attempt, Catalogue, Change, Committed, Cond, Contains, D, Does, Entry, Era, Eras, FragNo, Input, IsAnswerWith, IsAnswered, IsApplied, IsAttempt, IsCommitted, IsConditionOf, IsPermitted, IsSoundCatalogue, IsTable, KeepsConditions, List, Log, None, Option, P2, P3, Records, Some, T, TmNo, TouchesOne, [], any_at, ap, append_assoc, arith, ascending, asked_by, class_at, class_no, classes_of, commit_act, cond_for, cond_of, condition_on, conditions, conditions_at, conditions_of, cons_option, contains, current_era, dm_no, eqb-true, event_at, false, filter, filter_map, frag_no, fragments_in, fragments_of, get_or_from_slice_get, has_copy, history, home, if◌then◌else◌, in_mapped, in_range, inl, inr, is_asked, length, list_any, local_of, map, marks, member_at, nth_era, one_table, option_or, p2_time, place_within, redeclares, refl, same_or_not, setting_of, slice_get, split_applied, subst, suc, sym, time_at, tm_no, touches, true, txn_no, undeclared_conditions, zero, ℕ, ◌++◌, ◌<◌, ◌==◌, ◌||◌, ◌∙◌, ◌∷◌, ◌≡◌, ◌≤◌}
 use Rattle.sdd_lawful.proofs.Answered.{IsReadIn, answer_in, answer_made, answer_rec}
 use Rattle.sdd_lawful.proofs.Applies.{apply_of_committed, applied_seen, seen_applied}
 use Rattle.sdd_lawful.proofs.Classes.{at_home, era_there, further_back, home_setting}
@@ -122,7 +122,7 @@ of_class : (g : Input) (log : Log) (x : Committed) (c : IsCommittedIn g log x) (
     → log ≡ c.later ++ Does (home g.catalogue j) (commit_act g.catalogue c.bases j c.running) ∷ c.before
 of_class g log x c j e = subst (λ k. log ≡ c.later ++ Does (home g.catalogue k) (commit_act g.catalogue c.bases k c.running) ∷ c.before) e c.is
 
-pub met : (g : Input) (log : Log) (eras : Eras) → IsSound g.catalogue → IsPermitted g log → AreErasOf g log eras
+pub met : (g : Input) (log : Log) (eras : Eras) → IsSoundCatalogue g.catalogue → IsPermitted g log → AreErasOf g log eras
     → (a : Attempt) (d k : ℕ) (q : Cond) (x : Committed) → IsAttempt (history log) a → IsAnswered (history log) a d k
     → IsConditionOf g.catalogue eras (history log) a d q → IsCommitted (history log) x → x.start.class ≡ q.class.0 → TouchesOne g.catalogue x d q.frags
     → (AppliedBefore (history log) x.start.txn d k → x.start.ts < q.time.0) × (x.start.ts < q.time.0 → AppliedBefore (history log) x.start.txn d k)
@@ -164,6 +164,6 @@ met g log eras sound h are a d k q x s t cd cx class touch =
       (λ l. applied_seen g log x c d k (answer_rec a d) (answer_made g log a d k w) h (subst (λ j. IsApplied g w.before (dm_no d) j c.running) (sym class) (r.1 (omega arith)))),
     )
 
-pub keeps_conditions : (g : Input) (log : Log) (eras : Eras) → IsSound g.catalogue → IsPermitted g log → AreErasOf g log eras
+pub keeps_conditions : (g : Input) (log : Log) (eras : Eras) → IsSoundCatalogue g.catalogue → IsPermitted g log → AreErasOf g log eras
     → KeepsConditions g.catalogue eras (history log)
 keeps_conditions g log eras sound h are = record { met = met g log eras sound h are }

@@ -1,5 +1,5 @@
 -- The copies of a data module, by its own log, are those that the history gives.
-use Rattle.sdd_lawful.proofs.All.{Act, AppliedBefore, Apply, Change, ClassNo, Committed, Contains, Contains-append_cases, Contains-append_right, Contains-filter, Contains-from_filter, Contains-from_map, Contains-map, Contains-nil, D, Did, DmNo, Does, Handed, Input, IsCommitted, IsMadeAt, IsPermitted, IsRecordAt, IsSound, IsWrite, List, Log, Msg, Rec, Records, Redeclared, Sends, Site, SiteLog, Some, Submits, Ticked, Ts, TxnNo, Write, [], and_left, and_right, ap, append_assoc, applied, applied_if, apply_of_head, arith, changes_at, changes_in, class_no, class_number, commit_act, commit_put_is, dm_no, eqb-true, has_copy, head, head_put, history, home, inl, inr, is_apply, length, local_of, map, permitted_before, pipe, pipe_at, place_of_act, refl, same_number, sends_of_act, slice_get, subst, sym, time_at, to_site, true, true_or_false, txn_no, ℕ, ◌&&◌, ◌++◌, ◌==◌, ◌∙◌, ◌∷◌, ◌≡◌}
+use Rattle.sdd_lawful.proofs.All.{Act, AppliedBefore, Apply, Change, ClassNo, Committed, Contains, Contains-append_cases, Contains-append_right, Contains-filter, Contains-from_filter, Contains-from_map, Contains-map, Contains-nil, D, Did, DmNo, Does, Handed, Input, IsCommitted, IsMadeAt, IsPermitted, IsRecordAt, IsSoundCatalogue, IsWrite, List, Log, Msg, Rec, Records, Redeclared, Sends, Site, SiteLog, Some, Submits, Ticked, Ts, TxnNo, Write, [], and_left, and_right, ap, append_assoc, applied, applied_if, apply_of_head, arith, changes_at, changes_in, class_no, class_number, commit_act, commit_put_is, dm_no, eqb-true, has_copy, head, head_put, history, home, inl, inr, is_apply, length, local_of, map, permitted_before, pipe, pipe_at, place_of_act, refl, same_number, sends_of_act, slice_get, subst, sym, time_at, to_site, true, true_or_false, txn_no, ℕ, ◌&&◌, ◌++◌, ◌==◌, ◌∙◌, ◌∷◌, ◌≡◌}
 use Rattle.sdd_lawful.proofs.Applied.{IsApplyIn, apply_made, apply_rec}
 use Rattle.sdd_lawful.proofs.Applies.{apply_of_committed}
 use Rattle.sdd_lawful.proofs.Classes.{at_home, further_back, home_setting}
@@ -27,7 +27,7 @@ abbrev written : Msg → List Change
 written (Write ts class txn changes) = changes
 written m = []
 
-pub head_commit : (g : Input) (log front rest : Log) (c : ℕ) (d : ℕ) (ts : Ts) (of : ClassNo) (txn : TxnNo) (changes : List Change) → IsSound g.catalogue
+pub head_commit : (g : Input) (log front rest : Log) (c : ℕ) (d : ℕ) (ts : Ts) (of : ClassNo) (txn : TxnNo) (changes : List Change) → IsSoundCatalogue g.catalogue
     → IsPermitted g log → log ≡ front ++ rest → head (pipe_at g c (dm_no d) rest) ≡ Some (Write ts of txn changes) → IsWriteOf g log c txn.0 ts.0 d changes
 head_commit g log front rest c d ts of txn changes sound h is top =
     let m : Msg = Write ts of txn changes in
@@ -109,7 +109,7 @@ pub apply_is : (r : Rec) → is_apply r ≡ true → IsApplyRec r
 apply_is (Apply txn class dm ts) e = record { txn = txn; class = class; dm = dm; ts = ts; is = refl }
 apply_is r e = cc
 
-pub change_of : (g : Input) (log : Log) (d k : ℕ) (q : Rec) (m : IsMadeAt log k q) (c : ℕ) (x : ℕ × Change) → IsSound g.catalogue → IsPermitted g log
+pub change_of : (g : Input) (log : Log) (d k : ℕ) (q : Rec) (m : IsMadeAt log k q) (c : ℕ) (x : ℕ × Change) → IsSoundCatalogue g.catalogue → IsPermitted g log
     → (i : IsAppliedFrom c (local_of g (D (dm_no d)) m.before) x) → IsApplyRec i.rec → IsChangeOf g log d k x
 change_of g log d k q m c x sound h i r =
     let act : Act = Records c (Apply r.txn r.class r.dm r.ts) i.sends in
@@ -148,7 +148,7 @@ change_of g log d k q m c x sound h i r =
     }
 
 -- and the other way round
-pub change_there : (g : Input) (log : Log) (d k : ℕ) (q : Rec) (m : IsMadeAt log k q) (t : Committed) (y : Change) → IsSound g.catalogue → IsPermitted g log
+pub change_there : (g : Input) (log : Log) (d k : ℕ) (q : Rec) (m : IsMadeAt log k q) (t : Committed) (y : Change) → IsSoundCatalogue g.catalogue → IsPermitted g log
     → IsCommitted (history log) t → AppliedBefore (history log) t.start.txn d k → Contains t.changes y → has_copy g.catalogue d y.frag.0 ≡ true
     → Contains (applied t.start.class (local_of g (D (dm_no d)) m.before)) (at_date t.start.ts y)
 change_there g log d k q m t y sound h ct b in_it copied =

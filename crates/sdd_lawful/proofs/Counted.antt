@@ -1,5 +1,5 @@
 -- How many Starts of a transaction a history has is how often the site that runs its class started it.
-use Rattle.sdd_lawful.proofs.All.{Attempt, Bool, Commit, Did, Does, Entry, Era, Hand, Handed, History, Input, IsAttempt, IsPermitted, IsSound, List, Log, Mark, Msg, None, Option, Rec, Records, Redeclares, Sends, Site, SiteLog, Some, Start, Submitted, T, Tick, Ticked, Txn, TxnNo, U, [], ap, append_assoc, arith, cond, eqb-true, false, filter, filter-append, history, home, if_way, if◌then◌else◌, inl, inr, is_start_of, length, length-append, local_of, marks, nth_era, record_of, redeclares, refl, same_number, same_or_not, same_site, site_self, starts_before, starts_of, subst, suc, sym, take, true, txn_at, with_era, with_submit, ℕ, ◌&&◌, ◌++◌, ◌+◌, ◌==◌, ◌∙◌, ◌∷◌, ◌≡◌}
+use Rattle.sdd_lawful.proofs.All.{Attempt, Bool, Commit, Did, Does, Entry, Era, Hand, Handed, History, Input, IsAttempt, IsPermitted, IsSoundCatalogue, List, Log, Mark, Msg, None, Option, Rec, Records, Redeclares, Sends, Site, SiteLog, Some, Start, Submitted, T, Tick, Ticked, Txn, TxnNo, U, [], ap, append_assoc, arith, cond, eqb-true, false, filter, filter-append, history, home, if_way, if◌then◌else◌, inl, inr, is_start_of, length, length-append, local_of, marks, nth_era, record_of, redeclares, refl, same_number, same_or_not, same_site, site_self, starts_before, starts_of, subst, suc, sym, take, true, txn_at, with_era, with_submit, ℕ, ◌&&◌, ◌++◌, ◌+◌, ◌==◌, ◌∙◌, ◌∷◌, ◌≡◌}
 use Rattle.sdd_lawful.proofs.Classes.{IsGivenTo, at_home, one_class}
 use Rattle.sdd_lawful.proofs.Places.{history_before, history_step, recorded}
 use Rattle.sdd_lawful.proofs.Started.{attempt_from, given_of_attempt, start_act_of, start_at_entry, start_in}
@@ -113,7 +113,7 @@ counted g c n (e ∷ log) own =
 -- every Start of a transaction in the log is of its class
 
 own_record : (g : Input) (full : Log) (c n : ℕ) (text : Txn) (later : Log) (at : Site) (k : ℕ) (r : Rec) (sends : List (Site × Msg)) (before : Log)
-    → IsSound g.catalogue → IsPermitted g full → IsGivenTo g full n c text → full ≡ later ++ Does at (Records k r sends) ∷ before → IsOwnStart g c n at k r
+    → IsSoundCatalogue g.catalogue → IsPermitted g full → IsGivenTo g full n c text → full ≡ later ++ Does at (Records k r sends) ∷ before → IsOwnStart g c n at k r
 own_record g full c n text later at k (Start txn attempt class ts p2 uses) sends before sound h given is q =
     let s = start_at_entry g full later at k txn attempt class ts p2 uses sends before sound h is in
     let e : txn.0 ≡ n = eqb-true txn.0 n q in
@@ -122,19 +122,19 @@ own_record g full c n text later at k (Start txn attempt class ts p2 uses) sends
     (s.2 ∙ ap (home g.catalogue) (s.1 ∙ same), s.1 ∙ same)
 own_record g full c n text later at k r sends before sound h given is q = cc
 
-own_entry : (g : Input) (full : Log) (c n : ℕ) (text : Txn) (later : Log) (e : Entry) (before : Log) → IsSound g.catalogue
+own_entry : (g : Input) (full : Log) (c n : ℕ) (text : Txn) (later : Log) (e : Entry) (before : Log) → IsSoundCatalogue g.catalogue
     → IsPermitted g full → IsGivenTo g full n c text → full ≡ later ++ e ∷ before → IsOwnEntry g c n e
 own_entry g full c n text later (Does at (Records k r sends)) before sound h given is = own_record g full c n text later at k r sends before sound h given is
 own_entry g full c n text later _ before sound h given is = tt
 
-all_own : (g : Input) (full : Log) (c n : ℕ) (text : Txn) (later log : Log) → IsSound g.catalogue → IsPermitted g full
+all_own : (g : Input) (full : Log) (c n : ℕ) (text : Txn) (later log : Log) → IsSoundCatalogue g.catalogue → IsPermitted g full
     → IsGivenTo g full n c text → full ≡ later ++ log → AllOwn g c n log
 all_own g full c n text later [] sound h given is = tt
 all_own g full c n text later (e ∷ log) sound h given is =
     (own_entry g full c n text later e log sound h given is, all_own g full c n text (later ++ e ∷ []) log sound h given (is ∙ sym (append_assoc later (e ∷ []) log)))
 
 -- an attempt's number counts the Starts of its transaction before it
-pub numbered : (g : Input) (log : Log) → IsSound g.catalogue → IsPermitted g log → (a : Attempt) → IsAttempt (history log) a
+pub numbered : (g : Input) (log : Log) → IsSoundCatalogue g.catalogue → IsPermitted g log → (a : Attempt) → IsAttempt (history log) a
     → a.number ≡ suc (starts_before (history log) a.txn a.place)
 numbered g log sound h a s =
     let x = start_in g log a sound h s in

@@ -1,5 +1,5 @@
 -- What transactions use is there: relations, fragments, the modules that are asked, and what conditions name.
-use Rattle.sdd_lawful.proofs.All.{All-from_recursion, AllByRecursion, Bool, Catalogue, Cond, CondExists, Condition, Delete, Diagonal, Edge, FitsStatement, FragNo, Horizontal, IsFragment, IsModule, IsRelation, IsSound, IsThere, List, None, Option, P2, P3, Protocol, Put, Query, RelNo, Restriction, Some, Stmt, Update, Use, UseExists, Vertical, [], all_join, all_numbers, and_left, and_right, ap, arith, ascending, asked_by, asked_in, asked_on, classes_of, cond_for, cond_of, condition_on, conditions_at, contains, contains_at, false, filter_map, frag_no, fragments_for, fragments_in, fragments_of, fragments_there, from_ascending, in_mapped, in_range, inl, inr, is_asked, is_read_at, length, list_any, map, member_at, modules_of, number_member, numbers_to, only_right, option_or, part_uses, reads_at, recursion_from_All, refl, restrictions_of, same_or_not, same_protocol, served_read, slice_get, statement_uses, subst, suc, true, true_or_false, use_of, uses_from, ℕ, ◌&&◌, ◌+◌, ◌==◌, ◌||◌, ◌∷◌, ◌≡◌, ◌≤◌}
+use Rattle.sdd_lawful.proofs.All.{All-from_recursion, AllByRecursion, Bool, Catalogue, Cond, CondExists, Condition, Delete, Diagonal, Edge, FitsStatement, FragNo, Horizontal, IsFragment, IsModule, IsRelation, IsSoundCatalogue, IsThere, List, None, Option, P2, P3, Protocol, Put, Query, RelNo, Restriction, Some, Stmt, Update, Use, UseExists, Vertical, [], all_join, all_numbers, and_left, and_right, ap, arith, ascending, asked_by, asked_in, asked_on, classes_of, cond_for, cond_of, condition_on, conditions_at, contains, contains_at, false, filter_map, frag_no, fragments_for, fragments_in, fragments_of, fragments_there, from_ascending, in_mapped, in_range, inl, inr, is_asked, is_read_at, length, list_any, map, member_at, modules_of, number_member, numbers_to, only_right, option_or, part_uses, reads_at, recursion_from_All, refl, restrictions_of, same_or_not, same_protocol, served_read, slice_get, statement_uses, subst, suc, true, true_or_false, use_of, uses_from, ℕ, ◌&&◌, ◌+◌, ◌==◌, ◌||◌, ◌∷◌, ◌≡◌, ◌≤◌}
 use Rattle.sdd_lawful.proofs.Asks.{contains_either}
 use Rattle.sdd_lawful.proofs.Conditions.{in_filter_mapped}
 use Rattle.sdd_invariants.specs.protocol.declared.entry.Entry as line
@@ -53,7 +53,7 @@ numbers_within n d e =
     let m = member_at (numbers_to n) d (number_member (numbers_to n) d e) in
     let r = in_range 1 n m.0 d m.1 in let hi = r.1 in (r.0, omega arith)
 
-pub module_exists : (cat : Catalogue) → IsSound cat → (c : ℕ) (us : List Use) (d : ℕ) → c ≤ length cat.classes → AllByRecursion (UseExists cat) us
+pub module_exists : (cat : Catalogue) → IsSoundCatalogue cat → (c : ℕ) (us : List Use) (d : ℕ) → c ≤ length cat.classes → AllByRecursion (UseExists cat) us
     → contains (modules_of cat c (ascending (fragments_in us))) d ≡ true → IsModule cat d
 module_exists cat sound c us d within exist e = elim (same_or_not c 0) [
   | inl p ↦ (let q : (c == 0) ≡ true = ap (λ y. y == 0) p in numbers_within cat.dms d (rw q at e))

@@ -1,15 +1,15 @@
 -- The sites that run classes have small numbers, which differ.
-use Rattle.sdd_lawful.proofs.All.{Catalogue, Class, IsServedClass, IsSound, Site, T, ap, arith, at_number, class_at, dec_le, differ, false, get_or_past, home, inl, inr, length, number_of, refl, same_or_not, sound_classes, sound_whole, subst, sym, tm_no, ℕ, ◌-◌, ◌==◌, ◌∙◌, ◌≡◌, ◌≢◌, ◌≤◌, ◌⊎◌}
+use Rattle.sdd_lawful.proofs.All.{Catalogue, Class, IsServedClass, IsSoundCatalogue, Site, T, ap, arith, at_number, class_at, dec_le, differ, false, get_or_past, home, inl, inr, length, number_of, refl, same_or_not, sound_classes, sound_whole, subst, sym, tm_no, ℕ, ◌-◌, ◌==◌, ◌∙◌, ◌≡◌, ◌≢◌, ◌≤◌, ◌⊎◌}
 
 -- the module of a class is there
-pub served : (cat : Catalogue) → IsSound cat → (c : ℕ) → 1 ≤ c → c ≤ length cat.classes → IsServedClass cat (class_at cat c)
+pub served : (cat : Catalogue) → IsSoundCatalogue cat → (c : ℕ) → 1 ≤ c → c ≤ length cat.classes → IsServedClass cat (class_at cat c)
 served cat sound c from to = at_number (IsServedClass cat) cat.classes c _ (sound_classes cat sound) from to
 
 -- a class that isn't there has no module
 module_past : (cat : Catalogue) (c : ℕ) → length cat.classes ≤ c - 1 → (class_at cat c).tm.0 ≡ 0
 module_past cat c h = ap (λ (k : Class). k.tm.0) (get_or_past cat.classes (c - 1) _ h)
 
-module_small : (cat : Catalogue) → IsSound cat → (c : ℕ) → (class_at cat c).tm.0 ≤ 16
+module_small : (cat : Catalogue) → IsSoundCatalogue cat → (c : ℕ) → (class_at cat c).tm.0 ≤ 16
 module_small cat sound c = elim (dec_le (length cat.classes) (c - 1)) [
   | yes p ↦ (let e = module_past cat c p in omega arith)
   | no p ↦ (let w = sound_whole cat sound in let few : cat.tms ≤ 16 = w.few_tms in
@@ -22,7 +22,7 @@ module_small cat sound c = elim (dec_le (length cat.classes) (c - 1)) [
       ])
 ]
 
-pub home_small : (cat : Catalogue) → IsSound cat → (c : ℕ) → number_of (home cat c) ≤ 16
+pub home_small : (cat : Catalogue) → IsSoundCatalogue cat → (c : ℕ) → number_of (home cat c) ≤ 16
 home_small cat sound c = elim (same_or_not c 0) [
   | inl p ↦ subst (λ k. number_of (home cat k) ≤ 16) (sym p) (omega arith)
   | inr p ↦ (let m = module_small cat sound c in let e : number_of (home cat c) ≡ (class_at cat c).tm.0 = rw p refl in omega arith)
@@ -35,7 +35,7 @@ positive c p = elim (dec_le 1 c) [ yes q ↦ q | no q ↦ absurd (differ c 0 p (
 abbrev pub DifferOrSame : Site → Site → Type 0
 DifferOrSame a b = (a ≡ b) ⊎ (number_of a ≢ number_of b)
 
-pub homes_differ : (cat : Catalogue) → IsSound cat → (c d : ℕ) → c ≤ length cat.classes → d ≤ length cat.classes → DifferOrSame (home cat c) (home cat d)
+pub homes_differ : (cat : Catalogue) → IsSoundCatalogue cat → (c d : ℕ) → c ≤ length cat.classes → d ≤ length cat.classes → DifferOrSame (home cat c) (home cat d)
 homes_differ cat sound c d hc hd = elim (same_or_not c 0) [
   | inl p ↦ elim (same_or_not d 0) [
     | inl q ↦ inl (ap (home cat) (p ∙ sym q))

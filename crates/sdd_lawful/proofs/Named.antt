@@ -1,5 +1,5 @@
 -- All that the records of a history name is there.
-use Rattle.sdd_lawful.proofs.All.{Act, All-from_recursion, AllByRecursion, Answer, Apply, AreErasOf, AreNumbered, Arrive, Ask, Attempt, Catalogue, Change, ChangeExists, ClassNo, Commit, Committed, Cond, CondExists, D, DmNo, Does, Entry, Eras, ExistsIn, Fits, FitsStatement, Hand, HasSoundData, History, Input, IsAskBy, IsAttempt, IsClass, IsCommitted, IsDueAt, IsFrom1To, IsModule, IsPermitted, IsPutAt, IsRead, IsReadStep, IsRecordAt, IsSound, List, Log, Mark, Msg, NamesOneOf, None, Notes, Nothing, Null, NumbersExist, Option, Pass, Read, Rec, Records, Rejected, RelNo, Row, Sends, Setting, Site, Some, Start, Submit, Submitted, Ts, TxnNo, TxnsExist, Use, UseExists, Wait, [], all_join, allowed_act, ap, append_assoc, arith, ascending, class_number, contains, d_step, dm_no, false, first_of_filter, fragments_in, from_ascending, hand_was_put, handed, head, head_put, history, home, in_class, length, local_of, marks, modules_asked, modules_of, number_member, origin, p2_time, permitted_before, pipe_at, place_of_hand, put_at_home, put_in_by_d, puts_to, record_of, recursion_from_All, refl, same_number, sends_of_act, setting_of, slice_get, spoils, start_at, start_read, subst, suc, sym, to_site, true, txn_no, view_of, ℕ, ◌++◌, ◌-◌, ◌<◌, ◌∙◌, ◌∷◌, ◌≡◌, ◌≤◌}
+use Rattle.sdd_lawful.proofs.All.{Act, All-from_recursion, AllByRecursion, Answer, Apply, AreErasOf, AreNumbered, Arrive, Ask, Attempt, Catalogue, Change, ChangeExists, ClassNo, Commit, Committed, Cond, CondExists, D, DmNo, Does, Entry, Eras, ExistsIn, FitsStatement, FitsTxn, Hand, HasSoundData, History, Input, IsAskBy, IsAttempt, IsClass, IsCommitted, IsDueAt, IsFrom1To, IsModule, IsPermitted, IsPutAt, IsRead, IsReadStep, IsRecordAt, IsSoundCatalogue, List, Log, Mark, Msg, NamesOneOf, None, Notes, Nothing, Null, NumbersExist, Option, Pass, Read, Rec, Records, Rejected, RelNo, Row, Sends, Setting, Site, Some, Start, Submit, Submitted, Ts, TxnNo, TxnsExist, Use, UseExists, Wait, [], all_join, allowed_act, ap, append_assoc, arith, ascending, class_number, contains, d_step, dm_no, false, first_of_filter, fragments_in, from_ascending, hand_was_put, handed, head, head_put, history, home, in_class, length, local_of, marks, modules_asked, modules_of, number_member, origin, p2_time, permitted_before, pipe_at, place_of_hand, put_at_home, put_in_by_d, puts_to, record_of, recursion_from_All, refl, same_number, sends_of_act, setting_of, slice_get, spoils, start_at, start_read, subst, suc, sym, to_site, true, txn_no, view_of, ℕ, ◌++◌, ◌-◌, ◌<◌, ◌∙◌, ◌∷◌, ◌≡◌, ◌≤◌}
 use Rattle.sdd_lawful.proofs.Answered.{answer_head, in_reads, read_of_some}
 use Rattle.sdd_lawful.proofs.Applied.{apply_in}
 use Rattle.sdd_lawful.proofs.Applies.{of_commit}
@@ -19,11 +19,11 @@ use Rattle.sdd_lawful.proofs.Valid.{IsValid, all_slice}
 use Rattle.sdd_invariants.specs.All.{Submit as SubmitEvent}
 use Rattle.sdd_invariants.specs.site_module.SiteLog as site
 
-each_exists : (cat : Catalogue) → IsSound cat → (changes : List Change) → AllByRecursion (IsValid cat) changes → AllByRecursion (ChangeExists cat) changes
+each_exists : (cat : Catalogue) → IsSoundCatalogue cat → (changes : List Change) → AllByRecursion (IsValid cat) changes → AllByRecursion (ChangeExists cat) changes
 each_exists cat sound [] h = tt
 each_exists cat sound (c ∷ changes) h = (valid_there cat sound c h.0, each_exists cat sound changes h.1)
 
-module _ (g : Input) (rows : List (RelNo × Row)) (eras : Eras) (log : Log) (sound : IsSound g.catalogue) (fine : HasSoundData g rows)
+module _ (g : Input) (rows : List (RelNo × Row)) (eras : Eras) (log : Log) (sound : IsSoundCatalogue g.catalogue) (fine : HasSoundData g rows)
     (h : IsPermitted g log) (are : AreErasOf g log eras) (numbered : AreNumbered g log) where
   abbrev cat : Catalogue
   cat = g.catalogue
@@ -55,7 +55,7 @@ module _ (g : Input) (rows : List (RelNo × Row)) (eras : Eras) (log : Log) (sou
   attempt_uses a s =
       let x = start_in g log a sound h s in
       let w = given_of_attempt g log a x in
-      let fits = all_slice (Fits cat) g.txns (a.txn - 1) x.says.text (recursion_from_All (Fits cat) g.txns fine.txns_fit) w.text_is in
+      let fits = all_slice (FitsTxn cat) g.txns (a.txn - 1) x.says.text (recursion_from_All (FitsTxn cat) g.txns fine.txns_fit) w.text_is in
       subst (AllByRecursion (UseExists cat)) (sym x.says.uses_are)
       (uses_exist cat 0 x.says.text.statements (recursion_from_All (FitsStatement cat) x.says.text.statements fits.statements))
 

@@ -1,5 +1,5 @@
 -- The history of a permitted log keeps the law of rejections.
-use Rattle.sdd_lawful.proofs.All.{Act, AppliedBefore, AreErasOf, Attempt, ClassNo, Cond, D, DmNo, Does, Entry, Eras, Input, IsAgain, IsAttempt, IsConditionOf, IsPermitted, IsRecordAt, IsSound, IsStep, IsTable, KeepsRejections, List, Log, Msg, None, Queued, Rec, Records, Rejected, Setting, Site, Some, Start, Ts, TxnNo, [], active, again, allowed_act, ap, append_assoc, arith, bound, commit_act, conditions_of, d_step, event_at, first_of_filter, head_of, history, home, home_of, length, local_of, nth_era, permitted_before, queue, redeclares, refl, setting_of, slice_get, spoils, step_way, subst, suc, sym, txn_no, view_of, ℕ, ◌++◌, ◌<◌, ◌∙◌, ◌∷◌, ◌≡◌}
+use Rattle.sdd_lawful.proofs.All.{Act, AppliedBefore, AreErasOf, Attempt, ClassNo, Cond, D, DmNo, Does, Entry, Eras, Input, IsAgain, IsAttempt, IsConditionOf, IsPermitted, IsRecordAt, IsSoundCatalogue, IsStep, IsTable, KeepsRejections, List, Log, Msg, None, Queued, Rec, Records, Rejected, Setting, Site, Some, Start, Ts, TxnNo, [], active, again, allowed_act, ap, append_assoc, arith, bound, commit_act, conditions_of, d_step, event_at, first_of_filter, head_of, history, home, home_of, length, local_of, nth_era, permitted_before, queue, redeclares, refl, setting_of, slice_get, spoils, step_way, subst, suc, sym, txn_no, view_of, ℕ, ◌++◌, ◌<◌, ◌∙◌, ◌∷◌, ◌≡◌}
 use Rattle.sdd_lawful.proofs.Answered.{IsReadIn, read_of_some}
 use Rattle.sdd_lawful.proofs.Applied.{applied_before}
 use Rattle.sdd_lawful.proofs.Classes.{at_home, further_back, home_setting}
@@ -56,7 +56,7 @@ rejected_there g log later before class txn attempt d by write sends n number is
     subst (λ j. IsRecordAt (history log) (length (history before)) (Rejected (txn_no n) j d by write)) f
     (subst (λ j. IsRecordAt (history log) (length (history before)) (Rejected (txn_no j) attempt d by write)) e s)
 
-pub again_of : (g : Input) (log : Log) (eras : Eras) → IsSound g.catalogue → IsPermitted g log → AreErasOf g log eras
+pub again_of : (g : Input) (log : Log) (eras : Eras) → IsSoundCatalogue g.catalogue → IsPermitted g log → AreErasOf g log eras
     → (a : Attempt) → IsAttempt (history log) a → 1 < a.number → IsAgain g.catalogue eras (history log) a
 again_of g log eras sound h are a s more =
     let x = start_in g log a sound h s in
@@ -120,6 +120,6 @@ again_of g log eras sound h are a s more =
       below_bound = λ p2 e. let b = p2_bound a.class (bound (home_setting g a.class) (at_home g a.class x.before)) p2 (sym x.says.p2_is ∙ e) in omega arith;
     }
 
-pub keeps_rejections : (g : Input) (log : Log) (eras : Eras) → IsSound g.catalogue → IsPermitted g log → AreErasOf g log eras
+pub keeps_rejections : (g : Input) (log : Log) (eras : Eras) → IsSoundCatalogue g.catalogue → IsPermitted g log → AreErasOf g log eras
     → KeepsRejections g.catalogue eras (history log)
 keeps_rejections g log eras sound h are = record { again = again_of g log eras sound h are }

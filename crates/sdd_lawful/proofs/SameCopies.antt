@@ -1,5 +1,5 @@
 -- So the copy of a fragment at a module that has one is that which the history gives.
-use Rattle.sdd_lawful.proofs.All.{AreErasOf, AreMade, Bool, Catalogue, Change, Committed, Contains, Contains-append_cases, Contains-append_left, Contains-append_right, Contains-filter, Contains-flat_map, Contains-from_filter, Contains-from_flat_map, Contains-from_map, Contains-map, D, Database, Dated, DatesDiffer, Eras, HasSoundData, Input, IsDatabase, IsEntry, IsMadeAt, IsPermitted, IsSound, Item, List, Log, Option, Rec, RelNo, Row, SiteLog, [], ap, applied, applied_till, arith, before_applied, change_of, committed, contents, database_of, dated, dm_no, each_has, effect_made, entry_placed, eqb-true, filter, first_row, flat_map, fragment_at, fragment_of, from_committed, has_copy, history, in_committed, inl, inr, item_cmp, item_cmp_exact, item_cmp_total, length, local_of, map, of_fragment, one_entry, order_tells_nothing, recursion_from_All, refl, rows_left, rows_make_database, same_start, setting_of, sorted_nil, subst, suc, sym, true, true_or_false, ℕ, ◌==◌, ◌∙◌, ◌∷◌, ◌≡◌, ◌≤◌, ◌⊎◌}
+use Rattle.sdd_lawful.proofs.All.{AreErasOf, AreMade, Bool, Catalogue, Change, Committed, Contains, Contains-append_cases, Contains-append_left, Contains-append_right, Contains-filter, Contains-flat_map, Contains-from_filter, Contains-from_flat_map, Contains-from_map, Contains-map, D, Database, Dated, DatesDiffer, Eras, HasSoundData, Input, IsDatabase, IsEntry, IsMadeAt, IsPermitted, IsSoundCatalogue, Item, List, Log, Option, Rec, RelNo, Row, SiteLog, [], ap, applied, applied_till, arith, before_applied, change_of, committed, contents, database_of, dated, dm_no, each_has, effect_made, entry_placed, eqb-true, filter, first_row, flat_map, fragment_at, fragment_of, from_committed, has_copy, history, in_committed, inl, inr, item_cmp, item_cmp_exact, item_cmp_total, length, local_of, map, of_fragment, one_entry, order_tells_nothing, recursion_from_All, refl, rows_left, rows_make_database, same_start, setting_of, sorted_nil, subst, suc, sym, true, true_or_false, ℕ, ◌==◌, ◌∙◌, ◌∷◌, ◌≡◌, ◌≤◌, ◌⊎◌}
 use Rattle.sdd_lawful.proofs.Beginnings.{in_numbers}
 use Rattle.sdd_lawful.proofs.Committed.{committed_in, one_place, same_committed}
 use Rattle.sdd_lawful.proofs.Conditions.{member_of}
@@ -34,7 +34,7 @@ filter_twice p (x ∷ xs) = elim (true_or_false (p x)) [
   | inr e ↦ rw e (filter_twice p xs)
 ]
 
-module _ (g : Input) (rows : List (RelNo × Row)) (eras : Eras) (log : Log) (sound : IsSound g.catalogue) (fine : HasSoundData g rows)
+module _ (g : Input) (rows : List (RelNo × Row)) (eras : Eras) (log : Log) (sound : IsSoundCatalogue g.catalogue) (fine : HasSoundData g rows)
     (h : IsPermitted g log) (are : AreErasOf g log eras) (d k : ℕ) (q : Rec) (m : IsMadeAt log k q) (f : ℕ) (copied : has_copy g.catalogue d f ≡ true) where
   abbrev cat : Catalogue
   cat = g.catalogue

@@ -1,5 +1,5 @@
 -- What an attempt reads at a module is what the log of the module gives at its Answer.
-use Rattle.sdd_lawful.proofs.All.{Act, Answer, AreErasOf, Attempt, Bool, ClassNo, Cond, D, Did, DmNo, Does, Eras, Handed, Input, IsAnswered, IsAttempt, IsMadeAt, IsPermitted, IsRecordAt, IsSound, List, Log, Msg, Option, Read, Rec, Records, Redeclared, Sends, Setting, Site, SiteLog, Some, Submits, Ticked, Ts, TxnNo, Use, [], allowed_act, ap, append_assoc, class_no, d_step, dated, dm_no, eqb-true, false, flat_map, frags_asked, head, history, inl, inr, is_at, items_of, length, local_of, not_both, permitted_before, pipe, place_of_act, refl, same_start, setting_of, snapshots, subst, sym, time_at, true, true_or_false, txn_no, ℕ, ◌++◌, ◌∙◌, ◌∷◌, ◌≡◌, ◌⊎◌}
+use Rattle.sdd_lawful.proofs.All.{Act, Answer, AreErasOf, Attempt, Bool, ClassNo, Cond, D, Did, DmNo, Does, Eras, Handed, Input, IsAnswered, IsAttempt, IsMadeAt, IsPermitted, IsRecordAt, IsSoundCatalogue, List, Log, Msg, Option, Read, Rec, Records, Redeclared, Sends, Setting, Site, SiteLog, Some, Submits, Ticked, Ts, TxnNo, Use, [], allowed_act, ap, append_assoc, class_no, d_step, dated, dm_no, eqb-true, false, flat_map, frags_asked, head, history, inl, inr, is_at, items_of, length, local_of, not_both, permitted_before, pipe, place_of_act, refl, same_start, setting_of, snapshots, subst, sym, time_at, true, true_or_false, txn_no, ℕ, ◌++◌, ◌∙◌, ◌∷◌, ◌≡◌, ◌⊎◌}
 use Rattle.sdd_lawful.proofs.Answered.{IsAnswerIn, answer_head, answer_made, answer_rec, read_msg, read_of_some}
 use Rattle.sdd_lawful.proofs.Makers.{act_kind}
 use Rattle.sdd_lawful.proofs.Places.{one_entry, recorded_there}
@@ -116,7 +116,7 @@ same_time o t u of of2 txn txn2 i i2 ds ds2 us us2 e f =
     let q : t ≡ u = cc in ap (λ (x : Ts). x.0) q
 
 pub the_answer : (g : Input) (log front part : Log) (eras : Eras) (a : Attempt) (d : ℕ) (later : SiteLog) (k : ℕ) (n : TxnNo) (i : ℕ) (dm : DmNo) (ss : List (Site × Msg)) (l : SiteLog)
-    → IsSound g.catalogue → IsPermitted g log → AreErasOf g log eras → IsAttempt (history log) a → log ≡ front ++ part
+    → IsSoundCatalogue g.catalogue → IsPermitted g log → AreErasOf g log eras → IsAttempt (history log) a → log ≡ front ++ part
     → local_of g (D (dm_no d)) part ≡ later ++ Did (Records k (Answer n i dm) ss) ∷ l → is_at a.ts (head (pipe k l)) ≡ true → IsTheAnswer g log a d k l
 the_answer g log front part eras a d later k n i dm ss l sound h are s is split at =
     let act : Act = Records k (Answer n i dm) ss in

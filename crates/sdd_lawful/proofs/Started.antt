@@ -1,5 +1,5 @@
 -- The Starts of a history, as acts of the sites that run their classes.
-use Rattle.sdd_lawful.proofs.All.{Act, AllCommitted, Attempt, ClassNo, Did, Does, Entry, Input, IsAttempt, IsMadeAt, IsPermitted, IsRecordAt, IsSound, IsStartRecord, List, Log, Msg, Notes, Option, Rec, Records, Site, Some, Start, Submitted, Ts, TxnNo, Use, ap, arith, class_no, current_era, false, history, home, is_for, length, local_at, local_of, own_made, permitted_before, place_of_submit, record_of, refl, says_at, setting_of, submits_of, subst, sym, time_at, true, txn_no, ℕ, ◌++◌, ◌∙◌, ◌∷◌, ◌≡◌}
+use Rattle.sdd_lawful.proofs.All.{Act, AllCommitted, Attempt, ClassNo, Did, Does, Entry, Input, IsAttempt, IsMadeAt, IsPermitted, IsRecordAt, IsSoundCatalogue, IsStartRecord, List, Log, Msg, Notes, Option, Rec, Records, Site, Some, Start, Submitted, Ts, TxnNo, Use, ap, arith, class_no, current_era, false, history, home, is_for, length, local_at, local_of, own_made, permitted_before, place_of_submit, record_of, refl, says_at, setting_of, submits_of, subst, sym, time_at, true, txn_no, ℕ, ◌++◌, ◌∙◌, ◌∷◌, ◌≡◌}
 use Rattle.sdd_lawful.proofs.Classes.{IsForClass, IsGivenTo, at_home, class_given, given_in, home_setting, one_class}
 use Rattle.sdd_lawful.proofs.Homes.{home_small}
 use Rattle.sdd_lawful.proofs.Makers.{is_of_run, is_own, run_home}
@@ -85,7 +85,7 @@ start_with g log a k later sends before e is place h says =
       says = subst (StartsAs g before a) e says;
     }
 
-pub start_in : (g : Input) (log : Log) (a : Attempt) → IsSound g.catalogue → IsPermitted g log → IsAttempt (history log) a → IsStartIn g log a
+pub start_in : (g : Input) (log : Log) (a : Attempt) → IsSoundCatalogue g.catalogue → IsPermitted g log → IsAttempt (history log) a → IsStartIn g log a
 start_in g log a sound h s =
     let m = run_in g log a.place (start_of a) h refl refl s in
     let small = home_small g.catalogue sound m.class in
@@ -97,7 +97,7 @@ attempt_from txn number class ts p2 uses place = record { txn = txn.0; number = 
 
 -- an entry that makes a Start
 pub start_at_entry : (g : Input) (log later : Log) (at : Site) (k : ℕ) (txn : TxnNo) (number : ℕ) (class : ClassNo) (ts : Ts) (p2 : Option Ts) (uses : List Use) (sends : List (Site × Msg)) (before : Log)
-    → IsSound g.catalogue → IsPermitted g log → log ≡ later ++ Does at (Records k (Start txn number class ts p2 uses) sends) ∷ before
+    → IsSoundCatalogue g.catalogue → IsPermitted g log → log ≡ later ++ Does at (Records k (Start txn number class ts p2 uses) sends) ∷ before
     → IsStartIn g log (attempt_from txn number class ts p2 uses (length (history before))) × (k ≡ class.0) × (at ≡ home g.catalogue k)
 start_at_entry g log later at k txn number class ts p2 uses sends before sound h is =
     let a : Attempt = attempt_from txn number class ts p2 uses (length (history before)) in

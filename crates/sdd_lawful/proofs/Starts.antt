@@ -1,5 +1,5 @@
 -- The history of a permitted log keeps the law of Starts.
-use Rattle.sdd_lawful.proofs.All.{Act, AreErasOf, Attempt, Catalogue, Committed, CommittedBefore, Did, Does, Era, Eras, Input, IsAttempt, IsBound, IsCommitted, IsEraOf, IsMadeAt, IsOfSubmit, IsPermitted, IsRecordAt, IsSound, IsSubmitted, KeepsStarts, List, Log, Msg, None, Option, Records, Setting, Site, Some, Start, Submit, Submits, Submitted, T, TmNo, Ts, Txn, [], and_left, ap, append_assoc, arith, bound, class_at, class_for, class_no, clock, covered, covers, dec_le, eqb-true, era_is, event_at, false, filter, first_passes, head_of, history, home, home_fair, if◌then◌else◌, inl, inr, is_committed, is_for, is_some, length, local_of, lower_same_higher, marks, mul-add-mod_self_right, not, nth_era, number_of, numbers_to, option_map, or_right, p2_of, permitted_before, place_of_act, promises, record_at, redeclares, refl, same_number, same_or_not, setting_of, slice_get, stamps, stamps_differ, starts_of, submits_of, subst, sym, time_at, tm_no, true, txn_at, txn_no, unwrap_or, ℕ, ◌%◌, ◌++◌, ◌<◌, ◌==◌, ◌∙◌, ◌∷◌, ◌≡◌, ◌≢◌, ◌≤◌}
+use Rattle.sdd_lawful.proofs.All.{Act, AreErasOf, Attempt, Catalogue, Committed, CommittedBefore, Did, Does, Era, Eras, Input, IsAttempt, IsBound, IsCommitted, IsEraOf, IsMadeAt, IsOfSubmit, IsPermitted, IsRecordAt, IsSoundCatalogue, IsSubmitted, KeepsStarts, List, Log, Msg, None, Option, Records, Setting, Site, Some, Start, Submit, Submits, Submitted, T, TmNo, Ts, Txn, [], and_left, ap, append_assoc, arith, bound, class_at, class_for, class_no, clock, covered, covers, dec_le, eqb-true, era_is, event_at, false, filter, first_passes, head_of, history, home, home_fair, if◌then◌else◌, inl, inr, is_committed, is_for, is_some, length, local_of, lower_same_higher, marks, mul-add-mod_self_right, not, nth_era, number_of, numbers_to, option_map, or_right, p2_of, permitted_before, place_of_act, promises, record_at, redeclares, refl, same_number, same_or_not, setting_of, slice_get, stamps, stamps_differ, starts_of, submits_of, subst, sym, time_at, tm_no, true, txn_at, txn_no, unwrap_or, ℕ, ◌%◌, ◌++◌, ◌<◌, ◌==◌, ◌∙◌, ◌∷◌, ◌≡◌, ◌≢◌, ◌≤◌}
 use Rattle.sdd_lawful.proofs.Classes.{IsForClass, IsGivenTo, at_home, era_there, further_back, home_by, home_setting, submit_local}
 use Rattle.sdd_lawful.proofs.Commits.{Told, commit_class, commit_in, commit_made, commit_rec, commit_seen, one_commit}
 use Rattle.sdd_lawful.proofs.Counted.{numbered}
@@ -43,7 +43,7 @@ event_of_submit g log eras n later rest at are is =
     ap (λ l. event_at (history l) (length (history rest))) is ∙ event_there later (Submitted at n) rest (Submit (txn_no n)) refl in
     ap (catalogue_at g.catalogue eras) e ∙ are.era_is (later ++ Submitted at n ∷ []) rest (is ∙ sym (append_assoc later (Submitted at n ∷ []) rest))
 
-submitted_of : (g : Input) (log : Log) (eras : Eras) → IsSound g.catalogue → IsPermitted g log → AreErasOf g log eras
+submitted_of : (g : Input) (log : Log) (eras : Eras) → IsSoundCatalogue g.catalogue → IsPermitted g log → AreErasOf g log eras
     → (a : Attempt) → IsAttempt (history log) a → IsOfSubmit g.catalogue eras g.txns (history log) a
 submitted_of g log eras sound h are a s =
     let x = start_in g log a sound h s in
@@ -96,7 +96,7 @@ stamp_there g log a x =
     let i = stamp_in m.0 (at_home g a.class x.before) a.class (txn_no a.txn) a.number (class_no a.class) (time_at a.ts) a.p2 a.uses x.sends in
     (i.0, subst (λ k. slice_get (stamps k) i.0 ≡ Some a.ts) (sym (ap (at_home g a.class) x.is ∙ m.1)) i.1)
 
-differ_at : {A : Type 0} (g : Input) (log : Log) (a b : Attempt) (x : IsStartIn g log a) (y : IsStartIn g log b) → IsSound g.catalogue
+differ_at : {A : Type 0} (g : Input) (log : Log) (a b : Attempt) (x : IsStartIn g log a) (y : IsStartIn g log b) → IsSoundCatalogue g.catalogue
     → IsPermitted g log → number_of (home g.catalogue a.class) ≢ number_of (home g.catalogue b.class) → a.ts ≡ b.ts → A
 differ_at g log a b x y sound h ne e =
     let i = stamp_there g log a x in
@@ -105,7 +105,7 @@ differ_at g log a b x y sound h ne e =
     let little = home_small g.catalogue sound b.class in
     absurd (stamps_differ (home_setting g a.class) (home_setting g b.class) (at_home g a.class log) (at_home g b.class log) i.0 j.0 a.ts b.ts (omega arith) (omega arith) ne (home_fair g a.class log h) (home_fair g b.class log h) i.1 j.1 e)
 
-pub one_time : (g : Input) (log : Log) (eras : Eras) → IsSound g.catalogue → IsPermitted g log → AreErasOf g log eras
+pub one_time : (g : Input) (log : Log) (eras : Eras) → IsSoundCatalogue g.catalogue → IsPermitted g log → AreErasOf g log eras
     → (a b : Attempt) → IsAttempt (history log) a → IsAttempt (history log) b → a.ts ≡ b.ts → a.place ≡ b.place
 one_time g log eras sound h are a b s t e =
     let x = start_in g log a sound h s in
@@ -156,7 +156,7 @@ given_rest g log a x k h u =
     (same_submission g a.txn log u.later b.0 u.rest w.rest u.at at h u.is b.1).0
 
 -- of one class: the first submitted starts first
-in_turn : (g : Input) (log : Log) → IsSound g.catalogue → IsPermitted g log → (a b : Attempt) (j k : ℕ)
+in_turn : (g : Input) (log : Log) → IsSoundCatalogue g.catalogue → IsPermitted g log → (a b : Attempt) (j k : ℕ)
     → IsAttempt (history log) a → IsAttempt (history log) b → a.class ≡ b.class → a.place < b.place
     → IsSubmitted (history log) a.txn j → IsSubmitted (history log) b.txn k → j ≤ k
 in_turn g log sound h a b j k s t e l p q = elim (dec_le j k) [
@@ -241,7 +241,7 @@ commit_before g log a x n e =
       before = omega arith;
     }
 
-after_earlier : (g : Input) (log : Log) (eras : Eras) → IsSound g.catalogue → IsPermitted g log → AreErasOf g log eras
+after_earlier : (g : Input) (log : Log) (eras : Eras) → IsSoundCatalogue g.catalogue → IsPermitted g log → AreErasOf g log eras
     → (a : Attempt) (n j k : ℕ) (txn : Txn) → IsAttempt (history log) a → IsSubmitted (history log) a.txn k
     → IsSubmitted (history log) n j → j < k → txn_at g n ≡ Some txn
     → class_for (catalogue_at g.catalogue eras (event_at (history log) j)) txn ≡ a.class → CommittedBefore (history log) n a.place
@@ -265,7 +265,7 @@ after_earlier g log eras sound h are a n j k txn s p q l t c =
 
 -- Commits
 
-by_last : (g : Input) (log : Log) → IsSound g.catalogue → IsPermitted g log → (t : Committed) (a : Attempt)
+by_last : (g : Input) (log : Log) → IsSoundCatalogue g.catalogue → IsPermitted g log → (t : Committed) (a : Attempt)
     → IsCommitted (history log) t → IsAttempt (history log) a → a.txn ≡ t.start.txn → a.number ≤ t.start.number
 by_last g log sound h t a c s e =
     let told : Told = record { reply = t.reply; changes = t.changes; values = t.values; rows = t.rows } in
@@ -318,7 +318,7 @@ promise_below g log a b x y p2 (Some t) f e l k =
     let r = most_at _ (promises (at_home g b.class y.before)) i.0 t.0 y.says.p2_above_promises there in
     subst (λ w. t.0 ≤ w) k r
 
-bound_of_start : (g : Input) (log : Log) → IsSound g.catalogue → IsPermitted g log → (a : Attempt) (p2 : Ts)
+bound_of_start : (g : Input) (log : Log) → IsSoundCatalogue g.catalogue → IsPermitted g log → (a : Attempt) (p2 : Ts)
     → IsAttempt (history log) a → a.p2 ≡ Some p2 → IsBound (history log) a p2.0
 bound_of_start g log sound h a p2 s e =
     let y = start_in g log a sound h s in
@@ -337,7 +337,7 @@ bound_of_start g log sound h a p2 s e =
           (subst (λ w. c.ts ≤ w) b r, promise_below g log c a x y p2.0 c.p2 refl (ap (home g.catalogue) k) less b);
     }
 
-pub keeps_starts : (g : Input) (log : Log) (eras : Eras) → IsSound g.catalogue → IsPermitted g log → AreErasOf g log eras
+pub keeps_starts : (g : Input) (log : Log) (eras : Eras) → IsSoundCatalogue g.catalogue → IsPermitted g log → AreErasOf g log eras
     → KeepsStarts g.catalogue eras g.txns (history log)
 keeps_starts g log eras sound h are = record {
   submitted = submitted_of g log eras sound h are;

@@ -1,10 +1,10 @@
 -- Which modules a committed transaction touches.
-use Rattle.sdd_lawful.proofs.All.{AllByRecursion, Bool, Catalogue, Change, Committed, DmNo, Fragment, GoesTo, Input, IsModule, IsPlaced, IsSound, List, Log, Some, Touches, [], any_at, ap, arith, at_number, by_change, by_no_class, changes_at, changes_to, cond, dec_le, dm_no, eqb-true, false, filter, fragment_at, get_or_past, has_copy, inl, inr, length, list_any, or_left, or_right, recursion_from_All, refl, same_number, slice_get, sound_fragments, subst, suc, sym, true, true_or_false, zero, ℕ, ◌-◌, ◌<◌, ◌==◌, ◌∙◌, ◌∷◌, ◌≡◌, ◌⊎◌}
+use Rattle.sdd_lawful.proofs.All.{AllByRecursion, Bool, Catalogue, Change, Committed, DmNo, Fragment, GoesTo, Input, IsModule, IsPlaced, IsSoundCatalogue, List, Log, Some, Touches, [], any_at, ap, arith, at_number, by_change, by_no_class, changes_at, changes_to, cond, dec_le, dm_no, eqb-true, false, filter, fragment_at, get_or_past, has_copy, inl, inr, length, list_any, or_left, or_right, recursion_from_All, refl, same_number, slice_get, sound_fragments, subst, suc, sym, true, true_or_false, zero, ℕ, ◌-◌, ◌<◌, ◌==◌, ◌∙◌, ◌∷◌, ◌≡◌, ◌⊎◌}
 use Rattle.sdd_lawful.proofs.Committed.{IsCommittedIn}
 
 -- a module with a copy is there
 
-copies_there : (cat : Catalogue) → IsSound cat → (f : ℕ) → AllByRecursion (λ (d : DmNo). IsModule cat d.0) (fragment_at cat f).copies
+copies_there : (cat : Catalogue) → IsSoundCatalogue cat → (f : ℕ) → AllByRecursion (λ (d : DmNo). IsModule cat d.0) (fragment_at cat f).copies
 copies_there cat sound f = elim (dec_le (length cat.fragments) (f - 1)) [
   | yes p ↦ subst (λ (x : Fragment). AllByRecursion (λ (d : DmNo). IsModule cat d.0) x.copies) (sym (get_or_past cat.fragments (f - 1) _ p)) tt
   | no p ↦ elim (dec_le 1 f) [
@@ -22,13 +22,13 @@ each_at P [] k x h e = cc
 each_at P (y ∷ xs) zero x h e = let p : y ≡ x = cc in subst P p h.0
 each_at P (y ∷ xs) (suc k) x h e = each_at P xs k x h.1 e
 
-pub copy_module : (cat : Catalogue) → IsSound cat → (d f : ℕ) → has_copy cat d f ≡ true → IsModule cat d
+pub copy_module : (cat : Catalogue) → IsSoundCatalogue cat → (d f : ℕ) → has_copy cat d f ≡ true → IsModule cat d
 copy_module cat sound d f e =
     let i = any_at (λ (x : DmNo). x.0 == d) (fragment_at cat f).copies e in
     let p : i.1.0 ≡ d = eqb-true i.1.0 d i.3 in
     subst (IsModule cat) p (each_at (λ (x : DmNo). IsModule cat x.0) (fragment_at cat f).copies i.0 i.1 (copies_there cat sound f) i.2)
 
-pub goes_module : (cat : Catalogue) → IsSound cat → (t : Committed) (d : ℕ) → GoesTo cat t d → IsModule cat d
+pub goes_module : (cat : Catalogue) → IsSoundCatalogue cat → (t : Committed) (d : ℕ) → GoesTo cat t d → IsModule cat d
 goes_module cat sound t d (by_change x) = copy_module cat sound d x.fragment x.copied
 goes_module cat sound t d (by_no_class e m) = m
 

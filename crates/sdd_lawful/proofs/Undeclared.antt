@@ -1,5 +1,5 @@
 -- The history of a permitted log keeps the law of undeclared transactions.
-use Rattle.sdd_lawful.proofs.All.{Act, AppliedBefore, Apply, AreErasOf, Attempt, Bases, Catalogue, Committed, Cond, D, Does, Done, Entry, Eras, GoesTo, HasApply, Input, IsAnswered, IsAttempt, IsCommitted, IsMadeAt, IsModule, IsPermitted, IsRecordAt, IsSound, IsWhollyAfter, IsWhollyBefore, KeepsUndeclared, Log, Queued, Rec, Records, Setting, Site, Some, T, Touches, U, [], all_applied, ap, append_assoc, arith, bound, by_change, by_no_class, class_at, classes_of, commit_act, commit_of, commit_t, cond_of, dm_no, false, frag_no, fragments_of, history, home, home_of, inl, inr, length, low_or_high, lower_same_higher, map, next_stamp, number_of, numbers_to, p2_of, permitted_before, refl, same_number, same_or_not, same_start, setting_of, slice_get, sound_whole, start_at, start_u, subst, suc, sym, tm_no, true, u_stamp, undeclared_conditions, uses_of, zero_applied, zero_pair, ℕ, ◌++◌, ◌<◌, ◌==◌, ◌∙◌, ◌∷◌, ◌≡◌, ◌≢◌, ◌≤◌, ◌⊎◌}
+use Rattle.sdd_lawful.proofs.All.{Act, AppliedBefore, Apply, AreErasOf, Attempt, Bases, Catalogue, Committed, Cond, D, Does, Done, Entry, Eras, GoesTo, HasApply, Input, IsAnswered, IsAttempt, IsCommitted, IsMadeAt, IsModule, IsPermitted, IsRecordAt, IsSoundCatalogue, IsWhollyAfter, IsWhollyBefore, KeepsUndeclared, Log, Queued, Rec, Records, Setting, Site, Some, T, Touches, U, [], all_applied, ap, append_assoc, arith, bound, by_change, by_no_class, class_at, classes_of, commit_act, commit_of, commit_t, cond_of, dm_no, false, frag_no, fragments_of, history, home, home_of, inl, inr, length, low_or_high, lower_same_higher, map, next_stamp, number_of, numbers_to, p2_of, permitted_before, refl, same_number, same_or_not, same_start, setting_of, slice_get, sound_whole, start_at, start_u, subst, suc, sym, tm_no, true, u_stamp, undeclared_conditions, uses_of, zero_applied, zero_pair, ℕ, ◌++◌, ◌<◌, ◌==◌, ◌∙◌, ◌∷◌, ◌≡◌, ◌≢◌, ◌≤◌, ◌⊎◌}
 use Rattle.sdd_lawful.proofs.Answered.{answer_in, answer_rec, conds_sent}
 use Rattle.sdd_lawful.proofs.Applied.{apply_rec}
 use Rattle.sdd_lawful.proofs.Applies.{of_commit}
@@ -18,7 +18,7 @@ use Rattle.sdd_invariants.specs.site_module.SiteLog as site
 
 -- an Apply with the timestamp of an undeclared transaction is its own
 
-own_apply : (g : Input) (log : Log) (eras : Eras) (u : Committed) (d : ℕ) (front before : Log) → IsSound g.catalogue → IsPermitted g log → AreErasOf g log eras
+own_apply : (g : Input) (log : Log) (eras : Eras) (u : Committed) (d : ℕ) (front before : Log) → IsSoundCatalogue g.catalogue → IsPermitted g log → AreErasOf g log eras
     → IsCommitted (history log) u → log ≡ front ++ before → HasApply g before (dm_no d) u.start.ts
     → AppliedBefore (history log) u.start.txn d (length (history before))
 own_apply g log eras u d front before sound h are c is x =
@@ -62,7 +62,7 @@ u_behind g log a b p q l =
     let z = entries_in_order log a.place b.place (u_record g p.before p.queued) (u_record g q.before q.queued) (u_made g log a p) (u_made g log b q) l in
     (z.between, z.is)
 
-zero_done : (g : Input) (log : Log) (eras : Eras) (x : Committed) (a : Attempt) → IsSound g.catalogue → IsPermitted g log → AreErasOf g log eras
+zero_done : (g : Input) (log : Log) (eras : Eras) (x : Committed) (a : Attempt) → IsSoundCatalogue g.catalogue → IsPermitted g log → AreErasOf g log eras
     → IsCommitted (history log) x → IsAttempt (history log) a → x.start.class ≡ 0 → a.class ≡ 0 → x.start.place < a.place → IsDone g log x a
 zero_done g log eras x a sound h are c s e f l =
     let p = started_at_u g log x.start sound h c.started e in
@@ -84,7 +84,7 @@ zero_done g log eras x a sound h are c s e f l =
     }
 
 -- so it is committed then
-done_committed : (g : Input) (log : Log) (x : Committed) (a : Attempt) → IsSound g.catalogue → IsPermitted g log → IsCommitted (history log) x
+done_committed : (g : Input) (log : Log) (x : Committed) (a : Attempt) → IsSoundCatalogue g.catalogue → IsPermitted g log → IsCommitted (history log) x
     → IsDone g log x a → x.place < a.place
 done_committed g log x a sound h c done =
     let some = (sound_whole g.catalogue sound).some_dm in
@@ -95,7 +95,7 @@ done_committed g log x a sound h c done =
     let l1 = o.before in let l2 = b.before in omega arith
 
 -- what is applied everywhere where an attempt starts is applied where it is answered
-answered_after : (g : Input) (log : Log) (x : Committed) (a : Attempt) (d k : ℕ) → IsSound g.catalogue → IsPermitted g log → IsAttempt (history log) a
+answered_after : (g : Input) (log : Log) (x : Committed) (a : Attempt) (d k : ℕ) → IsSoundCatalogue g.catalogue → IsPermitted g log → IsAttempt (history log) a
     → IsDone g log x a → IsModule g.catalogue d → IsAnswered (history log) a d k → AppliedBefore (history log) x.start.txn d k
 answered_after g log x a d k sound h s done m e =
     let b = done.applied d m in
@@ -103,7 +103,7 @@ answered_after g log x a d k sound h s done m e =
     let l1 = b.before in let l2 = w.read.start_before in let p = w.place_is in
     record { place = b.place; applied = b.applied; before = omega arith }
 
-zero_zero : (g : Input) (log : Log) (eras : Eras) (u t : Committed) → IsSound g.catalogue → IsPermitted g log → AreErasOf g log eras
+zero_zero : (g : Input) (log : Log) (eras : Eras) (u t : Committed) → IsSoundCatalogue g.catalogue → IsPermitted g log → AreErasOf g log eras
     → IsCommitted (history log) u → IsCommitted (history log) t → u.start.class ≡ 0 → t.start.class ≡ 0 → u.start.txn ≢ t.start.txn
     → IsWhollyBefore g.catalogue (history log) t u ⊎ IsWhollyAfter g.catalogue (history log) t u
 zero_zero g log eras u t sound h are cu ct eu et ne = elim (lower_same_higher t.start.place u.start.place) [
@@ -129,7 +129,7 @@ zero_sent : (g : Input) (a : Attempt) (log : Log) (d : ℕ) → a.class ≡ 0 �
 zero_sent g a log d e = let p : (a.class == 0) ≡ true = ap (λ y. y == 0) e in rw p refl
 
 -- that is committed with a smaller timestamp is applied at the Answers of the undeclared one
-low_seen : (g : Input) (log : Log) (eras : Eras) (u t : Committed) (d k : ℕ) → IsSound g.catalogue → IsPermitted g log → AreErasOf g log eras
+low_seen : (g : Input) (log : Log) (eras : Eras) (u t : Committed) (d k : ℕ) → IsSoundCatalogue g.catalogue → IsPermitted g log → AreErasOf g log eras
     → ChangesExist g (history log) → IsCommitted (history log) u → IsCommitted (history log) t → u.start.class ≡ 0
     → (t.start.class == 0) ≡ false → t.start.ts < u.start.ts → t.start.class ≤ length g.catalogue.classes → GoesTo g.catalogue t d
     → IsAnswered (history log) u.start d k → AppliedBefore (history log) t.start.txn d k
@@ -152,7 +152,7 @@ low_seen g log eras u t d k sound h are exist cu ct e ne l within goes s =
 
 -- the Commit that is known to stand before the undeclared one's Start
 committed_low : (g : Input) (log : Log) (t : Committed) (c : IsCommittedIn g log t) (at : Site) (bases : Bases) (later before later2 rest : Log) (e : Entry)
-    → IsSound g.catalogue → IsPermitted g log → IsCommitted (history log) t → log ≡ later ++ e ∷ before
+    → IsSoundCatalogue g.catalogue → IsPermitted g log → IsCommitted (history log) t → log ≡ later ++ e ∷ before
     → before ≡ later2 ++ Does at (commit_act g.catalogue bases t.start.class c.running) ∷ rest → t.place < length (history before)
 committed_low g log t c at bases later before later2 rest e sound h ct is p =
     let act : Act = commit_act g.catalogue bases t.start.class c.running in
@@ -171,7 +171,7 @@ committed_low g log t c at bases later before later2 rest e sound h ct is p =
 
 -- the Start of an attempt, by its timestamp
 start_place : (g : Input) (log : Log) (eras : Eras) (t : Committed) (s : Setting) (l : site.Log) (at : Site) (q : Queued) (later rest : Log)
-    → IsSound g.catalogue → IsPermitted g log
+    → IsSoundCatalogue g.catalogue → IsPermitted g log
     → AreErasOf g log eras → IsCommitted (history log) t → log ≡ later ++ Does at (start_at s t.start.class l q) ∷ rest
     → next_stamp s l ≡ t.start.ts → length (history rest) ≡ t.start.place
 start_place g log eras t s l at q later rest sound h are ct is e =
@@ -180,7 +180,7 @@ start_place g log eras t s l at q later rest sound h are ct is e =
     (recorded_there later (Does at (start_at s t.start.class l q)) rest (start_of b) refl) in
     one_time g log eras sound h are b t.start there ct.started e
 
-declared_one : (g : Input) (log : Log) (eras : Eras) (u t : Committed) → IsSound g.catalogue → IsPermitted g log → AreErasOf g log eras
+declared_one : (g : Input) (log : Log) (eras : Eras) (u t : Committed) → IsSoundCatalogue g.catalogue → IsPermitted g log → AreErasOf g log eras
     → ChangesExist g (history log) → IsCommitted (history log) u → IsCommitted (history log) t → u.start.class ≡ 0
     → (t.start.class == 0) ≡ false → IsWhollyBefore g.catalogue (history log) t u ⊎ IsWhollyAfter g.catalogue (history log) t u
 declared_one g log eras u t sound h are exist cu ct e ne =
@@ -228,7 +228,7 @@ declared_one g log eras u t sound h are exist cu ct e ne =
           }))
     ]
 
-pub keeps_undeclared : (g : Input) (log : Log) (eras : Eras) → IsSound g.catalogue → IsPermitted g log → AreErasOf g log eras
+pub keeps_undeclared : (g : Input) (log : Log) (eras : Eras) → IsSoundCatalogue g.catalogue → IsPermitted g log → AreErasOf g log eras
     → ChangesExist g (history log) → KeepsUndeclared g.catalogue (history log)
 keeps_undeclared g log eras sound h are exist = record {
   alone = λ u t cu ct e ne. elim (same_or_not t.start.class 0) [

@@ -1,5 +1,5 @@
 -- What committed transactions change are items of the catalogue, and so the database that an attempt reads is one.
-use Rattle.sdd_lawful.proofs.All.{Act, All, AllByRecursion, Answer, Apply, Bases, Catalogue, Change, D, Database, Dated, Did, DmNo, Does, Fits, FitsStatement, Handed, HasRow, HasSoundData, Input, IsBased, IsChange, IsEntry, IsModule, IsPermitted, IsSound, IsWrite, Item, List, Log, Msg, PutsHeld, Rec, Records, Redeclared, RelNo, Row, Running, Sends, Setting, Site, SiteLog, Some, Submits, T, Ticked, Txn, U, Write, [], active, all_filtered, all_have, all_join, and_left, and_right, ap, append_assoc, applied, apply_of_head, arith, base_of, changes_in, changes_to, class_at, class_number, commit_act, commit_put_is, database_of, dated, dm_no, each_has, each_inserted, effect, effect_changes, entry_placed, eqb-true, first_row, first_rows, flat_map, fold, fragment_at, frags_asked, has_copy, head, head_of, head_put, held_by, home, home_fair, if_way, inl, inr, is_apply, is_at, item_cmp, item_cmp_exact, items_of, local_of, map, numbers_to, one_active, permitted_before, pipe, place_of_act, queue, range_with_len, recursion_from_All, refl, rows_make_database, rows_of, sends_of_act, setting_of, slice_get, snapshots, snapshots_at, start_at, start_of_active, subst, suc, sym, t_commit, tm_no, to_site, true, true_or_false, txn_at, u_commit, with_item, zero, ℕ, ℤ, ◌&&◌, ◌++◌, ◌+◌, ◌-◌, ◌==◌, ◌∙◌, ◌∷◌, ◌≡◌, ◌≤◌}
+use Rattle.sdd_lawful.proofs.All.{Act, All, AllByRecursion, Answer, Apply, Bases, Catalogue, Change, D, Database, Dated, Did, DmNo, Does, FitsStatement, FitsTxn, Handed, HasRow, HasSoundData, Input, IsBased, IsChange, IsEntry, IsModule, IsPermitted, IsSoundCatalogue, IsWrite, Item, List, Log, Msg, PutsHeld, Rec, Records, Redeclared, RelNo, Row, Running, Sends, Setting, Site, SiteLog, Some, Submits, T, Ticked, Txn, U, Write, [], active, all_filtered, all_have, all_join, and_left, and_right, ap, append_assoc, applied, apply_of_head, arith, base_of, changes_in, changes_to, class_at, class_number, commit_act, commit_put_is, database_of, dated, dm_no, each_has, each_inserted, effect, effect_changes, entry_placed, eqb-true, first_row, first_rows, flat_map, fold, fragment_at, frags_asked, has_copy, head, head_of, head_put, held_by, home, home_fair, if_way, inl, inr, is_apply, is_at, item_cmp, item_cmp_exact, items_of, local_of, map, numbers_to, one_active, permitted_before, pipe, place_of_act, queue, range_with_len, recursion_from_All, refl, rows_make_database, rows_of, sends_of_act, setting_of, slice_get, snapshots, snapshots_at, start_at, start_of_active, subst, suc, sym, t_commit, tm_no, to_site, true, true_or_false, txn_at, u_commit, with_item, zero, ℕ, ℤ, ◌&&◌, ◌++◌, ◌+◌, ◌-◌, ◌==◌, ◌∙◌, ◌∷◌, ◌≡◌, ◌≤◌}
 use Rattle.sdd_lawful.proofs.Classes.{at_home, home_setting}
 use Rattle.sdd_lawful.proofs.Commits.{text_of_head}
 use Rattle.sdd_invariants.specs.dm.Copies.{classes_of}
@@ -36,7 +36,7 @@ item_in rel key = (rel, key)
 abbrev entry_at : Item → Row → Item × Row
 entry_at item row = (item, row)
 
-entry_from : (cat : Catalogue) → IsSound cat → (f : ℕ) (c : Change) (e : Item × Row) → IsValid cat c → c.frag.0 ≡ f
+entry_from : (cat : Catalogue) → IsSoundCatalogue cat → (f : ℕ) (c : Change) (e : Item × Row) → IsValid cat c → c.frag.0 ≡ f
     → item_in (fragment_at cat f).rel.0 c.key ≡ e.0 → c.row ≡ Some e.1 → IsEntry cat e
 entry_from cat sound f c e v frag item row =
     let rel : (fragment_at cat f).rel.0 ≡ v.rel = ap (λ n. (fragment_at cat n).rel.0) (sym frag ∙ v.frag) ∙ entry_placed cat sound v.rel c.key v.there v.held in
@@ -44,7 +44,7 @@ entry_from cat sound f c e v frag item row =
     let here : IsEntry cat (entry_at (item_in v.rel c.key) e.1) = record { relation = v.there; row = has.0; key = has.1; key_held = v.held } in
     subst (λ i. IsEntry cat (entry_at i e.1)) (ap (λ r. item_in r c.key) (sym rel) ∙ item) here
 
-entries_left : (cat : Catalogue) → IsSound cat → (xs : Dated) → AllValidAt cat xs → (f : ℕ) → AllByRecursion (IsEntry cat) (items_of cat xs f)
+entries_left : (cat : Catalogue) → IsSoundCatalogue cat → (xs : Dated) → AllValidAt cat xs → (f : ℕ) → AllByRecursion (IsEntry cat) (items_of cat xs f)
 entries_left cat sound xs all f =
     all_have (IsEntry cat) (items_of cat xs f) (λ e h. let g = held_by cat f xs e h in
     entry_from cat sound f g.0.1 e (each_has (λ (x : ℕ × Change). IsValid cat x.1) xs g.0 all g.1.there) g.1.frag g.1.item g.1.row)
@@ -89,7 +89,7 @@ dated_valid s l first h =
 
 -- what an attempt reads at a module
 
-snapshots_valid : (s : Setting) → IsSound s.catalogue → (ts : ℕ) (l : SiteLog) → AllByRecursion (IsEntry s.catalogue) (database_of s.catalogue s.rows)
+snapshots_valid : (s : Setting) → IsSoundCatalogue s.catalogue → (ts : ℕ) (l : SiteLog) → AllByRecursion (IsEntry s.catalogue) (database_of s.catalogue s.rows)
     → AppliesValid s.catalogue l → AllByRecursion (IsEntry s.catalogue) (snapshots s ts l)
 snapshots_valid s sound ts [] first h = tt
 snapshots_valid s sound ts (Did (Records k (Answer txn attempt dm) sends) ∷ l) first h =
@@ -147,7 +147,7 @@ applies_valid g d log h valid c (Apply txn of dm ts) sends later before is a =
 applies_valid g d log h valid c r sends later before is a = cc
 
 -- at the modules from a on
-all_at_modules : (g : Input) (log : Log) (ts : ℕ) → IsSound g.catalogue → IsPermitted g log → AllBegin g → CommitsValid g log
+all_at_modules : (g : Input) (log : Log) (ts : ℕ) → IsSoundCatalogue g.catalogue → IsPermitted g log → AllBegin g → CommitsValid g log
     → (a n : ℕ) → 1 ≤ a → a + n ≤ suc g.catalogue.dms → AllByRecursion (IsEntry g.catalogue) (flat_map (snapshots_at g log ts) (range_with_len a n))
 all_at_modules g log ts sound h begin valid a zero lo hi = tt
 all_at_modules g log ts sound h begin valid a (suc n) lo hi =
@@ -156,7 +156,7 @@ all_at_modules g log ts sound h begin valid a (suc n) lo hi =
     (all_at_modules g log ts sound h begin valid (a + 1) n (omega arith) (omega arith))
 
 -- so the database that an attempt reads has entries of the catalogue alone
-pub base_valid : (g : Input) (log : Log) (ts : ℕ) → IsSound g.catalogue → IsPermitted g log → AllBegin g → CommitsValid g log
+pub base_valid : (g : Input) (log : Log) (ts : ℕ) → IsSoundCatalogue g.catalogue → IsPermitted g log → AllBegin g → CommitsValid g log
     → AllByRecursion (IsEntry g.catalogue) (base_of g log ts)
 base_valid g log ts sound h begin valid =
     put_together g.catalogue [] (flat_map (snapshots_at g log ts) (numbers_to g.catalogue.dms)) tt
@@ -198,7 +198,7 @@ base_is g U log act h s = u_commit g log act h
 base_is g (T t) log act h s = t_commit g t log act h
 base_is g (D d) log act h s = absurd s
 
-commit_valid : (g : Input) (rows : List (RelNo × Row)) (c : ℕ) (bases : Bases) (a : Running) (log : Log) → IsSound g.catalogue → HasSoundData g rows
+commit_valid : (g : Input) (rows : List (RelNo × Row)) (c : ℕ) (bases : Bases) (a : Running) (log : Log) → IsSoundCatalogue g.catalogue → HasSoundData g rows
     → IsPermitted g (Does (home g.catalogue c) (commit_act g.catalogue bases c a) ∷ log)
     → active (home_setting g c) c (at_home g c log) ≡ Some a → CommitsValid g log → AllValid g.catalogue (effect g.catalogue (bases a.ts) a.text).changes
 commit_valid g rows c bases a log sound fine h act valid =
@@ -207,14 +207,14 @@ commit_valid g rows c bases a log sound fine h act valid =
     let changes : (effect g.catalogue (bases a.ts) a.text).changes ≡ (effect g.catalogue (base_of g log a.ts) a.text).changes = based.3
     ∙ ap (λ (y : Running). (effect g.catalogue (base_of g log y.ts) y.text).changes) same in
     let text : txn_at g a.txn ≡ Some a.text = text_of_active g c log a h.1 act in
-    let fits = all_slice (Fits g.catalogue) g.txns (a.txn - 1) a.text (recursion_from_All (Fits g.catalogue) g.txns fine.txns_fit) text in
+    let fits = all_slice (FitsTxn g.catalogue) g.txns (a.txn - 1) a.text (recursion_from_All (FitsTxn g.catalogue) g.txns fine.txns_fit) text in
     let held = all_slice (λ (t : Txn). All PutsHeld t.statements) g.txns (a.txn - 1) a.text
     (recursion_from_All (λ (t : Txn). All PutsHeld t.statements) g.txns fine.txns_held) text in
     let entries = base_valid g log a.ts sound h.1 (all_begin g rows fine) valid in
     subst (AllValid g.catalogue) (sym changes)
     (effect_changes g.catalogue sound (base_of g log a.ts) entries a.text.statements [] [] (recursion_from_All (FitsStatement g.catalogue) a.text.statements fits.statements) (recursion_from_All PutsHeld a.text.statements held) tt)
 
-pub commits_valid : (g : Input) (rows : List (RelNo × Row)) (log : Log) → IsSound g.catalogue → HasSoundData g rows → IsPermitted g log → CommitsValid g log
+pub commits_valid : (g : Input) (rows : List (RelNo × Row)) (log : Log) → IsSoundCatalogue g.catalogue → HasSoundData g rows → IsPermitted g log → CommitsValid g log
 commits_valid g rows [] sound fine h c bases a [] before is act = cc
 commits_valid g rows [] sound fine h c bases a (x ∷ later) before is act = cc
 commits_valid g rows (e ∷ log) sound fine h c bases a [] before is act =

@@ -1,17 +1,17 @@
 -- What is given is sound; and the eras of a log.
 use Rattle.std.specs.Prelude.{ℕ, ◌≡◌, ◌≤◌, ◌∷◌, ◌++◌, List, [], length}
 use Rattle.std.specs.List.{All}
-use Rattle.sdd_invariants.specs.All.{AreSubmittedOnce, Catalogue, D, Fits, FitsStart, Input, IsEra, IsHeld, IsSound, Log, Mark, PutsHeld, RelNo, Row, Submit, TxnNo, dm_no, marks, nth_era, redeclares, rows_of, submits_in}
+use Rattle.sdd_invariants.specs.All.{AreSubmittedOnce, Catalogue, D, FitsStart, FitsTxn, Input, IsEra, IsHeld, IsSoundCatalogue, Log, Mark, PutsHeld, RelNo, Row, Submit, TxnNo, dm_no, marks, nth_era, redeclares, rows_of, submits_in}
 use Rattle.sdd_laws.specs.All.{AreEras, Eras, IsFrom1To, IsModule, catalogue_at}
 
 -- the catalogue is valid
 pub record IsSoundInput (g : Input) : Type 0 where
-  pub catalogue : IsSound g.catalogue
+  pub catalogue : IsSoundCatalogue g.catalogue
 
 -- every data module begins with these rows, which fit the catalogue, as the transactions do; and the rows and what the
 -- transactions put hold numbers of 64 bits
 pub record HasSoundData (g : Input) (rows : List (RelNo × Row)) : Type 0 where
-  pub txns_fit : All (Fits g.catalogue) g.txns
+  pub txns_fit : All (FitsTxn g.catalogue) g.txns
   pub txns_held : All (λ t. All PutsHeld t.statements) g.txns
   pub rows_fit : All (FitsStart g.catalogue) rows
   pub rows_held : All (λ r. All IsHeld r.1) rows

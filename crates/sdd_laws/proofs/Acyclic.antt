@@ -1,5 +1,5 @@
 -- A history that keeps the laws has no cycle of precedence.
-use Rattle.sdd_laws.proofs.All.{All, Catalogue, Committed, Eras, FitTogether, HasNoCycle, History, IsCommitted, IsDatabase, IsOrderable, IsSound, KeepsLaws, List, PutsHeld, RelNo, Row, Txn as Text, ap, base_of, by_use, database_of, eras_begun, event_at, is_some, orderly_in_eras}
+use Rattle.sdd_laws.proofs.All.{All, Catalogue, Committed, Eras, FitTogether, HasNoCycle, History, IsCommitted, IsDatabase, IsOrderable, IsSoundCatalogue, KeepsLaws, List, PutsHeld, RelNo, Row, Txn as Text, ap, base_of, by_use, database_of, eras_begun, event_at, is_some, orderly_in_eras}
 use Rattle.sdd_laws.proofs.NumberedStarts.{one_start}
 use Rattle.sdd_laws.proofs.Deeds.{deeds, are_starts, are_applies, are_alone, are_apart}
 use Rattle.sdd_laws.proofs.Fitting.{frags_of, catalogue_of, fits, meets}
@@ -8,7 +8,7 @@ use Rattle.sdd_laws.proofs.Recorded.{snapshots_make_databases}
 use Rattle.sdd_laws.proofs.Precedes.{no_cycle_of_deeds}
 
 -- where the databases of the snapshots are databases
-acyclic_by_bases : (cat : Catalogue) → IsSound cat → (eras : Eras) (rows : List (RelNo × Row)) (txns : List Text) (h : History)
+acyclic_by_bases : (cat : Catalogue) → IsSoundCatalogue cat → (eras : Eras) (rows : List (RelNo × Row)) (txns : List Text) (h : History)
     → FitTogether cat eras rows txns h → KeepsLaws cat eras rows txns h
     → ((t : Committed) → IsCommitted h t → IsDatabase cat (base_of cat rows h t.start)) → HasNoCycle cat h
 acyclic_by_bases cat sound eras rows txns h fit laws bases =
@@ -26,7 +26,7 @@ acyclic_by_bases cat sound eras rows txns h fit laws bases =
     (meets cat sound eras are rows txns h exist fit.txns_fit laws.starts laws.answers laws.applies laws.redeclares laws.conditions bases) in
     no_cycle_of_deeds cat h (λ t c. let s = laws.starts.submitted t.start c.started in (s.place, s.submitted)) orderly
 
-pub acyclic : (cat : Catalogue) → IsSound cat → (eras : Eras) (rows : List (RelNo × Row)) (txns : List Text) (h : History)
+pub acyclic : (cat : Catalogue) → IsSoundCatalogue cat → (eras : Eras) (rows : List (RelNo × Row)) (txns : List Text) (h : History)
     → IsDatabase cat (database_of cat rows) → All (λ (t : Text). All PutsHeld t.statements) txns
     → FitTogether cat eras rows txns h → KeepsLaws cat eras rows txns h → HasNoCycle cat h
 acyclic cat sound eras rows txns h first held fit laws =
@@ -34,7 +34,7 @@ acyclic cat sound eras rows txns h first held fit laws =
     (snapshots_make_databases cat sound eras fit.are_eras rows txns h fit.txns_fit held laws.starts laws.answers laws.applies first)
 
 -- so it has a serial order
-pub orderable : (cat : Catalogue) → IsSound cat → (eras : Eras) (rows : List (RelNo × Row)) (txns : List Text) (h : History)
+pub orderable : (cat : Catalogue) → IsSoundCatalogue cat → (eras : Eras) (rows : List (RelNo × Row)) (txns : List Text) (h : History)
     → IsDatabase cat (database_of cat rows) → All (λ (t : Text). All PutsHeld t.statements) txns
     → FitTogether cat eras rows txns h → KeepsLaws cat eras rows txns h → IsOrderable cat h
 orderable cat sound eras rows txns h first held fit laws =

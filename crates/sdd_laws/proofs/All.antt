@@ -31,7 +31,7 @@ pub use Rattle.sdd_lang.proofs.catalog.Members.{IsIn, at_in}
 pub use Rattle.sdd_lang.proofs.catalog.RoundTrip.{each_more}
 pub use Rattle.sdd_lang.proofs.catalog.Sound.{at_number, each_image, served_read, sound_fragments}
 pub use Rattle.sdd_lang.proofs.catalog.Validity.{no_faults, unbroken}
-pub use Rattle.sdd_lang.specs.All.{Catalogue, Change, Cond, Database, DmNo, Fits, FitsCondition, FitsRef, FitsStatement, FragNo, Fragment, FragmentPart, HasRow, IsChange, IsDatabase, IsEntry, IsHeld, IsRelation, IsSound, Item, Parts, PutsHeld, RelNo, Row, Ts, TxnNo, accounts, after_changes, after_reply, ascending, changed_by, class_for, class_no, contains, database_of, dm_no, effect, frag_no, fragment_at, fragment_from, fragment_of, fragment_rules, fragments_in, get_all, has_copy, item_cmp, item_of, lowest_copy, numbers_to, parts_of, read_set, reads_at, ref, rel, relation_names, rows_in_fragment, serial, set_to, time_at, tm_no, two, txn, txn_no, uses_of, write_set}
+pub use Rattle.sdd_lang.specs.All.{Catalogue, Change, Cond, Database, DmNo, FitsCondition, FitsRef, FitsStatement, FitsTxn, FragNo, Fragment, FragmentPart, HasRow, IsChange, IsDatabase, IsEntry, IsHeld, IsRelation, IsSoundCatalogue, Item, Parts, PutsHeld, RelNo, Row, Ts, TxnNo, accounts, after_changes, after_reply, ascending, changed_by, class_for, class_no, contains, database_of, dm_no, effect, frag_no, fragment_at, fragment_from, fragment_of, fragment_rules, fragments_in, get_all, has_copy, item_cmp, item_of, lowest_copy, numbers_to, parts_of, read_set, reads_at, ref, rel, relation_names, rows_in_fragment, serial, set_to, time_at, tm_no, two, txn, txn_no, uses_of, write_set}
 pub use Rattle.sdd_lang.specs.declared.effect.Effect.{Effect}
 pub use Rattle.sdd_lang.specs.declared.statement.Stmt.{Stmt}
 pub use Rattle.sdd_lang.specs.declared.statement.Stmt.TheVariants.{Put}
@@ -55,7 +55,7 @@ pub use Rattle.sdd_laws.specs.Recorded.{ArePieces, AreRecorded}
 pub use Rattle.sdd_laws.specs.Redeclares.{IsOfEarlierEra, KeepsEras}
 pub use Rattle.sdd_laws.specs.Rejections.{IsAgain, KeepsRejections}
 pub use Rattle.sdd_laws.specs.Replay.{AreAllApplied, IsReplyOf, run, texts_of}
-pub use Rattle.sdd_laws.specs.Replayed.{ChangesOf, Gives, HasValues, IsReplayed}
+pub use Rattle.sdd_laws.specs.Replayed.{ChangesOf, GivesResults, HasValues, IsReplayed}
 pub use Rattle.sdd_laws.specs.Snapshots.{answer_place, base_of, copy_at, first_rows, is_applied, items_of}
 pub use Rattle.sdd_laws.specs.Starts.{IsOfSubmit, KeepsStarts, is_start_of, starts_before}
 pub use Rattle.sdd_laws.specs.Undeclared.{KeepsUndeclared}

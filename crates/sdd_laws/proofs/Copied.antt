@@ -1,5 +1,5 @@
 -- In every catalogue a fragment has a copy, so that class 0 reads it somewhere.
-use Rattle.sdd_laws.proofs.All.{AllByRecursion, Catalogue, Contains, Contains-here, Contains-range, DmNo, Fragment, FragmentPart, IsSound, List, Parts, Some, [], arith, at_number, both_empty, dm_no, each_image, each_unfound, empty_of_map, eq-eqb, eqb-false, false, fragment_at, fragment_from, fragment_rules, has_copy, length, length-map, lowest_copy, map, no_faults, numbers_to, parts_of, passes_member, refl, relation_names, sound_fragments, subst, suc, sym, true, unbroken, zero, ℕ, ◌==◌, ◌∷◌, ◌≡◌, ◌≤◌}
+use Rattle.sdd_laws.proofs.All.{AllByRecursion, Catalogue, Contains, Contains-here, Contains-range, DmNo, Fragment, FragmentPart, IsSoundCatalogue, List, Parts, Some, [], arith, at_number, both_empty, dm_no, each_image, each_unfound, empty_of_map, eq-eqb, eqb-false, false, fragment_at, fragment_from, fragment_rules, has_copy, length, length-map, lowest_copy, map, no_faults, numbers_to, parts_of, passes_member, refl, relation_names, sound_fragments, subst, suc, sym, true, unbroken, zero, ℕ, ◌==◌, ◌∷◌, ◌≡◌, ◌≤◌}
 use Rattle.sdd_laws.proofs.Lists.{found_where_any}
 use Rattle.sdd_lang.specs.All.{IsPlaced}
 
@@ -20,7 +20,7 @@ some_copy_part parts before f e =
     above_zero zero h = absurd (h refl)
     above_zero (suc n) h = omega arith
 
-each_copied : (cat : Catalogue) → IsSound cat → AllByRecursion HasCopies cat.fragments
+each_copied : (cat : Catalogue) → IsSoundCatalogue cat → AllByRecursion HasCopies cat.fragments
 each_copied cat sound =
     let parts : Parts = parts_of cat in
     let none = no_faults parts sound.valid in
@@ -37,7 +37,7 @@ copy_in : (copies : List DmNo) → 1 ≤ length copies → (d : DmNo) × Contain
 copy_in [] l = absurd (omega arith)
 copy_in (d ∷ copies) l = (d, Contains-here d copies)
 
-pub some_copy : (cat : Catalogue) → IsSound cat → (f : ℕ) → 1 ≤ f → f ≤ length cat.fragments
+pub some_copy : (cat : Catalogue) → IsSoundCatalogue cat → (f : ℕ) → 1 ≤ f → f ≤ length cat.fragments
     → (d : ℕ) × (lowest_copy cat f ≡ Some d)
 some_copy cat sound f from to =
     let part = fragment_at cat f in

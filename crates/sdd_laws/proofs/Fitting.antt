@@ -1,9 +1,9 @@
 -- The transactions of an era fit its catalogue, and meet the read conditions of its table.
-use Rattle.sdd_laws.proofs.All.{All, All-contains, AllByRecursion, AppliedBefore, AreEras, Attempt, Catalogue, Change, ChangeExists, Commit, Committed, Cond, Contains, Declared, Effect, Entry, Eras, ExistsIn, Fits as TextFits, FragNo, Fragment, History, IsAnswered, IsCommitted, IsConditionOf, IsCovered, IsDatabase, IsEraOf, IsFragment, IsFragmentOf, IsOfSubmit, IsRecordAt, IsSeen, IsSound, IsTable, KeepsAnswers, KeepsApplies, KeepsConditions, KeepsEras, KeepsStarts, List, Meets, None, NumbersExist, Rec, RelNo, Row, Some, TouchesOne, Txn as Text, [], all_at, ap, arith, ascending, ascending_back, at_member, base_of, catalogue_at, changes, cond, conditions, contains, declared, eq-eqb, eqb-true, eras_begun, event_at, false, frag_no, fragments_in, has_copy, is_some, length, lie_in_write_set, map, member_passes, module_of, ne_eqb, numbers_back, of_era, option_map, or_left, or_right, p2_time, reads, reads_at, refl, same_Some, slice_get, slice_index_or, subst, sym, true, txn_no, undeclared_conditions, write_set, write_set_in_era, ℕ, ◌-◌, ◌<◌, ◌==◌, ◌↔◌, ◌∙◌, ◌∷◌, ◌≡◌}
+use Rattle.sdd_laws.proofs.All.{All, All-contains, AllByRecursion, AppliedBefore, AreEras, Attempt, Catalogue, Change, ChangeExists, Commit, Committed, Cond, Contains, Declared, Effect, Entry, Eras, ExistsIn, FitsTxn as TextFits, FragNo, Fragment, History, IsAnswered, IsCommitted, IsConditionOf, IsCovered, IsDatabase, IsEraOf, IsFragment, IsFragmentOf, IsOfSubmit, IsRecordAt, IsSeen, IsSoundCatalogue, IsTable, KeepsAnswers, KeepsApplies, KeepsConditions, KeepsEras, KeepsStarts, List, Meets, None, NumbersExist, Rec, RelNo, Row, Some, TouchesOne, Txn as Text, [], all_at, ap, arith, ascending, ascending_back, at_member, base_of, catalogue_at, changes, cond, conditions, contains, declared, eq-eqb, eqb-true, eras_begun, event_at, false, frag_no, fragments_in, has_copy, is_some, length, lie_in_write_set, map, member_passes, module_of, ne_eqb, numbers_back, of_era, option_map, or_left, or_right, p2_time, reads, reads_at, refl, same_Some, slice_get, slice_index_or, subst, sym, true, txn_no, undeclared_conditions, write_set, write_set_in_era, ℕ, ◌-◌, ◌<◌, ◌==◌, ◌↔◌, ◌∙◌, ◌∷◌, ◌≡◌}
 use Rattle.sdd_laws.proofs.Deeds.{Placed, deeds, are_starts}
 use Rattle.sdd_laws.proofs.InForce.{era_is}
 use Rattle.sdd_laws.proofs.Reading.{IsReadAt, class_covers, read_at_event, reads_there}
-use Rattle.sdd_acyclic.specs.Fits.{Fits}
+use Rattle.sdd_acyclic.specs.Fits.{FitsSystem}
 
 -- a number of a list is there when they ascend
 pub each_here : (xs zs : List ℕ) → ((n : ℕ) → contains xs n ≡ true → contains zs n ≡ true)
@@ -35,7 +35,7 @@ exists_at cat h exist k r s =
     let e = recorded_entry h k r s in
     subst (ExistsIn cat) e.2 (all_at (λ (x : ℕ × Rec). ExistsIn cat x.1) h k e.0 exist e.1)
 
-module _ (cat : Catalogue) (sound : IsSound cat) (eras : Eras) (are : AreEras cat eras) (rows : List (RelNo × Row)) (txns : List Text) (h : History)
+module _ (cat : Catalogue) (sound : IsSoundCatalogue cat) (eras : Eras) (are : AreEras cat eras) (rows : List (RelNo × Row)) (txns : List Text) (h : History)
     (exist : NumbersExist cat h) (fit : All (TextFits cat) txns)
     (starting : KeepsStarts cat eras txns h) (answering : KeepsAnswers cat rows txns h) (applying : KeepsApplies cat h) (kept : KeepsEras cat eras h)
     (meeting : KeepsConditions cat eras h)
@@ -107,7 +107,7 @@ module _ (cat : Catalogue) (sound : IsSound cat) (eras : Eras) (are : AreEras ca
           let to = there.1 in
           record { from = there.0; to = omega arith }
 
-      pub fits : Fits (catalogue_of n) (declared (of_era (deeds cat h) (λ p. eras_begun eras (event_at h p.submit)) n))
+      pub fits : FitsSystem (catalogue_of n) (declared (of_era (deeds cat h) (λ p. eras_begun eras (event_at h p.submit)) n))
       fits =
           record {
             class = λ x. (covered_there x).class;

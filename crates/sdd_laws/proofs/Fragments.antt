@@ -1,5 +1,5 @@
 -- A database that has the values has in a fragment what a copy does to which those are applied that change the fragment.
-use Rattle.sdd_laws.proofs.All.{ArePlaced, AreWriters, Catalogue, Change, ChangesOf, Contains, Database, Dated, Decides-eqb, HasValues, IsDatabase, IsSound, IsValue, Item, Ledger, List, Option, Row, Some, all_dated, ap, contents, entries_of, filtered_sorted, fragment_at, fragment_of, item_cmp, item_cmp_exact, item_cmp_total, row_at, rows_in_fragment, subst, sym, untouched, writers, written, ℕ, ℤ, ◌==◌, ◌∙◌, ◌≡◌}
+use Rattle.sdd_laws.proofs.All.{ArePlaced, AreWriters, Catalogue, Change, ChangesOf, Contains, Database, Dated, Decides-eqb, HasValues, IsDatabase, IsSoundCatalogue, IsValue, Item, Ledger, List, Option, Row, Some, all_dated, ap, contents, entries_of, filtered_sorted, fragment_at, fragment_of, item_cmp, item_cmp_exact, item_cmp_total, row_at, rows_in_fragment, subst, sym, untouched, writers, written, ℕ, ℤ, ◌==◌, ◌∙◌, ◌≡◌}
 use Rattle.sdd_laws.proofs.CopyEntries.{entries_ascend}
 use Rattle.sdd_laws.proofs.LookUps.{entry_at, at_entry, same_members}
 use Rattle.sdd_laws.proofs.Members.{Contains-map, Contains-from_map, Contains-filter, Contains-from_filter}
@@ -18,7 +18,7 @@ rel_is cat xs item row placed (written x l e) =
 abbrev entry : Catalogue → ℕ → ℤ × Row → Item × Row
 entry cat f e = (((fragment_at cat f).rel.0, e.0), e.1)
 
-module _ {T : Type 0} (cat : Catalogue) (sound : IsSound cat) (first : Database) (is : IsDatabase cat first)
+module _ {T : Type 0} (cat : Catalogue) (sound : IsSoundCatalogue cat) (first : Database) (is : IsDatabase cat first)
     (L : Ledger T) (commits : List T) (ok : AreWriters cat (writers L) commits) where
   abbrev pub Within : List T → Type 0
   Within txns = (t : T) → Contains txns t → Contains commits t

@@ -1,5 +1,5 @@
 -- A serial order of a history agrees with what its transactions did.
-use Rattle.sdd_laws.proofs.All.{All, AreEras, Catalogue, Change, Committed, Contains, Contains-cases, Contains-here, Contains-later, Contains-nil, Eras, Fits, History, IsCommitted, IsSerial, IsSound, KeepsAnswers, KeepsApplies, KeepsStarts, List, MayComeFirst, PutsHeld, Reads, RelNo, Row, Txn, TxnNo, [], and_of, ap, arith, both_write, cases_Bool, changes, committed, eqb-true, false, false≢true, fragments_in, from_committed, in_committed, inl, inr, is_earlier, is_overwritten, is_read_by, list_any, member_passes, misses, module_of, nat_lt, nat_tests, not, or_left, or_right, passes_member, precedes, reads_write, same_start, subst, sym, true, txn_no, was_seen, writes_read, ℕ, ◌&&◌, ◌==◌, ◌||◌, ◌∙◌, ◌∷◌, ◌≡◌, ◌≢◌}
+use Rattle.sdd_laws.proofs.All.{All, AreEras, Catalogue, Change, Committed, Contains, Contains-cases, Contains-here, Contains-later, Contains-nil, Eras, FitsTxn, History, IsCommitted, IsSerial, IsSoundCatalogue, KeepsAnswers, KeepsApplies, KeepsStarts, List, MayComeFirst, PutsHeld, Reads, RelNo, Row, Txn, TxnNo, [], and_of, ap, arith, both_write, cases_Bool, changes, committed, eqb-true, false, false≢true, fragments_in, from_committed, in_committed, inl, inr, is_earlier, is_overwritten, is_read_by, list_any, member_passes, misses, module_of, nat_lt, nat_tests, not, or_left, or_right, passes_member, precedes, reads_write, same_start, subst, sym, true, txn_no, was_seen, writes_read, ℕ, ◌&&◌, ◌==◌, ◌||◌, ◌∙◌, ◌∷◌, ◌≡◌, ◌≢◌}
 use Rattle.sdd_laws.proofs.NumberedStarts.{one_start}
 use Rattle.sdd_laws.proofs.Deeds.{same_txn}
 use Rattle.sdd_laws.proofs.Precedes.{changes_member}
@@ -124,8 +124,8 @@ module _ (h : History) where
             (r.0, Contains-later k rest (txn_no t.start.txn) r.1)
       ]
 
-module _ (cat : Catalogue) (sound : IsSound cat) (eras : Eras) (are : AreEras cat eras) (rows : List (RelNo × Row)) (txns : List Txn) (h : History)
-    (fit : All (Fits cat) txns) (held : All (λ (t : Txn). All PutsHeld t.statements) txns)
+module _ (cat : Catalogue) (sound : IsSoundCatalogue cat) (eras : Eras) (are : AreEras cat eras) (rows : List (RelNo × Row)) (txns : List Txn) (h : History)
+    (fit : All (FitsTxn cat) txns) (held : All (λ (t : Txn). All PutsHeld t.statements) txns)
     (starting : KeepsStarts cat eras txns h) (answering : KeepsAnswers cat rows txns h)
     (applying : KeepsApplies cat h)
   where

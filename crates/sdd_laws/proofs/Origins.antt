@@ -1,6 +1,6 @@
 -- Where the dated changes of copies come from; and so that each names its item's fragment, and those of one item with
 -- one date leave one row.
-use Rattle.sdd_laws.proofs.All.{All-contains, ArePlaced, AreWriters, Catalogue, Change, Contains, Contains-append_cases, Contains-append_left, Contains-append_right, Database, DatesDiffer, IsDatabase, IsEntry, IsPlaced, IsSound, Item, LeaveOneRow, List, Row, Some, Writers, all_dated, ap, arith, changes_of, dated, entry_placed, first_row, fragment_at, fragment_of, inl, inr, item_cmp, item_cmp_exact, item_cmp_total, item_of, map, subst, sym, ℕ, ◌∙◌, ◌≡◌}
+use Rattle.sdd_laws.proofs.All.{All-contains, ArePlaced, AreWriters, Catalogue, Change, Contains, Contains-append_cases, Contains-append_left, Contains-append_right, Database, DatesDiffer, IsDatabase, IsEntry, IsPlaced, IsSoundCatalogue, Item, LeaveOneRow, List, Row, Some, Writers, all_dated, ap, arith, changes_of, dated, entry_placed, first_row, fragment_at, fragment_of, inl, inr, item_cmp, item_cmp_exact, item_cmp_total, item_of, map, subst, sym, ℕ, ◌∙◌, ◌≡◌}
 use Rattle.sdd_laws.proofs.LookUps.{one_entry}
 use Rattle.sdd_laws.proofs.Members.{Contains-map, Contains-from_map, Contains-flat_map, Contains-from_flat_map}
 
@@ -8,7 +8,7 @@ item_is : (cat : Catalogue) (c d : Change) → c.frag.0 ≡ d.frag.0 → c.key �
 item_is cat c d f k = ap (λ n. ((fragment_at cat n).rel.0, c.key)) f ∙ ap (λ i. ((fragment_at cat d.frag.0).rel.0, i)) k
 
 -- an entry of a database lies in a fragment of its relation
-pub entry_lies : (cat : Catalogue) → IsSound cat → (db : Database) → IsDatabase cat db → (e : Item × Row)
+pub entry_lies : (cat : Catalogue) → IsSoundCatalogue cat → (db : Database) → IsDatabase cat db → (e : Item × Row)
     → Contains db e → (fragment_at cat (fragment_of cat e.0.0 e.0.1)).rel.0 ≡ e.0.0
 entry_lies cat sound db is e h =
     let entry : IsEntry cat e = All-contains (IsEntry cat) db e is.entries h in
@@ -46,7 +46,7 @@ module _ {T : Type 0} (cat : Catalogue) (first : Database) (w : Writers T) where
   more_origins few many x within (initial e h same) = initial e h same
   more_origins few many x within (made t h c k same) = made t (within t h) c k same
 
-  module _ (sound : IsSound cat) (is : IsDatabase cat first) where
+  module _ (sound : IsSoundCatalogue cat) (is : IsDatabase cat first) where
     pub first_item : (e : Item × Row) → Contains first e → item_of cat (first_row cat e).1 ≡ e.0
     first_item e h = ap (λ r. (r, e.0.1)) (entry_lies cat sound first is e h)
 

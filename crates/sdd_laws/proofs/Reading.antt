@@ -1,5 +1,5 @@
 -- Where attempts read: at modules that have copies of what they read.
-use Rattle.sdd_laws.proofs.All.{AreEras, Attempt, Catalogue, Eras, History, IsAttempt, IsClass, IsCovered, IsFragment, IsModule, IsOfSubmit, IsSound, IsThere, KeepsStarts, List, None, Option, Some, Txn, ap, arith, ascending_back, at_member, cases_lt, catalogue_at, contains, covered, event_at, fragments_in, has_copy, inl, inr, is_some, module_of, read_in_era, read_set, read_set_there, reads, reads_at, recursion_from_All, refl, served_read, subst, sym, true, unwrap_or, uses_in_era, uses_of, ℕ, ◌∙◌, ◌≡◌, ◌≤◌}
+use Rattle.sdd_laws.proofs.All.{AreEras, Attempt, Catalogue, Eras, History, IsAttempt, IsClass, IsCovered, IsFragment, IsModule, IsOfSubmit, IsSoundCatalogue, IsThere, KeepsStarts, List, None, Option, Some, Txn, ap, arith, ascending_back, at_member, cases_lt, catalogue_at, contains, covered, event_at, fragments_in, has_copy, inl, inr, is_some, module_of, read_in_era, read_set, read_set_there, reads, reads_at, recursion_from_All, refl, served_read, subst, sym, true, unwrap_or, uses_in_era, uses_of, ℕ, ◌∙◌, ◌≡◌, ◌≤◌}
 use Rattle.sdd_laws.proofs.Copied.{some_copy}
 use Rattle.sdd_laws.proofs.InForce.{era_is}
 
@@ -14,7 +14,7 @@ some_module : (o : Option ℕ) → is_some o ≡ true → o ≡ Some (unwrap_or 
 some_module None e = cc
 some_module (Some d) e = refl
 
-module _ (cat : Catalogue) (sound : IsSound cat) where
+module _ (cat : Catalogue) (sound : IsSoundCatalogue cat) where
   served : (class f : ℕ) → IsClass cat class → IsFragment cat f → is_some (reads_at cat class f) ≡ true
       → IsReadAt cat class f
   served class f c there e =

@@ -1,5 +1,5 @@
 -- What the laws say of the committed transactions' texts, results and snapshots, so far as replay needs it.
-use Rattle.sdd_laws.proofs.All.{All, All-ascending, All-contains, All-nil, Answer, AreEras, ArePieces, AreRecorded, Attempt, Bool, Catalogue, Committed, Contains, Contains-here, Contains-later, Eras, Fits, History, IsCommitted, IsDatabase, IsOfSubmit, IsRecordAt, IsSound, Item, KeepsAnswers, KeepsApplies, KeepsStarts, Ledger, List, PutsHeld, Reads, Rec, RelNo, Row, Txn as Text, [], all_at, answer_at, answer_passes, answer_place, any_from, ap, arith, ascending, base_of, by_use, cases_Bool, comes_before, committed, cond, contains, contents, database_of, dm_no, effect, facts, false, filter, first_rows, flat_map, fragments_in, from_committed, in_committed, inl, inr, is_answer, is_answered, is_applied, is_apply, items_of, list_any, module_of, not, or_cases, or_right, position_or_len, read_set, reads, refl, same_start, snapshot as snapshot_by, subst, suc, sym, take, tm_no, true, txn_at, txn_no, unwrap_or, was_seen, ℕ, ◌&&◌, ◌++◌, ◌+◌, ◌-◌, ◌<◌, ◌||◌, ◌∙◌, ◌∷◌, ◌≡◌}
+use Rattle.sdd_laws.proofs.All.{All, All-ascending, All-contains, All-nil, Answer, AreEras, ArePieces, AreRecorded, Attempt, Bool, Catalogue, Committed, Contains, Contains-here, Contains-later, Eras, FitsTxn, History, IsCommitted, IsDatabase, IsOfSubmit, IsRecordAt, IsSoundCatalogue, Item, KeepsAnswers, KeepsApplies, KeepsStarts, Ledger, List, PutsHeld, Reads, Rec, RelNo, Row, Txn as Text, [], all_at, answer_at, answer_passes, answer_place, any_from, ap, arith, ascending, base_of, by_use, cases_Bool, comes_before, committed, cond, contains, contents, database_of, dm_no, effect, facts, false, filter, first_rows, flat_map, fragments_in, from_committed, in_committed, inl, inr, is_answer, is_answered, is_applied, is_apply, items_of, list_any, module_of, not, or_cases, or_right, position_or_len, read_set, reads, refl, same_start, snapshot as snapshot_by, subst, suc, sym, take, tm_no, true, txn_at, txn_no, unwrap_or, was_seen, ℕ, ◌&&◌, ◌++◌, ◌+◌, ◌-◌, ◌<◌, ◌||◌, ◌∙◌, ◌∷◌, ◌≡◌}
 use Rattle.sdd_laws.proofs.Members.{Contains-flat_map, Contains-from_flat_map}
 use Rattle.sdd_laws.proofs.Snapshots.{bases_are}
 use Rattle.sdd_laws.proofs.NumberedStarts.{one_start}
@@ -104,8 +104,8 @@ from_ascending xs n m =
     All-contains (λ k. contains xs k ≡ true) (ascending xs) n
     (All-ascending (λ k. contains xs k ≡ true) [] xs (All-nil (λ k. contains xs k ≡ true)) (each_here xs xs (λ k c. c))) m
 
-module _ (cat : Catalogue) (sound : IsSound cat) (eras : Eras) (are : AreEras cat eras) (rows : List (RelNo × Row)) (txns : List Text) (h : History)
-    (fit : All (Fits cat) txns) (held : All (λ (t : Text). All PutsHeld t.statements) txns)
+module _ (cat : Catalogue) (sound : IsSoundCatalogue cat) (eras : Eras) (are : AreEras cat eras) (rows : List (RelNo × Row)) (txns : List Text) (h : History)
+    (fit : All (FitsTxn cat) txns) (held : All (λ (t : Text). All PutsHeld t.statements) txns)
     (starting : KeepsStarts cat eras txns h) (answering : KeepsAnswers cat rows txns h) (applying : KeepsApplies cat h)
   where
     pub is_committed : (t : Committed) → Contains (committed h) t → IsCommitted h t
@@ -221,7 +221,7 @@ module _ (cat : Catalogue) (sound : IsSound cat) (eras : Eras) (are : AreEras ca
     pub are_recorded : AreRecorded cat (database_of cat rows) (ledger cat txns h) (committed h)
     are_recorded =
         record {
-          fits = λ t m. text_there (Fits cat) fit t (is_committed t m);
+          fits = λ t m. text_there (FitsTxn cat) fit t (is_committed t m);
           puts_held = λ t m. text_there (λ (z : Text). All PutsHeld z.statements) held t (is_committed t m);
           time = λ t m. starting.time t.start (is_committed t m).started;
           one_time = λ t u m n e. one_result t u (is_committed t m) (is_committed u n) e;

@@ -1,13 +1,13 @@
 -- The serial run along a serial order gives the replies of the Commits, and leaves what the copies hold.
-use Rattle.sdd_laws.proofs.All.{All, AllZip, AreAllApplied, AreEras, Catalogue, Committed, Contains-here, Eras, Fits, History, IsCommitted, IsDatabase, IsOfSubmit, IsReplayed, IsReplyOf, IsSerial, IsSound, KeepsAnswers, KeepsApplies, KeepsStarts, Ledger, List, PutsHeld, RelNo, Row, Some, Txn, TxnNo, [], ap, changes, committed, cons_option, copy_at, database_of, from_committed, is_applied, items_of, map, refl, rows_in_fragment, run, serial, subst, sym, texts_of, true, txn_at, ℕ, ◌∙◌, ◌∷◌, ◌≡◌}
+use Rattle.sdd_laws.proofs.All.{All, AllZip, AreAllApplied, AreEras, Catalogue, Committed, Contains-here, Eras, FitsTxn, History, IsCommitted, IsDatabase, IsOfSubmit, IsReplayed, IsReplyOf, IsSerial, IsSoundCatalogue, KeepsAnswers, KeepsApplies, KeepsStarts, Ledger, List, PutsHeld, RelNo, Row, Some, Txn, TxnNo, [], ap, changes, committed, cons_option, copy_at, database_of, from_committed, is_applied, items_of, map, refl, rows_in_fragment, run, serial, subst, sym, texts_of, true, txn_at, ℕ, ◌∙◌, ◌∷◌, ◌≡◌}
 use Rattle.sdd_laws.proofs.Run.{replayed}
 use Rattle.sdd_laws.proofs.Applied.{before_applied}
 use Rattle.sdd_laws.proofs.Orders.{OfEach, rest_of, listed, agrees}
 use Rattle.sdd_laws.proofs.Precedes.{changes_member}
 use Rattle.sdd_laws.proofs.Recorded.{ledger, text_is, are_recorded}
 
-module _ (cat : Catalogue) (sound : IsSound cat) (eras : Eras) (are : AreEras cat eras) (rows : List (RelNo × Row)) (txns : List Txn) (h : History)
-    (fit : All (Fits cat) txns) (held : All (λ (t : Txn). All PutsHeld t.statements) txns)
+module _ (cat : Catalogue) (sound : IsSoundCatalogue cat) (eras : Eras) (are : AreEras cat eras) (rows : List (RelNo × Row)) (txns : List Txn) (h : History)
+    (fit : All (FitsTxn cat) txns) (held : All (λ (t : Txn). All PutsHeld t.statements) txns)
     (starting : KeepsStarts cat eras txns h) (answering : KeepsAnswers cat rows txns h)
     (applying : KeepsApplies cat h)
   where

@@ -1,5 +1,5 @@
 -- The serial run along an order: each transaction gives the result of its Commit, and what is left has the values.
-use Rattle.sdd_laws.proofs.All.{All-from_recursion, AreRecorded, Catalogue, ChangesOf, Contains, Contains-cases, Contains-here, Contains-later, Contains-nil, Database, Effect, Gives, HasValues, IsAlong, IsDatabase, IsOrder, IsReplayed, IsSound, Ledger, List, MayComeFirst, ReadWrite, Reads, WriteRead, [], after_changes, after_reply, ap, effect, false≢true, filter, gathered, inl, inr, map, not, read_set, read_set_decides, reads_write, refl, rows_in_fragment, serial, stays_database, subst, sym, true, writers, writes_read, ℕ, ◌∙◌, ◌∷◌, ◌≡◌, ◌⊎◌}
+use Rattle.sdd_laws.proofs.All.{All-from_recursion, AreRecorded, Catalogue, ChangesOf, Contains, Contains-cases, Contains-here, Contains-later, Contains-nil, Database, Effect, GivesResults, HasValues, IsAlong, IsDatabase, IsOrder, IsReplayed, IsSoundCatalogue, Ledger, List, MayComeFirst, ReadWrite, Reads, WriteRead, [], after_changes, after_reply, ap, effect, false≢true, filter, gathered, inl, inr, map, not, read_set, read_set_decides, reads_write, refl, rows_in_fragment, serial, stays_database, subst, sym, true, writers, writes_read, ℕ, ◌∙◌, ◌∷◌, ◌≡◌, ◌⊎◌}
 use Rattle.sdd_laws.proofs.Members.{all_have, Contains-filter, Contains-from_filter}
 use Rattle.sdd_laws.proofs.Origins.{origin, from_origin, more_origins}
 use Rattle.sdd_laws.proofs.Values.{same_value}
@@ -15,7 +15,7 @@ after_all cat L db [] = db
 after_all cat L db (x ∷ rest) = after_all cat L (after_changes cat db (changes L x)) rest
 
 -- where each gives the result of its Commit, the serial run gives their replies
-serial_gives : {T : Type 0} (cat : Catalogue) (L : Ledger T) (order : List T) (db : Database) → Gives cat L db order
+serial_gives : {T : Type 0} (cat : Catalogue) (L : Ledger T) (order : List T) (db : Database) → GivesResults cat L db order
     → serial cat db (map (λ x. L.text x) order) ≡ (map (λ x. (L.result x).reply) order, after_all cat L db order)
 serial_gives cat L [] db g = refl
 serial_gives cat L (x ∷ rest) db g =
@@ -23,7 +23,7 @@ serial_gives cat L (x ∷ rest) db g =
     g.0
     ∙ ap (after_reply (L.result x).reply) (serial_gives cat L rest (after_changes cat db (changes L x)) g.1)
 
-module _ {T : Type 0} (cat : Catalogue) (sound : IsSound cat) (first : Database) (first_is : IsDatabase cat first)
+module _ {T : Type 0} (cat : Catalogue) (sound : IsSoundCatalogue cat) (first : Database) (first_is : IsDatabase cat first)
     (L : Ledger T) (commits : List T) (told : AreRecorded cat first L commits) where
   -- what is known where some are done and the others left
   record Stage (done rest : List T) : Type 0 where
@@ -125,7 +125,7 @@ module _ {T : Type 0} (cat : Catalogue) (sound : IsSound cat) (first : Database)
       }
 
   run_from : (rest done : List T) (db : Database) → Stage done rest → HasValues cat first L done db
-      → Gives cat L db rest × HasValues cat first L commits (after_all cat L db rest)
+      → GivesResults cat L db rest × HasValues cat first L commits (after_all cat L db rest)
   run_from [] done db st has = (tt, all_done done db st has)
   run_from (x ∷ rest) done db st has =
       let there : Contains commits x = st.of_rest x (Contains-here x rest) in

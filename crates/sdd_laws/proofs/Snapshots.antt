@@ -1,5 +1,5 @@
 -- The databases of the snapshots are databases, and have in each fragment that is read what its copy has.
-use Rattle.sdd_laws.proofs.All.{All-contains, AreRecorded, AreWriters, Catalogue, Change, Contains, Contains-here, Contains-later, Database, Dated, Effect, HasRow, IsChange, IsDatabase, IsEntry, IsPlaced, IsSound, Item, Ledger, List, Reads, Row, Some, [], all_dated, ap, arith, change_is, contents, effect_once, effect_placed, entries_of, entry_placed, filter, fold, fragment_at, fragment_of, gathered, item_of, no_database, refl, rows_in_fragment, snapshot, subst, suc, sym, true, with_item, with_row_stays, writers, zero, ℕ, ℤ, ◌<◌, ◌∙◌, ◌∷◌, ◌≡◌}
+use Rattle.sdd_laws.proofs.All.{All-contains, AreRecorded, AreWriters, Catalogue, Change, Contains, Contains-here, Contains-later, Database, Dated, Effect, HasRow, IsChange, IsDatabase, IsEntry, IsPlaced, IsSoundCatalogue, Item, Ledger, List, Reads, Row, Some, [], all_dated, ap, arith, change_is, contents, effect_once, effect_placed, entries_of, entry_placed, filter, fold, fragment_at, fragment_of, gathered, item_of, no_database, refl, rows_in_fragment, snapshot, subst, suc, sym, true, with_item, with_row_stays, writers, zero, ℕ, ℤ, ◌<◌, ◌∙◌, ◌∷◌, ◌≡◌}
 use Rattle.sdd_laws.proofs.CopyEntries.{IsHeldBy, held_by, lies_there, entries_ascend}
 use Rattle.sdd_laws.proofs.Together.{has_copy}
 use Rattle.sdd_laws.proofs.Members.{is_in, Contains-from_filter}
@@ -22,7 +22,7 @@ entry_with cat rel key row e p q h =
     let same : ◌≡◌ {A = Item × Row} ((rel, key), row) e = ap (λ i. (i, row)) p ∙ ap (λ r. (e.0, r)) q in
     subst (IsEntry cat) same h
 
-module _ {T : Type 0} (cat : Catalogue) (sound : IsSound cat) (first : Database) (first_is : IsDatabase cat first)
+module _ {T : Type 0} (cat : Catalogue) (sound : IsSoundCatalogue cat) (first : Database) (first_is : IsDatabase cat first)
     (L : Ledger T) (commits : List T) (told : AreRecorded cat first L commits) where
   abbrev ChangesAre : T → Type 0
   ChangesAre x = (c : Change) → Contains (changes L x) c → IsChange cat ((c.frag.0, c.key), c.row)

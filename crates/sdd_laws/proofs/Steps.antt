@@ -1,5 +1,5 @@
 -- The values of the items before the first transaction, and with one more.
-use Rattle.sdd_laws.proofs.All.{AreWriters, Catalogue, Change, Contains, Contains-cases, Contains-here, Contains-later, Contains-nil, Database, HasValues, IsDatabase, IsSound, IsValue, Item, Ledger, List, MayComeFirst, None, Option, Row, Some, Writes, [], after_changes, all_dated, ap, arith, both_write, first_row, fragment_of, inl, inr, item_cmp, item_cmp_exact, item_cmp_total, item_of, nat_lt, nat_tests, refl, row_at, subst, sym, time_at, true, untouched, writers, written, ℕ, ◌<◌, ◌∙◌, ◌∷◌, ◌≡◌, ◌≤◌, ◌⊎◌}
+use Rattle.sdd_laws.proofs.All.{AreWriters, Catalogue, Change, Contains, Contains-cases, Contains-here, Contains-later, Contains-nil, Database, HasValues, IsDatabase, IsSoundCatalogue, IsValue, Item, Ledger, List, MayComeFirst, None, Option, Row, Some, Writes, [], after_changes, all_dated, ap, arith, both_write, first_row, fragment_of, inl, inr, item_cmp, item_cmp_exact, item_cmp_total, item_of, nat_lt, nat_tests, refl, row_at, subst, sym, time_at, true, untouched, writers, written, ℕ, ◌<◌, ◌∙◌, ◌∷◌, ◌≡◌, ◌≤◌, ◌⊎◌}
 use Rattle.sdd_laws.proofs.LookUps.{entry_at, at_entry}
 use Rattle.sdd_laws.proofs.Origins.{Origin, origin, from_origin, first_item, more_origins}
 use Rattle.sdd_laws.proofs.Origins.Origin.{initial, made}
@@ -16,7 +16,7 @@ written_in_order cat L x y c d may h k e =
     may (Writes (time_at (L.ts x)) (time_at (L.ts y))) (both_write c d h k e) in
     grind (arith, nat_tests)
 
-module _ {T : Type 0} (cat : Catalogue) (sound : IsSound cat) (first : Database) (is : IsDatabase cat first) (L : Ledger T) where
+module _ {T : Type 0} (cat : Catalogue) (sound : IsSoundCatalogue cat) (first : Database) (is : IsDatabase cat first) (L : Ledger T) where
   abbrev all_of : List T → List (ℕ × Change)
   all_of txns = all_dated cat first (writers L) txns
 

@@ -34,7 +34,7 @@ pub use Rattle.sdd_laws.specs.base.declared.value.Value.{Value}
 pub use Rattle.sdd_laws.specs.base.declared.value.Value.TheVariants.{Int}
 pub use Rattle.sdd_laws.specs.catalog.Catalogue.{Catalogue, class_at, fragment_at, fragment_of, has_copy, key_column, numbers_to, reads_at}
 pub use Rattle.sdd_laws.specs.catalog.Names.{Text}
-pub use Rattle.sdd_laws.specs.catalog.Rules.{IsSound, is_from_1_to}
+pub use Rattle.sdd_laws.specs.catalog.Rules.{IsSoundCatalogue, is_from_1_to}
 pub use Rattle.sdd_laws.specs.catalog.declared.resolved.Class.{Class}
 pub use Rattle.sdd_laws.specs.catalog.declared.resolved.Column.{Column}
 pub use Rattle.sdd_laws.specs.catalog.declared.resolved.Fragment.{Fragment}
@@ -55,7 +55,7 @@ pub use Rattle.sdd_laws.specs.lang.Condition.{Tuple, meets_all, part_of, value_a
 pub use Rattle.sdd_laws.specs.lang.Database.{Database, Item, Row, item_cmp}
 pub use Rattle.sdd_laws.specs.lang.Effect.{effect}
 pub use Rattle.sdd_laws.specs.lang.Examples.{accounts, ref, rel, two, txn}
-pub use Rattle.sdd_laws.specs.lang.Fits.{Fits, FitsCondition, FitsRef, FitsStart, FitsStatement, IsRelation, rel_of}
+pub use Rattle.sdd_laws.specs.lang.Fits.{FitsCondition, FitsRef, FitsStart, FitsStatement, FitsTxn, IsRelation, rel_of}
 pub use Rattle.sdd_laws.specs.lang.Query.{product}
 pub use Rattle.sdd_laws.specs.lang.Sound.{IsDatabase, IsEntry}
 pub use Rattle.sdd_laws.specs.lang.Source.{effect_over, uses_in}

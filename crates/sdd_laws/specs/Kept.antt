@@ -1,7 +1,7 @@
 -- Histories that keep the laws.
 use Rattle.std.specs.Prelude.{List, length}
 use Rattle.std.specs.List.{All}
-use Rattle.sdd_lang.specs.All.{Catalogue, Fits, FitsStart, RelNo, Row}
+use Rattle.sdd_lang.specs.All.{Catalogue, FitsStart, FitsTxn, RelNo, Row}
 use Rattle.sdd_history.specs.Records.{History}
 use Rattle.sdd_lang.specs.declared.transaction.Txn.{Txn}
 use Rattle.sdd_laws.specs.Answers.{KeepsAnswers}
@@ -18,7 +18,7 @@ use Rattle.sdd_laws.specs.Undeclared.{KeepsUndeclared}
 pub record FitTogether (cat : Catalogue) (eras : Eras) (rows : List (RelNo × Row)) (txns : List Txn) (h : History) : Type 0 where
   pub are_eras : AreEras cat eras
   pub rows_fit : All (FitsStart cat) rows
-  pub txns_fit : All (Fits cat) txns
+  pub txns_fit : All (FitsTxn cat) txns
   pub numbers_exist : NumbersExist cat h
   pub txns_exist : TxnsExist (length txns) h
 

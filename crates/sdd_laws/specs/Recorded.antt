@@ -1,7 +1,7 @@
 -- What the laws of a history say of its committed transactions, as far as replay needs it.
 use Rattle.std.specs.Prelude.{ℕ, ◌<◌, ◌≤◌, ◌≡◌, true, false, List, Contains}
 use Rattle.std.specs.List.{All}
-use Rattle.sdd_lang.specs.All.{Catalogue, Database, Fits, Item, PutsHeld, Row, effect}
+use Rattle.sdd_lang.specs.All.{Catalogue, Database, FitsTxn, Item, PutsHeld, Row, effect}
 use Rattle.sdd_laws.specs.Ledger.{Ledger, Reads, snapshot, gathered}
 
 -- the entries of which the database of each transaction's snapshots is put together: they are those of the copies of the
@@ -14,7 +14,7 @@ pub record ArePieces {T : Type 0} (cat : Catalogue) (first : Database) (L : Ledg
 
 -- Every module began with the rows of the database `first`.
 pub record AreRecorded {T : Type 0} (cat : Catalogue) (first : Database) (L : Ledger T) (commits : List T) : Type 0 where
-  pub fits : (x : T) → Contains commits x → Fits cat (L.text x)
+  pub fits : (x : T) → Contains commits x → FitsTxn cat (L.text x)
   pub puts_held : (x : T) → Contains commits x → All PutsHeld (L.text x).statements
   -- timestamps are above 0, and two with one timestamp are one
   pub time : (x : T) → Contains commits x → 1 ≤ L.ts x

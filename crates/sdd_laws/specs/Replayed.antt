@@ -6,9 +6,9 @@ use Rattle.sdd_laws.specs.Values.{IsValue, row_at}
 use Rattle.sdd_laws.specs.Ledger.{Ledger, changes, writers}
 
 -- run on this database, each has the reply and the changes of its Commit
-abbrev pub Gives : {T : Type 0} → Catalogue → Ledger T → Database → List T → Type 0
-Gives cat L db [] = Unit {0}
-Gives cat L db (x ∷ rest) = (effect cat db (L.text x) ≡ L.result x) × Gives cat L (after_changes cat db (changes L x)) rest
+abbrev pub GivesResults : {T : Type 0} → Catalogue → Ledger T → Database → List T → Type 0
+GivesResults cat L db [] = Unit {0}
+GivesResults cat L db (x ∷ rest) = (effect cat db (L.text x) ≡ L.result x) × GivesResults cat L (after_changes cat db (changes L x)) rest
 
 -- a database in which each item has its value by the first rows and the changes of these transactions
 pub record HasValues {T : Type 0} (cat : Catalogue) (first : Database) (L : Ledger T) (txns : List T) (db : Database) : Type 0 where
@@ -25,7 +25,7 @@ ChangesOf L x f = (c : Change) × Contains (changes L x) c × (c.frag.0 ≡ f)
 
 -- The serial run along an order gives what the Commits record, and leaves what the copies hold.
 pub record IsReplayed {T : Type 0} (cat : Catalogue) (first : Database) (L : Ledger T) (commits order : List T) : Type 0 where
-  pub gives : Gives cat L first order
+  pub gives : GivesResults cat L first order
   pub replies : (run cat first L order).0 ≡ map (λ x. (L.result x).reply) order
   pub leaves : HasValues cat first L commits (run cat first L order).1
   -- a copy at which all that change its fragment are applied has the rows that are left

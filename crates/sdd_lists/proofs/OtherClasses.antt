@@ -1,5 +1,5 @@
 -- Catalogues that differ from a given one in their classes alone, with lists of classes that may still be added.
-use Rattle.sdd_lists.proofs.All.{AllByRecursion, AreValidLists, Bool, Catalogue, Class, ClassPart, Fits, Fragment, IsValidClass, List, MAX_CLASSES, Text, Txn, [], all_before, ap, append_assoc, arith, bytes_eq, class_of, class_part, drop, emptied, eras, false, further_faults, has_name, if_false, joined, length, length-append, length-map, list_any, map, map-append, map-map, or_false, part_names, parts_of, recursion_from_All, refl, repeats, slice_index_or, subst, suc, sym, take, take-append-drop, whole, zero, ℕ, ◌++◌, ◌+◌, ◌∙◌, ◌∷◌, ◌≡◌, ◌≤◌}
+use Rattle.sdd_lists.proofs.All.{AllByRecursion, AreValidLists, Bool, Catalogue, Class, ClassPart, FitsTxn, Fragment, IsValidClass, List, MAX_CLASSES, Text, Txn, [], all_before, ap, append_assoc, arith, bytes_eq, class_of, class_part, drop, emptied, eras, false, further_faults, has_name, if_false, joined, length, length-append, length-map, list_any, map, map-append, map-map, or_false, part_names, parts_of, recursion_from_All, refl, repeats, slice_index_or, subst, suc, sym, take, take-append-drop, whole, zero, ℕ, ◌++◌, ◌+◌, ◌∙◌, ◌∷◌, ◌≡◌, ◌≤◌}
 use Rattle.sdd_lists.proofs.Rules.{classes_fine}
 
 -- the catalogue with other classes
@@ -120,14 +120,14 @@ era_over cat own (classes ∷ lists) (suc n) = era_over cat ((map emptied (take 
 
 -- so what fits the one fits the other
 
-abbrev fits_over : (cat : Catalogue) (own : List Class) (txn : Txn) → Fits cat txn → Fits (over cat own) txn
+abbrev fits_over : (cat : Catalogue) (own : List Class) (txn : Txn) → FitsTxn cat txn → FitsTxn (over cat own) txn
 fits_over cat own txn fits = record { module_is_there = fits.module_is_there; few = fits.few; statements = fits.statements }
 
-pub fits_by : (cat other : Catalogue) (txn : Txn) → other ≡ over cat other.classes → Fits cat txn → Fits other txn
-fits_by cat other txn is fits = subst (λ (c : Catalogue). Fits c txn) (sym is) (fits_over cat other.classes txn fits)
+pub fits_by : (cat other : Catalogue) (txn : Txn) → other ≡ over cat other.classes → FitsTxn cat txn → FitsTxn other txn
+fits_by cat other txn is fits = subst (λ (c : Catalogue). FitsTxn c txn) (sym is) (fits_over cat other.classes txn fits)
 
-pub fits_whole : (cat : Catalogue) (lists : List (List Class)) (txn : Txn) → Fits cat txn → Fits (whole cat lists) txn
+pub fits_whole : (cat : Catalogue) (lists : List (List Class)) (txn : Txn) → FitsTxn cat txn → FitsTxn (whole cat lists) txn
 fits_whole cat lists txn fits = fits_by cat (whole cat lists) txn (whole_over cat cat.classes lists) fits
 
-pub fits_era : (cat : Catalogue) (lists : List (List Class)) (n : ℕ) (txn : Txn) → Fits cat txn → Fits (slice_index_or (eras cat lists) n cat) txn
+pub fits_era : (cat : Catalogue) (lists : List (List Class)) (n : ℕ) (txn : Txn) → FitsTxn cat txn → FitsTxn (slice_index_or (eras cat lists) n cat) txn
 fits_era cat lists n txn fits = fits_by cat (slice_index_or (eras cat lists) n cat) txn (era_over cat cat.classes lists n) fits

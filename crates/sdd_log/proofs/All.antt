@@ -11,7 +11,7 @@ pub use Rattle.sdd_log.specs.Lawful.{EndsByLimit, IsLawful, IsTheLog, IsWithin, 
 pub use Rattle.sdd_log.specs.Locals.{beginning, local_of, nth_era, redeclares, setting_of, txn_at, with_era, with_submit}
 pub use Rattle.sdd_log.specs.Marks.{after_mark, from_event, greatest_bound, left, mark_from, mark_of, next_mark}
 pub use Rattle.sdd_log.specs.Permitted.{AreSubmittedOnce, IsAllowed, IsDueAt, IsPermitted, by_event, by_link, by_mark, by_redeclare, by_round, by_site, is_new_mark, one_if, submits_by, submits_in, was_marked}
-pub use Rattle.sdd_log.specs.Resting.{AllHanded, AllLinked, AtEach, EndsIn, IsFirst, IsLinkOf, IsMarked, Remain, Rests, Takes, TakesRounds, Waits, from_one, settles_before}
+pub use Rattle.sdd_log.specs.Resting.{AllHanded, AllLinked, AtEach, EndsIn, IsFirst, IsLinkOf, IsMarked, Remain, Rests, TakesAway, TakesRounds, Waits, from_one, settles_before}
 pub use Rattle.sdd_log.specs.Snapshots.{base_of}
 pub use Rattle.sdd_log.specs.Spelled.{call_as, delivered_as, link_as, packet_as, way_as}
 pub use Rattle.sdd_log.specs.Traffic.{all_links, calls_of, handed, is_down, link_of, message_at, puts, sent, takes_part}

@@ -1,5 +1,5 @@
 -- Messages that are to be handed over, one after the other, each with all that it makes due at its site.
-use Rattle.sdd_log.proofs.All.{Act, AllHanded, AreDue, Call, Hand, Handed, Input, IsFirst, IsLawful, List, Log, Msg, None, Puts, Remain, Site, Some, Takes, U, Waits, [], and_left, and_right, ap, arith, base_of, calls_of, delivered, false, hand_due, handed, length, link, link_of, link_parts, local_of, mark_due, message_at, next, next_in, puts, puts_past, refl, same_here, same_is, same_site, sends_of, sent, slice_get, subst, suc, sym, takes_part, true, ℕ, ◌&&◌, ◌+◌, ◌-◌, ◌∙◌, ◌∷◌, ◌≡◌}
+use Rattle.sdd_log.proofs.All.{Act, AllHanded, AreDue, Call, Hand, Handed, Input, IsFirst, IsLawful, List, Log, Msg, None, Puts, Remain, Site, Some, TakesAway, U, Waits, [], and_left, and_right, ap, arith, base_of, calls_of, delivered, false, hand_due, handed, length, link, link_of, link_parts, local_of, mark_due, message_at, next, next_in, puts, puts_past, refl, same_here, same_is, same_site, sends_of, sent, slice_get, subst, suc, sym, takes_part, true, ℕ, ◌&&◌, ◌+◌, ◌-◌, ◌∙◌, ◌∷◌, ◌≡◌}
 use Rattle.sdd_log.proofs.Steps.{after_acts, hand_and_acts}
 use Rattle.sdd_log.proofs.Acts.{calls_acts, handed_acts, takes_part_acts, within_acts}
 use Rattle.sdd_log.proofs.FirstHand.{IsDone, each_weaker, hand_is_due, listed}
@@ -94,7 +94,7 @@ module _ (g : Input) (log : Log) (b : Site) (kept : Site → List Msg) (w : Wait
   pub first_next : next g log ≡ Some (Hand a b (suc (handed a b log)) m)
   first_next = rw (w.no_mark, w.no_site, first_due) refl
 
-  left_of : (less : Site → List Msg) → Takes kept less a rest → (x : Site) → Remain (Hand a b (suc (handed a b log)) m ∷ log) x b (less x)
+  left_of : (less : Site → List Msg) → TakesAway kept less a rest → (x : Site) → Remain (Hand a b (suc (handed a b log)) m ∷ log) x b (less x)
   left_of less t x =
       elim (same_site x a) as (λ c. same_site x a ≡ c → Remain (Hand a b (suc (handed a b log)) m ∷ log) x b (less x)) [
         | true ↦ λ p. subst (λ z. Remain (Hand a b (suc (handed a b log)) m ∷ log) z b (less z)) (sym (same_is x a p))
@@ -111,7 +111,7 @@ module _ (g : Input) (log : Log) (b : Site) (kept : Site → List Msg) (w : Wait
       (hand_and_acts g a b (suc (handed a b log)) m acts log (listed g.catalogue.tms g.catalogue.dms b k.to) w.no_mark w.no_site first_due due w.lawful).0
 
   -- it is handed over, and its site does what is due
-  pub hands_first : (acts : List Act) (less : Site → List Msg) → Takes kept less a rest
+  pub hands_first : (acts : List Act) (less : Site → List Msg) → TakesAway kept less a rest
       → AreDue (next_in g b (base_of g (Hand a b (suc (handed a b log)) m ∷ log))) (Handed a m ∷ local_of g b log) acts
       → puts_past (calls_of log) b (sends_of acts) ≡ false → Waits g (after_acts b acts (Hand a b (suc (handed a b log)) m ∷ log)) b less
   hands_first acts less t due few =

@@ -1,5 +1,5 @@
 -- The first of several messages: of one site alone, or of senders in their order.
-use Rattle.sdd_log.proofs.All.{AtEach, Bool, D, Input, IsFirst, IsLinkOf, List, Msg, Site, T, Takes, U, [], ap, append_assoc, arith, false, from_one, if◌then◌else◌, inl, inr, link_parts, map, range_with_len, refl, same_here, same_site, sites, suc, sym, tm_no, true, zero, ℕ, ◌++◌, ◌+◌, ◌<◌, ◌∙◌, ◌∷◌, ◌≡◌, ◌≤◌}
+use Rattle.sdd_log.proofs.All.{AtEach, Bool, D, Input, IsFirst, IsLinkOf, List, Msg, Site, T, TakesAway, U, [], ap, append_assoc, arith, false, from_one, if◌then◌else◌, inl, inr, link_parts, map, range_with_len, refl, same_here, same_site, sites, suc, sym, tm_no, true, zero, ℕ, ◌++◌, ◌+◌, ◌<◌, ◌∙◌, ◌∷◌, ◌≡◌, ◌≤◌}
 use Rattle.sdd_log.proofs.FirstHand.{each_weaker, here_or_later, listed, Split, split}
 
 -- of one site
@@ -24,7 +24,7 @@ first_of_one g a b m rest l =
       here = one_here a (m ∷ rest);
     }
 
-pub takes_of_one : (a : Site) (m : Msg) (rest : List Msg) → Takes (from_one a (m ∷ rest)) (from_one a rest) a rest
+pub takes_of_one : (a : Site) (m : Msg) (rest : List Msg) → TakesAway (from_one a (m ∷ rest)) (from_one a rest) a rest
 takes_of_one a m rest = record { here = one_here a rest; others = λ x e. one_other a x rest e ∙ sym (one_other a x (m ∷ rest) e) }
 
 none_if : (c : Bool) → ◌≡◌ {A = List Msg} (if c then [] else []) []

@@ -97,7 +97,7 @@ pub record IsFirst (g : Input) (kept : Site → List Msg) (a b : Site) (m : Msg)
   pub here : kept a ≡ m ∷ rest
 
 -- that message is taken away
-pub record Takes (kept less : Site → List Msg) (a : Site) (rest : List Msg) : Type 0 where
+pub record TakesAway (kept less : Site → List Msg) (a : Site) (rest : List Msg) : Type 0 where
   pub here : less a ≡ rest
   pub others : (x : Site) → same_site x a ≡ false → less x ≡ kept x
 

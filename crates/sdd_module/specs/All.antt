@@ -23,13 +23,13 @@ pub use Rattle.sdd_module.specs.base.declared.usage.Use.{Use}
 pub use Rattle.sdd_module.specs.base.declared.value.Value.{Value}
 pub use Rattle.sdd_module.specs.catalog.Catalogue.{Catalogue, fragment_at, fragment_of, has_copy, key_column, numbers_to, reads_at}
 pub use Rattle.sdd_module.specs.catalog.Numbers.{IsWhole}
-pub use Rattle.sdd_module.specs.catalog.Rules.{IsSound}
+pub use Rattle.sdd_module.specs.catalog.Rules.{IsSoundCatalogue}
 pub use Rattle.sdd_module.specs.history.declared.record.Rec.{Rec}
 pub use Rattle.sdd_module.specs.history.declared.record.Rec.TheVariants.{Answer, Apply, Arrive, Commit, Nothing, Pass, Start, Wait}
 pub use Rattle.sdd_module.specs.lang.Classes.{class_for, fragments_in, read_set}
 pub use Rattle.sdd_module.specs.lang.Database.{Database, Item, Row, database_of, item_cmp, key_in, with_row}
 pub use Rattle.sdd_module.specs.lang.Effect.{effect}
-pub use Rattle.sdd_module.specs.lang.Fits.{Fits, FitsCondition, FitsStart, FitsStatement}
+pub use Rattle.sdd_module.specs.lang.Fits.{FitsCondition, FitsStart, FitsStatement, FitsTxn}
 pub use Rattle.sdd_module.specs.lang.Sound.{IsDatabase, IsEntry}
 pub use Rattle.sdd_module.specs.lang.Source.{uses_in}
 pub use Rattle.sdd_module.specs.lang.Uses.{allowed_keys, fragments_for, meets_keys, part_uses, restrictions_of, statement_uses, uses_from, uses_of}

@@ -1,5 +1,5 @@
 -- What each call of the network does to what it stands for.
-use Rattle.sdd_net.proofs.All.{ArePair, Bool, Call, Changes, ChangesPair, Channel, ChannelsRepresent, Delivers, Directions, Does, Fits, HasLink, IsNet, IsSound, IsTrue, Kept, Link, List, Loses, Matches, None, Ok, Option, Packet, PlacedLink, Repeats, Represents, Result, Site, Some, Way, [], after_call, ap, arith, deliver, false, index_of, is_link, is_some, length, link, lose, mul-add-lt, on_link, packet_at, refl, repeat, replicate, site_count, slice_get, slice_get_within, subst, suc, sym, true, unused, unused_channel, with_flight, with_packet, without_at, zero, ℕ, ◌*◌, ◌++◌, ◌-◌, ◌<◌, ◌∙◌, ◌∷◌, ◌≡◌, ◌≤◌}
+use Rattle.sdd_net.proofs.All.{ArePair, Bool, Call, Changes, ChangesPair, Channel, ChannelsRepresent, Delivers, Directions, Does, FitsWay, HasLink, IsNet, IsSoundLink, IsTrue, Kept, Link, List, Loses, Matches, None, Ok, Option, Packet, PlacedLink, Repeats, Represents, Result, Site, Some, Way, [], after_call, ap, arith, deliver, false, index_of, is_link, is_some, length, link, lose, mul-add-lt, on_link, packet_at, refl, repeat, replicate, site_count, slice_get, slice_get_within, subst, suc, sym, true, unused, unused_channel, with_flight, with_packet, without_at, zero, ℕ, ◌*◌, ◌++◌, ◌-◌, ◌<◌, ◌∙◌, ◌∷◌, ◌≡◌, ◌≤◌}
 use Rattle.sdd_net.proofs.Lists.{without-past}
 use Rattle.sdd_net.proofs.Directions.{link_parts, link_back, place_below, index_apart, back_is, step, one_way}
 use Rattle.sdd_net.proofs.Sound.{sound}
@@ -56,13 +56,13 @@ module _ {M : Type 0} where
   pub way_does : (tms dms : ℕ) (old new : List (Channel M)) (at : ℕ) (from to : Site) (call : Call M) (f : Link M → Link M)
       → ((a b : Site) (l : Link M) → after_call a b call l ≡ on_link a b from to f l) → ((l : Link M) → (f l).back ≡ l.back)
       → at ≡ index_of tms dms from to → IsTrue (is_link tms dms from to)
-      → ((l : Link M) → IsSound l → Fits (slice_get old at) l.there → Changes old new at (f l).there)
+      → ((l : Link M) → IsSoundLink l → FitsWay (slice_get old at) l.there → Changes old new at (f l).there)
       → (calls : List (Call M)) → ChannelsRepresent tms dms old calls → ChannelsRepresent tms dms new (call ∷ calls)
   way_does tms dms old new at from to call f is same e exists change calls represents =
       let l : Link M = link from to calls in
-      let c : Changes old new at (f l).there = change l (sound from to calls) (subst (λ k. Fits (slice_get old k) l.there) (sym e) (represents from to exists)) in
+      let c : Changes old new at (f l).there = change l (sound from to calls) (subst (λ k. FitsWay (slice_get old k) l.there) (sym e) (represents from to exists)) in
       one_way tms dms old new calls call from to f is same exists represents
-      (subst (λ k. Fits (slice_get new k) (f l).there) e c.fits)
+      (subst (λ k. FitsWay (slice_get new k) (f l).there) e c.fits)
       (λ k ne. c.others k (λ x. ne (x ∙ e)))
 
   back_kept : (o : Option (Packet M)) (f : Packet M → Way M) (l : Link M)
@@ -78,7 +78,7 @@ module _ {M : Type 0} where
 
   pub lose_does : (tms dms : ℕ) (old new : List (Channel M)) (at place : ℕ) (from to : Site)
       → at ≡ index_of tms dms from to → IsTrue (is_link tms dms from to)
-      → ((w : Way M) → Fits (slice_get old at) w → Changes old new at (with_flight (without_at w.flight (place - 1)) w))
+      → ((w : Way M) → FitsWay (slice_get old at) w → Changes old new at (with_flight (without_at w.flight (place - 1)) w))
       → (calls : List (Call M)) → ChannelsRepresent tms dms old calls → ChannelsRepresent tms dms new (Loses from to place ∷ calls)
   lose_does tms dms old new at place from to e exists change =
       way_does tms dms old new at from to (Loses from to place) (lose place) (λ a b l. refl)
@@ -88,10 +88,10 @@ module _ {M : Type 0} where
   -- a packet is there where its place is not past the end
   pub repeated_way : {E : Type 0} (old new : List (Channel M)) (at place : ℕ) (there : Bool) (l : Link M) (o : Option (Packet M))
       → 1 ≤ place → packet_at place l ≡ o
-      → (◌≡◌ {A = Result Bool E} (Ok there) (Ok true) → (w : Way M) (p : Packet M) → Fits (slice_get old at) w → slice_get w.flight (place - 1) ≡ Some p → Changes old new at (with_flight (w.flight ++ p ∷ []) w))
-      → (◌≡◌ {A = Result Bool E} (Ok there) (Ok true) → (w : Way M) → Fits (slice_get old at) w → place ≤ length w.flight)
-      → (◌≡◌ {A = Result Bool E} (Ok there) (Ok false) → (w : Way M) → Fits (slice_get old at) w → Changes old new at w × (length w.flight < place))
-      → Fits (slice_get old at) l.there
+      → (◌≡◌ {A = Result Bool E} (Ok there) (Ok true) → (w : Way M) (p : Packet M) → FitsWay (slice_get old at) w → slice_get w.flight (place - 1) ≡ Some p → Changes old new at (with_flight (w.flight ++ p ∷ []) w))
+      → (◌≡◌ {A = Result Bool E} (Ok there) (Ok true) → (w : Way M) → FitsWay (slice_get old at) w → place ≤ length w.flight)
+      → (◌≡◌ {A = Result Bool E} (Ok there) (Ok false) → (w : Way M) → FitsWay (slice_get old at) w → Changes old new at w × (length w.flight < place))
+      → FitsWay (slice_get old at) l.there
       → Changes old new at (with_packet o (λ p. record l { there = with_flight (l.there.flight ++ p ∷ []) l.there }) l).there × (there ≡ is_some o)
   repeated_way old new at place true l (Some p) one e some inside none fits = (some refl l.there p fits e, refl)
   repeated_way old new at place false l (Some p) one e some inside none fits =
@@ -102,7 +102,7 @@ module _ {M : Type 0} where
 
   pub repeat_does : (tms dms : ℕ) (old new : List (Channel M)) (at place : ℕ) (from to : Site)
       → at ≡ index_of tms dms from to → IsTrue (is_link tms dms from to)
-      → ((l : Link M) → Fits (slice_get old at) l.there → Changes old new at (repeat place l).there)
+      → ((l : Link M) → FitsWay (slice_get old at) l.there → Changes old new at (repeat place l).there)
       → (calls : List (Call M)) → ChannelsRepresent tms dms old calls → ChannelsRepresent tms dms new (Repeats from to place ∷ calls)
   repeat_does tms dms old new at place from to e exists change =
       way_does tms dms old new at from to (Repeats from to place) (repeat place) (λ a b l. refl)
@@ -114,22 +114,22 @@ module _ {M : Type 0} where
       → ChannelsRepresent tms dms channels calls → ArePair channels there back (link from to calls)
   pair_of tms dms channels there back from to calls e f exists represents = record {
     apart = λ x. index_apart tms dms from to exists (sym e ∙ x ∙ f);
-    fits_there = subst (λ k. Fits (slice_get channels k) (link from to calls).there) (sym e) (represents from to exists);
-    fits_back = subst (λ k. Fits (slice_get channels k) (link from to calls).back) (sym f)
-        (subst (λ w. Fits (slice_get channels (index_of tms dms to from)) w) (back_is tms dms from to calls exists) (represents to from (link_back tms dms from to exists)));
+    fits_there = subst (λ k. FitsWay (slice_get channels k) (link from to calls).there) (sym e) (represents from to exists);
+    fits_back = subst (λ k. FitsWay (slice_get channels k) (link from to calls).back) (sym f)
+        (subst (λ w. FitsWay (slice_get channels (index_of tms dms to from)) w) (back_is tms dms from to calls exists) (represents to from (link_back tms dms from to exists)));
   }
 
   pub deliver_does : (tms dms : ℕ) (old new : List (Channel M)) (there back place : ℕ) (from to : Site)
       → there ≡ index_of tms dms from to → back ≡ index_of tms dms to from → IsTrue (is_link tms dms from to)
-      → ((l : Link M) → ArePair old there back l → IsSound l → ChangesPair old new there back (deliver place l))
+      → ((l : Link M) → ArePair old there back l → IsSoundLink l → ChangesPair old new there back (deliver place l))
       → (calls : List (Call M)) → ChannelsRepresent tms dms old calls → ChannelsRepresent tms dms new (Delivers from to place ∷ calls)
   deliver_does tms dms old new there back place from to e f exists change calls represents =
       let l : Link M = link from to calls in
       let c : ChangesPair old new there back (deliver place l) = change l (pair_of tms dms old there back from to calls e f exists represents)
       (sound from to calls) in
       step tms dms old new calls (Delivers from to place) from to (deliver place) (λ a b l. refl) exists represents
-      (subst (λ k. Fits (slice_get new k) (deliver place l).there) e c.fits_there)
-      (subst (λ k. Fits (slice_get new k) (deliver place l).back) f c.fits_back)
+      (subst (λ k. FitsWay (slice_get new k) (deliver place l).there) e c.fits_there)
+      (subst (λ k. FitsWay (slice_get new k) (deliver place l).back) f c.fits_back)
       (λ k x y. c.others k (λ z. x (z ∙ e)) (λ z. y (z ∙ f)))
 
 -- a new network
@@ -149,4 +149,4 @@ unused_stands M tms dms channels e a b exists =
     (place_below tms dms b p.to) in
     let at : slice_get channels (index_of tms dms a b) ≡ Some unused_channel =
     ap (λ cs. slice_get cs (index_of tms dms a b)) e ∙ get-replicate (site_count tms dms * site_count tms dms) (index_of tms dms a b) unused_channel below in
-    subst (λ o. Fits {M = M} o unused) (sym at) (unused_matches M)
+    subst (λ o. FitsWay {M = M} o unused) (sym at) (unused_matches M)

@@ -1,5 +1,5 @@
 -- A delivery, step by step.
-use Rattle.sdd_net.proofs.All.{Ack, Acked, ArePair, Changes, ChangesPair, Channel, Fits, IsLive, IsLiveAt, IsOf, IsSound, IsSoundWay, Link, List, Matches, Message, Messages, None, Nothing, Option, Packet, Some, Way, [], ap, arith, arrives, deliver, delivered, delivery, length, newly_delivered, packet_at, refl, sent_by, slice_get, subst, sym, with_ack, with_arrival, with_flight, with_packet, without_at, without_packet, ℕ, ◌++◌, ◌-◌, ◌∙◌, ◌∷◌, ◌≡◌, ◌≢◌, ◌≤◌}
+use Rattle.sdd_net.proofs.All.{Ack, Acked, ArePair, Changes, ChangesPair, Channel, FitsWay, IsLive, IsLiveAt, IsOf, IsSoundLink, IsSoundWay, Link, List, Matches, Message, Messages, None, Nothing, Option, Packet, Some, Way, [], ap, arith, arrives, deliver, delivered, delivery, length, newly_delivered, packet_at, refl, sent_by, slice_get, subst, sym, with_ack, with_arrival, with_flight, with_packet, without_at, without_packet, ℕ, ◌++◌, ◌-◌, ◌∙◌, ◌∷◌, ◌≡◌, ◌≢◌, ◌≤◌}
 use Rattle.sdd_net.proofs.Lists.{All-at, without-past}
 use Rattle.sdd_net.proofs.Matching.{last_number_is}
 use Rattle.sdd_net.proofs.Sound.{delivered_le}
@@ -8,22 +8,22 @@ module _ {M : Type 0} where
   matches_live : (c : Channel M) (w : Way M) → Matches c w → IsLive c
   matches_live c w h = record { sender = ap (λ s. s.live) h.sender; flight = ap (λ f. f.live) h.flight; receiver = h.receiver_live }
 
-  pub fits_live : (o : Option (Channel M)) (w : Way M) → Fits o w → IsLiveAt o
+  pub fits_live : (o : Option (Channel M)) (w : Way M) → FitsWay o w → IsLiveAt o
   fits_live None w h = h
   fits_live (Some c) w h = matches_live c w h
 
-  pub sent_of : (o : Option (Channel M)) (w : Way M) → w.acked ≤ length w.sent → Fits o w → sent_by o ≡ length w.sent
+  pub sent_of : (o : Option (Channel M)) (w : Way M) → w.acked ≤ length w.sent → FitsWay o w → sent_by o ≡ length w.sent
   sent_of None w l h = absurd h
   sent_of (Some c) w l h = last_number_is c w l h
 
   -- what a change on one direction leaves of another
   pub stays : (old new : List (Channel M)) (at other : ℕ) (w v : Way M) → Changes old new at w
-      → other ≢ at → Fits (slice_get old other) v → Fits (slice_get new other) v
-  stays old new at other w v h ne f = subst (λ o. Fits o v) (sym (h.others other ne)) f
+      → other ≢ at → FitsWay (slice_get old other) v → FitsWay (slice_get new other) v
+  stays old new at other w v h ne f = subst (λ o. FitsWay o v) (sym (h.others other ne)) f
 
   -- a packet in flight is right
   pub packet_is_of : (l : Link M) (k : ℕ) (p : Packet M) → slice_get l.there.flight k ≡ Some p
-      → IsSound l → IsOf l.there.sent (delivered l.back) p
+      → IsSoundLink l → IsOf l.there.sent (delivered l.back) p
   packet_is_of l k p e h = All-at (IsOf l.there.sent (delivered l.back)) l.there.flight k p e h.there.packets
 
   pub acked_le : (w : Way M) (back : ℕ) → IsSoundWay w back → w.acked ≤ length w.sent
@@ -31,7 +31,7 @@ module _ {M : Type 0} where
 
   -- an acknowledgement is of what was sent
   pub ack_known : (l : Link M) (k j : ℕ) (o : Option (Channel M))
-      → slice_get l.there.flight j ≡ Some (Ack k) → IsSound l → Fits o l.back → k ≤ sent_by o
+      → slice_get l.there.flight j ≡ Some (Ack k) → IsSoundLink l → FitsWay o l.back → k ≤ sent_by o
   ack_known l k j o e h f =
       let of : k ≤ delivered l.back = packet_is_of l j (Ack k) e h in
       omega (arith, delivered_le l.back (delivered l.there) h.back, sent_of o l.back (acked_le l.back (delivered l.there) h.back) f)
@@ -41,7 +41,7 @@ module _ {M : Type 0} where
       → Changes old new there (with_flight (without_at l.there.flight (place - 1)) l.there) → ChangesPair old new there back (deliver place l)
   delivers_nothing old new there back place l pair e h =
       subst (λ o. ChangesPair old new there back (with_packet o (λ p. arrives p (without_packet place l)) l)) (sym e) (record {
-        fits_there = subst (λ f. Fits (slice_get new there) (with_flight f l.there)) (without-past l.there.flight (place - 1) e) h.fits;
+        fits_there = subst (λ f. FitsWay (slice_get new there) (with_flight f l.there)) (without-past l.there.flight (place - 1) e) h.fits;
         fits_back = stays old new there back (with_flight (without_at l.there.flight (place - 1)) l.there) l.back h (λ x. pair.apart (sym x)) pair.fits_back;
         others = λ k a b. h.others k a;
       })

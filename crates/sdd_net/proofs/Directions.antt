@@ -1,5 +1,5 @@
 -- A call on one link changes that link and the link back, and no other.
-use Rattle.sdd_net.proofs.All.{Bool, Call, Channel, ChannelsRepresent, D, Delivers, Fits, IsTrue, Link, List, Loses, Puts, Repeats, Resends, Site, T, U, [], after_call, and_parts, ap, are_linked, arith, both_ways, deliver, eq-eqb, eqb-true, false, if◌then◌else◌, index_of, is_link, is_site, leb-true, link, lose, nat_le, on_link, put, refl, repeat, resend, same_from_place, same_site, site_count, slice_get, subst, sym, true, turned, ℕ, ◌&&◌, ◌<◌, ◌∙◌, ◌∷◌, ◌≡◌, ◌≢◌, ◌≤◌}
+use Rattle.sdd_net.proofs.All.{Bool, Call, Channel, ChannelsRepresent, D, Delivers, FitsWay, IsTrue, Link, List, Loses, Puts, Repeats, Resends, Site, T, U, [], after_call, and_parts, ap, are_linked, arith, both_ways, deliver, eq-eqb, eqb-true, false, if◌then◌else◌, index_of, is_link, is_site, leb-true, link, lose, nat_le, on_link, put, refl, repeat, resend, same_from_place, same_site, site_count, slice_get, subst, sym, true, turned, ℕ, ◌&&◌, ◌<◌, ◌∙◌, ◌∷◌, ◌≡◌, ◌≢◌, ◌≤◌}
 use Rattle.sdd_net.specs.Nets.{place_of}
 
 pub same_is : (a b : Site) → same_site a b ≡ true → a ≡ b
@@ -136,25 +136,25 @@ back_is tms dms a b calls h = ap (λ l. l.there) (link_turned a b calls (linked_
 pub step : {M : Type 0} (tms dms : ℕ) (old new : List (Channel M)) (calls : List (Call M)) (call : Call M) (from to : Site) (f : Link M → Link M)
     → ((a b : Site) (l : Link M) → after_call a b call l ≡ on_link a b from to f l)
     → IsTrue (is_link tms dms from to) → ChannelsRepresent tms dms old calls
-    → Fits (slice_get new (index_of tms dms from to)) (f (link from to calls)).there
-    → Fits (slice_get new (index_of tms dms to from)) (f (link from to calls)).back
+    → FitsWay (slice_get new (index_of tms dms from to)) (f (link from to calls)).there
+    → FitsWay (slice_get new (index_of tms dms to from)) (f (link from to calls)).back
     → ((k : ℕ) → k ≢ index_of tms dms from to → k ≢ index_of tms dms to from → slice_get new k ≡ slice_get old k)
     → ChannelsRepresent tms dms new (call ∷ calls)
 step {M = M} tms dms old new calls call from to f is exists represents there back others = λ a b linked.
-    let G : Link M → Type 0 = λ l. Fits (slice_get new (index_of tms dms a b)) l.there in
+    let G : Link M → Type 0 = λ l. FitsWay (slice_get new (index_of tms dms a b)) l.there in
     subst G (sym (is a b (link a b calls)))
     (elim (same_site a from && same_site b to) as (λ c. (same_site a from && same_site b to) ≡ c → G (if c then f (link a b calls) else if same_site a to && same_site b from then turned (f (turned (link a b calls))) else link a b calls)) [
       | true ↦ λ p. (let q = and_parts (same_site a from) (same_site b to) p in
-          subst (λ x. Fits (slice_get new (index_of tms dms x b)) (f (link x b calls)).there) (sym (same_is a from q.0))
-          (subst (λ x. Fits (slice_get new (index_of tms dms from x)) (f (link from x calls)).there) (sym (same_is b to q.1)) there))
+          subst (λ x. FitsWay (slice_get new (index_of tms dms x b)) (f (link x b calls)).there) (sym (same_is a from q.0))
+          (subst (λ x. FitsWay (slice_get new (index_of tms dms from x)) (f (link from x calls)).there) (sym (same_is b to q.1)) there))
       | false ↦ λ p. elim (same_site a to && same_site b from) as
           (λ c. (same_site a to && same_site b from) ≡ c → G (if c then turned (f (turned (link a b calls))) else link a b calls)) [
             | true ↦ λ t. (let q = and_parts (same_site a to) (same_site b from) t in
-                subst (λ x. Fits (slice_get new (index_of tms dms x b)) (f (turned (link x b calls))).back) (sym (same_is a to q.0))
-                (subst (λ x. Fits (slice_get new (index_of tms dms to x)) (f (turned (link to x calls))).back) (sym (same_is b from q.1))
-                (subst (λ l. Fits (slice_get new (index_of tms dms to from)) (f (turned l)).back) (sym (link_turned from to calls (linked_apart from to (link_parts tms dms from to exists).linked))) back)))
+                subst (λ x. FitsWay (slice_get new (index_of tms dms x b)) (f (turned (link x b calls))).back) (sym (same_is a to q.0))
+                (subst (λ x. FitsWay (slice_get new (index_of tms dms to x)) (f (turned (link to x calls))).back) (sym (same_is b from q.1))
+                (subst (λ l. FitsWay (slice_get new (index_of tms dms to from)) (f (turned l)).back) (sym (link_turned from to calls (linked_apart from to (link_parts tms dms from to exists).linked))) back)))
             | false ↦ λ t.
-                subst (λ o. Fits o (link a b calls).there)
+                subst (λ o. FitsWay o (link a b calls).there)
                 (sym (others (index_of tms dms a b)
                 (λ e. let q = index_is tms dms a b from to linked exists e in
                 both_ways (same_site a from && same_site b to) p (rw (q.0, q.1, same_here from, same_here to) refl))
@@ -168,12 +168,12 @@ step {M = M} tms dms old new calls call from to f is exists represents there bac
 pub one_way : {M : Type 0} (tms dms : ℕ) (old new : List (Channel M)) (calls : List (Call M)) (call : Call M) (from to : Site) (f : Link M → Link M)
     → ((a b : Site) (l : Link M) → after_call a b call l ≡ on_link a b from to f l)
     → ((l : Link M) → (f l).back ≡ l.back) → IsTrue (is_link tms dms from to) → ChannelsRepresent tms dms old calls
-    → Fits (slice_get new (index_of tms dms from to)) (f (link from to calls)).there
+    → FitsWay (slice_get new (index_of tms dms from to)) (f (link from to calls)).there
     → ((k : ℕ) → k ≢ index_of tms dms from to → slice_get new k ≡ slice_get old k) → ChannelsRepresent tms dms new (call ∷ calls)
 one_way {M = M} tms dms old new calls call from to f is same exists represents there others =
     step tms dms old new calls call from to f is exists represents there
-    (subst (λ w. Fits (slice_get new (index_of tms dms to from)) w) (sym (same (link from to calls)))
-    (subst (λ w. Fits (slice_get new (index_of tms dms to from)) w) (back_is tms dms from to calls exists)
-    (subst (λ o. Fits o (link to from calls).there) (sym (others (index_of tms dms to from) (λ e. index_apart tms dms from to exists (sym e))))
+    (subst (λ w. FitsWay (slice_get new (index_of tms dms to from)) w) (sym (same (link from to calls)))
+    (subst (λ w. FitsWay (slice_get new (index_of tms dms to from)) w) (back_is tms dms from to calls exists)
+    (subst (λ o. FitsWay o (link to from calls).there) (sym (others (index_of tms dms to from) (λ e. index_apart tms dms from to exists (sym e))))
     (represents to from (link_back tms dms from to exists)))))
     (λ k here back. others k here)

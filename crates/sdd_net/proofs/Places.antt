@@ -1,5 +1,5 @@
 -- One channel among all.
-use Rattle.sdd_net.proofs.All.{Changes, Channel, Fits, IsLive, IsLiveAt, IsTrue, List, Matches, Some, Way, [], arith, get_or, length, refl, slice_get, slice_get_read, slice_set, subst, suc, sym, zero, ℕ, ◌<◌, ◌∷◌, ◌≡◌}
+use Rattle.sdd_net.proofs.All.{Changes, Channel, FitsWay, IsLive, IsLiveAt, IsTrue, List, Matches, Some, Way, [], arith, get_or, length, refl, slice_get, slice_get_read, slice_set, subst, suc, sym, zero, ℕ, ◌<◌, ◌∷◌, ◌≡◌}
 use Rattle.sdd_net.proofs.Lists.{get-set_same, get-set_other}
 
 module _ {M : Type 0} where
@@ -30,15 +30,15 @@ module _ {M : Type 0} where
   live_receiver channels at c h e = (live_there channels at c h e).receiver
 
   pub fits_there : (channels : List (Channel M)) (at : ℕ) (c : Channel M) (w : Way M)
-      → IsLiveAt (slice_get channels at) → c ≡ get_or channels at c → Fits (slice_get channels at) w → Matches c w
-  fits_there channels at c w h e f = subst (λ o. Fits o w) (is_there channels at c h e) f
+      → IsLiveAt (slice_get channels at) → c ≡ get_or channels at c → FitsWay (slice_get channels at) w → Matches c w
+  fits_there channels at c w h e f = subst (λ o. FitsWay o w) (is_there channels at c h e) f
 
   -- the channel is changed in its place
   pub changes : (channels : List (Channel M)) (at : ℕ) (c d : Channel M) (w : Way M)
       → IsLiveAt (slice_get channels at) → c ≡ get_or channels at c → Matches d w
       → Changes channels (slice_set channels at d) at w
   changes channels at c d w h e m = record {
-    fits = subst (λ o. Fits o w) (sym (get-set_same channels at c d (is_there channels at c h e))) m;
+    fits = subst (λ o. FitsWay o w) (sym (get-set_same channels at c d (is_there channels at c h e))) m;
     others = λ k ne. get-set_other channels at k d ne;
   }
 

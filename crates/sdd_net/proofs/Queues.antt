@@ -1,5 +1,5 @@
 -- The lists of a mailbox, of which one changes.
-use Rattle.sdd_net.proofs.All.{Bool, D, Err, IsBefore, IsLowest, IsWithin, List, MatchOption, None, Ok, OnErr, Option, Result, Site, Some, T, Takes, TakesFirst, U, [], ap, arith, empty_mailbox, eq-eqb, false, get_or, get_or as slice_index_or, length, map, number_of_t, option_to_list, place_of, queue_at, refl, replicate, same_site, slice_set, subst, suc, sym, total, true, zero, ℕ, ◌++◌, ◌+◌, ◌<◌, ◌∙◌, ◌∷◌, ◌≡◌, ◌≢◌, ◌≤◌}
+use Rattle.sdd_net.proofs.All.{Bool, D, Err, IsBefore, IsLowest, IsWithin, List, MatchOption, None, Ok, OnErr, Option, Result, Site, Some, T, TakesFirst, TakesMessage, U, [], ap, arith, empty_mailbox, eq-eqb, false, get_or, get_or as slice_index_or, length, map, number_of_t, option_to_list, place_of, queue_at, refl, replicate, same_site, slice_set, subst, suc, sym, total, true, zero, ℕ, ◌++◌, ◌+◌, ◌<◌, ◌∙◌, ◌∷◌, ◌≡◌, ◌≢◌, ◌≤◌}
 use Rattle.sdd_net.specs.Mailboxes.{Puts}
 
 pub map_set : {A B : Type 0} (f : A → B) (xs : List A) (i : ℕ) (y : A) → map f (slice_set xs i y) ≡ slice_set (map f xs) i (f y)
@@ -151,7 +151,7 @@ total_set (q ∷ queues) (suc i) item rest l e = let n = total_set queues i item
 
 pub takes : {M : Type 0} (down : Bool) (old new : List (List M)) (from : Site) (place : ℕ) (msg : M) → place_of from ≡ Some place
     → TakesFirst old new place msg
-    → Takes (record { down = down; queues = old }) (record { down = down; queues = new }) from msg × IsLowest (record { down = down; queues = old }) from
+    → TakesMessage (record { down = down; queues = old }) (record { down = down; queues = new }) from msg × IsLowest (record { down = down; queues = old }) from
 takes {M = M} down old new from place msg at t = (
   record {
     down = refl;

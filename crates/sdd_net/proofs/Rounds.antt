@@ -1,5 +1,5 @@
 -- What the network tells of all its links is what the definitions say of them.
-use Rattle.sdd_net.proofs.All.{All, All-append, All-cons, All-head, All-map, All-nil, All-same, All-tail, All-weaker, Bool, Call, Channel, ChannelsRepresent, D, Deliver, Directions, Event, Fits, IsLiveAt, IsNet, IsTrue, Kept, List, None, Option, PlacedLink, Represents, Resend, Site, Some, T, U, Way, [], ap, are_linked, arith, channel_on, cond, cons_option, deliveries_on, false, filter_map, filter_map-append, flat_map, flat_map-append, get_or, in_flight, in_flight_at, index_of, is_empty, is_link, is_quiet_link, is_site, le-leb, length, link, links, list_all, list_all_at, lt-leb, map, nat_le, nat_lt, placed, quiet, quiet_at, quiet_on, range_with_len, refl, replicate, resend_on, resends_at, resends_now, round, sites, slice_get, subst, suc, sym, take, take_all, take_more, true, zero, ℕ, ◌&&◌, ◌++◌, ◌+◌, ◌-◌, ◌<◌, ◌∙◌, ◌∷◌, ◌≡◌, ◌≤◌}
+use Rattle.sdd_net.proofs.All.{All, All-append, All-cons, All-head, All-map, All-nil, All-same, All-tail, All-weaker, Bool, Call, Channel, ChannelsRepresent, D, Deliver, Directions, Event, FitsWay, IsLiveAt, IsNet, IsTrue, Kept, List, None, Option, PlacedLink, Represents, Resend, Site, Some, T, U, Way, [], ap, are_linked, arith, channel_on, cond, cons_option, deliveries_on, false, filter_map, filter_map-append, flat_map, flat_map-append, get_or, in_flight, in_flight_at, index_of, is_empty, is_link, is_quiet_link, is_site, le-leb, length, link, links, list_all, list_all_at, lt-leb, map, nat_le, nat_lt, placed, quiet, quiet_at, quiet_on, range_with_len, refl, replicate, resend_on, resends_at, resends_now, round, sites, slice_get, subst, suc, sym, take, take_all, take_more, true, zero, ℕ, ◌&&◌, ◌++◌, ◌+◌, ◌-◌, ◌<◌, ◌∙◌, ◌∷◌, ◌≡◌, ◌≤◌}
 use Rattle.sdd_net.proofs.Matching.{flight_is, unacked_count, not_empty}
 use Rattle.sdd_net.proofs.Directions.{link_back, back_is}
 use Rattle.sdd_net.proofs.Deliveries.{fits_live}
@@ -95,18 +95,18 @@ abbrev pub no_link : PlacedLink
 no_link = record { from = U; to = U; there = 0; back = 0 }
 
 module _ {M : Type 0} where
-  quiet_fits : (o : Option (Channel M)) (w : Way M) → Fits o w
+  quiet_fits : (o : Option (Channel M)) (w : Way M) → FitsWay o w
       → quiet_at o ≡ (is_empty w.flight && nat_le (length w.sent) w.acked)
   quiet_fits None w h = absurd h
   quiet_fits (Some c) w h = rw (flight_is c w h, is_empty-count c.sender.value.unacked w.acked (length w.sent) (unacked_count c w h)) refl
 
-  resends_fits : (o p : Option (Channel M)) (w v : Way M) → Fits o w → Fits p v
+  resends_fits : (o p : Option (Channel M)) (w v : Way M) → FitsWay o w → FitsWay p v
       → resends_at o p ≡ (nat_lt w.acked (length w.sent) && (is_empty w.flight && is_empty v.flight))
   resends_fits None p w v h k = absurd h
   resends_fits (Some c) None w v h k = absurd k
   resends_fits (Some c) (Some d) w v h k = rw (flight_is c w h, flight_is d v k, not_empty c.sender.value.unacked w.acked (length w.sent) (unacked_count c w h)) refl
 
-  in_flight_fits : (o p : Option (Channel M)) (w v : Way M) → Fits o w → Fits p v
+  in_flight_fits : (o p : Option (Channel M)) (w v : Way M) → FitsWay o w → FitsWay p v
       → in_flight_at o p ≡ length w.flight + cond (nat_lt w.acked (length w.sent) && (is_empty w.flight && is_empty v.flight)) (length w.sent - w.acked) 0
   in_flight_fits None p w v h k = absurd h
   in_flight_fits (Some c) p w v h k = rw (resends_fits (Some c) p w v h k, flight_is c w h, unacked_count c w h) refl
@@ -114,8 +114,8 @@ module _ {M : Type 0} where
   -- the channel back stands for the link back
   fits_back : (tms dms : ℕ) (channels : List (Channel M)) (calls : List (Call M)) (a b : Site)
       → ChannelsRepresent tms dms channels calls → IsTrue (is_link tms dms a b)
-      → Fits (slice_get channels (index_of tms dms b a)) (link a b calls).back
-  fits_back tms dms channels calls a b s h = subst (λ w. Fits (slice_get channels (index_of tms dms b a)) w) (back_is tms dms a b calls h) (s b a (link_back tms dms a b h))
+      → FitsWay (slice_get channels (index_of tms dms b a)) (link a b calls).back
+  fits_back tms dms channels calls a b s h = subst (λ w. FitsWay (slice_get channels (index_of tms dms b a)) w) (back_is tms dms a b calls h) (s b a (link_back tms dms a b h))
 
   -- the links of a network, with their places
   abbrev pub all_placed : Directions M → List PlacedLink
@@ -136,7 +136,7 @@ module _ {M : Type 0} where
         (λ l. quiet_on d.channels (placed d.tms d.dms l) ≡ is_quiet_link (link l.0 l.1 calls))
         (λ l h. quiet_fits (channel_on d l.0 l.1) (link l.0 l.1 calls).there (s l.0 l.1 h)))
 
-    back_fits : (a b : Site) → IsTrue (is_link d.tms d.dms a b) → Fits (channel_on d b a) (link a b calls).back
+    back_fits : (a b : Site) → IsTrue (is_link d.tms d.dms a b) → FitsWay (channel_on d b a) (link a b calls).back
     back_fits a b h = fits_back d.tms d.dms d.channels calls a b s h
 
     resends_are : filter_map (resend_on d.channels) (all_placed d) ≡ filter_map (resend_due calls) (links d.tms d.dms)

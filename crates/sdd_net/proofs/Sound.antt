@@ -1,5 +1,5 @@
 -- What holds of every link, whatever calls were made.
-use Rattle.sdd_net.proofs.All.{Ack, All, All-append, All-cons, All-drop, All-nil, All-push, All-weaker, Bool, Call, Delivers, IsNumber, IsOf, IsSound, IsSoundWay, Link, List, Loses, Message, None, Packet, Puts, Repeats, Resends, Site, Some, Way, [], arith, arrives, deliver, delivered, false, if◌then◌else◌, length, length-append, link, lose, numbered, on_link, packet_at, put, refl, repeat, resend, same_site, slice_get, slice_get_within, suc, top, true, turned, unacked, unused, with_packet, without_at, without_packet, zero, ℕ, ◌&&◌, ◌++◌, ◌+◌, ◌-◌, ◌<◌, ◌∷◌, ◌≡◌, ◌≤◌}
+use Rattle.sdd_net.proofs.All.{Ack, All, All-append, All-cons, All-drop, All-nil, All-push, All-weaker, Bool, Call, Delivers, IsNumber, IsOf, IsSoundLink, IsSoundWay, Link, List, Loses, Message, None, Packet, Puts, Repeats, Resends, Site, Some, Way, [], arith, arrives, deliver, delivered, false, if◌then◌else◌, length, length-append, link, lose, numbered, on_link, packet_at, put, refl, repeat, resend, same_site, slice_get, slice_get_within, suc, top, true, turned, unacked, unused, with_packet, without_at, without_packet, zero, ℕ, ◌&&◌, ◌++◌, ◌+◌, ◌-◌, ◌<◌, ◌∷◌, ◌≡◌, ◌≤◌}
 use Rattle.sdd_net.proofs.Lists.{All-without_at, All-at, All-among, get-append, get-last}
 use Rattle.sdd_net.proofs.Tops.{top_is, top_rises}
 
@@ -40,7 +40,7 @@ numbered_of {M = M} sent j k (m ∷ ms) f =
     (omega arith, let at : k + 0 ≡ k + 1 - 1 = omega arith in rw at at (f 0 m refl))
     (numbered_of sent j (k + 1) ms (λ i x e. let at : k + suc i ≡ k + 1 + i = omega arith in rw at at (f (suc i) x e)))
 
-put_sound : {M : Type 0} (m : M) (l : Link M) → IsSound l → IsSound (put m l)
+put_sound : {M : Type 0} (m : M) (l : Link M) → IsSoundLink l → IsSoundLink (put m l)
 put_sound m l h = record {
   there = record {
     packets =
@@ -56,12 +56,12 @@ put_sound m l h = record {
   back = h.back;
 }
 
-without_sound : {M : Type 0} (place : ℕ) (l : Link M) → IsSound l → IsSound (without_packet place l)
+without_sound : {M : Type 0} (place : ℕ) (l : Link M) → IsSoundLink l → IsSoundLink (without_packet place l)
 without_sound place l h =
     record { there = with_flight l.there (delivered l.back) (without_at l.there.flight (place - 1)) h.there (All-without_at (IsOf l.there.sent (delivered l.back)) (place - 1) l.there.flight h.there.packets); back = h.back }
 
 arrives_sound : {M : Type 0} (p : Packet M) (l : Link M) → IsOf l.there.sent (delivered l.back) p
-    → IsSound l → IsSound (arrives p l)
+    → IsSoundLink l → IsSoundLink (arrives p l)
 arrives_sound {M = M} (Message n m) l of h =
     let rises : delivered l.there ≤ top (n ∷ l.there.arrived) = top_rises n l.there.arrived in
     let within : n - 1 < length l.there.sent = slice_get_within l.there.sent (n - 1) m of.1 in
@@ -82,28 +82,28 @@ arrives_sound (Ack k) l of h =
     record { there = h.there; back = record { packets = h.back.packets; numbers = h.back.numbers; acked = omega (arith, h.back.acked) } }
 
 -- a call on a packet keeps it, if what is done with the packet does
-at_packet : {M : Type 0} (place : ℕ) (f : Packet M → Link M) (l : Link M) → IsSound l
-    → ((p : Packet M) → IsOf l.there.sent (delivered l.back) p → IsSound (f p))
-    → IsSound (with_packet (packet_at place l) f l)
+at_packet : {M : Type 0} (place : ℕ) (f : Packet M → Link M) (l : Link M) → IsSoundLink l
+    → ((p : Packet M) → IsOf l.there.sent (delivered l.back) p → IsSoundLink (f p))
+    → IsSoundLink (with_packet (packet_at place l) f l)
 at_packet {M = M} place f l h k =
-    elim (packet_at place l) as (λ o. packet_at place l ≡ o → IsSound (with_packet o f l)) [
+    elim (packet_at place l) as (λ o. packet_at place l ≡ o → IsSoundLink (with_packet o f l)) [
       | None ↦ λ e. h
       | Some p ↦ λ e. k p (All-at (IsOf l.there.sent (delivered l.back)) l.there.flight (place - 1) p e h.there.packets)
     ] refl
 
-deliver_sound : {M : Type 0} (place : ℕ) (l : Link M) → IsSound l → IsSound (deliver place l)
+deliver_sound : {M : Type 0} (place : ℕ) (l : Link M) → IsSoundLink l → IsSoundLink (deliver place l)
 deliver_sound place l h =
     at_packet place (λ p. arrives p (without_packet place l)) l h (λ p of. arrives_sound p (without_packet place l) of (without_sound place l h))
 
-lose_sound : {M : Type 0} (place : ℕ) (l : Link M) → IsSound l → IsSound (lose place l)
+lose_sound : {M : Type 0} (place : ℕ) (l : Link M) → IsSoundLink l → IsSoundLink (lose place l)
 lose_sound place l h = at_packet place (λ p. without_packet place l) l h (λ p of. without_sound place l h)
 
-repeat_sound : {M : Type 0} (place : ℕ) (l : Link M) → IsSound l → IsSound (repeat place l)
+repeat_sound : {M : Type 0} (place : ℕ) (l : Link M) → IsSoundLink l → IsSoundLink (repeat place l)
 repeat_sound place l h =
     at_packet place (λ p. record l { there = record l.there { flight = l.there.flight ++ p ∷ [] } }) l h
     (λ p of. record { there = with_flight l.there (delivered l.back) (l.there.flight ++ p ∷ []) h.there (All-push (IsOf l.there.sent (delivered l.back)) l.there.flight p h.there.packets of); back = h.back })
 
-resend_sound : {M : Type 0} (l : Link M) → IsSound l → IsSound (resend l)
+resend_sound : {M : Type 0} (l : Link M) → IsSoundLink l → IsSoundLink (resend l)
 resend_sound l h = record {
   there = with_flight l.there (delivered l.back) (l.there.flight ++ unacked l.there) h.there
       (All-append (IsOf l.there.sent (delivered l.back)) l.there.flight (unacked l.there) h.there.packets
@@ -112,25 +112,25 @@ resend_sound l h = record {
   back = h.back;
 }
 
-turned_sound : {M : Type 0} (l : Link M) → IsSound l → IsSound (turned l)
+turned_sound : {M : Type 0} (l : Link M) → IsSoundLink l → IsSoundLink (turned l)
 turned_sound l h = record { there = h.back; back = h.there }
 
 on_way : {M : Type 0} (c d : Bool) (f : Link M → Link M) (l : Link M)
-    → ((k : Link M) → IsSound k → IsSound (f k)) → IsSound l
-    → IsSound (if c then f l else if d then turned (f (turned l)) else l)
+    → ((k : Link M) → IsSoundLink k → IsSoundLink (f k)) → IsSoundLink l
+    → IsSoundLink (if c then f l else if d then turned (f (turned l)) else l)
 on_way true d f l h i = h l i
 on_way false true f l h i = turned_sound (f (turned l)) (h (turned l) (turned_sound l i))
 on_way false false f l h i = i
 
 on_link_sound : {M : Type 0} (a b from to : Site) (f : Link M → Link M) (l : Link M)
-    → ((k : Link M) → IsSound k → IsSound (f k)) → IsSound l → IsSound (on_link a b from to f l)
+    → ((k : Link M) → IsSoundLink k → IsSoundLink (f k)) → IsSoundLink l → IsSoundLink (on_link a b from to f l)
 on_link_sound a b from to f l h i = on_way (same_site a from && same_site b to) (same_site a to && same_site b from) f l h i
 
 unused_sound : {M : Type 0} → IsSoundWay {M = M} unused 0
 unused_sound {M = M} =
     record { packets = All-nil (IsOf {M = M} [] 0); numbers = All-nil (IsNumber {M = M} []); acked = omega arith }
 
-pub sound : {M : Type 0} (a b : Site) (calls : List (Call M)) → IsSound (link a b calls)
+pub sound : {M : Type 0} (a b : Site) (calls : List (Call M)) → IsSoundLink (link a b calls)
 sound a b [] = record { there = unused_sound; back = unused_sound }
 sound a b (Puts from to m ∷ calls) = on_link_sound a b from to (put m) (link a b calls) (put_sound m) (sound a b calls)
 sound a b (Delivers from to place ∷ calls) = on_link_sound a b from to (deliver place) (link a b calls) (deliver_sound place) (sound a b calls)

@@ -59,7 +59,7 @@ pub record Puts {M : Type 0} (old new : Mailbox M) (from : Site) (msg : M) : Typ
   pub others : (x : Site) → same_site x from ≡ false → kept_from new x ≡ kept_from old x
 
 -- the first message of a sender is taken
-pub record Takes {M : Type 0} (old new : Mailbox M) (from : Site) (msg : M) : Type 0 where
+pub record TakesMessage {M : Type 0} (old new : Mailbox M) (from : Site) (msg : M) : Type 0 where
   pub down : new.down ≡ old.down
   pub count : length new.queues ≡ length old.queues
   pub sender : IsSender old from

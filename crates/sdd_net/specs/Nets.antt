@@ -69,15 +69,15 @@ pub record Matches {M : Type 0} (c : Channel M) (w : Way M) : Type 0 where
   pub receiver_live : c.receiver.live ≡ true
   pub received : HasReceived c.receiver.value w.arrived w.sent
 
-abbrev pub Fits : {M : Type 0} → Option (Channel M) → Way M → Type 0
-Fits None w = ⊥
-Fits (Some c) w = Matches c w
+abbrev pub FitsWay : {M : Type 0} → Option (Channel M) → Way M → Type 0
+FitsWay None w = ⊥
+FitsWay (Some c) w = Matches c w
 
 -- each direction of the network is what the calls, newest first, made of it
 abbrev pub ChannelsRepresent : {M : Type 0} → ℕ → ℕ → List (Channel M) → List (Call M) → Type 0
 ChannelsRepresent tms dms channels calls =
     (a b : Site) → IsTrue (is_link tms dms a b)
-    → Fits (slice_get channels (index_of tms dms a b)) (link a b calls).there
+    → FitsWay (slice_get channels (index_of tms dms a b)) (link a b calls).there
 
 abbrev pub Represents : {M : Type 0} → Kept (Directions M) → List (Call M) → Type 0
 Represents net calls = ChannelsRepresent net.value.tms net.value.dms net.value.channels calls
@@ -94,18 +94,18 @@ IsLiveAt (Some c) = IsLive c
 
 -- one direction now stands for this way, and the others stay
 pub record Changes {M : Type 0} (old new : List (Channel M)) (at : ℕ) (w : Way M) : Type 0 where
-  pub fits : Fits (slice_get new at) w
+  pub fits : FitsWay (slice_get new at) w
   pub others : (k : ℕ) → k ≢ at → slice_get new k ≡ slice_get old k
 
 -- two directions stand for a link and the link back
 pub record ArePair {M : Type 0} (channels : List (Channel M)) (there back : ℕ) (l : Link M) : Type 0 where
   pub apart : there ≢ back
-  pub fits_there : Fits (slice_get channels there) l.there
-  pub fits_back : Fits (slice_get channels back) l.back
+  pub fits_there : FitsWay (slice_get channels there) l.there
+  pub fits_back : FitsWay (slice_get channels back) l.back
 
 pub record ChangesPair {M : Type 0} (old new : List (Channel M)) (there back : ℕ) (l : Link M) : Type 0 where
-  pub fits_there : Fits (slice_get new there) l.there
-  pub fits_back : Fits (slice_get new back) l.back
+  pub fits_there : FitsWay (slice_get new there) l.there
+  pub fits_back : FitsWay (slice_get new back) l.back
   pub others : (k : ℕ) → k ≢ there → k ≢ back → slice_get new k ≡ slice_get old k
 
 -- how many messages were put on a link

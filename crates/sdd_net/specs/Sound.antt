@@ -18,6 +18,6 @@ pub record IsSoundWay {M : Type 0} (w : Way M) (back : ℕ) : Type 0 where
   pub numbers : All (IsNumber w.sent) w.arrived
   pub acked : w.acked ≤ delivered w
 
-pub record IsSound {M : Type 0} (l : Link M) : Type 0 where
+pub record IsSoundLink {M : Type 0} (l : Link M) : Type 0 where
   pub there : IsSoundWay l.there (delivered l.back)
   pub back : IsSoundWay l.back (delivered l.there)

@@ -1,8 +1,8 @@
 ghost use Rattle.std.specs.Prelude.{◌≡◌, ◌+◌, ◌-◌, ◌^◌, ◌≤◌, ◌<◌, [], ◌∷◌, ◌++◌, nat_lt, length, slice_get, true, false, IsTrue, IfOk, OnOk, Some, None};
 ghost use Rattle.sdd_net.specs.Links.{Way, Link, delivered, newly_delivered, packet_at, deliver, unacked, without_at, with_message, with_flight, with_arrival, with_ack, delivery};
 ghost use Rattle.sdd_net.specs.Parts.{last_number};
-ghost use Rattle.sdd_net.specs.Sound.{IsSound};
-ghost use Rattle.sdd_net.specs.Nets.{Fits, IsLiveAt, Changes, ArePair, ChangesPair, sent_by};
+ghost use Rattle.sdd_net.specs.Sound.{IsSoundLink};
+ghost use Rattle.sdd_net.specs.Nets.{FitsWay, IsLiveAt, Changes, ArePair, ChangesPair, sent_by};
 
 use crate::channel::Channel;
 use crate::delivered::Delivered;
@@ -18,7 +18,7 @@ pub fn put_at<M: Parcel>(channels: &mut Vec<Channel<M>>, at: usize, msg: M) -> R
     requires live { IsLiveAt (slice_get channels.old.items at) }
     requires room { sent_by (slice_get channels.old.items at) < MAX_LINK_MESSAGES }
     ensures { OnOk result (
-        (w : Way M) → w.acked ≤ length w.sent → Fits (slice_get channels.old.items at) w
+        (w : Way M) → w.acked ≤ length w.sent → FitsWay (slice_get channels.old.items at) w
         → Changes channels.old.items channels.new.items at (with_message msg w)) }
 {
     let channel = &mut channels[at];
@@ -34,9 +34,9 @@ pub fn take_at<M: Parcel>(
 ) -> Option<Packet<M>>
     requires live { IsLiveAt (slice_get channels.old.items at) }
     requires place { 1 ≤ place }
-    ensures packet { (w : Way M) → Fits (slice_get channels.old.items at) w
+    ensures packet { (w : Way M) → FitsWay (slice_get channels.old.items at) w
         → result ≡ slice_get w.flight (place - 1) }
-    ensures some { (w : Way M) → Fits (slice_get channels.old.items at) w
+    ensures some { (w : Way M) → FitsWay (slice_get channels.old.items at) w
         → Changes channels.old.items channels.new.items at
         (with_flight (without_at w.flight (place - 1)) w) }
 {
@@ -53,7 +53,7 @@ fn send_at<M: Parcel>(
 ) -> Result<(), NoMemory>
     requires live { IsLiveAt (slice_get channels.old.items at) }
     ensures { OnOk result (
-        (w : Way M) → Fits (slice_get channels.old.items at) w
+        (w : Way M) → FitsWay (slice_get channels.old.items at) w
         → Changes channels.old.items channels.new.items at (with_flight (w.flight ++ packet ∷ []) w)) }
 {
     let channel = &mut channels[at];
@@ -70,11 +70,11 @@ pub fn repeat_at<M: Parcel>(
     requires live { IsLiveAt (slice_get channels.old.items at) }
     requires place { 1 ≤ place }
     ensures some { result ≡ Ok true → (w : Way M) (packet : Packet M)
-        → Fits (slice_get channels.old.items at) w → slice_get w.flight (place - 1) ≡ Some packet
+        → FitsWay (slice_get channels.old.items at) w → slice_get w.flight (place - 1) ≡ Some packet
         → Changes channels.old.items channels.new.items at (with_flight (w.flight ++ packet ∷ []) w) }
-    ensures there { result ≡ Ok true → (w : Way M) → Fits (slice_get channels.old.items at) w
+    ensures there { result ≡ Ok true → (w : Way M) → FitsWay (slice_get channels.old.items at) w
         → place ≤ length w.flight }
-    ensures none { result ≡ Ok false → (w : Way M) → Fits (slice_get channels.old.items at) w
+    ensures none { result ≡ Ok false → (w : Way M) → FitsWay (slice_get channels.old.items at) w
         → Changes channels.old.items channels.new.items at w × (length w.flight < place) }
 {
     let channel = &mut channels[at];
@@ -86,10 +86,10 @@ pub fn repeat_at<M: Parcel>(
 pub fn resend_at<M: Parcel>(channels: &mut Vec<Channel<M>>, at: usize) -> Result<bool, NoMemory>
     requires live { IsLiveAt (slice_get channels.old.items at) }
     ensures some { IfOk result (λ some.
-        (w : Way M) → Fits (slice_get channels.old.items at) w
+        (w : Way M) → FitsWay (slice_get channels.old.items at) w
         → some ≡ nat_lt w.acked (length w.sent)) }
     ensures law { OnOk result (
-        (w : Way M) → Fits (slice_get channels.old.items at) w
+        (w : Way M) → FitsWay (slice_get channels.old.items at) w
         → Changes channels.old.items channels.new.items at (with_flight (w.flight ++ unacked w) w)) }
 {
     let channel = &mut channels[at];
@@ -101,7 +101,7 @@ pub fn resend_at<M: Parcel>(channels: &mut Vec<Channel<M>>, at: usize) -> Result
 fn acknowledge_at<M: Parcel>(channels: &mut Vec<Channel<M>>, at: usize, k: u32)
     requires live { IsLiveAt (slice_get channels.old.items at) }
     requires known { k ≤ sent_by (slice_get channels.old.items at) }
-    ensures { (w : Way M) → Fits (slice_get channels.old.items at) w
+    ensures { (w : Way M) → FitsWay (slice_get channels.old.items at) w
         → Changes channels.old.items channels.new.items at (with_ack k w) }
 {
     let channel = &mut channels[at];
@@ -120,13 +120,13 @@ fn receive_at<M: Parcel>(
     requires number { 1 ≤ no }
     ensures handed { IfOk result (λ given.
         (w : Way M) → slice_get w.sent (no - 1) ≡ Some msg
-        → Fits (slice_get channels.old.items at) w → given.0 ≡ newly_delivered w (with_arrival no w)) }
+        → FitsWay (slice_get channels.old.items at) w → given.0 ≡ newly_delivered w (with_arrival no w)) }
     ensures count { IfOk result (λ given.
         (w : Way M) → slice_get w.sent (no - 1) ≡ Some msg
-        → Fits (slice_get channels.old.items at) w → given.1 ≡ delivered (with_arrival no w)) }
+        → FitsWay (slice_get channels.old.items at) w → given.1 ≡ delivered (with_arrival no w)) }
     ensures law { OnOk result (
         (w : Way M) → slice_get w.sent (no - 1) ≡ Some msg
-        → Fits (slice_get channels.old.items at) w
+        → FitsWay (slice_get channels.old.items at) w
         → Changes channels.old.items channels.new.items at (with_arrival no w)) }
 {
     let channel = &mut channels[at];
@@ -141,12 +141,12 @@ pub fn deliver_at<M: Parcel>(
     place: u32,
 ) -> Result<Delivered<M>, NoMemory>
     requires place { 1 ≤ place }
-    requires pair { (l : Link M) × ArePair channels.old.items there back l × IsSound l }
+    requires pair { (l : Link M) × ArePair channels.old.items there back l × IsSoundLink l }
     ensures given { IfOk result (λ given.
-        (l : Link M) → ArePair channels.old.items there back l → IsSound l
+        (l : Link M) → ArePair channels.old.items there back l → IsSoundLink l
         → given ≡ delivery place l) }
     ensures law { OnOk result (
-        (l : Link M) → ArePair channels.old.items there back l → IsSound l
+        (l : Link M) → ArePair channels.old.items there back l → IsSoundLink l
         → ChangesPair channels.old.items channels.new.items there back (deliver place l)) }
 {
     match take_at(channels, there, place) {

@@ -1,6 +1,6 @@
 ghost use Rattle.std.specs.Prelude.{◌≡◌, ◌+◌, ◌<◌, ◌≤◌, ℕ, List, [], ◌∷◌, ◌++◌, length, map, slice_index_or, slice_set, IfOk, OnErr, OnOk, MatchOption, true, Some};
 ghost use Rattle.sdd_base.specs.declared.site.Site.{Site};
-ghost use Rattle.sdd_net.specs.Mailboxes.{empty_mailbox, kept_from, place_of, IsSender, Puts, Takes, TakesFirst, IsLowest};
+ghost use Rattle.sdd_net.specs.Mailboxes.{empty_mailbox, kept_from, place_of, IsSender, Puts, TakesMessage, TakesFirst, IsLowest};
 
 use sdd_base::{MAX_TMS, NoMemory, Site, TmNo};
 use std::alloc::Global;
@@ -59,11 +59,11 @@ impl<M: Drop> Mailbox<M> {
         count_at(&self.queues, place_of(from))
     }
 
-    /// Takes the first message of the lowest sender of whom there is one.
+    /// TakesMessage the first message of the lowest sender of whom there is one.
     pub fn take(&mut self) -> Option<(Site, M)>
         ensures { MatchOption result
             ((self.new ≡ self.old) × ((x : Site) → kept_from self.old x ≡ []))
-            (λ (from, msg). Takes self.old self.new from msg × IsLowest self.old from) }
+            (λ (from, msg). TakesMessage self.old self.new from msg × IsLowest self.old from) }
     {
         let (place, msg) = pop_first(&mut self.queues)?;
         Some((site_at(place), msg))
@@ -115,7 +115,7 @@ fn push_at<M: Drop>(queues: &mut Vec<VecDeque<M>>, place: usize, msg: M) -> Resu
     Ok(())
 }
 
-/// Takes the first item of one list.
+/// TakesMessage the first item of one list.
 fn pop_at<M: Drop>(queues: &mut Vec<VecDeque<M>>, place: usize) -> Option<M>
     requires { place < length queues.old.items }
     ensures count { length queues.new.items ≡ length queues.old.items }
@@ -131,7 +131,7 @@ fn pop_at<M: Drop>(queues: &mut Vec<VecDeque<M>>, place: usize) -> Option<M>
     queue.pop_front()
 }
 
-/// Takes the first item of the first list that isn't empty.
+/// TakesMessage the first item of the first list that isn't empty.
 fn pop_first<M: Drop>(queues: &mut Vec<VecDeque<M>>) -> Option<(usize, M)>
     ensures count { length queues.new.items ≡ length queues.old.items }
     ensures items { MatchOption result

@@ -1,7 +1,7 @@
 ghost use Rattle.std.specs.Prelude.{◌≡◌, ◌≤◌, [], length, not, replicate, true, false, IfOk, OnErr, OnOk, MatchOption};
 ghost use Rattle.sdd_base.specs.declared.limits.TheConstants.{MAX_TMS, MAX_DMS};
 ghost use Rattle.sdd_base.specs.declared.site.Site.{Site};
-ghost use Rattle.sdd_net.specs.Mailboxes.{empty_mailbox, kept_from, mailbox_at, IsSender, Puts, Takes, IsLowest, OnlyAt};
+ghost use Rattle.sdd_net.specs.Mailboxes.{empty_mailbox, kept_from, mailbox_at, IsSender, Puts, TakesMessage, IsLowest, OnlyAt};
 
 use crate::mailbox::Mailbox;
 use sdd_base::{DmNo, MAX_DMS, MAX_TMS, NoMemory, Site};
@@ -40,7 +40,7 @@ impl<M: Drop> Spool<M> {
         Ok(Spool { boxes })
     }
 
-    /// Whether the module is down. Takes no memory, and constant time.
+    /// Whether the module is down. TakesMessage no memory, and constant time.
     pub fn is_down(&self, dm: DmNo) -> bool
         requires first { 1 ≤ dm.0 }
         requires last { dm.0 ≤ length self.now }
@@ -49,7 +49,7 @@ impl<M: Drop> Spool<M> {
         self.boxes[dm.0 as usize - 1].down
     }
 
-    /// How many messages of a sender are kept for the module. Takes no memory, and constant time.
+    /// How many messages of a sender are kept for the module. TakesMessage no memory, and constant time.
     pub fn kept(&self, dm: DmNo, from: Site) -> usize
         requires first { 1 ≤ dm.0 }
         requires last { dm.0 ≤ length self.now }
@@ -59,7 +59,7 @@ impl<M: Drop> Spool<M> {
         self.boxes[dm.0 as usize - 1].count(from)
     }
 
-    /// The module goes down; false exactly where it is down. Takes no memory.
+    /// The module goes down; false exactly where it is down. TakesMessage no memory.
     pub fn down(&mut self, dm: DmNo) -> bool
         requires first { 1 ≤ dm.0 }
         requires last { dm.0 ≤ length self.old }
@@ -74,7 +74,7 @@ impl<M: Drop> Spool<M> {
         was_up
     }
 
-    /// The module comes up; false exactly where it isn't down. Takes no memory.
+    /// The module comes up; false exactly where it isn't down. TakesMessage no memory.
     pub fn up(&mut self, dm: DmNo) -> bool
         requires first { 1 ≤ dm.0 }
         requires last { dm.0 ≤ length self.old }
@@ -105,8 +105,8 @@ impl<M: Drop> Spool<M> {
         mailbox.put(from, msg)
     }
 
-    /// Takes the earliest message of the lowest sender of whom one is kept for the module; None
-    /// exactly where none is. Takes no memory; costs constant time for each sender.
+    /// TakesMessage the earliest message of the lowest sender of whom one is kept for the module; None
+    /// exactly where none is. TakesMessage no memory; costs constant time for each sender.
     pub fn take(&mut self, dm: DmNo) -> Option<(Site, M)>
         requires first { 1 ≤ dm.0 }
         requires last { dm.0 ≤ length self.old }
@@ -114,7 +114,7 @@ impl<M: Drop> Spool<M> {
         ensures message { MatchOption result
             ((mailbox_at self.new dm.0 ≡ mailbox_at self.old dm.0)
             × ((x : Site) → kept_from (mailbox_at self.old dm.0) x ≡ []))
-            (λ (from, msg). Takes (mailbox_at self.old dm.0) (mailbox_at self.new dm.0) from msg
+            (λ (from, msg). TakesMessage (mailbox_at self.old dm.0) (mailbox_at self.new dm.0) from msg
             × IsLowest (mailbox_at self.old dm.0) from) }
         ensures count { length self.new ≡ length self.old }
         ensures others { OnlyAt self.old self.new dm.0 }

@@ -1,5 +1,5 @@
 -- All that the modules ask: what is next on a lawful log fits the module to which it goes.
-use Rattle.sdd_obligations.proofs.All.{Bool, D, DmNo, Entry, Facts, FitsEra, FitsSite, Hand, Input, IsFit, IsGood, IsLawful, IsWithin, Log, Mark, Msg, Redeclares, Site, Some, Submitted, T, Tick, TmNo, Txn, U, arith, base_of, class_for, clock, false, fits_submit, greatest_bound, height, if◌then◌else◌, lawful_permitted, local_of, next, nth_era, redeclares, setting_of, sound_whole, subst, suc, sym, tm_no, top, true, txn_at, ℕ, ◌/◌, ◌<◌, ◌==◌, ◌^◌, ◌∷◌, ◌≡◌, ◌≤◌}
+use Rattle.sdd_obligations.proofs.All.{Bool, D, DmNo, Entry, Facts, FitsEra, FitsSite, Hand, Input, IsGood, IsLawful, IsRunnable, IsWithin, Log, Mark, Msg, Redeclares, Site, Some, Submitted, T, Tick, TmNo, Txn, U, arith, base_of, class_for, clock, false, fits_submit, greatest_bound, height, if◌then◌else◌, lawful_permitted, local_of, next, nth_era, redeclares, setting_of, sound_whole, subst, suc, sym, tm_no, top, true, txn_at, ℕ, ◌/◌, ◌<◌, ◌==◌, ◌^◌, ◌∷◌, ◌≡◌, ◌≤◌}
 use Rattle.sdd_obligations.proofs.Put.{databases}
 use Rattle.sdd_obligations.proofs.Early.{clock_below, height_below, is_under}
 use Rattle.sdd_obligations.proofs.OfNext.{of_next}
@@ -16,7 +16,7 @@ use Rattle.sdd_obligations.specs.Real.{fits}
 early : (t : ℕ) → t < 2 ^ 53 → t < 2 ^ 56
 early t l = omega (arith, l)
 
-fit_of : (g : Input) → IsGood g → IsFit g
+fit_of : (g : Input) → IsGood g → IsRunnable g
 fit_of g good =
     let w = sound_whole g.catalogue good.given.sound in
     record {

@@ -1,5 +1,5 @@
 -- The changes of a transaction that fits, on a database, as WRITEs take them to data modules.
-use Rattle.sdd_obligations.proofs.All.{All-from_recursion, AllByRecursion, AreMade, AreWritten, Bool, Catalogue, Change, Changed, Database, FitsText, IsDatabase, IsDistinct, IsDistinct-from_sorted, IsDistinct-keys_filter, IsItemChange, IsSound, List, Txn, [], all_kept, ap, change_of, changes_at, changes_items, cond, effect, effect_made, eq_by_cmp, false, filter, has_copy, is_eq, item_cmp, keys_of, map, refl, sorted_nil, subst, sym, true, ℕ, ℤ, ◌∙◌, ◌∷◌, ◌≡◌}
+use Rattle.sdd_obligations.proofs.All.{All-from_recursion, AllByRecursion, AreMade, AreWritten, Bool, Catalogue, Change, Changed, Database, FitsText, IsDatabase, IsDistinct, IsDistinct-from_sorted, IsDistinct-keys_filter, IsItemChange, IsSoundCatalogue, List, Txn, [], all_kept, ap, change_of, changes_at, changes_items, cond, effect, effect_made, eq_by_cmp, false, filter, has_copy, is_eq, item_cmp, keys_of, map, refl, sorted_nil, subst, sym, true, ℕ, ℤ, ◌∙◌, ◌∷◌, ◌≡◌}
 
 -- what all have, those have that are kept; and these pass the test
 
@@ -32,7 +32,7 @@ made_differ p changes made =
     ap (λ xs. map key_of (filter p xs)) made.are ∙ kept_keys p made.changed in
     subst (IsDistinct (λ x y. is_eq (item_cmp x y))) (sym keys) differ
 
-pub effect_written : (cat : Catalogue) → IsSound cat → (txn : Txn) → FitsText cat txn → (db : Database)
+pub effect_written : (cat : Catalogue) → IsSoundCatalogue cat → (txn : Txn) → FitsText cat txn → (db : Database)
     → IsDatabase cat db → (d : ℕ) → AreWritten cat d (changes_at cat d (effect cat db txn).changes)
 effect_written cat sound txn fits db is d =
     let xs : List Change = (effect cat db txn).changes in

@@ -1,5 +1,5 @@
 -- The database of an attempt's snapshots has the copies that its modules had at their Answers.
-use Rattle.sdd_obligations.proofs.All.{Act, Answer, ArePlaced, AreThere, Attempt, Catalogue, Change, Contains, Contains-range, D, Database, Dated, DmNo, Does, FitsInput, FragNo, Has, Has-filter_map, Has-filter_map_from, Has-flat_map, Has-flat_map_from, Has-map, Has-map_from, HasAnswer, HasCopies, HasEras, Input, IsChange, IsItemChange, IsPermitted, IsPiece, IsPlaced, IsSound, IsUsed, Item, List, Log, Msg, None, Option, Read, Records, Row, Setting, Some, Txn, Use, active, answered_all, ap, arith, ascending, base_of, before_answer, contains, copies_read, dated, dm_no, each_has, each_of, entry_placed, false, filter_map, flat_map, fragment_at, fragment_of, fragments_in, frags_asked, has_copies, head, home, home_of, if◌then◌else◌, inl, inr, is_at, is_over, is_read_at, is_some, items_of, length, local_grows, local_of, map, modules_asked, modules_of, numbers_to, of_has, option_eq, own_act, pipe, reads_at, recursion_from_All, refl, same_number, served_read, setting_of, snapshots_at, some_copy, subst, sym, there_is, to_has, true, use_part, use_there, uses_of, uses_there, ℕ, ◌++◌, ◌==◌, ◌∙◌, ◌∷◌, ◌≡◌, ◌≤◌}
+use Rattle.sdd_obligations.proofs.All.{Act, Answer, ArePlaced, AreThere, Attempt, Catalogue, Change, Contains, Contains-range, D, Database, Dated, DmNo, Does, FitsInput, FragNo, Has, Has-filter_map, Has-filter_map_from, Has-flat_map, Has-flat_map_from, Has-map, Has-map_from, HasAnswer, HasCopies, HasEras, Input, IsChange, IsItemChange, IsPermitted, IsPiece, IsPlaced, IsSoundCatalogue, IsUsed, Item, List, Log, Msg, None, Option, Read, Records, Row, Setting, Some, Txn, Use, active, answered_all, ap, arith, ascending, base_of, before_answer, contains, copies_read, dated, dm_no, each_has, each_of, entry_placed, false, filter_map, flat_map, fragment_at, fragment_of, fragments_in, frags_asked, has_copies, head, home, home_of, if◌then◌else◌, inl, inr, is_at, is_over, is_read_at, is_some, items_of, length, local_grows, local_of, map, modules_asked, modules_of, numbers_to, of_has, option_eq, own_act, pipe, reads_at, recursion_from_All, refl, same_number, served_read, setting_of, snapshots_at, some_copy, subst, sym, there_is, to_has, true, use_part, use_there, uses_of, uses_there, ℕ, ◌++◌, ◌==◌, ◌∙◌, ◌∷◌, ◌≡◌, ◌≤◌}
 use Rattle.sdd_obligations.proofs.EffectsHeld.{HandFits, all_items}
 use Rattle.sdd_obligations.proofs.Put.{acts_fit, databases, hands_fit}
 use Rattle.sdd_obligations.proofs.ShippedAnswered.{answer_to, uses_at_head}
@@ -30,7 +30,7 @@ frag_there cat txn u f h k =
     (each_of (λ (u : Use). AreThere cat u.frags) (uses_of cat txn) u
     (recursion_from_All (λ (u : Use). AreThere cat u.frags) (uses_of cat txn) (uses_there cat txn)) h)) k
 
-reads_somewhere : (cat : Catalogue) → IsSound cat → (c : ℕ) (txn : Txn) → Covers cat c txn
+reads_somewhere : (cat : Catalogue) → IsSoundCatalogue cat → (c : ℕ) (txn : Txn) → Covers cat c txn
     → (u : Use) (f : FragNo) → Has (uses_of cat txn) u → Has u.frags f → (d : ℕ) × (reads_at cat c f.0 ≡ Some d)
 reads_somewhere cat sound c txn (inl z) u f h k =
     let there = frag_there cat txn u f h k in
@@ -39,7 +39,7 @@ reads_somewhere cat sound c txn (inr cov) u f h k =
     some_is (reads_at cat c f.0) (cov.reads f.0 (has_contains (fragments_in (uses_of cat txn)) f.0 (frag_among (uses_of cat txn) u f h k)))
 
 -- the module is there, and is asked
-pub module_there : (cat : Catalogue) → IsSound cat → (c : ℕ) (txn : Txn) → Covers cat c txn
+pub module_there : (cat : Catalogue) → IsSoundCatalogue cat → (c : ℕ) (txn : Txn) → Covers cat c txn
     → (u : Use) (f : FragNo) (d : ℕ) → Has (uses_of cat txn) u → Has u.frags f → reads_at cat c f.0 ≡ Some d → (1 ≤ d) × (d ≤ cat.dms)
 module_there cat sound c txn cov u f d h k e =
     let there = frag_there cat txn u f h k in
@@ -51,7 +51,7 @@ module_in cat d within =
     let low = within.0 in let high = within.1 in
     to_has (numbers_to cat.dms) d (Contains-range 1 cat.dms d low (omega arith))
 
-module_asked : (cat : Catalogue) → IsSound cat → (c : ℕ) (txn : Txn) → Covers cat c txn
+module_asked : (cat : Catalogue) → IsSoundCatalogue cat → (c : ℕ) (txn : Txn) → Covers cat c txn
     → (u : Use) (f : FragNo) (d : ℕ) → Has (uses_of cat txn) u → Has u.frags f → reads_at cat c f.0 ≡ Some d
     → Has (modules_of cat c (ascending (fragments_in (uses_of cat txn)))) d
 module_asked cat sound c txn cov u f d h k e =
@@ -90,7 +90,7 @@ frag_asked cat c d txn f h =
 
 -- the places of changes
 
-item_placed : (cat : Catalogue) → IsSound cat → (c : Change) → IsItemChange cat c → IsPlaced cat c
+item_placed : (cat : Catalogue) → IsSoundCatalogue cat → (c : Change) → IsItemChange cat c → IsPlaced cat c
 item_placed cat sound c h =
     let is : IsChange cat ((c.frag.0, c.key), c.row) = h in
     ap (λ r. fragment_of cat r c.key) (ap (λ n. (fragment_at cat n).rel.0) is.frag ∙ entry_placed cat sound is.rel c.key is.there is.held) ∙ sym is.frag

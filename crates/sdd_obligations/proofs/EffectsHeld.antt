@@ -1,5 +1,5 @@
 -- What a data module holds, where the WRITEs that are handed to it have changes of items.
-use Rattle.sdd_obligations.proofs.All.{Act, AllByRecursion, Answer, AreWritten, Bool, Catalogue, Change, Dated, Did, Each, Handed, IsDatabase, IsEntry, IsItemChange, IsSound, List, Msg, Option, Pipe, Records, Redeclared, Sends, Setting, Some, Submits, Ticked, Write, [], all_joined, applied, applied_acted, changes_in, classes_of, database_of, dated, false, flat_map, frags_asked, goes_through, head, head_of, head_processed, if◌then◌else◌, is_apply, is_at, is_processing, items_of, map, pipe, pipe_acted, put, recursion_from_All, snapshots, tail_of, true, ℕ, ◌&&◌, ◌++◌, ◌==◌, ◌∷◌}
+use Rattle.sdd_obligations.proofs.All.{Act, AllByRecursion, Answer, AreWritten, Bool, Catalogue, Change, Dated, Did, Each, Handed, IsDatabase, IsEntry, IsItemChange, IsSoundCatalogue, List, Msg, Option, Pipe, Records, Redeclared, Sends, Setting, Some, Submits, Ticked, Write, [], all_joined, applied, applied_acted, changes_in, classes_of, database_of, dated, false, flat_map, frags_asked, goes_through, head, head_of, head_processed, if◌then◌else◌, is_apply, is_at, is_processing, items_of, map, pipe, pipe_acted, put, recursion_from_All, snapshots, tail_of, true, ℕ, ◌&&◌, ◌++◌, ◌==◌, ◌∷◌}
 use Rattle.sdd_obligations.proofs.Entries.{AreItems, all_gathered, first_are_items, items_are_entries}
 use Rattle.sdd_invariants.specs.site_module.SiteLog.{Entry, Log}
 
@@ -71,7 +71,7 @@ applied_items cat d c [] h = tt
 applied_items cat d c (Did act ∷ log) h = act_items cat d c act (pipe c log) (applied c log) (pipe_fits cat d c log h.1) (applied_items cat d c log h.1)
 applied_items cat d c (_ ∷ log) h = applied_items cat d c log h.1
 
-module _ (s : Setting) (sound : IsSound s.catalogue) (first : IsDatabase s.catalogue (database_of s.catalogue s.rows)) (d : ℕ) where
+module _ (s : Setting) (sound : IsSoundCatalogue s.catalogue) (first : IsDatabase s.catalogue (database_of s.catalogue s.rows)) (d : ℕ) where
   -- all changes that make the copies are of items
   pub all_items : (log : Log) → Each (HandFits s.catalogue d) log → AreItems s.catalogue (dated s log)
   all_items log h =

@@ -1,5 +1,5 @@
 -- What copies hold are entries of a database, where the changes that make them are changes of items.
-use Rattle.sdd_obligations.proofs.All.{AllByRecursion, Catalogue, Change, Database, Dated, Decides-eqb, FitsRow, HasRow, IsChange, IsDatabase, IsEntry, IsItemChange, IsRelation, IsSound, Item, List, None, Option, Row, Some, [], all_joined, ap, cond, cons_option, entry_placed, eq_is, false, filter_map, first_row, flat_map, fold, fragment_at, if◌then◌else◌, int_cmp, is_eq, items_of, key_in, keys_in, latest, map, nat_lt, newer, no_database, of_fragment, recursion_from_All, refl, row_left, row_with, same_key, subst, sym, true, with_item, with_row_stays, ℕ, ℤ, ◌==◌, ◌∙◌, ◌∷◌, ◌≡◌}
+use Rattle.sdd_obligations.proofs.All.{AllByRecursion, Catalogue, Change, Database, Dated, Decides-eqb, FitsRow, HasRow, IsChange, IsDatabase, IsEntry, IsItemChange, IsRelation, IsSoundCatalogue, Item, List, None, Option, Row, Some, [], all_joined, ap, cond, cons_option, entry_placed, eq_is, false, filter_map, first_row, flat_map, fold, fragment_at, if◌then◌else◌, int_cmp, is_eq, items_of, key_in, keys_in, latest, map, nat_lt, newer, no_database, of_fragment, recursion_from_All, refl, row_left, row_with, same_key, subst, sym, true, with_item, with_row_stays, ℕ, ℤ, ◌==◌, ◌∙◌, ◌∷◌, ◌≡◌}
 use Rattle.sdd_invariants.specs.All.{in_range}
 
 -- each dated change is of an item
@@ -46,7 +46,7 @@ kept_of cat f (x ∷ xs) all =
 abbrev entry_at : Catalogue → ℕ → ℤ × Row → Item × Row
 entry_at cat f e = (((fragment_at cat f).rel.0, e.0), e.1)
 
-row_is_entry : (cat : Catalogue) → IsSound cat → (f : ℕ) (k : ℤ) (x : ℕ × Change) (row : Row)
+row_is_entry : (cat : Catalogue) → IsSoundCatalogue cat → (f : ℕ) (k : ℤ) (x : ℕ × Change) (row : Row)
     → IsChangeOf cat f k x → x.1.row ≡ Some row → IsEntry cat (entry_at cat f (k, row))
 row_is_entry cat sound f k x row change e =
     let c : Change = x.1 in
@@ -61,7 +61,7 @@ row_is_entry cat sound f k x row change e =
       key_held = subst (λ n. in_range n ≡ true) change.2 h.held;
     }
 
-one_more : (cat : Catalogue) → IsSound cat → (f : ℕ) (k : ℤ) (o : Option (ℕ × Change))
+one_more : (cat : Catalogue) → IsSoundCatalogue cat → (f : ℕ) (k : ℤ) (o : Option (ℕ × Change))
     (rest : List (ℤ × Row)) → ((x : ℕ × Change) → o ≡ Some x → IsChangeOf cat f k x)
     → AllByRecursion (IsEntry cat) (map (entry_at cat f) rest) → AllByRecursion (IsEntry cat) (map (entry_at cat f) (cons_option (row_left k o) rest))
 one_more cat sound f k None rest h all = all
@@ -71,14 +71,14 @@ one_more cat sound f k (Some x) rest h all =
       | Some row ↦ λ e. (row_is_entry cat sound f k x row (h x refl) e, all)
     ] refl
 
-left_entries : (cat : Catalogue) → IsSound cat → (f : ℕ) (ys : Dated) → AllByRecursion (IsOf cat f) ys
+left_entries : (cat : Catalogue) → IsSoundCatalogue cat → (f : ℕ) (ys : Dated) → AllByRecursion (IsOf cat f) ys
     → (ks : List ℤ) → AllByRecursion (IsEntry cat)
     (map (entry_at cat f) (filter_map (λ k. row_left k (latest k ys)) ks))
 left_entries cat sound f ys of [] = tt
 left_entries cat sound f ys of (k ∷ ks) =
     one_more cat sound f k (latest k ys) (filter_map (λ k. row_left k (latest k ys)) ks) (latest_stands cat f k ys of) (left_entries cat sound f ys of ks)
 
-pub items_are_entries : (cat : Catalogue) → IsSound cat → (xs : Dated) → AreItems cat xs → (f : ℕ) → AllByRecursion (IsEntry cat) (items_of cat xs f)
+pub items_are_entries : (cat : Catalogue) → IsSoundCatalogue cat → (xs : Dated) → AreItems cat xs → (f : ℕ) → AllByRecursion (IsEntry cat) (items_of cat xs f)
 items_are_entries cat sound xs all f = left_entries cat sound f (of_fragment f xs) (kept_of cat f xs all) (keys_in (of_fragment f xs))
 
 -- entries make a database

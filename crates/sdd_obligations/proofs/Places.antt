@@ -1,5 +1,5 @@
 -- The place of an Answer to a READ with a timestamp in the log of a data module: there is at most one.
-use Rattle.sdd_obligations.proofs.All.{Act, Answer, Bool, ClassNo, Cond, D, Did, DmNo, Does, Each, Input, IsClassHere, IsDueEach, IsPermitted, IsReadOf, IsReadStep, IsSound, List, Log, Msg, Option, Read, Records, Sends, Setting, Site, Some, Ts, TxnNo, Use, [], answered_there, ap, append_assoc, arith, by_record, by_wait, compare, d_fair, d_step, each_at, eqb-true, false, head, in_passing, inl, inr, is_at, is_moving, is_processing, length, local_of, permitted_before, pipe, pipe_at, place_of_act, read_of, refl, setting_of, subst, suc, sym, true, ℕ, ◌++◌, ◌<◌, ◌∙◌, ◌∷◌, ◌≡◌, ◌≤◌}
+use Rattle.sdd_obligations.proofs.All.{Act, Answer, Bool, ClassNo, Cond, D, Did, DmNo, Does, Each, Input, IsClassHere, IsDueEach, IsPermitted, IsReadOf, IsReadStep, IsSoundCatalogue, List, Log, Msg, Option, Read, Records, Sends, Setting, Site, Some, Ts, TxnNo, Use, [], answered_there, ap, append_assoc, arith, by_record, by_wait, compare, d_fair, d_step, each_at, eqb-true, false, head, in_passing, inl, inr, is_at, is_moving, is_processing, length, local_of, permitted_before, pipe, pipe_at, place_of_act, read_of, refl, setting_of, subst, suc, sym, true, ℕ, ◌++◌, ◌<◌, ◌∙◌, ◌∷◌, ◌≡◌, ◌≤◌}
 use Rattle.sdd_obligations.proofs.Starts.{one_start, read_later, small_home, start_here}
 use Rattle.sdd_invariants.specs.site_module.SiteLog as site
 
@@ -65,7 +65,7 @@ class_here g d log later before k txn attempt dm sends h e =
     omega arith
 
 -- an Answer isn't repeated: no Answer stands behind one to the same READ
-twice : (g : Input) → IsSound g.catalogue → (d : DmNo) (log : Log) (ts : ℕ) → IsPermitted g log
+twice : (g : Input) → IsSoundCatalogue g.catalogue → (d : DmNo) (log : Log) (ts : ℕ) → IsPermitted g log
     → (y : IsAnswerAt ts (local_of g (D d) log)) (z b : site.Log) (k : ℕ) (txn : TxnNo) (attempt : ℕ)
     (dm : DmNo) (sends : List (Site × Msg))
     → y.before ≡ z ++ Did (Records k (Answer txn attempt dm) sends) ∷ b → is_at ts (head (pipe k b)) ≡ true → ⊥
@@ -100,7 +100,7 @@ twice g sound d log ts h y z b k txn attempt dm sends e at =
     answered_there g k d px.later px.rest dm sends x.t r.t x.of r.of txn x.txn r.txn attempt x.attempt
     r.attempt x.conds r.conds x.uses r.uses hw (small_home g.catalogue sound k n1) hd1 hd3 (x.ts_is ∙ sym r.ts_is)
 
-pub one_answer : (g : Input) → IsSound g.catalogue → (d : DmNo) (log : Log) (ts : ℕ) → IsPermitted g log
+pub one_answer : (g : Input) → IsSoundCatalogue g.catalogue → (d : DmNo) (log : Log) (ts : ℕ) → IsPermitted g log
     → (x y : IsAnswerAt ts (local_of g (D d) log)) → (x.before ≡ y.before) × (x.class ≡ y.class)
 one_answer g sound d log ts h x y =
     let first : Act = Records x.class (Answer x.txn x.attempt x.dm) x.sends in

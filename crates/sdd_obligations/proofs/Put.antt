@@ -1,6 +1,6 @@
 -- The WRITEs that are put on links have changes of items, and the databases of snapshots are databases: each of these
 -- follows from the other one, a step of the log earlier.
-use Rattle.sdd_obligations.proofs.All.{Act, AreWritten, Attempt, Bases, Change, D, DmNo, Does, Each, Entry, FitsInput, FitsText, Hand, Handed, Input, IsAllowed, IsBased, IsDatabase, IsEntry, IsFair, IsNew, IsPermitted, IsPutBy, IsPutByD, IsSound, IsStep, IsWrite, List, Log, Msg, None, Option, Setting, Site, Some, T, U, Write, [], all_new, allowed_act, allowed_hand, ap, base_of, changes_at, commit_act, commit_put_is, dm_no, effect, flat_map, local_of, local_step, made, maker, message_at, numbers_to, own_act, place_of_act, put_by_d, refl, sends_of_act, sent_is, setting_of, slice_get, snapshots_at, subst, sym, t_commit, t_fair, to_site, u_commit, u_fair, was_put, with_made, ℕ, ◌++◌, ◌-◌, ◌∙◌, ◌∷◌, ◌≡◌}
+use Rattle.sdd_obligations.proofs.All.{Act, AreWritten, Attempt, Bases, Change, D, DmNo, Does, Each, Entry, FitsInput, FitsText, Hand, Handed, Input, IsAllowed, IsBased, IsDatabase, IsEntry, IsFair, IsNew, IsPermitted, IsPutBy, IsPutByD, IsSoundCatalogue, IsStep, IsWrite, List, Log, Msg, None, Option, Setting, Site, Some, T, U, Write, [], all_new, allowed_act, allowed_hand, ap, base_of, changes_at, commit_act, commit_put_is, dm_no, effect, flat_map, local_of, local_step, made, maker, message_at, numbers_to, own_act, place_of_act, put_by_d, refl, sends_of_act, sent_is, setting_of, slice_get, snapshots_at, subst, sym, t_commit, t_fair, to_site, u_commit, u_fair, was_put, with_made, ℕ, ◌++◌, ◌-◌, ◌∙◌, ◌∷◌, ◌≡◌}
 use Rattle.sdd_obligations.proofs.Changes.{effect_written}
 use Rattle.sdd_obligations.proofs.Entries.{all_gathered, entries_make_one}
 use Rattle.sdd_obligations.proofs.EffectsHeld.{FitsMsg, HandFits, snapshot_entries}
@@ -31,7 +31,7 @@ abbrev written : Msg → List Change
 written (Write ts class txn changes) = changes
 written _ = []
 
-module _ (s : Setting) (sound : IsSound s.catalogue) (bases : Bases) (are : (ts : ℕ)
+module _ (s : Setting) (sound : IsSoundCatalogue s.catalogue) (bases : Bases) (are : (ts : ℕ)
     → IsDatabase s.catalogue (bases ts)) (log : site.Log) (fair : Each (IsFair s) log)
     (new : Each IsNew log) (fit : (c : ℕ) → Each (SubmitHas (FitsText s.catalogue) s c) log) where
   write_fits : (c : ℕ) (others : Bases) (a : Attempt) (d : DmNo) (k : ℕ) (m : Msg) → IsBased s bases log (commit_act s.catalogue others c a)

@@ -170,7 +170,7 @@ pub same_option : (o : Option ℕ) (d : ℕ) → option_eq ◌==◌ o (Some d) �
 same_option None d e = cc
 same_option (Some x) d e = ap (λ y. Some y) (eqb-true x d e)
 
-copies_there : (cat : Catalogue) (c d : ℕ) (fs : List FragNo) → catalogues.IsSound cat → c ≤ length cat.classes → AllByRecursion (IsFragment cat) fs
+copies_there : (cat : Catalogue) (c d : ℕ) (fs : List FragNo) → catalogues.IsSoundCatalogue cat → c ≤ length cat.classes → AllByRecursion (IsFragment cat) fs
     → AllByRecursion (λ (f : FragNo). has_copy cat d f.0 ≡ true) (filter (λ (f : FragNo). is_read_at cat c d f.0) fs)
 copies_there cat c d [] sound l h = tt
 copies_there cat c d (f ∷ fs) sound l h =
@@ -185,7 +185,7 @@ copies_there cat c d (f ∷ fs) sound l h =
 
 uses_here : (s : Setting) (cat : Catalogue) (c d : ℕ) (us : List Use)
     → ((u : Use) → AllByRecursion (λ (f : FragNo). has_copy cat d f.0 ≡ true) u.frags → IsHere s u)
-    → catalogues.IsSound cat → c ≤ length cat.classes → AllByRecursion (AreFragments cat) us → AllByRecursion (IsHere s) (filter_map (use_there cat c d) us)
+    → catalogues.IsSoundCatalogue cat → c ≤ length cat.classes → AllByRecursion (AreFragments cat) us → AllByRecursion (IsHere s) (filter_map (use_there cat c d) us)
 uses_here s cat c d [] g sound l h = tt
 uses_here s cat c d (u ∷ us) g sound l h =
     let i = uses_here s cat c d us g sound l h.1 in
@@ -232,7 +232,7 @@ act_read s log act d place m i first =
     (λ to x hand f. λ first there r. never (is_a_read m) r (sym (ap is_a_read (the_one (D (dm_no d)) to x place m there).1) ∙ send_no_read s log x f)) i first
 
 -- of setting and catalogue of what is given
-start_fits : (g : Input) (at : Site) (d : DmNo) (log : Log) (class : ℕ) (q : Queued) → catalogues.IsSound g.catalogue
+start_fits : (g : Input) (at : Site) (d : DmNo) (log : Log) (class : ℕ) (q : Queued) → catalogues.IsSoundCatalogue g.catalogue
     → class ≤ length g.catalogue.classes → IsReadable (setting_of g (D d)) (start_read (setting_of g at) class log q d.0)
 start_fits g at d log class q sound l = record {
   is_class = l;
@@ -248,13 +248,13 @@ start_fits g at d log class q sound l = record {
       (λ u h. All-from_recursion (λ (f : FragNo). has_copy g.catalogue d.0 f.0 ≡ true) u.frags h) sound l (all_placed g.catalogue 0 q.text.statements));
 }
 
-read_at : (g : Input) (at : Site) (d : DmNo) (log : Log) (m : Msg) → catalogues.IsSound g.catalogue → IsReadOf (setting_of g at) log d.0 m
+read_at : (g : Input) (at : Site) (d : DmNo) (log : Log) (m : Msg) → catalogues.IsSoundCatalogue g.catalogue → IsReadOf (setting_of g at) log d.0 m
     → IsReadable (setting_of g (D d)) m
 read_at g at d log m sound r = subst (IsReadable (setting_of g (D d))) r.is (start_fits g at d log r.class r.queued sound r.here)
 
 -- a READ that is next to be handed over
 pub reads_are_readable : (g : Input) (log : all.Log) (a : Site) (d : DmNo) (n : ℕ) (m : Msg) → IsPermitted g (Hand a (D d) n m ∷ log)
-    → catalogues.IsSound g.catalogue → IsReadable (setting_of g (D d)) m
+    → catalogues.IsSoundCatalogue g.catalogue → IsReadable (setting_of g (D d)) m
 reads_are_readable g log a d n (Read t k txn attempt conds uses) h sound =
     let m : Msg = Read t k txn attempt conds uses in
     let own : ((t.0 == t.0) && (k.0 == k.0)) ≡ true = both (t.0 == t.0) (k.0 == k.0) (same_number t.0) (same_number k.0) in

@@ -1,5 +1,5 @@
 -- An Answer to the READ of an active attempt: of its class, at a module that it asked, for the uses that are read there.
-use Rattle.sdd_obligations.proofs.All.{Act, Answer, Attempt, D, DmNo, Does, Input, IsPermitted, IsRead, IsReadOf, IsSound, List, Log, Msg, None, Option, Queued, Read, Records, Setting, Site, Some, Use, [], active, ap, append_assoc, contains, dm_no, eqb-true, false, head, head_put, home, home_fair, if◌then◌else◌, length, local_of, map, modules_asked, next_stamp, or_left, or_right, permitted_before, pipe, pipe_at, place_of_act, read_of, refl, same_number, sends_of_act, setting_of, slice_get, start_of_active, start_read, subst, suc, sym, to_site, true, zero, ℕ, ◌++◌, ◌==◌, ◌∙◌, ◌∷◌, ◌≡◌, ◌≤◌}
+use Rattle.sdd_obligations.proofs.All.{Act, Answer, Attempt, D, DmNo, Does, Input, IsPermitted, IsRead, IsReadOf, IsSoundCatalogue, List, Log, Msg, None, Option, Queued, Read, Records, Setting, Site, Some, Use, [], active, ap, append_assoc, contains, dm_no, eqb-true, false, head, head_put, home, home_fair, if◌then◌else◌, length, local_of, map, modules_asked, next_stamp, or_left, or_right, permitted_before, pipe, pipe_at, place_of_act, read_of, refl, same_number, sends_of_act, setting_of, slice_get, start_of_active, start_read, subst, suc, sym, to_site, true, zero, ℕ, ◌++◌, ◌==◌, ◌∙◌, ◌∷◌, ◌≡◌, ◌≤◌}
 use Rattle.sdd_obligations.proofs.Places.{IsAnswerAt, class_here, read_at_head}
 use Rattle.sdd_obligations.proofs.Starts.{StartAt, drawn_already, one_start, read_later, start_here}
 use Rattle.sdd_serving.specs.Freezing.{uses_at}
@@ -94,7 +94,7 @@ read_started g log ts d h x =
       uses_are = ap uses_at_head r.is ∙ ap uses_in_read there.1;
     }
 
-pub answer_to : (g : Input) → IsSound g.catalogue → (c : ℕ) → c ≤ length g.catalogue.classes → (log : Log) (a : Attempt) (d : DmNo) → IsPermitted g log
+pub answer_to : (g : Input) → IsSoundCatalogue g.catalogue → (c : ℕ) → c ≤ length g.catalogue.classes → (log : Log) (a : Attempt) (d : DmNo) → IsPermitted g log
     → active (setting_of g (home g.catalogue c)) c (local_of g (home g.catalogue c) log) ≡ Some a
     → (x : IsAnswerAt a.ts (local_of g (D d) log)) → IsAnswerTo g c log a d x
 answer_to g sound c lc log a d h e x =
@@ -111,7 +111,7 @@ answer_to g sound c lc log a d h e x =
     }
 
 -- a timestamp that is still to be drawn has no Answer
-pub not_before : (g : Input) → IsSound g.catalogue → (c : ℕ) → c ≤ length g.catalogue.classes → (log : Log) (d : DmNo) → IsPermitted g log
+pub not_before : (g : Input) → IsSoundCatalogue g.catalogue → (c : ℕ) → c ≤ length g.catalogue.classes → (log : Log) (d : DmNo) → IsPermitted g log
     → IsAnswerAt (next_stamp (setting_of g (home g.catalogue c)) (local_of g (home g.catalogue c) log)) (local_of g (D d) log) → ⊥
 not_before g sound c lc log d h x =
     let r = read_started g log (next_stamp (setting_of g (home g.catalogue c)) (local_of g (home g.catalogue c) log)) d h x in

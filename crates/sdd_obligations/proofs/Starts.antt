@@ -1,5 +1,5 @@
 -- One timestamp, one Start: of whatever classes.
-use Rattle.sdd_obligations.proofs.All.{Bool, Catalogue, Did, Does, Input, IsReadOf, IsServedClass, IsSound, Log, Queued, Records, Setting, Site, Some, T, U, ap, append_assoc, arith, at_number, class_at, clock, clock_grows, clock_number, compare, false, head_of, home, inl, inr, length, local_grows, local_of, next_stamp, number_of, own_act, queue, refl, same_head, setting_of, sound_classes, sound_whole, start_at, subst, suc, sym, tm_no, true, zero, ℕ, ◌*◌, ◌++◌, ◌+◌, ◌==◌, ◌∙◌, ◌∷◌, ◌≡◌, ◌≤◌, ◌⊎◌}
+use Rattle.sdd_obligations.proofs.All.{Bool, Catalogue, Did, Does, Input, IsReadOf, IsServedClass, IsSoundCatalogue, Log, Queued, Records, Setting, Site, Some, T, U, ap, append_assoc, arith, at_number, class_at, clock, clock_grows, clock_number, compare, false, head_of, home, inl, inr, length, local_grows, local_of, next_stamp, number_of, own_act, queue, refl, same_head, setting_of, sound_classes, sound_whole, start_at, subst, suc, sym, tm_no, true, zero, ℕ, ◌*◌, ◌++◌, ◌+◌, ◌==◌, ◌∙◌, ◌∷◌, ◌≡◌, ◌≤◌, ◌⊎◌}
 use Rattle.sdd_invariants.specs.site_module.SiteLog as site
 
 -- in one site's log
@@ -67,7 +67,7 @@ pub record IsHomeT (cat : Catalogue) (c : ℕ) : Type 0 where
   pub from : 1 ≤ number
   pub to : number ≤ 16
 
-home_if : (cat : Catalogue) → IsSound cat → (c : ℕ) (b : Bool) → (c == 0) ≡ b → c ≤ length cat.classes → (home cat c ≡ U) ⊎ IsHomeT cat c
+home_if : (cat : Catalogue) → IsSoundCatalogue cat → (c : ℕ) (b : Bool) → (c == 0) ≡ b → c ≤ length cat.classes → (home cat c ≡ U) ⊎ IsHomeT cat c
 home_if cat sound c true e l = inl (rw e refl)
 home_if cat sound c false e l =
     let some : 1 ≤ c = above c e in
@@ -80,16 +80,16 @@ home_if cat sound c false e l =
     above zero e = cc
     above (suc c) e = omega arith
 
-pub home_is : (cat : Catalogue) → IsSound cat → (c : ℕ) → c ≤ length cat.classes → (home cat c ≡ U) ⊎ IsHomeT cat c
+pub home_is : (cat : Catalogue) → IsSoundCatalogue cat → (c : ℕ) → c ≤ length cat.classes → (home cat c ≡ U) ⊎ IsHomeT cat c
 home_is cat sound c l = home_if cat sound c (c == 0) refl l
 
-pub small_home : (cat : Catalogue) → IsSound cat → (c : ℕ) → c ≤ length cat.classes → number_of (home cat c) ≤ 63
+pub small_home : (cat : Catalogue) → IsSoundCatalogue cat → (c : ℕ) → c ≤ length cat.classes → number_of (home cat c) ≤ 63
 small_home cat sound c l = elim (home_is cat sound c l) [
   | inl e ↦ subst (λ x. number_of x ≤ 63) (sym e) (omega arith)
   | inr h ↦ (let to = h.to in let low : h.number ≤ 63 = omega arith in subst (λ x. number_of x ≤ 63) (sym h.is) low)
 ]
 
-same_home : (cat : Catalogue) → IsSound cat → (c k : ℕ) → c ≤ length cat.classes → k ≤ length cat.classes
+same_home : (cat : Catalogue) → IsSoundCatalogue cat → (c k : ℕ) → c ≤ length cat.classes → k ≤ length cat.classes
     → number_of (home cat c) ≡ number_of (home cat k) → home cat c ≡ home cat k
 same_home cat sound c k lc lk e = elim (home_is cat sound c lc) [
   | inl a ↦ elim (home_is cat sound k lk) [
@@ -109,7 +109,7 @@ stamp_is : (s : Setting) (log : site.Log) → next_stamp s log ≡ suc (clock s.
 stamp_is s log = let n = clock_number s.site log in omega arith
 
 -- two Starts with one timestamp are one, whatever their classes
-pub one_start : (g : Input) → IsSound g.catalogue → (c k : ℕ) (log : Log) (t : ℕ) (q1 q2 : Queued)
+pub one_start : (g : Input) → IsSoundCatalogue g.catalogue → (c k : ℕ) (log : Log) (t : ℕ) (q1 q2 : Queued)
     → c ≤ length g.catalogue.classes → k ≤ length g.catalogue.classes
     → StartAt g c log (home g.catalogue c) t q1 → StartAt g k log (home g.catalogue k) t q2 → (c ≡ k) × (q1 ≡ q2)
 one_start g sound c k log t q1 q2 lc lk x y =
@@ -124,7 +124,7 @@ one_start g sound c k log t q1 q2 lc lk x y =
     (r.1, same_head s c x.before z.before q1 q2 r.0 x.head_is (ap (λ j. head_of (queue s j z.before)) r.1 ∙ z.head_is))
 
 -- and none has the timestamp that a site draws next
-pub drawn_already : (g : Input) → IsSound g.catalogue → (c k : ℕ) (log : Log) (q : Queued) → c ≤ length g.catalogue.classes → k ≤ length g.catalogue.classes
+pub drawn_already : (g : Input) → IsSoundCatalogue g.catalogue → (c k : ℕ) (log : Log) (q : Queued) → c ≤ length g.catalogue.classes → k ≤ length g.catalogue.classes
     → StartAt g k log (home g.catalogue k) (next_stamp (setting_of g (home g.catalogue c)) (local_of g (home g.catalogue c) log)) q → ⊥
 drawn_already g sound c k log q lc lk y =
     let at : Site = home g.catalogue c in

@@ -1,5 +1,5 @@
 -- A transaction that is next to be given to a module is new there, fits, and is of the module.
-use Rattle.sdd_obligations.proofs.All.{Bool, Deliver, Did, Does, Down, Each, Entry, Era, Event, Fits, Hand, Handed, Input, IsLawful, IsNew, IsSmall, Log, Lose, Mark, None, Notes, Option, Repeat, Resend, Round, Site, Some, Submit, Submits, Submitted, T, Tick, Ticked, TmNo, Txn, U, Up, all_new, ap, arith, both, class_for, contains, current_era, differ, false, if_way, if◌then◌else◌, is_site, lawful_permitted, local_of, mark_due, nat_le, nat_tests, next, note_if, nth_era, redeclares, refl, same_site, setting_of, site_self, submits, subst, sym, true, txn_at, with_submit, with_tick, ℕ, ◌==◌, ◌∙◌, ◌∷◌, ◌≡◌, ◌≢◌, ◌≤◌}
+use Rattle.sdd_obligations.proofs.All.{Bool, Deliver, Did, Does, Down, Each, Entry, Era, Event, FitsTxn, Hand, Handed, Input, IsLawful, IsNew, IsSmall, Log, Lose, Mark, None, Notes, Option, Repeat, Resend, Round, Site, Some, Submit, Submits, Submitted, T, Tick, Ticked, TmNo, Txn, U, Up, all_new, ap, arith, both, class_for, contains, current_era, differ, false, if_way, if◌then◌else◌, is_site, lawful_permitted, local_of, mark_due, nat_le, nat_tests, next, note_if, nth_era, redeclares, refl, same_site, setting_of, site_self, submits, subst, sym, true, txn_at, with_submit, with_tick, ℕ, ◌==◌, ◌∙◌, ◌∷◌, ◌≡◌, ◌≢◌, ◌≤◌}
 use Rattle.sdd_obligations.proofs.OfNext.{of_next}
 use Rattle.sdd_invariants.specs.logs.Due.{home_of}
 use Rattle.sdd_invariants.specs.site_module.SiteLog as site
@@ -101,5 +101,5 @@ home_of_some g log at (Some txn) f e =
     let r = f txn refl in home_site g.catalogue.tms g.catalogue.dms (class_for (nth_era g (redeclares log)).catalogue txn == 0) txn.tm at r.0 r.1 e
 
 pub home_exists : (g : Input) (log : Log) (at : Site) (n : ℕ) → IsSmall g → IsLawful g log → next g log ≡ Some (Submitted at n)
-    → ((k : ℕ) (txn : Txn) → txn_at g k ≡ Some txn → Fits g.catalogue txn) → is_site g.catalogue.tms g.catalogue.dms at ≡ true
+    → ((k : ℕ) (txn : Txn) → txn_at g k ≡ Some txn → FitsTxn g.catalogue txn) → is_site g.catalogue.tms g.catalogue.dms at ≡ true
 home_exists g log at n s l e fit = home_of_some g log at (txn_at g n) (λ txn p. let i = (fit n txn p).module_is_there in (i.0, i.1)) (at_home g log at n s l e)

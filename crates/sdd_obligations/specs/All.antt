@@ -41,7 +41,7 @@ pub use Rattle.sdd_obligations.specs.base.declared.usage.Use.{Use}
 pub use Rattle.sdd_obligations.specs.base.declared.value.Value.TheVariants.{Int}
 pub use Rattle.sdd_obligations.specs.catalog.Catalogue.{Catalogue, class_at, has_copy, numbers_to}
 pub use Rattle.sdd_obligations.specs.catalog.Numbers.{IsServedClass, IsWhole}
-pub use Rattle.sdd_obligations.specs.catalog.Rules.{IsSound}
+pub use Rattle.sdd_obligations.specs.catalog.Rules.{IsSoundCatalogue}
 pub use Rattle.sdd_obligations.specs.catalog.declared.resolved.Class.{Class}
 pub use Rattle.sdd_obligations.specs.catalog.declared.resolved.Fragment.{Fragment}
 pub use Rattle.sdd_obligations.specs.class_eras.EraOf.{IsEraOf}
@@ -110,7 +110,7 @@ pub use Rattle.sdd_obligations.specs.logs.Lawful.{EndsByLimit, IsLawful, IsTheLo
 pub use Rattle.sdd_obligations.specs.logs.Locals.{IsEra, beginning, local_of, nth_era, redeclares, rows_of, setting_of, txn_at, with_era, with_submit}
 pub use Rattle.sdd_obligations.specs.logs.Marks.{after_mark, bound_at, greatest_bound, left, mark_from, mark_of, next_mark}
 pub use Rattle.sdd_obligations.specs.logs.Permitted.{AreSubmittedOnce, IsAllowed, IsPermitted, by_event, by_mark, one_if, submits_by, submits_in}
-pub use Rattle.sdd_obligations.specs.logs.Resting.{AllHanded, AllLinked, AtEach, EndsIn, IsFirst, IsLinkOf, IsMarked, IsPossible, IsSiteOf, Remain, Rests, Takes, TakesRounds, Waits, from_one, settles_before}
+pub use Rattle.sdd_obligations.specs.logs.Resting.{AllHanded, AllLinked, AtEach, EndsIn, IsFirst, IsLinkOf, IsMarked, IsPossible, IsSiteOf, Remain, Rests, TakesAway, TakesRounds, Waits, from_one, settles_before}
 pub use Rattle.sdd_obligations.specs.logs.Snapshots.{base_of}
 pub use Rattle.sdd_obligations.specs.logs.Spelled.{call_as, delivered_as, link_as, packet_as}
 pub use Rattle.sdd_obligations.specs.logs.Traffic.{all_links, calls_of, handed, is_down, link_of, message_at, puts, sent, takes_part}
@@ -142,7 +142,7 @@ pub use Rattle.sdd_obligations.specs.tm.Views.{Question, asks, asks_acted, asks_
 pub use Rattle.sdd_obligations.specs.umod.Due.{by_exchange, by_hold, by_release, by_start, hold_to}
 pub use Rattle.sdd_obligations.specs.umod.Standing.{standing_in}
 pub use Rattle.sdd_obligations.specs.umod.Views.{Served, TmCounts, counts, counts_acted, last_served, served_handed, ts_of}
-pub use Rattle.sdd_obligations.specs.wire.Fits.{Fits}
+pub use Rattle.sdd_obligations.specs.wire.Fits.{FitsMsg}
 pub use Rattle.sdd_obligations.specs.wire.Piped.{goes_through, time_of}
 pub use Rattle.sdd_obligations.specs.wire.Reading.{message_in}
 pub use Rattle.sdd_obligations.specs.wire.Spelling.{spelled}

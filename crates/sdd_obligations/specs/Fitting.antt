@@ -2,17 +2,17 @@
 use Rattle.std.specs.Prelude.{ℕ, ◌≡◌, true, List, map, Some}
 use Rattle.std.specs.List.{All, IsDistinct}
 use Rattle.std.specs.Ordering.{is_eq}
-use Rattle.sdd_invariants.specs.All.{Catalogue, Change, D, DmNo, Fits, Input, IsChange, IsDatabase, IsSound, PutsHeld, Txn, database_of, has_copy, item_cmp, rows_of, txn_at}
+use Rattle.sdd_invariants.specs.All.{Catalogue, Change, D, DmNo, FitsTxn, Input, IsChange, IsDatabase, IsSoundCatalogue, PutsHeld, Txn, database_of, has_copy, item_cmp, rows_of, txn_at}
 
 -- a transaction that fits the catalogue and puts numbers of 64 bits
 pub record FitsText (cat : Catalogue) (txn : Txn) : Type 0 where
-  pub fits : Fits cat txn
+  pub fits : FitsTxn cat txn
   pub held : All PutsHeld txn.statements
 
 -- The catalogue is one that a program may have, each transaction fits it, and the rows with which each data module begins
 -- make a database of it.
 pub record FitsInput (g : Input) : Type 0 where
-  pub sound : IsSound g.catalogue
+  pub sound : IsSoundCatalogue g.catalogue
   pub txns : (n : ℕ) (txn : Txn) → txn_at g n ≡ Some txn → FitsText g.catalogue txn
   pub rows : (d : DmNo) → IsDatabase g.catalogue (database_of g.catalogue (rows_of g (D d)))
 

@@ -5,7 +5,7 @@ pub mod Bounds
 pub mod Contents
 pub mod Facts
 pub mod Fitting
-pub mod FitInput
+pub mod Runnable
 pub mod Heights
 pub mod Reading
 pub mod Real

@@ -39,6 +39,6 @@ pub fn law_questions()
 pub fn law_reads()
     ensures { (given : Input) (log : Log) (a : Site) (d : DmNo) (n : ℕ) (msg : Msg)
         → IsPermitted given (Hand a (D d) n msg ∷ log)
-        → catalogues.IsSound given.catalogue
+        → catalogues.IsSoundCatalogue given.catalogue
         → IsReadable (setting_of given (D d)) msg }
 {}

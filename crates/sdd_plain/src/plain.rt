@@ -1,5 +1,5 @@
 ghost use Rattle.std.specs.Prelude.{◌≡◌, All, IfOk, OnOk, OnErr, IsTrue, false, true};
-ghost use Rattle.sdd_lang.specs.All.{Fits, FitsStart, after_changes, chosen_in, database_of, effect, serial};
+ghost use Rattle.sdd_lang.specs.All.{FitsStart, FitsTxn, after_changes, chosen_in, database_of, effect, serial};
 ghost use Rattle.sdd_lang.specs.Source.{found_in};
 
 use crate::rows::Rows;
@@ -64,7 +64,7 @@ impl Plain {
     #[tactic(auto, using(sdd_lang::proofs::Sources::effect_over_database))]
     pub fn run(&mut self, cat: &Catalogue, txn: &Txn) -> Result<Reply, NoMemory>
         requires live { IsTrue self.old.live }
-        requires fits { Fits cat.now txn.now }
+        requires fits { FitsTxn cat.now txn.now }
         ensures reply { IfOk result (λ reply. reply ≡ (effect cat.now self.old.value txn.now).reply) }
         ensures after { OnOk result (self.new ≡ record { live = true; value = after_changes cat.now self.old.value (effect cat.now self.old.value txn.now).changes }) }
         ensures err { OnErr result (self.new.live ≡ false) }
@@ -79,7 +79,7 @@ impl Plain {
     /// Runs the transactions one after the other, each on the database that the one before left.
     pub fn run_all(&mut self, cat: &Catalogue, txns: &[Txn]) -> Result<Replies, NoMemory>
         requires live { IsTrue self.old.live }
-        requires fit { All (Fits cat.now) txns.now }
+        requires fit { All (FitsTxn cat.now) txns.now }
         ensures replies { IfOk result (λ replies. replies ≡ (serial cat.now self.old.value txns.now).0) }
         ensures after { OnOk result (self.new ≡ record { live = true; value = (serial cat.now self.old.value txns.now).1 }) }
         ensures err { OnErr result (self.new.live ≡ false) }

@@ -36,7 +36,7 @@ pub use Rattle.sdd_obligations.proofs.logs.net.Lists.{get-append as in_left}
 pub use Rattle.sdd_obligations.proofs.logs.tm.Lists.{get_map as at_map, get_within as place_within, of_map as in_mapped}
 pub use Rattle.sdd_obligations.proofs.logs.umod.Lists.{or_nothing as neither_some}
 pub use Rattle.sdd_obligations.proofs.protocol.Tables.{all_at, blocks_of, first_block, first_block-vertical, vertical_block-lists}
-pub use Rattle.sdd_obligations.specs.invariants.All.{Act, AllGe, Answer, Apply, AreSubmittedOnce, Attempt, Bases, Catalogue, Change, Class, ClassNo, ClassView, Cond, D, Deliver, Diagonal, Did, DmNo, Does, Each, Edge, Entry, Era, Event, Fetch, FragNo, Hand, Handed, HasAnswer, Home, Horizontal, Input, IsApplied, IsApplyOf, IsClassHere, IsDue, IsDueEach, IsEra, IsLawful, IsPermitted, IsPutAt, IsRead, IsReadStep, IsRising, IsServedClass, IsSound, IsTable, IsTheLog, Log, Mark, May, Msg, Null, Open, P2, P3, Pass, Pipe, Processes, Protocol, Put, Query, Queued, Read, Ready, Rec, Records, Redeclare, Redeclared, Redeclares, Reduce, Reject, Sends, Setting, Settle, Ship, Site, Submit, Submits, Submitted, T, Tick, Ticked, TmNo, Ts, Txn, TxnNo, U, Use, Vertical, View, Wait, Write, act_by, act_where, active, all_of, answer_of, answer_to, ascending, asked_by, asked_in, asked_on, base_of, bound, by_head, by_open, by_record, by_wait, class_at, class_no, class_puts, classes_of, cond_for, cond_of, condition_on, conditions, conditions_at, current_era, dm_no, does_at, due_by, exchange_due, first_some, frag_no, fragments_in, goes_through, hand_due, head, head_due, head_of, home, home_of, in_passing, is_asked, is_asked_of, is_held, is_met, is_processing, is_wait, judged, last_write_for, local_of, made, mark_due, next, next_at, next_mark, next_stamp, note_if, nth_era, number_of, numbers_to, on_hold, open_due, or_else, or_zero, pipe, pipe_at, put, queue, redeclares, runs, same_protocol, same_site, sends_of_act, setting_of, site_due, sites, spoiler, spoils, start_at, start_due, start_of, start_read, step_on, time_at, time_of, tm_no, to_site, touches, txn_at, txn_no, u_stamp, uses_of, view_of, waits, with_made, with_submit}
+pub use Rattle.sdd_obligations.specs.invariants.All.{Act, AllGe, Answer, Apply, AreSubmittedOnce, Attempt, Bases, Catalogue, Change, Class, ClassNo, ClassView, Cond, D, Deliver, Diagonal, Did, DmNo, Does, Each, Edge, Entry, Era, Event, Fetch, FragNo, Hand, Handed, HasAnswer, Home, Horizontal, Input, IsApplied, IsApplyOf, IsClassHere, IsDue, IsDueEach, IsEra, IsLawful, IsPermitted, IsPutAt, IsRead, IsReadStep, IsRising, IsServedClass, IsSoundCatalogue, IsTable, IsTheLog, Log, Mark, May, Msg, Null, Open, P2, P3, Pass, Pipe, Processes, Protocol, Put, Query, Queued, Read, Ready, Rec, Records, Redeclare, Redeclared, Redeclares, Reduce, Reject, Sends, Setting, Settle, Ship, Site, Submit, Submits, Submitted, T, Tick, Ticked, TmNo, Ts, Txn, TxnNo, U, Use, Vertical, View, Wait, Write, act_by, act_where, active, all_of, answer_of, answer_to, ascending, asked_by, asked_in, asked_on, base_of, bound, by_head, by_open, by_record, by_wait, class_at, class_no, class_puts, classes_of, cond_for, cond_of, condition_on, conditions, conditions_at, current_era, dm_no, does_at, due_by, exchange_due, first_some, frag_no, fragments_in, goes_through, hand_due, head, head_due, head_of, home, home_of, in_passing, is_asked, is_asked_of, is_held, is_met, is_processing, is_wait, judged, last_write_for, local_of, made, mark_due, next, next_at, next_mark, next_stamp, note_if, nth_era, number_of, numbers_to, on_hold, open_due, or_else, or_zero, pipe, pipe_at, put, queue, redeclares, runs, same_protocol, same_site, sends_of_act, setting_of, site_due, sites, spoiler, spoils, start_at, start_due, start_of, start_read, step_on, time_at, time_of, tm_no, to_site, touches, txn_at, txn_no, u_stamp, uses_of, view_of, waits, with_made, with_submit}
 pub use Rattle.sdd_obligations.specs.invariants.Barrier.{IsLow}
 pub use Rattle.sdd_obligations.specs.invariants.Unspoilt.{spoiling}
 pub use Rattle.sdd_obligations.specs.base.Numbers.{rel_no}
@@ -61,7 +61,7 @@ pub use Rattle.sdd_progress.specs.Free.{IsFree, IsFreeClass, IsInNoBlock, ends_a
 pub use Rattle.sdd_progress.specs.Heads.{IsStuck}
 pub use Rattle.sdd_progress.specs.Rejections.{IsAnswerOf, IsRejectOf}
 pub use Rattle.sdd_progress.specs.Theorems.{DiagonalsListed, NoPathToWriter, NoneWaits, TableFits}
-pub use Rattle.sdd_progress.specs.WaitGraph.{Arc, Fits, FitsBlocks, IsClass, IsDiagonal, Path, WaitDiagonal, WaitGraph}
+pub use Rattle.sdd_progress.specs.WaitGraph.{Arc, FitsBlocks, FitsWaitGraph, IsClass, IsDiagonal, Path, WaitDiagonal, WaitGraph}
 pub use Rattle.sdd_progress.specs.WaitGraph.Arc.{held, within}
 pub use Rattle.sdd_progress.specs.WaitGraph.Path.{go, stop}
 pub use Rattle.sdd_progress.specs.WaitGraphs.{diagonal_at, diagonals, wait_graph, wait_protocol}

@@ -1,6 +1,6 @@
 -- While the READ of an undeclared transaction is next at a module, each declared transaction whose WRITE is next there has a
 -- smaller timestamp, so that the READ holds no WRITE back.
-use Rattle.sdd_progress.proofs.All.{Act, Answer, Attempt, Change, ClassNo, Cond, D, DmNo, Does, HasAnswer, Input, IsClass, IsCommitT, IsHigh, IsModule, IsPermitted, IsSound, List, Log, Part, Read, Records, Some, T, Ts, TxnNo, U, Use, Write, all_applied, answered_before, answered_there, ap, append_assoc, arith, at_place, class_number, commit_t, false, has_cond, head, head_put, home, home_of, home_small, inl, inr, local_of, low_or_high, number_of, numbers_to, part_join, part_of, permitted_part, pipe_at, positive, read_classes, read_of, setting_of, slice_get, sound_whole, start_at, starts, subst, sym, tm_no, u_stamp, write_origin, zero_cond, ℕ, ◌++◌, ◌-◌, ◌<◌, ◌==◌, ◌∙◌, ◌∷◌, ◌≡◌, ◌≤◌}
+use Rattle.sdd_progress.proofs.All.{Act, Answer, Attempt, Change, ClassNo, Cond, D, DmNo, Does, HasAnswer, Input, IsClass, IsCommitT, IsHigh, IsModule, IsPermitted, IsSoundCatalogue, List, Log, Part, Read, Records, Some, T, Ts, TxnNo, U, Use, Write, all_applied, answered_before, answered_there, ap, append_assoc, arith, at_place, class_number, commit_t, false, has_cond, head, head_put, home, home_of, home_small, inl, inr, local_of, low_or_high, number_of, numbers_to, part_join, part_of, permitted_part, pipe_at, positive, read_classes, read_of, setting_of, slice_get, sound_whole, start_at, starts, subst, sym, tm_no, u_stamp, write_origin, zero_cond, ℕ, ◌++◌, ◌-◌, ◌<◌, ◌==◌, ◌∙◌, ◌∷◌, ◌≡◌, ◌≤◌}
 use Rattle.sdd_progress.proofs.Still.{run_at, runs_place}
 
 -- a READ that is answered doesn't stand at the head again
@@ -23,7 +23,7 @@ start_part g t c full log a k ts n high =
 
 pub below_read : (g : Input) (log : Log) (j : ℕ) (d : DmNo) (ts : Ts) (of : ClassNo) (txn : TxnNo) (n : ℕ)
     (conds : List Cond) (uses : List Use) (w : Ts) (k : ClassNo) (x : TxnNo) (changes : List Change)
-    → IsSound g.catalogue → IsPermitted g log → (j == 0) ≡ false → IsClass g.catalogue j → IsModule g.catalogue d.0
+    → IsSoundCatalogue g.catalogue → IsPermitted g log → (j == 0) ≡ false → IsClass g.catalogue j → IsModule g.catalogue d.0
     → head (pipe_at g 0 d log) ≡ Some (Read ts of txn n conds uses) → head (pipe_at g j d log) ≡ Some (Write w k x changes) → w.0 < ts.0
 below_read g log j d ts of txn n conds uses w k x changes sound h p l m e f =
     let r = (read_of g 0 d log ts of txn n conds uses h e).1 in

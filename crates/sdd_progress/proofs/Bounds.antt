@@ -1,5 +1,5 @@
 -- The time at which a list of classes is put in force is after every clock of a transaction module.
-use Rattle.sdd_progress.proofs.All.{Input, IsSound, List, Log, Some, T, [], ap, arith, bound_at, class_at, false, fold, greatest_bound, home, length, map, max, numbers_to, positive, range_at, refl, served, slice_get, subst, suc, tm_no, zero, ℕ, ◌*◌, ◌+◌, ◌-◌, ◌/◌, ◌<◌, ◌==◌, ◌∷◌, ◌≡◌, ◌≤◌}
+use Rattle.sdd_progress.proofs.All.{Input, IsSoundCatalogue, List, Log, Some, T, [], ap, arith, bound_at, class_at, false, fold, greatest_bound, home, length, map, max, numbers_to, positive, range_at, refl, served, slice_get, subst, suc, tm_no, zero, ℕ, ◌*◌, ◌+◌, ◌-◌, ◌/◌, ◌<◌, ◌==◌, ◌∷◌, ◌≡◌, ◌≤◌}
 
 -- the greatest bound is none below that of a module
 
@@ -36,7 +36,7 @@ pub record IsAtT (g : Input) (c : ℕ) : Type 0 where
   pub to : t ≤ g.catalogue.tms
   pub home_is : home g.catalogue c ≡ T (tm_no t)
 
-pub at_t : (g : Input) (c : ℕ) → IsSound g.catalogue → (c == 0) ≡ false → c ≤ length g.catalogue.classes → IsAtT g c
+pub at_t : (g : Input) (c : ℕ) → IsSoundCatalogue g.catalogue → (c == 0) ≡ false → c ≤ length g.catalogue.classes → IsAtT g c
 at_t g c sound z l =
     let s = served g.catalogue sound c (positive c z) l in
     record { t = (class_at g.catalogue c).tm.0; from = s.module_from; to = s.module_to; home_is = rw z refl }

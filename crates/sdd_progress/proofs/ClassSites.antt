@@ -1,5 +1,5 @@
 -- The sites that run classes: they are there, and have small numbers.
-use Rattle.sdd_progress.proofs.AllWaits.{Bool, Catalogue, Class, Input, IsClassOf, IsServedClass, IsSound, List, Some, T, [], ap, arith, at_number, class_at, cond, dec_le, false, filter, get_or_past, home, inl, inr, length, not_zero, number_of, numbers_to, range_with_len, refl, runs, same_number, same_or_not, setting_of, slice_get, sound_classes, sound_whole, subst, suc, sym, tm_no, true, zero, ℕ, ◌+◌, ◌-◌, ◌<◌, ◌==◌, ◌∙◌, ◌∷◌, ◌≡◌, ◌≤◌}
+use Rattle.sdd_progress.proofs.AllWaits.{Bool, Catalogue, Class, Input, IsClassOf, IsServedClass, IsSoundCatalogue, List, Some, T, [], ap, arith, at_number, class_at, cond, dec_le, false, filter, get_or_past, home, inl, inr, length, not_zero, number_of, numbers_to, range_with_len, refl, runs, same_number, same_or_not, setting_of, slice_get, sound_classes, sound_whole, subst, suc, sym, tm_no, true, zero, ℕ, ◌+◌, ◌-◌, ◌<◌, ◌==◌, ◌∙◌, ◌∷◌, ◌≡◌, ◌≤◌}
 
 -- a number within a range is a member of it
 pub range_there : (a n x : ℕ) → a ≤ x → x < a + n → (k : ℕ) × (slice_get (range_with_len a n) k ≡ Some x)
@@ -9,7 +9,7 @@ range_there a (suc n) x l h = elim (dec_le x a) [
   | no gt ↦ (let i = range_there (a + 1) n x (omega (arith, gt)) (omega arith) in (suc i.0, i.1))
 ]
 
-pub class_served : (cat : Catalogue) (i : ℕ) → IsSound cat → IsClassOf cat i → IsServedClass cat (class_at cat i)
+pub class_served : (cat : Catalogue) (i : ℕ) → IsSoundCatalogue cat → IsClassOf cat i → IsServedClass cat (class_at cat i)
 class_served cat i sound c = at_number (IsServedClass cat) cat.classes i _ (sound_classes cat sound) c.from c.to
 
 pub home_of_class : (cat : Catalogue) (i : ℕ) → IsClassOf cat i → home cat i ≡ T (tm_no (class_at cat i).tm.0)
@@ -28,7 +28,7 @@ in_runs g i c =
     let r = range_there 1 (length g.catalogue.classes) i c.from (let l = c.to in omega arith) in
     kept_there (λ k. (class_at g.catalogue k).tm.0 == t) (numbers_to (length g.catalogue.classes)) r.0 i r.1 (same_number t)
 
-module_small : (cat : Catalogue) (c : ℕ) → IsSound cat → (class_at cat c).tm.0 ≤ 16
+module_small : (cat : Catalogue) (c : ℕ) → IsSoundCatalogue cat → (class_at cat c).tm.0 ≤ 16
 module_small cat c sound =
     let whole = sound_whole cat sound in
     let few : cat.tms ≤ 16 = whole.few_tms in
@@ -46,7 +46,7 @@ module_small cat c sound =
 abbrev pub HasSmallHomes : Input → Type 0
 HasSmallHomes g = (c : ℕ) → number_of (home g.catalogue c) ≤ 63
 
-pub small_homes : (g : Input) → IsSound g.catalogue → HasSmallHomes g
+pub small_homes : (g : Input) → IsSoundCatalogue g.catalogue → HasSmallHomes g
 small_homes g sound c = elim (same_or_not c 0) [
   | inl z ↦ subst (λ k. number_of (home g.catalogue k) ≤ 63) (sym z) (omega arith)
   | inr n ↦ (let m = module_small g.catalogue c sound in let e : number_of (home g.catalogue c) ≡ (class_at g.catalogue c).tm.0 = rw n refl in omega arith)

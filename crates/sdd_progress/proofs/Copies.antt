@@ -1,11 +1,11 @@
 -- Where nothing goes on and all is idle, each copy has what a serial run leaves.
-use Rattle.sdd_progress.proofs.All.{AppliedBefore, AreAllApplied, D, HasSoundData, HasSoundLists, Input, IsIdle, IsQuiet, IsSerial, IsSound, List, Log, RelNo, Row, TxnNo, [], ap, applied_before, committed_in, contents, copies, copy_module, dated, dm_no, eras_of, has_copy, history, inr, items_of, length, local_of, refl, rows_in_fragment, run, setting_of, start_in, start_within, subst, sym, touches_some, true, ℕ, ◌∙◌, ◌≡◌}
+use Rattle.sdd_progress.proofs.All.{AppliedBefore, AreAllApplied, D, HasSoundData, HasSoundLists, Input, IsIdle, IsQuiet, IsSerial, IsSoundCatalogue, List, Log, RelNo, Row, TxnNo, [], ap, applied_before, committed_in, contents, copies, copy_module, dated, dm_no, eras_of, has_copy, history, inr, items_of, length, local_of, refl, rows_in_fragment, run, setting_of, start_in, start_within, subst, sym, touches_some, true, ℕ, ◌∙◌, ◌≡◌}
 use Rattle.sdd_progress.proofs.Applied.{all_applied}
 use Rattle.sdd_progress.proofs.ErasOf.{are_eras_of}
 use Rattle.sdd_progress.proofs.OwnCopies.{own_copy}
 
 -- what changes a fragment is applied at each copy
-pub applied_at_copies : (g : Input) (log : Log) (f d : ℕ) → IsSound g.catalogue → IsQuiet g log → HasSoundLists g log → IsIdle g log
+pub applied_at_copies : (g : Input) (log : Log) (f d : ℕ) → IsSoundCatalogue g.catalogue → IsQuiet g log → HasSoundLists g log → IsIdle g log
     → has_copy g.catalogue d f ≡ true → AreAllApplied (history log) f d (length (history log))
 applied_at_copies g log f d sound h lists idle copied t c e =
     let m = copy_module g.catalogue sound d f copied in
@@ -19,7 +19,7 @@ applied_at_copies g log f d sound h lists idle copied t c e =
 
 -- and each module has there what a serial run leaves
 pub serial_copies : (g : Input) (rows : List (RelNo × Row)) (log : Log) (order : List TxnNo) (f d : ℕ)
-    → IsSound g.catalogue → IsQuiet g log → HasSoundLists g log → IsIdle g log
+    → IsSoundCatalogue g.catalogue → IsQuiet g log → HasSoundLists g log → IsIdle g log
     → HasSoundData g rows → IsSerial g.catalogue (history log) order → has_copy g.catalogue d f ≡ true
     → rows_in_fragment g.catalogue (run g.catalogue rows g.txns order).1 f ≡ items_of g.catalogue f
     (contents f (dated (setting_of g (D (dm_no d))) (local_of g (D (dm_no d)) log)))

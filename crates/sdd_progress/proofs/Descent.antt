@@ -1,7 +1,7 @@
 -- No READ waits where each that waits does so because of another one. From one to the next the ticks never rise; where
 -- they stay, a write that is held up to a time of P2 cuts off one more class, which happens no more often than there are
 -- classes; and otherwise the timestamp falls.
-use Rattle.sdd_progress.proofs.AllWaits.{Bool, Fits, IsDiagonal, IsStamped, IsTimestamp, List, NoneWaits, Path, WaitDiagonal, WaitGraph, WaitingRead, WaitsOn, [], ap, arith, cases_Bool, false, go, held, holder, inl, inr, length, reader, refl, stop, subst, suc, sym, true, wait_time, within, zero, ℕ, ◌*◌, ◌+◌, ◌<◌, ◌∷◌, ◌≡◌, ◌≤◌}
+use Rattle.sdd_progress.proofs.AllWaits.{Bool, FitsWaitGraph, IsDiagonal, IsStamped, IsTimestamp, List, NoneWaits, Path, WaitDiagonal, WaitGraph, WaitingRead, WaitsOn, [], ap, arith, cases_Bool, false, go, held, holder, inl, inr, length, reader, refl, stop, subst, suc, sym, true, wait_time, within, zero, ℕ, ◌*◌, ◌+◌, ◌<◌, ◌∷◌, ◌≡◌, ◌≤◌}
 use Rattle.sdd_progress.proofs.FewClasses.{AreCutOff, none_cut_off, few_cut_off, path_on, cut_off_on, one_more_cut_off}
 use Rattle.sdd_progress.proofs.Paths.{no_path}
 use Rattle.sdd_progress.specs.WaitGraph.Arc.{waits}
@@ -15,7 +15,7 @@ held_ticks : (own : Bool) (q : WaitingRead) (t : ℕ) → IsStamped q → (i : I
 held_ticks true q t f i h = let a = f.least in let e = i.is in let s = i.small in omega arith
 held_ticks false q t f i h = let a = f.before in let e = i.is in let s = i.small in omega arith
 
-module _ (G : WaitGraph) (fits : Fits G) (W : WaitingRead → Type 0)
+module _ (G : WaitGraph) (fits : FitsWaitGraph G) (W : WaitingRead → Type 0)
     (stamped : (r : WaitingRead) → W r → IsStamped r) (waits_on : (r : WaitingRead) → W r → WaitsOn G W r)
   where
     -- arcs lead to the class on which a READ waits up to its own timestamp

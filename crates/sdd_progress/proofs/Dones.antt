@@ -1,6 +1,6 @@
 -- Where nothing goes on and all WRITEs are applied, the module for undeclared transactions has counted the DONE of each data
 -- module for its last Commit.
-use Rattle.sdd_progress.proofs.All.{Act, Apply, Attempt, Bases, Bool, ClassNo, D, Did, DmNo, Does, Done, Each, Handed, HasResult, Input, IsDataStep, IsDueEach, IsIdle, IsModule, IsOfWrite, IsQuiet, IsSound, List, Log, Msg, Rec, Records, Setting, Site, Some, Ts, TxnNo, U, [], answers_read, ap, applies, arith, arrives, at_module, commit_act, d_fair, data_step, dm_no, done_for, dones_few, dones_of, each_at, false, hands_from, if◌then◌else◌, inl, inr, is_done_of, is_put, last_served, local_of, number_of, numbers_to, one_if, passes, puts_to, refl, refuses_read, replies, result_in, same_number, same_or_not, same_site, sends_of_act, setting_of, slice_get, subst, suc, sym, tally, tally_append, time_at, to_site, true, u_fair, u_table, waits_for, zero, ℕ, ◌++◌, ◌+◌, ◌<◌, ◌==◌, ◌∙◌, ◌∷◌, ◌≡◌, ◌≤◌}
+use Rattle.sdd_progress.proofs.All.{Act, Apply, Attempt, Bases, Bool, ClassNo, D, Did, DmNo, Does, Done, Each, Handed, HasResult, Input, IsDataStep, IsDueEach, IsIdle, IsModule, IsOfWrite, IsQuiet, IsSoundCatalogue, List, Log, Msg, Rec, Records, Setting, Site, Some, Ts, TxnNo, U, [], answers_read, ap, applies, arith, arrives, at_module, commit_act, d_fair, data_step, dm_no, done_for, dones_few, dones_of, each_at, false, hands_from, if◌then◌else◌, inl, inr, is_done_of, is_put, last_served, local_of, number_of, numbers_to, one_if, passes, puts_to, refl, refuses_read, replies, result_in, same_number, same_or_not, same_site, sends_of_act, setting_of, slice_get, subst, suc, sym, tally, tally_append, time_at, to_site, true, u_fair, u_table, waits_for, zero, ℕ, ◌++◌, ◌+◌, ◌<◌, ◌==◌, ◌∙◌, ◌∷◌, ◌≡◌, ◌≤◌}
 use Rattle.sdd_progress.proofs.Applied.{all_applied}
 use Rattle.sdd_progress.proofs.CountedDones.{all_current, counted_off}
 use Rattle.sdd_progress.proofs.Handed.{all_handed}
@@ -98,7 +98,7 @@ done_put g log d n ts (Apply txn j dm t) h of x =
     (p.0, subst (λ l. slice_get (puts_to U l) p.0 ≡ Some (Done (time_at ts))) (sym x.is) p.1)
 done_put g log d n ts r h of x = absurd of
 
-pub all_done : (g : Input) (log : Log) (later before : Log) (bases : Bases) (a : Attempt) → IsQuiet g log → IsSound g.catalogue → IsIdle g log
+pub all_done : (g : Input) (log : Log) (later before : Log) (bases : Bases) (a : Attempt) → IsQuiet g log → IsSoundCatalogue g.catalogue → IsIdle g log
     → log ≡ later ++ Does U (commit_act g.catalogue bases 0 a) ∷ before → g.catalogue.dms ≤ dones_of a.ts (local_of g U log)
 all_done g log later before bases a h sound idle is =
     let each : (d : ℕ) → 1 ≤ d → d < 1 + g.catalogue.dms → 1 ≤ from_module a.ts (local_of g U log) d =
@@ -114,7 +114,7 @@ all_done g log later before bases a h sound idle is =
     omega (arith, n, m)
 
 -- so it has counted them all
-pub dones_counted : (g : Input) (log : Log) (k t : ℕ) (later before : Log) (bases : Bases) (a : Attempt) → IsQuiet g log → IsSound g.catalogue → IsIdle g log
+pub dones_counted : (g : Input) (log : Log) (k t : ℕ) (later before : Log) (bases : Bases) (a : Attempt) → IsQuiet g log → IsSoundCatalogue g.catalogue → IsIdle g log
     → slice_get (numbers_to g.catalogue.tms) k ≡ Some t → log ≡ later ++ Does U (commit_act g.catalogue bases 0 a) ∷ before
     → (last_served (setting_of g U) (local_of g U log)).ts ≡ a.ts → (last_served (setting_of g U) (local_of g U log)).dones ≡ g.catalogue.dms
 dones_counted g log k t later before bases a h sound idle i is ts =

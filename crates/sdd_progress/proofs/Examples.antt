@@ -1,5 +1,5 @@
 -- The worked logs meet what the laws take.
-use Rattle.sdd_progress.proofs.All.{All, All-from_recursion, AllCommitted, Event, Fits, FitsStart, FitsText, HasOneTable, HasSoundData, HasSoundLists, IsAtEnd, IsDatabase, IsEntry, IsFinished, IsFrom1To, IsHeld, IsSettled, Le, List, PutsHeld, RelNo, Row, Some, SubmitGiven, Txn, [], all_lost, ap, arith, crossing, crossing_with, database_of, extended_lawful, given_all_lost, given_late_query, given_to, history, inl, inr, is_crossing, item_cmp, late_query, lit≤, log_of_all_lost, log_of_late_query, one_fits, put_fits, put_row, query_and_put, refl, row_of, same_or_not, slice_get, slice_index_or, sorted_nil, sound_crossing, submits_by, submits_in, subst, suc, sym, txn_no, values_by, values_fit, zero, ℕ, ◌+◌, ◌-◌, ◌∷◌, ◌≡◌, ◌≤◌}
+use Rattle.sdd_progress.proofs.All.{All, All-from_recursion, AllCommitted, Event, FitsStart, FitsText, FitsTxn, HasOneTable, HasSoundData, HasSoundLists, IsAtEnd, IsDatabase, IsEntry, IsFinished, IsFrom1To, IsHeld, IsSettled, Le, List, PutsHeld, RelNo, Row, Some, SubmitGiven, Txn, [], all_lost, ap, arith, crossing, crossing_with, database_of, extended_lawful, given_all_lost, given_late_query, given_to, history, inl, inr, is_crossing, item_cmp, late_query, lit≤, log_of_all_lost, log_of_late_query, one_fits, put_fits, put_row, query_and_put, refl, row_of, same_or_not, slice_get, slice_index_or, sorted_nil, sound_crossing, submits_by, submits_in, subst, suc, sym, txn_no, values_by, values_fit, zero, ℕ, ◌+◌, ◌-◌, ◌∷◌, ◌≡◌, ◌≤◌}
 use Rattle.sdd_progress.proofs.Settled.{settle_ends, settled_is_committed, settled_is_finished}
 use Rattle.sdd_progress.proofs.OneList.{one_list, up_in_one}
 use Rattle.sdd_obligations.specs.All.{Submit, one_if}
@@ -62,7 +62,7 @@ crossing_table events = record {
 
 pub crossing_data : (events : List Event) → HasSoundData (crossing_with events) []
 crossing_data events = record {
-  txns_fit = All-from_recursion (Fits crossing) query_and_put (query_fits.fits, (put_text_fits.fits, tt));
+  txns_fit = All-from_recursion (FitsTxn crossing) query_and_put (query_fits.fits, (put_text_fits.fits, tt));
   txns_held = All-from_recursion (λ (t : Txn). All PutsHeld t.statements) query_and_put (query_fits.held, (put_text_fits.held, tt));
   rows_fit = All-from_recursion (FitsStart crossing) [] tt;
   rows_held = All-from_recursion (λ (r : RelNo × Row). All IsHeld r.1) [] tt;

@@ -1,5 +1,5 @@
 -- Where nothing goes on and all is idle, no transaction module is on hold and no transaction is in a queue.
-use Rattle.sdd_progress.proofs.All.{Bool, Catalogue, Input, IsClass, IsFinished, IsIdle, IsQuiet, IsSound, Log, None, Option, Queued, Some, T, U, [], active, ap, arith, at_home, at_place, both, chain, chain_at, class_at, commit_act, counts, dec_le, eq-eqb, eqb-true, false, from_u, handed_helds, handed_holds, hands_from, head_of, holds, home, if◌then◌else◌, in_filtered, in_mapped, in_range, inl, inr, is_a_held, is_a_hold, is_a_release, is_link, is_none, last_served, le-ltb, length, list_all, local_of, lt-ltb, nat_lt, none_not_some, not, not_both, not_zero, numbers_to, place_of_act, positive, puts_to, queue, refl, same_or_not, setting_of, slice_get, sound_whole, subst, suc, sym, t_helds, t_table, tally, tm_no, true, u_table, zero_head, ℕ, ◌&&◌, ◌-◌, ◌<◌, ◌==◌, ◌∙◌, ◌≡◌, ◌≤◌}
+use Rattle.sdd_progress.proofs.All.{Bool, Catalogue, Input, IsClass, IsFinished, IsIdle, IsQuiet, IsSoundCatalogue, Log, None, Option, Queued, Some, T, U, [], active, ap, arith, at_home, at_place, both, chain, chain_at, class_at, commit_act, counts, dec_le, eq-eqb, eqb-true, false, from_u, handed_helds, handed_holds, hands_from, head_of, holds, home, if◌then◌else◌, in_filtered, in_mapped, in_range, inl, inr, is_a_held, is_a_hold, is_a_release, is_link, is_none, last_served, le-ltb, length, list_all, local_of, lt-ltb, nat_lt, none_not_some, not, not_both, not_zero, numbers_to, place_of_act, positive, puts_to, queue, refl, same_or_not, setting_of, slice_get, sound_whole, subst, suc, sym, t_helds, t_table, tally, tm_no, true, u_table, zero_head, ℕ, ◌&&◌, ◌-◌, ◌<◌, ◌==◌, ◌∙◌, ◌≡◌, ◌≤◌}
 use Rattle.sdd_progress.proofs.Dones.{dones_counted}
 use Rattle.sdd_progress.proofs.Handed.{all_handed}
 use Rattle.sdd_progress.proofs.Holds.{holds_needed, last_commit}
@@ -40,7 +40,7 @@ level g log t h l m =
 
 -- all that U served is released
 
-all_released : (g : Input) (log : Log) (t : ℕ) → IsQuiet g log → IsSound g.catalogue → IsIdle g log → 1 ≤ t → t ≤ g.catalogue.tms
+all_released : (g : Input) (log : Log) (t : ℕ) → IsQuiet g log → IsSoundCatalogue g.catalogue → IsIdle g log → 1 ≤ t → t ≤ g.catalogue.tms
     → (counts t (local_of g U log)).releases ≡ (last_served (setting_of g U) (local_of g U log)).commits
 all_released g log t h sound idle l m =
     let s = setting_of g U in
@@ -104,7 +104,7 @@ AreHolding g log =
     (last_served (setting_of g U) (local_of g U log)).commits)
     × ((counts t (local_of g U log)).helds ≡ suc (last_served (setting_of g U) (local_of g U log)).commits)
 
-u_holding : (g : Input) (log : Log) (q : Queued) → IsQuiet g log → IsSound g.catalogue → IsIdle g log
+u_holding : (g : Input) (log : Log) (q : Queued) → IsQuiet g log → IsSoundCatalogue g.catalogue → IsIdle g log
     → head_of (queue (setting_of g U) 0 (local_of g U log)) ≡ Some q → AreHolding g log
 u_holding g log q h sound idle e t l m =
     let s = setting_of g U in
@@ -125,7 +125,7 @@ u_holding g log q h sound idle e t l m =
     let holding : (counts t lu).holds ≡ suc (last_served s lu).commits = omega (arith, ahead, c.one_ahead, released) in
     (holding, omega (arith, holding, told, c.got_hold, v.helds, v.holds_same))
 
-u_no_queue : (g : Input) (log : Log) → IsQuiet g log → IsSound g.catalogue → IsIdle g log → (o : Option Queued)
+u_no_queue : (g : Input) (log : Log) → IsQuiet g log → IsSoundCatalogue g.catalogue → IsIdle g log → (o : Option Queued)
     → head_of (queue (setting_of g U) 0 (local_of g U log)) ≡ o → o ≡ None
 u_no_queue g log h sound idle None e = refl
 u_no_queue g log h sound idle (Some q) e =
@@ -147,7 +147,7 @@ u_no_queue g log h sound idle (Some q) e =
 
 -- so no T is on hold, and has nothing in its queues
 
-off_hold : (g : Input) (log : Log) (t : ℕ) → IsQuiet g log → IsSound g.catalogue → IsIdle g log → 1 ≤ t → t ≤ g.catalogue.tms
+off_hold : (g : Input) (log : Log) (t : ℕ) → IsQuiet g log → IsSoundCatalogue g.catalogue → IsIdle g log → 1 ≤ t → t ≤ g.catalogue.tms
     → (holds (local_of g (T (tm_no t)) log)).holds ≡ (holds (local_of g (T (tm_no t)) log)).releases
 off_hold g log t h sound idle l m =
     let s = setting_of g U in
@@ -169,7 +169,7 @@ if_started : {A : Type 0} (b : Bool) (o : Option A) → b ≡ true → (if b the
 if_started true o e f = f
 if_started false o e f = cc
 
-t_no_queue : (g : Input) (log : Log) (c t : ℕ) → IsQuiet g log → IsSound g.catalogue → IsIdle g log → 1 ≤ t → t ≤ g.catalogue.tms → (j : ℕ)
+t_no_queue : (g : Input) (log : Log) (c t : ℕ) → IsQuiet g log → IsSoundCatalogue g.catalogue → IsIdle g log → 1 ≤ t → t ≤ g.catalogue.tms → (j : ℕ)
     → slice_get (tm_views.runs (setting_of g (T (tm_no t)))) j ≡ Some c → active (setting_of g (T (tm_no t))) c (local_of g (T (tm_no t)) log) ≡ None
     → queue (setting_of g (T (tm_no t))) c (local_of g (T (tm_no t)) log) ≡ []
 t_no_queue g log c t h sound idle l m j i none =
@@ -180,7 +180,7 @@ t_no_queue g log c t h sound idle l m j i none =
     no_head (queue s c lt) (no_start g.catalogue (tm_views.view_of s lt) c (head_of (queue s c lt))
     (if_started _ _ ready ((t_still g log t h l m).starts j c i)))
 
-pub finished : (g : Input) (log : Log) → IsQuiet g log → IsSound g.catalogue → IsIdle g log → IsFinished g log
+pub finished : (g : Input) (log : Log) → IsQuiet g log → IsSoundCatalogue g.catalogue → IsIdle g log → IsFinished g log
 finished g log h sound idle = record {
   idle = idle;
   no_queue = λ c l. elim (same_or_not c 0) [

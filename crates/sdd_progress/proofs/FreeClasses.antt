@@ -1,5 +1,5 @@
 -- Of a free class no attempt waits or is rejected, and what is handed over of it is processed before the event is over.
-use Rattle.sdd_progress.proofs.AllWaits.{Answer, Apply, Bool, Change, ClassNo, ClassView, Cond, D, DmNo, Does, Entry, Hand, Input, IsAnsweredIn, IsAppliedIn, IsClassHere, IsFreeClass, IsPermitted, IsRejectOf, IsSound, IsStuck, IsWaitOf, List, Log, May, Msg, None, Option, Read, Rec, Records, Rejected, Setting, Site, Some, Ts, TxnNo, Use, View, Write, [], allowed_act, and_left, and_right, any_at, ap, append_assoc, arith, class_at_place, class_no, eqb-true, false, goes_through, head, holds, holds_back, inl, inr, is_met, is_wait, lacking, list_all, list_any, not, not_both, permitted_before, pipe, pipe_at, refl, same_number, same_or_not, setting_of, site_due, slice_get, subst, sym, true, txn_no, view_of, waits, ℕ, ◌&&◌, ◌++◌, ◌==◌, ◌∙◌, ◌∷◌, ◌≡◌, ◌≢◌, ◌≤◌}
+use Rattle.sdd_progress.proofs.AllWaits.{Answer, Apply, Bool, Change, ClassNo, ClassView, Cond, D, DmNo, Does, Entry, Hand, Input, IsAnsweredIn, IsAppliedIn, IsClassHere, IsFreeClass, IsPermitted, IsRejectOf, IsSoundCatalogue, IsStuck, IsWaitOf, List, Log, May, Msg, None, Option, Read, Rec, Records, Rejected, Setting, Site, Some, Ts, TxnNo, Use, View, Write, [], allowed_act, and_left, and_right, any_at, ap, append_assoc, arith, class_at_place, class_no, eqb-true, false, goes_through, head, holds, holds_back, inl, inr, is_met, is_wait, lacking, list_all, list_any, not, not_both, permitted_before, pipe, pipe_at, refl, same_number, same_or_not, setting_of, site_due, slice_get, subst, sym, true, txn_no, view_of, waits, ℕ, ◌&&◌, ◌++◌, ◌==◌, ◌∙◌, ◌∷◌, ◌≡◌, ◌≢◌, ◌≤◌}
 use Rattle.sdd_progress.proofs.AtModule.{at_module}
 use Rattle.sdd_progress.proofs.EventOver.{none_at_data}
 use Rattle.sdd_progress.proofs.FreeConditions.{names_none, unconditional}
@@ -38,7 +38,7 @@ never_rejected g log i d txn attempt dm by write sends free h =
 -- no WRITE of the class is held
 
 held_by : (g : Input) (log : Log) (i k : ℕ) (d : DmNo) (w : Ts) (wc : ClassNo) (wt : TxnNo) (changes : List Change) (o : Option Msg)
-    → IsFreeClass g i → IsPermitted g log → IsSound g.catalogue → 1 ≤ d.0 → d.0 ≤ g.catalogue.dms
+    → IsFreeClass g i → IsPermitted g log → IsSoundCatalogue g.catalogue → 1 ≤ d.0 → d.0 ≤ g.catalogue.dms
     → head (pipe_at g i d log) ≡ Some (Write w wc wt changes) → head (pipe_at g k d log) ≡ o → holds_back i w.0 changes o ≡ true → ⊥
 held_by g log i k d w wc wt changes (Some (Read ts of txn n ds us)) free h sound lo hi e f b = elim (same_or_not k 0) [
   | inl z ↦ holds_none g i d log ts of txn n ds us w wc wt changes h sound free.class lo hi
@@ -52,7 +52,7 @@ held_by g log i k d w wc wt changes _ free h sound lo hi e f b = cc
 
 -- so where nothing is due, its pipe has no head
 
-no_head : (g : Input) (log : Log) (i : ℕ) (d : DmNo) (m : Msg) → IsFreeClass g i → IsPermitted g log → IsSound g.catalogue → 1 ≤ d.0
+no_head : (g : Input) (log : Log) (i : ℕ) (d : DmNo) (m : Msg) → IsFreeClass g i → IsPermitted g log → IsSoundCatalogue g.catalogue → 1 ≤ d.0
     → d.0 ≤ g.catalogue.dms → head (pipe_at g i d log) ≡ Some m → IsStuck (setting_of g (D d)) (at_module g d log) i (Some m) → ⊥
 no_head g log i d (Read ts of txn attempt conds uses) free h sound lo hi e x =
     let v : View = view_of (setting_of g (D d)) (at_module g d log) in
@@ -72,7 +72,7 @@ no_head g log i d _ free h sound lo hi e x = x
 class_here : (g : Input) (i : ℕ) (d : DmNo) → IsFreeClass g i → IsClassHere (setting_of g (D d)) i
 class_here g i d free = let l = free.class.to in omega arith
 
-pub none_at_head : (g : Input) (log : Log) (i : ℕ) (d : DmNo) → IsFreeClass g i → IsPermitted g log → IsSound g.catalogue → 1 ≤ d.0
+pub none_at_head : (g : Input) (log : Log) (i : ℕ) (d : DmNo) → IsFreeClass g i → IsPermitted g log → IsSoundCatalogue g.catalogue → 1 ≤ d.0
     → d.0 ≤ g.catalogue.dms → site_due g log ≡ None → head (pipe_at g i d log) ≡ None
 none_at_head g log i d free h sound lo hi none =
     let s : Setting = setting_of g (D d) in
@@ -114,7 +114,7 @@ apply_in d i txn ts entries later before r of dm sends is e =
     record { later = later; before = before; of = of; dm = dm; sends = sends; is = is ∙ ap (λ x. later ++ Does (D d) (Records i x sends) ∷ before) e }
 
 pub answered_by_end : (g : Input) (i : ℕ) (d : DmNo) (from : Site) (n : ℕ) (later log : Log) (ts : Ts) (of : ClassNo) (txn : TxnNo) (attempt : ℕ) (conds : List Cond) (uses : List Use)
-    → IsFreeClass g i → IsSound g.catalogue → 1 ≤ d.0 → d.0 ≤ g.catalogue.dms → of.0 ≡ i
+    → IsFreeClass g i → IsSoundCatalogue g.catalogue → 1 ≤ d.0 → d.0 ≤ g.catalogue.dms → of.0 ≡ i
     → IsPermitted g (later ++ Hand from (D d) n (Read ts of txn attempt conds uses) ∷ log)
     → site_due g (later ++ Hand from (D d) n (Read ts of txn attempt conds uses) ∷ log) ≡ None → IsAnsweredIn d i txn attempt later
 answered_by_end g i d from n later log ts of txn attempt conds uses free sound lo hi class h none =
@@ -130,7 +130,7 @@ answered_by_end g i d from n later log ts of txn attempt conds uses free sound l
     answer_in d i txn attempt later p.later p.before p.rec a.0 p.sends p.is a.1
 
 pub applied_by_end : (g : Input) (i : ℕ) (d : DmNo) (from : Site) (n : ℕ) (later log : Log) (ts : Ts) (of : ClassNo) (txn : TxnNo) (changes : List Change)
-    → IsFreeClass g i → IsSound g.catalogue → 1 ≤ d.0 → d.0 ≤ g.catalogue.dms → of.0 ≡ i
+    → IsFreeClass g i → IsSoundCatalogue g.catalogue → 1 ≤ d.0 → d.0 ≤ g.catalogue.dms → of.0 ≡ i
     → IsPermitted g (later ++ Hand from (D d) n (Write ts of txn changes) ∷ log)
     → site_due g (later ++ Hand from (D d) n (Write ts of txn changes) ∷ log) ≡ None → IsAppliedIn d i txn ts later
 applied_by_end g i d from n later log ts of txn changes free sound lo hi class h none =

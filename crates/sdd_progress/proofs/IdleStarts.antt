@@ -1,5 +1,5 @@
 -- Where nothing is due at a transaction module that isn't on hold, an idle class has no queue.
-use Rattle.sdd_progress.proofs.AllWaits.{Bases, Catalogue, Input, IsClassOf, IsSound, List, None, Option, Queued, Setting, Some, T, TmNo, [], active, at_map, base_of, class_at, exchange_due, false, first_some, head_of, held_due, home, local_of, neither_some, null_due, on_hold, queue, refl, runs, setting_of, site_due, slice_get, start_due, start_of, subst, sym, tm_no, ℕ, ◌∷◌, ◌≡◌}
+use Rattle.sdd_progress.proofs.AllWaits.{Bases, Catalogue, Input, IsClassOf, IsSoundCatalogue, List, None, Option, Queued, Setting, Some, T, TmNo, [], active, at_map, base_of, class_at, exchange_due, false, first_some, head_of, held_due, home, local_of, neither_some, null_due, on_hold, queue, refl, runs, setting_of, site_due, slice_get, start_due, start_of, subst, sym, tm_no, ℕ, ◌∷◌, ◌≡◌}
 use Rattle.sdd_progress.proofs.EventOver.{none_at_txn}
 use Rattle.sdd_progress.proofs.StuckHeads.{none_at}
 use Rattle.sdd_progress.proofs.ClassSites.{class_served, home_of_class, in_runs}
@@ -29,7 +29,7 @@ no_queue s bases log c j there e off idle =
     let opened : start_of s.catalogue v c (head_of (queue s c log)) ≡ None = rw (off, idle) at here in
     empty_of (queue s c log) (no_start s.catalogue v c (head_of (queue s c log)) opened)
 
-pub idle_starts : (g : Input) (i : ℕ) (log : all.Log) → IsSound g.catalogue → IsClassOf g.catalogue i → site_due g log ≡ None
+pub idle_starts : (g : Input) (i : ℕ) (log : all.Log) → IsSoundCatalogue g.catalogue → IsClassOf g.catalogue i → site_due g log ≡ None
     → on_hold (view_of (setting_of g (home g.catalogue i)) (local_of g (home g.catalogue i) log)) ≡ false
     → active (setting_of g (home g.catalogue i)) i (local_of g (home g.catalogue i) log) ≡ None
     → queue (setting_of g (home g.catalogue i)) i (local_of g (home g.catalogue i) log) ≡ []

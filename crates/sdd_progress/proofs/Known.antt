@@ -1,12 +1,12 @@
 -- What is known of a lawful log, in the order of which the law of eras follows.
-use Rattle.sdd_progress.proofs.All.{AreNumbered, Bases, Catalogue, Committed, Did, Effect, Entry, HasCommit, HasSoundData, HasSoundLists, Input, IsCommitted, IsIdleAtRedeclares, IsLawful, IsPermitted, IsSound, IsSoundInput, IsUpAtRedeclares, KeepsApplies, KeepsStarts, KeepsUndeclared, List, Log, Rec, RelNo, Row, Some, StartedBefore, SubmitGiven, [], ap, append_assoc, arith, commit_act, committed_here, effect, eras_begun, eras_of, event_at, event_there, filter_map, history, is_committed, keeps_answers, keeps_applies, keeps_starts, lawful_numbered, lawful_permitted, length, marks, numbers_to, one_place, record_of, redeclares, suc, sym, true, txn_no, undeclared, write_to, ℕ, ◌++◌, ◌<◌, ◌∙◌, ◌∷◌, ◌≡◌}
+use Rattle.sdd_progress.proofs.All.{AreNumbered, Bases, Catalogue, Committed, Did, Effect, Entry, HasCommit, HasSoundData, HasSoundLists, Input, IsCommitted, IsIdleAtRedeclares, IsLawful, IsPermitted, IsSoundCatalogue, IsSoundInput, IsUpAtRedeclares, KeepsApplies, KeepsStarts, KeepsUndeclared, List, Log, Rec, RelNo, Row, Some, StartedBefore, SubmitGiven, [], ap, append_assoc, arith, commit_act, committed_here, effect, eras_begun, eras_of, event_at, event_there, filter_map, history, is_committed, keeps_answers, keeps_applies, keeps_starts, lawful_numbered, lawful_permitted, length, marks, numbers_to, one_place, record_of, redeclares, suc, sym, true, txn_no, undeclared, write_to, ℕ, ◌++◌, ◌<◌, ◌∙◌, ◌∷◌, ◌≡◌}
 use Rattle.sdd_progress.proofs.ErasOf.{are_eras_of, begun_is}
 use Rattle.sdd_progress.proofs.IdleAtRedeclares.{idle_at_redeclares}
 use Rattle.sdd_obligations.specs.site_module.SiteLog as site
 use Rattle.sdd_obligations.specs.attempt.Attempts as attempts
 
 pub record Known (g : Input) (log : Log) : Type 0 where
-  pub sound : IsSound g.catalogue
+  pub sound : IsSoundCatalogue g.catalogue
   pub lawful : IsLawful g log
   pub permitted : IsPermitted g log
   pub lists : HasSoundLists g log

@@ -1,5 +1,5 @@
 -- Where nothing goes on, an active attempt has a READ that is not processed.
-use Rattle.sdd_progress.proofs.All.{AllAskParts, AllByRecursion, AllHaveParts, Asks, AtTurn, Attempt, Bool, Catalogue, ClassView, Condition, Const, D, Delete, Exchange, Fetch, FitsCondition, FitsInput, FitsQuery, FitsStatement, FitsText, HasNear, HasParts, HasTurn, Home, Input, IsAtTurn, IsClass, IsGoing, IsModule, IsNear, IsNearBy, IsPermitted, IsQuiet, IsSound, IsStage, IsUnanswered, List, Log, Msg, None, Open, Option, Put, Query, Read, Reduce, RelNo, Same, Ship, Site, Some, Stmt, Turn, Update, View, [], active, active_near, active_so, agreed, all_new, and_right, answer_goes, answer_of, answer_to, answered_last, answers, ap, apart, arith, asker, askings, asks_open, asks_rows, at_home, at_map, at_module, attempt_due, awaited, base_of, class_asked, class_view, classes_of, cond, contains, data_turns, dm_no, eqb-true, false, filter, first_send, first_some, firsts, from_site, head_of, home, home_fair, home_first, home_of, home_turns, if◌then◌else◌, in_filtered, inl, inr, is_asked_of, is_empty, is_number, is_over, is_question, is_read, length, map, not_both, open_due, opens, or_left, or_none, pipe, question_goes, questions, range_at, reads_asked, recursion_from_All, refl, rows_asked, same_number, send_due, setting_of, slice_get, small_home, sound_whole, spoken, submitted_fit, subst, suc, sym, to_module, true, turn_at, turn_with, unsent, uses_in, view_of, ℕ, ◌+◌, ◌==◌, ◌∙◌, ◌∷◌, ◌≡◌, ◌≤◌}
+use Rattle.sdd_progress.proofs.All.{AllAskParts, AllByRecursion, AllHaveParts, Asks, AtTurn, Attempt, Bool, Catalogue, ClassView, Condition, Const, D, Delete, Exchange, Fetch, FitsCondition, FitsInput, FitsQuery, FitsStatement, FitsText, HasNear, HasParts, HasTurn, Home, Input, IsAtTurn, IsClass, IsGoing, IsModule, IsNear, IsNearBy, IsPermitted, IsQuiet, IsSoundCatalogue, IsStage, IsUnanswered, List, Log, Msg, None, Open, Option, Put, Query, Read, Reduce, RelNo, Same, Ship, Site, Some, Stmt, Turn, Update, View, [], active, active_near, active_so, agreed, all_new, and_right, answer_goes, answer_of, answer_to, answered_last, answers, ap, apart, arith, asker, askings, asks_open, asks_rows, at_home, at_map, at_module, attempt_due, awaited, base_of, class_asked, class_view, classes_of, cond, contains, data_turns, dm_no, eqb-true, false, filter, first_send, first_some, firsts, from_site, head_of, home, home_fair, home_first, home_of, home_turns, if◌then◌else◌, in_filtered, inl, inr, is_asked_of, is_empty, is_number, is_over, is_question, is_read, length, map, not_both, open_due, opens, or_left, or_none, pipe, question_goes, questions, range_at, reads_asked, recursion_from_All, refl, rows_asked, same_number, send_due, setting_of, slice_get, small_home, sound_whole, spoken, submitted_fit, subst, suc, sym, to_module, true, turn_at, turn_with, unsent, uses_in, view_of, ℕ, ◌+◌, ◌==◌, ◌∙◌, ◌∷◌, ◌≡◌, ◌≤◌}
 use Rattle.sdd_progress.proofs.Going.{is_going}
 use Rattle.sdd_progress.proofs.Handed.{none_in_flight}
 use Rattle.sdd_progress.proofs.Lists.{either, head_at, no_head, none_at}
@@ -77,7 +77,7 @@ one_turn v w qs xs (agreed s q x) e f = s
 one_turn v w qs xs (question_goes m q x s a) e f = let z : [] ≡ m ∷ [] = sym e ∙ q in cc
 one_turn v w qs xs (answer_goes m q x s a) e f = let z : [] ≡ m ∷ [] = sym f ∙ x in cc
 
-pub same_turn : (g : Input) (log : Log) (c d ts : ℕ) → IsQuiet g log → IsSound g.catalogue → IsClass g.catalogue c → IsModule g.catalogue d
+pub same_turn : (g : Input) (log : Log) (c d ts : ℕ) → IsQuiet g log → IsSoundCatalogue g.catalogue → IsClass g.catalogue c → IsModule g.catalogue d
     → turn_at ts c d (at_home g c log) ≡ turn_with ts c (home g.catalogue c) (at_module g d log)
 same_turn g log c d ts h sound l m =
     let linked = home_linked g.catalogue c d sound l m in

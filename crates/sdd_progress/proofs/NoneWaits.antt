@@ -1,13 +1,13 @@
 -- Where nothing goes on, no READ waits, so every message is processed and no attempt is under way; if all was idle wherever
 -- a further list of classes was put in force. Then each READ that waits has conditions of the list in force.
-use Rattle.sdd_progress.proofs.All.{AllDiagonalsIn, AreConditionsOf, Bool, Catalogue, Change, ClassNo, Cond, D, Entry, FragNo, HasDiagonal, Input, IsBelow, IsClass, IsDiagonalIn, IsFromTable, IsHolder, IsIdle, IsIdleAtRedeclares, IsModule, IsPermitted, IsQuiet, IsReader, IsSound, IsSoundList, IsStamped, IsStuck, IsTimestamp, List, Log, Msg, None, P2, P3, Protocol, Read, Setting, Some, Ts, TxnNo, Use, WaitGraph, WaitingRead, WaitsOn, Write, [], active, ap, arith, at_home, at_module, bound, class_number, clock, conditions_at_put, diagonals_listed, differ, dm_no, false, head, head_put, head_stuck, holder, home, home_fair, home_small, if◌then◌else◌, in_range, inl, inr, is_met, length, list_all, local_of, none_waits, not_zero, nth_era, number_of, part_of, permitted_part, pipe, read_classes, reader, redeclares, refl, same_or_not, setting_of, slice_get, stamp_ticks, start_of_active, subst, suc, sym, table_fits, time_at, time_of, true, view_of, wait_graph, wait_protocol, wait_time, write_origin, ℕ, ◌+◌, ◌==◌, ◌∙◌, ◌∷◌, ◌≡◌}
+use Rattle.sdd_progress.proofs.All.{AllDiagonalsIn, AreConditionsOf, Bool, Catalogue, Change, ClassNo, Cond, D, Entry, FragNo, HasDiagonal, Input, IsBelow, IsClass, IsDiagonalIn, IsFromTable, IsHolder, IsIdle, IsIdleAtRedeclares, IsModule, IsPermitted, IsQuiet, IsReader, IsSoundCatalogue, IsSoundList, IsStamped, IsStuck, IsTimestamp, List, Log, Msg, None, P2, P3, Protocol, Read, Setting, Some, Ts, TxnNo, Use, WaitGraph, WaitingRead, WaitsOn, Write, [], active, ap, arith, at_home, at_module, bound, class_number, clock, conditions_at_put, diagonals_listed, differ, dm_no, false, head, head_put, head_stuck, holder, home, home_fair, home_small, if◌then◌else◌, in_range, inl, inr, is_met, length, list_all, local_of, none_waits, not_zero, nth_era, number_of, part_of, permitted_part, pipe, read_classes, reader, redeclares, refl, same_or_not, setting_of, slice_get, stamp_ticks, start_of_active, subst, suc, sym, table_fits, time_at, time_of, true, view_of, wait_graph, wait_protocol, wait_time, write_origin, ℕ, ◌+◌, ◌==◌, ◌∙◌, ◌∷◌, ◌≡◌}
 use Rattle.sdd_progress.proofs.Alone.{below_read, zero_time}
 use Rattle.sdd_progress.proofs.Lacking.{has_unanswered}
 use Rattle.sdd_progress.proofs.Lists.{not_all, no_head}
 use Rattle.sdd_progress.proofs.Still.{d_still}
 use Rattle.sdd_progress.proofs.WaitedFor.{next_head, next_reader}
 use Rattle.sdd_progress.proofs.SinceRedeclare.{since_redeclare}
-use Rattle.sdd_progress.specs.WaitGraph.{Fits}
+use Rattle.sdd_progress.specs.WaitGraph.{FitsWaitGraph}
 use Rattle.sdd_obligations.specs.protocol.declared.entry.Entry as line
 use Rattle.sdd_obligations.specs.site_module.SiteLog as site
 
@@ -57,7 +57,7 @@ waiting_number : (g : Input) (log : Log) (c ts : ℕ) (conds : List Cond) → (c
     → IsWaiting g log (read_number g log c ts conds from)
 waiting_number g log c ts conds z r from since = record { conds = conds; declared = z; reader = r; from = from; ticks_are = refl; p2_is = refl; since = since }
 
-conditions : (g : Input) (log : Log) (c ts : ℕ) (conds : List Cond) → IsQuiet g log → IsSound g.catalogue → IsIdleAtRedeclares g log → (c == 0) ≡ false
+conditions : (g : Input) (log : Log) (c ts : ℕ) (conds : List Cond) → IsQuiet g log → IsSoundCatalogue g.catalogue → IsIdleAtRedeclares g log → (c == 0) ≡ false
     → IsReader g log c ts conds → (from : AreConditionsOf g log c ts conds) × (redeclares from.before ≡ redeclares log)
 conditions g log c ts conds h sound marks z r =
     let p = head_put g c (dm_no r.d) log (Read (time_at ts) r.of r.txn r.attempt conds r.uses) h.permitted r.head_is in
@@ -135,7 +135,7 @@ cond_along g log c ts conds from k q since e =
 
 -- a WRITE's time is that of a Start
 
-write_stamp : (g : Input) (log : Log) (j d w : ℕ) (of : ClassNo) (txn : TxnNo) (changes : List Change) → IsSound g.catalogue → IsPermitted g log
+write_stamp : (g : Input) (log : Log) (j d w : ℕ) (of : ClassNo) (txn : TxnNo) (changes : List Change) → IsSoundCatalogue g.catalogue → IsPermitted g log
     → head (pipe j (at_module g d log)) ≡ Some (Write (time_at w) of txn changes) → IsTimestamp w
 write_stamp g log j d w of txn changes sound h e =
     let s = setting_of g (home g.catalogue j) in
@@ -168,7 +168,7 @@ module _ (g : Input) (log : Log) (h : IsQuiet g log) (one : IsSoundList g (redec
         absurd (omega (arith, below, own, held)))
   ]
 
-  fits : Fits (graph_of g log)
+  fits : FitsWaitGraph (graph_of g log)
   fits = table_fits (nth_era g (redeclares log)).catalogue (nth_era g (redeclares log)).table one.table.table
 
   class_of_writer : (i j : ℕ) (own : Bool) → HasDiagonal (graph_of g log) i j own → ((j == 0) ≡ false) × IsClass g.catalogue j

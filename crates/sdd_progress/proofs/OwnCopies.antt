@@ -1,6 +1,6 @@
 -- The copy that a data module has at the end of a log is that which the history gives. What is known of copies at records is
 -- said of the record of an event that finds nothing to do behind the log.
-use Rattle.sdd_progress.proofs.All.{Catalogue, D, HasSoundData, HasSoundLists, History, Input, IsMadeAt, IsPermitted, IsQuiet, IsSound, List, Log, Mark, None, Notes, Nothing, Option, Rec, RelNo, Row, Some, Up, [], ap, attempt_of, attempts, by_event, by_mark, committed, committed_of, cons_option, contents, copy_module, dated, dm_no, eras_of, false, filter, filter_map, flat_map, has_copy, history, is_apply, is_down, length, list_any, local_of, mark_due, marks, not, note_if, placed, refl, same_copy, setting_of, suc, take, true, ℕ, ◌++◌, ◌∙◌, ◌∷◌, ◌≡◌}
+use Rattle.sdd_progress.proofs.All.{Catalogue, D, HasSoundData, HasSoundLists, History, Input, IsMadeAt, IsPermitted, IsQuiet, IsSoundCatalogue, List, Log, Mark, None, Notes, Nothing, Option, Rec, RelNo, Row, Some, Up, [], ap, attempt_of, attempts, by_event, by_mark, committed, committed_of, cons_option, contents, copy_module, dated, dm_no, eras_of, false, filter, filter_map, flat_map, has_copy, history, is_apply, is_down, length, list_any, local_of, mark_due, marks, not, note_if, placed, refl, same_copy, setting_of, suc, take, true, ℕ, ◌++◌, ◌∙◌, ◌∷◌, ◌≡◌}
 use Rattle.sdd_progress.proofs.ErasOf.{are_eras_of}
 use Rattle.sdd_obligations.specs.laws.Snapshots as laws
 
@@ -41,7 +41,7 @@ noted_permitted g log d up h =
 abbrev noted_made : (log : Log) (d : ℕ) → IsMadeAt (noted d log) (length (history log)) Nothing
 noted_made log d = record { later = []; entry = Notes; before = Mark (Up (dm_no d)) ∷ log; is = refl; makes = refl; place_is = refl }
 
-pub own_copy : (g : Input) (rows : List (RelNo × Row)) (log : Log) (f d : ℕ) → IsSound g.catalogue → IsQuiet g log → HasSoundLists g log
+pub own_copy : (g : Input) (rows : List (RelNo × Row)) (log : Log) (f d : ℕ) → IsSoundCatalogue g.catalogue → IsQuiet g log → HasSoundLists g log
     → HasSoundData g rows → has_copy g.catalogue d f ≡ true
     → contents f (dated (setting_of g (D (dm_no d))) (local_of g (D (dm_no d)) log)) ≡ laws.copy_at g.catalogue rows (history log) d (length (history log)) f
 own_copy g rows log f d sound h lists fine copied =

@@ -1,5 +1,5 @@
 -- No arcs lead from the reader of a P2 diagonal to its writer.
-use Rattle.sdd_progress.proofs.AllWaits.{Arc, AreBlocks, Fits, IsDiagonal, JoinedWithout, Joins, List, Neighbours, NoPathToWriter, Path, Some, Step, WaitDiagonal, WaitGraph, [], ap, arith, cases_eq, false, go, held, inl, inr, joins_back, joins_within, last, neighbours_share, refl, slice_get, slice_get-get_or, slice_index, stop, subst, sym, within, ℕ, ◌∙◌, ◌∷◌, ◌≡◌, ◌≢◌, ◌⊎◌}
+use Rattle.sdd_progress.proofs.AllWaits.{Arc, AreBlocks, FitsWaitGraph, IsDiagonal, JoinedWithout, Joins, List, Neighbours, NoPathToWriter, Path, Some, Step, WaitDiagonal, WaitGraph, [], ap, arith, cases_eq, false, go, held, inl, inr, joins_back, joins_within, last, neighbours_share, refl, slice_get, slice_get-get_or, slice_index, stop, subst, sym, within, ℕ, ◌∙◌, ◌∷◌, ◌≡◌, ◌≢◌, ◌⊎◌}
 use Rattle.sdd_progress.specs.WaitGraph.Arc.{waits}
 
 joins_at : (edges : List (ℕ × ℕ)) (k a b x y : ℕ) → x ≡ a → y ≡ b → Joins edges k a b → Joins edges k x y
@@ -20,7 +20,7 @@ pub record Leaves (G : WaitGraph) (a y : ℕ) : Type 0 where
   pub arc : Arc G a to
   pub rest : JoinedWithout G.edges a to y
 
-module _ (G : WaitGraph) (fits : Fits G) where
+module _ (G : WaitGraph) (fits : FitsWaitGraph G) where
   -- an arc lies along an edge
   along : (x y : ℕ) → Arc G x y → (k : ℕ) × Joins G.edges k x y
   along x y (waits n d at own e f) = (d.edge, joins_at G.edges d.edge (G.read d.reader) (G.write d.writer) x y e f (fits.diagonal n d at).joins)

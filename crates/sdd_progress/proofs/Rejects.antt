@@ -1,5 +1,5 @@
 -- Each Reject of a permitted log is by a write of another transaction.
-use Rattle.sdd_progress.proofs.All.{Act, AppliedBefore, AreErasOf, ClassNo, Committed, Cond, D, Does, Entry, Eras, Input, IsAttempt, IsCommitted, IsConditionOf, IsDataIn, IsPermitted, IsSound, KeepsRejects, KeepsStarts, Log, Rec, Records, Reject as Rejected, Setting, Some, [], allowed_act, ap, append_assoc, applied_before, arith, catalogue_at, class_no, commit_act, commit_of_log, d_step, data_in, dm_no, event_at, first_of_filter, further_back, history, home, keeps_starts, length, local_of, read_condition, read_of_some, refl, rejecting, setting_of, slice_get, spoils, spoilt_by, subst, sym, time_at, touched_one, txn_no, view_of, ℕ, ◌++◌, ◌∙◌, ◌∷◌, ◌≡◌, ◌≢◌}
+use Rattle.sdd_progress.proofs.All.{Act, AppliedBefore, AreErasOf, ClassNo, Committed, Cond, D, Does, Entry, Eras, Input, IsAttempt, IsCommitted, IsConditionOf, IsDataIn, IsPermitted, IsSoundCatalogue, KeepsRejects, KeepsStarts, Log, Rec, Records, Reject as Rejected, Setting, Some, [], allowed_act, ap, append_assoc, applied_before, arith, catalogue_at, class_no, commit_act, commit_of_log, d_step, data_in, dm_no, event_at, first_of_filter, further_back, history, home, keeps_starts, length, local_of, read_condition, read_of_some, refl, rejecting, setting_of, slice_get, spoils, spoilt_by, subst, sym, time_at, touched_one, txn_no, view_of, ℕ, ◌++◌, ◌∙◌, ◌∷◌, ◌≡◌, ◌≢◌}
 use Rattle.sdd_progress.proofs.OtherClass.{other_class}
 use Rattle.sdd_progress.proofs.Writers.{one_class}
 use Rattle.sdd_obligations.specs.serial_orders.Attempts.{Attempt}
@@ -13,7 +13,7 @@ other_txn g log eras a d c w starting s condition is class same =
     other_class (catalogue_at g.catalogue eras (event_at (history log) a.place)) g.catalogue condition.table a d c condition.table_is condition.there
     (sym class ∙ one_class g.catalogue eras g.txns (history log) starting w.start a is.started s same)
 
-pub keeps_rejects : (g : Input) (log : Log) (eras : Eras) → IsSound g.catalogue → IsPermitted g log → AreErasOf g log eras
+pub keeps_rejects : (g : Input) (log : Log) (eras : Eras) → IsSoundCatalogue g.catalogue → IsPermitted g log → AreErasOf g log eras
     → KeepsRejects g.catalogue eras (history log)
 keeps_rejects g log eras sound h are n number d class write k s =
     let rec : Rec = Rejected (txn_no n) number (dm_no d) (class_no class) (time_at write) in

@@ -1,5 +1,5 @@
 -- A READ that waits is of an attempt that started since the last list of classes was put in force, where all was idle then.
-use Rattle.sdd_progress.proofs.All.{ClassNo, Cond, D, Did, Does, Entry, Hand, Input, IsClass, IsIdle, IsIdleAtRedeclares, IsModule, IsPermitted, IsPutAt, IsQuiet, IsSound, List, Log, Mark, Msg, Notes, Read, Redeclares, Round, Site, Some, Submitted, Ts, TxnNo, Use, [], ap, append-nil, append_assoc, arith, at_module, class_number, class_puts, dm_no, head, head_place, home, home_small, in_class, in_pipe_later, inl, inr, is_put, length, local_at, local_grows, local_of, one_of_key, own_made, pipe, place_within, processed_grows, processed_stays, puts_to, read_at, reads_strict, redeclares, refl, same_number, slice_get, subst, sym, true, ℕ, ◌++◌, ◌==◌, ◌∙◌, ◌∷◌, ◌≡◌, ◌≤◌, ◌⊎◌}
+use Rattle.sdd_progress.proofs.All.{ClassNo, Cond, D, Did, Does, Entry, Hand, Input, IsClass, IsIdle, IsIdleAtRedeclares, IsModule, IsPermitted, IsPutAt, IsQuiet, IsSoundCatalogue, List, Log, Mark, Msg, Notes, Read, Redeclares, Round, Site, Some, Submitted, Ts, TxnNo, Use, [], ap, append-nil, append_assoc, arith, at_module, class_number, class_puts, dm_no, head, head_place, home, home_small, in_class, in_pipe_later, inl, inr, is_put, length, local_at, local_grows, local_of, one_of_key, own_made, pipe, place_within, processed_grows, processed_stays, puts_to, read_at, reads_strict, redeclares, refl, same_number, slice_get, subst, sym, true, ℕ, ◌++◌, ◌==◌, ◌∙◌, ◌∷◌, ◌≡◌, ◌≤◌, ◌⊎◌}
 use Rattle.sdd_progress.proofs.Applied.{pipe_has_all}
 
 -- a longer log puts no fewer lists in force
@@ -42,7 +42,7 @@ read_key c ts of txn attempt conds uses e = let q : (of.0 == c) ≡ true = ap (�
 
 -- the READ at the head of a pipe wasn't put before nothing went on and all was idle
 not_put_by : (g : Input) (log later mid between : Log) (c d : ℕ) (ts : Ts) (of : ClassNo) (txn : TxnNo) (attempt : ℕ) (conds : List Cond) (uses : List Use)
-    → IsPermitted g log → IsSound g.catalogue → IsClass g.catalogue c → IsModule g.catalogue d
+    → IsPermitted g log → IsSoundCatalogue g.catalogue → IsClass g.catalogue c → IsModule g.catalogue d
     → head (pipe c (at_module g d log)) ≡ Some (Read ts of txn attempt conds uses) → (p : IsPutAt g log c (dm_no d) (Read ts of txn attempt conds uses))
     → log ≡ later ++ mid → IsQuiet g mid → IsIdle g mid → mid ≡ between ++ Does (home g.catalogue c) p.act ∷ p.before → ⊥
 not_put_by g log later mid between c d ts of txn attempt conds uses h sound l m e p is quiet idle at =
@@ -76,7 +76,7 @@ not_put_by g log later mid between c d ts of txn attempt conds uses h sound l m 
 
 -- so it was put since the last list was put in force
 pub since_redeclare : (g : Input) (log : Log) (c d : ℕ) (ts : Ts) (of : ClassNo) (txn : TxnNo) (attempt : ℕ) (conds : List Cond) (uses : List Use)
-    → IsPermitted g log → IsSound g.catalogue → IsClass g.catalogue c → IsModule g.catalogue d → IsIdleAtRedeclares g log
+    → IsPermitted g log → IsSoundCatalogue g.catalogue → IsClass g.catalogue c → IsModule g.catalogue d → IsIdleAtRedeclares g log
     → head (pipe c (at_module g d log)) ≡ Some (Read ts of txn attempt conds uses)
     → (p : IsPutAt g log c (dm_no d) (Read ts of txn attempt conds uses)) → redeclares p.before ≡ redeclares log
 since_redeclare g log c d ts of txn attempt conds uses h sound l m marks e p =

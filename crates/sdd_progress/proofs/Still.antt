@@ -1,5 +1,5 @@
 -- Where nothing goes on, nothing is due at any site.
-use Rattle.sdd_progress.proofs.All.{Catalogue, D, Input, IsClass, IsModule, IsQuiet, IsSound, Log, None, Site, Some, T, U, active, ap, at_home, at_map, at_module, at_place, attempt_due, base_of, class_at, dm_no, does_at, does_none, false, first_some, home, inl, inr, is_link, is_site, le-leb, length, local_of, nat_le, next_at, numbers_to, or_none, positive, refl, same_number, same_or_not, served, setting_of, site_there, sites, slice_get, subst, sym, tm_no, true, ℕ, ◌&&◌, ◌-◌, ◌==◌, ◌≡◌, ◌≤◌, ◌⊎◌}
+use Rattle.sdd_progress.proofs.All.{Catalogue, D, Input, IsClass, IsModule, IsQuiet, IsSoundCatalogue, Log, None, Site, Some, T, U, active, ap, at_home, at_map, at_module, at_place, attempt_due, base_of, class_at, dm_no, does_at, does_none, false, first_some, home, inl, inr, is_link, is_site, le-leb, length, local_of, nat_le, next_at, numbers_to, or_none, positive, refl, same_number, same_or_not, served, setting_of, site_there, sites, slice_get, subst, sym, tm_no, true, ℕ, ◌&&◌, ◌-◌, ◌==◌, ◌≡◌, ◌≤◌, ◌⊎◌}
 use Rattle.sdd_progress.proofs.Lists.{kept_there, none_at}
 use Rattle.sdd_obligations.specs.dm.Due as dm
 use Rattle.sdd_obligations.specs.dm.Views as dm_views
@@ -32,7 +32,7 @@ pub record IsRunAt (cat : Catalogue) (c : ℕ) : Type 0 where
   pub to : t ≤ cat.tms
   pub number_is : t ≡ (class_at cat c).tm.0
 
-pub run_at : (cat : Catalogue) (c : ℕ) → IsSound cat → (c == 0) ≡ false → IsClass cat c → IsRunAt cat c
+pub run_at : (cat : Catalogue) (c : ℕ) → IsSoundCatalogue cat → (c == 0) ≡ false → IsClass cat c → IsRunAt cat c
 run_at cat c sound p l =
     let s = served cat sound c (positive c p) l in
     record { t = (class_at cat c).tm.0; home_is = rw p refl; from = s.module_from; to = s.module_to; number_is = refl }
@@ -49,13 +49,13 @@ linked_if tms dms a d e f (inr p) =
     subst (λ x. is_site tms dms x ≡ true → (is_link tms dms x (D (dm_no d)) ≡ true)
     × (is_link tms dms (D (dm_no d)) x ≡ true)) (sym p.1) (λ q. (rw (q, f) refl, rw (f, q) refl)) e
 
-pub home_site : (cat : Catalogue) (c : ℕ) → IsSound cat → IsClass cat c → is_site cat.tms cat.dms (home cat c) ≡ true
+pub home_site : (cat : Catalogue) (c : ℕ) → IsSoundCatalogue cat → IsClass cat c → is_site cat.tms cat.dms (home cat c) ≡ true
 home_site cat c sound l = elim (same_or_not c 0) [
   | inl p ↦ subst (λ x. is_site cat.tms cat.dms x ≡ true) (sym (u_is cat c p)) refl
   | inr p ↦ (let r = run_at cat c sound p l in subst (λ x. is_site cat.tms cat.dms x ≡ true) (sym r.home_is) (t_site cat r.t r.from r.to))
 ]
 
-pub home_linked : (cat : Catalogue) (c d : ℕ) → IsSound cat → IsClass cat c → IsModule cat d
+pub home_linked : (cat : Catalogue) (c d : ℕ) → IsSoundCatalogue cat → IsClass cat c → IsModule cat d
     → (is_link cat.tms cat.dms (home cat c) (D (dm_no d)) ≡ true) × (is_link cat.tms cat.dms (D (dm_no d)) (home cat c) ≡ true)
 home_linked cat c d sound l m =
     linked_if cat.tms cat.dms (home cat c) d (home_site cat c sound l) (d_site cat d m) (elim (same_or_not c 0) [
@@ -129,7 +129,7 @@ u_still g log h =
     }
 
 -- of each class the active attempt, where there is one, has nothing to send and may not commit
-pub exchange_none : (g : Input) (log : Log) (c : ℕ) → IsQuiet g log → IsSound g.catalogue → IsClass g.catalogue c
+pub exchange_none : (g : Input) (log : Log) (c : ℕ) → IsQuiet g log → IsSoundCatalogue g.catalogue → IsClass g.catalogue c
     → attempt_due g.catalogue (base_of g log) c (active (setting_of g (home g.catalogue c)) c (at_home g c log)) ≡ None
 exchange_none g log c h sound l = elim (same_or_not c 0) [
   | inl p ↦ subst (λ k. attempt_due g.catalogue (base_of g log) k (active (setting_of g (home g.catalogue k)) k (at_home g k log)) ≡ None) (sym p)

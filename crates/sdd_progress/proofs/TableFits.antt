@@ -1,5 +1,5 @@
 -- The graph of waits of a protocol table fits its block numbers.
-use Rattle.sdd_progress.proofs.AllWaits.{Bool, Catalogue, ClassNo, Diagonal, Edge, Fits, FitsBlocks, FragNo, IsClass, IsClassOf, IsEdgeOf, IsTable, List, None, Option, P1, P2, P3, Protocol, ReadsFrom, Some, TableFits, Vertical, WaitDiagonal, [], all_at, ap, arith, at_map as some_map, blocks_of, class_no, conflict_graph, cons_option, diagonal_at, diagonal_edges, diagonal_protocol, diagonals, edges_known, ends, eq-eqb, eqb-true, false, false≢true, first_block, first_block-vertical, get_or_from_slice_get, horizontal_edges, if◌then◌else◌, inl, is_vertical_of, length, length-append, length-map, length-map-range_with_len, map, protocol_in, range_with_len, read_node, refl, same_Some, slice_get, slice_index, subst, suc, sym, true, vertical_block, vertical_block-lists, vertical_edges, wait_graph, wait_protocol, write_node, zero, ℕ, ◌++◌, ◌+◌, ◌-◌, ◌<◌, ◌==◌, ◌∙◌, ◌∷◌, ◌≡◌, ◌≢◌, ◌≤◌}
+use Rattle.sdd_progress.proofs.AllWaits.{Bool, Catalogue, ClassNo, Diagonal, Edge, FitsBlocks, FitsWaitGraph, FragNo, IsClass, IsClassOf, IsEdgeOf, IsTable, List, None, Option, P1, P2, P3, Protocol, ReadsFrom, Some, TableFits, Vertical, WaitDiagonal, [], all_at, ap, arith, at_map as some_map, blocks_of, class_no, conflict_graph, cons_option, diagonal_at, diagonal_edges, diagonal_protocol, diagonals, edges_known, ends, eq-eqb, eqb-true, false, false≢true, first_block, first_block-vertical, get_or_from_slice_get, horizontal_edges, if◌then◌else◌, inl, is_vertical_of, length, length-append, length-map, length-map-range_with_len, map, protocol_in, range_with_len, read_node, refl, same_Some, slice_get, slice_index, subst, suc, sym, true, vertical_block, vertical_block-lists, vertical_edges, wait_graph, wait_protocol, write_node, zero, ℕ, ◌++◌, ◌+◌, ◌-◌, ◌<◌, ◌==◌, ◌∙◌, ◌∷◌, ◌≡◌, ◌≢◌, ◌≤◌}
 use Rattle.sdd_obligations.specs.protocol.declared.entry.Entry.{Entry}
 
 -- the place, protocol and edge of which a diagonal was made
@@ -167,7 +167,7 @@ module _ (cat : Catalogue) (entries : List Entry) (table : IsTable cat entries) 
       some_map ends (conflict_graph cat) (i - 1) (Vertical (class_no i))
       (vertical_at (length cat.classes) 1 (i - 1) (horizontal_edges cat ++ diagonal_edges cat) (omega arith) ∙ ap (λ w. Some (Vertical (class_no w))) z)
 
-  wait_graph_fits : Fits (wait_graph cat entries)
+  wait_graph_fits : FitsWaitGraph (wait_graph cat entries)
   wait_graph_fits =
       record {
         blocks = table.blocks;

@@ -1,6 +1,6 @@
 -- The READ of an undeclared transaction is never rejected, and holds no WRITE back: what is put with a later timestamp was
 -- started once that transaction was applied at every module.
-use Rattle.sdd_progress.proofs.AllWaits.{Act, Answer, Attempt, Change, ClassNo, Cond, D, DmNo, Does, HasAnswer, Input, IsApplyOf, IsClassOf, IsPermitted, IsSound, List, Log, Msg, Part, Read, Records, Rejected, Setting, Site, Some, Ts, TxnNo, Use, Write, all_applied, allowed_act, and_left, and_right, answered_before, answered_there, any_at, ap, append_assoc, arith, class_at, class_number, commit_t, d_step, head, head_put, holds, holds_back, home_of, in_range, inl, inr, le_is, length, local_of, low_or_high, nat_le, never_spoilt, not_both, own_time, part_join, part_of, permitted_part, pipe_at, read_classes, read_of, setting_of, slice_get, sound_whole, spoils, subst, sym, true, u_stamp, view_of, write_origin, ℕ, ◌++◌, ◌==◌, ◌∙◌, ◌∷◌, ◌≡◌, ◌≤◌}
+use Rattle.sdd_progress.proofs.AllWaits.{Act, Answer, Attempt, Change, ClassNo, Cond, D, DmNo, Does, HasAnswer, Input, IsApplyOf, IsClassOf, IsPermitted, IsSoundCatalogue, List, Log, Msg, Part, Read, Records, Rejected, Setting, Site, Some, Ts, TxnNo, Use, Write, all_applied, allowed_act, and_left, and_right, answered_before, answered_there, any_at, ap, append_assoc, arith, class_at, class_number, commit_t, d_step, head, head_put, holds, holds_back, home_of, in_range, inl, inr, le_is, length, local_of, low_or_high, nat_le, never_spoilt, not_both, own_time, part_join, part_of, permitted_part, pipe_at, read_classes, read_of, setting_of, slice_get, sound_whole, spoils, subst, sym, true, u_stamp, view_of, write_origin, ℕ, ◌++◌, ◌==◌, ◌∙◌, ◌∷◌, ◌≡◌, ◌≤◌}
 use Rattle.sdd_progress.proofs.ClassSites.{class_served, home_of_class, in_runs, range_there}
 use Rattle.sdd_progress.proofs.Rejected.{IsRejecting, rejecting, spoiler_there}
 use Rattle.sdd_obligations.specs.site_module.SiteLog as site
@@ -19,7 +19,7 @@ not_again g d log a ts k txn n ds us before h e p w same =
 
 -- while it stands there, nothing that is put is of a declared transaction with its timestamp or a later one
 none_later : (g : Input) (i num w : ℕ) (d : DmNo) (log : Log) (ts : Ts) (of : ClassNo) (txn : TxnNo) (n : ℕ) (ds : List Cond) (us : List Use)
-    → IsPermitted g log → IsSound g.catalogue → IsClassOf g.catalogue i → 1 ≤ d.0 → d.0 ≤ g.catalogue.dms
+    → IsPermitted g log → IsSoundCatalogue g.catalogue → IsClassOf g.catalogue i → 1 ≤ d.0 → d.0 ≤ g.catalogue.dms
     → head (pipe_at g 0 d log) ≡ Some (Read ts of txn n ds us) → ts.0 ≤ w → IsApplyOf g log d i num w → ⊥
 none_later g i num w d log ts of txn n ds us h sound c lo hi e le cm =
     let t : ℕ = (class_at g.catalogue i).tm.0 in
@@ -44,7 +44,7 @@ none_later g i num w d log ts of txn n ds us h sound c lo hi e le cm =
     ]
 
 pub holds_none : (g : Input) (i : ℕ) (d : DmNo) (log : Log) (ts : Ts) (of : ClassNo) (txn : TxnNo) (n : ℕ) (ds : List Cond) (us : List Use) (w : Ts) (wc : ClassNo) (wt : TxnNo) (changes : List Change)
-    → IsPermitted g log → IsSound g.catalogue → IsClassOf g.catalogue i → 1 ≤ d.0 → d.0 ≤ g.catalogue.dms
+    → IsPermitted g log → IsSoundCatalogue g.catalogue → IsClassOf g.catalogue i → 1 ≤ d.0 → d.0 ≤ g.catalogue.dms
     → head (pipe_at g 0 d log) ≡ Some (Read ts of txn n ds us) → head (pipe_at g i d log) ≡ Some (Write w wc wt changes)
     → holds_back i w.0 changes (Some (Read ts of txn n ds us)) ≡ true → ⊥
 holds_none g i d log ts of txn n ds us w wc wt changes h sound c lo hi e f b =
@@ -65,7 +65,7 @@ class_of_cond g d log ts of txn n ds us j q h e f =
     record { from = r.0; to = (let l = r.1 in omega arith) }
 
 pub not_rejected : (g : Input) (log : Log) (d : DmNo) (txn : TxnNo) (attempt : ℕ) (dm : DmNo) (by : ClassNo) (write : Ts) (sends : List (Site × Msg))
-    → IsSound g.catalogue → 1 ≤ d.0 → d.0 ≤ g.catalogue.dms → IsPermitted g (Does (D d) (Records 0 (Rejected txn attempt dm by write) sends) ∷ log) → ⊥
+    → IsSoundCatalogue g.catalogue → 1 ≤ d.0 → d.0 ≤ g.catalogue.dms → IsPermitted g (Does (D d) (Records 0 (Rejected txn attempt dm by write) sends) ∷ log) → ⊥
 not_rejected g log d txn attempt dm by write sends sound lo hi h =
     let s : Setting = setting_of g (D d) in
     let l : site.Log = local_of g (D d) log in

@@ -1,6 +1,6 @@
 -- Worked logs that meet what the laws ask. Two classes, each of which reads what the other writes: a query waits until the
 -- other class has passed its time, and is answered then; or it comes behind a later put, and is rejected.
-use Rattle.sdd_progress.proofs.AllWaits.{Act, AreConditionsOf, AreSubmittedOnce, Bool, Catalogue, Cond, Const, D, Deliver, Diagonal, Does, EndsAnEvent, Era, Event, Input, Int, IsAnsweredIn, IsLawful, IsPermitted, IsRejectOf, IsSound, IsStuck, Le, List, Log, None, P1, P3, Put, Query, Read, Records, Reject, Rejected, Setting, Some, Submit, T, Txn, Use, Vertical, WaitsSince, [], arith, class_no, d_fair, dm_no, extended, false, frag_no, inl, inr, lawful_permitted, lit<, lit≤, local_of, negsuc, next, one_if, passed, pipe_at, pos, refl, rel_no, same_or_not, setting_of, subst, suc, take, time_at, tm_no, true, txn_no, zero, ℕ, ◌++◌, ◌+◌, ◌==◌, ◌∷◌, ◌≡◌, ◌≢◌, ◌≤◌}
+use Rattle.sdd_progress.proofs.AllWaits.{Act, AreConditionsOf, AreSubmittedOnce, Bool, Catalogue, Cond, Const, D, Deliver, Diagonal, Does, EndsAnEvent, Era, Event, Input, Int, IsAnsweredIn, IsLawful, IsPermitted, IsRejectOf, IsSoundCatalogue, IsStuck, Le, List, Log, None, P1, P3, Put, Query, Read, Records, Reject, Rejected, Setting, Some, Submit, T, Txn, Use, Vertical, WaitsSince, [], arith, class_no, d_fair, dm_no, extended, false, frag_no, inl, inr, lawful_permitted, lit<, lit≤, local_of, negsuc, next, one_if, passed, pipe_at, pos, refl, rel_no, same_or_not, setting_of, subst, suc, take, time_at, tm_no, true, txn_no, zero, ℕ, ◌++◌, ◌+◌, ◌==◌, ◌∷◌, ◌≡◌, ◌≢◌, ◌≤◌}
 use Rattle.sdd_obligations.specs.catalog.Rules.{faults_of}
 use Rattle.sdd_progress.proofs.FromTable.{conditions_of}
 use Rattle.sdd_progress.proofs.OfLawful.{answered}
@@ -48,7 +48,7 @@ put = record { name = []; tm = tm_no 2; statements = Put (rel_no 1) (Int (pos 1)
 abbrev given_by : List Event → Input
 given_by events = record { catalogue = crossing; eras = current_era ∷ []; rows = [] ∷ []; txns = query ∷ put ∷ []; events = events }
 
-sound : IsSound crossing
+sound : IsSoundCatalogue crossing
 unfolding faults_of
 sound = record { valid = refl; same = refl }
 

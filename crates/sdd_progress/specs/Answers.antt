@@ -1,6 +1,6 @@
 -- When an event is over, and what was answered or rejected by then.
 use Rattle.std.specs.Prelude.{ℕ, ◌++◌, ◌∷◌, ◌≡◌, ◌≤◌, Bool, List, None, Option, Some, false, slice_get, true}
-use Rattle.sdd_obligations.specs.invariants.All.{Answer, Apply, AreSubmittedOnce, Change, ClassNo, Cond, D, DmNo, Does, Entry, Input, IsLawful, IsSound, Log, Mark, Msg, Records, Redeclares, Round, Site, Ts, TxnNo, Write, head, next, pipe_at, touches}
+use Rattle.sdd_obligations.specs.invariants.All.{Answer, Apply, AreSubmittedOnce, Change, ClassNo, Cond, D, DmNo, Does, Entry, Input, IsLawful, IsSoundCatalogue, Log, Mark, Msg, Records, Redeclares, Round, Site, Ts, TxnNo, Write, head, next, pipe_at, touches}
 use Rattle.sdd_obligations.specs.history.declared.record.Rec.TheVariants.{Reject as Rejected}
 
 -- an entry that begins an event or a round
@@ -20,7 +20,7 @@ IsEventOver g log = begins_or_ends (next g log) ≡ true
 
 -- a lawful log at whose end the last event is over; the catalogue is valid, and each transaction is submitted once
 pub record EndsAnEvent (g : Input) (log : Log) : Type 0 where
-  pub sound : IsSound g.catalogue
+  pub sound : IsSoundCatalogue g.catalogue
   pub once : AreSubmittedOnce g.events
   pub lawful : IsLawful g log
   pub over : IsEventOver g log

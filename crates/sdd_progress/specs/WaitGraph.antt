@@ -41,7 +41,7 @@ pub record FitsBlocks (G : WaitGraph) (d : WaitDiagonal) : Type 0 where
   pub other : d.own ≡ false → slice_index G.blocks d.edge ≢ slice_index G.blocks (G.vertical d.reader)
 
 -- the protocols are those of the block numbers
-pub record Fits (G : WaitGraph) : Type 0 where
+pub record FitsWaitGraph (G : WaitGraph) : Type 0 where
   pub blocks : AreBlocks G.edges G.blocks
   -- nodes are read nodes, one a class, or write nodes
   pub apart : (i j : ℕ) → IsClass G i → IsClass G j → G.read i ≢ G.write j

@@ -1,5 +1,5 @@
 ghost use Rattle.std.specs.Prelude.{◌≡◌, ◌<◌, ◌≤◌, ℕ, true, List, Some, slice_get};
-ghost use Rattle.sdd_obligations.specs.All.{Attempt, Change, ClassNo, Cond, DmNo, FitsInput, Input, IsClass, IsModule, IsPermitted, IsSound, Log, Read, Site, Ts, TxnNo, Use, Write, active, hands_from, head, home, is_link, local_of, pipe_at, puts_to, redeclares, setting_of};
+ghost use Rattle.sdd_obligations.specs.All.{Attempt, Change, ClassNo, Cond, DmNo, FitsInput, Input, IsClass, IsModule, IsPermitted, IsSoundCatalogue, Log, Read, Site, Ts, TxnNo, Use, Write, active, hands_from, head, home, is_link, local_of, pipe_at, puts_to, redeclares, setting_of};
 ghost use Rattle.sdd_progress.specs.Asked.{IsUnanswered};
 ghost use Rattle.sdd_progress.specs.Going.{IsGoing};
 ghost use Rattle.sdd_progress.specs.Premises.{IsIdleAtRedeclares, IsSoundList};
@@ -38,7 +38,7 @@ pub fn law_class_zero()
     ensures after_writes { (given : Input) (log : Log) (class : ℕ) (d : DmNo) (ts : Ts)
         (of : ClassNo) (txn : TxnNo) (attempt : ℕ) (conds : List Cond) (uses : List Use)
         (write : Ts) (by : ClassNo) (writer : TxnNo) (changes : List Change)
-        → IsSound given.catalogue → IsPermitted given log → 1 ≤ class
+        → IsSoundCatalogue given.catalogue → IsPermitted given log → 1 ≤ class
         → IsClass given.catalogue class → IsModule given.catalogue d.0
         → head (pipe_at given 0 d log) ≡ Some (Read ts of txn attempt conds uses)
         → head (pipe_at given class d log) ≡ Some (Write write by writer changes)

@@ -1,5 +1,5 @@
 ghost use Rattle.std.specs.Prelude.{◌≡◌, ◌≤◌, ◌++◌, ◌∷◌, ℕ, List, Some, true};
-ghost use Rattle.sdd_obligations.specs.invariants.All.{Change, ClassNo, Cond, D, Did, DmNo, Does, Each, Input, IsDueEach, IsPermitted, IsSound, Log, Msg, Read, Rec, Records, Setting, Site, Ts, TxnNo, Use, Wait, Write, head, home, is_processing, number_of, pipe_at, waits};
+ghost use Rattle.sdd_obligations.specs.invariants.All.{Change, ClassNo, Cond, D, Did, DmNo, Does, Each, Input, IsDueEach, IsPermitted, IsSoundCatalogue, Log, Msg, Read, Rec, Records, Setting, Site, Ts, TxnNo, Use, Wait, Write, head, home, is_processing, number_of, pipe_at, waits};
 ghost use Rattle.sdd_obligations.specs.graph.Edges.{IsClassOf};
 ghost use Rattle.sdd_obligations.specs.history.declared.record.Rec.TheVariants.{Reject as Rejected};
 ghost use Rattle.sdd_obligations.specs.site_module.SiteLog as site;
@@ -39,13 +39,13 @@ pub fn law_not_rejected()
 pub fn law_undeclared()
     ensures rejected_never { (given : Input) (log : Log) (d : DmNo) (txn : TxnNo) (attempt : ℕ)
         (dm : DmNo) (by : ClassNo) (write : Ts) (sends : List (Site × Msg))
-        → IsSound given.catalogue → 1 ≤ d.0 → d.0 ≤ given.catalogue.dms
+        → IsSoundCatalogue given.catalogue → 1 ≤ d.0 → d.0 ≤ given.catalogue.dms
         → IsPermitted given (Does (D d) (Records 0 (Rejected txn attempt dm by write) sends) ∷ log)
         → ⊥ }
     ensures holds_none { (given : Input) (class : ℕ) (d : DmNo) (log : Log) (ts : Ts)
         (of : ClassNo) (txn : TxnNo) (attempt : ℕ) (conds : List Cond) (uses : List Use)
         (write : Ts) (of_write : ClassNo) (writer : TxnNo) (changes : List Change)
-        → IsPermitted given log → IsSound given.catalogue → IsClassOf given.catalogue class
+        → IsPermitted given log → IsSoundCatalogue given.catalogue → IsClassOf given.catalogue class
         → 1 ≤ d.0 → d.0 ≤ given.catalogue.dms
         → head (pipe_at given 0 d log) ≡ Some (Read ts of txn attempt conds uses)
         → head (pipe_at given class d log) ≡ Some (Write write of_write writer changes)

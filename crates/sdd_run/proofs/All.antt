@@ -45,7 +45,7 @@ pub use Rattle.sdd_obligations.proofs.protocol.Laws.{one_table}
 pub use Rattle.sdd_obligations.proofs.serial_orders.Places.{same_start}
 pub use Rattle.sdd_obligations.proofs.serial_orders.Serial.{serial_order_is}
 pub use Rattle.sdd_obligations.specs.AfterEvents.{down_from}
-pub use Rattle.sdd_obligations.specs.All.{Act, AllFewTicks, Answer, Apply, AreAllApplied, AreSubmittedOnce, Arrive, Catalogue, Class, ClassNo, ClassState, Commit, Committed, Cond, Condition, Const, D, Delete, Deliver, DmNo, Does, Down, EndsByLimit, Era, Eras, Event, Exchange, FitsCondition, FitsInput, FitsStart, FitsStatement, FragNo, Hand, HasCommit, History, Input, IsAttempt, IsAwaited, IsClass, IsClassOf, IsCommitted, IsDatabase, IsEra, IsEraOf, IsGood, IsHeld, IsLawful, IsModule, IsOrderable, IsPermitted, IsPossible, IsRecordAt, IsSerial, IsSound, IsSubmitted, IsTable, IsTheLog, KeepsStarts, Kept, Log, Lose, MAX_DMS, MAX_TMS, Mark, Msg, Notes, Nothing, Pass, Put, PutsHeld, Query, Queued, Read, Rec, Records, Redeclare, Redeclares, Reject, RelNo, Repeat, Reply, Resend, Round, Row, Same, Setting, Settle, Site, Standing, Start, Stmt, Submitted, T, Tick, TmCounts, Ts, Turn, Txn, TxnNo, U, Up, Update, Use, Wait, active, after_mark, all_links, are_linked, attempt_due, attempt_of, attempts, base_of, by_event, by_mark, calls_of, class_at, class_no, committed, committed_of, contains, contents, counts, database_of, dated, delivered, dm_no, does_at, due_by, event_at, hand_due, hand_number, hand_on, handed, has_copy, head, head_of, history, home, is_apply, is_empty, is_link, is_over, is_site, last_served, left, link_of, local_of, mark_from, mark_of, marks, next, next_at, next_number, note_if, nth_era, numbers_to, one_if, pipe_at, placed, queue, quiet, redeclares, redeclares_in, round, rows_of, run, runs, send_due, setting_of, site_due, sites, standing_among, standing_in, submits_in, time_at, tm_no, turn_at, txn_at, txn_no, with_event}
+pub use Rattle.sdd_obligations.specs.All.{Act, AllFewTicks, Answer, Apply, AreAllApplied, AreSubmittedOnce, Arrive, Catalogue, Class, ClassNo, ClassState, Commit, Committed, Cond, Condition, Const, D, Delete, Deliver, DmNo, Does, Down, EndsByLimit, Era, Eras, Event, Exchange, FitsCondition, FitsInput, FitsStart, FitsStatement, FragNo, Hand, HasCommit, History, Input, IsAttempt, IsAwaited, IsClass, IsClassOf, IsCommitted, IsDatabase, IsEra, IsEraOf, IsGood, IsHeld, IsLawful, IsModule, IsOrderable, IsPermitted, IsPossible, IsRecordAt, IsSerial, IsSoundCatalogue, IsSubmitted, IsTable, IsTheLog, KeepsStarts, Kept, Log, Lose, MAX_DMS, MAX_TMS, Mark, Msg, Notes, Nothing, Pass, Put, PutsHeld, Query, Queued, Read, Rec, Records, Redeclare, Redeclares, Reject, RelNo, Repeat, Reply, Resend, Round, Row, Same, Setting, Settle, Site, Standing, Start, Stmt, Submitted, T, Tick, TmCounts, Ts, Turn, Txn, TxnNo, U, Up, Update, Use, Wait, active, after_mark, all_links, are_linked, attempt_due, attempt_of, attempts, base_of, by_event, by_mark, calls_of, class_at, class_no, committed, committed_of, contains, contents, counts, database_of, dated, delivered, dm_no, does_at, due_by, event_at, hand_due, hand_number, hand_on, handed, has_copy, head, head_of, history, home, is_apply, is_empty, is_link, is_over, is_site, last_served, left, link_of, local_of, mark_from, mark_of, marks, next, next_at, next_number, note_if, nth_era, numbers_to, one_if, pipe_at, placed, queue, quiet, redeclares, redeclares_in, round, rows_of, run, runs, send_due, setting_of, site_due, sites, standing_among, standing_in, submits_in, time_at, tm_no, turn_at, txn_at, txn_no, with_event}
 pub use Rattle.sdd_obligations.specs.Bounds.{IsSmall}
 pub use Rattle.sdd_obligations.specs.Heights.{ticks_of}
 pub use Rattle.sdd_obligations.specs.Reading.{HasEras}
@@ -143,7 +143,7 @@ pub use Rattle.sdd_run.specs.Worlds.{IsRunOf}
 pub use Rattle.sdd_script.proofs.NamePlaces.{none_found}
 pub use Rattle.sdd_script.proofs.WordCuts.{NonePasses}
 pub use Rattle.sdd_script.proofs.lang.catalog.Validity.{not_false}
-pub use Rattle.sdd_script.specs.All.{Add, AreDistinct, Fits, FitsAssign, HoldsValues, IsFrom1To, IsLink, IsSite, IsValid, IsValidEvent, IsValidRow, IsValidTxn, IsValue, Value, eras, extended, retired, submitted_by, tail_of, whole}
+pub use Rattle.sdd_script.specs.All.{Add, AreDistinct, FitsAssign, FitsTxn, HoldsValues, IsFrom1To, IsLink, IsSite, IsValid, IsValidEvent, IsValidRow, IsValidTxn, IsValue, Value, eras, extended, retired, submitted_by, tail_of, whole}
 pub use Rattle.sdd_script.specs.declared.workload.Workload.{Workload}
 pub use Rattle.sdd_world.proofs.Results.{of_ok}
 pub use Rattle.sdd_world.proofs.Turning.{t_site as within}

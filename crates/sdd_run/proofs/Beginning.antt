@@ -1,7 +1,7 @@
 -- What a run begins with.
 use Rattle.sdd_run.proofs.All.{All-at, Catalogue, D, Entry, Event, Input, IsValid, IsValidTxn, List, MAX_DMS, MAX_TMS, Workload, [], ap, append-nil, append_assoc, arith, begun, dm_no, get_or-map-range_with_len, input_of, rows_of, sym, whole_in, with_event, with_events, ℕ, ◌++◌, ◌-◌, ◌∙◌, ◌∷◌, ◌≡◌, ◌≤◌}
 use Rattle.sdd_run.proofs.Whole.{same_dms, txns_valid}
-use Rattle.sdd_world.specs.Represents.{IsSound}
+use Rattle.sdd_world.specs.Represents.{IsSoundNetwork}
 
 -- what is given with the events of a schedule has them behind its own
 pub with_events_is : (g : Input) (es : List Event) → with_events g es ≡ record g { events = g.events ++ es }
@@ -24,7 +24,7 @@ rows_given cat tables work d low high =
 
 -- the transactions fit, and so what is given is sound
 pub begins_sound : (cat : Catalogue) (tables : List (List Entry)) (work : Workload) → (whole_in cat work).tms ≤ MAX_TMS
-    → (whole_in cat work).dms ≤ MAX_DMS → IsValid cat work → IsSound (begun cat tables work)
+    → (whole_in cat work).dms ≤ MAX_DMS → IsValid cat work → IsSoundNetwork (begun cat tables work)
 begins_sound cat tables work tms dms valid = record {
   few_tms = tms;
   few_dms = dms;

@@ -1,5 +1,5 @@
 -- A READ of a free class is answered in the event in which it is handed over.
-use Rattle.sdd_run.proofs.All.{Answer, AreSubmittedOnce, ClassNo, Cond, D, DmNo, Does, EndsAnEvent, Hand, Input, IsAnsweredIn, IsAnsweredWithin, IsEventOver, IsFreeClass, IsLawful, IsPermitted, IsRecordAt, IsSound, IsTheLog, List, Log, Mark, Msg, Read, Rec, Records, Redeclares, Site, Ts, TxnNo, Use, [], act_kind, answered_by_end, ap, append_assoc, arith, begins_event, event_at, event_there, false, history, inl, inr, lawful_end, lawful_permitted, length, marks, marks_later, over_at_end, over_before, permitted_before, recorded_there, refl, subst, sym, true, ℕ, ◌++◌, ◌∙◌, ◌∷◌, ◌≡◌, ◌≤◌, ◌⊎◌}
+use Rattle.sdd_run.proofs.All.{Answer, AreSubmittedOnce, ClassNo, Cond, D, DmNo, Does, EndsAnEvent, Hand, Input, IsAnsweredIn, IsAnsweredWithin, IsEventOver, IsFreeClass, IsLawful, IsPermitted, IsRecordAt, IsSoundCatalogue, IsTheLog, List, Log, Mark, Msg, Read, Rec, Records, Redeclares, Site, Ts, TxnNo, Use, [], act_kind, answered_by_end, ap, append_assoc, arith, begins_event, event_at, event_there, false, history, inl, inr, lawful_end, lawful_permitted, length, marks, marks_later, over_at_end, over_before, permitted_before, recorded_there, refl, subst, sym, true, ℕ, ◌++◌, ◌∙◌, ◌∷◌, ◌≡◌, ◌≤◌, ◌⊎◌}
 use Rattle.sdd_obligations.specs.All.{Entry}
 
 -- the entries behind a place, till the event there is over
@@ -66,7 +66,7 @@ answered_there g log front later before entry_log rest c d dm txn attempt sends 
           ∙ event_there (front ++ later) entry (before ++ rest) rec refl ∙ event;
     }
 
-pub free_answered : (g : Input) (log : Log) → IsSound g.catalogue → AreSubmittedOnce g.events → IsTheLog g log
+pub free_answered : (g : Input) (log : Log) → IsSoundCatalogue g.catalogue → AreSubmittedOnce g.events → IsTheLog g log
     → (after before : Log) (from : Site) (number : ℕ) (d : DmNo) (ts : Ts) (class : ClassNo) (txn : TxnNo) (attempt : ℕ) (conds : List Cond) (uses : List Use)
     → log ≡ after ++ Hand from (D d) number (Read ts class txn attempt conds uses) ∷ before → 1 ≤ d.0 → d.0 ≤ g.catalogue.dms
     → IsFreeClass g class.0 → IsAnsweredWithin (history log) d txn attempt (marks before)

@@ -1,5 +1,5 @@
 -- What is given by a valid workload is what the modules' facts ask for, with each part of its schedule.
-use Rattle.sdd_run.proofs.All.{All, All-at, All-cons, All-head, All-nil, All-tail, All-weaker, AllFewTicks, AreTables, Catalogue, Entry, Event, FitsInput, FitsStart, HoldsValues, IsDatabase, IsGood, IsHeld, IsSound, IsValid, IsValidEvent, IsValidRow, IsValidTxn, IsValue, List, MAX_TICKS, Put, PutsHeld, RelNo, Row, Stmt, Tick, Value, Workload, [], arith, begun, both as and_both, database_of, get_or as slice_index_or, inl, inr, le-leb, length, map, nat_le, negsuc, no_database, numbers_to, pos, refl, rows_make_database, subst, suc, sym, ticks_of, true, whole_in, zero, ℕ, ◌++◌, ◌-◌, ◌^◌, ◌∷◌, ◌≡◌, ◌≤◌, ◌⊎◌}
+use Rattle.sdd_run.proofs.All.{All, All-at, All-cons, All-head, All-nil, All-tail, All-weaker, AllFewTicks, AreTables, Catalogue, Entry, Event, FitsInput, FitsStart, HoldsValues, IsDatabase, IsGood, IsHeld, IsSoundCatalogue, IsValid, IsValidEvent, IsValidRow, IsValidTxn, IsValue, List, MAX_TICKS, Put, PutsHeld, RelNo, Row, Stmt, Tick, Value, Workload, [], arith, begun, both as and_both, database_of, get_or as slice_index_or, inl, inr, le-leb, length, map, nat_le, negsuc, no_database, numbers_to, pos, refl, rows_make_database, subst, suc, sym, ticks_of, true, whole_in, zero, ℕ, ◌++◌, ◌-◌, ◌^◌, ◌∷◌, ◌≡◌, ◌≤◌, ◌⊎◌}
 use Rattle.sdd_run.proofs.Allowed.{IsGoodAlong}
 use Rattle.sdd_run.proofs.Forces.{has_eras}
 use Rattle.sdd_run.proofs.Submissions.{once, once_before}
@@ -47,7 +47,7 @@ fronts cat count (x ∷ xs) ys h =
 front : (cat : Catalogue) (count : ℕ) (xs ys all : List Event) → xs ++ ys ≡ all → All (IsValidEvent cat count) all → All (IsValidEvent cat count) xs
 front cat count xs ys all e h = fronts cat count xs ys (subst (All (IsValidEvent cat count)) (sym e) h)
 
-module _ (cat : Catalogue) (tables : List (List Entry)) (work : Workload) (sound : IsSound (whole_in cat work)) (valid : IsValid cat work) where
+module _ (cat : Catalogue) (tables : List (List Entry)) (work : Workload) (sound : IsSoundCatalogue (whole_in cat work)) (valid : IsValid cat work) where
   -- the rows of the workload make a database
   rows_fit : IsDatabase (whole_in cat work) (database_of (whole_in cat work) work.rows)
   rows_fit = rows_database (whole_in cat work) work.rows (rows_valid cat work valid)

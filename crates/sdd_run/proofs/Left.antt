@@ -1,5 +1,5 @@
 -- A copy at which all is applied that changed its fragment has the rows that one plain database is left with.
-use Rattle.sdd_run.proofs.All.{AreAllApplied, AreAppliedAlike, Catalogue, Committed, Contains, Contains-from_filter, Contains-from_flat_map, Contains-from_map, CopyTable, D, Dated, Event, FragNo, HasSoundData, HasSoundLists, History, Input, IsMadeAt, IsPermitted, IsSerial, IsSound, Item, List, Log, Lose, Mark, None, Notes, Nothing, Option, Rec, RelNo, Row, Some, TxnNo, U, [], ap, are_eras_of, arith, attempt_of, attempts, by_event, by_mark, committed, committed_of, cons_option, contents, dated, dm_no, due_by, equal_copies, eras_of, filter, filter_map, flat_map, has_copy, history, is_apply, is_none, left_in_copies, length, link_of, list_any, local_of, map, map-map, note_if, numbers_to, placed, refl, rows_left, run, same_copy, setting_of, slice_get_past, subst, suc, sym, table_of, tables_at, tables_of, take, take-append_seam, take_all, true, ℕ, ◌++◌, ◌-◌, ◌∙◌, ◌∷◌, ◌≡◌}
+use Rattle.sdd_run.proofs.All.{AreAllApplied, AreAppliedAlike, Catalogue, Committed, Contains, Contains-from_filter, Contains-from_flat_map, Contains-from_map, CopyTable, D, Dated, Event, FragNo, HasSoundData, HasSoundLists, History, Input, IsMadeAt, IsPermitted, IsSerial, IsSoundCatalogue, Item, List, Log, Lose, Mark, None, Notes, Nothing, Option, Rec, RelNo, Row, Some, TxnNo, U, [], ap, are_eras_of, arith, attempt_of, attempts, by_event, by_mark, committed, committed_of, cons_option, contents, dated, dm_no, due_by, equal_copies, eras_of, filter, filter_map, flat_map, has_copy, history, is_apply, is_none, left_in_copies, length, link_of, list_any, local_of, map, map-map, note_if, numbers_to, placed, refl, rows_left, run, same_copy, setting_of, slice_get_past, subst, suc, sym, table_of, tables_at, tables_of, take, take-append_seam, take_all, true, ℕ, ◌++◌, ◌-◌, ◌∙◌, ◌∷◌, ◌≡◌}
 use Rattle.sdd_obligations.specs.laws.Snapshots as laws
 
 -- The copies at the end of a log are those before a record behind it: that of an event which finds nothing to do, as one
@@ -53,7 +53,7 @@ same_dated cat rows h n d =
     ap (λ all. dated_by cat rows all (take (length h) (with_nothing h n)) d) (same_committed h n)
     ∙ ap (λ front. dated_by cat rows (committed h) front d) (same_front h n)
 
-module _ (g : Input) (rows : List (RelNo × Row)) (log : Log) (sound : IsSound g.catalogue) (fine : HasSoundData g rows) (permitted : IsPermitted g log)
+module _ (g : Input) (rows : List (RelNo × Row)) (log : Log) (sound : IsSoundCatalogue g.catalogue) (fine : HasSoundData g rows) (permitted : IsPermitted g log)
     (lists : HasSoundLists g log) where
   -- the copies that the log of a data module leaves are those that the history gives
   contents_are : (d f : ℕ) → has_copy g.catalogue d f ≡ true

@@ -1,10 +1,10 @@
 -- The clocks of a run stay low: its events are few, and so are its attempts.
-use Rattle.sdd_run.proofs.All.{AreTables, Catalogue, Entry, HasLowClocks, Input, IsLawful, IsSmall, IsSound, IsValid, List, Log, Workload, are_eras_of, clock_low, eras_of, few_in_limit, input_of, lawful_end, lawful_numbered, lawful_permitted, sound_whole, subst, whole_in}
+use Rattle.sdd_run.proofs.All.{AreTables, Catalogue, Entry, HasLowClocks, Input, IsLawful, IsSmall, IsSoundCatalogue, IsValid, List, Log, Workload, are_eras_of, clock_low, eras_of, few_in_limit, input_of, lawful_end, lawful_numbered, lawful_permitted, sound_whole, subst, whole_in}
 use Rattle.sdd_run.proofs.Goods.{few_ticks}
 use Rattle.sdd_run.proofs.RunOf.{fine, lawful_lists, submit_given}
 use Rattle.sdd_run.proofs.Whole.{events_valid}
 
-pub low_clocks : (cat : Catalogue) (tables : List (List Entry)) (work : Workload) → IsSound (whole_in cat work) → IsValid cat work
+pub low_clocks : (cat : Catalogue) (tables : List (List Entry)) (work : Workload) → IsSoundCatalogue (whole_in cat work) → IsValid cat work
     → AreTables cat work tables → (log : Log) → IsLawful (input_of cat tables work) log → HasLowClocks (input_of cat tables work) log
 low_clocks cat tables work sound valid tabled log lawful later before at is =
     let g : Input = input_of cat tables work in

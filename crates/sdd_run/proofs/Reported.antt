@@ -1,5 +1,5 @@
 -- What is told of a world that has carried out all events of a workload is told of its run.
-use Rattle.sdd_run.proofs.All.{AreAtLastHomes, AreTables, Catalogue, EndsAtLimit, EndsBy, EndsByLimit, Entry, Err, Event, History, IfOk, IsReportOn, IsRunOf, IsSound, IsSummaryOn, IsTheLog, IsValid, List, Log, Ok, Represents, Result, Summary, Txn, Workload, World, ap, begun, eras_of, history, input_of, length, marks, none_due, order_of, over_at_end, report_of, report_text, subst, summary_of, summary_text, whole_in, with_events, ℕ, ◌∙◌, ◌≡◌}
+use Rattle.sdd_run.proofs.All.{AreAtLastHomes, AreTables, Catalogue, EndsAtLimit, EndsBy, EndsByLimit, Entry, Err, Event, History, IfOk, IsReportOn, IsRunOf, IsSoundCatalogue, IsSummaryOn, IsTheLog, IsValid, List, Log, Ok, Represents, Result, Summary, Txn, Workload, World, ap, begun, eras_of, history, input_of, length, marks, none_due, order_of, over_at_end, report_of, report_text, subst, summary_of, summary_text, whole_in, with_events, ℕ, ◌∙◌, ◌≡◌}
 use Rattle.sdd_run.proofs.Beginning.{all_given}
 use Rattle.sdd_run.proofs.Goods.{fits_given}
 use Rattle.sdd_run.proofs.InTurn.{in_turn}
@@ -38,14 +38,14 @@ ended cat tables work tabled events same e = record {
 }
 
 -- each pending transaction was submitted at the site of its class by the last list
-pub last_homes : (cat : Catalogue) (tables : List (List Entry)) (work : Workload) → IsSound (whole_in cat work) → IsValid cat work → AreTables cat work tables
+pub last_homes : (cat : Catalogue) (tables : List (List Entry)) (work : Workload) → IsSoundCatalogue (whole_in cat work) → IsValid cat work → AreTables cat work tables
     → (log : Log) → IsTheLog (input_of cat tables work) log → AreAtLastHomes (input_of cat tables work) log
 last_homes cat tables work sound valid tabled log the_log =
     at_last_homes (input_of cat tables work) log (known_of cat tables work sound valid tabled log the_log)
 
 -- the report on the run
 pub reported : (cat : Catalogue) (tables : List (List Entry)) (work : Workload) (log : Log)
-    → IsSound (whole_in cat work) → IsValid cat work → AreTables cat work tables → IsTheLog (input_of cat tables work) log
+    → IsSoundCatalogue (whole_in cat work) → IsValid cat work → AreTables cat work tables → IsTheLog (input_of cat tables work) log
     → (text : List ℕ) → text ≡ report_text (report_of (input_of cat tables work) log) → IsReportOn cat work text
 reported cat tables work log sound valid tabled the_log text is =
     let whole = whole_in cat work in

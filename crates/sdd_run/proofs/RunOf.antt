@@ -1,5 +1,5 @@
 -- What is known of the run of a valid workload, whatever lists of classes it puts in force.
-use Rattle.sdd_run.proofs.All.{All, All-weaker, AreErasOf, AreTables, Catalogue, Entry, Fits, FitsStart, HasSoundData, HasSoundLists, HoldsValues, IsHeld, IsLawful, IsPermitted, IsSound, IsTheLog, IsUpAtRedeclares, IsValid, IsValidRow, IsValidTxn, IsValue, Known, List, Log, PutsHeld, RelNo, Row, SubmitGiven, Txn, Workload, are_eras_of, arith, classes_in, eras_of, few_redeclares, input_of, known, lawful_permitted, length, redeclares, up_at_redeclares, whole_in, ◌≤◌}
+use Rattle.sdd_run.proofs.All.{All, All-weaker, AreErasOf, AreTables, Catalogue, Entry, FitsStart, FitsTxn, HasSoundData, HasSoundLists, HoldsValues, IsHeld, IsLawful, IsPermitted, IsSoundCatalogue, IsTheLog, IsUpAtRedeclares, IsValid, IsValidRow, IsValidTxn, IsValue, Known, List, Log, PutsHeld, RelNo, Row, SubmitGiven, Txn, Workload, are_eras_of, arith, classes_in, eras_of, few_redeclares, input_of, known, lawful_permitted, length, redeclares, up_at_redeclares, whole_in, ◌≤◌}
 use Rattle.sdd_run.proofs.Beginning.{rows_given}
 use Rattle.sdd_run.proofs.Forces.{era_at, how_many, list_at}
 use Rattle.sdd_run.proofs.Goods.{few_ticks, fits_given, held, puts_held}
@@ -8,7 +8,7 @@ use Rattle.sdd_run.proofs.Submissions.{once}
 use Rattle.sdd_run.proofs.Timely.{timely}
 use Rattle.sdd_run.proofs.Whole.{events_valid, rows_valid, txns_valid}
 
-module _ (cat : Catalogue) (tables : List (List Entry)) (work : Workload) (sound : IsSound (whole_in cat work)) (valid : IsValid cat work)
+module _ (cat : Catalogue) (tables : List (List Entry)) (work : Workload) (sound : IsSoundCatalogue (whole_in cat work)) (valid : IsValid cat work)
     (tabled : AreTables cat work tables) where
   pub submit_given : SubmitGiven (input_of cat tables work)
   submit_given = record {
@@ -20,7 +20,7 @@ module _ (cat : Catalogue) (tables : List (List Entry)) (work : Workload) (sound
   fine =
       let whole = whole_in cat work in
       record {
-        txns_fit = All-weaker (IsValidTxn whole) (Fits whole) (λ t v. v.fits) work.txns (txns_valid cat work valid);
+        txns_fit = All-weaker (IsValidTxn whole) (FitsTxn whole) (λ t v. v.fits) work.txns (txns_valid cat work valid);
         txns_held = All-weaker (IsValidTxn whole) (λ (t : Txn). All PutsHeld t.statements)
             (λ t v. All-weaker HoldsValues PutsHeld puts_held t.statements v.values) work.txns (txns_valid cat work valid);
         rows_fit = All-weaker (IsValidRow whole) (FitsStart whole) (λ r v. v.fits) work.rows (rows_valid cat work valid);

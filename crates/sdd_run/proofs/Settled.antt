@@ -1,5 +1,5 @@
 -- A run that a settle or a redeclare ends leaves nothing undone, where no data module is down at its end.
-use Rattle.sdd_run.proofs.All.{AllCommitted, AreAllApplied, AreTables, Attempt, Catalogue, Commit, Committed, Contains, Contains-from_filter, Contains-from_flat_map, Contains-from_map, CopyTable, D, EndsAtRest, EndsQuiet, Entry, HasCommit, HasSoundLists, History, Input, IsAtEnd, IsAttempt, IsCommitted, IsLawful, IsListed, IsOrderable, IsRecordAt, IsSerial, IsSettled, IsSound, IsSubmitted, IsTheLog, IsValid, List, Log, LosesNothing, None, NoneIsDown, SubmitGiven, TellsAllCommitted, TxnNo, WasCommitted, Workload, ap, applied_at_copies, dated, dm_no, has_copy, history, input_of, lawful_numbered, lawful_permitted, length, local_of, next, numbers_to, order_of, report_of, setting_of, settled_is_committed, settled_is_finished, settled_is_quiet, standing_at, standing_at_t, standing_at_u, subst, sym, table_of, tables_at, tables_of, times_in, txn_no, whole_in, with_event, ℕ, ◌≡◌, ◌⊎◌}
+use Rattle.sdd_run.proofs.All.{AllCommitted, AreAllApplied, AreTables, Attempt, Catalogue, Commit, Committed, Contains, Contains-from_filter, Contains-from_flat_map, Contains-from_map, CopyTable, D, EndsAtRest, EndsQuiet, Entry, HasCommit, HasSoundLists, History, Input, IsAtEnd, IsAttempt, IsCommitted, IsLawful, IsListed, IsOrderable, IsRecordAt, IsSerial, IsSettled, IsSoundCatalogue, IsSubmitted, IsTheLog, IsValid, List, Log, LosesNothing, None, NoneIsDown, SubmitGiven, TellsAllCommitted, TxnNo, WasCommitted, Workload, ap, applied_at_copies, dated, dm_no, has_copy, history, input_of, lawful_numbered, lawful_permitted, length, local_of, next, numbers_to, order_of, report_of, setting_of, settled_is_committed, settled_is_finished, settled_is_quiet, standing_at, standing_at_t, standing_at_u, subst, sym, table_of, tables_at, tables_of, times_in, txn_no, whole_in, with_event, ℕ, ◌≡◌, ◌⊎◌}
 use Rattle.sdd_run.proofs.AtRest.{quiet_at_rest}
 use Rattle.sdd_run.proofs.RunOf.{lists, submit_given, up}
 use Rattle.sdd_run.proofs.Listed.{each_listed}
@@ -25,7 +25,7 @@ stands_once cat h order fine serial n w =
     let t = committed_by h n w.number w.place w.commit a.0 a.1 a.2 a.3 in
     subst (λ m. times_in m order ≡ 1) t.2 (each_once cat h order serial t.0 t.1)
 
-module _ (cat : Catalogue) (tables : List (List Entry)) (work : Workload) (sound : IsSound (whole_in cat work)) (valid : IsValid cat work)
+module _ (cat : Catalogue) (tables : List (List Entry)) (work : Workload) (sound : IsSoundCatalogue (whole_in cat work)) (valid : IsValid cat work)
     (tabled : AreTables cat work tables) (log : Log) (the_log : IsTheLog (input_of cat tables work) log) where
   submits : SubmitGiven (input_of cat tables work)
   submits = submit_given cat tables work sound valid tabled

@@ -1,6 +1,6 @@
 -- Between calls no attempt waits for a message of U: it lacks the answer of a data module; and an undeclared transaction
 -- whose attempt hasn't begun waits for a transaction module.
-use Rattle.sdd_run.proofs.All.{AtTurn, Bool, Catalogue, ClassNo, D, Exchange, FitsInput, HasNear, Input, IsAtTurn, IsClass, IsModule, IsNearBy, IsNumberedSite, IsPermitted, IsSound, IsStanding, Line, List, Log, None, Option, Queued, Site, Some, Standing, T, TmCounts, Turn, U, [], active, active_near, all_served, all_true, and_left, answered_last, ap, apart, arith, attempt_due, awaited, base_of, both, chain_at, class_at, contains, counts, counts_tm, dec_le, does_at, eq-eqb, eqb-true, false, find, firsts, fold, goes_on, head_of, home, home_fair, home_turns, if_none, if◌then◌else◌, in_filtered, in_mapped, in_range, inl, inr, is_empty, is_over, is_site, last_served, length, list_all, local_of, lower, lowest, map, min, near_one, next_at, no_act, no_active, no_sends, none_at, not_both, not_false, not_zero, numbers_to, option_map, or_left, or_none, or_right, or_standing, position, positive, queue, queued_at, refl, run_at, runs_place, same_or_not, send_due, setting_of, site_due, site_of, site_there, sites, slice_get, small_home, sound_whole, spoken, standing_among, standing_at, standing_at_t, standing_at_u, standing_by, standing_of, subst, suc, sym, t_site, tm_no, tm_of, true, turn_at, underway, unsent, waiting, zero, zero_head, ℕ, ◌-◌, ◌==◌, ◌∙◌, ◌∷◌, ◌≡◌, ◌≤◌, ◌⊎◌}
+use Rattle.sdd_run.proofs.All.{AtTurn, Bool, Catalogue, ClassNo, D, Exchange, FitsInput, HasNear, Input, IsAtTurn, IsClass, IsModule, IsNearBy, IsNumberedSite, IsPermitted, IsSoundCatalogue, IsStanding, Line, List, Log, None, Option, Queued, Site, Some, Standing, T, TmCounts, Turn, U, [], active, active_near, all_served, all_true, and_left, answered_last, ap, apart, arith, attempt_due, awaited, base_of, both, chain_at, class_at, contains, counts, counts_tm, dec_le, does_at, eq-eqb, eqb-true, false, find, firsts, fold, goes_on, head_of, home, home_fair, home_turns, if_none, if◌then◌else◌, in_filtered, in_mapped, in_range, inl, inr, is_empty, is_over, is_site, last_served, length, list_all, local_of, lower, lowest, map, min, near_one, next_at, no_act, no_active, no_sends, none_at, not_both, not_false, not_zero, numbers_to, option_map, or_left, or_none, or_right, or_standing, position, positive, queue, queued_at, refl, run_at, runs_place, same_or_not, send_due, setting_of, site_due, site_of, site_there, sites, slice_get, small_home, sound_whole, spoken, standing_among, standing_at, standing_at_t, standing_at_u, standing_by, standing_of, subst, suc, sym, t_site, tm_no, tm_of, true, turn_at, underway, unsent, waiting, zero, zero_head, ℕ, ◌-◌, ◌==◌, ◌∙◌, ◌∷◌, ◌≡◌, ◌≤◌, ◌⊎◌}
 use Rattle.sdd_obligations.specs.All.{Attempt, IsFrom1To}
 use Rattle.sdd_progress.specs.Quiet.{at_home}
 use Rattle.sdd_obligations.proofs.invariants.logs.tm.Lists.{get_map as at_map}
@@ -104,7 +104,7 @@ module _ (g : Input) (log : Log) (idle : site_due g log ≡ None) where
       none_at (tm.exchange_due g.catalogue (base_of g log)) v.classes j (tm_views.class_view s lt c) (or_none _ _ e).0
       (at_map (tm_views.class_view s lt) (tm_views.runs s) j c i)
 
-  none_of_class : (c : ℕ) → IsSound g.catalogue → IsClass g.catalogue c
+  none_of_class : (c : ℕ) → IsSoundCatalogue g.catalogue → IsClass g.catalogue c
       → attempt_due g.catalogue (base_of g log) c (active (setting_of g (home g.catalogue c)) c (at_home g c log)) ≡ None
   none_of_class c sound l = elim (same_or_not c 0) [
     | inl p ↦ subst (λ k. attempt_due g.catalogue (base_of g log) k (active (setting_of g (home g.catalogue k)) k (at_home g k log)) ≡ None) (sym p) none_at_u

@@ -1,5 +1,5 @@
 -- A new world of a workload stands for the empty log of what is given before its first event.
-use Rattle.sdd_run.proofs.All.{AllBegin, AreAllowed, AreTables, BeginsD, Catalogue, Class, ClassList, D, Entry, Era, Event, Input, IsBegun, IsGood, IsSound, IsValid, Kept, List, MAX_DMS, MAX_TMS, RelNo, Represents, Row, Some, State, There, Txn, Workload, World, [], ap, begun, classes_in, dm_no, drop, era_of_list, eras, eras_in, eras_with_tables, get_or, map, refl, rows_of, slice_get, subst, sym, tail_of, whole_in, ◌-◌, ◌∙◌, ◌∷◌, ◌≡◌, ◌≤◌}
+use Rattle.sdd_run.proofs.All.{AllBegin, AreAllowed, AreTables, BeginsD, Catalogue, Class, ClassList, D, Entry, Era, Event, Input, IsBegun, IsGood, IsSoundCatalogue, IsValid, Kept, List, MAX_DMS, MAX_TMS, RelNo, Represents, Row, Some, State, There, Txn, Workload, World, [], ap, begun, classes_in, dm_no, drop, era_of_list, eras, eras_in, eras_with_tables, get_or, map, refl, rows_of, slice_get, subst, sym, tail_of, whole_in, ◌-◌, ◌∙◌, ◌∷◌, ◌≡◌, ◌≤◌}
 use Rattle.sdd_run.proofs.Allowed.{HasLists, allowed}
 use Rattle.sdd_run.proofs.Beginning.{begins_sound, rows_given}
 use Rattle.sdd_run.proofs.Goods.{good_along, good_begun}
@@ -22,7 +22,7 @@ first_of_eras cat lists [] table none e = absurd (cc)
 first_of_eras cat [] (t ∷ tables) table none e = let p : t ≡ table = cc in ap (with_table cat) p
 first_of_eras cat (l ∷ lists) (t ∷ tables) table none e = let p : t ≡ table = cc in ap (with_table cat) p
 
-module _ (cat : Catalogue) (tables : List (List Entry)) (work : Workload) (sound : IsSound (whole_in cat work)) (valid : IsValid cat work)
+module _ (cat : Catalogue) (tables : List (List Entry)) (work : Workload) (sound : IsSoundCatalogue (whole_in cat work)) (valid : IsValid cat work)
     (tabled : AreTables cat work tables) where
   -- a list is left for each redeclare
   has_lists : HasLists (begun cat tables work) work.events
@@ -49,7 +49,7 @@ module _ (cat : Catalogue) (tables : List (List Entry)) (work : Workload) (sound
   pub starts : (rows : List (RelNo × Row)) (txns : List Txn) (table : List Entry) (dms : List (Kept State)) (w : World)
       → (whole_in cat work).tms ≤ MAX_TMS → (whole_in cat work).dms ≤ MAX_DMS → slice_get tables 0 ≡ Some table → rows ≡ work.rows → txns ≡ work.txns
       → AllBegin (BeginsD (whole_in cat work) rows) (whole_in cat work).dms dms
-      → ((g : Input) → IsGood g → standing.IsSound g → IsBegun g (whole_in cat work) cat table txns dms → Represents w g [])
+      → ((g : Input) → IsGood g → standing.IsSoundNetwork g → IsBegun g (whole_in cat work) cat table txns dms → Represents w g [])
       → Represents w (begun cat tables work) []
   starts rows txns table dms w few_tms few_dms first r t all made =
       made (begun cat tables work) (good_begun cat tables work sound valid tabled) (begins_sound cat tables work few_tms few_dms valid)

@@ -1,6 +1,6 @@
 -- The catalogue with the classes of all lists of a workload differs from the catalogue in its classes alone. So what fits
 -- the catalogue fits the whole one.
-use Rattle.sdd_run.proofs.All.{Add, All, All-weaker, Assign, Catalogue, Class, Condition, Const, Delete, Deliver, Event, Fits, FitsAssign, FitsCondition, FitsConditions, FitsStart, FitsStatement, IsSite, IsValid, IsValidEvent, IsValidRow, IsValidTxn, List, Lose, Put, Query, RelNo, Repeat, Resend, Row, Same, Site, Stmt, To, Txn, U, Update, Workload, [], ap, classes_in, extended, length, refl, subst, sym, whole, whole_in, ℕ, ◌∷◌, ◌≡◌}
+use Rattle.sdd_run.proofs.All.{Add, All, All-weaker, Assign, Catalogue, Class, Condition, Const, Delete, Deliver, Event, FitsAssign, FitsCondition, FitsConditions, FitsStart, FitsStatement, FitsTxn, IsSite, IsValid, IsValidEvent, IsValidRow, IsValidTxn, List, Lose, Put, Query, RelNo, Repeat, Resend, Row, Same, Site, Stmt, To, Txn, U, Update, Workload, [], ap, classes_in, extended, length, refl, subst, sym, whole, whole_in, ℕ, ◌∷◌, ◌≡◌}
 
 -- other classes
 abbrev pub with_classes : Catalogue → List Class → Catalogue
@@ -34,7 +34,7 @@ module _ (cat : Catalogue) (classes : List Class) where
       (h.0, h.1, All-weaker (FitsAssign cat rel.0) (FitsAssign other rel.0) (assign_fits rel.0) sets h.2, conds_fit (rel ∷ []) conds h.3)
   statement_fits (Delete rel conds) h = (h.0, conds_fit (rel ∷ []) conds h.1)
 
-  txn_fits : (txn : Txn) → Fits cat txn → Fits other txn
+  txn_fits : (txn : Txn) → FitsTxn cat txn → FitsTxn other txn
   txn_fits txn f = record {
     module_is_there = f.module_is_there;
     few = f.few;

@@ -1,6 +1,6 @@
 //! What holds of every run of a workload, told or not.
 ghost use Rattle.std.specs.Prelude.{ℕ, ◌≡◌, ◌≤◌, ◌++◌, ◌∷◌, List, None};
-ghost use Rattle.sdd_obligations.specs.All.{AreSubmittedOnce, Catalogue, ClassNo, Cond, D, DmNo, FitsInput, Hand, Input, IsLawful, IsPermitted, IsSound, IsTheLog, Log, Read, Site, Ts, TxnNo, Use, history, local_of, marks, setting_of, site_due};
+ghost use Rattle.sdd_obligations.specs.All.{AreSubmittedOnce, Catalogue, ClassNo, Cond, D, DmNo, FitsInput, Hand, Input, IsLawful, IsPermitted, IsSoundCatalogue, IsTheLog, Log, Read, Site, Ts, TxnNo, Use, history, local_of, marks, setting_of, site_due};
 ghost use Rattle.sdd_world.specs.Standings.{standing_of};
 ghost use Rattle.sdd_run.specs.Reasons.{IsStanding};
 ghost use Rattle.sdd_progress.specs.Free.{IsFreeClass};
@@ -25,7 +25,7 @@ pub fn law_one_report()
 /// A law: at each moment of the run of a workload each clock stands below 2^39 ticks, whether the run
 /// ends with its last event or at the limit.
 pub fn law_low_clocks()
-    ensures { (cat : Catalogue) (work : Workload) (tables : List (List Entry)) (log : Log) → IsSound cat
+    ensures { (cat : Catalogue) (work : Workload) (tables : List (List Entry)) (log : Log) → IsSoundCatalogue cat
         → IsValid cat work → AreTables cat work tables → IsLawful (input_of cat tables work) log
         → HasLowClocks (input_of cat tables work) log }
 {}
@@ -41,7 +41,7 @@ pub fn law_standings()
 /// A law: in the log of a run each READ of a class that lies on no simple cycle is answered in the
 /// event in which it is handed over.
 pub fn law_free_answered()
-    ensures { (given : Input) (log : Log) → IsSound given.catalogue → AreSubmittedOnce given.events → IsTheLog given log
+    ensures { (given : Input) (log : Log) → IsSoundCatalogue given.catalogue → AreSubmittedOnce given.events → IsTheLog given log
         → (after before : Log) (from : Site) (number : ℕ) (d : DmNo) (ts : Ts) (class : ClassNo) (txn : TxnNo)
         (attempt : ℕ) (conds : List Cond) (uses : List Use)
         → log ≡ after ++ Hand from (D d) number (Read ts class txn attempt conds uses) ∷ before

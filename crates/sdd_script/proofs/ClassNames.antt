@@ -1,5 +1,5 @@
 -- The names of a catalogue's classes: they differ, and they are found by numbers.
-use Rattle.sdd_script.proofs.All.{Bool, Catalogue, Class, ClassPart, Fragment, IsSound, List, [], ap, append-nil, append_assoc, arith, both_empty, bytes_eq, class_names, class_part, class_rules, empty_of_map, false, faults_of_class, found_from, get_or, has_name, joined, length, list_any, list_any-append, list_any-map, map, map-append, map-map, name_of_class, no_faults, numbers_to, part_names, parts_of, range_with_len, refl, repeats, subst, suc, sym, tm_no, true, unbroken, ℕ, ◌++◌, ◌+◌, ◌-◌, ◌<◌, ◌||◌, ◌∙◌, ◌∷◌, ◌≡◌}
+use Rattle.sdd_script.proofs.All.{Bool, Catalogue, Class, ClassPart, Fragment, IsSoundCatalogue, List, [], ap, append-nil, append_assoc, arith, both_empty, bytes_eq, class_names, class_part, class_rules, empty_of_map, false, faults_of_class, found_from, get_or, has_name, joined, length, list_any, list_any-append, list_any-map, map, map-append, map-map, name_of_class, no_faults, numbers_to, part_names, parts_of, range_with_len, refl, repeats, subst, suc, sym, tm_no, true, unbroken, ℕ, ◌++◌, ◌+◌, ◌-◌, ◌<◌, ◌||◌, ◌∙◌, ◌∷◌, ◌≡◌}
 use Rattle.sdd_script.proofs.NamePlaces.{none_any, repeats_not}
 use Rattle.sdd_lang.specs.All.{Parts}
 
@@ -29,7 +29,7 @@ no_repeats parts before (c ∷ xs) r e =
     (repeats_not (part_names before) c.name r other) in
     subst (λ (l : List ClassPart). repeats (part_names l) ≡ false) (append_assoc before (c ∷ []) xs) (no_repeats parts (before ++ c ∷ []) xs one h.1)
 
-pub class_names_differ : (cat : Catalogue) → IsSound cat → repeats (class_names cat) ≡ false
+pub class_names_differ : (cat : Catalogue) → IsSoundCatalogue cat → repeats (class_names cat) ≡ false
 class_names_differ cat s =
     let parts : Parts = parts_of cat in
     let differ : repeats (part_names parts.classes) ≡ false = no_repeats parts [] parts.classes refl (no_faults parts s.valid).classes in

@@ -1,5 +1,5 @@
 -- In every catalogue each number is found by its name.
-use Rattle.sdd_script.proofs.All.{All-get_or, AreNamed, Bool, Catalogue, Column, ColumnPart, HasKey, Int, IsColumn, IsName, IsNamed, IsRelation, IsSound, IsWhole, List, None, ReadsAgain, ReadsSpelling, Relation, RelationPart, Some, [], ap, arith, both_empty, bytes_eq, bytes_eq-Decides, column_named, column_part, columns_of, cond, empty_of_map, false, faults_of_relation, found_one, get_or, get_or-map, is_name, length, length-map, map, map-map, name_of_column, name_of_relation, nat_lt as ltb, no_faults, not, number_of_place, option_map_or, parts_of, position, prefix_len, refl, relation_at, relation_named, relation_names, relation_part, relation_rules, repeats, slice_get, subst, suc, sym, take, true, unbroken, unfound_at, zero, ℕ, ◌+◌, ◌-◌, ◌<◌, ◌∙◌, ◌∷◌, ◌≡◌, ◌≤◌}
+use Rattle.sdd_script.proofs.All.{All-get_or, AreNamed, Bool, Catalogue, Column, ColumnPart, HasKey, Int, IsColumn, IsName, IsNamed, IsRelation, IsSoundCatalogue, IsWhole, List, None, ReadsAgain, ReadsSpelling, Relation, RelationPart, Some, [], ap, arith, both_empty, bytes_eq, bytes_eq-Decides, column_named, column_part, columns_of, cond, empty_of_map, false, faults_of_relation, found_one, get_or, get_or-map, is_name, length, length-map, map, map-map, name_of_column, name_of_relation, nat_lt as ltb, no_faults, not, number_of_place, option_map_or, parts_of, position, prefix_len, refl, relation_at, relation_named, relation_names, relation_part, relation_rules, repeats, slice_get, subst, suc, sym, take, true, unbroken, unfound_at, zero, ℕ, ◌+◌, ◌-◌, ◌<◌, ◌∙◌, ◌∷◌, ◌≡◌, ◌≤◌}
 use Rattle.sdd_script.proofs.Marks.{position-map}
 use Rattle.sdd_script.proofs.UseLaws.{IsKnown}
 use Rattle.sdd_script.proofs.NamePlaces.{place_of_name}
@@ -22,19 +22,19 @@ no_part = relation_part no_relation
 part_at : (cat : Catalogue) (rel : ℕ) → IsRelation cat rel → get_or (parts_of cat).relations (rel - 1) no_part ≡ relation_part (relation_at cat rel)
 part_at cat rel h = get_or-map relation_part cat.relations (rel - 1) no_relation no_part (omega (arith, h.0, h.1))
 
-named_number : (cat : Catalogue) → IsSound cat → (rel : ℕ) → IsRelation cat rel
+named_number : (cat : Catalogue) → IsSoundCatalogue cat → (rel : ℕ) → IsRelation cat rel
     → number_of (name_of_relation cat rel) (relation_names (parts_of cat).relations) ≡ rel
 named_number cat s rel h =
     let to : rel ≤ length (parts_of cat).relations = omega (arith, h.1, length-map cat.relations relation_part) in
     number_of_place (parts_of cat) s.valid (name_of_relation cat rel) rel no_part h.0 to (name_is cat rel
     ∙ ap (λ (r : RelationPart). r.name) (sym (part_at cat rel h)))
 
-one_relation : (cat : Catalogue) → IsSound cat → (a b : ℕ) → IsRelation cat a → IsRelation cat b → name_of_relation cat a ≡ name_of_relation cat b
+one_relation : (cat : Catalogue) → IsSoundCatalogue cat → (a b : ℕ) → IsRelation cat a → IsRelation cat b → name_of_relation cat a ≡ name_of_relation cat b
     → a ≡ b
 one_relation cat s a b h k e = sym (named_number cat s a h)
     ∙ ap (λ (n : List ℕ). number_of n (relation_names (parts_of cat).relations)) e ∙ named_number cat s b k
 
-relation_found : (cat : Catalogue) → IsSound cat → (rel : ℕ) → IsRelation cat rel → relation_named cat (name_of_relation cat rel) ≡ Some rel
+relation_found : (cat : Catalogue) → IsSoundCatalogue cat → (rel : ℕ) → IsRelation cat rel → relation_named cat (name_of_relation cat rel) ≡ Some rel
 relation_found cat s rel h =
     let name : List ℕ = name_of_relation cat rel in
     found_one (λ r. bytes_eq (name_of_relation cat r) name) rel (length cat.relations) h.0 h.1 ((bytes_eq-Decides name name).1 refl)
@@ -49,7 +49,7 @@ columns_differ before r e = let a = both_empty _ _ e in let b = both_empty _ _ a
 abbrev names_of : List Column → List (List ℕ)
 names_of columns = map (λ (c : Column). c.name) columns
 
-differ : (cat : Catalogue) → IsSound cat → (rel : ℕ) → IsRelation cat rel → repeats (names_of (relation_at cat rel).columns) ≡ false
+differ : (cat : Catalogue) → IsSoundCatalogue cat → (rel : ℕ) → IsRelation cat rel → repeats (names_of (relation_at cat rel).columns) ≡ false
 differ cat s rel h =
     let parts : Parts = parts_of cat in
     let lt : rel - 1 < length parts.relations = omega (arith, h.0, h.1, length-map cat.relations relation_part) in
@@ -91,7 +91,7 @@ column_name_is : (columns : List Column) (column : ℕ) → 1 ≤ column → col
     → name_of_column columns column ≡ get_or (names_of columns) (column - 1) []
 column_name_is columns column from to = column_at columns (column - 1) (omega (arith, from, to))
 
-column_found : (cat : Catalogue) → IsSound cat → (rel column : ℕ) → IsRelation cat rel
+column_found : (cat : Catalogue) → IsSoundCatalogue cat → (rel column : ℕ) → IsRelation cat rel
     → IsColumn cat rel column → column_named (columns_of cat rel)
     (name_of_column (columns_of cat rel) column) ≡ Some (column - 1)
 column_found cat s rel column h k =
@@ -129,7 +129,7 @@ some_columns cat w rel h =
     let key : HasKey (relation_at cat rel) = All-get_or HasKey cat.relations (rel - 1) no_relation (omega (arith, h.0, h.1)) w.relations in
     omega (arith, key.from, key.to, ap (λ (l : List Column). length l) (columns_are cat rel))
 
-pub known : (cat : Catalogue) → IsSound cat → IsWhole cat → AreNamed cat → IsKnown cat
+pub known : (cat : Catalogue) → IsSoundCatalogue cat → IsWhole cat → AreNamed cat → IsKnown cat
 known cat s w n = record {
   relation = relation_found cat s;
   column = column_found cat s;
@@ -142,8 +142,8 @@ known cat s w n = record {
 
 -- ---- the laws
 
-pub reads_again : (cat : Catalogue) → IsSound cat → IsWhole cat → AreNamed cat → ReadsAgain cat
+pub reads_again : (cat : Catalogue) → IsSoundCatalogue cat → IsWhole cat → AreNamed cat → ReadsAgain cat
 reads_again cat s w n = read_again cat (known cat s w n)
 
-pub reads_spelling : (cat : Catalogue) → IsSound cat → IsWhole cat → ReadsSpelling cat
+pub reads_spelling : (cat : Catalogue) → IsSoundCatalogue cat → IsWhole cat → ReadsSpelling cat
 reads_spelling cat s w = reading.reads_spelling cat s w

@@ -7,7 +7,7 @@ pub use Rattle.sdd_script.specs.Valid.{AreDistinct, AreTimely, AreValidLists, As
 pub use Rattle.sdd_script.specs.base.Kept.{Kept}
 pub use Rattle.sdd_script.specs.base.Name.{IsName, begins_with_letter, is_keyword, is_name, is_name_byte}
 pub use Rattle.sdd_script.specs.base.Numbers.{dm_no, rel_no, tm_no, txn_no}
-pub use Rattle.sdd_script.specs.base.Readings.{Fails, Gives, along, known, must, ◌>>=◌}
+pub use Rattle.sdd_script.specs.base.Readings.{Fails, GivesReading, along, known, must, ◌>>=◌}
 pub use Rattle.sdd_script.specs.base.Text.{IsText}
 pub use Rattle.sdd_script.specs.base.Words.{contains, head_of, or_else, tail_of}
 pub use Rattle.sdd_script.specs.base.declared.event.Event.{Event}
@@ -27,7 +27,7 @@ pub use Rattle.sdd_script.specs.catalog.Catalogue.{Catalogue, catalogue_of, clas
 pub use Rattle.sdd_script.specs.catalog.Eras.{emptied, eras, extended, retired, whole}
 pub use Rattle.sdd_script.specs.catalog.Names.{Text}
 pub use Rattle.sdd_script.specs.catalog.Naming.{AreNamed, IsNamed}
-pub use Rattle.sdd_script.specs.catalog.Rules.{IsSound, TellsFirst, class_rules, copies_in, copies_of, faults_at, faults_of, faults_of_class, found_from, found_in, greatest_key, has_name, is_from_1_to, least_key, read_rules, repeats, when, write_rules}
+pub use Rattle.sdd_script.specs.catalog.Rules.{IsSoundCatalogue, TellsFirst, class_rules, copies_in, copies_of, faults_at, faults_of, faults_of_class, found_from, found_in, greatest_key, has_name, is_from_1_to, least_key, read_rules, repeats, when, write_rules}
 pub use Rattle.sdd_script.specs.catalog.declared.fault.CatError.TheVariants.{Fault}
 pub use Rattle.sdd_script.specs.catalog.declared.fault.CatFault.{CatFault}
 pub use Rattle.sdd_script.specs.catalog.declared.fault.CatRule.{CatRule}
@@ -44,7 +44,7 @@ pub use Rattle.sdd_script.specs.catalog.declared.resolved.Fragment.{Fragment}
 pub use Rattle.sdd_script.specs.lang.Classes.{class_for}
 pub use Rattle.sdd_script.specs.lang.Database.{Database, database_of}
 pub use Rattle.sdd_script.specs.lang.Effect.{effect}
-pub use Rattle.sdd_script.specs.lang.Fits.{Fits, FitsAssign, FitsCondition, FitsRef, FitsStart, FitsStatement, IsFrom1To, IsRelation}
+pub use Rattle.sdd_script.specs.lang.Fits.{FitsAssign, FitsCondition, FitsRef, FitsStart, FitsStatement, FitsTxn, IsFrom1To, IsRelation}
 pub use Rattle.sdd_script.specs.lang.Serial.{after_changes, serial}
 pub use Rattle.sdd_script.specs.lang.declared.assign.Assign.TheVariants.{Add}
 pub use Rattle.sdd_script.specs.lang.declared.condition.Condition.{Condition}

@@ -3,7 +3,7 @@ use Rattle.std.specs.Prelude.{ℕ, ◌+◌, ◌^◌, ◌≡◌, ◌≤◌, ◌<�
 use Rattle.std.specs.Option.{option_map_or}
 use Rattle.std.specs.Int.Signed.{mag}
 use Rattle.std.specs.List.{All, filter_map}
-use Rattle.sdd_lang.specs.All.{Catalogue, ClassPart, D, Deliver, Down, Event, Fits, FitsStart, IsFrom1To, IsName, Lose, MAX_CLASSES, MAX_EVENTS, MAX_PLACE, MAX_READS, MAX_ROWS, MAX_TICKS, MAX_TXNS, MAX_WORKLOAD_BYTES, ReadPart, Redeclare, RelNo, Repeat, Resend, Settle, Site, Submit, T, Tick, U, Up, Value, are_linked, has_copy, repeats}
+use Rattle.sdd_lang.specs.All.{Catalogue, ClassPart, D, Deliver, Down, Event, FitsStart, FitsTxn, IsFrom1To, IsName, Lose, MAX_CLASSES, MAX_EVENTS, MAX_PLACE, MAX_READS, MAX_ROWS, MAX_TICKS, MAX_TXNS, MAX_WORKLOAD_BYTES, ReadPart, Redeclare, RelNo, Repeat, Resend, Settle, Site, Submit, T, Tick, U, Up, Value, are_linked, has_copy, repeats}
 use Rattle.sdd_lang.specs.base.declared.value.Value.TheVariants as values
 use Rattle.sdd_lang.specs.declared.assign.Assign.{Assign}
 use Rattle.sdd_lang.specs.declared.assign.Assign.TheVariants.{To, Add}
@@ -48,7 +48,7 @@ pub record IsValidRow (cat : Catalogue) (r : RelNo × List Value) : Type 0 where
 -- a transaction that the catalogue allows
 pub record IsValidTxn (cat : Catalogue) (t : Txn) : Type 0 where
   pub named : IsName t.name
-  pub fits : Fits cat t
+  pub fits : FitsTxn cat t
   pub values : All HoldsValues t.statements
 
 -- a site that is there

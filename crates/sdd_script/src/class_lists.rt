@@ -2,7 +2,7 @@
 ghost use Rattle.std.specs.Prelude.{◌≡◌, ◌&&◌, List, map, not};
 ghost use Rattle.std.specs.List.{list_any};
 ghost use Rattle.std.specs.Str.{bytes_eq};
-ghost use Rattle.sdd_lang.specs.All.{ClassPart, Gives, ReadPart, has_copy, has_name};
+ghost use Rattle.sdd_lang.specs.All.{ClassPart, GivesReading, ReadPart, has_copy, has_name};
 ghost use Rattle.sdd_words.specs.Words.{Plain};
 ghost use Rattle.sdd_script.specs.ClassLists.{all_classes, fragment_of, is_taken, with_class_of, with_read_of, with_write_of, list_rules, class_rules, reads_rules, writes_rules, class_line_rules};
 ghost use Rattle.sdd_script.specs.OpenLists.{classes_in, last_class};
@@ -24,7 +24,7 @@ use std::alloc::Global;
 use std::mem;
 
 fn list_line(alloc: Global, state: &mut State, words: &mut Tokens<'_>) -> Result<(), LineError>
-    ensures { Gives rule_in (λ _. state.new) result (list_rules state.old words.old) }
+    ensures { GivesReading rule_in (λ _. state.new) result (list_rules state.old words.old) }
 {
     match words.next() {
         None => {
@@ -100,7 +100,7 @@ fn add_class(
     name: Name,
     tm: TmNo,
 ) -> Result<(), LineError>
-    ensures { Gives rule_in (λ _. state.new) result (with_class_of cat.now state.old name tm) }
+    ensures { GivesReading rule_in (λ _. state.new) result (with_class_of cat.now state.old name tm) }
 {
     must(
         WorkRule::BadClass,
@@ -121,7 +121,7 @@ fn class_line(
     state: &mut State,
     words: &mut Tokens<'_>,
 ) -> Result<(), LineError>
-    ensures { Gives rule_in (λ _. state.new) result (class_rules cat.now state.old words.old) }
+    ensures { GivesReading rule_in (λ _. state.new) result (class_rules cat.now state.old words.old) }
 {
     match words.only_two() {
         Some((word, tm)) => {
@@ -138,7 +138,7 @@ fn class_line(
 }
 
 fn fragment_in(alloc: Global, cat: &Catalogue, bytes: &[u8]) -> Result<(Name, u32), LineError>
-    ensures { Gives rule_in (λ f. f) result (fragment_of cat.now (Plain bytes.now)) }
+    ensures { GivesReading rule_in (λ f. f) result (fragment_of cat.now (Plain bytes.now)) }
 {
     let name = known(WorkRule::UnknownName, read_name(alloc, bytes)?)?;
     let number = known(
@@ -150,7 +150,7 @@ fn fragment_in(alloc: Global, cat: &Catalogue, bytes: &[u8]) -> Result<(Name, u3
 
 /// A fragment's name and its number.
 fn read_fragment(alloc: Global, cat: &Catalogue, word: &Token<'_>) -> Result<(Name, u32), LineError>
-    ensures { Gives rule_in (λ f. f) result (fragment_of cat.now word.now) }
+    ensures { GivesReading rule_in (λ f. f) result (fragment_of cat.now word.now) }
 {
     match word.plain() {
         Some(bytes) => fragment_in(alloc, cat, bytes),
@@ -195,7 +195,7 @@ fn add_read(
     number: u32,
     dm: DmNo,
 ) -> Result<(), LineError>
-    ensures { Gives rule_in (λ _. state.new) result (with_read_of cat.now state.old (fragment, number) dm) }
+    ensures { GivesReading rule_in (λ _. state.new) result (with_read_of cat.now state.old (fragment, number) dm) }
 {
     must(
         WorkRule::BadClass,
@@ -220,7 +220,7 @@ fn reads_line(
     state: &mut State,
     words: &mut Tokens<'_>,
 ) -> Result<(), LineError>
-    ensures { Gives rule_in (λ _. state.new) result (reads_rules cat.now state.old words.old) }
+    ensures { GivesReading rule_in (λ _. state.new) result (reads_rules cat.now state.old words.old) }
 {
     match words.only_two() {
         Some((word, dm)) => {
@@ -237,7 +237,7 @@ fn reads_line(
 }
 
 fn add_write(alloc: Global, state: &mut State, name: Name) -> Result<(), LineError>
-    ensures { Gives rule_in (λ _. state.new) result (with_write_of state.old name) }
+    ensures { GivesReading rule_in (λ _. state.new) result (with_write_of state.old name) }
 {
     must(
         WorkRule::BadClass,
@@ -254,7 +254,7 @@ fn writes_line(
     state: &mut State,
     words: &mut Tokens<'_>,
 ) -> Result<(), LineError>
-    ensures { Gives rule_in (λ _. state.new) result (writes_rules cat.now state.old words.old) }
+    ensures { GivesReading rule_in (λ _. state.new) result (writes_rules cat.now state.old words.old) }
 {
     match words.only_one() {
         Some(word) => {
@@ -277,7 +277,7 @@ pub fn read_class_line(
     key: ClassKey,
     words: &mut Tokens<'_>,
 ) -> Result<(), LineError>
-    ensures { Gives rule_in (λ _. state.new) result (class_line_rules key cat.now state.old words.old) }
+    ensures { GivesReading rule_in (λ _. state.new) result (class_line_rules key cat.now state.old words.old) }
 {
     match key {
         ClassKey::List => list_line(alloc, state, words),

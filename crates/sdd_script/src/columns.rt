@@ -1,6 +1,6 @@
 //! Columns of uses, and conditions, by their words.
 ghost use Rattle.std.specs.Prelude.{◌≡◌, ◌<◌, ◌-◌, ◌^◌, length, Some, None};
-ghost use Rattle.sdd_lang.specs.All.{Gives, MAX_CONDITIONS};
+ghost use Rattle.sdd_lang.specs.All.{GivesReading, MAX_CONDITIONS};
 ghost use Rattle.sdd_words.specs.Words.{Plain};
 ghost use Rattle.sdd_script.specs.Few.{few};
 ghost use Rattle.sdd_script.specs.Rules.{rule_in};
@@ -39,7 +39,7 @@ fn use_numbered(parts: &[Option<u8>], part: Option<i64>) -> Option<(u32, u32)>
 
 fn column_in(columns: &[Column], part: u32, name: &[u8]) -> Result<Found, LineError>
     requires { length columns.now < 2 ^ 32 - 1 }
-    ensures { Gives rule_in (λ f. f) result (column_in columns.now part name.now) }
+    ensures { GivesReading rule_in (λ f. f) result (column_in columns.now part name.now) }
 {
     let place = known(WorkRule::UnknownName, column_named(columns, name))?;
     let kind = known(WorkRule::UnknownName, kind_of_place(columns, place))?;
@@ -53,7 +53,7 @@ fn column_in(columns: &[Column], part: u32, name: &[u8]) -> Result<Found, LineEr
 /// The column of a use that bytes name.
 #[tactic(auto, using(crate::proofs::FewColumns::few_columns))]
 fn column_of_use_in(cat: &Catalogue, parts: &[Option<u8>], bytes: &[u8]) -> Result<Found, LineError>
-    ensures { Gives rule_in (λ f. f) result (column_of_use cat.now parts.now (Plain bytes.now)) }
+    ensures { GivesReading rule_in (λ f. f) result (column_of_use cat.now parts.now (Plain bytes.now)) }
 {
     let (number, name) = parts_at_point(bytes);
     must(WorkRule::BadNumber, is_whole_number(number))?;
@@ -71,7 +71,7 @@ pub fn read_column(
     parts: &[Option<u8>],
     word: &Token<'_>,
 ) -> Result<Found, LineError>
-    ensures { Gives rule_in (λ f. f) result (column_of_use cat.now parts.now word.now) }
+    ensures { GivesReading rule_in (λ f. f) result (column_of_use cat.now parts.now word.now) }
 {
     match word.plain() {
         Some(bytes) => column_of_use_in(cat, parts, bytes),
@@ -80,7 +80,7 @@ pub fn read_column(
 }
 
 fn read_const(alloc: Global, left: Found, op: Op, right: &Token<'_>) -> Result<Condition, LineError>
-    ensures { Gives rule_in (λ c. c) result (const_of left op right.now) }
+    ensures { GivesReading rule_in (λ c. c) result (const_of left op right.now) }
 {
     let value = read_value(alloc, Some(left.kind), right)?;
     Ok(Condition::Const {
@@ -96,7 +96,7 @@ fn read_same(
     left: Found,
     right: &Token<'_>,
 ) -> Result<Condition, LineError>
-    ensures { Gives rule_in (λ c. c) result (same_of cat.now parts.now left right.now) }
+    ensures { GivesReading rule_in (λ c. c) result (same_of cat.now parts.now left right.now) }
 {
     let right = read_column(cat, parts, right)?;
     must(WorkRule::WrongKind, is_of_kind(Some(left.kind), right.kind))?;
@@ -112,7 +112,7 @@ fn read_condition(
     parts: &[Option<u8>],
     words: &Comparison<'_>,
 ) -> Result<Condition, LineError>
-    ensures { Gives rule_in (λ c. c) result (condition_of cat.now parts.now words.now) }
+    ensures { GivesReading rule_in (λ c. c) result (condition_of cat.now parts.now words.now) }
 {
     let left = read_column(cat, parts, &words.left)?;
     if names_column(alloc, words.op, &words.right)? {
@@ -130,7 +130,7 @@ pub fn read_conditions(
     parts: &[Option<u8>],
     words: &mut Comparisons<'_>,
 ) -> Result<Vec<Condition>, LineError>
-    ensures { Gives rule_in (λ v. v.items) result
+    ensures { GivesReading rule_in (λ v. v.items) result
         (few MAX_CONDITIONS (conditions_of cat.now parts.now words.old)) }
 {
     let mut conds = Vec::new(alloc);

@@ -1,6 +1,6 @@
 //! Deletes, by the words after the first word of their lines.
 ghost use Rattle.std.specs.Prelude.{◌≡◌, ◌∷◌, [], Some};
-ghost use Rattle.sdd_lang.specs.All.{Gives};
+ghost use Rattle.sdd_lang.specs.All.{GivesReading};
 ghost use Rattle.sdd_script.specs.Few.{short};
 ghost use Rattle.sdd_script.specs.Rules.{rule_in};
 ghost use Rattle.sdd_script.specs.Statements.{delete_over, delete_of_parts, delete_of};
@@ -20,7 +20,7 @@ fn read_delete_of(
     rel: u8,
     words: &mut Comparisons<'_>,
 ) -> Result<Stmt, LineError>
-    ensures { Gives rule_in (λ s. s) result (short (delete_over cat.now rel words.old)) }
+    ensures { GivesReading rule_in (λ s. s) result (short (delete_over cat.now rel words.old)) }
 {
     let conds = read_conditions(alloc, cat, &[Some(rel)], words)?;
     Ok(Stmt::Delete {
@@ -36,7 +36,7 @@ fn read_delete_parts(
     name: &Token<'_>,
     words: &mut Comparisons<'_>,
 ) -> Result<Stmt, LineError>
-    ensures { Gives rule_in (λ s. s) result (short (delete_of_parts cat.now name.now words.old)) }
+    ensures { GivesReading rule_in (λ s. s) result (short (delete_of_parts cat.now name.now words.old)) }
 {
     let rel = known(WorkRule::UnknownName, part_of(cat, name))?;
     read_delete_of(alloc, cat, rel, words)
@@ -48,7 +48,7 @@ pub fn read_delete(
     cat: &Catalogue,
     words: &mut Tokens<'_>,
 ) -> Result<Stmt, LineError>
-    ensures { Gives rule_in (λ s. s) result (short (delete_of cat.now words.old)) }
+    ensures { GivesReading rule_in (λ s. s) result (short (delete_of cat.now words.old)) }
 {
     match words.next() {
         None => broken(WorkRule::BadLine),

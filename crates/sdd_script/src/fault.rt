@@ -1,6 +1,6 @@
 ghost use Rattle.std.specs.Prelude.{◌≡◌, Ok, Err, MatchResult};
 ghost use Rattle.sdd_script.specs.Telling.{told_at};
-ghost use Rattle.sdd_lang.specs.All.{Gives, known, must};
+ghost use Rattle.sdd_lang.specs.All.{GivesReading, known, must};
 ghost use Rattle.sdd_script.specs.declared.fault.LineError.TheVariants.{Broken};
 ghost use Rattle.sdd_script.specs.Rules.{rule_in};
 
@@ -99,7 +99,7 @@ pub(crate) fn broken<T>(rule: WorkRule) -> Result<T, LineError>
 
 /// The value, or the rule that is broken where it isn't there.
 pub(crate) fn known<T>(rule: WorkRule, value: Option<T>) -> Result<T, LineError>
-    ensures { Gives rule_in (λ x. x) result (known rule value) }
+    ensures { GivesReading rule_in (λ x. x) result (known rule value) }
 {
     match value {
         Some(value) => Ok(value),
@@ -109,7 +109,7 @@ pub(crate) fn known<T>(rule: WorkRule, value: Option<T>) -> Result<T, LineError>
 
 /// The rule is broken where the test fails.
 pub(crate) fn must(rule: WorkRule, holds: bool) -> Result<(), LineError>
-    ensures { Gives rule_in (λ u. u) result (must rule holds) }
+    ensures { GivesReading rule_in (λ u. u) result (must rule holds) }
 {
     if holds { Ok(()) } else { broken(rule) }
 }

@@ -1,6 +1,6 @@
 //! How many there may be.
 ghost use Rattle.std.specs.Prelude.{◌≡◌, nat_le, length};
-ghost use Rattle.sdd_lang.specs.All.{Gives, must};
+ghost use Rattle.sdd_lang.specs.All.{GivesReading, must};
 ghost use Rattle.sdd_script.specs.declared.fault.WorkRule.TheVariants.{TooMany};
 ghost use Rattle.sdd_script.specs.Rules.{rule_in};
 ghost use Rattle.sdd_script.specs.ClassLists.{one_more_class};
@@ -49,14 +49,14 @@ pub fn written_with(written: u32, statement: &Stmt) -> Option<u32>
 }
 
 fn at_most(counts: Counts, number: usize, most: usize) -> Result<(), LineError>
-    ensures { Gives rule_in (λ u. u) result (must (TooMany counts) (nat_le number most)) }
+    ensures { GivesReading rule_in (λ u. u) result (must (TooMany counts) (nat_le number most)) }
 {
     must(WorkRule::TooMany(counts), number <= most)
 }
 
 /// Whether there is room for the statement after so many, and what it holds is within the limits.
 pub fn check_limits(before: usize, statement: &Stmt) -> Result<(), LineError>
-    ensures { Gives rule_in (λ u. u) result (statement_limits before statement.now) }
+    ensures { GivesReading rule_in (λ u. u) result (statement_limits before statement.now) }
 {
     must(
         WorkRule::TooMany(Counts::Statement),

@@ -2,7 +2,7 @@
 ghost use Rattle.std.specs.Prelude.{◌≡◌, ◌≤◌, ◌<◌, ◌^◌, length, slice_get, option_map, IfSome, MatchOption, Some, None};
 ghost use Rattle.std.specs.List.{list_any};
 ghost use Rattle.std.specs.Str.{bytes_eq};
-ghost use Rattle.sdd_lang.specs.All.{Gives, has_copy, has_name, numbers_to};
+ghost use Rattle.sdd_lang.specs.All.{GivesReading, has_copy, has_name, numbers_to};
 ghost use Rattle.sdd_script.specs.Rules.{rule_in};
 ghost use Rattle.sdd_script.specs.Naming.{name_of, relation_if, columns_of, key_of, name_of_relation, relation_named, relation_of, column_named, kind_of_place, name_of_fragment, fragment_named, name_of_class, class_names};
 
@@ -178,7 +178,7 @@ pub fn has_class(cat: &Catalogue, name: &[u8]) -> bool
 
 /// The name that a word is.
 pub fn name_in_word(alloc: Global, word: &Token<'_>) -> Result<Name, LineError>
-    ensures { Gives rule_in (λ n. n) result (name_of word.now) }
+    ensures { GivesReading rule_in (λ n. n) result (name_of word.now) }
 {
     match word.plain() {
         Some(bytes) => known(WorkRule::UnknownName, read_name(alloc, bytes)?),

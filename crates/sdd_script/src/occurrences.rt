@@ -1,6 +1,6 @@
 //! Events, by the words after the first word of their lines.
 ghost use Rattle.std.specs.Prelude.{◌≡◌, ◌≤◌};
-ghost use Rattle.sdd_lang.specs.All.{Gives, are_linked};
+ghost use Rattle.sdd_lang.specs.All.{GivesReading, are_linked};
 ghost use Rattle.sdd_script.specs.Rules.{rule_in};
 ghost use Rattle.sdd_script.specs.Occurrences.{numbered, site_in, site_of, module_of, tm_of, link_of, count_of, flight_place, deliver_of, lose_of, repeat_of, txn_named, submit_of, resend_of, tick_of, settle_of, redeclare_of, data_module_of, dm_of, down_of, up_of, event_of};
 ghost use Rattle.sdd_words.specs.Words.{Plain};
@@ -57,7 +57,7 @@ fn site_in(cat: &Catalogue, bytes: &[u8]) -> Option<Site>
 }
 
 fn read_site(cat: &Catalogue, word: &Token<'_>) -> Result<Site, LineError>
-    ensures { Gives rule_in (λ s. s) result (site_of cat.now word.now) }
+    ensures { GivesReading rule_in (λ s. s) result (site_of cat.now word.now) }
 {
     match word.plain() {
         Some(bytes) => known(WorkRule::BadEvent, site_in(cat, bytes)),
@@ -66,7 +66,7 @@ fn read_site(cat: &Catalogue, word: &Token<'_>) -> Result<Site, LineError>
 }
 
 fn module_of(site: Site) -> Result<TmNo, LineError>
-    ensures { Gives rule_in (λ t. t) result (module_of site) }
+    ensures { GivesReading rule_in (λ t. t) result (module_of site) }
 {
     match site {
         Site::T(tm) => Ok(tm),
@@ -76,13 +76,13 @@ fn module_of(site: Site) -> Result<TmNo, LineError>
 
 /// The transaction module that a word names.
 pub fn read_tm(cat: &Catalogue, word: &Token<'_>) -> Result<TmNo, LineError>
-    ensures { Gives rule_in (λ t. t) result (tm_of cat.now word.now) }
+    ensures { GivesReading rule_in (λ t. t) result (tm_of cat.now word.now) }
 {
     module_of(read_site(cat, word)?)
 }
 
 fn data_module_of(site: Site) -> Result<DmNo, LineError>
-    ensures { Gives rule_in (λ d. d) result (data_module_of site) }
+    ensures { GivesReading rule_in (λ d. d) result (data_module_of site) }
 {
     match site {
         Site::D(dm) => Ok(dm),
@@ -92,7 +92,7 @@ fn data_module_of(site: Site) -> Result<DmNo, LineError>
 
 /// The data module that a word names.
 pub fn read_dm(cat: &Catalogue, word: &Token<'_>) -> Result<DmNo, LineError>
-    ensures { Gives rule_in (λ d. d) result (dm_of cat.now word.now) }
+    ensures { GivesReading rule_in (λ d. d) result (dm_of cat.now word.now) }
 {
     data_module_of(read_site(cat, word)?)
 }
@@ -107,7 +107,7 @@ fn are_linked(from: Site, to: Site) -> bool
 }
 
 fn read_link(cat: &Catalogue, from: &Token<'_>, to: &Token<'_>) -> Result<(Site, Site), LineError>
-    ensures { Gives rule_in (λ l. l) result (link_of cat.now from.now to.now) }
+    ensures { GivesReading rule_in (λ l. l) result (link_of cat.now from.now to.now) }
 {
     let from = read_site(cat, from)?;
     let to = read_site(cat, to)?;
@@ -126,7 +126,7 @@ fn count_in(most: u32, digits: &[u8]) -> Option<u32>
 
 /// A number from 1 to the most.
 fn read_count(most: u32, word: &Token<'_>) -> Result<u32, LineError>
-    ensures { Gives rule_in (λ n. n) result (count_of most word.now) }
+    ensures { GivesReading rule_in (λ n. n) result (count_of most word.now) }
 {
     match word.plain() {
         Some(bytes) => known(WorkRule::BadNumber, count_in(most, bytes)),
@@ -138,7 +138,7 @@ fn read_flight_place(
     cat: &Catalogue,
     words: &mut Tokens<'_>,
 ) -> Result<(Site, Site, u32), LineError>
-    ensures { Gives rule_in (λ p. p) result (flight_place cat.now words.old) }
+    ensures { GivesReading rule_in (λ p. p) result (flight_place cat.now words.old) }
 {
     match words.only_three() {
         Some((from, to, place)) => {
@@ -155,28 +155,28 @@ fn read_flight_place(
 }
 
 fn read_deliver(cat: &Catalogue, words: &mut Tokens<'_>) -> Result<Event, LineError>
-    ensures { Gives rule_in (λ e. e) result (deliver_of cat.now words.old) }
+    ensures { GivesReading rule_in (λ e. e) result (deliver_of cat.now words.old) }
 {
     let (from, to, place) = read_flight_place(cat, words)?;
     Ok(Event::Deliver { from, to, place })
 }
 
 fn read_lose(cat: &Catalogue, words: &mut Tokens<'_>) -> Result<Event, LineError>
-    ensures { Gives rule_in (λ e. e) result (lose_of cat.now words.old) }
+    ensures { GivesReading rule_in (λ e. e) result (lose_of cat.now words.old) }
 {
     let (from, to, place) = read_flight_place(cat, words)?;
     Ok(Event::Lose { from, to, place })
 }
 
 fn read_repeat(cat: &Catalogue, words: &mut Tokens<'_>) -> Result<Event, LineError>
-    ensures { Gives rule_in (λ e. e) result (repeat_of cat.now words.old) }
+    ensures { GivesReading rule_in (λ e. e) result (repeat_of cat.now words.old) }
 {
     let (from, to, place) = read_flight_place(cat, words)?;
     Ok(Event::Repeat { from, to, place })
 }
 
 fn txn_in(alloc: Global, names: &Names, bytes: &[u8]) -> Result<TxnNo, LineError>
-    ensures { Gives rule_in (λ t. t) result (txn_named names.now (Plain bytes.now)) }
+    ensures { GivesReading rule_in (λ t. t) result (txn_named names.now (Plain bytes.now)) }
 {
     let name = known(WorkRule::UnknownName, read_name(alloc, bytes)?)?;
     let number = known(WorkRule::UnknownName, names.number_of(name.as_str()))?;
@@ -184,7 +184,7 @@ fn txn_in(alloc: Global, names: &Names, bytes: &[u8]) -> Result<TxnNo, LineError
 }
 
 fn read_txn(alloc: Global, names: &Names, word: &Token<'_>) -> Result<TxnNo, LineError>
-    ensures { Gives rule_in (λ t. t) result (txn_named names.now word.now) }
+    ensures { GivesReading rule_in (λ t. t) result (txn_named names.now word.now) }
 {
     match word.plain() {
         Some(bytes) => txn_in(alloc, names, bytes),
@@ -193,7 +193,7 @@ fn read_txn(alloc: Global, names: &Names, word: &Token<'_>) -> Result<TxnNo, Lin
 }
 
 fn read_submit(alloc: Global, names: &Names, words: &mut Tokens<'_>) -> Result<Event, LineError>
-    ensures { Gives rule_in (λ e. e) result (submit_of names.now words.old) }
+    ensures { GivesReading rule_in (λ e. e) result (submit_of names.now words.old) }
 {
     match words.only_one() {
         Some(name) => {
@@ -206,7 +206,7 @@ fn read_submit(alloc: Global, names: &Names, words: &mut Tokens<'_>) -> Result<E
 }
 
 fn read_resend(cat: &Catalogue, words: &mut Tokens<'_>) -> Result<Event, LineError>
-    ensures { Gives rule_in (λ e. e) result (resend_of cat.now words.old) }
+    ensures { GivesReading rule_in (λ e. e) result (resend_of cat.now words.old) }
 {
     match words.only_two() {
         Some((from, to)) => {
@@ -219,7 +219,7 @@ fn read_resend(cat: &Catalogue, words: &mut Tokens<'_>) -> Result<Event, LineErr
 }
 
 fn read_tick(cat: &Catalogue, words: &mut Tokens<'_>) -> Result<Event, LineError>
-    ensures { Gives rule_in (λ e. e) result (tick_of cat.now words.old) }
+    ensures { GivesReading rule_in (λ e. e) result (tick_of cat.now words.old) }
 {
     match words.only_two() {
         Some((tm, n)) => {
@@ -233,7 +233,7 @@ fn read_tick(cat: &Catalogue, words: &mut Tokens<'_>) -> Result<Event, LineError
 }
 
 fn read_settle(words: &mut Tokens<'_>) -> Result<Event, LineError>
-    ensures { Gives rule_in (λ e. e) result (settle_of words.old) }
+    ensures { GivesReading rule_in (λ e. e) result (settle_of words.old) }
 {
     match words.next() {
         None => Ok(Event::Settle),
@@ -242,7 +242,7 @@ fn read_settle(words: &mut Tokens<'_>) -> Result<Event, LineError>
 }
 
 fn read_redeclare(words: &mut Tokens<'_>) -> Result<Event, LineError>
-    ensures { Gives rule_in (λ e. e) result (redeclare_of words.old) }
+    ensures { GivesReading rule_in (λ e. e) result (redeclare_of words.old) }
 {
     match words.next() {
         None => Ok(Event::Redeclare),
@@ -251,7 +251,7 @@ fn read_redeclare(words: &mut Tokens<'_>) -> Result<Event, LineError>
 }
 
 fn read_down(cat: &Catalogue, words: &mut Tokens<'_>) -> Result<Event, LineError>
-    ensures { Gives rule_in (λ e. e) result (down_of cat.now words.old) }
+    ensures { GivesReading rule_in (λ e. e) result (down_of cat.now words.old) }
 {
     match words.only_one() {
         Some(dm) => {
@@ -264,7 +264,7 @@ fn read_down(cat: &Catalogue, words: &mut Tokens<'_>) -> Result<Event, LineError
 }
 
 fn read_up(cat: &Catalogue, words: &mut Tokens<'_>) -> Result<Event, LineError>
-    ensures { Gives rule_in (λ e. e) result (up_of cat.now words.old) }
+    ensures { GivesReading rule_in (λ e. e) result (up_of cat.now words.old) }
 {
     match words.only_one() {
         Some(dm) => {
@@ -284,7 +284,7 @@ pub fn read_event(
     key: EventKey,
     words: &mut Tokens<'_>,
 ) -> Result<Event, LineError>
-    ensures { Gives rule_in (λ e. e) result (event_of key cat.now names.now words.old) }
+    ensures { GivesReading rule_in (λ e. e) result (event_of key cat.now names.now words.old) }
 {
     match key {
         EventKey::Submit => read_submit(alloc, names, words),

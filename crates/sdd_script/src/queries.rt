@@ -1,6 +1,6 @@
 //! Queries, by the words after the first word of their lines.
 ghost use Rattle.std.specs.Prelude.{◌≡◌, map, IfOk, codes};
-ghost use Rattle.sdd_lang.specs.All.{Gives, MAX_OUTPUT_COLUMNS, MAX_USES, along};
+ghost use Rattle.sdd_lang.specs.All.{GivesReading, MAX_OUTPUT_COLUMNS, MAX_USES, along};
 ghost use Rattle.sdd_script.specs.Few.{few, short};
 ghost use Rattle.sdd_script.specs.Rules.{rule_in};
 ghost use Rattle.sdd_script.specs.Statements.{listed_column, part_in, parts_of, query_over, query_of_parts, query_behind_from, query_with, query_of};
@@ -36,7 +36,7 @@ fn read_listed_column(
     parts: &[Option<u8>],
     word: &Token<'_>,
 ) -> Result<Ref, LineError>
-    ensures { Gives rule_in (λ r. r) result (listed_column cat.now parts.now word.now) }
+    ensures { GivesReading rule_in (λ r. r) result (listed_column cat.now parts.now word.now) }
 {
     let found = read_column(cat, parts, word)?;
     Ok(found.at)
@@ -49,7 +49,7 @@ fn read_listed(
     parts: &[Option<u8>],
     words: &mut Tokens<'_>,
 ) -> Result<Vec<Ref>, LineError>
-    ensures { Gives rule_in (λ v. v.items) result
+    ensures { GivesReading rule_in (λ v. v.items) result
         (few MAX_OUTPUT_COLUMNS (along (λ i w. listed_column cat.now parts.now w) 0 words.old)) }
 {
     let mut out = Vec::new(alloc);
@@ -61,7 +61,7 @@ fn read_listed(
 }
 
 fn read_part(part: Option<u8>) -> Result<RelNo, LineError>
-    ensures { Gives rule_in (λ r. r) result (part_in part) }
+    ensures { GivesReading rule_in (λ r. r) result (part_in part) }
 {
     let rel = known(WorkRule::UnknownName, part)?;
     Ok(RelNo(u32::from(rel)))
@@ -69,7 +69,7 @@ fn read_part(part: Option<u8>) -> Result<RelNo, LineError>
 
 #[tactic(auto, using(crate::proofs::FewRead::few_loop))]
 fn read_relations(alloc: Global, parts: &[Option<u8>]) -> Result<Vec<RelNo>, LineError>
-    ensures { Gives rule_in (λ v. v.items) result
+    ensures { GivesReading rule_in (λ v. v.items) result
         (few MAX_USES (along (λ i p. part_in p) 0 parts.now)) }
 {
     let mut rels = Vec::new(alloc);
@@ -88,7 +88,7 @@ fn read_query_of(
     columns: &mut Tokens<'_>,
     words: &mut Comparisons<'_>,
 ) -> Result<Stmt, LineError>
-    ensures { Gives rule_in (λ s. s) result
+    ensures { GivesReading rule_in (λ s. s) result
         (short (query_over cat.now parts.now columns.old words.old)) }
 {
     let out = read_listed(alloc, cat, parts, columns)?;
@@ -108,7 +108,7 @@ fn read_query_parts(
     rels: &mut Tokens<'_>,
     words: &mut Comparisons<'_>,
 ) -> Result<Stmt, LineError>
-    ensures { Gives rule_in (λ s. s) result
+    ensures { GivesReading rule_in (λ s. s) result
         (short (query_of_parts cat.now columns.old rels.old words.old)) }
 {
     let parts = read_parts(alloc, cat, rels)?;
@@ -122,7 +122,7 @@ fn read_query_behind_from(
     rels: &mut Tokens<'_>,
     rest: Tokens<'_>,
 ) -> Result<Stmt, LineError>
-    ensures { Gives rule_in (λ s. s) result
+    ensures { GivesReading rule_in (λ s. s) result
         (short (query_behind_from cat.now columns.old rels.old rest.entry)) }
 {
     must(
@@ -141,7 +141,7 @@ fn read_query_with(
     columns: &mut Tokens<'_>,
     behind: &Tokens<'_>,
 ) -> Result<Stmt, LineError>
-    ensures { Gives rule_in (λ s. s) result
+    ensures { GivesReading rule_in (λ s. s) result
         (short (query_with cat.now columns.old behind.now)) }
 {
     let (mut rels, rest) = behind.split_from(b"where");
@@ -151,7 +151,7 @@ fn read_query_with(
 /// A query, by its columns, `from`, its relations, and its conditions; of what is too many the first
 /// ones.
 pub fn read_query(alloc: Global, cat: &Catalogue, words: &Tokens<'_>) -> Result<Stmt, LineError>
-    ensures { Gives rule_in (λ s. s) result (short (query_of cat.now words.now)) }
+    ensures { GivesReading rule_in (λ s. s) result (short (query_of cat.now words.now)) }
 {
     match words.cut_at(b"from") {
         Some((mut columns, behind)) => read_query_with(alloc, cat, &mut columns, &behind),

@@ -1,7 +1,7 @@
 //! One line of a workload, by its words.
 ghost use Rattle.std.specs.Prelude.{◌≡◌, ◌==◌, OnOk};
 ghost use Rattle.std.specs.List.{list_any};
-ghost use Rattle.sdd_lang.specs.All.{Gives, TxnNo};
+ghost use Rattle.sdd_lang.specs.All.{GivesReading, TxnNo};
 ghost use Rattle.sdd_script.specs.Few.{short};
 ghost use Rattle.sdd_script.specs.Rules.{rule_in};
 ghost use Rattle.sdd_script.specs.LineRules.{row_rules, opened, txn_rules, with_statement, statement_rules, closed, done_rules, is_submitted, with_submitted, with_event, event_rules, end_rules, keyword_rules, words_rules, sound_rules, line_rules};
@@ -34,7 +34,7 @@ fn row_line(
     state: &mut State,
     words: &mut Tokens<'_>,
 ) -> Result<(), LineError>
-    ensures { Gives rule_in (λ _. state.new) result (row_rules cat.now state.old words.old) }
+    ensures { GivesReading rule_in (λ _. state.new) result (row_rules cat.now state.old words.old) }
 {
     match words.next() {
         None => broken(WorkRule::BadLine),
@@ -52,7 +52,7 @@ fn row_line(
 }
 
 fn open_txn(alloc: Global, state: &mut State, name: Name, tm: TmNo) -> Result<(), LineError>
-    ensures { Gives rule_in (λ _. state.new) result (opened state.old name tm) }
+    ensures { GivesReading rule_in (λ _. state.new) result (opened state.old name tm) }
 {
     must(WorkRule::DuplicateTxn, !state.names.has(name.as_str()))?;
     must(WorkRule::TooMany(Counts::Txn), state.names.len() < MAX_TXNS)?;
@@ -67,7 +67,7 @@ fn txn_line(
     state: &mut State,
     words: &mut Tokens<'_>,
 ) -> Result<(), LineError>
-    ensures { Gives rule_in (λ _. state.new) result (txn_rules cat.now state.old words.old) }
+    ensures { GivesReading rule_in (λ _. state.new) result (txn_rules cat.now state.old words.old) }
 {
     match words.only_two() {
         Some((word, tm)) => {
@@ -84,7 +84,7 @@ fn txn_line(
 }
 
 fn add_statement(state: &mut State, statement: Stmt) -> Result<(), LineError>
-    ensures { Gives rule_in (λ _. state.new) result (with_statement state.old statement) }
+    ensures { GivesReading rule_in (λ _. state.new) result (with_statement state.old statement) }
 {
     let written = known(
         WorkRule::TooMany(Counts::Row),
@@ -104,7 +104,7 @@ fn short_statement_line(
     key: StatementKey,
     words: &mut Tokens<'_>,
 ) -> Result<(), LineError>
-    ensures { Gives rule_in (λ _. state.new) result
+    ensures { GivesReading rule_in (λ _. state.new) result
         (statement_rules state.old (short (statement_of key cat.now words.old))) }
 {
     must(WorkRule::BadLine, state.place.takes_statements())?;
@@ -118,7 +118,7 @@ fn statement_line(
     key: StatementKey,
     words: &mut Tokens<'_>,
 ) -> Result<(), LineError>
-    ensures { Gives rule_in (λ _. state.new) result
+    ensures { GivesReading rule_in (λ _. state.new) result
         (statement_rules state.old (statement_of key cat.now words.old)) }
 {
     short_statement_line(alloc, cat, state, key, words)
@@ -126,7 +126,7 @@ fn statement_line(
 
 /// Ends the transaction or the list of classes that is open.
 fn close(alloc: Global, state: &mut State) -> Result<(), LineError>
-    ensures { Gives rule_in (λ _. state.new) result (closed state.old.place state.old) }
+    ensures { GivesReading rule_in (λ _. state.new) result (closed state.old.place state.old) }
 {
     match mem::replace(&mut state.place, Place::Between) {
         Place::Inside(Header { name, tm }) => {
@@ -149,7 +149,7 @@ fn close(alloc: Global, state: &mut State) -> Result<(), LineError>
 }
 
 fn done_line(alloc: Global, state: &mut State, words: &mut Tokens<'_>) -> Result<(), LineError>
-    ensures { Gives rule_in (λ _. state.new) result (done_rules state.old words.old) }
+    ensures { GivesReading rule_in (λ _. state.new) result (done_rules state.old words.old) }
 {
     match words.next() {
         None => close(alloc, state),
@@ -182,7 +182,7 @@ fn note_submitted(submitted: &mut Grown<TxnNo>, event: Event) -> Result<(), NoMe
 }
 
 fn add_event(cat: &Catalogue, state: &mut State, event: Event) -> Result<(), LineError>
-    ensures { Gives rule_in (λ _. state.new) result (with_event cat.now state.old event) }
+    ensures { GivesReading rule_in (λ _. state.new) result (with_event cat.now state.old event) }
 {
     must(
         WorkRule::SubmittedTwice,
@@ -209,7 +209,7 @@ fn event_line(
     key: EventKey,
     words: &mut Tokens<'_>,
 ) -> Result<(), LineError>
-    ensures { Gives rule_in (λ _. state.new) result
+    ensures { GivesReading rule_in (λ _. state.new) result
         (event_rules cat.now state.old (event_of key cat.now state.old.names words.old)) }
 {
     must(WorkRule::BadLine, state.place.takes_events())?;
@@ -218,7 +218,7 @@ fn event_line(
 }
 
 fn end_line(state: &mut State, words: &mut Tokens<'_>) -> Result<(), LineError>
-    ensures { Gives rule_in (λ _. state.new) result (end_rules state.old words.old) }
+    ensures { GivesReading rule_in (λ _. state.new) result (end_rules state.old words.old) }
 {
     match words.next() {
         None => {
@@ -237,7 +237,7 @@ fn read_keyword_line(
     keyword: Keyword,
     words: &mut Tokens<'_>,
 ) -> Result<(), LineError>
-    ensures { Gives rule_in (λ _. state.new) result (keyword_rules keyword cat.now state.old words.old) }
+    ensures { GivesReading rule_in (λ _. state.new) result (keyword_rules keyword cat.now state.old words.old) }
 {
     match keyword {
         Keyword::Row => row_line(alloc, cat, state, words),
@@ -256,7 +256,7 @@ fn read_words(
     state: &mut State,
     words: &mut Tokens<'_>,
 ) -> Result<(), LineError>
-    ensures { Gives rule_in (λ _. state.new) result (words_rules cat.now state.old words.old) }
+    ensures { GivesReading rule_in (λ _. state.new) result (words_rules cat.now state.old words.old) }
 {
     match words.next() {
         None => broken(WorkRule::BadLine),
@@ -273,7 +273,7 @@ fn read_sound_words(
     state: &mut State,
     words: &mut Tokens<'_>,
 ) -> Result<(), LineError>
-    ensures { Gives rule_in (λ _. state.new) result (sound_rules cat.now state.old words.old) }
+    ensures { GivesReading rule_in (λ _. state.new) result (sound_rules cat.now state.old words.old) }
 {
     must(WorkRule::BadLine, are_sound(alloc, words)?)?;
     read_words(alloc, cat, state, words)
@@ -287,7 +287,7 @@ pub fn read_line(
     state: &mut State,
     line: &[u8],
 ) -> Result<(), LineError>
-    ensures { Gives rule_in (λ _. state.new) result (line_rules cat.now state.old line.now) }
+    ensures { GivesReading rule_in (λ _. state.new) result (line_rules cat.now state.old line.now) }
 {
     must(WorkRule::NotUtf8, text_of(line).is_some())?;
     match words_of(line) {

@@ -1,6 +1,6 @@
 //! Statements, by the first words of their lines and the words after them.
 ghost use Rattle.std.specs.Prelude.{◌≡◌};
-ghost use Rattle.sdd_lang.specs.All.{Gives};
+ghost use Rattle.sdd_lang.specs.All.{GivesReading};
 ghost use Rattle.sdd_script.specs.Few.{short};
 ghost use Rattle.sdd_script.specs.Rules.{rule_in};
 ghost use Rattle.sdd_script.specs.Statements.{put_of, statement_of};
@@ -19,7 +19,7 @@ use std::alloc::Global;
 /// A put, by a relation and values.
 #[tactic(auto, using(crate::proofs::Shortened::fails_at))]
 fn read_put(alloc: Global, cat: &Catalogue, words: &mut Tokens<'_>) -> Result<Stmt, LineError>
-    ensures { Gives rule_in (λ s. s) result (short (put_of cat.now words.old)) }
+    ensures { GivesReading rule_in (λ s. s) result (short (put_of cat.now words.old)) }
 {
     match words.next() {
         None => broken(WorkRule::BadLine),
@@ -39,7 +39,7 @@ pub fn read_statement(
     key: StatementKey,
     words: &mut Tokens<'_>,
 ) -> Result<Stmt, LineError>
-    ensures { Gives rule_in (λ s. s) result (short (statement_of key cat.now words.old)) }
+    ensures { GivesReading rule_in (λ s. s) result (short (statement_of key cat.now words.old)) }
 {
     match key {
         StatementKey::Put => read_put(alloc, cat, words),

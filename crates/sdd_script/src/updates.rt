@@ -1,6 +1,6 @@
 //! Updates, by the words after the first word of their lines.
 ghost use Rattle.std.specs.Prelude.{◌≡◌, ◌∷◌, [], Some, codes};
-ghost use Rattle.sdd_lang.specs.All.{Gives, MAX_ASSIGNMENTS, along};
+ghost use Rattle.sdd_lang.specs.All.{GivesReading, MAX_ASSIGNMENTS, along};
 ghost use Rattle.sdd_script.specs.Few.{few, short};
 ghost use Rattle.sdd_script.specs.Rules.{rule_in};
 ghost use Rattle.sdd_script.specs.Statements.{addend_of, add_of, to_of, assign_of, update_over, update_of_parts, update_with, update_behind_set, update_to, update_of};
@@ -21,7 +21,7 @@ use sdd_words::{
 use std::alloc::Global;
 
 fn read_addend(word: &Token<'_>) -> Result<i64, LineError>
-    ensures { Gives rule_in (λ n. n) result (addend_of word.now) }
+    ensures { GivesReading rule_in (λ n. n) result (addend_of word.now) }
 {
     match word.plain() {
         Some(bytes) => known(WorkRule::BadNumber, number_in(bytes)),
@@ -30,7 +30,7 @@ fn read_addend(word: &Token<'_>) -> Result<i64, LineError>
 }
 
 fn read_add(found: Found, word: &Token<'_>) -> Result<Assign, LineError>
-    ensures { Gives rule_in (λ a. a) result (add_of found word.now) }
+    ensures { GivesReading rule_in (λ a. a) result (add_of found word.now) }
 {
     must(WorkRule::WrongKind, is_of_kind(Some(found.kind), Kind::Int))?;
     let by = read_addend(word)?;
@@ -41,7 +41,7 @@ fn read_add(found: Found, word: &Token<'_>) -> Result<Assign, LineError>
 }
 
 fn read_to(alloc: Global, found: Found, word: &Token<'_>) -> Result<Assign, LineError>
-    ensures { Gives rule_in (λ a. a) result (to_of found word.now) }
+    ensures { GivesReading rule_in (λ a. a) result (to_of found word.now) }
 {
     let value = read_value(alloc, Some(found.kind), word)?;
     Ok(Assign::To {
@@ -56,7 +56,7 @@ fn read_assign(
     rel: u8,
     words: &Setting<'_>,
 ) -> Result<Assign, LineError>
-    ensures { Gives rule_in (λ a. a) result (assign_of cat.now rel words.now) }
+    ensures { GivesReading rule_in (λ a. a) result (assign_of cat.now rel words.now) }
 {
     let found = read_column(cat, &[Some(rel)], &words.left)?;
     must(
@@ -77,7 +77,7 @@ fn read_assigns(
     rel: u8,
     words: &mut Settings<'_>,
 ) -> Result<Vec<Assign>, LineError>
-    ensures { Gives rule_in (λ v. v.items) result
+    ensures { GivesReading rule_in (λ v. v.items) result
         (few MAX_ASSIGNMENTS (along (λ i s. assign_of cat.now rel s) 0 words.old)) }
 {
     let mut sets = Vec::new(alloc);
@@ -95,7 +95,7 @@ fn read_update_of(
     sets: &mut Settings<'_>,
     words: &mut Comparisons<'_>,
 ) -> Result<Stmt, LineError>
-    ensures { Gives rule_in (λ s. s) result (short (update_over cat.now rel sets.old words.old)) }
+    ensures { GivesReading rule_in (λ s. s) result (short (update_over cat.now rel sets.old words.old)) }
 {
     let assigns = read_assigns(alloc, cat, rel, sets)?;
     let conds = read_conditions(alloc, cat, &[Some(rel)], words)?;
@@ -114,7 +114,7 @@ fn read_update_parts(
     sets: &mut Settings<'_>,
     words: &mut Comparisons<'_>,
 ) -> Result<Stmt, LineError>
-    ensures { Gives rule_in (λ s. s) result
+    ensures { GivesReading rule_in (λ s. s) result
         (short (update_of_parts cat.now name.now sets.old words.old)) }
 {
     let rel = known(WorkRule::UnknownName, part_of(cat, name))?;
@@ -128,7 +128,7 @@ fn read_update_form(
     sets: &mut Settings<'_>,
     rest: Tokens<'_>,
 ) -> Result<Stmt, LineError>
-    ensures { Gives rule_in (λ s. s) result
+    ensures { GivesReading rule_in (λ s. s) result
         (short (update_with cat.now name.now sets.old rest.entry)) }
 {
     match read_comparisons(rest) {
@@ -144,7 +144,7 @@ fn read_update_behind_set(
     sets: Tokens<'_>,
     rest: Tokens<'_>,
 ) -> Result<Stmt, LineError>
-    ensures { Gives rule_in (λ s. s) result
+    ensures { GivesReading rule_in (λ s. s) result
         (short (update_behind_set cat.now name.now sets.entry rest.entry)) }
 {
     must(WorkRule::BadLine, stands_free(name) && sets.has_words())?;
@@ -160,7 +160,7 @@ fn read_update_to(
     name: &Token<'_>,
     words: &Tokens<'_>,
 ) -> Result<Stmt, LineError>
-    ensures { Gives rule_in (λ s. s) result (short (update_to cat.now name.now words.now)) }
+    ensures { GivesReading rule_in (λ s. s) result (short (update_to cat.now name.now words.now)) }
 {
     let (sets, rest) = words.split_from(b"where");
     read_update_behind_set(alloc, cat, name, sets, rest)
@@ -173,7 +173,7 @@ pub fn read_update(
     cat: &Catalogue,
     words: &mut Tokens<'_>,
 ) -> Result<Stmt, LineError>
-    ensures { Gives rule_in (λ s. s) result (short (update_of cat.now words.old)) }
+    ensures { GivesReading rule_in (λ s. s) result (short (update_of cat.now words.old)) }
 {
     match words.two() {
         Some((name, key)) => {

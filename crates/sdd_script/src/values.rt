@@ -3,7 +3,7 @@ ghost use Rattle.std.specs.Prelude.{◌≡◌, length, IfOk, Some, None};
 ghost use Rattle.sdd_words.specs.Texts.{text_in};
 ghost use Rattle.sdd_words.specs.Words.{Quoted};
 ghost use Rattle.sdd_script.specs.Naming.{kind_of_place};
-ghost use Rattle.sdd_lang.specs.All.{Gives};
+ghost use Rattle.sdd_lang.specs.All.{GivesReading};
 ghost use Rattle.sdd_script.specs.Few.{few, few_of, few_row};
 ghost use Rattle.sdd_script.specs.Rules.{rule_in};
 ghost use Rattle.sdd_script.specs.Values.{is_of_kind, value_of, values_of, row_of};
@@ -40,7 +40,7 @@ fn read_text(alloc: Global, bytes: &[u8]) -> Result<Option<Text>, NoMemory>
 
 /// The value that a word is, of the kind, or of any where there is none.
 pub fn read_value(alloc: Global, kind: Option<Kind>, word: &Token<'_>) -> Result<Value, LineError>
-    ensures { Gives rule_in (λ v. v) result (value_of kind word.now) }
+    ensures { GivesReading rule_in (λ v. v) result (value_of kind word.now) }
 {
     match word.plain() {
         Some(bytes) => {
@@ -64,7 +64,7 @@ fn value_at(
     place: usize,
     word: &Token<'_>,
 ) -> Result<Value, LineError>
-    ensures { Gives rule_in (λ v. v) result (value_of (kind_of_place columns.now place) word.now) }
+    ensures { GivesReading rule_in (λ v. v) result (value_of (kind_of_place columns.now place) word.now) }
 {
     read_value(alloc, kind_of_place(columns, place), word)
 }
@@ -76,7 +76,7 @@ fn read_values(
     columns: &[Column],
     words: &mut Tokens<'_>,
 ) -> Result<Vec<Value>, LineError>
-    ensures { Gives rule_in (λ v. v.items) result
+    ensures { GivesReading rule_in (λ v. v.items) result
         (few (length columns.now) (values_of columns.now words.old)) }
 {
     let mut values = Vec::new(alloc);
@@ -94,7 +94,7 @@ fn read_row_of(
     rel: RelNo,
     words: &mut Tokens<'_>,
 ) -> Result<(RelNo, Row), LineError>
-    ensures { Gives rule_in (λ r. r) result (few_row columns.now rel words.old) }
+    ensures { GivesReading rule_in (λ r. r) result (few_row columns.now rel words.old) }
 {
     let row = read_values(alloc, columns, words)?;
     must(WorkRule::WrongKind, row.len() == columns.len())?;
@@ -108,7 +108,7 @@ fn read_few(
     name: &Token<'_>,
     words: &mut Tokens<'_>,
 ) -> Result<(RelNo, Row), LineError>
-    ensures { Gives rule_in (λ r. r) result (few_of cat.now name.now words.old) }
+    ensures { GivesReading rule_in (λ r. r) result (few_of cat.now name.now words.old) }
 {
     let rel = known(WorkRule::UnknownName, relation_of(cat, name))?;
     read_row_of(alloc, columns_of(cat, rel), RelNo(rel), words)
@@ -122,7 +122,7 @@ pub fn read_row(
     name: &Token<'_>,
     words: &mut Tokens<'_>,
 ) -> Result<(RelNo, Row), LineError>
-    ensures { Gives rule_in (λ r. r) result (row_of cat.now name.now words.old) }
+    ensures { GivesReading rule_in (λ r. r) result (row_of cat.now name.now words.old) }
 {
     read_few(alloc, cat, name, words)
 }

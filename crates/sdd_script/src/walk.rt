@@ -1,6 +1,6 @@
 //! The lines of a workload, one after the other.
 ghost use Rattle.std.specs.Prelude.{◌≡◌, ◌≤◌, ◌^◌, length, IfOk};
-ghost use Rattle.sdd_lang.specs.All.{Gives};
+ghost use Rattle.sdd_lang.specs.All.{GivesReading};
 ghost use Rattle.sdd_script.specs.Rules.{rule_in};
 ghost use Rattle.sdd_script.specs.Telling.{Tells};
 ghost use Rattle.sdd_script.specs.Valid.{Accepts};
@@ -19,7 +19,7 @@ use sdd_words::{next_line, text_of};
 use std::alloc::Global;
 
 fn read_one(alloc: Global, cat: &Catalogue, state: &mut State, line: &[u8]) -> Result<(), LineError>
-    ensures { Gives rule_in (λ _. state.new) result (one_line cat.now state.old line.now) }
+    ensures { GivesReading rule_in (λ _. state.new) result (one_line cat.now state.old line.now) }
 {
     must(WorkRule::BadLine, !state.place.is_ended())?;
     read_line(alloc, cat, state, line)
@@ -27,7 +27,7 @@ fn read_one(alloc: Global, cat: &Catalogue, state: &mut State, line: &[u8]) -> R
 
 /// What stands after the last newline.
 fn check_tail(state: &State, tail: &[u8]) -> Result<(), LineError>
-    ensures { Gives rule_in (λ _. state.now) result (tail_rules state.now tail.now) }
+    ensures { GivesReading rule_in (λ _. state.now) result (tail_rules state.now tail.now) }
 {
     match tail {
         [] => must(WorkRule::NoEnd, state.place.is_ended()),

@@ -1,5 +1,5 @@
 -- What is shipped after any number of reductions serves the database.
-use Rattle.sdd_serving.proofs.All.{AllByRecursion, AreEnough, AreEnoughAlong, Catalogue, Condition, Database, Fits, FitsCondition, FitsStatement, Has, Has-left, Has-right, IsFrom1To, IsHeldAt, IsRowOf, List, Put, Query, Ref, RelNo, Row, Same, Serves, Space, Stmt, Txn, Use, [], all_held, all_rows, arith, inl, inr, length, length-statement_uses, list_all, meets, part_of, part_uses, parts_meet, recursion_from_All, refl, statement_uses, subst, sym, true, uses_from, uses_in, uses_of, ℕ, ◌+◌, ◌-◌, ◌∷◌, ◌≡◌}
+use Rattle.sdd_serving.proofs.All.{AllByRecursion, AreEnough, AreEnoughAlong, Catalogue, Condition, Database, FitsCondition, FitsStatement, FitsTxn, Has, Has-left, Has-right, IsFrom1To, IsHeldAt, IsRowOf, List, Put, Query, Ref, RelNo, Row, Same, Serves, Space, Stmt, Txn, Use, [], all_held, all_rows, arith, inl, inr, length, length-statement_uses, list_all, meets, part_of, part_uses, parts_meet, recursion_from_All, refl, statement_uses, subst, sym, true, uses_from, uses_in, uses_of, ℕ, ◌+◌, ◌-◌, ◌∷◌, ◌≡◌}
 use Rattle.sdd_serving.proofs.Held.{shipped_held, held_shipped, use_row, row_of_use}
 use Rattle.sdd_serving.proofs.Keeps.{Leads, HoldEnough, HoldEnoughAlong, HasParts, all_keep, all_were}
 use Rattle.sdd_serving.proofs.Uses.{one_use, HasPart, parts_there}
@@ -83,7 +83,7 @@ shipped_along db ds last before [] h = tt
 shipped_along db ds last before (s ∷ rest) h = (shipped_enough db ds last before s h.0, shipped_along db ds last (before + uses_in s) rest h.1)
 
 -- the rows that are shipped serve the database
-pub serves : (cat : Catalogue) (txn : Txn) (db : Database) (ds : List ℕ) (first last : Space) → Fits cat txn
+pub serves : (cat : Catalogue) (txn : Txn) (db : Database) (ds : List ℕ) (first last : Space) → FitsTxn cat txn
     → Begins cat txn db ds first → Leads ds txn.statements first last → Serves cat txn (all_held ds last) db
 serves cat txn db ds first last fits begins leads =
     record {

@@ -1,5 +1,5 @@
 -- What the modules freeze are rows of the database, and each row that a use wants is frozen somewhere.
-use Rattle.sdd_serving.proofs.All.{All-contains, Catalogue, Condition, Contains, Contains-filter, Contains-from_filter, Contains-from_map, Contains-map, Contains-nil, CopyRows, Database, Decides-eqb, Delete, Fits, FragNo, Has, Has-append, Has-filter, Has-filter_from, Has-filter_map, Has-filter_map_from, Has-flat_map, Has-flat_map_from, Has-map, Has-map_from, HasCopies, IsEntry, IsHeldAt, IsRowOf, IsSound, Item, List, None, Put, Query, RelNo, Row, Some, Stmt, Txn, Update, Use, [], all_rows, allowed_keys, and_parts, ap, chosen, cond, contains, entries_of, exact_signed, false, filter, flat_map, fold, frag_no, fragment_at, fragment_of, fragments_for, frozen_space, gathered_from, gathered_there, inl, inr, int_cmp, int_cmp_total, is_read_at, item_cmp, item_cmp_exact, item_cmp_total, key_column, length, list_all, map, meets, meets_keys, numbers_to, one_entry, part_uses, refl, restrictions_of, rows_for, rows_in_fragment, sorted_nil, statement_uses, subst, sym, true, use_of, use_there, uses_at, uses_from, uses_of, with_frags, with_keyed, ℕ, ℤ, ◌+◌, ◌==◌, ◌||◌, ◌∙◌, ◌∷◌, ◌≡◌}
+use Rattle.sdd_serving.proofs.All.{All-contains, Catalogue, Condition, Contains, Contains-filter, Contains-from_filter, Contains-from_map, Contains-map, Contains-nil, CopyRows, Database, Decides-eqb, Delete, FitsTxn, FragNo, Has, Has-append, Has-filter, Has-filter_from, Has-filter_map, Has-filter_map_from, Has-flat_map, Has-flat_map_from, Has-map, Has-map_from, HasCopies, IsEntry, IsHeldAt, IsRowOf, IsSoundCatalogue, Item, List, None, Put, Query, RelNo, Row, Some, Stmt, Txn, Update, Use, [], all_rows, allowed_keys, and_parts, ap, chosen, cond, contains, entries_of, exact_signed, false, filter, flat_map, fold, frag_no, fragment_at, fragment_of, fragments_for, frozen_space, gathered_from, gathered_there, inl, inr, int_cmp, int_cmp_total, is_read_at, item_cmp, item_cmp_exact, item_cmp_total, key_column, length, list_all, map, meets, meets_keys, numbers_to, one_entry, part_uses, refl, restrictions_of, rows_for, rows_in_fragment, sorted_nil, statement_uses, subst, sym, true, use_of, use_there, uses_at, uses_from, uses_of, with_frags, with_keyed, ℕ, ℤ, ◌+◌, ◌==◌, ◌||◌, ◌∙◌, ◌∷◌, ◌≡◌}
 use Rattle.sdd_serving.proofs.Enough.{Begins}
 use Rattle.sdd_serving.proofs.Held.{has_row, row_there}
 use Rattle.sdd_serving.proofs.Lies.{lies_in_fragment}
@@ -96,7 +96,7 @@ row_of db rel e h r =
 abbrev entry : Catalogue → ℕ → ℤ × Row → Item × Row
 entry cat f e = (((fragment_at cat f).rel.0, e.0), e.1)
 
-module _ (cat : Catalogue) (sound : IsSound cat) (c : ℕ) (txn : Txn) (fits : Fits cat txn) (ds : List ℕ)
+module _ (cat : Catalogue) (sound : IsSoundCatalogue cat) (c : ℕ) (txn : Txn) (fits : FitsTxn cat txn) (ds : List ℕ)
     (copies : ℕ → CopyRows) (db : Database) (ok : HasCopies cat c txn ds copies db) where
   -- a row of a copy is one of the database
   copied : (d f : ℕ) (e : ℤ × Row) → rows_in_fragment cat db f ≡ entries_of cat f (copies d f) → Contains (copies d f) e → Contains db (entry cat f e)

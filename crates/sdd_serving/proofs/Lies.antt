@@ -1,8 +1,8 @@
 -- An entry that meets the restrictions of a use lies in one of its fragments.
-use Rattle.sdd_serving.proofs.All.{AllByRecursion, Catalogue, Condition, Decides-eqb, Delete, Fits, FitsCondition, FitsStatement, Has, IsEntry, IsRelation, IsSound, Item, List, Put, Query, RelNo, Row, Stmt, Txn, Update, Use, [], ap, arith, contains, fragment_of, get_or_default, inl, inr, length, lies_in_use, list_all, map, meets, part_uses, recursion_from_All, rel_of, slice_index_or as get_or, statement_uses, subst, suc, true, uses_from, uses_in, uses_of, ℕ, ◌+◌, ◌-◌, ◌<◌, ◌∷◌, ◌≡◌}
+use Rattle.sdd_serving.proofs.All.{AllByRecursion, Catalogue, Condition, Decides-eqb, Delete, FitsCondition, FitsStatement, FitsTxn, Has, IsEntry, IsRelation, IsSoundCatalogue, Item, List, Put, Query, RelNo, Row, Stmt, Txn, Update, Use, [], ap, arith, contains, fragment_of, get_or_default, inl, inr, length, lies_in_use, list_all, map, meets, part_uses, recursion_from_All, rel_of, slice_index_or as get_or, statement_uses, subst, suc, true, uses_from, uses_in, uses_of, ℕ, ◌+◌, ◌-◌, ◌<◌, ◌∷◌, ◌≡◌}
 use Rattle.sdd_serving.proofs.Uses.{uses_split}
 
-module _ (cat : Catalogue) (sound : IsSound cat) (e : Item × Row) (entry : IsEntry cat e) where
+module _ (cat : Catalogue) (sound : IsSoundCatalogue cat) (e : Item × Row) (entry : IsEntry cat e) where
   abbrev pub Lies : Use → Type 0
   Lies u = e.0.0 ≡ u.rel.0 → list_all (meets e.1) u.restrictions ≡ true → contains (map (λ f. f.0) u.frags) (fragment_of cat e.0.0 e.0.1) ≡ true
 
@@ -47,5 +47,5 @@ module _ (cat : Catalogue) (sound : IsSound cat) (e : Item × Row) (entry : IsEn
   statements_lie before (s ∷ rest) fits u h =
       elim (uses_split cat before s rest u h) [ inl here ↦ statement_lies before s fits.0 u here | inr there ↦ statements_lie (before + uses_in s) rest fits.1 u there ]
 
-  pub lies_in_fragment : (txn : Txn) → Fits cat txn → (u : Use) → Has (uses_of cat txn) u → Lies u
+  pub lies_in_fragment : (txn : Txn) → FitsTxn cat txn → (u : Use) → Has (uses_of cat txn) u → Lies u
   lies_in_fragment txn fits u h = statements_lie 0 txn.statements (recursion_from_All (FitsStatement cat) txn.statements fits.statements) u h

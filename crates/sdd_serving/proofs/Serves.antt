@@ -1,5 +1,5 @@
 -- The whole exchange: from the copies at the modules' Answers to rows that serve the database which has them.
-use Rattle.sdd_serving.proofs.All.{Catalogue, CopyRows, Database, Decides-eqb, Fits, Has, Has-map_from, HasCopies, IsSound, List, Row, Runs, Serves, Space, Stage, Txn, Use, [], all_held, all_rows, ap, asked_at, chosen_for, effect, effect_over, false, found_for, frozen_space, inl, inr, names_use, refl, rows_for, served_effect, true, uses_at, ℕ, ◌==◌, ◌||◌, ◌∙◌, ◌∷◌, ◌≡◌}
+use Rattle.sdd_serving.proofs.All.{Catalogue, CopyRows, Database, Decides-eqb, FitsTxn, Has, Has-map_from, HasCopies, IsSoundCatalogue, List, Row, Runs, Serves, Space, Stage, Txn, Use, [], all_held, all_rows, ap, asked_at, chosen_for, effect, effect_over, false, found_for, frozen_space, inl, inr, names_use, refl, rows_for, served_effect, true, uses_at, ℕ, ◌==◌, ◌||◌, ◌∙◌, ◌∷◌, ◌≡◌}
 use Rattle.sdd_serving.proofs.Enough.{serves}
 use Rattle.sdd_serving.proofs.Freezing.{begins}
 use Rattle.sdd_serving.proofs.Held.{Kept, has_row}
@@ -20,7 +20,7 @@ frozen_asked cat c txn ts copies d n row h =
     let w = Has-map_from (λ (u : Use). (u.number, rows_for (copies d) u)) (uses_at cat c txn d) k.entry k.there in
     some_number (uses_at cat c txn d) w.0 n w.1 (ap (λ (z : Kept). z.0) w.2 ∙ k.number)
 
-module _ (cat : Catalogue) (sound : IsSound cat) (c : ℕ) (txn : Txn) (fits : Fits cat txn) (ts : ℕ) (ds : List ℕ)
+module _ (cat : Catalogue) (sound : IsSoundCatalogue cat) (c : ℕ) (txn : Txn) (fits : FitsTxn cat txn) (ts : ℕ) (ds : List ℕ)
     (copies : ℕ → CopyRows) (db : Database) (ok : HasCopies cat c txn ds copies db)
     (space : Space) (stage : Stage)
     (runs : Runs ds txn.statements (asked_at cat c txn) (frozen_space cat c txn ts copies) space stage) where

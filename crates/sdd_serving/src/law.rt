@@ -3,7 +3,7 @@
 ghost use Rattle.std.specs.Prelude.{ℕ, ◌≡◌, ◌≢◌, Bool, List, map};
 ghost use Rattle.sdd_laws.specs.protocol.declared.entry.Entry as table_line;
 ghost use Rattle.sdd_laws.specs.lang.declared.statement.Stmt as statement;
-ghost use Rattle.sdd_laws.specs.All.{CopyRows, Database, Fits, Row, effect, effect_over, reduced, uses_of};
+ghost use Rattle.sdd_laws.specs.All.{CopyRows, Database, FitsTxn, Row, effect, effect_over, reduced, uses_of};
 ghost use Rattle.sdd_attempt.specs.All.{Exchange, Has, Move, Queued, Reducing, Serves, Shipped, after_hand, after_send, begins, chosen_for, found_for, read_to};
 ghost use Rattle.sdd_attempt.specs.wire.declared.msg.Msg as message;
 ghost use Rattle.sdd_serving.specs.Following.{Follows, Suits};
@@ -17,7 +17,7 @@ use sdd_laws::sdd_lang::Txn;
 /// What the modules of an attempt hold serves the database that has the copies which they froze,
 /// however far a run of the exchange has come.
 pub fn law_exchange_serves(cat: &Catalogue, txn: &Txn)
-    requires { Fits cat.now txn.now }
+    requires { FitsTxn cat.now txn.now }
     ensures { (c ts : ℕ) (ds : List ℕ) (copies : ℕ → CopyRows) (db : Database) (space : Space) (stage : Stage)
         → HasCopies cat.now c txn.now ds copies db
         → Runs ds txn.now.statements (asked_at cat.now c txn.now)
@@ -29,7 +29,7 @@ pub fn law_exchange_serves(cat: &Catalogue, txn: &Txn)
 
 /// So what the transaction does to that database follows from the rows that are held.
 pub fn law_shipped_effect(cat: &Catalogue, txn: &Txn)
-    requires { Fits cat.now txn.now }
+    requires { FitsTxn cat.now txn.now }
     ensures { (c ts : ℕ) (ds : List ℕ) (copies : ℕ → CopyRows) (db : Database) (space : Space) (stage : Stage)
         → HasCopies cat.now c txn.now ds copies db
         → Runs ds txn.now.statements (asked_at cat.now c txn.now)

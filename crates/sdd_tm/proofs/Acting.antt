@@ -1,5 +1,5 @@
 -- A class that has a step makes the act that is due, and the module keeps what follows from the log.
-use Rattle.sdd_tm.proofs.All.{Act, AllByRecursion, AllUpTo, Answer, Attempt, Bases, Bool, ClassState, Commit, D, Did, InTurn, IsAmid, IsCalm, IsLineOf, IsOfHead, IsRequest, IsServed, IsSound, IsWaiting, List, Log, Msg, NoReads, None, Notes, Null, Option, Queued, Send, Sends, Setting, Some, Start, State, Step, Ticking, ToCommit, ToSend, act_of, active, active_after, active_apart, all_starts, all_up_of, answer_time, answer_to, ap, arith, asking_of, asks, asks_apart, asks_done, asks_of, begins, can_answer, class_no, class_of, class_step, class_view, clock, commit_act, commit_next, commit_no_reads, commits, current_era, dm_no, false, false≢true, filter, find, handed, hands, has_to_send, head_of, holds, holds_acted, is_empty, is_none, line_after, line_apart, line_committed, line_elsewhere, line_sent, line_started, line_step, list_any, map, next, no_read_asked, not, noted, on_hold, option_map, own_record, queue, queue_after, record_in, refl, request_of, runs, send_due, send_next, sends_of_act, sent, served_sent, slice_get, slice_set, stamped_did, start_act, start_due, start_is_up, start_next, start_no_reads, started, starts_committed, starts_left, starts_sent, starts_started, state_done, state_of, submits, subst, suc, sym, ticked, ticked_by, time_at, timestamp, tried, true, view_of, with_act, ℕ, ◌&&◌, ◌+◌, ◌<◌, ◌==◌, ◌^◌, ◌∙◌, ◌∷◌, ◌≡◌, ◌≢◌, ◌≤◌}
+use Rattle.sdd_tm.proofs.All.{Act, AllByRecursion, AllUpTo, Answer, Attempt, Bases, Bool, ClassState, Commit, D, Did, InTurn, IsAmid, IsCalm, IsLineOf, IsOfHead, IsRequest, IsServed, IsSoundLog, IsWaiting, List, Log, Msg, NoReads, None, Notes, Null, Option, Queued, Send, Sends, Setting, Some, Start, State, Step, Ticking, ToCommit, ToSend, act_of, active, active_after, active_apart, all_starts, all_up_of, answer_time, answer_to, ap, arith, asking_of, asks, asks_apart, asks_done, asks_of, begins, can_answer, class_no, class_of, class_step, class_view, clock, commit_act, commit_next, commit_no_reads, commits, current_era, dm_no, false, false≢true, filter, find, handed, hands, has_to_send, head_of, holds, holds_acted, is_empty, is_none, line_after, line_apart, line_committed, line_elsewhere, line_sent, line_started, line_step, list_any, map, next, no_read_asked, not, noted, on_hold, option_map, own_record, queue, queue_after, record_in, refl, request_of, runs, send_due, send_next, sends_of_act, sent, served_sent, slice_get, slice_set, stamped_did, start_act, start_due, start_is_up, start_next, start_no_reads, started, starts_committed, starts_left, starts_sent, starts_started, state_done, state_of, submits, subst, suc, sym, ticked, ticked_by, time_at, timestamp, tried, true, view_of, with_act, ℕ, ◌&&◌, ◌+◌, ◌<◌, ◌==◌, ◌^◌, ◌∙◌, ◌∷◌, ◌≡◌, ◌≢◌, ◌≤◌}
 use Rattle.sdd_tm.proofs.Lists.{some_is, get_map, of_map, by_order}
 use Rattle.sdd_tm.proofs.ClassNumbers.{runs_apart, runs_class}
 use Rattle.sdd_tm.proofs.OpenAsks.{open_did, first_answered}
@@ -48,7 +48,7 @@ amid_after : (s : Setting) (bases : Bases) (log : Log) (place c : ℕ) (step : S
     → act_of bases (state_of s log).era.table (state_of s log).clock (class_of s log c) step ≡ Some made
     → state_of s (Did act ∷ log) ≡ with_class place (ticked_by made (clock s.site log))
     (class_made step made (class_of s log c)) (state_of s log)
-    → IsSound s (Did act ∷ log) → ((i d : ℕ) → slice_get (runs s) i ≡ Some d → IsServed s.catalogue bases (active s d (Did act ∷ log)))
+    → IsSoundLog s (Did act ∷ log) → ((i d : ℕ) → slice_get (runs s) i ≡ Some d → IsServed s.catalogue bases (active s d (Did act ∷ log)))
     → (ticked_by made (clock s.site log)).ticks + starts_left (line_after made (class_of s log c).line).active
     (line_after made (class_of s log c).line).queue ≤ (clock s.site log).ticks + starts_left (active s c log) (queue s c log)
     → IsAmid s bases (state_done bases place (class_of s log c) step (state_of s log)) (Did act ∷ log)
@@ -68,8 +68,8 @@ amid_after s bases log place c step act made amid e makes after sound served les
 
 -- a message of an exchange
 
-sends_sound : (s : Setting) (log : Log) (place c : ℕ) (a : Attempt) (act : Act) → IsSound s log
-    → slice_get (runs s) place ≡ Some c → active s c log ≡ Some a → send_due a.exchange ≡ Some act → IsRequest c a act → IsSound s (Did act ∷ log)
+sends_sound : (s : Setting) (log : Log) (place c : ℕ) (a : Attempt) (act : Act) → IsSoundLog s log
+    → slice_get (runs s) place ≡ Some c → active s c log ≡ Some a → send_due a.exchange ≡ Some act → IsRequest c a act → IsSoundLog s (Did act ∷ log)
 sends_sound s log place c a act sound e is send request =
     let others : (i d : ℕ) → slice_get (runs s) i ≡ Some d → i ≢ place → IsLineOf s d (Did act ∷ log) = λ i d f apart.
     rw request.act_is (line_apart s d log (D (dm_no request.to)) request.msg None

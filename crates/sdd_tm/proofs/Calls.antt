@@ -1,5 +1,5 @@
 -- What a call of a transaction module does, of every log for which the module stands.
-use Rattle.sdd_tm.proofs.All.{AreSettled, Bases, Catalogue, ClassState, Does, DoesMore, Entry, Era, Fits, FitsSubmit, Handed, IsAmid, IsCalm, IsEraOf, IsKept, IsLineOf, IsTrue, IsWhole, Kept, List, Log, Msg, None, Notes, Places, Rec, Redeclared, RelNo, Represents, Row, Setting, Site, Some, State, Submit, Submits, T, Ticked, TmNo, Txn, TxnNo, Works, [], all_noted, ap, arith, at_zero, bound_of, class_for, class_given, class_handed, class_of, class_step, classes_of, clock, current_era, does_from, false, first_class, first_state, fits, held_of, length, length-map, line_redeclared, line_ticked, map, next, noted, nothing_noted, one_place, place_of, pushed, records_of, refl, runs, slice_get, stamped_still, state_given, state_handed, state_of, subst, suc, sym, ticked, told, touched, zero, ℕ, ◌<◌, ◌^◌, ◌∙◌, ◌∷◌, ◌≡◌}
+use Rattle.sdd_tm.proofs.All.{AreSettled, Bases, Catalogue, ClassState, Does, DoesMore, Entry, Era, FitsSubmit, FitsTxn, Handed, IsAmid, IsCalm, IsEraOf, IsKept, IsLineOf, IsTrue, IsWhole, Kept, List, Log, Msg, None, Notes, Places, Rec, Redeclared, RelNo, Represents, Row, Setting, Site, Some, State, Submit, Submits, T, Ticked, TmNo, Txn, TxnNo, Works, [], all_noted, ap, arith, at_zero, bound_of, class_for, class_given, class_handed, class_of, class_step, classes_of, clock, current_era, does_from, false, first_class, first_state, fits, held_of, length, length-map, line_redeclared, line_ticked, map, next, noted, nothing_noted, one_place, place_of, pushed, records_of, refl, runs, slice_get, stamped_still, state_given, state_handed, state_of, subst, suc, sym, ticked, told, touched, zero, ℕ, ◌<◌, ◌^◌, ◌∙◌, ◌∷◌, ◌≡◌}
 use Rattle.sdd_tm.proofs.Lists.{some_is}
 use Rattle.sdd_tm.proofs.Handing.{amid_handed}
 use Rattle.sdd_tm.proofs.Taking.{few_kept, apart_kept, fits_now}
@@ -86,7 +86,7 @@ pub class_in_era : (k : Kept State) (s : Setting) (log : Log) (txn : Txn) (class
 class_in_era k s log txn class st e = e ∙ sym (ap (λ (x : State). class_for x.era.catalogue txn) st.state_is)
 
 pub fits_here : (k : Kept State) (s : Setting) (bases : Bases) (log : Log) (n : ℕ) (txn : Txn) → Represents k s log
-    → FitsSubmit s bases log n txn → Fits k.value.era.catalogue txn
+    → FitsSubmit s bases log n txn → FitsTxn k.value.era.catalogue txn
 fits_here k s bases log n txn st f = fits_now s bases log k.value n txn (kept_of k s log st) f
 
 -- its class in the catalogue in force
@@ -173,7 +173,7 @@ first_is s whole era tm e f =
     ap (λ x. state_of x (Redeclared era 0 ∷ [])) is ∙ first_at whole era tm s.rows
 
 pub new_represents : (k : Kept State) (whole : Catalogue) (era : Era) (tm : TmNo) → IsTrue k.live
-    → k.value ≡ first_state whole era tm.0 → catalogues.IsSound whole → IsWhole whole → IsEraOf whole era.catalogue
+    → k.value ≡ first_state whole era tm.0 → catalogues.IsSoundCatalogue whole → IsWhole whole → IsEraOf whole era.catalogue
     → (s : Setting) → s.catalogue ≡ whole → s.site ≡ T tm → Represents k s (Redeclared era 0 ∷ [])
 new_represents k whole era tm live is valid counts of_whole s e f =
     let log : Log = Redeclared era 0 ∷ [] in

@@ -1,5 +1,5 @@
 -- A transaction that is given to the module goes to the queue of its class.
-use Rattle.sdd_tm.proofs.All.{AreSettled, Bases, Bool, Catalogue, FitsSubmit, IsAmid, IsSettingOf, IsSound, List, Log, Setting, State, Submits, Txn, [], active, all_starts, and_parts, ap, arith, ascending, class_at, class_for, class_given, class_of, cond, covers, current_era, eqb-true, false, filter, fragments_in, head_of, if◌then◌else◌, is_for, is_some, length, line_submitted, list_all, map, map_map, nat_tests, ne_eqb, numbers_to, queue, read_in_era, read_set, reads_at, refl, resting, runs, stamped_still, state_given, state_of, subst, sym, true, unwrap_or, uses_in_era, write_set, writes, ℕ, ◌&&◌, ◌++◌, ◌+◌, ◌<◌, ◌==◌, ◌^◌, ◌||◌, ◌∙◌, ◌∷◌, ◌≡◌, ◌≤◌}
+use Rattle.sdd_tm.proofs.All.{AreSettled, Bases, Bool, Catalogue, FitsSubmit, IsAmid, IsSettingOf, IsSoundLog, List, Log, Setting, State, Submits, Txn, [], active, all_starts, and_parts, ap, arith, ascending, class_at, class_for, class_given, class_of, cond, covers, current_era, eqb-true, false, filter, fragments_in, head_of, if◌then◌else◌, is_for, is_some, length, line_submitted, list_all, map, map_map, nat_tests, ne_eqb, numbers_to, queue, read_in_era, read_set, reads_at, refl, resting, runs, stamped_still, state_given, state_of, subst, sym, true, unwrap_or, uses_in_era, write_set, writes, ℕ, ◌&&◌, ◌++◌, ◌+◌, ◌<◌, ◌==◌, ◌^◌, ◌||◌, ◌∙◌, ◌∷◌, ◌≡◌, ◌≤◌}
 use Rattle.sdd_tm.proofs.Lists.{map_same}
 use Rattle.sdd_tm.proofs.ClassNumbers.{runs_class}
 use Rattle.sdd_tm.proofs.Handing.{has_room, settled_of}
@@ -79,7 +79,7 @@ state_given_kept s log n txn =
 -- what holds of the log
 
 pub sound_given : (s : Setting) (bases : Bases) (log : Log) (n : ℕ) (txn : Txn) → n < 2 ^ 32 → IsSettingOf s log
-    → FitsSubmit s bases log n txn → IsSound s log → IsSound s (Submits n txn ∷ log)
+    → FitsSubmit s bases log n txn → IsSoundLog s log → IsSoundLog s (Submits n txn ∷ log)
 sound_given s bases log n txn small setting f sound = record {
   lines = λ i c e. line_submitted s c log n txn f.fresh small f.fitting (class_covers s log txn c setting (runs_class s i c e).0) (sound.lines i c e);
   stamped = stamped_still s log (Submits n txn) refl sound.stamped;
@@ -88,10 +88,10 @@ sound_given s bases log n txn small setting f sound = record {
 }
 
 pub amid_given : (s : Setting) (bases : Bases) (log : Log) (n : ℕ) (txn : Txn) → n < 2 ^ 32 → IsSettingOf s log
-    → IsSound s log → AreSettled (state_of s log) → FitsSubmit s bases log n txn
+    → IsSoundLog s log → AreSettled (state_of s log) → FitsSubmit s bases log n txn
     → IsAmid s bases (state_given (class_for (current_era s log).catalogue txn) n txn (state_of s log)) (Submits n txn ∷ log)
 amid_given s bases log n txn small setting sound settled f =
-    let now : IsSound s (Submits n txn ∷ log) = sound_given s bases log n txn small setting f sound in
+    let now : IsSoundLog s (Submits n txn ∷ log) = sound_given s bases log n txn small setting f sound in
     let is = state_given_kept s log n txn in
     let same : IsSettingOf s (Submits n txn ∷ log) =
     record { valid = setting.valid; whole = setting.whole; era = setting.era } in

@@ -1,5 +1,5 @@
 -- A message that is handed: the module keeps what follows from the log, and only what the message touches may have a step.
-use Rattle.sdd_tm.proofs.All.{AreSettled, Ask, Asked, Attempt, AwaitsAt, Bases, Bool, ClassNo, ClassState, D, Exchange, FitsAnswer, Handed, Held, Hold, HoldCounts, InTurn, IsAmid, IsAwaited, IsSettingOf, IsSound, List, Log, MAX_CLASSES, Msg, None, Option, Phase, Question, Ready, Reduced, Reject, Release, Rows, Setting, Site, Some, State, Values, [], active, active_handed, after_hand, all_starts, and_right, ap, arith, ask_handed, asked, asks, asks_handed, asks_of, class_at, class_handed, class_named, class_of, clock, cond, false, fetches_use, filter, fits, fits_kind, hands, hold_handed, holds, holds_handed, if◌then◌else◌, le-ltb, length, length_range, line_handed, line_step, lt-ltb, ltb-false, ltb-true, map, map_map, nat_lt, ne_eqb, number_of, numbers_to, on_hold, owed_handed, pushed_by, refl, rejects, resting, runs, served_handed, shorter, slice_get, stamped_still, state_handed, state_of, subst, suc, sym, true, view_of, ℕ, ◌&&◌, ◌++◌, ◌+◌, ◌<◌, ◌==◌, ◌^◌, ◌∙◌, ◌∷◌, ◌≡◌, ◌≢◌, ◌≤◌}
+use Rattle.sdd_tm.proofs.All.{AreSettled, Ask, Asked, Attempt, AwaitsAt, Bases, Bool, ClassNo, ClassState, D, Exchange, FitsAnswer, Handed, Held, Hold, HoldCounts, InTurn, IsAmid, IsAwaited, IsSettingOf, IsSoundLog, List, Log, MAX_CLASSES, Msg, None, Option, Phase, Question, Ready, Reduced, Reject, Release, Rows, Setting, Site, Some, State, Values, [], active, active_handed, after_hand, all_starts, and_right, ap, arith, ask_handed, asked, asks, asks_handed, asks_of, class_at, class_handed, class_named, class_of, clock, cond, false, fetches_use, filter, fits, fits_kind, hands, hold_handed, holds, holds_handed, if◌then◌else◌, le-ltb, length, length_range, line_handed, line_step, lt-ltb, ltb-false, ltb-true, map, map_map, nat_lt, ne_eqb, number_of, numbers_to, on_hold, owed_handed, pushed_by, refl, rejects, resting, runs, served_handed, shorter, slice_get, stamped_still, state_handed, state_of, subst, suc, sym, true, view_of, ℕ, ◌&&◌, ◌++◌, ◌+◌, ◌<◌, ◌==◌, ◌^◌, ◌∙◌, ◌∷◌, ◌≡◌, ◌≢◌, ◌≤◌}
 use Rattle.sdd_tm.proofs.Lists.{get_map, map_same}
 use Rattle.sdd_tm.proofs.OpenAsks.{open_handed}
 use Rattle.sdd_tm.proofs.Dues.{own_none, none_parts}
@@ -106,7 +106,7 @@ turns_kept s bases log from (Release ts) f turns =
 turns_kept s bases log from _ f turns = record { released = turns.released; answered = turns.answered; one = turns.one }
 
 pub sound_handed : (s : Setting) (bases : Bases) (log : Log) (from : Site) (m : Msg) → fits_kind s bases log from m
-    → IsSound s log → IsSound s (Handed from m ∷ log)
+    → IsSoundLog s log → IsSoundLog s (Handed from m ∷ log)
 sound_handed s bases log from m f sound = record {
   lines = λ i c e. line_handed s bases c log from m (answer_fits s bases log from m f) (sound.lines i c e);
   stamped = stamped_still s log (Handed from m) refl sound.stamped;
@@ -135,7 +135,7 @@ few_runs s log setting =
     let n = length_range 1 (length s.catalogue.classes) in
     omega arith
 
-pub has_room : (s : Setting) (log : Log) → IsSettingOf s log → IsSound s log → (clock s.site log).ticks < 2 ^ 56
+pub has_room : (s : Setting) (log : Log) → IsSettingOf s log → IsSoundLog s log → (clock s.site log).ticks < 2 ^ 56
     → (clock s.site log).ticks + all_starts (state_of s log).classes + 1 < 2 ^ 57
 has_room s log setting sound low =
     let few = few_starts s log (runs s) sound.lines in
@@ -145,9 +145,9 @@ has_room s log setting sound low =
 -- the module within the call
 
 pub amid_handed : (s : Setting) (bases : Bases) (log : Log) (from : Site) (m : Msg) → IsSettingOf s log
-    → IsSound s log → AreSettled (state_of s log) → fits s bases log from m → IsAmid s bases (state_handed from m (state_of s log)) (Handed from m ∷ log)
+    → IsSoundLog s log → AreSettled (state_of s log) → fits s bases log from m → IsAmid s bases (state_handed from m (state_of s log)) (Handed from m ∷ log)
 amid_handed s bases log from m setting sound settled f =
-    let now : IsSound s (Handed from m ∷ log) = sound_handed s bases log from m f.1 sound in
+    let now : IsSoundLog s (Handed from m ∷ log) = sound_handed s bases log from m f.1 sound in
     let is = state_kept s log from m sound.turns in
     record {
       setting = record { valid = setting.valid; whole = setting.whole; era = setting.era };

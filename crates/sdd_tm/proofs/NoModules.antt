@@ -1,6 +1,6 @@
 -- An attempt that reads at no module needs no rows: no row of a database meets the restrictions of one of its uses.
-use Rattle.sdd_tm.proofs.All.{AllByRecursion, AreEnough, AreEnoughAlong, Bases, Catalogue, Condition, Database, Delete, Fits, FitsCondition, FitsStatement, FragNo, Has, Has-filter_map_from, Has-flat_map_from, Has-map_from, IsDatabase, IsEntry, IsRelation, IsServed, IsWaiting, Item, List, Msg, None, Option, Put, Query, Queued, RelNo, Row, Serves, Site, Some, Stmt, Ticking, Tuple, Txn, Update, Use, [], all_parts, and_parts, arith, ascending, ascending_back, cond, cond-false, cons_option, contains, each_has, false, false≢true, filter_map, first_phase, fragment_of, fragments_for, fragments_in, is_over, is_some, length, length-statement_uses, lies_in_use, list_all, map, meets_restrictions, module_read, modules_of, ne_eqb, numbers_to, part_of, parts_meet, product, read_set, reads_at, recursion_from_All, refl, rel_of, restrictions_of, rows_of, sends_of_act, start_act, start_modules, started, statement_uses, subst, sym, ticked, timestamp, true, uses_from, uses_in, uses_of, ℕ, ◌++◌, ◌+◌, ◌==◌, ◌∙◌, ◌∷◌, ◌≡◌, ◌≤◌}
-use Rattle.sdd_attempt.specs.All.{IsSound}
+use Rattle.sdd_tm.proofs.All.{AllByRecursion, AreEnough, AreEnoughAlong, Bases, Catalogue, Condition, Database, Delete, FitsCondition, FitsStatement, FitsTxn, FragNo, Has, Has-filter_map_from, Has-flat_map_from, Has-map_from, IsDatabase, IsEntry, IsRelation, IsServed, IsWaiting, Item, List, Msg, None, Option, Put, Query, Queued, RelNo, Row, Serves, Site, Some, Stmt, Ticking, Tuple, Txn, Update, Use, [], all_parts, and_parts, arith, ascending, ascending_back, cond, cond-false, cons_option, contains, each_has, false, false≢true, filter_map, first_phase, fragment_of, fragments_for, fragments_in, is_over, is_some, length, length-statement_uses, lies_in_use, list_all, map, meets_restrictions, module_read, modules_of, ne_eqb, numbers_to, part_of, parts_meet, product, read_set, reads_at, recursion_from_All, refl, rel_of, restrictions_of, rows_of, sends_of_act, start_act, start_modules, started, statement_uses, subst, sym, ticked, timestamp, true, uses_from, uses_in, uses_of, ℕ, ◌++◌, ◌+◌, ◌==◌, ◌∙◌, ◌∷◌, ◌≡◌, ◌≤◌}
+use Rattle.sdd_attempt.specs.All.{IsSoundCatalogue}
 use Rattle.sdd_attempt.specs.protocol.declared.entry.Entry as line
 
 -- no row of the database
@@ -15,7 +15,7 @@ entry_of db rel row h =
       | false ↦ λ q k. absurd cc
     ] refl m.2
 
-no_row : (cat : Catalogue) → IsSound cat → (db : Database) → IsDatabase cat db
+no_row : (cat : Catalogue) → IsSoundCatalogue cat → (db : Database) → IsDatabase cat db
     → (rels : List RelNo) (part : ℕ) (conds : List Condition) (rel : ℕ) → rel_of rels part ≡ rel
     → IsRelation cat rel → AllByRecursion (FitsCondition cat rels) conds
     → fragments_for cat rel (restrictions_of part conds) ≡ [] → (row : Row) → Has (rows_of db rel) row → meets_restrictions conds part row ≡ true → ⊥
@@ -37,7 +37,7 @@ first_of_product rows rest tuple h =
     let n = Has-map_from (λ (t : Tuple). m.0 ∷ t) (product rest) tuple m.2 in
     subst (λ (t : Tuple). Has rows (part_of t 1)) n.2 m.1
 
-enough : (cat : Catalogue) → IsSound cat → (db : Database) → IsDatabase cat db → (before : ℕ) (s : Stmt)
+enough : (cat : Catalogue) → IsSoundCatalogue cat → (db : Database) → IsDatabase cat db → (before : ℕ) (s : Stmt)
     → FitsStatement cat s → NoFragments (statement_uses cat before s) → AreEnough db [] before s
 enough cat sound db is before (Put rel row) fits none = tt
 enough cat sound db is before (Query out [] conds) fits none = λ tuple h met part within. let low : 1 ≤ part =
@@ -54,7 +54,7 @@ enough cat sound db is before (Delete rel conds) fits none = λ row of.
     absurd (no_row cat sound db is (rel ∷ []) 1 conds rel.0 refl fits.0
     (recursion_from_All (FitsCondition cat (rel ∷ [])) conds fits.1.1) none.0 row of.0 of.1)
 
-enough_along : (cat : Catalogue) → IsSound cat → (db : Database) → IsDatabase cat db
+enough_along : (cat : Catalogue) → IsSoundCatalogue cat → (db : Database) → IsDatabase cat db
     → (before : ℕ) (statements : List Stmt) → AllByRecursion (FitsStatement cat) statements
     → NoFragments (uses_from cat before statements) → AreEnoughAlong db [] before statements
 enough_along cat sound db is before [] fits none = tt
@@ -65,7 +65,7 @@ enough_along cat sound db is before (s ∷ rest) fits none =
     subst (λ n. NoFragments (uses_from cat (before + n) rest)) (length-statement_uses cat before s) parts.1 in
     (enough cat sound db is before s fits.0 parts.0, enough_along cat sound db is (before + uses_in s) rest fits.1 later)
 
-nothing_serves : (cat : Catalogue) → IsSound cat → (txn : Txn) → Fits cat txn → (db : Database) → IsDatabase cat db
+nothing_serves : (cat : Catalogue) → IsSoundCatalogue cat → (txn : Txn) → FitsTxn cat txn → (db : Database) → IsDatabase cat db
     → NoFragments (uses_of cat txn) → Serves cat txn [] db
 nothing_serves cat sound txn fits db is none = record {
   named = λ s h. absurd h;
@@ -119,7 +119,7 @@ over_without [] e = refl
 over_without (m ∷ ms) e = absurd (false≢true e)
 
 pub start_served : (cat : Catalogue) (table : List line.Entry) (bases : Bases) (c : ℕ) (given : List ℕ)
-    (k : Ticking) (q : Queued) → IsSound cat → ((ts : ℕ) → IsDatabase cat (bases ts)) → 1 ≤ c
+    (k : Ticking) (q : Queued) → IsSoundCatalogue cat → ((ts : ℕ) → IsDatabase cat (bases ts)) → 1 ≤ c
     → IsWaiting cat c given q → IsServed cat bases (started (timestamp (ticked k 1)) (sends_of_act (start_act cat table c k q)) (Some q))
 start_served cat table bases c given k q sound databases low waiting = λ over.
     let sends : List (Site × Msg) = sends_of_act (start_act cat table c k q) in

@@ -1,5 +1,5 @@
 -- One class among the parts of a module takes a message, or a transaction.
-use Rattle.sdd_tm.proofs.All.{AreApart, Ask, Bases, ClassNo, ClassState, Fits, FitsSubmit, Held, IsAwaited, IsKept, List, Log, Msg, None, Queued, Reject, Release, Setting, Site, Some, State, Txn, [], ap, arith, class_given, class_handed, class_named, class_of, contains, current_era, eq-eqb, false, fits_in_era, fits_kind, heeded, length, length-map, map, new_in_queue, place_of, push_of, refl, runs, slice_get, slice_index_or, slice_set, state_given, state_handed, state_of, subst, sym, ℕ, ◌++◌, ◌/◌, ◌<◌, ◌^◌, ◌∙◌, ◌∷◌, ◌≡◌, ◌≢◌}
+use Rattle.sdd_tm.proofs.All.{AreApart, Ask, Bases, ClassNo, ClassState, FitsSubmit, FitsTxn, Held, IsAwaited, IsKept, List, Log, Msg, None, Queued, Reject, Release, Setting, Site, Some, State, Txn, [], ap, arith, class_given, class_handed, class_named, class_of, contains, current_era, eq-eqb, false, fits_in_era, fits_kind, heeded, length, length-map, map, new_in_queue, place_of, push_of, refl, runs, slice_get, slice_index_or, slice_set, state_given, state_handed, state_of, subst, sym, ℕ, ◌++◌, ◌/◌, ◌<◌, ◌^◌, ◌∙◌, ◌∷◌, ◌≡◌, ◌≢◌}
 use Rattle.sdd_tm.proofs.Lists.{some_is, of_map, map_same, get_within}
 use Rattle.sdd_tm.proofs.ClassPlaces.{somewhere, named_nowhere, named_alone, classes_apart}
 use Rattle.sdd_tm.proofs.Handing.{handed_other, is_awaited, few_runs}
@@ -87,14 +87,14 @@ given_somewhere st c n txn place run new e apart lent is =
 
 pub given_fits : (s : Setting) (bases : Bases) (log : Log) (state : State) (c n : ℕ) (txn : Txn) (place : ℕ)
     (run : ClassState) → IsKept s log state → FitsSubmit s bases log n txn → Some place ≡ place_of state.classes c
-    → run ≡ slice_index_or state.classes place run → Fits run.line.catalogue txn × (contains (map (λ (q : Queued). q.number) run.line.queue) n ≡ false)
+    → run ≡ slice_index_or state.classes place run → FitsTxn run.line.catalogue txn × (contains (map (λ (q : Queued). q.number) run.line.queue) n ≡ false)
 given_fits s bases log state c n txn place run kept f e lent =
     let at = somewhere state.classes c place (sym e) in
     let same : run ≡ at.class = lent_is state.classes place at.class run at.there lent in
     let r = of_map (class_of s log) (runs s) place at.class
     (subst (λ (st : State). slice_get st.classes place ≡ Some at.class) (sym kept.state_is) at.there) in
     let whole = r.2 ∙ sym same in (
-      subst (λ (x : ClassState). Fits x.line.catalogue txn) whole f.fitting,
+      subst (λ (x : ClassState). FitsTxn x.line.catalogue txn) whole f.fitting,
       subst (λ (x : ClassState). contains (map (λ (q : Queued). q.number) x.line.queue) n ≡ false) whole
           (new_in_queue s log r.0 n (kept.sound.lines place r.0 r.1) f.fresh),
     )
@@ -104,7 +104,7 @@ given_there state c place e = let at = somewhere state.classes c place (sym e) i
 
 -- a transaction that fits the setting's catalogue fits that in force
 pub fits_now : (s : Setting) (bases : Bases) (log : Log) (state : State) (n : ℕ) (txn : Txn)
-    → IsKept s log state → FitsSubmit s bases log n txn → Fits state.era.catalogue txn
+    → IsKept s log state → FitsSubmit s bases log n txn → FitsTxn state.era.catalogue txn
 fits_now s bases log state n txn kept f =
-    subst (λ cat. Fits cat txn) (ap (λ (st : State). st.era.catalogue) kept.state_is)
+    subst (λ cat. FitsTxn cat txn) (ap (λ (st : State). st.era.catalogue) kept.state_is)
     (fits_in_era s.catalogue (current_era s log).catalogue kept.setting.era txn f.fitting)

@@ -27,7 +27,7 @@ pub record InTurn (h : HoldCounts) : Type 0 where
   pub answered : h.helds ≤ h.holds
   pub one : h.holds ≤ suc h.releases
 
-pub record IsSound (s : Setting) (log : Log) : Type 0 where
+pub record IsSoundLog (s : Setting) (log : Log) : Type 0 where
   pub lines : (place c : ℕ) → slice_get (runs s) place ≡ Some c → IsLineOf s c log
   pub stamped : AreStamped s log
   pub unanswered : AreOpen log
@@ -35,14 +35,14 @@ pub record IsSound (s : Setting) (log : Log) : Type 0 where
 
 -- the setting: its catalogue is one of valid parts, and that in force is the one of an era of it
 pub record IsSettingOf (s : Setting) (log : Log) : Type 0 where
-  pub valid : catalogues.IsSound s.catalogue
+  pub valid : catalogues.IsSoundCatalogue s.catalogue
   pub whole : IsWhole s.catalogue
   pub era : IsEraOf s.catalogue (current_era s log).catalogue
 
 -- what the module keeps follows from the log
 pub record IsKept (s : Setting) (log : Log) (state : State) : Type 0 where
   pub setting : IsSettingOf s log
-  pub sound : IsSound s log
+  pub sound : IsSoundLog s log
   pub state_is : state_of s log ≡ state
 
 -- between calls
@@ -55,7 +55,7 @@ AreSettled state = (place : ℕ) (k : ClassState) → slice_get state.classes pl
 pub record Represents (k : Kept State) (s : Setting) (log : Log) : Type 0 where
   pub live : IsTrue k.live
   pub setting : IsSettingOf s log
-  pub sound : IsSound s log
+  pub sound : IsSoundLog s log
   pub state_is : state_of s log ≡ k.value
   pub settled : AreSettled k.value
   pub told : held_of k.value ≡ None
@@ -71,7 +71,7 @@ all_starts (k ∷ classes) = starts_left k.line.active k.line.queue + all_starts
 -- its database, and the clock has room for all that may start.
 pub record IsAmid (s : Setting) (bases : Bases) (state : State) (log : Log) : Type 0 where
   pub setting : IsSettingOf s log
-  pub sound : IsSound s log
+  pub sound : IsSoundLog s log
   pub state_is : state_of s log ≡ state
   pub databases : (ts : ℕ) → IsDatabase s.catalogue (bases ts)
   pub served : (place c : ℕ) → slice_get (runs s) place ≡ Some c → IsServed s.catalogue bases (active s c log)

@@ -1,6 +1,6 @@
 ghost use Rattle.std.specs.Prelude.{◌≡◌, ◌≢◌, ◌≤◌, ◌<◌, ◌+◌, ◌^◌, ◌++◌, ◌∷◌, ℕ, [], map, length, false, IfOk, OnOk, IsTrue, Some, None, option_map};
 ghost use Rattle.std.specs.List.{list_any, find, position};
-ghost use Rattle.sdd_attempt.specs.All.{AreTried, Bases, Fits, IsAwaited, IsDatabase, Queued, ServesAt, clock_done, contains, noted, standing_of};
+ghost use Rattle.sdd_attempt.specs.All.{AreTried, Bases, FitsTxn, IsAwaited, IsDatabase, Queued, ServesAt, clock_done, contains, noted, standing_of};
 ghost use Rattle.sdd_tm.specs.Handing.{class_handed};
 ghost use Rattle.sdd_tm.specs.Steps.{is_idle, answers, can_answer, time_by, answer_to, class_step, act_of, class_done, without_first};
 ghost use Rattle.sdd_tm.specs.Works.{first_class, classes_of};
@@ -172,7 +172,7 @@ impl<'a> ClassRun<'a> {
 
     /// Puts a transaction at the end of the queue.
     pub(crate) fn submit(&mut self, number: TxnNo, text: &Txn) -> Result<(), NoMemory>
-        requires fits { Fits self.old.line.catalogue text.now }
+        requires fits { FitsTxn self.old.line.catalogue text.now }
         requires fresh { contains (map (λ (q : Queued). q.number) self.old.line.queue) number.0 ≡ false }
         ensures { OnOk result (self.new ≡ record self.old {
           line = record self.old.line {

@@ -1,6 +1,6 @@
 ghost use Rattle.std.specs.Prelude.{◌≡◌, ◌≤◌, ◌<◌, ◌+◌, ◌/◌, ◌^◌, ℕ, map, length, slice_get, ◌==◌, IfOk, IfSome, OnOk, Some, None};
 ghost use Rattle.std.specs.List.{list_all};
-ghost use Rattle.sdd_attempt.specs.All.{AreTried, Bases, IsAwaited, IsDatabase, Fits, Log, ServesAt, Setting, bound_of, class_for, noted, nothing_noted, pushed, standing_among, ticked};
+ghost use Rattle.sdd_attempt.specs.All.{AreTried, Bases, IsAwaited, IsDatabase, FitsTxn, Log, ServesAt, Setting, bound_of, class_for, noted, nothing_noted, pushed, standing_among, ticked};
 ghost use Rattle.sdd_tm.specs.Fits.{fits, FitsSubmit};
 ghost use Rattle.sdd_tm.specs.Handing.{push_of, heeded, class_handed, state_handed, state_given, class_named, place_of, one_place, all_places, touched};
 ghost use Rattle.sdd_tm.specs.State.{ClassState};
@@ -269,7 +269,7 @@ impl<'a> Parts<'a> {
 
     /// The class in which a transaction runs by the list in force.
     pub(crate) fn class_for(&self, txn: &Txn) -> ClassNo
-        requires { Fits self.now.era.catalogue txn.now }
+        requires { FitsTxn self.now.era.catalogue txn.now }
         ensures { result.0 ≡ class_for self.now.era.catalogue txn.now }
     {
         class_for(self.catalogue, txn)

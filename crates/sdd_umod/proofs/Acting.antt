@@ -1,5 +1,5 @@
 -- The module's next step is the act that is due, and then it keeps what follows from the log.
-use Rattle.sdd_umod.proofs.All.{Act, AllUpTo, AreStarted, Attempt, Bases, Bool, Commit, Did, Hold, IsAmid, IsOfHead, IsServed, IsSound, IsWhole, List, Log, Msg, NoReads, None, Notes, Option, Queued, Release, Send, Sends, Setting, Site, Some, Start, State, Step, T, Ticking, TmCounts, ToCommit, ToSend, [], act_of, active, active_after, active_sent, after_send, all_up_of, ap, arith, ascending, asking_of, asks_rows, begins, clock, commit_act, commit_next, commit_no_reads, commits, counts, eqb-true, false, false≢true, filter, filter_map, find, first_phase, fragments_in, handed, has_to_send, head_is_untried, head_of, hold_step, if◌then◌else◌, is_free, is_kept_on_hold, is_over, last_served, line_apart, line_committed, line_of, line_sent, line_started, line_step, ltb-true, map, may_start, module_read, modules_of, next, no_read_asked, not, noted, numbers_to, option_map, queue, queue_after, range_with_len, refl, release_step, request_of, running, send_next, sends_of_act, sent, served_sent, stamped_did, start_act, start_is_up, start_modules, start_next, start_step, started, starts_committed, starts_left, starts_sent, starts_started, state_done, state_of, step_of, subst, suc, sym, ticked, time_at, timestamp, tm_of, tried, true, uses_of, with_act, zero, ℕ, ◌&&◌, ◌+◌, ◌<◌, ◌==◌, ◌^◌, ◌∙◌, ◌∷◌, ◌≡◌, ◌≤◌}
+use Rattle.sdd_umod.proofs.All.{Act, AllUpTo, AreStarted, Attempt, Bases, Bool, Commit, Did, Hold, IsAmid, IsOfHead, IsServed, IsSoundLog, IsWhole, List, Log, Msg, NoReads, None, Notes, Option, Queued, Release, Send, Sends, Setting, Site, Some, Start, State, Step, T, Ticking, TmCounts, ToCommit, ToSend, [], act_of, active, active_after, active_sent, after_send, all_up_of, ap, arith, ascending, asking_of, asks_rows, begins, clock, commit_act, commit_next, commit_no_reads, commits, counts, eqb-true, false, false≢true, filter, filter_map, find, first_phase, fragments_in, handed, has_to_send, head_is_untried, head_of, hold_step, if◌then◌else◌, is_free, is_kept_on_hold, is_over, last_served, line_apart, line_committed, line_of, line_sent, line_started, line_step, ltb-true, map, may_start, module_read, modules_of, next, no_read_asked, not, noted, numbers_to, option_map, queue, queue_after, range_with_len, refl, release_step, request_of, running, send_next, sends_of_act, sent, served_sent, stamped_did, start_act, start_is_up, start_modules, start_next, start_step, started, starts_committed, starts_left, starts_sent, starts_started, state_done, state_of, step_of, subst, suc, sym, ticked, time_at, timestamp, tm_of, tried, true, uses_of, with_act, zero, ℕ, ◌&&◌, ◌+◌, ◌<◌, ◌==◌, ◌^◌, ◌∙◌, ◌∷◌, ◌≡◌, ◌≤◌}
 use Rattle.sdd_umod.proofs.Lists.{found_in_map}
 use Rattle.sdd_umod.proofs.Dues.{IsStep, sends, commits_now, releases, starts, holds, step_is, attempt_is_due, release_is_due, start_comes, hold_comes}
 use Rattle.sdd_umod.proofs.AfterActs.{after_request, after_commit, after_start, after_release, after_hold, release_apart, hold_apart}
@@ -16,7 +16,7 @@ pub record Makes (s : Setting) (bases : Bases) (log : Log) (step : Step) (state 
 -- the parts of what holds after an act
 
 amid_after : (s : Setting) (bases : Bases) (log : Log) (step : Step) (act : Act) → IsAmid s bases (state_of s log) log
-    → IsSound s (Did act ∷ log) → state_of s (Did act ∷ log) ≡ state_done bases step (state_of s log) → IsServed s.catalogue bases (active s 0 (Did act ∷ log))
+    → IsSoundLog s (Did act ∷ log) → state_of s (Did act ∷ log) ≡ state_done bases step (state_of s log) → IsServed s.catalogue bases (active s 0 (Did act ∷ log))
     → (clock s.site (Did act ∷ log)).ticks + starts_left (active s 0 (Did act ∷ log)) (queue s 0 (Did act ∷ log))
     ≤ (clock s.site log).ticks + starts_left (active s 0 log) (queue s 0 log)
     → IsAmid s bases (state_done bases step (state_of s log)) (Did act ∷ log)

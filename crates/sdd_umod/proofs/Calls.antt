@@ -91,7 +91,7 @@ first_is s cat e f =
     ap (λ x. record s { catalogue = x }) e ∙ ap (λ x. record { catalogue = cat; site = x; rows = s.rows }) f in
     ap (λ x. state_of x []) is ∙ first_at cat s.rows
 
-pub new_represents : (k : Kept State) (cat : Catalogue) → IsTrue k.live → k.value ≡ first_state cat → catalogues.IsSound cat → IsWhole cat
+pub new_represents : (k : Kept State) (cat : Catalogue) → IsTrue k.live → k.value ≡ first_state cat → catalogues.IsSoundCatalogue cat → IsWhole cat
     → (s : Setting) → s.catalogue ≡ cat → s.site ≡ U → Represents k s []
 new_represents k cat live is valid whole s e f =
     let state : state_of s [] ≡ k.value = first_is s cat e f ∙ sym is in

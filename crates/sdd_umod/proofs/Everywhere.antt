@@ -1,6 +1,6 @@
 -- Undeclared transactions read every fragment somewhere: each one has a copy.
 use Rattle.sdd_umod.proofs.All.{AllByRecursion, Bool, Catalogue, DmNo, Fragment, FragmentPart, IsPlaced, IsThere, List, Parts, Some, Txn, [], and_from, ap, arith, at_number, both_empty, catalogue_of, cond, dm_no, each_image, each_unfound, empty_of_map, eq-eqb, false, false≢true, find, fragment_at, fragment_from, fragment_rules, has_copy, is_some, length, length-map, list_all, list_any, lowest_copy, no_faults, or_left, parts_of, range_with_len, read_set, read_set_there, reads_at, recursion_from_All, refl, relation_names, sound_fragments, subst, suc, sym, true, unbroken, zero, ℕ, ◌+◌, ◌<◌, ◌==◌, ◌∙◌, ◌∷◌, ◌≡◌, ◌≢◌, ◌≤◌}
-use Rattle.sdd_attempt.specs.All.{IsSound}
+use Rattle.sdd_attempt.specs.All.{IsSoundCatalogue}
 
 -- each fragment has a copy
 
@@ -16,7 +16,7 @@ copied_part parts before f e =
 copied_from : (relations : List (List ℕ)) (f : FragmentPart) → (length f.copies == 0) ≡ false → IsCopied (fragment_from relations f)
 copied_from relations f e = subst (λ n. (n == 0) ≡ false) (sym (length-map f.copies dm_no)) e
 
-all_copied : (cat : Catalogue) → IsSound cat → AllByRecursion IsCopied cat.fragments
+all_copied : (cat : Catalogue) → IsSoundCatalogue cat → AllByRecursion IsCopied cat.fragments
 all_copied cat sound =
     let parts : Parts = parts_of cat in
     let none = no_faults parts sound.valid in
@@ -47,7 +47,7 @@ found_of cat f (d ∷ rest) is some within =
     found_within (λ dm. has_copy cat dm f) 1 cat.dms d.0 low (omega arith)
     (ap (λ ds. list_any (λ (x : DmNo). x.0 == d.0) ds) is ∙ or_left (d.0 == d.0) (list_any (λ (x : DmNo). x.0 == d.0) rest) (eq-eqb d.0 d.0 refl))
 
-somewhere : (cat : Catalogue) (f : ℕ) → IsSound cat → IsThere cat f → is_some (lowest_copy cat f) ≡ true
+somewhere : (cat : Catalogue) (f : ℕ) → IsSoundCatalogue cat → IsThere cat f → is_some (lowest_copy cat f) ≡ true
 somewhere cat f sound there =
     let placed : IsPlaced (length cat.relations) cat.dms (fragment_at cat f) =
     at_number (IsPlaced (length cat.relations) cat.dms) cat.fragments f _ (sound_fragments cat sound) there.0 there.1 in
@@ -55,10 +55,10 @@ somewhere cat f sound there =
     found_of cat f (fragment_at cat f).copies refl copied
     (recursion_from_All (λ (d : DmNo). (1 ≤ d.0) × (d.0 ≤ cat.dms)) (fragment_at cat f).copies placed.copies)
 
-all_somewhere : (cat : Catalogue) (fs : List ℕ) → IsSound cat → AllByRecursion (IsThere cat) fs → list_all (λ f. is_some (reads_at cat 0 f)) fs ≡ true
+all_somewhere : (cat : Catalogue) (fs : List ℕ) → IsSoundCatalogue cat → AllByRecursion (IsThere cat) fs → list_all (λ f. is_some (reads_at cat 0 f)) fs ≡ true
 all_somewhere cat [] sound all = refl
 all_somewhere cat (f ∷ fs) sound all =
     and_from (is_some (lowest_copy cat f)) (list_all (λ f. is_some (reads_at cat 0 f)) fs) (somewhere cat f sound all.0) (all_somewhere cat fs sound all.1)
 
-pub reads_all : (cat : Catalogue) (txn : Txn) → IsSound cat → list_all (λ f. is_some (reads_at cat 0 f)) (read_set cat txn) ≡ true
+pub reads_all : (cat : Catalogue) (txn : Txn) → IsSoundCatalogue cat → list_all (λ f. is_some (reads_at cat 0 f)) (read_set cat txn) ≡ true
 reads_all cat txn sound = all_somewhere cat (read_set cat txn) sound (recursion_from_All (IsThere cat) (read_set cat txn) (read_set_there cat txn))

@@ -1,5 +1,5 @@
 -- A transaction that is given to the module goes to the end of its queue.
-use Rattle.sdd_umod.proofs.All.{Bases, Fits, FitsSubmit, IsAmid, IsKept, IsSetting, IsSound, Log, None, Queued, Setting, State, Submits, Txn, active, contains, false, line_submitted, map, new_in_queue, refl, resting, stamped_still, state_given, state_of, step_of, subst, ℕ, ◌<◌, ◌^◌, ◌∷◌, ◌≡◌}
+use Rattle.sdd_umod.proofs.All.{Bases, FitsSubmit, FitsTxn, IsAmid, IsKept, IsSetting, IsSoundLog, Log, None, Queued, Setting, State, Submits, Txn, active, contains, false, line_submitted, map, new_in_queue, refl, resting, stamped_still, state_given, state_of, step_of, subst, ℕ, ◌<◌, ◌^◌, ◌∷◌, ◌≡◌}
 use Rattle.sdd_umod.proofs.Everywhere.{reads_all}
 use Rattle.sdd_umod.proofs.Handing.{has_room, settled_line}
 
@@ -7,7 +7,7 @@ state_given_kept : (s : Setting) (log : Log) (n : ℕ) (txn : Txn) → state_of 
 state_given_kept s log n txn = refl
 
 sound_given : (s : Setting) (bases : Bases) (log : Log) (n : ℕ) (txn : Txn) → n < 2 ^ 32 → IsSetting s
-    → FitsSubmit s bases log n txn → IsSound s log → IsSound s (Submits n txn ∷ log)
+    → FitsSubmit s bases log n txn → IsSoundLog s log → IsSoundLog s (Submits n txn ∷ log)
 sound_given s bases log n txn small setting f sound = record {
   line = line_submitted s 0 log n txn f.fresh small f.fitting (λ e. reads_all s.catalogue txn setting.valid) sound.line;
   stamped = stamped_still s log (Submits n txn) refl sound.stamped;
@@ -16,9 +16,9 @@ sound_given s bases log n txn small setting f sound = record {
 }
 
 pub amid_given : (s : Setting) (bases : Bases) (log : Log) (n : ℕ) (txn : Txn) → n < 2 ^ 32 → IsSetting s
-    → IsSound s log → step_of (state_of s log) ≡ None → FitsSubmit s bases log n txn → IsAmid s bases (state_given n txn (state_of s log)) (Submits n txn ∷ log)
+    → IsSoundLog s log → step_of (state_of s log) ≡ None → FitsSubmit s bases log n txn → IsAmid s bases (state_given n txn (state_of s log)) (Submits n txn ∷ log)
 amid_given s bases log n txn small setting sound settled f =
-    let now : IsSound s (Submits n txn ∷ log) = sound_given s bases log n txn small setting f sound in
+    let now : IsSoundLog s (Submits n txn ∷ log) = sound_given s bases log n txn small setting f sound in
     record {
       setting = setting;
       sound = now;
@@ -30,8 +30,8 @@ amid_given s bases log n txn small setting sound settled f =
 
 -- it fits the line, and is new there
 pub fits_kept : (s : Setting) (bases : Bases) (log : Log) (state : State) (n : ℕ) (txn : Txn) → IsKept s log state → FitsSubmit s bases log n txn
-    → Fits state.line.catalogue txn × (contains (map (λ (q : Queued). q.number) state.line.queue) n ≡ false)
+    → FitsTxn state.line.catalogue txn × (contains (map (λ (q : Queued). q.number) state.line.queue) n ≡ false)
 fits_kept s bases log state n txn kept f = (
-  subst (λ (st : State). Fits st.line.catalogue txn) kept.state_is f.fitting,
+  subst (λ (st : State). FitsTxn st.line.catalogue txn) kept.state_is f.fitting,
   subst (λ (st : State). contains (map (λ (q : Queued). q.number) st.line.queue) n ≡ false) kept.state_is (new_in_queue s log 0 n kept.sound.line f.fresh),
 )

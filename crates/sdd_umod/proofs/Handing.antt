@@ -1,5 +1,5 @@
 -- A message that is handed: the module keeps what follows from the log, and nothing else of it changes.
-use Rattle.sdd_umod.proofs.All.{Ask, Attempt, AwaitsAt, Bases, Bool, D, Done, FitsAnswer, Handed, HaveRoom, Held, InTurn, IsAmid, IsAwaited, IsEarly, IsKept, IsSetting, IsSound, Line, List, Log, Msg, None, Option, Phase, Ready, Reduced, Reject, Rows, Served, Setting, Site, Some, State, T, Ticking, TmCounts, U, Values, active, active_handed, after_hand, ap, arith, as_counted, clock, clock_heeded, counted, counts, counts_handed, counts_heeded, false, fetches_use, few_waiting, fits, fits_kind, if◌then◌else◌, last_served, left_is_few, line_handed, line_of, line_step, map, map_twice, no_sooner_hand, numbers_to, of_line, pushed_by, queue, refl, rejects, resting, running, served_handed, served_heeded, served_now, stamped_still, starts_left, state_handed, state_of, step_of, submits, subst, suc, sym, true, ℕ, ◌+◌, ◌<◌, ◌==◌, ◌^◌, ◌∙◌, ◌∷◌, ◌≡◌, ◌≤◌}
+use Rattle.sdd_umod.proofs.All.{Ask, Attempt, AwaitsAt, Bases, Bool, D, Done, FitsAnswer, Handed, HaveRoom, Held, InTurn, IsAmid, IsAwaited, IsEarly, IsKept, IsSetting, IsSoundLog, Line, List, Log, Msg, None, Option, Phase, Ready, Reduced, Reject, Rows, Served, Setting, Site, Some, State, T, Ticking, TmCounts, U, Values, active, active_handed, after_hand, ap, arith, as_counted, clock, clock_heeded, counted, counts, counts_handed, counts_heeded, false, fetches_use, few_waiting, fits, fits_kind, if◌then◌else◌, last_served, left_is_few, line_handed, line_of, line_step, map, map_twice, no_sooner_hand, numbers_to, of_line, pushed_by, queue, refl, rejects, resting, running, served_handed, served_heeded, served_now, stamped_still, starts_left, state_handed, state_of, step_of, submits, subst, suc, sym, true, ℕ, ◌+◌, ◌<◌, ◌==◌, ◌^◌, ◌∙◌, ◌∷◌, ◌≡◌, ◌≤◌}
 use Rattle.sdd_umod.proofs.Lists.{or_nothing, get_map_of}
 use Rattle.sdd_umod.proofs.Dues.{line_none}
 use Rattle.sdd_umod.proofs.Turns.{tm_told, turn_held}
@@ -85,7 +85,7 @@ running_handed (D d) m (Some a) = running_if (rejects m a.ts 0) (Some (record a 
 running_handed _ m _ = omega arith
 
 pub sound_handed : (s : Setting) (bases : Bases) (log : Log) (from : Site) (m : Msg) → fits_kind s bases log from m
-    → IsSound s log → IsSound s (Handed from m ∷ log)
+    → IsSoundLog s log → IsSoundLog s (Handed from m ∷ log)
 sound_handed s bases log from m f sound =
     let few = sound.started.few in
     let fewer = running_handed from m (active s 0 log) in
@@ -120,7 +120,7 @@ early_push s bases log U (Held time) f = absurd f.1
 early_push s bases log (D d) (Held time) f = absurd f.1
 early_push s bases log from _ f = tt
 
-pub has_room : (s : Setting) (log : Log) → IsSound s log → (clock s.site log).ticks < 2 ^ 56
+pub has_room : (s : Setting) (log : Log) → IsSoundLog s log → (clock s.site log).ticks < 2 ^ 56
     → (clock s.site log).ticks + starts_left (active s 0 log) (queue s 0 log) + 1 < 2 ^ 57
 has_room s log sound low =
     let few = few_waiting s.catalogue 0 (submits log) (queue s 0 log) sound.line.in_queue in
@@ -129,7 +129,7 @@ has_room s log sound low =
 
 -- the counts have room
 
-pub counts_room : (s : Setting) (log : Log) → IsSound s log → (clock s.site log).ticks < 2 ^ 57 → HaveRoom (state_of s log).counts
+pub counts_room : (s : Setting) (log : Log) → IsSoundLog s log → (clock s.site log).ticks < 2 ^ 57 → HaveRoom (state_of s log).counts
 counts_room s log sound low = λ i k e.
     let r = get_map_of (λ t. counts t log) (numbers_to s.catalogue.tms) i k e in
     let turn : InTurn (last_served s log).commits k = subst (InTurn (last_served s log).commits) r.1 (sound.turns r.0) in
@@ -144,10 +144,10 @@ kept_room s log state kept low = subst (λ (st : State). HaveRoom st.counts) kep
 
 -- the module within the call
 
-pub amid_handed : (s : Setting) (bases : Bases) (log : Log) (from : Site) (m : Msg) → IsSetting s → IsSound s log
+pub amid_handed : (s : Setting) (bases : Bases) (log : Log) (from : Site) (m : Msg) → IsSetting s → IsSoundLog s log
     → step_of (state_of s log) ≡ None → fits s bases log from m → IsAmid s bases (state_handed from m (state_of s log)) (Handed from m ∷ log)
 amid_handed s bases log from m setting sound settled f =
-    let now : IsSound s (Handed from m ∷ log) = sound_handed s bases log from m f.1 sound in
+    let now : IsSoundLog s (Handed from m ∷ log) = sound_handed s bases log from m f.1 sound in
     let is = state_kept s bases log from m f.1 in
     record {
       setting = setting;

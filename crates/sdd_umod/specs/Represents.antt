@@ -23,7 +23,7 @@ running (Some a) = 1
 pub record AreStarted (s : Setting) (log : Log) : Type 0 where
   pub few : (last_served s log).commits + running (active s 0 log) ≤ (clock s.site log).ticks
 
-pub record IsSound (s : Setting) (log : Log) : Type 0 where
+pub record IsSoundLog (s : Setting) (log : Log) : Type 0 where
   pub line : IsLineOf s 0 log
   pub stamped : AreStamped s log
   pub turns : (t : ℕ) → InTurn (last_served s log).commits (counts t log)
@@ -31,20 +31,20 @@ pub record IsSound (s : Setting) (log : Log) : Type 0 where
 
 -- the setting: its catalogue is one of valid parts
 pub record IsSetting (s : Setting) : Type 0 where
-  pub valid : catalogues.IsSound s.catalogue
+  pub valid : catalogues.IsSoundCatalogue s.catalogue
   pub whole : IsWhole s.catalogue
 
 -- what the module keeps follows from the log
 pub record IsKept (s : Setting) (log : Log) (state : State) : Type 0 where
   pub setting : IsSetting s
-  pub sound : IsSound s log
+  pub sound : IsSoundLog s log
   pub state_is : state_of s log ≡ state
 
 -- between calls: the module stands for the log, it keeps what follows from the log, and nothing is due
 pub record Represents (k : Kept State) (s : Setting) (log : Log) : Type 0 where
   pub live : IsTrue k.live
   pub setting : IsSetting s
-  pub sound : IsSound s log
+  pub sound : IsSoundLog s log
   pub state_is : state_of s log ≡ k.value
   pub settled : step_of k.value ≡ None
 
@@ -52,7 +52,7 @@ pub record Represents (k : Kept State) (s : Setting) (log : Log) : Type 0 where
 -- its database, and the clock has room for all that may start.
 pub record IsAmid (s : Setting) (bases : Bases) (state : State) (log : Log) : Type 0 where
   pub setting : IsSetting s
-  pub sound : IsSound s log
+  pub sound : IsSoundLog s log
   pub state_is : state_of s log ≡ state
   pub databases : (ts : ℕ) → IsDatabase s.catalogue (bases ts)
   pub served : IsServed s.catalogue bases (active s 0 log)

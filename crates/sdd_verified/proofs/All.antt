@@ -24,7 +24,7 @@ pub use Rattle.sdd_obligations.proofs.laws.serial_orders.InOrder.{each as at_eac
 pub use Rattle.sdd_obligations.proofs.laws.serial_orders.Members.{All-members as all_members}
 pub use Rattle.sdd_obligations.proofs.logs.NewMarks.{lawful_permitted, left_is, marked}
 pub use Rattle.sdd_obligations.proofs.net.Lists.{All-at}
-pub use Rattle.sdd_obligations.specs.All.{AllFewTicks, Answer, Apply, AreSubmittedOnce, Arrive, Call, Catalogue, Change, Class, Commit, Committed, Cond, Condition, D, Delete, Deliver, Does, Down, Effect, Entry, Eras, Event, Fragment, Hand, HasCommit, History, Input, Int, IsCommitted, IsFrom1To, IsLawful, IsOrderable, IsPermitted, IsSerial, IsSound, IsSubmitted, IsTable, KeepsStarts, Log, Lose, MAX_TXNS, Mark, Msg, Notes, Nothing, Pass, Put, Query, Rec, Redeclare, Redeclares, Reject, RelNo, Repeat, Reply, Resend, Round, Row, Settle, Site, Start, Stmt, Submit, Submitted, T, Tick, Ts, Txn, TxnNo, U, Up, Update, Wait, after_mark, all_links, calls_of, class_for, committed, contents, copy_at, database_of, dm_no, due_by, effect, event_at, hand_due, history, in_flight, is_down, item_cmp, left, link, mark_due, mark_from, mark_of, marks, next, next_mark, note_if, nth_era, one_if, or_else, quiet, redeclares, redeclares_in, resends_now, round, run, site_due, submits_by, submits_in, tm_no, txn_no}
+pub use Rattle.sdd_obligations.specs.All.{AllFewTicks, Answer, Apply, AreSubmittedOnce, Arrive, Call, Catalogue, Change, Class, Commit, Committed, Cond, Condition, D, Delete, Deliver, Does, Down, Effect, Entry, Eras, Event, Fragment, Hand, HasCommit, History, Input, Int, IsCommitted, IsFrom1To, IsLawful, IsOrderable, IsPermitted, IsSerial, IsSoundCatalogue, IsSubmitted, IsTable, KeepsStarts, Log, Lose, MAX_TXNS, Mark, Msg, Notes, Nothing, Pass, Put, Query, Rec, Redeclare, Redeclares, Reject, RelNo, Repeat, Reply, Resend, Round, Row, Settle, Site, Start, Stmt, Submit, Submitted, T, Tick, Ts, Txn, TxnNo, U, Up, Update, Wait, after_mark, all_links, calls_of, class_for, committed, contents, copy_at, database_of, dm_no, due_by, effect, event_at, hand_due, history, in_flight, is_down, item_cmp, left, link, mark_due, mark_from, mark_of, marks, next, next_mark, note_if, nth_era, one_if, or_else, quiet, redeclares, redeclares_in, resends_now, round, run, site_due, submits_by, submits_in, tm_no, txn_no}
 pub use Rattle.sdd_obligations.specs.base.Name.{IsName}
 pub use Rattle.sdd_obligations.specs.base.Order.{column, row_cmp}
 pub use Rattle.sdd_obligations.specs.base.Words.{tail_of}
@@ -49,7 +49,7 @@ pub use Rattle.sdd_obligations.specs.laws.Deeds.{txn_at}
 pub use Rattle.sdd_obligations.specs.laws.Eras.{catalogue_at}
 pub use Rattle.sdd_obligations.specs.laws.Ledger.{Ledger, changes}
 pub use Rattle.sdd_obligations.specs.laws.Replay.{IsReplyOf}
-pub use Rattle.sdd_obligations.specs.laws.Replayed.{Gives, IsReplayed}
+pub use Rattle.sdd_obligations.specs.laws.Replayed.{GivesResults, IsReplayed}
 pub use Rattle.sdd_obligations.specs.laws.Snapshots.{dated, dated_at, first_row, first_rows, is_applied}
 pub use Rattle.sdd_obligations.specs.laws.Starts.{IsOfSubmit}
 pub use Rattle.sdd_obligations.specs.logs.Due.{home_of}

@@ -1,12 +1,12 @@
 -- Where a run leaves nothing undone, its summary tells as many committed as there are transactions.
-use Rattle.sdd_verified.proofs.All.{AllCommitted, Catalogue, EndsQuiet, HasCommit, IsFrom1To, IsOrderable, IsSerial, IsSound, IsSummaryOn, IsValid, KeepsStarts, List, NoneIsDown, SettleAll, TellsAllDone, Workload, eras_of, history, input_of, length, marks, named_by_events as named, once, order_of, orderable, quiet_behind, refl, settled, starts, submits_in, subst, summary_of, whole_in, ℕ, ◌≤◌}
+use Rattle.sdd_verified.proofs.All.{AllCommitted, Catalogue, EndsQuiet, HasCommit, IsFrom1To, IsOrderable, IsSerial, IsSoundCatalogue, IsSummaryOn, IsValid, KeepsStarts, List, NoneIsDown, SettleAll, TellsAllDone, Workload, eras_of, history, input_of, length, marks, named_by_events as named, once, order_of, orderable, quiet_behind, refl, settled, starts, submits_in, subst, summary_of, whole_in, ℕ, ◌≤◌}
 use Rattle.sdd_verified.proofs.AllCounted.{all_counted}
 use Rattle.sdd_verified.proofs.EachMarked.{each_submitted}
 use Rattle.sdd_verified.proofs.NoneDown.{are_up, none_down}
 use Rattle.sdd_verified.proofs.Submitting.{is_in_schedule}
 use Rattle.sdd_watch.proofs.run.Ordered.{serial}
 
-module _ (cat : Catalogue) (work : Workload) (text : List ℕ) (sound : IsSound (whole_in cat work)) (valid : IsValid cat work)
+module _ (cat : Catalogue) (work : Workload) (text : List ℕ) (sound : IsSoundCatalogue (whole_in cat work)) (valid : IsValid cat work)
     (all : SettleAll (length work.txns) work.events) (r : IsSummaryOn cat work text) where
   abbrev whole : Catalogue
   whole = whole_in cat work

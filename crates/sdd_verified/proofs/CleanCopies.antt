@@ -1,6 +1,6 @@
 -- What holds of all numbers of 64 bits, and of each value of the rows and transactions that are given, holds of the values in every
 -- copy that a log leaves.
-use Rattle.sdd_verified.proofs.All.{AllByRecursion, AreErasOf, Catalogue, Change, Committed, Contains, Contains-from_filter, Contains-here, Contains-later, Database, Dated, Eras, HasSoundData, Input, Int, IsPermitted, IsReplayed, IsSerial, IsSound, List, Log, None, Option, RelNo, Row, Some, Txn, TxnNo, Value, [], agrees, are_recorded, at_each, committed, cond, cons_option, contents, copy_at, database_of, dated, dated_at, false, filter, filter_map, first_row, first_rows, flat_map, history, if◌then◌else◌, in_range, int_cmp, is_applied, is_eq, keeps_answers, keeps_applies, keeps_starts, keys_in, latest, ledger, listed, map, nat_lt, newer, of_fragment, refl, replayed, row_left, row_with, rows_make_database, tm_no, true, txn_at, unwrap_or, ℕ, ℤ, ◌++◌, ◌==◌, ◌∷◌, ◌≡◌}
+use Rattle.sdd_verified.proofs.All.{AllByRecursion, AreErasOf, Catalogue, Change, Committed, Contains, Contains-from_filter, Contains-here, Contains-later, Database, Dated, Eras, HasSoundData, Input, Int, IsPermitted, IsReplayed, IsSerial, IsSoundCatalogue, List, Log, None, Option, RelNo, Row, Some, Txn, TxnNo, Value, [], agrees, are_recorded, at_each, committed, cond, cons_option, contents, copy_at, database_of, dated, dated_at, false, filter, filter_map, first_row, first_rows, flat_map, history, if◌then◌else◌, in_range, int_cmp, is_applied, is_eq, keeps_answers, keeps_applies, keeps_starts, keys_in, latest, ledger, listed, map, nat_lt, newer, of_fragment, refl, replayed, row_left, row_with, rows_make_database, tm_no, true, txn_at, unwrap_or, ℕ, ℤ, ◌++◌, ◌==◌, ◌∷◌, ◌≡◌}
 use Rattle.sdd_verified.proofs.ValuesKept.{Changes, Hold, Holds, Leaves, Stored, WritesAll, first_holds, given_changes}
 
 module _ (P : Value → Type 0) (ints : (n : ℤ) → in_range n ≡ true → P (Int n)) where
@@ -81,7 +81,7 @@ module _ (P : Value → Type 0) (ints : (n : ℤ) → in_range n ≡ true → P 
       both_left (dated t) (flat_map dated all) (dated_left t.start.ts t.changes (h t (Contains-here t all)))
       (all_dated_left all (λ u there. h u (Contains-later t all u there)))
 
-  module _ (g : Input) (rows : List (RelNo × Row)) (eras : Eras) (log : Log) (sound : IsSound g.catalogue) (fine : HasSoundData g rows)
+  module _ (g : Input) (rows : List (RelNo × Row)) (eras : Eras) (log : Log) (sound : IsSoundCatalogue g.catalogue) (fine : HasSoundData g rows)
       (permitted : IsPermitted g log) (are : AreErasOf g log eras) (order : List TxnNo) (serial : IsSerial g.catalogue (history log) order)
       (rows_hold : AllByRecursion (λ (r : RelNo × Row). Holds P ints r.1) rows)
       (writes : (n : ℕ) (t : Txn) → txn_at g.txns n ≡ Some t → WritesAll P ints t) where

@@ -1,6 +1,6 @@
 -- What holds of all numbers of 64 bits, and of each value that a workload allows, holds of the values in the replies and in
 -- the copies that a report on its run tells.
-use Rattle.sdd_verified.proofs.All.{Add, All, All-at, All-head, All-tail, AllByRecursion, Assign, AssignsValue, Catalogue, Contains, CopyTable, HoldsValues, Input, Int, IsReportOn, IsSound, IsValid, IsValidRow, IsValidTxn, IsValue, List, None, Option, Put, RelNo, Row, Some, Stmt, To, Txn, TxnNo, Update, Value, Workload, [], cons_option, database_of, eras_are, eras_of, fine, history, in_range, input_of, length, lists, permitted, recursion_from_All, refl, run, serial_order, subst, sym, tables_of, told_rows, true, txn_at, whole_in, ℕ, ℤ, ◌-◌, ◌∷◌, ◌≡◌}
+use Rattle.sdd_verified.proofs.All.{Add, All, All-at, All-head, All-tail, AllByRecursion, Assign, AssignsValue, Catalogue, Contains, CopyTable, HoldsValues, Input, Int, IsReportOn, IsSoundCatalogue, IsValid, IsValidRow, IsValidTxn, IsValue, List, None, Option, Put, RelNo, Row, Some, Stmt, To, Txn, TxnNo, Update, Value, Workload, [], cons_option, database_of, eras_are, eras_of, fine, history, in_range, input_of, length, lists, permitted, recursion_from_All, refl, run, serial_order, subst, sym, tables_of, told_rows, true, txn_at, whole_in, ℕ, ℤ, ◌-◌, ◌∷◌, ◌≡◌}
 use Rattle.sdd_verified.proofs.CleanCopies.{copy_holds}
 use Rattle.sdd_verified.proofs.ValuesKept.{Assigns, Answers, Hold, Holds, Writes, WritesAll, first_holds, serial_answers}
 use Rattle.sdd_obligations.specs.laws.Replay.{texts_of}
@@ -38,7 +38,7 @@ module _ (P : Value → Type 0) (ints : (n : ℤ) → in_range n ≡ true → P 
   texts_given txns h [] = tt
   texts_given txns h (n ∷ order) = text_onto (txn_at txns n.0) (texts_of txns order) (λ t e. h n.0 t e) (texts_given txns h order)
 
-  module _ (cat : Catalogue) (work : Workload) (text : List ℕ) (sound : IsSound (whole_in cat work)) (valid : IsValid cat work)
+  module _ (cat : Catalogue) (work : Workload) (text : List ℕ) (sound : IsSoundCatalogue (whole_in cat work)) (valid : IsValid cat work)
       (r : IsReportOn cat work text) where
     abbrev whole : Catalogue
     whole = whole_in cat work

@@ -1,5 +1,5 @@
 -- The run of a workload has a report, or the limit ends it.
-use Rattle.sdd_verified.proofs.All.{AllZip, Catalogue, EndsAtLimit, IsReportOn, IsSound, IsTable, IsValid, List, Workload, [], each_table, eras_in, inl, input_of, inr, once, refl, report_of, report_text, reported, run_ends, whole_sound, ℕ, ◌∷◌, ◌⊎◌}
+use Rattle.sdd_verified.proofs.All.{AllZip, Catalogue, EndsAtLimit, IsReportOn, IsSoundCatalogue, IsTable, IsValid, List, Workload, [], each_table, eras_in, inl, input_of, inr, once, refl, report_of, report_text, reported, run_ends, whole_sound, ℕ, ◌∷◌, ◌⊎◌}
 use Rattle.sdd_obligations.specs.protocol.declared.entry.Entry.{Entry}
 
 -- each catalogue has its protocol table
@@ -10,7 +10,7 @@ tabled (cat ∷ cats) =
     let more = tabled cats in
     (first.0 ∷ more.0, (first.1, more.1))
 
-pub has_report : (cat : Catalogue) (work : Workload) → IsSound cat → IsValid cat work → ((text : List ℕ) × IsReportOn cat work text) ⊎ EndsAtLimit cat work
+pub has_report : (cat : Catalogue) (work : Workload) → IsSoundCatalogue cat → IsValid cat work → ((text : List ℕ) × IsReportOn cat work text) ⊎ EndsAtLimit cat work
 has_report cat work sound valid =
     let all = tabled (eras_in cat work) in
     let ends = run_ends (input_of cat all.0 work) (once work.events valid.submitted) in

@@ -1,5 +1,5 @@
 -- Made input leaves nothing undone: it submits each of its transactions, takes no module down, and ends with a settle.
-use Rattle.sdd_verified.proofs.All.{D, Event, IsSound, IsSummaryOn, List, MAX_TXNS, Settle, SettleAll, T, TellsAllDone, [], ap, append_assoc, arith, arrival, bank, cases_eq, choose, deliveries, delivery, dm_no, draw, drawn_events, drawn_txn, eq-eqb, events_of, false, inl, inr, length, list_any, nat_lt, one_if, refl, shown, submits_in, subst, suc, sym, takes_down, tm_no, turn, turns, turns_of, txns_count, txns_of, whole_sound, workload_of, workload_valid, zero, ℕ, ◌%◌, ◌++◌, ◌+◌, ◌/◌, ◌<◌, ◌==◌, ◌∷◌, ◌≡◌, ◌≤◌}
+use Rattle.sdd_verified.proofs.All.{D, Event, IsSoundCatalogue, IsSummaryOn, List, MAX_TXNS, Settle, SettleAll, T, TellsAllDone, [], ap, append_assoc, arith, arrival, bank, cases_eq, choose, deliveries, delivery, dm_no, draw, drawn_events, drawn_txn, eq-eqb, events_of, false, inl, inr, length, list_any, nat_lt, one_if, refl, shown, submits_in, subst, suc, sym, takes_down, tm_no, turn, turns, turns_of, txns_count, txns_of, whole_sound, workload_of, workload_valid, zero, ℕ, ◌%◌, ◌++◌, ◌+◌, ◌/◌, ◌<◌, ◌==◌, ◌∷◌, ◌≡◌, ◌≤◌}
 use Rattle.sdd_obligations.specs.catalog.Rules.{faults_of}
 use Rattle.sdd_verified.proofs.AllSummed.{all_summed}
 use Rattle.sdd_verified.proofs.Submitting.{submits_append as submits_both}
@@ -57,7 +57,7 @@ made_settles seed n =
       ends = record { before = events_of (turns_of seed n); last = Settle; is = refl; at_rest = tt };
     }
 
-bank_is_sound : IsSound bank
+bank_is_sound : IsSoundCatalogue bank
 unfolding faults_of
 bank_is_sound = record { valid = refl; same = refl }
 

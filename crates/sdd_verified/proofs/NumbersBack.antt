@@ -1,6 +1,6 @@
 -- Names that don't meet give back the transactions, so two reports on the same transactions that have one text tell of the
 -- same ones.
-use Rattle.sdd_verified.proofs.All.{AllByRecursion, AreNamed, Catalogue, Input, IsFrom1To, IsReportOn, IsSound, IsValid, List, Pending, Some, TellOfTheSame, Txn, TxnNo, Workload, [], all_by_member, ap, arith, bytes_eq, false, input_of, length, length-map, listed_submits, map, named_by_events, names_of, once, option_map_or, order_of, pending_names, pending_numbers, place_of_name, position, refl, repeats, report_of, same_Some, slice_get, slice_index_or as get_or, standing_at, standing_at_t, standing_at_u, subst, suc, sym, txn_name, txn_no, whole_in, whole_named, whole_sound, ℕ, ◌-◌, ◌<◌, ◌∙◌, ◌∷◌, ◌≡◌}
+use Rattle.sdd_verified.proofs.All.{AllByRecursion, AreNamed, Catalogue, Input, IsFrom1To, IsReportOn, IsSoundCatalogue, IsValid, List, Pending, Some, TellOfTheSame, Txn, TxnNo, Workload, [], all_by_member, ap, arith, bytes_eq, false, input_of, length, length-map, listed_submits, map, named_by_events, names_of, once, option_map_or, order_of, pending_names, pending_numbers, place_of_name, position, refl, repeats, report_of, same_Some, slice_get, slice_index_or as get_or, standing_at, standing_at_t, standing_at_u, subst, suc, sym, txn_name, txn_no, whole_in, whole_named, whole_sound, ℕ, ◌-◌, ◌<◌, ◌∙◌, ◌∷◌, ◌≡◌}
 use Rattle.sdd_verified.proofs.OneText.{one_text}
 use Rattle.sdd_verified.proofs.PartsBack.{same_first}
 use Rattle.sdd_verified.proofs.Reported.{one_given}
@@ -61,7 +61,7 @@ numbers_there txns (p ∷ left) h = (h.0, numbers_there txns left h.1)
 
 -- the transactions of a report are given
 
-order_there : (cat : Catalogue) (work : Workload) (text : List ℕ) → IsSound (whole_in cat work) → AreNamed (whole_in cat work) → IsValid cat work
+order_there : (cat : Catalogue) (work : Workload) (text : List ℕ) → IsSoundCatalogue (whole_in cat work) → AreNamed (whole_in cat work) → IsValid cat work
     → (r : IsReportOn cat work text) → AreThere work.txns (order_of cat work r.log)
 order_there cat work text sound are valid r =
     all_by_member (λ (n : TxnNo). IsFrom1To (length work.txns) n.0) (order_of cat work r.log) (one_given cat work text sound are valid r)
@@ -76,7 +76,7 @@ pending_there cat work text valid r =
     named_by_events cat (length work.txns) p.txn.0 work.events valid.events
     (is_in_schedule g r.log r.log_is.lawful (once work.events valid.submitted) p.txn.0 s.0 s.1))))
 
-pub one_text_of_the_same : (cat : Catalogue) (work other : Workload) (text : List ℕ) → IsSound cat → AreNamed cat → IsValid cat work → IsValid cat other
+pub one_text_of_the_same : (cat : Catalogue) (work other : Workload) (text : List ℕ) → IsSoundCatalogue cat → AreNamed cat → IsValid cat work → IsValid cat other
     → work.txns ≡ other.txns → (one : IsReportOn cat work text) → (two : IsReportOn cat other text) → TellOfTheSame cat work other text one two
 one_text_of_the_same cat work other text sound are valid fine same one two =
     let t = one_text cat work other text sound are valid fine one two in

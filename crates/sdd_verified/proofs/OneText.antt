@@ -1,5 +1,5 @@
 -- Two reports that have one text tell the same.
-use Rattle.sdd_verified.proofs.All.{All, AllByRecursion, AreNamed, Catalogue, CopyTable, HasNoSpace, IsName, IsReportOn, IsSound, IsValid, List, None, Option, Reply, Report, Some, TellAlike, Txn, TxnNo, Workload, [], ap, append_cancel_right, classes_in, codes, copies_words, found_member, history, length, name_fine, names_of, option_map_or, order_of, order_words, plain_spaceless, refl, replies_words, slice_get, sym, txn_name, whole_in, whole_named, whole_over, whole_sound, ℕ, ◌++◌, ◌-◌, ◌∙◌, ◌∷◌, ◌≡◌}
+use Rattle.sdd_verified.proofs.All.{All, AllByRecursion, AreNamed, Catalogue, CopyTable, HasNoSpace, IsName, IsReportOn, IsSoundCatalogue, IsValid, List, None, Option, Reply, Report, Some, TellAlike, Txn, TxnNo, Workload, [], ap, append_cancel_right, classes_in, codes, copies_words, found_member, history, length, name_fine, names_of, option_map_or, order_of, order_words, plain_spaceless, refl, replies_words, slice_get, sym, txn_name, whole_in, whole_named, whole_over, whole_sound, ℕ, ◌++◌, ◌-◌, ◌∙◌, ◌∷◌, ◌≡◌}
 use Rattle.sdd_verified.proofs.PartsBack.{copies_back, is_pending, is_reply, is_shipped, order_back, parted, pending_back, replies_back, same_first}
 use Rattle.sdd_verified.proofs.PassingLines.{pending_pass, replies_pass, shipped_pass}
 use Rattle.sdd_verified.proofs.ReportParts.{answers_told, behind_pending, behind_replies, behind_shipped, copies_values, happened, is_numbered, kept, lines_are, names, replies, replies_long, shipped, tells, trace_passes, waiting}
@@ -23,7 +23,7 @@ names_spaceless txns named (n ∷ order) = (spaceless txns named n.0, names_spac
 copies_of_whole : (cat : Catalogue) (work : Workload) (copies : List CopyTable) → copies_words (whole_in cat work) copies ≡ copies_words cat copies
 copies_of_whole cat work copies = ap (λ (c : Catalogue). copies_words c copies) (whole_over cat cat.classes (classes_in cat work))
 
-pub one_text : (cat : Catalogue) (work other : Workload) (text : List ℕ) → IsSound cat → AreNamed cat → IsValid cat work → IsValid cat other
+pub one_text : (cat : Catalogue) (work other : Workload) (text : List ℕ) → IsSoundCatalogue cat → AreNamed cat → IsValid cat work → IsValid cat other
     → (one : IsReportOn cat work text) → (two : IsReportOn cat other text) → TellAlike cat work other text one two
 one_text cat work other text sound named valid fine one two =
     let sound1 = whole_sound cat work sound valid in

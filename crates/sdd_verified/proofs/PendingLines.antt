@@ -1,5 +1,5 @@
 -- A report has as many lines of pending transactions as transactions are pending.
-use Rattle.sdd_verified.proofs.All.{AreNamed, Bool, Catalogue, Contains, Contains-cases, Contains-nil, IsReportOn, IsSound, IsValid, List, Pending, TxnNo, Workload, [], ap, arith, codes, cond, count_by, false, history, inl, input_of, inr, length, length-map, lines_of, ltb-true, ne_eqb, not, order_words, pending_words, refl, replies_words, report_of, serial_order, subst, sum_by-cons, sym, tells_pending, true, whole_in, ℕ, ◌++◌, ◌+◌, ◌==◌, ◌∙◌, ◌∷◌, ◌≡◌}
+use Rattle.sdd_verified.proofs.All.{AreNamed, Bool, Catalogue, Contains, Contains-cases, Contains-nil, IsReportOn, IsSoundCatalogue, IsValid, List, Pending, TxnNo, Workload, [], ap, arith, codes, cond, count_by, false, history, inl, input_of, inr, length, length-map, lines_of, ltb-true, ne_eqb, not, order_words, pending_words, refl, replies_words, report_of, serial_order, subst, sum_by-cons, sym, tells_pending, true, whole_in, ℕ, ◌++◌, ◌+◌, ◌==◌, ◌∙◌, ◌∷◌, ◌≡◌}
 use Rattle.sdd_verified.proofs.PartsBack.{AllPass}
 use Rattle.sdd_verified.proofs.PassingLines.{copies_pass, pending_pass, replies_pass, shipped_pass}
 use Rattle.sdd_verified.proofs.ReportParts.{happened, is_numbered, kept, lines_are, names, replies, shipped, trace_passes, waiting}
@@ -81,7 +81,7 @@ counted happened replies shipped waiting copies first last h f a s w c e =
     let none_last = none_counted (last ∷ []) (e, tt) in
     omega (arith, kept, left, behind, answered, ordered, whole, none_happened, none_first, none_replied, none_shipped, all_waiting, none_copied, none_last)
 
-module _ (cat : Catalogue) (work : Workload) (text : List ℕ) (sound : IsSound (whole_in cat work)) (named : AreNamed (whole_in cat work))
+module _ (cat : Catalogue) (work : Workload) (text : List ℕ) (sound : IsSoundCatalogue (whole_in cat work)) (named : AreNamed (whole_in cat work))
     (valid : IsValid cat work) (r : IsReportOn cat work text) where
   abbrev whole : Catalogue
   whole = whole_in cat work

@@ -1,5 +1,5 @@
 -- The report on a run is verified.
-use Rattle.sdd_verified.proofs.All.{All, All-cons, All-head, All-nil, All-tail, AllFewTicks, AreNamed, AreSubmittedOnce, Catalogue, ComesBefore, Committed, Contains, History, Input, IsCommitted, IsFrom1To, IsName, IsOfSubmit, IsReportOn, IsSound, IsSubmitted, IsSubmittedBefore, IsValid, IsValidTxn, IsVerified, KeepsStarts, List, MAX_REPORT_BYTES, Reply, Report, Some, Txn, TxnNo, Workload, [], after_replies, all_members, ap, arith, at, cases_lt, catalogue_at, class_for, class_of, classes_in, classes_submitted, copies_lines, database_of, era_at, eras_are, eras_in, eras_of, event_at, event_of_submit, few_lists, few_ticks, flat_map, history, index_or, inl, input_of, inr, length, list_at_number, map, named_by_events, names_of, nth_era, once, order_line, pending_lines, redeclares, refl, replies, replies_along, reply_lines, report_of, run, serial, serial_order, serial_replies, shipped_of, slice_get, spelled_lines, starts, submits_in, submitted, subst, sym, texts_of, txn_of, whole_in, whole_over, ℕ, ◌++◌, ◌-◌, ◌<◌, ◌∙◌, ◌∷◌, ◌≡◌, ◌≢◌, ◌≤◌}
+use Rattle.sdd_verified.proofs.All.{All, All-cons, All-head, All-nil, All-tail, AllFewTicks, AreNamed, AreSubmittedOnce, Catalogue, ComesBefore, Committed, Contains, History, Input, IsCommitted, IsFrom1To, IsName, IsOfSubmit, IsReportOn, IsSoundCatalogue, IsSubmitted, IsSubmittedBefore, IsValid, IsValidTxn, IsVerified, KeepsStarts, List, MAX_REPORT_BYTES, Reply, Report, Some, Txn, TxnNo, Workload, [], after_replies, all_members, ap, arith, at, cases_lt, catalogue_at, class_for, class_of, classes_in, classes_submitted, copies_lines, database_of, era_at, eras_are, eras_in, eras_of, event_at, event_of_submit, few_lists, few_ticks, flat_map, history, index_or, inl, input_of, inr, length, list_at_number, map, named_by_events, names_of, nth_era, once, order_line, pending_lines, redeclares, refl, replies, replies_along, reply_lines, report_of, run, serial, serial_order, serial_replies, shipped_of, slice_get, spelled_lines, starts, submits_in, submitted, subst, sym, texts_of, txn_of, whole_in, whole_over, ℕ, ◌++◌, ◌-◌, ◌<◌, ◌∙◌, ◌∷◌, ◌≡◌, ◌≢◌, ◌≤◌}
 use Rattle.sdd_verified.proofs.ClassPlaces.{class_at, redeclared_at}
 use Rattle.sdd_verified.proofs.ListAt.{list_at}
 use Rattle.sdd_verified.proofs.FirstLines.{FirstLine, first_line, whole_end}
@@ -33,7 +33,7 @@ names_of_txns cat (t ∷ txns) valid =
     All-cons (λ (u : Txn). IsName u.name) t txns (All-head (IsValidTxn cat) t txns valid).named
     (names_of_txns cat txns (All-tail (IsValidTxn cat) t txns valid))
 
-module _ (cat : Catalogue) (work : Workload) (text : List ℕ) (sound : IsSound (whole_in cat work)) (named : AreNamed (whole_in cat work))
+module _ (cat : Catalogue) (work : Workload) (text : List ℕ) (sound : IsSoundCatalogue (whole_in cat work)) (named : AreNamed (whole_in cat work))
     (valid : IsValid cat work) (r : IsReportOn cat work text) where
   abbrev whole : Catalogue
   whole = whole_in cat work

@@ -1,6 +1,6 @@
 -- What holds of all numbers of 64 bits, and of each value of the rows and statements that are given, holds of the values that a plain
 -- database answers, changes and is left with.
-use Rattle.sdd_verified.proofs.All.{Add, AllByRecursion, Assign, Catalogue, Change, Changed, Condition, Database, Delete, Effect, Equal, Gives, Greater, Int, Item, Ledger, Less, List, None, Option, Overflow, Put, Query, Ref, RelNo, Reply, Row, Rows, Some, Stmt, Text, To, TooMany, Tuple, Txn, Update, Value, [], added, after_changes, answer, assigned, assigned_all, change_of, changed_by, changes, chosen, column, cond, cons_option, database_of, each_inserted, each_left, effect, effect_from, failed, false, flat_map, fold, fragment_of, if◌then◌else◌, in_range, insert_key, is_at, item_cmp, item_cmp_exact, item_of, kept_hold, key_in, length, map, match_ordering, meets_all, nat_lt, part_of, pos, product, projection, refl, replaced, row_cmp, rows_in, rows_of, selection, serial, set_to, slice_index_or, slice_set, subst, suc, true, value_at, with_change, with_deletes, with_row, with_updates, zero, ℕ, ℤ, ◌&&◌, ◌++◌, ◌+ℤ◌, ◌+◌, ◌-◌, ◌==◌, ◌∷◌, ◌≡◌}
+use Rattle.sdd_verified.proofs.All.{Add, AllByRecursion, Assign, Catalogue, Change, Changed, Condition, Database, Delete, Effect, Equal, GivesResults, Greater, Int, Item, Ledger, Less, List, None, Option, Overflow, Put, Query, Ref, RelNo, Reply, Row, Rows, Some, Stmt, Text, To, TooMany, Tuple, Txn, Update, Value, [], added, after_changes, answer, assigned, assigned_all, change_of, changed_by, changes, chosen, column, cond, cons_option, database_of, each_inserted, each_left, effect, effect_from, failed, false, flat_map, fold, fragment_of, if◌then◌else◌, in_range, insert_key, is_at, item_cmp, item_cmp_exact, item_of, kept_hold, key_in, length, map, match_ordering, meets_all, nat_lt, part_of, pos, product, projection, refl, replaced, row_cmp, rows_in, rows_of, selection, serial, set_to, slice_index_or, slice_set, subst, suc, true, value_at, with_change, with_deletes, with_row, with_updates, zero, ℕ, ℤ, ◌&&◌, ◌++◌, ◌+ℤ◌, ◌+◌, ◌-◌, ◌==◌, ◌∷◌, ◌≡◌}
 
 pub both_hold : {A : Type 0} (P : A → Type 0) (xs ys : List A) → AllByRecursion P xs → AllByRecursion P ys → AllByRecursion P (xs ++ ys)
 both_hold P [] ys h k = k
@@ -235,7 +235,7 @@ module _ (P : Value → Type 0) (ints : (n : ℤ) → in_range n ≡ true → P 
       (e.reply, serial_answers cat (after_changes cat db (effect cat db txn).changes) txns (after_holds cat db (effect cat db txn).changes h e.changes) w.1)
 
   pub given_changes : {T : Type 0} (cat : Catalogue) (L : Ledger T) (db : Database) (order : List T) → Stored db
-      → ((x : T) → WritesAll (L.text x)) → Gives cat L db order → AllByRecursion (λ (x : T). Changes (changes L x)) order
+      → ((x : T) → WritesAll (L.text x)) → GivesResults cat L db order → AllByRecursion (λ (x : T). Changes (changes L x)) order
   given_changes cat L db [] h w g = tt
   given_changes cat L db (x ∷ order) h w g =
       let e : Changes (changes L x) = subst (λ (z : Effect). Changes z.changes) g.0 (effect_keeps cat db (L.text x) h (w x)).changes in

@@ -1,6 +1,6 @@
 //! The lines of pending transactions in a report.
 ghost use Rattle.std.specs.Prelude.{ℕ, ◌≡◌, [], false, Contains, List, count_by, length};
-ghost use Rattle.sdd_obligations.specs.All.{Catalogue, IsSound};
+ghost use Rattle.sdd_obligations.specs.All.{Catalogue, IsSoundCatalogue};
 ghost use Rattle.sdd_obligations.specs.catalog.Naming.{AreNamed};
 ghost use Rattle.sdd_watch.specs.run.Reports.{report_of};
 ghost use Rattle.sdd_watch.specs.run.Runs.{IsReportOn, input_of};
@@ -12,10 +12,10 @@ ghost use Rattle.sdd_verified.specs.Lines.{tells_pending};
 /// A law: a report has as many lines that begin with `pending ` as transactions are pending; so where
 /// none is, it has no such line.
 pub fn law_pending_lines()
-    ensures as_many { (cat : Catalogue) (work : Workload) (text : List ℕ) → IsSound cat → AreNamed cat → IsValid cat work
+    ensures as_many { (cat : Catalogue) (work : Workload) (text : List ℕ) → IsSoundCatalogue cat → AreNamed cat → IsValid cat work
         → (told : IsReportOn cat work text)
         → count_by tells_pending (lines_of text) ≡ length (report_of (input_of cat told.tables work) told.log).pending }
-    ensures no_line { (cat : Catalogue) (work : Workload) (text : List ℕ) → IsSound cat → AreNamed cat → IsValid cat work
+    ensures no_line { (cat : Catalogue) (work : Workload) (text : List ℕ) → IsSoundCatalogue cat → AreNamed cat → IsValid cat work
         → (told : IsReportOn cat work text)
         → (report_of (input_of cat told.tables work) told.log).pending ≡ []
         → (line : List ℕ) → Contains (lines_of text) line → tells_pending line ≡ false }

@@ -1,6 +1,6 @@
 //! Every run has a report, or comes to the limit.
 ghost use Rattle.std.specs.Prelude.{ℕ, ◌≡◌, ◌⊎◌, List};
-ghost use Rattle.sdd_obligations.specs.All.{Catalogue, IsSound};
+ghost use Rattle.sdd_obligations.specs.All.{Catalogue, IsSoundCatalogue};
 ghost use Rattle.sdd_watch.specs.run.Runs.{EndsAtLimit, IsReportOn};
 ghost use Rattle.sdd_watch.specs.run.script.Valid.{IsValid};
 ghost use Rattle.sdd_watch.specs.run.script.declared.workload.Workload.{Workload};
@@ -8,6 +8,6 @@ ghost use Rattle.sdd_watch.specs.run.script.declared.workload.Workload.{Workload
 /// A law: the run of a workload has a report, or the limit ends the run, whatever the modules do and
 /// with no regard to memory.
 pub fn law_has_report()
-    ensures { (cat : Catalogue) (work : Workload) → IsSound cat → IsValid cat work
+    ensures { (cat : Catalogue) (work : Workload) → IsSoundCatalogue cat → IsValid cat work
         → ((text : List ℕ) × IsReportOn cat work text) ⊎ EndsAtLimit cat work }
 {}

@@ -1,6 +1,6 @@
 //! The summary of a run that leaves nothing undone.
 ghost use Rattle.std.specs.Prelude.{ℕ, ◌≡◌, ◌≤◌, List, length};
-ghost use Rattle.sdd_obligations.specs.All.{Catalogue, IsSound, MAX_TXNS};
+ghost use Rattle.sdd_obligations.specs.All.{Catalogue, IsSoundCatalogue, MAX_TXNS};
 ghost use Rattle.sdd_watch.specs.run.make.Bank.{bank};
 ghost use Rattle.sdd_watch.specs.run.make.Turns.{workload_of};
 ghost use Rattle.sdd_watch.specs.run.Runs.{IsSummaryOn};
@@ -11,7 +11,7 @@ ghost use Rattle.sdd_verified.specs.Summaries.{SettleAll, TellsAllDone};
 /// A law: where the events submit each transaction, take no data module down and end with a settle
 /// or a redeclare, the summary of the run counts as many committed as there are transactions.
 pub fn law_all_committed()
-    ensures { (cat : Catalogue) (work : Workload) (text : List ℕ) → IsSound cat → IsValid cat work
+    ensures { (cat : Catalogue) (work : Workload) (text : List ℕ) → IsSoundCatalogue cat → IsValid cat work
         → SettleAll (length work.txns) work.events → IsSummaryOn cat work text
         → TellsAllDone (length work.txns) text }
 {}

@@ -1,5 +1,5 @@
 -- The transactions that are submitted, event by event, and those that an order names.
-use Rattle.sdd_verify.proofs.All.{All, All-cons, All-head, All-nil, All-tail, Bor, Catalogue, Event, Fits, FitsStart, IsValid, IsValidRow, IsValidTxn, List, MAX_EVENTS, None, Option, RelNo, Some, Submit, Txn, TxnNo, Value, Workload, [], arith, filter_map, filter_map-append, get_or, length, length-map, map, refl, slice_get, submitted, submitted_by, subst, suc, sym, take, take_more, texts_of, txn_of, zero, ℕ, ◌++◌, ◌+◌, ◌-◌, ◌<◌, ◌∷◌, ◌≡◌, ◌≤◌}
+use Rattle.sdd_verify.proofs.All.{All, All-cons, All-head, All-nil, All-tail, Bor, Catalogue, Event, FitsStart, FitsTxn, IsValid, IsValidRow, IsValidTxn, List, MAX_EVENTS, None, Option, RelNo, Some, Submit, Txn, TxnNo, Value, Workload, [], arith, filter_map, filter_map-append, get_or, length, length-map, map, refl, slice_get, submitted, submitted_by, subst, suc, sym, take, take_more, texts_of, txn_of, zero, ℕ, ◌++◌, ◌+◌, ◌-◌, ◌<◌, ◌∷◌, ◌≡◌, ◌≤◌}
 
 -- what a list gives that goes on by one member
 pub filter_map_more : {A B : Type 0} (f : A → Option B) (xs : List A) (i : ℕ) (d : A) → i < length xs
@@ -66,26 +66,26 @@ submitted_valid cat work valid = all_given (submitted_by work.txns) (IsValidTxn 
 
 -- and so they fit the catalogue
 
-all_fit : (cat : Catalogue) (txns : List Txn) → All (IsValidTxn cat) txns → All (Fits cat) txns
-all_fit cat [] all = All-nil (Fits cat)
-all_fit cat (t ∷ txns) all = All-cons (Fits cat) t txns (All-head (IsValidTxn cat) t txns all).fits (all_fit cat txns (All-tail (IsValidTxn cat) t txns all))
+all_fit : (cat : Catalogue) (txns : List Txn) → All (IsValidTxn cat) txns → All (FitsTxn cat) txns
+all_fit cat [] all = All-nil (FitsTxn cat)
+all_fit cat (t ∷ txns) all = All-cons (FitsTxn cat) t txns (All-head (IsValidTxn cat) t txns all).fits (all_fit cat txns (All-tail (IsValidTxn cat) t txns all))
 
-pub submitted_fit : (cat : Catalogue) (work : Workload) → IsValid cat work → All (Fits cat) (submitted work)
+pub submitted_fit : (cat : Catalogue) (work : Workload) → IsValid cat work → All (FitsTxn cat) (submitted work)
 submitted_fit cat work valid = all_fit cat (submitted work) (submitted_valid cat work valid)
 
-pub lent_fit : (cat : Catalogue) (txns : List (Bor Txn)) → All (Fits cat) (map (λ t. t.now) txns) → All (λ (t : Bor Txn). Fits cat t.now) txns
-lent_fit cat [] all = All-nil (λ (t : Bor Txn). Fits cat t.now)
+pub lent_fit : (cat : Catalogue) (txns : List (Bor Txn)) → All (FitsTxn cat) (map (λ t. t.now) txns) → All (λ (t : Bor Txn). FitsTxn cat t.now) txns
+lent_fit cat [] all = All-nil (λ (t : Bor Txn). FitsTxn cat t.now)
 lent_fit cat (t ∷ txns) all =
     let given : List Txn = map (λ (u : Bor Txn). u.now) txns in
-    All-cons (λ (u : Bor Txn). Fits cat u.now) t txns (All-head (Fits cat) t.now given all) (lent_fit cat txns (All-tail (Fits cat) t.now given all))
+    All-cons (λ (u : Bor Txn). FitsTxn cat u.now) t txns (All-head (FitsTxn cat) t.now given all) (lent_fit cat txns (All-tail (FitsTxn cat) t.now given all))
 
 -- those that an order names fit it too
 pub texts_fit : (cat : Catalogue) (work : Workload) (order : List TxnNo) (texts : List (Bor Txn))
-    → IsValid cat work → map (λ t. t.now) texts ≡ texts_of (submitted work) order → All (λ (t : Bor Txn). Fits cat t.now) texts
+    → IsValid cat work → map (λ t. t.now) texts ≡ texts_of (submitted work) order → All (λ (t : Bor Txn). FitsTxn cat t.now) texts
 texts_fit cat work order texts valid is =
     let fit = submitted_fit cat work valid in
-    lent_fit cat texts (rw is (all_given (txn_of (submitted work)) (Fits cat) order
-    (λ n t found. found_member (Fits cat) (submitted work) (n.0 - 1) t fit found)))
+    lent_fit cat texts (rw is (all_given (txn_of (submitted work)) (FitsTxn cat) order
+    (λ n t found. found_member (FitsTxn cat) (submitted work) (n.0 - 1) t fit found)))
 
 pub start_fits : (cat : Catalogue) (rows : List (RelNo × List Value)) → All (IsValidRow cat) rows → All (FitsStart cat) rows
 start_fits cat [] all = All-nil (FitsStart cat)

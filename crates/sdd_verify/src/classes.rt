@@ -1,6 +1,6 @@
 //! The classes of the submitted transactions.
 ghost use Rattle.std.specs.Prelude.{ℕ, ◌≡◌, ◌<◌, ◌^◌, ◌++◌, All, IfOk};
-ghost use Rattle.sdd_script.specs.All.{Fits};
+ghost use Rattle.sdd_script.specs.All.{FitsTxn};
 ghost use Rattle.sdd_verify.specs.Classes.{class_if, classes_from, era_at, redeclared};
 ghost use Rattle.sdd_verify.specs.Submitted.{submitted_by};
 
@@ -39,7 +39,7 @@ fn add_class(
     txns: &[Txn],
     event: &Event,
 ) -> Result<(), NoMemory>
-    requires { All (Fits catalogue.now) txns.now }
+    requires { All (FitsTxn catalogue.now) txns.now }
     ensures { IfOk result (λ _. classes.new.items
         ≡ classes.old.items ++ class_if catalogue.now (submitted_by txns.now event.now)) }
 {
@@ -60,7 +60,7 @@ pub(crate) fn submitted_classes(
     eras: &[Catalogue],
     work: &Workload,
 ) -> Result<Vec<u32>, NoMemory>
-    requires { (n : ℕ) → All (Fits (era_at catalogue.now eras.now n)) work.now.txns }
+    requires { (n : ℕ) → All (FitsTxn (era_at catalogue.now eras.now n)) work.now.txns }
     ensures { IfOk result (λ classes. classes.items
         ≡ classes_from (era_at catalogue.now eras.now) work.now.txns 0 work.now.events) }
 {

@@ -1,6 +1,6 @@
 //! What ends the judging of a report.
 ghost use Rattle.std.specs.Prelude.{◌≡◌, Err};
-ghost use Rattle.sdd_script.specs.All.{Gives, known, must};
+ghost use Rattle.sdd_script.specs.All.{GivesReading, known, must};
 ghost use Rattle.sdd_verify.specs.Flaws.{line_in};
 
 use sdd_script::sdd_base::NoMemory;
@@ -17,7 +17,7 @@ pub enum Flaw {
 
 /// The value, or the line is at fault where it isn't there.
 pub(crate) fn known<T>(line: u32, value: Option<T>) -> Result<T, Flaw>
-    ensures { Gives line_in (λ x. x) result (known line value) }
+    ensures { GivesReading line_in (λ x. x) result (known line value) }
 {
     match value {
         Some(value) => Ok(value),
@@ -27,7 +27,7 @@ pub(crate) fn known<T>(line: u32, value: Option<T>) -> Result<T, Flaw>
 
 /// The line is at fault where the test fails.
 pub(crate) fn must(line: u32, holds: bool) -> Result<(), Flaw>
-    ensures { Gives line_in (λ u. u) result (must line holds) }
+    ensures { GivesReading line_in (λ u. u) result (must line holds) }
 {
     if holds { Ok(()) } else { Err(Flaw::Line(line)) }
 }

@@ -1,6 +1,6 @@
 //! The judging of a report.
 ghost use Rattle.std.specs.Prelude.{◌≡◌, IfOk};
-ghost use Rattle.sdd_script.specs.All.{Gives, IsValid};
+ghost use Rattle.sdd_script.specs.All.{GivesReading, IsValid};
 ghost use Rattle.sdd_verify.specs.Flaws.{line_in};
 ghost use Rattle.sdd_verify.specs.Verdict.{judged, verdict};
 
@@ -21,7 +21,7 @@ use std::alloc::Global;
 /// Whether the report breaks no rule, or the first line at fault.
 fn judge(alloc: Global, catalogue: &Catalogue, work: &Workload, report: &[u8]) -> Result<(), Flaw>
     requires { IsValid catalogue.now work.now }
-    ensures { Gives line_in (λ sound. sound) result (judged catalogue.now work.now report.now) }
+    ensures { GivesReading line_in (λ sound. sound) result (judged catalogue.now work.now report.now) }
 {
     let lines = Lines::begin(report)?;
     let (number, line, behind) = order_line(lines)?;

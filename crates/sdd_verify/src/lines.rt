@@ -1,6 +1,6 @@
 //! The lines of a report.
 ghost use Rattle.std.specs.Prelude.{◌≡◌, ◌+◌, ◌≤◌, ◌<◌, ◌∷◌, [], length, MatchOption};
-ghost use Rattle.sdd_script.specs.All.{Gives};
+ghost use Rattle.sdd_script.specs.All.{GivesReading};
 ghost use Rattle.sdd_verify.specs.Flaws.{line_in};
 ghost use Rattle.sdd_verify.specs.Lines.{lines_of, tells_reply};
 ghost use Rattle.sdd_verify.specs.declared.limits.TheConstants.{MAX_REPORT_BYTES};
@@ -23,7 +23,7 @@ impl<'a> Lines<'a> {
 
     /// All lines of a report; one that is too long is at fault before its first line.
     pub(crate) fn begin(report: &'a [u8]) -> Result<Self, Flaw>
-        ensures { Gives line_in numbered result (begun report.now) }
+        ensures { GivesReading line_in numbered result (begun report.now) }
     {
         must(0, report.len() <= MAX_REPORT_BYTES)?;
         Ok(Lines {

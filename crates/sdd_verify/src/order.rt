@@ -2,7 +2,7 @@
 ghost use Rattle.std.specs.Prelude.{◌≡◌, ◌==◌, ◌≤◌, ◌∷◌, length, IfOk};
 ghost use Rattle.std.specs.List.{position};
 ghost use Rattle.std.specs.Option.{option_copied};
-ghost use Rattle.sdd_script.specs.All.{Gives, along, known};
+ghost use Rattle.sdd_script.specs.All.{GivesReading, along, known};
 ghost use Rattle.sdd_verify.specs.Classes.{class_of};
 ghost use Rattle.sdd_verify.specs.Flaws.{line_in};
 ghost use Rattle.sdd_verify.specs.Orders.{allows, is_in_turn, names_on, order_told, words_behind, words_of};
@@ -35,7 +35,7 @@ fn cut_word(text: &[u8]) -> (&[u8], &[u8])
 
 /// The number of the transaction of this name, without which the line is at fault.
 fn number_of(alloc: Global, submitted: &Submitted, line: u32, name: &[u8]) -> Result<TxnNo, Flaw>
-    ensures { Gives line_in (λ number. number) result (known line (named submitted.now name.now)) }
+    ensures { GivesReading line_in (λ number. number) result (known line (named submitted.now name.now)) }
 {
     known(line, submitted.named(alloc, name)?)
 }
@@ -48,7 +48,7 @@ fn numbers_in(
     line: u32,
     names: &[u8],
 ) -> Result<Vec<TxnNo>, Flaw>
-    ensures { Gives line_in (λ order. order.items) result
+    ensures { GivesReading line_in (λ order. order.items) result
         (along (λ _ name. known line (named submitted.now name)) 0 (words_behind names.now)) }
 {
     let mut order = Vec::new(alloc);
@@ -69,7 +69,7 @@ fn named_on(
     number: u32,
     line: &[u8],
 ) -> Result<Vec<TxnNo>, Flaw>
-    ensures { Gives line_in (λ order. order.items) result
+    ensures { GivesReading line_in (λ order. order.items) result
         (along (λ _ name. known number (named submitted.now name)) 0 (names_on line.now)) }
 {
     let (_, names) = cut_word(line);
@@ -121,7 +121,7 @@ pub(crate) fn told_order(
     number: u32,
     line: &[u8],
 ) -> Result<Vec<TxnNo>, Flaw>
-    ensures { Gives line_in (λ order. order.items) result (order_told submitted.now classes.now number line.now) }
+    ensures { GivesReading line_in (λ order. order.items) result (order_told submitted.now classes.now number line.now) }
 {
     let order = named_on(alloc, submitted, number, line)?;
     must(number, is_in_turn(alloc, classes, order.as_slice())?)?;

@@ -1,6 +1,6 @@
 //! The line of a report that gives the order.
 ghost use Rattle.std.specs.Prelude.{◌≡◌};
-ghost use Rattle.sdd_script.specs.All.{Gives};
+ghost use Rattle.sdd_script.specs.All.{GivesReading};
 ghost use Rattle.sdd_verify.specs.Flaws.{line_in};
 ghost use Rattle.sdd_verify.specs.Lines.{is_order_line, lines_of, order_line_in};
 ghost use Rattle.sdd_verify.specs.Numbered.{numbered};
@@ -17,7 +17,7 @@ fn is_order_line(line: &[u8]) -> bool
 
 /// The first order line, with its number and the lines after it. Costs time linear in the lines.
 pub(crate) fn order_line(report: Lines<'_>) -> Result<(u32, &[u8], Lines<'_>), Flaw>
-    ensures { Gives line_in (λ at. (at.0, at.1.now, numbered at.2)) result
+    ensures { GivesReading line_in (λ at. (at.0, at.1.now, numbered at.2)) result
         (order_line_in report.entry.number (lines_of report.entry.bytes.now)) }
 {
     let mut lines = report;

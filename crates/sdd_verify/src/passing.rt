@@ -1,6 +1,6 @@
 //! Lines of a report that have to come.
 ghost use Rattle.std.specs.Prelude.{◌≡◌, ◌∷◌, []};
-ghost use Rattle.sdd_script.specs.All.{Gives};
+ghost use Rattle.sdd_script.specs.All.{GivesReading};
 ghost use Rattle.sdd_verify.specs.Flaws.{line_in};
 ghost use Rattle.sdd_verify.specs.Lines.{lines_of, passed};
 ghost use Rattle.sdd_verify.specs.Numbered.{numbered};
@@ -11,7 +11,7 @@ use sdd_script::sdd_words::next_line;
 
 /// What follows this line, which has to come first.
 fn pass_line<'a>(line: &[u8], report: Lines<'a>) -> Result<Lines<'a>, Flaw>
-    ensures { Gives line_in numbered result
+    ensures { GivesReading line_in numbered result
         (passed report.entry.number (line.now ∷ []) (lines_of report.entry.bytes.now)) }
 {
     match report.next() {
@@ -29,7 +29,7 @@ fn pass_line<'a>(line: &[u8], report: Lines<'a>) -> Result<Lines<'a>, Flaw>
 /// What follows the lines of this text, which have to come first, one by one. Costs time linear in
 /// the text.
 pub(crate) fn pass<'a>(text: &[u8], report: Lines<'a>) -> Result<Lines<'a>, Flaw>
-    ensures { Gives line_in numbered result
+    ensures { GivesReading line_in numbered result
         (passed report.entry.number (lines_of text.now) (lines_of report.entry.bytes.now)) }
 {
     let mut expected = text;

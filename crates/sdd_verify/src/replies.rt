@@ -1,6 +1,6 @@
 //! The replies that have to come.
 ghost use Rattle.std.specs.Prelude.{◌≡◌, map, All};
-ghost use Rattle.sdd_script.specs.All.{Fits, FitsStart, Gives, database_of};
+ghost use Rattle.sdd_script.specs.All.{FitsStart, FitsTxn, GivesReading, database_of};
 ghost use Rattle.sdd_report.specs.Replies.{reply_lines};
 ghost use Rattle.sdd_verify.specs.Flaws.{line_in};
 ghost use Rattle.sdd_verify.specs.Lines.{lines_of, passed};
@@ -25,7 +25,7 @@ fn pass_reply<'a>(
     reply: &Reply,
     report: Lines<'a>,
 ) -> Result<Lines<'a>, Flaw>
-    ensures { Gives line_in numbered result
+    ensures { GivesReading line_in numbered result
         (passed report.entry.number (lines_of (reply_lines name.now reply.now)) (lines_of report.entry.bytes.now)) }
 {
     let mut text = Vec::new(alloc);
@@ -45,8 +45,8 @@ pub(crate) fn pass_replies<'a>(
     report: Lines<'a>,
 ) -> Result<Lines<'a>, Flaw>
     requires rows { All (FitsStart catalogue.now) rows.now }
-    requires txns { All (λ t. Fits catalogue.now t.now) txns.now }
-    ensures { Gives line_in numbered result
+    requires txns { All (λ t. FitsTxn catalogue.now t.now) txns.now }
+    ensures { GivesReading line_in numbered result
         (passed report.entry.number
         (lines_of (replies_on catalogue.now (database_of catalogue.now rows.now) (map (λ t. t.now) txns.now)))
         (lines_of report.entry.bytes.now)) }

@@ -1,6 +1,6 @@
 -- What is told before the first event, and of a whole run.
 use Rattle.std.proofs.Common.{ℕ, ◌<◌, ◌^◌, ◌≡◌, ◌∙◌, ap, arith, length, map, refl, subst, List, [], ◌++◌}
-use Rattle.sdd_obligations.specs.All.{Catalogue, Event, Input, IsSound, Txn}
+use Rattle.sdd_obligations.specs.All.{Catalogue, Event, Input, IsSoundCatalogue, Txn}
 use Rattle.sdd_obligations.specs.base.Words.{tail_of}
 use Rattle.sdd_obligations.specs.protocol.declared.entry.Entry.{Entry}
 use Rattle.sdd_inside.specs.Lines.{beginning}
@@ -42,7 +42,7 @@ pub record BeginsAll (cat : Catalogue) (tables : List (List Entry)) (work : Work
   pub allowed : AreAllowed (begun cat tables work) events lists
   pub few : length events < 2 ^ 32
 
-pub begins_all : (cat : Catalogue) (tables : List (List Entry)) (work : Workload) → IsSound (whole_in cat work) → IsValid cat work
+pub begins_all : (cat : Catalogue) (tables : List (List Entry)) (work : Workload) → IsSoundCatalogue (whole_in cat work) → IsValid cat work
     → AreTables cat work tables → (w : World) (events : List Event) (lists : List ClassList) (t : Teller) → Represents w (begun cat tables work) []
     → events ≡ work.events → map era_of_list lists ≡ tail_of (eras_with_tables (eras_in cat work) tables) → Tells (begun cat tables work) [] t
     → BeginsAll cat tables work w events lists t

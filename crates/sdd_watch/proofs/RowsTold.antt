@@ -4,7 +4,7 @@ use Rattle.std.specs.List.{list_any}
 use Rattle.std.proofs.lemmas.List.{get_or_past, map-append}
 use Rattle.std.proofs.lemmas.List.Concat.{flat_map-append}
 use Rattle.std.proofs.lemmas.List.Elements.{filter-append}
-use Rattle.sdd_obligations.specs.All.{Apply, Catalogue, Change, D, DmNo, FragNo, Fragment, History, Input, IsSiteOf, IsSound, Kept, Log, Rec, Represent, TxnNo, has_copy, is_here, rel_no}
+use Rattle.sdd_obligations.specs.All.{Apply, Catalogue, Change, D, DmNo, FragNo, Fragment, History, Input, IsSiteOf, IsSoundCatalogue, Kept, Log, Rec, Represent, TxnNo, has_copy, is_here, rel_no}
 use Rattle.sdd_obligations.specs.base.declared.value.Value.{Value}
 use Rattle.sdd_obligations.specs.copy.Contents.{Dated, latest, of_fragment}
 use Rattle.sdd_obligations.specs.copy.Copies.{Held, items_at}
@@ -33,7 +33,7 @@ copy_within cat d f number b is e =
     e ∙ ap (λ k. list_any (λ (x : DmNo). x.0 == d) (slice_index_or cat.fragments k nothing).copies) same
 
 -- a module with a copy is there
-pub copy_site : (g : Input) (d : DmNo) (f : ℕ) → IsSound g.catalogue → has_copy g.catalogue d.0 f ≡ true → IsSiteOf g (D d)
+pub copy_site : (g : Input) (d : DmNo) (f : ℕ) → IsSoundCatalogue g.catalogue → has_copy g.catalogue d.0 f ≡ true → IsSiteOf g (D d)
 copy_site g d f sound e = d_site g.catalogue d.0 (copy_module g.catalogue sound d.0 f e)
 
 -- the row that a copy has

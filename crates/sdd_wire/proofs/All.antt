@@ -1,5 +1,5 @@
 -- The names of std, of the crates below and of this crate's definitions that its proofs cite. Declares nothing.
-pub use Rattle.sdd_base.specs.Readings.{Fails, Gives}
+pub use Rattle.sdd_base.specs.Readings.{Fails, GivesReading}
 pub use Rattle.sdd_base.specs.Text.{IsText}
 pub use Rattle.sdd_base.specs.Words.{contains, is_empty, tail_of}
 pub use Rattle.sdd_base.specs.declared.change.Change.{Change}
@@ -13,7 +13,7 @@ pub use Rattle.sdd_base.specs.declared.restriction.Op.TheVariants.{Eq, Ge, Gt, L
 pub use Rattle.sdd_base.specs.declared.usage.Use.{Use}
 pub use Rattle.sdd_base.specs.declared.value.Value.{Value}
 pub use Rattle.sdd_base.specs.declared.value.Value.TheVariants.{Int, Text}
-pub use Rattle.sdd_wire.specs.Fits.{Fits, FitsChange, FitsClass, FitsCond, FitsFrag, FitsI64, FitsList, FitsOp, FitsOption, FitsPair, FitsRel, FitsRestriction, FitsRow, FitsTs, FitsTxn, FitsU32, FitsU64, FitsUse, FitsValue}
+pub use Rattle.sdd_wire.specs.Fits.{FitsChange, FitsClass, FitsCond, FitsFrag, FitsI64, FitsList, FitsMsg, FitsOp, FitsOption, FitsPair, FitsRel, FitsRestriction, FitsRow, FitsTs, FitsTxnNo, FitsU32, FitsU64, FitsUse, FitsValue}
 pub use Rattle.sdd_wire.specs.Reading.{change_at, cond_at, fault_in, fields_by_tag, frag_at, is_text, message_in, ops_by_byte, row_at, text_in, use_at, value_by, whole}
 pub use Rattle.sdd_wire.specs.Source.{Reading, Source, after, byte_at, first_byte, flag, flag_at, if_there, items_at, known_at, list_at, meant, number_at, numbered, option_at, pair_at, piece_at, place, read_as, source_of, ◌>>=◌}
 pub use Rattle.sdd_wire.specs.Spelling.{spelled, spelled_change, spelled_class, spelled_cond, spelled_frag, spelled_list, spelled_op, spelled_option, spelled_pair, spelled_rel, spelled_restriction, spelled_row, spelled_text, spelled_ts, spelled_txn, spelled_u32, spelled_u64, spelled_use, spelled_value}

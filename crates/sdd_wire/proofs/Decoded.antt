@@ -1,5 +1,5 @@
 -- What is decoded is spelled so, and what is spelled is decoded.
-use Rattle.sdd_wire.proofs.All.{All, Err, Fits, Gives, IfOk, List, Msg, Ok, Result, WireFault, ap, arith, cases_lt, fault_in, get_or_past, inl, inr, length, message_in, spelled, subst, ℕ, ◌<◌, ◌^◌, ◌∙◌, ◌≡◌}
+use Rattle.sdd_wire.proofs.All.{All, Err, FitsMsg, GivesReading, IfOk, List, Msg, Ok, Result, WireFault, ap, arith, cases_lt, fault_in, get_or_past, inl, inr, length, message_in, spelled, subst, ℕ, ◌<◌, ◌^◌, ◌∙◌, ◌≡◌}
 use Rattle.sdd_wire.proofs.Laws.{AreBytes}
 use Rattle.sdd_wire.proofs.MessageLaws.{message_read_back, message_spelled_so}
 
@@ -11,17 +11,17 @@ are_bytes bytes h i =
     ]
 
 pub law_spelled_so : (bytes : List ℕ) (msg : Msg) → All (λ byte. byte < 2 ^ 8) bytes
-    → message_in bytes ≡ Ok msg → Fits msg × (bytes ≡ spelled msg)
+    → message_in bytes ≡ Ok msg → FitsMsg msg × (bytes ≡ spelled msg)
 law_spelled_so bytes msg h e = message_spelled_so bytes msg (are_bytes bytes h) e
 
 pub decoded_so : (bytes : List ℕ) (result : Result Msg WireFault) → AreBytes bytes
-    → Gives fault_in (λ msg. msg) result (message_in bytes) → IfOk result (λ msg. Fits msg × (bytes ≡ spelled msg))
+    → GivesReading fault_in (λ msg. msg) result (message_in bytes) → IfOk result (λ msg. FitsMsg msg × (bytes ≡ spelled msg))
 decoded_so bytes (Ok msg) fits given = message_spelled_so bytes msg fits given
 decoded_so bytes (Err fault) fits given = tt
 
 pub decoded_again : (bytes : List ℕ) (result : Result Msg WireFault) (msg : Msg)
-    → Gives fault_in (λ found. found) result (message_in bytes) → Fits msg → bytes ≡ spelled msg
-    → Gives fault_in (λ found. found) result (Ok msg)
+    → GivesReading fault_in (λ found. found) result (message_in bytes) → FitsMsg msg → bytes ≡ spelled msg
+    → GivesReading fault_in (λ found. found) result (Ok msg)
 decoded_again bytes result msg given fits is =
     let read : message_in bytes ≡ Ok msg = ap message_in is ∙ message_read_back msg fits in
-    subst (λ (r : Result Msg ℕ). Gives fault_in (λ found. found) result r) read given
+    subst (λ (r : Result Msg ℕ). GivesReading fault_in (λ found. found) result r) read given

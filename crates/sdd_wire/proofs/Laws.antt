@@ -9,13 +9,13 @@ abbrev is_ok : {A : Type 0} → A × Source → Result (A × Source) ℕ
 is_ok x = Ok x
 
 -- a text was taken from the front
-pub record Takes (s : Source) (text : List ℕ) (t : Source) : Type 0 where
+pub record TakesText (s : Source) (text : List ℕ) (t : Source) : Type 0 where
   pub parts : s.left ≡ text ++ t.left
   pub bytes : AreBytes t.left
 
 pub record Took {A : Type 0} (P : A → List ℕ → Type 0) (s : Source) (x : A) (t : Source) : Type 0 where
   pub text : List ℕ
-  pub takes : Takes s text t
+  pub takes : TakesText s text t
   pub holds : P x text
 
 -- P holds of whatever is read and the text that it is read from
@@ -45,13 +45,13 @@ after_ok (Ok x) next y e = (x.0, x.1, refl, e)
 after_ok (Err broken) next y e = absurd cc
 
 taken_on : (s : Source) (front : List ℕ) (mid : Source) (text : List ℕ) (t : Source)
-    → Takes s front mid → Takes mid text t → Takes s (front ++ text) t
+    → TakesText s front mid → TakesText mid text t → TakesText s (front ++ text) t
 taken_on s front mid text t first second = record {
   parts = first.parts ∙ ap (λ (l : List ℕ). front ++ l) second.parts ∙ sym (append_assoc front text t.left);
   bytes = second.bytes;
 }
 
-spelled_front : (s : Source) (text front : List ℕ) (t : Source) → text ≡ front → Takes s text t → Takes s front t
+spelled_front : (s : Source) (text front : List ℕ) (t : Source) → text ≡ front → TakesText s text t → TakesText s front t
 spelled_front s text front t is takes = record {
   parts = takes.parts ∙ ap (λ (l : List ℕ). l ++ t.left) is;
   bytes = takes.bytes;
@@ -89,7 +89,7 @@ only_last {B = B} {spelling = spelling} {last = last} {Q = Q} made law then = re
       let front = spelled_front s a.text (spelling read.0) read.1 a.holds.0 a.takes in
       record {
         text = spelling read.0;
-        takes = subst (λ (p : B × Source). Takes s (spelling read.0) p.1) end front;
+        takes = subst (λ (p : B × Source). TakesText s (spelling read.0) p.1) end front;
         holds = subst (λ (p : B × Source). Q p.0 (spelling read.0)) end (then read.0 a.holds.1);
       };
 }
@@ -101,7 +101,7 @@ only_done {A = A} x Q h = record {
       let same = ok_is (x, s) (y, t) e in
       record {
         text = [];
-        takes = subst (λ (p : A × Source). Takes s [] p.1) same (record { parts = refl; bytes = bytes });
+        takes = subst (λ (p : A × Source). TakesText s [] p.1) same (record { parts = refl; bytes = bytes });
         holds = subst (λ (p : A × Source). Q p.0 []) same h;
       };
 }
@@ -148,7 +148,7 @@ only_meant {spelling = spelling} {field = field} meaning law then = record {
       let front = spelled_front s a.text (spelling read.0) read.1 a.holds.0 a.takes in
       record {
         text = spelling read.0;
-        takes = subst (λ (u : Source). Takes s (spelling read.0) u) found.1 front;
+        takes = subst (λ (u : Source). TakesText s (spelling read.0) u) found.1 front;
         holds = then read.0 y a.holds.1 found.0;
       };
 }

@@ -1,5 +1,5 @@
 -- The laws of messages: of the fields behind each tag, and of a tag with its fields.
-use Rattle.sdd_wire.proofs.All.{Ask, Change, ClassNo, Cond, Done, Err, Fetch, Fits, FitsChange, FitsCond, FitsList, FitsPair, FitsRow, FitsU32, FitsU64, FitsUse, Held, Hold, List, Msg, Null, Ok, Read, Reading, Ready, Reduce, Reduced, Reject, Release, Result, Rows, Ship, Some, Source, Ts, TxnNo, Use, Value, Values, Write, [], after, ap, append-nil, append_assoc, change_at, cond_at, fields_by_tag, if◌then◌else◌, is_empty, known_at, length, list_at, number_at, numbered, pair_at, place, read_as, refl, row_at, source_of, spelled, spelled_change, spelled_cond, spelled_list, spelled_pair, spelled_row, spelled_u32, spelled_u64, spelled_use, subst, sym, tail_of, use_at, w32, w64, whole, ℕ, ◌++◌, ◌∙◌, ◌∷◌, ◌≡◌}
+use Rattle.sdd_wire.proofs.All.{Ask, Change, ClassNo, Cond, Done, Err, Fetch, FitsChange, FitsCond, FitsList, FitsMsg, FitsPair, FitsRow, FitsU32, FitsU64, FitsUse, Held, Hold, List, Msg, Null, Ok, Read, Reading, Ready, Reduce, Reduced, Reject, Release, Result, Rows, Ship, Some, Source, Ts, TxnNo, Use, Value, Values, Write, [], after, ap, append-nil, append_assoc, change_at, cond_at, fields_by_tag, if◌then◌else◌, is_empty, known_at, length, list_at, number_at, numbered, pair_at, place, read_as, refl, row_at, source_of, spelled, spelled_change, spelled_cond, spelled_list, spelled_pair, spelled_row, spelled_u32, spelled_u64, spelled_use, subst, sym, tail_of, use_at, w32, w64, whole, ℕ, ◌++◌, ◌∙◌, ◌∷◌, ◌≡◌}
 use Rattle.sdd_wire.specs.Reading.{read_at, ready_at, reject_at, fetch_at, values_at, reduce_at, reduced_at, ship_at, rows_at, write_at, null_at, ask_at, held_at, done_at, release_at, message_at, message_in}
 use Rattle.sdd_wire.proofs.Laws.{AreBytes, OnlyReads, ReadsBack, IsSpelled, Law, only_then, only_meant, only_next, only_last, only_done, back_next, back_last, back_as}
 use Rattle.sdd_wire.proofs.NumberLaws.{byte_law, u32_law, u64_law, class_law, txn_law, ts_law}
@@ -24,7 +24,7 @@ changes_law = list_law change_law
 
 -- the fields, behind a tag
 abbrev Fields : ℕ → Reading Msg → Type 0
-Fields tag fields = OnlyReads (λ msg more. IsSpelled Fits spelled msg (tag ∷ more)) fields
+Fields tag fields = OnlyReads (λ msg more. IsSpelled FitsMsg spelled msg (tag ∷ more)) fields
 
 -- what is behind the tag of a message is read back
 abbrev Back : Reading Msg → Msg → Type 0
@@ -38,7 +38,7 @@ read_fields =
     only_last _ uses_law (λ uses h6. (simp append_assoc, (h1, h2, h3, h4, h5, h6))))))))
 
 read_back : (ts : Ts) (class : ClassNo) (txn : TxnNo) (attempt : ℕ) (conds : List Cond) (uses : List Use)
-    → Fits (Read ts class txn attempt conds uses) → Back read_at (Read ts class txn attempt conds uses)
+    → FitsMsg (Read ts class txn attempt conds uses) → Back read_at (Read ts class txn attempt conds uses)
 unfolding read_at
 read_back ts class txn attempt conds uses fits =
     back_as (back_next _ (ts_law.back ts fits.0) (back_next _ (class_law.back class fits.1) (
@@ -52,7 +52,7 @@ ready_fields =
     only_next ts_law (λ ts h1. only_next class_law (λ class h2.
     only_last _ counts_law (λ counts h3. (simp append_assoc, (h1, h2, h3)))))
 
-ready_back : (ts : Ts) (class : ClassNo) (counts : List (ℕ × ℕ)) → Fits (Ready ts class counts)
+ready_back : (ts : Ts) (class : ClassNo) (counts : List (ℕ × ℕ)) → FitsMsg (Ready ts class counts)
     → Back ready_at (Ready ts class counts)
 unfolding ready_at
 ready_back ts class counts fits =
@@ -66,7 +66,7 @@ reject_fields =
     only_last _ ts_law (λ write h4. (simp append_assoc, (h1, h2, h3, h4))))))
 
 reject_back : (ts : Ts) (class : ClassNo) (by : ClassNo) (write : Ts)
-    → Fits (Reject ts class by write) → Back reject_at (Reject ts class by write)
+    → FitsMsg (Reject ts class by write) → Back reject_at (Reject ts class by write)
 unfolding reject_at
 reject_back ts class by write fits =
     back_as (back_next _ (ts_law.back ts fits.0) (back_next _ (class_law.back class fits.1) (
@@ -80,7 +80,7 @@ fetch_fields =
     only_last _ u32_law (λ column h4. (simp append_assoc, (h1, h2, h3, h4))))))
 
 fetch_back : (ts : Ts) (class : ClassNo) (use_no : ℕ) (column : ℕ)
-    → Fits (Fetch ts class use_no column) → Back fetch_at (Fetch ts class use_no column)
+    → FitsMsg (Fetch ts class use_no column) → Back fetch_at (Fetch ts class use_no column)
 unfolding fetch_at
 fetch_back ts class use_no column fits =
     back_as (back_next _ (ts_law.back ts fits.0) (back_next _ (class_law.back class fits.1) (
@@ -94,7 +94,7 @@ values_fields =
     only_last _ row_law (λ values h4. (simp append_assoc, (h1, h2, h3, h4))))))
 
 values_back : (ts : Ts) (class : ClassNo) (use_no : ℕ) (values : List Value)
-    → Fits (Values ts class use_no values) → Back values_at (Values ts class use_no values)
+    → FitsMsg (Values ts class use_no values) → Back values_at (Values ts class use_no values)
 unfolding values_at
 values_back ts class use_no values fits =
     back_as (back_next _ (ts_law.back ts fits.0) (back_next _ (class_law.back class fits.1) (
@@ -109,7 +109,7 @@ reduce_fields =
     (simp append_assoc, (h1, h2, h3, h4, h5)))))))
 
 reduce_back : (ts : Ts) (class : ClassNo) (use_no : ℕ) (column : ℕ) (values : List Value)
-    → Fits (Reduce ts class use_no column values) → Back reduce_at (Reduce ts class use_no column values)
+    → FitsMsg (Reduce ts class use_no column values) → Back reduce_at (Reduce ts class use_no column values)
 unfolding reduce_at
 reduce_back ts class use_no column values fits =
     back_as (back_next _ (ts_law.back ts fits.0) (back_next _ (class_law.back class fits.1) (
@@ -123,7 +123,7 @@ reduced_fields =
     only_last _ u64_law (λ count h4. (simp append_assoc, (h1, h2, h3, h4))))))
 
 reduced_back : (ts : Ts) (class : ClassNo) (use_no : ℕ) (count : ℕ)
-    → Fits (Reduced ts class use_no count) → Back reduced_at (Reduced ts class use_no count)
+    → FitsMsg (Reduced ts class use_no count) → Back reduced_at (Reduced ts class use_no count)
 unfolding reduced_at
 reduced_back ts class use_no count fits =
     back_as (back_next _ (ts_law.back ts fits.0) (back_next _ (class_law.back class fits.1) (
@@ -134,7 +134,7 @@ ship_fields : Fields 8 ship_at
 unfolding ship_at
 ship_fields = only_next ts_law (λ ts h1. only_last _ class_law (λ class h2. (refl, (h1, h2))))
 
-ship_back : (ts : Ts) (class : ClassNo) → Fits (Ship ts class) → Back ship_at (Ship ts class)
+ship_back : (ts : Ts) (class : ClassNo) → FitsMsg (Ship ts class) → Back ship_at (Ship ts class)
 unfolding ship_at
 ship_back ts class fits = back_next _ (ts_law.back ts fits.0) (back_last _ (class_law.back class fits.1))
 
@@ -144,7 +144,7 @@ rows_fields =
     only_next ts_law (λ ts h1. only_next class_law (λ class h2. only_last _ rows_law (λ rows h3.
     (simp append_assoc, (h1, h2, h3)))))
 
-rows_back : (ts : Ts) (class : ClassNo) (rows : List (ℕ × List Value)) → Fits (Rows ts class rows)
+rows_back : (ts : Ts) (class : ClassNo) (rows : List (ℕ × List Value)) → FitsMsg (Rows ts class rows)
     → Back rows_at (Rows ts class rows)
 unfolding rows_at
 rows_back ts class rows fits =
@@ -158,7 +158,7 @@ write_fields =
     only_last _ changes_law (λ changes h4. (simp append_assoc, (h1, h2, h3, h4))))))
 
 write_back : (ts : Ts) (class : ClassNo) (txn : TxnNo) (changes : List Change)
-    → Fits (Write ts class txn changes) → Back write_at (Write ts class txn changes)
+    → FitsMsg (Write ts class txn changes) → Back write_at (Write ts class txn changes)
 unfolding write_at
 write_back ts class txn changes fits =
     back_as (back_next _ (ts_law.back ts fits.0) (back_next _ (class_law.back class fits.1) (
@@ -169,7 +169,7 @@ null_fields : Fields 11 null_at
 unfolding null_at
 null_fields = only_next class_law (λ class h1. only_last _ ts_law (λ time h2. (refl, (h1, h2))))
 
-null_back : (class : ClassNo) (time : Ts) → Fits (Null class time) → Back null_at (Null class time)
+null_back : (class : ClassNo) (time : Ts) → FitsMsg (Null class time) → Back null_at (Null class time)
 unfolding null_at
 null_back class time fits = back_next _ (class_law.back class fits.0) (back_last _ (ts_law.back time fits.1))
 
@@ -177,7 +177,7 @@ ask_fields : Fields 12 ask_at
 unfolding ask_at
 ask_fields = only_next class_law (λ class h1. only_last _ ts_law (λ time h2. (refl, (h1, h2))))
 
-ask_back : (class : ClassNo) (time : Ts) → Fits (Ask class time) → Back ask_at (Ask class time)
+ask_back : (class : ClassNo) (time : Ts) → FitsMsg (Ask class time) → Back ask_at (Ask class time)
 unfolding ask_at
 ask_back class time fits = back_next _ (class_law.back class fits.0) (back_last _ (ts_law.back time fits.1))
 
@@ -188,7 +188,7 @@ held_fields : Fields 14 held_at
 unfolding held_at
 held_fields = only_last _ ts_law (λ time h1. (refl, h1))
 
-held_back : (time : Ts) → Fits (Held time) → Back held_at (Held time)
+held_back : (time : Ts) → FitsMsg (Held time) → Back held_at (Held time)
 unfolding held_at
 held_back time fits = back_last _ (ts_law.back time fits)
 
@@ -196,7 +196,7 @@ done_fields : Fields 15 done_at
 unfolding done_at
 done_fields = only_last _ ts_law (λ ts h1. (refl, h1))
 
-done_back : (ts : Ts) → Fits (Done ts) → Back done_at (Done ts)
+done_back : (ts : Ts) → FitsMsg (Done ts) → Back done_at (Done ts)
 unfolding done_at
 done_back ts fits = back_last _ (ts_law.back ts fits)
 
@@ -204,7 +204,7 @@ release_fields : Fields 16 release_at
 unfolding release_at
 release_fields = only_last _ ts_law (λ ts h1. (refl, h1))
 
-release_back : (ts : Ts) → Fits (Release ts) → Back release_at (Release ts)
+release_back : (ts : Ts) → FitsMsg (Release ts) → Back release_at (Release ts)
 unfolding release_at
 release_back ts fits = back_last _ (ts_law.back ts fits)
 
@@ -252,7 +252,7 @@ behind_tag tag fields text msg is back = record {
       ap (λ o. after (known_at (place front) o behind) (λ fields. fields)) is ∙ back.reads whole rest;
 }
 
-message_back : (msg : Msg) → Fits msg → ReadsBack message_at (spelled msg) msg
+message_back : (msg : Msg) → FitsMsg msg → ReadsBack message_at (spelled msg) msg
 message_back (Read ts class txn attempt conds uses) fits =
     behind_tag 1 read_at _ _ refl (read_back ts class txn attempt conds uses fits)
 message_back (Ready ts class counts) fits = behind_tag 2 ready_at _ _ refl (ready_back ts class counts fits)
@@ -278,7 +278,7 @@ message_back (Release ts) fits = behind_tag 16 release_at _ _ refl (release_back
 IsTagOf : Reading Msg → List ℕ → Type 0
 IsTagOf fields text = (tag : ℕ) × (text ≡ tag ∷ []) × (numbered fields_by_tag tag ≡ Some fields)
 
-pub message_law : Law Fits spelled message_at
+pub message_law : Law FitsMsg spelled message_at
 unfolding message_at IsTagOf
 message_law = record {
   back = message_back;
@@ -286,7 +286,7 @@ message_law = record {
       (only_meant {Q = IsTagOf} (numbered fields_by_tag) byte_law (λ tag fields fits is. (tag, refl, is)))
       (λ fields text h.
       let behind : Fields h.0 fields = numbered_so Fields fields_by_tag h.0 fields by_tags h.2 in
-      subst (λ (l : List ℕ). OnlyReads (λ msg more. IsSpelled Fits spelled msg (l ++ more)) fields) (sym h.1) behind);
+      subst (λ (l : List ℕ). OnlyReads (λ msg more. IsSpelled FitsMsg spelled msg (l ++ more)) fields) (sym h.1) behind);
 }
 
 -- the whole of the bytes
@@ -306,7 +306,7 @@ whole_ok (Ok read) msg e =
     (read.1, ap (λ m. Ok (m, read.1)) end.0, end.1)
 whole_ok (Err broken) msg e = absurd cc
 
-pub message_read_back : (msg : Msg) → Fits msg → message_in (spelled msg) ≡ Ok msg
+pub message_read_back : (msg : Msg) → FitsMsg msg → message_in (spelled msg) ≡ Ok msg
 unfolding message_in
 message_read_back msg fits =
     let n : ℕ = length (spelled msg) in
@@ -315,7 +315,7 @@ message_read_back msg fits =
     ∙ ap whole ((message_law.back msg fits).reads n [])
 
 pub message_spelled_so : (bytes : List ℕ) (msg : Msg) → AreBytes bytes → message_in bytes ≡ Ok msg
-    → Fits msg × (bytes ≡ spelled msg)
+    → FitsMsg msg × (bytes ≡ spelled msg)
 unfolding message_in
 message_spelled_so bytes msg are_bytes e =
     let read = whole_ok (message_at (source_of bytes)) msg e in

@@ -1,5 +1,5 @@
 -- The laws of bytes and numbers.
-use Rattle.sdd_wire.proofs.All.{Bool, Err, Fits-of_z, FitsClass, FitsFrag, FitsI64, FitsRel, FitsTs, FitsTxn, FitsU32, FitsU64, List, Ok, Reading, Result, Some, Source, [], ap, arith, be_bytes_4, be_bytes_8, byte_at, cases_lt, cast_signed, cast_unsigned, drop, drop_at, false, first_byte, flag, flag_at, from_be_bytes, from_be_bytes-to_be_bytes_4, from_be_bytes-to_be_bytes_8, get_or-drop, get_or-take, get_or_past, if◌then◌else◌, inl, inr, le-ltb, length, length-append, length-take, ltb-false, nat_lt, of_z-to_z, piece_at, place, refl, sfits_to_z, spelled_class, spelled_frag, spelled_rel, spelled_ts, spelled_txn, subst, suc, sym, take, take-append-drop, take_at, to_be_bytes, to_z-of_z, true, w32, w64, zero, ℕ, ◌++◌, ◌+◌, ◌<◌, ◌∙◌, ◌∷◌, ◌≡◌, ◌≤◌}
+use Rattle.sdd_wire.proofs.All.{Bool, Err, Fits-of_z, FitsClass, FitsFrag, FitsI64, FitsRel, FitsTs, FitsTxnNo, FitsU32, FitsU64, List, Ok, Reading, Result, Some, Source, [], ap, arith, be_bytes_4, be_bytes_8, byte_at, cases_lt, cast_signed, cast_unsigned, drop, drop_at, false, first_byte, flag, flag_at, from_be_bytes, from_be_bytes-to_be_bytes_4, from_be_bytes-to_be_bytes_8, get_or-drop, get_or-take, get_or_past, if◌then◌else◌, inl, inr, le-ltb, length, length-append, length-take, ltb-false, nat_lt, of_z-to_z, piece_at, place, refl, sfits_to_z, spelled_class, spelled_frag, spelled_rel, spelled_ts, spelled_txn, subst, suc, sym, take, take-append-drop, take_at, to_be_bytes, to_z-of_z, true, w32, w64, zero, ℕ, ◌++◌, ◌+◌, ◌<◌, ◌∙◌, ◌∷◌, ◌≡◌, ◌≤◌}
 use Rattle.sdd_wire.specs.Source.{number_at}
 use Rattle.sdd_wire.specs.Spelling.{spelled_u32, spelled_u64, spelled_i64}
 use Rattle.sdd_wire.specs.Reading.{i64_at, class_at, rel_at, frag_at, txn_at, ts_at}
@@ -178,7 +178,7 @@ frag_law = record {
   only = only_last _ u32_law (λ n fits. (refl, fits));
 }
 
-pub txn_law : Law FitsTxn spelled_txn txn_at
+pub txn_law : Law FitsTxnNo spelled_txn txn_at
 unfolding txn_at
 txn_law = record {
   back = λ x fits. back_last _ (u32_law.back x.0 fits);

@@ -38,8 +38,8 @@ FitsRel rel = FitsU32 rel.0
 abbrev pub FitsFrag : FragNo → Type 0
 FitsFrag frag = FitsU32 frag.0
 
-abbrev pub FitsTxn : TxnNo → Type 0
-FitsTxn txn = FitsU32 txn.0
+abbrev pub FitsTxnNo : TxnNo → Type 0
+FitsTxnNo txn = FitsU32 txn.0
 
 abbrev pub FitsTs : Ts → Type 0
 FitsTs ts = FitsU64 ts.0
@@ -78,28 +78,28 @@ FitsCond c = FitsClass c.class × FitsTs c.time × FitsList FitsFrag c.frags
 abbrev pub FitsChange : Change → Type 0
 FitsChange c = FitsFrag c.frag × FitsI64 c.key × FitsOption FitsRow c.row
 
-abbrev pub Fits : Msg → Type 0
-Fits (Read ts class txn attempt conds uses) =
-    FitsTs ts × FitsClass class × FitsTxn txn × FitsU64 attempt
+abbrev pub FitsMsg : Msg → Type 0
+FitsMsg (Read ts class txn attempt conds uses) =
+    FitsTs ts × FitsClass class × FitsTxnNo txn × FitsU64 attempt
     × FitsList FitsCond conds × FitsList FitsUse uses
-Fits (Ready ts class counts) =
+FitsMsg (Ready ts class counts) =
     FitsTs ts × FitsClass class × FitsList (FitsPair FitsU32 FitsU64) counts
-Fits (Reject ts class by write) = FitsTs ts × FitsClass class × FitsClass by × FitsTs write
-Fits (Fetch ts class use_no column) =
+FitsMsg (Reject ts class by write) = FitsTs ts × FitsClass class × FitsClass by × FitsTs write
+FitsMsg (Fetch ts class use_no column) =
     FitsTs ts × FitsClass class × FitsU32 use_no × FitsU32 column
-Fits (Values ts class use_no values) =
+FitsMsg (Values ts class use_no values) =
     FitsTs ts × FitsClass class × FitsU32 use_no × FitsList FitsValue values
-Fits (Reduce ts class use_no column values) =
+FitsMsg (Reduce ts class use_no column values) =
     FitsTs ts × FitsClass class × FitsU32 use_no × FitsU32 column × FitsList FitsValue values
-Fits (Reduced ts class use_no count) =
+FitsMsg (Reduced ts class use_no count) =
     FitsTs ts × FitsClass class × FitsU32 use_no × FitsU64 count
-Fits (Ship ts class) = FitsTs ts × FitsClass class
-Fits (Rows ts class rows) = FitsTs ts × FitsClass class × FitsList (FitsPair FitsU32 FitsRow) rows
-Fits (Write ts class txn changes) =
-    FitsTs ts × FitsClass class × FitsTxn txn × FitsList FitsChange changes
-Fits (Null class time) = FitsClass class × FitsTs time
-Fits (Ask class time) = FitsClass class × FitsTs time
-Fits Hold = Unit {0}
-Fits (Held time) = FitsTs time
-Fits (Done ts) = FitsTs ts
-Fits (Release ts) = FitsTs ts
+FitsMsg (Ship ts class) = FitsTs ts × FitsClass class
+FitsMsg (Rows ts class rows) = FitsTs ts × FitsClass class × FitsList (FitsPair FitsU32 FitsRow) rows
+FitsMsg (Write ts class txn changes) =
+    FitsTs ts × FitsClass class × FitsTxnNo txn × FitsList FitsChange changes
+FitsMsg (Null class time) = FitsClass class × FitsTs time
+FitsMsg (Ask class time) = FitsClass class × FitsTs time
+FitsMsg Hold = Unit {0}
+FitsMsg (Held time) = FitsTs time
+FitsMsg (Done ts) = FitsTs ts
+FitsMsg (Release ts) = FitsTs ts

@@ -1,8 +1,8 @@
 ghost use Rattle.std.specs.Prelude.{◌≡◌, ◌<◌, ◌^◌, ℕ, List, Ok, IfOk, All};
-ghost use Rattle.sdd_base.specs.Readings.{Gives};
+ghost use Rattle.sdd_base.specs.Readings.{GivesReading};
 ghost use Rattle.sdd_wire.specs.declared.msg.Msg.{Msg as Message};
 ghost use Rattle.sdd_wire.specs.Spelling.{spelled};
-ghost use Rattle.sdd_wire.specs.Fits.{Fits};
+ghost use Rattle.sdd_wire.specs.Fits.{FitsMsg};
 ghost use Rattle.sdd_wire.specs.Reading.{message_in, fault_in};
 
 use crate::fault::WireFault;
@@ -13,7 +13,7 @@ use std::alloc::Global;
 
 #[tactic(auto, unfolding(crate::specs::Reading::message_in))]
 fn whole_message(alloc: Global, bytes: &[u8]) -> Result<Msg, WireFault>
-    ensures { Gives fault_in (λ msg. msg) result (message_in bytes.now) }
+    ensures { GivesReading fault_in (λ msg. msg) result (message_in bytes.now) }
 {
     let mut source = Source::new(bytes);
     let msg = Msg::read(alloc, &mut source)?;
@@ -30,19 +30,19 @@ fn whole_message(alloc: Global, bytes: &[u8]) -> Result<Msg, WireFault>
 /// there, it takes only room for the first few items of a list.
 pub fn decode(alloc: Global, bytes: &[u8]) -> Result<Msg, WireFault>
     // What is read is spelled so.
-    ensures spelled { IfOk result (λ msg. Fits msg × (bytes.now ≡ spelled msg)) }
+    ensures spelled { IfOk result (λ msg. FitsMsg msg × (bytes.now ≡ spelled msg)) }
     // What is spelled so is read, unless memory runs out.
-    ensures read { (msg : Message) → Fits msg → bytes.now ≡ spelled msg
-        → Gives fault_in (λ found. found) result (Ok msg) }
+    ensures read { (msg : Message) → FitsMsg msg → bytes.now ≡ spelled msg
+        → GivesReading fault_in (λ found. found) result (Ok msg) }
     // Where the bytes break it.
-    ensures exact { Gives fault_in (λ msg. msg) result (message_in bytes.now) }
+    ensures exact { GivesReading fault_in (λ msg. msg) result (message_in bytes.now) }
 {
     whole_message(alloc, bytes)
 }
 
 /// A law: each message is read back from its spelling, and what is read is spelled so.
 pub fn law_spelling()
-    ensures read_back { (msg : Message) → Fits msg → message_in (spelled msg) ≡ Ok msg }
+    ensures read_back { (msg : Message) → FitsMsg msg → message_in (spelled msg) ≡ Ok msg }
     ensures spelled_so { (bytes : List ℕ) (msg : Message) → All (λ byte. byte < 2 ^ 8) bytes
-        → message_in bytes ≡ Ok msg → Fits msg × (bytes ≡ spelled msg) }
+        → message_in bytes ≡ Ok msg → FitsMsg msg × (bytes ≡ spelled msg) }
 {}

@@ -1,6 +1,6 @@
 ghost use Rattle.std.specs.Prelude.{◌≡◌, IfOk, OnOk};
 ghost use Rattle.sdd_wire.specs.Spelling.{spelled};
-ghost use Rattle.sdd_wire.specs.Fits.{Fits};
+ghost use Rattle.sdd_wire.specs.Fits.{FitsMsg};
 
 use crate::msg::Msg;
 use crate::spelled::Spelled;
@@ -40,7 +40,7 @@ fn usual_room(msg: &Msg) -> usize {
 /// one block of memory.
 pub fn encode(alloc: Global, msg: &Msg) -> Result<Vec<u8>, NoMemory>
     ensures spelling { IfOk result (λ bytes. bytes.items ≡ spelled msg.now) }
-    ensures fits { OnOk result (Fits msg.now) }
+    ensures fits { OnOk result (FitsMsg msg.now) }
 {
     let mut bytes = Vec::with_capacity(alloc, usual_room(msg))?;
     msg.put(&mut bytes)?;

@@ -1,6 +1,6 @@
 ghost use Rattle.std.specs.Prelude.{◌≡◌, ◌++◌, flat_map, OnOk};
 ghost use Rattle.std.specs.List.{AllByRecursion};
-ghost use Rattle.sdd_base.specs.Readings.{Gives};
+ghost use Rattle.sdd_base.specs.Readings.{GivesReading};
 ghost use Rattle.sdd_wire.specs.Source.{items_at, list_at, pair_at, option_at};
 ghost use Rattle.sdd_wire.specs.Spelling.{spelled_list, spelled_pair, spelled_option};
 ghost use Rattle.sdd_wire.specs.Fits.{FitsList, FitsPair, FitsOption};
@@ -77,7 +77,7 @@ fn read_items<T: Spelled>(
     count: u64,
     source: &mut Source<'_>,
 ) -> Result<Vec<T>, WireFault>
-    ensures { Gives fault_in (λ v. (v.items, source.new)) result (items_at T.reading count source.old) }
+    ensures { GivesReading fault_in (λ v. (v.items, source.new)) result (items_at T.reading count source.old) }
 {
     let mut items = Vec::with_capacity(alloc, count.min(FEW) as usize)?;
     'items: for _ in 0..count {

@@ -1,8 +1,8 @@
 //! Messages: a tag, and the fields after it.
 ghost use Rattle.std.specs.Prelude.{◌≡◌};
-ghost use Rattle.sdd_base.specs.Readings.{Gives};
+ghost use Rattle.sdd_base.specs.Readings.{GivesReading};
 ghost use Rattle.sdd_wire.specs.Spelling.{spelled};
-ghost use Rattle.sdd_wire.specs.Fits.{Fits};
+ghost use Rattle.sdd_wire.specs.Fits.{FitsMsg};
 ghost use Rattle.sdd_wire.specs.Reading.{fault_in, message_at, read_at, ready_at, reject_at, fetch_at, values_at, reduce_at, reduced_at, ship_at};
 ghost use Rattle.sdd_wire.specs.Reading.{rows_at, write_at, null_at, ask_at, held_at, done_at, release_at};
 
@@ -16,7 +16,7 @@ use std::alloc::Global;
 
 #[tactic(auto, unfolding(crate::specs::Reading::read_at))]
 fn read_read(alloc: Global, source: &mut Source<'_>) -> Result<Msg, WireFault>
-    ensures { Gives fault_in (λ msg. (msg, source.new)) result (read_at source.old) }
+    ensures { GivesReading fault_in (λ msg. (msg, source.new)) result (read_at source.old) }
 {
     Ok(Msg::Read {
         ts: Ts::read(alloc, source)?,
@@ -30,7 +30,7 @@ fn read_read(alloc: Global, source: &mut Source<'_>) -> Result<Msg, WireFault>
 
 #[tactic(auto, unfolding(crate::specs::Reading::ready_at))]
 fn read_ready(alloc: Global, source: &mut Source<'_>) -> Result<Msg, WireFault>
-    ensures { Gives fault_in (λ msg. (msg, source.new)) result (ready_at source.old) }
+    ensures { GivesReading fault_in (λ msg. (msg, source.new)) result (ready_at source.old) }
 {
     Ok(Msg::Ready {
         ts: Ts::read(alloc, source)?,
@@ -41,7 +41,7 @@ fn read_ready(alloc: Global, source: &mut Source<'_>) -> Result<Msg, WireFault>
 
 #[tactic(auto, unfolding(crate::specs::Reading::reject_at))]
 fn read_reject(alloc: Global, source: &mut Source<'_>) -> Result<Msg, WireFault>
-    ensures { Gives fault_in (λ msg. (msg, source.new)) result (reject_at source.old) }
+    ensures { GivesReading fault_in (λ msg. (msg, source.new)) result (reject_at source.old) }
 {
     Ok(Msg::Reject {
         ts: Ts::read(alloc, source)?,
@@ -53,7 +53,7 @@ fn read_reject(alloc: Global, source: &mut Source<'_>) -> Result<Msg, WireFault>
 
 #[tactic(auto, unfolding(crate::specs::Reading::fetch_at))]
 fn read_fetch(alloc: Global, source: &mut Source<'_>) -> Result<Msg, WireFault>
-    ensures { Gives fault_in (λ msg. (msg, source.new)) result (fetch_at source.old) }
+    ensures { GivesReading fault_in (λ msg. (msg, source.new)) result (fetch_at source.old) }
 {
     Ok(Msg::Fetch {
         ts: Ts::read(alloc, source)?,
@@ -65,7 +65,7 @@ fn read_fetch(alloc: Global, source: &mut Source<'_>) -> Result<Msg, WireFault>
 
 #[tactic(auto, unfolding(crate::specs::Reading::values_at))]
 fn read_values(alloc: Global, source: &mut Source<'_>) -> Result<Msg, WireFault>
-    ensures { Gives fault_in (λ msg. (msg, source.new)) result (values_at source.old) }
+    ensures { GivesReading fault_in (λ msg. (msg, source.new)) result (values_at source.old) }
 {
     Ok(Msg::Values {
         ts: Ts::read(alloc, source)?,
@@ -77,7 +77,7 @@ fn read_values(alloc: Global, source: &mut Source<'_>) -> Result<Msg, WireFault>
 
 #[tactic(auto, unfolding(crate::specs::Reading::reduce_at))]
 fn read_reduce(alloc: Global, source: &mut Source<'_>) -> Result<Msg, WireFault>
-    ensures { Gives fault_in (λ msg. (msg, source.new)) result (reduce_at source.old) }
+    ensures { GivesReading fault_in (λ msg. (msg, source.new)) result (reduce_at source.old) }
 {
     Ok(Msg::Reduce {
         ts: Ts::read(alloc, source)?,
@@ -90,7 +90,7 @@ fn read_reduce(alloc: Global, source: &mut Source<'_>) -> Result<Msg, WireFault>
 
 #[tactic(auto, unfolding(crate::specs::Reading::reduced_at))]
 fn read_reduced(alloc: Global, source: &mut Source<'_>) -> Result<Msg, WireFault>
-    ensures { Gives fault_in (λ msg. (msg, source.new)) result (reduced_at source.old) }
+    ensures { GivesReading fault_in (λ msg. (msg, source.new)) result (reduced_at source.old) }
 {
     Ok(Msg::Reduced {
         ts: Ts::read(alloc, source)?,
@@ -102,7 +102,7 @@ fn read_reduced(alloc: Global, source: &mut Source<'_>) -> Result<Msg, WireFault
 
 #[tactic(auto, unfolding(crate::specs::Reading::ship_at))]
 fn read_ship(alloc: Global, source: &mut Source<'_>) -> Result<Msg, WireFault>
-    ensures { Gives fault_in (λ msg. (msg, source.new)) result (ship_at source.old) }
+    ensures { GivesReading fault_in (λ msg. (msg, source.new)) result (ship_at source.old) }
 {
     Ok(Msg::Ship {
         ts: Ts::read(alloc, source)?,
@@ -112,7 +112,7 @@ fn read_ship(alloc: Global, source: &mut Source<'_>) -> Result<Msg, WireFault>
 
 #[tactic(auto, unfolding(crate::specs::Reading::rows_at))]
 fn read_rows(alloc: Global, source: &mut Source<'_>) -> Result<Msg, WireFault>
-    ensures { Gives fault_in (λ msg. (msg, source.new)) result (rows_at source.old) }
+    ensures { GivesReading fault_in (λ msg. (msg, source.new)) result (rows_at source.old) }
 {
     Ok(Msg::Rows {
         ts: Ts::read(alloc, source)?,
@@ -123,7 +123,7 @@ fn read_rows(alloc: Global, source: &mut Source<'_>) -> Result<Msg, WireFault>
 
 #[tactic(auto, unfolding(crate::specs::Reading::write_at))]
 fn read_write(alloc: Global, source: &mut Source<'_>) -> Result<Msg, WireFault>
-    ensures { Gives fault_in (λ msg. (msg, source.new)) result (write_at source.old) }
+    ensures { GivesReading fault_in (λ msg. (msg, source.new)) result (write_at source.old) }
 {
     Ok(Msg::Write {
         ts: Ts::read(alloc, source)?,
@@ -135,7 +135,7 @@ fn read_write(alloc: Global, source: &mut Source<'_>) -> Result<Msg, WireFault>
 
 #[tactic(auto, unfolding(crate::specs::Reading::null_at))]
 fn read_null(alloc: Global, source: &mut Source<'_>) -> Result<Msg, WireFault>
-    ensures { Gives fault_in (λ msg. (msg, source.new)) result (null_at source.old) }
+    ensures { GivesReading fault_in (λ msg. (msg, source.new)) result (null_at source.old) }
 {
     Ok(Msg::Null {
         class: ClassNo::read(alloc, source)?,
@@ -145,7 +145,7 @@ fn read_null(alloc: Global, source: &mut Source<'_>) -> Result<Msg, WireFault>
 
 #[tactic(auto, unfolding(crate::specs::Reading::ask_at))]
 fn read_ask(alloc: Global, source: &mut Source<'_>) -> Result<Msg, WireFault>
-    ensures { Gives fault_in (λ msg. (msg, source.new)) result (ask_at source.old) }
+    ensures { GivesReading fault_in (λ msg. (msg, source.new)) result (ask_at source.old) }
 {
     Ok(Msg::Ask {
         class: ClassNo::read(alloc, source)?,
@@ -155,7 +155,7 @@ fn read_ask(alloc: Global, source: &mut Source<'_>) -> Result<Msg, WireFault>
 
 #[tactic(auto, unfolding(crate::specs::Reading::held_at))]
 fn read_held(alloc: Global, source: &mut Source<'_>) -> Result<Msg, WireFault>
-    ensures { Gives fault_in (λ msg. (msg, source.new)) result (held_at source.old) }
+    ensures { GivesReading fault_in (λ msg. (msg, source.new)) result (held_at source.old) }
 {
     Ok(Msg::Held {
         time: Ts::read(alloc, source)?,
@@ -164,7 +164,7 @@ fn read_held(alloc: Global, source: &mut Source<'_>) -> Result<Msg, WireFault>
 
 #[tactic(auto, unfolding(crate::specs::Reading::done_at))]
 fn read_done(alloc: Global, source: &mut Source<'_>) -> Result<Msg, WireFault>
-    ensures { Gives fault_in (λ msg. (msg, source.new)) result (done_at source.old) }
+    ensures { GivesReading fault_in (λ msg. (msg, source.new)) result (done_at source.old) }
 {
     Ok(Msg::Done {
         ts: Ts::read(alloc, source)?,
@@ -173,7 +173,7 @@ fn read_done(alloc: Global, source: &mut Source<'_>) -> Result<Msg, WireFault>
 
 #[tactic(auto, unfolding(crate::specs::Reading::release_at))]
 fn read_release(alloc: Global, source: &mut Source<'_>) -> Result<Msg, WireFault>
-    ensures { Gives fault_in (λ msg. (msg, source.new)) result (release_at source.old) }
+    ensures { GivesReading fault_in (λ msg. (msg, source.new)) result (release_at source.old) }
 {
     Ok(Msg::Release {
         ts: Ts::read(alloc, source)?,
@@ -185,7 +185,7 @@ impl Spelled for Msg {
 
     ghost reading = { message_at };
 
-    ghost fits = { Fits };
+    ghost fits = { FitsMsg };
 
     fn put(&self, out: &mut Vec<u8>) -> Result<(), NoMemory> {
         match self {

@@ -1,7 +1,7 @@
 ghost use Rattle.std.specs.Int.{w32, w64};
 ghost use Rattle.sdd_wire.specs.Source.{number_at};
 ghost use Rattle.sdd_wire.specs.Spelling.{spelled_u32, spelled_u64, spelled_i64, spelled_class, spelled_rel, spelled_frag, spelled_txn, spelled_ts};
-ghost use Rattle.sdd_wire.specs.Fits.{FitsU32, FitsU64, FitsI64, FitsClass, FitsRel, FitsFrag, FitsTxn, FitsTs};
+ghost use Rattle.sdd_wire.specs.Fits.{FitsU32, FitsU64, FitsI64, FitsClass, FitsRel, FitsFrag, FitsTxnNo, FitsTs};
 ghost use Rattle.sdd_wire.specs.Reading.{i64_at, class_at, rel_at, frag_at, txn_at, ts_at};
 
 use crate::fault::WireFault;
@@ -130,7 +130,7 @@ impl Spelled for TxnNo {
 
     ghost reading = { txn_at };
 
-    ghost fits = { FitsTxn };
+    ghost fits = { FitsTxnNo };
 
     fn put(&self, out: &mut Vec<u8>) -> Result<(), NoMemory> {
         self.0.put(out)

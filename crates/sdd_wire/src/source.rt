@@ -1,5 +1,5 @@
 ghost use Rattle.std.specs.Prelude.{◌≡◌, length, IfOk};
-ghost use Rattle.sdd_base.specs.Readings.{Gives};
+ghost use Rattle.sdd_base.specs.Readings.{GivesReading};
 ghost use Rattle.sdd_base.specs.Words.{is_empty};
 ghost use Rattle.sdd_wire.specs.Source.{source_of, place, piece_at, byte_at, flag_at};
 ghost use Rattle.sdd_wire.specs.Reading.{fault_in};
@@ -52,7 +52,7 @@ impl<'a> Source<'a> {
 
     /// The next `n` bytes.
     pub(crate) fn piece(&mut self, n: usize) -> Result<&'a [u8], WireFault>
-        ensures read { Gives fault_in (λ p. (p.now, self.new)) result (piece_at n self.old) }
+        ensures read { GivesReading fault_in (λ p. (p.now, self.new)) result (piece_at n self.old) }
         ensures length { IfOk result (λ p. length p.now ≡ n) }
     {
         if self.left.len() < n {
@@ -65,7 +65,7 @@ impl<'a> Source<'a> {
 
     /// The next byte.
     pub(crate) fn byte(&mut self) -> Result<u8, WireFault>
-        ensures { Gives fault_in (λ byte. (byte, self.new)) result (byte_at self.old) }
+        ensures { GivesReading fault_in (λ byte. (byte, self.new)) result (byte_at self.old) }
     {
         match self.left {
             [first, rest @ ..] => {
@@ -78,7 +78,7 @@ impl<'a> Source<'a> {
 
     /// The next byte, which is 0 or 1.
     pub(crate) fn flag(&mut self) -> Result<bool, WireFault>
-        ensures { Gives fault_in (λ is_set. (is_set, self.new)) result (flag_at self.old) }
+        ensures { GivesReading fault_in (λ is_set. (is_set, self.new)) result (flag_at self.old) }
     {
         let place = self.place();
         match self.byte()? {

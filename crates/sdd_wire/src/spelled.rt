@@ -1,5 +1,5 @@
 ghost use Rattle.std.specs.Prelude.{◌≡◌, ◌++◌, List, ℕ, OnOk};
-ghost use Rattle.sdd_base.specs.Readings.{Gives};
+ghost use Rattle.sdd_base.specs.Readings.{GivesReading};
 ghost use Rattle.sdd_wire.specs.Source.{Reading};
 ghost use Rattle.sdd_wire.specs.Reading.{fault_in};
 
@@ -26,5 +26,5 @@ pub(crate) trait Spelled: Sized + Drop {
 
     /// Reads it from the front of what is left.
     fn read(alloc: Global, source: &mut Source<'_>) -> Result<Self, WireFault>
-        ensures { Gives fault_in (λ x. (x, source.new)) result (reading source.old) };
+        ensures { GivesReading fault_in (λ x. (x, source.new)) result (reading source.old) };
 }

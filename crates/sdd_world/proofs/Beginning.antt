@@ -1,5 +1,5 @@
 -- A world before its first event, over plain worlds.
-use Rattle.sdd_world.proofs.All.{Carries, Input, IsGood, IsSiteOf, IsSound, KeepsFor, List, Mailbox, Msg, None, Option, Represent, Represents, Site, Some, Spooled, U, World, [], ap, arith, beginning, dm_no, empty_mailbox, false, get_or as slice_index_or, kept_from, length, length-replicate, mailbox_at, next_at_first, nth_era, place_of, queue_at, refl, replicate, rests_at_first, setting_of, subst, suc, sym, true, zero, ℕ, ◌-◌, ◌<◌, ◌∙◌, ◌≡◌, ◌≤◌}
+use Rattle.sdd_world.proofs.All.{Carries, Input, IsGood, IsSiteOf, IsSoundNetwork, KeepsFor, List, Mailbox, Msg, None, Option, Represent, Represents, Site, Some, Spooled, U, World, [], ap, arith, beginning, dm_no, empty_mailbox, false, get_or as slice_index_or, kept_from, length, length-replicate, mailbox_at, next_at_first, nth_era, place_of, queue_at, refl, replicate, rests_at_first, setting_of, subst, suc, sym, true, zero, ℕ, ◌-◌, ◌<◌, ◌∙◌, ◌≡◌, ◌≤◌}
 use Rattle.sdd_world.proofs.Keeping.{dm_within}
 
 nothing_at : {A : Type 0} (n k : ℕ) → slice_index_or (replicate {A = List A} n []) k [] ≡ []
@@ -38,7 +38,7 @@ spooled_none g tms dms t d = record {
 
 -- nothing is recorded, kept or due
 pub begins : (w : World) (tms dms : ℕ) → w.history ≡ [] → w.marks ≡ 0 → w.given.items ≡ [] → w.spool ≡ empty_spool tms dms
-    → (g : Input) → IsGood g → IsSound g → w.whole.now ≡ g.catalogue → w.catalogue.now ≡ (nth_era g 0).catalogue
+    → (g : Input) → IsGood g → IsSoundNetwork g → w.whole.now ≡ g.catalogue → w.catalogue.now ≡ (nth_era g 0).catalogue
     → g.catalogue.tms ≡ tms → g.catalogue.dms ≡ dms → w.txns ≡ g.txns → g.events ≡ []
     → ((at : Site) → IsSiteOf g at → Represent w.sites at (setting_of g at) (beginning g at))
     → Carries w.net g.catalogue.tms g.catalogue.dms [] → Represents w g []

@@ -34,13 +34,13 @@ if_ok (Err e) P Q h k = tt
 
 -- the laws of `take` and `submit`, for whatever stands for logs and acts by a table
 module _ {V : Type 0} (represents : Representation V) (next : Table) where
-  abbrev pub Takes : Fitting → V → V → Site → Msg → Outcome → Type 0
-  Takes fits v v2 from msg o =
+  abbrev pub TakesMsg : Fitting → V → V → Site → Msg → Outcome → Type 0
+  TakesMsg fits v v2 from msg o =
       (setting : Setting) (bases : Bases) (log : site.Log) → represents v setting log → fits setting bases log from msg
       → Does (next setting bases) (Handed from msg ∷ log) o.recs o.out (represents v2 setting)
 
-  abbrev pub Input : FittingSubmit → V → V → TxnNo → Txn → Outcome → Type 0
-  Input fits v v2 n txn o =
+  abbrev pub TakesTxn : FittingSubmit → V → V → TxnNo → Txn → Outcome → Type 0
+  TakesTxn fits v v2 n txn o =
       (setting : Setting) (bases : Bases) (log : site.Log) → represents v setting log → fits setting bases log n.0 txn
       → (recs : List Rec) × (o.recs ≡ Submission n ∷ recs) × Does (next setting bases) (Submits n.0 txn ∷ log) recs o.out (represents v2 setting)
 
@@ -51,12 +51,12 @@ record Widens {V W : Type 0} (represents : Representation V) (wide : Representat
 
 module _ {V W : Type 0} (represents : Representation V) (wide : Representation W) (next table : Table) (agree : Agree next table) (v v2 : V) (w w2 : W)
     (widens : Widens represents wide v v2 w w2) where
-  takes_so : (fits : Fitting) (from : Site) (msg : Msg) (o : Outcome) → Takes represents next fits v v2 from msg o → Takes wide table fits w w2 from msg o
+  takes_so : (fits : Fitting) (from : Site) (msg : Msg) (o : Outcome) → TakesMsg represents next fits v v2 from msg o → TakesMsg wide table fits w w2 from msg o
   takes_so fits from msg o law = λ setting bases log s f.
       does_by (next setting bases) (table setting bases) (agree setting bases) (Handed from msg ∷ log) o.recs o.out (represents v2 setting)
       (wide w2 setting) (λ k x. widens.widen setting log k s x) (law setting bases log (widens.narrow setting log s) f)
 
-  given_so : (fits : FittingSubmit) (n : TxnNo) (txn : Txn) (o : Outcome) → Input represents next fits v v2 n txn o → Input wide table fits w w2 n txn o
+  given_so : (fits : FittingSubmit) (n : TxnNo) (txn : Txn) (o : Outcome) → TakesTxn represents next fits v v2 n txn o → TakesTxn wide table fits w w2 n txn o
   given_so fits n txn o law = λ setting bases log s f.
       let d = law setting bases log (widens.narrow setting log s) f in (
         d.0,
@@ -70,13 +70,13 @@ module _ {V : Type 0} (is_live : V → Bool) (represents : Representation V) (ne
   lives : IsTrue (is_live v2) → Widens represents (Lives is_live represents) v v2 v v2
   lives live = record { narrow = λ setting log x. x.represents_log; widen = λ setting log more x y. record { live = live; represents_log = y } }
 
-  pub lives_take : (fits : Fitting) (from : Site) (msg : Msg) (res : Result Outcome NoMemory) → IfOk res (Takes represents next fits v v2 from msg)
-      → IfOk res (λ o. IsTrue (is_live v2)) → IfOk res (Takes (Lives is_live represents) next fits v v2 from msg)
+  pub lives_take : (fits : Fitting) (from : Site) (msg : Msg) (res : Result Outcome NoMemory) → IfOk res (TakesMsg represents next fits v v2 from msg)
+      → IfOk res (λ o. IsTrue (is_live v2)) → IfOk res (TakesMsg (Lives is_live represents) next fits v v2 from msg)
   lives_take fits from msg (Ok o) law live = takes_so represents (Lives is_live represents) next next (λ s b l. refl) v v2 v v2 (lives live) fits from msg o law
   lives_take fits from msg (Err e) law live = tt
 
-  pub lives_submit : (fits : FittingSubmit) (n : TxnNo) (txn : Txn) (res : Result Outcome NoMemory) → IfOk res (Input represents next fits v v2 n txn)
-      → IfOk res (λ o. IsTrue (is_live v2)) → IfOk res (Input (Lives is_live represents) next fits v v2 n txn)
+  pub lives_submit : (fits : FittingSubmit) (n : TxnNo) (txn : Txn) (res : Result Outcome NoMemory) → IfOk res (TakesTxn represents next fits v v2 n txn)
+      → IfOk res (λ o. IsTrue (is_live v2)) → IfOk res (TakesTxn (Lives is_live represents) next fits v v2 n txn)
   lives_submit fits n txn (Ok o) law live = given_so represents (Lives is_live represents) next next (λ s b l. refl) v v2 v v2 (lives live) fits n txn o law
   lives_submit fits n txn (Err e) law live = tt
 
@@ -89,8 +89,8 @@ there_at represents (y ∷ xs) (suc k) x setting log e h = there_at represents x
 
 pub submitted_in : {V : Type 0} (is_live : V → Bool) (represents : Representation V) (next : Table) (xs : List V) (k : ℕ) (v v2 : V)
     (fits : FittingSubmit) (n : TxnNo) (txn : Txn) (res : Result Outcome NoMemory) → v ≡ slice_index_or xs k v
-    → IfOk res (Input represents next fits v v2 n txn) → IfOk res (λ o. IsTrue (is_live v2))
-    → IfOk res (Input (At (Lives is_live represents)) next fits (slice_get xs k) (slice_get (slice_set xs k v2) k) n txn)
+    → IfOk res (TakesTxn represents next fits v v2 n txn) → IfOk res (λ o. IsTrue (is_live v2))
+    → IfOk res (TakesTxn (At (Lives is_live represents)) next fits (slice_get xs k) (slice_get (slice_set xs k v2) k) n txn)
 submitted_in is_live represents next xs k v v2 fits n txn (Ok o) e law live = λ setting bases log s f.
     let there = there_at (Lives is_live represents) xs k v setting log e s in
     let here : Lives is_live represents v setting log = subst (λ x. At (Lives is_live represents) x setting log) there s in
@@ -122,49 +122,49 @@ module _ {A B C : Type 0} (p : Representation A) (q : Representation B) (r : Rep
 
   module _ (fu ft fd : Fitting) (from : Site) (msg : Msg) (res : Result Outcome NoMemory) where
     abbrev pub TakenAt : A × List B × List C → A × List B × List C → Site → Type 0
-    TakenAt m m2 at = IfOk res (Takes (AllAt at) (next_of at) (fits_at fu ft fd at) m m2 from msg)
+    TakenAt m m2 at = IfOk res (TakesMsg (AllAt at) (next_of at) (fits_at fu ft fd at) m m2 from msg)
 
     pub take_u : (next : Table) (u u2 : A) (ts : List B) (ds : List C) (at : Site) → at ≡ U → Agree next um.next
-        → IfOk res (Takes p next fu u u2 from msg) → TakenAt (u, ts, ds) (u2, ts, ds) at
+        → IfOk res (TakesMsg p next fu u u2 from msg) → TakenAt (u, ts, ds) (u2, ts, ds) at
     take_u next u u2 ts ds at e agree law =
         subst (TakenAt (u, ts, ds) (u2, ts, ds)) (sym e)
-        (if_ok res (Takes p next fu u u2 from msg) (Takes (AllAt U) um.next fu (u, ts, ds) (u2, ts, ds) from msg)
+        (if_ok res (TakesMsg p next fu u u2 from msg) (TakesMsg (AllAt U) um.next fu (u, ts, ds) (u2, ts, ds) from msg)
         (takes_so p (AllAt U) next um.next agree u u2 (u, ts, ds) (u2, ts, ds) (at_u u u2 ts ds) fu from msg) law)
 
     pub take_t : (next : Table) (u : A) (ts ts2 : List B) (ds : List C) (at : Site) (n : TmNo) → at ≡ T n → Agree next tm.next
-        → IfOk res (Takes (At q) next ft (slice_get ts (n.0 - 1)) (slice_get ts2 (n.0 - 1)) from msg) → TakenAt (u, ts, ds) (u, ts2, ds) at
+        → IfOk res (TakesMsg (At q) next ft (slice_get ts (n.0 - 1)) (slice_get ts2 (n.0 - 1)) from msg) → TakenAt (u, ts, ds) (u, ts2, ds) at
     take_t next u ts ts2 ds at n e agree law =
         let here = slice_get ts (n.0 - 1) in
         let after = slice_get ts2 (n.0 - 1) in
         subst (TakenAt (u, ts, ds) (u, ts2, ds)) (sym e)
-        (if_ok res (Takes (At q) next ft here after from msg) (Takes (AllAt (T n)) tm.next ft (u, ts, ds) (u, ts2, ds) from msg)
+        (if_ok res (TakesMsg (At q) next ft here after from msg) (TakesMsg (AllAt (T n)) tm.next ft (u, ts, ds) (u, ts2, ds) from msg)
         (takes_so (At q) (AllAt (T n)) next tm.next agree here after (u, ts, ds) (u, ts2, ds) (at_t n u ts ts2 ds) ft from msg) law)
 
     pub take_d : (next : Table) (u : A) (ts : List B) (ds ds2 : List C) (at : Site) (n : DmNo) → at ≡ D n → Agree next dm.next
-        → IfOk res (Takes (At r) next fd (slice_get ds (n.0 - 1)) (slice_get ds2 (n.0 - 1)) from msg) → TakenAt (u, ts, ds) (u, ts, ds2) at
+        → IfOk res (TakesMsg (At r) next fd (slice_get ds (n.0 - 1)) (slice_get ds2 (n.0 - 1)) from msg) → TakenAt (u, ts, ds) (u, ts, ds2) at
     take_d next u ts ds ds2 at n e agree law =
         let here = slice_get ds (n.0 - 1) in
         let after = slice_get ds2 (n.0 - 1) in
         subst (TakenAt (u, ts, ds) (u, ts, ds2)) (sym e)
-        (if_ok res (Takes (At r) next fd here after from msg) (Takes (AllAt (D n)) dm.next fd (u, ts, ds) (u, ts, ds2) from msg)
+        (if_ok res (TakesMsg (At r) next fd here after from msg) (TakesMsg (AllAt (D n)) dm.next fd (u, ts, ds) (u, ts, ds2) from msg)
         (takes_so (At r) (AllAt (D n)) next dm.next agree here after (u, ts, ds) (u, ts, ds2) (at_d n u ts ds ds2) fd from msg) law)
 
   module _ (fu ft : FittingSubmit) (n : TxnNo) (txn : Txn) (res : Result Outcome NoMemory) where
     abbrev pub GivenAt : A × List B × List C → A × List B × List C → Site → Type 0
-    GivenAt m m2 at = IfOk res (Input (AllAt at) (next_of at) (fits_submit_at fu ft at) m m2 n txn)
+    GivenAt m m2 at = IfOk res (TakesTxn (AllAt at) (next_of at) (fits_submit_at fu ft at) m m2 n txn)
 
     pub submit_u : (next : Table) (u u2 : A) (ts : List B) (ds : List C) (at : Site) → at ≡ U → Agree next um.next
-        → IfOk res (Input p next fu u u2 n txn) → GivenAt (u, ts, ds) (u2, ts, ds) at
+        → IfOk res (TakesTxn p next fu u u2 n txn) → GivenAt (u, ts, ds) (u2, ts, ds) at
     submit_u next u u2 ts ds at e agree law =
         subst (GivenAt (u, ts, ds) (u2, ts, ds)) (sym e)
-        (if_ok res (Input p next fu u u2 n txn) (Input (AllAt U) um.next fu (u, ts, ds) (u2, ts, ds) n txn)
+        (if_ok res (TakesTxn p next fu u u2 n txn) (TakesTxn (AllAt U) um.next fu (u, ts, ds) (u2, ts, ds) n txn)
         (given_so p (AllAt U) next um.next agree u u2 (u, ts, ds) (u2, ts, ds) (at_u u u2 ts ds) fu n txn) law)
 
     pub submit_t : (next : Table) (u : A) (ts ts2 : List B) (ds : List C) (at : Site) (t : TmNo) → at ≡ T t → Agree next tm.next
-        → IfOk res (Input (At q) next ft (slice_get ts (t.0 - 1)) (slice_get ts2 (t.0 - 1)) n txn) → GivenAt (u, ts, ds) (u, ts2, ds) at
+        → IfOk res (TakesTxn (At q) next ft (slice_get ts (t.0 - 1)) (slice_get ts2 (t.0 - 1)) n txn) → GivenAt (u, ts, ds) (u, ts2, ds) at
     submit_t next u ts ts2 ds at t e agree law =
         let here = slice_get ts (t.0 - 1) in
         let after = slice_get ts2 (t.0 - 1) in
         subst (GivenAt (u, ts, ds) (u, ts2, ds)) (sym e)
-        (if_ok res (Input (At q) next ft here after n txn) (Input (AllAt (T t)) tm.next ft (u, ts, ds) (u, ts2, ds) n txn)
+        (if_ok res (TakesTxn (At q) next ft here after n txn) (TakesTxn (AllAt (T t)) tm.next ft (u, ts, ds) (u, ts2, ds) n txn)
         (given_so (At q) (AllAt (T t)) next tm.next agree here after (u, ts, ds) (u, ts2, ds) (at_t t u ts ts2 ds) ft n txn) law)

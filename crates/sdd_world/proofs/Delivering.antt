@@ -1,5 +1,5 @@
 -- A packet arrives: what it brings is handed over, or kept for a module that is down.
-use Rattle.sdd_world.proofs.All.{Acked, Ahead, Arrives, Call, Carries, D, Deliver, Delivered, Delivers, HandedOn, Handing, Happened, Input, IsFirst, IsLinkOf, KeepsFor, List, Log, Mailbox, Mark, Marked, Messages, Msg, NetValue, Noted, Nothing, Site, Spooled, Takes, U, World, [], ack_same, ahead_of, all_handed, and_right, ap, calls_of, delivered, delivers_ack, delivers_nothing, delivery, dm_no, false, first_of_one, from_one, handed, is_down, link, link_of, mailbox_at, none_of_one, nothing_same, refl, remain_beside, same_is, same_site, sent_stays, subst, sym, takes_of_one, takes_part, true, up_of, ℕ, ◌++◌, ◌+◌, ◌∙◌, ◌∷◌, ◌≡◌}
+use Rattle.sdd_world.proofs.All.{Acked, Ahead, Arrives, Call, Carries, D, Deliver, Delivered, Delivers, HandedOn, Handing, Happened, Input, IsFirst, IsLinkOf, KeepsFor, List, Log, Mailbox, Mark, Marked, Messages, Msg, NetValue, Noted, Nothing, Site, Spooled, TakesAway, U, World, [], ack_same, ahead_of, all_handed, and_right, ap, calls_of, delivered, delivers_ack, delivers_nothing, delivery, dm_no, false, first_of_one, from_one, handed, is_down, link, link_of, mailbox_at, none_of_one, nothing_same, refl, remain_beside, same_is, same_site, sent_stays, subst, sym, takes_of_one, takes_part, true, up_of, ℕ, ◌++◌, ◌+◌, ◌∙◌, ◌∷◌, ◌≡◌}
 use Rattle.sdd_world.proofs.Marking.{marked_noted, marked_plain}
 use Rattle.sdd_world.proofs.Parting.{spooled_on}
 
@@ -41,8 +41,8 @@ with_busy g log more boxes b s p q r = record {
 pub one_first : (g : Input) (from to : Site) (q rest : List Msg) (m : Msg) → q ≡ m ∷ rest → IsLinkOf g from to → IsFirst g (from_one from q) from to m rest
 one_first g from to q rest m e l = subst (λ z. IsFirst g (from_one from z) from to m rest) (sym e) (first_of_one g from to m rest l)
 
-pub one_takes : (from : Site) (q rest : List Msg) (m : Msg) → q ≡ m ∷ rest → Takes (from_one from q) (from_one from rest) from rest
-one_takes from q rest m e = subst (λ z. Takes (from_one from z) (from_one from rest) from rest) (sym e) (takes_of_one from m rest)
+pub one_takes : (from : Site) (q rest : List Msg) (m : Msg) → q ≡ m ∷ rest → TakesAway (from_one from q) (from_one from rest) from rest
+one_takes from q rest m e = subst (λ z. TakesAway (from_one from z) (from_one from rest) from rest) (sym e) (takes_of_one from m rest)
 
 abbrev pub GivenLaw : NetValue → Delivered Msg → Site → Site → ℕ → Type 0
 GivenLaw old d a b k = (tms dms : ℕ) (calls : List (Call Msg)) → Carries old tms dms calls → d ≡ delivery k (link a b calls)

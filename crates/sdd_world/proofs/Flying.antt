@@ -1,6 +1,6 @@
 -- Packets that are in flight, read from their spellings.
 use Rattle.sdd_world.proofs.All.{Ack, All, All-head, All-tail, AllByRecursion, AllPut, Call, Carries, Directions, Err, IfOk, IsPacketSpelling, Kept, List, Message, Msg, NoMemory, None, Ok, Option, Packet, PacketFits, Result, Site, Some, [], add-one, ap, append-nil, append_assoc, arith, drop, is_link, length, link, map, map-append, packet_as, refl, slice_get, sound, spelled, subst, suc, sym, true, zero, ℕ, ◌++◌, ◌+◌, ◌-◌, ◌<◌, ◌∙◌, ◌∷◌, ◌≡◌}
-use Rattle.sdd_obligations.specs.All.{Fits}
+use Rattle.sdd_obligations.specs.All.{FitsMsg}
 use Rattle.sdd_obligations.specs.net.Sound.{IsOf}
 use Rattle.sdd_world.proofs.Fitting.{sent_fit}
 use Rattle.sdd_world.proofs.Opened.{same_message}
@@ -31,17 +31,17 @@ drop_past [] (suc i) e = refl
 drop_past (y ∷ xs) zero e = absurd cc
 drop_past (y ∷ xs) (suc i) e = drop_past xs i e
 
-packet_fits : (sent : List Msg) (k : ℕ) (p : Packet Msg) → AllByRecursion Fits sent → IsOf sent k p → PacketFits p
-packet_fits sent k (Message n m) h o = at_place Fits sent (n - 1) m h (sym o.1)
+packet_fits : (sent : List Msg) (k : ℕ) (p : Packet Msg) → AllByRecursion FitsMsg sent → IsOf sent k p → PacketFits p
+packet_fits sent k (Message n m) h o = at_place FitsMsg sent (n - 1) m h (sym o.1)
 packet_fits sent k (Ack j) h o = tt
 
-packets_fit : (sent : List Msg) (k : ℕ) (ps : List (Packet Msg)) → AllByRecursion Fits sent → All (IsOf sent k) ps → AllByRecursion PacketFits ps
+packets_fit : (sent : List Msg) (k : ℕ) (ps : List (Packet Msg)) → AllByRecursion FitsMsg sent → All (IsOf sent k) ps → AllByRecursion PacketFits ps
 packets_fit sent k [] h a = tt
 packets_fit sent k (p ∷ ps) h a = (packet_fits sent k p h (All-head (IsOf sent k) p ps a), packets_fit sent k ps h (All-tail (IsOf sent k) p ps a))
 
 -- what is in flight on a link fits
-pub flight_fits : (a b : Site) (calls : List (Call Msg)) → AllPut Fits calls → AllByRecursion PacketFits (link a b calls).there.flight
-flight_fits a b calls h = packets_fit (link a b calls).there.sent _ (link a b calls).there.flight (sent_fit Fits a b calls h).0 (sound a b calls).there.packets
+pub flight_fits : (a b : Site) (calls : List (Call Msg)) → AllPut FitsMsg calls → AllByRecursion PacketFits (link a b calls).there.flight
+flight_fits a b calls h = packets_fit (link a b calls).there.sent _ (link a b calls).there.flight (sent_fit FitsMsg a b calls h).0 (sound a b calls).there.packets
 
 spells_one : (p : Packet Msg) → PacketFits p → IsPacketSpelling (packet_as spelled p)
 spells_one (Message n m) h = (m, h, refl)

@@ -1,5 +1,5 @@
 -- A message is handed over, and its module does what is due, over plain worlds.
-use Rattle.sdd_world.proofs.All.{Act, All, AllLinked, AreDue, AreLinked, Bases, Carries, D, EndsBy, Followed, Hand, HandedOn, Handing, Input, IsFirst, IsLawful, IsPast, IsSiteOf, List, Log, MaySend, Msg, Outcome, Rec, Represent, Setting, Site, Sites, Some, Spooled, Takes, U, World, [], after_acts, ahead_of, all_facts, and_right, ap, base_of, calls_acts, calls_of, dm_no, ends_in_acts, false, first_lawful, first_next, fits, handed, hands_first, history_acts, link_parts, linked_acts, local_of, log_after, map, marks, marks_acts, next, next_in, next_of, nth_era, other_acts, other_hand, own_acts, puts, puts_past, records_of, refl, remain_other, same_here, same_is, same_site, sends_of, setting_of, subst, suc, sym, true, ℕ, ◌++◌, ◌∙◌, ◌∷◌, ◌≡◌, ◌≤◌}
+use Rattle.sdd_world.proofs.All.{Act, All, AllLinked, AreDue, AreLinked, Bases, Carries, D, EndsBy, Followed, Hand, HandedOn, Handing, Input, IsFirst, IsLawful, IsPast, IsSiteOf, List, Log, MaySend, Msg, Outcome, Rec, Represent, Setting, Site, Sites, Some, Spooled, TakesAway, U, World, [], after_acts, ahead_of, all_facts, and_right, ap, base_of, calls_acts, calls_of, dm_no, ends_in_acts, false, first_lawful, first_next, fits, handed, hands_first, history_acts, link_parts, linked_acts, local_of, log_after, map, marks, marks_acts, next, next_in, next_of, nth_era, other_acts, other_hand, own_acts, puts, puts_past, records_of, refl, remain_other, same_here, same_is, same_site, sends_of, setting_of, subst, suc, sym, true, ℕ, ◌++◌, ◌∙◌, ◌∷◌, ◌≡◌, ◌≤◌}
 use Rattle.sdd_world.proofs.Parting.{ahead_acts, events_before, redeclares_acts, spooled_acts, spooled_on}
 use Rattle.sdd_obligations.specs.site_module.SiteLog as site
 
@@ -105,7 +105,7 @@ module _ (w : World) (g : Input) (log : Log) (a b : Site) (m : Msg) (kept : Site
       ] refl
 
   -- it is recorded and sent
-  pub hand_done : (s : Sites) (outcome : Outcome) (w2 : World) (less : Site → List Msg) → Taken s outcome → Takes kept less a rest
+  pub hand_done : (s : Sites) (outcome : Outcome) (w2 : World) (less : Site → List Msg) → Taken s outcome → TakesAway kept less a rest
       → ((x : Site) (setting : Setting) (l : site.Log) → same_site x b ≡ false → Represent w.sites x setting l → Represent s x setting l)
       → Followed (record w { sites = s }) w2 b outcome → HandedOn w2 g b less (ahead_of g log) w.spool
   hand_done s outcome w2 less t k others d =

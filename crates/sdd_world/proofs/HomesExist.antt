@@ -1,5 +1,5 @@
 -- The sites of modules and of transactions exist.
-use Rattle.sdd_world.proofs.All.{Bool, Catalogue, D, DmNo, Fits, Input, IsSiteOf, IsSound, List, Log, None, Option, Some, T, TmNo, Txn, U, ap, class_for, false, get_or, home_of, if◌then◌else◌, is_site, last_home, length, nth_era, redeclares, refl, slice_get, slice_get-get_or, slice_get_past, subst, sym, true, txn_at, ℕ, ◌-◌, ◌<◌, ◌==◌, ◌∙◌, ◌≡◌, ◌≤◌}
+use Rattle.sdd_world.proofs.All.{Bool, Catalogue, D, DmNo, FitsTxn, Input, IsSiteOf, IsSoundNetwork, List, Log, None, Option, Some, T, TmNo, Txn, U, ap, class_for, false, get_or, home_of, if◌then◌else◌, is_site, last_home, length, nth_era, redeclares, refl, slice_get, slice_get-get_or, slice_get_past, subst, sym, true, txn_at, ℕ, ◌-◌, ◌<◌, ◌==◌, ◌∙◌, ◌≡◌, ◌≤◌}
 use Rattle.sdd_world.proofs.Turning.{t_site as within}
 
 pub is_dm : (cat : Catalogue) (d : DmNo) → 1 ≤ d.0 → d.0 ≤ cat.dms → is_site cat.tms cat.dms (D d) ≡ true
@@ -10,7 +10,7 @@ is_home cat tm true low high = refl
 is_home cat tm false low high = within tm.0 cat.tms low high
 
 -- by the classes of any catalogue
-home_there : (cat era : Catalogue) (o : Option Txn) → ((txn : Txn) → o ≡ Some txn → Fits cat txn) → is_site cat.tms cat.dms (home_of era o) ≡ true
+home_there : (cat era : Catalogue) (o : Option Txn) → ((txn : Txn) → o ≡ Some txn → FitsTxn cat txn) → is_site cat.tms cat.dms (home_of era o) ≡ true
 home_there cat era None f = refl
 home_there cat era (Some txn) f =
     let here = (f txn refl).module_is_there in
@@ -20,7 +20,7 @@ home_there cat era (Some txn) f =
 pub dm_of : (g : Input) (cat : Catalogue) (d : DmNo) → g.catalogue ≡ cat → 1 ≤ d.0 → d.0 ≤ cat.dms → IsSiteOf g (D d)
 dm_of g cat d same low high = is_dm g.catalogue d low (subst (λ (k : Catalogue). d.0 ≤ k.dms) (sym same) high)
 
-pub last_home_there : (g : Input) (log : Log) (n : ℕ) → IsSound g → IsSiteOf g (last_home g log n)
+pub last_home_there : (g : Input) (log : Log) (n : ℕ) → IsSoundNetwork g → IsSiteOf g (last_home g log n)
 last_home_there g log n s = home_there g.catalogue (nth_era g (redeclares log)).catalogue (txn_at g n) (s.txns_fit n)
 
 -- the transaction that is read at a place

@@ -2,7 +2,7 @@
 use Rattle.sdd_world.proofs.All.{Bool, Call, Carries, Delivered, Directions, Err, Event, Global, HasLink, IfOk, Kept, List, MAX_LINK_MESSAGES, Msg, NoMemory, Ok, Result, Site, Spells, Vec, acked_le, ap, delivery, delivery_map, in_bytes, index_of, is_link, length, link, link_map, links, quiet, round, sent_of, sent_on, slice_get, sound, spelled, subst, sym, true, ℕ, ◌<◌, ◌∙◌, ◌≡◌}
 use Rattle.sdd_world.proofs.Fitting.{sent_fit, delivery_fits}
 use Rattle.sdd_world.proofs.Quietness.{count_same, quiet_same, round_same}
-use Rattle.sdd_obligations.specs.All.{Fits, Represents}
+use Rattle.sdd_obligations.specs.All.{FitsMsg, Represents}
 
 -- how many messages a net counts on a link is how many were put on it
 pub count_on : (net : Kept (Directions (List ℕ))) (a b : Site) (calls : List (Call (List ℕ))) → HasLink net a b → Represents net calls
@@ -53,5 +53,5 @@ module _ (now net : Kept (Directions (List ℕ))) (live : Bool) where
   spells_in given a b k e h tms dms calls c = record {
     spelled_so = h (in_bytes calls) (represents_in tms dms calls e c)
         ∙ ap (λ l. delivery k l) (link_map spelled a b calls) ∙ delivery_map spelled k (link a b calls);
-    fit = delivery_fits Fits k (link a b calls) (sent_fit Fits a b calls c.fit);
+    fit = delivery_fits FitsMsg k (link a b calls) (sent_fit FitsMsg a b calls c.fit);
   }

@@ -1,15 +1,15 @@
 -- Messages that are read from their spellings.
 use Rattle.sdd_world.proofs.All.{Acked, AllByRecursion, AllDelivered, Delivered, IsSpelling, List, Messages, Msg, Nothing, Ok, Result, Spells, [], ap, arith, delivered_as, get_or, length, map, map-append, message_in, message_read_back, refl, spelled, subst, suc, sym, take, take_more, zero, ℕ, ◌++◌, ◌+◌, ◌<◌, ◌∙◌, ◌∷◌, ◌≡◌}
-use Rattle.sdd_obligations.specs.All.{Fits}
+use Rattle.sdd_obligations.specs.All.{FitsMsg}
 
 -- the only message that has a spelling is read from it
 ok_is : (m n : Msg) → ◌≡◌ {A = Result Msg ℕ} (Ok m) (Ok n) → m ≡ n
 ok_is m n e = cc
 
-pub same_message : (m n : Msg) → Fits m → Fits n → spelled m ≡ spelled n → m ≡ n
+pub same_message : (m n : Msg) → FitsMsg m → FitsMsg n → spelled m ≡ spelled n → m ≡ n
 same_message m n fm fn e = ok_is m n (sym (message_read_back m fm) ∙ ap message_in e ∙ message_read_back n fn)
 
-pub same_messages : (ms ns : List Msg) → AllByRecursion Fits ms → AllByRecursion Fits ns → map spelled ms ≡ map spelled ns → ms ≡ ns
+pub same_messages : (ms ns : List Msg) → AllByRecursion FitsMsg ms → AllByRecursion FitsMsg ns → map spelled ms ≡ map spelled ns → ms ≡ ns
 same_messages [] [] h k e = refl
 same_messages (m ∷ ms) (n ∷ ns) h k e = rw (same_message m n h.0 k.0 cc, same_messages ms ns h.1 k.1 cc) refl
 same_messages _ _ h k e = absurd cc
@@ -27,11 +27,11 @@ opened_more xs i x ms m lt is before e =
     sym (ap (λ y. take i xs ++ y ∷ []) is ∙ sym (take_more xs i x lt)) ∙ ap (λ (l : List (List ℕ)). l ++ x ∷ []) before
     ∙ ap (λ (y : List ℕ). map spelled ms ++ y ∷ []) e ∙ sym (map-append spelled ms (m ∷ []))
 
-pub fit_more : (ms : List Msg) (m : Msg) → AllByRecursion Fits ms → Fits m → AllByRecursion Fits (ms ++ m ∷ [])
+pub fit_more : (ms : List Msg) (m : Msg) → AllByRecursion FitsMsg ms → FitsMsg m → AllByRecursion FitsMsg (ms ++ m ∷ [])
 fit_more [] m h k = (k, tt)
 fit_more (n ∷ ms) m h k = (h.0, fit_more ms m h.1 k)
 
-each_spells : (ms : List Msg) → AllByRecursion Fits ms → AllByRecursion IsSpelling (map spelled ms)
+each_spells : (ms : List Msg) → AllByRecursion FitsMsg ms → AllByRecursion IsSpelling (map spelled ms)
 each_spells [] h = tt
 each_spells (m ∷ ms) h = ((m, h.0, refl), each_spells ms h.1)
 
@@ -51,7 +51,7 @@ messages_are : {M : Type 0} (ms ns : List M) → ◌≡◌ {A = Delivered M} (Me
 messages_are ms ns e = cc
 
 -- only one thing handed on has these spellings
-one_found : (found other : Delivered Msg) → AllDelivered Fits found → AllDelivered Fits other
+one_found : (found other : Delivered Msg) → AllDelivered FitsMsg found → AllDelivered FitsMsg other
     → delivered_as spelled found ≡ delivered_as spelled other → found ≡ other
 one_found Nothing Nothing h k e = refl
 one_found Acked Acked h k e = refl

@@ -1,5 +1,5 @@
 -- Rounds, settles and single events, over plain worlds.
-use Rattle.sdd_world.proofs.All.{AtEach, Before, Call, Calm, Carries, EndsBy, Event, Happened, Input, IsFree, IsGood, IsPossible, IsSettled, IsSingle, IsSound, List, Log, MAX_RUN_EVENTS, Mailbox, Mark, Marked, Msg, Parts, Redeclare, Represent, Represents, Rests, Round, Rounding, Settle, Settling, Site, Some, Spooled, TakesRounds, U, World, [], after_mark, all_links, ap, arith, calls_of, each_of_round, event_left, false, few_marks, in_round, lawful_grows, left, length, links, local_of, lt-ltb, marks, next, no_events_quiet, none_left, none_to_hand, one_more, quiet, refl, round, round_next, setting_of, settled, still_none, subst, suc, sym, takes_part, true, with_event, ℕ, ◌++◌, ◌+◌, ◌<◌, ◌∙◌, ◌∷◌, ◌≡◌, ◌≢◌, ◌≤◌}
+use Rattle.sdd_world.proofs.All.{AtEach, Before, Call, Calm, Carries, EndsBy, Event, Happened, Input, IsFree, IsGood, IsPossible, IsSettled, IsSingle, IsSoundNetwork, List, Log, MAX_RUN_EVENTS, Mailbox, Mark, Marked, Msg, Parts, Redeclare, Represent, Represents, Rests, Round, Rounding, Settle, Settling, Site, Some, Spooled, TakesRounds, U, World, [], after_mark, all_links, ap, arith, calls_of, each_of_round, event_left, false, few_marks, in_round, lawful_grows, left, length, links, local_of, lt-ltb, marks, next, no_events_quiet, none_left, none_to_hand, one_more, quiet, refl, round, round_next, setting_of, settled, still_none, subst, suc, sym, takes_part, true, with_event, ℕ, ◌++◌, ◌+◌, ◌<◌, ◌∙◌, ◌∷◌, ◌≡◌, ◌≢◌, ◌≤◌}
 use Rattle.sdd_world.proofs.Parting.{spooled_on}
 
 pub single : (g : Input) (e : Event) → IsPossible g e → IsSingle e
@@ -40,7 +40,7 @@ spool_more g e log boxes s = record {
   each = λ d here apart. (let k = s.each d here apart in record { down_is = k.down_is; senders = k.senders; kept = k.kept; empty = k.empty });
 }
 
-sound_more : (g : Input) (e : Event) → IsSound g → IsSound (with_event g e)
+sound_more : (g : Input) (e : Event) → IsSoundNetwork g → IsSoundNetwork (with_event g e)
 sound_more g e s = record { few_tms = s.few_tms; few_dms = s.few_dms; txns_fit = s.txns_fit }
 
 -- a round begins with its events

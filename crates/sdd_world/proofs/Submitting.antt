@@ -1,5 +1,5 @@
 -- A transaction is given to its module, which does what is due, over plain worlds.
-use Rattle.sdd_world.proofs.All.{Act, All, AreDue, AreLinked, Bases, Carries, EndsBy, Era, Fits, Followed, Happened, Input, IsClassAt, IsLawful, IsPast, IsSiteOf, List, Log, Mailbox, Mark, Marked, MaySend, Msg, Outcome, Rec, Represent, Setting, Site, Sites, Some, Spooled, Submission, Submit, Submits, T, Txn, TxnNo, U, World, [], acts_lawful, after_acts, all_facts, ap, append_assoc, arith, base_of, calls_acts, calls_of, class_for, ends_in_acts, false, fits_in_era, fits_submit, get_or, history, history_acts, home_in, home_of, left_acts, linked_acts, listed, local_of, log_after, map, mark_within, marks, marks_acts, next_in, next_of, nth_era, other_acts, other_local, own_acts, puts, puts_past, records_of, redeclared_is, redeclares, refl, same_is, same_site, sends_of, setting_of, slice_get, submits_and_acts, submitted, submitted_local, submitted_within, subst, suc, sym, true, txn_at, zero, ℕ, ◌++◌, ◌-◌, ◌∙◌, ◌∷◌, ◌≡◌, ◌≤◌}
+use Rattle.sdd_world.proofs.All.{Act, All, AreDue, AreLinked, Bases, Carries, EndsBy, Era, FitsTxn, Followed, Happened, Input, IsClassAt, IsLawful, IsPast, IsSiteOf, List, Log, Mailbox, Mark, Marked, MaySend, Msg, Outcome, Rec, Represent, Setting, Site, Sites, Some, Spooled, Submission, Submit, Submits, T, Txn, TxnNo, U, World, [], acts_lawful, after_acts, all_facts, ap, append_assoc, arith, base_of, calls_acts, calls_of, class_for, ends_in_acts, false, fits_in_era, fits_submit, get_or, history, history_acts, home_in, home_of, left_acts, linked_acts, listed, local_of, log_after, map, mark_within, marks, marks_acts, next_in, next_of, nth_era, other_acts, other_local, own_acts, puts, puts_past, records_of, redeclared_is, redeclares, refl, same_is, same_site, sends_of, setting_of, slice_get, submits_and_acts, submitted, submitted_local, submitted_within, subst, suc, sym, true, txn_at, zero, ℕ, ◌++◌, ◌-◌, ◌∙◌, ◌∷◌, ◌≡◌, ◌≤◌}
 use Rattle.sdd_world.proofs.Handing.{are_linked, at_log, due_same, here_at}
 use Rattle.sdd_world.proofs.Marking.{happened}
 use Rattle.sdd_world.proofs.Parting.{events_before, later, redeclares_acts, spooled_acts, spooled_on}
@@ -27,8 +27,8 @@ module _ (w : World) (g : Input) (log : Log) (n : TxnNo) (m : Marked w g log (Su
   txn_read txn h = read_at g.txns (n.0 - 1) m.possible.0 txn m.possible.2 (h ∙ ap (λ xs. get_or xs (n.0 - 1) txn) m.parts.txns_are)
 
   -- and fits the catalogue in force
-  pub txn_fits : (txn : Txn) → txn_at g n.0 ≡ Some txn → Fits (w.catalogue.now) txn
-  txn_fits txn is = subst (λ c. Fits c txn) (sym m.parts.catalogue_is)
+  pub txn_fits : (txn : Txn) → txn_at g n.0 ≡ Some txn → FitsTxn (w.catalogue.now) txn
+  txn_fits txn is = subst (λ c. FitsTxn c txn) (sym m.parts.catalogue_is)
       (fits_in_era g.catalogue (nth_era g (redeclares log)).catalogue (m.parts.good.eras (redeclares log)) txn (m.parts.sound.txns_fit n.0 txn is))
 
   lawful_here : IsLawful g (Mark (Submit n) ∷ log)

@@ -1,5 +1,5 @@
 -- A data module goes down, and comes up: what was kept for it is then handed over.
-use Rattle.sdd_world.proofs.All.{AllHanded, Bool, Carries, Cut, D, DmNo, Down, Event, HandedOn, Handing, Happened, Input, IsBefore, IsBelow, IsFirst, IsLowest, IsNoTick, IsSender, IsSiteOf, KeepsFor, List, Log, Mailbox, Mark, Marked, Msg, Noted, Notes, OnlyAt, Parts, Remain, Represent, Rests, Risen, Rising, Site, Some, Spooled, T, Takes, TakesFrom, U, Up, World, [], ahead_of, all_handed, and_from, ap, arith, calls_of, comes_up, cut_at_t, dm_no, eq-eqb, eqb-true, false, goes_down, if◌then◌else◌, is_down, is_down_already, is_site, isnt_down, kept_count, kept_from, le-leb, length, local_of, mailbox_at, nat_le, none_remains, not, not_false, number_of_t, refl, same_site, setting_of, sites, subst, suc, sym, tm_no, true, up_of as not_true, zero, ℕ, ◌&&◌, ◌++◌, ◌<◌, ◌==◌, ◌∙◌, ◌∷◌, ◌≡◌, ◌≢◌, ◌≤◌}
+use Rattle.sdd_world.proofs.All.{AllHanded, Bool, Carries, Cut, D, DmNo, Down, Event, HandedOn, Handing, Happened, Input, IsBefore, IsBelow, IsFirst, IsLowest, IsNoTick, IsSender, IsSiteOf, KeepsFor, List, Log, Mailbox, Mark, Marked, Msg, Noted, Notes, OnlyAt, Parts, Remain, Represent, Rests, Risen, Rising, Site, Some, Spooled, T, TakesAway, TakesFrom, U, Up, World, [], ahead_of, all_handed, and_from, ap, arith, calls_of, comes_up, cut_at_t, dm_no, eq-eqb, eqb-true, false, goes_down, if◌then◌else◌, is_down, is_down_already, is_site, isnt_down, kept_count, kept_from, le-leb, length, local_of, mailbox_at, nat_le, none_remains, not, not_false, number_of_t, refl, same_site, setting_of, sites, subst, suc, sym, tm_no, true, up_of as not_true, zero, ℕ, ◌&&◌, ◌++◌, ◌<◌, ◌==◌, ◌∙◌, ◌∷◌, ◌≡◌, ◌≢◌, ◌≤◌}
 use Rattle.sdd_world.proofs.Marking.{marked_noted, marked_plain}
 use Rattle.sdd_world.proofs.Keeping.{dm_within, same_dm as apart_of}
 use Rattle.sdd_world.proofs.Parting.{keeps_on as still_box}
@@ -266,7 +266,7 @@ pub first_kept : (g : Input) (boxes : List (Mailbox Msg)) (new : List (Mailbox M
 first_kept g boxes new d from m r t l = first_taken g (mailbox_at boxes d.0) d.0 from m (kept_from (mailbox_at new d.0) from) r.here r.senders t.sender l t.here
 
 pub less_kept : (boxes new : List (Mailbox Msg)) (d : DmNo) (from : Site) (m : Msg) → TakesFrom (mailbox_at boxes d.0) (mailbox_at new d.0) from m
-    → Takes (kept_from (mailbox_at boxes d.0)) (kept_from (mailbox_at new d.0)) from (kept_from (mailbox_at new d.0) from)
+    → TakesAway (kept_from (mailbox_at boxes d.0)) (kept_from (mailbox_at new d.0)) from (kept_from (mailbox_at new d.0) from)
 less_kept boxes new d from m t = record { here = refl; others = t.others }
 
 -- one message that was kept is handed over
@@ -276,7 +276,7 @@ pub rising_on : (w : World) (boxes : List (Mailbox Msg)) (w2 : World) (g : Input
     → TakesFrom (mailbox_at w.spool d.0) (mailbox_at boxes d.0) from m
     → IsLowest (mailbox_at w.spool d.0) from → length boxes ≡ length w.spool → OnlyAt w.spool boxes d.0
     → ((h : Input) (l : Log) (kept less : Site → List Msg) (rest : List Msg)
-    → Handing (record w { spool = boxes }) h l (D d) kept → IsFirst h kept from (D d) m rest → Takes kept less from rest
+    → Handing (record w { spool = boxes }) h l (D d) kept → IsFirst h kept from (D d) m rest → TakesAway kept less from rest
     → HandedOn w2 h (D d) less (ahead_of h l) boxes)
     → (more : Log) × Handing w2 g more (D d)
     (kept_from (mailbox_at w2.spool d.0)) × Rising g w2.spool d.0 × (ahead_of g more ≡ ahead_of g log)

@@ -1,7 +1,7 @@
 -- For which calls the mail stands: the network of spellings stands for them, each message spelled.
 use Rattle.std.specs.Prelude.{ℕ, ◌≡◌, IsTrue, List, [], ◌∷◌, map}
 use Rattle.std.specs.List.{AllByRecursion}
-use Rattle.sdd_obligations.specs.All.{Ack, Call, Delivered, Directions, Fits, Kept, Message, Messages, Msg, Packet, Puts, Represents, call_as, delivered_as, spelled}
+use Rattle.sdd_obligations.specs.All.{Ack, Call, Delivered, Directions, FitsMsg, Kept, Message, Messages, Msg, Packet, Puts, Represents, call_as, delivered_as, spelled}
 
 -- what contracts see of a mail: whether it is live, and the network of spellings
 abbrev pub NetValue : Type 0
@@ -28,15 +28,15 @@ pub record Carries (net : Kept (Directions (List ℕ))) (tms dms : ℕ) (calls :
   pub tms_are : net.value.tms ≡ tms
   pub dms_are : net.value.dms ≡ dms
   pub represents : Represents net (in_bytes calls)
-  pub fit : AllPut Fits calls
+  pub fit : AllPut FitsMsg calls
 
 -- bytes spell a message
 abbrev pub IsSpelling : List ℕ → Type 0
-IsSpelling bytes = (msg : Msg) × Fits msg × (bytes ≡ spelled msg)
+IsSpelling bytes = (msg : Msg) × FitsMsg msg × (bytes ≡ spelled msg)
 
 -- a packet's message fits, where it has one
 abbrev pub PacketFits : Packet Msg → Type 0
-PacketFits (Message n m) = Fits m
+PacketFits (Message n m) = FitsMsg m
 PacketFits (Ack upto) = Unit {0}
 
 -- a packet in bytes spells its message, where it has one
@@ -47,4 +47,4 @@ IsPacketSpelling (Ack upto) = Unit {0}
 -- what is handed on in bytes are the spellings of this
 pub record Spells (given : Delivered (List ℕ)) (found : Delivered Msg) : Type 0 where
   pub spelled_so : given ≡ delivered_as spelled found
-  pub fit : AllDelivered Fits found
+  pub fit : AllDelivered FitsMsg found

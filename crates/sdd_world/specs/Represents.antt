@@ -2,16 +2,16 @@
 use Rattle.std.specs.Prelude.{ℕ, suc, ◌≤◌, ◌≡◌, true, false, List, [], ◌∷◌, ◌++◌, length, Some, None}
 use Rattle.sdd_obligations.specs.All.{AtEach, Catalogue, D, Deliver, EndsByLimit, EndsIn, Era, Event, Input, IsGood, IsLinkOf, IsMarked, IsPossible, IsSiteOf, Log, MAX_DMS, MAX_TMS, Mailbox, Mark, Messages, Msg, Redeclares, Remain, Rests, Site, TakesRounds, Txn, U, Waits, after_mark, all_links, calls_of, delivery, dm_no, from_one, greatest_bound, history, is_down, kept_from, left, link_of, mailbox_at, marks, next, nth_era, quiet, redeclares, redeclares_in, same_site, txn_at}
 use Rattle.sdd_obligations.specs.protocol.declared.entry.Entry.{Entry}
-use Rattle.sdd_obligations.specs.lang.Fits.{Fits}
+use Rattle.sdd_obligations.specs.lang.Fits.{FitsTxn}
 use Rattle.sdd_world.specs.Carries.{Carries}
 use Rattle.sdd_world.specs.Modules.{AllRepresent}
 use Rattle.sdd_world.specs.declared.world.World.{World}
 
 -- What is given is sound: the network isn't too large, and the transactions fit the catalogue.
-pub record IsSound (g : Input) : Type 0 where
+pub record IsSoundNetwork (g : Input) : Type 0 where
   pub few_tms : g.catalogue.tms ≤ MAX_TMS
   pub few_dms : g.catalogue.dms ≤ MAX_DMS
-  pub txns_fit : (n : ℕ) (txn : Txn) → txn_at g n ≡ Some txn → Fits g.catalogue txn
+  pub txns_fit : (n : ℕ) (txn : Txn) → txn_at g n ≡ Some txn → FitsTxn g.catalogue txn
 
 -- the mailbox of a data module: it keeps what remains for a module that is down, and else nothing
 pub record KeepsFor (g : Input) (log : Log) (d : ℕ) (b : Mailbox Msg) : Type 0 where
@@ -45,7 +45,7 @@ pub record Rising (g : Input) (boxes : List (Mailbox Msg)) (d : ℕ) : Type 0 wh
 -- the parts of a world stand for a log
 pub record Parts (w : World) (g : Input) (log : Log) : Type 0 where
   pub good : IsGood g
-  pub sound : IsSound g
+  pub sound : IsSoundNetwork g
   pub whole_is : w.whole.now ≡ g.catalogue
   pub catalogue_is : w.catalogue.now ≡ (nth_era g (redeclares log)).catalogue
   pub txns_are : w.txns ≡ g.txns

@@ -1,6 +1,6 @@
 ghost use Rattle.std.specs.Prelude.{◌≡◌, drop, map, IfOk};
 ghost use Rattle.std.specs.List.{AllByRecursion};
-ghost use Rattle.sdd_obligations.specs.All.{Delivered as Handed, Fits, Msg as Message, packet_as, spelled};
+ghost use Rattle.sdd_obligations.specs.All.{Delivered as Handed, FitsMsg, Msg as Message, packet_as, spelled};
 ghost use Rattle.sdd_world.specs.Carries.{IsPacketSpelling, IsSpelling, PacketFits, Spells};
 
 use sdd_obligations::sdd_base::NoMemory;
@@ -24,7 +24,7 @@ pub(crate) fn open(alloc: Global, given: Delivered<Spelling>) -> Result<Delivere
 fn open_all(alloc: Global, spellings: Parcels<Spelling>) -> Result<Parcels<Msg>, NoMemory>
     requires { AllByRecursion IsSpelling spellings }
     ensures spelled { IfOk result (λ messages. spellings ≡ map spelled messages) }
-    ensures fit { IfOk result (λ messages. AllByRecursion Fits messages) }
+    ensures fit { IfOk result (λ messages. AllByRecursion FitsMsg messages) }
 {
     let mut messages = Vec::with_capacity(alloc, spellings.as_slice().len())?;
     'spellings: for spelling in spellings.as_slice() {
@@ -73,7 +73,7 @@ fn open_packet(alloc: Global, packet: &Packet<Spelling>) -> Result<Packet<Msg>, 
 
 fn open_one(alloc: Global, spelling: &Spelling) -> Result<Msg, NoMemory>
     requires { IsSpelling spelling.now }
-    ensures { IfOk result (λ msg. Fits msg × (spelling.now ≡ spelled msg)) }
+    ensures { IfOk result (λ msg. FitsMsg msg × (spelling.now ≡ spelled msg)) }
 {
     match decode(alloc, spelling.as_slice()) {
         Ok(msg) => Ok(msg),

@@ -5,7 +5,7 @@ ghost use Rattle.sdd_world.specs.Beginnings.{IsBegun};
 ghost use Rattle.sdd_world.specs.Carries.{Carries};
 ghost use Rattle.sdd_world.specs.Modules.{AllRepresent, LivesD, LivesT, LivesU};
 ghost use Rattle.sdd_world.specs.Standings.{standing_of};
-ghost use Rattle.sdd_world.specs.Represents.{Calm, IsSound, Represents};
+ghost use Rattle.sdd_world.specs.Represents.{Calm, IsSoundNetwork, Represents};
 
 use crate::mail::Mail;
 use crate::making::txn_modules;
@@ -45,7 +45,7 @@ impl<'a> World<'a> {
         modules: Vec<DataModule>,
     ) -> Result<World<'a>, NoMemory>
         requires { IsEraOf whole.now catalogue.now }
-        ensures { IfOk result (λ world. (g : Input) → IsGood g → IsSound g
+        ensures { IfOk result (λ world. (g : Input) → IsGood g → IsSoundNetwork g
             → IsBegun g whole.now catalogue.now table.now txns modules.items → Represents world g []) }
     {
         whole.known();

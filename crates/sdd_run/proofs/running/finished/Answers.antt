@@ -1,4 +1,4 @@
-use Rattle.sdd_run.proofs.All.{All, AllBegin, BeginsD, Catalogue, FitsStart, Input, IsBegun, IsEraOf, IsGood, IsSound, MAX_DMS, MAX_TMS, Represents, [], ap, arith, begun, eras_with_tables, length, refl, subst, sym, tail_of, whole_in, ◌∙◌, ◌≤◌}
+use Rattle.sdd_run.proofs.All.{All, AllBegin, BeginsD, Catalogue, FitsStart, Input, IsBegun, IsEraOf, IsGood, IsSoundCatalogue, MAX_DMS, MAX_TMS, Represents, [], ap, arith, begun, eras_with_tables, length, refl, subst, sym, tail_of, whole_in, ◌∙◌, ◌≤◌}
 use Rattle.sdd_run.proofs.Forces.{first_era, some_table, tables_are}
 use Rattle.sdd_run.proofs.Reported.{ended, if_ok, run_of}
 use Rattle.sdd_run.proofs.Starting.{all_allowed, starts}
@@ -31,13 +31,13 @@ carry_out-requires c =
     let tables = c.args.tables.now in
     let tabled = c.requires.tabled in
     let is = c.whole-whole.ensures ∙ c.requires.whole in
-    let sound = subst IsSound is c.known.ensures.sound in
+    let sound = subst IsSoundCatalogue is c.known.ensures.sound in
     let few_tms = subst (λ (k : Catalogue). k.tms ≤ MAX_TMS) is (let few = c.known.ensures.whole.few_tms in omega (arith, few)) in
     let few_dms = subst (λ (k : Catalogue). k.dms ≤ MAX_DMS) is (let few = c.known.ensures.whole.few_dms in omega (arith, few)) in
     let dms = c.in_ok-modules.modules.items in
     let table = c.first_table.result.now in
     let made = subst (λ (k : Catalogue). AllBegin (BeginsD k c.as_slice.result.now) k.dms dms) is c.in_ok-modules.ensures in
-    let new = subst (λ k. (g : Input) → IsGood g → standing.IsSound g → IsBegun g k cat table work.txns dms → Represents c.in_ok-world.world g [])
+    let new = subst (λ k. (g : Input) → IsGood g → standing.IsSoundNetwork g → IsBegun g k cat table work.txns dms → Represents c.in_ok-world.world g [])
     is c.in_ok-world.ensures in
     let begins = starts cat tables work sound c.requires.valid tabled c.as_slice.result.now work.txns table dms c.in_ok-world.world
     few_tms few_dms c.first_table.ensures c.as_slice.ensures refl made new in
@@ -52,13 +52,13 @@ returns-clause-run c =
     let tables = c.args.tables.now in
     let tabled = c.requires.tabled in
     let is = c.whole-whole.ensures ∙ c.requires.whole in
-    let sound = subst IsSound is c.known.ensures.sound in
+    let sound = subst IsSoundCatalogue is c.known.ensures.sound in
     let few_tms = subst (λ (k : Catalogue). k.tms ≤ MAX_TMS) is (let few = c.known.ensures.whole.few_tms in omega (arith, few)) in
     let few_dms = subst (λ (k : Catalogue). k.dms ≤ MAX_DMS) is (let few = c.known.ensures.whole.few_dms in omega (arith, few)) in
     let dms = c.in_ok-modules.modules.items in
     let table = c.first_table.result.now in
     let made = subst (λ (k : Catalogue). AllBegin (BeginsD k c.as_slice.result.now) k.dms dms) is c.in_ok-modules.ensures in
-    let new = subst (λ k. (g : Input) → IsGood g → standing.IsSound g → IsBegun g k cat table work.txns dms → Represents c.in_ok-world.world g [])
+    let new = subst (λ k. (g : Input) → IsGood g → standing.IsSoundNetwork g → IsBegun g k cat table work.txns dms → Represents c.in_ok-world.world g [])
     is c.in_ok-world.ensures in
     let begins = starts cat tables work sound c.requires.valid tabled c.as_slice.result.now work.txns table dms c.in_ok-world.world
     few_tms few_dms c.first_table.ensures c.as_slice.ensures refl made new in
@@ -77,13 +77,13 @@ returns-clause-limit c = λ is_limit.
     let tables = c.args.tables.now in
     let tabled = c.requires.tabled in
     let is = c.whole-whole.ensures ∙ c.requires.whole in
-    let sound = subst IsSound is c.known.ensures.sound in
+    let sound = subst IsSoundCatalogue is c.known.ensures.sound in
     let few_tms = subst (λ (k : Catalogue). k.tms ≤ MAX_TMS) is (let few = c.known.ensures.whole.few_tms in omega (arith, few)) in
     let few_dms = subst (λ (k : Catalogue). k.dms ≤ MAX_DMS) is (let few = c.known.ensures.whole.few_dms in omega (arith, few)) in
     let dms = c.in_ok-modules.modules.items in
     let table = c.first_table.result.now in
     let made = subst (λ (k : Catalogue). AllBegin (BeginsD k c.as_slice.result.now) k.dms dms) is c.in_ok-modules.ensures in
-    let new = subst (λ k. (g : Input) → IsGood g → standing.IsSound g → IsBegun g k cat table work.txns dms → Represents c.in_ok-world.world g [])
+    let new = subst (λ k. (g : Input) → IsGood g → standing.IsSoundNetwork g → IsBegun g k cat table work.txns dms → Represents c.in_ok-world.world g [])
     is c.in_ok-world.ensures in
     let begins = starts cat tables work sound c.requires.valid tabled c.as_slice.result.now work.txns table dms c.in_ok-world.world
     few_tms few_dms c.first_table.ensures c.as_slice.ensures refl made new in

@@ -1,9 +1,9 @@
-use Rattle.sdd_script.proofs.All.{Accepts, Catalogue, Err, IfOk, IsSound, IsWhole, List, Ok, Result, Tells, WorkError, Workload, workload, ℕ}
+use Rattle.sdd_script.proofs.All.{Accepts, Catalogue, Err, IfOk, IsSoundCatalogue, IsWhole, List, Ok, Result, Tells, WorkError, Workload, workload, ℕ}
 use Rattle.sdd_script.proofs.ReadingLaws.{reads_spelling}
 use Rattle.sdd_script.proofs.walk.read_workload.Goals as goal
 
 -- a workload that is told is accepted
-told_accepts : (cat : Catalogue) → IsSound cat → IsWhole cat
+told_accepts : (cat : Catalogue) → IsSoundCatalogue cat → IsWhole cat
     → (bytes : List ℕ) (r : Result Workload WorkError) → Tells r (workload cat bytes)
     → IfOk r (λ w. Accepts cat bytes w)
 told_accepts cat s w bytes (Ok work) t = reads_spelling cat s w bytes work t

@@ -1,6 +1,6 @@
 use Rattle.std.proofs.Common.{[], ◌≤◌, ◌∙◌, arith, refl, subst, sym}
 use Rattle.std.specs.List.{All}
-use Rattle.sdd_obligations.specs.All.{Catalogue, FitsStart, Input, IsEraOf, IsGood, IsSound, MAX_DMS, MAX_TMS}
+use Rattle.sdd_obligations.specs.All.{Catalogue, FitsStart, Input, IsEraOf, IsGood, IsSoundCatalogue, MAX_DMS, MAX_TMS}
 use Rattle.sdd_run.specs.class_lists.InForce.{whole_in}
 use Rattle.sdd_run.specs.world.Beginnings.{AllBegin, BeginsD, IsBegun}
 use Rattle.sdd_run.specs.world.Represents as standing
@@ -30,13 +30,13 @@ returns-clause-world c =
     let cat = c.args.catalogue.now in
     let work = c.args.work in
     let is = c.whole-whole.ensures ∙ c.requires.whole in
-    let sound = subst IsSound is c.known.ensures.sound in
+    let sound = subst IsSoundCatalogue is c.known.ensures.sound in
     let few_tms = subst (λ (k : Catalogue). k.tms ≤ MAX_TMS) is (let few = c.known.ensures.whole.few_tms in omega (arith, few)) in
     let few_dms = subst (λ (k : Catalogue). k.dms ≤ MAX_DMS) is (let few = c.known.ensures.whole.few_dms in omega (arith, few)) in
     let dms = c.in_ok-modules.modules.items in
     let table = c.first_table.result.now in
     let made = subst (λ (k : Catalogue). AllBegin (BeginsD k c.as_slice.result.now) k.dms dms) is c.in_ok-modules.ensures in
-    let new = subst (λ k. (g : Input) → IsGood g → standing.IsSound g → IsBegun g k cat table work.txns dms → Represents c.in_ok-world.world g [])
+    let new = subst (λ k. (g : Input) → IsGood g → standing.IsSoundNetwork g → IsBegun g k cat table work.txns dms → Represents c.in_ok-world.world g [])
     is c.in_ok-world.ensures in
     starts cat c.args.tables.now work sound c.requires.valid c.requires.tabled c.as_slice.result.now work.txns table dms c.in_ok-world.world
     few_tms few_dms c.first_table.ensures c.as_slice.ensures refl made new

@@ -1,6 +1,6 @@
 use Rattle.std.proofs.Common.{[], ◌∙◌, ap, length, subst, sym}
 use Rattle.sdd_obligations.specs.base.Words.{tail_of}
-use Rattle.sdd_obligations.specs.All.{IsSound}
+use Rattle.sdd_obligations.specs.All.{IsSoundCatalogue}
 use Rattle.sdd_run.specs.Runs.{begun, eras_with_tables}
 use Rattle.sdd_run.proofs.Forces.{tables_are}
 use Rattle.sdd_run.proofs.Reported.{ended}
@@ -22,7 +22,7 @@ carry_out-requires c =
     let work = c.args.work in
     let tables = c.args.tables.now in
     let is = c.whole-whole.ensures ∙ c.requires.whole in
-    let begins = begins_all cat tables work (subst IsSound is c.known.ensures.sound) c.requires.valid c.requires.tabled c.in_ok-first.first.world
+    let begins = begins_all cat tables work (subst IsSoundCatalogue is c.known.ensures.sound) c.requires.valid c.requires.tabled c.in_ok-first.first.world
     c.in_ok-first.first.events.items c.in_ok-further.further.items c.in_ok-teller.teller c.in_ok-first.ensures.world c.in_ok-first.ensures.events
     (c.in_ok-further.ensures ∙ ap (λ cats. tail_of (eras_with_tables cats tables)) (c.eras.ensures ∙ c.requires.eras))
     (c.in_ok-teller.ensures (begun cat tables work) c.in_ok-first.ensures.world is) in
@@ -34,7 +34,7 @@ returns-clause-text c =
     let work = c.args.work in
     let tables = c.args.tables.now in
     let is = c.whole-whole.ensures ∙ c.requires.whole in
-    let begins = begins_all cat tables work (subst IsSound is c.known.ensures.sound) c.requires.valid c.requires.tabled c.in_ok-first.first.world
+    let begins = begins_all cat tables work (subst IsSoundCatalogue is c.known.ensures.sound) c.requires.valid c.requires.tabled c.in_ok-first.first.world
     c.in_ok-first.first.events.items c.in_ok-further.further.items c.in_ok-teller.teller c.in_ok-first.ensures.world c.in_ok-first.ensures.events
     (c.in_ok-further.ensures ∙ ap (λ cats. tail_of (eras_with_tables cats tables)) (c.eras.ensures ∙ c.requires.eras))
     (c.in_ok-teller.ensures (begun cat tables work) c.in_ok-first.ensures.world is) in
@@ -47,7 +47,7 @@ returns-in_err-carry_out-clause-limit c = λ err.
     let work = c.args.work in
     let tables = c.args.tables.now in
     let is = c.whole-whole.ensures ∙ c.requires.whole in
-    let begins = begins_all cat tables work (subst IsSound is c.known.ensures.sound) c.requires.valid c.requires.tabled c.in_ok-first.first.world
+    let begins = begins_all cat tables work (subst IsSoundCatalogue is c.known.ensures.sound) c.requires.valid c.requires.tabled c.in_ok-first.first.world
     c.in_ok-first.first.events.items c.in_ok-further.further.items c.in_ok-teller.teller c.in_ok-first.ensures.world c.in_ok-first.ensures.events
     (c.in_ok-further.ensures ∙ ap (λ cats. tail_of (eras_with_tables cats tables)) (c.eras.ensures ∙ c.requires.eras))
     (c.in_ok-teller.ensures (begun cat tables work) c.in_ok-first.ensures.world is) in

@@ -1,6 +1,6 @@
 use Rattle.std.proofs.Common.{Some, ap, refl, subst, sym, ◌∙◌}
 use Rattle.sdd_obligations.specs.All.{Catalogue, nth_era, redeclares}
-use Rattle.sdd_obligations.specs.lang.Fits.{Fits}
+use Rattle.sdd_obligations.specs.lang.Fits.{FitsTxn}
 use Rattle.sdd_obligations.specs.logs.Due.{home_of as site_of}
 use Rattle.sdd_obligations.proofs.class_eras.EraFits.{fits_in_era}
 use Rattle.sdd_run.proofs.world.HomesExist.{no_txn, txn_read}
@@ -13,7 +13,7 @@ home-requires c =
     c.transactions.result.now c.in-Some.txn.now refl (c.transactions.ensures r.0 r.1 r.2) c.saturating_sub-place.ensures
     c.in-Some.ensures.lookup.3.0 c.in-Some.ensures.lookup.1 in
     let last = (nth_era r.0 (redeclares r.1)).catalogue in
-    subst (λ (k : Catalogue). Fits k c.in-Some.txn.now) (sym (c.catalogue.ensures r.0 r.1 r.2))
+    subst (λ (k : Catalogue). FitsTxn k c.in-Some.txn.now) (sym (c.catalogue.ensures r.0 r.1 r.2))
     (fits_in_era r.0.catalogue last (r.2.parts.good.eras (redeclares r.1)) c.in-Some.txn.now
     (r.2.parts.sound.txns_fit c.args.number.0 c.in-Some.txn.now is))
 

@@ -1,7 +1,7 @@
 use Rattle.sdd_world.proofs.All.{AllByRecursion, map, spelled, take, ◌≡◌}
-use Rattle.sdd_obligations.specs.All.{Fits}
+use Rattle.sdd_obligations.specs.All.{FitsMsg}
 use Rattle.sdd_world.proofs.opening.open_all.Given as goal
 
 -- so far the messages are those of the spellings so far
 abbrev pub invariant-spellings : goal.invariant-spellings
-invariant-spellings l = record { spelled : take l.spelling-index l.spelling-items ≡ map spelled l.messages.items; fit : AllByRecursion Fits l.messages.items }
+invariant-spellings l = record { spelled : take l.spelling-index l.spelling-items ≡ map spelled l.messages.items; fit : AllByRecursion FitsMsg l.messages.items }

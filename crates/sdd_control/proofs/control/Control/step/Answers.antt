@@ -1,4 +1,4 @@
-use Rattle.sdd_control.proofs.All.{Fits, Follows, NoteFits, Run, State, [], ap, run_of, subst, sym, true, with_event, ◌++◌, ◌∙◌, ◌∷◌, ◌≡◌}
+use Rattle.sdd_control.proofs.All.{FitsAct, Follows, NoteFits, Run, State, [], ap, run_of, subst, sym, true, with_event, ◌++◌, ◌∙◌, ◌∷◌, ◌≡◌}
 use Rattle.sdd_control.proofs.Following.{fits_now, follows_now, follows_on, note_now, run_now, run_on}
 use Rattle.sdd_control.proofs.Tracking.{note_fits}
 use Rattle.sdd_control.proofs.control.Control.step.Goals as goal
@@ -6,7 +6,7 @@ use Rattle.sdd_control.proofs.control.Control.step.Goals as goal
 pub add-requires-clause-fits : goal.add-requires-clause-fits
 add-requires-clause-fits c =
     let st = c.self.inside.state in
-    let fits : Fits st.backups c.args.act.now =
+    let fits : FitsAct st.backups c.args.act.now =
     fits_now st c.self.inside.acts.items c.self.inside.live c.args.self.now
     c.self.view_is c.self.invariant c.requires.live c.args.act.now c.requires.fits in
     let same : c.take.new.self.backups ≡ st.backups = ap (λ (z : State). z.backups) c.take.ensures.others in
@@ -16,7 +16,7 @@ pub invariant_of-self-2 : goal.invariant_of-self-2
 invariant_of-self-2 c live =
     let st = c.self.inside.state in
     let acts = c.self.inside.acts.items in
-    let fits : Fits st.backups c.args.act.now =
+    let fits : FitsAct st.backups c.args.act.now =
     fits_now st acts c.self.inside.live c.args.self.now
     c.self.view_is c.self.invariant c.requires.live c.args.act.now c.requires.fits in
     let follows : Follows st acts =
@@ -35,7 +35,7 @@ pub returns-clause-after : goal.returns-clause-after
 returns-clause-after c =
     let st = c.self.inside.state in
     let acts = c.self.inside.acts.items in
-    let fits : Fits st.backups c.args.act.now =
+    let fits : FitsAct st.backups c.args.act.now =
     fits_now st acts c.self.inside.live c.args.self.now
     c.self.view_is c.self.invariant c.requires.live c.args.act.now c.requires.fits in
     let follows : Follows st acts =

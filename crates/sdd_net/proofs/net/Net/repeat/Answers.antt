@@ -1,4 +1,4 @@
-use Rattle.sdd_net.proofs.All.{Fits, Repeats, link, packet_at, refl, slice_get, subst, sym, true}
+use Rattle.sdd_net.proofs.All.{FitsWay, Repeats, link, packet_at, refl, slice_get, subst, sym, true}
 use Rattle.sdd_net.proofs.Calls.{live_is, represents_of, exists_of, still, does, repeat_does, repeated_way}
 use Rattle.sdd_net.proofs.net.Net.repeat.Goals as goal
 
@@ -28,6 +28,6 @@ returns-clause-there g c calls represents =
     let live = live_is c.args.self.now i.live i.tms i.dms i.channels.items c.self.view_is c.requires.live in
     let exists = exists_of c.args.self.now i.live i.tms i.dms i.channels.items c.args.from c.args.to c.self.view_is c.requires.exists in
     let l = link c.args.from c.args.to calls in
-    let h = subst (λ k. Fits (slice_get i.channels.items k) l.there) (sym c.index_of-at.ensures)
+    let h = subst (λ k. FitsWay (slice_get i.channels.items k) l.there) (sym c.index_of-at.ensures)
     (represents_of c.args.self.now i.live i.tms i.dms i.channels.items calls c.self.view_is represents c.args.from c.args.to exists) in
     (repeated_way i.channels.items c.repeat_at.new.channels.items c.index_of-at.result c.args.place c.in_ok-there.there l (packet_at c.args.place l) c.requires.place refl c.in_ok-there.ensures.some c.in_ok-there.ensures.there c.in_ok-there.ensures.none h).1

@@ -1,12 +1,12 @@
 -- The class is found by the list in force, and fits.
-use Rattle.sdd_tm.proofs.All.{Fits, Kept, State, ap, class_for, subst, sym, ◌∙◌}
+use Rattle.sdd_tm.proofs.All.{FitsTxn, Kept, State, ap, class_for, subst, sym, ◌∙◌}
 use Rattle.sdd_tm.proofs.Calls.{class_in_era, fits_here}
 use Rattle.sdd_tm.proofs.txn_module.TxnModule.submit.Goals as goal
 
 pub class_for-class-requires : goal.class_for-class-requires
 class_for-class-requires c =
     let r = c.requires.represents in
-    subst (λ (k : Kept State). Fits k.value.era.catalogue c.args.txn.now) (sym c.self.view_is)
+    subst (λ (k : Kept State). FitsTxn k.value.era.catalogue c.args.txn.now) (sym c.self.view_is)
     (fits_here c.args.self.now r.0 r.1 r.2 c.args.number.0 c.args.txn.now r.3 r.4)
 
 pub submit_in_class-requires-clause-represents : goal.submit_in_class-requires-clause-represents

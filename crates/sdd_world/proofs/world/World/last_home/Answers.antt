@@ -1,4 +1,4 @@
-use Rattle.sdd_world.proofs.All.{Catalogue, Fits, Some, ap, fits_in_era, home_of as site_of, nth_era, redeclares, refl, subst, sym, ◌∙◌}
+use Rattle.sdd_world.proofs.All.{Catalogue, FitsTxn, Some, ap, fits_in_era, home_of as site_of, nth_era, redeclares, refl, subst, sym, ◌∙◌}
 use Rattle.sdd_world.proofs.HomesExist.{no_txn, txn_read}
 use Rattle.sdd_world.proofs.world.World.last_home.Goals as goal
 
@@ -9,7 +9,7 @@ home-requires c =
     c.transactions.result.now c.in-Some.txn.now refl (c.transactions.ensures r.0 r.1 r.2.calm) c.saturating_sub-place.ensures
     c.in-Some.ensures.lookup.3.0 c.in-Some.ensures.lookup.1 in
     let last = (nth_era r.0 (redeclares r.1)).catalogue in
-    subst (λ (k : Catalogue). Fits k c.in-Some.txn.now) (sym (c.catalogue.ensures r.0 r.1 r.2.calm))
+    subst (λ (k : Catalogue). FitsTxn k c.in-Some.txn.now) (sym (c.catalogue.ensures r.0 r.1 r.2.calm))
     (fits_in_era r.0.catalogue last (r.2.calm.parts.good.eras (redeclares r.1)) c.in-Some.txn.now
     (r.2.calm.parts.sound.txns_fit c.args.number.0 c.in-Some.txn.now is))
 
