@@ -6,7 +6,7 @@ pub mod Pairs
 pub mod Passing
 pub mod Reach
 pub mod Readers
-pub mod Rows
+pub mod Examples
 pub mod Searches
 pub mod Texts
 pub mod Walks

@@ -49,7 +49,7 @@ impl Search {
         ensures reached { IfOk result (λ search.
             AreReached graph.now.edges (Passes without.now) start (placed_nodes search.places.items)) }
     {
-        let mut search = Search::begun(alloc, graph.nodes(), start)?;
+        let mut search = Search::first_search(alloc, graph.nodes(), start)?;
         let mut place = 0u32;
         'places: while (place as usize) < search.reached.len() {
             search.go_on(graph, without, place)?;
@@ -71,7 +71,7 @@ impl Search {
         requires wanted { wanted < graph.now.nodes }
         ensures { IfOk result (IsLeftAt graph.now without.now start wanted) }
     {
-        let mut search = Search::begun(alloc, graph.nodes(), start)?;
+        let mut search = Search::first_search(alloc, graph.nodes(), start)?;
         let mut place = 0u32;
         'places: while (place as usize) < search.reached.len() {
             if search.place(wanted).is_some() {
@@ -84,7 +84,7 @@ impl Search {
     }
 
     /// A search that has reached its first node only.
-    fn begun(alloc: Global, nodes: u32, start: u32) -> Result<Search, NoMemory>
+    fn first_search(alloc: Global, nodes: u32, start: u32) -> Result<Search, NoMemory>
         requires { start < nodes }
         ensures places { IfOk result (λ search.
             search.places.items ≡ slice_set (replicate nodes None) start (Some 0)) }

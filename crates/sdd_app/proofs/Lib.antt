@@ -9,5 +9,5 @@ pub mod Shown
 pub mod StatusLines
 pub mod Submissions
 pub mod TextPieces
-pub mod Told
+pub mod SinksAndFiles
 pub mod Verdicts

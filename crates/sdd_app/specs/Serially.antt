@@ -28,11 +28,11 @@ abbrev pub names_of : List Txn → List (List ℕ)
 names_of txns = map (λ (t : Txn). t.name) txns
 
 -- the order by the transactions' names, their replies, and the end
-abbrev pub told : List (List ℕ) → List Reply → List ℕ
-told names replies = names_line names ++ replies_along names replies ++ codes "end\n"
+abbrev pub answer_text : List (List ℕ) → List Reply → List ℕ
+answer_text names replies = names_line names ++ replies_along names replies ++ codes "end\n"
 
 -- worked: p puts, and q fails
-pub put_and_failure : told (codes "p" ∷ codes "q" ∷ []) (Rows [] ∷ Overflow ∷ []) ≡ codes "order p q\nreply p ok\nreply q overflow\nend\n"
+pub put_and_failure : answer_text (codes "p" ∷ codes "q" ∷ []) (Rows [] ∷ Overflow ∷ []) ≡ codes "order p q\nreply p ok\nreply q overflow\nend\n"
 put_and_failure = refl
 
 -- the lines of the replies of transactions that run one after the other on a database
@@ -41,4 +41,4 @@ replies_of cat db txns = replies_along (names_of txns) (serial cat db txns).0
 
 -- the order, and the replies on a database that began with the workload's rows
 abbrev pub serial_text : Catalogue → Workload → List ℕ
-serial_text cat w = told (names_of (submitted w)) (serial cat (database_of cat w.rows) (submitted w)).0
+serial_text cat w = answer_text (names_of (submitted w)) (serial cat (database_of cat w.rows) (submitted w)).0

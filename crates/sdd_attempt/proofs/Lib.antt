@@ -1,6 +1,6 @@
 pub mod Addressed
 mod All
-pub mod Asking
+pub mod QuestionsOfAttempt
 pub mod Counting
 pub mod Going
 pub mod LineActs

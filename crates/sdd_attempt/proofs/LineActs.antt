@@ -1,6 +1,6 @@
 -- What the acts of an attempt leave of its line: what may start, what is left to do, and which rows serve.
 use Rattle.sdd_attempt.proofs.All.{Act, AllByRecursion, AllUpTo, Attempt, Bases, Catalogue, IsAsking, IsAskingAt, IsLineOf, IsOfHead, IsServed, IsUpTo, IsWaiting, List, Log, Msg, None, Nothing, Option, Queued, Read, Rec, Records, Sends, ServesAt, Setting, Site, Some, [], active, active_sent, after_send, and_from, ap, arith, asks_rows, cond-true, contains, eq-eqb, false, false≢true, filter, first_send, handed, if◌then◌else◌, is_over, is_read, length, line_step, map, ne_eqb, not, queue, refl, send_due, sent, starts_left, submits, subst, suc, sym, tail_of, tried, true, work_of, ℕ, ◌<◌, ◌==◌, ◌∙◌, ◌∷◌, ◌≡◌, ◌≤◌}
-use Rattle.sdd_attempt.proofs.Asking.{NoReads}
+use Rattle.sdd_attempt.proofs.QuestionsOfAttempt.{NoReads}
 use Rattle.sdd_attempt.proofs.Waiting.{fewer_committed}
 use Rattle.sdd_attempt.proofs.LineSteps.{not_over}
 

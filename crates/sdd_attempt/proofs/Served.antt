@@ -1,7 +1,7 @@
 -- An attempt that may commit has rows that serve its database: only the last ROWS makes it so, or it has no module.
 use Rattle.sdd_attempt.proofs.All.{AnswersRead, Attempt, Bases, Bool, Catalogue, D, Database, DmNo, Exchange, FitsAnswer, FitsRows, FitsRowsOf, IsAsking, IsAskingAt, IsServed, List, Log, Msg, None, Option, Over, Phase, Ready, Reduced, Row, Rows, Serves, ServesIfLast, Setting, Shipping, Site, Some, Txn, Values, [], active, active_handed, after_hand, and_parts, answered, cond, counted, eqb-true, false, false≢true, fetches_use, handed, if◌then◌else◌, is_over, is_reading, is_shipping, lacking, length, phase_ends, reduces_use, refl, rejects, sent, subst, sym, true, with_values, without, ℕ, ◌&&◌, ◌++◌, ◌+◌, ◌==◌, ◌∙◌, ◌∷◌, ◌≡◌}
 use Rattle.sdd_attempt.proofs.Phases.{with_counts, with_union, with_rows, ready_not_over, values_not_over, reduced_not_over}
-use Rattle.sdd_attempt.proofs.Asking.{ready_awaited, of_class}
+use Rattle.sdd_attempt.proofs.QuestionsOfAttempt.{ready_awaited, of_class}
 
 -- the exchange is over with rows that serve
 abbrev ServesOver : Catalogue → Txn → Database → Exchange → Type 0

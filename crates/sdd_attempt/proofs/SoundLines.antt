@@ -1,7 +1,7 @@
 -- The line of a class after each entry of the log of a site.
 use Rattle.sdd_attempt.proofs.All.{Act, AllByRecursion, AllUpTo, AreStamped, Attempt, Bases, Catalogue, Change, Commit, D, Did, Era, Fetch, FitsAnswer, FitsTxn, Handed, IsAsking, IsAskingAt, IsLineOf, IsOfHead, IsQueue, List, Log, Msg, None, Option, Queued, Rec, Records, Redeclared, Reduce, Sends, Setting, Ship, Site, Some, Start, Submits, Ticked, Ticking, Txn, Use, Write, [], active, active_after, active_sent, and_parts, and_right, ap, arith, ascending, asks_rows, bound_of, class_no, clock, commit_act, cond, cond-false, cond-true, cons_option, contains, current_era, dm_no, effect, eq-eqb, eqb-true, false, false≢true, filter, filter_map, first_send, fragments_in, handed, has_copy, head_of, is_empty, is_for, is_read, is_some, list_all, map, module_read, modules_of, ne_eqb, not, numbers_to, or_left, or_right, queue, queue_after, read_set, read_to, reads_at, refl, send_due, sends_of_act, sent, start_act, started, submits, subst, sym, ticked, time_at, timestamp, tried, true, txn_no, uses_of, write_to, ℕ, ◌&&◌, ◌++◌, ◌<◌, ◌==◌, ◌^◌, ◌||◌, ◌∙◌, ◌∷◌, ◌≡◌, ◌≢◌}
 use Rattle.sdd_attempt.proofs.Phases.{AllAsk}
-use Rattle.sdd_attempt.proofs.Asking.{NoReads, AreReads, asking_handed, asking_sends, asking_sent, asking_started}
+use Rattle.sdd_attempt.proofs.QuestionsOfAttempt.{NoReads, AreReads, asking_handed, asking_sends, asking_sent, asking_started}
 use Rattle.sdd_attempt.proofs.Waiting.{queue_did, queue_submitted, head_handed, head_submitted, head_sent, head_started}
 use Rattle.sdd_module.specs.protocol.declared.entry.Entry as line
 

@@ -55,7 +55,7 @@ pub use Rattle.sdd_attempt.specs.protocol.Protocols.{IsTable}
 pub use Rattle.sdd_attempt.specs.semijoin.Steps.{Join, Move, better, fewest, is_candidate, joins_from, moves, moves_by, next_move, rows_at}
 pub use Rattle.sdd_attempt.specs.semijoin.declared.step.Step.{Step}
 pub use Rattle.sdd_attempt.specs.site_module.Making.{Reached}
-pub use Rattle.sdd_attempt.specs.site_module.Notes.{Notes, noted, nothing_noted, with_act}
+pub use Rattle.sdd_attempt.specs.site_module.Notes.{Notes, nothing_noted, with_act, with_due_act}
 pub use Rattle.sdd_attempt.specs.site_module.SiteLog.{Act, AreDue, Bases, Did, Does, Each, Entry, Era, Handed, Log, Records, Redeclared, Sends, Setting, Submits, Ticked, answers_hand, current_era, hands, log_after, records_of, records_of_act, sends_of, sends_of_act, submits}
 pub use Rattle.sdd_attempt.specs.wire.declared.msg.Msg.{Msg}
 pub use Rattle.sdd_attempt.specs.wire.declared.msg.Msg.TheVariants.{Ask, Done, Held, Hold, Null, Read, Ready, Reduced, Reject, Release, Rows, Values}

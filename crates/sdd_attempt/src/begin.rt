@@ -16,7 +16,7 @@ use std::alloc::Global;
 
 /// Starts the next attempt of a transaction in the queue of the class: it takes a tick, and its
 /// Start is recorded with its READs.
-pub(crate) fn begun(
+pub(crate) fn start_attempt(
     alloc: Global,
     cat: &Catalogue,
     table: Option<&Table>,

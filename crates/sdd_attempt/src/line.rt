@@ -1,5 +1,5 @@
 ghost use Rattle.std.specs.Prelude.{◌≡◌, ◌<◌, ◌≤◌, ◌+◌, ◌++◌, ◌∷◌, ◌^◌, ◌==◌, ◌&&◌, ℕ, [], is_none, length, map, not, option_map, position, unwrap_or, IfOk, IsTrue, OnOk, None, false};
-ghost use Rattle.sdd_module.specs.All.{Bases, FitsTxn, IsDatabase, contains, head_of, is_empty, noted};
+ghost use Rattle.sdd_module.specs.All.{Bases, FitsTxn, IsDatabase, contains, head_of, is_empty, with_due_act};
 ghost use Rattle.sdd_attempt.specs.Attempts.{active_handed};
 ghost use Rattle.sdd_attempt.specs.Lines.{AreTried, IsAwaited, ServesAt, awaited_by, clock_done, commit_next, head_is_untried, lacked_by, line_done, line_step, no_line, send_next, start_next, tries_of_first};
 ghost use Rattle.sdd_attempt.specs.Queues.{txn_of};
@@ -7,7 +7,7 @@ ghost use Rattle.sdd_attempt.specs.Reads.{IsDeclared};
 ghost use Rattle.sdd_attempt.specs.Standings.{standing_at, standing_of};
 
 use crate::answer::Answer;
-use crate::begin::begun;
+use crate::begin::start_attempt;
 use crate::commit::committed;
 use crate::queued::Queued;
 use crate::running::Running;
@@ -254,7 +254,7 @@ impl<'a> Line<'a> {
     /// Sends the next message of the attempt that is under way.
     pub fn send(&mut self, draft: &mut Draft) -> Result<(), NoMemory>
         ensures line { OnOk result (self.new ≡ line_done (send_next self.old.active) self.old) }
-        ensures draft { OnOk result (draft.new ≡ noted (send_next self.old.active) draft.old) }
+        ensures draft { OnOk result (draft.new ≡ with_due_act (send_next self.old.active) draft.old) }
         ensures catalogue { self.new.catalogue ≡ self.old.catalogue }
         ensures class { self.new.class ≡ self.old.class }
     {
@@ -274,7 +274,7 @@ impl<'a> Line<'a> {
         ensures draft { OnOk result (
             (bases : Bases) → ((ts : ℕ) → IsDatabase self.old.catalogue (bases ts))
             → ServesAt self.old.catalogue bases self.old.active
-            → draft.new ≡ noted (commit_next bases self.old) draft.old) }
+            → draft.new ≡ with_due_act (commit_next bases self.old) draft.old) }
         ensures catalogue { self.new.catalogue ≡ self.old.catalogue }
         ensures class { self.new.class ≡ self.old.class }
     {
@@ -306,7 +306,7 @@ impl<'a> Line<'a> {
         ensures line { OnOk result (
             self.new ≡ line_done (start_next table.now clock.old self.old) self.old) }
         ensures draft { OnOk result (
-            draft.new ≡ noted (start_next table.now clock.old self.old) draft.old) }
+            draft.new ≡ with_due_act (start_next table.now clock.old self.old) draft.old) }
         ensures clock { OnOk result (
             clock.new ≡ clock_done (start_next table.now clock.old self.old) clock.old) }
         ensures catalogue { self.new.catalogue ≡ self.old.catalogue }
@@ -325,7 +325,7 @@ impl<'a> Line<'a> {
         ensures line { OnOk result (
             self.new ≡ line_done (start_next [] clock.old self.old) self.old) }
         ensures draft { OnOk result (
-            draft.new ≡ noted (start_next [] clock.old self.old) draft.old) }
+            draft.new ≡ with_due_act (start_next [] clock.old self.old) draft.old) }
         ensures clock { OnOk result (
             clock.new ≡ clock_done (start_next [] clock.old self.old) clock.old) }
         ensures catalogue { self.new.catalogue ≡ self.old.catalogue }
@@ -347,7 +347,7 @@ impl<'a> Line<'a> {
         ensures line { OnOk result (
             self.new ≡ line_done (start_next (unwrap_or (option_map (λ t. t.now) table.entry) []) clock.old self.old) self.old) }
         ensures draft { OnOk result (
-            draft.new ≡ noted (start_next (unwrap_or (option_map (λ t. t.now) table.entry) []) clock.old self.old) draft.old) }
+            draft.new ≡ with_due_act (start_next (unwrap_or (option_map (λ t. t.now) table.entry) []) clock.old self.old) draft.old) }
         ensures clock { OnOk result (
             clock.new ≡ clock_done (start_next (unwrap_or (option_map (λ t. t.now) table.entry) []) clock.old self.old) clock.old) }
         ensures catalogue { self.new.catalogue ≡ self.old.catalogue }
@@ -357,7 +357,7 @@ impl<'a> Line<'a> {
         match self.queue.front_mut() {
             None => Ok(()),
             Some(queued) => {
-                let running = begun(
+                let running = start_attempt(
                     self.alloc, self.cat, table, self.class, queued, clock, draft,
                 )?;
                 queued.add_try();

@@ -1,5 +1,5 @@
 ghost use Rattle.std.specs.Prelude.{◌≡◌, cond, IfOk, OnOk, None, Some};
-ghost use Rattle.sdd_module.specs.All.{noted};
+ghost use Rattle.sdd_module.specs.All.{with_due_act};
 ghost use Rattle.sdd_attempt.specs.Attempts.{rejects};
 ghost use Rattle.sdd_attempt.specs.Exchange.{after_send, send_due};
 ghost use Rattle.sdd_attempt.specs.Lines.{AreAwaitedFrom, handed_by, step_by};
@@ -59,7 +59,7 @@ impl Running {
     pub(crate) fn send(&mut self, draft: &mut Draft) -> Result<(), NoMemory>
         ensures exchange { self.new ≡ record self.old { exchange = after_send self.old.exchange } }
         ensures draft { OnOk result (
-            draft.new ≡ noted (send_due self.old.exchange) draft.old) }
+            draft.new ≡ with_due_act (send_due self.old.exchange) draft.old) }
     {
         match self.exchange.next_send() {
             None => Ok(()),

@@ -13,7 +13,7 @@ pub use Rattle.sdd_control.specs.Script.{IsSoundScript}
 pub use Rattle.sdd_control.specs.Sends.{all_answered, answered, next_send, next_untold, send, untold, unwritten}
 pub use Rattle.sdd_control.specs.Standing.{finished, heir, knows, last, last_of, leads, stopped, value, value_by}
 pub use Rattle.sdd_control.specs.State.{Adds, NoteFits, TakesAct, Tracks, answered_in, arrival_in, greatest, greatest_of, has_finished, has_heard, has_stopped, has_told, heir_in, is_from_above, knows_in, last_number, last_number_in, last_number_of, may_send, messages_in, next_number_in, next_send_in, note_in, number_after, taken_in, untold_in, value_in}
-pub use Rattle.sdd_control.specs.Steps.{FitAll, FitsAct, arrival, happened, log_after, log_of, note_of}
+pub use Rattle.sdd_control.specs.Steps.{FitAll, FitsAct, arrival, log_after, log_of, log_with_event, note_of}
 pub use Rattle.sdd_control.specs.Stretches.{count_from, every_from, first_from}
 pub use Rattle.sdd_control.specs.Walk.{at_line, control_script, is_ended, most_bytes, nothing_read, one_line, tail_rules, walk_bytes}
 pub use Rattle.sdd_control.specs.declared.act.Act.{Act}

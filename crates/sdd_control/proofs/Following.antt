@@ -1,14 +1,14 @@
 -- The tables follow the log of all events.
-use Rattle.sdd_control.proofs.All.{Act, Adds, Bool, FitAll, FitsAct, Follows, List, Live, Log, Note, Run, State, TakesAct, Tracks, [], ap, count_from, happened, is_number, log_after, log_of, note_in, note_of, noted, refl, run_of, subst, sym, true, value, value_in, with_event, ℕ, ◌++◌, ◌∙◌, ◌∷◌, ◌≡◌, ◌≤◌}
+use Rattle.sdd_control.proofs.All.{Act, Adds, Bool, FitAll, FitsAct, Follows, List, Live, Log, Note, Run, State, TakesAct, Tracks, [], ap, count_from, is_number, log_after, log_of, log_with_event, note_in, note_of, noted, refl, run_of, subst, sym, true, value, value_in, with_event, ℕ, ◌++◌, ◌∙◌, ◌∷◌, ◌≡◌, ◌≤◌}
 use Rattle.sdd_control.proofs.Numbers.{count_written, numbered}
 use Rattle.sdd_control.proofs.Promises.{kept}
 use Rattle.sdd_control.proofs.Tracking.{note_same, tracks_on, value_same}
 
 log_after-append : (backups writes : ℕ) (log : Log) (acts : List Act) (act : Act)
     → log_after backups writes log (acts ++ act ∷ [])
-    ≡ happened backups writes (log_after backups writes log acts) act
+    ≡ log_with_event backups writes (log_after backups writes log acts) act
 log_after-append backups writes log [] act = refl
-log_after-append backups writes log (x ∷ acts) act = log_after-append backups writes (happened backups writes log x) acts act
+log_after-append backups writes log (x ∷ acts) act = log_after-append backups writes (log_with_event backups writes log x) acts act
 
 pub FitAll-append : (backups : ℕ) (acts : List Act) (act : Act) → FitAll backups acts → FitsAct backups act → FitAll backups (acts ++ act ∷ [])
 FitAll-append backups [] act f g = (g, tt)

@@ -1,10 +1,10 @@
 -- Two runs: a commit that a backup carries to its end, and one that it gives up.
-use Rattle.sdd_control.proofs.All.{Act, All, Deliver, Finish, Gone, Halt, List, Log, NoMessages, NoSends, Note, Nought, Ok, Send, Stop, Tell, Value, Write, [], arith, false, finished, happened, log_of, note_of, refl, run_of, stopped, suc, true, value, written, zero, ℕ, ◌∷◌, ◌≡◌}
+use Rattle.sdd_control.proofs.All.{Act, All, Deliver, Finish, Gone, Halt, List, Log, NoMessages, NoSends, Note, Nought, Ok, Send, Stop, Tell, Value, Write, [], arith, false, finished, log_of, log_with_event, note_of, refl, run_of, stopped, suc, true, value, written, zero, ℕ, ◌∷◌, ◌≡◌}
 
 -- the notes that events get, the first to happen first
 abbrev notes_after : ℕ → ℕ → Log → List Act → List Note
 notes_after backups writes log [] = []
-notes_after backups writes log (act ∷ acts) = note_of backups writes log act ∷ notes_after backups writes (happened backups writes log act) acts
+notes_after backups writes log (act ∷ acts) = note_of backups writes log act ∷ notes_after backups writes (log_with_event backups writes log act) acts
 
 -- the committer tells site 1 and stops; site 1 carries the commit on
 abbrev carried : List Act

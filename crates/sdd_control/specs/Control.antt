@@ -1,10 +1,10 @@
--- A run of transaction control: its limits, and what has happened in it.
+-- A run of transaction control: its limits, and what has log_with_event in it.
 use Rattle.std.specs.Prelude.{ℕ, true, List}
 use Rattle.sdd_script.specs.All.{Kept}
 use Rattle.sdd_control.specs.Log.{Log, noted}
 use Rattle.sdd_control.specs.NoteTests.{is_number}
 use Rattle.sdd_control.specs.State.{IsSized, Tracks}
-use Rattle.sdd_control.specs.Steps.{FitAll, happened, log_after, log_of, note_of}
+use Rattle.sdd_control.specs.Steps.{FitAll, log_after, log_of, log_with_event, note_of}
 use Rattle.sdd_control.specs.Stretches.{count_from}
 use Rattle.sdd_control.specs.declared.act.Act.{Act}
 use Rattle.sdd_control.specs.declared.note.Note.{Note}
@@ -21,7 +21,7 @@ next_note run act = note_of run.backups run.writes run.log act
 
 -- the run with one event more
 abbrev pub with_event : Run → Act → Run
-with_event run act = record run { log = happened run.backups run.writes run.log act }
+with_event run act = record run { log = log_with_event run.backups run.writes run.log act }
 
 -- the run with so many events more, the first to happen first
 abbrev pub run_after : Run → List Act → Run

@@ -22,7 +22,7 @@ arrival false (OK ∷ rest) above i j = Ok j i
 arrival false (VALUE val ∷ rest) true i j = Ignored j
 arrival false (VALUE val ∷ rest) false i j = Value j i val
 
--- the note of an event, by what happened before it
+-- the note of an event, by what log_with_event before it
 abbrev pub note_of : ℕ → ℕ → Log → Act → Note
 note_of backups writes log (Send i) = next_send backups writes log i
 note_of backups writes log (Deliver i j) =
@@ -30,14 +30,14 @@ note_of backups writes log (Deliver i j) =
 note_of backups writes log (Halt i) = cond (stopped log i) Nothing (Stop i)
 
 -- the log with one event more
-abbrev pub happened : ℕ → ℕ → Log → Act → Log
-happened backups writes log act = record { act = act; note = note_of backups writes log act } ∷ log
+abbrev pub log_with_event : ℕ → ℕ → Log → Act → Log
+log_with_event backups writes log act = record { act = act; note = note_of backups writes log act } ∷ log
 
 -- the log with so many events more, the first to happen first
 abbrev pub log_after : ℕ → ℕ → Log → List Act → Log
 log_after backups writes log [] = log
 log_after backups writes log (act ∷ acts) =
-    log_after backups writes (happened backups writes log act) acts
+    log_after backups writes (log_with_event backups writes log act) acts
 
 abbrev pub log_of : ℕ → ℕ → List Act → Log
 log_of backups writes acts = log_after backups writes [] acts

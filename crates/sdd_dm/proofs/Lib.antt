@@ -1,6 +1,6 @@
 mod All
 pub mod Applied
-pub mod Asked
+pub mod AnsweredFromHeldRows
 pub mod Awaited
 pub mod Beginning
 pub mod ByClass

@@ -49,12 +49,12 @@ state_told _ st = st
 abbrev pub with_out : Site → Msg → Notes → Notes
 with_out to m n = record n { out = n.out ++ (to, m) ∷ [] }
 
-abbrev pub told : Site → Msg → State → Notes → Notes
-told from (Fetch ts class u col) st n = with_out from (Values ts class u (values_in (rows_held u (frozen_of st.frozen class.0)) col)) n
-told from (Reduce ts class u col values) st n =
+abbrev pub with_answers : Site → Msg → State → Notes → Notes
+with_answers from (Fetch ts class u col) st n = with_out from (Values ts class u (values_in (rows_held u (frozen_of st.frozen class.0)) col)) n
+with_answers from (Reduce ts class u col values) st n =
     with_out from (Reduced ts class u (length (rows_held u (frozen_of (update class.0 (reduced_at ts.0 u col values) st.frozen) class.0)))) n
-told from (Ship ts class) st n = with_out from (Rows ts class (all_held (frozen_of st.frozen class.0))) n
-told from _ st n = n
+with_answers from (Ship ts class) st n = with_out from (Rows ts class (all_held (frozen_of st.frozen class.0))) n
+with_answers from _ st n = n
 
 abbrev pub state_by : Option ℕ → Msg → State → State
 state_by (Some c) m st = record st { pipes = update c (put_digest m) st.pipes }
@@ -62,7 +62,7 @@ state_by None m st = state_told m st
 
 abbrev pub notes_by : Option ℕ → Site → Msg → State → Notes → Notes
 notes_by (Some c) from m st n = n
-notes_by None from m st n = told from m st n
+notes_by None from m st n = with_answers from m st n
 
 abbrev pub state_handed : Msg → State → State
 state_handed m st = state_by (class_piped m) m st

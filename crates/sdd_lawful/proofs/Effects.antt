@@ -1,7 +1,7 @@
 -- What a committed transaction replies and changes is its effect on the database of its snapshots, as the history gives it.
 use Rattle.sdd_lawful.proofs.All.{AreErasOf, ArePlaced, Attempt, Bool, Catalogue, Change, Committed, Contains, Contains-flat_map, Contains-from_flat_map, Contains-nil, D, Database, Did, Does, Effect, Eras, HasSoundData, History, Input, IsAnswered, IsCommitted, IsModule, IsPermitted, IsRecordAt, IsSoundCatalogue, IsStrictlySortedBy, Item, KeepsAnswers, List, Log, None, Option, Rec, Records, RelNo, Row, Running, SiteLog, Some, Txn, [], answer_passes, ap, append_assoc, arith, ascending, by_use, commit_act, dated, dm_no, each_has, effect, entries_ascend, entry_placed, eqb-true, filter_map, flat_map, fold, fragment_at, fragment_of, fragments_in, from_ascending, gathered_from, gathered_sorted, gathered_there, has_copy, head, history, home, in_ascending, inl, inr, is_answer, is_answered, item_cmp, item_cmp_exact, item_cmp_total, keys_of, lies_there, local_of, module_of, number_member, numbers_to, one_active, one_entry, option_eq, pipe, position_or_len, reads, reads_at, reads_there, refl, same_members, same_number, setting_of, sorted_nil, subst, suc, sym, true, true_or_false, txn_at, txn_no, use_there, zero, ℕ, ◌++◌, ◌<◌, ◌==◌, ◌∙◌, ◌∷◌, ◌≡◌}
 use Rattle.sdd_lawful.proofs.Answered.{IsAnswerIn, answer_in, answer_made, answer_rec}
-use Rattle.sdd_lawful.proofs.Asked.{answer_after, answered, commit_after, one_answer}
+use Rattle.sdd_lawful.proofs.OneAnswerEach.{answer_after, answered, commit_after, one_answer}
 use Rattle.sdd_lawful.proofs.Asks.{read_there, there_read}
 use Rattle.sdd_lawful.proofs.Beginnings.{in_numbers}
 use Rattle.sdd_lawful.proofs.Classes.{at_home, home_setting, text_one as text_same}

@@ -2,7 +2,7 @@ mod All
 pub mod Answered
 pub mod Applied
 pub mod Applies
-pub mod Asked
+pub mod OneAnswerEach
 pub mod Asks
 pub mod Beginnings
 pub mod Classes

@@ -1,6 +1,6 @@
 -- The names of this crate and of those below it that the crates above cite, passed on from one place. Declares nothing.
 pub use Rattle.sdd_module.specs.Making.{Reached}
-pub use Rattle.sdd_module.specs.Notes.{Notes, noted, nothing_noted, with_act, with_sends}
+pub use Rattle.sdd_module.specs.Notes.{Notes, nothing_noted, with_act, with_due_act, with_sends}
 pub use Rattle.sdd_module.specs.SiteLog.{Act, Bases, Did, Does, Entry, Era, Handed, Log, Records, Redeclared, Sends, Setting, Submits, Ticked, answers_hand, current_era, hands, sends_of_act, submits}
 pub use Rattle.sdd_module.specs.base.Clock.{Ticking, at_zero, bound_of, pushed, ticked, timestamp}
 pub use Rattle.sdd_module.specs.base.Kept.{Kept}

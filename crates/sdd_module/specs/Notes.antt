@@ -27,6 +27,6 @@ with_acts [] n = n
 with_acts (a ∷ acts) n = with_acts acts (with_act a n)
 
 -- the notes once what is due, if anything, is done
-abbrev pub noted : Option Act → Notes → Notes
-noted None n = n
-noted (Some a) n = with_act a n
+abbrev pub with_due_act : Option Act → Notes → Notes
+with_due_act None n = n
+with_due_act (Some a) n = with_act a n

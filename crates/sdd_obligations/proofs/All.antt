@@ -91,7 +91,7 @@ pub use Rattle.sdd_obligations.specs.Reading.{HasEras, before_answer, copies_rea
 pub use Rattle.sdd_obligations.specs.Real.{FitsEra, IsGood, IsServedAt, ServedBy, fits_submit}
 pub use Rattle.sdd_obligations.specs.Routes.{GoesTo, IsAnAsk, IsD, IsRouted, IsRunner, IsT}
 pub use Rattle.sdd_obligations.specs.Stages.{IsStage, agreed, answer_goes, flight, question_goes}
-pub use Rattle.sdd_obligations.specs.Turns.{Asks, IsOfUses, MayAnswer, MayAsk, Refused, Replies, RepliesToFetch, RepliesToRead, RepliesToReduce, RepliesToShip, Silent, Told, Turn, answers, asked, asked_by, is_a_read, is_a_refusal, is_a_ship, is_answer, is_exchanging, is_question, questions, reads_asked, rows_asked, told, told_by, turn_at, turn_with, uses_by, uses_held, uses_in}
+pub use Rattle.sdd_obligations.specs.Turns.{Asks, IsOfUses, MayAnswer, MayAsk, Refused, Replies, RepliesToFetch, RepliesToRead, RepliesToReduce, RepliesToShip, Silent, Told, Turn, answers, asked_by, is_a_read, is_a_refusal, is_a_ship, is_answer, is_exchanging, is_question, questions, reads_asked, rows_asked, told_by, turn_after_answer, turn_after_question, turn_at, turn_with, uses_by, uses_held, uses_in}
 pub use Rattle.sdd_obligations.specs.Upheld.{IsUpheldD, IsUpheldR}
 pub use Rattle.sdd_serving.proofs.Arrived.{serves_by_members}
 pub use Rattle.sdd_serving.proofs.Follows.{follows_hand, follows_reduce, follows_send, follows_start}
@@ -99,7 +99,7 @@ pub use Rattle.sdd_serving.proofs.Freezing.{is_there as use_part, there_is}
 pub use Rattle.sdd_serving.proofs.Members.{of_has, to_has}
 pub use Rattle.sdd_serving.proofs.Serves.{exchange_serves}
 pub use Rattle.sdd_serving.proofs.Together.{IsPiece, IsUsed, has_copies}
-pub use Rattle.sdd_serving.proofs.Told.{KeepsOnce, frozen_once, reduced_once, tells_all}
+pub use Rattle.sdd_serving.proofs.ValuesOfModules.{KeepsOnce, frozen_once, reduced_once, tells_all}
 pub use Rattle.sdd_serving.specs.Following.{AwaitsNoValues, Follows, stage_of}
 pub use Rattle.sdd_serving.specs.Freezing.{HasCopies, asked_at, frozen_space}
 pub use Rattle.sdd_serving.specs.Reducing.{Space, TellsAll}

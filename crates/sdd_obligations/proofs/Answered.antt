@@ -1,10 +1,10 @@
 -- An answer that is next to be handed over is awaited by its site.
 use Rattle.sdd_obligations.proofs.All.{AnswersRead, Asks, Attempt, AwaitsAt, AwaitsRows, Bool, ClassNo, D, DmNo, Fetch, Fetching, Hand, Input, IsAllowed, IsAwaited, IsPermitted, List, Msg, None, Option, Phase, Read, Ready, Reduce, Reduced, Reducing, Reject, Replies, RepliesToFetch, RepliesToRead, RepliesToReduce, RepliesToShip, Row, Rows, Setting, Ship, Shipping, Site, Some, Ts, Turn, Value, Values, active, ap, both, contains, dm_no, false, fetches_use, hand_was_put, handed, head_of, home, home_fair, is_a_read, is_answer, is_exchanging, is_shipping, list_any, local_of, not, number_of, numbers_of, reduces_use, refl, same_number, setting_of, subst, sym, true, turn_at, uses_at, uses_read, ℕ, ◌&&◌, ◌==◌, ◌∙◌, ◌∷◌, ◌≡◌, ◌≤◌}
-use Rattle.sdd_obligations.proofs.Hearing.{AtTurn, answers_asked, is_awaited}
+use Rattle.sdd_obligations.proofs.HandedAnswersKeepTurns.{AtTurn, answers_asked, is_awaited}
 use Rattle.sdd_obligations.proofs.AtTurn.{awaits}
 use Rattle.sdd_obligations.proofs.ReadSent.{IsLastRead, last_read, numbers_are, reads_sent, was_answered, was_sent}
 use Rattle.sdd_obligations.proofs.Sources.{answer_source, home_first}
-use Rattle.sdd_obligations.proofs.Spoken.{answer_in_turn, spoken}
+use Rattle.sdd_obligations.proofs.ExchangesGoByTurns.{answer_in_turn, spoken}
 use Rattle.sdd_obligations.proofs.Halves.{IsSpoken, active_of, home_log, home_turns}
 use Rattle.sdd_invariants.specs.site_module.SiteLog.{Log}
 use Rattle.sdd_invariants.specs.logs.Entries as all

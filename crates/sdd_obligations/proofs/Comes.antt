@@ -1,11 +1,11 @@
 -- A question that is next to be handed over is for rows that its data module holds.
-use Rattle.sdd_obligations.proofs.All.{AreFor, Asks, Bool, D, DmNo, Fetch, FitsShip, Frozen, Hand, HaveUse, Input, IsAllowed, IsOfUses, IsPermitted, IsServable, List, MayAsk, Msg, None, Option, Reduce, Replies, Ship, Silent, Site, Some, Told, Turn, [], active, answers, ap, arith, asks_rows, contains, false, flight, frozen, hand_was_put, handed, home, if◌then◌else◌, is_a_read, is_a_ship, is_answer, is_exchanging, is_question, local_of, not, number_of, questions, refl, setting_of, subst, sym, told, true, turn_at, turn_with, uses_held, ℕ, ◌∙◌, ◌∷◌, ◌≡◌, ◌≤◌}
-use Rattle.sdd_obligations.proofs.Hearing.{answers_asked}
+use Rattle.sdd_obligations.proofs.All.{AreFor, Asks, Bool, D, DmNo, Fetch, FitsShip, Frozen, Hand, HaveUse, Input, IsAllowed, IsOfUses, IsPermitted, IsServable, List, MayAsk, Msg, None, Option, Reduce, Replies, Ship, Silent, Site, Some, Told, Turn, [], active, answers, ap, arith, asks_rows, contains, false, flight, frozen, hand_was_put, handed, home, if◌then◌else◌, is_a_read, is_a_ship, is_answer, is_exchanging, is_question, local_of, not, number_of, questions, refl, setting_of, subst, sym, true, turn_after_answer, turn_at, turn_with, uses_held, ℕ, ◌∙◌, ◌∷◌, ◌≡◌, ◌≤◌}
+use Rattle.sdd_obligations.proofs.HandedAnswersKeepTurns.{answers_asked}
 use Rattle.sdd_obligations.proofs.Flights.{first_in_flight}
 use Rattle.sdd_obligations.proofs.Replying.{asks_question, asks_no_a_read as asks_no_read}
-use Rattle.sdd_obligations.proofs.Held.{AreHeldFor}
+use Rattle.sdd_obligations.proofs.RowsStayHeld.{AreHeldFor}
 use Rattle.sdd_obligations.proofs.Sources.{asked_here, question_home, source_is_home}
-use Rattle.sdd_obligations.proofs.Spoken.{first_of_kind, answer_in_turn, question_in_turn, spoken}
+use Rattle.sdd_obligations.proofs.ExchangesGoByTurns.{first_of_kind, answer_in_turn, question_in_turn, spoken}
 use Rattle.sdd_obligations.proofs.Halves.{IsLast, active_last, active_of, data_log, home_log, home_turns}
 use Rattle.sdd_obligations.proofs.Stages.{answer_flies, question_flies}
 use Rattle.sdd_obligations.proofs.Answered.{own}
@@ -98,7 +98,7 @@ pub record IsNextAnswer (g : Input) (c : ℕ) (log : all.Log) (d : DmNo) (x : Ms
   pub question : Msg
   pub asks : turn_at ts c d.0 (home_log g c log) ≡ Asks uses question
   pub replies : Replies uses question x
-  pub tells : turn_with ts c (home g.catalogue c) (data_log g d.0 log) ≡ told x (Asks uses question)
+  pub tells : turn_with ts c (home g.catalogue c) (data_log g d.0 log) ≡ turn_after_answer x (Asks uses question)
   pub alone : answers ts c (flight g (D d) (home g.catalogue c) log) ≡ x ∷ []
 
 pub next_answer_is : (g : Input) (c : ℕ) (log : all.Log) (d : DmNo) (n : ℕ) (x : Msg) (ts : ℕ) → IsPermitted g log → number_of (home g.catalogue c) ≤ 63
@@ -109,4 +109,4 @@ next_answer_is g c log d n x ts h few i a =
     let f = first_in_flight g log (D d) (home g.catalogue c) n x i in
     let e = first_of_kind (is_answer ts c) (flight g (D d) (home g.catalogue c) log) x f.0 f.1 a in
     let o = answer_flies _ _ _ _ x (answers ts c f.0) e (k.stages ts d.0) in
-    record { uses = by.uses; question = by.question; asks = by.is; replies = by.replies; tells = o.0 ∙ ap (told x) by.is; alone = e ∙ ap (λ l. x ∷ l) o.1 }
+    record { uses = by.uses; question = by.question; asks = by.is; replies = by.replies; tells = o.0 ∙ ap (turn_after_answer x) by.is; alone = e ∙ ap (λ l. x ∷ l) o.1 }

@@ -1,10 +1,10 @@
 -- An exchange in lockstep, by the turns of both sides; and what each side keeps of it.
-use Rattle.sdd_obligations.proofs.All.{AllLe, Asks, Attempt, Bool, D, Each, Input, IsPermitted, IsStage, List, Log, MayAnswer, MayAsk, Msg, None, Option, Read, Refused, Some, Told, Turn, [], active, agreed, all_of, and_left, answer_goes, answers, ap, arith, both, class_puts, d_fair, dec_le, dm_no, eqb-true, false, flight, goes_through, head_in, home, home_fair, if_way, if◌then◌else◌, in_class_order, in_left, in_pipe, inl, inr, is_a_read, is_a_refusal, is_exchanging, is_read, length, limit_of, local_of, map, not, number_of, pipe, pipe_at, place_within, processed_stays, puts_to, question_goes, questions, refl, same_number, same_or_not, setting_of, slice_get, subst, suc, sym, time_of, timed, times_are, times_in, told, true, turn_at, turn_with, uses_held, zero, ℕ, ◌<◌, ◌==◌, ◌∙◌, ◌∷◌, ◌≡◌, ◌≤◌}
-use Rattle.sdd_obligations.proofs.Asking.{in_turn}
-use Rattle.sdd_obligations.proofs.Hearing.{AtTurn, InTurn, IsTimely}
-use Rattle.sdd_obligations.proofs.Held.{IsAlone, IsHeldAt}
+use Rattle.sdd_obligations.proofs.All.{AllLe, Asks, Attempt, Bool, D, Each, Input, IsPermitted, IsStage, List, Log, MayAnswer, MayAsk, Msg, None, Option, Read, Refused, Some, Told, Turn, [], active, agreed, all_of, and_left, answer_goes, answers, ap, arith, both, class_puts, d_fair, dec_le, dm_no, eqb-true, false, flight, goes_through, head_in, home, home_fair, if_way, if◌then◌else◌, in_class_order, in_left, in_pipe, inl, inr, is_a_read, is_a_refusal, is_exchanging, is_read, length, limit_of, local_of, map, not, number_of, pipe, pipe_at, place_within, processed_stays, puts_to, question_goes, questions, refl, same_number, same_or_not, setting_of, slice_get, subst, suc, sym, time_of, timed, times_are, times_in, true, turn_after_answer, turn_at, turn_with, uses_held, zero, ℕ, ◌<◌, ◌==◌, ◌∙◌, ◌∷◌, ◌≡◌, ◌≤◌}
+use Rattle.sdd_obligations.proofs.QuestionsComeInTurn.{in_turn}
+use Rattle.sdd_obligations.proofs.HandedAnswersKeepTurns.{AtTurn, InTurn, IsTimely}
+use Rattle.sdd_obligations.proofs.RowsStayHeld.{IsAlone, IsHeldAt}
 use Rattle.sdd_obligations.proofs.Sources.{home_first, source_is_home}
-use Rattle.sdd_obligations.proofs.Telling.{IsHomeOf, head_through, has_turn}
+use Rattle.sdd_obligations.proofs.AnswersComeInTurn.{IsHomeOf, head_through, has_turn}
 use Rattle.sdd_obligations.proofs.Replying.{HasTurnAt, IsAskedInTurn}
 use Rattle.sdd_obligations.proofs.InStep.{never}
 use Rattle.sdd_invariants.specs.site_module.SiteLog as site
@@ -44,7 +44,7 @@ data_turns g ts c d log h i =
 
 -- an attempt that exchanges rows is the active one
 
-told_quiet : (v : Turn) (x : Msg) → MayAnswer v x → is_exchanging (told x v) ≡ false
+told_quiet : (v : Turn) (x : Msg) → MayAnswer v x → is_exchanging (turn_after_answer x v) ≡ false
 told_quiet (Asks ns q) x h = if_way (λ w. is_exchanging w ≡ false) (is_a_refusal x) Refused (Told ns q) refl refl
 told_quiet _ x h = absurd h
 

@@ -1,7 +1,7 @@
 -- The questions that an exchange puts are those of its phase.
-use Rattle.sdd_obligations.proofs.All.{AllByRecursion, Asking, Asks, AsksPhase, Bool, Exchange, Fetch, Fetching, List, MayAnswer, Move, Msg, None, Over, Phase, Read, Ready, Reduce, Reduced, Reducing, Refused, Reject, Replies, Rows, Ship, Shipping, Some, Step, Told, Turn, Value, Values, [], after_hand, answered, ap, contains, counted, counts_for, false, fetches, fetches_from, goes_on, if◌then◌else◌, is_a_refusal, is_answer, lacking, length, map, move_at, next_move, phase_ends, question, question_of, reduces, refl, subst, sym, to_all, told, true, with_use, with_values, without, ℕ, ◌&&◌, ◌++◌, ◌+◌, ◌==◌, ◌∙◌, ◌∷◌, ◌≡◌}
+use Rattle.sdd_obligations.proofs.All.{AllByRecursion, Asking, Asks, AsksPhase, Bool, Exchange, Fetch, Fetching, List, MayAnswer, Move, Msg, None, Over, Phase, Read, Ready, Reduce, Reduced, Reducing, Refused, Reject, Replies, Rows, Ship, Shipping, Some, Step, Told, Turn, Value, Values, [], after_hand, answered, ap, contains, counted, counts_for, false, fetches, fetches_from, goes_on, if◌then◌else◌, is_a_refusal, is_answer, lacking, length, map, move_at, next_move, phase_ends, question, question_of, reduces, refl, subst, sym, to_all, true, turn_after_answer, with_use, with_values, without, ℕ, ◌&&◌, ◌++◌, ◌+◌, ◌==◌, ◌∙◌, ◌∷◌, ◌≡◌}
 use Rattle.sdd_obligations.proofs.AtTurn.{IsAtTurn, awaits}
-use Rattle.sdd_obligations.proofs.Hearing.{answers_asked, is_awaited}
+use Rattle.sdd_obligations.proofs.HandedAnswersKeepTurns.{answers_asked, is_awaited}
 use Rattle.sdd_obligations.proofs.Modules.{without_other}
 use Rattle.sdd_obligations.proofs.InStep.{never}
 
@@ -46,9 +46,9 @@ sends_end ts c x _ e h = sends_next ts c x x.left x.done
 
 -- the turns then
 abbrev pub after_answer : ℕ → Msg → (ℕ → Turn) → ℕ → Turn
-after_answer n m v d = if d == n then told m (v d) else v d
+after_answer n m v d = if d == n then turn_after_answer m (v d) else v d
 
-told_no_asks : {A : Type 0} (m q : Msg) (ns : List ℕ) (v : Turn) → told m v ≡ Asks ns q → A
+told_no_asks : {A : Type 0} (m q : Msg) (ns : List ℕ) (v : Turn) → turn_after_answer m v ≡ Asks ns q → A
 told_no_asks m q ns (Asks ms r) e = either (is_a_refusal m) e
   where
     either : {A : Type 0} (b : Bool) → (if b then Refused else Told ms r) ≡ Asks ns q → A
@@ -58,7 +58,7 @@ told_no_asks m q ns _ e = cc
 
 -- what is asked still was asked before, of another module
 still_asked : (n d : ℕ) (m q : Msg) (ns : List ℕ) (v : ℕ → Turn) → after_answer n m v d ≡ Asks ns q → (v d ≡ Asks ns q) × ((d == n) ≡ false)
-still_asked n d m q ns v e = elim (d == n) as (λ b. (d == n) ≡ b → (if b then told m (v d) else v d) ≡ Asks ns q → (v d ≡ Asks ns q) × ((d == n) ≡ false)) [
+still_asked n d m q ns v e = elim (d == n) as (λ b. (d == n) ≡ b → (if b then turn_after_answer m (v d) else v d) ≡ Asks ns q → (v d ≡ Asks ns q) × ((d == n) ≡ false)) [
   | true ↦ λ p f. told_no_asks m q ns (v d) f
   | false ↦ λ p f. (f, p)
 ] refl e
@@ -67,7 +67,7 @@ module _ (ts c n : ℕ) (m : Msg) (v : ℕ → Turn) where
   abbrev w : ℕ → Turn
   w d = after_answer n m v d
 
-  -- y is the exchange x with what the answer told
+  -- y is the exchange x with what the answer turn_after_answer
   module _ (x y : Exchange) (at_turn : (d : ℕ) → IsAtTurn d x (v d)) (lacks_are : y.lacks ≡ x.lacks)
       (same : question_of ts c x ≡ question_of ts c y) (sends : SendsPhase ts c y)
       (h : AsksPhase ts c x v) where

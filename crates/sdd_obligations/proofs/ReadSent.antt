@@ -1,8 +1,8 @@
 -- The READ whose answer lacks is the last of its attempt that was sent to its module, and no READY or REJECT of it was
 -- handed.
-use Rattle.sdd_obligations.proofs.All.{Act, Asks, Bool, D, Did, Each, Handed, IsFair, IsOfUses, List, MayAnswer, MayAsk, Msg, Read, Ready, Refused, Reject, Setting, Silent, Site, Some, T, Told, Turn, U, [], and_left, and_right, ap, asked, asked_by, at_site, both, cond, dm_no, false, filter, filter-append, head_of, if_way, if◌then◌else◌, in_filtered, inl, inr, is_a_read, is_a_refusal, is_answer, is_question, is_read, is_verdict, list_any, map, not_both, not_true, numbers_of, questions, refl, same_site, same_sym, sends_of_act, site_is, slice_get, subst, sym, to_site, told, true, turn_at, uses_by, ℕ, ◌&&◌, ◌++◌, ◌||◌, ◌∙◌, ◌∷◌, ◌≡◌}
-use Rattle.sdd_obligations.proofs.Asking.{IsInTurn, asks_in_turn, in_turn}
-use Rattle.sdd_obligations.proofs.Hearing.{IsTimely, told_one}
+use Rattle.sdd_obligations.proofs.All.{Act, Asks, Bool, D, Did, Each, Handed, IsFair, IsOfUses, List, MayAnswer, MayAsk, Msg, Read, Ready, Refused, Reject, Setting, Silent, Site, Some, T, Told, Turn, U, [], and_left, and_right, ap, asked_by, at_site, both, cond, dm_no, false, filter, filter-append, head_of, if_way, if◌then◌else◌, in_filtered, inl, inr, is_a_read, is_a_refusal, is_answer, is_question, is_read, is_verdict, list_any, map, not_both, not_true, numbers_of, questions, refl, same_site, same_sym, sends_of_act, site_is, slice_get, subst, sym, to_site, true, turn_after_answer, turn_after_question, turn_at, uses_by, ℕ, ◌&&◌, ◌++◌, ◌||◌, ◌∙◌, ◌∷◌, ◌≡◌}
+use Rattle.sdd_obligations.proofs.QuestionsComeInTurn.{IsInTurn, asks_in_turn, in_turn}
+use Rattle.sdd_obligations.proofs.HandedAnswersKeepTurns.{IsTimely, told_one}
 use Rattle.sdd_obligations.proofs.FirstSends.{IsFirstEach}
 use Rattle.sdd_obligations.proofs.Opened.{sift_within}
 use Rattle.sdd_obligations.proofs.Replying.{read_question, uses_twice}
@@ -84,7 +84,7 @@ one_read : (ts c : ℕ) (m : Msg) → is_read ts c m ≡ true → filter (is_rea
 one_read ts c m e = ap (λ (b : Bool). cond b (m ∷ []) []) e
 
 last_asked : (ts c d : ℕ) (v : Turn) (m : Msg) (ms : List Msg) (reads : List (Site × Msg)) (b : Bool) → ms ≡ m ∷ [] → MayAsk v m
-    → is_question ts c m ≡ true → IsLastRead d v reads b → IsLastRead d (asked m v) (map (to_d d) (filter (is_read ts c) ms) ++ reads) b
+    → is_question ts c m ≡ true → IsLastRead d v reads b → IsLastRead d (turn_after_question m v) (map (to_d d) (filter (is_read ts c) ms) ++ reads) b
 last_asked ts c d Silent m ms reads b e h q i = λ r. (
   ap (λ l. head_of (map (to_d d) (filter (is_read ts c) l) ++ reads)) e
       ∙ ap (λ l. head_of (map (to_d d) l ++ reads)) (one_read ts c m (question_read ts c m q r)),
@@ -103,7 +103,7 @@ last_act ts c d act log (inl e) h =
     (sym (reads_of_act ts c d act log ∙ ap (λ l. map (to_d d) (filter (is_read ts c) l) ++ reads_sent ts c d log) e)) h)
 last_act ts c d act log (inr p) h =
     subst (λ v. IsLastRead d v (reads_sent ts c d (Did act ∷ log)) (was_answered ts c d log)) (sym (ap (λ l. asked_by l (turn_at ts c d log)) p.1))
-    (subst (λ l. IsLastRead d (asked p.0 (turn_at ts c d log)) l (was_answered ts c d log)) (sym (reads_of_act ts c d act log))
+    (subst (λ l. IsLastRead d (turn_after_question p.0 (turn_at ts c d log)) l (was_answered ts c d log)) (sym (reads_of_act ts c d act log))
     (last_asked ts c d (turn_at ts c d log) p.0 (questions ts c (to_site (D (dm_no d)) (sends_of_act act)))
     (reads_sent ts c d log) (was_answered ts c d log) p.1 p.2 (of_questions ts c (to_site (D (dm_no d)) (sends_of_act act)) p.0 p.1) h))
 
@@ -114,7 +114,7 @@ verdict_answer ts c (Ready t k counts) e = e
 verdict_answer ts c (Reject t k by w) e = e
 verdict_answer ts c m e = cc
 
-after_told : (d : ℕ) (v : Turn) (m : Msg) (reads : List (Site × Msg)) (b : Bool) → MayAnswer v m → IsLastRead d (told m v) reads b
+after_told : (d : ℕ) (v : Turn) (m : Msg) (reads : List (Site × Msg)) (b : Bool) → MayAnswer v m → IsLastRead d (turn_after_answer m v) reads b
 after_told d (Asks ns q) m reads b h = if_way (λ w. IsLastRead d w reads b) (is_a_refusal m) Refused (Told ns q) tt tt
 after_told d _ m reads b h = absurd h
 
@@ -126,7 +126,7 @@ last_hand ts c d from m log timely h =
     let here : Bool = same_site (D (dm_no d)) from in
     subst (λ w. IsLastRead d w (reads_sent ts c d log) (was_answered ts c d (Handed from m ∷ log))) (sym (told_one ts c here m v))
     (elim (here && is_answer ts c m) as (λ b. (here && is_answer ts c m) ≡ b
-    → IsLastRead d (if b then told m v else v) (reads_sent ts c d log)
+    → IsLastRead d (if b then turn_after_answer m v else v) (reads_sent ts c d log)
     (was_answered ts c d (Handed from m ∷ log))) [
       | true ↦ λ e. after_told d v m (reads_sent ts c d log) (was_answered ts c d (Handed from m ∷ log))
           (timely ts d (sym (site_is (D (dm_no d)) from (and_left here (is_answer ts c m) e))) (and_right here (is_answer ts c m) e))

@@ -1,6 +1,6 @@
 -- What a data module has still to answer is what the turns say: a hand, and the answer to a FETCH, REDUCE or SHIP.
-use Rattle.sdd_obligations.proofs.All.{Act, Arrive, Asks, Bool, Did, DmNo, Fetch, Frozen, Handed, List, MayAsk, Msg, None, Open, Option, Pipe, Read, Records, Redeclared, Reduce, Reduced, Refused, Rows, Sends, Ship, Silent, Site, Some, Submits, Ticked, Told, Turn, TxnNo, Values, [], all_held, and_right as and_right_of, ap, append-nil, asked, asks_rows, class_asked, cond, false, filter, filter-append, goes_through, hands, head, head_of, head_processed, if_way, if◌then◌else◌, in_filtered, in_left, inl, inr, is_a_read, is_a_refusal, is_answer, is_asked_of, is_processing, is_question, is_read, is_read_of, is_some, length, map, not, not_both, not_true, one_or_none, opens, opens_handed, passing, pipe, pipe_acted, processed_handed, put, reads_asked, refl, rows_asked, rows_held, same_number, same_or_not, same_site, site_self, slice_get, subst, suc, sym, told, true, turn_with, uses_by, uses_held, uses_in, values_in, zero, ℕ, ◌&&◌, ◌++◌, ◌==◌, ◌∙◌, ◌∷◌, ◌≡◌}
-use Rattle.sdd_obligations.proofs.Hearing.{told_is, told_one, asked_one as asked_if}
+use Rattle.sdd_obligations.proofs.All.{Act, Arrive, Asks, Bool, Did, DmNo, Fetch, Frozen, Handed, List, MayAsk, Msg, None, Open, Option, Pipe, Read, Records, Redeclared, Reduce, Reduced, Refused, Rows, Sends, Ship, Silent, Site, Some, Submits, Ticked, Told, Turn, TxnNo, Values, [], all_held, and_right as and_right_of, ap, append-nil, asks_rows, class_asked, cond, false, filter, filter-append, goes_through, hands, head, head_of, head_processed, if_way, if◌then◌else◌, in_filtered, in_left, inl, inr, is_a_read, is_a_refusal, is_answer, is_asked_of, is_processing, is_question, is_read, is_read_of, is_some, length, map, not, not_both, not_true, one_or_none, opens, opens_handed, passing, pipe, pipe_acted, processed_handed, put, reads_asked, refl, rows_asked, rows_held, same_number, same_or_not, same_site, site_self, slice_get, subst, suc, sym, true, turn_after_answer, turn_after_question, turn_with, uses_by, uses_held, uses_in, values_in, zero, ℕ, ◌&&◌, ◌++◌, ◌==◌, ◌∙◌, ◌∷◌, ◌≡◌}
+use Rattle.sdd_obligations.proofs.HandedAnswersKeepTurns.{told_is, told_one, asked_one as asked_if}
 use Rattle.sdd_obligations.proofs.DataSteps.{reply}
 use Rattle.sdd_obligations.proofs.Opened.{are_apart, one_hand, sift_has, sift_swap, sift_within}
 use Rattle.sdd_obligations.proofs.Linking.{first_there}
@@ -148,7 +148,7 @@ pairs_if true at from m e = ap (λ s. (s, m) ∷ []) e
 pairs_if false at from m e = refl
 
 -- while rows are held they stay so at a question that isn't a READ
-held_before : (v : Turn) (m : Msg) (ns : List ℕ) → MayAsk v m → uses_held (asked m v) ≡ Some ns → uses_held v ≡ Some (uses_in v)
+held_before : (v : Turn) (m : Msg) (ns : List ℕ) → MayAsk v m → uses_held (turn_after_question m v) ≡ Some ns → uses_held v ≡ Some (uses_in v)
 held_before Silent (Read t k txn attempt conds uses) ns h e = cc
 held_before Silent m ns h e = cc
 held_before (Told ms q) m ns h e = ap (λ (b : Bool). if b then None else Some ms) h.0
@@ -158,7 +158,7 @@ same_processed : (ts c : ℕ) (p q : Pipe) → q.processed ≡ p.processed → I
 same_processed ts c p q e h = record { place = h.place; read = h.read; there = subst (λ l. slice_get l h.place ≡ Some h.read) (sym e) h.there; is = h.is }
 
 pub asked_turn : (ts c : ℕ) (at from : Site) (m : Msg) (log : Log)
-    → turn_with ts c at (Handed from m ∷ log) ≡ (if same_site at from && is_question ts c m then asked m (turn_with ts c at log) else turn_with ts c at log)
+    → turn_with ts c at (Handed from m ∷ log) ≡ (if same_site at from && is_question ts c m then turn_after_question m (turn_with ts c at log) else turn_with ts c at log)
 asked_turn ts c at from m log = asked_if ts c (same_site at from) m (turn_with ts c at log)
 
 pub turn_hand : (ts c : ℕ) (at : Site) (log : Log) (from : Site) (m : Msg) → IsAskedInTurn c at log (Handed from m) → HasTurnAt ts c at log
@@ -171,11 +171,11 @@ turn_hand ts c at log from m timely h =
     subst (λ w. HasTurn ts c at (opens (Handed from m ∷ log)) (pipe c (Handed from m ∷ log)) w) (sym (asked_turn ts c at from m log))
     (elim (is_question ts c m) as (λ b. is_question ts c m ≡ b
     → HasTurn ts c at (opens (Handed from m ∷ log)) (pipe c (Handed from m ∷ log))
-    (if same_site at from && b then asked m v else v)) [
+    (if same_site at from && b then turn_after_question m v else v)) [
       | true ↦ λ q.
           (let t = timely ts q in
           let here : same_site at from ≡ true = subst (λ s. same_site at s ≡ true) (sym t.0) (site_self at) in
-          subst (λ (b : Bool). HasTurn ts c at (opens (Handed from m ∷ log)) (pipe c (Handed from m ∷ log)) (if b && true then asked m v else v)) (sym here)
+          subst (λ (b : Bool). HasTurn ts c at (opens (Handed from m ∷ log)) (pipe c (Handed from m ∷ log)) (if b && true then turn_after_question m v else v)) (sym here)
           (record {
             own = (q, uses_twice m (uses_in v));
             rows_are = rows ∙ ap (λ l. l ++ (if asks_rows ts c m then (from, m) ∷ [] else [])) (h.rows_are
@@ -185,7 +185,7 @@ turn_hand ts c at log from m timely h =
           }))
       | false ↦ λ q.
           subst (λ (w : Turn). HasTurn ts c at (opens (Handed from m ∷ log)) (pipe c (Handed from m ∷ log))
-          w) (sym (ap (λ (b : Bool). if b then asked m v else v) (and_no (same_site at from))))
+          w) (sym (ap (λ (b : Bool). if b then turn_after_question m v else v) (and_no (same_site at from))))
           (record {
             own = h.own;
             rows_are = rows ∙ ap (λ (b : Bool). map asker (filter (asks_open ts c) (opens log)) ++ (if b then (from, m) ∷ [] else []))
@@ -251,7 +251,7 @@ pub asks_no_a_read : (ts c : ℕ) (m : Msg) → asks_rows ts c m ≡ true → is
 asks_no_a_read ts c (Read t k txn attempt conds uses) e = cc
 asks_no_a_read ts c _ e = refl
 
--- the question that stands, where rows are asked
+-- the question that stands, where rows are turn_after_question
 pub record IsAskedRows (ts c : ℕ) (at : Site) (os : List Open) (v : Turn) (o : Open) : Type 0 where
   pub uses : List ℕ
   pub is : v ≡ Asks uses o.msg
@@ -298,7 +298,7 @@ asked_rows ts c at log v k o h e f =
     asked_rows_of ts c at (opens log) v j.0 o h.rows_are j.1
 
 pub told_turn : (ts c : ℕ) (at to : Site) (m : Msg) (hand : Option ℕ) (log : Log)
-    → turn_with ts c at (Did (Sends to m hand) ∷ log) ≡ (if same_site at to && is_answer ts c m then told m (turn_with ts c at log) else turn_with ts c at log)
+    → turn_with ts c at (Did (Sends to m hand) ∷ log) ≡ (if same_site at to && is_answer ts c m then turn_after_answer m (turn_with ts c at log) else turn_with ts c at log)
 told_turn ts c at to m hand log = told_one ts c (same_site at to) m (turn_with ts c at log)
 
 not_own_hand : (o : Open) → filter (λ (x : Open). not (o.hand == x.hand)) (o ∷ []) ≡ []
@@ -314,13 +314,13 @@ turn_replies ts c at log f k o m e r h =
     let v : Turn = turn_with ts c at log in
     let os : List Open = opens (Did (Sends o.from m (Some o.hand)) ∷ log) in
     subst (λ w. HasTurn ts c at os (pipe c log) w) (sym (told_turn ts c at o.from m (Some o.hand) log
-    ∙ ap (λ (b : Bool). if same_site at o.from && b then told m v else v) (reply_answers ts c f o.msg m r)))
-    (elim (asks_rows ts c o.msg) as (λ b. asks_rows ts c o.msg ≡ b → HasTurn ts c at os (pipe c log) (if same_site at o.from && b then told m v else v)) [
+    ∙ ap (λ (b : Bool). if same_site at o.from && b then turn_after_answer m v else v) (reply_answers ts c f o.msg m r)))
+    (elim (asks_rows ts c o.msg) as (λ b. asks_rows ts c o.msg ≡ b → HasTurn ts c at os (pipe c log) (if same_site at o.from && b then turn_after_answer m v else v)) [
       | true ↦ λ q.
           (let w = asked_rows ts c at log v k o h e q in
           let here : same_site at o.from ≡ true = subst (λ s. same_site at s ≡ true) (sym w.from_is) (site_self at) in
-          let now : told m v ≡ Told w.uses o.msg = told_is v w.uses o.msg m w.is (reply_no_refusal f o.msg m r) in
-          subst (λ (b : Bool). HasTurn ts c at os (pipe c log) (if b && true then told m v else v)) (sym here)
+          let now : turn_after_answer m v ≡ Told w.uses o.msg = told_is v w.uses o.msg m w.is (reply_no_refusal f o.msg m r) in
+          subst (λ (b : Bool). HasTurn ts c at os (pipe c log) (if b && true then turn_after_answer m v else v)) (sym here)
           (subst (λ x. HasTurn ts c at os (pipe c log) x) (sym now) (record {
             own = tt;
             rows_are = ap (map asker) (sift_swap (λ (x : Open). not (o.hand == x.hand)) (asks_open ts c)
@@ -331,7 +331,7 @@ turn_replies ts c at log f k o m e r h =
       | false ↦ λ q.
           (let i = in_filtered (is_asked_of k) (opens log) 0 o (first_there (filter (is_asked_of k) (opens log)) o e) in
           let apart = are_apart log in
-          subst (λ x. HasTurn ts c at os (pipe c log) x) (sym (ap (λ (b : Bool). if b then told m v else v) (and_no (same_site at o.from))))
+          subst (λ x. HasTurn ts c at os (pipe c log) x) (sym (ap (λ (b : Bool). if b then turn_after_answer m v else v) (and_no (same_site at o.from))))
           (record {
             own = h.own;
             rows_are = ap (map asker) (sift_within (λ (x : Open). not (o.hand == x.hand)) (asks_open ts c) (opens log)

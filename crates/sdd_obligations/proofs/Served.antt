@@ -1,6 +1,6 @@
 -- With the last ROWS the rows that came serve the database of the attempt's snapshots.
 use Rattle.sdd_obligations.proofs.All.{Attempt, Catalogue, ClassNo, CopyRows, D, DmNo, Exchange, FitsInput, FitsText, Hand, Handed, Has-flat_map, Has-flat_map_from, HasCopies, HasEras, Input, IsPermitted, List, Log, Msg, None, Over, Row, Rows, Serves, ServesIfLast, Setting, Shipping, Site, Some, Space, Ts, [], active, active_handed, after_hand, all_new, all_rows, answered, ap, base_of, before_answer, both, contains, contents, copies_read, dated, dm_no, exchange_serves, frozen_space, home, home_fair, if◌then◌else◌, is_over, is_shipped, lacking, length, local_of, local_step, modules_asked, phase_ends, refl, same_number, serves_by_members, setting_of, site_self, stage_of, subst, with_made, without, ℕ, ◌++◌, ◌+◌, ◌==◌, ◌∙◌, ◌∷◌, ◌≡◌, ◌≤◌}
-use Rattle.sdd_obligations.proofs.Hearing.{is_awaited}
+use Rattle.sdd_obligations.proofs.HandedAnswersKeepTurns.{is_awaited}
 use Rattle.sdd_obligations.proofs.Texts.{active_so, submitted_fit}
 use Rattle.sdd_obligations.proofs.Copied.{copies_are}
 use Rattle.sdd_obligations.proofs.Covered.{attempt_covered, class_within}

@@ -1,7 +1,7 @@
 -- The exchange of an active attempt follows a run over what its modules keep, on every permitted log.
 use Rattle.sdd_obligations.proofs.All.{Act, AllReadied, Asks, Attempt, Bases, Bool, Catalogue, CopyRows, D, Did, DmNo, Does, Each, Entry, Exchange, FitsInput, Frozen, Hand, Handed, Has, HasEras, Input, IsFair, IsPermitted, KeepsOnce, List, Log, Mark, Msg, None, Notes, Option, Queued, Redeclares, Reduce, Reject, Round, Sends, Setting, Site, Some, Space, Submitted, T, Tells, U, Value, [], active, active_handed, active_sent, after_hand, after_send, ap, asked_at, asks_rows, beginning, begins, bound, class_at, class_no, clock, commit_act, contains, contents, current_era, dated, dm_no, false, filter_map, follows_reduce, follows_start, frozen_for, frozen_once, frozen_space, head, head_of, home, home_fair, honest, if_way, if◌then◌else◌, inl, inr, is_a_refusal, is_answer, is_question, is_shipped, kept, length, local_of, local_step, made, module_read, modules_asked, next_stamp, own_act, pipe, question, question_of, queue, readied, reduced, refl, rejects, same_number, same_or_not, same_site, sends_of_act, setting_of, site_is, site_self, start_at, start_modules, started, step_way, subst, suc, sym, time_at, tm_no, true, turn_at, with_made, ℕ, ◌==◌, ◌∙◌, ◌∷◌, ◌≡◌, ◌≢◌, ◌≤◌}
 use Rattle.sdd_obligations.proofs.AtTurn.{hand_not}
-use Rattle.sdd_obligations.proofs.Hearing.{is_awaited}
+use Rattle.sdd_obligations.proofs.HandedAnswersKeepTurns.{is_awaited}
 use Rattle.sdd_obligations.proofs.Modules.{firsts}
 use Rattle.sdd_obligations.proofs.ShippedAnswered.{answer_to, not_before, uses_at_head}
 use Rattle.sdd_obligations.proofs.Covered.{attempt_covered, class_within}

@@ -1,5 +1,5 @@
 -- Each entry keeps an exchange in lockstep.
-use Rattle.sdd_obligations.proofs.All.{Asks, Bool, IsStage, List, MayAnswer, MayAsk, Msg, Refused, Told, Turn, [], agreed, answer_goes, ap, append-nil, asked, asked_by, false, if◌then◌else◌, is_a_refusal, question_goes, subst, sym, told, told_by, true, ℕ, ◌++◌, ◌∙◌, ◌∷◌, ◌≡◌}
+use Rattle.sdd_obligations.proofs.All.{Asks, Bool, IsStage, List, MayAnswer, MayAsk, Msg, Refused, Told, Turn, [], agreed, answer_goes, ap, append-nil, asked_by, false, if◌then◌else◌, is_a_refusal, question_goes, subst, sym, told_by, true, turn_after_answer, turn_after_question, ℕ, ◌++◌, ◌∙◌, ◌∷◌, ◌≡◌}
 
 -- what one entry adds: questions that are put, questions that are handed over, answers that are put, answers that are
 -- handed over
@@ -23,7 +23,7 @@ no_second_if : {A : Type 0} (b : Bool) (ns : List ℕ) (q x : Msg) → MayAnswer
 no_second_if true ns q x h = absurd h
 no_second_if false ns q x h = absurd h
 
-no_second : {A : Type 0} (v : Turn) (x y : Msg) → MayAnswer v y → MayAnswer (told y v) x → A
+no_second : {A : Type 0} (v : Turn) (x y : Msg) → MayAnswer v y → MayAnswer (turn_after_answer y v) x → A
 no_second (Asks ns q) x y h k = no_second_if (is_a_refusal y) ns q x k
 no_second _ x y h k = absurd h
 
@@ -37,27 +37,27 @@ same_stage : (v w : Turn) (qs xs qs2 xs2 : List Msg) → qs2 ≡ qs → xs2 ≡ 
 same_stage v w qs xs qs2 xs2 e f h = subst (λ q. IsStage v w q xs2) (sym e) (subst (IsStage v w qs) (sym f) h)
 
 put_question : (v w : Turn) (qs xs qs2 xs2 : List Msg) (m : Msg) → MayAsk v m → qs2 ≡ qs ++ m ∷ [] → xs2 ≡ xs → IsStage v w qs xs
-    → IsStage (asked m v) w qs2 xs2
-put_question v w qs xs qs2 xs2 m h e f (agreed s q x) = question_goes m (e ∙ ap (λ l. l ++ m ∷ []) q) (f ∙ x) (ap (asked m) s) (subst (λ y. MayAsk y m) s h)
+    → IsStage (turn_after_question m v) w qs2 xs2
+put_question v w qs xs qs2 xs2 m h e f (agreed s q x) = question_goes m (e ∙ ap (λ l. l ++ m ∷ []) q) (f ∙ x) (ap (turn_after_question m) s) (subst (λ y. MayAsk y m) s h)
 put_question v w qs xs qs2 xs2 m h e f (question_goes n q x s a) = absurd (subst (λ y. MayAsk y m) s h)
 put_question v w qs xs qs2 xs2 m h e f (answer_goes y q x s a) = ask_or_answer v m y h a
 
-get_question : (v w : Turn) (qs xs qs2 xs2 : List Msg) (m : Msg) → m ∷ qs2 ≡ qs → xs2 ≡ xs → IsStage v w qs xs → IsStage v (asked m w) qs2 xs2
+get_question : (v w : Turn) (qs xs qs2 xs2 : List Msg) (m : Msg) → m ∷ qs2 ≡ qs → xs2 ≡ xs → IsStage v w qs xs → IsStage v (turn_after_question m w) qs2 xs2
 get_question v w qs xs qs2 xs2 m e f (agreed s q x) = nothing m qs2 (e ∙ q)
-get_question v w qs xs qs2 xs2 m e f (question_goes n q x s a) = let o = one_only m n qs2 (e ∙ q) in agreed (s ∙ ap (λ y. asked y w) (sym o.0)) o.1 (f ∙ x)
+get_question v w qs xs qs2 xs2 m e f (question_goes n q x s a) = let o = one_only m n qs2 (e ∙ q) in agreed (s ∙ ap (λ y. turn_after_question y w) (sym o.0)) o.1 (f ∙ x)
 get_question v w qs xs qs2 xs2 m e f (answer_goes y q x s a) = nothing m qs2 (e ∙ q)
 
 put_answer : (v w : Turn) (qs xs qs2 xs2 : List Msg) (y : Msg) → MayAnswer w y → qs2 ≡ qs → xs2 ≡ xs ++ y ∷ [] → IsStage v w qs xs
-    → IsStage v (told y w) qs2 xs2
+    → IsStage v (turn_after_answer y w) qs2 xs2
 put_answer v w qs xs qs2 xs2 y h e f (agreed s q x) =
-    answer_goes y (e ∙ q) (f ∙ ap (λ l. l ++ y ∷ []) x) (ap (told y) (sym s)) (subst (λ z. MayAnswer z y) (sym s) h)
+    answer_goes y (e ∙ q) (f ∙ ap (λ l. l ++ y ∷ []) x) (ap (turn_after_answer y) (sym s)) (subst (λ z. MayAnswer z y) (sym s) h)
 put_answer v w qs xs qs2 xs2 y h e f (question_goes m q x s a) = ask_or_answer w m y a h
 put_answer v w qs xs qs2 xs2 y h e f (answer_goes z q x s a) = no_second v y z a (subst (λ u. MayAnswer u y) s h)
 
-get_answer : (v w : Turn) (qs xs qs2 xs2 : List Msg) (y : Msg) → qs2 ≡ qs → y ∷ xs2 ≡ xs → IsStage v w qs xs → IsStage (told y v) w qs2 xs2
+get_answer : (v w : Turn) (qs xs qs2 xs2 : List Msg) (y : Msg) → qs2 ≡ qs → y ∷ xs2 ≡ xs → IsStage v w qs xs → IsStage (turn_after_answer y v) w qs2 xs2
 get_answer v w qs xs qs2 xs2 y e f (agreed s q x) = nothing y xs2 (f ∙ x)
 get_answer v w qs xs qs2 xs2 y e f (question_goes m q x s a) = nothing y xs2 (f ∙ x)
-get_answer v w qs xs qs2 xs2 y e f (answer_goes z q x s a) = let o = one_only y z xs2 (f ∙ x) in agreed (ap (λ u. told u v) o.0 ∙ sym s) (e ∙ q) o.1
+get_answer v w qs xs qs2 xs2 y e f (answer_goes z q x s a) = let o = one_only y z xs2 (f ∙ x) in agreed (ap (λ u. turn_after_answer u v) o.0 ∙ sym s) (e ∙ q) o.1
 
 -- each entry keeps the stage
 pub moved : (v w : Turn) (pq hq pa ha qs xs qs2 xs2 : List Msg) → IsMove v w pq hq pa ha → hq ++ qs2 ≡ qs ++ pq → ha ++ xs2 ≡ xs ++ pa
@@ -82,12 +82,12 @@ answer_comes v w qs xs y rest e (answer_goes z q x s a) = subst (MayAnswer v) (s
 
 -- the question or the answer under way, and the turns
 
-pub question_flies : (v w : Turn) (qs xs : List Msg) (m : Msg) (rest : List Msg) → qs ≡ m ∷ rest → IsStage v w qs xs → v ≡ asked m w
+pub question_flies : (v w : Turn) (qs xs : List Msg) (m : Msg) (rest : List Msg) → qs ≡ m ∷ rest → IsStage v w qs xs → v ≡ turn_after_question m w
 question_flies v w qs xs m rest e (agreed s q x) = nothing m rest (sym e ∙ q)
-question_flies v w qs xs m rest e (question_goes n q x s a) = s ∙ ap (λ y. asked y w) (sym (one_only m n rest (sym e ∙ q)).0)
+question_flies v w qs xs m rest e (question_goes n q x s a) = s ∙ ap (λ y. turn_after_question y w) (sym (one_only m n rest (sym e ∙ q)).0)
 question_flies v w qs xs m rest e (answer_goes y q x s a) = nothing m rest (sym e ∙ q)
 
-pub answer_flies : (v w : Turn) (qs xs : List Msg) (y : Msg) (rest : List Msg) → xs ≡ y ∷ rest → IsStage v w qs xs → (w ≡ told y v) × (rest ≡ [])
+pub answer_flies : (v w : Turn) (qs xs : List Msg) (y : Msg) (rest : List Msg) → xs ≡ y ∷ rest → IsStage v w qs xs → (w ≡ turn_after_answer y v) × (rest ≡ [])
 answer_flies v w qs xs y rest e (agreed s q x) = nothing y rest (sym e ∙ x)
 answer_flies v w qs xs y rest e (question_goes m q x s a) = nothing y rest (sym e ∙ x)
-answer_flies v w qs xs y rest e (answer_goes z q x s a) = let o = one_only y z rest (sym e ∙ x) in (s ∙ ap (λ u. told u v) (sym o.0), o.1)
+answer_flies v w qs xs y rest e (answer_goes z q x s a) = let o = one_only y z rest (sym e ∙ x) in (s ∙ ap (λ u. turn_after_answer u v) (sym o.0), o.1)

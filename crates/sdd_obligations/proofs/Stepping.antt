@@ -1,17 +1,17 @@
 -- The exchange of an active attempt and its modules go in step.
-use Rattle.sdd_obligations.proofs.All.{Act, Asks, Attempt, Bases, Bool, D, Did, DmNo, Does, Each, Entry, Fetch, Hand, Handed, Input, IsAllowed, IsFair, IsPermitted, IsStage, List, Log, Mark, MayAnswer, Msg, None, Notes, Option, Queued, Read, Redeclared, Redeclares, Reduce, Reject, Replies, Round, Sends, Setting, Ship, Silent, Site, Some, Submits, Submitted, T, Tells, Ticked, Told, Turn, U, [], active, active_handed, active_sent, agreed, allowed_act, answer_goes, answers, ap, beginning, class_at, commit_act, dm_no, drop, false, filter-append, flight, handed, handed_way, head_of, home, home_fair, if_way, if◌then◌else◌, inl, inr, is_a_read, is_a_refusal, is_answer, is_question, kept, local_of, local_step, made, next_stamp, number_of, own_act, puts_to, question_goes, queue, refl, same_number, same_or_not, same_site, sends_of_act, sent_way, setting_of, site_is, site_self, stamp_below_next, start_at, started, step_way, subst, sym, take, take-append-drop, tm_no, told, true, turn_at, turn_with, uses_by, uses_in, with_made, ℕ, ◌++◌, ◌==◌, ◌∙◌, ◌∷◌, ◌≡◌, ◌≤◌}
+use Rattle.sdd_obligations.proofs.All.{Act, Asks, Attempt, Bases, Bool, D, Did, DmNo, Does, Each, Entry, Fetch, Hand, Handed, Input, IsAllowed, IsFair, IsPermitted, IsStage, List, Log, Mark, MayAnswer, Msg, None, Notes, Option, Queued, Read, Redeclared, Redeclares, Reduce, Reject, Replies, Round, Sends, Setting, Ship, Silent, Site, Some, Submits, Submitted, T, Tells, Ticked, Told, Turn, U, [], active, active_handed, active_sent, agreed, allowed_act, answer_goes, answers, ap, beginning, class_at, commit_act, dm_no, drop, false, filter-append, flight, handed, handed_way, head_of, home, home_fair, if_way, if◌then◌else◌, inl, inr, is_a_read, is_a_refusal, is_answer, is_question, kept, local_of, local_step, made, next_stamp, number_of, own_act, puts_to, question_goes, queue, refl, same_number, same_or_not, same_site, sends_of_act, sent_way, setting_of, site_is, site_self, stamp_below_next, start_at, started, step_way, subst, sym, take, take-append-drop, tm_no, true, turn_after_answer, turn_at, turn_with, uses_by, uses_in, with_made, ℕ, ◌++◌, ◌==◌, ◌∙◌, ◌∷◌, ◌≡◌, ◌≤◌}
 use Rattle.sdd_obligations.proofs.Comes.{next_answer_is, next_question_is}
 use Rattle.sdd_obligations.proofs.DataSteps.{data_step}
 use Rattle.sdd_obligations.proofs.Halves.{active_last, data_turns, home_source, home_turns}
-use Rattle.sdd_obligations.proofs.Hearing.{AtTurn, told_is}
+use Rattle.sdd_obligations.proofs.HandedAnswersKeepTurns.{AtTurn, told_is}
 use Rattle.sdd_obligations.proofs.Replying.{IsAskedInTurn}
 use Rattle.sdd_obligations.proofs.Sources.{home_first}
-use Rattle.sdd_obligations.proofs.Spoken.{spoken}
-use Rattle.sdd_obligations.proofs.Asked.{AllAskPhase, asks_phase}
+use Rattle.sdd_obligations.proofs.ExchangesGoByTurns.{spoken}
+use Rattle.sdd_obligations.proofs.QuestionsOfPhase.{AllAskPhase, asks_phase}
 use Rattle.sdd_obligations.proofs.Kept.{kept_same}
 use Rattle.sdd_obligations.proofs.InStep.{InStep, IsAnswered}
 use Rattle.sdd_obligations.proofs.Spaces.{IsStill, IsStillEntry, home_apart, made_still, own, set, still_active}
-use Rattle.sdd_obligations.proofs.Told.{KnowsTold, told_act, told_hand, told_still}
+use Rattle.sdd_obligations.proofs.LastAnswerIsKept.{KnowsTold, told_act, told_hand, told_still}
 use Rattle.sdd_invariants.specs.site_module.SiteLog as site
 
 -- a module that nothing was said to said nothing
@@ -144,7 +144,7 @@ module _ (g : Input) (c : ℕ) (small : number_of (home g.catalogue c) ≤ 63) w
   started_by : (log : Log) (k : ℕ) (q : Queued) → IsPermitted g log → head_of (queue s k (mine log)) ≡ Some q → AllTold log (active s c (mine log))
       → AllTold (Does at (start_at s k (mine log) q) ∷ log)
       (active s c (Did (start_at s k (mine log) q) ∷ mine log))
-  started_by log k q h e told = elim (same_or_not k c) [
+  started_by log k q h e turn_after_answer = elim (same_or_not k c) [
     | inl p ↦ subst (λ j. head_of (queue s j (mine log)) ≡ Some q
         → AllTold (Does at (start_at s j (mine log) q) ∷ log)
         (active s c (Did (start_at s j (mine log) q) ∷ mine log))) (sym p) (λ f. begun log q h f) e
@@ -152,28 +152,28 @@ module _ (g : Input) (c : ℕ) (small : number_of (home g.catalogue c) ≤ 63) w
         subst (AllTold (Does at (start_at s k (mine log) q) ∷ log))
         (ap (λ b. if b then started (next_stamp s (mine log)) (sends_of_act (start_at s k (mine log) q))
         (head_of (queue s c (mine log))) else active s c (mine log)) (sym p))
-        (told_on (Does at (start_at s k (mine log) q)) log (active s c (mine log)) (λ a i d. home_act log (start_at s k (mine log) q) a.ts d) told)
+        (told_on (Does at (start_at s k (mine log) q)) log (active s c (mine log)) (λ a i d. home_act log (start_at s k (mine log) q) a.ts d) turn_after_answer)
   ]
 
   committed_by : (log : Log) (k : ℕ) (bases : Bases) (a : Attempt) → AllTold log (active s c (mine log))
       → AllTold (Does at (commit_act s.catalogue bases k a) ∷ log)
       (active s c (Did (commit_act s.catalogue bases k a) ∷ mine log))
-  committed_by log k bases a told =
+  committed_by log k bases a turn_after_answer =
       elim (k == c) as (λ b. AllTold (Does at (commit_act s.catalogue bases k a) ∷ log)
       (if b then None else active s c (mine log))) [
         | true ↦ tt
         | false ↦ told_on (Does at (commit_act s.catalogue bases k a)) log (active s c (mine log))
-            (λ b i d. home_act log (commit_act s.catalogue bases k a) b.ts d) told
+            (λ b i d. home_act log (commit_act s.catalogue bases k a) b.ts d) turn_after_answer
       ]
 
   acted_home : (log : Log) (act : Act) → IsPermitted g (Does at act ∷ log)
       → AllTold log (active s c (mine log)) → AllTold (Does at act ∷ log) (active s c (Did act ∷ mine log))
-  acted_home log act h told =
+  acted_home log act h turn_after_answer =
       let step = (subst (λ l. Each (IsFair s) l) (own_act g at act log) (home_fair g c (Does at act ∷ log) h)).0 in
-      step_way s (mine log) act (λ x. AllTold (Does at x ∷ log) (active s c (Did x ∷ mine log))) (λ k q here idle e. started_by log k q h.1 e told)
-      (λ k bases a here e. committed_by log k bases a told)
+      step_way s (mine log) act (λ x. AllTold (Does at x ∷ log) (active s c (Did x ∷ mine log))) (λ k q here idle e. started_by log k q h.1 e turn_after_answer)
+      (λ k bases a here e. committed_by log k bases a turn_after_answer)
       (λ to m hand i. told_on (Does at (Sends to m hand)) log (active_sent c m (active s c (mine log))) (λ a e d. home_act log (Sends to m hand) a.ts d)
-      (sent_way (AllTold log) c m (active s c (mine log)) (λ a x e. subst (AllTold log) e told) told)) step
+      (sent_way (AllTold log) c m (active s c (mine log)) (λ a x e. subst (AllTold log) e turn_after_answer) turn_after_answer)) step
 
   -- all entries
 
@@ -183,49 +183,49 @@ module _ (g : Input) (c : ℕ) (small : number_of (home g.catalogue c) ≤ 63) w
   by_hand : (log : Log) (from to : Site) (n : ℕ) (m : Msg) → AllTold log (active s c (mine log))
       → IsPermitted g (Hand from to n m ∷ log) → (b : Bool) → same_site at to ≡ b
       → AllTold (Hand from to n m ∷ log) (active s c (mine (Hand from to n m ∷ log)))
-  by_hand log from to n m told hand true e =
+  by_hand log from to n m turn_after_answer hand true e =
       let here : mine (Hand from at n m ∷ log) ≡ Handed from m ∷ mine log =
       local_step g at (Hand from at n m) log ∙ ap (λ b. with_made (if b then Some (Handed from m) else None) (mine log)) (site_self at) in
       subst (λ x. AllTold (Hand from x n m ∷ log) (active s c (mine (Hand from x n m ∷ log)))) (site_is at to e)
       (subst (λ l. AllTold (Hand from at n m ∷ log) (active s c l)) (sym here)
       (told_on (Hand from at n m) log (active_handed c from m (active s c (mine log))) (λ a i d. home_hand log from n m a.ts d)
-      (handed_way (AllTold log) c from m (active s c (mine log)) tt (λ a x i. subst (AllTold log) i told) told)))
-  by_hand log from (D d) n m told hand false e =
+      (handed_way (AllTold log) c from m (active s c (mine log)) tt (λ a x i. subst (AllTold log) i turn_after_answer) turn_after_answer)))
+  by_hand log from (D d) n m turn_after_answer hand false e =
       subst (AllTold (Hand from (D d) n m ∷ log)) (sym (home_same (Hand from (D d) n m) log (ap (λ b. if b then Some (Handed from m) else None) e)))
-      (told_on (Hand from (D d) n m) log (active s c (mine log)) (λ a i k. module_hand log from d n m a.ts hand k) told)
-  by_hand log from U n m told hand false e =
+      (told_on (Hand from (D d) n m) log (active s c (mine log)) (λ a i k. module_hand log from d n m a.ts hand k) turn_after_answer)
+  by_hand log from U n m turn_after_answer hand false e =
       subst (AllTold (Hand from U n m ∷ log)) (sym (home_same (Hand from U n m) log (ap (λ b. if b then Some (Handed from m) else None) e)))
-      (told_on (Hand from U n m) log (active s c (mine log)) (λ a i k. apart (Hand from U n m) log a.ts k refl) told)
-  by_hand log from (T t) n m told hand false e =
+      (told_on (Hand from U n m) log (active s c (mine log)) (λ a i k. apart (Hand from U n m) log a.ts k refl) turn_after_answer)
+  by_hand log from (T t) n m turn_after_answer hand false e =
       subst (AllTold (Hand from (T t) n m ∷ log)) (sym (home_same (Hand from (T t) n m) log (ap (λ b. if b then Some (Handed from m) else None) e)))
-      (told_on (Hand from (T t) n m) log (active s c (mine log)) (λ a i k. apart (Hand from (T t) n m) log a.ts k refl) told)
+      (told_on (Hand from (T t) n m) log (active s c (mine log)) (λ a i k. apart (Hand from (T t) n m) log a.ts k refl) turn_after_answer)
 
   by_act : (log : Log) (by : Site) (act : Act) → AllTold log (active s c (mine log))
       → IsPermitted g (Does by act ∷ log) → (b : Bool) → same_site at by ≡ b → AllTold (Does by act ∷ log)
       (active s c (mine (Does by act ∷ log)))
-  by_act log by act told hand true e =
+  by_act log by act turn_after_answer hand true e =
       let P : Site → Type 0 = λ x. IsPermitted g (Does x act ∷ log) → AllTold (Does x act ∷ log) (active s c (mine (Does x act ∷ log))) in
-      subst P (site_is at by e) (λ h. subst (λ l. AllTold (Does at act ∷ log) (active s c l)) (sym (own_act g at act log)) (acted_home log act h told)) hand
-  by_act log (D d) act told hand false e =
+      subst P (site_is at by e) (λ h. subst (λ l. AllTold (Does at act ∷ log) (active s c l)) (sym (own_act g at act log)) (acted_home log act h turn_after_answer)) hand
+  by_act log (D d) act turn_after_answer hand false e =
       subst (AllTold (Does (D d) act ∷ log)) (sym (home_same (Does (D d) act) log (ap (λ b. if b then Some (Did act) else None) e)))
       (told_on (Does (D d) act) log (active s c (mine log)) (λ a i k. module_act log d act a hand i k)
-      told)
-  by_act log U act told hand false e =
+      turn_after_answer)
+  by_act log U act turn_after_answer hand false e =
       subst (AllTold (Does U act ∷ log)) (sym (home_same (Does U act) log (ap (λ b. if b then Some (Did act) else None) e)))
       (told_on (Does U act) log (active s c (mine log)) (λ a i k. apart (Does U act) log a.ts k refl)
-      told)
-  by_act log (T t) act told hand false e =
+      turn_after_answer)
+  by_act log (T t) act turn_after_answer hand false e =
       subst (AllTold (Does (T t) act ∷ log)) (sym (home_same (Does (T t) act) log (ap (λ b. if b then Some (Did act) else None) e)))
-      (told_on (Does (T t) act) log (active s c (mine log)) (λ a i k. apart (Does (T t) act) log a.ts k refl) told)
+      (told_on (Does (T t) act) log (active s c (mine log)) (λ a i k. apart (Does (T t) act) log a.ts k refl) turn_after_answer)
 
   by_still : (log : Log) (e : Entry) → IsStillEntry e → AllTold log (active s c (mine log)) → AllTold (e ∷ log) (active s c (mine (e ∷ log)))
-  by_still log e still told =
+  by_still log e still turn_after_answer =
       let same : active s c (mine (e ∷ log)) ≡ active s c (mine log) =
       ap (active s c) (local_step g at e log) ∙ still_active s c (made g at log e) (mine log) (made_still g at log e still) in
       subst (AllTold (e ∷ log)) (sym same)
       (told_on e log (active s c (mine log)) (λ a i d k. subst (KnowsTold (set g d) c a.ts at)
       (sym (local_step g (D (dm_no d)) e log)) (told_quiet (set g d) c a.ts at
-      (made g (D (dm_no d)) log e) (own g d log) (made_still g (D (dm_no d)) log e still) k)) told)
+      (made g (D (dm_no d)) log e) (own g d log) (made_still g (D (dm_no d)) log e still) k)) turn_after_answer)
 
   none_first : active s c (mine []) ≡ None
   none_first = if_way (λ x. active (setting_of g x) c (beginning g x) ≡ None) (c == 0) U (T (tm_no (class_at g.catalogue c).tm.0)) refl refl

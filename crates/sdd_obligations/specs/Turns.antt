@@ -43,7 +43,7 @@ abbrev pub is_a_refusal : Msg → Bool
 is_a_refusal (Reject t k by write) = true
 is_a_refusal _ = false
 
--- Whose turn it is. Nothing was asked; the site asked, and has no answer; the last question is answered; or the READ is
+-- Whose turn it is. Nothing was turn_after_question; the site turn_after_question, and has no answer; the last question is answered; or the READ is
 -- rejected. With a question stand the numbers of the READ's uses.
 pub data Turn : Type 0 where
   Silent : Turn
@@ -63,12 +63,12 @@ uses_by _ ns = ns
 
 -- the turn once this question is put, and once this answer is
 
-abbrev pub asked : Msg → Turn → Turn
-asked m v = Asks (uses_by m (uses_in v)) m
+abbrev pub turn_after_question : Msg → Turn → Turn
+turn_after_question m v = Asks (uses_by m (uses_in v)) m
 
-abbrev pub told : Msg → Turn → Turn
-told x (Asks ns m) = if is_a_refusal x then Refused else Told ns m
-told x v = v
+abbrev pub turn_after_answer : Msg → Turn → Turn
+turn_after_answer x (Asks ns m) = if is_a_refusal x then Refused else Told ns m
+turn_after_answer x v = v
 
 -- The question that may come next: first a READ, then FETCHes and REDUCEs of its uses, at last a SHIP.
 
@@ -85,7 +85,7 @@ MayAsk (Told ns q) m = (is_a_ship q ≡ false) × IsOfUses ns m
 MayAsk Refused m = ⊥
 
 -- The answer that may come next. READY answers a READ with one count for each of its uses, in order; VALUES and REDUCED are
--- of the use that was asked for; ROWS are of uses of the READ alone.
+-- of the use that was turn_after_question for; ROWS are of uses of the READ alone.
 
 abbrev pub RepliesToRead : List ℕ → Msg → Type 0
 RepliesToRead ns (Ready t k counts) = map (λ n. n.0) counts ≡ ns
@@ -121,11 +121,11 @@ MayAnswer Refused x = ⊥
 
 abbrev pub asked_by : List Msg → Turn → Turn
 asked_by [] v = v
-asked_by (m ∷ ms) v = asked_by ms (asked m v)
+asked_by (m ∷ ms) v = asked_by ms (turn_after_question m v)
 
 abbrev pub told_by : List Msg → Turn → Turn
 told_by [] v = v
-told_by (x ∷ xs) v = told_by xs (told x v)
+told_by (x ∷ xs) v = told_by xs (turn_after_answer x v)
 
 -- By the log of the site that asks: what it puts on its link to data module d, and what is handed to it from there.
 abbrev pub turn_at : ℕ → ℕ → ℕ → Log → Turn

@@ -28,14 +28,14 @@ pub use Rattle.sdd_lawful.proofs.Together.{copies, few, has_order, keeps_laws, n
 pub use Rattle.sdd_lawful.proofs.Touched.{copy_module, goes_module, goes_some, touches_some}
 pub use Rattle.sdd_lawful.specs.SoundInput.{AreErasOf, AreNumbered, HasSoundData, IsSoundInput, SubmitGiven, one_era}
 pub use Rattle.sdd_lawful.specs.Made.{IsMadeAt, record_of}
-pub use Rattle.sdd_obligations.proofs.Asking.{in_turn, strict_asked}
+pub use Rattle.sdd_obligations.proofs.QuestionsComeInTurn.{in_turn, strict_asked}
 pub use Rattle.sdd_obligations.proofs.AtTurn.{IsAtTurn, answered_last, apart, awaited, awaits, unsent}
 pub use Rattle.sdd_obligations.proofs.DataSteps.{IsDataStep, answers_read, applies, arrives, data_step, passes, refuses_read, replies, waits_for}
 pub use Rattle.sdd_obligations.proofs.Done.{AreDone, count_join, done, down_join, listed_first, settles_turn}
 pub use Rattle.sdd_obligations.proofs.DonesFit.{done_fits}
 pub use Rattle.sdd_obligations.proofs.FirstSends.{IsFirstEach}
 pub use Rattle.sdd_obligations.proofs.Halves.{data_turns, home_turns, read_time}
-pub use Rattle.sdd_obligations.proofs.Hearing.{AtTurn, InTurn, IsTimely, answers_asked, is_awaited}
+pub use Rattle.sdd_obligations.proofs.HandedAnswersKeepTurns.{AtTurn, InTurn, IsTimely, answers_asked, is_awaited}
 pub use Rattle.sdd_obligations.proofs.HoldsFit.{at_place, chain_at}
 pub use Rattle.sdd_obligations.proofs.InStep.{never}
 pub use Rattle.sdd_obligations.proofs.Linking.{lawful_part as lawful_end}
@@ -45,7 +45,7 @@ pub use Rattle.sdd_obligations.proofs.NoRejects.{u_not_rejected}
 pub use Rattle.sdd_obligations.proofs.OfNext.{IsThere, site_there}
 pub use Rattle.sdd_obligations.proofs.Replying.{HasTurn, asker, asks_open, from_site}
 pub use Rattle.sdd_obligations.proofs.Sources.{home_first, source_is_home}
-pub use Rattle.sdd_obligations.proofs.Spoken.{spoken}
+pub use Rattle.sdd_obligations.proofs.ExchangesGoByTurns.{spoken}
 pub use Rattle.sdd_obligations.proofs.Starts.{small_home}
 pub use Rattle.sdd_obligations.proofs.Sums.{range_at}
 pub use Rattle.sdd_obligations.proofs.Texts.{active_so, submitted_fit}
@@ -115,7 +115,7 @@ pub use Rattle.sdd_obligations.specs.lang.Fits.{FitsTxn}
 pub use Rattle.sdd_obligations.specs.laws.Deeds.{txn_at}
 pub use Rattle.sdd_obligations.specs.laws.Eras.{catalogue_at}
 pub use Rattle.sdd_obligations.specs.tm.Due.{IsDue, by_exchange, by_hold, by_start}
-pub use Rattle.sdd_progress.specs.Asked.{IsUnanswered}
+pub use Rattle.sdd_progress.specs.AwaitedModules.{IsUnanswered}
 pub use Rattle.sdd_progress.specs.Committed.{AllCommitted, IsNotLeft, WasCommitted}
 pub use Rattle.sdd_progress.specs.Eras.{eras_of}
 pub use Rattle.sdd_progress.specs.Examples.{all_lost, crossing_with, given_all_lost, given_late_query, late_query, log_of_all_lost, log_of_late_query}

@@ -1,5 +1,5 @@
 pub mod Answers
-pub mod Asked
+pub mod AwaitedModules
 pub mod Committed
 pub mod Conditions
 pub mod Ends

@@ -1,6 +1,6 @@
 ghost use Rattle.std.specs.Prelude.{◌≡◌, ◌<◌, ◌≤◌, ℕ, true, List, Some, slice_get};
 ghost use Rattle.sdd_obligations.specs.All.{Attempt, Change, ClassNo, Cond, DmNo, FitsInput, Input, IsClass, IsModule, IsPermitted, IsSoundCatalogue, Log, Read, Site, Ts, TxnNo, Use, Write, active, hands_from, head, home, is_link, local_of, pipe_at, puts_to, redeclares, setting_of};
-ghost use Rattle.sdd_progress.specs.Asked.{IsUnanswered};
+ghost use Rattle.sdd_progress.specs.AwaitedModules.{IsUnanswered};
 ghost use Rattle.sdd_progress.specs.Going.{IsGoing};
 ghost use Rattle.sdd_progress.specs.Premises.{IsIdleAtRedeclares, IsSoundList};
 ghost use Rattle.sdd_progress.specs.Quiet.{IsQuiet, at_home};

@@ -14,7 +14,7 @@ pub use Rattle.sdd_graph.specs.Edges.{IsEdgeOf, JoinsNodes}
 pub use Rattle.sdd_graph.specs.Graph.{classes_of, conflict_graph, diagonal_edges, ends, horizontal_edges, read_node, vertical_edges, write_node}
 pub use Rattle.sdd_graph.specs.declared.edge.Edge.{Edge}
 pub use Rattle.sdd_graph.specs.declared.edge.Edge.TheVariants.{Diagonal, Horizontal, Vertical}
-pub use Rattle.sdd_protocol.specs.Asked.{AreMarks, is_marked}
+pub use Rattle.sdd_protocol.specs.FragmentMarks.{AreMarks, is_marked}
 pub use Rattle.sdd_protocol.specs.Attempts.{condition_by, conditions_on}
 pub use Rattle.sdd_protocol.specs.Conditions.{asked_by, asked_in, asked_on, cond_for, cond_of, condition_on, conditions, is_asked, is_read_at}
 pub use Rattle.sdd_protocol.specs.DiagonalIndex.{Covers, DiagonalIndex, HasCell, IsIndexOf, cell, is_between, no_diagonals, range_of, widened, with_edge}

@@ -1,5 +1,5 @@
 mod All
-mod Asking
+mod CollectedValues
 pub mod Between
 pub mod Laws
 pub mod MadeTable

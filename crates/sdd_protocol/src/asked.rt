@@ -1,5 +1,5 @@
 ghost use Rattle.std.specs.Prelude.{◌≡◌, ◌==◌, ◌≤◌, length, All, Some, IfOk};
-ghost use Rattle.sdd_protocol.specs.Asked.{is_marked, AreMarks};
+ghost use Rattle.sdd_protocol.specs.FragmentMarks.{is_marked, AreMarks};
 ghost use Rattle.sdd_protocol.specs.Conditions.{is_read_at, is_asked};
 
 use sdd_base::{ClassNo, DmNo, FragNo, NoMemory};

@@ -1,5 +1,5 @@
 ghost use Rattle.std.specs.Prelude.{◌≡◌, ◌&&◌, ◌==◌, IfOk};
-ghost use Rattle.sdd_protocol.specs.Asked.{is_marked};
+ghost use Rattle.sdd_protocol.specs.FragmentMarks.{is_marked};
 ghost use Rattle.sdd_protocol.specs.Attempts.{condition_by};
 ghost use Rattle.sdd_protocol.specs.Conditions.{asked_on, asked_in, asked_by, cond_for};
 

@@ -1,7 +1,7 @@
 ghost use Rattle.std.specs.Prelude.{◌≡◌, ◌≤◌, ◌<◌, [], ◌∷◌, ◌++◌, length, filter, slice_get, All, Some, IfOk, OnOk};
 ghost use Rattle.sdd_catalog.specs.Catalogue.{numbers_to};
 ghost use Rattle.sdd_graph.specs.Edges.{IsClassOf};
-ghost use Rattle.sdd_protocol.specs.Asked.{is_marked};
+ghost use Rattle.sdd_protocol.specs.FragmentMarks.{is_marked};
 ghost use Rattle.sdd_protocol.specs.Attempts.{condition_by, conditions_on};
 ghost use Rattle.sdd_protocol.specs.Conditions.{conditions};
 ghost use Rattle.sdd_protocol.specs.DiagonalIndex.{is_between, IsIndexed};

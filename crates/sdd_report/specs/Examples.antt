@@ -102,6 +102,6 @@ unfolding digits
 queued_text = refl
 
 -- a text is printed with its quotes escaped
-pub quoted_row : row_line (Text (codes "a\"b") ∷ Int (pos 7) ∷ []) ≡ codes "row \"a\\\"b\" 7\n"
+pub quoted_example : row_line (Text (codes "a\"b") ∷ Int (pos 7) ∷ []) ≡ codes "row \"a\\\"b\" 7\n"
 unfolding digits
-quoted_row = refl
+quoted_example = refl

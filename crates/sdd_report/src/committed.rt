@@ -102,7 +102,7 @@ impl<'a> Commits<'a> {
     }
 
     /// What the first Commit of a transaction tells.
-    fn told(&self, txn: TxnNo) -> Option<&Told<'a>>
+    fn first_commit(&self, txn: TxnNo) -> Option<&Told<'a>>
         ensures { MatchOption result
             (told_of self.now txn.0 ≡ None)
             (λ t. told_of self.now txn.0 ≡ Some t.now) }
@@ -148,7 +148,7 @@ fn add_reply_of(
 ) -> Result<(), NoMemory>
     ensures { OnOk result (text.new ≡ text.old ++ reply_of txns.now commits.now txn) }
 {
-    match commits.told(txn) {
+    match commits.first_commit(txn) {
         Some(told) => add_reply(text, txn_name(txns, txn), told.reply),
         None => Ok(()),
     }
@@ -196,7 +196,7 @@ fn put_shipped_of(
 ) -> Result<(), NoMemory>
     ensures { OnOk result (text.new.items ≡ text.old.items ++ shipped_of txns.now commits.now txn) }
 {
-    match commits.told(txn) {
+    match commits.first_commit(txn) {
         Some(told) => put_shipped(text, txn_name(txns, txn), told),
         None => Ok(()),
     }

@@ -6,14 +6,14 @@ pub use Rattle.sdd_make.specs.declared.summary.Summary.{Summary}
 pub use Rattle.sdd_obligations.proofs.AtTurn.{IsAtTurn, answered_last, apart, awaited, unsent}
 pub use Rattle.sdd_obligations.proofs.Done.{count_join}
 pub use Rattle.sdd_obligations.proofs.Halves.{home_turns}
-pub use Rattle.sdd_obligations.proofs.Hearing.{AtTurn}
+pub use Rattle.sdd_obligations.proofs.HandedAnswersKeepTurns.{AtTurn}
 pub use Rattle.sdd_obligations.proofs.HoldsFit.{chain_at}
 pub use Rattle.sdd_obligations.proofs.Linking.{lawful_part as lawful_end}
 pub use Rattle.sdd_obligations.proofs.LowClocks.{clock_low}
 pub use Rattle.sdd_obligations.proofs.Modules.{firsts}
 pub use Rattle.sdd_obligations.proofs.Near.{HasNear, IsNearBy, active_near}
 pub use Rattle.sdd_obligations.proofs.OfNext.{site_there}
-pub use Rattle.sdd_obligations.proofs.Spoken.{spoken}
+pub use Rattle.sdd_obligations.proofs.ExchangesGoByTurns.{spoken}
 pub use Rattle.sdd_obligations.proofs.Starts.{small_home}
 pub use Rattle.sdd_obligations.proofs.base.Membership.{Contains-cases, Contains-here, Contains-later, Contains-nil}
 pub use Rattle.sdd_obligations.proofs.catalog.Found.{map-map}
@@ -136,7 +136,7 @@ pub use Rattle.sdd_run.specs.Free.{IsAnsweredWithin, IsUndisturbed}
 pub use Rattle.sdd_run.specs.Lent.{era_of_list}
 pub use Rattle.sdd_run.specs.Reasons.{IsNumberedSite, IsReason, IsStanding}
 pub use Rattle.sdd_run.specs.Reports.{report_by, report_of}
-pub use Rattle.sdd_run.specs.Runs.{AreTables, EndsAtLimit, IsFreeInEach, IsReportOn, IsSummaryOn, begun, eras_with_tables, input_of, order_of, plain_run}
+pub use Rattle.sdd_run.specs.Runs.{AreTables, EndsAtLimit, IsFreeInEach, IsReportOn, IsSummaryOn, eras_with_tables, first_input, input_of, order_of, plain_run}
 pub use Rattle.sdd_run.specs.Settled.{EndsAtRest, EndsQuiet, IsAtRest, LosesNothing, NoneIsDown, TellsAllCommitted}
 pub use Rattle.sdd_run.specs.ComesBefore.{ComesBefore, IsSubmittedBefore, times_in, times_pending}
 pub use Rattle.sdd_run.specs.Worlds.{IsRunOf}

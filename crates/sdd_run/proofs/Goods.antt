@@ -1,5 +1,5 @@
 -- What is given by a valid workload is what the modules' facts ask for, with each part of its schedule.
-use Rattle.sdd_run.proofs.All.{All, All-at, All-cons, All-head, All-nil, All-tail, All-weaker, AllFewTicks, AreTables, Catalogue, Entry, Event, FitsInput, FitsStart, HoldsValues, IsDatabase, IsGood, IsHeld, IsSoundCatalogue, IsValid, IsValidEvent, IsValidRow, IsValidTxn, IsValue, List, MAX_TICKS, Put, PutsHeld, RelNo, Row, Stmt, Tick, Value, Workload, [], arith, begun, both as and_both, database_of, get_or as slice_index_or, inl, inr, le-leb, length, map, nat_le, negsuc, no_database, numbers_to, pos, refl, rows_make_database, subst, suc, sym, ticks_of, true, whole_in, zero, ℕ, ◌++◌, ◌-◌, ◌^◌, ◌∷◌, ◌≡◌, ◌≤◌, ◌⊎◌}
+use Rattle.sdd_run.proofs.All.{All, All-at, All-cons, All-head, All-nil, All-tail, All-weaker, AllFewTicks, AreTables, Catalogue, Entry, Event, FitsInput, FitsStart, HoldsValues, IsDatabase, IsGood, IsHeld, IsSoundCatalogue, IsValid, IsValidEvent, IsValidRow, IsValidTxn, IsValue, List, MAX_TICKS, Put, PutsHeld, RelNo, Row, Stmt, Tick, Value, Workload, [], arith, both as and_both, database_of, first_input, get_or as slice_index_or, inl, inr, le-leb, length, map, nat_le, negsuc, no_database, numbers_to, pos, refl, rows_make_database, subst, suc, sym, ticks_of, true, whole_in, zero, ℕ, ◌++◌, ◌-◌, ◌^◌, ◌∷◌, ◌≡◌, ◌≤◌, ◌⊎◌}
 use Rattle.sdd_run.proofs.Allowed.{IsGoodAlong}
 use Rattle.sdd_run.proofs.Forces.{has_eras}
 use Rattle.sdd_run.proofs.Submissions.{once, once_before}
@@ -52,7 +52,7 @@ module _ (cat : Catalogue) (tables : List (List Entry)) (work : Workload) (sound
   rows_fit : IsDatabase (whole_in cat work) (database_of (whole_in cat work) work.rows)
   rows_fit = rows_database (whole_in cat work) work.rows (rows_valid cat work valid)
 
-  pub fits_given : (es : List Event) → FitsInput (record (begun cat tables work) { events = es })
+  pub fits_given : (es : List Event) → FitsInput (record (first_input cat tables work) { events = es })
   fits_given es = record {
     sound = sound;
     txns = λ n txn e.
@@ -66,7 +66,7 @@ module _ (cat : Catalogue) (tables : List (List Entry)) (work : Workload) (sound
   }
 
   module _ (tabled : AreTables cat work tables) where
-    pub good_along : IsGoodAlong IsGood (begun cat tables work) work.events
+    pub good_along : IsGoodAlong IsGood (first_input cat tables work) work.events
     good_along xs ys e = record {
       given = fits_given xs;
       eras = has_eras cat tables work tabled;
@@ -75,5 +75,5 @@ module _ (cat : Catalogue) (tables : List (List Entry)) (work : Workload) (sound
       once = once_before xs ys work.events e (once work.events valid.submitted);
     }
 
-    pub good_begun : IsGood (begun cat tables work)
+    pub good_begun : IsGood (first_input cat tables work)
     good_begun = good_along [] work.events refl

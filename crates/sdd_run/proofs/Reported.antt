@@ -1,5 +1,5 @@
 -- What is told of a world that has carried out all events of a workload is told of its run.
-use Rattle.sdd_run.proofs.All.{AreAtLastHomes, AreTables, Catalogue, EndsAtLimit, EndsBy, EndsByLimit, Entry, Err, Event, History, IfOk, IsReportOn, IsRunOf, IsSoundCatalogue, IsSummaryOn, IsTheLog, IsValid, List, Log, Ok, Represents, Result, Summary, Txn, Workload, World, ap, begun, eras_of, history, input_of, length, marks, none_due, order_of, over_at_end, report_of, report_text, subst, summary_of, summary_text, whole_in, with_events, ℕ, ◌∙◌, ◌≡◌}
+use Rattle.sdd_run.proofs.All.{AreAtLastHomes, AreTables, Catalogue, EndsAtLimit, EndsBy, EndsByLimit, Entry, Err, Event, History, IfOk, IsReportOn, IsRunOf, IsSoundCatalogue, IsSummaryOn, IsTheLog, IsValid, List, Log, Ok, Represents, Result, Summary, Txn, Workload, World, ap, eras_of, first_input, history, input_of, length, marks, none_due, order_of, over_at_end, report_of, report_text, subst, summary_of, summary_text, whole_in, with_events, ℕ, ◌∙◌, ◌≡◌}
 use Rattle.sdd_run.proofs.Beginning.{all_given}
 use Rattle.sdd_run.proofs.Goods.{fits_given}
 use Rattle.sdd_run.proofs.InTurn.{in_turn}
@@ -19,17 +19,17 @@ if_ok (Err e) P Q f p = tt
 -- a run is given all of its events
 
 given_all : (cat : Catalogue) (tables : List (List Entry)) (work : Workload) (events : List Event)
-    → events ≡ work.events → with_events (begun cat tables work) events ≡ input_of cat tables work
-given_all cat tables work events same = ap (with_events (begun cat tables work)) same ∙ all_given cat tables work
+    → events ≡ work.events → with_events (first_input cat tables work) events ≡ input_of cat tables work
+given_all cat tables work events same = ap (with_events (first_input cat tables work)) same ∙ all_given cat tables work
 
 pub run_of : (cat : Catalogue) (tables : List (List Entry)) (work : Workload) (events : List Event) → events ≡ work.events
-    → (w : World) (log : Log) → Represents w (with_events (begun cat tables work) events) log → IsRunOf cat tables work w
+    → (w : World) (log : Log) → Represents w (with_events (first_input cat tables work) events) log → IsRunOf cat tables work w
 run_of cat tables work events same w log represents =
     let s = subst (λ g. Represents w g log) (given_all cat tables work events same) represents in
     record { log = log; log_is = record { lawful = s.calm.rests.lawful; within = s.calm.rests.within; complete = s.complete }; represents = s }
 
 pub ended : (cat : Catalogue) (tables : List (List Entry)) (work : Workload) → AreTables cat work tables → (events : List Event) → events ≡ work.events
-    → EndsBy (with_events (begun cat tables work) events) → EndsAtLimit cat work
+    → EndsBy (with_events (first_input cat tables work) events) → EndsAtLimit cat work
 ended cat tables work tabled events same e = record {
   tables = tables;
   tables_are = tabled;

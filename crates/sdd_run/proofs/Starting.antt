@@ -1,5 +1,5 @@
 -- A new world of a workload stands for the empty log of what is given before its first event.
-use Rattle.sdd_run.proofs.All.{AllBegin, AreAllowed, AreTables, BeginsD, Catalogue, Class, ClassList, D, Entry, Era, Event, Input, IsBegun, IsGood, IsSoundCatalogue, IsValid, Kept, List, MAX_DMS, MAX_TMS, RelNo, Represents, Row, Some, State, There, Txn, Workload, World, [], ap, begun, classes_in, dm_no, drop, era_of_list, eras, eras_in, eras_with_tables, get_or, map, refl, rows_of, slice_get, subst, sym, tail_of, whole_in, ◌-◌, ◌∙◌, ◌∷◌, ◌≡◌, ◌≤◌}
+use Rattle.sdd_run.proofs.All.{AllBegin, AreAllowed, AreTables, BeginsD, Catalogue, Class, ClassList, D, Entry, Era, Event, Input, IsBegun, IsGood, IsSoundCatalogue, IsValid, Kept, List, MAX_DMS, MAX_TMS, RelNo, Represents, Row, Some, State, There, Txn, Workload, World, [], ap, classes_in, dm_no, drop, era_of_list, eras, eras_in, eras_with_tables, first_input, get_or, map, refl, rows_of, slice_get, subst, sym, tail_of, whole_in, ◌-◌, ◌∙◌, ◌∷◌, ◌≡◌, ◌≤◌}
 use Rattle.sdd_run.proofs.Allowed.{HasLists, allowed}
 use Rattle.sdd_run.proofs.Beginning.{begins_sound, rows_given}
 use Rattle.sdd_run.proofs.Goods.{good_along, good_begun}
@@ -25,20 +25,20 @@ first_of_eras cat (l ∷ lists) (t ∷ tables) table none e = let p : t ≡ tabl
 module _ (cat : Catalogue) (tables : List (List Entry)) (work : Workload) (sound : IsSoundCatalogue (whole_in cat work)) (valid : IsValid cat work)
     (tabled : AreTables cat work tables) where
   -- a list is left for each redeclare
-  has_lists : HasLists (begun cat tables work) work.events
+  has_lists : HasLists (first_input cat tables work) work.events
   has_lists front rest is = (timely cat tables work valid tabled front rest is).left
 
   -- the events of a valid workload are allowed
   pub all_allowed : (events : List Event) (lists : List ClassList) → events ≡ work.events
-      → map era_of_list lists ≡ tail_of (eras_with_tables (eras_in cat work) tables) → AreAllowed (begun cat tables work) events lists
+      → map era_of_list lists ≡ tail_of (eras_with_tables (eras_in cat work) tables) → AreAllowed (first_input cat tables work) events lists
   all_allowed events lists e left =
-      subst (λ es. AreAllowed (begun cat tables work) es lists) (sym e)
-      (allowed work.events work.events (begun cat tables work) lists refl (events_valid cat work valid)
+      subst (λ es. AreAllowed (first_input cat tables work) es lists) (sym e)
+      (allowed work.events work.events (first_input cat tables work) lists refl (events_valid cat work valid)
       (left ∙ tail_is (eras_with_tables (eras_in cat work) tables)) has_lists (good_along cat tables work sound valid tabled))
 
   -- the data modules, each of the rows that are given for it
   each_made : (rows : List (RelNo × Row)) (dms : List (Kept State)) → rows ≡ work.rows → AllBegin (BeginsD (whole_in cat work) rows) (whole_in cat work).dms dms
-      → AllBegin (λ n. BeginsD (whole_in cat work) (rows_of (begun cat tables work) (D (dm_no n))) n) (whole_in cat work).dms dms
+      → AllBegin (λ n. BeginsD (whole_in cat work) (rows_of (first_input cat tables work) (D (dm_no n))) n) (whole_in cat work).dms dms
   each_made rows dms e all = record {
     count_is = all.count_is;
     each = λ n low high.
@@ -50,9 +50,9 @@ module _ (cat : Catalogue) (tables : List (List Entry)) (work : Workload) (sound
       → (whole_in cat work).tms ≤ MAX_TMS → (whole_in cat work).dms ≤ MAX_DMS → slice_get tables 0 ≡ Some table → rows ≡ work.rows → txns ≡ work.txns
       → AllBegin (BeginsD (whole_in cat work) rows) (whole_in cat work).dms dms
       → ((g : Input) → IsGood g → standing.IsSoundNetwork g → IsBegun g (whole_in cat work) cat table txns dms → Represents w g [])
-      → Represents w (begun cat tables work) []
+      → Represents w (first_input cat tables work) []
   starts rows txns table dms w few_tms few_dms first r t all made =
-      made (begun cat tables work) (good_begun cat tables work sound valid tabled) (begins_sound cat tables work few_tms few_dms valid)
+      made (first_input cat tables work) (good_begun cat tables work sound valid tabled) (begins_sound cat tables work few_tms few_dms valid)
       (record {
         catalogue_is = refl;
         era_is = first_of_eras cat (classes_in cat work) tables table (record { catalogue = whole_in cat work; table = [] }) first;

@@ -50,8 +50,8 @@ input_of cat tables work = record {
 }
 
 -- before its first event
-abbrev pub begun : Catalogue → List (List Entry) → Workload → Input
-begun cat tables work = record (input_of cat tables work) { events = [] }
+abbrev pub first_input : Catalogue → List (List Entry) → Workload → Input
+first_input cat tables work = record (input_of cat tables work) { events = [] }
 
 -- the serial order of what a run committed
 abbrev pub order_of : Catalogue → Workload → Log → List TxnNo

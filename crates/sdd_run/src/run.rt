@@ -4,7 +4,7 @@ ghost use Rattle.sdd_script.specs.All.{IsValid};
 ghost use Rattle.sdd_run.specs.Runs.{EndsAtLimit, IsReportOn, IsSummaryOn};
 
 use crate::era_lists::tables_of;
-use crate::running::finished;
+use crate::running::run_to_end;
 use crate::telling::report_on;
 use sdd_lists::lists_of;
 use sdd_make::{summary_of, summary_text};
@@ -31,7 +31,7 @@ pub fn run_report(alloc: Global, catalogue: &Catalogue, work: Workload) -> Resul
     let tables = tables_of(alloc, lists.eras())?;
     let whole = lists.whole();
     whole.known();
-    let world = finished(alloc, catalogue, &lists, tables.as_slice(), work)?;
+    let world = run_to_end(alloc, catalogue, &lists, tables.as_slice(), work)?;
     Ok(report_on(alloc, &world)?)
 }
 
@@ -53,7 +53,7 @@ pub fn run_summary(
     let transactions = work.txns.as_slice().len() as u32;
     let lists = lists_of(alloc, catalogue, &work)?;
     let tables = tables_of(alloc, lists.eras())?;
-    let world = finished(alloc, catalogue, &lists, tables.as_slice(), work)?;
+    let world = run_to_end(alloc, catalogue, &lists, tables.as_slice(), work)?;
     let summary = summary_of(transactions, world.history().as_slice(), world.events());
     Ok(summary_text(alloc, &summary)?)
 }

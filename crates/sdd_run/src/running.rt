@@ -19,7 +19,7 @@ use std::alloc::Global;
 /// # Errors
 ///
 /// Where an event, or a message of a link, would pass the limit, and where memory runs out.
-pub fn finished<'a>(
+pub fn run_to_end<'a>(
     alloc: Global,
     catalogue: &'a Catalogue,
     lists: &'a Lists<'a>,

@@ -31,10 +31,10 @@ pub use Rattle.sdd_script.specs.Redeclaring.{has_lists, is_down, is_redeclare, m
 pub use Rattle.sdd_script.specs.Rules.{rule_in}
 pub use Rattle.sdd_script.specs.Spelling.{assign_words, class_bytes, class_lines, class_words, column_word, condition_words, conditions_words, count_word, done_words, end_words, ended, event_words, header_words, lines_of, list_bytes, list_lines, list_words, name_of_column, name_of_txn, own_column, reads_words, relation_word, row_words, sets_words, site_word, spelling, start_words, statement_words, txn_bytes, txn_lines, where_words, writes_words}
 pub use Rattle.sdd_script.specs.Statements.{add_of, addend_of, assign_of, delete_of, listed_column, part_in, put_of, query_behind_from, query_of, query_of_parts, statement_of, to_of, update_behind_set, update_of}
-pub use Rattle.sdd_script.specs.Telling.{Tells}
+pub use Rattle.sdd_script.specs.ReadResults.{Tells}
 pub use Rattle.sdd_script.specs.Valid.{Accepts, AreDistinct, AreTimely, AreValidLists, AssignsValue, HoldsValue, HoldsValues, IsFragment, IsLink, IsSite, IsValid, IsValidClass, IsValidEvent, IsValidRead, IsValidRow, IsValidTxn, IsValue, MayRedeclare, is_kept_at, is_put, read_names, rows_put_by, submitted_by}
 pub use Rattle.sdd_script.specs.Values.{is_of_kind, row_of, value_of, values_of}
-pub use Rattle.sdd_script.specs.Walk.{at_line, finished, nothing_read, one_line, tail_rules, walk, walk_bytes, workload}
+pub use Rattle.sdd_script.specs.Walk.{at_line, nothing_read, one_line, tail_rules, walk, walk_bytes, workload, workload_of_state}
 pub use Rattle.sdd_script.specs.declared.fault.LineError.{LineError}
 pub use Rattle.sdd_script.specs.declared.fault.WorkError.{WorkError}
 pub use Rattle.sdd_script.specs.declared.fault.WorkFault.{WorkFault}

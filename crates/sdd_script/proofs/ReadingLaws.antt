@@ -1,5 +1,5 @@
 -- What is read is a workload that the catalogue allows, and the file is its spelling.
-use Rattle.sdd_script.proofs.All.{Accepts, All, All-from_recursion, BadLine, Bool, Catalogue, ClassPart, Deliver, Err, Event, FitsStatement, HoldsValues, IsSoundCatalogue, IsValid, IsValidClass, IsValidEvent, IsWhole, Keyword, List, Lose, MAX_WORKLOAD_BYTES, None, Ok, Option, Place, Plain, Quoted, Repeat, Result, Site, Some, State, Submit, Txn, TxnNo, UnknownName, Word, WorkFault, WorkRule, Workload, [], all_classes, ap, append-nil, append_assoc, arith, at_line, bind_ok, bytes_eq, bytes_eq-Decides, class_names, classes_in, codes, cond, cut_lines, cut_takes, delete_of, deliver_of, down_of, ended, false, finished, flat_map, flight_place, get_or, is_ended, is_free, is_utf8, joined, keyword_rules, known, length, length-map, line_bytes, line_rules, lines_of, lose_of, ltb-false, map, name_in, name_of_txn, nat_lt, nothing_read, number_named, ok_is, one_line, open_list, option_map, option_map_or, part_names, position, position-Some, put_of, query_of, redeclare_of, refl, repeat_of, repeats, resend_of, settle_of, slice_get, slice_get-map, spelled_lines, spelling, submit_of, subst, sym, tail_rules, takes_events, tick_of, true, txn_named, txn_no, unwrap_or, unwrap_or-slice_get, up_of, update_of, walk_bytes, workload, ℕ, ◌++◌, ◌+◌, ◌-◌, ◌<◌, ◌>>=◌, ◌∙◌, ◌∷◌, ◌≡◌}
+use Rattle.sdd_script.proofs.All.{Accepts, All, All-from_recursion, BadLine, Bool, Catalogue, ClassPart, Deliver, Err, Event, FitsStatement, HoldsValues, IsSoundCatalogue, IsValid, IsValidClass, IsValidEvent, IsWhole, Keyword, List, Lose, MAX_WORKLOAD_BYTES, None, Ok, Option, Place, Plain, Quoted, Repeat, Result, Site, Some, State, Submit, Txn, TxnNo, UnknownName, Word, WorkFault, WorkRule, Workload, [], all_classes, ap, append-nil, append_assoc, arith, at_line, bind_ok, bytes_eq, bytes_eq-Decides, class_names, classes_in, codes, cond, cut_lines, cut_takes, delete_of, deliver_of, down_of, ended, false, flat_map, flight_place, get_or, is_ended, is_free, is_utf8, joined, keyword_rules, known, length, length-map, line_bytes, line_rules, lines_of, lose_of, ltb-false, map, name_in, name_of_txn, nat_lt, nothing_read, number_named, ok_is, one_line, open_list, option_map, option_map_or, part_names, position, position-Some, put_of, query_of, redeclare_of, refl, repeat_of, repeats, resend_of, settle_of, slice_get, slice_get-map, spelled_lines, spelling, submit_of, subst, sym, tail_rules, takes_events, tick_of, true, txn_named, txn_no, unwrap_or, unwrap_or-slice_get, up_of, update_of, walk_bytes, workload, workload_of_state, ℕ, ◌++◌, ◌+◌, ◌-◌, ◌<◌, ◌>>=◌, ◌∙◌, ◌∷◌, ◌≡◌}
 use Rattle.sdd_script.specs.Walk.{walk}
 use Rattle.sdd_script.proofs.StepLaws.{must_then, known_then, some_is}
 use Rattle.sdd_script.proofs.QueryLaws.{put_takes, query_takes}
@@ -354,7 +354,7 @@ read_work w = Ok w
 workload_is : (x y : Workload) → read_work x ≡ read_work y → x ≡ y
 workload_is x y e = cc
 
-finished_ok : (r : Result State WorkFault) (w : Workload) → finished r ≡ Ok w → (st : State) × (r ≡ Ok st) × (made st ≡ w)
+finished_ok : (r : Result State WorkFault) (w : Workload) → workload_of_state r ≡ Ok w → (st : State) × (r ≡ Ok st) × (made st ≡ w)
 finished_ok (Ok st) w e = (st, refl, workload_is (made st) w e)
 finished_ok (Err fault) w e = absurd cc
 
@@ -376,7 +376,7 @@ lines_spelled (l ∷ lines) = ap (λ (t : List ℕ). line_bytes l ++ 10 ∷ t) (
 pub reads_spelling : (cat : Catalogue) → IsSoundCatalogue cat → IsWhole cat → (bytes : List ℕ) (w : Workload) → workload cat bytes ≡ Ok w
     → Accepts cat bytes w
 reads_spelling cat sound whole bytes w e =
-    let a = small_if bytes w _ (finished (walk_bytes cat 1 (nothing_read cat) bytes)) (nat_lt MAX_WORKLOAD_BYTES (length bytes)) e in
+    let a = small_if bytes w _ (workload_of_state (walk_bytes cat 1 (nothing_read cat) bytes)) (nat_lt MAX_WORKLOAD_BYTES (length bytes)) e in
     let b = finished_ok (walk_bytes cat 1 (nothing_read cat) bytes) w a.1 in
     let st : State = b.0 in
     let f = walk_takes cat 1 (nothing_read cat) st (cut_lines bytes).0 (cut_lines bytes).1 (nothing_sound cat sound whole) b.1 in

@@ -1,5 +1,5 @@
 -- The whole file: the spelling of a workload that the catalogue allows is read as the workload.
-use Rattle.sdd_script.proofs.All.{All, All-get_or, AllByRecursion, AreDistinct, AreTimely, BadEvent, BadLine, Bool, Catalogue, ClassPart, D, Deliver, Down, Err, Event, IsFrom1To, IsValid, IsValidEvent, IsValidRow, IsValidTxn, List, Lose, MAX_EVENTS, MAX_WORKLOAD_BYTES, None, Ok, Option, Place, Plain, Redeclare, RelNo, Repeat, Resend, Result, Settle, Site, Some, State, Submit, SubmittedTwice, T, Tick, TooLong, TooMany, Txn, TxnNo, UnknownName, Up, Value, Word, WorkRule, Workload, [], ap, append-nil, append_assoc, arith, bytes_eq, cond, count_word, cut_again, cut_lines, deliver_of, down_of, end_words, event_rules, event_words, false, filter_map, finished, flat_map, get_or, get_or-map, is_ended, is_name, is_submitted, known, le-ltb, length, length-append, length-map, line_bytes, lines_of, list_any, list_any-map, list_lines, lose_of, lt-ltb, map, map-append, may_follow, must, name_in, name_of_txn, nat_lt, nat_lt as ltb, not, nothing_read, number_named, option_map, position, recursion_from_All, redeclare_of, refl, repeat_of, repeats, resend_of, rows_put_by, settle_of, site_word, spelling, start_words, submit_of, submitted_by, subst, sum_by, sym, takes_events, takes_lists, takes_txns, tick_of, true, txn_lines, txn_named, txn_no, up_of, walk, walk_bytes, with_event, with_submitted, workload, ℕ, ◌++◌, ◌+◌, ◌-◌, ◌<◌, ◌==◌, ◌>>=◌, ◌∙◌, ◌∷◌, ◌≡◌, ◌≤◌}
+use Rattle.sdd_script.proofs.All.{All, All-get_or, AllByRecursion, AreDistinct, AreTimely, BadEvent, BadLine, Bool, Catalogue, ClassPart, D, Deliver, Down, Err, Event, IsFrom1To, IsValid, IsValidEvent, IsValidRow, IsValidTxn, List, Lose, MAX_EVENTS, MAX_WORKLOAD_BYTES, None, Ok, Option, Place, Plain, Redeclare, RelNo, Repeat, Resend, Result, Settle, Site, Some, State, Submit, SubmittedTwice, T, Tick, TooLong, TooMany, Txn, TxnNo, UnknownName, Up, Value, Word, WorkRule, Workload, [], ap, append-nil, append_assoc, arith, bytes_eq, cond, count_word, cut_again, cut_lines, deliver_of, down_of, end_words, event_rules, event_words, false, filter_map, flat_map, get_or, get_or-map, is_ended, is_name, is_submitted, known, le-ltb, length, length-append, length-map, line_bytes, lines_of, list_any, list_any-map, list_lines, lose_of, lt-ltb, map, map-append, may_follow, must, name_in, name_of_txn, nat_lt, nat_lt as ltb, not, nothing_read, number_named, option_map, position, recursion_from_All, redeclare_of, refl, repeat_of, repeats, resend_of, rows_put_by, settle_of, site_word, spelling, start_words, submit_of, submitted_by, subst, sum_by, sym, takes_events, takes_lists, takes_txns, tick_of, true, txn_lines, txn_named, txn_no, up_of, walk, walk_bytes, with_event, with_submitted, workload, workload_of_state, ℕ, ◌++◌, ◌+◌, ◌-◌, ◌<◌, ◌==◌, ◌>>=◌, ◌∙◌, ◌∷◌, ◌≡◌, ◌≤◌}
 use Rattle.sdd_script.proofs.WordLooks.{name_fine, name_free}
 use Rattle.sdd_script.proofs.UseLaws.{IsKnown}
 use Rattle.sdd_script.proofs.EventLaws.{place_again, resend_again, tick_again, down_again, up_again}
@@ -366,6 +366,6 @@ read_again cat k w v small =
     let b : cut_lines (spelling cat w) ≡ (lines, []) = ap cut_lines (sym (lines_spelled (lines_of cat w)))
     ∙ cut_again lines (chain_lines cat (nothing_read cat) last lines c.chain) in
     let d : walk cat 1 (nothing_read cat) lines [] ≡ Ok last = chain_walk cat 1 (nothing_read cat) last lines c.chain refl in
-    ap (λ (t : Bool). cond t (Err (record { line = 0; rule = TooLong })) (finished (walk_bytes cat 1 (nothing_read cat) (spelling cat w)))) a
-    ∙ ap (λ (cut : List (List ℕ) × List ℕ). finished (walk cat 1 (nothing_read cat) cut.0 cut.1)) b
-    ∙ ap finished d
+    ap (λ (t : Bool). cond t (Err (record { line = 0; rule = TooLong })) (workload_of_state (walk_bytes cat 1 (nothing_read cat) (spelling cat w)))) a
+    ∙ ap (λ (cut : List (List ℕ) × List ℕ). workload_of_state (walk cat 1 (nothing_read cat) cut.0 cut.1)) b
+    ∙ ap workload_of_state d

@@ -14,7 +14,7 @@ pub mod Redeclaring
 pub mod Rules
 pub mod Spelling
 pub mod Statements
-pub mod Telling
+pub mod ReadResults
 pub mod Valid
 pub mod Values
 pub mod Walk

@@ -50,13 +50,13 @@ nothing_read cat = record {
   events = [];
 }
 
-abbrev pub finished : Result State WorkFault → Result Workload WorkFault
-finished (Ok st) = Ok (record { rows = st.rows; txns = st.txns; lists = st.lists; events = st.events })
-finished (Err fault) = Err fault
+abbrev pub workload_of_state : Result State WorkFault → Result Workload WorkFault
+workload_of_state (Ok st) = Ok (record { rows = st.rows; txns = st.txns; lists = st.lists; events = st.events })
+workload_of_state (Err fault) = Err fault
 
 -- the workload that a file gives, or its first fault
 abbrev pub workload : Catalogue → List ℕ → Result Workload WorkFault
 workload cat bytes =
     if nat_lt MAX_WORKLOAD_BYTES (length bytes)
     then Err (record { line = 0; rule = TooLong })
-    else finished (walk_bytes cat 1 (nothing_read cat) bytes)
+    else workload_of_state (walk_bytes cat 1 (nothing_read cat) bytes)

@@ -1,5 +1,5 @@
 ghost use Rattle.std.specs.Prelude.{◌≡◌, Ok, Err, MatchResult};
-ghost use Rattle.sdd_script.specs.Telling.{told_at};
+ghost use Rattle.sdd_script.specs.ReadResults.{told_at};
 ghost use Rattle.sdd_lang.specs.All.{GivesReading, known, must};
 ghost use Rattle.sdd_script.specs.declared.fault.LineError.TheVariants.{Broken};
 ghost use Rattle.sdd_script.specs.Rules.{rule_in};

@@ -2,7 +2,7 @@
 ghost use Rattle.std.specs.Prelude.{◌≡◌, ◌≤◌, ◌^◌, length, IfOk};
 ghost use Rattle.sdd_lang.specs.All.{GivesReading};
 ghost use Rattle.sdd_script.specs.Rules.{rule_in};
-ghost use Rattle.sdd_script.specs.Telling.{Tells};
+ghost use Rattle.sdd_script.specs.ReadResults.{Tells};
 ghost use Rattle.sdd_script.specs.Valid.{Accepts};
 ghost use Rattle.sdd_script.specs.Walk.{one_line, tail_rules, walk_bytes, nothing_read, workload};
 

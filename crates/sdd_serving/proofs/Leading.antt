@@ -2,7 +2,7 @@
 use Rattle.sdd_serving.proofs.All.{Bool, Decides-eqb, Has, Has-filter, IsHeldAt, IsMoveAlong, List, Reducing, Resting, Row, Runs, Space, Stage, Stmt, Telling, [], all_rows, ap, asks, begins, cases_Bool, column, inl, inr, is_among, may_reduce, not, reduces, rests, sends, subst, tells, true, ℕ, ◌==◌, ◌∷◌, ◌≡◌, ◌⊎◌}
 use Rattle.sdd_serving.proofs.Keeps.{Leads, Reduces, was_held, all_were}
 use Rattle.sdd_serving.proofs.Keeps.Leads.{none, more}
-use Rattle.sdd_serving.proofs.Told.{old_among, new_among}
+use Rattle.sdd_serving.proofs.ValuesOfModules.{old_among, new_among}
 
 none_has : (lacks : List ℕ) → may_reduce lacks ≡ true → (d : ℕ) → ¬ Has lacks d
 none_has [] e d h = h

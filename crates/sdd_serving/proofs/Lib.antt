@@ -11,6 +11,6 @@ pub mod Lies
 pub mod Members
 pub mod Serves
 pub mod Together
-pub mod Told
+pub mod ValuesOfModules
 pub mod Uses
 pub mod Worked

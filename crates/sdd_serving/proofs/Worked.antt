@@ -1,7 +1,7 @@
 -- A worked exchange: of the accounts (5, 6) and (6, 7) a query joins those of which one's balance is the other's number.
 -- The rows of its first use are reduced by the balances of its second: (5, 6) is dropped, and what is left serves.
 use Rattle.sdd_serving.proofs.All.{All-from_recursion, Condition, CopyRows, Database, Decides-eqb, FragNo, Has, HasCopies, Int, IsDatabase, IsEntry, List, Move, Query, Reducing, Resting, Row, Runs, Same, Space, Stage, Telling, Txn, Use, Value, [], accounts, all_held, ap, asked_at, asks, begins, cond, entries_of, false, frag_no, frozen_space, inl, inr, is_read_at, item_cmp, lit≤, move_by, pos, reduced, reduces, ref, refl, rel, rests, rows_in_fragment, rows_of, sends, sorted_cons, sorted_nil, subst, sym, tells, true, two, txn, uses_of, values_in, ℕ, ◌==◌, ◌∷◌, ◌≡◌, ◌≢◌}
-use Rattle.sdd_serving.proofs.Told.{frozen_once, tells_all}
+use Rattle.sdd_serving.proofs.ValuesOfModules.{frozen_once, tells_all}
 
 abbrev joined : List Condition
 joined = Same (ref 1 1) (ref 2 2) ∷ []

@@ -1,5 +1,5 @@
 -- A class that has a step makes the act that is due, and the module keeps what follows from the log.
-use Rattle.sdd_tm.proofs.All.{Act, AllByRecursion, AllUpTo, Answer, Attempt, Bases, Bool, ClassState, Commit, D, Did, InTurn, IsAmid, IsCalm, IsLineOf, IsOfHead, IsRequest, IsServed, IsSoundLog, IsWaiting, List, Log, Msg, NoReads, None, Notes, Null, Option, Queued, Send, Sends, Setting, Some, Start, State, Step, Ticking, ToCommit, ToSend, act_of, active, active_after, active_apart, all_starts, all_up_of, answer_time, answer_to, ap, arith, asking_of, asks, asks_apart, asks_done, asks_of, begins, can_answer, class_no, class_of, class_step, class_view, clock, commit_act, commit_next, commit_no_reads, commits, current_era, dm_no, false, false≢true, filter, find, handed, hands, has_to_send, head_of, holds, holds_acted, is_empty, is_none, line_after, line_apart, line_committed, line_elsewhere, line_sent, line_started, line_step, list_any, map, next, no_read_asked, not, noted, on_hold, option_map, own_record, queue, queue_after, record_in, refl, request_of, runs, send_due, send_next, sends_of_act, sent, served_sent, slice_get, slice_set, stamped_did, start_act, start_due, start_is_up, start_next, start_no_reads, started, starts_committed, starts_left, starts_sent, starts_started, state_done, state_of, submits, subst, suc, sym, ticked, ticked_by, time_at, timestamp, tried, true, view_of, with_act, ℕ, ◌&&◌, ◌+◌, ◌<◌, ◌==◌, ◌^◌, ◌∙◌, ◌∷◌, ◌≡◌, ◌≢◌, ◌≤◌}
+use Rattle.sdd_tm.proofs.All.{Act, AllByRecursion, AllUpTo, Answer, Attempt, Bases, Bool, ClassState, Commit, D, Did, InTurn, IsAmid, IsCalm, IsLineOf, IsOfHead, IsRequest, IsServed, IsSoundLog, IsWaiting, List, Log, Msg, NoReads, None, Notes, Null, Option, Queued, Send, Sends, Setting, Some, Start, State, Step, Ticking, ToCommit, ToSend, act_of, active, active_after, active_apart, all_starts, all_up_of, answer_time, answer_to, ap, arith, asking_of, asks, asks_apart, asks_done, asks_of, begins, can_answer, class_no, class_of, class_step, class_view, clock, commit_act, commit_next, commit_no_reads, commits, current_era, dm_no, false, false≢true, filter, find, handed, hands, has_to_send, head_of, holds, holds_acted, is_empty, is_none, line_after, line_apart, line_committed, line_elsewhere, line_sent, line_started, line_step, list_any, map, next, no_read_asked, not, on_hold, option_map, own_record, queue, queue_after, record_in, refl, request_of, runs, send_due, send_next, sends_of_act, sent, served_sent, slice_get, slice_set, stamped_did, start_act, start_due, start_is_up, start_next, start_no_reads, started, starts_committed, starts_left, starts_sent, starts_started, state_done, state_of, submits, subst, suc, sym, ticked, ticked_by, time_at, timestamp, tried, true, view_of, with_act, with_due_act, ℕ, ◌&&◌, ◌+◌, ◌<◌, ◌==◌, ◌^◌, ◌∙◌, ◌∷◌, ◌≡◌, ◌≢◌, ◌≤◌}
 use Rattle.sdd_tm.proofs.Lists.{some_is, get_map, of_map, by_order}
 use Rattle.sdd_tm.proofs.ClassNumbers.{runs_apart, runs_class}
 use Rattle.sdd_tm.proofs.OpenAsks.{open_did, first_answered}
@@ -21,7 +21,7 @@ each_class s P place c e own others i d f =
 pub record Makes (s : Setting) (bases : Bases) (log : Log) (place : ℕ) (k : ClassState) (step : Step) (state : State) : Type 0 where
   pub act : Act
   pub is_due : next s bases log ≡ Some act
-  pub notes : (n : Notes) → noted (act_of bases state.era.table state.clock k step) n ≡ with_act act n
+  pub notes : (n : Notes) → with_due_act (act_of bases state.era.table state.clock k step) n ≡ with_act act n
   pub amid : IsAmid s bases (state_done bases place k step state) (Did act ∷ log)
 
 abbrev class_made : Step → Act → ClassState → ClassState
@@ -97,7 +97,7 @@ makes_send s bases log place end c amid calm e h =
     record {
       act = r.act;
       is_due = attempt_is_due s bases log place end calm c r.act e (r.due s.catalogue bases c);
-      notes = λ n. ap (λ o. noted o n) made_by;
+      notes = λ n. ap (λ o. with_due_act o n) made_by;
       amid = amid_after s bases log place c Send r.act r.act amid e made_by
           (after ∙ ap (λ k. with_class place k (class_made Send r.act (class_of s log c)) (state_of s log)) (sym ticks))
           (sends_sound s log place c r.attempt r.act amid.sound e r.active r.send request)
@@ -131,7 +131,7 @@ makes_commit s bases log place end c amid calm e h =
     record {
       act = act;
       is_due = attempt_is_due s bases log place end calm c act e (r.due s.catalogue bases c);
-      notes = λ n. ap (λ o. noted o n) made_by;
+      notes = λ n. ap (λ o. with_due_act o n) made_by;
       amid = amid_after s bases log place c Commit act act amid e made_by (after_record s log place c (record_in act) (sends_of_act act) e)
           (record {
             lines = each_class s (λ d. IsLineOf s d (Did act ∷ log)) place c e (line_committed s bases c log a (amid.sound.lines place c e))
@@ -164,7 +164,7 @@ makes_answer s bases log place end c amid calm e h can =
     record {
       act = act;
       is_due = null_is_due s bases log place end calm c act e h first.due;
-      notes = λ n. ap (λ o. noted o n) made_by;
+      notes = λ n. ap (λ o. with_due_act o n) made_by;
       amid = amid_after s bases log place c Answer act made amid e made_by (after_null s log place c e first time)
           (record {
             lines = λ i d f. line_apart s d log first.question.from m (Some first.question.hand) (null_apart c d time) (amid.sound.lines i d f);
@@ -222,7 +222,7 @@ makes_start s bases log place end c amid calm e h cannot q rest off idle is =
     record {
       act = act;
       is_due = start_is_due s bases log place end calm c act e h cannot off due;
-      notes = λ n. ap (λ o. noted o n) made_by;
+      notes = λ n. ap (λ o. with_due_act o n) made_by;
       amid = amid_after s bases log place c Start act act amid e made_by (after_record s log place c (record_in act) (sends_of_act act) e)
           (record {
             lines = each_class s (λ d. IsLineOf s d (Did act ∷ log)) place c e (line_started s table c log q rest is amid.sound.stamped own_line)

@@ -1,11 +1,11 @@
 -- What a call of a transaction module does, of every log for which the module stands.
-use Rattle.sdd_tm.proofs.All.{AreSettled, Bases, Catalogue, ClassState, Does, DoesMore, Entry, Era, FitsSubmit, FitsTxn, Handed, IsAmid, IsCalm, IsEraOf, IsKept, IsLineOf, IsTrue, IsWhole, Kept, List, Log, Msg, None, Notes, Places, Rec, Redeclared, RelNo, Represents, Row, Setting, Site, Some, State, Submit, Submits, T, Ticked, TmNo, Txn, TxnNo, Works, [], all_noted, ap, arith, at_zero, bound_of, class_for, class_given, class_handed, class_of, class_step, classes_of, clock, current_era, does_from, false, first_class, first_state, fits, held_of, length, length-map, line_redeclared, line_ticked, map, next, noted, nothing_noted, one_place, place_of, pushed, records_of, refl, runs, slice_get, stamped_still, state_given, state_handed, state_of, subst, suc, sym, ticked, told, touched, zero, ℕ, ◌<◌, ◌^◌, ◌∙◌, ◌∷◌, ◌≡◌}
+use Rattle.sdd_tm.proofs.All.{AreSettled, Bases, Catalogue, ClassState, Does, DoesMore, Entry, Era, FitsSubmit, FitsTxn, Handed, IsAmid, IsCalm, IsEraOf, IsKept, IsLineOf, IsTrue, IsWhole, Kept, List, Log, Msg, None, Notes, Places, Rec, Redeclared, RelNo, Represents, Row, Setting, Site, Some, State, Submit, Submits, T, Ticked, TmNo, Txn, TxnNo, Works, [], after_held, all_noted, ap, arith, at_zero, bound_of, class_for, class_given, class_handed, class_of, class_step, classes_of, clock, current_era, does_from, false, first_class, first_state, fits, held_of, length, length-map, line_redeclared, line_ticked, map, next, nothing_noted, one_place, place_of, pushed, records_of, refl, runs, slice_get, stamped_still, state_given, state_handed, state_of, subst, suc, sym, ticked, touched, with_due_act, zero, ℕ, ◌<◌, ◌^◌, ◌∙◌, ◌∷◌, ◌≡◌}
 use Rattle.sdd_tm.proofs.Lists.{some_is}
 use Rattle.sdd_tm.proofs.Handing.{amid_handed}
 use Rattle.sdd_tm.proofs.Taking.{few_kept, apart_kept, fits_now}
 use Rattle.sdd_tm.proofs.Touching.{calm_handed, calm_given}
 use Rattle.sdd_tm.proofs.Giving.{amid_given}
-use Rattle.sdd_tm.proofs.Telling.{nothing_due, told_once, told_settled, held_ticked}
+use Rattle.sdd_tm.proofs.HeldIsSentOnce.{nothing_due, told_once, told_settled, held_ticked}
 use Rattle.sdd_tm.proofs.Ending.{works_told}
 use Rattle.sdd_attempt.specs.catalog.Rules as catalogues
 
@@ -14,8 +14,8 @@ pub record Called (taken now : State) (old notes new : Notes) : Type 0 where
   pub settled_state : State
   pub works : Works taken settled_state old notes
   pub settled : AreSettled settled_state
-  pub told_is : now ≡ told settled_state
-  pub noted_is : new ≡ noted (held_of settled_state) notes
+  pub told_is : now ≡ after_held settled_state
+  pub noted_is : new ≡ with_due_act (held_of settled_state) notes
 
 called_works : (taken now : State) (old notes new : Notes) → Called taken now old notes new → Works taken now old new
 called_works taken now old notes new c = rw (c.told_is, c.noted_is) (works_told taken c.settled_state old notes c.works c.settled)

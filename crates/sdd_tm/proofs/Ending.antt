@@ -1,7 +1,7 @@
 -- A call makes the acts that the log has next, until none is due.
-use Rattle.sdd_tm.proofs.All.{Act, AreSettled, Bases, ClassState, Did, IsAmid, IsCalm, Log, None, Notes, Option, Setting, Some, State, Step, Works, act_of, class_step, false, held_of, made_more, made_nothing, next, noted, refl, slice_get, state_done, subst, sym, told, told_by, with_act, ℕ, ◌∙◌, ◌∷◌, ◌≡◌}
+use Rattle.sdd_tm.proofs.All.{Act, AreSettled, Bases, ClassState, Did, IsAmid, IsCalm, Log, None, Notes, Option, Setting, Some, State, Step, Works, act_of, after_held, after_held_act, class_step, false, held_of, made_more, made_nothing, next, refl, slice_get, state_done, subst, sym, with_act, with_due_act, ℕ, ◌∙◌, ◌∷◌, ◌≡◌}
 use Rattle.sdd_tm.proofs.Acting.{makes}
-use Rattle.sdd_tm.proofs.Telling.{tells}
+use Rattle.sdd_tm.proofs.HeldIsSentOnce.{tells}
 
 -- the loop
 
@@ -30,7 +30,7 @@ pub works_on : (before now : State) (place end : ℕ) (k : ClassState) (step : S
     (old notes new : Notes) → Works before now old notes → IsCalm place end now
     → slice_get now.classes place ≡ Some k → class_step now.on_hold k ≡ Some step → ((bases : Bases) → after ≡ state_done bases place k step now)
     → ((s : Setting) (bases : Bases) (log : Log) → IsAmid s bases now log
-    → new ≡ noted (act_of bases now.era.table now.clock k step) notes) → Works before after old new
+    → new ≡ with_due_act (act_of bases now.era.table now.clock k step) notes) → Works before after old new
 works_on before now place end k step after old notes new works calm here steps is noted_is =
     works_more before now after old notes new works
     (λ s bases log amid.
@@ -43,12 +43,12 @@ works_on before now place end k step after old notes new works calm here steps i
 
 -- HELD
 works_told_by : (before now : State) (old notes : Notes) (o : Option Act) → Works before now old notes
-    → AreSettled now → held_of now ≡ o → Works before (told_by now o) old (noted o notes)
+    → AreSettled now → held_of now ≡ o → Works before (after_held_act now o) old (with_due_act o notes)
 works_told_by before now old notes None works settled e = works
 works_told_by before now old notes (Some act) works settled e =
-    works_more before now (record now { owes_held = false }) old notes (noted (Some act) notes) works
+    works_more before now (record now { owes_held = false }) old notes (with_due_act (Some act) notes) works
     (λ s bases log amid. let t = tells s bases now log act amid settled e in (_, t.is_due, t.notes notes, t.amid))
 
 pub works_told : (before now : State) (old notes : Notes) → Works before now old notes → AreSettled now
-    → Works before (told now) old (noted (held_of now) notes)
+    → Works before (after_held now) old (with_due_act (held_of now) notes)
 works_told before now old notes works settled = works_told_by before now old notes (held_of now) works settled refl

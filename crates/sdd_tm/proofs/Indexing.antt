@@ -1,5 +1,5 @@
 -- A class that was lent by its place.
-use Rattle.sdd_tm.proofs.All.{Bases, Bool, Catalogue, ClassState, Commit, Err, IsDatabase, List, Notes, Ok, OnOk, Result, ServesAt, Some, State, Step, Ticking, [], act_of, noted, slice_get, slice_index_or, subst, suc, zero, ℕ, ◌∙◌, ◌∷◌, ◌≡◌}
+use Rattle.sdd_tm.proofs.All.{Bases, Bool, Catalogue, ClassState, Commit, Err, IsDatabase, List, Notes, Ok, OnOk, Result, ServesAt, Some, State, Step, Ticking, [], act_of, slice_get, slice_index_or, subst, suc, with_due_act, zero, ℕ, ◌∙◌, ◌∷◌, ◌≡◌}
 use Rattle.sdd_tm.proofs.Lists.{some_is}
 use Rattle.sdd_tm.proofs.Settling.{NotesDone}
 use Rattle.sdd_attempt.specs.protocol.declared.entry.Entry as line
@@ -22,10 +22,10 @@ pub notes_of_lent : {T E : Type 0} (r : Result T E) (st : State) (place : ℕ) (
     (old new : Notes) → run ≡ slice_index_or st.classes place run
     → OnOk r ((bases : Bases) → ((ts : ℕ) → IsDatabase run.line.catalogue (bases ts))
     → (step ≡ Commit → ServesAt run.line.catalogue bases run.line.active)
-    → new ≡ noted (act_of bases st.era.table st.clock run step) old)
+    → new ≡ with_due_act (act_of bases st.era.table st.clock run step) old)
     → OnOk r (NotesDone st place step old new)
 notes_of_lent r st place step run old new lent h =
     on_ok r (λ g bases k there. subst (λ (x : ClassState). ((ts : ℕ) → IsDatabase x.line.catalogue (bases ts))
     → (step ≡ Commit → ServesAt x.line.catalogue bases x.line.active)
-    → new ≡ noted (act_of bases st.era.table st.clock x step) old)
+    → new ≡ with_due_act (act_of bases st.era.table st.clock x step) old)
     (lent_is st.classes place k run there lent) (g bases)) h

@@ -1,5 +1,5 @@
 -- The loop over the classes of a module: what each step asks for, and what it leaves.
-use Rattle.sdd_tm.proofs.All.{Answer, AreTried, Bases, Bool, ClassState, Commit, IsAmid, IsCalm, IsDatabase, IsServed, List, Log, None, Notes, Option, Send, ServesAt, Setting, Some, Start, State, Step, ToCommit, Works, act_of, ap, arith, class_of, class_step, clock, commits, length, line_step, noted, refl, runs, served_of, slice_get, slice_set, state_done, step_at, subst, suc, sym, tries_told, work, ℕ, ◌+◌, ◌<◌, ◌∙◌, ◌∷◌, ◌≡◌, ◌≤◌}
+use Rattle.sdd_tm.proofs.All.{Answer, AreTried, Bases, Bool, ClassState, Commit, IsAmid, IsCalm, IsDatabase, IsServed, List, Log, None, Notes, Option, Send, ServesAt, Setting, Some, Start, State, Step, ToCommit, Works, act_of, ap, arith, class_of, class_step, clock, commits, length, line_step, refl, runs, served_of, slice_get, slice_set, state_done, step_at, subst, suc, sym, tries_told, with_due_act, work, ℕ, ◌+◌, ◌<◌, ◌∙◌, ◌∷◌, ◌≡◌, ◌≤◌}
 use Rattle.sdd_tm.proofs.Lists.{of_map}
 use Rattle.sdd_tm.proofs.ClassNumbers.{runs_class}
 use Rattle.sdd_tm.proofs.Dues.{IsStep, commits_now, starts, step_is}
@@ -114,7 +114,7 @@ StateDone now place step after = (bases : Bases) (k : ClassState) → slice_get 
 abbrev pub NotesDone : State → ℕ → Step → Notes → Notes → Type 0
 NotesDone now place step notes new = (bases : Bases) (k : ClassState) → slice_get now.classes place ≡ Some k
     → ((ts : ℕ) → IsDatabase k.line.catalogue (bases ts)) → (step ≡ Commit → ServesAt k.line.catalogue bases k.line.active)
-    → new ≡ noted (act_of bases now.era.table now.clock k step) notes
+    → new ≡ with_due_act (act_of bases now.era.table now.clock k step) notes
 
 length_set : {A : Type 0} (xs : List A) (i : ℕ) (x : A) → length (slice_set xs i x) ≡ length xs
 length_set (y ∷ xs) (suc i) x = ap suc (length_set xs i x)

@@ -1,5 +1,5 @@
 -- One class among the parts of a module takes a message, or a transaction.
-use Rattle.sdd_tm.proofs.All.{AreApart, Ask, Bases, ClassNo, ClassState, FitsSubmit, FitsTxn, Held, IsAwaited, IsKept, List, Log, Msg, None, Queued, Reject, Release, Setting, Site, Some, State, Txn, [], ap, arith, class_given, class_handed, class_named, class_of, contains, current_era, eq-eqb, false, fits_in_era, fits_kind, heeded, length, length-map, map, new_in_queue, place_of, push_of, refl, runs, slice_get, slice_index_or, slice_set, state_given, state_handed, state_of, subst, sym, ℕ, ◌++◌, ◌/◌, ◌<◌, ◌^◌, ◌∙◌, ◌∷◌, ◌≡◌, ◌≢◌}
+use Rattle.sdd_tm.proofs.All.{AreApart, Ask, Bases, ClassNo, ClassState, FitsSubmit, FitsTxn, Held, IsAwaited, IsKept, List, Log, Msg, None, Queued, Reject, Release, Setting, Site, Some, State, Txn, [], ap, arith, class_given, class_handed, class_named, class_of, contains, current_era, eq-eqb, false, fits_in_era, fits_kind, length, length-map, map, new_in_queue, place_of, push_of, refl, runs, slice_get, slice_index_or, slice_set, state_given, state_handed, state_of, subst, sym, with_hold_message, ℕ, ◌++◌, ◌/◌, ◌<◌, ◌^◌, ◌∙◌, ◌∷◌, ◌≡◌, ◌≢◌}
 use Rattle.sdd_tm.proofs.Lists.{some_is, of_map, map_same, get_within}
 use Rattle.sdd_tm.proofs.ClassPlaces.{somewhere, named_nowhere, named_alone, classes_apart}
 use Rattle.sdd_tm.proofs.Handing.{handed_other, is_awaited, few_runs}
@@ -54,9 +54,9 @@ handed_somewhere st from m class place run new named e apart lent is =
     apart (others_handed from m class named) at.there at.is (ap (class_handed from m) (sym same) ∙ sym is))
 
 -- a message for none
-pub handed_unnamed : (st new : State) (from : Site) (m : Msg) → new ≡ heeded m st → None ≡ class_named m → new ≡ state_handed from m st
+pub handed_unnamed : (st new : State) (from : Site) (m : Msg) → new ≡ with_hold_message m st → None ≡ class_named m → new ≡ state_handed from m st
 handed_unnamed st new from m e none =
-    e ∙ ap (λ cs. record (heeded m st) { classes = cs })
+    e ∙ ap (λ cs. record (with_hold_message m st) { classes = cs })
     (sym (map_same (class_handed from m) (λ k. k) st.classes (λ i k g. unnamed from m k (sym none)) ∙ all_same st.classes))
   where
     all_same : (xs : List ClassState) → map (λ k. k) xs ≡ xs

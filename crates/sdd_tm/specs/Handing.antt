@@ -36,15 +36,15 @@ push_of (Held time) = time.0
 push_of _ = 0
 
 -- the clock and the hold
-abbrev pub heeded : Msg → State → State
-heeded m state = record state {
+abbrev pub with_hold_message : Msg → State → State
+with_hold_message m state = record state {
   clock = pushed_by m state.clock;
   on_hold = hold_handed m state.on_hold;
   owes_held = owed_handed m state.owes_held;
 }
 
 abbrev pub state_handed : Site → Msg → State → State
-state_handed from m state = record (heeded m state) { classes = map (class_handed from m) state.classes }
+state_handed from m state = record (with_hold_message m state) { classes = map (class_handed from m) state.classes }
 
 -- the class that a message names, where it can change something of it
 abbrev pub class_named : Msg → Option ClassNo

@@ -100,10 +100,10 @@ held_of state =
     if state.on_hold && (list_all is_idle state.classes && state.owes_held) then Some
     (Sends U (Held (time_at (bound_of state.clock))) None) else None
 
-abbrev pub told_by : State → Option Act → State
-told_by state None = state
-told_by state (Some act) = record state { owes_held = false }
+abbrev pub after_held_act : State → Option Act → State
+after_held_act state None = state
+after_held_act state (Some act) = record state { owes_held = false }
 
 -- once HELD is sent, where it is due
-abbrev pub told : State → State
-told state = told_by state (held_of state)
+abbrev pub after_held : State → State
+after_held state = after_held_act state (held_of state)

@@ -1,6 +1,6 @@
 ghost use Rattle.std.specs.Prelude.{◌≡◌, ◌≢◌, ◌≤◌, ◌<◌, ◌+◌, ◌^◌, ◌++◌, ◌∷◌, ℕ, [], map, length, false, IfOk, OnOk, IsTrue, Some, None, option_map};
 ghost use Rattle.std.specs.List.{list_any, find, position};
-ghost use Rattle.sdd_attempt.specs.All.{AreTried, Bases, FitsTxn, IsAwaited, IsDatabase, Queued, ServesAt, clock_done, contains, noted, standing_of};
+ghost use Rattle.sdd_attempt.specs.All.{AreTried, Bases, FitsTxn, IsAwaited, IsDatabase, Queued, ServesAt, clock_done, contains, standing_of, with_due_act};
 ghost use Rattle.sdd_tm.specs.Handing.{class_handed};
 ghost use Rattle.sdd_tm.specs.Steps.{is_idle, answers, can_answer, time_by, answer_to, class_step, act_of, class_done, without_first};
 ghost use Rattle.sdd_tm.specs.Works.{first_class, classes_of};
@@ -127,7 +127,7 @@ impl<'a> ClassRun<'a> {
         ensures draft { OnOk result ((bases : Bases)
             → ((ts : ℕ) → IsDatabase self.old.line.catalogue (bases ts))
             → (step ≡ Commit → ServesAt self.old.line.catalogue bases self.old.line.active)
-            → draft.new ≡ noted (act_of bases table.now clock.old self.old step) draft.old) }
+            → draft.new ≡ with_due_act (act_of bases table.now clock.old self.old step) draft.old) }
     {
         match step {
             Step::Send => self.line.send(draft),
@@ -142,7 +142,7 @@ impl<'a> ClassRun<'a> {
         ensures class { OnOk result (self.new ≡ record self.old {
           asks = without_first (can_answer self.old.line.active) self.old.asks;
         }) }
-        ensures draft { OnOk result (draft.new ≡ noted (answer_to clock.now self.old.line
+        ensures draft { OnOk result (draft.new ≡ with_due_act (answer_to clock.now self.old.line
             (find (can_answer self.old.line.active) self.old.asks)) draft.old) }
     {
         let active = self.line.active_ts();

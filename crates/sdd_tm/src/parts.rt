@@ -1,11 +1,11 @@
 ghost use Rattle.std.specs.Prelude.{◌≡◌, ◌≤◌, ◌<◌, ◌+◌, ◌/◌, ◌^◌, ℕ, map, length, slice_get, ◌==◌, IfOk, IfSome, OnOk, Some, None};
 ghost use Rattle.std.specs.List.{list_all};
-ghost use Rattle.sdd_attempt.specs.All.{AreTried, Bases, IsAwaited, IsDatabase, FitsTxn, Log, ServesAt, Setting, bound_of, class_for, noted, nothing_noted, pushed, standing_among, ticked};
+ghost use Rattle.sdd_attempt.specs.All.{AreTried, Bases, IsAwaited, IsDatabase, FitsTxn, Log, ServesAt, Setting, bound_of, class_for, with_due_act, nothing_noted, pushed, standing_among, ticked};
 ghost use Rattle.sdd_tm.specs.Fits.{fits, FitsSubmit};
-ghost use Rattle.sdd_tm.specs.Handing.{push_of, heeded, class_handed, state_handed, state_given, class_named, place_of, one_place, all_places, touched};
+ghost use Rattle.sdd_tm.specs.Handing.{push_of, with_hold_message, class_handed, state_handed, state_given, class_named, place_of, one_place, all_places, touched};
 ghost use Rattle.sdd_tm.specs.State.{ClassState};
 ghost use Rattle.sdd_tm.specs.Represents.{AreApart, AreSettled, IsKept, IsAmid, IsCalm};
-ghost use Rattle.sdd_tm.specs.Steps.{is_idle, step_at, act_of, state_done, held_of, told};
+ghost use Rattle.sdd_tm.specs.Steps.{is_idle, step_at, act_of, state_done, held_of, after_held};
 ghost use Rattle.sdd_tm.specs.Works.{Works, first_state};
 ghost use Rattle.sdd_tm.specs.declared.step.Step.TheVariants.{Commit, Start};
 
@@ -137,7 +137,7 @@ impl<'a> Parts<'a> {
             → ((ts : ℕ) → IsDatabase k.line.catalogue (bases ts))
             → (step ≡ Commit → ServesAt k.line.catalogue bases k.line.active)
             → draft.new
-            ≡ noted (act_of bases self.old.era.table self.old.clock k step) draft.old) }
+            ≡ with_due_act (act_of bases self.old.era.table self.old.clock k step) draft.old) }
     {
         let table = self.table;
         let run = &mut self.classes[place as usize];
@@ -166,8 +166,8 @@ impl<'a> Parts<'a> {
 
     /// Sends HELD, where it is due.
     pub(crate) fn tell_held(&mut self, draft: &mut Draft) -> Result<(), NoMemory>
-        ensures state { OnOk result (self.new ≡ told self.old) }
-        ensures draft { OnOk result (draft.new ≡ noted (held_of self.old) draft.old) }
+        ensures state { OnOk result (self.new ≡ after_held self.old) }
+        ensures draft { OnOk result (draft.new ≡ with_due_act (held_of self.old) draft.old) }
     {
         if !self.on_hold || !self.owes_held || !self.are_idle() {
             return Ok(());
@@ -194,7 +194,7 @@ impl<'a> Parts<'a> {
         ensures state { OnOk result (self.new ≡ state_handed from msg self.old) }
         ensures places { IfOk result (λ places. places ≡ touched self.old.classes msg) }
     {
-        self.heed(&msg);
+        self.apply_hold(&msg);
         match class_named(&msg) {
             None => Ok(self.all_places(&msg)),
             Some(class) => self.hand_class(class, from, msg),
@@ -202,9 +202,9 @@ impl<'a> Parts<'a> {
     }
 
     /// Pushes the clock by a message, and sets or ends the hold.
-    fn heed(&mut self, msg: &Msg)
+    fn apply_hold(&mut self, msg: &Msg)
         requires { push_of msg.now / 64 < 2 ^ 57 }
-        ensures { self.new ≡ heeded msg.now self.old }
+        ensures { self.new ≡ with_hold_message msg.now self.old }
     {
         self.clock.push(push_of(msg));
         match msg {

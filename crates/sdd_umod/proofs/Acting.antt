@@ -1,5 +1,5 @@
 -- The module's next step is the act that is due, and then it keeps what follows from the log.
-use Rattle.sdd_umod.proofs.All.{Act, AllUpTo, AreStarted, Attempt, Bases, Bool, Commit, Did, Hold, IsAmid, IsOfHead, IsServed, IsSoundLog, IsWhole, List, Log, Msg, NoReads, None, Notes, Option, Queued, Release, Send, Sends, Setting, Site, Some, Start, State, Step, T, Ticking, TmCounts, ToCommit, ToSend, [], act_of, active, active_after, active_sent, after_send, all_up_of, ap, arith, ascending, asking_of, asks_rows, begins, clock, commit_act, commit_next, commit_no_reads, commits, counts, eqb-true, false, false≢true, filter, filter_map, find, first_phase, fragments_in, handed, has_to_send, head_is_untried, head_of, hold_step, if◌then◌else◌, is_free, is_kept_on_hold, is_over, last_served, line_apart, line_committed, line_of, line_sent, line_started, line_step, ltb-true, map, may_start, module_read, modules_of, next, no_read_asked, not, noted, numbers_to, option_map, queue, queue_after, range_with_len, refl, release_step, request_of, running, send_next, sends_of_act, sent, served_sent, stamped_did, start_act, start_is_up, start_modules, start_next, start_step, started, starts_committed, starts_left, starts_sent, starts_started, state_done, state_of, step_of, subst, suc, sym, ticked, time_at, timestamp, tm_of, tried, true, uses_of, with_act, zero, ℕ, ◌&&◌, ◌+◌, ◌<◌, ◌==◌, ◌^◌, ◌∙◌, ◌∷◌, ◌≡◌, ◌≤◌}
+use Rattle.sdd_umod.proofs.All.{Act, AllUpTo, AreStarted, Attempt, Bases, Bool, Commit, Did, Hold, IsAmid, IsOfHead, IsServed, IsSoundLog, IsWhole, List, Log, Msg, NoReads, None, Notes, Option, Queued, Release, Send, Sends, Setting, Site, Some, Start, State, Step, T, Ticking, TmCounts, ToCommit, ToSend, [], act_of, active, active_after, active_sent, after_send, all_up_of, ap, arith, ascending, asking_of, asks_rows, begins, clock, commit_act, commit_next, commit_no_reads, commits, counts, eqb-true, false, false≢true, filter, filter_map, find, first_phase, fragments_in, handed, has_to_send, head_is_untried, head_of, hold_step, if◌then◌else◌, is_free, is_kept_on_hold, is_over, last_served, line_apart, line_committed, line_of, line_sent, line_started, line_step, ltb-true, map, may_start, module_read, modules_of, next, no_read_asked, not, numbers_to, option_map, queue, queue_after, range_with_len, refl, release_step, request_of, running, send_next, sends_of_act, sent, served_sent, stamped_did, start_act, start_is_up, start_modules, start_next, start_step, started, starts_committed, starts_left, starts_sent, starts_started, state_done, state_of, step_of, subst, suc, sym, ticked, time_at, timestamp, tm_of, tried, true, uses_of, with_act, with_due_act, zero, ℕ, ◌&&◌, ◌+◌, ◌<◌, ◌==◌, ◌^◌, ◌∙◌, ◌∷◌, ◌≡◌, ◌≤◌}
 use Rattle.sdd_umod.proofs.Lists.{found_in_map}
 use Rattle.sdd_umod.proofs.Dues.{IsStep, sends, commits_now, releases, starts, holds, step_is, attempt_is_due, release_is_due, start_comes, hold_comes}
 use Rattle.sdd_umod.proofs.AfterActs.{after_request, after_commit, after_start, after_release, after_hold, release_apart, hold_apart}
@@ -10,7 +10,7 @@ use Rattle.sdd_attempt.specs.wire.declared.msg.Msg.TheVariants as messages
 pub record Makes (s : Setting) (bases : Bases) (log : Log) (step : Step) (state : State) : Type 0 where
   pub act : Act
   pub is_due : next s bases log ≡ Some act
-  pub notes : (n : Notes) → noted (act_of bases state step) n ≡ with_act act n
+  pub notes : (n : Notes) → with_due_act (act_of bases state step) n ≡ with_act act n
   pub amid : IsAmid s bases (state_done bases step state) (Did act ∷ log)
 
 -- the parts of what holds after an act
@@ -57,7 +57,7 @@ makes_send s bases log amid h =
     record {
       act = r.act;
       is_due = attempt_is_due s bases log r.act (r.due s.catalogue bases 0);
-      notes = λ n. ap (λ o. noted o n) made_by;
+      notes = λ n. ap (λ o. with_due_act o n) made_by;
       amid = amid_after s bases log Send r.act amid
           (record {
             line = line_sent s 0 log r.act r.attempt r.active r.send amid.sound.line;
@@ -91,7 +91,7 @@ makes_commit s bases log amid h =
     record {
       act = act;
       is_due = attempt_is_due s bases log act (r.due s.catalogue bases 0);
-      notes = λ n. ap (λ o. noted o n) made_by;
+      notes = λ n. ap (λ o. with_due_act o n) made_by;
       amid = amid_after s bases log Commit act amid
           (record {
             line = line_committed s bases 0 log a amid.sound.line;
@@ -204,7 +204,7 @@ makes_start s bases log q rest amid none no_release starting idle is =
     record {
       act = act;
       is_due = start_comes s bases log act amid.setting.whole none no_release starting made_by;
-      notes = λ n. ap (λ o. noted o n) made_by;
+      notes = λ n. ap (λ o. with_due_act o n) made_by;
       amid = amid_after s bases log Start act amid
           (record {
             line = line_started s [] 0 log q rest is amid.sound.stamped amid.sound.line;

@@ -1,5 +1,5 @@
 -- The names of std, of the crates below and of this crate's definitions that its proofs cite. Declares nothing.
-pub use Rattle.sdd_attempt.proofs.Asking.{NoReads}
+pub use Rattle.sdd_attempt.proofs.QuestionsOfAttempt.{NoReads}
 pub use Rattle.sdd_attempt.proofs.LineActs.{all_up_of, asking_of, left_is_few, new_in_queue, no_read_asked, resting, served_of, served_sent, starts_committed, starts_sent, starts_started, work_sent}
 pub use Rattle.sdd_attempt.proofs.LineSteps.{commits, has_to_send, none_due}
 pub use Rattle.sdd_attempt.proofs.Served.{served_handed}
@@ -15,13 +15,13 @@ pub use Rattle.sdd_attempt.proofs.lang.Sets.{IsThere, read_set_there}
 pub use Rattle.sdd_attempt.proofs.site_module.Does.{DoesMore, all_noted, does_from}
 pub use Rattle.sdd_attempt.proofs.site_module.Finding.{found_at, map_twice, one_of}
 pub use Rattle.sdd_attempt.proofs.site_module.Making.{made_more, made_nothing}
-pub use Rattle.sdd_attempt.specs.All.{Act, AllUpTo, AreTried, Ask, Attempt, AwaitsAt, Bases, Catalogue, D, Did, DmNo, Does, Done, Entry, FitsAnswer, FitsTxn, Fragment, FragmentPart, Handed, Held, IsAwaited, IsDatabase, IsOfHead, IsPlaced, IsServed, IsWhole, Kept, Line, Log, Msg, Notes, Parts, Phase, Queued, Ready, Rec, Reduced, Reject, RelNo, Row, Rows, Sends, ServesAt, Setting, Site, Submits, T, Ticking, TmNo, Txn, TxnNo, U, Values, active, active_after, active_handed, active_sent, after_hand, after_send, ascending, asks_rows, attempt_due, begins, catalogue_of, clock, clock_done, commit_act, commit_next, contains, dm_no, fetches_use, first_phase, first_some, fragment_at, fragment_from, fragment_rules, fragments_in, handed, has_copy, head_is_untried, head_of, is_empty, is_over, line_done, line_step, lowest_copy, module_read, modules_of, noted, nothing_noted, numbers_to, or_else, parts_of, pushed_by, queue, queue_after, read_set, reads_at, records_of, rejects, relation_names, send_next, sends_of_act, sent, start_act, start_next, started, starts_left, submits, ticked, time_at, timestamp, tm_no, tried, uses_of, with_act, work_of}
+pub use Rattle.sdd_attempt.specs.All.{Act, AllUpTo, AreTried, Ask, Attempt, AwaitsAt, Bases, Catalogue, D, Did, DmNo, Does, Done, Entry, FitsAnswer, FitsTxn, Fragment, FragmentPart, Handed, Held, IsAwaited, IsDatabase, IsOfHead, IsPlaced, IsServed, IsWhole, Kept, Line, Log, Msg, Notes, Parts, Phase, Queued, Ready, Rec, Reduced, Reject, RelNo, Row, Rows, Sends, ServesAt, Setting, Site, Submits, T, Ticking, TmNo, Txn, TxnNo, U, Values, active, active_after, active_handed, active_sent, after_hand, after_send, ascending, asks_rows, attempt_due, begins, catalogue_of, clock, clock_done, commit_act, commit_next, contains, dm_no, fetches_use, first_phase, first_some, fragment_at, fragment_from, fragment_rules, fragments_in, handed, has_copy, head_is_untried, head_of, is_empty, is_over, line_done, line_step, lowest_copy, module_read, modules_of, nothing_noted, numbers_to, or_else, parts_of, pushed_by, queue, queue_after, read_set, reads_at, records_of, rejects, relation_names, send_next, sends_of_act, sent, start_act, start_next, started, starts_left, submits, ticked, time_at, timestamp, tm_no, tried, uses_of, with_act, with_due_act, work_of}
 pub use Rattle.sdd_attempt.specs.declared.step.LineStep.{LineStep}
 pub use Rattle.sdd_attempt.specs.declared.step.LineStep.TheVariants.{Commits as ToCommit, Sends as ToSend}
 pub use Rattle.sdd_attempt.specs.history.declared.record.Rec.TheVariants.{Submit}
 pub use Rattle.sdd_umod.specs.Due.{IsDue, by_exchange, by_hold, by_release, by_start, due, hold_due, next, release_due, start_due}
 pub use Rattle.sdd_umod.specs.Fits.{FitsSubmit, fits, fits_kind}
-pub use Rattle.sdd_umod.specs.Handing.{IsEarly, clock_heeded, counts_heeded, served_heeded, state_given, state_handed}
+pub use Rattle.sdd_umod.specs.Handing.{IsEarly, clock_after_message, counts_after_message, served_after_message, state_given, state_handed}
 pub use Rattle.sdd_umod.specs.Represents.{AreStarted, InTurn, IsAmid, IsKept, IsSetting, IsSoundLog, Represents, running}
 pub use Rattle.sdd_umod.specs.State.{State, as_counted, line_of, state_of}
 pub use Rattle.sdd_umod.specs.Steps.{act_of, committed, counted, hold_step, is_applied, is_free, is_kept_on_hold, may_start, of_line, release_step, start_step, state_done, step_of, tm_of}

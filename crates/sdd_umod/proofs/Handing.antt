@@ -1,5 +1,5 @@
 -- A message that is handed: the module keeps what follows from the log, and nothing else of it changes.
-use Rattle.sdd_umod.proofs.All.{Ask, Attempt, AwaitsAt, Bases, Bool, D, Done, FitsAnswer, Handed, HaveRoom, Held, InTurn, IsAmid, IsAwaited, IsEarly, IsKept, IsSetting, IsSoundLog, Line, List, Log, Msg, None, Option, Phase, Ready, Reduced, Reject, Rows, Served, Setting, Site, Some, State, T, Ticking, TmCounts, U, Values, active, active_handed, after_hand, ap, arith, as_counted, clock, clock_heeded, counted, counts, counts_handed, counts_heeded, false, fetches_use, few_waiting, fits, fits_kind, if◌then◌else◌, last_served, left_is_few, line_handed, line_of, line_step, map, map_twice, no_sooner_hand, numbers_to, of_line, pushed_by, queue, refl, rejects, resting, running, served_handed, served_heeded, served_now, stamped_still, starts_left, state_handed, state_of, step_of, submits, subst, suc, sym, true, ℕ, ◌+◌, ◌<◌, ◌==◌, ◌^◌, ◌∙◌, ◌∷◌, ◌≡◌, ◌≤◌}
+use Rattle.sdd_umod.proofs.All.{Ask, Attempt, AwaitsAt, Bases, Bool, D, Done, FitsAnswer, Handed, HaveRoom, Held, InTurn, IsAmid, IsAwaited, IsEarly, IsKept, IsSetting, IsSoundLog, Line, List, Log, Msg, None, Option, Phase, Ready, Reduced, Reject, Rows, Served, Setting, Site, Some, State, T, Ticking, TmCounts, U, Values, active, active_handed, after_hand, ap, arith, as_counted, clock, clock_after_message, counted, counts, counts_after_message, counts_handed, false, fetches_use, few_waiting, fits, fits_kind, if◌then◌else◌, last_served, left_is_few, line_handed, line_of, line_step, map, map_twice, no_sooner_hand, numbers_to, of_line, pushed_by, queue, refl, rejects, resting, running, served_after_message, served_handed, served_now, stamped_still, starts_left, state_handed, state_of, step_of, submits, subst, suc, sym, true, ℕ, ◌+◌, ◌<◌, ◌==◌, ◌^◌, ◌∙◌, ◌∷◌, ◌≡◌, ◌≤◌}
 use Rattle.sdd_umod.proofs.Lists.{or_nothing, get_map_of}
 use Rattle.sdd_umod.proofs.Dues.{line_none}
 use Rattle.sdd_umod.proofs.Turns.{tm_told, turn_held}
@@ -10,7 +10,7 @@ use Rattle.sdd_umod.specs.declared.tm_count.Sign.TheVariants as signs
 -- what is kept of the log
 
 pub clock_kept : (s : Setting) (bases : Bases) (log : Log) (from : Site) (m : Msg) → fits_kind s bases log from m
-    → (k : Ticking) → pushed_by m k ≡ clock_heeded m k
+    → (k : Ticking) → pushed_by m k ≡ clock_after_message m k
 clock_kept s bases log from (Ask class time) f k = absurd f
 clock_kept s bases log from (Reject ts class by write) f k = absurd f
 clock_kept s bases log from (Release ts) f k = absurd f
@@ -19,7 +19,7 @@ clock_kept s bases log from _ f k = refl
 one_more : (n : ℕ) → as_counted (suc n) ≡ as_counted (as_counted n + 1)
 one_more n = omega arith
 
-served_kept : (m : Msg) (v : Served) → served_of (served_now m v) ≡ served_heeded m (served_of v)
+served_kept : (m : Msg) (v : Served) → served_of (served_now m v) ≡ served_after_message m (served_of v)
 served_kept (Done t) v =
     elim (t.0 == v.ts) as (λ b. served_of (if b then record v { dones = suc v.dones } else v)
     ≡ (if b then record (served_of v) { dones = as_counted (as_counted v.dones + 1) } else served_of v)) [
@@ -30,7 +30,7 @@ served_kept _ v = refl
 
 counts_kept : (s : Setting) (log : Log) (from : Site) (m : Msg)
     → map (λ t. counts t (Handed from m ∷ log)) (numbers_to s.catalogue.tms)
-    ≡ counts_heeded from m (map (λ t. counts t log) (numbers_to s.catalogue.tms))
+    ≡ counts_after_message from m (map (λ t. counts t log) (numbers_to s.catalogue.tms))
 counts_kept s log (T n) (Held time) =
     map_twice (λ t. counts t log) (λ t. counts t (Handed (T n) (Held time) ∷ log)) (counted signs.Held n.0) (numbers_to s.catalogue.tms) (λ t. refl)
 counts_kept s log U (Held time) = refl
@@ -48,8 +48,8 @@ state_kept s bases log from m f =
     let line : Line = line_of s (Handed from m ∷ log) in
     ap (λ k. made line k (served_of (last_served s (Handed from m ∷ log))) (map (λ t. counts t (Handed from m ∷ log)) (numbers_to s.catalogue.tms)))
     (clock_kept s bases log from m f (clock s.site log))
-    ∙ ap (λ v. made line (clock_heeded m (clock s.site log)) v (map (λ t. counts t (Handed from m ∷ log)) (numbers_to s.catalogue.tms)))
-    (served_kept m (last_served s log)) ∙ ap (made line (clock_heeded m (clock s.site log)) (served_heeded m (served_of (last_served s log))))
+    ∙ ap (λ v. made line (clock_after_message m (clock s.site log)) v (map (λ t. counts t (Handed from m ∷ log)) (numbers_to s.catalogue.tms)))
+    (served_kept m (last_served s log)) ∙ ap (made line (clock_after_message m (clock s.site log)) (served_after_message m (served_of (last_served s log))))
     (counts_kept s log from m)
 
 -- what holds of the log

@@ -1,5 +1,5 @@
 -- The loop of a call: what each step asks for, and what it leaves.
-use Rattle.sdd_umod.proofs.All.{AreTried, Bases, Commit, Did, HaveRoom, Hold, IsAmid, IsDatabase, IsServed, Log, None, Notes, Release, Send, ServesAt, Setting, Some, Start, State, Step, ToCommit, Works, act_of, ap, arith, clock, commits, line_step, made_more, made_nothing, next, noted, refl, served_of, state_done, state_of, step_of, subst, sym, tries_told, with_act, work, ℕ, ◌+◌, ◌<◌, ◌^◌, ◌∙◌, ◌∷◌, ◌≡◌}
+use Rattle.sdd_umod.proofs.All.{AreTried, Bases, Commit, Did, HaveRoom, Hold, IsAmid, IsDatabase, IsServed, Log, None, Notes, Release, Send, ServesAt, Setting, Some, Start, State, Step, ToCommit, Works, act_of, ap, arith, clock, commits, line_step, made_more, made_nothing, next, refl, served_of, state_done, state_of, step_of, subst, sym, tries_told, with_act, with_due_act, work, ℕ, ◌+◌, ◌<◌, ◌^◌, ◌∙◌, ◌∷◌, ◌≡◌}
 use Rattle.sdd_umod.proofs.Dues.{IsStep, commits_now, step_is}
 use Rattle.sdd_umod.proofs.Acting.{makes}
 use Rattle.sdd_umod.proofs.Handing.{counts_room}
@@ -71,7 +71,7 @@ StateDone now step after = (bases : Bases) → after ≡ state_done bases step n
 
 abbrev pub NotesDone : State → Step → Notes → Notes → Type 0
 NotesDone now step notes new = (bases : Bases) → ((ts : ℕ) → IsDatabase now.line.catalogue (bases ts))
-    → (step ≡ Commit → ServesAt now.line.catalogue bases now.line.active) → new ≡ noted (act_of bases now step) notes
+    → (step ≡ Commit → ServesAt now.line.catalogue bases now.line.active) → new ≡ with_due_act (act_of bases now step) notes
 
 -- the loop
 

@@ -8,9 +8,9 @@ use Rattle.sdd_umod.specs.Steps.{counted}
 
 -- a message: of those that come to the module a HELD alone pushes its clock
 
-abbrev pub clock_heeded : Msg → Ticking → Ticking
-clock_heeded (Held time) k = pushed k time.0
-clock_heeded _ k = k
+abbrev pub clock_after_message : Msg → Ticking → Ticking
+clock_after_message (Held time) k = pushed k time.0
+clock_after_message _ k = k
 
 -- a clock has room for that
 abbrev pub IsEarly : Msg → Type 0
@@ -18,31 +18,31 @@ IsEarly (Held time) = time.0 / 64 < 2 ^ 57
 IsEarly _ = Unit {0}
 
 -- one DONE more for the attempt with this timestamp
-abbrev pub done_heeded : ℕ → Served → Served
-done_heeded ts served = if ts == served.ts then record served { dones = as_counted (served.dones + 1) } else served
+abbrev pub done_after_message : ℕ → Served → Served
+done_after_message ts served = if ts == served.ts then record served { dones = as_counted (served.dones + 1) } else served
 
-abbrev pub served_heeded : Msg → Served → Served
-served_heeded (Done ts) served = done_heeded ts.0 served
-served_heeded _ served = served
+abbrev pub served_after_message : Msg → Served → Served
+served_after_message (Done ts) served = done_after_message ts.0 served
+served_after_message _ served = served
 
 -- a HELD of a T counts
 abbrev pub held_from : Site → List TmCounts → List TmCounts
 held_from (T tm) counts = map (counted signs.Held tm.0) counts
 held_from _ counts = counts
 
-abbrev pub counts_heeded : Site → Msg → List TmCounts → List TmCounts
-counts_heeded from (Held time) counts = held_from from counts
-counts_heeded from _ counts = counts
+abbrev pub counts_after_message : Site → Msg → List TmCounts → List TmCounts
+counts_after_message from (Held time) counts = held_from from counts
+counts_after_message from _ counts = counts
 
-abbrev pub heeded : Site → Msg → State → State
-heeded from m state = record state {
-  clock = clock_heeded m state.clock;
-  served = served_heeded m state.served;
-  counts = counts_heeded from m state.counts;
+abbrev pub with_counted_message : Site → Msg → State → State
+with_counted_message from m state = record state {
+  clock = clock_after_message m state.clock;
+  served = served_after_message m state.served;
+  counts = counts_after_message from m state.counts;
 }
 
 abbrev pub state_handed : Site → Msg → State → State
-state_handed from m state = record (heeded from m state) {
+state_handed from m state = record (with_counted_message from m state) {
   line = record state.line { active = active_handed state.line.class from m state.line.active };
 }
 

@@ -1,10 +1,10 @@
 ghost use Rattle.std.specs.Prelude.{◌≡◌, ◌<◌, ◌+◌, ◌^◌, ◌++◌, ◌∷◌, [], ℕ, filter_map, map, option_map, IfOk, OnOk, IsTrue, Some, None};
 ghost use Rattle.std.specs.List.{list_any};
-ghost use Rattle.sdd_attempt.specs.All.{AreTried, Bases, IsDatabase, Log, ServesAt, Setting, T, bound_of, commit_next, noted, nothing_noted, numbers_to, time_at};
+ghost use Rattle.sdd_attempt.specs.All.{AreTried, Bases, IsDatabase, Log, ServesAt, Setting, T, bound_of, commit_next, nothing_noted, numbers_to, time_at, with_due_act};
 ghost use Rattle.sdd_attempt.specs.wire.declared.msg.Msg.TheVariants as messages;
 ghost use Rattle.sdd_attempt.specs.declared.standing.Standing.TheVariants.{Queued};
 ghost use Rattle.sdd_umod.specs.Fits.{fits, FitsSubmit};
-ghost use Rattle.sdd_umod.specs.Handing.{IsEarly, heeded, held_from, state_handed, state_given};
+ghost use Rattle.sdd_umod.specs.Handing.{IsEarly, with_counted_message, held_from, state_handed, state_given};
 ghost use Rattle.sdd_umod.specs.Represents.{IsKept, IsAmid};
 ghost use Rattle.sdd_umod.specs.Standing.{first_underway, is_awaiting_helds, lacking_site, unheld_by, standing_in};
 ghost use Rattle.sdd_umod.specs.Steps.{act_of, counted, hold_step, is_kept_on_hold, may_start, release_step, state_done, step_of, turn};
@@ -211,7 +211,7 @@ impl<'a> Parts<'a> {
         ensures draft { OnOk result ((bases : Bases)
             → ((ts : ℕ) → IsDatabase self.old.line.catalogue (bases ts))
             → (step ≡ Commit → ServesAt self.old.line.catalogue bases self.old.line.active)
-            → draft.new ≡ noted (act_of bases self.old step) draft.old) }
+            → draft.new ≡ with_due_act (act_of bases self.old step) draft.old) }
     {
         match step {
             Step::Send => self.line.send(draft),
@@ -229,7 +229,7 @@ impl<'a> Parts<'a> {
         ensures draft { OnOk result ((bases : Bases)
             → ((ts : ℕ) → IsDatabase self.old.line.catalogue (bases ts))
             → ServesAt self.old.line.catalogue bases self.old.line.active
-            → draft.new ≡ noted (commit_next bases self.old.line) draft.old) }
+            → draft.new ≡ with_due_act (commit_next bases self.old.line) draft.old) }
     {
         let ts = match self.line.active_ts() {
             None => Ts(0),
@@ -284,15 +284,15 @@ impl<'a> Parts<'a> {
             × IsKept s log self.old × fits s bases log from msg }
         ensures { OnOk result (self.new ≡ state_handed from msg self.old) }
     {
-        self.heed(from, &msg);
+        self.count_message(from, &msg);
         self.line.hand(from, msg)
     }
 
     /// Pushes the clock by a message, and counts it.
-    fn heed(&mut self, from: Site, msg: &Msg)
+    fn count_message(&mut self, from: Site, msg: &Msg)
         requires early { IsEarly msg.now }
         requires counts { HaveRoom self.old.counts }
-        ensures { self.new ≡ heeded from msg.now self.old }
+        ensures { self.new ≡ with_counted_message from msg.now self.old }
     {
         match msg {
             Msg::Held { time } => {

@@ -1,5 +1,5 @@
 ghost use Rattle.std.specs.Prelude.{◌≡◌, ◌<◌, ◌+◌, ◌^◌};
-ghost use Rattle.sdd_umod.specs.Handing.{done_heeded};
+ghost use Rattle.sdd_umod.specs.Handing.{done_after_message};
 ghost use Rattle.sdd_umod.specs.Steps.{committed, is_applied, turn};
 ghost use Rattle.sdd_umod.specs.Works.{nothing_served};
 
@@ -78,7 +78,7 @@ impl Serving {
 
     /// Counts a DONE for the attempt with this timestamp, where that is the last one.
     pub(crate) fn done(&mut self, ts: Ts)
-        ensures { self.new ≡ done_heeded ts.0 self.old }
+        ensures { self.new ≡ done_after_message ts.0 self.old }
     {
         if ts.0 == self.ts.0 {
             self.dones = self.dones.saturating_add(1);

@@ -16,7 +16,7 @@ pub use Rattle.sdd_script.specs.base.declared.reply.Reply.TheVariants.{TooMany}
 pub use Rattle.sdd_script.specs.declared.workload.Workload.{Workload}
 pub use Rattle.sdd_verify.specs.Classes.{class_if, class_of, classes_from, classes_submitted, era_at, redeclared}
 pub use Rattle.sdd_verify.specs.Flaws.{line_in}
-pub use Rattle.sdd_verify.specs.Lines.{Numbered, begun, ends_replies, is_order_line, lines_of, order_line_in, passed, tells_reply}
+pub use Rattle.sdd_verify.specs.Lines.{Numbered, ends_replies, is_order_line, lines_of, numbered_lines, order_line_in, passed, tells_reply}
 pub use Rattle.sdd_verify.specs.Numbered.{numbered}
 pub use Rattle.sdd_verify.specs.Orders.{allows, is_in_turn, may_follow, names_on, order_told, words_behind, words_of}
 pub use Rattle.sdd_verify.specs.Replies.{replies, replies_on, serial_replies}

@@ -1,5 +1,5 @@
 -- A report is judged to be sound exactly where it is verified.
-use Rattle.sdd_verify.proofs.All.{All, All-head, All-tail, AreLines, Bool, Catalogue, Err, HasNoNewline, HasNoSpace, IsInTurn, IsName, IsValid, IsValidTxn, IsVerified, List, MAX_NAME_BYTES, MAX_REPORT_BYTES, Numbered, Ok, Result, Txn, TxnNo, Workload, Yes, [], along, ap, append_assoc, arith, begins_with_letter, begun, bind_ok, both, classes_submitted, codes, cond, cut_lines, cut_takes, ends_replies, false, flat_map-map, is_in_turn, is_keyword, is_name_byte, is_order_line, judged, known, le-leb, leb-true, length, line_behind, lines_of, list_all, map, must, must_ok, named, names_on, nat_le, no_newline-append, not, ok_is, order_line, order_line_in, order_told, passed, refl, rules, serial_replies, spelled_lines, submitted, subst, sym, tells_reply, texts_of, true, verdict, verdict_of, ℕ, ◌&&◌, ◌++◌, ◌+◌, ◌-◌, ◌>>=◌, ◌∙◌, ◌∷◌, ◌≡◌, ◌≢◌, ◌≤◌}
+use Rattle.sdd_verify.proofs.All.{All, All-head, All-tail, AreLines, Bool, Catalogue, Err, HasNoNewline, HasNoSpace, IsInTurn, IsName, IsValid, IsValidTxn, IsVerified, List, MAX_NAME_BYTES, MAX_REPORT_BYTES, Numbered, Ok, Result, Txn, TxnNo, Workload, Yes, [], along, ap, append_assoc, arith, begins_with_letter, bind_ok, both, classes_submitted, codes, cond, cut_lines, cut_takes, ends_replies, false, flat_map-map, is_in_turn, is_keyword, is_name_byte, is_order_line, judged, known, le-leb, leb-true, length, line_behind, lines_of, list_all, map, must, must_ok, named, names_on, nat_le, no_newline-append, not, numbered_lines, ok_is, order_line, order_line_in, order_told, passed, refl, rules, serial_replies, spelled_lines, submitted, subst, sym, tells_reply, texts_of, true, verdict, verdict_of, ℕ, ◌&&◌, ◌++◌, ◌+◌, ◌-◌, ◌>>=◌, ◌∙◌, ◌∷◌, ◌≡◌, ◌≢◌, ◌≤◌}
 use Rattle.sdd_verify.proofs.DifferentNames.{submitted_differ}
 use Rattle.sdd_verify.proofs.InTurn.{in_turn, in_turn_again}
 use Rattle.sdd_verify.proofs.LineCuts.{IsWhole, cut_are_lines, lines_behind, whole_behind, whole_is}
@@ -65,7 +65,7 @@ begun_by : (report : List ℕ) (whole : Numbered) (b : Bool) → nat_le (length 
 begun_by report whole true e h = let all : Numbered = (1, lines_of report) in (leb-true (length report) MAX_REPORT_BYTES e, sym (ok_is {F = ℕ} all whole h))
 begun_by report whole false e h = absurd cc
 
-begun_is : (report : List ℕ) (whole : Numbered) → begun report ≡ Ok whole → (length report ≤ MAX_REPORT_BYTES) × (whole ≡ (1, lines_of report))
+begun_is : (report : List ℕ) (whole : Numbered) → numbered_lines report ≡ Ok whole → (length report ≤ MAX_REPORT_BYTES) × (whole ≡ (1, lines_of report))
 begun_is report whole h = begun_by report whole (nat_le (length report) MAX_REPORT_BYTES) refl h
 
 -- the lines of a report, part by part
@@ -118,7 +118,7 @@ module _ (cat : Catalogue) (work : Workload) (report : List ℕ) where
 
   sound : (u : Unit {0}) → judged cat work report ≡ Ok u → Sound cat work report
   sound u h =
-      let a = bind_ok (begun report) After1 u h in
+      let a = bind_ok (numbered_lines report) After1 u h in
       let whole = begun_is report a.0 a.1 in
       let b = bind_ok (order_line_in a.0.0 a.0.1) After2 u a.2 in
       let c = bind_ok (order_told texts Classes b.0.0 b.0.1) (λ order. After3 order b.0.2.0 b.0.2.1) u b.2 in
@@ -228,7 +228,7 @@ module _ (cat : Catalogue) (work : Workload) (report : List ℕ) where
       let words : List ℕ = words_in texts v.order in
       let number : ℕ = 1 + length v.before in
       let behind : List (List ℕ) = lines_of answers ++ v.next ∷ lines_of v.rest in
-      let all : begun report ≡ Ok (1, lines_of report) = ap (λ (b : Bool). begun_if b report) (le-leb (length report) MAX_REPORT_BYTES v.small) in
+      let all : numbered_lines report ≡ Ok (1, lines_of report) = ap (λ (b : Bool). begun_if b report) (le-leb (length report) MAX_REPORT_BYTES v.small) in
       let lines = lines_again v (line_fine v.order names_are.1) in
       let found : order_line_in 1 (v.before ++ words ∷ behind) ≡ Ok (number, words, (number + 1, behind)) =
       order_again 1 v.before words behind v.before_order (is_order_line_again (map (name_in texts) v.order)) in

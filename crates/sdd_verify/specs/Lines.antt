@@ -13,8 +13,8 @@ abbrev pub Numbered : Type 0
 Numbered = ℕ × List (List ℕ)
 
 -- all lines of a report, of which one that is too long is at fault before its first line
-abbrev pub begun : List ℕ → Result Numbered ℕ
-begun report = if nat_le (length report) MAX_REPORT_BYTES then Ok (1, lines_of report) else Err 0
+abbrev pub numbered_lines : List ℕ → Result Numbered ℕ
+numbered_lines report = if nat_le (length report) MAX_REPORT_BYTES then Ok (1, lines_of report) else Err 0
 
 -- the line that gives the order: the word `order` alone, or with a space after it
 abbrev pub is_order_line : List ℕ → Bool

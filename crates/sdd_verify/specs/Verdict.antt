@@ -3,7 +3,7 @@ use Rattle.std.specs.Prelude.{ℕ, List, Result, Ok, Err}
 use Rattle.sdd_script.specs.All.{Catalogue, TxnNo, must, ◌>>=◌}
 use Rattle.sdd_script.specs.declared.workload.Workload.{Workload}
 use Rattle.sdd_verify.specs.Classes.{classes_submitted}
-use Rattle.sdd_verify.specs.Lines.{Numbered, begun, ends_replies, lines_of, order_line_in, passed}
+use Rattle.sdd_verify.specs.Lines.{Numbered, ends_replies, lines_of, numbered_lines, order_line_in, passed}
 use Rattle.sdd_verify.specs.Orders.{order_told}
 use Rattle.sdd_verify.specs.Replies.{serial_replies}
 use Rattle.sdd_verify.specs.Submitted.{submitted}
@@ -15,7 +15,7 @@ use Rattle.sdd_verify.specs.declared.verdict.Verdict.TheVariants.{Yes, No}
 -- stand the lines of the replies that one plain database gives along the order; and after these a line that is of no reply.
 abbrev pub judged : Catalogue → Workload → List ℕ → Result (Unit {0}) ℕ
 judged cat work report = do
-  (whole : Numbered) ← begun report
+  (whole : Numbered) ← numbered_lines report
   (at : ℕ × List ℕ × Numbered) ← order_line_in whole.0 whole.1
   (order : List TxnNo) ← order_told (submitted work) (classes_submitted cat work) at.0 at.1
   (rest : Numbered) ← passed at.2.0 (lines_of (serial_replies cat work order)) at.2.1

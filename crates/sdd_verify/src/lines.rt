@@ -19,11 +19,11 @@ pub struct Lines<'a> {
 
 impl<'a> Lines<'a> {
     ghost use Rattle.sdd_verify.specs.Numbered.{numbered};
-    ghost use Rattle.sdd_verify.specs.Lines.{begun, ends_replies};
+    ghost use Rattle.sdd_verify.specs.Lines.{ends_replies, numbered_lines};
 
     /// All lines of a report; one that is too long is at fault before its first line.
     pub(crate) fn begin(report: &'a [u8]) -> Result<Self, Flaw>
-        ensures { GivesReading line_in numbered result (begun report.now) }
+        ensures { GivesReading line_in numbered result (numbered_lines report.now) }
     {
         must(0, report.len() <= MAX_REPORT_BYTES)?;
         Ok(Lines {

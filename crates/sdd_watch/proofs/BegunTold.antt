@@ -5,7 +5,7 @@ use Rattle.sdd_obligations.specs.base.Words.{tail_of}
 use Rattle.sdd_obligations.specs.protocol.declared.entry.Entry.{Entry}
 use Rattle.sdd_inside.specs.Lines.{beginning}
 use Rattle.sdd_run.specs.Lent.{era_of_list}
-use Rattle.sdd_run.specs.Runs.{AreTables, begun, eras_with_tables}
+use Rattle.sdd_run.specs.Runs.{AreTables, eras_with_tables, first_input}
 use Rattle.sdd_run.specs.class_lists.InForce.{eras_in, whole_in}
 use Rattle.sdd_run.specs.report.declared.copies.CopyTable.{CopyTable}
 use Rattle.sdd_run.specs.script.All.{IsValid}
@@ -17,7 +17,7 @@ use Rattle.sdd_run.specs.world.declared.schedule.ClassList.{ClassList}
 use Rattle.sdd_run.specs.world.declared.world.World.{World}
 use Rattle.sdd_run.proofs.Beginning.{all_given}
 use Rattle.sdd_run.proofs.Starting.{all_allowed}
-use Rattle.sdd_watch.specs.Telling.{IsTextOf, IsTold, Tells}
+use Rattle.sdd_watch.specs.ScheduleSoFar.{IsTextOf, IsTold, Tells}
 use Rattle.sdd_watch.specs.Text.{IsInsideOf}
 use Rattle.sdd_watch.specs.Watching.{Watches}
 use Rattle.sdd_watch.specs.declared.teller.Teller.{Teller}
@@ -38,13 +38,13 @@ begins_told g t empty txns copies cat none same first text watches = record {
 -- Before the first event nothing is told but the first line, and the events of the workload may come, one after the other.
 pub record BeginsAll (cat : Catalogue) (tables : List (List Entry)) (work : Workload) (w : World) (events : List Event) (lists : List ClassList)
     (t : Teller) : Type 0 where
-  pub told : IsTold w (begun cat tables work) [] t 1
-  pub allowed : AreAllowed (begun cat tables work) events lists
+  pub told : IsTold w (first_input cat tables work) [] t 1
+  pub allowed : AreAllowed (first_input cat tables work) events lists
   pub few : length events < 2 ^ 32
 
 pub begins_all : (cat : Catalogue) (tables : List (List Entry)) (work : Workload) → IsSoundCatalogue (whole_in cat work) → IsValid cat work
-    → AreTables cat work tables → (w : World) (events : List Event) (lists : List ClassList) (t : Teller) → Represents w (begun cat tables work) []
-    → events ≡ work.events → map era_of_list lists ≡ tail_of (eras_with_tables (eras_in cat work) tables) → Tells (begun cat tables work) [] t
+    → AreTables cat work tables → (w : World) (events : List Event) (lists : List ClassList) (t : Teller) → Represents w (first_input cat tables work) []
+    → events ≡ work.events → map era_of_list lists ≡ tail_of (eras_with_tables (eras_in cat work) tables) → Tells (first_input cat tables work) [] t
     → BeginsAll cat tables work w events lists t
 begins_all cat tables work sound valid tabled w events lists t represents same left tells =
     let few = valid.few_events in
@@ -57,8 +57,8 @@ begins_all cat tables work sound valid tabled w events lists t represents same l
 
 -- the text of all events of a workload is that of its run
 pub inside_of : (cat : Catalogue) (tables : List (List Entry)) (work : Workload) → AreTables cat work tables → (events : List Event) → events ≡ work.events
-    → (text : List ℕ) → IsTextOf (with_events (begun cat tables work) events) text → IsInsideOf cat work text
+    → (text : List ℕ) → IsTextOf (with_events (first_input cat tables work) events) text → IsInsideOf cat work text
 inside_of cat tables work tabled events same text h =
-    let all = ap (with_events (begun cat tables work)) same ∙ all_given cat tables work in
+    let all = ap (with_events (first_input cat tables work)) same ∙ all_given cat tables work in
     let whole = subst (λ g. IsTextOf g text) all h in
     record { tables = tables; tables_are = tabled; log = whole.log; log_is = whole.log_is; text_is = whole.text_is }

@@ -11,7 +11,7 @@ use Rattle.sdd_run.specs.world.Represents.{Represents}
 use Rattle.sdd_run.specs.world.declared.world.World.{World}
 use Rattle.sdd_run.proofs.world.Rounds.{single}
 use Rattle.sdd_watch.specs.Happens.{place_in, round_in, rounds}
-use Rattle.sdd_watch.specs.Telling.{IsTold, Tells}
+use Rattle.sdd_watch.specs.ScheduleSoFar.{IsTold, Tells}
 use Rattle.sdd_watch.specs.Text.{change}
 use Rattle.sdd_watch.specs.Watching.{IsTellable, IsToTell, IsTurn, Watches, foreseen_by}
 use Rattle.sdd_watch.specs.declared.foreseen.Foreseen.{Foreseen}

@@ -7,7 +7,7 @@ use Rattle.sdd_run.specs.world.Represents.{Represents, Rounding, Settling, event
 use Rattle.sdd_run.specs.world.declared.world.World.{World}
 use Rattle.sdd_run.proofs.world.Rounds.{few, free, round_before, round_ends}
 use Rattle.sdd_watch.specs.Happens.{place_in, round_in, rounds, unless_in_round}
-use Rattle.sdd_watch.specs.Telling.{IsTold, TellsBetween, TellsRound, TellsSettled}
+use Rattle.sdd_watch.specs.ScheduleSoFar.{IsTold, TellsBetween, TellsRound, TellsSettled}
 use Rattle.sdd_watch.specs.Watching.{IsTellable, IsToTell, IsTurn, foreseen_by}
 use Rattle.sdd_watch.specs.declared.foreseen.Foreseen.{Foreseen}
 use Rattle.sdd_watch.specs.declared.foreseen.Foreseen.TheVariants.{Something}

@@ -7,7 +7,7 @@ use Rattle.sdd_run.specs.world.Represents.{EndsBy}
 use Rattle.sdd_run.specs.world.declared.ends.WorldEnd.{WorldEnd}
 use Rattle.sdd_run.specs.world.declared.schedule.ClassList.{ClassList}
 use Rattle.sdd_run.specs.world.declared.world.World.{World}
-use Rattle.sdd_watch.specs.Telling.{IsTextOf, IsTold, TellsSettled}
+use Rattle.sdd_watch.specs.ScheduleSoFar.{IsTextOf, IsTold, TellsSettled}
 use Rattle.sdd_watch.specs.declared.teller.Teller.{Teller}
 use Rattle.sdd_watch.proofs.RoundsTold.{settle_told}
 

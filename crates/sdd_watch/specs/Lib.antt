@@ -4,7 +4,7 @@ pub mod Keeping
 pub mod Looking
 pub mod Moments
 pub mod States
-pub mod Telling
+pub mod ScheduleSoFar
 pub mod Text
 pub mod Watching
 pub use Rattle.sdd_run.specs as run

@@ -1,11 +1,11 @@
 //! The text of what happens inside the run of a workload.
 ghost use Rattle.std.specs.Prelude.{◌≡◌, [], IfOk, IsErrOf};
 ghost use Rattle.sdd_obligations.specs.All.{Input};
-ghost use Rattle.sdd_run.specs.Runs.{AreTables, EndsAtLimit, begun};
+ghost use Rattle.sdd_run.specs.Runs.{AreTables, EndsAtLimit, first_input};
 ghost use Rattle.sdd_run.specs.class_lists.InForce.{eras_in, whole_in};
 ghost use Rattle.sdd_run.specs.script.All.{IsValid};
 ghost use Rattle.sdd_run.specs.world.Represents.{Represents};
-ghost use Rattle.sdd_watch.specs.Telling.{Tells};
+ghost use Rattle.sdd_watch.specs.ScheduleSoFar.{Tells};
 ghost use Rattle.sdd_watch.specs.Text.{IsInsideOf};
 
 use crate::schedule::carry_out;
@@ -67,7 +67,7 @@ fn first_world<'a>(
     requires whole { lists.now.whole ≡ whole_in catalogue.now work }
     requires tabled { AreTables catalogue.now work tables.now }
     ensures world { IfOk result (λ first.
-        Represents first.world (begun catalogue.now tables.now work) []) }
+        Represents first.world (first_input catalogue.now tables.now work) []) }
     ensures events { IfOk result (λ first. first.events.items ≡ work.events) }
 {
     let whole = lists.whole();
@@ -87,7 +87,7 @@ fn first_world<'a>(
 }
 
 /// The text for a workload whose lists of classes have these protocol tables.
-fn told<'a>(
+fn text_with_tables<'a>(
     alloc: Global,
     catalogue: &'a Catalogue,
     lists: &'a Lists<'a>,
@@ -129,5 +129,5 @@ pub fn inside_text(
 {
     let lists = lists_of(alloc, catalogue, &work)?;
     let tables = tables_of(alloc, lists.eras())?;
-    told(alloc, catalogue, &lists, tables.as_slice(), work)
+    text_with_tables(alloc, catalogue, &lists, tables.as_slice(), work)
 }

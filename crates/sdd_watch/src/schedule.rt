@@ -3,7 +3,7 @@ ghost use Rattle.std.specs.Prelude.{◌≡◌, ◌+◌, ◌^◌, ◌<◌, ◌≤
 ghost use Rattle.sdd_obligations.specs.All.{Event as Happening, Input, IsGood, IsPossible, IsTheLog, Log, Redeclare, TakesRounds, marks, with_event};
 ghost use Rattle.sdd_run.specs.world.Schedules.{AreAllowed, IsAllowed, lists_after, with_events};
 ghost use Rattle.sdd_run.specs.world.Represents.{EndsBy};
-ghost use Rattle.sdd_watch.specs.Telling.{IsTextOf, IsTold, TellsBetween, TellsRound, TellsSettled};
+ghost use Rattle.sdd_watch.specs.ScheduleSoFar.{IsTextOf, IsTold, TellsBetween, TellsRound, TellsSettled};
 
 use crate::foreseen::{Foreseen, foresee};
 use crate::teller::Teller;

@@ -3,7 +3,7 @@ use Rattle.sdd_world.proofs.All.{Ack, All, All-head, All-tail, AllByRecursion, A
 use Rattle.sdd_obligations.specs.All.{FitsMsg}
 use Rattle.sdd_obligations.specs.net.Sound.{IsOf}
 use Rattle.sdd_world.proofs.Fitting.{sent_fit}
-use Rattle.sdd_world.proofs.Opened.{same_message}
+use Rattle.sdd_world.proofs.ReadMessages.{same_message}
 
 some_is : {A : Type 0} (x y : A) → Some x ≡ Some y → x ≡ y
 some_is x y e = cc

@@ -1,7 +1,7 @@
 mod All
 pub mod Arriving
 pub mod Beginning
-pub mod Begun
+pub mod FirstModules
 pub mod ByTable
 pub mod Carrying
 pub mod Delivering
@@ -16,7 +16,7 @@ pub mod Keeping
 pub mod Marking
 pub mod NextList
 pub mod Numbered
-pub mod Opened
+pub mod ReadMessages
 pub mod Parting
 pub mod Quietness
 pub mod Rounds

@@ -58,7 +58,7 @@ impl<'a> World<'a> {
             → IsNextList g catalogue.now table.now → EndsBy (with_event g Redeclare) }
     {
         self.given.push(Event::Redeclare)?;
-        self.settle_down()?;
+        self.run_rounds()?;
         self.put_in_force(catalogue, table)?;
         Ok(self)
     }

@@ -59,7 +59,7 @@ impl<'a> World<'a> {
         ensures limit { IsErrOf result WorldEnd.Limit → (g : Input) (log : Log) (e : Happening)
             (rest : List Happening) → Rounding self.entry g log e (event.now ∷ rest) → EndsBy g }
     {
-        self.happen(event)?;
+        self.apply_event(event)?;
         Ok(self)
     }
 

@@ -81,7 +81,7 @@ impl<'a> World<'a> {
     }
 
     /// Records that the event found nothing to do.
-    fn note(&mut self) -> Result<(), NoMemory>
+    fn record_nothing(&mut self) -> Result<(), NoMemory>
         requires { All (λ earlier. earlier.0 ≤ self.old.marks) self.old.history }
         ensures same { OnOk result (self.new ≡ record self.old { history = self.new.history }) }
         ensures history { OnOk result (
@@ -98,7 +98,7 @@ impl<'a> World<'a> {
         if self.net.lose(from, to, place) {
             return Ok(());
         }
-        self.note()
+        self.record_nothing()
     }
 
     fn repeat(&mut self, from: Site, to: Site, place: u32) -> Result<(), NoMemory>
@@ -109,7 +109,7 @@ impl<'a> World<'a> {
         if self.net.repeat(from, to, place)? {
             return Ok(());
         }
-        self.note()
+        self.record_nothing()
     }
 
     fn resend(&mut self, from: Site, to: Site) -> Result<(), NoMemory>
@@ -120,7 +120,7 @@ impl<'a> World<'a> {
         if self.net.resend(from, to)? {
             return Ok(());
         }
-        self.note()
+        self.record_nothing()
     }
 
     /// The data module at the site, where it is down.
@@ -180,7 +180,7 @@ impl<'a> World<'a> {
             → Marked self.old g log (Deliver from to place) → EndsBy g }
     {
         match self.net.deliver(from, to, place)? {
-            Delivered::Nothing => Ok(self.note()?),
+            Delivered::Nothing => Ok(self.record_nothing()?),
             Delivered::Acked => Ok(()),
             Delivered::Messages(messages) => self.receive(from, to, messages),
         }
@@ -194,7 +194,7 @@ impl<'a> World<'a> {
         if self.spool.down(dm) {
             return Ok(());
         }
-        self.note()
+        self.record_nothing()
     }
 
     /// Hands over what is kept for a module that came up: one message, with all that it makes due,
@@ -223,7 +223,7 @@ impl<'a> World<'a> {
             → Marked self.old g log (Up dm) → EndsBy g }
     {
         if !self.spool.up(dm) {
-            return Ok(self.note()?);
+            return Ok(self.record_nothing()?);
         }
         self.hand_kept(dm)
     }
@@ -250,7 +250,7 @@ impl<'a> World<'a> {
     }
 
     /// Carries out one event, which is the next.
-    pub(crate) fn happen(&mut self, event: &Event) -> Result<(), WorldEnd>
+    pub(crate) fn apply_event(&mut self, event: &Event) -> Result<(), WorldEnd>
         requires { (g : Input) × (log : Log) × Before self.old g log event.now }
         ensures ok { IfOk result (λ _. (g : Input) (log : Log) → Before self.old g log event.now
             → Happened self.new g log) }
@@ -290,13 +290,13 @@ impl<'a> World<'a> {
     {
         let mut events = VecDeque::from_vec(self.net.round()?);
         while let Some(event) = events.pop_front() {
-            self.happen(&event)?;
+            self.apply_event(&event)?;
         }
         Ok(())
     }
 
     /// Carries out rounds until the world is quiet.
-    pub(crate) fn settle_down(&mut self) -> Result<(), WorldEnd>
+    pub(crate) fn run_rounds(&mut self) -> Result<(), WorldEnd>
         requires { (g : Input) × (log : Log) × (e : Event) × Settling self.old g log e }
         ensures ok { IfOk result (λ _. (g : Input) (log : Log) (e : Event)
             → Settling self.old g log e → IsSettled self.new g e) }
@@ -327,7 +327,7 @@ impl<'a> World<'a> {
             → EndsBy (with_event g event.now) }
     {
         self.given.push(*event)?;
-        self.happen(event)?;
+        self.apply_event(event)?;
         Ok(self)
     }
 
@@ -348,7 +348,7 @@ impl<'a> World<'a> {
             → EndsBy (with_event g Settle) }
     {
         self.given.push(Event::Settle)?;
-        self.settle_down()?;
+        self.run_rounds()?;
         Ok(self)
     }
 }

@@ -1,5 +1,5 @@
 use Rattle.sdd_app.proofs.All.{arith, flat_map, length, take, take_all, ◌+◌, ◌-◌, ◌≡◌}
-use Rattle.sdd_app.proofs.Told.{took_all, took_front, flat_map_at, flat_next, more_taken, piece_more}
+use Rattle.sdd_app.proofs.SinksAndFiles.{took_all, took_front, flat_map_at, flat_next, more_taken, piece_more}
 use Rattle.sdd_app.proofs.telling.tell_pieces.Goals as goal
 
 pub pieces-preserved : goal.pieces-preserved

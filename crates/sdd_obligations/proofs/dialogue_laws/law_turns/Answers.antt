@@ -1,4 +1,4 @@
-use Rattle.sdd_obligations.proofs.Spoken.{spoken}
+use Rattle.sdd_obligations.proofs.ExchangesGoByTurns.{spoken}
 use Rattle.sdd_obligations.proofs.dialogue_laws.law_turns.Goals as goal
 
 pub returns : goal.returns

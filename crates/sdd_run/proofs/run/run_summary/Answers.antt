@@ -2,8 +2,8 @@ use Rattle.sdd_run.proofs.All.{AllZip, IsTable, eras_in, input_of, subst, sym, �
 use Rattle.sdd_run.proofs.Reported.{summed_up}
 use Rattle.sdd_run.proofs.run.run_summary.Goals as goal
 
-pub finished-requires-clause-tabled : goal.finished-requires-clause-tabled
-finished-requires-clause-tabled c =
+pub run_to_end-requires-clause-tabled : goal.run_to_end-requires-clause-tabled
+run_to_end-requires-clause-tabled c =
     let cat = c.args.catalogue.now in
     let tabled = subst (λ ts. AllZip IsTable (eras_in cat c.args.work) ts) (sym c.as_slice-2.ensures.value)
     (subst (λ cats. AllZip IsTable cats c.in_ok-tables.tables.items) (c.eras.ensures ∙ c.in_ok-lists.ensures.eras) c.in_ok-tables.ensures) in

@@ -4,8 +4,8 @@ use Rattle.sdd_obligations.specs.All.{IsTable}
 use Rattle.sdd_run.specs.class_lists.InForce.{eras_in}
 use Rattle.sdd_watch.proofs.inside.inside_text.Goals as goal
 
-pub told-requires-clause-tabled : goal.told-requires-clause-tabled
-told-requires-clause-tabled c =
+pub text_with_tables-requires-clause-tabled : goal.text_with_tables-requires-clause-tabled
+text_with_tables-requires-clause-tabled c =
     let cat = c.args.catalogue.now in
     subst (λ ts. AllZip IsTable (eras_in cat c.args.work) ts) (sym c.as_slice.ensures.value)
     (subst (λ cats. AllZip IsTable cats c.in_ok-tables.tables.items) (c.eras.ensures ∙ c.in_ok-lists.ensures.eras) c.in_ok-tables.ensures)

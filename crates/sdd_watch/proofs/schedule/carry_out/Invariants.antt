@@ -1,7 +1,7 @@
 use Rattle.std.proofs.Common.{◌+◌, ◌≡◌, suc, length}
 use Rattle.sdd_obligations.specs.All.{Input, Log}
 use Rattle.sdd_run.specs.world.Schedules.{AreAllowed, with_events}
-use Rattle.sdd_watch.specs.Telling.{IsTold}
+use Rattle.sdd_watch.specs.ScheduleSoFar.{IsTold}
 use Rattle.sdd_watch.proofs.schedule.carry_out.Given as goal
 
 abbrev pub invariant-loop-event : goal.invariant-loop-event

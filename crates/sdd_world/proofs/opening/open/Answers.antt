@@ -1,4 +1,4 @@
-use Rattle.sdd_world.proofs.Opened.{are_spellings}
+use Rattle.sdd_world.proofs.ReadMessages.{are_spellings}
 use Rattle.sdd_world.proofs.opening.open.Goals as goal
 
 pub open_all-requires : goal.open_all-requires

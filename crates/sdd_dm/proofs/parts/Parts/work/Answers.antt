@@ -1,5 +1,5 @@
 use Rattle.sdd_dm.proofs.All.{State, Worked, refl, steps_left, subst, sym, ◌<◌, ◌∙◌}
-use Rattle.sdd_dm.proofs.Asked.{hand_worked}
+use Rattle.sdd_dm.proofs.AnsweredFromHeldRows.{hand_worked}
 use Rattle.sdd_dm.proofs.FirstDue.{first_is}
 use Rattle.sdd_dm.proofs.Left.{IsWhole, steps_fall, whole_on, whole_handed}
 use Rattle.sdd_dm.proofs.Working.{works_on}

@@ -1,5 +1,5 @@
 use Rattle.sdd_protocol.proofs.All.{condition_by, is_marked, up_to}
-use Rattle.sdd_protocol.proofs.Asking.{chosen_more}
+use Rattle.sdd_protocol.proofs.CollectedValues.{chosen_more}
 use Rattle.sdd_protocol.proofs.protocol_table.Table.conditions.Goals as goal
 
 pub loop-writer-preserved : goal.loop-writer-preserved

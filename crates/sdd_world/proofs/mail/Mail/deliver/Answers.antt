@@ -1,6 +1,6 @@
 use Rattle.sdd_world.proofs.All.{delivery, link}
 use Rattle.sdd_world.proofs.InBytes.{spells_in}
-use Rattle.sdd_world.proofs.Opened.{same_found}
+use Rattle.sdd_world.proofs.ReadMessages.{same_found}
 use Rattle.sdd_world.proofs.mail.Mail.deliver.Goals as goal
 
 pub open-requires : goal.open-requires

@@ -11,8 +11,8 @@ up-requires-clause-first c = let r = c.requires in first_in r.0 r.1 c.args.self.
 pub up-requires-clause-last : goal.up-requires-clause-last
 up-requires-clause-last c = let r = c.requires in last_in r.0 r.1 c.args.self.now.spool c.args.dm _ r.2.possible r.2.spooled
 
-pub note-requires : goal.note-requires
-note-requires c = let r = c.requires in order_of c.args.self.now r.0 r.1 (Up c.args.dm) r.2
+pub record_nothing-requires : goal.record_nothing-requires
+record_nothing-requires c = let r = c.requires in order_of c.args.self.now r.0 r.1 (Up c.args.dm) r.2
 
 pub hand_kept-requires : goal.hand_kept-requires
 hand_kept-requires c =
@@ -24,9 +24,9 @@ hand_kept-requires c =
 
 pub returns-then-not-up-clause-ok : goal.returns-then-not-up-clause-ok
 returns-then-not-up-clause-ok c = λ given log m.
-    wasnt_down c.args.self.now (record c.args.self.now { spool = c.up.new.self }) c.note.new.self given log c.args.dm c.up.result m
+    wasnt_down c.args.self.now (record c.args.self.now { spool = c.up.new.self }) c.record_nothing.new.self given log c.args.dm c.up.result m
     c.up.ensures.turned (c.up.ensures.mailbox, c.up.ensures.count, c.up.ensures.others) c.if-not-up.true
-    refl c.in_ok-note.ensures.same c.in_ok-note.ensures.history
+    refl c.in_ok-record_nothing.ensures.same c.in_ok-record_nothing.ensures.history
 
 pub returns-clause-ok : goal.returns-clause-ok
 returns-clause-ok c = map_ok c.hand_kept.result _ _ c.hand_kept.ensures.ok (λ x f given log m.

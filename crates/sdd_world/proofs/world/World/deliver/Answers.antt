@@ -4,8 +4,8 @@ use Rattle.sdd_world.proofs.Delivering.{arrives, got_ack, got_nothing}
 use Rattle.sdd_world.proofs.Results.{of_ok as map_ok}
 use Rattle.sdd_world.proofs.world.World.deliver.Goals as goal
 
-pub note-requires : goal.note-requires
-note-requires c = let r = c.requires in order_of c.args.self.now r.0 r.1 (Deliver c.args.from c.args.to c.args.place) r.2
+pub record_nothing-requires : goal.record_nothing-requires
+record_nothing-requires c = let r = c.requires in order_of c.args.self.now r.0 r.1 (Deliver c.args.from c.args.to c.args.place) r.2
 
 pub receive-requires : goal.receive-requires
 receive-requires c =
@@ -19,12 +19,12 @@ receive-requires c =
           refl,
     )
 
-pub returns-in_ok-note-in-Nothing-clause-ok : goal.returns-in_ok-note-in-Nothing-clause-ok
-returns-in_ok-note-in-Nothing-clause-ok c = λ given log m.
+pub returns-in_ok-record_nothing-in-Nothing-clause-ok : goal.returns-in_ok-record_nothing-in-Nothing-clause-ok
+returns-in_ok-record_nothing-in-Nothing-clause-ok c = λ given log m.
     got_nothing c.args.self.now
-    c.note.new.self c.deliver.new.self given log c.args.from c.args.to c.args.place
+    c.record_nothing.new.self c.deliver.new.self given log c.args.from c.args.to c.args.place
     c.in_ok-deliver.field-0 m c.in_ok-deliver.ensures.given c.in_ok-deliver.ensures.ok c.in-Nothing.is
-    c.in_ok-note-in-Nothing.ensures.same c.in_ok-note-in-Nothing.ensures.history
+    c.in_ok-record_nothing-in-Nothing.ensures.same c.in_ok-record_nothing-in-Nothing.ensures.history
 
 pub returns-in-Acked-clause-ok : goal.returns-in-Acked-clause-ok
 returns-in-Acked-clause-ok c = λ given log m.

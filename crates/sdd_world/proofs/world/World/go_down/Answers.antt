@@ -14,11 +14,11 @@ pub returns-then-down : goal.returns-then-down
 returns-then-down c = λ given log m. went_down c.args.self.now (record c.args.self.now { spool = c.down.new.self }) given log c.args.dm
     c.down.result m c.down.ensures.turned (c.down.ensures.mailbox, c.down.ensures.count, c.down.ensures.others) c.if-down.true refl
 
-pub note-requires : goal.note-requires
-note-requires c = let r = c.requires in order_of c.args.self.now r.0 r.1 (Down c.args.dm) r.2
+pub record_nothing-requires : goal.record_nothing-requires
+record_nothing-requires c = let r = c.requires in order_of c.args.self.now r.0 r.1 (Down c.args.dm) r.2
 
 pub returns : goal.returns
-returns c = on_ok c.note.result _ _ _ c.note.ensures.same c.note.ensures.history (λ same noted given log m.
-    was_down c.args.self.now (record c.args.self.now { spool = c.down.new.self }) c.note.new.self given log c.args.dm c.down.result
+returns c = on_ok c.record_nothing.result _ _ _ c.record_nothing.ensures.same c.record_nothing.ensures.history (λ same noted given log m.
+    was_down c.args.self.now (record c.args.self.now { spool = c.down.new.self }) c.record_nothing.new.self given log c.args.dm c.down.result
     m c.down.ensures.turned (c.down.ensures.mailbox, c.down.ensures.count, c.down.ensures.others)
     c.if-down.false refl same noted)

@@ -6,11 +6,11 @@ pub returns-then-lose : goal.returns-then-lose
 returns-then-lose c = λ given log m. lost c.args.self.now (record c.args.self.now { net = c.lose.new.self }) given log c.args.from
     c.args.to c.args.place c.lose.result m c.lose.ensures.there c.lose.ensures.ok c.if-lose.true refl
 
-pub note-requires : goal.note-requires
-note-requires c = let r = c.requires in order_of c.args.self.now r.0 r.1 (Lose c.args.from c.args.to c.args.place) r.2
+pub record_nothing-requires : goal.record_nothing-requires
+record_nothing-requires c = let r = c.requires in order_of c.args.self.now r.0 r.1 (Lose c.args.from c.args.to c.args.place) r.2
 
 pub returns : goal.returns
-returns c = on_ok c.note.result _ _ _ c.note.ensures.same c.note.ensures.history (λ same noted given log m.
+returns c = on_ok c.record_nothing.result _ _ _ c.record_nothing.ensures.same c.record_nothing.ensures.history (λ same noted given log m.
     lost_nothing c.args.self.now
-    c.note.new.self c.lose.new.self given log c.args.from c.args.to c.args.place c.lose.result m
+    c.record_nothing.new.self c.lose.new.self given log c.args.from c.args.to c.args.place c.lose.result m
     c.lose.ensures.there c.lose.ensures.ok c.if-lose.false same noted)

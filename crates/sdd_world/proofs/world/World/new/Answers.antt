@@ -1,6 +1,6 @@
 use Rattle.sdd_world.proofs.All.{Carries, Catalogue, Era, [], ap, refl, subst, sym, ◌∙◌}
 use Rattle.sdd_world.proofs.Beginning.{begins}
-use Rattle.sdd_world.proofs.Begun.{all_begun}
+use Rattle.sdd_world.proofs.FirstModules.{all_begun}
 use Rattle.sdd_world.proofs.world.World.new.Goals as goal
 
 pub returns : goal.returns

@@ -7,12 +7,12 @@ returns-then-branch c = λ given log m. repeated c.args.self.now (record c.args.
     c.args.from c.args.to c.args.place c.in_ok-repeat.field-0 m c.in_ok-repeat.ensures.there
     c.in_ok-repeat.ensures.ok c.if-branch.true refl
 
-pub note-requires : goal.note-requires
-note-requires c = let r = c.requires in order_of c.args.self.now r.0 r.1 (Repeat c.args.from c.args.to c.args.place) r.2
+pub record_nothing-requires : goal.record_nothing-requires
+record_nothing-requires c = let r = c.requires in order_of c.args.self.now r.0 r.1 (Repeat c.args.from c.args.to c.args.place) r.2
 
 pub returns : goal.returns
-returns c = on_ok c.note.result _ _ _ c.note.ensures.same c.note.ensures.history (λ same noted given log m.
+returns c = on_ok c.record_nothing.result _ _ _ c.record_nothing.ensures.same c.record_nothing.ensures.history (λ same noted given log m.
     repeated_nothing
-    c.args.self.now c.note.new.self c.repeat.new.self given log c.args.from c.args.to c.args.place
+    c.args.self.now c.record_nothing.new.self c.repeat.new.self given log c.args.from c.args.to c.args.place
     c.in_ok-repeat.field-0 m c.in_ok-repeat.ensures.there c.in_ok-repeat.ensures.ok c.if-branch.false same
     noted)

@@ -7,11 +7,11 @@ returns-then-branch c = λ given log m. resent c.args.self.now (record c.args.se
     c.args.from c.args.to c.in_ok-resend.field-0 m c.in_ok-resend.ensures.some c.in_ok-resend.ensures.ok
     c.if-branch.true refl
 
-pub note-requires : goal.note-requires
-note-requires c = let r = c.requires in order_of c.args.self.now r.0 r.1 (Resend c.args.from c.args.to) r.2
+pub record_nothing-requires : goal.record_nothing-requires
+record_nothing-requires c = let r = c.requires in order_of c.args.self.now r.0 r.1 (Resend c.args.from c.args.to) r.2
 
 pub returns : goal.returns
-returns c = on_ok c.note.result _ _ _ c.note.ensures.same c.note.ensures.history (λ same noted given log m.
+returns c = on_ok c.record_nothing.result _ _ _ c.record_nothing.ensures.same c.record_nothing.ensures.history (λ same noted given log m.
     resent_nothing c.args.self.now
-    c.note.new.self c.resend.new.self given log c.args.from c.args.to c.in_ok-resend.field-0 m
+    c.record_nothing.new.self c.resend.new.self given log c.args.from c.args.to c.in_ok-resend.field-0 m
     c.in_ok-resend.ensures.some c.in_ok-resend.ensures.ok c.if-branch.false same noted)

@@ -18,8 +18,8 @@ loop-event-init c =
           (λ tms dms calls h. c.from_vec-events.ensures.items ∙ c.in_ok-round.ensures tms dms calls h);
     }
 
-pub happen-requires : goal.happen-requires
-happen-requires c = let i = c.loop-event.invariant.some in (
+pub apply_event-requires : goal.apply_event-requires
+apply_event-requires c = let i = c.loop-event.invariant.some in (
   i.0,
   i.1,
   (round_before c.loop-event.self i.0 i.1 i.2 c.loop-event.events.items c.in-Some.event c.pop_front.new.self.items i.3 c.in-Some.ensures.items),
@@ -28,35 +28,35 @@ happen-requires c = let i = c.loop-event.invariant.some in (
 pub loop-event-preserved : goal.loop-event-preserved
 loop-event-preserved c =
     let i = c.loop-event.invariant.some in
-    let h = c.in_ok-happen.ensures.ok i.0 i.1
+    let h = c.in_ok-apply_event.ensures.ok i.0 i.1
     (round_before
     c.loop-event.self i.0 i.1 i.2 c.loop-event.events.items c.in-Some.event c.pop_front.new.self.items i.3
     c.in-Some.ensures.items) in
     let a = round_after
-    c.loop-event.self c.happen.new.self i.0 i.1 i.2 c.loop-event.events.items c.in-Some.event
+    c.loop-event.self c.apply_event.new.self i.0 i.1 i.2 c.loop-event.events.items c.in-Some.event
     c.pop_front.new.self.items i.3 c.in-Some.ensures.items h in
     record {
       some = (i.0, a.0, i.2, a.1);
       so_far = λ given log to s q.
           (let k = c.loop-event.invariant.so_far given log to s q in
           round_after
-          c.loop-event.self c.happen.new.self given k.0 to c.loop-event.events.items c.in-Some.event
+          c.loop-event.self c.apply_event.new.self given k.0 to c.loop-event.events.items c.in-Some.event
           c.pop_front.new.self.items k.1 c.in-Some.ensures.items
-          (c.in_ok-happen.ensures.ok given k.0
+          (c.in_ok-apply_event.ensures.ok given k.0
           (round_before
           c.loop-event.self given k.0 to c.loop-event.events.items c.in-Some.event c.pop_front.new.self.items
           k.1 c.in-Some.ensures.items)));
       count =
-          (let m = one_mark c.loop-event.self c.happen.new.self i.0 i.1 i.3.calm h in
+          (let m = one_mark c.loop-event.self c.apply_event.new.self i.0 i.1 i.3.calm h in
           let l = ap length c.in-Some.ensures.items in
           omega (arith, m, l, c.loop-event.invariant.count));
       began = c.loop-event.invariant.began;
     }
 
-pub returns-in_err-happen-clause-limit : goal.returns-in_err-happen-clause-limit
-returns-in_err-happen-clause-limit c = λ e given log to s q.
+pub returns-in_err-apply_event-clause-limit : goal.returns-in_err-apply_event-clause-limit
+returns-in_err-apply_event-clause-limit c = λ e given log to s q.
     let k = c.loop-event.invariant.so_far given log to s q in
-    c.in_err-happen.ensures.limit (handed_on c.from_residual-in_err-happen.result c.in_err-happen.field-0.0 c.from_residual-in_err-happen.ensures.1 e) given k.0
+    c.in_err-apply_event.ensures.limit (handed_on c.from_residual-in_err-apply_event.result c.in_err-apply_event.field-0.0 c.from_residual-in_err-apply_event.ensures.1 e) given k.0
     (round_before
     c.loop-event.self given k.0 to c.loop-event.events.items c.in-Some.event c.pop_front.new.self.items k.1
     c.in-Some.ensures.items)

@@ -1,5 +1,5 @@
 use Rattle.sdd_world.proofs.All.{Event, Input, Log, Settles, Settling, ◌-◌, ◌^◌}
-use Rattle.sdd_world.proofs.world.World.settle_down.Given as goal
+use Rattle.sdd_world.proofs.world.World.run_rounds.Given as goal
 
 abbrev pub invariant-loop-self : goal.invariant-loop-self
 invariant-loop-self l = record {

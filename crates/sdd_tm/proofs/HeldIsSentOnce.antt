@@ -1,5 +1,5 @@
 -- HELD: on hold, once no class is active, it is what is due, and once.
-use Rattle.sdd_tm.proofs.All.{Act, AllByRecursion, AreSettled, Bases, Bool, Did, Held, IsAmid, IsApart, List, Log, Msg, None, Notes, Option, Question, Sends, Setting, Some, State, Ticking, U, [], active, and_parts, ap, arith, asks, asks_acted, asks_of, bound_of, class_of, class_view, clock, false, held_due, held_of, holds, if◌then◌else◌, is_idle, is_none, le-ltb, line_apart, list_all, ltb-true, map, nat_lt, ne_eqb, next, noted, on_hold, queue, refl, runs, sent_apart, served_sent, stamped_did, state_of, subst, suc, sym, time_at, told, told_by, true, view_of, with_act, ℕ, ◌&&◌, ◌<◌, ◌==◌, ◌∙◌, ◌∷◌, ◌≡◌, ◌≢◌}
+use Rattle.sdd_tm.proofs.All.{Act, AllByRecursion, AreSettled, Bases, Bool, Did, Held, IsAmid, IsApart, List, Log, Msg, None, Notes, Option, Question, Sends, Setting, Some, State, Ticking, U, [], active, after_held, after_held_act, and_parts, ap, arith, asks, asks_acted, asks_of, bound_of, class_of, class_view, clock, false, held_due, held_of, holds, if◌then◌else◌, is_idle, is_none, le-ltb, line_apart, list_all, ltb-true, map, nat_lt, ne_eqb, next, on_hold, queue, refl, runs, sent_apart, served_sent, stamped_did, state_of, subst, suc, sym, time_at, true, view_of, with_act, with_due_act, ℕ, ◌&&◌, ◌<◌, ◌==◌, ◌∙◌, ◌∷◌, ◌≡◌, ◌≢◌}
 use Rattle.sdd_tm.proofs.Lists.{some_is, map_same}
 use Rattle.sdd_tm.proofs.OpenAsks.{without_hand, open_did}
 use Rattle.sdd_tm.proofs.Dues.{held_is_due}
@@ -71,7 +71,7 @@ told_amid s bases log amid h =
 pub record Tells (s : Setting) (bases : Bases) (log : Log) (state : State) (act : Act) : Type 0 where
   pub hand : ℕ
   pub is_due : next s bases log ≡ Some (Sends U (Held (time_at (bound_of state.clock))) (Some hand))
-  pub notes : (n : Notes) → noted (Some act) n ≡ with_act (Sends U (Held (time_at (bound_of state.clock))) (Some hand)) n
+  pub notes : (n : Notes) → with_due_act (Some act) n ≡ with_act (Sends U (Held (time_at (bound_of state.clock))) (Some hand)) n
   pub amid : IsAmid s bases (record state { owes_held = false }) (Did (Sends U (Held (time_at (bound_of state.clock))) (Some hand)) ∷ log)
 
 held_if : (b : Bool) (x act : Act) → (if b then Some x else None) ≡ Some act → (b ≡ true) × (x ≡ act)
@@ -130,18 +130,18 @@ paid_off state = off state.on_hold (list_all is_idle state.classes) (Sends U (He
     off true true x = refl
     off _ _ x = refl
 
-told_off : (state : State) (o : Option Act) → held_of state ≡ o → held_of (told_by state o) ≡ None
+told_off : (state : State) (o : Option Act) → held_of state ≡ o → held_of (after_held_act state o) ≡ None
 told_off state None e = e
 told_off state (Some act) e = paid_off state
 
-pub told_once : (state : State) → held_of (told state) ≡ None
+pub told_once : (state : State) → held_of (after_held state) ≡ None
 told_once state = told_off state (held_of state) refl
 
-told_settled_by : (state : State) (o : Option Act) → AreSettled state → AreSettled (told_by state o)
+told_settled_by : (state : State) (o : Option Act) → AreSettled state → AreSettled (after_held_act state o)
 told_settled_by state None settled = settled
 told_settled_by state (Some act) settled = settled
 
-pub told_settled : (state : State) → AreSettled state → AreSettled (told state)
+pub told_settled : (state : State) → AreSettled state → AreSettled (after_held state)
 told_settled state settled = told_settled_by state (held_of state) settled
 
 -- a tick makes none due

@@ -1,9 +1,9 @@
 -- A site that makes attempts asks in turn, where each answer that is handed to it comes in turn.
-use Rattle.sdd_obligations.proofs.All.{Act, Asks, Attempt, Bases, Bool, D, Did, Each, Fetch, Handed, IsFair, IsOfUses, IsSend, IsStep, IsStrict, List, MayAsk, Msg, None, Option, Phase, Queued, Read, Reading, Redeclared, Reduce, Sends, Setting, Ship, Silent, Site, Some, Submits, Ticked, Turn, [], a_held, a_hold, a_null, a_release, active, active_sent, after_send, and_left, and_no, ap, arith, ascending, asked, asked_by, asks_rows, asks_whose, begins, commit_act, commit_puts, cond, contains, differ, dm_no, drawn_at, eqb-true, false, first_phase, fragments_in, head_of, if_way, if◌then◌else◌, inl, inr, is_a_read, is_exchanging, is_over, is_question, last_stamp, modules_asked, next_stamp, not_both, not_true as asks_not, number_of, of_exchange, questions, queue, refl, same_number, same_or_not, same_site, sends_of_act, site_is, stamp_below_next, stamp_rises, start_at, start_read, started, step_way_over, strict_modules, subst, sym, tail_of, to_site, true, turn_at, uses_by, uses_in, uses_of, ℕ, ◌&&◌, ◌<◌, ◌==◌, ◌∙◌, ◌∷◌, ◌≡◌, ◌⊎◌}
+use Rattle.sdd_obligations.proofs.All.{Act, Asks, Attempt, Bases, Bool, D, Did, Each, Fetch, Handed, IsFair, IsOfUses, IsSend, IsStep, IsStrict, List, MayAsk, Msg, None, Option, Phase, Queued, Read, Reading, Redeclared, Reduce, Sends, Setting, Ship, Silent, Site, Some, Submits, Ticked, Turn, [], a_held, a_hold, a_null, a_release, active, active_sent, after_send, and_left, and_no, ap, arith, ascending, asked_by, asks_rows, asks_whose, begins, commit_act, commit_puts, cond, contains, differ, dm_no, drawn_at, eqb-true, false, first_phase, fragments_in, head_of, if_way, if◌then◌else◌, inl, inr, is_a_read, is_exchanging, is_over, is_question, last_stamp, modules_asked, next_stamp, not_both, not_true as asks_not, number_of, of_exchange, questions, queue, refl, same_number, same_or_not, same_site, sends_of_act, site_is, stamp_below_next, stamp_rises, start_at, start_read, started, step_way_over, strict_modules, subst, sym, tail_of, to_site, true, turn_after_question, turn_at, uses_by, uses_in, uses_of, ℕ, ◌&&◌, ◌<◌, ◌==◌, ◌∙◌, ◌∷◌, ◌≡◌, ◌⊎◌}
 use Rattle.sdd_obligations.proofs.AtTurn.{IsAt, IsAtTurn, answered_last, apart, awaited, awaits, unsent}
 use Rattle.sdd_obligations.proofs.FirstSends.{IsFirstEach, IsFirstSend}
 use Rattle.sdd_obligations.proofs.Modules.{firsts, read_firsts, read_modules, read_uses, sent_to_each, to_module, below_not as not_below}
-use Rattle.sdd_obligations.proofs.Hearing.{AllAtTurn, AtTurn, InTurn, IsStrictOf, IsTimely, Turns, asked_one, in_turn_hand, quiet_but, quiet_over, turns_now}
+use Rattle.sdd_obligations.proofs.HandedAnswersKeepTurns.{AllAtTurn, AtTurn, InTurn, IsStrictOf, IsTimely, Turns, asked_one, in_turn_hand, quiet_but, quiet_over, turns_now}
 use Rattle.sdd_obligations.proofs.Replying.{asks_no_a_read as asks_no_read}
 use Rattle.sdd_obligations.proofs.FitsAtT.{own as own_started}
 use Rattle.sdd_obligations.proofs.Stages.{nothing as nothing_there}
@@ -30,14 +30,14 @@ uses_kept _ ns e = refl
 
 -- the turns after a question to a site
 abbrev after_question : ℕ → Site → Msg → Turns → Turns
-after_question c to m v ts d = if same_site (D (dm_no d)) to && asks_rows ts c m then asked m (v ts d) else v ts d
+after_question c to m v ts d = if same_site (D (dm_no d)) to && asks_rows ts c m then turn_after_question m (v ts d) else v ts d
 
 cons_is : (m n : Msg) (ms ns : List Msg) → m ∷ ms ≡ n ∷ ns → (m ≡ n) × (ms ≡ ns)
 cons_is m n ms ns e = (cc, cc)
 
 -- the first message is sent
 sent_at : (n d : ℕ) (m : Msg) (rest : List (ℕ × Msg)) (ms : List (ℕ × List ℕ)) (p : Phase) (lacks : List ℕ) (v : Turn) (b : Bool)
-    → is_a_read m ≡ false → (d == n) ≡ b → IsAt d ms p ((n, m) ∷ rest) lacks v → IsAt d ms p rest lacks (if b then asked m v else v)
+    → is_a_read m ≡ false → (d == n) ≡ b → IsAt d ms p ((n, m) ∷ rest) lacks v → IsAt d ms p rest lacks (if b then turn_after_question m v else v)
 sent_at n d m rest ms p lacks v true r z (unsent q x ns a i e s u w f g) =
     let k = cons_is m q (to_module d rest) [] (subst (λ (b : Bool). (if b then m ∷ to_module d rest else to_module d rest) ≡ q ∷ []) z a) in
     awaited m ns k.1 i (ap (λ l. Asks l m) (uses_kept m (uses_in v) r ∙ ap uses_in e)) (subst (λ y. awaits p y ≡ true) (sym k.0) w) f g
@@ -58,8 +58,8 @@ sent_at n d m rest ms p lacks v false r z (apart a i e g) = apart (subst (λ (b 
 -- where no question is sent
 not_asked_turn : (c : ℕ) (to : Site) (m : Msg) (v : Turns) (ts d : ℕ) → asks_rows ts c m ≡ false → after_question c to m v ts d ≡ v ts d
 not_asked_turn c to m v ts d e =
-    ap (λ (b : Bool). if same_site (D (dm_no d)) to && b then asked m (v ts d) else v ts d) e
-    ∙ ap (λ (b : Bool). if b then asked m (v ts d) else v ts d) (and_no (same_site (D (dm_no d)) to))
+    ap (λ (b : Bool). if same_site (D (dm_no d)) to && b then turn_after_question m (v ts d) else v ts d) e
+    ∙ ap (λ (b : Bool). if b then turn_after_question m (v ts d) else v ts d) (and_no (same_site (D (dm_no d)) to))
 
 pub one_attempt : (s : Setting) (c : ℕ) (log : Log) (a b : Attempt) → active s c log ≡ Some a → active s c log ≡ Some b → b ≡ a
 one_attempt s c log a b e f = let p : Some a ≡ Some b = sym e ∙ f in cc
@@ -83,10 +83,10 @@ asked_own s c log to m hand a v ts d first e h q =
     sends ((h a.ts d).0 refl) in
     let now = sent_at f.module_no d m f.rest a.exchange.modules a.exchange.phase a.exchange.lacks (v a.ts d)
     (d == f.module_no) (asks_no_read a.ts c m q) refl at in
-    let turn_is : (if d == f.module_no then asked m (v a.ts d) else v a.ts d) ≡ after_question c to m v a.ts d =
-    sym (ap (λ x. if same_site (D (dm_no d)) x && asks_rows a.ts c m then asked m (v a.ts d) else v a.ts d)
-    f.to_is ∙ ap (λ (b : Bool). if (d == f.module_no) && b then asked m (v a.ts d) else v a.ts d) q
-    ∙ and_true (d == f.module_no) (asked m (v a.ts d)) (v a.ts d)) in
+    let turn_is : (if d == f.module_no then turn_after_question m (v a.ts d) else v a.ts d) ≡ after_question c to m v a.ts d =
+    sym (ap (λ x. if same_site (D (dm_no d)) x && asks_rows a.ts c m then turn_after_question m (v a.ts d) else v a.ts d)
+    f.to_is ∙ ap (λ (b : Bool). if (d == f.module_no) && b then turn_after_question m (v a.ts d) else v a.ts d) q
+    ∙ and_true (d == f.module_no) (turn_after_question m (v a.ts d)) (v a.ts d)) in
     subst (λ l. IsAt d a.exchange.modules a.exchange.phase l a.exchange.lacks (after_question c to m v a.ts d)) (sym (ap tail_of sends))
     (subst (λ w. IsAt d a.exchange.modules a.exchange.phase f.rest a.exchange.lacks w) turn_is now)
 
@@ -122,7 +122,7 @@ send_turn : (s : Setting) (c : ℕ) (log : Log) (to : Site) (m : Msg) (hand : Op
     → turn_at ts c d (Did (Sends to m hand) ∷ log) ≡ after_question c to m (λ ts d. turn_at ts c d log) ts d
 send_turn s c log to m hand ts d i =
     asked_one ts c (same_site (D (dm_no d)) to) m (turn_at ts c d log)
-    ∙ ap (λ (b : Bool). if same_site (D (dm_no d)) to && b then asked m (turn_at ts c d log) else turn_at ts c d log) (send_is_question s log ts c m i)
+    ∙ ap (λ (b : Bool). if same_site (D (dm_no d)) to && b then turn_after_question m (turn_at ts c d log) else turn_at ts c d log) (send_is_question s log ts c m i)
 
 drawn_question : (s : Setting) (c : ℕ) (log : Log) (to : Site) (m : Msg) (hand : Option ℕ) (ts : ℕ) → Each (IsFair s) log
     → IsFirstSend s log (Sends to m hand) → last_stamp s log < ts → asks_rows ts c m ≡ false
@@ -149,7 +149,7 @@ strict_asked s k q = strict_modules s.catalogue k (ascending (fragments_in (uses
 
 abbrev after_start : Setting → ℕ → Log → Queued → ℕ → Turns → Turns
 after_start s k log q c v ts d =
-    if contains (modules_asked s k q.text) d && ((next_stamp s log == ts) && (k == c)) then asked (start_read s k log q d) (v ts d) else v ts d
+    if contains (modules_asked s k q.text) d && ((next_stamp s log == ts) && (k == c)) then turn_after_question (start_read s k log q d) (v ts d) else v ts d
 
 start_turn : (s : Setting) (k : ℕ) (log : Log) (q : Queued) (c ts d : ℕ)
     → turn_at ts c d (Did (start_at s k log q) ∷ log) ≡ after_start s k log q c (λ ts d. turn_at ts c d log) ts d
@@ -160,8 +160,8 @@ start_turn s k log q c ts d =
 not_started_turn : (s : Setting) (k : ℕ) (log : Log) (q : Queued) (c ts d : ℕ) (v : Turns) → ((next_stamp s log == ts) && (k == c)) ≡ false
     → after_start s k log q c v ts d ≡ v ts d
 not_started_turn s k log q c ts d v e =
-    ap (λ (b : Bool). if contains (modules_asked s k q.text) d && b then asked (start_read s k log q d) (v ts d) else v ts d) e
-    ∙ ap (λ (b : Bool). if b then asked (start_read s k log q d) (v ts d) else v ts d) (and_no (contains (modules_asked s k q.text) d))
+    ap (λ (b : Bool). if contains (modules_asked s k q.text) d && b then turn_after_question (start_read s k log q d) (v ts d) else v ts d) e
+    ∙ ap (λ (b : Bool). if b then turn_after_question (start_read s k log q d) (v ts d) else v ts d) (and_no (contains (modules_asked s k q.text) d))
 
 first_reading : (ms : List (ℕ × List ℕ)) (d : ℕ) → contains (firsts ms) d ≡ true → first_phase ms ≡ Reading
 first_reading [] d e = cc
@@ -178,17 +178,17 @@ start_stands s k log q d v e =
     let f : ℕ → Msg = start_read s k log q in
     let ms : List (ℕ × List ℕ) = read_modules f ds in
     let all : firsts ms ≡ ds = read_firsts f (start_numbers s k log q) ds (λ x. refl) in
-    let own : after_start s k log q k v n d ≡ (if contains ds d then asked (f d) (v n d) else v n d) =
-    ap (λ (b : Bool). if contains ds d && b then asked (f d) (v n d) else v n d) (own_started n k) ∙ and_true (contains ds d) (asked (f d) (v n d)) (v n d) in
+    let own : after_start s k log q k v n d ≡ (if contains ds d then turn_after_question (f d) (v n d) else v n d) =
+    ap (λ (b : Bool). if contains ds d && b then turn_after_question (f d) (v n d) else v n d) (own_started n k) ∙ and_true (contains ds d) (turn_after_question (f d) (v n d)) (v n d) in
     elim (contains ds d) as (λ b. contains ds d ≡ b → IsAtTurn d (begins q.text (sends_of_act (start_at s k log q))) (after_start s k log q k v n d)) [
       | true ↦ λ b.
           let here : contains (firsts ms) d ≡ true = ap (λ l. contains l d) all ∙ b in
-          awaited (f d) (start_numbers s k log q d) refl here (own ∙ ap (λ (x : Bool). if x then asked (f d) (v n d) else v n d) b)
+          awaited (f d) (start_numbers s k log q d) refl here (own ∙ ap (λ (x : Bool). if x then turn_after_question (f d) (v n d) else v n d) b)
           (subst (λ p. awaits p (f d) ≡ true) (sym (first_reading ms d here)) refl)
           (read_uses f (start_numbers s k log q) ds d (λ x. refl) (strict_asked s k q) b) here
       | false ↦ λ b.
           let here : contains (firsts ms) d ≡ false = ap (λ l. contains l d) all ∙ b in
-          apart refl here (own ∙ ap (λ (x : Bool). if x then asked (f d) (v n d) else v n d) b ∙ e) here
+          apart refl here (own ∙ ap (λ (x : Bool). if x then turn_after_question (f d) (v n d) else v n d) b ∙ e) here
     ] refl
 
 start_turns : (s : Setting) (k : ℕ) (log : Log) (q : Queued) (v : Turns) → ((d : ℕ) → v (next_stamp s log) d ≡ Silent) → AllAtTurn None v
@@ -293,7 +293,7 @@ in_turn s c (Submits n txn ∷ log) fair first timely =
     record { turns = i.turns; fresh = λ ts d l. i.fresh ts d (let r = stamp_rises s (Submits n txn) log in omega (arith, l, r)); strict = i.strict }
 in_turn s c (Did act ∷ log) fair first timely = in_turn_act s c log act fair.1 fair.0 first.0 (in_turn s c log fair.1 first.1 timely.1)
 
--- what the site puts is asked in turn
+-- what the site puts is turn_after_question in turn
 
 abbrev pub IsInTurn : Turn → List Msg → Type 0
 IsInTurn v ms = (ms ≡ []) ⊎ ((m : Msg) × (ms ≡ m ∷ []) × MayAsk v m)

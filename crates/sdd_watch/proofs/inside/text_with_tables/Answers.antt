@@ -1,12 +1,12 @@
 use Rattle.std.proofs.Common.{[], ◌∙◌, ap, length, subst, sym}
 use Rattle.sdd_obligations.specs.base.Words.{tail_of}
 use Rattle.sdd_obligations.specs.All.{IsSoundCatalogue}
-use Rattle.sdd_run.specs.Runs.{begun, eras_with_tables}
+use Rattle.sdd_run.specs.Runs.{eras_with_tables, first_input}
 use Rattle.sdd_run.proofs.Forces.{tables_are}
 use Rattle.sdd_run.proofs.Reported.{ended}
 use Rattle.sdd_run.proofs.world.Failing.{handed_on}
 use Rattle.sdd_watch.proofs.BegunTold.{begins_all, inside_of}
-use Rattle.sdd_watch.proofs.inside.told.Goals as goal
+use Rattle.sdd_watch.proofs.inside.text_with_tables.Goals as goal
 
 pub further-requires : goal.further-requires
 further-requires c =
@@ -14,7 +14,7 @@ further-requires c =
 
 pub begin-requires : goal.begin-requires
 begin-requires c =
-    (begun c.args.catalogue.now c.args.tables.now c.args.work, c.in_ok-first.ensures.world, c.whole-whole.ensures ∙ c.requires.whole)
+    (first_input c.args.catalogue.now c.args.tables.now c.args.work, c.in_ok-first.ensures.world, c.whole-whole.ensures ∙ c.requires.whole)
 
 pub carry_out-requires : goal.carry_out-requires
 carry_out-requires c =
@@ -25,8 +25,8 @@ carry_out-requires c =
     let begins = begins_all cat tables work (subst IsSoundCatalogue is c.known.ensures.sound) c.requires.valid c.requires.tabled c.in_ok-first.first.world
     c.in_ok-first.first.events.items c.in_ok-further.further.items c.in_ok-teller.teller c.in_ok-first.ensures.world c.in_ok-first.ensures.events
     (c.in_ok-further.ensures ∙ ap (λ cats. tail_of (eras_with_tables cats tables)) (c.eras.ensures ∙ c.requires.eras))
-    (c.in_ok-teller.ensures (begun cat tables work) c.in_ok-first.ensures.world is) in
-    (begun cat tables work, [], begins.told, begins.allowed, begins.few)
+    (c.in_ok-teller.ensures (first_input cat tables work) c.in_ok-first.ensures.world is) in
+    (first_input cat tables work, [], begins.told, begins.allowed, begins.few)
 
 pub returns-clause-text : goal.returns-clause-text
 returns-clause-text c =
@@ -37,9 +37,9 @@ returns-clause-text c =
     let begins = begins_all cat tables work (subst IsSoundCatalogue is c.known.ensures.sound) c.requires.valid c.requires.tabled c.in_ok-first.first.world
     c.in_ok-first.first.events.items c.in_ok-further.further.items c.in_ok-teller.teller c.in_ok-first.ensures.world c.in_ok-first.ensures.events
     (c.in_ok-further.ensures ∙ ap (λ cats. tail_of (eras_with_tables cats tables)) (c.eras.ensures ∙ c.requires.eras))
-    (c.in_ok-teller.ensures (begun cat tables work) c.in_ok-first.ensures.world is) in
+    (c.in_ok-teller.ensures (first_input cat tables work) c.in_ok-first.ensures.world is) in
     inside_of cat tables work c.requires.tabled c.in_ok-first.first.events.items c.in_ok-first.ensures.events _
-    (c.in_ok-carry_out.ensures.text (begun cat tables work) [] begins.told begins.allowed)
+    (c.in_ok-carry_out.ensures.text (first_input cat tables work) [] begins.told begins.allowed)
 
 pub returns-in_err-carry_out-clause-limit : goal.returns-in_err-carry_out-clause-limit
 returns-in_err-carry_out-clause-limit c = λ err.
@@ -50,8 +50,8 @@ returns-in_err-carry_out-clause-limit c = λ err.
     let begins = begins_all cat tables work (subst IsSoundCatalogue is c.known.ensures.sound) c.requires.valid c.requires.tabled c.in_ok-first.first.world
     c.in_ok-first.first.events.items c.in_ok-further.further.items c.in_ok-teller.teller c.in_ok-first.ensures.world c.in_ok-first.ensures.events
     (c.in_ok-further.ensures ∙ ap (λ cats. tail_of (eras_with_tables cats tables)) (c.eras.ensures ∙ c.requires.eras))
-    (c.in_ok-teller.ensures (begun cat tables work) c.in_ok-first.ensures.world is) in
+    (c.in_ok-teller.ensures (first_input cat tables work) c.in_ok-first.ensures.world is) in
     ended cat tables work c.requires.tabled c.in_ok-first.first.events.items c.in_ok-first.ensures.events
     (c.in_err-carry_out.ensures.limit
     (handed_on c.from_residual-in_err-carry_out.result c.in_err-carry_out.field-0.0 c.from_residual-in_err-carry_out.ensures.1 err)
-    (begun cat tables work) [] begins.told begins.allowed)
+    (first_input cat tables work) [] begins.told begins.allowed)

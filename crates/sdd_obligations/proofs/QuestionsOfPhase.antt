@@ -1,9 +1,9 @@
 -- Along the log of the site of a class the questions of the active attempt are those of its phase.
-use Rattle.sdd_obligations.proofs.All.{Act, AllByRecursion, Asks, AsksPhase, Attempt, Bases, D, Did, DmNo, Each, Handed, IsFair, IsStep, List, Msg, None, Option, Queued, Redeclared, Reject, Sends, Setting, Silent, Site, Some, Submits, T, Ticked, Turn, U, [], active, active_handed, active_sent, after_hand, after_send, and_no, ap, asked, asked_by, asks_rows, commit_act, commit_puts, cond, dm_no, false, head_of, if◌then◌else◌, inl, inr, is_a_read, is_a_refusal, is_answer, is_question, next_stamp, question_of, questions, queue, refl, rejects, same_number, same_or_not, same_site, sends_of_act, stamp_below_next, start_at, start_puts, start_read, started, step_way, subst, sym, tail_of, to_site, told, true, turn_at, uses_by, uses_in, ℕ, ◌&&◌, ◌==◌, ◌∙◌, ◌∷◌, ◌≡◌, ◌⊎◌}
-use Rattle.sdd_obligations.proofs.Asking.{in_turn, send_is_question, one_attempt as one_active, and_true}
+use Rattle.sdd_obligations.proofs.All.{Act, AllByRecursion, Asks, AsksPhase, Attempt, Bases, D, Did, DmNo, Each, Handed, IsFair, IsStep, List, Msg, None, Option, Queued, Redeclared, Reject, Sends, Setting, Silent, Site, Some, Submits, T, Ticked, Turn, U, [], active, active_handed, active_sent, after_hand, after_send, and_no, ap, asked_by, asks_rows, commit_act, commit_puts, cond, dm_no, false, head_of, if◌then◌else◌, inl, inr, is_a_read, is_a_refusal, is_answer, is_question, next_stamp, question_of, questions, queue, refl, rejects, same_number, same_or_not, same_site, sends_of_act, stamp_below_next, start_at, start_puts, start_read, started, step_way, subst, sym, tail_of, to_site, true, turn_after_answer, turn_after_question, turn_at, uses_by, uses_in, ℕ, ◌&&◌, ◌==◌, ◌∙◌, ◌∷◌, ◌≡◌, ◌⊎◌}
+use Rattle.sdd_obligations.proofs.QuestionsComeInTurn.{in_turn, send_is_question, one_attempt as one_active, and_true}
 use Rattle.sdd_obligations.proofs.AtTurn.{IsAtTurn, hand_not}
 use Rattle.sdd_obligations.proofs.FirstSends.{IsFirstEach, IsFirstSend}
-use Rattle.sdd_obligations.proofs.Hearing.{AtTurn, InTurn, IsTimely, asked_one, told_one}
+use Rattle.sdd_obligations.proofs.HandedAnswersKeepTurns.{AtTurn, InTurn, IsTimely, asked_one, told_one}
 use Rattle.sdd_obligations.proofs.Questions.{after_answer, hand_asks}
 use Rattle.sdd_obligations.proofs.InStep.{never}
 use Rattle.sdd_invariants.specs.site_module.SiteLog.{Log}
@@ -39,13 +39,13 @@ hand_phase s c log n m (Some a) e turns timely h =
       | false ↦ λ r. elim (is_answer a.ts c m) as (λ b. is_answer a.ts c m ≡ b → AsksPhase a.ts c (after_hand a.ts c n.0 m a.exchange) w) [
         | true ↦ λ own.
             let now : (d : ℕ) → w d ≡ after_answer n.0 m v d = λ d. told_one a.ts c (d == n.0) m (v d)
-            ∙ ap (λ b. if (d == n.0) && b then told m (v d) else v d) own ∙ and_true (d ==
-            n.0) (told m (v d)) (v d) in
+            ∙ ap (λ b. if (d == n.0) && b then turn_after_answer m (v d) else v d) own ∙ and_true (d ==
+            n.0) (turn_after_answer m (v d)) (v d) in
             subst (AsksPhase a.ts c (after_hand a.ts c n.0 m a.exchange)) (λ i d. sym (now d) i)
             (hand_asks a.ts c n.0 m v a.exchange own (not_refusal a.ts c m own r) (at_turn_of s c log a turns e) (timely a.ts n.0 refl own) h)
         | false ↦ λ own.
-            let now : (d : ℕ) → w d ≡ v d = λ d. told_one a.ts c (d == n.0) m (v d) ∙ ap (λ b. if (d == n.0) && b then told m (v d) else v d) own
-            ∙ ap (λ b. if b then told m (v d) else v d) (and_no (d == n.0)) in
+            let now : (d : ℕ) → w d ≡ v d = λ d. told_one a.ts c (d == n.0) m (v d) ∙ ap (λ b. if (d == n.0) && b then turn_after_answer m (v d) else v d) own
+            ∙ ap (λ b. if b then turn_after_answer m (v d) else v d) (and_no (d == n.0)) in
             subst (AsksPhase a.ts c (after_hand a.ts c n.0 m a.exchange)) (λ i d. sym (now d) i)
             (subst (λ x. AsksPhase a.ts c x v) (sym (hand_not a.ts c n.0 a.exchange m own)) h)
       ] refl
@@ -59,7 +59,7 @@ asked_none ts c ms v e = ap (λ l. asked_by l v) e
 abbrev AreReads : List Msg → Type 0
 AreReads ms = (ms ≡ []) ⊎ ((m : Msg) × (ms ≡ m ∷ []) × (is_a_read m ≡ true))
 
-asks_the_read : (m q : Msg) (v : Turn) (ns : List ℕ) → asked m v ≡ Asks ns q → m ≡ q
+asks_the_read : (m q : Msg) (v : Turn) (ns : List ℕ) → turn_after_question m v ≡ Asks ns q → m ≡ q
 asks_the_read m q v ns e = let p : Asks (uses_by m (uses_in v)) m ≡ Asks ns q = e in cc
 
 read_turn : (ts c : ℕ) (ms : List Msg) (v : Turn) (ns : List ℕ) (q : Msg) → AreReads ms → v ≡ Silent
@@ -129,7 +129,7 @@ commit_phase s k c bases a log h = elim (k == c) as (λ b. AllAskPhase c (Did (c
 
 send_turn : (s : Setting) (c ts d : ℕ) (log : Log) (to : Site) (m : Msg) (hand : Option ℕ)
     → turn_at ts c d (Did (Sends to m hand) ∷ log) ≡ (if same_site (D (dm_no d)) to && is_question ts c m
-    then asked m (turn_at ts c d log) else turn_at ts c d log)
+    then turn_after_question m (turn_at ts c d log) else turn_at ts c d log)
 send_turn s c ts d log to m hand = asked_one ts c (same_site (D (dm_no d)) to) m (turn_at ts c d log)
 
 sent_phase : (s : Setting) (c : ℕ) (log : Log) (to : Site) (m : Msg) (hand : Option ℕ) (o : Option Attempt)
@@ -151,15 +151,15 @@ sent_phase s c log to m hand (Some a) e first same h =
             sends = subst (AllByRecursion (λ (p : ℕ × Msg). p.1 ≡ question_of a.ts c a.exchange)) (sym (ap tail_of sends)) all.1;
             asked = λ d ns x k r.
                 elim (same_site (D (dm_no d)) to && is_question a.ts c m) as (λ b.
-                (if b then asked m (v d) else v d) ≡ Asks ns x → x ≡ question_of a.ts c a.exchange) [
+                (if b then turn_after_question m (v d) else v d) ≡ Asks ns x → x ≡ question_of a.ts c a.exchange) [
                   | true ↦ λ z. sym (asks_the_read m x (v d) ns z) ∙ all.0
                   | false ↦ λ z. h.asked d ns x z r
                 ] (sym (send_turn s c a.ts d log to m hand) ∙ k);
           }
       | false ↦ λ q.
           let now : (d : ℕ) → w d ≡ v d = λ d. send_turn s c a.ts d log to m hand
-          ∙ ap (λ b. if same_site (D (dm_no d)) to && b then asked m (v d) else v d) (same a.ts ∙ q)
-          ∙ ap (λ b. if b then asked m (v d) else v d) (and_no (same_site (D (dm_no d)) to)) in
+          ∙ ap (λ b. if same_site (D (dm_no d)) to && b then turn_after_question m (v d) else v d) (same a.ts ∙ q)
+          ∙ ap (λ b. if b then turn_after_question m (v d) else v d) (and_no (same_site (D (dm_no d)) to)) in
           subst (AsksPhase a.ts c a.exchange) (λ i d. sym (now d) i) h
     ] refl
 

@@ -1,7 +1,7 @@
 use Rattle.sdd_world.proofs.All.{arith, sym, ◌∙◌}
 use Rattle.sdd_world.proofs.Failing.{handed_on}
 use Rattle.sdd_world.proofs.Rounds.{few}
-use Rattle.sdd_world.proofs.world.World.settle_down.Goals as goal
+use Rattle.sdd_world.proofs.world.World.run_rounds.Goals as goal
 
 pub loop-self-smaller : goal.loop-self-smaller
 loop-self-smaller c =

@@ -1,6 +1,6 @@
 -- A data module answers in turn, where each question that is handed to it comes in turn.
-use Rattle.sdd_obligations.proofs.All.{Act, Answer, Apply, Asks, Bool, Cond, Did, Done, Each, Handed, IsClassHere, IsDueEach, List, Msg, Null, Open, Pass, Pipe, Read, Ready, Rec, Records, Refused, Reject, Rejected, Sends, Setting, Site, Some, Told, Ts, Turn, U, Wait, Write, [], and_right as and_right_of, answers, ap, ask_for, at_seam, cond, done_for, eqb-true, false, filter, frozen, goes_through, head, head_of, head_processed, home_of, if_way, if◌then◌else◌, inl, inr, is_a_refusal, is_answer, is_processing, is_read, length, map, not_own, opens, own_record, pipe, pipe_acted, processed_more, put, reads_asked, refl, rows_asked, same_or_not, same_site, site_self, slice_get, source_of, subst, sym, tail_of, to_site, told, told_by, true, turn_with, ℕ, ◌&&◌, ◌++◌, ◌==◌, ◌∙◌, ◌∷◌, ◌≡◌}
-use Rattle.sdd_obligations.proofs.Hearing.{told_one}
+use Rattle.sdd_obligations.proofs.All.{Act, Answer, Apply, Asks, Bool, Cond, Did, Done, Each, Handed, IsClassHere, IsDueEach, List, Msg, Null, Open, Pass, Pipe, Read, Ready, Rec, Records, Refused, Reject, Rejected, Sends, Setting, Site, Some, Told, Ts, Turn, U, Wait, Write, [], and_right as and_right_of, answers, ap, ask_for, at_seam, cond, done_for, eqb-true, false, filter, frozen, goes_through, head, head_of, head_processed, home_of, if_way, if◌then◌else◌, inl, inr, is_a_refusal, is_answer, is_processing, is_read, length, map, not_own, opens, own_record, pipe, pipe_acted, processed_more, put, reads_asked, refl, rows_asked, same_or_not, same_site, site_self, slice_get, source_of, subst, sym, tail_of, to_site, told_by, true, turn_after_answer, turn_with, ℕ, ◌&&◌, ◌++◌, ◌==◌, ◌∙◌, ◌∷◌, ◌≡◌}
+use Rattle.sdd_obligations.proofs.HandedAnswersKeepTurns.{told_one}
 use Rattle.sdd_obligations.proofs.DataSteps.{IsDataStep, counts_told, data_step, data_step_way}
 use Rattle.sdd_obligations.proofs.Replying.{HasTurn, HasTurnAt, IsAskedInTurn, IsProcessed, and_no, asker, asks_open, from_site, read_asks_none, read_is_a_read, turn_arrives, turn_hand, turn_replies, turn_still}
 use Rattle.sdd_invariants.specs.site_module.SiteLog.{Log}
@@ -72,15 +72,15 @@ turn_read : (ts c : ℕ) (at : Site) (log : Log) (k : ℕ) (r : Rec) (m x : Msg)
 turn_read ts c at log k r m x src p same e through f home h =
     let v : Turn = turn_with ts c at log in
     let act : Act = Records k r ((src, x) ∷ []) in
-    let turn_is : turn_with ts c at (Did act ∷ log) ≡ (if same_site at src && is_read ts c m then told x v else v) =
-    told_one ts c (same_site at src) x v ∙ ap (λ (b : Bool). if same_site at src && b then told x v else v) f in
+    let turn_is : turn_with ts c at (Did act ∷ log) ≡ (if same_site at src && is_read ts c m then turn_after_answer x v else v) =
+    told_one ts c (same_site at src) x v ∙ ap (λ (b : Bool). if same_site at src && b then turn_after_answer x v else v) f in
     elim (is_read ts c m) as (λ b. is_read ts c m ≡ b → HasTurnAt ts c at (Did act ∷ log)) [
       | true ↦ λ q.
           (let w = read_next ts c at log k v m h e through q in
           let here : same_site at src ≡ true = subst (λ s. same_site at s ≡ true) (sym (home w.class_is)) (site_self at) in
           let now : turn_with ts c at (Did act ∷ log) ≡ (if is_a_refusal x then Refused else Told w.uses m) =
-          turn_is ∙ ap (λ (b : Bool). if same_site at src && b then told x v else v) q
-          ∙ ap (λ (b : Bool). if b && true then told x v else v) here ∙ ap (told x) w.is in
+          turn_is ∙ ap (λ (b : Bool). if same_site at src && b then turn_after_answer x v else v) q
+          ∙ ap (λ (b : Bool). if b && true then turn_after_answer x v else v) here ∙ ap (turn_after_answer x) w.is in
           let taken : pipe c (Did act ∷ log) ≡ head_processed (pipe c log) =
           subst (λ j. pipe j (Did act ∷ log) ≡ head_processed (pipe j log)) w.class_is (own_record k r ((src, x) ∷ []) log p).0 in
           let at_head : head (pipe c log) ≡ Some m = subst (λ j. head (pipe j log) ≡ Some m) w.class_is e in
@@ -98,8 +98,8 @@ turn_read ts c at log k r m x src p same e through f home h =
             is = q;
           })))
       | false ↦ λ q. turn_still ts c at log act
-          (turn_is ∙ ap (λ (b : Bool). if same_site at src && b then told x v else v) q
-          ∙ ap (λ (b : Bool). if b then told x v else v) (and_no (same_site at src)))
+          (turn_is ∙ ap (λ (b : Bool). if same_site at src && b then turn_after_answer x v else v) q
+          ∙ ap (λ (b : Bool). if b then turn_after_answer x v else v) (and_no (same_site at src)))
           (ap (filter (asks_open ts c)) same) (reads_left ts c k r ((src, x) ∷ []) log m p e q) h
     ] refl
 

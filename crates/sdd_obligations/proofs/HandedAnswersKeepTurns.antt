@@ -1,5 +1,5 @@
 -- An answer that is handed in turn to a site that makes attempts keeps its turns.
-use Rattle.sdd_obligations.proofs.All.{Asks, Attempt, Bool, D, Did, Exchange, Fetch, Fetching, Handed, IsStrict, List, MayAnswer, Msg, None, Option, Over, Phase, Read, Reading, Redeclared, Reduce, Reducing, Refused, Reject, Replies, RepliesToFetch, RepliesToReduce, RepliesToShip, Setting, Ship, Shipping, Silent, Site, Some, Submits, T, Ticked, Told, Turn, U, [], active, active_handed, after_hand, and_no, answers, ap, arith, asked, asked_by, cond, contains, dm_no, false, hand_goes, if_way, if◌then◌else◌, inl, inr, is_a_read, is_a_refusal, is_a_ship, is_answer, is_exchanging, is_over, is_question, is_reading, last_stamp, not, questions, refl, rejects, same_number, same_or_not, stamp_rises, subst, sym, told, told_by, true, turn_at, uses_at, ℕ, ◌&&◌, ◌<◌, ◌==◌, ◌∙◌, ◌∷◌, ◌≡◌}
+use Rattle.sdd_obligations.proofs.All.{Asks, Attempt, Bool, D, Did, Exchange, Fetch, Fetching, Handed, IsStrict, List, MayAnswer, Msg, None, Option, Over, Phase, Read, Reading, Redeclared, Reduce, Reducing, Refused, Reject, Replies, RepliesToFetch, RepliesToReduce, RepliesToShip, Setting, Ship, Shipping, Silent, Site, Some, Submits, T, Ticked, Told, Turn, U, [], active, active_handed, after_hand, and_no, answers, ap, arith, asked_by, cond, contains, dm_no, false, hand_goes, if_way, if◌then◌else◌, inl, inr, is_a_read, is_a_refusal, is_a_ship, is_answer, is_exchanging, is_over, is_question, is_reading, last_stamp, not, questions, refl, rejects, same_number, same_or_not, stamp_rises, subst, sym, told_by, true, turn_after_answer, turn_after_question, turn_at, uses_at, ℕ, ◌&&◌, ◌<◌, ◌==◌, ◌∙◌, ◌∷◌, ◌≡◌}
 use Rattle.sdd_obligations.proofs.AtTurn.{IsNext, IsAtTurn, answered_last, apart, awaited, awaits, hand_at, hand_not, is_fetch_of, is_reduce_of, silent_not_asks, told_not_asks, unsent, read_no_ship}
 use Rattle.sdd_obligations.proofs.Modules.{firsts}
 use Rattle.sdd_obligations.proofs.InStep.{never}
@@ -30,14 +30,14 @@ IsTimely c log (Did act) = Unit {0}
 -- turns
 
 pub told_one : (ts c : ℕ) (b : Bool) (m : Msg) (v : Turn)
-    → told_by (answers ts c (if b then m ∷ [] else [])) v ≡ (if b && is_answer ts c m then told m v else v)
+    → told_by (answers ts c (if b then m ∷ [] else [])) v ≡ (if b && is_answer ts c m then turn_after_answer m v else v)
 told_one ts c false m v = refl
-told_one ts c true m v = elim (is_answer ts c m) as (λ x. told_by (cond x (m ∷ []) []) v ≡ (if x then told m v else v)) [ true ↦ refl | false ↦ refl ]
+told_one ts c true m v = elim (is_answer ts c m) as (λ x. told_by (cond x (m ∷ []) []) v ≡ (if x then turn_after_answer m v else v)) [ true ↦ refl | false ↦ refl ]
 
 pub asked_one : (ts c : ℕ) (b : Bool) (m : Msg) (v : Turn)
-    → asked_by (questions ts c (if b then m ∷ [] else [])) v ≡ (if b && is_question ts c m then asked m v else v)
+    → asked_by (questions ts c (if b then m ∷ [] else [])) v ≡ (if b && is_question ts c m then turn_after_question m v else v)
 asked_one ts c false m v = refl
-asked_one ts c true m v = elim (is_question ts c m) as (λ x. asked_by (cond x (m ∷ []) []) v ≡ (if x then asked m v else v)) [ true ↦ refl | false ↦ refl ]
+asked_one ts c true m v = elim (is_question ts c m) as (λ x. asked_by (cond x (m ∷ []) []) v ≡ (if x then turn_after_question m v else v)) [ true ↦ refl | false ↦ refl ]
 
 -- an answer may come only to a question
 pub record IsAskedBy (v : Turn) (m : Msg) : Type 0 where
@@ -50,18 +50,18 @@ pub answers_asked : (v : Turn) (m : Msg) → MayAnswer v m → IsAskedBy v m
 answers_asked (Asks ns q) m h = record { uses = ns; question = q; is = refl; replies = h }
 answers_asked _ m h = absurd h
 
-pub told_is : (v : Turn) (ns : List ℕ) (q m : Msg) → v ≡ Asks ns q → is_a_refusal m ≡ false → told m v ≡ Told ns q
-told_is v ns q m e f = ap (told m) e ∙ ap (λ (b : Bool). if b then Refused else Told ns q) f
+pub told_is : (v : Turn) (ns : List ℕ) (q m : Msg) → v ≡ Asks ns q → is_a_refusal m ≡ false → turn_after_answer m v ≡ Told ns q
+told_is v ns q m e f = ap (turn_after_answer m) e ∙ ap (λ (b : Bool). if b then Refused else Told ns q) f
 
-pub quiet_told : (m : Msg) (v : Turn) → is_exchanging v ≡ false → is_exchanging (told m v) ≡ false
+pub quiet_told : (m : Msg) (v : Turn) → is_exchanging v ≡ false → is_exchanging (turn_after_answer m v) ≡ false
 quiet_told m (Asks ns q) e = if_way (λ w. is_exchanging w ≡ false) (is_a_refusal m) Refused (Told ns q) refl refl
 quiet_told m _ e = refl
 
-quiet_if : (b : Bool) (m : Msg) (v : Turn) → is_exchanging v ≡ false → is_exchanging (if b then told m v else v) ≡ false
-quiet_if b m v e = if_way (λ w. is_exchanging w ≡ false) b (told m v) v (quiet_told m v e) e
+quiet_if : (b : Bool) (m : Msg) (v : Turn) → is_exchanging v ≡ false → is_exchanging (if b then turn_after_answer m v else v) ≡ false
+quiet_if b m v e = if_way (λ w. is_exchanging w ≡ false) b (turn_after_answer m v) v (quiet_told m v e) e
 
-silent_if : (b : Bool) (m : Msg) (v : Turn) → v ≡ Silent → (if b then told m v else v) ≡ Silent
-silent_if b m v e = if_way (λ w. w ≡ Silent) b (told m v) v (ap (told m) e) e
+silent_if : (b : Bool) (m : Msg) (v : Turn) → v ≡ Silent → (if b then turn_after_answer m v else v) ≡ Silent
+silent_if b m v e = if_way (λ w. w ≡ Silent) b (turn_after_answer m v) v (ap (turn_after_answer m) e) e
 
 -- a rejection answers a READ
 
@@ -146,7 +146,7 @@ AllAtTurn o v = (ts d : ℕ) → AtTurn ts d o (v ts d)
 
 -- the turns after a message of module n
 abbrev after_answer : ℕ → ℕ → Msg → Turns → Turns
-after_answer c n m v ts d = if (d == n) && is_answer ts c m then told m (v ts d) else v ts d
+after_answer c n m v ts d = if (d == n) && is_answer ts c m then turn_after_answer m (v ts d) else v ts d
 
 refusal_is : (m : Msg) (ts c : ℕ) → rejects m ts c ≡ true → (is_answer ts c m ≡ true) × (is_a_refusal m ≡ true)
 refusal_is (Reject t k by w) ts c e = (e, refl)
@@ -170,7 +170,7 @@ rejected_turns c n m a v h e timely ts d =
     quiet_if ((d == n) && is_answer ts c m) m (v ts d) (quiet_but a v ts d h (λ i. quiet_reading d a.exchange (v ts d) reading i))
 
 next_of : (n d : ℕ) (b : Bool) (m : Msg) (v : Turn) (ns : List ℕ) (q : Msg) → b ≡ true → (d ≡ n → v ≡ Asks ns q)
-    → is_a_refusal m ≡ false → IsNext n d v (if (d == n) && b then told m v else v)
+    → is_a_refusal m ≡ false → IsNext n d v (if (d == n) && b then turn_after_answer m v else v)
 next_of n d true m v ns q e f g = elim (same_or_not d n) [
   | inl p ↦ (let z : (d == n) ≡ true = subst (λ y. (d == y) ≡ true) p (same_number d) in inl (p, ns, q, f p, rw z (told_is v ns q m (f p) g)))
   | inr p ↦ inr (p, rw p refl)
@@ -189,8 +189,8 @@ at_turn_on c n d m a v strict h e timely = elim (is_answer a.ts c m) as (λ b. i
           (next_of n d (is_answer a.ts c m) m (v a.ts d) by.uses by.question f (λ p. ap (v a.ts) p ∙ by.is) g) ((h a.ts d).0 refl))
       | false ↦ λ f. subst (λ x. IsAtTurn d x (after_answer c n m v a.ts d)) (sym (hand_not a.ts c n a.exchange m f))
           (subst (λ (w : Turn). IsAtTurn d a.exchange w)
-          (sym (ap (λ (b : Bool). if (d == n) && b then told m (v a.ts d) else v a.ts d) f
-          ∙ ap (λ (b : Bool). if b then told m (v a.ts d) else v a.ts d) (and_no (d == n)))) ((h a.ts d).0 refl))
+          (sym (ap (λ (b : Bool). if (d == n) && b then turn_after_answer m (v a.ts d) else v a.ts d) f
+          ∙ ap (λ (b : Bool). if b then turn_after_answer m (v a.ts d) else v a.ts d) (and_no (d == n)))) ((h a.ts d).0 refl))
     ] refl
 
 handed_turns : (c n : ℕ) (m : Msg) (o : Option Attempt) (v : Turns) → IsStrictOf o → AllAtTurn o v → ((ts : ℕ) → is_answer ts c m ≡ true → MayAnswer (v ts n) m)

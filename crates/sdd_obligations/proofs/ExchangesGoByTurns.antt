@@ -1,11 +1,11 @@
 -- On a permitted log the exchanges of a class with the data modules go by turns.
 use Rattle.sdd_obligations.proofs.All.{Act, AllLe, Bool, D, Did, Does, Each, Entry, Hand, Handed, Input, IsAllowed, IsDueEach, IsFair, IsPermitted, IsStage, IsStep, List, Log, MayAnswer, MayAsk, Msg, None, Option, Site, Some, T, Turn, [], agreed, answers, ap, asked_by, cond, d_fair, dm_no, drop, false, filter, flight, frozen, goes_through, hand_was_put, handed, handed_by, home, home_fair, if◌then◌else◌, inl, inr, is_answer, is_exchanging, is_question, local_of, local_step, made, maker, number_of, own_act, put_by, puts_grow, puts_to, questions, refl, same_site, sends_of_act, setting_of, site_is, site_self, subst, sym, time_of, times_in, to_site, told_by, true, turn_at, turn_with, uses_held, with_made, ℕ, ◌&&◌, ◌++◌, ◌∙◌, ◌∷◌, ◌≡◌, ◌≤◌, ◌⊎◌}
-use Rattle.sdd_obligations.proofs.Asking.{asks_in_turn}
-use Rattle.sdd_obligations.proofs.Hearing.{IsTimely}
+use Rattle.sdd_obligations.proofs.QuestionsComeInTurn.{asks_in_turn}
+use Rattle.sdd_obligations.proofs.HandedAnswersKeepTurns.{IsTimely}
 use Rattle.sdd_obligations.proofs.DataSteps.{data_step}
 use Rattle.sdd_obligations.proofs.FirstSends.{IsFirstEach, IsFirstSend}
 use Rattle.sdd_obligations.proofs.Flights.{first_in_flight, handed_did, handed_hand, is_plain, nothing_put, put_did, put_hand, questions_step, answers_step, quiet_made, silent_first, turn_at_step, turn_with_step}
-use Rattle.sdd_obligations.proofs.Held.{AreHeldFor, IsHeldAt, held_act, held_hand, tells_in_turn}
+use Rattle.sdd_obligations.proofs.RowsStayHeld.{AreHeldFor, IsHeldAt, held_act, held_hand, tells_in_turn}
 use Rattle.sdd_obligations.proofs.Sources.{home_apart, home_first, question_home}
 use Rattle.sdd_obligations.proofs.Stages.{IsMove, answer_comes, answer_got, answer_put, move_as, moved, question_comes, question_got, question_put, still}
 use Rattle.sdd_obligations.proofs.Replying.{IsAskedInTurn}

@@ -1,10 +1,10 @@
--- What a data module told last of an attempt's rows is what it keeps.
-use Rattle.sdd_obligations.proofs.All.{Act, Answer, Apply, Arrive, Asks, ClassNo, Cond, Did, Done, Fetch, Frozen, Handed, IsClassHere, List, Msg, None, Open, Option, Pass, Read, Ready, Records, Reduce, Refused, Reject, Rejected, Rows, Sends, Setting, Ship, Site, Some, Tells, Told, Ts, Turn, TxnNo, Use, Values, Wait, [], all_rows, and_no, and_right, answers, ap, append-nil, ask_for, asked, asks_rows, both, class_asked, cond, done_for, eqb-true, false, filter, filter-append, frozen, head, head_of, home_of, if◌then◌else◌, inl, inr, is_a_read, is_answer, is_asked_of, is_number, is_question, is_read, kept, map, opens, pipe, puts_to, refl, rows_of, same_number, same_site, sends_of_act, site_self, source_of, subst, sym, to_site, told, told_by, true, turn_with, uses_by, uses_held, uses_in, values_in, ℕ, ◌&&◌, ◌++◌, ◌==◌, ◌∙◌, ◌∷◌, ◌≡◌}
+-- What a data module turn_after_answer last of an attempt's rows is what it keeps.
+use Rattle.sdd_obligations.proofs.All.{Act, Answer, Apply, Arrive, Asks, ClassNo, Cond, Did, Done, Fetch, Frozen, Handed, IsClassHere, List, Msg, None, Open, Option, Pass, Read, Ready, Records, Reduce, Refused, Reject, Rejected, Rows, Sends, Setting, Ship, Site, Some, Tells, Told, Ts, Turn, TxnNo, Use, Values, Wait, [], all_rows, and_no, and_right, answers, ap, append-nil, ask_for, asks_rows, both, class_asked, cond, done_for, eqb-true, false, filter, filter-append, frozen, head, head_of, home_of, if◌then◌else◌, inl, inr, is_a_read, is_answer, is_asked_of, is_number, is_question, is_read, kept, map, opens, pipe, puts_to, refl, rows_of, same_number, same_site, sends_of_act, site_self, source_of, subst, sym, to_site, told_by, true, turn_after_answer, turn_after_question, turn_with, uses_by, uses_held, uses_in, values_in, ℕ, ◌&&◌, ◌++◌, ◌==◌, ◌∙◌, ◌∷◌, ◌≡◌}
 use Rattle.sdd_obligations.proofs.DataSteps.{IsDataStep, counts_told, data_step_way, reply}
-use Rattle.sdd_obligations.proofs.Hearing.{told_is, told_one}
-use Rattle.sdd_obligations.proofs.Held.{AreHeldFor, IsHeldAt}
+use Rattle.sdd_obligations.proofs.HandedAnswersKeepTurns.{told_is, told_one}
+use Rattle.sdd_obligations.proofs.RowsStayHeld.{AreHeldFor, IsHeldAt}
 use Rattle.sdd_obligations.proofs.Replying.{HasTurnAt, asked_rows, asked_turn, asks_no_a_read, reply_answers, reply_no_refusal, told_turn}
-use Rattle.sdd_obligations.proofs.Telling.{IsHomeOf, asks_no_answer, done_no_answer, head_through, read_next}
+use Rattle.sdd_obligations.proofs.AnswersComeInTurn.{IsHomeOf, asks_no_answer, done_no_answer, head_through, read_next}
 use Rattle.sdd_obligations.proofs.InStep.{never}
 use Rattle.sdd_obligations.proofs.Kept.{hand_keeps, kept_now, other_answer_keeps, record_keeps, send_keeps}
 use Rattle.sdd_invariants.specs.site_module.SiteLog.{Log}
@@ -34,19 +34,19 @@ module _ (s : Setting) (c ts : ℕ) (at : Site) (log : Log) where
 
   -- a hand
 
-  asks_told : {A : Type 0} (m q : Msg) (w : Turn) (ns : List ℕ) → asked m w ≡ Told ns q → A
+  asks_told : {A : Type 0} (m q : Msg) (w : Turn) (ns : List ℕ) → turn_after_question m w ≡ Told ns q → A
   asks_told m q w ns e = let p : Asks (uses_by m (uses_in w)) m ≡ Told ns q = e in cc
 
   pub told_hand : (from : Site) (m : Msg) → (is_question ts c m ≡ true → from ≡ at) → KnowsTold s c ts at log → KnowsTold s c ts at (Handed from m ∷ log)
   told_hand from m home h = elim (is_question ts c m) as (λ b. is_question ts c m ≡ b → KnowsTold s c ts at (Handed from m ∷ log)) [
     | true ↦ λ own ns q e r.
         let here : same_site at from ≡ true = ap (same_site at) (home own) ∙ site_self at in
-        let now : turn_with ts c at (Handed from m ∷ log) ≡ asked m v = asked_turn ts c at from m log
-        ∙ ap (λ b. if b then asked m v else v) (both (same_site at from) (is_question ts c m) here own) in
+        let now : turn_with ts c at (Handed from m ∷ log) ≡ turn_after_question m v = asked_turn ts c at from m log
+        ∙ ap (λ b. if b then turn_after_question m v else v) (both (same_site at from) (is_question ts c m) here own) in
         asks_told m q v ns (sym now ∙ e)
     | false ↦ λ own.
         let now : turn_with ts c at (Handed from m ∷ log) ≡ v = asked_turn ts c at from m log
-        ∙ ap (λ b. if same_site at from && b then asked m v else v) own ∙ ap (λ b. if b then asked m v else v) (and_no (same_site at from)) in
+        ∙ ap (λ b. if same_site at from && b then turn_after_question m v else v) own ∙ ap (λ b. if b then turn_after_question m v else v) (and_no (same_site at from)) in
         let keeps : kept s c ts (Handed from m ∷ log) ≡ kept s c ts log = elim (hand_keeps s c ts from m log) [
           | inl same ↦ same
           | inr r ↦ never (is_question ts c m) (ap (is_question ts c) r.is ∙ both (r.t.0 == ts) (r.of.0 ==
@@ -109,7 +109,7 @@ module _ (s : Setting) (c ts : ℕ) (at : Site) (log : Log) where
         let class : k ≡ c = asked_class k (class_asked o.msg) o.msg (first_asked k (opens log) o e) refl asks in
         let here : same_site at o.from ≡ true = ap (same_site at) a.from_is ∙ site_self at in
         let now : turn_with ts c at (Did (Sends o.from m (Some o.hand)) ∷ log) ≡ Told a.uses o.msg =
-        told_turn ts c at o.from m (Some o.hand) log ∙ ap (λ b. if b then told m v else v)
+        told_turn ts c at o.from m (Some o.hand) log ∙ ap (λ b. if b then turn_after_answer m v else v)
         (both (same_site at o.from) (is_answer ts c m) here own) ∙ told_is v a.uses o.msg m a.is (reply_no_refusal (frozen s k log) o.msg m r) in
         let same : o.msg ≡ q = told_same a.uses ns o.msg q (sym now ∙ t) in
         let uses : uses_held v ≡ Some a.uses = ap uses_held a.is ∙ ap (λ b. if b then None else Some a.uses) (asks_no_a_read ts c o.msg asks) in
@@ -127,7 +127,7 @@ module _ (s : Setting) (c ts : ℕ) (at : Site) (log : Log) where
   ] refl
 
   -- the turn after one message
-  one_turn : (to : Site) (m : Msg) → told_by (answers ts c (to_site at ((to, m) ∷ []))) v ≡ (if same_site at to && is_answer ts c m then told m v else v)
+  one_turn : (to : Site) (m : Msg) → told_by (answers ts c (to_site at ((to, m) ∷ []))) v ≡ (if same_site at to && is_answer ts c m then turn_after_answer m v else v)
   one_turn to m = told_one ts c (same_site at to) m v
 
   read_answered : (k : ℕ) (t : Ts) (of : ClassNo) (txn : TxnNo) (attempt : ℕ) (conds : List Cond)
@@ -144,7 +144,7 @@ module _ (s : Setting) (c ts : ℕ) (at : Site) (log : Log) where
             let n = read_next ts c at log k v read has e (head_through k log read e) own in
             let to : source_of (home_of s) k ≡ at = ap (source_of (home_of s)) n.class_is ∙ home (subst (IsClassHere s) n.class_is here) in
             let now : turn_with ts c at (Did act ∷ log) ≡ Told n.uses read =
-            one_turn (source_of (home_of s) k) m ∙ ap (λ b. if b then told m v else v)
+            one_turn (source_of (home_of s) k) m ∙ ap (λ b. if b then turn_after_answer m v else v)
             (both (same_site at (source_of (home_of s) k)) (is_answer ts c m) (ap (same_site at) to
             ∙ site_self at) own) ∙ told_is v n.uses read m n.is refl in
             never (is_a_read q) (ap is_a_read (sym (told_same n.uses ns read q (sym now ∙ z)))) r
@@ -171,8 +171,8 @@ module _ (s : Setting) (c ts : ℕ) (at : Site) (log : Log) where
             let n = read_next ts c at log k v read has e (head_through k log read e) own in
             let to : source_of (home_of s) k ≡ at = ap (source_of (home_of s)) n.class_is ∙ home (subst (IsClassHere s) n.class_is here) in
             let now : turn_with ts c at (Did act ∷ log) ≡ Refused =
-            one_turn (source_of (home_of s) k) m ∙ ap (λ b. if b then told m v else v)
-            (both (same_site at (source_of (home_of s) k)) (is_answer ts c m) (ap (same_site at) to ∙ site_self at) own) ∙ ap (told m) n.is in
+            one_turn (source_of (home_of s) k) m ∙ ap (λ b. if b then turn_after_answer m v else v)
+            (both (same_site at (source_of (home_of s) k)) (is_answer ts c m) (ap (same_site at) to ∙ site_self at) own) ∙ ap (turn_after_answer m) n.is in
             (let x : Refused ≡ Told ns q = sym now ∙ z in cc)
         | false ↦ λ other. quiet_act act (one_sent (source_of (home_of s) k) m other)
             (record_keeps s c ts k (Rejected txn attempt (home_of s).dm by write) ((source_of (home_of s) k, m) ∷ []) log refl) h

@@ -1,8 +1,8 @@
 -- What a data module answers comes in turn, and while an attempt exchanges rows they are held for it.
-use Rattle.sdd_obligations.proofs.All.{Act, Answer, Apply, Arrive, Asks, Bool, ClassNo, Cond, CopyRows, Did, Done, Fetch, Frozen, Handed, IsClassHere, List, MayAnswer, MayAsk, Msg, None, Open, Option, Pass, Read, Ready, Rec, Records, Reduce, Reduced, Refused, Reject, Rejected, Replies, Rows, Sends, Setting, Ship, Silent, Site, Some, Told, Ts, Turn, TxnNo, Use, Value, Values, Wait, [], all_held, and_left, and_right, answers, ap, ask_for, asked, asks_rows, both, class_asked, column, cond, contains, copies, dated, dated_in, done_for, eqb-true, false, filter, flat_map, frozen, frozen_at, frozen_handed, given_up, head, head_of, home_of, if_way, if◌then◌else◌, in_filtered, inl, inr, is_a_read, is_a_refusal, is_a_ship, is_among, is_answer, is_answer_record, is_asked_of, is_exchanging, is_number, is_question, is_read, length, list_any, map, not, opens, or_left, or_right, pipe, reduced, reduced_at, refl, rows_for, rows_held, same_number, same_or_not, same_site, sends_of_act, site_self, source_of, subst, sym, to_site, told, told_by, true, turn_with, uses_by, uses_held, values_in, view_of, ℕ, ◌&&◌, ◌++◌, ◌==◌, ◌||◌, ◌∙◌, ◌∷◌, ◌≡◌, ◌⊎◌}
-use Rattle.sdd_obligations.proofs.Hearing.{told_is, told_one}
+use Rattle.sdd_obligations.proofs.All.{Act, Answer, Apply, Arrive, Asks, Bool, ClassNo, Cond, CopyRows, Did, Done, Fetch, Frozen, Handed, IsClassHere, List, MayAnswer, MayAsk, Msg, None, Open, Option, Pass, Read, Ready, Rec, Records, Reduce, Reduced, Refused, Reject, Rejected, Replies, Rows, Sends, Setting, Ship, Silent, Site, Some, Told, Ts, Turn, TxnNo, Use, Value, Values, Wait, [], all_held, and_left, and_right, answers, ap, ask_for, asks_rows, both, class_asked, column, cond, contains, copies, dated, dated_in, done_for, eqb-true, false, filter, flat_map, frozen, frozen_at, frozen_handed, given_up, head, head_of, home_of, if_way, if◌then◌else◌, in_filtered, inl, inr, is_a_read, is_a_refusal, is_a_ship, is_among, is_answer, is_answer_record, is_asked_of, is_exchanging, is_number, is_question, is_read, length, list_any, map, not, opens, or_left, or_right, pipe, reduced, reduced_at, refl, rows_for, rows_held, same_number, same_or_not, same_site, sends_of_act, site_self, source_of, subst, sym, to_site, told_by, true, turn_after_answer, turn_after_question, turn_with, uses_by, uses_held, values_in, view_of, ℕ, ◌&&◌, ◌++◌, ◌==◌, ◌||◌, ◌∙◌, ◌∷◌, ◌≡◌, ◌⊎◌}
+use Rattle.sdd_obligations.proofs.HandedAnswersKeepTurns.{told_is, told_one}
 use Rattle.sdd_obligations.proofs.DataSteps.{IsDataStep, counts_told, data_step_way, reply}
-use Rattle.sdd_obligations.proofs.Telling.{IsHomeOf, asks_no_answer, done_no_answer, head_through, read_next}
+use Rattle.sdd_obligations.proofs.AnswersComeInTurn.{IsHomeOf, asks_no_answer, done_no_answer, head_through, read_next}
 use Rattle.sdd_obligations.proofs.Replying.{HasTurnAt, IsOwn, asked_rows, asked_turn, asks_no_a_read, reply_answers, reply_no_refusal, told_turn, held_told as held_now, and_no}
 use Rattle.sdd_obligations.proofs.Linking.{first_there}
 use Rattle.sdd_obligations.proofs.InStep.{never}
@@ -54,7 +54,7 @@ held_named : (ts : ℕ) (ns : List ℕ) (f : Option Frozen) → AreHeldFor ts ns
 held_named ts ns None h = absurd h
 held_named ts ns (Some f) h = all_named_in ns f.uses (λ n e. subst (λ l. contains l n ≡ true) h.1 e)
 
--- the counts that are told are of the READ's uses, in order
+-- the counts that are turn_after_answer are of the READ's uses, in order
 counts_named : (c : CopyRows) (uses : List Use)
     → map (λ (n : ℕ × ℕ). n.0) (map (λ (e : ℕ × List (List Value)). (e.0, length e.1))
     (map (λ (u : Use). (u.number, rows_for c u)) uses)) ≡ map (λ (u : Use). u.number) uses
@@ -147,7 +147,7 @@ handed_held ts c ns (Reduce t k u col vs) f h = if_way (AreHeldFor ts ns) (k.0 =
 handed_held ts c ns m f h = h
 
 -- where they are held at a question, they were before
-held_back : (v : Turn) (m : Msg) (ns : List ℕ) → MayAsk v m → uses_held (asked m v) ≡ Some ns → uses_held v ≡ Some ns
+held_back : (v : Turn) (m : Msg) (ns : List ℕ) → MayAsk v m → uses_held (turn_after_question m v) ≡ Some ns → uses_held v ≡ Some ns
 held_back Silent (Read t k txn attempt conds uses) ns h e = cc
 held_back Silent m ns h e = cc
 held_back (Told ms q) (Read t k txn attempt conds uses) ns h e = absurd h.1
@@ -160,7 +160,7 @@ held_back _ m ns h e = absurd h
 abbrev pub IsHeldAt : Setting → ℕ → ℕ → Site → Log → Type 0
 IsHeldAt s ts c at log = (ns : List ℕ) → uses_held (turn_with ts c at log) ≡ Some ns → AreHeldFor ts ns (frozen s c log)
 
-held_if_asked : (b : Bool) (v : Turn) (m : Msg) (ns : List ℕ) → (b ≡ true → MayAsk v m) → uses_held (if b then asked m v else v) ≡ Some ns
+held_if_asked : (b : Bool) (v : Turn) (m : Msg) (ns : List ℕ) → (b ≡ true → MayAsk v m) → uses_held (if b then turn_after_question m v else v) ≡ Some ns
     → uses_held v ≡ Some ns
 held_if_asked true v m ns f e = held_back v m ns (f refl) e
 held_if_asked false v m ns f e = e
@@ -197,7 +197,7 @@ gave_up c f (Ship t k) m e g =
     (t.0, both (t.0 == t.0) (k.0 == c) (same_number t.0) z, refl)
 gave_up c f q m e g = cc
 
-ship_told : (v : Turn) (ns ms : List ℕ) (q m : Msg) → v ≡ Asks ns q → is_a_ship q ≡ true → is_a_refusal m ≡ false → uses_held (told m v) ≡ Some ms → ⊥
+ship_told : (v : Turn) (ns ms : List ℕ) (q m : Msg) → v ≡ Asks ns q → is_a_ship q ≡ true → is_a_refusal m ≡ false → uses_held (turn_after_answer m v) ≡ Some ms → ⊥
 ship_told v ns ms q m e f g h =
     let z : ◌≡◌ {A = Option (List ℕ)} None (Some ms) = sym (ap uses_held (told_is v ns q m e g) ∙ ap (λ (b : Bool). if b then None else Some ns) f) ∙ h in cc
 
@@ -214,7 +214,7 @@ told_asks : (q : Msg) (ms ns : List ℕ) (refusal : Bool) → is_a_read q ≡ fa
 told_asks q ms ns true f e = cc
 told_asks q ms ns false f e = ap (λ (b : Bool). if b then None else Some ms) f ∙ not_ship (is_a_ship q) ms ns e
 
-told_back : (v : Turn) (m : Msg) (ns : List ℕ) → asks_a_read v ≡ false → uses_held (told m v) ≡ Some ns → uses_held v ≡ Some ns
+told_back : (v : Turn) (m : Msg) (ns : List ℕ) → asks_a_read v ≡ false → uses_held (turn_after_answer m v) ≡ Some ns → uses_held v ≡ Some ns
 told_back (Asks ms q) m ns f e = told_asks q ms ns (is_a_refusal m) f e
 told_back _ m ns f e = e
 
@@ -236,11 +236,11 @@ held_replies : (s : Setting) (ts c : ℕ) (at : Site) (log : Log) (k : ℕ) (o :
     → IsHeldAt s ts c at (Did (Sends o.from m (Some o.hand)) ∷ log)
 held_replies s ts c at log k o m alone e r h ns z =
     let v : Turn = turn_with ts c at log in
-    let now : uses_held (if same_site at o.from && is_answer ts c m then told m v else v) ≡ Some ns =
+    let now : uses_held (if same_site at o.from && is_answer ts c m then turn_after_answer m v else v) ≡ Some ns =
     ap uses_held (sym (told_turn ts c at o.from m (Some o.hand) log)) ∙ z in
     let before : uses_held v ≡ Some ns =
     elim (same_site at o.from && is_answer ts c m) as (λ b. (same_site at o.from && is_answer ts c m) ≡ b
-    → uses_held (if b then told m v else v) ≡ Some ns → uses_held v ≡ Some ns) [
+    → uses_held (if b then turn_after_answer m v else v) ≡ Some ns → uses_held v ≡ Some ns) [
       | true ↦ λ b x.
           (let q : asks_rows ts c o.msg ≡ true = sym (reply_answers ts c (frozen s k log) o.msg m r) ∙ and_right (same_site at o.from) (is_answer ts c m) b in
           let u = asked_rows ts c at log v k o (alone.has ts) e q in
@@ -255,8 +255,8 @@ held_replies s ts c at log k o m alone e r h ns z =
           let q : asks_rows ts c o.msg ≡ true = subst (λ t. asks_rows t c o.msg ≡ true) same y.1 in
           let u = asked_rows ts c at log v k o (alone.has ts) e q in
           let here : same_site at o.from ≡ true = subst (λ x. same_site at x ≡ true) (sym u.from_is) (site_self at) in
-          let told_now : uses_held (told m v) ≡ Some ns =
-          subst (λ (b : Bool). uses_held (if b then told m v else v) ≡ Some ns)
+          let told_now : uses_held (turn_after_answer m v) ≡ Some ns =
+          subst (λ (b : Bool). uses_held (if b then turn_after_answer m v else v) ≡ Some ns)
           (both (same_site at o.from) (is_answer ts c m) here (reply_answers ts c (frozen s k log) o.msg m r ∙ q)) now in
           absurd (ship_told v u.uses ns o.msg m u.is y.2 (reply_no_refusal (frozen s k log) o.msg m r) told_now))
       | false ↦ λ g. subst (AreHeldFor ts ns) (sym (given_is c m (frozen s c log) ∙ ap (λ (b : Bool). if b then None else frozen s c log) g)) (h ns before)
@@ -291,15 +291,15 @@ held_answers s ts c at log k t j txn attempt conds uses home alone l e h ns z =
     let x : Msg = Ready t j (counts_told s log t.0 uses) in
     let src : Site = source_of (home_of s) k in
     let act : Act = Records k (Answer txn attempt (home_of s).dm) ((src, x) ∷ []) in
-    let now : uses_held (if same_site at src && is_read ts c m then told x v else v) ≡ Some ns =
+    let now : uses_held (if same_site at src && is_read ts c m then turn_after_answer x v else v) ≡ Some ns =
     ap uses_held (sym (told_one ts c (same_site at src) x v)) ∙ z in
     elim (is_read ts c m) as (λ b. is_read ts c m ≡ b → AreHeldFor ts ns (frozen s c (Did act ∷ log))) [
       | true ↦ λ q.
           (let w = read_next ts c at log k v m (alone.has ts) e (head_through k log m e) q in
           let there : src ≡ at = subst (λ n. source_of (home_of s) n ≡ at) (sym w.class_is) (home (subst (IsClassHere s) w.class_is l)) in
           let here : same_site at src ≡ true = subst (λ y. same_site at y ≡ true) (sym there) (site_self at) in
-          let told_now : uses_held (told x v) ≡ Some ns =
-          subst (λ (b : Bool). uses_held (if b then told x v else v) ≡ Some ns) (both (same_site at src) (is_read ts c m) here q) now in
+          let told_now : uses_held (turn_after_answer x v) ≡ Some ns =
+          subst (λ (b : Bool). uses_held (if b then turn_after_answer x v else v) ≡ Some ns) (both (same_site at src) (is_read ts c m) here q) now in
           let same : w.uses ≡ ns = some_is w.uses ns (sym (ap uses_held (told_is v w.uses m x w.is refl)) ∙ told_now) in
           let own : uses_by m w.uses ≡ w.uses = own_uses ts c v w.uses m w.is (alone.has ts).own in
           let rows : frozen s c (Did act ∷ log) ≡ frozen_at (dated s log) (Some m) =
@@ -308,7 +308,7 @@ held_answers s ts c at log k t j txn attempt conds uses home alone l e h ns z =
           subst (AreHeldFor ts ns) (sym rows) (eqb-true t.0 ts (and_left (t.0 == ts) (j.0 == c) q), uses_named (copies (dated s log)) uses ∙ own ∙ same))
       | false ↦ λ q.
           (let before : uses_held v ≡ Some ns =
-          subst (λ (b : Bool). uses_held (if b then told x v else v) ≡ Some ns) (ap (λ b. same_site at src && b) q ∙ and_no (same_site at src)) now in
+          subst (λ (b : Bool). uses_held (if b then turn_after_answer x v else v) ≡ Some ns) (ap (λ b. same_site at src && b) q ∙ and_no (same_site at src)) now in
           elim (same_or_not k c) [
             | inl p ↦ never (is_read ts c m) (alone.no_read ns before m (subst (λ n. head (pipe n log) ≡ Some m) p e) refl) q
             | inr p ↦ subst (AreHeldFor ts ns) (sym (other_frozen s c k log (Answer txn attempt (home_of s).dm) ((src, x) ∷ []) p)) (h ns before)
@@ -326,19 +326,19 @@ held_refuses s ts c at log k t j txn attempt conds uses by write home alone l e 
     let x : Msg = Reject t j by write in
     let src : Site = source_of (home_of s) k in
     let act : Act = Records k (Rejected txn attempt (home_of s).dm by write) ((src, x) ∷ []) in
-    let now : uses_held (if same_site at src && is_read ts c m then told x v else v) ≡ Some ns =
+    let now : uses_held (if same_site at src && is_read ts c m then turn_after_answer x v else v) ≡ Some ns =
     ap uses_held (sym (told_one ts c (same_site at src) x v)) ∙ z in
     elim (is_read ts c m) as (λ b. is_read ts c m ≡ b → AreHeldFor ts ns (frozen s c (Did act ∷ log))) [
       | true ↦ λ q.
           (let w = read_next ts c at log k v m (alone.has ts) e (head_through k log m e) q in
           let there : src ≡ at = subst (λ n. source_of (home_of s) n ≡ at) (sym w.class_is) (home (subst (IsClassHere s) w.class_is l)) in
           let here : same_site at src ≡ true = subst (λ y. same_site at y ≡ true) (sym there) (site_self at) in
-          let told_now : uses_held (told x v) ≡ Some ns =
-          subst (λ (b : Bool). uses_held (if b then told x v else v) ≡ Some ns) (both (same_site at src) (is_read ts c m) here q) now in
-          let none : ◌≡◌ {A = Option (List ℕ)} None (Some ns) = sym (ap (λ y. uses_held (told x y)) w.is) ∙ told_now in cc)
+          let told_now : uses_held (turn_after_answer x v) ≡ Some ns =
+          subst (λ (b : Bool). uses_held (if b then turn_after_answer x v else v) ≡ Some ns) (both (same_site at src) (is_read ts c m) here q) now in
+          let none : ◌≡◌ {A = Option (List ℕ)} None (Some ns) = sym (ap (λ y. uses_held (turn_after_answer x y)) w.is) ∙ told_now in cc)
       | false ↦ λ q.
           (let before : uses_held v ≡ Some ns =
-          subst (λ (b : Bool). uses_held (if b then told x v else v) ≡ Some ns) (ap (λ b. same_site at src && b) q ∙ and_no (same_site at src)) now in
+          subst (λ (b : Bool). uses_held (if b then turn_after_answer x v else v) ≡ Some ns) (ap (λ b. same_site at src && b) q ∙ and_no (same_site at src)) now in
           subst (AreHeldFor ts ns) (sym (same_frozen s c k log (Rejected txn attempt (home_of s).dm by write) ((src, x) ∷ []) refl)) (h ns before))
     ] refl
 

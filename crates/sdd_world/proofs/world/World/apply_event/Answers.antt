@@ -1,7 +1,7 @@
 use Rattle.sdd_world.proofs.All.{Deliver, Submit, Up, refl, ◌+◌}
 use Rattle.sdd_world.proofs.Rounds.{marked_next, marks_end}
 use Rattle.sdd_world.proofs.Results.{of_ok as map_ok}
-use Rattle.sdd_world.proofs.world.World.happen.Goals as goal
+use Rattle.sdd_world.proofs.world.World.apply_event.Goals as goal
 
 pub returns-in-Deliver-clause-ok : goal.returns-in-Deliver-clause-ok
 returns-in-Deliver-clause-ok c = map_ok c.deliver.result _ _ c.deliver.ensures.ok (λ x f given log b.

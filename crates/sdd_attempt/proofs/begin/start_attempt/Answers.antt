@@ -1,6 +1,6 @@
 use Rattle.sdd_attempt.proofs.All.{Queued, [], ap, begins, option_map, reads_of, unwrap_or, ◌∙◌}
 use Rattle.sdd_attempt.proofs.Noting.{begun_noted, begun_running}
-use Rattle.sdd_attempt.proofs.begin.begun.Goals as goal
+use Rattle.sdd_attempt.proofs.begin.start_attempt.Goals as goal
 
 pub returns-clause-running : goal.returns-clause-running
 returns-clause-running c =
