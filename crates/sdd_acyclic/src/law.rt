@@ -21,5 +21,5 @@ pub fn law_forests_leave_no_cycle()
 
 /// A law: every catalogue has a protocol table. Takes no memory.
 pub fn law_each_table()
-    ensures { (cat : Catalogue) → (entries : List Entry) × IsTable cat entries }
+    ensures { (catalogue : Catalogue) → (entries : List Entry) × IsTable catalogue entries }
 {}

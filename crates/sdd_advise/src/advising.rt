@@ -24,10 +24,10 @@ use std::alloc::Global;
 /// pair of a reader and a writer, and at most one for each diagonal whose protocol isn't P3. A search is
 /// linear in the edges and nodes, and ends as soon as it has what it looks for: at its first node, where
 /// the pair has another diagonal.
-pub fn advise(alloc: Global, cat: &Catalogue) -> Result<Vec<Advice>, NoMemory>
-    ensures { IfOk result (λ advices. AreAdvices cat.now advices.items) }
+pub fn advise(alloc: Global, catalogue: &Catalogue) -> Result<Vec<Advice>, NoMemory>
+    ensures { IfOk result (λ advices. AreAdvices catalogue.now advices.items) }
 {
-    let graph = Graph::of(alloc, cat)?;
+    let graph = Graph::of(alloc, catalogue)?;
     advices_of(alloc, &graph)
 }
 

@@ -19,10 +19,10 @@ use std::alloc::Global;
 /// one for it. Anything may be asked, also of edges and nodes that aren't there.
 ///
 /// Costs one pass over the edges of the graph for each of its nodes, and for each edge of the cycle.
-pub fn check_advice(alloc: Global, cat: &Catalogue, advice: &Advice) -> Result<bool, NoMemory>
-    ensures { IfOk result (λ answer. IsTrue answer ↔ IsGood cat.now advice.now) }
+pub fn check_advice(alloc: Global, catalogue: &Catalogue, advice: &Advice) -> Result<bool, NoMemory>
+    ensures { IfOk result (λ answer. IsTrue answer ↔ IsGood catalogue.now advice.now) }
 {
-    let graph = Graph::of(alloc, cat)?;
+    let graph = Graph::of(alloc, catalogue)?;
     if !graph.has(&advice.edge) {
         return Ok(false);
     }

@@ -32,12 +32,12 @@ impl Model for Graph {
 
 impl Graph {
     /// The catalogue's conflict graph. Costs one pass over its edges for each node.
-    pub(crate) fn of(alloc: Global, cat: &Catalogue) -> Result<Graph, NoMemory>
-        ensures { IfOk result (λ graph. graph ≡ network_of cat.now) }
+    pub(crate) fn of(alloc: Global, catalogue: &Catalogue) -> Result<Graph, NoMemory>
+        ensures { IfOk result (λ graph. graph ≡ network_of catalogue.now) }
     {
-        cat.known();
-        let edges = conflict_graph(alloc, cat)?;
-        let nodes = 2 * cat.classes();
+        catalogue.known();
+        let edges = conflict_graph(alloc, catalogue)?;
+        let nodes = 2 * catalogue.classes();
         let neighbours = all_neighbours(alloc, &edges, nodes)?;
         Ok(Graph {
             nodes,

@@ -18,53 +18,57 @@ use std::alloc::Global;
 /// The first line of an advice says what the reader reads, where, who writes it, and the protocol; then
 /// each edge of the cycle has a line, and the nodes apart have one, but for P3. Costs what `advise` does,
 /// and time linear in the text.
-pub fn advice_text(alloc: Global, cat: &Catalogue) -> Result<Vec<u8>, NoMemory>
-    ensures { IfOk result (λ text. shown.IsAdviceText cat.now text.items) }
+pub fn advice_text(alloc: Global, catalogue: &Catalogue) -> Result<Vec<u8>, NoMemory>
+    ensures { IfOk result (λ text. shown.IsAdviceText catalogue.now text.items) }
 {
-    let advices = advise(alloc, cat)?;
+    let advices = advise(alloc, catalogue)?;
     let mut text = Vec::new(alloc);
-    put_advices(&mut text, cat, &advices)?;
+    put_advices(&mut text, catalogue, &advices)?;
     Ok(text)
 }
 
-fn put_advices(text: &mut Vec<u8>, cat: &Catalogue, advices: &[Advice]) -> Result<(), NoMemory>
-    requires { All (IsGood cat.now) advices.now }
+fn put_advices(
+    text: &mut Vec<u8>,
+    catalogue: &Catalogue,
+    advices: &[Advice],
+) -> Result<(), NoMemory>
+    requires { All (IsGood catalogue.now) advices.now }
     ensures { OnOk result (text.new.items
-        ≡ text.old.items ++ shown.advices_text cat.now advices.now) }
+        ≡ text.old.items ++ shown.advices_text catalogue.now advices.now) }
 {
     'advices: for advice in advices {
-        put_advice(text, cat, advice)?;
+        put_advice(text, catalogue, advice)?;
     }
     Ok(())
 }
 
-fn put_advice(text: &mut Vec<u8>, cat: &Catalogue, advice: &Advice) -> Result<(), NoMemory>
-    requires { IsGood cat.now advice.now }
+fn put_advice(text: &mut Vec<u8>, catalogue: &Catalogue, advice: &Advice) -> Result<(), NoMemory>
+    requires { IsGood catalogue.now advice.now }
     ensures { OnOk result (text.new.items
-        ≡ text.old.items ++ shown.advice_lines cat.now advice.now) }
+        ≡ text.old.items ++ shown.advice_lines catalogue.now advice.now) }
 {
-    put_first_line(text, cat, advice.protocol, &advice.edge)?;
-    put_cycle(text, cat, advice.cycle.as_slice())?;
-    put_apart(text, cat, advice.protocol, advice.apart.as_slice())
+    put_first_line(text, catalogue, advice.protocol, &advice.edge)?;
+    put_cycle(text, catalogue, advice.cycle.as_slice())?;
+    put_apart(text, catalogue, advice.protocol, advice.apart.as_slice())
 }
 
 /// The first line of a diagonal's advice; another edge has none.
 fn put_first_line(
     text: &mut Vec<u8>,
-    cat: &Catalogue,
+    catalogue: &Catalogue,
     protocol: Protocol,
     edge: &Edge,
 ) -> Result<(), NoMemory>
-    requires { IsEdgeOf cat.now edge.now }
+    requires { IsEdgeOf catalogue.now edge.now }
     ensures { OnOk result (text.new.items
-        ≡ text.old.items ++ shown.first_line cat.now protocol edge.now) }
+        ≡ text.old.items ++ shown.first_line catalogue.now protocol edge.now) }
 {
     match edge {
         Edge::Vertical(_) => Ok(()),
         Edge::Horizontal(_, _) => Ok(()),
         Edge::Diagonal(reader, writer, frag) => {
-            put_read(text, cat, *reader, *frag)?;
-            put_writer(text, cat, *writer, protocol)?;
+            put_read(text, catalogue, *reader, *frag)?;
+            put_writer(text, catalogue, *writer, protocol)?;
             put(text, b"\n")
         }
     }
@@ -73,37 +77,37 @@ fn put_first_line(
 /// Which fragment a class reads, and where.
 fn put_read(
     text: &mut Vec<u8>,
-    cat: &Catalogue,
+    catalogue: &Catalogue,
     class: ClassNo,
     frag: FragNo,
 ) -> Result<(), NoMemory>
     requires class_from { 1 ≤ class.0 }
-    requires class_to { class.0 ≤ length cat.now.classes }
+    requires class_to { class.0 ≤ length catalogue.now.classes }
     requires from { 1 ≤ frag.0 }
-    requires to { frag.0 ≤ length cat.now.fragments }
-    ensures { OnOk result (text.new.items ≡ text.old.items ++ shown.read_words cat.now class frag) }
+    requires to { frag.0 ≤ length catalogue.now.fragments }
+    ensures { OnOk result (text.new.items ≡ text.old.items ++ shown.read_words catalogue.now class frag) }
 {
-    put_class(text, cat, class)?;
+    put_class(text, catalogue, class)?;
     put(text, b" reads ")?;
-    put_fragment(text, cat, frag)?;
+    put_fragment(text, catalogue, frag)?;
     put(text, b" at D")?;
-    put_module(text, cat, class, frag)
+    put_module(text, catalogue, class, frag)
 }
 
 /// The number of the module at which the class reads the fragment.
 fn put_module(
     text: &mut Vec<u8>,
-    cat: &Catalogue,
+    catalogue: &Catalogue,
     class: ClassNo,
     frag: FragNo,
 ) -> Result<(), NoMemory>
-    requires class { class.0 ≤ length cat.now.classes }
+    requires class { class.0 ≤ length catalogue.now.classes }
     requires from { 1 ≤ frag.0 }
-    requires to { frag.0 ≤ length cat.now.fragments }
+    requires to { frag.0 ≤ length catalogue.now.fragments }
     ensures { OnOk result (text.new.items
-        ≡ text.old.items ++ shown.module_number cat.now class frag) }
+        ≡ text.old.items ++ shown.module_number catalogue.now class frag) }
 {
-    match cat.reads_at(class, frag) {
+    match catalogue.reads_at(class, frag) {
         Some(module) => put_count(text, u64::from(module.0)),
         None => put_count(text, 0),
     }
@@ -112,17 +116,17 @@ fn put_module(
 /// Who writes it, and the protocol.
 fn put_writer(
     text: &mut Vec<u8>,
-    cat: &Catalogue,
+    catalogue: &Catalogue,
     class: ClassNo,
     protocol: Protocol,
 ) -> Result<(), NoMemory>
     requires from { 1 ≤ class.0 }
-    requires to { class.0 ≤ length cat.now.classes }
+    requires to { class.0 ≤ length catalogue.now.classes }
     ensures { OnOk result (text.new.items
-        ≡ text.old.items ++ shown.writer_words cat.now class protocol) }
+        ≡ text.old.items ++ shown.writer_words catalogue.now class protocol) }
 {
     put(text, b" writer ")?;
-    put_class(text, cat, class)?;
+    put_class(text, catalogue, class)?;
     put(text, b" ")?;
     put_protocol(text, protocol)
 }
@@ -138,45 +142,45 @@ fn put_protocol(text: &mut Vec<u8>, protocol: Protocol) -> Result<(), NoMemory>
 }
 
 /// One line for each edge of the cycle.
-fn put_cycle(text: &mut Vec<u8>, cat: &Catalogue, cycle: &[Edge]) -> Result<(), NoMemory>
-    requires { All (IsEdgeOf cat.now) cycle.now }
+fn put_cycle(text: &mut Vec<u8>, catalogue: &Catalogue, cycle: &[Edge]) -> Result<(), NoMemory>
+    requires { All (IsEdgeOf catalogue.now) cycle.now }
     ensures { OnOk result (text.new.items
-        ≡ text.old.items ++ flat_map (shown.cycle_line cat.now) cycle.now) }
+        ≡ text.old.items ++ flat_map (shown.cycle_line catalogue.now) cycle.now) }
 {
     'edges: for edge in cycle {
-        put_cycle_line(text, cat, edge)?;
+        put_cycle_line(text, catalogue, edge)?;
     }
     Ok(())
 }
 
-fn put_cycle_line(text: &mut Vec<u8>, cat: &Catalogue, edge: &Edge) -> Result<(), NoMemory>
-    requires { IsEdgeOf cat.now edge.now }
-    ensures { OnOk result (text.new.items ≡ text.old.items ++ shown.cycle_line cat.now edge.now) }
+fn put_cycle_line(text: &mut Vec<u8>, catalogue: &Catalogue, edge: &Edge) -> Result<(), NoMemory>
+    requires { IsEdgeOf catalogue.now edge.now }
+    ensures { OnOk result (text.new.items ≡ text.old.items ++ shown.cycle_line catalogue.now edge.now) }
 {
     put(text, b"by ")?;
-    put_edge(text, cat, edge)?;
+    put_edge(text, catalogue, edge)?;
     put(text, b"\n")
 }
 
 /// What an edge is, and what it joins.
-fn put_edge(text: &mut Vec<u8>, cat: &Catalogue, edge: &Edge) -> Result<(), NoMemory>
-    requires { IsEdgeOf cat.now edge.now }
-    ensures { OnOk result (text.new.items ≡ text.old.items ++ shown.edge_words cat.now edge.now) }
+fn put_edge(text: &mut Vec<u8>, catalogue: &Catalogue, edge: &Edge) -> Result<(), NoMemory>
+    requires { IsEdgeOf catalogue.now edge.now }
+    ensures { OnOk result (text.new.items ≡ text.old.items ++ shown.edge_words catalogue.now edge.now) }
 {
     match edge {
         Edge::Vertical(class) => {
             put(text, b"vertical ")?;
-            put_class(text, cat, *class)
+            put_class(text, catalogue, *class)
         }
         Edge::Horizontal(first, second) => {
             put(text, b"horizontal ")?;
-            put_classes(text, cat, *first, *second)
+            put_classes(text, catalogue, *first, *second)
         }
         Edge::Diagonal(reader, writer, frag) => {
             put(text, b"diagonal ")?;
-            put_classes(text, cat, *reader, *writer)?;
+            put_classes(text, catalogue, *reader, *writer)?;
             put(text, b" ")?;
-            put_fragment(text, cat, *frag)
+            put_fragment(text, catalogue, *frag)
         }
     }
 }
@@ -184,86 +188,86 @@ fn put_edge(text: &mut Vec<u8>, cat: &Catalogue, edge: &Edge) -> Result<(), NoMe
 /// The names of two classes.
 fn put_classes(
     text: &mut Vec<u8>,
-    cat: &Catalogue,
+    catalogue: &Catalogue,
     first: ClassNo,
     second: ClassNo,
 ) -> Result<(), NoMemory>
     requires first_from { 1 ≤ first.0 }
-    requires first_to { first.0 ≤ length cat.now.classes }
+    requires first_to { first.0 ≤ length catalogue.now.classes }
     requires second_from { 1 ≤ second.0 }
-    requires second_to { second.0 ≤ length cat.now.classes }
+    requires second_to { second.0 ≤ length catalogue.now.classes }
     ensures { OnOk result (text.new.items
         ≡ text.old.items ++ shown.two_words
-        (shown.class_name cat.now first) (shown.class_name cat.now second)) }
+        (shown.class_name catalogue.now first) (shown.class_name catalogue.now second)) }
 {
-    put_class(text, cat, first)?;
+    put_class(text, catalogue, first)?;
     put(text, b" ")?;
-    put_class(text, cat, second)
+    put_class(text, catalogue, second)
 }
 
-fn put_class(text: &mut Vec<u8>, cat: &Catalogue, class: ClassNo) -> Result<(), NoMemory>
+fn put_class(text: &mut Vec<u8>, catalogue: &Catalogue, class: ClassNo) -> Result<(), NoMemory>
     requires from { 1 ≤ class.0 }
-    requires to { class.0 ≤ length cat.now.classes }
-    ensures { OnOk result (text.new.items ≡ text.old.items ++ shown.class_name cat.now class) }
+    requires to { class.0 ≤ length catalogue.now.classes }
+    ensures { OnOk result (text.new.items ≡ text.old.items ++ shown.class_name catalogue.now class) }
 {
-    put(text, cat.class(class).name.as_str().as_bytes())
+    put(text, catalogue.class(class).name.as_str().as_bytes())
 }
 
-fn put_fragment(text: &mut Vec<u8>, cat: &Catalogue, frag: FragNo) -> Result<(), NoMemory>
+fn put_fragment(text: &mut Vec<u8>, catalogue: &Catalogue, frag: FragNo) -> Result<(), NoMemory>
     requires from { 1 ≤ frag.0 }
-    requires to { frag.0 ≤ length cat.now.fragments }
-    ensures { OnOk result (text.new.items ≡ text.old.items ++ shown.fragment_name cat.now frag) }
+    requires to { frag.0 ≤ length catalogue.now.fragments }
+    ensures { OnOk result (text.new.items ≡ text.old.items ++ shown.fragment_name catalogue.now frag) }
 {
-    put(text, cat.fragment(frag).name.as_str().as_bytes())
+    put(text, catalogue.fragment(frag).name.as_str().as_bytes())
 }
 
 /// The line of the nodes apart, which P3 hasn't.
 fn put_apart(
     text: &mut Vec<u8>,
-    cat: &Catalogue,
+    catalogue: &Catalogue,
     protocol: Protocol,
     nodes: &[u32],
 ) -> Result<(), NoMemory>
-    requires { All (λ node. node < 2 * length cat.now.classes) nodes.now }
+    requires { All (λ node. node < 2 * length catalogue.now.classes) nodes.now }
     ensures { OnOk result (text.new.items
-        ≡ text.old.items ++ shown.apart_line cat.now protocol nodes.now) }
+        ≡ text.old.items ++ shown.apart_line catalogue.now protocol nodes.now) }
 {
     match protocol {
-        Protocol::P1 => put_nodes_line(text, cat, nodes),
-        Protocol::P2 => put_nodes_line(text, cat, nodes),
+        Protocol::P1 => put_nodes_line(text, catalogue, nodes),
+        Protocol::P2 => put_nodes_line(text, catalogue, nodes),
         Protocol::P3 => Ok(()),
     }
 }
 
-fn put_nodes_line(text: &mut Vec<u8>, cat: &Catalogue, nodes: &[u32]) -> Result<(), NoMemory>
-    requires { All (λ node. node < 2 * length cat.now.classes) nodes.now }
-    ensures { OnOk result (text.new.items ≡ text.old.items ++ shown.nodes_line cat.now nodes.now) }
+fn put_nodes_line(text: &mut Vec<u8>, catalogue: &Catalogue, nodes: &[u32]) -> Result<(), NoMemory>
+    requires { All (λ node. node < 2 * length catalogue.now.classes) nodes.now }
+    ensures { OnOk result (text.new.items ≡ text.old.items ++ shown.nodes_line catalogue.now nodes.now) }
 {
     put(text, b"apart")?;
-    put_nodes(text, cat, nodes)?;
+    put_nodes(text, catalogue, nodes)?;
     put(text, b"\n")
 }
 
-fn put_nodes(text: &mut Vec<u8>, cat: &Catalogue, nodes: &[u32]) -> Result<(), NoMemory>
-    requires { All (λ node. node < 2 * length cat.now.classes) nodes.now }
+fn put_nodes(text: &mut Vec<u8>, catalogue: &Catalogue, nodes: &[u32]) -> Result<(), NoMemory>
+    requires { All (λ node. node < 2 * length catalogue.now.classes) nodes.now }
     ensures { OnOk result (text.new.items
-        ≡ text.old.items ++ flat_map (shown.spaced_node cat.now) nodes.now) }
+        ≡ text.old.items ++ flat_map (shown.spaced_node catalogue.now) nodes.now) }
 {
     'nodes: for node in nodes {
-        put_node(text, cat, *node)?;
+        put_node(text, catalogue, *node)?;
     }
     Ok(())
 }
 
 /// A node, with a space before it: whether it is a read or a write node, and of which class.
-fn put_node(text: &mut Vec<u8>, cat: &Catalogue, node: u32) -> Result<(), NoMemory>
-    requires { node < 2 * length cat.now.classes }
-    ensures { OnOk result (text.new.items ≡ text.old.items ++ shown.spaced_node cat.now node) }
+fn put_node(text: &mut Vec<u8>, catalogue: &Catalogue, node: u32) -> Result<(), NoMemory>
+    requires { node < 2 * length catalogue.now.classes }
+    ensures { OnOk result (text.new.items ≡ text.old.items ++ shown.spaced_node catalogue.now node) }
 {
     if node % 2 == 0 {
         put(text, b" r:")?;
     } else {
         put(text, b" w:")?;
     }
-    put_class(text, cat, ClassNo(node / 2 + 1))
+    put_class(text, catalogue, ClassNo(node / 2 + 1))
 }

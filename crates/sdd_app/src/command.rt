@@ -26,12 +26,12 @@ pub fn parse_words<'a>(words: &'a [String]) -> Option<Command<'a>>
     ensures none { IfNone result ((f : Form) → IsForm f → map string_bytes words.now ≡ words_of f → ⊥) }
 {
     match words {
-        [name, cat] => match name.as_str() {
-            "check" => Some(Command::Check(cat.as_str())),
-            "graph" => Some(Command::Graph(cat.as_str())),
-            "table" => Some(Command::Table(cat.as_str())),
-            "control" => Some(Command::Control(cat.as_str())),
-            "advise" => Some(Command::Advise(cat.as_str())),
+        [name, catalogue] => match name.as_str() {
+            "check" => Some(Command::Check(catalogue.as_str())),
+            "graph" => Some(Command::Graph(catalogue.as_str())),
+            "table" => Some(Command::Table(catalogue.as_str())),
+            "control" => Some(Command::Control(catalogue.as_str())),
+            "advise" => Some(Command::Advise(catalogue.as_str())),
             _ => None,
         },
         [name, first, second] => match name.as_str() {
@@ -40,8 +40,8 @@ pub fn parse_words<'a>(words: &'a [String]) -> Option<Command<'a>>
             "make" => make_of(first.as_str(), second.as_str()),
             _ => None,
         },
-        [name, cat, work, report] => match name.as_str() {
-            "verify" => Some(Command::Verify(cat.as_str(), work.as_str(), report.as_str())),
+        [name, catalogue, work, report] => match name.as_str() {
+            "verify" => Some(Command::Verify(catalogue.as_str(), work.as_str(), report.as_str())),
             _ => None,
         },
         _ => None,

@@ -18,15 +18,15 @@ use std::alloc::Global;
 /// Start is recorded with its READs.
 pub(crate) fn start_attempt(
     alloc: Global,
-    cat: &Catalogue,
+    catalogue: &Catalogue,
     table: Option<&Table>,
     class: ClassNo,
     queued: &Queued,
     clock: &mut Clock,
     draft: &mut Draft,
 ) -> Result<Running, NoMemory>
-    requires fits { FitsTxn cat.now queued.now.text }
-    requires declared { IsDeclared cat.now class.0 (option_map (λ t. t.now) table) }
+    requires fits { FitsTxn catalogue.now queued.now.text }
+    requires declared { IsDeclared catalogue.now class.0 (option_map (λ t. t.now) table) }
     requires tries { suc queued.now.tries < 2 ^ 64 }
     requires time { clock.old.ticks + 1 < 2 ^ 57 }
     ensures running { let table = unwrap_or (option_map (λ t. t.now) table.entry) [] in
@@ -34,16 +34,16 @@ pub(crate) fn start_attempt(
         running
         ≡ record {
           ts = timestamp (ticked clock.old 1);
-          exchange = begins queued.now.text (sends_of_act (start_act cat.now table class.0 clock.old queued.now));
+          exchange = begins queued.now.text (sends_of_act (start_act catalogue.now table class.0 clock.old queued.now));
         }) }
     ensures draft { let table = unwrap_or (option_map (λ t. t.now) table.entry) [] in
         OnOk result (
-        draft.new ≡ with_act (start_act cat.now table class.0 clock.old queued.now) draft.old) }
+        draft.new ≡ with_act (start_act catalogue.now table class.0 clock.old queued.now) draft.old) }
     ensures clock { clock.new ≡ ticked clock.old 1 }
 {
     let p2 = clock.bound();
     let own = clock.start();
-    let beginning = Beginning::of(alloc, cat, table, class, queued, own, p2)?;
+    let beginning = Beginning::of(alloc, catalogue, table, class, queued, own, p2)?;
     let modules = beginning.send_reads(draft)?;
     let exchange = Exchange::begin(alloc, &queued.text, modules)?;
     draft.record(beginning.into_record())?;

@@ -18,28 +18,28 @@ use std::alloc::Global;
 /// Commits an attempt of the class: its Commit is recorded, with its WRITEs.
 pub(crate) fn committed(
     alloc: Global,
-    cat: &Catalogue,
+    catalogue: &Catalogue,
     class: ClassNo,
     queued: Queued,
     running: Running,
     draft: &mut Draft,
 ) -> Result<(), NoMemory>
-    requires { FitsTxn cat.now queued.text }
+    requires { FitsTxn catalogue.now queued.text }
     ensures { OnOk result (
-        (bases : Bases) → ((ts : ℕ) → IsDatabase cat.now (bases ts))
-        → Serves cat.now queued.text running.exchange.found (bases running.ts)
-        → draft.new ≡ with_act (commit_act cat.now bases class.0 (attempt_of queued running)) draft.old) }
+        (bases : Bases) → ((ts : ℕ) → IsDatabase catalogue.now (bases ts))
+        → Serves catalogue.now queued.text running.exchange.found (bases running.ts)
+        → draft.new ≡ with_act (commit_act catalogue.now bases class.0 (attempt_of queued running)) draft.old) }
 {
     let Running { ts, exchange } = running;
     let values = exchange.values();
     let rows = exchange.rows();
-    let effect = effect_from(alloc, cat, &queued.text, exchange.into_found())?;
+    let effect = effect_from(alloc, catalogue, &queued.text, exchange.into_found())?;
     let attempt = Committing {
         class,
         txn: queued.number,
         ts,
     };
-    send_writes(alloc, cat, attempt, effect.changes.as_slice(), draft)?;
+    send_writes(alloc, catalogue, attempt, effect.changes.as_slice(), draft)?;
     let reply = PrintedReply::of(alloc, &effect.reply)?;
     draft.record(Rec::Commit {
         txn: queued.number,
@@ -55,14 +55,14 @@ pub(crate) fn committed(
 /// The effect on each database that the rows serve.
 fn effect_from(
     alloc: Global,
-    cat: &Catalogue,
+    catalogue: &Catalogue,
     text: &Txn,
     rows: Vec<(u32, Row)>,
 ) -> Result<Effect, NoMemory>
-    requires { FitsTxn cat.now text.now }
+    requires { FitsTxn catalogue.now text.now }
     ensures { IfOk result (λ made.
-        (db : Database) → IsDatabase cat.now db → Serves cat.now text.now rows.items db
-        → made ≡ effect cat.now db text.now) }
+        (db : Database) → IsDatabase catalogue.now db → Serves catalogue.now text.now rows.items db
+        → made ≡ effect catalogue.now db text.now) }
 {
-    effect(alloc, cat, text, &Snapshot::of(rows))
+    effect(alloc, catalogue, text, &Snapshot::of(rows))
 }

@@ -30,7 +30,7 @@ use std::marker::Model;
 #[derive(Drop)]
 pub struct Line<'a> {
     alloc: Global,
-    cat: &'a Catalogue,
+    catalogue: &'a Catalogue,
     class: ClassNo,
     queue: VecDeque<Queued>,
     running: Option<Running>,
@@ -41,20 +41,20 @@ impl<'a> Model for Line<'a> {
 
     ghost Value = { lines.Line };
 
-    ghost view = { λ l. lines.line_of l.cat.now l.class.0 l.queue.items l.running };
+    ghost view = { λ l. lines.line_of l.catalogue.now l.class.0 l.queue.items l.running };
 
-    ghost invariant = { λ l. lines.IsLine l.cat.now l.class.0 l.queue.items l.running };
+    ghost invariant = { λ l. lines.IsLine l.catalogue.now l.class.0 l.queue.items l.running };
 }
 
 impl<'a> Line<'a> {
     /// The line of a class, where class 0 is that of undeclared transactions. Takes no memory.
-    pub fn new(alloc: Global, cat: &'a Catalogue, class: ClassNo) -> Line<'a>
-        requires { class.0 ≤ length cat.now.classes }
-        ensures { result ≡ no_line cat.now class.0 }
+    pub fn new(alloc: Global, catalogue: &'a Catalogue, class: ClassNo) -> Line<'a>
+        requires { class.0 ≤ length catalogue.now.classes }
+        ensures { result ≡ no_line catalogue.now class.0 }
     {
         Line {
             alloc,
-            cat,
+            catalogue,
             class,
             queue: VecDeque::new(alloc),
             running: None,
@@ -283,7 +283,14 @@ impl<'a> Line<'a> {
             Some(running) => match self.queue.pop_front() {
                 None => return Ok(()),
                 Some(queued) => {
-                    return committed(self.alloc, self.cat, self.class, queued, running, draft);
+                    return committed(
+                        self.alloc,
+                        self.catalogue,
+                        self.class,
+                        queued,
+                        running,
+                        draft,
+                    );
                 }
             },
         }
@@ -353,12 +360,18 @@ impl<'a> Line<'a> {
         ensures catalogue { self.new.catalogue ≡ self.old.catalogue }
         ensures class { self.new.class ≡ self.old.class }
     {
-        self.cat.known();
+        self.catalogue.known();
         match self.queue.front_mut() {
             None => Ok(()),
             Some(queued) => {
                 let running = start_attempt(
-                    self.alloc, self.cat, table, self.class, queued, clock, draft,
+                    self.alloc,
+                    self.catalogue,
+                    table,
+                    self.class,
+                    queued,
+                    clock,
+                    draft,
                 )?;
                 queued.add_try();
                 self.running = Some(running);

@@ -25,7 +25,7 @@ use std::marker::Model;
 #[derive(Drop)]
 pub(crate) struct Beginning<'a> {
     alloc: Global,
-    cat: &'a Catalogue,
+    catalogue: &'a Catalogue,
     /// None for an undeclared transaction.
     table: Option<&'a Table>,
     class: ClassNo,
@@ -45,7 +45,7 @@ impl<'a> Model for Beginning<'a> {
 
     ghost view = { λ b.
         record {
-          catalogue = b.cat.now;
+          catalogue = b.catalogue.now;
           table = unwrap_or (option_map (λ t. t.now) b.table) [];
           class = b.class.0;
           queued = b.queued.now;
@@ -55,39 +55,39 @@ impl<'a> Model for Beginning<'a> {
         } };
 
     ghost invariant = { λ b.
-        beginnings.IsBeginning b.cat.now (option_map (λ t. t.now) b.table) b.class.0 b.queued.now.tries b.uses.items b.frags.items };
+        beginnings.IsBeginning b.catalogue.now (option_map (λ t. t.now) b.table) b.class.0 b.queued.now.tries b.uses.items b.frags.items };
 }
 
 impl<'a> Beginning<'a> {
     /// The next attempt of a transaction in the queue of the class.
     pub(crate) fn of(
         alloc: Global,
-        cat: &'a Catalogue,
+        catalogue: &'a Catalogue,
         table: Option<&'a Table>,
         class: ClassNo,
         queued: &'a Queued,
         own: Ts,
         p2: Ts,
     ) -> Result<Beginning<'a>, NoMemory>
-        requires fits { FitsTxn cat.now queued.now.text }
-        requires declared { IsDeclared cat.now class.0 (option_map (λ t. t.now) table) }
+        requires fits { FitsTxn catalogue.now queued.now.text }
+        requires declared { IsDeclared catalogue.now class.0 (option_map (λ t. t.now) table) }
         requires tries { suc queued.now.tries < 2 ^ 64 }
         ensures { IfOk result (λ b.
             b ≡ record {
-              catalogue = cat.now;
+              catalogue = catalogue.now;
               table = unwrap_or (option_map (λ t. t.now) table.entry) [];
               class = class.0;
               queued = queued.now;
-              uses = uses_of cat.now queued.now.text;
+              uses = uses_of catalogue.now queued.now.text;
               own = own.0;
               p2 = p2.0;
             }) }
     {
-        let uses = uses(alloc, cat, &queued.text)?;
-        let frags = read_set(alloc, cat, &queued.text)?;
+        let uses = uses(alloc, catalogue, &queued.text)?;
+        let frags = read_set(alloc, catalogue, &queued.text)?;
         Ok(Beginning {
             alloc,
-            cat,
+            catalogue,
             table,
             class,
             queued,
@@ -139,9 +139,9 @@ impl<'a> Beginning<'a> {
             ≡ modules_of self.now.catalogue self.now.class (ascending (fragments_in self.now.uses))) }
     {
         if self.class.0 == 0 {
-            return all_modules(self.alloc, self.cat);
+            return all_modules(self.alloc, self.catalogue);
         }
-        modules_read(self.alloc, self.cat, self.class, &self.frags)
+        modules_read(self.alloc, self.catalogue, self.class, &self.frags)
     }
 
     /// The READ to a module.
@@ -153,7 +153,7 @@ impl<'a> Beginning<'a> {
     {
         let queued = self.queued;
         let conds = self.conditions(dm)?;
-        let uses = uses_at(self.alloc, self.cat, self.class, dm, &self.uses)?;
+        let uses = uses_at(self.alloc, self.catalogue, self.class, dm, &self.uses)?;
         Ok((
             Site::D(dm),
             Msg::Read {
@@ -175,10 +175,17 @@ impl<'a> Beginning<'a> {
             (ascending (fragments_in self.now.uses)) self.now.own self.now.p2 dm.0) }
     {
         match self.table {
-            None => Ok(Conds::from_vec(undeclared(self.alloc, self.cat, self.own)?)),
+            None => Ok(Conds::from_vec(undeclared(self.alloc, self.catalogue, self.own)?)),
             Some(table) => {
                 let frags = self.frags.as_slice();
-                let conds = table.condition(self.cat, self.class, dm, frags, self.own, self.p2)?;
+                let conds = table.condition(
+                    self.catalogue,
+                    self.class,
+                    dm,
+                    frags,
+                    self.own,
+                    self.p2,
+                )?;
                 Ok(Conds::from_vec(conds))
             }
         }
@@ -208,12 +215,12 @@ fn send_reads_to(
 }
 
 /// All data modules.
-fn all_modules(alloc: Global, cat: &Catalogue) -> Result<Vec<DmNo>, NoMemory>
-    ensures { IfOk result (λ dms. map (λ n. n.0) dms.items ≡ numbers_to cat.now.dms) }
+fn all_modules(alloc: Global, catalogue: &Catalogue) -> Result<Vec<DmNo>, NoMemory>
+    ensures { IfOk result (λ dms. map (λ n. n.0) dms.items ≡ numbers_to catalogue.now.dms) }
 {
-    cat.known();
-    let mut dms = Vec::with_capacity(alloc, cat.dms() as usize)?;
-    for number in 1..cat.dms() + 1 {
+    catalogue.known();
+    let mut dms = Vec::with_capacity(alloc, catalogue.dms() as usize)?;
+    for number in 1..catalogue.dms() + 1 {
         dms.push(DmNo(number as u8))?;
     }
     Ok(dms)
@@ -222,19 +229,19 @@ fn all_modules(alloc: Global, cat: &Catalogue) -> Result<Vec<DmNo>, NoMemory>
 /// The modules at which the class reads the fragments, ascending.
 fn modules_read(
     alloc: Global,
-    cat: &Catalogue,
+    catalogue: &Catalogue,
     class: ClassNo,
     frags: &[FragNo],
 ) -> Result<Vec<DmNo>, NoMemory>
-    requires class { class.0 ≤ length cat.now.classes }
-    requires there { AreThere cat.now frags.now }
+    requires class { class.0 ≤ length catalogue.now.classes }
+    requires there { AreThere catalogue.now frags.now }
     ensures { IfOk result (λ dms.
         map (λ n. n.0) dms.items
-        ≡ ascending (filter_map (reads_at cat.now class.0) (map (λ f. f.0) frags.now))) }
+        ≡ ascending (filter_map (reads_at catalogue.now class.0) (map (λ f. f.0) frags.now))) }
 {
-    let mut dms = Vec::with_capacity(alloc, frags.len().min(cat.dms() as usize))?;
+    let mut dms = Vec::with_capacity(alloc, frags.len().min(catalogue.dms() as usize))?;
     for frag in frags {
-        add_module(&mut dms, cat.reads_at(class, *frag))?;
+        add_module(&mut dms, catalogue.reads_at(class, *frag))?;
     }
     Ok(dms)
 }
@@ -281,19 +288,19 @@ fn place_of(dms: &[DmNo], dm: DmNo) -> Option<usize>
 /// fragments.
 fn uses_at(
     alloc: Global,
-    cat: &Catalogue,
+    catalogue: &Catalogue,
     class: ClassNo,
     dm: DmNo,
     uses: &[Use],
 ) -> Result<Vec<Use>, NoMemory>
-    requires class { class.0 ≤ length cat.now.classes }
-    requires there { All (λ u. AreThere cat.now u.frags) uses.now }
+    requires class { class.0 ≤ length catalogue.now.classes }
+    requires there { All (λ u. AreThere catalogue.now u.frags) uses.now }
     ensures { IfOk result (λ found.
-        found.items ≡ filter_map (use_there cat.now class.0 dm.0) uses.now) }
+        found.items ≡ filter_map (use_there catalogue.now class.0 dm.0) uses.now) }
 {
     let mut found = Vec::with_capacity(alloc, uses.len())?;
     for one in uses {
-        add_use(alloc, cat, class, dm, one, &mut found)?;
+        add_use(alloc, catalogue, class, dm, one, &mut found)?;
     }
     Ok(found)
 }
@@ -301,19 +308,19 @@ fn uses_at(
 /// Adds the use, where it has such a fragment.
 fn add_use(
     alloc: Global,
-    cat: &Catalogue,
+    catalogue: &Catalogue,
     class: ClassNo,
     dm: DmNo,
     one: &Use,
     found: &mut Vec<Use>,
 ) -> Result<(), NoMemory>
-    requires class { class.0 ≤ length cat.now.classes }
-    requires there { AreThere cat.now one.now.frags }
+    requires class { class.0 ≤ length catalogue.now.classes }
+    requires there { AreThere catalogue.now one.now.frags }
     ensures { OnOk result (
         found.new.items
-        ≡ found.old.items ++ filter_map (use_there cat.now class.0 dm.0) (one.now ∷ [])) }
+        ≡ found.old.items ++ filter_map (use_there catalogue.now class.0 dm.0) (one.now ∷ [])) }
 {
-    let frags = read_at(alloc, cat, class, dm, one.frags.as_slice())?;
+    let frags = read_at(alloc, catalogue, class, dm, one.frags.as_slice())?;
     if frags.is_empty() {
         return Ok(());
     }
@@ -336,19 +343,19 @@ fn with_frags(one: &Use, frags: Vec<FragNo>) -> Result<Use, NoMemory>
 /// Of the fragments those that the class reads at the module.
 fn read_at(
     alloc: Global,
-    cat: &Catalogue,
+    catalogue: &Catalogue,
     class: ClassNo,
     dm: DmNo,
     frags: &[FragNo],
 ) -> Result<Vec<FragNo>, NoMemory>
-    requires class { class.0 ≤ length cat.now.classes }
-    requires there { AreThere cat.now frags.now }
+    requires class { class.0 ≤ length catalogue.now.classes }
+    requires there { AreThere catalogue.now frags.now }
     ensures { IfOk result (λ found.
-        found.items ≡ filter (λ f. is_read_at cat.now class.0 dm.0 f.0) frags.now) }
+        found.items ≡ filter (λ f. is_read_at catalogue.now class.0 dm.0 f.0) frags.now) }
 {
     let mut found = Vec::new(alloc);
     for frag in frags {
-        if cat.reads_at(class, *frag) == Some(dm) {
+        if catalogue.reads_at(class, *frag) == Some(dm) {
             found.push(*frag)?;
         }
     }

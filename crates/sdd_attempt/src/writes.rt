@@ -23,7 +23,7 @@ pub(crate) struct Committing {
 /// copies.
 pub(crate) fn send_writes(
     alloc: Global,
-    cat: &Catalogue,
+    catalogue: &Catalogue,
     attempt: Committing,
     changes: &[Change],
     draft: &mut Draft,
@@ -32,13 +32,20 @@ pub(crate) fn send_writes(
         draft.new
         ≡ record draft.old {
           out = draft.old.out
-              ++ filter_map (write_of cat.now attempt.class.0 attempt.ts.0 attempt.txn.0 changes.now)
-              (numbers_to cat.now.dms);
+              ++ filter_map (write_of catalogue.now attempt.class.0 attempt.ts.0 attempt.txn.0 changes.now)
+              (numbers_to catalogue.now.dms);
         }) }
 {
-    cat.known();
-    for number in 1..cat.dms() + 1 {
-        send_write(alloc, cat, attempt, changes, DmNo(number as u8), draft)?;
+    catalogue.known();
+    for number in 1..catalogue.dms() + 1 {
+        send_write(
+            alloc,
+            catalogue,
+            attempt,
+            changes,
+            DmNo(number as u8),
+            draft,
+        )?;
     }
     Ok(())
 }
@@ -46,7 +53,7 @@ pub(crate) fn send_writes(
 /// Sends the WRITE to a module, where one goes there.
 fn send_write(
     alloc: Global,
-    cat: &Catalogue,
+    catalogue: &Catalogue,
     attempt: Committing,
     changes: &[Change],
     dm: DmNo,
@@ -56,11 +63,11 @@ fn send_write(
         draft.new
         ≡ record draft.old {
           out = draft.old.out
-              ++ filter_map (write_of cat.now attempt.class.0 attempt.ts.0 attempt.txn.0 changes.now)
+              ++ filter_map (write_of catalogue.now attempt.class.0 attempt.ts.0 attempt.txn.0 changes.now)
               (dm.0 ∷ []);
         }) }
 {
-    let here = changes_at(alloc, cat, dm, changes)?;
+    let here = changes_at(alloc, catalogue, dm, changes)?;
     if here.is_empty() && attempt.class.0 != 0 {
         return Ok(());
     }
@@ -78,50 +85,50 @@ fn send_write(
 /// Of the changes those of fragments that have a copy at the module.
 fn changes_at(
     alloc: Global,
-    cat: &Catalogue,
+    catalogue: &Catalogue,
     dm: DmNo,
     changes: &[Change],
 ) -> Result<Vec<Change>, NoMemory>
-    ensures { IfOk result (λ here. here.items ≡ changes_at cat.now dm.0 changes.now) }
+    ensures { IfOk result (λ here. here.items ≡ changes_at catalogue.now dm.0 changes.now) }
 {
-    let mut here = Vec::with_capacity(alloc, count_at(cat, dm, changes))?;
+    let mut here = Vec::with_capacity(alloc, count_at(catalogue, dm, changes))?;
     for change in changes {
-        add_change(cat, dm, change, &mut here)?;
+        add_change(catalogue, dm, change, &mut here)?;
     }
     Ok(here)
 }
 
 /// How many they are, for which room is made at once.
-fn count_at(cat: &Catalogue, dm: DmNo, changes: &[Change]) -> usize {
+fn count_at(catalogue: &Catalogue, dm: DmNo, changes: &[Change]) -> usize {
     changes
         .iter()
-        .filter(|change| has_copy(cat, dm, change.frag))
+        .filter(|change| has_copy(catalogue, dm, change.frag))
         .count()
 }
 
 /// Adds the change, where its fragment has a copy at the module.
 fn add_change(
-    cat: &Catalogue,
+    catalogue: &Catalogue,
     dm: DmNo,
     change: &Change,
     here: &mut Vec<Change>,
 ) -> Result<(), NoMemory>
     ensures { OnOk result (
-        here.new.items ≡ here.old.items ++ changes_at cat.now dm.0 (change.now ∷ [])) }
+        here.new.items ≡ here.old.items ++ changes_at catalogue.now dm.0 (change.now ∷ [])) }
 {
-    if has_copy(cat, dm, change.frag) {
+    if has_copy(catalogue, dm, change.frag) {
         here.push(change.copy()?)?;
     }
     Ok(())
 }
 
 /// Whether the module has a copy of the fragment, whatever its number.
-fn has_copy(cat: &Catalogue, dm: DmNo, frag: FragNo) -> bool
-    ensures { result ≡ has_copy cat.now dm.0 frag.0 }
+fn has_copy(catalogue: &Catalogue, dm: DmNo, frag: FragNo) -> bool
+    ensures { result ≡ has_copy catalogue.now dm.0 frag.0 }
 {
     let number = frag.0.max(1);
-    if number > cat.fragments() {
+    if number > catalogue.fragments() {
         return false;
     }
-    cat.has_copy(dm, FragNo(number))
+    catalogue.has_copy(dm, FragNo(number))
 }

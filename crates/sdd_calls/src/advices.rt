@@ -4,18 +4,18 @@ use sdd_script::sdd_base::NoMemory;
 use sdd_script::sdd_catalog::Catalogue;
 use std::alloc::Global;
 
-pub fn are_judged(alloc: Global, cat: &Catalogue) -> Result<bool, NoMemory> {
-    let mut advices = advise(alloc, cat)?;
+pub fn are_judged(alloc: Global, catalogue: &Catalogue) -> Result<bool, NoMemory> {
+    let mut advices = advise(alloc, catalogue)?;
     match advices.pop() {
-        Some(last) => is_judged(alloc, cat, last),
+        Some(last) => is_judged(alloc, catalogue, last),
         None => Ok(false),
     }
 }
 
-fn is_judged(alloc: Global, cat: &Catalogue, advice: Advice) -> Result<bool, NoMemory> {
-    let good = check_advice(alloc, cat, &advice)?;
+fn is_judged(alloc: Global, catalogue: &Catalogue, advice: Advice) -> Result<bool, NoMemory> {
+    let good = check_advice(alloc, catalogue, &advice)?;
     let emptied = without_cycle(alloc, advice);
-    Ok(good && !check_advice(alloc, cat, &emptied)?)
+    Ok(good && !check_advice(alloc, catalogue, &emptied)?)
 }
 
 fn without_cycle(alloc: Global, advice: Advice) -> Advice {

@@ -14,7 +14,7 @@ use std::alloc::Global;
 pub fn tell_calls(alloc: Global, out: &mut Vec<u8>) -> Result<(), NoMemory> {
     let made = make(alloc, 1, 1)?;
     match read_catalogue(alloc, made.catalogue.as_slice()) {
-        Ok(cat) => tell_all(alloc, out, &cat, made.workload.as_slice()),
+        Ok(catalogue) => tell_all(alloc, out, &catalogue, made.workload.as_slice()),
         Err(_) => Ok(()),
     }
 }
@@ -22,46 +22,54 @@ pub fn tell_calls(alloc: Global, out: &mut Vec<u8>) -> Result<(), NoMemory> {
 fn tell_all(
     alloc: Global,
     out: &mut Vec<u8>,
-    cat: &Catalogue,
+    catalogue: &Catalogue,
     workload: &[u8],
 ) -> Result<(), NoMemory> {
-    tell_catalogues(alloc, out, cat)?;
-    match read_workload(alloc, workload, cat) {
-        Ok(work) => tell_transactions(alloc, out, cat, &work),
+    tell_catalogues(alloc, out, catalogue)?;
+    match read_workload(alloc, workload, catalogue) {
+        Ok(work) => tell_transactions(alloc, out, catalogue, &work),
         Err(_) => Ok(()),
     }
 }
 
-fn tell_catalogues(alloc: Global, out: &mut Vec<u8>, cat: &Catalogue) -> Result<(), NoMemory> {
+fn tell_catalogues(
+    alloc: Global,
+    out: &mut Vec<u8>,
+    catalogue: &Catalogue,
+) -> Result<(), NoMemory> {
     tell(
         out,
         b"parts and build",
-        catalogues::is_built_again(alloc, cat)?,
+        catalogues::is_built_again(alloc, catalogue)?,
     )?;
-    tell(out, b"extend", catalogues::is_extended(alloc, cat)?)?;
+    tell(out, b"extend", catalogues::is_extended(alloc, catalogue)?)?;
     tell(
         out,
         b"extend by a name that is there",
-        catalogues::is_refused(alloc, cat)?,
+        catalogues::is_refused(alloc, catalogue)?,
     )?;
-    tell(out, b"retire", catalogues::is_retired(alloc, cat)?)?;
-    tell(out, b"check_advice", advices::are_judged(alloc, cat)?)
+    tell(out, b"retire", catalogues::is_retired(alloc, catalogue)?)?;
+    tell(out, b"check_advice", advices::are_judged(alloc, catalogue)?)
 }
 
 fn tell_transactions(
     alloc: Global,
     out: &mut Vec<u8>,
-    cat: &Catalogue,
+    catalogue: &Catalogue,
     work: &Workload,
 ) -> Result<(), NoMemory>
-    requires { IsValid cat.now work.now }
+    requires { IsValid catalogue.now work.now }
 {
     let txns = work.txns.as_slice();
     tell(
         out,
         b"write_set",
-        transactions::write_both(alloc, cat, txns)?,
+        transactions::write_both(alloc, catalogue, txns)?,
     )?;
-    tell(out, b"run_all", transactions::are_run(alloc, cat, work)?)?;
+    tell(
+        out,
+        b"run_all",
+        transactions::are_run(alloc, catalogue, work)?,
+    )?;
     tell(out, b"make", txns.len() == 1)
 }

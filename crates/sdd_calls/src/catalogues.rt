@@ -5,37 +5,37 @@ use sdd_script::sdd_catalog::{CatError, Catalogue, ClassPart, Parts};
 use std::alloc::Global;
 use std::slice;
 
-pub fn is_built_again(alloc: Global, cat: &Catalogue) -> Result<bool, NoMemory> {
-    let parts = cat.parts()?;
-    let copy = cat.copy()?;
+pub fn is_built_again(alloc: Global, catalogue: &Catalogue) -> Result<bool, NoMemory> {
+    let parts = catalogue.parts()?;
+    let copy = catalogue.copy()?;
     Ok(has_parts(&copy, &parts)? && is_built(alloc, &parts)?)
 }
 
 /// Whether the catalogue has as many relations and fragments as the parts, and the same last class.
-fn has_parts(cat: &Catalogue, parts: &Parts) -> Result<bool, NoMemory> {
+fn has_parts(catalogue: &Catalogue, parts: &Parts) -> Result<bool, NoMemory> {
     match parts.classes.as_slice() {
-        [.., last] => Ok(has_counts(cat, parts) && ends_with(cat, last)?),
+        [.., last] => Ok(has_counts(catalogue, parts) && ends_with(catalogue, last)?),
         _ => Ok(false),
     }
 }
 
-fn has_counts(cat: &Catalogue, parts: &Parts) -> bool {
-    cat.relations() as usize == parts.relations.as_slice().len()
-        && cat.fragments() as usize == parts.fragments.as_slice().len()
-        && cat.classes() as usize == parts.classes.as_slice().len()
+fn has_counts(catalogue: &Catalogue, parts: &Parts) -> bool {
+    catalogue.relations() as usize == parts.relations.as_slice().len()
+        && catalogue.fragments() as usize == parts.fragments.as_slice().len()
+        && catalogue.classes() as usize == parts.classes.as_slice().len()
 }
 
 fn is_built(alloc: Global, parts: &Parts) -> Result<bool, NoMemory> {
     match Catalogue::build(alloc, parts) {
-        Ok(cat) => has_parts(&cat, parts),
+        Ok(catalogue) => has_parts(&catalogue, parts),
         Err(_) => Ok(false),
     }
 }
 
 /// A class `audit` comes after those that are there.
-pub fn is_extended(alloc: Global, cat: &Catalogue) -> Result<bool, NoMemory> {
+pub fn is_extended(alloc: Global, catalogue: &Catalogue) -> Result<bool, NoMemory> {
     match Name::new(alloc, "audit")? {
-        Some(name) => is_extended_by(alloc, cat, idle(alloc, name)),
+        Some(name) => is_extended_by(alloc, catalogue, idle(alloc, name)),
         None => Ok(false),
     }
 }
@@ -50,15 +50,19 @@ fn idle(alloc: Global, name: Name) -> ClassPart {
     }
 }
 
-fn is_extended_by(alloc: Global, cat: &Catalogue, class: ClassPart) -> Result<bool, NoMemory> {
-    match extend(alloc, cat, slice::from_ref(&class)) {
+fn is_extended_by(
+    alloc: Global,
+    catalogue: &Catalogue,
+    class: ClassPart,
+) -> Result<bool, NoMemory> {
+    match extend(alloc, catalogue, slice::from_ref(&class)) {
         Ok(extended) => ends_with(&extended, &class),
         Err(_) => Ok(false),
     }
 }
 
-fn ends_with(cat: &Catalogue, class: &ClassPart) -> Result<bool, NoMemory> {
-    let parts = cat.parts()?;
+fn ends_with(catalogue: &Catalogue, class: &ClassPart) -> Result<bool, NoMemory> {
+    let parts = catalogue.parts()?;
     Ok(is_last(parts.classes.as_slice(), class))
 }
 
@@ -71,23 +75,23 @@ fn is_last(classes: &[ClassPart], class: &ClassPart) -> bool {
 }
 
 /// No class is put behind those that are there by the name of one of them.
-pub fn is_refused(alloc: Global, cat: &Catalogue) -> Result<bool, NoMemory> {
-    let parts = cat.parts()?;
-    match extend(alloc, cat, parts.classes.as_slice()) {
+pub fn is_refused(alloc: Global, catalogue: &Catalogue) -> Result<bool, NoMemory> {
+    let parts = catalogue.parts()?;
+    match extend(alloc, catalogue, parts.classes.as_slice()) {
         Err(CatError::Fault(_)) => Ok(true),
         _ => Ok(false),
     }
 }
 
 /// All classes retire: the last one reads and writes nothing any more.
-pub fn is_retired(alloc: Global, cat: &Catalogue) -> Result<bool, NoMemory> {
-    let retired = retire(alloc, cat, cat.classes())?;
+pub fn is_retired(alloc: Global, catalogue: &Catalogue) -> Result<bool, NoMemory> {
+    let retired = retire(alloc, catalogue, catalogue.classes())?;
     has_idle(&retired)
 }
 
 /// Whether the last class reads and writes nothing.
-fn has_idle(cat: &Catalogue) -> Result<bool, NoMemory> {
-    let parts = cat.parts()?;
+fn has_idle(catalogue: &Catalogue) -> Result<bool, NoMemory> {
+    let parts = catalogue.parts()?;
     Ok(ends_idle(parts.classes.as_slice()))
 }
 

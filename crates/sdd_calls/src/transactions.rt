@@ -10,35 +10,35 @@ use sdd_script::sdd_lang::{Txn, fits, write_set};
 use std::alloc::Global;
 
 /// Whether the first transaction writes both fragments.
-pub fn write_both(alloc: Global, cat: &Catalogue, txns: &[Txn]) -> Result<bool, NoMemory> {
+pub fn write_both(alloc: Global, catalogue: &Catalogue, txns: &[Txn]) -> Result<bool, NoMemory> {
     match txns {
-        [txn, ..] => writes_both(alloc, cat, txn),
+        [txn, ..] => writes_both(alloc, catalogue, txn),
         _ => Ok(false),
     }
 }
 
-fn writes_both(alloc: Global, cat: &Catalogue, txn: &Txn) -> Result<bool, NoMemory> {
-    if !fits(cat, txn) {
+fn writes_both(alloc: Global, catalogue: &Catalogue, txn: &Txn) -> Result<bool, NoMemory> {
+    if !fits(catalogue, txn) {
         return Ok(false);
     }
-    let found = write_set(alloc, cat, txn)?;
+    let found = write_set(alloc, catalogue, txn)?;
     Ok(found.as_slice() == [FragNo(1), FragNo(2)].as_slice())
 }
 
 /// Whether each transaction has a reply.
 #[tactic(auto, using(crate::proofs::Fitting::txns_fit))]
-pub fn are_run(alloc: Global, cat: &Catalogue, work: &Workload) -> Result<bool, NoMemory>
-    requires { IsValid cat.now work.now }
+pub fn are_run(alloc: Global, catalogue: &Catalogue, work: &Workload) -> Result<bool, NoMemory>
+    requires { IsValid catalogue.now work.now }
 {
-    let mut plain = started(alloc, cat, work)?;
-    let replies = plain.run_all(cat, work.txns.as_slice())?;
+    let mut plain = started(alloc, catalogue, work)?;
+    let replies = plain.run_all(catalogue, work.txns.as_slice())?;
     Ok(replies.as_slice().len() == work.txns.as_slice().len())
 }
 
 #[tactic(auto, using(crate::proofs::Fitting::rows_fit))]
-fn started(alloc: Global, cat: &Catalogue, work: &Workload) -> Result<Plain, NoMemory>
-    requires { IsValid cat.now work.now }
+fn started(alloc: Global, catalogue: &Catalogue, work: &Workload) -> Result<Plain, NoMemory>
+    requires { IsValid catalogue.now work.now }
     ensures { IfOk result (λ plain. IsTrue plain.live) }
 {
-    Plain::new(alloc, cat, work.rows.as_slice())
+    Plain::new(alloc, catalogue, work.rows.as_slice())
 }

@@ -52,16 +52,16 @@ impl DataModule {
     /// O(n log n) for n rows, and O(c + f) for c classes and f fragments.
     pub fn new(
         alloc: Global,
-        cat: &Catalogue,
+        catalogue: &Catalogue,
         dm: DmNo,
         rows: &[(RelNo, Row)],
     ) -> Result<DataModule, NoMemory>
-        requires { All (FitsStart cat.now) rows.now }
+        requires { All (FitsStart catalogue.now) rows.now }
         ensures { IfOk result (λ made. Represents made
-            (record { catalogue = cat.now; site = D dm; rows = rows.now }) []) }
+            (record { catalogue = catalogue.now; site = D dm; rows = rows.now }) []) }
     {
         Ok(DataModule {
-            parts: Parts::new(alloc, cat, dm, rows)?,
+            parts: Parts::new(alloc, catalogue, dm, rows)?,
             live: true,
         })
     }

@@ -58,22 +58,22 @@ impl Parts {
     /// The parts of a module to which nothing was handed.
     pub fn new(
         alloc: Global,
-        cat: &Catalogue,
+        catalogue: &Catalogue,
         dm: DmNo,
         rows: &[(RelNo, Row)],
     ) -> Result<Parts, NoMemory>
-        requires { All (FitsStart cat.now) rows.now }
+        requires { All (FitsStart catalogue.now) rows.now }
         ensures shows { IfOk result (λ parts. Shows
-            (record { catalogue = cat.now; site = D dm; rows = rows.now }) parts []) }
+            (record { catalogue = catalogue.now; site = D dm; rows = rows.now }) parts []) }
         ensures quiet { IfOk result (λ parts. first_step parts.pipes parts.waits ≡ None) }
     {
-        cat.known();
-        law_rows_make_database(cat, rows);
-        let classes = cat.classes();
-        let sources = sources(alloc, cat)?;
+        catalogue.known();
+        law_rows_make_database(catalogue, rows);
+        let classes = catalogue.classes();
+        let sources = sources(alloc, catalogue)?;
         let pipes = Pipes::new(alloc, classes)?;
         let waits = no_waits(alloc, classes + 1)?;
-        let copies = first_copies(alloc, cat, dm, rows)?;
+        let copies = first_copies(alloc, catalogue, dm, rows)?;
         let spaces = no_spaces(alloc, classes + 1)?;
         let hints = Hints::new(alloc, classes + 1)?;
         Ok(Parts {

@@ -14,13 +14,13 @@ use std::alloc::Global;
 use std::collections::BTreeMap;
 
 /// The sites that run the classes, from class 0 on.
-pub fn sources(alloc: Global, cat: &Catalogue) -> Result<Vec<Site>, NoMemory>
-    ensures { IfOk result (λ sites. sites.items ≡ U ∷ map (λ class. T class.tm) cat.now.classes) }
+pub fn sources(alloc: Global, catalogue: &Catalogue) -> Result<Vec<Site>, NoMemory>
+    ensures { IfOk result (λ sites. sites.items ≡ U ∷ map (λ class. T class.tm) catalogue.now.classes) }
 {
-    let mut sites = Vec::with_capacity(alloc, cat.classes() as usize + 1)?;
+    let mut sites = Vec::with_capacity(alloc, catalogue.classes() as usize + 1)?;
     sites.push(Site::U)?;
-    for place in 0..cat.classes() {
-        sites.push(Site::T(cat.class(ClassNo(place + 1)).tm))?;
+    for place in 0..catalogue.classes() {
+        sites.push(Site::T(catalogue.class(ClassNo(place + 1)).tm))?;
     }
     Ok(sites)
 }
@@ -52,66 +52,66 @@ pub fn no_spaces(alloc: Global, classes: u32) -> Result<Vec<Option<Space>>, NoMe
 /// O(n + k log k) for n rows, of which k are of its fragments; these are copied.
 pub fn first_copies(
     alloc: Global,
-    cat: &Catalogue,
+    catalogue: &Catalogue,
     dm: DmNo,
     rows: &[(RelNo, Row)],
 ) -> Result<Copies, NoMemory>
-    requires { All (FitsStart cat.now) rows.now }
+    requires { All (FitsStart catalogue.now) rows.now }
     ensures live { IfOk result (λ copies. IsTrue copies.live) }
     ensures represent { IfOk result (λ copies. Represent copies.value
-        (map (first_row cat.now) (database_of cat.now rows.now))) }
+        (map (first_row catalogue.now) (database_of catalogue.now rows.now))) }
     ensures here { IfOk result (λ copies. (f : ℕ) →
-        has_copy cat.now dm.0 f ≡ true → is_here copies.value f ≡ true) }
+        has_copy catalogue.now dm.0 f ≡ true → is_here copies.value f ≡ true) }
 {
-    law_rows_make_database(cat, rows);
-    let keys = key_columns(alloc, cat, dm)?;
+    law_rows_make_database(catalogue, rows);
+    let keys = key_columns(alloc, catalogue, dm)?;
     let mut copies = Copies::new(alloc, keys.as_slice())?;
-    let own = own_rows(alloc, cat, &copies, rows)?;
-    write_rows(&mut copies, cat, &own)?;
+    let own = own_rows(alloc, catalogue, &copies, rows)?;
+    write_rows(&mut copies, catalogue, &own)?;
     Ok(copies)
 }
 
 /// By fragment, from number 0 on, the key column of its relation where the module has a copy.
 /// Number 0 stands for fragment 1.
-fn key_columns(alloc: Global, cat: &Catalogue, dm: DmNo) -> Result<Vec<Option<u32>>, NoMemory>
-    ensures { IfOk result (λ keys. (f : ℕ) → has_copy cat.now dm.0 f ≡ true
+fn key_columns(alloc: Global, catalogue: &Catalogue, dm: DmNo) -> Result<Vec<Option<u32>>, NoMemory>
+    ensures { IfOk result (λ keys. (f : ℕ) → has_copy catalogue.now dm.0 f ≡ true
         → is_some (slice_index_or keys.items f None) ≡ true) }
 {
-    cat.known();
-    let mut keys = Vec::with_capacity(alloc, cat.fragments() as usize + 1)?;
-    for number in 0..cat.fragments() + 1 {
-        keys.push(key_column(cat, dm, number))?;
+    catalogue.known();
+    let mut keys = Vec::with_capacity(alloc, catalogue.fragments() as usize + 1)?;
+    for number in 0..catalogue.fragments() + 1 {
+        keys.push(key_column(catalogue, dm, number))?;
     }
     Ok(keys)
 }
 
-fn key_column(cat: &Catalogue, dm: DmNo, number: u32) -> Option<u32>
-    requires { number ≤ length cat.now.fragments }
-    ensures { is_some result ≡ has_copy cat.now dm.0 number }
+fn key_column(catalogue: &Catalogue, dm: DmNo, number: u32) -> Option<u32>
+    requires { number ≤ length catalogue.now.fragments }
+    ensures { is_some result ≡ has_copy catalogue.now dm.0 number }
 {
-    cat.known();
+    catalogue.known();
     let frag = FragNo(number.max(1));
-    if frag.0 > cat.fragments() || !cat.has_copy(dm, frag) {
+    if frag.0 > catalogue.fragments() || !catalogue.has_copy(dm, frag) {
         return None;
     }
-    Some(cat.relation(cat.fragment(frag).rel).key)
+    Some(catalogue.relation(catalogue.fragment(frag).rel).key)
 }
 
 /// The row of each item of a fragment with a copy, by relation and key: of two with one key the
 /// later stands.
 fn own_rows<'a>(
     alloc: Global,
-    cat: &Catalogue,
+    catalogue: &Catalogue,
     copies: &Copies,
     rows: &'a [(RelNo, Row)],
 ) -> Result<BTreeMap<(u32, i64), &'a Row>, NoMemory>
     requires live { IsTrue copies.now.live }
-    requires rows { All (FitsStart cat.now) rows.now }
-    ensures { IfOk result (λ own. map lent own.entries ≡ own_rows cat.now copies.now.value rows.now) }
+    requires rows { All (FitsStart catalogue.now) rows.now }
+    ensures { IfOk result (λ own. map lent own.entries ≡ own_rows catalogue.now copies.now.value rows.now) }
 {
     let mut own = BTreeMap::new(alloc);
     for (rel, row) in rows {
-        add_row(&mut own, cat, copies, *rel, row)?;
+        add_row(&mut own, catalogue, copies, *rel, row)?;
     }
     Ok(own)
 }
@@ -119,18 +119,18 @@ fn own_rows<'a>(
 /// Adds a row, where its fragment has a copy.
 fn add_row<'a>(
     own: &mut BTreeMap<(u32, i64), &'a Row>,
-    cat: &Catalogue,
+    catalogue: &Catalogue,
     copies: &Copies,
     rel: RelNo,
     row: &'a Row,
 ) -> Result<(), NoMemory>
     requires live { IsTrue copies.now.live }
-    requires fits { FitsStart cat.now (rel, row.now) }
+    requires fits { FitsStart catalogue.now (rel, row.now) }
     ensures { OnOk result (map lent own.new.entries
-        ≡ with_own cat.now copies.now.value (map lent own.old.entries) (rel, row.now)) }
+        ≡ with_own catalogue.now copies.now.value (map lent own.old.entries) (rel, row.now)) }
 {
-    let key = key_of(cat, rel, row);
-    match copies.at(cat.fragment_of(rel, key)) {
+    let key = key_of(catalogue, rel, row);
+    match copies.at(catalogue.fragment_of(rel, key)) {
         None => Ok(()),
         Some(_) => {
             own.insert((rel.0, key), row)?;
@@ -142,17 +142,17 @@ fn add_row<'a>(
 /// Writes the rows of the fragments that have copies, dated 0.
 fn write_rows(
     copies: &mut Copies,
-    cat: &Catalogue,
+    catalogue: &Catalogue,
     last: &BTreeMap<(u32, i64), &Row>,
 ) -> Result<(), NoMemory>
     requires live { IsTrue copies.old.live }
-    requires entries { All (IsEntry cat.now) (map lent last.now.entries) }
+    requires entries { All (IsEntry catalogue.now) (map lent last.now.entries) }
     ensures live { OnOk result (IsTrue copies.new.live) }
     ensures value { OnOk result (copies.new.value ≡ fold with_change copies.old.value
-        (map (first_row cat.now) (map lent last.now.entries))) }
+        (map (first_row catalogue.now) (map lent last.now.entries))) }
 {
     for (item, row) in last.iter() {
-        let frag = cat.fragment_of(RelNo(item.0), item.1);
+        let frag = catalogue.fragment_of(RelNo(item.0), item.1);
         write_row(copies, frag, item.1, row)?;
     }
     Ok(())

@@ -14,7 +14,7 @@ use std::alloc::Global;
 /// Costs time in the square of what there is, since it builds the catalogue anew.
 pub fn retire(alloc: Global, catalogue: &Catalogue, upto: u32) -> Result<Catalogue, NoMemory>
     requires { upto ≤ length catalogue.now.classes }
-    ensures { IfOk result (λ cat. cat ≡ retired upto catalogue.now) }
+    ensures { IfOk result (λ made. made ≡ retired upto catalogue.now) }
 {
     catalogue.known();
     let parts = empty_first(alloc, catalogue.parts()?, upto as usize)?;

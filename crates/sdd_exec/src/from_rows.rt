@@ -22,18 +22,18 @@ use std::alloc::Global;
 /// is answered or changed.
 pub fn effect(
     alloc: Global,
-    cat: &Catalogue,
+    catalogue: &Catalogue,
     txn: &Txn,
     snap: &Snapshot,
 ) -> Result<Effect, NoMemory>
-    requires { FitsTxn cat.now txn.now }
-    ensures { (db : Database) → IsDatabase cat.now db → Serves cat.now txn.now snap.now.value db → IfOk result (λ effect. effect ≡ of_databases.effect cat.now db txn.now) }
+    requires { FitsTxn catalogue.now txn.now }
+    ensures { (db : Database) → IsDatabase catalogue.now db → Serves catalogue.now txn.now snap.now.value db → IfOk result (λ effect. effect ≡ of_databases.effect catalogue.now db txn.now) }
 {
-    effect_over(alloc, cat, txn, &Shipped { cat, snap })
+    effect_over(alloc, catalogue, txn, &Shipped { catalogue, snap })
 }
 
 /// A snapshot determines the effect: all databases that it serves for a transaction give the same.
 pub fn law_one_effect()
-    ensures { (cat : catalogues.Catalogue) (txn : transactions.Txn) (snap : snapshots.Shipped) (db other : Database)
-        → IsDatabase cat db → IsDatabase cat other → Serves cat txn snap db → Serves cat txn snap other → of_databases.effect cat db txn ≡ of_databases.effect cat other txn }
+    ensures { (catalogue : catalogues.Catalogue) (txn : transactions.Txn) (snap : snapshots.Shipped) (db other : Database)
+        → IsDatabase catalogue db → IsDatabase catalogue other → Serves catalogue txn snap db → Serves catalogue txn snap other → of_databases.effect catalogue db txn ≡ of_databases.effect catalogue other txn }
 {}

@@ -15,37 +15,37 @@ use std::alloc::Global;
 /// What a transaction's statements find in the rows that were shipped for its uses.
 #[derive(Clone, Copy)]
 pub struct Shipped<'a> {
-    pub cat: &'a Catalogue,
+    pub catalogue: &'a Catalogue,
     pub snap: &'a Snapshot,
 }
 
 /// The key column of a relation; 0 where there is no such relation.
-fn key_column(cat: &Catalogue, rel: RelNo) -> u32
-    ensures { result ≡ key_column cat.now rel.0 }
+fn key_column(catalogue: &Catalogue, rel: RelNo) -> u32
+    ensures { result ≡ key_column catalogue.now rel.0 }
 {
     let before = rel.0.saturating_sub(1);
-    if before < cat.relations() {
-        return cat.relation(RelNo(before + 1)).key;
+    if before < catalogue.relations() {
+        return catalogue.relation(RelNo(before + 1)).key;
     }
     0
 }
 
 /// The key of a relation's row; 0 where it has none.
-fn key_of(cat: &Catalogue, rel: RelNo, row: &Row) -> i64
-    ensures { result ≡ key_in cat.now rel.0 row.now }
+fn key_of(catalogue: &Catalogue, rel: RelNo, row: &Row) -> i64
+    ensures { result ≡ key_in catalogue.now rel.0 row.now }
 {
-    match value_in(row, key_column(cat, rel)) {
+    match value_in(row, key_column(catalogue, rel)) {
         Some(Value::Int(number)) => *number,
         _ => 0,
     }
 }
 
 /// A copy of a relation's row with its key.
-fn keyed(cat: &Catalogue, rel: RelNo, row: &Row) -> Result<Entry, NoMemory>
-    ensures { IfOk result (λ entry. entry ≡ record { key = key_in cat.now rel.0 row.now; row = row.now }) }
+fn keyed(catalogue: &Catalogue, rel: RelNo, row: &Row) -> Result<Entry, NoMemory>
+    ensures { IfOk result (λ entry. entry ≡ record { key = key_in catalogue.now rel.0 row.now; row = row.now }) }
 {
     Ok(Entry {
-        key: key_of(cat, rel, row),
+        key: key_of(catalogue, rel, row),
         row: row.copy()?,
     })
 }
@@ -55,33 +55,33 @@ fn keyed(cat: &Catalogue, rel: RelNo, row: &Row) -> Result<Entry, NoMemory>
 fn add_entry(
     alloc: Global,
     entries: &mut Matched,
-    cat: &Catalogue,
+    catalogue: &Catalogue,
     rel: RelNo,
     conds: &[Condition],
     row: &Row,
 ) -> Result<(), NoMemory>
-    ensures { IfOk result (λ _. of_relation rel.0 entries.new ≡ with_chosen cat.now rel.0 conds.now (of_relation rel.0 entries.old) row.now) }
+    ensures { IfOk result (λ _. of_relation rel.0 entries.new ≡ with_chosen catalogue.now rel.0 conds.now (of_relation rel.0 entries.old) row.now) }
 {
     if !meets_all(conds, &[row]) {
         return Ok(());
     }
-    entries.put(alloc, keyed(cat, rel, row)?)
+    entries.put(alloc, keyed(catalogue, rel, row)?)
 }
 
 /// The rows that meet the conditions, by their keys.
 #[tactic(auto, using(crate::proofs::Shipping::entry_steps))]
 fn entries_by_key(
     alloc: Global,
-    cat: &Catalogue,
+    catalogue: &Catalogue,
     rel: RelNo,
     conds: &[Condition],
     rows: &[&Row],
 ) -> Result<Matched, NoMemory>
-    ensures { IfOk result (λ entries. of_relation rel.0 entries ≡ fold (with_chosen cat.now rel.0 conds.now) [] (rows_lent rows.now)) }
+    ensures { IfOk result (λ entries. of_relation rel.0 entries ≡ fold (with_chosen catalogue.now rel.0 conds.now) [] (rows_lent rows.now)) }
 {
     let mut entries = Matched::new(alloc);
     for row in rows {
-        add_entry(alloc, &mut entries, cat, rel, conds, row)?;
+        add_entry(alloc, &mut entries, catalogue, rel, conds, row)?;
     }
     Ok(entries)
 }
@@ -105,7 +105,7 @@ fn parts<'a>(
 impl Source for Shipped<'_> {
     ghost found = { λ s. found_for s.snap.now.value };
 
-    ghost chosen = { λ s. chosen_for s.cat.now s.snap.now.value };
+    ghost chosen = { λ s. chosen_for s.catalogue.now s.snap.now.value };
 
     fn query(
         &self,
@@ -128,7 +128,7 @@ impl Source for Shipped<'_> {
         conds: &[Condition],
     ) -> Result<Entries, NoMemory> {
         let rows = self.snap.rows_for(alloc, u64::from(before) + 1)?;
-        let entries = entries_by_key(alloc, self.cat, rel, conds, rows.as_slice())?;
+        let entries = entries_by_key(alloc, self.catalogue, rel, conds, rows.as_slice())?;
         Ok(entries.into_entries(alloc)?)
     }
 }

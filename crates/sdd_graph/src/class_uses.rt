@@ -18,27 +18,27 @@ pub(crate) struct ClassUses {
 /// What the class reads and writes.
 pub(crate) fn class_uses(
     alloc: Global,
-    cat: &Catalogue,
+    catalogue: &Catalogue,
     class: ClassNo,
 ) -> Result<ClassUses, NoMemory>
-    requires { IsClassOf cat.now class.0 }
-    ensures { IfOk result (λ uses. uses ≡ class_uses cat.now class.0) }
+    requires { IsClassOf catalogue.now class.0 }
+    ensures { IfOk result (λ uses. uses ≡ class_uses catalogue.now class.0) }
 {
     Ok(ClassUses {
-        reads: reads_of(alloc, cat, class)?,
-        written: written_by(alloc, cat, class)?,
+        reads: reads_of(alloc, catalogue, class)?,
+        written: written_by(alloc, catalogue, class)?,
     })
 }
 
 /// The fragments that the class reads. Costs time in the fragments times the reads.
-fn reads_of(alloc: Global, cat: &Catalogue, class: ClassNo) -> Result<Listed<u32>, NoMemory>
-    requires { IsClassOf cat.now class.0 }
-    ensures { IfOk result (λ reads. reads ≡ reads_of cat.now class.0) }
+fn reads_of(alloc: Global, catalogue: &Catalogue, class: ClassNo) -> Result<Listed<u32>, NoMemory>
+    requires { IsClassOf catalogue.now class.0 }
+    ensures { IfOk result (λ reads. reads ≡ reads_of catalogue.now class.0) }
 {
-    cat.known();
+    catalogue.known();
     let mut reads = Vec::new(alloc);
-    for f in 1..cat.fragments() + 1 {
-        if cat.reads_at(class, FragNo(f)).is_some() {
+    for f in 1..catalogue.fragments() + 1 {
+        if catalogue.reads_at(class, FragNo(f)).is_some() {
             reads.push(f)?;
         }
     }
@@ -46,13 +46,17 @@ fn reads_of(alloc: Global, cat: &Catalogue, class: ClassNo) -> Result<Listed<u32
 }
 
 /// For each fragment whether the class writes it. Costs time in the fragments and in the writes.
-fn written_by(alloc: Global, cat: &Catalogue, class: ClassNo) -> Result<Listed<bool>, NoMemory>
-    requires { IsClassOf cat.now class.0 }
-    ensures { IfOk result (λ written. written ≡ written_by cat.now class.0) }
+fn written_by(
+    alloc: Global,
+    catalogue: &Catalogue,
+    class: ClassNo,
+) -> Result<Listed<bool>, NoMemory>
+    requires { IsClassOf catalogue.now class.0 }
+    ensures { IfOk result (λ written. written ≡ written_by catalogue.now class.0) }
 {
-    cat.known();
-    let mut written = vec![in alloc; false; cat.fragments() as usize]?;
-    for frag in cat.class(class).writes.as_slice() {
+    catalogue.known();
+    let mut written = vec![in alloc; false; catalogue.fragments() as usize]?;
+    for frag in catalogue.class(class).writes.as_slice() {
         written[frag.0 as usize - 1] = true;
     }
     Ok(Listed::from_vec(written))

@@ -16,22 +16,22 @@ use std::alloc::Global;
 /// Each edge names classes and a fragment that are there, and joins two nodes that differ; there are at
 /// most 2^20. Costs time in the classes times the fragments times the classes or the reads of a class,
 /// whichever are more, and memory for the edges and for a flag for each class and fragment.
-pub fn conflict_graph(alloc: Global, cat: &Catalogue) -> Result<Vec<Edge>, NoMemory>
-    ensures edges { IfOk result (λ edges. edges.items ≡ conflict_graph cat.now) }
-    ensures known { IfOk result (λ edges. All (IsEdgeOf cat.now) edges.items) }
+pub fn conflict_graph(alloc: Global, catalogue: &Catalogue) -> Result<Vec<Edge>, NoMemory>
+    ensures edges { IfOk result (λ edges. edges.items ≡ conflict_graph catalogue.now) }
+    ensures known { IfOk result (λ edges. All (IsEdgeOf catalogue.now) edges.items) }
     ensures named { IfOk result (λ edges. All NamesClasses edges.items) }
-    ensures nodes { IfOk result (λ edges. All (JoinsNodes (length cat.now.classes)) edges.items) }
+    ensures nodes { IfOk result (λ edges. All (JoinsNodes (length catalogue.now.classes)) edges.items) }
     ensures few { IfOk result (λ edges. length edges.items ≤ 2 ^ 20) }
 {
-    cat.known();
-    let edges = edges_of(alloc, cat)?;
+    catalogue.known();
+    let edges = edges_of(alloc, catalogue)?;
     Ok(edges)
 }
 
-fn edges_of(alloc: Global, cat: &Catalogue) -> Result<Vec<Edge>, NoMemory>
-    ensures { IfOk result (λ edges. edges.items ≡ conflict_graph cat.now) }
+fn edges_of(alloc: Global, catalogue: &Catalogue) -> Result<Vec<Edge>, NoMemory>
+    ensures { IfOk result (λ edges. edges.items ≡ conflict_graph catalogue.now) }
 {
-    let uses = Uses::of(alloc, cat)?;
+    let uses = Uses::of(alloc, catalogue)?;
     let mut edges = vertical_edges(alloc, &uses)?;
     push_horizontals(&uses, &mut edges)?;
     push_diagonals(&uses, &mut edges)?;

@@ -14,7 +14,7 @@ use std::marker::Model;
 /// A catalogue, with what each class reads and writes laid out for quick answers.
 #[derive(Drop)]
 pub(crate) struct Uses<'a> {
-    cat: &'a Catalogue,
+    catalogue: &'a Catalogue,
     classes: Vec<ClassUses>,
 }
 
@@ -25,23 +25,23 @@ impl<'a> Model for Uses<'a> {
 
     ghost Value = { catalogues.Catalogue };
 
-    ghost view = { λ u. u.cat.now };
+    ghost view = { λ u. u.catalogue.now };
 
-    ghost invariant = { λ u. u.classes.items ≡ all_uses u.cat.now };
+    ghost invariant = { λ u. u.classes.items ≡ all_uses u.catalogue.now };
 }
 
 impl<'a> Uses<'a> {
     /// Costs time in the fragments times the reads of each class, and memory for a flag for each class
     /// and fragment.
-    pub(crate) fn of(alloc: Global, cat: &'a Catalogue) -> Result<Uses<'a>, NoMemory>
-        ensures { IfOk result (λ uses. uses ≡ cat.now) }
+    pub(crate) fn of(alloc: Global, catalogue: &'a Catalogue) -> Result<Uses<'a>, NoMemory>
+        ensures { IfOk result (λ uses. uses ≡ catalogue.now) }
     {
-        cat.known();
+        catalogue.known();
         let mut classes = Vec::new(alloc);
-        for i in 1..cat.classes() + 1 {
-            classes.push(class_uses(alloc, cat, ClassNo(i))?)?;
+        for i in 1..catalogue.classes() + 1 {
+            classes.push(class_uses(alloc, catalogue, ClassNo(i))?)?;
         }
-        Ok(Uses { cat, classes })
+        Ok(Uses { catalogue, classes })
     }
 
     /// How many classes there are.
@@ -49,8 +49,8 @@ impl<'a> Uses<'a> {
         ensures count { result ≡ length self.now.classes }
         ensures few { result ≤ MAX_CLASSES }
     {
-        self.cat.known();
-        self.cat.classes()
+        self.catalogue.known();
+        self.catalogue.classes()
     }
 
     fn class(&self, class: u32) -> &ClassUses

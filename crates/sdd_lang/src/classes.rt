@@ -17,13 +17,13 @@ use std::alloc::Global;
 ///
 /// Costs, for each use, time in the conditions of its statement and the fragments of the catalogue;
 /// of memory only the result.
-pub fn read_set(alloc: Global, cat: &Catalogue, txn: &Txn) -> Result<Vec<FragNo>, NoMemory>
-    requires { FitsTxn cat.now txn.now }
-    ensures { IfOk result (λ frags. map (λ f. f.0) frags.items ≡ read_set cat.now txn.now) }
+pub fn read_set(alloc: Global, catalogue: &Catalogue, txn: &Txn) -> Result<Vec<FragNo>, NoMemory>
+    requires { FitsTxn catalogue.now txn.now }
+    ensures { IfOk result (λ frags. map (λ f. f.0) frags.items ≡ read_set catalogue.now txn.now) }
 {
     let mut touched = Touched::none();
-    touched.add_all(cat, txn);
-    listed(alloc, cat, &touched.reads)
+    touched.add_all(catalogue, txn);
+    listed(alloc, catalogue, &touched.reads)
 }
 
 /// The fragments that a transaction may change, ascending without repeats: where it puts a row the
@@ -31,13 +31,13 @@ pub fn read_set(alloc: Global, cat: &Catalogue, txn: &Txn) -> Result<Vec<FragNo>
 ///
 /// Costs, for each use, time in the conditions of its statement and the fragments of the catalogue;
 /// of memory only the result.
-pub fn write_set(alloc: Global, cat: &Catalogue, txn: &Txn) -> Result<Vec<FragNo>, NoMemory>
-    requires { FitsTxn cat.now txn.now }
-    ensures { IfOk result (λ frags. map (λ f. f.0) frags.items ≡ write_set cat.now txn.now) }
+pub fn write_set(alloc: Global, catalogue: &Catalogue, txn: &Txn) -> Result<Vec<FragNo>, NoMemory>
+    requires { FitsTxn catalogue.now txn.now }
+    ensures { IfOk result (λ frags. map (λ f. f.0) frags.items ≡ write_set catalogue.now txn.now) }
 {
     let mut touched = Touched::none();
-    touched.add_all(cat, txn);
-    listed(alloc, cat, &touched.writes)
+    touched.add_all(catalogue, txn);
+    listed(alloc, catalogue, &touched.writes)
 }
 
 /// The class in which a transaction runs: the lowest class of its module that reads all that it
@@ -45,23 +45,23 @@ pub fn write_set(alloc: Global, cat: &Catalogue, txn: &Txn) -> Result<Vec<FragNo
 ///
 /// Costs what the two sets cost, and, for each class of its module, time in the fragments of the
 /// catalogue, and for each fragment of the sets time in the class's lists. Takes no memory.
-pub fn class_for(cat: &Catalogue, txn: &Txn) -> ClassNo
-    requires { FitsTxn cat.now txn.now }
-    ensures { result.0 ≡ class_for cat.now txn.now }
+pub fn class_for(catalogue: &Catalogue, txn: &Txn) -> ClassNo
+    requires { FitsTxn catalogue.now txn.now }
+    ensures { result.0 ≡ class_for catalogue.now txn.now }
 {
     let mut touched = Touched::none();
-    touched.add_all(cat, txn);
-    first_covering(cat, txn, &touched)
+    touched.add_all(catalogue, txn);
+    first_covering(catalogue, txn, &touched)
 }
 
 /// The fragments of the set, ascending.
-fn listed(alloc: Global, cat: &Catalogue, set: &FragSet) -> Result<Vec<FragNo>, NoMemory>
-    ensures { IfOk result (λ frags. map (λ f. f.0) frags.items ≡ members cat.now set.now) }
+fn listed(alloc: Global, catalogue: &Catalogue, set: &FragSet) -> Result<Vec<FragNo>, NoMemory>
+    ensures { IfOk result (λ frags. map (λ f. f.0) frags.items ≡ members catalogue.now set.now) }
 {
-    cat.known();
+    catalogue.known();
     let mut frags = Vec::new(alloc);
-    for number in 1..cat.fragments() + 1 {
-        if set.has(cat, FragNo(number)) {
+    for number in 1..catalogue.fragments() + 1 {
+        if set.has(catalogue, FragNo(number)) {
             frags.push(FragNo(number))?;
         }
     }
@@ -69,14 +69,14 @@ fn listed(alloc: Global, cat: &Catalogue, set: &FragSet) -> Result<Vec<FragNo>, 
 }
 
 /// The lowest class that covers the transaction, which touches these, or class 0.
-fn first_covering(cat: &Catalogue, txn: &Txn, touched: &Touched) -> ClassNo
-    requires reads { members cat.now touched.now.reads ≡ read_set cat.now txn.now }
-    requires writes { members cat.now touched.now.writes ≡ write_set cat.now txn.now }
-    ensures { result.0 ≡ class_for cat.now txn.now }
+fn first_covering(catalogue: &Catalogue, txn: &Txn, touched: &Touched) -> ClassNo
+    requires reads { members catalogue.now touched.now.reads ≡ read_set catalogue.now txn.now }
+    requires writes { members catalogue.now touched.now.writes ≡ write_set catalogue.now txn.now }
+    ensures { result.0 ≡ class_for catalogue.now txn.now }
 {
-    cat.known();
-    for class in 1..cat.classes() + 1 {
-        if covers(cat, txn, touched, ClassNo(class)) {
+    catalogue.known();
+    for class in 1..catalogue.classes() + 1 {
+        if covers(catalogue, txn, touched, ClassNo(class)) {
             return ClassNo(class);
         }
     }
@@ -84,26 +84,26 @@ fn first_covering(cat: &Catalogue, txn: &Txn, touched: &Touched) -> ClassNo
 }
 
 /// Whether the class covers the transaction, which touches these.
-fn covers(cat: &Catalogue, txn: &Txn, touched: &Touched, class: ClassNo) -> bool
-    requires reads { members cat.now touched.now.reads ≡ read_set cat.now txn.now }
-    requires writes { members cat.now touched.now.writes ≡ write_set cat.now txn.now }
+fn covers(catalogue: &Catalogue, txn: &Txn, touched: &Touched, class: ClassNo) -> bool
+    requires reads { members catalogue.now touched.now.reads ≡ read_set catalogue.now txn.now }
+    requires writes { members catalogue.now touched.now.writes ≡ write_set catalogue.now txn.now }
     requires from { 1 ≤ class.0 }
-    requires to { class.0 ≤ length cat.now.classes }
-    ensures { result ≡ covers cat.now txn.now class.0 }
+    requires to { class.0 ≤ length catalogue.now.classes }
+    ensures { result ≡ covers catalogue.now txn.now class.0 }
 {
-    cat.class(class).tm == txn.tm
-        && reads_all(cat, class, &touched.reads)
-        && writes_all(cat, class, &touched.writes)
+    catalogue.class(class).tm == txn.tm
+        && reads_all(catalogue, class, &touched.reads)
+        && writes_all(catalogue, class, &touched.writes)
 }
 
 /// Whether the class reads all fragments of the set.
-fn reads_all(cat: &Catalogue, class: ClassNo, set: &FragSet) -> bool
-    requires { class.0 ≤ length cat.now.classes }
-    ensures { result ≡ list_all (λ f. is_some (reads_at cat.now class.0 f)) (members cat.now set.now) }
+fn reads_all(catalogue: &Catalogue, class: ClassNo, set: &FragSet) -> bool
+    requires { class.0 ≤ length catalogue.now.classes }
+    ensures { result ≡ list_all (λ f. is_some (reads_at catalogue.now class.0 f)) (members catalogue.now set.now) }
 {
-    cat.known();
-    for number in 1..cat.fragments() + 1 {
-        if !reads_where_set(cat, class, set, FragNo(number)) {
+    catalogue.known();
+    for number in 1..catalogue.fragments() + 1 {
+        if !reads_where_set(catalogue, class, set, FragNo(number)) {
             return false;
         }
     }
@@ -111,23 +111,23 @@ fn reads_all(cat: &Catalogue, class: ClassNo, set: &FragSet) -> bool
 }
 
 /// Whether the class reads the fragment, where this is of the set.
-fn reads_where_set(cat: &Catalogue, class: ClassNo, set: &FragSet, frag: FragNo) -> bool
-    requires class { class.0 ≤ length cat.now.classes }
+fn reads_where_set(catalogue: &Catalogue, class: ClassNo, set: &FragSet, frag: FragNo) -> bool
+    requires class { class.0 ≤ length catalogue.now.classes }
     requires from { 1 ≤ frag.0 }
-    requires to { frag.0 ≤ length cat.now.fragments }
-    ensures { result ≡ (not (has set.now frag.0) || is_some (reads_at cat.now class.0 frag.0)) }
+    requires to { frag.0 ≤ length catalogue.now.fragments }
+    ensures { result ≡ (not (has set.now frag.0) || is_some (reads_at catalogue.now class.0 frag.0)) }
 {
-    !set.has(cat, frag) || cat.reads_at(class, frag).is_some()
+    !set.has(catalogue, frag) || catalogue.reads_at(class, frag).is_some()
 }
 
 /// Whether the class writes all fragments of the set.
-fn writes_all(cat: &Catalogue, class: ClassNo, set: &FragSet) -> bool
-    requires { class.0 ≤ length cat.now.classes }
-    ensures { result ≡ list_all (writes cat.now class.0) (members cat.now set.now) }
+fn writes_all(catalogue: &Catalogue, class: ClassNo, set: &FragSet) -> bool
+    requires { class.0 ≤ length catalogue.now.classes }
+    ensures { result ≡ list_all (writes catalogue.now class.0) (members catalogue.now set.now) }
 {
-    cat.known();
-    for number in 1..cat.fragments() + 1 {
-        if !writes_where_set(cat, class, set, FragNo(number)) {
+    catalogue.known();
+    for number in 1..catalogue.fragments() + 1 {
+        if !writes_where_set(catalogue, class, set, FragNo(number)) {
             return false;
         }
     }
@@ -135,10 +135,10 @@ fn writes_all(cat: &Catalogue, class: ClassNo, set: &FragSet) -> bool
 }
 
 /// Whether the class writes the fragment, where this is of the set.
-fn writes_where_set(cat: &Catalogue, class: ClassNo, set: &FragSet, frag: FragNo) -> bool
-    requires class { class.0 ≤ length cat.now.classes }
-    requires to { frag.0 ≤ length cat.now.fragments }
-    ensures { result ≡ (not (has set.now frag.0) || writes cat.now class.0 frag.0) }
+fn writes_where_set(catalogue: &Catalogue, class: ClassNo, set: &FragSet, frag: FragNo) -> bool
+    requires class { class.0 ≤ length catalogue.now.classes }
+    requires to { frag.0 ≤ length catalogue.now.fragments }
+    ensures { result ≡ (not (has set.now frag.0) || writes catalogue.now class.0 frag.0) }
 {
-    !set.has(cat, frag) || cat.writes(class, frag)
+    !set.has(catalogue, frag) || catalogue.writes(class, frag)
 }

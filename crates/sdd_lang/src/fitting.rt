@@ -16,16 +16,16 @@ use sdd_catalog::{Catalogue, Column, Kind};
 /// agree, no key is assigned, and counts keep their limits. Takes no memory.
 ///
 /// Costs time in the transaction.
-pub fn fits(cat: &Catalogue, txn: &Txn) -> bool
-    ensures { IsTrue result ↔ FitsTxn cat.now txn.now }
+pub fn fits(catalogue: &Catalogue, txn: &Txn) -> bool
+    ensures { IsTrue result ↔ FitsTxn catalogue.now txn.now }
 {
-    is_from_1_to(cat.tms(), u32::from(txn.tm.0))
+    is_from_1_to(catalogue.tms(), u32::from(txn.tm.0))
         && txn.statements.as_slice().len() <= 32
         && txn
             .statements
             .as_slice()
             .iter()
-            .all(|statement| fits_statement(cat, statement))
+            .all(|statement| fits_statement(catalogue, statement))
 }
 
 fn is_from_1_to(most: u32, number: u32) -> bool
@@ -40,22 +40,22 @@ fn are_from_1_to(most: usize, count: usize) -> bool
     1 <= count && count <= most
 }
 
-fn is_relation(cat: &Catalogue, rel: RelNo) -> bool
-    ensures { IsTrue result ↔ IsRelation cat.now rel.0 }
+fn is_relation(catalogue: &Catalogue, rel: RelNo) -> bool
+    ensures { IsTrue result ↔ IsRelation catalogue.now rel.0 }
 {
-    is_from_1_to(cat.relations(), rel.0)
+    is_from_1_to(catalogue.relations(), rel.0)
 }
 
 /// The kind of a column of a relation, where both are there.
-fn kind_of_column(cat: &Catalogue, rel: RelNo, column: u32) -> Option<Kind>
-    requires { IsRelation cat.now rel.0 }
-    ensures some { IfSome result (λ kind. IsColumn cat.now rel.0 column × (kind ≡ kind_at cat.now rel.0 column)) }
-    ensures none { IfNone result (IsColumn cat.now rel.0 column → ⊥) }
+fn kind_of_column(catalogue: &Catalogue, rel: RelNo, column: u32) -> Option<Kind>
+    requires { IsRelation catalogue.now rel.0 }
+    ensures some { IfSome result (λ kind. IsColumn catalogue.now rel.0 column × (kind ≡ kind_at catalogue.now rel.0 column)) }
+    ensures none { IfNone result (IsColumn catalogue.now rel.0 column → ⊥) }
 {
     if column == 0 {
         return None;
     }
-    match cat
+    match catalogue
         .relation(rel)
         .columns
         .as_slice()
@@ -89,11 +89,11 @@ fn are_kinds(values: &[Value], columns: &[Column]) -> bool
     }
 }
 
-fn fits_row(cat: &Catalogue, rel: RelNo, row: &Row) -> bool
-    requires { IsRelation cat.now rel.0 }
-    ensures { IsTrue result ↔ FitsRow cat.now rel.0 row.now }
+fn fits_row(catalogue: &Catalogue, rel: RelNo, row: &Row) -> bool
+    requires { IsRelation catalogue.now rel.0 }
+    ensures { IsTrue result ↔ FitsRow catalogue.now rel.0 row.now }
 {
-    are_kinds(row.as_slice(), cat.relation(rel).columns.as_slice())
+    are_kinds(row.as_slice(), catalogue.relation(rel).columns.as_slice())
 }
 
 /// The relation of a part, where it is there.
@@ -111,28 +111,28 @@ fn relation_of(rels: &[RelNo], part: u32) -> Option<RelNo>
 }
 
 /// The kind of a column of a part, where both are there.
-fn kind_of_ref(cat: &Catalogue, rels: &[RelNo], at: Ref) -> Option<Kind>
-    requires { All (λ rel. IsRelation cat.now rel.0) rels.now }
-    ensures some { IfSome result (λ kind. FitsRef cat.now rels.now at × (kind ≡ kind_of_ref cat.now rels.now at)) }
-    ensures none { IfNone result (FitsRef cat.now rels.now at → ⊥) }
+fn kind_of_ref(catalogue: &Catalogue, rels: &[RelNo], at: Ref) -> Option<Kind>
+    requires { All (λ rel. IsRelation catalogue.now rel.0) rels.now }
+    ensures some { IfSome result (λ kind. FitsRef catalogue.now rels.now at × (kind ≡ kind_of_ref catalogue.now rels.now at)) }
+    ensures none { IfNone result (FitsRef catalogue.now rels.now at → ⊥) }
 {
     match relation_of(rels, at.part) {
-        Some(rel) => kind_of_column(cat, rel, at.column),
+        Some(rel) => kind_of_column(catalogue, rel, at.column),
         None => None,
     }
 }
 
-fn fits_condition(cat: &Catalogue, rels: &[RelNo], cond: &Condition) -> bool
-    requires { All (λ rel. IsRelation cat.now rel.0) rels.now }
-    ensures { IsTrue result ↔ FitsCondition cat.now rels.now cond.now }
+fn fits_condition(catalogue: &Catalogue, rels: &[RelNo], cond: &Condition) -> bool
+    requires { All (λ rel. IsRelation catalogue.now rel.0) rels.now }
+    ensures { IsTrue result ↔ FitsCondition catalogue.now rels.now cond.now }
 {
     match cond {
-        Condition::Const { left, op: _, value } => match kind_of_ref(cat, rels, *left) {
+        Condition::Const { left, op: _, value } => match kind_of_ref(catalogue, rels, *left) {
             Some(kind) => kind_of_value(value) == kind,
             None => false,
         },
-        Condition::Same { left, right } => match kind_of_ref(cat, rels, *left) {
-            Some(kind) => match kind_of_ref(cat, rels, *right) {
+        Condition::Same { left, right } => match kind_of_ref(catalogue, rels, *left) {
+            Some(kind) => match kind_of_ref(catalogue, rels, *right) {
                 Some(other) => kind == other,
                 None => false,
             },
@@ -141,59 +141,64 @@ fn fits_condition(cat: &Catalogue, rels: &[RelNo], cond: &Condition) -> bool
     }
 }
 
-fn fits_conditions(cat: &Catalogue, rels: &[RelNo], conds: &[Condition]) -> bool
-    requires { All (λ rel. IsRelation cat.now rel.0) rels.now }
-    ensures { IsTrue result ↔ FitsConditions cat.now rels.now conds.now }
+fn fits_conditions(catalogue: &Catalogue, rels: &[RelNo], conds: &[Condition]) -> bool
+    requires { All (λ rel. IsRelation catalogue.now rel.0) rels.now }
+    ensures { IsTrue result ↔ FitsConditions catalogue.now rels.now conds.now }
 {
-    conds.len() <= 16 && conds.iter().all(|cond| fits_condition(cat, rels, cond))
+    conds.len() <= 16
+        && conds
+            .iter()
+            .all(|cond| fits_condition(catalogue, rels, cond))
 }
 
-fn fits_assign(cat: &Catalogue, rel: RelNo, assign: &Assign) -> bool
-    requires { IsRelation cat.now rel.0 }
-    ensures { IsTrue result ↔ FitsAssign cat.now rel.0 assign.now }
+fn fits_assign(catalogue: &Catalogue, rel: RelNo, assign: &Assign) -> bool
+    requires { IsRelation catalogue.now rel.0 }
+    ensures { IsTrue result ↔ FitsAssign catalogue.now rel.0 assign.now }
 {
     match assign {
-        Assign::To { column, value } => match kind_of_column(cat, rel, *column) {
-            Some(kind) => *column != cat.relation(rel).key && kind_of_value(value) == kind,
+        Assign::To { column, value } => match kind_of_column(catalogue, rel, *column) {
+            Some(kind) => *column != catalogue.relation(rel).key && kind_of_value(value) == kind,
             None => false,
         },
-        Assign::Add { column, by: _ } => match kind_of_column(cat, rel, *column) {
-            Some(kind) => *column != cat.relation(rel).key && kind == Kind::Int,
+        Assign::Add { column, by: _ } => match kind_of_column(catalogue, rel, *column) {
+            Some(kind) => *column != catalogue.relation(rel).key && kind == Kind::Int,
             None => false,
         },
     }
 }
 
-fn fits_query(cat: &Catalogue, out: &[Ref], rels: &[RelNo], conds: &[Condition]) -> bool
-    ensures { IsTrue result ↔ FitsQuery cat.now out.now rels.now conds.now }
+fn fits_query(catalogue: &Catalogue, out: &[Ref], rels: &[RelNo], conds: &[Condition]) -> bool
+    ensures { IsTrue result ↔ FitsQuery catalogue.now out.now rels.now conds.now }
 {
-    if !are_from_1_to(6, rels.len()) || !rels.iter().all(|rel| is_relation(cat, *rel)) {
+    if !are_from_1_to(6, rels.len()) || !rels.iter().all(|rel| is_relation(catalogue, *rel)) {
         return false;
     }
     are_from_1_to(16, out.len())
-        && out.iter().all(|at| kind_of_ref(cat, rels, *at).is_some())
-        && fits_conditions(cat, rels, conds)
+        && out
+            .iter()
+            .all(|at| kind_of_ref(catalogue, rels, *at).is_some())
+        && fits_conditions(catalogue, rels, conds)
 }
 
-fn fits_statement(cat: &Catalogue, statement: &Stmt) -> bool
-    ensures { IsTrue result ↔ FitsStatement cat.now statement.now }
+fn fits_statement(catalogue: &Catalogue, statement: &Stmt) -> bool
+    ensures { IsTrue result ↔ FitsStatement catalogue.now statement.now }
 {
     match statement {
-        Stmt::Put { rel, row } => is_relation(cat, *rel) && fits_row(cat, *rel, row),
+        Stmt::Put { rel, row } => is_relation(catalogue, *rel) && fits_row(catalogue, *rel, row),
         Stmt::Query { out, rels, conds } => {
-            fits_query(cat, out.as_slice(), rels.as_slice(), conds.as_slice())
+            fits_query(catalogue, out.as_slice(), rels.as_slice(), conds.as_slice())
         }
         Stmt::Update { rel, sets, conds } => {
-            is_relation(cat, *rel)
+            is_relation(catalogue, *rel)
                 && are_from_1_to(16, sets.as_slice().len())
                 && sets
                     .as_slice()
                     .iter()
-                    .all(|assign| fits_assign(cat, *rel, assign))
-                && fits_conditions(cat, &[*rel], conds.as_slice())
+                    .all(|assign| fits_assign(catalogue, *rel, assign))
+                && fits_conditions(catalogue, &[*rel], conds.as_slice())
         }
         Stmt::Delete { rel, conds } => {
-            is_relation(cat, *rel) && fits_conditions(cat, &[*rel], conds.as_slice())
+            is_relation(catalogue, *rel) && fits_conditions(catalogue, &[*rel], conds.as_slice())
         }
     }
 }

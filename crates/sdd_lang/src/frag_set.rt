@@ -31,27 +31,27 @@ impl Model for FragSet {
 
 impl FragSet {
     pub(crate) fn new() -> Self
-        ensures { (cat : OfCatalogue) → members cat result ≡ [] }
+        ensures { (catalogue : OfCatalogue) → members catalogue result ≡ [] }
     {
         FragSet {
             flags: [false; FLAGS],
         }
     }
 
-    pub(crate) fn add(&mut self, cat: &Catalogue, frag: FragNo)
+    pub(crate) fn add(&mut self, catalogue: &Catalogue, frag: FragNo)
         requires from { 1 ≤ frag.0 }
-        requires to { frag.0 ≤ length cat.now.fragments }
-        ensures { members cat.now self.new ≡ insert_key nat_cmp (members cat.now self.old) frag.0 }
+        requires to { frag.0 ≤ length catalogue.now.fragments }
+        ensures { members catalogue.now self.new ≡ insert_key nat_cmp (members catalogue.now self.old) frag.0 }
     {
-        cat.known();
+        catalogue.known();
         self.flags[frag.0 as usize] = true;
     }
 
-    pub(crate) fn has(&self, cat: &Catalogue, frag: FragNo) -> bool
-        requires { frag.0 ≤ length cat.now.fragments }
+    pub(crate) fn has(&self, catalogue: &Catalogue, frag: FragNo) -> bool
+        requires { frag.0 ≤ length catalogue.now.fragments }
         ensures { result ≡ has self.now frag.0 }
     {
-        cat.known();
+        catalogue.known();
         self.flags[frag.0 as usize]
     }
 }

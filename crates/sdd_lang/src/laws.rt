@@ -18,41 +18,41 @@ use sdd_catalog::Catalogue;
 /// What a transaction does is decided by the fragments that it reads: on two databases that have the
 /// same entries in each fragment of its read set it has the same effect. Takes no memory.
 #[tactic(auto, using(crate::proofs::ReadSetDecides::read_set_decides))]
-pub fn law_read_set_decides(cat: &Catalogue, txn: &Txn)
-    requires { FitsTxn cat.now txn.now }
-    ensures { ReadSetDecides cat.now txn.now }
+pub fn law_read_set_decides(catalogue: &Catalogue, txn: &Txn)
+    requires { FitsTxn catalogue.now txn.now }
+    ensures { ReadSetDecides catalogue.now txn.now }
 {
-    cat.known();
+    catalogue.known();
 }
 
 /// A transaction leaves a database a database. Costs time in the values of the rows that it puts.
 /// Takes no memory.
-pub fn law_stays_database(cat: &Catalogue, txn: &Txn)
-    requires { FitsTxn cat.now txn.now }
-    ensures { (db : Database) → IsDatabase cat.now db → IsDatabase cat.now (after_changes cat.now db (effect cat.now db txn.now).changes) }
+pub fn law_stays_database(catalogue: &Catalogue, txn: &Txn)
+    requires { FitsTxn catalogue.now txn.now }
+    ensures { (db : Database) → IsDatabase catalogue.now db → IsDatabase catalogue.now (after_changes catalogue.now db (effect catalogue.now db txn.now).changes) }
 {
-    cat.known();
+    catalogue.known();
     law_puts_held(txn);
 }
 
 /// The changes of a transaction: each is of an item of a relation and leaves a row that fits, with the
 /// item's key, or none; it names the fragment that holds the item, which is one of the write set; and
 /// of an item there is one. Costs time in the values of the rows that it puts. Takes no memory.
-pub fn law_changes(cat: &Catalogue, txn: &Txn)
-    requires { FitsTxn cat.now txn.now }
-    ensures items { (db : Database) → IsDatabase cat.now db → ChangesItems cat.now (effect cat.now db txn.now) }
-    ensures placed { (db : Database) → IsDatabase cat.now db → ArePlaced cat.now (effect cat.now db txn.now) }
-    ensures written { (db : Database) → IsDatabase cat.now db → LieIn (write_set cat.now txn.now) (effect cat.now db txn.now) }
-    ensures once { (db : Database) → IsDatabase cat.now db → OneAnItem cat.now (effect cat.now db txn.now) }
+pub fn law_changes(catalogue: &Catalogue, txn: &Txn)
+    requires { FitsTxn catalogue.now txn.now }
+    ensures items { (db : Database) → IsDatabase catalogue.now db → ChangesItems catalogue.now (effect catalogue.now db txn.now) }
+    ensures placed { (db : Database) → IsDatabase catalogue.now db → ArePlaced catalogue.now (effect catalogue.now db txn.now) }
+    ensures written { (db : Database) → IsDatabase catalogue.now db → LieIn (write_set catalogue.now txn.now) (effect catalogue.now db txn.now) }
+    ensures once { (db : Database) → IsDatabase catalogue.now db → OneAnItem catalogue.now (effect catalogue.now db txn.now) }
 {
-    cat.known();
+    catalogue.known();
     law_puts_held(txn);
 }
 
 /// Rows that fit make a database. Costs time in their values. Takes no memory.
-pub fn law_rows_make_database(cat: &Catalogue, rows: &[(RelNo, Row)])
-    requires { All (FitsStart cat.now) rows.now }
-    ensures { IsDatabase cat.now (database_of cat.now rows.now) }
+pub fn law_rows_make_database(catalogue: &Catalogue, rows: &[(RelNo, Row)])
+    requires { All (FitsStart catalogue.now) rows.now }
+    ensures { IsDatabase catalogue.now (database_of catalogue.now rows.now) }
 {
     law_rows_held(rows);
 }

@@ -31,16 +31,16 @@ fn failed(alloc: Global, reply: Reply) -> Effect
 /// Costs what the source's answers cost, and a logarithmic step for each change.
 pub fn effect_over<S: Source>(
     alloc: Global,
-    cat: &Catalogue,
+    catalogue: &Catalogue,
     txn: &Txn,
     source: &S,
 ) -> Result<Effect, NoMemory>
-    requires { FitsTxn cat.now txn.now }
-    ensures { IfOk result (λ effect. effect ≡ effect_over cat.now (S.found source.now) (S.chosen source.now) txn.now) }
+    requires { FitsTxn catalogue.now txn.now }
+    ensures { IfOk result (λ effect. effect ≡ effect_over catalogue.now (S.found source.now) (S.chosen source.now) txn.now) }
 {
     let mut run = Run::new(alloc);
     'statements: for statement in txn.statements.as_slice() {
-        match run.take(alloc, cat, source, statement)? {
+        match run.take(alloc, catalogue, source, statement)? {
             Some(failure) => return Ok(failed(alloc, failure)),
             None => {}
         }

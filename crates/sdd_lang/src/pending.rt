@@ -44,11 +44,11 @@ impl Model for Pending {
 }
 
 /// The number of the fragment that holds the key.
-fn fragment_of(cat: &Catalogue, rel: RelNo, key: &i64) -> u32
-    requires { IsRelation cat.now rel.0 }
-    ensures { result ≡ fragment_of cat.now rel.0 key.now }
+fn fragment_of(catalogue: &Catalogue, rel: RelNo, key: &i64) -> u32
+    requires { IsRelation catalogue.now rel.0 }
+    ensures { result ≡ fragment_of catalogue.now rel.0 key.now }
 {
-    cat.fragment_of(rel, *key).0
+    catalogue.fragment_of(rel, *key).0
 }
 
 impl Pending {
@@ -65,15 +65,15 @@ impl Pending {
     /// Of two changes of one key the later wins.
     pub(crate) fn put(
         &mut self,
-        cat: &Catalogue,
+        catalogue: &Catalogue,
         rel: RelNo,
         key: &i64,
         row: Option<Row>,
     ) -> Result<(), NoMemory>
-        requires { IsRelation cat.now rel.0 }
-        ensures { OnOk result (self.new ≡ with_change cat.now self.old rel.0 key.now row) }
+        requires { IsRelation catalogue.now rel.0 }
+        ensures { OnOk result (self.new ≡ with_change catalogue.now self.old rel.0 key.now row) }
     {
-        let frag = FragNo(fragment_of(cat, rel, key));
+        let frag = FragNo(fragment_of(catalogue, rel, key));
         self.add(Change {
             frag,
             key: *key,
@@ -105,17 +105,17 @@ impl Pending {
     /// Replaces the rows, or answers false where a sum leaves the range of a whole number.
     pub(crate) fn update(
         &mut self,
-        cat: &Catalogue,
+        catalogue: &Catalogue,
         rel: RelNo,
         sets: &[Assign],
         entries: &[Entry],
     ) -> Result<bool, NoMemory>
-        requires { IsRelation cat.now rel.0 }
-        ensures { IfOk result (λ fits. cond fits (Some self.new) None ≡ with_updates cat.now sets.now self.old (entries_of rel.0 entries.now)) }
+        requires { IsRelation catalogue.now rel.0 }
+        ensures { IfOk result (λ fits. cond fits (Some self.new) None ≡ with_updates catalogue.now sets.now self.old (entries_of rel.0 entries.now)) }
     {
         'entries: for entry in entries {
             match replaced(sets, &entry.row)? {
-                Some(row) => self.put(cat, rel, &entry.key, Some(row))?,
+                Some(row) => self.put(catalogue, rel, &entry.key, Some(row))?,
                 None => return Ok(false),
             }
         }
@@ -125,15 +125,15 @@ impl Pending {
     /// Deletes the rows.
     pub(crate) fn delete(
         &mut self,
-        cat: &Catalogue,
+        catalogue: &Catalogue,
         rel: RelNo,
         entries: &[Entry],
     ) -> Result<(), NoMemory>
-        requires { IsRelation cat.now rel.0 }
-        ensures { OnOk result (self.new ≡ with_deletes cat.now self.old (entries_of rel.0 entries.now)) }
+        requires { IsRelation catalogue.now rel.0 }
+        ensures { OnOk result (self.new ≡ with_deletes catalogue.now self.old (entries_of rel.0 entries.now)) }
     {
         'entries: for entry in entries {
-            self.put(cat, rel, &entry.key, None)?;
+            self.put(catalogue, rel, &entry.key, None)?;
         }
         Ok(())
     }

@@ -56,12 +56,12 @@ impl Run {
         }
     }
 
-    fn put(&mut self, cat: &Catalogue, rel: RelNo, row: &Row) -> Result<(), NoMemory>
-        requires { IsRelation cat.now rel.0 }
-        ensures { OnOk result (self.new ≡ record self.old { changed = with_change cat.now self.old.changed rel.0 (key_in cat.now rel.0 row.now) (Some row.now) }) }
+    fn put(&mut self, catalogue: &Catalogue, rel: RelNo, row: &Row) -> Result<(), NoMemory>
+        requires { IsRelation catalogue.now rel.0 }
+        ensures { OnOk result (self.new ≡ record self.old { changed = with_change catalogue.now self.old.changed rel.0 (key_in catalogue.now rel.0 row.now) (Some row.now) }) }
     {
-        let key = key_of(cat, rel, row);
-        self.changes.put(cat, rel, &key, Some(row.copy()?))
+        let key = key_of(catalogue, rel, row);
+        self.changes.put(catalogue, rel, &key, Some(row.copy()?))
     }
 
     /// False where the answers have too many rows together.
@@ -94,56 +94,57 @@ impl Run {
     fn update<S: Source>(
         &mut self,
         alloc: Global,
-        cat: &Catalogue,
+        catalogue: &Catalogue,
         source: &S,
         rel: RelNo,
         sets: &[Assign],
         conds: &[Condition],
     ) -> Result<bool, NoMemory>
-        requires rel { IsRelation cat.now rel.0 }
+        requires rel { IsRelation catalogue.now rel.0 }
         requires few { self.old.before + 1 < 2 ^ 32 }
         ensures before { IfOk result (λ _. self.new.before ≡ self.old.before + 1) }
         ensures answers { IfOk result (λ _. self.new.answers ≡ self.old.answers) }
-        ensures changed { IfOk result (λ fits. cond fits (Some self.new.changed) None ≡ with_updates cat.now sets.now self.old.changed (S.chosen source.now self.old.before rel.0 conds.now)) }
+        ensures changed { IfOk result (λ fits. cond fits (Some self.new.changed) None ≡ with_updates catalogue.now sets.now self.old.changed (S.chosen source.now self.old.before rel.0 conds.now)) }
     {
         let entries = source.matching(alloc, self.before, rel, conds)?;
         self.before += 1;
-        self.changes.update(cat, rel, sets, entries.as_slice())
+        self.changes
+            .update(catalogue, rel, sets, entries.as_slice())
     }
 
     fn delete<S: Source>(
         &mut self,
         alloc: Global,
-        cat: &Catalogue,
+        catalogue: &Catalogue,
         source: &S,
         rel: RelNo,
         conds: &[Condition],
     ) -> Result<(), NoMemory>
-        requires rel { IsRelation cat.now rel.0 }
+        requires rel { IsRelation catalogue.now rel.0 }
         requires few { self.old.before + 1 < 2 ^ 32 }
-        ensures { OnOk result (self.new ≡ record self.old { before = self.old.before + 1; changed = with_deletes cat.now self.old.changed (S.chosen source.now self.old.before rel.0 conds.now) }) }
+        ensures { OnOk result (self.new ≡ record self.old { before = self.old.before + 1; changed = with_deletes catalogue.now self.old.changed (S.chosen source.now self.old.before rel.0 conds.now) }) }
     {
         let entries = source.matching(alloc, self.before, rel, conds)?;
         self.before += 1;
-        self.changes.delete(cat, rel, entries.as_slice())
+        self.changes.delete(catalogue, rel, entries.as_slice())
     }
 
     /// TakesStatement one more statement, or answers how the transaction fails at it.
     pub(crate) fn take<S: Source>(
         &mut self,
         alloc: Global,
-        cat: &Catalogue,
+        catalogue: &Catalogue,
         source: &S,
         statement: &Stmt,
     ) -> Result<Option<Reply>, NoMemory>
-        requires fits { FitsStatement cat.now statement.now }
+        requires fits { FitsStatement catalogue.now statement.now }
         requires few { self.old.before + uses_in statement.now < 2 ^ 32 }
         ensures before { IfOk result (λ failure. failure ≡ None → self.new.before ≡ self.old.before + uses_in statement.now) }
-        ensures takes { IfOk result (TakesStatement cat.now (S.found source.now) (S.chosen source.now) statement.now self.old self.new) }
+        ensures takes { IfOk result (TakesStatement catalogue.now (S.found source.now) (S.chosen source.now) statement.now self.old self.new) }
     {
         match statement {
             Stmt::Put { rel, row } => {
-                self.put(cat, *rel, row)?;
+                self.put(catalogue, *rel, row)?;
                 Ok(None)
             }
             Stmt::Query { out, rels, conds } => {
@@ -155,13 +156,13 @@ impl Run {
             }
             Stmt::Update { rel, sets, conds } => {
                 let (sets, conds) = (sets.as_slice(), conds.as_slice());
-                match self.update(alloc, cat, source, *rel, sets, conds)? {
+                match self.update(alloc, catalogue, source, *rel, sets, conds)? {
                     true => Ok(None),
                     false => Ok(Some(Reply::Overflow)),
                 }
             }
             Stmt::Delete { rel, conds } => {
-                self.delete(alloc, cat, source, *rel, conds.as_slice())?;
+                self.delete(alloc, catalogue, source, *rel, conds.as_slice())?;
                 Ok(None)
             }
         }

@@ -28,8 +28,8 @@ pub(crate) struct Touched {
 
 impl Touched {
     pub(crate) fn none() -> Self
-        ensures reads { (cat : OfCatalogue) → members cat result.reads ≡ [] }
-        ensures writes { (cat : OfCatalogue) → members cat result.writes ≡ [] }
+        ensures reads { (catalogue : OfCatalogue) → members catalogue result.reads ≡ [] }
+        ensures writes { (catalogue : OfCatalogue) → members catalogue result.writes ≡ [] }
     {
         Touched {
             reads: FragSet::new(),
@@ -41,116 +41,123 @@ impl Touched {
     ///
     /// Costs, for each use, time in the conditions of its statement and the fragments of the
     /// catalogue. Takes no memory.
-    pub(crate) fn add_all(&mut self, cat: &Catalogue, txn: &Txn)
-        requires fits { FitsTxn cat.now txn.now }
-        requires no_reads { members cat.now self.old.reads ≡ [] }
-        requires no_writes { members cat.now self.old.writes ≡ [] }
-        ensures reads { members cat.now self.new.reads ≡ read_set cat.now txn.now }
-        ensures writes { members cat.now self.new.writes ≡ write_set cat.now txn.now }
+    pub(crate) fn add_all(&mut self, catalogue: &Catalogue, txn: &Txn)
+        requires fits { FitsTxn catalogue.now txn.now }
+        requires no_reads { members catalogue.now self.old.reads ≡ [] }
+        requires no_writes { members catalogue.now self.old.writes ≡ [] }
+        ensures reads { members catalogue.now self.new.reads ≡ read_set catalogue.now txn.now }
+        ensures writes { members catalogue.now self.new.writes ≡ write_set catalogue.now txn.now }
     {
         for statement in txn.statements.as_slice() {
-            self.add(cat, statement);
+            self.add(catalogue, statement);
         }
     }
 
     /// Adds those of one more statement.
-    fn add(&mut self, cat: &Catalogue, statement: &Stmt)
-        requires { FitsStatement cat.now statement.now }
-        ensures reads { members cat.now self.new.reads
-            ≡ put_all (members cat.now self.old.reads) (fragments_in (statement_uses cat.now 0 statement.now)) }
-        ensures writes { members cat.now self.new.writes
-            ≡ put_all (members cat.now self.old.writes) (written_by cat.now statement.now) }
+    fn add(&mut self, catalogue: &Catalogue, statement: &Stmt)
+        requires { FitsStatement catalogue.now statement.now }
+        ensures reads { members catalogue.now self.new.reads
+            ≡ put_all (members catalogue.now self.old.reads) (fragments_in (statement_uses catalogue.now 0 statement.now)) }
+        ensures writes { members catalogue.now self.new.writes
+            ≡ put_all (members catalogue.now self.old.writes) (written_by catalogue.now statement.now) }
     {
         match statement {
-            Stmt::Put { rel, row } => add_put(cat, *rel, row, &mut self.writes),
+            Stmt::Put { rel, row } => add_put(catalogue, *rel, row, &mut self.writes),
             Stmt::Query {
                 out: _,
                 rels,
                 conds,
-            } => { add_parts(cat, rels.as_slice(), conds.as_slice(), &mut self.reads) }
+            } => {
+                add_parts(
+                    catalogue,
+                    rels.as_slice(),
+                    conds.as_slice(),
+                    &mut self.reads,
+                )
+            }
             Stmt::Update {
                 rel,
                 sets: _,
                 conds,
-            } => { self.add_change(cat, *rel, conds.as_slice()) }
-            Stmt::Delete { rel, conds } => self.add_change(cat, *rel, conds.as_slice()),
+            } => { self.add_change(catalogue, *rel, conds.as_slice()) }
+            Stmt::Delete { rel, conds } => self.add_change(catalogue, *rel, conds.as_slice()),
         }
     }
 
     /// Adds those of the use of an update or a delete.
-    fn add_change(&mut self, cat: &Catalogue, rel: RelNo, conds: &[Condition])
-        requires { IsRelation cat.now rel.0 }
-        ensures reads { members cat.now self.new.reads
-            ≡ put_all (members cat.now self.old.reads) (fragments_in (part_uses cat.now 0 conds.now 1 (rel ∷ []))) }
-        ensures writes { members cat.now self.new.writes
-            ≡ put_all (members cat.now self.old.writes) (fragments_in (part_uses cat.now 0 conds.now 1 (rel ∷ []))) }
+    fn add_change(&mut self, catalogue: &Catalogue, rel: RelNo, conds: &[Condition])
+        requires { IsRelation catalogue.now rel.0 }
+        ensures reads { members catalogue.now self.new.reads
+            ≡ put_all (members catalogue.now self.old.reads) (fragments_in (part_uses catalogue.now 0 conds.now 1 (rel ∷ []))) }
+        ensures writes { members catalogue.now self.new.writes
+            ≡ put_all (members catalogue.now self.old.writes) (fragments_in (part_uses catalogue.now 0 conds.now 1 (rel ∷ []))) }
     {
-        let keys = keys_of(cat.relation(rel).key, 1, conds);
-        self.add_changed(cat, rel, &keys);
+        let keys = keys_of(catalogue.relation(rel).key, 1, conds);
+        self.add_changed(catalogue, rel, &keys);
     }
 
     /// Adds the fragments of the relation that hold one of the keys, to both.
-    fn add_changed(&mut self, cat: &Catalogue, rel: RelNo, keys: &Keys)
-        requires { IsRelation cat.now rel.0 }
-        ensures reads { members cat.now self.new.reads
-            ≡ put_all (members cat.now self.old.reads) (filter (meets_keys cat.now rel.0 keys.now) (numbers_to (length cat.now.fragments))) }
-        ensures writes { members cat.now self.new.writes
-            ≡ put_all (members cat.now self.old.writes) (filter (meets_keys cat.now rel.0 keys.now) (numbers_to (length cat.now.fragments))) }
+    fn add_changed(&mut self, catalogue: &Catalogue, rel: RelNo, keys: &Keys)
+        requires { IsRelation catalogue.now rel.0 }
+        ensures reads { members catalogue.now self.new.reads
+            ≡ put_all (members catalogue.now self.old.reads) (filter (meets_keys catalogue.now rel.0 keys.now) (numbers_to (length catalogue.now.fragments))) }
+        ensures writes { members catalogue.now self.new.writes
+            ≡ put_all (members catalogue.now self.old.writes) (filter (meets_keys catalogue.now rel.0 keys.now) (numbers_to (length catalogue.now.fragments))) }
     {
-        cat.known();
-        for number in 1..cat.fragments() + 1 {
-            if meets_keys(cat, rel, keys, FragNo(number)) {
-                self.add_both(cat, FragNo(number));
+        catalogue.known();
+        for number in 1..catalogue.fragments() + 1 {
+            if meets_keys(catalogue, rel, keys, FragNo(number)) {
+                self.add_both(catalogue, FragNo(number));
             }
         }
     }
 
-    fn add_both(&mut self, cat: &Catalogue, frag: FragNo)
+    fn add_both(&mut self, catalogue: &Catalogue, frag: FragNo)
         requires from { 1 ≤ frag.0 }
-        requires to { frag.0 ≤ length cat.now.fragments }
-        ensures reads { members cat.now self.new.reads ≡ insert_key nat_cmp (members cat.now self.old.reads) frag.0 }
-        ensures writes { members cat.now self.new.writes ≡ insert_key nat_cmp (members cat.now self.old.writes) frag.0 }
+        requires to { frag.0 ≤ length catalogue.now.fragments }
+        ensures reads { members catalogue.now self.new.reads ≡ insert_key nat_cmp (members catalogue.now self.old.reads) frag.0 }
+        ensures writes { members catalogue.now self.new.writes ≡ insert_key nat_cmp (members catalogue.now self.old.writes) frag.0 }
     {
-        self.reads.add(cat, frag);
-        self.writes.add(cat, frag);
+        self.reads.add(catalogue, frag);
+        self.writes.add(catalogue, frag);
     }
 }
 
 /// Adds the fragment that holds the row's key.
-fn add_put(cat: &Catalogue, rel: RelNo, row: &Row, set: &mut FragSet)
-    requires { IsRelation cat.now rel.0 }
-    ensures { members cat.now set.new
-        ≡ put_all (members cat.now set.old) (fragment_of cat.now rel.0 (key_in cat.now rel.0 row.now) ∷ []) }
+fn add_put(catalogue: &Catalogue, rel: RelNo, row: &Row, set: &mut FragSet)
+    requires { IsRelation catalogue.now rel.0 }
+    ensures { members catalogue.now set.new
+        ≡ put_all (members catalogue.now set.old) (fragment_of catalogue.now rel.0 (key_in catalogue.now rel.0 row.now) ∷ []) }
 {
-    let key = key_of(cat, rel, row);
-    set.add(cat, cat.fragment_of(rel, key));
+    let key = key_of(catalogue, rel, row);
+    set.add(catalogue, catalogue.fragment_of(rel, key));
 }
 
 /// Adds the fragments of each part of a statement.
-fn add_parts(cat: &Catalogue, rels: &[RelNo], conds: &[Condition], set: &mut FragSet)
-    requires there { All (λ rel. IsRelation cat.now rel.0) rels.now }
+fn add_parts(catalogue: &Catalogue, rels: &[RelNo], conds: &[Condition], set: &mut FragSet)
+    requires there { All (λ rel. IsRelation catalogue.now rel.0) rels.now }
     requires parts { length rels.now ≤ 6 }
-    ensures { members cat.now set.new
-        ≡ put_all (members cat.now set.old) (fragments_in (part_uses cat.now 0 conds.now 1 rels.now)) }
+    ensures { members catalogue.now set.new
+        ≡ put_all (members catalogue.now set.old) (fragments_in (part_uses catalogue.now 0 conds.now 1 rels.now)) }
 {
     let mut part = 1;
     for rel in rels {
-        let keys = keys_of(cat.relation(*rel).key, part, conds);
-        add_use(cat, *rel, &keys, set);
+        let keys = keys_of(catalogue.relation(*rel).key, part, conds);
+        add_use(catalogue, *rel, &keys, set);
         part += 1;
     }
 }
 
 /// Adds the fragments of the relation that hold one of the keys.
-fn add_use(cat: &Catalogue, rel: RelNo, keys: &Keys, set: &mut FragSet)
-    requires { IsRelation cat.now rel.0 }
-    ensures { members cat.now set.new
-        ≡ put_all (members cat.now set.old) (filter (meets_keys cat.now rel.0 keys.now) (numbers_to (length cat.now.fragments))) }
+fn add_use(catalogue: &Catalogue, rel: RelNo, keys: &Keys, set: &mut FragSet)
+    requires { IsRelation catalogue.now rel.0 }
+    ensures { members catalogue.now set.new
+        ≡ put_all (members catalogue.now set.old) (filter (meets_keys catalogue.now rel.0 keys.now) (numbers_to (length catalogue.now.fragments))) }
 {
-    cat.known();
-    for number in 1..cat.fragments() + 1 {
-        if meets_keys(cat, rel, keys, FragNo(number)) {
-            set.add(cat, FragNo(number));
+    catalogue.known();
+    for number in 1..catalogue.fragments() + 1 {
+        if meets_keys(catalogue, rel, keys, FragNo(number)) {
+            set.add(catalogue, FragNo(number));
         }
     }
 }

@@ -33,11 +33,11 @@ pub fn value_at<'a>(tuple: &[&'a Row], at: Ref) -> Option<&'a Value>
 }
 
 /// The key of a relation's row: the number in its key column, or 0 where there is none. Takes no memory.
-pub fn key_of(cat: &Catalogue, rel: RelNo, row: &Row) -> i64
-    requires { IsRelation cat.now rel.0 }
-    ensures { result ≡ key_in cat.now rel.0 row.now }
+pub fn key_of(catalogue: &Catalogue, rel: RelNo, row: &Row) -> i64
+    requires { IsRelation catalogue.now rel.0 }
+    ensures { result ≡ key_in catalogue.now rel.0 row.now }
 {
-    match value_in(row, cat.relation(rel).key) {
+    match value_in(row, catalogue.relation(rel).key) {
         Some(Value::Int(number)) => *number,
         _ => 0,
     }

@@ -15,14 +15,14 @@ use std::alloc::Global;
 /// statements, with its restrictions and the fragments that may hold a row that meets them.
 ///
 /// Costs, for each use, time in the conditions of its statement and the fragments of the catalogue.
-pub fn uses(alloc: Global, cat: &Catalogue, txn: &Txn) -> Result<Vec<Use>, NoMemory>
-    requires { FitsTxn cat.now txn.now }
-    ensures { IfOk result (λ uses. uses.items ≡ uses_of cat.now txn.now) }
+pub fn uses(alloc: Global, catalogue: &Catalogue, txn: &Txn) -> Result<Vec<Use>, NoMemory>
+    requires { FitsTxn catalogue.now txn.now }
+    ensures { IfOk result (λ uses. uses.items ≡ uses_of catalogue.now txn.now) }
 {
     // Most statements have one use.
     let mut uses = Vec::with_capacity(alloc, txn.statements.as_slice().len())?;
     for statement in txn.statements.as_slice() {
-        add_uses(alloc, cat, statement, &mut uses)?;
+        add_uses(alloc, catalogue, statement, &mut uses)?;
     }
     Ok(uses)
 }
@@ -30,13 +30,13 @@ pub fn uses(alloc: Global, cat: &Catalogue, txn: &Txn) -> Result<Vec<Use>, NoMem
 /// Adds the uses of one more statement.
 fn add_uses(
     alloc: Global,
-    cat: &Catalogue,
+    catalogue: &Catalogue,
     statement: &Stmt,
     uses: &mut Vec<Use>,
 ) -> Result<(), NoMemory>
-    requires fits { FitsStatement cat.now statement.now }
+    requires fits { FitsStatement catalogue.now statement.now }
     requires few { length uses.old.items ≤ 192 }
-    ensures { OnOk result (uses.new.items ≡ uses.old.items ++ statement_uses cat.now (length uses.old.items) statement.now) }
+    ensures { OnOk result (uses.new.items ≡ uses.old.items ++ statement_uses catalogue.now (length uses.old.items) statement.now) }
 {
     match statement {
         Stmt::Put { rel: _, row: _ } => Ok(()),
@@ -44,33 +44,33 @@ fn add_uses(
             out: _,
             rels,
             conds,
-        } => { add_parts(alloc, cat, rels.as_slice(), conds.as_slice(), uses) }
+        } => { add_parts(alloc, catalogue, rels.as_slice(), conds.as_slice(), uses) }
         Stmt::Update {
             rel,
             sets: _,
             conds,
-        } => { add_parts(alloc, cat, &[*rel], conds.as_slice(), uses) }
-        Stmt::Delete { rel, conds } => add_parts(alloc, cat, &[*rel], conds.as_slice(), uses),
+        } => { add_parts(alloc, catalogue, &[*rel], conds.as_slice(), uses) }
+        Stmt::Delete { rel, conds } => add_parts(alloc, catalogue, &[*rel], conds.as_slice(), uses),
     }
 }
 
 /// Adds a use for each part of a statement.
 fn add_parts(
     alloc: Global,
-    cat: &Catalogue,
+    catalogue: &Catalogue,
     rels: &[RelNo],
     conds: &[Condition],
     uses: &mut Vec<Use>,
 ) -> Result<(), NoMemory>
-    requires there { All (λ rel. IsRelation cat.now rel.0) rels.now }
+    requires there { All (λ rel. IsRelation catalogue.now rel.0) rels.now }
     requires parts { length rels.now ≤ 6 }
     requires few { length uses.old.items ≤ 192 }
-    ensures { OnOk result (uses.new.items ≡ uses.old.items ++ part_uses cat.now (length uses.old.items) conds.now 1 rels.now) }
+    ensures { OnOk result (uses.new.items ≡ uses.old.items ++ part_uses catalogue.now (length uses.old.items) conds.now 1 rels.now) }
 {
     let before = uses.len() as u32;
     let mut part = 1;
     for rel in rels {
-        uses.push(use_of(alloc, cat, before + part, *rel, part, conds)?)?;
+        uses.push(use_of(alloc, catalogue, before + part, *rel, part, conds)?)?;
         part += 1;
     }
     Ok(())
@@ -79,17 +79,17 @@ fn add_parts(
 /// The use of a part.
 fn use_of(
     alloc: Global,
-    cat: &Catalogue,
+    catalogue: &Catalogue,
     number: u32,
     rel: RelNo,
     part: u32,
     conds: &[Condition],
 ) -> Result<Use, NoMemory>
-    requires { IsRelation cat.now rel.0 }
-    ensures { IfOk result (λ found. found ≡ use_of cat.now number rel (restrictions_of part conds.now)) }
+    requires { IsRelation catalogue.now rel.0 }
+    ensures { IfOk result (λ found. found ≡ use_of catalogue.now number rel (restrictions_of part conds.now)) }
 {
     let restrictions = restrictions_of(alloc, part as usize, conds)?;
-    let frags = fragments_for(alloc, cat, rel, restrictions.as_slice())?;
+    let frags = fragments_for(alloc, catalogue, rel, restrictions.as_slice())?;
     Ok(Use {
         number,
         rel,
@@ -101,18 +101,18 @@ fn use_of(
 /// The fragments of the relation that hold a key which the restrictions allow, ascending.
 fn fragments_for(
     alloc: Global,
-    cat: &Catalogue,
+    catalogue: &Catalogue,
     rel: RelNo,
     restrictions: &[Restriction],
 ) -> Result<Frags, NoMemory>
-    requires { IsRelation cat.now rel.0 }
-    ensures { IfOk result (λ frags. frags ≡ fragments_for cat.now rel.0 restrictions.now) }
+    requires { IsRelation catalogue.now rel.0 }
+    ensures { IfOk result (λ frags. frags ≡ fragments_for catalogue.now rel.0 restrictions.now) }
 {
-    cat.known();
-    let keys = allowed_keys(cat.relation(rel).key, restrictions);
+    catalogue.known();
+    let keys = allowed_keys(catalogue.relation(rel).key, restrictions);
     let mut frags = Vec::new(alloc);
-    for number in 1..cat.fragments() + 1 {
-        if meets_keys(cat, rel, &keys, FragNo(number)) {
+    for number in 1..catalogue.fragments() + 1 {
+        if meets_keys(catalogue, rel, &keys, FragNo(number)) {
             frags.push(FragNo(number))?;
         }
     }
@@ -120,12 +120,12 @@ fn fragments_for(
 }
 
 /// Whether the fragment is of the relation and holds one of the keys.
-pub(crate) fn meets_keys(cat: &Catalogue, rel: RelNo, keys: &Keys, frag: FragNo) -> bool
+pub(crate) fn meets_keys(catalogue: &Catalogue, rel: RelNo, keys: &Keys, frag: FragNo) -> bool
     requires from { 1 ≤ frag.0 }
-    requires to { frag.0 ≤ length cat.now.fragments }
-    ensures { result ≡ meets_keys cat.now rel.0 keys.now frag.0 }
+    requires to { frag.0 ≤ length catalogue.now.fragments }
+    ensures { result ≡ meets_keys catalogue.now rel.0 keys.now frag.0 }
 {
-    let fragment = cat.fragment(frag);
+    let fragment = catalogue.fragment(frag);
     fragment.rel == rel && keys.meets(&fragment.least, &fragment.greatest)
 }
 

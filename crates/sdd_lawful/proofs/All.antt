@@ -52,7 +52,7 @@ pub use Rattle.sdd_laws.proofs.CopyEntries.{entries_ascend, held_by, lies_there}
 pub use Rattle.sdd_laws.proofs.Few.{are_few}
 pub use Rattle.sdd_laws.proofs.Fitting.{in_ascending}
 pub use Rattle.sdd_laws.proofs.Gathered.{gathered_from, gathered_sorted, gathered_there}
-pub use Rattle.sdd_laws.proofs.InForce.{era_is}
+pub use Rattle.sdd_laws.proofs.CatalogueAt.{era_is}
 pub use Rattle.sdd_laws.proofs.LookUps.{one_entry, same_members}
 pub use Rattle.sdd_laws.proofs.Members.{Contains-filter, Contains-flat_map, Contains-from_filter, Contains-from_flat_map, Contains-from_map, Contains-map, all_have, each_has}
 pub use Rattle.sdd_laws.proofs.NumberedStarts.{one_start}

@@ -1,7 +1,7 @@
 -- The transactions of an era fit its catalogue, and meet the read conditions of its table.
 use Rattle.sdd_laws.proofs.All.{All, All-contains, AllByRecursion, AppliedBefore, AreEras, Attempt, Catalogue, Change, ChangeExists, Commit, Committed, Cond, Contains, Declared, Effect, Entry, Eras, ExistsIn, FitsTxn as TextFits, FragNo, Fragment, History, IsAnswered, IsCommitted, IsConditionOf, IsCovered, IsDatabase, IsEraOf, IsFragment, IsFragmentOf, IsOfSubmit, IsRecordAt, IsSeen, IsSoundCatalogue, IsTable, KeepsAnswers, KeepsApplies, KeepsConditions, KeepsEras, KeepsStarts, List, Meets, None, NumbersExist, Rec, RelNo, Row, Some, TouchesOne, Txn as Text, [], all_at, ap, arith, ascending, ascending_back, at_member, base_of, catalogue_at, changes, cond, conditions, contains, declared, eq-eqb, eqb-true, eras_begun, event_at, false, frag_no, fragments_in, has_copy, is_some, length, lie_in_write_set, map, member_passes, module_of, ne_eqb, numbers_back, of_era, option_map, or_left, or_right, p2_time, reads, reads_at, refl, same_Some, slice_get, slice_index_or, subst, sym, true, txn_no, undeclared_conditions, write_set, write_set_in_era, ℕ, ◌-◌, ◌<◌, ◌==◌, ◌↔◌, ◌∙◌, ◌∷◌, ◌≡◌}
 use Rattle.sdd_laws.proofs.Deeds.{Placed, deeds, are_starts}
-use Rattle.sdd_laws.proofs.InForce.{era_is}
+use Rattle.sdd_laws.proofs.CatalogueAt.{era_is}
 use Rattle.sdd_laws.proofs.Reading.{IsReadAt, class_covers, read_at_event, reads_there}
 use Rattle.sdd_acyclic.specs.Fits.{FitsSystem}
 

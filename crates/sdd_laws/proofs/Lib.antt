@@ -11,7 +11,7 @@ pub mod Few
 pub mod Fitting
 pub mod Fragments
 pub mod Gathered
-pub mod InForce
+pub mod CatalogueAt
 pub mod Latest
 pub mod Lists
 pub mod LookUps

@@ -1,7 +1,7 @@
 -- Where attempts read: at modules that have copies of what they read.
 use Rattle.sdd_laws.proofs.All.{AreEras, Attempt, Catalogue, Eras, History, IsAttempt, IsClass, IsCovered, IsFragment, IsModule, IsOfSubmit, IsSoundCatalogue, IsThere, KeepsStarts, List, None, Option, Some, Txn, ap, arith, ascending_back, at_member, cases_lt, catalogue_at, contains, covered, event_at, fragments_in, has_copy, inl, inr, is_some, module_of, read_in_era, read_set, read_set_there, reads, reads_at, recursion_from_All, refl, served_read, subst, sym, true, unwrap_or, uses_in_era, uses_of, ℕ, ◌∙◌, ◌≡◌, ◌≤◌}
 use Rattle.sdd_laws.proofs.Copied.{some_copy}
-use Rattle.sdd_laws.proofs.InForce.{era_is}
+use Rattle.sdd_laws.proofs.CatalogueAt.{era_is}
 
 -- a fragment is read at a module that has a copy of it
 pub record IsReadAt (cat : Catalogue) (class f : ℕ) : Type 0 where

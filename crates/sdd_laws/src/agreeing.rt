@@ -10,7 +10,7 @@ ghost use Rattle.sdd_laws.specs.Snapshots.{copy_at};
 /// where the first rows of the two modules agree on it, and of the transactions that change it the
 /// same are applied. Takes no memory.
 pub fn law_agreeing_copies()
-    ensures { (cat : Catalogue) (mine other : List (RelNo × Row)) (h : History) (f a j b k : ℕ)
-        → AgreeOnFragment cat mine other f → AreAppliedAlike h f a j b k
-        → copy_at cat mine h a j f ≡ copy_at cat other h b k f }
+    ensures { (catalogue : Catalogue) (mine other : List (RelNo × Row)) (h : History) (f a j b k : ℕ)
+        → AgreeOnFragment catalogue mine other f → AreAppliedAlike h f a j b k
+        → copy_at catalogue mine h a j f ≡ copy_at catalogue other h b k f }
 {}

@@ -11,51 +11,51 @@ ghost use Rattle.sdd_laws.specs.Values.{IsValue, ArePlaced, LeaveOneRow, AreWrit
 use sdd_lang::sdd_catalog::Catalogue;
 
 /// Each item of a fragment has a value, and one alone.
-pub fn law_one_value(cat: &Catalogue)
-    ensures some { (xs : Dated) (f : ℕ) (key : ℤ) → ArePlaced cat.now xs
-        → fragment_of cat.now (fragment_at cat.now f).rel.0 key ≡ f
-        → (row : Option Row) × IsValue cat.now xs ((fragment_at cat.now f).rel.0, key) row }
-    ensures one { (xs : Dated) (item : Item) (a b : Option Row) → LeaveOneRow cat.now xs
-        → IsValue cat.now xs item a → IsValue cat.now xs item b → a ≡ b }
+pub fn law_one_value(catalogue: &Catalogue)
+    ensures some { (xs : Dated) (f : ℕ) (key : ℤ) → ArePlaced catalogue.now xs
+        → fragment_of catalogue.now (fragment_at catalogue.now f).rel.0 key ≡ f
+        → (row : Option Row) × IsValue catalogue.now xs ((fragment_at catalogue.now f).rel.0, key) row }
+    ensures one { (xs : Dated) (item : Item) (a b : Option Row) → LeaveOneRow catalogue.now xs
+        → IsValue catalogue.now xs item a → IsValue catalogue.now xs item b → a ≡ b }
 {}
 
 /// A copy holds, of the items of its fragment, the values by its first rows and the changes of the
 /// transactions that are applied.
-pub fn law_copy_holds_values<T>(cat: &Catalogue)
+pub fn law_copy_holds_values<T>(catalogue: &Catalogue)
     ensures { (first : Database) (w : Writers T) (commits : List T) (applied : T → Bool) (f : ℕ)
-        → IsDatabase cat.now first → AreWriters cat.now w commits
-        → (key : ℤ) (row : Row) → fragment_of cat.now (fragment_at cat.now f).rel.0 key ≡ f
-        → Contains (copy_of cat.now first w commits applied f) (key, row)
-        ↔ IsValue cat.now (all_dated cat.now first w (filter applied commits))
-        ((fragment_at cat.now f).rel.0, key) (Some row) }
+        → IsDatabase catalogue.now first → AreWriters catalogue.now w commits
+        → (key : ℤ) (row : Row) → fragment_of catalogue.now (fragment_at catalogue.now f).rel.0 key ≡ f
+        → Contains (copy_of catalogue.now first w commits applied f) (key, row)
+        ↔ IsValue catalogue.now (all_dated catalogue.now first w (filter applied commits))
+        ((fragment_at catalogue.now f).rel.0, key) (Some row) }
 {
-    cat.known();
+    catalogue.known();
 }
 
 /// In which order, and how often, changes come to a copy makes no difference: it is what the
 /// set of them leaves.
-pub fn law_any_order<T>(cat: &Catalogue)
+pub fn law_any_order<T>(catalogue: &Catalogue)
     ensures { (first : Database) (w : Writers T) (commits : List T) (applied : T → Bool) (f : ℕ) (xs : Dated)
-        → IsDatabase cat.now first → AreWriters cat.now w commits
-        → AreSame (all_dated cat.now first w (filter applied commits)) xs
-        → contents f xs ≡ copy_of cat.now first w commits applied f }
+        → IsDatabase catalogue.now first → AreWriters catalogue.now w commits
+        → AreSame (all_dated catalogue.now first w (filter applied commits)) xs
+        → contents f xs ≡ copy_of catalogue.now first w commits applied f }
 {
-    cat.known();
+    catalogue.known();
 }
 
 /// A copy takes of the first rows those of its fragment, and of the committed transactions the
 /// changes that count.
-pub fn law_copy_takes<T>(cat: &Catalogue)
+pub fn law_copy_takes<T>(catalogue: &Catalogue)
     ensures { (first : Database) (w : Writers T) (commits : List T) (applied : T → Bool) (f : ℕ)
-        → copy_of cat.now first w commits applied f
-        ≡ rows_left (of_fragment f (map (first_row cat.now) first) ++ taken w commits applied f) }
+        → copy_of catalogue.now first w commits applied f
+        ≡ rows_left (of_fragment f (map (first_row catalogue.now) first) ++ taken w commits applied f) }
 {}
 
 /// Two copies of a fragment that began alike are equal, where of the transactions that change the
 /// fragment the same are applied.
-pub fn law_same_copies<T>(cat: &Catalogue)
+pub fn law_same_copies<T>(catalogue: &Catalogue)
     ensures { (first : Database) (w : Writers T) (commits : List T) (a b : T → Bool) (f : ℕ)
         → ((x : T) → Contains commits x → (c : change.Change) → Contains (w.changes x) c
         → c.frag.0 ≡ f → a x ≡ b x)
-        → copy_of cat.now first w commits a f ≡ copy_of cat.now first w commits b f }
+        → copy_of catalogue.now first w commits a f ≡ copy_of catalogue.now first w commits b f }
 {}

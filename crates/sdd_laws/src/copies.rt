@@ -11,10 +11,10 @@ use sdd_lang::sdd_catalog::Catalogue;
 
 /// Equal copies: two copies of a fragment are equal, each before some place of the history, where of
 /// the transactions that change the fragment the same are applied. Takes no memory.
-pub fn law_copies(cat: &Catalogue, rows: &[(RelNo, Row)], history: &[(u32, Rec)])
+pub fn law_copies(catalogue: &Catalogue, rows: &[(RelNo, Row)], history: &[(u32, Rec)])
     ensures { (f a j b k : ℕ) → AreAppliedAlike history.now f a j b k
-        → snapshots.copy_at cat.now rows.now history.now a j f
-        ≡ snapshots.copy_at cat.now rows.now history.now b k f }
+        → snapshots.copy_at catalogue.now rows.now history.now a j f
+        ≡ snapshots.copy_at catalogue.now rows.now history.now b k f }
 {}
 
 /// The date that an attempt gives the changes of its transaction, by its Start; other records give

@@ -1,6 +1,6 @@
 //! The theorems, carried by the contracts of functions. A program has no need to call them.
 //!
-//! In each, `cat` has the classes of all eras, `eras` gives each catalogue with the event from which
+//! In each, `catalogue` has the classes of all eras, `eras` gives each catalogue with the event from which
 //! it is in force, `rows` are those with which every data module begins, and `txns` are the
 //! transactions by their numbers, from 1.
 ghost use Rattle.std.specs.Prelude.{All};
@@ -22,19 +22,19 @@ use sdd_lang::{Txn, law_puts_held, law_rows_make_database};
 /// and of what the transactions put. Takes no memory.
 #[tactic(auto, using(crate::proofs::Acyclic::acyclic, crate::proofs::Acyclic::orderable))]
 pub fn law_acyclic(
-    cat: &Catalogue,
+    catalogue: &Catalogue,
     eras: &[(u32, Catalogue)],
     rows: &[(RelNo, Row)],
     txns: &[Txn],
     history: &[(u32, Rec)],
 )
-    requires fit { FitTogether cat.now eras.now rows.now txns.now history.now }
-    requires laws { KeepsLaws cat.now eras.now rows.now txns.now history.now }
-    ensures acyclic { HasNoCycle cat.now history.now }
-    ensures orderable { IsOrderable cat.now history.now }
+    requires fit { FitTogether catalogue.now eras.now rows.now txns.now history.now }
+    requires laws { KeepsLaws catalogue.now eras.now rows.now txns.now history.now }
+    ensures acyclic { HasNoCycle catalogue.now history.now }
+    ensures orderable { IsOrderable catalogue.now history.now }
 {
-    cat.known();
-    law_rows_make_database(cat, rows);
+    catalogue.known();
+    law_rows_make_database(catalogue, rows);
     texts_held(txns);
 }
 
@@ -42,13 +42,13 @@ pub fn law_acyclic(
 /// at most one more than the Commits of other transactions. Takes no memory.
 #[tactic(auto, using(crate::proofs::Few::are_few))]
 pub fn law_attempts(
-    cat: &Catalogue,
+    catalogue: &Catalogue,
     eras: &[(u32, Catalogue)],
     txns: &[Txn],
     history: &[(u32, Rec)],
 )
-    requires starts { KeepsStarts cat.now eras.now txns.now history.now }
-    requires rejections { KeepsRejections cat.now eras.now history.now }
+    requires starts { KeepsStarts catalogue.now eras.now txns.now history.now }
+    requires rejections { KeepsRejections catalogue.now eras.now history.now }
     ensures { AreFew history.now }
 {}
 

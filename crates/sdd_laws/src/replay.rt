@@ -20,25 +20,25 @@ use sdd_lang::{Txn, law_rows_make_database};
 /// its fragment has the rows that the run leaves. It needs neither read conditions nor blocks.
 /// Costs time in the values of the rows and of what the transactions put. Takes no memory.
 pub fn law_replay(
-    cat: &Catalogue,
+    catalogue: &Catalogue,
     eras: &[(u32, Catalogue)],
     rows: &[(RelNo, Row)],
     txns: &[Txn],
     history: &[(u32, Rec)],
     order: &[TxnNo],
 )
-    requires fit { FitTogether cat.now eras.now rows.now txns.now history.now }
-    requires starts { KeepsStarts cat.now eras.now txns.now history.now }
-    requires answers { KeepsAnswers cat.now rows.now txns.now history.now }
-    requires applies { KeepsApplies cat.now history.now }
-    requires order { IsSerial cat.now history.now order.now }
+    requires fit { FitTogether catalogue.now eras.now rows.now txns.now history.now }
+    requires starts { KeepsStarts catalogue.now eras.now txns.now history.now }
+    requires answers { KeepsAnswers catalogue.now rows.now txns.now history.now }
+    requires applies { KeepsApplies catalogue.now history.now }
+    requires order { IsSerial catalogue.now history.now order.now }
     ensures replies { AllZip (IsReplyOf history.now) order.now
-        (run cat.now rows.now txns.now order.now).0 }
+        (run catalogue.now rows.now txns.now order.now).0 }
     ensures copies { (f d k : ℕ) → AreAllApplied history.now f d k
-        → rows_in_fragment cat.now (run cat.now rows.now txns.now order.now).1 f
-        ≡ items_of cat.now f (copy_at cat.now rows.now history.now d k f) }
+        → rows_in_fragment catalogue.now (run catalogue.now rows.now txns.now order.now).1 f
+        ≡ items_of catalogue.now f (copy_at catalogue.now rows.now history.now d k f) }
 {
-    cat.known();
-    law_rows_make_database(cat, rows);
+    catalogue.known();
+    law_rows_make_database(catalogue, rows);
     texts_held(txns);
 }

@@ -11,10 +11,10 @@ use sdd_lang::sdd_catalog::Catalogue;
 /// One plain database, run along an order of the committed transactions that agrees with what they
 /// did, gives the replies and the changes of their Commits, and leaves what the copies hold. The
 /// transactions are of any type `T`.
-pub fn law_replay_along<T>(cat: &Catalogue)
+pub fn law_replay_along<T>(catalogue: &Catalogue)
     ensures { (first : Database) (L : Ledger T) (commits order : List T)
-        → IsDatabase cat.now first → AreRecorded cat.now first L commits
-        → IsOrder cat.now L commits order → IsReplayed cat.now first L commits order }
+        → IsDatabase catalogue.now first → AreRecorded catalogue.now first L commits
+        → IsOrder catalogue.now L commits order → IsReplayed catalogue.now first L commits order }
 {
-    cat.known();
+    catalogue.known();
 }

@@ -7,8 +7,8 @@ use Rattle.sdd_log_examples.specs.Classes.{catalogue_of_further_classes, classes
 abbrev audit : Class
 audit = record { name = []; tm = tm_no 1; reads = record { fragment = frag_no 1; at = dm_no 1 } ∷ []; writes = [] }
 
-pub current_era : map (λ f. f.catalogue) given_further_classes.eras ≡ eras classes_of_further_classes_0 ((audit ∷ []) ∷ [])
-current_era = refl
+pub eras_follow_example : map (λ f. f.catalogue) given_further_classes.eras ≡ eras classes_of_further_classes_0 ((audit ∷ []) ∷ [])
+eras_follow_example = refl
 
 pub with_all : whole classes_of_further_classes_0 ((audit ∷ []) ∷ []) ≡ catalogue_of_further_classes
 with_all = refl

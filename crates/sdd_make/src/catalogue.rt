@@ -160,7 +160,7 @@ fn parts(alloc: Global) -> Result<Parts, NoMemory>
 
 /// The catalogue of the bank.
 pub fn bank(alloc: Global) -> Result<Catalogue, NoMemory>
-    ensures { IfOk result (λ cat. cat ≡ bank) }
+    ensures { IfOk result (λ catalogue. catalogue ≡ bank) }
 {
     let parts = parts(alloc)?;
     match Catalogue::build(alloc, &parts) {

@@ -1,5 +1,5 @@
 -- What is put on a link and not handed over yet, and how an entry changes it; and what an entry adds to the turns.
-use Rattle.sdd_obligations.proofs.All.{Act, Bool, D, Did, Does, Entry, Era, Hand, Handed, Input, IsAllowed, IsPermitted, List, Log, Mark, Msg, None, Option, Redeclares, Silent, Site, Some, Submitted, T, Tick, Ticked, Txn, U, [], answers, ap, append_assoc, asked_by, dm_no, drop, false, filter-append, flight, given_to, hand_was_put, handed, handed_by, hands_from, hands_grow, if◌then◌else◌, in_order, is_answer, is_question, local_of, local_step, made, nth_era, put_by, puts_grow, puts_to, questions, redeclared_at, redeclares, refl, same_site, sends_of_act, slice_get, suc, sym, take-append-drop, to_site, told_by, true, turn_at, turn_with, txn_at, with_made, zero, ℕ, ◌&&◌, ◌++◌, ◌∙◌, ◌∷◌, ◌≡◌}
+use Rattle.sdd_obligations.proofs.All.{Act, Bool, D, Did, Does, Entry, Era, Hand, Handed, Input, IsAllowed, IsPermitted, List, Log, Mark, Msg, None, Option, Redeclares, Silent, Site, Some, Submitted, T, Tick, Ticked, Txn, U, [], answers, ap, append_assoc, asked_by, dm_no, drop, false, filter-append, flight, given_to, hand_was_put, handed, handed_by, hands_from, hands_grow, if◌then◌else◌, in_order, is_answer, is_question, local_of, local_step, made, nth_era, put_by, puts_grow, puts_to, questions, redeclared_entry, redeclares, refl, same_site, sends_of_act, slice_get, suc, sym, take-append-drop, to_site, told_by, true, turn_at, turn_with, txn_at, with_made, zero, ℕ, ◌&&◌, ◌++◌, ◌∙◌, ◌∷◌, ◌≡◌}
 use Rattle.sdd_invariants.specs.site_module.SiteLog as site
 
 flight_splits : (g : Input) (a b : Site) (log : Log) → IsPermitted g log → puts_to b (local_of g a log) ≡ hands_from a (local_of g b log) ++ flight g a b log
@@ -98,7 +98,7 @@ quiet_given : (n : ℕ) (o : Option Txn) → IsQuietMade (given_to n o)
 quiet_given n None b = (refl, refl)
 quiet_given n (Some t) b = (refl, refl)
 
-quiet_redeclared : (at : Site) (era : Era) (t : ℕ) → IsQuietMade (redeclared_at at era t)
+quiet_redeclared : (at : Site) (era : Era) (t : ℕ) → IsQuietMade (redeclared_entry at era t)
 quiet_redeclared U era t b = (refl, refl)
 quiet_redeclared _ era t b = (refl, refl)
 

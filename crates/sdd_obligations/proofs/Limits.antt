@@ -1,6 +1,6 @@
 -- How many marks there are within the limits, how many messages on a link, and how many messages and transactions a site
 -- was handed and given.
-use Rattle.sdd_obligations.proofs.All.{AllFewTicks, Bool, Call, Did, Does, Entry, Era, Event, Hand, Handed, Input, IsAllowed, IsLawful, IsMarkEntry, IsPermitted, IsWithin, Link, List, Log, MAX_LINK_MESSAGES, MAX_RUN_EVENTS, Mark, Msg, None, Notes, Option, Puts, Redeclares, Round, Site, Some, Submit, Submits, Submitted, T, Tick, Ticked, Txn, U, [], allowed_hand, allowed_mark, ap, arith, both, calls_of, delivered_within, false, given_to, handed, handed_le, hands, if_way, if◌then◌else◌, length, length-append, link, local_of, local_step, made, made_by_mark, marks, neither_left, neither_right, not_past, nothing_if, nth_era, put_by, puts, puts_past, redeclared_at, redeclares, refl, same_link, same_site, sends_of_act, sent, sent_grows, site_self, sites, submits, suc, true, turned, txn_at, with_made, ℕ, ◌&&◌, ◌++◌, ◌+◌, ◌∷◌, ◌≡◌, ◌≤◌}
+use Rattle.sdd_obligations.proofs.All.{AllFewTicks, Bool, Call, Did, Does, Entry, Era, Event, Hand, Handed, Input, IsAllowed, IsLawful, IsMarkEntry, IsPermitted, IsWithin, Link, List, Log, MAX_LINK_MESSAGES, MAX_RUN_EVENTS, Mark, Msg, None, Notes, Option, Puts, Redeclares, Round, Site, Some, Submit, Submits, Submitted, T, Tick, Ticked, Txn, U, [], allowed_hand, allowed_mark, ap, arith, both, calls_of, delivered_within, false, given_to, handed, handed_le, hands, if_way, if◌then◌else◌, length, length-append, link, local_of, local_step, made, made_by_mark, marks, neither_left, neither_right, not_past, nothing_if, nth_era, put_by, puts, puts_past, redeclared_entry, redeclares, refl, same_link, same_site, sends_of_act, sent, sent_grows, site_self, sites, submits, suc, true, turned, txn_at, with_made, ℕ, ◌&&◌, ◌++◌, ◌+◌, ◌∷◌, ◌≡◌, ◌≤◌}
 use Rattle.sdd_obligations.proofs.OfNext.{IsThere, from_there, of_next}
 use Rattle.sdd_obligations.proofs.Sums.{total, total_raise, total_up}
 use Rattle.sdd_invariants.specs.net.Links.{put}
@@ -86,7 +86,7 @@ none_marked : (at : Site) (e : Event) → None2 (made_by_mark at e)
 none_marked at (Tick t n) = none_if (same_site at (T t)) (Some (Ticked n)) (refl, refl)
 none_marked at _ = (refl, refl)
 
-none_redeclared : (at : Site) (era : Era) (t : ℕ) → None2 (redeclared_at at era t)
+none_redeclared : (at : Site) (era : Era) (t : ℕ) → None2 (redeclared_entry at era t)
 none_redeclared U era t = (refl, refl)
 none_redeclared _ era t = (refl, refl)
 

@@ -1,5 +1,5 @@
 -- What the modules keep for an attempt, as the log of everything goes on.
-use Rattle.sdd_obligations.proofs.All.{Catalogue, CopyRows, D, Did, DmNo, Does, Entry, Era, Frozen, Hand, Handed, Input, Log, Mark, None, Option, Redeclared, Redeclares, Setting, Site, Some, Space, Submits, Submitted, T, Tick, Ticked, Txn, U, active, ap, class_at, contents, dated, dm_no, false, given_to, home, if_way, kept, local_of, local_step, made, nth_era, redeclared_at, redeclares, refl, same_site, setting_of, subst, suc, sym, tm_no, txn_at, with_made, ℕ, ◌==◌, ◌∙◌, ◌∷◌, ◌≡◌}
+use Rattle.sdd_obligations.proofs.All.{Catalogue, CopyRows, D, Did, DmNo, Does, Entry, Era, Frozen, Hand, Handed, Input, Log, Mark, None, Option, Redeclared, Redeclares, Setting, Site, Some, Space, Submits, Submitted, T, Tick, Ticked, Txn, U, active, ap, class_at, contents, dated, dm_no, false, given_to, home, if_way, kept, local_of, local_step, made, nth_era, redeclared_entry, redeclares, refl, same_site, setting_of, subst, suc, sym, tm_no, txn_at, with_made, ℕ, ◌==◌, ◌∙◌, ◌∷◌, ◌≡◌}
 use Rattle.sdd_obligations.proofs.Places.{IsAnswerAt}
 use Rattle.sdd_obligations.proofs.Snapped.{answer_more}
 use Rattle.sdd_obligations.proofs.Kept.{kept_same}
@@ -31,7 +31,7 @@ given_still : (n : ℕ) (o : Option Txn) → IsStill (given_to n o)
 given_still n None = tt
 given_still n (Some txn) = tt
 
-redeclared_still : (at : Site) (era : Era) (t : ℕ) → IsStill (redeclared_at at era t)
+redeclared_still : (at : Site) (era : Era) (t : ℕ) → IsStill (redeclared_entry at era t)
 redeclared_still U era t = tt
 redeclared_still _ era t = tt
 

@@ -1,5 +1,5 @@
 -- The height of a lawful log is one: no clock and no message's time is above it.
-use Rattle.sdd_obligations.proofs.All.{Act, AllFewTicks, AllLow, Ask, D, Did, Does, Entry, Era, Event, Hand, Handed, HandsLow, Held, Input, IsDueAt, IsLawful, IsLow, IsPermitted, IsUnder, List, Log, Mark, Msg, None, Notes, Option, Records, Redeclared, Redeclares, Reject, Release, Round, Site, Some, Start, Submits, Submitted, T, Tick, Ticked, Ticking, Txn, U, [], allowed_act, allowed_hand, arith, base_of, beginning, bound_at, clock, fold, given_to, greatest_bound, height, if_way, if◌then◌else◌, local_of, local_step, made, made_by_mark, map, max, nth_era, numbers_to, pushed_by, put_by, puts_grow, puts_to, redeclared_at, redeclares, refl, same_site, sends_of_act, sent, sent_is, setting_of, slice_get, starts_by, subst, suc, sym, t_fair, ticked_by, ticks_of, tm_no, to_site, top, txn_at, u_due, u_fair, with_made, ℕ, ◌*◌, ◌+◌, ◌-◌, ◌/◌, ◌∷◌, ◌≡◌, ◌≤◌}
+use Rattle.sdd_obligations.proofs.All.{Act, AllFewTicks, AllLow, Ask, D, Did, Does, Entry, Era, Event, Hand, Handed, HandsLow, Held, Input, IsDueAt, IsLawful, IsLow, IsPermitted, IsUnder, List, Log, Mark, Msg, None, Notes, Option, Records, Redeclared, Redeclares, Reject, Release, Round, Site, Some, Start, Submits, Submitted, T, Tick, Ticked, Ticking, Txn, U, [], allowed_act, allowed_hand, arith, base_of, beginning, bound_at, clock, fold, given_to, greatest_bound, height, if_way, if◌then◌else◌, local_of, local_step, made, made_by_mark, map, max, nth_era, numbers_to, pushed_by, put_by, puts_grow, puts_to, redeclared_entry, redeclares, refl, same_site, sends_of_act, sent, sent_is, setting_of, slice_get, starts_by, subst, suc, sym, t_fair, ticked_by, ticks_of, tm_no, to_site, top, txn_at, u_due, u_fair, with_made, ℕ, ◌*◌, ◌+◌, ◌-◌, ◌/◌, ◌∷◌, ◌≡◌, ◌≤◌}
 use Rattle.sdd_obligations.proofs.AnswersLow.{d_low}
 use Rattle.sdd_obligations.proofs.LowLists.{all_low_join, all_low_up, low_at, low_up}
 use Rattle.sdd_obligations.proofs.OfNext.{OfNext, of_next, t_of_sites}
@@ -75,7 +75,7 @@ by_mark : (h : ℕ) (at : Site) (e : Event) → MayGrow h (ticks_of e + h) (made
 by_mark h at (Tick t n) = if_way (MayGrow h (n + h)) (same_site at (T t)) (Some (Ticked n)) None (omega arith) tt
 by_mark h at _ = tt
 
-by_era : (h : ℕ) (at : Site) (era : Era) (t : ℕ) → t ≤ top h → MayGrow h h (redeclared_at at era t)
+by_era : (h : ℕ) (at : Site) (era : Era) (t : ℕ) → t ≤ top h → MayGrow h h (redeclared_entry at era t)
 by_era h (T n) era t l = l
 by_era h _ era t l = tt
 

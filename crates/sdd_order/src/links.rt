@@ -21,28 +21,28 @@ use std::alloc::Global;
 /// r records.
 pub fn find_links(
     alloc: Global,
-    cat: &Catalogue,
+    catalogue: &Catalogue,
     marks: &Marks,
     txns: &[Committed<'_>],
 ) -> Result<Vec<(usize, usize)>, NoMemory>
-    requires exist { All (λ t. IsClass cat.now t.start.class × All (UseExists cat.now) t.start.uses) txns.now }
-    ensures { IfOk result (λ made. made.items ≡ links cat.now marks.now txns.now) }
+    requires exist { All (λ t. IsClass catalogue.now t.start.class × All (UseExists catalogue.now) t.start.uses) txns.now }
+    ensures { IfOk result (λ made. made.items ≡ links catalogue.now marks.now txns.now) }
 {
     let of_class = Groups::of(
         alloc,
         &class_pairs(alloc, txns)?,
-        cat.classes() as usize + 1,
+        catalogue.classes() as usize + 1,
     )?;
     let writers = Groups::of(
         alloc,
         &fragment_pairs(alloc, txns)?,
-        cat.fragments() as usize + 1,
+        catalogue.fragments() as usize + 1,
     )?;
     let mut links = Vec::new(alloc);
     of_class.add_chains(&mut links)?;
     writers.add_chains(&mut links)?;
     for (place, reader) in txns.iter().enumerate() {
-        link_uses(&mut links, cat, marks, txns, &writers, place, reader)?;
+        link_uses(&mut links, catalogue, marks, txns, &writers, place, reader)?;
     }
     Ok(links)
 }

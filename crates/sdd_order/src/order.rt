@@ -23,16 +23,16 @@ use std::alloc::Global;
 /// writers of a fragment.
 pub fn serial_order(
     alloc: Global,
-    cat: &Catalogue,
+    catalogue: &Catalogue,
     history: &[(u32, Rec)],
 ) -> Result<Vec<TxnNo>, NoMemory>
-    requires orderable { IsOrderable cat.now history.now }
-    ensures order { IfOk result (λ order. order.items ≡ serial_order cat.now history.now) }
-    ensures serial { IfOk result (λ order. IsSerial cat.now history.now order.items) }
+    requires orderable { IsOrderable catalogue.now history.now }
+    ensures order { IfOk result (λ order. order.items ≡ serial_order catalogue.now history.now) }
+    ensures serial { IfOk result (λ order. IsSerial catalogue.now history.now order.items) }
 {
     let marks = Marks::of(alloc, history)?;
     let txns = by_time(alloc, history)?;
-    let links = find_links(alloc, cat, &marks, &txns)?;
+    let links = find_links(alloc, catalogue, &marks, &txns)?;
     let order = order_of(alloc, &links, txns.len())?;
     numbers_at(alloc, &txns, &order)
 }

@@ -14,27 +14,27 @@ use sdd_lang::sdd_catalog::Catalogue;
 /// Adds the links of one reader for the fragments of its uses.
 pub fn link_uses(
     links: &mut Vec<(usize, usize)>,
-    cat: &Catalogue,
+    catalogue: &Catalogue,
     marks: &Marks,
     txns: &[Committed<'_>],
     writers: &Groups,
     reader: usize,
     txn: &Committed<'_>,
 ) -> Result<(), NoMemory>
-    requires class { IsClass cat.now txn.now.start.class }
-    requires uses { All (UseExists cat.now) txn.now.start.uses }
+    requires class { IsClass catalogue.now txn.now.start.class }
+    requires uses { All (UseExists catalogue.now) txn.now.start.uses }
     ensures { OnOk result (links.new.items ≡ links.old.items
-        ++ flat_map (fragment_links cat.now marks.now txns.now writers.now (reader, txn.now)) (fragments_in txn.now.start.uses)) }
+        ++ flat_map (fragment_links catalogue.now marks.now txns.now writers.now (reader, txn.now)) (fragments_in txn.now.start.uses)) }
 {
     for used in txn.uses() {
-        link_use(links, cat, marks, txns, writers, reader, txn, used)?;
+        link_use(links, catalogue, marks, txns, writers, reader, txn, used)?;
     }
     Ok(())
 }
 
 fn link_use(
     links: &mut Vec<(usize, usize)>,
-    cat: &Catalogue,
+    catalogue: &Catalogue,
     marks: &Marks,
     txns: &[Committed<'_>],
     writers: &Groups,
@@ -42,13 +42,13 @@ fn link_use(
     txn: &Committed<'_>,
     used: &Use,
 ) -> Result<(), NoMemory>
-    requires class { IsClass cat.now txn.now.start.class }
-    requires used { UseExists cat.now used.now }
+    requires class { IsClass catalogue.now txn.now.start.class }
+    requires used { UseExists catalogue.now used.now }
     ensures { OnOk result (links.new.items ≡ links.old.items
-        ++ flat_map (λ f. fragment_links cat.now marks.now txns.now writers.now (reader, txn.now) f.0) used.now.frags) }
+        ++ flat_map (λ f. fragment_links catalogue.now marks.now txns.now writers.now (reader, txn.now) f.0) used.now.frags) }
 {
     for frag in used.frags.as_slice() {
-        link_fragment(links, cat, marks, txns, writers, reader, txn, *frag)?;
+        link_fragment(links, catalogue, marks, txns, writers, reader, txn, *frag)?;
     }
     Ok(())
 }
@@ -57,7 +57,7 @@ fn link_use(
 /// it hasn't; none where it changes the fragment itself.
 fn link_fragment(
     links: &mut Vec<(usize, usize)>,
-    cat: &Catalogue,
+    catalogue: &Catalogue,
     marks: &Marks,
     txns: &[Committed<'_>],
     writers: &Groups,
@@ -65,15 +65,15 @@ fn link_fragment(
     txn: &Committed<'_>,
     frag: FragNo,
 ) -> Result<(), NoMemory>
-    requires class { IsClass cat.now txn.now.start.class }
-    requires frag { IsFragment cat.now frag.0 }
+    requires class { IsClass catalogue.now txn.now.start.class }
+    requires frag { IsFragment catalogue.now frag.0 }
     ensures { OnOk result (links.new.items ≡ links.old.items
-        ++ fragment_links cat.now marks.now txns.now writers.now (reader, txn.now) frag.0) }
+        ++ fragment_links catalogue.now marks.now txns.now writers.now (reader, txn.now) frag.0) }
 {
     if has_change(txn.changes(), frag) {
         return Ok(());
     }
-    let dm = cat.reads_at(txn.class(), frag).unwrap_or(DmNo(0));
+    let dm = catalogue.reads_at(txn.class(), frag).unwrap_or(DmNo(0));
     let of_frag = writers.get(frag.0 as usize);
     let unseen = first_unseen(marks, txns, dm, txn, of_frag);
     link_between(links, of_frag, reader, unseen)

@@ -36,13 +36,17 @@ impl Plain {
     /// The database of these rows: of two with one key the later stands.
     ///
     /// Costs a logarithmic step for each row, and time and memory linear in the rows.
-    pub fn new(alloc: Global, cat: &Catalogue, rows: &[(RelNo, Row)]) -> Result<Self, NoMemory>
-        requires { All (FitsStart cat.now) rows.now }
-        ensures { IfOk result (λ plain. plain ≡ record { live = true; value = database_of cat.now rows.now }) }
+    pub fn new(
+        alloc: Global,
+        catalogue: &Catalogue,
+        rows: &[(RelNo, Row)],
+    ) -> Result<Self, NoMemory>
+        requires { All (FitsStart catalogue.now) rows.now }
+        ensures { IfOk result (λ plain. plain ≡ record { live = true; value = database_of catalogue.now rows.now }) }
     {
         Ok(Plain {
             alloc,
-            rows: Rows::from_rows(alloc, cat, rows)?,
+            rows: Rows::from_rows(alloc, catalogue, rows)?,
             live: true,
         })
     }
@@ -62,31 +66,31 @@ impl Plain {
     /// where a key is restricted, in the rows alone whose keys are allowed. A change costs a
     /// logarithmic step.
     #[tactic(auto, using(sdd_lang::proofs::Sources::effect_over_database))]
-    pub fn run(&mut self, cat: &Catalogue, txn: &Txn) -> Result<Reply, NoMemory>
+    pub fn run(&mut self, catalogue: &Catalogue, txn: &Txn) -> Result<Reply, NoMemory>
         requires live { IsTrue self.old.live }
-        requires fits { FitsTxn cat.now txn.now }
-        ensures reply { IfOk result (λ reply. reply ≡ (effect cat.now self.old.value txn.now).reply) }
-        ensures after { OnOk result (self.new ≡ record { live = true; value = after_changes cat.now self.old.value (effect cat.now self.old.value txn.now).changes }) }
+        requires fits { FitsTxn catalogue.now txn.now }
+        ensures reply { IfOk result (λ reply. reply ≡ (effect catalogue.now self.old.value txn.now).reply) }
+        ensures after { OnOk result (self.new ≡ record { live = true; value = after_changes catalogue.now self.old.value (effect catalogue.now self.old.value txn.now).changes }) }
         ensures err { OnErr result (self.new.live ≡ false) }
     {
         self.live = false;
-        let Effect { reply, changes } = effect_over(self.alloc, cat, txn, &*self)?;
-        self.rows.apply(cat, changes)?;
+        let Effect { reply, changes } = effect_over(self.alloc, catalogue, txn, &*self)?;
+        self.rows.apply(catalogue, changes)?;
         self.live = true;
         Ok(reply)
     }
 
     /// Runs the transactions one after the other, each on the database that the one before left.
-    pub fn run_all(&mut self, cat: &Catalogue, txns: &[Txn]) -> Result<Replies, NoMemory>
+    pub fn run_all(&mut self, catalogue: &Catalogue, txns: &[Txn]) -> Result<Replies, NoMemory>
         requires live { IsTrue self.old.live }
-        requires fit { All (FitsTxn cat.now) txns.now }
-        ensures replies { IfOk result (λ replies. replies ≡ (serial cat.now self.old.value txns.now).0) }
-        ensures after { OnOk result (self.new ≡ record { live = true; value = (serial cat.now self.old.value txns.now).1 }) }
+        requires fit { All (FitsTxn catalogue.now) txns.now }
+        ensures replies { IfOk result (λ replies. replies ≡ (serial catalogue.now self.old.value txns.now).0) }
+        ensures after { OnOk result (self.new ≡ record { live = true; value = (serial catalogue.now self.old.value txns.now).1 }) }
         ensures err { OnErr result (self.new.live ≡ false) }
     {
         let mut replies = Vec::new(self.alloc);
         'txns: for txn in txns {
-            let reply = self.run(cat, txn)?;
+            let reply = self.run(catalogue, txn)?;
             self.live = false;
             replies.push(reply)?;
             self.live = true;

@@ -65,11 +65,11 @@ impl Rows {
     }
 
     /// Makes the change. Costs O(log n); the row is moved.
-    pub(crate) fn change(&mut self, cat: &Catalogue, change: Change) -> Result<(), NoMemory>
-        ensures { OnOk result (self.new ≡ changed_by cat.now self.old change) }
+    pub(crate) fn change(&mut self, catalogue: &Catalogue, change: Change) -> Result<(), NoMemory>
+        ensures { OnOk result (self.new ≡ changed_by catalogue.now self.old change) }
     {
         let Change { frag, key, row } = change;
-        let item = (relation_of(cat, frag), key);
+        let item = (relation_of(catalogue, frag), key);
         match row {
             Some(row) => self.put(item, row),
             None => {
@@ -179,11 +179,11 @@ impl Rows {
     }
 
     /// Makes the changes, in order; the rows are moved.
-    pub(crate) fn apply(&mut self, cat: &Catalogue, changes: Changes) -> Result<(), NoMemory>
-        ensures { OnOk result (self.new ≡ after_changes cat.now self.old changes) }
+    pub(crate) fn apply(&mut self, catalogue: &Catalogue, changes: Changes) -> Result<(), NoMemory>
+        ensures { OnOk result (self.new ≡ after_changes catalogue.now self.old changes) }
     {
         'changes: for change in changes.into_vec() {
-            self.change(cat, change)?;
+            self.change(catalogue, change)?;
         }
         Ok(())
     }
@@ -191,15 +191,15 @@ impl Rows {
     /// The rows, of which the later of two with one key stands.
     pub(crate) fn from_rows(
         alloc: Global,
-        cat: &Catalogue,
+        catalogue: &Catalogue,
         rows: &[(RelNo, Row)],
     ) -> Result<Self, NoMemory>
-        requires { All (FitsStart cat.now) rows.now }
-        ensures { IfOk result (λ built. built ≡ database_of cat.now rows.now) }
+        requires { All (FitsStart catalogue.now) rows.now }
+        ensures { IfOk result (λ built. built ≡ database_of catalogue.now rows.now) }
     {
-        let mut built = Rows::new(alloc, key_columns(alloc, cat)?);
+        let mut built = Rows::new(alloc, key_columns(alloc, catalogue)?);
         'rows: for (rel, row) in rows {
-            let key = key_of(cat, *rel, row);
+            let key = key_of(catalogue, *rel, row);
             built.put((rel.0, key), row.copy()?)?;
         }
         Ok(built)
@@ -207,23 +207,23 @@ impl Rows {
 }
 
 /// The relation of a fragment, or 0 where the fragment isn't there. Number 0 stands for fragment 1.
-fn relation_of(cat: &Catalogue, frag: FragNo) -> u32
-    ensures { result ≡ (fragment_at cat.now frag.0).rel.0 }
+fn relation_of(catalogue: &Catalogue, frag: FragNo) -> u32
+    ensures { result ≡ (fragment_at catalogue.now frag.0).rel.0 }
 {
     let number = frag.0.max(1);
-    if number <= cat.fragments() {
-        cat.fragment(FragNo(number)).rel.0
+    if number <= catalogue.fragments() {
+        catalogue.fragment(FragNo(number)).rel.0
     } else {
         0
     }
 }
 
 /// The key columns of the relations, in their order.
-fn key_columns(alloc: Global, cat: &Catalogue) -> Result<Vec<u32>, NoMemory> {
-    cat.known();
+fn key_columns(alloc: Global, catalogue: &Catalogue) -> Result<Vec<u32>, NoMemory> {
+    catalogue.known();
     let mut columns = Vec::new(alloc);
-    for number in 1..cat.relations() + 1 {
-        columns.push(cat.relation(RelNo(number)).key)?;
+    for number in 1..catalogue.relations() + 1 {
+        columns.push(catalogue.relation(RelNo(number)).key)?;
     }
     Ok(columns)
 }

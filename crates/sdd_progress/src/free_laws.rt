@@ -9,8 +9,8 @@ ghost use Rattle.sdd_progress.specs.Free.{IsFree, IsFreeClass, IsInNoBlock};
 
 /// A class is free exactly where each edge at its nodes has block 0 in the protocol table.
 pub fn law_free_by_blocks()
-    ensures { (cat : Catalogue) (table : List line.Entry) (class : ℕ) → IsTable cat table
-        → IsFree cat class ↔ IsInNoBlock table class }
+    ensures { (catalogue : Catalogue) (table : List line.Entry) (class : ℕ) → IsTable catalogue table
+        → IsFree catalogue class ↔ IsInNoBlock table class }
 {}
 
 /// No attempt of a free class has a Wait or a Reject.

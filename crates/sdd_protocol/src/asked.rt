@@ -26,19 +26,19 @@ impl Asked {
     /// fragments, and in the given ones times what the class reads.
     pub(crate) fn of(
         alloc: Global,
-        cat: &Catalogue,
+        catalogue: &Catalogue,
         class: ClassNo,
         dm: DmNo,
         frags: &[FragNo],
     ) -> Result<Asked, NoMemory>
-        requires class { class.0 ≤ length cat.now.classes }
-        requires frags { All (λ f. (1 ≤ f.0) × (f.0 ≤ length cat.now.fragments)) frags.now }
-        ensures { IfOk result (λ asked. AreMarks (is_asked cat.now class.0 dm.0 frags.now) asked) }
+        requires class { class.0 ≤ length catalogue.now.classes }
+        requires frags { All (λ f. (1 ≤ f.0) × (f.0 ≤ length catalogue.now.fragments)) frags.now }
+        ensures { IfOk result (λ asked. AreMarks (is_asked catalogue.now class.0 dm.0 frags.now) asked) }
     {
-        cat.known();
-        let mut marks = vec![in alloc; false; cat.fragments() as usize + 1]?;
+        catalogue.known();
+        let mut marks = vec![in alloc; false; catalogue.fragments() as usize + 1]?;
         for frag in frags {
-            if is_read_at(cat, class, dm, *frag) {
+            if is_read_at(catalogue, class, dm, *frag) {
                 marks[frag.0 as usize] = true;
             }
         }
@@ -56,11 +56,11 @@ impl Asked {
     }
 }
 
-fn is_read_at(cat: &Catalogue, class: ClassNo, dm: DmNo, frag: FragNo) -> bool
-    requires class { class.0 ≤ length cat.now.classes }
+fn is_read_at(catalogue: &Catalogue, class: ClassNo, dm: DmNo, frag: FragNo) -> bool
+    requires class { class.0 ≤ length catalogue.now.classes }
     requires from { 1 ≤ frag.0 }
-    requires to { frag.0 ≤ length cat.now.fragments }
-    ensures { result ≡ is_read_at cat.now class.0 dm.0 frag.0 }
+    requires to { frag.0 ≤ length catalogue.now.fragments }
+    ensures { result ≡ is_read_at catalogue.now class.0 dm.0 frag.0 }
 {
-    cat.reads_at(class, frag) == Some(dm)
+    catalogue.reads_at(class, frag) == Some(dm)
 }

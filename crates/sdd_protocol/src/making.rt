@@ -18,14 +18,14 @@ use std::alloc::Global;
 ///
 /// Costs what the conflict graph and its blocks do, of which most is `4 * classes` passes over the pairs
 /// of nodes that edges join, and memory for a few numbers for each edge and for each two classes.
-pub fn table(alloc: Global, cat: &Catalogue) -> Result<Table, NoMemory>
-    ensures { IfOk result (λ table. IsTable cat.now table) }
+pub fn table(alloc: Global, catalogue: &Catalogue) -> Result<Table, NoMemory>
+    ensures { IfOk result (λ table. IsTable catalogue.now table) }
 {
-    cat.known();
-    let edges = conflict_graph(alloc, cat)?;
-    let numbers = block_numbers(alloc, &edges, cat.classes())?;
+    catalogue.known();
+    let edges = conflict_graph(alloc, catalogue)?;
+    let numbers = block_numbers(alloc, &edges, catalogue.classes())?;
     let entries = entries(alloc, &edges, &numbers)?;
-    let index = DiagonalIndex::of(alloc, &entries, cat.classes() + 1)?;
+    let index = DiagonalIndex::of(alloc, &entries, catalogue.classes() + 1)?;
     Ok(Table::new(alloc, entries, index))
 }
 

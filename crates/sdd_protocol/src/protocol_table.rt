@@ -85,21 +85,21 @@ impl Table {
     /// fragments times what the class reads.
     pub fn condition(
         &self,
-        cat: &Catalogue,
+        catalogue: &Catalogue,
         class: ClassNo,
         dm: DmNo,
         frags: &[FragNo],
         own: Ts,
         p2: Ts,
     ) -> Result<Vec<Cond>, NoMemory>
-        requires class { IsClassOf cat.now class.0 }
-        requires frags { All (λ f. (1 ≤ f.0) × (f.0 ≤ length cat.now.fragments)) frags.now }
+        requires class { IsClassOf catalogue.now class.0 }
+        requires frags { All (λ f. (1 ≤ f.0) × (f.0 ≤ length catalogue.now.fragments)) frags.now }
         ensures { IfOk result (λ conds.
-            conds.items ≡ conditions cat.now self.now class.0 dm.0 frags.now own.0 p2.0) }
+            conds.items ≡ conditions catalogue.now self.now class.0 dm.0 frags.now own.0 p2.0) }
     {
-        cat.known();
-        let asked = Asked::of(self.alloc, cat, class, dm, frags)?;
-        self.conditions(&asked, Attempt { class, own, p2 }, cat.classes())
+        catalogue.known();
+        let asked = Asked::of(self.alloc, catalogue, class, dm, frags)?;
+        self.conditions(&asked, Attempt { class, own, p2 }, catalogue.classes())
     }
 
     /// The conditions on so many classes.

@@ -12,12 +12,12 @@ use std::alloc::Global;
 /// for all fragments, up to the attempt's own timestamp.
 ///
 /// Costs time and memory in the classes times the fragments.
-pub fn undeclared(alloc: Global, cat: &Catalogue, own: Ts) -> Result<Vec<Cond>, NoMemory>
-    ensures { IfOk result (λ conds. conds.items ≡ undeclared_conditions cat.now own.0) }
+pub fn undeclared(alloc: Global, catalogue: &Catalogue, own: Ts) -> Result<Vec<Cond>, NoMemory>
+    ensures { IfOk result (λ conds. conds.items ≡ undeclared_conditions catalogue.now own.0) }
 {
-    cat.known();
-    let frags = Frags::from_vec(all_fragments(alloc, cat)?);
-    conditions_on(alloc, cat.classes(), own, &frags)
+    catalogue.known();
+    let frags = Frags::from_vec(all_fragments(alloc, catalogue)?);
+    conditions_on(alloc, catalogue.classes(), own, &frags)
 }
 
 /// The conditions on so many classes, each for the fragments.
@@ -45,12 +45,12 @@ fn condition_on(class: ClassNo, time: Ts, frags: &Frags) -> Result<Cond, NoMemor
 }
 
 /// All fragments, ascending.
-fn all_fragments(alloc: Global, cat: &Catalogue) -> Result<Vec<FragNo>, NoMemory>
-    ensures { IfOk result (λ frags. frags.items ≡ map frag_no (fragments_of cat.now)) }
+fn all_fragments(alloc: Global, catalogue: &Catalogue) -> Result<Vec<FragNo>, NoMemory>
+    ensures { IfOk result (λ frags. frags.items ≡ map frag_no (fragments_of catalogue.now)) }
 {
-    cat.known();
+    catalogue.known();
     Ok(
-        (1..cat.fragments() + 1)
+        (1..catalogue.fragments() + 1)
             .map(|frag| FragNo(frag))
             .collect(alloc)?,
     )

@@ -1,7 +1,7 @@
 -- What is given by a valid workload is what the modules' facts ask for, with each part of its schedule.
 use Rattle.sdd_run.proofs.All.{All, All-at, All-cons, All-head, All-nil, All-tail, All-weaker, AllFewTicks, AreTables, Catalogue, Entry, Event, FitsInput, FitsStart, HoldsValues, IsDatabase, IsGood, IsHeld, IsSoundCatalogue, IsValid, IsValidEvent, IsValidRow, IsValidTxn, IsValue, List, MAX_TICKS, Put, PutsHeld, RelNo, Row, Stmt, Tick, Value, Workload, [], arith, both as and_both, database_of, first_input, get_or as slice_index_or, inl, inr, le-leb, length, map, nat_le, negsuc, no_database, numbers_to, pos, refl, rows_make_database, subst, suc, sym, ticks_of, true, whole_in, zero, ℕ, ◌++◌, ◌-◌, ◌^◌, ◌∷◌, ◌≡◌, ◌≤◌, ◌⊎◌}
 use Rattle.sdd_run.proofs.Allowed.{IsGoodAlong}
-use Rattle.sdd_run.proofs.Forces.{has_eras}
+use Rattle.sdd_run.proofs.ErasWithTables.{has_eras}
 use Rattle.sdd_run.proofs.Submissions.{once, once_before}
 use Rattle.sdd_run.proofs.Whole.{events_valid, rows_valid, txns_valid}
 use Rattle.sdd_obligations.specs.base.declared.value.Value.TheVariants as values

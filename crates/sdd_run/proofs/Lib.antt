@@ -1,7 +1,7 @@
 mod All
 pub mod Allowed
 pub mod AtRest
-pub mod Forces
+pub mod ErasWithTables
 pub mod LastHomes
 pub mod Lending
 pub mod RunOf

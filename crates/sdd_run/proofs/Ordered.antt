@@ -1,6 +1,6 @@
 -- The history of a run has a serial order, along which one plain database gives its replies.
 use Rattle.sdd_run.proofs.All.{All-at, AllZip, AreAllApplied, AreAppliedAlike, AreFewRejected, AreTables, Attempt, Catalogue, Contains, CopyTable, Entry, IsAttempt, IsClassOf, IsFree, IsFreeClass, IsFreeInEach, IsOrderable, IsReplyOf, IsSerial, IsSoundCatalogue, IsTheLog, IsUndisturbed, IsValid, KeepsStarts, List, Log, Workload, eras_in, eras_of, few_rejected, history, input_of, length, order_of, plain_run, replies, rows_left, serial_order_is, tables_of, whole_in, ℕ, ◌≡◌}
-use Rattle.sdd_run.proofs.Forces.{of_list}
+use Rattle.sdd_run.proofs.ErasWithTables.{of_list}
 use Rattle.sdd_run.proofs.FreeAttempts.{undisturbed}
 use Rattle.sdd_run.proofs.Left.{alike_in, left_in}
 use Rattle.sdd_run.proofs.RunOf.{eras_are, fine, known_of, lists, permitted, submit_given, up}

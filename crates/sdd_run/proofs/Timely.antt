@@ -1,6 +1,6 @@
 -- In a valid workload each redeclare stands where it may: a list is left, and no data module is down.
 use Rattle.sdd_run.proofs.All.{AreTables, AreTimely, Bool, Catalogue, Entry, Event, IsValid, List, Redeclare, Some, Workload, [], ap, arith, at_seam, classes_in, cond, count_by, down_from, false, fold, input_of, length, length-map, redeclares_in, refl, slice_get, subst, sum_by-cons, sym, take, take-append_seam, turned_by, ℕ, ◌+◌, ◌∙◌, ◌∷◌, ◌≡◌, ◌≤◌}
-use Rattle.sdd_run.proofs.Forces.{how_many}
+use Rattle.sdd_run.proofs.ErasWithTables.{how_many}
 use Rattle.sdd_run.proofs.Whole.{same_dms}
 use Rattle.sdd_obligations.specs.All.{Submit}
 use Rattle.sdd_script.specs.Redeclaring as script

@@ -14,20 +14,20 @@ ghost use Rattle.sdd_run.specs.Runs.{AreTables, EndsAtLimit, IsReportOn, IsSumma
 /// A law: there is one report on the run of a workload at most, and one summary; and none where the
 /// limit ends the run.
 pub fn law_one_report()
-    ensures report { (cat : Catalogue) (work : Workload) (text other : List ℕ) → IsReportOn cat work text
-        → IsReportOn cat work other → text ≡ other }
-    ensures summary { (cat : Catalogue) (work : Workload) (text other : List ℕ)
-        → IsSummaryOn cat work text → IsSummaryOn cat work other → text ≡ other }
-    ensures not_both { (cat : Catalogue) (work : Workload) (text : List ℕ) → IsReportOn cat work text
-        → EndsAtLimit cat work → ⊥ }
+    ensures report { (catalogue : Catalogue) (work : Workload) (text other : List ℕ) → IsReportOn catalogue work text
+        → IsReportOn catalogue work other → text ≡ other }
+    ensures summary { (catalogue : Catalogue) (work : Workload) (text other : List ℕ)
+        → IsSummaryOn catalogue work text → IsSummaryOn catalogue work other → text ≡ other }
+    ensures not_both { (catalogue : Catalogue) (work : Workload) (text : List ℕ) → IsReportOn catalogue work text
+        → EndsAtLimit catalogue work → ⊥ }
 {}
 
 /// A law: at each moment of the run of a workload each clock stands below 2^39 ticks, whether the run
 /// ends with its last event or at the limit.
 pub fn law_low_clocks()
-    ensures { (cat : Catalogue) (work : Workload) (tables : List (List Entry)) (log : Log) → IsSoundCatalogue cat
-        → IsValid cat work → AreTables cat work tables → IsLawful (input_of cat tables work) log
-        → HasLowClocks (input_of cat tables work) log }
+    ensures { (catalogue : Catalogue) (work : Workload) (tables : List (List Entry)) (log : Log) → IsSoundCatalogue catalogue
+        → IsValid catalogue work → AreTables catalogue work tables → IsLawful (input_of catalogue tables work) log
+        → HasLowClocks (input_of catalogue tables work) log }
 {}
 
 /// A law: where nothing is due at any site, a transaction that is under way at its site lacks a message

@@ -87,24 +87,24 @@ fn is_declared(state: &State, name: &[u8]) -> bool
 
 /// Whether a class of the catalogue, or one of the lists so far, has the name.
 #[tactic(auto, using(crate::proofs::ClassNames::catalogue_or_lists))]
-fn is_taken(cat: &Catalogue, state: &State, name: &[u8]) -> bool
-    ensures { result ≡ is_taken cat.now state.now name.now }
+fn is_taken(catalogue: &Catalogue, state: &State, name: &[u8]) -> bool
+    ensures { result ≡ is_taken catalogue.now state.now name.now }
 {
-    has_class(cat, name) || is_declared(state, name)
+    has_class(catalogue, name) || is_declared(state, name)
 }
 
 fn add_class(
     alloc: Global,
-    cat: &Catalogue,
+    catalogue: &Catalogue,
     state: &mut State,
     name: Name,
     tm: TmNo,
 ) -> Result<(), LineError>
-    ensures { GivesReading rule_in (λ _. state.new) result (with_class_of cat.now state.old name tm) }
+    ensures { GivesReading rule_in (λ _. state.new) result (with_class_of catalogue.now state.old name tm) }
 {
     must(
         WorkRule::BadClass,
-        !is_taken(cat, state, name.as_str().as_bytes()),
+        !is_taken(catalogue, state, name.as_str().as_bytes()),
     )?;
     state.classes = known(
         WorkRule::TooMany(Counts::Class),
@@ -117,11 +117,11 @@ fn add_class(
 
 fn class_line(
     alloc: Global,
-    cat: &Catalogue,
+    catalogue: &Catalogue,
     state: &mut State,
     words: &mut Tokens<'_>,
 ) -> Result<(), LineError>
-    ensures { GivesReading rule_in (λ _. state.new) result (class_rules cat.now state.old words.old) }
+    ensures { GivesReading rule_in (λ _. state.new) result (class_rules catalogue.now state.old words.old) }
 {
     match words.only_two() {
         Some((word, tm)) => {
@@ -130,30 +130,34 @@ fn class_line(
                 state.place.takes_classes() && (stands_free(&word) && stands_free(&tm)),
             )?;
             let name = name_in_word(alloc, &word)?;
-            let tm = read_tm(cat, &tm)?;
-            add_class(alloc, cat, state, name, tm)
+            let tm = read_tm(catalogue, &tm)?;
+            add_class(alloc, catalogue, state, name, tm)
         }
         None => broken(WorkRule::BadLine),
     }
 }
 
-fn fragment_in(alloc: Global, cat: &Catalogue, bytes: &[u8]) -> Result<(Name, u32), LineError>
-    ensures { GivesReading rule_in (λ f. f) result (fragment_of cat.now (Plain bytes.now)) }
+fn fragment_in(alloc: Global, catalogue: &Catalogue, bytes: &[u8]) -> Result<(Name, u32), LineError>
+    ensures { GivesReading rule_in (λ f. f) result (fragment_of catalogue.now (Plain bytes.now)) }
 {
     let name = known(WorkRule::UnknownName, read_name(alloc, bytes)?)?;
     let number = known(
         WorkRule::UnknownName,
-        fragment_named(cat, name.as_str().as_bytes()),
+        fragment_named(catalogue, name.as_str().as_bytes()),
     )?;
     Ok((name, number))
 }
 
 /// A fragment's name and its number.
-fn read_fragment(alloc: Global, cat: &Catalogue, word: &Token<'_>) -> Result<(Name, u32), LineError>
-    ensures { GivesReading rule_in (λ f. f) result (fragment_of cat.now word.now) }
+fn read_fragment(
+    alloc: Global,
+    catalogue: &Catalogue,
+    word: &Token<'_>,
+) -> Result<(Name, u32), LineError>
+    ensures { GivesReading rule_in (λ f. f) result (fragment_of catalogue.now word.now) }
 {
     match word.plain() {
-        Some(bytes) => fragment_in(alloc, cat, bytes),
+        Some(bytes) => fragment_in(alloc, catalogue, bytes),
         None => broken(WorkRule::UnknownName),
     }
 }
@@ -181,25 +185,31 @@ fn is_written(writes: &[Name], name: &[u8]) -> bool
 }
 
 /// Whether the class that is open may read the fragment at the module.
-fn may_read(cat: &Catalogue, place: &Place, fragment: &[u8], number: u32, dm: DmNo) -> bool
-    ensures { result ≡ (not (has_name (map (λ (r : ReadPart). r.fragment) (reads_at place.now)) fragment.now) && has_copy cat.now dm.0 number) }
+fn may_read(catalogue: &Catalogue, place: &Place, fragment: &[u8], number: u32, dm: DmNo) -> bool
+    ensures { result ≡ (not (has_name (map (λ (r : ReadPart). r.fragment) (reads_at place.now)) fragment.now) && has_copy catalogue.now dm.0 number) }
 {
-    !is_read(place.reads(), fragment) && has_copy(cat, dm, number)
+    !is_read(place.reads(), fragment) && has_copy(catalogue, dm, number)
 }
 
 fn add_read(
     alloc: Global,
-    cat: &Catalogue,
+    catalogue: &Catalogue,
     state: &mut State,
     fragment: Name,
     number: u32,
     dm: DmNo,
 ) -> Result<(), LineError>
-    ensures { GivesReading rule_in (λ _. state.new) result (with_read_of cat.now state.old (fragment, number) dm) }
+    ensures { GivesReading rule_in (λ _. state.new) result (with_read_of catalogue.now state.old (fragment, number) dm) }
 {
     must(
         WorkRule::BadClass,
-        may_read(cat, &state.place, fragment.as_str().as_bytes(), number, dm),
+        may_read(
+            catalogue,
+            &state.place,
+            fragment.as_str().as_bytes(),
+            number,
+            dm,
+        ),
     )?;
     must(
         WorkRule::TooMany(Counts::Read),
@@ -216,11 +226,11 @@ fn add_read(
 
 fn reads_line(
     alloc: Global,
-    cat: &Catalogue,
+    catalogue: &Catalogue,
     state: &mut State,
     words: &mut Tokens<'_>,
 ) -> Result<(), LineError>
-    ensures { GivesReading rule_in (λ _. state.new) result (reads_rules cat.now state.old words.old) }
+    ensures { GivesReading rule_in (λ _. state.new) result (reads_rules catalogue.now state.old words.old) }
 {
     match words.only_two() {
         Some((word, dm)) => {
@@ -228,9 +238,9 @@ fn reads_line(
                 WorkRule::BadLine,
                 state.place.takes_reads() && (stands_free(&word) && stands_free(&dm)),
             )?;
-            let (fragment, number) = read_fragment(alloc, cat, &word)?;
-            let dm = read_dm(cat, &dm)?;
-            add_read(alloc, cat, state, fragment, number, dm)
+            let (fragment, number) = read_fragment(alloc, catalogue, &word)?;
+            let dm = read_dm(catalogue, &dm)?;
+            add_read(alloc, catalogue, state, fragment, number, dm)
         }
         None => broken(WorkRule::BadLine),
     }
@@ -250,11 +260,11 @@ fn add_write(alloc: Global, state: &mut State, name: Name) -> Result<(), LineErr
 
 fn writes_line(
     alloc: Global,
-    cat: &Catalogue,
+    catalogue: &Catalogue,
     state: &mut State,
     words: &mut Tokens<'_>,
 ) -> Result<(), LineError>
-    ensures { GivesReading rule_in (λ _. state.new) result (writes_rules cat.now state.old words.old) }
+    ensures { GivesReading rule_in (λ _. state.new) result (writes_rules catalogue.now state.old words.old) }
 {
     match words.only_one() {
         Some(word) => {
@@ -262,7 +272,7 @@ fn writes_line(
                 WorkRule::BadLine,
                 state.place.takes_writes() && stands_free(&word),
             )?;
-            let (fragment, _) = read_fragment(alloc, cat, &word)?;
+            let (fragment, _) = read_fragment(alloc, catalogue, &word)?;
             add_write(alloc, state, fragment)
         }
         None => broken(WorkRule::BadLine),
@@ -272,17 +282,17 @@ fn writes_line(
 /// What the lines have said with one line more of a list of classes, but for the line that ends it.
 pub fn read_class_line(
     alloc: Global,
-    cat: &Catalogue,
+    catalogue: &Catalogue,
     state: &mut State,
     key: ClassKey,
     words: &mut Tokens<'_>,
 ) -> Result<(), LineError>
-    ensures { GivesReading rule_in (λ _. state.new) result (class_line_rules key cat.now state.old words.old) }
+    ensures { GivesReading rule_in (λ _. state.new) result (class_line_rules key catalogue.now state.old words.old) }
 {
     match key {
         ClassKey::List => list_line(alloc, state, words),
-        ClassKey::Class => class_line(alloc, cat, state, words),
-        ClassKey::Reads => reads_line(alloc, cat, state, words),
-        ClassKey::Writes => writes_line(alloc, cat, state, words),
+        ClassKey::Class => class_line(alloc, catalogue, state, words),
+        ClassKey::Reads => reads_line(alloc, catalogue, state, words),
+        ClassKey::Writes => writes_line(alloc, catalogue, state, words),
     }
 }

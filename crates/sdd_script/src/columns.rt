@@ -52,8 +52,12 @@ fn column_in(columns: &[Column], part: u32, name: &[u8]) -> Result<Found, LineEr
 
 /// The column of a use that bytes name.
 #[tactic(auto, using(crate::proofs::FewColumns::few_columns))]
-fn column_of_use_in(cat: &Catalogue, parts: &[Option<u8>], bytes: &[u8]) -> Result<Found, LineError>
-    ensures { GivesReading rule_in (λ f. f) result (column_of_use cat.now parts.now (Plain bytes.now)) }
+fn column_of_use_in(
+    catalogue: &Catalogue,
+    parts: &[Option<u8>],
+    bytes: &[u8],
+) -> Result<Found, LineError>
+    ensures { GivesReading rule_in (λ f. f) result (column_of_use catalogue.now parts.now (Plain bytes.now)) }
 {
     let (number, name) = parts_at_point(bytes);
     must(WorkRule::BadNumber, is_whole_number(number))?;
@@ -61,20 +65,20 @@ fn column_of_use_in(cat: &Catalogue, parts: &[Option<u8>], bytes: &[u8]) -> Resu
         WorkRule::UnknownName,
         use_numbered(parts, number_in(number)),
     )?;
-    cat.known();
-    column_in(columns_of(cat, rel), part, name)
+    catalogue.known();
+    column_in(columns_of(catalogue, rel), part, name)
 }
 
 /// The column of a use that a word names.
 pub fn read_column(
-    cat: &Catalogue,
+    catalogue: &Catalogue,
     parts: &[Option<u8>],
     word: &Token<'_>,
 ) -> Result<Found, LineError>
-    ensures { GivesReading rule_in (λ f. f) result (column_of_use cat.now parts.now word.now) }
+    ensures { GivesReading rule_in (λ f. f) result (column_of_use catalogue.now parts.now word.now) }
 {
     match word.plain() {
-        Some(bytes) => column_of_use_in(cat, parts, bytes),
+        Some(bytes) => column_of_use_in(catalogue, parts, bytes),
         None => broken(WorkRule::BadNumber),
     }
 }
@@ -91,14 +95,14 @@ fn read_const(alloc: Global, left: Found, op: Op, right: &Token<'_>) -> Result<C
 }
 
 fn read_same(
-    cat: &Catalogue,
+    catalogue: &Catalogue,
     parts: &[Option<u8>],
     left: Found,
     right: &Token<'_>,
 ) -> Result<Condition, LineError>
-    ensures { GivesReading rule_in (λ c. c) result (same_of cat.now parts.now left right.now) }
+    ensures { GivesReading rule_in (λ c. c) result (same_of catalogue.now parts.now left right.now) }
 {
-    let right = read_column(cat, parts, right)?;
+    let right = read_column(catalogue, parts, right)?;
     must(WorkRule::WrongKind, is_of_kind(Some(left.kind), right.kind))?;
     Ok(Condition::Same {
         left: left.at,
@@ -108,15 +112,15 @@ fn read_same(
 
 fn read_condition(
     alloc: Global,
-    cat: &Catalogue,
+    catalogue: &Catalogue,
     parts: &[Option<u8>],
     words: &Comparison<'_>,
 ) -> Result<Condition, LineError>
-    ensures { GivesReading rule_in (λ c. c) result (condition_of cat.now parts.now words.now) }
+    ensures { GivesReading rule_in (λ c. c) result (condition_of catalogue.now parts.now words.now) }
 {
-    let left = read_column(cat, parts, &words.left)?;
+    let left = read_column(catalogue, parts, &words.left)?;
     if names_column(alloc, words.op, &words.right)? {
-        read_same(cat, parts, left, &words.right)
+        read_same(catalogue, parts, left, &words.right)
     } else {
         read_const(alloc, left, words.op, &words.right)
     }
@@ -126,16 +130,16 @@ fn read_condition(
 #[tactic(auto, using(crate::proofs::FewRead::few_loop))]
 pub fn read_conditions(
     alloc: Global,
-    cat: &Catalogue,
+    catalogue: &Catalogue,
     parts: &[Option<u8>],
     words: &mut Comparisons<'_>,
 ) -> Result<Vec<Condition>, LineError>
     ensures { GivesReading rule_in (λ v. v.items) result
-        (few MAX_CONDITIONS (conditions_of cat.now parts.now words.old)) }
+        (few MAX_CONDITIONS (conditions_of catalogue.now parts.now words.old)) }
 {
     let mut conds = Vec::new(alloc);
     'words: while let Some(one) = words.next() {
-        let condition = read_condition(alloc, cat, parts, &one)?;
+        let condition = read_condition(alloc, catalogue, parts, &one)?;
         keep_few(&mut conds, MAX_CONDITIONS, condition)?;
     }
     Ok(conds)

@@ -16,13 +16,13 @@ use std::alloc::Global;
 
 fn read_delete_of(
     alloc: Global,
-    cat: &Catalogue,
+    catalogue: &Catalogue,
     rel: u8,
     words: &mut Comparisons<'_>,
 ) -> Result<Stmt, LineError>
-    ensures { GivesReading rule_in (λ s. s) result (short (delete_over cat.now rel words.old)) }
+    ensures { GivesReading rule_in (λ s. s) result (short (delete_over catalogue.now rel words.old)) }
 {
-    let conds = read_conditions(alloc, cat, &[Some(rel)], words)?;
+    let conds = read_conditions(alloc, catalogue, &[Some(rel)], words)?;
     Ok(Stmt::Delete {
         rel: RelNo(u32::from(rel)),
         conds: Listed::from_vec(conds),
@@ -32,30 +32,30 @@ fn read_delete_of(
 #[tactic(auto, using(crate::proofs::Shortened::fails_at))]
 fn read_delete_parts(
     alloc: Global,
-    cat: &Catalogue,
+    catalogue: &Catalogue,
     name: &Token<'_>,
     words: &mut Comparisons<'_>,
 ) -> Result<Stmt, LineError>
-    ensures { GivesReading rule_in (λ s. s) result (short (delete_of_parts cat.now name.now words.old)) }
+    ensures { GivesReading rule_in (λ s. s) result (short (delete_of_parts catalogue.now name.now words.old)) }
 {
-    let rel = known(WorkRule::UnknownName, part_of(cat, name))?;
-    read_delete_of(alloc, cat, rel, words)
+    let rel = known(WorkRule::UnknownName, part_of(catalogue, name))?;
+    read_delete_of(alloc, catalogue, rel, words)
 }
 
 /// A delete, by its relation and its conditions; of too many the first ones.
 pub fn read_delete(
     alloc: Global,
-    cat: &Catalogue,
+    catalogue: &Catalogue,
     words: &mut Tokens<'_>,
 ) -> Result<Stmt, LineError>
-    ensures { GivesReading rule_in (λ s. s) result (short (delete_of cat.now words.old)) }
+    ensures { GivesReading rule_in (λ s. s) result (short (delete_of catalogue.now words.old)) }
 {
     match words.next() {
         None => broken(WorkRule::BadLine),
         Some(name) => {
             must(WorkRule::BadLine, stands_free(&name))?;
             match read_comparisons(words.copy()) {
-                Some(mut words) => read_delete_parts(alloc, cat, &name, &mut words),
+                Some(mut words) => read_delete_parts(alloc, catalogue, &name, &mut words),
                 None => broken(WorkRule::BadLine),
             }
         }

@@ -6,9 +6,9 @@ use sdd_lang::sdd_catalog::Catalogue;
 /// Reading and spelling are inverse: the spelling of each workload that the catalogue allows is
 /// read as this workload, and each file that is read spells what it is read as, which the catalogue
 /// allows. Takes no time and no memory.
-pub fn law_round_trip(cat: &Catalogue)
-    ensures again { ReadsAgain cat.now }
-    ensures spelled { ReadsSpelling cat.now }
+pub fn law_round_trip(catalogue: &Catalogue)
+    ensures again { ReadsAgain catalogue.now }
+    ensures spelled { ReadsSpelling catalogue.now }
 {
-    cat.known();
+    catalogue.known();
 }

@@ -13,81 +13,81 @@ use sdd_words::{Token, read_name};
 use std::alloc::Global;
 
 /// The relation at the place below a number, or None past the last.
-fn relation_if(cat: &Catalogue, rel: u32) -> Option<&Relation>
+fn relation_if(catalogue: &Catalogue, rel: u32) -> Option<&Relation>
     ensures { MatchOption result
-        (relation_if cat.now rel ≡ None)
-        (λ r. relation_if cat.now rel ≡ Some r.now) }
+        (relation_if catalogue.now rel ≡ None)
+        (λ r. relation_if catalogue.now rel ≡ Some r.now) }
 {
     let place = rel.saturating_sub(1);
-    if place < cat.relations() {
-        Some(cat.relation(RelNo(place + 1)))
+    if place < catalogue.relations() {
+        Some(catalogue.relation(RelNo(place + 1)))
     } else {
         None
     }
 }
 
 /// The columns of a relation, none past the last relation.
-pub fn columns_of(cat: &Catalogue, rel: u32) -> &[Column]
-    ensures { result.now ≡ columns_of cat.now rel }
+pub fn columns_of(catalogue: &Catalogue, rel: u32) -> &[Column]
+    ensures { result.now ≡ columns_of catalogue.now rel }
 {
-    match relation_if(cat, rel) {
+    match relation_if(catalogue, rel) {
         Some(relation) => relation.columns.as_slice(),
         None => &[],
     }
 }
 
 /// The number of the column that holds a relation's key, 0 past the last relation.
-pub fn key_of(cat: &Catalogue, rel: u32) -> u32
-    ensures { result ≡ key_of cat.now rel }
+pub fn key_of(catalogue: &Catalogue, rel: u32) -> u32
+    ensures { result ≡ key_of catalogue.now rel }
 {
-    match relation_if(cat, rel) {
+    match relation_if(catalogue, rel) {
         Some(relation) => relation.key,
         None => 0,
     }
 }
 
 /// The name of a relation, empty past the last.
-pub fn name_of_relation(cat: &Catalogue, rel: u32) -> &[u8]
-    ensures { result.now ≡ name_of_relation cat.now rel }
+pub fn name_of_relation(catalogue: &Catalogue, rel: u32) -> &[u8]
+    ensures { result.now ≡ name_of_relation catalogue.now rel }
 {
-    match relation_if(cat, rel) {
+    match relation_if(catalogue, rel) {
         Some(relation) => relation.name.as_str().as_bytes(),
         None => &[],
     }
 }
 
-fn has_name(cat: &Catalogue, rel: u32, name: &[u8]) -> bool
-    ensures { result ≡ bytes_eq (name_of_relation cat.now rel) name.now }
+fn has_name(catalogue: &Catalogue, rel: u32, name: &[u8]) -> bool
+    ensures { result ≡ bytes_eq (name_of_relation catalogue.now rel) name.now }
 {
-    name_of_relation(cat, rel) == name
+    name_of_relation(catalogue, rel) == name
 }
 
-fn relation_named(cat: &Catalogue, name: &[u8]) -> Option<u32>
-    ensures relation { result ≡ relation_named cat.now name.now }
+fn relation_named(catalogue: &Catalogue, name: &[u8]) -> Option<u32>
+    ensures relation { result ≡ relation_named catalogue.now name.now }
     ensures few { IfSome result (λ rel. rel < 2 ^ 8) }
 {
-    cat.known();
-    (1..cat.relations() + 1).find(|rel| has_name(cat, *rel, name))
+    catalogue.known();
+    (1..catalogue.relations() + 1).find(|rel| has_name(catalogue, *rel, name))
 }
 
 /// The number of the relation that the word names, or None exactly where there is none. Costs time in
 /// the number of relations.
-pub fn relation_of(cat: &Catalogue, word: &Token<'_>) -> Option<u32>
-    ensures relation { result ≡ relation_of cat.now word.now }
+pub fn relation_of(catalogue: &Catalogue, word: &Token<'_>) -> Option<u32>
+    ensures relation { result ≡ relation_of catalogue.now word.now }
     ensures few { IfSome result (λ rel. rel < 2 ^ 8) }
 {
     match word.plain() {
-        Some(name) => relation_named(cat, name),
+        Some(name) => relation_named(catalogue, name),
         None => None,
     }
 }
 
 /// The number of the relation that the word names, in one byte, or None exactly where there is none.
 /// Costs time in the number of relations.
-pub fn part_of(cat: &Catalogue, word: &Token<'_>) -> Option<u8>
-    ensures { result ≡ relation_of cat.now word.now }
+pub fn part_of(catalogue: &Catalogue, word: &Token<'_>) -> Option<u8>
+    ensures { result ≡ relation_of catalogue.now word.now }
 {
-    match relation_of(cat, word) {
+    match relation_of(catalogue, word) {
         Some(rel) => Some(rel as u8),
         None => None,
     }
@@ -110,70 +110,74 @@ pub fn kind_of_place(columns: &[Column], place: usize) -> Option<Kind>
 }
 
 /// The name of a fragment, empty past the last.
-fn name_of_fragment(cat: &Catalogue, frag: u32) -> &[u8]
-    ensures { result.now ≡ name_of_fragment cat.now frag }
+fn name_of_fragment(catalogue: &Catalogue, frag: u32) -> &[u8]
+    ensures { result.now ≡ name_of_fragment catalogue.now frag }
 {
     let place = frag.saturating_sub(1);
-    if place < cat.fragments() {
-        cat.fragment(FragNo(place + 1)).name.as_str().as_bytes()
+    if place < catalogue.fragments() {
+        catalogue
+            .fragment(FragNo(place + 1))
+            .name
+            .as_str()
+            .as_bytes()
     } else {
         &[]
     }
 }
 
-fn is_fragment_name(cat: &Catalogue, frag: u32, name: &[u8]) -> bool
-    ensures { result ≡ bytes_eq (name_of_fragment cat.now frag) name.now }
+fn is_fragment_name(catalogue: &Catalogue, frag: u32, name: &[u8]) -> bool
+    ensures { result ≡ bytes_eq (name_of_fragment catalogue.now frag) name.now }
 {
-    name_of_fragment(cat, frag) == name
+    name_of_fragment(catalogue, frag) == name
 }
 
 /// The number of the fragment with the name, or None exactly where there is none. Costs time in the
 /// number of fragments.
-pub fn fragment_named(cat: &Catalogue, name: &[u8]) -> Option<u32>
-    ensures { result ≡ fragment_named cat.now name.now }
+pub fn fragment_named(catalogue: &Catalogue, name: &[u8]) -> Option<u32>
+    ensures { result ≡ fragment_named catalogue.now name.now }
 {
-    cat.known();
-    (1..cat.fragments() + 1).find(|frag| is_fragment_name(cat, *frag, name))
+    catalogue.known();
+    (1..catalogue.fragments() + 1).find(|frag| is_fragment_name(catalogue, *frag, name))
 }
 
 /// Whether the module has a copy of the fragment, which none has past the last.
-pub fn has_copy(cat: &Catalogue, dm: DmNo, frag: u32) -> bool
-    ensures { result ≡ has_copy cat.now dm.0 frag }
+pub fn has_copy(catalogue: &Catalogue, dm: DmNo, frag: u32) -> bool
+    ensures { result ≡ has_copy catalogue.now dm.0 frag }
 {
     let place = frag.saturating_sub(1);
-    place < cat.fragments() && cat.has_copy(dm, FragNo(place + 1))
+    place < catalogue.fragments() && catalogue.has_copy(dm, FragNo(place + 1))
 }
 
 /// The name of a class, empty past the last.
-fn name_of_class(cat: &Catalogue, class: u32) -> &[u8]
-    ensures { result.now ≡ name_of_class cat.now class }
+fn name_of_class(catalogue: &Catalogue, class: u32) -> &[u8]
+    ensures { result.now ≡ name_of_class catalogue.now class }
 {
     let place = class.saturating_sub(1);
-    if place < cat.classes() {
-        cat.class(ClassNo(place + 1)).name.as_str().as_bytes()
+    if place < catalogue.classes() {
+        catalogue.class(ClassNo(place + 1)).name.as_str().as_bytes()
     } else {
         &[]
     }
 }
 
-fn is_class_name(cat: &Catalogue, class: u32, name: &[u8]) -> bool
-    ensures { result ≡ bytes_eq name.now (name_of_class cat.now class) }
+fn is_class_name(catalogue: &Catalogue, class: u32, name: &[u8]) -> bool
+    ensures { result ≡ bytes_eq name.now (name_of_class catalogue.now class) }
 {
-    name == name_of_class(cat, class)
+    name == name_of_class(catalogue, class)
 }
 
-fn has_numbered_class(cat: &Catalogue, name: &[u8]) -> bool
-    ensures { result ≡ list_any (λ class. bytes_eq name.now (name_of_class cat.now class)) (numbers_to (length cat.now.classes)) }
+fn has_numbered_class(catalogue: &Catalogue, name: &[u8]) -> bool
+    ensures { result ≡ list_any (λ class. bytes_eq name.now (name_of_class catalogue.now class)) (numbers_to (length catalogue.now.classes)) }
 {
-    cat.known();
-    (1..cat.classes() + 1).any(|class| is_class_name(cat, class, name))
+    catalogue.known();
+    (1..catalogue.classes() + 1).any(|class| is_class_name(catalogue, class, name))
 }
 
 /// Whether a class of the catalogue has the name. Costs time in the number of classes.
-pub fn has_class(cat: &Catalogue, name: &[u8]) -> bool
-    ensures { result ≡ has_name (class_names cat.now) name.now }
+pub fn has_class(catalogue: &Catalogue, name: &[u8]) -> bool
+    ensures { result ≡ has_name (class_names catalogue.now) name.now }
 {
-    has_numbered_class(cat, name)
+    has_numbered_class(catalogue, name)
 }
 
 /// The name that a word is.

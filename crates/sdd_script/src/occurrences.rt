@@ -23,22 +23,22 @@ fn module_number(most: u8, digits: &[u8]) -> Option<u8>
     }
 }
 
-fn tm_number(cat: &Catalogue, digits: &[u8]) -> Option<u8>
-    ensures { result ≡ numbered cat.now.tms digits.now }
+fn tm_number(catalogue: &Catalogue, digits: &[u8]) -> Option<u8>
+    ensures { result ≡ numbered catalogue.now.tms digits.now }
 {
-    cat.known();
-    module_number(cat.tms() as u8, digits)
+    catalogue.known();
+    module_number(catalogue.tms() as u8, digits)
 }
 
-fn dm_number(cat: &Catalogue, digits: &[u8]) -> Option<u8>
-    ensures { result ≡ numbered cat.now.dms digits.now }
+fn dm_number(catalogue: &Catalogue, digits: &[u8]) -> Option<u8>
+    ensures { result ≡ numbered catalogue.now.dms digits.now }
 {
-    cat.known();
-    module_number(cat.dms() as u8, digits)
+    catalogue.known();
+    module_number(catalogue.dms() as u8, digits)
 }
 
-fn site_in(cat: &Catalogue, bytes: &[u8]) -> Option<Site>
-    ensures { result ≡ site_in cat.now bytes.now }
+fn site_in(catalogue: &Catalogue, bytes: &[u8]) -> Option<Site>
+    ensures { result ≡ site_in catalogue.now bytes.now }
 {
     match bytes {
         [] => None,
@@ -46,9 +46,9 @@ fn site_in(cat: &Catalogue, bytes: &[u8]) -> Option<Site>
             if *first == b'U' && digits.is_empty() {
                 Some(Site::U)
             } else if *first == b'T' {
-                tm_number(cat, digits).map(|n| Site::T(TmNo(n)))
+                tm_number(catalogue, digits).map(|n| Site::T(TmNo(n)))
             } else if *first == b'D' {
-                dm_number(cat, digits).map(|n| Site::D(DmNo(n)))
+                dm_number(catalogue, digits).map(|n| Site::D(DmNo(n)))
             } else {
                 None
             }
@@ -56,11 +56,11 @@ fn site_in(cat: &Catalogue, bytes: &[u8]) -> Option<Site>
     }
 }
 
-fn read_site(cat: &Catalogue, word: &Token<'_>) -> Result<Site, LineError>
-    ensures { GivesReading rule_in (λ s. s) result (site_of cat.now word.now) }
+fn read_site(catalogue: &Catalogue, word: &Token<'_>) -> Result<Site, LineError>
+    ensures { GivesReading rule_in (λ s. s) result (site_of catalogue.now word.now) }
 {
     match word.plain() {
-        Some(bytes) => known(WorkRule::BadEvent, site_in(cat, bytes)),
+        Some(bytes) => known(WorkRule::BadEvent, site_in(catalogue, bytes)),
         None => broken(WorkRule::BadEvent),
     }
 }
@@ -75,10 +75,10 @@ fn module_of(site: Site) -> Result<TmNo, LineError>
 }
 
 /// The transaction module that a word names.
-pub fn read_tm(cat: &Catalogue, word: &Token<'_>) -> Result<TmNo, LineError>
-    ensures { GivesReading rule_in (λ t. t) result (tm_of cat.now word.now) }
+pub fn read_tm(catalogue: &Catalogue, word: &Token<'_>) -> Result<TmNo, LineError>
+    ensures { GivesReading rule_in (λ t. t) result (tm_of catalogue.now word.now) }
 {
-    module_of(read_site(cat, word)?)
+    module_of(read_site(catalogue, word)?)
 }
 
 fn data_module_of(site: Site) -> Result<DmNo, LineError>
@@ -91,10 +91,10 @@ fn data_module_of(site: Site) -> Result<DmNo, LineError>
 }
 
 /// The data module that a word names.
-pub fn read_dm(cat: &Catalogue, word: &Token<'_>) -> Result<DmNo, LineError>
-    ensures { GivesReading rule_in (λ d. d) result (dm_of cat.now word.now) }
+pub fn read_dm(catalogue: &Catalogue, word: &Token<'_>) -> Result<DmNo, LineError>
+    ensures { GivesReading rule_in (λ d. d) result (dm_of catalogue.now word.now) }
 {
-    data_module_of(read_site(cat, word)?)
+    data_module_of(read_site(catalogue, word)?)
 }
 
 fn are_linked(from: Site, to: Site) -> bool
@@ -106,11 +106,15 @@ fn are_linked(from: Site, to: Site) -> bool
     }
 }
 
-fn read_link(cat: &Catalogue, from: &Token<'_>, to: &Token<'_>) -> Result<(Site, Site), LineError>
-    ensures { GivesReading rule_in (λ l. l) result (link_of cat.now from.now to.now) }
+fn read_link(
+    catalogue: &Catalogue,
+    from: &Token<'_>,
+    to: &Token<'_>,
+) -> Result<(Site, Site), LineError>
+    ensures { GivesReading rule_in (λ l. l) result (link_of catalogue.now from.now to.now) }
 {
-    let from = read_site(cat, from)?;
-    let to = read_site(cat, to)?;
+    let from = read_site(catalogue, from)?;
+    let to = read_site(catalogue, to)?;
     must(WorkRule::BadEvent, are_linked(from, to))?;
     Ok((from, to))
 }
@@ -135,10 +139,10 @@ fn read_count(most: u32, word: &Token<'_>) -> Result<u32, LineError>
 }
 
 fn read_flight_place(
-    cat: &Catalogue,
+    catalogue: &Catalogue,
     words: &mut Tokens<'_>,
 ) -> Result<(Site, Site, u32), LineError>
-    ensures { GivesReading rule_in (λ p. p) result (flight_place cat.now words.old) }
+    ensures { GivesReading rule_in (λ p. p) result (flight_place catalogue.now words.old) }
 {
     match words.only_three() {
         Some((from, to, place)) => {
@@ -146,7 +150,7 @@ fn read_flight_place(
                 WorkRule::BadLine,
                 stands_free(&from) && stands_free(&to) && stands_free(&place),
             )?;
-            let (from, to) = read_link(cat, &from, &to)?;
+            let (from, to) = read_link(catalogue, &from, &to)?;
             let place = read_count(MAX_PLACE, &place)?;
             Ok((from, to, place))
         }
@@ -154,24 +158,24 @@ fn read_flight_place(
     }
 }
 
-fn read_deliver(cat: &Catalogue, words: &mut Tokens<'_>) -> Result<Event, LineError>
-    ensures { GivesReading rule_in (λ e. e) result (deliver_of cat.now words.old) }
+fn read_deliver(catalogue: &Catalogue, words: &mut Tokens<'_>) -> Result<Event, LineError>
+    ensures { GivesReading rule_in (λ e. e) result (deliver_of catalogue.now words.old) }
 {
-    let (from, to, place) = read_flight_place(cat, words)?;
+    let (from, to, place) = read_flight_place(catalogue, words)?;
     Ok(Event::Deliver { from, to, place })
 }
 
-fn read_lose(cat: &Catalogue, words: &mut Tokens<'_>) -> Result<Event, LineError>
-    ensures { GivesReading rule_in (λ e. e) result (lose_of cat.now words.old) }
+fn read_lose(catalogue: &Catalogue, words: &mut Tokens<'_>) -> Result<Event, LineError>
+    ensures { GivesReading rule_in (λ e. e) result (lose_of catalogue.now words.old) }
 {
-    let (from, to, place) = read_flight_place(cat, words)?;
+    let (from, to, place) = read_flight_place(catalogue, words)?;
     Ok(Event::Lose { from, to, place })
 }
 
-fn read_repeat(cat: &Catalogue, words: &mut Tokens<'_>) -> Result<Event, LineError>
-    ensures { GivesReading rule_in (λ e. e) result (repeat_of cat.now words.old) }
+fn read_repeat(catalogue: &Catalogue, words: &mut Tokens<'_>) -> Result<Event, LineError>
+    ensures { GivesReading rule_in (λ e. e) result (repeat_of catalogue.now words.old) }
 {
-    let (from, to, place) = read_flight_place(cat, words)?;
+    let (from, to, place) = read_flight_place(catalogue, words)?;
     Ok(Event::Repeat { from, to, place })
 }
 
@@ -205,26 +209,26 @@ fn read_submit(alloc: Global, names: &Names, words: &mut Tokens<'_>) -> Result<E
     }
 }
 
-fn read_resend(cat: &Catalogue, words: &mut Tokens<'_>) -> Result<Event, LineError>
-    ensures { GivesReading rule_in (λ e. e) result (resend_of cat.now words.old) }
+fn read_resend(catalogue: &Catalogue, words: &mut Tokens<'_>) -> Result<Event, LineError>
+    ensures { GivesReading rule_in (λ e. e) result (resend_of catalogue.now words.old) }
 {
     match words.only_two() {
         Some((from, to)) => {
             must(WorkRule::BadLine, stands_free(&from) && stands_free(&to))?;
-            let (from, to) = read_link(cat, &from, &to)?;
+            let (from, to) = read_link(catalogue, &from, &to)?;
             Ok(Event::Resend { from, to })
         }
         None => broken(WorkRule::BadLine),
     }
 }
 
-fn read_tick(cat: &Catalogue, words: &mut Tokens<'_>) -> Result<Event, LineError>
-    ensures { GivesReading rule_in (λ e. e) result (tick_of cat.now words.old) }
+fn read_tick(catalogue: &Catalogue, words: &mut Tokens<'_>) -> Result<Event, LineError>
+    ensures { GivesReading rule_in (λ e. e) result (tick_of catalogue.now words.old) }
 {
     match words.only_two() {
         Some((tm, n)) => {
             must(WorkRule::BadLine, stands_free(&tm) && stands_free(&n))?;
-            let tm = read_tm(cat, &tm)?;
+            let tm = read_tm(catalogue, &tm)?;
             let n = read_count(MAX_TICKS, &n)?;
             Ok(Event::Tick { tm, n })
         }
@@ -250,26 +254,26 @@ fn read_redeclare(words: &mut Tokens<'_>) -> Result<Event, LineError>
     }
 }
 
-fn read_down(cat: &Catalogue, words: &mut Tokens<'_>) -> Result<Event, LineError>
-    ensures { GivesReading rule_in (λ e. e) result (down_of cat.now words.old) }
+fn read_down(catalogue: &Catalogue, words: &mut Tokens<'_>) -> Result<Event, LineError>
+    ensures { GivesReading rule_in (λ e. e) result (down_of catalogue.now words.old) }
 {
     match words.only_one() {
         Some(dm) => {
             must(WorkRule::BadLine, stands_free(&dm))?;
-            let dm = read_dm(cat, &dm)?;
+            let dm = read_dm(catalogue, &dm)?;
             Ok(Event::Down(dm))
         }
         None => broken(WorkRule::BadLine),
     }
 }
 
-fn read_up(cat: &Catalogue, words: &mut Tokens<'_>) -> Result<Event, LineError>
-    ensures { GivesReading rule_in (λ e. e) result (up_of cat.now words.old) }
+fn read_up(catalogue: &Catalogue, words: &mut Tokens<'_>) -> Result<Event, LineError>
+    ensures { GivesReading rule_in (λ e. e) result (up_of catalogue.now words.old) }
 {
     match words.only_one() {
         Some(dm) => {
             must(WorkRule::BadLine, stands_free(&dm))?;
-            let dm = read_dm(cat, &dm)?;
+            let dm = read_dm(catalogue, &dm)?;
             Ok(Event::Up(dm))
         }
         None => broken(WorkRule::BadLine),
@@ -279,23 +283,23 @@ fn read_up(cat: &Catalogue, words: &mut Tokens<'_>) -> Result<Event, LineError>
 /// An event, by its first word and the words after it, among transactions with these names.
 pub fn read_event(
     alloc: Global,
-    cat: &Catalogue,
+    catalogue: &Catalogue,
     names: &Names,
     key: EventKey,
     words: &mut Tokens<'_>,
 ) -> Result<Event, LineError>
-    ensures { GivesReading rule_in (λ e. e) result (event_of key cat.now names.now words.old) }
+    ensures { GivesReading rule_in (λ e. e) result (event_of key catalogue.now names.now words.old) }
 {
     match key {
         EventKey::Submit => read_submit(alloc, names, words),
-        EventKey::Deliver => read_deliver(cat, words),
-        EventKey::Lose => read_lose(cat, words),
-        EventKey::Repeat => read_repeat(cat, words),
-        EventKey::Resend => read_resend(cat, words),
-        EventKey::Tick => read_tick(cat, words),
+        EventKey::Deliver => read_deliver(catalogue, words),
+        EventKey::Lose => read_lose(catalogue, words),
+        EventKey::Repeat => read_repeat(catalogue, words),
+        EventKey::Resend => read_resend(catalogue, words),
+        EventKey::Tick => read_tick(catalogue, words),
         EventKey::Settle => read_settle(words),
         EventKey::Redeclare => read_redeclare(words),
-        EventKey::Down => read_down(cat, words),
-        EventKey::Up => read_up(cat, words),
+        EventKey::Down => read_down(catalogue, words),
+        EventKey::Up => read_up(catalogue, words),
     }
 }

@@ -19,42 +19,42 @@ use std::alloc::Global;
 #[tactic(auto, using(crate::proofs::FewRead::part_more, crate::proofs::FewRead::all_parts))]
 fn read_parts(
     alloc: Global,
-    cat: &Catalogue,
+    catalogue: &Catalogue,
     rels: &mut Tokens<'_>,
 ) -> Result<Vec<Option<u8>>, NoMemory>
-    ensures { IfOk result (λ v. v.items ≡ parts_of cat.now rels.old) }
+    ensures { IfOk result (λ v. v.items ≡ parts_of catalogue.now rels.old) }
 {
     let mut parts = Vec::new(alloc);
     'rels: while let Some(rel) = rels.next() {
-        parts.push(part_of(cat, &rel))?;
+        parts.push(part_of(catalogue, &rel))?;
     }
     Ok(parts)
 }
 
 fn read_listed_column(
-    cat: &Catalogue,
+    catalogue: &Catalogue,
     parts: &[Option<u8>],
     word: &Token<'_>,
 ) -> Result<Ref, LineError>
-    ensures { GivesReading rule_in (λ r. r) result (listed_column cat.now parts.now word.now) }
+    ensures { GivesReading rule_in (λ r. r) result (listed_column catalogue.now parts.now word.now) }
 {
-    let found = read_column(cat, parts, word)?;
+    let found = read_column(catalogue, parts, word)?;
     Ok(found.at)
 }
 
 #[tactic(auto, using(crate::proofs::FewRead::few_loop))]
 fn read_listed(
     alloc: Global,
-    cat: &Catalogue,
+    catalogue: &Catalogue,
     parts: &[Option<u8>],
     words: &mut Tokens<'_>,
 ) -> Result<Vec<Ref>, LineError>
     ensures { GivesReading rule_in (λ v. v.items) result
-        (few MAX_OUTPUT_COLUMNS (along (λ i w. listed_column cat.now parts.now w) 0 words.old)) }
+        (few MAX_OUTPUT_COLUMNS (along (λ i w. listed_column catalogue.now parts.now w) 0 words.old)) }
 {
     let mut out = Vec::new(alloc);
     'words: while let Some(word) = words.next() {
-        let column = read_listed_column(cat, parts, &word)?;
+        let column = read_listed_column(catalogue, parts, &word)?;
         keep_few(&mut out, MAX_OUTPUT_COLUMNS, column)?;
     }
     Ok(out)
@@ -83,17 +83,17 @@ fn read_relations(alloc: Global, parts: &[Option<u8>]) -> Result<Vec<RelNo>, Lin
 /// A query over relations that stand at these places.
 fn read_query_of(
     alloc: Global,
-    cat: &Catalogue,
+    catalogue: &Catalogue,
     parts: &[Option<u8>],
     columns: &mut Tokens<'_>,
     words: &mut Comparisons<'_>,
 ) -> Result<Stmt, LineError>
     ensures { GivesReading rule_in (λ s. s) result
-        (short (query_over cat.now parts.now columns.old words.old)) }
+        (short (query_over catalogue.now parts.now columns.old words.old)) }
 {
-    let out = read_listed(alloc, cat, parts, columns)?;
+    let out = read_listed(alloc, catalogue, parts, columns)?;
     let rels = read_relations(alloc, parts)?;
-    let conds = read_conditions(alloc, cat, parts, words)?;
+    let conds = read_conditions(alloc, catalogue, parts, words)?;
     Ok(Stmt::Query {
         out: Listed::from_vec(out),
         rels: Listed::from_vec(rels),
@@ -103,58 +103,62 @@ fn read_query_of(
 
 fn read_query_parts(
     alloc: Global,
-    cat: &Catalogue,
+    catalogue: &Catalogue,
     columns: &mut Tokens<'_>,
     rels: &mut Tokens<'_>,
     words: &mut Comparisons<'_>,
 ) -> Result<Stmt, LineError>
     ensures { GivesReading rule_in (λ s. s) result
-        (short (query_of_parts cat.now columns.old rels.old words.old)) }
+        (short (query_of_parts catalogue.now columns.old rels.old words.old)) }
 {
-    let parts = read_parts(alloc, cat, rels)?;
-    read_query_of(alloc, cat, parts.as_slice(), columns, words)
+    let parts = read_parts(alloc, catalogue, rels)?;
+    read_query_of(alloc, catalogue, parts.as_slice(), columns, words)
 }
 
 fn read_query_behind_from(
     alloc: Global,
-    cat: &Catalogue,
+    catalogue: &Catalogue,
     columns: &mut Tokens<'_>,
     rels: &mut Tokens<'_>,
     rest: Tokens<'_>,
 ) -> Result<Stmt, LineError>
     ensures { GivesReading rule_in (λ s. s) result
-        (short (query_behind_from cat.now columns.old rels.old rest.entry)) }
+        (short (query_behind_from catalogue.now columns.old rels.old rest.entry)) }
 {
     must(
         WorkRule::BadLine,
         look_like_columns(columns) && are_free(rels),
     )?;
     match read_comparisons(rest) {
-        Some(mut words) => read_query_parts(alloc, cat, columns, rels, &mut words),
+        Some(mut words) => read_query_parts(alloc, catalogue, columns, rels, &mut words),
         None => broken(WorkRule::BadLine),
     }
 }
 
 fn read_query_with(
     alloc: Global,
-    cat: &Catalogue,
+    catalogue: &Catalogue,
     columns: &mut Tokens<'_>,
     behind: &Tokens<'_>,
 ) -> Result<Stmt, LineError>
     ensures { GivesReading rule_in (λ s. s) result
-        (short (query_with cat.now columns.old behind.now)) }
+        (short (query_with catalogue.now columns.old behind.now)) }
 {
     let (mut rels, rest) = behind.split_from(b"where");
-    read_query_behind_from(alloc, cat, columns, &mut rels, rest)
+    read_query_behind_from(alloc, catalogue, columns, &mut rels, rest)
 }
 
 /// A query, by its columns, `from`, its relations, and its conditions; of what is too many the first
 /// ones.
-pub fn read_query(alloc: Global, cat: &Catalogue, words: &Tokens<'_>) -> Result<Stmt, LineError>
-    ensures { GivesReading rule_in (λ s. s) result (short (query_of cat.now words.now)) }
+pub fn read_query(
+    alloc: Global,
+    catalogue: &Catalogue,
+    words: &Tokens<'_>,
+) -> Result<Stmt, LineError>
+    ensures { GivesReading rule_in (λ s. s) result (short (query_of catalogue.now words.now)) }
 {
     match words.cut_at(b"from") {
-        Some((mut columns, behind)) => read_query_with(alloc, cat, &mut columns, &behind),
+        Some((mut columns, behind)) => read_query_with(alloc, catalogue, &mut columns, &behind),
         None => broken(WorkRule::BadLine),
     }
 }

@@ -30,11 +30,11 @@ use std::mem;
 
 fn row_line(
     alloc: Global,
-    cat: &Catalogue,
+    catalogue: &Catalogue,
     state: &mut State,
     words: &mut Tokens<'_>,
 ) -> Result<(), LineError>
-    ensures { GivesReading rule_in (λ _. state.new) result (row_rules cat.now state.old words.old) }
+    ensures { GivesReading rule_in (λ _. state.new) result (row_rules catalogue.now state.old words.old) }
 {
     match words.next() {
         None => broken(WorkRule::BadLine),
@@ -43,7 +43,7 @@ fn row_line(
                 WorkRule::BadLine,
                 state.place.takes_rows() && (stands_free(&name) && are_free(words)),
             )?;
-            let row = read_row(alloc, cat, &name, words)?;
+            let row = read_row(alloc, catalogue, &name, words)?;
             state.written = known(WorkRule::TooMany(Counts::Row), one_more_row(state.written))?;
             state.rows.push(row)?;
             Ok(())
@@ -63,11 +63,11 @@ fn open_txn(alloc: Global, state: &mut State, name: Name, tm: TmNo) -> Result<()
 
 fn txn_line(
     alloc: Global,
-    cat: &Catalogue,
+    catalogue: &Catalogue,
     state: &mut State,
     words: &mut Tokens<'_>,
 ) -> Result<(), LineError>
-    ensures { GivesReading rule_in (λ _. state.new) result (txn_rules cat.now state.old words.old) }
+    ensures { GivesReading rule_in (λ _. state.new) result (txn_rules catalogue.now state.old words.old) }
 {
     match words.only_two() {
         Some((word, tm)) => {
@@ -76,7 +76,7 @@ fn txn_line(
                 state.place.takes_txns() && (stands_free(&word) && stands_free(&tm)),
             )?;
             let name = name_in_word(alloc, &word)?;
-            let tm = read_tm(cat, &tm)?;
+            let tm = read_tm(catalogue, &tm)?;
             open_txn(alloc, state, name, tm)
         }
         None => broken(WorkRule::BadLine),
@@ -99,29 +99,29 @@ fn add_statement(state: &mut State, statement: Stmt) -> Result<(), LineError>
 /// Adds a statement as it was read, of what is too many in it no more than the first ones.
 fn short_statement_line(
     alloc: Global,
-    cat: &Catalogue,
+    catalogue: &Catalogue,
     state: &mut State,
     key: StatementKey,
     words: &mut Tokens<'_>,
 ) -> Result<(), LineError>
     ensures { GivesReading rule_in (λ _. state.new) result
-        (statement_rules state.old (short (statement_of key cat.now words.old))) }
+        (statement_rules state.old (short (statement_of key catalogue.now words.old))) }
 {
     must(WorkRule::BadLine, state.place.takes_statements())?;
-    add_statement(state, read_statement(alloc, cat, key, words)?)
+    add_statement(state, read_statement(alloc, catalogue, key, words)?)
 }
 
 fn statement_line(
     alloc: Global,
-    cat: &Catalogue,
+    catalogue: &Catalogue,
     state: &mut State,
     key: StatementKey,
     words: &mut Tokens<'_>,
 ) -> Result<(), LineError>
     ensures { GivesReading rule_in (λ _. state.new) result
-        (statement_rules state.old (statement_of key cat.now words.old)) }
+        (statement_rules state.old (statement_of key catalogue.now words.old)) }
 {
-    short_statement_line(alloc, cat, state, key, words)
+    short_statement_line(alloc, catalogue, state, key, words)
 }
 
 /// Ends the transaction or the list of classes that is open.
@@ -181,8 +181,8 @@ fn note_submitted(submitted: &mut Grown<TxnNo>, event: Event) -> Result<(), NoMe
     }
 }
 
-fn add_event(cat: &Catalogue, state: &mut State, event: Event) -> Result<(), LineError>
-    ensures { GivesReading rule_in (λ _. state.new) result (with_event cat.now state.old event) }
+fn add_event(catalogue: &Catalogue, state: &mut State, event: Event) -> Result<(), LineError>
+    ensures { GivesReading rule_in (λ _. state.new) result (with_event catalogue.now state.old event) }
 {
     must(
         WorkRule::SubmittedTwice,
@@ -190,7 +190,7 @@ fn add_event(cat: &Catalogue, state: &mut State, event: Event) -> Result<(), Lin
     )?;
     must(
         WorkRule::BadEvent,
-        may_follow(cat, state.lists.len(), state.events.as_slice(), event),
+        may_follow(catalogue, state.lists.len(), state.events.as_slice(), event),
     )?;
     must(
         WorkRule::TooMany(Counts::Event),
@@ -204,17 +204,17 @@ fn add_event(cat: &Catalogue, state: &mut State, event: Event) -> Result<(), Lin
 
 fn event_line(
     alloc: Global,
-    cat: &Catalogue,
+    catalogue: &Catalogue,
     state: &mut State,
     key: EventKey,
     words: &mut Tokens<'_>,
 ) -> Result<(), LineError>
     ensures { GivesReading rule_in (λ _. state.new) result
-        (event_rules cat.now state.old (event_of key cat.now state.old.names words.old)) }
+        (event_rules catalogue.now state.old (event_of key catalogue.now state.old.names words.old)) }
 {
     must(WorkRule::BadLine, state.place.takes_events())?;
-    let event = read_event(alloc, cat, &state.names, key, words)?;
-    add_event(cat, state, event)
+    let event = read_event(alloc, catalogue, &state.names, key, words)?;
+    add_event(catalogue, state, event)
 }
 
 fn end_line(state: &mut State, words: &mut Tokens<'_>) -> Result<(), LineError>
@@ -232,66 +232,66 @@ fn end_line(state: &mut State, words: &mut Tokens<'_>) -> Result<(), LineError>
 
 fn read_keyword_line(
     alloc: Global,
-    cat: &Catalogue,
+    catalogue: &Catalogue,
     state: &mut State,
     keyword: Keyword,
     words: &mut Tokens<'_>,
 ) -> Result<(), LineError>
-    ensures { GivesReading rule_in (λ _. state.new) result (keyword_rules keyword cat.now state.old words.old) }
+    ensures { GivesReading rule_in (λ _. state.new) result (keyword_rules keyword catalogue.now state.old words.old) }
 {
     match keyword {
-        Keyword::Row => row_line(alloc, cat, state, words),
-        Keyword::Txn => txn_line(alloc, cat, state, words),
-        Keyword::Statement(key) => statement_line(alloc, cat, state, key, words),
+        Keyword::Row => row_line(alloc, catalogue, state, words),
+        Keyword::Txn => txn_line(alloc, catalogue, state, words),
+        Keyword::Statement(key) => statement_line(alloc, catalogue, state, key, words),
         Keyword::Done => done_line(alloc, state, words),
-        Keyword::Class(key) => read_class_line(alloc, cat, state, key, words),
-        Keyword::Event(key) => event_line(alloc, cat, state, key, words),
+        Keyword::Class(key) => read_class_line(alloc, catalogue, state, key, words),
+        Keyword::Event(key) => event_line(alloc, catalogue, state, key, words),
         Keyword::End => end_line(state, words),
     }
 }
 
 fn read_words(
     alloc: Global,
-    cat: &Catalogue,
+    catalogue: &Catalogue,
     state: &mut State,
     words: &mut Tokens<'_>,
 ) -> Result<(), LineError>
-    ensures { GivesReading rule_in (λ _. state.new) result (words_rules cat.now state.old words.old) }
+    ensures { GivesReading rule_in (λ _. state.new) result (words_rules catalogue.now state.old words.old) }
 {
     match words.next() {
         None => broken(WorkRule::BadLine),
         Some(first) => {
             let keyword = known(WorkRule::BadLine, keyword_of(&first))?;
-            read_keyword_line(alloc, cat, state, keyword, words)
+            read_keyword_line(alloc, catalogue, state, keyword, words)
         }
     }
 }
 
 fn read_sound_words(
     alloc: Global,
-    cat: &Catalogue,
+    catalogue: &Catalogue,
     state: &mut State,
     words: &mut Tokens<'_>,
 ) -> Result<(), LineError>
-    ensures { GivesReading rule_in (λ _. state.new) result (sound_rules cat.now state.old words.old) }
+    ensures { GivesReading rule_in (λ _. state.new) result (sound_rules catalogue.now state.old words.old) }
 {
     must(WorkRule::BadLine, are_sound(alloc, words)?)?;
-    read_words(alloc, cat, state, words)
+    read_words(alloc, catalogue, state, words)
 }
 
 /// What the lines have said with one line more. Where it has a fault, the state is not used again.
 #[tactic(auto, unfolding(crate::specs::LineRules::line_rules))]
 pub fn read_line(
     alloc: Global,
-    cat: &Catalogue,
+    catalogue: &Catalogue,
     state: &mut State,
     line: &[u8],
 ) -> Result<(), LineError>
-    ensures { GivesReading rule_in (λ _. state.new) result (line_rules cat.now state.old line.now) }
+    ensures { GivesReading rule_in (λ _. state.new) result (line_rules catalogue.now state.old line.now) }
 {
     must(WorkRule::NotUtf8, text_of(line).is_some())?;
     match words_of(line) {
-        Some(mut words) => read_sound_words(alloc, cat, state, &mut words),
+        Some(mut words) => read_sound_words(alloc, catalogue, state, &mut words),
         None => broken(WorkRule::BadLine),
     }
 }

@@ -37,11 +37,11 @@ fn is_down(dm: u32, events: &[Event]) -> bool
 }
 
 /// Whether one of so many modules is down after the events.
-fn some_down(cat: &Catalogue, events: &[Event]) -> bool
-    ensures { result ≡ some_down cat.now.dms events.now }
+fn some_down(catalogue: &Catalogue, events: &[Event]) -> bool
+    ensures { result ≡ some_down catalogue.now.dms events.now }
 {
-    cat.known();
-    (1..cat.dms() + 1).any(|dm| is_down(dm, events))
+    catalogue.known();
+    (1..catalogue.dms() + 1).any(|dm| is_down(dm, events))
 }
 
 /// Whether the event may stand after these, where there are so many lists: a `redeclare` needs a
@@ -49,11 +49,11 @@ fn some_down(cat: &Catalogue, events: &[Event]) -> bool
 ///
 /// For a `redeclare` costs time in the events and the data modules; there are at most as many of
 /// these as lists, and one more that may not stand.
-pub fn may_follow(cat: &Catalogue, lists: usize, events: &[Event], event: Event) -> bool
-    ensures { result ≡ may_follow cat.now.dms lists events.now event }
+pub fn may_follow(catalogue: &Catalogue, lists: usize, events: &[Event], event: Event) -> bool
+    ensures { result ≡ may_follow catalogue.now.dms lists events.now event }
 {
     match event {
-        Event::Redeclare => redeclares(events) < lists && !some_down(cat, events),
+        Event::Redeclare => redeclares(events) < lists && !some_down(catalogue, events),
         _ => true,
     }
 }

@@ -18,14 +18,14 @@ use std::alloc::Global;
 
 /// A put, by a relation and values.
 #[tactic(auto, using(crate::proofs::Shortened::fails_at))]
-fn read_put(alloc: Global, cat: &Catalogue, words: &mut Tokens<'_>) -> Result<Stmt, LineError>
-    ensures { GivesReading rule_in (λ s. s) result (short (put_of cat.now words.old)) }
+fn read_put(alloc: Global, catalogue: &Catalogue, words: &mut Tokens<'_>) -> Result<Stmt, LineError>
+    ensures { GivesReading rule_in (λ s. s) result (short (put_of catalogue.now words.old)) }
 {
     match words.next() {
         None => broken(WorkRule::BadLine),
         Some(name) => {
             must(WorkRule::BadLine, stands_free(&name) && are_free(words))?;
-            let (rel, row) = read_row(alloc, cat, &name, words)?;
+            let (rel, row) = read_row(alloc, catalogue, &name, words)?;
             Ok(Stmt::Put { rel, row })
         }
     }
@@ -35,16 +35,16 @@ fn read_put(alloc: Global, cat: &Catalogue, words: &mut Tokens<'_>) -> Result<St
 /// first ones, which tell that it is.
 pub fn read_statement(
     alloc: Global,
-    cat: &Catalogue,
+    catalogue: &Catalogue,
     key: StatementKey,
     words: &mut Tokens<'_>,
 ) -> Result<Stmt, LineError>
-    ensures { GivesReading rule_in (λ s. s) result (short (statement_of key cat.now words.old)) }
+    ensures { GivesReading rule_in (λ s. s) result (short (statement_of key catalogue.now words.old)) }
 {
     match key {
-        StatementKey::Put => read_put(alloc, cat, words),
-        StatementKey::Query => read_query(alloc, cat, words),
-        StatementKey::Update => read_update(alloc, cat, words),
-        StatementKey::Delete => read_delete(alloc, cat, words),
+        StatementKey::Put => read_put(alloc, catalogue, words),
+        StatementKey::Query => read_query(alloc, catalogue, words),
+        StatementKey::Update => read_update(alloc, catalogue, words),
+        StatementKey::Delete => read_delete(alloc, catalogue, words),
     }
 }

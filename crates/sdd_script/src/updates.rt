@@ -52,16 +52,16 @@ fn read_to(alloc: Global, found: Found, word: &Token<'_>) -> Result<Assign, Line
 
 fn read_assign(
     alloc: Global,
-    cat: &Catalogue,
+    catalogue: &Catalogue,
     rel: u8,
     words: &Setting<'_>,
 ) -> Result<Assign, LineError>
-    ensures { GivesReading rule_in (λ a. a) result (assign_of cat.now rel words.now) }
+    ensures { GivesReading rule_in (λ a. a) result (assign_of catalogue.now rel words.now) }
 {
-    let found = read_column(cat, &[Some(rel)], &words.left)?;
+    let found = read_column(catalogue, &[Some(rel)], &words.left)?;
     must(
         WorkRule::KeyChanged,
-        found.at.column != key_of(cat, u32::from(rel)),
+        found.at.column != key_of(catalogue, u32::from(rel)),
     )?;
     if words.adds {
         read_add(found, &words.right)
@@ -73,16 +73,16 @@ fn read_assign(
 #[tactic(auto, using(crate::proofs::FewRead::few_loop))]
 fn read_assigns(
     alloc: Global,
-    cat: &Catalogue,
+    catalogue: &Catalogue,
     rel: u8,
     words: &mut Settings<'_>,
 ) -> Result<Vec<Assign>, LineError>
     ensures { GivesReading rule_in (λ v. v.items) result
-        (few MAX_ASSIGNMENTS (along (λ i s. assign_of cat.now rel s) 0 words.old)) }
+        (few MAX_ASSIGNMENTS (along (λ i s. assign_of catalogue.now rel s) 0 words.old)) }
 {
     let mut sets = Vec::new(alloc);
     'words: while let Some(one) = words.next() {
-        let assign = read_assign(alloc, cat, rel, &one)?;
+        let assign = read_assign(alloc, catalogue, rel, &one)?;
         keep_few(&mut sets, MAX_ASSIGNMENTS, assign)?;
     }
     Ok(sets)
@@ -90,15 +90,15 @@ fn read_assigns(
 
 fn read_update_of(
     alloc: Global,
-    cat: &Catalogue,
+    catalogue: &Catalogue,
     rel: u8,
     sets: &mut Settings<'_>,
     words: &mut Comparisons<'_>,
 ) -> Result<Stmt, LineError>
-    ensures { GivesReading rule_in (λ s. s) result (short (update_over cat.now rel sets.old words.old)) }
+    ensures { GivesReading rule_in (λ s. s) result (short (update_over catalogue.now rel sets.old words.old)) }
 {
-    let assigns = read_assigns(alloc, cat, rel, sets)?;
-    let conds = read_conditions(alloc, cat, &[Some(rel)], words)?;
+    let assigns = read_assigns(alloc, catalogue, rel, sets)?;
+    let conds = read_conditions(alloc, catalogue, &[Some(rel)], words)?;
     Ok(Stmt::Update {
         rel: RelNo(u32::from(rel)),
         sets: Listed::from_vec(assigns),
@@ -109,76 +109,76 @@ fn read_update_of(
 #[tactic(auto, using(crate::proofs::Shortened::fails_at), unfolding(crate::specs::Statements::update_of_parts))]
 fn read_update_parts(
     alloc: Global,
-    cat: &Catalogue,
+    catalogue: &Catalogue,
     name: &Token<'_>,
     sets: &mut Settings<'_>,
     words: &mut Comparisons<'_>,
 ) -> Result<Stmt, LineError>
     ensures { GivesReading rule_in (λ s. s) result
-        (short (update_of_parts cat.now name.now sets.old words.old)) }
+        (short (update_of_parts catalogue.now name.now sets.old words.old)) }
 {
-    let rel = known(WorkRule::UnknownName, part_of(cat, name))?;
-    read_update_of(alloc, cat, rel, sets, words)
+    let rel = known(WorkRule::UnknownName, part_of(catalogue, name))?;
+    read_update_of(alloc, catalogue, rel, sets, words)
 }
 
 fn read_update_form(
     alloc: Global,
-    cat: &Catalogue,
+    catalogue: &Catalogue,
     name: &Token<'_>,
     sets: &mut Settings<'_>,
     rest: Tokens<'_>,
 ) -> Result<Stmt, LineError>
     ensures { GivesReading rule_in (λ s. s) result
-        (short (update_with cat.now name.now sets.old rest.entry)) }
+        (short (update_with catalogue.now name.now sets.old rest.entry)) }
 {
     match read_comparisons(rest) {
-        Some(mut words) => read_update_parts(alloc, cat, name, sets, &mut words),
+        Some(mut words) => read_update_parts(alloc, catalogue, name, sets, &mut words),
         None => broken(WorkRule::BadLine),
     }
 }
 
 fn read_update_behind_set(
     alloc: Global,
-    cat: &Catalogue,
+    catalogue: &Catalogue,
     name: &Token<'_>,
     sets: Tokens<'_>,
     rest: Tokens<'_>,
 ) -> Result<Stmt, LineError>
     ensures { GivesReading rule_in (λ s. s) result
-        (short (update_behind_set cat.now name.now sets.entry rest.entry)) }
+        (short (update_behind_set catalogue.now name.now sets.entry rest.entry)) }
 {
     must(WorkRule::BadLine, stands_free(name) && sets.has_words())?;
     match read_settings(sets) {
-        Some(mut sets) => read_update_form(alloc, cat, name, &mut sets, rest),
+        Some(mut sets) => read_update_form(alloc, catalogue, name, &mut sets, rest),
         None => broken(WorkRule::BadLine),
     }
 }
 
 fn read_update_to(
     alloc: Global,
-    cat: &Catalogue,
+    catalogue: &Catalogue,
     name: &Token<'_>,
     words: &Tokens<'_>,
 ) -> Result<Stmt, LineError>
-    ensures { GivesReading rule_in (λ s. s) result (short (update_to cat.now name.now words.now)) }
+    ensures { GivesReading rule_in (λ s. s) result (short (update_to catalogue.now name.now words.now)) }
 {
     let (sets, rest) = words.split_from(b"where");
-    read_update_behind_set(alloc, cat, name, sets, rest)
+    read_update_behind_set(alloc, catalogue, name, sets, rest)
 }
 
 /// An update, by its relation, `set`, its assignments, and its conditions; of what is too many the
 /// first ones.
 pub fn read_update(
     alloc: Global,
-    cat: &Catalogue,
+    catalogue: &Catalogue,
     words: &mut Tokens<'_>,
 ) -> Result<Stmt, LineError>
-    ensures { GivesReading rule_in (λ s. s) result (short (update_of cat.now words.old)) }
+    ensures { GivesReading rule_in (λ s. s) result (short (update_of catalogue.now words.old)) }
 {
     match words.two() {
         Some((name, key)) => {
             must(WorkRule::BadLine, has_key(b"set", &key))?;
-            read_update_to(alloc, cat, &name, words)
+            read_update_to(alloc, catalogue, &name, words)
         }
         None => broken(WorkRule::BadLine),
     }

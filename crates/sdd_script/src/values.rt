@@ -104,25 +104,25 @@ fn read_row_of(
 /// A relation and a row of it, whose values are counted when enough of them are read.
 fn read_few(
     alloc: Global,
-    cat: &Catalogue,
+    catalogue: &Catalogue,
     name: &Token<'_>,
     words: &mut Tokens<'_>,
 ) -> Result<(RelNo, Row), LineError>
-    ensures { GivesReading rule_in (λ r. r) result (few_of cat.now name.now words.old) }
+    ensures { GivesReading rule_in (λ r. r) result (few_of catalogue.now name.now words.old) }
 {
-    let rel = known(WorkRule::UnknownName, relation_of(cat, name))?;
-    read_row_of(alloc, columns_of(cat, rel), RelNo(rel), words)
+    let rel = known(WorkRule::UnknownName, relation_of(catalogue, name))?;
+    read_row_of(alloc, columns_of(catalogue, rel), RelNo(rel), words)
 }
 
 /// A relation and a row of it, by the relation's name and the values. Of too many values no more are
 /// kept than tell that they are too many.
 pub fn read_row(
     alloc: Global,
-    cat: &Catalogue,
+    catalogue: &Catalogue,
     name: &Token<'_>,
     words: &mut Tokens<'_>,
 ) -> Result<(RelNo, Row), LineError>
-    ensures { GivesReading rule_in (λ r. r) result (row_of cat.now name.now words.old) }
+    ensures { GivesReading rule_in (λ r. r) result (row_of catalogue.now name.now words.old) }
 {
-    read_few(alloc, cat, name, words)
+    read_few(alloc, catalogue, name, words)
 }

@@ -18,11 +18,16 @@ use sdd_lang::sdd_catalog::Catalogue;
 use sdd_words::{next_line, text_of};
 use std::alloc::Global;
 
-fn read_one(alloc: Global, cat: &Catalogue, state: &mut State, line: &[u8]) -> Result<(), LineError>
-    ensures { GivesReading rule_in (λ _. state.new) result (one_line cat.now state.old line.now) }
+fn read_one(
+    alloc: Global,
+    catalogue: &Catalogue,
+    state: &mut State,
+    line: &[u8],
+) -> Result<(), LineError>
+    ensures { GivesReading rule_in (λ _. state.new) result (one_line catalogue.now state.old line.now) }
 {
     must(WorkRule::BadLine, !state.place.is_ended())?;
-    read_line(alloc, cat, state, line)
+    read_line(alloc, catalogue, state, line)
 }
 
 /// What stands after the last newline.
@@ -39,8 +44,8 @@ fn check_tail(state: &State, tail: &[u8]) -> Result<(), LineError>
     }
 }
 
-fn nothing_read(alloc: Global, cat: &Catalogue) -> State
-    ensures { result ≡ nothing_read cat.now }
+fn nothing_read(alloc: Global, catalogue: &Catalogue) -> State
+    ensures { result ≡ nothing_read catalogue.now }
 {
     State {
         place: Place::Rows,
@@ -50,7 +55,7 @@ fn nothing_read(alloc: Global, cat: &Catalogue) -> State
         txns: Grown::new(alloc),
         statements: Grown::new(alloc),
         lists: Grown::new(alloc),
-        classes: cat.classes(),
+        classes: catalogue.classes(),
         submitted: Grown::new(alloc),
         events: Grown::new(alloc),
     }
@@ -59,18 +64,18 @@ fn nothing_read(alloc: Global, cat: &Catalogue) -> State
 #[tactic(auto, unfolding(crate::specs::Walk::walk))]
 fn read_lines(
     alloc: Global,
-    cat: &Catalogue,
+    catalogue: &Catalogue,
     state: State,
     bytes: &[u8],
 ) -> Result<State, WorkError>
     requires { length bytes.now ≤ 2 ^ 26 }
-    ensures { Tells result (walk_bytes cat.now 1 state bytes.now) }
+    ensures { Tells result (walk_bytes catalogue.now 1 state bytes.now) }
 {
     let mut state = state;
     let mut rest = bytes;
     let mut line = 1;
     'lines: while let Some((text, behind)) = next_line(rest) {
-        at_line(line, read_one(alloc, cat, &mut state, text))?;
+        at_line(line, read_one(alloc, catalogue, &mut state, text))?;
         rest = behind;
         line += 1;
     }
@@ -84,16 +89,20 @@ fn read_lines(
 /// A workload that is given is one that the catalogue allows, and the bytes are its spelling.
 /// Costs time linear in the bytes, the relations and columns of the catalogue apart, which are looked
 /// through for each name. Costs memory linear in the bytes.
-pub fn read_workload(alloc: Global, bytes: &[u8], cat: &Catalogue) -> Result<Workload, WorkError>
-    ensures exact { Tells result (workload cat.now bytes.now) }
-    ensures accepted { IfOk result (λ work. Accepts cat.now bytes.now work) }
+pub fn read_workload(
+    alloc: Global,
+    bytes: &[u8],
+    catalogue: &Catalogue,
+) -> Result<Workload, WorkError>
+    ensures exact { Tells result (workload catalogue.now bytes.now) }
+    ensures accepted { IfOk result (λ work. Accepts catalogue.now bytes.now work) }
 {
-    cat.known();
-    read_bytes(alloc, bytes, cat)
+    catalogue.known();
+    read_bytes(alloc, bytes, catalogue)
 }
 
-fn read_bytes(alloc: Global, bytes: &[u8], cat: &Catalogue) -> Result<Workload, WorkError>
-    ensures { Tells result (workload cat.now bytes.now) }
+fn read_bytes(alloc: Global, bytes: &[u8], catalogue: &Catalogue) -> Result<Workload, WorkError>
+    ensures { Tells result (workload catalogue.now bytes.now) }
 {
     if bytes.len() > MAX_WORKLOAD_BYTES {
         return Err(WorkError::Fault(WorkFault {
@@ -101,7 +110,7 @@ fn read_bytes(alloc: Global, bytes: &[u8], cat: &Catalogue) -> Result<Workload, 
             rule: WorkRule::TooLong,
         }));
     }
-    let state = read_lines(alloc, cat, nothing_read(alloc, cat), bytes)?;
+    let state = read_lines(alloc, catalogue, nothing_read(alloc, catalogue), bytes)?;
     Ok(Workload {
         rows: state.rows.into_listed(),
         txns: state.txns.into_listed(),

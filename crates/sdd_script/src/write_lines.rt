@@ -18,137 +18,154 @@ use sdd_lang::{Assign, Condition, Ref, Stmt, Txn};
 use sdd_words::put;
 use std::alloc::Global;
 
-fn put_start(out: &mut Vec<u8>, cat: &Catalogue, row: &(RelNo, Row)) -> Result<(), NoMemory>
-    ensures { OnOk result (out.new.items ≡ out.old.items ++ ended (start_words cat.now row.now)) }
+fn put_start(out: &mut Vec<u8>, catalogue: &Catalogue, row: &(RelNo, Row)) -> Result<(), NoMemory>
+    ensures { OnOk result (out.new.items ≡ out.old.items ++ ended (start_words catalogue.now row.now)) }
 {
     put(out, b"row")?;
-    put_row(out, cat, row.0, row.1.as_slice())?;
+    put_row(out, catalogue, row.0, row.1.as_slice())?;
     put(out, b"\n")
 }
 
 #[tactic(auto, using(crate::proofs::Lists::written))]
-fn put_starts(out: &mut Vec<u8>, cat: &Catalogue, rows: &[(RelNo, Row)]) -> Result<(), NoMemory>
+fn put_starts(
+    out: &mut Vec<u8>,
+    catalogue: &Catalogue,
+    rows: &[(RelNo, Row)],
+) -> Result<(), NoMemory>
     ensures { OnOk result (
         out.new.items ≡ out.old.items
-        ++ flat_map (λ (r : RelNo × List Value). ended (start_words cat.now r)) rows.now
+        ++ flat_map (λ (r : RelNo × List Value). ended (start_words catalogue.now r)) rows.now
         ) }
 {
     'rows: for row in rows {
-        put_start(out, cat, row)?;
+        put_start(out, catalogue, row)?;
     }
     Ok(())
 }
 
 #[tactic(auto, using(crate::proofs::Pieces::keyed))]
-fn put_put(out: &mut Vec<u8>, cat: &Catalogue, rel: RelNo, row: &[Value]) -> Result<(), NoMemory>
+fn put_put(
+    out: &mut Vec<u8>,
+    catalogue: &Catalogue,
+    rel: RelNo,
+    row: &[Value],
+) -> Result<(), NoMemory>
     ensures { OnOk result (
         out.new.items ≡ out.old.items
-        ++ line_bytes (Plain (codes "put") ∷ row_words cat.now rel row.now)
+        ++ line_bytes (Plain (codes "put") ∷ row_words catalogue.now rel row.now)
         ) }
 {
     put(out, b"put")?;
-    put_row(out, cat, rel, row)
+    put_row(out, catalogue, rel, row)
 }
 
 fn put_query(
     out: &mut Vec<u8>,
-    cat: &Catalogue,
+    catalogue: &Catalogue,
     columns: &[Ref],
     rels: &[RelNo],
     conds: &[Condition],
 ) -> Result<(), NoMemory>
     ensures { OnOk result (
         out.new.items ≡ out.old.items
-        ++ line_bytes (query_words cat.now columns.now rels.now conds.now)
+        ++ line_bytes (query_words catalogue.now columns.now rels.now conds.now)
         ) }
 {
     put(out, b"query")?;
-    put_columns(out, cat, rels, columns)?;
+    put_columns(out, catalogue, rels, columns)?;
     put_plain(out, b"from")?;
-    put_relations(out, cat, rels)?;
-    put_conditions(out, cat, rels, conds)?;
+    put_relations(out, catalogue, rels)?;
+    put_conditions(out, catalogue, rels, conds)?;
     Ok(())
 }
 
 fn put_update(
     out: &mut Vec<u8>,
-    cat: &Catalogue,
+    catalogue: &Catalogue,
     rel: RelNo,
     sets: &[Assign],
     conds: &[Condition],
 ) -> Result<(), NoMemory>
     ensures { OnOk result (
         out.new.items ≡ out.old.items
-        ++ line_bytes (update_words cat.now rel sets.now conds.now)
+        ++ line_bytes (update_words catalogue.now rel sets.now conds.now)
         ) }
 {
     put(out, b"update")?;
-    put_relation(out, cat, rel)?;
+    put_relation(out, catalogue, rel)?;
     put_plain(out, b"set")?;
-    put_assigns(out, cat, rel, sets)?;
-    put_conditions(out, cat, &[rel], conds)?;
+    put_assigns(out, catalogue, rel, sets)?;
+    put_conditions(out, catalogue, &[rel], conds)?;
     Ok(())
 }
 
 #[tactic(auto, using(crate::proofs::Pieces::delete_pieces))]
 fn put_delete(
     out: &mut Vec<u8>,
-    cat: &Catalogue,
+    catalogue: &Catalogue,
     rel: RelNo,
     conds: &[Condition],
 ) -> Result<(), NoMemory>
     ensures { OnOk result (
         out.new.items ≡ out.old.items
-        ++ line_bytes (delete_words cat.now rel conds.now)
+        ++ line_bytes (delete_words catalogue.now rel conds.now)
         ) }
 {
     put(out, b"delete")?;
-    put_relation(out, cat, rel)?;
-    put_conditions(out, cat, &[rel], conds)
+    put_relation(out, catalogue, rel)?;
+    put_conditions(out, catalogue, &[rel], conds)
 }
 
-fn put_statement_words(out: &mut Vec<u8>, cat: &Catalogue, statement: &Stmt) -> Result<(), NoMemory>
+fn put_statement_words(
+    out: &mut Vec<u8>,
+    catalogue: &Catalogue,
+    statement: &Stmt,
+) -> Result<(), NoMemory>
     ensures { OnOk result (
         out.new.items ≡ out.old.items
-        ++ line_bytes (statement_words cat.now statement.now)
+        ++ line_bytes (statement_words catalogue.now statement.now)
         ) }
 {
     match statement {
-        Stmt::Put { rel, row } => put_put(out, cat, *rel, row.as_slice()),
+        Stmt::Put { rel, row } => put_put(out, catalogue, *rel, row.as_slice()),
         Stmt::Query {
             out: columns,
             rels,
             conds,
         } => put_query(
             out,
-            cat,
+            catalogue,
             columns.as_slice(),
             rels.as_slice(),
             conds.as_slice(),
         ),
         Stmt::Update { rel, sets, conds } => {
-            put_update(out, cat, *rel, sets.as_slice(), conds.as_slice())
+            put_update(out, catalogue, *rel, sets.as_slice(), conds.as_slice())
         }
-        Stmt::Delete { rel, conds } => put_delete(out, cat, *rel, conds.as_slice()),
+        Stmt::Delete { rel, conds } => put_delete(out, catalogue, *rel, conds.as_slice()),
     }
 }
 
-fn put_statement(out: &mut Vec<u8>, cat: &Catalogue, statement: &Stmt) -> Result<(), NoMemory>
-    ensures { OnOk result (out.new.items ≡ out.old.items ++ ended (statement_words cat.now statement.now)) }
+fn put_statement(out: &mut Vec<u8>, catalogue: &Catalogue, statement: &Stmt) -> Result<(), NoMemory>
+    ensures { OnOk result (out.new.items ≡ out.old.items ++ ended (statement_words catalogue.now statement.now)) }
 {
-    put_statement_words(out, cat, statement)?;
+    put_statement_words(out, catalogue, statement)?;
     put(out, b"\n")
 }
 
 #[tactic(auto, using(crate::proofs::Lists::written))]
-fn put_statements(out: &mut Vec<u8>, cat: &Catalogue, statements: &[Stmt]) -> Result<(), NoMemory>
+fn put_statements(
+    out: &mut Vec<u8>,
+    catalogue: &Catalogue,
+    statements: &[Stmt],
+) -> Result<(), NoMemory>
     ensures { OnOk result (
         out.new.items ≡ out.old.items
-        ++ flat_map (λ (s : Stmt). ended (statement_words cat.now s)) statements.now
+        ++ flat_map (λ (s : Stmt). ended (statement_words catalogue.now s)) statements.now
         ) }
 {
     'statements: for statement in statements {
-        put_statement(out, cat, statement)?;
+        put_statement(out, catalogue, statement)?;
     }
     Ok(())
 }
@@ -162,21 +179,21 @@ fn put_header(out: &mut Vec<u8>, name: &[u8], tm: TmNo) -> Result<(), NoMemory>
     put(out, b"\n")
 }
 
-fn put_txn(out: &mut Vec<u8>, cat: &Catalogue, txn: &Txn) -> Result<(), NoMemory>
-    ensures { OnOk result (out.new.items ≡ out.old.items ++ txn_bytes cat.now txn.now) }
+fn put_txn(out: &mut Vec<u8>, catalogue: &Catalogue, txn: &Txn) -> Result<(), NoMemory>
+    ensures { OnOk result (out.new.items ≡ out.old.items ++ txn_bytes catalogue.now txn.now) }
 {
     put_header(out, txn.name.as_str().as_bytes(), txn.tm)?;
-    put_statements(out, cat, txn.statements.as_slice())?;
+    put_statements(out, catalogue, txn.statements.as_slice())?;
     put(out, b"done\n")?;
     Ok(())
 }
 
 #[tactic(auto, using(crate::proofs::Lists::written))]
-fn put_txns(out: &mut Vec<u8>, cat: &Catalogue, txns: &[Txn]) -> Result<(), NoMemory>
-    ensures { OnOk result (out.new.items ≡ out.old.items ++ flat_map (txn_bytes cat.now) txns.now) }
+fn put_txns(out: &mut Vec<u8>, catalogue: &Catalogue, txns: &[Txn]) -> Result<(), NoMemory>
+    ensures { OnOk result (out.new.items ≡ out.old.items ++ flat_map (txn_bytes catalogue.now) txns.now) }
 {
     'txns: for txn in txns {
-        put_txn(out, cat, txn)?;
+        put_txn(out, catalogue, txn)?;
     }
     Ok(())
 }
@@ -307,12 +324,16 @@ fn put_events(out: &mut Vec<u8>, txns: &[Txn], events: &[Event]) -> Result<(), N
 /// What its numbers don't name in the catalogue has an empty name.
 ///
 /// Costs time and memory linear in the spelling.
-pub fn write_workload(alloc: Global, cat: &Catalogue, work: &Workload) -> Result<Vec<u8>, NoMemory>
-    ensures { IfOk result (λ v. v.items ≡ spelling cat.now work.now) }
+pub fn write_workload(
+    alloc: Global,
+    catalogue: &Catalogue,
+    work: &Workload,
+) -> Result<Vec<u8>, NoMemory>
+    ensures { IfOk result (λ v. v.items ≡ spelling catalogue.now work.now) }
 {
     let mut out = Vec::new(alloc);
-    put_starts(&mut out, cat, work.rows.as_slice())?;
-    put_txns(&mut out, cat, work.txns.as_slice())?;
+    put_starts(&mut out, catalogue, work.rows.as_slice())?;
+    put_txns(&mut out, catalogue, work.txns.as_slice())?;
     put_lists(&mut out, work.lists.as_slice())?;
     put_events(&mut out, work.txns.as_slice(), work.events.as_slice())?;
     put(&mut out, b"end\n")?;

@@ -31,22 +31,22 @@ fn put_spaced(out: &mut Vec<u8>, value: &Value) -> Result<(), NoMemory>
 }
 
 /// Puts a space and a relation's name.
-pub fn put_relation(out: &mut Vec<u8>, cat: &Catalogue, rel: RelNo) -> Result<(), NoMemory>
-    ensures { OnOk result (out.new.items ≡ out.old.items ++ spaced (relation_word cat.now rel)) }
+pub fn put_relation(out: &mut Vec<u8>, catalogue: &Catalogue, rel: RelNo) -> Result<(), NoMemory>
+    ensures { OnOk result (out.new.items ≡ out.old.items ++ spaced (relation_word catalogue.now rel)) }
 {
-    put_plain(out, name_of_relation(cat, rel.0))
+    put_plain(out, name_of_relation(catalogue, rel.0))
 }
 
 /// Puts a relation's name and a row.
 pub fn put_row(
     out: &mut Vec<u8>,
-    cat: &Catalogue,
+    catalogue: &Catalogue,
     rel: RelNo,
     row: &[Value],
 ) -> Result<(), NoMemory>
-    ensures { OnOk result (out.new.items ≡ out.old.items ++ more_bytes (row_words cat.now rel row.now)) }
+    ensures { OnOk result (out.new.items ≡ out.old.items ++ more_bytes (row_words catalogue.now rel row.now)) }
 {
-    put_relation(out, cat, rel)?;
+    put_relation(out, catalogue, rel)?;
     put_values(out, row)?;
     Ok(())
 }
@@ -72,18 +72,21 @@ fn name_of_column(columns: &[Column], column: u32) -> &[u8]
 /// Puts a space and a column of a use.
 pub fn put_column(
     out: &mut Vec<u8>,
-    cat: &Catalogue,
+    catalogue: &Catalogue,
     rels: &[RelNo],
     column: Ref,
 ) -> Result<(), NoMemory>
-    ensures { OnOk result (out.new.items ≡ out.old.items ++ spaced (column_word cat.now rels.now column)) }
+    ensures { OnOk result (out.new.items ≡ out.old.items ++ spaced (column_word catalogue.now rels.now column)) }
 {
     put(out, b" ")?;
     put_count(out, u64::from(column.part))?;
     put(out, b".")?;
     put(
         out,
-        name_of_column(columns_of(cat, rel_of(rels, column.part)), column.column),
+        name_of_column(
+            columns_of(catalogue, rel_of(rels, column.part)),
+            column.column,
+        ),
     )
 }
 
@@ -91,31 +94,35 @@ pub fn put_column(
 #[tactic(auto, using(crate::proofs::Lists::written))]
 pub fn put_columns(
     out: &mut Vec<u8>,
-    cat: &Catalogue,
+    catalogue: &Catalogue,
     rels: &[RelNo],
     columns: &[Ref],
 ) -> Result<(), NoMemory>
     ensures { OnOk result (
         out.new.items ≡ out.old.items
-        ++ flat_map (λ (r : Ref). spaced (column_word cat.now rels.now r)) columns.now
+        ++ flat_map (λ (r : Ref). spaced (column_word catalogue.now rels.now r)) columns.now
         ) }
 {
     'columns: for column in columns {
-        put_column(out, cat, rels, *column)?;
+        put_column(out, catalogue, rels, *column)?;
     }
     Ok(())
 }
 
 /// Puts the names of relations.
 #[tactic(auto, using(crate::proofs::Lists::written))]
-pub fn put_relations(out: &mut Vec<u8>, cat: &Catalogue, rels: &[RelNo]) -> Result<(), NoMemory>
+pub fn put_relations(
+    out: &mut Vec<u8>,
+    catalogue: &Catalogue,
+    rels: &[RelNo],
+) -> Result<(), NoMemory>
     ensures { OnOk result (
         out.new.items ≡ out.old.items
-        ++ flat_map (λ (r : RelNo). spaced (relation_word cat.now r)) rels.now
+        ++ flat_map (λ (r : RelNo). spaced (relation_word catalogue.now r)) rels.now
         ) }
 {
     'rels: for rel in rels {
-        put_relation(out, cat, *rel)?;
+        put_relation(out, catalogue, *rel)?;
     }
     Ok(())
 }
@@ -136,25 +143,25 @@ fn op_word(op: Op) -> &'static [u8]
 #[tactic(auto, using(crate::proofs::Pieces::three_words))]
 fn put_condition(
     out: &mut Vec<u8>,
-    cat: &Catalogue,
+    catalogue: &Catalogue,
     rels: &[RelNo],
     condition: &Condition,
 ) -> Result<(), NoMemory>
     ensures { OnOk result (
         out.new.items ≡ out.old.items
-        ++ more_bytes (condition_words cat.now rels.now condition.now)
+        ++ more_bytes (condition_words catalogue.now rels.now condition.now)
         ) }
 {
     match condition {
         Condition::Const { left, op, value } => {
-            put_column(out, cat, rels, *left)?;
+            put_column(out, catalogue, rels, *left)?;
             put_plain(out, op_word(*op))?;
             put_spaced(out, value)
         }
         Condition::Same { left, right } => {
-            put_column(out, cat, rels, *left)?;
+            put_column(out, catalogue, rels, *left)?;
             put_plain(out, b"=")?;
-            put_column(out, cat, rels, *right)
+            put_column(out, catalogue, rels, *right)
         }
     }
 }
@@ -162,36 +169,36 @@ fn put_condition(
 fn put_keyed(
     out: &mut Vec<u8>,
     key: &[u8],
-    cat: &Catalogue,
+    catalogue: &Catalogue,
     rels: &[RelNo],
     condition: &Condition,
 ) -> Result<(), NoMemory>
     ensures { OnOk result (
         out.new.items ≡ out.old.items
         ++
-        (spaced (Plain key.now) ++ more_bytes (condition_words cat.now rels.now condition.now))
+        (spaced (Plain key.now) ++ more_bytes (condition_words catalogue.now rels.now condition.now))
         ) }
 {
     put_plain(out, key)?;
-    put_condition(out, cat, rels, condition)
+    put_condition(out, catalogue, rels, condition)
 }
 
 /// Puts conditions, the first after `where` and each further one after `and`.
 #[tactic(auto, using(crate::proofs::Lists::condition_more, crate::proofs::Lists::conditions_written))]
 pub fn put_conditions(
     out: &mut Vec<u8>,
-    cat: &Catalogue,
+    catalogue: &Catalogue,
     rels: &[RelNo],
     conditions: &[Condition],
 ) -> Result<(), NoMemory>
     ensures { OnOk result (
         out.new.items ≡ out.old.items
-        ++ more_bytes (where_words cat.now rels.now conditions.now)
+        ++ more_bytes (where_words catalogue.now rels.now conditions.now)
         ) }
 {
     let mut key = b"where".as_slice();
     'conditions: for condition in conditions {
-        put_keyed(out, key, cat, rels, condition)?;
+        put_keyed(out, key, catalogue, rels, condition)?;
         key = b"and".as_slice();
     }
     Ok(())
@@ -207,20 +214,20 @@ fn put_addend(out: &mut Vec<u8>, by: &i64) -> Result<(), NoMemory>
 #[tactic(auto, using(crate::proofs::Pieces::three_words))]
 fn put_assign(
     out: &mut Vec<u8>,
-    cat: &Catalogue,
+    catalogue: &Catalogue,
     rel: RelNo,
     assign: &Assign,
 ) -> Result<(), NoMemory>
     ensures { OnOk result (
         out.new.items ≡ out.old.items
-        ++ more_bytes (assign_words cat.now rel assign.now)
+        ++ more_bytes (assign_words catalogue.now rel assign.now)
         ) }
 {
     match assign {
         Assign::To { column, value } => {
             put_column(
                 out,
-                cat,
+                catalogue,
                 &[rel],
                 Ref {
                     part: 1,
@@ -233,7 +240,7 @@ fn put_assign(
         Assign::Add { column, by } => {
             put_column(
                 out,
-                cat,
+                catalogue,
                 &[rel],
                 Ref {
                     part: 1,
@@ -250,17 +257,17 @@ fn put_assign(
 #[tactic(auto, using(crate::proofs::Lists::assign_more, crate::proofs::Lists::assigns_written))]
 pub fn put_assigns(
     out: &mut Vec<u8>,
-    cat: &Catalogue,
+    catalogue: &Catalogue,
     rel: RelNo,
     assigns: &[Assign],
 ) -> Result<(), NoMemory>
     ensures { OnOk result (
         out.new.items ≡ out.old.items
-        ++ more_bytes (sets_words cat.now rel assigns.now)
+        ++ more_bytes (sets_words catalogue.now rel assigns.now)
         ) }
 {
     'assigns: for assign in assigns {
-        put_assign(out, cat, rel, assign)?;
+        put_assign(out, catalogue, rel, assign)?;
     }
     Ok(())
 }

@@ -16,43 +16,43 @@ use sdd_laws::sdd_lang::Txn;
 
 /// What the modules of an attempt hold serves the database that has the copies which they froze,
 /// however far a run of the exchange has come.
-pub fn law_exchange_serves(cat: &Catalogue, txn: &Txn)
-    requires { FitsTxn cat.now txn.now }
+pub fn law_exchange_serves(catalogue: &Catalogue, txn: &Txn)
+    requires { FitsTxn catalogue.now txn.now }
     ensures { (c ts : ℕ) (ds : List ℕ) (copies : ℕ → CopyRows) (db : Database) (space : Space) (stage : Stage)
-        → HasCopies cat.now c txn.now ds copies db
-        → Runs ds txn.now.statements (asked_at cat.now c txn.now)
-        (frozen_space cat.now c txn.now ts copies) space stage
-        → Serves cat.now txn.now (all_held ds space) db }
+        → HasCopies catalogue.now c txn.now ds copies db
+        → Runs ds txn.now.statements (asked_at catalogue.now c txn.now)
+        (frozen_space catalogue.now c txn.now ts copies) space stage
+        → Serves catalogue.now txn.now (all_held ds space) db }
 {
-    cat.known();
+    catalogue.known();
 }
 
 /// So what the transaction does to that database follows from the rows that are held.
-pub fn law_shipped_effect(cat: &Catalogue, txn: &Txn)
-    requires { FitsTxn cat.now txn.now }
+pub fn law_shipped_effect(catalogue: &Catalogue, txn: &Txn)
+    requires { FitsTxn catalogue.now txn.now }
     ensures { (c ts : ℕ) (ds : List ℕ) (copies : ℕ → CopyRows) (db : Database) (space : Space) (stage : Stage)
-        → HasCopies cat.now c txn.now ds copies db
-        → Runs ds txn.now.statements (asked_at cat.now c txn.now)
-        (frozen_space cat.now c txn.now ts copies) space stage
-        → effect_over cat.now (found_for (all_held ds space)) (chosen_for cat.now (all_held ds space)) txn.now
-        ≡ effect cat.now db txn.now }
+        → HasCopies catalogue.now c txn.now ds copies db
+        → Runs ds txn.now.statements (asked_at catalogue.now c txn.now)
+        (frozen_space catalogue.now c txn.now ts copies) space stage
+        → effect_over catalogue.now (found_for (all_held ds space)) (chosen_for catalogue.now (all_held ds space)) txn.now
+        ≡ effect catalogue.now db txn.now }
 {
-    cat.known();
+    catalogue.known();
 }
 
 /// In which order rows arrive, and how often one does, doesn't matter.
-pub fn law_arrival(cat: &Catalogue, txn: &Txn)
+pub fn law_arrival(catalogue: &Catalogue, txn: &Txn)
     ensures { (db : Database) (a b : Shipped)
         → ((s : ℕ × Row) → Has a s → Has b s) → ((s : ℕ × Row) → Has b s → Has a s)
-        → Serves cat.now txn.now a db → Serves cat.now txn.now b db }
+        → Serves catalogue.now txn.now a db → Serves catalogue.now txn.now b db }
 {}
 
 /// The exchange of an attempt follows a run: from its Start on, with each message that is handed to
 /// it and each that it sends, and with each REDUCE that is handed to one of its modules.
-pub fn law_exchange_follows(cat: &Catalogue)
+pub fn law_exchange_follows(catalogue: &Catalogue)
     ensures start { (table : List table_line.Entry) (c : ℕ) (q : Queued) (own p2 : ℕ) (ds : List ℕ) (first : Space)
-        → Follows ds q.text.statements (asked_at cat.now c q.text) first first
-        (begins q.text (map (read_to cat.now table c q (uses_of cat.now q.text) own p2) ds)) }
+        → Follows ds q.text.statements (asked_at catalogue.now c q.text) first first
+        (begins q.text (map (read_to catalogue.now table c q (uses_of catalogue.now q.text) own p2) ds)) }
     ensures hand { (ds : List ℕ) (statements : List statement.Stmt) (asked : ℕ → ℕ → Bool) (first : Space) (ts c : ℕ)
         (space : Space) (x : Exchange) (d : ℕ) (msg : message.Msg)
         → Follows ds statements asked first space x → Suits ts c space d x msg

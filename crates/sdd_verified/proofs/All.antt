@@ -57,7 +57,7 @@ pub use Rattle.sdd_obligations.specs.logs.Marks.{from_event}
 pub use Rattle.sdd_obligations.specs.logs.Traffic.{turned_by}
 pub use Rattle.sdd_obligations.specs.serial_orders.Orders.{IsAlong}
 pub use Rattle.sdd_obligations.specs.serial_orders.SerialOrder.{serial_order}
-pub use Rattle.sdd_watch.proofs.run.Forces.{list_at as list_at_number}
+pub use Rattle.sdd_watch.proofs.run.ErasWithTables.{list_at as list_at_number}
 pub use Rattle.sdd_watch.proofs.run.Goods.{few_ticks}
 pub use Rattle.sdd_watch.proofs.run.Left.{told_rows}
 pub use Rattle.sdd_watch.proofs.run.Lossless.{listed_submits}

@@ -12,11 +12,11 @@ ghost use Rattle.sdd_verified.specs.Lines.{tells_pending};
 /// A law: a report has as many lines that begin with `pending ` as transactions are pending; so where
 /// none is, it has no such line.
 pub fn law_pending_lines()
-    ensures as_many { (cat : Catalogue) (work : Workload) (text : List ℕ) → IsSoundCatalogue cat → AreNamed cat → IsValid cat work
-        → (told : IsReportOn cat work text)
-        → count_by tells_pending (lines_of text) ≡ length (report_of (input_of cat told.tables work) told.log).pending }
-    ensures no_line { (cat : Catalogue) (work : Workload) (text : List ℕ) → IsSoundCatalogue cat → AreNamed cat → IsValid cat work
-        → (told : IsReportOn cat work text)
-        → (report_of (input_of cat told.tables work) told.log).pending ≡ []
+    ensures as_many { (catalogue : Catalogue) (work : Workload) (text : List ℕ) → IsSoundCatalogue catalogue → AreNamed catalogue → IsValid catalogue work
+        → (told : IsReportOn catalogue work text)
+        → count_by tells_pending (lines_of text) ≡ length (report_of (input_of catalogue told.tables work) told.log).pending }
+    ensures no_line { (catalogue : Catalogue) (work : Workload) (text : List ℕ) → IsSoundCatalogue catalogue → AreNamed catalogue → IsValid catalogue work
+        → (told : IsReportOn catalogue work text)
+        → (report_of (input_of catalogue told.tables work) told.log).pending ≡ []
         → (line : List ℕ) → Contains (lines_of text) line → tells_pending line ≡ false }
 {}

@@ -8,6 +8,6 @@ ghost use Rattle.sdd_watch.specs.run.script.declared.workload.Workload.{Workload
 /// A law: the run of a workload has a report, or the limit ends the run, whatever the modules do and
 /// with no regard to memory.
 pub fn law_has_report()
-    ensures { (cat : Catalogue) (work : Workload) → IsSoundCatalogue cat → IsValid cat work
-        → ((text : List ℕ) × IsReportOn cat work text) ⊎ EndsAtLimit cat work }
+    ensures { (catalogue : Catalogue) (work : Workload) → IsSoundCatalogue catalogue → IsValid catalogue work
+        → ((text : List ℕ) × IsReportOn catalogue work text) ⊎ EndsAtLimit catalogue work }
 {}

@@ -11,8 +11,8 @@ ghost use Rattle.sdd_verified.specs.Summaries.{SettleAll, TellsAllDone};
 /// A law: where the events submit each transaction, take no data module down and end with a settle
 /// or a redeclare, the summary of the run counts as many committed as there are transactions.
 pub fn law_all_committed()
-    ensures { (cat : Catalogue) (work : Workload) (text : List ℕ) → IsSoundCatalogue cat → IsValid cat work
-        → SettleAll (length work.txns) work.events → IsSummaryOn cat work text
+    ensures { (catalogue : Catalogue) (work : Workload) (text : List ℕ) → IsSoundCatalogue catalogue → IsValid catalogue work
+        → SettleAll (length work.txns) work.events → IsSummaryOn catalogue work text
         → TellsAllDone (length work.txns) text }
 {}
 

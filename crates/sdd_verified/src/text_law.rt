@@ -11,11 +11,11 @@ ghost use Rattle.sdd_verified.specs.Tellings.{TellAlike, TellOfTheSame};
 /// copies, whatever the workloads; by their names, and where they are of the same transactions by
 /// their numbers too.
 pub fn law_one_text()
-    ensures names { (cat : Catalogue) (work other : Workload) (text : List ℕ) → IsSoundCatalogue cat → AreNamed cat
-        → IsValid cat work → IsValid cat other
-        → (one : IsReportOn cat work text) → (two : IsReportOn cat other text) → TellAlike cat work other text one two }
-    ensures numbers { (cat : Catalogue) (work other : Workload) (text : List ℕ) → IsSoundCatalogue cat → AreNamed cat
-        → IsValid cat work → IsValid cat other
-        → work.txns ≡ other.txns → (one : IsReportOn cat work text) → (two : IsReportOn cat other text)
-        → TellOfTheSame cat work other text one two }
+    ensures names { (catalogue : Catalogue) (work other : Workload) (text : List ℕ) → IsSoundCatalogue catalogue → AreNamed catalogue
+        → IsValid catalogue work → IsValid catalogue other
+        → (one : IsReportOn catalogue work text) → (two : IsReportOn catalogue other text) → TellAlike catalogue work other text one two }
+    ensures numbers { (catalogue : Catalogue) (work other : Workload) (text : List ℕ) → IsSoundCatalogue catalogue → AreNamed catalogue
+        → IsValid catalogue work → IsValid catalogue other
+        → work.txns ≡ other.txns → (one : IsReportOn catalogue work text) → (two : IsReportOn catalogue other text)
+        → TellOfTheSame catalogue work other text one two }
 {}

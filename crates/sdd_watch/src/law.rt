@@ -8,8 +8,8 @@ ghost use Rattle.sdd_watch.specs.Text.{IsInsideOf};
 /// A law: there is one text of what happens inside the run of a workload at most, and none where the
 /// limit ends the run.
 pub fn law_one_inside()
-    ensures text { (cat : Catalogue) (work : Workload) (text other : List ℕ) → IsInsideOf cat work text
-        → IsInsideOf cat work other → text ≡ other }
-    ensures not_both { (cat : Catalogue) (work : Workload) (text : List ℕ) → IsInsideOf cat work text
-        → EndsAtLimit cat work → ⊥ }
+    ensures text { (catalogue : Catalogue) (work : Workload) (text other : List ℕ) → IsInsideOf catalogue work text
+        → IsInsideOf catalogue work other → text ≡ other }
+    ensures not_both { (catalogue : Catalogue) (work : Workload) (text : List ℕ) → IsInsideOf catalogue work text
+        → EndsAtLimit catalogue work → ⊥ }
 {}

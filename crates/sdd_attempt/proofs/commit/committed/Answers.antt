@@ -4,7 +4,7 @@ use Rattle.sdd_attempt.proofs.commit.committed.Goals as goal
 
 pub returns : goal.returns
 returns c = λ bases sound serves.
-    let cat = c.args.cat.now in
+    let cat = c.args.catalogue.now in
     let q = c.args.queued in
     let r = c.args.running in
     let text = ap (λ x. x.text) c.queued.view_is in

@@ -5,5 +5,5 @@ abbrev pub invariant-loop-number : goal.invariant-loop-number
 invariant-loop-number l =
     l.draft
     ≡ record l.initial.draft {
-      out = l.initial.draft.out ++ filter_map (write_of l.cat l.attempt.class.0 l.attempt.ts.0 l.attempt.txn.0 l.changes) (numbers_to (l.number - 1));
+      out = l.initial.draft.out ++ filter_map (write_of l.catalogue l.attempt.class.0 l.attempt.ts.0 l.attempt.txn.0 l.changes) (numbers_to (l.number - 1));
     }

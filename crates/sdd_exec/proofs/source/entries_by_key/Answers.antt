@@ -9,6 +9,6 @@ loop-row-preserved c =
     let i = c.loop-row.row-index in
     let row = c.row-item.result in
     let within = c.loop-row-test.true in
-    chosen_next c.args.cat.now c.args.rel.0 c.args.conds.now (rows_lent rows) i row.now
+    chosen_next c.args.catalogue.now c.args.rel.0 c.args.conds.now (rows_lent rows) i row.now
     (of_relation c.args.rel.0 c.loop-row.entries) (of_relation c.args.rel.0 c.add_entry.new.entries)
     (lent_within rows i within) (lent_at rows i row within c.row-item.is) c.in_ok-add_entry.ensures c.loop-row.invariant

@@ -5,14 +5,14 @@ use Rattle.sdd_graph.proofs.class_uses.written_by.Goals as goal
 
 pub loop-frag-init : goal.loop-frag-init
 loop-frag-init c =
-    let n : ℕ = length c.args.cat.now.fragments in
+    let n : ℕ = length c.args.catalogue.now.fragments in
     c.in_ok-written.ensures.items_if_clones_equal (λ y e. e)
     ∙ ap (λ m. replicate m false) c.fragments.ensures
     ∙ splat_is_map (numbers_to n) n false (length-range_with_len 1 n)
 
 pub index_mut-requires : goal.index_mut-requires
 index_mut-requires c =
-    let cat = c.args.cat.now in
+    let cat = c.args.catalogue.now in
     let class = c.args.class.0 in
     let items = c.as_slice-frag-items.result.now in
     let k : ℕ = c.loop-frag.frag-index in
@@ -27,7 +27,7 @@ index_mut-requires c =
 
 pub loop-frag-preserved : goal.loop-frag-preserved
 loop-frag-preserved c =
-    let cat = c.args.cat.now in
+    let cat = c.args.catalogue.now in
     let class = c.args.class.0 in
     let items = c.as_slice-frag-items.result.now in
     let k : ℕ = c.loop-frag.frag-index in
@@ -40,7 +40,7 @@ loop-frag-preserved c =
 
 pub returns : goal.returns
 returns c =
-    let cat = c.args.cat.now in
+    let cat = c.args.catalogue.now in
     let class = c.args.class.0 in
     c.from_vec.ensures
     ∙ written_all cat class c.as_slice-frag-items.result.now c.loop-frag.frag-index c.loop-frag.written.items c.requires

@@ -4,17 +4,17 @@ use Rattle.sdd_graph.proofs.Few.{few_edges}
 use Rattle.sdd_graph.proofs.conflicts.conflict_graph.Goals as goal
 
 pub returns-clause-known : goal.returns-clause-known
-returns-clause-known c = All-same (IsEdgeOf c.args.cat.now) _ (conflict_graph c.args.cat.now) c.in_ok-edges.ensures (edges_known c.args.cat.now)
+returns-clause-known c = All-same (IsEdgeOf c.args.catalogue.now) _ (conflict_graph c.args.catalogue.now) c.in_ok-edges.ensures (edges_known c.args.catalogue.now)
 
 pub returns-clause-named : goal.returns-clause-named
-returns-clause-named c = All-same NamesClasses _ (conflict_graph c.args.cat.now) c.in_ok-edges.ensures (edges_named c.args.cat.now c.known.ensures.whole)
+returns-clause-named c = All-same NamesClasses _ (conflict_graph c.args.catalogue.now) c.in_ok-edges.ensures (edges_named c.args.catalogue.now c.known.ensures.whole)
 
 pub returns-clause-nodes : goal.returns-clause-nodes
 returns-clause-nodes c =
-    All-same (JoinsNodes (length c.args.cat.now.classes)) _ (conflict_graph c.args.cat.now) c.in_ok-edges.ensures (edges_join c.args.cat.now)
+    All-same (JoinsNodes (length c.args.catalogue.now.classes)) _ (conflict_graph c.args.catalogue.now) c.in_ok-edges.ensures (edges_join c.args.catalogue.now)
 
 pub returns-clause-few : goal.returns-clause-few
 returns-clause-few c =
-    let few : length (conflict_graph c.args.cat.now) ≤ 1048576 = few_edges c.args.cat.now c.known.ensures.whole in
-    let same : length c.in_ok-edges.edges.items ≡ length (conflict_graph c.args.cat.now) = ap length c.in_ok-edges.ensures in
+    let few : length (conflict_graph c.args.catalogue.now) ≤ 1048576 = few_edges c.args.catalogue.now c.known.ensures.whole in
+    let same : length c.in_ok-edges.edges.items ≡ length (conflict_graph c.args.catalogue.now) = ap length c.in_ok-edges.ensures in
     omega arith

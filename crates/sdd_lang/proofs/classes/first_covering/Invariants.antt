@@ -4,4 +4,4 @@ use Rattle.sdd_lang.proofs.classes.first_covering.Given as goal
 
 -- none so far covers it
 abbrev pub invariant-loop-class : goal.invariant-loop-class
-invariant-loop-class l = class_for l.cat l.txn ≡ first_from l.cat l.txn l.class (length l.cat.classes + 1 - l.class)
+invariant-loop-class l = class_for l.catalogue l.txn ≡ first_from l.catalogue l.txn l.class (length l.catalogue.classes + 1 - l.class)

@@ -14,4 +14,4 @@ loop-number-preserved c =
     ]
 
 pub returns : goal.returns
-returns c = listed_numbers c.args.cat.now c.args.set.now c.loop-number.number c.loop-number.frags.items (omega arith) c.loop-number.invariant
+returns c = listed_numbers c.args.catalogue.now c.args.set.now c.loop-number.number c.loop-number.frags.items (omega arith) c.loop-number.invariant

@@ -5,5 +5,5 @@ use Rattle.sdd_lang.proofs.classes.reads_all.Given as goal
 -- those that are left decide
 abbrev pub invariant-loop-number : goal.invariant-loop-number
 invariant-loop-number l =
-    list_all (λ f. is_some (reads_at l.cat l.class.0 f)) (members l.cat l.set) ≡ pass_from (λ f. is_some (reads_at l.cat l.class.0 f)) l.set l.number
-    (length l.cat.fragments + 1 - l.number)
+    list_all (λ f. is_some (reads_at l.catalogue l.class.0 f)) (members l.catalogue l.set) ≡ pass_from (λ f. is_some (reads_at l.catalogue l.class.0 f)) l.set l.number
+    (length l.catalogue.fragments + 1 - l.number)

@@ -5,5 +5,5 @@ use Rattle.sdd_lang.proofs.over.effect_over.Given as goal
 abbrev pub invariant-statements : goal.invariant-statements
 invariant-statements g l =
     (l.run.before ≤ 6 * l.statement-index)
-    × (effect_after l.cat (g.S.Source.found l.source) (g.S.Source.chosen l.source) l.run (drop l.statement-index l.statement-items)
-    ≡ effect_over l.cat (g.S.Source.found l.source) (g.S.Source.chosen l.source) l.txn)
+    × (effect_after l.catalogue (g.S.Source.found l.source) (g.S.Source.chosen l.source) l.run (drop l.statement-index l.statement-items)
+    ≡ effect_over l.catalogue (g.S.Source.found l.source) (g.S.Source.chosen l.source) l.txn)

@@ -7,8 +7,8 @@ pub loop-number-preserved : goal.loop-number-preserved
 loop-number-preserved c =
     elim c.if-meets_keys.branch [
       | then-meets_keys+in_ok-push w ↦ frag_kept
-          (meets_keys c.args.cat.now c.args.rel.0 c.allowed_keys-keys.result) c.loop-number.number c.loop-number.frags.items _
+          (meets_keys c.args.catalogue.now c.args.rel.0 c.allowed_keys-keys.result) c.loop-number.number c.loop-number.frags.items _
           (omega arith) w.if-meets_keys.ensures c.loop-number.invariant (search rules)
-      | else-meets_keys w ↦ frag_left (meets_keys c.args.cat.now c.args.rel.0 c.allowed_keys-keys.result) c.loop-number.number c.loop-number.frags.items _
+      | else-meets_keys w ↦ frag_left (meets_keys c.args.catalogue.now c.args.rel.0 c.allowed_keys-keys.result) c.loop-number.number c.loop-number.frags.items _
           (omega arith) w.if-meets_keys.ensures c.loop-number.invariant (ap (λ v. v.items) w.frags-is)
     ]

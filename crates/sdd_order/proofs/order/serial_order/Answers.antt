@@ -6,7 +6,7 @@ use Rattle.sdd_order.proofs.order.serial_order.Goals as goal
 
 pub find_links-requires : goal.find_links-requires
 find_links-requires c =
-    let cat = c.args.cat.now in
+    let cat = c.args.catalogue.now in
     let h = c.args.history.now in
     let o = c.requires.orderable in
     let txns = c.in_ok-txns.txns.items in
@@ -18,7 +18,7 @@ find_links-requires c =
 
 pub order_of-requires : goal.order_of-requires
 order_of-requires c =
-    let cat = c.args.cat.now in
+    let cat = c.args.catalogue.now in
     let h = c.args.history.now in
     let o = c.requires.orderable in
     let marks = c.in_ok-marks.marks in
@@ -32,9 +32,9 @@ order_of-requires c =
     }
 
 -- what is found is the serial order
-found : (c : goal.After-drop-marks-3) → numbers_at c.deref-3.result.now c.deref-4.result.now ≡ serial_order c.args.cat.now c.args.history.now
+found : (c : goal.After-drop-marks-3) → numbers_at c.deref-3.result.now c.deref-4.result.now ≡ serial_order c.args.catalogue.now c.args.history.now
 found c =
-    let cat = c.args.cat.now in
+    let cat = c.args.catalogue.now in
     let h = c.args.history.now in
     let o = c.requires.orderable in
     let marks = c.in_ok-marks.marks in
@@ -52,12 +52,12 @@ found c =
 pub returns-clause-order : goal.returns-clause-order
 returns-clause-order c =
     IfOk-weaker c.numbers_at.result (λ made. made.items ≡ numbers_at c.deref-3.result.now c.deref-4.result.now)
-    (λ order. order.items ≡ serial_order c.args.cat.now c.args.history.now)
+    (λ order. order.items ≡ serial_order c.args.catalogue.now c.args.history.now)
     (λ order e. e ∙ found c) (c.numbers_at.ensures)
 
 pub returns-clause-serial : goal.returns-clause-serial
 returns-clause-serial c =
-    let cat = c.args.cat.now in
+    let cat = c.args.catalogue.now in
     let h = c.args.history.now in
     IfOk-weaker c.numbers_at.result (λ made. made.items ≡ numbers_at c.deref-3.result.now c.deref-4.result.now)
     (λ order. IsSerial cat h order.items)

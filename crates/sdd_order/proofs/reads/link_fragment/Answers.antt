@@ -4,7 +4,7 @@ use Rattle.sdd_order.proofs.reads.link_fragment.Goals as goal
 
 pub returns : goal.returns
 returns c =
-    let cat = c.args.cat.now in
+    let cat = c.args.catalogue.now in
     let t = c.args.txn.now in
     let f = c.args.frag.0 in
     let unchanged : changes t f ≡ false =

@@ -9,11 +9,11 @@ entries-requires-clause-readers c =
     let blocks : AreBlocks (map ends edges) numbers = subst (λ z. AreBlocks (map ends edges) z) (sym c.deref-3.ensures.value) c.in_ok-numbers.ensures in
     let same : c.deref-2.result.now ≡ edges = c.deref-2.ensures.value ∙ sym c.deref.ensures.value in
     subst (λ z. All (HasVertical (length numbers)) z) (sym same)
-    (readers_there c.args.cat.now edges (length numbers) (c.deref.ensures.value ∙ c.in_ok-edges.ensures.edges) (blocks.one_each ∙ length-map edges ends))
+    (readers_there c.args.catalogue.now edges (length numbers) (c.deref.ensures.value ∙ c.in_ok-edges.ensures.edges) (blocks.one_each ∙ length-map edges ends))
 
 pub of-requires-clause-cells : goal.of-requires-clause-cells
 of-requires-clause-cells c =
-    let cat = c.args.cat.now in
+    let cat = c.args.catalogue.now in
     let edges = c.deref-2.result.now in
     subst (λ n. All (λ e. HasCell (n + 1) e.edge) c.deref-4.result.now) (sym c.classes-2.ensures)
     (subst (λ z. All (λ e. HasCell (length cat.classes + 1) e.edge) z) (sym c.deref-4.ensures.value)
@@ -21,7 +21,7 @@ of-requires-clause-cells c =
 
 pub returns : goal.returns
 returns c =
-    let cat = c.args.cat.now in
+    let cat = c.args.catalogue.now in
     let edges = c.in_ok-edges.edges.items in
     let numbers = c.in_ok-numbers.numbers.items in
     let entries = c.in_ok-entries.entries.items in

@@ -1,5 +1,5 @@
 use Rattle.sdd_run.proofs.All.{All, AllBegin, BeginsD, Catalogue, FitsStart, Input, IsBegun, IsEraOf, IsGood, IsSoundCatalogue, MAX_DMS, MAX_TMS, Represents, [], ap, arith, eras_with_tables, first_input, length, refl, subst, sym, tail_of, whole_in, ◌∙◌, ◌≤◌}
-use Rattle.sdd_run.proofs.Forces.{first_era, some_table, tables_are}
+use Rattle.sdd_run.proofs.ErasWithTables.{first_era, some_table, tables_are}
 use Rattle.sdd_run.proofs.Reported.{ended, if_ok, run_of}
 use Rattle.sdd_run.proofs.Starting.{all_allowed, starts}
 use Rattle.sdd_run.proofs.Whole.{rows_start}

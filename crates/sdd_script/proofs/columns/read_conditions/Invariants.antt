@@ -6,8 +6,8 @@ use Rattle.sdd_script.proofs.columns.read_conditions.Given as goal
 abbrev pub invariant-words : goal.invariant-words
 invariant-words l = record {
   within : length l.conds.items ≤ MAX_CONDITIONS + 1;
-  same : kept_and_left MAX_CONDITIONS (λ i w. condition_of l.cat l.parts w) l.conds.items l.words ≡ few MAX_CONDITIONS (along (λ i w. condition_of
-      l.cat l.parts w) 0 l.fn.words);
+  same : kept_and_left MAX_CONDITIONS (λ i w. condition_of l.catalogue l.parts w) l.conds.items l.words ≡ few MAX_CONDITIONS (along (λ i w. condition_of
+      l.catalogue l.parts w) 0 l.fn.words);
 }
 
 abbrev pub decreases-words : goal.decreases-words

@@ -4,7 +4,7 @@ use Rattle.sdd_script.proofs.queries.read_parts.Given as goal
 
 -- the relations so far, and those of the words that are left
 abbrev pub invariant-rels : goal.invariant-rels
-invariant-rels l = l.parts.items ++ parts_of l.cat l.rels ≡ parts_of l.cat l.fn.rels
+invariant-rels l = l.parts.items ++ parts_of l.catalogue l.rels ≡ parts_of l.catalogue l.fn.rels
 
 abbrev pub decreases-rels : goal.decreases-rels
 decreases-rels l = length l.rels

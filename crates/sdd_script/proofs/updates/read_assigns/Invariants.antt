@@ -6,7 +6,7 @@ use Rattle.sdd_script.proofs.updates.read_assigns.Given as goal
 abbrev pub invariant-words : goal.invariant-words
 invariant-words l = record {
   within : length l.sets.items ≤ MAX_ASSIGNMENTS + 1;
-  same : kept_and_left MAX_ASSIGNMENTS (λ i w. assign_of l.cat l.rel w) l.sets.items l.words ≡ few MAX_ASSIGNMENTS (along (λ i w. assign_of l.cat
+  same : kept_and_left MAX_ASSIGNMENTS (λ i w. assign_of l.catalogue l.rel w) l.sets.items l.words ≡ few MAX_ASSIGNMENTS (along (λ i w. assign_of l.catalogue
       l.rel w) 0 l.fn.words);
 }
 

@@ -3,6 +3,6 @@ use Rattle.sdd_script.proofs.write_lines.put_starts.Given as goal
 
 -- what was written and what is left to write is all of it
 abbrev pub invariant-rows : goal.invariant-rows
-invariant-rows l = l.out.items ++ flat_map (λ (r : RelNo × List Value). ended (start_words l.cat r))
+invariant-rows l = l.out.items ++ flat_map (λ (r : RelNo × List Value). ended (start_words l.catalogue r))
     (drop l.row-index l.rows) ≡ l.fn.out.items ++ flat_map (λ (r : RelNo × List Value). ended
-    (start_words l.cat r)) l.rows
+    (start_words l.catalogue r)) l.rows

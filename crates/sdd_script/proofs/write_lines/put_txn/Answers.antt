@@ -8,8 +8,8 @@ returns c =
     (header_words c.args.txn.now.name c.args.txn.now.tm) =
     rw (c.as_bytes.ensures.value, c.as_str.ensures.value) at c.in_ok-put_header.ensures in
     let b : c.put_statements.new.out.items ≡ c.put_header.new.out.items ++ flat_map
-    (λ (s : Stmt). ended (statement_words c.args.cat.now s)) c.args.txn.now.statements =
+    (λ (s : Stmt). ended (statement_words c.args.catalogue.now s)) c.args.txn.now.statements =
     rw c.as_slice.ensures at c.in_ok-put_statements.ensures in
     after _ _ c.in_ok-put.ensures (after _ _ b a)
     ∙ txn_pieces c.args.out.now.items (header_words c.args.txn.now.name c.args.txn.now.tm)
-    (statement_words c.args.cat.now) c.args.txn.now.statements done_words
+    (statement_words c.args.catalogue.now) c.args.txn.now.statements done_words

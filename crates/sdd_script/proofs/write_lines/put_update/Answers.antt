@@ -6,6 +6,6 @@ pub returns : goal.returns
 returns c =
     after _ _ c.in_ok-put_conditions.ensures (after _ _ c.in_ok-put_assigns.ensures
     (after _ _ c.in_ok-put_plain.ensures (after _ _ c.in_ok-put_relation.ensures c.in_ok-put.ensures)))
-    ∙ update_pieces c.args.out.now.items (codes "update") (relation_word c.args.cat.now c.args.rel)
-    (Plain (codes "set")) (sets_words c.args.cat.now c.args.rel c.args.sets.now)
-    (where_words c.args.cat.now (c.args.rel ∷ []) c.args.conds.now)
+    ∙ update_pieces c.args.out.now.items (codes "update") (relation_word c.args.catalogue.now c.args.rel)
+    (Plain (codes "set")) (sets_words c.args.catalogue.now c.args.rel c.args.sets.now)
+    (where_words c.args.catalogue.now (c.args.rel ∷ []) c.args.conds.now)

@@ -4,5 +4,5 @@ use Rattle.sdd_script.proofs.write_words.put_assigns.Given as goal
 -- what was written and what is left to write is all of it
 abbrev pub invariant-assigns : goal.invariant-assigns
 invariant-assigns l = l.out.items ++ more_bytes
-    (sets_words l.cat l.rel (drop l.assign-index l.assigns)) ≡ l.fn.out.items ++ more_bytes
-    (sets_words l.cat l.rel l.assigns)
+    (sets_words l.catalogue l.rel (drop l.assign-index l.assigns)) ≡ l.fn.out.items ++ more_bytes
+    (sets_words l.catalogue l.rel l.assigns)

@@ -4,5 +4,5 @@ use Rattle.sdd_script.proofs.write_words.put_row.Goals as goal
 
 pub returns : goal.returns
 returns c = after _ _ c.in_ok-put_values.ensures c.in_ok-put_relation.ensures
-    ∙ word_and_items c.args.out.now.items (relation_word c.args.cat.now c.args.rel) value_word
+    ∙ word_and_items c.args.out.now.items (relation_word c.args.catalogue.now c.args.rel) value_word
     c.args.row.now

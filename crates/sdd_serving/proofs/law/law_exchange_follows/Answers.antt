@@ -2,7 +2,7 @@ use Rattle.sdd_serving.proofs.Follows.{follows_start, follows_hand, follows_send
 use Rattle.sdd_serving.proofs.law.law_exchange_follows.Goals as goal
 
 pub returns-clause-start : goal.returns-clause-start
-returns-clause-start c = follows_start c.args.cat.now
+returns-clause-start c = follows_start c.args.catalogue.now
 
 pub returns-clause-hand : goal.returns-clause-hand
 returns-clause-hand c = follows_hand

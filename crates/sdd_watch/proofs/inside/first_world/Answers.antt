@@ -5,7 +5,7 @@ use Rattle.sdd_run.specs.class_lists.InForce.{whole_in}
 use Rattle.sdd_run.specs.world.Beginnings.{AllBegin, BeginsD, IsBegun}
 use Rattle.sdd_run.specs.world.Represents as standing
 use Rattle.sdd_run.specs.world.Represents.{Represents}
-use Rattle.sdd_run.proofs.Forces.{first_era, some_table}
+use Rattle.sdd_run.proofs.ErasWithTables.{first_era, some_table}
 use Rattle.sdd_run.proofs.Starting.{starts}
 use Rattle.sdd_run.proofs.Whole.{rows_start}
 use Rattle.sdd_watch.proofs.inside.first_world.Goals as goal

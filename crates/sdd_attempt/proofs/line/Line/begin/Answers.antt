@@ -12,7 +12,7 @@ add_try-requires c =
 pub invariant_of-self-in-Some : goal.invariant_of-self-in-Some
 invariant_of-self-in-Some c =
     let s = c.self.inside in
-    begun_at s.cat.now s.class.0
+    begun_at s.catalogue.now s.class.0
     (unwrap_or (option_map (λ t. t.now) c.args.table) []) c.args.clock.now s.queue.items c.in-Some.queued.now c.add_try.new.self s.running c.in_ok-running-in-Some.running
     c.known.ensures.whole c.self.invariant c.in-Some.ensures.item.3.0 c.in-Some.ensures.value c.add_try.ensures c.in_ok-running-in-Some.ensures.running
 
@@ -21,6 +21,6 @@ returns-in_ok-running-in-Some-clause-line c =
     let s = c.self.inside in
     let table = unwrap_or (option_map (λ t. t.now) c.args.table) [] in
     let idle = subst (λ (l : Line). l.active ≡ None) (sym c.self.view_is) c.requires.idle in
-    begun_seen s.cat.now s.class.0 table c.args.clock.now s.queue.items c.in-Some.queued.now c.add_try.new.self s.running c.in_ok-running-in-Some.running
+    begun_seen s.catalogue.now s.class.0 table c.args.clock.now s.queue.items c.in-Some.queued.now c.add_try.new.self s.running c.in_ok-running-in-Some.running
     c.self.invariant c.in-Some.ensures.item.3.0 c.in-Some.ensures.value c.add_try.ensures c.in_ok-running-in-Some.ensures.running idle
     ∙ ap (λ (l : Line). line_done (start_next table c.args.clock.now l) l) c.self.view_is

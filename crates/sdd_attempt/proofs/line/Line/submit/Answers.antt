@@ -9,4 +9,4 @@ invariant_of-self-2 c =
     let fits = subst (λ (l : Line). FitsTxn l.catalogue q.text) (sym c.self.view_is)
     (subst (FitsTxn c.args.self.now.catalogue) (sym c.in_ok-text.ensures) c.requires.fits) in
     let fresh = subst (λ (l : Line). contains (map (λ x. x.number) l.queue) q.number ≡ false) (sym c.self.view_is) c.requires.fresh in
-    submitted_line s.cat.now s.class.0 s.queue.items c.push_back.new.self.items s.running q c.self.invariant fits fresh c.in_ok-push_back.ensures.items
+    submitted_line s.catalogue.now s.class.0 s.queue.items c.push_back.new.self.items s.running q c.self.invariant fits fresh c.in_ok-push_back.ensures.items

@@ -4,7 +4,7 @@ use Rattle.sdd_attempt.proofs.reads.Beginning.of.Goals as goal
 
 pub invariant_of-result : goal.invariant_of-result
 invariant_of-result c =
-    let cat = c.args.cat.now in
+    let cat = c.args.catalogue.now in
     let text = c.queued.inside.text in
     record {
       declared = c.requires.declared;

@@ -4,5 +4,5 @@ use Rattle.sdd_graph.proofs.uses.Uses.of.Goals as goal
 
 pub loop-i-preserved : goal.loop-i-preserved
 loop-i-preserved c =
-    collected_more (class_uses c.args.cat.now) _ _ c.loop-i.i _ _ _ (up_to c.loop-i.i c.loop-i.auto.i)
+    collected_more (class_uses c.args.catalogue.now) _ _ c.loop-i.i _ _ _ (up_to c.loop-i.i c.loop-i.auto.i)
     c.loop-i.invariant c.in_ok-class_uses.ensures c.in_ok-push.ensures.items

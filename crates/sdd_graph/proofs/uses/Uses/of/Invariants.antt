@@ -3,4 +3,4 @@ use Rattle.sdd_graph.proofs.uses.Uses.of.Given as goal
 
 -- the classes so far
 abbrev pub invariant-loop-i : goal.invariant-loop-i
-invariant-loop-i l = l.classes.items ≡ map (class_uses l.cat) (numbers_to (l.i - 1))
+invariant-loop-i l = l.classes.items ≡ map (class_uses l.catalogue) (numbers_to (l.i - 1))

@@ -5,4 +5,4 @@ use Rattle.sdd_lang.proofs.touched.Touched.add_all.Goals as goal
 pub returns-clause-reads : goal.returns-clause-reads
 returns-clause-reads c =
     let same : length c.as_slice-statement-items.result.now ≡ length c.args.txn.now.statements = ap length c.as_slice-statement-items.ensures in
-    all_read c.args.cat.now c.args.txn.now c.loop-statement.statement-index _ (omega arith) c.loop-statement.invariant.reads
+    all_read c.args.catalogue.now c.args.txn.now c.loop-statement.statement-index _ (omega arith) c.loop-statement.invariant.reads

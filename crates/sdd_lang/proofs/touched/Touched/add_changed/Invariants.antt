@@ -4,6 +4,6 @@ use Rattle.sdd_lang.proofs.touched.Touched.add_changed.Given as goal
 -- those of the numbers so far that hold such a key are added
 abbrev pub invariant-loop-number : goal.invariant-loop-number
 invariant-loop-number l = record {
-  reads : members l.cat l.self.reads ≡ put_all (members l.cat l.fn.self.reads) (filter (meets_keys l.cat l.rel.0 l.keys) (numbers_to (l.number - 1)));
-  writes : members l.cat l.self.writes ≡ put_all (members l.cat l.fn.self.writes) (filter (meets_keys l.cat l.rel.0 l.keys) (numbers_to (l.number - 1)));
+  reads : members l.catalogue l.self.reads ≡ put_all (members l.catalogue l.fn.self.reads) (filter (meets_keys l.catalogue l.rel.0 l.keys) (numbers_to (l.number - 1)));
+  writes : members l.catalogue l.self.writes ≡ put_all (members l.catalogue l.fn.self.writes) (filter (meets_keys l.catalogue l.rel.0 l.keys) (numbers_to (l.number - 1)));
 }

@@ -5,5 +5,5 @@ use Rattle.sdd_plain.proofs.plain.Plain.run_all.Given as goal
 abbrev pub invariant-txns : goal.invariant-txns
 invariant-txns l =
     (l.self.live ≡ true)
-    × (l.replies.items ++ (serial l.cat l.self.value (drop l.txn-index l.txns)).0 ≡ (serial l.cat l.fn.self.value l.txns).0)
-    × ((serial l.cat l.self.value (drop l.txn-index l.txns)).1 ≡ (serial l.cat l.fn.self.value l.txns).1)
+    × (l.replies.items ++ (serial l.catalogue l.self.value (drop l.txn-index l.txns)).0 ≡ (serial l.catalogue l.fn.self.value l.txns).0)
+    × ((serial l.catalogue l.self.value (drop l.txn-index l.txns)).1 ≡ (serial l.catalogue l.fn.self.value l.txns).1)

@@ -3,4 +3,4 @@ use Rattle.sdd_plain.proofs.rows.Rows.apply.Given as goal
 
 -- the changes that are left make of these rows what all make of the old ones
 abbrev pub invariant-changes : goal.invariant-changes
-invariant-changes l = after_changes l.cat l.self l.change-iterator.rest.items ≡ after_changes l.cat l.fn.self l.fn.changes
+invariant-changes l = after_changes l.catalogue l.self l.change-iterator.rest.items ≡ after_changes l.catalogue l.fn.self l.fn.changes

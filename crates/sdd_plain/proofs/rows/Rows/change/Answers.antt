@@ -6,4 +6,4 @@ pub returns-in-None : goal.returns-in-None
 returns-in-None c =
     let fits : FitsSigned w64 c.args.change.key = search rules in
     (rw (to_z-of_z fits) at c.remove.ensures)
-    ∙ change_to_none c.args.cat.now c.args.self.now c.args.change c.relation_of.result c.relation_of.ensures c.in-None.is
+    ∙ change_to_none c.args.catalogue.now c.args.self.now c.args.change c.relation_of.result c.relation_of.ensures c.in-None.is

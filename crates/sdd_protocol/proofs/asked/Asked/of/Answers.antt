@@ -5,7 +5,7 @@ use Rattle.sdd_protocol.proofs.asked.Asked.of.Goals as goal
 
 pub loop-frag-preserved : goal.loop-frag-preserved
 loop-frag-preserved c =
-    let cat = c.args.cat.now in
+    let cat = c.args.catalogue.now in
     let frags = c.args.frags.now in
     let i = c.args.class.0 in
     let dm = c.args.dm.0 in

@@ -4,7 +4,7 @@ use Rattle.sdd_protocol.proofs.protocol_table.Table.condition.Goals as goal
 
 pub returns : goal.returns
 returns c =
-    let cat = c.args.cat.now in
+    let cat = c.args.catalogue.now in
     let entries = c.args.self.now in
     let attempt : Attempt = record { class = c.args.class; own = c.args.own; p2 = c.args.p2 } in
     let asked : ℕ → Bool = is_asked cat c.args.class.0 c.args.dm.0 c.args.frags.now in

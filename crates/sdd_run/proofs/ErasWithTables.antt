@@ -7,10 +7,10 @@ pub eras_are : (cat : Catalogue) (lists : List (List Class)) → length (eras ca
 eras_are cat [] = refl
 eras_are cat (classes ∷ lists) = ap (λ n. suc n) (eras_are (extended classes (retired (length cat.classes) cat)) lists)
 
-eras_are : (cats : List Catalogue) (tables : List (List Entry)) → AllZip IsTable cats tables → length (eras_with_tables cats tables) ≡ length cats
-eras_are [] tables h = refl
-eras_are (cat ∷ cats) [] h = absurd h
-eras_are (cat ∷ cats) (table ∷ tables) h = ap (λ n. suc n) (eras_are cats tables h.1)
+eras_with_tables_are : (cats : List Catalogue) (tables : List (List Entry)) → AllZip IsTable cats tables → length (eras_with_tables cats tables) ≡ length cats
+eras_with_tables_are [] tables h = refl
+eras_with_tables_are (cat ∷ cats) [] h = absurd h
+eras_with_tables_are (cat ∷ cats) (table ∷ tables) h = ap (λ n. suc n) (eras_with_tables_are cats tables h.1)
 
 pub tables_are : (cat : Catalogue) (tables : List (List Entry)) (work : Workload) → AreTables cat work tables → length tables ≡ length (eras_in cat work)
 tables_are cat tables work tabled = AllZip-long IsTable (eras_in cat work) tables tabled
@@ -46,7 +46,7 @@ of_list (cat ∷ cats) (table ∷ tables) h (suc k) f e = let i = of_list cats t
 
 module _ (cat : Catalogue) (tables : List (List Entry)) (work : Workload) (tabled : AreTables cat work tables) where
   pub how_many : length (input_of cat tables work).eras ≡ suc (length (classes_in cat work))
-  how_many = eras_are (eras_in cat work) tables tabled ∙ eras_are cat (classes_in cat work)
+  how_many = eras_with_tables_are (eras_in cat work) tables tabled ∙ eras_are cat (classes_in cat work)
 
   -- beyond the last list there is none
   abbrev none : Era
