@@ -4,7 +4,7 @@ ghost use Rattle.sdd_catalog.specs.Catalogue.{catalogue_of, parts_of, relation_a
 ghost use Rattle.sdd_catalog.specs.Cover.{Cover, ranges_for};
 ghost use Rattle.sdd_catalog.specs.Naming.{AreNamed};
 ghost use Rattle.sdd_catalog.specs.Numbers.{IsWhole};
-ghost use Rattle.sdd_catalog.specs.Rules.{IsValid, IsSoundCatalogue, TellsFirst, faults_of};
+ghost use Rattle.sdd_catalog.specs.Rules.{IsSoundCatalogue, IsValid, TellsFirst, faults_of};
 
 use crate::fault::CatError;
 use crate::first_fault::first_fault;

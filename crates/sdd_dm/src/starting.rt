@@ -2,7 +2,7 @@
 ghost use Rattle.std.specs.Prelude.{◌≡◌, ◌≤◌, ◌∷◌, ℕ, IfOk, OnOk, IsTrue, length, map, fold, replicate, is_some, slice_index_or, true, false, Some, None};
 ghost use Rattle.std.specs.List.{All};
 ghost use Rattle.sdd_module.specs.All.{FitsStart, IsEntry, T, U, database_of, has_copy};
-ghost use Rattle.sdd_copy.specs.Copies.{is_here, with_change, Represent};
+ghost use Rattle.sdd_copy.specs.Copies.{Represent, is_here, with_change};
 ghost use Rattle.sdd_dm.specs.Copies.{first_row};
 ghost use Rattle.sdd_dm.specs.Starts.{lent, own_rows, with_own};
 

@@ -5,7 +5,7 @@ ghost use Rattle.sdd_base.specs.Order.{column, value_cmp};
 ghost use Rattle.sdd_lang.specs.Condition.{value_at, meets, meets_all};
 ghost use Rattle.sdd_lang.specs.Database.{key_in};
 ghost use Rattle.sdd_lang.specs.Fits.{IsRelation};
-ghost use Rattle.sdd_lang.specs.Tuples.{held, rows_lent, may_join};
+ghost use Rattle.sdd_lang.specs.Tuples.{held, may_join, rows_lent};
 
 use crate::condition::{Condition, Ref};
 use sdd_base::{NoMemory, Parcel, RelNo, Row, Value};

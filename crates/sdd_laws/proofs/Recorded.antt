@@ -89,7 +89,7 @@ no_text = record { name = []; tm = tm_no 0; statements = [] }
 abbrev pub ledger : Catalogue → List Text → History → Ledger Committed
 ledger cat txns h =
     record {
-      text = λ t. unwrap_or (txn_at txns t.start.txn) no_text;
+      txn = λ t. unwrap_or (txn_at txns t.start.txn) no_text;
       ts = λ t. t.start.ts;
       result = λ t. record { reply = t.reply; changes = t.changes };
       saw = λ t f u. was_seen h u (module_of cat t.start.class f) t;
@@ -115,10 +115,10 @@ module _ (cat : Catalogue) (sound : IsSoundCatalogue cat) (eras : Eras) (are : A
     submit_of t c = starting.submitted t.start c.started
 
     -- its text is that of its Submit
-    pub text_is : (t : Committed) (c : IsCommitted h t) → (ledger cat txns h).text t ≡ (submit_of t c).txn
+    pub text_is : (t : Committed) (c : IsCommitted h t) → (ledger cat txns h).txn t ≡ (submit_of t c).txn
     text_is t c = ap (λ o. unwrap_or o no_text) (submit_of t c).txn_is
 
-    read_sets : (t : Committed) → IsCommitted h t → ascending (fragments_in t.start.uses) ≡ read_set cat ((ledger cat txns h).text t)
+    read_sets : (t : Committed) → IsCommitted h t → ascending (fragments_in t.start.uses) ≡ read_set cat ((ledger cat txns h).txn t)
     read_sets t c = ap (λ u. ascending (fragments_in u)) (submit_of t c).uses_are ∙ ap (read_set cat) (sym (text_is t c))
 
     -- what it reads by its text it reads by its Start
@@ -206,7 +206,7 @@ module _ (cat : Catalogue) (sound : IsSoundCatalogue cat) (eras : Eras) (are : A
               (g.0, r, subst (λ z. Contains z e) (snapshot_is t c g.0 (reads_by_start t c g.0 r)) g.2);
         }
 
-    text_there : (P : Text → Type 0) → All P txns → (t : Committed) → IsCommitted h t → P ((ledger cat txns h).text t)
+    text_there : (P : Text → Type 0) → All P txns → (t : Committed) → IsCommitted h t → P ((ledger cat txns h).txn t)
     text_there P all t c =
         let s = submit_of t c in
         subst P (sym (text_is t c)) (all_at P txns (t.start.txn - 1) s.txn all s.txn_is)

@@ -15,20 +15,20 @@ module _ (cat : Catalogue) (sound : IsSoundCatalogue cat) (eras : Eras) (are : A
     told = ledger cat txns h
 
     -- the texts of an order are those of its transactions
-    text_at : (t : Committed) → IsCommitted h t → txn_at txns t.start.txn ≡ Some (told.text t)
+    text_at : (t : Committed) → IsCommitted h t → txn_at txns t.start.txn ≡ Some (told.txn t)
     text_at t c =
         let s : IsOfSubmit cat eras txns h t.start = starting.submitted t.start c.started in
         s.txn_is
         ∙ ap (λ z. Some z) (sym (text_is cat sound eras are rows txns h fit held starting answering applying t c))
 
     texts_are : (order : List TxnNo) (of : OfEach h order)
-        → texts_of txns order ≡ map (λ t. told.text t) (listed h order of)
+        → texts_of txns order ≡ map (λ t. told.txn t) (listed h order of)
     texts_are [] of = refl
     texts_are (n ∷ rest) of =
         let t = of n (Contains-here n rest) in
-        let here : txn_at txns n.0 ≡ Some (told.text t.0) = ap (λ k. txn_at txns k) (sym t.2) ∙ text_at t.0 t.1 in
+        let here : txn_at txns n.0 ≡ Some (told.txn t.0) = ap (λ k. txn_at txns k) (sym t.2) ∙ text_at t.0 t.1 in
         ap (λ o. cons_option o (texts_of txns rest)) here
-        ∙ ap (λ zs. told.text t.0 ∷ zs) (texts_are rest (rest_of h n rest of))
+        ∙ ap (λ zs. told.txn t.0 ∷ zs) (texts_are rest (rest_of h n rest of))
 
     replies_are : (order : List TxnNo) (of : OfEach h order)
         → AllZip (IsReplyOf h) order (map (λ t. (told.result t).reply) (listed h order of))
@@ -45,7 +45,7 @@ module _ (cat : Catalogue) (sound : IsSoundCatalogue cat) (eras : Eras) (are : A
           (listed h order in_turn.committed)
           (agrees cat sound eras are rows txns h fit held starting answering applying order in_turn)
 
-      run_is : run cat rows txns order ≡ serial cat (database_of cat rows) (map (λ t. told.text t) (listed h order in_turn.committed))
+      run_is : run cat rows txns order ≡ serial cat (database_of cat rows) (map (λ t. told.txn t) (listed h order in_turn.committed))
       run_is = ap (serial cat (database_of cat rows)) (texts_are order in_turn.committed)
 
       -- each reply of the run is that of the Commit

@@ -16,10 +16,10 @@ after_all cat L db (x ∷ rest) = after_all cat L (after_changes cat db (changes
 
 -- where each gives the result of its Commit, the serial run gives their replies
 serial_gives : {T : Type 0} (cat : Catalogue) (L : Ledger T) (order : List T) (db : Database) → GivesResults cat L db order
-    → serial cat db (map (λ x. L.text x) order) ≡ (map (λ x. (L.result x).reply) order, after_all cat L db order)
+    → serial cat db (map (λ x. L.txn x) order) ≡ (map (λ x. (L.result x).reply) order, after_all cat L db order)
 serial_gives cat L [] db g = refl
 serial_gives cat L (x ∷ rest) db g =
-    ap (λ (e : Effect). after_reply e.reply (serial cat (after_changes cat db e.changes) (map (λ x. L.text x) rest)))
+    ap (λ (e : Effect). after_reply e.reply (serial cat (after_changes cat db e.changes) (map (λ x. L.txn x) rest)))
     g.0
     ∙ ap (after_reply (L.result x).reply) (serial_gives cat L rest (after_changes cat db (changes L x)) g.1)
 
@@ -89,7 +89,7 @@ module _ {T : Type 0} (cat : Catalogue) (sound : IsSoundCatalogue cat) (first : 
 
   -- so the serial run gives the result of the next
   gives_next : (done : List T) (x : T) (rest : List T) (db : Database) → Stage done (x ∷ rest)
-      → HasValues cat first L done db → effect cat db (L.text x) ≡ L.result x
+      → HasValues cat first L done db → effect cat db (L.txn x) ≡ L.result x
   gives_next done x rest db st has =
       let there : Contains commits x = st.of_rest x (Contains-here x rest) in
       let base : Database = gathered (told.pieces x) in
@@ -99,10 +99,10 @@ module _ {T : Type 0} (cat : Catalogue) (sound : IsSoundCatalogue cat) (first : 
       (seen x f) db f (λ t h. st.of_done t h) (λ t h. (Contains-from_filter (L.saw x f) commits t h).0)
       has (done_seen done x rest f st reads) (seen_done done x rest f st reads)
       ∙ sym (snapshot_is cat sound first first_is L commits told x there f reads) in
-      read_set_decides cat sound (L.text x) (told.fits x there) db base has.is
+      read_set_decides cat sound (L.txn x) (told.fits x there) db base has.is
       (bases_are cat sound first first_is L commits told x there)
-      (All-from_recursion (λ f. rows_in_fragment cat db f ≡ rows_in_fragment cat base f) (read_set cat (L.text x))
-      (all_have (λ f. rows_in_fragment cat db f ≡ rows_in_fragment cat base f) (read_set cat (L.text x)) same))
+      (All-from_recursion (λ f. rows_in_fragment cat db f ≡ rows_in_fragment cat base f) (read_set cat (L.txn x))
+      (all_have (λ f. rows_in_fragment cat db f ≡ rows_in_fragment cat base f) (read_set cat (L.txn x)) same))
       ∙ told.effect_is x there
 
   all_done : (done : List T) (db : Database) → Stage done [] → HasValues cat first L done db
@@ -129,10 +129,10 @@ module _ {T : Type 0} (cat : Catalogue) (sound : IsSoundCatalogue cat) (first : 
   run_from [] done db st has = (tt, all_done done db st has)
   run_from (x ∷ rest) done db st has =
       let there : Contains commits x = st.of_rest x (Contains-here x rest) in
-      let e : effect cat db (L.text x) ≡ L.result x = gives_next done x rest db st has in
+      let e : effect cat db (L.txn x) ≡ L.result x = gives_next done x rest db st has in
       let after : IsDatabase cat (after_changes cat db (changes L x)) =
       subst (λ (z : Effect). IsDatabase cat (after_changes cat db z.changes)) e
-      (stays_database cat sound (L.text x) (told.fits x there) (told.puts_held x there) db has.is) in
+      (stays_database cat sound (L.txn x) (told.fits x there) (told.puts_held x there) db has.is) in
       let next_st : Stage (x ∷ done) rest = next_stage done x rest st in
       let next =
       one_more cat sound first first_is L commits (are_writers cat sound first first_is L commits told) done x

@@ -78,7 +78,7 @@ module _ {T : Type 0} (cat : Catalogue) (sound : IsSoundCatalogue cat) (first : 
   changes_from x there is =
       subst (λ (e : Effect). (c : Change) → Contains e.changes c → IsChange cat ((c.frag.0, c.key), c.row))
       (told.effect_is x there)
-      (λ c h. change_is cat sound (L.text x) (told.fits x there) (told.puts_held x there) (base x) is c (is_in _ c h))
+      (λ c h. change_is cat sound (L.txn x) (told.fits x there) (told.puts_held x there) (base x) is c (is_in _ c h))
 
   -- by the places of the Commits
   bases_below : (n : ℕ) (x : T) → Contains commits x → told.place x < n → IsDatabase cat (base x)
@@ -100,14 +100,14 @@ module _ {T : Type 0} (cat : Catalogue) (sound : IsSoundCatalogue cat) (first : 
         placed =
             λ x there.
             subst (λ (e : Effect). (c : Change) → Contains e.changes c → IsPlaced cat c) (told.effect_is x there)
-            (λ c h. effect_placed cat sound (L.text x) (told.fits x there) (told.puts_held x there) (base x) (bases_are x there) c (is_in _ c h));
+            (λ c h. effect_placed cat sound (L.txn x) (told.fits x there) (told.puts_held x there) (base x) (bases_are x there) c (is_in _ c h));
         once =
             λ x there.
             subst
             (λ (e : Effect).
             (c d : Change) → Contains e.changes c → Contains e.changes d → item_of cat c ≡ item_of cat d → c ≡ d)
             (told.effect_is x there)
-            (λ c d h k. effect_once cat sound (L.text x) (told.fits x there) (told.puts_held x there) (base x) (bases_are x there) c d (is_in _ c h) (is_in _ d k));
+            (λ c d h k. effect_once cat sound (L.txn x) (told.fits x there) (told.puts_held x there) (base x) (bases_are x there) c d (is_in _ c h) (is_in _ d k));
       }
 
   abbrev copy_seen : T → ℕ → Dated

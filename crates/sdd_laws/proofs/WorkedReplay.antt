@@ -18,7 +18,7 @@ pieces x = cond x (five ∷ []) []
 abbrev pair : Ledger Bool
 pair =
     record {
-      text = text;
+      txn = text;
       ts = λ x. cond x 129 65;
       result = λ x. effect accounts (gathered (pieces x)) (text x);
       saw = λ x f y. x && not y;

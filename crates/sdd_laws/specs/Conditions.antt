@@ -7,7 +7,7 @@ use Rattle.sdd_protocol.specs.Protocols.{IsTable}
 use Rattle.sdd_protocol.specs.declared.entry.Entry.{Entry}
 use Rattle.sdd_order.specs.Attempts.{Attempt, Committed, IsAttempt, IsCommitted, p2_time}
 use Rattle.sdd_order.specs.Places.{event_at}
-use Rattle.sdd_laws.specs.Deeds.{IsAnswered, AppliedBefore, TouchesOne}
+use Rattle.sdd_laws.specs.Deeds.{AppliedBefore, IsAnswered, TouchesOne}
 use Rattle.sdd_laws.specs.Eras.{Eras, catalogue_at}
 
 -- the conditions of an attempt at module d, by a protocol table

@@ -7,7 +7,7 @@ use Rattle.sdd_laws.specs.Committed.{Writers, copy_of, entries_of}
 
 -- Of transactions of any type:
 pub record Ledger (T : Type 0) : Type 0 where
-  pub text : T → Txn
+  pub txn : T → Txn
   -- the timestamp of the attempt that was committed
   pub ts : T → ℕ
   -- the reply and the changes of its Commit
@@ -23,7 +23,7 @@ writers L = record { ts = L.ts; changes = changes L }
 
 -- a transaction reads a fragment
 abbrev pub Reads : {T : Type 0} → Catalogue → Ledger T → T → ℕ → Type 0
-Reads cat L x f = Contains (read_set cat (L.text x)) f
+Reads cat L x f = Contains (read_set cat (L.txn x)) f
 
 -- the copy of a fragment as a transaction reads it: of those that it saw there
 abbrev pub snapshot : {T : Type 0} → Catalogue → Database → Ledger T → List T → T → ℕ → Database

@@ -14,8 +14,8 @@ pub record ArePieces {T : Type 0} (cat : Catalogue) (first : Database) (L : Ledg
 
 -- Every module began with the rows of the database `first`.
 pub record AreRecorded {T : Type 0} (cat : Catalogue) (first : Database) (L : Ledger T) (commits : List T) : Type 0 where
-  pub fits : (x : T) → Contains commits x → FitsTxn cat (L.text x)
-  pub puts_held : (x : T) → Contains commits x → All PutsHeld (L.text x).statements
+  pub fits : (x : T) → Contains commits x → FitsTxn cat (L.txn x)
+  pub puts_held : (x : T) → Contains commits x → All PutsHeld (L.txn x).statements
   -- timestamps are above 0, and two with one timestamp are one
   pub time : (x : T) → Contains commits x → 1 ≤ L.ts x
   pub one_time : (x y : T) → Contains commits x → Contains commits y → L.ts x ≡ L.ts y → L.result x ≡ L.result y
@@ -27,4 +27,4 @@ pub record AreRecorded {T : Type 0} (cat : Catalogue) (first : Database) (L : Le
   -- the reply and the changes of each Commit are the effect on the database of its snapshots
   pub pieces : T → List (Item × Row)
   pub are_pieces : ArePieces cat first L commits pieces
-  pub effect_is : (x : T) → Contains commits x → effect cat (gathered (pieces x)) (L.text x) ≡ L.result x
+  pub effect_is : (x : T) → Contains commits x → effect cat (gathered (pieces x)) (L.txn x) ≡ L.result x

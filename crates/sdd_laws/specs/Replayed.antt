@@ -8,7 +8,7 @@ use Rattle.sdd_laws.specs.Ledger.{Ledger, changes, writers}
 -- run on this database, each has the reply and the changes of its Commit
 abbrev pub GivesResults : {T : Type 0} → Catalogue → Ledger T → Database → List T → Type 0
 GivesResults cat L db [] = Unit {0}
-GivesResults cat L db (x ∷ rest) = (effect cat db (L.text x) ≡ L.result x) × GivesResults cat L (after_changes cat db (changes L x)) rest
+GivesResults cat L db (x ∷ rest) = (effect cat db (L.txn x) ≡ L.result x) × GivesResults cat L (after_changes cat db (changes L x)) rest
 
 -- a database in which each item has its value by the first rows and the changes of these transactions
 pub record HasValues {T : Type 0} (cat : Catalogue) (first : Database) (L : Ledger T) (txns : List T) (db : Database) : Type 0 where
@@ -17,7 +17,7 @@ pub record HasValues {T : Type 0} (cat : Catalogue) (first : Database) (L : Ledg
 
 -- the serial run of transactions, on a database that begins with the first rows
 abbrev pub run : {T : Type 0} → Catalogue → Database → Ledger T → List T → List Reply × Database
-run cat first L order = serial cat first (map L.text order)
+run cat first L order = serial cat first (map L.txn order)
 
 -- the transaction changes the fragment
 abbrev pub ChangesOf : {T : Type 0} → Ledger T → T → ℕ → Type 0

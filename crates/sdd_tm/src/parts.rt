@@ -1,6 +1,6 @@
 ghost use Rattle.std.specs.Prelude.{◌≡◌, ◌≤◌, ◌<◌, ◌+◌, ◌/◌, ◌^◌, ℕ, map, length, slice_get, ◌==◌, IfOk, IfSome, OnOk, Some, None};
 ghost use Rattle.std.specs.List.{list_all};
-ghost use Rattle.sdd_attempt.specs.All.{AreTried, Bases, IsAwaited, IsDatabase, FitsTxn, Log, ServesAt, Setting, bound_of, class_for, with_due_act, nothing_noted, pushed, standing_among, ticked};
+ghost use Rattle.sdd_attempt.specs.All.{AreTried, Bases, FitsTxn, IsAwaited, IsDatabase, Log, ServesAt, Setting, bound_of, class_for, nothing_noted, pushed, standing_among, ticked, with_due_act};
 ghost use Rattle.sdd_tm.specs.Fits.{fits, FitsSubmit};
 ghost use Rattle.sdd_tm.specs.Handing.{push_of, with_hold_message, class_handed, state_handed, state_given, class_named, place_of, one_place, all_places, touched};
 ghost use Rattle.sdd_tm.specs.State.{ClassState};

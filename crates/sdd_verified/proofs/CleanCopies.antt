@@ -89,7 +89,7 @@ module _ (P : Value → Type 0) (ints : (n : ℤ) → in_range n ≡ true → P 
     text_by n None e = tt
     text_by n (Some t) e = writes n t e
 
-    text_writes : (t : Committed) → WritesAll P ints ((ledger g.catalogue g.txns (history log)).text t)
+    text_writes : (t : Committed) → WritesAll P ints ((ledger g.catalogue g.txns (history log)).txn t)
     text_writes t = text_by t.start.txn (txn_at g.txns t.start.txn) refl
 
     whole : IsReplayed g.catalogue (database_of g.catalogue rows) (ledger g.catalogue g.txns (history log)) (committed (history log))

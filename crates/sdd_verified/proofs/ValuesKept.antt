@@ -235,8 +235,8 @@ module _ (P : Value → Type 0) (ints : (n : ℤ) → in_range n ≡ true → P 
       (e.reply, serial_answers cat (after_changes cat db (effect cat db txn).changes) txns (after_holds cat db (effect cat db txn).changes h e.changes) w.1)
 
   pub given_changes : {T : Type 0} (cat : Catalogue) (L : Ledger T) (db : Database) (order : List T) → Stored db
-      → ((x : T) → WritesAll (L.text x)) → GivesResults cat L db order → AllByRecursion (λ (x : T). Changes (changes L x)) order
+      → ((x : T) → WritesAll (L.txn x)) → GivesResults cat L db order → AllByRecursion (λ (x : T). Changes (changes L x)) order
   given_changes cat L db [] h w g = tt
   given_changes cat L db (x ∷ order) h w g =
-      let e : Changes (changes L x) = subst (λ (z : Effect). Changes z.changes) g.0 (effect_keeps cat db (L.text x) h (w x)).changes in
+      let e : Changes (changes L x) = subst (λ (z : Effect). Changes z.changes) g.0 (effect_keeps cat db (L.txn x) h (w x)).changes in
       (e, given_changes cat L (after_changes cat db (changes L x)) order (after_holds cat db (changes L x) h e) w g.1)

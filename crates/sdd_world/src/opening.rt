@@ -20,7 +20,7 @@ pub(crate) fn open(alloc: Global, given: Delivered<Spelling>) -> Result<Delivere
     }
 }
 
-#[tactic(auto, using(crate::proofs::Opened::opened_more, crate::proofs::Opened::fit_more, crate::proofs::Opened::spelling_at))]
+#[tactic(auto, using(crate::proofs::ReadMessages::opened_more, crate::proofs::ReadMessages::fit_more, crate::proofs::ReadMessages::spelling_at))]
 fn open_all(alloc: Global, spellings: Parcels<Spelling>) -> Result<Parcels<Msg>, NoMemory>
     requires { AllByRecursion IsSpelling spellings }
     ensures spelled { IfOk result (λ messages. spellings ≡ map spelled messages) }
