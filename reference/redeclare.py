@@ -1,4 +1,4 @@
-"""Lists of classes: which catalogue is in force when.
+"""Class lists: which catalogue is in force when.
 
 With each list the classes before it retire: they keep their numbers and names, and read and write nothing. Definition:
 crates/sdd_catalog/specs/Eras.antt; docs/FORMATS.md, `redeclare`.

@@ -1,4 +1,4 @@
-"""The workload: initial rows, transactions, lists of classes, and events, in this order.
+"""The workload: initial rows, transactions, class lists, and events, in this order.
 
 The first line at fault is told, with the first rule that it breaks. Definition: docs/FORMATS.md, "The workload";
 crates/sdd_script/specs/LineRules.antt, ClassLists.antt, Occurrences.antt, Redeclaring.antt, Walk.antt.
@@ -55,7 +55,7 @@ class Event(NamedTuple):
 class Workload(NamedTuple):
     rows: list          # pairs of a relation's name and a row
     txns: list
-    lists: list         # lists of classes
+    lists: list         # class lists
     events: list
 
     def submitted(self):
@@ -134,7 +134,7 @@ class Reader:
             self.lists.append(self.classes)
             self.place = "declared"
 
-    # Lists of classes.
+    # Class lists.
 
     def list(self, words):
         must("BadLine", not words)

@@ -101,7 +101,7 @@ class World:
         return True
 
     def redeclare(self):
-        """The next list of classes is in force, at the greatest bound of the clocks."""
+        """The next class list is in force, at the greatest bound of the clocks."""
         self.eras = self.eras[1:]
         modules = {site: module for site, module in self.sites.items() if site.kind == "T"}
         time = max(module.clock.bound() for module in modules.values())

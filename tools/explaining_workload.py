@@ -104,12 +104,12 @@ def state_of(before):
     state = "rows"
     for line in before:
         word = line.split(" ")[0]
-        if line == "end" and state not in ("transaction", "list of classes"):
+        if line == "end" and state not in ("transaction", "class list"):
             return "end"
-        if state in ("transaction", "list of classes"):
+        if state in ("transaction", "class list"):
             state = "definitions" if line == "done" else state
         elif word in ("txn", "list"):
-            state = "transaction" if word == "txn" else "list of classes"
+            state = "transaction" if word == "txn" else "class list"
         elif word in EVENTS:
             state = "events"
     return state
@@ -119,15 +119,15 @@ def bad_place(word, before):
     state = state_of(before)
     if state == "transaction" and word in FORMS and word not in STATEMENTS | {"done"}:
         yield "the transaction before isn't closed by `done`"
-    elif state == "list of classes" and word in FORMS and word not in {"class", "reads", "writes", "done"}:
-        yield "the list of classes before isn't closed by `done`"
+    elif state == "class list" and word in FORMS and word not in {"class", "reads", "writes", "done"}:
+        yield "the class list before isn't closed by `done`"
     elif state != "transaction" and word in STATEMENTS:
         yield "a statement stands inside a transaction, between `txn NAME Tn` and `done`"
     elif word == "row" and state != "rows":
         yield "all rows come before the first transaction"
     elif word in ("txn", "list") and state == "events":
         yield "transactions and lists come before the first event"
-    elif word == "done" and state not in ("transaction", "list of classes"):
+    elif word == "done" and state not in ("transaction", "class list"):
         yield "no transaction or list is open here"
 
 

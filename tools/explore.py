@@ -76,7 +76,7 @@ class Explorer:
         self.links = list_links(self.catalogue, self.load, self.has_undeclared(workload))
 
     def has_undeclared(self, workload):
-        """Whether the site of transactions that no class covers may have work; with further lists of classes it may."""
+        """Whether the site of transactions that no class covers may have work; with further class lists it may."""
         if "list" in self.load.head:
             return True
         transactions = read_workload(workload, self.catalogue)[1]

@@ -1,5 +1,5 @@
 """What a schedule does besides submitting and delivering: what it loses and repeats, which modules are down, and
-which list of classes it puts in force.
+which class list it puts in force.
 
     marks = marks_of(first, lines)      # of the text of a run's events (docs/INSIDE.md)
 
@@ -92,7 +92,7 @@ def add_marks(picture, marks):
 
 
 def list_lines(picture, top, bottom):
-    """A line through all lanes where a list of classes is put in force."""
+    """A line through all lanes where a class list is put in force."""
     shapes = []
     for mark in picture.marks:
         if mark.kind == "redeclare" and picture.columns.has(mark.event):

@@ -7,7 +7,7 @@ With --keep, a line of what `run` prints has to contain TEXT: of the report, or 
 Take no number of an event into TEXT, since these change. With --command, COMMAND is called with the paths of
 a catalogue and a workload after its words, and says yes by its status 0.
 
-Events, transactions, rows, lists of classes, statements and conditions are left out as long as the line
+Events, transactions, rows, class lists, statements and conditions are left out as long as the line
 stays; then classes, what they read and write, copies, relations and modules of the catalogue. What is left is
 the least in this sense: the line goes with each single one of these. FOLDER gets the files `catalogue.toml`
 and `workload`. The program is called some hundred times, so it has to be a built one.

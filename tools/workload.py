@@ -160,7 +160,7 @@ def with_lists(catalogue, path):
         elif in_list and mine is not None and words[0] == "writes" and len(words) == 2:
             mine = made[mine.name] = mine._replace(writes=mine.writes + (words[1],))
         elif in_list:
-            raise BadInput("%s: line %d: no line of a list of classes" % (path, number))
+            raise BadInput("%s: line %d: no line of a class list" % (path, number))
     return catalogue._replace(classes=made)
 
 

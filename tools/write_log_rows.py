@@ -8,7 +8,7 @@ The first form writes the workloads of log_rows.py, each with the equation that 
 reference's history, number of entries and number of events, and is complete; `rt check` in crates/sdd_log_examples
 computes them. With --check nothing is written: it ends with 1 where a file of FOLDER would be another.
 With --random the logs of COUNT random workloads from the seed FIRST on, with losses, repetitions, undeclared
-transactions, reducers, further lists of classes and modules that are down, are written to one FILE, which is
+transactions, reducers, further class lists and modules that are down, are written to one FILE, which is
 for a check by hand and stays out of the repository; logs of more than N entries (220 where it isn't given)
 are left out.
 """

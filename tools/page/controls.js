@@ -18,7 +18,7 @@ Object.assign(Play.prototype, {
     add("submit", "submit", () => this.event("submit " + choice.value), "gives the transaction to its module", !names.length);
     add("compose", "new transaction", () => this.compose(), "a transaction of your own");
     add("settle", "settle", () => this.event("settle"), "delivers everything until nothing is in flight (s)");
-    if (this.listsLeft()) add("redeclare", "redeclare", () => this.event("redeclare"), "puts the next list of classes in force");
+    if (this.listsLeft()) add("redeclare", "redeclare", () => this.event("redeclare"), "puts the next class list in force");
     add("undo", "undo", () => this.change({do: "undo"}), "takes the last change back (u)", !this.canUndo);
     add("redo", "redo", () => this.change({do: "redo"}), "(y)", !this.canRedo);
     add("anew", "begin anew", () => this.change({do: "back", keep: 0, spelled: []}), "takes all events away; undo brings them back", !this.view.run.count);

@@ -101,7 +101,7 @@ class Run {
 
   copiesAt(site) { return [...this.copies.values()].filter(copy => copy.at === site); }
 
-  // The classes that a transaction module runs while this list of classes is in force.
+  // The classes that a transaction module runs while this class list is in force.
   classesOf(site, list) { return this.classes.filter(c => this.home.get(c) === site && this.lists.get(c) === list); }
 
   // The state at an event: from the nearest keyframe, which are made when they are passed for the first time.

@@ -21,7 +21,7 @@ function sayEvent(view, line, say) {
   if (verb === "tick") say("", `The clock of ${from} goes on by ${to}.`);
   if (verb === "down") say("bad", `${from} goes down. Messages for it are kept, and none gets lost.`);
   if (verb === "up") say("strong", `${from} comes up, and is handed what was kept for it.`);
-  if (verb === "redeclare") say("strong", "The next list of classes is in force.");
+  if (verb === "redeclare") say("strong", "The next class list is in force.");
 }
 
 function takenPacket(run, line) {

@@ -21,7 +21,7 @@ pub enum Event {
     Tick { tm: TmNo, n: u32 },
     /// Rounds are carried out until the world is quiet.
     Settle,
-    /// Rounds are carried out until the world is quiet, and then the next list of classes is in force.
+    /// Rounds are carried out until the world is quiet, and then the next class list is in force.
     Redeclare,
     /// A data module goes down: its messages are kept for it.
     Down(DmNo),

@@ -1,4 +1,4 @@
-//! Further lists of classes: a catalogue that is extended by classes, and one whose classes retire.
+//! Further class lists: a catalogue that is extended by classes, and one whose classes retire.
 //!
 //! What the layer above gets: `extend` adds classes after those that are there, or gives the first
 //! fault of these; `retire` empties the first so many classes, whose numbers and names stay. With both

@@ -1,4 +1,4 @@
--- A test that tells that what one list of classes submits is done before the next is in force.
+-- A test that tells that what one class list submits is done before the next is in force.
 use Rattle.sdd_history_examples.proofs.All.{Attempt, Bool, Catalogue, Change, Committed, Contains, DmNo, Eras, GoesTo, History, IsAttempt, IsCommitted, IsOfEarlierEra, KeepsEras, and_from, and_parts, ap, applied_before, attempts, by_change, by_no_class, committed, eq-eqb, eqb-true, eras_begun, event_at, fragment_at, has_copy, in_attempts, is_applied, list_all, lt-ltb, ltb-true, member_passes, nat_lt, numbers_to, refl, subst, true, ℕ, ◌&&◌, ◌<◌, ◌==◌, ◌∙◌, ◌≡◌}
 use Rattle.sdd_history_examples.proofs.Each.{if_so, so, each, all_pairs, each_pair, each_to}
 use Rattle.sdd_history_examples.proofs.Listed.{submits, in_submits}

@@ -1,4 +1,4 @@
--- A put, and then a query under a further list of classes.
+-- A put, and then a query under a further class list.
 use Rattle.sdd_history_examples.proofs.All.{AreEras, Catalogue, HasSets, IsEraOf, KeepsAll, Le, Some, [], arith, both_classes, class_at, cond, further_classes, given_to, inl, inr, lit<, lit≤, nat_lt, one_class, put_row, put_then_query, redeclares, refl, same_Some, slice_get, subst, suc, table_of_one, table_of_two, two_eras, values_by, zero, ℕ, ◌<◌, ◌∷◌, ◌≡◌, ◌≤◌}
 use Rattle.sdd_history_examples.proofs.Answers.{PassAnswers}
 use Rattle.sdd_history_examples.proofs.Applies.{PassApplies}
@@ -9,7 +9,7 @@ use Rattle.sdd_history_examples.proofs.Starts.{PassStarts}
 use Rattle.sdd_history_examples.proofs.Texts.{put_fits, values_fit, one_fits}
 use Rattle.sdd_history_examples.proofs.WorkedTables.{is_one_class, is_further_classes}
 
--- the lists of classes are those of one catalogue
+-- the class lists are those of one catalogue
 
 first_home : (c : ℕ) → 1 ≤ c → c ≤ 1 → (class_at one_class c).tm ≡ (class_at both_classes c).tm
 first_home (suc zero) from to = refl

@@ -2,7 +2,7 @@
 use Rattle.sdd_history_examples.proofs.All.{All-from_recursion, AreSound, Catalogue, IsSoundCatalogue, both_classes, bridge, crossing, further_classes, one_class, one_era, one_reader, one_writer, refl, two_eras, ℕ}
 use Rattle.sdd_laws.specs.catalog.Rules.{faults_of}
 
--- one list of classes
+-- one class list
 one_sound : (cat : Catalogue) → IsSoundCatalogue cat → AreSound cat (one_era cat)
 one_sound cat s = record { whole = s; each = All-from_recursion (λ (e : ℕ × Catalogue). IsSoundCatalogue e.1) (one_era cat) (s, tt) }
 

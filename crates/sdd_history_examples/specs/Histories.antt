@@ -44,7 +44,7 @@ runs_alone =
     ∷ (34, Apply (txn_no 3) (class_no 1) (dm_no 1) (time_at 193))
     ∷ []
 
--- A put, and then a further list of classes, in which the class of the put is retired: a query of the new class starts when
+-- A put, and then a further class list, in which the class of the put is retired: a query of the new class starts when
 -- the put is applied.
 
 abbrev pub redeclares : History

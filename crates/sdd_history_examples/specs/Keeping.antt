@@ -3,7 +3,7 @@ use Rattle.std.specs.Prelude.{List}
 use Rattle.std.specs.List.{All}
 use Rattle.sdd_laws.specs.All.{Catalogue, Eras, FitTogether, HasNoCycle, History, IsSoundCatalogue, KeepsAnswers, KeepsApplies, KeepsConditions, KeepsEras, KeepsLaws, KeepsRejections, KeepsStarts, KeepsUndeclared, RelNo, Row, Txn}
 
--- the catalogue, and that of each list of classes, is valid
+-- the catalogue, and that of each class list, is valid
 pub record AreSound (cat : Catalogue) (eras : Eras) : Type 0 where
   pub whole : IsSoundCatalogue cat
   pub each : All (λ e. IsSoundCatalogue e.1) eras

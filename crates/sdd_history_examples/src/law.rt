@@ -46,7 +46,7 @@ pub fn law_runs_alone()
     ensures order { serial_order one_writer runs_alone ≡ txn_no 1 ∷ txn_no 2 ∷ txn_no 3 ∷ [] }
 {}
 
-/// Keeps the laws: a further list of classes is in force when what was submitted before is done.
+/// Keeps the laws: a further class list is in force when what was submitted before is done.
 /// Takes no memory.
 pub fn law_redeclares()
     ensures keeps { KeepsAll both_classes two_eras [] put_then_query redeclares }

@@ -2,7 +2,7 @@
 //! alone.
 //!
 //! The one contract to the layer above: the laws can be kept, also where transactions wait, start
-//! again, follow one another in a class, run undeclared or under a further list of classes; and without
+//! again, follow one another in a class, run undeclared or under a further class list; and without
 //! read conditions there need not be a serial order. No program has to call these functions.
 #![tactic(auto)]
 

@@ -68,7 +68,7 @@ maker g at log (Does by act) x h =
     subst (λ y. IsMakerOf at y g (Does by act)) r.1 (ap (λ s. Does s act) (sym (site_is at by r.0)))
 maker g at log _ x h = cc
 
--- the place of an entry; the list of classes with which a transaction module begins has none
+-- the place of an entry; the class list with which a transaction module begins has none
 
 abbrev is_redeclared : site.Entry → Bool
 is_redeclared (Redeclared era t) = true

@@ -1,4 +1,4 @@
--- The class of a transaction: that of the list of classes in force when it was given, at the site that runs the class.
+-- The class of a transaction: that of the class list in force when it was given, at the site that runs the class.
 use Rattle.sdd_lawful.proofs.All.{Did, Does, Entry, Era, Hand, Handed, Input, IsPermitted, Log, Mark, None, Option, Redeclares, Setting, Site, Some, Submits, Submitted, T, Tick, Ticked, TmNo, Txn, U, [], ap, append_assoc, class_at, class_for, current_era, eqb-true, given_to, home, if_way, if◌then◌else◌, inl, inr, is_for, local_at, local_of, nth_era, only_right, redeclares, refl, same_or_not, same_site, setting_of, site_self, subst, sym, tm_no, true, txn_at, with_submit, ℕ, ◌++◌, ◌==◌, ◌∙◌, ◌∷◌, ◌≡◌}
 use Rattle.sdd_lawful.proofs.Submissions.{given_at, same_submission}
 use Rattle.sdd_invariants.specs.logs.Due.{home_of}

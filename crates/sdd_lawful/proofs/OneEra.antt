@@ -1,4 +1,4 @@
--- A log in which no further list of classes was put in force has one era.
+-- A log in which no further class list was put in force has one era.
 use Rattle.sdd_lawful.proofs.All.{AreEras, AreErasOf, Catalogue, Committed, History, Input, IsEra, IsEraOf, IsOfEarlierEra, KeepsEras, Log, Redeclares, Some, [], ap, arith, cond, era_of_itself, eras_begun, event_at, false, inl, inr, length, marks, nat_le, nat_tests, nth_era, one_era, redeclares, refl, slice_get, slice_index_or, subst, suc, sym, true, true_or_false, zero, ℕ, ◌++◌, ◌-◌, ◌∙◌, ◌∷◌, ◌≡◌}
 use Rattle.sdd_laws.specs.All.{catalogue_at}
 

@@ -17,7 +17,7 @@ pub record HasSoundData (g : Input) (rows : List (RelNo × Row)) : Type 0 where
   pub rows_held : All (λ r. All IsHeld r.1) rows
   pub alike : (d : ℕ) → IsModule g.catalogue d → rows_of g (D (dm_no d)) ≡ rows
 
--- these are the eras of the log: at each of its events the catalogue of the list of classes that was put in force last,
+-- these are the eras of the log: at each of its events the catalogue of the class list that was put in force last,
 -- which has its protocol table
 pub record AreErasOf (g : Input) (log : Log) (eras : Eras) : Type 0 where
   pub are_eras : AreEras g.catalogue eras
@@ -25,7 +25,7 @@ pub record AreErasOf (g : Input) (log : Log) (eras : Eras) : Type 0 where
       → catalogue_at g.catalogue eras (marks before) ≡ (nth_era g (redeclares before)).catalogue
   pub tabled : (later before : Log) → log ≡ later ++ before → IsEra (nth_era g (redeclares before))
 
--- the eras of a log in which no further list of classes is put in force: the one of the catalogue
+-- the eras of a log in which no further class list is put in force: the one of the catalogue
 abbrev pub one_era : Catalogue → Eras
 one_era cat = (0, cat) ∷ []
 

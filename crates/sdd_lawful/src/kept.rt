@@ -38,7 +38,7 @@ pub fn law_ordered()
         → IsOrderable given.catalogue (history log) }
 {}
 
-/// The same where no further list of classes is put in force: then nothing is assumed of eras.
+/// The same where no further class list is put in force: then nothing is assumed of eras.
 pub fn law_one_list()
     ensures acyclic { (given : Input) (rows : List (RelNo × Row)) (log : Log)
         → IsSoundInput given → HasSoundData given rows → IsPermitted given log
@@ -52,7 +52,7 @@ pub fn law_one_list()
         → IsOrderable given.catalogue (history log) }
 {}
 
-/// Of a lawful log whose events submit each transaction once, where no further list of classes is
+/// Of a lawful log whose events submit each transaction once, where no further class list is
 /// put in force: its history keeps all laws, and has a serial order.
 pub fn law_lawful()
     ensures laws { (given : Input) (rows : List (RelNo × Row)) (log : Log)

@@ -56,7 +56,7 @@ pub fn law_undeclared()
         → AreErasOf given log eras → KeepsUndeclared given.catalogue (history log) }
 {}
 
-/// Where no further list of classes is put in force there is one era, that of the catalogue, and the
+/// Where no further class list is put in force there is one era, that of the catalogue, and the
 /// history keeps the law of eras.
 pub fn law_one_era()
     ensures eras { (given : Input) (log : Log) → IsEra (nth_era given 0)

@@ -1,4 +1,4 @@
--- The fragments that a list of classes names, among the parts of the catalogue.
+-- The fragments that a class list names, among the parts of the catalogue.
 use Rattle.sdd_lists.proofs.All.{Bool, Catalogue, Fragment, FragmentPart, IsFragment, List, Option, Some, Text, [], any_of_find, ap, arith, bytes_eq, bytes_eq-Decides, cond, contains, copies_in, copies_of, differ_again, false, find, fragment_at, fragment_named, fragment_names, fragment_part, get_or_default, has_copy, has_name, has_name_of_items, is_kept_at, kept_at, length, list_any-map, map, option_map, parts_of, pos, range_with_len, refl, rel_no, slice_index_or, slice_index_or as get_or, some_there, suc, sym, true, ℕ, ◌+◌, ◌<◌, ◌==◌, ◌∙◌, ◌∷◌, ◌≡◌}
 
 -- what is found by numbers is found among the members with these numbers

@@ -1,4 +1,4 @@
--- Catalogues that differ from a given one in their classes alone, with lists of classes that may still be added.
+-- Catalogues that differ from a given one in their classes alone, with class lists that may still be added.
 use Rattle.sdd_lists.proofs.All.{AllByRecursion, AreValidLists, Bool, Catalogue, Class, ClassPart, FitsTxn, Fragment, IsValidClass, List, MAX_CLASSES, Text, Txn, [], all_before, ap, append_assoc, arith, bytes_eq, class_of, class_part, drop, emptied, eras, false, further_faults, has_name, if_false, joined, length, length-append, length-map, list_any, map, map-append, map-map, or_false, part_names, parts_of, recursion_from_All, refl, repeats, slice_index_or, subst, suc, sym, take, take-append-drop, whole, zero, ℕ, ◌++◌, ◌+◌, ◌∙◌, ◌∷◌, ◌≡◌, ◌≤◌}
 use Rattle.sdd_lists.proofs.Rules.{classes_fine}
 
@@ -9,7 +9,7 @@ over cat classes = record cat { classes = classes }
 abbrev names_of : List Class → List Text
 names_of classes = map (λ (c : Class). c.name) classes
 
--- lists of classes that may be added to these, one after the other
+-- class lists that may be added to these, one after the other
 pub record MayFollow (cat : Catalogue) (own : List Class) (lists : List (List ClassPart)) : Type 0 where
   pub classes : AllByRecursion (IsValidClass cat) (joined lists)
   pub names : repeats (names_of own ++ part_names (joined lists)) ≡ false

@@ -3,7 +3,7 @@ use Rattle.std.specs.Prelude.{List, map}
 use Rattle.sdd_script.specs.All.{Catalogue, Class, ClassPart, Fragment, class_of, eras, whole}
 use Rattle.sdd_script.specs.declared.workload.Workload.{Workload}
 
--- lists of classes, with the numbers of a catalogue's fragments in place of their names
+-- class lists, with the numbers of a catalogue's fragments in place of their names
 abbrev pub numbered : Catalogue → List (List ClassPart) → List (List Class)
 numbered cat lists = map (map (class_of (map (λ (f : Fragment). f.name) cat.fragments))) lists
 

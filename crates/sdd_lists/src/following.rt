@@ -1,4 +1,4 @@
-//! The catalogues that follow each other with each list of classes.
+//! The catalogues that follow each other with each class list.
 ghost use Rattle.std.specs.Prelude.{◌≡◌, [], length, IfOk};
 ghost use Rattle.sdd_script.specs.All.{AreValidLists, eras, retired, whole};
 ghost use Rattle.sdd_eras.specs.Further.{further_faults, with_further};

@@ -1,4 +1,4 @@
-//! The catalogues of a workload that declares lists of classes.
+//! The catalogues of a workload that declares class lists.
 //!
 //! What the layer above gets: `lists_of` makes the catalogues that are in force one after the other,
 //! and the one with the classes of all lists, as `specs/InForce.antt` says. Lists of a workload

@@ -50,7 +50,7 @@ allowed_act g log e (by_site at act d) = d
 allowed_act g log e (by_link a b n m p q r f) = tt
 
 -- What is to be shown of a statement on the log of a site and the entry after it: that it holds of each message that may
--- be handed to the site, of each tick, of each transaction that may be given to it, of each list of classes, and of
+-- be handed to the site, of each tick, of each transaction that may be given to it, of each class list, and of
 -- each act that is due, where it holds of all entries before.
 pub record HoldsOfEach (g : Input) (at : Site) (P : site.Log → site.Entry → Type 0) : Type 0 where
   pub handed : (log : Log) → IsPermitted g log → (from : Site) (n : ℕ) (m : Msg) → IsAllowed g log (Hand from at n m) → Each P (local_of g at log) → P (local_of g at log) (Handed from m)

@@ -101,7 +101,7 @@ pub handed_still : (log : Log) (e : Event) → TurnsNone e → ((a b : Site) →
     → AllHanded log → AllHanded (Mark e ∷ log)
 handed_still log e t same h a b part = h a b (sym (part_marked b e log t) ∙ part) ∙ sym (same a b)
 
--- a list of classes is put in force
+-- a class list is put in force
 
 pub no_redeclare : (g : Input) (x : Site) (bases : Bases) (era : Era) (t : ℕ) (l : site.Log)
     → next_in g x bases l ≡ None → next_in g x bases (with_era x era t l) ≡ None

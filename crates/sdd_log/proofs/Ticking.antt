@@ -1,4 +1,4 @@
--- A tick of a clock makes nothing due at its site, nor does another list of classes.
+-- A tick of a clock makes nothing due at its site, nor does another class list.
 use Rattle.sdd_log.proofs.All.{Attempt, Bases, Bool, Catalogue, Era, Held, List, None, Option, Queued, Redeclared, Sends, Setting, Some, Ticked, Ticking, U, [], ap, bound_of, false, first_some, head_of, if◌then◌else◌, list_all, nat_lt, not, or_else, or_none, pushed, refl, ticked, time_at, true, view_step, ℕ, ◌&&◌, ◌==◌, ◌∙◌, ◌∷◌, ◌≡◌}
 use Rattle.sdd_attempt.specs.site_module.SiteLog as site
 use Rattle.sdd_tm.specs.Due as tm
@@ -19,7 +19,7 @@ none_if : {A : Type 0} (b : Bool) (x y : Option A) → (x ≡ None → y ≡ Non
 none_if true x y h e = h e
 none_if false x y h e = refl
 
--- of a view whose clock and list of classes alone are other ones
+-- of a view whose clock and class list alone are other ones
 abbrev with_both : views.View → Ticking → Era → views.View
 with_both v k f = record v { clock = k; era = f }
 

@@ -4,7 +4,7 @@ use Rattle.sdd_attempt.specs.All.{Act, Catalogue, Era, Event, History, Msg, Noth
 use Rattle.sdd_attempt.specs.history.declared.record.Rec.TheVariants.{Submit as Submission}
 
 -- An entry. `Mark` is an event of the schedule or of a round; `Round` begins a round of these events; `Redeclares` puts
--- the next list of classes in force at a time. `Hand a b n m` hands message n of the link from a to b over;
+-- the next class list in force at a time. `Hand a b n m` hands message n of the link from a to b over;
 -- `Submitted at n` gives transaction n to the module of a site; `Notes` says that an event found nothing to do; `Does`
 -- is what a site does by itself.
 pub data Entry : Type 0 where
@@ -31,7 +31,7 @@ pub record Input : Type 0 where
 abbrev pub with_event : Input → Event → Input
 with_event g e = record g { events = g.events ++ e ∷ [] }
 
--- how many events there were: each mark, and each list of classes that is put in force
+-- how many events there were: each mark, and each class list that is put in force
 abbrev pub marks : Log → ℕ
 marks [] = 0
 marks (Mark e ∷ log) = suc (marks log)

@@ -4,11 +4,11 @@ use Rattle.sdd_attempt.specs.All.{D, Did, Era, Event, Handed, IsTable, Redeclare
 use Rattle.sdd_attempt.specs.site_module.SiteLog as site
 use Rattle.sdd_log.specs.Entries.{Input, Log, Mark, Redeclares, Hand, Submitted, Does}
 
--- a list of classes is in force with the protocol table of its catalogue
+-- a class list is in force with the protocol table of its catalogue
 pub record IsEra (f : Era) : Type 0 where
   pub table : IsTable f.catalogue f.table
 
--- how often a further list of classes was put in force
+-- how often a further class list was put in force
 abbrev pub redeclares : Log → ℕ
 redeclares [] = 0
 redeclares (Redeclares t ∷ log) = suc (redeclares log)

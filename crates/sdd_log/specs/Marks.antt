@@ -29,7 +29,7 @@ left events (_ ∷ log) = left events log
 abbrev pub bound_at : Input → Log → ℕ → ℕ
 bound_at g log t = bound_of (clock (T (tm_no t)) (local_of g (T (tm_no t)) log))
 
--- the greatest bound of the clocks of the transaction modules: a list of classes is put in force at this time
+-- the greatest bound of the clocks of the transaction modules: a class list is put in force at this time
 abbrev pub greatest_bound : Input → Log → ℕ
 greatest_bound g log = fold max 0 (map (bound_at g log) (numbers_to g.catalogue.tms))
 

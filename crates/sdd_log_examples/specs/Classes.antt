@@ -5,7 +5,7 @@ use Rattle.sdd_graph.specs.declared.edge.Edge.TheVariants.{Vertical}
 use Rattle.sdd_log.specs.history.declared.record.Rec.TheVariants.{Submit as Submission}
 use Rattle.sdd_log.specs.catalog.declared.parts.Kind.TheVariants as kinds
 
--- a further list of classes is put in force
+-- a further class list is put in force
 
 abbrev pub catalogue_of_further_classes : Catalogue
 catalogue_of_further_classes = record {

@@ -1,4 +1,4 @@
--- The catalogues in force of the workload with a further list of classes: each list retires those before it, and the
+-- The catalogues in force of the workload with a further class list: each list retires those before it, and the
 -- catalogue of the whole workload has the classes of all lists.
 use Rattle.std.specs.Prelude.{◌≡◌, [], ◌∷◌, map, refl}
 use Rattle.sdd_log.specs.All.{Class, dm_no, eras, frag_no, tm_no, whole}

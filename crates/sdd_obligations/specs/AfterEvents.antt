@@ -1,8 +1,8 @@
--- What is so after events of a schedule: how many lists of classes they put in force, and which modules are down.
+-- What is so after events of a schedule: how many class lists they put in force, and which modules are down.
 use Rattle.std.specs.Prelude.{ℕ, suc, Bool, List, [], ◌∷◌, false}
 use Rattle.sdd_invariants.specs.All.{Event, Redeclare, turned_by}
 
--- how many further lists of classes the events put in force
+-- how many further class lists the events put in force
 abbrev pub redeclares_in : List Event → ℕ
 redeclares_in [] = 0
 redeclares_in (Redeclare ∷ events) = suc (redeclares_in events)

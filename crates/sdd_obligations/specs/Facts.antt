@@ -3,7 +3,7 @@ use Rattle.std.specs.Prelude.{ℕ, suc, ◌∷◌, ◌≡◌, Some}
 use Rattle.sdd_invariants.specs.All.{Act, AllLinked, Does, Hand, Input, IsLawful, IsSiteOf, IsWithin, Log, Mark, Msg, Redeclares, Site, Submitted, T, Tick, Txn, base_of, local_of, next, nth_era, redeclares, sends_of_act, setting_of, tm_no, txn_at}
 use Rattle.sdd_obligations.specs.Real.{FitsEra, IsGood, fits, fits_submit, fits_tick}
 
--- Of all that is given so: what the modules require of messages, transactions, ticks and further lists of classes holds of what is next on its lawful
+-- Of all that is given so: what the modules require of messages, transactions, ticks and further class lists holds of what is next on its lawful
 -- logs, and what is put goes along links.
 pub record Facts : Type 0 where
   pub hand : (g : Input) → IsGood g → (log : Log) (a b : Site) (n : ℕ) (m : Msg) → IsLawful g log → IsWithin log → next g log ≡ Some (Hand a b n m)

@@ -5,7 +5,7 @@ use Rattle.sdd_laws.specs.All.{CopyRows, IsEraOf, contents}
 use Rattle.sdd_invariants.specs.site_module.SiteLog.{Log}
 use Rattle.sdd_invariants.specs.logs.Entries as whole
 
--- each list of classes is one of the catalogue: its classes have the sets that they have there, or none
+-- each class list is one of the catalogue: its classes have the sets that they have there, or none
 abbrev pub HasEras : Input → Type 0
 HasEras g = (k : ℕ) → IsEraOf g.catalogue (nth_era g k).catalogue
 

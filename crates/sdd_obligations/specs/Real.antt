@@ -48,7 +48,7 @@ FitsTick s log n = (bases : Bases) × FitsSite s bases log
 abbrev pub fits_tick : Site → Setting → site.Log → ℕ → Type 0
 fits_tick at = fits_tick_at FitsTick at
 
--- What a further list of classes has to meet, and its time: the list is one of the whole catalogue, and the time pushes
+-- What a further class list has to meet, and its time: the list is one of the whole catalogue, and the time pushes
 -- no clock too far.
 pub record FitsEra (whole : Catalogue) (next : Era) (t : ℕ) : Type 0 where
   pub early : t / 64 < 2 ^ 57

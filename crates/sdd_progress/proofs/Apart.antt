@@ -1,4 +1,4 @@
--- Of two committed transactions the second was submitted in a later era: a list of classes was put in force between them,
+-- Of two committed transactions the second was submitted in a later era: a class list was put in force between them,
 -- so that the first is committed and applied before the second starts.
 use Rattle.sdd_progress.proofs.All.{AppliedBefore, Committed, Entry, GoesTo, Input, IsAttempt, IsOfEarlierEra, IsSubmitted, Log, Redeclares, Submit, Submitted, [], ap, append_assoc, arith, eras_begun, eras_of, event_at, history, inl, inr, length, length-append, redeclares, refl, submit_in, subst, sym, txn_no, ℕ, ◌++◌, ◌+◌, ◌<◌, ◌∙◌, ◌∷◌, ◌≡◌, ◌≢◌, ◌≤◌}
 use Rattle.sdd_progress.proofs.SinceRedeclare.{redeclares_back}

@@ -1,4 +1,4 @@
--- Where a list of classes was put in force: all that was submitted before is committed and applied there.
+-- Where a class list was put in force: all that was submitted before is committed and applied there.
 use Rattle.sdd_progress.proofs.All.{AllCommitted, AppliedBefore, Apply, AreNumbered, Commit, Committed, GoesTo, HasCommit, HasSoundLists, History, Input, IsAttempt, IsCommitted, IsIdle, IsLawful, IsQuiet, IsRecordAt, IsSubmitted, Log, Redeclares, Some, [], ap, append_assoc, applied_before, arith, class_no, committed_in, dm_no, eras_of, goes_module, goes_some, history, history_grows, length, next, redeclares, refl, start_in, start_within, subst, sym, time_at, txn_no, ℕ, ◌++◌, ◌<◌, ◌∙◌, ◌∷◌, ◌≡◌}
 use Rattle.sdd_progress.proofs.Applied.{all_applied}
 use Rattle.sdd_progress.proofs.Committed.{all_committed}

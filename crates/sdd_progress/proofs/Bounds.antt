@@ -1,4 +1,4 @@
--- The time at which a list of classes is put in force is after every clock of a transaction module.
+-- The time at which a class list is put in force is after every clock of a transaction module.
 use Rattle.sdd_progress.proofs.All.{Input, IsSoundCatalogue, List, Log, Some, T, [], ap, arith, bound_at, class_at, false, fold, greatest_bound, home, length, map, max, numbers_to, positive, range_at, refl, served, slice_get, subst, suc, tm_no, zero, ℕ, ◌*◌, ◌+◌, ◌-◌, ◌/◌, ◌<◌, ◌==◌, ◌∷◌, ◌≡◌, ◌≤◌}
 
 -- the greatest bound is none below that of a module

@@ -1,4 +1,4 @@
--- The eras of a log that puts several lists of classes in force.
+-- The eras of a log that puts several class lists in force.
 use Rattle.sdd_progress.proofs.All.{AreErasOf, Catalogue, Eras, HasSoundLists, Input, IsEraOf, List, Log, Mark, Redeclares, Some, [], ap, arith, at_seam, catalogue_at, cond, eras_begun, eras_of, false, filter, in_left, inl, inr, le-leb, le_is, length, length-append, marks, nat_le, nth_era, place_within, redeclares, refl, slice_get, slice_index_or, subst, suc, sym, true, true_or_false, zero, ℕ, ◌++◌, ◌+◌, ◌-◌, ◌<◌, ◌∙◌, ◌∷◌, ◌≡◌, ◌≤◌, ◌⊎◌}
 use Rattle.sdd_progress.proofs.SinceRedeclare.{redeclares_back}
 

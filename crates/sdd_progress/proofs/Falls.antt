@@ -55,7 +55,7 @@ by_hand g log k (a, b) e there h =
     let i = is_hand_on log a b e h in
     subst (λ x. Falls g (x ∷ log) log) (sym i.is) (in_hands (omega arith) (hand_falls log a b i.number i.msg i.next i.there g k there))
 
--- a mark, a round, a list of classes
+-- a mark, a round, a class list
 
 of_events : (g : Input) (log : Log) (q : Bool) (events ws : List Event) (e : Entry) → mark_from g log q events ws ≡ Some e → is_of_events e ≡ true
 of_events g log q events [] e h = absurd (cc)

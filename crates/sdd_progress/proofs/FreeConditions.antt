@@ -14,7 +14,7 @@ second_not e = cc
 first_frag : (q : Cond) (f : FragNo) (fs : List FragNo) → q.frags ≡ f ∷ fs → slice_get q.frags 0 ≡ Some f
 first_frag q f fs e = ap (λ l. slice_get l 0) e
 
--- a list of classes that is given, or none
+-- a class list that is given, or none
 pub data IsListed (g : Input) (f : Era) : Type 0 where
   given : (k : ℕ) → slice_get g.eras k ≡ Some f → IsListed g f
   no_table : f.table ≡ [] → IsListed g f

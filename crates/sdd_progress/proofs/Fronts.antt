@@ -1,4 +1,4 @@
--- Fronts of a log and of its history: which entries and records a front has, and where a list of classes was put in force
+-- Fronts of a log and of its history: which entries and records a front has, and where a class list was put in force
 -- among the rest.
 use Rattle.sdd_progress.proofs.All.{Entry, History, IsRecordAt, Log, Rec, Redeclares, [], ap, append_assoc, arith, history, history_grows, inl, inr, length, length-append, redeclares, refl, suc, sym, zero, ℕ, ◌++◌, ◌<◌, ◌∙◌, ◌∷◌, ◌≡◌, ◌≤◌, ◌⊎◌}
 use Rattle.sdd_progress.proofs.SinceRedeclare.{redeclare_in}

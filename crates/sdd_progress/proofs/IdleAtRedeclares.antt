@@ -1,4 +1,4 @@
--- On a lawful log all was idle wherever a further list of classes was put in force, if no module was down there.
+-- On a lawful log all was idle wherever a further class list was put in force, if no module was down there.
 use Rattle.sdd_progress.proofs.All.{Act, AreSubmittedOnce, Bool, Entry, Event, HasSoundLists, Input, IsIdle, IsIdleAtRedeclares, IsLawful, IsModule, IsQuiet, IsSoundList, IsUpAtRedeclares, List, Log, Mark, Msg, None, Option, Redeclare, Redeclares, Settle, Site, Some, Tick, Up, [], all_links, ap, arith, calls_of, delivered, does_at, due_by, false, found_at, greatest_bound, hand_due, hand_number, hand_on, hand_with, handed, if◌then◌else◌, is_down, lawful_permitted, left, link_of, mark_due, mark_from, mark_of, message_at, next, next_at, next_mark, next_number, note_if, or_else, quiet, redeclares, refl, round, site_due, sites, subst, sym, takes_part, true, ℕ, ◌++◌, ◌∷◌, ◌≡◌}
 use Rattle.sdd_progress.proofs.NoneWaits.{is_idle}
 use Rattle.sdd_progress.proofs.SinceRedeclare.{redeclares_up}

@@ -1,4 +1,4 @@
--- Marks, rounds and lists of classes come of the events that are left, and of nothing else.
+-- Marks, rounds and class lists come of the events that are left, and of nothing else.
 use Rattle.sdd_progress.proofs.AllEnds.{Act, Bool, Entry, Event, Input, List, Log, Mark, Msg, None, Option, Redeclare, Redeclares, Round, Settle, Site, Some, Submit, Tick, [], all_links, ap, delivered, does_at, due_by, false, false≢true, first_some, hand_due, hand_number, hand_on, hand_with, handed, if◌then◌else◌, link_of, mark_due, message_at, next, next_at, next_mark, next_number, note_if, or_else, refl, same_Some, site_due, sites, sym, takes_part, true, ℕ, ◌∙◌, ◌∷◌, ◌≡◌}
 
 abbrev pub is_of_events : Entry → Bool

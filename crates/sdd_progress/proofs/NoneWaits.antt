@@ -1,5 +1,5 @@
 -- Where nothing goes on, no READ waits, so every message is processed and no attempt is under way; if all was idle wherever
--- a further list of classes was put in force. Then each READ that waits has conditions of the list in force.
+-- a further class list was put in force. Then each READ that waits has conditions of the list in force.
 use Rattle.sdd_progress.proofs.All.{AllDiagonalsIn, AreConditionsOf, Bool, Catalogue, Change, ClassNo, Cond, D, Entry, FragNo, HasDiagonal, Input, IsBelow, IsClass, IsDiagonalIn, IsFromTable, IsHolder, IsIdle, IsIdleAtRedeclares, IsModule, IsPermitted, IsQuiet, IsReader, IsSoundCatalogue, IsSoundList, IsStamped, IsStuck, IsTimestamp, List, Log, Msg, None, P2, P3, Protocol, Read, Setting, Some, Ts, TxnNo, Use, WaitGraph, WaitingRead, WaitsOn, Write, [], active, ap, arith, at_home, at_module, bound, class_number, clock, conditions_at_put, diagonals_listed, differ, dm_no, false, head, head_put, head_stuck, holder, home, home_fair, home_small, if◌then◌else◌, in_range, inl, inr, is_met, length, list_all, local_of, none_waits, not_zero, nth_era, number_of, part_of, permitted_part, pipe, read_classes, reader, redeclares, refl, same_or_not, setting_of, slice_get, stamp_ticks, start_of_active, subst, suc, sym, table_fits, time_at, time_of, true, view_of, wait_graph, wait_protocol, wait_time, write_origin, ℕ, ◌+◌, ◌==◌, ◌∙◌, ◌∷◌, ◌≡◌}
 use Rattle.sdd_progress.proofs.Alone.{below_read, zero_time}
 use Rattle.sdd_progress.proofs.Lacking.{has_unanswered}

@@ -1,4 +1,4 @@
--- No list of classes is put in force between the Submit of a transaction and one of its Starts.
+-- No class list is put in force between the Submit of a transaction and one of its Starts.
 use Rattle.sdd_progress.proofs.All.{Commit, Committed, Did, Does, HasCommit, Input, IsAttempt, IsCommitted, IsRecordAt, IsSubmitted, Log, Submit, Submitted, [], act_local, ap, append_assoc, arith, commit_act, committed_in, committed_later, dec_le, eras_begun, eras_of, event_at, false, history, home, is_committed, length, length-append, one_start_class, redeclares, refl, start_act_of, start_in, submit_in, subst, sym, true, txn_no, ℕ, ◌++◌, ◌+◌, ◌<◌, ◌∙◌, ◌∷◌, ◌≡◌, ◌≤◌}
 use Rattle.sdd_progress.proofs.SinceRedeclare.{redeclares_back}
 use Rattle.sdd_progress.proofs.Apart.{apart}

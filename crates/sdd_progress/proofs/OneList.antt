@@ -1,4 +1,4 @@
--- A log that puts no further list of classes in force: the one list is sound, and there is no place where one was put in force.
+-- A log that puts no further class list in force: the one list is sound, and there is no place where one was put in force.
 use Rattle.sdd_progress.proofs.All.{HasOneTable, HasSoundLists, Input, IsEraOf, IsIdleAtRedeclares, IsSoundList, IsUpAtRedeclares, Log, Redeclares, ap, arith, of_one_era, redeclares, refl, subst, sym, ℕ, ◌++◌, ◌∷◌, ◌≡◌}
 use Rattle.sdd_progress.proofs.SinceRedeclare.{redeclares_back}
 

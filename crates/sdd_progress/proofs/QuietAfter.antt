@@ -54,7 +54,7 @@ ends_on (Redeclare ∷ ws) e rest h p = subst (λ xs. ends false xs ≡ true) (r
 ends_on (Down d ∷ ws) e rest h p = subst (λ xs. ends false xs ≡ true) (rest_is (Down d) e ws rest h) p
 ends_on (Up d ∷ ws) e rest h p = subst (λ xs. ends false xs ≡ true) (rest_is (Up d) e ws rest h) p
 
--- a mark or a list of classes is that of the first event with a mark
+-- a mark or a class list is that of the first event with a mark
 
 abbrev TakesFirst : Entry → List Event → Type 0
 TakesFirst (Mark e) ws = (f : Event) × (rest : List Event) × (from_event ws ≡ f ∷ rest)

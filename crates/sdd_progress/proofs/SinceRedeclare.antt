@@ -1,4 +1,4 @@
--- A READ that waits is of an attempt that started since the last list of classes was put in force, where all was idle then.
+-- A READ that waits is of an attempt that started since the last class list was put in force, where all was idle then.
 use Rattle.sdd_progress.proofs.All.{ClassNo, Cond, D, Did, Does, Entry, Hand, Input, IsClass, IsIdle, IsIdleAtRedeclares, IsModule, IsPermitted, IsPutAt, IsQuiet, IsSoundCatalogue, List, Log, Mark, Msg, Notes, Read, Redeclares, Round, Site, Some, Submitted, Ts, TxnNo, Use, [], ap, append-nil, append_assoc, arith, at_module, class_number, class_puts, dm_no, head, head_place, home, home_small, in_class, in_pipe_later, inl, inr, is_put, length, local_at, local_grows, local_of, one_of_key, own_made, pipe, place_within, processed_grows, processed_stays, puts_to, read_at, reads_strict, redeclares, refl, same_number, slice_get, subst, sym, true, ℕ, ◌++◌, ◌==◌, ◌∙◌, ◌∷◌, ◌≡◌, ◌≤◌, ◌⊎◌}
 use Rattle.sdd_progress.proofs.Applied.{pipe_has_all}
 

@@ -1,4 +1,4 @@
--- Where each `redeclare` is given when it may be, a lawful log has no data module down where it puts a list of classes in
+-- Where each `redeclare` is given when it may be, a lawful log has no data module down where it puts a class list in
 -- force, and puts none in force beyond those that are given.
 use Rattle.sdd_progress.proofs.All.{AllFewTicks, AreDone, AreTimely, Event, Input, IsLawful, IsModule, IsUpAtRedeclares, List, Log, Redeclare, Redeclares, Some, [], all_links, ap, append-nil, append_assoc, arith, calls_of, count_join, done, down_join, false, is_down, is_down_after, lawful_end, left, length, listed_first, mark_of, next_is_of_events, quiet, redeclares, redeclares_in, refl, round, settles_turn, subst, sym, ℕ, ◌++◌, ◌+◌, ◌<◌, ◌∙◌, ◌∷◌, ◌≡◌, ◌≤◌}
 

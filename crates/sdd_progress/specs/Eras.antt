@@ -1,4 +1,4 @@
--- The eras of a log: the catalogues of the lists of classes that it put in force one after the other, each with the event
+-- The eras of a log: the catalogues of the class lists that it put in force one after the other, each with the event
 -- from which it is.
 use Rattle.std.specs.Prelude.{suc, [], ◌∷◌, ◌++◌}
 use Rattle.sdd_obligations.specs.All.{Eras, Input, Log, Redeclares, marks, nth_era, redeclares}

@@ -22,7 +22,7 @@ pub record IsFree (cat : Catalogue) (i : ℕ) : Type 0 where
 pub record IsInNoBlock (table : List line.Entry) (i : ℕ) : Type 0 where
   pub in_none : (k : ℕ) (x : line.Entry) → slice_get table k ≡ Some x → ends_at i (ends x.edge) ≡ true → x.block ≡ 0
 
--- a class of the catalogue is free in each list of classes that is given, each with its protocol table
+-- a class of the catalogue is free in each class list that is given, each with its protocol table
 pub record IsFreeClass (g : Input) (i : ℕ) : Type 0 where
   pub class : IsClassOf g.catalogue i
   pub tabled : (k : ℕ) (f : Era) → slice_get g.eras k ≡ Some f → IsEra f

@@ -3,7 +3,7 @@ use Rattle.std.specs.Prelude.{ℕ, ◌≡◌, false, true, None}
 use Rattle.sdd_obligations.specs.All.{Input, IsLawful, IsModule, Log, all_links, calls_of, is_down, next, quiet}
 use Rattle.sdd_progress.specs.Premises.{IsUpAtRedeclares}
 
--- nothing is next, and no data module is down, nor was one where a further list of classes was put in force
+-- nothing is next, and no data module is down, nor was one where a further class list was put in force
 pub record IsAtEnd (g : Input) (log : Log) : Type 0 where
   pub lawful : IsLawful g log
   pub complete : next g log ≡ None

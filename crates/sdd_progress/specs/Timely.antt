@@ -1,4 +1,4 @@
--- Where a `redeclare` may stand among the events that are given: it puts the next list of classes in force, at all
+-- Where a `redeclare` may stand among the events that are given: it puts the next class list in force, at all
 -- transaction modules at once, and needs every data module for that.
 use Rattle.std.specs.Prelude.{ℕ, suc, ◌≡◌, ◌<◌, List, ◌∷◌, ◌++◌, false, length}
 use Rattle.sdd_obligations.specs.All.{Event, Input, IsModule, Redeclare, is_down_after, redeclares_in}

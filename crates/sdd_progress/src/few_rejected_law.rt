@@ -13,7 +13,7 @@ pub fn law_rejects()
 {}
 
 /// A law: a transaction's rejected attempts are at most the Commits of other transactions, where an
-/// attempt that several modules reject counts once. For a lawful log with one list of classes nothing
+/// attempt that several modules reject counts once. For a lawful log with one class list nothing
 /// is assumed of eras.
 pub fn law_few_rejected()
     ensures permitted { (given : Input) (log : Log) (eras : Eras) → IsSoundInput given

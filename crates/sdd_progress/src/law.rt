@@ -11,7 +11,7 @@ ghost use Rattle.sdd_progress.specs.Settled.{IsAtEnd, IsSettled};
 
 /// A law: where nothing goes on, each message of each pipe is processed and no attempt is under way;
 /// no transaction waits in a queue, no transaction module is on hold. This assumes that all was idle
-/// where the lists of classes were put in force, of which `law_idle_at_redeclares` speaks.
+/// where the class lists were put in force, of which `law_idle_at_redeclares` speaks.
 pub fn law_finished()
     ensures idle { (given : Input) (log : Log) → IsQuiet given log
         → IsSoundList given (redeclares log) → IsIdleAtRedeclares given log → IsIdle given log }
@@ -19,14 +19,14 @@ pub fn law_finished()
         → IsSoundList given (redeclares log) → IsIdleAtRedeclares given log → IsFinished given log }
 {}
 
-/// A law: wherever a lawful log put a further list of classes in force nothing went on and all was
+/// A law: wherever a lawful log put a further class list in force nothing went on and all was
 /// idle, if no data module was down there.
 pub fn law_idle_at_redeclares()
     ensures { (given : Input) (log : Log) → AreSubmittedOnce given.events → IsLawful given log
         → HasSoundLists given log → IsUpAtRedeclares given log → IsIdleAtRedeclares given log }
 {}
 
-/// A law: the lists of classes that a log put in force are its eras.
+/// A law: the class lists that a log put in force are its eras.
 pub fn law_eras_of_log()
     ensures { (given : Input) (log : Log) → HasSoundLists given log
         → AreErasOf given log (eras_of given log) }

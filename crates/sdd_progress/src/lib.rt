@@ -1,5 +1,5 @@
 //! Progress: every run ends, quiet means finished, who waits and why, few attempts are rejected, and
-//! one list of classes follows the other.
+//! one class list follows the other.
 //!
 //! The one contract to the layer above, in five parts.
 //!
@@ -25,7 +25,7 @@
 //! - A transaction's rejected attempts are at most the Commits of other transactions
 //!   (`law_few_rejected`), so a run has at most the square of their number of attempts
 //!   (`law_few_attempts`).
-//! - A log may put any number of lists of classes in force. If each is an era of the catalogue, and no
+//! - A log may put any number of class lists in force. If each is an era of the catalogue, and no
 //!   data module was down where one was put in force, then its history keeps all laws, has no cycle
 //!   and has a serial order (`law_lawful`), and few attempts are rejected
 //!   (`law_few_attempts_across_lists`).

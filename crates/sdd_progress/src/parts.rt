@@ -50,7 +50,7 @@ pub fn law_class_zero()
         → slice_get conds place ≡ Some cond → cond.time.0 ≡ ts.0 }
 {}
 
-/// A law: where nothing goes on, no READ waits: each has conditions of the list of classes in force.
+/// A law: where nothing goes on, no READ waits: each has conditions of the class list in force.
 pub fn law_none_waits()
     ensures { (given : Input) (log : Log) → IsQuiet given log
         → IsSoundList given (redeclares log) → IsIdleAtRedeclares given log → (class ts : ℕ) (conds : List Cond)

@@ -6,7 +6,7 @@ ghost use Rattle.sdd_progress.specs.Eras.{eras_of};
 ghost use Rattle.sdd_progress.specs.Premises.{HasSoundLists, IsUpAtRedeclares};
 ghost use Rattle.sdd_progress.specs.Timely.{AreTimely};
 
-/// A law: the history of a lawful log keeps the law of eras, that is what one list of classes submits
+/// A law: the history of a lawful log keeps the law of eras, that is what one class list submits
 /// is done before what a later one submits begins. So it keeps all laws, has no cycle, and has a serial
 /// order.
 pub fn law_lawful()
@@ -29,7 +29,7 @@ pub fn law_lawful()
 {}
 
 /// A law: where each `redeclare` of the events is given when it may be, no data module is down where
-/// the log puts a list of classes in force, and the log puts none in force beyond those that are given.
+/// the log puts a class list in force, and the log puts none in force beyond those that are given.
 pub fn law_timely()
     ensures up { (given : Input) (log : Log) → AllFewTicks given.events → IsLawful given log
         → AreTimely given → IsUpAtRedeclares given log }

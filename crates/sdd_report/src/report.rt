@@ -23,7 +23,7 @@ const MIN_PAGE_BYTES: usize = 4096;
 /// What a report prints of a run.
 #[derive(Drop)]
 pub struct Report<'a> {
-    /// The catalogue whose classes and fragments the numbers name, those of further lists of classes
+    /// The catalogue whose classes and fragments the numbers name, those of further class lists
     /// among them.
     pub catalogue: &'a Catalogue,
     /// The transactions, submitted or not.

@@ -34,7 +34,7 @@ mark_taken : (g : Input) (log : Log) (e : Event) (s : List Event × List Event) 
 mark_taken g log e (ws, []) h p = mark_on g log (quiet (all_links g) (calls_of log)) (round (all_links g) (calls_of log)) ws e h p
 mark_taken g log e (ws, x ∷ events) h p = p
 
--- or is the one that a list of classes was put in force by
+-- or is the one that a class list was put in force by
 
 last_or_not : (ws : List Event) → ends true ws ≡ true → (ends false ws ≡ true) ⊎ (ws ≡ [])
 unfolding ends is_redeclare

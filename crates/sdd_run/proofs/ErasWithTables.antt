@@ -1,4 +1,4 @@
--- The lists of classes of a workload as they are given: each is an era of the whole catalogue, and has its protocol table.
+-- The class lists of a workload as they are given: each is an era of the whole catalogue, and has its protocol table.
 use Rattle.sdd_run.proofs.All.{AllZip, AllZip-long, AreTables, Catalogue, Class, Entry, Era, HasEras, IsEra, IsEraOf, IsTable, List, Some, Workload, [], ap, arith, cases_lt, classes_in, era_of_itself, era_of_whole, eras, eras_in, eras_with_tables, extended, get_or_past, inl, input_of, inr, length, nth_era, refl, retired, slice_get, slice_get-get_or, subst, suc, sym, whole_in, zero, ℕ, ◌∙◌, ◌∷◌, ◌≡◌, ◌≤◌}
 
 -- as many as catalogues, that is one more than lists

@@ -1,4 +1,4 @@
--- A transaction that is pending when a run ends was submitted under the list of classes that is in force then: all that
+-- A transaction that is pending when a run ends was submitted under the class list that is in force then: all that
 -- was submitted under an earlier one is committed. So it is looked for at the site of its class by that list.
 use Rattle.sdd_run.proofs.All.{AreAtLastHomes, Bool, Does, Hand, Homes, Input, IsPermitted, IsSubmitted, Known, List, Log, Mark, None, Notes, Option, Rec, Redeclares, Round, Site, Some, Submit, Submitted, Telling, TxnNo, [], ap, append_assoc, arith, commit_there, commits, cons_option, eqb-true, false, filter_map, given_at, history, history_le, home_of, if◌then◌else◌, inl, inr, last_home, length, length-append, list_any, not_both, nth_era, one_submit, option_map, pending_as, pending_at, pending_by, pending_of, permitted_before, reason_of, recorded_front, recorded_there, redeclare_between, redeclares, refl, rest, same_number, slice_get, status_at, submit_in, submitted_at, subst, suc, sym, true, txn_at, txn_no, why_of, ℕ, ◌++◌, ◌+◌, ◌==◌, ◌∙◌, ◌∷◌, ◌≡◌}
 use Rattle.sdd_run.proofs.Lossless.{commits_it}

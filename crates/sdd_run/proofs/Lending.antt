@@ -1,4 +1,4 @@
--- The lists of classes as they are lent to a world: one more, and all of them.
+-- The class lists as they are lent to a world: one more, and all of them.
 use Rattle.sdd_run.proofs.All.{AllZip, Catalogue, ClassList, Entry, Era, IsTable, List, Some, [], ap, arith, era_of_list, eras_with_tables, get_or, length, map, map-append, refl, slice_get, subst, suc, sym, tail_of, take, take_all, take_more, zero, ℕ, ◌++◌, ◌+◌, ◌-◌, ◌<◌, ◌∙◌, ◌∷◌, ◌≡◌, ◌≤◌}
 
 -- one protocol table more

@@ -1,4 +1,4 @@
--- What is known of the run of a valid workload, whatever lists of classes it puts in force.
+-- What is known of the run of a valid workload, whatever class lists it puts in force.
 use Rattle.sdd_run.proofs.All.{All, All-weaker, AreErasOf, AreTables, Catalogue, Entry, FitsStart, FitsTxn, HasSoundData, HasSoundLists, HoldsValues, IsHeld, IsLawful, IsPermitted, IsSoundCatalogue, IsTheLog, IsUpAtRedeclares, IsValid, IsValidRow, IsValidTxn, IsValue, Known, List, Log, PutsHeld, RelNo, Row, SubmitGiven, Txn, Workload, are_eras_of, arith, classes_in, eras_of, few_redeclares, input_of, known, lawful_permitted, length, redeclares, up_at_redeclares, whole_in, ◌≤◌}
 use Rattle.sdd_run.proofs.Beginning.{rows_given}
 use Rattle.sdd_run.proofs.ErasWithTables.{era_at, how_many, list_at}

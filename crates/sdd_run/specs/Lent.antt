@@ -1,4 +1,4 @@
--- A list of classes as it is lent to a world.
+-- A class list as it is lent to a world.
 use Rattle.sdd_obligations.specs.All.{Era}
 use Rattle.sdd_world.specs.declared.schedule.ClassList.{ClassList}
 

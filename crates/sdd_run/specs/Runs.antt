@@ -29,7 +29,7 @@ use Rattle.sdd_run.specs.ComesBefore.{ComesBefore, IsSubmittedBefore, times_in}
 use Rattle.sdd_run.specs.Reasons.{IsReason}
 use Rattle.sdd_run.specs.Reports.{report_of}
 
--- each list of classes with its protocol table
+-- each class list with its protocol table
 abbrev pub eras_with_tables : List Catalogue → List (List Entry) → List Era
 eras_with_tables [] tables = []
 eras_with_tables (cat ∷ cats) [] = []
@@ -39,7 +39,7 @@ eras_with_tables (cat ∷ cats) (table ∷ tables) = record { catalogue = cat; t
 abbrev pub AreTables : Catalogue → Workload → List (List Entry) → Type 0
 AreTables cat work tables = AllZip IsTable (eras_in cat work) tables
 
--- what is given: the lists of classes, and each data module begins with the workload's rows
+-- what is given: the class lists, and each data module begins with the workload's rows
 abbrev pub input_of : Catalogue → List (List Entry) → Workload → Input
 input_of cat tables work = record {
   catalogue = whole_in cat work;
@@ -61,11 +61,11 @@ order_of cat work log = serial_order (whole_in cat work) (history log)
 abbrev pub plain_run : Catalogue → Workload → Log → List Reply × Database
 plain_run cat work log = run (whole_in cat work) work.rows work.txns (order_of cat work log)
 
--- in no list of classes a class lies on a simple cycle of the conflict graph
+-- in no class list a class lies on a simple cycle of the conflict graph
 abbrev pub IsFreeInEach : Catalogue → Workload → ℕ → Type 0
 IsFreeInEach cat work class = All (λ of_list. IsFree of_list class) (eras_in cat work)
 
--- A text is the report on the run: on the one log of what is given, by the protocol tables of the lists of classes, of
+-- A text is the report on the run: on the one log of what is given, by the protocol tables of the class lists, of
 -- which each has one.
 pub record IsReportOn (cat : Catalogue) (work : Workload) (text : List ℕ) : Type 0 where
   pub tables : List (List Entry)

@@ -1,4 +1,4 @@
-//! The lists of classes of a workload, as a world puts them in force.
+//! The class lists of a workload, as a world puts them in force.
 ghost use Rattle.std.specs.Prelude.{◌≡◌, ◌<◌, Some, length, map, slice_get, IfOk};
 ghost use Rattle.std.specs.List.{AllZip};
 ghost use Rattle.sdd_obligations.specs.base.Words.{tail_of};

@@ -16,7 +16,7 @@ use std::alloc::Global;
 
 /// The text of the report on the run of a workload.
 ///
-/// Costs what its events cost, the catalogue and the protocol table of each list of classes, the
+/// Costs what its events cost, the catalogue and the protocol table of each class list, the
 /// serial order, the copies and the text.
 ///
 /// # Errors
@@ -36,7 +36,7 @@ pub fn run_report(alloc: Global, catalogue: &Catalogue, work: Workload) -> Resul
 }
 
 /// The text of the summary of the run of a workload. Costs what its events cost, and the catalogue
-/// and the protocol table of each list of classes.
+/// and the protocol table of each class list.
 ///
 /// # Errors
 ///

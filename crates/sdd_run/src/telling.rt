@@ -14,7 +14,7 @@ use sdd_world::World;
 use std::alloc::Global;
 
 /// The text of the report on a world whose history has a serial order, and in which each pending
-/// transaction was submitted under the list of classes in force. Costs what the order, the pending
+/// transaction was submitted under the class list in force. Costs what the order, the pending
 /// transactions, the copies and the text cost.
 pub fn report_on(alloc: Global, world: &World<'_>) -> Result<Pages, NoMemory>
     requires { (g : Input) × (log : Log) × IsOrderable g.catalogue (history log)

@@ -61,7 +61,7 @@ named_by_number cat name =
     ap (λ (n : ℕ). bytes_eq name (get_or cat.classes n no_class).name) place)
     ∙ sym (list_any-map (bytes_eq name) (λ (c : Class). c.name) cat.classes)
 
--- ---- the name of one of several lists of classes
+-- ---- the name of one of several class lists
 
 abbrev named : List ℕ → ClassPart → Bool
 named name c = bytes_eq name c.name

@@ -240,7 +240,7 @@ event_fine cat k txns Redeclare h n = (keyword_fine (keys.Event ekeys.Redeclare)
 event_fine cat k txns (Down dm) h n = (keyword_fine (keys.Event ekeys.Down), (site_fine cat k (D dm) h, tt))
 event_fine cat k txns (Up dm) h n = (keyword_fine (keys.Event ekeys.Up), (site_fine cat k (D dm) h, tt))
 
--- ---- lists of classes
+-- ---- class lists
 
 pub class_fine : (cat : Catalogue) → IsKnown cat → (c : ClassPart) → IsName c.name → IsFrom1To cat.tms c.tm → AreFine (class_words c)
 class_fine cat k c named there = (keyword_fine (keys.Class class_keys.Class), (name_fine c.name named, (site_fine cat k (T (tm_no c.tm)) there, tt)))

@@ -1,4 +1,4 @@
--- The spelling of lists of classes that the catalogue allows is read as these lists.
+-- The spelling of class lists that the catalogue allows is read as these lists.
 use Rattle.sdd_script.proofs.All.{AllByRecursion, AreValidLists, BadClass, BadLine, Bool, Catalogue, ClassPart, D, DmNo, IsFragment, IsValidClass, IsValidRead, List, MAX_CLASSES, MAX_LISTS, MAX_READS, None, Ok, OpenList, Option, Place, Plain, ReadPart, Result, Some, State, T, TmNo, TooMany, UnknownName, WorkRule, [], all_front, ap, append-nil, append_assoc, arith, both_are, bytes_eq, class_lines, class_names, class_words, classes_in, cond, dm_no, dm_of, done_words, false, flat_map, fragment_of, has_copy, has_name, is_ended, is_free, joined, known, length, length-append, line_bytes, list_lines, list_words, lt-ltb, map, map-append, must, name_of, nat_lt, nat_lt as ltb, no_classes, not, one_more_class, part_names, read_names, reads_words, recursion_from_All, refl, repeats, site_word, subst, sym, takes_lists, tm_no, tm_of, true, with_class_of, with_read_of, with_write_of, writes_words, ℕ, ◌&&◌, ◌++◌, ◌+◌, ◌<◌, ◌>>=◌, ◌∙◌, ◌∷◌, ◌≡◌, ◌≤◌}
 use Rattle.sdd_script.proofs.WordLooks.{name_free}
 use Rattle.sdd_script.proofs.UseLaws.{IsKnown}

@@ -1,4 +1,4 @@
--- How the lines of a list of classes add themselves to the lines before.
+-- How the lines of a class list add themselves to the lines before.
 use Rattle.sdd_script.proofs.All.{Catalogue, ClassPart, Event, List, None, OpenClass, OpenList, Option, Place, ReadPart, RelNo, Some, Stmt, TmNo, Txn, Value, Word, [], ap, append-nil, append_assoc, arith, class_lines, class_so_far, class_words, classes_in, done_words, eqb-true, flat_map, flat_map-append, length, list_lines, list_words, map, map-append, no_classes, reads_words, refl, start_words, sym, takes_lists, takes_reads_in as takes_reads, takes_writes_in as takes_writes, true, txn_lines, with_class, with_read, with_write, writes_words, ℕ, ◌++◌, ◌==◌, ◌∙◌, ◌∷◌, ◌≡◌}
 use Rattle.sdd_script.proofs.SoFar.{lines_at, InOrder, opens, stays_open, closes}
 use Rattle.sdd_script.specs.declared.place.Place.TheVariants as places

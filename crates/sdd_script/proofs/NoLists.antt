@@ -1,4 +1,4 @@
--- A workload without lists of classes has no `redeclare` among its events.
+-- A workload without class lists has no `redeclare` among its events.
 use Rattle.sdd_script.proofs.All.{All, All-from_recursion, AllByRecursion, AreTimely, Catalogue, Deliver, Down, Event, IsValid, List, Lose, Redeclare, Repeat, Resend, Settle, Some, Submit, Tick, Up, Workload, [], ap, arith, eqb-true, false, has_lists, is_redeclare, length, not_false, recursion_from_All, refl, slice_get, subst, suc, zero, ℕ, ◌==◌, ◌∷◌, ◌≡◌}
 use Rattle.sdd_script.proofs.StepLaws.{some_is}
 

@@ -88,7 +88,7 @@ class_pieces out h f xs g ys =
     ∙ ap (λ (l : List ℕ). out ++ (ended h ++ (flat_map ended (map f xs) ++ l))) (sym (flat_map-map ended g ys))
     ∙ ap (λ (l : List ℕ). out ++ (ended h ++ l)) (sym (flat_map-append ended (map f xs) (map g ys)))
 
--- the lines of a list of classes
+-- the lines of a class list
 pub list_pieces : {A : Type 0} (out : List ℕ) (h : List Word) (f : A → List (List Word)) (xs : List A) (d : List Word)
     → ((out ++ ended h) ++ flat_map (λ x. flat_map ended (f x)) xs) ++ ended d ≡ out ++ flat_map ended (h ∷ (flat_map f xs ++ d ∷ []))
 list_pieces out h f xs d =

@@ -76,7 +76,7 @@ row_more cat rows r txns lists places.Declared statements events t o = absurd cc
 row_more cat rows r txns lists places.Events statements events t o = absurd cc
 row_more cat rows r txns lists places.Ended statements events t o = absurd cc
 
--- a transaction opens, or a list of classes
+-- a transaction opens, or a class list
 
 pub opens : {A : Type 0} (a : List A) (x : A) → a ++ (x ∷ []) ++ [] ++ [] ≡ (a ++ [] ++ [] ++ []) ++ x ∷ []
 opens a x = append-nil (a ++ (x ∷ []) ++ []) ∙ append-nil (a ++ (x ∷ []))

@@ -1,4 +1,4 @@
--- The lines of lists of classes keep what holds in every state, and add themselves to the lines before.
+-- The lines of class lists keep what holds in every state, and add themselves to the lines before.
 use Rattle.sdd_script.proofs.All.{AreTimely, BadClass, BadLine, Bool, Catalogue, ClassPart, D, DmNo, Event, IsValidRead, List, MAX_CLASSES, MAX_LISTS, MAX_READS, None, Ok, OpenList, Place, Plain, ReadPart, Some, State, Stmt, T, TmNo, TooMany, Txn, Word, [], ap, append-nil, arith, bind_ok, both_hold, class_so_far, class_words, classes_in, closed, codes, cond, dm_of, done_rules, done_words, false, fragment_of, has_copy, has_name, is_free, is_taken, joined, known, length, list_rules, list_words, ltb-true, must, name_of, nat_lt, no_classes, not, ok_is, one_more_class, open_list, read_names, reads_at, reads_rules, reads_words, refl, site_word, subst, sym, takes_classes, takes_lists, takes_reads, takes_reads_in, takes_writes, takes_writes_in, tm_of, true, with_class, with_class_of, with_read, with_read_of, with_write, with_write_of, writes_at, writes_rules, writes_words, ℕ, ◌&&◌, ◌++◌, ◌+◌, ◌<◌, ◌>>=◌, ◌∙◌, ◌∷◌, ◌≡◌, ◌≤◌}
 use Rattle.sdd_script.proofs.StepLaws.{must_then, known_then, not_true, some_is}
 use Rattle.sdd_script.proofs.EventLaws.{dm_takes, tm_takes}

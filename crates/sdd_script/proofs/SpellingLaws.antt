@@ -74,7 +74,7 @@ state_of place rows written names txns statements lists classes submitted events
       events = events;
     }
 
--- before the lists of classes
+-- before the class lists
 abbrev pub early : Catalogue → Place → List (RelNo × List Value) → ℕ → List (List ℕ) → List Txn → List Stmt → State
 early cat place rows written names txns statements = state_of place rows written names txns statements [] (length cat.classes) [] []
 

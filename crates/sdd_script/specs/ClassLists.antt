@@ -1,4 +1,4 @@
--- The rules of the lines of lists of classes. The line `done` that ends a list has its rules with that which ends a transaction.
+-- The rules of the lines of class lists. The line `done` that ends a list has its rules with that which ends a transaction.
 use Rattle.std.specs.Prelude.{ℕ, ◌+◌, nat_lt, ◌&&◌, not, Bool, if◌then◌else◌, Option, Some, None, List, [], ◌∷◌, ◌++◌, map, flat_map, length, Result, Ok, Err}
 use Rattle.sdd_lang.specs.All.{Catalogue, ClassPart, DmNo, MAX_CLASSES, MAX_READS, ReadPart, TmNo, has_copy, has_name, known, must, ◌>>=◌}
 use Rattle.sdd_words.specs.Keywords.{is_free}

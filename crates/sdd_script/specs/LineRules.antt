@@ -93,7 +93,7 @@ statement_rules st reading = do
   statement ← reading
   with_statement st statement
 
--- a transaction ends, or a list of classes
+-- a transaction ends, or a class list
 abbrev pub closed : Place → State → Result State WorkRule
 closed (places.Inside header) st =
     Ok (record st { place = places.Between; txns = st.txns ++ record { name = header.name; tm = header.tm; statements = st.statements } ∷ []; statements = [] })

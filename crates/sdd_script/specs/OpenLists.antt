@@ -1,4 +1,4 @@
--- A list of classes that isn't ended yet, of which the last class may get further reads and writes.
+-- A class list that isn't ended yet, of which the last class may get further reads and writes.
 use Rattle.std.specs.Prelude.{ℕ, ◌==◌, List, [], ◌∷◌, ◌++◌, length, Bool, false, Option, Some, None, is_some}
 use Rattle.std.specs.Option.{option_map, option_map_or}
 use Rattle.sdd_lang.specs.All.{ClassPart, ReadPart, TmNo}

@@ -1,4 +1,4 @@
--- What may stand where: rows, then transactions, then lists of classes, then events, then `end`.
+-- What may stand where: rows, then transactions, then class lists, then events, then `end`.
 use Rattle.std.specs.Prelude.{ℕ, List, Bool, true, false}
 use Rattle.sdd_lang.specs.All.{ReadPart}
 use Rattle.sdd_script.specs.OpenLists.{no_classes, reads_in, writes_in, takes_reads as takes_reads_in, takes_writes as takes_writes_in}
@@ -22,7 +22,7 @@ abbrev pub takes_statements : Place → Bool
 takes_statements (Inside header) = true
 takes_statements _ = false
 
--- where a list of classes may begin
+-- where a class list may begin
 abbrev pub takes_lists : Place → Bool
 takes_lists Rows = true
 takes_lists Between = true

@@ -1,4 +1,4 @@
--- Where a `redeclare` may stand: it puts the next list of classes in force, at all modules at once.
+-- Where a `redeclare` may stand: it puts the next class list in force, at all modules at once.
 use Rattle.std.specs.Prelude.{ℕ, ◌==◌, ◌&&◌, nat_lt, not, Bool, true, false, List, length, count_by, if◌then◌else◌}
 use Rattle.std.specs.List.{fold, list_any}
 use Rattle.sdd_lang.specs.All.{Down, Event, Redeclare, Up, numbers_to}
@@ -31,6 +31,6 @@ abbrev pub may_follow : ℕ → ℕ → List Event → Event → Bool
 may_follow dms lists events Redeclare = may_redeclare dms lists events
 may_follow dms lists events event = true
 
--- whether a workload has lists of classes
+-- whether a workload has class lists
 abbrev pub has_lists : Workload → Bool
 has_lists w = not (length w.lists == 0)

@@ -127,11 +127,11 @@ writes_words fragment = Plain (codes "writes") ∷ Plain fragment ∷ []
 abbrev pub class_lines : ClassPart → List (List Word)
 class_lines c = class_words c ∷ (map reads_words c.reads ++ map writes_words c.writes)
 
--- the lines of a list of classes
+-- the lines of a class list
 abbrev pub list_lines : List ClassPart → List (List Word)
 list_lines classes = list_words ∷ (flat_map class_lines classes ++ done_words ∷ [])
 
--- rows, transactions, lists of classes, events, `end`
+-- rows, transactions, class lists, events, `end`
 abbrev pub lines_of : Catalogue → Workload → List (List Word)
 lines_of cat w =
     map (start_words cat) w.rows ++ flat_map (txn_lines cat) w.txns ++ flat_map list_lines w.lists ++ map (event_words w.txns) w.events ++ end_words ∷ []

@@ -101,7 +101,7 @@ pub record IsValidClass (cat : Catalogue) (c : ClassPart) : Type 0 where
   pub writes : All (IsFragment cat) c.writes
   pub writes_once : repeats c.writes ≡ false
 
--- lists of classes that the catalogue allows
+-- class lists that the catalogue allows
 pub record AreValidLists (cat : Catalogue) (lists : List (List ClassPart)) : Type 0 where
   pub classes : All (IsValidClass cat) (joined lists)
   -- no two classes have one name, those of the catalogue counted

@@ -1,4 +1,4 @@
-//! The lines of lists of classes, by their words.
+//! The lines of class lists, by their words.
 ghost use Rattle.std.specs.Prelude.{◌≡◌, ◌&&◌, List, map, not};
 ghost use Rattle.std.specs.List.{list_any};
 ghost use Rattle.std.specs.Str.{bytes_eq};
@@ -279,7 +279,7 @@ fn writes_line(
     }
 }
 
-/// What the lines have said with one line more of a list of classes, but for the line that ends it.
+/// What the lines have said with one line more of a class list, but for the line that ends it.
 pub fn read_class_line(
     alloc: Global,
     catalogue: &Catalogue,

@@ -66,7 +66,7 @@ pub enum Counts {
     Class,
     /// Fragments that a class reads.
     Read,
-    /// Lists of classes.
+    /// Class lists.
     List,
 }
 

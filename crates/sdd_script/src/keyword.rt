@@ -24,7 +24,7 @@ pub enum StatementKey {
     Delete,
 }
 
-/// The first word of a line of a list of classes.
+/// The first word of a line of a class list.
 #[derive(Clone, Copy, Debug, PartialEq, Eq)]
 pub enum ClassKey {
     List,

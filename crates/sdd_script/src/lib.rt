@@ -3,7 +3,7 @@
 //! What the layer above gets: `read_workload` gives exactly what `workload` of `specs/Walk.antt` makes
 //! of the bytes, that is the workload or its first fault, and `write_workload` gives `spelling` of
 //! `specs/Spelling.antt`, the one spelling of a workload. `specs/LineRules.antt` has the rules of a
-//! line in the order in which they are judged, `specs/ClassLists.antt` those of lists of classes,
+//! line in the order in which they are judged, `specs/ClassLists.antt` those of class lists,
 //! `specs/Redeclaring.antt` where a list may be put in force, and `specs/Valid.antt` says which
 //! workloads a catalogue allows.
 #![tactic(auto)]

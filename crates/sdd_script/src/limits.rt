@@ -13,7 +13,7 @@ use sdd_lang::sdd_base::{
     MAX_USES,
 };
 
-/// The most lists of classes of a workload.
+/// The most class lists of a workload.
 pub const MAX_LISTS: usize = 8;
 
 /// How many rows there are with one more, or None exactly where there is no room for it.

@@ -15,7 +15,7 @@ pub struct OpenClass {
     pub writes: Grown<Name>,
 }
 
-/// A list of classes that isn't ended.
+/// A class list that isn't ended.
 #[derive(Drop)]
 pub struct OpenList {
     /// The classes before the last one.

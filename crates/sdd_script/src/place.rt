@@ -22,9 +22,9 @@ pub enum Place {
     Inside(Header),
     /// After a transaction.
     Between,
-    /// Inside a list of classes.
+    /// Inside a class list.
     Listing(OpenList),
-    /// After a list of classes.
+    /// After a class list.
     Declared,
     /// After an event.
     Events,
@@ -54,7 +54,7 @@ impl Place {
         matches!(self, Place::Inside(_))
     }
 
-    /// Whether a list of classes may begin there.
+    /// Whether a class list may begin there.
     pub fn takes_lists(&self) -> bool
         ensures { result ≡ takes_lists self.now }
     {

@@ -124,7 +124,7 @@ fn statement_line(
     short_statement_line(alloc, catalogue, state, key, words)
 }
 
-/// Ends the transaction or the list of classes that is open.
+/// Ends the transaction or the class list that is open.
 fn close(alloc: Global, state: &mut State) -> Result<(), LineError>
     ensures { GivesReading rule_in (λ _. state.new) result (closed state.old.place state.old) }
 {

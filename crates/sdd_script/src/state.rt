@@ -17,7 +17,7 @@ pub struct State {
     pub txns: Grown<Txn>,
     /// The statements of the transaction that is open.
     pub statements: Grown<Stmt>,
-    /// The lists of classes that are ended.
+    /// The class lists that are ended.
     pub lists: Grown<ClassParts>,
     /// How many classes there are, those of the catalogue, of the lists and of the open one.
     pub classes: u32,

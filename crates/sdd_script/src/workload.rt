@@ -10,7 +10,7 @@ pub type StartRows = Listed<(RelNo, Row)>;
 /// Transactions, which are numbered from 1.
 pub type Txns = Listed<Txn>;
 
-/// Lists of classes, of which each `redeclare` puts the next one in force.
+/// Class lists, of which each `redeclare` puts the next one in force.
 pub type ClassLists = Listed<ClassParts>;
 
 /// What a run works on.
@@ -25,7 +25,7 @@ pub struct Workload {
 impl Workload {
     ghost use Rattle.sdd_script.specs.Redeclaring.{has_lists};
 
-    /// Whether it declares lists of classes. Without them no event is a `redeclare`. Takes no memory.
+    /// Whether it declares class lists. Without them no event is a `redeclare`. Takes no memory.
     pub fn has_lists(&self) -> bool
         ensures { result ≡ has_lists self.now }
     {

@@ -320,7 +320,7 @@ fn put_events(out: &mut Vec<u8>, txns: &[Txn], events: &[Event]) -> Result<(), N
     Ok(())
 }
 
-/// The one spelling of a workload: its rows, transactions, lists of classes and events, each on its lines, and `end`.
+/// The one spelling of a workload: its rows, transactions, class lists and events, each on its lines, and `end`.
 /// What its numbers don't name in the catalogue has an empty name.
 ///
 /// Costs time and memory linear in the spelling.

@@ -1,4 +1,4 @@
-//! Writing the lines of lists of classes.
+//! Writing the lines of class lists.
 ghost use Rattle.std.specs.Prelude.{◌≡◌, ◌++◌, ℕ, List, flat_map, OnOk};
 ghost use Rattle.sdd_lang.specs.All.{ReadPart};
 ghost use Rattle.sdd_script.specs.Spelling.{ended, class_words, reads_words, writes_words, class_bytes, list_bytes};
@@ -90,7 +90,7 @@ fn put_list(out: &mut Vec<u8>, classes: &[ClassPart]) -> Result<(), NoMemory>
     Ok(())
 }
 
-/// Puts the lines of lists of classes.
+/// Puts the lines of class lists.
 #[tactic(auto, using(crate::proofs::Lists::written))]
 pub fn put_lists(out: &mut Vec<u8>, lists: &[ClassParts]) -> Result<(), NoMemory>
     ensures { OnOk result (out.new.items ≡ out.old.items ++ flat_map list_bytes lists.now) }

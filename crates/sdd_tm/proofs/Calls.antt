@@ -197,7 +197,7 @@ new_represents k whole era tm live is valid counts of_whole s e f =
     none_yet (c ∷ cs) zero x g = subst (λ (y : ClassState). class_step false y ≡ None) (some_is g) refl
     none_yet (c ∷ cs) (suc i) x g = none_yet cs i x g
 
--- a list of classes is put in force
+-- a class list is put in force
 
 pub redeclared_represents : (old new : Kept State) (era : Era) (t : ℕ)
     → new ≡ record old { value = record old.value { era = era; clock = pushed old.value.clock t } }

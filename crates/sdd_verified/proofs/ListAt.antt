@@ -1,4 +1,4 @@
--- Which list of classes is in force where a transaction is submitted: that which the `redeclare`s before its event put in
+-- Which class list is in force where a transaction is submitted: that which the `redeclare`s before its event put in
 -- force.
 use Rattle.sdd_verified.proofs.All.{AllFewTicks, AreSubmittedOnce, Event, Input, IsLawful, IsPermitted, IsSubmitted, List, Log, Mark, Redeclares, Site, Submit, Submitted, [], ap, append_assoc, arith, count_join, done, given_at, history, inl, inr, lawful_before, lawful_permitted, left, left_is, length, one_if, permitted_before, redeclares, redeclares_in, submit_in, submits_by, submits_in, subst, sym, ℕ, ◌++◌, ◌+◌, ◌==◌, ◌∙◌, ◌∷◌, ◌≡◌, ◌≤◌}
 use Rattle.sdd_verified.proofs.ClassPlaces.{before_any, behind_front, redeclared_at}

@@ -9,7 +9,7 @@ ghost use Rattle.sdd_verify.specs.declared.verdict.Verdict.TheVariants.{Yes};
 use sdd_obligations::sdd_catalog::Catalogue;
 
 /// The verdict on the report on the run of a workload is Yes, where the report isn't too long to be
-/// judged, whatever lists of classes the workload puts in force. Takes no time and no memory.
+/// judged, whatever class lists the workload puts in force. Takes no time and no memory.
 pub fn law_verified(catalogue: &Catalogue)
     ensures { (work : Workload) (text : List ℕ) → IsValid catalogue.now work → IsReportOn catalogue.now work text
         → length text ≤ MAX_REPORT_BYTES → verdict catalogue.now work text ≡ Yes }

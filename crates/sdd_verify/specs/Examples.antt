@@ -83,7 +83,7 @@ pub no_end : told (codes "order p q\nreply p ok\nreply q ok\nquery 1 1\nrow 5 10
 unfolding cut_lines digits
 no_end = refl
 
--- a further list of classes, whose one class reads and writes all
+-- a further class list, whose one class reads and writes all
 
 abbrev further : ClassPart
 further =

@@ -21,7 +21,7 @@ IsInTurn classes order = (i k : ℕ) → i < k → k < length order
     → ((at order i).0 ≢ (at order k).0) × (class_of classes (at order i) ≡ class_of classes (at order k) → (at order i).0 < (at order k).0)
 
 -- The report gives an order of submitted transactions, none of them twice and those of one class by submission, each by the
--- list of classes in force when it was submitted. Its first
+-- class list in force when it was submitted. Its first
 -- order line names them; the lines after it are the replies of the one plain database that begins with the
 -- workload's rows and runs these transactions in this order; and then comes a line that is of no reply.
 pub record IsVerified (cat : Catalogue) (work : Workload) (report : List ℕ) : Type 0 where

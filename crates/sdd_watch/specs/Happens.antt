@@ -158,7 +158,7 @@ abbrev pub is_something : Found → Bool
 is_something founds.Nothing = false
 is_something _ = true
 
--- the event itself is of the site: a submission is of the site of its class by the list in force, and a list of classes that
+-- the event itself is of the site: a submission is of the site of its class by the list in force, and a class list that
 -- is put in force is of the transaction modules
 abbrev pub concerns : Input → Log → Event → Found → Site → Bool
 concerns g log (Submit n) found at = same_site (class_site (nth_era g (redeclares log)).catalogue (txn_at g n.0)) at

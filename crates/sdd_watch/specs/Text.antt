@@ -24,7 +24,7 @@ line_of g log k = line g.catalogue g.txns (change g (at_event (k - 1) log) (at_e
 abbrev pub inside_text : Input → Log → List ℕ
 inside_text g log = beginning g.catalogue g.txns (tables_of g []) ++ flat_map (line_of g log) (numbers_to (marks log))
 
--- A text is that of the run of a workload: of the one log of what is given, by the protocol tables of the lists of classes,
+-- A text is that of the run of a workload: of the one log of what is given, by the protocol tables of the class lists,
 -- of which each has one.
 pub record IsInsideOf (cat : Catalogue) (work : Workload) (text : List ℕ) : Type 0 where
   pub tables : List (List Entry)

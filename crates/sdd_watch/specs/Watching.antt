@@ -31,7 +31,7 @@ use Rattle.sdd_watch.specs.declared.watched_pipe.WatchedPipe.{WatchedPipe}
 
 -- between two logs
 
--- an event, or a list of classes that is put in force
+-- an event, or a class list that is put in force
 abbrev pub IsMark : Entry → Type 0
 IsMark (Mark e) = Unit {0}
 IsMark (Redeclares t) = Unit {0}
@@ -61,7 +61,7 @@ pub record IsOver (g : Input) (old new : Log) (w : World) (e : Event) (found : F
   pub event_is : e ≡ last_event new
   pub found_is : found ≡ found_by e old new
 
--- what names there are in an event: a list of classes that is put in force names nothing
+-- what names there are in an event: a class list that is put in force names nothing
 abbrev pub IsTellable : Input → Event → Type 0
 IsTellable g Redeclare = Unit {0}
 IsTellable g e = IsPossible g e

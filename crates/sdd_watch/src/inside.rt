@@ -54,7 +54,7 @@ struct First<'a> {
     events: Vec<Event>,
 }
 
-/// The world of a workload before its first event, and its events. The lists of classes have these
+/// The world of a workload before its first event, and its events. The class lists have these
 /// protocol tables.
 fn first_world<'a>(
     alloc: Global,
@@ -86,7 +86,7 @@ fn first_world<'a>(
     })
 }
 
-/// The text for a workload whose lists of classes have these protocol tables.
+/// The text for a workload whose class lists have these protocol tables.
 fn text_with_tables<'a>(
     alloc: Global,
     catalogue: &'a Catalogue,

@@ -121,7 +121,7 @@ fn rounds<'a>(
     Ok(now)
 }
 
-/// Puts the first of these lists of classes in force, and tells it and its rounds.
+/// Puts the first of these class lists in force, and tells it and its rounds.
 fn redeclare<'a>(
     world: World<'a>,
     place: u32,
@@ -180,7 +180,7 @@ fn carry_out_one<'a>(
 }
 
 /// Carries out the events of a schedule, in order, and tells each. Each `Redeclare` among them puts the
-/// next of the lists of classes in force.
+/// next of the class lists in force.
 ///
 /// # Errors
 ///

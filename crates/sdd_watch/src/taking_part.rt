@@ -27,7 +27,7 @@ fn is_something(found: &Found) -> bool
     }
 }
 
-/// The site of a transaction's class, by its number and by the list of classes in force.
+/// The site of a transaction's class, by its number and by the class list in force.
 fn home_of(world: &World<'_>, number: TxnNo) -> Site
     requires { (g : Input) × (log : Log) × Calm world.now g log }
     ensures { (g : Input) (log : Log) → Calm world.now g log → result

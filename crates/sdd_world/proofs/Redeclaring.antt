@@ -1,4 +1,4 @@
--- A list of classes is put in force at all transaction modules, one after the other.
+-- A class list is put in force at all transaction modules, one after the other.
 use Rattle.sdd_world.proofs.All.{AllRepresent, AreRedeclared, D, Era, FitsEra, Input, IsSiteOf, Log, Redeclared, Represent, Setting, Site, Sites, T, TmNo, U, and_from, and_parts, ap, arith, cases_lt, differ, false, fold, inl, inr, le-leb, leb-true, local_of, map, max, nat_le, number_of, range_with_len, refl, same_is, same_site, setting_of, subst, suc, sym, tm_no, true, ℕ, ◌+◌, ◌-◌, ◌<◌, ◌∙◌, ◌∷◌, ◌≡◌, ◌≤◌}
 use Rattle.sdd_obligations.specs.site_module.SiteLog as site
 

@@ -26,7 +26,7 @@ BeginsT whole cat table n made = (s : Setting) → s.catalogue ≡ whole → s.s
 abbrev pub BeginsD : Catalogue → List (RelNo × Row) → ℕ → Kept dm_state.State → Type 0
 BeginsD cat rows n made = dm.Represents made (record { catalogue = cat; site = D (dm_no n); rows = rows }) []
 
--- What is given is of the whole catalogue and of these transactions, and has no events yet; the first list of classes in
+-- What is given is of the whole catalogue and of these transactions, and has no events yet; the first class list in
 -- force is that of a catalogue with its table; and of these data modules each is the one of its number, made of the rows
 -- that are given for it.
 pub record IsBegun (g : Input) (whole cat : Catalogue) (table : List Entry) (txns : List Txn) (dms : List (Kept dm_state.State)) : Type 0 where

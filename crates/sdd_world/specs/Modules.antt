@@ -28,6 +28,6 @@ Represent m = RepresentsAt LivesU LivesT LivesD m.u m.tms.items m.dms.items
 abbrev pub AllRepresent : Sites → Input → Log → Type 0
 AllRepresent m g log = (at : Site) → IsSiteOf g at → Represent m at (setting_of g at) (local_of g at log)
 
--- and those of the transaction modules for logs in which this list of classes is put in force last, at a time
+-- and those of the transaction modules for logs in which this class list is put in force last, at a time
 abbrev pub AreRedeclared : Sites → Input → Log → Era → ℕ → Type 0
 AreRedeclared m g log era t = (at : Site) → IsSiteOf g at → Represent m at (setting_of g at) (with_era at era t (local_of g at log))

@@ -149,7 +149,7 @@ pub record Rounding (w : World) (g : Input) (log : Log) (e : Event) (events : Li
 abbrev pub IsNextList : Input → Catalogue → List Entry → Type 0
 IsNextList g cat table = nth_era g (suc (redeclares_in g.events)) ≡ record { catalogue = cat; table = table }
 
--- to put this list of classes in force is all that is left
+-- to put this class list in force is all that is left
 pub record Redeclaring (w : World) (g : Input) (log : Log) (era : Era) : Type 0 where
   pub calm : Calm w g log
   pub next_is : next g log ≡ Some (Redeclares (greatest_bound g log))

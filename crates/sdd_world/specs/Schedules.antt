@@ -15,7 +15,7 @@ abbrev pub with_events : Input → List Event → Input
 with_events g [] = g
 with_events g (e ∷ events) = with_events (with_event g e) events
 
--- the first of these lists of classes is the next that is given
+-- the first of these class lists is the next that is given
 abbrev pub IsListed : Input → List ClassList → Type 0
 IsListed g [] = ⊥
 IsListed g (list ∷ lists) = IsNextList g list.catalogue.now list.table.now
@@ -25,7 +25,7 @@ abbrev pub lists_after : Event → List ClassList → List ClassList
 lists_after Redeclare (list ∷ lists) = lists
 lists_after _ lists = lists
 
--- An event may come next: it is a settle, or a redeclare for which the next list of classes is there, or what it names
+-- An event may come next: it is a settle, or a redeclare for which the next class list is there, or what it names
 -- exists; and with it what is given is good.
 pub record IsAllowed (g : Input) (e : Event) (lists : List ClassList) : Type 0 where
   pub possible : takes_rounds e ≡ false → IsPossible g e

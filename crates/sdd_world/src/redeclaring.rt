@@ -1,4 +1,4 @@
-//! Another list of classes is put in force in a world, once its links are quiet.
+//! Another class list is put in force in a world, once its links are quiet.
 ghost use Rattle.std.specs.Prelude.{◌≡◌, IfOk, IsErrOf};
 ghost use Rattle.sdd_obligations.specs.All.{Input, IsGood, Log, Redeclare, with_event};
 ghost use Rattle.sdd_world.specs.Represents.{EndsBy, IsNextList, Redeclaring, Represents};
@@ -10,7 +10,7 @@ use sdd_obligations::sdd_catalog::Catalogue;
 use sdd_obligations::sdd_protocol::Table;
 
 impl<'a> World<'a> {
-    /// Puts a list of classes in force at all transaction modules, at the greatest bound of their
+    /// Puts a class list in force at all transaction modules, at the greatest bound of their
     /// clocks. It is an event, with a number and no record.
     pub(crate) fn put_in_force(
         &mut self,
@@ -37,7 +37,7 @@ impl<'a> World<'a> {
     }
 
     /// Carries out rounds until nothing is in flight and everything is acknowledged, puts the next
-    /// list of classes in force with its protocol table, and adds a `Redeclare` to the events that
+    /// class list in force with its protocol table, and adds a `Redeclare` to the events that
     /// were given.
     ///
     /// # Errors

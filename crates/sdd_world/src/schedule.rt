@@ -10,14 +10,14 @@ use sdd_obligations::sdd_catalog::Catalogue;
 use sdd_obligations::sdd_protocol::Table;
 use std::collections::VecDeque;
 
-/// A list of classes as it is put in force: the catalogue that has them, with its protocol table.
+/// A class list as it is put in force: the catalogue that has them, with its protocol table.
 #[derive(Clone, Copy)]
 pub struct ClassList<'a> {
     pub catalogue: &'a Catalogue,
     pub table: &'a Table,
 }
 
-/// Puts the first of these lists of classes in force.
+/// Puts the first of these class lists in force.
 fn redeclare_first<'a>(
     world: World<'a>,
     lists: &mut VecDeque<ClassList<'a>>,
@@ -62,7 +62,7 @@ fn carry_out_one<'a>(
 }
 
 /// Carries out the events of a schedule, in order. Each `Redeclare` among them puts the next of the
-/// lists of classes in force.
+/// class lists in force.
 ///
 /// Costs what the events cost: each packet that is delivered, each message that is handed over
 /// with all that it makes due.

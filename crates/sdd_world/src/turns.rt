@@ -63,7 +63,7 @@ impl<'a> World<'a> {
         Ok(self)
     }
 
-    /// Puts a list of classes in force with its protocol table, once the rounds of a `Redeclare` are
+    /// Puts a class list in force with its protocol table, once the rounds of a `Redeclare` are
     /// over.
     ///
     /// # Errors

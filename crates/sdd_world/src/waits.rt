@@ -71,7 +71,7 @@ impl World<'_> {
         }
     }
 
-    /// The site of a transaction's class, by its number and by the list of classes in force.
+    /// The site of a transaction's class, by its number and by the class list in force.
     fn last_home(&self, number: TxnNo) -> Site
         requires { (g : Input) × (log : Log) × Represents self.now g log }
         ensures { (g : Input) (log : Log) → Represents self.now g log → result ≡ last_home g log number.0 }
