@@ -40,7 +40,7 @@ GOOD = [
     ["benchmark.py", "--only", "small", "--runs", "1"] + P,
     ["benchmark.py", "--only", "bank", "rows", "largest", "--part", "100", "--beside", "PROGRAM"] + P,
     ["measure_gate.py", "--log", "ROOM/log", "--into", "ROOM/gate", "--", "true"],
-    ["write_log_rows.py", "--check"], ["proof_map.py", "--into", "ROOM/map", "--picture", "ROOM/map.svg"], ["proof_map.py", "--unused"],
+    ["write_log_examples.py", "--check"], ["proof_map.py", "--into", "ROOM/map", "--picture", "ROOM/map.svg"], ["proof_map.py", "--unused"],
     ["layers.py", "--into", "ROOM/layers.svg"], ["crate_paths.py", "--most", "20000"],
     ["page.py", CAT, WORK, "--into", "ROOM/page.html"] + P, ["picture.py", REPORT, CAT, WORK, "--into", "ROOM/run.svg"] + P,
     ["graph_picture.py", "examples/ycsb/catalogue.toml", "--into", "ROOM/matrix.svg"] + P, ["check_inside.py", "0", "3"],
@@ -72,7 +72,7 @@ BAD = [
     ["benchmark.py", "--part", "0"] + P, ["benchmark.py", "--only", "small", "--into", "README.md"] + P,
     ["benchmark.py", "--only", "small", "--beside", "/no/p"] + P, ["measure_gate.py", "--", "/no/p"],
     ["program.py"], ["program.py", "nonsense"], ["program.py", "check", "/no/a"],
-    ["write_log_rows.py", "x"], ["crate_paths.py", "--crates", "/no/a"], ["crate_paths.py", "--top", "nocrate"],
+    ["write_log_examples.py", "x"], ["crate_paths.py", "--crates", "/no/a"], ["crate_paths.py", "--top", "nocrate"],
 ]
 
 

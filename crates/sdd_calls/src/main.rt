@@ -1,5 +1,5 @@
 //! Calls, each with ample memory, the public functions of the lower crates that take memory and that no
-//! command of the program reaches, and those of which a worked row shows more than a command.
+//! command of the program reaches, and those of which a worked example shows more than a command.
 //!
 //! No contract says when memory runs out, so a body that always returns `NoMemory` is proved too. The
 //! calls of a command are made by the cases of `sdd_cases`, these here. Each answer is compared

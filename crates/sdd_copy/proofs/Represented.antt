@@ -1,4 +1,4 @@
--- Copies stand for the changes that were applied to them.
+-- Copies represent the changes that were applied to them.
 use Rattle.sdd_copy.proofs.All.{All, All-from_recursion, AllByRecursion, AreSame, Bool, Change, Dated, DatesDiffer, Held, IsLive, Items, Kept, List, None, Option, Represent, Some, [], ap, append-nil, append_assoc, arith, changed_at, cond, eq-eqb, eqb-true, false, filter-append, fold, fold-append, held_in, is_here, is_some, items_at, items_of, length, length-map, map, of_fragment, option_map, or_none, refl, slice_index_or, slice_set, subst, suc, sym, true, with_change, written, zero, ℕ, ◌++◌, ◌==◌, ◌∙◌, ◌∷◌, ◌≡◌, ◌≤◌}
 use Rattle.sdd_copy.proofs.Order.{same_items_left}
 

@@ -1,9 +1,9 @@
--- The rows of uses: frozen from copies that stand for changes, and reduced one use after the other.
+-- The rows of uses: frozen from copies that represent changes, and reduced one use after the other.
 use Rattle.sdd_copy.proofs.All.{All, AllByRecursion, AreHere, Bool, CopyRows, Dated, FragNo, Frozen, Held, List, None, Represent, Restriction, Some, Use, Value, [], ap, arith, chosen, column, cond, contents, drop, entries_in, eq-eqb, false, filter, filter_same, first_some, flat_map, fold, frozen_for, is_among, is_here, is_known, known_use, length, map, map_over_more, recursion_from_All, reduced, refl, rows_at, rows_for, slice_index_or, slice_set, suc, sym, take, take_all, true, with_keyed, with_values, zero, ℕ, ℤ, ◌++◌, ◌+◌, ◌<◌, ◌==◌, ◌∙◌, ◌∷◌, ◌≡◌, ◌≤◌}
 use Rattle.sdd_copy.proofs.Contents.{items_tell}
 use Rattle.sdd_copy.proofs.Members.{known_among}
 
--- copies that stand for changes give the contents of these
+-- copies that represent changes give the contents of these
 
 rows_told : (copies : Held) (xs : Dated) (f : ℕ) → Represent copies xs → is_here copies f ≡ true → rows_at copies f ≡ contents f xs
 rows_told copies xs f represent here = ap entries_in (represent f here) ∙ items_tell f xs

@@ -1,4 +1,4 @@
--- The copies of fragments at one module, and the changes that they stand for.
+-- The copies of fragments at one module, and the changes that they represent.
 use Rattle.std.specs.Prelude.{ℕ, zero, suc, ◌≡◌, ℤ, pos, Bool, true, List, [], ◌∷◌, map, slice_index_or, Option, Some, None, is_some, IfSome, refl}
 use Rattle.std.specs.List.{All}
 use Rattle.std.specs.Option.{option_map}

@@ -17,7 +17,7 @@ pub fn law_order()
         → contents f xs ≡ contents f ys }
 {}
 
-/// Copies that stand for changes stand for the same changes in whatever order.
+/// Copies that represent changes represent the same changes in whatever order.
 pub fn law_copies_order()
     ensures { (copies : Held) (xs ys : Dated) → DatesDiffer xs → AreSame xs ys
         → Represent copies xs → Represent copies ys }

@@ -1,4 +1,4 @@
--- A call that took a message did what the log has next, and stands for the log after it.
+-- A call that took a message did what the log has next, and represents the log after it.
 use Rattle.sdd_dm.proofs.All.{Bases, Bool, Does, Handed, Kept, List, Log, Msg, None, Notes, Rec, Represents, Setting, Shows, Site, State, Worked, all_noted, ap, does_reached, first_step, fits, home_of, next, nothing_noted, refl, subst, true, ◌∙◌, ◌∷◌, ◌≡◌}
 use Rattle.sdd_dm.proofs.FirstDue.{act_of, due_is}
 

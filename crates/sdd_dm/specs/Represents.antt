@@ -1,4 +1,4 @@
--- For which logs a data module stands.
+-- Which logs a data module represents.
 use Rattle.std.specs.Prelude.{ℕ, suc, ◌≤◌, ◌≡◌, true, IsTrue, [], ◌∷◌, ◌++◌, length, Some, None}
 use Rattle.std.specs.List.{All}
 use Rattle.sdd_module.specs.All.{Bases, Handed, Kept, Log, Msg, Notes, Reached, Read, Setting, Site, has_copy, nothing_noted, number_of}
@@ -64,7 +64,7 @@ Worked from m old new notes =
     (s : Setting) (bases : Bases) (log : Log) → Shows s old log → fits s bases log from m
     → Reached (Shows s) (next s bases) ◌∷◌ (Handed from m ∷ log) new nothing_noted notes
 
--- a module, made in this setting, stands for this log; nothing more is due
+-- a module, made in this setting, represents this log; nothing more is due
 pub record Represents (k : Kept State) (s : Setting) (log : Log) : Type 0 where
   pub live : IsTrue k.live
   pub shows : Shows s k.value log

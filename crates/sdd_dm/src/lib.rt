@@ -4,7 +4,7 @@
 //! The one contract to the layer above: `DataModule` is a `Module` whose acts are those that
 //! `specs/Due.antt` makes due at its site. It keeps far less than the log: of each pipe what
 //! conditions ask, the copies, and the rows that are frozen (`specs/State.antt`); which logs it
-//! stands for is defined in `specs/Stands.antt`.
+//! represents is defined in `specs/Represents.antt`.
 #![tactic(auto)]
 
 mod conditions;

@@ -72,7 +72,7 @@ pub fn first_copies(
 }
 
 /// By fragment, from number 0 on, the key column of its relation where the module has a copy.
-/// Number 0 stands for fragment 1.
+/// Number 0 is used for fragment 1.
 fn key_columns(alloc: Global, catalogue: &Catalogue, dm: DmNo) -> Result<Vec<Option<u32>>, NoMemory>
     ensures { IfOk result (λ keys. (f : ℕ) → has_copy catalogue.now dm.0 f ≡ true
         → is_some (slice_index_or keys.items f None) ≡ true) }

@@ -1,4 +1,4 @@
--- Worked rows of conflict graphs.
+-- Worked examples of conflict graphs.
 use Rattle.std.specs.Prelude.{ℕ, pos, negsuc, ◌-◌, ◌^◌, ◌≡◌, List, [], ◌∷◌, map, refl}
 use Rattle.sdd_catalog.specs.declared.parts.Kind.TheVariants as kinds
 use Rattle.sdd_catalog.specs.declared.resolved.Relation.{Relation}

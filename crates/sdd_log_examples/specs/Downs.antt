@@ -1,4 +1,4 @@
--- Worked logs, written by tools/write_log_rows.py.
+-- Worked logs, written by tools/write_log_examples.py.
 use Rattle.std.specs.Prelude.{◌≡◌, pos, negsuc, [], ◌∷◌, length, Some, None, refl}
 use Rattle.sdd_log.specs.All.{Apply, Catalogue, Commit, D, Deliver, Down, Input, Int, Log, Nothing, P1, Put, Rows, Start, Submit, T, Up, class_no, dm_no, extended, frag_no, history, marks, next, rel_no, time_at, tm_no, txn_no}
 use Rattle.sdd_graph.specs.declared.edge.Edge.TheVariants.{Vertical}

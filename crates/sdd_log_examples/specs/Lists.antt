@@ -1,4 +1,4 @@
--- Worked logs, written by tools/write_log_rows.py.
+-- Worked logs, written by tools/write_log_examples.py.
 use Rattle.std.specs.Prelude.{◌≡◌, pos, negsuc, [], ◌∷◌, length, Some, None, refl}
 use Rattle.sdd_log.specs.All.{Arrive, Catalogue, D, Deliver, Input, Int, Log, P1, P2, Query, Redeclare, Start, Submit, T, Tick, U, Wait, class_no, dm_no, extended, frag_no, history, marks, next, rel_no, time_at, tm_no, txn_no}
 use Rattle.sdd_graph.specs.declared.edge.Edge.TheVariants.{Vertical, Horizontal, Diagonal}

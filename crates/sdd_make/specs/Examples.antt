@@ -1,4 +1,4 @@
--- Worked rows.
+-- Worked examples.
 use Rattle.std.specs.Prelude.{ℕ, ◌≡◌, List, [], ◌∷◌, codes, refl}
 use Rattle.std.specs.Fmt.{digits}
 use Rattle.sdd_script.specs.All.{D, Settle, Submit, T, dm_no, tm_no, txn_no}

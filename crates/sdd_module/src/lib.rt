@@ -1,6 +1,6 @@
 //! What a site does by itself, as a log of it.
 //!
-//! The one contract to the layer above: a `Module` stands for the log of all that was handed to
+//! The one contract to the layer above: a `Module` represents the log of all that was handed to
 //! its site and all that the site did, and a call makes exactly the acts that are due, one after
 //! the other, until none is. `Draft` gathers what a call records and sends. `specs/Making.antt`
 //! and `proofs/Does.antt` carry the loop of a call from a module's state to its log.

@@ -6,10 +6,10 @@ ghost use Rattle.sdd_lang.specs.All.{Site};
 use sdd_lang::sdd_base::{NoMemory, Site};
 use sdd_wire::{Msg, Outcome};
 
-/// A module of a site. It stands for a log of what was handed to the site and what the site did,
+/// A module of a site. It represents a log of what was handed to the site and what the site did,
 /// newest first.
 pub trait Module: Drop {
-    /// Made in this setting, the module stands for this log.
+    /// Made in this setting, the module represents this log.
     ghost represents: { Self → Setting → Log → Type 0 };
 
     /// The act that is due next at the site, where these are the databases that its attempts read.

@@ -1,4 +1,4 @@
--- What each call of the network does to what it stands for.
+-- What each call of the network does to what it represents.
 use Rattle.sdd_net.proofs.All.{ArePair, Bool, Call, Changes, ChangesPair, Channel, ChannelsRepresent, Delivers, Directions, Does, FitsWay, HasLink, IsNet, IsSoundLink, IsTrue, Kept, Link, List, Loses, Matches, None, Ok, Option, Packet, PlacedLink, Repeats, Represents, Result, Site, Some, Way, [], after_call, ap, arith, deliver, false, index_of, is_link, is_some, length, link, lose, mul-add-lt, on_link, packet_at, refl, repeat, replicate, site_count, slice_get, slice_get_within, subst, suc, sym, true, unused, unused_channel, with_flight, with_packet, without_at, zero, ℕ, ◌*◌, ◌++◌, ◌-◌, ◌<◌, ◌∙◌, ◌∷◌, ◌≡◌, ◌≤◌}
 use Rattle.sdd_net.proofs.Lists.{without-past}
 use Rattle.sdd_net.proofs.Directions.{link_parts, link_back, place_below, index_apart, back_is, step, one_way}

@@ -132,7 +132,7 @@ pub back_is : {M : Type 0} (tms dms : ℕ) (a b : Site) (calls : List (Call M))
     → IsTrue (is_link tms dms a b) → (link b a calls).there ≡ (link a b calls).back
 back_is tms dms a b calls h = ap (λ l. l.there) (link_turned a b calls (linked_apart a b (link_parts tms dms a b h).linked))
 
--- what a call does to the channels of its link makes the network stand for the calls with it
+-- what a call does to the channels of its link makes the network represent the calls with it
 pub step : {M : Type 0} (tms dms : ℕ) (old new : List (Channel M)) (calls : List (Call M)) (call : Call M) (from to : Site) (f : Link M → Link M)
     → ((a b : Site) (l : Link M) → after_call a b call l ≡ on_link a b from to f l)
     → IsTrue (is_link tms dms from to) → ChannelsRepresent tms dms old calls

@@ -119,7 +119,7 @@ turns_to {M = M} k ns sent ((x, m) ∷ rest) h below = elim (x == k + 1) as (λ 
       stays k ns sent ((x, m) ∷ rest) h (stops ns k below (sym (h.same (suc k) (omega arith)) ∙ gap)) (rw p refl) (rw p refl))
 ] refl
 
--- the arrival of message n: the receiver stands for one number more, and hands on what just came to belong to 1 to k
+-- the arrival of message n: the receiver represents one number more, and hands on what just came to belong to 1 to k
 pub record Receives {M : Type 0} (n : ℕ) (m : M) (arrived : List ℕ) (sent : List M) (r : Receiving M) : Type 0 where
   pub represents : HasReceived (received n m r) (n ∷ arrived) sent
   pub handed : handed_on n m r ≡ drop (top arrived) (take (top (n ∷ arrived)) sent)
@@ -161,7 +161,7 @@ pub receives : {M : Type 0} (n : ℕ) (m : M) (arrived : List ℕ) (sent : List 
 receives n m arrived sent r one is h =
     elim (dec_le n (top arrived)) [ yes p ↦ receives_old n m arrived sent r one p h | no p ↦ receives_new n m arrived sent r (omega (arith, p)) is h ]
 
--- what is exact of one arrival says what the receiver stands for after it
+-- what is exact of one arrival says what the receiver represents after it
 pub arrival_stands : {M : Type 0} (n : ℕ) (m : M) (old : Receiving M) (new : Kept (Receiving M)) (handed : List M)
     → 1 ≤ n → new ≡ record { live = true; value = received n m old } → handed ≡ handed_on n m old
     → (arrived : List ℕ) (sent : List M) → slice_get sent (n - 1) ≡ Some m → HasReceived old arrived sent

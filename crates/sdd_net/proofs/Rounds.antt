@@ -90,7 +90,7 @@ is_empty-count : {A : Type 0} (xs : List A) (a n : ℕ) → length xs ≡ n - a 
 is_empty-count [] a n e = sym (le-leb n a (omega (arith, e)))
 is_empty-count (x ∷ xs) a n e = sym (lt-leb n a (omega (arith, e)))
 
--- what stands for a link at a place past the end
+-- what represents a link at a place past the end
 abbrev pub no_link : PlacedLink
 no_link = record { from = U; to = U; there = 0; back = 0 }
 
@@ -111,7 +111,7 @@ module _ {M : Type 0} where
   in_flight_fits None p w v h k = absurd h
   in_flight_fits (Some c) p w v h k = rw (resends_fits (Some c) p w v h k, flight_is c w h, unacked_count c w h) refl
 
-  -- the channel back stands for the link back
+  -- the channel back represents the link back
   fits_back : (tms dms : ℕ) (channels : List (Channel M)) (calls : List (Call M)) (a b : Site)
       → ChannelsRepresent tms dms channels calls → IsTrue (is_link tms dms a b)
       → FitsWay (slice_get channels (index_of tms dms b a)) (link a b calls).back

@@ -1,4 +1,4 @@
--- What contracts see of a network, and which calls it stands for.
+-- What contracts see of a network, and which calls it represents.
 use Rattle.sdd_base.specs.Kept.{Kept}
 use Rattle.sdd_base.specs.Words.{is_empty}
 use Rattle.sdd_base.specs.declared.limits.TheConstants.{MAX_TMS, MAX_DMS}
@@ -61,7 +61,7 @@ unused_channel = record {
   receiver = record { live = true; value = nothing_received };
 }
 
--- a channel stands for one direction of a link: it keeps what is unacknowledged, what is in flight, and what came early
+-- a channel represents one direction of a link: it keeps what is unacknowledged, what is in flight, and what came early
 pub record Matches {M : Type 0} (c : Channel M) (w : Way M) : Type 0 where
   pub sender : c.sender
       ≡ record { live = true; value = record { acked = w.acked; unacked = drop w.acked w.sent } }
@@ -92,12 +92,12 @@ abbrev pub IsLiveAt : {M : Type 0} → Option (Channel M) → Type 0
 IsLiveAt None = ⊥
 IsLiveAt (Some c) = IsLive c
 
--- one direction now stands for this way, and the others stay
+-- one direction now represents this way, and the others stay
 pub record Changes {M : Type 0} (old new : List (Channel M)) (at : ℕ) (w : Way M) : Type 0 where
   pub fits : FitsWay (slice_get new at) w
   pub others : (k : ℕ) → k ≢ at → slice_get new k ≡ slice_get old k
 
--- two directions stand for a link and the link back
+-- two directions represent a link and the link back
 pub record ArePair {M : Type 0} (channels : List (Channel M)) (there back : ℕ) (l : Link M) : Type 0 where
   pub apart : there ≢ back
   pub fits_there : FitsWay (slice_get channels there) l.there
@@ -149,14 +149,14 @@ abbrev pub deliveries_on : {M : Type 0} → List (Channel M) → PlacedLink → 
 deliveries_on channels l =
     replicate (in_flight_at (slice_get channels l.there) (slice_get channels l.back)) (Deliver l.from l.to 1)
 
--- what holds of a network's fields: it stands for some calls while it is live
+-- what holds of a network's fields: it represents some calls while it is live
 pub record IsNet {M : Type 0} (tms dms : ℕ) (all : List PlacedLink) (live : Bool) (channels : List (Channel M)) : Type 0 where
   pub few_tms : tms ≤ MAX_TMS
   pub few_dms : dms ≤ MAX_DMS
   pub all_links : all ≡ map (placed tms dms) (links tms dms)
   pub represents : live ≡ true → (calls : List (Call M)) × ChannelsRepresent tms dms channels calls
 
--- a call was made: the network is live, has the sites that it had, and stands for the calls with it
+-- a call was made: the network is live, has the sites that it had, and represents the calls with it
 pub record Does {M : Type 0} (old new : Kept (Directions M)) (call : Call M) : Type 0 where
   pub live : IsTrue new.live
   pub tms : new.value.tms ≡ old.value.tms

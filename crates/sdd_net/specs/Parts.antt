@@ -76,7 +76,7 @@ pub record IsEarly {M : Type 0} (k : ℕ) (arrived : List ℕ) (sent : List M) (
   pub are_sent : AreSent sent early
   pub same : (n : ℕ) → k < n → contains (numbers early) n ≡ contains arrived n
 
--- a receiver stands for the numbers that arrived, where each message is the one that was sent with its number
+-- a receiver represents the numbers that arrived, where each message is the one that was sent with its number
 pub record HasReceived {M : Type 0} (r : Receiving M) (arrived : List ℕ) (sent : List M) : Type 0 where
   pub count : r.count ≡ top arrived
   pub early : IsEarly (top arrived) arrived sent r.early

@@ -10,7 +10,7 @@ use crate::packet::{Packet, Parcels};
 use sdd_base::{MAX_LINK_MESSAGES, NoMemory, Parcel};
 
 // Each function changes the channel at one place, and its clause says which way that channel
-// stands for afterwards.
+// represents afterwards.
 
 /// Puts a message on the direction at a place.
 #[tactic(auto, using(crate::proofs::Places::live_places))]

@@ -68,7 +68,7 @@ impl<M: Parcel> Receiver<M> {
             self.new ≡ record { live = true; value = received no msg self.old.value }) }
         ensures err { OnErr result (self.new.live ≡ false) }
 
-        // Where the receiver stands for what arrived before, it stands for one arrival more.
+        // Where the receiver represents what arrived before, it represents one arrival more.
         ensures law { IfOk result (λ handed.
             (arrived : List ℕ) (sent : List M) → slice_get sent (no - 1) ≡ Some msg
             → HasReceived self.old.value arrived sent

@@ -1,4 +1,4 @@
--- Worked rows.
+-- Worked examples.
 use Rattle.std.specs.Prelude.{ℕ, pos, ◌≡◌, List, [], ◌∷◌, map, refl}
 use Rattle.sdd_catalog.specs.Catalogue.{Catalogue, catalogue_of}
 use Rattle.sdd_catalog.specs.Examples.{split}

@@ -1,4 +1,4 @@
--- Worked rows.
+-- Worked examples.
 use Rattle.std.specs.Prelude.{ℕ, ◌≡◌, [], ◌∷◌, List, codes, pos, Some, None, refl}
 use Rattle.std.specs.Fmt.{digits}
 use Rattle.sdd_lang.specs.All.{Catalogue, D, Int, Value, class_no, dm_no, frag_no, rel_no, time_at, tm_no, txn_no}

@@ -1,4 +1,4 @@
--- A new world of a workload stands for the empty log of what is given before its first event.
+-- A new world of a workload represents the empty log of what is given before its first event.
 use Rattle.sdd_run.proofs.All.{AllBegin, AreAllowed, AreTables, BeginsD, Catalogue, Class, ClassList, D, Entry, Era, Event, Input, IsBegun, IsGood, IsSoundCatalogue, IsValid, Kept, List, MAX_DMS, MAX_TMS, RelNo, Represents, Row, Some, State, There, Txn, Workload, World, [], ap, classes_in, dm_no, drop, era_of_list, eras, eras_in, eras_with_tables, first_input, get_or, map, refl, rows_of, slice_get, subst, sym, tail_of, whole_in, ◌-◌, ◌∙◌, ◌∷◌, ◌≡◌, ◌≤◌}
 use Rattle.sdd_run.proofs.Allowed.{HasLists, allowed}
 use Rattle.sdd_run.proofs.Beginning.{begins_sound, rows_given}

@@ -7,7 +7,7 @@ use Rattle.sdd_world.specs.Represents.{Represents}
 use Rattle.sdd_world.specs.declared.world.World.{World}
 use Rattle.sdd_run.specs.Runs.{input_of}
 
--- A world that has carried out all events of a workload: it stands for the one log of the run.
+-- A world that has carried out all events of a workload: it represents the one log of the run.
 pub record IsRunOf (cat : Catalogue) (tables : List (List Entry)) (work : Workload) (w : World) : Type 0 where
   pub log : Log
   pub log_is : IsTheLog (input_of cat tables work) log

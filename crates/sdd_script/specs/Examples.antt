@@ -1,4 +1,4 @@
--- Worked rows: files at one module of each kind, with the relation acct (id, bal) of whole numbers, of which id is the key.
+-- Worked examples: files at one module of each kind, with the relation acct (id, bal) of whole numbers, of which id is the key.
 use Rattle.std.specs.Prelude.{◌≡◌, ℕ, pos, negsuc, [], ◌∷◌, codes, Ok, Err, Result, refl}
 use Rattle.std.specs.Fmt.{digits}
 use Rattle.std.specs.Str.{is_utf8, chars}

@@ -1,4 +1,4 @@
--- For which logs a transaction module stands, and what holds between the acts of a call.
+-- Which logs a transaction module represents, and what holds between the acts of a call.
 use Rattle.std.specs.Prelude.{ℕ, suc, ◌+◌, ◌<◌, ◌≤◌, ◌^◌, ◌≡◌, ◌≢◌, IsTrue, List, [], ◌∷◌, slice_get, Some, None}
 use Rattle.std.specs.List.{AllByRecursion}
 use Rattle.sdd_attempt.specs.All.{AreStamped, Bases, IsDatabase, IsLineOf, IsServed, IsWhole, Kept, Log, Setting, active, current_era, hands, starts_left}
@@ -51,7 +51,7 @@ pub record IsKept (s : Setting) (log : Log) (state : State) : Type 0 where
 abbrev pub AreSettled : State → Type 0
 AreSettled state = (place : ℕ) (k : ClassState) → slice_get state.classes place ≡ Some k → class_step state.on_hold k ≡ None
 
--- the module stands for the log: it keeps what follows from the log, and nothing is due
+-- the module represents the log: it keeps what follows from the log, and nothing is due
 pub record Represents (k : Kept State) (s : Setting) (log : Log) : Type 0 where
   pub live : IsTrue k.live
   pub setting : IsSettingOf s log

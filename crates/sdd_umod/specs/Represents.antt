@@ -40,7 +40,7 @@ pub record IsKept (s : Setting) (log : Log) (state : State) : Type 0 where
   pub sound : IsSoundLog s log
   pub state_is : state_of s log ≡ state
 
--- between calls: the module stands for the log, it keeps what follows from the log, and nothing is due
+-- between calls: the module represents the log, it keeps what follows from the log, and nothing is due
 pub record Represents (k : Kept State) (s : Setting) (log : Log) : Type 0 where
   pub live : IsTrue k.live
   pub setting : IsSetting s

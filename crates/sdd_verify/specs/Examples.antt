@@ -1,4 +1,4 @@
--- Worked rows: p puts a row, and q, of the same class, asks for all rows.
+-- Worked examples: p puts a row, and q, of the same class, asks for all rows.
 use Rattle.std.specs.Prelude.{ℕ, ◌≡◌, [], ◌∷◌, ◌++◌, List, codes, pos, refl}
 use Rattle.std.specs.Fmt.{digits}
 use Rattle.sdd_script.specs.All.{ClassPart, Int, Put, Query, Redeclare, Ref, Settle, Submit, Txn, accounts, rel_no, tm_no, txn_no}

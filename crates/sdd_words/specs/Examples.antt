@@ -1,4 +1,4 @@
--- Worked rows.
+-- Worked examples.
 use Rattle.std.specs.Prelude.{◌≡◌, [], ◌∷◌, codes, true, false, Some, None, refl}
 use Rattle.sdd_words.specs.Keywords.{looks_like_column, spells_column}
 use Rattle.sdd_words.specs.Lines.{cut_lines}

@@ -32,7 +32,7 @@ if_ok : (res : Result Outcome NoMemory) (P Q : Outcome → Type 0) → ((o : Out
 if_ok (Ok o) P Q h k = h o k
 if_ok (Err e) P Q h k = tt
 
--- the laws of `take` and `submit`, for whatever stands for logs and acts by a table
+-- the laws of `take` and `submit`, for whatever represents logs and acts by a table
 module _ {V : Type 0} (represents : Representation V) (next : Table) where
   abbrev pub TakesMsg : Fitting → V → V → Site → Msg → Outcome → Type 0
   TakesMsg fits v v2 from msg o =
@@ -44,7 +44,7 @@ module _ {V : Type 0} (represents : Representation V) (next : Table) where
       (setting : Setting) (bases : Bases) (log : site.Log) → represents v setting log → fits setting bases log n.0 txn
       → (recs : List Rec) × (o.recs ≡ Submission n ∷ recs) × Does (next setting bases) (Submits n.0 txn ∷ log) recs o.out (represents v2 setting)
 
--- what stands for a log in a wider sense does in the narrower, and after a call does again
+-- what represents a log in a wider sense does in the narrower, and after a call does again
 record Widens {V W : Type 0} (represents : Representation V) (wide : Representation W) (v v2 : V) (w w2 : W) : Type 0 where
   narrow : (setting : Setting) (log : site.Log) → wide w setting log → represents v setting log
   widen : (setting : Setting) (log more : site.Log) → wide w setting log → represents v2 setting more → wide w2 setting more

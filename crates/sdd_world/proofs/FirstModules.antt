@@ -1,4 +1,4 @@
--- The modules of a system before its first event: each stands for the beginning of its site's log.
+-- The modules of a system before its first event: each represents the beginning of its site's log.
 use Rattle.sdd_world.proofs.All.{AllBegin, At, BeginsD, BeginsT, Catalogue, D, Entry, Input, IsBegun, IsSiteOf, Kept, List, LivesD, LivesT, LivesU, None, Option, Redeclared, Representation, RepresentsAt, Setting, Site, Some, T, There, Txn, U, [], and_parts, beginning, leb-true, nat_le, refl, rows_of, setting_of, slice_get, subst, sym, ◌-◌, ◌∷◌, ◌≡◌, ◌≤◌}
 use Rattle.sdd_obligations.specs.dm.Represents as dm
 use Rattle.sdd_obligations.specs.dm.State as dm_state

@@ -47,7 +47,7 @@ pub record Stays (old new : World) : Type 0 where
   pub given : new.given ≡ old.given
   pub marks : new.marks ≡ old.marks
 
--- after an event the parts stand for a longer log
+-- after an event the parts represent a longer log
 pub record Results (w2 : World) (g : Input) (log more : Log) : Type 0 where
   pub rests : Rests g more
   pub marks_is : marks more ≡ suc (marks log)

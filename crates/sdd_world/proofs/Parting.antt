@@ -1,4 +1,4 @@
--- What the parts of a world stand for, as the log goes on.
+-- What the parts of a world represent, as the log goes on.
 use Rattle.sdd_world.proofs.All.{Act, Ahead, All, All-append, All-cons, All-nil, All-weaker, D, Does, Event, Hand, History, Input, KeepsFor, List, Log, Mailbox, Mark, Msg, Rec, Redeclares, Remain, Round, Site, Spooled, [], after_acts, ahead_of, arith, dm_no, false, history, is_down, is_down_acts, kept_from, left, left_acts, mailbox_at, map, marks, marks_acts, records_of_act, redeclares, refl, remain_acts, same_site, suc, sym, ℕ, ◌++◌, ◌∙◌, ◌∷◌, ◌≡◌, ◌≤◌}
 
 -- no record is of a later event than the last

@@ -2,7 +2,7 @@
 use Rattle.sdd_world.proofs.All.{AllRepresent, AreRedeclared, D, Era, FitsEra, Input, IsSiteOf, Log, Redeclared, Represent, Setting, Site, Sites, T, TmNo, U, and_from, and_parts, ap, arith, cases_lt, differ, false, fold, inl, inr, le-leb, leb-true, local_of, map, max, nat_le, number_of, range_with_len, refl, same_is, same_site, setting_of, subst, suc, sym, tm_no, true, ℕ, ◌+◌, ◌-◌, ◌<◌, ◌∙◌, ◌∷◌, ◌≡◌, ◌≤◌}
 use Rattle.sdd_obligations.specs.site_module.SiteLog as site
 
--- the transaction modules before number n stand for logs with the list, all other modules for theirs
+-- the transaction modules before number n represent logs with the list, all other modules for theirs
 pub record RedeclaredAt (m : Sites) (g : Input) (log : Log) (era : Era) (t n : ℕ) : Type 0 where
   pub redeclared_at : (k : ℕ) → 1 ≤ k → k < n → IsSiteOf g (T (tm_no k))
       → Represent m (T (tm_no k)) (setting_of g (T (tm_no k))) (Redeclared era t ∷ local_of g (T (tm_no k)) log)
@@ -21,7 +21,7 @@ t_within g t here =
     let p = and_parts (nat_le 1 t.0) (nat_le t.0 g.catalogue.tms) here in
     (leb-true 1 t.0 p.0, leb-true t.0 g.catalogue.tms p.1)
 
--- what the module that comes next stands for
+-- what the module that comes next represents
 pub t_represents : (m : Sites) (g : Input) (log : Log) (era : Era) (t n : ℕ) → RedeclaredAt m g log era t n → IsSiteOf g (T (tm_no n))
     → Represent m (T (tm_no n)) (setting_of g (T (tm_no n))) (local_of g (T (tm_no n)) log)
 t_represents m g log era t n f here = f.others (T (tm_no n)) (λ k e. (let same : n ≡ k = ap number_of e in omega (arith, same))) here
@@ -55,7 +55,7 @@ one_redeclared m m2 g log era t n f here fits law stay = record {
       (f.others at (λ k e. (let l = later k e in omega (arith, l))) there);
 }
 
--- behind the last number all stand for what they are to stand for
+-- behind the last number all represent what they are to represent
 pub all_redeclared : (m : Sites) (g : Input) (log : Log) (era : Era) (t n : ℕ)
     → n ≡ g.catalogue.tms + 1 → RedeclaredAt m g log era t n → AreRedeclared m g log era t
 all_redeclared m g log era t n e f U here = f.others U (λ k q. cc) here

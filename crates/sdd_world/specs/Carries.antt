@@ -1,4 +1,4 @@
--- For which calls the mail stands: the network of spellings stands for them, each message spelled.
+-- Which calls the mail represents: those that its network of spellings represents, each message spelled.
 use Rattle.std.specs.Prelude.{ℕ, ◌≡◌, IsTrue, List, [], ◌∷◌, map}
 use Rattle.std.specs.List.{AllByRecursion}
 use Rattle.sdd_obligations.specs.All.{Ack, Call, Delivered, Directions, FitsMsg, Kept, Message, Messages, Msg, Packet, Puts, Represents, call_as, delivered_as, spelled}
@@ -22,7 +22,7 @@ abbrev pub AllDelivered : {M : Type 0} → (M → Type 0) → Delivered M → Ty
 AllDelivered P (Messages ms) = AllByRecursion P ms
 AllDelivered P _ = Unit {0}
 
--- a network of spellings, with the links between so many modules, stands for these calls
+-- a network of spellings, with the links between so many modules, represents these calls
 pub record Carries (net : Kept (Directions (List ℕ))) (tms dms : ℕ) (calls : List (Call Msg)) : Type 0 where
   pub live : IsTrue net.live
   pub tms_are : net.value.tms ≡ tms

@@ -20,11 +20,11 @@ LivesT = Lives (λ k. k.live) tm.Represents
 abbrev pub LivesD : Representation (Kept dm_state.State)
 LivesD = Lives (λ k. k.live) dm.Represents
 
--- the module of a site is live and stands for a log
+-- the module of a site is live and represents a log
 abbrev pub Represent : Sites → Site → Setting → site.Log → Type 0
 Represent m = RepresentsAt LivesU LivesT LivesD m.u m.tms.items m.dms.items
 
--- the modules of all sites of the network stand for their logs
+-- the modules of all sites of the network represent their logs
 abbrev pub AllRepresent : Sites → Input → Log → Type 0
 AllRepresent m g log = (at : Site) → IsSiteOf g at → Represent m at (setting_of g at) (local_of g at log)
 

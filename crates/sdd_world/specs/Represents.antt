@@ -1,4 +1,4 @@
--- For which log a world stands, between events and within one.
+-- Which log a world represents, between events and within one.
 use Rattle.std.specs.Prelude.{ℕ, suc, ◌≤◌, ◌≡◌, true, false, List, [], ◌∷◌, ◌++◌, length, Some, None}
 use Rattle.sdd_obligations.specs.All.{AtEach, Catalogue, D, Deliver, EndsByLimit, EndsIn, Era, Event, Input, IsGood, IsLinkOf, IsMarked, IsPossible, IsSiteOf, Log, MAX_DMS, MAX_TMS, Mailbox, Mark, Messages, Msg, Redeclares, Remain, Rests, Site, TakesRounds, Txn, U, Waits, after_mark, all_links, calls_of, delivery, dm_no, from_one, greatest_bound, history, is_down, kept_from, left, link_of, mailbox_at, marks, next, nth_era, quiet, redeclares, redeclares_in, same_site, txn_at}
 use Rattle.sdd_obligations.specs.protocol.declared.entry.Entry.{Entry}
@@ -42,7 +42,7 @@ pub record Rising (g : Input) (boxes : List (Mailbox Msg)) (d : ℕ) : Type 0 wh
   pub box_up : (mailbox_at boxes d).down ≡ false
   pub senders : length (mailbox_at boxes d).queues ≡ suc g.catalogue.tms
 
--- the parts of a world stand for a log
+-- the parts of a world represent a log
 pub record Parts (w : World) (g : Input) (log : Log) : Type 0 where
   pub good : IsGood g
   pub sound : IsSoundNetwork g

@@ -1,6 +1,6 @@
 //! The running world: the modules of all sites and the network between them, driven by events.
 //!
-//! The one contract to the layer above: a world stands for the complete lawful log of the events
+//! The one contract to the layer above: a world represents the complete lawful log of the events
 //! that it was given, one by one (`step`, `settle`, `redeclare`) or as a schedule (`carry_out`), or
 //! the call ends it exactly where the limit ends that log. What it tells is what that log says: its
 //! records, modules and links, the copies (`tables`) and what is pending (`pending`).

@@ -1,4 +1,4 @@
--- A module before its first message stands for the log of what is in force.
+-- A module before its first message represents the log of what is in force.
 use Rattle.sdd_tm.proofs.All.{Era, refl}
 use Rattle.sdd_tm.proofs.Calls.{new_represents}
 use Rattle.sdd_tm.proofs.txn_module.TxnModule.new.Goals as goal

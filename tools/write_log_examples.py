@@ -1,10 +1,10 @@
 #!/usr/bin/env python3
 """Writes crates/sdd_log_examples/specs: the logs of worked workloads, computed by the reference (reference/).
 
-    tools/write_log_rows.py [--check] [--out FOLDER]
-    tools/write_log_rows.py --random FIRST COUNT --file FILE [--longest N]
+    tools/write_log_examples.py [--check] [--out FOLDER]
+    tools/write_log_examples.py --random FIRST COUNT --file FILE [--longest N]
 
-The first form writes the workloads of log_rows.py, each with the equation that the definitions' log has the
+The first form writes the workloads of log_examples.py, each with the equation that the definitions' log has the
 reference's history, number of entries and number of events, and is complete; `rt check` in crates/sdd_log_examples
 computes them. With --check nothing is written: it ends with 1 where a file of FOLDER would be another.
 With --random the logs of COUNT random workloads from the seed FIRST on, with losses, repetitions, undeclared
@@ -18,7 +18,7 @@ import random
 import re
 import sys
 
-from log_rows import ROWS
+from log_examples import LOGS
 import random_input
 from reference.catalogue import read_catalogue
 from reference.graph import protocol_table
@@ -292,7 +292,7 @@ def random_logs(first, wanted, longest):
 def worked_logs():
     """The text of each module."""
     modules = {}
-    for name, module, shows, catalogue_text, work, *apart in ROWS:
+    for name, module, shows, catalogue_text, work, *apart in LOGS:
         cat = read_catalogue(catalogue_text.encode())
         rows = [read_workload(cat, (part + "end\n").encode()).rows for part in apart[0]] if apart else None
         text, count = written(name, shows, cat, read_workload(cat, work.encode()), rows)
@@ -320,7 +320,7 @@ def main():
     asked.add_argument("--longest", type=int, default=220, metavar="N")
     asked = asked.parse_args()
     if (asked.random is None) != (asked.file is None):
-        print("write_log_rows.py: --random and --file go together", file=sys.stderr)
+        print("write_log_examples.py: --random and --file go together", file=sys.stderr)
         return 2
     if asked.random:
         write(asked.file, "Logs of random workloads.", random_logs(*asked.random, asked.longest))
@@ -328,7 +328,7 @@ def main():
     different = 0
     for module, body in worked_logs().items():
         path = os.path.normpath(os.path.join(asked.out, module + ".antt"))
-        about = "Worked logs, written by tools/write_log_rows.py."
+        about = "Worked logs, written by tools/write_log_examples.py."
         if not asked.check:
             write(path, about, body)
         elif differs(path, about, body):

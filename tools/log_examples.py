@@ -1,4 +1,4 @@
-"""The workloads whose logs are written by write_log_rows.py: a name, the module of crates/sdd_log_examples/specs in
+"""The workloads whose logs are written by write_log_examples.py: a name, the module of crates/sdd_log_examples/specs in
 which it stands, what it shows, its catalogue and the workload; where its data modules are made of different
 rows, also the rows of each, in the place of the workload's."""
 
@@ -100,7 +100,7 @@ end
 PUT = "txn p T1\nput acct 5 10\ndone\n"
 HELD_FOR_DOWN = PUT + "submit p\ndown D1\ndeliver T1 D1 1\ndeliver D1 T1 1\n"
 
-ROWS = [
+LOGS = [
     ("put_and_query", "Links", "a put and a query of one class: a settle carries all out", ONE_CLASS,
      PUT + "txn q T1\nquery 1.id 1.bal from acct\ndone\nsubmit p\nsubmit q\nsettle\nend\n"),
     ("lost_and_repeated", "Links", "a packet is lost, another one repeated and delivered early; both are resent", ONE_CLASS,
