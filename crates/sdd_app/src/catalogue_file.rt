@@ -38,7 +38,7 @@ pub fn read_named<S: Shelf>(
 }
 
 /// The catalogue that the bytes give.
-fn judged(alloc: Global, bytes: &[u8]) -> Result<Catalogue, Status>
+fn read_catalogue_bytes(alloc: Global, bytes: &[u8]) -> Result<Catalogue, Status>
     ensures told { MatchResult result (λ catalogue. catalogue_in bytes.now ≡ Ok catalogue) (λ s. Explains s (BlamesCatalogue (Some (catalogue_in bytes.now)))) }
     ensures errors { IfErr result ComesOfFiles }
     ensures read { IfErr result (λ s. s ≡ Status.ReadFault → ⊥) }
@@ -66,5 +66,5 @@ pub fn accepted_catalogue<S: Shelf>(
         → IfErr result (λ s. s ≡ Status.ReadFault → ⊥) × S.sure shelf.new free × (S.faults shelf.new ≡ S.faults shelf.old) }
 {
     let bytes = read_named(alloc, shelf, name, MAX_CATALOGUE_BYTES)?;
-    judged(alloc, bytes.as_slice())
+    read_catalogue_bytes(alloc, bytes.as_slice())
 }

@@ -16,7 +16,7 @@ use sdd_lang::sdd_base::{MAX_WORKLOAD_BYTES, Pages, Shelf};
 use std::alloc::Global;
 
 /// The script that the bytes give.
-fn judged(alloc: Global, bytes: &[u8]) -> Result<ControlScript, Status>
+fn read_script_bytes(alloc: Global, bytes: &[u8]) -> Result<ControlScript, Status>
     ensures told { MatchResult result (λ s. control_script bytes.now ≡ Ok s) (λ s. Explains s (BlamesScript (Some (control_script bytes.now)))) }
     ensures sound { IfOk result IsSoundScript }
     ensures errors { IfErr result ComesOfFiles }
@@ -43,7 +43,7 @@ fn accepted_script<S: Shelf>(
         → IfErr result (λ s. s ≡ Status.ReadFault → ⊥) × S.sure shelf.new free × (S.faults shelf.new ≡ S.faults shelf.old) }
 {
     let bytes = read_named(alloc, shelf, name, MAX_WORKLOAD_BYTES)?;
-    judged(alloc, bytes.as_slice())
+    read_script_bytes(alloc, bytes.as_slice())
 }
 
 /// What `control` answers over the script in the file.

@@ -24,7 +24,7 @@ use sdd_verified::sdd_watch::inside_text;
 use std::alloc::Global;
 
 /// The text of what happens inside the run of the workload.
-fn shown(alloc: Global, catalogue: &Catalogue, work: Workload) -> Result<Vec<u8>, Status>
+fn inside_bytes(alloc: Global, catalogue: &Catalogue, work: Workload) -> Result<Vec<u8>, Status>
     requires { IsValid catalogue.now work }
     ensures told { Answers result (λ v. v.items) (ComesToInside catalogue.now work) }
     ensures errors { IfErr result ComesOfFiles }
@@ -58,7 +58,7 @@ fn inside_answer<S: Shelf>(
 {
     let catalogue = accepted_catalogue(alloc, shelf, catalogue)?;
     let work = accepted_workload(alloc, shelf, workload, &catalogue)?;
-    let text = shown(alloc, &catalogue, work)?;
+    let text = inside_bytes(alloc, &catalogue, work)?;
     Ok(text)
 }
 

@@ -32,7 +32,7 @@ pub enum Listing {
 }
 
 /// What is printed of the catalogue.
-fn listed(alloc: Global, catalogue: &Catalogue, listing: Listing) -> Result<Vec<u8>, NoMemory>
+fn print_listing(alloc: Global, catalogue: &Catalogue, listing: Listing) -> Result<Vec<u8>, NoMemory>
     ensures { IfOk result (λ v. Tells listing catalogue.now v.items) }
 {
     match listing {
@@ -67,5 +67,5 @@ pub fn listing_answer<S: Shelf>(
         → IfErr result (λ s. s ≡ Status.ReadFault → ⊥) × (S.faults shelf.new ≡ S.faults shelf.old) }
 {
     let catalogue = accepted_catalogue(alloc, shelf, catalogue)?;
-    Ok(Pages::of(alloc, listed(alloc, &catalogue, listing)?))
+    Ok(Pages::of(alloc, print_listing(alloc, &catalogue, listing)?))
 }

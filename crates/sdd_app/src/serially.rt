@@ -44,7 +44,7 @@ fn add_submitted<'a>(
 
 /// The transactions that are submitted, in that order.
 #[tactic(auto, using(crate::proofs::Submissions::submitted_more))]
-fn submitted<'a>(alloc: Global, work: &'a Workload) -> Result<Vec<&'a Txn>, NoMemory>
+fn submitted_txns<'a>(alloc: Global, work: &'a Workload) -> Result<Vec<&'a Txn>, NoMemory>
     ensures { IfOk result (λ txns. map (λ t. t.now) txns.items ≡ submitted work.now) }
 {
     let mut found = Vec::new(alloc);
@@ -103,7 +103,7 @@ pub fn serial_text(
     requires { IsValid catalogue.now work.now }
     ensures { IfOk result (λ text. text.items ≡ serial_text catalogue.now work.now) }
 {
-    let txns = submitted(alloc, work)?;
+    let txns = submitted_txns(alloc, work)?;
     let mut text = Vec::new(alloc);
     put(&mut text, b"order")?;
     put_names(&mut text, txns.as_slice())?;

@@ -20,7 +20,7 @@ use sdd_verified::sdd_script::Workload;
 use std::alloc::Global;
 
 /// The report on the run of the workload.
-fn reported(alloc: Global, catalogue: &Catalogue, work: Workload) -> Result<Pages, Status>
+fn report_pages_of(alloc: Global, catalogue: &Catalogue, work: Workload) -> Result<Pages, Status>
     requires { IsValid catalogue.now work }
     ensures told { Answers result (λ v. v) (ComesToReport catalogue.now work) }
     ensures errors { IfErr result ComesOfFiles }
@@ -81,6 +81,6 @@ pub fn run_answer<S: Shelf>(
 {
     let catalogue = accepted_catalogue(alloc, shelf, catalogue)?;
     let work = accepted_workload(alloc, shelf, workload, &catalogue)?;
-    let text = reported(alloc, &catalogue, work)?;
+    let text = report_pages_of(alloc, &catalogue, work)?;
     Ok(text)
 }

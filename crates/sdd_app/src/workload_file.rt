@@ -17,7 +17,7 @@ use sdd_verified::sdd_script::{Workload, read_workload};
 use std::alloc::Global;
 
 /// The workload that the bytes give for the catalogue.
-fn judged(alloc: Global, bytes: &[u8], catalogue: &Catalogue) -> Result<Workload, Status>
+fn read_workload_bytes(alloc: Global, bytes: &[u8], catalogue: &Catalogue) -> Result<Workload, Status>
     ensures told { MatchResult result
         (λ w. workload catalogue.now bytes.now ≡ Ok w) (λ s. Explains s (BlamesWorkload (Some (workload catalogue.now bytes.now)))) }
     ensures valid { IfOk result (λ w. IsValid catalogue.now w) }
@@ -50,5 +50,5 @@ pub fn accepted_workload<S: Shelf>(
         → IfErr result (λ s. s ≡ Status.ReadFault → ⊥) × S.sure shelf.new free × (S.faults shelf.new ≡ S.faults shelf.old) }
 {
     let bytes = read_named(alloc, shelf, name, MAX_WORKLOAD_BYTES)?;
-    judged(alloc, bytes.as_slice(), catalogue)
+    read_workload_bytes(alloc, bytes.as_slice(), catalogue)
 }

@@ -16,7 +16,7 @@ use sdd_module::sdd_lang::{Effect, Txn};
 use std::alloc::Global;
 
 /// Commits an attempt of the class: its Commit is recorded, with its WRITEs.
-pub(crate) fn committed(
+pub(crate) fn commit_attempt(
     alloc: Global,
     catalogue: &Catalogue,
     class: ClassNo,

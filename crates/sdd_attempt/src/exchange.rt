@@ -308,7 +308,7 @@ impl Exchange {
         ensures { OnOk result (self.new ≡ reduces ts.0 class.0 (move_of one) self.old) }
     {
         let dms = self.modules.with_use(self.alloc, one.target.part)?;
-        let values = listed(self.alloc, &self.union)?;
+        let values = list_values(self.alloc, &self.union)?;
         self.values += values.as_slice().len() as u128 * dms.len() as u128;
         self.phase = Phase::Reducing(one);
         self.to_send = Outbox::reduces(self.alloc, ts, class, one.target, &values, &dms)?;
@@ -360,7 +360,7 @@ fn unite(union: &mut BTreeSet<Value>, values: ValueList) -> Result<(), NoMemory>
 }
 
 /// The values of a set, ascending.
-fn listed(alloc: Global, values: &BTreeSet<Value>) -> Result<ValueList, NoMemory>
+fn list_values(alloc: Global, values: &BTreeSet<Value>) -> Result<ValueList, NoMemory>
     ensures { IfOk result (λ list. list ≡ values.now.keys) }
 {
     let mut list = Vec::with_capacity(alloc, values.len())?;

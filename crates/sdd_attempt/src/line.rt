@@ -8,7 +8,7 @@ ghost use Rattle.sdd_attempt.specs.Standings.{standing_at, standing_of};
 
 use crate::answer::Answer;
 use crate::begin::start_attempt;
-use crate::commit::committed;
+use crate::commit::commit_attempt;
 use crate::queued::Queued;
 use crate::running::Running;
 use crate::standing::Standing;
@@ -237,7 +237,7 @@ impl<'a> Line<'a> {
         let class = self.class;
         match &mut self.running {
             None => Ok(()),
-            Some(running) => match running.handed(class, from, msg) {
+            Some(running) => match running.hand(class, from, msg) {
                 Ok(true) => Ok(()),
                 Ok(false) => {
                     self.running = None;
@@ -283,7 +283,7 @@ impl<'a> Line<'a> {
             Some(running) => match self.queue.pop_front() {
                 None => return Ok(()),
                 Some(queued) => {
-                    return committed(
+                    return commit_attempt(
                         self.alloc,
                         self.catalogue,
                         self.class,

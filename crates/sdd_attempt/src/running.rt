@@ -69,7 +69,7 @@ impl Running {
 
     /// Takes a message of the attempt's class, and answers whether the attempt goes on: it ends by a
     /// REJECT of it. Moves nothing but the message.
-    pub(crate) fn handed(&mut self, class: ClassNo, from: Site, msg: Msg) -> Result<bool, NoMemory>
+    pub(crate) fn hand(&mut self, class: ClassNo, from: Site, msg: Msg) -> Result<bool, NoMemory>
         requires room { HasRoom self.old.exchange }
         requires awaited { AreAwaitedFrom class.0 from msg self.old }
         ensures running { IfOk result (λ goes_on.

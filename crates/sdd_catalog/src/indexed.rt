@@ -5,7 +5,7 @@ ghost use Rattle.sdd_catalog.specs.Catalogue.{fragment_names};
 ghost use Rattle.sdd_catalog.specs.Names.{number_of, place_of};
 ghost use Rattle.sdd_catalog.specs.Rules.{has_name};
 
-use crate::named::copied;
+use crate::named::copy_name;
 use crate::parts::{FragmentPart, Parts};
 use sdd_base::{Name, NoMemory};
 use std::alloc::Global;
@@ -46,7 +46,7 @@ fn places_by_name(
     let mut place = fragments.len();
     while place > 0 {
         place -= 1;
-        let name = copied(&fragments[place].name)?;
+        let name = copy_name(&fragments[place].name)?;
         made.insert(name, place)?;
     }
     Ok(made)

@@ -47,7 +47,7 @@ pub(crate) fn name_at<T: Named>(items: &[T], number: u32) -> Result<Name, NoMemo
 }
 
 /// A copy of a name.
-pub(crate) fn copied(name: &Name) -> Result<Name, NoMemory>
+pub(crate) fn copy_name(name: &Name) -> Result<Name, NoMemory>
     ensures value { IfOk result (λ copy. copy ≡ name.now) }
     ensures name { IsName name.now }
 {

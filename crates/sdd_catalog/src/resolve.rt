@@ -7,7 +7,7 @@ ghost use Rattle.sdd_catalog.specs.Naming.{IsNamed};
 ghost use Rattle.sdd_catalog.specs.Resolving.{HaveNumbers, IsModule, IsAtModules, RunsAtModules};
 
 use crate::indexed::IndexedParts;
-use crate::named::{copied, number_of};
+use crate::named::{copy_name, number_of};
 use crate::parts::{ClassPart, ColumnPart, FragmentPart, Parts, ReadPart, RelationPart};
 use crate::resolved::{
     Class, Classes, Column, Columns, Copies, Fragment, Fragments, Read, Reads, Relation, Relations,
@@ -20,7 +20,7 @@ fn resolve_column(column: &ColumnPart) -> Result<Column, NoMemory>
     ensures named { IfOk result (λ resolved. IsName resolved.name) }
 {
     Ok(Column {
-        name: copied(&column.name)?,
+        name: copy_name(&column.name)?,
         kind: column.kind,
     })
 }
@@ -43,7 +43,7 @@ fn resolve_relation(alloc: Global, relation: &RelationPart) -> Result<Relation, 
 {
     let columns = relation.columns.as_slice();
     Ok(Relation {
-        name: copied(&relation.name)?,
+        name: copy_name(&relation.name)?,
         columns: resolve_columns(alloc, columns)?,
         key: number_of(&relation.key, columns),
     })
@@ -87,7 +87,7 @@ fn resolve_fragment(
     ensures named { IfOk result (λ resolved. IsName resolved.name) }
 {
     Ok(Fragment {
-        name: copied(&fragment.name)?,
+        name: copy_name(&fragment.name)?,
         rel: RelNo(number_of(&fragment.relation, relations)),
         least: fragment.from,
         greatest: fragment.to,
@@ -154,7 +154,7 @@ fn resolve_class(alloc: Global, parts: &IndexedParts, class: &ClassPart) -> Resu
     ensures named { IfOk result (λ resolved. IsName resolved.name) }
 {
     Ok(Class {
-        name: copied(&class.name)?,
+        name: copy_name(&class.name)?,
         tm: TmNo(class.tm as u8),
         reads: resolve_reads(alloc, parts, class.reads.as_slice())?,
         writes: resolve_writes(alloc, parts, class.writes.as_slice())?,

@@ -92,7 +92,7 @@ fn without_keys(alloc: Global, found: Vec<(i64, Row)>) -> Result<RowList, NoMemo
 fn in_order(alloc: Global, found: Vec<(i64, Row)>) -> Result<RowList, NoMemory>
     ensures { IfOk result (λ rows. rows ≡ map (λ e. e.1) (fold with_keyed [] found.items)) }
 {
-    let merged = merged(alloc, found)?;
+    let merged = merge_rows(alloc, found)?;
     Ok(RowList::from_vec(rows_in(alloc, merged)?))
 }
 
@@ -102,7 +102,7 @@ fn rows_in(alloc: Global, merged: BTreeMap<i64, Row>) -> Result<Vec<Row>, NoMemo
     Ok(merged.into_values().collect(alloc)?)
 }
 
-fn merged(alloc: Global, found: Vec<(i64, Row)>) -> Result<BTreeMap<i64, Row>, NoMemory>
+fn merge_rows(alloc: Global, found: Vec<(i64, Row)>) -> Result<BTreeMap<i64, Row>, NoMemory>
     ensures { IfOk result (λ merged. merged.entries ≡ fold with_keyed [] found.items) }
 {
     let mut merged: BTreeMap<i64, Row> = BTreeMap::new(alloc);

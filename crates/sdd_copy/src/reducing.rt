@@ -4,7 +4,7 @@ ghost use Rattle.sdd_lang.specs.All.{column, with_values};
 ghost use Rattle.sdd_copy.specs.Known.{is_known, known_use};
 
 use sdd_lang::sdd_base::{NoMemory, Parcel, Row, RowList, Value};
-use sdd_lang::{copied, value_in};
+use sdd_lang::{copy_value, value_in};
 use std::alloc::Global;
 use std::collections::BTreeSet;
 
@@ -18,7 +18,7 @@ pub(crate) fn values_of(
 {
     let mut known: BTreeSet<Value> = BTreeSet::new(alloc);
     for row in rows {
-        known.insert(copied(value_in(row, number))?)?;
+        known.insert(copy_value(value_in(row, number))?)?;
     }
     Ok(known)
 }

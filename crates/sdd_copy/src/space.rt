@@ -98,7 +98,7 @@ impl Space {
         ensures { IfOk result (λ values. values ≡ values_in (rows_of use_no self.now) column) }
     {
         let known = values_of(self.alloc, self.rows_of(use_no), column)?;
-        listed(self.alloc, known)
+        list_values(self.alloc, known)
     }
 
     /// Keeps of a use the rows whose column is among the values. Where memory runs out, all stays
@@ -142,7 +142,7 @@ fn count_all(uses: &[(u32, RowList)]) -> usize {
 }
 
 /// The values of a set, ascending.
-fn listed(alloc: Global, known: BTreeSet<Value>) -> Result<Listed<Value>, NoMemory>
+fn list_values(alloc: Global, known: BTreeSet<Value>) -> Result<Listed<Value>, NoMemory>
     ensures { IfOk result (λ values. values ≡ known.keys) }
 {
     let mut values = Vec::with_capacity(alloc, known.len())?;

@@ -67,13 +67,13 @@ fn empty_all(alloc: Global, classes: &[ClassPart]) -> Result<Vec<ClassPart>, NoM
 {
     let mut all = Vec::new(alloc);
     for class in classes {
-        all.push(emptied(alloc, class)?)?;
+        all.push(empty_class(alloc, class)?)?;
     }
     Ok(all)
 }
 
 /// The class with its name and module, which reads and writes nothing.
-fn emptied(alloc: Global, class: &ClassPart) -> Result<ClassPart, NoMemory>
+fn empty_class(alloc: Global, class: &ClassPart) -> Result<ClassPart, NoMemory>
     ensures { IfOk result (λ part. part ≡ emptied_part class.now) }
 {
     Ok(ClassPart {

@@ -101,7 +101,7 @@ impl Found {
             in_set,
         } = self;
         if in_set {
-            return listed(alloc, set);
+            return list_rows(alloc, set);
         }
         Ok(RowList::from_vec(rising))
     }
@@ -140,7 +140,7 @@ fn set_with(alloc: Global, rows: &mut Vec<Row>, row: Row) -> Result<BTreeSet<Row
 }
 
 /// The rows of a set, in their order.
-fn listed(alloc: Global, rows: BTreeSet<Row>) -> Result<RowList, NoMemory>
+fn list_rows(alloc: Global, rows: BTreeSet<Row>) -> Result<RowList, NoMemory>
     ensures { IfOk result (λ list. list ≡ rows.keys) }
 {
     Ok(RowList::from_vec(rows.into_iter().collect(alloc)?))

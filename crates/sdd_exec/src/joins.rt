@@ -12,7 +12,7 @@ use crate::choice::{Choice, fill, placed};
 use crate::found::Found;
 use crate::index::{Index, index, places_of, untied};
 use crate::parts::Parts;
-use crate::sifting::sifted;
+use crate::sifting::sift;
 use crate::tie::{Tie, key_for, ties};
 use sdd_lang::sdd_base::{MAX_REPLY_ROWS, NoMemory, Row, RowList};
 use sdd_lang::{Condition, Ref, meets_all, project};
@@ -265,7 +265,7 @@ fn choices(
 {
     match few(alloc, parts, conds, most_choices(parts))? {
         Some(kept) => Ok(kept),
-        None => sifted(alloc, parts, conds, out, room),
+        None => sift(alloc, parts, conds, out, room),
     }
 }
 

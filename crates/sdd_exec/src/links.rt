@@ -6,7 +6,7 @@ use crate::choice::value_at;
 use crate::parts::Parts;
 use crate::tie::part_of;
 use sdd_lang::sdd_base::{NoMemory, Row};
-use sdd_lang::{Condition, Ref, copied};
+use sdd_lang::{Condition, Ref, copy_value};
 use std::alloc::Global;
 
 /// Of two columns the one of a part that was taken, where the other isn't.
@@ -84,7 +84,7 @@ pub fn values_of(
 {
     let mut values = Vec::with_capacity(alloc, columns.len())?;
     for at in columns {
-        values.push(copied(value_at(parts, choice, *at))?)?;
+        values.push(copy_value(value_at(parts, choice, *at))?)?;
     }
     Ok(Row::from_vec(values))
 }

@@ -81,7 +81,7 @@ impl Matched {
             in_map,
         } = self;
         if in_map {
-            return listed(alloc, map);
+            return list_entries(alloc, map);
         }
         Ok(Entries::from_vec(rising))
     }
@@ -133,7 +133,7 @@ fn map_with(
 }
 
 /// The rows of a map, with their keys.
-fn listed(alloc: Global, entries: BTreeMap<i64, Row>) -> Result<Entries, NoMemory>
+fn list_entries(alloc: Global, entries: BTreeMap<i64, Row>) -> Result<Entries, NoMemory>
     ensures { IfOk result (λ list. (rel : ℕ) → entries_of rel list ≡ of_relation rel entries.entries) }
 {
     let mut list = Vec::new(alloc);

@@ -226,7 +226,7 @@ fn take(
 }
 
 /// Choices of all parts that are enough to tell the answer.
-pub fn sifted(
+pub fn sift(
     alloc: Global,
     parts: &Parts,
     conds: &[Condition],

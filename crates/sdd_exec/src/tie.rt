@@ -5,7 +5,7 @@ ghost use Rattle.sdd_exec.specs.Choices as joins;
 use crate::choice::value_at;
 use crate::parts::Parts;
 use sdd_lang::sdd_base::{NoMemory, Row};
-use sdd_lang::{Condition, Ref, copied, value_in};
+use sdd_lang::{Condition, Ref, copy_value, value_in};
 use std::alloc::Global;
 
 /// A column of a part that is to equal a column of a part that was taken before it.
@@ -78,7 +78,7 @@ pub fn key_of(alloc: Global, ties: &[Tie], row: &Row) -> Result<Row, NoMemory>
 {
     let mut key = Vec::with_capacity(alloc, ties.len())?;
     for tie in ties {
-        key.push(copied(value_in(row, tie.column))?)?;
+        key.push(copy_value(value_in(row, tie.column))?)?;
     }
     Ok(Row::from_vec(key))
 }
@@ -94,7 +94,7 @@ pub fn key_for(
 {
     let mut key = Vec::with_capacity(alloc, ties.len())?;
     for tie in ties {
-        key.push(copied(value_at(parts, choice, tie.to))?)?;
+        key.push(copy_value(value_at(parts, choice, tie.to))?)?;
     }
     Ok(Row::from_vec(key))
 }

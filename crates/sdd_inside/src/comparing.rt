@@ -96,7 +96,7 @@ fn takes_from(happened: &Happened, link: &LinkMoment) -> bool
 }
 
 /// How many packets of the flight before are left.
-fn left(happened: &Happened, link: &LinkMoment) -> usize
+fn count_left(happened: &Happened, link: &LinkMoment) -> usize
     ensures { result ≡ left happened.now link.now }
 {
     let length = link.flight.as_slice().len();
@@ -178,7 +178,7 @@ impl Part<Put> for LinkMoment {
         happened: &Happened,
         changes: &mut Vec<Put>,
     ) -> Result<(), NoMemory> {
-        let news = tail(after.flight.as_slice(), left(happened, self));
+        let news = tail(after.flight.as_slice(), count_left(happened, self));
         let packets = all_in_flight(*changes.allocator(), news, self.sent)?;
         add_packets(changes, after.from, after.to, packets)
     }
@@ -222,7 +222,7 @@ fn first_left(before: &[TxnNo], after: &[TxnNo]) -> Option<usize>
 }
 
 /// How many transactions are gone from the front of a queue.
-fn gone(before: &[TxnNo], after: &[TxnNo]) -> usize
+fn count_gone(before: &[TxnNo], after: &[TxnNo]) -> usize
     ensures { result ≡ gone before.now after.now }
 {
     match first_left(before, after) {
@@ -241,7 +241,7 @@ impl Part<QueueDelta> for QueueMoment {
         changes: &mut Vec<QueueDelta>,
     ) -> Result<(), NoMemory> {
         let before = self.queue.as_slice();
-        let gone = gone(before, after.queue.as_slice());
+        let gone = count_gone(before, after.queue.as_slice());
         let came = tail(after.queue.as_slice(), before.len().saturating_sub(gone));
         if came.is_empty() && gone == 0 {
             return Ok(());

@@ -23,7 +23,7 @@ pub fn read_set(alloc: Global, catalogue: &Catalogue, txn: &Txn) -> Result<Vec<F
 {
     let mut touched = Touched::none();
     touched.add_all(catalogue, txn);
-    listed(alloc, catalogue, &touched.reads)
+    list_fragments(alloc, catalogue, &touched.reads)
 }
 
 /// The fragments that a transaction may change, ascending without repeats: where it puts a row the
@@ -37,7 +37,7 @@ pub fn write_set(alloc: Global, catalogue: &Catalogue, txn: &Txn) -> Result<Vec<
 {
     let mut touched = Touched::none();
     touched.add_all(catalogue, txn);
-    listed(alloc, catalogue, &touched.writes)
+    list_fragments(alloc, catalogue, &touched.writes)
 }
 
 /// The class in which a transaction runs: the lowest class of its module that reads all that it
@@ -55,7 +55,7 @@ pub fn class_for(catalogue: &Catalogue, txn: &Txn) -> ClassNo
 }
 
 /// The fragments of the set, ascending.
-fn listed(alloc: Global, catalogue: &Catalogue, set: &FragSet) -> Result<Vec<FragNo>, NoMemory>
+fn list_fragments(alloc: Global, catalogue: &Catalogue, set: &FragSet) -> Result<Vec<FragNo>, NoMemory>
     ensures { IfOk result (λ frags. map (λ f. f.0) frags.items ≡ members catalogue.now set.now) }
 {
     catalogue.known();

@@ -151,7 +151,7 @@ pub fn allowed_keys(key: u32, restrictions: &[Restriction]) -> Keys
 {
     let mut keys = Keys::all();
     for restriction in restrictions {
-        keys = narrowed(
+        keys = narrow_keys(
             key,
             keys,
             restriction.column,
@@ -181,7 +181,7 @@ fn narrowed_by(key: u32, part: u32, keys: Keys, cond: &Condition) -> Keys
     match cond {
         Condition::Const { left, op, value } => {
             if left.part == part {
-                narrowed(key, keys, left.column, *op, value)
+                narrow_keys(key, keys, left.column, *op, value)
             } else {
                 keys
             }
@@ -191,7 +191,7 @@ fn narrowed_by(key: u32, part: u32, keys: Keys, cond: &Condition) -> Keys
 }
 
 /// The keys that one more restriction leaves.
-fn narrowed(key: u32, keys: Keys, column: u32, op: Op, value: &Value) -> Keys
+fn narrow_keys(key: u32, keys: Keys, column: u32, op: Op, value: &Value) -> Keys
     ensures { result ≡ (if column == key then common keys (keys_for op (number_in value.now)) else keys) }
 {
     if column == key {

@@ -36,11 +36,11 @@ pub use laws::{
     law_stays_database,
 };
 pub use over::effect_over;
-pub use replace::replaced;
+pub use replace::replace_columns;
 pub use source::{Entries, Entry, Source};
 pub use statement::{Rels, Statements, Stmt};
 pub use transaction::Txn;
-pub use tuple::{compare, copied, key_of, may_join, meets_all, project, value_at, value_in};
+pub use tuple::{compare, copy_value, key_of, may_join, meets_all, project, value_at, value_in};
 pub use usage::{restrictions_of, uses};
 
 // What lies below, for the crates above.

@@ -9,7 +9,7 @@ ghost use Rattle.sdd_lang.specs.Rising.{by_item, changed_item, put_each, to_last
 ghost use Rattle.sdd_lang.specs.Source.{entries_of};
 
 use crate::assign::Assign;
-use crate::replace::replaced;
+use crate::replace::replace_columns;
 use crate::source::Entry;
 use sdd_base::{Change, Changes, FragNo, NoMemory, RelNo, Row};
 use sdd_catalog::Catalogue;
@@ -114,7 +114,7 @@ impl Pending {
         ensures { IfOk result (λ fits. cond fits (Some self.new) None ≡ with_updates catalogue.now sets.now self.old (entries_of rel.0 entries.now)) }
     {
         'entries: for entry in entries {
-            match replaced(sets, &entry.row)? {
+            match replace_columns(sets, &entry.row)? {
                 Some(row) => self.put(catalogue, rel, &entry.key, Some(row))?,
                 None => return Ok(false),
             }
@@ -149,7 +149,7 @@ impl Pending {
             in_map,
         } = self;
         if in_map {
-            return listed(alloc, map);
+            return list_changes(alloc, map);
         }
         Ok(Changes::from_vec(rising))
     }
@@ -204,7 +204,7 @@ fn map_with(
 }
 
 /// The changes of a map.
-fn listed(alloc: Global, entries: BTreeMap<(u32, i64), Option<Row>>) -> Result<Changes, NoMemory>
+fn list_changes(alloc: Global, entries: BTreeMap<(u32, i64), Option<Row>>) -> Result<Changes, NoMemory>
     ensures { IfOk result (λ changes. changes ≡ map change_of entries.entries) }
 {
     let mut changes = Vec::with_capacity(alloc, entries.len())?;

@@ -49,7 +49,7 @@ fn assign(old: &Row, row: Row, set: &Assign) -> Result<Option<Row>, NoMemory>
 
 /// The row that stands in place of an old one, or None exactly where a sum with an old value leaves
 /// the range of a whole number, also a sum that a later assignment overrides.
-pub fn replaced(sets: &[Assign], old: &Row) -> Result<Option<Row>, NoMemory>
+pub fn replace_columns(sets: &[Assign], old: &Row) -> Result<Option<Row>, NoMemory>
     ensures { IfOk result (λ row. row ≡ replaced sets.now old.now) }
 {
     let mut row = old.copy()?;

@@ -101,7 +101,7 @@ pub fn may_join(conds: &[Condition], part: usize, row: &Row) -> bool
 }
 
 /// A copy of the value, or the number 0 where it isn't there.
-pub fn copied(value: Option<&Value>) -> Result<Value, NoMemory>
+pub fn copy_value(value: Option<&Value>) -> Result<Value, NoMemory>
     ensures { IfOk result (λ copy. copy ≡ held value.entry) }
 {
     match value {
@@ -116,7 +116,7 @@ pub fn project(alloc: Global, out: &[Ref], tuple: &[&Row]) -> Result<Row, NoMemo
 {
     let mut values = Vec::with_capacity(alloc, out.len())?;
     'columns: for at in out {
-        values.push(copied(value_at(tuple, *at))?)?;
+        values.push(copy_value(value_at(tuple, *at))?)?;
     }
     Ok(Row::from_vec(values))
 }

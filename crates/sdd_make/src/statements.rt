@@ -17,7 +17,7 @@ fn of_account(column: u32) -> Ref
 }
 
 /// One condition, which compares a column with a number.
-fn compared(alloc: Global, column: u32, op: Op, number: i64) -> Result<Conditions, NoMemory>
+fn comparison(alloc: Global, column: u32, op: Op, number: i64) -> Result<Conditions, NoMemory>
     ensures { IfOk result (λ conds. conds ≡ compared column op number) }
 {
     let condition = Condition::Const {
@@ -36,7 +36,7 @@ fn addition(alloc: Global, by: i64, id: u32) -> Result<Stmt, NoMemory>
     Ok(Stmt::Update {
         rel: RelNo(1),
         sets,
-        conds: compared(alloc, 1, Op::Eq, i64::from(id))?,
+        conds: comparison(alloc, 1, Op::Eq, i64::from(id))?,
     })
 }
 
@@ -72,7 +72,7 @@ fn balances(alloc: Global) -> Result<Statements, NoMemory>
 fn owners(alloc: Global) -> Result<Statements, NoMemory>
     ensures { IfOk result (λ s. s ≡ owners) }
 {
-    asking(alloc, 2, 3, compared(alloc, 3, Op::Ge, 50)?)
+    asking(alloc, 2, 3, comparison(alloc, 3, Op::Ge, 50)?)
 }
 
 /// Transaction number i, at a module.

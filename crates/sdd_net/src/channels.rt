@@ -105,7 +105,7 @@ fn acknowledge_at<M: Parcel>(channels: &mut Vec<Channel<M>>, at: usize, k: u32)
         → Changes channels.old.items channels.new.items at (with_ack k w) }
 {
     let channel = &mut channels[at];
-    channel.sender.acked(k);
+    channel.sender.acknowledge(k);
 }
 
 /// Takes a message in, and gives what it hands on and the number to acknowledge.

@@ -239,7 +239,7 @@ impl<M: Parcel> Net<M> {
         for link in &self.links {
             self.add_events(link, &mut resends, &mut deliveries)?;
         }
-        joined(resends, deliveries)
+        join_events(resends, deliveries)
     }
 
     /// Adds what a round does on a link.
@@ -288,7 +288,7 @@ impl<M: Parcel> Net<M> {
 }
 
 /// The events of both lists.
-fn joined(first: Vec<Event>, second: Vec<Event>) -> Result<Vec<Event>, NoMemory>
+fn join_events(first: Vec<Event>, second: Vec<Event>) -> Result<Vec<Event>, NoMemory>
     ensures { IfOk result (λ all. all.items ≡ first.items ++ second.items) }
 {
     if first.is_empty() {

@@ -115,7 +115,7 @@ impl<M: Parcel> Sender<M> {
     /// Drops the messages up to number k, which are acknowledged.
     ///
     /// Takes no memory, and constant time for each message that it drops.
-    pub fn acked(&mut self, k: u32)
+    pub fn acknowledge(&mut self, k: u32)
         requires live { IsTrue self.old.live }
         requires known { k ≤ last_number self.old.value }
         ensures { self.new ≡ record { live = true; value = acknowledged k self.old.value } }

@@ -22,7 +22,7 @@ pub fn order_of(
     let after = Groups::of(alloc, links, count)?;
     let counts = link_counts(alloc, links, count)?;
     let ready = first_ready(alloc, &counts)?;
-    taken(alloc, &after, counts, ready)
+    take_nodes(alloc, &after, counts, ready)
 }
 
 /// Of each node the number of links that lead to it.
@@ -56,7 +56,7 @@ fn first_ready(alloc: Global, counts: &[usize]) -> Result<BTreeSet<usize>, NoMem
 }
 
 /// Takes one node after the other, and releases those to which its links lead.
-fn taken(
+fn take_nodes(
     alloc: Global,
     after: &Groups,
     counts: Vec<usize>,

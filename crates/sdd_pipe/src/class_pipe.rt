@@ -98,7 +98,7 @@ impl ClassPipe {
             None => None,
             Some(msg) => {
                 let time = time_of(&msg);
-                self.latest = raised(self.latest, time);
+                self.latest = raise_time(self.latest, time);
                 self.writes.note(&msg);
                 Some(msg)
             }
@@ -118,7 +118,7 @@ fn time_of(msg: &Msg) -> u64
 }
 
 /// The later of a time, where there is one, and another.
-pub fn raised(latest: Option<u64>, time: u64) -> Option<u64>
+pub fn raise_time(latest: Option<u64>, time: u64) -> Option<u64>
     ensures { result ≡ raised latest time }
 {
     match latest {

@@ -4,7 +4,7 @@ ghost use Rattle.sdd_wire.specs.Piped.{time_of};
 ghost use Rattle.sdd_pipe.specs.Pipe.{raised, greatest};
 ghost use Rattle.sdd_pipe.specs.Digest.{changes_of, with_room, with_write, write_in, HasRoom};
 
-use crate::class_pipe::raised;
+use crate::class_pipe::raise_time;
 use sdd_base::{Change, FragNo, NoMemory};
 use sdd_wire::Msg;
 use std::alloc::Global;
@@ -64,7 +64,7 @@ impl Writes {
         frags
             .iter()
             .filter_map(|frag| self.at(*frag))
-            .fold(None, |last, time| raised(last, time))
+            .fold(None, |last, time| raise_time(last, time))
     }
 
     fn at(&self, frag: FragNo) -> Option<u64>
@@ -114,7 +114,7 @@ fn raise_entry(times: &mut BTreeMap<u32, Option<u64>>, time: u64, change: &Chang
         None => return,
         Some(latest) => *latest,
     };
-    match times.insert(frag, raised(latest, time)) {
+    match times.insert(frag, raise_time(latest, time)) {
         Ok(_) => (),
         Err(_) => (),
     }

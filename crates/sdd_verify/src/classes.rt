@@ -22,7 +22,7 @@ fn era_at<'a>(catalogue: &'a Catalogue, eras: &'a [Catalogue], redeclared: usize
 }
 
 /// How many `redeclare`s stand before what follows the event.
-fn redeclared(event: &Event, before: usize) -> usize
+fn count_redeclare(event: &Event, before: usize) -> usize
     requires { before < 2 ^ 63 }
     ensures { result ≡ redeclared event.now before }
 {
@@ -69,7 +69,7 @@ pub(crate) fn submitted_classes(
     'events: for event in work.events.as_slice() {
         let era = era_at(catalogue, eras, before);
         add_class(&mut classes, era, work.txns.as_slice(), event)?;
-        before = redeclared(event, before);
+        before = count_redeclare(event, before);
     }
     Ok(classes)
 }

@@ -24,7 +24,7 @@ pub(crate) enum Foreseen {
 }
 
 /// The number of a packet.
-fn taken(packet: &Packet<Spelling>) -> Taken
+fn as_taken(packet: &Packet<Spelling>) -> Taken
     ensures { result ≡ taken packet.now }
 {
     match packet {
@@ -40,7 +40,7 @@ fn packet_at(world: &World<'_>, from: Site, to: Site, place: u32) -> Option<Take
         → result ≡ taken_at (packet_at place (link_of from to log)) }
 {
     match world.mail().direction(from, to).flight.packet(place) {
-        Some(packet) => Some(taken(packet)),
+        Some(packet) => Some(as_taken(packet)),
         None => None,
     }
 }
@@ -111,7 +111,7 @@ pub(crate) fn foresee(world: &World<'_>, event: &Event) -> Foreseen
 }
 
 /// What a delivery found, once it is carried out.
-fn delivered(world: &World<'_>, from: Site, to: Site, packet: Taken) -> Found
+fn find_delivery(world: &World<'_>, from: Site, to: Site, packet: Taken) -> Found
     requires { (g : Input) × (log : Log) × Calm world.now g log × IsLinkOf g from to }
     ensures { (g : Input) (log : Log) → Calm world.now g log → IsLinkOf g from to
         → result ≡ arrived_of from to packet log }
@@ -129,7 +129,7 @@ fn delivered(world: &World<'_>, from: Site, to: Site, packet: Taken) -> Found
 }
 
 /// What an event found that is carried out. Takes no memory.
-pub(crate) fn found(world: &World<'_>, event: &Event, foreseen: Foreseen) -> Found
+pub(crate) fn find_outcome(world: &World<'_>, event: &Event, foreseen: Foreseen) -> Found
     requires { (g : Input) × (log : Log) × Calm world.now g log × IsTellable g event.now }
     ensures { (g : Input) (old new : Log) → Calm world.now g new → IsTellable g event.now
         → foreseen ≡ foreseen_by event.now old → result ≡ found_by event.now old new }
@@ -138,7 +138,7 @@ pub(crate) fn found(world: &World<'_>, event: &Event, foreseen: Foreseen) -> Fou
         Foreseen::Nothing => Found::Nothing,
         Foreseen::Something => Found::Something,
         Foreseen::Takes(packet) => match event {
-            Event::Deliver { from, to, .. } => delivered(world, *from, *to, packet),
+            Event::Deliver { from, to, .. } => find_delivery(world, *from, *to, packet),
             _ => Found::Lost(packet),
         },
     }

@@ -5,7 +5,7 @@ ghost use Rattle.sdd_obligations.specs.All.{Input, Log};
 ghost use Rattle.sdd_watch.specs.Text.{change};
 ghost use Rattle.sdd_watch.specs.Watching.{IsToTell, Watches};
 
-use crate::foreseen::{Foreseen, found};
+use crate::foreseen::{Foreseen, find_outcome};
 use crate::watch::{Turn, Watch};
 use sdd_inside::put_line;
 use sdd_obligations::sdd_base::NoMemory;
@@ -40,7 +40,7 @@ impl<'c> Teller<'c> {
             → IsToTell g old new world.now self.old.watch turn foreseen
             → Watches g new self.new.watch) }
     {
-        let found = found(world, &turn.event, foreseen);
+        let found = find_outcome(world, &turn.event, foreseen);
         let delta = self.watch.look(world, turn, found)?;
         put_line(&mut self.text, self.catalogue, world.transactions(), &delta)?;
         Ok(())

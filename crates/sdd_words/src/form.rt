@@ -72,7 +72,7 @@ fn comparison_key(is_first: bool) -> &'static [u8]
 }
 
 /// The condition of these words.
-fn compared<'a>(
+fn comparison_of<'a>(
     key: &[u8],
     first: &Token<'_>,
     left: Token<'a>,
@@ -100,7 +100,7 @@ fn next_comparison<'a>(key: &[u8], words: &mut Tokens<'a>) -> Option<Comparison<
     ensures shorter { IfSome result (λ _. length words.new < length words.old) }
 {
     match words.four() {
-        Some((first, left, op, right)) => compared(key, &first, left, &op, right),
+        Some((first, left, op, right)) => comparison_of(key, &first, left, &op, right),
         None => None,
     }
 }
@@ -155,7 +155,7 @@ impl<'a> Comparisons<'a> {
 }
 
 /// The assignment of these words.
-fn assigned<'a>(left: Token<'a>, op: &Token<'_>, right: Token<'a>) -> Option<Setting<'a>>
+fn assignment_of<'a>(left: Token<'a>, op: &Token<'_>, right: Token<'a>) -> Option<Setting<'a>>
     ensures { result ≡ setting_of left.entry op.now right.entry }
 {
     if looks_like_column(&left) && stands_free(&right) {
@@ -177,7 +177,7 @@ fn next_setting<'a>(words: &mut Tokens<'a>) -> Option<Setting<'a>>
     ensures shorter { IfSome result (λ _. length words.new < length words.old) }
 {
     match words.three() {
-        Some((left, op, right)) => assigned(left, &op, right),
+        Some((left, op, right)) => assignment_of(left, &op, right),
         None => None,
     }
 }

@@ -5,7 +5,7 @@ ghost use Rattle.sdd_world.specs.Pending.{AreCommitted, last_home, pending_as, p
 ghost use Rattle.sdd_world.specs.Represents.{Represents};
 ghost use Rattle.sdd_world.specs.Standings.{standing_of};
 
-use crate::commits::committed;
+use crate::commits::committed_txns;
 use crate::world::World;
 use sdd_obligations::sdd_base::{NoMemory, TxnNo};
 use sdd_obligations::sdd_history::Rec;
@@ -83,7 +83,7 @@ impl World<'_> {
             → found.items ≡ pending_at standing_of (last_home g log) g log) }
     {
         let history = self.history().as_slice();
-        let committed = committed(alloc, history)?;
+        let committed = committed_txns(alloc, history)?;
         let mut found = Vec::new(alloc);
         for entry in history {
             self.add_pending(alloc, entry, &committed, &mut found)?;

@@ -16,9 +16,9 @@ returns-in_err-bytes-clause-surely g c = λ free fs sure told some.
     let k = c.in_err-bytes.ensures.surely free fs sure told some in
     rw (p.1, p.2) (k.0, k.2)
 
-pub returns-in_err-judged-clause-surely : goal.returns-in_err-judged-clause-surely
-returns-in_err-judged-clause-surely g c = λ free fs sure told some.
-    let p = err_from_is_err_and c.from_residual-in_err-judged.result c.from_residual-in_err-judged.ensures.1 in
+pub returns-in_err-judge_report-clause-surely : goal.returns-in_err-judge_report-clause-surely
+returns-in_err-judge_report-clause-surely g c = λ free fs sure told some.
+    let p = err_from_is_err_and c.from_residual-in_err-judge_report.result c.from_residual-in_err-judge_report.ensures.1 in
     let k = c.in_ok-bytes.ensures.surely free fs sure told some in
     rw (p.1, p.2) (λ is. absurd cc, k.2)
 
@@ -27,7 +27,7 @@ returns-clause-told g c = λ fs told.
     let cat = c.args.catalogue.now in
     let work = c.args.work.now in
     read_gives MAX_REPORT_BYTES (judged_as cat work) (long_reports cat work) (find_file fs c.args.report.now) c.as_slice.result.now
-    (rw c.as_slice.ensures.value (c.in_ok-bytes.ensures.read fs told)) ∙ ap (λ t. Some (Prints t)) (sym (c.of.ensures ∙ c.in_ok-judged.ensures))
+    (rw c.as_slice.ensures.value (c.in_ok-bytes.ensures.read fs told)) ∙ ap (λ t. Some (Prints t)) (sym (c.of.ensures ∙ c.in_ok-judge_report.ensures))
 
 pub returns-clause-ended : goal.returns-clause-ended
 returns-clause-ended g c =
@@ -42,7 +42,7 @@ returns-in_err-bytes-clause-no_fault g c =
     let p = err_from_is_err_and c.from_residual.result c.from_residual.ensures.1 in
     rw (p.1, p.2) (silent_at _ _ c.in_err-bytes.field-0.0 c.in_err-bytes.ensures.silent)
 
-pub returns-in_err-judged-clause-no_fault : goal.returns-in_err-judged-clause-no_fault
-returns-in_err-judged-clause-no_fault g c =
-    let p = err_from_is_err_and c.from_residual-in_err-judged.result c.from_residual-in_err-judged.ensures.1 in
+pub returns-in_err-judge_report-clause-no_fault : goal.returns-in_err-judge_report-clause-no_fault
+returns-in_err-judge_report-clause-no_fault g c =
+    let p = err_from_is_err_and c.from_residual-in_err-judge_report.result c.from_residual-in_err-judge_report.ensures.1 in
     rw (p.1, p.2) tt

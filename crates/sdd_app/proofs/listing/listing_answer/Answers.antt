@@ -20,14 +20,14 @@ returns-in_err-catalogue-clause-surely g c = λ free fs sure told some.
 pub returns-clause-told : goal.returns-clause-told
 returns-clause-told g c = λ fs told.
     goes_on fs c.args.catalogue.now (ComesToListing c.args.listing) c.in_ok-catalogue.catalogue
-    (Prints c.of.result) (c.in_ok-catalogue.ensures.told fs told) (rw c.of.ensures c.in_ok-listed.ensures)
+    (Prints c.of.result) (c.in_ok-catalogue.ensures.told fs told) (rw c.of.ensures c.in_ok-print_listing.ensures)
 
 pub returns-clause-ended : goal.returns-clause-ended
 returns-clause-ended g c = let e = c.in_ok-catalogue.ensures.ended in one_ended _ _ _ _ _ e.0 e.1
 
-pub returns-in_err-listed-clause-surely : goal.returns-in_err-listed-clause-surely
-returns-in_err-listed-clause-surely g c = λ free fs sure told some.
-    let p = err_from_is_err_and c.from_residual-in_err-listed.result c.from_residual-in_err-listed.ensures.1 in
+pub returns-in_err-print_listing-clause-surely : goal.returns-in_err-print_listing-clause-surely
+returns-in_err-print_listing-clause-surely g c = λ free fs sure told some.
+    let p = err_from_is_err_and c.from_residual-in_err-print_listing.result c.from_residual-in_err-print_listing.ensures.1 in
     let k = c.in_ok-catalogue.ensures.surely free fs sure told some in
     rw (p.1, p.2) (λ is. absurd cc, k.2)
 
@@ -39,7 +39,7 @@ returns-in_err-catalogue-clause-at_fault g c =
     let p = err_from_is_err_and c.from_residual.result c.from_residual.ensures.1 in
     rw (p.1, p.2) (at_more c.in_err-catalogue.field-0.0 c.in_err-catalogue.ensures.at_fault (λ h. one_ended _ _ _ _ _ h.0 h.1) (λ no. no))
 
-pub returns-in_err-listed-clause-at_fault : goal.returns-in_err-listed-clause-at_fault
-returns-in_err-listed-clause-at_fault g c =
-    let p = err_from_is_err_and c.from_residual-in_err-listed.result c.from_residual-in_err-listed.ensures.1 in
+pub returns-in_err-print_listing-clause-at_fault : goal.returns-in_err-print_listing-clause-at_fault
+returns-in_err-print_listing-clause-at_fault g c =
+    let p = err_from_is_err_and c.from_residual-in_err-print_listing.result c.from_residual-in_err-print_listing.ensures.1 in
     rw (p.1, p.2) tt

@@ -17,24 +17,24 @@ returns-in_err-bytes-clause-surely g c = λ free fs sure told some.
 
 pub returns-clause-told : goal.returns-clause-told
 returns-clause-told g c = λ fs told.
-    workload_gives c.judged.result fs c.args.catalogue.now c.args.name.now c.as_slice.result.now
-    (rw c.as_slice.ensures.value (c.in_ok-bytes.ensures.read fs told)) c.judged.ensures.told
+    workload_gives c.read_workload_bytes.result fs c.args.catalogue.now c.args.name.now c.as_slice.result.now
+    (rw c.as_slice.ensures.value (c.in_ok-bytes.ensures.read fs told)) c.read_workload_bytes.ensures.told
 
 pub returns-clause-ended : goal.returns-clause-ended
 returns-clause-ended g c =
     let e = c.in_ok-bytes.ensures.ended in
     let bytes = c.as_slice.result.now in
     let cat = c.args.catalogue.now in
-    on_ok_by c.judged.result (λ w. workload cat bytes ≡ Ok w) (λ s. Explains s (BlamesWorkload (Some (workload cat bytes)))) _ c.judged.ensures.told
+    on_ok_by c.read_workload_bytes.result (λ w. workload cat bytes ≡ Ok w) (λ s. Explains s (BlamesWorkload (Some (workload cat bytes)))) _ c.read_workload_bytes.ensures.told
     (λ w ok. (e.0, read_to_end _ _ _ _ _ c.args.name.now _ e.0 e.1 (rw (← c.as_slice.ensures.value) (accepted_short cat bytes w ok))))
 
 pub returns-clause-fault : goal.returns-clause-fault
-returns-clause-fault g c = if_err_more c.judged.result (λ s. s ≡ ReadFault → ⊥) _ c.judged.ensures.read (λ s no is. absurd (no is))
+returns-clause-fault g c = if_err_more c.read_workload_bytes.result (λ s. s ≡ ReadFault → ⊥) _ c.read_workload_bytes.ensures.read (λ s no is. absurd (no is))
 
 pub returns-clause-surely : goal.returns-clause-surely
 returns-clause-surely g c = λ free fs sure told some.
     let k = c.in_ok-bytes.ensures.surely free fs sure told some in
-    (c.judged.ensures.read, k.1, k.2)
+    (c.read_workload_bytes.ensures.read, k.1, k.2)
 
 pub returns-in_err-bytes-clause-at_fault : goal.returns-in_err-bytes-clause-at_fault
 returns-in_err-bytes-clause-at_fault g c =
@@ -47,5 +47,5 @@ returns-clause-at_fault g c =
     let bytes = c.as_slice.result.now in
     let cat = c.args.catalogue.now in
     let read = read_to_limit _ MAX_WORKLOAD_BYTES _ _ _ c.args.name.now _ e.0 e.1 in
-    err_by c.judged.result (λ w. workload cat bytes ≡ Ok w) (λ s. Explains s (BlamesWorkload (Some (workload cat bytes)))) _ c.judged.ensures.told
+    err_by c.read_workload_bytes.result (λ w. workload cat bytes ≡ Ok w) (λ s. Explains s (BlamesWorkload (Some (workload cat bytes)))) _ c.read_workload_bytes.ensures.told
     (λ s told. workload_at _ (Some (workload cat bytes)) s (e.0, read) told)

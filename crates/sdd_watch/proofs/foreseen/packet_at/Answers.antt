@@ -13,7 +13,7 @@ returns-in-Some c = λ g log calm linked.
     let m = c.direction.ensures g.catalogue.tms g.catalogue.dms (calls_of log) (c.mail.ensures g log calm) linked in
     let flight = (link_of c.args.from c.args.to log).there.flight in
     let o : Option (Packet (List ℕ)) = Some c.in-Some.packet.now in
-    ap (λ t. Some t) c.taken.ensures
+    ap (λ t. Some t) c.as_taken.ensures
     ∙ taken_spelled spelled flight (c.args.place - 1) o
     (c.in-Some.ensures ∙ ap (λ (k : Kept (List (Packet (List ℕ)))). slice_get k.value (c.args.place - 1)) m.flight)
 

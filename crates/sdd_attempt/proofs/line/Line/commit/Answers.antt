@@ -13,7 +13,7 @@ pub returns-in-Some-pop_front-clause-line : goal.returns-in-Some-pop_front-claus
 returns-in-Some-pop_front-clause-line c =
     let s = c.self.inside in
     let line = subst (IsLine s.catalogue.now s.class.0 s.queue.items) (sym c.in-Some.ensures.value) c.self.invariant in
-    any_result c.committed.result _ (λ bases.
+    any_result c.commit_attempt.result _ (λ bases.
     ap (line_of s.catalogue.now s.class.0 c.pop_front.new.self.items) c.take.ensures.after
     ∙ ended_seen s.catalogue.now s.class.0 s.queue.items c.pop_front.new.self.items c.in-Some.running bases line c.pop_front.ensures.rest
     ∙ ap (λ r. line_done (commit_next bases (line_of s.catalogue.now s.class.0 s.queue.items r)) (line_of s.catalogue.now s.class.0 s.queue.items r)) c.in-Some.ensures.value

@@ -35,6 +35,6 @@ returns g c =
     let items = c.deref-link-items.result.now in
     let all = all_is c.args.self.now i.live i.tms i.dms i.channels.items items i.links.items
     c.self.view_is c.deref-link-items.ensures.value c.self.invariant.all_links in
-    if_on c.joined.result _ _ c.joined.ensures (λ events joined calls represents.
+    if_on c.join_events.result _ _ c.join_events.ensures (λ events joined calls represents.
     round_all c.args.self.now items c.loop-link.link-index _ _ events.items calls all c.loop-link-test.false
     c.loop-link.invariant.resends c.loop-link.invariant.deliveries joined represents)
