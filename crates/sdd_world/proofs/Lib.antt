@@ -8,7 +8,7 @@ pub mod Delivering
 pub mod Failing
 pub mod Fitting
 pub mod Flying
-pub mod Redeclaring
+pub mod NextEra
 pub mod HandedOver
 pub mod Handing
 pub mod InBytes

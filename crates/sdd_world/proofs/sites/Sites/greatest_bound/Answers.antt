@@ -1,5 +1,5 @@
 use Rattle.sdd_world.proofs.All.{T, ap, arith, bound_at, fold, greatest_bound, local_of, map, max, range_with_len, setting_of, subst, tm_no, ◌+◌, ◌≤◌}
-use Rattle.sdd_world.proofs.Redeclaring.{greatest_first, greatest_last, greatest_next, t_here}
+use Rattle.sdd_world.proofs.NextEra.{greatest_first, greatest_last, greatest_next, t_here}
 use Rattle.sdd_world.proofs.sites.Sites.greatest_bound.Goals as goal
 
 pub loop-number-init : goal.loop-number-init

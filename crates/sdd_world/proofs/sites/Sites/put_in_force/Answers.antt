@@ -1,5 +1,5 @@
 use Rattle.sdd_world.proofs.All.{Era, T, arith, local_of, setting_of, subst, tm_no, ◌≤◌}
-use Rattle.sdd_world.proofs.Redeclaring.{all_redeclared, none_redeclared, one_redeclared, t_here, t_represents}
+use Rattle.sdd_world.proofs.NextEra.{all_redeclared, none_redeclared, one_redeclared, t_here, t_represents}
 use Rattle.sdd_world.proofs.sites.Sites.put_in_force.Goals as goal
 
 pub loop-number-init : goal.loop-number-init

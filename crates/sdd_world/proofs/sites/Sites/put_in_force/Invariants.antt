@@ -1,5 +1,5 @@
 use Rattle.sdd_world.proofs.All.{AllRepresent, FitsEra, Input, Log}
-use Rattle.sdd_world.proofs.Redeclaring.{RedeclaredAt}
+use Rattle.sdd_world.proofs.NextEra.{RedeclaredAt}
 use Rattle.sdd_world.proofs.sites.Sites.put_in_force.Given as goal
 
 abbrev pub invariant-loop-number : goal.invariant-loop-number
