@@ -83,7 +83,7 @@ pub use Rattle.sdd_obligations.specs.AfterEvents.{down_from, is_down_after, rede
 pub use Rattle.sdd_obligations.specs.Awaited.{AwaitsRows, IsAwaited, IsReadable, IsServable}
 pub use Rattle.sdd_obligations.specs.Bounds.{AllFewTicks, IsNumbered, IsSmall, class_starts, greatest_height, most_classes, most_sites, start_of_class}
 pub use Rattle.sdd_obligations.specs.Contents.{AsksPhase, Tells, held_for, is_shipped, kept, question, question_of}
-pub use Rattle.sdd_obligations.specs.Facts.{Facts}
+pub use Rattle.sdd_obligations.specs.Obligations.{Obligations}
 pub use Rattle.sdd_obligations.specs.Fitting.{AreWritten, FitsInput, FitsText, IsItemChange}
 pub use Rattle.sdd_obligations.specs.Runnable.{IsRunnable}
 pub use Rattle.sdd_obligations.specs.Heights.{AllLow, HandsLow, IsLow, IsUnder, height, starts_by, ticks_of, times_of, top}

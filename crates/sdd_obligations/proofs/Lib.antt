@@ -1,5 +1,5 @@
 mod All
-pub mod AllFacts
+pub mod AllObligations
 pub mod Answered
 pub mod Answering
 pub mod AnswersLow

@@ -3,7 +3,7 @@ pub mod All
 pub mod Awaited
 pub mod Bounds
 pub mod Contents
-pub mod Facts
+pub mod Obligations
 pub mod Fitting
 pub mod Runnable
 pub mod Heights

@@ -2,7 +2,7 @@
 //! the transaction that is submitted next and the next tick fit the module to which they go.
 //!
 //! The one contract to the layer above: all of it holds, so that a world can make the call
-//! (`law_facts` of `facts_laws`). It stands on the exchange of an attempt with a data module, which goes by turns
+//! (`law_obligations` of `obligations_laws`). It stands on the exchange of an attempt with a data module, which goes by turns
 //! (`dialogue_laws`), on the databases of snapshots and the changes of WRITEs (`effects_laws`), on
 //! the rows that are frozen, shipped and serve (`shipped_laws`, `served_laws`), and on bounds of
 //! clocks and times (`clocks_laws`).
@@ -11,7 +11,7 @@
 pub mod clocks_laws;
 pub mod dialogue_laws;
 pub mod effects_laws;
-pub mod facts_laws;
+pub mod obligations_laws;
 pub mod served_laws;
 pub mod shipped_laws;
 

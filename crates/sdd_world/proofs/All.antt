@@ -1,5 +1,5 @@
 -- The names of std, of the crates below and of this crate's definitions that its proofs cite. Declares nothing.
-pub use Rattle.sdd_obligations.proofs.AllFacts.{all_facts}
+pub use Rattle.sdd_obligations.proofs.AllObligations.{all_obligations}
 pub use Rattle.sdd_obligations.proofs.Done.{count_join, redeclares_left}
 pub use Rattle.sdd_obligations.proofs.Limits.{marks_few as few_marks}
 pub use Rattle.sdd_obligations.proofs.Modules.{below_not as differ}

@@ -1,5 +1,5 @@
 -- The clock of a transaction module goes on, over plain worlds.
-use Rattle.sdd_world.proofs.All.{Happened, Input, IsSiteOf, List, Log, Mailbox, Mark, Marked, Msg, Represent, Setting, Site, Sites, Spooled, T, Tick, Ticked, TmNo, U, World, all_facts, false, fits_tick, handed_still, local_of, refl, rests_marked, same_here, same_is, same_site, setting_of, ticked_none, true, ℕ, ◌∷◌, ◌≡◌}
+use Rattle.sdd_world.proofs.All.{Happened, Input, IsSiteOf, List, Log, Mailbox, Mark, Marked, Msg, Represent, Setting, Site, Sites, Spooled, T, Tick, Ticked, TmNo, U, World, all_obligations, false, fits_tick, handed_still, local_of, refl, rests_marked, same_here, same_is, same_site, setting_of, ticked_none, true, ℕ, ◌∷◌, ◌≡◌}
 use Rattle.sdd_world.proofs.Handing.{at_log, here_at}
 use Rattle.sdd_world.proofs.Marking.{happened}
 use Rattle.sdd_world.proofs.Parting.{spooled_on}
@@ -17,7 +17,7 @@ spool_ticked g t n log boxes s = spooled_on g log (Mark (Tick t n) ∷ log) boxe
 
 module _ (w : World) (g : Input) (log : Log) (t : TmNo) (n : ℕ) (m : Marked w g log (Tick t n)) where
   tick_fits : fits_tick (T t) (setting_of g (T t)) (local_of g (T t) log) n
-  tick_fits = all_facts.tick g m.parts.good log t.0 n m.marked.rests.lawful m.marked.rests.within m.marked.next_is
+  tick_fits = all_obligations.tick g m.parts.good log t.0 n m.marked.rests.lawful m.marked.rests.within m.marked.next_is
 
   pub tick_asks : (setting : Setting) × (l : site.Log) × Represent w.sites (T t) setting l × fits_tick (T t) setting l n
   tick_asks = (setting_of g (T t), local_of g (T t) log, m.parts.sites (T t) m.possible.0, tick_fits)

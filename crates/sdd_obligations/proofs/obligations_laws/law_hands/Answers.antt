@@ -1,5 +1,5 @@
 use Rattle.sdd_obligations.proofs.Upholding.{hand_d, hand_t, hand_u}
-use Rattle.sdd_obligations.proofs.facts_laws.law_hands.Goals as goal
+use Rattle.sdd_obligations.proofs.obligations_laws.law_hands.Goals as goal
 
 pub returns-clause-at_d : goal.returns-clause-at_d
 returns-clause-at_d g = hand_d

@@ -3,7 +3,7 @@ ghost use Rattle.sdd_invariants.specs.All.{Act, AllLinked, Bases, D, DmNo, Does,
 ghost use Rattle.sdd_invariants.specs.dm.Fits as dm;
 ghost use Rattle.sdd_invariants.specs.tm.Fits as tm;
 ghost use Rattle.sdd_invariants.specs.umod.Fits as um;
-ghost use Rattle.sdd_obligations.specs.Facts.{Facts};
+ghost use Rattle.sdd_obligations.specs.Obligations.{Obligations};
 ghost use Rattle.sdd_obligations.specs.Runnable.{IsRunnable};
 ghost use Rattle.sdd_obligations.specs.Routes.{IsRouted};
 ghost use Rattle.sdd_obligations.specs.Upheld.{IsUpheldD, IsUpheldR};
@@ -64,6 +64,6 @@ pub fn law_sends()
 
 /// What the modules ask of messages, transactions and ticks, and that what they send goes along
 /// links, holds of what is next on the lawful logs of what is given so.
-pub fn law_facts()
-    ensures { Facts }
+pub fn law_obligations()
+    ensures { Obligations }
 {}

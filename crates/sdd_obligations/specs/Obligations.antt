@@ -5,7 +5,7 @@ use Rattle.sdd_obligations.specs.Real.{FitsEra, IsGood, fits, fits_submit, fits_
 
 -- Of all that is given so: what the modules require of messages, transactions, ticks and further class lists holds of what is next on its lawful
 -- logs, and what is put goes along links.
-pub record Facts : Type 0 where
+pub record Obligations : Type 0 where
   pub hand : (g : Input) → IsGood g → (log : Log) (a b : Site) (n : ℕ) (m : Msg) → IsLawful g log → IsWithin log → next g log ≡ Some (Hand a b n m)
       → fits b (setting_of g b) (base_of g (Hand a b n m ∷ log)) (local_of g b log) a m
   pub submit : (g : Input) → IsGood g → (log : Log) (at : Site) (n : ℕ) (txn : Txn) → IsLawful g log

@@ -1,5 +1,5 @@
 -- All that the modules ask: what is next on a lawful log fits the module to which it goes.
-use Rattle.sdd_obligations.proofs.All.{Bool, D, DmNo, Entry, Facts, FitsEra, FitsSite, Hand, Input, IsGood, IsLawful, IsRunnable, IsWithin, Log, Mark, Msg, Redeclares, Site, Some, Submitted, T, Tick, TmNo, Txn, U, arith, base_of, class_for, clock, false, fits_submit, greatest_bound, height, if◌then◌else◌, lawful_permitted, local_of, next, nth_era, redeclares, setting_of, sound_whole, subst, suc, sym, tm_no, top, true, txn_at, ℕ, ◌/◌, ◌<◌, ◌==◌, ◌^◌, ◌∷◌, ◌≡◌, ◌≤◌}
+use Rattle.sdd_obligations.proofs.All.{Bool, D, DmNo, Entry, FitsEra, FitsSite, Hand, Input, IsGood, IsLawful, IsRunnable, IsWithin, Log, Mark, Msg, Obligations, Redeclares, Site, Some, Submitted, T, Tick, TmNo, Txn, U, arith, base_of, class_for, clock, false, fits_submit, greatest_bound, height, if◌then◌else◌, lawful_permitted, local_of, next, nth_era, redeclares, setting_of, sound_whole, subst, suc, sym, tm_no, top, true, txn_at, ℕ, ◌/◌, ◌<◌, ◌==◌, ◌^◌, ◌∷◌, ◌≡◌, ◌≤◌}
 use Rattle.sdd_obligations.proofs.Put.{databases}
 use Rattle.sdd_obligations.proofs.Early.{clock_below, height_below, is_under}
 use Rattle.sdd_obligations.proofs.OfNext.{of_next}
@@ -94,8 +94,8 @@ redeclare_fits g good log t l w e =
       era = good.eras (suc (redeclares log));
     }
 
-pub all_facts : Facts
-all_facts = record {
+pub all_obligations : Obligations
+all_obligations = record {
   hand = hand_fits;
   submit = submit_fits;
   home = λ g good log at n l e. home_exists g log at n (fit_of g good).small l e (fit_of g good).txns_fit;

@@ -1,5 +1,5 @@
 use Rattle.sdd_obligations.proofs.Upholding.{submit_declared, submit_home, submit_new}
-use Rattle.sdd_obligations.proofs.facts_laws.law_submits.Goals as goal
+use Rattle.sdd_obligations.proofs.obligations_laws.law_submits.Goals as goal
 
 pub returns-clause-new : goal.returns-clause-new
 returns-clause-new g = submit_new
