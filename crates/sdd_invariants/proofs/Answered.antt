@@ -1,6 +1,6 @@
 -- What a data module puts, and why; an Answer follows its attempt's Start, and a Commit an Answer of its attempt at each
 -- module that it reads.
-use Rattle.sdd_invariants.proofs.All.{Act, Answer, Ask, Attempt, Bool, ClassNo, Cond, D, Did, DmNo, Does, Done, Each, Fetch, Hand, Handed, HasAnswer, Input, IsDueEach, IsFair, IsFetch, IsHonest, IsPermitted, IsPutByD, IsRead, IsReadOf, IsReadyBy, IsReduce, IsSend, IsShip, IsStep, List, Msg, Queued, Read, Ready, Records, Redeclared, Reduce, Reduced, Reject, Rows, Setting, Ship, Site, Some, Submits, T, Ticked, Ts, TxnNo, U, Use, Values, WasAsked, [], a_held, a_hold, a_null, a_release, active, ap, append_assoc, arith, asks_in, asks_rows, clock, contains, counts, each_local, eqb-true, false, handed, head, head_of, home, home_of, if◌then◌else◌, inl, inr, is_answer, is_over, is_ready, list_any, local_of, modules_asked, next_stamp, of_exchange, or_left, or_right, pipe_at, puts_to, queue, refl, same_site, sends_of_act, setting_of, slice_get, source_of, start_at, start_read, subst, suc, sym, to_site, true, was_asked, was_ready, zero, ℕ, ◌&&◌, ◌++◌, ◌==◌, ◌||◌, ◌∙◌, ◌∷◌, ◌≡◌}
+use Rattle.sdd_invariants.proofs.All.{Act, Answer, Ask, Attempt, Bool, ClassNo, Cond, D, Did, DmNo, Does, Done, Each, Fetch, Hand, Handed, HasAnswer, Input, IsDueEach, IsFair, IsFetch, IsHonest, IsPermitted, IsPutByD, IsRead, IsReadOf, IsReadyBy, IsReduce, IsSend, IsShip, IsStep, List, Msg, Queued, Read, Ready, Records, Reduce, Reduced, Reject, Rows, Setting, Ship, Site, Some, T, Ts, TxnNo, U, Use, Values, WasAsked, [], a_held, a_hold, a_null, a_release, active, ap, append_assoc, arith, asks_in, asks_rows, clock, contains, counts, each_local, eqb-true, false, handed, head, head_of, home, home_of, if◌then◌else◌, inl, inr, is_answer, is_over, is_ready, list_any, local_of, modules_asked, next_stamp, of_exchange, or_left, or_right, pipe_at, puts_to, queue, refl, same_site, sends_of_act, setting_of, slice_get, source_of, start_at, start_read, subst, suc, sym, to_site, true, was_asked, was_ready, zero, ℕ, ◌&&◌, ◌++◌, ◌==◌, ◌||◌, ◌∙◌, ◌∷◌, ◌≡◌}
 use Rattle.sdd_invariants.proofs.Clocks.{clock_grows, clock_number}
 use Rattle.sdd_invariants.proofs.Origins.{was_put}
 use Rattle.sdd_invariants.proofs.ReadsPut.{start_puts}
@@ -253,10 +253,7 @@ ready_handed ts c d (Handed from m ∷ log) e =
           (and_right (same_site d from) (is_ready ts c m) p)
       | false ↦ λ p q. more_ready (Handed from m) log d ts c (ready_handed ts c d log q)
     ] refl e
-ready_handed ts c d (Ticked n ∷ log) e = more_ready (Ticked n) log d ts c (ready_handed ts c d log e)
-ready_handed ts c d (Redeclared era t ∷ log) e = more_ready (Redeclared era t) log d ts c (ready_handed ts c d log e)
-ready_handed ts c d (Submits n txn ∷ log) e = more_ready (Submits n txn) log d ts c (ready_handed ts c d log e)
-ready_handed ts c d (Did act ∷ log) e = more_ready (Did act) log d ts c (ready_handed ts c d log e)
+ready_handed ts c d (x ∷ log) e = more_ready x log d ts c (ready_handed ts c d log e)
 
 answer_there : (g : Input) (c : ℕ) (d : DmNo) (log : Log) (a : Attempt) → IsPermitted g log
     → active (setting_of g (home g.catalogue c)) c (local_of g (home g.catalogue c) log) ≡ Some a

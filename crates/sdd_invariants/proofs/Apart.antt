@@ -1,5 +1,5 @@
 -- H5 without the Applies: an undeclared transaction and a declared one. The declared one committed before the undeclared one's Start, with a smaller timestamp; or it started when that one's RELEASE was handed to its site, with a greater one.
-use Rattle.sdd_invariants.proofs.All.{Act, Ask, Attempt, Bool, Did, Does, Each, Handed, Held, Input, IsCommitT, IsFair, IsFairT, IsHeldAt, IsHigh, IsLow, IsPermitted, IsStartU, List, Msg, None, Option, Queued, Redeclared, Reject, Release, Sends, Setting, Site, Some, Submits, T, Ticked, Ticking, U, [], active, allowed_act, ap, append-nil, append_assoc, arith, bound, clock, commit_act, cons_option, counts, dones_of, drawn_so_far, drop, false, filter_map-append, handed, hands_from, holds, if◌then◌else◌, in_left, inl, inr, is_a_held, is_a_release, length, local_of, number_of, numbers_to, one_if, pushed_by, puts_to, refl, release_time, release_times, runs, same_site, sends_of_act, setting_of, slice_get, stamp_of, start_at, start_u, starts, subst, suc, sym, take, take-append-drop, tally, tm_no, to_site, true, u_stamp, zero, ℕ, ◌*◌, ◌++◌, ◌+◌, ◌/◌, ◌<◌, ◌∙◌, ◌∷◌, ◌≡◌, ◌≤◌, ◌⊎◌}
+use Rattle.sdd_invariants.proofs.All.{Act, Ask, Attempt, Bool, Did, Does, Each, Handed, Held, Input, IsCommitT, IsFair, IsFairT, IsHeldAt, IsHigh, IsLow, IsPermitted, IsStartU, List, Msg, None, Option, Queued, Reject, Release, Sends, Setting, Site, Some, Submits, T, Ticking, U, [], active, allowed_act, ap, append-nil, append_assoc, arith, bound, clock, commit_act, cons_option, counts, dones_of, drawn_so_far, drop, false, filter_map-append, handed, hands_from, holds, if◌then◌else◌, in_left, inl, inr, is_a_held, is_a_release, length, local_of, number_of, numbers_to, one_if, pushed_by, puts_to, refl, release_time, release_times, runs, same_site, sends_of_act, setting_of, slice_get, stamp_of, start_at, start_u, starts, subst, suc, sym, take, take-append-drop, tally, tm_no, to_site, true, u_stamp, zero, ℕ, ◌*◌, ◌++◌, ◌+◌, ◌/◌, ◌<◌, ◌∙◌, ◌∷◌, ◌≡◌, ◌≤◌, ◌⊎◌}
 use Rattle.sdd_invariants.proofs.HoldChain.{from_u, handed_helds, handed_holds, hold_chain, t_table, u_table}
 use Rattle.sdd_invariants.proofs.Holding.{hold_rule, still, t_helds}
 use Rattle.sdd_invariants.proofs.Releases.{serving, start_ready}
@@ -80,10 +80,8 @@ has_pushed at a [] i m e = cc
 has_pushed at a (Handed from x ∷ l) i m e =
     let p = push_is x (clock at l) in
     pushed_if (same_site a from) (hands_from a l) x m i (clock at l).ticks (clock at (Handed from x ∷ l)).ticks p.0 p.1 (λ j q. has_pushed at a l j m q) e
-has_pushed at a (Ticked n ∷ l) i m e = up_le _ _ _ (has_pushed at a l i m e) (clock_rises at (Ticked n) l)
 has_pushed at a (Submits n txn ∷ l) i m e = has_pushed at a l i m e
-has_pushed at a (Redeclared era t ∷ l) i m e = up_le _ _ _ (has_pushed at a l i m e) (clock_rises at (Redeclared era t) l)
-has_pushed at a (Did act ∷ l) i m e = up_le _ _ _ (has_pushed at a l i m e) (clock_rises at (Did act) l)
+has_pushed at a (x ∷ l) i m e = up_le _ _ _ (has_pushed at a l i m e) (clock_rises at x l)
 
 release_push : (m : Msg) (x : ℕ) → release_time m ≡ Some x → push m ≡ x
 release_push (Release ts) x e = cc

@@ -20,8 +20,7 @@ pub class_at_place : (s : Setting) (log : Log) (n : ℕ) (k : ClassView) → sli
     → (c : ℕ) × IsClassHere s c × (class_view s log c ≡ k)
 class_at_place s log n k e =
     let r = in_mapped (class_view s log) (classes_of s) n k e in
-    let i = in_range 0 (suc (length s.catalogue.classes)) n r.0 r.1 in
-    (r.0, omega (arith, i.1), r.2)
+    (r.0, omega (arith, (in_range 0 (suc (length s.catalogue.classes)) n r.0 r.1).1), r.2)
 
 step_is : (s : Setting) (log : Log) (x a : Act) → IsReadStep s log x → Some x ≡ Some a → IsReadStep s log a
 step_is s log x a h e = let p : x ≡ a = cc in subst (IsReadStep s log) p h

@@ -149,11 +149,8 @@ clock_act s log act l i h = step_way s log act (λ x. IsClocked s (Did x ∷ log
 
 pub clocked : (s : Setting) (log : Log) → number_of s.site ≤ 63 → Each (IsFair s) log → IsClocked s log
 clocked s [] w h = record { drawn_le = tt; falls = tt; promised_le = tt }
-clocked s (Handed from m ∷ log) w h = clock_on s log (Handed from m) refl refl (clocked s log w h.1)
-clocked s (Ticked n ∷ log) w h = clock_on s log (Ticked n) refl refl (clocked s log w h.1)
-clocked s (Submits n txn ∷ log) w h = clock_on s log (Submits n txn) refl refl (clocked s log w h.1)
-clocked s (Redeclared era t ∷ log) w h = clock_on s log (Redeclared era t) refl refl (clocked s log w h.1)
 clocked s (Did act ∷ log) w h = clock_act s log act (λ c. limit_le s log c w h.1) h.0 (clocked s log w h.1)
+clocked s (x ∷ log) w h = clock_on s log x refl refl (clocked s log w h.1)
 
 stamp_is : (s : Setting) (log : Log) → next_stamp s log ≡ suc (clock s.site log).ticks * 64 + number_of s.site
 stamp_is s log = let n = clock_number s.site log in omega arith

@@ -44,10 +44,7 @@ strict_pipe g c d log small h =
 
 abbrev IsStrictHere : site.Log → site.Entry → Type 0
 IsStrictHere log (Did act) = IsStrict (writes_in 0 (all_of (pipe 0 log))) × ((m : Msg) → head (pipe 0 log) ≡ Some m → goes_through 0 m ≡ true)
-IsStrictHere log (Handed from m) = Unit {0}
-IsStrictHere log (Ticked n) = Unit {0}
-IsStrictHere log (Submits n txn) = Unit {0}
-IsStrictHere log (Redeclared era t) = Unit {0}
+IsStrictHere log _ = Unit {0}
 
 stricts : (g : Input) (d : DmNo) (log : Log) → IsPermitted g log → Each IsStrictHere (local_of g (D d) log)
 stricts g d = each_local g (D d) IsStrictHere (record {
@@ -164,10 +161,7 @@ sum_more f g (x ∷ ds) (suc k) d h l e = let i = sum_more f g ds k d h l e in l
 -- each DONE comes from a data module of the catalogue
 abbrev IsFromModule : ℕ → site.Log → site.Entry → Type 0
 IsFromModule n l (Handed from m) = (x : ℕ) → is_done_of x m ≡ true → (k : ℕ) × (d : ℕ) × (from ≡ D (dm_no d)) × (slice_get (numbers_to n) k ≡ Some d)
-IsFromModule n l (Ticked k) = Unit {0}
-IsFromModule n l (Submits k txn) = Unit {0}
-IsFromModule n l (Redeclared era u) = Unit {0}
-IsFromModule n l (Did act) = Unit {0}
+IsFromModule n l _ = Unit {0}
 
 abbrev from_d : ℕ → site.Log → ℕ → ℕ
 from_d x l d = tally (is_done_of x) (hands_from (D (dm_no d)) l)
@@ -283,7 +277,5 @@ put_once g log x d h = (once (setting_of g (D d)) x (local_of g (D d) log) (d_fa
 pub dones_few : (g : Input) (log : Log) (x : ℕ) → IsPermitted g log → dones_of x (local_of g U log) ≤ g.catalogue.dms
 dones_few g log x h =
     let lu : site.Log = local_of g U log in
-    let sum = dones_within g.catalogue.dms x lu (module_hands g log h) in
-    let n : length (numbers_to g.catalogue.dms) ≡ g.catalogue.dms = range_length 1 g.catalogue.dms in
     let few = sum_le (from_d x lu) (numbers_to g.catalogue.dms) (λ d. from_one g log x d h) in
-    omega (arith, sum, n, few)
+    omega (arith, dones_within g.catalogue.dms x lu (module_hands g log h), range_length 1 g.catalogue.dms, few)

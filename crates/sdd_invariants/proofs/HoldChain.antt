@@ -1,7 +1,7 @@
 -- Between U and one T: the counts of HOLDs, RELEASEs, HELDs, Starts and Commits of class 0 stand in one chain.
-use Rattle.sdd_invariants.proofs.All.{Act, AllIdle, Bool, D, Did, Each, Handed, Held, Hold, HoldCounts, Input, IsFairT, IsFairU, IsHoldChain, IsPermitted, IsPutByD, List, Msg, NoneHold, Redeclared, Release, Sends, Setting, Site, Some, Submits, T, Ticked, TmCounts, TmNo, U, [], ap, arith, base_of, counts, counts_acted, counts_handed, counts_tm, each_local, false, handed, hands, hands_from, holds, holds_acted, holds_handed, if◌then◌else◌, inl, inr, is_a_held, is_a_hold, is_a_release, local_of, numbers_to, one_if, or_left, or_right, puts_to, refl, same_site, setting_of, slice_get, subst, suc, sym, take, tally, tm_no, true, zero, ℕ, ◌++◌, ◌+◌, ◌<◌, ◌==◌, ◌||◌, ◌∙◌, ◌∷◌, ◌≡◌}
+use Rattle.sdd_invariants.proofs.All.{Act, AllIdle, Bool, D, Did, Each, Handed, Held, Hold, HoldCounts, Input, IsFairT, IsFairU, IsHoldChain, IsPermitted, IsPutByD, List, Msg, NoneHold, Redeclared, Release, Sends, Setting, Site, Some, Submits, T, Ticked, TmCounts, TmNo, U, [], ap, arith, base_of, counts, counts_acted, counts_handed, counts_tm, each_local, false, flip as turned, handed, hands, hands_from, holds, holds_acted, holds_handed, if◌then◌else◌, inl, inr, is_a_held, is_a_hold, is_a_release, local_of, numbers_to, one_if, or_left, or_right, puts_to, refl, same_site, setting_of, slice_get, subst, suc, sym, take, tally, tm_no, true, zero, ℕ, ◌++◌, ◌+◌, ◌<◌, ◌==◌, ◌||◌, ◌∙◌, ◌∷◌, ◌≡◌}
 use Rattle.sdd_invariants.proofs.Holding.{still, t_helds, t_none}
-use Rattle.sdd_invariants.proofs.Serving.{chain, flip as turned}
+use Rattle.sdd_invariants.proofs.Serving.{chain}
 use Rattle.sdd_invariants.proofs.Turns.{balance, tally_append, tally_take, turns_take}
 use Rattle.sdd_invariants.proofs.Queues.{queue_is}
 use Rattle.sdd_invariants.proofs.Answered.{put_in_by_d}
@@ -46,10 +46,7 @@ none_at (x ∷ ms) (suc k) m h e = none_at ms k m h.2 e
 
 abbrev IsFromU : site.Log → site.Entry → Type 0
 IsFromU l (Handed from m) = of_hold m ≡ true → from ≡ U
-IsFromU l (Ticked n) = Unit {0}
-IsFromU l (Submits n txn) = Unit {0}
-IsFromU l (Redeclared era t) = Unit {0}
-IsFromU l (Did act) = Unit {0}
+IsFromU l _ = Unit {0}
 
 put_from : (g : Input) (log : Log) (from at : Site) (k : ℕ) (m : Msg) → IsPermitted g log
     → slice_get (puts_to at (local_of g from log)) k ≡ Some m → of_hold m ≡ true → from ≡ U
@@ -79,10 +76,9 @@ hand_holds n Hold h = (omega arith, omega arith)
 hand_holds n _ h = (omega arith, omega arith)
 
 seen_one : (a b : Bool) → (a ≡ true → b ≡ true) → (if b then one_if a else 0) ≡ one_if a
-seen_one true true f = refl
 seen_one true false f = let p : ◌≡◌ {A = Bool} false true = f refl in cc
 seen_one false true f = refl
-seen_one false false f = refl
+seen_one _ _ f = refl
 
 is_u : (from : Site) → from ≡ U → same_site U from ≡ true
 is_u from e = ap (same_site U) e
@@ -151,33 +147,27 @@ hold_chain g k t log i h =
     let lu : site.Log = local_of g U log in
     let lt : site.Log = local_of g at log in
     let c = chain (setting_of g U) k t lu i (u_table g log h) in
-    let st = still (setting_of g at) lt (t_table g (tm_no t) log h) in
     let hh = handed_holds lt (from_u g at log h) in
     let first : hands_from U lt ≡ take (handed U at log) (puts_to at lu) = in_order g log U at h in
     let hold_is : (holds lt).holds ≡ tally is_a_hold (take (handed U at log) (puts_to at lu)) = hh.0 ∙ ap (tally is_a_hold) first in
     let release_is : (holds lt).releases ≡ tally is_a_release (take (handed U at log) (puts_to at lu)) = hh.1 ∙ ap (tally is_a_release) first in
     let part = turns_take (handed U at log) (puts_to at lu) c.state c.turns_are in
     let even = balance false part.0 (take (handed U at log) (puts_to at lu)) part.1 in
-    let whole = balance false c.state (puts_to at lu) c.turns_are in
     let p1 = one_if_le part.0 in
-    let p2 = one_if_le c.state in
-    let less_h = tally_take is_a_hold (handed U at log) (puts_to at lu) in
-    let less_r = tally_take is_a_release (handed U at log) (puts_to at lu) in
     let got : (counts t lu).helds ≡ tally is_a_held (take (handed at U log) (puts_to U lt)) = handed_helds t lu
     ∙ ap (tally is_a_held) (in_order g log at U h) in
     let put : (holds lt).helds ≡ tally is_a_held (puts_to U lt) = t_helds (setting_of g at) lt (t_table g (tm_no t) log h) in
-    let less_e = tally_take is_a_held (handed at U log) (puts_to U lt) in
     record {
-      released = omega (arith, release_is, less_r, c.releases_are);
+      released = omega (arith, release_is, tally_take is_a_release (handed U at log) (puts_to at lu), c.releases_are);
       committed = c.released;
       started = c.committed;
       got_held = c.started_held;
-      put_held = omega (arith, got, put, less_e);
-      got_hold = st.owed;
+      put_held = omega (arith, got, put, tally_take is_a_held (handed at U log) (puts_to U lt));
+      got_hold = (still (setting_of g at) lt (t_table g (tm_no t) log h)).owed;
       one_open = omega (arith, hold_is, release_is, even, p1);
       in_turn = omega (arith, hold_is, release_is, even, p1);
-      put_hold = omega (arith, hold_is, less_h, c.holds_are);
-      one_ahead = omega (arith, whole, p2, c.holds_are, c.releases_are);
+      put_hold = omega (arith, hold_is, tally_take is_a_hold (handed U at log) (puts_to at lu), c.holds_are);
+      one_ahead = omega (arith, balance false c.state (puts_to at lu) c.turns_are, one_if_le c.state, c.holds_are, c.releases_are);
     }
 
 -- between a HELD and its RELEASE every class of the T is idle

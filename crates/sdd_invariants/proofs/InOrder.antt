@@ -1,5 +1,5 @@
 -- The messages that were handed over on a link are, in order, the first of those that were put on it.
-use Rattle.sdd_invariants.proofs.All.{Bool, Call, Deliver, Delivers, Did, Does, Down, Era, Event, Hand, Handed, Input, IsAllowed, IsPermitted, List, Lose, Loses, Mark, Msg, None, Notes, Option, Puts, Redeclare, Redeclares, Repeat, Repeats, Resend, Resends, Round, Settle, Site, Some, Submit, Submitted, T, Tick, Ticked, Txn, U, Up, [], ap, append-nil, arith, by_event, by_link, by_mark, by_redeclare, by_round, by_site, calls_of, delivered, delivered_le, due_by, false, given_to, handed, handed_by, hands_from, if◌then◌else◌, length, link, link_of, local_of, made, mark_due, message_at, note_if, nth_era, put_by, puts, puts_to, redeclared_entry, redeclares, refl, rises, same_site, sends_of_act, sent, slice_get, sound, subst, suc, sym, take, take-append-le, takes_part, true, txn_at, with_made, ℕ, ◌&&◌, ◌++◌, ◌-◌, ◌∙◌, ◌∷◌, ◌≡◌, ◌≤◌}
+use Rattle.sdd_invariants.proofs.All.{Bool, Call, Deliver, Delivers, Did, Does, Era, Event, Hand, Handed, Input, IsAllowed, IsPermitted, List, Lose, Loses, Mark, Msg, None, Option, Puts, Redeclare, Redeclares, Repeat, Repeats, Resend, Resends, Settle, Site, Some, Submit, Submitted, T, Tick, Ticked, Txn, U, [], ap, append-nil, arith, by_event, by_link, by_mark, by_redeclare, by_round, by_site, calls_of, delivered, delivered_le, due_by, false, given_to, handed, handed_by, hands_from, if◌then◌else◌, length, link, link_of, local_of, made, mark_due, message_at, note_if, nth_era, put_by, puts, puts_to, redeclared_entry, redeclares, refl, rises, same_site, sends_of_act, sent, slice_get, sound, subst, suc, sym, take, take-append-le, takes_part, true, txn_at, with_made, ℕ, ◌&&◌, ◌++◌, ◌-◌, ◌∙◌, ◌∷◌, ◌≡◌, ◌≤◌}
 use Rattle.sdd_invariants.proofs.Bools.{and_left, and_right}
 use Rattle.sdd_invariants.proofs.Lists.{take_one_more}
 use Rattle.sdd_invariants.proofs.Sites.{site_is}
@@ -128,7 +128,7 @@ none_redeclared a _ era t = refl
 abbrev AreFirst : Input → Site → Site → Log → Type 0
 AreFirst g a b log = hands_from a (local_of g b log) ≡ take (handed a b log) (sent a b log)
 
-handed_of_sent : (g : Input) (log : Log) (a b : Site) → IsPermitted g log → handed a b log ≤ length (sent a b log)
+pub handed_of_sent : (g : Input) (log : Log) (a b : Site) → IsPermitted g log → handed a b log ≤ length (sent a b log)
 handed_of_sent g log a b h = let i = handed_le g log a b h in let j = delivered_within a b log in omega arith
 
 -- an entry that hands nothing over on the link
@@ -154,27 +154,17 @@ hands_are : (g : Input) (log : Log) (a b : Site) → IsPermitted g log → AreFi
 hands_are g [] a U h = refl
 hands_are g (Mark (Tick t n) ∷ log) a b h =
     none_more g a b (Mark (Tick t n)) log refl (none_if a (same_site b (T t)) (Some (Ticked n)) refl) h.1 (hands_are g log a b h.1)
-hands_are g (Mark (Submit n) ∷ log) a b h = none_more g a b (Mark (Submit n)) log refl refl h.1 (hands_are g log a b h.1)
-hands_are g (Mark (Deliver x y k) ∷ log) a b h = none_more g a b (Mark (Deliver x y k)) log refl refl h.1 (hands_are g log a b h.1)
-hands_are g (Mark (Lose x y k) ∷ log) a b h = none_more g a b (Mark (Lose x y k)) log refl refl h.1 (hands_are g log a b h.1)
-hands_are g (Mark (Repeat x y k) ∷ log) a b h = none_more g a b (Mark (Repeat x y k)) log refl refl h.1 (hands_are g log a b h.1)
-hands_are g (Mark (Resend x y) ∷ log) a b h = none_more g a b (Mark (Resend x y)) log refl refl h.1 (hands_are g log a b h.1)
-hands_are g (Mark Settle ∷ log) a b h = none_more g a b (Mark Settle) log refl refl h.1 (hands_are g log a b h.1)
-hands_are g (Mark Redeclare ∷ log) a b h = none_more g a b (Mark Redeclare) log refl refl h.1 (hands_are g log a b h.1)
-hands_are g (Mark (Down d) ∷ log) a b h = none_more g a b (Mark (Down d)) log refl refl h.1 (hands_are g log a b h.1)
-hands_are g (Mark (Up d) ∷ log) a b h = none_more g a b (Mark (Up d)) log refl refl h.1 (hands_are g log a b h.1)
-hands_are g (Round es ∷ log) a b h = none_more g a b (Round es) log refl refl h.1 (hands_are g log a b h.1)
 hands_are g (Redeclares t ∷ log) a b h =
     none_more g a b (Redeclares t) log refl (none_redeclared a b (nth_era g (suc (redeclares log))) t) h.1 (hands_are g log a b h.1)
 hands_are g (Submitted s n ∷ log) a b h =
     none_more g a b (Submitted s n) log refl (none_if a (same_site b s) (given_to n (txn_at g n)) (none_given a n (txn_at g n))) h.1 (hands_are g log a b h.1)
-hands_are g (Notes ∷ log) a b h = none_more g a b Notes log refl refl h.1 (hands_are g log a b h.1)
 hands_are g (Does at act ∷ log) a b h = none_more g a b (Does at act) log refl (none_if a (same_site b at) (Some (Did act)) refl) h.1 (hands_are g log a b h.1)
 hands_are g (Hand from to n m ∷ log) a b h =
     hands_grow g a b (Hand from to n m) log
     ∙ one_seen a from (same_site a from) (same_site b to) (handed a b log) n (sent a b log) (hands_from a (local_of g b log)) m refl
     (λ e. there log a b n m (at_link (λ x y. IsNextHand log x y n m) a b from to e (allowed_hand g log (Hand from to n m) h.0))) (hands_are g log a b h.1)
 hands_are g [] a _ h = refl
+hands_are g (x ∷ log) a b h = none_more g a b x log refl refl h.1 (hands_are g log a b h.1)
 
 -- the messages handed from a at b are the first of those that a put on its link to b
 pub in_order : (g : Input) (log : Log) (a b : Site) → IsPermitted g log → hands_from a (local_of g b log) ≡ take (handed a b log) (puts_to b (local_of g a log))

@@ -37,10 +37,7 @@ put_at_home g (D d) b log k m h e = none_homed g.catalogue (D d) m (d_pipes_none
 -- so what is handed comes from the site that runs its class
 abbrev IsHomeHand : Catalogue → site.Log → site.Entry → Type 0
 IsHomeHand cat l (Handed from m) = IsHomed cat from m
-IsHomeHand cat l (Ticked n) = Unit {0}
-IsHomeHand cat l (Submits n txn) = Unit {0}
-IsHomeHand cat l (Redeclared era t) = Unit {0}
-IsHomeHand cat l (Did act) = Unit {0}
+IsHomeHand cat l _ = Unit {0}
 
 home_hands : (g : Input) (at : Site) (log : Log) → IsPermitted g log → Each (IsHomeHand g.catalogue) (local_of g at log)
 home_hands g at = each_local g at (IsHomeHand g.catalogue) (record {

@@ -42,8 +42,7 @@ abbrev pub IsMakerOf : Site → site.Entry → Input → Entry → Type 0
 IsMakerOf at (Did act) g e = e ≡ Does at act
 IsMakerOf at (Handed from m) g e = (n : ℕ) × (e ≡ Hand from at n m)
 IsMakerOf at (Submits n t) g e = (e ≡ Submitted at n) × (txn_at g n ≡ Some t)
-IsMakerOf at (Ticked n) g e = Unit {0}
-IsMakerOf at (Redeclared era t) g e = Unit {0}
+IsMakerOf at _ g e = Unit {0}
 
 maker_given : (g : Input) (at to : Site) (n : ℕ) (o : Option Txn) (x : site.Entry) → txn_at g n ≡ o → to ≡ at
     → given_to n o ≡ Some x → IsMakerOf at x g (Submitted to n)

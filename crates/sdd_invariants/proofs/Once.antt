@@ -31,8 +31,7 @@ later_try s c z b1 b2 q1 q2 f1 n1 f2 n2 e1 e2 n t p =
     let h2 = (head_left s c b2 q2 f2 n2 e2).tries_are in
     let one : starts_of c q1.number (Did (start_at s c b1 q1) ∷ b1) ≡ suc (starts_of c q1.number b1) = rw (same_number c, same_number q1.number) refl in
     let g = starts_grow c q1.number z (Did (start_at s c b1 q1) ∷ b1) in
-    let same : starts_of c q2.number b2 ≡ starts_of c q1.number (z ++ Did (start_at s c b1 q1) ∷ b1) = ap (λ k. starts_of c k b2) (sym n)
-    ∙ ap (starts_of c q1.number) p in
+    let same : starts_of c q2.number b2 ≡ starts_of c q1.number (z ++ Did (start_at s c b1 q1) ∷ b1) = (λ i. starts_of c (sym n i) (p i)) in
     omega arith
 
 same_try : (s : Setting) (c : ℕ) (l1 l2 b1 b2 : site.Log) (q1 q2 : Queued) → Each (IsFair s) b1 → Each IsNew b1

@@ -1,5 +1,5 @@
 -- A message on a link was put by one act of the site's log, and what an act puts is on the link.
-use Rattle.sdd_invariants.proofs.All.{Act, Attempt, Bases, Change, D, Did, Entry, Handed, IsPut, List, Log, Msg, Redeclared, Setting, Site, Some, Submits, Ticked, Write, [], ap, arith, changes_at, class_no, commit_act, dm_no, effect, false, in_left, inl, inr, is_empty, length, puts_to, refl, sends_of_act, slice_get, time_at, to_site, txn_no, write_to, ℕ, ◌++◌, ◌<◌, ◌∷◌, ◌≡◌, ◌≤◌}
+use Rattle.sdd_invariants.proofs.All.{Act, Attempt, Bases, Change, D, Did, Entry, IsPut, List, Log, Msg, Setting, Site, Some, Write, [], ap, arith, changes_at, class_no, commit_act, dm_no, effect, false, in_left, inl, inr, is_empty, length, puts_to, refl, sends_of_act, slice_get, time_at, to_site, txn_no, write_to, ℕ, ◌++◌, ◌<◌, ◌∷◌, ◌≡◌, ◌≤◌}
 use Rattle.sdd_invariants.proofs.Lists.{in_either, in_right}
 use Rattle.sdd_invariants.proofs.Sites.{some_to}
 
@@ -8,14 +8,11 @@ more_put b e log m h = record { later = e ∷ h.later; act = h.act; before = h.b
 
 pub was_put : (b : Site) (log : Log) (k : ℕ) (m : Msg) → slice_get (puts_to b log) k ≡ Some m → IsPut b log m
 was_put b [] k m e = cc
-was_put b (Handed from x ∷ log) k m e = more_put b (Handed from x) log m (was_put b log k m e)
-was_put b (Ticked n ∷ log) k m e = more_put b (Ticked n) log m (was_put b log k m e)
-was_put b (Redeclared era t ∷ log) k m e = more_put b (Redeclared era t) log m (was_put b log k m e)
-was_put b (Submits n txn ∷ log) k m e = more_put b (Submits n txn) log m (was_put b log k m e)
 was_put b (Did act ∷ log) k m e = elim (in_either (puts_to b log) (to_site b (sends_of_act act)) k m e) [
   | inl p ↦ more_put b (Did act) log m (was_put b log k m p)
   | inr p ↦ record { later = []; act = act; before = log; is = refl; place = p.0; there = p.1 }
 ]
+was_put b (x ∷ log) k m e = more_put b x log m (was_put b log k m e)
 
 still_put : (b : Site) (e : Entry) (log : Log) (k : ℕ) (m : Msg) → slice_get (puts_to b log) k ≡ Some m → slice_get (puts_to b (e ∷ log)) k ≡ Some m
 still_put b (Did act) log k m h = in_left (puts_to b log) (to_site b (sends_of_act act)) k m h

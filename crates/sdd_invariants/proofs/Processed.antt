@@ -1,5 +1,5 @@
 -- The records of a pipe belong to its messages, in order.
-use Rattle.sdd_invariants.proofs.All.{Act, AllZip, Answer, Apply, Bool, Cond, Did, Each, Handed, IsClassHere, IsDueEach, IsMatched, IsOf, IsReadStep, IsReadWith, List, Log, May, Msg, None, Null, Pass, Pipe, Read, Rec, Records, Redeclared, Rejected, Sends, Setting, Site, Some, Submits, Ticked, View, Write, [], ap, by_record, by_wait, false, goes_through, head, head_processed, if◌then◌else◌, in_passing, inl, inr, is_moving, is_processing, is_wait, one_or_none, pipe, put, refl, results, slice_get, spoiler, subst, suc, sym, true, view_of, waits, zero, ℕ, ◌&&◌, ◌++◌, ◌==◌, ◌∙◌, ◌∷◌, ◌≡◌, ◌⊎◌}
+use Rattle.sdd_invariants.proofs.All.{Act, AllZip, Answer, Apply, Bool, Cond, Did, Each, Handed, IsClassHere, IsDueEach, IsMatched, IsOf, IsReadStep, IsReadWith, List, Log, May, Msg, None, Null, Pass, Pipe, Read, Rec, Records, Rejected, Sends, Setting, Site, Some, View, Write, [], ap, by_record, by_wait, false, goes_through, head, head_processed, if◌then◌else◌, in_passing, inl, inr, is_moving, is_processing, is_wait, one_or_none, pipe, put, refl, results, slice_get, spoiler, subst, suc, sym, true, view_of, waits, zero, ℕ, ◌&&◌, ◌++◌, ◌==◌, ◌∙◌, ◌∷◌, ◌≡◌, ◌⊎◌}
 use Rattle.sdd_invariants.proofs.AreReadSteps.{d_step}
 use Rattle.sdd_invariants.proofs.Bools.{if_way, neither_left, neither_right, same_number, same_or_not}
 
@@ -83,9 +83,6 @@ matched_own s c m r sends log p e i h =
 pub matched : (s : Setting) (c : ℕ) (log : Log) → Each (IsDueEach s) log → IsMatched c log
 matched s c [] h = record { matched = tt }
 matched s c (Handed from m ∷ log) h = matched_as c log (Handed from m ∷ log) refl (processed_handed c from m log) (matched s c log h.1)
-matched s c (Ticked n ∷ log) h = matched_as c log (Ticked n ∷ log) refl refl (matched s c log h.1)
-matched s c (Submits n txn ∷ log) h = matched_as c log (Submits n txn ∷ log) refl refl (matched s c log h.1)
-matched s c (Redeclared era t ∷ log) h = matched_as c log (Redeclared era t ∷ log) refl refl (matched s c log h.1)
 matched s c (Did act ∷ log) h =
     let i = matched s c log h.1 in
     read_step_way s log act (λ x. IsMatched c (Did x ∷ log)) (λ e. matched_same c log (Did act ∷ log) (passing c act log e).0 i)
@@ -95,6 +92,7 @@ matched s c (Did act ∷ log) h =
           (matched_own s c m r sends log p (rw q at e) (subst (λ x. May (view_of s log) x (waits x log) m r) q j) i)
       | inr q ↦ matched_same c log (Did (Records k r sends) ∷ log) (not_own c k r sends log (inl q)) i
     ]) (d_step s log act h.0)
+matched s c (x ∷ log) h = matched_as c log (x ∷ log) refl refl (matched s c log h.1)
 
 -- the k-th record with the k-th message
 pub zip_at : {A B : Type 0} (R : A → B → Type 0) (xs : List A) (ys : List B) (k : ℕ) (y : B) → AllZip R xs ys

@@ -1,5 +1,5 @@
 -- Who puts what at a data module.
-use Rattle.sdd_invariants.proofs.All.{Act, Apply, Arrive, Bool, Change, ClassNo, ClassView, Cond, Did, Done, Each, Entry, Fetch, Handed, Home, IsClassHere, IsDue, IsDueEach, IsFetch, IsPutByD, IsReduce, IsShip, List, Log, Msg, None, Null, Open, Option, Processes, Read, Records, Redeclared, Reduce, Sends, Setting, Ship, Site, Some, Submits, Ticked, Ts, TxnNo, U, Use, WasAsked, Write, [], act_by, act_where, answer_of, answer_to, ap, arith, ask_for, by_head, by_open, class_asked, eqb-true, false, filter, hands, head, head_due, head_of, home_of, if◌then◌else◌, inl, inr, is_asked_of, is_held, is_met, is_some, judged, lacking, list_all, map, not, opens, opens_acted, pipe, piped, puts_to, refl, same_site, sends_of_act, slice_get, spoiler, step_on, subst, suc, sym, to_site, true, view_of, waits, zero, ℕ, ◌++◌, ◌==◌, ◌∷◌, ◌≡◌, ◌⊎◌}
+use Rattle.sdd_invariants.proofs.All.{Act, Apply, Arrive, Bool, Change, ClassNo, ClassView, Cond, Did, Done, Each, Entry, Fetch, Handed, Home, IsClassHere, IsDue, IsDueEach, IsFetch, IsPutByD, IsReduce, IsShip, List, Log, Msg, None, Null, Open, Option, Processes, Read, Records, Reduce, Sends, Setting, Ship, Site, Some, Ts, TxnNo, U, Use, WasAsked, Write, [], act_by, act_where, answer_of, answer_to, ap, arith, ask_for, by_head, by_open, class_asked, eqb-true, false, filter, hands, head, head_due, head_of, home_of, if◌then◌else◌, inl, inr, is_asked_of, is_held, is_met, is_some, judged, lacking, list_all, map, not, opens, opens_acted, pipe, piped, puts_to, refl, same_site, sends_of_act, slice_get, spoiler, step_on, subst, suc, sym, to_site, true, view_of, waits, zero, ℕ, ◌++◌, ◌==◌, ◌∷◌, ◌≡◌, ◌⊎◌}
 use Rattle.sdd_invariants.proofs.AreReadSteps.{class_at_place}
 use Rattle.sdd_invariants.proofs.Lists.{in_either, in_filtered, in_one}
 use Rattle.sdd_invariants.proofs.Sites.{site_is, the_one}
@@ -40,10 +40,8 @@ was_handed (Handed from m ∷ log) k o e = elim (open_in (suc (hands log)) from 
   | inl p ↦ more_asked log (Handed from m) o.from (IsMsg o.msg) (was_handed log p.0 o p.1)
   | inr p ↦ record { asked = m; later = []; before = log; is = ap (λ x. Handed x m ∷ log) p.0; fits = p.1 }
 ]
-was_handed (Ticked n ∷ log) k o e = more_asked log (Ticked n) o.from (IsMsg o.msg) (was_handed log k o e)
-was_handed (Submits n txn ∷ log) k o e = more_asked log (Submits n txn) o.from (IsMsg o.msg) (was_handed log k o e)
-was_handed (Redeclared era t ∷ log) k o e = more_asked log (Redeclared era t) o.from (IsMsg o.msg) (was_handed log k o e)
 was_handed (Did act ∷ log) k o e = let i = acted_in act (opens log) k o e in more_asked log (Did act) o.from (IsMsg o.msg) (was_handed log i.0 o i.1)
+was_handed (x ∷ log) k o e = more_asked log x o.from (IsMsg o.msg) (was_handed log k o e)
 
 asked_at : (log : Log) (b from : Site) (P : Msg → Type 0) (m : Msg) → b ≡ from → WasAsked log from (IsMsg m) → P m → WasAsked log b P
 asked_at log b from P m e h p =

@@ -1,6 +1,6 @@
 -- The queue of a class is what was submitted to it and isn't committed, each with the number of its Starts; the active
 -- attempt is that of its head.
-use Rattle.sdd_invariants.proofs.All.{Act, AllKnown, Attempt, Bases, Bool, Did, Each, Entry, Exchange, Handed, IsFair, IsNew, IsQueue, IsServed, IsStep, List, Log, Msg, None, Option, Queued, Redeclared, Sends, Setting, Site, Some, Submits, Ticked, Txn, [], active, ap, arith, commit_act, cond, contains, current_era, false, filter, filter_map, filter_map-append, head_of, if◌then◌else◌, inl, inr, is_committed, is_for, map, next_stamp, not, or_right, queue, queued, refl, sends_of_act, start_at, started, starts_of, submits, submits_of, subst, suc, sym, tried, true, ℕ, ◌++◌, ◌<◌, ◌==◌, ◌||◌, ◌∙◌, ◌∷◌, ◌≡◌, ◌⊎◌}
+use Rattle.sdd_invariants.proofs.All.{Act, AllKnown, Attempt, Bases, Bool, Did, Each, Entry, Exchange, Handed, IsFair, IsNew, IsQueue, IsServed, IsStep, List, Log, Msg, None, Option, Queued, Sends, Setting, Site, Some, Submits, Txn, [], active, ap, arith, commit_act, cond, contains, current_era, false, filter, filter_map, filter_map-append, head_of, if◌then◌else◌, inl, inr, is_committed, is_for, map, next_stamp, not, or_right, queue, queued, refl, sends_of_act, start_at, started, starts_of, submits, submits_of, subst, suc, sym, tried, true, ℕ, ◌++◌, ◌<◌, ◌==◌, ◌||◌, ◌∙◌, ◌∷◌, ◌≡◌, ◌⊎◌}
 use Rattle.sdd_invariants.proofs.Active.{handed_way, sent_way, step_way}
 use Rattle.sdd_invariants.proofs.Bools.{if_way, neither_right, same_number, same_or_not}
 
@@ -235,9 +235,6 @@ queue_is s c (Handed from m ∷ log) h n =
     queue_same s c log (Handed from m) refl refl (λ n. refl) (λ n. refl) (λ n. refl)
     (handed_way (λ o. IsServed o (queue s c log)) c from m (active s c log) tt
     (λ a x e. exchanged a x (queue s c log) (subst (λ o. IsServed o (queue s c log)) e i.served)) i.served) i
-queue_is s c (Ticked k ∷ log) h n = let i = queue_is s c log h.1 n.1 in queue_same s c log (Ticked k) refl refl (λ n. refl) (λ n. refl) (λ n. refl) i.served i
-queue_is s c (Redeclared era t ∷ log) h n =
-    let i = queue_is s c log h.1 n.1 in
-    queue_same s c log (Redeclared era t) refl refl (λ n. refl) (λ n. refl) (λ n. refl) i.served i
 queue_is s c (Submits k txn ∷ log) h n = queue_submit s c log k txn n.0 (queue_is s c log h.1 n.1)
 queue_is s c (Did act ∷ log) h n = queue_act s c log act h.0 (queue_is s c log h.1 n.1)
+queue_is s c (x ∷ log) h n = let i = queue_is s c log h.1 n.1 in queue_same s c log x refl refl (λ n. refl) (λ n. refl) (λ n. refl) i.served i

@@ -1,6 +1,6 @@
 -- Once an attempt awaits no READY any more, a READY for it was handed from each of its modules. It rests on this, that each
 -- answer of an exchange comes after a question.
-use Rattle.sdd_invariants.proofs.All.{Act, AllReadied, AreReady, Attempt, Bases, Bool, Catalogue, Change, ClassNo, D, Did, DmNo, Each, Entry, Exchange, Fetch, Handed, IsFair, IsHonest, IsSend, IsStep, List, Log, Msg, None, Option, Phase, Queued, Reading, Ready, Redeclared, Reduce, Reduced, Rows, Sends, Setting, Ship, Site, Some, Submits, T, Ticked, Ts, U, Values, Write, [], a_held, a_hold, a_null, a_release, active, active_handed, active_sent, after_hand, after_send, answered, ap, arith, asks_in, asks_rows, begins, both, changes_at, class_no, commit_act, cond, cons_option, contains, counted, counts, dm_no, effect, eqb-true, false, filter_map, first_phase, firsts, if◌then◌else◌, inl, inr, is_empty, is_over, is_reading, is_ready, lacking, last_stamp, length, map, module_read, modules_asked, neither, next_stamp, not, numbers_to, of_exchange, or_left, or_right, phase_ends, refl, rejects, same_site, sends_of_act, site_d, stamp_or, start_at, start_read, started, subst, sym, time_at, true, txn_no, was_asked, was_ready, with_values, without, write_to, ℕ, ◌&&◌, ◌++◌, ◌+◌, ◌==◌, ◌||◌, ◌∙◌, ◌∷◌, ◌≡◌, ◌≤◌, ◌⊎◌}
+use Rattle.sdd_invariants.proofs.All.{Act, AllReadied, AreReady, Attempt, Bases, Bool, Catalogue, Change, ClassNo, D, Did, DmNo, Each, Entry, Exchange, Fetch, Handed, IsFair, IsHonest, IsSend, IsStep, List, Log, Msg, None, Option, Phase, Queued, Reading, Ready, Reduce, Reduced, Rows, Sends, Setting, Ship, Site, Some, Submits, Ts, Values, Write, [], a_held, a_hold, a_null, a_release, active, active_handed, active_sent, after_hand, after_send, answered, ap, arith, asks_in, asks_rows, begins, both, changes_at, class_no, commit_act, cond, cons_option, contains, counted, counts, dm_no, effect, eqb-true, false, filter_map, first_phase, firsts, if◌then◌else◌, inl, inr, is_empty, is_over, is_reading, is_ready, lacking, last_stamp, length, map, module_read, modules_asked, neither, next_stamp, not, numbers_to, of_exchange, or_left, or_right, phase_ends, refl, rejects, same_site, sends_of_act, site_d, stamp_or, start_at, start_read, started, subst, sym, time_at, true, txn_no, was_asked, was_ready, with_values, without, write_to, ℕ, ◌&&◌, ◌++◌, ◌+◌, ◌==◌, ◌||◌, ◌∙◌, ◌∷◌, ◌≡◌, ◌≤◌, ◌⊎◌}
 use Rattle.sdd_invariants.proofs.Clocks.{drawn, stamp_rises}
 use Rattle.sdd_invariants.proofs.Active.{step_way}
 use Rattle.sdd_invariants.proofs.Bools.{and_left, and_right, if_way, not_both, only_right, same_number, same_or_not}
@@ -93,11 +93,9 @@ asked_act s ts c log act fair i h =
 
 asked_le : (s : Setting) (ts c : ℕ) (log : Log) → Each (IsFair s) log → was_asked ts c log ≡ true → ts ≤ last_stamp s log
 asked_le s ts c [] h e = cc
-asked_le s ts c (Handed from m ∷ log) h e = let l = asked_le s ts c log h.1 e in let r = stamp_rises s (Handed from m) log in omega arith
-asked_le s ts c (Ticked n ∷ log) h e = let l = asked_le s ts c log h.1 e in let r = stamp_rises s (Ticked n) log in omega arith
-asked_le s ts c (Redeclared era t ∷ log) h e = let l = asked_le s ts c log h.1 e in let r = stamp_rises s (Redeclared era t) log in omega arith
 asked_le s ts c (Submits n txn ∷ log) h e = asked_le s ts c log h.1 e
 asked_le s ts c (Did act ∷ log) h e = asked_act s ts c log act h.1 h.0 (asked_le s ts c log h.1) e
+asked_le s ts c (x ∷ log) h e = let l = asked_le s ts c log h.1 e in let r = stamp_rises s x log in omega arith
 
 fresh_asked : (s : Setting) (c : ℕ) (log : Log) → Each (IsFair s) log → was_asked (next_stamp s log) c log ≡ false
 fresh_asked s c log h = elim (was_asked (next_stamp s log) c log) as (λ b. was_asked (next_stamp s log) c log ≡ b → b ≡ false) [
@@ -217,11 +215,9 @@ readied_hand s c (D d) m log (Some a) honest h =
     let g = hand_goes a.ts c d.0 m a.exchange in
     if_way (AllReadied s c (Handed (D d) m ∷ log)) (rejects m a.ts c) None (Some (record a { exchange = after_hand a.ts c d.0 m a.exchange })) tt
     (record { modules_are = ap firsts g.modules_same ∙ h.modules_are; ready = ready_hand a.ts c d m log a.exchange honest h.unasked h.ready; unasked = λ p. h.unasked (reads_back a.ts c a.exchange (after_hand a.ts c d.0 m a.exchange) g p) })
-readied_hand s c U m log (Some a) honest h =
-    record { modules_are = h.modules_are; ready = ready_more a.ts c (Handed U m) log a.exchange (handed_more a.ts c U m log) h.ready; unasked = h.unasked }
-readied_hand s c (T t) m log (Some a) honest h =
-    record { modules_are = h.modules_are; ready = ready_more a.ts c (Handed (T t) m) log a.exchange (handed_more a.ts c (T t) m log) h.ready; unasked = h.unasked }
 readied_hand s c _ m log None honest h = tt
+readied_hand s c x m log (Some a) honest h =
+    record { modules_are = h.modules_are; ready = ready_more a.ts c (Handed x m) log a.exchange (handed_more a.ts c x m log) h.ready; unasked = h.unasked }
 
 -- a Start
 starts_with : (s : Setting) (k : ℕ) (log : Log) (q : Queued) (ds : List ℕ)
@@ -264,7 +260,7 @@ readied_on s c log act None f h = tt
 readied_on s c log act (Some a) f h =
     record { modules_are = h.modules_are; ready = h.ready; unasked = λ p. neither _ (was_asked a.ts c log) (f a.ts) (h.unasked p) }
 
-same_attempt : (s : Setting) (c : ℕ) (log : Log) (a b : Attempt) → active s c log ≡ Some a → active s c log ≡ Some b → b ≡ a
+pub same_attempt : (s : Setting) (c : ℕ) (log : Log) (a b : Attempt) → active s c log ≡ Some a → active s c log ≡ Some b → b ≡ a
 same_attempt s c log a b e f = let p : Some a ≡ Some b = sym e ∙ f in cc
 
 unasked_send : (s : Setting) (c : ℕ) (log : Log) (to : Site) (m : Msg) (hand : Option ℕ) (a : Attempt) → active s c log ≡ Some a
@@ -309,10 +305,8 @@ same_readied s c e log (Some a) f g h =
 pub readied : (s : Setting) (c : ℕ) (log : Log) → Each (IsFair s) log → Each IsHonest log → AllReadied s c log (active s c log)
 readied s c [] h n = tt
 readied s c (Handed from m ∷ log) h n = readied_hand s c from m log (active s c log) n.0 (readied s c log h.1 n.1)
-readied s c (Ticked k ∷ log) h n = same_readied s c (Ticked k) log (active s c log) (λ ts. refl) (λ ts d. refl) (readied s c log h.1 n.1)
-readied s c (Redeclared era t ∷ log) h n = same_readied s c (Redeclared era t) log (active s c log) (λ ts. refl) (λ ts d. refl) (readied s c log h.1 n.1)
-readied s c (Submits k txn ∷ log) h n = same_readied s c (Submits k txn) log (active s c log) (λ ts. refl) (λ ts d. refl) (readied s c log h.1 n.1)
 readied s c (Did act ∷ log) h n = readied_act s c log act h.1 h.0 (readied s c log h.1 n.1)
+readied s c (x ∷ log) h n = same_readied s c x log (active s c log) (λ ts. refl) (λ ts d. refl) (readied s c log h.1 n.1)
 
 -- of an attempt that reads no more
 over_not : (p : Phase) → is_over p ≡ true → is_reading p ≡ false

@@ -1,5 +1,5 @@
 -- The READs of a class on a link have different, rising times.
-use Rattle.sdd_invariants.proofs.All.{Act, AllLt, Bool, Catalogue, Did, Each, Entry, Handed, IsFair, IsPutBy, IsSend, IsStep, IsStrict, List, Log, Msg, None, Null, Queued, Read, Redeclared, Sends, Setting, Site, Some, Submits, Ticked, Write, [], a_held, a_hold, a_null, a_release, ap, append-nil, arith, ascending, asks_rows, bound, commit_act, cond, false, filter_map, filter_map-append, fragments_in, if◌then◌else◌, inl, inr, modules_asked, modules_of, next_stamp, number_of, numbers_to, of_exchange, puts_to, read_at, reads_at, reads_in, refl, same_site, sends_of_act, slice_get, start_at, start_read, subst, suc, sym, to_site, true, uses_of, ℕ, ◌++◌, ◌<◌, ◌==◌, ◌∙◌, ◌∷◌, ◌≡◌, ◌≤◌, ◌⊎◌}
+use Rattle.sdd_invariants.proofs.All.{Act, AllLt, Bool, Catalogue, Did, Each, Entry, IsFair, IsPutBy, IsSend, IsStep, IsStrict, List, Log, Msg, None, Null, Queued, Read, Sends, Setting, Site, Some, Submits, Write, [], a_held, a_hold, a_null, a_release, ap, append-nil, arith, ascending, asks_rows, bound, commit_act, cond, false, filter_map, filter_map-append, fragments_in, if◌then◌else◌, inl, inr, modules_asked, modules_of, next_stamp, number_of, numbers_to, of_exchange, puts_to, read_at, reads_at, reads_in, refl, same_site, sends_of_act, slice_get, start_at, start_read, subst, suc, sym, to_site, true, uses_of, ℕ, ◌++◌, ◌<◌, ◌==◌, ◌∙◌, ◌∷◌, ◌≡◌, ◌≤◌, ◌⊎◌}
 use Rattle.sdd_invariants.proofs.Clocks.{bound_rises, clock_number}
 use Rattle.sdd_invariants.proofs.WritesPut.{commit_puts}
 use Rattle.sdd_invariants.proofs.Active.{step_way}
@@ -71,10 +71,6 @@ read_on s c b log e l p h =
 
 pub read_once : (s : Setting) (c : ℕ) (b : Site) (log : Log) → number_of s.site ≤ 63 → Each (IsFair s) log → IsReadOnce s c b log
 read_once s c b [] w h = record { strict = tt; closed = tt }
-read_once s c b (Handed from m ∷ log) w h = read_on s c b log (Handed from m) (bound_rises s (Handed from m) log) refl (read_once s c b log w h.1)
-read_once s c b (Ticked n ∷ log) w h = read_on s c b log (Ticked n) (bound_rises s (Ticked n) log) refl (read_once s c b log w h.1)
-read_once s c b (Redeclared era t ∷ log) w h =
-    read_on s c b log (Redeclared era t) (bound_rises s (Redeclared era t) log) refl (read_once s c b log w h.1)
 read_once s c b (Submits n txn ∷ log) w h = read_on s c b log (Submits n txn) (omega arith) refl (read_once s c b log w h.1)
 read_once s c b (Did act ∷ log) w h =
     let i = read_once s c b log w h.1 in
@@ -89,6 +85,7 @@ read_once s c b (Did act ∷ log) w h =
             closed = rw one (lt_push (suc (bound s (Did act ∷ log))) p.0 _ (lt_up (suc (bound s log)) (suc (bound s (Did act ∷ log))) _ (omega (arith, o.rises)) i.closed) (omega (arith, p.2)));
           })
     ]
+read_once s c b (x ∷ log) w h = read_on s c b log x (bound_rises s x log) refl (read_once s c b log w h.1)
 
 asks_by : (s : Setting) (log : Log) (act : Act) (ts k : ℕ) (m : Msg) → asks_rows ts k m ≡ true → IsPutBy s log act m
 asks_by s log act ts k (Read a b t u v w) e = cc

@@ -1,5 +1,5 @@
 -- The records of a site that runs transactions: a Start is that of its queue's head, a Commit that of the class's active attempt; and an active attempt has its Start.
-use Rattle.sdd_invariants.proofs.All.{Act, AllCommitted, Attempt, Bases, Bool, Did, Each, Entry, Handed, HasStart, IsFair, IsFirstLeft, IsNew, IsRecord, IsServed, IsStep, List, Log, None, Option, Queued, Redeclared, Says, Sends, Setting, Some, Submits, Ticked, Txn, WasSubmitted, [], active, ap, arith, bound, commit_act, current_era, dec_le, false, filter_map, head_of, home, if◌then◌else◌, inl, inr, is_committed, is_for, is_recorded, last_stamp, length, next_stamp, number_of, queue, queued, refl, sends_of_act, slice_get, stamps, start_at, started, starts_of, submits_of, subst, suc, sym, take, take-append-le, take_all, true, zero, ℕ, ◌++◌, ◌<◌, ◌∙◌, ◌∷◌, ◌≡◌, ◌≤◌}
+use Rattle.sdd_invariants.proofs.All.{Act, AllCommitted, Attempt, Bases, Bool, Did, Each, Entry, Handed, HasStart, IsFair, IsFirstLeft, IsNew, IsRecord, IsServed, IsStep, List, Log, None, Option, Queued, Says, Sends, Setting, Some, Submits, Txn, WasSubmitted, [], active, ap, arith, bound, commit_act, current_era, dec_le, false, filter_map, head_of, home, if◌then◌else◌, inl, inr, is_committed, is_for, is_recorded, last_stamp, length, next_stamp, number_of, queue, queued, refl, sends_of_act, slice_get, stamps, start_at, started, starts_of, submits_of, subst, suc, sym, take, take-append-le, take_all, true, zero, ℕ, ◌++◌, ◌<◌, ◌∙◌, ◌∷◌, ◌≡◌, ◌≤◌}
 use Rattle.sdd_invariants.proofs.Clocks.{clocked, stamp_below_bound}
 use Rattle.sdd_invariants.proofs.Queues.{queue_is, served_head}
 use Rattle.sdd_invariants.proofs.Active.{handed_way, sent_way, step_way}
@@ -57,10 +57,8 @@ started_is s c [] h = tt
 started_is s c (Handed from m ∷ log) h =
     let j = started_more s c (Handed from m) log (active s c log) refl (started_is s c log h.1) in
     handed_way (IsStarted s c (Handed from m ∷ log)) c from m (active s c log) tt (λ a x e. subst (IsStarted s c (Handed from m ∷ log)) e j) j
-started_is s c (Ticked n ∷ log) h = started_more s c (Ticked n) log (active s c log) refl (started_is s c log h.1)
-started_is s c (Redeclared era t ∷ log) h = started_more s c (Redeclared era t) log (active s c log) refl (started_is s c log h.1)
-started_is s c (Submits n txn ∷ log) h = started_more s c (Submits n txn) log (active s c log) refl (started_is s c log h.1)
 started_is s c (Did act ∷ log) h = started_act s c log act h.0 (started_is s c log h.1)
+started_is s c (x ∷ log) h = started_more s c x log (active s c log) refl (started_is s c log h.1)
 
 -- the Start of an active attempt
 pub start_of_active : (s : Setting) (c : ℕ) (log : Log) (a : Attempt) → Each (IsFair s) log → active s c log ≡ Some a
@@ -138,10 +136,7 @@ pub was_submitted : (s : Setting) (c : ℕ) (log : Log) (k m : ℕ) (t : Txn) �
 was_submitted s c [] k m t e = cc
 was_submitted s c (Submits n txn ∷ log) k m t e =
     submit_found s c log n txn (is_for c (current_era s log).catalogue txn) k m t refl refl (λ j p. was_submitted s c log j m t p) e
-was_submitted s c (Handed from x ∷ log) k m t e = submitted_more s c (Handed from x) log k m t refl (was_submitted s c log k m t e)
-was_submitted s c (Ticked n ∷ log) k m t e = submitted_more s c (Ticked n) log k m t refl (was_submitted s c log k m t e)
-was_submitted s c (Redeclared era u ∷ log) k m t e = submitted_more s c (Redeclared era u) log k m t refl (was_submitted s c log k m t e)
-was_submitted s c (Did act ∷ log) k m t e = submitted_more s c (Did act) log k m t refl (was_submitted s c log k m t e)
+was_submitted s c (x ∷ log) k m t e = submitted_more s c x log k m t refl (was_submitted s c log k m t e)
 
 start_says : (s : Setting) (c : ℕ) (log : Log) (q : Queued) → number_of s.site ≤ 63 → Each (IsFair s) log → Each IsNew log
     → home s.catalogue c ≡ s.site → head_of (queue s c log) ≡ Some q → Says s log (start_at s c log q)

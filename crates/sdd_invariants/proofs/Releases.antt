@@ -1,6 +1,6 @@
 -- At U: the RELEASEs to a T carry the timestamps of the Starts, in order; and for each of those as many DONEs were handed as there are data modules.
-use Rattle.sdd_invariants.proofs.All.{Act, Attempt, Bases, Bool, D, Did, Done, Each, Entry, Handed, Hold, IsChain, IsFairU, IsServing, IsStepU, IsTried, List, Log, Msg, None, Option, Queued, Records, Redeclared, Release, Sends, Served, Setting, Site, Some, Start, Submits, T, Ticked, TmCounts, Ts, [], active, active_handed, ap, append-nil, arith, commit_act, counts, dec_le, dm_no, dones_of, drawn_so_far, false, filter_map-append, hand_commits, head_of, if◌then◌else◌, inl, inr, is_done_of, last_of, last_served, length, length-append, modules_asked, next_stamp, numbers_to, one_if, puts_to, queue, refl, release_time, release_times, sends_of_act, served_handed, slice_get, start_at, start_read, started, starts, subst, suc, sym, take, take-append-le, tm_no, true, ts_of, zero, ℕ, ◌++◌, ◌+◌, ◌<◌, ◌==◌, ◌∙◌, ◌∷◌, ◌≡◌, ◌≤◌}
-use Rattle.sdd_invariants.proofs.Serving.{chain, flip, hand_counts, is_tried, no_puts, none_mapped, not_started, puts_else, sent_count, u_due, u_way}
+use Rattle.sdd_invariants.proofs.All.{Act, Attempt, Bases, Bool, D, Did, Done, Each, Entry, Handed, Hold, IsChain, IsFairU, IsServing, IsStepU, IsTried, List, Log, Msg, None, Option, Queued, Records, Release, Sends, Served, Setting, Site, Some, Start, T, TmCounts, Ts, [], active, active_handed, ap, append-nil, arith, commit_act, counts, dec_le, dm_no, dones_of, drawn_so_far, false, filter_map-append, flip, hand_commits, head_of, if◌then◌else◌, inl, inr, is_done_of, last_of, last_served, length, length-append, modules_asked, next_stamp, numbers_to, one_if, puts_to, queue, refl, release_time, release_times, sends_of_act, served_handed, slice_get, start_at, start_read, started, starts, subst, suc, sym, take, take-append-le, tm_no, true, ts_of, zero, ℕ, ◌++◌, ◌+◌, ◌<◌, ◌==◌, ◌∙◌, ◌∷◌, ◌≡◌, ◌≤◌}
+use Rattle.sdd_invariants.proofs.Serving.{chain, hand_counts, is_tried, no_puts, none_mapped, not_started, puts_else, sent_count, u_due, u_way}
 use Rattle.sdd_invariants.proofs.Turns.{balance}
 use Rattle.sdd_invariants.proofs.Active.{handed_way, sent_way}
 use Rattle.sdd_invariants.proofs.Bools.{if_way, same_number, same_or_not}
@@ -189,15 +189,6 @@ pub serving : (s : Setting) (k t : ℕ) (log : Log) → slice_get (numbers_to s.
 serving s k t [] i h =
     record { counted = refl; active_last = λ a e. cc; served_last = λ e l. absurd (omega arith); dones_le = omega arith; released = refl; done = λ j x l e. cc }
 serving s k t (Handed from m ∷ log) i h = serving_hand s t from m log (serving s k t log i h.1)
-serving s k t (Ticked n ∷ log) i h =
-    let j = serving s k t log i h.1 in
-    serving_on s t log (Ticked n) refl refl refl (λ x. refl) refl refl (last_is (drawn_so_far log) (active s 0 log) j.active_last) j
-serving s k t (Redeclared era u ∷ log) i h =
-    let j = serving s k t log i h.1 in
-    serving_on s t log (Redeclared era u) refl refl refl (λ x. refl) refl refl (last_is (drawn_so_far log) (active s 0 log) j.active_last) j
-serving s k t (Submits n txn ∷ log) i h =
-    let j = serving s k t log i h.1 in
-    serving_on s t log (Submits n txn) refl refl refl (λ x. refl) refl refl (last_is (drawn_so_far log) (active s 0 log) j.active_last) j
 serving s k t (Did act ∷ log) i h =
     let j = serving s k t log i h.1 in
     let c = chain s k t log i h.1 in
@@ -211,6 +202,9 @@ serving s k t (Did act ∷ log) i h =
           (ap (λ x. (if x then record (counts t log) { releases = suc (counts t log).releases } else counts t log).releases) (sent_count t n log ∙ flip t n p))
           (ap release_times (puts_else t n (Release ts) log p)) j
     ]) (λ n e. serving_send s t log (T (tm_no n)) Hold (hold_releases t n log) (hold_times t n log) j) (u_due s h.0.0.0 log act h.0.0.1)
+serving s k t (y ∷ log) i h =
+    let j = serving s k t log i h.1 in
+    serving_on s t log y refl refl refl (λ x. refl) refl refl (last_is (drawn_so_far log) (active s 0 log) j.active_last) j
 
 -- at a Start of class 0 each T sent and was sent as many as it takes
 abbrev ReadyIf : Setting → Log → Act → Type 0

@@ -1,16 +1,9 @@
 -- A transaction that is tried again is still its queue's head, and the REJECT of its last attempt was handed after that attempt's Start.
-use Rattle.sdd_invariants.proofs.All.{Act, Attempt, Bool, ClassNo, D, Did, DmNo, Each, Entry, Handed, IsFair, IsNew, IsRejected, IsServed, IsStep, List, Log, Msg, None, Option, Queued, Redeclared, Reject, Sends, Setting, Site, Some, Submits, T, Ticked, Ts, Txn, U, [], active, active_handed, active_sent, after_hand, ap, arith, commit_act, cond, current_era, eqb-true, false, filter, head_of, if◌then◌else◌, inl, inr, is_for, is_recorded, map, next_stamp, not, queue, refl, rejects, sends_of_act, start_at, started, subst, suc, sym, tried, true, ℕ, ◌&&◌, ◌++◌, ◌<◌, ◌==◌, ◌∙◌, ◌∷◌, ◌≡◌, ◌⊎◌}
+use Rattle.sdd_invariants.proofs.All.{Act, AllZero, Attempt, Bool, ClassNo, D, Did, DmNo, Each, Entry, Handed, IsFair, IsNew, IsRejected, IsServed, IsStep, List, Log, Msg, None, Option, Queued, Reject, Sends, Setting, Site, Some, Submits, Ts, Txn, ZeroBut, [], active, active_handed, active_sent, after_hand, ap, arith, commit_act, cond, current_era, eqb-true, false, filter, head_of, if◌then◌else◌, inl, inr, is_for, is_recorded, map, next_stamp, not, queue, refl, rejects, sends_of_act, start_at, started, subst, suc, sym, tried, true, ℕ, ◌&&◌, ◌++◌, ◌<◌, ◌==◌, ◌∙◌, ◌∷◌, ◌≡◌, ◌⊎◌}
 use Rattle.sdd_invariants.proofs.Queues.{queue_is}
 use Rattle.sdd_invariants.proofs.Active.{sent_way, step_way}
 use Rattle.sdd_invariants.proofs.Bools.{same_number, same_or_not}
-
-abbrev pub AllZero : List Queued → Type 0
-AllZero [] = Unit {0}
-AllZero (q ∷ qs) = (q.tries ≡ 0) × AllZero qs
-
-abbrev pub ZeroBut : ℕ → List Queued → Type 0
-ZeroBut n [] = Unit {0}
-ZeroBut n (q ∷ qs) = (((q.number == n) ≡ true) ⊎ (q.tries ≡ 0)) × ZeroBut n qs
+use Rattle.sdd_invariants.proofs.Serving.{zero_push, but_push, zero_left, zero_head}
 
 abbrev pub IsHead : ℕ → ℕ → List Queued → Type 0
 IsHead n k [] = ⊥
@@ -53,14 +46,6 @@ tried_more s c e log qs o p r f h = elim h [
   | inr t ↦ inr (record { number = t.number; tries = t.tries; head = t.head; others = t.others; rejected = λ x. rejected_more s c e log t.number t.tries r (t.rejected (f x)) })
 ]
 
-zero_push : (qs : List Queued) (q : Queued) → AllZero qs → q.tries ≡ 0 → AllZero (qs ++ q ∷ [])
-zero_push [] q h e = (e, tt)
-zero_push (x ∷ qs) q h e = (h.0, zero_push qs q h.1 e)
-
-but_push : (n : ℕ) (qs : List Queued) (q : Queued) → ZeroBut n qs → q.tries ≡ 0 → ZeroBut n (qs ++ q ∷ [])
-but_push n [] q h e = (inr e, tt)
-but_push n (x ∷ qs) q h e = (h.0, but_push n qs q h.1 e)
-
 head_push : (n k : ℕ) (qs : List Queued) (q : Queued) → IsHead n k qs → IsHead n k (qs ++ q ∷ [])
 head_push n k [] q h = absurd h
 head_push n k (x ∷ qs) q h = h
@@ -94,17 +79,6 @@ head_is : (n k : ℕ) (qs : List Queued) (q : Queued) → IsHead n k qs → head
 head_is n k [] q h e = absurd h
 head_is n k (x ∷ qs) q h e = let p : x ≡ q = cc in (ap (λ (y : Queued). y.number) (sym p) ∙ h.0, ap (λ (y : Queued). y.tries) (sym p) ∙ h.1)
 
-zero_head : (qs : List Queued) (q : Queued) → AllZero qs → head_of qs ≡ Some q → q.tries ≡ 0
-zero_head [] q h e = cc
-zero_head (x ∷ qs) q h e = let p : x ≡ q = cc in ap (λ (y : Queued). y.tries) (sym p) ∙ h.0
-
-zero_left : (n : ℕ) (qs : List Queued) → ZeroBut n qs → AllZero (filter (λ q. not (q.number == n)) qs)
-zero_left n [] h = tt
-zero_left n (q ∷ qs) h = elim (q.number == n) as (λ b. (q.number == n) ≡ b → AllZero (cond (not b) (q ∷ filter (λ q. not (q.number == n)) qs) (filter (λ q. not (q.number == n)) qs))) [
-  | true ↦ λ e. zero_left n qs h.1
-  | false ↦ λ e. (elim h.0 [ inl p ↦ (let x : ◌≡◌ {A = Bool} true false = sym p ∙ e in cc) | inr z ↦ z ], zero_left n qs h.1)
-] refl
-
 -- the active attempt, where there is one, is the head's
 head_served : (a : Attempt) (qs : List Queued) (n k : ℕ) → IsServed (Some a) qs → IsHead n k qs → (a.txn ≡ n) × (a.attempt ≡ k)
 head_served a [] n k h i = absurd h
@@ -134,8 +108,7 @@ ended s c log (D d) m (Some a) n k e v h f g =
       | false ↦ λ r x. cc
     ] refl g
 ended s c log (D d) m None n k e v h f g = rejected_more s c (Handed (D d) m) log n k refl (f refl)
-ended s c log U m o n k e v h f g = rejected_more s c (Handed U m) log n k refl (f g)
-ended s c log (T t) m o n k e v h f g = rejected_more s c (Handed (T t) m) log n k refl (f g)
+ended s c log x m o n k e v h f g = rejected_more s c (Handed x m) log n k refl (f g)
 
 tried_hand : (s : Setting) (c : ℕ) (log : Log) (from : Site) (m : Msg) → IsServed (active s c log) (queue s c log)
     → IsTriedAt s c log (queue s c log) (active s c log) → IsTriedAt s c (Handed from m ∷ log) (queue s c log) (active_handed c from m (active s c log))
@@ -208,11 +181,9 @@ tried_act s c log act i v h =
 pub tried_at : (s : Setting) (c : ℕ) (log : Log) → Each (IsFair s) log → Each IsNew log → IsTriedAt s c log (queue s c log) (active s c log)
 tried_at s c [] h n = inl tt
 tried_at s c (Handed from m ∷ log) h n = tried_hand s c log from m (queue_is s c log h.1 n.1).served (tried_at s c log h.1 n.1)
-tried_at s c (Ticked k ∷ log) h n = tried_more s c (Ticked k) log (queue s c log) (active s c log) (active s c log) refl (λ x. x) (tried_at s c log h.1 n.1)
-tried_at s c (Redeclared era t ∷ log) h n =
-    tried_more s c (Redeclared era t) log (queue s c log) (active s c log) (active s c log) refl (λ x. x) (tried_at s c log h.1 n.1)
 tried_at s c (Submits k txn ∷ log) h n = tried_submit s c log k txn (is_for c (current_era s log).catalogue txn) (tried_at s c log h.1 n.1)
 tried_at s c (Did act ∷ log) h n = tried_act s c log act h.0 (queue_is s c log h.1 n.1).served (tried_at s c log h.1 n.1)
+tried_at s c (y ∷ log) h n = tried_more s c y log (queue s c log) (active s c log) (active s c log) refl (λ x. x) (tried_at s c log h.1 n.1)
 
 -- the head of an idle class that was started before: its last attempt was rejected
 pub was_rejected : (s : Setting) (c : ℕ) (log : Log) (q : Queued) → Each (IsFair s) log → Each IsNew log → active s c log ≡ None

@@ -1,5 +1,5 @@
 -- At a T: the HELD that was sent as number n + 1 and the log before it, its time, and that a Start comes where it isn't on hold.
-use Rattle.sdd_invariants.proofs.All.{Act, AllIdle, Bases, Did, Entry, Handed, Held, HoldCounts, IsHeldAt, IsSend, IsStep, Log, Msg, Option, Queued, Redeclared, Sends, Setting, Site, Submits, Ticked, Ts, [], a_held, a_hold, a_null, a_release, ap, arith, asks_rows, bound, hands, holds, holds_acted, of_exchange, refl, start_at, subst, suc, sym, true, ℕ, ◌++◌, ◌∙◌, ◌∷◌, ◌≡◌, ◌≤◌}
+use Rattle.sdd_invariants.proofs.All.{Act, AllIdle, Bases, Did, Entry, Handed, Held, HoldCounts, IsHeldAt, IsSend, IsStep, Log, Msg, Option, Queued, Sends, Setting, Site, Ts, [], a_held, a_hold, a_null, a_release, ap, arith, asks_rows, bound, hands, holds, holds_acted, of_exchange, refl, start_at, subst, suc, sym, true, ℕ, ◌++◌, ◌∙◌, ◌∷◌, ◌≡◌, ◌≤◌}
 use Rattle.sdd_invariants.proofs.Holding.{hand_helds, hold_rule}
 use Rattle.sdd_invariants.proofs.Active.{step_way}
 use Rattle.sdd_log.specs.tm.Due.{IsDue}
@@ -15,10 +15,8 @@ held_by act log n f e = held_more (Did act) log n (f e)
 pub held_rose : (log : Log) (n : ℕ) → (holds log).helds ≡ suc n → IsHeldAt log n
 held_rose [] n e = cc
 held_rose (Handed from m ∷ log) n e = held_more (Handed from m) log n (held_rose log n (sym (hand_helds (suc (hands log)) m (holds log)) ∙ e))
-held_rose (Ticked k ∷ log) n e = held_more (Ticked k) log n (held_rose log n e)
-held_rose (Redeclared era t ∷ log) n e = held_more (Redeclared era t) log n (held_rose log n e)
-held_rose (Submits k txn ∷ log) n e = held_more (Submits k txn) log n (held_rose log n e)
 held_rose (Did act ∷ log) n e = held_by act log n (held_rose log n) e
+held_rose (x ∷ log) n e = held_more x log n (held_rose log n e)
 
 helds_by : (act : Act) (h : HoldCounts) → h.helds ≤ (holds_acted act h).helds
 helds_by (Sends to (Held t) hand) h = omega arith

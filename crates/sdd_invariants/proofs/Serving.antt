@@ -1,5 +1,5 @@
 -- The chain of holds at U.
-use Rattle.sdd_invariants.proofs.All.{Act, AllZero, Attempt, Bases, Bool, D, Did, Each, Entry, Handed, Held, Hold, IsChain, IsFairU, IsServed, IsStepU, IsTried, List, Log, Msg, None, Option, Queued, Redeclared, Release, Sends, Setting, Site, Some, StartedHead, Submits, T, Ticked, TmCounts, TmNo, Ts, Txn, ZeroBut, [], active, ap, append-nil, arith, asks_rows, at_map, attempt_due, by_release, commit_act, cond, counts, counts_handed, counts_tm, current_era, dm_no, effect, eqb-true, false, filter, first_send, hand_commits, head_of, hold_due, hold_to, if◌then◌else◌, in_mapped, inl, inr, is_a_hold, is_a_release, is_for, is_holding, is_over, last_served, list_all, map, modules_asked, not, numbers_to, one_if, or_else, puts_to, queue, refl, release_due, sends_of_act, slice_get, start_at, start_read, starts, subst, suc, sym, tm_no, to_site, tried, true, turns, u_commit, u_exchange, u_hold, u_release, u_start, write_to, ℕ, ◌&&◌, ◌++◌, ◌<◌, ◌==◌, ◌∙◌, ◌∷◌, ◌≡◌, ◌≤◌, ◌⊎◌}
+use Rattle.sdd_invariants.proofs.All.{Act, AllZero, Attempt, Bases, Bool, D, Did, Each, Entry, Handed, Held, Hold, IsChain, IsFairU, IsServed, IsStepU, IsTried, List, Log, Msg, None, Option, Queued, Release, Sends, Setting, Site, Some, StartedHead, Submits, T, TmCounts, TmNo, Ts, Txn, ZeroBut, [], active, ap, append-nil, arith, asks_rows, at_map, attempt_due, by_release, commit_act, cond, counts, counts_handed, counts_tm, current_era, dm_no, effect, eqb-true, false, filter, first_send, flip, hand_commits, head_of, hold_due, hold_to, if◌then◌else◌, in_mapped, inl, inr, is_a_hold, is_a_release, is_for, is_holding, is_over, last_served, list_all, map, modules_asked, not, numbers_to, one_if, or_else, puts_to, queue, refl, release_due, sends_of_act, slice_get, start_at, start_read, starts, subst, suc, sym, tm_no, to_site, tried, true, turns, u_commit, u_exchange, u_hold, u_release, u_start, write_to, ℕ, ◌&&◌, ◌++◌, ◌<◌, ◌==◌, ◌∙◌, ◌∷◌, ◌≡◌, ◌≤◌, ◌⊎◌}
 use Rattle.sdd_invariants.proofs.Holding.{lt_is}
 use Rattle.sdd_invariants.proofs.Turns.{balance, tally_append, turns_append}
 use Rattle.sdd_invariants.proofs.Queues.{served_head}
@@ -90,11 +90,11 @@ u_way s log act P a b c d e (u_exchange k m w i x) = subst P (sym x) (c k m w i)
 u_way s log act P a b c d e (u_release t ts i w x) = subst P (sym x) (d t ts i w)
 u_way s log act P a b c d e (u_hold t i x) = subst P (sym x) (e t i)
 
-zero_push : (qs : List Queued) (q : Queued) → AllZero qs → q.tries ≡ 0 → AllZero (qs ++ q ∷ [])
+pub zero_push : (qs : List Queued) (q : Queued) → AllZero qs → q.tries ≡ 0 → AllZero (qs ++ q ∷ [])
 zero_push [] q h e = (e, tt)
 zero_push (x ∷ qs) q h e = (h.0, zero_push qs q h.1 e)
 
-but_push : (n : ℕ) (qs : List Queued) (q : Queued) → ZeroBut n qs → q.tries ≡ 0 → ZeroBut n (qs ++ q ∷ [])
+pub but_push : (n : ℕ) (qs : List Queued) (q : Queued) → ZeroBut n qs → q.tries ≡ 0 → ZeroBut n (qs ++ q ∷ [])
 but_push n [] q h e = (inr e, tt)
 but_push n (x ∷ qs) q h e = (h.0, but_push n qs q h.1 e)
 
@@ -120,7 +120,7 @@ head_tried (x ∷ qs) q e =
     let n : (x.number == q.number) ≡ true = ap (λ (y : Queued). x.number == y.number) (sym p) ∙ same_number x.number in
     rw n (ap (λ (y : Queued). y.number) p, omega arith)
 
-zero_left : (n : ℕ) (qs : List Queued) → ZeroBut n qs → AllZero (filter (λ q. not (q.number == n)) qs)
+pub zero_left : (n : ℕ) (qs : List Queued) → ZeroBut n qs → AllZero (filter (λ q. not (q.number == n)) qs)
 zero_left n [] h = tt
 zero_left n (q ∷ qs) h = elim (q.number == n) as (λ b. (q.number == n) ≡ b → AllZero (cond (not b) (q ∷ filter (λ q. not (q.number == n)) qs) (filter (λ q. not (q.number == n)) qs))) [
   | true ↦ λ e. zero_left n qs h.1
@@ -179,8 +179,6 @@ tried_submit s log k txn false h qs e = elim h [
 pub is_tried : (s : Setting) (log : Log) → Each (IsFairU s) log → IsTried s log
 is_tried s [] h = inl (refl, tt)
 is_tried s (Handed from m ∷ log) h = tried_on s log (Handed from m) refl (hand_commits m (last_served s log)) refl (is_tried s log h.1)
-is_tried s (Ticked n ∷ log) h = tried_on s log (Ticked n) refl refl refl (is_tried s log h.1)
-is_tried s (Redeclared era u ∷ log) h = tried_on s log (Redeclared era u) refl refl refl (is_tried s log h.1)
 is_tried s (Submits n txn ∷ log) h =
     tried_submit s log n txn (is_for 0 (current_era s log).catalogue txn) (is_tried s log h.1) (queue s 0 (Submits n txn ∷ log)) refl
 is_tried s (Did act ∷ log) h =
@@ -189,6 +187,7 @@ is_tried s (Did act ∷ log) h =
     (λ d m a e. tried_on s log (Did (Sends (D (dm_no d)) m None)) refl refl refl i)
     (λ t ts l v. tried_on s log (Did (Sends (T (tm_no t)) (Release ts) None)) refl refl refl i)
     (λ t e. tried_on s log (Did (Sends (T (tm_no t)) Hold None)) refl refl refl i) (u_due s h.0.0.0 log act h.0.0.1)
+is_tried s (x ∷ log) h = tried_on s log x refl refl refl (is_tried s log h.1)
 
 hand_if : (b : Bool) (k : TmCounts)
     → ((if b then record k { helds = suc k.helds } else k).releases ≡ k.releases) × ((if b then record k { helds = suc k.helds } else k).holds ≡ k.holds) × (k.helds ≤ (if b then record k { helds = suc k.helds } else k).helds)
@@ -311,12 +310,6 @@ chain_hold s t log l h =
 pub puts_else : (t n : ℕ) (m : Msg) (log : Log) → (t == n) ≡ false → puts_to (T (tm_no t)) (Did (Sends (T (tm_no n)) m None) ∷ log) ≡ puts_to (T (tm_no t)) log
 puts_else t n m log e = ap (λ x. puts_to (T (tm_no t)) log ++ (if x then m ∷ [] else [])) e ∙ append-nil _
 
-pub flip : (t n : ℕ) → (t == n) ≡ false → (n == t) ≡ false
-flip t n e = elim (same_or_not n t) [
-  | inl p ↦ (let q : (t == n) ≡ true = subst (λ x. (x == n) ≡ true) p (same_number n) in let z : ◌≡◌ {A = Bool} true false = sym q ∙ e in cc)
-  | inr p ↦ p
-]
-
 chain_hand : (s : Setting) (t : ℕ) (from : Site) (m : Msg) (log : Log) → IsChain s t log → IsChain s t (Handed from m ∷ log)
 chain_hand s t from m log h =
     let k = hand_counts from m (counts t log) in
@@ -336,9 +329,6 @@ pub chain : (s : Setting) (k t : ℕ) (log : Log) → slice_get (numbers_to s.ca
 chain s k t [] e h =
     record { released = omega arith; committed = omega arith; started_held = omega arith; started_hold = omega arith; state = false; turns_are = refl; holds_are = refl; releases_are = refl }
 chain s k t (Handed from m ∷ log) e h = chain_hand s t from m log (chain s k t log e h.1)
-chain s k t (Ticked n ∷ log) e h = let i = chain s k t log e h.1 in chain_on s t log (Ticked n) refl (omega arith) i.committed refl refl i
-chain s k t (Redeclared era u ∷ log) e h = let i = chain s k t log e h.1 in chain_on s t log (Redeclared era u) refl (omega arith) i.committed refl refl i
-chain s k t (Submits n txn ∷ log) e h = let i = chain s k t log e h.1 in chain_on s t log (Submits n txn) refl (omega arith) i.committed refl refl i
 chain s k t (Did act ∷ log) e h =
     let i = chain s k t log e h.1 in
     let now = is_tried s log h.1 in
@@ -360,3 +350,4 @@ chain s k t (Did act ∷ log) e h =
           (ap (λ x. if x then record (counts t log) { holds = suc (counts t log).holds } else counts t log) (sent_count t n log ∙ flip t n p))
           (omega arith) i.committed refl (puts_else t n Hold log p) i
     ]) (u_due s h.0.0.0 log act h.0.0.1) then_tried
+chain s k t (x ∷ log) e h = let i = chain s k t log e h.1 in chain_on s t log x refl (omega arith) i.committed refl refl i

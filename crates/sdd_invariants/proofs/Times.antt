@@ -1,5 +1,5 @@
 -- On a link the times of a class never fall: each is at most the class's limit, which never falls either.
-use Rattle.sdd_invariants.proofs.All.{Act, AllGe, AllLe, AllPiped, Attempt, Bases, Bool, Catalogue, Change, D, Did, Each, Entry, Fetch, Handed, IsFair, IsRising, IsSend, IsStep, IsTimed, List, Log, Msg, None, Null, Option, Queued, Redeclared, Reduce, Sends, Setting, Ship, Site, Some, Submits, Ticked, Write, [], a_held, a_hold, a_null, a_release, active, ap, arith, asks_rows, bound, changes_at, class_is, class_no, commit_act, cond, dm_no, effect, false, filter_map, goes_through, head_of, if◌then◌else◌, inl, inr, is_empty, limit, limit_of, map, next_stamp, not, number_of, numbers_to, of_exchange, piped, puts_to, queue, refl, same_site, sends_of_act, start_at, subst, sym, time_at, time_in, time_of, times_in, to_site, true, txn_no, write_to, ℕ, ◌++◌, ◌==◌, ◌||◌, ◌∙◌, ◌∷◌, ◌≡◌, ◌≤◌}
+use Rattle.sdd_invariants.proofs.All.{Act, AllGe, AllLe, AllPiped, Attempt, Bases, Bool, Catalogue, Change, D, Did, Each, Entry, Fetch, Handed, IsFair, IsRising, IsSend, IsStep, IsTimed, List, Log, Msg, None, Null, Option, Queued, Reduce, Sends, Setting, Ship, Site, Some, Submits, Write, [], a_held, a_hold, a_null, a_release, active, ap, arith, asks_rows, bound, changes_at, class_is, class_no, commit_act, cond, dm_no, effect, false, filter_map, goes_through, head_of, if◌then◌else◌, inl, inr, is_empty, limit, limit_of, map, next_stamp, not, number_of, numbers_to, of_exchange, piped, puts_to, queue, refl, same_site, sends_of_act, start_at, subst, sym, time_at, time_in, time_of, times_in, to_site, true, txn_no, write_to, ℕ, ◌++◌, ◌==◌, ◌||◌, ◌∙◌, ◌∷◌, ◌≡◌, ◌≤◌}
 use Rattle.sdd_invariants.proofs.Clocks.{bound_rises, limit_le}
 use Rattle.sdd_invariants.proofs.Active.{handed_way, sent_way, step_way}
 use Rattle.sdd_invariants.proofs.Bools.{same_number, same_or_not}
@@ -188,12 +188,6 @@ limit_handed s c from m log l =
 pub timed : (s : Setting) (c : ℕ) (b : Site) (log : Log) → number_of s.site ≤ 63 → Each (IsFair s) log → IsTimed s c b log
 timed s c b [] w h = record { rises = tt; within = tt }
 timed s c b (Handed from m ∷ log) w h = timed_on s c b log (Handed from m) (limit_handed s c from m log (limit_le s log c w h.1)) refl (timed s c b log w h.1)
-timed s c b (Ticked n ∷ log) w h =
-    timed_on s c b log (Ticked n) (limit_on (bound s log) (bound s (Ticked n ∷ log)) (active s c log) (bound_rises s (Ticked n) log)) refl
-    (timed s c b log w h.1)
-timed s c b (Redeclared era t ∷ log) w h =
-    timed_on s c b log (Redeclared era t)
-    (limit_on (bound s log) (bound s (Redeclared era t ∷ log)) (active s c log) (bound_rises s (Redeclared era t) log)) refl (timed s c b log w h.1)
 timed s c b (Submits n txn ∷ log) w h = timed_on s c b log (Submits n txn) (omega arith) refl (timed s c b log w h.1)
 timed s c b (Did act ∷ log) w h =
     let i = timed s c b log w h.1 in
@@ -203,3 +197,6 @@ timed s c b (Did act ∷ log) w h =
       rises = rw e (rising_join g.time _ _ i.rises (le_up (limit s c log) g.time _ g.above i.within) g.all_at);
       within = rw e (le_same (limit s c (Did act ∷ log)) g.time _ _ g.below (le_up (limit s c log) (limit s c (Did act ∷ log)) _ (omega (arith, g.above, g.below)) i.within) g.all_at);
     }
+timed s c b (x ∷ log) w h =
+    timed_on s c b log x (limit_on (bound s log) (bound s (x ∷ log)) (active s c log) (bound_rises s x log)) refl
+    (timed s c b log w h.1)

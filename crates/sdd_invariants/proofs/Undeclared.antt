@@ -57,7 +57,7 @@ answered_before g k d log x h i p =
     (w.attempt, w.before, part_join log p.before w.before p1 (part_of p.before w.later _ w.before w.is), ans, sym w.ts_is ∙ p.ts_is)
 
 -- so its READ doesn't stand at the head again
-not_again : (g : Input) (d : DmNo) (log : Log) (a : Attempt) (ts : Ts) (k : ClassNo) (txn : TxnNo) (n : ℕ) (ds : List Cond) (us : List Use) (before : Log)
+pub not_again : (g : Input) (d : DmNo) (log : Log) (a : Attempt) (ts : Ts) (k : ClassNo) (txn : TxnNo) (n : ℕ) (ds : List Cond) (us : List Use) (before : Log)
     → IsPermitted g log → head (pipe_at g 0 d log) ≡ Some (Read ts k txn n ds us) → Part log before → HasAnswer g before d 0 a → a.ts ≡ ts.0 → ⊥
 not_again g d log a ts k txn n ds us before h e p w same =
     let ans : Act = Records 0 (Answer w.txn w.attempt (home_of (setting_of g (D d))).dm) w.sends in
@@ -140,8 +140,7 @@ spoilt_not : (g : Input) (k t c j kd : ℕ) (d : DmNo) (log : Log) (ts : Ts) (of
     → home g.catalogue c ≡ T (tm_no t) → slice_get (numbers_to g.catalogue.dms) kd ≡ Some d.0
     → head (pipe_at g 0 d log) ≡ Some (Read ts of txn n ds us) → ts.0 ≤ w → IsWriter g log d c w → ⊥
 spoilt_not g k t c j kd d log ts of txn n ds us q w h i run small hm id e le wr =
-    let ro = read_of g 0 d log ts of txn n ds us h e in
-    let r = ro.1 in
+    let r = (read_of g 0 d log ts of txn n ds us h e).1 in
     let cm = wr.commit in
     let ct = commit_t g t c log cm.later cm.before cm.bases cm.attempt h hm cm.is cm.active_is in
     elim (low_or_high g k t c j log r.later r.before r.queued cm.attempt ct i run small h r.is) [

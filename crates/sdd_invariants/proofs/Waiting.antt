@@ -1,5 +1,5 @@
 -- While a READ waits, no WRITE that spoils one of its conditions is processed.
-use Rattle.sdd_invariants.proofs.All.{AllUnspoilt, Apply, Bool, Change, ClassNo, ClassView, Cond, Did, Each, Entry, Handed, IsClassHere, IsDueEach, IsReadWith, IsUnspoilt, IsWaiting, List, Log, May, Msg, None, Null, Option, Pipe, Read, Rec, Records, Redeclared, Setting, Site, Some, Submits, Ticked, Ts, TxnNo, Write, [], ap, arith, at_class, class_view, cond, cons_option, dec_le, false, filter, filter_map, fold, goes_through, greatest, head, head_of, holds_back, if◌then◌else◌, inl, inr, is_at_least, is_processing, length, length-map-range_with_len, list_any, max, nat_le, nat_tests, not, or_assoc, pipe, put, raised, refl, slice_get, slice_get-get_or, spoiler, spoiling, spoils, subst, suc, sym, touches, true, view_of, waits, waits_own, write_time, zero, ℕ, ◌&&◌, ◌++◌, ◌<◌, ◌==◌, ◌||◌, ◌∙◌, ◌∷◌, ◌≡◌, ◌≢◌, ◌≤◌}
+use Rattle.sdd_invariants.proofs.All.{AllUnspoilt, Apply, Bool, Change, ClassNo, ClassView, Cond, Did, Each, Entry, Handed, IsClassHere, IsDueEach, IsReadWith, IsUnspoilt, IsWaiting, List, Log, May, Msg, None, Null, Option, Pipe, Read, Rec, Records, Setting, Site, Some, Ts, TxnNo, Write, [], ap, arith, at_class, class_view, cond, cons_option, dec_le, false, filter, filter_map, fold, goes_through, greatest, head, head_of, holds_back, if◌then◌else◌, inl, inr, is_at_least, is_processing, length, length-map-range_with_len, list_any, max, nat_le, nat_tests, not, or_assoc, pipe, put, raised, refl, slice_get, slice_get-get_or, spoiler, spoiling, spoils, subst, suc, sym, touches, true, view_of, waits, waits_own, write_time, zero, ℕ, ◌&&◌, ◌++◌, ◌<◌, ◌==◌, ◌||◌, ◌∙◌, ◌∷◌, ◌≡◌, ◌≢◌, ◌≤◌}
 use Rattle.sdd_invariants.proofs.Processed.{not_own, own_record, passing, processed_handed, processed_more, read_step_way, and_false as never_and}
 use Rattle.sdd_invariants.proofs.AreReadSteps.{class_in_view, class_not_in_view, d_step, no_class}
 use Rattle.sdd_invariants.proofs.Bools.{neither_left, neither_right, same_number, same_or_not}
@@ -240,9 +240,6 @@ pub waiting : (s : Setting) (log : Log) → Each (IsDueEach s) log → (c : ℕ)
 waiting s [] h c = λ q. cc
 waiting s (Handed from m ∷ log) h c = waiting_on s c (Handed from m) log
     (λ j. processed_handed j from m log) refl (head_handed s log (goes_through c m) (pipe c log) m) (waiting s log h.1 c)
-waiting s (Ticked n ∷ log) h c = waiting_on s c (Ticked n) log (λ j. refl) refl (λ i. refl) (waiting s log h.1 c)
-waiting s (Submits n txn ∷ log) h c = waiting_on s c (Submits n txn) log (λ j. refl) refl (λ i. refl) (waiting s log h.1 c)
-waiting s (Redeclared era t ∷ log) h c = waiting_on s c (Redeclared era t) log (λ j. refl) refl (λ i. refl) (waiting s log h.1 c)
 waiting s (Did act ∷ log) h c =
     let i = waiting s log h.1 c in
     read_step_way s log act (λ x. IsWaiting s c (Did x ∷ log))
@@ -256,3 +253,4 @@ waiting s (Did act ∷ log) h c =
       | inl q ↦ subst (λ x. IsWaiting s c (Did (Records x r sends) ∷ log)) (sym q) (record_own s c r sends log p)
       | inr q ↦ record_other s c k m r sends log q l p e j i
     ]) (d_step s log act h.0)
+waiting s (x ∷ log) h c = waiting_on s c x log (λ j. refl) refl (λ i. refl) (waiting s log h.1 c)

@@ -1,5 +1,5 @@
 -- The WRITEs of a class on a link have different, rising times; each was put by the Commit of the attempt with its time.
-use Rattle.sdd_invariants.proofs.All.{Act, AllLt, Attempt, Bases, Bool, Catalogue, Change, D, Did, Each, Entry, Handed, IsFair, IsSend, IsStep, IsStrict, List, Log, Msg, None, Option, Queued, Redeclared, Sends, Setting, Site, Some, Submits, Ticked, Write, [], a_held, a_hold, a_null, a_release, active, ap, append-nil, arith, asks_rows, bound, changes_at, class_no, commit_act, cond, dm_no, effect, false, filter_map-append, head_of, if◌then◌else◌, inl, inr, is_empty, last_stamp, map, not, number_of, of_exchange, puts_to, queue, refl, same_site, sends_of_act, stamp_or, start_at, subst, suc, sym, time_at, to_site, true, txn_no, write_at, write_to, writes_in, ℕ, ◌++◌, ◌<◌, ◌==◌, ◌||◌, ◌∙◌, ◌∷◌, ◌≡◌, ◌≤◌, ◌⊎◌}
+use Rattle.sdd_invariants.proofs.All.{Act, AllLt, Attempt, Bases, Bool, Catalogue, Change, D, Did, Each, Entry, Handed, IsFair, IsSend, IsStep, IsStrict, List, Log, Msg, None, Option, Queued, Sends, Setting, Site, Some, Submits, Write, [], a_held, a_hold, a_null, a_release, active, ap, append-nil, arith, asks_rows, bound, changes_at, class_no, commit_act, cond, dm_no, effect, false, filter_map-append, head_of, if◌then◌else◌, inl, inr, is_empty, last_stamp, map, not, number_of, of_exchange, puts_to, queue, refl, same_site, sends_of_act, stamp_or, start_at, subst, suc, sym, time_at, to_site, true, txn_no, write_at, write_to, writes_in, ℕ, ◌++◌, ◌<◌, ◌==◌, ◌||◌, ◌∙◌, ◌∷◌, ◌≡◌, ◌≤◌, ◌⊎◌}
 use Rattle.sdd_invariants.proofs.Clocks.{bound_rises, drawn, stamp_below_bound}
 use Rattle.sdd_invariants.proofs.Active.{handed_way, sent_way, step_way}
 use Rattle.sdd_invariants.proofs.Bools.{same_number, same_or_not}
@@ -135,10 +135,6 @@ open_handed s c from m log w l =
 pub written : (s : Setting) (c : ℕ) (b : Site) (log : Log) → number_of s.site ≤ 63 → Each (IsFair s) log → IsWritten s c b log
 written s c b [] w h = record { strict = tt; closed = tt }
 written s c b (Handed from m ∷ log) w h = written_on s c b log (Handed from m) (open_handed s c from m log w (drawn s log h.1 c)) refl (written s c b log w h.1)
-written s c b (Ticked n ∷ log) w h =
-    written_on s c b log (Ticked n) (open_le (bound s log) (bound s (Ticked n ∷ log)) (active s c log) (bound_rises s (Ticked n) log)) refl (written s c b log w h.1)
-written s c b (Redeclared era t ∷ log) w h =
-    written_on s c b log (Redeclared era t) (open_le (bound s log) (bound s (Redeclared era t ∷ log)) (active s c log) (bound_rises s (Redeclared era t) log)) refl (written s c b log w h.1)
 written s c b (Submits n txn ∷ log) w h = written_on s c b log (Submits n txn) (omega arith) refl (written s c b log w h.1)
 written s c b (Did act ∷ log) w h =
     let i = written s c b log w h.1 in
@@ -153,3 +149,5 @@ written s c b (Did act ∷ log) w h =
             closed = rw one (lt_push (open_from s c (Did act ∷ log)) p.0 _ (lt_up (open_from s c log) (open_from s c (Did act ∷ log)) _ o.rises i.closed) p.2);
           })
     ]
+written s c b (x ∷ log) w h =
+    written_on s c b log x (open_le (bound s log) (bound s (x ∷ log)) (active s c log) (bound_rises s x log)) refl (written s c b log w h.1)
