@@ -179,8 +179,7 @@ answer_as : (g : Input) (log later : Log) (sends : List (Site × Msg)) (before :
     → IsPermitted g (Does (D (dm_no d)) (Records c (Answer (txn_no n) number (dm_no d)) sends) ∷ before) → IsReadIn g before b d → IsAnswerIn g log b d k
 answer_as g log later sends before b c n number d k p q r is place h read =
     let named : Records b.class (answer_rec b d) sends ≡ Records c (Answer (txn_no n) number (dm_no d)) sends =
-    ap (λ y. Records y (answer_rec b d) sends) p ∙ ap (λ y. Records c (Answer (txn_no y) b.number (dm_no d)) sends) q
-    ∙ ap (λ y. Records c (Answer (txn_no n) y (dm_no d)) sends) r in
+    ap (λ y. Records y (answer_rec b d) sends) p ∙ (λ i. Records c (Answer (txn_no (q i)) (r i) (dm_no d)) sends) in
     record {
       later = later;
       sends = sends;

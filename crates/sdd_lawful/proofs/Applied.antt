@@ -1,5 +1,5 @@
 -- The Applies of a history, as acts of data modules; and what a data module has applied at one of its acts.
-use Rattle.sdd_lawful.proofs.All.{Act, AppliedBefore, Apply, Bases, Bool, Catalogue, Change, ClassNo, D, Did, DmNo, Does, Handed, Input, IsApplied, IsApplyOf, IsMadeAt, IsModule, IsOfWrite, IsPermitted, IsPutAt, IsRecordAt, IsWrite, List, Log, Msg, Option, Rec, Records, Redeclared, Running, Sends, Site, SiteLog, Some, Submits, Ticked, Ts, TxnNo, Write, [], and_left, ap, append_assoc, apply_follows, apply_of_head, arith, at_seam, class_no, commit_act, dm_no, effect, eqb-true, false, filter_map, goes_write, head, head_put, history, if◌then◌else◌, in_either, in_left, in_one, inl, inr, is_processing, length, local_of, permitted_before, pipe_at, place_of_act, range_with_len, refl, results, same_number, same_or_not, sends_of_act, slice_get, subst, suc, sym, time_at, to_site, true, true_or_false, txn_no, write_to, zero, ℕ, ◌&&◌, ◌++◌, ◌+◌, ◌<◌, ◌==◌, ◌∙◌, ◌∷◌, ◌≡◌, ◌≤◌}
+use Rattle.sdd_lawful.proofs.All.{Act, AppliedBefore, Apply, Bases, Bool, Catalogue, Change, ClassNo, D, Did, DmNo, Does, Input, IsApplied, IsApplyOf, IsMadeAt, IsModule, IsOfWrite, IsPermitted, IsPutAt, IsRecordAt, IsWrite, List, Log, Msg, Option, Rec, Records, Running, Site, SiteLog, Some, Ts, TxnNo, Write, [], and_left, ap, append_assoc, apply_follows, apply_of_head, arith, at_seam, class_no, commit_act, dm_no, effect, eqb-true, false, filter_map, goes_write, head, head_put, history, if◌then◌else◌, in_either, in_left, in_one, inl, inr, is_processing, length, local_of, permitted_before, pipe_at, place_of_act, range_with_len, refl, results, same_number, same_or_not, sends_of_act, slice_get, subst, suc, sym, time_at, to_site, true, true_or_false, txn_no, write_to, zero, ℕ, ◌&&◌, ◌++◌, ◌+◌, ◌<◌, ◌==◌, ◌∙◌, ◌∷◌, ◌≡◌, ◌≤◌}
 use Rattle.sdd_lawful.proofs.Classes.{at_home, home_setting}
 use Rattle.sdd_lawful.proofs.Makers.{IsOfData, act_kind, data_home, is_of_run, is_own}
 use Rattle.sdd_lawful.proofs.Places.{made_at, place_rises, recorded_there}
@@ -134,11 +134,7 @@ result_in c (Did (Records k q sends) ∷ log) i r e = elim (true_or_false ((k ==
   ]
   | inr p ↦ result_past c (Did (Records k q sends)) log r (result_in c log i r (rw p at e))
 ]
-result_in c (Did (Sends to m hand) ∷ log) i r e = result_past c (Did (Sends to m hand)) log r (result_in c log i r e)
-result_in c (Handed from m ∷ log) i r e = result_past c (Handed from m) log r (result_in c log i r e)
-result_in c (Ticked k ∷ log) i r e = result_past c (Ticked k) log r (result_in c log i r e)
-result_in c (Submits k text ∷ log) i r e = result_past c (Submits k text) log r (result_in c log i r e)
-result_in c (Redeclared era t ∷ log) i r e = result_past c (Redeclared era t) log r (result_in c log i r e)
+result_in c (x ∷ log) i r e = result_past c x log r (result_in c log i r e)
 
 result_if : (b : Bool) (xs : List Rec) (y x : Rec) (i : ℕ) → slice_get xs i ≡ Some x → slice_get (if b then xs ++ y ∷ [] else xs) i ≡ Some x
 result_if true xs y x i e = in_left xs (y ∷ []) i x e

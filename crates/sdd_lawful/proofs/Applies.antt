@@ -184,8 +184,7 @@ has_earlier g log sound h x y d k e goes s =
 after_earlier : (g : Input) (log : Log) → IsSoundCatalogue g.catalogue → IsPermitted g log → (x y : Committed) (d j k : ℕ) → IsEarlier (history log) x y
     → deeds.IsApplied (history log) x.start.txn d j → IsAnswered (history log) y.start d k → j < k
 after_earlier g log sound h x y d j k e a s =
-    let goes = (apply_of_committed g log x d j sound h e.first a).goes in
-    let b = has_earlier g log sound h x y d k e goes s in
+    let b = has_earlier g log sound h x y d k e (apply_of_committed g log x d j sound h e.first a).goes s in
     let same = one_apply g log sound h x.start.txn d b.place j b.applied a in
     let l = b.before in omega arith
 

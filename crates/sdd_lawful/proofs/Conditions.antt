@@ -43,15 +43,13 @@ pub above_zero : (cat : Catalogue) (table : List line.Entry) (class : ℕ) (frag
     → slice_get (conditions_at cat table class frags own p2 d) k ≡ Some c → 1 ≤ c.class.0
 above_zero cat table class frags own p2 d k c e = elim (same_or_not class 0) [
   | inl p ↦ (let i = in_mapped (λ j. cond_of j own (map frag_no (fragments_of cat))) (classes_of cat) k c (rw (ap (λ y. y == 0) p) at e) in
-      let r = in_range 1 (length cat.classes) k i.0 i.1 in
       let same : i.0 ≡ c.class.0 = ap (λ (x : Cond). x.class.0) i.2 in
-      let low = r.0 in omega arith)
+      let low = (in_range 1 (length cat.classes) k i.0 i.1).0 in omega arith)
   | inr p ↦ (let i = in_filter_mapped (condition_on (is_asked cat class d (map frag_no frags)) table class own p2) (classes_of cat) k c (rw p at e) in
-      let r = in_range 1 (length cat.classes) i.0 i.1 i.2 in
       let q = either_class (cond_for i.1 own (asked_by P3 (is_asked cat class d (map frag_no frags)) table class i.1))
       (cond_for i.1 p2 (asked_by P2 (is_asked cat class d (map frag_no frags)) table class i.1)) i.1 c (λ x f. cond_for_class i.1 own _ x f)
       (λ x f. cond_for_class i.1 p2 _ x f) i.3 in
-      let low = r.0 in omega arith)
+      let low = (in_range 1 (length cat.classes) i.0 i.1 i.2).0 in omega arith)
 ]
 
 -- the conditions of a READ are those of its attempt
@@ -63,8 +61,7 @@ start_event g log later before e a d is x =
     let f = further_back log later before e start x.between x.start_log is x.start_is in (
       f.0 ++ start ∷ [],
       f.1 ∙ sym (append_assoc f.0 (start ∷ []) x.start_log),
-      ap (event_at (history log)) (sym x.start_place) ∙ ap (λ l. event_at (history l) (length (history x.start_log))) f.1
-          ∙ event_there f.0 start x.start_log (start_of a) x.start_makes,
+      (λ i. event_at (history (f.1 i)) (sym x.start_place i)) ∙ event_there f.0 start x.start_log (start_of a) x.start_makes,
     )
 
 -- by the table of the catalogue in force at the Start

@@ -1,5 +1,5 @@
 -- The copies of a data module, by its own log, are those that the history gives.
-use Rattle.sdd_lawful.proofs.All.{Act, AppliedBefore, Apply, Change, ClassNo, Committed, Contains, Contains-append_cases, Contains-append_right, Contains-filter, Contains-from_filter, Contains-from_map, Contains-map, Contains-nil, D, Did, DmNo, Does, Handed, Input, IsCommitted, IsMadeAt, IsPermitted, IsRecordAt, IsSoundCatalogue, IsWrite, List, Log, Msg, Rec, Records, Redeclared, Sends, Site, SiteLog, Some, Submits, Ticked, Ts, TxnNo, Write, [], and_left, and_right, ap, append_assoc, applied, applied_if, apply_of_head, arith, changes_at, changes_in, class_no, class_number, commit_act, commit_put_is, dm_no, eqb-true, has_copy, head, head_put, history, home, inl, inr, is_apply, length, local_of, map, permitted_before, pipe, pipe_at, place_of_act, refl, same_number, sends_of_act, slice_get, subst, sym, time_at, to_site, true, true_or_false, txn_no, ℕ, ◌&&◌, ◌++◌, ◌==◌, ◌∙◌, ◌∷◌, ◌≡◌}
+use Rattle.sdd_lawful.proofs.All.{Act, AppliedBefore, Apply, Change, ClassNo, Committed, Contains, Contains-append_cases, Contains-append_right, Contains-filter, Contains-from_filter, Contains-from_map, Contains-map, Contains-nil, D, Did, DmNo, Does, Input, IsCommitted, IsMadeAt, IsPermitted, IsRecordAt, IsSoundCatalogue, IsWrite, List, Log, Msg, Rec, Records, Site, SiteLog, Some, Ts, TxnNo, Write, [], and_left, and_right, ap, append_assoc, applied, applied_if, apply_of_head, arith, changes_at, changes_in, class_no, class_number, commit_act, commit_put_is, dm_no, eqb-true, has_copy, head, head_put, history, home, inl, inr, is_apply, length, local_of, map, permitted_before, pipe, pipe_at, place_of_act, refl, same_number, sends_of_act, slice_get, subst, sym, time_at, to_site, true, true_or_false, txn_no, ℕ, ◌&&◌, ◌++◌, ◌==◌, ◌∙◌, ◌∷◌, ◌≡◌}
 use Rattle.sdd_lawful.proofs.Applied.{IsApplyIn, apply_made, apply_rec}
 use Rattle.sdd_lawful.proofs.Applies.{apply_of_committed}
 use Rattle.sdd_lawful.proofs.Classes.{at_home, further_back, home_setting}
@@ -76,11 +76,7 @@ applied_from c (Did (Records k r sends) ∷ l) x h = elim (true_or_false ((k == 
   ]
   | inr p ↦ applied_past c (Did (Records k r sends)) l x (applied_from c l x (rw p at h))
 ]
-applied_from c (Did (Sends to m hand) ∷ l) x h = applied_past c (Did (Sends to m hand)) l x (applied_from c l x h)
-applied_from c (Handed from m ∷ l) x h = applied_past c (Handed from m) l x (applied_from c l x h)
-applied_from c (Ticked n ∷ l) x h = applied_past c (Ticked n) l x (applied_from c l x h)
-applied_from c (Submits n text ∷ l) x h = applied_past c (Submits n text) l x (applied_from c l x h)
-applied_from c (Redeclared era t ∷ l) x h = applied_past c (Redeclared era t) l x (applied_from c l x h)
+applied_from c (y ∷ l) x h = applied_past c y l x (applied_from c l x h)
 
 applied_has : (c : ℕ) (later before : SiteLog) (r : Rec) (sends : List (Site × Msg)) (x : ℕ × Change) → is_apply r ≡ true
     → Contains (changes_in (head (pipe c before))) x → Contains (applied c (later ++ Did (Records c r sends) ∷ before)) x

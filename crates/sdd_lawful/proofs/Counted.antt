@@ -1,5 +1,5 @@
 -- How many Starts of a transaction a history has is how often the site that runs its class started it.
-use Rattle.sdd_lawful.proofs.All.{Attempt, Bool, Commit, Did, Does, Entry, Era, Hand, Handed, History, Input, IsAttempt, IsPermitted, IsSoundCatalogue, List, Log, Mark, Msg, None, Option, Rec, Records, Redeclares, Sends, Site, SiteLog, Some, Start, Submitted, T, Tick, Ticked, Txn, TxnNo, U, [], ap, append_assoc, arith, cond, eqb-true, false, filter, filter-append, history, home, if_way, if◌then◌else◌, inl, inr, is_start_of, length, length-append, local_of, marks, nth_era, record_of, redeclares, refl, same_number, same_or_not, same_site, site_self, starts_before, starts_of, subst, suc, sym, take, true, txn_at, with_era, with_submit, ℕ, ◌&&◌, ◌++◌, ◌+◌, ◌==◌, ◌∙◌, ◌∷◌, ◌≡◌}
+use Rattle.sdd_lawful.proofs.All.{Attempt, Bool, Did, Does, Entry, Era, Hand, Handed, History, Input, IsAttempt, IsPermitted, IsSoundCatalogue, List, Log, Mark, Msg, None, Option, Rec, Records, Redeclares, Sends, Site, SiteLog, Some, Start, Submitted, T, Tick, Ticked, Txn, TxnNo, U, [], ap, append_assoc, arith, cond, eqb-true, false, filter, filter-append, history, home, if_way, if◌then◌else◌, inl, inr, is_start_of, length, length-append, local_of, marks, nth_era, record_of, redeclares, refl, same_number, same_or_not, same_site, site_self, starts_before, starts_of, subst, suc, sym, take, true, txn_at, with_era, with_submit, ℕ, ◌&&◌, ◌++◌, ◌+◌, ◌==◌, ◌∙◌, ◌∷◌, ◌≡◌}
 use Rattle.sdd_lawful.proofs.Classes.{IsGivenTo, at_home, one_class}
 use Rattle.sdd_lawful.proofs.Places.{history_before, history_step, recorded}
 use Rattle.sdd_lawful.proofs.Started.{attempt_from, given_of_attempt, start_act_of, start_at_entry, start_in}
@@ -81,8 +81,6 @@ count_act g c n x at k (Start txn attempt class ts p2 uses) sends l own e = elim
       rw (s, a, b, q) (let f = ap suc e in omega arith))
   | inr p ↦ rw p (count_if c n x (same_site (home g.catalogue c) at) (Did (Records k (Start txn attempt class ts p2 uses) sends)) l (rw (count_other c n k x txn p) refl) e)
 ]
-count_act g c n x at k (Commit txn attempt reply changes values rows) sends l own e =
-    count_if c n x (same_site (home g.catalogue c) at) (Did (Records k (Commit txn attempt reply changes values rows) sends)) l refl e
 count_act g c n x at k r sends l own e = count_if c n x (same_site (home g.catalogue c) at) (Did (Records k r sends)) l refl e
 
 abbrev IsOwnEntry : Input → ℕ → ℕ → Entry → Type 0
@@ -107,8 +105,7 @@ AllOwn g c n (e ∷ log) = IsOwnEntry g c n e × AllOwn g c n log
 pub counted : (g : Input) (c n : ℕ) (log : Log) → AllOwn g c n log → starts_in n (history log) ≡ starts_of c n (at_home g c log)
 counted g c n [] own = sym (count_first g c n (home g.catalogue c))
 counted g c n (e ∷ log) own =
-    let i = counted g c n log own.1 in
-    counts_step n e log ∙ sym (count_entry g c n (starts_in n (history log)) e log own.0 (sym i))
+    counts_step n e log ∙ sym (count_entry g c n (starts_in n (history log)) e log own.0 (sym (counted g c n log own.1)))
 
 -- every Start of a transaction in the log is of its class
 

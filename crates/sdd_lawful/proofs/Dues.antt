@@ -1,5 +1,5 @@
 -- What a Wait, an Arrive and a Pass of a data module are due to.
-use Rattle.sdd_lawful.proofs.All.{Act, Arrive, Ask, Bases, Bool, Catalogue, ClassNo, ClassView, Cond, D, Did, DmNo, Fetch, Handed, Held, Home, Input, IsClassHere, IsDue, IsDueAt, IsReadStep, IsStep, List, May, Msg, None, Null, Open, Option, Pass, Processes, Queued, Read, Rec, Records, Redeclared, Reduce, Running as Attempt, Sends, Setting, Ship, Site, SiteLog as Log, Some, Submits, T, Ticked, TmNo, Ts, TxnNo, U, Use, View, Wait, Write, [], act_by, act_where, active, answer_of, answer_to, ap, asks_next, asks_rows, attempt_due, base_of, bound_of, by_head, by_open, by_record, by_wait, class_at, class_at_place, commit_act, commit_put_is, dm_no, false, filter, first_send, first_there, hands, head, head_due, head_of, home, home_of, if◌then◌else◌, in_either, in_filtered, in_mapped, in_none, in_one, in_passing, inl, inr, is_asked_of, is_held, is_met, is_over, is_processing, judged, list_all, local_of, nat_lt, not, not_both, opens, or_else, pipe, refl, sends_of_act, setting_of, slice_get, spoiler, start_at, start_puts, start_read, step_on, step_way, subst, suc, sym, the_one, time_at, tm_no, to_site, true, view_of, waits, was_handed, ℕ, ◌&&◌, ◌++◌, ◌==◌, ◌∙◌, ◌∷◌, ◌≡◌}
+use Rattle.sdd_lawful.proofs.All.{Act, Arrive, Ask, Bases, Bool, Catalogue, ClassNo, ClassView, Cond, D, Did, DmNo, Fetch, Handed, Held, Home, Input, IsClassHere, IsDue, IsDueAt, IsReadStep, IsStep, List, May, Msg, None, Null, Open, Option, Pass, Processes, Queued, Read, Rec, Records, Reduce, Running as Attempt, Sends, Setting, Ship, Site, SiteLog as Log, Some, T, TmNo, Ts, TxnNo, U, Use, View, Wait, Write, [], act_by, act_where, active, answer_of, answer_to, ap, asks_next, asks_rows, attempt_due, base_of, bound_of, by_head, by_open, by_record, by_wait, class_at, class_at_place, commit_act, commit_put_is, dm_no, false, filter, first_send, first_there, hands, head, head_due, head_of, home, home_of, if◌then◌else◌, in_either, in_filtered, in_mapped, in_none, in_one, in_passing, inl, inr, is_asked_of, is_held, is_met, is_over, is_processing, judged, list_all, local_of, nat_lt, not, not_both, opens, or_else, pipe, refl, sends_of_act, setting_of, slice_get, spoiler, start_at, start_puts, start_read, step_on, step_way, subst, suc, sym, the_one, time_at, tm_no, to_site, true, view_of, waits, was_handed, ℕ, ◌&&◌, ◌++◌, ◌==◌, ◌∙◌, ◌∷◌, ◌≡◌}
 use Rattle.sdd_invariants.specs.site_module.SiteLog.{Entry}
 use Rattle.sdd_invariants.specs.logs.Entries as log
 use Rattle.sdd_invariants.specs.tm.Due as tm
@@ -188,9 +188,7 @@ asked_from : (l : Log) (k : ℕ) (q : tm_views.Question) → slice_get (tm_views
 asked_from [] k q e = cc
 asked_from (Handed from m ∷ l) k q e = asks_in (suc (hands l)) from m l k q (λ j i. asked_from l j q i) e
 asked_from (Did act ∷ l) k q e = let i = acted_asks act (tm_views.asks l) k q e in asked_past (Did act) l q.from (asked_from l i.0 q i.1)
-asked_from (Ticked n ∷ l) k q e = asked_past (Ticked n) l q.from (asked_from l k q e)
-asked_from (Submits n text ∷ l) k q e = asked_past (Submits n text) l q.from (asked_from l k q e)
-asked_from (Redeclared era t ∷ l) k q e = asked_past (Redeclared era t) l q.from (asked_from l k q e)
+asked_from (x ∷ l) k q e = asked_past x l q.from (asked_from l k q e)
 
 abbrev NullTo : Log → Act → Type 0
 NullTo l (Sends to (Null k t) hand) = WasAskedBy l to

@@ -1,6 +1,6 @@
 -- What the log of a site that runs transactions says of an act in it: of the timestamps, promises, Commits and
 -- submissions.
-use Rattle.sdd_lawful.proofs.All.{Act, AllCommitted, AllLe, AllLt, Bool, Change, ClassNo, Commit, Did, Handed, List, Msg, Option, Records, Redeclared, Reply, Sends, Setting, Site, SiteLog as Log, Some, Start, Submits, Ticked, Ts, Txn, TxnNo, Use, [], and_left, and_right, ap, arith, at_seam, both, commit_more, current_era, eqb-true, false, if_way, if◌then◌else◌, in_left, in_right, inl, inr, is_committed, is_for, length, only_right, or_left, or_right, promises, refl, same_number, slice_get, stamps, start_more, starts_of, submits_of, subst, suc, sym, true, true_or_false, zero, ℕ, ◌&&◌, ◌++◌, ◌<◌, ◌==◌, ◌∷◌, ◌≡◌, ◌≤◌}
+use Rattle.sdd_lawful.proofs.All.{Act, AllCommitted, AllLe, AllLt, Bool, Change, ClassNo, Commit, Did, List, Msg, Option, Records, Reply, Setting, Site, SiteLog as Log, Some, Start, Submits, Ts, Txn, TxnNo, Use, [], and_left, and_right, ap, arith, at_seam, both, commit_more, current_era, eqb-true, false, if_way, if◌then◌else◌, in_left, in_right, inl, inr, is_committed, is_for, length, only_right, or_left, or_right, promises, refl, same_number, slice_get, stamps, start_more, starts_of, submits_of, subst, suc, sym, true, true_or_false, zero, ℕ, ◌&&◌, ◌++◌, ◌<◌, ◌==◌, ◌∷◌, ◌≡◌, ◌≤◌}
 use Rattle.sdd_invariants.specs.site_module.SiteLog as site
 
 pub below_at : (k : ℕ) (xs : List ℕ) (i x : ℕ) → AllLt k xs → slice_get xs i ≡ Some x → x < k
@@ -70,10 +70,7 @@ commit_in_act c n (Records k (Commit txn attempt reply changes values rows) send
           record { later = []; txn = txn; attempt = attempt; reply = reply; changes = changes; values = values; rows = rows; sends = sends; before = log; is = ap (λ j. Did (Records j (Commit txn attempt reply changes values rows) sends) ∷ log) a; number_is = sym b })
       | inr p ↦ commit_more_in c n (Records k (Commit txn attempt reply changes values rows) sends) log (f (only_right ((k == c) && (n == txn.0)) x p h))
     ]
-commit_in_act c n (Records k (Start txn attempt class ts p2 uses) sends) log x f h =
-    commit_more_in c n (Records k (Start txn attempt class ts p2 uses) sends) log (f h)
-commit_in_act c n (Records k r sends) log x f h = commit_more_in c n (Records k r sends) log (f h)
-commit_in_act c n (Sends to m hand) log x f h = commit_more_in c n (Sends to m hand) log (f h)
+commit_in_act c n y log x f h = commit_more_in c n y log (f h)
 
 commit_past : (c n : ℕ) (e : site.Entry) (log : Log) → HasCommitAct c n log → HasCommitAct c n (e ∷ log)
 commit_past c n e log h =
@@ -82,10 +79,7 @@ commit_past c n e log h =
 pub commit_act_in : (c n : ℕ) (log : Log) → is_committed c n log ≡ true → HasCommitAct c n log
 commit_act_in c n [] h = cc
 commit_act_in c n (Did act ∷ log) h = commit_in_act c n act log (is_committed c n log) (λ p. commit_act_in c n log p) h
-commit_act_in c n (Handed from m ∷ log) h = commit_past c n (Handed from m) log (commit_act_in c n log h)
-commit_act_in c n (Ticked k ∷ log) h = commit_past c n (Ticked k) log (commit_act_in c n log h)
-commit_act_in c n (Submits k text ∷ log) h = commit_past c n (Submits k text) log (commit_act_in c n log h)
-commit_act_in c n (Redeclared era t ∷ log) h = commit_past c n (Redeclared era t) log (commit_act_in c n log h)
+commit_act_in c n (x ∷ log) h = commit_past c n x log (commit_act_in c n log h)
 
 -- what was submitted to a class
 

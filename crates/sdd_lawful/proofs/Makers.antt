@@ -62,8 +62,7 @@ due_kind h v a (by_head n k p e) = head_kind h v k.class (head k.pipe) (head_ste
 
 abbrev pub IsActOf : Input → Site → Act → Type 0
 IsActOf g (D d) act = IsDataAct d act
-IsActOf g U act = IsRunAct (setting_of g U) act
-IsActOf g (T t) act = IsRunAct (setting_of g (T t)) act
+IsActOf g x act = IsRunAct (setting_of g x) act
 
 pub act_kind : (g : Input) (at : Site) (act : Act) (log : Log) → IsPermitted g (Does at act ∷ log) → IsActOf g at act
 act_kind g (D d) act log h =
@@ -83,8 +82,7 @@ not_of_run d r h e = cc
 pub run_home : (g : Input) (at : Site) (k : ℕ) (r : Rec) (sends : List (Site × Msg)) (log : Log)
     → IsPermitted g (Does at (Records k r sends) ∷ log) → is_of_run r ≡ true → at ≡ home g.catalogue k
 run_home g (D d) k r sends log h e = not_of_run d r (act_kind g (D d) (Records k r sends) log h) e
-run_home g U k r sends log h e = sym (act_kind g U (Records k r sends) log h).0
-run_home g (T t) k r sends log h e = sym (act_kind g (T t) (Records k r sends) log h).0
+run_home g x k r sends log h e = sym (act_kind g x (Records k r sends) log h).0
 
 -- another record at a data module, in its name
 not_both_kinds : {A : Type 0} (r : Rec) → is_of_run r ≡ true → is_of_run r ≡ false → A
@@ -93,8 +91,7 @@ not_both_kinds r e f = let q : true ≡ false = sym e ∙ f in cc
 pub data_home : (g : Input) (at : Site) (k : ℕ) (r : Rec) (sends : List (Site × Msg)) (log : Log)
     → IsPermitted g (Does at (Records k r sends) ∷ log) → is_of_run r ≡ false → (d : DmNo) × (at ≡ D d) × IsOfData d r
 data_home g (D d) k r sends log h e = (d, refl, act_kind g (D d) (Records k r sends) log h)
-data_home g U k r sends log h e = not_both_kinds r (act_kind g U (Records k r sends) log h).1 e
-data_home g (T t) k r sends log h e = not_both_kinds r (act_kind g (T t) (Records k r sends) log h).1 e
+data_home g x k r sends log h e = not_both_kinds r (act_kind g x (Records k r sends) log h).1 e
 
 -- no site makes a Submit by itself
 abbrev pub is_own : Rec → Bool
@@ -115,5 +112,4 @@ not_own_run r h = refl
 pub none_own : (g : Input) (at : Site) (k : ℕ) (r : Rec) (sends : List (Site × Msg)) (log : Log)
     → IsPermitted g (Does at (Records k r sends) ∷ log) → is_own r ≡ false
 none_own g (D d) k r sends log h = not_own_data d r (act_kind g (D d) (Records k r sends) log h)
-none_own g U k r sends log h = not_own_run r (act_kind g U (Records k r sends) log h).1
-none_own g (T t) k r sends log h = not_own_run r (act_kind g (T t) (Records k r sends) log h).1
+none_own g x k r sends log h = not_own_run r (act_kind g x (Records k r sends) log h).1

@@ -29,8 +29,7 @@ of_one_era g log era same none = record {
       let z = none_before later before (ap redeclares (sym is) ∙ none) in
       in_one g.catalogue (marks before) ∙ sym same ∙ ap (λ k. (nth_era g k).catalogue) (sym z);
   tabled = λ later before is.
-      let z = none_before later before (ap redeclares (sym is) ∙ none) in
-      subst (λ k. IsEra (nth_era g k)) (sym z) era;
+      subst (λ k. IsEra (nth_era g k)) (sym (none_before later before (ap redeclares (sym is) ∙ none))) era;
 }
 
 begun_one : (cat : Catalogue) (event : ℕ) → eras_begun (one_era cat) event ≡ 1

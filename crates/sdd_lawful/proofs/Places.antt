@@ -24,9 +24,8 @@ pub dated_there : (later : Log) (e : Entry) (before : Log) (r : Rec) → record_
 dated_there [] e before r m =
     subst (λ h. slice_get h (length (history before)) ≡ Some (dated before r)) (sym (made_now e before r m)) (at_seam (history before) [] (dated before r))
 dated_there (x ∷ later) e before r m =
-    let i = dated_there later e before r m in
     subst (λ h. slice_get h (length (history before)) ≡ Some (dated before r)) (sym (history_step x (later ++ e ∷ before)))
-    (in_left (history (later ++ e ∷ before)) _ (length (history before)) (dated before r) i)
+    (in_left (history (later ++ e ∷ before)) _ (length (history before)) (dated before r) (dated_there later e before r m))
 
 get_of_left : {A : Type 0} (xs ys : List A) (k : ℕ) (x : A) → k < length xs → slice_get (xs ++ ys) k ≡ Some x → slice_get xs k ≡ Some x
 get_of_left [] ys k x l e = absurd (omega arith)

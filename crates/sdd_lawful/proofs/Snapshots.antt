@@ -1,5 +1,5 @@
 -- What an attempt reads at a module is what the log of the module gives at its Answer.
-use Rattle.sdd_lawful.proofs.All.{Act, Answer, AreErasOf, Attempt, Bool, ClassNo, Cond, D, Did, DmNo, Does, Eras, Handed, Input, IsAnswered, IsAttempt, IsMadeAt, IsPermitted, IsRecordAt, IsSoundCatalogue, List, Log, Msg, Option, Read, Rec, Records, Redeclared, Sends, Setting, Site, SiteLog, Some, Submits, Ticked, Ts, TxnNo, Use, [], allowed_act, ap, append_assoc, class_no, d_step, dated, dm_no, eqb-true, false, flat_map, frags_asked, head, history, inl, inr, is_at, items_of, length, local_of, not_both, permitted_before, pipe, place_of_act, refl, same_start, setting_of, snapshots, subst, sym, time_at, true, true_or_false, txn_no, ℕ, ◌++◌, ◌∙◌, ◌∷◌, ◌≡◌, ◌⊎◌}
+use Rattle.sdd_lawful.proofs.All.{Act, Answer, AreErasOf, Attempt, Bool, ClassNo, Cond, D, Did, DmNo, Does, Eras, Input, IsAnswered, IsAttempt, IsMadeAt, IsPermitted, IsRecordAt, IsSoundCatalogue, List, Log, Msg, Option, Read, Rec, Records, Setting, Site, SiteLog, Some, Ts, TxnNo, Use, [], allowed_act, ap, append_assoc, class_no, d_step, dated, dm_no, eqb-true, false, flat_map, frags_asked, head, history, inl, inr, is_at, items_of, length, local_of, not_both, permitted_before, pipe, place_of_act, refl, same_start, setting_of, snapshots, subst, sym, time_at, true, true_or_false, txn_no, ℕ, ◌++◌, ◌∙◌, ◌∷◌, ◌≡◌, ◌⊎◌}
 use Rattle.sdd_lawful.proofs.Answered.{IsAnswerIn, answer_head, answer_made, answer_rec, read_msg, read_of_some}
 use Rattle.sdd_lawful.proofs.Makers.{act_kind}
 use Rattle.sdd_lawful.proofs.Places.{one_entry, recorded_there}
@@ -86,16 +86,8 @@ snapshot_or s ts (Did (Records k (Answer n i d) ss) ∷ l) = elim (true_or_false
 snapshot_or s ts (Did (Records k r ss) ∷ l) =
     snapshot_more s ts (Did (Records k r ss)) l refl
     (λ class txn attempt dm sends e h. let q : r ≡ Answer txn attempt dm = cc in let t : false ≡ true = ap is_answer q in cc) (snapshot_or s ts l)
-snapshot_or s ts (Did (Sends to m hand) ∷ l) =
-    snapshot_more s ts (Did (Sends to m hand)) l refl (λ class txn attempt dm sends e h. let t : false ≡ true = ap is_record e in cc) (snapshot_or s ts l)
-snapshot_or s ts (Handed from m ∷ l) =
-    snapshot_more s ts (Handed from m) l refl (λ class txn attempt dm sends e h. let t : false ≡ true = ap is_record e in cc) (snapshot_or s ts l)
-snapshot_or s ts (Ticked n ∷ l) =
-    snapshot_more s ts (Ticked n) l refl (λ class txn attempt dm sends e h. let t : false ≡ true = ap is_record e in cc) (snapshot_or s ts l)
-snapshot_or s ts (Submits n text ∷ l) =
-    snapshot_more s ts (Submits n text) l refl (λ class txn attempt dm sends e h. let t : false ≡ true = ap is_record e in cc) (snapshot_or s ts l)
-snapshot_or s ts (Redeclared era t ∷ l) =
-    snapshot_more s ts (Redeclared era t) l refl (λ class txn attempt dm sends e h. let t : false ≡ true = ap is_record e in cc) (snapshot_or s ts l)
+snapshot_or s ts (x ∷ l) =
+    snapshot_more s ts x l refl (λ class txn attempt dm sends e h. let t : false ≡ true = ap is_record e in cc) (snapshot_or s ts l)
 
 -- an Answer at a data module to a READ with an attempt's timestamp is that attempt's
 
@@ -138,8 +130,7 @@ the_answer g log front part eras a d later k n i dm ss l sound h are s is split 
     let place = one_time g log eras sound h are b a r.started s (t2 ∙ t1) in
     let same = same_start (history log) b a r.started s place in
     let module_is : dm ≡ dm_no d = act_kind g site_d act p.rest now in
-    let rec_is : Answer n i dm ≡ answer_rec a d = ap (λ y. Answer (txn_no y) i dm) (sym r.txn_is ∙ same.txn)
-    ∙ ap (λ y. Answer (txn_no a.txn) y dm) (sym r.number_is ∙ same.number) ∙ ap (λ y. Answer (txn_no a.txn) a.number y) module_is in
+    let rec_is : Answer n i dm ≡ answer_rec a d = (λ j. Answer (txn_no ((sym r.txn_is ∙ same.txn) j)) ((sym r.number_is ∙ same.number) j) (module_is j)) in
     let there : IsRecordAt (history log) (length (history p.rest)) (Answer n i dm) = subst (λ y. IsRecordAt (history y) (length (history p.rest)) (Answer n i dm))
     (sym whole) (recorded_there (front ++ p.later) (Does site_d act) p.rest (Answer n i dm) refl) in
     let made : IsMadeAt log (length (history p.rest))

@@ -38,8 +38,7 @@ pub passing : {A : Type 0} (p : A → Bool) (xs : List A) (k : ℕ) (x : A) → 
 passing p [] k x e f = cc
 passing {A = A} p (y ∷ xs) zero x e f = let q : ◌≡◌ {A = A} y x = cc in rw (ap p q ∙ f) (omega arith)
 passing p (y ∷ xs) (suc k) x e f =
-    let i = passing p xs k x e f in
-    elim (p y) as (λ b. 0 < length (cond b (y ∷ filter p xs) (filter p xs))) [ true ↦ omega arith | false ↦ i ]
+    elim (p y) as (λ b. 0 < length (cond b (y ∷ filter p xs) (filter p xs))) [ true ↦ omega arith | false ↦ passing p xs k x e f ]
 
 pub some_passes : {A : Type 0} (p : A → Bool) (xs : List A) → 0 < length (filter p xs) → (k : ℕ) × (x : A) × (slice_get xs k ≡ Some x) × (p x ≡ true)
 some_passes p [] h = absurd (omega arith)

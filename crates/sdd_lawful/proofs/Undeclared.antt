@@ -87,8 +87,7 @@ zero_done g log eras x a sound h are c s e f l =
 done_committed : (g : Input) (log : Log) (x : Committed) (a : Attempt) → IsSoundCatalogue g.catalogue → IsPermitted g log → IsCommitted (history log) x
     → IsDone g log x a → x.place < a.place
 done_committed g log x a sound h c done =
-    let some = (sound_whole g.catalogue sound).some_dm in
-    let b = done.applied 1 (omega arith, some) in
+    let b = done.applied 1 (omega arith, (sound_whole g.catalogue sound).some_dm) in
     let o = of_commit g log sound h x.start.txn b.applied.class 1 b.applied.ts b.place b.applied.is_recorded in
     let same = same_committed g log sound h o.committed x o.is_committed c o.txn_is in
     let p : o.committed.place ≡ x.place = ap (λ (y : Committed). y.place) same in

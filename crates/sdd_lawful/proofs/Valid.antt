@@ -1,5 +1,5 @@
 -- What committed transactions change are items of the catalogue, and so the database that an attempt reads is one.
-use Rattle.sdd_lawful.proofs.All.{Act, All, AllByRecursion, Answer, Apply, Bases, Catalogue, Change, D, Database, Dated, Did, DmNo, Does, FitsStatement, FitsTxn, Handed, HasRow, HasSoundData, Input, IsBased, IsChange, IsEntry, IsModule, IsPermitted, IsSoundCatalogue, IsWrite, Item, List, Log, Msg, PutsHeld, Rec, Records, Redeclared, RelNo, Row, Running, Sends, Setting, Site, SiteLog, Some, Submits, T, Ticked, Txn, U, Write, [], active, all_filtered, all_have, all_join, and_left, and_right, ap, append_assoc, applied, apply_of_head, arith, base_of, changes_in, changes_to, class_at, class_number, commit_act, commit_put_is, database_of, dated, dm_no, each_has, each_inserted, effect, effect_changes, entry_placed, eqb-true, first_row, first_rows, flat_map, fold, fragment_at, frags_asked, has_copy, head, head_of, head_put, held_by, home, home_fair, if_way, inl, inr, is_apply, is_at, item_cmp, item_cmp_exact, items_of, local_of, map, numbers_to, one_active, permitted_before, pipe, place_of_act, queue, range_with_len, recursion_from_All, refl, rows_make_database, rows_of, sends_of_act, setting_of, slice_get, snapshots, snapshots_at, start_at, start_of_active, subst, suc, sym, t_commit, tm_no, to_site, true, true_or_false, txn_at, u_commit, with_item, zero, ℕ, ℤ, ◌&&◌, ◌++◌, ◌+◌, ◌-◌, ◌==◌, ◌∙◌, ◌∷◌, ◌≡◌, ◌≤◌}
+use Rattle.sdd_lawful.proofs.All.{Act, All, AllByRecursion, Answer, Apply, Bases, Catalogue, Change, D, Database, Dated, Did, DmNo, Does, FitsStatement, FitsTxn, HasRow, HasSoundData, Input, IsBased, IsChange, IsEntry, IsModule, IsPermitted, IsSoundCatalogue, IsWrite, Item, List, Log, Msg, PutsHeld, Rec, Records, RelNo, Row, Running, Setting, Site, SiteLog, Some, T, Txn, U, Write, [], active, all_filtered, all_have, all_join, and_left, and_right, ap, append_assoc, applied, apply_of_head, arith, base_of, changes_in, changes_to, class_at, class_number, commit_act, commit_put_is, database_of, dated, dm_no, each_has, each_inserted, effect, effect_changes, entry_placed, eqb-true, first_row, first_rows, flat_map, fold, fragment_at, frags_asked, has_copy, head, head_of, head_put, held_by, home, home_fair, if_way, inl, inr, is_apply, is_at, item_cmp, item_cmp_exact, items_of, local_of, map, numbers_to, one_active, permitted_before, pipe, place_of_act, queue, range_with_len, recursion_from_All, refl, rows_make_database, rows_of, sends_of_act, setting_of, slice_get, snapshots, snapshots_at, start_at, start_of_active, subst, suc, sym, t_commit, tm_no, to_site, true, true_or_false, txn_at, u_commit, with_item, zero, ℕ, ℤ, ◌&&◌, ◌++◌, ◌+◌, ◌-◌, ◌==◌, ◌∙◌, ◌∷◌, ◌≡◌, ◌≤◌}
 use Rattle.sdd_lawful.proofs.Classes.{at_home, home_setting}
 use Rattle.sdd_lawful.proofs.Commits.{text_of_head}
 use Rattle.sdd_invariants.specs.dm.Copies.{classes_of}
@@ -69,11 +69,7 @@ applied_valid cat c (Did (Records k r sends) ∷ l) h =
           rw p (all_join _ (applied c l) (changes_in (head (pipe c l))) i (subst (λ j. AllValidAt cat (changes_in (head (pipe j l)))) e now)))
       | inr p ↦ rw p i
     ]
-applied_valid cat c (Did (Sends to m hand) ∷ l) h = applied_valid cat c l (less_valid cat (Did (Sends to m hand)) l h)
-applied_valid cat c (Handed from m ∷ l) h = applied_valid cat c l (less_valid cat (Handed from m) l h)
-applied_valid cat c (Ticked n ∷ l) h = applied_valid cat c l (less_valid cat (Ticked n) l h)
-applied_valid cat c (Submits n text ∷ l) h = applied_valid cat c l (less_valid cat (Submits n text) l h)
-applied_valid cat c (Redeclared era t ∷ l) h = applied_valid cat c l (less_valid cat (Redeclared era t) l h)
+applied_valid cat c (x ∷ l) h = applied_valid cat c l (less_valid cat x l h)
 
 -- the rows with which a module begins
 
@@ -98,12 +94,7 @@ snapshots_valid s sound ts (Did (Records k (Answer txn attempt dm) sends) ∷ l)
     (snapshots s ts l)
     (all_gathered (IsEntry s.catalogue) (items_of s.catalogue (dated s l)) (frags_asked (head (pipe k l))) (λ f. entries_left s.catalogue sound (dated s l) (dated_valid s l first less) f))
     (snapshots_valid s sound ts l first less)
-snapshots_valid s sound ts (Did (Records k r sends) ∷ l) first h = snapshots_valid s sound ts l first (less_valid s.catalogue (Did (Records k r sends)) l h)
-snapshots_valid s sound ts (Did (Sends to m hand) ∷ l) first h = snapshots_valid s sound ts l first (less_valid s.catalogue (Did (Sends to m hand)) l h)
-snapshots_valid s sound ts (Handed from m ∷ l) first h = snapshots_valid s sound ts l first (less_valid s.catalogue (Handed from m) l h)
-snapshots_valid s sound ts (Ticked n ∷ l) first h = snapshots_valid s sound ts l first (less_valid s.catalogue (Ticked n) l h)
-snapshots_valid s sound ts (Submits n text ∷ l) first h = snapshots_valid s sound ts l first (less_valid s.catalogue (Submits n text) l h)
-snapshots_valid s sound ts (Redeclared era t ∷ l) first h = snapshots_valid s sound ts l first (less_valid s.catalogue (Redeclared era t) l h)
+snapshots_valid s sound ts (x ∷ l) first h = snapshots_valid s sound ts l first (less_valid s.catalogue x l h)
 
 put_together : (cat : Catalogue) (start es : Database) → AllByRecursion (IsEntry cat) start → AllByRecursion (IsEntry cat) es
     → AllByRecursion (IsEntry cat) (fold with_item start es)
