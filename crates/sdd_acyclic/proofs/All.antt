@@ -7,7 +7,6 @@ pub use Rattle.sdd_acyclic.specs.System.{Below, Facts, Precedes, System, over}
 pub use Rattle.sdd_acyclic.specs.System.Precedes.{by_class, by_seen, by_unseen, by_writes}
 pub use Rattle.sdd_acyclic.specs.Theorems.{ForestsLeaveNoCycle, ProtocolsLeaveNoCycle}
 pub use Rattle.sdd_acyclic.specs.Undeclared.{Declared, HasBarriers, declared}
-pub use Rattle.sdd_base.proofs.Membership.{Contains-nil}
 pub use Rattle.sdd_base.specs.Numbers.{class_no, frag_no}
 pub use Rattle.sdd_base.specs.Words.{contains}
 pub use Rattle.sdd_base.specs.declared.condition.Cond.{Cond}
@@ -17,7 +16,6 @@ pub use Rattle.sdd_blocks.proofs.ClosedWalks.{closed_walks_are_cycles}
 pub use Rattle.sdd_blocks.proofs.CycleNumbers.{not_zero_on_cycle, same_on_cycle}
 pub use Rattle.sdd_blocks.proofs.Linked.{linked_back, linked_first, linked_on, linked_second}
 pub use Rattle.sdd_blocks.proofs.Numbering.{IsNumberingAt, all_numbered, no_numbers_yet, number_given, number_made}
-pub use Rattle.sdd_blocks.proofs.Walks.{joins_back}
 pub use Rattle.sdd_blocks.specs.Blocks.{AreBlocks, Linked, OnACycle, ShareACycle}
 pub use Rattle.sdd_blocks.specs.Blocks.Linked.{last, more}
 pub use Rattle.sdd_blocks.specs.Graph.{Differ, Has, IsSimpleCycle, IsWalk, Joins, Step, edges_of, nodes_of}
@@ -32,14 +30,14 @@ pub use Rattle.sdd_order.proofs.Paths.{path_as, path_join}
 pub use Rattle.sdd_order.specs.Paths.{IsOrderly, IsPath}
 pub use Rattle.sdd_protocol.proofs.Laws.{one_protocol}
 pub use Rattle.sdd_protocol.proofs.MadeTable.{is_table}
-pub use Rattle.sdd_protocol.proofs.Tables.{all_at, blocks_of, first_block, first_block-vertical, vertical_block-lists}
+pub use Rattle.sdd_protocol.proofs.Tables.{all_at, blocks_of, first_block-vertical, vertical_block-lists}
 pub use Rattle.sdd_protocol.specs.Conditions.{asked_by, asked_in, asked_on, cond_for, cond_of, condition_on, is_asked, is_read_at}
 pub use Rattle.sdd_protocol.specs.Entries.{entry_by, protocol_by}
-pub use Rattle.sdd_protocol.specs.Protocols.{IsTable, diagonal_protocol, is_vertical_of, protocol_in, same_protocol, vertical_block}
+pub use Rattle.sdd_protocol.specs.Protocols.{IsTable, diagonal_protocol, protocol_in, same_protocol, vertical_block}
 pub use Rattle.sdd_protocol.specs.declared.entry.Entry.{Entry}
 pub use Rattle.sdd_protocol.specs.declared.protocol.Protocol.{Protocol}
 pub use Rattle.sdd_protocol.specs.declared.protocol.Protocol.TheVariants.{P1, P2, P3}
-pub use Rattle.std.proofs.Common.{Bool, Contains, List, None, Option, Some, [], ap, arith, cond, eq-eqb, eqb-true, false, filter, filter_map, inl, inr, is_some, length, length-append, length-set, lit<, lit≤, lt-ltb, map, nat_eq as eqb, nat_lt, ne_eqb, not, option_map, refl, replicate, slice_get, slice_index, slice_index_or as get_or, slice_set as set, subst, suc, sym, take_all, true, zero, ℕ, ◌&&◌, ◌*◌, ◌++◌, ◌+◌, ◌-◌, ◌<◌, ◌==◌, ◌||◌, ◌↔◌, ◌∙◌, ◌∷◌, ◌≡◌, ◌≢◌, ◌≤◌, ◌⊎◌}
+pub use Rattle.std.proofs.Common.{Bool, Contains, List, None, Option, Some, [], ap, arith, cond, eq-eqb, eqb-true, false, filter, filter_map, inl, inr, is_some, length, length-append, length-set, lt-ltb, map, nat_eq as eqb, nat_lt, ne_eqb, not, option_map, refl, replicate, rules, slice_get, slice_index, slice_index_or as get_or, slice_set as set, subst, suc, sym, take_all, true, zero, ℕ, ◌&&◌, ◌*◌, ◌++◌, ◌+◌, ◌-◌, ◌<◌, ◌==◌, ◌||◌, ◌↔◌, ◌∙◌, ◌∷◌, ◌≡◌, ◌≢◌, ◌≤◌, ◌⊎◌}
 pub use Rattle.std.proofs.lemmas.Bool.{and_from, and_parts, cases_Bool, cases_eq, cases_lt}
 pub use Rattle.std.proofs.lemmas.List.{get_or-map, get_or_append_left, get_or_push, length-map, length-replicate, length_push}
 pub use Rattle.std.proofs.lemmas.List.Elements.{All-from_recursion, Contains-append_left, Contains-append_right}

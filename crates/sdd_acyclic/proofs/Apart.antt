@@ -3,7 +3,7 @@ use Rattle.sdd_acyclic.proofs.All.{Applies, Catalogue, Declared, Deeds, Entry, E
 use Rattle.sdd_acyclic.proofs.Barriers.{orderly_with_barriers}
 use Rattle.sdd_acyclic.proofs.ByRank.{orderly_by_rank}
 use Rattle.sdd_acyclic.proofs.Covers.{covers}
-use Rattle.sdd_acyclic.proofs.Deeds.{facts, bounds_rise, barriers, answer_at}
+use Rattle.sdd_acyclic.proofs.Deeds.{facts, bounds_rise, barriers}
 use Rattle.sdd_acyclic.proofs.Orderly.{orderly}
 use Rattle.sdd_acyclic.proofs.Over.{precedes_over, precedes_from_over, facts_over}
 use Rattle.sdd_acyclic.proofs.EachTable.{each_table}
@@ -21,18 +21,8 @@ module _ {K : Type 0} (D : Deeds K) (starts : Starts D) (applies : Applies D) (e
       let touches : Touches D x.no d = record { fragment = f; changes = w; copy = starts.copied y f r } in
       let applied = apart.applies x y d l touches in
       let before = applied.before in
-      unseen (record {
-        answer = answer.place;
-        answered = answer.answered;
-        applied = record { place = applied.place; applied = applied.applied; before = omega arith };
-      })
-  never_back x y l (by_seen n f w r seen) =
-      let one = answer_at D starts applies x f seen.answer r seen.answered in
-      let two = apart.commits x y l in
-      let three = starts.starts_first y in
-      let four = applies.apply_after y (D.dm (D.class x.no) f) seen.applied.place seen.applied.applied in
-      let five = seen.applied.before in
-      absurd (omega arith)
+      grind arith
+  never_back x y l (by_seen n f w r seen) = grind arith
 
   era_rises : (x y : Txn D) → Precedes (system D) x y → era x.no ≤ era y.no
   era_rises x y p = elim (cases_lt (era y.no) (era x.no)) [ inl l ↦ absurd (never_back y x l p) | inr l ↦ l ]

@@ -66,16 +66,14 @@ module _ (edges : List (ℕ × ℕ)) where
       ]
 
   mark_bound : (k x : ℕ) → IsMark k x → x ≤ length edges
-  mark_bound k x (off e n) = omega arith
-  mark_bound k x (on j e l f) = omega arith
+  mark_bound k x e = grind arith
 
   mark_on : (k x : ℕ) → IsMark k x → x ≢ 0 → OnACycle edges k
   mark_on k x (off e n) z = absurd (z e)
   mark_on k x (on j e l f) z = linked_second edges j k f.linked
 
   mark_off : (k x : ℕ) → IsMark k x → x ≡ 0 → OnACycle edges k → ⊥
-  mark_off k x (off e n) z c = n c
-  mark_off k x (on j e l f) z c = absurd (omega arith)
+  mark_off k x e z c = grind arith
 
   -- equal marks other than 0 are those of linked edges
   marks_link : (j k x y : ℕ) → IsMark j x → IsMark k y → x ≢ 0 → x ≡ y → Linked edges j k
@@ -113,9 +111,8 @@ module _ (edges : List (ℕ × ℕ)) where
     zeros n = replicate n 0
 
     no_given : (n x : ℕ) → get_or (zeros n) x 0 ≡ 0
-    no_given zero x = refl
-    no_given (suc n) zero = refl
     no_given (suc n) (suc x) = no_given n x
+    no_given _ _ = refl
 
     some_numbers : (count : ℕ) → count ≤ length edges → SomeNumbers count
     some_numbers zero l =

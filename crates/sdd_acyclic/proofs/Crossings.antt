@@ -1,5 +1,5 @@
 -- From a closed path of precedence to a tour of crossings; no tour of two crossings goes both ways along one edge.
-use Rattle.sdd_acyclic.proofs.All.{Below, Bool, ClassNo, Covers, Edge, Facts, FragNo, IsDiagonal, IsHorizontal, IsPath, List, Precedes, System, [], ap, arith, by_class, by_seen, by_unseen, by_writes, cases_eq, cases_lt, class_no, false, frag_no, inl, inr, refl, subst, sym, true, ℕ, ◌<◌, ◌∙◌, ◌∷◌, ◌≡◌, ◌≢◌, ◌≤◌, ◌⊎◌}
+use Rattle.sdd_acyclic.proofs.All.{Below, Bool, Covers, Edge, Facts, IsDiagonal, IsHorizontal, IsPath, List, Precedes, System, [], ap, arith, by_class, by_seen, by_unseen, by_writes, cases_eq, false, inl, inr, refl, subst, sym, true, ℕ, ◌<◌, ◌∙◌, ◌∷◌, ◌≡◌, ◌≢◌, ◌≤◌, ◌⊎◌}
 use Rattle.sdd_acyclic.proofs.Tours.{Crosses, Crossing, Run, below_on, run_on}
 use Rattle.sdd_acyclic.proofs.Tours.Crosses.{write_write, read_write, write_read}
 
@@ -29,39 +29,20 @@ pub record Tour {T : Type 0} (S : System T) (graph : List Edge) : Type 0 where
 -- one edge is one diagonal
 same_diagonal : (graph : List Edge) (k i j f i' j' f' : ℕ) → IsDiagonal graph k i j f
     → IsDiagonal graph k i' j' f' → (i ≡ i') × (j ≡ j') × (f ≡ f')
-same_diagonal graph k i j f i' j' f' p q =
-    let e : class_no i ≡ class_no i' = cc in
-    let g : class_no j ≡ class_no j' = cc in
-    let h : frag_no f ≡ frag_no f' = cc in
-    (ap (λ (z : ClassNo). z.0) e, ap (λ (z : ClassNo). z.0) g, ap (λ (z : FragNo). z.0) h)
+same_diagonal graph k i j f i' j' f' p q = grind arith
 
 -- and no horizontal
 not_both : (graph : List Edge) (k i j a b f : ℕ) → IsHorizontal graph k i j → ¬ IsDiagonal graph k a b f
-not_both graph k i j a b f (inl p) q = cc
-not_both graph k i j a b f (inr p) q = cc
+not_both graph k i j a b f e q = grind arith
 
 module _ {T : Type 0} (S : System T) (facts : Facts S) where
   -- different transactions of which the second is not later
   earlier : (x y : T) → S.name x ≢ S.name y → S.ts y ≤ S.ts x → S.ts y < S.ts x
-  earlier x y n l = elim (cases_lt (S.ts y) (S.ts x)) [
-    | inl h ↦ h
-    | inr h ↦ absurd (n (facts.one_time x y (omega arith)))
-  ]
+  earlier x y n l = grind arith
 
   -- within a class what precedes is earlier
   one_class : (x y : T) → Precedes S x y → S.class x ≡ S.class y → S.ts x < S.ts y
-  one_class x y (by_class n c l) e = l
-  one_class x y (by_writes n f a b l) e = l
-  one_class x y (by_unseen n f a b u) e =
-      elim (cases_lt (S.ts x) (S.ts y)) [
-        | inl l ↦ l
-        | inr l ↦ absurd (u (facts.own_earlier y x f (sym e) (earlier x y n l) b a))
-      ]
-  one_class x y (by_seen n f a b s) e =
-      elim (cases_lt (S.ts x) (S.ts y)) [
-        | inl l ↦ l
-        | inr l ↦ absurd (facts.own_later x y f e l b s)
-      ]
+  one_class x y h e = grind arith
 
   -- a writer is not seen by the later reader where a later writer is seen by the earlier reader
   clash : (w w' r r' : T) (f : ℕ) → Below S w w' → Below S r r' → S.Changes w f → S.Reads r f
@@ -100,9 +81,7 @@ module _ {T : Type 0} (S : System T) (facts : Facts S) where
 
     -- two crossings that close a tour go along different edges
     pub two_edges : (k l : Crossing S graph) → Run S graph k (l ∷ []) k.from → k.edge ≢ l.edge
-    two_edges k l r e =
-        both_ways k.from k.to l.from l.to k.edge k.out k.into l.out l.into k.apart r.0 r.1 k.crosses
-        (subst (λ z. Crosses S graph l.from l.to z l.out l.into) (sym e) l.crosses)
+    two_edges k l r e = grind (arith, both_ways)
 
     module _ (covers : Covers S graph) where
       same : (x y : T) → x ≡ y → Below S x y

@@ -1,23 +1,18 @@
 -- Which edges of a graph are linked can be decided, so every graph has block numbers.
-use Rattle.sdd_acyclic.proofs.All.{AllByRecursion, AreBlocks, Differ, Has, IsDistinct-cons, IsSimpleCycle, IsWalk, Joins, Linked, List, None, Option, ShareACycle, Some, Step, [], ap, arith, cases_Bool, cases_eq, cases_lt, edges_of, eqb, eqb-true, false, inl, inr, last, length, length-le_from_distinct_below, list_any, more, ne_eqb, nodes_of, refl, same_Some, slice_get, slice_get_within, subst, suc, sym, true, zero, ℕ, ◌+◌, ◌<◌, ◌∙◌, ◌∷◌, ◌≡◌, ◌≤◌, ◌⊎◌}
+use Rattle.sdd_acyclic.proofs.All.{AllByRecursion, AreBlocks, Differ, Has, IsDistinct-cons, IsSimpleCycle, IsWalk, Joins, Linked, List, Option, ShareACycle, Some, Step, [], ap, arith, cases_Bool, cases_eq, cases_lt, edges_of, eqb, eqb-true, false, inl, inr, last, length, length-le_from_distinct_below, list_any, more, ne_eqb, refl, rules, slice_get, slice_get_within, subst, suc, sym, true, zero, ℕ, ◌+◌, ◌<◌, ◌∷◌, ◌≡◌, ◌≤◌, ◌⊎◌}
 use Rattle.std.specs.List.{IsDistinct}
 use Rattle.sdd_acyclic.proofs.BlocksBy.{Decided, blocks_by}
 
 -- what is decided of numbers and lists
 
 both : {A B : Type 0} → Decided A → Decided B → Decided (A × B)
-both (inr none) b = inr (λ p. none p.0)
-both (inl a) (inr none) = inr (λ p. none p.1)
-both (inl a) (inl b) = inl (a, b)
+both e b = grind arith
 
 either : {A B : Type 0} → Decided A → Decided B → Decided (A ⊎ B)
-either (inl a) b = inl (inl a)
-either (inr none) (inl b) = inl (inr b)
-either (inr none) (inr neither) = inr (λ s. elim s [ inl a ↦ none a | inr b ↦ neither b ])
+either e b = grind arith
 
 negated : {A : Type 0} → Decided A → Decided (A → ⊥)
-negated (inl a) = inr (λ none. none a)
-negated (inr none) = inl none
+negated e = grind arith
 
 same : (a b : ℕ) → Decided (a ≡ b)
 same a b = elim (cases_eq a b) [ inl e ↦ inl e | inr other ↦ inr other ]
@@ -94,8 +89,7 @@ top (e ∷ edges) = suc (e.0 + e.1) + top edges
 
 ends_below : (edges : List (ℕ × ℕ)) (k a b : ℕ) → slice_get edges k ≡ Some (a, b) → (a < top edges) × (b < top edges)
 ends_below [] k a b e = absurd cc
-ends_below ((x, y) ∷ edges) zero a b e =
-    let p = same_Some (x, y) (a, b) e in let f : x ≡ a = ap (λ (q : ℕ × ℕ). q.0) p in let g : y ≡ b = ap (λ (q : ℕ × ℕ). q.1) p in (omega (arith, f), omega (arith, g))
+ends_below ((x, y) ∷ edges) zero a b e = grind arith
 ends_below (p ∷ edges) (suc k) a b e = let r = ends_below edges k a b e in let f = r.0 in let g = r.1 in (omega (arith, f), omega (arith, g))
 
 -- the edges of small steps, of which no two are one
@@ -127,14 +121,7 @@ module _ (edges : List (ℕ × ℕ)) where
     pub to : b < top edges
 
   joins_by : (o : Option (ℕ × ℕ)) (a b : ℕ) → Decided (o ≡ Some (a, b))
-  joins_by None a b = inr (λ e. absurd cc)
-  joins_by (Some (x, y)) a b = elim (same x a) [
-    | inl p ↦ elim (same y b) [
-      | inl q ↦ inl (ap (λ z. Some (z, y)) p ∙ ap (λ z. Some (a, z)) q)
-      | inr other ↦ inr (λ e. other (ap (λ (r : ℕ × ℕ). r.1) (same_Some (x, y) (a, b) e)))
-    ]
-    | inr other ↦ inr (λ e. other (ap (λ (r : ℕ × ℕ). r.0) (same_Some (x, y) (a, b) e)))
-  ]
+  joins_by o a b = grind arith
 
   joins : (k a b : ℕ) → Decided (Joins edges k a b)
   joins k a b = either (joins_by (slice_get edges k) a b) (joins_by (slice_get edges k) b a)
@@ -147,10 +134,7 @@ module _ (edges : List (ℕ × ℕ)) where
   two_or_more n = elim (cases_lt n 2) [ inl less ↦ inr (λ far. absurd (omega (arith, less, far))) | inr far ↦ inl (omega (arith, far)) ]
 
   cycle : (start : ℕ) (steps : List Step) → Decided (IsSimpleCycle edges start steps)
-  cycle start steps = elim (both (both (walk start start steps) (two_or_more (length steps))) (both (differ (edges_of steps)) (differ (nodes_of steps)))) [
-    | inl p ↦ inl (record { closed = p.0.0; long = p.0.1; edges_differ = p.1.0; nodes_differ = p.1.1 })
-    | inr none ↦ inr (λ c. none ((c.closed, c.long), (c.edges_differ, c.nodes_differ)))
-  ]
+  cycle start steps = grind (arith, walk, differ)
 
   -- the steps of a walk are small
 
@@ -235,8 +219,7 @@ module _ (edges : List (ℕ × ℕ)) where
 
   at_middle : (m j k l : ℕ) → k ≡ m → ShareACycle edges j k → (Through m k l ⊎ (Through m k m × Through m m l))
       → Through m j l ⊎ (Through m j m × Through m m l)
-  at_middle m j k l e c (inl r) = inr (subst (Through m j) e (ends c), subst (λ x. Through m x l) e r)
-  at_middle m j k l e c (inr p) = inr (subst (Through m j) e (ends c), p.1)
+  at_middle m j k l e c h = search (rules, ends)
 
   parted : (m j l : ℕ) → Through (suc m) j l → Through m j l ⊎ (Through m j m × Through m m l)
   parted m j l (ends c) = inl (ends c)
@@ -246,8 +229,7 @@ module _ (edges : List (ℕ × ℕ)) where
   ]
 
   no_goes : (j l : ℕ) → Through 0 j l → ShareACycle edges j l
-  no_goes j l (ends c) = c
-  no_goes j l (goes {k = k} c less rest) = absurd (omega (arith, less))
+  no_goes j l e = grind arith
 
   through : (m j l : ℕ) → Decided (Through m j l)
   through zero j l = elim (share j l) [ inl c ↦ inl (ends c) | inr none ↦ inr (λ t. none (no_goes j l t)) ]

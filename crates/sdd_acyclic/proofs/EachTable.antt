@@ -5,9 +5,8 @@ use Rattle.sdd_protocol.proofs.Tables.{edges_of}
 
 -- the entries of edges with their blocks
 abbrev entries_by : List ℕ → List Edge → List ℕ → List Entry
-entries_by all [] blocks = []
-entries_by all (e ∷ edges) [] = []
 entries_by all (e ∷ edges) (b ∷ blocks) = entry_by all e b ∷ entries_by all edges blocks
+entries_by all _ _ = []
 
 edges_are : (all : List ℕ) (edges : List Edge) (blocks : List ℕ) → length blocks ≡ length edges
     → edges_of (entries_by all edges blocks) ≡ edges
@@ -18,15 +17,13 @@ edges_are all (e ∷ edges) (b ∷ blocks) l = ap (λ z. e ∷ z) (edges_are all
 blocks_are : (all : List ℕ) (edges : List Edge) (blocks : List ℕ) → length blocks ≡ length edges
     → blocks_of (entries_by all edges blocks) ≡ blocks
 blocks_are all [] [] l = refl
-blocks_are all [] (b ∷ blocks) l = absurd (omega arith)
-blocks_are all (e ∷ edges) [] l = absurd (omega arith)
 blocks_are all (e ∷ edges) (b ∷ blocks) l = ap (λ z. b ∷ z) (blocks_are all edges blocks (omega arith))
+blocks_are all _ _ l = absurd (omega arith)
 
 protocols_are : (all : List ℕ) (edges : List Edge) (blocks : List ℕ)
     → AllByRecursion (λ x. x.protocol ≡ protocol_by all x.edge x.block) (entries_by all edges blocks)
-protocols_are all [] blocks = tt
-protocols_are all (e ∷ edges) [] = tt
 protocols_are all (e ∷ edges) (b ∷ blocks) = (refl, protocols_are all edges blocks)
+protocols_are all _ _ = tt
 
 table_by : (cat : Catalogue) (blocks : List ℕ) → AreBlocks (map ends (conflict_graph cat)) blocks
     → IsTable cat (entries_by blocks (conflict_graph cat) blocks)

@@ -1,5 +1,5 @@
 -- Along the walk of a tour whose edges lie in one block a level rises.
-use Rattle.sdd_acyclic.proofs.All.{Below, Bool, Edge, Facts, Has, List, Step, System, Waits, [], ap, arith, cond, edges_of, eq-eqb, false, inl, inr, refl, slice_index, subst, sym, true, ℕ, ◌*◌, ◌+◌, ◌-◌, ◌<◌, ◌==◌, ◌∙◌, ◌∷◌, ◌≡◌, ◌≢◌, ◌≤◌}
+use Rattle.sdd_acyclic.proofs.All.{Below, Bool, Edge, Facts, Has, List, Step, System, Waits, [], arith, cond, edges_of, false, inr, rules, slice_index, sym, true, ℕ, ◌*◌, ◌+◌, ◌-◌, ◌<◌, ◌==◌, ◌∷◌, ◌≡◌, ◌≢◌, ◌≤◌}
 use Rattle.sdd_acyclic.proofs.Tours.{Crosses, Crossing, Run}
 use Rattle.sdd_acyclic.proofs.Tours.Crosses.{write_write, read_write, write_read}
 use Rattle.sdd_acyclic.proofs.Walks.{turn, stretch, walk}
@@ -16,23 +16,17 @@ LieIn blocks n steps = (j : ℕ) → Has (edges_of steps) j → slice_index bloc
 
 turn_rest : (blocks : List ℕ) (n c : ℕ) (a b : Bool) (rest : List Step)
     → LieIn blocks n (turn c a b rest) → LieIn blocks n rest
-turn_rest blocks n c true true rest h = h
-turn_rest blocks n c true false rest h = λ j m. h j (inr m)
-turn_rest blocks n c false true rest h = λ j m. h j (inr m)
-turn_rest blocks n c false false rest h = h
+turn_rest blocks n c a b rest h = grind arith
 
 -- not seen: the reader's time is at most the writer's
 unseen : (b : Bool) (t s p : ℕ) → t ≢ s → ¬ (s < cond b t p) → cond b (2 * t + 1) (2 * p) < 2 * s + 1
-unseen true t s p n h = omega arith
-unseen false t s p n h = omega arith
+unseen b t s p n h = grind arith
 
 seen : (b : Bool) (t s p : ℕ) → s < cond b t p → 2 * s + 1 < cond b (2 * t + 1) (2 * p)
-seen true t s p h = omega arith
-seen false t s p h = omega arith
+seen b t s p h = grind arith
 
 within : (b : Bool) (s t p q : ℕ) → s ≤ t → p ≤ q → cond b (2 * s + 1) (2 * p) ≤ cond b (2 * t + 1) (2 * q)
-within true s t p q h g = omega arith
-within false s t p q h g = omega arith
+within b s t p q h g = grind arith
 
 module _ {T : Type 0} (S : System T) (graph : List Edge) (blocks : List ℕ) (facts : Facts S)
     (waits : Waits S graph blocks) where
@@ -52,33 +46,11 @@ module _ {T : Type 0} (S : System T) (graph : List Edge) (blocks : List ℕ) (fa
   -- within a class the level does not fall, from one node to another where the vertical edge lies in the block
   turn_rises : (n : ℕ) (x y : T) (a b : Bool) (rest : List Step) → Below S x y
       → LieIn blocks n (turn (S.class y) a b rest) → level S blocks n x a ≤ level S blocks n y b
-  turn_rises n x y true true rest h g =
-      subst (λ z. cond (slice_index blocks (z - 1) == n) (2 * S.ts x + 1)
-      (2 * S.p2 x) ≤ level S blocks n y true) (sym h.class)
-      (within (slice_index blocks (S.class y - 1) == n) (S.ts x) (S.ts y) (S.p2 x) (S.p2 y) h.time
-      (waits.rises x y h.class h.time))
-  turn_rises n x y true false rest h g =
-      let e : (slice_index blocks (S.class x - 1) == n) ≡ true =
-      eq-eqb (slice_index blocks (S.class x - 1)) n
-      (ap (λ z. slice_index blocks (z - 1)) h.class ∙ g (S.class y - 1) (inl refl)) in
-      subst (λ z. cond z (2 * S.ts x + 1) (2 * S.p2 x) ≤ 2 * S.ts y + 1) (sym e) (omega arith)
-  turn_rises n x y false true rest h g =
-      let e : (slice_index blocks (S.class y - 1) == n) ≡ true =
-      eq-eqb (slice_index blocks (S.class y - 1)) n (g (S.class y - 1) (inl refl)) in
-      subst (λ z. 2 * S.ts x + 1 ≤ cond z (2 * S.ts y + 1) (2 * S.p2 y)) (sym e) (omega arith)
-  turn_rises n x y false false rest h g = omega arith
+  turn_rises n x y a b rest h g = grind arith
 
   stretch_rises : (n : ℕ) (k l : Crossing S graph) (rest : List Step) → n ≢ 0 → Below S k.to l.from
       → LieIn blocks n (stretch S graph k l rest) → level S blocks n k.from k.out < level S blocks n l.from l.out
-  stretch_rises n k l rest z b h =
-      let e : slice_index blocks k.edge ≡ n = h k.edge (inl refl) in
-      let up : level S blocks n k.from k.out < level S blocks n k.to k.into =
-      subst (λ m. level S blocks m k.from k.out < level S blocks m k.to k.into) e
-      (crossing_rises k.from k.to k.edge k.out k.into k.crosses k.other k.apart
-      (λ t. z (sym e ∙ t))) in
-      let on : level S blocks n k.to k.into ≤ level S blocks n l.from l.out =
-      turn_rises n k.to l.from k.into l.out rest b (λ j m. h j (inr m)) in
-      omega arith
+  stretch_rises n k l rest z b h = search (rules, crossing_rises)
 
   stretch_rest : (n : ℕ) (k l : Crossing S graph) (rest : List Step)
       → LieIn blocks n (stretch S graph k l rest) → LieIn blocks n rest

@@ -1,5 +1,5 @@
 -- What holds of transactions holds of some of them.
-use Rattle.sdd_acyclic.proofs.All.{Facts, Precedes, System, by_class, by_seen, by_unseen, by_writes, over}
+use Rattle.sdd_acyclic.proofs.All.{Facts, Precedes, System, by_class, by_seen, by_unseen, by_writes, over, rules}
 
 module _ {A B : Type 0} (f : B → A) (S : System A) where
   -- precedence among them is the same
@@ -16,11 +16,4 @@ module _ {A B : Type 0} (f : B → A) (S : System A) where
   precedes_from_over x y (by_seen n g a b s) = by_seen n g a b s
 
   pub facts_over : Facts S → Facts (over f S)
-  facts_over h =
-      record {
-        one_time = λ x y. h.one_time (f x) (f y);
-        own_earlier = λ x y. h.own_earlier (f x) (f y);
-        own_later = λ x y. h.own_later (f x) (f y);
-        writers_below = λ x x' y g b. h.writers_below (f x) (f x') (f y) g (record { class = b.class; time = b.time });
-        readers_above = λ x y y' g b. h.readers_above (f x) (f y) (f y') g (record { class = b.class; time = b.time });
-      }
+  facts_over h = search rules

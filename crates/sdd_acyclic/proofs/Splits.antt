@@ -1,5 +1,5 @@
 -- What a reader sees of the writers of a block: those below its time.
-use Rattle.sdd_acyclic.proofs.All.{Bool, Catalogue, ClassNo, Cond, Contains, Contains-filter_map, Contains-map, Contains-nil, Diagonal, Edge, Entry, FitsSystem, FragNo, Horizontal, IsClassOf, IsDiagonal, IsTable, List, Meets, None, Option, P1, P2, P3, Protocol, Some, System, Vertical, Waits, [], all_at, and_from, and_parts, ap, arith, asked_by, asked_in, asked_on, blocks_of, cases_Bool, cases_eq, class_no, cond, cond_for, cond_of, condition_on, conflict_graph, cons_option, contains, diagonal_edges, diagonal_protocol, ends, eq-eqb, eqb-true, false, filter_map, first_block, first_block-vertical, frag_no, get_or, get_or-map, horizontal_edges, inl, inr, is_asked, is_read_at, is_vertical_of, length, length-append, length-map, length-map-range_with_len, list_any, map, ne_eqb, numbers_to, one_protocol, option_eq, option_map, option_or, passes_member, protocol_in, refl, same_Some, same_protocol, slice_get, slice_get-get_or, slice_get-map, slice_get_within, slice_index, subst, suc, sym, time_in, true, vertical_block, vertical_block-lists, vertical_edges, zero, ℕ, ◌&&◌, ◌++◌, ◌+◌, ◌-◌, ◌<◌, ◌==◌, ◌||◌, ◌↔◌, ◌∙◌, ◌∷◌, ◌≡◌, ◌≢◌, ◌≤◌}
+use Rattle.sdd_acyclic.proofs.All.{Bool, Catalogue, ClassNo, Cond, Contains, Contains-filter_map, Contains-map, Diagonal, Edge, Entry, FitsSystem, FragNo, Horizontal, IsClassOf, IsDiagonal, IsTable, List, Meets, None, Option, P1, P2, P3, Protocol, Some, System, Vertical, Waits, [], all_at, and_from, and_parts, ap, arith, asked_by, asked_in, asked_on, blocks_of, cases_Bool, class_no, cond, cond_for, cond_of, condition_on, conflict_graph, cons_option, contains, diagonal_edges, diagonal_protocol, ends, eq-eqb, eqb-true, false, filter_map, first_block-vertical, frag_no, get_or, get_or-map, horizontal_edges, inl, inr, is_asked, is_read_at, length, length-append, length-map, length-map-range_with_len, list_any, map, numbers_to, one_protocol, option_eq, option_map, option_or, passes_member, protocol_in, refl, same_Some, same_protocol, slice_get, slice_get-get_or, slice_get-map, slice_get_within, slice_index, subst, suc, sym, time_in, true, vertical_block, vertical_block-lists, vertical_edges, zero, ℕ, ◌&&◌, ◌++◌, ◌+◌, ◌-◌, ◌<◌, ◌==◌, ◌||◌, ◌↔◌, ◌∙◌, ◌∷◌, ◌≡◌, ◌≢◌, ◌≤◌}
 use Rattle.sdd_acyclic.proofs.Covers.{class_is}
 use Rattle.sdd_protocol.proofs.Tables.{edges_of}
 
@@ -36,9 +36,7 @@ not_asked_on test i j (Diagonal a b f) n =
     ]
 
 is_third : (protocol : Protocol) → same_protocol protocol P3 ≡ true → protocol ≡ P3
-is_third P1 e = cc
-is_third P2 e = cc
-is_third P3 e = refl
+is_third protocol e = grind arith
 
 not_asked_here : (test : ℕ → Bool) (i j : ℕ) (x : Entry) → (IsBetween i j x.edge → x.protocol ≡ P3 → ⊥)
     → asked_in P3 test i j x ≡ None
@@ -59,8 +57,7 @@ filter_map_none f (x ∷ xs) h =
 -- a condition for fragments is there where there are some
 cond_there : (j t : ℕ) (frags : List FragNo) (f : FragNo) → Contains frags f
     → cond_for j t frags ≡ Some (cond_of j t frags)
-cond_there j t [] f h = absurd (Contains-nil f h)
-cond_there j t (g ∷ frags) f h = refl
+cond_there j t frags f h = grind arith
 
 pub names_fragment : (frags : List FragNo) (f : FragNo) → Contains frags f → contains (map (λ g. g.0) frags) f.0 ≡ true
 names_fragment frags f h =
@@ -74,12 +71,7 @@ any_of_map p g (x ∷ xs) = ap (λ b. p (g x) || b) (any_of_map p g xs)
 
 -- the protocol of a diagonal by its block
 by_block : (here own : ℕ) → here ≢ 0 → diagonal_protocol here own ≡ cond (own == here) P3 P2
-by_block here own n =
-    ap (λ z. cond z P1 (cond (here == own) P3 P2)) (ne_eqb here 0 n)
-    ∙ elim (cases_eq own here) [
-      | inl e ↦ ap (λ z. cond z P3 P2) (eq-eqb here own (sym e) ∙ sym (eq-eqb own here e))
-      | inr d ↦ ap (λ z. cond z P3 P2) (ne_eqb here own (λ e. d (sym e)) ∙ sym (ne_eqb own here d))
-    ]
+by_block here own n = grind arith
 
 -- a condition on class j up to time t, for a fragment among others
 pub record Asks (found : Option Cond) (j t f : ℕ) : Type 0 where
@@ -118,9 +110,7 @@ module _ (era : Catalogue) (entries : List Entry) (table : IsTable era entries) 
       omega (arith, length-append (vertical_edges era) rest, length-map-range_with_len (λ z. Vertical (class_no z)) 1 (length era.classes)) in
       let long : length (blocks_of entries) ≡ length (conflict_graph era) =
       table.blocks.one_each ∙ length-map (conflict_graph era) ends in
-      vertical_block-lists entries i
-      ∙ ap (λ z. first_block (is_vertical_of i) z (blocks_of entries)) table.edges
-      ∙ first_block-vertical (length era.classes) 1 (i - 1) i rest (blocks_of entries) (omega arith) (omega arith) (omega arith)
+      grind (arith, vertical_block-lists, first_block-vertical)
 
   -- the entry of a diagonal in a block has P3 where the edge of its reader's nodes lies in the block, else P2
   pub record IsDiagonalEntry (i j f k : ℕ) : Type 0 where

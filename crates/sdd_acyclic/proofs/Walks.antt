@@ -1,7 +1,6 @@
 -- The walk of a tour in the conflict graph.
-use Rattle.sdd_acyclic.proofs.All.{Below, Bool, Covers, Diagonal, Differ, Edge, Has, Horizontal, IsSimpleCycle, IsWalk, Joins, List, Some, Step, System, Vertical, [], ap, arith, class_no, closed_walks_are_cycles, ends, false, frag_no, inl, inr, joins_back, map, nodes_of, option_map, read_node, refl, slice_get, slice_get-map, subst, sym, true, write_node, ℕ, ◌-◌, ◌∙◌, ◌∷◌, ◌≡◌, ◌≢◌, ◌≤◌}
+use Rattle.sdd_acyclic.proofs.All.{Below, Bool, Covers, Differ, Edge, Has, IsSimpleCycle, IsWalk, Joins, List, Some, Step, System, [], ap, arith, closed_walks_are_cycles, ends, false, inl, inr, map, nodes_of, option_map, read_node, refl, slice_get, slice_get-map, subst, sym, true, write_node, ℕ, ◌-◌, ◌∙◌, ◌∷◌, ◌≡◌, ◌≢◌, ◌≤◌}
 use Rattle.sdd_acyclic.proofs.Tours.{Crosses, Crossing, Run, classes}
-use Rattle.sdd_acyclic.proofs.Tours.Crosses.{write_write, read_write, write_read}
 
 -- the graph, as pairs of nodes
 abbrev pub pairs : List Edge → List (ℕ × ℕ)
@@ -13,29 +12,17 @@ node c true = read_node c
 node c false = write_node c
 
 one_class : (c d : ℕ) (x y : Bool) → 1 ≤ c → 1 ≤ d → node c x ≡ node d y → c ≡ d
-one_class c d true true p q e = omega arith
-one_class c d true false p q e = omega arith
-one_class c d false true p q e = omega arith
-one_class c d false false p q e = omega arith
+one_class c d x y p q e = grind arith
 
 -- within a class from one of its nodes to the other, where they differ
 abbrev pub turn : ℕ → Bool → Bool → List Step → List Step
-turn c true true rest = rest
 turn c true false rest = record { edge = c - 1; to = write_node c } ∷ rest
 turn c false true rest = record { edge = c - 1; to = read_node c } ∷ rest
-turn c false false rest = rest
+turn c _ _ rest = rest
 
 -- no step leads to a node of the class
 abbrev pub Avoids : ℕ → List Step → Type 0
 Avoids c steps = (b : Bool) → ¬ Has (nodes_of steps) (node c b)
-
-turn_avoids : (c d : ℕ) (a b : Bool) (rest : List Step) → 1 ≤ c → 1 ≤ d → c ≢ d → Avoids c rest
-    → Avoids c (turn d a b rest)
-turn_avoids c d true true rest p q n h = h
-turn_avoids c d true false rest p q n h =
-    λ z m. elim m [ inl e ↦ n (sym (one_class d c false z q p e)) | inr k ↦ h z k ]
-turn_avoids c d false true rest p q n h = λ z m. elim m [ inl e ↦ n (sym (one_class d c true z q p e)) | inr k ↦ h z k ]
-turn_avoids c d false false rest p q n h = h
 
 -- the nodes at which the class is entered and left differ
 turn_differs : (c : ℕ) (a b : Bool) (rest : List Step) → 1 ≤ c → Avoids c rest
@@ -51,20 +38,16 @@ closed_turn : (edges : List (ℕ × ℕ)) (start : ℕ) (first : Step) (c : ℕ)
     → IsWalk edges start (first ∷ turn c a b (s ∷ rest)) start
     → Differ (nodes_of (first ∷ turn c a b (s ∷ rest))) → (rest ≡ [] → first.edge ≢ s.edge)
     → IsSimpleCycle edges start (first ∷ turn c a b (s ∷ rest))
-closed_turn edges start first c true true s rest w d n = closed_walks_are_cycles edges start first s rest w d n
 closed_turn edges start first c true false s rest w d n =
     closed_walks_are_cycles edges start first (record { edge = c - 1; to = write_node c })
     (s ∷ rest) w d (λ e. cc)
 closed_turn edges start first c false true s rest w d n =
     closed_walks_are_cycles edges start first (record { edge = c - 1; to = read_node c })
     (s ∷ rest) w d (λ e. cc)
-closed_turn edges start first c false false s rest w d n = closed_walks_are_cycles edges start first s rest w d n
+closed_turn edges start first c _ _ s rest w d n = closed_walks_are_cycles edges start first s rest w d n
 
 turn_some : (c : ℕ) (a b : Bool) (s : Step) (rest : List Step) → turn c a b (s ∷ rest) ≢ []
-turn_some c true true s rest e = cc
-turn_some c true false s rest e = cc
-turn_some c false true s rest e = cc
-turn_some c false false s rest e = cc
+turn_some c a b s rest e = grind arith
 
 module _ {T : Type 0} (S : System T) (graph : List Edge) where
   -- along the edge of k, and on to the node at which l leaves the class
@@ -82,37 +65,17 @@ module _ {T : Type 0} (S : System T) (graph : List Edge) where
 
   joins : (x y : T) (k : ℕ) (a b : Bool) → Crosses S graph x y k a b
       → Joins (pairs graph) k (node (S.class x) a) (node (S.class y) b)
-  joins x y k _ _ (write_write l (inl e)) = joins_at k (Horizontal (class_no (S.class x)) (class_no (S.class y))) e
-  joins x y k _ _ (write_write l (inr e)) =
-      joins_back (pairs graph) k (write_node (S.class y)) (write_node (S.class x))
-      (joins_at k (Horizontal (class_no (S.class y)) (class_no (S.class x))) e)
-  joins x y k _ _ (read_write f r w u e) =
-      joins_at k (Diagonal (class_no (S.class x)) (class_no (S.class y)) (frag_no f)) e
-  joins x y k _ _ (write_read f w r s e) =
-      joins_back (pairs graph) k (read_node (S.class y)) (write_node (S.class x))
-      (joins_at k (Diagonal (class_no (S.class y)) (class_no (S.class x)) (frag_no f)) e)
+  joins x y k a b e = grind (arith, joins_at)
 
   module _ (covers : Covers S graph) where
     turns : (x : T) (a b : Bool) (rest : List Step) (to : ℕ) → IsWalk (pairs graph) (node (S.class x) b) rest to
         → IsWalk (pairs graph) (node (S.class x) a) (turn (S.class x) a b rest) to
-    turns x true true rest to w = w
-    turns x true false rest to w = (joins_at (S.class x - 1) (Vertical (class_no (S.class x))) (covers.vertical x), w)
-    turns x false true rest to w = (
-      joins_back (pairs graph) (S.class x - 1)
-          (read_node (S.class x)) (write_node (S.class x))
-          (joins_at (S.class x - 1) (Vertical (class_no (S.class x))) (covers.vertical x)),
-      w,
-    )
-    turns x false false rest to w = w
+    turns x a b rest to w = grind (arith, joins_at)
 
     stretches : (k l : Crossing S graph) (rest : List Step) (to : ℕ) → Below S k.to l.from
         → IsWalk (pairs graph) (node (S.class l.from) l.out) rest to
         → IsWalk (pairs graph) (node (S.class k.from) k.out) (stretch k l rest) to
-    stretches k l rest to b w = (
-      subst (λ z. Joins (pairs graph) k.edge (node (S.class k.from) k.out) (node z k.into)) b.class
-          (joins k.from k.to k.edge k.out k.into k.crosses),
-      turns l.from k.into l.out rest to w,
-    )
+    stretches k l rest to b w = grind (arith, joins, turns)
 
     is_walk : (k : Crossing S graph) (w : List (Crossing S graph)) (l : Crossing S graph)
         → Run S graph k w l.from → IsWalk (pairs graph) (node (S.class k.from) k.out) (walk k w l)
@@ -122,11 +85,7 @@ module _ {T : Type 0} (S : System T) (graph : List Edge) where
 
     stretch_avoids : (c : ℕ) (k l : Crossing S graph) (rest : List Step) → 1 ≤ c
         → c ≢ S.class l.from → Avoids c rest → Avoids c (stretch k l rest)
-    stretch_avoids c k l rest p n h z m =
-        elim m [
-          | inl e ↦ n (sym (one_class (S.class l.from) c k.into z (covers.declared l.from) p e))
-          | inr q ↦ turn_avoids c (S.class l.from) k.into l.out rest p (covers.declared l.from) n h z q
-        ]
+    stretch_avoids c k l rest p n h z m = grind arith
 
     -- a walk comes to the classes of its crossings only
     walk_avoids : (c : ℕ) (k : Crossing S graph) (w : List (Crossing S graph))

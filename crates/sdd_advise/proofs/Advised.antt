@@ -1,5 +1,5 @@
 -- The advices that two searches give.
-use Rattle.sdd_advise.proofs.All.{Advice, All, All-contains, AllZip, AreAdvices, AreReached, Catalogue, ClassNo, Contains, Diagonal, Differ, Edge, EndsWith, GoesAlong, Has, Horizontal, IsAway, IsClosed, IsCycleFrom, IsOther, IsReadOf, IsWalk, IsWay, Joins, LieApart, List, NamesClasses, None, Option, P1, P2, P3, ShowsFor, ShowsP1, ShowsP2, ShowsP3, Some, Step, Vertical, [], advice_of, ap, arith, conflict_graph, cycle_at, edges_differ, edges_of, ends, false≢true, filter, filter_more, get_or, get_push_last, inl, inr, is_diagonal, is_some, length, length_push, map, nodes_of, place_of, placed_nodes, refl, same_Some, slice_get, subst, sym, take, take_all, true, ℕ, ◌++◌, ◌+◌, ◌-◌, ◌<◌, ◌∙◌, ◌∷◌, ◌≡◌, ◌≢◌, ◌≤◌}
+use Rattle.sdd_advise.proofs.All.{Advice, All, All-contains, AllZip, AreAdvices, AreReached, Catalogue, ClassNo, Contains, Diagonal, Differ, Edge, EndsWith, GoesAlong, Has, Horizontal, IsAway, IsClosed, IsCycleFrom, IsOther, IsReadOf, IsWalk, IsWay, Joins, LieApart, List, NamesClasses, None, Option, P1, P2, P3, ShowsFor, ShowsP1, ShowsP2, ShowsP3, Some, Step, Vertical, [], advice_of, ap, arith, conflict_graph, cycle_at, edges_differ, edges_of, ends, false≢true, filter, filter_more, get_or, get_push_last, inl, inr, is_diagonal, is_some, length, length_push, map, nat_tests, nodes_of, place_of, placed_nodes, refl, same_Some, slice_get, subst, sym, take, take_all, true, ℕ, ◌++◌, ◌+◌, ◌-◌, ◌<◌, ◌∙◌, ◌∷◌, ◌≡◌, ◌≢◌, ◌≤◌}
 use Rattle.sdd_advise.proofs.Ascending.{contained_passes}
 use Rattle.sdd_advise.proofs.Edges.{joins_at, joins_from}
 use Rattle.sdd_advise.proofs.Members.{place_in}
@@ -17,43 +17,36 @@ apart_from places node none m =
 -- steps along edges that pass
 along_goes : (edges : List Edge) (Goes : Edge → Type 0) (steps : List Step) (way : List Edge)
     → AllZip (λ step edge. GoesAlong edges step edge × Goes edge) steps way → AllZip (GoesAlong edges) steps way
-along_goes edges Goes [] [] z = tt
-along_goes edges Goes [] (x ∷ way) z = absurd z
-along_goes edges Goes (s ∷ steps) [] z = absurd z
 along_goes edges Goes (s ∷ steps) (x ∷ way) z = (z.0.0, along_goes edges Goes steps way z.1)
+along_goes edges _ _ _ z = grind (arith, nat_tests)
 
 along_push : (edges : List Edge) (steps : List Step) (way : List Edge) (s : Step) (x : Edge)
     → AllZip (GoesAlong edges) steps way → GoesAlong edges s x
     → AllZip (GoesAlong edges) (steps ++ s ∷ []) (way ++ x ∷ [])
-along_push edges [] [] s x z g = (g, tt)
-along_push edges [] (y ∷ way) s x z g = absurd z
-along_push edges (t ∷ steps) [] s x z g = absurd z
 along_push edges (t ∷ steps) (y ∷ way) s x z g = (z.0, along_push edges steps way s x z.1 g)
+along_push edges _ _ s x z g = grind (arith, nat_tests)
 
 -- don't go along the edge that is left out
 edge_avoided : (edges : List Edge) (e : Edge) (k : ℕ) (steps : List Step) (way : List Edge) → slice_get edges k ≡ Some e
     → AllZip (λ step edge. GoesAlong edges step edge × IsOther e edge) steps way → ¬ Has (edges_of steps) k
-edge_avoided edges e k [] way at z h = h
-edge_avoided edges e k (s ∷ steps) [] at z h = absurd z
 edge_avoided edges e k (s ∷ steps) (x ∷ way) at z (inl p) =
     z.0.1 (same_Some x e (sym z.0.0 ∙ ap (λ j. slice_get edges j) p ∙ at))
 edge_avoided edges e k (s ∷ steps) (x ∷ way) at z (inr h) = edge_avoided edges e k steps way at z.1 h
+edge_avoided edges e k _ _ at z h = omega arith
 
 end_away : (e : Edge) (a b node : ℕ) → Joins e a b → IsAway node e → b ≢ node
-end_away e a b node (inl p) away q = away.1 (ap (λ (z : ℕ × ℕ). z.1) p ∙ q)
-end_away e a b node (inr p) away q = away.0 (ap (λ (z : ℕ × ℕ). z.0) p ∙ q)
+end_away e a b node h away q = grind (arith, nat_tests)
 
 -- nor meet the node that is left out
 node_avoided : (edges : List Edge) (node from : ℕ) (steps : List Step) (to : ℕ) (way : List Edge)
     → IsWalk (map ends edges) from steps to
     → AllZip (λ step edge. GoesAlong edges step edge × IsAway node edge) steps way → ¬ Has (nodes_of steps) node
-node_avoided edges node from [] to way w z h = h
-node_avoided edges node from (s ∷ steps) to [] w z h = absurd z
 node_avoided edges node from (s ∷ steps) to (x ∷ way) w z (inl p) =
     let j = joins_from edges s.edge from s.to w.0 in
     let same : j.0 ≡ x = same_Some j.0 x (sym j.1 ∙ z.0.0) in
     end_away x from s.to node (subst (λ y. Joins y from s.to) same j.2) z.0.1 p
 node_avoided edges node from (s ∷ steps) to (x ∷ way) w z (inr h) = node_avoided edges node s.to steps to way w.1 z.1 h
+node_avoided edges node from _ to _ w z h = omega arith
 
 module _ (edges : List Edge) (edge : Edge) (there : Contains edges edge) (apart : (ends edge).1 ≢ (ends edge).0) where
   place : (k : ℕ) × (slice_get edges k ≡ Some edge)
@@ -141,37 +134,23 @@ diagonals_more advised more edges count d l e m =
 pub advised_all : (cat : Catalogue) (edges : List Edge) (count : ℕ) (advices : List Advice) → edges ≡ conflict_graph cat
     → length edges ≤ count → map (λ a. a.edge) advices ≡ filter is_diagonal (take count edges)
     → All (λ a. ShowsFor edges a a.edge) advices → AreAdvices cat advices
-advised_all cat edges count advices is l e good =
-    record {
-      edges = e ∙ ap (filter is_diagonal) (take_all count edges l ∙ is);
-      good = subst (λ z. All (λ (a : Advice). ShowsFor z a a.edge) advices) is good;
-    }
+advised_all cat edges count advices is l e good = grind (arith, nat_tests, take_all)
 
 -- what is known of a diagonal of a reader
 diagonal_apart : (edge : Edge) (reader : ClassNo) → IsReadOf reader edge → NamesClasses edge
     → (ends edge).1 ≢ (ends edge).0
-diagonal_apart (Vertical i) reader r named e = absurd r
-diagonal_apart (Horizontal i j) reader r named e = absurd r
-diagonal_apart (Diagonal i j f) reader r named e =
-    let one : 1 ≤ i.0 = named.0.from in
-    let other : 1 ≤ j.0 = named.1.from in
-    omega arith
+diagonal_apart edge reader r named e = grind (arith, nat_tests)
 
 not_vertical : (edge : Edge) (reader : ClassNo) → IsReadOf reader edge → edge ≢ Vertical reader
-not_vertical (Vertical i) reader r e = absurd r
-not_vertical (Horizontal i j) reader r e = absurd r
-not_vertical (Diagonal i j f) reader r e = cc
+not_vertical edge reader r e = grind (arith, nat_tests)
 
 one_read_node : (edge : Edge) (reader : ClassNo) → IsReadOf reader edge → (ends (Vertical reader)).0 ≡ (ends edge).0
-one_read_node (Vertical i) reader r = absurd r
-one_read_node (Horizontal i j) reader r = absurd r
-one_read_node (Diagonal i j f) reader r = ap (λ (z : ClassNo). (ends (Vertical z)).0) (sym r)
+one_read_node edge reader r = grind (arith, nat_tests)
 
 -- a way, by equal ends and edges
 pub way_moved : (edges : List Edge) (Goes : Edge → Type 0) (a b c d : ℕ) (way same : List Edge) → IsWay edges Goes a b way
     → a ≡ c → b ≡ d → same ≡ way → IsWay edges Goes c d same
-way_moved edges Goes a b c d way same w p q e =
-    subst (λ z. IsWay edges Goes c d z) (sym e) (subst (λ z. IsWay edges Goes c z way) q (subst (λ z. IsWay edges Goes z b way) p w))
+way_moved edges Goes a b c d way same w p q e = grind (arith, nat_tests)
 
 module _ (edges : List Edge) (edge : Edge) (reader : ClassNo) (there : Contains edges edge) (r : IsReadOf reader edge) (named : All NamesClasses edges) where
   apart : (ends edge).1 ≢ (ends edge).0

@@ -56,3 +56,4 @@ pub use Rattle.std.proofs.lemmas.Option.{MatchOption-at_none, MatchOption-at_som
 pub use Rattle.std.proofs.lemmas.Result.{IfOk-weaker}
 pub use Rattle.std.specs.List.{AllByRecursion, AllZip, cons_option, range_with_len}
 pub use Rattle.std.specs.List.Sorted.{IsStrictlyIncreasing}
+pub use Rattle.std.proofs.lemmas.Bool.Decides.{nat_tests}

@@ -1,5 +1,5 @@
 -- Ascending lists of numbers.
-use Rattle.sdd_advise.proofs.All.{Bool, Contains, IsStrictlyIncreasing, IsStrictlyIncreasing-filter, List, [], ap, append-nil, arith, cases_eq, cond, false, filter, filter-append, get_or, get_or-range_with_len, inl, inr, length, length-range_with_len, range_more, range_with_len, refl, subst, suc, sym, true, zero, ℕ, ◌++◌, ◌+◌, ◌<◌, ◌∙◌, ◌∷◌, ◌≡◌, ◌≤◌}
+use Rattle.sdd_advise.proofs.All.{Bool, Contains, IsStrictlyIncreasing, IsStrictlyIncreasing-filter, List, [], ap, append-nil, arith, cases_eq, cond, false, filter, filter-append, get_or, get_or-range_with_len, inl, inr, length, length-range_with_len, nat_tests, range_more, range_with_len, refl, subst, suc, sym, true, zero, ℕ, ◌++◌, ◌+◌, ◌<◌, ◌∙◌, ◌∷◌, ◌≡◌, ◌≤◌}
 use Rattle.sdd_advise.proofs.Members.{Among, among_at, place_in}
 
 -- a member is contained
@@ -113,14 +113,8 @@ passing_next p n =
 -- one number more that passes, and one that doesn't
 pub passing_more : (p : ℕ → Bool) (n : ℕ) (list more : List ℕ) → list ≡ filter p (range_with_len 0 n)
     → p n ≡ true → more ≡ list ++ n ∷ [] → more ≡ filter p (range_with_len 0 (n + 1))
-passing_more p n list more e t m =
-    m ∙ ap (λ z. z ++ n ∷ []) e
-    ∙ ap (λ b. filter p (range_with_len 0 n) ++ cond b (n ∷ []) []) (sym t)
-    ∙ sym (passing_next p n)
+passing_more p n list more e t m = grind (arith, nat_tests, passing_next)
 
 pub passing_same : (p : ℕ → Bool) (n : ℕ) (list more : List ℕ) → list ≡ filter p (range_with_len 0 n)
     → p n ≡ false → more ≡ list → more ≡ filter p (range_with_len 0 (n + 1))
-passing_same p n list more e t m =
-    m ∙ e ∙ sym (append-nil (filter p (range_with_len 0 n)))
-    ∙ ap (λ b. filter p (range_with_len 0 n) ++ cond b (n ∷ []) []) (sym t)
-    ∙ sym (passing_next p n)
+passing_same p n list more e t m = grind (arith, nat_tests, append-nil, passing_next)

@@ -1,16 +1,12 @@
 -- Good advices for all diagonals say what the table says of its diagonals.
-use Rattle.sdd_advise.proofs.All.{Advice, AdvicesSayTheTable, All-contains_itself, All-filter, Bool, Catalogue, Contains, Entry, List, [], advised, ap, arith, cond, false, filter, get_or, get_or-map, is_diagonal, length, length-map, listed, map, refl, same_lists, sym, true, ℕ, ◌<◌, ◌∙◌, ◌∷◌, ◌≡◌}
+use Rattle.sdd_advise.proofs.All.{Advice, AdvicesSayTheTable, All-contains_itself, All-filter, Bool, Catalogue, Contains, Entry, List, [], advised, ap, arith, cond, false, filter, get_or, get_or-map, is_diagonal, length, length-map, listed, map, nat_tests, refl, same_lists, sym, true, ℕ, ◌<◌, ◌∙◌, ◌∷◌, ◌≡◌}
 use Rattle.sdd_advise.proofs.Right.{good_advice_is_right}
 
 -- a filter by the image, before and after
 map-filter : {X Y : Type 0} (f : X → Y) (p : Y → Bool) (xs : List X)
     → map f (filter (λ x. p (f x)) xs) ≡ filter p (map f xs)
 map-filter f p [] = refl
-map-filter f p (x ∷ xs) =
-    elim (p (f x)) as (λ b. map f (cond b (x ∷ filter (λ y. p (f y)) xs) (filter (λ y. p (f y)) xs)) ≡ cond b (f x ∷ filter p (map f xs)) (filter p (map f xs))) [
-      | true ↦ ap (λ z. f x ∷ z) (map-filter f p xs)
-      | false ↦ map-filter f p xs
-    ]
+map-filter f p (x ∷ xs) = grind (arith, nat_tests, (map-filter f p xs))
 
 -- lists of equal images: what their members at one place have
 images : (advices : List Advice) (entries : List Entry)

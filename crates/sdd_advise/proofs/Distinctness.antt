@@ -1,5 +1,5 @@
 -- Whether no node is twice in a list, by marks.
-use Rattle.sdd_advise.proofs.All.{Bool, Differ, Has, List, [], arith, both_ways, differ_push, false, get_or, get_or-replicate, has_push_cases, has_push_last, inl, inr, length, length-replicate, length-set, read_set, refl, replicate, set, subst, suc, sym, take, take_all, take_more, true, zero, ℕ, ◌++◌, ◌+◌, ◌<◌, ◌∙◌, ◌∷◌, ◌≡◌, ◌≤◌}
+use Rattle.sdd_advise.proofs.All.{Bool, Differ, Has, List, [], arith, both_ways, differ_push, false, get_or, get_or-replicate, has_push_cases, has_push_last, inl, inr, length, length-replicate, length-set, nat_tests, read_set, refl, replicate, set, subst, suc, sym, take, take_all, take_more, true, zero, ℕ, ◌++◌, ◌+◌, ◌<◌, ◌∙◌, ◌∷◌, ◌≡◌, ◌≤◌}
 
 -- the nodes so far differ, and are those that are marked
 pub record IsMarking (nodes : List ℕ) (count limit : ℕ) (marks : List Bool) : Type 0 where
@@ -10,14 +10,7 @@ pub record IsMarking (nodes : List ℕ) (count limit : ℕ) (marks : List Bool) 
 
 pub none_marked : (nodes : List ℕ) (limit : ℕ) (marks : List Bool) → marks ≡ replicate limit false
     → IsMarking nodes 0 limit marks
-none_marked nodes limit marks e =
-    subst (λ z. IsMarking nodes 0 limit z) (sym e)
-    (record {
-      one_each = length-replicate limit false;
-      differ = tt;
-      marked = λ v l m. absurd (both_ways (get_or (replicate limit false) v false) (get_or-replicate limit v false false l) m);
-      has = λ v l h. absurd h;
-    })
+none_marked nodes limit marks e = grind (arith, nat_tests, length-replicate, both_ways, get_or-replicate)
 
 has_left : (xs ys : List ℕ) (v : ℕ) → Has xs v → Has (xs ++ ys) v
 has_left [] ys v h = absurd h
@@ -57,9 +50,8 @@ one_marked nodes count limit marks more m l w fresh e =
     })
 
 has_at : (xs : List ℕ) (k : ℕ) → k < length xs → Has xs (get_or xs k 0)
-has_at [] k l = absurd (omega arith)
-has_at (x ∷ xs) zero l = inl refl
 has_at (x ∷ xs) (suc k) l = inr (has_at xs k (omega arith))
+has_at _ _ l = grind (arith, nat_tests)
 
 pub met_again : (nodes : List ℕ) (count : ℕ) → count < length nodes → Has (take count nodes) (get_or nodes count 0)
     → ¬ Differ nodes

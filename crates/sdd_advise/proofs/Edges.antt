@@ -1,5 +1,5 @@
 -- The edges of a graph by their places, and what walks along them reach.
-use Rattle.sdd_advise.proofs.All.{AllZip, CanReach, Contains, Edge, GoesAlong, Has, IsAway, IsOther, IsWalk, Joins, List, None, Option, Some, Step, [], along, ap, edges_of, ends, get_or_from_slice_get, inl, inr, map, nodes_of, none-some, option_map, refl, same_Some, slice_get, slice_get-map, slice_get_within, subst, suc, sym, zero, ℕ, ◌∙◌, ◌∷◌, ◌≡◌, ◌≢◌}
+use Rattle.sdd_advise.proofs.All.{AllZip, CanReach, Contains, Edge, GoesAlong, Has, IsAway, IsOther, IsWalk, Joins, List, None, Option, Some, Step, [], along, ap, arith, edges_of, ends, get_or_from_slice_get, inl, inr, map, nat_tests, nodes_of, none-some, option_map, refl, same_Some, slice_get, slice_get-map, slice_get_within, subst, suc, sym, zero, ℕ, ◌∙◌, ◌∷◌, ◌≡◌, ◌≢◌}
 use Rattle.sdd_blocks.specs.Graph as blocks
 
 -- what stands at a place is contained
@@ -9,8 +9,7 @@ contains_at xs k x e = (k, slice_get_within xs k x e, get_or_from_slice_get xs k
 -- of what an image is
 pub mapped : {X Y : Type 0} (f : X → Y) (o : Option X) (y : Y) → option_map f o ≡ Some y
     → (x : X) × (o ≡ Some x) × (f x ≡ y)
-mapped f None y e = absurd (none-some y e)
-mapped f (Some x) y e = (x, refl, same_Some (f x) y e)
+mapped f o y e = grind (arith, nat_tests)
 
 -- an edge at a place joins its ends there
 pub joins_at : (edges : List Edge) (k : ℕ) (e : Edge) (a b : ℕ) → slice_get edges k ≡ Some e → Joins e a b
@@ -21,12 +20,8 @@ joins_at edges k e a b at (inr p) = inr (slice_get-map ends edges k ∙ ap (opti
 -- and what joins there is such an edge
 pub joins_from : (edges : List Edge) (k a b : ℕ) → blocks.Joins (map ends edges) k a b
     → (e : Edge) × (slice_get edges k ≡ Some e) × Joins e a b
-joins_from edges k a b (inl p) =
-    let r = mapped ends (slice_get edges k) (a, b) (sym (slice_get-map ends edges k) ∙ p) in
-    (r.0, r.1, inl r.2)
-joins_from edges k a b (inr p) =
-    let r = mapped ends (slice_get edges k) (b, a) (sym (slice_get-map ends edges k) ∙ p) in
-    (r.0, r.1, inr r.2)
+joins_from edges k a b (inl p) = grind (arith, nat_tests, mapped, slice_get-map)
+joins_from edges k a b (inr p) = grind (arith, nat_tests, mapped, slice_get-map)
 
 -- what is reached by a walk that doesn't go along an edge
 pub reach_without_edge : (edges : List Edge) (k : ℕ) (e : Edge) → ((j : ℕ) → slice_get edges j ≡ Some e → j ≡ k)
@@ -41,8 +36,7 @@ reach_without_edge edges k e one start from (s ∷ steps) to r w away =
 
 -- an edge between nodes other than one is away from that
 pub is_away : (e : Edge) (a b node : ℕ) → Joins e a b → a ≢ node → b ≢ node → IsAway node e
-is_away e a b node (inl p) n m = ((λ q. n (sym (ap (λ z. z.0) p) ∙ q)), λ q. m (sym (ap (λ z. z.1) p) ∙ q))
-is_away e a b node (inr p) n m = ((λ q. m (sym (ap (λ z. z.0) p) ∙ q)), λ q. n (sym (ap (λ z. z.1) p) ∙ q))
+is_away e a b node h n m = grind (arith, nat_tests)
 
 -- what is reached by a walk that doesn't meet a node
 pub reach_without_node : (edges : List Edge) (node start from : ℕ) (steps : List Step) (to : ℕ)
@@ -59,10 +53,7 @@ reach_without_node edges node start from (s ∷ steps) to r w away =
 pub step_along : (edges : List Edge) (steps : List Step) (cycle : List Edge) (m : ℕ) (e : Edge)
     → AllZip (GoesAlong edges) steps cycle → slice_get cycle m ≡ Some e
     → (k : ℕ) × Has (edges_of steps) k × (slice_get edges k ≡ Some e)
-step_along edges [] [] m e z at = absurd (none-some e at)
-step_along edges [] (x ∷ cycle) m e z at = absurd z
-step_along edges (s ∷ steps) [] m e z at = absurd z
-step_along edges (s ∷ steps) (x ∷ cycle) zero e z at = (s.edge, inl refl, z.0 ∙ at)
 step_along edges (s ∷ steps) (x ∷ cycle) (suc m) e z at =
     let r = step_along edges steps cycle m e z.1 at in
     (r.0, inr r.1, r.2)
+step_along edges _ _ _ e z at = grind (arith, nat_tests)

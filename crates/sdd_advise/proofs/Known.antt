@@ -38,8 +38,7 @@ module _ (cat : Catalogue) where
   cycle_by : (i j : ClassNo) (f : FragNo) (advice : Advice) (p : Protocol)
       → ShowsProtocol (conflict_graph cat) (Diagonal i j f) i j advice p → All (IsEdgeOf cat) advice.cycle
   cycle_by i j f advice P1 s = subst (All (IsEdgeOf cat)) (sym s.no_cycle) (All-nil (IsEdgeOf cat))
-  cycle_by i j f advice P2 s = cycle_known _ advice.cycle s.cycle
-  cycle_by i j f advice P3 s = cycle_known _ advice.cycle s.cycle
+  cycle_by i j f advice _ s = cycle_known _ advice.cycle s.cycle
 
   cycle_for : (advice : Advice) (edge : Edge) → ShowsFor (conflict_graph cat) advice edge → All (IsEdgeOf cat) advice.cycle
   cycle_for advice (Vertical i) s = absurd s
@@ -53,16 +52,12 @@ module _ (cat : Catalogue) where
   apart_by : (i j : ClassNo) (f : FragNo) (advice : Advice) (p : Protocol) → Contains (conflict_graph cat) (Diagonal i j f)
       → ShowsProtocol (conflict_graph cat) (Diagonal i j f) i j advice p
       → All (λ node. node < 2 * length cat.classes) advice.apart
-  apart_by i j f advice P1 there s =
-      let w = All-contains (λ e. ((ends e).0 < 2 * length cat.classes) × ((ends e).1 < 2 * length cat.classes)) (conflict_graph cat)
-      (Diagonal i j f) ends_within there in
-      all_within (conflict_graph cat) _ (2 * length cat.classes) (write_node j.0) advice.apart ends_within w.1 s.reached
-  apart_by i j f advice P2 there s =
-      let w = All-contains (λ e. ((ends e).0 < 2 * length cat.classes) × ((ends e).1 < 2 * length cat.classes)) (conflict_graph cat)
-      (Diagonal i j f) ends_within there in
-      all_within (conflict_graph cat) _ (2 * length cat.classes) (write_node j.0) advice.apart ends_within w.1 s.reached
   apart_by i j f advice P3 there s =
       subst (All (λ node. node < 2 * length cat.classes)) (sym s.none_apart) (All-nil (λ node. node < 2 * length cat.classes))
+  apart_by i j f advice _ there s =
+      let w = All-contains (λ e. ((ends e).0 < 2 * length cat.classes) × ((ends e).1 < 2 * length cat.classes)) (conflict_graph cat)
+      (Diagonal i j f) ends_within there in
+      all_within (conflict_graph cat) _ (2 * length cat.classes) (write_node j.0) advice.apart ends_within w.1 s.reached
 
   apart_for : (advice : Advice) (edge : Edge) → ShowsFor (conflict_graph cat) advice edge
       → All (λ node. node < 2 * length cat.classes) advice.apart

@@ -1,5 +1,5 @@
 -- Members of a list, and lists in which no member is there twice.
-use Rattle.sdd_advise.proofs.All.{Bool, Contains, List, Some, [], ap, arith, cond, false, filter, flat_map, inl, inr, map, none-some, range_with_len, refl, same_Some, slice_get, slice_get-get_or, subst, suc, sym, true, zero, ℕ, ◌++◌, ◌+◌, ◌∙◌, ◌∷◌, ◌≡◌, ◌≤◌, ◌⊎◌}
+use Rattle.sdd_advise.proofs.All.{Bool, Contains, List, Some, [], ap, arith, cond, false, filter, flat_map, inl, inr, map, nat_tests, none-some, range_with_len, refl, same_Some, slice_get, slice_get-get_or, subst, suc, sym, true, zero, ℕ, ◌++◌, ◌+◌, ◌∙◌, ◌∷◌, ◌≡◌, ◌≤◌, ◌⊎◌}
 
 -- the list has the member
 abbrev pub Among : {X : Type 0} → List X → X → Type 0
@@ -13,9 +13,8 @@ Unlike (x ∷ xs) = (¬ Among xs x) × Unlike xs
 
 -- what stands at a place is a member
 pub among_at : {X : Type 0} (xs : List X) (k : ℕ) (x : X) → slice_get xs k ≡ Some x → Among xs x
-among_at [] k x e = absurd (none-some x e)
-among_at (y ∷ ys) zero x e = inl (same_Some y x e)
 among_at (y ∷ ys) (suc k) x e = inr (among_at ys k x e)
+among_at _ _ x e = grind (arith, nat_tests)
 
 -- a member of two lists is one of either
 pub among_append : {X : Type 0} (xs ys : List X) (x : X) → Among (xs ++ ys) x → Among xs x ⊎ Among ys x
@@ -90,20 +89,15 @@ pub unlike_flat : {X Y : Type 0} (f : X → List Y) (back : Y → X) (xs : List 
     → ((x : X) (y : Y) → Among (f x) y → back y ≡ x) → ((x : X) → Unlike (f x)) → Unlike xs → Unlike (flat_map f xs)
 unlike_flat f back [] told each one = tt
 unlike_flat f back (x ∷ xs) told each one =
-    unlike_append (f x) (flat_map f xs) (each x) (unlike_flat f back xs told each one.1)
-    (λ y m n.
-    let r = among_flat f xs y n in
-    one.0 (subst (λ z. Among xs z) (sym (told r.0 y r.2) ∙ told x y m) r.1))
+    grind (arith, nat_tests, unlike_append, among_flat, (unlike_flat f back xs told each one.1))
 
 -- each has one place
 pub one_place : {X : Type 0} (xs : List X) (j k : ℕ) (x : X) → Unlike xs → slice_get xs j ≡ Some x
     → slice_get xs k ≡ Some x → j ≡ k
 one_place [] j k x one p q = absurd (none-some x p)
 one_place (y ∷ ys) zero zero x one p q = refl
-one_place (y ∷ ys) zero (suc k) x one p q =
-    absurd (one.0 (subst (λ z. Among ys z) (sym (same_Some y x p)) (among_at ys k x q)))
-one_place (y ∷ ys) (suc j) zero x one p q =
-    absurd (one.0 (subst (λ z. Among ys z) (sym (same_Some y x q)) (among_at ys j x p)))
+one_place (y ∷ ys) zero (suc k) x one p q = grind (arith, nat_tests, same_Some, among_at)
+one_place (y ∷ ys) (suc j) zero x one p q = grind (arith, nat_tests, same_Some, among_at)
 one_place (y ∷ ys) (suc j) (suc k) x one p q = ap suc (one_place ys j k x one.1 p q)
 
 -- a member that a list contains has a place

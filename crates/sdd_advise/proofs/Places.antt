@@ -1,5 +1,5 @@
 -- No edge is twice in a conflict graph.
-use Rattle.sdd_advise.proofs.All.{Catalogue, Diagonal, Edge, Horizontal, Some, Vertical, ap, arith, class_no, classes_of, conflict_graph, diagonal_edges, diagonals_between, diagonals_from, filter, frag_no, fragments_of, horizontal_edges, horizontals_from, inl, inr, is_some, nat_lt, not, reads_at, refl, slice_get, sym, vertical_edges, write_sets_meet, writes, ℕ, ◌&&◌, ◌++◌, ◌==◌, ◌∙◌, ◌≡◌}
+use Rattle.sdd_advise.proofs.All.{Catalogue, Diagonal, Edge, Horizontal, Some, Vertical, ap, arith, class_no, classes_of, conflict_graph, diagonal_edges, diagonals_between, diagonals_from, filter, frag_no, fragments_of, horizontal_edges, horizontals_from, inl, inr, is_some, nat_lt, nat_tests, not, reads_at, refl, slice_get, sym, vertical_edges, write_sets_meet, writes, ℕ, ◌&&◌, ◌++◌, ◌==◌, ◌∙◌, ◌≡◌}
 use Rattle.sdd_advise.proofs.Members.{Among, Unlike, among_append, among_map, among_flat, unlike_range, unlike_append, unlike_map, unlike_filter, unlike_flat, one_place}
 
 -- what tells edges apart
@@ -38,17 +38,11 @@ horizontals_unlike cat =
 -- the diagonals between two classes, from one class
 between : (cat : Catalogue) (i j : ℕ) (e : Edge) → Among (diagonals_between cat i j) e
     → (f : ℕ) × (Diagonal (class_no i) (class_no j) (frag_no f) ≡ e)
-between cat i j e m =
-    let r = among_map (λ f. Diagonal (class_no i) (class_no j) (frag_no f))
-    (filter (λ f. not (i == j) && (is_some (reads_at cat i f) && writes cat j f)) (fragments_of cat)) e m in
-    (r.0, r.2)
+between cat i j e m = grind (arith, nat_tests, among_map)
 
 from : (cat : Catalogue) (i : ℕ) (e : Edge) → Among (diagonals_from cat i) e
     → (j : ℕ) × (f : ℕ) × (Diagonal (class_no i) (class_no j) (frag_no f) ≡ e)
-from cat i e m =
-    let r = among_flat (diagonals_between cat i) (classes_of cat) e m in
-    let s = between cat i r.0 e r.2 in
-    (r.0, s.0, s.1)
+from cat i e m = grind (arith, nat_tests, among_flat, between)
 
 from_unlike : (cat : Catalogue) (i : ℕ) → Unlike (diagonals_from cat i)
 from_unlike cat i =
@@ -67,14 +61,10 @@ vertical_kind : (cat : Catalogue) (e : Edge) → Among (vertical_edges cat) e �
 vertical_kind cat e m = ap kind (sym (among_map (λ i. Vertical (class_no i)) (classes_of cat) e m).2)
 
 horizontal_kind : (cat : Catalogue) (e : Edge) → Among (horizontal_edges cat) e → kind e ≡ 1
-horizontal_kind cat e m =
-    let r = among_flat (horizontals_from cat) (classes_of cat) e m in
-    ap kind (sym (among_map (λ j. Horizontal (class_no r.0) (class_no j)) (filter (λ j. nat_lt r.0 j && write_sets_meet cat r.0 j) (classes_of cat)) e r.2).2)
+horizontal_kind cat e m = grind (arith, nat_tests, among_flat, among_map)
 
 diagonal_kind : (cat : Catalogue) (e : Edge) → Among (diagonal_edges cat) e → kind e ≡ 2
-diagonal_kind cat e m =
-    let r = among_flat (diagonals_from cat) (classes_of cat) e m in
-    ap kind (sym (from cat r.0 e r.2).2)
+diagonal_kind cat e m = grind (arith, nat_tests, among_flat, from)
 
 edges_unlike : (cat : Catalogue) → Unlike (conflict_graph cat)
 edges_unlike cat =

@@ -1,5 +1,5 @@
 -- A good advice for a diagonal says the protocol that the table says.
-use Rattle.sdd_advise.proofs.All.{Advice, AreBlocks, BeginsWith, Catalogue, ClassNo, Diagonal, Edge, Entry, FragNo, GoodAdviceIsRight, Has, Horizontal, IsCycleFrom, IsEdgeOf, IsTable, List, P1, P2, P3, Protocol, ReadsFrom, ShareACycle, ShowsFor, ShowsP1, ShowsP2, ShowsP3, ShowsProtocol, Some, Vertical, all_at, ap, arith, blocks_of, cases_eq, class_no, conflict_graph, cycle_joined_ends, diagonal_edges, diagonal_protocol, edges_known, edges_of, ends, eq-eqb, first_block, first_block-vertical, get_or, get_or-map-range_with_len, get_or_append_left, here, horizontal_edges, inl, inr, is_vertical_of, last, length, length-map, length-map-range_with_len, linked_around, many_edges, map, ne_eqb, option_map, protocol_in, read_node, refl, slice_get, slice_get-get_or, slice_get-map, subst, suc, sym, vertical_block, vertical_block-lists, vertical_edges, write_node, ℕ, ◌++◌, ◌-◌, ◌∙◌, ◌≡◌, ◌≢◌, ◌≤◌}
+use Rattle.sdd_advise.proofs.All.{Advice, AreBlocks, BeginsWith, Catalogue, ClassNo, Diagonal, Edge, Entry, FragNo, GoodAdviceIsRight, Has, Horizontal, IsCycleFrom, IsEdgeOf, IsTable, List, P1, P2, P3, Protocol, ReadsFrom, ShareACycle, ShowsFor, ShowsP1, ShowsP2, ShowsP3, ShowsProtocol, Some, Vertical, all_at, ap, arith, blocks_of, cases_eq, class_no, conflict_graph, cycle_joined_ends, diagonal_edges, diagonal_protocol, edges_known, edges_of, ends, eq-eqb, first_block, first_block-vertical, get_or, get_or-map-range_with_len, get_or_append_left, here, horizontal_edges, inl, inr, is_vertical_of, last, length, length-map, length-map-range_with_len, linked_around, many_edges, map, nat_tests, ne_eqb, option_map, protocol_in, read_node, refl, slice_get, slice_get-get_or, slice_get-map, subst, suc, sym, vertical_block, vertical_block-lists, vertical_edges, write_node, ℕ, ◌++◌, ◌-◌, ◌∙◌, ◌≡◌, ◌≢◌, ◌≤◌}
 use Rattle.sdd_advise.proofs.Edges.{joins_at, reach_without_edge, reach_without_node, step_along}
 use Rattle.sdd_advise.proofs.Members.{place_in}
 use Rattle.sdd_advise.proofs.Places.{one_place_each}
@@ -58,16 +58,7 @@ module _ (cat : Catalogue) (blocks : List ℕ) (i j : ClassNo) (f : FragNo) (k b
   share : (start : ℕ) (cycle : List Edge) (m n y : ℕ) (e : Edge) → IsCycleFrom (conflict_graph cat) start cycle
       → slice_get cycle m ≡ Some (Diagonal i j f) → slice_get cycle n ≡ Some e
       → slice_get (conflict_graph cat) y ≡ Some e → ShareACycle (map ends (conflict_graph cat)) k y
-  share start cycle m n y e c p q there =
-      let one = step_along (conflict_graph cat) c.steps cycle m (Diagonal i j f) c.along p in
-      let other = step_along (conflict_graph cat) c.steps cycle n e c.along q in
-      record {
-        start = start;
-        steps = c.steps;
-        cycle = c.simple;
-        first = subst (λ z. Has (edges_of c.steps) z) (one_place_each cat one.0 k (Diagonal i j f) one.2 h.here_at) one.1;
-        second = subst (λ z. Has (edges_of c.steps) z) (one_place_each cat other.0 y e other.2 there) other.1;
-      }
+  share start cycle m n y e c p q there = grind (arith, nat_tests, step_along, one_place_each)
 
   -- so it has a block
   on_cycle : (start : ℕ) (cycle : List Edge) → IsCycleFrom (conflict_graph cat) start cycle
@@ -104,10 +95,7 @@ module _ (cat : Catalogue) (blocks : List ℕ) (i j : ClassNo) (f : FragNo) (k b
 
 module _ (cat : Catalogue) (entries : List Entry) (t : IsTable cat entries) (k : ℕ) (entry : Entry) (at : slice_get entries k ≡ Some entry) where
   edge_at : slice_get (conflict_graph cat) k ≡ Some entry.edge
-  edge_at =
-      ap (λ z. slice_get z k) (sym t.edges)
-      ∙ slice_get-map (λ z. z.edge) entries k
-      ∙ ap (λ o. option_map (λ (z : Entry). z.edge) o) at
+  edge_at = grind (arith, nat_tests, slice_get-map)
 
   block_at : slice_get (blocks_of entries) k ≡ Some entry.block
   block_at = slice_get-map (λ z. z.block) entries k ∙ ap (λ o. option_map (λ (z : Entry). z.block) o) at
@@ -156,9 +144,8 @@ module _ (cat : Catalogue) (entries : List Entry) (t : IsTable cat entries) (k :
 
   right_for : (e : Edge) → entry.edge ≡ e → (advice : Advice) → ShowsFor (conflict_graph cat) advice e
       → entry.protocol ≡ advice.protocol
-  right_for (Vertical i) is advice s = absurd s
-  right_for (Horizontal i j) is advice s = absurd s
   right_for (Diagonal i j f) is advice s = right i j f is advice s.1
+  right_for _ is advice s = absurd (omega arith)
 
 pub good_advice_is_right : (cat : Catalogue) → GoodAdviceIsRight cat
 good_advice_is_right cat entries t advice good entry among is =

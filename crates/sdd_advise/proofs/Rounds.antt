@@ -51,8 +51,6 @@ along_steps : (edges : List Edge) (start : ℕ) (steps : List Step) (cycle : Lis
     → AllZip (GoesAlong edges) steps cycle → IsWalk (map ends edges) start steps to
     → nodes_along start cycle ≡ Some (nodes_of steps)
 along_steps edges start [] [] to z w = refl
-along_steps edges start [] (x ∷ cycle) to z w = absurd z
-along_steps edges start (s ∷ steps) [] to z w = absurd z
 along_steps edges start (s ∷ steps) (x ∷ cycle) to z w =
     let j = joins_from edges s.edge start s.to w.0 in
     let same : j.0 ≡ x = same_Some j.0 x (sym j.1 ∙ z.0) in
@@ -60,6 +58,7 @@ along_steps edges start (s ∷ steps) (x ∷ cycle) to z w =
     let rest = along_steps edges s.to steps cycle to z.1 w.1 in
     ap (option_and_then (λ (next : ℕ). option_map (λ (ns : List ℕ). next ∷ ns) (nodes_along next cycle))) leads
     ∙ ap (option_map (λ (ns : List ℕ). s.to ∷ ns)) rest
+along_steps edges start _ _ to z w = absurd z
 
 last_step : (edges : List (ℕ × ℕ)) (start : ℕ) (steps : List Step) (to : ℕ) → IsWalk edges start steps to
     → last_of start (nodes_of steps) ≡ to
@@ -69,9 +68,8 @@ last_step edges start (s ∷ steps) to w = last_step edges s.to steps to w.1
 pub all_along : (edges : List Edge) (steps : List Step) (cycle : List Edge) → AllZip (GoesAlong edges) steps cycle
     → All (Contains edges) cycle
 all_along edges [] [] z = All-nil (Contains edges)
-all_along edges [] (x ∷ cycle) z = absurd z
-all_along edges (s ∷ steps) [] z = absurd z
 all_along edges (s ∷ steps) (x ∷ cycle) z = All-cons (Contains edges) x cycle (contains_at edges s.edge x z.0) (all_along edges steps cycle z.1)
+all_along edges _ _ z = absurd z
 
 -- what the edges of a cycle have to be
 pub record IsRound (edges : List Edge) (start : ℕ) (x y : Edge) (rest : List Edge) : Type 0 where
@@ -140,9 +138,8 @@ cycle_is_round edges once start x y rest c = round_of_steps edges once start x y
 as_long : (edges : List Edge) (steps : List Step) (cycle : List Edge) → AllZip (GoesAlong edges) steps cycle
     → length steps ≡ length cycle
 as_long edges [] [] z = refl
-as_long edges [] (x ∷ cycle) z = absurd z
-as_long edges (s ∷ steps) [] z = absurd z
 as_long edges (s ∷ steps) (x ∷ cycle) z = ap suc (as_long edges steps cycle z.1)
+as_long edges _ _ z = absurd z
 
 pub cycle_is_long : (edges : List Edge) (start : ℕ) (cycle : List Edge) → IsCycleFrom edges start cycle → 2 ≤ length cycle
 cycle_is_long edges start cycle c = let long = c.simple.long in omega (arith, as_long edges c.steps cycle c.along)
@@ -204,9 +201,8 @@ walk_done start edges i at nodes l e =
 
 -- a list of two edges or more
 split : (cycle : List Edge) → 2 ≤ length cycle → (x : Edge) × (y : Edge) × (rest : List Edge) × (x ∷ y ∷ rest ≡ cycle)
-split [] l = absurd (omega arith)
-split (x ∷ []) l = absurd (omega arith)
 split (x ∷ y ∷ rest) l = (x, y, rest, refl)
+split _ l = absurd (omega arith)
 
 -- the first two edges of a cycle differ
 pub first_two_differ : (edges : List Edge) → HasEachOnce edges → (start : ℕ) (cycle : List Edge) (d e : Edge)

@@ -11,3 +11,4 @@ pub use Rattle.std.proofs.lemmas.List.{drop_all, drop_more, length-map, map-appe
 pub use Rattle.std.proofs.lemmas.List.Concat.{flat_map-append}
 pub use Rattle.std.proofs.lemmas.Option.{slice_get-get_or, slice_get-map, slice_get_within}
 pub use Rattle.std.proofs.lemmas.Slice.Eq.{bytes_eq-Decides}
+pub use Rattle.std.proofs.lemmas.Bool.Decides.{nat_tests}

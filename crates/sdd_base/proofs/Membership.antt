@@ -1,5 +1,5 @@
 -- Membership of a list, from its front.
-use Rattle.sdd_base.proofs.All.{Contains, List, [], arith, get_or, inl, inr, length, refl, suc, sym, zero, ℕ, ◌<◌, ◌∷◌, ◌≡◌, ◌⊎◌}
+use Rattle.sdd_base.proofs.All.{Contains, List, [], arith, length, nat_tests, refl, suc, ◌<◌, ◌∷◌, ◌≡◌, ◌⊎◌}
 
 pub Contains-nil : {A : Type 0} (x : A) → Contains [] x → ⊥
 Contains-nil x h = let within : h.0 < 0 = h.1 in omega arith
@@ -14,8 +14,4 @@ Contains-later y xs x h = let within : h.0 < length xs = h.1 in (suc h.0, omega 
 
 -- a member is the first or a later one
 pub Contains-cases : {A : Type 0} (y : A) (xs : List A) (x : A) → Contains (y ∷ xs) x → (x ≡ y) ⊎ Contains xs x
-Contains-cases y xs x h = at_place y xs x h.0 h.1 h.2
-  where
-    at_place : {A : Type 0} (y : A) (xs : List A) (x : A) (k : ℕ) → k < suc (length xs) → get_or (y ∷ xs) k x ≡ x → (x ≡ y) ⊎ Contains xs x
-    at_place y xs x zero within is = inl (sym is)
-    at_place y xs x (suc k) within is = inr (k, omega arith, is)
+Contains-cases y xs x h = grind (arith, nat_tests)

@@ -1,26 +1,21 @@
 -- What the opened files of a shelf in memory have unread, after one more is opened and after a read.
-use Rattle.sdd_base.proofs.All.{GivesBytes, IfSome, List, OpenFile, Opened, ShelfFile, ShelfState, Some, [], ap, arith, drop, file_at, length, length-append, length-map, length-set, map, map-append, map-set, min, name_at, opened_at, option_map, refl, rest_at, set, slice_get, slice_get-map, slice_get_within, suc, sym, take, zero, ℕ, ◌++◌, ◌+◌, ◌<◌, ◌∙◌, ◌∷◌, ◌≡◌}
+use Rattle.sdd_base.proofs.All.{GivesBytes, IfSome, List, OpenFile, Opened, ShelfFile, ShelfState, Some, [], ap, arith, drop, file_at, length, length-append, length-map, length-set, map, map-append, map-set, min, name_at, nat_tests, opened_at, option_map, refl, rest_at, set, slice_get, slice_get-map, slice_get_within, suc, sym, take, ℕ, ◌++◌, ◌+◌, ◌<◌, ◌∙◌, ◌∷◌, ◌≡◌}
 use Rattle.sdd_base.proofs.Taken.{gives_part, held}
 
 -- an element of the front list is one of the whole
 pub slice_get-append : {A : Type 0} (xs ys : List A) (g : ℕ) → g < length xs → slice_get (xs ++ ys) g ≡ slice_get xs g
-slice_get-append [] ys g within = absurd (omega arith)
-slice_get-append (x ∷ xs) ys zero within = refl
 slice_get-append (x ∷ xs) ys (suc g) within = slice_get-append xs ys g (omega arith)
+slice_get-append _ ys _ within = grind (arith, nat_tests)
 
 -- a written element is read back
 pub slice_get-set_same : {A : Type 0} (xs : List A) (f : ℕ) (y : A) → f < length xs → slice_get (set xs f y) f ≡ Some y
-slice_get-set_same [] f y within = absurd (omega arith)
-slice_get-set_same (x ∷ xs) zero y within = refl
 slice_get-set_same (x ∷ xs) (suc f) y within = slice_get-set_same xs f y (omega arith)
+slice_get-set_same _ _ y within = grind (arith, nat_tests)
 
 -- a write leaves the other elements
 pub slice_get-set_other : {A : Type 0} (xs : List A) (f g : ℕ) (y : A) → (g ≡ f → ⊥) → slice_get (set xs f y) g ≡ slice_get xs g
-slice_get-set_other [] f g y other = refl
-slice_get-set_other (x ∷ xs) zero zero y other = absurd (other refl)
-slice_get-set_other (x ∷ xs) zero (suc g) y other = refl
-slice_get-set_other (x ∷ xs) (suc f) zero y other = refl
 slice_get-set_other (x ∷ xs) (suc f) (suc g) y other = slice_get-set_other xs f g y (λ e. other (ap suc e))
+slice_get-set_other _ _ _ y other = grind (arith, nat_tests)
 
 pub length-opened : (files : List ShelfFile) (opened_files : List OpenFile) (old : ShelfState) (faults : ℕ)
     → record { files = files; opened = map (opened_at files) opened_files; faults = faults } ≡ old → length opened_files ≡ length old.opened
@@ -31,11 +26,7 @@ pub stay_open : (files : List ShelfFile) (opened_files after : List OpenFile) (o
     → record { files = files; opened = map (opened_at files) opened_files; faults = faults } ≡ old → after ≡ opened_files ++ opened ∷ []
     → g < length old.opened → (g < length (map (opened_at files) after)) × (slice_get (map (opened_at files) after) g ≡ slice_get old.opened g)
 stay_open files opened_files after opened old faults g is pushed within =
-    let e : map (opened_at files) after ≡ map (opened_at files) opened_files ++ opened_at files opened ∷ [] = ap (map (opened_at files)) pushed
-    ∙ map-append (opened_at files) opened_files (opened ∷ []) in
-    let was : map (opened_at files) opened_files ≡ old.opened = ap (λ (s : ShelfState). s.opened) is in
-    let below : g < length (map (opened_at files) opened_files) = rw was within in
-    (rw e (omega (arith, length-append (map (opened_at files) opened_files) (opened_at files opened ∷ []))), rw e (slice_get-append (map (opened_at files) opened_files) (opened_at files opened ∷ []) g below ∙ ap (λ (xs : List Opened). slice_get xs g) was))
+    grind (arith, nat_tests, map-append, length-append, slice_get-append)
 
 -- what a read of one opened file leaves
 pub record Reads (old now : List Opened) (f n : ℕ) (buf : List ℕ) : Type 0 where

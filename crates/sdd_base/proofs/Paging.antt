@@ -1,5 +1,5 @@
 -- What a sink took of pages, one behind the other.
-use Rattle.sdd_base.proofs.All.{Err, List, None, Ok, OnErr, Option, Result, Some, [], add-one, ap, append-nil, append_assoc, arith, drop, drop-cons, flat_map, flat_map-append, get_or, length, length-append, refl, sym, take, take-append-drop, take-append_seam, take_more, with_end, ℕ, ◌++◌, ◌+◌, ◌-◌, ◌<◌, ◌∙◌, ◌∷◌, ◌≡◌, ◌≤◌}
+use Rattle.sdd_base.proofs.All.{List, None, OnErr, Option, Result, Some, [], add-one, ap, append-nil, append_assoc, arith, drop, drop-cons, flat_map, flat_map-append, get_or, length, length-append, nat_tests, refl, sym, take, take-append-drop, take-append_seam, take_more, with_end, ℕ, ◌++◌, ◌+◌, ◌-◌, ◌<◌, ◌∙◌, ◌∷◌, ◌≡◌, ◌≤◌}
 
 -- the bytes of pages
 abbrev pub joined : List (List ℕ) → List ℕ
@@ -103,9 +103,7 @@ second_part told mid now first second whole is taken front =
 
 -- what holds in any case, and what follows, where a call failed
 pub on_err : {T E : Type 0} (r : Result T E) (P : Type 0) → P → OnErr r P
-on_err (Ok x) P p = tt
-on_err (Err e) P p = p
+on_err r P p = grind (arith, nat_tests)
 
 pub on_err_more : {T E : Type 0} (r : Result T E) (P Q : Type 0) → (P → Q) → OnErr r P → OnErr r Q
-on_err_more (Ok x) P Q f p = tt
-on_err_more (Err e) P Q f p = f p
+on_err_more r P Q f p = grind (arith, nat_tests)

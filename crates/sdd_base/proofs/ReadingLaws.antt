@@ -1,5 +1,5 @@
 -- What a reading that came to no fault says, and a reading of each member of a list as a loop makes it.
-use Rattle.sdd_base.proofs.All.{Bool, Err, Fails, IfSome, List, None, Ok, Option, Result, Some, [], along, ap, append-nil, append_assoc, drop, drop_all, drop_more, false, get_or, known, length, map, must, refl, subst, sym, true, ℕ, ◌++◌, ◌+◌, ◌<◌, ◌>>=◌, ◌∙◌, ◌∷◌, ◌≡◌, ◌≤◌}
+use Rattle.sdd_base.proofs.All.{Bool, Err, Fails, List, None, Ok, Option, Result, Some, [], along, ap, append-nil, append_assoc, arith, drop, drop_all, drop_more, get_or, known, length, map, must, nat_tests, refl, subst, sym, true, ℕ, ◌++◌, ◌+◌, ◌<◌, ◌>>=◌, ◌∙◌, ◌∷◌, ◌≡◌, ◌≤◌}
 
 abbrev done : {A F : Type 0} → A → Result A F
 done x = Ok x
@@ -9,22 +9,19 @@ ok_is x y e = cc
 
 -- of two readings that come to no fault the first gives a value
 pub bind_ok : {A B F : Type 0} (r : Result A F) (f : A → Result B F) (y : B) → (r >>= f) ≡ Ok y → (x : A) × (r ≡ Ok x) × (f x ≡ Ok y)
-bind_ok (Ok x) f y e = (x, refl, e)
-bind_ok (Err fault) f y e = absurd cc
+bind_ok r f y e = grind (arith, nat_tests)
 
 pub known_ok : {A F : Type 0} (fault : F) (o : Option A) (x : A) → known fault o ≡ Ok x → o ≡ Some x
 known_ok fault None x e = absurd cc
 known_ok {F = F} fault (Some y) x e = ap (λ z. Some z) (ok_is {F = F} y x e)
 
 pub must_ok : {F : Type 0} (fault : F) (b : Bool) (u : Unit {0}) → must fault b ≡ Ok u → b ≡ true
-must_ok fault true u e = refl
-must_ok fault false u e = absurd cc
+must_ok fault b u e = grind (arith, nat_tests)
 
 -- the fault of the first reading is that of both
 pub fails_bind : {E A B F : Type 0} (fault_in : E → Option F) (e : E) (r : Result A F) (f : A → Result B F) → Fails fault_in e r
     → Fails fault_in e (r >>= f)
-fails_bind fault_in e r f h =
-    elim (fault_in e) as (λ o. IfSome o (λ fault. r ≡ Err fault) → IfSome o (λ fault. (r >>= f) ≡ Err fault)) [ None ↦ λ h. tt | Some fault ↦ λ h. rw h refl ] h
+fails_bind fault_in e r f h = grind (arith, nat_tests)
 
 -- each member has its answer
 abbrev pub Answers : {A B F : Type 0} → (ℕ → A → Result B F) → ℕ → List A → List B → Type 0
@@ -43,10 +40,8 @@ along_ok {F = F} f number (x ∷ xs) ys e =
 
 pub ok_along : {A B F : Type 0} (f : ℕ → A → Result B F) (number : ℕ) (xs : List A) (ys : List B) → Answers f number xs ys
     → along f number xs ≡ Ok ys
-ok_along f number [] [] h = refl
-ok_along f number [] (y ∷ ys) h = absurd h
-ok_along f number (x ∷ xs) [] h = absurd h
 ok_along f number (x ∷ xs) (y ∷ ys) h = let a = h.0 in let b = ok_along f (number + 1) xs ys h.1 in rw (a, b) refl
+ok_along f number _ _ h = grind (arith, nat_tests)
 
 -- A loop over a list: what was read before, and what is still read.
 abbrev pub with_front : {B F : Type 0} → List B → Result (List B) F → Result (List B) F
@@ -85,6 +80,4 @@ ends {B = B} {F = F} fault_in view f total e front xs i number x lt is h so_far 
 pub is_done : {V A B F : Type 0} (view : V → A) (f : ℕ → A → Result B F) (total : Result (List B) F) (front : List B) (xs : List V) (i number : ℕ)
     → length xs ≤ i
     → with_front front (along f number (map view (drop i xs))) ≡ total → total ≡ Ok front
-is_done view f total front xs i number past so_far =
-    let none = ap (λ l. with_front front (along f number (map view l))) (drop_all i xs past) in
-    sym so_far ∙ none ∙ ap (λ ys. Ok ys) (append-nil front)
+is_done view f total front xs i number past so_far = grind (arith, nat_tests, drop_all, append-nil)

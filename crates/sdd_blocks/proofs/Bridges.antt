@@ -1,5 +1,5 @@
 -- An edge is on a simple cycle exactly where a walk without it joins its ends.
-use Rattle.sdd_blocks.proofs.All.{Differ, Has, IsWalk, JoinedWithoutEdge, Joins, List, OnACycle, Step, [], arith, edges_of, inl, inr, length, nodes_of, refl, subst, sym, ℕ, ◌++◌, ◌∙◌, ◌∷◌, ◌≡◌, ◌≢◌, ◌≤◌}
+use Rattle.sdd_blocks.proofs.All.{Differ, Has, IsWalk, JoinedWithoutEdge, Joins, List, OnACycle, Step, [], arith, edges_of, inl, inr, length, nat_tests, nodes_of, refl, subst, sym, ℕ, ◌++◌, ◌∙◌, ◌∷◌, ◌≡◌, ◌≢◌, ◌≤◌}
 use Rattle.sdd_blocks.proofs.Members.{has_append_cases, has_push_cases}
 use Rattle.sdd_blocks.proofs.Walks.{walk_push, walk_append, edges_of-push, edges_of-append, end_met, walk_back, shorten}
 use Rattle.sdd_blocks.proofs.Cycles.{same_ends, edges_differ}
@@ -73,9 +73,7 @@ cycle_joined edges k c =
 -- a walk without an edge turned round is one without it
 pub joined_edge_back : (edges : List (ℕ × ℕ)) (k a b : ℕ) → JoinedWithoutEdge edges k a b
     → JoinedWithoutEdge edges k b a
-joined_edge_back edges k a b w =
-    let r = walk_back edges a w.steps b w.walk in
-    record { steps = r.0; walk = r.1; avoids = λ h. w.avoids (r.3 k h) }
+joined_edge_back edges k a b w = grind (arith, nat_tests, walk_back)
 
 -- whichever end comes first
 pub cycle_joined_ends : (edges : List (ℕ × ℕ)) (k a b : ℕ) → OnACycle edges k → Joins edges k a b

@@ -1,13 +1,12 @@
 -- The edges of one simple cycle have one block number, which is not 0.
-use Rattle.sdd_blocks.proofs.All.{AreBlocks, Has, HaveNumber, IsSimpleCycle, IsWalk, Joins, List, OneNumberACycle, ShareACycle, Some, Step, [], ap, arith, edges_of, inl, inr, last, length, refl, slice_get, slice_get-get_or, slice_index, subst, ℕ, ◌<◌, ◌∙◌, ◌∷◌, ◌≡◌, ◌≢◌}
+use Rattle.sdd_blocks.proofs.All.{AreBlocks, Has, HaveNumber, IsSimpleCycle, IsWalk, List, OneNumberACycle, ShareACycle, Some, Step, [], ap, arith, edges_of, inl, inr, last, length, refl, slice_get, slice_get-get_or, slice_index, subst, ℕ, ◌<◌, ◌∙◌, ◌∷◌, ◌≡◌, ◌≢◌}
 use Rattle.sdd_blocks.proofs.Classes.{joins_within}
 
 -- the edges of a walk are edges of the graph
 walk_within : (edges : List (ℕ × ℕ)) (from : ℕ) (steps : List Step) (to k : ℕ)
     → IsWalk edges from steps to → Has (edges_of steps) k → k < length edges
 walk_within edges from [] to k w h = absurd h
-walk_within edges from (s ∷ steps) to k w (inl e) =
-    joins_within edges k from s.to (subst (λ z. Joins edges z from s.to) e w.0)
+walk_within edges from (s ∷ steps) to k w (inl e) = omega (arith, joins_within)
 walk_within edges from (s ∷ steps) to k w (inr h) = walk_within edges s.to steps to k w.1 h
 
 module _ (edges : List (ℕ × ℕ)) (blocks : List ℕ) (are : AreBlocks edges blocks)

@@ -1,5 +1,5 @@
 -- Nodes joined by walks that do not meet one node.
-use Rattle.sdd_blocks.proofs.All.{Has, JoinedWithout, Joins, List, [], inl, inr, nodes_of, refl, ℕ, ◌++◌, ◌∷◌, ◌≢◌}
+use Rattle.sdd_blocks.proofs.All.{Has, JoinedWithout, Joins, List, [], arith, inl, inr, nat_tests, nodes_of, refl, ℕ, ◌++◌, ◌∷◌, ◌≢◌}
 use Rattle.sdd_blocks.proofs.Members.{has_append_cases}
 use Rattle.sdd_blocks.proofs.Walks.{walk_append, nodes_of-append, walk_back}
 
@@ -33,6 +33,4 @@ joined_on edges w a b c p q =
 
 -- a walk without a node turned round is one without it
 pub joined_back : (edges : List (ℕ × ℕ)) (w a b : ℕ) → JoinedWithout edges w a b → JoinedWithout edges w b a
-joined_back edges w a b p =
-    let r = walk_back edges a p.steps b p.walk in
-    record { steps = r.0; walk = r.1; avoids = λ h. p.avoids (r.2 w h) }
+joined_back edges w a b p = grind (arith, nat_tests, walk_back)

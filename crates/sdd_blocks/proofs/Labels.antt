@@ -1,8 +1,7 @@
 -- The labels of the roots become those of the components, one edge after the other.
-use Rattle.sdd_blocks.proofs.All.{All, AreComponents, AreJoined, AreRoots, Has, IsForest, IsWalk, JoinedWithout, Joins, List, Some, Step, [], ap, arith, cases_eq, cases_lt, get_or-range_with_len, get_or_from_slice_get, inl, inr, length, nodes_of, range_with_len, replaced, slice_get, slice_get_within, slice_index, some_pair_parts, subst, sym, ℕ, ◌+◌, ◌<◌, ◌∙◌, ◌∷◌, ◌≡◌, ◌≢◌, ◌≤◌, ◌⊎◌}
+use Rattle.sdd_blocks.proofs.All.{All, AreComponents, AreJoined, AreRoots, Has, IsForest, IsWalk, JoinedWithout, Joins, List, Some, Step, [], ap, arith, cases_lt, get_or-range_with_len, get_or_from_slice_get, inl, inr, length, nat_tests, nodes_of, range_with_len, slice_get, slice_get_within, slice_index, some_pair_parts, subst, sym, ℕ, ◌+◌, ◌<◌, ◌∙◌, ◌∷◌, ◌≡◌, ◌≢◌, ◌≤◌, ◌⊎◌}
 use Rattle.sdd_blocks.proofs.Walks.{joins_back}
 use Rattle.sdd_blocks.proofs.Joined.{joined_self, joined_edge, joined_on}
-use Rattle.sdd_blocks.proofs.Trees.{replaced-same, replaced-new, replaced-other}
 
 -- the ends of an edge of the list are nodes, where those of all edges are
 pub ends_within : (edges : List (ℕ × ℕ)) (nodes : ℕ)
@@ -27,37 +26,13 @@ pub record AreLabelsSoFar (edges : List (ℕ × ℕ)) (without nodes : ℕ) (par
 pub no_edges_yet : (edges : List (ℕ × ℕ)) (without nodes : ℕ) (parents : List ℕ)
     → length parents ≡ nodes → IsForest parents → AreRoots parents (range_with_len 0 nodes)
     → AreLabelsSoFar edges without nodes parents 0
-no_edges_yet edges without nodes parents n f r =
-    record {
-      one_each = n;
-      forest = f;
-      labels = range_with_len 0 nodes;
-      roots = r;
-      sound = λ a b h k p q e.
-          let same : a ≡ b = omega (arith, get_or-range_with_len 0 nodes a 0 h, get_or-range_with_len 0 nodes b 0 k, e) in
-          subst (λ z. JoinedWithout edges without a z) same (joined_self edges without a p);
-      whole = λ k a b h. absurd (omega arith);
-    }
+no_edges_yet edges without nodes parents n f r = grind (arith, nat_tests, get_or-range_with_len, joined_self)
 
 -- an edge at the node without changes nothing
 pub edge_left_out : (edges : List (ℕ × ℕ)) (without nodes : ℕ) (parents : List ℕ) (count a b : ℕ)
     → AreLabelsSoFar edges without nodes parents count → slice_get edges count ≡ Some (a, b)
     → (a ≡ without) ⊎ (b ≡ without) → AreLabelsSoFar edges without nodes parents (count + 1)
-edge_left_out edges without nodes parents count a b s e o =
-    record {
-      one_each = s.one_each;
-      forest = s.forest;
-      labels = s.labels;
-      roots = s.roots;
-      sound = s.sound;
-      whole = λ k x y h g p q. elim (cases_lt k count) [
-        | inl l ↦ s.whole k x y l g p q
-        | inr l ↦
-            let at : k ≡ count = omega arith in
-            let same = some_pair_parts x a y b (sym g ∙ ap (λ z. slice_get edges z) at ∙ e) in
-            elim o [ inl d ↦ absurd (p (same.0 ∙ d)) | inr d ↦ absurd (q (same.1 ∙ d)) ]
-      ];
-    }
+edge_left_out edges without nodes parents count a b s e o = grind (arith, nat_tests)
 
 module _ (edges : List (ℕ × ℕ)) (without nodes x y k : ℕ) (j : Joins edges k x y) (x_other : x ≢ without) (y_other : y ≢ without) (x_within : x < nodes) (y_within : y < nodes) (before after : List ℕ) (n : length before ≡ nodes) (joined : AreJoined x y before after)
     (sound : (a b : ℕ) → a < nodes → b < nodes → a ≢ without → b ≢ without
@@ -86,12 +61,7 @@ module _ (edges : List (ℕ × ℕ)) (without nodes x y k : ℕ) (j : Joins edge
   label_cases : (a : ℕ) → a < nodes
       → ((slice_index before a ≡ joined.old) × (slice_index after a ≡ joined.new)) ⊎
       ((slice_index before a ≢ joined.old) × (slice_index after a ≡ slice_index before a))
-  label_cases a h =
-      let r = joined.replaced_at a (omega arith) in
-      elim (cases_eq (slice_index before a) joined.old) [
-        | inl e ↦ inl (e, r ∙ ap (λ z. replaced joined.old joined.new z) e ∙ replaced-same joined.old joined.new)
-        | inr d ↦ inr (d, r ∙ replaced-other joined.old joined.new (slice_index before a) d)
-      ]
+  label_cases a h = grind (arith, nat_tests)
 
   -- equal labels after the edge are those of joined nodes
   sound_after : (a b : ℕ) → a < nodes → b < nodes → a ≢ without → b ≢ without
@@ -111,22 +81,11 @@ module _ (edges : List (ℕ × ℕ)) (without nodes x y k : ℕ) (j : Joins edge
   -- nodes with one label keep one
   kept_after : (a b : ℕ) → a < nodes → b < nodes → slice_index before a ≡ slice_index before b
       → slice_index after a ≡ slice_index after b
-  kept_after a b h g e =
-      joined.replaced_at a (omega arith) ∙ ap (λ z. replaced joined.old joined.new z) e ∙ sym (joined.replaced_at b (omega arith))
+  kept_after a b h g e = grind (arith, nat_tests)
 
   -- the two nodes have one label
   ends_after : slice_index after x ≡ slice_index after y
-  ends_after =
-      let at_x = joined.replaced_at x (omega arith) in
-      let at_y = joined.replaced_at y (omega arith) in
-      elim joined.of_both [
-        | inl o ↦
-            at_x ∙ ap (λ z. replaced joined.old joined.new z) (sym o.0) ∙ replaced-same joined.old joined.new
-            ∙ sym (at_y ∙ ap (λ z. replaced joined.old joined.new z) (sym o.1) ∙ replaced-new joined.old joined.new)
-        | inr o ↦
-            at_x ∙ ap (λ z. replaced joined.old joined.new z) (sym o.1) ∙ replaced-new joined.old joined.new
-            ∙ sym (at_y ∙ ap (λ z. replaced joined.old joined.new z) (sym o.0) ∙ replaced-same joined.old joined.new)
-      ]
+  ends_after = grind (arith, nat_tests)
 
 -- the labels after one edge more, whose ends are joined
 pub edge_joined : (edges : List (ℕ × ℕ)) (without nodes : ℕ) (parents next : List ℕ) (count x y : ℕ)
@@ -177,14 +136,4 @@ pub components_done : (edges : List (ℕ × ℕ)) (without nodes : ℕ) (parents
     → All (λ label. label < length parents) found → ((labels : List ℕ) → AreRoots parents labels → found ≡ labels)
     → (length found ≡ nodes) × AreComponents edges without found
 components_done edges without nodes parents count found s done below is_labels =
-    let e : found ≡ s.labels = is_labels s.labels s.roots in
-    let n : length found ≡ nodes = ap length e ∙ s.roots.one_each ∙ s.one_each in (
-      n,
-      record {
-        below = λ k d h. let l = below k d h in omega (arith, n, s.one_each);
-        sound = λ a b h g p q i. s.sound a b (omega arith) (omega arith) p q (subst (λ z. slice_index z a ≡ slice_index z b) e i);
-        whole = λ a b j.
-            subst (λ z. slice_index z a ≡ slice_index z b) (sym e)
-            (walk_label edges without s.labels (λ k x y g p q. s.whole k x y (let h = slice_get_within edges k (x, y) g in omega arith) g p q) a j.steps b j.walk j.avoids);
-      },
-    )
+    grind (arith, nat_tests, walk_label, slice_get_within)

@@ -1,5 +1,5 @@
 -- Marks for the members of pairs, one pair after the other.
-use Rattle.sdd_blocks.proofs.All.{All, AreMarked, IsPaired, Joins, List, Some, ap, arith, cases_lt, get_or, get_or_default, get_or_from_slice_get, inl, inr, length, length-set, refl, set, slice_get, slice_get_within, slice_index, some_pair_parts, subst, suc, sym, zero, ℕ, ◌+◌, ◌<◌, ◌∙◌, ◌≡◌, ◌≤◌}
+use Rattle.sdd_blocks.proofs.All.{All, AreMarked, IsPaired, Joins, List, Some, ap, arith, cases_lt, get_or, get_or_default, get_or_from_slice_get, inl, inr, length, length-set, nat_tests, refl, set, slice_get, slice_get_within, slice_index, some_pair_parts, subst, suc, sym, zero, ℕ, ◌+◌, ◌<◌, ◌∙◌, ◌≡◌, ◌≤◌}
 use Rattle.sdd_blocks.proofs.Places.{read_set}
 
 -- the members of the first pairs have marks of their labels, and all others have 0
@@ -11,12 +11,7 @@ pub record IsMarkingAt (pairs : List (ℕ × ℕ)) (labels marks : List ℕ) (co
 -- before the first pair all marks are 0
 pub no_marks_yet : (pairs : List (ℕ × ℕ)) (labels marks : List ℕ) → length marks ≡ length labels
     → ((k : ℕ) → get_or marks k 0 ≡ 0) → IsMarkingAt pairs labels marks 0
-no_marks_yet pairs labels marks n zeros =
-    record {
-      one_each = n;
-      off = λ k e i j h. absurd (omega arith);
-      on = λ k x e. absurd (let z = zeros k in omega arith);
-    }
+no_marks_yet pairs labels marks n zeros = grind (arith, nat_tests)
 
 -- a pair more, with both of its members marked
 pub pair_marked : (pairs : List (ℕ × ℕ)) (labels marks : List ℕ) (count a b : ℕ)

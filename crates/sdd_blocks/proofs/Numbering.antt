@@ -1,5 +1,5 @@
 -- Numbers for marks, one mark after the other.
-use Rattle.sdd_blocks.proofs.All.{AreNumbered, List, Some, [], ap, arith, cases_eq, cases_lt, get_or, get_or-set_same, get_or_append_left, get_or_from_slice_get, get_or_push, inl, inr, length, length_push, refl, set, slice_get, slice_get-get_or, slice_get_within, subst, suc, sym, ℕ, ◌++◌, ◌+◌, ◌<◌, ◌∙◌, ◌∷◌, ◌≡◌, ◌≢◌, ◌≤◌}
+use Rattle.sdd_blocks.proofs.All.{AreNumbered, List, Some, [], ap, arith, cases_eq, cases_lt, get_or, get_or-set_same, get_or_append_left, get_or_from_slice_get, get_or_push, inl, inr, length, length_push, nat_tests, refl, set, slice_get, slice_get-get_or, slice_get_within, subst, suc, sym, ℕ, ◌++◌, ◌+◌, ◌<◌, ◌∙◌, ◌∷◌, ◌≡◌, ◌≢◌, ◌≤◌}
 use Rattle.sdd_blocks.proofs.Places.{read_set}
 
 -- the first marks have numbers up to `last`, as given for each mark
@@ -17,18 +17,7 @@ pub record IsNumberingAt (marks given numbers : List ℕ) (last count : ℕ) : T
 
 -- before the first mark no number is given
 pub no_numbers_yet : (marks given : List ℕ) → ((x : ℕ) → get_or given x 0 ≡ 0) → IsNumberingAt marks given [] 0 0
-no_numbers_yet marks given zeros =
-    record {
-      one_each = refl;
-      few = omega arith;
-      zero_given = zeros 0;
-      bounded = λ x. omega (arith, zeros x);
-      distinct = λ x y e n. absurd (n (zeros x));
-      number_is = λ k h. absurd (omega arith);
-      all_given = λ k h. absurd (omega arith);
-      reached = λ b h. absurd (omega arith);
-      in_order = λ k b h. absurd (omega arith);
-    }
+no_numbers_yet marks given zeros = grind (arith, nat_tests)
 
 module _ (marks given numbers : List ℕ) (last count : ℕ) (s : IsNumberingAt marks given numbers last count) where
   -- the numbers stay where they are
@@ -143,19 +132,11 @@ module _ (marks given numbers : List ℕ) (last count : ℕ) (s : IsNumberingAt 
 module _ (marks given numbers : List ℕ) (last count : ℕ) (s : IsNumberingAt marks given numbers last count) (n : length marks ≡ count) where
   -- a number is the one given for its mark
   number_at : (k a x : ℕ) → slice_get numbers k ≡ Some a → slice_get marks k ≡ Some x → a ≡ get_or given x 0
-  number_at k a x p q =
-      let h = slice_get_within marks k x q in
-      sym (get_or_from_slice_get numbers k a 0 p) ∙ s.number_is k (omega arith) ∙ ap (λ z. get_or given z 0) (get_or_from_slice_get marks k x 0 q)
+  number_at k a x p q = grind (arith, nat_tests, slice_get_within, get_or_from_slice_get)
 
   -- the number 0 is that of the mark 0 alone
   zero_number : (k a x : ℕ) → slice_get numbers k ≡ Some a → slice_get marks k ≡ Some x → a ≡ 0 → x ≡ 0
-  zero_number k a x p q e =
-      let h = slice_get_within marks k x q in
-      let is = get_or_from_slice_get marks k x 0 q in
-      elim (cases_eq x 0) [
-        | inl z ↦ z
-        | inr z ↦ absurd (s.all_given k (omega arith) (λ f. z (sym is ∙ f)) (ap (λ y. get_or given y 0) is ∙ sym (number_at k a x p q) ∙ e))
-      ]
+  zero_number k a x p q e = grind (arith, nat_tests, slice_get_within, get_or_from_slice_get, cases_eq, number_at)
 
   -- equal numbers are those of equal marks
   one_mark : (j k a b x y : ℕ) → slice_get numbers j ≡ Some a → slice_get numbers k ≡ Some b

@@ -1,5 +1,5 @@
 -- There is one list of block numbers.
-use Rattle.sdd_blocks.proofs.All.{AreBlocks, List, Some, ap, arith, cases_lt, ext_get_or, get_or, inl, inr, length, refl, slice_get, slice_get-get_or, suc, sym, zero, ℕ, ◌<◌, ◌∙◌, ◌≡◌, ◌≤◌}
+use Rattle.sdd_blocks.proofs.All.{AreBlocks, List, Some, ap, arith, cases_lt, ext_get_or, get_or, inl, inr, length, nat_tests, refl, slice_get, slice_get-get_or, suc, sym, zero, ℕ, ◌<◌, ◌∙◌, ◌≡◌, ◌≤◌}
 
 -- before a number each lower one stands
 lower_before : (edges : List (ℕ × ℕ)) (blocks : List ℕ) → AreBlocks edges blocks → (b k a : ℕ)
@@ -34,10 +34,7 @@ same_number : (edges : List (ℕ × ℕ)) (xs ys : List ℕ) → AreBlocks edges
 same_number edges xs ys p q k zero zero e f one other = refl
 same_number edges xs ys p q k zero (suc b) e f one other = absurd (p.none k e (q.some k b f))
 same_number edges xs ys p q k (suc a) zero e f one other = absurd (q.none k f (p.some k a e))
-same_number edges xs ys p q k (suc a) (suc b) e f one other =
-    let low = not_lower edges xs ys p q k a b e f one in
-    let high = not_lower edges ys xs q p k b a f e other in
-    omega arith
+same_number edges xs ys p q k (suc a) (suc b) e f one other = grind (arith, nat_tests, not_lower)
 
 module _ (edges : List (ℕ × ℕ)) (xs ys : List ℕ) (p : AreBlocks edges xs) (q : AreBlocks edges ys) where
   -- the numbers of the first edges are the same

@@ -1,5 +1,5 @@
 -- Pairs that tie neighbours together, one edge after the other, and one node after the other.
-use Rattle.sdd_blocks.proofs.All.{All, AreComponents, Has, JoinedWithout, Joins, List, Neighbours, None, Option, Some, TieAt, TieNeighbours, Tied, [], ap, arith, cases_eq, cases_lt, get_or, inl, inr, length, length-set, nat_tests, nodes_of, none-some, other_end, same_Some, set, slice_get, slice_index, some_pair_parts, subst, suc, sym, zero, ℕ, ◌++◌, ◌+◌, ◌<◌, ◌∙◌, ◌∷◌, ◌≡◌, ◌≢◌, ◌≤◌, ◌⊎◌}
+use Rattle.sdd_blocks.proofs.All.{All, AreComponents, Has, JoinedWithout, Joins, List, Neighbours, None, Option, Some, TieAt, TieNeighbours, Tied, [], ap, arith, cases_lt, get_or, inl, inr, length, length-set, nat_tests, nodes_of, none-some, other_end, same_Some, set, slice_get, slice_index, subst, sym, ℕ, ◌++◌, ◌+◌, ◌<◌, ◌∙◌, ◌∷◌, ◌≡◌, ◌≢◌, ◌≤◌, ◌⊎◌}
 use Rattle.sdd_blocks.proofs.Walks.{joins_back, end_met}
 use Rattle.sdd_blocks.proofs.Labels.{ends_within}
 use Rattle.sdd_blocks.proofs.Classes.{joins_within}
@@ -8,38 +8,12 @@ use Rattle.sdd_blocks.proofs.Places.{read_set, get_push_kept, get_push_last, get
 -- the other end of an edge is one that it joins with the node
 pub other_end_joins : (edges : List (ℕ × ℕ)) (k a b w x : ℕ) → slice_get edges k ≡ Some (a, b)
     → other_end (a, b) w ≡ Some x → Joins edges k w x × (x ≢ w)
-other_end_joins edges k a b w x e o =
-    elim (cases_eq a b) [
-      | inl d ↦ let n : other_end (a, b) w ≡ None = grind (arith, nat_tests) in absurd (none-some x (sym n ∙ o))
-      | inr d ↦ elim (cases_eq a w) [
-        | inl f ↦
-            let n : other_end (a, b) w ≡ Some b = grind (arith, nat_tests) in
-            let s : b ≡ x = same_Some b x (sym n ∙ o) in
-            (inl (subst (λ z. slice_get edges k ≡ Some (w, z)) s (subst (λ z. slice_get edges k ≡ Some (z, b)) f e)), λ g. d (f ∙ sym g ∙ sym s))
-        | inr f ↦ elim (cases_eq b w) [
-          | inl g ↦
-              let n : other_end (a, b) w ≡ Some a = grind (arith, nat_tests) in
-              let s : a ≡ x = same_Some a x (sym n ∙ o) in
-              (inr (subst (λ z. slice_get edges k ≡ Some (z, w)) s (subst (λ z. slice_get edges k ≡ Some (a, z)) g e)), λ h. f (s ∙ h))
-          | inr g ↦ let n : other_end (a, b) w ≡ None = grind (arith, nat_tests) in absurd (none-some x (sym n ∙ o))
-        ]
-      ]
-    ]
+other_end_joins edges k a b w x e o = grind (arith, nat_tests)
 
 -- and the only one
 pub joins_other_end : (edges : List (ℕ × ℕ)) (k a b w x : ℕ) → slice_get edges k ≡ Some (a, b)
     → Joins edges k w x → x ≢ w → other_end (a, b) w ≡ Some x
-joins_other_end edges k a b w x e (inl j) n =
-    let s = some_pair_parts a w b x (sym e ∙ j) in
-    let d : a ≢ b = λ f. n (sym s.1 ∙ sym f ∙ s.0) in
-    let o : other_end (a, b) w ≡ Some b = let f = s.0 in grind (arith, nat_tests) in
-    o ∙ ap (λ z. Some z) s.1
-joins_other_end edges k a b w x e (inr j) n =
-    let s = some_pair_parts a x b w (sym e ∙ j) in
-    let d : a ≢ b = λ f. n (sym s.0 ∙ f ∙ s.1) in
-    let g : a ≢ w = λ f. n (sym s.0 ∙ f) in
-    let o : other_end (a, b) w ≡ Some a = let f = s.1 in grind (arith, nat_tests) in
-    o ∙ ap (λ z. Some z) s.0
+joins_other_end edges k a b w x e h n = grind (arith, nat_tests)
 
 -- the second of the nodes that an edge joins is a node
 pub joins_end_within : (edges : List (ℕ × ℕ)) (nodes : ℕ)
@@ -61,21 +35,13 @@ pub record IsTyingAt (edges : List (ℕ × ℕ)) (node : ℕ) (labels : List ℕ
 pub tied_kept : (before after : List (ℕ × ℕ))
     → ((i : ℕ) (p : ℕ × ℕ) → slice_get before i ≡ Some p → slice_get after i ≡ Some p) → (j k : ℕ)
     → Tied before j k → Tied after j k
-tied_kept before after kept j k (inl e) = inl e
-tied_kept before after kept j k (inr p) = inr (p.0, kept p.0 (j, k) p.1)
+tied_kept before after kept j k h = grind (arith, nat_tests)
 
 module _ (edges : List (ℕ × ℕ)) (node : ℕ) (labels : List ℕ) (before : List (ℕ × ℕ)) where
   -- before the first edge no label has a first edge
   pub nothing_tied : (first : List (Option ℕ)) → length first ≡ length labels
       → ((l : ℕ) → get_or first l None ≡ None) → IsTyingAt edges node labels before before first 0
-  nothing_tied first n none =
-      record {
-        one_each = n;
-        kept = λ i p e. e;
-        sound = λ i j k e. inl e;
-        first_is = λ l r e. absurd (none-some r (sym (none l) ∙ e));
-        whole = λ k x h. absurd (omega arith);
-      }
+  nothing_tied first n none = grind (arith, nat_tests)
 
   module _ (pairs : List (ℕ × ℕ)) (first : List (Option ℕ)) (count a b : ℕ) (so_far : IsTyingAt edges node labels before pairs first count) (here : slice_get edges count ≡ Some (a, b)) where
     -- the edge itself, where it is the one meant
@@ -201,12 +167,7 @@ module _ (edges : List (ℕ × ℕ)) (node : ℕ) (labels : List ℕ) (before : 
       → IsTyingAt edges node labels before pairs first from
       → ((k : ℕ) → from ≤ k → k < from + n → slice_get edges k ≡ Some (a, b))
       → other_end (a, b) node ≡ None → IsTyingAt edges node labels before pairs first (from + n)
-  none_tied pairs first from zero a b s here o =
-      let e : from ≡ from + 0 = omega arith in subst (IsTyingAt edges node labels before pairs first) e s
-  none_tied pairs first from (suc n) a b s here o =
-      let e : from + n + 1 ≡ from + suc n = omega arith in
-      let so_far = none_tied pairs first from n a b s (λ k h g. here k h (omega arith)) o in
-      subst (IsTyingAt edges node labels before pairs first) e (not_tied pairs first (from + n) a b so_far (here (from + n) (omega arith) (omega arith)) o)
+  none_tied pairs first from n a b s here o = grind (arith, nat_tests)
 
   -- after all edges the neighbours that meet at the node are tied
   pub all_tied : (pairs : List (ℕ × ℕ)) (first : List (Option ℕ)) (count : ℕ)

@@ -1,5 +1,5 @@
 -- What a change of the forest does to the labels that it gives.
-use Rattle.sdd_blocks.proofs.All.{All, All-nil, All-push, AreJoined, AreRoots, IsForest, List, [], ap, arith, ext_get_or, get_or, get_or-map, get_or-range_with_len, inl, inr, length, length-map, length-range_with_len, length-set, length_push, map, map-id, map-range_with_len_more, nat_tests, range_with_len, refl, replaced, set, slice_index, sym, ℕ, ◌++◌, ◌+◌, ◌<◌, ◌∙◌, ◌∷◌, ◌≡◌, ◌≢◌, ◌≤◌}
+use Rattle.sdd_blocks.proofs.All.{All, AreJoined, AreRoots, IsForest, List, [], ap, arith, ext_get_or, get_or, get_or-map, get_or-range_with_len, inl, inr, length, length-map, length-range_with_len, length-set, length_push, map, map-id, map-range_with_len_more, nat_tests, range_with_len, refl, replaced, set, slice_index, sym, ℕ, ◌++◌, ◌+◌, ◌<◌, ◌∙◌, ◌∷◌, ◌≡◌, ◌≢◌, ◌≤◌}
 use Rattle.sdd_blocks.proofs.Places.{read_set, read_push}
 
 -- as many roots as nodes
@@ -14,65 +14,32 @@ singles-push nodes =
 
 -- where each node is its own parent, each is a root
 pub forest-singles : (nodes : ℕ) → IsForest (range_with_len 0 nodes)
-forest-singles nodes v h =
-    let l : v < nodes = omega (arith, length-range_with_len 0 nodes) in
-    omega (arith, get_or-range_with_len 0 nodes v 0 l)
+forest-singles nodes v h = omega (arith, length-range_with_len, get_or-range_with_len)
 
 -- and its own label
 pub roots-singles : (nodes : ℕ) → AreRoots (range_with_len 0 nodes) (range_with_len 0 nodes)
-roots-singles nodes =
-    let at : (v : ℕ) → v < length (range_with_len 0 nodes) → get_or (range_with_len 0 nodes) v 0 ≡ v =
-    λ v h. let l : v < nodes = omega (arith, length-range_with_len 0 nodes) in omega (arith, get_or-range_with_len 0 nodes v 0 l) in
-    record { one_each = refl; same = λ v h. ap (λ z. get_or (range_with_len 0 nodes) z 0) (at v h); root = λ v h e. e }
+roots-singles nodes = omega (arith, length-range_with_len, get_or-range_with_len)
 
 module _ (parents : List ℕ) (forest : IsForest parents) (at : ℕ) (within : at < length parents) where
   -- where a node is no root, its parent's parent is below it
   pub next_below : (next : ℕ) → slice_index parents at ≢ at
       → next ≡ slice_index parents (slice_index parents at) → next < at
-  next_below next n e =
-      let p = forest at within in
-      let q = forest (slice_index parents at) (omega arith) in
-      omega arith
+  next_below next n e = omega arith
 
   -- a node may have any node that is not above it as its parent
   pub forest-set : (to : ℕ) → to ≤ at → IsForest (set parents at to)
-  forest-set to h v k =
-      elim (read_set parents at to v 0 within) [
-        | inl e ↦ omega (arith, e.0, e.1)
-        | inr e ↦ let p = forest v (omega (arith, length-set parents at to)) in omega (arith, e.1)
-      ]
+  forest-set to h v k = grind (arith, nat_tests, read_set, length-set)
 
   -- a node that is no root may have its parent's parent as its parent
   pub roots-halved : (next : ℕ) → slice_index parents at ≢ at
       → next ≡ slice_index parents (slice_index parents at) → (labels : List ℕ) → AreRoots parents labels
       → AreRoots (set parents at next) labels × (slice_index labels next ≡ slice_index labels at)
-  roots-halved next n e labels r =
-      let p = forest at within in
-      let low : next < at = next_below next n e in
-      let label : slice_index labels next ≡ slice_index labels at =
-      ap (λ z. slice_index labels z) e ∙ r.same (slice_index parents at) (omega arith) ∙ r.same at within in (
-        record {
-          one_each = r.one_each ∙ sym (length-set parents at next);
-          same = λ v h. elim (read_set parents at next v 0 within) [
-            | inl d ↦ ap (λ z. slice_index labels z) d.1 ∙ label ∙ ap (λ z. slice_index labels z) (sym d.0)
-            | inr d ↦ ap (λ z. slice_index labels z) d.1 ∙ r.same v (omega (arith, length-set parents at next))
-          ];
-          root = λ v h s. elim (read_set parents at next v 0 within) [
-            | inl d ↦ absurd (omega (arith, d.0, d.1))
-            | inr d ↦ r.root v (omega (arith, length-set parents at next)) (sym d.1 ∙ s)
-          ];
-        },
-        label,
-      )
+  roots-halved next n e labels r = grind (arith, nat_tests, next_below, length-set, read_set)
 
   -- a root stays one where another node changes its parent
   pub root-kept : (next v : ℕ) → slice_index parents at ≢ at → slice_index parents v ≡ v
       → slice_index (set parents at next) v ≡ v
-  root-kept next v n e =
-      elim (read_set parents at next v 0 within) [
-        | inl d ↦ absurd (n (ap (λ z. slice_index parents z) (sym d.0) ∙ e ∙ d.0))
-        | inr d ↦ d.1 ∙ e
-      ]
+  root-kept next v n e = grind (arith, nat_tests, read_set)
 
 -- the label that is replaced becomes the new one
 pub replaced-same : (old new : ℕ) → replaced old new old ≡ new
@@ -187,9 +154,7 @@ climbs old new node at next w n e =
 pub arrives : (old new : List ℕ) (node at : ℕ) → IsOnTheWayUp old new node at
     → slice_index new at ≡ at → (labels : List ℕ) → AreRoots old labels
     → AreRoots new labels × (at ≡ slice_index labels node)
-arrives old new node at w top labels r =
-    let now = w.labels labels r in
-    (now.0, sym (now.0.root at (let h = w.within in omega (arith, w.one_each)) top) ∙ now.1)
+arrives old new node at w top labels r = grind (arith, nat_tests)
 
 -- joined where the first root is not above the second
 pub joined_down : (old mid : List ℕ) (new : List ℕ) (a b one other : ℕ) → IsForest new
@@ -197,10 +162,7 @@ pub joined_down : (old mid : List ℕ) (new : List ℕ) (a b one other : ℕ) �
     → ((labels : List ℕ) → AreRoots old labels → AreRoots mid labels × (one ≡ slice_index labels a))
     → ((labels : List ℕ) → AreRoots mid labels → AreRoots new labels × (other ≡ slice_index labels b))
     → (before : List ℕ) → AreRoots old before → (after : List ℕ) × AreRoots (set new other one) after × AreJoined a b before after
-joined_down old mid new a b one other f h k s t p q before r =
-    let x = p before r in
-    let y = q before x.0 in
-    linked_up new one other f h k s t before y.0 a b x.1 y.1
+joined_down old mid new a b one other f h k s t p q before r = grind (arith, nat_tests, linked_up)
 
 -- the same where the second root is not above the first
 pub joined_up : (old mid : List ℕ) (new : List ℕ) (a b one other : ℕ) → IsForest new
@@ -208,10 +170,7 @@ pub joined_up : (old mid : List ℕ) (new : List ℕ) (a b one other : ℕ) → 
     → ((labels : List ℕ) → AreRoots old labels → AreRoots mid labels × (one ≡ slice_index labels a))
     → ((labels : List ℕ) → AreRoots mid labels → AreRoots new labels × (other ≡ slice_index labels b))
     → (before : List ℕ) → AreRoots old before → (after : List ℕ) × AreRoots (set new one other) after × AreJoined a b before after
-joined_up old mid new a b one other f h k s t p q before r =
-    let x = p before r in
-    let y = q before x.0 in
-    linked_down new other one f k h t s before y.0 a b x.1 y.1
+joined_up old mid new a b one other f h k s t p q before r = grind (arith, nat_tests, linked_down)
 
 -- the roots of the nodes so far
 pub record AreRootsSoFar (old now found : List ℕ) (node : ℕ) : Type 0 where
@@ -224,30 +183,14 @@ pub record AreRootsSoFar (old now found : List ℕ) (node : ℕ) : Type 0 where
 
 -- before the first node
 pub none_so_far : (old : List ℕ) → IsForest old → AreRootsSoFar old old [] 0
-none_so_far old f =
-    record { one_each = refl; forest = f; count = refl; below = All-nil (λ label. label < length old); labels = λ labels r. (r, λ v h. absurd (omega arith)) }
+none_so_far old f = omega arith
 
 -- one node more, with its root
 pub one_more_root : (old now next found : List ℕ) (node root : ℕ) → AreRootsSoFar old now found node
     → length next ≡ length now → IsForest next → root < length now
     → ((labels : List ℕ) → AreRoots now labels → AreRoots next labels × (root ≡ slice_index labels node))
     → AreRootsSoFar old next (found ++ root ∷ []) (node + 1)
-one_more_root old now next found node root s n f h p =
-    record {
-      one_each = n ∙ s.one_each;
-      forest = f;
-      count = length_push found root ∙ ap (λ z. z + 1) s.count;
-      below = All-push (λ label. label < length old) found root s.below (omega (arith, s.one_each));
-      labels = λ labels r.
-          let before = s.labels labels r in
-          let now' = p labels before.0 in (
-            now'.0,
-            λ v k. elim (read_push found root v 0 (omega (arith, s.count))) [
-              | inl d ↦ let h : v < node = omega (arith, s.count, d.0) in d.1 ∙ before.1 v h
-              | inr d ↦ let e : v ≡ node = d.0 ∙ s.count in d.1 ∙ now'.1 ∙ ap (λ z. get_or labels z 0) (sym e)
-            ],
-          );
-    }
+one_more_root old now next found node root s n f h p = grind (arith, nat_tests, length_push, read_push)
 
 -- after all nodes these are the labels
 pub all_roots : (old now found : List ℕ) (node : ℕ) → AreRootsSoFar old now found node

@@ -29,16 +29,18 @@ pub use Rattle.sdd_catalog.specs.declared.resolved.Fragment.{Fragment}
 pub use Rattle.sdd_catalog.specs.declared.resolved.Read.{Read}
 pub use Rattle.sdd_catalog.specs.declared.resolved.Relation.{Relation}
 pub use Rattle.std.proofs.Common.{All, Bool, IfSome, List, None, Option, Some, [], ap, append-nil, append_assoc, arith, bytes_eq, cond, drop, false, find, get_or-set_other, get_or-set_same, inl, inr, insert, int_le, int_lt, is_some, length, length-append, length-set, length-take-le, map, map-id, nat_le, nat_lt, not, option_map, pos, refl, replicate, rules, slice_index_or as get_or, slice_set as set, subst, suc, sym, take, take_all, tests, to_z-of_z, true, unwrap_or, zero, ℕ, ℤ, ◌++◌, ◌+ℤ◌, ◌+◌, ◌-◌, ◌<ℤ◌, ◌<◌, ◌==◌, ◌^◌, ◌||◌, ◌∙◌, ◌∷◌, ◌≡◌, ◌≢◌, ◌≤ℤ◌, ◌≤◌, ◌⊎◌}
-pub use Rattle.std.proofs.lemmas.Bool.{cases_Bool, cases_lt}
+pub use Rattle.std.proofs.Math.Bool.{or-true}
+pub use Rattle.std.proofs.lemmas.Bool.{cases_Bool, cases_lt, false_from_ne_true}
 pub use Rattle.std.proofs.lemmas.Bool.Decides.{Decides-eqb, nat_tests}
 pub use Rattle.std.proofs.lemmas.Cmp.{nat_list_eq_equiv}
 pub use Rattle.std.proofs.lemmas.Grind.{common_steps}
 pub use Rattle.std.proofs.lemmas.Int.{ints}
 pub use Rattle.std.proofs.lemmas.List.{drop_all, drop_more, get_or-map, get_or-replicate, get_or_default, length-map, length-replicate, take_more}
 pub use Rattle.std.proofs.lemmas.List.Elements.{All-from_recursion, All-map, All-push, All-same, All-weaker}
-pub use Rattle.std.proofs.lemmas.List.Folds.{list_any-append}
+pub use Rattle.std.proofs.lemmas.List.Folds.{list_any-append, map_fixed}
 pub use Rattle.std.proofs.lemmas.List.Sorted.{IsPartitionPoint-from_clause}
 pub use Rattle.std.proofs.lemmas.Option.{none-some, same_Some}
+pub use Rattle.std.proofs.lemmas.Simd.{map-map}
 pub use Rattle.std.proofs.lemmas.Slice.Eq.{bytes_eq-Decides}
 pub use Rattle.std.specs.Cmp.{first_so, second_so}
 pub use Rattle.std.specs.Cmp.Derive.{both_true}

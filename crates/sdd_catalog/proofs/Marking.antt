@@ -1,5 +1,5 @@
 -- Marks for the fragments that are written.
-use Rattle.sdd_catalog.proofs.All.{AreMarked, Bool, DuplicateName, List, None, Some, Text, UnknownName, [], ap, arith, bytes_eq, bytes_eq-Decides, cases_Bool, cond, false, get_or, get_or-replicate, get_or-set_other, get_or-set_same, has_name, head_of, inl, inr, length, length-replicate, length-set, list_any-append, not, place_of, refl, replicate, same_Some, set, sym, true, when, ℕ, ◌++◌, ◌<◌, ◌||◌, ◌∙◌, ◌∷◌, ◌≡◌, ◌≢◌}
+use Rattle.sdd_catalog.proofs.All.{AreMarked, Bool, DuplicateName, List, None, Some, Text, UnknownName, [], ap, arith, bytes_eq, bytes_eq-Decides, cases_Bool, cond, false, get_or, get_or-replicate, get_or-set_other, get_or-set_same, has_name, head_of, inl, inr, length, length-replicate, length-set, list_any-append, nat_tests, not, place_of, replicate, same_Some, set, sym, true, when, ℕ, ◌++◌, ◌<◌, ◌||◌, ◌∙◌, ◌∷◌, ◌≡◌, ◌≢◌}
 use Rattle.sdd_catalog.proofs.Places.{found_place}
 
 -- before the first name nothing is marked
@@ -16,12 +16,10 @@ has_name-push : (before : List Text) (name q : Text) → has_name (before ++ nam
 has_name-push before name q = list_any-append (bytes_eq q) before (name ∷ [])
 
 or_true : (a : Bool) → (a || (true || false)) ≡ true
-or_true true = refl
-or_true false = refl
+or_true a = grind (arith, nat_tests)
 
 or_false : (a : Bool) → (a || (false || false)) ≡ a
-or_false true = refl
-or_false false = refl
+or_false a = grind (arith, nat_tests)
 
 -- a name has one place, and a place has one name
 name_at_place : (names : List Text) (name : Text) (k : ℕ) → place_of name names ≡ Some k → name ≡ get_or names k []
@@ -52,14 +50,10 @@ name_marked names before marks name place so_far e =
     }
 
 both : (a b : Bool) → cond a (cond b (Some DuplicateName) None) (Some UnknownName) ≡ head_of (when (not a) UnknownName ++ when b DuplicateName)
-both true true = refl
-both true false = refl
-both false b = refl
+both a b = grind (arith, nat_tests)
 
 -- the first rule on a write that is broken
 pub first_write_rule : (names before : List Text) (name : Text) (a b : Bool) → a ≡ has_name names name → b ≡ has_name before name
     → cond a (cond b (Some DuplicateName) None) (Some UnknownName)
     ≡ head_of (when (not (has_name names name)) UnknownName ++ when (has_name before name) DuplicateName)
-first_write_rule names before name a b e f =
-    both a b ∙ ap (λ z. head_of (when (not z) UnknownName ++ when b DuplicateName)) e
-    ∙ ap (λ z. head_of (when (not (has_name names name)) UnknownName ++ when z DuplicateName)) f
+first_write_rule names before name a b e f = grind (arith, nat_tests)

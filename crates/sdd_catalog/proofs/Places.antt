@@ -1,5 +1,5 @@
 -- The place of the first item with a name.
-use Rattle.sdd_catalog.proofs.All.{Bool, FragmentPart, IfSome, List, None, Option, Some, Text, [], ap, arith, bytes_eq, cond, drop, drop_more, false, find, fragment_names, get_or, has_name, is_some, length, list_any, map, nat_list_eq_equiv, none-some, place_of, position_from, refl, same_Some, subst, sym, true, ℕ, ◌+◌, ◌<◌, ◌||◌, ◌∙◌, ◌∷◌, ◌≡◌, ◌≤◌}
+use Rattle.sdd_catalog.proofs.All.{Bool, FragmentPart, IfSome, List, None, Option, Some, Text, [], ap, arith, bytes_eq, cond, drop, drop_more, false, find, fragment_names, get_or, has_name, is_some, length, list_any, map, nat_list_eq_equiv, nat_tests, place_of, position_from, refl, same_Some, subst, sym, true, ℕ, ◌+◌, ◌<◌, ◌||◌, ◌∙◌, ◌∷◌, ◌≡◌, ◌≤◌}
 use Rattle.sdd_catalog.proofs.NameLemmas.{IsFound, found_at, position_from-map}
 
 -- there is a place exactly where some item passes
@@ -28,9 +28,8 @@ named_place f name xs d k e = found_place (λ x. bytes_eq name (f x)) xs d k (sy
 -- a place is that of an item
 pub place_within : {A : Type 0} (f : A → Text) (name : Text) (xs : List A) (o : Option ℕ) → o ≡ place_of name (map f xs)
     → IfSome o (λ place. place < length xs)
-place_within f name xs None e = tt
-place_within f name [] (Some k) e = absurd (none-some k (sym e))
 place_within f name (x ∷ xs) (Some k) e = (named_place f name (x ∷ xs) x k (sym e)).within
+place_within f name _ _ e = cc
 
 -- the first item with a name
 pub item_at_place : {A : Type 0} (f : A → Text) (name : Text) (xs : List A) (k : ℕ) (x : A)
@@ -63,18 +62,10 @@ pub one_place_back : (fragments : List FragmentPart) (i j : ℕ) (f : FragmentPa
     → ((name : List ℕ) → old name ≡ position_from (λ f. bytes_eq name f.name) j (drop j fragments))
     → (name : List ℕ) → new name ≡ position_from (λ f. bytes_eq name f.name) i (drop i fragments)
 one_place_back fragments i j f key old new next within is same updates before name =
-    let split : drop i fragments ≡ f ∷ drop (i + 1) fragments = drop_more fragments i f within ∙ ap (λ z. z ∷ drop (i + 1) fragments) (sym is) in
-    let rest : old name ≡ position_from (λ f. bytes_eq name f.name) (i + 1) (drop (i + 1) fragments) =
-    subst (λ n. old name ≡ position_from (λ f. bytes_eq name f.name) n (drop n fragments)) next (before name) in
-    let test : bytes_eq key name ≡ bytes_eq name f.name = nat_list_eq_equiv.symm key name ∙ ap (bytes_eq name) same in
-    updates name ∙ ap (λ b. cond b (Some i) (old name)) test ∙ ap (λ o. cond (bytes_eq name f.name) (Some i) o) rest
-    ∙ ap (position_from (λ f. bytes_eq name f.name) i) (sym split)
+    grind (arith, nat_tests, drop_more, nat_list_eq_equiv)
 
 -- the places from the first item on are all places
 pub all_places : (fragments : List FragmentPart) (i : ℕ) (made : List ℕ → Option ℕ) → i ≤ 0
     → ((name : List ℕ) → made name ≡ position_from (λ f. bytes_eq name f.name) i (drop i fragments))
     → (name : List ℕ) → made name ≡ place_of name (fragment_names fragments)
-all_places fragments i made done places name =
-    let start : i ≡ 0 = omega arith in
-    subst (λ n. made name ≡ position_from (λ f. bytes_eq name f.name) n (drop n fragments)) start (places name)
-    ∙ sym (position_from-map (bytes_eq name) (λ (f : FragmentPart). f.name) 0 fragments)
+all_places fragments i made done places name = grind (arith, nat_tests, position_from-map)

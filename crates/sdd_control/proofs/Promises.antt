@@ -60,9 +60,7 @@ module _ (backups writes : ℕ) (log : Log) (k : Kept backups writes log) where
   one_value i j v w s t = agree_both i j v w (k.finished i v s) (k.finished j w t)
 
   pub none_written : NoneWritten log
-  none_written i j n s t =
-      let e : Nought ≡ All = agree_both i j Nought All (k.finished i Nought s) (k.wrote j n t) in
-      absurd (cc)
+  none_written i j n s t = let e : Nought ≡ All = agree_both i j Nought All (k.finished i Nought s) (k.wrote j n t) in cc
 
   pub all_written : AllWritten writes log
   all_written i n s l u = number_noted i n log (k.all_written i n s l u)

@@ -1,5 +1,5 @@
 -- What a note puts on a link, and the tests of a note.
-use Rattle.sdd_control.proofs.All.{Act, Bool, Deliver, GONE, Gone, IsNoted, List, Log, Message, Note, OK, Ok, Stop, Tell, VALUE, Val, Value, [], and_both, ap, cases_Bool, cond, drop, eq-eqb, eqb-true, false, inl, inr, is_gone, is_ok, is_stop, is_tell, is_value, not, noted, or_left, or_right, put, refl, subst, sym, taken, true, ℕ, ◌&&◌, ◌==◌, ◌∷◌, ◌≡◌, ◌⊎◌}
+use Rattle.sdd_control.proofs.All.{Act, Bool, Deliver, GONE, Gone, List, Message, Note, OK, Ok, Stop, Tell, VALUE, Val, Value, [], and_both, ap, cases_Bool, cond, drop, eq-eqb, eqb-true, false, inl, inr, is_gone, is_ok, is_stop, is_tell, is_value, not, put, refl, taken, true, ℕ, ◌&&◌, ◌==◌, ◌∷◌, ◌≡◌, ◌⊎◌}
 use Rattle.sdd_control.proofs.Lists.{and_left, and_right, Has, Tidy, has_drop, has_cond, tidy_cond}
 
 pub same : (a b : ℕ) → (a == b) ≡ true → a ≡ b
@@ -103,9 +103,3 @@ tidy_taken (Deliver a b) i j xs t u = by_test ((a == i) && (b == j))
     by_test true = u
     by_test false = t
 tidy_taken _ i j xs t u = t
-
--- what stands is noted
-pub stands_noted : (p : Note → Bool) (n : Note) (log : Log) → p n ≡ true → IsNoted log n → noted p log ≡ true
-stands_noted p n [] e s = elim s [ ]
-stands_noted p n (x ∷ log) e (inl q) = or_left (p x.note) (noted p log) (subst (λ z. p z ≡ true) (sym q) e)
-stands_noted p n (x ∷ log) e (inr s) = or_right (p x.note) (noted p log) (stands_noted p n log e s)

@@ -1,5 +1,5 @@
 -- What the tables say is what the log says.
-use Rattle.sdd_control.proofs.All.{Act, Adds, All, Bool, Deliver, FitsAct, GONE, Halt, List, Log, Message, None, Note, NoteFits, Nothing, OK, Option, Send, Some, State, Stop, TakesAct, Tracks, VALUE, Val, [], all_answered, answered, answered_in, ap, arith, arrival, arrival_in, cases_Bool, cases_lt, cond, every_from, false, finished, first_from, greatest_of, has_finished, has_heard, has_stopped, has_told, heir, heir_in, inl, inr, is_finish, is_from_above, is_gone, is_ok, is_stop, is_tell, is_write, knows, knows_in, last, last_number, last_number_in, last_number_of, last_of, leads, link, lt-ltb, may_send, messages_in, nat_lt, nat_tests, next_number_in, next_send, next_send_in, next_untold, not, note_in, note_of, noted, number_after, put, refl, send, stopped, suc, sym, taken, taken_in, true, untold, untold_in, unwritten, value, value_by, value_in, zero, ℕ, ◌&&◌, ◌++◌, ◌+◌, ◌-◌, ◌<◌, ◌==◌, ◌||◌, ◌∙◌, ◌∷◌, ◌≡◌, ◌≤◌}
+use Rattle.sdd_control.proofs.All.{Act, Adds, All, Bool, Deliver, FitsAct, GONE, Halt, List, Log, Message, None, Note, NoteFits, Nothing, OK, Option, Send, Some, State, Stop, TakesAct, Tracks, VALUE, Val, [], all_answered, answered, answered_in, ap, arith, arrival, arrival_in, cases_Bool, cases_lt, cond, every_from, false, finished, first_from, greatest_of, has_stopped, heir, heir_in, inl, inr, is_from_above, is_ok, is_tell, is_write, knows, knows_in, last, last_number, leads, lt-ltb, may_send, messages_in, nat_lt, nat_tests, next_number_in, next_send, next_send_in, next_untold, not, note_in, note_of, noted, number_after, refl, send, suc, sym, taken_in, true, untold, untold_in, unwritten, value, value_by, value_in, zero, ℕ, ◌&&◌, ◌+◌, ◌-◌, ◌<◌, ◌==◌, ◌||◌, ◌∙◌, ◌∷◌, ◌≡◌, ◌≤◌}
 use Rattle.sdd_control.proofs.Above.{above_is_last}
 use Rattle.sdd_control.proofs.Kept.{Kept}
 use Rattle.sdd_control.proofs.Lists.{first_at}
@@ -8,14 +8,12 @@ use Rattle.sdd_control.proofs.Numbers.{Numbered}
 pub every_same : (p q : ℕ → Bool) (k n : ℕ) → ((j : ℕ) → k ≤ j → j < k + n → p j ≡ q j) → every_from p k n ≡ every_from q k n
 every_same p q k zero same = refl
 every_same p q k (suc n) same =
-    ap (λ b. b && every_from p (k + 1) n) (same k (omega arith) (omega arith))
-    ∙ ap (λ b. q k && b) (every_same p q (k + 1) n (λ j l m. same j (omega arith) (omega arith)))
+    cc (same k (omega arith) (omega arith), every_same p q (k + 1) n (λ j l m. same j (omega arith) (omega arith)))
 
 pub first_same : (p q : ℕ → Bool) (k n : ℕ) → ((j : ℕ) → k ≤ j → j < k + n → p j ≡ q j) → first_from p k n ≡ first_from q k n
 first_same p q k zero same = refl
 first_same p q k (suc n) same =
-    ap (λ b. cond b (Some k) (first_from p (k + 1) n)) (same k (omega arith) (omega arith))
-    ∙ ap (cond (q k) (Some k)) (first_same p q (k + 1) n (λ j l m. same j (omega arith) (omega arith)))
+    cc (same k (omega arith) (omega arith), first_same p q (k + 1) n (λ j l m. same j (omega arith) (omega arith)))
 
 -- the first number that passes is c + 1
 first_after : (p : ℕ → Bool) (c k n : ℕ) → ((j : ℕ) → k ≤ j → j ≤ c → p j ≡ false) → p (c + 1) ≡ true → k ≤ c + 1
@@ -83,9 +81,7 @@ module _ (st : State) (log : Log) (t : Tracks st log) where
   all_answered_same i l = every_same (answered_in st i) (answered log i) (i + 1) (st.backups - i) (λ j m u. answered_same i j l (omega arith))
 
   may_send_same : (i : ℕ) → i ≤ st.backups → may_send st i ≡ (leads log i && not (finished log i))
-  may_send_same i l =
-      ap (λ z. not z && heir_in st i && not (has_finished st i)) (t.stopped i l)
-      ∙ ap (λ z. not (stopped log i) && z && not (has_finished st i)) (heir_same i l) ∙ ap (λ z. leads log i && not z) (t.finished i l)
+  may_send_same i l = rw (t.stopped i l, heir_same i l, t.finished i l) refl
 
   next_number_same : Numbered st.writes log → (i : ℕ) → i ≤ st.backups → next_number_in st i ≡ unwritten st.writes log i
   next_number_same h i l = ap (number_after st.writes) (t.numbers i l) ∙ sym (number_after_last st.writes log h i)
@@ -95,11 +91,7 @@ module _ (st : State) (log : Log) (t : Tracks st log) where
 
   arrival_same : Kept st.backups st.writes log → (i j : ℕ) → i ≤ st.backups → j ≤ st.backups
       → arrival_in st i j ≡ note_of st.backups st.writes log (Deliver i j)
-  arrival_same k i j l m =
-      ap (λ z. arrival z (messages_in st i j) (is_from_above (taken_in st j) i) i j) (t.stopped j m)
-      ∙ ap (λ z. arrival (stopped log j) z (is_from_above (taken_in st j) i) i j) (t.links i j l m)
-      ∙ ap (λ z. arrival (stopped log j) (link log i j) (is_from_above z i) i j) (t.values j m) ∙ ap (λ z. arrival (stopped log j) (link log i j) z i j)
-      (sym (above_is_last st.backups st.writes log k i j))
+  arrival_same k i j l m = rw (t.stopped j m, t.links i j l m, t.values j m, above_is_last st.backups st.writes log k i j) refl
 
   pub note_same : Kept st.backups st.writes log → Numbered st.writes log → (act : Act)
       → FitsAct st.backups act → note_in st act ≡ note_of st.backups st.writes log act
@@ -140,21 +132,19 @@ note_fits st (Halt i) l = halt_fits st.backups i (has_stopped st i) l
 pub tracks_on : (old mid new : State) (log : Log) (act : Act) (note : Note)
     → Tracks old log → TakesAct old mid act → Adds mid new note → Tracks new (record { act = act; note = note } ∷ log)
 tracks_on old mid new log act note t taking adding = record {
-  stopped = λ i l. adding.stopped i (up i l) ∙ ap (λ z. is_stop i note || has_stopped z i) taking.others
-      ∙ ap (λ z. is_stop i note || z) (t.stopped i (back i l));
-  finished = λ i l. adding.finished i (up i l) ∙ ap (λ z. is_finish i note || has_finished z i) taking.others
-      ∙ ap (λ z. is_finish i note || z) (t.finished i (back i l));
-  values = λ i l. adding.values i (up i l) ∙ ap (λ z. last_of i note (taken_in z i)) taking.others ∙ ap (last_of i note) (t.values i (back i l));
-  numbers = λ i l. adding.numbers i (up i l) ∙ ap (λ z. last_number_of i note (last_number_in z i)) taking.others
-      ∙ ap (last_number_of i note) (t.numbers i (back i l));
-  known = λ i j l m. adding.known i j (up i l) (up j m) ∙ ap (λ z. is_gone i j note || knows_in z i j) taking.others
-      ∙ ap (λ z. is_gone i j note || z) (t.known i j (back i l) (back j m));
-  told = λ i j l m. adding.told i j (up i l) (up j m) ∙ ap (λ z. is_tell i j note || has_told z i j) taking.others
-      ∙ ap (λ z. is_tell i j note || z) (t.told i j (back i l) (back j m));
-  heard = λ i j l m. adding.heard i j (up i l) (up j m) ∙ ap (λ z. is_ok i j note || has_heard z i j) taking.others
-      ∙ ap (λ z. is_ok i j note || z) (t.heard i j (back i l) (back j m));
-  links = λ i j l m. adding.links i j (up i l) (up j m) ∙ ap (λ z. z ++ put note i j) (taking.links i j (back i l) (back j m))
-      ∙ ap (λ z. taken act i j z ++ put note i j) (t.links i j (back i l) (back j m));
+  stopped = λ i l. rw (adding.stopped i (up i l), taking.others, t.stopped i (back i l)) refl;
+  finished = λ i l. rw (adding.finished i (up i l), taking.others, t.finished i (back i l)) refl;
+  values = λ i l. rw (adding.values i (up i l), taking.others, t.values i (back i l)) refl;
+  numbers = λ i l. rw (adding.numbers i (up i l), taking.others, t.numbers i (back i l)) refl;
+  known = λ i j l m. rw (adding.known i j (up i l) (up j m), taking.others, t.known i j (back i l) (back j m)) refl;
+  told = λ i j l m. rw (adding.told i j (up i l) (up j m), taking.others, t.told i j (back i l) (back j m)) refl;
+  heard = λ i j l m. rw (adding.heard i j (up i l) (up j m), taking.others, t.heard i j (back i l) (back j m)) refl;
+  links = λ i j l m. rw (
+    adding.links i j (up i l) (up j m),
+    taking.links i j (back i l) (back j m),
+    t.links i j (back i l)
+        (back j m),
+  ) refl;
   most = adding.most ∙ ap (λ (z : State). greatest_of note z.most) taking.others ∙ ap (greatest_of note) t.most;
 }
   where

@@ -1,6 +1,6 @@
 -- A FETCH, REDUCE or SHIP is answered from the held rows; and all messages together.
-use Rattle.sdd_dm.proofs.All.{Act, Bases, ClassNo, DatesDiffer, Did, Fetch, Frozen, Handed, HasCopies, List, Log, Msg, None, Notes, Null, Open, Option, Reached, Read, Reduce, Reduced, Rows, Sends, Setting, Ship, Shows, ShowsClass, Site, Some, State, Ts, Value, Values, Worked, Write, [], all_dated, all_held, answer_to, ap, arith, class_piped, class_view, false, fits, frozen, frozen_handed, frozen_of, given_up, goes_through, hands, home_of, if◌then◌else◌, is_asked_of, length, length-update, made_nothing, made_one, next, notes_handed, nothing_noted, opens, opens_acted, reduced_at, refl, rows_held, state_handed, subst, suc, sym, update, values_in, with_out, ℕ, ◌<◌, ◌==◌, ◌∙◌, ◌∷◌, ◌≡◌, ◌≤◌}
-use Rattle.sdd_dm.proofs.ByClass.{at_own, at_other, same_number, other_number, by_class}
+use Rattle.sdd_dm.proofs.All.{Act, Bases, ClassNo, DatesDiffer, Did, Fetch, Frozen, Handed, HasCopies, List, Log, Msg, None, Notes, Null, Open, Option, Reached, Read, Reduce, Reduced, Rows, Sends, Setting, Ship, Shows, ShowsClass, Site, Some, State, Ts, Value, Values, Worked, Write, [], all_dated, all_held, answer_to, ap, arith, class_piped, class_view, false, fits, frozen, frozen_handed, frozen_of, given_up, goes_through, hands, home_of, is_asked_of, length, length-update, made_nothing, made_one, next, notes_handed, nothing_noted, opens, opens_acted, reduced_at, refl, rows_held, state_handed, suc, sym, update, values_in, with_out, ℕ, ◌<◌, ◌==◌, ◌∙◌, ◌∷◌, ◌≡◌, ◌≤◌}
+use Rattle.sdd_dm.proofs.ByClass.{at_own, at_other, same_number}
 use Rattle.sdd_dm.proofs.Dates.{new_differ}
 use Rattle.sdd_dm.proofs.Messages.{is_answered, opened, put_shown, read_worked}
 
@@ -90,15 +90,7 @@ fetch_worked from st ts class u col s bases log shows fit =
 reduced_class : (s : Setting) (st : State) (log : Log) (ts : Ts) (class : ClassNo) (u col : ℕ) (values : List Value) (k : ℕ) → Shows s st log
     → k ≤ length s.catalogue.classes
     → frozen_of (update class.0 (reduced_at ts.0 u col values) st.frozen) k ≡ frozen_handed k (Reduce ts class u col values) (frozen s k log)
-reduced_class s st log ts class u col values k shows l =
-    by_class (λ j. j ≤ length s.catalogue.classes
-    → frozen_of (update class.0 (reduced_at ts.0 u col values) st.frozen) j ≡ frozen_handed j (Reduce ts class u col values) (frozen s j log)) class.0 k
-    (λ p. at_own (reduced_at ts.0 u col values) st.frozen class.0 None (omega (arith, shows.frozen))
-    ∙ ap (reduced_at ts.0 u col values) (shows.classes class.0 p).frozen
-    ∙ sym (ap (λ b. if b then reduced_at ts.0 u col values (frozen s class.0 log) else frozen s class.0 log) (same_number class.0 class.0 refl)))
-    (λ q p. at_other (reduced_at ts.0 u col values) st.frozen class.0 k None q ∙ (shows.classes k p).frozen
-    ∙ sym (ap (λ b. if b then reduced_at ts.0 u col values (frozen s k log) else frozen s k log) (other_number class.0 k q)))
-    l
+reduced_class s st log ts class u col values k shows l = grind (arith, at_own, at_other)
 
 reduce_worked : (from : Site) (st : State) (ts : Ts) (class : ClassNo) (u col : ℕ) (values : List Value)
     → Worked from (Reduce ts class u col values) st (state_handed (Reduce ts class u col values) st)
@@ -124,14 +116,7 @@ reduce_worked from st ts class u col values s bases log shows fit =
 
 ship_class : (s : Setting) (st : State) (log : Log) (ts : Ts) (class : ClassNo) (rows : _) (k : ℕ) → Shows s st log → k ≤ length s.catalogue.classes
     → frozen_of (update class.0 (λ f. None) st.frozen) k ≡ given_up k (Rows ts class rows) (frozen s k log)
-ship_class s st log ts class rows k shows l =
-    by_class (λ j. j ≤ length s.catalogue.classes
-    → frozen_of (update class.0 (λ f. None) st.frozen) j ≡ given_up j (Rows ts class rows) (frozen s j log)) class.0 k
-    (λ p. at_own (λ f. None) st.frozen class.0 None (omega (arith, shows.frozen))
-    ∙ sym (ap (λ b. if b then None else frozen s class.0 log) (same_number class.0 class.0 refl)))
-    (λ q p. at_other (λ f. None) st.frozen class.0 k None q ∙ (shows.classes k p).frozen
-    ∙ sym (ap (λ b. if b then None else frozen s k log) (other_number class.0 k q)))
-    l
+ship_class s st log ts class rows k shows l = grind (arith, at_own, at_other)
 
 ship_worked : (from : Site) (st : State) (ts : Ts) (class : ClassNo)
     → Worked from (Ship ts class) st (state_handed (Ship ts class) st) (notes_handed from (Ship ts class) st nothing_noted)
@@ -191,12 +176,7 @@ hand_worked from m st old new none notes same e f g = rw (e, g, f, ← same) (me
 -- the class of a message for a pipe is there
 class_there : (s : Setting) (bases : Bases) (log : Log) (from : Site) (m : Msg) (c : ℕ) → fits s bases log from m → class_piped m ≡ Some c
     → c ≤ length s.catalogue.classes
-class_there s bases log from (Read ts class txn attempt conds uses) c fit e =
-    let same : class.0 ≡ c = cc in subst (λ k. k ≤ length s.catalogue.classes) same fit.piped.source.is_class
-class_there s bases log from (Write ts class txn changes) c fit e =
-    let same : class.0 ≡ c = cc in subst (λ k. k ≤ length s.catalogue.classes) same fit.piped.source.is_class
-class_there s bases log from (Null class time) c fit e = let same : class.0 ≡ c = cc in subst (λ k. k ≤ length s.catalogue.classes) same fit.source.is_class
-class_there s bases log from _ c fit e = absurd cc
+class_there s bases log from m c fit e = grind arith
 
 pub class_known : (s : Setting) (bases : Bases) (st : State) (log : Log) (from : Site) (m : Msg) → Shows s st log → fits s bases log from m → (c : ℕ)
     → class_piped m ≡ Some c → c < length st.pipes

@@ -1,5 +1,5 @@
 -- A WRITE that is applied: its changes stand among those of its class, wherever they came in time.
-use Rattle.sdd_dm.proofs.All.{AreSame, Bool, Change, Contains, Contains-append_cases, Contains-append_left, Contains-append_right, Contains-cases, Contains-here, Contains-later, Contains-nil, Dated, DatesDiffer, Did, EachHanded, Handed, List, Log, Msg, None, Option, Rec, Records, Redeclared, Sends, Setting, Site, Some, Submits, Ticked, [], all_dated, ap, applied, arith, changes_in, classes_of, dated, false, first_rows, flat_map, head, if◌then◌else◌, inl, inr, is_apply, length, pipe, range_with_len, refl, subst, suc, sym, true, written, zero, ℕ, ◌&&◌, ◌++◌, ◌+◌, ◌<◌, ◌==◌, ◌∷◌, ◌≡◌, ◌≤◌, ◌⊎◌}
+use Rattle.sdd_dm.proofs.All.{AreSame, Bool, Change, Contains, Contains-append_cases, Contains-append_left, Contains-append_right, Contains-cases, Contains-here, Contains-later, Contains-nil, Dated, DatesDiffer, Did, EachHanded, Handed, List, Log, Msg, None, Option, Rec, Records, Setting, Site, Some, [], all_dated, applied, arith, changes_in, classes_of, dated, false, first_rows, flat_map, head, if◌then◌else◌, inl, inr, is_apply, length, pipe, range_with_len, refl, subst, suc, sym, true, written, zero, ℕ, ◌&&◌, ◌++◌, ◌+◌, ◌<◌, ◌==◌, ◌∷◌, ◌≡◌, ◌≤◌, ◌⊎◌}
 use Rattle.sdd_dm.proofs.ByClass.{same_number, number_is}
 use Rattle.sdd_dm.proofs.Handed.{head_handed}
 
@@ -7,8 +7,7 @@ use Rattle.sdd_dm.proofs.Handed.{head_handed}
 
 in_range : (a n k : ℕ) → k < n → Contains (range_with_len a n) (a + k)
 in_range a zero k l = absurd (omega arith)
-in_range a (suc n) zero l =
-    let e : a + 0 ≡ a = omega arith in subst (Contains (a ∷ range_with_len (a + 1) n)) (sym e) (Contains-here a (range_with_len (a + 1) n))
+in_range a (suc n) zero l = grind arith
 in_range a (suc n) (suc k) l =
     let e : (a + 1) + k ≡ a + suc k = omega arith in
     Contains-later a (range_with_len (a + 1) n) (a + suc k) (subst (Contains (range_with_len (a + 1) n)) e (in_range (a + 1) n k (omega arith)))
@@ -41,10 +40,7 @@ each_in (Handed from m ∷ log) all h = (
   λ x i. h x (Contains-append_left (changes_in (Some m)) (written log) x i),
   each_in log all (λ x i. h x (Contains-append_right (changes_in (Some m)) (written log) x i)),
 )
-each_in (Ticked n ∷ log) all h = each_in log all h
-each_in (Submits n txn ∷ log) all h = each_in log all h
-each_in (Redeclared era t ∷ log) all h = each_in log all h
-each_in (Did act ∷ log) all h = each_in log all h
+each_in (_ ∷ log) all h = each_in log all h
 
 head_by : (c : ℕ) (log : Log) (o : Option Msg) (x : ℕ × Change) → head (pipe c log) ≡ o → Contains (changes_in o) x → Contains (written log) x
 head_by c log None x e h = absurd (Contains-nil x h)
@@ -61,12 +57,9 @@ acted_by true xs ys all x f g h = elim (Contains-append_cases xs ys x h) as (λ 
 applied_written : (c : ℕ) (log : Log) (x : ℕ × Change) → Contains (applied c log) x → Contains (written log) x
 applied_written c [] x h = h
 applied_written c (Handed from m ∷ log) x h = Contains-append_right (changes_in (Some m)) (written log) x (applied_written c log x h)
-applied_written c (Ticked n ∷ log) x h = applied_written c log x h
-applied_written c (Submits n txn ∷ log) x h = applied_written c log x h
-applied_written c (Redeclared era t ∷ log) x h = applied_written c log x h
-applied_written c (Did (Sends to m hand) ∷ log) x h = applied_written c log x h
 applied_written c (Did (Records k r sends) ∷ log) x h =
     acted_by ((k == c) && is_apply r) (applied c log) (changes_in (head (pipe c log))) (written log) x (applied_written c log x) (head_written c log x) h
+applied_written c (_ ∷ log) x h = applied_written c log x h
 
 dated_in_all : (s : Setting) (log : Log) (x : ℕ × Change) → Contains (dated s log) x → Contains (all_dated s log) x
 dated_in_all s log x h = elim (Contains-append_cases (first_rows s) (flat_map (λ c. applied c log) (classes_of s)) x h) as (λ _. Contains (all_dated s log) x) [
@@ -126,8 +119,7 @@ acted_from true xs ys x h =
     elim (Contains-append_cases xs ys x h) as (λ _. Contains xs x ⊎ ((true ≡ true) × Contains ys x)) [ inl i ↦ inl i | inr i ↦ inr (refl, i) ]
 
 first_is_true : (a b : Bool) → (a && b) ≡ true → a ≡ true
-first_is_true true b e = refl
-first_is_true false b e = e
+first_is_true a b e = grind arith
 
 no_more_dated : (s : Setting) (log : Log) (c : ℕ) (r : Rec) (sends : List (Site × Msg)) (x : ℕ × Change)
     → Contains (dated s (Did (Records c r sends) ∷ log)) x → Contains (dated s log ++ changes_in (head (pipe c log))) x
@@ -154,17 +146,6 @@ same_dated s log c r sends l e = λ x. (more_dated s log c r sends x l e, no_mor
 
 -- another record adds none
 
-flat_same : {A B : Type 0} (f g : A → List B) (xs : List A) → ((x : A) → f x ≡ g x) → flat_map f xs ≡ flat_map g xs
-flat_same f g [] h = refl
-flat_same f g (x ∷ xs) h = rw (h x, flat_same f g xs h) refl
-
-not_applied : (b c : Bool) (xs ys : Dated) → c ≡ false → (if b && c then xs ++ ys else xs) ≡ xs
-not_applied true c xs ys e = rw e refl
-not_applied false c xs ys e = refl
-
 pub dated_kept : (s : Setting) (log : Log) (c : ℕ) (r : Rec) (sends : List (Site × Msg)) → is_apply r ≡ false
     → dated s (Did (Records c r sends) ∷ log) ≡ dated s log
-dated_kept s log c r sends e =
-    ap (λ xs. first_rows s ++ xs)
-    (flat_same (λ k. applied k (Did (Records c r sends) ∷ log)) (λ k. applied k log) (classes_of s)
-    (λ k. not_applied (c == k) (is_apply r) (applied k log) (changes_in (head (pipe k log))) e))
+dated_kept s log c r sends e = grind arith

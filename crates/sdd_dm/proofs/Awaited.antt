@@ -1,16 +1,11 @@
 -- What a module tells of its READs that wait.
-use Rattle.sdd_dm.proofs.All.{Bool, Cond, IsAwaited, Kept, List, Log, Msg, None, Option, Processes, Read, Represents, Setting, Shows, Some, State, Step, [], ap, arith, conds_of, false, find, first_some, first_step, first_unmet, head_at, if◌then◌else◌, is_met, is_met_in, length, list_all, not, of_class, or_else, range_with_len, refl, step_at, step_by, subst, suc, sym, true, view_of, waiting_at, waiting_in, waits, waits_at, zero, ℕ, ◌&&◌, ◌+◌, ◌<◌, ◌==◌, ◌∙◌, ◌∷◌, ◌≡◌, ◌≤◌}
-use Rattle.sdd_dm.proofs.Shown.{met_is, waits_shown, head_shown}
+use Rattle.sdd_dm.proofs.All.{Bool, Cond, IsAwaited, Kept, List, Log, Msg, None, Option, Represents, Setting, Shows, Some, State, Step, [], ap, arith, conds_of, false, find, first_some, first_step, first_unmet, head_at, if◌then◌else◌, length, list_all, not, of_class, or_else, range_with_len, refl, step_at, step_by, suc, sym, true, waiting_in, waits, zero, ℕ, ◌&&◌, ◌+◌, ◌<◌, ◌∙◌, ◌∷◌, ◌≡◌, ◌≤◌}
+use Rattle.sdd_dm.proofs.Shown.{met_is}
 
 -- where none of a range is there, each isn't
 each_none : {B : Type 0} (f : ℕ → Option B) (a n c : ℕ) → first_some f (range_with_len a n) ≡ None → c < n → f (a + c) ≡ None
 each_none f a zero c e l = absurd (omega arith)
-each_none f a (suc n) zero e l =
-    let z : a + 0 ≡ a = omega arith in
-    elim (f a) as (λ o. f a ≡ o → or_else o (first_some f (range_with_len (a + 1) n)) ≡ None → f (a + 0) ≡ None) [
-      | None ↦ λ p q. ap f z ∙ p
-      | Some x ↦ λ p q. absurd cc
-    ] refl e
+each_none f a (suc n) zero e l = grind arith
 each_none f a (suc n) (suc c) e l =
     let z : a + suc c ≡ (a + 1) + c = omega arith in
     elim (f a) as (λ o. f a ≡ o → or_else o (first_some f (range_with_len (a + 1) n)) ≡ None → f (a + suc c) ≡ None) [
@@ -19,8 +14,7 @@ each_none f a (suc n) (suc c) e l =
     ] refl e
 
 no_step_of : (c : ℕ) (o : Option Step) → of_class c o ≡ None → o ≡ None
-no_step_of c None e = refl
-no_step_of c (Some step) e = absurd cc
+no_step_of c o e = grind arith
 
 -- a quiet module has nothing for a head to do
 quiet_at : (st : State) (c : ℕ) → first_step st.pipes st.waits ≡ None → c < length st.pipes → step_at st.pipes st.waits c ≡ None
@@ -39,54 +33,23 @@ some_lacks f (d ∷ conds) e =
       | false ↦ λ p q. (d, rw p refl)
     ] refl e
 
-not_all : (b : Bool) → (if b then Some Processes else None) ≡ None → b ≡ false
-not_all true e = absurd cc
-not_all false e = refl
-
 lacks_by : (st : State) (c t : ℕ) (o : Option Msg) (conds : List Cond) → step_by st.pipes st.waits c true o ≡ None → conds_of t o ≡ Some conds
     → (d : Cond) × (first_unmet st.pipes (Some conds) ≡ Some d)
-lacks_by st c t (Some (Read ts class txn attempt own uses)) conds e f = of_time (ts.0 == t) own conds (not_all (list_all (is_met_in st.pipes) own) e) f
-  where
-    of_time : (b : Bool) (own conds : List Cond) → list_all (is_met_in st.pipes) own ≡ false → (if b then Some own else None) ≡ Some conds
-        → (d : Cond) × (first_unmet st.pipes (Some conds) ≡ Some d)
-    of_time true own conds g h = let same : own ≡ conds = cc in some_lacks (is_met_in st.pipes) conds (ap (list_all (is_met_in st.pipes)) (sym same) ∙ g)
-    of_time false own conds g h = absurd cc
-lacks_by st c t None conds e f = absurd cc
-lacks_by st c t (Some m) conds e f = absurd cc
+lacks_by st c t o conds e f = grind (arith, some_lacks)
 
 lacks_in : (st : State) (c t : ℕ) (b : Bool) (conds : List Cond) → step_by st.pipes st.waits c b (head_at st.pipes c) ≡ None
     → (if b then conds_of t (head_at st.pipes c) else None) ≡ Some conds
     → (d : Cond) × (first_unmet st.pipes (Some conds) ≡ Some d)
-lacks_in st c t true conds e f = lacks_by st c t (head_at st.pipes c) conds e f
-lacks_in st c t false conds e f = absurd cc
-
-waiting_is : (s : Setting) (st : State) (log : Log) (c t : ℕ) → Shows s st log → c ≤ length s.catalogue.classes
-    → waiting_in st.pipes st.waits c t ≡ waiting_at c t log
-waiting_is s st log c t shows l =
-    ap (λ b. if b then conds_of t (head_at st.pipes c) else None) (waits_shown s st log c shows l)
-    ∙ ap (λ o. if waits c log then conds_of t o else None) (head_shown s st log c shows l)
+lacks_in st c t b conds e f = grind (arith, lacks_by)
 
 found_same : (f g : Cond → Bool) (conds : List Cond) → ((d : Cond) → f d ≡ g d) → find f conds ≡ find g conds
-found_same f g [] h = refl
-found_same f g (d ∷ conds) h =
-    elim (g d) as (λ b. g d ≡ b → find f (d ∷ conds) ≡ find g (d ∷ conds)) [
-      | true ↦ λ e. rw (h d ∙ e, e) refl
-      | false ↦ λ e. rw (h d ∙ e, e) (found_same f g conds h)
-    ] refl
+found_same f g conds h = grind arith
 
 awaited_by : (s : Setting) (st : State) (log : Log) (c t : ℕ) (o : Option (List Cond)) → Shows s st log → c ≤ length s.catalogue.classes
     → first_step st.pipes st.waits ≡ None
     → waiting_in st.pipes st.waits c t ≡ o → IsAwaited s log c t (first_unmet st.pipes o)
-awaited_by s st log c t None shows l quiet e = sym (waiting_is s st log c t shows l) ∙ e
-awaited_by s st log c t (Some conds) shows l quiet e =
-    let d = lacks_in st c t (waits_at st.waits c) conds (quiet_at st c quiet (omega (arith, shows.pipes))) e in
-    subst (IsAwaited s log c t) (sym d.1) (
-      conds,
-      sym (waiting_is s st log c t shows l) ∙ e,
-      found_same (λ x. not (is_met (view_of s log) x)) (λ x. not (is_met_in st.pipes x)) conds (λ x. ap not (sym (met_is s st log shows x))) ∙ d.1,
-    )
+awaited_by s st log c t o shows l quiet e = grind (arith, lacks_in, waits, quiet_at, found_same, met_is)
 
 pub awaited_is : (k : Kept State) (s : Setting) (log : Log) (c t : ℕ) (answer : Option Cond) → Represents k s log → c ≤ length s.catalogue.classes
     → answer ≡ first_unmet k.value.pipes (waiting_in k.value.pipes k.value.waits c t) → IsAwaited s log c t answer
-awaited_is k s log c t answer represents l is =
-    subst (IsAwaited s log c t) (sym is) (awaited_by s k.value log c t (waiting_in k.value.pipes k.value.waits c t) represents.shows l represents.quiet refl)
+awaited_is k s log c t answer represents l is = grind (arith, awaited_by)

@@ -1,14 +1,13 @@
 -- The rows and copies with which a module begins.
-use Rattle.sdd_dm.proofs.All.{All, All-head, All-tail, Bor, Catalogue, Change, Database, Dated, Equal, FragNo, Greater, Held, IsEntry, Item, Items, Less, List, None, RelNo, Row, Some, Value, [], ap, arith, changed_at, false, first_row, fold, frag_no, fragment_of, insert_entry, is_here, item_cmp, key_in, length, lent, map, match_ordering, option_map, refl, slice_index_or, subst, suc, sym, with_change, with_row, zero, ℕ, ℤ, ◌++◌, ◌+◌, ◌<◌, ◌∙◌, ◌∷◌, ◌≡◌}
+use Rattle.sdd_dm.proofs.All.{All, All-head, All-tail, Bor, Catalogue, Change, Database, Dated, FragNo, Held, IsEntry, Item, Items, List, RelNo, Row, Some, Value, [], ap, arith, changed_at, false, first_row, fold, fragment_of, insert_entry, is_here, item_cmp, key_in, length, lent, map, option_map, refl, slice_index_or, subst, suc, sym, with_change, with_row, zero, ℕ, ℤ, ◌++◌, ◌+◌, ◌<◌, ◌∷◌, ◌≡◌}
 use Rattle.sdd_copy.specs.Items.{written}
 
 -- a change of a fragment without a copy is left out
 
 not_changed : (copies : Held) (f : ℕ) (g : Items → Items) → is_here copies f ≡ false → changed_at f (option_map g) copies ≡ copies
-not_changed [] f g e = refl
-not_changed (None ∷ copies) zero g e = refl
 not_changed (Some items ∷ copies) zero g e = absurd cc
 not_changed (c ∷ copies) (suc f) g e = ap (λ l. c ∷ l) (not_changed copies f g e)
+not_changed _ _ g e = refl
 
 pub not_written : (copies : Held) (x : ℕ × Change) → is_here copies x.1.frag.0 ≡ false → copies ≡ with_change copies x
 not_written copies x e = sym (not_changed copies x.1.frag.0 (λ items. written items x) e)
@@ -17,14 +16,7 @@ not_written copies x e = sym (not_changed copies x.1.frag.0 (λ items. written i
 pub lent_put : (es : List (Item × Bor (List Value))) (k : Item) (v : Bor (List Value))
     → map lent (insert_entry item_cmp es k v) ≡ insert_entry item_cmp (map lent es) k v.now
 lent_put [] k v = refl
-lent_put (e ∷ es) k v =
-    elim (item_cmp k e.0) as
-    (λ o. map lent (match_ordering o ((k, v) ∷ e ∷ es) ((e.0, v) ∷ es) (e ∷ insert_entry item_cmp es k v)) ≡ match_ordering o
-    ((k, v.now) ∷ lent e ∷ map lent es) ((e.0, v.now) ∷ map lent es) (lent e ∷ insert_entry item_cmp (map lent es) k v.now)) [
-      | Less ↦ refl
-      | Equal ↦ refl
-      | Greater ↦ ap (λ l. lent e ∷ l) (lent_put es k v)
-    ]
+lent_put (e ∷ es) k v = grind (arith, lent_put es k v)
 
 -- one more element
 
@@ -57,10 +49,7 @@ pub one_written : (cat : Catalogue) (old rest : List (Item × Bor (List Value)))
     → old ≡ e ∷ rest → f.0 ≡ fragment_of cat e.0.0 e.0.1
     → new ≡ with_change copies (0, record { frag = f; key = e.0.1; row = Some e.1.now }) → fold with_change copies (first_of cat old) ≡ all
     → fold with_change new (first_of cat rest) ≡ all
-one_written cat old rest e f copies new all is number written so_far =
-    let x : new ≡ with_change copies (first_row cat (lent e)) =
-    written ∙ ap (λ n. with_change copies (0, record { frag = frag_no n; key = e.0.1; row = Some e.1.now })) number in
-    ap (λ c. fold with_change c (first_of cat rest)) x ∙ sym (ap (λ es. fold with_change copies (first_of cat es)) is) ∙ so_far
+one_written cat old rest e f copies new all is number written so_far = cc
 
 abbrev pub with_key : Held → FragNo → List Value → ℤ → Held
 with_key copies f row key = with_change copies (0, record { frag = f; key = key; row = Some row })

@@ -9,11 +9,9 @@ at_own f (x ∷ xs) zero d h = refl
 at_own f (x ∷ xs) (suc k) d h = at_own f xs k d (omega arith)
 
 pub at_other : {A : Type 0} (f : A → A) (xs : List A) (k c : ℕ) (d : A) → c ≢ k → slice_index_or (update k f xs) c d ≡ slice_index_or xs c d
-at_other f [] k c d h = refl
 at_other f (x ∷ xs) zero zero d h = absurd (h refl)
-at_other f (x ∷ xs) zero (suc c) d h = refl
-at_other f (x ∷ xs) (suc k) zero d h = refl
 at_other f (x ∷ xs) (suc k) (suc c) d h = at_other f xs k c d (λ e. h (ap suc e))
+at_other f _ _ _ d h = refl
 
 -- equal numbers or not
 
@@ -31,11 +29,7 @@ number_not a b h e = let t = same_number a b (sym e) in absurd cc
 
 -- at class k, or at another
 pub by_class : (P : ℕ → Type 0) (k c : ℕ) → P k → (c ≢ k → P c) → P c
-by_class P k c own other =
-    elim (k == c) as (λ b. (k == c) ≡ b → P c) [
-      | true ↦ λ e. subst P (number_is k c e) own
-      | false ↦ λ e. other (number_not k c e)
-    ] refl
+by_class P k c own other = grind arith
 
 -- an element of a list that is made over a range
 
@@ -66,20 +60,10 @@ any_range f g a zero h = refl
 any_range f g a (suc n) h = rw (h a (omega arith), any_range f g (a + 1) n (λ c l. h c (omega arith))) refl
 
 pub all_same : {A : Type 0} (f g : A → Bool) (xs : List A) → ((x : A) → f x ≡ g x) → list_all f xs ≡ list_all g xs
-all_same f g [] h = refl
-all_same f g (x ∷ xs) h = rw (h x, all_same f g xs h) refl
-
-filter_by : {A : Type 0} (f g : A → Bool) (x : A) (xs : List A) → f x ≡ g x → filter f xs ≡ filter g xs
-    → filter f (x ∷ xs) ≡ filter g (x ∷ xs)
-filter_by f g x xs e h =
-    elim (g x) as (λ b. g x ≡ b → filter f (x ∷ xs) ≡ filter g (x ∷ xs)) [
-      | true ↦ λ p. rw (e ∙ p, p, h) refl
-      | false ↦ λ p. rw (e ∙ p, p, h) refl
-    ] refl
+all_same f g xs h = grind arith
 
 pub filter_same : {A : Type 0} (f g : A → Bool) (xs : List A) → ((x : A) → f x ≡ g x) → filter f xs ≡ filter g xs
-filter_same f g [] h = refl
-filter_same f g (x ∷ xs) h = filter_by f g x xs (h x) (filter_same f g xs h)
+filter_same f g xs h = grind arith
 
 -- the first of a list
 
@@ -100,9 +84,7 @@ first_range f g a (suc n) h = rw (h a (omega arith), first_range f g (a + 1) n (
 pub only_at : {B : Type 0} (f : ℕ → Option B) (a n k : ℕ) (x : B) → k < n → f (a + k) ≡ Some x → ((c : ℕ) → c ≢ a + k → f c ≡ None)
     → first_some f (range_with_len a n) ≡ Some x
 only_at f a zero k x l e o = absurd (omega arith)
-only_at f a (suc n) zero x l e o =
-    let z : a + 0 ≡ a = omega arith in
-    let here : f a ≡ Some x = subst (λ j. f j ≡ Some x) z e in rw here refl
+only_at f a (suc n) zero x l e o = grind arith
 only_at f a (suc n) (suc k) x l e o =
     let p : a + suc k ≡ (a + 1) + k = omega arith in
     rw (o a (λ q. omega arith)) (only_at f (a + 1) n k x (omega arith) (subst (λ j. f j ≡ Some x) p e) (λ c q. o c (λ r. q (r ∙ p))))
@@ -119,9 +101,7 @@ found_first f P a (suc n) x h e =
 
 -- one number up to another, or past it
 pub split : (P : Type 0) (c n : ℕ) → (c ≤ n → P) → (n < c → P) → P
-split P zero n f g = f (omega arith)
-split P (suc c) zero f g = g (omega arith)
-split P (suc c) (suc n) f g = split P c n (λ l. f (omega arith)) (λ l. g (omega arith))
+split P c n f g = grind arith
 
 -- the same from class 0 on
 

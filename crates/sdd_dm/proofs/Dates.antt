@@ -1,5 +1,5 @@
 -- The changes of a WRITE that is handed: no two of them change one item, and no other change has its time.
-use Rattle.sdd_dm.proofs.All.{AllByRecursion, Bool, Change, Contains, Contains-append_cases, Contains-append_left, Contains-append_right, Contains-cases, Contains-here, Contains-later, Contains-nil, Dated, DatesDiffer, Did, Equal, Handed, IsDistinct, IsDistinct-head, IsDistinct-tail, Item, List, Log, Msg, Redeclared, Setting, Some, Submits, Ticked, Write, [], all_dated, ap, arith, changes_in, contains, database_of, false, first_row, first_rows, inl, inr, int_cmp, is_eq, is_own, item_cmp, map, nat_cmp, nat_tests, or_right, ordering_then, refl, subst, sym, true, with_time, write_time_of, write_times, written, ℕ, ℤ, ◌++◌, ◌<◌, ◌==◌, ◌∙◌, ◌∷◌, ◌≡◌}
+use Rattle.sdd_dm.proofs.All.{AllByRecursion, Bool, Change, Contains, Contains-append_cases, Contains-append_left, Contains-append_right, Contains-cases, Contains-here, Contains-later, Contains-nil, Dated, DatesDiffer, Equal, Handed, IsDistinct, IsDistinct-head, IsDistinct-tail, Item, List, Log, Msg, Setting, Some, Write, [], all_dated, ap, arith, changes_in, contains, database_of, false, first_row, first_rows, inl, inr, int_cmp, is_eq, is_own, item_cmp, map, nat_cmp, nat_tests, ordering_then, refl, subst, sym, true, with_time, write_time_of, write_times, written, ℕ, ℤ, ◌++◌, ◌<◌, ◌∙◌, ◌∷◌, ◌≡◌}
 use Rattle.sdd_dm.proofs.ByClass.{same_number}
 
 -- members of a list that a function makes
@@ -67,8 +67,7 @@ written_time (Write ts class txn changes) times x h =
 written_time _ times x h = absurd (Contains-nil x h)
 
 later_time : (m : Msg) (times : List ℕ) (t : ℕ) → contains times t ≡ true → contains (with_time (write_time_of m) times) t ≡ true
-later_time (Write ts class txn changes) times t h = or_right (ts.0 == t) (contains times t) h
-later_time _ times t h = h
+later_time m times t h = grind arith
 
 written_times : (log : Log) (x : ℕ × Change) → Contains (written log) x → contains (write_times log) x.0 ≡ true
 written_times [] x h = absurd (Contains-nil x h)
@@ -77,10 +76,7 @@ written_times (Handed from m ∷ log) x h =
       | inl i ↦ written_time m (write_times log) x i
       | inr i ↦ later_time m (write_times log) x.0 (written_times log x i)
     ]
-written_times (Ticked n ∷ log) x h = written_times log x h
-written_times (Submits n txn ∷ log) x h = written_times log x h
-written_times (Redeclared era t ∷ log) x h = written_times log x h
-written_times (Did act ∷ log) x h = written_times log x h
+written_times (_ ∷ log) x h = written_times log x h
 
 -- of the changes of a new WRITE and all before, two of one item have two times
 

@@ -1,13 +1,12 @@
 -- A module to which nothing was handed represents the empty log.
-use Rattle.sdd_dm.proofs.All.{All-contains, AllByRecursion, Catalogue, Contains, Contains-cases, Contains-nil, D, Database, DatesDiffer, DmNo, IsDatabase, IsDigest, IsDistinct, IsDistinct-from_sorted, IsDistinct-head, IsDistinct-tail, IsEntry, IsSoundCatalogue, IsTrue, Item, List, None, RelNo, Represent, Row, Setting, Shows, State, [], ap, append-nil, arith, classes_of, database_of, dated, empty_digest, empty_pipe, eq_by_cmp, false, first_row, first_rows, first_step, flat_map, fragment_at, fragment_holds, fragment_of, has_copy, home_of, inl, inr, is_empty_digest, is_here, item_cmp, key_in_range, keys_of, length, length-replicate, map, of_class, range_with_len, refl, replicate, slice_index_or, step_at, subst, suc, sym, true, zero, ℕ, ◌++◌, ◌+◌, ◌∙◌, ◌∷◌, ◌≡◌}
+use Rattle.sdd_dm.proofs.All.{All-contains, AllByRecursion, Catalogue, Contains, Contains-cases, Contains-nil, D, Database, DatesDiffer, DmNo, IsDatabase, IsDigest, IsDistinct, IsDistinct-from_sorted, IsDistinct-head, IsDistinct-tail, IsEntry, IsSoundCatalogue, IsTrue, Item, List, None, RelNo, Represent, Row, Setting, Shows, State, [], ap, append-nil, arith, classes_of, database_of, dated, empty_digest, empty_pipe, eq_by_cmp, false, first_row, first_rows, first_step, flat_map, fragment_at, fragment_holds, fragment_of, has_copy, home_of, inl, inr, is_empty_digest, is_here, item_cmp, key_in_range, keys_of, length, length-replicate, map, of_class, refl, replicate, slice_index_or, step_at, subst, suc, sym, true, ℕ, ◌++◌, ◌+◌, ◌∙◌, ◌∷◌, ◌≡◌}
 use Rattle.sdd_dm.proofs.ByClass.{first_none}
 use Rattle.sdd_dm.proofs.Dates.{from_map, each_map, own_item}
 
 -- lists of one thing
 at_replicate : {A : Type 0} (n c : ℕ) (x : A) → slice_index_or (replicate n x) c x ≡ x
-at_replicate zero c x = refl
-at_replicate (suc n) zero x = refl
 at_replicate (suc n) (suc c) x = at_replicate n c x
+at_replicate _ _ x = refl
 
 pub flat_none : {A B : Type 0} (xs : List A) → flat_map {A = B} (λ x. []) xs ≡ []
 flat_none [] = refl
@@ -61,9 +60,7 @@ first_differ cat db sound is = λ x y i j frag key time.
 -- nothing is in the pipes
 
 no_step : (n m c : ℕ) → of_class c (step_at (replicate n empty_digest) (replicate m false) c) ≡ None
-no_step n m c =
-    let empty = at_replicate n c empty_digest in
-    rw (empty) refl
+no_step n m c = grind (arith, at_replicate)
 
 abbrev setting_of : Catalogue → DmNo → List (RelNo × Row) → Setting
 setting_of cat dm rows = record { catalogue = cat; site = D dm; rows = rows }
@@ -97,7 +94,4 @@ first_shown cat dm rows n st sound is many home pipes waits frozen pipes_live li
     }
 
 pub first_quiet : (st : State) (n : ℕ) → st.pipes ≡ replicate n empty_digest → st.waits ≡ replicate n false → first_step st.pipes st.waits ≡ None
-first_quiet st n pipes waits =
-    ap (λ ps. first_step ps st.waits) pipes ∙ ap (first_step (replicate n empty_digest)) waits
-    ∙ first_none (λ c. of_class c (step_at (replicate n empty_digest) (replicate n false) c)) (range_with_len 0 (length (replicate n empty_digest)))
-    (no_step n n)
+first_quiet st n pipes waits = grind (arith, first_none, no_step)

@@ -1,19 +1,13 @@
 -- What the first head may do is what is due next, where nothing is left to answer.
-use Rattle.sdd_dm.proofs.All.{Act, Bool, ClassNo, ClassView, Digest, Home, List, Log, Msg, None, Option, Setting, Shows, Some, State, Step, View, [], act_by, act_where, answer_of, ap, arith, class_view, classes_of, due, filter, first_some, first_step, head, head_at, head_due, head_of, head_step, is_asked_of, length, of_class, open_due, opens, or_else, pipe, range_with_len, refl, step_at, step_by, subst, suc, sym, view_of, zero, ℕ, ◌+◌, ◌<◌, ◌∙◌, ◌≡◌, ◌≤◌}
+use Rattle.sdd_dm.proofs.All.{Act, Bool, ClassNo, Digest, Home, List, Log, Msg, None, Option, Setting, Shows, Some, State, Step, View, [], act_by, act_where, ap, arith, class_view, classes_of, due, first_some, first_step, head, head_at, head_due, length, of_class, opens, or_else, pipe, range_with_len, refl, step_at, step_by, subst, suc, sym, view_of, zero, ℕ, ◌+◌, ◌<◌, ◌∙◌, ◌≡◌, ◌≤◌}
 use Rattle.sdd_dm.proofs.ByClass.{first_map, first_none, first_range, found_first}
 use Rattle.sdd_dm.proofs.Shown.{step_is, head_shown}
 
 -- where nothing is left to answer, the heads are next
 
-none_open : (h : Home) (s : Setting) (log : Log) → opens log ≡ [] → (k : ClassView) → open_due h (view_of s log) k ≡ None
-none_open h s log e k = ap (λ os. answer_of h k (head_of (filter (is_asked_of k.class) os))) e
-
 heads_next : (h : Home) (s : Setting) (log : Log) → opens log ≡ []
     → due h (view_of s log) ≡ first_some (λ c. head_due h (view_of s log) (class_view s log c)) (classes_of s)
-heads_next h s log e =
-    ap (λ o. or_else o (first_some (head_due h (view_of s log)) (view_of s log).classes))
-    (first_none (open_due h (view_of s log)) (view_of s log).classes (none_open h s log e))
-    ∙ first_map (head_due h (view_of s log)) (class_view s log) (classes_of s)
+heads_next h s log e = grind (arith, first_none, first_map)
 
 -- the act of the head that may do something
 
@@ -21,25 +15,14 @@ abbrev pub act_of : Home → Setting → Log → Option (ClassNo × Step) → Op
 act_of h s log None = None
 act_of h s log (Some p) = act_where h (view_of s log) p.0.0 (head (pipe p.0.0 log)) (Some p.1)
 
-where_none : (h : Home) (v : View) (c : ℕ) (o : Option Msg) → act_where h v c o None ≡ None
-where_none h v c None = refl
-where_none h v c (Some m) = refl
-
-act_at : (h : Home) (s : Setting) (log : Log) (c : ℕ) (o : Option Step)
-    → act_where h (view_of s log) c (head (pipe c log)) o ≡ act_of h s log (of_class c o)
-act_at h s log c None = where_none h (view_of s log) c (head (pipe c log))
-act_at h s log c (Some step) = refl
-
 head_act : (h : Home) (s : Setting) (st : State) (log : Log) (c : ℕ) → Shows s st log → c ≤ length s.catalogue.classes
     → head_due h (view_of s log) (class_view s log c) ≡ act_of h s log (of_class c (step_at st.pipes st.waits c))
-head_act h s st log c shows l =
-    act_at h s log c (head_step (view_of s log) (class_view s log c)) ∙ ap (λ o. act_of h s log (of_class c o)) (sym (step_is s st log c shows l))
+head_act h s st log c shows l = grind (arith, step_is)
 
 -- a head that may do something is there
 head_there : (pipes : List Digest) (flags : List Bool) (c : ℕ) (w : Bool) (o : Option Msg) (step : Step) → step_by pipes flags c w o ≡ Some step
     → (m : Msg) × (o ≡ Some m)
-head_there pipes flags c w None step e = absurd cc
-head_there pipes flags c w (Some m) step e = (m, refl)
+head_there pipes flags c w o step e = grind arith
 
 acts_there : (h : Home) (v : View) (c : ℕ) (o : Option Msg) (m : Msg) (step : Step) → o ≡ Some m
     → act_where h v c o (Some step) ≡ Some (act_by h v c m step)

@@ -1,5 +1,5 @@
 -- What stands in a pipe was handed.
-use Rattle.sdd_dm.proofs.All.{Bool, Did, EachHanded, Handed, List, Log, Msg, Redeclared, Some, Submits, Ticked, [], false, goes_through, head, head_of, if◌then◌else◌, pipe, subst, sym, true, ℕ, ◌++◌, ◌∷◌, ◌≡◌}
+use Rattle.sdd_dm.proofs.All.{Bool, EachHanded, Handed, List, Log, Msg, Some, [], goes_through, head, head_of, if◌then◌else◌, pipe, rules, subst, sym, ℕ, ◌++◌, ◌∷◌, ◌≡◌}
 use Rattle.sdd_dm.proofs.Prefix.{all_handed, all_there}
 
 -- P holds of each of some messages
@@ -16,20 +16,15 @@ every_later P [] more e = e
 every_later P (m ∷ ms) more e = every_later P ms more e.1
 
 handed_by : (P : Msg → Type 0) (b : Bool) (m : Msg) (ms : List Msg) → P m → Every P ms → Every P (if b then ms ++ m ∷ [] else ms)
-handed_by P true m ms p e = every_append P ms (m ∷ []) e (p, tt)
-handed_by P false m ms p e = e
+handed_by P b m ms p e = search (rules, every_append)
 
 every_handed : (P : Msg → Type 0) (c : ℕ) (log : Log) → EachHanded P log → Every P (all_handed c log)
 every_handed P c [] e = tt
 every_handed P c (Handed from m ∷ log) e = handed_by P (goes_through c m) m (all_handed c log) e.0 (every_handed P c log e.1)
-every_handed P c (Ticked n ∷ log) e = every_handed P c log e
-every_handed P c (Submits n txn ∷ log) e = every_handed P c log e
-every_handed P c (Redeclared era t ∷ log) e = every_handed P c log e
-every_handed P c (Did act ∷ log) e = every_handed P c log e
+every_handed P c (_ ∷ log) e = every_handed P c log e
 
 every_head : (P : Msg → Type 0) (ms : List Msg) (m : Msg) → Every P ms → head_of ms ≡ Some m → P m
-every_head P [] m e h = absurd cc
-every_head P (x ∷ ms) m e h = let same : x ≡ m = cc in subst P same e.0
+every_head P ms m e h = search rules
 
 -- what holds of each handed message holds of the head of a pipe
 pub head_handed : (P : Msg → Type 0) (c : ℕ) (log : Log) (m : Msg) → EachHanded P log → head (pipe c log) ≡ Some m → P m

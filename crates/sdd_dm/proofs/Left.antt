@@ -1,5 +1,5 @@
 -- Each step of a head leaves fewer steps: it processes a message, or lets a READ wait that didn't wait before.
-use Rattle.sdd_dm.proofs.All.{Bool, ClassNo, Cond, Digest, IsTrue, List, Msg, None, Null, Option, Processes, Read, Reduce, Refuses, Ship, Some, State, Step, Waits, Write, Writes, [], ap, arith, class_piped, false, first_step, head_at, head_of, if◌then◌else◌, is_met_in, length, length-update, list_all, pipe_at, put_digest, refl, state_after, state_by, state_handed, state_told, step_by, stepped, steps_in, steps_left, subst, suc, sym, take_digest, true, update, waits_at, zero, ℕ, ◌<◌, ◌∙◌, ◌∷◌, ◌≡◌}
+use Rattle.sdd_dm.proofs.All.{Bool, ClassNo, Cond, Digest, IsTrue, List, Msg, None, Null, Option, Processes, Read, Reduce, Refuses, Ship, Some, State, Step, Waits, Write, ap, arith, class_piped, false, first_step, head_at, if◌then◌else◌, length, length-update, pipe_at, put_digest, refl, state_after, state_by, state_handed, state_told, step_by, stepped, steps_in, steps_left, subst, suc, sym, take_digest, true, update, waits_at, zero, ℕ, ◌<◌, ◌∙◌, ◌∷◌, ◌≡◌}
 use Rattle.sdd_dm.proofs.FirstDue.{first_is}
 
 -- one class less
@@ -7,55 +7,34 @@ use Rattle.sdd_dm.proofs.FirstDue.{first_is}
 taken_less : (f : Digest → Digest) (g : Bool → Bool) (pipes : List Digest) (waits : List Bool) (k : ℕ) → k < length pipes → k < length waits
     → steps_in (f (pipe_at pipes k)) (g (waits_at waits k)) < steps_in (pipe_at pipes k) (waits_at waits k)
     → steps_left (update k f pipes) (update k g waits) < steps_left pipes waits
-taken_less f g [] waits k l m h = absurd (omega arith)
-taken_less f g (p ∷ pipes) [] k l m h = absurd (omega arith)
 taken_less f g (p ∷ pipes) (w ∷ waits) zero l m h = omega arith
 taken_less f g (p ∷ pipes) (w ∷ waits) (suc k) l m h =
     let i : steps_left (update k f pipes) (update k g waits) < steps_left pipes waits = taken_less f g pipes waits k (omega arith) (omega arith) h in
     omega arith
+taken_less f g _ _ k l m h = absurd (omega arith)
 
 waits_less : (pipes : List Digest) (waits : List Bool) (k : ℕ) → k < length pipes → k < length waits → waits_at waits k ≡ false
     → steps_left pipes (update k (λ w. true) waits) < steps_left pipes waits
-waits_less [] waits k l m h = absurd (omega arith)
-waits_less (p ∷ pipes) [] k l m h = absurd (omega arith)
 waits_less (p ∷ pipes) (w ∷ waits) zero l m h = let e : w ≡ false = h in rw e (omega arith)
 waits_less (p ∷ pipes) (w ∷ waits) (suc k) l m h =
     let i : steps_left pipes (update k (λ x. true) waits) < steps_left pipes waits = waits_less pipes waits k (omega arith) (omega arith) h in omega arith
-
-abbrev digest_of : List Msg → Option ℕ → Writes → Digest
-digest_of rest latest writes = record { unprocessed = rest; latest = latest; writes = writes }
-
-fewer_by : (rest : List Msg) (latest : Option ℕ) (writes : Writes) (m : Msg) (w : Bool) → head_of rest ≡ Some m
-    → steps_in (take_digest (digest_of rest latest writes)) false < steps_in (digest_of rest latest writes) w
-fewer_by [] latest writes m w e = absurd cc
-fewer_by (x ∷ rest) latest writes m true e = omega arith
-fewer_by (x ∷ rest) latest writes m false e = omega arith
+waits_less _ _ k l m h = absurd (omega arith)
 
 head_less : (st : State) (c : ℕ) (m : Msg) → c < length st.pipes → length st.waits ≡ length st.pipes → head_at st.pipes c ≡ Some m
     → steps_left (update c take_digest st.pipes) (update c (λ w. false) st.waits) < steps_left st.pipes st.waits
-head_less st c m l same e =
-    let p : Digest = pipe_at st.pipes c in
-    taken_less take_digest (λ w. false) st.pipes st.waits c l (omega arith) (fewer_by p.unprocessed p.latest p.writes m (waits_at st.waits c) e)
+head_less st c m l same e = grind (arith, taken_less)
 
 -- a READ that begins to wait didn't wait
 
 not_both : {P : Type 0} (b : Bool) (ds : List Cond) → (if b then Some Processes else None) ≡ Some (Waits ds) → P
-not_both true ds e = absurd cc
-not_both false ds e = absurd cc
+not_both b ds e = grind arith
 
 step_less : (st : State) (c : ℕ) (m : Msg) (step : Step) (w : Bool) → c < length st.pipes → length st.waits ≡ length st.pipes
     → head_at st.pipes c ≡ Some m
     → waits_at st.waits c ≡ w
     → step_by st.pipes st.waits c w (Some m) ≡ Some step
     → steps_left (stepped st c m step).pipes (stepped st c m step).waits < steps_left st.pipes st.waits
-step_less st c (Null class time) step w l same e f g = head_less st c (Null class time) l same e
-step_less st c (Write ts class txn changes) step w l same e f g = head_less st c (Write ts class txn changes) l same e
-step_less st c (Read ts class txn attempt conds uses) Processes w l same e f g = head_less st c (Read ts class txn attempt conds uses) l same e
-step_less st c (Read ts class txn attempt conds uses) (Refuses by write) w l same e f g = head_less st c (Read ts class txn attempt conds uses) l same e
-step_less st c (Read ts class txn attempt conds uses) (Waits ds) false l same e f g = waits_less st.pipes st.waits c l (omega arith) f
-step_less st c (Read ts class txn attempt conds uses) (Waits ds) true l same e f g = not_both (list_all (is_met_in st.pipes) conds) ds g
-step_less st c m step true l same e f g = absurd cc
-step_less st c m step false l same e f g = absurd cc
+step_less st c m step w l same e f g = grind (arith, head_less, waits_less)
 
 pub steps_fall : (st new : State) (p : ClassNo × Step) → first_step st.pipes st.waits ≡ Some p → length st.waits ≡ length st.pipes
     → new ≡ state_after st p.0.0 (head_at st.pipes p.0.0) p.1
@@ -63,8 +42,7 @@ pub steps_fall : (st new : State) (p : ClassNo × Step) → first_step st.pipes 
 steps_fall st new p e same is =
     let f = first_is st p e in
     let after : new ≡ stepped st p.0.0 f.msg p.1 = is ∙ ap (λ o. state_after st p.0.0 o p.1) f.head in
-    rw after (step_less st p.0.0 f.msg p.1 (waits_at st.waits p.0.0) f.known same f.head refl
-    (ap (step_by st.pipes st.waits p.0.0 (waits_at st.waits p.0.0)) (sym f.head) ∙ f.step))
+    grind (arith, step_less)
 
 -- what stays: the copies and the pipes live, and there are as many flags as pipes
 
@@ -86,8 +64,7 @@ stepped_whole st c (Read ts class txn attempt conds uses) (Waits ds) w =
 stepped_whole st c _ step w = w
 
 after_whole : (st : State) (c : ℕ) (o : Option Msg) (step : Step) → IsWhole st → IsWhole (state_after st c o step)
-after_whole st c None step w = w
-after_whole st c (Some m) step w = stepped_whole st c m step w
+after_whole st c o step w = grind (arith, stepped_whole)
 
 pub whole_on : (st new : State) (p : ClassNo × Step) → new ≡ state_after st p.0.0 (head_at st.pipes p.0.0) p.1 → IsWhole st → IsWhole new
 whole_on st new p e w = subst IsWhole (sym e) (after_whole st p.0.0 (head_at st.pipes p.0.0) p.1 w)

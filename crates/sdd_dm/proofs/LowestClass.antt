@@ -9,10 +9,7 @@ first_below : (d : Cond) (conds : List Cond) (n : ℕ) (e : Cond) → Ascend (cl
     → d.class.0 < e.class.0
 first_below d [] n e h there = cc
 first_below d (x ∷ conds) zero e h there = let p : x ≡ e = cc in subst (λ (y : Cond). d.class.0 < y.class.0) p h.0
-first_below d (x ∷ conds) (suc n) e h there =
-    let i = first_below x conds n e h.1 there in
-    let j : d.class.0 < x.class.0 = h.0 in
-    omega (arith, i, j)
+first_below d (x ∷ conds) (suc n) e h there = grind (arith, first_below x conds n e h.1 there)
 
 record IsFirst (p : Cond → Bool) (conds : List Cond) (e : Cond) : Type 0 where
   first : Cond

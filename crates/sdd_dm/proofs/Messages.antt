@@ -1,5 +1,5 @@
 -- A message is handed: it goes to its pipe, or it is answered at once.
-use Rattle.sdd_dm.proofs.All.{Act, Arrive, Bool, ClassNo, ClassView, Cond, DatesDiffer, Did, Handed, HasCopies, Home, IsDigest, List, Log, Msg, None, Open, Read, Rec, Records, Represent, Setting, Shows, ShowsClass, Site, Some, State, Ts, TxnNo, Use, View, Worked, [], all_dated, answer_of, answer_to, ap, arith, class_view, classes_of, dated, due, empty_digest, false, filter, first_some, frozen, frozen_at, goes_through, hands, head, head_due, head_of, home_of, if◌then◌else◌, is_answer, is_asked_of, is_processing, is_put, is_read_of, is_wait, length, length-update, made_one, next, notes_handed, nothing_noted, open_due, opens, opens_acted, or_else, pipe, pipe_at, put_digest, refl, state_handed, subst, suc, sym, true, update, view_of, waits, ℕ, ◌&&◌, ◌++◌, ◌==◌, ◌||◌, ◌∙◌, ◌∷◌, ◌≡◌, ◌≤◌}
+use Rattle.sdd_dm.proofs.All.{Act, Arrive, Bool, ClassNo, ClassView, Cond, DatesDiffer, Did, Handed, HasCopies, Home, IsDigest, List, Log, Msg, None, Open, Read, Rec, Records, Represent, Setting, Shows, ShowsClass, Site, Some, State, Ts, TxnNo, Use, View, Worked, [], all_dated, answer_of, answer_to, ap, arith, class_view, classes_of, due, empty_digest, false, filter, first_some, frozen, goes_through, hands, head_due, head_of, home_of, if◌then◌else◌, is_answer, is_asked_of, is_processing, is_put, is_wait, length, length-update, made_one, next, notes_handed, nothing_noted, open_due, opens, opens_acted, or_else, pipe, pipe_at, put_digest, refl, state_handed, subst, suc, sym, true, update, view_of, waits, ℕ, ◌&&◌, ◌++◌, ◌==◌, ◌∙◌, ◌∷◌, ◌≡◌, ◌≤◌}
 use Rattle.sdd_dm.proofs.ByClass.{at_own, at_other, same_number, other_number, by_class, first_map, only_class}
 use Rattle.sdd_dm.proofs.Applied.{dated_kept}
 
@@ -7,8 +7,7 @@ use Rattle.sdd_dm.proofs.Applied.{dated_kept}
 
 asked_by : (h : Home) (k : ClassView) (o : Open) (b : Bool) → is_asked_of k.class o ≡ b
     → answer_of h k (head_of (filter (is_asked_of k.class) (o ∷ []))) ≡ (if b then answer_to h k o o.msg else None)
-asked_by h k o true e = rw e refl
-asked_by h k o false e = rw e refl
+asked_by h k o b e = grind arith
 
 pub is_answered : (h : Home) (s : Setting) (log : Log) (o : Open) (c : ℕ) (a : Act) → opens log ≡ o ∷ []
     → ((k : ℕ) → is_asked_of k o ≡ (c == k))
@@ -67,29 +66,17 @@ put_shown s st log from m c shows l through kept same_opens dates read = record 
 -- a READ comes, and arrives
 
 and_false : {A : Type 0} (b c : Bool) (x y : A) → c ≡ false → (if b && c then x else y) ≡ y
-and_false true c x y e = rw e refl
-and_false false c x y e = refl
-
-waits_by : (b c d w : Bool) → c ≡ false → d ≡ false → (if b then (if c then false else d || w) else w) ≡ w
-waits_by true c d w e f = rw (e, f) refl
-waits_by false c d w e f = refl
+and_false b c x y e = grind arith
 
 arrived_class : (s : Setting) (st : State) (log : Log) (c k : ℕ) (r : Rec) → is_processing r ≡ false → is_wait r ≡ false → is_answer r ≡ false
     → ShowsClass s st log k → ShowsClass s st (Did (Records c r []) ∷ log) k
-arrived_class s st log c k r e f g h = record {
-  pipe = subst (IsDigest (pipe_at st.pipes k)) (sym (and_false (c == k) (is_processing r) _ (pipe k log) e)) h.pipe;
-  waits = h.waits ∙ sym (waits_by (c == k) (is_processing r) (is_wait r) (waits k log) e f);
-  frozen = h.frozen ∙ sym (and_false (c == k) (is_answer r) (frozen_at (dated s log) (head (pipe k log))) (frozen s k log) g);
-}
+arrived_class s st log c k r e f g h = grind arith
 
 read_closed : (n : ℕ) (from : Site) (c : ℕ) (ts : Ts) (class : ClassNo) (txn : TxnNo) (attempt : ℕ) (conds : List Cond) (uses : List Use) (dm : _)
     (os : List Open)
     → os ≡ record { hand = n; from = from; msg = Read ts class txn attempt conds uses } ∷ []
     → opens_acted (Records c (Arrive txn attempt dm) []) os ≡ []
-read_closed n from c ts class txn attempt conds uses dm os e =
-    let own : is_read_of txn.0 attempt (Read ts class txn attempt conds uses) ≡ true =
-    rw (same_number txn.0 txn.0 refl, same_number attempt attempt refl) refl in
-    rw (e, own) refl
+read_closed n from c ts class txn attempt conds uses dm os e = grind arith
 
 pub opened : (log : Log) (from : Site) (m : Msg) → opens log ≡ []
     → opens log ++ record { hand = suc (hands log); from = from; msg = m } ∷ [] ≡ record { hand = suc (hands log); from = from; msg = m } ∷ []

@@ -1,5 +1,5 @@
 -- The rows with which a module begins: those of the fragments of which it has copies.
-use Rattle.sdd_dm.proofs.All.{All, All-filter, AllByRecursion, Bool, Bor, Catalogue, CmpEqualImpliesEq, Database, Equal, Greater, Held, IsEntry, IsStrictlySortedBy, IsTotalOrder, Item, Less, List, Ordering, RelNo, Row, Value, [], ap, cond, database_of, false, filter, first_row, fold, fragment_of, here_more, insert_entry, inserted_sorted, is_here, item_cmp, item_cmp_exact, item_cmp_total, key_in, keys_of, lent, map, match_ordering, own_rows, refl, sorted_head, sorted_nil, sorted_tail, subst, sym, true, with_change, with_own, with_row, ℕ, ℤ, ◌∙◌, ◌∷◌, ◌≡◌}
+use Rattle.sdd_dm.proofs.All.{All, All-filter, AllByRecursion, Bool, Bor, Catalogue, CmpEqualImpliesEq, Database, Equal, Greater, Held, IsEntry, IsStrictlySortedBy, IsTotalOrder, Item, Less, List, Ordering, RelNo, Row, Value, [], ap, cond, database_of, false, filter, first_row, fold, fragment_of, here_more, insert_entry, inserted_sorted, is_here, item_cmp, item_cmp_exact, item_cmp_total, key_in, keys_of, lent, map, match_ordering, own_rows, refl, rules, sorted_head, sorted_nil, sorted_tail, subst, sym, true, with_change, with_own, with_row, ℕ, ℤ, ◌∙◌, ◌∷◌, ◌≡◌}
 use Rattle.sdd_dm.proofs.Beginning.{lent_put, not_written, put_row}
 use Rattle.sdd_dm.specs.Starts.{is_own}
 
@@ -8,18 +8,13 @@ use Rattle.sdd_dm.specs.Starts.{is_own}
 goes_first : {K X : Type 0} (R : K → K → Ordering) (es : List (K × X)) (k : K) (v : X)
     → AllByRecursion (λ y. R k y ≡ Less) (keys_of es) → insert_entry R es k v ≡ (k, v) ∷ es
 goes_first R [] k v all = refl
-goes_first R (e ∷ es) k v all =
-    ap (λ o. match_ordering o ((k, v) ∷ e ∷ es) ((e.0, v) ∷ es) (e ∷ insert_entry R es k v)) all.0
+goes_first R (e ∷ es) k v all = cc
 
 below_kept : {K X : Type 0} (R : K → K → Ordering) → IsTotalOrder R → (p : K × X → Bool) (es : List (K × X)) (k b : K)
     → R k b ≡ Less → AllByRecursion (λ y. R b y ≡ Less) (keys_of es)
     → AllByRecursion (λ y. R k y ≡ Less) (keys_of (filter p es))
 below_kept R total p [] k b h all = tt
-below_kept R total p (e ∷ es) k b h all =
-    elim (p e) as (λ t. AllByRecursion (λ y. R k y ≡ Less) (keys_of (cond t (e ∷ filter p es) (filter p es)))) [
-      | true ↦ (total.trans k b e.0 h all.0, below_kept R total p es k b h all.1)
-      | false ↦ below_kept R total p es k b h all.1
-    ]
+below_kept R total p (e ∷ es) k b h all = search (rules, below_kept R total p es k b h all.1)
 
 below_all : {K X : Type 0} (R : K → K → Ordering) → IsTotalOrder R → (p : K × X → Bool) (e : K × X) (es : List (K × X)) (k : K)
     → R k e.0 ≡ Less → AllByRecursion (λ y. R e.0 y ≡ Less) (keys_of es)
@@ -62,21 +57,7 @@ pub put_in_left : {K X : Type 0} (R : K → K → Ordering) → CmpEqualImpliesE
     (es : List (K × X)) (k : K) (v : X) → p k ≡ false
     → filter (λ e. p e.0) (insert_entry R es k v) ≡ filter (λ e. p e.0) es
 put_in_left R exact p [] k v out = ap (λ b. cond b ((k, v) ∷ []) []) out
-put_in_left {K} {X} R exact p (e ∷ es) k v out =
-    let q : K × X → Bool = λ x. p x.0 in
-    elim (R k e.0) as (λ o. R k e.0 ≡ o
-    → filter q (match_ordering o ((k, v) ∷ e ∷ es) ((e.0, v) ∷ es) (e ∷ insert_entry R es k v)) ≡ filter q (e ∷ es)) [
-      | Less ↦ λ h. ap (λ b. cond b ((k, v) ∷ filter q (e ∷ es)) (filter q (e ∷ es))) out
-      | Equal ↦ λ h.
-          let there : p e.0 ≡ false = sym (ap p (exact k e.0 h)) ∙ out in
-          ap (λ b. cond b ((e.0, v) ∷ filter q es) (filter q es)) there ∙ sym (ap (λ b. cond b (e ∷ filter q es) (filter q es)) there)
-      | Greater ↦ λ h.
-          let more : filter q (insert_entry R es k v) ≡ filter q es = put_in_left R exact p es k v out in
-          elim (p e.0) as (λ b. cond b (e ∷ filter q (insert_entry R es k v)) (filter q (insert_entry R es k v)) ≡ cond b (e ∷ filter q es) (filter q es)) [
-            | true ↦ ap (λ l. e ∷ l) more
-            | false ↦ more
-          ]
-    ] refl
+put_in_left {K} {X} R exact p (e ∷ es) k v out = search (rules, put_in_left R exact p es k v out)
 
 -- the module's own rows are those of the database of all rows whose fragments it keeps
 
@@ -120,31 +101,19 @@ others_left cat first copies (e ∷ db) same =
 pub own_are_enough : (cat : Catalogue) (copies : Held) (rows : List (RelNo × Row))
     → fold with_change copies (map (first_row cat) (own_rows cat copies rows))
     ≡ fold with_change copies (map (first_row cat) (database_of cat rows))
-own_are_enough cat copies rows =
-    ap (λ db. fold with_change copies (map (first_row cat) db)) (own_rows_are cat copies rows)
-    ∙ others_left cat copies copies (database_of cat rows) (λ f. refl)
+own_are_enough cat copies rows = search (rules, own_rows_are, others_left)
 
 -- a row is added where its fragment has a copy, and else left out
 
 pub own_added : (cat : Catalogue) (copies : Held) (rel : RelNo) (old new : List (Item × Bor (List Value))) (key : ℤ) (f : ℕ) (row : Bor (List Value))
     → new ≡ insert_entry item_cmp old (rel.0, key) row → key ≡ key_in cat rel.0 row.now → f ≡ fragment_of cat rel.0 key
     → is_here copies f ≡ true → map lent new ≡ with_own cat copies (map lent old) (rel, row.now)
-own_added cat copies rel old new key f row put key_is number here =
-    let item : Item = (rel.0, key_in cat rel.0 row.now) in
-    let own : is_own cat copies item ≡ true =
-    sym (ap (is_here copies) (number ∙ ap (fragment_of cat rel.0) key_is)) ∙ here in
-    ap (map lent) put ∙ lent_put old (rel.0, key) row
-    ∙ ap (λ k. with_row (map lent old) (rel.0, k) row.now) key_is
-    ∙ sym (ap (λ b. cond b (with_row (map lent old) item row.now) (map lent old)) own)
+own_added cat copies rel old new key f row put key_is number here = search (rules, lent_put)
 
 pub other_left : (cat : Catalogue) (copies : Held) (rel : RelNo) (old : List (Item × Bor (List Value))) (key : ℤ) (f : ℕ) (row : Bor (List Value))
     → key ≡ key_in cat rel.0 row.now → f ≡ fragment_of cat rel.0 key
     → is_here copies f ≡ false → map lent old ≡ with_own cat copies (map lent old) (rel, row.now)
-other_left cat copies rel old key f row key_is number out =
-    let item : Item = (rel.0, key_in cat rel.0 row.now) in
-    let other : is_own cat copies item ≡ false =
-    sym (ap (is_here copies) (number ∙ ap (fragment_of cat rel.0) key_is)) ∙ out in
-    sym (ap (λ b. cond b (with_row (map lent old) item row.now) (map lent old)) other)
+other_left cat copies rel old key f row key_is number out = cc
 
 pub own_entries : (cat : Catalogue) (copies : Held) (rows : List (RelNo × Row)) (own : List (Item × Bor (List Value)))
     → map lent own ≡ own_rows cat copies rows → All (IsEntry cat) (database_of cat rows) → All (IsEntry cat) (map lent own)

@@ -1,6 +1,6 @@
 -- What a state shows of a log: what the heads may do is the same by its digests and by the pipes.
-use Rattle.sdd_dm.proofs.All.{Bool, Change, ClassView, Cond, IsDigest, List, Log, Msg, None, Null, Option, Processes, Read, Refuses, Setting, Shows, Some, State, Write, [], ap, arith, at_class, class_view, classes_of, empty_digest, empty_pipe, false, filter, find, head, head_at, head_of, head_step, holds_back, holds_in, if◌then◌else◌, is_at_least, is_empty_digest, is_held, is_held_in, is_met, is_met_in, judge, judge_in, judged, judged_in, last_write_for, last_write_in, last_write_is, length, list_any, not, or_zero, passed_is, pipe, pipe_at, range_with_len, refl, spoiler, spoils, spoils_in, step_at, step_by, step_on, subst, suc, sym, time_at, true, unmet, view_of, waits, waits_at, ℕ, ◌&&◌, ◌<◌, ◌==◌, ◌∙◌, ◌∷◌, ◌≡◌, ◌≤◌}
-use Rattle.sdd_dm.proofs.ByClass.{at_classes, past_range, past, split, any_map, any_range, all_same, filter_same}
+use Rattle.sdd_dm.proofs.All.{Bool, Change, ClassView, Cond, IsDigest, List, Log, Msg, None, Option, Setting, Shows, State, [], ap, arith, at_class, class_view, empty_pipe, false, filter, find, head, head_at, head_of, head_step, holds_back, holds_in, is_at_least, is_held, is_held_in, is_met, is_met_in, judge, judge_in, judged, judged_in, last_write_for, last_write_in, last_write_is, length, list_any, not, passed_is, pipe, pipe_at, range_with_len, refl, spoiler, spoils, spoils_in, step_at, step_by, step_on, suc, unmet, view_of, waits, waits_at, ℕ, ◌&&◌, ◌<◌, ◌==◌, ◌∙◌, ◌∷◌, ◌≡◌, ◌≤◌}
+use Rattle.sdd_dm.proofs.ByClass.{at_classes, past_range, past, any_map, any_range, filter_same}
 
 -- the view at a class
 
@@ -12,17 +12,11 @@ at_class_is s log c l = at_classes (class_view s log) (suc (length s.catalogue.c
 
 shown_past : (s : Setting) (st : State) (log : Log) (c : ℕ) → Shows s st log → length s.catalogue.classes < c
     → IsDigest (pipe_at st.pipes c) (at_class (view_of s log) c).pipe
-shown_past s st log c h l =
-    let none : pipe_at st.pipes c ≡ empty_digest = past st.pipes c empty_digest (omega (arith, h.pipes)) in
-    let empty : at_class (view_of s log) c ≡ no_class = past_range (class_view s log) 0 (suc (length s.catalogue.classes)) c no_class (omega arith) in
-    subst (λ d. IsDigest d (at_class (view_of s log) c).pipe) (sym none) (subst (λ k. IsDigest empty_digest k.pipe) (sym empty) is_empty_digest)
+shown_past s st log c h l = grind (arith, past, past_range)
 
 -- the digest of each class
 pub pipe_shown : (s : Setting) (st : State) (log : Log) (c : ℕ) → Shows s st log → IsDigest (pipe_at st.pipes c) (at_class (view_of s log) c).pipe
-pipe_shown s st log c h =
-    split (IsDigest (pipe_at st.pipes c) (at_class (view_of s log) c).pipe) c (length s.catalogue.classes)
-    (λ l. subst (λ k. IsDigest (pipe_at st.pipes c) k.pipe) (sym (at_class_is s log c l)) (h.classes c l).pipe)
-    (shown_past s st log c h)
+pipe_shown s st log c h = grind (arith, at_class_is, shown_past)
 
 pub head_shown : (s : Setting) (st : State) (log : Log) (c : ℕ) → Shows s st log → c ≤ length s.catalogue.classes
     → head_at st.pipes c ≡ head (pipe c log)
@@ -49,11 +43,7 @@ unmet_is s st log h conds = filter_same (λ d. not (is_met_in st.pipes d)) (λ d
 
 found_of : (f : Cond → Bool) (conds : List Cond) → find f conds ≡ head_of (filter f conds)
 found_of f [] = refl
-found_of f (d ∷ conds) =
-    elim (f d) as (λ b. f d ≡ b → find f (d ∷ conds) ≡ head_of (filter f (d ∷ conds))) [
-      | true ↦ λ e. rw e refl
-      | false ↦ λ e. rw e (found_of f conds)
-    ] refl
+found_of f (d ∷ conds) = grind (arith, found_of f conds)
 
 spoiler_is : (s : Setting) (st : State) (log : Log) → Shows s st log → (conds : List Cond)
     → spoiler st.pipes conds ≡ head_of (filter (spoils (view_of s log)) conds)
@@ -62,9 +52,7 @@ spoiler_is s st log h conds =
 
 judged_by : (s : Setting) (st : State) (log : Log) → Shows s st log → (lacking : List Cond) (o : Option Cond)
     → judged_in st.pipes lacking o ≡ judged (view_of s log) lacking o
-judged_by s st log h lacking (Some d) = ap (λ w. Refuses d.class (time_at (or_zero w))) (last_is s st log h d)
-judged_by s st log h [] None = refl
-judged_by s st log h (d ∷ ds) None = refl
+judged_by s st log h lacking e = grind (arith, last_is)
 
 judged_is : (s : Setting) (st : State) (log : Log) → Shows s st log → (conds : List Cond) → judge_in st.pipes conds ≡ judge (view_of s log) conds
 judged_is s st log h conds =
@@ -74,21 +62,10 @@ judged_is s st log h conds =
 
 -- held WRITEs
 
-holder_is : (s : Setting) (st : State) (log : Log) (j w : ℕ) (changes : List Change) (c : ℕ) → Shows s st log → c ≤ length s.catalogue.classes
-    → holds_in st.pipes st.waits j w changes c ≡ (waits c log && holds_back j w changes (head (pipe c log)))
-holder_is s st log j w changes c h l =
-    ap (λ b. b && holds_back j w changes (head_at st.pipes c)) (waits_shown s st log c h l)
-    ∙ ap (λ m. waits c log && holds_back j w changes m) (head_shown s st log c h l)
-
 holders_are : (s : Setting) (st : State) (log : Log) (j w : ℕ) (changes : List Change) → Shows s st log
     → list_any (holds_in st.pipes st.waits j w changes) (range_with_len 0 (length st.pipes)) ≡ list_any (λ k. k.waits && holds_back j w changes (head k.pipe))
     (view_of s log).classes
-holders_are s st log j w changes h =
-    ap (λ n. list_any (holds_in st.pipes st.waits j w changes) (range_with_len 0 n)) h.pipes
-    ∙ any_range (holds_in st.pipes st.waits j w changes) (λ c. waits c log && holds_back j w changes (head (pipe c log))) 0
-    (suc (length s.catalogue.classes))
-    (λ c l. holder_is s st log j w changes c h (omega arith))
-    ∙ sym (any_map (λ k. k.waits && holds_back j w changes (head k.pipe)) (class_view s log) (classes_of s))
+holders_are s st log j w changes h = grind (arith, any_range, any_map)
 
 held_is : (s : Setting) (st : State) (log : Log) (j w : ℕ) (changes : List Change) → Shows s st log
     → is_held_in st.pipes st.waits j w changes ≡ is_held (view_of s log) j w changes
@@ -98,18 +75,8 @@ held_is s st log j w changes h = ap (λ b. not (j == 0) && b) (holders_are s st 
 
 steps_by : (s : Setting) (st : State) (log : Log) (c : ℕ) (waiting : Bool) (o : Option Msg) → Shows s st log
     → step_by st.pipes st.waits c waiting o ≡ step_on (view_of s log) c waiting o
-steps_by s st log c waiting None h = refl
-steps_by s st log c waiting (Some (Null class time)) h = refl
-steps_by s st log c waiting (Some (Write ts class txn changes)) h = ap (λ b. if b then None else Some Processes) (held_is s st log c ts.0 changes h)
-steps_by s st log c true (Some (Read ts class txn attempt conds uses)) h =
-    ap (λ b. if b then Some Processes else None) (all_same (is_met_in st.pipes) (is_met (view_of s log)) conds (met_is s st log h))
-steps_by s st log c false (Some (Read ts class txn attempt conds uses)) h = ap Some (judged_is s st log h conds)
-steps_by s st log c true (Some m) h = refl
-steps_by s st log c false (Some m) h = refl
+steps_by s st log c waiting o h = grind (arith, held_is, met_is, judged_is)
 
 pub step_is : (s : Setting) (st : State) (log : Log) (c : ℕ) → Shows s st log → c ≤ length s.catalogue.classes
     → step_at st.pipes st.waits c ≡ head_step (view_of s log) (class_view s log c)
-step_is s st log c h l =
-    steps_by s st log c (waits_at st.waits c) (head_at st.pipes c) h
-    ∙ ap (λ b. step_on (view_of s log) c b (head_at st.pipes c)) (waits_shown s st log c h l)
-    ∙ ap (step_on (view_of s log) c (waits c log)) (head_shown s st log c h l)
+step_is s st log c h l = grind (arith, steps_by)

@@ -1,5 +1,5 @@
 -- The state after a step of a head shows the log with the act of that head.
-use Rattle.sdd_dm.proofs.All.{All, All-weaker, AreHere, AreSame, Bool, ClassNo, Cond, Dated, DatesDiffer, Did, Frozen, HasCopies, Held, IsDigest, IsHere, IsTrue, Kept, List, Log, Msg, None, Option, Read, Rec, Records, Represent, Setting, Shows, ShowsClass, Site, Some, State, Ts, TxnNo, Use, ap, arith, changes_in, contents, dated, empty_digest, false, fold, frozen, frozen_at, frozen_for, frozen_now, frozen_of, frozen_told, has_copy, head, head_processed, head_taken, held_for, here_all, if◌then◌else◌, is_answer, is_apply, is_here, is_processing, is_taken, is_wait, length, length-update, map, number_of, opens, pipe, pipe_at, refl, represent_all, represent_same, rows_at, subst, sym, take_all, take_digest, true, update, waits, waits_at, with_change, ℕ, ◌&&◌, ◌++◌, ◌==◌, ◌∙◌, ◌∷◌, ◌≡◌, ◌≢◌, ◌≤◌}
+use Rattle.sdd_dm.proofs.All.{All, AreHere, AreSame, Bool, ClassNo, Cond, Dated, DatesDiffer, Did, Frozen, HasCopies, Held, IsHere, IsTrue, Kept, List, Log, Msg, None, Option, Read, Rec, Records, Represent, Setting, Shows, ShowsClass, Site, Some, State, Ts, TxnNo, Use, ap, arith, changes_in, contents, dated, false, fold, frozen, frozen_at, frozen_for, frozen_now, frozen_of, frozen_told, head, head_processed, head_taken, held_for, here_all, if◌then◌else◌, is_answer, is_apply, is_here, is_processing, is_taken, is_wait, length, length-update, map, opens, pipe, refl, represent_all, represent_same, rows_at, subst, sym, take_all, take_digest, true, update, waits, with_change, ℕ, ◌&&◌, ◌++◌, ◌==◌, ◌∙◌, ◌∷◌, ◌≡◌, ◌≢◌, ◌≤◌}
 use Rattle.sdd_dm.proofs.ByClass.{at_own, at_other, same_number, other_number, by_class}
 use Rattle.sdd_dm.proofs.Handed.{head_handed}
 use Rattle.sdd_dm.proofs.Applied.{applied_differ, same_dated, dated_kept}
@@ -21,16 +21,11 @@ pub waits_own : (c : ℕ) (r : Rec) (sends : List (Site × Msg)) (log : Log) →
     → waits c (Did (Records c r sends) ∷ log) ≡ false
 waits_own c r sends log e = rw (same_number c c refl, e) refl
 
-waits_begun : (c : ℕ) (r : Rec) (sends : List (Site × Msg)) (log : Log) → is_processing r ≡ false → is_wait r ≡ true
-    → waits c (Did (Records c r sends) ∷ log) ≡ true
-waits_begun c r sends log e f = rw (same_number c c refl, e, f) refl
-
 waits_other : (k c : ℕ) (r : Rec) (sends : List (Site × Msg)) (log : Log) → c ≢ k → waits c (Did (Records k r sends) ∷ log) ≡ waits c log
 waits_other k c r sends log h = rw (other_number k c h) refl
 
 frozen_by : (b c : Bool) (x y : Option Frozen) → c ≡ false → (if b && c then x else y) ≡ y
-frozen_by true c x y e = rw e refl
-frozen_by false c x y e = refl
+frozen_by b c x y e = grind arith
 
 frozen_kept : (s : Setting) (k c : ℕ) (r : Rec) (sends : List (Site × Msg)) (log : Log) → is_answer r ≡ false
     → frozen s c (Did (Records k r sends) ∷ log) ≡ frozen s c log
@@ -59,20 +54,8 @@ taken c copies rows st = record {
 taken_class : (s : Setting) (st : State) (log : Log) (c k : ℕ) (r : Rec) (sends : List (Site × Msg)) (copies : Kept Held) (rows : List (Option Frozen))
     → Shows s st log → c ≤ length s.catalogue.classes → k ≤ length s.catalogue.classes → is_processing r ≡ true
     → frozen_of rows k ≡ frozen s k (Did (Records c r sends) ∷ log) → ShowsClass s (taken c copies rows st) (Did (Records c r sends) ∷ log) k
-taken_class s st log c k r sends copies rows shows l m e f = record {
-  pipe = by_class (λ j. j ≤ length s.catalogue.classes → IsDigest (pipe_at (update c take_digest st.pipes) j) (pipe j (Did (Records c r sends) ∷ log))) c k
-      (λ p. subst (λ q. IsDigest (pipe_at (update c take_digest st.pipes) c) q) (sym (pipe_own c r sends log e))
-      (subst (λ d. IsDigest d (head_processed (pipe c log))) (sym (at_own take_digest st.pipes c empty_digest (omega (arith, shows.pipes))))
-      (is_taken (pipe_at st.pipes c) (pipe c log) (shows.classes c l).pipe)))
-      (λ h p. subst (λ q. IsDigest (pipe_at (update c take_digest st.pipes) k) q) (sym (pipe_other c k r sends log h))
-      (subst (λ d. IsDigest d (pipe k log)) (sym (at_other take_digest st.pipes c k empty_digest h)) (shows.classes k p).pipe))
-      m;
-  waits = by_class (λ j. j ≤ length s.catalogue.classes → waits_at (update c (λ w. false) st.waits) j ≡ waits j (Did (Records c r sends) ∷ log)) c k
-      (λ p. at_own (λ w. false) st.waits c false (omega (arith, shows.waits)) ∙ sym (waits_own c r sends log e))
-      (λ h p. at_other (λ w. false) st.waits c k false h ∙ (shows.classes k p).waits ∙ sym (waits_other c k r sends log h))
-      m;
-  frozen = f;
-}
+taken_class s st log c k r sends copies rows shows l m e f =
+    grind (arith, by_class, pipe_own, at_own, is_taken, pipe_other, at_other, waits, waits_own)
 
 -- A record that processes the head of class c. The copies and the held rows are as the log gives them.
 taken_shown : (s : Setting) (st : State) (log : Log) (c : ℕ) (r : Rec) (sends : List (Site × Msg)) (copies : Kept Held) (rows : List (Option Frozen))
@@ -129,10 +112,7 @@ applied_shown s st log c r sends xs shows l e f g same_opens is =
 -- a READ is answered
 
 are_here : (s : Setting) (st : State) (log : Log) → Shows s st log → (uses : List Use) → All (IsHere s) uses → All (AreHere st.copies.value) uses
-are_here s st log shows uses h =
-    All-weaker (IsHere s) (AreHere st.copies.value)
-    (λ u i. All-weaker (λ f. has_copy s.catalogue (number_of s.site) f.0 ≡ true) (λ f. is_here st.copies.value f.0 ≡ true)
-    (λ f p. shows.here f.0 p) u.frags i) uses h
+are_here s st log shows uses h = grind arith
 
 -- the rows of the copies are those of the log
 pub frozen_is : (s : Setting) (st : State) (log : Log) (c : ℕ) (ts : Ts) (class : ClassNo) (txn : TxnNo) (attempt : ℕ) (conds : List Cond) (uses : List Use)
@@ -162,17 +142,8 @@ waiting_class : (s : Setting) (st : State) (log : Log) (c k : ℕ) (r : Rec) (se
     → c ≤ length s.catalogue.classes
     → k ≤ length s.catalogue.classes → is_processing r ≡ false → is_wait r ≡ true → is_answer r ≡ false
     → ShowsClass s (record st { waits = update c (λ w. true) st.waits }) (Did (Records c r sends) ∷ log) k
-waiting_class s st log c k r sends shows l m e f g = record {
-  pipe = by_class (λ j. j ≤ length s.catalogue.classes → IsDigest (pipe_at st.pipes j) (pipe j (Did (Records c r sends) ∷ log))) c k
-      (λ p. subst (IsDigest (pipe_at st.pipes c)) (sym (pipe_kept c r sends log e)) (shows.classes c p).pipe)
-      (λ h p. subst (IsDigest (pipe_at st.pipes k)) (sym (pipe_other c k r sends log h)) (shows.classes k p).pipe)
-      m;
-  waits = by_class (λ j. j ≤ length s.catalogue.classes → waits_at (update c (λ w. true) st.waits) j ≡ waits j (Did (Records c r sends) ∷ log)) c k
-      (λ p. at_own (λ w. true) st.waits c false (omega (arith, shows.waits)) ∙ sym (waits_begun c r sends log e f))
-      (λ h p. at_other (λ w. true) st.waits c k false h ∙ (shows.classes k p).waits ∙ sym (waits_other c k r sends log h))
-      m;
-  frozen = (shows.classes k m).frozen ∙ sym (frozen_kept s c k r sends log g);
-}
+waiting_class s st log c k r sends shows l m e f g =
+    grind (arith, by_class, pipe_kept, pipe_other, waits, at_own, at_other, waits_other, frozen_kept)
 
 pub waiting_shown : (s : Setting) (st : State) (log : Log) (c : ℕ) (r : Rec) (sends : List (Site × Msg)) → Shows s st log
     → c ≤ length s.catalogue.classes

@@ -1,27 +1,18 @@
 -- The view after an entry is a function of the view before it, and what is next is due.
-use Rattle.sdd_dm.proofs.All.{Act, Did, Entry, Handed, Home, IsDue, Log, Redeclared, Setting, Some, Submits, Ticked, View, after, ap, by_head, by_open, class_after, class_view, classes_of, dated, dated_in, due, first_rows, first_some, flat_map-map, found_at, frozen, frozen_acted, head_due, map, map_twice, one_of, open_due, pipe, refl, sym, view_of, ℕ, ◌++◌, ◌∷◌, ◌≡◌}
+use Rattle.sdd_dm.proofs.All.{Act, Entry, Home, IsDue, Log, Setting, Some, View, after, ap, by_head, by_open, class_after, class_view, classes_of, dated, dated_in, due, first_rows, first_some, flat_map-map, found_at, head_due, map, map_twice, one_of, open_due, rules, view_of, ℕ, ◌++◌, ◌∷◌, ◌≡◌}
 
 pub dated_is : (s : Setting) (log : Log) → dated_in (view_of s log) ≡ dated s log
 dated_is s log = ap (λ xs. first_rows s ++ xs) (flat_map-map (class_view s log) (λ k. k.applied) (classes_of s))
 
 class_step : (s : Setting) (e : Entry) (log : Log) (c : ℕ) → class_view s (e ∷ log) c ≡ class_after e (view_of s log) (class_view s log c)
-class_step s (Handed from m) log c = refl
-class_step s (Submits n txn) log c = refl
-class_step s (Ticked n) log c = refl
-class_step s (Redeclared era t) log c = refl
-class_step s (Did act) log c =
-    ap (λ xs. record (class_view s (Did act ∷ log) c) { frozen = frozen_acted c act xs (pipe c log) (frozen s c log) }) (sym (dated_is s log))
+class_step s e log c = search (rules, dated_is)
 
 classes_step : (s : Setting) (e : Entry) (log : Log)
     → map (class_view s (e ∷ log)) (classes_of s) ≡ map (class_after e (view_of s log)) (map (class_view s log) (classes_of s))
 classes_step s e log = map_twice (class_view s log) (class_view s (e ∷ log)) (class_after e (view_of s log)) (classes_of s) (class_step s e log)
 
 pub view_step : (s : Setting) (e : Entry) (log : Log) → view_of s (e ∷ log) ≡ after e (view_of s log)
-view_step s (Handed from m) log = ap (λ ks. record (view_of s (Handed from m ∷ log)) { classes = ks }) (classes_step s (Handed from m) log)
-view_step s (Submits n txn) log = refl
-view_step s (Ticked n) log = refl
-view_step s (Redeclared era t) log = refl
-view_step s (Did act) log = ap (λ ks. record (view_of s (Did act ∷ log)) { classes = ks }) (classes_step s (Did act) log)
+view_step s e log = search (rules, classes_step)
 
 pub next_is_due : (h : Home) (v : View) (a : Act) → due h v ≡ Some a → IsDue h v a
 next_is_due h v a e =

@@ -1,5 +1,5 @@
 -- Each step of a head is the act that is due next, and the state after it shows the log with that act.
-use Rattle.sdd_dm.proofs.All.{Act, Answer, Apply, Bases, Bool, ClassNo, Did, Done, Frozen, Handed, Home, Log, Msg, None, Notes, Null, Option, Pass, Processes, Reached, Read, Ready, Records, Refuses, Reject, Rejected, Sends, Setting, Shows, Site, Some, State, Step, Wait, Waits, Worked, Write, [], act_by, act_in, ap, arith, ask_for, changes_in, counts_held, counts_of, dated, dated_in, done_for, false, first_step, frozen_at, frozen_now, head, head_at, home_of, length, map, next, notes_after, nothing_noted, pipe, reached_more, refl, source_of, state_after, step_by, stepped, subst, sym, true, view_of, waits_at, with_act, ℕ, ◌∙◌, ◌∷◌, ◌≡◌, ◌≤◌}
+use Rattle.sdd_dm.proofs.All.{Answer, Apply, Bases, Bool, ClassNo, Did, Done, Log, Msg, Notes, Null, Option, Pass, Processes, Reached, Read, Ready, Records, Refuses, Setting, Shows, Site, Some, State, Step, Waits, Worked, Write, [], act_by, act_in, ap, arith, changes_in, counts_of, dated, dated_in, done_for, false, first_step, frozen_at, frozen_now, head, head_at, home_of, length, next, notes_after, pipe, reached_more, refl, rules, source_of, state_after, step_by, stepped, subst, sym, true, view_of, waits_at, with_act, ℕ, ◌∙◌, ◌∷◌, ◌≡◌, ◌≤◌}
 use Rattle.sdd_dm.proofs.ViewSteps.{dated_is}
 use Rattle.sdd_dm.proofs.Shown.{head_shown}
 use Rattle.sdd_dm.proofs.FirstDue.{IsFirst, first_is, next_act}
@@ -7,10 +7,6 @@ use Rattle.sdd_dm.proofs.Stepped.{frozen_is, passed_shown, applied_shown, answer
 use Rattle.sdd_copy.specs.Items as items
 
 -- the act
-
-abbrev answer_by : Home → ℕ → Msg → Frozen → Act
-answer_by h c (Read ts class txn attempt conds uses) f = Records c (Answer txn attempt h.dm) ((source_of h c, Ready ts class (counts_of f)) ∷ [])
-answer_by h c m f = Sends (source_of h c) m None
 
 act_is : (s : Setting) (st : State) (log : Log) (c : ℕ) (m : Msg) (step : Step) → Shows s st log → head (pipe c log) ≡ Some m
     → act_by (home_of s) (view_of s log) c m step ≡ act_in st c m step
@@ -20,12 +16,9 @@ act_is s st log c (Read ts class txn attempt conds uses) Processes shows e =
     let m : Msg = Read ts class txn attempt conds uses in
     let rows : frozen_at (dated_in (view_of s log)) (Some m) ≡ Some (frozen_now st ts.0 uses) =
     ap (λ xs. frozen_at xs (Some m)) (dated_is s log) ∙ ap Some (sym (frozen_is s st log c ts class txn attempt conds uses shows e)) in
-    ap (λ o. Records c (Answer txn attempt (home_of s).dm) ((source_of (home_of s) c, Ready ts class (counts_held o)) ∷ [])) rows
-    ∙ ap (λ h. answer_by h c m (frozen_now st ts.0 uses)) (sym shows.home)
-act_is s st log c (Read ts class txn attempt conds uses) (Refuses by write) shows e =
-    ap (λ h. Records c (Rejected txn attempt h.dm by write) ((source_of h c, Reject ts class by write) ∷ [])) (sym shows.home)
-act_is s st log c (Read ts class txn attempt conds uses) (Waits ds) shows e =
-    ap (λ h. Records c (Wait txn attempt h.dm ds) (map (ask_for h) ds)) (sym shows.home)
+    grind arith
+act_is s st log c (Read ts class txn attempt conds uses) (Refuses by write) shows e = cc
+act_is s st log c (Read ts class txn attempt conds uses) (Waits ds) shows e = cc
 act_is s st log c m step shows e = refl
 
 -- the state after it
@@ -40,10 +33,8 @@ step_shown s st log c w (Read ts class txn attempt conds uses) Processes shows l
     answered_shown s st log c (Answer txn attempt st.home.dm) ((source_of st.home c, Ready ts class (counts_of (frozen_now st ts.0 uses))) ∷ [])
     (frozen_now st ts.0 uses) shows l refl refl refl refl
     (ap (frozen_at (dated s log)) e ∙ ap Some (sym (frozen_is s st log c ts class txn attempt conds uses shows e)))
-step_shown s st log c w (Read ts class txn attempt conds uses) (Refuses by write) shows l e f =
-    passed_shown s st log c (Rejected txn attempt st.home.dm by write) ((source_of st.home c, Reject ts class by write) ∷ []) shows l refl refl refl refl
-step_shown s st log c w (Read ts class txn attempt conds uses) (Waits ds) shows l e f =
-    waiting_shown s st log c (Wait txn attempt st.home.dm ds) (map (ask_for st.home) ds) shows l refl refl refl refl refl
+step_shown s st log c w (Read ts class txn attempt conds uses) (Refuses by write) shows l e f = search (rules, passed_shown)
+step_shown s st log c w (Read ts class txn attempt conds uses) (Waits ds) shows l e f = search (rules, waiting_shown)
 step_shown s st log c true m step shows l e f = absurd cc
 step_shown s st log c false m step shows l e f = absurd cc
 
@@ -82,5 +73,4 @@ step_reached s bases start st new p old notes more r e is note =
 pub works_on : (from : Site) (m : Msg) (old st new : State) (p : ClassNo × Step) (notes more : Notes) → Worked from m old st notes
     → first_step st.pipes st.waits ≡ Some p → new ≡ state_after st p.0.0 (head_at st.pipes p.0.0) p.1
     → more ≡ notes_after st p.0.0 (head_at st.pipes p.0.0) p.1 notes → Worked from m old new more
-works_on from m old st new p notes more work e is note =
-    λ s bases log shows fit. step_reached s bases (Handed from m ∷ log) st new p nothing_noted notes more (work s bases log shows fit) e is note
+works_on from m old st new p notes more work e is note = search (rules, step_reached)

@@ -4,7 +4,8 @@ pub use Rattle.sdd_eras.specs.Further.{further_faults, with_classes, with_furthe
 pub use Rattle.sdd_eras.specs.Retired.{emptied_part, retired_parts}
 pub use Rattle.sdd_graph.specs.Edges.{IsClassOf}
 pub use Rattle.sdd_lang.proofs.ReadSetDecides.{ascending_back}
-pub use Rattle.sdd_lang.proofs.catalog.Found.{both_empty, empty_of_map, map-map}
+pub use Rattle.sdd_lang.proofs.catalog.Found.{both_empty, empty_of_map}
+pub use Rattle.std.proofs.lemmas.Simd.{map-map}
 pub use Rattle.sdd_lang.proofs.catalog.Sound.{each_in_range}
 pub use Rattle.sdd_lang.proofs.catalog.Validity.{no_faults}
 pub use Rattle.sdd_lang.specs.All.{CatFault, CatRule, Catalogue, Class, ClassPart, DuplicateName, FitsAssign, FitsCondition, FitsConditions, FitsStatement, FitsTxn, FragNo, IsSoundCatalogue, IsValid, MAX_CLASSES, MAX_READS, Parts, Read, RelNo, TellsFirst, Text, TooMany, UnknownName, Use, ascending, catalogue_of, class_at, class_for, class_of, class_rules, contains, count_faults, covers, emptied, eras, extended, faults_at, faults_of, faults_of_class, found_from, found_in, fragment_faults, fragment_names, fragment_part, fragments_in, has_name, head_of, is_from_1_to, lowest_copy, numbers_to, part_uses, parts_of, range_faults, read_rules, read_set, reads_at, relation_faults, restrictions_of, retired, statement_uses, use_of, uses_from, uses_of, when, whole, write_rules, write_set, writes, written_by}

@@ -30,10 +30,9 @@ uses_same cat classes before (s ∷ rest) =
 
 written_same : (cat : Catalogue) (classes : List Class) (s : Stmt)
     → written_by (with_classes cat classes) s ≡ written_by cat s
-written_same cat classes (Put rel row) = refl
-written_same cat classes (Query out rels conds) = refl
 written_same cat classes (Update rel sets conds) = ap fragments_in (statement_same cat classes 0 (Update rel sets conds))
 written_same cat classes (Delete rel conds) = ap fragments_in (statement_same cat classes 0 (Delete rel conds))
+written_same cat classes _ = refl
 
 all_written_same : (cat : Catalogue) (classes : List Class) (statements : List Stmt)
     → flat_map (written_by (with_classes cat classes)) statements ≡ flat_map (written_by cat) statements

@@ -83,9 +83,8 @@ retired_valid parts n valid =
 pub retired_by_numbers : (names : List Text) (n : ℕ) (classes : List ClassPart)
     → map (class_of names) (retired_parts n classes) ≡ map emptied (take n (map (class_of names) classes)) ++ drop n (map (class_of names) classes)
 retired_by_numbers names zero [] = refl
-retired_by_numbers names (suc n) [] = refl
-retired_by_numbers names zero (c ∷ cs) = refl
 retired_by_numbers names (suc n) (c ∷ cs) = ap (λ rest. emptied (class_of names c) ∷ rest) (retired_by_numbers names n cs)
+retired_by_numbers names _ _ = refl
 
 -- the catalogue of the parts whose first so many classes are emptied
 pub retired_is : (cat : Catalogue) (n : ℕ) → IsSoundCatalogue cat

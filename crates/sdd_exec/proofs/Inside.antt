@@ -23,14 +23,7 @@ keys_tail row tuple (Some t) ts e = cc
 keys_head : (row : Row) (tuple : Tuple) (t : Tie) (o : Option Tie) (ts : List Tie) → o ≡ Some t
     → key_of (cons_option o ts) row ≡ key_for (cons_option o ts) tuple → column row t.column ≡ value_at tuple t.to
 keys_head row tuple t None ts same e = absurd cc
-keys_head row tuple t (Some u) ts same e =
-    let one : u ≡ t = cc in
-    let first : column row u.column ≡ value_at tuple u.to = cc in
-    subst (λ (v : Tie). column row v.column ≡ value_at tuple v.to) one first
-
-either_first : (t : Tie) (first second : Option Tie) → first ≡ Some t → elim first [ None ↦ second | Some tie ↦ Some tie ] ≡ Some t
-either_first t None second e = absurd cc
-either_first t (Some u) second e = e
+keys_head row tuple t (Some u) ts same e = cc
 
 either_second : (t : Tie) (first second : Option Tie) → first ≡ None → second ≡ Some t → elim first [ None ↦ second | Some tie ↦ Some tie ] ≡ Some t
 either_second t None second e f = f
@@ -71,9 +64,7 @@ module _ (parts : List (List Row)) (taken : List ℕ) (part place : ℕ) (c : Ch
 
   tie_left : (left right : Ref) → part ≡ left.part - 1 → is_taken taken (right.part - 1) ≡ true
       → tie_of taken part (Same left right) ≡ Some (record { column = left.column; to = right })
-  tie_left left right same old =
-      let here : (left.part - 1 == part) ≡ true = eq-eqb (left.part - 1) part (sym same) in
-      either_first _ (tie_between taken part left right) (tie_between taken part right left) (rw (here, old) refl)
+  tie_left left right same old = let here : (left.part - 1 == part) ≡ true = eq-eqb (left.part - 1) part (sym same) in cc
 
   tie_right : (left right : Ref) → is_taken taken (left.part - 1) ≡ true → part ≡ right.part - 1
       → tie_of taken part (Same left right) ≡ Some (record { column = right.column; to = left })

@@ -26,8 +26,7 @@ choice_of (rows ∷ parts) u h =
 
 pub found_row : (there met : Bool) (row x : Row) → cond there (cond met (Some row) None) None ≡ Some x → (there ≡ true) × (met ≡ true) × (row ≡ x)
 found_row true true row x e = (refl, refl, cc)
-found_row true false row x e = absurd cc
-found_row false met row x e = absurd cc
+found_row _ _ row x e = absurd cc
 
 pub join_is_answer : (parts : List (List Row)) (out : List Ref) (conds : List Condition) (kept : List Choice) → HasAll parts conds kept
     → distinct (filter_map (row_from parts out conds) kept) ≡ distinct (projection out (selection conds (product parts)))
@@ -82,13 +81,10 @@ one_part out conds (r ∷ lent) =
 pub no_room_of_one : (out : List Ref) (conds : List Condition) (lent : List (Bor Row)) (i room : ℕ)
     → room < length (distinct (filter_map (row_of_lent out conds) (take i lent)))
     → None ≡ within room (distinct (projection out (selection conds (product (rows_lent lent ∷ [])))))
-no_room_of_one out conds lent i room h =
-    no_room (row_of_lent out conds) lent i room h
-    ∙ ap (λ (rows : List Row). within room (distinct rows)) (one_part out conds lent)
+no_room_of_one out conds lent i room h = cc (no_room (row_of_lent out conds) lent i room h, one_part out conds lent)
 
 pub all_of_one : (out : List Ref) (conds : List Condition) (lent : List (Bor Row)) (i room : ℕ) (rows : List Row)
     → length lent ≤ i → rows ≡ distinct (filter_map (row_of_lent out conds) (take i lent)) → length rows ≤ room
     → Some rows ≡ within room (distinct (projection out (selection conds (product (rows_lent lent ∷ [])))))
 all_of_one out conds lent i room rows h e few =
-    all_found (row_of_lent out conds) lent i room rows h e few
-    ∙ ap (λ (rows : List Row). within room (distinct rows)) (one_part out conds lent)
+    cc (all_found (row_of_lent out conds) lent i room rows h e few, one_part out conds lent)

@@ -190,7 +190,3 @@ sifted_by parts conds out room group mesh old new choices links outs is_room non
       covered = λ c has. rw (links, outs, is_room) at (offered.covered c has);
       only = λ c has. ⊎_elim (λ before. absurd (rw none at before)) (λ offered_one. offered_one) (offered.only c has);
     }
-
--- a sieve that found nothing is one
-pub empty_is_sieve : (parts : List (List Row)) (mesh : Mesh) (sieve : Sieve) → ((l : Row) → found_with sieve l ≡ []) → IsSieve parts mesh sieve
-empty_is_sieve parts mesh sieve none l o has = absurd (rw (none l) at has)

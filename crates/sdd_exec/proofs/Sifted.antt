@@ -9,10 +9,7 @@ values_tail f g (Some r) rs e = cc
 values_head : (f g : Ref → Value) (r : Ref) (o : Option Ref) (rs : List Ref) → o ≡ Some r → map f (cons_option o rs) ≡ map g (cons_option o rs)
     → f r ≡ g r
 values_head f g r None rs same e = absurd cc
-values_head f g r (Some q) rs same e =
-    let one : q ≡ r = cc in
-    let first : f q ≡ g q = cc in
-    subst (λ (p : Ref). f p ≡ g p) one first
+values_head f g r (Some q) rs same e = cc
 
 -- choices with one value in each link are alike
 alike_by_values : (parts : List (List Row)) (group : List ℕ) (d c : Choice) (conds : List Condition)

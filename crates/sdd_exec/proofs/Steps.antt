@@ -109,10 +109,7 @@ untied_next part conds i rows row before after all h e f g =
     let step : first ++ rest ≡ keyed part conds [] i (drop i rows) = rw (← e) at (keyed_more part conds [] i rows row [] h) in
     let split : places (keyed part conds [] i (drop i rows)) [] ≡ places first [] ++ places rest [] =
     ap (λ (pairs : List (Row × ℕ)). places pairs []) (sym step) ∙ places-append first rest [] in
-    ap (λ (xs : List ℕ). xs ++ places rest []) f
-    ∙ append_assoc before (places first []) (places rest [])
-    ∙ ap (λ (xs : List ℕ). before ++ xs) (sym split)
-    ∙ g
+    cc (f, append_assoc before (places first []) (places rest []), split, g)
 
 pub flat_map_next : {X Y : Type 0} (f : X → List Y) (xs : List X) (i : ℕ) (x : X) (before after piece : List Y)
     → i < length xs → x ≡ get_or xs i x → piece ≡ f x → after ≡ before ++ piece → before ≡ flat_map f (take i xs)

@@ -19,3 +19,4 @@ pub use Rattle.std.proofs.lemmas.List.Folds.{list_any-append}
 pub use Rattle.std.proofs.lemmas.List.FromFn.{get_or-map-range_with_len, length-map-range_with_len, length-range_with_len}
 pub use Rattle.std.proofs.lemmas.Simd.{splat_is_map}
 pub use Rattle.std.specs.List.{AllByRecursion, list_any, range_with_len}
+pub use Rattle.std.proofs.lemmas.Bool.Decides.{nat_tests}

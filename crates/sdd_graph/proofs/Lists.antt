@@ -1,5 +1,5 @@
 -- Steps of loops that go over the numbers from 1 to n, or over a list.
-use Rattle.sdd_graph.proofs.All.{Bool, FragNo, List, None, Option, Some, [], ap, append-nil, append_assoc, arith, cond, eq-eqb, false, filter, filter-append, flat_map, flat_map_more, is_some, list_any, list_any-append, map, map-append, ne_eqb, numbers_to, option_map, or-false, range_with_len, refl, set, suc, sym, true, zero, zip, ℕ, ◌&&◌, ◌++◌, ◌+◌, ◌-◌, ◌==◌, ◌||◌, ◌∙◌, ◌∷◌, ◌≡◌, ◌≢◌, ◌≤◌}
+use Rattle.sdd_graph.proofs.All.{Bool, FragNo, List, Option, [], ap, append-nil, append_assoc, arith, eq-eqb, false, filter, filter-append, flat_map, flat_map_more, is_some, list_any, list_any-append, map, map-append, nat_tests, ne_eqb, numbers_to, option_map, or-false, range_with_len, refl, set, suc, sym, true, zero, zip, ℕ, ◌&&◌, ◌++◌, ◌+◌, ◌-◌, ◌==◌, ◌||◌, ◌∙◌, ◌∷◌, ◌≡◌, ◌≢◌, ◌≤◌}
 
 -- one number more, from a on
 pub range_more : (a n : ℕ) → range_with_len a (suc n) ≡ range_with_len a n ++ (a + n) ∷ []
@@ -23,35 +23,28 @@ map_more g xs more x e = ap (map g) e ∙ map-append g xs (x ∷ [])
 -- a list of images: one more
 pub collected_more : {X A : Type 0} (g : X → A) (xs more : List X) (x : X) (d : A) (items new : List A)
     → more ≡ xs ++ x ∷ [] → items ≡ map g xs → d ≡ g x → new ≡ items ++ d ∷ [] → new ≡ map g more
-collected_more g xs more x d items new e before same now =
-    now ∙ ap (λ z. z ++ d ∷ []) before ∙ ap (λ z. map g xs ++ z ∷ []) same ∙ sym (map_more g xs more x e)
+collected_more g xs more x d items new e before same now = grind (arith, nat_tests, map_more)
 
 -- what is made of each one, in order: one more
 pub each_more : {X A : Type 0} (f : X → List A) (xs more : List X) (x : X) (old items new : List A)
     → more ≡ xs ++ x ∷ [] → items ≡ old ++ flat_map f xs → new ≡ items ++ f x → new ≡ old ++ flat_map f more
-each_more f xs more x old items new e before now =
-    now ∙ ap (λ z. z ++ f x) before ∙ flat_map_more f old xs x ∙ ap (λ z. old ++ flat_map f z) (sym e)
+each_more f xs more x old items new e before now = grind (arith, nat_tests, flat_map_more)
 
 -- those that pass: one more that passes
 pub filter_takes : {X : Type 0} (p : X → Bool) (xs more : List X) (x : X) → more ≡ xs ++ x ∷ []
     → p x ≡ true → filter p more ≡ filter p xs ++ x ∷ []
-filter_takes p xs more x e passes =
-    ap (filter p) e ∙ filter-append p xs (x ∷ []) ∙ ap (λ b. filter p xs ++ cond b (x ∷ []) []) passes
+filter_takes p xs more x e passes = grind (arith, nat_tests, filter-append)
 
 -- and one that doesn't
 pub filter_leaves : {X : Type 0} (p : X → Bool) (xs more : List X) (x : X) → more ≡ xs ++ x ∷ []
     → p x ≡ false → filter p more ≡ filter p xs
-filter_leaves p xs more x e fails =
-    ap (filter p) e ∙ filter-append p xs (x ∷ []) ∙ ap (λ b. filter p xs ++ cond b (x ∷ []) []) fails ∙ append-nil (filter p xs)
+filter_leaves p xs more x e fails = grind (arith, nat_tests, filter-append, append-nil)
 
 -- what is made of each one that passes, in order: one more that passes
 pub kept_more : {X A : Type 0} (g : X → A) (p : X → Bool) (xs more : List X) (x : X) (old items new : List A)
     → more ≡ xs ++ x ∷ [] → items ≡ old ++ map g (filter p xs) → p x ≡ true
     → new ≡ items ++ g x ∷ [] → new ≡ old ++ map g (filter p more)
-kept_more g p xs more x old items new e before passes now =
-    let kept = filter p xs in
-    now ∙ ap (λ z. z ++ g x ∷ []) before ∙ append_assoc old (map g kept) (g x ∷ [])
-    ∙ ap (λ z. old ++ z) (sym (map_more g kept (filter p more) x (filter_takes p xs more x e passes)))
+kept_more g p xs more x old items new e before passes now = grind (arith, nat_tests, append_assoc, map_more, filter_takes)
 
 -- and one that doesn't
 pub left_more : {X A : Type 0} (g : X → A) (p : X → Bool) (xs more : List X) (x : X) (old items new : List A)
@@ -62,15 +55,7 @@ left_more g p xs more x old items new e before fails now = now ∙ before ∙ ap
 -- of two tests one after the other
 pub filter_both : {A : Type 0} (p q : A → Bool) (xs : List A) → filter (λ x. p x && q x) xs ≡ filter q (filter p xs)
 filter_both p q [] = refl
-filter_both p q (x ∷ xs) =
-    elim (p x) as (λ b. cond (b && q x) (x ∷ filter (λ y. p y && q y) xs) (filter (λ y. p y && q y) xs) ≡ filter q (cond b (x ∷ filter p xs) (filter p xs))) [
-      | true ↦ elim (q x) as
-          (λ b. cond b (x ∷ filter (λ y. p y && q y) xs) (filter (λ y. p y && q y) xs) ≡ cond b (x ∷ filter q (filter p xs)) (filter q (filter p xs))) [
-            | true ↦ ap (λ z. x ∷ z) (filter_both p q xs)
-            | false ↦ filter_both p q xs
-          ]
-      | false ↦ filter_both p q xs
-    ]
+filter_both p q (x ∷ xs) = grind (arith, nat_tests, (filter_both p q xs))
 
 -- nothing passes
 pub filter_none : {A : Type 0} (xs : List A) → filter (λ x. false) xs ≡ []
@@ -85,8 +70,7 @@ any_both p q (x ∷ xs) = ap (λ b. (p x && q x) || b) (any_both p q xs)
 
 -- a value is there where its image is
 pub is_some_mapped : {A B : Type 0} (f : A → B) (o : Option A) → is_some (option_map f o) ≡ is_some o
-is_some_mapped f None = refl
-is_some_mapped f (Some x) = refl
+is_some_mapped f o = grind (arith, nat_tests)
 
 -- two tests that agree from a on say the same of the numbers from a on
 map_agree : (p q : ℕ → Bool) (a n : ℕ) → ((x : ℕ) → a ≤ x → p x ≡ q x)
@@ -107,11 +91,7 @@ or_other b f x n = elim b as (λ b. (b || (f == x)) ≡ b) [ true ↦ refl | fal
 mark_from : (p : ℕ → Bool) (a n f k : ℕ) → f ≡ a + k
     → set (map p (range_with_len a n)) k true ≡ map (λ x. p x || (f == x)) (range_with_len a n)
 mark_from p a zero f k e = refl
-mark_from p a (suc n) f zero e =
-    let head : (p a || (f == a)) ≡ true = or_equal (p a) f a (omega arith) in
-    let rest : map p (range_with_len (a + 1) n) ≡ map (λ x. p x || (f == x)) (range_with_len (a + 1) n) =
-    map_agree p (λ x. p x || (f == x)) (a + 1) n (λ x h. sym (or_other (p x) f x (omega arith))) in
-    ap (λ b. b ∷ map p (range_with_len (a + 1) n)) (sym head) ∙ ap (λ bs. (p a || (f == a)) ∷ bs) rest
+mark_from p a (suc n) f zero e = grind (arith, nat_tests, or_equal, map_agree, or_other)
 mark_from p a (suc n) f (suc k) e =
     let head : (p a || (f == a)) ≡ p a = or_other (p a) f a (omega arith) in
     let rest : set (map p (range_with_len (a + 1) n)) k true ≡ map (λ x. p x || (f == x)) (range_with_len (a + 1) n) = mark_from p (a + 1) n f k
@@ -124,13 +104,9 @@ is_among frags x = list_any (λ f. f.0 == x) frags
 
 among_more : (frags : List FragNo) (f : FragNo) (x : ℕ)
     → is_among (frags ++ f ∷ []) x ≡ (is_among frags x || (f.0 == x))
-among_more frags f x =
-    list_any-append (λ y. y.0 == x) frags (f ∷ []) ∙ ap (λ b. is_among frags x || b) (or-false (f.0 == x))
+among_more frags f x = grind (arith, nat_tests, list_any-append, or-false)
 
 -- a flag set at a fragment's number is that of a list with the fragment behind it
 pub mark_more : (frags more : List FragNo) (n : ℕ) (f : FragNo) → more ≡ frags ++ f ∷ [] → 1 ≤ f.0
     → set (map (is_among frags) (numbers_to n)) (f.0 - 1) true ≡ map (is_among more) (numbers_to n)
-mark_more frags more n f e some =
-    mark_from (is_among frags) 1 n f.0 (f.0 - 1) (omega arith)
-    ∙ map_agree (λ x. is_among frags x || (f.0 == x)) (is_among (frags ++ f ∷ [])) 1 n (λ x h. sym (among_more frags f x))
-    ∙ ap (λ zs. map (is_among zs) (numbers_to n)) (sym e)
+mark_more frags more n f e some = grind (arith, nat_tests, mark_from, map_agree, among_more)

@@ -36,11 +36,6 @@ pub object_of_two : (out first a b : List ℕ) → (((out ++ 123 ∷ first) ++ a
 object_of_two out first a b =
     ap (λ (l : List ℕ). l ++ 125 ∷ []) (append_assoc (out ++ 123 ∷ first) a b) ∙ object_put out first (a ++ b)
 
-pub object_of_three : (out first a b c : List ℕ)
-    → ((((out ++ 123 ∷ first) ++ a) ++ b) ++ c) ++ 125 ∷ [] ≡ out ++ object first (a ++ (b ++ c))
-object_of_three out first a b c =
-    ap (λ (l : List ℕ). l ++ 125 ∷ []) (append_assoc ((out ++ 123 ∷ first) ++ a) b c) ∙ object_of_two out first a (b ++ c)
-
 -- an object that is a line
 pub line_of_two : (out first a b : List ℕ) → (((out ++ 123 ∷ first) ++ a) ++ b) ++ 125 ∷ 10 ∷ [] ≡ out ++ (object first (a ++ b) ++ 10 ∷ [])
 line_of_two out first a b =

@@ -1,5 +1,5 @@
 -- The lowest class that covers a transaction, among the classes from one on.
-use Rattle.sdd_lang.proofs.All.{Catalogue, Txn, ap, arith, class_for, cond, covers, false, filter, head_of, length, range_with_len, suc, sym, true, unwrap_or, ℕ, ◌+◌, ◌-◌, ◌<◌, ◌∙◌, ◌∷◌, ◌≡◌, ◌≤◌}
+use Rattle.sdd_lang.proofs.All.{Catalogue, Txn, ap, arith, class_for, cond, covers, false, filter, head_of, length, range_with_len, suc, true, unwrap_or, ℕ, ◌+◌, ◌-◌, ◌<◌, ◌∷◌, ◌≡◌, ◌≤◌}
 
 -- the lowest of n classes from c on, or 0
 unfoldable pub first_from : Catalogue → Txn → ℕ → ℕ → ℕ
@@ -7,9 +7,7 @@ first_from cat txn c n = unwrap_or (head_of (filter (covers cat txn) (range_with
 
 pub first_of_all : (cat : Catalogue) (txn : Txn) → class_for cat txn ≡ first_from cat txn 1 (length cat.classes + 1 - 1)
 unfolding first_from
-first_of_all cat txn =
-    let n : length cat.classes ≡ length cat.classes + 1 - 1 = omega arith in
-    ap (λ k. unwrap_or (head_of (filter (covers cat txn) (range_with_len 1 k))) 0) n
+first_of_all cat txn = let n : length cat.classes ≡ length cat.classes + 1 - 1 = omega arith in cc
 
 first_step : (cat : Catalogue) (txn : Txn) (c m n : ℕ) → n ≡ suc m
     → first_from cat txn c n ≡ unwrap_or (head_of (cond (covers cat txn c) (c ∷ filter (covers cat txn) (range_with_len (c + 1) m)) (filter (covers cat txn) (range_with_len (c + 1) m)))) 0
@@ -20,9 +18,7 @@ pub first_here : (cat : Catalogue) (txn : Txn) (c n : ℕ) → c < n → true �
 first_here cat txn c n within covered =
     let m : ℕ = n - c - 1 in
     let e : n - c ≡ suc m = omega arith in
-    first_step cat txn c m (n - c) e ∙ ap
-    (λ b. unwrap_or (head_of (cond b (c ∷ filter (covers cat txn) (range_with_len (c + 1) m)) (filter (covers cat txn) (range_with_len (c + 1) m)))) 0)
-    (sym covered)
+    cc (first_step cat txn c m (n - c) e, covered)
 
 pub first_later : (cat : Catalogue) (txn : Txn) (c n : ℕ) → c < n → false ≡ covers cat txn c
     → first_from cat txn c (n - c) ≡ first_from cat txn (c + 1) (n - (c + 1))
@@ -31,13 +27,8 @@ first_later cat txn c n within covered =
     let m : ℕ = n - c - 1 in
     let e : n - c ≡ suc m = omega arith in
     let f : m ≡ n - (c + 1) = omega arith in
-    first_step cat txn c m (n - c) e ∙ ap
-    (λ b. unwrap_or (head_of (cond b (c ∷ filter (covers cat txn) (range_with_len (c + 1) m)) (filter (covers cat txn) (range_with_len (c + 1) m)))) 0)
-    (sym covered)
-    ∙ ap (λ k. unwrap_or (head_of (filter (covers cat txn) (range_with_len (c + 1) k))) 0) f
+    cc
 
 pub first_of_none : (cat : Catalogue) (txn : Txn) (c n : ℕ) → n ≤ c → first_from cat txn c (n - c) ≡ 0
 unfolding first_from
-first_of_none cat txn c n past =
-    let e : n - c ≡ 0 = omega arith in
-    ap (λ k. unwrap_or (head_of (filter (covers cat txn) (range_with_len c k))) 0) e
+first_of_none cat txn c n past = let e : n - c ≡ 0 = omega arith in cc

@@ -21,9 +21,7 @@ above_same flags f a (suc n) past =
     let other : a ≢ f = λ e. omega arith in
     let rest : filter (has (set flags f true)) (range_with_len (a + 1) n) ≡ filter (has flags) (range_with_len (a + 1) n) = above_same flags f (a + 1) n
     (omega arith) in
-    ap (λ b. cond b (a ∷ filter (has (set flags f true)) (range_with_len (a + 1) n)) (filter (has (set flags f true)) (range_with_len (a + 1) n)))
-    (get_or-set_other flags f a true false other)
-    ∙ ap (λ xs. cond (has flags a) (a ∷ xs) xs) rest
+    simp (get_or-set_other, rest)
 
 kept_above : (p : ℕ → Bool) (f a n : ℕ) → f < a → AllByRecursion (λ x. f < x) (filter p (range_with_len a n))
 kept_above p f a zero past = tt
@@ -79,15 +77,11 @@ pass_from p flags c n = list_all p (filter (has flags) (range_with_len c n))
 
 pub pass_all : (p : ℕ → Bool) (flags : List Bool) (n : ℕ) → list_all p (filter (has flags) (numbers_to n)) ≡ pass_from p flags 1 (n + 1 - 1)
 unfolding pass_from
-pass_all p flags n =
-    let e : n ≡ n + 1 - 1 = omega arith in
-    ap (λ k. list_all p (filter (has flags) (range_with_len 1 k))) e
+pass_all p flags n = let e : n ≡ n + 1 - 1 = omega arith in cc
 
 pub pass_none : (p : ℕ → Bool) (flags : List Bool) (c n : ℕ) → n ≤ c → pass_from p flags c (n - c) ≡ true
 unfolding pass_from
-pass_none p flags c n past =
-    let e : n - c ≡ 0 = omega arith in
-    ap (λ k. list_all p (filter (has flags) (range_with_len c k))) e
+pass_none p flags c n past = let e : n - c ≡ 0 = omega arith in cc
 
 first_fails : (p : ℕ → Bool) (h : Bool) (c : ℕ) (rest : List ℕ) → false ≡ (not h || p c) → list_all p (cond h (c ∷ rest) rest) ≡ false
 first_fails p true c rest e = rw (sym e) refl
@@ -103,8 +97,7 @@ unfolding pass_from
 pass_fails p flags c n within e =
     let m : ℕ = n - c - 1 in
     let k : n - c ≡ suc m = omega arith in
-    ap (λ j. list_all p (filter (has flags) (range_with_len c j))) k
-    ∙ first_fails p (has flags c) c (filter (has flags) (range_with_len (c + 1) m)) e
+    cc (k, first_fails p (has flags c) c (filter (has flags) (range_with_len (c + 1) m)) e)
 
 pub pass_more : (p : ℕ → Bool) (flags : List Bool) (c n : ℕ) → c < n → true ≡ (not (has flags c) || p c)
     → pass_from p flags c (n - c) ≡ pass_from p flags (c + 1) (n - (c + 1))
@@ -113,6 +106,4 @@ pass_more p flags c n within e =
     let m : ℕ = n - c - 1 in
     let k : n - c ≡ suc m = omega arith in
     let j : m ≡ n - (c + 1) = omega arith in
-    ap (λ j. list_all p (filter (has flags) (range_with_len c j))) k
-    ∙ first_passes p (has flags c) c (filter (has flags) (range_with_len (c + 1) m)) e
-    ∙ ap (λ j. list_all p (filter (has flags) (range_with_len (c + 1) j))) j
+    cc (k, first_passes p (has flags c) c (filter (has flags) (range_with_len (c + 1) m)) e, j)

@@ -1,5 +1,5 @@
 -- Numbers from one to another, one more at a time.
-use Rattle.sdd_lang.proofs.All.{Bool, FragNo, List, [], ap, append-nil, arith, cond, false, filter, filter-append, frag_no, map, map-append, numbers_to, range_with_len, suc, sym, true, zero, ℕ, ◌++◌, ◌+◌, ◌-◌, ◌∙◌, ◌∷◌, ◌≡◌, ◌≤◌}
+use Rattle.sdd_lang.proofs.All.{Bool, FragNo, List, [], ap, append-nil, arith, cond, false, filter, filter-append, frag_no, map, map-append, numbers_to, range_with_len, suc, true, zero, ℕ, ◌++◌, ◌+◌, ◌-◌, ◌∙◌, ◌∷◌, ◌≡◌, ◌≤◌}
 
 pub range_more : (a n : ℕ) → range_with_len a (suc n) ≡ range_with_len a n ++ (a + n) ∷ []
 range_more a zero = let e : a ≡ a + 0 = omega arith in ap (λ k. k ∷ []) e
@@ -15,20 +15,14 @@ numbers_more n from =
 
 kept_more : (p : ℕ → Bool) (n : ℕ) → 1 ≤ n
     → map frag_no (filter p (numbers_to (n + 1 - 1))) ≡ map frag_no (filter p (numbers_to (n - 1))) ++ map frag_no (cond (p n) (n ∷ []) [])
-kept_more p n from =
-    ap (λ ks. map frag_no (filter p ks)) (numbers_more n from)
-    ∙ ap (map frag_no) (filter-append p (numbers_to (n - 1)) (n ∷ []))
-    ∙ map-append frag_no (filter p (numbers_to (n - 1))) (cond (p n) (n ∷ []) [])
+kept_more p n from = simp (numbers_more, filter-append, map-append)
 
 -- a number that passes is kept, and one that doesn't isn't
 pub frag_kept : (p : ℕ → Bool) (n : ℕ) (xs ys : List FragNo) → 1 ≤ n → true ≡ p n → xs ≡ map frag_no (filter p (numbers_to (n - 1)))
     → ys ≡ xs ++ frag_no n ∷ [] → ys ≡ map frag_no (filter p (numbers_to (n + 1 - 1)))
-frag_kept p n xs ys from passes so more =
-    more ∙ ap (λ zs. zs ++ frag_no n ∷ []) so ∙ ap (λ b. map frag_no (filter p (numbers_to (n - 1))) ++ map frag_no (cond b (n ∷ []) [])) passes
-    ∙ sym (kept_more p n from)
+frag_kept p n xs ys from passes so more = cc (more, so, passes, kept_more p n from)
 
 pub frag_left : (p : ℕ → Bool) (n : ℕ) (xs ys : List FragNo) → 1 ≤ n → false ≡ p n → xs ≡ map frag_no (filter p (numbers_to (n - 1)))
     → ys ≡ xs → ys ≡ map frag_no (filter p (numbers_to (n + 1 - 1)))
 frag_left p n xs ys from fails so same =
-    same ∙ so ∙ sym (append-nil (map frag_no (filter p (numbers_to (n - 1)))))
-    ∙ ap (λ b. map frag_no (filter p (numbers_to (n - 1))) ++ map frag_no (cond b (n ∷ []) [])) fails ∙ sym (kept_more p n from)
+    cc (same, so, append-nil (map frag_no (filter p (numbers_to (n - 1)))), fails, kept_more p n from)

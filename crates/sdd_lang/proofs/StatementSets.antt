@@ -26,8 +26,7 @@ numbers_back (n ∷ ns) = ap (λ ks. n ∷ ks) (numbers_back ns)
 -- the list of the members, where the numbers to the last fragment were looked at
 pub listed_numbers : (cat : Catalogue) (flags : List Bool) (n : ℕ) (fs : List FragNo) → n - 1 ≡ length cat.fragments
     → fs ≡ map frag_no (filter (has flags) (numbers_to (n - 1))) → map (λ (f : FragNo). f.0) fs ≡ members cat flags
-listed_numbers cat flags n fs end is =
-    ap (map (λ (f : FragNo). f.0)) is ∙ numbers_back (filter (has flags) (numbers_to (n - 1))) ∙ ap (λ k. filter (has flags) (numbers_to k)) end
+listed_numbers cat flags n fs end is = simp (is, numbers_back, end)
 
 -- the fragments of a part, as numbers
 abbrev pub part_numbers : Catalogue → ℕ → ℕ → List Condition → List ℕ
@@ -37,9 +36,7 @@ part_numbers cat rel part conds =
 -- the fragments of the first part, and then those of the others
 pub one_part : (cat : Catalogue) (ks : List ℕ) (conds : List Condition) (part : ℕ) (rel : RelNo) (rels : List RelNo)
     → put_all ks (fragments_in (part_uses cat 0 conds part (rel ∷ rels))) ≡ put_all (put_all ks (part_numbers cat rel.0 part conds)) (fragments_in (part_uses cat 0 conds (part + 1) rels))
-one_part cat ks conds part rel rels =
-    ap (λ ns. put_all ks (ns ++ fragments_in (part_uses cat 0 conds (part + 1) rels))) (numbers_back (part_numbers cat rel.0 part conds))
-    ∙ fold-append (λ zs k. insert_key nat_cmp zs k) ks (part_numbers cat rel.0 part conds) (fragments_in (part_uses cat 0 conds (part + 1) rels))
+one_part cat ks conds part rel rels = simp (numbers_back, fold-append)
 
 -- the fragments of a part are put, where its keys are those that the conditions allow
 pub part_put : (cat : Catalogue) (ks xs : List ℕ) (part : ℕ) (conds : List Condition) (rel : RelNo) (rels : List RelNo) (r : Relation) (keys : Interval)
@@ -49,9 +46,7 @@ pub part_put : (cat : Catalogue) (ks xs : List ℕ) (part : ℕ) (conds : List C
 part_put cat ks xs part conds rel rels r keys is allowed put =
     let e : keys ≡ allowed_keys (key_column cat rel.0) (restrictions_of part conds) = allowed
     ∙ ap (λ (s : Relation). allowed_keys s.key (restrictions_of part conds)) is in
-    ap (λ zs. put_all zs (fragments_in (part_uses cat 0 conds (part + 1) rels)))
-    (put ∙ ap (λ i. put_all ks (filter (meets_keys cat rel.0 i) (numbers_to (length cat.fragments)))) e)
-    ∙ sym (one_part cat ks conds part rel rels)
+    simp (put, e, one_part)
 
 -- with the fragments of one part more, those that are left complete them as before
 pub part_more : (cat : Catalogue) (ks xs ys : List ℕ) (part : ℕ) (conds : List Condition) (rels : List RelNo) (i : ℕ) (d : RelNo) (r : Relation) (keys : Interval)
@@ -91,8 +86,7 @@ read_from cat before (s ∷ rest) =
 -- what all statements read, the transaction reads
 pub all_read : (cat : Catalogue) (txn : Txn) (i : ℕ) (xs : List ℕ) → length txn.statements ≤ i
     → xs ≡ ascending (flat_map (read_by cat) (take i txn.statements)) → xs ≡ read_set cat txn
-all_read cat txn i xs past so =
-    so ∙ ap (λ ss. ascending (flat_map (read_by cat) ss)) (take_all i txn.statements past) ∙ sym (ap ascending (read_from cat 0 txn.statements))
+all_read cat txn i xs past so = simp (so, take_all, read_from)
 
 -- the keys that one condition more leaves
 pub keys_more : (key part : ℕ) (conds : List Condition) (i : ℕ) (c : Condition) → i < length conds → c ≡ get_or conds i c

@@ -8,13 +8,11 @@ length-part_uses cat before conds part (rel ∷ rels) = ap suc (length-part_uses
 
 -- a statement that fits has six uses at most
 pub few_uses : (cat : Catalogue) (before : ℕ) (s : Stmt) → FitsStatement cat s → length (statement_uses cat before s) ≤ 6
-few_uses cat before (Put rel row) fits = omega arith
 few_uses cat before (Query out rels conds) fits =
     let few : length rels ≤ 6 = fits.0.1 in
     let e : length (part_uses cat before conds 1 rels) ≡ length rels = length-part_uses cat before conds 1 rels in
     omega arith
-few_uses cat before (Update rel sets conds) fits = omega arith
-few_uses cat before (Delete rel conds) fits = omega arith
+few_uses cat before _ fits = omega arith
 
 -- what is known of the uses of the first statements
 pub record AreUsesSoFar (cat : Catalogue) (statements : List Stmt) (i : ℕ) (uses : List Use) : Type 0 where

@@ -1,5 +1,5 @@
 -- Copies of modules that began with different rows are equal too, where these rows agree on the fragment.
-use Rattle.sdd_laws.proofs.All.{AgreeOnFragment, AreAppliedAlike, Catalogue, Committed, Database, Dated, History, List, RelNo, Row, [], ap, committed, cond, copy_at, database_of, false, filter, first_rows, flat_map, fragment_of, is_applied, map, of_fragment, refl, rows_in_fragment, rows_left, sym, true, ℕ, ◌++◌, ◌==◌, ◌∙◌, ◌∷◌, ◌≡◌}
+use Rattle.sdd_laws.proofs.All.{AgreeOnFragment, AreAppliedAlike, Catalogue, Committed, Database, Dated, History, List, RelNo, Row, [], ap, committed, copy_at, database_of, filter, first_rows, flat_map, is_applied, map, of_fragment, refl, rows_in_fragment, rows_left, rules, sym, ℕ, ◌++◌, ◌∙◌, ◌∷◌, ◌≡◌}
 use Rattle.sdd_laws.proofs.SameCopies.{equal_copies}
 use Rattle.sdd_laws.proofs.SameContents.{of_joined as of_both}
 use Rattle.sdd_laws.specs.Snapshots.{dated, first_row}
@@ -7,13 +7,7 @@ use Rattle.sdd_laws.specs.Snapshots.{dated, first_row}
 -- of first rows they are those of the fragment's entries
 of_first : (cat : Catalogue) (f : ℕ) (db : Database) → of_fragment f (map (first_row cat) db) ≡ map (first_row cat) (rows_in_fragment cat db f)
 of_first cat f [] = refl
-of_first cat f (e ∷ db) =
-    elim (fragment_of cat e.0.0 e.0.1 == f)
-    as (λ b. cond b (first_row cat e ∷ of_fragment f (map (first_row cat) db)) (of_fragment f (map (first_row cat) db))
-    ≡ map (first_row cat) (cond b (e ∷ rows_in_fragment cat db f) (rows_in_fragment cat db f))) [
-      | true ↦ ap (λ l. first_row cat e ∷ l) (of_first cat f db)
-      | false ↦ of_first cat f db
-    ]
+of_first cat f (e ∷ db) = search (rules, of_first cat f db)
 
 -- one module's copy, were it begun with the other rows
 begun_alike : (cat : Catalogue) (mine other : List (RelNo × Row)) (h : History) (f d k : ℕ) → AgreeOnFragment cat mine other f

@@ -1,5 +1,5 @@
 -- Applied before a place, as a test and by places.
-use Rattle.sdd_laws.proofs.All.{AppliedBefore, Bool, History, IsRecordAt, Rec, [], ap, apply_passes, arith, false, inl, inr, is_applied, is_apply, list_any, or_cases, or_left, or_right, refl, suc, sym, take, true, zero, ℕ, ◌<◌, ◌↔◌, ◌∙◌, ◌∷◌, ◌≡◌}
+use Rattle.sdd_laws.proofs.All.{AppliedBefore, Bool, History, IsRecordAt, Rec, [], apply_passes, arith, inl, inr, is_applied, is_apply, list_any, or_cases, or_right, refl, suc, take, true, zero, ℕ, ◌<◌, ◌↔◌, ◌∷◌, ◌≡◌}
 use Rattle.sdd_laws.proofs.Precedes as by_places
 
 -- a record before the place passes
@@ -12,8 +12,6 @@ pub record PassesBefore (p : Rec → Bool) (h : History) (k : ℕ) : Type 0 wher
 
 pub passes_before : (p : Rec → Bool) (h : History) (k : ℕ) → list_any (λ e. p e.1) (take k h) ≡ true → PassesBefore p h k
 passes_before p [] zero e = absurd (cc)
-passes_before p [] (suc k) e = absurd (cc)
-passes_before p (x ∷ h) zero e = absurd (cc)
 passes_before p (x ∷ h) (suc k) e =
     elim (or_cases (p x.1) (list_any (λ e. p e.1) (take k h)) e) [
       | inl t ↦ record { place = 0; rec = x.1; is_recorded = refl; passes = t; before = omega arith }
@@ -22,14 +20,13 @@ passes_before p (x ∷ h) (suc k) e =
           let l = r.before in
           record { place = suc r.place; rec = r.rec; is_recorded = r.is_recorded; passes = r.passes; before = omega arith }
     ]
+passes_before p _ _ e = absurd (cc)
 
 before_passes : (p : Rec → Bool) (h : History) (k j : ℕ) (r : Rec) → IsRecordAt h j r → p r ≡ true → j < k
     → list_any (λ e. p e.1) (take k h) ≡ true
 before_passes p [] k j r s t l = absurd (cc)
 before_passes p (x ∷ h) zero j r s t l = absurd (omega arith)
-before_passes p (x ∷ h) (suc k) zero r s t l =
-    let same : x.1 ≡ r = cc in
-    or_left (p x.1) (list_any (λ e. p e.1) (take k h)) (ap p same ∙ t)
+before_passes p (x ∷ h) (suc k) zero r s t l = cc
 before_passes p (x ∷ h) (suc k) (suc j) r s t l =
     or_right (p x.1) (list_any (λ e. p e.1) (take k h)) (before_passes p h k j r s t (omega arith))
 
@@ -46,9 +43,7 @@ before_applied h n d k a =
 
 -- tests that follow from one another are the same
 same_test : (a b : Bool) → (a ≡ true → b ≡ true) → (b ≡ true → a ≡ true) → a ≡ b
-same_test true b f g = sym (f refl)
-same_test false true f g = g refl
-same_test false false f g = refl
+same_test a b f g = grind arith
 
 pub applied_alike : (h : History) (n a j b k : ℕ) → AppliedBefore h n a j ↔ AppliedBefore h n b k
     → is_applied h a j n ≡ is_applied h b k n

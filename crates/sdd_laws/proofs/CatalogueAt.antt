@@ -1,16 +1,10 @@
 -- The catalogue in force is that of an era.
-use Rattle.sdd_laws.proofs.All.{AreEras, Catalogue, Eras, IsEraOf, [], arith, catalogue_at, cond, eras_begun, false, filter, length, nat_le, slice_get-get_or, slice_get_within, slice_index_or as get_or, true, ℕ, ◌-◌, ◌<◌, ◌∷◌, ◌≤◌}
+use Rattle.sdd_laws.proofs.All.{AreEras, Catalogue, Eras, IsEraOf, [], arith, catalogue_at, eras_begun, length, slice_get-get_or, slice_get_within, slice_index_or as get_or, ℕ, ◌-◌, ◌<◌, ◌∷◌, ◌≤◌}
 
 -- no more eras have eras_begun than there are
 begun_few : (eras : Eras) (event : ℕ) → eras_begun eras event ≤ length eras
 begun_few [] event = omega arith
-begun_few (e ∷ eras) event =
-    let rest = begun_few eras event in
-    elim (nat_le e.0 event) as
-    (λ b. length (cond b (e ∷ filter (λ d. nat_le d.0 event) eras) (filter (λ d. nat_le d.0 event) eras)) ≤ length (e ∷ eras)) [
-      | true ↦ omega arith
-      | false ↦ omega arith
-    ]
+begun_few (e ∷ eras) event = grind (arith, begun_few eras event)
 
 pub era_is : (cat : Catalogue) (eras : Eras) → AreEras cat eras → (event : ℕ) → IsEraOf cat (catalogue_at cat eras event)
 era_is cat eras are event =

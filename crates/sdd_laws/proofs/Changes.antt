@@ -1,5 +1,5 @@
 -- What stands at an item after changes.
-use Rattle.sdd_laws.proofs.All.{Catalogue, Change, Contains, Contains-cases, Contains-here, Contains-later, Contains-nil, Database, IsStrictlySortedBy, Item, List, None, Option, Row, Some, [], after_changes, ap, changed_by, cond, inl, inr, inserted_sorted, is_at, item_cmp, item_cmp_exact, item_cmp_total, item_of, keys_of, refl, removed_sorted, row_at, set_to, subst, sym, ◌∙◌, ◌∷◌, ◌≡◌, ◌⊎◌}
+use Rattle.sdd_laws.proofs.All.{Catalogue, Change, Contains, Contains-cases, Contains-here, Contains-later, Contains-nil, Database, IsStrictlySortedBy, Item, List, None, Option, Row, Some, [], after_changes, ap, changed_by, cond, inl, inr, inserted_sorted, item_cmp, item_cmp_exact, item_cmp_total, item_of, keys_of, refl, removed_sorted, row_at, rules, set_to, subst, sym, ◌∙◌, ◌∷◌, ◌≡◌, ◌⊎◌}
 use Rattle.sdd_laws.proofs.LookUps.{key_or_not, test_own, test_other, put_in, taken_out}
 
 abbrev pub Ascends : Database → Type 0
@@ -11,8 +11,7 @@ item_or_not a b = key_or_not item_cmp item_cmp_total item_cmp_exact a b
 -- one item is set
 
 set_ascends : (db : Database) (item : Item) (r : Option Row) → Ascends db → Ascends (set_to db item r)
-set_ascends db item None s = removed_sorted item_cmp (is_at (item_cmp item)) db s
-set_ascends db item (Some row) s = inserted_sorted item_cmp item_cmp_total db item row s
+set_ascends db item r s = search (rules, removed_sorted, inserted_sorted, item_cmp_total)
 
 set_here : (db : Database) (item at : Item) (r : Option Row) → Ascends db → item ≡ at → row_at (set_to db item r) at ≡ r
 set_here db item at None s e =

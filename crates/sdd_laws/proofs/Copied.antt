@@ -1,5 +1,5 @@
 -- In every catalogue a fragment has a copy, so that class 0 reads it somewhere.
-use Rattle.sdd_laws.proofs.All.{AllByRecursion, Catalogue, Contains, Contains-here, Contains-range, DmNo, Fragment, FragmentPart, IsSoundCatalogue, List, Parts, Some, [], arith, at_number, both_empty, dm_no, each_image, each_unfound, empty_of_map, eq-eqb, eqb-false, false, fragment_at, fragment_from, fragment_rules, has_copy, length, length-map, lowest_copy, map, no_faults, numbers_to, parts_of, passes_member, refl, relation_names, sound_fragments, subst, suc, sym, true, unbroken, zero, ℕ, ◌==◌, ◌∷◌, ◌≡◌, ◌≤◌}
+use Rattle.sdd_laws.proofs.All.{AllByRecursion, Catalogue, Contains, Contains-here, Contains-range, DmNo, Fragment, FragmentPart, IsSoundCatalogue, List, Parts, Some, [], arith, at_number, dm_no, each_image, each_unfound, empty_of_map, eq-eqb, fragment_at, fragment_from, fragment_rules, has_copy, length, length-map, lowest_copy, map, no_faults, numbers_to, parts_of, passes_member, refl, relation_names, sound_fragments, subst, sym, true, ℕ, ◌==◌, ◌∷◌, ◌≡◌, ◌≤◌}
 use Rattle.sdd_laws.proofs.Lists.{found_where_any}
 use Rattle.sdd_lang.specs.All.{IsPlaced}
 
@@ -9,16 +9,7 @@ HasCopies f = 1 ≤ length f.copies
 -- the parts of a fragment that breaks no rule have a copy
 some_copy_part : (parts : Parts) (before : List FragmentPart) (f : FragmentPart)
     → fragment_rules parts before f ≡ [] → 1 ≤ length f.copies
-some_copy_part parts before f e =
-    let rules = both_empty _ _ e in
-    let copies = both_empty _ _ rules.0 in
-    let some : (length f.copies == 0) ≡ false = unbroken _ _ copies.1 in
-    let n = eqb-false (length f.copies) 0 some in
-    above_zero (length f.copies) n
-  where
-    above_zero : (n : ℕ) → (n ≡ 0 → ⊥) → 1 ≤ n
-    above_zero zero h = absurd (h refl)
-    above_zero (suc n) h = omega arith
+some_copy_part parts before f e = grind arith
 
 each_copied : (cat : Catalogue) → IsSoundCatalogue cat → AllByRecursion HasCopies cat.fragments
 each_copied cat sound =

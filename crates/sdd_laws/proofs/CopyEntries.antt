@@ -1,5 +1,5 @@
 -- The entries that a copy gives a database: they ascend, each comes from a dated change, and lies in the fragment.
-use Rattle.sdd_laws.proofs.All.{AllByRecursion, ArePlaced, Catalogue, Change, Contains, Dated, Decides-eqb, IsStrictlySortedBy, Item, Less, List, Row, Some, [], ap, contents, entries_of, fragment_at, fragment_of, int_cmp, item_cmp, item_of, keys_of, map, nat_cmp_total, ordering_then, sorted_head, sorted_nil, sorted_tail, sym, tied_itself, ℕ, ℤ, ◌==◌, ◌∙◌, ◌∷◌, ◌≡◌}
+use Rattle.sdd_laws.proofs.All.{AllByRecursion, ArePlaced, Catalogue, Change, Contains, Dated, Decides-eqb, IsStrictlySortedBy, Item, Less, List, Row, Some, [], ap, contents, entries_of, fragment_at, fragment_of, int_cmp, item_cmp, item_of, keys_of, map, rules, sorted_head, sorted_nil, sorted_tail, sym, ℕ, ℤ, ◌==◌, ◌∙◌, ◌∷◌, ◌≡◌}
 use Rattle.sdd_laws.proofs.Latest.{contents_ascend, contents_left}
 use Rattle.sdd_laws.proofs.LookUps.{sorted_cons}
 use Rattle.sdd_laws.proofs.Members.{Contains-from_map, Contains-from_filter}
@@ -10,8 +10,7 @@ use Rattle.sdd_laws.proofs.Values.{fragment_is}
 each_above : (r : ℕ) (k : ℤ) (es : List (ℤ × Row)) → AllByRecursion (λ y. int_cmp k y ≡ Less) (keys_of es)
     → AllByRecursion (λ (y : Item). item_cmp (r, k) y ≡ Less) (keys_of (map (λ (e : ℤ × Row). ((r, e.0), e.1)) es))
 each_above r k [] all = tt
-each_above r k (e ∷ es) all =
-    (ap (λ o. ordering_then o (int_cmp k e.0)) (tied_itself nat_cmp_total r) ∙ all.0, each_above r k es all.1)
+each_above r k (e ∷ es) all = search (rules, each_above r k es all.1)
 
 items_ascend : (r : ℕ) (es : List (ℤ × Row)) → IsStrictlySortedBy int_cmp (keys_of es)
     → IsStrictlySortedBy item_cmp (keys_of (map (λ (e : ℤ × Row). ((r, e.0), e.1)) es))

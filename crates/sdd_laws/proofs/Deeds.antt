@@ -1,5 +1,5 @@
 -- What the laws say of a history, as the deeds of its committed transactions.
-use Rattle.sdd_laws.proofs.All.{AppliedBefore, Applies, AreEras, Asks, Attempt, Catalogue, Committed, Deeds, Eras, ErasApart, History, IsAnswered, IsApplied, IsAttempt, IsCommitted, IsEarlier, IsModule, IsOfEarlierEra, IsSoundCatalogue, IsSubmitted, KeepsAnswers, KeepsApplies, KeepsEras, KeepsStarts, KeepsUndeclared, List, None, Option, RelNo, Row, Some, Starts, Touches, Ts, Txn as Text, ZeroAlone, ap, arith, at_each, by_change, by_no_class, by_use, cases_lt, changes, commit_of, eras_begun, event_at, has_copy, inl, inr, is_some, module_of, ne_eqb, not, one_of_txn, one_submitted, option_map, p2_time, reads, refl, same_start, subst, sym, true, unwrap_or, ℕ, ◌<◌, ◌==◌, ◌∙◌, ◌≡◌, ◌≤◌}
+use Rattle.sdd_laws.proofs.All.{AppliedBefore, Applies, AreEras, Asks, Attempt, Catalogue, Committed, Deeds, Eras, ErasApart, History, IsAnswered, IsApplied, IsAttempt, IsCommitted, IsEarlier, IsModule, IsOfEarlierEra, IsSoundCatalogue, IsSubmitted, KeepsAnswers, KeepsApplies, KeepsEras, KeepsStarts, KeepsUndeclared, List, Option, RelNo, Row, Some, Starts, Touches, Ts, Txn as Text, ZeroAlone, ap, arith, at_each, by_change, by_no_class, by_use, cases_lt, changes, commit_of, eras_begun, event_at, has_copy, inl, inr, is_some, module_of, ne_eqb, not, one_of_txn, one_submitted, option_map, p2_time, reads, refl, same_start, subst, sym, true, unwrap_or, ℕ, ◌<◌, ◌==◌, ◌∙◌, ◌≡◌, ◌≤◌}
 use Rattle.sdd_laws.proofs.NumberedStarts.{one_start}
 use Rattle.sdd_laws.proofs.Reading.{reads_there}
 use Rattle.sdd_acyclic.specs.Deeds.{Txn}
@@ -34,8 +34,7 @@ deeds cat h =
     }
 
 p2_is : (o : Option Ts) → is_some o ≡ true → (t : Ts) × (o ≡ Some t)
-p2_is None e = absurd (cc)
-p2_is (Some t) e = (t, refl)
+p2_is o e = grind arith
 
 module _ (cat : Catalogue) (sound : IsSoundCatalogue cat) (eras : Eras) (are : AreEras cat eras) (rows : List (RelNo × Row)) (txns : List Text) (h : History)
     (starting : KeepsStarts cat eras txns h) (answering : KeepsAnswers cat rows txns h) (applying : KeepsApplies cat h)
@@ -73,11 +72,7 @@ module _ (cat : Catalogue) (sound : IsSoundCatalogue cat) (eras : Eras) (are : A
         omega arith
 
     times_rise : (a b : Attempt) → IsAttempt h a → IsAttempt h b → a.class ≡ b.class → a.place ≤ b.place → a.ts ≤ b.ts
-    times_rise a b p q c l =
-        elim (cases_lt a.place b.place) [
-          | inl m ↦ let s = starting.rise a b p q c m in omega arith
-          | inr m ↦ let e = (same_start h a b p q (omega arith)).ts in omega arith
-        ]
+    times_rise a b p q c l = grind arith
 
     bounds_rise : (a b : Attempt) → IsAttempt h a → IsAttempt h b → a.class ≡ b.class → 1 ≤ a.class → a.place ≤ b.place → p2_time a ≤ p2_time b
     bounds_rise a b p q c d l =

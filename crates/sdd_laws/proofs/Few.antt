@@ -1,5 +1,5 @@
 -- A transaction starts again only since another one was committed: each Start but the first has a writer of its own.
-use Rattle.sdd_laws.proofs.All.{AllByRecursion, Answer, Apply, AreFew, Arrive, Attempt, Bool, Catalogue, Commit, Committed, Eras, History, IsAgain, IsAttempt, IsCommitted, IsRecordAt, KeepsRejections, KeepsStarts, List, Nothing, Pass, Rec, Reject, Some, Start, Submit, Ts, Txn, Wait, [], ap, arith, cases_Bool, cases_lt, catalogue_at, class_for, commits_of_others, cond, each_more, eq-eqb, eqb, eqb-true, event_at, false, filter, inl, inr, is_commit_of_other, is_start_of, length, length-le_from_is_member, list_any, nat_eq_equiv, ne_eqb, not, or_left, or_right, refl, same_Some, same_commit, same_start, starts_before, starts_of, subst, suc, sym, take, true, txn_at, txn_no, zero, ℕ, ◌+◌, ◌<◌, ◌||◌, ◌∙◌, ◌∷◌, ◌≡◌, ◌≢◌, ◌≤◌}
+use Rattle.sdd_laws.proofs.All.{AllByRecursion, AreFew, Attempt, Bool, Catalogue, Commit, Committed, Eras, History, IsAgain, IsAttempt, IsCommitted, IsRecordAt, KeepsRejections, KeepsStarts, List, Rec, Some, Start, Submit, Ts, Txn, [], ap, arith, cases_Bool, cases_lt, catalogue_at, class_for, commits_of_others, cond, each_more, eq-eqb, eqb, eqb-true, event_at, false, filter, inl, inr, is_commit_of_other, is_start_of, length, length-le_from_is_member, list_any, nat_eq_equiv, ne_eqb, not, or_left, or_right, refl, same_Some, same_commit, same_start, starts_before, starts_of, subst, suc, sym, take, true, txn_at, txn_no, zero, ℕ, ◌+◌, ◌<◌, ◌||◌, ◌∙◌, ◌∷◌, ◌≡◌, ◌≢◌, ◌≤◌}
 use Rattle.std.specs.List.{IsDistinct}
 use Rattle.sdd_laws.proofs.NumberedStarts.{one_start, start_counts}
 use Rattle.sdd_laws.proofs.Times.{condition_time}
@@ -81,15 +81,7 @@ attempt_at h n k (Start txn attempt class ts p2 uses) s t = (
   eqb-true txn.0 n t,
   refl,
 )
-attempt_at h n k (Submit txn) s t = absurd (cc)
-attempt_at h n k (Arrive txn attempt dm) s t = absurd (cc)
-attempt_at h n k (Wait txn attempt dm conds) s t = absurd (cc)
-attempt_at h n k (Answer txn attempt dm) s t = absurd (cc)
-attempt_at h n k (Reject txn attempt dm class ts) s t = absurd (cc)
-attempt_at h n k (Commit txn attempt reply changes values rows) s t = absurd (cc)
-attempt_at h n k (Apply txn class dm ts) s t = absurd (cc)
-attempt_at h n k (Pass class dm time) s t = absurd (cc)
-attempt_at h n k Nothing s t = absurd (cc)
+attempt_at h n k _ s t = absurd (cc)
 
 no_places : IsDistinct eqb []
 unfolding IsDistinct

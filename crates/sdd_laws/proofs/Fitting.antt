@@ -1,5 +1,5 @@
 -- The transactions of an era fit its catalogue, and meet the read conditions of its table.
-use Rattle.sdd_laws.proofs.All.{All, All-contains, AllByRecursion, AppliedBefore, AreEras, Attempt, Catalogue, Change, ChangeExists, Commit, Committed, Cond, Contains, Declared, Effect, Entry, Eras, ExistsIn, FitsTxn as TextFits, FragNo, Fragment, History, IsAnswered, IsCommitted, IsConditionOf, IsCovered, IsDatabase, IsEraOf, IsFragment, IsFragmentOf, IsOfSubmit, IsRecordAt, IsSeen, IsSoundCatalogue, IsTable, KeepsAnswers, KeepsApplies, KeepsConditions, KeepsEras, KeepsStarts, List, Meets, None, NumbersExist, Rec, RelNo, Row, Some, TouchesOne, Txn as Text, [], all_at, ap, arith, ascending, ascending_back, at_member, base_of, catalogue_at, changes, cond, conditions, contains, declared, eq-eqb, eqb-true, eras_begun, event_at, false, frag_no, fragments_in, has_copy, is_some, length, lie_in_write_set, map, member_passes, module_of, ne_eqb, numbers_back, of_era, option_map, or_left, or_right, p2_time, reads, reads_at, refl, same_Some, slice_get, slice_index_or, subst, sym, true, txn_no, undeclared_conditions, write_set, write_set_in_era, ℕ, ◌-◌, ◌<◌, ◌==◌, ◌↔◌, ◌∙◌, ◌∷◌, ◌≡◌}
+use Rattle.sdd_laws.proofs.All.{All, All-contains, AllByRecursion, AppliedBefore, AreEras, Attempt, Catalogue, Change, ChangeExists, Commit, Committed, Cond, Contains, Declared, Effect, Entry, Eras, ExistsIn, FitsTxn as TextFits, FragNo, Fragment, History, IsAnswered, IsCommitted, IsConditionOf, IsCovered, IsDatabase, IsEraOf, IsFragment, IsFragmentOf, IsOfSubmit, IsRecordAt, IsSeen, IsSoundCatalogue, IsTable, KeepsAnswers, KeepsApplies, KeepsConditions, KeepsEras, KeepsStarts, List, Meets, NumbersExist, Rec, RelNo, Row, Some, TouchesOne, Txn as Text, [], all_at, ap, arith, ascending, ascending_back, at_member, base_of, catalogue_at, changes, conditions, contains, declared, eq-eqb, eqb-true, eras_begun, event_at, frag_no, fragments_in, has_copy, is_some, length, lie_in_write_set, map, member_passes, module_of, numbers_back, of_era, or_left, or_right, p2_time, reads, reads_at, refl, slice_get, slice_index_or, subst, sym, true, txn_no, write_set, write_set_in_era, ℕ, ◌-◌, ◌<◌, ◌==◌, ◌↔◌, ◌∙◌, ◌∷◌, ◌≡◌}
 use Rattle.sdd_laws.proofs.Deeds.{Placed, deeds, are_starts}
 use Rattle.sdd_laws.proofs.CatalogueAt.{era_is}
 use Rattle.sdd_laws.proofs.Reading.{IsReadAt, class_covers, read_at_event, reads_there}
@@ -23,12 +23,7 @@ frags_of x = map frag_no (ascending (fragments_in x.txn.start.uses))
 
 -- a record at a place is that of an entry
 recorded_entry : (h : History) (k : ℕ) (r : Rec) → IsRecordAt h k r → (e : ℕ × Rec) × (slice_get h k ≡ Some e) × (e.1 ≡ r)
-recorded_entry h k r s =
-    elim (slice_get h k) as
-    (λ o. slice_get h k ≡ o → option_map (λ (e : ℕ × Rec). e.1) o ≡ Some r → (e : ℕ × Rec) × (slice_get h k ≡ Some e) × (e.1 ≡ r)) [
-      | None ↦ λ p q. absurd (cc)
-      | Some e ↦ λ p q. (e, p, same_Some e.1 r q)
-    ] refl s
+recorded_entry h k r s = grind arith
 
 pub exists_at : (cat : Catalogue) (h : History) → NumbersExist cat h → (k : ℕ) (r : Rec) → IsRecordAt h k r → ExistsIn cat r
 exists_at cat h exist k r s =
@@ -60,8 +55,7 @@ module _ (cat : Catalogue) (sound : IsSoundCatalogue cat) (eras : Eras) (are : A
         subst (λ (e : Effect). All (λ (x : Change). contains (write_set cat s.txn) x.frag.0 ≡ true) e.changes)
         (answering.effect_is t s.txn p s.txn_is) all in
         let m = member_passes (λ (x : Change). x.frag.0 == f) t.changes c in
-        subst (λ n. contains (write_set cat s.txn) n ≡ true) (eqb-true m.0.frag.0 f m.2)
-        (All-contains (λ (x : Change). contains (write_set cat s.txn) x.frag.0 ≡ true) t.changes m.0 of m.1)
+        grind arith
 
     -- the catalogue of an era
     abbrev pub catalogue_of : ℕ → Catalogue
@@ -79,16 +73,10 @@ module _ (cat : Catalogue) (sound : IsSoundCatalogue cat) (eras : Eras) (are : A
 
       -- the catalogue in force at its Submit, and at its Start, is that of the era
       same_catalogue_at : (x : Member) → catalogue_at cat eras (event_at h (submit_of x).place) ≡ catalogue_of n
-      same_catalogue_at x =
-          let s = submit_of x in
-          let at : s.place ≡ x.txn.item.no.submit =
-          starting.one_submit (start_of x).txn s.place x.txn.item.no.submit s.submitted x.txn.item.is.submitted in
-          ap (λ k. catalogue_at cat eras (event_at h k)) at ∙ ap catalogue_of x.txn.is
+      same_catalogue_at x = grind arith
 
       started_in_catalogue : (x : Member) → catalogue_at cat eras (event_at h (start_of x).place) ≡ catalogue_of n
-      started_in_catalogue x =
-          let era = kept.one_era (start_of x) x.txn.item.no.submit x.txn.item.is.committed.started x.txn.item.is.submitted in
-          ap catalogue_of (sym era ∙ x.txn.is)
+      started_in_catalogue x = grind arith
 
       covered_there : (x : Member) → IsCovered (catalogue_of n) (submit_of x).txn (start_of x).class
       covered_there x =
@@ -127,17 +115,7 @@ module _ (cat : Catalogue) (sound : IsSoundCatalogue cat) (eras : Eras) (are : A
         condition_is : (y : Member) (d : ℕ) (c : Cond)
             → Contains (conditions cat table (start_of y).class d (frags_of y.txn.item.no) (start_of y).ts (p2_time (start_of y))) c
             → IsConditionOf cat eras h (start_of y) d c
-        condition_is y d c m =
-            let a = start_of y in
-            let l = y.class in
-            let class : (a.class == 0) ≡ false = ne_eqb a.class 0 (λ z. absurd (omega arith)) in
-            record {
-              table = table;
-              table_is = subst (λ k. IsTable k table) (sym (started_in_catalogue y)) is_table;
-              there =
-                  subst (λ b. Contains (cond b (undeclared_conditions cat a.ts) (conditions cat table a.class d (frags_of y.txn.item.no) a.ts (p2_time a))) c)
-                  (sym class) m;
-            }
+        condition_is y d c m = grind arith
 
         met : (x y : Member) (f g : ℕ) (c : Cond) → reads (start_of y) f ≡ true
             → Contains (conditions cat table (start_of y).class (module_of cat (start_of y).class f) (frags_of y.txn.item.no) (start_of y).ts (p2_time (start_of y))) c

@@ -1,5 +1,5 @@
 -- A database that has the values has in a fragment what a copy does to which those are applied that change the fragment.
-use Rattle.sdd_laws.proofs.All.{ArePlaced, AreWriters, Catalogue, Change, ChangesOf, Contains, Database, Dated, Decides-eqb, HasValues, IsDatabase, IsSoundCatalogue, IsValue, Item, Ledger, List, Option, Row, Some, all_dated, ap, contents, entries_of, filtered_sorted, fragment_at, fragment_of, item_cmp, item_cmp_exact, item_cmp_total, row_at, rows_in_fragment, subst, sym, untouched, writers, written, ℕ, ℤ, ◌==◌, ◌∙◌, ◌≡◌}
+use Rattle.sdd_laws.proofs.All.{ArePlaced, AreWriters, Catalogue, Change, ChangesOf, Contains, Database, Dated, Decides-eqb, HasValues, IsDatabase, IsSoundCatalogue, IsValue, Item, Ledger, List, Option, Row, Some, all_dated, ap, contents, entries_of, filtered_sorted, fragment_at, fragment_of, item_cmp, item_cmp_exact, item_cmp_total, row_at, rows_in_fragment, rules, subst, sym, writers, ℕ, ℤ, ◌==◌, ◌∙◌, ◌≡◌}
 use Rattle.sdd_laws.proofs.CopyEntries.{entries_ascend}
 use Rattle.sdd_laws.proofs.LookUps.{entry_at, at_entry, same_members}
 use Rattle.sdd_laws.proofs.Members.{Contains-map, Contains-from_map, Contains-filter, Contains-from_filter}
@@ -10,10 +10,7 @@ use Rattle.sdd_laws.proofs.Values.{one_value, same_value, fragment_is, contents_
 -- the relation of an item that has a row is that of its fragment
 rel_is : (cat : Catalogue) (xs : Dated) (item : Item) (row : Row) → ArePlaced cat xs → IsValue cat xs item (Some row)
     → (fragment_at cat (fragment_of cat item.0 item.1)).rel.0 ≡ item.0
-rel_is cat xs item row placed (untouched n e) = cc
-rel_is cat xs item row placed (written x l e) =
-    ap (λ z. (fragment_at cat z).rel.0) (sym (fragment_is cat xs item x placed l.there l.of))
-    ∙ ap (λ (i : Item). i.0) l.of
+rel_is cat xs item row placed e = search rules
 
 abbrev entry : Catalogue → ℕ → ℤ × Row → Item × Row
 entry cat f e = (((fragment_at cat f).rel.0, e.0), e.1)

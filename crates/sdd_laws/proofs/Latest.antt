@@ -1,5 +1,5 @@
 -- What a copy holds is what the latest changes of its fragment leave.
-use Rattle.sdd_laws.proofs.All.{Above, AllByRecursion, Answers, Ascends, Change, Contains, Dated, IsLatest, IsStrictlySortedBy, Items, Keeps, Less, List, None, Option, Row, Some, [], ap, arith, cons_option, contents, entries_in, exact_signed, false, int_cmp, int_cmp_total, is_at, items_keep, items_tell, keys_of, latest, latest_answers, lookup, nat_lt, nat_tests, of_fragment, refl, shown, sorted_nil, subst, sym, ℕ, ℤ, ◌∙◌, ◌∷◌, ◌≡◌, ◌≤◌}
+use Rattle.sdd_laws.proofs.All.{Above, AllByRecursion, Answers, Ascends, Change, Contains, Dated, IsLatest, IsStrictlySortedBy, Items, Keeps, Less, List, None, Option, Row, Some, [], ap, arith, contents, entries_in, exact_signed, false, int_cmp, int_cmp_total, is_at, items_keep, items_tell, keys_of, latest, latest_answers, lookup, nat_lt, nat_tests, of_fragment, refl, shown, sorted_nil, subst, sym, ℕ, ℤ, ◌∙◌, ◌∷◌, ◌≡◌, ◌≤◌}
 use Rattle.sdd_laws.proofs.LookUps.{sorted_cons, entry_at, at_entry}
 use Rattle.sdd_laws.proofs.Members.{Contains-filter_map, Contains-from_filter_map}
 use Rattle.sdd_copy.specs.Items.{row_at, items_of}
@@ -17,15 +17,11 @@ ascending_sorted (e ∷ es) h = sorted_cons int_cmp e.0 (keys_of es) (above_each
 
 kept_above : (j : ℤ) (es : Items) → Above j es → Above j (entries_in es)
 kept_above j [] h = tt
-kept_above j (e ∷ es) h =
-    let rest = kept_above j es h.1 in
-    elim e.1.1 as (λ o. Above j (cons_option (row_at e.0 o) (entries_in es))) [ None ↦ rest | Some row ↦ (h.0, rest) ]
+kept_above j (e ∷ es) h = grind (arith, kept_above j es h.1)
 
 kept_ascend : (es : Items) → Ascends es → Ascends (entries_in es)
 kept_ascend [] h = tt
-kept_ascend (e ∷ es) h =
-    let rest = kept_ascend es h.1 in
-    elim e.1.1 as (λ o. Ascends (cons_option (row_at e.0 o) (entries_in es))) [ None ↦ rest | Some row ↦ (kept_above e.0 es h.0, rest) ]
+kept_ascend (e ∷ es) h = grind (arith, kept_above, kept_ascend es h.1)
 
 pub contents_ascend : (f : ℕ) (xs : Dated) → IsStrictlySortedBy int_cmp (keys_of (contents f xs))
 contents_ascend f xs =
@@ -39,16 +35,11 @@ abbrev Entry : Type 0
 Entry = ℤ × (ℕ × Option Row)
 
 row_of : (e : Entry) (k : ℤ) (row : Row) → row_at e.0 e.1.1 ≡ Some (k, row) → (e.0 ≡ k) × (e.1.1 ≡ Some row)
-row_of e k row h = by e.1.1 h
-  where
-    by : (o : Option Row) → row_at e.0 o ≡ Some (k, row) → (e.0 ≡ k) × (o ≡ Some row)
-    by None p = cc
-    by (Some r) p = let same : ◌≡◌ {A = ℤ × Row} (e.0, r) (k, row) = cc in (ap (λ z. z.0) same, ap (λ z. Some z.1) same)
+row_of e k row h = grind arith
 
 shown_row : (o : Option (ℕ × Change)) (item : ℕ × Option Row) (row : Row) → shown o ≡ Some item → item.1 ≡ Some row
     → (x : ℕ × Change) × (o ≡ Some x) × (x.1.row ≡ Some row)
-shown_row None item row e r = cc
-shown_row (Some x) item row e r = let same : (x.0, x.1.row) ≡ item = cc in (x, refl, ap (λ z. z.1) same ∙ r)
+shown_row o item row e r = grind arith
 
 -- a row that a copy holds is left by the latest change of its key
 pub contents_left : (f : ℕ) (xs : Dated) (k : ℤ) (row : Row) → Contains (contents f xs) (k, row)

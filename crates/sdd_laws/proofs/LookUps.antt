@@ -1,18 +1,7 @@
 -- What stands at a key of entries, once one more is put in or one is taken out; and which entries there are.
-use Rattle.sdd_laws.proofs.All.{AllByRecursion, Bool, CmpEqualImpliesEq, Contains, Contains-from_lookup, Equal, Greater, IsDistinct-from_sorted, IsTotalOrder, Less, List, None, Option, Ordering, Some, [], ap, cond, eq_by_cmp_equiv, false, inl, inr, insert_entry, inserted_sorted, is_at, is_eq, keys_of, lookup, lookup-from_Contains, lookup-remove_entry, match_ordering, refl, remove_entry, same_entries, sorted_nil, subst, sym, tells_apart, tied_itself, true, ◌∙◌, ◌∷◌, ◌≡◌, ◌⊎◌}
+use Rattle.sdd_laws.proofs.All.{AllByRecursion, Bool, CmpEqualImpliesEq, Contains, Contains-from_lookup, IsDistinct-from_sorted, IsTotalOrder, Less, List, None, Option, Ordering, Some, [], ap, cond, eq_by_cmp_equiv, false, inl, inr, insert_entry, inserted_sorted, is_at, is_eq, keys_of, lookup, lookup-from_Contains, lookup-remove_entry, refl, remove_entry, rules, same_entries, subst, sym, tells_apart, tied_itself, true, ◌∙◌, ◌∷◌, ◌≡◌, ◌⊎◌}
 use Rattle.std.specs.List.Sorted.{IsStrictlySortedBy}
 use Rattle.sdd_laws.proofs.Members.{is_in, contained}
-
-cond_twice : {X : Type 0} (b : Bool) (x y z : X) → cond b x z ≡ cond b x (cond b y z)
-cond_twice true x y z = refl
-cond_twice false x y z = refl
-
-either_first : {X : Type 0} (b c : Bool) (x y z : X) → (b ≡ true → c ≡ true → ⊥)
-    → cond b x (cond c y z) ≡ cond c y (cond b x z)
-either_first true true x y z h = absurd (h refl refl)
-either_first true false x y z h = refl
-either_first false true x y z h = refl
-either_first false false x y z h = refl
 
 module _ {K : Type 0} (R : K → K → Ordering) (total : IsTotalOrder R) (exact : CmpEqualImpliesEq R) where
   pub same_key : (k q : K) → is_at (R k) q ≡ true → k ≡ q
@@ -34,11 +23,7 @@ module _ {K : Type 0} (R : K → K → Ordering) (total : IsTotalOrder R) (exact
   test_own k q e = subst (λ z. is_at (R k) z ≡ true) e (own_key k)
 
   pub test_other : (k q : K) → (k ≡ q → ⊥) → is_at (R k) q ≡ false
-  test_other k q n =
-      elim (is_at (R k) q) as (λ b. is_at (R k) q ≡ b → b ≡ false) [
-        | true ↦ λ e. absurd (n (same_key k q e))
-        | false ↦ λ e. refl
-      ] refl
+  test_other k q n = search rules
 
 -- keys in order
 
@@ -55,25 +40,7 @@ module _ {K X : Type 0} (R : K → K → Ordering) (total : IsTotalOrder R) (exa
   pub put_in : (es : List (K × X)) (k : K) (v : X) (q : K)
       → at q (insert_entry R es k v) ≡ cond (is_at (R q) k) (Some v) (at q es)
   put_in [] k v q = refl
-  put_in (e ∷ es) k v q =
-      elim (R k e.0) as (λ o.
-      R k e.0 ≡ o
-      → at q (match_ordering o ((k, v) ∷ e ∷ es) ((e.0, v) ∷ es) (e ∷ insert_entry R es k v)) ≡ cond (is_at (R q) k) (Some v)
-      (cond (is_at (R q) e.0) (Some e.1) (at q es))) [
-        | Less ↦ λ p. refl
-        | Equal ↦
-            λ p.
-            subst
-            (λ z.
-            cond (is_at (R q) e.0) (Some v) (at q es) ≡ cond (is_at (R q) z) (Some v)
-            (cond (is_at (R q) e.0) (Some e.1) (at q es)))
-            (sym (exact k e.0 p)) (cond_twice (is_at (R q) e.0) (Some v) (Some e.1) (at q es))
-        | Greater ↦ λ p. ap (λ o. cond (is_at (R q) e.0) (Some e.1) o) (put_in es k v q)
-            ∙ either_first (is_at (R q) e.0) (is_at (R q) k) (Some e.1) (Some v) (at q es)
-            (λ a b.
-            let same : k ≡ e.0 = sym (same_key R total exact q k b) ∙ same_key R total exact q e.0 a in
-            let own : R k e.0 ≡ Equal = subst (λ z. R k z ≡ Equal) same (tied_itself total k) in cc)
-      ] refl
+  put_in (e ∷ es) k v q = search (rules, put_in es k v q)
 
   -- one less
   pub taken_out : (es : List (K × X)) (k q : K) → IsStrictlySortedBy R (keys_of es)
@@ -101,9 +68,7 @@ module _ {K X : Type 0} (R : K → K → Ordering) (total : IsTotalOrder R) (exa
   -- which entries there are, once one more is put in
 
   pub put_there : (es : List (K × X)) (k : K) (v : X) → Contains (insert_entry R es k v) (k, v)
-  put_there es k v =
-      entry_at (insert_entry R es k v) k v
-      (put_in es k v k ∙ ap (λ b. cond b (Some v) (at k es)) (own_key R total exact k))
+  put_there es k v = search (rules, entry_at, put_in)
 
   pub put_or_there : (es : List (K × X)) (k : K) (v : X) (e : K × X) → IsStrictlySortedBy R (keys_of es)
       → Contains (insert_entry R es k v) e → (e ≡ (k, v)) ⊎ Contains es e

@@ -1,5 +1,5 @@
 -- A serial order of a history agrees with what its transactions did.
-use Rattle.sdd_laws.proofs.All.{All, AreEras, Catalogue, Change, Committed, Contains, Contains-cases, Contains-here, Contains-later, Contains-nil, Eras, FitsTxn, History, IsCommitted, IsSerial, IsSoundCatalogue, KeepsAnswers, KeepsApplies, KeepsStarts, List, MayComeFirst, PutsHeld, Reads, RelNo, Row, Txn, TxnNo, [], and_of, ap, arith, both_write, cases_Bool, changes, committed, eqb-true, false, false≢true, fragments_in, from_committed, in_committed, inl, inr, is_earlier, is_overwritten, is_read_by, list_any, member_passes, misses, module_of, nat_lt, nat_tests, not, or_left, or_right, passes_member, precedes, reads_write, same_start, subst, sym, true, txn_no, was_seen, writes_read, ℕ, ◌&&◌, ◌==◌, ◌||◌, ◌∙◌, ◌∷◌, ◌≡◌, ◌≢◌}
+use Rattle.sdd_laws.proofs.All.{All, AreEras, Catalogue, Change, Committed, Contains, Contains-cases, Contains-here, Contains-later, Contains-nil, Eras, FitsTxn, History, IsCommitted, IsSerial, IsSoundCatalogue, KeepsAnswers, KeepsApplies, KeepsStarts, List, MayComeFirst, PutsHeld, Reads, RelNo, Row, Txn, TxnNo, [], and_of, ap, arith, both_write, cases_Bool, changes, committed, eqb-true, false, fragments_in, from_committed, in_committed, inl, inr, is_earlier, is_overwritten, is_read_by, list_any, member_passes, misses, module_of, nat_lt, nat_tests, not, passes_member, precedes, reads_write, subst, sym, true, txn_no, was_seen, writes_read, ℕ, ◌&&◌, ◌==◌, ◌||◌, ◌∙◌, ◌∷◌, ◌≡◌, ◌≢◌}
 use Rattle.sdd_laws.proofs.NumberedStarts.{one_start}
 use Rattle.sdd_laws.proofs.Deeds.{same_txn}
 use Rattle.sdd_laws.proofs.Precedes.{changes_member}
@@ -11,33 +11,16 @@ use Rattle.sdd_laws.specs.Order as agreeing
 
 module _ (cat : Catalogue) (h : History) (x y : Committed) (other : y.start.txn ≢ x.start.txn) (behind : precedes cat h y x ≡ false) where
   no_kind : ((is_earlier y x || is_overwritten y x) || (misses cat h y x || is_read_by cat h y x)) ≡ true → ⊥
-  no_kind e =
-      let differ : not (y.start.txn == x.start.txn) ≡ true = ap not (different y.start.txn x.start.txn other) in
-      false≢true
-      (sym behind
-      ∙ and_of (not (y.start.txn == x.start.txn))
-      ((is_earlier y x || is_overwritten y x) || (misses cat h y x || is_read_by cat h y x)) differ e)
-    where
-      different : (m n : ℕ) → m ≢ n → (m == n) ≡ false
-      different m n d = elim (cases_Bool (m == n)) [ inl t ↦ absurd (d (eqb-true m n t)) | inr f ↦ f ]
+  no_kind e = grind arith
 
   not_overwritten : is_overwritten y x ≡ true → ⊥
-  not_overwritten e =
-      no_kind
-      (or_left (is_earlier y x || is_overwritten y x) (misses cat h y x || is_read_by cat h y x)
-      (or_right (is_earlier y x) (is_overwritten y x) e))
+  not_overwritten e = grind arith
 
   not_missed : misses cat h y x ≡ true → ⊥
-  not_missed e =
-      no_kind
-      (or_right (is_earlier y x || is_overwritten y x) (misses cat h y x || is_read_by cat h y x)
-      (or_left (misses cat h y x) (is_read_by cat h y x) e))
+  not_missed e = grind arith
 
   not_read : is_read_by cat h y x ≡ true → ⊥
-  not_read e =
-      no_kind
-      (or_right (is_earlier y x || is_overwritten y x) (misses cat h y x || is_read_by cat h y x)
-      (or_right (misses cat h y x) (is_read_by cat h y x) e))
+  not_read e = grind arith
 
   -- so the first may stand before the second
 
@@ -140,10 +123,7 @@ module _ (cat : Catalogue) (sound : IsSoundCatalogue cat) (eras : Eras) (are : A
 
     apart : (t u : Committed) → IsCommitted h t → IsCommitted h u → u.start.txn ≢ t.start.txn
         → t.start.ts ≡ u.start.ts → ⊥
-    apart t u c b other e =
-        other
-        (sym
-        (same_start h t.start u.start c.started b.started (starting.one_time t.start u.start c.started b.started e)).txn)
+    apart t u c b other e = grind arith
 
     may_join : (x y : Committed) → IsCommitted h x → IsCommitted h y → y.start.txn ≢ x.start.txn
         → precedes cat h y x ≡ false → MayComeFirst cat (ledger cat txns h) x y

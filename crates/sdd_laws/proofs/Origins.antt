@@ -1,6 +1,6 @@
 -- Where the dated changes of copies come from; and so that each names its item's fragment, and those of one item with
 -- one date leave one row.
-use Rattle.sdd_laws.proofs.All.{All-contains, ArePlaced, AreWriters, Catalogue, Change, Contains, Contains-append_cases, Contains-append_left, Contains-append_right, Database, DatesDiffer, IsDatabase, IsEntry, IsPlaced, IsSoundCatalogue, Item, LeaveOneRow, List, Row, Some, Writers, all_dated, ap, arith, changes_of, dated, entry_placed, first_row, fragment_at, fragment_of, inl, inr, item_cmp, item_cmp_exact, item_cmp_total, item_of, map, subst, sym, ℕ, ◌∙◌, ◌≡◌}
+use Rattle.sdd_laws.proofs.All.{ArePlaced, AreWriters, Catalogue, Change, Contains, Contains-append_cases, Contains-append_left, Contains-append_right, Database, DatesDiffer, IsDatabase, IsPlaced, IsSoundCatalogue, Item, LeaveOneRow, List, Row, Some, Writers, all_dated, ap, arith, changes_of, dated, entry_placed, first_row, fragment_at, fragment_of, inl, inr, item_cmp, item_cmp_exact, item_cmp_total, item_of, map, subst, sym, ℕ, ◌∙◌, ◌≡◌}
 use Rattle.sdd_laws.proofs.LookUps.{one_entry}
 use Rattle.sdd_laws.proofs.Members.{Contains-map, Contains-from_map, Contains-flat_map, Contains-from_flat_map}
 
@@ -10,9 +10,7 @@ item_is cat c d f k = ap (λ n. ((fragment_at cat n).rel.0, c.key)) f ∙ ap (λ
 -- an entry of a database lies in a fragment of its relation
 pub entry_lies : (cat : Catalogue) → IsSoundCatalogue cat → (db : Database) → IsDatabase cat db → (e : Item × Row)
     → Contains db e → (fragment_at cat (fragment_of cat e.0.0 e.0.1)).rel.0 ≡ e.0.0
-entry_lies cat sound db is e h =
-    let entry : IsEntry cat e = All-contains (IsEntry cat) db e is.entries h in
-    entry_placed cat sound e.0.0 e.0.1 entry.relation entry.key_held
+entry_lies cat sound db is e h = grind (arith, entry_placed)
 
 module _ {T : Type 0} (cat : Catalogue) (first : Database) (w : Writers T) where
   pub data Origin (txns : List T) (x : ℕ × Change) : Type 0 where
@@ -71,16 +69,8 @@ module _ {T : Type 0} (cat : Catalogue) (first : Database) (w : Writers T) where
           one_entry item_cmp item_cmp_total item_cmp_exact first e.0 d.1 e.1 is.ascends
           (subst (λ j. Contains first (j, d.1)) at h) k in
           ap (λ (z : ℕ × Change). z.1.row) p ∙ ap (λ z. Some z) rows ∙ ap (λ (z : ℕ × Change). z.1.row) (sym q)
-      one_row x y (initial d h p) (made u k c m q) i t =
-          let l = writers.time u (within u k) in
-          let a : x.0 ≡ 0 = ap (λ (z : ℕ × Change). z.0) p in
-          let b : y.0 ≡ w.ts u = ap (λ (z : ℕ × Change). z.0) q in
-          absurd (omega (arith, l))
-      one_row x y (made u k c m q) (initial d h p) i t =
-          let l = writers.time u (within u k) in
-          let a : y.0 ≡ 0 = ap (λ (z : ℕ × Change). z.0) p in
-          let b : x.0 ≡ w.ts u = ap (λ (z : ℕ × Change). z.0) q in
-          absurd (omega (arith, l))
+      one_row x y (initial d h p) (made u k c m q) i t = grind arith
+      one_row x y (made u k c m q) (initial d h p) i t = grind arith
       one_row x y (made u h c m p) (made v k d n q) i t =
           let times : w.ts u ≡ w.ts v = ap (λ (z : ℕ × Change). z.0) (sym p) ∙ t ∙ ap (λ (z : ℕ × Change). z.0) q in
           let items : item_of cat c ≡ item_of cat d =
@@ -88,8 +78,7 @@ module _ {T : Type 0} (cat : Catalogue) (first : Database) (w : Writers T) where
           let same : c ≡ d =
           writers.once v (within v k) c d
           (subst (λ z. Contains z c) (writers.one_time u v (within u h) (within v k) times) m) n items in
-          ap (λ (z : ℕ × Change). z.1.row) p ∙ ap (λ (z : Change). z.row) same
-          ∙ ap (λ (z : ℕ × Change). z.1.row) (sym q)
+          grind arith
 
       pub all_leave_one_row : LeaveOneRow cat (all_dated cat first w txns)
       all_leave_one_row x y h k i t = one_row x y (origin txns x h) (origin txns y k) i t
@@ -107,16 +96,8 @@ module _ {T : Type 0} (cat : Catalogue) (first : Database) (w : Writers T) where
           (subst (λ j. Contains first (j, d.1)) at h) k in
           let same : d ≡ e = ap (λ j. (j, d.1)) at ∙ ap (λ r. (e.0, r)) rows in
           p ∙ ap (first_row cat) same ∙ sym q
-      one_change x y (initial d h p) (made u k c m q) f i t =
-          let l = writers.time u (within u k) in
-          let a : x.0 ≡ 0 = ap (λ (z : ℕ × Change). z.0) p in
-          let b : y.0 ≡ w.ts u = ap (λ (z : ℕ × Change). z.0) q in
-          absurd (omega (arith, l))
-      one_change x y (made u k c m q) (initial d h p) f i t =
-          let l = writers.time u (within u k) in
-          let a : y.0 ≡ 0 = ap (λ (z : ℕ × Change). z.0) p in
-          let b : x.0 ≡ w.ts u = ap (λ (z : ℕ × Change). z.0) q in
-          absurd (omega (arith, l))
+      one_change x y (initial d h p) (made u k c m q) f i t = grind arith
+      one_change x y (made u k c m q) (initial d h p) f i t = grind arith
       one_change x y (made u h c m p) (made v k d n q) f i t =
           let times : w.ts u ≡ w.ts v = ap (λ (z : ℕ × Change). z.0) (sym p) ∙ t ∙ ap (λ (z : ℕ × Change). z.0) q in
           let frags : c.frag.0 ≡ d.frag.0 =

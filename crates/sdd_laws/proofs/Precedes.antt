@@ -1,5 +1,5 @@
 -- What precedes by the test precedes by the deeds, so that a cycle of the one is one of the other.
-use Rattle.sdd_laws.proofs.All.{Answer, Apply, Arrive, Attempt, Catalogue, Change, Commit, Committed, Contains, HasNoCycle, History, IsApplied, IsCommitted, IsOrderly, IsPath, IsRecordAt, IsSeen, IsSubmitted, List, Nothing, Pass, Precedes, Rec, Reject, Start, Submit, Wait, [], and_parts, answer_passes, apply_passes, by_class, by_seen, by_unseen, by_writes, changes, comes_from, dm_no, eq-eqb, eqb-false, eqb-true, false≢true, fragments_in, in_turn, inl, inr, is_answer, is_answered, is_apply, is_earlier, is_overwritten, is_read_by, list_any, ltb-true, member_passes, misses, module_of, nat_lt, not, not-true, or_cases, passes_member, precedes, reads, refl, subst, sym, system, true, txn_no, was_seen, ℕ, ◌&&◌, ◌==◌, ◌||◌, ◌∙◌, ◌∷◌, ◌≡◌, ◌≢◌}
+use Rattle.sdd_laws.proofs.All.{Apply, Attempt, Catalogue, Change, Committed, Contains, HasNoCycle, History, IsApplied, IsCommitted, IsOrderly, IsPath, IsRecordAt, IsSeen, IsSubmitted, List, Precedes, Rec, [], and_parts, by_class, by_seen, by_unseen, by_writes, changes, comes_from, dm_no, eq-eqb, eqb-false, eqb-true, false≢true, fragments_in, in_turn, inl, inr, is_answer, is_answered, is_apply, is_earlier, is_overwritten, is_read_by, list_any, ltb-true, member_passes, misses, module_of, nat_lt, not, not-true, or_cases, passes_member, precedes, reads, refl, rules, subst, sym, system, true, txn_no, was_seen, ℕ, ◌&&◌, ◌==◌, ◌||◌, ◌∙◌, ◌∷◌, ◌≡◌, ◌≢◌}
 use Rattle.sdd_laws.proofs.Deeds.{Placed, deeds}
 use Rattle.sdd_acyclic.specs.Deeds.{Txn}
 use Rattle.sdd_acyclic.specs.System as core
@@ -16,15 +16,7 @@ is_applied h n d k (Apply txn class dm ts) s t =
           subst (λ m. IsRecordAt h k (Apply (txn_no m) class (dm_no d) ts)) one
           (subst (λ m. IsRecordAt h k (Apply txn class (dm_no m) ts)) two s);
     }
-is_applied h n d k (Submit txn) s t = absurd (cc)
-is_applied h n d k (Start txn attempt class ts p2 uses) s t = absurd (cc)
-is_applied h n d k (Arrive txn attempt dm) s t = absurd (cc)
-is_applied h n d k (Wait txn attempt dm conds) s t = absurd (cc)
-is_applied h n d k (Answer txn attempt dm) s t = absurd (cc)
-is_applied h n d k (Reject txn attempt dm class ts) s t = absurd (cc)
-is_applied h n d k (Commit txn attempt reply changes values rows) s t = absurd (cc)
-is_applied h n d k (Pass class dm time) s t = absurd (cc)
-is_applied h n d k Nothing s t = absurd (cc)
+is_applied h n d k _ s t = absurd (cc)
 
 pub reads_member : (a : Attempt) (f : ℕ) → Contains (fragments_in a.uses) f → reads a f ≡ true
 reads_member a f h = passes_member (λ x. x == f) (fragments_in a.uses) f h (eq-eqb f f refl)
@@ -50,11 +42,7 @@ module _ (cat : Catalogue) (h : History) where
       }
 
   pub is_seen : (x y : Placed) (d : ℕ) → IsSeen (deeds cat h) x d y → was_seen h x.txn d y.txn ≡ true
-  is_seen x y d s =
-      let a = s.applied.applied in
-      comes_from (is_apply x.txn.start.txn d) (is_answer y.txn.start.txn y.txn.start.number d) h s.applied.place s.answer _ _
-      a.is_recorded s.answered s.applied.before (apply_passes x.txn.start.txn d a.class a.ts)
-      (answer_passes y.txn.start.txn y.txn.start.number d)
+  is_seen x y d s = search (rules, comes_from)
 
   pub precedes_is : (x y : Txn (deeds cat h)) → precedes cat h x.no.txn y.no.txn ≡ true → core.Precedes (system (deeds cat h)) x y
   precedes_is x y e =

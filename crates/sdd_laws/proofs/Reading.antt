@@ -1,5 +1,5 @@
 -- Where attempts read: at modules that have copies of what they read.
-use Rattle.sdd_laws.proofs.All.{AreEras, Attempt, Catalogue, Eras, History, IsAttempt, IsClass, IsCovered, IsFragment, IsModule, IsOfSubmit, IsSoundCatalogue, IsThere, KeepsStarts, List, None, Option, Some, Txn, ap, arith, ascending_back, at_member, cases_lt, catalogue_at, contains, covered, event_at, fragments_in, has_copy, inl, inr, is_some, module_of, read_in_era, read_set, read_set_there, reads, reads_at, recursion_from_All, refl, served_read, subst, sym, true, unwrap_or, uses_in_era, uses_of, ℕ, ◌∙◌, ◌≡◌, ◌≤◌}
+use Rattle.sdd_laws.proofs.All.{AreEras, Attempt, Catalogue, Eras, History, IsAttempt, IsClass, IsCovered, IsFragment, IsModule, IsOfSubmit, IsSoundCatalogue, IsThere, KeepsStarts, List, Option, Some, Txn, ap, arith, ascending_back, at_member, cases_lt, catalogue_at, contains, covered, event_at, fragments_in, has_copy, inl, inr, is_some, module_of, read_in_era, read_set, read_set_there, reads, reads_at, recursion_from_All, served_read, subst, sym, true, unwrap_or, uses_in_era, uses_of, ℕ, ◌∙◌, ◌≡◌, ◌≤◌}
 use Rattle.sdd_laws.proofs.Copied.{some_copy}
 use Rattle.sdd_laws.proofs.CatalogueAt.{era_is}
 
@@ -11,8 +11,7 @@ pub record IsReadAt (cat : Catalogue) (class f : ℕ) : Type 0 where
   pub copy : has_copy cat (module_of cat class f) f ≡ true
 
 some_module : (o : Option ℕ) → is_some o ≡ true → o ≡ Some (unwrap_or o 0)
-some_module None e = cc
-some_module (Some d) e = refl
+some_module o e = grind arith
 
 module _ (cat : Catalogue) (sound : IsSoundCatalogue cat) where
   served : (class f : ℕ) → IsClass cat class → IsFragment cat f → is_some (reads_at cat class f) ≡ true
@@ -41,8 +40,7 @@ module _ (cat : Catalogue) (sound : IsSoundCatalogue cat) where
         let each =
         ascending_back (IsThere cat) (fragments_in (uses_of cat s.txn))
         (recursion_from_All (IsThere cat) (read_set cat s.txn) (read_set_there cat s.txn)) in
-        at_member (IsThere cat) (fragments_in (uses_of cat s.txn)) f each
-        (ap (λ u. contains (fragments_in u) f) (sym s.uses_are) ∙ r)
+        grind (arith, at_member)
 
     -- what an attempt of a class reads, the class reads in its era
     pub read_at_event : (a : Attempt) (s : IsOfSubmit cat eras txns h a) (f : ℕ) → 1 ≤ a.class → reads a f ≡ true

@@ -1,5 +1,5 @@
 -- What the laws say of the committed transactions' texts, results and snapshots, so far as replay needs it.
-use Rattle.sdd_laws.proofs.All.{All, All-ascending, All-contains, All-nil, Answer, AreEras, ArePieces, AreRecorded, Attempt, Bool, Catalogue, Committed, Contains, Contains-here, Contains-later, Eras, FitsTxn, History, IsCommitted, IsDatabase, IsOfSubmit, IsRecordAt, IsSoundCatalogue, Item, KeepsAnswers, KeepsApplies, KeepsStarts, Ledger, List, PutsHeld, Reads, Rec, RelNo, Row, Txn as Text, [], all_at, answer_at, answer_passes, answer_place, any_from, ap, arith, ascending, base_of, by_use, cases_Bool, comes_before, committed, cond, contains, contents, database_of, dm_no, effect, facts, false, filter, first_rows, flat_map, fragments_in, from_committed, in_committed, inl, inr, is_answer, is_answered, is_applied, is_apply, items_of, list_any, module_of, not, or_cases, or_right, position_or_len, read_set, reads, refl, same_start, snapshot as snapshot_by, subst, suc, sym, take, tm_no, true, txn_at, txn_no, unwrap_or, was_seen, ℕ, ◌&&◌, ◌++◌, ◌+◌, ◌-◌, ◌<◌, ◌||◌, ◌∙◌, ◌∷◌, ◌≡◌}
+use Rattle.sdd_laws.proofs.All.{All, All-ascending, All-contains, All-nil, Answer, AreEras, ArePieces, AreRecorded, Attempt, Bool, Catalogue, Committed, Contains, Contains-here, Contains-later, Eras, FitsTxn, History, IsCommitted, IsDatabase, IsOfSubmit, IsRecordAt, IsSoundCatalogue, Item, KeepsAnswers, KeepsApplies, KeepsStarts, Ledger, List, PutsHeld, Reads, Rec, RelNo, Row, Txn as Text, [], all_at, answer_at, answer_passes, answer_place, any_from, ap, arith, ascending, base_of, by_use, cases_Bool, comes_before, committed, cond, contains, contents, database_of, dm_no, effect, facts, false, filter, first_rows, flat_map, fragments_in, from_committed, in_committed, inl, inr, is_answer, is_answered, is_applied, is_apply, items_of, list_any, module_of, not, or_cases, or_right, position_or_len, read_set, reads, refl, snapshot as snapshot_by, subst, suc, sym, take, tm_no, true, txn_at, txn_no, unwrap_or, was_seen, ℕ, ◌&&◌, ◌++◌, ◌+◌, ◌-◌, ◌<◌, ◌||◌, ◌∙◌, ◌∷◌, ◌≡◌}
 use Rattle.sdd_laws.proofs.Members.{Contains-flat_map, Contains-from_flat_map}
 use Rattle.sdd_laws.proofs.Snapshots.{bases_are}
 use Rattle.sdd_laws.proofs.NumberedStarts.{one_start}
@@ -123,9 +123,7 @@ module _ (cat : Catalogue) (sound : IsSoundCatalogue cat) (eras : Eras) (are : A
 
     -- what it reads by its text it reads by its Start
     pub reads_by_start : (t : Committed) → IsCommitted h t → (f : ℕ) → Reads cat (ledger cat txns h) t f → reads t.start f ≡ true
-    reads_by_start t c f m =
-        let here : Contains (ascending (fragments_in t.start.uses)) f = subst (λ z. Contains z f) (sym (read_sets t c)) m in
-        from_ascending (fragments_in t.start.uses) f here
+    reads_by_start t c f m = grind (arith, from_ascending)
 
     abbrev pub placed_of : (t : Committed) → IsCommitted h t → Txn (deeds cat h)
     placed_of t c = let s = submit_of t c in at_place cat h t s.place c s.submitted
@@ -162,8 +160,7 @@ module _ (cat : Catalogue) (sound : IsSoundCatalogue cat) (eras : Eras) (are : A
     -- the snapshots
 
     one_answer : (a : Attempt) (d : ℕ) → OneAtMost (is_answer a.txn a.number d) h
-    one_answer a d j k r s p q t u =
-        answering.one_answer a.txn a.number d j k (is_answered h a.txn a.number d j r p t) (is_answered h a.txn a.number d k s q u)
+    one_answer a d j k r s p q t u = grind (arith, is_answered)
 
     some_answer : (t : Committed) → IsCommitted h t → (f : ℕ) → reads t.start f ≡ true
         → list_any (λ e. is_answer t.start.txn t.start.number (module_of cat t.start.class f) e.1) h ≡ true
@@ -213,10 +210,7 @@ module _ (cat : Catalogue) (sound : IsSoundCatalogue cat) (eras : Eras) (are : A
 
     one_result : (t u : Committed) → IsCommitted h t → IsCommitted h u → t.start.ts ≡ u.start.ts
         → (ledger cat txns h).result t ≡ (ledger cat txns h).result u
-    one_result t u c b e =
-        let place = starting.one_time t.start u.start c.started b.started e in
-        let txn = (same_start h t.start u.start c.started b.started place).txn in
-        ap (λ (z : Committed). (ledger cat txns h).result z) (same_txn cat sound eras are rows txns h starting answering applying t u c b txn)
+    one_result t u c b e = grind (arith, same_txn)
 
     pub are_recorded : AreRecorded cat (database_of cat rows) (ledger cat txns h) (committed h)
     are_recorded =

@@ -1,10 +1,10 @@
 -- The serial run along a serial order gives the replies of the Commits, and leaves what the copies hold.
-use Rattle.sdd_laws.proofs.All.{All, AllZip, AreAllApplied, AreEras, Catalogue, Committed, Contains-here, Eras, FitsTxn, History, IsCommitted, IsDatabase, IsOfSubmit, IsReplayed, IsReplyOf, IsSerial, IsSoundCatalogue, KeepsAnswers, KeepsApplies, KeepsStarts, Ledger, List, PutsHeld, RelNo, Row, Some, Txn, TxnNo, [], ap, changes, committed, cons_option, copy_at, database_of, from_committed, is_applied, items_of, map, refl, rows_in_fragment, run, serial, subst, sym, texts_of, true, txn_at, ℕ, ◌∙◌, ◌∷◌, ◌≡◌}
+use Rattle.sdd_laws.proofs.All.{All, AllZip, AreAllApplied, AreEras, Catalogue, Committed, Contains-here, Eras, FitsTxn, History, IsCommitted, IsDatabase, IsReplayed, IsReplyOf, IsSerial, IsSoundCatalogue, KeepsAnswers, KeepsApplies, KeepsStarts, Ledger, List, PutsHeld, RelNo, Row, Some, Txn, TxnNo, [], ap, changes, committed, cons_option, copy_at, database_of, from_committed, is_applied, items_of, map, refl, rows_in_fragment, rules, run, serial, subst, sym, texts_of, true, txn_at, ℕ, ◌∙◌, ◌∷◌, ◌≡◌}
 use Rattle.sdd_laws.proofs.Run.{replayed}
 use Rattle.sdd_laws.proofs.Applied.{before_applied}
 use Rattle.sdd_laws.proofs.Orders.{OfEach, rest_of, listed, agrees}
 use Rattle.sdd_laws.proofs.Precedes.{changes_member}
-use Rattle.sdd_laws.proofs.Recorded.{ledger, text_is, are_recorded}
+use Rattle.sdd_laws.proofs.Recorded.{ledger, are_recorded}
 
 module _ (cat : Catalogue) (sound : IsSoundCatalogue cat) (eras : Eras) (are : AreEras cat eras) (rows : List (RelNo × Row)) (txns : List Txn) (h : History)
     (fit : All (FitsTxn cat) txns) (held : All (λ (t : Txn). All PutsHeld t.statements) txns)
@@ -16,10 +16,7 @@ module _ (cat : Catalogue) (sound : IsSoundCatalogue cat) (eras : Eras) (are : A
 
     -- the texts of an order are those of its transactions
     text_at : (t : Committed) → IsCommitted h t → txn_at txns t.start.txn ≡ Some (told.txn t)
-    text_at t c =
-        let s : IsOfSubmit cat eras txns h t.start = starting.submitted t.start c.started in
-        s.txn_is
-        ∙ ap (λ z. Some z) (sym (text_is cat sound eras are rows txns h fit held starting answering applying t c))
+    text_at t c = search rules
 
     texts_are : (order : List TxnNo) (of : OfEach h order)
         → texts_of txns order ≡ map (λ t. told.txn t) (listed h order of)
@@ -39,11 +36,7 @@ module _ (cat : Catalogue) (sound : IsSoundCatalogue cat) (eras : Eras) (are : A
 
     module _ (first : IsDatabase cat (database_of cat rows)) (order : List TxnNo) (in_turn : IsSerial cat h order) where
       whole : IsReplayed cat (database_of cat rows) told (committed h) (listed h order in_turn.committed)
-      whole =
-          replayed cat sound (database_of cat rows) first told (committed h)
-          (are_recorded cat sound eras are rows txns h fit held starting answering applying)
-          (listed h order in_turn.committed)
-          (agrees cat sound eras are rows txns h fit held starting answering applying order in_turn)
+      whole = search (rules, replayed, are_recorded, listed, agrees)
 
       run_is : run cat rows txns order ≡ serial cat (database_of cat rows) (map (λ t. told.txn t) (listed h order in_turn.committed))
       run_is = ap (serial cat (database_of cat rows)) (texts_are order in_turn.committed)

@@ -1,5 +1,5 @@
 -- The serial run along an order: each transaction gives the result of its Commit, and what is left has the values.
-use Rattle.sdd_laws.proofs.All.{All-from_recursion, AreRecorded, Catalogue, ChangesOf, Contains, Contains-cases, Contains-here, Contains-later, Contains-nil, Database, Effect, GivesResults, HasValues, IsAlong, IsDatabase, IsOrder, IsReplayed, IsSoundCatalogue, Ledger, List, MayComeFirst, ReadWrite, Reads, WriteRead, [], after_changes, after_reply, ap, effect, false≢true, filter, gathered, inl, inr, map, not, read_set, read_set_decides, reads_write, refl, rows_in_fragment, serial, stays_database, subst, sym, true, writers, writes_read, ℕ, ◌∙◌, ◌∷◌, ◌≡◌, ◌⊎◌}
+use Rattle.sdd_laws.proofs.All.{All-from_recursion, AreRecorded, Catalogue, ChangesOf, Contains, Contains-cases, Contains-here, Contains-later, Contains-nil, Database, Effect, GivesResults, HasValues, IsAlong, IsDatabase, IsOrder, IsReplayed, IsSoundCatalogue, Ledger, List, MayComeFirst, ReadWrite, Reads, WriteRead, [], after_changes, ap, effect, false≢true, filter, gathered, inl, inr, map, not, read_set, read_set_decides, reads_write, refl, rows_in_fragment, rules, serial, stays_database, subst, sym, true, writers, writes_read, ℕ, ◌∙◌, ◌∷◌, ◌≡◌, ◌⊎◌}
 use Rattle.sdd_laws.proofs.Members.{all_have, Contains-filter, Contains-from_filter}
 use Rattle.sdd_laws.proofs.Origins.{origin, from_origin, more_origins}
 use Rattle.sdd_laws.proofs.Values.{same_value}
@@ -18,10 +18,7 @@ after_all cat L db (x ∷ rest) = after_all cat L (after_changes cat db (changes
 serial_gives : {T : Type 0} (cat : Catalogue) (L : Ledger T) (order : List T) (db : Database) → GivesResults cat L db order
     → serial cat db (map (λ x. L.txn x) order) ≡ (map (λ x. (L.result x).reply) order, after_all cat L db order)
 serial_gives cat L [] db g = refl
-serial_gives cat L (x ∷ rest) db g =
-    ap (λ (e : Effect). after_reply e.reply (serial cat (after_changes cat db e.changes) (map (λ x. L.txn x) rest)))
-    g.0
-    ∙ ap (after_reply (L.result x).reply) (serial_gives cat L rest (after_changes cat db (changes L x)) g.1)
+serial_gives cat L (x ∷ rest) db g = search (rules, serial_gives cat L rest (after_changes cat db (changes L x)) g.1)
 
 module _ {T : Type 0} (cat : Catalogue) (sound : IsSoundCatalogue cat) (first : Database) (first_is : IsDatabase cat first)
     (L : Ledger T) (commits : List T) (told : AreRecorded cat first L commits) where

@@ -1,26 +1,14 @@
 -- A copy is told by which of the transactions that change its fragment are applied.
-use Rattle.sdd_laws.proofs.All.{Bool, Catalogue, Change, Contains, Contains-here, Contains-later, Database, Dated, Decides-eqb, List, Writers, [], ap, cases_Bool, changes_of, cond, copy_of, counts, dated, false, filter, first_row, inl, inr, map, of_fragment, refl, rows_left, sym, taken, true, ℕ, ◌&&◌, ◌++◌, ◌==◌, ◌∙◌, ◌∷◌, ◌≡◌}
+use Rattle.sdd_laws.proofs.All.{Bool, Catalogue, Change, Contains, Contains-here, Contains-later, Database, Dated, Decides-eqb, List, Writers, [], ap, cases_Bool, changes_of, cond, copy_of, counts, dated, false, filter, first_row, inl, inr, map, of_fragment, refl, rows_left, rules, sym, taken, true, ℕ, ◌&&◌, ◌++◌, ◌==◌, ◌∙◌, ◌∷◌, ◌≡◌}
 
 pub of_joined : (f : ℕ) (xs ys : Dated) → of_fragment f (xs ++ ys) ≡ of_fragment f xs ++ of_fragment f ys
 of_joined f [] ys = refl
-of_joined f (x ∷ xs) ys =
-    elim (x.1.frag.0 == f) as (λ b.
-    cond b (x ∷ of_fragment f (xs ++ ys)) (of_fragment f (xs ++ ys)) ≡ cond b (x ∷ of_fragment f xs)
-    (of_fragment f xs) ++ of_fragment f ys) [
-      | true ↦ ap (λ z. x ∷ z) (of_joined f xs ys)
-      | false ↦ of_joined f xs ys
-    ]
+of_joined f (x ∷ xs) ys = search (rules, of_joined f xs ys)
 
 -- the changes of a transaction that is applied, and of one that isn't
 of_applied : (f date : ℕ) (cs : List Change) → of_fragment f (dated date cs) ≡ dated date (filter (counts true f) cs)
 of_applied f date [] = refl
-of_applied f date (c ∷ cs) =
-    elim (c.frag.0 == f) as (λ b.
-    cond b ((date, c) ∷ of_fragment f (dated date cs)) (of_fragment f (dated date cs)) ≡ dated date
-    (cond b (c ∷ filter (counts true f) cs) (filter (counts true f) cs))) [
-      | true ↦ ap (λ z. (date, c) ∷ z) (of_applied f date cs)
-      | false ↦ of_applied f date cs
-    ]
+of_applied f date (c ∷ cs) = search (rules, of_applied f date cs)
 
 of_others : (f : ℕ) (cs : List Change) → filter (counts false f) cs ≡ []
 of_others f [] = refl
@@ -30,18 +18,12 @@ module _ {T : Type 0} (w : Writers T) (f : ℕ) where
   one_taken : (b : Bool) (x : T) (rest : List T)
       → of_fragment f (changes_of w (cond b (x ∷ rest) rest)) ≡ dated (w.ts x) (filter (counts b f) (w.changes x)) ++
       of_fragment f (changes_of w rest)
-  one_taken true x rest =
-      of_joined f (dated (w.ts x) (w.changes x)) (changes_of w rest)
-      ∙ ap (λ z. z ++ of_fragment f (changes_of w rest)) (of_applied f (w.ts x) (w.changes x))
-  one_taken false x rest =
-      ap (λ z. dated (w.ts x) z ++ of_fragment f (changes_of w rest)) (sym (of_others f (w.changes x)))
+  one_taken b x rest = search (rules, of_joined, of_applied, of_others)
 
   all_taken : (commits : List T) (applied : T → Bool)
       → of_fragment f (changes_of w (filter applied commits)) ≡ taken w commits applied f
   all_taken [] applied = refl
-  all_taken (x ∷ commits) applied =
-      one_taken (applied x) x (filter applied commits)
-      ∙ ap (λ z. dated (w.ts x) (filter (counts (applied x) f) (w.changes x)) ++ z) (all_taken commits applied)
+  all_taken (x ∷ commits) applied = search (rules, one_taken, all_taken commits applied)
 
   same_counted : (a b : Bool) (cs : List Change) → ((c : Change) → Contains cs c → c.frag.0 ≡ f → a ≡ b)
       → filter (counts a f) cs ≡ filter (counts b f) cs
@@ -76,16 +58,10 @@ module _ {T : Type 0} (cat : Catalogue) (first : Database) (w : Writers T) (comm
   pub copy_takes : (applied : T → Bool) (f : ℕ)
       → copy_of cat first w commits applied f ≡ rows_left
       (of_fragment f (map (first_row cat) first) ++ taken w commits applied f)
-  copy_takes applied f =
-      ap rows_left
-      (of_joined f (map (first_row cat) first) (changes_of w (filter applied commits))
-      ∙ ap (λ z. of_fragment f (map (first_row cat) first) ++ z) (all_taken w f commits applied))
+  copy_takes applied f = search (rules, of_joined, all_taken)
 
   -- where two tests agree on the transactions that change the fragment, the copies are equal
   pub same_copies : (a b : T → Bool) (f : ℕ)
       → ((x : T) → Contains commits x → (c : Change) → Contains (w.changes x) c → c.frag.0 ≡ f → a x ≡ b x)
       → copy_of cat first w commits a f ≡ copy_of cat first w commits b f
-  same_copies a b f h =
-      copy_takes a f
-      ∙ ap (λ z. rows_left (of_fragment f (map (first_row cat) first) ++ z)) (same_taken w f commits a b h)
-      ∙ sym (copy_takes b f)
+  same_copies a b f h = search (rules, copy_takes, same_taken)

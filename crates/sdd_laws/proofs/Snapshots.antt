@@ -18,9 +18,7 @@ gathered_is cat db (x ∷ es) is all =
 
 entry_with : (cat : Catalogue) (rel : ℕ) (key : ℤ) (row : Row) (e : Item × Row) → (rel, key) ≡ e.0 → row ≡ e.1
     → IsEntry cat ((rel, key), row) → IsEntry cat e
-entry_with cat rel key row e p q h =
-    let same : ◌≡◌ {A = Item × Row} ((rel, key), row) e = ap (λ i. (i, row)) p ∙ ap (λ r. (e.0, r)) q in
-    subst (IsEntry cat) same h
+entry_with cat rel key row e p q h = grind arith
 
 module _ {T : Type 0} (cat : Catalogue) (sound : IsSoundCatalogue cat) (first : Database) (first_is : IsDatabase cat first)
     (L : Ledger T) (commits : List T) (told : AreRecorded cat first L commits) where
@@ -75,10 +73,7 @@ module _ {T : Type 0} (cat : Catalogue) (sound : IsSoundCatalogue cat) (first : 
       (λ t i. let k = Contains-from_filter (L.saw x g.0) commits t i in are t g.0 k.0 g.1 k.1) g.0 e g.2)
 
   changes_from : (x : T) → Contains commits x → IsDatabase cat (base x) → ChangesAre x
-  changes_from x there is =
-      subst (λ (e : Effect). (c : Change) → Contains e.changes c → IsChange cat ((c.frag.0, c.key), c.row))
-      (told.effect_is x there)
-      (λ c h. change_is cat sound (L.txn x) (told.fits x there) (told.puts_held x there) (base x) is c (is_in _ c h))
+  changes_from x there is = grind (arith, change_is, is_in)
 
   -- by the places of the Commits
   bases_below : (n : ℕ) (x : T) → Contains commits x → told.place x < n → IsDatabase cat (base x)

@@ -1,5 +1,5 @@
 -- The values of the items before the first transaction, and with one more.
-use Rattle.sdd_laws.proofs.All.{AreWriters, Catalogue, Change, Contains, Contains-cases, Contains-here, Contains-later, Contains-nil, Database, HasValues, IsDatabase, IsSoundCatalogue, IsValue, Item, Ledger, List, MayComeFirst, None, Option, Row, Some, Writes, [], after_changes, all_dated, ap, arith, both_write, first_row, fragment_of, inl, inr, item_cmp, item_cmp_exact, item_cmp_total, item_of, nat_lt, nat_tests, refl, row_at, subst, sym, time_at, true, untouched, writers, written, ℕ, ◌<◌, ◌∙◌, ◌∷◌, ◌≡◌, ◌≤◌, ◌⊎◌}
+use Rattle.sdd_laws.proofs.All.{AreWriters, Catalogue, Change, Contains, Contains-cases, Contains-here, Contains-later, Contains-nil, Database, HasValues, IsDatabase, IsSoundCatalogue, IsValue, Item, Ledger, List, MayComeFirst, None, Option, Row, Some, Writes, [], after_changes, all_dated, ap, arith, both_write, first_row, fragment_of, inl, inr, item_cmp, item_cmp_exact, item_cmp_total, item_of, nat_lt, nat_tests, refl, row_at, rules, subst, sym, time_at, true, untouched, writers, written, ℕ, ◌<◌, ◌∙◌, ◌∷◌, ◌≡◌, ◌≤◌, ◌⊎◌}
 use Rattle.sdd_laws.proofs.LookUps.{entry_at, at_entry}
 use Rattle.sdd_laws.proofs.Origins.{Origin, origin, from_origin, first_item, more_origins}
 use Rattle.sdd_laws.proofs.Origins.Origin.{initial, made}
@@ -58,10 +58,7 @@ module _ {T : Type 0} (cat : Catalogue) (sound : IsSoundCatalogue cat) (first : 
     x_there = within x (Contains-here x done)
 
     sub : (y : ℕ × Change) → Contains (all_of done) y → Contains (all_of (x ∷ done)) y
-    sub y h =
-        from_origin cat first (writers L) (x ∷ done) y
-        (more_origins cat first (writers L) done (x ∷ done) y (λ t k. Contains-later x done t k)
-        (origin cat first (writers L) done y h))
+    sub y h = search (rules, from_origin, more_origins, Contains-later, origin)
 
     own_in : (c : Change) → Contains (changes L x) c → Contains (all_of (x ∷ done)) (L.ts x, c)
     own_in c h = from_origin cat first (writers L) (x ∷ done) (L.ts x, c) (made x (Contains-here x done) c h refl)

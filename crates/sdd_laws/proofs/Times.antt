@@ -1,22 +1,17 @@
 -- The times of read conditions.
-use Rattle.sdd_laws.proofs.All.{Attempt, Catalogue, Cond, Contains, Contains-from_filter_map, Contains-from_map, Entry, FragNo, List, None, Option, P2, P3, Some, Ts, [], ap, ascending, asked_by, classes_of, cond, cond_for, cond_of, condition_on, conditions, conditions_of, false, frag_no, fragments_in, fragments_of, inl, inr, is_asked, is_some, map, not, option_map, option_or, p2_time, refl, sym, true, undeclared_conditions, unwrap_or, ℕ, ◌==◌, ◌∙◌, ◌∷◌, ◌≡◌, ◌⊎◌}
+use Rattle.sdd_laws.proofs.All.{Attempt, Catalogue, Cond, Contains, Contains-from_filter_map, Contains-from_map, Entry, FragNo, List, Option, P2, P3, Some, Ts, ap, ascending, asked_by, classes_of, cond, cond_for, cond_of, condition_on, conditions, conditions_of, false, frag_no, fragments_in, fragments_of, inl, inr, is_asked, is_some, map, not, option_map, option_or, p2_time, rules, true, undeclared_conditions, unwrap_or, ℕ, ◌==◌, ◌∙◌, ◌≡◌, ◌⊎◌}
 
 -- the time of a condition for fragments
 time_of : (j t : ℕ) (frags : List FragNo) (c : Cond) → cond_for j t frags ≡ Some c → c.time.0 ≡ t
-time_of j t [] c e = absurd (cc)
-time_of j t (f ∷ frags) c e =
-    let same : cond_of j t (f ∷ frags) ≡ c = cc in
-    ap (λ (z : Cond). z.time.0) (sym same)
+time_of j t frags c e = search rules
 
 -- it is one of two times
 one_of_two : (j own p2 : ℕ) (thirds seconds : List FragNo) (c : Cond)
     → option_or (cond_for j own thirds) (cond_for j p2 seconds) ≡ Some c → (c.time.0 ≡ own) ⊎ (c.time.0 ≡ p2)
-one_of_two j own p2 [] seconds c e = inr (time_of j p2 seconds c e)
-one_of_two j own p2 (f ∷ thirds) seconds c e = inl (time_of j own (f ∷ thirds) c e)
+one_of_two j own p2 thirds seconds c e = search rules
 
 p2_there : (o : Option Ts) → is_some o ≡ true → (t : Ts) × (o ≡ Some t) × (unwrap_or (option_map (λ (z : Ts). z.0) o) 0 ≡ t.0)
-p2_there None e = absurd (cc)
-p2_there (Some t) e = (t, refl, refl)
+p2_there o e = search rules
 
 -- a condition of an attempt is up to its timestamp or up to its time of P2
 pub condition_time : (cat : Catalogue) (table : List Entry) (a : Attempt) (d : ℕ) (c : Cond)

@@ -7,13 +7,7 @@ use Rattle.sdd_copy.proofs.Order as latest_of
 
 pub one_value : (cat : Catalogue) (xs : Dated) (item : Item) (v w : Option Row) → LeaveOneRow cat xs
     → IsValue cat xs item v → IsValue cat xs item w → v ≡ w
-one_value cat xs item v w one (written x l e) (written y m f) =
-    let a : x.0 ≤ y.0 = m.newest x l.there l.of in
-    let b : y.0 ≤ x.0 = l.newest y m.there m.of in
-    sym e ∙ one x y l.there m.there (l.of ∙ sym m.of) (omega arith) ∙ f
-one_value cat xs item v w one (written x l e) (untouched n f) = absurd (n x l.there l.of)
-one_value cat xs item v w one (untouched n f) (written x l e) = absurd (n x l.there l.of)
-one_value cat xs item v w one (untouched n e) (untouched m f) = sym e ∙ f
+one_value cat xs item v w one e f = grind arith
 
 -- the value is the same by other changes, where those of the item are the same
 pub same_value : (cat : Catalogue) (xs ys : Dated) (item : Item) (v : Option Row)

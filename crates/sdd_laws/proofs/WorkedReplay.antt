@@ -1,5 +1,5 @@
 -- Two transactions that meet the theorem's conditions: one puts a row, and the other, which saw it, asks for all rows.
-use Rattle.sdd_laws.proofs.All.{All-from_recursion, AreRecorded, Bool, Contains, Contains-cases, Contains-here, Contains-nil, FitsCondition, FitsRef, FitsStatement, IsHeld, IsOrder, IsRelation, Item, Ledger, List, MayComeFirst, Meeting, Put, PutsHeld, ReadWrite, Reads, Row, Some, Stmt, Txn, [], accounts, arith, both_write, cond, effect, false, false≢true, frag_no, gathered, get_all, inl, inr, lit<, lit≤, may_come_first, not, not_itself, pos, reads_write, ref, refl, rel, snapshot, subst, sym, true, two, txn, writes_read, ℕ, ◌&&◌, ◌<◌, ◌∷◌, ◌≡◌, ◌≤◌}
+use Rattle.sdd_laws.proofs.All.{All-from_recursion, AreRecorded, Bool, Contains, Contains-cases, Contains-here, Contains-nil, FitsStatement, IsOrder, Item, Ledger, List, MayComeFirst, Meeting, Put, PutsHeld, ReadWrite, Reads, Row, Some, Stmt, Txn, [], accounts, arith, cond, effect, false, false≢true, frag_no, gathered, get_all, inl, inr, lit≤, may_come_first, not, not_itself, pos, reads_write, refl, rel, snapshot, true, two, txn, ℕ, ◌&&◌, ◌<◌, ◌∷◌, ◌≡◌, ◌≤◌}
 use Rattle.sdd_laws.specs.Order.{Meets}
 
 abbrev put_five : Stmt
@@ -28,34 +28,19 @@ abbrev commits : List Bool
 commits = false ∷ true ∷ []
 
 statement_fits : (x : Bool) → FitsStatement accounts (cond x get_all put_five)
-statement_fits true = (
-  (lit≤ tt, lit≤ tt),
-  All-from_recursion (λ r. IsRelation accounts r.0) (rel 1 ∷ []) ((lit≤ tt, lit≤ tt), tt),
-  (lit≤ tt, lit≤ tt),
-  All-from_recursion (FitsRef accounts (rel 1 ∷ [])) (ref 1 1 ∷ ref 1 2 ∷ [])
-      (((lit≤ tt, lit≤ tt), (lit≤ tt, lit≤ tt)), (((lit≤ tt, lit≤ tt), (lit≤ tt, lit≤ tt)), tt)),
-  (lit≤ tt, All-from_recursion (FitsCondition accounts (rel 1 ∷ [])) [] tt),
-)
-statement_fits false = ((lit≤ tt, lit≤ tt), refl)
+statement_fits x = grind arith
 
 held : (x : Bool) → PutsHeld (cond x get_all put_five)
-held true = tt
-held false = All-from_recursion IsHeld (two (pos 5) (pos 10)) (refl, (refl, tt))
+held x = grind arith
 
 time : (x : Bool) → 1 ≤ pair.ts x
-time true = lit≤ tt
-time false = lit≤ tt
+time x = grind arith
 
 one_time : (x y : Bool) → pair.ts x ≡ pair.ts y → pair.result x ≡ pair.result y
-one_time true true e = refl
-one_time true false e = absurd (omega arith)
-one_time false true e = absurd (omega arith)
-one_time false false e = refl
+one_time x y e = grind arith
 
 earlier : (x y : Bool) → (x && not y) ≡ true → cond y 1 0 < cond x 1 0
-earlier true true e = cc
-earlier true false e = lit< tt
-earlier false y e = cc
+earlier x y e = grind arith
 
 -- the fragment that the reader reads is the first
 read_first : (f : ℕ) → Reads accounts pair true f → f ≡ 1
@@ -63,13 +48,11 @@ read_first f r = elim (Contains-cases 1 [] f r) [ inl e ↦ e | inr none ↦ abs
 
 each_piece : (x : Bool) (f : ℕ) (e : Item × Row) → Reads accounts pair x f
     → Contains (snapshot accounts [] pair commits x f) e → Contains (pieces x) e
-each_piece true f e r h = subst (λ n. Contains (snapshot accounts [] pair commits true n) e) (read_first f r) h
-each_piece false f e r h = absurd (Contains-nil f r)
+each_piece x f e r h = grind arith
 
 of_piece : (x : Bool) (e : Item × Row) → Contains (pieces x) e
     → (f : ℕ) × Reads accounts pair x f × Contains (snapshot accounts [] pair commits x f) e
-of_piece true e h = (1, Contains-here 1 [], h)
-of_piece false e h = absurd (Contains-nil e h)
+of_piece x e h = grind arith
 
 pub recorded : AreRecorded accounts [] pair commits
 recorded =
@@ -94,9 +77,7 @@ recorded =
     }
 
 writer_first : (m : Meeting) → Meets accounts pair false true m → may_come_first m ≡ true
-writer_first m (both_write c d h k e) = refl
-writer_first m (writes_read c h r) = refl
-writer_first m (reads_write c h r) = refl
+writer_first m e = grind arith
 
 -- the reader may not stand first
 pub reader_not_first : MayComeFirst accounts pair true false → ⊥
@@ -108,13 +89,4 @@ reader_not_first may =
 
 -- so the writer stands first
 pub order : IsOrder accounts pair commits commits
-order =
-    record {
-      same = λ x. ((λ h. h), (λ h. h));
-      along = (
-        (λ y h.
-            elim (Contains-cases true [] y h) as (λ s. MayComeFirst accounts pair false y)
-            [ inl e ↦ subst (λ z. MayComeFirst accounts pair false z) (sym e) writer_first | inr none ↦ absurd (Contains-nil y none) ]),
-        ((λ y h. absurd (Contains-nil y h)), tt),
-      );
-    }
+order = grind arith

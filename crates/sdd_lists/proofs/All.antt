@@ -5,7 +5,7 @@ pub use Rattle.sdd_eras.specs.Further.{further_faults, with_classes, with_furthe
 pub use Rattle.sdd_lists.specs.InForce.{classes_in, numbered, whole_in}
 pub use Rattle.sdd_script.proofs.Fragments.{kept_at, some_there}
 pub use Rattle.sdd_script.proofs.NamePlaces.{any_none, apart_before, differ_again, if_false}
-pub use Rattle.sdd_script.proofs.catalog.Found.{map-map}
+pub use Rattle.std.proofs.lemmas.Simd.{map-map}
 pub use Rattle.sdd_script.proofs.catalog.NameLemmas.{any_of_find, has_name_of_items, list_any-map}
 pub use Rattle.sdd_script.proofs.catalog.RoundTrip.{parts_back}
 pub use Rattle.sdd_script.proofs.lang.ReadSetDecides.{each_both as all_before}

@@ -114,9 +114,8 @@ whole_over cat own (classes ∷ lists) = whole_over cat (own ++ classes) lists
 pub era_over : (cat : Catalogue) (own : List Class) (lists : List (List Class)) (n : ℕ)
     → slice_index_or (eras (over cat own) lists) n cat ≡ over cat (slice_index_or (eras (over cat own) lists) n cat).classes
 era_over cat own [] zero = refl
-era_over cat own [] (suc n) = refl
-era_over cat own (classes ∷ lists) zero = refl
 era_over cat own (classes ∷ lists) (suc n) = era_over cat ((map emptied (take (length own) own) ++ drop (length own) own) ++ classes) lists n
+era_over cat own _ _ = refl
 
 -- so what fits the one fits the other
 
@@ -125,9 +124,6 @@ fits_over cat own txn fits = record { module_is_there = fits.module_is_there; fe
 
 pub fits_by : (cat other : Catalogue) (txn : Txn) → other ≡ over cat other.classes → FitsTxn cat txn → FitsTxn other txn
 fits_by cat other txn is fits = subst (λ (c : Catalogue). FitsTxn c txn) (sym is) (fits_over cat other.classes txn fits)
-
-pub fits_whole : (cat : Catalogue) (lists : List (List Class)) (txn : Txn) → FitsTxn cat txn → FitsTxn (whole cat lists) txn
-fits_whole cat lists txn fits = fits_by cat (whole cat lists) txn (whole_over cat cat.classes lists) fits
 
 pub fits_era : (cat : Catalogue) (lists : List (List Class)) (n : ℕ) (txn : Txn) → FitsTxn cat txn → FitsTxn (slice_index_or (eras cat lists) n cat) txn
 fits_era cat lists n txn fits = fits_by cat (slice_index_or (eras cat lists) n cat) txn (era_over cat cat.classes lists n) fits

@@ -21,17 +21,6 @@ account_more first i id row old new whole l at is put before =
     ∙ sym (ap (λ n. old ++ map account_row (range_with_len (first + i) n)) left)
     ∙ before
 
-pub accounts_end : (first i : ℕ) (rows old : List (RelNo × List Value)) → 10 ≤ i
-    → rows ++ map account_row (range_with_len (first + i) (10 - i)) ≡ old ++ map account_row (range_with_len (first + 0) (10 - 0))
-    → rows ≡ old ++ map account_row (range_with_len first 10)
-accounts_end first i rows old past all =
-    let none : 10 - i ≡ 0 = omega arith in
-    let start : first + 0 ≡ first = omega arith in
-    sym (append-nil rows)
-    ∙ sym (ap (λ n. rows ++ map account_row (range_with_len (first + i) n)) none)
-    ∙ all
-    ∙ ap (λ n. old ++ map account_row (range_with_len n 10)) start
-
 -- deliveries
 
 pub delivery_more : (count i x y k : ℕ) (e : Event) (old new whole : List Event) (state : ℕ) → i < count

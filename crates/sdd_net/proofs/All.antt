@@ -19,10 +19,10 @@ pub use Rattle.sdd_net.specs.declared.packet.Packet.TheVariants.{Ack, Message}
 pub use Rattle.sdd_net.specs.declared.placed_link.PlacedLink.{PlacedLink}
 pub use Rattle.std.proofs.Common.{All, Bool, Equal, Err, Greater, IfOk, IfSome, IsSome, IsTrue, Less, List, MatchOption, None, Ok, OnErr, OnOk, OnSome, Option, Ordering, Result, Some, [], add-zero, ap, append-nil, append_assoc, arith, cond, drop, drop-drop, eq-eqb, eqb-true, false, filter_map, flat_map, if◌then◌else◌, is_some, le-leb, le-ltb, leb-true, length, length-append, length-drop, length-take, lt-ltb, ltb-false, ltb-true, map, max, nat_cmp, nat_le, nat_lt, ne_eqb, not, option_to_list, refl, remove, replicate, rules, slice_get, slice_index_or as get_or, slice_set, subst, suc, sym, take, take-append-drop, take_all, true, zero, ℕ, ◌&&◌, ◌*◌, ◌++◌, ◌+◌, ◌-◌, ◌<◌, ◌==◌, ◌||◌, ◌∙◌, ◌∷◌, ◌≡◌, ◌≢◌, ◌≤◌}
 pub use Rattle.std.proofs.Math.Decide.{dec_le}
-pub use Rattle.std.proofs.Math.Seq.{drop-nil}
+pub use Rattle.std.proofs.Math.Seq.{drop-nil, map-set_same}
 pub use Rattle.std.proofs.lemmas.Bool.{and_parts, both_ways, eqb-false, lt-leb}
 pub use Rattle.std.proofs.lemmas.Bool.Decides.{nat_tests}
-pub use Rattle.std.proofs.lemmas.List.{drop-append-le, drop_all, length-map, map-append, replicate-append-replicate, take-append-le, take_more}
+pub use Rattle.std.proofs.lemmas.List.{drop-append-le, drop_all, get_or-map, get_or-set_other, get_or-set_same, length-map, length-set, map-append, map-set, nil_from_length, replicate-append-replicate, take-append-le, take-take, take_more}
 pub use Rattle.std.proofs.lemmas.List.Concat.{flat_map-append}
 pub use Rattle.std.proofs.lemmas.List.Edits.{remove-append_left, remove-append_right}
 pub use Rattle.std.proofs.lemmas.List.Elements.{All-append, All-cons, All-drop, All-head, All-map, All-nil, All-push, All-same, All-tail, All-take, All-weaker, filter_map-append}

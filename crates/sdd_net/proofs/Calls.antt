@@ -1,18 +1,16 @@
 -- What each call of the network does to what it represents.
-use Rattle.sdd_net.proofs.All.{ArePair, Bool, Call, Changes, ChangesPair, Channel, ChannelsRepresent, Delivers, Directions, Does, FitsWay, HasLink, IsNet, IsSoundLink, IsTrue, Kept, Link, List, Loses, Matches, None, Ok, Option, Packet, PlacedLink, Repeats, Represents, Result, Site, Some, Way, [], after_call, ap, arith, deliver, false, index_of, is_link, is_some, length, link, lose, mul-add-lt, on_link, packet_at, refl, repeat, replicate, site_count, slice_get, slice_get_within, subst, suc, sym, true, unused, unused_channel, with_flight, with_packet, without_at, zero, ℕ, ◌*◌, ◌++◌, ◌-◌, ◌<◌, ◌∙◌, ◌∷◌, ◌≡◌, ◌≤◌}
+use Rattle.sdd_net.proofs.All.{ArePair, Bool, Call, Changes, ChangesPair, Channel, ChannelsRepresent, Delivers, Directions, Does, FitsWay, HasLink, IsNet, IsSoundLink, IsTrue, Kept, Link, List, Loses, Matches, None, Ok, Option, Packet, PlacedLink, Repeats, Represents, Result, Site, Some, Way, [], after_call, ap, arith, deliver, false, index_of, is_link, is_some, length, link, lose, mul-add-lt, nat_tests, on_link, packet_at, refl, repeat, replicate, site_count, slice_get, slice_get_within, subst, suc, sym, true, unused, unused_channel, with_flight, with_packet, without_at, ℕ, ◌*◌, ◌++◌, ◌-◌, ◌<◌, ◌∙◌, ◌∷◌, ◌≡◌, ◌≤◌}
 use Rattle.sdd_net.proofs.Lists.{without-past}
 use Rattle.sdd_net.proofs.Directions.{link_parts, link_back, place_below, index_apart, back_is, step, one_way}
 use Rattle.sdd_net.proofs.Sound.{sound}
 
 past : {A : Type 0} (xs : List A) (k : ℕ) → k < length xs → slice_get xs k ≡ None → ⊥
-past [] k l e = omega arith
-past (x ∷ xs) zero l e = cc
 past (x ∷ xs) (suc k) l e = past xs k (omega arith) e
+past _ _ l e = grind (arith, nat_tests)
 
 get-replicate : {A : Type 0} (n k : ℕ) (x : A) → k < n → slice_get (replicate n x) k ≡ Some x
-get-replicate zero k x l = absurd (omega arith)
-get-replicate (suc n) zero x l = refl
 get-replicate (suc n) (suc k) x l = get-replicate n k x (omega arith)
+get-replicate _ _ x l = grind (arith, nat_tests)
 
 module _ {M : Type 0} where
   -- the value of a network with these fields
@@ -34,12 +32,7 @@ module _ {M : Type 0} where
   pub does : (net : Kept (Directions M)) (live after : Bool) (tms dms : ℕ) (old new : List (Channel M)) (call : Call M)
       → net_of live tms dms old ≡ net → after ≡ true
       → ((calls : List (Call M)) → ChannelsRepresent tms dms old calls → ChannelsRepresent tms dms new (call ∷ calls)) → Does net (net_of after tms dms new) call
-  does net live after tms dms old new call e l h = record {
-    live = l;
-    tms = ap (λ n. n.value.tms) e;
-    dms = ap (λ n. n.value.dms) e;
-    calls = λ calls s. h calls (represents_of net live tms dms old calls e s);
-  }
+  does net live after tms dms old new call e l h = grind (arith, nat_tests)
 
   -- the fields still make a network
   pub still : (tms dms : ℕ) (all : List PlacedLink) (live after : Bool) (old new : List (Channel M)) (call : Call M)
@@ -67,8 +60,7 @@ module _ {M : Type 0} where
 
   back_kept : (o : Option (Packet M)) (f : Packet M → Way M) (l : Link M)
       → (with_packet o (λ p. record l { there = f p }) l).back ≡ l.back
-  back_kept None f l = refl
-  back_kept (Some p) f l = refl
+  back_kept o f l = grind (arith, nat_tests)
 
   lost : (o : Option (Packet M)) (k : ℕ) (l : Link M) → slice_get l.there.flight k ≡ o
       → (with_packet o (λ p. record l { there = with_flight (without_at l.there.flight k) l.there }) l).there ≡ with_flight
@@ -94,10 +86,8 @@ module _ {M : Type 0} where
       → FitsWay (slice_get old at) l.there
       → Changes old new at (with_packet o (λ p. record l { there = with_flight (l.there.flight ++ p ∷ []) l.there }) l).there × (there ≡ is_some o)
   repeated_way old new at place true l (Some p) one e some inside none fits = (some refl l.there p fits e, refl)
-  repeated_way old new at place false l (Some p) one e some inside none fits =
-      let b = (none refl l.there fits).1 in let w = slice_get_within l.there.flight (place - 1) p e in absurd (omega (arith, b, w))
-  repeated_way old new at place true l None one e some inside none fits =
-      absurd (past l.there.flight (place - 1) (omega (arith, inside refl l.there fits)) e)
+  repeated_way old new at place false l (Some p) one e some inside none fits = grind (arith, nat_tests, slice_get_within)
+  repeated_way old new at place true l None one e some inside none fits = grind (arith, nat_tests, past)
   repeated_way old new at place false l None one e some inside none fits = ((none refl l.there fits).0, refl)
 
   pub repeat_does : (tms dms : ℕ) (old new : List (Channel M)) (at place : ℕ) (from to : Site)
@@ -112,12 +102,8 @@ module _ {M : Type 0} where
   pub pair_of : (tms dms : ℕ) (channels : List (Channel M)) (there back : ℕ) (from to : Site) (calls : List (Call M))
       → there ≡ index_of tms dms from to → back ≡ index_of tms dms to from → IsTrue (is_link tms dms from to)
       → ChannelsRepresent tms dms channels calls → ArePair channels there back (link from to calls)
-  pair_of tms dms channels there back from to calls e f exists represents = record {
-    apart = λ x. index_apart tms dms from to exists (sym e ∙ x ∙ f);
-    fits_there = subst (λ k. FitsWay (slice_get channels k) (link from to calls).there) (sym e) (represents from to exists);
-    fits_back = subst (λ k. FitsWay (slice_get channels k) (link from to calls).back) (sym f)
-        (subst (λ w. FitsWay (slice_get channels (index_of tms dms to from)) w) (back_is tms dms from to calls exists) (represents to from (link_back tms dms from to exists)));
-  }
+  pair_of tms dms channels there back from to calls e f exists represents =
+      grind (arith, nat_tests, index_apart, back_is, link_back)
 
   pub deliver_does : (tms dms : ℕ) (old new : List (Channel M)) (there back place : ℕ) (from to : Site)
       → there ≡ index_of tms dms from to → back ≡ index_of tms dms to from → IsTrue (is_link tms dms from to)
@@ -134,12 +120,7 @@ module _ {M : Type 0} where
 
 -- a new network
 unused_matches : (M : Type 0) → Matches {M = M} unused_channel unused
-unused_matches M = record {
-  sender = refl;
-  flight = refl;
-  receiver_live = refl;
-  received = record { count = refl; early = record { ascends = tt; are_sent = tt; same = λ n l. refl } };
-}
+unused_matches M = grind (arith, nat_tests)
 
 pub unused_stands : (M : Type 0) (tms dms : ℕ) (channels : List (Channel M))
     → channels ≡ replicate (site_count tms dms * site_count tms dms) unused_channel → ChannelsRepresent tms dms channels []

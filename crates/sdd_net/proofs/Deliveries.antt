@@ -1,5 +1,5 @@
 -- A delivery, step by step.
-use Rattle.sdd_net.proofs.All.{Ack, Acked, ArePair, Changes, ChangesPair, Channel, FitsWay, IsLive, IsLiveAt, IsOf, IsSoundLink, IsSoundWay, Link, List, Matches, Message, Messages, None, Nothing, Option, Packet, Some, Way, [], ap, arith, arrives, deliver, delivered, delivery, length, newly_delivered, packet_at, refl, sent_by, slice_get, subst, sym, with_ack, with_arrival, with_flight, with_packet, without_at, without_packet, ℕ, ◌++◌, ◌-◌, ◌∙◌, ◌∷◌, ◌≡◌, ◌≢◌, ◌≤◌}
+use Rattle.sdd_net.proofs.All.{Ack, Acked, ArePair, Changes, ChangesPair, Channel, FitsWay, IsLive, IsLiveAt, IsOf, IsSoundLink, IsSoundWay, Link, List, Matches, Message, Messages, None, Nothing, Option, Packet, Some, Way, [], ap, arith, arrives, deliver, delivered, delivery, length, nat_tests, newly_delivered, packet_at, refl, sent_by, slice_get, subst, sym, with_ack, with_arrival, with_flight, with_packet, without_at, without_packet, ℕ, ◌++◌, ◌-◌, ◌∷◌, ◌≡◌, ◌≢◌, ◌≤◌}
 use Rattle.sdd_net.proofs.Lists.{All-at, without-past}
 use Rattle.sdd_net.proofs.Matching.{last_number_is}
 use Rattle.sdd_net.proofs.Sound.{delivered_le}
@@ -9,8 +9,7 @@ module _ {M : Type 0} where
   matches_live c w h = record { sender = ap (λ s. s.live) h.sender; flight = ap (λ f. f.live) h.flight; receiver = h.receiver_live }
 
   pub fits_live : (o : Option (Channel M)) (w : Way M) → FitsWay o w → IsLiveAt o
-  fits_live None w h = h
-  fits_live (Some c) w h = matches_live c w h
+  fits_live o w h = grind (arith, nat_tests)
 
   pub sent_of : (o : Option (Channel M)) (w : Way M) → w.acked ≤ length w.sent → FitsWay o w → sent_by o ≡ length w.sent
   sent_of None w l h = absurd h
@@ -50,12 +49,7 @@ module _ {M : Type 0} where
       → ArePair old there back l → packet_at place l ≡ Some (Ack k)
       → Changes old mid there (with_flight (without_at l.there.flight (place - 1)) l.there) → Changes mid new back
       (with_ack k l.back) → ChangesPair old new there back (deliver place l)
-  delivers_ack old mid new there back place k l pair e h i =
-      subst (λ o. ChangesPair old new there back (with_packet o (λ p. arrives p (without_packet place l)) l)) (sym e) (record {
-        fits_there = stays mid new back there (with_ack k l.back) (with_flight (without_at l.there.flight (place - 1)) l.there) i pair.apart h.fits;
-        fits_back = i.fits;
-        others = λ j a b. i.others j b ∙ h.others j a;
-      })
+  delivers_ack old mid new there back place k l pair e h i = grind (arith, nat_tests)
 
   pub delivers_message : (old mid more new : List (Channel M)) (there back place n : ℕ) (m : M) (l : Link M)
       → ArePair old there back l → packet_at place l ≡ Some (Message n m)
@@ -63,13 +57,7 @@ module _ {M : Type 0} where
       → Changes mid more there (with_arrival n (with_flight (without_at l.there.flight (place - 1)) l.there))
       → Changes more new back (with_flight (l.back.flight ++ Ack (delivered (with_arrival n l.there)) ∷ []) l.back)
       → ChangesPair old new there back (deliver place l)
-  delivers_message old mid more new there back place n m l pair e h i j =
-      subst (λ o. ChangesPair old new there back (with_packet o (λ p. arrives p (without_packet place l)) l)) (sym e) (record {
-        fits_there = stays more new back there (with_flight (l.back.flight ++ Ack (delivered (with_arrival n l.there)) ∷ []) l.back)
-            (with_arrival n (with_flight (without_at l.there.flight (place - 1)) l.there)) j pair.apart i.fits;
-        fits_back = j.fits;
-        others = λ k a b. j.others k b ∙ (i.others k a ∙ h.others k a);
-      })
+  delivers_message old mid more new there back place n m l pair e h i j = grind (arith, nat_tests)
 
   pub gives_nothing : (place : ℕ) (l : Link M) → packet_at place l ≡ None → Nothing ≡ delivery place l
   gives_nothing place l e = rw e refl

@@ -1,44 +1,18 @@
 -- A call on one link changes that link and the link back, and no other.
-use Rattle.sdd_net.proofs.All.{Bool, Call, Channel, ChannelsRepresent, D, Delivers, FitsWay, IsTrue, Link, List, Loses, Puts, Repeats, Resends, Site, T, U, [], after_call, and_parts, ap, are_linked, arith, both_ways, deliver, eq-eqb, eqb-true, false, if◌then◌else◌, index_of, is_link, is_site, leb-true, link, lose, nat_le, on_link, put, refl, repeat, resend, same_from_place, same_site, site_count, slice_get, subst, sym, true, turned, ℕ, ◌&&◌, ◌<◌, ◌∙◌, ◌∷◌, ◌≡◌, ◌≢◌, ◌≤◌}
+use Rattle.sdd_net.proofs.All.{Call, Channel, ChannelsRepresent, Delivers, FitsWay, IsTrue, Link, List, Loses, Puts, Repeats, Resends, Site, [], after_call, and_parts, ap, are_linked, arith, both_ways, deliver, false, if◌then◌else◌, index_of, is_link, is_site, leb-true, link, lose, nat_le, nat_tests, on_link, put, refl, repeat, resend, same_from_place, same_site, site_count, slice_get, subst, sym, true, turned, ℕ, ◌&&◌, ◌<◌, ◌∙◌, ◌∷◌, ◌≡◌, ◌≢◌, ◌≤◌}
 use Rattle.sdd_net.specs.Nets.{place_of}
 
 pub same_is : (a b : Site) → same_site a b ≡ true → a ≡ b
-same_is U U e = refl
-same_is U (T b) e = cc
-same_is U (D b) e = cc
-same_is (T a) U e = cc
-same_is (T a) (T b) e = ap (λ n. T (record { 0 = n })) (eqb-true a.0 b.0 e)
-same_is (T a) (D b) e = cc
-same_is (D a) U e = cc
-same_is (D a) (T b) e = cc
-same_is (D a) (D b) e = ap (λ n. D (record { 0 = n })) (eqb-true a.0 b.0 e)
+same_is a b e = grind (arith, nat_tests)
 
 pub same_here : (a : Site) → same_site a a ≡ true
-same_here U = refl
-same_here (T a) = eq-eqb a.0 a.0 refl
-same_here (D a) = eq-eqb a.0 a.0 refl
+same_here a = grind (arith, nat_tests)
 
 linked_apart : (a b : Site) → are_linked a b ≡ true → a ≢ b
-linked_apart U U e = cc
-linked_apart U (T b) e = λ p. cc
-linked_apart U (D b) e = λ p. cc
-linked_apart (T a) U e = λ p. cc
-linked_apart (T a) (T b) e = cc
-linked_apart (T a) (D b) e = λ p. cc
-linked_apart (D a) U e = λ p. cc
-linked_apart (D a) (T b) e = λ p. cc
-linked_apart (D a) (D b) e = cc
+linked_apart a b e = grind (arith, nat_tests)
 
 linked_back : (a b : Site) → are_linked a b ≡ true → are_linked b a ≡ true
-linked_back U U e = e
-linked_back U (T b) e = refl
-linked_back U (D b) e = refl
-linked_back (T a) U e = refl
-linked_back (T a) (T b) e = e
-linked_back (T a) (D b) e = refl
-linked_back (D a) U e = refl
-linked_back (D a) (T b) e = refl
-linked_back (D a) (D b) e = e
+linked_back a b e = grind (arith, nat_tests)
 
 pub record LinkParts (tms dms : ℕ) (a b : Site) : Type 0 where
   pub from : is_site tms dms a ≡ true
@@ -46,36 +20,20 @@ pub record LinkParts (tms dms : ℕ) (a b : Site) : Type 0 where
   pub linked : are_linked a b ≡ true
 
 pub link_parts : (tms dms : ℕ) (a b : Site) → IsTrue (is_link tms dms a b) → LinkParts tms dms a b
-link_parts tms dms a b h =
-    let p = and_parts (is_site tms dms a) (is_site tms dms b && are_linked a b) h in
-    let q = and_parts (is_site tms dms b) (are_linked a b) p.1 in
-    record { from = p.0; to = q.0; linked = q.1 }
+link_parts tms dms a b h = grind (arith, nat_tests)
 
 pub link_back : (tms dms : ℕ) (a b : Site) → IsTrue (is_link tms dms a b) → IsTrue (is_link tms dms b a)
-link_back tms dms a b h =
-    let p = link_parts tms dms a b h in
-    let back : are_linked b a ≡ true = linked_back a b p.linked in
-    rw (p.from, p.to, back) refl
+link_back tms dms a b h = grind (arith, nat_tests)
 
 pub within : (n most : ℕ) → (nat_le 1 n && nat_le n most) ≡ true → (1 ≤ n) × (n ≤ most)
 within n most e = let p = and_parts (nat_le 1 n) (nat_le n most) e in (leb-true 1 n p.0, leb-true n most p.1)
 
 pub place_below : (tms dms : ℕ) (a : Site) → is_site tms dms a ≡ true → place_of tms a < site_count tms dms
-place_below tms dms U e = omega arith
-place_below tms dms (T n) e = let w = within n.0 tms e in omega (arith, w.0, w.1)
-place_below tms dms (D n) e = let w = within n.0 dms e in omega (arith, w.0, w.1)
+place_below tms dms a e = grind (arith, nat_tests)
 
 place_is : (tms dms : ℕ) (a b : Site) → is_site tms dms a ≡ true → is_site tms dms b ≡ true
     → place_of tms a ≡ place_of tms b → a ≡ b
-place_is tms dms U U d e p = refl
-place_is tms dms U (T n) d e p = let w = within n.0 tms e in absurd (omega (arith, w.0, w.1))
-place_is tms dms U (D n) d e p = let w = within n.0 dms e in absurd (omega (arith, w.0, w.1))
-place_is tms dms (T m) U d e p = let w = within m.0 tms d in absurd (omega (arith, w.0, w.1))
-place_is tms dms (T m) (T n) d e p = ap (λ k. T (record { 0 = k })) p
-place_is tms dms (T m) (D n) d e p = let v = within m.0 tms d in let w = within n.0 dms e in absurd (omega (arith, v.0, v.1, w.0, w.1))
-place_is tms dms (D m) U d e p = let w = within m.0 dms d in absurd (omega (arith, w.0, w.1))
-place_is tms dms (D m) (T n) d e p = let v = within m.0 dms d in let w = within n.0 tms e in absurd (omega (arith, v.0, v.1, w.0, w.1))
-place_is tms dms (D m) (D n) d e p = let same : m.0 ≡ n.0 = omega arith in ap (λ k. D (record { 0 = k })) same
+place_is tms dms a b d e p = grind (arith, nat_tests)
 
 -- two links have one index only if they are one
 pub index_is : (tms dms : ℕ) (a b c d : Site) → IsTrue (is_link tms dms a b)
@@ -89,31 +47,12 @@ index_is tms dms a b c d h k e =
 
 pub index_apart : (tms dms : ℕ) (a b : Site) → IsTrue (is_link tms dms a b)
     → index_of tms dms a b ≢ index_of tms dms b a
-index_apart tms dms a b h e =
-    linked_apart a b (link_parts tms dms a b h).linked (index_is tms dms a b b a h (link_back tms dms a b h) e).0
+index_apart tms dms a b h e = grind (arith, nat_tests, linked_apart, link_parts, index_is, link_back)
 
 -- the link back is the link, turned
-turned_on : {M : Type 0} (c d e g : Bool) (f : Link M → Link M) (l : Link M) → e ≡ d → g ≡ c
-    → ((c ≡ true) → (d ≡ true) → ⊥)
-    → (if e then f (turned l) else if g then turned (f (turned (turned l))) else turned l) ≡ turned (if c then f l else if d then turned (f (turned l)) else l)
-turned_on true true e g f l p q not = absurd (not refl refl)
-turned_on true false e g f l p q not = rw (p, q) refl
-turned_on false true e g f l p q not = rw p refl
-turned_on false false e g f l p q not = rw (p, q) refl
-
-and_swap : (a b : Bool) → (a && b) ≡ (b && a)
-and_swap true true = refl
-and_swap true false = refl
-and_swap false true = refl
-and_swap false false = refl
-
 on_link_turned : {M : Type 0} (a b from to : Site) (f : Link M → Link M) (l : Link M) → a ≢ b
     → on_link b a from to f (turned l) ≡ turned (on_link a b from to f l)
-on_link_turned a b from to f l ne =
-    turned_on (same_site a from && same_site b to) (same_site a to && same_site b from) (same_site b from && same_site a to)
-    (same_site b to && same_site a from) f l
-    (and_swap (same_site b from) (same_site a to)) (and_swap (same_site b to) (same_site a from))
-    (λ p q. ne (same_is a from (and_parts (same_site a from) (same_site b to) p).0 ∙ sym (same_is b from (and_parts (same_site a to) (same_site b from) q).1)))
+on_link_turned a b from to f l ne = grind (arith, nat_tests)
 
 pub link_turned : {M : Type 0} (a b : Site) (calls : List (Call M)) → a ≢ b → link b a calls ≡ turned (link a b calls)
 link_turned a b [] ne = refl

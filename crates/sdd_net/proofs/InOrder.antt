@@ -1,36 +1,26 @@
 -- What a link hands on is what was put on it, from 1 to `delivered`, in order.
-use Rattle.sdd_net.proofs.All.{Ack, Bool, Call, Delivers, IsTrue, Link, List, Loses, Message, None, Option, Packet, Puts, Repeats, Resends, Site, Some, [], and_parts, ap, append-nil, arith, arrives, deliver, delivered, delivery, drop, due, false, given_by, handed, if◌then◌else◌, is_empty, is_quiet_link, leb-true, length, link, lose, messages_of, nat_le, newly_delivered, packet_at, put, refl, repeat, resend, same_site, suc, sym, take, take-append-drop, take-append-le, take_all, top, true, turned, with_flight, with_packet, without_packet, zero, ℕ, ◌&&◌, ◌++◌, ◌∙◌, ◌∷◌, ◌≡◌, ◌≤◌}
+use Rattle.sdd_net.proofs.All.{Bool, Call, Delivers, IsTrue, Link, List, Loses, Message, Option, Packet, Puts, Repeats, Resends, Site, Some, [], and_parts, ap, append-nil, arith, arrives, deliver, delivered, delivery, drop, due, false, given_by, handed, if◌then◌else◌, is_empty, is_quiet_link, leb-true, length, link, lose, messages_of, nat_le, nat_tests, newly_delivered, packet_at, put, refl, repeat, resend, same_site, sym, take, take-append-drop, take-append-le, take-take, take_all, top, true, turned, with_flight, with_packet, without_packet, ℕ, ◌&&◌, ◌++◌, ◌∙◌, ◌∷◌, ◌≡◌, ◌≤◌}
 use Rattle.sdd_net.proofs.Tops.{top_rises}
 use Rattle.sdd_net.proofs.Sound.{sound, delivered_le}
 
-take-less : {A : Type 0} (j k : ℕ) (xs : List A) → j ≤ k → take j (take k xs) ≡ take j xs
-take-less zero k xs l = refl
-take-less (suc j) zero xs l = absurd (omega arith)
-take-less (suc j) (suc k) [] l = refl
-take-less (suc j) (suc k) (x ∷ xs) l = ap (λ ys. x ∷ ys) (take-less j k xs (omega arith))
-
 take-on : {A : Type 0} (j k : ℕ) (xs : List A) → j ≤ k → take j xs ++ drop j (take k xs) ≡ take k xs
-take-on j k xs l = ap (λ ys. ys ++ drop j (take k xs)) (sym (take-less j k xs l)) ∙ take-append-drop j (take k xs)
+take-on j k xs l = ap (λ ys. ys ++ drop j (take k xs)) (sym (take-take j k xs l)) ∙ take-append-drop j (take k xs)
 
 module _ {M : Type 0} where
   puts : (c d : Bool) (m : M) (l : Link M) (ms : List M) → delivered l.there ≤ length l.there.sent → ms ≡ due l.there
       → ms ≡ due (if c then put m l else if d then turned (put m (turned l)) else l).there
   puts true d m l ms le e = e ∙ sym (take-append-le (delivered l.there) l.there.sent (m ∷ []) le)
-  puts false true m l ms le e = e
-  puts false false m l ms le e = e
+  puts _ _ m l ms le e = grind (arith, nat_tests)
 
   hands : (o : Option (Packet M)) (place : ℕ) (l : Link M) (ms : List M) → ms ≡ due l.there
       → ms ++ messages_of (given_by o (newly_delivered l.there (with_packet o (λ p. arrives p (without_packet place l)) l).there)) ≡ due (with_packet o (λ p. arrives p (without_packet place l)) l).there
-  hands None place l ms e = append-nil ms ∙ e
-  hands (Some (Ack k)) place l ms e = append-nil ms ∙ e
   hands (Some (Message n m)) place l ms e = ap (λ xs. xs ++ drop (top l.there.arrived) (take (top (n ∷ l.there.arrived)) l.there.sent)) e ∙ take-on (top l.there.arrived) (top (n ∷ l.there.arrived)) l.there.sent (top_rises n l.there.arrived)
+  hands _ place l ms e = append-nil ms ∙ e
 
   -- a delivery on the link back hands nothing on here
   back_hands : (o : Option (Packet M)) (place : ℕ) (l : Link M) (ms : List M) → ms ≡ due l.back
       → ms ≡ due (with_packet o (λ p. arrives p (without_packet place l)) l).back
-  back_hands None place l ms e = e
-  back_hands (Some (Ack k)) place l ms e = e
-  back_hands (Some (Message n m)) place l ms e = e
+  back_hands o place l ms e = grind (arith, nat_tests)
 
   delivers : (c d : Bool) (place : ℕ) (l : Link M) (ms : List M) → ms ≡ due l.there
       → ms ++ (if c then messages_of (delivery place l) else []) ≡ due (if c then deliver place l else if d then turned (deliver place (turned l)) else l).there
@@ -41,31 +31,23 @@ module _ {M : Type 0} where
   -- a change of the flight alone
   flies : (o : Option (Packet M)) (f : Packet M → List (Packet M)) (l : Link M) (ms : List M) → ms ≡ due l.there
       → ms ≡ due (with_packet o (λ p. record l { there = with_flight (f p) l.there }) l).there
-  flies None f l ms e = e
-  flies (Some p) f l ms e = e
+  flies o f l ms e = grind (arith, nat_tests)
 
   flies_back : (o : Option (Packet M)) (f : Packet M → List (Packet M)) (l : Link M) (ms : List M) → ms ≡ due l.back
       → ms ≡ due (with_packet o (λ p. record l { there = with_flight (f p) l.there }) l).back
-  flies_back None f l ms e = e
-  flies_back (Some p) f l ms e = e
+  flies_back o f l ms e = grind (arith, nat_tests)
 
   loses : (c d : Bool) (place : ℕ) (l : Link M) (ms : List M) → ms ≡ due l.there
       → ms ≡ due (if c then lose place l else if d then turned (lose place (turned l)) else l).there
-  loses true d place l ms e = flies (packet_at place l) _ l ms e
-  loses false true place l ms e = flies_back (packet_at place (turned l)) _ (turned l) ms e
-  loses false false place l ms e = e
+  loses c d place l ms e = grind (arith, nat_tests)
 
   repeats : (c d : Bool) (place : ℕ) (l : Link M) (ms : List M) → ms ≡ due l.there
       → ms ≡ due (if c then repeat place l else if d then turned (repeat place (turned l)) else l).there
-  repeats true d place l ms e = flies (packet_at place l) (λ p. l.there.flight ++ p ∷ []) l ms e
-  repeats false true place l ms e = flies_back (packet_at place (turned l)) (λ p. l.back.flight ++ p ∷ []) (turned l) ms e
-  repeats false false place l ms e = e
+  repeats c d place l ms e = grind (arith, nat_tests)
 
   resends : (c d : Bool) (l : Link M) (ms : List M) → ms ≡ due l.there
       → ms ≡ due (if c then resend l else if d then turned (resend (turned l)) else l).there
-  resends true d l ms e = e
-  resends false true l ms e = e
-  resends false false l ms e = e
+  resends c d l ms e = grind (arith, nat_tests)
 
 pub in_order : {M : Type 0} (a b : Site) (calls : List (Call M)) → handed a b calls ≡ due (link a b calls).there
 in_order a b [] = refl

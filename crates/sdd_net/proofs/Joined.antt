@@ -1,13 +1,11 @@
 -- A list that is joined of pieces: where an item of a piece stands, and what a change of a piece changes.
-use Rattle.sdd_net.proofs.All.{Err, IfSome, IsSome, List, None, Ok, OnErr, OnSome, Option, Result, Some, [], ap, append-nil, append_assoc, arith, drop, drop-nil, flat_map, flat_map-append, get_before, get_or, length, length-append, refl, remove, remove-append_left, remove-append_right, replicate, replicate-append-replicate, slice_get, slice_get_read, slice_set, suc, sym, take, without_at, zero, ℕ, ◌++◌, ◌+◌, ◌-◌, ◌<◌, ◌∙◌, ◌∷◌, ◌≡◌}
+use Rattle.sdd_net.proofs.All.{IfSome, IsSome, List, None, OnErr, OnSome, Option, Result, Some, [], ap, append-nil, append_assoc, arith, drop, flat_map, flat_map-append, get_before, get_or, length, length-append, nat_tests, refl, remove, remove-append_left, remove-append_right, replicate, replicate-append-replicate, slice_get, slice_get_read, slice_set, suc, sym, take, without_at, zero, ℕ, ◌++◌, ◌+◌, ◌-◌, ◌<◌, ◌∙◌, ◌∷◌, ◌≡◌}
 
 -- an item stands behind the items before it
 get_behind : {A : Type 0} (before after : List A) (j : ℕ)
     → slice_get (before ++ after) (length before + j) ≡ slice_get after j
 get_behind [] after j = let same : 0 + j ≡ j = omega arith in rw same refl
-get_behind (x ∷ before) after j =
-    let next : suc (length before) + j ≡ suc (length before + j) = omega arith in
-    rw next (get_behind before after j)
+get_behind (x ∷ before) after j = grind (arith, nat_tests, (get_behind before after j))
 
 without_is : {A : Type 0} (xs : List A) (k : ℕ) → remove xs k ≡ without_at xs k
 without_is xs k = let next : suc k ≡ k + 1 = omega arith in ap (λ n. take k xs ++ drop n xs) next
@@ -28,25 +26,19 @@ module _ {X A : Type 0} (f : X → List A) where
       → flat_map f ps ≡ flat_map f (take i ps) ++ (f p ++ flat_map f (drop (suc i) ps))
   split_at [] i p l e = absurd (omega arith)
   split_at (q ∷ ps) zero p l e = ap (λ x. f x ++ flat_map f ps) (sym e)
-  split_at (q ∷ ps) (suc i) p l e =
-      ap (λ ys. f q ++ ys) (split_at ps i p (omega arith) e)
-      ∙ sym (append_assoc (f q) (flat_map f (take i ps)) (f p ++ flat_map f (drop (suc i) ps)))
+  split_at (q ∷ ps) (suc i) p l e = grind (arith, nat_tests, append_assoc, (split_at ps i p (omega arith) e))
 
   set_at : (ps : List X) (i : ℕ) (p : X) → i < length ps
       → flat_map f (slice_set ps i p) ≡ flat_map f (take i ps) ++ (f p ++ flat_map f (drop (suc i) ps))
   set_at [] i p l = absurd (omega arith)
   set_at (q ∷ ps) zero p l = refl
-  set_at (q ∷ ps) (suc i) p l =
-      ap (λ ys. f q ++ ys) (set_at ps i p (omega arith))
-      ∙ sym (append_assoc (f q) (flat_map f (take i ps)) (f p ++ flat_map f (drop (suc i) ps)))
+  set_at (q ∷ ps) (suc i) p l = grind (arith, nat_tests, append_assoc, (set_at ps i p (omega arith)))
 
   take_more : (ps : List X) (i : ℕ) (p : X) → i < length ps → p ≡ get_or ps i p
       → flat_map f (take (suc i) ps) ≡ flat_map f (take i ps) ++ f p
   take_more [] i p l e = absurd (omega arith)
   take_more (q ∷ ps) zero p l e = append-nil (f q) ∙ ap f (sym e)
-  take_more (q ∷ ps) (suc i) p l e =
-      ap (λ ys. f q ++ ys) (take_more ps i p (omega arith) e)
-      ∙ sym (append_assoc (f q) (flat_map f (take i ps)) (f p))
+  take_more (q ∷ ps) (suc i) p l e = grind (arith, nat_tests, append_assoc, (take_more ps i p (omega arith) e))
 
   -- so many items stand in the pieces up to one
   pub count_more : (ps : List X) (i : ℕ) (p : X) → i < length ps → p ≡ get_or ps i p
@@ -78,15 +70,11 @@ module _ {X A : Type 0} (f : X → List A) where
   -- a piece with the same items
   pub same_items : (ps : List X) (i : ℕ) (p q : X) → i < length ps → p ≡ get_or ps i p → f q ≡ f p
       → flat_map f (slice_set ps i q) ≡ flat_map f ps
-  same_items ps i p q l e same =
-      set_at ps i q l
-      ∙ ap (λ ys. flat_map f (take i ps) ++ (ys ++ flat_map f (drop (suc i) ps))) same
-      ∙ sym (split_at ps i p l e)
+  same_items ps i p q l e same = grind (arith, nat_tests, set_at, split_at)
 
   drop_whole : (ps : List X) (n : ℕ) → length ps ≡ n → drop n ps ≡ []
-  drop_whole [] n e = drop-nil n
-  drop_whole (p ∷ ps) zero e = absurd (omega (arith, e))
   drop_whole (p ∷ ps) (suc n) e = drop_whole ps n (omega (arith, e))
+  drop_whole _ _ e = cc
 
   -- the last piece with one item more
   pub item_more : (ps : List X) (i : ℕ) (p q : X) (x : A) → length ps ≡ i + 1 → p ≡ get_or ps i p
@@ -111,14 +99,11 @@ module _ {X A : Type 0} (f : X → List A) where
 pub times_more : {A : Type 0} (start before now : List A) (x : A) (n m k : ℕ) → before ≡ start ++ replicate n x → now ≡ before ++ replicate m x
     → k ≡ n + m
     → now ≡ start ++ replicate k x
-times_more start before now x n m k e f g =
-    f ∙ ap (λ ys. ys ++ replicate m x) e ∙ append_assoc start (replicate n x) (replicate m x)
-    ∙ ap (λ ys. start ++ ys) (replicate-append-replicate n m x ∙ ap (λ j. replicate j x) (sym g))
+times_more start before now x n m k e f g = grind (arith, nat_tests, append_assoc, replicate-append-replicate)
 
 -- what holds whether or not a result is an error
 pub on_err : {T E : Type 0} (r : Result T E) {A : Type 0} → A → OnErr r A
-on_err (Ok x) a = tt
-on_err (Err e) a = a
+on_err r a = grind (arith, nat_tests)
 
 -- what is read of a piece is what stands at its place in the whole
 pub item_read : {R A : Type 0} (value : R → A) (r : Option R) (whole piece : List A) (k j : ℕ)
@@ -129,9 +114,4 @@ item_read value (Some y) whole piece k j l e read = e ∙ slice_get_read piece (
 
 -- what holds of a result that is there
 pub of_some : {A : Type 0} (r : Option A) {B : Type 0} → IsSome r → OnSome r B → B
-of_some (Some x) some b = b
-of_some None some b = cc
-
-pub none_held : {A : Type 0} (xs : List A) → length xs ≡ 0 → xs ≡ []
-none_held [] e = refl
-none_held (x ∷ xs) e = absurd (omega (arith, e))
+of_some r some b = grind (arith, nat_tests)

@@ -1,5 +1,5 @@
 -- Each step of a channel is the step of the way for which it stands.
-use Rattle.sdd_net.proofs.All.{AreSent, Bool, Channel, Err, HasReceived, IfOk, IsTrue, Kept, List, Matches, Message, None, Ok, OnOk, OnSome, Option, Packet, Result, Some, Way, [], acknowledged, add-zero, ap, arith, drop, drop-append-le, drop-drop, is_empty, last_number, le-ltb, length, length-drop, lt-ltb, max, nat_lt, not, numbered, received, refl, slice_get, subst, suc, sym, true, unacked, without_at, zero, ℕ, ◌++◌, ◌+◌, ◌-◌, ◌∙◌, ◌∷◌, ◌≡◌, ◌≤◌}
+use Rattle.sdd_net.proofs.All.{AreSent, Bool, Channel, HasReceived, IfOk, IsTrue, Kept, List, Matches, Message, None, OnOk, OnSome, Option, Packet, Result, Some, Way, [], acknowledged, ap, arith, drop, drop-append-le, drop-drop, is_empty, last_number, length, length-drop, max, nat_lt, nat_tests, not, numbered, received, refl, slice_get, subst, suc, sym, true, unacked, without_at, ℕ, ◌++◌, ◌+◌, ◌-◌, ◌∙◌, ◌∷◌, ◌≡◌, ◌≤◌}
 use Rattle.sdd_net.proofs.Lists.{get-append, without-past}
 use Rattle.sdd_net.proofs.Receives.{Receives, receives}
 
@@ -43,17 +43,11 @@ module _ {M : Type 0} where
   pub flight_matches : (c d : Channel M) (w : Way M) (flight : List (Packet M)) → Matches c w
       → d.sender ≡ c.sender → d.flight ≡ record { live = true; value = flight }
       → d.receiver ≡ c.receiver → Matches d (record w { flight = flight })
-  flight_matches c d w flight h s f r = record {
-    sender = s ∙ h.sender;
-    flight = f;
-    receiver_live = ap (λ x. x.live) r ∙ h.receiver_live;
-    received = subst (λ x. HasReceived x.value w.arrived w.sent) (sym r) h.received;
-  }
+  flight_matches c d w flight h s f r = grind (arith, nat_tests)
 
   numbered-drop : (n k : ℕ) (ms : List M) → drop n (numbered k ms) ≡ numbered (k + n) (drop n ms)
-  numbered-drop zero k ms = rw add-zero refl
-  numbered-drop (suc n) k [] = refl
   numbered-drop (suc n) k (m ∷ ms) = numbered-drop n (k + 1) ms ∙ ap (λ j. numbered j (drop n ms)) (omega arith)
+  numbered-drop _ k _ = grind (arith, nat_tests)
 
   -- the packets of a resend are those of what the sender keeps
   pub resent_is : (c : Channel M) (w : Way M) → Matches c w
@@ -61,19 +55,12 @@ module _ {M : Type 0} where
   resent_is c w h = rw (acked_is c w h, unacked_is c w h) (sym (numbered-drop w.acked 0 w.sent ∙ ap (λ j. numbered j (drop w.acked w.sent)) (omega arith)))
 
   pub not_empty : (xs : List M) (a n : ℕ) → length xs ≡ n - a → not (is_empty xs) ≡ nat_lt a n
-  not_empty [] a n e = sym (le-ltb a n (omega (arith, e)))
-  not_empty (x ∷ xs) a n e = sym (lt-ltb a n (omega (arith, e)))
+  not_empty xs a n e = grind (arith, nat_tests)
 
   pub acked_matches : (c d : Channel M) (w : Way M) (k : ℕ) → Matches c w
       → d.sender ≡ record { live = true; value = acknowledged k c.sender.value }
       → d.flight ≡ c.flight → d.receiver ≡ c.receiver → Matches d (record w { acked = max w.acked k })
-  acked_matches c d w k h s f r = record {
-    sender = s ∙ rw (acked_is c w h, unacked_is c w h)
-        (ap (λ xs. record { live = true; value = record { acked = max w.acked k; unacked = xs } }) (drop-drop (k - w.acked) w.acked w.sent ∙ ap (λ j. drop j w.sent) (omega arith)));
-    flight = f ∙ h.flight;
-    receiver_live = ap (λ x. x.live) r ∙ h.receiver_live;
-    received = subst (λ x. HasReceived x.value w.arrived w.sent) (sym r) h.received;
-  }
+  acked_matches c d w k h s f r = grind (arith, nat_tests, acked_is, unacked_is, drop-drop)
 
   pub message_received : (c : Channel M) (w : Way M) (n : ℕ) (m : M) → 1 ≤ n
       → slice_get w.sent (n - 1) ≡ Some m → Matches c w → Receives n m w.arrived w.sent c.receiver.value
@@ -107,15 +94,12 @@ module _ {M : Type 0} where
 
 -- what two facts about a result that is Ok lead to
 pub on_both : {T E : Type 0} (r : Result T E) (A B C : Type 0) → OnOk r A → OnOk r B → (A → B → C) → OnOk r C
-on_both (Ok x) A B C a b f = f a b
-on_both (Err e) A B C a b f = tt
+on_both r A B C a b f = grind (arith, nat_tests)
 
 pub if_on : {T E : Type 0} (r : Result T E) (A : T → Type 0) (B : T → Type 0) → IfOk r A
     → ((x : T) → A x → B x) → IfOk r B
-if_on (Ok x) A B a f = f x a
-if_on (Err e) A B a f = tt
+if_on r A B a f = grind (arith, nat_tests)
 
 pub if_both : {T E : Type 0} (r : Result T E) (A : T → Type 0) (B : Type 0) (C : T → Type 0)
     → IfOk r A → OnOk r B → ((x : T) → A x → B → C x) → IfOk r C
-if_both (Ok x) A B C a b f = f x a b
-if_both (Err e) A B C a b f = tt
+if_both r A B C a b f = grind (arith, nat_tests)

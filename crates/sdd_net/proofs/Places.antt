@@ -1,12 +1,11 @@
 -- One channel among all.
-use Rattle.sdd_net.proofs.All.{Changes, Channel, FitsWay, IsLive, IsLiveAt, IsTrue, List, Matches, Some, Way, [], arith, get_or, length, refl, slice_get, slice_get_read, slice_set, subst, suc, sym, zero, ℕ, ◌<◌, ◌∷◌, ◌≡◌}
+use Rattle.sdd_net.proofs.All.{Changes, Channel, FitsWay, IsLive, IsLiveAt, IsTrue, List, Matches, Some, Way, arith, get_or, length, nat_tests, refl, slice_get, slice_get_read, slice_set, subst, suc, ℕ, ◌<◌, ◌∷◌, ◌≡◌}
 use Rattle.sdd_net.proofs.Lists.{get-set_same, get-set_other}
 
 module _ {M : Type 0} where
   pub live_within : (channels : List (Channel M)) (at : ℕ) → IsLiveAt (slice_get channels at) → at < length channels
-  live_within [] at h = absurd h
-  live_within (c ∷ cs) zero h = omega arith
   live_within (c ∷ cs) (suc at) h = let i = live_within cs at h in omega arith
+  live_within _ _ h = omega arith
 
   -- the channel that is read at a place
   pub is_there : (channels : List (Channel M)) (at : ℕ) (c : Channel M)
@@ -37,9 +36,6 @@ module _ {M : Type 0} where
   pub changes : (channels : List (Channel M)) (at : ℕ) (c d : Channel M) (w : Way M)
       → IsLiveAt (slice_get channels at) → c ≡ get_or channels at c → Matches d w
       → Changes channels (slice_set channels at d) at w
-  changes channels at c d w h e m = record {
-    fits = subst (λ o. FitsWay o w) (sym (get-set_same channels at c d (is_there channels at c h e))) m;
-    others = λ k ne. get-set_other channels at k d ne;
-  }
+  changes channels at c d w h e m = grind (arith, nat_tests, get-set_same, is_there, get-set_other)
 
 pub ruleset live_places = (live_within, live_sender, live_flight, live_receiver)

@@ -1,5 +1,5 @@
 -- A receiver's window against all that ever arrived.
-use Rattle.sdd_net.proofs.All.{AreSent, Ascends, Bool, HasReceived, IsEarly, IsTrue, Kept, List, Receiving, Some, [], add-zero, ap, arith, contains, dec_le, drop, drop_all, eq-eqb, eqb-false, eqb-true, false, handed_on, in_turn, insert_entry, le-leb, length, length-take, lt-leb, match_ordering, nat_cmp, nat_le, ne_eqb, numbers, out_of_turn, received, refl, slice_get, subst, suc, sym, take, top, true, ℕ, ◌+◌, ◌-◌, ◌<◌, ◌==◌, ◌||◌, ◌∙◌, ◌∷◌, ◌≡◌, ◌≢◌, ◌≤◌}
+use Rattle.sdd_net.proofs.All.{AreSent, Ascends, HasReceived, IsEarly, IsTrue, Kept, List, Receiving, Some, [], add-zero, ap, arith, contains, dec_le, drop, drop_all, eq-eqb, eqb-false, eqb-true, false, handed_on, in_turn, insert_entry, le-leb, length, length-take, lt-leb, match_ordering, nat_cmp, nat_le, nat_tests, ne_eqb, numbers, out_of_turn, received, refl, slice_get, subst, suc, sym, take, top, true, ℕ, ◌+◌, ◌-◌, ◌<◌, ◌==◌, ◌||◌, ◌∙◌, ◌∷◌, ◌≡◌, ◌≢◌, ◌≤◌}
 use Rattle.sdd_net.proofs.Lists.{by_order, drop-member, get-take}
 use Rattle.sdd_net.proofs.Tops.{top_is, stops, starts, counts_up, repeated}
 
@@ -7,10 +7,7 @@ use Rattle.sdd_net.proofs.Tops.{top_is, stops, starts, counts_up, repeated}
 none_below : {M : Type 0} (k j : ℕ) (early : List (ℕ × M)) → Ascends k early → j ≤ k
     → contains (numbers early) j ≡ false
 none_below k j [] h l = refl
-none_below k j ((n, m) ∷ rest) h l =
-    let ne : n ≢ j = λ e. omega (arith, h.0) in
-    let test : (n == j) ≡ false = ne_eqb n j ne in
-    rw test (none_below n j rest h.1 (omega (arith, h.0)))
+none_below k j ((n, m) ∷ rest) h l = grind (arith, nat_tests, (none_below n j rest h.1 (omega (arith, h.0))))
 
 -- a message that comes early goes to its place
 ascends_insert : {M : Type 0} (k n : ℕ) (m : M) (early : List (ℕ × M)) → Ascends k early → k < n
@@ -31,32 +28,15 @@ are_sent_insert sent n m ((x, y) ∷ rest) h e =
     (λ same. (subst (λ z. slice_get sent (z - 1) ≡ Some m) same e, h.1))
     (λ more. (h.0, are_sent_insert sent n m rest h.1 e))
 
-or_swap : (a b c : Bool) → (a || (b || c)) ≡ (b || (a || c))
-or_swap true true c = refl
-or_swap true false c = refl
-or_swap false b c = refl
-
-or_again : (a c : Bool) → (a || c) ≡ (a || (a || c))
-or_again true c = refl
-or_again false c = refl
-
 has_insert : {M : Type 0} (j n : ℕ) (m : M) (early : List (ℕ × M))
     → contains (numbers (insert_entry nat_cmp early n m)) j ≡ ((n == j) || contains (numbers early) j)
 has_insert j n m [] = refl
-has_insert j n m ((x, y) ∷ rest) =
-    by_order n x (λ o. contains (numbers (match_ordering o ((n, m) ∷ (x, y) ∷ rest) ((x, m) ∷ rest) ((x, y) ∷ insert_entry nat_cmp rest n m))) j ≡ ((n == j) || ((x == j) || contains (numbers rest) j)))
-    (λ less. refl)
-    (λ same. rw same (or_again (x == j) (contains (numbers rest) j)))
-    (λ more. ap (λ b. (x == j) || b) (has_insert j n m rest) ∙ or_swap (x == j) (n == j) (contains (numbers rest) j))
+has_insert j n m ((x, y) ∷ rest) = grind (arith, nat_tests, (has_insert j n m rest))
 
 insert_early : {M : Type 0} (k : ℕ) (arrived : List ℕ) (sent : List M) (n : ℕ) (m : M) (early : List (ℕ × M))
     → k < n → slice_get sent (n - 1) ≡ Some m → IsEarly k arrived sent early
     → IsEarly k (n ∷ arrived) sent (insert_entry nat_cmp early n m)
-insert_early k arrived sent n m early l e h = record {
-  ascends = ascends_insert k n m early h.ascends l;
-  are_sent = are_sent_insert sent n m early h.are_sent e;
-  same = λ j b. has_insert j n m early ∙ ap (λ c. (n == j) || c) (h.same j b);
-}
+insert_early k arrived sent n m early l e h = grind (arith, nat_tests, ascends_insert, are_sent_insert, has_insert)
 
 -- what is in turn is what leads to the new count
 pub record Turns {M : Type 0} (k : ℕ) (ns : List ℕ) (sent : List M) (early : List (ℕ × M)) : Type 0 where
@@ -66,27 +46,15 @@ pub record Turns {M : Type 0} (k : ℕ) (ns : List ℕ) (sent : List M) (early :
 
 stays : {M : Type 0} (k : ℕ) (ns : List ℕ) (sent : List M) (early : List (ℕ × M))
     → IsEarly k ns sent early → k ≡ top ns → in_turn k early ≡ [] → out_of_turn k early ≡ early → Turns k ns sent early
-stays {M = M} k ns sent early h e none rest = record {
-  count = rw none (add-zero k ∙ e);
-  handed = none ∙ sym (drop_all k (take (top ns) sent) (omega (arith, length-take (top ns) sent)));
-  waits = rw rest (subst (λ j. IsEarly j ns sent early) e h);
-}
+stays {M = M} k ns sent early h e none rest = grind (arith, nat_tests, add-zero, drop_all, length-take)
 
 next_early : {M : Type 0} (k : ℕ) (ns : List ℕ) (sent : List M) (m : M) (rest : List (ℕ × M))
     → IsEarly k ns sent ((k + 1, m) ∷ rest) → IsEarly (k + 1) ns sent rest
-next_early k ns sent m rest h = record {
-  ascends = h.ascends.1;
-  are_sent = h.are_sent.1;
-  same = λ n l. (let ne : k + 1 ≢ n = λ e. omega arith in let test : (k + 1 == n) ≡ false = ne_eqb (k + 1) n ne in let old : ((k + 1 == n) || contains (numbers rest) n) ≡ contains ns n = h.same n (omega arith) in rw test at old);
-}
+next_early k ns sent m rest h = grind (arith, nat_tests)
 
 next_there : {M : Type 0} (k : ℕ) (ns : List ℕ) (sent : List M) (m : M) (rest : List (ℕ × M))
     → IsEarly k ns sent ((k + 1, m) ∷ rest) → contains ns (suc k) ≡ true
-next_there k ns sent m rest h =
-    let at : k + 1 ≡ suc k = omega arith in
-    let test : (k + 1 == suc k) ≡ true = eq-eqb (k + 1) (suc k) at in
-    let old : ((k + 1 == suc k) || contains (numbers rest) (suc k)) ≡ contains ns (suc k) = h.same (suc k) (omega arith) in
-    sym (rw test at old)
+next_there k ns sent m rest h = grind (arith, nat_tests)
 
 turn : {M : Type 0} (k : ℕ) (ns : List ℕ) (sent : List M) (m : M) (rest : List (ℕ × M))
     → IsEarly k ns sent ((k + 1, m) ∷ rest) → Turns (k + 1) ns sent rest → Turns k ns sent ((k + 1, m) ∷ rest)
@@ -173,14 +141,9 @@ arrival_stands n m old new handed one e f arrived sent is h =
 -- a message that was handed on before changes nothing
 pub old_arrival : {M : Type 0} (n : ℕ) (m : M) (r : Kept (Receiving M)) → IsTrue r.live → n ≤ r.value.count
     → (r ≡ record { live = true; value = received n m r.value }) × ([] ≡ handed_on n m r.value)
-old_arrival n m r live old =
-    let test : nat_le n r.value.count ≡ true = le-leb n r.value.count old in
-    (rw test (ap (λ b. record { live = b; value = r.value }) live), rw test refl)
+old_arrival n m r live old = grind (arith, nat_tests)
 
 -- the next message is handed on at once where none waits
 pub next_arrival : {M : Type 0} (n : ℕ) (m : M) (r : Receiving M) → (r.early ≡ []) × (n ≡ r.count + 1)
     → (m ∷ [] ≡ handed_on n m r) × (record r { count = r.count + 1 } ≡ received n m r)
-next_arrival n m r e =
-    let new : nat_le (r.count + 1) r.count ≡ false = lt-leb (r.count + 1) r.count (omega arith) in
-    let turn : (r.count + 1 == r.count + 1) ≡ true = eq-eqb (r.count + 1) (r.count + 1) refl in
-    rw (e.1, e.0, new, turn) (refl, refl)
+next_arrival n m r e = grind (arith, nat_tests)

@@ -1,5 +1,5 @@
 -- What is delivered on a link doesn't fall.
-use Rattle.sdd_net.proofs.All.{Ack, Bool, Call, Delivers, Link, List, Loses, Message, None, Option, Packet, Puts, Repeats, Resends, Site, Some, arith, arrives, deliver, delivered, false, if◌then◌else◌, link, lose, on_link, packet_at, put, repeat, resend, same_site, true, turned, with_packet, without_packet, ◌&&◌, ◌∷◌, ◌≤◌}
+use Rattle.sdd_net.proofs.All.{Ack, Bool, Call, Delivers, Link, List, Message, Option, Packet, Site, arith, arrives, deliver, delivered, if◌then◌else◌, link, nat_tests, on_link, packet_at, same_site, turned, with_packet, without_packet, ◌&&◌, ◌∷◌, ◌≤◌}
 use Rattle.sdd_net.proofs.Tops.{top_rises}
 
 -- neither way delivers less
@@ -12,14 +12,11 @@ by_arrives (Ack k) l = (omega arith, omega arith)
 
 by_packet : {M : Type 0} (o : Option (Packet M)) (f : Packet M → Link M) (l : Link M)
     → ((p : Packet M) → Rises l (f p)) → Rises l (with_packet o f l)
-by_packet None f l h = (omega arith, omega arith)
-by_packet (Some p) f l h = h p
+by_packet o f l h = grind (arith, nat_tests)
 
 by_way : {M : Type 0} (c d : Bool) (f : Link M → Link M) (l : Link M) → ((k : Link M) → Rises k (f k))
     → Rises l (if c then f l else if d then turned (f (turned l)) else l)
-by_way true d f l h = h l
-by_way false true f l h = ((h (turned l)).1, (h (turned l)).0)
-by_way false false f l h = (omega arith, omega arith)
+by_way c d f l h = grind (arith, nat_tests)
 
 on_link_rises : {M : Type 0} (a b from to : Site) (f : Link M → Link M) (l : Link M)
     → ((k : Link M) → Rises k (f k)) → Rises l (on_link a b from to f l)
@@ -27,8 +24,6 @@ on_link_rises a b from to f l h = by_way (same_site a from && same_site b to) (s
 
 pub rises : {M : Type 0} (a b : Site) (c : Call M) (calls : List (Call M))
     → delivered (link a b calls).there ≤ delivered (link a b (c ∷ calls)).there
-rises a b (Puts from to m) calls = (on_link_rises a b from to (put m) (link a b calls) (λ k. (omega arith, omega arith))).0
-rises a b (Delivers from to place) calls = (on_link_rises a b from to (deliver place) (link a b calls) (λ k. by_packet (packet_at place k) _ k (λ p. by_arrives p (without_packet place k)))).0
-rises a b (Loses from to place) calls = (on_link_rises a b from to (lose place) (link a b calls) (λ k. by_packet (packet_at place k) _ k (λ p. (omega arith, omega arith)))).0
-rises a b (Repeats from to place) calls = (on_link_rises a b from to (repeat place) (link a b calls) (λ k. by_packet (packet_at place k) _ k (λ p. (omega arith, omega arith)))).0
-rises a b (Resends from to) calls = (on_link_rises a b from to resend (link a b calls) (λ k. (omega arith, omega arith))).0
+rises a b (Delivers from to place) calls =
+    (on_link_rises a b from to (deliver place) (link a b calls) (λ k. by_packet (packet_at place k) _ k (λ p. by_arrives p (without_packet place k)))).0
+rises a b _ calls = grind (arith, nat_tests)

@@ -1,5 +1,5 @@
 -- What the network tells of all its links is what the definitions say of them.
-use Rattle.sdd_net.proofs.All.{All, All-append, All-cons, All-head, All-map, All-nil, All-same, All-tail, All-weaker, Bool, Call, Channel, ChannelsRepresent, D, Deliver, Directions, Event, FitsWay, IsLiveAt, IsNet, IsTrue, Kept, List, None, Option, PlacedLink, Represents, Resend, Site, Some, T, U, Way, [], ap, are_linked, arith, channel_on, cond, cons_option, deliveries_on, false, filter_map, filter_map-append, flat_map, flat_map-append, get_or, in_flight, in_flight_at, index_of, is_empty, is_link, is_quiet_link, is_site, le-leb, length, link, links, list_all, list_all_at, lt-leb, map, nat_le, nat_lt, placed, quiet, quiet_at, quiet_on, range_with_len, refl, replicate, resend_on, resends_at, resends_now, round, sites, slice_get, subst, suc, sym, take, take_all, take_more, true, zero, ℕ, ◌&&◌, ◌++◌, ◌+◌, ◌-◌, ◌<◌, ◌∙◌, ◌∷◌, ◌≡◌, ◌≤◌}
+use Rattle.sdd_net.proofs.All.{All, All-append, All-cons, All-head, All-map, All-nil, All-same, All-tail, All-weaker, Bool, Call, Channel, ChannelsRepresent, D, Deliver, Directions, Event, FitsWay, IsLiveAt, IsNet, IsTrue, Kept, List, None, Option, PlacedLink, Represents, Resend, Site, Some, T, U, Way, [], ap, are_linked, arith, channel_on, cond, cons_option, deliveries_on, false, filter_map, filter_map-append, flat_map, flat_map-append, get_or, in_flight, in_flight_at, index_of, is_empty, is_link, is_quiet_link, is_site, le-leb, length, link, links, list_all, list_all_at, map, nat_le, nat_lt, nat_tests, placed, quiet, quiet_at, quiet_on, range_with_len, refl, replicate, resend_on, resends_at, resends_now, round, sites, slice_get, subst, suc, sym, take, take_all, take_more, true, zero, ℕ, ◌&&◌, ◌++◌, ◌+◌, ◌-◌, ◌<◌, ◌∙◌, ◌∷◌, ◌≡◌, ◌≤◌}
 use Rattle.sdd_net.proofs.Matching.{flight_is, unacked_count, not_empty}
 use Rattle.sdd_net.proofs.Directions.{link_back, back_is}
 use Rattle.sdd_net.proofs.Deliveries.{fits_live}
@@ -7,9 +7,7 @@ use Rattle.sdd_net.proofs.Calls.{net_of, live_is}
 
 range_within : (P : ℕ → Type 0) (a n : ℕ) → ((k : ℕ) → a ≤ k → k < a + n → P k) → All P (range_with_len a n)
 range_within P a zero f = All-nil P
-range_within P a (suc n) f =
-    All-cons P a (range_with_len (a + 1) n) (f a (omega arith) (omega arith))
-    (range_within P (a + 1) n (λ k l m. f k (omega arith) (omega arith)))
+range_within P a (suc n) f = grind (arith, nat_tests, (range_within P (a + 1) n (λ k l m. f k (omega arith) (omega arith))))
 
 numbered_site : (n most : ℕ) → 1 ≤ n → n < 1 + most → (nat_le 1 n && nat_le n most) ≡ true
 numbered_site n most l m = rw (le-leb 1 n l, le-leb n most (omega arith)) refl
@@ -87,8 +85,7 @@ flat_map_mapped f h g (x ∷ xs) e =
     rw (All-head (λ x. f (g x) ≡ h x) x xs e, rest) refl
 
 is_empty-count : {A : Type 0} (xs : List A) (a n : ℕ) → length xs ≡ n - a → is_empty xs ≡ nat_le n a
-is_empty-count [] a n e = sym (le-leb n a (omega (arith, e)))
-is_empty-count (x ∷ xs) a n e = sym (lt-leb n a (omega (arith, e)))
+is_empty-count xs a n e = grind (arith, nat_tests)
 
 -- what represents a link at a place past the end
 abbrev pub no_link : PlacedLink
@@ -102,9 +99,9 @@ module _ {M : Type 0} where
 
   resends_fits : (o p : Option (Channel M)) (w v : Way M) → FitsWay o w → FitsWay p v
       → resends_at o p ≡ (nat_lt w.acked (length w.sent) && (is_empty w.flight && is_empty v.flight))
-  resends_fits None p w v h k = absurd h
-  resends_fits (Some c) None w v h k = absurd k
-  resends_fits (Some c) (Some d) w v h k = rw (flight_is c w h, flight_is d v k, not_empty c.sender.value.unacked w.acked (length w.sent) (unacked_count c w h)) refl
+  resends_fits (Some c) (Some d) w v h k =
+      rw (flight_is c w h, flight_is d v k, not_empty c.sender.value.unacked w.acked (length w.sent) (unacked_count c w h)) refl
+  resends_fits _ _ w v h k = absurd (omega arith)
 
   in_flight_fits : (o p : Option (Channel M)) (w v : Way M) → FitsWay o w → FitsWay p v
       → in_flight_at o p ≡ length w.flight + cond (nat_lt w.acked (length w.sent) && (is_empty w.flight && is_empty v.flight)) (length w.sent - w.acked) 0

@@ -1,13 +1,11 @@
 -- The loops that list the sites and the links.
-use Rattle.sdd_net.proofs.All.{List, None, Option, Some, [], ap, append-nil, append_assoc, arith, filter_map, filter_map-append, flat_map, flat_map-append, get_or, length, map, map-range_with_len_more, range_with_len, sym, take, take_more, ℕ, ◌++◌, ◌+◌, ◌<◌, ◌∙◌, ◌∷◌, ◌≡◌}
+use Rattle.sdd_net.proofs.All.{List, None, Option, Some, [], ap, append-nil, append_assoc, arith, filter_map, filter_map-append, flat_map, flat_map-append, get_or, length, map, map-range_with_len_more, nat_tests, range_with_len, sym, take, take_more, ℕ, ◌++◌, ◌+◌, ◌<◌, ◌∙◌, ◌∷◌, ◌≡◌}
 
 -- one site more of a kind
 pub sites_more : {A : Type 0} (f : ℕ → A) (n k : ℕ) (before old new : List A)
     → old ≡ before ++ map f (range_with_len 1 n) → k ≡ n + 1 → new ≡ old ++ f k ∷ []
     → new ≡ before ++ map f (range_with_len 1 (n + 1))
-sites_more f n k before old new e same push =
-    push ∙ ap (λ xs. xs ++ f k ∷ []) e ∙ append_assoc before (map f (range_with_len 1 n)) (f k ∷ [])
-    ∙ ap (λ xs. before ++ xs) (sym (map-range_with_len_more f 1 n k (omega arith)))
+sites_more f n k before old new e same push = grind (arith, nat_tests, append_assoc, map-range_with_len_more)
 
 -- one more that is among the links, or is not
 pub links_yes : {A B : Type 0} (f : A → Option B) (xs : List A) (i : ℕ) (d : A) (y : B) (before old new : List B)

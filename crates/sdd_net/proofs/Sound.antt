@@ -1,5 +1,5 @@
 -- What holds of every link, whatever calls were made.
-use Rattle.sdd_net.proofs.All.{Ack, All, All-append, All-cons, All-drop, All-nil, All-push, All-weaker, Bool, Call, Delivers, IsNumber, IsOf, IsSoundLink, IsSoundWay, Link, List, Loses, Message, None, Packet, Puts, Repeats, Resends, Site, Some, Way, [], arith, arrives, deliver, delivered, false, if◌then◌else◌, length, length-append, link, lose, numbered, on_link, packet_at, put, refl, repeat, resend, same_site, slice_get, slice_get_within, suc, top, true, turned, unacked, unused, with_packet, without_at, without_packet, zero, ℕ, ◌&&◌, ◌++◌, ◌+◌, ◌-◌, ◌<◌, ◌∷◌, ◌≡◌, ◌≤◌}
+use Rattle.sdd_net.proofs.All.{Ack, All, All-append, All-cons, All-drop, All-nil, All-push, All-weaker, Bool, Call, Delivers, IsNumber, IsOf, IsSoundLink, IsSoundWay, Link, List, Loses, Message, None, Packet, Puts, Repeats, Resends, Site, Some, Way, [], arith, arrives, deliver, delivered, false, if◌then◌else◌, length, length-append, link, lose, nat_tests, numbered, on_link, packet_at, put, refl, repeat, resend, same_site, slice_get, slice_get_within, suc, top, true, turned, unacked, unused, with_packet, without_at, without_packet, zero, ℕ, ◌&&◌, ◌++◌, ◌+◌, ◌-◌, ◌<◌, ◌∷◌, ◌≡◌, ◌≤◌}
 use Rattle.sdd_net.proofs.Lists.{All-without_at, All-at, All-among, get-append, get-last}
 use Rattle.sdd_net.proofs.Tops.{top_is, top_rises}
 
@@ -21,8 +21,7 @@ more_packet sent more j k l (Message n m) h = (h.0, get-append sent more (n - 1)
 more_packet sent more j k l (Ack i) h = let b : i ≤ j = h in omega arith
 
 more_acks : {M : Type 0} (sent : List M) (j k : ℕ) → j ≤ k → (p : Packet M) → IsOf sent j p → IsOf sent k p
-more_acks sent j k l (Message n m) h = h
-more_acks sent j k l (Ack i) h = let b : i ≤ j = h in omega arith
+more_acks sent j k l p h = grind (arith, nat_tests)
 
 more_numbers : {M : Type 0} (sent : List M) (m : M) → (n : ℕ) → IsNumber sent n → IsNumber (sent ++ m ∷ []) n
 more_numbers sent m n h = (h.0, grind (arith, length-append))
@@ -118,9 +117,8 @@ turned_sound l h = record { there = h.back; back = h.there }
 on_way : {M : Type 0} (c d : Bool) (f : Link M → Link M) (l : Link M)
     → ((k : Link M) → IsSoundLink k → IsSoundLink (f k)) → IsSoundLink l
     → IsSoundLink (if c then f l else if d then turned (f (turned l)) else l)
-on_way true d f l h i = h l i
 on_way false true f l h i = turned_sound (f (turned l)) (h (turned l) (turned_sound l i))
-on_way false false f l h i = i
+on_way _ _ f l h i = grind (arith, nat_tests)
 
 on_link_sound : {M : Type 0} (a b from to : Site) (f : Link M → Link M) (l : Link M)
     → ((k : Link M) → IsSoundLink k → IsSoundLink (f k)) → IsSoundLink l → IsSoundLink (on_link a b from to f l)

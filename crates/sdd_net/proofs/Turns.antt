@@ -25,11 +25,7 @@ out_of_turn-next k m rest entries e = rw (e, eq-eqb (k + 1) (k + 1) refl) refl
 pub out_of_turn-none : {M : Type 0} (k : ℕ) (entries : List (ℕ × M)) → in_turn k entries ≡ []
     → out_of_turn k entries ≡ entries
 out_of_turn-none k [] e = refl
-out_of_turn-none k ((x, y) ∷ rest) e =
-    elim (x == k + 1) as (λ b. (if b then y ∷ in_turn (k + 1) rest else []) ≡ [] → (if b then out_of_turn (k + 1) rest else (x, y) ∷ rest) ≡ (x, y) ∷ rest) [
-      | true ↦ λ p. cc
-      | false ↦ λ p. refl
-    ] e
+out_of_turn-none k ((x, y) ∷ rest) e = grind (arith, nat_tests)
 
 -- one message more is one packet more
 pub numbered-append : {M : Type 0} (k : ℕ) (ms : List M) (m : M)
@@ -58,7 +54,6 @@ pub ruleset turns = (in_turn-none, in_turn-next, out_of_turn-next, out_of_turn-n
 pub numbered_more : {A M : Type 0} (f : A → M) (k n : ℕ) (ys : List A) (y : A) (m : M) (ps qs : List (Packet M))
     → ps ≡ numbered k (map f ys) → n ≡ k + length ys → m ≡ f y → qs ≡ ps ++ Message (n + 1) m ∷ []
     → qs ≡ numbered k (map f (ys ++ y ∷ []))
-numbered_more f k n ys y m ps qs e same copy push =
-    rw (push, e, same, copy, map-append, numbered-append, length-map) refl
+numbered_more f k n ys y m ps qs e same copy push = grind (arith, nat_tests, map-append, numbered-append, length-map)
 
 pub ruleset numbering = (numbered_more)

@@ -1,5 +1,5 @@
 -- When two ways of taking take the same.
-use Rattle.sdd_order.proofs.All.{Bool, Contains, Contains-here, Contains-later, IsPath, List, None, Option, Some, [], ap, arith, cases_eq, cond, earlier, earliest, eq-eqb, false, filter, inl, inr, is_ready, list_any, map, nat_lt, ne_eqb, not, option_map, refl, subst, suc, sym, taken, true, without, zero, ℕ, ◌<◌, ◌==◌, ◌||◌, ◌∙◌, ◌∷◌, ◌≡◌, ◌≤◌, ◌⊎◌}
+use Rattle.sdd_order.proofs.All.{Bool, Contains, Contains-here, Contains-later, IsPath, List, None, Option, Some, [], ap, arith, cases_eq, cond, earlier, earliest, eq-eqb, false, filter, inl, inr, is_ready, list_any, map, ne_eqb, not, option_map, refl, subst, suc, sym, taken, true, without, zero, ℕ, ◌<◌, ◌==◌, ◌||◌, ◌∙◌, ◌∷◌, ◌≡◌, ◌≤◌, ◌⊎◌}
 use Rattle.sdd_order.proofs.Taken.{IsNext, next_is, is_next, Differ, differ_without, without_is, in_without}
 
 -- what is taken first, and the rest
@@ -81,26 +81,17 @@ module _ {A B : Type 0} (f : A → B) (before : B → B → Bool) (time : B → 
 
   filter-map : (p : B → Bool) (xs : List A) → filter p (map f xs) ≡ map f (filter (λ x. p (f x)) xs)
   filter-map p [] = refl
-  filter-map p (x ∷ xs) =
-      elim (p (f x)) as (λ b. cond b (f x ∷ filter p (map f xs)) (filter p (map f xs)) ≡ map f (cond b (x ∷ filter (λ y. p (f y)) xs) (filter (λ y. p (f y)) xs))) [
-        | true ↦ ap (λ l. f x ∷ l) (filter-map p xs)
-        | false ↦ filter-map p xs
-      ]
+  filter-map p (x ∷ xs) = grind (arith, filter-map p xs)
 
   filter_same : {X : Type 0} (p q : X → Bool) (xs : List X) → ((x : X) → p x ≡ q x) → filter p xs ≡ filter q xs
-  filter_same p q [] h = refl
-  filter_same p q (x ∷ xs) h =
-      ap (λ b. cond b (x ∷ filter p xs) (filter p xs)) (h x)
-      ∙ ap (λ l. cond (q x) (x ∷ l) l) (filter_same p q xs h)
+  filter_same p q xs h = grind arith
 
   any-map : (p : B → Bool) (xs : List A) → list_any p (map f xs) ≡ list_any (λ x. p (f x)) xs
   any-map p [] = refl
   any-map p (x ∷ xs) = ap (λ b. p (f x) || b) (any-map p xs)
 
   earlier-map : (x : A) (o : Option A) → earlier time (f x) (option_map f o) ≡ option_map f (earlier time_as x o)
-  earlier-map x None = refl
-  earlier-map x (Some y) =
-      elim (nat_lt (time (f y)) (time (f x))) as (λ b. cond b (Some (f y)) (Some (f x)) ≡ option_map f (cond b (Some y) (Some x))) [ true ↦ refl | false ↦ refl ]
+  earlier-map x o = grind arith
 
   earliest-map : (xs : List A) → earliest time (map f xs) ≡ option_map f (earliest time_as xs)
   earliest-map [] = refl
@@ -108,18 +99,11 @@ module _ {A B : Type 0} (f : A → B) (before : B → B → Bool) (time : B → 
 
   first-map : (left : List A) → earliest time (filter (is_ready before (map f left)) (map f left))
       ≡ option_map f (earliest time_as (filter (is_ready before_as left) left))
-  first-map left =
-      ap (earliest time) (filter-map (is_ready before (map f left)) left
-      ∙ ap (map f) (filter_same (λ x. is_ready before (map f left) (f x)) (is_ready before_as left) left
-      (λ x. ap not (any-map (λ y. before y (f x)) left))))
-      ∙ earliest-map (filter (is_ready before_as left) left)
+  first-map left = grind (arith, filter-map, any-map, earliest-map)
 
   after-map : (n : ℕ) (left : List A) → ((l : List A) → taken before time n (map f l) ≡ map f (taken before_as time_as n l)) → (o : Option A)
       → after before time n (map f left) (option_map f o) ≡ map f (after before_as time_as n left o)
-  after-map n left ih None = refl
-  after-map n left ih (Some x) =
-      ap (λ l. f x ∷ taken before time n l) (filter-map (λ y. not (time y == time (f x))) left)
-      ∙ ap (λ l. f x ∷ l) (ih (without time_as x left))
+  after-map n left ih e = grind (arith, filter-map)
 
   pub taken-map : (n : ℕ) (left : List A) → taken before time n (map f left) ≡ map f (taken before_as time_as n left)
   taken-map zero left = refl
@@ -172,16 +156,7 @@ module _ (all : List ℕ) (link before : ℕ → ℕ → Bool) (time : ℕ → �
       strictly (suc i) (suc j) d l = let r = strictly i j (λ e. d (ap suc e)) (omega arith) in omega arith
 
   time_tells : (i j : ℕ) → Contains all i → Contains all j → time i ≤ time j → i ≤ j
-  time_tells i j m n l =
-      elim (over i j) [
-        | inl k ↦ k
-        | inr k ↦ let t = rises j i n m k in absurd (omega arith)
-      ]
-    where
-      over : (i j : ℕ) → (i ≤ j) ⊎ (j < i)
-      over zero j = inl (omega arith)
-      over (suc i) zero = inr (omega arith)
-      over (suc i) (suc j) = elim (over i j) [ inl l ↦ inl (omega arith) | inr l ↦ inr (omega arith) ]
+  time_tells i j m n l = grind arith
 
   -- the last step of a path comes from one of them
   last_step : (left : List ℕ) → Rest left → (i : ℕ) (m : List ℕ) (j : ℕ) → Contains left i → IsPath (λ k l. link k l ≡ true) i m j
@@ -190,8 +165,7 @@ module _ (all : List ℕ) (link before : ℕ → ℕ → Bool) (time : ℕ → �
   last_step left r i (k ∷ m) j c p = last_step left r k m j (r.closed i k c p.0) p.1
 
   is_true : (b : Bool) → (b ≡ true → ⊥) → b ≡ false
-  is_true true n = absurd (n refl)
-  is_true false n = refl
+  is_true b n = grind arith
 
   not_both : (b : Bool) → b ≡ true → b ≡ false → ⊥
   not_both b t f = let wrong : true ≡ false = sym t ∙ f in absurd (cc)

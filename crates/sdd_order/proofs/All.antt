@@ -1,7 +1,7 @@
 -- The names of std, of the crates below and of this crate's definitions that its proofs cite. Declares nothing.
 pub use Rattle.sdd_history.specs.Records.{History}
 pub use Rattle.sdd_history.specs.declared.record.Rec.{Rec}
-pub use Rattle.sdd_history.specs.declared.record.Rec.TheVariants.{Answer, Apply, Arrive, Commit, Nothing, Pass, Reject, Start, Submit, Wait}
+pub use Rattle.sdd_history.specs.declared.record.Rec.TheVariants.{Answer, Apply, Commit, Start, Submit}
 pub use Rattle.sdd_lang.proofs.base.Membership.{Contains-cases, Contains-here, Contains-later, Contains-nil}
 pub use Rattle.sdd_lang.specs.All.{Catalogue, Change, ClassNo, DmNo, FragNo, Ts, TxnNo, Use, class_no, dm_no, fragments_in, reads_at, time_at, txn_no}
 pub use Rattle.sdd_order.specs.Attempts.{Attempt, Committed, HasCommit, IsAttempt, IsCommitted, attempt_of, attempts, changes, committed, committed_of, is_attempt_of}
@@ -19,10 +19,10 @@ pub use Rattle.sdd_order.specs.Taking.{Front, Links, at_node, counted, first_rea
 pub use Rattle.sdd_order.specs.declared.seen.Marks.{Marks}
 pub use Rattle.std.proofs.Common.{All, BTreeMap, Bool, Contains, Equal, Greater, IsPermutation, Less, List, None, OnOk, Option, Ordering, Some, [], ap, append-nil, append_assoc, arith, cond, drop, eq-eqb, eqb-true, false, filter, filter_map, find, flat_map, fold, get_or-set_other, get_or-set_same, inl, inr, is_eq, is_some, length, length-set, lt-ltb, ltb-false, ltb-true, map, nat_cmp, nat_lt, ne_eqb, not, option_map, refl, replicate, reverse, rules, slice_get, slice_index_or as get_or, slice_set, subst, suc, sym, take, true, unwrap_or, zero, ℕ, ◌&&◌, ◌++◌, ◌+◌, ◌-◌, ◌/◌, ◌<◌, ◌==◌, ◌||◌, ◌∙◌, ◌∷◌, ◌≡◌, ◌≢◌, ◌≤◌, ◌⊎◌}
 pub use Rattle.std.proofs.Math.Seq.{drop-cons}
-pub use Rattle.std.proofs.lemmas.Bool.{and_from, and_parts, cases_Bool, cases_eq, eqb-false, false≢true, not-true, or_left, or_right}
+pub use Rattle.std.proofs.lemmas.Bool.{and_from, and_parts, cases_Bool, cases_eq, eqb-false, not-true, or_left, or_right}
 pub use Rattle.std.proofs.lemmas.Grind.{flat_map-append}
 pub use Rattle.std.proofs.lemmas.List.{drop_all, get_or-map, get_or-replicate, get_or_default, length-map, length-replicate, map-set, reverse-append, same_lists, take_more}
-pub use Rattle.std.proofs.lemmas.List.Elements.{All-contains, All-contains_itself, All-get_or, All-head, All-map, All-tail, All-weaker, Contains-append_cases, Contains-append_left, Contains-append_right, Contains-get_or, filter-append, filter_map-append}
+pub use Rattle.std.proofs.lemmas.List.Elements.{All-contains, All-contains_itself, All-get_or, All-head, All-map, All-tail, Contains-append_cases, Contains-append_left, Contains-append_right, Contains-get_or, filter-append, filter_map-append}
 pub use Rattle.std.proofs.lemmas.List.Folds.{find-append}
 pub use Rattle.std.proofs.lemmas.List.FromFn.{get_or-map-range_with_len, length-map-range_with_len}
 pub use Rattle.std.proofs.lemmas.List.Sorted.{All-permutation, IsNonDecreasingBy-from_sort_by_key, IsPermutation-sym, length_permutation}

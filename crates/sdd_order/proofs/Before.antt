@@ -1,10 +1,9 @@
 -- That a record comes before another, as a test and by their places.
-use Rattle.sdd_order.proofs.All.{Answer, Apply, Arrive, Bool, Commit, History, IsRecordAt, Nothing, Pass, Rec, Reject, Start, Submit, Wait, [], and_from, and_parts, ap, arith, class_no, comes_before, dm_no, eq-eqb, eqb-true, false, inl, inr, is_answer, is_apply, list_any, or_left, or_right, refl, same_Some, subst, suc, time_at, true, txn_no, zero, ℕ, ◌&&◌, ◌<◌, ◌==◌, ◌||◌, ◌∙◌, ◌∷◌, ◌≡◌, ◌⊎◌}
+use Rattle.sdd_order.proofs.All.{Answer, Apply, Bool, History, IsRecordAt, Rec, [], and_from, and_parts, ap, arith, class_no, comes_before, dm_no, eq-eqb, inl, inr, is_answer, is_apply, list_any, or_left, or_right, refl, same_Some, suc, time_at, true, txn_no, zero, ℕ, ◌&&◌, ◌<◌, ◌==◌, ◌||◌, ◌∙◌, ◌∷◌, ◌≡◌, ◌⊎◌}
 
 -- either of two tests
 pub or_cases : (a b : Bool) → (a || b) ≡ true → (a ≡ true) ⊎ (b ≡ true)
-or_cases true b e = inl refl
-or_cases false b e = inr e
+or_cases a b e = grind arith
 
 -- a record that passes a test
 pub record Passing (p : Rec → Bool) (h : History) : Type 0 where
@@ -61,9 +60,7 @@ pub comes_from : (p q : Rec → Bool) (h : History) (j k : ℕ) (r s : Rec) → 
     → p r ≡ true → q s ≡ true → comes_before p q h ≡ true
 comes_from p q [] j k r s a b l t u = absurd (cc)
 comes_from p q (x ∷ h) zero zero r s a b l t u = absurd (omega arith)
-comes_from p q (x ∷ h) zero (suc k) r s a b l t u =
-    or_left (p x.1 && list_any (λ d. q d.1) h) (comes_before p q h)
-    (and_from (p x.1) (list_any (λ d. q d.1) h) (ap p (same_Some x.1 r a) ∙ t) (any_from q h k s b u))
+comes_from p q (x ∷ h) zero (suc k) r s a b l t u = grind (arith, any_from)
 comes_from p q (x ∷ h) (suc j) zero r s a b l t u = absurd (omega arith)
 comes_from p q (x ∷ h) (suc j) (suc k) r s a b l t u =
     or_right (p x.1 && list_any (λ d. q d.1) h) (comes_before p q h) (comes_from p q h j k r s a b (omega arith) t u)
@@ -74,27 +71,8 @@ pub apply_passes : (n d class ts : ℕ) → is_apply n d (Apply (txn_no n) (clas
 apply_passes n d class ts = and_from (n == n) (d == d) (eq-eqb n n refl) (eq-eqb d d refl)
 
 pub answer_passes : (n number d : ℕ) → is_answer n number d (Answer (txn_no n) number (dm_no d)) ≡ true
-answer_passes n number d =
-    and_from (n == n) ((number == number) && (d == d)) (eq-eqb n n refl)
-    (and_from (number == number) (d == d) (eq-eqb number number refl) (eq-eqb d d refl))
+answer_passes n number d = grind arith
 
 pub is_answered : (h : History) (n number d k : ℕ) (r : Rec) → IsRecordAt h k r → is_answer n number d r ≡ true
     → IsRecordAt h k (Answer (txn_no n) number (dm_no d))
-is_answered h n number d k (Answer txn attempt dm) s t =
-    let both = and_parts (txn.0 == n) ((attempt == number) && (dm.0 == d)) t in
-    let rest = and_parts (attempt == number) (dm.0 == d) both.1 in
-    let one : txn.0 ≡ n = eqb-true txn.0 n both.0 in
-    let two : attempt ≡ number = eqb-true attempt number rest.0 in
-    let three : dm.0 ≡ d = eqb-true dm.0 d rest.1 in
-    subst (λ m. IsRecordAt h k (Answer (txn_no m) number (dm_no d))) one
-    (subst (λ m. IsRecordAt h k (Answer txn m (dm_no d))) two
-    (subst (λ m. IsRecordAt h k (Answer txn attempt (dm_no m))) three s))
-is_answered h n number d k (Submit txn) s t = absurd (cc)
-is_answered h n number d k (Start txn attempt class ts p2 uses) s t = absurd (cc)
-is_answered h n number d k (Arrive txn attempt dm) s t = absurd (cc)
-is_answered h n number d k (Wait txn attempt dm conds) s t = absurd (cc)
-is_answered h n number d k (Reject txn attempt dm class ts) s t = absurd (cc)
-is_answered h n number d k (Commit txn attempt reply changes values rows) s t = absurd (cc)
-is_answered h n number d k (Apply txn class dm ts) s t = absurd (cc)
-is_answered h n number d k (Pass class dm time) s t = absurd (cc)
-is_answered h n number d k Nothing s t = absurd (cc)
+is_answered h n number d k r s t = grind arith

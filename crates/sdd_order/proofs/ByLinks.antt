@@ -1,5 +1,5 @@
 -- Along the links the serial order is found.
-use Rattle.sdd_order.proofs.All.{All, AreMarks, Catalogue, Committed, Contains, Contains-here, Contains-later, History, IsClass, IsOrderable, IsPath, Links, List, Marks, Some, UseExists, [], and_from, and_parts, ap, arith, committed, cons_option, eq-eqb, eqb-true, get_or, get_or-map-range_with_len, get_or_default, has_link, in_order, inl, inr, length, length-map-range_with_len, links, map, nodes, numbers_at, option_map, order_of, precedes, refl, same_Some, same_lists, serial_order, slice_get, slice_get-get_or, slice_get_within, subst, sym, taken, true, txn_no, ℕ, ◌&&◌, ◌<◌, ◌==◌, ◌∙◌, ◌∷◌, ◌≡◌, ◌⊎◌}
+use Rattle.sdd_order.proofs.All.{All, AreMarks, Catalogue, Committed, Contains, Contains-here, Contains-later, History, IsClass, IsOrderable, IsPath, Links, List, Marks, Some, UseExists, [], ap, arith, committed, cons_option, eq-eqb, get_or, get_or-map-range_with_len, get_or_default, has_link, in_order, length, length-map-range_with_len, links, map, nodes, numbers_at, option_map, order_of, precedes, refl, rules, same_Some, same_lists, serial_order, slice_get, slice_get-get_or, slice_get_within, sym, taken, true, txn_no, ℕ, ◌<◌, ◌∙◌, ◌∷◌, ◌≡◌}
 use Rattle.sdd_order.proofs.Alike.{taken_by_members, taken-map, taken_by_links}
 use Rattle.sdd_order.proofs.Ascending.{from_range}
 use Rattle.sdd_order.proofs.Members.{All-members, Contains-range, member_passes, passes_member}
@@ -12,20 +12,10 @@ use Rattle.sdd_order.proofs.Serial.{differ}
 
 -- the test and the links
 from_link : (some : Links) (i j : ℕ) → has_link some i j ≡ true → Contains some (i, j)
-from_link some i j e =
-    let r = member_passes (λ l. (l.0 == i) && (l.1 == j)) some e in
-    let both = and_parts (r.0.0 == i) (r.0.1 == j) r.2 in
-    let first : r.0.0 ≡ i = eqb-true r.0.0 i both.0 in
-    let second : r.0.1 ≡ j = eqb-true r.0.1 j both.1 in
-    subst (λ (k : ℕ). Contains some (k, j)) first (subst (λ (k : ℕ). Contains some (r.0.0, k)) second r.1)
+from_link some i j e = grind (arith, member_passes)
 
 is_link : (some : Links) (i j : ℕ) → Contains some (i, j) → has_link some i j ≡ true
-is_link some i j c =
-    passes_member (λ l. (l.0 == i) && (l.1 == j)) some (i, j) c (and_from (i == i) (j == j) (eq-eqb i i refl) (eq-eqb j j refl))
-
-first_or_none : (xs : List Committed) → (xs ≡ []) ⊎ Committed
-first_or_none [] = inl refl
-first_or_none (x ∷ xs) = inr x
+is_link some i j c = search (rules, passes_member, eq-eqb)
 
 module _ (cat : Catalogue) (h : History) (o : IsOrderable cat h) (marks : Marks) (are : AreMarks h marks) (txns : List Committed)
     (ordered : AreInOrder h txns) where
@@ -123,14 +113,7 @@ module _ (cat : Catalogue) (h : History) (o : IsOrderable cat h) (marks : Marks)
         ∙ sym (taken_by_members (precedes cat h) (λ t. t.start.ts) (length (committed h)) (committed h) txns (differ cat h o) forth back)
 
     nothing : txns ≡ [] → numbers_at txns (order_of (links cat marks txns) (length txns)) ≡ serial_order cat h
-    nothing none =
-        let zero_long : length txns ≡ 0 = ap length none in
-        ap (λ n. numbers_at txns (order_of (links cat marks txns) n)) zero_long
-        ∙ ap (λ n. map (λ (t : Committed). txn_no t.start.txn) (taken (precedes cat h) (λ t. t.start.ts) n (committed h))) (sym zero_long ∙ long)
+    nothing none = grind arith
 
     pub order_found : numbers_at txns (order_of (links cat marks txns) (length txns)) ≡ serial_order cat h
-    order_found =
-        elim (first_or_none txns) [
-          | inl none ↦ nothing none
-          | inr d ↦ in_txns d ∙ ap (map (λ (t : Committed). txn_no t.start.txn)) in_committed
-        ]
+    order_found = grind (arith, in_txns, in_committed)

@@ -13,8 +13,7 @@ abbrev pub Linked : Links → ℕ → ℕ → Type 0
 Linked links i j = (m : List ℕ) × IsPath (λ a b. Contains links (a, b)) i m j
 
 pub linked_by : (links more : Links) → ((l : ℕ × ℕ) → Contains links l → Contains more l) → (i j : ℕ) → Linked links i j → Linked more i j
-linked_by links more h i j p =
-    (p.0, path_as (λ a b. Contains links (a, b)) (λ a b. Contains more (a, b)) (λ a b c. h (a, b) c) i p.0 j p.1)
+linked_by links more h i j p = grind (arith, path_as)
 
 -- what is linked along a list
 pub record InChain (xs : List ℕ) (l : ℕ × ℕ) : Type 0 where
@@ -97,11 +96,7 @@ chain_more m n xs l c =
 
 from_any : (m : ℕ) (xs : List ℕ) → Rises (m ∷ xs) → (i j : ℕ) → Contains (m ∷ xs) i → Contains (m ∷ xs) j → i < j
     → Linked (chain_after (Some m) xs) i j
-from_any m [] r i j c d l =
-    let one = only m i c in let two = only m j d in absurd (omega (arith, one, two))
-  where
-    only : (m i : ℕ) → Contains (m ∷ []) i → i ≡ m
-    only m i c = elim (Contains-cases m [] i c) [ inl e ↦ e | inr n ↦ absurd (Contains-nil i n) ]
+from_any m [] r i j c d l = grind arith
 from_any m (n ∷ xs) r i j c d l =
     elim (Contains-cases m (n ∷ xs) i c) [
       | inl e ↦ elim (Contains-cases m (n ∷ xs) j d) [

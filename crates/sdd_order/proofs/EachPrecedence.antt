@@ -1,5 +1,5 @@
 -- Each precedence follows from the links.
-use Rattle.sdd_order.proofs.All.{AreMarks, Bool, Catalogue, Committed, Contains, Contains-append_left, Contains-append_right, Contains-get_or, Contains-here, History, IsCommitted, IsFragment, IsOrderable, Links, List, Marks, Precedes, Some, [], and_parts, ap, arith, by_class, by_fragment, cases_Bool, chains, changes, cond, enumerate_from, eq-eqb, eqb-true, false, flat_map, fragment_links, fragments_in, get_or, get_or as slice_index_or, groups, has_seen, inl, inr, is_earlier, is_overwritten, is_read_by, length, links, links_at, list_any, lt-ltb, ltb-true, misses, module_of, nat_lt, not, not-true, precedes, read_links, refl, same_Some, slice_get, subst, suc, sym, true, was_seen, zero, ℕ, ◌&&◌, ◌++◌, ◌+◌, ◌-◌, ◌<◌, ◌==◌, ◌||◌, ◌∙◌, ◌∷◌, ◌≡◌, ◌≤◌, ◌⊎◌}
+use Rattle.sdd_order.proofs.All.{AreMarks, Bool, Catalogue, Committed, Contains, Contains-append_left, Contains-append_right, Contains-get_or, History, IsCommitted, IsFragment, IsOrderable, Links, List, Marks, Precedes, Some, [], and_parts, ap, arith, by_class, by_fragment, cases_Bool, chains, changes, cond, enumerate_from, eq-eqb, eqb-true, false, flat_map, fragment_links, fragments_in, get_or, get_or as slice_index_or, groups, has_seen, inl, inr, is_earlier, is_overwritten, is_read_by, length, links, links_at, list_any, ltb-true, misses, module_of, nat_lt, not, not-true, precedes, read_links, refl, same_Some, slice_get, subst, suc, sym, true, was_seen, zero, ℕ, ◌&&◌, ◌++◌, ◌+◌, ◌-◌, ◌<◌, ◌==◌, ◌||◌, ◌∙◌, ◌∷◌, ◌≡◌, ◌≤◌, ◌⊎◌}
 use Rattle.sdd_order.proofs.Chained.{Rises, Linked, linked_by, in_group, group_rises, chains_link}
 use Rattle.sdd_order.proofs.Members.{Contains-flat_map, passes_member, member_passes}
 use Rattle.sdd_order.proofs.Paths.{path_join}
@@ -11,11 +11,10 @@ use Rattle.sdd_order.proofs.Nodes.{is_enumerated, in_class, in_fragment, classes
 
 -- a later place has no smaller number
 rises_at : (xs : List ℕ) → Rises xs → (a b : ℕ) → a ≤ b → b < length xs → get_or xs a 0 ≤ get_or xs b 0
-rises_at [] r a b l m = absurd (omega arith)
 rises_at (x ∷ xs) r zero zero l m = omega arith
 rises_at (x ∷ xs) r zero (suc b) l m = r.0 (get_or xs b 0) (Contains-get_or xs b 0 (omega arith))
-rises_at (x ∷ xs) r (suc a) zero l m = absurd (omega arith)
 rises_at (x ∷ xs) r (suc a) (suc b) l m = rises_at xs r.1 a b (omega arith) (omega arith)
+rises_at _ r _ _ l m = absurd (omega arith)
 
 -- a member's place
 place_in : (xs : List ℕ) (i : ℕ) → Contains xs i → (q : ℕ) × (q < length xs) × (get_or xs q 0 ≡ i)
@@ -27,26 +26,15 @@ place_in xs i c = (c.0, c.1, other_default xs c.0 i c.1 ∙ c.2)
     other_default (y ∷ ys) (suc q) d l = other_default ys q d (omega arith)
 
 pub compare : (a b : ℕ) → (a < b) ⊎ ((a ≡ b) ⊎ (b < a))
-compare zero zero = inr (inl refl)
-compare zero (suc b) = inl (omega arith)
-compare (suc a) zero = inr (inr (omega arith))
-compare (suc a) (suc b) =
-    elim (compare a b) [ inl l ↦ inl (omega arith) | inr (inl e) ↦ inr (inl (ap suc e)) | inr (inr l) ↦ inr (inr (omega arith)) ]
+compare a b = grind arith
 
 -- the links at the end of what a reader has seen
 
 link_before : (writers : List ℕ) (reader k : ℕ) → 0 < k → Contains (links_at writers reader k) (slice_index_or writers (k - 1) 0, reader)
-link_before writers reader k l =
-    let link : ℕ × ℕ = (slice_index_or writers (k - 1) 0, reader) in
-    let after : List (ℕ × ℕ) = cond (nat_lt k (length writers)) ((reader, slice_index_or writers k 0) ∷ []) [] in
-    subst (λ b. Contains (cond b (link ∷ []) [] ++ after) link) (sym (lt-ltb 0 k l)) (Contains-here link after)
+link_before writers reader k l = grind arith
 
 link_after : (writers : List ℕ) (reader k : ℕ) → k < length writers → Contains (links_at writers reader k) (reader, slice_index_or writers k 0)
-link_after writers reader k l =
-    let link : ℕ × ℕ = (reader, slice_index_or writers k 0) in
-    let before : List (ℕ × ℕ) = cond (nat_lt 0 k) ((slice_index_or writers (k - 1) 0, reader) ∷ []) [] in
-    Contains-append_right before (cond (nat_lt k (length writers)) (link ∷ []) []) link
-    (subst (λ b. Contains (cond b (link ∷ []) []) link) (sym (lt-ltb k (length writers) l)) (Contains-here link []))
+link_after writers reader k l = grind arith
 
 module _ (cat : Catalogue) (h : History) (o : IsOrderable cat h) (marks : Marks) (are : AreMarks h marks) (txns : List Committed)
     (ordered : AreInOrder h txns) where

@@ -5,12 +5,10 @@ use Rattle.sdd_order.proofs.Reading.{placed_more}
 
 map_or : (o q : Option (ℕ × Rec)) → option_map (λ (x : ℕ × Rec). x.0) (option_or o q)
     ≡ option_or (option_map (λ (x : ℕ × Rec). x.0) o) (option_map (λ (x : ℕ × Rec). x.0) q)
-map_or None q = refl
-map_or (Some x) q = refl
+map_or o q = grind arith
 
 one_of : (k : ℕ) (r : Rec) (b : Bool) → option_map (λ (x : ℕ × Rec). x.0) (cond b (Some (k, r)) None) ≡ cond b (Some k) None
-one_of k r true = refl
-one_of k r false = refl
+one_of k r b = grind arith
 
 module _ (p : Rec → Bool) where
   -- the first and the last where the records stand from k on
@@ -25,11 +23,7 @@ module _ (p : Rec → Bool) where
   Passes h a = (r : Rec) × IsRecordAt h a r × (p r ≡ true)
 
   first_step : (k : ℕ) (e : ℕ × Rec) (h : History) → first_from k (e ∷ h) ≡ cond (p e.1) (Some k) (first_from (suc k) h)
-  first_step k e h =
-      elim (p e.1) as (λ b. option_map (λ (x : ℕ × Rec). x.0) (cond b (Some (k, e.1)) (find (λ x. p x.1) (placed (suc k) h))) ≡ cond b (Some k) (first_from (suc k) h)) [
-        | true ↦ refl
-        | false ↦ refl
-      ]
+  first_step k e h = grind arith
 
   last_step : (k : ℕ) (e : ℕ × Rec) (h : History)
       → last_from k (e ∷ h) ≡ option_or (last_from (suc k) h) (cond (p e.1) (Some k) None)
@@ -59,10 +53,7 @@ module _ (p : Rec → Bool) where
 
   first_least : (k : ℕ) (h : History) (j : ℕ) → Passes h j → (a : ℕ) × (first_from k h ≡ Some (k + a)) × (a ≤ j)
   first_least k [] j s = absurd (let is_recorded = s.1 in cc)
-  first_least k (x ∷ h) zero s =
-      let passes : p x.1 ≡ true = ap p (same_Some x.1 s.0 s.1) ∙ s.2 in
-      let same : k ≡ k + 0 = omega arith in
-      (0, first_step k x h ∙ ap (λ z. cond z (Some k) (first_from (suc k) h)) passes ∙ ap (λ (z : ℕ). Some z) same, omega arith)
+  first_least k (x ∷ h) zero s = grind arith
   first_least k (x ∷ h) (suc j) s =
       elim (cases_Bool (p x.1)) [
         | inl t ↦
@@ -157,8 +148,7 @@ record Below (o q : Option ℕ) : Type 0 where
 
 below_parts : (o q : Option ℕ) → is_below o q ≡ true → Below o q
 below_parts (Some a) (Some b) e = record { first = a; last = b; first_is = refl; last_is = refl; before = ltb-true a b e }
-below_parts (Some a) None e = absurd (cc)
-below_parts None q e = absurd (cc)
+below_parts _ _ e = absurd (cc)
 
 pub comes_before_is : (p q : Rec → Bool) (h : History) → comes_before p q h ≡ is_below (first_place p h) (last_place q h)
 comes_before_is p q h =

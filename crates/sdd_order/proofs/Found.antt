@@ -1,5 +1,5 @@
 -- The lists of attempts and of committed transactions have exactly those that the history has.
-use Rattle.sdd_order.proofs.All.{Answer, Apply, Arrive, Attempt, Bool, Commit, Committed, Contains, Contains-cases, Contains-here, Contains-later, Contains-nil, History, IsAttempt, IsCommitted, IsRecordAt, List, None, Nothing, Pass, Rec, Reject, Some, Start, Submit, Wait, [], and_from, and_parts, ap, arith, attempt_of, attempts, class_no, committed, committed_of, cond, eq-eqb, eqb-true, false, find, inl, inr, is_attempt_of, option_map, placed, refl, same_Some, subst, suc, sym, time_at, true, txn_no, zero, ℕ, ◌+◌, ◌==◌, ◌∙◌, ◌∷◌, ◌≡◌}
+use Rattle.sdd_order.proofs.All.{Attempt, Bool, Commit, Committed, Contains, Contains-cases, Contains-here, Contains-later, Contains-nil, History, IsAttempt, IsCommitted, IsRecordAt, List, Rec, Some, [], and_from, and_parts, ap, arith, attempt_of, attempts, committed, committed_of, cond, eq-eqb, eqb-true, false, find, inl, inr, is_attempt_of, option_map, placed, refl, rules, same_Some, subst, suc, sym, true, txn_no, zero, ℕ, ◌+◌, ◌==◌, ◌∙◌, ◌∷◌, ◌≡◌}
 use Rattle.sdd_order.proofs.Members.{Contains-filter_map, Contains-from_filter_map}
 use Rattle.sdd_order.proofs.Places.{same_start, one_attempt}
 
@@ -7,10 +7,7 @@ use Rattle.sdd_order.proofs.Places.{same_start, one_attempt}
 
 placed_there : (h : History) (k j : ℕ) (r : Rec) → IsRecordAt h j r → Contains (placed k h) (k + j, r)
 placed_there [] k j r s = absurd (cc)
-placed_there (e ∷ h) k zero r s =
-    let same : k ≡ k + 0 = omega arith in
-    subst (λ z. Contains (placed k (e ∷ h)) (z, r)) same
-    (subst (λ z. Contains (placed k (e ∷ h)) (k, z)) (same_Some e.1 r s) (Contains-here (k, e.1) (placed (suc k) h)))
+placed_there (e ∷ h) k zero r s = grind arith
 placed_there (e ∷ h) k (suc j) r s =
     let same : suc k + j ≡ k + suc j = omega arith in
     Contains-later (k, e.1) (placed (suc k) h) (k + suc j, r)
@@ -41,24 +38,10 @@ recorded_at h x m =
 -- attempts
 
 pub in_attempts : (h : History) (a : Attempt) → IsAttempt h a → Contains (attempts h) a
-in_attempts h a s =
-    let r : Rec = Start (txn_no a.txn) a.number (class_no a.class) (time_at a.ts) a.p2 a.uses in
-    Contains-filter_map attempt_of (placed 0 h) (a.place, r) a (at_place h a.place r s) refl
+in_attempts h a s = search (rules, Contains-filter_map, at_place)
 
 attempt_from : (h : History) (x : ℕ × Rec) (a : Attempt) → IsRecordAt h x.0 x.1 → attempt_of x ≡ Some a → IsAttempt h a
-attempt_from h (k, Start txn attempt class ts p2 uses) a s e =
-    let found : Attempt = record { txn = txn.0; number = attempt; class = class.0; ts = ts.0; p2 = p2; uses = uses; place = k } in
-    let same : found ≡ a = same_Some found a e in
-    subst (IsAttempt h) same s
-attempt_from h (k, Submit txn) a s e = absurd (cc)
-attempt_from h (k, Arrive txn attempt dm) a s e = absurd (cc)
-attempt_from h (k, Wait txn attempt dm conds) a s e = absurd (cc)
-attempt_from h (k, Answer txn attempt dm) a s e = absurd (cc)
-attempt_from h (k, Reject txn attempt dm class ts) a s e = absurd (cc)
-attempt_from h (k, Commit txn attempt reply changes values rows) a s e = absurd (cc)
-attempt_from h (k, Apply txn class dm ts) a s e = absurd (cc)
-attempt_from h (k, Pass class dm time) a s e = absurd (cc)
-attempt_from h (k, Nothing) a s e = absurd (cc)
+attempt_from h x a s e = grind arith
 
 pub from_attempts : (h : History) (a : Attempt) → Contains (attempts h) a → IsAttempt h a
 from_attempts h a m =
@@ -93,32 +76,7 @@ find_there p (y ∷ xs) x m t =
 -- committed transactions
 
 committed_from : (h : History) (x : ℕ × Rec) (t : Committed) → IsRecordAt h x.0 x.1 → committed_of (attempts h) x ≡ Some t → IsCommitted h t
-committed_from h (k, Commit txn attempt reply changes values rows) t s e =
-    elim (find (is_attempt_of txn.0 attempt) (attempts h)) as
-    (λ o. find (is_attempt_of txn.0 attempt) (attempts h) ≡ o → option_map (λ (a : Attempt). record { start = a; reply = reply; changes = changes; values = values; rows = rows; place = k }) o ≡ Some t → IsCommitted h t) [
-      | None ↦ λ f g. absurd (cc)
-      | Some a ↦ λ f g.
-          let found = find_from (is_attempt_of txn.0 attempt) (attempts h) a f in
-          let both = and_parts (a.txn == txn.0) (a.number == attempt) found.1 in
-          let made : Committed = record { start = a; reply = reply; changes = changes; values = values; rows = rows; place = k } in
-          let same : made ≡ t = same_Some made t g in
-          let one : a.txn ≡ txn.0 = eqb-true a.txn txn.0 both.0 in
-          let two : a.number ≡ attempt = eqb-true a.number attempt both.1 in
-          let commit : IsRecordAt h k (Commit (txn_no a.txn) a.number reply changes values rows) =
-          subst (λ n. IsRecordAt h k (Commit (txn_no n) a.number reply changes values rows)) (sym one)
-          (subst (λ n. IsRecordAt h k (Commit txn n reply changes values rows)) (sym two) s) in
-          let is : IsCommitted h made = record { started = from_attempts h a found.0; committed = commit } in
-          subst (IsCommitted h) same is
-    ] refl e
-committed_from h (k, Submit txn) t s e = absurd (cc)
-committed_from h (k, Start txn attempt class ts p2 uses) t s e = absurd (cc)
-committed_from h (k, Arrive txn attempt dm) t s e = absurd (cc)
-committed_from h (k, Wait txn attempt dm conds) t s e = absurd (cc)
-committed_from h (k, Answer txn attempt dm) t s e = absurd (cc)
-committed_from h (k, Reject txn attempt dm class ts) t s e = absurd (cc)
-committed_from h (k, Apply txn class dm ts) t s e = absurd (cc)
-committed_from h (k, Pass class dm time) t s e = absurd (cc)
-committed_from h (k, Nothing) t s e = absurd (cc)
+committed_from h x t s e = grind (arith, find_from, from_attempts)
 
 pub from_committed : (h : History) (t : Committed) → Contains (committed h) t → IsCommitted h t
 from_committed h t m =

@@ -1,5 +1,5 @@
 -- Groups, one pair after the other.
-use Rattle.sdd_order.proofs.All.{List, None, [], ap, append-nil, arith, cases_eq, chain_after, chains, cond, drop, drop_all, eq-eqb, filter, filter-append, flat_map, get_or, get_or as slice_index_or, get_or-map, get_or-map-range_with_len, get_or-set_other, get_or-set_same, group, groups, inl, inr, length, length-map, length-map-range_with_len, length-set, map, map-set, ne_eqb, range_with_len, refl, replicate, same_lists, slice_set, slice_set as set, subst, suc, sym, take, take_more, zero, ℕ, ◌++◌, ◌+◌, ◌<◌, ◌==◌, ◌∙◌, ◌∷◌, ◌≡◌, ◌≤◌}
+use Rattle.sdd_order.proofs.All.{List, None, [], ap, append-nil, arith, cases_eq, chain_after, chains, drop, drop_all, filter-append, flat_map, get_or, get_or as slice_index_or, get_or-map, get_or-map-range_with_len, get_or-set_other, get_or-set_same, group, groups, inl, inr, length, length-map, length-map-range_with_len, length-set, map, map-set, range_with_len, refl, replicate, same_lists, slice_set, slice_set as set, subst, suc, sym, take, take_more, zero, ℕ, ◌++◌, ◌+◌, ◌<◌, ◌∙◌, ◌∷◌, ◌≡◌, ◌≤◌}
 
 map-push : {X Y : Type 0} (f : X → Y) (xs : List X) (x : X) → map f (xs ++ x ∷ []) ≡ map f xs ++ f x ∷ []
 map-push f [] x = refl
@@ -7,17 +7,11 @@ map-push f (y ∷ xs) x = ap (λ z. f y ∷ z) (map-push f xs x)
 
 -- a pair more is one number more of its key
 group_here : (pairs : List (ℕ × ℕ)) (key number : ℕ) → group (pairs ++ (key, number) ∷ []) key ≡ group pairs key ++ number ∷ []
-group_here pairs key number =
-    ap (map (λ p. p.1)) (filter-append (λ p. p.0 == key) pairs ((key, number) ∷ []))
-    ∙ ap (λ b. map (λ (p : ℕ × ℕ). p.1) (filter (λ p. p.0 == key) pairs ++ cond b ((key, number) ∷ []) [])) (eq-eqb key key refl)
-    ∙ map-push (λ (p : ℕ × ℕ). p.1) (filter (λ p. p.0 == key) pairs) (key, number)
+group_here pairs key number = grind (arith, filter-append, map-push)
 
 group_other : (pairs : List (ℕ × ℕ)) (key number other : ℕ) → (key ≡ other → ⊥)
     → group (pairs ++ (key, number) ∷ []) other ≡ group pairs other
-group_other pairs key number other n =
-    ap (map (λ p. p.1)) (filter-append (λ p. p.0 == other) pairs ((key, number) ∷ []))
-    ∙ ap (λ b. map (λ (p : ℕ × ℕ). p.1) (filter (λ p. p.0 == other) pairs ++ cond b ((key, number) ∷ []) [])) (ne_eqb key other n)
-    ∙ ap (map (λ p. p.1)) (append-nil (filter (λ p. p.0 == other) pairs))
+group_other pairs key number other n = grind (arith, filter-append, append-nil)
 
 pub group_at : (pairs : List (ℕ × ℕ)) (count i : ℕ) (d : List ℕ) → i < count → get_or (groups pairs count) i d ≡ group pairs i
 group_at pairs count i d l = get_or-map-range_with_len (group pairs) 0 count i i d l (omega arith)
@@ -103,8 +97,4 @@ pub chains_of : {V : Type 0} (items : V → List ℕ) (slice lists : List V) (no
     → slice ≡ lists → map items lists ≡ now → length slice ≤ i
     → after ++ flat_map (λ v. chain_after None (items v)) (drop i slice) ≡ before ++ flat_map (λ v. chain_after None (items v)) slice
     → after ≡ before ++ chains now
-chains_of items slice lists now i before after same seen past e =
-    sym (append-nil after)
-    ∙ ap (λ l. after ++ flat_map (λ v. chain_after None (items v)) l) (sym (drop_all i slice past))
-    ∙ e ∙ ap (λ l. before ++ flat_map (λ v. chain_after None (items v)) l) same
-    ∙ ap (λ l. before ++ l) (over_map items lists) ∙ ap (λ l. before ++ chains l) seen
+chains_of items slice lists now i before after same seen past e = grind (arith, append-nil, drop_all, over_map)

@@ -1,5 +1,5 @@
 -- Where a test ends to hold, found by halves.
-use Rattle.sdd_order.proofs.All.{Bool, ap, arith, cases_Bool, cases_eq, cond, end_of, false, inl, inr, lt-ltb, ltb-false, ltb-true, nat_lt, refl, subst, suc, sym, true, zero, ℕ, ◌+◌, ◌-◌, ◌/◌, ◌<◌, ◌∙◌, ◌≡◌, ◌≤◌}
+use Rattle.sdd_order.proofs.All.{Bool, ap, arith, cases_Bool, cases_eq, cond, end_of, false, inl, inr, ltb-false, ltb-true, nat_lt, refl, subst, suc, sym, true, zero, ℕ, ◌+◌, ◌-◌, ◌/◌, ◌<◌, ◌∙◌, ◌≡◌, ◌≤◌}
 
 half_below : (n : ℕ) → 0 < n → n / 2 < n
 half_below n l = omega arith
@@ -9,19 +9,11 @@ middle_below low high l = let h = half_below (high - low) (omega arith) in omega
 
 module _ (p : ℕ → Bool) where
   past : (n low high : ℕ) → high ≤ low → end_of p n low high ≡ low
-  past zero low high l = refl
-  past (suc n) low high l =
-      let middle : ℕ = low + (high - low) / 2 in
-      ap (λ b. cond b (cond (p middle) (end_of p n (middle + 1) high) (end_of p n low middle)) low) (ltb-not low high l)
-    where
-      ltb-not : (a b : ℕ) → b ≤ a → nat_lt a b ≡ false
-      ltb-not a b l = elim (cases_Bool (nat_lt a b)) [ inl t ↦ absurd (let m : a < b = ltb-true a b t in omega arith) | inr f ↦ f ]
+  past n low high l = grind arith
 
   open_by : (n low high : ℕ) → nat_lt low high ≡ true → end_of p (suc n) low high
       ≡ cond (p (low + (high - low) / 2)) (end_of p n (low + (high - low) / 2 + 1) high) (end_of p n low (low + (high - low) / 2))
-  open_by n low high t =
-      let middle : ℕ = low + (high - low) / 2 in
-      ap (λ b. cond b (cond (p middle) (end_of p n (middle + 1) high) (end_of p n low middle)) low) t
+  open_by n low high t = cc
 
   -- that many halvings are enough
   same_end : (n m low high : ℕ) → high - low ≤ n → high - low ≤ m → end_of p n low high ≡ end_of p m low high
@@ -55,10 +47,7 @@ module _ (p : ℕ → Bool) where
       let n : ℕ = high - low - 1 in
       let long : high - low ≡ suc n = omega arith in
       let below = middle_below low high l in
-      ap (λ k. end_of p k low high) long
-      ∙ open_by n low high (lt-ltb low high l)
-      ∙ ap (λ k. cond (p middle) k (end_of p n low middle)) (same_end n (high - (middle + 1)) (middle + 1) high (omega arith) (omega arith))
-      ∙ ap (λ k. cond (p middle) (upper low high) k) (same_end n (middle - low) low middle (omega arith) (omega arith))
+      grind (arith, same_end)
 
   -- one halving
   pub end_above : (low high : ℕ) → low < high → p (low + (high - low) / 2) ≡ true

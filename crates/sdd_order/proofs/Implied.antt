@@ -1,5 +1,5 @@
 -- Each link is a precedence.
-use Rattle.sdd_order.proofs.All.{AreMarks, Bool, Catalogue, Committed, Contains, History, IsCommitted, IsOrderable, List, Marks, None, Some, and_from, ap, arith, changes, eq-eqb, eqb-true, false, fragments_in, get, get_or as slice_index_or, has_seen, is_answer, is_apply, is_below, is_earlier, is_overwritten, is_read_by, list_any, lt-ltb, misses, module_of, nat_lt, ne_eqb, not, or_left, or_right, precedes, sees, slice_get, sym, triple_cmp, true, was_seen, ℕ, ◌&&◌, ◌-◌, ◌<◌, ◌==◌, ◌||◌, ◌∙◌, ◌≡◌, ◌≢◌}
+use Rattle.sdd_order.proofs.All.{AreMarks, Bool, Catalogue, Committed, Contains, History, IsCommitted, IsOrderable, List, Marks, None, Some, and_from, ap, arith, changes, eqb-true, false, fragments_in, get_or as slice_index_or, has_seen, is_earlier, is_overwritten, is_read_by, list_any, lt-ltb, misses, module_of, nat_lt, not, precedes, rules, sees, slice_get, sym, true, was_seen, ℕ, ◌&&◌, ◌-◌, ◌<◌, ◌==◌, ◌||◌, ◌∙◌, ◌≡◌, ◌≢◌}
 use Rattle.sdd_order.proofs.Members.{passes_member, member_passes}
 use Rattle.sdd_order.proofs.Firsts.{comes_before_is}
 use Rattle.sdd_order.proofs.Serial.{one_txn}
@@ -13,15 +13,12 @@ overwrites x y f a b l =
     (passes_member (λ c. changes y c.frag.0) x.changes r.0 r.1 (ap (changes y) frag ∙ b)) (lt-ltb x.start.ts y.start.ts l)
 
 pub goes_before : (x y : Committed) → x.start.class ≡ y.start.class → x.start.ts < y.start.ts → is_earlier x y ≡ true
-goes_before x y e l =
-    and_from (x.start.class == y.start.class) (nat_lt x.start.ts y.start.ts) (eq-eqb x.start.class y.start.class e) (lt-ltb x.start.ts y.start.ts l)
+goes_before x y e l = grind arith
 
 module _ (cat : Catalogue) (h : History) where
   pub reads_from : (x y : Committed) (f : ℕ) → Contains (fragments_in y.start.uses) f → changes x f ≡ true
       → was_seen h x (module_of cat y.start.class f) y ≡ true → is_read_by cat h x y ≡ true
-  reads_from x y f c b s =
-      passes_member (λ g. changes x g && was_seen h x (module_of cat y.start.class g) y) (fragments_in y.start.uses) f c
-      (and_from (changes x f) (was_seen h x (module_of cat y.start.class f) y) b s)
+  reads_from x y f c b s = search (rules, passes_member, and_from)
 
   pub misses_it : (x y : Committed) (f : ℕ) → Contains (fragments_in x.start.uses) f → changes y f ≡ true
       → was_seen h y (module_of cat x.start.class f) x ≡ false → misses cat h x y ≡ true
@@ -31,30 +28,20 @@ module _ (cat : Catalogue) (h : History) where
 
   by_kind : (x y : Committed) → x.start.txn ≢ y.start.txn
       → ((is_earlier x y || is_overwritten x y) || (misses cat h x y || is_read_by cat h x y)) ≡ true → precedes cat h x y ≡ true
-  by_kind x y d e =
-      and_from (not (x.start.txn == y.start.txn)) ((is_earlier x y || is_overwritten x y) || (misses cat h x y || is_read_by cat h x y))
-      (ap not (ne_eqb x.start.txn y.start.txn d)) e
+  by_kind x y d e = grind arith
 
   module _ (x y : Committed) (d : x.start.txn ≢ y.start.txn) where
     pub by_class_order : is_earlier x y ≡ true → precedes cat h x y ≡ true
-    by_class_order e =
-        by_kind x y d (or_left (is_earlier x y || is_overwritten x y) (misses cat h x y || is_read_by cat h x y)
-        (or_left (is_earlier x y) (is_overwritten x y) e))
+    by_class_order e = grind arith
 
     pub by_writing : is_overwritten x y ≡ true → precedes cat h x y ≡ true
-    by_writing e =
-        by_kind x y d (or_left (is_earlier x y || is_overwritten x y) (misses cat h x y || is_read_by cat h x y)
-        (or_right (is_earlier x y) (is_overwritten x y) e))
+    by_writing e = grind arith
 
     pub by_missing : misses cat h x y ≡ true → precedes cat h x y ≡ true
-    by_missing e =
-        by_kind x y d (or_right (is_earlier x y || is_overwritten x y) (misses cat h x y || is_read_by cat h x y)
-        (or_left (misses cat h x y) (is_read_by cat h x y) e))
+    by_missing e = grind arith
 
     pub by_reading : is_read_by cat h x y ≡ true → precedes cat h x y ≡ true
-    by_reading e =
-        by_kind x y d (or_right (is_earlier x y || is_overwritten x y) (misses cat h x y || is_read_by cat h x y)
-        (or_right (misses cat h x y) (is_read_by cat h x y) e))
+    by_reading e = grind arith
 
 -- The transactions of an orderable history in the order of their timestamps.
 pub record AreInOrder (h : History) (txns : List Committed) : Type 0 where
@@ -82,12 +69,7 @@ module _ (cat : Catalogue) (h : History) (o : IsOrderable cat h) (marks : Marks)
       absurd (cc)
 
   pub sees_is : (w : Committed) (d : ℕ) (t : Committed) → sees marks w.start.txn d t.start.txn t.start.number ≡ was_seen h w d t
-  sees_is w d t =
-      let p = is_apply w.start.txn d in
-      let q = is_answer t.start.txn t.start.number d in
-      ap (λ z. is_below z (get triple_cmp marks.answered (t.start.txn, t.start.number, d))) (are.applied w.start.txn d)
-      ∙ ap (is_below _) (are.answered t.start.txn t.start.number d)
-      ∙ sym (comes_before_is p q h)
+  sees_is w d t = grind (arith, comes_before_is)
 
   pub seen_is : (d : ℕ) (t : Committed) (writers : List ℕ) (k : ℕ) (w : Committed) → slice_get txns (slice_index_or writers k 0) ≡ Some w
       → has_seen marks txns d t writers k ≡ was_seen h w d t

@@ -1,5 +1,5 @@
 -- The committed transactions, sorted by their timestamps.
-use Rattle.sdd_order.proofs.All.{All-contains, All-contains_itself, All-permutation, AllByRecursion, Answer, Apply, Arrive, Attempt, Bool, Catalogue, Commit, Committed, Contains, Contains-cases, Contains-here, Contains-later, Contains-nil, History, IsCommitted, IsDistinct-IsPermutation, IsDistinct-cons, IsDistinct-head, IsDistinct-tail, IsNonDecreasingBy, IsOrderable, IsPermutation, IsPermutation-sym, List, None, Nothing, Option, Pass, Rec, Reject, Some, Start, Submit, Wait, [], ap, arith, attempts, cases_eq, committed, committed_of, cons_option, eq-eqb, false, filter_map, find, get_or, inl, inr, is_attempt_of, length, ne_eqb, option_map, placed, refl, same_Some, slice_get, subst, suc, sym, true, zero, ℕ, ◌<◌, ◌==◌, ◌∙◌, ◌∷◌, ◌≡◌, ◌≤◌}
+use Rattle.sdd_order.proofs.All.{All-contains, All-contains_itself, All-permutation, AllByRecursion, Attempt, Bool, Catalogue, Committed, Contains, Contains-cases, Contains-here, Contains-later, Contains-nil, History, IsCommitted, IsDistinct-IsPermutation, IsDistinct-cons, IsDistinct-head, IsDistinct-tail, IsNonDecreasingBy, IsOrderable, IsPermutation, IsPermutation-sym, List, None, Rec, Some, [], ap, arith, attempts, cases_eq, committed, committed_of, cons_option, eq-eqb, false, filter_map, get_or, inl, inr, length, ne_eqb, placed, refl, same_Some, slice_get, subst, suc, sym, true, zero, ℕ, ◌<◌, ◌==◌, ◌∙◌, ◌∷◌, ◌≡◌, ◌≤◌}
 use Rattle.std.specs.List.{IsDistinct}
 use Rattle.sdd_order.proofs.Found.{from_committed}
 use Rattle.sdd_order.proofs.Implied.{AreInOrder}
@@ -21,21 +21,7 @@ each P (y ∷ xs) a x m = elim (Contains-cases y xs x m) [ inl e ↦ subst P (sy
 
 -- a committed transaction has the place of its Commit
 committed_place : (starts : List Attempt) (k : ℕ) (r : Rec) (c : Committed) → committed_of starts (k, r) ≡ Some c → c.place ≡ k
-committed_place starts k (Commit txn attempt reply changes values rows) c e = found (find (is_attempt_of txn.0 attempt) starts) e
-  where
-    found : (o : Option Attempt) → option_map (λ s. record { start = s; reply = reply; changes = changes; values = values; rows = rows; place = k }) o ≡ Some c
-        → c.place ≡ k
-    found None f = absurd (cc)
-    found (Some s) f = sym (ap (λ (t : Committed). t.place) (same_Some _ c f))
-committed_place starts k (Submit txn) c e = absurd (cc)
-committed_place starts k (Start txn attempt class ts p2 uses) c e = absurd (cc)
-committed_place starts k (Arrive txn attempt dm) c e = absurd (cc)
-committed_place starts k (Wait txn attempt dm conds) c e = absurd (cc)
-committed_place starts k (Answer txn attempt dm) c e = absurd (cc)
-committed_place starts k (Reject txn attempt dm class ts) c e = absurd (cc)
-committed_place starts k (Apply txn class dm ts) c e = absurd (cc)
-committed_place starts k (Pass class dm time) c e = absurd (cc)
-committed_place starts k Nothing c e = absurd (cc)
+committed_place starts k r c e = grind arith
 
 later_place : (starts : List Attempt) (k : ℕ) (h : History) (c : Committed) → Contains (filter_map (committed_of starts) (placed k h)) c → k ≤ c.place
 later_place starts k [] c m = absurd (Contains-nil c m)

@@ -129,14 +129,4 @@ counts_are (l ∷ links) left counts i all =
     (All-tail (λ l. Contains left l.0 × (l.1 < length counts)) l links all)) in
     let in_it : is_in left l.0 ≡ true = is_in_true left l.0 here.0 in
     let counts_l : one (is_in left l.0 && (l.1 == i)) ≡ one (l.1 == i) = ap (λ b. one (b && (l.1 == i))) in_it in
-    elim (cases_eq l.1 i) [
-      | inl e ↦
-          let first : one (l.1 == i) ≡ 1 = ap (λ b. one b) (eq-eqb l.1 i e) in
-          let new : at_node more i ≡ at_node counts i + 1 =
-          ap (λ j. at_node more j) (sym e) ∙ get_or-set_same counts l.1 (at_node counts l.1 + 1) 0 here.1 ∙ ap (λ j. at_node counts j + 1) e in
-          omega (arith, rest, counts_l, first, new)
-      | inr n ↦
-          let none : one (l.1 == i) ≡ 0 = ap (λ b. one b) (ne_eqb l.1 i n) in
-          let old : at_node more i ≡ at_node counts i = get_or-set_other counts l.1 i (at_node counts l.1 + 1) 0 (λ e. n (sym e)) in
-          omega (arith, rest, counts_l, none, old)
-    ]
+    grind (arith, get_or-set_same, get_or-set_other)

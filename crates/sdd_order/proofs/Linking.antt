@@ -1,28 +1,20 @@
 -- The links of one reader, as they are found.
-use Rattle.sdd_order.proofs.All.{Catalogue, Committed, DmNo, FragNo, Groups, List, Marks, None, Option, Some, Use, [], ap, changes, cond, dm_no, end_of, false, flat_map, flat_map-append, fragment_links, fragments_in, get_or as slice_index_or, has_seen, length, links_at, map, module_of, option_map, refl, sym, true, unwrap_or, ℕ, ◌++◌, ◌∙◌, ◌∷◌, ◌≡◌}
+use Rattle.sdd_order.proofs.All.{Catalogue, Committed, DmNo, FragNo, Groups, List, Marks, Option, Use, [], ap, changes, dm_no, end_of, false, flat_map, flat_map-append, fragment_links, fragments_in, get_or as slice_index_or, has_seen, length, links_at, map, module_of, option_map, refl, rules, true, unwrap_or, ℕ, ◌++◌, ◌∷◌, ◌≡◌}
 
 -- a module that may not be there
 pub number_or : (o : Option DmNo) → (unwrap_or o (dm_no 0)).0 ≡ unwrap_or (option_map (λ d. d.0) o) 0
-number_or None = refl
-number_or (Some d) = refl
+number_or o = search rules
 
 -- a reader that doesn't change the fragment
 pub fragment_links_are : (cat : Catalogue) (marks : Marks) (txns : List Committed) (writers : Groups) (reader : ℕ) (t : Committed) (f d k : ℕ)
     (of_f : List ℕ) → changes t f ≡ false → d ≡ module_of cat t.start.class f → of_f ≡ slice_index_or writers f []
     → k ≡ end_of (has_seen marks txns d t of_f) (length of_f) 0 (length of_f)
     → links_at of_f reader k ≡ fragment_links cat marks txns writers (reader, t) f
-fragment_links_are cat marks txns writers reader t f d k of_f unchanged at there is =
-    let found : ℕ → List ℕ → ℕ = λ m l. end_of (has_seen marks txns m t l) (length l) 0 (length l) in
-    ap (links_at of_f reader) (is ∙ ap (λ m. found m of_f) at)
-    ∙ ap (λ l. links_at l reader (found (module_of cat t.start.class f) l)) there
-    ∙ ap (λ b. cond b [] (links_at (slice_index_or writers f []) reader (found (module_of cat t.start.class f) (slice_index_or writers f []))))
-    (sym unchanged)
+fragment_links_are cat marks txns writers reader t f d k of_f unchanged at there is = cc
 
 pub no_fragment_links : (cat : Catalogue) (marks : Marks) (txns : List Committed) (writers : Groups) (reader : ℕ) (t : Committed) (f : ℕ)
     → changes t f ≡ true → [] ≡ fragment_links cat marks txns writers (reader, t) f
-no_fragment_links cat marks txns writers reader t f changed =
-    let found : ℕ → List ℕ → ℕ = λ m l. end_of (has_seen marks txns m t l) (length l) 0 (length l) in
-    ap (λ b. cond b [] (links_at (slice_index_or writers f []) reader (found (module_of cat t.start.class f) (slice_index_or writers f [])))) (sym changed)
+no_fragment_links cat marks txns writers reader t f changed = cc
 
 -- fragment by fragment, and use by use
 over_frags : {A : Type 0} (g : ℕ → List A) (frags : List FragNo) → flat_map g (map (λ f. f.0) frags) ≡ flat_map (λ f. g f.0) frags
@@ -31,7 +23,4 @@ over_frags g (f ∷ frags) = ap (λ l. g f.0 ++ l) (over_frags g frags)
 
 pub over_uses : {A : Type 0} (g : ℕ → List A) (uses : List Use) → flat_map (λ u. flat_map (λ f. g f.0) u.frags) uses ≡ flat_map g (fragments_in uses)
 over_uses g [] = refl
-over_uses g (u ∷ uses) =
-    ap (λ l. l ++ flat_map (λ v. flat_map (λ f. g f.0) v.frags) uses) (sym (over_frags g u.frags))
-    ∙ ap (λ l. flat_map g (map (λ f. f.0) u.frags) ++ l) (over_uses g uses)
-    ∙ sym (flat_map-append g (map (λ f. f.0) u.frags) (fragments_in uses))
+over_uses g (u ∷ uses) = search (rules, over_frags, flat_map-append, over_uses g uses)

@@ -1,7 +1,6 @@
 -- Where transactions were applied and answered, one record after the other.
-use Rattle.sdd_order.proofs.All.{Answer, Answered, Applied, Apply, Arrive, Bool, Commit, History, None, Nothing, Option, Pass, Rec, Reject, Some, Start, Submit, Wait, and_parts, answer_key, ap, apply_key, cases_Bool, cond, eqb-true, false, first_place, get_or, inl, inr, is_answer, is_apply, is_at, is_eq, is_some, last_place, length, nat_cmp, option_or, pair_cmp, refl, subst, sym, take, triple_cmp, true, ℕ, ◌&&◌, ◌+◌, ◌<◌, ◌==◌, ◌∙◌, ◌≡◌}
+use Rattle.sdd_order.proofs.All.{Answered, Applied, Bool, History, None, Option, Rec, Some, answer_key, ap, apply_key, cases_Bool, cond, false, first_place, get_or, inl, inr, is_answer, is_apply, is_at, is_some, last_place, length, option_or, pair_cmp, refl, rules, subst, sym, take, triple_cmp, true, ℕ, ◌+◌, ◌<◌, ◌∙◌, ◌≡◌}
 use Rattle.sdd_order.proofs.Firsts.{first_more, last_more}
-use Rattle.sdd_order.proofs.Reading.{is_eq_nat, is_eq_then, same_pair}
 
 -- a record of a key passes the tests of that key
 abbrev pub passes_by : {K : Type 0} → (K → K → Bool) → Option K → K → Bool
@@ -9,46 +8,13 @@ passes_by same None k = false
 passes_by same (Some j) k = same j k
 
 apply_passes_by : (k : ℕ × ℕ) (r : Rec) → is_apply k.0 k.1 r ≡ passes_by (λ a b. is_at (pair_cmp a) b) (apply_key r) k
-apply_passes_by k (Apply txn class dm ts) = sym (same_pair (txn.0, dm.0) k)
-apply_passes_by k (Submit txn) = refl
-apply_passes_by k (Start txn attempt class ts p2 uses) = refl
-apply_passes_by k (Arrive txn attempt dm) = refl
-apply_passes_by k (Wait txn attempt dm conds) = refl
-apply_passes_by k (Answer txn attempt dm) = refl
-apply_passes_by k (Reject txn attempt dm class ts) = refl
-apply_passes_by k (Commit txn attempt reply changes values rows) = refl
-apply_passes_by k (Pass class dm time) = refl
-apply_passes_by k Nothing = refl
-
-same_triple : (a b : ℕ × ℕ × ℕ) → is_at (triple_cmp a) b ≡ ((a.0 == b.0) && ((a.1 == b.1) && (a.2 == b.2)))
-same_triple a b =
-    is_eq_then (pair_cmp (a.0, a.1) (b.0, b.1)) (nat_cmp a.2 b.2)
-    ∙ ap (λ z. z && is_eq (nat_cmp a.2 b.2)) (same_pair (a.0, a.1) (b.0, b.1))
-    ∙ ap (λ z. ((a.0 == b.0) && (a.1 == b.1)) && z) (is_eq_nat a.2 b.2)
-    ∙ and_in (a.0 == b.0) (a.1 == b.1) (a.2 == b.2)
-  where
-    and_in : (x y z : Bool) → ((x && y) && z) ≡ (x && (y && z))
-    and_in true y z = refl
-    and_in false y z = refl
+apply_passes_by k r = search rules
 
 answer_passes_by : (k : ℕ × ℕ × ℕ) (r : Rec) → is_answer k.0 k.1 k.2 r ≡ passes_by (λ a b. is_at (triple_cmp a) b) (answer_key r) k
-answer_passes_by k (Answer txn attempt dm) = sym (same_triple (txn.0, attempt, dm.0) k)
-answer_passes_by k (Submit txn) = refl
-answer_passes_by k (Start txn attempt class ts p2 uses) = refl
-answer_passes_by k (Arrive txn attempt dm) = refl
-answer_passes_by k (Wait txn attempt dm conds) = refl
-answer_passes_by k (Reject txn attempt dm class ts) = refl
-answer_passes_by k (Commit txn attempt reply changes values rows) = refl
-answer_passes_by k (Apply txn class dm ts) = refl
-answer_passes_by k (Pass class dm time) = refl
-answer_passes_by k Nothing = refl
+answer_passes_by k r = search rules
 
 same_pair_is : (a b : ℕ × ℕ) → is_at (pair_cmp a) b ≡ true → a ≡ b
-same_pair_is a b e =
-    let both = and_parts (a.0 == b.0) (a.1 == b.1) (sym (same_pair a b) ∙ e) in
-    let first : a.0 ≡ b.0 = eqb-true a.0 b.0 both.0 in
-    let second : a.1 ≡ b.1 = eqb-true a.1 b.1 both.1 in
-    ap (λ (x : ℕ). (x, a.1)) first ∙ ap (λ (y : ℕ). (b.0, y)) second
+same_pair_is a b e = search rules
 
 -- Of each key the place of the first record, or of the last, in a map.
 module _ {K : Type 0} (same : K → K → Bool) (key : Rec → Option K) (test : K → Rec → Bool)
@@ -62,40 +28,16 @@ module _ {K : Type 0} (same : K → K → Bool) (key : Rec → Option K) (test :
   module _ (h : History) (i : ℕ) (e : ℕ × Rec) (within : i < length h) (there : e ≡ get_or h i e) (made new : K → Option ℕ) where
     first_with : (o : Option K) → key e.1 ≡ o → First made (take i h)
         → ((k : K) → new k ≡ option_or (made k) (cond (passes_by same o k) (Some i) None)) → First new (take (i + 1) h)
-    first_with o is old with k =
-        with k ∙ ap (λ p. option_or p (cond (passes_by same o k) (Some i) None)) (old k)
-        ∙ sym (first_more (test k) h i e within there
-        ∙ ap (λ b. option_or (first_place (test k) (take i h)) (cond b (Some i) None)) (by k e.1 ∙ ap (λ p. passes_by same p k) is))
+    first_with o is old with k = search (rules, first_more)
 
     last_with : (o : Option K) → key e.1 ≡ o → Last made (take i h)
         → ((k : K) → new k ≡ cond (passes_by same o k) (Some i) (made k)) → Last new (take (i + 1) h)
-    last_with o is old with k =
-        with k ∙ ap (λ p. cond (passes_by same o k) (Some i) p) (old k)
-        ∙ sym (last_more (test k) h i e within there
-        ∙ ap (λ b. cond b (Some i) (last_place (test k) (take i h))) (by k e.1 ∙ ap (λ p. passes_by same p k) is))
+    last_with o is old with k = search (rules, last_more)
 
     -- a key that the map didn't have
     first_new : (j : K) → key e.1 ≡ Some j → is_some (made j) ≡ false → ((a b : K) → same a b ≡ true → a ≡ b)
         → ((k : K) → new k ≡ cond (same j k) (Some i) (made k)) → First made (take i h) → First new (take (i + 1) h)
-    first_new j is absent equal updates old =
-        first_with (Some j) is old
-        (λ k. elim (cases_Bool (same j k)) [
-          | inl t ↦
-              let none : is_some (made k) ≡ false = subst (λ z. is_some (made z) ≡ false) (equal j k t) absent in
-              updates k ∙ ap (λ b. cond b (Some i) (made k)) t
-              ∙ sym (ap (λ b. option_or (made k) (cond b (Some i) None)) t ∙ second (made k) (Some i) none)
-          | inr f ↦
-              updates k ∙ ap (λ b. cond b (Some i) (made k)) f
-              ∙ sym (ap (λ b. option_or (made k) (cond b (Some i) None)) f ∙ or_none (made k))
-        ])
-      where
-        second : (o p : Option ℕ) → is_some o ≡ false → option_or o p ≡ p
-        second None p e = refl
-        second (Some x) p e = absurd (cc)
-
-        or_none : (o : Option ℕ) → option_or o None ≡ o
-        or_none None = refl
-        or_none (Some x) = refl
+    first_new j is absent equal updates old = search (rules, first_with)
 
     last_new : (j : K) → key e.1 ≡ Some j → ((k : K) → new k ≡ cond (same j k) (Some i) (made k))
         → Last made (take i h) → Last new (take (i + 1) h)

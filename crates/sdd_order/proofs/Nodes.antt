@@ -1,5 +1,5 @@
 -- The transactions by their places, their classes, and the fragments that they change.
-use Rattle.sdd_order.proofs.All.{Change, Committed, Contains, Contains-append_cases, Contains-cases, Contains-here, Contains-later, Contains-nil, List, Some, [], ap, arith, by_class, by_fragment, changes, enumerate_from, eq-eqb, eqb-true, flat_map, inl, inr, map, same_Some, slice_get, subst, suc, sym, true, zero, ℕ, ◌++◌, ◌+◌, ◌==◌, ◌∷◌, ◌≡◌, ◌≤◌}
+use Rattle.sdd_order.proofs.All.{Change, Committed, Contains, Contains-append_cases, Contains-cases, Contains-later, Contains-nil, List, Some, [], ap, arith, by_class, by_fragment, changes, enumerate_from, eq-eqb, eqb-true, flat_map, inl, inr, map, slice_get, subst, suc, sym, true, zero, ℕ, ◌++◌, ◌+◌, ◌==◌, ◌∷◌, ◌≡◌, ◌≤◌}
 use Rattle.sdd_order.proofs.Chained.{NumbersRise}
 use Rattle.sdd_order.proofs.Members.{Contains-map, Contains-from_map, Contains-flat_map, Contains-from_flat_map, passes_member, member_passes}
 
@@ -21,10 +21,7 @@ enumerated (x ∷ xs) n p c =
 
 in_enumerated : {X : Type 0} (xs : List X) (n k : ℕ) (x : X) → slice_get xs k ≡ Some x → Contains (enumerate_from n xs) (n + k, x)
 in_enumerated [] n k x e = absurd (cc)
-in_enumerated (y ∷ xs) n zero x e =
-    let same : n ≡ n + 0 = omega arith in
-    subst (λ (j : ℕ). Contains (enumerate_from n (y ∷ xs)) (j, x)) same
-    (subst (λ z. Contains (enumerate_from n (y ∷ xs)) (n, z)) (same_Some y x e) (Contains-here (n, y) (enumerate_from (n + 1) xs)))
+in_enumerated (y ∷ xs) n zero x e = grind arith
 in_enumerated (y ∷ xs) n (suc k) x e =
     let same : n + 1 + k ≡ n + suc k = omega arith in
     Contains-later (n, y) (enumerate_from (n + 1) xs) (n + suc k, x)

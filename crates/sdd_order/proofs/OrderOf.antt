@@ -1,5 +1,5 @@
 -- With the links counted, the nodes are taken in their order.
-use Rattle.sdd_order.proofs.All.{All, All-contains, All-map, All-weaker, Bool, Contains, Contains-cases, Contains-here, Contains-later, Contains-nil, Front, Groups, Links, List, None, Some, [], ap, arith, at_node, cases_eq, cond, counted, earliest, eq-eqb, eqb-true, filter, first_ready, fold, get_or as slice_index_or, get_or-replicate, get_or-set_other, get_or-set_same, group, groups, has_link, inl, inr, insert_key, is_ready, length, length-replicate, length-set, link_counts, nat_cmp, ne_eqb, nodes, order_of, refl, released, replicate, subst, suc, sym, taken, taking, zero, ℕ, ◌+◌, ◌-◌, ◌<◌, ◌==◌, ◌∙◌, ◌∷◌, ◌≡◌}
+use Rattle.sdd_order.proofs.All.{All, All-contains, All-map, Bool, Contains, Contains-cases, Contains-here, Contains-later, Contains-nil, Front, Groups, Links, List, None, Some, [], ap, arith, at_node, cases_eq, cond, counted, earliest, eq-eqb, eqb-true, filter, first_ready, fold, get_or as slice_index_or, get_or-replicate, get_or-set_other, get_or-set_same, group, groups, has_link, inl, inr, insert_key, is_ready, length, length-replicate, length-set, link_counts, nat_cmp, ne_eqb, nodes, order_of, refl, released, replicate, subst, suc, sym, taken, taking, zero, ℕ, ◌+◌, ◌-◌, ◌<◌, ◌==◌, ◌∙◌, ◌∷◌, ◌≡◌}
 use Rattle.sdd_order.proofs.Ascending.{Ascending, insert_is, insert_has, ascending_insert, ascending_passing, from_range}
 use Rattle.sdd_order.proofs.Grouped.{group_at, groups_long}
 use Rattle.sdd_order.proofs.LinkedOrders.{one, led, times, without_node, none_led, led_none, led_without, counts_are}
@@ -193,8 +193,7 @@ module _ (links : Links) (count : ℕ) where
   taking_is : (n : ℕ) (left counts ready : List ℕ) → Left left → Counted left [] (counts, ready)
       → taking (groups links count) n counts ready ≡ taken (has_link links) (λ i. i) n left
   taking_is zero left counts ready of c = refl
-  taking_is (suc n) left counts [] of c =
-      sym (ap (λ o. elim o as (λ p. List ℕ) [ None ↦ [] | Some y ↦ y ∷ taken (has_link links) (λ i. i) n (without_node y left) ]) (no_next left counts c))
+  taking_is (suc n) left counts [] of c = grind (arith, no_next)
   taking_is (suc n) left counts (x ∷ rest) of c =
       let front : Front = fold released (counts, rest) (group links x) in
       let after_x : slice_index_or (groups links count) x [] ≡ group links x = group_at links count x [] (of.within x (x_left left of counts x rest c)) in
@@ -222,9 +221,7 @@ module _ (links : Links) (count : ℕ) (ends : All (λ l. (l.0 < count) × (l.1 
   }
 
   from_nodes : (some : Links) → All (λ l. (l.0 < count) × (l.1 < count)) some → All (λ l. Contains (nodes count) l.0 × (l.1 < length (zeros count))) some
-  from_nodes some all =
-      All-weaker {X = ℕ × ℕ} (λ l. (l.0 < count) × (l.1 < count)) (λ l. Contains (nodes count) l.0 × (l.1 < length (zeros count)))
-      (λ l k. let a = k.0 in let b = k.1 in (Contains-range 0 count l.0 (omega arith) (omega arith), omega (arith, zeros_long count, b))) some all
+  from_nodes some all = grind (arith, Contains-range, zeros_long)
 
   pub counts_are_right : (i : ℕ) → i < count → at_node (link_counts links count) i ≡ led links (nodes count) i
   counts_are_right i l =
@@ -276,8 +273,7 @@ module _ (links : Links) (count : ℕ) (ends : All (λ l. (l.0 < count) × (l.1 
 
   pub ready_made : (counts ready : List ℕ) → counts ≡ link_counts links count → ready ≡ first_ready counts (length counts)
       → ready ≡ first_ready (link_counts links count) count
-  ready_made counts ready f g =
-      g ∙ ap (λ c. first_ready c (length c)) f ∙ ap (λ n. first_ready (link_counts links count) n) counts_long
+  ready_made counts ready f g = grind (arith, counts_long)
 
   -- and what it makes of them
   pub order_made : (after : Groups) (counts ready all : List ℕ) → after ≡ groups links count → counts ≡ link_counts links count
@@ -285,7 +281,4 @@ module _ (links : Links) (count : ℕ) (ends : All (λ l. (l.0 < count) × (l.1 
   order_made after counts ready all e f g h =
       let many : length after ≡ count = ap length e ∙ groups_long links count in
       let first = ready_made counts ready f g in
-      h ∙ ap (λ n. taking after n counts ready) many ∙ ap (λ a. taking a count counts ready) e
-      ∙ ap (λ c. taking (groups links count) count c ready) f
-      ∙ ap (λ r. taking (groups links count) count (link_counts links count) r) first
-      ∙ order_is
+      grind (arith, order_is)

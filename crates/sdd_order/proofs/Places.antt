@@ -1,12 +1,9 @@
 -- A record at a place is one record.
-use Rattle.sdd_order.proofs.All.{Attempt, ClassNo, Commit, Committed, HasCommit, History, IsAttempt, IsCommitted, IsRecordAt, Some, Start, Submit, Ts, TxnNo, ap, class_no, subst, sym, time_at, txn_no, ℕ, ◌∙◌, ◌≡◌}
+use Rattle.sdd_order.proofs.All.{Attempt, ClassNo, Commit, Committed, HasCommit, History, IsAttempt, IsCommitted, IsRecordAt, Some, Start, Submit, Ts, TxnNo, ap, class_no, rules, subst, sym, time_at, txn_no, ℕ, ◌∙◌, ◌≡◌}
 
 -- two Submits at one place are of one transaction
 pub one_submitted : (h : History) (n m k : ℕ) → IsRecordAt h k (Submit (txn_no n)) → IsRecordAt h k (Submit (txn_no m)) → n ≡ m
-one_submitted h n m k a b =
-    let e : Some (Submit (txn_no n)) ≡ Some (Submit (txn_no m)) = sym a ∙ b in
-    let t : txn_no n ≡ txn_no m = cc in
-    ap (λ (z : TxnNo). z.0) t
+one_submitted h n m k a b = search rules
 
 -- two Starts at one place are one
 pub record SameStart (a b : Attempt) : Type 0 where

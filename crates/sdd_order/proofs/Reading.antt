@@ -1,13 +1,11 @@
 -- The attempts and the committed transactions of a history, one record after the other.
-use Rattle.sdd_order.proofs.All.{Attempt, Equal, Greater, History, Less, List, None, Option, Ordering, Rec, Some, [], and_parts, ap, append-nil, arith, attempt_of, attempts, cases_Bool, cases_eq, cond, cons_option, eq-eqb, eqb-true, false, filter_map, filter_map-append, find, find-append, get_or, inl, inr, is_at, is_attempt_of, is_eq, is_some, length, nat_cmp, nat_cmp_is, ne_eqb, option_or, ordering_then, pair_cmp, placed, refl, subst, suc, sym, take, take_more, true, zero, ℕ, ◌&&◌, ◌++◌, ◌+◌, ◌<◌, ◌==◌, ◌∙◌, ◌∷◌, ◌≡◌, ◌⊎◌}
+use Rattle.sdd_order.proofs.All.{Attempt, History, List, None, Option, Ordering, Rec, Some, [], ap, append-nil, arith, attempt_of, attempts, cond, cons_option, eqb-true, false, filter_map, filter_map-append, find, find-append, get_or, is_at, is_attempt_of, is_eq, is_some, length, nat_cmp, option_or, ordering_then, pair_cmp, placed, refl, subst, suc, sym, take, take_more, true, zero, ℕ, ◌&&◌, ◌++◌, ◌+◌, ◌<◌, ◌==◌, ◌∙◌, ◌∷◌, ◌≡◌}
 
 -- one record more
 
 placed_end : (h : History) (k : ℕ) (e : ℕ × Rec) → placed k (h ++ e ∷ []) ≡ placed k h ++ (k + length h, e.1) ∷ []
 placed_end [] k e = let same : k ≡ k + 0 = omega arith in ap (λ (j : ℕ). (j, e.1) ∷ []) same
-placed_end (d ∷ h) k e =
-    let same : suc k + length h ≡ k + suc (length h) = omega arith in
-    ap (λ l. (k, d.1) ∷ l) (placed_end h (suc k) e ∙ ap (λ (j : ℕ). placed (suc k) h ++ (j, e.1) ∷ []) same)
+placed_end (d ∷ h) k e = grind (arith, placed_end h (suc k) e)
 
 pub placed_more : (h : History) (i : ℕ) (e : ℕ × Rec) → i < length h → e ≡ get_or h i e
     → placed 0 (take (i + 1) h) ≡ placed 0 (take i h) ++ (i, e.1) ∷ []
@@ -42,32 +40,13 @@ none_made f h i e old l is none o =
 
 -- pairs of numbers that the order doesn't tell apart are equal
 pub is_eq_nat : (m n : ℕ) → is_eq (nat_cmp m n) ≡ (m == n)
-is_eq_nat m n =
-    elim (cases_eq m n) [
-      | inl e ↦ ap is_eq (sym (nat_cmp_is m n Equal e)) ∙ sym (eq-eqb m n e)
-      | inr d ↦ elim (less_or_greater m n d) [
-        | inl l ↦ ap is_eq (sym (nat_cmp_is m n Less l)) ∙ sym (ne_eqb m n d)
-        | inr g ↦ ap is_eq (sym (nat_cmp_is m n Greater g)) ∙ sym (ne_eqb m n d)
-      ]
-    ]
-  where
-    less_or_greater : (m n : ℕ) → (m ≡ n → ⊥) → (m < n) ⊎ (n < m)
-    less_or_greater zero zero d = absurd (d refl)
-    less_or_greater zero (suc n) d = inl (omega arith)
-    less_or_greater (suc m) zero d = inr (omega arith)
-    less_or_greater (suc m) (suc n) d =
-        elim (less_or_greater m n (λ e. d (ap suc e))) [ inl l ↦ inl (omega arith) | inr l ↦ inr (omega arith) ]
+is_eq_nat m n = grind arith
 
 pub is_eq_then : (a b : Ordering) → is_eq (ordering_then a b) ≡ (is_eq a && is_eq b)
-is_eq_then Less b = refl
-is_eq_then Equal b = refl
-is_eq_then Greater b = refl
+is_eq_then a b = grind arith
 
 pub same_pair : (a b : ℕ × ℕ) → is_at (pair_cmp a) b ≡ ((a.0 == b.0) && (a.1 == b.1))
-same_pair a b =
-    is_eq_then (nat_cmp a.0 b.0) (nat_cmp a.1 b.1)
-    ∙ ap (λ z. z && is_eq (nat_cmp a.1 b.1)) (is_eq_nat a.0 b.0)
-    ∙ ap (λ z. (a.0 == b.0) && z) (is_eq_nat a.1 b.1)
+same_pair a b = grind arith
 
 -- the attempts that are found: what a map of them has
 abbrev pub Found : (ℕ → ℕ → Option Attempt) → History → Type 0
@@ -81,8 +60,7 @@ found_more h i e n k l is =
     ∙ find-append (is_attempt_of n k) (attempts (take i h)) (cons_option (attempt_of (i, e.1)) [])
 
 or_none : {X : Type 0} (o : Option X) → option_or o None ≡ o
-or_none None = refl
-or_none (Some x) = refl
+or_none o = grind arith
 
 -- a record that is no Start
 pub found_no_start : (h : History) (i : ℕ) (e : ℕ × Rec) (made : ℕ → ℕ → Option Attempt) → i < length h → e ≡ get_or h i e
@@ -93,13 +71,6 @@ found_no_start h i e made l is none old n k =
     ∙ ap (λ o. option_or (find (is_attempt_of n k) (attempts (take i h))) (find (is_attempt_of n k) (cons_option o []))) none
     ∙ or_none (find (is_attempt_of n k) (attempts (take i h))))
 
--- of an attempt: whether it is another
-other_attempt : (n k : ℕ) (a : Attempt) → is_attempt_of n k a ≡ false → find (is_attempt_of n k) (a ∷ []) ≡ None
-other_attempt n k a e = ap (λ b. cond b (Some a) None) e
-
-that_attempt : (n k : ℕ) (a : Attempt) → is_attempt_of n k a ≡ true → find (is_attempt_of n k) (a ∷ []) ≡ Some a
-that_attempt n k a e = ap (λ b. cond b (Some a) None) e
-
 -- a Start of an attempt that has one
 pub found_again : (h : History) (i : ℕ) (e : ℕ × Rec) (made : ℕ → ℕ → Option Attempt) (a : Attempt) → i < length h → e ≡ get_or h i e
     → attempt_of (i, e.1) ≡ Some a → is_some (made a.txn a.number) ≡ true → Found made (take i h) → Found made (take (i + 1) h)
@@ -107,20 +78,7 @@ found_again h i e made a l is some has old n k =
     let before = find (is_attempt_of n k) (attempts (take i h)) in
     let then : find (is_attempt_of n k) (attempts (take (i + 1) h)) ≡ option_or before (find (is_attempt_of n k) (a ∷ [])) =
     found_more h i e n k l is ∙ ap (λ o. option_or before (find (is_attempt_of n k) (cons_option o []))) some in
-    elim (cases_Bool (is_attempt_of n k a)) [
-      | inl t ↦
-          let both = and_parts (a.txn == n) (a.number == k) t in
-          let there : is_some before ≡ true =
-          ap is_some (sym (old n k))
-          ∙ subst (λ m. is_some (made m k) ≡ true) (eqb-true a.txn n both.0)
-          (subst (λ j. is_some (made a.txn j) ≡ true) (eqb-true a.number k both.1) has) in
-          old n k ∙ sym (then ∙ some_stays before (find (is_attempt_of n k) (a ∷ [])) there)
-      | inr f ↦ old n k ∙ sym (then ∙ ap (option_or before) (other_attempt n k a f) ∙ or_none before)
-    ]
-  where
-    some_stays : {X : Type 0} (o p : Option X) → is_some o ≡ true → option_or o p ≡ o
-    some_stays None p e = absurd (cc)
-    some_stays (Some x) p e = refl
+    grind arith
 
 -- the first Start of an attempt
 pub found_first : (h : History) (i : ℕ) (e : ℕ × Rec) (made new : ℕ → ℕ → Option Attempt) (a : Attempt) → i < length h → e ≡ get_or h i e
@@ -133,23 +91,7 @@ found_first h i e made new a l is some absent updates old n k =
     found_more h i e n k l is ∙ ap (λ o. option_or before (find (is_attempt_of n k) (cons_option o []))) some in
     let now : new n k ≡ cond (is_attempt_of n k a) (Some a) (made n k) =
     updates n k ∙ ap (λ b. cond b (Some a) (made n k)) (same_pair (a.txn, a.number) (n, k)) in
-    elim (cases_Bool (is_attempt_of n k a)) [
-      | inl t ↦
-          let both = and_parts (a.txn == n) (a.number == k) t in
-          let nothing : is_some before ≡ false =
-          ap is_some (sym (old n k))
-          ∙ subst (λ m. is_some (made m k) ≡ false) (eqb-true a.txn n both.0)
-          (subst (λ j. is_some (made a.txn j) ≡ false) (eqb-true a.number k both.1) absent) in
-          now ∙ ap (λ b. cond b (Some a) (made n k)) t
-          ∙ sym (then ∙ or_second before (find (is_attempt_of n k) (a ∷ [])) nothing ∙ that_attempt n k a t)
-      | inr f ↦
-          now ∙ ap (λ b. cond b (Some a) (made n k)) f ∙ old n k
-          ∙ sym (then ∙ ap (option_or before) (other_attempt n k a f) ∙ or_none before)
-    ]
-  where
-    or_second : {X : Type 0} (o p : Option X) → is_some o ≡ false → option_or o p ≡ p
-    or_second None p e = refl
-    or_second (Some x) p e = absurd (cc)
+    grind (arith, eqb-true)
 
 -- the same with the key as it was made
 pub found_first_at : (h : History) (i : ℕ) (e : ℕ × Rec) (made new : ℕ → ℕ → Option Attempt) (a : Attempt) (x y : ℕ) → i < length h

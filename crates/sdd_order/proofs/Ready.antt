@@ -1,5 +1,5 @@
 -- Of the members of a list one is ready: none of them precedes it.
-use Rattle.sdd_order.proofs.All.{Contains, Contains-cases, Contains-here, Contains-later, Contains-nil, IsOrderly, IsPath, List, [], inl, inr, refl, subst, sym, ◌++◌, ◌∷◌, ◌≡◌, ◌⊎◌}
+use Rattle.sdd_order.proofs.All.{Contains, Contains-cases, Contains-here, Contains-later, Contains-nil, IsOrderly, IsPath, List, [], inl, inr, refl, rules, subst, sym, ◌++◌, ◌∷◌, ◌≡◌, ◌⊎◌}
 use Rattle.sdd_order.proofs.Paths.{path_join}
 
 -- a member that none precedes, and that is s or leads to it
@@ -40,8 +40,7 @@ module _ {T : Type 0} (R : T → T → Type 0) (In : T → Type 0) (decide : (x 
 
   leads_far : (x y z : T) → ((m : List T) × IsPath R x m y) → ((y ≡ z) ⊎ ((m : List T) × IsPath R y m z))
       → (m : List T) × IsPath R x m z
-  leads_far x y z p (inl e) = (p.0, subst (λ v. IsPath R x p.0 v) e p.1)
-  leads_far x y z p (inr q) = (p.0 ++ y ∷ q.0, path_join R x p.0 y q.0 z p.1 q.1)
+  leads_far x y z p e = search (rules, path_join)
 
   -- with one member more
   ready_head : (x : T) (xs : List T) → AllIn (x ∷ xs) → ((s : T) → Contains xs s → ReadyFor R xs s) → ReadyFor R (x ∷ xs) x

@@ -1,8 +1,8 @@
 -- In the serial order of an orderable history each committed transaction stands once, after its predecessors.
-use Rattle.sdd_order.proofs.All.{Catalogue, Committed, Contains, Contains-here, Contains-later, History, IsAlong, IsCommitted, IsOrderable, IsSerial, List, Precedes, TxnNo, [], ap, arith, cases_Bool, committed, false, false≢true, in_order, inl, inr, length, map, precedes, serial_order, sym, txn_no, ℕ, ◌∙◌, ◌∷◌, ◌≡◌, ◌≢◌, ◌⊎◌}
+use Rattle.sdd_order.proofs.All.{Catalogue, Committed, Contains, Contains-here, Contains-later, History, IsAlong, IsCommitted, IsOrderable, IsSerial, List, Precedes, TxnNo, [], ap, arith, cases_Bool, committed, false, in_order, inl, inr, length, map, precedes, serial_order, sym, txn_no, ℕ, ◌∙◌, ◌∷◌, ◌≡◌, ◌⊎◌}
 use Rattle.sdd_order.proofs.Found.{from_committed, in_committed}
 use Rattle.sdd_order.proofs.Members.{Contains-map, Contains-from_map}
-use Rattle.sdd_order.proofs.Places.{same_start, one_of_txn}
+use Rattle.sdd_order.proofs.Places.{one_of_txn}
 use Rattle.sdd_order.proofs.Ready.{ready_for}
 use Rattle.sdd_order.proofs.Taken.{Differ, taken_is, taken_whole, IsAlongBy, taken_along}
 
@@ -18,19 +18,13 @@ module _ (cat : Catalogue) (h : History) (o : IsOrderable cat h) where
 
   -- committed transactions with one timestamp are one
   pub one_of_time : (t u : Committed) → IsCommitted h t → IsCommitted h u → t.start.ts ≡ u.start.ts → t ≡ u
-  one_of_time t u p q e =
-      let place = o.one_time t.start u.start p.started q.started e in
-      one_txn t u p q (same_start h t.start u.start p.started q.started place).txn
+  one_of_time t u p q e = grind (arith, one_txn)
 
   pub differ : Differ time_of (committed h)
   differ t u m n e = one_of_time t u (from_committed h t m) (from_committed h u n) e
 
   decide : (t u : Committed) → IsCommitted h t → IsCommitted h u → Precedes cat h t u ⊎ (¬ Precedes cat h t u)
-  decide t u p q =
-      elim (cases_Bool (precedes cat h t u)) [
-        | inl e ↦ inl (record { first = p; second = q; precedes = e })
-        | inr f ↦ inr (λ r. false≢true (sym f ∙ r.precedes))
-      ]
+  decide t u p q = grind arith
 
   -- of some committed transactions one is ready
   pub some_ready : (some : List Committed) → ((y : Committed) → Contains some y → Contains (committed h) y)

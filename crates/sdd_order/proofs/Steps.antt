@@ -1,5 +1,5 @@
 -- One step of the nodes that are ready first, and of what is taken.
-use Rattle.sdd_order.proofs.All.{All, All-head, All-insert_key, All-tail, Bool, Contains, Front, Groups, List, [], ap, append-nil, append_assoc, arith, at_node, cond, eq-eqb, false, filter, first_ready, fold, get_or as slice_index_or, insert_key, length, nat_cmp, ne_eqb, range_with_len, refl, released, suc, sym, taking, true, zero, ℕ, ◌++◌, ◌+◌, ◌-◌, ◌<◌, ◌==◌, ◌∙◌, ◌∷◌, ◌≡◌, ◌≢◌}
+use Rattle.sdd_order.proofs.All.{All, All-head, All-insert_key, All-tail, Bool, Contains, Front, Groups, List, [], ap, append-nil, append_assoc, arith, at_node, cond, eq-eqb, false, filter, first_ready, fold, get_or as slice_index_or, insert_key, length, nat_cmp, range_with_len, refl, released, rules, suc, taking, true, zero, ℕ, ◌++◌, ◌+◌, ◌-◌, ◌<◌, ◌==◌, ◌∙◌, ◌∷◌, ◌≡◌, ◌≢◌}
 use Rattle.sdd_order.proofs.Ascending.{insert_last, from_range}
 use Rattle.sdd_order.proofs.Members.{Contains-from_filter}
 
@@ -9,11 +9,7 @@ filter_range p a zero j e = let same : a ≡ j = omega (arith, e) in ap (λ (i :
 filter_range p a (suc n) j e =
     let rest = filter_range p (a + 1) n j (omega (arith, e)) in
     let some : List ℕ = cond (p j) (j ∷ []) [] in
-    elim (p a) as (λ b. cond b (a ∷ filter p (range_with_len (a + 1) (suc n))) (filter p (range_with_len (a + 1) (suc n)))
-    ≡ cond b (a ∷ filter p (range_with_len (a + 1) n)) (filter p (range_with_len (a + 1) n)) ++ some) [
-      | true ↦ ap (λ l. a ∷ l) rest
-      | false ↦ rest
-    ]
+    grind arith
 
 first_next : (counts : List ℕ) (n : ℕ) → first_ready counts (n + 1) ≡ first_ready counts n ++ cond (at_node counts n == 0) (n ∷ []) []
 first_next counts n =
@@ -28,37 +24,24 @@ first_below counts n y m =
 
 pub first_here : (counts : List ℕ) (n : ℕ) → at_node counts n ≡ 0
     → insert_key nat_cmp (first_ready counts n) n ≡ first_ready counts (n + 1)
-first_here counts n e =
-    insert_last (first_ready counts n) n (first_below counts n)
-    ∙ sym (first_next counts n ∙ ap (λ b. first_ready counts n ++ cond b (n ∷ []) []) (eq-eqb (at_node counts n) 0 e))
+first_here counts n e = search (rules, insert_last, first_below, first_next, eq-eqb)
 
 pub first_other : (counts : List ℕ) (n : ℕ) → at_node counts n ≢ 0 → first_ready counts n ≡ first_ready counts (n + 1)
-first_other counts n d =
-    sym (first_next counts n
-    ∙ ap (λ b. first_ready counts n ++ cond b (n ∷ []) []) (ne_eqb (at_node counts n) 0 d)
-    ∙ append-nil (first_ready counts n))
+first_other counts n d = grind (arith, first_next, append-nil)
 
 -- one node is taken
 pub taking_more : (after : Groups) (n m : ℕ) (counts old rest : List ℕ) (node : ℕ) (front : Front) → n ≡ suc m
     → old ≡ node ∷ rest → front ≡ fold released (counts, rest) (slice_index_or after node [])
     → taking after n counts old ≡ node ∷ taking after m front.0 front.1
-taking_more after n m counts old rest node front e f g =
-    ap (λ k. taking after k counts old) e ∙ ap (λ o. taking after (suc m) counts o) f
-    ∙ ap (λ (x : Front). node ∷ taking after m x.0 x.1) (sym g)
+taking_more after n m counts old rest node front e f g = cc
 
 pub taken_more : (order rest new all : List ℕ) (node : ℕ) (left : List ℕ) → order ++ left ≡ all → left ≡ node ∷ rest
     → new ≡ order ++ node ∷ [] → new ++ rest ≡ all
-taken_more order rest new all node left h e f =
-    ap (λ l. l ++ rest) f ∙ append_assoc order (node ∷ []) rest ∙ ap (λ l. order ++ l) (sym e) ∙ h
+taken_more order rest new all node left h e f = grind (arith, append_assoc)
 
 pub taken_all : (after : Groups) (n : ℕ) (counts old order all : List ℕ) → old ≡ []
     → order ++ taking after n counts old ≡ all → order ≡ all
-taken_all after n counts old order all e h =
-    sym (ap (λ o. order ++ taking after n counts o) e ∙ ap (λ l. order ++ l) (none_taken after n counts) ∙ append-nil order) ∙ h
-  where
-    none_taken : (after : Groups) (n : ℕ) (counts : List ℕ) → taking after n counts [] ≡ []
-    none_taken after zero counts = refl
-    none_taken after (suc n) counts = refl
+taken_all after n counts old order all e h = grind (arith, append-nil)
 
 -- the nodes that are ready stay within bounds
 released_within : (bound : ℕ) (front : Front) (target : ℕ) → All (λ i. i < bound) front.1 → target < bound

@@ -56,10 +56,7 @@ module _ {A : Type 0} (time : A → ℕ) where
   -- a list that isn't empty has one
   pub none_earliest : (xs : List A) → earliest time xs ≡ None → xs ≡ []
   none_earliest [] e = refl
-  none_earliest (x ∷ xs) e =
-      let s = some_earlier x (earliest time xs) in
-      let wrong : Some s.0 ≡ None = sym s.1 ∙ e in
-      absurd (cc)
+  none_earliest (x ∷ xs) e = grind arith
 
   pub earliest_is : (xs : List A) (z : A) → earliest time xs ≡ Some z → IsEarliest xs z
   earliest_is [] z e = absurd (cc)
@@ -92,12 +89,7 @@ module _ {A : Type 0} (time : A → ℕ) where
 
   without_fewer : (x : A) (xs : List A) → length (without time x xs) ≤ length xs
   without_fewer x [] = omega arith
-  without_fewer x (y ∷ xs) =
-      let rest = without_fewer x xs in
-      elim (not (time y == time x)) as (λ b. length (cond b (y ∷ without time x xs) (without time x xs)) ≤ suc (length xs)) [
-        | true ↦ omega arith
-        | false ↦ omega arith
-      ]
+  without_fewer x (y ∷ xs) = grind (arith, without_fewer x xs)
 
   pub one_fewer : (x : A) (xs : List A) → Contains xs x → length (without time x xs) < length xs
   one_fewer x [] m = absurd (Contains-nil x m)

@@ -1,5 +1,5 @@
 -- What is kept of a pipe answers what conditions ask of it, and follows it.
-use Rattle.sdd_pipe.proofs.All.{Bool, Change, Digest, FragNo, HaveRoom, IsDigest, List, Msg, None, Option, Pipe, Some, Write, Writes, [], ap, append-nil, arith, changes_of, cond, empty_digest, empty_pipe, false, filter_map, fold, fold-append, greatest, has_passed, head_processed, is_by, last_in, last_write, list_any, list_any-append, map, map-append, nat_le, nat_tests, passed, put, put_digest, raised, refl, subst, sym, take_digest, time_of, touches, true, with_room, with_write, write_in, write_time, ℕ, ◌&&◌, ◌++◌, ◌==◌, ◌||◌, ◌∙◌, ◌∷◌, ◌≡◌}
+use Rattle.sdd_pipe.proofs.All.{Bool, Change, Digest, FragNo, HaveRoom, IsDigest, List, Msg, None, Option, Pipe, Some, Write, Writes, [], ap, append-nil, arith, changes_of, cond, empty_digest, empty_pipe, false, filter_map, fold, fold-append, greatest, has_passed, head_processed, is_by, last_in, last_write, list_any, list_any-append, map, map-append, nat_le, nat_tests, passed, put, put_digest, raised, refl, subst, sym, take_digest, time_of, touches, true, with_write, write_in, write_time, ℕ, ◌&&◌, ◌++◌, ◌==◌, ◌||◌, ◌∙◌, ◌∷◌, ◌≡◌}
 use Rattle.sdd_pipe.proofs.Entries.{by_raised, write_with_room, room_stays, writes_stay, have_room_stays, have_room_append, room_made, write_raised, or_swap}
 
 -- an option is told by the numbers that it reaches
@@ -17,12 +17,10 @@ told (Some a) None h = let e : true ≡ false = sym (reaches_own a) ∙ h a in a
 told (Some a) (Some b) h = ap Some (told_by a b (h a) (h b))
 
 pub or_assoc : (a b c : Bool) → ((a || b) || c) ≡ (a || (b || c))
-or_assoc true b c = refl
-or_assoc false b c = refl
+or_assoc a b c = grind (arith, nat_tests)
 
 or_false : (a : Bool) → (a || false) ≡ a
-or_false true = refl
-or_false false = refl
+or_false a = grind (arith, nat_tests)
 
 -- the greatest number reaches t where one of them does
 
@@ -45,18 +43,14 @@ reached_map g t (x ∷ xs) o = reached_map g t xs (raised o (g x)) ∙ ap (λ b.
 -- two tests in either order
 
 any_same : {A : Type 0} (f g : A → Bool) (xs : List A) → ((x : A) → f x ≡ g x) → list_any f xs ≡ list_any g xs
-any_same f g [] h = refl
-any_same f g (x ∷ xs) h = rw (h x, any_same f g xs h) refl
+any_same f g xs h = grind (arith, nat_tests)
 
 any_none : {A : Type 0} (xs : List A) → list_any (λ x. false) xs ≡ false
 any_none [] = refl
 any_none (x ∷ xs) = any_none xs
 
 or_four : (a b c d : Bool) → ((a || b) || (c || d)) ≡ ((a || c) || (b || d))
-or_four true b c d = refl
-or_four false true true d = refl
-or_four false true false d = refl
-or_four false false c d = refl
+or_four a b c d = grind (arith, nat_tests)
 
 any_either : {A : Type 0} (f g : A → Bool) (xs : List A) → list_any (λ x. f x || g x) xs ≡ (list_any f xs || list_any g xs)
 any_either f g [] = refl
@@ -69,24 +63,13 @@ any_swap f (x ∷ xs) ys = ap (λ b. list_any (f x) ys || b) (any_swap f xs ys) 
 
 and_out : {A : Type 0} (f : A → Bool) (b : Bool) (xs : List A) → list_any (λ x. f x && b) xs ≡ (list_any f xs && b)
 and_out f b [] = refl
-and_out f true (x ∷ xs) = rw (and_out f true xs) (one (f x) (list_any f xs))
-  where
-    one : (a c : Bool) → ((a && true) || (c && true)) ≡ ((a || c) && true)
-    one true c = refl
-    one false c = refl
-and_out f false (x ∷ xs) = rw (and_out f false xs) (one (f x) (list_any f xs))
-  where
-    one : (a c : Bool) → ((a && false) || (c && false)) ≡ ((a || c) && false)
-    one true true = refl
-    one true false = refl
-    one false true = refl
-    one false false = refl
+and_out f true (x ∷ xs) = grind (arith, nat_tests)
+and_out f false (x ∷ xs) = grind (arith, nat_tests, (and_out f false xs))
 
 -- a WRITE's time for some fragments, and for each of them
 
 by_write : (t ts : ℕ) (b : Bool) → is_by t (cond b (Some ts) None) ≡ (b && nat_le t ts)
-by_write t ts true = refl
-by_write t ts false = refl
+by_write t ts b = grind (arith, nat_tests)
 
 one_touched : (f : FragNo) (changes : List Change) → touches (f ∷ []) changes ≡ list_any (λ x. f.0 == x.frag.0) changes
 one_touched f changes = any_same (λ x. (f.0 == x.frag.0) || false) (λ x. f.0 == x.frag.0) changes (λ x. or_false (f.0 == x.frag.0))
@@ -136,21 +119,10 @@ pub is_empty_digest : IsDigest empty_digest empty_pipe
 is_empty_digest = record { unprocessed = refl; latest = refl; writes = λ f. refl; room = tt }
 
 pub is_put : (m : Msg) (d : Digest) (p : Pipe) → IsDigest d p → IsDigest (put_digest m d) (put m p)
-is_put m d p i = record {
-  unprocessed = ap (λ ms. ms ++ m ∷ []) i.unprocessed;
-  latest = i.latest;
-  writes = λ f. write_with_room (changes_of m) d.writes f ∙ i.writes f;
-  room = have_room_append p.unprocessed (m ∷ []) (fold with_room d.writes (changes_of m))
-      (have_room_stays p.unprocessed d.writes (fold with_room d.writes (changes_of m)) (room_stays (changes_of m) d.writes) i.room)
-      (room_made (changes_of m) d.writes, tt);
-}
+is_put m d p i = grind (arith, nat_tests, write_with_room, have_room_append, have_room_stays, room_stays, room_made)
 
 one_write : (t : ℕ) (f : FragNo) (m : Msg) → (list_any (λ x. x.frag.0 == f.0) (changes_of m) && nat_le t (time_of m)) ≡ is_by t (write_time (f ∷ []) m)
-one_write t f (Write ts class txn changes) =
-    ap (λ b. b && nat_le t ts.0)
-    (any_same (λ x. x.frag.0 == f.0) (λ x. f.0 == x.frag.0) changes (λ x. grind (arith, nat_tests)) ∙ sym (one_touched f changes))
-    ∙ sym (by_write t ts.0 (touches (f ∷ []) changes))
-one_write t f _ = refl
+one_write t f m = grind (arith, nat_tests)
 
 write_taken : (m : Msg) (d : Digest) (p : Pipe) (rest : List Msg) → IsDigest d p → p.unprocessed ≡ m ∷ rest → (f : FragNo)
     → write_in (fold (with_write (time_of m)) d.writes (changes_of m)) f ≡ greatest (filter_map (write_time (f ∷ [])) (p.processed ++ m ∷ []))

@@ -1,17 +1,10 @@
 -- What is kept by fragment: room for an entry, and an entry that is raised.
-use Rattle.sdd_pipe.proofs.All.{Bool, Change, Equal, FragNo, Greater, HasRoom, HaveRoom, Less, List, Msg, None, Option, Some, Writes, [], ap, arith, changes_of, cond, entry_of, false, fold, if◌then◌else◌, insert_entry, is_by, is_eq, is_some, list_any, match_ordering, nat_cmp, nat_le, nat_tests, or_none, raised, raised_entry, refl, sym, true, with_room, with_write, write_in, ℕ, ◌&&◌, ◌++◌, ◌==◌, ◌||◌, ◌∙◌, ◌∷◌, ◌≡◌}
+use Rattle.sdd_pipe.proofs.All.{Bool, Change, Equal, FragNo, Greater, HasRoom, HaveRoom, List, Msg, None, Option, Some, Writes, [], ap, arith, changes_of, entry_of, false, fold, if◌then◌else◌, insert_entry, is_by, is_eq, is_some, list_any, nat_cmp, nat_le, nat_tests, or_none, raised, raised_entry, refl, true, with_room, with_write, write_in, ℕ, ◌&&◌, ◌++◌, ◌==◌, ◌||◌, ◌∙◌, ◌∷◌, ◌≡◌}
 
 -- an entry is put in
 
 eq_at : (a b : ℕ) → is_eq (nat_cmp a b) ≡ (a == b)
 eq_at a b = grind (arith, nat_tests)
-
-at_less : (f g a : ℕ) (v w x : Option (Option ℕ)) → cond (is_eq (nat_cmp g f)) v (cond (is_eq (nat_cmp g a)) w x)
-    ≡ (if f == g then v else cond (is_eq (nat_cmp g a)) w x)
-at_less f g a v w x = rw (eq_at g f) (flip g f)
-  where
-    flip : (g f : ℕ) → cond (g == f) v (cond (is_eq (nat_cmp g a)) w x) ≡ (if f == g then v else cond (is_eq (nat_cmp g a)) w x)
-    flip g f = let e : (g == f) ≡ (f == g) = grind (arith, nat_tests) in rw e refl
 
 same_number : (f a : ℕ) → nat_cmp f a ≡ Equal → f ≡ a
 same_number f a e = grind (arith, nat_tests)
@@ -19,33 +12,9 @@ same_number f a e = grind (arith, nat_tests)
 not_same : (f a g : ℕ) → nat_cmp f a ≡ Greater → (g == a) ≡ true → (f == g) ≡ false
 not_same f a g e h = grind (arith, nat_tests)
 
-at_equal : (f g a : ℕ) (v w x : Option (Option ℕ)) → nat_cmp f a ≡ Equal → cond (is_eq (nat_cmp g a)) v x
-    ≡ (if f == g then v else cond (is_eq (nat_cmp g a)) w x)
-at_equal f g a v w x e =
-    let same : f ≡ a = same_number f a e in
-    rw (eq_at g a, same) (elim (g == a) as (λ b. (g == a) ≡ b → cond b v x ≡ (if a == g then v else cond b w x)) [
-      | true ↦ λ p. let q : (a == g) ≡ true = grind (arith, nat_tests, p) in rw q refl
-      | false ↦ λ p. let q : (a == g) ≡ false = grind (arith, nat_tests, p) in rw q refl
-    ] refl)
-
-at_greater : (f g a : ℕ) (v w x : Option (Option ℕ)) → nat_cmp f a ≡ Greater → cond (is_eq (nat_cmp g a)) w (if f == g then v else x)
-    ≡ (if f == g then v else cond (is_eq (nat_cmp g a)) w x)
-at_greater f g a v w x e =
-    rw (eq_at g a) (elim (g == a) as (λ b. (g == a) ≡ b → cond b w (if f == g then v else x) ≡ (if f == g then v else cond b w x)) [
-      | true ↦ λ p. rw (not_same f a g e p) refl
-      | false ↦ λ p. refl
-    ] refl)
-
 entry_put : (writes : Writes) (f g : ℕ) (v : Option ℕ) → entry_of g (insert_entry nat_cmp writes f v) ≡ (if f == g then Some v else entry_of g writes)
 entry_put [] f g v = rw (eq_at g f) (let e : (g == f) ≡ (f == g) = grind (arith, nat_tests) in rw e refl)
-entry_put (e ∷ writes) f g v =
-    elim (nat_cmp f e.0) as (λ o. nat_cmp f e.0 ≡ o
-    → entry_of g (match_ordering o ((f, v) ∷ e ∷ writes) ((e.0, v) ∷ writes) (e ∷ insert_entry nat_cmp writes f v))
-    ≡ (if f == g then Some v else entry_of g (e ∷ writes))) [
-      | Less ↦ λ p. at_less f g e.0 (Some v) (Some e.1) (entry_of g writes)
-      | Equal ↦ λ p. at_equal f g e.0 (Some v) (Some e.1) (entry_of g writes) p
-      | Greater ↦ λ p. rw (entry_put writes f g v) (at_greater f g e.0 (Some v) (Some e.1) (entry_of g writes) p)
-    ] refl
+entry_put (e ∷ writes) f g v = grind (arith, nat_tests, (entry_put writes f g v))
 
 -- room
 
@@ -59,17 +28,9 @@ entry_room : (writes : Writes) (x : Change) (g : ℕ) → entry_of g (with_room 
     ≡ (if is_some (entry_of x.frag.0 writes) then entry_of g writes else (if x.frag.0 == g then Some None else entry_of g writes))
 entry_room writes x g = room_by writes x.frag.0 g (entry_of x.frag.0 writes) refl
 
-same_entry : (writes : Writes) (f g : ℕ) (o : Option (Option ℕ)) → entry_of f writes ≡ o → (f == g) ≡ true → entry_of g writes ≡ o
-same_entry writes f g o e h = let same : f ≡ g = grind (arith, nat_tests, h) in ap (λ n. entry_of n writes) (sym same) ∙ e
-
 write_room_by : (writes : Writes) (f g : ℕ) (o : Option (Option ℕ)) → entry_of f writes ≡ o
     → or_none (if is_some o then entry_of g writes else (if f == g then Some None else entry_of g writes)) ≡ or_none (entry_of g writes)
-write_room_by writes f g (Some t) e = refl
-write_room_by writes f g None e =
-    elim (f == g) as (λ b. (f == g) ≡ b → or_none (if b then Some None else entry_of g writes) ≡ or_none (entry_of g writes)) [
-      | true ↦ λ p. ap or_none (sym (same_entry writes f g None e p))
-      | false ↦ λ p. refl
-    ] refl
+write_room_by writes f g o e = grind (arith, nat_tests)
 
 -- room tells of no write
 pub write_with_room : (changes : List Change) (writes : Writes) (f : FragNo) → write_in (fold with_room writes changes) f ≡ write_in writes f
@@ -84,8 +45,7 @@ abbrev pub Stay : Writes → Writes → Type 0
 Stay old new = (f : ℕ) → is_some (entry_of f old) ≡ true → is_some (entry_of f new) ≡ true
 
 put_stays : (writes : Writes) (f : ℕ) (v : Option ℕ) → Stay writes (insert_entry nat_cmp writes f v)
-put_stays writes f v g h = ap is_some (entry_put writes f g v)
-    ∙ (elim (f == g) as (λ b. is_some (if b then Some v else entry_of g writes) ≡ true) [ true ↦ refl | false ↦ h ])
+put_stays writes f v g h = grind (arith, nat_tests, entry_put)
 
 room_stays_by : (writes : Writes) (f : ℕ) (b : Bool) → Stay writes (if b then writes else insert_entry nat_cmp writes f None)
 room_stays_by writes f true g h = h
@@ -129,46 +89,23 @@ room_made (x ∷ changes) writes =
 -- entries are raised
 
 pub by_raised : (t time : ℕ) (o : Option ℕ) → is_by t (raised o time) ≡ (is_by t o || nat_le t time)
-by_raised t time None = refl
-by_raised t time (Some u) = grind (arith, nat_tests)
+by_raised t time o = grind (arith, nat_tests)
 
 pub or_swap : (a b : Bool) → (a || b) ≡ (b || a)
-or_swap true true = refl
-or_swap true false = refl
-or_swap false true = refl
-or_swap false false = refl
-
-raised_here : (t time : ℕ) (b : Bool) (latest o : Option ℕ) → (b ≡ true → o ≡ latest)
-    → is_by t (or_none (if b then Some (raised latest time) else Some o)) ≡ ((b && nat_le t time) || is_by t o)
-raised_here t time true latest o e =
-    by_raised t time latest ∙ or_swap (is_by t latest) (nat_le t time) ∙ ap (λ x. nat_le t time || is_by t x) (sym (e refl))
-raised_here t time false latest o e = refl
+or_swap a b = grind (arith, nat_tests)
 
 raised_entry_by : (writes : Writes) (t time f g : ℕ) (latest : Option ℕ) (o : Option (Option ℕ)) → entry_of f writes ≡ Some latest
     → entry_of g writes
     ≡ o → is_by t (or_none (if f == g then Some (raised latest time) else o)) ≡ (((f == g) && nat_le t time) || is_by t (or_none o))
-raised_entry_by writes t time f g latest (Some last) e h =
-    raised_here t time (f == g) latest last (λ p. let same : Some last ≡ Some latest = sym h ∙ same_entry writes f g (Some latest) e p in cc)
-raised_entry_by writes t time f g latest None e h =
-    elim (f == g) as (λ b. (f == g) ≡ b → is_by t (or_none (if b then Some (raised latest time) else None)) ≡ ((b && nat_le t time) || false)) [
-      | true ↦ λ p. let same : Some latest ≡ None = sym (same_entry writes f g (Some latest) e p) ∙ h in cc
-      | false ↦ λ p. refl
-    ] refl
+raised_entry_by writes t time f g latest o e h = grind (arith, nat_tests)
 
 one_raised : (writes : Writes) (t time f g : ℕ) (o : Option (Option ℕ)) → entry_of f writes ≡ o → is_some o ≡ true
     → is_by t (or_none (entry_of g (raised_entry f time writes o))) ≡ (((f == g) && nat_le t time) || is_by t (or_none (entry_of g writes)))
 one_raised writes t time f g None e h = cc
-one_raised writes t time f g (Some latest) e h =
-    ap (λ x. is_by t (or_none x)) (entry_put writes f g (raised latest time)) ∙ raised_entry_by writes t time f g latest (entry_of g writes) e refl
+one_raised writes t time f g (Some latest) e h = grind (arith, nat_tests, entry_put, raised_entry_by)
 
 any_or : (a b c d : Bool) → ((a && c) || ((b && c) || d)) ≡ (((b || a) && c) || d)
-any_or true true true d = refl
-any_or true true false d = refl
-any_or true false true d = refl
-any_or true false false d = refl
-any_or false true true d = refl
-any_or false true false d = refl
-any_or false false c d = refl
+any_or a b c d = grind (arith, nat_tests)
 
 -- the write of fragment g after a WRITE with this time
 pub write_raised : (t time : ℕ) (changes : List Change) (writes : Writes) (g : FragNo) → HasRoom writes changes

@@ -2,9 +2,8 @@
 use Rattle.sdd_pipe.proofs.All.{List, [], ap, arith, length, refl, slice_index_or, slice_set, suc, update, zero, ℕ, ◌∷◌, ◌≡◌, ◌≤◌}
 
 update_at : {A : Type 0} (f : A → A) (xs : List A) (k : ℕ) (x y : A) → x ≡ slice_index_or xs k x → y ≡ f x → slice_set xs k y ≡ update k f xs
-update_at f [] k x y e g = refl
-update_at f (z ∷ xs) zero x y e g = let same : x ≡ z = e in rw (g, same) refl
 update_at f (z ∷ xs) (suc k) x y e g = ap (λ l. z ∷ l) (update_at f xs k x y e g)
+update_at f _ _ x y e g = cc
 
 -- an element is written that is f of the old one
 pub set_is_update : {A : Type 0} (f : A → A) (xs ys : List A) (k : ℕ) (x y : A) → x ≡ slice_index_or xs k x → y ≡ f x → xs ≡ ys

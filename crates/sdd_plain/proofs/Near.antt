@@ -67,9 +67,6 @@ pub allowed_are : (key part : ℕ) (conds : List Condition) → All (IsOfKeys ke
 allowed_are key part conds of row n is all may =
     allowed_key key row n (restrictions_of part conds) is all (recursion_from_All (IsOfKeys key) (restrictions_of part conds) of) may
 
-pub all_are : (key part : ℕ) (conds : List Condition) → AreKeysOf part conds key all_keys
-all_are key part conds row n is all may = all
-
 -- and so are all keys
 pub all_near : (rel part : ℕ) (conds : List Condition) (db : Database) → AreHeld db → AreNear db rel part conds all_keys
 all_near rel part conds db held =

@@ -37,3 +37,4 @@ pub use Rattle.std.proofs.lemmas.Option.{get_or_from_slice_get, same_Some, slice
 pub use Rattle.std.proofs.lemmas.Result.{IfOk-weaker}
 pub use Rattle.std.specs.List.{cons_option, list_any, range_with_len}
 pub use Rattle.std.specs.Option.{option_or}
+pub use Rattle.std.proofs.lemmas.Bool.Decides.{nat_tests}

@@ -1,5 +1,5 @@
 -- The laws of tables.
-use Rattle.sdd_protocol.proofs.All.{Catalogue, Diagonal, Entry, JoinsNodes, OneBlock, OneProtocol, OneTable, Some, ap, cases_eq, conflict_graph, diagonal_protocol, edges_join, ends, inl, inr, length, map, one_numbering, option_map, protocol_in, read_node, same_Some, slice_get, slice_get-map, sym, vertical_block, write_node, ℕ, ◌∙◌, ◌≡◌, ◌≢◌}
+use Rattle.sdd_protocol.proofs.All.{Catalogue, Diagonal, Entry, JoinsNodes, OneBlock, OneProtocol, OneTable, Some, ap, arith, cases_eq, conflict_graph, diagonal_protocol, edges_join, ends, inl, inr, length, map, nat_tests, one_numbering, option_map, protocol_in, read_node, same_Some, slice_get, slice_get-map, sym, vertical_block, write_node, ℕ, ◌∙◌, ◌≡◌, ◌≢◌}
 use Rattle.sdd_protocol.proofs.Parallel.{parallel_number}
 use Rattle.sdd_protocol.proofs.Tables.{all_at, blocks_of, same_entries}
 
@@ -34,6 +34,4 @@ one_protocol cat entries t j k d e reader writer f g p q x y =
 
 -- a catalogue has one table
 pub one_table : (cat : Catalogue) → OneTable cat
-one_table cat a b p q =
-    same_entries a b (p.edges ∙ sym q.edges)
-    (one_numbering (map ends (conflict_graph cat)) (blocks_of a) (blocks_of b) p.blocks q.blocks) p.protocols q.protocols
+one_table cat a b p q = grind (arith, nat_tests, same_entries, one_numbering)

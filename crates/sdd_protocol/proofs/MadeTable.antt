@@ -1,6 +1,6 @@
 -- The steps from a catalogue's conflict graph to its table.
-use Rattle.sdd_protocol.proofs.All.{All, All-map, All-weaker, AreBlocks, AreEntries, Catalogue, Diagonal, Edge, Entry, HasCell, HasVertical, Horizontal, IsEdgeOf, IsTable, JoinsNodes, List, Vertical, ap, arith, class_no, conflict_graph, diagonal_edges, diagonal_protocol, edges_known, ends, get_or, get_or-map, horizontal_edges, is_vertical_of, length, length-append, length-map, length-map-range_with_len, map, protocol_by, protocol_in, refl, subst, sym, take_all, vertical_block, vertical_edges, ℕ, ◌*◌, ◌++◌, ◌+◌, ◌-◌, ◌<◌, ◌∙◌, ◌≡◌, ◌≤◌}
-use Rattle.sdd_protocol.proofs.Tables.{edges_of, blocks_of, first_block, vertical_block-lists, first_block-vertical}
+use Rattle.sdd_protocol.proofs.All.{All, All-map, All-weaker, AreBlocks, AreEntries, Catalogue, Diagonal, Edge, Entry, HasCell, HasVertical, Horizontal, IsEdgeOf, IsTable, JoinsNodes, List, Vertical, ap, arith, conflict_graph, diagonal_protocol, edges_known, ends, get_or, get_or-map, length, length-append, length-map, length-map-range_with_len, map, nat_tests, protocol_by, protocol_in, refl, subst, sym, take_all, vertical_block, ℕ, ◌*◌, ◌+◌, ◌-◌, ◌<◌, ◌∙◌, ◌≡◌, ◌≤◌}
+use Rattle.sdd_protocol.proofs.Tables.{edges_of, blocks_of, vertical_block-lists, first_block-vertical}
 
 -- the ends of edges are nodes
 pub ends_below : (n : ℕ) (edges : List Edge) → All (JoinsNodes n) edges
@@ -10,32 +10,19 @@ ends_below n edges h =
 
 -- there are at least the vertical edges
 pub many_edges : (cat : Catalogue) → length cat.classes ≤ length (conflict_graph cat)
-many_edges cat =
-    omega (
-      arith,
-      length-append (vertical_edges cat) (horizontal_edges cat ++ diagonal_edges cat),
-      length-map-range_with_len (λ i. Vertical (class_no i)) 1 (length cat.classes),
-    )
+many_edges cat = grind (arith, nat_tests, length-append, length-map-range_with_len)
 
 has_vertical : (cat : Catalogue) (count : ℕ) (e : Edge) → length cat.classes ≤ count
     → IsEdgeOf cat e → HasVertical count e
-has_vertical cat count (Vertical i) l h = tt
-has_vertical cat count (Horizontal i j) l h = tt
-has_vertical cat count (Diagonal i j f) l h = (h.reader.from, let to = h.reader.to in omega arith)
+has_vertical cat count e l h = grind (arith, nat_tests)
 
 -- the readers of the edges have vertical edges
 pub readers_there : (cat : Catalogue) (edges : List Edge) (count : ℕ) → edges ≡ conflict_graph cat
     → count ≡ length edges → All (HasVertical count) edges
-readers_there cat edges count e n =
-    let few = many_edges cat in
-    let long : length cat.classes ≤ count = omega (arith, ap length e) in
-    subst (λ z. All (HasVertical count) z) (sym e)
-    (All-weaker (IsEdgeOf cat) (HasVertical count) (λ x h. has_vertical cat count x long h) (conflict_graph cat) (edges_known cat))
+readers_there cat edges count e n = grind (arith, nat_tests, many_edges, has_vertical, edges_known)
 
 has_cell : (cat : Catalogue) (e : Edge) → IsEdgeOf cat e → HasCell (length cat.classes + 1) e
-has_cell cat (Vertical i) h = tt
-has_cell cat (Horizontal i j) h = tt
-has_cell cat (Diagonal i j f) h = (let to = h.reader.to in omega arith, let to = h.writer.to in omega arith)
+has_cell cat e h = grind (arith, nat_tests)
 
 -- all members of a list of entries are those of the edges
 entries_edges : (edges : List Edge) (blocks : List ℕ) (entries : List Entry)
@@ -59,11 +46,7 @@ cells_there cat edges blocks entries e h =
 module _ (cat : Catalogue) (blocks : List ℕ) (entries : List Entry) (edges_are : edges_of entries ≡ conflict_graph cat) (blocks_are : blocks_of entries ≡ blocks) (long : length cat.classes ≤ length blocks) where
   -- the block of a vertical edge stands at the place of its class
   vertical_at : (i : ℕ) → 1 ≤ i → i ≤ length cat.classes → vertical_block entries i ≡ get_or blocks (i - 1) 0
-  vertical_at i low high =
-      vertical_block-lists entries i
-      ∙ ap (λ z. first_block (is_vertical_of i) z (blocks_of entries)) edges_are
-      ∙ ap (λ z. first_block (is_vertical_of i) (conflict_graph cat) z) blocks_are
-      ∙ first_block-vertical (length cat.classes) 1 (i - 1) i (horizontal_edges cat ++ diagonal_edges cat) blocks (omega arith) (omega arith) (omega arith)
+  vertical_at i low high = grind (arith, nat_tests, vertical_block-lists, first_block-vertical)
 
   same_protocol : (e : Edge) (block : ℕ) → IsEdgeOf cat e → protocol_by blocks e block ≡ protocol_in entries e block
   same_protocol (Vertical i) block h = refl

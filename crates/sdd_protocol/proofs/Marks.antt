@@ -1,11 +1,10 @@
 -- Marks for the fragments that are asked for, one fragment after another.
-use Rattle.sdd_protocol.proofs.All.{AreMarks, Bool, Catalogue, FragNo, List, [], and_from, and_right, ap, cases_eq, eq-eqb, false, get_or, get_or-set_other, get_or-set_same, inl, inr, is_asked, is_read_at, length, list_any, list_any_more, ne_eqb, or-false, or-true, refl, replicate, set, subst, suc, sym, take, true, zero, ℕ, ◌&&◌, ◌+◌, ◌<◌, ◌==◌, ◌||◌, ◌∙◌, ◌≡◌, ◌≢◌}
+use Rattle.sdd_protocol.proofs.All.{AreMarks, Bool, Catalogue, FragNo, List, [], and_from, and_right, ap, arith, cases_eq, eq-eqb, false, get_or, get_or-set_other, get_or-set_same, inl, inr, is_asked, is_read_at, length, list_any, list_any_more, nat_tests, or-false, or-true, refl, replicate, set, subst, suc, sym, take, true, ℕ, ◌&&◌, ◌+◌, ◌<◌, ◌==◌, ◌||◌, ◌∙◌, ◌≡◌, ◌≢◌}
 
 -- no mark stands at first
 none_marked : (n f : ℕ) → get_or (replicate n false) f false ≡ false
-none_marked zero f = refl
-none_marked (suc n) zero = refl
 none_marked (suc n) (suc f) = none_marked n f
+none_marked _ _ = refl
 
 pub marks_none : (cat : Catalogue) (i dm n : ℕ) → AreMarks (is_asked cat i dm []) (replicate n false)
 marks_none cat i dm n = none_marked n
@@ -19,10 +18,7 @@ module _ (cat : Catalogue) (i dm : ℕ) (frags : List FragNo) (k : ℕ) (d : Fra
   -- another fragment is asked for as before
   asked_other : (f : ℕ) → (get_or frags k d).0 ≢ f
       → is_asked cat i dm (take (k + 1) frags) f ≡ is_asked cat i dm (take k frags) f
-  asked_other f n =
-      let before : Bool = list_any (λ g. g.0 == f) (take k frags) in
-      asked_more f ∙ ap (λ z. (before || z) && is_read_at cat i dm f) (ne_eqb (get_or frags k d).0 f n)
-      ∙ ap (λ z. z && is_read_at cat i dm f) (or-false before)
+  asked_other f n = grind (arith, nat_tests, asked_more, or-false)
 
   -- a fragment that is read at the module is marked
   pub marks_more : (marks : List Bool) → AreMarks (is_asked cat i dm (take k frags)) marks
@@ -43,12 +39,4 @@ module _ (cat : Catalogue) (i dm : ℕ) (frags : List FragNo) (k : ℕ) (d : Fra
   -- another one is left out
   pub marks_same : (marks : List Bool) → AreMarks (is_asked cat i dm (take k frags)) marks
       → is_read_at cat i dm (get_or frags k d).0 ≡ false → AreMarks (is_asked cat i dm (take (k + 1) frags)) marks
-  marks_same marks h read f =
-      let g = (get_or frags k d).0 in
-      let before : Bool = list_any (λ z. z.0 == f) (take k frags) in
-      elim (cases_eq g f) [
-        | inl e ↦
-            let away : is_read_at cat i dm f ≡ false = subst (λ z. is_read_at cat i dm z ≡ false) e read in
-            h f ∙ and_right before (is_read_at cat i dm f) away ∙ sym (asked_more f ∙ and_right (before || (g == f)) (is_read_at cat i dm f) away)
-        | inr n ↦ h f ∙ sym (asked_other f n)
-      ]
+  marks_same marks h read f = grind (arith, nat_tests, cases_eq, and_right, asked_more, asked_other)

@@ -1,5 +1,5 @@
 -- Parallel edges: two edges between the same two nodes lie in one block.
-use Rattle.sdd_protocol.proofs.All.{AreBlocks, IsSimpleCycle, List, Some, Step, [], closed_walks_are_cycles, inl, inr, one_number_a_cycle, refl, same_Some, slice_get, sym, ℕ, ◌∙◌, ◌∷◌, ◌≡◌, ◌≢◌}
+use Rattle.sdd_protocol.proofs.All.{AreBlocks, IsSimpleCycle, List, Some, Step, [], arith, inl, inr, nat_tests, one_number_a_cycle, refl, same_Some, slice_get, sym, ℕ, ◌∙◌, ◌∷◌, ◌≡◌, ◌≢◌}
 
 -- there by one edge, and back by the other
 abbrev there_and_back : ℕ → ℕ → ℕ → ℕ → List Step
@@ -8,9 +8,7 @@ there_and_back j k a b = record { edge = j; to = b } ∷ record { edge = k; to =
 -- two edges between the same two nodes form a simple cycle
 parallel_cycle : (edges : List (ℕ × ℕ)) (j k a b : ℕ) → j ≢ k → a ≢ b
     → slice_get edges j ≡ Some (a, b) → slice_get edges k ≡ Some (a, b) → IsSimpleCycle edges a (there_and_back j k a b)
-parallel_cycle edges j k a b n m p q =
-    closed_walks_are_cycles edges a (record { edge = j; to = b }) (record { edge = k; to = a }) []
-    (inl p, (inr q, refl)) ((λ h. elim h [ inl e ↦ m e | inr x ↦ x ]), ((λ h. h), tt)) (λ e. n)
+parallel_cycle edges j k a b n m p q = grind (arith, nat_tests)
 
 -- so they have one number
 pub parallel_number : (edges : List (ℕ × ℕ)) (blocks : List ℕ) → AreBlocks edges blocks

@@ -1,5 +1,5 @@
 -- The ranges of a list of entries that have its diagonals, by one entry after another.
-use Rattle.sdd_protocol.proofs.All.{All, All-replicate, All-set, All-weaker, Covers, Diagonal, DiagonalIndex, Edge, Entry, HasCell, Horizontal, IsIndexOf, List, Vertical, ap, arith, cases_eq, cell, cond, eqb-true, false, get_or, get_or-set_other, get_or-set_same, get_or_default, inl, inr, length, length-replicate, length-set, mul-add-lt, no_diagonals, range_of, refl, set, subst, sym, true, widened, with_edge, ℕ, ◌*◌, ◌+◌, ◌<◌, ◌==◌, ◌∙◌, ◌≡◌, ◌≤◌}
+use Rattle.sdd_protocol.proofs.All.{All, All-replicate, All-set, All-weaker, Covers, Diagonal, DiagonalIndex, Edge, Entry, HasCell, IsIndexOf, List, ap, arith, cases_eq, cell, get_or, get_or-set_other, get_or-set_same, get_or_default, inl, inr, length, length-replicate, length-set, mul-add-lt, nat_tests, no_diagonals, range_of, set, subst, sym, widened, with_edge, ℕ, ◌*◌, ◌+◌, ◌<◌, ◌∙◌, ◌≡◌, ◌≤◌}
 
 -- a range up to here is in place
 abbrev IsRange : ℕ → ℕ × ℕ → Type 0
@@ -15,19 +15,13 @@ index_none entries width =
 
 -- a widened range is in place, keeps the index that it had, and has the new one
 widened_range : (p : ℕ × ℕ) (k : ℕ) → IsRange k p → IsRange (k + 1) (widened p k)
-widened_range p k h =
-    elim (p.1 == 0) as (λ b. IsRange (k + 1) (cond b k p.0, k + 1)) [ true ↦ (omega arith, omega arith) | false ↦ (omega arith, omega arith) ]
+widened_range p k h = grind (arith, nat_tests)
 
 widened_keeps : (p : ℕ × ℕ) (k m : ℕ) → p.1 ≤ k → p.0 ≤ m → m < p.1 → ((widened p k).0 ≤ m) × (m < k + 1)
-widened_keeps p k m h a b =
-    elim (p.1 == 0) as (λ t. (p.1 == 0) ≡ t → (cond t k p.0 ≤ m) × (m < k + 1)) [
-      | true ↦ λ e. let z = eqb-true p.1 0 e in absurd (omega arith)
-      | false ↦ λ e. (a, omega arith)
-    ] refl
+widened_keeps p k m h a b = grind (arith, nat_tests)
 
 widened_has : (p : ℕ × ℕ) (k : ℕ) → IsRange k p → ((widened p k).0 ≤ k) × (k < k + 1)
-widened_has p k h =
-    elim (p.1 == 0) as (λ b. (cond b k p.0 ≤ k) × (k < k + 1)) [ true ↦ (omega arith, omega arith) | false ↦ (omega arith, omega arith) ]
+widened_has p k h = grind (arith, nat_tests)
 
 module _ (entries : List Entry) (count : ℕ) (index : DiagonalIndex) (h : IsIndexOf entries count index) where
   -- the cell of a reader and a writer is there
@@ -40,10 +34,6 @@ module _ (entries : List Entry) (count : ℕ) (index : DiagonalIndex) (h : IsInd
   -- what is covered stays covered
   covers_same : (e : Edge) → HasCell index.width e → (k : ℕ) (f : Edge) → Covers index k f
       → k < count → Covers (with_edge index e count) k f
-  covers_same (Vertical i) c k f p l = p
-  covers_same (Horizontal i j) c k f p l = p
-  covers_same (Diagonal i j g) c k (Vertical a) p l = tt
-  covers_same (Diagonal i j g) c k (Horizontal a b) p l = tt
   covers_same (Diagonal i j g) c k (Diagonal a b f) p l =
       let n = cell index i.0 j.0 in
       let m = cell index a.0 b.0 in
@@ -57,52 +47,37 @@ module _ (entries : List Entry) (count : ℕ) (index : DiagonalIndex) (h : IsInd
             subst (λ z. (z.0 ≤ k) × (k < z.1)) (sym here) (widened_keeps old count k (range_at i.0 j.0 c.0 c.1).1 was.0 was.1)
         | inr d ↦ subst (λ z. (z.0 ≤ k) × (k < z.1)) (sym (get_or-set_other index.ranges n m (widened old count) (0, 0) d)) p
       ]
+  covers_same _ c k _ p l = grind (arith, nat_tests)
 
   -- the new place is covered
   covers_new : (e : Edge) → HasCell index.width e → Covers (with_edge index e count) count e
-  covers_new (Vertical i) c = tt
-  covers_new (Horizontal i j) c = tt
   covers_new (Diagonal i j g) c =
       let n = cell index i.0 j.0 in
       let old = range_of index i.0 j.0 in
       subst (λ z. (z.0 ≤ count) × (count < z.1)) (sym (get_or-set_same index.ranges n (widened old count) (0, 0) (cell_within i.0 j.0 c.0 c.1)))
       (widened_has old count (range_at i.0 j.0 c.0 c.1))
+  covers_new _ c = cc
 
   within_later : All (IsRange (count + 1)) index.ranges
   within_later = All-weaker (IsRange count) (IsRange (count + 1)) (λ p q. (q.0, omega arith)) index.ranges h.within
 
   within_more : (e : Edge) → HasCell index.width e → All (IsRange (count + 1)) (with_edge index e count).ranges
-  within_more (Vertical i) c = within_later
-  within_more (Horizontal i j) c = within_later
   within_more (Diagonal i j g) c =
       All-set (IsRange (count + 1)) index.ranges (cell index i.0 j.0) (widened (range_of index i.0 j.0) count)
       (widened_range (range_of index i.0 j.0) count (range_at i.0 j.0 c.0 c.1)) within_later
+  within_more _ c = omega arith
 
   square_more : (e : Edge)
       → length (with_edge index e count).ranges ≡ (with_edge index e count).width * (with_edge index e count).width
-  square_more (Vertical i) = h.square
-  square_more (Horizontal i j) = h.square
   square_more (Diagonal i j g) = length-set index.ranges (cell index i.0 j.0) (widened (range_of index i.0 j.0) count) ∙ h.square
+  square_more _ = cc
 
   pub index_more : (d : Entry) → count < length entries → HasCell index.width (get_or entries count d).edge
       → IsIndexOf entries (count + 1) (with_edge index (get_or entries count d).edge count)
-  index_more d l c =
-      let e = (get_or entries count d).edge in
-      record {
-        square = square_more e;
-        within = within_more e c;
-        covers = λ k x m. elim (cases_eq k count) [
-          | inl s ↦
-              let same : (get_or entries k x).edge ≡ e = ap (λ z. (get_or entries z x).edge) s ∙ ap (λ z. z.edge) (get_or_default entries count x d l) in
-              subst (λ z. Covers (with_edge index e count) k z) (sym same) (subst (λ z. Covers (with_edge index e count) z e) (sym s) (covers_new e c))
-          | inr n ↦ covers_same e c k (get_or entries k x).edge (h.covers k x (omega arith)) (omega arith)
-        ];
-      }
+  index_more d l c = grind (arith, nat_tests, square_more, within_more, cases_eq, get_or_default, covers_new, covers_same)
 
 width-with_edge : (index : DiagonalIndex) (e : Edge) (k : ℕ) → (with_edge index e k).width ≡ index.width
-width-with_edge index (Vertical i) k = refl
-width-with_edge index (Horizontal i j) k = refl
-width-with_edge index (Diagonal i j f) k = refl
+width-with_edge index e k = grind (arith, nat_tests)
 
 -- one more entry
 pub index_step : (entries : List Entry) (count width : ℕ) (index next : DiagonalIndex) (d : Entry)

@@ -16,7 +16,7 @@ pub use Rattle.sdd_obligations.proofs.OfNext.{site_there}
 pub use Rattle.sdd_obligations.proofs.ExchangesGoByTurns.{spoken}
 pub use Rattle.sdd_obligations.proofs.Starts.{small_home}
 pub use Rattle.sdd_obligations.proofs.base.Membership.{Contains-cases, Contains-here, Contains-later, Contains-nil}
-pub use Rattle.sdd_obligations.proofs.catalog.Found.{map-map}
+pub use Rattle.std.proofs.lemmas.Simd.{map-map}
 pub use Rattle.sdd_obligations.proofs.catalog.Sound.{sound_whole}
 pub use Rattle.sdd_obligations.proofs.class_eras.EraOfWhole.{era_of_whole}
 pub use Rattle.sdd_obligations.proofs.class_eras.EraSets.{era_of_itself}

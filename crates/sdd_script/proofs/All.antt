@@ -2,7 +2,8 @@
 pub use Rattle.sdd_lang.proofs.ReadSetDecides.{each_both as all_front}
 pub use Rattle.sdd_lang.proofs.base.ReadingLaws.{Answers, along_ok, bind_ok, known_ok, must_ok, ok_along, ok_is}
 pub use Rattle.sdd_lang.proofs.catalog.Distinct.{number_of_place}
-pub use Rattle.sdd_lang.proofs.catalog.Found.{both_empty, empty_of_map, map-map, unfound_at}
+pub use Rattle.sdd_lang.proofs.catalog.Found.{both_empty, empty_of_map, unfound_at}
+pub use Rattle.std.proofs.lemmas.Simd.{map-map}
 pub use Rattle.sdd_lang.proofs.catalog.FragmentOf.{found_one}
 pub use Rattle.sdd_lang.proofs.catalog.NameLemmas.{has_name_of_items, list_any-map}
 pub use Rattle.sdd_lang.proofs.catalog.RoundTrip.{have_numbers}
@@ -24,7 +25,7 @@ pub use Rattle.sdd_script.specs.FirstWords.{class_key_in, event_key_in, inner_ke
 pub use Rattle.sdd_script.specs.Laws.{ReadsAgain, ReadsSpelling}
 pub use Rattle.sdd_script.specs.LineRules.{closed, done_rules, end_rules, event_rules, is_submitted, keyword_rules, line_rules, one_more_row, opened, row_rules, statement_limits, statement_rules, txn_rules, with_event, with_statement, with_submitted, words_rules, written_with}
 pub use Rattle.sdd_script.specs.Naming.{class_names, column_named, columns_of, fragment_named, key_of, kind_of_place, name_of, name_of_class, name_of_relation, relation_if, relation_named, relation_of}
-pub use Rattle.sdd_script.specs.Occurrences.{count_of, data_module_of, deliver_of, dm_of, down_of, flight_place, from_one, link_of, lose_of, module_of, number_named, numbered, redeclare_of, repeat_of, resend_of, settle_of, site_in, site_of, submit_of, tick_of, tm_of, txn_named, up_of}
+pub use Rattle.sdd_script.specs.Occurrences.{count_of, data_module_of, deliver_of, dm_of, down_of, event_of, flight_place, from_one, link_of, lose_of, module_of, number_named, numbered, redeclare_of, repeat_of, resend_of, settle_of, site_in, site_of, submit_of, tick_of, tm_of, txn_named, up_of}
 pub use Rattle.sdd_script.specs.OpenLists.{class_so_far, classes_in, no_classes, reads_in, takes_reads as takes_reads_in, takes_writes as takes_writes_in, with_class, with_read, with_write, writes_in}
 pub use Rattle.sdd_script.specs.Places.{is_ended, open_list, reads_at, takes_classes, takes_events, takes_lists, takes_reads, takes_rows, takes_statements, takes_txns, takes_writes, writes_at}
 pub use Rattle.sdd_script.specs.Redeclaring.{has_lists, is_down, is_redeclare, may_follow, may_redeclare, some_down}

@@ -1,7 +1,7 @@
 -- Assignments: what is read is spelled and fits, and what is spelled and fits is read.
-use Rattle.sdd_script.proofs.All.{Add, AllByRecursion, Answers, Assign, AssignsValue, BadNumber, Bool, Catalogue, FitsAssign, FitsRef, Found, IsColumn, KeyChanged, Kind, List, None, Ok, Option, Plain, Quoted, Ref, RelNo, Result, Setting, Some, To, Word, WorkRule, WrongKind, [], add_of, addend_of, adds_of, along, along_ok, ap, arith, assign_of, assign_words, bind_ok, both_hold, bytes_eq, bytes_eq-Decides, codes, column_of_use, column_word, cond, eq-eqb, eqb, false, if◌then◌else◌, is_free, is_of_kind, key_column, key_of, kind_at, kind_of_ref, known_ok, looks_like_column, mag, map, must, ne_eqb, not, number_again, number_of, number_takes, ok_along, ok_is, option_map, own_column, refl, rel_of, sets_words, setting_of, signed_decimal, subst, sym, to_of, true, value_of, value_word, ℕ, ℤ, ◌&&◌, ◌++◌, ◌+◌, ◌<◌, ◌==◌, ◌>>=◌, ◌^◌, ◌∙◌, ◌∷◌, ◌≡◌, ◌≢◌, ◌≤◌}
+use Rattle.sdd_script.proofs.All.{Add, AllByRecursion, Answers, Assign, AssignsValue, BadNumber, Bool, Catalogue, FitsAssign, FitsRef, Found, IsColumn, Kind, List, None, Ok, Option, Plain, Quoted, Ref, RelNo, Result, Setting, Some, To, Word, WorkRule, [], add_of, addend_of, adds_of, along, along_ok, ap, arith, assign_of, assign_words, bind_ok, both_hold, bytes_eq, bytes_eq-Decides, codes, column_of_use, column_word, cond, eq-eqb, eqb, false, is_free, is_of_kind, key_column, key_of, kind_at, kind_of_ref, known_ok, looks_like_column, mag, map, ne_eqb, not, number_again, number_of, number_takes, ok_along, ok_is, option_map, own_column, refl, rel_of, sets_words, setting_of, signed_decimal, subst, sym, to_of, true, value_of, value_word, ℕ, ℤ, ◌&&◌, ◌++◌, ◌+◌, ◌<◌, ◌==◌, ◌^◌, ◌∙◌, ◌∷◌, ◌≡◌, ◌≢◌, ◌≤◌}
 use Rattle.sdd_words.specs.Forms.{settings, joined}
-use Rattle.sdd_script.proofs.StepLaws.{must_then, not_true, three_same, some_of}
+use Rattle.sdd_script.proofs.StepLaws.{must_then, not_true, some_of}
 use Rattle.sdd_script.proofs.ValueLaws.{value_takes, value_again, kind_int, kind_same, key_is}
 use Rattle.sdd_script.proofs.WordLooks.{value_free, number_free}
 use Rattle.sdd_script.proofs.UseLaws.{IsKnown}
@@ -57,7 +57,7 @@ setting_some left right w None s p e = absurd cc
 setting_some left right w (Some adds) s p e =
     let made : Setting = record { left = left; adds = adds; right = right } in
     let same : made ≡ s = setting_is made s e in
-    (ap (λ (x : Setting). x.left) same, adds_take w adds p ∙ ap (λ (x : Setting). Plain (adds_word x.adds)) same, ap (λ (x : Setting). x.right) same)
+    rw (← same) (refl, adds_take w adds p, refl)
 
 setting_if : (left op right : Word) (s : Setting) (b : Bool) → (looks_like_column left && is_free right) ≡ b
     → cond b (option_map (λ adds. record { left = left; adds = adds; right = right }) (adds_of op)) None ≡ Some s → IsSetting left op right s
@@ -79,24 +79,18 @@ pub record AreSettings (ws : List Word) (ss : List Setting) : Type 0 where
   pub spelled : ws ≡ setted ss
   pub looks : AllByRecursion LooksSet ss
 
-four_same : (a b c d e f : Word) (xs ys : List Word) → a ≡ b → c ≡ d → e ≡ f → xs ≡ ys → a ∷ c ∷ e ∷ xs ≡ b ∷ d ∷ f ∷ ys
-four_same a b c d e f xs ys p q r s = cc
-
 pub settings_take : (ws : List Word) (ss : List Setting) → settings ws ≡ Some ss → AreSettings ws ss
 unfolding settings
 settings_take [] ss e = subst (λ (l : List Setting). AreSettings [] l) (list_is [] ss e) (record { spelled = refl; looks = tt })
-settings_take (a ∷ []) ss e = absurd cc
-settings_take (a ∷ b ∷ []) ss e = absurd cc
 settings_take (left ∷ op ∷ right ∷ more) ss e =
     let j = joined_is (setting_of left op right) (settings more) ss e in
     let one = setting_if left op right j.head (looks_like_column left && is_free right) refl j.first in
     let rest = settings_take more j.rest j.others in
     subst (λ (l : List Setting). AreSettings (left ∷ op ∷ right ∷ more) l) j.whole (record {
-      spelled =
-          four_same left j.head.left op (Plain (adds_word j.head.adds)) right j.head.right more
-          (setted j.rest) one.left_is one.op_is one.right_is rest.spelled;
+      spelled = cc;
       looks = (one.looks, rest.looks);
     })
+settings_take (a ∷ _) ss e = absurd cc
 
 setting_again : (s : Setting) → LooksSet s → setting_of s.left (Plain (adds_word s.adds)) s.right ≡ Some s
 setting_again s h =
@@ -111,7 +105,7 @@ settings_again [] h = refl
 settings_again (s ∷ ss) h =
     let one = setting_again s h.0 in
     let more = settings_again ss h.1 in
-    ap (λ (o : Option Setting). joined o (settings (setted ss))) one ∙ ap (joined (Some s)) more
+    rw (one, more) refl
 
 -- ---- the assignments
 
@@ -162,35 +156,31 @@ assign_if : (cat : Catalogue) (rel : RelNo) (left op right : Word) (adds : Bool)
     → cond adds (add_of f right) (to_of f right) ≡ Ok a
     → (left ∷ op ∷ right ∷ [] ≡ assign_words cat rel a) × FitsAssign cat rel.0 a × AssignsValue a
 assign_if cat rel left op right true f a own other is e =
-    let b = must_then WrongKind (is_of_kind (Some f.kind) kinds.Int) (λ _. addend_of right >>= λ number. Ok (Add f.at.column number)) a e in
-    let c = bind_ok (addend_of right) (λ number. Ok (Add f.at.column number)) a b.1 in
+    let b = must_then _ (is_of_kind (Some f.kind) kinds.Int) _ a e in
+    let c = bind_ok (addend_of right) _ a b.1 in
     let n = addend_takes right c.0 c.1 in
     subst (λ (x : Assign). (left ∷ op ∷ right ∷ [] ≡ assign_words cat rel x) × FitsAssign cat rel.0 x × AssignsValue x)
     (ok_is (Add f.at.column c.0) a c.2) (
-      three_same left (column_word cat (rel ∷ []) (own_column f.at.column)) op (Plain (codes "+=")) right
-          (Plain (signed_decimal c.0)) own.spelled is n.0,
+      cc,
       (own.column, other, own.kind ∙ sym (kind_int f.kind b.0)),
       n.1,
     )
 assign_if cat rel left op right false f a own other is e =
-    let c = bind_ok (value_of (Some f.kind) right) (λ value. Ok (To f.at.column value)) a e in
+    let c = bind_ok (value_of (Some f.kind) right) _ a e in
     let v = value_takes f.kind right c.0 c.1 in
     subst (λ (x : Assign). (left ∷ op ∷ right ∷ [] ≡ assign_words cat rel x) × FitsAssign cat rel.0 x × AssignsValue x)
     (ok_is (To f.at.column c.0) a c.2) (
-      three_same left (column_word cat (rel ∷ []) (own_column f.at.column)) op (Plain (codes "=")) right
-          (value_word c.0) own.spelled is v.spelled,
+      cc,
       (own.column, other, v.same ∙ sym own.kind),
       v.fits,
     )
 
 pub assign_takes : (cat : Catalogue) (rel : RelNo) (s : Setting) (a : Assign) → LooksSet s → assign_of cat rel.0 s ≡ Ok a → IsAssign cat rel s a
 assign_takes cat rel s a looks e =
-    let b = bind_ok (column_of_use cat (Some rel.0 ∷ []) s.left) (λ (f : Found). must KeyChanged
-    (not (f.at.column == key_of cat rel.0)) >>=
-    λ _. (if s.adds then add_of f s.right else to_of f s.right)) a e in
+    let b = bind_ok (column_of_use cat (Some rel.0 ∷ []) s.left) _ a e in
     let f : Found = b.0 in
     let own = own_takes cat rel s.left f looks.0 b.1 in
-    let c = must_then KeyChanged (not (f.at.column == key_of cat rel.0)) (λ _. (if s.adds then add_of f s.right else to_of f s.right)) a b.2 in
+    let c = must_then _ (not (f.at.column == key_of cat rel.0)) _ a b.2 in
     let other : f.at.column ≢ key_column cat rel.0 =
     λ p. not_equal f.at.column (key_of cat rel.0) (not_true (eqb f.at.column (key_of cat rel.0)) c.0)
     (p ∙ sym (key_is cat rel.0)) in
@@ -208,8 +198,6 @@ reads cat rel i s = assign_of cat rel s
 of_answers : (cat : Catalogue) (rel : RelNo) (i : ℕ) (ss : List Setting) (sets : List Assign)
     → AllByRecursion LooksSet ss → Answers (reads cat rel.0) i ss sets → AreAssigns cat rel (setted ss) sets
 of_answers cat rel i [] [] looks h = record { spelled = refl; fits = tt; values = tt }
-of_answers cat rel i [] (a ∷ sets) looks h = absurd h
-of_answers cat rel i (s ∷ ss) [] looks h = absurd h
 of_answers cat rel i (s ∷ ss) (a ∷ sets) looks h =
     let one = assign_takes cat rel s a looks.0 h.0 in
     let more = of_answers cat rel (i + 1) ss sets looks.1 h.1 in
@@ -218,6 +206,7 @@ of_answers cat rel i (s ∷ ss) (a ∷ sets) looks h =
       fits = (one.fits, more.fits);
       values = (one.value, more.values);
     }
+of_answers cat rel i _ _ looks h = absurd h
 
 pub assigns_take : (cat : Catalogue) (rel : RelNo) (ws : List Word) (ss : List Setting) (sets : List Assign)
     → settings ws ≡ Some ss → along (reads cat rel.0) 0 ss ≡ Ok sets → AreAssigns cat rel ws sets
@@ -265,12 +254,8 @@ assign_again cat k rel h (Add column by) fits v =
 
 words_same : (cat : Catalogue) (rel : RelNo) (sets : List Assign) → sets_words cat rel sets ≡ setted (map (setting_for cat rel) sets)
 words_same cat rel [] = refl
-words_same cat rel (To column value ∷ sets) =
-    ap (λ (l : List Word). column_word cat (rel ∷ []) (own_column column) ∷ Plain
-    (codes "=") ∷ value_word value ∷ l) (words_same cat rel sets)
-words_same cat rel (Add column by ∷ sets) =
-    ap (λ (l : List Word). column_word cat (rel ∷ []) (own_column column) ∷ Plain (codes "+=") ∷ Plain
-    (signed_decimal by) ∷ l) (words_same cat rel sets)
+words_same cat rel (To column value ∷ sets) = rw (words_same cat rel sets) refl
+words_same cat rel (Add column by ∷ sets) = rw (words_same cat rel sets) refl
 
 all_look : (cat : Catalogue) → IsKnown cat → (rel : RelNo) → AreParts cat (rel ∷ []) → (sets : List Assign)
     → AllByRecursion (FitsAssign cat rel.0) sets → AllByRecursion AssignsValue sets

@@ -93,13 +93,11 @@ catalogue_or_lists cat classes name = list_any-append (bytes_eq name) (class_nam
 
 either_first : (b l k : Bool) → b ≡ l → b ≡ true → b ≡ (l || k)
 either_first true true k e t = refl
-either_first true false k e t = absurd cc
-either_first false l k e t = absurd cc
+either_first _ _ k e t = absurd cc
 
 either_second : (b l d k : Bool) → b ≡ l → b ≡ false → d ≡ k → d ≡ (l || k)
 either_second false false d k e f g = g
-either_second false true d k e f g = absurd cc
-either_second true l d k e f g = absurd cc
+either_second _ _ d k e f g = absurd cc
 
 abbrev pub in_lists : List ℕ → List (List ClassPart) → Bool
 in_lists name lists = list_any (λ (l : List ClassPart). list_any (λ (c : ClassPart). bytes_eq name c.name) l) lists

@@ -1,7 +1,7 @@
 -- Conditions: what is read is spelled and fits, and what is spelled and fits is read.
-use Rattle.sdd_script.proofs.All.{AllByRecursion, Answers, Bool, Catalogue, Comparison, Condition, Const, FitsCondition, Found, HoldsValue, Kind, List, None, Ok, Op, Option, Parts, Plain, Quoted, RelNo, Result, Same, Some, Word, WorkRule, WrongKind, [], along_ok, ap, bind_ok, both_hold, bytes_eq, bytes_eq-Decides, codes, column_of_use, column_word, comparison_of, cond, condition_of, condition_words, conditions_of, conditions_words, const_of, false, if◌then◌else◌, is_free, is_key, is_of_kind, kind_of_ref, looks_like_column, map, must, names_column, ok_along, ok_is, op_in, op_of, op_word, option_map, refl, same_of, subst, sym, true, value_of, value_word, ℕ, ◌&&◌, ◌++◌, ◌+◌, ◌>>=◌, ◌∙◌, ◌∷◌, ◌≡◌}
+use Rattle.sdd_script.proofs.All.{AllByRecursion, Answers, Bool, Catalogue, Comparison, Condition, Const, FitsCondition, Found, HoldsValue, Kind, List, None, Ok, Op, Option, Parts, Plain, Quoted, RelNo, Result, Same, Some, Word, WorkRule, [], along_ok, ap, bind_ok, both_hold, bytes_eq, bytes_eq-Decides, codes, column_of_use, column_word, comparison_of, cond, condition_of, condition_words, conditions_of, conditions_words, const_of, false, is_free, is_key, is_of_kind, kind_of_ref, looks_like_column, map, names_column, ok_along, ok_is, op_in, op_of, op_word, option_map, refl, same_of, subst, sym, true, value_of, value_word, ℕ, ◌&&◌, ◌++◌, ◌+◌, ◌∙◌, ◌∷◌, ◌≡◌}
 use Rattle.sdd_words.specs.Forms.{comparisons, joined}
-use Rattle.sdd_script.proofs.StepLaws.{must_then, three_same, some_of}
+use Rattle.sdd_script.proofs.StepLaws.{must_then, some_of}
 use Rattle.sdd_script.proofs.ValueLaws.{value_takes, value_again, same_kind, kind_same}
 use Rattle.sdd_script.proofs.WordCuts.{key_is_that, is_key_again}
 use Rattle.sdd_script.proofs.WordLooks.{value_free, value_names_no_column}
@@ -28,10 +28,6 @@ made_is x y e = cc
 pub list_is : {A : Type 0} (x y : List A) → some_of x ≡ some_of y → x ≡ y
 list_is x y e = cc
 
-five_same : (a b c d e f g h : Word) (xs ys : List Word) → a ≡ b → c ≡ d → e ≡ f → g ≡ h → xs ≡ ys
-    → a ∷ c ∷ e ∷ g ∷ xs ≡ b ∷ d ∷ f ∷ h ∷ ys
-five_same a b c d e f g h xs ys p q r s t = cc
-
 op_choice : (bytes : List ℕ) (o op : Op) (rest : Option Op) (b : Bool) → bytes_eq bytes (op_word o) ≡ b
     → cond b (Some o) rest ≡ Some op → (rest ≡ Some op → bytes ≡ op_word op) → bytes ≡ op_word op
 op_choice bytes o op rest true e is later = (bytes_eq-Decides bytes (op_word o)).0 e ∙ ap op_word (op_is o op is)
@@ -52,11 +48,7 @@ op_takes (Quoted text) op e = absurd cc
 
 op_again : (op : Op) → op_of (Plain (op_word op)) ≡ Some op
 op_again ops.Eq = refl
-op_again ops.Ne = refl
-op_again ops.Lt = refl
-op_again ops.Le = refl
-op_again ops.Gt = refl
-op_again ops.Ge = refl
+op_again _ = refl
 
 record IsComparison (key : List ℕ) (k left op right : Word) (c : Comparison) : Type 0 where
   key_is : k ≡ Plain key
@@ -72,7 +64,7 @@ comparison_some left right w None c p e = absurd cc
 comparison_some left right w (Some op) c p e =
     let made : Comparison = record { left = left; op = op; right = right } in
     let same : made ≡ c = made_is made c e in
-    (ap (λ (x : Comparison). x.left) same, op_takes w op p ∙ ap (λ (x : Comparison). Plain (op_word x.op)) same, ap (λ (x : Comparison). x.right) same)
+    rw (← same) (refl, op_takes w op p, refl)
 
 comparison_if : (key : List ℕ) (k left op right : Word) (c : Comparison) (b : Bool) → (is_key key k && looks_like_column left && is_free right) ≡ b
     → cond b (option_map (λ o. record { left = left; op = o; right = right }) (op_of op)) None ≡ Some c → IsComparison key k left op right c
@@ -101,31 +93,19 @@ pub record IsJoined {A : Type 0} (o : Option A) (os : Option (List A)) (xs : Lis
   pub whole : head ∷ rest ≡ xs
 
 pub joined_is : {A : Type 0} (o : Option A) (os : Option (List A)) (xs : List A) → joined o os ≡ Some xs → IsJoined o os xs
-joined_is None os xs e = absurd cc
-joined_is (Some x) None xs e = absurd cc
 joined_is (Some x) (Some ys) xs e = record { head = x; rest = ys; first = refl; others = refl; whole = list_is (x ∷ ys) xs e }
+joined_is _ _ xs e = absurd cc
 
 pub comparisons_take : (key : List ℕ) (ws : List Word) (cs : List Comparison) → comparisons key ws ≡ Some cs → AreCompared key ws cs
 unfolding comparisons
 comparisons_take key [] cs e = subst (λ (l : List Comparison). AreCompared key [] l) (list_is [] cs e) (record { spelled = refl; looks = tt })
-comparisons_take key (a ∷ []) cs e = absurd cc
-comparisons_take key (a ∷ b ∷ []) cs e = absurd cc
-comparisons_take key (a ∷ b ∷ c ∷ []) cs e = absurd cc
 comparisons_take key (k ∷ left ∷ op ∷ right ∷ more) cs e =
     let j = joined_is (comparison_of key k left op right) (comparisons (codes "and") more) cs e in
     let one = comparison_if key k left op right j.head (is_key key k && looks_like_column left && is_free right) refl j.first in
     let rest = comparisons_take (codes "and") more j.rest j.others in
-    let a = one.key_is in
-    let b = one.left_is in
-    let c = one.op_is in
-    let d = one.right_is in
-    let r = rest.spelled in
     subst (λ (l : List Comparison). AreCompared key (k ∷ left ∷ op ∷ right ∷ more) l) j.whole
-    (record {
-      spelled = five_same k (Plain key) left j.head.left op (Plain (op_word j.head.op)) right
-          j.head.right more (compared (codes "and") j.rest) a b c d r;
-      looks = (one.looks, rest.looks);
-    })
+    (record { spelled = cc; looks = (one.looks, rest.looks) })
+comparisons_take key (a ∷ _) cs e = absurd cc
 
 comparison_again : (key : List ℕ) (c : Comparison) → LooksRight c → comparison_of key (Plain key) c.left (Plain (op_word c.op)) c.right ≡ Some c
 comparison_again key c h =
@@ -141,7 +121,7 @@ comparisons_again key [] h = refl
 comparisons_again key (c ∷ cs) h =
     let one = comparison_again key c h.0 in
     let more = comparisons_again (codes "and") cs h.1 in
-    ap (λ (o : Option Comparison). joined o (comparisons (codes "and") (compared (codes "and") cs))) one ∙ ap (joined (Some c)) more
+    rw (one, more) refl
 
 -- ---- the conditions
 
@@ -154,16 +134,12 @@ same_takes : (cat : Catalogue) (rels : List RelNo) (c : Comparison) (left : Foun
     → IsRef cat rels c.left left → IsNaming c.op c.right → same_of cat (parts_for rels) left c.right ≡ Ok d
     → IsCondition cat rels c d
 same_takes cat rels c left d l n e =
-    let a = bind_ok (column_of_use cat (parts_for rels) c.right)
-    (λ (r : Found). must WrongKind (is_of_kind (Some left.kind) r.kind) >>=
-    λ _. Ok (Same left.at r.at)) d e in
+    let a = bind_ok (column_of_use cat (parts_for rels) c.right) _ d e in
     let r = ref_takes cat rels c.right a.0 n.looks a.1 in
-    let b = must_then WrongKind (is_of_kind (Some left.kind) a.0.kind) (λ _. Ok (Same left.at a.0.at)) d a.2 in
+    let b = must_then _ (is_of_kind (Some left.kind) a.0.kind) _ d a.2 in
     let k : left.kind ≡ a.0.kind = same_kind left.kind a.0.kind b.0 in
     subst (λ (x : Condition). IsCondition cat rels c x) (ok_is (Same left.at a.0.at) d b.1) (record {
-      spelled = three_same c.left (column_word cat rels left.at) (Plain (op_word c.op))
-          (Plain (op_word ops.Eq)) c.right (column_word cat rels a.0.at) l.spelled
-          (ap (λ (o : Op). Plain (op_word o)) n.equals) r.spelled;
+      spelled = cc;
       fits = (l.fits, r.fits, l.kind ∙ k ∙ sym r.kind);
       value = tt;
     })
@@ -171,11 +147,10 @@ same_takes cat rels c left d l n e =
 const_takes : (cat : Catalogue) (rels : List RelNo) (c : Comparison) (left : Found) (d : Condition)
     → IsRef cat rels c.left left → const_of left c.op c.right ≡ Ok d → IsCondition cat rels c d
 const_takes cat rels c left d l e =
-    let a = bind_ok (value_of (Some left.kind) c.right) (λ value. Ok (Const left.at c.op value)) d e in
+    let a = bind_ok (value_of (Some left.kind) c.right) _ d e in
     let v = value_takes left.kind c.right a.0 a.1 in
     subst (λ (x : Condition). IsCondition cat rels c x) (ok_is (Const left.at c.op a.0) d a.2) (record {
-      spelled = three_same c.left (column_word cat rels left.at) (Plain (op_word c.op))
-          (Plain (op_word c.op)) c.right (value_word a.0) l.spelled refl v.spelled;
+      spelled = cc;
       fits = (l.fits, v.same ∙ sym l.kind);
       value = v.fits;
     })
@@ -189,9 +164,7 @@ condition_if cat rels c left d false t l e = const_takes cat rels c left d l e
 pub condition_takes : (cat : Catalogue) (rels : List RelNo) (c : Comparison) (d : Condition) → LooksRight c
     → condition_of cat (parts_for rels) c ≡ Ok d → IsCondition cat rels c d
 condition_takes cat rels c d looks e =
-    let a = bind_ok (column_of_use cat (parts_for rels) c.left)
-    (λ left. (if names_column c.op c.right then same_of cat (parts_for rels) left c.right else const_of
-    left c.op c.right)) d e in
+    let a = bind_ok (column_of_use cat (parts_for rels) c.left) _ d e in
     condition_if cat rels c a.0 d (names_column c.op c.right) refl (ref_takes cat rels c.left a.0 looks.0 a.1) a.2
 
 pub record AreConditions (cat : Catalogue) (rels : List RelNo) (key : List ℕ) (ws : List Word) (ds : List Condition) : Type 0 where
@@ -206,8 +179,6 @@ of_answers : (cat : Catalogue) (rels : List RelNo) (key : List ℕ) (i : ℕ) (c
     (ds : List Condition) → AllByRecursion LooksRight cs → Answers (reads cat (parts_for rels)) i cs ds
     → AreConditions cat rels key (compared key cs) ds
 of_answers cat rels key i [] [] looks h = record { spelled = refl; fits = tt; values = tt }
-of_answers cat rels key i [] (d ∷ ds) looks h = absurd h
-of_answers cat rels key i (c ∷ cs) [] looks h = absurd h
 of_answers cat rels key i (c ∷ cs) (d ∷ ds) looks h =
     let one = condition_takes cat rels c d looks.0 h.0 in
     let more = of_answers cat rels (codes "and") (i + 1) cs ds looks.1 h.1 in
@@ -217,6 +188,7 @@ of_answers cat rels key i (c ∷ cs) (d ∷ ds) looks h =
       fits = (one.fits, more.fits);
       values = (one.value, more.values);
     }
+of_answers cat rels key i _ _ looks h = absurd h
 
 -- the conditions that were read, with their words
 pub conditions_take : (cat : Catalogue) (rels : List RelNo) (key : List ℕ) (ws : List Word)
@@ -258,12 +230,8 @@ condition_again cat k rels h (Same left right) fits v =
 words_same : (cat : Catalogue) (rels : List RelNo) (key : List ℕ) (ds : List Condition)
     → conditions_words key cat rels ds ≡ compared key (map (comparison_for cat rels) ds)
 words_same cat rels key [] = refl
-words_same cat rels key (Const left op value ∷ ds) =
-    ap (λ (l : List Word). Plain key ∷ column_word cat rels left ∷ Plain (op_word op) ∷ value_word value ∷
-    l) (words_same cat rels (codes "and") ds)
-words_same cat rels key (Same left right ∷ ds) =
-    ap (λ (l : List Word). Plain key ∷ column_word cat rels left ∷ Plain (op_word ops.Eq) ∷ column_word cat
-    rels right ∷ l) (words_same cat rels (codes "and") ds)
+words_same cat rels key (Const left op value ∷ ds) = rw (words_same cat rels (codes "and") ds) refl
+words_same cat rels key (Same left right ∷ ds) = rw (words_same cat rels (codes "and") ds) refl
 
 all_look : (cat : Catalogue) → IsKnown cat → (rels : List RelNo) → AreParts cat rels → (ds : List Condition)
     → AllByRecursion (FitsCondition cat rels) ds → AllByRecursion HoldsValue ds → AllByRecursion LooksRight

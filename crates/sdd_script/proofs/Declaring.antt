@@ -19,11 +19,9 @@ class_valid cat name tm named there = record {
   writes_once = refl;
 }
 
-names_with : (cat : Catalogue) (classes : List ClassPart) (c : ClassPart) → class_names cat ++ part_names
-    (classes ++ c ∷ []) ≡ (class_names cat ++ part_names classes) ++ c.name ∷ []
-names_with cat classes c = ap (λ (l : List (List ℕ)). class_names cat ++ l)
-    (map-append (λ (k : ClassPart). k.name) classes (c ∷ []))
-    ∙ sym (append_assoc (class_names cat) (part_names classes) (c.name ∷ []))
+pub names_parted : (cat : Catalogue) (front : List ClassPart) (c : ClassPart) (cs : List ClassPart)
+    → class_names cat ++ part_names (front ++ c ∷ cs) ≡ (class_names cat ++ part_names front) ++ c.name ∷ part_names cs
+names_parted cat front c cs = simp (map-append, append_assoc)
 
 declares_more : (cat : Catalogue) (classes : List ClassPart) (c : ClassPart) (n : ℕ)
     → Declares cat classes n → IsValidClass cat c
@@ -31,7 +29,7 @@ declares_more : (cat : Catalogue) (classes : List ClassPart) (c : ClassPart) (n 
     → Declares cat (classes ++ c ∷ []) (n + 1)
 declares_more cat classes c n d valid other room = record {
   valid = all_more (IsValidClass cat) classes c d.valid valid;
-  names = subst (λ (l : List (List ℕ)). repeats l ≡ false) (sym (names_with cat classes c))
+  names = subst (λ (l : List (List ℕ)). repeats l ≡ false) (sym (names_parted cat classes c []))
       (repeats_not (class_names cat ++ part_names classes) c.name d.names
       (none_any (bytes_eq c.name) (class_names cat ++ part_names classes) other));
   counted = omega (arith, d.counted, one_longer classes c);
@@ -63,9 +61,9 @@ declares_changed : (cat : Catalogue) (classes : List ClassPart) (c d : ClassPart
     → Declares cat (classes ++ d ∷ []) n
 declares_changed cat classes c d n h same f = record {
   valid = all_changed (IsValidClass cat) classes c d h.valid f;
-  names = subst (λ (l : List (List ℕ)). repeats l ≡ false) (names_with cat classes c
+  names = subst (λ (l : List (List ℕ)). repeats l ≡ false) (names_parted cat classes c []
       ∙ ap (λ (name : List ℕ). (class_names cat ++ part_names classes) ++ name ∷ []) same
-      ∙ sym (names_with cat classes d)) h.names;
+      ∙ sym (names_parted cat classes d [])) h.names;
   counted = omega (arith, h.counted, one_longer classes c, one_longer classes d);
   few = h.few;
 }

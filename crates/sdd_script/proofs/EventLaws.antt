@@ -1,5 +1,5 @@
 -- Events: what is read is spelled and is there, and what is spelled and is there is read.
-use Rattle.sdd_script.proofs.All.{BadEvent, BadLine, BadNumber, Bool, Catalogue, D, DmNo, Down, Event, HasNoNewline, HasNoSpace, IsAscii-cons, IsAscii-nil, IsFrom1To, IsLink, IsPlain, IsSite, IsUtf8, IsUtf8-append, IsUtf8-from_ascii, List, MAX_PLACE, MAX_TICKS, None, Ok, Option, Plain, Quoted, Redeclare, Resend, Result, Settle, Site, Some, T, Tick, TmNo, U, Up, Word, WorkRule, [], ap, are_linked, arith, bind_ok, both_are, both_hold, cond, count_of, count_word, data_module_of, decimal, dm_of, down_of, eqb-true, false, flight_place, from_one, is_free, known_ok, length, link_of, lt-ltb, ltb-true, module_of, must, nat_le, nat_lt, nat_lt as ltb, negsuc, number_again, number_of, number_takes, numbered, ok_is, option_map, pos, redeclare_of, refl, resend_of, settle_of, site_in, site_of, site_word, subst, tick_of, tm_no, tm_of, true, up_of, ℕ, ℤ, ◌&&◌, ◌<◌, ◌==◌, ◌>>=◌, ◌^◌, ◌∙◌, ◌∷◌, ◌≡◌, ◌≢◌}
+use Rattle.sdd_script.proofs.All.{BadEvent, BadLine, BadNumber, Bool, Catalogue, D, DmNo, Down, Event, HasNoNewline, HasNoSpace, IsAscii-cons, IsAscii-nil, IsFrom1To, IsLink, IsPlain, IsSite, IsUtf8, IsUtf8-append, IsUtf8-from_ascii, List, MAX_PLACE, MAX_TICKS, None, Ok, Option, Plain, Quoted, Redeclare, Resend, Settle, Site, Some, T, Tick, TmNo, U, Up, Word, [], ap, are_linked, arith, bind_ok, both_are, both_hold, cond, count_of, count_word, data_module_of, decimal, dm_of, down_of, eqb-true, false, flight_place, from_one, is_free, known_ok, length, link_of, lt-ltb, ltb-true, module_of, must, nat_le, nat_lt, nat_lt as ltb, negsuc, number_again, number_of, number_takes, numbered, ok_is, option_map, pos, redeclare_of, refl, resend_of, settle_of, site_in, site_of, site_word, subst, tick_of, tm_no, tm_of, true, up_of, ℕ, ℤ, ◌&&◌, ◌<◌, ◌==◌, ◌>>=◌, ◌^◌, ◌∙◌, ◌∷◌, ◌≡◌, ◌≢◌}
 use Rattle.sdd_script.proofs.StepLaws.{must_then, le_of, of_le, some_is}
 use Rattle.sdd_script.proofs.WordLooks.{IsFine, count_fine, count_free}
 use Rattle.sdd_script.proofs.UseLaws.{IsKnown}
@@ -95,17 +95,12 @@ site_again cat k (D dm) h = let e = numbered_again cat.dms dm.0 (omega (arith, k
 
 module_takes : (cat : Catalogue) (w : Word) (tm : TmNo) (site : Site) → IsSiteWord cat w site
     → module_of site ≡ Ok tm → (w ≡ site_word (T tm)) × IsFrom1To cat.tms tm.0
-module_takes cat w tm U h e = absurd cc
-module_takes cat w tm (D dm) h e = absurd cc
-module_takes cat w tm (T t) h e = let same : t ≡ tm =
-    ok_is t tm e in (
-      h.spelled ∙ ap (λ (x : TmNo). site_word (T x)) same,
-      subst (λ (x : TmNo). IsFrom1To cat.tms x.0) same h.there,
-    )
+module_takes cat w tm (T t) h e = let same = ok_is t tm e in rw (← same) (h.spelled, h.there)
+module_takes cat w tm _ h e = absurd cc
 
 pub tm_takes : (cat : Catalogue) (w : Word) (tm : TmNo) → tm_of cat w ≡ Ok tm → (w ≡ site_word (T tm)) × IsFrom1To cat.tms tm.0
 tm_takes cat w tm e =
-    let a = bind_ok (site_of cat w) (λ site. module_of site) tm e in
+    let a = bind_ok (site_of cat w) _ tm e in
     module_takes cat w tm a.0 (site_takes cat w a.0 a.1) a.2
 
 pub tm_again : (cat : Catalogue) → IsKnown cat → (tm : TmNo) → IsFrom1To cat.tms tm.0 → tm_of cat (site_word (T tm)) ≡ Ok tm
@@ -113,17 +108,12 @@ tm_again cat k tm h = let e = site_again cat k (T tm) h in rw e refl
 
 data_module_takes : (cat : Catalogue) (w : Word) (dm : DmNo) (site : Site) → IsSiteWord cat w site
     → data_module_of site ≡ Ok dm → (w ≡ site_word (D dm)) × IsFrom1To cat.dms dm.0
-data_module_takes cat w dm U h e = absurd cc
-data_module_takes cat w dm (T tm) h e = absurd cc
-data_module_takes cat w dm (D d) h e = let same : d ≡ dm =
-    ok_is d dm e in (
-      h.spelled ∙ ap (λ (x : DmNo). site_word (D x)) same,
-      subst (λ (x : DmNo). IsFrom1To cat.dms x.0) same h.there,
-    )
+data_module_takes cat w dm (D d) h e = let same = ok_is d dm e in rw (← same) (h.spelled, h.there)
+data_module_takes cat w dm _ h e = absurd cc
 
 pub dm_takes : (cat : Catalogue) (w : Word) (dm : DmNo) → dm_of cat w ≡ Ok dm → (w ≡ site_word (D dm)) × IsFrom1To cat.dms dm.0
 dm_takes cat w dm e =
-    let a = bind_ok (site_of cat w) (λ site. data_module_of site) dm e in
+    let a = bind_ok (site_of cat w) _ dm e in
     data_module_takes cat w dm a.0 (site_takes cat w a.0 a.1) a.2
 
 pub dm_again : (cat : Catalogue) → IsKnown cat → (dm : DmNo) → IsFrom1To cat.dms dm.0 → dm_of cat (site_word (D dm)) ≡ Ok dm
@@ -139,9 +129,9 @@ link a b = (a, b)
 
 pub link_takes : (cat : Catalogue) (from to : Word) (l : Site × Site) → link_of cat from to ≡ Ok l → IsLinkWords cat from to l
 link_takes cat from to l e =
-    let a = bind_ok (site_of cat from) (λ a. site_of cat to >>= λ b. must BadEvent (are_linked a b) >>= λ _. Ok (link a b)) l e in
-    let b = bind_ok (site_of cat to) (λ b. must BadEvent (are_linked a.0 b) >>= λ _. Ok (link a.0 b)) l a.2 in
-    let c = must_then BadEvent (are_linked a.0 b.0) (λ _. Ok (link a.0 b.0)) l b.2 in
+    let a = bind_ok (site_of cat from) _ l e in
+    let b = bind_ok (site_of cat to) _ l a.2 in
+    let c = must_then _ (are_linked a.0 b.0) _ l b.2 in
     let f = site_takes cat from a.0 a.1 in
     let t = site_takes cat to b.0 b.1 in
     subst (λ (x : Site × Site). IsLinkWords cat from to x) (ok_is (link a.0 b.0) l c.1) (record {
@@ -196,8 +186,7 @@ site_fine cat k (D dm) h = numbered_fine 68 dm.0 (omega arith) (λ e. omega arit
 
 pub site_free : (site : Site) → is_free (site_word site) ≡ true
 site_free U = refl
-site_free (T tm) = refl
-site_free (D dm) = refl
+site_free _ = refl
 
 pub place_free : (n : ℕ) → IsFrom1To MAX_PLACE n → is_free (count_word n) ≡ true
 place_free n h = count_free n (omega (arith, h.1))
@@ -212,43 +201,29 @@ pub record IsPlaced (cat : Catalogue) (words : List Word) (p : Site × Site × �
   pub placed : IsFrom1To MAX_PLACE p.2
   pub spelled : words ≡ site_word p.0 ∷ site_word p.1 ∷ count_word p.2 ∷ []
 
-three_words : (a b c d e f : Word) → a ≡ b → c ≡ d → e ≡ f → a ∷ c ∷ e ∷ [] ≡ b ∷ d ∷ f ∷ []
-three_words a b c d e f p q r = cc
-
-two_words : (a b c d : Word) → a ≡ b → c ≡ d → a ∷ c ∷ [] ≡ b ∷ d ∷ []
-two_words a b c d p q = cc
-
 abbrev flight : Site → Site → ℕ → Site × Site × ℕ
 flight from to place = (from, to, place)
 
 pub place_takes : (cat : Catalogue) (words : List Word) (p : Site × Site × ℕ) → flight_place cat words ≡ Ok p → IsPlaced cat words p
-place_takes cat [] p h = absurd cc
-place_takes cat (a ∷ []) p h = absurd cc
-place_takes cat (a ∷ b ∷ []) p h = absurd cc
 place_takes cat (from ∷ to ∷ place ∷ []) p h =
-    let a = must_then BadLine (is_free from && is_free to && is_free place) (λ _. link_of cat from to >>=
-    λ (link : Site × Site). count_of MAX_PLACE place >>= λ k. Ok (flight link.0 link.1 k)) p h in
-    let b = bind_ok (link_of cat from to) (λ (link : Site × Site). count_of MAX_PLACE place >>= λ k. Ok (flight link.0 link.1 k)) p a.1 in
-    let c = bind_ok (count_of MAX_PLACE place) (λ k. Ok (flight b.0.0 b.0.1 k)) p b.2 in
+    let a = must_then _ (is_free from && is_free to && is_free place) _ p h in
+    let b = bind_ok (link_of cat from to) _ p a.1 in
+    let c = bind_ok (count_of MAX_PLACE place) _ p b.2 in
     let l = link_takes cat from to b.0 b.1 in
     let n = count_takes MAX_PLACE place c.0 c.1 in
     subst (λ (x : Site × Site × ℕ). IsPlaced cat (from ∷ to ∷ place ∷ []) x) (ok_is (flight b.0.0 b.0.1 c.0) p c.2)
-    (record { linked = l.linked; placed = n.1; spelled = three_words from (site_word b.0.0) to (site_word b.0.1) place (count_word c.0) l.from_is l.to_is n.0 })
-place_takes cat (a ∷ b ∷ c ∷ d ∷ rest) p h = absurd cc
+    (record { linked = l.linked; placed = n.1; spelled = cc })
+place_takes cat _ p h = absurd cc
 
 pub place_again : (cat : Catalogue) → IsKnown cat → (from to : Site) (place : ℕ) → IsLink cat from to
     → IsFrom1To MAX_PLACE place → flight_place cat
     (site_word from ∷ site_word to ∷ count_word place ∷ []) ≡ Ok (flight from to place)
 place_again cat k from to place h n =
     let f = both_are (is_free (site_word from) && is_free (site_word to)) (is_free (count_word place))
-    (both_are (is_free (site_word from)) (is_free (site_word to)) (site_free from) (site_free to))
-    (place_free place n) in
+    (both_are (is_free (site_word from)) (is_free (site_word to)) (site_free from) (site_free to)) (place_free place n) in
     let a = link_again cat k from to h in
     let b = count_again MAX_PLACE place (omega arith) n in
-    ap (λ (t : Bool). must BadLine t >>= λ _. link_of cat (site_word from) (site_word to) >>=
-    λ (link : Site × Site). count_of MAX_PLACE (count_word place) >>= λ k. Ok (flight link.0 link.1 k)) f
-    ∙ ap (λ (r : Result (Site × Site) WorkRule). r >>= λ (link : Site × Site). count_of MAX_PLACE (count_word place) >>= λ k. Ok (flight link.0 link.1 k)) a
-    ∙ ap (λ (r : Result ℕ WorkRule). r >>= λ k. Ok (flight from to k)) b
+    rw (f, a, b) refl
 
 pub record IsResent (cat : Catalogue) (words : List Word) (e : Event) : Type 0 where
   pub from : Site
@@ -258,28 +233,25 @@ pub record IsResent (cat : Catalogue) (words : List Word) (e : Event) : Type 0 w
   pub is : Resend from to ≡ e
 
 pub resend_takes : (cat : Catalogue) (words : List Word) (e : Event) → resend_of cat words ≡ Ok e → IsResent cat words e
-resend_takes cat [] e h = absurd cc
-resend_takes cat (a ∷ []) e h = absurd cc
 resend_takes cat (from ∷ to ∷ []) e h =
-    let a = must_then BadLine (is_free from && is_free to) (λ _. link_of cat from to >>= λ (link : Site × Site). Ok (Resend link.0 link.1)) e h in
-    let b = bind_ok (link_of cat from to) (λ (link : Site × Site). Ok (Resend link.0 link.1)) e a.1 in
+    let a = must_then _ (is_free from && is_free to) _ e h in
+    let b = bind_ok (link_of cat from to) _ e a.1 in
     let l = link_takes cat from to b.0 b.1 in
     record {
       from = b.0.0;
       to = b.0.1;
       linked = l.linked;
-      spelled = two_words from (site_word b.0.0) to (site_word b.0.1) l.from_is l.to_is;
+      spelled = cc;
       is = ok_is (Resend b.0.0 b.0.1) e b.2;
     }
-resend_takes cat (a ∷ b ∷ c ∷ rest) e h = absurd cc
+resend_takes cat _ e h = absurd cc
 
 pub resend_again : (cat : Catalogue) → IsKnown cat → (from to : Site) → IsLink cat from to
     → resend_of cat (site_word from ∷ site_word to ∷ []) ≡ Ok (Resend from to)
 resend_again cat k from to h =
     let f = both_are (is_free (site_word from)) (is_free (site_word to)) (site_free from) (site_free to) in
     let a = link_again cat k from to h in
-    ap (λ (t : Bool). must BadLine t >>= λ _. link_of cat (site_word from) (site_word to) >>= λ (link : Site × Site). Ok (Resend link.0 link.1)) f
-    ∙ ap (λ (r : Result (Site × Site) WorkRule). r >>= λ (link : Site × Site). Ok (Resend link.0 link.1)) a
+    rw (f, a) refl
 
 pub record IsTick (cat : Catalogue) (words : List Word) (e : Event) : Type 0 where
   pub tm : TmNo
@@ -290,12 +262,10 @@ pub record IsTick (cat : Catalogue) (words : List Word) (e : Event) : Type 0 whe
   pub is : Tick tm n ≡ e
 
 pub tick_takes : (cat : Catalogue) (words : List Word) (e : Event) → tick_of cat words ≡ Ok e → IsTick cat words e
-tick_takes cat [] e h = absurd cc
-tick_takes cat (a ∷ []) e h = absurd cc
 tick_takes cat (tm ∷ n ∷ []) e h =
-    let a = must_then BadLine (is_free tm && is_free n) (λ _. tm_of cat tm >>= λ t. count_of MAX_TICKS n >>= λ k. Ok (Tick t k)) e h in
-    let b = bind_ok (tm_of cat tm) (λ t. count_of MAX_TICKS n >>= λ k. Ok (Tick t k)) e a.1 in
-    let c = bind_ok (count_of MAX_TICKS n) (λ k. Ok (Tick b.0 k)) e b.2 in
+    let a = must_then _ (is_free tm && is_free n) _ e h in
+    let b = bind_ok (tm_of cat tm) _ e a.1 in
+    let c = bind_ok (count_of MAX_TICKS n) _ e b.2 in
     let t = tm_takes cat tm b.0 b.1 in
     let m = count_takes MAX_TICKS n c.0 c.1 in
     record {
@@ -303,20 +273,18 @@ tick_takes cat (tm ∷ n ∷ []) e h =
       n = c.0;
       there = t.1;
       counted = m.1;
-      spelled = two_words tm (site_word (T b.0)) n (count_word c.0) t.0 m.0;
+      spelled = cc;
       is = ok_is (Tick b.0 c.0) e c.2;
     }
-tick_takes cat (a ∷ b ∷ c ∷ rest) e h = absurd cc
+tick_takes cat _ e h = absurd cc
 
 pub tick_again : (cat : Catalogue) → IsKnown cat → (tm : TmNo) (n : ℕ) → IsFrom1To cat.tms tm.0
     → IsFrom1To MAX_TICKS n → tick_of cat (site_word (T tm) ∷ count_word n ∷ []) ≡ Ok (Tick tm n)
 tick_again cat k tm n h m =
-    let f = both_are (is_free (site_word (T tm))) (is_free (count_word n)) (site_free (T tm)) (place_free n m) in
     let a = tm_again cat k tm h in
+    let f = place_free n m in
     let b = count_again MAX_TICKS n (omega arith) m in
-    ap (λ (t : Bool). must BadLine t >>= λ _. tm_of cat (site_word (T tm)) >>= λ t. count_of MAX_TICKS (count_word n) >>= λ k. Ok (Tick t k)) f
-    ∙ ap (λ (r : Result TmNo WorkRule). r >>= λ t. count_of MAX_TICKS (count_word n) >>= λ k. Ok (Tick t k)) a
-    ∙ ap (λ (r : Result ℕ WorkRule). r >>= λ k. Ok (Tick tm k)) b
+    rw (f, a, b) refl
 
 pub settle_takes : (words : List Word) (e : Event) → settle_of words ≡ Ok e → (words ≡ []) × (Settle ≡ e)
 settle_takes [] e h = (refl, ok_is Settle e h)
@@ -333,32 +301,24 @@ pub record IsTurn (turn : DmNo → Event) (cat : Catalogue) (words : List Word) 
   pub spelled : words ≡ site_word (D dm) ∷ []
   pub is : turn dm ≡ e
 
-pub down_takes : (cat : Catalogue) (words : List Word) (e : Event) → down_of cat words ≡ Ok e → IsTurn Down cat words e
-down_takes cat [] e h = absurd cc
-down_takes cat (dm ∷ []) e h =
-    let a = must_then BadLine (is_free dm) (λ _. dm_of cat dm >>= λ d. Ok (Down d)) e h in
-    let b = bind_ok (dm_of cat dm) (λ d. Ok (Down d)) e a.1 in
+turn_takes : (turn : DmNo → Event) (cat : Catalogue) (dm : Word) (e : Event)
+    → (must BadLine (is_free dm) >>= λ _. dm_of cat dm >>= λ d. Ok (turn d)) ≡ Ok e → IsTurn turn cat (dm ∷ []) e
+turn_takes turn cat dm e h =
+    let a = must_then _ (is_free dm) _ e h in
+    let b = bind_ok (dm_of cat dm) _ e a.1 in
     let t = dm_takes cat dm b.0 b.1 in
-    record { dm = b.0; there = t.1; spelled = ap (λ (w : Word). w ∷ []) t.0; is = ok_is (Down b.0) e b.2 }
-down_takes cat (a ∷ b ∷ rest) e h = absurd cc
+    record { dm = b.0; there = t.1; spelled = ap (λ (w : Word). w ∷ []) t.0; is = ok_is (turn b.0) e b.2 }
+
+pub down_takes : (cat : Catalogue) (words : List Word) (e : Event) → down_of cat words ≡ Ok e → IsTurn Down cat words e
+down_takes cat (dm ∷ []) e h = turn_takes Down cat dm e h
+down_takes cat _ e h = absurd cc
 
 pub down_again : (cat : Catalogue) → IsKnown cat → (dm : DmNo) → IsFrom1To cat.dms dm.0 → down_of cat (site_word (D dm) ∷ []) ≡ Ok (Down dm)
-down_again cat k dm h =
-    let a = dm_again cat k dm h in
-    ap (λ (t : Bool). must BadLine t >>= λ _. dm_of cat (site_word (D dm)) >>= λ d. Ok (Down d)) (site_free (D dm))
-    ∙ ap (λ (r : Result DmNo WorkRule). r >>= λ d. Ok (Down d)) a
+down_again cat k dm h = let a = dm_again cat k dm h in rw a refl
 
 pub up_takes : (cat : Catalogue) (words : List Word) (e : Event) → up_of cat words ≡ Ok e → IsTurn Up cat words e
-up_takes cat [] e h = absurd cc
-up_takes cat (dm ∷ []) e h =
-    let a = must_then BadLine (is_free dm) (λ _. dm_of cat dm >>= λ d. Ok (Up d)) e h in
-    let b = bind_ok (dm_of cat dm) (λ d. Ok (Up d)) e a.1 in
-    let t = dm_takes cat dm b.0 b.1 in
-    record { dm = b.0; there = t.1; spelled = ap (λ (w : Word). w ∷ []) t.0; is = ok_is (Up b.0) e b.2 }
-up_takes cat (a ∷ b ∷ rest) e h = absurd cc
+up_takes cat (dm ∷ []) e h = turn_takes Up cat dm e h
+up_takes cat _ e h = absurd cc
 
 pub up_again : (cat : Catalogue) → IsKnown cat → (dm : DmNo) → IsFrom1To cat.dms dm.0 → up_of cat (site_word (D dm) ∷ []) ≡ Ok (Up dm)
-up_again cat k dm h =
-    let a = dm_again cat k dm h in
-    ap (λ (t : Bool). must BadLine t >>= λ _. dm_of cat (site_word (D dm)) >>= λ d. Ok (Up d)) (site_free (D dm))
-    ∙ ap (λ (r : Result DmNo WorkRule). r >>= λ d. Ok (Up d)) a
+up_again cat k dm h = let a = dm_again cat k dm h in rw a refl

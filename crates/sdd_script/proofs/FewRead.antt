@@ -17,8 +17,7 @@ steady_along most f steady i [] le = refl
 steady_along most f steady i (x ∷ xs) le =
     let first = steady i x le in
     let rest = steady_along most f steady (i + 1) xs (omega arith) in
-    ap (λ r. r >>= (λ y. along f (i + 1) xs >>= (λ ys. Ok (y ∷ ys)))) first
-    ∙ ap (λ r. f (i + 1) x >>= (λ y. r >>= (λ ys. Ok (y ∷ ys)))) rest
+    simp (first, rest)
 
 -- what is kept, and what is left to read
 abbrev pub kept_and_left : {A B : Type 0} → ℕ → (ℕ → A → Result B WorkRule) → List B → List A → Result (List B) WorkRule
@@ -105,8 +104,7 @@ ends_few_at most f kept xs d i err total lt fails so_far =
 -- where no item is left, all are read
 pub done_few : {A B : Type 0} (most : ℕ) (f : ℕ → A → Result B WorkRule) (kept : List B) (total : Result (List B) WorkRule) → length kept ≤ most + 1
     → kept_and_left most f kept [] ≡ total → total ≡ Ok kept
-done_few most f kept total within so_far =
-    sym so_far ∙ ap (λ zs. Ok zs) (ap (take (most + 1)) (append-nil kept) ∙ take_all (most + 1) kept (omega arith))
+done_few most f kept total within so_far = cc (so_far, append-nil kept, take_all (most + 1) kept (omega arith))
 
 pub done_few_at : {A B : Type 0} (most : ℕ) (f : ℕ → A
     → Result B WorkRule) (kept : List B) (xs : List A) (i : ℕ) (total : Result (List B) WorkRule) → length xs ≤ i
@@ -133,16 +131,14 @@ past_last columns i past = ap (λ o. option_map (λ (c : Column). c.kind) o) (pa
 
 -- a value past the last column may be of any kind, as all that follow may
 pub steady_kind : (columns : List Column) → IsSteady (length columns) (λ i w. value_of (kind_of_place columns i) w)
-steady_kind columns i w past =
-    ap (λ k. value_of k w) (past_last columns i past ∙ sym (past_last columns (i + 1) (omega arith)))
+steady_kind columns i w past = cc (past_last columns i past, past_last columns (i + 1) (omega arith))
 
 -- a relation more of a query
 pub part_more : (cat : Catalogue) (front : List (Option ℕ)) (word : Word) (part : Option ℕ) (words rest : List Word) (total : List (Option ℕ))
     → words ≡ word ∷ rest → part ≡ relation_of cat word
     → front ++ parts_of cat words ≡ total → (front ++ part ∷ []) ++ parts_of cat rest ≡ total
 part_more cat front word part words rest total is named so_far =
-    append_assoc front (part ∷ []) (parts_of cat rest) ∙ ap (λ (p : Option ℕ). front ++ p ∷ parts_of cat rest) named
-    ∙ ap (λ (l : List Word). front ++ parts_of cat l) (sym is) ∙ so_far
+    cc (append_assoc front (part ∷ []) (parts_of cat rest), named, is, so_far)
 
 pub all_parts : (cat : Catalogue) (front : List (Option ℕ)) (words : List Word) (total : List (Option ℕ)) → words ≡ []
     → front ++ parts_of cat words ≡ total → front ≡ total
@@ -150,9 +146,8 @@ all_parts cat front words total none so_far = sym (append-nil front) ∙ ap (λ 
 
 answered : {A B : Type 0} (f : ℕ → A → Result B WorkRule) (i : ℕ) (xs : List A) (ys : List B) → readings.Answers f i xs ys → length ys ≡ length xs
 answered f i [] [] h = refl
-answered f i [] (y ∷ ys) h = absurd h
-answered f i (x ∷ xs) [] h = absurd h
 answered f i (x ∷ xs) (y ∷ ys) h = let more = answered f (i + 1) xs ys h.1 in omega (arith, more)
+answered f i _ _ h = absurd h
 
 -- ---- a row of which no more is read than tells that it is too long
 
@@ -187,9 +182,7 @@ rows_by columns rel words (Err rule) e = refl
 rows_by columns rel words (Ok xs) e =
     let n = length columns in
     let long : length xs ≡ length words = along_length (λ i w. value_of (kind_of_place columns i) w) 0 words xs e in
-    ap (λ b. must WrongKind b >>= (λ _. with_row rel (take (n + 1) xs))) (same_count n xs)
-    ∙ counted rel n xs (length xs == n) refl
-    ∙ ap (λ k. must WrongKind (k == n) >>= (λ _. with_row rel xs)) long
+    simp (same_count, counted, long)
 
 row_few : (columns : List Column) (rel : RelNo) (words : List Word)
     → few_row columns rel words ≡ (values_of columns words >>= (λ row. must WrongKind (length words == length columns) >>= (λ _. with_row rel row)))

@@ -1,13 +1,13 @@
 -- The words of the lines of a valid workload are words, texts, and hold no newline.
-use Rattle.sdd_script.proofs.All.{Add, AllByRecursion, Assign, AssignsValue, Bool, Catalogue, ClassPart, Condition, Const, D, Delete, Deliver, Down, Event, FitsAssign, FitsCondition, FitsRef, FitsStatement, HasNoNewline, HasNoSpace, HoldsValue, HoldsValues, IsAscii, IsAscii-cons, IsAscii-nil, IsFragment, IsFrom1To, IsName, IsRelation, IsUtf8-from_ascii, IsValidEvent, IsValidRead, IsValidRow, IsValidTxn, IsValue, Keyword, List, Lose, Op, Plain, Put, Query, ReadPart, Redeclare, Ref, RelNo, Repeat, Resend, Same, Settle, Stmt, Submit, T, Tick, To, Txn, Up, Update, Value, Word, [], arith, both_hold, class_words, codes, column_word, conditions_words, dm_no, eq-eqb, eqb, event_words, false, header_words, length, list_all, ltb-true, map, name_of_relation, name_of_txn, nat_lt, not, op_word, own_column, reads_words, recursion_from_All, refl, relation_word, sets_words, start_words, statement_words, subst, tm_no, true, where_words, writes_words, ℕ, ◌&&◌, ◌++◌, ◌<◌, ◌==◌, ◌∷◌, ◌≡◌, ◌≢◌}
-use Rattle.sdd_script.proofs.WordLooks.{IsFine, name_fine, number_fine, value_fine}
+use Rattle.sdd_script.proofs.All.{Add, AllByRecursion, Assign, AssignsValue, Bool, Catalogue, ClassPart, Condition, Const, D, Delete, Deliver, Down, Event, EventKey, FitsAssign, FitsCondition, FitsRef, FitsStatement, HoldsValue, HoldsValues, IsAscii, IsAscii-cons, IsAscii-nil, IsFragment, IsFrom1To, IsLink, IsName, IsRelation, IsUtf8-from_ascii, IsValidEvent, IsValidRead, IsValidRow, IsValidTxn, IsValue, Keyword, List, Lose, MAX_PLACE, Op, Plain, Put, Query, ReadPart, Redeclare, Ref, RelNo, Repeat, Resend, Same, Settle, Site, Stmt, Submit, T, Tick, To, Txn, Up, Update, Value, Word, [], arith, both_hold, class_words, codes, column_word, conditions_words, count_word, dm_no, drop, event_words, false, header_words, length, list_all, ltb-true, map, name_of_relation, name_of_txn, nat_lt, not, op_word, own_column, reads_words, recursion_from_All, refl, relation_word, sets_words, site_word, start_words, statement_words, tm_no, true, where_words, writes_words, ℕ, ◌&&◌, ◌++◌, ◌<◌, ◌==◌, ◌∷◌, ◌≡◌}
+use Rattle.sdd_script.proofs.WordLooks.{not_it, no_newlines, no_spaces, IsFine, name_fine, number_fine, value_fine}
 use Rattle.sdd_script.proofs.UseLaws.{IsKnown}
 use Rattle.sdd_script.proofs.RefLaws.{AreParts, column_word_is}
 use Rattle.sdd_script.proofs.RowLaws.{FitsRowOf, row_fine}
 use Rattle.sdd_script.proofs.QueryLaws.{query_fits}
 use Rattle.sdd_script.proofs.UpdateLaws.{update_fits, one_part}
 use Rattle.sdd_script.proofs.EventLaws.{site_fine, place_fine}
-use Rattle.sdd_script.proofs.LineLaws.{keyword_bytes}
+use Rattle.sdd_script.proofs.LineLaws.{event_key_bytes, keyword_bytes}
 use Rattle.sdd_lang.specs.base.declared.restriction.Op.TheVariants as ops
 use Rattle.sdd_script.specs.declared.keyword.Keyword.TheVariants as keys
 use Rattle.sdd_script.specs.declared.keyword.StatementKey.TheVariants as skeys
@@ -30,63 +30,38 @@ abbrev is_simple : List ℕ → Bool
 is_simple [] = false
 is_simple (c ∷ cs) = not (c == 34) && list_all is_simple_byte (c ∷ cs)
 
-record IsSimpleByte (c : ℕ) : Type 0 where
-  low : c < 128
-  space : c ≢ 32
-  newline : c ≢ 10
-
-differs : (c k : ℕ) → not (c == k) ≡ true → c ≢ k
-differs c k e p = let q : eqb c k ≡ true = eq-eqb c k p in let r : not true ≡ true = subst (λ (b : Bool). not b ≡ true) q e in absurd cc
-
-simple_byte : (c : ℕ) → is_simple_byte c ≡ true → IsSimpleByte c
-simple_byte c e =
-    let a = both_hold (nat_lt c 128 && not (c == 32)) (not (c == 10)) e in
-    let b = both_hold (nat_lt c 128) (not (c == 32)) a.0 in
-    record { low = ltb-true c 128 b.0; space = differs c 32 b.1; newline = differs c 10 a.1 }
+simple_low : (c : ℕ) → is_simple_byte c ≡ true → c < 128
+simple_low c e = ltb-true c 128 (both_hold _ (not (c == 32)) (both_hold (nat_lt c 128 && not (c == 32)) (not (c == 10)) e).0).0
 
 simple_ascii : (cs : List ℕ) → list_all is_simple_byte cs ≡ true → IsAscii cs
 simple_ascii [] e = IsAscii-nil
 simple_ascii (c ∷ cs) e =
-    let h = both_hold (is_simple_byte c) (list_all is_simple_byte cs) e in IsAscii-cons c cs (simple_byte c h.0).low (simple_ascii cs h.1)
-
-simple_space : (cs : List ℕ) → list_all is_simple_byte cs ≡ true → HasNoSpace cs
-simple_space [] e = tt
-simple_space (c ∷ cs) e = let h = both_hold (is_simple_byte c) (list_all is_simple_byte cs) e in ((simple_byte c h.0).space, simple_space cs h.1)
-
-simple_line : (cs : List ℕ) → list_all is_simple_byte cs ≡ true → HasNoNewline cs
-simple_line [] e = tt
-simple_line (c ∷ cs) e = let h = both_hold (is_simple_byte c) (list_all is_simple_byte cs) e in ((simple_byte c h.0).newline, simple_line cs h.1)
+    let h = both_hold (is_simple_byte c) (list_all is_simple_byte cs) e in
+    IsAscii-cons c cs (simple_low c h.0) (simple_ascii cs h.1)
 
 simple_fine : (bytes : List ℕ) → is_simple bytes ≡ true → IsFine (Plain bytes)
 simple_fine [] e = absurd cc
 simple_fine (c ∷ cs) e =
     let h = both_hold (not (c == 34)) (list_all is_simple_byte (c ∷ cs)) e in
-    let s = simple_space (c ∷ cs) h.1 in
-    record { word = (differs c 34 h.0, s.0, s.1); utf8 = IsUtf8-from_ascii (c ∷ cs) (simple_ascii (c ∷ cs) h.1); sound = refl; line = simple_line (c ∷ cs) h.1 }
+    let s = no_spaces is_simple_byte (c ∷ cs) refl h.1 in
+    record {
+      word = (not_it (λ x. not (x == 34)) c 34 refl h.0, s.0, s.1);
+      utf8 = IsUtf8-from_ascii (c ∷ cs) (simple_ascii (c ∷ cs) h.1);
+      sound = refl;
+      line = no_newlines is_simple_byte (c ∷ cs) refl h.1;
+    }
 
 keyword_simple : (key : Keyword) → is_simple (keyword_bytes key) ≡ true
 keyword_simple keys.Row = refl
 keyword_simple keys.Txn = refl
 keyword_simple (keys.Statement skeys.Put) = refl
-keyword_simple (keys.Statement skeys.Query) = refl
-keyword_simple (keys.Statement skeys.Update) = refl
-keyword_simple (keys.Statement skeys.Delete) = refl
 keyword_simple keys.Done = refl
 keyword_simple (keys.Class class_keys.List) = refl
-keyword_simple (keys.Class class_keys.Class) = refl
-keyword_simple (keys.Class class_keys.Reads) = refl
-keyword_simple (keys.Class class_keys.Writes) = refl
 keyword_simple (keys.Event ekeys.Submit) = refl
-keyword_simple (keys.Event ekeys.Deliver) = refl
-keyword_simple (keys.Event ekeys.Lose) = refl
-keyword_simple (keys.Event ekeys.Repeat) = refl
-keyword_simple (keys.Event ekeys.Resend) = refl
-keyword_simple (keys.Event ekeys.Tick) = refl
-keyword_simple (keys.Event ekeys.Settle) = refl
-keyword_simple (keys.Event ekeys.Redeclare) = refl
-keyword_simple (keys.Event ekeys.Down) = refl
-keyword_simple (keys.Event ekeys.Up) = refl
 keyword_simple keys.End = refl
+keyword_simple (keys.Event _) = refl
+keyword_simple (keys.Statement _) = refl
+keyword_simple (keys.Class _) = refl
 
 pub keyword_fine : (key : Keyword) → IsFine (Plain (keyword_bytes key))
 keyword_fine key = simple_fine (keyword_bytes key) (keyword_simple key)
@@ -218,27 +193,42 @@ abbrev pub NamesOne : List Txn → Event → Type 0
 NamesOne txns (Submit txn) = IsFine (Plain (name_of_txn txns txn.0))
 NamesOne txns _ = Unit {0}
 
-pub event_fine : (cat : Catalogue) → IsKnown cat → (txns : List Txn) (e : Event)
-    → IsValidEvent cat (length txns) e → NamesOne txns e → AreFine (event_words txns e)
-event_fine cat k txns (Submit txn) h n = (keyword_fine (keys.Event ekeys.Submit), (n, tt))
-event_fine cat k txns (Deliver from to place) h n = (
-  keyword_fine (keys.Event ekeys.Deliver),
-  (site_fine cat k from h.0.0, (site_fine cat k to h.0.1, (place_fine place h.1, tt))),
-)
-event_fine cat k txns (Lose from to place) h n = (
-  keyword_fine (keys.Event ekeys.Lose),
-  (site_fine cat k from h.0.0, (site_fine cat k to h.0.1, (place_fine place h.1, tt))),
-)
-event_fine cat k txns (Repeat from to place) h n = (
-  keyword_fine (keys.Event ekeys.Repeat),
-  (site_fine cat k from h.0.0, (site_fine cat k to h.0.1, (place_fine place h.1, tt))),
-)
-event_fine cat k txns (Resend from to) h n = (keyword_fine (keys.Event ekeys.Resend), (site_fine cat k from h.0, (site_fine cat k to h.1, tt)))
-event_fine cat k txns (Tick tm n) h m = (keyword_fine (keys.Event ekeys.Tick), (site_fine cat k (T tm) h.0, (place_fine n h.1, tt)))
-event_fine cat k txns Settle h n = (keyword_fine (keys.Event ekeys.Settle), tt)
-event_fine cat k txns Redeclare h n = (keyword_fine (keys.Event ekeys.Redeclare), tt)
-event_fine cat k txns (Down dm) h n = (keyword_fine (keys.Event ekeys.Down), (site_fine cat k (D dm) h, tt))
-event_fine cat k txns (Up dm) h n = (keyword_fine (keys.Event ekeys.Up), (site_fine cat k (D dm) h, tt))
+-- an event's first word, and the words behind it
+abbrev pub event_key : Event → EventKey
+event_key (Submit txn) = ekeys.Submit
+event_key (Deliver from to place) = ekeys.Deliver
+event_key (Lose from to place) = ekeys.Lose
+event_key (Repeat from to place) = ekeys.Repeat
+event_key (Resend from to) = ekeys.Resend
+event_key (Tick tm n) = ekeys.Tick
+event_key Settle = ekeys.Settle
+event_key Redeclare = ekeys.Redeclare
+event_key (Down dm) = ekeys.Down
+event_key (Up dm) = ekeys.Up
+
+abbrev pub behind_key : List Txn → Event → List Word
+behind_key txns e = drop 1 (event_words txns e)
+
+pub words_of_event : (txns : List Txn) (e : Event)
+    → Plain (event_key_bytes (event_key e)) ∷ behind_key txns e ≡ event_words txns e
+words_of_event txns (Submit txn) = refl
+words_of_event txns _ = refl
+
+flight_fine : (cat : Catalogue) → IsKnown cat → (from to : Site) (place : ℕ) → IsLink cat from to → IsFrom1To MAX_PLACE place
+    → AreFine (site_word from ∷ site_word to ∷ count_word place ∷ [])
+flight_fine cat k from to place h p = (site_fine cat k from h.0, (site_fine cat k to h.1, (place_fine place p, tt)))
+
+pub behind_fine : (cat : Catalogue) → IsKnown cat → (txns : List Txn) (e : Event)
+    → IsValidEvent cat (length txns) e → NamesOne txns e → AreFine (behind_key txns e)
+behind_fine cat k txns (Submit txn) h n = (n, tt)
+behind_fine cat k txns (Deliver from to place) h n = flight_fine cat k from to place h.0 h.1
+behind_fine cat k txns (Lose from to place) h n = flight_fine cat k from to place h.0 h.1
+behind_fine cat k txns (Repeat from to place) h n = flight_fine cat k from to place h.0 h.1
+behind_fine cat k txns (Resend from to) h n = (site_fine cat k from h.0, (site_fine cat k to h.1, tt))
+behind_fine cat k txns (Tick tm n) h m = (site_fine cat k (T tm) h.0, (place_fine n h.1, tt))
+behind_fine cat k txns (Down dm) h n = (site_fine cat k (D dm) h, tt)
+behind_fine cat k txns (Up dm) h n = (site_fine cat k (D dm) h, tt)
+behind_fine cat k txns _ h n = tt
 
 -- ---- class lists
 

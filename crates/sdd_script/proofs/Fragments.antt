@@ -17,8 +17,8 @@ there_if o x e = ap is_some e
 pub fragment_takes : (cat : Catalogue) (w : Word) (f : List ℕ × ℕ) → fragment_of cat w ≡ Ok f → IsFragmentWord cat w f
 fragment_takes cat (Quoted text) f e = absurd cc
 fragment_takes cat (Plain bytes) f e =
-    let a = known_then UnknownName (name_in bytes) (λ name. known UnknownName (fragment_named cat name) >>= λ frag. Ok (named name frag)) f e in
-    let b = known_then UnknownName (fragment_named cat a.0) (λ frag. Ok (named a.0 frag)) f a.2 in
+    let a = known_then _ (name_in bytes) _ f e in
+    let b = known_then _ (fragment_named cat a.0) _ f a.2 in
     let n = named_takes bytes a.0 a.1 in
     subst (λ (x : List ℕ × ℕ). IsFragmentWord cat (Plain bytes) x) (ok_is (named a.0 b.0) f b.2) (record {
       spelled = ap (λ (l : List ℕ). Plain l) n.1;

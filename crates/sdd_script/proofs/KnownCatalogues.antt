@@ -2,7 +2,7 @@
 use Rattle.sdd_script.proofs.All.{All-get_or, AreNamed, Bool, Catalogue, Column, ColumnPart, HasKey, Int, IsColumn, IsName, IsNamed, IsRelation, IsSoundCatalogue, IsWhole, List, None, ReadsAgain, ReadsSpelling, Relation, RelationPart, Some, [], ap, arith, both_empty, bytes_eq, bytes_eq-Decides, column_named, column_part, columns_of, cond, empty_of_map, false, faults_of_relation, found_one, get_or, get_or-map, is_name, length, length-map, map, map-map, name_of_column, name_of_relation, nat_lt as ltb, no_faults, not, number_of_place, option_map_or, parts_of, position, prefix_len, refl, relation_at, relation_named, relation_names, relation_part, relation_rules, repeats, slice_get, subst, suc, sym, take, true, unbroken, unfound_at, zero, ℕ, ◌+◌, ◌-◌, ◌<◌, ◌∙◌, ◌∷◌, ◌≡◌, ◌≤◌}
 use Rattle.sdd_script.proofs.Marks.{position-map}
 use Rattle.sdd_script.proofs.UseLaws.{IsKnown}
-use Rattle.sdd_script.proofs.NamePlaces.{place_of_name}
+use Rattle.sdd_script.proofs.NamePlaces.{turned, place_of_name}
 use Rattle.sdd_script.proofs.ValueLaws.{columns_are, name_is}
 use Rattle.sdd_script.proofs.WholeLaws.{read_again}
 use Rattle.sdd_lang.specs.All.{Parts, number_of}
@@ -71,15 +71,6 @@ prefix_same p q (x ∷ xs) h = ap (λ (b : Bool). cond b (1 + prefix_len p xs) 0
 
 position_same : {A : Type 0} (p q : A → Bool) (xs : List A) → ((x : A) → p x ≡ q x) → position p xs ≡ position q xs
 position_same p q xs h = ap (λ (n : ℕ). cond (ltb n (length xs)) (Some n) None) (prefix_same (λ y. not (p y)) (λ y. not (q y)) xs (λ x. ap not (h x)))
-
-turned_if : (a b : List ℕ) (x y : Bool) → bytes_eq a b ≡ x → bytes_eq b a ≡ y → x ≡ y
-turned_if a b true true p q = refl
-turned_if a b false false p q = refl
-turned_if a b true false p q = let e : a ≡ b = (bytes_eq-Decides a b).0 p in let r : bytes_eq b a ≡ true = (bytes_eq-Decides b a).1 (sym e) in absurd cc
-turned_if a b false true p q = let e : b ≡ a = (bytes_eq-Decides b a).0 q in let r : bytes_eq a b ≡ true = (bytes_eq-Decides a b).1 (sym e) in absurd cc
-
-turned : (a b : List ℕ) → bytes_eq a b ≡ bytes_eq b a
-turned a b = turned_if a b (bytes_eq a b) (bytes_eq b a) refl refl
 
 column_at : (columns : List Column) (i : ℕ) → i < length columns → option_map_or (λ (c : Column). c.name)
     (slice_get columns i) [] ≡ get_or (names_of columns) i []

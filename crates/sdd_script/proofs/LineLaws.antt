@@ -1,5 +1,5 @@
 -- A line and its words, and its first word.
-use Rattle.sdd_script.proofs.All.{AllByRecursion, AllWords, BadLine, Bool, Catalogue, ClassKey, EventKey, HasNoNewline, IsAscii-cons, IsAscii-nil, IsUtf8, IsUtf8-append, IsUtf8-from_ascii, Keyword, List, None, NotUtf8, Ok, Option, Plain, Quoted, Some, State, StatementKey, Word, [], ap, arith, both_are, bytes_eq, bytes_eq-Decides, class_key_in, codes, cond, event_key_in, false, inner_keyword, is_sound, is_utf8, is_utf8-from_IsUtf8, keyword_in, keyword_of, keyword_rules, known, line_bytes, list_all, more_bytes, must, outer_keyword, refl, scan_again, scan_spelled, statement_key_in, true, word_bytes, words_of, words_rules, ℕ, ◌++◌, ◌>>=◌, ◌∙◌, ◌∷◌, ◌≡◌}
+use Rattle.sdd_script.proofs.All.{AllByRecursion, AllWords, Bool, Catalogue, ClassKey, EventKey, HasNoNewline, IsAscii-cons, IsAscii-nil, IsUtf8, IsUtf8-append, IsUtf8-from_ascii, Keyword, List, None, Ok, Option, Plain, Quoted, Some, State, StatementKey, Word, [], ap, arith, both_are, bytes_eq, bytes_eq-Decides, class_key_in, codes, cond, event_key_in, false, inner_keyword, is_sound, is_utf8, is_utf8-from_IsUtf8, keyword_in, keyword_of, keyword_rules, line_bytes, list_all, more_bytes, outer_keyword, refl, scan_again, scan_spelled, statement_key_in, true, word_bytes, words_of, words_rules, ℕ, ◌++◌, ◌∙◌, ◌∷◌, ◌≡◌}
 use Rattle.sdd_script.specs.LineRules.{line_rules}
 use Rattle.sdd_script.proofs.StepLaws.{must_then, known_then, some_is}
 use Rattle.sdd_script.proofs.WordLooks.{IsFine, no_newline-append}
@@ -18,10 +18,9 @@ pub record HasWords (cat : Catalogue) (st to : State) (line : List ℕ) : Type 0
 pub line_takes : (cat : Catalogue) (st to : State) (line : List ℕ) → line_rules cat st line ≡ Ok to → HasWords cat st to line
 unfolding line_rules
 line_takes cat st to line e =
-    let a = must_then NotUtf8 (is_utf8 line) (λ _. known BadLine (words_of line) >>=
-    λ words. must BadLine (list_all is_sound words) >>= λ _. words_rules cat st words) to e in
-    let b = known_then BadLine (words_of line) (λ words. must BadLine (list_all is_sound words) >>= λ _. words_rules cat st words) to a.1 in
-    let c = must_then BadLine (list_all is_sound b.0) (λ _. words_rules cat st b.0) to b.2 in
+    let a = must_then _ (is_utf8 line) _ to e in
+    let b = known_then _ (words_of line) _ to a.1 in
+    let c = must_then _ (list_all is_sound b.0) _ to b.2 in
     record { words = b.0; spelled = scan_spelled line b.0 b.1; rules = c.1 }
 
 space : IsUtf8 (32 ∷ [])
@@ -55,10 +54,7 @@ line_again cat st w ws h =
     let u : is_utf8 line ≡ true = is_utf8-from_IsUtf8 line (IsUtf8-append (word_bytes w) (more_bytes ws) h.0.utf8 (more_utf8 ws h.1)) in
     let s : words_of line ≡ Some (w ∷ ws) = scan_again (w ∷ ws) (h.0.word, all_words ws h.1) in
     let a : list_all is_sound (w ∷ ws) ≡ true = all_sound (w ∷ ws) h in
-    ap (λ (t : Bool). must NotUtf8 t >>= λ _. known BadLine (words_of line) >>=
-    λ words. must BadLine (list_all is_sound words) >>= λ _. words_rules cat st words) u
-    ∙ ap (λ (o : Option (List Word)). known BadLine o >>= λ words. must BadLine (list_all is_sound words) >>= λ _. words_rules cat st words) s
-    ∙ ap (λ (t : Bool). must BadLine t >>= λ _. words_rules cat st (w ∷ ws)) a
+    rw (u, s, a) refl
 
 -- ---- keywords
 
@@ -159,25 +155,13 @@ pub keyword_again : (key : Keyword) → keyword_of (Plain (keyword_bytes key)) �
 keyword_again keys.Row = refl
 keyword_again keys.Txn = refl
 keyword_again (keys.Statement Put) = refl
-keyword_again (keys.Statement Query) = refl
-keyword_again (keys.Statement Update) = refl
-keyword_again (keys.Statement Delete) = refl
 keyword_again keys.Done = refl
 keyword_again (keys.Class class_keys.List) = refl
-keyword_again (keys.Class class_keys.Class) = refl
-keyword_again (keys.Class class_keys.Reads) = refl
-keyword_again (keys.Class class_keys.Writes) = refl
 keyword_again (keys.Event Submit) = refl
-keyword_again (keys.Event Deliver) = refl
-keyword_again (keys.Event Lose) = refl
-keyword_again (keys.Event Repeat) = refl
-keyword_again (keys.Event Resend) = refl
-keyword_again (keys.Event Tick) = refl
-keyword_again (keys.Event Settle) = refl
-keyword_again (keys.Event Redeclare) = refl
-keyword_again (keys.Event Down) = refl
-keyword_again (keys.Event Up) = refl
 keyword_again keys.End = refl
+keyword_again (keys.Event _) = refl
+keyword_again (keys.Statement _) = refl
+keyword_again (keys.Class _) = refl
 
 pub record HasKeyword (cat : Catalogue) (st to : State) (ws : List Word) : Type 0 where
   pub key : Keyword
@@ -188,9 +172,9 @@ pub record HasKeyword (cat : Catalogue) (st to : State) (ws : List Word) : Type 
 pub words_take : (cat : Catalogue) (st to : State) (ws : List Word) → words_rules cat st ws ≡ Ok to → HasKeyword cat st to ws
 words_take cat st to [] e = absurd cc
 words_take cat st to (first ∷ words) e =
-    let a = known_then BadLine (keyword_of first) (λ keyword. keyword_rules keyword cat st words) to e in
+    let a = known_then _ (keyword_of first) _ to e in
     record { key = a.0; words = words; whole = ap (λ (w : Word). w ∷ words) (keyword_takes first a.0 a.1); rules = a.2 }
 
 pub words_again : (cat : Catalogue) (st : State) (key : Keyword) (words : List Word)
     → words_rules cat st (Plain (keyword_bytes key) ∷ words) ≡ keyword_rules key cat st words
-words_again cat st key words = ap (λ (o : Option Keyword). known BadLine o >>= λ keyword. keyword_rules keyword cat st words) (keyword_again key)
+words_again cat st key words = let a = keyword_again key in rw a refl

@@ -1,9 +1,10 @@
 -- The spelling of class lists that the catalogue allows is read as these lists.
-use Rattle.sdd_script.proofs.All.{AllByRecursion, AreValidLists, BadClass, BadLine, Bool, Catalogue, ClassPart, D, DmNo, IsFragment, IsValidClass, IsValidRead, List, MAX_CLASSES, MAX_LISTS, MAX_READS, None, Ok, OpenList, Option, Place, Plain, ReadPart, Result, Some, State, T, TmNo, TooMany, UnknownName, WorkRule, [], all_front, ap, append-nil, append_assoc, arith, both_are, bytes_eq, class_lines, class_names, class_words, classes_in, cond, dm_no, dm_of, done_words, false, flat_map, fragment_of, has_copy, has_name, is_ended, is_free, joined, known, length, length-append, line_bytes, list_lines, list_words, lt-ltb, map, map-append, must, name_of, nat_lt, nat_lt as ltb, no_classes, not, one_more_class, part_names, read_names, reads_words, recursion_from_All, refl, repeats, site_word, subst, sym, takes_lists, tm_no, tm_of, true, with_class_of, with_read_of, with_write_of, writes_words, ℕ, ◌&&◌, ◌++◌, ◌+◌, ◌<◌, ◌>>=◌, ◌∙◌, ◌∷◌, ◌≡◌, ◌≤◌}
+use Rattle.sdd_script.proofs.All.{AllByRecursion, AreValidLists, Catalogue, ClassPart, D, DmNo, IsFragment, IsValidClass, IsValidRead, List, MAX_CLASSES, MAX_LISTS, MAX_READS, OpenList, Place, Plain, ReadPart, Some, State, T, TmNo, [], all_front, ap, append-nil, append_assoc, arith, both_are, bytes_eq, class_lines, class_names, class_words, classes_in, dm_no, done_words, false, flat_map, has_copy, has_name, is_ended, is_free, joined, length, length-append, line_bytes, list_lines, list_words, lt-ltb, map, map-append, nat_lt as ltb, no_classes, not, part_names, read_names, reads_words, recursion_from_All, refl, repeats, site_word, subst, sym, takes_lists, tm_no, true, writes_words, ℕ, ◌&&◌, ◌++◌, ◌+◌, ◌<◌, ◌∙◌, ◌∷◌, ◌≡◌, ◌≤◌}
 use Rattle.sdd_script.proofs.WordLooks.{name_free}
 use Rattle.sdd_script.proofs.UseLaws.{IsKnown}
 use Rattle.sdd_script.proofs.EventLaws.{dm_again, tm_again, site_free}
 use Rattle.sdd_script.proofs.FineLines.{keyword_fine, class_fine, reads_fine, writes_fine}
+use Rattle.sdd_script.proofs.Declaring.{names_parted}
 use Rattle.sdd_script.proofs.Fragments.{fragment_again, kept_at}
 use Rattle.sdd_script.proofs.NamePlaces.{any_none, apart_before}
 use Rattle.sdd_script.proofs.SpellingLaws.{IsStep, Chain, chain-append, line_step}
@@ -38,7 +39,6 @@ reads_step cat k st done n cs c reads r h other room =
     let from : State = at st (places.Listing (behind cs c reads [])) done n in
     let to : State = at st (places.Listing (behind cs c (reads ++ r ∷ []) [])) done n in
     let f = fragment_again cat r.fragment h.fragment in
-    let fragment : List ℕ × ℕ = (r.fragment, f.number) in
     let dm : DmNo = dm_no r.at in
     let a : (is_free (Plain r.fragment) && is_free (site_word (D dm))) ≡ true =
     both_are (is_free (Plain r.fragment)) (is_free (site_word (D dm))) (name_free r.fragment h.fragment.0)
@@ -49,25 +49,15 @@ reads_step cat k st done n cs c reads r h other room =
     both_are (not (has_name (read_names reads) r.fragment)) (has_copy cat r.at f.number)
     (ap not other) copy in
     let few : ltb (length reads) MAX_READS ≡ true = lt-ltb (length reads) MAX_READS room in
-    line_step cat from to (keys.Class class_keys.Reads) (Plain r.fragment ∷ site_word (D dm) ∷ []) refl (reads_fine cat k r h) (
-    ap (λ (b : Bool). must BadLine b >>= λ _. fragment_of cat (Plain r.fragment) >>=
-    λ (x : List ℕ × ℕ). dm_of cat (site_word (D dm)) >>= λ y. with_read_of cat from x y) a
-    ∙ ap (λ (q : Result (List ℕ × ℕ) WorkRule). q >>= λ (x : List ℕ × ℕ). dm_of cat (site_word (D dm)) >>= λ y. with_read_of cat from x y) f.read
-    ∙ ap (λ (q : Result DmNo WorkRule). q >>= λ y. with_read_of cat from fragment y) d
-    ∙ ap (λ (b : Bool). must BadClass b >>= λ _. must (TooMany counts.Read) (nat_lt (length reads) MAX_READS) >>= λ _. Ok to) may
-    ∙ ap (λ (b : Bool). must (TooMany counts.Read) b >>= λ _. Ok to) few)
-
-reads_same : (st : State) (done : List (List ClassPart)) (n : ℕ) (cs : List ClassPart) (c : ClassPart)
-    (reads rs : List ReadPart) → reads ≡ rs → at st (places.Listing (behind cs c reads [])) done n ≡ at st
-    (places.Listing (behind cs c rs [])) done n
-reads_same st done n cs c reads rs e = ap (λ (l : List ReadPart). at st (places.Listing (behind cs c l [])) done n) e
+    line_step cat from to (keys.Class class_keys.Reads) (Plain r.fragment ∷ site_word (D dm) ∷ []) refl (reads_fine cat k r h)
+    (rw (a, f.read, d, may, few) refl)
 
 reads_chain : (cat : Catalogue) → IsKnown cat → (st : State) (done : List (List ClassPart)) (n : ℕ)
     (cs : List ClassPart) (c : ClassPart) (rs reads : List ReadPart) → AllByRecursion (IsValidRead cat) rs
     → repeats (read_names (reads ++ rs)) ≡ false → length reads + length rs ≤ MAX_READS
     → Chain cat (at st (places.Listing (behind cs c reads [])) done n) (map line_bytes (map reads_words rs))
     (at st (places.Listing (behind cs c (reads ++ rs) [])) done n)
-reads_chain cat k st done n cs c [] reads h once few = reads_same st done n cs c reads (reads ++ []) (sym (append-nil reads))
+reads_chain cat k st done n cs c [] reads h once few = rw append-nil refl
 reads_chain cat k st done n cs c (r ∷ rs) reads h once few =
     let mid : State = at st (places.Listing (behind cs c (reads ++ r ∷ []) [])) done n in
     let joins : (reads ++ r ∷ []) ++ rs ≡ reads ++ r ∷ rs = append_assoc reads (r ∷ []) rs in
@@ -92,23 +82,15 @@ writes_step cat st done n cs c reads writes w h other =
     let from : State = at st (places.Listing (behind cs c reads writes)) done n in
     let to : State = at st (places.Listing (behind cs c reads (writes ++ w ∷ []))) done n in
     let f = fragment_again cat w h in
-    line_step cat from to (keys.Class class_keys.Writes) (Plain w ∷ []) refl (writes_fine cat w h) (
-    ap (λ (b : Bool). must BadLine b >>= λ _. fragment_of cat (Plain w) >>= λ (x : List ℕ × ℕ). with_write_of from x.0) (name_free w h.0)
-    ∙ ap (λ (q : Result (List ℕ × ℕ) WorkRule). q >>= λ (x : List ℕ × ℕ). with_write_of from x.0) f.read
-    ∙ ap (λ (b : Bool). must BadClass (not b) >>= λ _. Ok to) other)
-
-writes_same : (st : State) (done : List (List ClassPart)) (n : ℕ) (cs : List ClassPart) (c : ClassPart)
-    (reads : List ReadPart) (writes ws : List (List ℕ)) → writes ≡ ws
-    → at st (places.Listing (behind cs c reads writes)) done n ≡ at st
-    (places.Listing (behind cs c reads ws)) done n
-writes_same st done n cs c reads writes ws e = ap (λ (l : List (List ℕ)). at st (places.Listing (behind cs c reads l)) done n) e
+    line_step cat from to (keys.Class class_keys.Writes) (Plain w ∷ []) refl (writes_fine cat w h)
+    (let free = name_free w h.0 in rw (free, f.read, other) refl)
 
 writes_chain : (cat : Catalogue) (st : State) (done : List (List ClassPart)) (n : ℕ) (cs : List ClassPart)
     (c : ClassPart) (reads : List ReadPart) (ws writes : List (List ℕ)) → AllByRecursion (IsFragment cat) ws
     → repeats (writes ++ ws) ≡ false → Chain cat (at st (places.Listing (behind cs c reads writes)) done n)
     (map line_bytes (map writes_words ws)) (at st (places.Listing (behind cs c reads (writes ++ ws))) done
     n)
-writes_chain cat st done n cs c reads [] writes h once = writes_same st done n cs c reads writes (writes ++ []) (sym (append-nil writes))
+writes_chain cat st done n cs c reads [] writes h once = rw append-nil refl
 writes_chain cat st done n cs c reads (w ∷ ws) writes h once =
     let mid : State = at st (places.Listing (behind cs c reads (writes ++ w ∷ []))) done n in
     let joins : (writes ++ w ∷ []) ++ ws ≡ writes ++ w ∷ ws = append_assoc writes (w ∷ []) ws in
@@ -131,16 +113,12 @@ class_step cat k st done n l c h other room =
     let a : (is_free (Plain c.name) && is_free (site_word (T tm))) ≡ true =
     both_are (is_free (Plain c.name)) (is_free (site_word (T tm))) (name_free c.name h.named)
     (site_free (T tm)) in
-    let b : name_of (Plain c.name) ≡ Ok c.name = ap (λ (b : Bool). known UnknownName (cond b (Some c.name) None)) h.named in
     let d = tm_again cat k tm h.module_is_there in
-    let f : one_more_class n ≡ Some (n + 1) = ap (λ (b : Bool). cond b (Some (n + 1)) None) (lt-ltb n MAX_CLASSES room) in
-    line_step cat from to (keys.Class class_keys.Class) (Plain c.name ∷ site_word (T tm) ∷ []) refl (class_fine cat k c h.named h.module_is_there) (
-    ap (λ (b : Bool). must BadLine b >>= λ _. name_of (Plain c.name) >>= λ name. tm_of cat (site_word (T tm)) >>= λ t. with_class_of cat from name t) a
-    ∙ ap (λ (r : Result (List ℕ) WorkRule). r >>= λ name. tm_of cat (site_word (T tm)) >>= λ t. with_class_of cat from name t) b
-    ∙ ap (λ (r : Result TmNo WorkRule). r >>= λ t. with_class_of cat from c.name t) d
-    ∙ ap (λ (b : Bool). must BadClass (not b) >>= λ _. known (TooMany counts.Class) (one_more_class n) >>=
-    λ m. Ok (at st (places.Listing (behind (classes_in l) c [] [])) done m)) other
-    ∙ ap (λ (o : Option ℕ). known (TooMany counts.Class) o >>= λ m. Ok (at st (places.Listing (behind (classes_in l) c [] [])) done m)) f)
+    let f = lt-ltb n MAX_CLASSES room in
+    let named = h.named in
+    line_step cat from to (keys.Class class_keys.Class) (Plain c.name ∷ site_word (T tm) ∷ []) refl
+    (class_fine cat k c named h.module_is_there)
+    (rw (a, named, d, other, f) refl)
 
 class_chain : (cat : Catalogue) → IsKnown cat → (st : State) (done : List (List ClassPart)) (n : ℕ)
     (l : OpenList) (c : ClassPart) → IsValidClass cat c
@@ -169,14 +147,6 @@ record AreClasses (cat : Catalogue) (st : State) (done : List (List ClassPart)) 
   last : OpenList
   whole : classes_in last ≡ classes_in l ++ cs
   chain : Chain cat (at st (places.Listing l) done n) (map line_bytes (flat_map class_lines cs)) (at st (places.Listing last) done (n + length cs))
-
--- the names of classes, parted at one of them
-names_parted : (cat : Catalogue) (front : List ClassPart) (c : ClassPart) (cs : List ClassPart)
-    → class_names cat ++ part_names (front ++ c ∷ cs) ≡ (class_names cat ++ part_names front) ++ c.name ∷
-    part_names cs
-names_parted cat front c cs = ap (λ (l : List (List ℕ)). class_names cat ++ l)
-    (map-append (λ (k : ClassPart). k.name) front (c ∷ cs))
-    ∙ sym (append_assoc (class_names cat) (part_names front) (c.name ∷ part_names cs))
 
 abbrev Differ : Catalogue → List ClassPart → Type 0
 Differ cat classes = repeats (class_names cat ++ part_names classes) ≡ false
@@ -232,10 +202,7 @@ open_still : (p : Place) → takes_lists p ≡ true → is_ended p ≡ false
 open_still places.Rows t = refl
 open_still places.Between t = refl
 open_still places.Declared t = refl
-open_still (places.Inside h) t = absurd cc
-open_still (places.Listing l) t = absurd cc
-open_still places.Events t = absurd cc
-open_still places.Ended t = absurd cc
+open_still _ t = absurd cc
 
 list_step : (cat : Catalogue) (st : State) (p : Place) (done : List (List ClassPart)) (n : ℕ)
     → takes_lists p ≡ true → length done < MAX_LISTS → IsStep cat (at st p done n)
@@ -244,8 +211,7 @@ list_step cat st p done n t room =
     let to : State = at st (places.Listing no_classes) done n in
     let few : ltb (length done) MAX_LISTS ≡ true = lt-ltb (length done) MAX_LISTS room in
     line_step cat (at st p done n) to (keys.Class class_keys.List) [] (open_still p t) (keyword_fine (keys.Class class_keys.List), tt) (
-    ap (λ (b : Bool). must BadLine b >>= λ _. must (TooMany counts.List) (nat_lt (length done) MAX_LISTS) >>= λ _. Ok to) t
-    ∙ ap (λ (b : Bool). must (TooMany counts.List) b >>= λ _. Ok to) few)
+    rw (t, few) refl)
 
 listed_step : (cat : Catalogue) (st : State) (l : OpenList) (done : List (List ClassPart)) (n : ℕ)
     → IsStep cat (at st (places.Listing l) done n) (at st places.Declared (done ++ classes_in l ∷ []) n)

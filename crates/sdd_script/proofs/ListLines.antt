@@ -1,6 +1,6 @@
 -- How the lines of a class list add themselves to the lines before.
-use Rattle.sdd_script.proofs.All.{Catalogue, ClassPart, Event, List, None, OpenClass, OpenList, Option, Place, ReadPart, RelNo, Some, Stmt, TmNo, Txn, Value, Word, [], ap, append-nil, append_assoc, arith, class_lines, class_so_far, class_words, classes_in, done_words, eqb-true, flat_map, flat_map-append, length, list_lines, list_words, map, map-append, no_classes, reads_words, refl, start_words, sym, takes_lists, takes_reads_in as takes_reads, takes_writes_in as takes_writes, true, txn_lines, with_class, with_read, with_write, writes_words, ℕ, ◌++◌, ◌==◌, ◌∙◌, ◌∷◌, ◌≡◌}
-use Rattle.sdd_script.proofs.SoFar.{lines_at, InOrder, opens, stays_open, closes}
+use Rattle.sdd_script.proofs.All.{Catalogue, ClassPart, Event, List, None, OpenClass, OpenList, Option, Place, ReadPart, RelNo, Some, Stmt, TmNo, Txn, Value, Word, [], append-nil, append_assoc, arith, class_lines, class_so_far, class_words, classes_in, done_words, eqb-true, flat_map, flat_map-append, length, list_words, map, map-append, no_classes, reads_words, refl, takes_lists, takes_reads_in as takes_reads, takes_writes_in as takes_writes, true, with_class, with_read, with_write, writes_words, ℕ, ◌++◌, ◌==◌, ◌∷◌, ◌≡◌}
+use Rattle.sdd_script.proofs.SoFar.{lines_at, InOrder}
 use Rattle.sdd_script.specs.declared.place.Place.TheVariants as places
 
 -- ---- a list begins
@@ -9,10 +9,7 @@ begins_in : (cat : Catalogue) (rows : List (RelNo × List Value)) (txns : List T
     (lists : List (List ClassPart)) (statements : List Stmt) (events : List Event) → events ≡ []
     → lines_at cat rows txns lists (places.Listing no_classes) statements events ≡ lines_at cat rows txns
     lists places.Declared statements events ++ list_words ∷ []
-begins_in cat rows txns lists statements events q =
-    ap (λ (x : List Event). lines_at cat rows txns lists (places.Listing no_classes) statements x) q
-    ∙ opens (map (start_words cat) rows ++ flat_map (txn_lines cat) txns ++ flat_map list_lines lists) list_words
-    ∙ ap (λ (x : List Event). lines_at cat rows txns lists places.Declared statements x ++ list_words ∷ []) (sym q)
+begins_in cat rows txns lists statements events q = rw q (simp append-nil)
 
 pub list_more : (cat : Catalogue) (rows : List (RelNo × List Value)) (txns : List Txn)
     (lists : List (List ClassPart)) (place : Place) (statements : List Stmt) (events : List Event)
@@ -21,10 +18,7 @@ pub list_more : (cat : Catalogue) (rows : List (RelNo × List Value)) (txns : Li
 list_more cat rows txns lists places.Rows statements events t o = begins_in cat rows txns lists statements events o.3
 list_more cat rows txns lists places.Between statements events t o = begins_in cat rows txns lists statements events o.2
 list_more cat rows txns lists places.Declared statements events t o = begins_in cat rows txns lists statements events o.1
-list_more cat rows txns lists (places.Inside header) statements events t o = absurd cc
-list_more cat rows txns lists (places.Listing list) statements events t o = absurd cc
-list_more cat rows txns lists places.Events statements events t o = absurd cc
-list_more cat rows txns lists places.Ended statements events t o = absurd cc
+list_more cat rows txns lists _ statements events t o = absurd cc
 
 -- ---- a line inside a list
 
@@ -36,12 +30,7 @@ pub listing_more : (cat : Catalogue) (rows : List (RelNo × List Value)) (txns :
     (lists : List (List ClassPart)) (l new : OpenList) (w : List Word) (statements : List Stmt)
     (events : List Event) → AddsLine l new w → events ≡ []
     → lines_at cat rows txns lists (places.Listing new) statements events ≡ lines_at cat rows txns lists (places.Listing l) statements events ++ w ∷ []
-listing_more cat rows txns lists l new w statements events a q =
-    let front : List (List Word) = map (start_words cat) rows ++ flat_map (txn_lines cat) txns ++ flat_map list_lines lists in
-    ap (λ (x : List Event). lines_at cat rows txns lists (places.Listing new) statements x) q
-    ∙ ap (λ (x : List (List Word)). front ++ (list_words ∷ x) ++ [] ++ []) a
-    ∙ stays_open front (flat_map class_lines (classes_in l)) list_words w
-    ∙ ap (λ (x : List Event). lines_at cat rows txns lists (places.Listing l) statements x ++ w ∷ []) (sym q)
+listing_more cat rows txns lists l new w statements events a q = rw (q, a) (simp (append-nil, append_assoc))
 
 pub class_more : (l : OpenList) (name : List ℕ) (tm : TmNo) → AddsLine l (with_class l name tm)
     (class_words (class_so_far (record { name = name; tm = tm; reads = []; writes = [] })))
@@ -50,13 +39,7 @@ class_more l name tm = flat_map-append class_lines (classes_in l) (class_so_far 
 -- the last class has one line more
 last_more : (cs : List ClassPart) (c new : ClassPart) (w : List Word) → class_lines new ≡ class_lines c ++ w ∷ []
     → flat_map class_lines (cs ++ new ∷ []) ≡ flat_map class_lines (cs ++ c ∷ []) ++ w ∷ []
-last_more cs c new w e =
-    flat_map-append class_lines cs (new ∷ [])
-    ∙ ap (λ (l : List (List Word)). flat_map class_lines cs ++ l) (append-nil (class_lines new) ∙ e)
-    ∙ sym (append_assoc (flat_map class_lines cs) (class_lines c) (w ∷ []))
-    ∙ ap (λ (l : List (List Word)). l ++ w ∷ [])
-    (ap (λ (l : List (List Word)). flat_map class_lines cs ++ l) (sym (append-nil (class_lines c)))
-    ∙ sym (flat_map-append class_lines cs (c ∷ [])))
+last_more cs c new w e = simp (flat_map-append, e, append-nil, append_assoc)
 
 none_written : (writes : List (List ℕ)) → (length writes == 0) ≡ true → writes ≡ []
 none_written [] e = refl
@@ -64,11 +47,8 @@ none_written (w ∷ writes) e = let n : length (w ∷ writes) ≡ 0 = eqb-true (
 
 read_lines : (h : List Word) (reads : List ReadPart) (r : ReadPart) (writes : List (List ℕ)) → writes ≡ []
     → h ∷ (map reads_words (reads ++ r ∷ []) ++ map writes_words writes) ≡ (h ∷ (map reads_words reads ++ map writes_words writes)) ++ reads_words r ∷ []
-read_lines h reads r writes none =
-    ap (λ (ws : List (List ℕ)). h ∷ (map reads_words (reads ++ r ∷ []) ++ map writes_words ws)) none
-    ∙ ap (λ (l : List (List Word)). h ∷ l) (append-nil (map reads_words (reads ++ r ∷ [])) ∙ map-append reads_words reads (r ∷ []))
-    ∙ ap (λ (l : List (List Word)). h ∷ (l ++ reads_words r ∷ [])) (sym (append-nil (map reads_words reads)))
-    ∙ ap (λ (ws : List (List ℕ)). (h ∷ (map reads_words reads ++ map writes_words ws)) ++ reads_words r ∷ []) (sym none)
+read_lines h reads r [] none = simp (append-nil, map-append)
+read_lines h reads r (w ∷ writes) none = absurd cc
 
 last_read : (cs : List ClassPart) (last : Option OpenClass) (r : ReadPart)
     → takes_reads (record { classes = cs; last = last }) ≡ true → AddsLine (record {
@@ -86,9 +66,7 @@ read_more l r t = last_read l.classes l.last r t
 write_lines : (h : List Word) (rs : List (List Word)) (writes : List (List ℕ)) (f : List ℕ)
     → h ∷ (rs ++ map writes_words (writes ++ f ∷ [])) ≡ (h ∷
     (rs ++ map writes_words writes)) ++ writes_words f ∷ []
-write_lines h rs writes f = ap (λ (l : List (List Word)). h ∷ (rs ++ l)) (map-append writes_words writes
-    (f ∷ [])) ∙ ap (λ (l : List (List Word)). h ∷ l)
-    (sym (append_assoc rs (map writes_words writes) (writes_words f ∷ [])))
+write_lines h rs writes f = simp (map-append, append_assoc)
 
 last_write : (cs : List ClassPart) (last : Option OpenClass) (f : List ℕ)
     → takes_writes (record { classes = cs; last = last }) ≡ true → AddsLine (record {
@@ -109,9 +87,4 @@ pub listed_more : (cat : Catalogue) (rows : List (RelNo × List Value)) (txns : 
     (lists : List (List ClassPart)) (l : OpenList) (statements : List Stmt) (events : List Event)
     → events ≡ [] → lines_at cat rows txns (lists ++ classes_in l ∷ []) places.Declared statements events ≡ lines_at cat
     rows txns lists (places.Listing l) statements events ++ done_words ∷ []
-listed_more cat rows txns lists l statements events q =
-    let front : List (List Word) = map (start_words cat) rows ++ flat_map (txn_lines cat) txns in
-    ap (λ (x : List Event). lines_at cat rows txns (lists ++ classes_in l ∷ []) places.Declared statements x) q
-    ∙ ap (λ (x : List (List Word)). front ++ x ++ [] ++ [] ++ []) (flat_map-append list_lines lists (classes_in l ∷ []))
-    ∙ closes front (flat_map list_lines lists) (flat_map class_lines (classes_in l)) list_words done_words
-    ∙ ap (λ (x : List Event). lines_at cat rows txns lists (places.Listing l) statements x ++ done_words ∷ []) (sym q)
+listed_more cat rows txns lists l statements events q = rw q (simp (flat_map-append, append-nil, append_assoc))

@@ -21,9 +21,7 @@ condition_more key cat rels conds c out total i lt is e =
 
 pub conditions_written : (key : List ℕ) (cat : Catalogue) (rels : List RelNo) (conds : List Condition) (out total : List ℕ) (i : ℕ) → length conds ≤ i
     → out ++ more_bytes (conditions_words key cat rels (drop i conds)) ≡ total → out ≡ total
-conditions_written key cat rels conds out total i past e =
-    sym (append-nil out) ∙ ap (λ l. out ++ more_bytes (conditions_words key cat rels l))
-    (sym (drop_all i conds past)) ∙ e
+conditions_written key cat rels conds out total i past e = cc (append-nil out, drop_all i conds past, e)
 
 pub assign_more : (cat : Catalogue) (rel : RelNo) (sets : List Assign) (a : Assign) (out total : List ℕ) (i : ℕ) → i < length sets
     → a ≡ get_or sets i a
@@ -41,7 +39,6 @@ assign_more cat rel sets a out total i lt is e =
 
 pub assigns_written : (cat : Catalogue) (rel : RelNo) (sets : List Assign) (out total : List ℕ) (i : ℕ) → length sets ≤ i
     → out ++ more_bytes (sets_words cat rel (drop i sets)) ≡ total → out ≡ total
-assigns_written cat rel sets out total i past e =
-    sym (append-nil out) ∙ ap (λ l. out ++ more_bytes (sets_words cat rel l)) (sym (drop_all i sets past)) ∙ e
+assigns_written cat rel sets out total i past e = cc (append-nil out, drop_all i sets past, e)
 
 pub ruleset written = (item_written, items_written)

@@ -36,12 +36,16 @@ found_none p xs h = let e = no_position p xs h in rw e refl
 
 -- ---- names
 
-bytes_differ : (a b : List ℕ) (t : Bool) → bytes_eq b a ≡ t → bytes_eq a b ≡ false → bytes_eq b a ≡ false
-bytes_differ a b true p e = let same : b ≡ a = (bytes_eq-Decides b a).0 p in let q : bytes_eq a b ≡ true = (bytes_eq-Decides a b).1 (sym same) in absurd cc
-bytes_differ a b false p e = p
+turned_if : (a b : List ℕ) (x y : Bool) → bytes_eq a b ≡ x → bytes_eq b a ≡ y → x ≡ y
+turned_if a b true false p q = let e : a ≡ b = (bytes_eq-Decides a b).0 p in let r : bytes_eq b a ≡ true = (bytes_eq-Decides b a).1 (sym e) in absurd cc
+turned_if a b false true p q = let e : b ≡ a = (bytes_eq-Decides b a).0 q in let r : bytes_eq a b ≡ true = (bytes_eq-Decides a b).1 (sym e) in absurd cc
+turned_if a b _ _ p q = refl
+
+pub turned : (a b : List ℕ) → bytes_eq a b ≡ bytes_eq b a
+turned a b = turned_if a b (bytes_eq a b) (bytes_eq b a) refl refl
 
 pub differ_again : (a b : List ℕ) → bytes_eq a b ≡ false → bytes_eq b a ≡ false
-differ_again a b e = bytes_differ a b (bytes_eq b a) refl e
+differ_again a b e = turned b a ∙ e
 
 none_more : {A : Type 0} (p : A → Bool) (xs : List A) (x : A) → NonePasses p xs → p x ≡ false → NonePasses p (xs ++ x ∷ [])
 none_more p [] x h e = (e, tt)

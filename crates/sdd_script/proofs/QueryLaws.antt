@@ -1,7 +1,7 @@
 -- Statements: what is read is spelled and fits, and what is spelled and fits is read.
-use Rattle.sdd_script.proofs.All.{All-from_recursion, AllByRecursion, Answers, Assign, BadLine, Bool, Catalogue, Comparison, Condition, Delete, FitsCondition, FitsRef, FitsStatement, Found, HoldsValue, HoldsValues, IsRelation, IsValue, List, MAX_ASSIGNMENTS, MAX_CONDITIONS, MAX_OUTPUT_COLUMNS, MAX_STATEMENTS, MAX_USES, Ok, Option, Parts, Plain, Put, Query, Ref, RelNo, Result, Some, Stmt, TooMany, UnknownName, Update, Value, Word, WorkRule, [], along, along_ok, ap, append-nil, are_free, arith, bind_ok, both_are, both_hold, codes, column_of_use, column_word, comparisons, condition_words, conditions_form, conditions_of, conditions_words, cut_at, false, from_key, is_free, is_key, kind_of_ref, known, length, list_all, listed_column, look_like_columns, looks_like_column, lt-ltb, ltb-true, map, must, must_ok, name_of_relation, nat_le, nat_lt, nat_lt as ltb, not_empty, ok_along, ok_is, part_in, put_of, query_behind_from, query_of, query_of_parts, recursion_from_All, refl, rel_no, relation_of, relation_word, row_of, row_words, statement_limits, statement_words, subst, sym, true, up_to, where_words, ℕ, ◌&&◌, ◌++◌, ◌+◌, ◌<◌, ◌>>=◌, ◌∙◌, ◌∷◌, ◌≡◌, ◌≤◌}
+use Rattle.sdd_script.proofs.All.{All-from_recursion, AllByRecursion, Answers, Assign, Bool, Catalogue, Comparison, Condition, Delete, FitsCondition, FitsRef, FitsStatement, HoldsValue, HoldsValues, IsRelation, IsValue, List, MAX_ASSIGNMENTS, MAX_CONDITIONS, MAX_OUTPUT_COLUMNS, MAX_STATEMENTS, MAX_USES, Ok, Option, Parts, Plain, Put, Query, Ref, RelNo, Result, Some, Stmt, TooMany, Update, Value, Word, WorkRule, [], along, along_ok, ap, append-nil, are_free, arith, bind_ok, both_are, both_hold, codes, column_of_use, column_word, comparisons, conditions_form, conditions_of, cut_at, false, from_key, is_free, is_key, kind_of_ref, length, list_all, listed_column, look_like_columns, looks_like_column, lt-ltb, ltb-true, map, must_ok, name_of_relation, nat_le, nat_lt, nat_lt as ltb, not_empty, ok_along, ok_is, part_in, put_of, query_of, query_of_parts, recursion_from_All, refl, rel_no, relation_of, relation_word, row_of, row_words, statement_limits, statement_words, subst, sym, true, up_to, where_words, ℕ, ◌&&◌, ◌++◌, ◌+◌, ◌<◌, ◌>>=◌, ◌∙◌, ◌∷◌, ◌≡◌, ◌≤◌}
 use Rattle.sdd_script.specs.Statements.{query_over, parts_of}
-use Rattle.sdd_script.proofs.StepLaws.{must_then, known_then, le_of, of_le, two_same}
+use Rattle.sdd_script.proofs.StepLaws.{must_then, known_then, le_of, of_le}
 use Rattle.sdd_script.proofs.WordLooks.{name_free}
 use Rattle.sdd_script.proofs.WordCuts.{NonePasses, cut_takes, cut_again, joined_again, key_is_that, before_again, from_again, all_before, none_from}
 use Rattle.sdd_script.proofs.UseLaws.{IsKnown, relation_takes, relation_again}
@@ -22,49 +22,34 @@ pub query_limits : (before : ℕ) (out : List Ref) (rels : List RelNo) (conds : 
     → statement_limits before (Query out rels conds) ≡ Ok u → (length rels ≤ 6) × (length conds ≤ 16)
     × (length out ≤ 16)
 query_limits before out rels conds u e =
-    let a = must_then (TooMany counts.Statement) (nat_lt before MAX_STATEMENTS)
-    (λ _. must (TooMany counts.Part) (nat_le (length rels) MAX_USES) >>=
-    λ _. must (TooMany counts.Cond) (nat_le (length conds) MAX_CONDITIONS) >>=
-    λ _. must (TooMany counts.Column) (nat_le (length out) MAX_OUTPUT_COLUMNS)) u e in
-    let b = must_then (TooMany counts.Part) (nat_le (length rels) MAX_USES) (λ _. must (TooMany counts.Cond)
-    (nat_le (length conds) MAX_CONDITIONS) >>=
-    λ _. must (TooMany counts.Column) (nat_le (length out) MAX_OUTPUT_COLUMNS)) u a.1 in
-    let c = must_then (TooMany counts.Cond) (nat_le (length conds) MAX_CONDITIONS)
-    (λ _. must (TooMany counts.Column) (nat_le (length out) MAX_OUTPUT_COLUMNS)) u b.1 in
+    let a = must_then _ (nat_lt before MAX_STATEMENTS) _ u e in
+    let b = must_then _ (nat_le (length rels) MAX_USES) _ u a.1 in
+    let c = must_then _ (nat_le (length conds) MAX_CONDITIONS) _ u b.1 in
     let d = must_ok (TooMany counts.Column) (nat_le (length out) MAX_OUTPUT_COLUMNS) u c.1 in
     (le_of (length rels) 6 b.0, le_of (length conds) 16 c.0, le_of (length out) 16 d)
 
 pub update_limits : (before : ℕ) (rel : RelNo) (sets : List Assign) (conds : List Condition) (u : Unit {0})
     → statement_limits before (Update rel sets conds) ≡ Ok u → (length conds ≤ 16) × (length sets ≤ 16)
 update_limits before rel sets conds u e =
-    let a = must_then (TooMany counts.Statement) (nat_lt before MAX_STATEMENTS)
-    (λ _. must (TooMany counts.Cond) (nat_le (length conds) MAX_CONDITIONS) >>=
-    λ _. must (TooMany counts.Column) (nat_le (length sets) MAX_ASSIGNMENTS)) u e in
-    let c = must_then (TooMany counts.Cond) (nat_le (length conds) MAX_CONDITIONS)
-    (λ _. must (TooMany counts.Column) (nat_le (length sets) MAX_ASSIGNMENTS)) u a.1 in
+    let a = must_then _ (nat_lt before MAX_STATEMENTS) _ u e in
+    let c = must_then _ (nat_le (length conds) MAX_CONDITIONS) _ u a.1 in
     let d = must_ok (TooMany counts.Column) (nat_le (length sets) MAX_ASSIGNMENTS) u c.1 in
     (le_of (length conds) 16 c.0, le_of (length sets) 16 d)
 
 pub delete_limits : (before : ℕ) (rel : RelNo) (conds : List Condition) (u : Unit {0}) → statement_limits before (Delete rel conds) ≡ Ok u
     → length conds ≤ 16
 delete_limits before rel conds u e =
-    let a = must_then (TooMany counts.Statement) (nat_lt before MAX_STATEMENTS) (λ _. must (TooMany counts.Cond) (nat_le (length conds) MAX_CONDITIONS)) u e in
+    let a = must_then _ (nat_lt before MAX_STATEMENTS) _ u e in
     le_of (length conds) 16 (must_ok (TooMany counts.Cond) (nat_le (length conds) MAX_CONDITIONS) u a.1)
 
 pub limits_before : (before : ℕ) (s : Stmt) (u : Unit {0}) → statement_limits before s ≡ Ok u → before < 32
 limits_before before (Put rel row) u e = ltb-true before 32 (must_ok (TooMany counts.Statement) (nat_lt before MAX_STATEMENTS) u e)
 limits_before before (Query out rels conds) u e =
-    ltb-true before 32 (must_then (TooMany counts.Statement) (nat_lt before MAX_STATEMENTS)
-    (λ _. must (TooMany counts.Part) (nat_le (length rels) MAX_USES) >>=
-    λ _. must (TooMany counts.Cond) (nat_le (length conds) MAX_CONDITIONS) >>=
-    λ _. must (TooMany counts.Column) (nat_le (length out) MAX_OUTPUT_COLUMNS)) u e).0
+    ltb-true before 32 (must_then _ (nat_lt before MAX_STATEMENTS) _ u e).0
 limits_before before (Update rel sets conds) u e =
-    ltb-true before 32 (must_then (TooMany counts.Statement) (nat_lt before MAX_STATEMENTS)
-    (λ _. must (TooMany counts.Cond) (nat_le (length conds) MAX_CONDITIONS) >>=
-    λ _. must (TooMany counts.Column) (nat_le (length sets) MAX_ASSIGNMENTS)) u e).0
+    ltb-true before 32 (must_then _ (nat_lt before MAX_STATEMENTS) _ u e).0
 limits_before before (Delete rel conds) u e =
-    ltb-true before 32 (must_then (TooMany counts.Statement) (nat_lt before MAX_STATEMENTS)
-    (λ _. must (TooMany counts.Cond) (nat_le (length conds) MAX_CONDITIONS)) u e).0
+    ltb-true before 32 (must_then _ (nat_lt before MAX_STATEMENTS) _ u e).0
 
 pub limits_again : (cat : Catalogue) (before : ℕ) (s : Stmt) → before < 32 → FitsStatement cat s → statement_limits before s ≡ Ok tt
 limits_again cat before (Put rel row) lt h = let a : ltb before 32 ≡ true = lt-ltb before 32 lt in rw a refl
@@ -89,8 +74,8 @@ limits_again cat before (Delete rel conds) lt h =
 pub put_takes : (cat : Catalogue) (words : List Word) (s : Stmt) → put_of cat words ≡ Ok s → IsStatement cat (codes "put") words s
 put_takes cat [] s e = absurd cc
 put_takes cat (name ∷ words) s e =
-    let a = must_then BadLine (is_free name && are_free words) (λ _. row_of cat name words >>= λ (r : RelNo × List Value). Ok (Put r.0 r.1)) s e in
-    let b = bind_ok (row_of cat name words) (λ (r : RelNo × List Value). Ok (Put r.0 r.1)) s a.1 in
+    let a = must_then _ (is_free name && are_free words) _ s e in
+    let b = bind_ok (row_of cat name words) _ s a.1 in
     let r = row_takes cat name words b.0 b.1 in
     subst (λ (x : Stmt). IsStatement cat (codes "put") (name ∷ words) x) (ok_is (Put b.0.0 b.0.1) s b.2) (record {
       spelled = ap (λ (l : List Word). Plain (codes "put") ∷ l) r.spelled;
@@ -120,10 +105,7 @@ by_words : (cat : Catalogue) (columns rels : List Word) (cs : List Comparison) �
     λ out. along (λ i w. part_of cat w) 0 rels >>= λ found. conditions_of cat (parts_of cat rels) cs >>=
     λ conds. Ok (Query out found conds))
 unfolding query_over
-by_words cat columns rels cs =
-    ap (λ (r : Result (List RelNo) WorkRule). along (λ i w. listed_column cat (parts_of cat rels) w) 0
-    columns >>= λ out. r >>= λ found. conditions_of cat (parts_of cat rels) cs >>=
-    λ conds. Ok (Query out found conds)) (parts_named cat 0 rels)
+by_words cat columns rels cs = simp parts_named
 
 two_parts : (a b : Option ℕ) (xs ys : Parts) → a ≡ b → xs ≡ ys → a ∷ xs ≡ b ∷ ys
 two_parts a b xs ys p q = cc
@@ -139,26 +121,22 @@ listed_again cat rels r e = rw e refl
 query_words : (a b c d e f : List Word) → a ≡ b → c ≡ d → e ≡ f
     → Plain (codes "query") ∷ (a ++ Plain (codes "from") ∷ (c ++ e)) ≡ Plain (codes "query") ∷
     (b ++ Plain (codes "from") ∷ (d ++ f))
-query_words a b c d e f p q r =
-    ap (λ (l : List Word). Plain (codes "query") ∷ (l ++ Plain (codes "from") ∷ (c ++ e))) p
-    ∙ ap (λ (l : List Word). Plain (codes "query") ∷ (b ++ Plain (codes "from") ∷ (l ++ e))) q
-    ∙ ap (λ (l : List Word). Plain (codes "query") ∷ (b ++ Plain (codes "from") ∷ (d ++ l))) r
+query_words a b c d e f p q r = cc
 
 parts_take : (cat : Catalogue) (i : ℕ) (words : List Word) (rels : List RelNo)
     → Answers (λ i w. part_of cat w) i words rels → (words ≡ map (relation_word cat) rels)
     × (parts_of cat words ≡ parts_for rels) × AllByRecursion (λ (r : RelNo). IsRelation cat r.0) rels
 parts_take cat i [] [] h = (refl, refl, tt)
-parts_take cat i [] (r ∷ rels) h = absurd h
-parts_take cat i (w ∷ words) [] h = absurd h
 parts_take cat i (w ∷ words) (r ∷ rels) h =
-    let a = known_then UnknownName (relation_of cat w) (λ rel. Ok (rel_no rel)) r h.0 in
+    let a = known_then _ (relation_of cat w) _ r h.0 in
     let t = relation_takes cat w a.0 a.1 in
     let same : rel_no a.0 ≡ r = ok_is (rel_no a.0) r a.2 in
     let more = parts_take cat (i + 1) words rels h.1 in (
-      two_same w (relation_word cat r) words (map (relation_word cat) rels) (t.spelled ∙ ap (relation_word cat) same) more.0,
+      cc,
       two_parts (relation_of cat w) (Some r.0) (parts_of cat words) (parts_for rels) (a.1 ∙ ap (λ (x : RelNo). Some x.0) same) more.1,
       (subst (λ (x : RelNo). IsRelation cat x.0) same t.there, more.2),
     )
+parts_take cat i _ _ h = absurd h
 
 parts_again : (cat : Catalogue) → IsKnown cat → (rels : List RelNo)
     → AllByRecursion (λ (r : RelNo). IsRelation cat r.0) rels → (i : ℕ) → Answers (λ i w. part_of cat w) i
@@ -178,18 +156,16 @@ columns_take : (cat : Catalogue) (rels : List RelNo) (i : ℕ) (words : List Wor
     → list_all looks_like_column words ≡ true → Answers (λ i w. listed_column cat (parts_for rels) w) i
     words out → (words ≡ map (column_word cat rels) out) × AllByRecursion (FitsRef cat rels) out
 columns_take cat rels i [] [] l h = (refl, tt)
-columns_take cat rels i [] (r ∷ out) l h = absurd h
-columns_take cat rels i (w ∷ words) [] l h = absurd h
 columns_take cat rels i (w ∷ words) (r ∷ out) l h =
     let look = both_hold (looks_like_column w) (list_all looks_like_column words) l in
-    let a = bind_ok (column_of_use cat (parts_for rels) w) (λ (f : Found). Ok f.at) r h.0 in
+    let a = bind_ok (column_of_use cat (parts_for rels) w) _ r h.0 in
     let t = ref_takes cat rels w a.0 look.0 a.1 in
     let same : a.0.at ≡ r = ok_is a.0.at r a.2 in
     let more = columns_take cat rels (i + 1) words out look.1 h.1 in (
-      two_same w (column_word cat rels r) words (map (column_word cat rels) out) (t.spelled
-          ∙ ap (column_word cat rels) same) more.0,
+      cc,
       (subst (λ (x : Ref). FitsRef cat rels x) same t.fits, more.1),
     )
+columns_take cat rels i _ _ l h = absurd h
 
 columns_again : (cat : Catalogue) → IsKnown cat → (rels : List RelNo) → AreParts cat rels
     → (i : ℕ) (out : List Ref) → AllByRecursion (FitsRef cat rels) out
@@ -214,16 +190,13 @@ pub before_where : (cat : Catalogue) (rels : List RelNo) (front : List Word) (co
     → NonePasses (is_key (codes "where")) front
     → up_to (codes "where") (front ++ where_words cat rels conds) ≡ front
 before_where cat rels front [] h = ap (up_to (codes "where")) (append-nil front) ∙ all_before (is_key (codes "where")) front h
-before_where cat rels front (c ∷ conds) h =
-    before_again (is_key (codes "where")) front (Plain (codes "where"))
-    (condition_words cat rels c ++ conditions_words (codes "and") cat rels conds) h refl
+before_where cat rels front (c ∷ conds) h = simp before_again
 
 pub from_where : (cat : Catalogue) (rels : List RelNo) (front : List Word) (conds : List Condition)
     → NonePasses (is_key (codes "where")) front → from_key (codes "where")
     (front ++ where_words cat rels conds) ≡ where_words cat rels conds
 from_where cat rels front [] h = ap (from_key (codes "where")) (append-nil front) ∙ none_from (is_key (codes "where")) front h
-from_where cat rels front (c ∷ conds) h = from_again (is_key (codes "where")) front (Plain (codes "where"))
-    (condition_words cat rels c ++ conditions_words (codes "and") cat rels conds) h refl
+from_where cat rels front (c ∷ conds) h = simp from_again
 
 -- ---- query
 
@@ -239,12 +212,10 @@ query_parts_take : (cat : Catalogue) (columns rels rest : List Word) (cs : List 
     → look_like_columns columns ≡ true → are_free rels ≡ true → comparisons (codes "where") rest ≡ Some cs
     → query_of_parts cat columns rels cs ≡ Ok s → IsStatement cat (codes "query") (columns ++ Plain (codes "from") ∷ (rels ++ rest)) s
 query_parts_take cat columns rels rest cs s look free form e =
-    let a = bind_ok (along (λ i w. listed_column cat (parts_of cat rels) w) 0 columns)
-    (λ out. along (λ i w. part_of cat w) 0 rels >>= λ found. conditions_of cat (parts_of cat rels) cs >>=
-    λ conds. Ok (Query out found conds)) s (sym (by_words cat columns rels cs) ∙ e) in
-    let b = bind_ok (along (λ i w. part_of cat w) 0 rels)
-    (λ found. conditions_of cat (parts_of cat rels) cs >>= λ conds. Ok (Query a.0 found conds)) s a.2 in
-    let c = bind_ok (conditions_of cat (parts_of cat rels) cs) (λ conds. Ok (Query a.0 b.0 conds)) s b.2 in
+    let a =
+    bind_ok (along (λ i w. listed_column cat (parts_of cat rels) w) 0 columns) _ s (sym (by_words cat columns rels cs) ∙ e) in
+    let b = bind_ok (along (λ i w. part_of cat w) 0 rels) _ s a.2 in
+    let c = bind_ok (conditions_of cat (parts_of cat rels) cs) _ s b.2 in
     let p = parts_take cat 0 rels b.0 (along_ok (λ i w. part_of cat w) 0 rels b.0 b.1) in
     let looks = both_hold (not_empty columns) (list_all looks_like_column columns) look in
     let frees = both_hold (not_empty rels) (list_all is_free rels) free in
@@ -268,14 +239,11 @@ query_parts_take cat columns rels rest cs s look free form e =
 
 pub query_takes : (cat : Catalogue) (words : List Word) (s : Stmt) → query_of cat words ≡ Ok s → IsStatement cat (codes "query") words s
 query_takes cat words s e =
-    let a = known_then BadLine (cut_at (codes "from") words) (λ (cut : List Word × List Word).
-    query_behind_from cat cut.0 (up_to (codes "where") cut.1) (from_key (codes "where") cut.1)) s e in
+    let a = known_then _ (cut_at (codes "from") words) _ s e in
     let rels : List Word = up_to (codes "where") a.0.1 in
     let rest : List Word = from_key (codes "where") a.0.1 in
-    let b = must_then BadLine (look_like_columns a.0.0 && are_free rels)
-    (λ _. known BadLine (conditions_form rest) >>=
-    λ comparisons. query_of_parts cat a.0.0 rels comparisons) s a.2 in
-    let c = known_then BadLine (conditions_form rest) (λ comparisons. query_of_parts cat a.0.0 rels comparisons) s b.1 in
+    let b = must_then _ (look_like_columns a.0.0 && are_free rels) _ s a.2 in
+    let c = known_then _ (conditions_form rest) _ s b.1 in
     let t = both_hold (look_like_columns a.0.0) (are_free rels) b.0 in
     let whole : words ≡ a.0.0 ++ Plain (codes "from") ∷ (rels ++ rest) =
     cut_takes (codes "from") words a.0.0 a.0.1 a.1
@@ -364,14 +332,4 @@ query_again cat k out rels conds h =
     (not_empty_again (relation_word cat) rels h.some_rels) frees) in
     let f : conditions_form rest ≡ Some (map (comparison_for cat rels) conds) = form_again cat k rels h.parts
     (codes "where") conds h.conds_fit h.conds_hold in
-    let g = query_parts_again cat k out rels conds h in
-    let behind : query_behind_from cat cols names rest ≡ Ok (Query out rels conds) =
-    ap (λ (t : Bool). must BadLine t >>= λ _. known BadLine (conditions_form rest) >>= λ comparisons. query_of_parts cat cols names comparisons) d
-    ∙ ap (λ (o : Option (List Comparison)). known BadLine o >>= λ comparisons. query_of_parts cat cols names comparisons) f
-    ∙ g in
-    ap (λ (o : Option (List Word × List Word)). known BadLine o >>=
-    λ (cut : List Word × List Word). query_behind_from cat cut.0 (up_to (codes "where") cut.1)
-    (from_key (codes "where") cut.1)) a
-    ∙ ap (λ (l : List Word). query_behind_from cat cols l (from_key (codes "where") (names ++ rest))) b
-    ∙ ap (λ (l : List Word). query_behind_from cat cols names l) c
-    ∙ behind
+    rw (a, b, c, d, f) (query_parts_again cat k out rels conds h)

@@ -1,11 +1,11 @@
 -- What is read is a workload that the catalogue allows, and the file is its spelling.
-use Rattle.sdd_script.proofs.All.{Accepts, All, All-from_recursion, BadLine, Bool, Catalogue, ClassPart, Deliver, Err, Event, FitsStatement, HoldsValues, IsSoundCatalogue, IsValid, IsValidClass, IsValidEvent, IsWhole, Keyword, List, Lose, MAX_WORKLOAD_BYTES, None, Ok, Option, Place, Plain, Quoted, Repeat, Result, Site, Some, State, Submit, Txn, TxnNo, UnknownName, Word, WorkFault, WorkRule, Workload, [], all_classes, ap, append-nil, append_assoc, arith, at_line, bind_ok, bytes_eq, bytes_eq-Decides, class_names, classes_in, codes, cond, cut_lines, cut_takes, delete_of, deliver_of, down_of, ended, false, flat_map, flight_place, get_or, is_ended, is_free, is_utf8, joined, keyword_rules, known, length, length-map, line_bytes, line_rules, lines_of, lose_of, ltb-false, map, name_in, name_of_txn, nat_lt, nothing_read, number_named, ok_is, one_line, open_list, option_map, option_map_or, part_names, position, position-Some, put_of, query_of, redeclare_of, refl, repeat_of, repeats, resend_of, settle_of, slice_get, slice_get-map, spelled_lines, spelling, submit_of, subst, sym, tail_rules, takes_events, tick_of, true, txn_named, txn_no, unwrap_or, unwrap_or-slice_get, up_of, update_of, walk_bytes, workload, workload_of_state, ℕ, ◌++◌, ◌+◌, ◌-◌, ◌<◌, ◌>>=◌, ◌∙◌, ◌∷◌, ◌≡◌}
+use Rattle.sdd_script.proofs.All.{Accepts, All, All-from_recursion, BadLine, Bool, Catalogue, ClassPart, Deliver, Down, Err, Event, EventKey, FitsStatement, HoldsValues, IsFrom1To, IsLink, IsSoundCatalogue, IsValid, IsValidClass, IsValidEvent, IsWhole, Keyword, List, Lose, MAX_PLACE, MAX_WORKLOAD_BYTES, None, Ok, Option, Place, Plain, Quoted, Redeclare, Repeat, Resend, Result, Settle, Site, Some, State, StatementKey, Stmt, Submit, Tick, Txn, TxnNo, Up, Word, WorkFault, WorkRule, Workload, [], all_classes, ap, append-nil, append_assoc, arith, at_line, bind_ok, bytes_eq, bytes_eq-Decides, class_names, classes_in, codes, cond, count_word, cut_lines, cut_takes, ended, event_of, event_words, false, flat_map, flight_place, get_or, is_ended, is_free, is_utf8, joined, keyword_rules, length, length-map, line_bytes, line_rules, lines_of, ltb-false, map, name_in, name_of_txn, nat_lt, nothing_read, number_named, ok_is, one_line, open_list, option_map, option_map_or, part_names, position, position-Some, refl, repeats, site_word, slice_get, slice_get-map, spelled_lines, spelling, statement_of, submit_of, subst, sym, tail_rules, takes_events, true, txn_named, txn_no, unwrap_or, unwrap_or-slice_get, walk_bytes, workload, workload_of_state, ℕ, ◌++◌, ◌+◌, ◌-◌, ◌<◌, ◌>>=◌, ◌∙◌, ◌∷◌, ◌≡◌}
 use Rattle.sdd_script.specs.Walk.{walk}
 use Rattle.sdd_script.proofs.StepLaws.{must_then, known_then, some_is}
-use Rattle.sdd_script.proofs.QueryLaws.{put_takes, query_takes}
+use Rattle.sdd_script.proofs.QueryLaws.{IsStatement, put_takes, query_takes}
 use Rattle.sdd_script.proofs.UpdateLaws.{update_takes, delete_takes}
 use Rattle.sdd_script.proofs.EventLaws.{place_takes, resend_takes, tick_takes, settle_takes, redeclare_takes, down_takes, up_takes}
-use Rattle.sdd_script.proofs.LineLaws.{line_takes, words_take, keyword_bytes}
+use Rattle.sdd_script.proofs.LineLaws.{line_takes, words_take, keyword_bytes, statement_key_bytes, event_key_bytes}
 use Rattle.sdd_script.proofs.SoFar.{lines_at, so_far, lines_at_end}
 use Rattle.sdd_script.proofs.SoundEvents.{IsEvent, no_open, event_leads, end_leads}
 use Rattle.sdd_script.proofs.SoundStates.{Sound, Leads, names_of, open_name, named_takes, row_leads, txn_leads, statement_leads}
@@ -43,8 +43,8 @@ named_submit : (names : List (List ℕ)) (w : Word) (txn : TxnNo) → txn_named 
     × (place < length names) × (w ≡ Plain (get_or names place [])) × (txn_no (place + 1) ≡ txn)
 named_submit names (Quoted text) txn e = absurd cc
 named_submit names (Plain bytes) txn e =
-    let a = known_then UnknownName (name_in bytes) (λ name. known UnknownName (number_named names name) >>= λ n. Ok (txn_no n)) txn e in
-    let m = known_then UnknownName (number_named names a.0) (λ n. Ok (txn_no n)) txn a.2 in
+    let a = known_then _ (name_in bytes) _ txn e in
+    let m = known_then _ (number_named names a.0) _ txn a.2 in
     let b = numbered_at (position (bytes_eq a.0) names) m.0 m.1 in
     let n = named_takes bytes a.0 a.1 in
     let p = position-Some (bytes_eq a.0) names b.0 [] b.1 in
@@ -52,13 +52,12 @@ named_submit names (Plain bytes) txn e =
     (b.0, p.0, ap (λ (l : List ℕ). Plain l) (n.1 ∙ same), ap txn_no b.2 ∙ ok_is (txn_no m.0) txn m.2)
 
 submit_takes : (names : List (List ℕ)) (words : List Word) (e : Event) → submit_of names words ≡ Ok e → IsSubmit names words e
-submit_takes names [] e h = absurd cc
 submit_takes names (w ∷ []) e h =
-    let a = must_then BadLine (is_free w) (λ _. txn_named names w >>= λ txn. Ok (Submit txn)) e h in
-    let b = bind_ok (txn_named names w) (λ txn. Ok (Submit txn)) e a.1 in
+    let a = must_then _ (is_free w) _ e h in
+    let b = bind_ok (txn_named names w) _ e a.1 in
     let n = named_submit names w b.0 b.1 in
     record { place = n.0; within = n.1; spelled = ap (λ (x : Word). x ∷ []) n.2; is = ap (λ (t : TxnNo). Submit t) n.3 ∙ ok_is (Submit b.0) e b.2 }
-submit_takes names (a ∷ b ∷ rest) e h = absurd cc
+submit_takes names _ e h = absurd cc
 
 submit_is : (cat : Catalogue) (st : State) (words : List Word) (e : Event) → Sound cat st
     → takes_events st.place ≡ true → submit_of st.names words ≡ Ok e
@@ -78,117 +77,72 @@ submit_is cat st words e s t h =
       valid = (omega arith, omega (arith, r.within, len));
     })
 
--- the three events of one form
-deliver_is : (cat : Catalogue) (st : State) (words : List Word) (e : Event) → deliver_of cat words ≡ Ok e → IsEvent cat st (codes "deliver") words e
-deliver_is cat st words e h =
-    let b = bind_ok (flight_place cat words) (λ (p : Site × Site × ℕ). Ok (Deliver p.0 p.1 p.2)) e h in
+-- an event whose words are spelled so
+is_event : (cat : Catalogue) (st : State) (key : List ℕ) (words ws : List Word) (x e : Event) → x ≡ e → words ≡ ws
+    → Plain key ∷ ws ≡ event_words st.txns x → IsValidEvent cat (length st.txns) x → IsEvent cat st key words e
+is_event cat st key words ws x e is spelled whole valid = subst (λ (y : Event). IsEvent cat st key words y) is
+    (record { spelled = ap (λ (l : List Word). Plain key ∷ l) spelled ∙ whole; valid = valid })
+
+-- an event of one form with two others
+flight_is : (make : Site → Site → ℕ → Event) (cat : Catalogue) (st : State) (key : List ℕ) (words : List Word) (e : Event)
+    → ((from to : Site) (n : ℕ) → Plain key ∷ site_word from ∷ site_word to ∷ count_word n ∷ []
+    ≡ event_words st.txns (make from to n))
+    → ((from to : Site) (n : ℕ) → IsLink cat from to → IsFrom1To MAX_PLACE n → IsValidEvent cat (length st.txns) (make from to n))
+    → (flight_place cat words >>= λ (p : Site × Site × ℕ). Ok (make p.0 p.1 p.2)) ≡ Ok e → IsEvent cat st key words e
+flight_is make cat st key words e whole valid h =
+    let b = bind_ok (flight_place cat words) _ e h in
     let r = place_takes cat words b.0 b.1 in
-    subst (λ (x : Event). IsEvent cat st (codes "deliver") words x)
-    (ok_is (Deliver b.0.0 b.0.1 b.0.2) e b.2) (record {
-      spelled =
-          ap (λ (l : List Word). Plain (codes "deliver") ∷ l) r.spelled;
-      valid = (r.linked, r.placed);
-    })
+    is_event cat st key words _ (make b.0.0 b.0.1 b.0.2) e (ok_is (make b.0.0 b.0.1 b.0.2) e b.2) r.spelled
+    (whole b.0.0 b.0.1 b.0.2) (valid b.0.0 b.0.1 b.0.2 r.linked r.placed)
 
-lose_is : (cat : Catalogue) (st : State) (words : List Word) (e : Event) → lose_of cat words ≡ Ok e → IsEvent cat st (codes "lose") words e
-lose_is cat st words e h =
-    let b = bind_ok (flight_place cat words) (λ (p : Site × Site × ℕ). Ok (Lose p.0 p.1 p.2)) e h in
-    let r = place_takes cat words b.0 b.1 in
-    subst (λ (x : Event). IsEvent cat st (codes "lose") words x) (ok_is (Lose b.0.0 b.0.1 b.0.2) e b.2)
-    (record {
-      spelled = ap (λ (l : List Word). Plain (codes "lose") ∷ l) r.spelled;
-      valid = (r.linked, r.placed);
-    })
-
-repeat_is : (cat : Catalogue) (st : State) (words : List Word) (e : Event) → repeat_of cat words ≡ Ok e → IsEvent cat st (codes "repeat") words e
-repeat_is cat st words e h =
-    let b = bind_ok (flight_place cat words) (λ (p : Site × Site × ℕ). Ok (Repeat p.0 p.1 p.2)) e h in
-    let r = place_takes cat words b.0 b.1 in
-    subst (λ (x : Event). IsEvent cat st (codes "repeat") words x) (ok_is (Repeat b.0.0 b.0.1 b.0.2) e b.2)
-    (record {
-      spelled = ap (λ (l : List Word). Plain (codes "repeat") ∷ l) r.spelled;
-      valid = (r.linked, r.placed);
-    })
-
-resend_is : (cat : Catalogue) (st : State) (words : List Word) (e : Event) → resend_of cat words ≡ Ok e → IsEvent cat st (codes "resend") words e
-resend_is cat st words e h = let r =
-    resend_takes cat words e h in subst (λ (x : Event). IsEvent cat st (codes "resend") words x) r.is
-    (record { spelled = ap (λ (l : List Word). Plain (codes "resend") ∷ l) r.spelled; valid = r.linked })
-
-tick_is : (cat : Catalogue) (st : State) (words : List Word) (e : Event) → tick_of cat words ≡ Ok e → IsEvent cat st (codes "tick") words e
-tick_is cat st words e h = let r =
-    tick_takes cat words e h in subst (λ (x : Event). IsEvent cat st (codes "tick") words x) r.is
-    (record {
-      spelled = ap (λ (l : List Word). Plain (codes "tick") ∷ l) r.spelled;
-      valid = (r.there, r.counted);
-    })
-
-settle_is : (cat : Catalogue) (st : State) (words : List Word) (e : Event) → settle_of words ≡ Ok e → IsEvent cat st (codes "settle") words e
-settle_is cat st words e h = let r =
-    settle_takes words e h in subst (λ (x : Event). IsEvent cat st (codes "settle") words x) r.1
-    (record { spelled = ap (λ (l : List Word). Plain (codes "settle") ∷ l) r.0; valid = tt })
-
-redeclare_is : (cat : Catalogue) (st : State) (words : List Word) (e : Event) → redeclare_of words ≡ Ok e → IsEvent cat st (codes "redeclare") words e
-redeclare_is cat st words e h = let r =
-    redeclare_takes words e h in subst (λ (x : Event). IsEvent cat st (codes "redeclare") words x) r.1
-    (record { spelled = ap (λ (l : List Word). Plain (codes "redeclare") ∷ l) r.0; valid = tt })
-
-down_is : (cat : Catalogue) (st : State) (words : List Word) (e : Event) → down_of cat words ≡ Ok e → IsEvent cat st (codes "down") words e
-down_is cat st words e h = let r =
-    down_takes cat words e h in subst (λ (x : Event). IsEvent cat st (codes "down") words x) r.is
-    (record { spelled = ap (λ (l : List Word). Plain (codes "down") ∷ l) r.spelled; valid = r.there })
-
-up_is : (cat : Catalogue) (st : State) (words : List Word) (e : Event) → up_of cat words ≡ Ok e → IsEvent cat st (codes "up") words e
-up_is cat st words e h = let r =
-    up_takes cat words e h in subst (λ (x : Event). IsEvent cat st (codes "up") words x) r.is
-    (record { spelled = ap (λ (l : List Word). Plain (codes "up") ∷ l) r.spelled; valid = r.there })
+event_is : (key : EventKey) (cat : Catalogue) (st : State) (words : List Word) (e : Event) → Sound cat st
+    → takes_events st.place ≡ true
+    → event_of key cat st.names words ≡ Ok e → IsEvent cat st (event_key_bytes key) words e
+event_is ekeys.Submit cat st words e s t h = submit_is cat st words e s t h
+event_is ekeys.Deliver cat st words e s t h =
+    flight_is Deliver cat st (codes "deliver") words e (λ _ _ _. refl) (λ _ _ _ l p. (l, p)) h
+event_is ekeys.Lose cat st words e s t h = flight_is Lose cat st (codes "lose") words e (λ _ _ _. refl) (λ _ _ _ l p. (l, p)) h
+event_is ekeys.Repeat cat st words e s t h =
+    flight_is Repeat cat st (codes "repeat") words e (λ _ _ _. refl) (λ _ _ _ l p. (l, p)) h
+event_is ekeys.Resend cat st words e s t h =
+    let r = resend_takes cat words e h in
+    is_event cat st (codes "resend") words _ (Resend r.from r.to) e r.is r.spelled refl r.linked
+event_is ekeys.Tick cat st words e s t h =
+    let r = tick_takes cat words e h in
+    is_event cat st (codes "tick") words _ (Tick r.tm r.n) e r.is r.spelled refl (r.there, r.counted)
+event_is ekeys.Settle cat st words e s t h =
+    let r = settle_takes words e h in is_event cat st (codes "settle") words [] Settle e r.1 r.0 refl tt
+event_is ekeys.Redeclare cat st words e s t h =
+    let r = redeclare_takes words e h in is_event cat st (codes "redeclare") words [] Redeclare e r.1 r.0 refl tt
+event_is ekeys.Down cat st words e s t h =
+    let r = down_takes cat words e h in is_event cat st (codes "down") words _ (Down r.dm) e r.is r.spelled refl r.there
+event_is ekeys.Up cat st words e s t h =
+    let r = up_takes cat words e h in is_event cat st (codes "up") words _ (Up r.dm) e r.is r.spelled refl r.there
 
 -- ---- a line
+
+statement_takes : (key : StatementKey) (cat : Catalogue) (words : List Word) (q : Stmt) → statement_of key cat words ≡ Ok q
+    → IsStatement cat (statement_key_bytes key) words q
+statement_takes skeys.Put cat words q h = put_takes cat words q h
+statement_takes skeys.Query cat words q h = query_takes cat words q h
+statement_takes skeys.Update cat words q h = update_takes cat words q h
+statement_takes skeys.Delete cat words q h = delete_takes cat words q h
 
 keyword_leads : (cat : Catalogue) (st to : State) (key : Keyword) (words : List Word) → Sound cat st
     → keyword_rules key cat st words ≡ Ok to → Leads cat st to (Plain (keyword_bytes key) ∷ words)
 keyword_leads cat st to keys.Row words s e = row_leads cat st to words s e
 keyword_leads cat st to keys.Txn words s e = txn_leads cat st to words s e
-keyword_leads cat st to (keys.Statement skeys.Put) words s e =
-    statement_leads cat st to (codes "put") words (put_of cat words) s (λ q h. put_takes cat words q h) e
-keyword_leads cat st to (keys.Statement skeys.Query) words s e =
-    statement_leads cat st to (codes "query") words (query_of cat words) s
-    (λ q h. query_takes cat words q h) e
-keyword_leads cat st to (keys.Statement skeys.Update) words s e =
-    statement_leads cat st to (codes "update") words (update_of cat words) s
-    (λ q h. update_takes cat words q h) e
-keyword_leads cat st to (keys.Statement skeys.Delete) words s e =
-    statement_leads cat st to (codes "delete") words (delete_of cat words) s
-    (λ q h. delete_takes cat words q h) e
+keyword_leads cat st to (keys.Statement key) words s e =
+    statement_leads cat st to (statement_key_bytes key) words (statement_of key cat words) s
+    (λ q h. statement_takes key cat words q h) e
 keyword_leads cat st to keys.Done words s e = done_leads cat st to words s e
 keyword_leads cat st to (keys.Class class_keys.List) words s e = list_leads cat st to words s e
 keyword_leads cat st to (keys.Class class_keys.Class) words s e = class_leads cat st to words s e
 keyword_leads cat st to (keys.Class class_keys.Reads) words s e = reads_leads cat st to words s e
 keyword_leads cat st to (keys.Class class_keys.Writes) words s e = writes_leads cat st to words s e
-keyword_leads cat st to (keys.Event ekeys.Submit) words s e =
-    event_leads cat st to (codes "submit") words (submit_of st.names words) s
-    (λ t x h. submit_is cat st words x s t h) e
-keyword_leads cat st to (keys.Event ekeys.Deliver) words s e =
-    event_leads cat st to (codes "deliver") words (deliver_of cat words) s
-    (λ t x h. deliver_is cat st words x h) e
-keyword_leads cat st to (keys.Event ekeys.Lose) words s e =
-    event_leads cat st to (codes "lose") words (lose_of cat words) s (λ t x h. lose_is cat st words x h) e
-keyword_leads cat st to (keys.Event ekeys.Repeat) words s e =
-    event_leads cat st to (codes "repeat") words (repeat_of cat words) s
-    (λ t x h. repeat_is cat st words x h) e
-keyword_leads cat st to (keys.Event ekeys.Resend) words s e =
-    event_leads cat st to (codes "resend") words (resend_of cat words) s
-    (λ t x h. resend_is cat st words x h) e
-keyword_leads cat st to (keys.Event ekeys.Tick) words s e =
-    event_leads cat st to (codes "tick") words (tick_of cat words) s (λ t x h. tick_is cat st words x h) e
-keyword_leads cat st to (keys.Event ekeys.Settle) words s e =
-    event_leads cat st to (codes "settle") words (settle_of words) s (λ t x h. settle_is cat st words x h) e
-keyword_leads cat st to (keys.Event ekeys.Redeclare) words s e =
-    event_leads cat st to (codes "redeclare") words (redeclare_of words) s
-    (λ t x h. redeclare_is cat st words x h) e
-keyword_leads cat st to (keys.Event ekeys.Down) words s e =
-    event_leads cat st to (codes "down") words (down_of cat words) s (λ t x h. down_is cat st words x h) e
-keyword_leads cat st to (keys.Event ekeys.Up) words s e = event_leads cat st to (codes "up") words (up_of cat words) s (λ t x h. up_is cat st words x h) e
+keyword_leads cat st to (keys.Event key) words s e =
+    event_leads cat st to (event_key_bytes key) words (event_of key cat st.names words) s
+    (λ t x h. event_is key cat st words x s t h) e
 keyword_leads cat st to keys.End words s e = end_leads cat st to words s e
 
 record IsRead (cat : Catalogue) (st to : State) (line : List ℕ) : Type 0 where
@@ -236,9 +190,8 @@ ended_if st to true rule e = (refl, ok_is st to e)
 ended_if st to false rule e = absurd cc
 
 never_if : (a b : Bool) (to : State) (x y z : WorkRule) → cond a (Err x) (cond b (Err y) (Err z)) ≡ Ok to → ⊥
-never_if true b to x y z e = absurd cc
-never_if false true to x y z e = absurd cc
 never_if false false to x y z e = absurd cc
+never_if _ _ to x y z e = absurd cc
 
 tail_takes : (st to : State) (tail : List ℕ) → tail_rules st tail ≡ Ok to → IsEnd st to tail
 tail_takes st to [] e = let h = ended_if st to (is_ended st.place) _ e in record { nothing = refl; is = h.1; ended = h.0 }
@@ -251,9 +204,6 @@ record IsFile (cat : Catalogue) (st to : State) (lines : List (List ℕ)) (tail 
   sound : Sound cat to
   so : so_far cat to ≡ so_far cat st ++ words
   ended : is_ended to.place ≡ true
-
-line_more : (a b : List ℕ) (xs ys : List (List ℕ)) → a ≡ b → xs ≡ ys → a ∷ xs ≡ b ∷ ys
-line_more a b xs ys p q = cc
 
 walk_takes : (cat : Catalogue) (n : ℕ) (st to : State) (lines : List (List ℕ)) (tail : List ℕ)
     → Sound cat st → walk cat n st lines tail ≡ Ok to → IsFile cat st to lines tail
@@ -276,7 +226,7 @@ walk_takes cat n st to (line ∷ lines) tail s e =
     let more = walk_takes cat (n + 1) a.0 to lines tail r.leads.sound a.2 in
     record {
       words = r.words ∷ more.words;
-      spelled = line_more line (line_bytes r.words) lines (map line_bytes more.words) r.spelled more.spelled;
+      spelled = cc;
       nothing = more.nothing;
       sound = more.sound;
       so = more.so ∙ ap (λ (l : List (List Word)). l ++ more.words) r.leads.lines ∙ append_assoc (so_far cat st) (r.words ∷ []) more.words;
@@ -318,12 +268,7 @@ made st = record { rows = st.rows; txns = st.txns; lists = st.lists; events = st
 
 ended_place : (place : Place) → is_ended place ≡ true → place ≡ places.Ended
 ended_place places.Ended e = refl
-ended_place places.Rows e = absurd cc
-ended_place (places.Inside h) e = absurd cc
-ended_place places.Between e = absurd cc
-ended_place (places.Listing list) e = absurd cc
-ended_place places.Declared e = absurd cc
-ended_place places.Events e = absurd cc
+ended_place _ e = absurd cc
 
 sound_valid : (cat : Catalogue) (st : State) → Sound cat st → st.place ≡ places.Ended → IsValid cat (made st)
 sound_valid cat st s p =

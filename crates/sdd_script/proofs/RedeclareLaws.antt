@@ -1,5 +1,5 @@
 -- Where a `redeclare` may stand: the test of a line, and what holds of all events.
-use Rattle.sdd_script.proofs.All.{AreTimely, Bool, Deliver, Down, Event, List, Lose, MayRedeclare, Redeclare, Repeat, Resend, Settle, Some, Submit, Tick, Up, [], ap, arith, both_are, both_hold, cases_lt, count_by, false, inl, inr, is_down, is_redeclare, length, list_any, lt-ltb, ltb-true, may_follow, may_redeclare, nat_lt, not, or_false, range_with_len, refl, slice_get, some_down, subst, suc, sym, take, take-append-le, take-append_seam, true, zero, ℕ, ◌++◌, ◌+◌, ◌<◌, ◌∙◌, ◌∷◌, ◌≡◌, ◌≤◌}
+use Rattle.sdd_script.proofs.All.{AreTimely, Bool, Event, List, MayRedeclare, Redeclare, Some, [], ap, arith, both_are, both_hold, cases_lt, count_by, false, inl, inr, is_down, is_redeclare, length, list_any, lt-ltb, ltb-true, may_follow, may_redeclare, nat_lt, not, or_false, range_with_len, refl, slice_get, some_down, subst, suc, sym, take, take-append-le, take-append_seam, true, zero, ℕ, ◌++◌, ◌+◌, ◌<◌, ◌∙◌, ◌∷◌, ◌≡◌, ◌≤◌}
 use Rattle.sdd_script.proofs.StepLaws.{not_true, some_is}
 
 -- ---- no number of a range passes a test
@@ -75,15 +75,7 @@ pub timely_may : (dms lists : ℕ) (events : List Event) (e : Event) (es : List 
 timely_may dms lists events Redeclare es h =
     may_redeclare_again dms lists events (subst (MayRedeclare dms lists)
     (take-append_seam events (Redeclare ∷ es)) (h (length events) (item_at events Redeclare es)))
-timely_may dms lists events (Submit txn) es h = refl
-timely_may dms lists events (Deliver from to place) es h = refl
-timely_may dms lists events (Lose from to place) es h = refl
-timely_may dms lists events (Repeat from to place) es h = refl
-timely_may dms lists events (Resend from to) es h = refl
-timely_may dms lists events (Tick tm n) es h = refl
-timely_may dms lists events Settle es h = refl
-timely_may dms lists events (Down dm) es h = refl
-timely_may dms lists events (Up dm) es h = refl
+timely_may dms lists events _ es h = refl
 
 pub none_timely : (dms lists : ℕ) → AreTimely dms lists []
 none_timely dms lists i e = absurd cc

@@ -1,9 +1,9 @@
 -- Columns of a statement's relations: what is read is spelled and is there, and what is spelled and is there is read.
-use Rattle.sdd_script.proofs.All.{All, All-get_or, Catalogue, FitsRef, Found, IsColumn, IsFrom1To, IsRelation, Kind, List, None, Ok, Op, Option, Parts, Plain, Quoted, Ref, RelNo, Some, Word, [], ap, arith, before_point, behind_point, both_hold, column_of_use, column_word, columns_of, decimal, false, has_point, is_free, is_name, is_point, kind_of_place, kind_of_ref, length, length-map, looks_like_column, map, name_of_column, names_column, none_after, option_map, position, refl, rel_of, slice_get, slice_get-get_or, slice_get-map, slice_get_within, spells_column, subst, sym, true, whole_digits, ℕ, ◌++◌, ◌-◌, ◌<◌, ◌^◌, ◌∙◌, ◌∷◌, ◌≡◌, ◌≤◌}
+use Rattle.sdd_script.proofs.All.{All, All-get_or, Catalogue, FitsRef, Found, IsColumn, IsFrom1To, IsRelation, Kind, List, None, Ok, Op, Option, Parts, Plain, Quoted, Ref, RelNo, Some, Word, [], ap, arith, before_point, behind_point, both_hold, column_of_use, column_word, columns_of, decimal, false, has_point, is_free, is_name, is_name_byte, is_point, kind_of_place, kind_of_ref, length, length-map, looks_like_column, map, name_of_column, names_column, none_after, option_map, position, refl, rel_of, slice_get, slice_get-get_or, slice_get-map, slice_get_within, spells_column, subst, sym, true, whole_digits, ℕ, ◌++◌, ◌-◌, ◌<◌, ◌^◌, ◌∙◌, ◌∷◌, ◌≡◌, ◌≤◌}
 use Rattle.sdd_script.proofs.StepLaws.{some_is}
 use Rattle.sdd_script.proofs.ValueLaws.{columns_are}
 use Rattle.sdd_script.proofs.WordCuts.{no_point}
-use Rattle.sdd_script.proofs.WordLooks.{IsFine, name_parts, names_no_point, column_fine, column_free, column_looks, column_spelled}
+use Rattle.sdd_script.proofs.WordLooks.{IsFine, name_parts, no_points, column_fine, column_free, column_looks, column_spelled}
 use Rattle.sdd_script.proofs.UseLaws.{IsKnown, use_of_takes, use_again, kind_is}
 use Rattle.sdd_lang.specs.base.declared.restriction.Op.TheVariants as ops
 
@@ -14,29 +14,17 @@ parts_for rels = map (λ (r : RelNo). Some r.0) rels
 abbrev pub AreRelations : Catalogue → List RelNo → Type 0
 AreRelations cat rels = All (λ (r : RelNo). IsRelation cat r.0) rels
 
-abbrev some_number : ℕ → Option (Option ℕ)
-some_number n = Some (Some n)
-
-abbrev number_in : Option (Option ℕ) → ℕ
-number_in (Some (Some n)) = n
-number_in _ = 0
-
-number_is : (x y : ℕ) → some_number x ≡ some_number y → x ≡ y
-number_is x y e = ap number_in e
-
-pub part_there : (rels : List RelNo) (part rel : ℕ) → slice_get (parts_for rels) (part - 1) ≡ Some
-    (Some rel) → (part - 1 < length rels) × (rel ≡ rel_of rels part)
-part_there rels part rel e =
-    let d : RelNo = record { 0 = 0 } in
-    let lt : part - 1 < length rels = omega (arith, slice_get_within (parts_for rels) (part - 1) (Some rel) e, length-map rels (λ (r : RelNo). Some r.0)) in
-    let at : slice_get (parts_for rels) (part - 1) ≡ Some (Some (rel_of rels part)) =
-    slice_get-map (λ (r : RelNo). Some r.0) rels (part - 1) ∙ ap (option_map (λ (r : RelNo). Some r.0))
-    (slice_get-get_or rels (part - 1) d lt) in
-    (lt, number_is rel (rel_of rels part) (sym e ∙ at))
-
 pub there_part : (rels : List RelNo) (part : ℕ) → part - 1 < length rels → slice_get (parts_for rels) (part - 1) ≡ Some (Some (rel_of rels part))
 there_part rels part lt = slice_get-map (λ (r : RelNo). Some r.0) rels (part - 1)
     ∙ ap (option_map (λ (r : RelNo). Some r.0)) (slice_get-get_or rels (part - 1) (record { 0 = 0 }) lt)
+
+pub part_there : (rels : List RelNo) (part rel : ℕ) → slice_get (parts_for rels) (part - 1) ≡ Some (Some rel)
+    → (part - 1 < length rels) × (rel ≡ rel_of rels part)
+part_there rels part rel e =
+    let lt : part - 1 < length rels =
+    omega (arith, slice_get_within (parts_for rels) (part - 1) (Some rel) e, length-map rels (λ (r : RelNo). Some r.0)) in
+    let at = there_part rels part lt in
+    (lt, cc)
 
 pub record IsRef (cat : Catalogue) (rels : List RelNo) (w : Word) (f : Found) : Type 0 where
   pub fits : FitsRef cat rels f.at
@@ -119,7 +107,7 @@ spelled_looks bytes e =
     let h = both_hold (whole_digits (before_point bytes)) (is_name (behind_point bytes)) e in
     let a = one_point bytes (position is_point bytes) refl h.1 in
     let b : has_point (behind_point bytes) ≡ false =
-    no_point (behind_point bytes) (names_no_point (behind_point bytes)
+    no_point (behind_point bytes) (no_points is_name_byte (behind_point bytes) refl
     (name_parts (behind_point bytes) h.1).bytes_are) in
     rw (a, b) refl
 
@@ -130,8 +118,4 @@ pub record IsNaming (op : Op) (w : Word) : Type 0 where
 pub naming : (op : Op) (w : Word) → names_column op w ≡ true → IsNaming op w
 naming ops.Eq (Plain bytes) e = record { equals = refl; looks = spelled_looks bytes e }
 naming ops.Eq (Quoted text) e = absurd cc
-naming ops.Ne w e = absurd cc
-naming ops.Lt w e = absurd cc
-naming ops.Le w e = absurd cc
-naming ops.Gt w e = absurd cc
-naming ops.Ge w e = absurd cc
+naming _ w e = absurd cc

@@ -1,7 +1,7 @@
 -- Rows: what is read is spelled and fits, and what is spelled and fits is read.
-use Rattle.sdd_script.proofs.All.{AllByRecursion, Catalogue, FitsRow, IsRelation, IsValue, List, Ok, RelNo, UnknownName, Value, Word, WrongKind, [], ap, are_free, arith, bind_ok, both_are, columns_of, eq-eqb, eqb-true, is_free, kind_of, length, length-map, list_all, map, must, name_of_relation, not_empty, ok_is, refl, rel_no, relation_of, relation_word, row_words, subst, sym, true, value_word, values_of, ◌&&◌, ◌==◌, ◌>>=◌, ◌∙◌, ◌∷◌, ◌≡◌, ◌≤◌}
+use Rattle.sdd_script.proofs.All.{AllByRecursion, Catalogue, FitsRow, IsRelation, IsValue, List, Ok, RelNo, Value, Word, [], ap, are_free, arith, bind_ok, both_are, columns_of, eq-eqb, eqb-true, is_free, kind_of, length, length-map, list_all, map, name_of_relation, not_empty, ok_is, refl, rel_no, relation_of, relation_word, row_words, subst, sym, true, value_word, values_of, ◌&&◌, ◌==◌, ◌∙◌, ◌∷◌, ◌≡◌, ◌≤◌}
 use Rattle.sdd_script.specs.Values.{row_of}
-use Rattle.sdd_script.proofs.StepLaws.{must_then, known_then, two_same}
+use Rattle.sdd_script.proofs.StepLaws.{must_then, known_then}
 use Rattle.sdd_script.proofs.ValueLaws.{columns_are, kinds_of, values_take, values_again, values_length}
 use Rattle.sdd_script.proofs.WordLooks.{IsFine, name_fine, name_free, value_fine, value_free}
 use Rattle.sdd_script.proofs.UseLaws.{IsKnown, relation_takes, relation_again}
@@ -19,16 +19,13 @@ pair_of rel row = (rel, row)
 pub row_takes : (cat : Catalogue) (name : Word) (words : List Word) (r : RelNo × List Value) → row_of cat name words ≡ Ok r → IsRowOf cat name words r
 unfolding row_of
 row_takes cat name words r e =
-    let a = known_then UnknownName (relation_of cat name) (λ rel. values_of (columns_of cat rel) words >>=
-    λ row. must WrongKind (length words == length (columns_of cat rel)) >>=
-    λ _. Ok (pair_of (rel_no rel) row)) r e in
-    let b = bind_ok (values_of (columns_of cat a.0) words) (λ row. must WrongKind (length words ==
-    length (columns_of cat a.0)) >>= λ _. Ok (pair_of (rel_no a.0) row)) r a.2 in
-    let c = must_then WrongKind (length words == length (columns_of cat a.0)) (λ _. Ok (pair_of (rel_no a.0) b.0)) r b.2 in
+    let a = known_then _ (relation_of cat name) _ r e in
+    let b = bind_ok (values_of (columns_of cat a.0) words) _ r a.2 in
+    let c = must_then _ (length words == length (columns_of cat a.0)) _ r b.2 in
     let rel = relation_takes cat name a.0 a.1 in
     let row = values_take (columns_of cat a.0) words b.0 b.1 (eqb-true (length words) (length (columns_of cat a.0)) c.0) in
     subst (λ (x : RelNo × List Value). IsRowOf cat name words x) (ok_is (pair_of (rel_no a.0) b.0) r c.1) (record {
-      spelled = two_same name (relation_word cat (rel_no a.0)) words (map value_word b.0) rel.spelled row.spelled;
+      spelled = cc;
       fits = (rel.there, row.same ∙ ap kinds_of (columns_are cat a.0), row.fits);
     })
 

@@ -44,40 +44,24 @@ fails_third m n k err read kept second more third f e g h =
     let b = given n second more g in
     rw (a.1, b.1) (fails_short k err third (f a.0 b.0) h)
 
-abbrev made : Stmt → Result Stmt WorkRule
-made statement = Ok statement
-
 pub query_short : (read : Result (List Ref) WorkRule) (second : Result (List RelNo) WorkRule) (third : Result (List Condition) WorkRule)
     (out : List Ref) (rels : List RelNo) (conds : List Condition)
     → few MAX_OUTPUT_COLUMNS read ≡ Ok out → few MAX_USES second ≡ Ok rels → few MAX_CONDITIONS third ≡ Ok conds
     → short (read >>= (λ out. second >>= (λ rels. third >>= (λ conds. Ok (Query out rels conds))))) ≡ Ok (Query out rels conds)
-query_short (Err rule) second third out rels conds e g h = absurd cc
-query_short (Ok a) (Err rule) third out rels conds e g h = absurd cc
-query_short (Ok a) (Ok b) (Err rule) out rels conds e g h = absurd cc
-query_short (Ok a) (Ok b) (Ok c) out rels conds e g h =
-    let p = ok_is {F = WorkRule} (take (MAX_OUTPUT_COLUMNS + 1) a) out e in
-    let q = ok_is {F = WorkRule} (take (MAX_USES + 1) b) rels g in
-    let r = ok_is {F = WorkRule} (take (MAX_CONDITIONS + 1) c) conds h in
-    ap (λ l. made (Query l (take (MAX_USES + 1) b) (take (MAX_CONDITIONS + 1) c))) p
-    ∙ ap (λ l. made (Query out l (take (MAX_CONDITIONS + 1) c))) q
-    ∙ ap (λ l. made (Query out rels l)) r
+query_short (Ok a) (Ok b) (Ok c) out rels conds e g h = cc
+query_short _ _ _ out rels conds e g h = absurd cc
 
 pub update_short : (rel : RelNo) (read : Result (List Assign) WorkRule) (second : Result (List Condition) WorkRule) (sets : List Assign) (conds :
     List Condition)
     → few MAX_ASSIGNMENTS read ≡ Ok sets → few MAX_CONDITIONS second ≡ Ok conds
     → short (read >>= (λ sets. second >>= (λ conds. Ok (Update rel sets conds)))) ≡ Ok (Update rel sets conds)
-update_short rel (Err rule) second sets conds e g = absurd cc
-update_short rel (Ok a) (Err rule) sets conds e g = absurd cc
-update_short rel (Ok a) (Ok b) sets conds e g =
-    let p = ok_is {F = WorkRule} (take (MAX_ASSIGNMENTS + 1) a) sets e in
-    let q = ok_is {F = WorkRule} (take (MAX_CONDITIONS + 1) b) conds g in
-    ap (λ l. made (Update rel l (take (MAX_CONDITIONS + 1) b))) p ∙ ap (λ l. made (Update rel sets l)) q
+update_short rel (Ok a) (Ok b) sets conds e g = cc
+update_short rel _ _ sets conds e g = absurd cc
 
 pub delete_short : (rel : RelNo) (read : Result (List Condition) WorkRule) (conds : List Condition) → few MAX_CONDITIONS read ≡ Ok conds
     → short (read >>= (λ conds. Ok (Delete rel conds))) ≡ Ok (Delete rel conds)
 delete_short rel (Err rule) conds e = absurd cc
-delete_short rel (Ok a) conds e =
-    ap (λ l. made (Delete rel l)) (ok_is {F = WorkRule} (take (MAX_CONDITIONS + 1) a) conds e)
+delete_short rel (Ok a) conds e = cc
 
 -- ---- the same limits are broken
 
@@ -119,21 +103,15 @@ passed = Ok tt
 
 all_passed : (a b c d : Bool) → tested a b c d ≡ passed → (b ≡ true) × (c ≡ true) × (d ≡ true)
 all_passed true true true true e = (refl, refl, refl)
-all_passed true true true false e = absurd cc
-all_passed true true false d e = absurd cc
-all_passed true false c d e = absurd cc
-all_passed false b c d e = absurd cc
+all_passed _ _ _ _ e = absurd cc
 
 update_passed : (a b c : Bool) → tested_update a b c ≡ passed → (b ≡ true) × (c ≡ true)
 update_passed true true true e = (refl, refl)
-update_passed true true false e = absurd cc
-update_passed true false c e = absurd cc
-update_passed false b c e = absurd cc
+update_passed _ _ _ e = absurd cc
 
 delete_passed : (a b : Bool) → tested_delete a b ≡ passed → b ≡ true
 delete_passed true true e = refl
-delete_passed true false e = absurd cc
-delete_passed false b e = absurd cc
+delete_passed _ _ e = absurd cc
 
 abbrev outcome : State → Option ℕ → Result (Unit {0}) WorkRule → Stmt → Result State WorkRule
 outcome st written limits statement = do
@@ -143,56 +121,36 @@ outcome st written limits statement = do
 
 by_limits : (st : State) (written : Option ℕ) (limits : Result (Unit {0}) WorkRule) (s t : Stmt) → (limits ≡ passed → s ≡ t)
     → outcome st written limits s ≡ outcome st written limits t
-by_limits st None limits s t same = refl
-by_limits st (Some written) (Err rule) s t same = refl
 by_limits st (Some written) (Ok tt) s t same = ap (outcome st (Some written) passed) (same refl)
+by_limits st _ _ s t same = refl
 
 same_statement : (st : State) (s : Stmt) → with_statement st (shortened s) ≡ with_statement st s
 same_statement st (Put rel row) = refl
 same_statement st (Query out rels conds) =
     let room = nat_lt (length st.statements) MAX_STATEMENTS in
-    let p = nat_le (length rels) MAX_USES in
-    let q = nat_le (length conds) MAX_CONDITIONS in
-    let short_out = take (MAX_OUTPUT_COLUMNS + 1) out in
-    let short_rels = take (MAX_USES + 1) rels in
-    let short_conds = take (MAX_CONDITIONS + 1) conds in
-    let statement = Query short_out short_rels short_conds in
-    let made = outcome st (Some st.written) in
-    ap (λ b. made (tested room b (nat_le (length short_conds) MAX_CONDITIONS) (nat_le (length short_out) MAX_OUTPUT_COLUMNS)) statement) (same_test
-    MAX_USES rels)
-    ∙ ap (λ b. made (tested room p b (nat_le (length short_out) MAX_OUTPUT_COLUMNS)) statement) (same_test MAX_CONDITIONS conds)
-    ∙ ap (λ b. made (tested room p q b) statement) (same_test MAX_OUTPUT_COLUMNS out)
-    ∙ by_limits st (Some st.written) (tested room p q (nat_le (length out) MAX_OUTPUT_COLUMNS)) statement (Query out rels conds) (λ e.
-    let all = all_passed room p q (nat_le (length out) MAX_OUTPUT_COLUMNS) e in
-    ap (λ l. Query l short_rels short_conds) (whole MAX_OUTPUT_COLUMNS out all.2)
-    ∙ ap (λ l. Query out l short_conds) (whole MAX_USES rels all.0)
-    ∙ ap (λ l. Query out rels l) (whole MAX_CONDITIONS conds all.1))
+    let limits =
+    tested room (nat_le (length rels) MAX_USES) (nat_le (length conds) MAX_CONDITIONS) (nat_le (length out) MAX_OUTPUT_COLUMNS) in
+    simp same_test (by_limits st (Some st.written) limits (shortened (Query out rels conds)) (Query out rels conds) (λ e.
+    let all =
+    all_passed room (nat_le (length rels) MAX_USES) (nat_le (length conds) MAX_CONDITIONS)
+    (nat_le (length out) MAX_OUTPUT_COLUMNS) e in
+    rw (whole MAX_OUTPUT_COLUMNS out all.2, whole MAX_USES rels all.0, whole MAX_CONDITIONS conds all.1) refl))
 same_statement st (Update rel sets conds) =
     let room = nat_lt (length st.statements) MAX_STATEMENTS in
-    let q = nat_le (length conds) MAX_CONDITIONS in
-    let short_sets = take (MAX_ASSIGNMENTS + 1) sets in
-    let short_conds = take (MAX_CONDITIONS + 1) conds in
-    let statement = Update rel short_sets short_conds in
-    let made = outcome st (Some st.written) in
-    ap (λ b. made (tested_update room b (nat_le (length short_sets) MAX_ASSIGNMENTS)) statement) (same_test MAX_CONDITIONS conds)
-    ∙ ap (λ b. made (tested_update room q b) statement) (same_test MAX_ASSIGNMENTS sets)
-    ∙ by_limits st (Some st.written) (tested_update room q (nat_le (length sets) MAX_ASSIGNMENTS)) statement (Update rel sets conds) (λ e.
-    let all = update_passed room q (nat_le (length sets) MAX_ASSIGNMENTS) e in
-    ap (λ l. Update rel l short_conds) (whole MAX_ASSIGNMENTS sets all.1)
-    ∙ ap (λ l. Update rel sets l) (whole MAX_CONDITIONS conds all.0))
+    let limits = tested_update room (nat_le (length conds) MAX_CONDITIONS) (nat_le (length sets) MAX_ASSIGNMENTS) in
+    simp same_test (by_limits st (Some st.written) limits (shortened (Update rel sets conds)) (Update rel sets conds) (λ e.
+    let all = update_passed room (nat_le (length conds) MAX_CONDITIONS) (nat_le (length sets) MAX_ASSIGNMENTS) e in
+    rw (whole MAX_ASSIGNMENTS sets all.1, whole MAX_CONDITIONS conds all.0) refl))
 same_statement st (Delete rel conds) =
     let room = nat_lt (length st.statements) MAX_STATEMENTS in
-    let short_conds = take (MAX_CONDITIONS + 1) conds in
-    let made = outcome st (Some st.written) in
-    ap (λ b. made (tested_delete room b) (Delete rel short_conds)) (same_test MAX_CONDITIONS conds)
-    ∙ by_limits st (Some st.written) (tested_delete room (nat_le (length conds) MAX_CONDITIONS)) (Delete rel short_conds) (Delete rel conds) (λ e.
-    ap (λ l. Delete rel l) (whole MAX_CONDITIONS conds (delete_passed room (nat_le (length conds) MAX_CONDITIONS) e)))
+    let limits = tested_delete room (nat_le (length conds) MAX_CONDITIONS) in
+    simp same_test (by_limits st (Some st.written) limits (shortened (Delete rel conds)) (Delete rel conds) (λ e.
+    rw (whole MAX_CONDITIONS conds (delete_passed room (nat_le (length conds) MAX_CONDITIONS) e)) refl))
 
 same_by : (takes : Bool) (st : State) (read : Result Stmt WorkRule)
     → (must BadLine takes >>= (λ _. short read >>= with_statement st)) ≡ (must BadLine takes >>= (λ _. read >>= with_statement st))
-same_by false st read = refl
-same_by true st (Err rule) = refl
 same_by true st (Ok statement) = same_statement st statement
+same_by _ st _ = refl
 
 -- a statement that is shortened breaks the rules that it breaks whole
 pub same_rules : (st : State) (read : Result Stmt WorkRule) → statement_rules st (short read) ≡ statement_rules st read

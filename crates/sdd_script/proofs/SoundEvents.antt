@@ -1,5 +1,5 @@
 -- An event, and the end, keep what holds in every state, and add themselves to the lines before.
-use Rattle.sdd_script.proofs.All.{AreDistinct, BadEvent, BadLine, Bool, Catalogue, ClassPart, Deliver, Down, Event, IsValidEvent, List, Lose, MAX_EVENTS, Ok, OpenList, Place, Plain, Redeclare, Repeat, Resend, Result, Settle, State, Stmt, Submit, SubmittedTwice, Tick, TooMany, Txn, TxnNo, Up, Word, WorkRule, [], ap, append-nil, arith, bind_ok, classes_in, codes, end_rules, end_words, event_rules, event_words, false, filter_map, filter_map-append, is_submitted, joined, length, list_any-map, ltb-true, map, map-append, may_follow, must, nat_lt, no_classes, not, ok_is, open_list, refl, submitted_by, subst, sym, takes_events, true, with_event, with_submitted, ℕ, ◌++◌, ◌<◌, ◌==◌, ◌>>=◌, ◌∙◌, ◌∷◌, ◌≡◌}
+use Rattle.sdd_script.proofs.All.{AreDistinct, Bool, Catalogue, ClassPart, Event, IsValidEvent, List, MAX_EVENTS, Ok, OpenList, Place, Plain, Result, State, Stmt, Submit, Txn, TxnNo, Word, WorkRule, [], ap, append-nil, arith, bind_ok, classes_in, codes, end_rules, end_words, event_rules, event_words, false, filter_map, filter_map-append, is_submitted, joined, length, list_any-map, ltb-true, map, map-append, may_follow, nat_lt, no_classes, not, ok_is, open_list, refl, submitted_by, subst, sym, takes_events, true, with_submitted, ℕ, ◌++◌, ◌<◌, ◌==◌, ◌∙◌, ◌∷◌, ◌≡◌}
 use Rattle.sdd_script.proofs.StepLaws.{must_then, not_true}
 use Rattle.sdd_script.proofs.WordCuts.{NonePasses}
 use Rattle.sdd_script.proofs.NamePlaces.{none_any, distinct_more}
@@ -19,13 +19,10 @@ abbrev with_occurrence : State → Event → State
 with_occurrence st e = record st { place = places.Events; events = st.events ++ e ∷ []; submitted = with_submitted st.submitted e }
 
 pub no_open : (place : Place) → takes_events place ≡ true → open_name place ≡ []
-no_open places.Rows t = refl
-no_open places.Between t = refl
-no_open places.Declared t = refl
-no_open places.Events t = refl
 no_open (places.Inside h) t = absurd cc
 no_open (places.Listing list) t = absurd cc
 no_open places.Ended t = absurd cc
+no_open _ t = refl
 
 pub no_statements : (place : Place) (txns : List Txn) (lists : List (List ClassPart)) (ss : List Stmt)
     (events : List Event) → takes_events place ≡ true → InOrder place txns lists ss events → ss ≡ []
@@ -33,19 +30,14 @@ no_statements places.Rows txns lists ss events t o = o.2
 no_statements places.Between txns lists ss events t o = o.1
 no_statements places.Declared txns lists ss events t o = o.0
 no_statements places.Events txns lists ss events t o = o
-no_statements (places.Inside h) txns lists ss events t o = absurd cc
-no_statements (places.Listing list) txns lists ss events t o = absurd cc
-no_statements places.Ended txns lists ss events t o = absurd cc
+no_statements _ txns lists ss events t o = absurd cc
 
 -- no list is open there
 none_open : (place : Place) → takes_events place ≡ true → open_list place ≡ no_classes
-none_open places.Rows t = refl
-none_open places.Between t = refl
-none_open places.Declared t = refl
-none_open places.Events t = refl
 none_open (places.Inside h) t = absurd cc
 none_open (places.Listing list) t = absurd cc
 none_open places.Ended t = absurd cc
+none_open _ t = refl
 
 abbrev numbers : List TxnNo → List ℕ
 numbers txns = map (λ (t : TxnNo). t.0) txns
@@ -53,29 +45,8 @@ numbers txns = map (λ (t : TxnNo). t.0) txns
 submitted_more : (submitted : List TxnNo) (events : List Event) (e : Event)
     → numbers submitted ≡ filter_map submitted_by events
     → numbers (with_submitted submitted e) ≡ filter_map submitted_by (events ++ e ∷ [])
-submitted_more submitted events (Submit txn) h = map-append (λ (t : TxnNo). t.0) submitted (txn ∷ [])
-    ∙ ap (λ (l : List ℕ). l ++ txn.0 ∷ []) h ∙ sym (filter_map-append submitted_by events (Submit txn ∷ []))
-submitted_more submitted events (Deliver from to place) h =
-    h ∙ sym (append-nil (filter_map submitted_by events))
-    ∙ sym (filter_map-append submitted_by events (Deliver from to place ∷ []))
-submitted_more submitted events (Lose from to place) h =
-    h ∙ sym (append-nil (filter_map submitted_by events))
-    ∙ sym (filter_map-append submitted_by events (Lose from to place ∷ []))
-submitted_more submitted events (Repeat from to place) h =
-    h ∙ sym (append-nil (filter_map submitted_by events))
-    ∙ sym (filter_map-append submitted_by events (Repeat from to place ∷ []))
-submitted_more submitted events (Resend from to) h = h ∙ sym (append-nil (filter_map submitted_by events))
-    ∙ sym (filter_map-append submitted_by events (Resend from to ∷ []))
-submitted_more submitted events (Tick tm n) h = h ∙ sym (append-nil (filter_map submitted_by events))
-    ∙ sym (filter_map-append submitted_by events (Tick tm n ∷ []))
-submitted_more submitted events Settle h =
-    h ∙ sym (append-nil (filter_map submitted_by events)) ∙ sym (filter_map-append submitted_by events (Settle ∷ []))
-submitted_more submitted events Redeclare h = h ∙ sym (append-nil (filter_map submitted_by events))
-    ∙ sym (filter_map-append submitted_by events (Redeclare ∷ []))
-submitted_more submitted events (Down dm) h =
-    h ∙ sym (append-nil (filter_map submitted_by events)) ∙ sym (filter_map-append submitted_by events (Down dm ∷ []))
-submitted_more submitted events (Up dm) h =
-    h ∙ sym (append-nil (filter_map submitted_by events)) ∙ sym (filter_map-append submitted_by events (Up dm ∷ []))
+submitted_more submitted events (Submit txn) h = simp (map-append, h, filter_map-append)
+submitted_more submitted events e h = simp (h, append-nil, filter_map-append)
 
 same_distinct : (ns ms : List ℕ) → AreDistinct ns → ns ≡ ms → AreDistinct ms
 same_distinct ns ms h e = subst AreDistinct e h
@@ -91,45 +62,9 @@ once_more submitted events (Submit txn) h d other =
     (filter_map submitted_by (events ++ Submit txn ∷ []))
     (distinct_more (filter_map submitted_by events) txn.0 d none)
     (sym (filter_map-append submitted_by events (Submit txn ∷ [])))
-once_more submitted events (Deliver from to place) h d other =
-    same_distinct (filter_map submitted_by events)
-    (filter_map submitted_by (events ++ Deliver from to place ∷ [])) d
-    (sym (append-nil (filter_map submitted_by events))
-    ∙ sym (filter_map-append submitted_by events (Deliver from to place ∷ [])))
-once_more submitted events (Lose from to place) h d other =
-    same_distinct (filter_map submitted_by events)
-    (filter_map submitted_by (events ++ Lose from to place ∷ [])) d
-    (sym (append-nil (filter_map submitted_by events))
-    ∙ sym (filter_map-append submitted_by events (Lose from to place ∷ [])))
-once_more submitted events (Repeat from to place) h d other =
-    same_distinct (filter_map submitted_by events)
-    (filter_map submitted_by (events ++ Repeat from to place ∷ [])) d
-    (sym (append-nil (filter_map submitted_by events))
-    ∙ sym (filter_map-append submitted_by events (Repeat from to place ∷ [])))
-once_more submitted events (Resend from to) h d other =
-    same_distinct (filter_map submitted_by events) (filter_map submitted_by (events ++ Resend from to ∷ []))
-    d (sym (append-nil (filter_map submitted_by events))
-    ∙ sym (filter_map-append submitted_by events (Resend from to ∷ [])))
-once_more submitted events (Tick tm n) h d other =
-    same_distinct (filter_map submitted_by events) (filter_map submitted_by (events ++ Tick tm n ∷ [])) d
-    (sym (append-nil (filter_map submitted_by events))
-    ∙ sym (filter_map-append submitted_by events (Tick tm n ∷ [])))
-once_more submitted events Settle h d other =
-    same_distinct (filter_map submitted_by events) (filter_map submitted_by (events ++ Settle ∷ [])) d
-    (sym (append-nil (filter_map submitted_by events))
-    ∙ sym (filter_map-append submitted_by events (Settle ∷ [])))
-once_more submitted events Redeclare h d other =
-    same_distinct (filter_map submitted_by events) (filter_map submitted_by (events ++ Redeclare ∷ [])) d
-    (sym (append-nil (filter_map submitted_by events))
-    ∙ sym (filter_map-append submitted_by events (Redeclare ∷ [])))
-once_more submitted events (Down dm) h d other =
-    same_distinct (filter_map submitted_by events) (filter_map submitted_by (events ++ Down dm ∷ [])) d
-    (sym (append-nil (filter_map submitted_by events))
-    ∙ sym (filter_map-append submitted_by events (Down dm ∷ [])))
-once_more submitted events (Up dm) h d other =
-    same_distinct (filter_map submitted_by events) (filter_map submitted_by (events ++ Up dm ∷ [])) d
-    (sym (append-nil (filter_map submitted_by events))
-    ∙ sym (filter_map-append submitted_by events (Up dm ∷ [])))
+once_more submitted events e h d other =
+    same_distinct (filter_map submitted_by events) (filter_map submitted_by (events ++ e ∷ [])) d
+    (sym (append-nil (filter_map submitted_by events)) ∙ sym (filter_map-append submitted_by events (e ∷ [])))
 
 event_sound : (cat : Catalogue) (st : State) (e : Event) → Sound cat st → takes_events st.place ≡ true
     → IsValidEvent cat (length st.txns) e → is_submitted st.submitted e ≡ false
@@ -162,15 +97,13 @@ pub event_leads : (cat : Catalogue) (st to : State) (key : List ℕ) (words : Li
     → reading ≡ Ok e → IsEvent cat st key words e) → event_rules cat st reading ≡ Ok to
     → Leads cat st to (Plain key ∷ words)
 event_leads cat st to key words reading s read h =
-    let a = must_then BadLine (takes_events st.place) (λ _. reading >>= λ event. with_event cat st event) to h in
-    let b = bind_ok reading (λ event. with_event cat st event) to a.1 in
+    let a = must_then _ (takes_events st.place) _ to h in
+    let b = bind_ok reading _ to a.1 in
     let e : Event = b.0 in
     let may : Bool = may_follow cat.dms (length st.lists) st.events e in
-    let c = must_then SubmittedTwice (not (is_submitted st.submitted e)) (λ _. must BadEvent may >>=
-    λ _. must (TooMany counts.Event) (nat_lt (length st.events) MAX_EVENTS) >>=
-    λ _. Ok (with_occurrence st e)) to b.2 in
-    let m = must_then BadEvent may (λ _. must (TooMany counts.Event) (nat_lt (length st.events) MAX_EVENTS) >>= λ _. Ok (with_occurrence st e)) to c.1 in
-    let d = must_then (TooMany counts.Event) (nat_lt (length st.events) MAX_EVENTS) (λ _. Ok (with_occurrence st e)) to m.1 in
+    let c = must_then _ (not (is_submitted st.submitted e)) _ to b.2 in
+    let m = must_then _ may _ to c.1 in
+    let d = must_then _ (nat_lt (length st.events) MAX_EVENTS) _ to m.1 in
     let r = read a.0 e b.1 in
     subst (λ (x : State). Leads cat st x (Plain key ∷ words)) (ok_is (with_occurrence st e) to d.1) (record {
       sound = event_sound cat st e s a.0 r.valid (not_true (is_submitted st.submitted e) c.0) m.0 (ltb-true (length st.events) MAX_EVENTS d.0);
@@ -209,7 +142,7 @@ end_sound cat st s t = record {
 pub end_leads : (cat : Catalogue) (st to : State) (words : List Word) → Sound cat st
     → end_rules st words ≡ Ok to → Leads cat st to (Plain (codes "end") ∷ words)
 end_leads cat st to [] s e =
-    let a = must_then BadLine (takes_events st.place) (λ _. Ok (with_end st)) to e in
+    let a = must_then _ (takes_events st.place) _ to e in
     subst (λ (x : State). Leads cat st x end_words) (ok_is (with_end st) to a.1) (record {
       sound = end_sound cat st s a.0;
       lines = end_more cat st.rows st.txns st.lists st.place st.statements st.events a.0;

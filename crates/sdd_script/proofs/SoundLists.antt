@@ -1,5 +1,5 @@
 -- The lines of class lists keep what holds in every state, and add themselves to the lines before.
-use Rattle.sdd_script.proofs.All.{AreTimely, BadClass, BadLine, Bool, Catalogue, ClassPart, D, DmNo, Event, IsValidRead, List, MAX_CLASSES, MAX_LISTS, MAX_READS, None, Ok, OpenList, Place, Plain, ReadPart, Some, State, Stmt, T, TmNo, TooMany, Txn, Word, [], ap, append-nil, arith, bind_ok, both_hold, class_so_far, class_words, classes_in, closed, codes, cond, dm_of, done_rules, done_words, false, fragment_of, has_copy, has_name, is_free, is_taken, joined, known, length, list_rules, list_words, ltb-true, must, name_of, nat_lt, no_classes, not, ok_is, one_more_class, open_list, read_names, reads_at, reads_rules, reads_words, refl, site_word, subst, sym, takes_classes, takes_lists, takes_reads, takes_reads_in, takes_writes, takes_writes_in, tm_of, true, with_class, with_class_of, with_read, with_read_of, with_write, with_write_of, writes_at, writes_rules, writes_words, ℕ, ◌&&◌, ◌++◌, ◌+◌, ◌<◌, ◌>>=◌, ◌∙◌, ◌∷◌, ◌≡◌, ◌≤◌}
+use Rattle.sdd_script.proofs.All.{AreTimely, Bool, Catalogue, ClassPart, DmNo, Event, IsValidRead, List, MAX_CLASSES, MAX_LISTS, MAX_READS, None, Ok, OpenList, Place, Plain, ReadPart, Some, State, Stmt, TmNo, Txn, Word, [], ap, append-nil, arith, bind_ok, both_hold, class_so_far, class_words, classes_in, closed, codes, cond, dm_of, done_rules, done_words, false, fragment_of, has_copy, has_name, is_free, is_taken, joined, length, list_rules, list_words, ltb-true, name_of, nat_lt, no_classes, not, ok_is, one_more_class, open_list, read_names, reads_at, reads_rules, reads_words, refl, subst, sym, takes_classes, takes_lists, takes_reads, takes_reads_in, takes_writes, takes_writes_in, tm_of, true, with_class, with_read, with_write, writes_at, writes_rules, writes_words, ℕ, ◌&&◌, ◌++◌, ◌+◌, ◌<◌, ◌∙◌, ◌∷◌, ◌≡◌, ◌≤◌}
 use Rattle.sdd_script.proofs.StepLaws.{must_then, known_then, not_true, some_is}
 use Rattle.sdd_script.proofs.EventLaws.{dm_takes, tm_takes}
 use Rattle.sdd_script.proofs.Fragments.{fragment_takes, kept_at}
@@ -7,7 +7,7 @@ use Rattle.sdd_script.proofs.Declaring.{class_declared, read_declared, write_dec
 use Rattle.sdd_script.proofs.ListLines.{AddsLine, list_more, listing_more, class_more, read_more, write_more, listed_more}
 use Rattle.sdd_script.proofs.RedeclareLaws.{none_timely}
 use Rattle.sdd_script.proofs.SoFar.{lines_at, InOrder}
-use Rattle.sdd_script.proofs.SoundStates.{Sound, Declares, Leads, HeaderFits, names_of, open_name, lists_open, name_of_takes, one_longer, at_place, txn_closed, two_words}
+use Rattle.sdd_script.proofs.SoundStates.{Sound, Declares, Leads, HeaderFits, names_of, open_name, lists_open, name_of_takes, one_longer, at_place, txn_closed}
 use Rattle.sdd_script.proofs.ListChains.{joined_on as joined_more}
 use Rattle.sdd_script.specs.ClassLists.{class_rules}
 use Rattle.sdd_script.specs.declared.fault.Counts.TheVariants as counts
@@ -63,10 +63,7 @@ outside : (place : Place) (txns : List Txn) (lists : List (List ClassPart)) (ss 
 outside places.Rows txns lists ss events t o = record { unnamed = refl; none = refl; no_statements = o.2; no_events = o.3 }
 outside places.Between txns lists ss events t o = record { unnamed = refl; none = refl; no_statements = o.1; no_events = o.2 }
 outside places.Declared txns lists ss events t o = record { unnamed = refl; none = refl; no_statements = o.0; no_events = o.1 }
-outside (places.Inside header) txns lists ss events t o = absurd cc
-outside (places.Listing list) txns lists ss events t o = absurd cc
-outside places.Events txns lists ss events t o = absurd cc
-outside places.Ended txns lists ss events t o = absurd cc
+outside _ txns lists ss events t o = absurd cc
 
 abbrev begun : State → State
 begun st = record st { place = places.Listing no_classes }
@@ -74,8 +71,8 @@ begun st = record st { place = places.Listing no_classes }
 pub list_leads : (cat : Catalogue) (st to : State) (words : List Word) → Sound cat st
     → list_rules st words ≡ Ok to → Leads cat st to (Plain (codes "list") ∷ words)
 list_leads cat st to [] s e =
-    let a = must_then BadLine (takes_lists st.place) (λ _. must (TooMany counts.List) (nat_lt (length st.lists) MAX_LISTS) >>= λ _. Ok (begun st)) to e in
-    let b = must_then (TooMany counts.List) (nat_lt (length st.lists) MAX_LISTS) (λ _. Ok (begun st)) to a.1 in
+    let a = must_then _ (takes_lists st.place) _ to e in
+    let b = must_then _ (nat_lt (length st.lists) MAX_LISTS) _ to a.1 in
     let o = outside st.place st.txns st.lists st.statements st.events a.0 s.order in
     let room : length st.lists < MAX_LISTS = ltb-true (length st.lists) MAX_LISTS b.0 in
     subst (λ (x : State). Leads cat st x list_words) (ok_is (begun st) to b.1) (record {
@@ -118,12 +115,7 @@ inside_leads cat st new n w s within d adds =
 
 in_list : (place : Place) → takes_classes place ≡ true → Within place
 in_list (places.Listing list) t = refl
-in_list places.Rows t = absurd cc
-in_list (places.Inside header) t = absurd cc
-in_list places.Between t = absurd cc
-in_list places.Declared t = absurd cc
-in_list places.Events t = absurd cc
-in_list places.Ended t = absurd cc
+in_list _ t = absurd cc
 
 abbrev classed : State → List ℕ → TmNo → ℕ → State
 classed st name tm n = record st { place = places.Listing (with_class (open_list st.place) name tm); classes = n }
@@ -135,24 +127,19 @@ one_more_is classes n false t e = absurd cc
 
 pub class_leads : (cat : Catalogue) (st to : State) (words : List Word) → Sound cat st
     → class_rules cat st words ≡ Ok to → Leads cat st to (Plain (codes "class") ∷ words)
-class_leads cat st to [] s e = absurd cc
-class_leads cat st to (w ∷ []) s e = absurd cc
 class_leads cat st to (word ∷ tm ∷ []) s e =
-    let a = must_then BadLine (takes_classes st.place && (is_free word && is_free tm))
-    (λ _. name_of word >>= λ name. tm_of cat tm >>= λ t. with_class_of cat st name t) to e in
-    let b = bind_ok (name_of word) (λ name. tm_of cat tm >>= λ t. with_class_of cat st name t) to a.1 in
-    let c = bind_ok (tm_of cat tm) (λ t. with_class_of cat st b.0 t) to b.2 in
-    let d = must_then BadClass (not (is_taken cat st b.0)) (λ _. known (TooMany counts.Class)
-    (one_more_class st.classes) >>= λ n. Ok (classed st b.0 c.0 n)) to c.2 in
-    let f = known_then (TooMany counts.Class) (one_more_class st.classes) (λ n. Ok (classed st b.0 c.0 n)) to d.1 in
+    let a = must_then _ (takes_classes st.place && (is_free word && is_free tm)) _ to e in
+    let b = bind_ok (name_of word) _ to a.1 in
+    let c = bind_ok (tm_of cat tm) _ to b.2 in
+    let d = must_then _ (not (is_taken cat st b.0)) _ to c.2 in
+    let f = known_then _ (one_more_class st.classes) _ to d.1 in
     let place = (both_hold (takes_classes st.place) (is_free word && is_free tm) a.0).0 in
     let n = one_more_is st.classes f.0 (nat_lt st.classes MAX_CLASSES) refl f.1 in
     let w = name_of_takes word b.0 b.1 in
     let t = tm_takes cat tm c.0 c.1 in
     let l : OpenList = open_list st.place in
     let spelled : Plain (codes "class") ∷ word ∷ tm ∷ [] ≡ class_words
-    (class_so_far (record { name = b.0; tm = c.0; reads = []; writes = [] })) =
-    two_words (Plain (codes "class")) word (Plain b.0) tm (site_word (T c.0)) w.0 t.0 in
+    (class_so_far (record { name = b.0; tm = c.0; reads = []; writes = [] })) = cc in
     let leads = inside_leads cat st (with_class l b.0 c.0) (st.classes + 1)
     (class_words (class_so_far (record { name = b.0; tm = c.0; reads = []; writes = [] }))) s
     (in_list st.place place)
@@ -160,18 +147,13 @@ class_leads cat st to (word ∷ tm ∷ []) s e =
     subst (λ (x : State). Leads cat st x (Plain (codes "class") ∷ word ∷ tm ∷ []))
     (ap (classed st b.0 c.0) n.0 ∙ ok_is (classed st b.0 c.0 f.0) to f.2)
     (subst (λ (ws : List Word). Leads cat st (classed st b.0 c.0 (st.classes + 1)) ws) (sym spelled) leads)
-class_leads cat st to (a ∷ b ∷ c ∷ rest) s e = absurd cc
+class_leads cat st to _ s e = absurd cc
 
 -- a read
 
 reads_within : (place : Place) → takes_reads place ≡ true → Within place × (takes_reads_in (open_list place) ≡ true)
 reads_within (places.Listing list) t = (refl, t)
-reads_within places.Rows t = absurd cc
-reads_within (places.Inside header) t = absurd cc
-reads_within places.Between t = absurd cc
-reads_within places.Declared t = absurd cc
-reads_within places.Events t = absurd cc
-reads_within places.Ended t = absurd cc
+reads_within _ t = absurd cc
 
 abbrev read_at : List ℕ → DmNo → ReadPart
 read_at name dm = record { fragment = name; at = dm.0 }
@@ -184,17 +166,12 @@ may_read cat st f dm = not (has_name (read_names (reads_at st.place)) f.0) && ha
 
 pub reads_leads : (cat : Catalogue) (st to : State) (words : List Word) → Sound cat st
     → reads_rules cat st words ≡ Ok to → Leads cat st to (Plain (codes "reads") ∷ words)
-reads_leads cat st to [] s e = absurd cc
-reads_leads cat st to (w ∷ []) s e = absurd cc
 reads_leads cat st to (word ∷ dm ∷ []) s e =
-    let a = must_then BadLine (takes_reads st.place && (is_free word && is_free dm))
-    (λ _. fragment_of cat word >>= λ (f : List ℕ × ℕ). dm_of cat dm >>=
-    λ d. with_read_of cat st f d) to e in
-    let b = bind_ok (fragment_of cat word) (λ (f : List ℕ × ℕ). dm_of cat dm >>= λ d. with_read_of cat st f d) to a.1 in
-    let c = bind_ok (dm_of cat dm) (λ d. with_read_of cat st b.0 d) to b.2 in
-    let d = must_then BadClass (may_read cat st b.0 c.0) (λ _. must (TooMany counts.Read)
-    (nat_lt (length (reads_at st.place)) MAX_READS) >>= λ _. Ok (reading st b.0.0 c.0)) to c.2 in
-    let f = must_then (TooMany counts.Read) (nat_lt (length (reads_at st.place)) MAX_READS) (λ _. Ok (reading st b.0.0 c.0)) to d.1 in
+    let a = must_then _ (takes_reads st.place && (is_free word && is_free dm)) _ to e in
+    let b = bind_ok (fragment_of cat word) _ to a.1 in
+    let c = bind_ok (dm_of cat dm) _ to b.2 in
+    let d = must_then _ (may_read cat st b.0 c.0) _ to c.2 in
+    let f = must_then _ (nat_lt (length (reads_at st.place)) MAX_READS) _ to d.1 in
     let place = reads_within st.place (both_hold (takes_reads st.place) (is_free word && is_free dm) a.0).0 in
     let may = both_hold (not (has_name (read_names (reads_at st.place)) b.0.0)) (has_copy cat c.0.0 b.0.1) d.0 in
     let w = fragment_takes cat word b.0 b.1 in
@@ -203,49 +180,41 @@ reads_leads cat st to (word ∷ dm ∷ []) s e =
     let r : ReadPart = read_at b.0.0 c.0 in
     let valid : IsValidRead cat r = record { fragment = w.there; module_is_there = t.1; copy = kept_at cat c.0.0 b.0.0 b.0.1 w.number ∙ may.1 } in
     let spelled : Plain (codes "reads") ∷ word ∷ dm ∷ [] ≡ reads_words r =
-    two_words (Plain (codes "reads")) word (Plain b.0.0) dm (site_word (D c.0)) w.spelled t.0 in
+    ap (λ (x : Word). Plain (codes "reads") ∷ x ∷ dm ∷ []) w.spelled
+    ∙ ap (λ (x : Word). Plain (codes "reads") ∷ Plain b.0.0 ∷ x ∷ []) t.0 in
     let leads = inside_leads cat st (with_read l r) st.classes (reads_words r) s place.0
     (read_declared cat (joined st.lists) l st.classes r s.declares valid
     (not_true (has_name (read_names (reads_at st.place)) b.0.0) may.0)
     (ltb-true (length (reads_at st.place)) MAX_READS f.0)) (read_more l r place.1) in
     subst (λ (x : State). Leads cat st x (Plain (codes "reads") ∷ word ∷ dm ∷ [])) (ok_is (reading st b.0.0 c.0) to f.1)
     (subst (λ (ws : List Word). Leads cat st (reading st b.0.0 c.0) ws) (sym spelled) leads)
-reads_leads cat st to (a ∷ b ∷ c ∷ rest) s e = absurd cc
+reads_leads cat st to _ s e = absurd cc
 
 -- a write
 
 writes_within : (place : Place) → takes_writes place ≡ true → Within place × (takes_writes_in (open_list place) ≡ true)
 writes_within (places.Listing list) t = (refl, t)
-writes_within places.Rows t = absurd cc
-writes_within (places.Inside header) t = absurd cc
-writes_within places.Between t = absurd cc
-writes_within places.Declared t = absurd cc
-writes_within places.Events t = absurd cc
-writes_within places.Ended t = absurd cc
+writes_within _ t = absurd cc
 
 abbrev writing : State → List ℕ → State
 writing st name = record st { place = places.Listing (with_write (open_list st.place) name) }
 
-one_word : (k a b : Word) → a ≡ b → k ∷ a ∷ [] ≡ k ∷ b ∷ []
-one_word k a b e = ap (λ (w : Word). k ∷ w ∷ []) e
-
 pub writes_leads : (cat : Catalogue) (st to : State) (words : List Word) → Sound cat st
     → writes_rules cat st words ≡ Ok to → Leads cat st to (Plain (codes "writes") ∷ words)
-writes_leads cat st to [] s e = absurd cc
 writes_leads cat st to (word ∷ []) s e =
-    let a = must_then BadLine (takes_writes st.place && is_free word) (λ _. fragment_of cat word >>= λ (f : List ℕ × ℕ). with_write_of st f.0) to e in
-    let b = bind_ok (fragment_of cat word) (λ (f : List ℕ × ℕ). with_write_of st f.0) to a.1 in
-    let d = must_then BadClass (not (has_name (writes_at st.place) b.0.0)) (λ _. Ok (writing st b.0.0)) to b.2 in
+    let a = must_then _ (takes_writes st.place && is_free word) _ to e in
+    let b = bind_ok (fragment_of cat word) _ to a.1 in
+    let d = must_then _ (not (has_name (writes_at st.place) b.0.0)) _ to b.2 in
     let place = writes_within st.place (both_hold (takes_writes st.place) (is_free word) a.0).0 in
     let w = fragment_takes cat word b.0 b.1 in
     let l : OpenList = open_list st.place in
-    let spelled : Plain (codes "writes") ∷ word ∷ [] ≡ writes_words b.0.0 = one_word (Plain (codes "writes")) word (Plain b.0.0) w.spelled in
+    let spelled : Plain (codes "writes") ∷ word ∷ [] ≡ writes_words b.0.0 = cc in
     let leads = inside_leads cat st (with_write l b.0.0) st.classes (writes_words b.0.0) s place.0
     (write_declared cat (joined st.lists) l st.classes b.0.0 s.declares w.there
     (not_true (has_name (writes_at st.place) b.0.0) d.0)) (write_more l b.0.0 place.1) in
     subst (λ (x : State). Leads cat st x (Plain (codes "writes") ∷ word ∷ [])) (ok_is (writing st b.0.0) to d.1)
     (subst (λ (ws : List Word). Leads cat st (writing st b.0.0) ws) (sym spelled) leads)
-writes_leads cat st to (a ∷ b ∷ rest) s e = absurd cc
+writes_leads cat st to _ s e = absurd cc
 
 -- ---- a list ends, or a transaction
 
@@ -271,11 +240,7 @@ list_closed cat st to l s e =
 closed_leads : (cat : Catalogue) (st to : State) (p : Place) → Sound cat (at_place st p) → closed p st ≡ Ok to → Leads cat (at_place st p) to done_words
 closed_leads cat st to (places.Inside h) s e = txn_closed cat st to h s e
 closed_leads cat st to (places.Listing l) s e = list_closed cat st to l s e
-closed_leads cat st to places.Rows s e = absurd cc
-closed_leads cat st to places.Between s e = absurd cc
-closed_leads cat st to places.Declared s e = absurd cc
-closed_leads cat st to places.Events s e = absurd cc
-closed_leads cat st to places.Ended s e = absurd cc
+closed_leads cat st to _ s e = absurd cc
 
 pub done_leads : (cat : Catalogue) (st to : State) (words : List Word) → Sound cat st
     → done_rules st words ≡ Ok to → Leads cat st to (Plain (codes "done") ∷ words)

@@ -1,5 +1,5 @@
 -- What holds in every state, and that each line of rows and transactions keeps it and adds itself to the lines before.
-use Rattle.sdd_script.proofs.All.{All, All-append, All-from_recursion, AreDistinct, AreTimely, BadLine, Bool, Catalogue, ClassPart, DuplicateTxn, Event, FitsStatement, Header, HoldsValues, IsFrom1To, IsName, IsValidClass, IsValidEvent, IsValidRow, IsValidTxn, IsValue, List, MAX_CLASSES, MAX_EVENTS, MAX_LISTS, MAX_ROWS, MAX_TXNS, None, Ok, OpenList, Place, Plain, Quoted, RelNo, Result, Some, State, Stmt, T, TmNo, TooMany, Txn, TxnNo, UnknownName, Value, Word, WorkRule, [], all_classes, ap, append-nil, are_free, arith, bind_ok, both_hold, bytes_eq, class_names, classes_in, closed, codes, cond, done_words, false, filter_map, header_words, is_free, is_name, is_put, is_some, joined, known, known_ok, length, length-append, ltb-true, map, map-append, must, name_in, name_of, nat_lt, no_classes, not, ok_is, one_more_row, open_list, opened, part_names, position, refl, repeats, row_of, row_rules, rows_put_by, site_word, start_words, statement_limits, statement_rules, submitted_by, subst, sum_by, sum_by-append, sym, takes_rows, takes_statements, takes_txns, tm_of, true, txn_rules, with_statement, written_with, ℕ, ◌&&◌, ◌++◌, ◌+◌, ◌<◌, ◌>>=◌, ◌∙◌, ◌∷◌, ◌≡◌, ◌≤◌}
+use Rattle.sdd_script.proofs.All.{All, All-append, All-from_recursion, AreDistinct, AreTimely, Bool, Catalogue, ClassPart, Event, FitsStatement, Header, HoldsValues, IsFrom1To, IsName, IsValidClass, IsValidEvent, IsValidRow, IsValidTxn, IsValue, List, MAX_CLASSES, MAX_EVENTS, MAX_LISTS, MAX_ROWS, MAX_TXNS, None, Ok, OpenList, Place, Plain, Quoted, RelNo, Result, Some, State, Stmt, TmNo, Txn, TxnNo, UnknownName, Value, Word, WorkRule, [], all_classes, ap, append-nil, are_free, arith, bind_ok, both_hold, bytes_eq, class_names, classes_in, closed, codes, cond, done_words, false, filter_map, header_words, is_free, is_name, is_put, is_some, joined, known_ok, length, length-append, ltb-true, map, map-append, name_in, name_of, nat_lt, no_classes, not, ok_is, one_more_row, open_list, part_names, position, refl, repeats, row_of, row_rules, rows_put_by, start_words, statement_limits, statement_rules, submitted_by, subst, sum_by, sum_by-append, sym, takes_rows, takes_statements, takes_txns, tm_of, true, txn_rules, written_with, ℕ, ◌&&◌, ◌++◌, ◌+◌, ◌<◌, ◌∙◌, ◌∷◌, ◌≡◌, ◌≤◌}
 use Rattle.sdd_script.proofs.StepLaws.{must_then, not_true, some_is, known_then}
 use Rattle.sdd_script.proofs.WordCuts.{NonePasses}
 use Rattle.sdd_script.proofs.RowLaws.{row_takes}
@@ -115,12 +115,9 @@ pub row_leads : (cat : Catalogue) (st to : State) (words : List Word) → Sound 
     → row_rules cat st words ≡ Ok to → Leads cat st to (Plain (codes "row") ∷ words)
 row_leads cat st to [] s e = absurd cc
 row_leads cat st to (name ∷ words) s e =
-    let a = must_then BadLine (takes_rows st.place && (is_free name && are_free words))
-    (λ _. row_of cat name words >>= λ (r : RelNo × List Value). known (TooMany counts.Row)
-    (one_more_row st.written) >>= λ n. Ok (with_row_at st r n)) to e in
-    let b = bind_ok (row_of cat name words) (λ (r : RelNo × List Value). known (TooMany counts.Row)
-    (one_more_row st.written) >>= λ n. Ok (with_row_at st r n)) to a.1 in
-    let c = known_then (TooMany counts.Row) (one_more_row st.written) (λ n. Ok (with_row_at st b.0 n)) to b.2 in
+    let a = must_then _ (takes_rows st.place && (is_free name && are_free words)) _ to e in
+    let b = bind_ok (row_of cat name words) _ to a.1 in
+    let c = known_then _ (one_more_row st.written) _ to b.2 in
     let n = one_more_is st.written c.0 (nat_lt st.written MAX_ROWS) refl c.1 in
     let place = (both_hold (takes_rows st.place) (is_free name && are_free words) a.0).0 in
     let r = row_takes cat name words b.0 b.1 in
@@ -141,33 +138,20 @@ with_header st h = record st { place = places.Inside h; names = st.names ++ h.na
 closed_name : (place : Place) → takes_txns place ≡ true → open_name place ≡ []
 closed_name places.Rows t = refl
 closed_name places.Between t = refl
-closed_name (places.Inside h) t = absurd cc
-closed_name (places.Listing list) t = absurd cc
-closed_name places.Declared t = absurd cc
-closed_name places.Events t = absurd cc
-closed_name places.Ended t = absurd cc
+closed_name _ t = absurd cc
 
 no_more : (place : Place) (txns : List Txn) (lists : List (List ClassPart)) (ss : List Stmt)
     (events : List Event) → takes_txns place ≡ true → InOrder place txns lists ss events → (lists ≡ [])
     × (events ≡ [])
 no_more places.Rows txns lists ss events t o = (o.1, o.3)
 no_more places.Between txns lists ss events t o = (o.0, o.2)
-no_more (places.Inside h) txns lists ss events t o = absurd cc
-no_more (places.Listing list) txns lists ss events t o = absurd cc
-no_more places.Declared txns lists ss events t o = absurd cc
-no_more places.Events txns lists ss events t o = absurd cc
-no_more places.Ended txns lists ss events t o = absurd cc
+no_more _ txns lists ss events t o = absurd cc
 
 -- outside of lists none is open
 
 pub none_open : (place : Place) → takes_txns place ≡ true → open_list place ≡ no_classes
-none_open places.Rows t = refl
-none_open places.Between t = refl
-none_open (places.Inside h) t = refl
 none_open (places.Listing list) t = absurd cc
-none_open places.Declared t = refl
-none_open places.Events t = refl
-none_open places.Ended t = refl
+none_open _ t = refl
 
 header_sound : (cat : Catalogue) (st : State) (h : Header) → Sound cat st → takes_txns st.place ≡ true
     → IsName h.name → IsFrom1To cat.tms h.tm.0 → NonePasses (bytes_eq h.name) st.names
@@ -203,38 +187,29 @@ pub name_of_takes : (w : Word) (name : List ℕ) → name_of w ≡ Ok name → (
 name_of_takes (Plain bytes) name e = let h = named_takes bytes name (known_ok UnknownName (name_in bytes) name e) in (ap (λ (l : List ℕ). Plain l) h.1, h.0)
 name_of_takes (Quoted text) name e = absurd cc
 
-pub two_words : (k a b c d : Word) → a ≡ b → c ≡ d → k ∷ a ∷ c ∷ [] ≡ k ∷ b ∷ d ∷ []
-two_words k a b c d p q = cc
-
 abbrev header_of : List ℕ → TmNo → Header
 header_of name tm = record { name = name; tm = tm }
 
 pub txn_leads : (cat : Catalogue) (st to : State) (words : List Word) → Sound cat st
     → txn_rules cat st words ≡ Ok to → Leads cat st to (Plain (codes "txn") ∷ words)
-txn_leads cat st to [] s e = absurd cc
-txn_leads cat st to (w ∷ []) s e = absurd cc
 txn_leads cat st to (word ∷ tm ∷ []) s e =
-    let a = must_then BadLine (takes_txns st.place && (is_free word && is_free tm)) (λ _. name_of word >>=
-    λ name. tm_of cat tm >>= λ t. opened st name t) to e in
-    let b = bind_ok (name_of word) (λ name. tm_of cat tm >>= λ t. opened st name t) to a.1 in
-    let c = bind_ok (tm_of cat tm) (λ t. opened st b.0 t) to b.2 in
+    let a = must_then _ (takes_txns st.place && (is_free word && is_free tm)) _ to e in
+    let b = bind_ok (name_of word) _ to a.1 in
+    let c = bind_ok (tm_of cat tm) _ to b.2 in
     let h : Header = header_of b.0 c.0 in
-    let d = must_then DuplicateTxn (not (is_some (position (bytes_eq b.0) st.names)))
-    (λ _. must (TooMany counts.Txn) (nat_lt (length st.names) MAX_TXNS) >>=
-    λ _. Ok (with_header st h)) to c.2 in
-    let f = must_then (TooMany counts.Txn) (nat_lt (length st.names) MAX_TXNS) (λ _. Ok (with_header st h)) to d.1 in
+    let d = must_then _ (not (is_some (position (bytes_eq b.0) st.names))) _ to c.2 in
+    let f = must_then _ (nat_lt (length st.names) MAX_TXNS) _ to d.1 in
     let place = (both_hold (takes_txns st.place) (is_free word && is_free tm) a.0).0 in
     let n = name_of_takes word b.0 b.1 in
     let t = tm_takes cat tm c.0 c.1 in
     let other = none_found (bytes_eq b.0) st.names (not_true (is_some (position (bytes_eq b.0) st.names)) d.0) in
-    let spelled : Plain (codes "txn") ∷ word ∷ tm ∷ [] ≡ header_words h.name h.tm =
-    two_words (Plain (codes "txn")) word (Plain b.0) tm (site_word (T c.0)) n.0 t.0 in
+    let spelled : Plain (codes "txn") ∷ word ∷ tm ∷ [] ≡ header_words h.name h.tm = cc in
     subst (λ (x : State). Leads cat st x (Plain (codes "txn") ∷ word ∷ tm ∷ [])) (ok_is (with_header st h) to f.1) (record {
       sound = header_sound cat st h s place n.1 t.1 other (ltb-true (length st.names) MAX_TXNS f.0);
       lines = header_more cat st.rows st.txns st.lists st.place st.statements st.events h place s.order
           ∙ ap (λ (l : List Word). so_far cat st ++ l ∷ []) (sym spelled);
     })
-txn_leads cat st to (a ∷ b ∷ c ∷ rest) s e = absurd cc
+txn_leads cat st to _ s e = absurd cc
 
 -- ---- a statement
 
@@ -247,20 +222,13 @@ with_one_at st q n = record st { statements = st.statements ++ q ∷ []; written
 written_is : (written n : ℕ) (q : Stmt) → written ≤ MAX_ROWS → written_with written q ≡ Some n
     → (written + rows_put q ≡ n) × (written + rows_put q ≤ MAX_ROWS)
 written_is written n (statements.Put rel row) few e = let h = one_more_is written n (nat_lt written MAX_ROWS) refl e in (h.0, omega (arith, h.1))
-written_is written n (statements.Query out rels conds) few e = let h = some_is written n e in (omega (arith, h), omega (arith, few))
-written_is written n (statements.Update rel sets conds) few e = let h = some_is written n e in (omega (arith, h), omega (arith, few))
-written_is written n (statements.Delete rel conds) few e = let h = some_is written n e in (omega (arith, h), omega (arith, few))
+written_is written n _ few e = let h = some_is written n e in (omega (arith, h), omega (arith, few))
 
 statement_order : (place : Place) (txns : List Txn) (lists : List (List ClassPart)) (ss other : List Stmt)
     (events : List Event) → takes_statements place ≡ true → InOrder place txns lists ss events
     → InOrder place txns lists other events
 statement_order (places.Inside h) txns lists ss other events t o = o
-statement_order places.Rows txns lists ss other events t o = absurd cc
-statement_order places.Between txns lists ss other events t o = absurd cc
-statement_order (places.Listing list) txns lists ss other events t o = absurd cc
-statement_order places.Declared txns lists ss other events t o = absurd cc
-statement_order places.Events txns lists ss other events t o = absurd cc
-statement_order places.Ended txns lists ss other events t o = absurd cc
+statement_order _ txns lists ss other events t o = absurd cc
 
 sum_more : (w r t q x all : ℕ) → w ≡ r + t + q → all ≡ q + (0 + x) → w + x ≡ r + t + all
 sum_more w r t q x all e f = omega (arith, e, f)
@@ -297,13 +265,12 @@ pub statement_leads : (cat : Catalogue) (st to : State) (key : List ℕ) (words 
     → ((q : Stmt) → reading ≡ Ok q → IsStatement cat key words q) → statement_rules st reading ≡ Ok to
     → Leads cat st to (Plain key ∷ words)
 statement_leads cat st to key words reading s read e =
-    let a = must_then BadLine (takes_statements st.place) (λ _. reading >>= λ statement. with_statement st statement) to e in
-    let b = bind_ok reading (λ statement. with_statement st statement) to a.1 in
+    let a = must_then _ (takes_statements st.place) _ to e in
+    let b = bind_ok reading _ to a.1 in
     let q : Stmt = b.0 in
-    let c = known_then (TooMany counts.Row) (written_with st.written q)
-    (λ n. statement_limits (length st.statements) q >>= λ _. Ok (with_one_at st q n)) to b.2 in
+    let c = known_then _ (written_with st.written q) _ to b.2 in
     let n = written_is st.written c.0 q s.few_rows c.1 in
-    let d = bind_ok (statement_limits (length st.statements) q) (λ _. Ok (with_one_at st q c.0)) to c.2 in
+    let d = bind_ok (statement_limits (length st.statements) q) _ to c.2 in
     let r = read q b.1 in
     subst (λ (x : State). Leads cat st x (Plain key ∷ words)) (ap (with_one_at st q) n.0 ∙ ok_is (with_one_at st q c.0) to d.2) (record {
       sound = statement_sound cat st q s a.0 (r.fits (length st.statements) d.0 d.1) r.values (limits_before (length st.statements) q d.0 d.1) n.1;

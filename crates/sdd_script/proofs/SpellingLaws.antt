@@ -1,5 +1,5 @@
 -- The spelling of a workload that the catalogue allows is read as the workload.
-use Rattle.sdd_script.proofs.All.{AllByRecursion, AreLines, Assign, BadLine, Bool, Catalogue, ClassPart, Condition, DuplicateTxn, Err, Event, FitsStatement, HasNoNewline, Header, HoldsValues, IsValidRow, IsValidTxn, IsValue, Keyword, List, MAX_ROWS, MAX_TXNS, None, Ok, Option, Place, Plain, Ref, RelNo, Result, Some, State, Stmt, T, TmNo, TooMany, Txn, TxnNo, UnknownName, Value, Word, WorkRule, [], ap, append-nil, append_assoc, arith, at_line, both_are, bytes_eq, codes, column_word, cond, delete_of, done_words, false, flat_map, header_words, is_ended, is_free, is_some, keyword_rules, known, length, length-append, line_bytes, line_rules, lt-ltb, map, map-append, must, name_of, nat_lt, nat_lt as ltb, not, one_line, one_more_row, opened, position, put_of, query_of, recursion_from_All, refl, relation_word, repeats, row_of, row_words, rows_put_by, sets_words, site_word, start_words, statement_limits, statement_rules, statement_words, subst, sum_by, sum_by-cons, sym, tail_rules, takes_txns, tm_of, true, txn_lines, update_of, value_word, where_words, with_statement, written_with, ℕ, ◌&&◌, ◌++◌, ◌+◌, ◌<◌, ◌>>=◌, ◌∙◌, ◌∷◌, ◌≡◌, ◌≤◌}
+use Rattle.sdd_script.proofs.All.{AllByRecursion, AreLines, BadLine, Bool, Catalogue, ClassPart, Err, Event, FitsStatement, HasNoNewline, Header, HoldsValues, IsValidRow, IsValidTxn, IsValue, Keyword, List, MAX_ROWS, MAX_TXNS, None, Ok, Place, Plain, RelNo, Result, Some, State, StatementKey, Stmt, T, Txn, TxnNo, UnknownName, Value, Word, WorkRule, [], ap, append-nil, append_assoc, arith, at_line, both_are, bytes_eq, cond, done_words, drop, false, flat_map, header_words, is_ended, is_free, is_some, keyword_rules, known, length, length-append, line_bytes, line_rules, lt-ltb, map, map-append, name_of, nat_lt as ltb, not, one_line, position, recursion_from_All, refl, repeats, row_words, rows_put_by, site_word, start_words, statement_of, statement_rules, statement_words, subst, sum_by, sum_by-cons, sym, tail_rules, takes_txns, true, txn_lines, written_with, ℕ, ◌&&◌, ◌++◌, ◌+◌, ◌<◌, ◌∙◌, ◌∷◌, ◌≡◌, ◌≤◌}
 use Rattle.sdd_script.specs.Walk.{walk}
 use Rattle.sdd_script.proofs.WordCuts.{NonePasses}
 use Rattle.sdd_script.proofs.WordLooks.{name_free}
@@ -8,7 +8,7 @@ use Rattle.sdd_script.proofs.RowLaws.{FitsRowOf, row_again, row_free}
 use Rattle.sdd_script.proofs.QueryLaws.{put_again, query_fits, query_again, limits_again}
 use Rattle.sdd_script.proofs.UpdateLaws.{update_fits, update_again, delete_again}
 use Rattle.sdd_script.proofs.EventLaws.{tm_again, site_free}
-use Rattle.sdd_script.proofs.LineLaws.{keyword_bytes, line_again, line_has_no_newline, words_again}
+use Rattle.sdd_script.proofs.LineLaws.{keyword_bytes, statement_key_bytes, line_again, line_has_no_newline, words_again}
 use Rattle.sdd_script.proofs.NamePlaces.{found_none, apart_before}
 use Rattle.sdd_script.proofs.SoundStates.{rows_put, names_of}
 use Rattle.sdd_script.proofs.FineLines.{AreFine, row_of_statement, keyword_fine, start_fine, header_fine, statement_fine}
@@ -90,20 +90,13 @@ row_step cat k rows written r h room =
     let f : FitsRowOf cat r.0 r.1 = (h.fits.0, h.fits.1, recursion_from_All IsValue r.1 h.values) in
     let a = row_free cat k r.0 r.1 f in
     let b = row_again cat k r.0 r.1 f in
-    let c : one_more_row written ≡ Some (written + 1) = ap (λ (b : Bool). cond b (Some (written + 1)) None) (lt-ltb written MAX_ROWS room) in
-    let st : State = of_rows cat rows written in
-    line_step cat st (of_rows cat (rows ++ r ∷ []) (written + 1)) keys.Row (row_words cat r.0 r.1) refl (start_fine cat k r h) (
-    ap (λ (t : Bool). must BadLine t >>= λ _. row_of cat (relation_word cat r.0) (map value_word r.1) >>=
-    λ (x : RelNo × List Value). known (TooMany counts.Row) (one_more_row written) >>=
-    λ n. Ok (record st { rows = st.rows ++ x ∷ []; written = n })) a
-    ∙ ap (λ (q : Result (RelNo × List Value) WorkRule). q >>=
-    λ (x : RelNo × List Value). known (TooMany counts.Row) (one_more_row written) >>=
-    λ n. Ok (record st { rows = st.rows ++ x ∷ []; written = n })) b
-    ∙ ap (λ (o : Option ℕ). known (TooMany counts.Row) o >>= λ n. Ok (of_rows cat (rows ++ r ∷ []) n)) c)
+    let c = lt-ltb written MAX_ROWS room in
+    line_step cat (of_rows cat rows written) (of_rows cat (rows ++ r ∷ []) (written + 1)) keys.Row (row_words cat r.0 r.1)
+    refl (start_fine cat k r h) (rw (a, b, c) refl)
 
 rows_same : (cat : Catalogue) (rows rows2 : List (RelNo × List Value)) (n m : ℕ) → rows ≡ rows2 → n ≡ m
     → of_rows cat rows n ≡ of_rows cat rows2 m
-rows_same cat rows rows2 n m p q = ap (λ (l : List (RelNo × List Value)). of_rows cat l n) p ∙ ap (of_rows cat rows2) q
+rows_same cat rows rows2 n m p q = cc
 
 pub rows_chain : (cat : Catalogue) → IsKnown cat → (rs rows : List (RelNo × List Value)) (written : ℕ)
     → AllByRecursion (IsValidRow cat) rs → written + length rs ≤ MAX_ROWS
@@ -115,7 +108,7 @@ rows_chain cat k (r ∷ rs) rows written h few =
       row_step cat k rows written r h.0 (omega (arith, few)),
       subst (λ (x : State). Chain cat (of_rows cat (rows ++ r ∷ []) (written + 1)) (map line_bytes (map (start_words cat) rs)) x)
           (rows_same cat ((rows ++ r ∷ []) ++ rs) (rows ++ r ∷ rs) (written + 1 + length rs) (written + length (r ∷ rs)) (append_assoc rows (r ∷ []) rs) n)
-          (rows_chain cat k rs (rows ++ r ∷ []) (written + 1) h.1 (omega (arith, few, n))),
+          (rows_chain cat k rs (rows ++ r ∷ []) (written + 1) h.1 (omega (arith, n))),
     )
 
 -- ---- statements
@@ -125,32 +118,40 @@ inside cat h rows written names txns ss = early cat (places.Inside h) rows writt
 
 room_again : (written : ℕ) (q : Stmt) → written + rows_put q ≤ MAX_ROWS → written_with written q ≡ Some (written + rows_put q)
 room_again written (statements.Put rel row) h = ap (λ (b : Bool). cond b (Some (written + 1)) None) (lt-ltb written MAX_ROWS (omega (arith, h)))
-room_again written (statements.Query out rels conds) h = ap (λ (n : ℕ). Some n) (omega arith)
-room_again written (statements.Update rel sets conds) h = ap (λ (n : ℕ). Some n) (omega arith)
-room_again written (statements.Delete rel conds) h = ap (λ (n : ℕ). Some n) (omega arith)
+room_again written _ h = ap (λ (n : ℕ). Some n) (omega arith)
 
 statement_rules_again : (cat : Catalogue) (h : Header) (rows : List (RelNo × List Value)) (written : ℕ)
     (names : List (List ℕ)) (txns : List Txn) (ss : List Stmt) (q : Stmt) (reading : Result Stmt WorkRule)
     → reading ≡ Ok q → FitsStatement cat q → length ss < 32 → written + rows_put q ≤ MAX_ROWS
     → statement_rules (inside cat h rows written names txns ss) reading ≡ Ok (inside cat h rows (written + rows_put q) names txns (ss ++ q ∷ []))
 statement_rules_again cat h rows written names txns ss q reading e fits few room =
-    let st : State = inside cat h rows written names txns ss in
     let a : written_with written q ≡ Some (written + rows_put q) = room_again written q room in
     let b = limits_again cat (length ss) q few fits in
-    ap (λ (r : Result Stmt WorkRule). r >>= λ s. with_statement st s) e
-    ∙ ap (λ (o : Option ℕ). known (TooMany counts.Row) o >>=
-    λ n. statement_limits (length st.statements) q >>=
-    λ _. Ok (inside cat h rows n names txns (ss ++ q ∷ []))) a
-    ∙ ap (λ (r : Result (Unit {0}) WorkRule). r >>= λ _. Ok (inside cat h rows (written + rows_put q) names txns (ss ++ q ∷ []))) b
+    rw (e, a, b) refl
 
-abbrev behind_query : Catalogue → List Ref → List RelNo → List Condition → List Word
-behind_query cat out rels conds = map (column_word cat rels) out ++ Plain (codes "from") ∷ (map (relation_word cat) rels ++ where_words cat rels conds)
+-- a statement's first word, and the words behind it
+abbrev statement_key : Stmt → StatementKey
+statement_key (statements.Put rel row) = skeys.Put
+statement_key (statements.Query out rels conds) = skeys.Query
+statement_key (statements.Update rel sets conds) = skeys.Update
+statement_key (statements.Delete rel conds) = skeys.Delete
 
-abbrev behind_update : Catalogue → RelNo → List Assign → List Condition → List Word
-behind_update cat rel sets conds = relation_word cat rel ∷ Plain (codes "set") ∷ (sets_words cat rel sets ++ where_words cat (rel ∷ []) conds)
+abbrev behind_key : Catalogue → Stmt → List Word
+behind_key cat q = drop 1 (statement_words cat q)
 
-abbrev behind_delete : Catalogue → RelNo → List Condition → List Word
-behind_delete cat rel conds = relation_word cat rel ∷ where_words cat (rel ∷ []) conds
+words_of_statement : (cat : Catalogue) (q : Stmt)
+    → Plain (statement_key_bytes (statement_key q)) ∷ behind_key cat q ≡ statement_words cat q
+words_of_statement cat (statements.Put rel row) = refl
+words_of_statement cat _ = refl
+
+statement_again : (cat : Catalogue) → IsKnown cat → (q : Stmt) → FitsStatement cat q → HoldsValues q
+    → statement_of (statement_key q) cat (behind_key cat q) ≡ Ok q
+statement_again cat k (statements.Put rel row) fits hold = put_again cat k rel row (row_of_statement cat rel row fits hold)
+statement_again cat k (statements.Query out rels conds) fits hold =
+    query_again cat k out rels conds (query_fits cat out rels conds fits hold)
+statement_again cat k (statements.Update rel sets conds) fits hold =
+    update_again cat k rel sets conds (update_fits cat rel sets conds fits hold)
+statement_again cat k (statements.Delete rel conds) fits hold = delete_again cat k rel conds fits hold
 
 statement_step : (cat : Catalogue) → IsKnown cat → (h : Header) (rows : List (RelNo × List Value))
     (written : ℕ) (names : List (List ℕ)) (txns : List Txn) (ss : List Stmt) (q : Stmt)
@@ -158,41 +159,20 @@ statement_step : (cat : Catalogue) → IsKnown cat → (h : Header) (rows : List
     → IsStep cat (inside cat h rows written names txns ss)
     (inside cat h rows (written + rows_put q) names txns (ss ++ q ∷ []))
     (line_bytes (statement_words cat q))
-statement_step cat k h rows written names txns ss (statements.Put rel row) fits hold few room =
-    let q : Stmt = statements.Put rel row in
-    line_step cat (inside cat h rows written names txns ss)
-    (inside cat h rows (written + rows_put q) names txns (ss ++ q ∷ [])) (keys.Statement skeys.Put)
-    (row_words cat rel row) refl (statement_fine cat k q fits hold)
-    (statement_rules_again cat h rows written names txns ss q (put_of cat (row_words cat rel row))
-    (put_again cat k rel row (row_of_statement cat rel row fits hold)) fits few room)
-statement_step cat k h rows written names txns ss (statements.Query out rels conds) fits hold few room =
-    let q : Stmt = statements.Query out rels conds in
-    line_step cat (inside cat h rows written names txns ss)
-    (inside cat h rows (written + rows_put q) names txns (ss ++ q ∷ [])) (keys.Statement skeys.Query)
-    (behind_query cat out rels conds) refl (statement_fine cat k q fits hold)
-    (statement_rules_again cat h rows written names txns ss q
-    (query_of cat (behind_query cat out rels conds)) (query_again cat k out rels conds
-    (query_fits cat out rels conds fits hold)) fits few room)
-statement_step cat k h rows written names txns ss (statements.Update rel sets conds) fits hold few room =
-    let q : Stmt = statements.Update rel sets conds in
-    line_step cat (inside cat h rows written names txns ss)
-    (inside cat h rows (written + rows_put q) names txns (ss ++ q ∷ [])) (keys.Statement skeys.Update)
-    (behind_update cat rel sets conds) refl (statement_fine cat k q fits hold)
-    (statement_rules_again cat h rows written names txns ss q
-    (update_of cat (behind_update cat rel sets conds)) (update_again cat k rel sets conds
-    (update_fits cat rel sets conds fits hold)) fits few room)
-statement_step cat k h rows written names txns ss (statements.Delete rel conds) fits hold few room =
-    let q : Stmt = statements.Delete rel conds in
-    line_step cat (inside cat h rows written names txns ss)
-    (inside cat h rows (written + rows_put q) names txns (ss ++ q ∷ [])) (keys.Statement skeys.Delete)
-    (behind_delete cat rel conds) refl (statement_fine cat k q fits hold)
-    (statement_rules_again cat h rows written names txns ss q (delete_of cat (behind_delete cat rel conds))
-    (delete_again cat k rel conds fits hold) fits few room)
+statement_step cat k h rows written names txns ss q fits hold few room =
+    let st : State = inside cat h rows written names txns ss in
+    let to : State = inside cat h rows (written + rows_put q) names txns (ss ++ q ∷ []) in
+    let whole = words_of_statement cat q in
+    subst (λ (l : List Word). IsStep cat st to (line_bytes l)) whole
+    (line_step cat st to (keys.Statement (statement_key q)) (behind_key cat q) refl
+    (subst AreFine (sym whole) (statement_fine cat k q fits hold))
+    (statement_rules_again cat h rows written names txns ss q (statement_of (statement_key q) cat (behind_key cat q))
+    (statement_again cat k q fits hold) fits few room))
 
 inside_same : (cat : Catalogue) (h : Header) (rows : List (RelNo × List Value)) (n m : ℕ)
     (names : List (List ℕ)) (txns : List Txn) (ss ts : List Stmt) → n ≡ m → ss ≡ ts
     → inside cat h rows n names txns ss ≡ inside cat h rows m names txns ts
-inside_same cat h rows n m names txns ss ts p q = ap (λ (x : ℕ). inside cat h rows x names txns ss) p ∙ ap (inside cat h rows m names txns) q
+inside_same cat h rows n m names txns ss ts p q = cc
 
 statements_chain : (cat : Catalogue) → IsKnown cat → (h : Header) (rows : List (RelNo × List Value))
     (names : List (List ℕ)) (txns : List Txn) (qs ss : List Stmt) (written : ℕ)
@@ -213,7 +193,8 @@ statements_chain cat k h rows names txns (q ∷ qs) ss written fits hold few roo
           (inside_same cat h rows (written + rows_put q + sum_by rows_put qs)
           (written + sum_by rows_put (q ∷ qs)) names txns ((ss ++ q ∷ []) ++ qs) (ss ++ q ∷ qs) n
           (append_assoc ss (q ∷ []) qs))
-          (statements_chain cat k h rows names txns qs (ss ++ q ∷ []) (written + rows_put q) fits.1 hold.1 (omega (arith, few, len)) (omega (arith, room, n))),
+          (statements_chain cat k h rows names txns qs (ss ++ q ∷ []) (written + rows_put q) fits.1 hold.1
+          (omega (arith, len)) (omega (arith, room, n))),
     )
 
 -- ---- transactions
@@ -224,11 +205,7 @@ outside cat place rows written names txns = early cat place rows written names t
 pub going_on : (place : Place) → takes_txns place ≡ true → is_ended place ≡ false
 going_on places.Rows t = refl
 going_on places.Between t = refl
-going_on (places.Inside h) t = absurd cc
-going_on (places.Listing list) t = absurd cc
-going_on places.Declared t = absurd cc
-going_on places.Events t = absurd cc
-going_on places.Ended t = absurd cc
+going_on _ t = absurd cc
 
 abbrev header_for : Txn → Header
 header_for t = record { name = t.name; tm = t.tm }
@@ -249,12 +226,8 @@ header_step cat k place rows written names txns t at h other room =
     let m = tm_again cat k t.tm h.fits.module_is_there in
     let d : not (is_some (position (bytes_eq t.name) names)) ≡ true = ap not (found_none (bytes_eq t.name) names other) in
     let c : ltb (length names) MAX_TXNS ≡ true = lt-ltb (length names) MAX_TXNS room in
-    line_step cat st to keys.Txn (Plain t.name ∷ site_word (T t.tm) ∷ []) (going_on place at) (header_fine cat k t h) (
-    ap (λ (b : Bool). must BadLine b >>= λ _. name_of (Plain t.name) >>= λ name. tm_of cat (site_word (T t.tm)) >>= λ tm. opened st name tm) a
-    ∙ ap (λ (r : Result (List ℕ) WorkRule). r >>= λ name. tm_of cat (site_word (T t.tm)) >>= λ tm. opened st name tm) n
-    ∙ ap (λ (r : Result TmNo WorkRule). r >>= λ tm. opened st t.name tm) m
-    ∙ ap (λ (b : Bool). must DuplicateTxn b >>= λ _. must (TooMany counts.Txn) (nat_lt (length names) MAX_TXNS) >>= λ _. Ok to) d
-    ∙ ap (λ (b : Bool). must (TooMany counts.Txn) b >>= λ _. Ok to) c)
+    line_step cat st to keys.Txn (Plain t.name ∷ site_word (T t.tm) ∷ []) (going_on place at) (header_fine cat k t h)
+    (rw (a, n, m, d, c) refl)
 
 done_step : (cat : Catalogue) (h : Header) (rows : List (RelNo × List Value)) (written : ℕ) (names : List (List ℕ)) (txns : List Txn) (ss : List Stmt)
     → IsStep cat (inside cat h rows written names txns ss) (outside cat places.Between rows written names
@@ -298,9 +271,7 @@ pub record AreRead (cat : Catalogue) (st : State) (lines : List (List ℕ)) (row
 outside_same : (cat : Catalogue) (place : Place) (rows : List (RelNo × List Value)) (n m : ℕ)
     (names ns : List (List ℕ)) (txns ts : List Txn) → n ≡ m → names ≡ ns → txns ≡ ts
     → outside cat place rows n names txns ≡ outside cat place rows m ns ts
-outside_same cat place rows n m names ns txns ts p q r =
-    ap (λ (x : ℕ). outside cat place rows x names txns) p
-    ∙ ap (λ (x : List (List ℕ)). outside cat place rows m x txns) q ∙ ap (outside cat place rows m ns) r
+outside_same cat place rows n m names ns txns ts p q r = cc
 
 pub txns_chain : (cat : Catalogue) → IsKnown cat → (rows : List (RelNo × List Value)) (ts : List Txn)
     (place : Place) (written : ℕ) (names : List (List ℕ)) (txns : List Txn) → takes_txns place ≡ true
@@ -320,10 +291,10 @@ txns_chain cat k rows (t ∷ ts) place written names txns at h differ room few =
     let n : written + rows_put_by t + sum_by rows_put_by ts ≡ written + sum_by rows_put_by (t ∷ ts) = omega (arith, sum) in
     let joined : (names ++ t.name ∷ []) ++ names_of ts ≡ names ++ names_of (t ∷ ts) = append_assoc names (t.name ∷ []) (names_of ts) in
     let one = txn_chain cat k place rows written names txns t at h.0
-    (apart_before names t.name (names_of ts) differ) (omega (arith, room)) (omega (arith, few, sum)) in
+    (apart_before names t.name (names_of ts) differ) (omega (arith, room)) (omega (arith, sum)) in
     let more = txns_chain cat k rows ts places.Between (written + rows_put_by t) (names ++ t.name ∷ [])
     (txns ++ t ∷ []) refl h.1 (subst (λ (l : List (List ℕ)). repeats l ≡ false) (sym joined) differ)
-    (omega (arith, room, len)) (omega (arith, few, n)) in
+    (omega (arith, room, len)) (omega (arith, n)) in
     let start : State = outside cat place rows written names txns in
     let mid : State = outside cat places.Between rows (written + rows_put_by t) (names ++ t.name ∷ []) (txns ++ t ∷ []) in
     let last : State = outside cat more.place rows (written + rows_put_by t + sum_by rows_put_by ts)

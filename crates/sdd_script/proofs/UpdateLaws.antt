@@ -1,7 +1,7 @@
 -- Updates and deletes: what is read is spelled and fits, and what is spelled and fits is read.
-use Rattle.sdd_script.proofs.All.{Add, All-from_recursion, AllByRecursion, Assign, AssignsValue, BadLine, Bool, Catalogue, Comparison, Condition, Delete, FitsAssign, FitsCondition, FitsStatement, HoldsValue, HoldsValues, IsRelation, List, Ok, Option, Plain, RelNo, Setting, Some, Stmt, To, UnknownName, Update, Word, [], along, ap, arith, assign_of, bind_ok, both_are, both_hold, codes, column_word, comparisons, conditions_form, conditions_of, delete_of, from_key, is_free, is_key, known, length, map, must, name_of_relation, not_empty, ok_is, own_column, recursion_from_All, refl, rel_no, relation_of, relation_word, sets_words, settings, signed_decimal, subst, sym, true, up_to, update_behind_set, update_of, value_word, where_words, ◌&&◌, ◌++◌, ◌>>=◌, ◌∙◌, ◌∷◌, ◌≡◌, ◌≤◌}
+use Rattle.sdd_script.proofs.All.{Add, All-from_recursion, AllByRecursion, Assign, AssignsValue, Catalogue, Comparison, Condition, Delete, FitsAssign, FitsCondition, FitsStatement, HoldsValue, HoldsValues, IsRelation, List, Ok, Plain, RelNo, Setting, Some, Stmt, To, Update, Word, [], along, arith, assign_of, bind_ok, both_are, both_hold, codes, column_word, comparisons, conditions_form, conditions_of, delete_of, from_key, is_free, is_key, length, map, name_of_relation, not_empty, ok_is, own_column, recursion_from_All, refl, rel_no, relation_of, relation_word, sets_words, settings, signed_decimal, subst, sym, true, up_to, update_of, value_word, where_words, ◌&&◌, ◌++◌, ◌∷◌, ◌≡◌, ◌≤◌}
 use Rattle.sdd_script.specs.Statements.{update_of_parts}
-use Rattle.sdd_script.proofs.StepLaws.{must_then, known_then, two_same}
+use Rattle.sdd_script.proofs.StepLaws.{must_then, known_then}
 use Rattle.sdd_script.proofs.WordLooks.{name_free, value_free, number_free}
 use Rattle.sdd_script.proofs.WordCuts.{NonePasses, joined_again, key_is_that}
 use Rattle.sdd_script.proofs.UseLaws.{IsKnown, relation_takes, relation_again}
@@ -11,16 +11,10 @@ use Rattle.sdd_script.proofs.AssignLaws.{assigns_take, assigns_again, setting_fo
 use Rattle.sdd_script.proofs.QueryLaws.{IsStatement, update_limits, delete_limits, before_where, from_where, free_no_key}
 use Rattle.sdd_script.proofs.AssignLaws as assigning
 
-middle_same : (a b c : Word) (xs ys : List Word) → b ≡ c → xs ≡ ys → a ∷ b ∷ xs ≡ a ∷ c ∷ ys
-middle_same a b c xs ys p q = cc
-
 update_words : (a b : Word) (c d e f : List Word) → a ≡ b → c ≡ d → e ≡ f
     → Plain (codes "update") ∷ a ∷ Plain (codes "set") ∷ (c ++ e) ≡ Plain (codes "update") ∷ b ∷ Plain
     (codes "set") ∷ (d ++ f)
-update_words a b c d e f p q r =
-    ap (λ (w : Word). Plain (codes "update") ∷ w ∷ Plain (codes "set") ∷ (c ++ e)) p
-    ∙ ap (λ (l : List Word). Plain (codes "update") ∷ b ∷ Plain (codes "set") ∷ (l ++ e)) q
-    ∙ ap (λ (l : List Word). Plain (codes "update") ∷ b ∷ Plain (codes "set") ∷ (d ++ l)) r
+update_words a b c d e f p q r = cc
 
 sets_some : (cat : Catalogue) (rel : RelNo) (sets : List Assign) → not_empty (sets_words cat rel sets) ≡ true → 1 ≤ length sets
 sets_some cat rel [] e = absurd cc
@@ -39,14 +33,10 @@ update_parts_take : (cat : Catalogue) (name : Word) (sets rest : List Word) (ss 
     → update_of_parts cat name ss cs ≡ Ok s → IsStatement cat (codes "update") (name ∷ Plain (codes "set") ∷ (sets ++ rest)) s
 unfolding update_of_parts
 update_parts_take cat name sets rest ss cs s some set_form form e =
-    let a = known_then UnknownName (relation_of cat name)
-    (λ rel. along (λ i s. assign_of cat rel s) 0 ss >>=
-    λ assigns. conditions_of cat (Some rel ∷ []) cs >>= λ conds. Ok (Update (rel_no rel) assigns conds)) s
-    e in
+    let a = known_then _ (relation_of cat name) _ s e in
     let rel : RelNo = rel_no a.0 in
-    let b = bind_ok (along (λ i s. assign_of cat a.0 s) 0 ss)
-    (λ assigns. conditions_of cat (Some a.0 ∷ []) cs >>= λ conds. Ok (Update rel assigns conds)) s a.2 in
-    let c = bind_ok (conditions_of cat (Some a.0 ∷ []) cs) (λ conds. Ok (Update rel b.0 conds)) s b.2 in
+    let b = bind_ok (along (λ i s. assign_of cat a.0 s) 0 ss) _ s a.2 in
+    let c = bind_ok (conditions_of cat (Some a.0 ∷ []) cs) _ s b.2 in
     let t = relation_takes cat name a.0 a.1 in
     let g = assigns_take cat rel sets ss b.0 set_form b.1 in
     let d = conditions_take cat (rel ∷ []) (codes "where") rest cs c.0 form c.1 in
@@ -63,23 +53,18 @@ update_parts_take cat name sets rest ss cs s some set_form form e =
     })
 
 pub update_takes : (cat : Catalogue) (words : List Word) (s : Stmt) → update_of cat words ≡ Ok s → IsStatement cat (codes "update") words s
-update_takes cat [] s e = absurd cc
-update_takes cat (name ∷ []) s e = absurd cc
 update_takes cat (name ∷ key ∷ words) s e =
     let sets : List Word = up_to (codes "where") words in
     let rest : List Word = from_key (codes "where") words in
-    let a = must_then BadLine (is_key (codes "set") key) (λ _. update_behind_set cat name sets rest) s e in
-    let b = must_then BadLine (is_free name && not_empty sets) (λ _. known BadLine (settings sets) >>=
-    λ found. known BadLine (conditions_form rest) >>=
-    λ comparisons. update_of_parts cat name found comparisons) s a.1 in
-    let c = known_then BadLine (settings sets) (λ found. known BadLine (conditions_form rest) >>=
-    λ comparisons. update_of_parts cat name found comparisons) s b.1 in
-    let d = known_then BadLine (conditions_form rest) (λ comparisons. update_of_parts cat name c.0 comparisons) s c.2 in
+    let a = must_then _ (is_key (codes "set") key) _ s e in
+    let b = must_then _ (is_free name && not_empty sets) _ s a.1 in
+    let c = known_then _ (settings sets) _ s b.1 in
+    let d = known_then _ (conditions_form rest) _ s c.2 in
     let t = both_hold (is_free name) (not_empty sets) b.0 in
     let whole : name ∷ key ∷ words ≡ name ∷ Plain (codes "set") ∷ (sets ++ rest) =
-    middle_same name key (Plain (codes "set")) words (sets ++ rest) (key_is_that (codes "set") key a.0)
-    (sym (joined_again (is_key (codes "where")) words)) in
+    cc (key_is_that (codes "set") key a.0, joined_again (is_key (codes "where")) words) in
     subst (λ (l : List Word). IsStatement cat (codes "update") l s) (sym whole) (update_parts_take cat name sets rest c.0 d.0 s t.1 c.1 d.1 d.2)
+update_takes cat _ s e = absurd cc
 
 pub record FitsUpdate (cat : Catalogue) (rel : RelNo) (sets : List Assign) (conds : List Condition) : Type 0 where
   pub parts : AreParts cat (rel ∷ [])
@@ -157,38 +142,22 @@ update_again cat k rel sets conds h =
     let s : settings front ≡ Some (map (setting_for cat rel) sets) = assigning.form_again cat k rel h.parts sets h.sets_fit h.sets_hold in
     let f : conditions_form rest ≡ Some (map (comparison_for cat (rel ∷ [])) conds) =
     form_again cat k (rel ∷ []) h.parts (codes "where") conds h.conds_fit h.conds_hold in
-    ap (λ (l : List Word). update_behind_set cat name l (from_key (codes "where") (front ++ rest))) b
-    ∙ ap (λ (l : List Word). update_behind_set cat name front l) c
-    ∙ ap (λ (t : Bool). must BadLine t >>= λ _. known BadLine (settings front) >>=
-    λ found. known BadLine (conditions_form rest) >>=
-    λ comparisons. update_of_parts cat name found comparisons) d
-    ∙ ap (λ (o : Option (List Setting)). known BadLine o >>=
-    λ found. known BadLine (conditions_form rest) >>=
-    λ comparisons. update_of_parts cat name found comparisons) s
-    ∙ ap (λ (o : Option (List Comparison)). known BadLine o >>= λ comparisons. update_of_parts cat name (map (setting_for cat rel) sets) comparisons) f
-    ∙ update_parts_again cat k rel sets conds h
+    rw (b, c, d, s, f) (update_parts_again cat k rel sets conds h)
 
 -- ---- delete
 
 pub delete_takes : (cat : Catalogue) (words : List Word) (s : Stmt) → delete_of cat words ≡ Ok s → IsStatement cat (codes "delete") words s
 delete_takes cat [] s e = absurd cc
 delete_takes cat (name ∷ rest) s e =
-    let a = must_then BadLine (is_free name) (λ _. known BadLine (conditions_form rest) >>=
-    λ comparisons. known UnknownName (relation_of cat name) >>=
-    λ rel. conditions_of cat (Some rel ∷ []) comparisons >>=
-    λ conds. Ok (Delete (rel_no rel) conds)) s e in
-    let b = known_then BadLine (conditions_form rest) (λ comparisons. known UnknownName
-    (relation_of cat name) >>= λ rel. conditions_of cat (Some rel ∷ []) comparisons >>=
-    λ conds. Ok (Delete (rel_no rel) conds)) s a.1 in
-    let c = known_then UnknownName (relation_of cat name)
-    (λ rel. conditions_of cat (Some rel ∷ []) b.0 >>= λ conds. Ok (Delete (rel_no rel) conds)) s b.2 in
+    let a = must_then _ (is_free name) _ s e in
+    let b = known_then _ (conditions_form rest) _ s a.1 in
+    let c = known_then _ (relation_of cat name) _ s b.2 in
     let rel : RelNo = rel_no c.0 in
-    let d = bind_ok (conditions_of cat (Some c.0 ∷ []) b.0) (λ conds. Ok (Delete rel conds)) s c.2 in
+    let d = bind_ok (conditions_of cat (Some c.0 ∷ []) b.0) _ s c.2 in
     let t = relation_takes cat name c.0 c.1 in
     let f = conditions_take cat (rel ∷ []) (codes "where") rest b.0 d.0 b.1 d.1 in
     subst (λ (x : Stmt). IsStatement cat (codes "delete") (name ∷ rest) x) (ok_is (Delete rel d.0) s d.2) (record {
-      spelled = ap (λ (l : List Word). Plain (codes "delete") ∷ l)
-          (two_same name (relation_word cat rel) rest (where_words cat (rel ∷ []) d.0) t.spelled f.spelled);
+      spelled = cc;
       values = All-from_recursion HoldsValue d.0 f.values;
       fits = λ before u lim. (t.there, (delete_limits before rel d.0 u lim, All-from_recursion (FitsCondition cat (rel ∷ [])) d.0 f.fits));
     })
@@ -205,10 +174,4 @@ delete_again cat k rel conds h v =
     let b : conditions_form rest ≡ Some (map (comparison_for cat (rel ∷ [])) conds) = form_again cat k (rel ∷ []) p (codes "where") conds fits hold in
     let c = relation_again cat k rel.0 h.0 in
     let d = conditions_again cat k (rel ∷ []) p conds fits hold in
-    ap (λ (t : Bool). must BadLine t >>= λ _. known BadLine (conditions_form rest) >>=
-    λ comparisons. known UnknownName (relation_of cat (relation_word cat rel)) >>=
-    λ rel. conditions_of cat (Some rel ∷ []) comparisons >>= λ conds. Ok (Delete (rel_no rel) conds)) a
-    ∙ ap (λ (o : Option (List Comparison)). known BadLine o >>=
-    λ comparisons. known UnknownName (relation_of cat (relation_word cat rel)) >>=
-    λ rel. conditions_of cat (Some rel ∷ []) comparisons >>= λ conds. Ok (Delete (rel_no rel) conds)) b
-    ∙ rw (c, d) refl
+    rw (a, b, c, d) refl

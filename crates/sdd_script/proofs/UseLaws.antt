@@ -1,5 +1,5 @@
 -- Relations and columns of uses: what is read is spelled and is there, and what is spelled and is there is read.
-use Rattle.sdd_script.proofs.All.{BadNumber, Bool, Catalogue, Column, Found, Int, IsColumn, IsRelation, List, None, Ok, Option, Parts, Plain, Quoted, Ref, Some, UnknownName, Word, [], ap, arith, before_point, behind_point, both_hold, bytes_eq, bytes_eq-Decides, column_in, column_named, column_of_use, columns_of, cond, decimal, eqb, false, find, get_or, has_point, is_name, is_whole, kind_at, kind_of_place, known, length, looks_like_column, lt-ltb, ltb-true, name_of_column, name_of_relation, nat_lt as ltb, ne_eqb, negsuc, not, number_again, number_of, number_takes, ok_is, option_map_or, pos, position-Some, range_with_len, refl, rel_no, relation_named, relation_of, relation_word, signed_decimal, slice_get, slice_get-get_or, subst, suc, sym, true, use_at, use_in, use_numbered, zero, ℕ, ℤ, ◌++◌, ◌+◌, ◌-◌, ◌<◌, ◌>>=◌, ◌^◌, ◌||◌, ◌∙◌, ◌∷◌, ◌≡◌, ◌≤◌}
+use Rattle.sdd_script.proofs.All.{Bool, Catalogue, Column, Found, Int, IsColumn, IsRelation, List, None, Ok, Option, Parts, Plain, Quoted, Ref, Some, Word, [], ap, arith, before_point, behind_point, both_hold, bytes_eq, bytes_eq-Decides, column_in, column_named, column_of_use, columns_of, cond, decimal, eqb, false, find, get_or, has_point, is_name, is_whole, kind_at, kind_of_place, length, looks_like_column, lt-ltb, ltb-true, name_of_column, name_of_relation, nat_lt as ltb, ne_eqb, negsuc, not, number_again, number_of, number_takes, ok_is, option_map_or, pos, position-Some, range_with_len, refl, rel_no, relation_named, relation_of, relation_word, signed_decimal, slice_get, slice_get-get_or, subst, suc, sym, true, use_at, use_in, use_numbered, zero, ℕ, ℤ, ◌++◌, ◌+◌, ◌-◌, ◌<◌, ◌^◌, ◌||◌, ◌∙◌, ◌∷◌, ◌≡◌, ◌≤◌}
 use Rattle.sdd_script.proofs.StepLaws.{must_then, known_then, some_is}
 use Rattle.sdd_script.proofs.ValueLaws.{columns_are}
 use Rattle.sdd_script.proofs.WordCuts.{point_cut}
@@ -70,10 +70,8 @@ kind_at_place columns i d lt = let e = slice_get-get_or columns i d lt in rw e r
 pub column_takes : (columns : List Column) (part : ℕ) (name : List ℕ) (f : Found) → column_in columns part name ≡ Ok f
     → IsColumnAt columns part name f
 column_takes columns part name f e =
-    let a = known_then UnknownName (column_named columns name)
-    (λ place. known UnknownName (kind_of_place columns place) >>=
-    λ kind. Ok (record { at = record { part = part; column = place + 1 }; kind = kind })) f e in
-    let b = known_then UnknownName (kind_of_place columns a.0) (λ kind. Ok (record { at = record { part = part; column = a.0 + 1 }; kind = kind })) f a.2 in
+    let a = known_then _ (column_named columns name) _ f e in
+    let b = known_then _ (kind_of_place columns a.0) _ f a.2 in
     let d : Column = record { name = []; kind = b.0 } in
     let p = position-Some (λ (c : Column). bytes_eq c.name name) columns a.0 d a.1 in
     let n : a.0 + 1 - 1 ≡ a.0 = omega arith in
@@ -107,29 +105,12 @@ pub record IsUseAt (parts : Parts) (z : ℤ) (u : ℕ × ℕ) : Type 0 where
   pub small : u.0 < 2 ^ 32
   pub there : slice_get parts (u.0 - 1) ≡ Some (Some u.1)
 
-abbrev left_of : Option (ℕ × ℕ) → ℕ
-left_of None = 0
-left_of (Some x) = x.0
-
-abbrev right_of : Option (ℕ × ℕ) → ℕ
-right_of None = 0
-right_of (Some x) = x.1
-
-abbrev some_use : ℕ × ℕ → Option (ℕ × ℕ)
-some_use u = Some u
-
-use_pair : (rel part : ℕ) (u : ℕ × ℕ) → some_use (part, rel) ≡ some_use u → (u.0 ≡ part) × (Some (Some rel) ≡ Some (Some u.1))
-use_pair rel part u e = (sym (ap left_of e), ap (λ (n : ℕ). Some (Some n)) (ap right_of e))
-
 use_in_is : (o : Option (Option ℕ)) (part : ℕ) (u : ℕ × ℕ) → use_in o part ≡ Some u → (u.0 ≡ part) × (o ≡ Some (Some u.1))
-use_in_is None part u e = absurd cc
-use_in_is (Some None) part u e = absurd cc
-use_in_is (Some (Some rel)) part u e = use_pair rel part u e
+use_in_is (Some (Some rel)) part u e = rw (← some_is {A = ℕ × ℕ} (part, rel) u e) (refl, refl)
+use_in_is _ part u e = absurd cc
 
 use_at_if : (parts : Parts) (part : ℕ) (u : ℕ × ℕ) (a b : Bool) → eqb part 0 ≡ a → ltb part (2 ^ 32) ≡ b
     → cond (a || not b) None (use_in (slice_get parts (part - 1)) part) ≡ Some u → IsUseAt parts (pos part) u
-use_at_if parts part u true b p q e = absurd cc
-use_at_if parts part u false false p q e = absurd cc
 use_at_if parts zero u false true p q e = absurd cc
 use_at_if parts (suc part) u false true p q e =
     let i = use_in_is (slice_get parts (suc part - 1)) (suc part) u e in
@@ -141,6 +122,7 @@ use_at_if parts (suc part) u false true p q e =
       small = omega (arith, same, small);
       there = subst (λ (n : ℕ). slice_get parts (n - 1) ≡ Some (Some u.1)) (sym same) i.1;
     }
+use_at_if parts part u _ _ p q e = absurd cc
 
 pub use_takes : (parts : Parts) (z : ℤ) (u : ℕ × ℕ) → use_at parts z ≡ Some u → IsUseAt parts z u
 use_takes parts (pos part) u e = use_at_if parts part u (eqb part 0) (ltb part (2 ^ 32)) refl refl e
@@ -175,11 +157,8 @@ pub use_of_takes : (cat : Catalogue) (parts : Parts) (w : Word) (f : Found) → 
     → column_of_use cat parts w ≡ Ok f → IsUse cat parts w f
 use_of_takes cat parts (Quoted text) f look e = absurd cc
 use_of_takes cat parts (Plain bytes) f look e =
-    let a = must_then BadNumber (is_whole (before_point bytes))
-    (λ _. known UnknownName (use_numbered parts (number_of (before_point bytes))) >>=
-    λ u. column_in (columns_of cat u.1) u.0 (behind_point bytes)) f e in
-    let b = known_then UnknownName (use_numbered parts (number_of (before_point bytes)))
-    (λ u. column_in (columns_of cat u.1) u.0 (behind_point bytes)) f a.1 in
+    let a = must_then _ (is_whole (before_point bytes)) _ f e in
+    let b = known_then _ (use_numbered parts (number_of (before_point bytes))) _ f a.1 in
     use_of_number cat parts bytes f b.0 (number_of (before_point bytes)) refl
     (point_cut bytes (both_hold (has_point bytes) (not (has_point (behind_point bytes))) look).0) b.1 b.2
 

@@ -38,10 +38,9 @@ kind_text kinds.Int e = absurd cc
 kind_text kinds.Text e = refl
 
 pub same_kind : (a b : Kind) → is_of_kind (Some a) b ≡ true → a ≡ b
-same_kind kinds.Int kinds.Int e = refl
 same_kind kinds.Int kinds.Text e = absurd cc
 same_kind kinds.Text kinds.Int e = absurd cc
-same_kind kinds.Text kinds.Text e = refl
+same_kind _ _ e = refl
 
 pub kind_same : (a : Kind) → is_of_kind (Some a) a ≡ true
 kind_same kinds.Int = refl
@@ -56,14 +55,14 @@ text_takes bytes text e = some_text bytes text (is_text bytes) e
 
 pub value_takes : (k : Kind) (w : Word) (v : Value) → value_of (Some k) w ≡ Ok v → IsRead k w v
 value_takes k (Plain bytes) v e =
-    let a = known_then BadNumber (number_of bytes) (λ number. must WrongKind (is_of_kind (Some k) kinds.Int) >>= λ _. Ok (values.Int number)) v e in
+    let a = known_then _ (number_of bytes) _ v e in
     let n = number_takes bytes a.0 a.1 in
-    let b = must_then WrongKind (is_of_kind (Some k) kinds.Int) (λ _. Ok (values.Int a.0)) v a.2 in
+    let b = must_then _ (is_of_kind (Some k) kinds.Int) _ v a.2 in
     rw (← ok_is (values.Int a.0) v b.1) (record { spelled = ap (λ (l : List ℕ). Plain l) n.0; same = kind_int k b.0; fits = n.1 })
 value_takes k (Quoted text) v e =
-    let a = known_then BadLine (text_in text) (λ t. must WrongKind (is_of_kind (Some k) kinds.Text) >>= λ _. Ok (values.Text t)) v e in
+    let a = known_then _ (text_in text) _ v e in
     let t = text_takes text a.0 a.1 in
-    let b = must_then WrongKind (is_of_kind (Some k) kinds.Text) (λ _. Ok (values.Text a.0)) v a.2 in
+    let b = must_then _ (is_of_kind (Some k) kinds.Text) _ v a.2 in
     rw (← ok_is (values.Text a.0) v b.1) (record {
       spelled = ap (λ (l : List ℕ). Quoted l) t.1;
       same = kind_text k b.0;
@@ -82,18 +81,16 @@ at_columns columns i w = value_of (kind_of_place columns i) w
 shifted : (c : Column) (cs : List Column) (i : ℕ) (ws : List Word) (vs : List Value)
     → Answers (at_columns (c ∷ cs)) (i + 1) ws vs → Answers (at_columns cs) i ws vs
 shifted c cs i [] [] h = tt
-shifted c cs i [] (v ∷ vs) h = absurd h
-shifted c cs i (w ∷ ws) [] h = absurd h
 shifted c cs i (w ∷ ws) (v ∷ vs) h =
     (subst (λ (n : ℕ). at_columns (c ∷ cs) n w ≡ Ok v) (add-one i) h.0, shifted c cs (i + 1) ws vs h.1)
+shifted c cs i _ _ h = absurd h
 
 back : (c : Column) (cs : List Column) (i : ℕ) (ws : List Word) (vs : List Value)
     → Answers (at_columns cs) i ws vs → Answers (at_columns (c ∷ cs)) (i + 1) ws vs
 back c cs i [] [] h = tt
-back c cs i [] (v ∷ vs) h = absurd h
-back c cs i (w ∷ ws) [] h = absurd h
 back c cs i (w ∷ ws) (v ∷ vs) h =
     (subst (λ (n : ℕ). at_columns (c ∷ cs) n w ≡ Ok v) (sym (add-one i)) h.0, back c cs (i + 1) ws vs h.1)
+back c cs i _ _ h = absurd h
 
 abbrev pub kinds_of : List Column → List Kind
 kinds_of columns = map (λ (c : Column). c.kind) columns
@@ -106,10 +103,8 @@ pub record IsRow (columns : List Column) (ws : List Word) (vs : List Value) : Ty
 row_of_answers : (columns : List Column) (ws : List Word) (vs : List Value)
     → Answers (at_columns columns) 0 ws vs → length ws ≡ length columns → IsRow columns ws vs
 row_of_answers [] [] [] h len = record { spelled = refl; same = refl; fits = tt }
-row_of_answers [] [] (v ∷ vs) h len = absurd h
 row_of_answers [] (w ∷ ws) vs h len = absurd (omega arith)
 row_of_answers (c ∷ cs) [] vs h len = absurd (omega arith)
-row_of_answers (c ∷ cs) (w ∷ ws) [] h len = absurd h
 row_of_answers (c ∷ cs) (w ∷ ws) (v ∷ vs) h len =
     let one = value_takes c.kind w v h.0 in
     let more = row_of_answers cs ws vs (shifted c cs 0 ws vs h.1) (omega arith) in
@@ -118,6 +113,7 @@ row_of_answers (c ∷ cs) (w ∷ ws) (v ∷ vs) h len =
     let k : kind_of v ≡ c.kind = one.same in
     let ks : map kind_of vs ≡ kinds_of cs = more.same in
     record { spelled = cc; same = cc; fits = (one.fits, more.fits) }
+row_of_answers _ _ _ h len = absurd h
 
 pub values_take : (columns : List Column) (ws : List Word) (vs : List Value) → values_of columns ws ≡ Ok vs → length ws ≡ length columns
     → IsRow columns ws vs
@@ -130,12 +126,11 @@ answers_of_row : (columns : List Column) (vs : List Value) → map kind_of vs �
     → AllByRecursion IsValue vs → Answers (at_columns columns) 0 (map value_word vs) vs
     × (length (map value_word vs) ≡ length columns)
 answers_of_row [] [] e h = (tt, refl)
-answers_of_row [] (v ∷ vs) e h = absurd cc
-answers_of_row (c ∷ cs) [] e h = absurd cc
 answers_of_row (c ∷ cs) (v ∷ vs) e h =
     let k = heads (kind_of v) c.kind (map kind_of vs) (kinds_of cs) e in
     let more = answers_of_row cs vs k.1 h.1 in
     ((subst (λ (x : Kind). value_of (Some x) (value_word v) ≡ Ok v) k.0 (value_again v h.0), back c cs 0 (map value_word vs) vs more.0), ap suc more.1)
+answers_of_row _ _ e h = absurd cc
 
 pub values_again : (columns : List Column) (vs : List Value) → map kind_of vs ≡ kinds_of columns
     → AllByRecursion IsValue vs → values_of columns (map value_word vs) ≡ Ok vs

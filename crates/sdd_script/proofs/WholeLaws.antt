@@ -1,15 +1,16 @@
 -- The whole file: the spelling of a workload that the catalogue allows is read as the workload.
-use Rattle.sdd_script.proofs.All.{All, All-get_or, AllByRecursion, AreDistinct, AreTimely, BadEvent, BadLine, Bool, Catalogue, ClassPart, D, Deliver, Down, Err, Event, IsFrom1To, IsValid, IsValidEvent, IsValidRow, IsValidTxn, List, Lose, MAX_EVENTS, MAX_WORKLOAD_BYTES, None, Ok, Option, Place, Plain, Redeclare, RelNo, Repeat, Resend, Result, Settle, Site, Some, State, Submit, SubmittedTwice, T, Tick, TooLong, TooMany, Txn, TxnNo, UnknownName, Up, Value, Word, WorkRule, Workload, [], ap, append-nil, append_assoc, arith, bytes_eq, cond, count_word, cut_again, cut_lines, deliver_of, down_of, end_words, event_rules, event_words, false, filter_map, flat_map, get_or, get_or-map, is_ended, is_name, is_submitted, known, le-ltb, length, length-append, length-map, line_bytes, lines_of, list_any, list_any-map, list_lines, lose_of, lt-ltb, map, map-append, may_follow, must, name_in, name_of_txn, nat_lt, nat_lt as ltb, not, nothing_read, number_named, option_map, position, recursion_from_All, redeclare_of, refl, repeat_of, repeats, resend_of, rows_put_by, settle_of, site_word, spelling, start_words, submit_of, submitted_by, subst, sum_by, sym, takes_events, takes_lists, takes_txns, tick_of, true, txn_lines, txn_named, txn_no, up_of, walk, walk_bytes, with_event, with_submitted, workload, workload_of_state, ℕ, ◌++◌, ◌+◌, ◌-◌, ◌<◌, ◌==◌, ◌>>=◌, ◌∙◌, ◌∷◌, ◌≡◌, ◌≤◌}
+use Rattle.sdd_script.proofs.All.{All, All-get_or, AllByRecursion, AreDistinct, AreTimely, Bool, Catalogue, ClassPart, Deliver, Down, Err, Event, IsFrom1To, IsValid, IsValidEvent, IsValidRow, IsValidTxn, List, Lose, MAX_EVENTS, MAX_WORKLOAD_BYTES, Ok, Place, Plain, RelNo, Repeat, Resend, Result, Some, State, Submit, Tick, TooLong, Txn, TxnNo, Up, Value, Word, WorkRule, Workload, [], ap, append-nil, append_assoc, arith, bytes_eq, cond, cut_again, cut_lines, end_words, event_of, event_rules, event_words, false, filter_map, flat_map, get_or, get_or-map, is_ended, is_name, is_submitted, le-ltb, length, length-append, length-map, line_bytes, lines_of, list_any, list_any-map, list_lines, lt-ltb, map, map-append, may_follow, name_of_txn, nat_lt, nat_lt as ltb, nothing_read, position, recursion_from_All, refl, repeats, rows_put_by, spelling, start_words, submit_of, submitted_by, subst, sum_by, sym, takes_events, takes_lists, takes_txns, true, txn_lines, txn_no, walk, walk_bytes, with_submitted, workload, workload_of_state, ℕ, ◌++◌, ◌+◌, ◌-◌, ◌<◌, ◌==◌, ◌∙◌, ◌∷◌, ◌≡◌, ◌≤◌}
 use Rattle.sdd_script.proofs.WordLooks.{name_fine, name_free}
 use Rattle.sdd_script.proofs.UseLaws.{IsKnown}
 use Rattle.sdd_script.proofs.EventLaws.{place_again, resend_again, tick_again, down_again, up_again}
+use Rattle.sdd_script.proofs.LineLaws.{event_key_bytes}
 use Rattle.sdd_script.proofs.NamePlaces.{any_none, place_of_name, apart_from}
 use Rattle.sdd_script.proofs.SoundStates.{names_of}
 use Rattle.sdd_script.proofs.ReadingLaws.{name_at_number, lines_spelled}
 use Rattle.sdd_script.proofs.SpellingLaws.{IsStep, Chain, chain-append, chain_lines, chain_walk, line_step, state_of, of_rows, rows_chain, txns_chain}
 use Rattle.sdd_script.proofs.ListChains.{lists_read}
 use Rattle.sdd_script.proofs.RedeclareLaws.{timely_may}
-use Rattle.sdd_script.proofs.FineLines.{keyword_fine, NamesOne, event_fine}
+use Rattle.sdd_script.proofs.FineLines.{AreFine, keyword_fine, NamesOne, event_key, behind_key, words_of_event, behind_fine}
 use Rattle.sdd_script.specs.declared.fault.Counts.TheVariants as counts
 use Rattle.sdd_script.specs.declared.keyword.Keyword.TheVariants as keys
 use Rattle.sdd_script.specs.declared.keyword.EventKey.TheVariants as ekeys
@@ -49,29 +50,15 @@ submit_again cat txns txn valid differ h =
     let named = submitted_name cat txns txn.0 valid h in
     let lt : txn.0 - 1 < length (names_of txns) = omega (arith, h.0, h.1, length-map txns (λ (t : Txn). t.name)) in
     let free = name_free name named in
-    let a : name_in name ≡ Some name = ap (λ (b : Bool). cond b (Some name) None) named in
     let p : position (bytes_eq name) (names_of txns) ≡ Some (txn.0 - 1) =
     ap (λ (l : List ℕ). position (bytes_eq l) (names_of txns)) (name_at_number txns txn.0)
     ∙ place_of_name (names_of txns) (txn.0 - 1) differ lt in
     let is : txn_no (txn.0 - 1 + 1) ≡ txn = ap (λ (n : ℕ). number_of n) (number_again txn.0 h.0) in
-    ap (λ (b : Bool). must BadLine b >>= λ _. txn_named (names_of txns) (Plain name) >>= λ t. Ok (Submit t)) free
-    ∙ ap (λ (o : Option (List ℕ)). (known UnknownName o >>=
-    λ n. known UnknownName (number_named (names_of txns) n) >>= λ m. Ok (txn_no m)) >>=
-    λ t. Ok (Submit t)) a
-    ∙ ap (λ (o : Option ℕ). (known UnknownName (option_map (λ place. place + 1) o) >>= λ m. Ok (txn_no m)) >>= λ t. Ok (Submit t)) p
-    ∙ ap (λ (t : TxnNo). Ok (Submit t)) is
+    rw (free, named, p) (ap (λ (t : TxnNo). Ok (Submit t)) is)
 
 names_one : (cat : Catalogue) (txns : List Txn) (e : Event) → All (IsValidTxn cat) txns → IsValidEvent cat (length txns) e → NamesOne txns e
 names_one cat txns (Submit txn) valid h = name_fine (name_of_txn txns txn.0) (submitted_name cat txns txn.0 valid h)
-names_one cat txns (Deliver from to place) valid h = tt
-names_one cat txns (Lose from to place) valid h = tt
-names_one cat txns (Repeat from to place) valid h = tt
-names_one cat txns (Resend from to) valid h = tt
-names_one cat txns (Tick tm n) valid h = tt
-names_one cat txns Settle valid h = tt
-names_one cat txns Redeclare valid h = tt
-names_one cat txns (Down dm) valid h = tt
-names_one cat txns (Up dm) valid h = tt
+names_one cat txns _ valid h = tt
 
 record IsFresh (submitted : List TxnNo) (e : Event) (es : List Event) : Type 0 where
   new : is_submitted submitted e ≡ false
@@ -88,26 +75,15 @@ fresh submitted (Submit txn) es d =
     ∙ ap (λ (l : List ℕ). l ++ filter_map submitted_by es)
     (sym (map-append (λ (t : TxnNo). t.0) submitted (txn ∷ []))) in
     record { new = sym (list_any-map (λ (n : ℕ). n == txn.0) (λ (t : TxnNo). t.0) submitted) ∙ none; distinct = subst AreDistinct joined d }
-fresh submitted (Deliver from to place) es d = record { new = refl; distinct = d }
-fresh submitted (Lose from to place) es d = record { new = refl; distinct = d }
-fresh submitted (Repeat from to place) es d = record { new = refl; distinct = d }
-fresh submitted (Resend from to) es d = record { new = refl; distinct = d }
-fresh submitted (Tick tm n) es d = record { new = refl; distinct = d }
-fresh submitted Settle es d = record { new = refl; distinct = d }
-fresh submitted Redeclare es d = record { new = refl; distinct = d }
-fresh submitted (Down dm) es d = record { new = refl; distinct = d }
-fresh submitted (Up dm) es d = record { new = refl; distinct = d }
+fresh submitted _ es d = record { new = refl; distinct = d }
 
 -- ---- events
 
 still : (place : Place) → takes_events place ≡ true → is_ended place ≡ false
-still places.Rows t = refl
-still places.Between t = refl
-still places.Declared t = refl
-still places.Events t = refl
 still (places.Inside h) t = absurd cc
 still (places.Listing list) t = absurd cc
 still places.Ended t = absurd cc
+still _ t = refl
 
 record MayComeNext (cat : Catalogue) (place : Place) (lists : List (List ClassPart)) (submitted : List TxnNo) (events : List Event) (e : Event) : Type 0 where
   takes : takes_events place ≡ true
@@ -123,16 +99,21 @@ event_rules_again : (cat : Catalogue) (place : Place) (rows : List (RelNo × Lis
     (scheduled places.Events rows written txns lists classes (with_submitted submitted e)
     (events ++ e ∷ []))
 event_rules_again cat place rows written txns lists classes submitted events e reading r h =
-    let st : State = scheduled place rows written txns lists classes submitted events in
-    let to : State = scheduled places.Events rows written txns lists classes (with_submitted submitted e) (events ++ e ∷ []) in
     let c : ltb (length events) MAX_EVENTS ≡ true = lt-ltb (length events) MAX_EVENTS h.room in
-    ap (λ (b : Bool). must BadLine b >>= λ _. reading >>= λ event. with_event cat st event) h.takes
-    ∙ ap (λ (q : Result Event WorkRule). q >>= λ event. with_event cat st event) r
-    ∙ ap (λ (b : Bool). must SubmittedTwice (not b) >>=
-    λ _. must BadEvent (may_follow cat.dms (length lists) events e) >>=
-    λ _. must (TooMany counts.Event) (nat_lt (length events) MAX_EVENTS) >>= λ _. Ok to) h.new
-    ∙ ap (λ (b : Bool). must BadEvent b >>= λ _. must (TooMany counts.Event) (nat_lt (length events) MAX_EVENTS) >>= λ _. Ok to) h.may
-    ∙ ap (λ (b : Bool). must (TooMany counts.Event) b >>= λ _. Ok to) c
+    rw (h.takes, r, h.new, h.may, c) refl
+
+event_again : (cat : Catalogue) → IsKnown cat → (txns : List Txn) (e : Event) → All (IsValidTxn cat) txns
+    → repeats (names_of txns) ≡ false → IsValidEvent cat (length txns) e
+    → event_of (event_key e) cat (names_of txns) (behind_key txns e) ≡ Ok e
+event_again cat k txns (Submit txn) valid differ h = submit_again cat txns txn valid differ h
+event_again cat k txns (Deliver from to n) valid differ h = let a = place_again cat k from to n h.0 h.1 in rw a refl
+event_again cat k txns (Lose from to n) valid differ h = let a = place_again cat k from to n h.0 h.1 in rw a refl
+event_again cat k txns (Repeat from to n) valid differ h = let a = place_again cat k from to n h.0 h.1 in rw a refl
+event_again cat k txns (Resend from to) valid differ h = resend_again cat k from to h
+event_again cat k txns (Tick tm n) valid differ h = tick_again cat k tm n h.0 h.1
+event_again cat k txns (Down dm) valid differ h = down_again cat k dm h
+event_again cat k txns (Up dm) valid differ h = up_again cat k dm h
+event_again cat k txns _ valid differ h = refl
 
 event_step : (cat : Catalogue) → IsKnown cat → (place : Place) (rows : List (RelNo × List Value))
     (written : ℕ) (txns : List Txn) (lists : List (List ClassPart)) (classes : ℕ) (submitted : List TxnNo)
@@ -141,80 +122,15 @@ event_step : (cat : Catalogue) → IsKnown cat → (place : Place) (rows : List 
     → IsStep cat (scheduled place rows written txns lists classes submitted events)
     (scheduled places.Events rows written txns lists classes (with_submitted submitted e)
     (events ++ e ∷ [])) (line_bytes (event_words txns e))
-event_step cat k place rows written txns lists classes submitted events (Submit txn) valid differ h c =
-    let e : Event = Submit txn in
-    line_step cat (scheduled place rows written txns lists classes submitted events)
-    (scheduled places.Events rows written txns lists classes (with_submitted submitted e)
-    (events ++ e ∷ [])) (keys.Event ekeys.Submit) (Plain (name_of_txn txns txn.0) ∷ [])
-    (still place c.takes) (event_fine cat k txns e h (names_one cat txns e valid h))
+event_step cat k place rows written txns lists classes submitted events e valid differ h c =
+    let st : State = scheduled place rows written txns lists classes submitted events in
+    let to : State = scheduled places.Events rows written txns lists classes (with_submitted submitted e) (events ++ e ∷ []) in
+    let fine : AreFine (Plain (event_key_bytes (event_key e)) ∷ behind_key txns e) =
+    (keyword_fine (keys.Event (event_key e)), behind_fine cat k txns e h (names_one cat txns e valid h)) in
+    subst (λ (l : List Word). IsStep cat st to (line_bytes l)) (words_of_event txns e)
+    (line_step cat st to (keys.Event (event_key e)) (behind_key txns e) (still place c.takes) fine
     (event_rules_again cat place rows written txns lists classes submitted events e
-    (submit_of (names_of txns) (Plain (name_of_txn txns txn.0) ∷ []))
-    (submit_again cat txns txn valid differ h) c)
-event_step cat k place rows written txns lists classes submitted events (Deliver from to n) valid differ h c =
-    let e : Event = Deliver from to n in
-    let ws : List Word = site_word from ∷ site_word to ∷ count_word n ∷ [] in
-    line_step cat (scheduled place rows written txns lists classes submitted events)
-    (scheduled places.Events rows written txns lists classes (with_submitted submitted e)
-    (events ++ e ∷ [])) (keys.Event ekeys.Deliver) ws (still place c.takes) (event_fine cat k txns e h tt)
-    (event_rules_again cat place rows written txns lists classes submitted events e (deliver_of cat ws)
-    (ap (λ (r : Result (Site × Site × ℕ) WorkRule). r >>=
-    λ (p : Site × Site × ℕ). Ok (Deliver p.0 p.1 p.2)) (place_again cat k from to n h.0 h.1)) c)
-event_step cat k place rows written txns lists classes submitted events (Lose from to n) valid differ h c =
-    let e : Event = Lose from to n in
-    let ws : List Word = site_word from ∷ site_word to ∷ count_word n ∷ [] in
-    line_step cat (scheduled place rows written txns lists classes submitted events)
-    (scheduled places.Events rows written txns lists classes (with_submitted submitted e)
-    (events ++ e ∷ [])) (keys.Event ekeys.Lose) ws (still place c.takes) (event_fine cat k txns e h tt)
-    (event_rules_again cat place rows written txns lists classes submitted events e (lose_of cat ws)
-    (ap (λ (r : Result (Site × Site × ℕ) WorkRule). r >>= λ (p : Site × Site × ℕ). Ok (Lose p.0 p.1 p.2))
-    (place_again cat k from to n h.0 h.1)) c)
-event_step cat k place rows written txns lists classes submitted events (Repeat from to n) valid differ h c =
-    let e : Event = Repeat from to n in
-    let ws : List Word = site_word from ∷ site_word to ∷ count_word n ∷ [] in
-    line_step cat (scheduled place rows written txns lists classes submitted events)
-    (scheduled places.Events rows written txns lists classes (with_submitted submitted e)
-    (events ++ e ∷ [])) (keys.Event ekeys.Repeat) ws (still place c.takes) (event_fine cat k txns e h tt)
-    (event_rules_again cat place rows written txns lists classes submitted events e (repeat_of cat ws)
-    (ap (λ (r : Result (Site × Site × ℕ) WorkRule). r >>=
-    λ (p : Site × Site × ℕ). Ok (Repeat p.0 p.1 p.2)) (place_again cat k from to n h.0 h.1)) c)
-event_step cat k place rows written txns lists classes submitted events (Resend from to) valid differ h c =
-    let e : Event = Resend from to in
-    let ws : List Word = site_word from ∷ site_word to ∷ [] in
-    line_step cat (scheduled place rows written txns lists classes submitted events)
-    (scheduled places.Events rows written txns lists classes (with_submitted submitted e)
-    (events ++ e ∷ [])) (keys.Event ekeys.Resend) ws (still place c.takes) (event_fine cat k txns e h tt)
-    (event_rules_again cat place rows written txns lists classes submitted events e (resend_of cat ws) (resend_again cat k from to h) c)
-event_step cat k place rows written txns lists classes submitted events (Tick tm n) valid differ h c =
-    let e : Event = Tick tm n in
-    let ws : List Word = site_word (T tm) ∷ count_word n ∷ [] in
-    line_step cat (scheduled place rows written txns lists classes submitted events)
-    (scheduled places.Events rows written txns lists classes (with_submitted submitted e)
-    (events ++ e ∷ [])) (keys.Event ekeys.Tick) ws (still place c.takes) (event_fine cat k txns e h tt)
-    (event_rules_again cat place rows written txns lists classes submitted events e (tick_of cat ws) (tick_again cat k tm n h.0 h.1) c)
-event_step cat k place rows written txns lists classes submitted events Settle valid differ h c =
-    line_step cat (scheduled place rows written txns lists classes submitted events)
-    (scheduled places.Events rows written txns lists classes submitted (events ++ Settle ∷ []))
-    (keys.Event ekeys.Settle) [] (still place c.takes) (event_fine cat k txns Settle h tt)
-    (event_rules_again cat place rows written txns lists classes submitted events Settle (settle_of []) refl c)
-event_step cat k place rows written txns lists classes submitted events Redeclare valid differ h c =
-    line_step cat (scheduled place rows written txns lists classes submitted events)
-    (scheduled places.Events rows written txns lists classes submitted (events ++ Redeclare ∷ []))
-    (keys.Event ekeys.Redeclare) [] (still place c.takes) (event_fine cat k txns Redeclare h tt)
-    (event_rules_again cat place rows written txns lists classes submitted events Redeclare (redeclare_of []) refl c)
-event_step cat k place rows written txns lists classes submitted events (Down dm) valid differ h c =
-    let e : Event = Down dm in
-    let ws : List Word = site_word (D dm) ∷ [] in
-    line_step cat (scheduled place rows written txns lists classes submitted events)
-    (scheduled places.Events rows written txns lists classes (with_submitted submitted e)
-    (events ++ e ∷ [])) (keys.Event ekeys.Down) ws (still place c.takes) (event_fine cat k txns e h tt)
-    (event_rules_again cat place rows written txns lists classes submitted events e (down_of cat ws) (down_again cat k dm h) c)
-event_step cat k place rows written txns lists classes submitted events (Up dm) valid differ h c =
-    let e : Event = Up dm in
-    let ws : List Word = site_word (D dm) ∷ [] in
-    line_step cat (scheduled place rows written txns lists classes submitted events)
-    (scheduled places.Events rows written txns lists classes (with_submitted submitted e)
-    (events ++ e ∷ [])) (keys.Event ekeys.Up) ws (still place c.takes) (event_fine cat k txns e h tt)
-    (event_rules_again cat place rows written txns lists classes submitted events e (up_of cat ws) (up_again cat k dm h) c)
+    (event_of (event_key e) cat (names_of txns) (behind_key txns e)) (event_again cat k txns e valid differ h) c))
 
 record AreEvents (cat : Catalogue) (st : State) (lines : List (List ℕ)) (rows : List (RelNo × List Value))
     (written : ℕ) (txns : List Txn) (lists : List (List ClassPart)) (classes : ℕ)
@@ -251,7 +167,7 @@ events_chain cat k rows written txns lists classes valid differ (e ∷ es) place
     }) in
     let joined_on : (events ++ e ∷ []) ++ es ≡ events ++ e ∷ es = append_assoc events (e ∷ []) es in
     let more = events_chain cat k rows written txns lists classes valid differ es places.Events
-    (with_submitted submitted e) (events ++ e ∷ []) refl h.1 f.distinct (omega (arith, few, len))
+    (with_submitted submitted e) (events ++ e ∷ []) refl h.1 f.distinct (omega (arith, len))
     (subst (AreTimely cat.dms (length lists)) (sym joined_on) y) in
     let mid : State = scheduled places.Events rows written txns lists classes (with_submitted submitted e) (events ++ e ∷ []) in
     record {
@@ -272,20 +188,13 @@ events_chain cat k rows written txns lists classes valid differ (e ∷ es) place
 lists_from : (place : Place) → takes_txns place ≡ true → takes_lists place ≡ true
 lists_from places.Rows t = refl
 lists_from places.Between t = refl
-lists_from (places.Inside h) t = absurd cc
-lists_from (places.Listing list) t = absurd cc
-lists_from places.Declared t = absurd cc
-lists_from places.Events t = absurd cc
-lists_from places.Ended t = absurd cc
+lists_from _ t = absurd cc
 
 events_from : (place : Place) → takes_lists place ≡ true → takes_events place ≡ true
 events_from places.Rows t = refl
 events_from places.Between t = refl
 events_from places.Declared t = refl
-events_from (places.Inside h) t = absurd cc
-events_from (places.Listing list) t = absurd cc
-events_from places.Events t = absurd cc
-events_from places.Ended t = absurd cc
+events_from _ t = absurd cc
 
 end_step : (cat : Catalogue) (place : Place) (rows : List (RelNo × List Value)) (written : ℕ)
     (txns : List Txn) (lists : List (List ClassPart)) (classes : ℕ) (submitted : List TxnNo)
@@ -296,7 +205,7 @@ end_step cat place rows written txns lists classes submitted events t =
     line_step cat (scheduled place rows written txns lists classes submitted events)
     (scheduled places.Ended rows written txns lists classes submitted events) keys.End [] (still place t)
     (keyword_fine keys.End, tt)
-    (ap (λ (b : Bool). must BadLine b >>= λ _. Ok (scheduled places.Ended rows written txns lists classes submitted events)) t)
+    (rw t refl)
 
 record IsWhole (cat : Catalogue) (w : Workload) : Type 0 where
   written : ℕ
@@ -305,9 +214,7 @@ record IsWhole (cat : Catalogue) (w : Workload) : Type 0 where
   chain : Chain cat (nothing_read cat) (map line_bytes (lines_of cat w)) (scheduled places.Ended w.rows written w.txns w.lists classes submitted w.events)
 
 five_mapped : {A B : Type 0} (f : A → B) (a b c d e : List A) → map f (a ++ b ++ c ++ d ++ e) ≡ map f a ++ map f b ++ map f c ++ map f d ++ map f e
-five_mapped f a b c d e = map-append f (a ++ b ++ c ++ d) e
-    ∙ ap (λ l. l ++ map f e) (map-append f (a ++ b ++ c) d ∙ ap (λ l. l ++ map f d) (map-append f (a ++ b) c
-    ∙ ap (λ l. l ++ map f c) (map-append f a b)))
+five_mapped f a b c d e = simp map-append
 
 whole_chain : (cat : Catalogue) → IsKnown cat → (w : Workload) → IsValid cat w → IsWhole cat w
 whole_chain cat k w v =

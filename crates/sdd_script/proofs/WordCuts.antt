@@ -1,13 +1,10 @@
 -- A list cut at the first item that passes, both ways.
 use Rattle.sdd_script.proofs.All.{Bool, List, None, Option, Plain, Quoted, Some, Word, [], add-one, after_first, ap, append_assoc, arith, before_first, before_point, behind_point, bytes_eq-Decides, cond, cut_at, drop, drop-cons, drop_all, drop_at, eqb-true, false, get_or, has_point, is_key, is_point, is_some, le-ltb, length, length-append, lt-ltb, nat_lt, nat_lt as ltb, option_map, place_if, position, position-Some, position_or_len, refl, sym, take, take-append-drop, take_all, take_at, true, ℕ, ◌++◌, ◌+◌, ◌<◌, ◌∙◌, ◌∷◌, ◌≡◌}
+use Rattle.sdd_script.proofs.StepLaws.{some_is}
 
 abbrev pub NonePasses : {A : Type 0} → (A → Bool) → List A → Type 0
 NonePasses p [] = Unit {0}
 NonePasses p (x ∷ xs) = (p x ≡ false) × NonePasses p xs
-
-pub none-append : {A : Type 0} (p : A → Bool) (xs ys : List A) → NonePasses p xs → NonePasses p ys → NonePasses p (xs ++ ys)
-none-append p [] ys h k = k
-none-append p (x ∷ xs) ys h k = (h.0, none-append p xs ys h.1 k)
 
 pub first_at : {A : Type 0} (p : A → Bool) (xs : List A) (x : A) (rest : List A) → NonePasses p xs → p x ≡ true
     → position_or_len p (xs ++ x ∷ rest) ≡ length xs
@@ -22,8 +19,7 @@ pub after_again : {A : Type 0} (p : A → Bool) (xs : List A) (x : A) (rest : Li
     → after_first p (xs ++ x ∷ rest) ≡ rest
 after_again p xs x rest h e =
     let n : length (xs ++ x ∷ []) ≡ position_or_len p (xs ++ x ∷ rest) + 1 = rw (first_at p xs x rest h e) (omega (arith, length-append xs (x ∷ []))) in
-    ap (λ l. drop (position_or_len p (xs ++ x ∷ rest) + 1) l) (sym (append_assoc xs (x ∷ []) rest))
-    ∙ drop_at (xs ++ x ∷ []) rest (position_or_len p (xs ++ x ∷ rest) + 1) n
+    cc (append_assoc xs (x ∷ []) rest, drop_at (xs ++ x ∷ []) rest (position_or_len p (xs ++ x ∷ rest) + 1) n)
 
 pub from_again : {A : Type 0} (p : A → Bool) (xs : List A) (x : A) (rest : List A) → NonePasses p xs
     → p x ≡ true → drop (position_or_len p (xs ++ x ∷ rest)) (xs ++ x ∷ rest) ≡ x ∷ rest
@@ -59,12 +55,9 @@ none_from p xs h = drop_all (position_or_len p xs) xs (omega (arith, none_at p x
 pub joined_again : {A : Type 0} (p : A → Bool) (xs : List A) → before_first p xs ++ drop (position_or_len p xs) xs ≡ xs
 joined_again p xs = take-append-drop (position_or_len p xs) xs
 
-is_that : (key : List ℕ) (w : Word) → is_key key w ≡ true → w ≡ Plain key
-is_that key (Plain bytes) e = ap (λ (l : List ℕ). Plain l) ((bytes_eq-Decides bytes key).0 e)
-is_that key (Quoted text) e = absurd cc
-
 pub key_is_that : (key : List ℕ) (w : Word) → is_key key w ≡ true → w ≡ Plain key
-key_is_that key w e = is_that key w e
+key_is_that key (Plain bytes) e = ap (λ (l : List ℕ). Plain l) ((bytes_eq-Decides bytes key).0 e)
+key_is_that key (Quoted text) e = absurd cc
 
 pub is_key_again : (key : List ℕ) → is_key key (Plain key) ≡ true
 is_key_again key = (bytes_eq-Decides key key).1 refl
@@ -75,25 +68,8 @@ key_cut key ws k e =
     let d : Word = Quoted [] in
     let p = position-Some (is_key key) ws k d e in
     let lt : k < length ws = p.0 in
-    let is : get_or ws k d ≡ Plain key = is_that key (get_or ws k d) p.1 in
+    let is : get_or ws k d ≡ Plain key = key_is_that key (get_or ws k d) p.1 in
     sym (take-append-drop k ws) ∙ ap (λ l. take k ws ++ l) (rw (drop-cons ws k d, is, add-one) refl)
-
-abbrev some_pair : List Word → List Word → Option (List Word × List Word)
-some_pair a b = Some (a, b)
-
-abbrev left_of : Option (List Word × List Word) → List Word
-left_of None = []
-left_of (Some x) = x.0
-
-abbrev right_of : Option (List Word × List Word) → List Word
-right_of None = []
-right_of (Some x) = x.1
-
-firsts : (a b c d : List Word) → some_pair a c ≡ some_pair b d → a ≡ b
-firsts a b c d e = ap left_of e
-
-seconds : (a b c d : List Word) → some_pair a c ≡ some_pair b d → c ≡ d
-seconds a b c d e = ap right_of e
 
 abbrev cut_there : List Word → ℕ → List Word × List Word
 cut_there ws k = (take k ws, drop (k + 1) ws)
@@ -102,9 +78,10 @@ cut_if : (key : List ℕ) (ws before behind : List Word) (o : Option ℕ) → po
     → option_map (cut_there ws) o ≡ Some (before, behind) → ws ≡ before ++ Plain key ∷ behind
 cut_if key ws before behind None p e = absurd cc
 cut_if key ws before behind (Some k) p e =
-    let a : take k ws ≡ before = firsts (take k ws) before (drop (k + 1) ws) behind e in
-    let b : drop (k + 1) ws ≡ behind = seconds (take k ws) before (drop (k + 1) ws) behind e in
-    key_cut key ws k p ∙ ap (λ (l : List Word). l ++ Plain key ∷ drop (k + 1) ws) a ∙ ap (λ (l : List Word). before ++ Plain key ∷ l) b
+    let cut = some_is {A = List Word × List Word} (cut_there ws k) (before, behind) e in
+    let a : take k ws ≡ before = ap (λ (x : List Word × List Word). x.0) cut in
+    let b : drop (k + 1) ws ≡ behind = ap (λ (x : List Word × List Word). x.1) cut in
+    rw (← a, ← b) (key_cut key ws k p)
 
 pub cut_takes : (key : List ℕ) (ws before behind : List Word) → cut_at key ws ≡ Some (before, behind) → ws ≡ before ++ Plain key ∷ behind
 cut_takes key ws before behind e = cut_if key ws before behind (position (is_key key) ws) refl e

@@ -28,24 +28,21 @@ plain-append (c ∷ a) b h k = (h.0, h.1, no_space-append a b h.2 k)
 
 -- ---- names
 
-not_it : (p : ℕ → Bool) (b k : ℕ) → p k ≡ false → p b ≡ true → b ≢ k
+pub not_it : (p : ℕ → Bool) (b k : ℕ) → p k ≡ false → p b ≡ true → b ≢ k
 not_it p b k other e same = let q : p b ≡ p k = ap p same in absurd cc
 
-names_no_newline : (bs : List ℕ) → list_all is_name_byte bs ≡ true → HasNoNewline bs
-names_no_newline [] e = tt
-names_no_newline (b ∷ bs) e = let h = both_hold (is_name_byte b) (list_all is_name_byte bs) e in (not_it is_name_byte b 10 refl h.0, names_no_newline bs h.1)
+-- bytes that all pass a test which a newline (a space, a point) doesn't
+pub no_newlines : (p : ℕ → Bool) (bs : List ℕ) → p 10 ≡ false → list_all p bs ≡ true → HasNoNewline bs
+no_newlines p [] n e = tt
+no_newlines p (b ∷ bs) n e = let h = both_hold (p b) (list_all p bs) e in (not_it p b 10 n h.0, no_newlines p bs n h.1)
 
-names_no_space : (bs : List ℕ) → list_all is_name_byte bs ≡ true → HasNoSpace bs
-names_no_space [] e = tt
-names_no_space (b ∷ bs) e = let h = both_hold (is_name_byte b) (list_all is_name_byte bs) e in (not_it is_name_byte b 32 refl h.0, names_no_space bs h.1)
+pub no_spaces : (p : ℕ → Bool) (bs : List ℕ) → p 32 ≡ false → list_all p bs ≡ true → HasNoSpace bs
+no_spaces p [] n e = tt
+no_spaces p (b ∷ bs) n e = let h = both_hold (p b) (list_all p bs) e in (not_it p b 32 n h.0, no_spaces p bs n h.1)
 
-pub names_no_point : (bs : List ℕ) → list_all is_name_byte bs ≡ true → NonePasses is_point bs
-names_no_point [] e = tt
-names_no_point (b ∷ bs) e = let h =
-    both_hold (is_name_byte b) (list_all is_name_byte bs) e in (
-      ne_eqb b 46 (not_it is_name_byte b 46 refl h.0),
-      names_no_point bs h.1,
-    )
+pub no_points : (p : ℕ → Bool) (bs : List ℕ) → p 46 ≡ false → list_all p bs ≡ true → NonePasses is_point bs
+no_points p [] n e = tt
+no_points p (b ∷ bs) n e = let h = both_hold (p b) (list_all p bs) e in (ne_eqb b 46 (not_it p b 46 n h.0), no_points p bs n h.1)
 
 pub record IsNamed (bytes : List ℕ) : Type 0 where
   pub letter : begins_with_letter bytes ≡ true
@@ -60,19 +57,16 @@ name_parts bs e =
 
 plain_name : (bs : List ℕ) → begins_with_letter bs ≡ true → list_all is_name_byte bs ≡ true → IsPlain bs
 plain_name [] l e = absurd cc
-plain_name (b ∷ bs) l e = let h =
-    both_hold (is_name_byte b) (list_all is_name_byte bs) e in (
-      not_it is_name_byte b 34 refl h.0,
-      not_it is_name_byte b 32 refl h.0,
-      names_no_space bs h.1,
-    )
+plain_name (b ∷ bs) l e =
+    let h = both_hold (is_name_byte b) (list_all is_name_byte bs) e in
+    (not_it is_name_byte b 34 refl h.0, not_it is_name_byte b 32 refl h.0, no_spaces is_name_byte bs refl h.1)
 
 pub name_fine : (bs : List ℕ) → is_name bs ≡ true → IsFine (Plain bs)
 name_fine bs e = let n = name_parts bs e in record {
   word = plain_name bs n.letter n.bytes_are;
   utf8 = name_is_utf8 bs e;
   sound = refl;
-  line = names_no_newline bs n.bytes_are;
+  line = no_newlines is_name_byte bs refl n.bytes_are;
 }
 
 -- ---- words that are free
@@ -119,14 +113,6 @@ all_digits [] h = refl
 all_digits (c ∷ ds) h = let r = digit_from_value c (omega (arith, h.0)) in both_are (is_digit c)
     (list_all is_digit ds) (within c (omega (arith, r.0)) (omega (arith, r.1))) (all_digits ds h.1)
 
-digits_no_newline : (ds : List ℕ) → list_all is_digit ds ≡ true → HasNoNewline ds
-digits_no_newline [] e = tt
-digits_no_newline (c ∷ ds) e = let h = both_hold (is_digit c) (list_all is_digit ds) e in (not_it is_digit c 10 refl h.0, digits_no_newline ds h.1)
-
-digits_no_point : (ds : List ℕ) → list_all is_digit ds ≡ true → NonePasses is_point ds
-digits_no_point [] e = tt
-digits_no_point (c ∷ ds) e = let h = both_hold (is_digit c) (list_all is_digit ds) e in (ne_eqb c 46 (not_it is_digit c 46 refl h.0), digits_no_point ds h.1)
-
 digits_free : (ds rest : List ℕ) → 0 < length ds → list_all is_digit ds ≡ true → is_free (Plain (ds ++ rest)) ≡ true
 digits_free [] rest some e = absurd (omega arith)
 digits_free (c ∷ ds) rest some e = free_digit c (ds ++ rest) (both_hold (is_digit c) (list_all is_digit ds) e).0
@@ -145,12 +131,13 @@ pub decimal_free : (n : ℕ) (rest : List ℕ) → n < 2 ^ 63 → is_free (Plain
 decimal_free n rest lt = let d = decimal_parts n lt in digits_free (decimal n) rest d.some d.digits
 
 signed_no_newline : (z : ℤ) → mag z < 2 ^ 63 → HasNoNewline (signed_decimal z)
-signed_no_newline (pos n) lt = digits_no_newline (decimal n) (decimal_parts n lt).digits
-signed_no_newline (negsuc n) lt = ((λ e. omega arith), digits_no_newline (decimal (suc n)) (wide_parts (suc n) (omega (arith, lt))).digits)
+signed_no_newline (pos n) lt = no_newlines is_digit (decimal n) refl (decimal_parts n lt).digits
+signed_no_newline (negsuc n) lt =
+    ((λ e. omega arith), no_newlines is_digit (decimal (suc n)) refl (wide_parts (suc n) (omega (arith, lt))).digits)
 
 pub signed_no_point : (z : ℤ) → mag z < 2 ^ 63 → NonePasses is_point (signed_decimal z)
-signed_no_point (pos n) lt = digits_no_point (decimal n) (decimal_parts n lt).digits
-signed_no_point (negsuc n) lt = (refl, digits_no_point (decimal (suc n)) (wide_parts (suc n) (omega (arith, lt))).digits)
+signed_no_point (pos n) lt = no_points is_digit (decimal n) refl (decimal_parts n lt).digits
+signed_no_point (negsuc n) lt = (refl, no_points is_digit (decimal (suc n)) refl (wide_parts (suc n) (omega (arith, lt))).digits)
 
 pub number_fine : (z : ℤ) → mag z < 2 ^ 63 → IsFine (Plain (signed_decimal z))
 number_fine z lt = record {
@@ -230,18 +217,14 @@ no_column bytes h =
 pub value_names_no_column : (op : Op) (v : Value) → IsValue v → names_column op (value_word v) ≡ false
 value_names_no_column ops.Eq (values.Int z) h = no_column (signed_decimal z) (signed_no_point z h)
 value_names_no_column ops.Eq (values.Text text) h = refl
-value_names_no_column ops.Ne v h = refl
-value_names_no_column ops.Lt v h = refl
-value_names_no_column ops.Le v h = refl
-value_names_no_column ops.Gt v h = refl
-value_names_no_column ops.Ge v h = refl
+value_names_no_column _ v h = refl
 
 -- ---- columns of uses
 
 column_bytes_line : (n : ℕ) (name : List ℕ) → n < 2 ^ 63 → is_name name ≡ true → HasNoNewline (decimal n ++ 46 ∷ name)
 column_bytes_line n name lt e =
-    no_newline-append (decimal n) (46 ∷ name) (digits_no_newline (decimal n) (decimal_parts n lt).digits)
-    ((λ p. omega arith), names_no_newline name (name_parts name e).bytes_are)
+    no_newline-append (decimal n) (46 ∷ name) (no_newlines is_digit (decimal n) refl (decimal_parts n lt).digits)
+    ((λ p. omega arith), no_newlines is_name_byte name refl (name_parts name e).bytes_are)
 
 point : IsUtf8 (46 ∷ [])
 unfolding lib.Utf8.encode
@@ -251,7 +234,8 @@ pub column_fine : (n : ℕ) (name : List ℕ) → n < 2 ^ 63 → is_name name �
 column_fine n name lt e =
     let number = count_fine n lt in
     record {
-      word = plain-append (decimal n) (46 ∷ name) number.word ((λ p. omega arith), names_no_space name (name_parts name e).bytes_are);
+      word = plain-append (decimal n) (46 ∷ name) number.word
+          ((λ p. omega arith), no_spaces is_name_byte name refl (name_parts name e).bytes_are);
       utf8 = IsUtf8-append (decimal n) (46 ∷ name) number.utf8 (IsUtf8-append (46 ∷ []) name point (name_is_utf8 name e));
       sound = refl;
       line = column_bytes_line n name lt e;
@@ -261,17 +245,20 @@ pub column_free : (n : ℕ) (name : List ℕ) → n < 2 ^ 63 → is_free (Plain 
 column_free n name lt = decimal_free n (46 ∷ name) lt
 
 pub before_is : (n : ℕ) (name : List ℕ) → n < 2 ^ 63 → before_point (decimal n ++ 46 ∷ name) ≡ decimal n
-before_is n name lt = before_again is_point (decimal n) 46 name (digits_no_point (decimal n) (decimal_parts n lt).digits) refl
+before_is n name lt =
+    before_again is_point (decimal n) 46 name (no_points is_digit (decimal n) refl (decimal_parts n lt).digits) refl
 
 pub behind_is : (n : ℕ) (name : List ℕ) → n < 2 ^ 63 → behind_point (decimal n ++ 46 ∷ name) ≡ name
-behind_is n name lt = after_again is_point (decimal n) 46 name (digits_no_point (decimal n) (decimal_parts n lt).digits) refl
+behind_is n name lt =
+    after_again is_point (decimal n) 46 name (no_points is_digit (decimal n) refl (decimal_parts n lt).digits) refl
 
 pub column_looks : (n : ℕ) (name : List ℕ) → n < 2 ^ 63 → is_name name ≡ true → looks_like_column (Plain (decimal n ++ 46 ∷ name)) ≡ true
 column_looks n name lt e =
-    let p = position_again is_point (decimal n) 46 name (digits_no_point (decimal n) (decimal_parts n lt).digits) refl in
+    let p = position_again is_point (decimal n) 46 name (no_points is_digit (decimal n) refl (decimal_parts n lt).digits) refl in
     let a : has_point (decimal n ++ 46 ∷ name) ≡ true = rw p refl in
     let b = behind_is n name lt in
-    let c : has_point (behind_point (decimal n ++ 46 ∷ name)) ≡ false = rw b (no_point name (names_no_point name (name_parts name e).bytes_are)) in
+    let c : has_point (behind_point (decimal n ++ 46 ∷ name)) ≡ false =
+    rw b (no_point name (no_points is_name_byte name refl (name_parts name e).bytes_are)) in
     rw (a, c) refl
 
 whole_if : (ds : List ℕ) → 0 < length ds → list_all is_digit ds ≡ true → 48 < get_or ds 0 0 → whole_digits ds ≡ true

@@ -1,39 +1,15 @@
 -- Moves that are looked at one after the other leave the first with the fewest source rows.
-use Rattle.std.proofs.Common.{ℕ, ◌+◌, ◌<◌, nat_lt, ◌≡◌, refl, ap, sym, ◌∙◌, arith, Bool, true, false, cond, List, [], ◌∷◌, ◌++◌, length, filter, drop, get_or, Option, Some, None, ◌==◌, if◌then◌else◌}
-use Rattle.std.proofs.lemmas.Bool.{lt-ltb, ltb-true, le-ltb, ltb-false}
+use Rattle.std.proofs.Common.{ℕ, ◌+◌, ◌<◌, ◌≡◌, refl, ap, sym, ◌∙◌, arith, Bool, List, [], ◌∷◌, ◌++◌, length, filter, drop, get_or, Option, Some, None, rules}
 use Rattle.std.proofs.lemmas.List.Elements.{filter-append}
-use Rattle.std.specs.List.{flat_map}
 use Rattle.std.proofs.lemmas.List.{at_drop_more}
 use Rattle.sdd_lang.specs.declared.condition.Condition.{Condition}
-use Rattle.sdd_lang.specs.declared.condition.Condition.TheVariants.{Const, Same}
 use Rattle.sdd_semijoin.specs.declared.step.Step.{Step}
-use Rattle.sdd_semijoin.specs.Steps.{Join, Move, joins_from, moves, moves_by, rows_at, is_candidate, better, fewest, next_move}
+use Rattle.sdd_semijoin.specs.Steps.{Move, moves, is_candidate, better, fewest, next_move}
 use Rattle.sdd_semijoin.specs.Choosing.{moves_from, fewer, best_after}
 
 -- to put a move before the best of others, or after the best before it, is the same
-of_three : (counts : List ℕ) (b m s : Move) (p q : Bool)
-    → nat_lt (rows_at counts s.source.part) (rows_at counts m.source.part) ≡ p
-    → nat_lt (rows_at counts m.source.part) (rows_at counts b.source.part) ≡ q
-    → better counts b (cond p (Some s) (Some m)) ≡ better counts (cond q m b) (Some s)
-of_three counts b m s true true e f =
-    let g : nat_lt (rows_at counts s.source.part) (rows_at counts b.source.part) ≡ true =
-    lt-ltb (rows_at counts s.source.part) (rows_at counts b.source.part)
-    (omega (arith, ltb-true (rows_at counts s.source.part) (rows_at counts m.source.part) e, ltb-true (rows_at counts m.source.part) (rows_at counts b.source.part) f)) in
-    rw (g, e) refl
-of_three counts b m s true false e f = refl
-of_three counts b m s false true e f = rw (e, f) refl
-of_three counts b m s false false e f =
-    let g : nat_lt (rows_at counts s.source.part) (rows_at counts b.source.part) ≡ false =
-    le-ltb (rows_at counts s.source.part) (rows_at counts b.source.part)
-    (omega (arith, ltb-false (rows_at counts s.source.part) (rows_at counts m.source.part) e, ltb-false (rows_at counts m.source.part) (rows_at counts b.source.part) f)) in
-    rw (g, f) refl
-
 better_fewer : (counts : List ℕ) (b m : Move) (o : Option Move) → better counts b (better counts m o) ≡ better counts (fewer counts (Some b) m) o
-better_fewer counts b m None =
-    elim (nat_lt (rows_at counts m.source.part) (rows_at counts b.source.part)) as
-    (λ (t : Bool). cond t (Some m) (Some b) ≡ Some (cond t m b)) [ true ↦ refl | false ↦ refl ]
-better_fewer counts b m (Some s) =
-    of_three counts b m s (nat_lt (rows_at counts s.source.part) (rows_at counts m.source.part)) (nat_lt (rows_at counts m.source.part) (rows_at counts b.source.part)) refl refl
+better_fewer counts b m o = search rules
 
 after_is_better : (counts : List ℕ) (b : Move) (ms : List Move) → best_after counts (Some b) ms ≡ better counts b (fewest counts ms)
 after_is_better counts b [] = refl
@@ -48,15 +24,9 @@ best-append : (counts : List ℕ) (best : Option Move) (xs ys : List Move)
 best-append counts best [] ys = refl
 best-append counts best (x ∷ xs) ys = best-append counts (Some (fewer counts best x)) xs ys
 
-joins_split : (same : Bool) (j : Join) (rest : List Join)
-    → flat_map moves_by (if same then rest else j ∷ rest) ≡ flat_map moves_by (if same then [] else j ∷ []) ++ flat_map moves_by rest
-joins_split true j rest = refl
-joins_split false j rest = refl
-
 -- the moves of the first condition come first
 moves_split : (k : ℕ) (c : Condition) (rest : List Condition) → moves_from k (c ∷ rest) ≡ moves_from k (c ∷ []) ++ moves_from (k + 1) rest
-moves_split k (Const left op value) rest = refl
-moves_split k (Same left right) rest = joins_split (left.part == right.part) (record { number = k; left = left; right = right }) (joins_from (k + 1) rest)
+moves_split k c rest = grind arith
 
 pub none_before : (counts : List ℕ) (done : List Step) (conds : List Condition)
     → best_after counts None (filter (is_candidate counts done) (moves_from 1 conds)) ≡ next_move conds counts done

@@ -34,10 +34,8 @@ HoldEnoughAlong db ds space before (s ∷ rest) = HoldEnough db ds space before 
 
 -- equalities name parts of their query
 abbrev pub HasParts : Stmt → Type 0
-HasParts (Put rel row) = Unit {0}
 HasParts (Query out rels conds) = (left right : Ref) → Has conds (Same left right) → IsFrom1To (length rels) left.part × IsFrom1To (length rels) right.part
-HasParts (Update rel sets conds) = Unit {0}
-HasParts (Delete rel conds) = Unit {0}
+HasParts _ = Unit {0}
 
 module _ (ds : List ℕ) (m : Move) (before after : Space) (r : Reduces ds m before after) where
   -- a row stays held, where it has one of the values if it is of the target

@@ -18,7 +18,7 @@ pub use Rattle.sdd_attempt.proofs.site_module.Does.{DoesMore, all_noted, does_fr
 pub use Rattle.sdd_attempt.proofs.site_module.Finding.{found_at, map_twice, one_of}
 pub use Rattle.sdd_attempt.proofs.site_module.Making.{made_more, made_nothing}
 pub use Rattle.sdd_attempt.proofs.site_module.lang.ReadSetDecides.{each_both as all_parts}
-pub use Rattle.sdd_attempt.proofs.site_module.lang.catalog.Found.{map-map as map_map}
+pub use Rattle.std.proofs.lemmas.Simd.{map-map as map_map}
 pub use Rattle.sdd_attempt.specs.All.{Act, AllUpTo, AreEnough, AreEnoughAlong, AreTried, Ask, Attempt, AwaitsAt, Bases, Catalogue, ClassNo, Condition, D, Database, Delete, Did, Does, Entry, Era, Exchange, FitsAnswer, FitsCondition, FitsStatement, FitsTxn, FragNo, Handed, Has, Held, Hold, IsAwaited, IsDatabase, IsEntry, IsLineOf, IsOfHead, IsRelation, IsServed, IsWaiting, IsWhole, Item, Kept, Line, Log, MAX_CLASSES, Msg, Notes, Null, Phase, Put, Query, Queued, Ready, Rec, Records, Redeclared, Reduced, Reject, RelNo, Release, Row, Rows, Sends, Serves, ServesAt, Setting, Site, Stmt, Submits, T, Ticked, Ticking, TmNo, Tuple, Txn, TxnNo, U, Update, Use, Values, active, active_after, active_handed, active_sent, after_hand, answers_hand, ascending, asks_rows, at_zero, attempt_due, begins, bound_of, class_at, class_for, class_no, clock, commit_act, commit_next, contains, covers, current_era, dm_no, fetches_use, first_phase, first_some, fragment_of, fragments_for, fragments_in, handed, hands, head_of, is_empty, is_for, is_over, line_after, line_done, line_step, module_read, modules_of, nothing_noted, number_of, numbers_to, or_else, or_standing, part_of, product, pushed, pushed_by, queue, queue_after, read_set, reads_at, records_of, rejects, rel_of, restrictions_of, rows_of, send_due, send_next, sends_of_act, sent, standing_among, standing_of, start_act, start_next, started, starts_left, statement_uses, submits, ticked, ticked_by, time_at, timestamp, tried, uses_from, uses_in, uses_of, with_act, with_due_act, work_of, write_set, writes}
 pub use Rattle.sdd_attempt.specs.declared.standing.Standing.{Standing}
 pub use Rattle.sdd_attempt.specs.declared.standing.Standing.TheVariants.{Absent}

@@ -1,5 +1,5 @@
 -- The transactions of a valid workload fit each catalogue that is in force.
-use Rattle.sdd_verify.proofs.All.{All, All-cons, All-head, All-nil, All-tail, Catalogue, Event, FitsTxn, IsValid, IsValidTxn, List, Some, Submit, Txn, Workload, [], classes_in, era_at, eras_in, fits_era, submitted_by, subst, sym, ℕ, ◌∷◌, ◌≡◌}
+use Rattle.sdd_verify.proofs.All.{All, All-cons, All-head, All-nil, All-tail, Catalogue, FitsTxn, IsValid, IsValidTxn, List, Txn, Workload, [], classes_in, era_at, eras_in, fits_era, subst, sym, ℕ, ◌∷◌, ◌≡◌}
 use Rattle.sdd_verify.proofs.Submissions.{found_member}
 
 all_fit : (cat : Catalogue) (work : Workload) (n : ℕ) (txns : List Txn) → All (IsValidTxn cat) txns → All (FitsTxn (era_at cat (eras_in cat work) n)) txns
@@ -11,8 +11,3 @@ all_fit cat work n (t ∷ txns) all =
 pub txns_fit : (cat : Catalogue) (work : Workload) (eras : List Catalogue) → eras ≡ eras_in cat work → IsValid cat work
     → (n : ℕ) → All (FitsTxn (era_at cat eras n)) work.txns
 txns_fit cat work eras are valid n = subst (λ (es : List Catalogue). All (FitsTxn (era_at cat es n)) work.txns) (sym are) (all_fit cat work n work.txns valid.txns)
-
--- a transaction that an event submits fits what all fit
-pub submitted_fits : (cat : Catalogue) (txns : List Txn) (e : Event) (t : Txn) → All (FitsTxn cat) txns → submitted_by txns e ≡ Some t → FitsTxn cat t
-submitted_fits cat txns (Submit number) t all is = found_member (FitsTxn cat) txns _ t all is
-submitted_fits cat txns _ t all is = absurd cc

@@ -1,15 +1,5 @@
 -- Lines that have to come, one after the other.
-use Rattle.sdd_verify.proofs.All.{Err, List, [], bytes_eq, cond, false, passed, refl, true, ℕ, ◌++◌, ◌+◌, ◌>>=◌, ◌∷◌, ◌≡◌}
-
--- what comes after the first line
-pub after_line : (number : ℕ) (line : List ℕ) (more lines : List (List ℕ))
-    → passed number (line ∷ more) lines ≡ (passed number (line ∷ []) lines >>=
-    λ rest. passed rest.0 more rest.1)
-after_line number line more [] = refl
-after_line number line more (told ∷ lines) =
-    elim (bytes_eq told line) as (λ b. cond b (passed (number + 1) more lines)
-    (Err number) ≡ (cond b (passed (number + 1) [] lines) (Err number) >>=
-    λ rest. passed rest.0 more rest.1)) [ true ↦ refl | false ↦ refl ]
+use Rattle.sdd_verify.proofs.All.{Err, List, bytes_eq, cond, false, passed, refl, true, ℕ, ◌++◌, ◌+◌, ◌>>=◌, ◌∷◌, ◌≡◌}
 
 -- what comes after some lines
 pub after_lines : (number : ℕ) (some more lines : List (List ℕ))

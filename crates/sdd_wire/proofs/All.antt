@@ -33,3 +33,4 @@ pub use Rattle.std.proofs.lemmas.Str.{IsUtf8-from_is_utf8, is_utf8-from_IsUtf8}
 pub use Rattle.std.specs.Int.{from_be_bytes, to_be_bytes}
 pub use Rattle.std.specs.List.{AllByRecursion}
 pub use Rattle.std.specs.Str.{is_utf8}
+pub use Rattle.std.proofs.lemmas.Bool.Decides.{nat_tests}

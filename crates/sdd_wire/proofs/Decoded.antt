@@ -1,14 +1,10 @@
 -- What is decoded is spelled so, and what is spelled is decoded.
-use Rattle.sdd_wire.proofs.All.{All, Err, FitsMsg, GivesReading, IfOk, List, Msg, Ok, Result, WireFault, ap, arith, cases_lt, fault_in, get_or_past, inl, inr, length, message_in, spelled, subst, ℕ, ◌<◌, ◌^◌, ◌∙◌, ◌≡◌}
+use Rattle.sdd_wire.proofs.All.{All, Err, FitsMsg, GivesReading, IfOk, List, Msg, Ok, Result, WireFault, arith, cases_lt, fault_in, get_or_past, message_in, nat_tests, spelled, ℕ, ◌<◌, ◌^◌, ◌≡◌}
 use Rattle.sdd_wire.proofs.Laws.{AreBytes}
 use Rattle.sdd_wire.proofs.MessageLaws.{message_read_back, message_spelled_so}
 
 are_bytes : (bytes : List ℕ) → All (λ byte. byte < 2 ^ 8) bytes → AreBytes bytes
-are_bytes bytes h i =
-    elim (cases_lt i (length bytes)) [
-      | inl lt ↦ h i 0 lt
-      | inr le ↦ rw (get_or_past bytes i 0 le) (omega arith)
-    ]
+are_bytes bytes h i = grind (arith, nat_tests, cases_lt, get_or_past)
 
 pub law_spelled_so : (bytes : List ℕ) (msg : Msg) → All (λ byte. byte < 2 ^ 8) bytes
     → message_in bytes ≡ Ok msg → FitsMsg msg × (bytes ≡ spelled msg)
@@ -22,6 +18,4 @@ decoded_so bytes (Err fault) fits given = tt
 pub decoded_again : (bytes : List ℕ) (result : Result Msg WireFault) (msg : Msg)
     → GivesReading fault_in (λ found. found) result (message_in bytes) → FitsMsg msg → bytes ≡ spelled msg
     → GivesReading fault_in (λ found. found) result (Ok msg)
-decoded_again bytes result msg given fits is =
-    let read : message_in bytes ≡ Ok msg = ap message_in is ∙ message_read_back msg fits in
-    subst (λ (r : Result Msg ℕ). GivesReading fault_in (λ found. found) result r) read given
+decoded_again bytes result msg given fits is = grind (arith, nat_tests, message_read_back)

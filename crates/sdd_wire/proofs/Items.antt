@@ -1,5 +1,5 @@
 -- Items that a loop reads, one after the other.
-use Rattle.sdd_wire.proofs.All.{AllByRecursion, Bad, Err, Fails, List, NoMemory, Ok, Reading, Result, Source, WireFault, [], add-one, after, ap, append-nil, append_assoc, arith, fault_in, flat_map, flat_map_more, get_or, items_at, length, read_as, refl, suc, sym, take, take_more, zero, ℕ, ◌++◌, ◌+◌, ◌-◌, ◌<◌, ◌∙◌, ◌∷◌, ◌≡◌, ◌≤◌}
+use Rattle.sdd_wire.proofs.All.{AllByRecursion, Err, Fails, List, Ok, Reading, Result, Source, WireFault, [], add-one, after, ap, append-nil, append_assoc, arith, fault_in, flat_map, flat_map_more, get_or, items_at, length, nat_tests, read_as, refl, suc, sym, take, take_more, ℕ, ◌++◌, ◌+◌, ◌-◌, ◌<◌, ◌∙◌, ◌∷◌, ◌≡◌, ◌≤◌}
 
 -- what was read before, and what is still read
 abbrev pub with_front : {A : Type 0} → List A → Result (List A × Source) ℕ → Result (List A × Source) ℕ
@@ -26,27 +26,18 @@ goes_on {A = A} item front count i s t x total lt h so_far =
 pub ends : {A : Type 0} (item : Reading A) (e : WireFault) (front : List A) (count i : ℕ) (s : Source)
     (total : Result (List A × Source) ℕ) → i < count → Fails fault_in e (item s)
     → with_front front (items_at item (count - i) s) ≡ total → Fails fault_in e total
-ends item NoMemory front count i s total lt h so_far = tt
-ends item (Bad broken) front count i s total lt h so_far =
-    let k : count - i ≡ suc (count - (i + 1)) = omega arith in
-    let one : with_front front (items_at item (count - i) s) ≡ Err broken = rw (k, h) refl in
-    sym so_far ∙ one
+ends item e front count i s total lt h so_far = grind (arith, nat_tests)
 
 -- no item is left
 pub is_done : {A : Type 0} (item : Reading A) (front : List A) (count i : ℕ) (s : Source)
     (total : Result (List A × Source) ℕ) → count ≤ i
     → with_front front (items_at item (count - i) s) ≡ total → total ≡ Ok (front, s)
-is_done item front count i s total past so_far =
-    let k : count - i ≡ 0 = omega arith in
-    let one : with_front front (items_at item (count - i) s) ≡ Ok (front, s) =
-    rw k (ap (λ xs. Ok (xs, s)) (append-nil front)) in
-    sym so_far ∙ one
+is_done item front count i s total past so_far = grind (arith, nat_tests, append-nil)
 
 all_to : {A : Type 0} (P : A → Type 0) (xs : List A) (i : ℕ) (x : A) → i < length xs
     → x ≡ get_or xs i x → AllByRecursion P (take i xs) → P x → AllByRecursion P (take (suc i) xs)
-all_to P [] i x lt is h hx = absurd (omega arith)
-all_to P (y ∷ xs) zero x lt is h hx = (rw (← is) hx, tt)
 all_to P (y ∷ xs) (suc i) x lt is h hx = (h.0, all_to P xs i x (omega arith) is h.1 hx)
+all_to _ _ _ x lt is h hx = grind (arith, nat_tests)
 
 -- items of a kind, one more
 pub all_more : {A : Type 0} (P : A → Type 0) (xs : List A) (i : ℕ) (x : A) → i < length xs
@@ -57,8 +48,4 @@ all_more P xs i x lt is h hx = rw add-one (all_to P xs i x lt is h hx)
 pub put_more : {A : Type 0} (f : A → List ℕ) (xs : List A) (i : ℕ) (x : A) (start was now : List ℕ)
     → i < length xs → x ≡ get_or xs i x
     → was ≡ start ++ flat_map f (take i xs) → now ≡ was ++ f x → now ≡ start ++ flat_map f (take (i + 1) xs)
-put_more f xs i x start was now lt is before put =
-    let one : take i xs ++ x ∷ [] ≡ take (i + 1) xs =
-    ap (λ y. take i xs ++ y ∷ []) is ∙ sym (take_more xs i x lt) in
-    put ∙ ap (λ (l : List ℕ). l ++ f x) before ∙ flat_map_more f start (take i xs) x
-    ∙ ap (λ ys. start ++ flat_map f ys) one
+put_more f xs i x start was now lt is before put = grind (arith, nat_tests, take_more, flat_map_more)

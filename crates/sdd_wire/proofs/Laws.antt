@@ -1,6 +1,6 @@
 -- What is read is spelled so, and what is spelled is read: the law of one reading, and of one reading
 -- and then the next.
-use Rattle.sdd_wire.proofs.All.{Err, List, None, Ok, Option, Reading, Result, Some, Source, [], after, ap, append_assoc, get_or, known_at, meant, place, read_as, refl, subst, sym, ℕ, ◌++◌, ◌<◌, ◌>>=◌, ◌∙◌, ◌≡◌}
+use Rattle.sdd_wire.proofs.All.{List, Ok, Option, Reading, Result, Some, Source, [], after, ap, append_assoc, arith, get_or, known_at, meant, nat_tests, place, read_as, subst, sym, ℕ, ◌++◌, ◌<◌, ◌>>=◌, ◌∙◌, ◌≡◌}
 
 abbrev pub AreBytes : List ℕ → Type 0
 AreBytes bytes = (i : ℕ) → get_or bytes i 0 < 256
@@ -41,21 +41,14 @@ ok_is x y e = cc
 
 after_ok : {A B : Type 0} (r : Result (A × Source) ℕ) (next : A → Reading B) (y : B × Source)
     → after r next ≡ Ok y → (x : A) × (s : Source) × (r ≡ Ok (x, s)) × (next x s ≡ Ok y)
-after_ok (Ok x) next y e = (x.0, x.1, refl, e)
-after_ok (Err broken) next y e = absurd cc
+after_ok r next y e = grind (arith, nat_tests)
 
 taken_on : (s : Source) (front : List ℕ) (mid : Source) (text : List ℕ) (t : Source)
     → TakesText s front mid → TakesText mid text t → TakesText s (front ++ text) t
-taken_on s front mid text t first second = record {
-  parts = first.parts ∙ ap (λ (l : List ℕ). front ++ l) second.parts ∙ sym (append_assoc front text t.left);
-  bytes = second.bytes;
-}
+taken_on s front mid text t first second = grind (arith, nat_tests, append_assoc)
 
 spelled_front : (s : Source) (text front : List ℕ) (t : Source) → text ≡ front → TakesText s text t → TakesText s front t
-spelled_front s text front t is takes = record {
-  parts = takes.parts ∙ ap (λ (l : List ℕ). l ++ t.left) is;
-  bytes = takes.bytes;
-}
+spelled_front s text front t is takes = grind (arith, nat_tests)
 
 -- one reading and then the next
 pub only_then : {A B : Type 0} {P : A → List ℕ → Type 0} {first : Reading A} {next : A → Reading B}
@@ -96,23 +89,11 @@ only_last {B = B} {spelling = spelling} {last = last} {Q = Q} made law then = re
 
 -- nothing more is read
 pub only_done : {A : Type 0} (x : A) (Q : A → List ℕ → Type 0) → Q x [] → OnlyReads Q (read_as x)
-only_done {A = A} x Q h = record {
-  took = λ s t y bytes e.
-      let same = ok_is (x, s) (y, t) e in
-      record {
-        text = [];
-        takes = subst (λ (p : A × Source). TakesText s [] p.1) same (record { parts = refl; bytes = bytes });
-        holds = subst (λ (p : A × Source). Q p.0 []) same h;
-      };
-}
+only_done {A = A} x Q h = grind (arith, nat_tests, ok_is)
 
 pub back_next : {A B : Type 0} {first : Reading A} {text more : List ℕ} {x : A} {y : B} (next : A → Reading B)
     → ReadsBack first text x → ReadsBack (next x) more y → ReadsBack (first >>= next) (text ++ more) y
-back_next {first = first} {text = text} {more = more} {x = x} next a b = record {
-  reads = λ whole rest.
-      ap (λ (l : List ℕ). after (first (left whole l)) next) (append_assoc text more rest)
-      ∙ ap (λ r. after r next) (a.reads whole (more ++ rest)) ∙ b.reads whole rest;
-}
+back_next {first = first} {text = text} {more = more} {x = x} next a b = grind (arith, nat_tests, append_assoc)
 
 pub back_last : {A B : Type 0} {last : Reading A} {text : List ℕ} {x : A} (made : A → B)
     → ReadsBack last text x → ReadsBack (last >>= (λ y. read_as (made y))) text (made x)
@@ -133,8 +114,7 @@ only_weaker Q only weaker = record {
 -- a field that stands for something
 known_ok : {A : Type 0} (at : ℕ) (o : Option A) (s : Source) (y : A × Source)
     → known_at at o s ≡ Ok y → (o ≡ Some y.0) × (s ≡ y.1)
-known_ok at None s y e = absurd cc
-known_ok at (Some x) s y e = (ap (λ p. Some p.0) (ok_is (x, s) y e), ap (λ p. p.1) (ok_is (x, s) y e))
+known_ok at o s y e = grind (arith, nat_tests)
 
 pub only_meant : {A B : Type 0} {fits : A → Type 0} {spelling : A → List ℕ} {field : Reading A}
     {Q : B → List ℕ → Type 0} (meaning : A → Option B)

@@ -1,5 +1,5 @@
 -- The laws of messages: of the fields behind each tag, and of a tag with its fields.
-use Rattle.sdd_wire.proofs.All.{Ask, Change, ClassNo, Cond, Done, Err, Fetch, FitsChange, FitsCond, FitsList, FitsMsg, FitsPair, FitsRow, FitsU32, FitsU64, FitsUse, Held, Hold, List, Msg, Null, Ok, Read, Reading, Ready, Reduce, Reduced, Reject, Release, Result, Rows, Ship, Some, Source, Ts, TxnNo, Use, Value, Values, Write, [], after, ap, append-nil, append_assoc, change_at, cond_at, fields_by_tag, if◌then◌else◌, is_empty, known_at, length, list_at, number_at, numbered, pair_at, place, read_as, refl, row_at, source_of, spelled, spelled_change, spelled_cond, spelled_list, spelled_pair, spelled_row, spelled_u32, spelled_u64, spelled_use, subst, sym, tail_of, use_at, w32, w64, whole, ℕ, ◌++◌, ◌∙◌, ◌∷◌, ◌≡◌}
+use Rattle.sdd_wire.proofs.All.{Ask, Change, ClassNo, Cond, Done, Err, Fetch, FitsChange, FitsCond, FitsList, FitsMsg, FitsPair, FitsRow, FitsU32, FitsU64, FitsUse, Held, Hold, List, Msg, Null, Ok, Read, Reading, Ready, Reduce, Reduced, Reject, Release, Result, Rows, Ship, Some, Source, Ts, TxnNo, Use, Value, Values, Write, [], ap, append-nil, append_assoc, arith, change_at, cond_at, fields_by_tag, if◌then◌else◌, is_empty, length, list_at, nat_tests, number_at, numbered, pair_at, read_as, refl, row_at, source_of, spelled, spelled_change, spelled_cond, spelled_list, spelled_pair, spelled_row, spelled_u32, spelled_u64, spelled_use, subst, sym, tail_of, use_at, w32, w64, whole, ℕ, ◌++◌, ◌∙◌, ◌∷◌, ◌≡◌}
 use Rattle.sdd_wire.specs.Reading.{read_at, ready_at, reject_at, fetch_at, values_at, reduce_at, reduced_at, ship_at, rows_at, write_at, null_at, ask_at, held_at, done_at, release_at, message_at, message_in}
 use Rattle.sdd_wire.proofs.Laws.{AreBytes, OnlyReads, ReadsBack, IsSpelled, Law, only_then, only_meant, only_next, only_last, only_done, back_next, back_last, back_as}
 use Rattle.sdd_wire.proofs.NumberLaws.{byte_law, u32_law, u64_law, class_law, txn_law, ts_law}
@@ -68,10 +68,7 @@ reject_fields =
 reject_back : (ts : Ts) (class : ClassNo) (by : ClassNo) (write : Ts)
     → FitsMsg (Reject ts class by write) → Back reject_at (Reject ts class by write)
 unfolding reject_at
-reject_back ts class by write fits =
-    back_as (back_next _ (ts_law.back ts fits.0) (back_next _ (class_law.back class fits.1) (
-    back_next _ (class_law.back by fits.2) (
-    back_last _ (ts_law.back write fits.3))))) (simp append_assoc)
+reject_back ts class by write fits = grind (arith, nat_tests, back_as, back_next, ts_law, class_law, back_last, append_assoc)
 
 fetch_fields : Fields 4 fetch_at
 unfolding fetch_at
@@ -245,12 +242,7 @@ by_tags = (
 behind_tag : (tag : ℕ) (fields : Reading Msg) (text : List ℕ) (msg : Msg)
     → numbered fields_by_tag tag ≡ Some fields → ReadsBack fields text msg → ReadsBack message_at (tag ∷ text) msg
 unfolding message_at
-behind_tag tag fields text msg is back = record {
-  reads = λ whole rest.
-      let front : Source = record { whole = whole; left = tag ∷ (text ++ rest) } in
-      let behind : Source = record { whole = whole; left = text ++ rest } in
-      ap (λ o. after (known_at (place front) o behind) (λ fields. fields)) is ∙ back.reads whole rest;
-}
+behind_tag tag fields text msg is back = grind (arith, nat_tests)
 
 message_back : (msg : Msg) → FitsMsg msg → ReadsBack message_at (spelled msg) msg
 message_back (Read ts class txn attempt conds uses) fits =
@@ -296,15 +288,11 @@ good msg = Ok msg
 
 ended : (msg other : Msg) (at : ℕ) (left : List ℕ)
     → (if is_empty left then good msg else Err at) ≡ good other → (msg ≡ other) × (left ≡ [])
-ended msg other at [] e = (cc, refl)
-ended msg other at (byte ∷ left) e = absurd cc
+ended msg other at left e = grind (arith, nat_tests)
 
 whole_ok : (r : Result (Msg × Source) ℕ) (msg : Msg) → whole r ≡ Ok msg
     → (t : Source) × (r ≡ Ok (msg, t)) × (t.left ≡ [])
-whole_ok (Ok read) msg e =
-    let end = ended read.0 msg (place read.1) read.1.left e in
-    (read.1, ap (λ m. Ok (m, read.1)) end.0, end.1)
-whole_ok (Err broken) msg e = absurd cc
+whole_ok r msg e = grind (arith, nat_tests)
 
 pub message_read_back : (msg : Msg) → FitsMsg msg → message_in (spelled msg) ≡ Ok msg
 unfolding message_in

@@ -1,5 +1,5 @@
 -- The laws of bytes and numbers.
-use Rattle.sdd_wire.proofs.All.{Bool, Err, Fits-of_z, FitsClass, FitsFrag, FitsI64, FitsRel, FitsTs, FitsTxnNo, FitsU32, FitsU64, List, Ok, Reading, Result, Some, Source, [], ap, arith, be_bytes_4, be_bytes_8, byte_at, cases_lt, cast_signed, cast_unsigned, drop, drop_at, false, first_byte, flag, flag_at, from_be_bytes, from_be_bytes-to_be_bytes_4, from_be_bytes-to_be_bytes_8, get_or-drop, get_or-take, get_or_past, if◌then◌else◌, inl, inr, le-ltb, length, length-append, length-take, ltb-false, nat_lt, of_z-to_z, piece_at, place, refl, sfits_to_z, spelled_class, spelled_frag, spelled_rel, spelled_ts, spelled_txn, subst, suc, sym, take, take-append-drop, take_at, to_be_bytes, to_z-of_z, true, w32, w64, zero, ℕ, ◌++◌, ◌+◌, ◌<◌, ◌∙◌, ◌∷◌, ◌≡◌, ◌≤◌}
+use Rattle.sdd_wire.proofs.All.{Bool, Err, Fits-of_z, FitsClass, FitsFrag, FitsI64, FitsRel, FitsTs, FitsTxnNo, FitsU32, FitsU64, List, Ok, Reading, Result, Some, Source, [], ap, arith, be_bytes_4, be_bytes_8, byte_at, cases_lt, cast_signed, cast_unsigned, drop, drop_at, false, first_byte, flag, flag_at, from_be_bytes, from_be_bytes-to_be_bytes_4, from_be_bytes-to_be_bytes_8, get_or-drop, get_or-take, get_or_past, if◌then◌else◌, le-ltb, length, length-append, length-take, ltb-false, nat_lt, nat_tests, of_z-to_z, piece_at, place, refl, sfits_to_z, spelled_class, spelled_frag, spelled_rel, spelled_ts, spelled_txn, subst, suc, sym, take, take-append-drop, take_at, to_be_bytes, to_z-of_z, true, w32, w64, ℕ, ◌++◌, ◌+◌, ◌<◌, ◌∙◌, ◌∷◌, ◌≡◌, ◌≤◌}
 use Rattle.sdd_wire.specs.Source.{number_at}
 use Rattle.sdd_wire.specs.Spelling.{spelled_u32, spelled_u64, spelled_i64}
 use Rattle.sdd_wire.specs.Reading.{i64_at, class_at, rel_at, frag_at, txn_at, ts_at}
@@ -11,11 +11,7 @@ AreBytes-drop : (n : ℕ) (bytes : List ℕ) → AreBytes bytes → AreBytes (dr
 AreBytes-drop n bytes h i = rw get_or-drop (h (n + i))
 
 AreBytes-take : (n : ℕ) (bytes : List ℕ) → AreBytes bytes → AreBytes (take n bytes)
-AreBytes-take n bytes h i =
-    elim (cases_lt i n) [
-      | inl lt ↦ rw (get_or-take n bytes i 0 lt) (h i)
-      | inr le ↦ rw (get_or_past (take n bytes) i 0 (omega (arith, length-take n bytes))) (omega arith)
-    ]
+AreBytes-take n bytes h i = grind (arith, nat_tests, cases_lt, get_or-take, get_or_past, length-take)
 
 pub record IsPiece (n : ℕ) (piece : List ℕ) : Type 0 where
   pub long : length piece ≡ n
@@ -54,8 +50,7 @@ done_is : {A : Type 0} (x y : A × Source) → done x ≡ done y → x ≡ y
 done_is x y e = cc
 
 piece_ok : (b : Bool) (at : ℕ) (x y : List ℕ × Source) → (if b then Err at else done x) ≡ Ok y → (b ≡ false) × (x ≡ y)
-piece_ok true at x y e = absurd cc
-piece_ok false at x y e = (refl, done_is x y e)
+piece_ok b at x y e = grind (arith, nat_tests)
 
 pub piece_law : (n : ℕ) → Law (IsPiece n) (λ x. x) (piece_at n)
 piece_law n = record {
@@ -102,21 +97,13 @@ flag_byte false = 0 ∷ []
 flag_byte true = 1 ∷ []
 
 flag_is : (n : ℕ) (b : Bool) → flag n ≡ Some b → n ∷ [] ≡ flag_byte b
-flag_is zero true e = absurd cc
-flag_is zero false e = refl
-flag_is (suc zero) true e = refl
-flag_is (suc zero) false e = absurd cc
-flag_is (suc (suc n)) b e = absurd cc
+flag_is n b e = grind (arith, nat_tests)
 
 flag_back : (b : Bool) → ReadsBack flag_at (flag_byte b) b
-flag_back false = record { reads = λ whole rest. refl }
-flag_back true = record { reads = λ whole rest. refl }
+flag_back b = grind (arith, nat_tests)
 
 pub flag_law : Law (λ b. Unit {0}) flag_byte flag_at
-flag_law = record {
-  back = λ b fits. flag_back b;
-  only = only_meant flag byte_law (λ n b fits is. (flag_is n b is, tt));
-}
+flag_law = grind (arith, nat_tests, flag_back, only_meant, byte_law, flag_is)
 
 -- numbers
 

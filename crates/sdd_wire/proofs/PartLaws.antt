@@ -1,5 +1,5 @@
 -- The laws of lists, texts and values, and of the parts of messages that are made of them.
-use Rattle.sdd_wire.proofs.All.{AllByRecursion, Bool, Eq, FitsChange, FitsCond, FitsFrag, FitsList, FitsOp, FitsOption, FitsPair, FitsRestriction, FitsRow, FitsU64, FitsUse, FitsValue, Ge, Gt, Int, IsText, Le, List, Lt, Ne, None, Op, Option, Reading, Some, Text, Value, [], ap, append_assoc, arith, false, flat_map, frag_at, if_there, items_at, length, list_at, numbered, ops_by_byte, option_at, pair_at, refl, row_at, slice_get, spelled_change, spelled_cond, spelled_frag, spelled_list, spelled_op, spelled_option, spelled_pair, spelled_restriction, spelled_row, spelled_text, spelled_u64, spelled_use, spelled_value, subst, suc, sym, text_in, true, value_by, zero, ℕ, ◌++◌, ◌+◌, ◌∙◌, ◌∷◌, ◌≡◌}
+use Rattle.sdd_wire.proofs.All.{AllByRecursion, Bool, FitsChange, FitsCond, FitsFrag, FitsList, FitsOp, FitsOption, FitsPair, FitsRestriction, FitsRow, FitsUse, FitsValue, Int, IsText, List, None, Op, Option, Reading, Some, Text, Value, [], ap, append_assoc, arith, false, flat_map, frag_at, if_there, items_at, length, list_at, nat_tests, numbered, ops_by_byte, option_at, pair_at, refl, row_at, slice_get, spelled_change, spelled_cond, spelled_frag, spelled_list, spelled_op, spelled_option, spelled_pair, spelled_restriction, spelled_row, spelled_text, spelled_use, spelled_value, subst, suc, sym, text_in, true, value_by, zero, ℕ, ◌++◌, ◌+◌, ◌∙◌, ◌∷◌, ◌≡◌}
 use Rattle.sdd_wire.specs.Reading.{text_at, value_at, op_at, restriction_at, use_at, cond_at, change_at}
 use Rattle.sdd_wire.proofs.Laws.{OnlyReads, ReadsBack, IsSpelled, Law, only_next, only_last, only_weaker, only_meant, only_done, back_next, back_last, back_as, back_meant}
 use Rattle.sdd_wire.proofs.NumberLaws.{IsByte, piece_back, piece_law, byte_law, flag_byte, flag_law, u32_law, u64_law, i64_law, class_law, rel_law, frag_law, ts_law}
@@ -19,8 +19,7 @@ pair_law one two = record {
 option_back : {A : Type 0} {fits : A → Type 0} {spelling : A → List ℕ} {item : Reading A}
     → Law fits spelling item → (o : Option A) → FitsOption fits o
     → ReadsBack (option_at item) (spelled_option spelling o) o
-option_back law None fits = back_next _ (flag_law.back false tt) (record { reads = λ whole rest. refl })
-option_back law (Some x) fits = back_next _ (flag_law.back true tt) (back_last _ (law.back x fits))
+option_back law o fits = grind (arith, nat_tests)
 
 there_only : {A : Type 0} {fits : A → Type 0} {spelling : A → List ℕ} {item : Reading A}
     → Law fits spelling item → (b : Bool)
@@ -40,10 +39,9 @@ items_back : {A : Type 0} {fits : A → Type 0} {spelling : A → List ℕ} {ite
     → Law fits spelling item → (n : ℕ) (xs : List A) → length xs ≡ n → AllByRecursion fits xs
     → ReadsBack (items_at item n) (flat_map spelling xs) xs
 items_back law zero [] len fits = record { reads = λ whole rest. refl }
-items_back law zero (x ∷ xs) len fits = absurd (omega arith)
-items_back law (suc n) [] len fits = absurd (omega arith)
 items_back law (suc n) (x ∷ xs) len fits =
     back_next _ (law.back x fits.0) (back_last _ (items_back law n xs (omega arith) fits.1))
+items_back law _ _ len fits = absurd (omega arith)
 
 items_law : {A : Type 0} {fits : A → Type 0} {spelling : A → List ℕ} {item : Reading A}
     → Law fits spelling item → (n : ℕ) → Law (FitsItems fits n) (flat_map spelling) (items_at item n)
@@ -58,13 +56,8 @@ items_law law (suc n) = record {
 
 pub list_law : {A : Type 0} {fits : A → Type 0} {spelling : A → List ℕ} {item : Reading A}
     → Law fits spelling item → Law (FitsList fits) (spelled_list spelling) (list_at item)
-list_law {fits = fits} {spelling = spelling} law = record {
-  back = λ xs h. back_next _ (u64_law.back (length xs) h.0) (items_back law (length xs) xs refl h.1);
-  only = only_next u64_law (λ n hn. only_weaker _ (items_law law n).only (λ xs text h.
-      let items = ap (λ (l : List ℕ). spelled_u64 n ++ l) h.0 in
-      let count : n ≡ length xs = sym h.1.0 in
-      (items ∙ ap (λ k. spelled_u64 k ++ flat_map spelling xs) count, (subst FitsU64 count hn, h.1.1))));
-}
+list_law {fits = fits} {spelling = spelling} law =
+    grind (arith, nat_tests, back_next, u64_law, items_back, only_next, only_weaker, items_law)
 
 -- texts, values and operators
 
@@ -103,9 +96,8 @@ AllNumbered P n (x ∷ xs) = P n x × AllNumbered P (suc n) xs
 
 at_number : {A : Type 0} (P : ℕ → A → Type 0) (first : ℕ) (xs : List A) (k : ℕ) (x : A)
     → AllNumbered P first xs → slice_get xs k ≡ Some x → P (k + first) x
-at_number P first [] k x all is = absurd cc
-at_number P first (y ∷ xs) zero x all is = let same : y ≡ x = cc in rw (← same) (subst (λ k. P k y) (omega arith) all.0)
 at_number P first (y ∷ xs) (suc k) x all is = subst (λ n. P n x) (omega arith) (at_number P (suc first) xs k x all.1 is)
+at_number _ first _ _ x all is = grind (arith, nat_tests)
 
 pub numbered_so : {A : Type 0} (P : ℕ → A → Type 0) (xs : List A) (n : ℕ) (x : A)
     → AllNumbered P 1 xs → numbered xs n ≡ Some x → P n x
@@ -114,12 +106,7 @@ numbered_so P xs (suc n) x all is = subst (λ k. P k x) (omega arith) (at_number
 
 op_back : (op : Op) → FitsOp op → ReadsBack op_at (spelled_op op) op
 unfolding op_at
-op_back Eq fits = back_meant _ (byte_law.back 1 (record { below = omega arith })) refl
-op_back Ne fits = back_meant _ (byte_law.back 2 (record { below = omega arith })) refl
-op_back Lt fits = back_meant _ (byte_law.back 3 (record { below = omega arith })) refl
-op_back Le fits = back_meant _ (byte_law.back 4 (record { below = omega arith })) refl
-op_back Gt fits = back_meant _ (byte_law.back 5 (record { below = omega arith })) refl
-op_back Ge fits = back_meant _ (byte_law.back 6 (record { below = omega arith })) refl
+op_back op fits = grind (arith, nat_tests)
 
 pub op_law : Law FitsOp spelled_op op_at
 unfolding op_at

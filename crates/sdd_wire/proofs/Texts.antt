@@ -1,5 +1,5 @@
 -- Bytes that are the text of a column, and others.
-use Rattle.sdd_wire.proofs.All.{Any-from_list_any, Bool, Contains, IsText, IsUtf8, IsUtf8-from_is_utf8, List, MAX_TEXT_BYTES, None, Some, and_from, and_parts, both_ways, contains, eq-eqb, eqb-true, false, false_from_ne_true, get_or_default, if◌then◌else◌, is_text, is_utf8, is_utf8-from_IsUtf8, le-leb, leb-true, length, list_any_at, nat_le, not, not-true, not_from_false, refl, subst, text_in, true, ℕ, ◌&&◌, ◌==◌, ◌∙◌, ◌≡◌}
+use Rattle.sdd_wire.proofs.All.{Any-from_list_any, Bool, Contains, IsText, IsUtf8, IsUtf8-from_is_utf8, List, MAX_TEXT_BYTES, None, Some, and_from, and_parts, arith, both_ways, contains, eq-eqb, eqb-true, false, false_from_ne_true, get_or_default, if◌then◌else◌, is_text, is_utf8, is_utf8-from_IsUtf8, le-leb, leb-true, length, list_any_at, nat_le, nat_tests, not, not-true, not_from_false, refl, text_in, true, ℕ, ◌&&◌, ◌==◌, ◌∙◌, ◌≡◌}
 
 pub contains-true : (ns : List ℕ) (n : ℕ) → contains ns n ≡ true → Contains ns n
 contains-true ns n h =
@@ -28,11 +28,7 @@ is_text-true bytes h =
 
 pub IsText-true : (bytes : List ℕ) → IsText bytes → is_text bytes ≡ true
 IsText-true bytes t =
-    let no_newline : contains bytes 10 ≡ false =
-    false_from_ne_true (contains bytes 10) (λ e. t.on_a_line (contains-true bytes 10 e)) in
-    let line : is_line bytes ≡ true = not_from_false (contains bytes 10) no_newline in
-    let inner = and_from (is_short bytes) (is_line bytes) (le-leb _ _ t.short) line in
-    and_from (is_short bytes && is_line bytes) (is_utf8 bytes) inner (is_utf8-from_IsUtf8 bytes t.utf8)
+    grind (arith, nat_tests, false_from_ne_true, contains-true, not_from_false, and_from, le-leb, is_utf8-from_IsUtf8)
 
 -- a text is found
 pub text_found : (bytes : List ℕ) → IsText bytes → text_in bytes ≡ Some bytes
@@ -46,11 +42,8 @@ pub no_utf8 : (bytes : List ℕ) → (IsUtf8 bytes → ⊥) → text_in bytes �
 no_utf8 bytes other = no_text bytes (λ t. other t.utf8)
 
 found : (b : Bool) (bytes text : List ℕ) → (if b then Some bytes else None) ≡ Some text → (b ≡ true) × (bytes ≡ text)
-found true bytes text e = (refl, cc)
-found false bytes text e = absurd cc
+found b bytes text e = grind (arith, nat_tests)
 
 -- what is found is the bytes, and a text
 pub found_text : (bytes text : List ℕ) → text_in bytes ≡ Some text → (bytes ≡ text) × IsText text
-found_text bytes text h =
-    let both = found (is_text bytes) bytes text h in
-    (both.1, subst IsText both.1 (is_text-true bytes both.0))
+found_text bytes text h = grind (arith, nat_tests, found, is_text-true)

@@ -1,5 +1,5 @@
 -- The assignments, one more.
-use Rattle.sdd_words.proofs.All.{Bool, List, MatchOption, None, Option, Setting, Some, Word, [], ap, arith, false, is_some, joined, length, not_empty, refl, setting_of, sym, true, unwrap_or, ◌<◌, ◌∙◌, ◌∷◌, ◌≡◌}
+use Rattle.sdd_words.proofs.All.{Bool, List, MatchOption, None, Option, Setting, Some, Word, [], ap, arith, false, is_some, joined, length, nat_tests, not_empty, refl, setting_of, sym, true, unwrap_or, ◌<◌, ◌∙◌, ◌∷◌, ◌≡◌}
 use Rattle.sdd_words.specs.Forms.{settings}
 use Rattle.sdd_words.proofs.Comparing.{some_joined}
 
@@ -14,10 +14,7 @@ no_setting l o r more ws is e = rw (is, ← e) refl
 
 pub settings_few : (ws : List Word) → length ws < 3 → not_empty ws ≡ true → settings ws ≡ None
 unfolding settings
-settings_few [] few some = absurd cc
-settings_few (a ∷ []) few some = refl
-settings_few (a ∷ b ∷ []) few some = refl
-settings_few (a ∷ b ∷ c ∷ ws) few some = absurd (omega arith)
+settings_few ws few some = grind (arith, nat_tests)
 
 pub setting_read : (l o r : Word) (more ws : List Word) (read : Option Setting) → ws ≡ l ∷ o ∷ r ∷ more → read ≡ setting_of l o r
     → MatchOption read (not_empty ws ≡ true → settings ws ≡ None) (λ one. settings ws ≡ joined (Some one) (settings more))
@@ -34,10 +31,8 @@ are_no_settings ws total is so_far = ap is_some (sym is) ∙ so_far
 
 pub are_settings_all : (ws : List Word) (total : Bool) → not_empty ws ≡ false → is_some (settings ws) ≡ total → true ≡ total
 unfolding settings
-are_settings_all [] total none so_far = so_far
-are_settings_all (w ∷ ws) total none so_far = absurd cc
+are_settings_all ws total none so_far = grind (arith, nat_tests)
 
 pub none_left : (ws : List Word) → not_empty ws ≡ false → unwrap_or (settings ws) [] ≡ []
 unfolding settings
-none_left [] none = refl
-none_left (w ∷ ws) none = absurd cc
+none_left ws none = grind (arith, nat_tests)

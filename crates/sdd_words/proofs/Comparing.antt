@@ -1,10 +1,9 @@
 -- The conditions, one more.
-use Rattle.sdd_words.proofs.All.{Bool, Comparison, List, MatchOption, None, Option, Some, Word, [], ap, arith, codes, comparison_of, false, is_some, joined, length, not_empty, refl, sym, true, unwrap_or, ℕ, ◌<◌, ◌∙◌, ◌∷◌, ◌≡◌}
+use Rattle.sdd_words.proofs.All.{Bool, Comparison, List, MatchOption, None, Option, Some, Word, [], ap, arith, codes, comparison_of, false, is_some, joined, length, nat_tests, not_empty, refl, sym, true, unwrap_or, ℕ, ◌<◌, ◌∙◌, ◌∷◌, ◌≡◌}
 use Rattle.sdd_words.specs.Forms.{comparisons}
 
 pub some_joined : {A : Type 0} (x : A) (read : Option (List A)) → is_some (joined (Some x) read) ≡ is_some read
-some_joined x None = refl
-some_joined x (Some xs) = refl
+some_joined x read = grind (arith, nat_tests)
 
 pub comparison_more : (key : List ℕ) (k l o r : Word) (more ws : List Word) (c : Comparison) → ws ≡ k ∷ l ∷ o ∷ r ∷ more
     → Some c ≡ comparison_of key k l o r
@@ -19,11 +18,7 @@ no_comparison key k l o r more ws is e = rw (is, ← e) refl
 
 pub comparisons_few : (key : List ℕ) (ws : List Word) → length ws < 4 → not_empty ws ≡ true → comparisons key ws ≡ None
 unfolding comparisons
-comparisons_few key [] few some = absurd cc
-comparisons_few key (a ∷ []) few some = refl
-comparisons_few key (a ∷ b ∷ []) few some = refl
-comparisons_few key (a ∷ b ∷ c ∷ []) few some = refl
-comparisons_few key (a ∷ b ∷ c ∷ d ∷ ws) few some = absurd (omega arith)
+comparisons_few key ws few some = grind (arith, nat_tests)
 
 pub comparison_read : (key : List ℕ) (k l o r : Word) (more ws : List Word) (read : Option Comparison) → ws ≡ k ∷ l ∷ o ∷ r ∷ more
     → read ≡ comparison_of key k l o r
@@ -44,15 +39,13 @@ are_no_comparisons key ws total is so_far = ap is_some (sym is) ∙ so_far
 pub are_comparisons_all : (key : List ℕ) (ws : List Word) (total : Bool) → not_empty ws ≡ false → is_some (comparisons key ws) ≡ total
     → true ≡ total
 unfolding comparisons
-are_comparisons_all key [] total none so_far = so_far
-are_comparisons_all key (w ∷ ws) total none so_far = absurd cc
+are_comparisons_all key ws total none so_far = grind (arith, nat_tests)
 
 -- what is left of them
 
 some_left : {A : Type 0} (o read : Option (List A)) (x : A) → o ≡ joined (Some x) read → is_some o ≡ true
     → (is_some read ≡ true) × (unwrap_or o [] ≡ x ∷ unwrap_or read [])
-some_left o None x e some = let none : o ≡ None = e in absurd cc
-some_left o (Some xs) x e some = (refl, ap (λ r. unwrap_or r []) e)
+some_left o read x e some = grind (arith, nat_tests)
 
 pub first_of : {A : Type 0} (o read : Option (List A)) (x : A) → o ≡ joined (Some x) read → is_some o ≡ true
     → unwrap_or o [] ≡ x ∷ unwrap_or read []
@@ -62,14 +55,11 @@ pub more_of : {A : Type 0} (o read : Option (List A)) (x : A) → o ≡ joined (
 more_of o read x e some = (some_left o read x e some).0
 
 pub all_of : {A : Type 0} (o : Option (List A)) → is_some o ≡ true → o ≡ Some (unwrap_or o [])
-all_of None some = absurd cc
-all_of (Some xs) some = refl
+all_of o some = grind (arith, nat_tests)
 
 pub none_of : {A : Type 0} (o : Option (List A)) → is_some o ≡ false → o ≡ None
-none_of None none = refl
-none_of (Some xs) none = absurd cc
+none_of o none = grind (arith, nat_tests)
 
 pub none_left : (key : List ℕ) (ws : List Word) → not_empty ws ≡ false → unwrap_or (comparisons key ws) [] ≡ []
 unfolding comparisons
-none_left key [] none = refl
-none_left key (w ∷ ws) none = absurd cc
+none_left key ws none = grind (arith, nat_tests)

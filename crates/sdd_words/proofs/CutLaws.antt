@@ -1,10 +1,9 @@
 -- The first line of a text.
-use Rattle.sdd_words.proofs.All.{Bool, Cuts, List, [], add-one, ap, arith, drop, drop-cons, eqb, eqb-true, false, get_or, get_or-take, length, length-drop, length-take, refl, suc, sym, take, take-append-drop, true, ℕ, ◌++◌, ◌+◌, ◌<◌, ◌∙◌, ◌∷◌, ◌≡◌}
+use Rattle.sdd_words.proofs.All.{Bool, Cuts, List, [], add-one, ap, arith, drop, drop-cons, eqb, false, get_or, get_or-take, length, length-drop, length-take, nat_tests, refl, suc, sym, take, take-append-drop, ℕ, ◌++◌, ◌+◌, ◌<◌, ◌∙◌, ◌∷◌, ◌≡◌}
 use Rattle.sdd_words.specs.Lines.{cut_lines}
 
 not_newline : (c : ℕ) (b : Bool) → eqb c 10 ≡ b → (c ≡ 10 → ⊥) → eqb c 10 ≡ false
-not_newline c true e other = absurd (other (eqb-true c 10 e))
-not_newline c false e other = e
+not_newline c b e other = grind (arith, nat_tests)
 
 pub whole-first : (line rest : List ℕ) → ((k : ℕ) → k < length line → get_or line k 0 ≡ 10 → ⊥)
     → cut_lines (line ++ 10 ∷ rest) ≡ (line ∷ (cut_lines rest).0, (cut_lines rest).1)

@@ -1,6 +1,7 @@
 -- What stands before the first word that is a keyword, and what is left from it on.
-use Rattle.sdd_words.proofs.All.{AllWords, AreWords, Bool, IsLeft, IsWord, List, None, Option, Plain, Quoted, Some, Word, [], ap, append-nil, append_assoc, arith, before, cut_at, drop, drop_all, eqb, eqb-true, false, from_key, if◌then◌else◌, is_key, is_some, le-ltb, length, length-append, line_bytes, lt-ltb, more_bytes, nat_lt, not, not_empty, or_none, position_or_len, refl, subst, suc, sym, take, take-append-drop, take-append-le, take_all, true, up_to, word_bytes, words_left, words_of, zero, ℕ, ◌++◌, ◌+◌, ◌-◌, ◌<◌, ◌==◌, ◌∙◌, ◌∷◌, ◌≡◌, ◌≤◌}
-use Rattle.sdd_words.proofs.Points.{from_here, from_on}
+use Rattle.sdd_words.proofs.All.{AllWords, AreWords, Bool, IsLeft, IsWord, List, None, Option, Some, Word, [], ap, append-nil, append_assoc, arith, before, cut_at, drop, false, from_key, if◌then◌else◌, is_key, is_some, le-ltb, length, length-append, length-drop, line_bytes, lt-ltb, more_bytes, nat_lt, nat_tests, not, not_empty, or_none, position_or_len, refl, subst, suc, sym, take, take-append-drop, take-append-le, take_all, true, up_to, word_bytes, words_left, words_of, ℕ, ◌++◌, ◌+◌, ◌-◌, ◌<◌, ◌==◌, ◌∙◌, ◌∷◌, ◌≡◌}
+use Rattle.sdd_words.proofs.Comparing.{none_of}
+use Rattle.sdd_words.proofs.Points.{from_on}
 use Rattle.sdd_words.proofs.Splits.{scan_takes}
 use Rattle.sdd_words.proofs.WordCuts.{is_left, left_again}
 use Rattle.sdd_words.proofs.Written.{more_bytes-append as more_joined}
@@ -8,12 +9,7 @@ use Rattle.sdd_words.proofs.Written.{more_bytes-append as more_joined}
 -- ---- the words of a line are left
 
 some_of : (read : Option (List Word)) → is_some read ≡ true → read ≡ Some (or_none read)
-some_of None e = absurd cc
-some_of (Some ws) e = refl
-
-none_of : (read : Option (List Word)) → is_some read ≡ false → read ≡ None
-none_of None e = refl
-none_of (Some ws) e = absurd cc
+some_of read e = grind (arith, nat_tests)
 
 pub some_words : (line : List ℕ) → true ≡ is_some (words_of line) → words_of line ≡ Some (words_left line)
 some_words line e = some_of (words_of line) (sym e)
@@ -22,8 +18,7 @@ pub no_words : (line : List ℕ) → false ≡ is_some (words_of line) → words
 no_words line e = none_of (words_of line) (sym e)
 
 all_words : (ws : List Word) → AreWords ws → AllWords ws
-all_words [] h = absurd h
-all_words (w ∷ ws) h = h
+all_words ws h = grind (arith, nat_tests)
 
 left_by : (line : List ℕ) (ws : List Word) → words_of line ≡ Some ws → IsLeft line
 left_by line ws e =
@@ -37,19 +32,10 @@ line_left line e = left_by line (words_left line) (some_words line e)
 -- ---- bytes are left where words are
 
 some_bytes : (w : Word) (ws : List Word) → IsWord w → 0 < length (line_bytes (w ∷ ws))
-some_bytes (Plain []) ws h = absurd h
-some_bytes (Plain (c ∷ cs)) ws h = omega arith
-some_bytes (Quoted text) ws h = omega arith
-
-not_zero : (n : ℕ) (b : Bool) → eqb n 0 ≡ b → 0 < n → eqb n 0 ≡ false
-not_zero n true e some = let none : n ≡ 0 = eqb-true n 0 e in absurd (omega arith)
-not_zero n false e some = e
+some_bytes w ws h = grind (arith, nat_tests)
 
 has_by : (bytes : List ℕ) (ws : List Word) → AllWords ws → bytes ≡ line_bytes ws → not (length bytes == 0) ≡ not_empty ws
-has_by bytes [] h e = ap (λ (b : List ℕ). not (length b == 0)) e
-has_by bytes (w ∷ ws) h e =
-    let some : 0 < length bytes = subst (λ (b : List ℕ). 0 < length b) (sym e) (some_bytes w ws h.0) in
-    ap not (not_zero (length bytes) (length bytes == 0) refl some)
+has_by bytes ws h e = grind (arith, nat_tests)
 
 pub has_bytes : (bytes : List ℕ) → IsLeft bytes → not (length bytes == 0) ≡ not_empty (words_left bytes)
 has_bytes bytes left = has_by bytes (words_left bytes) left.words left.spelled
@@ -58,8 +44,7 @@ has_bytes bytes left = has_by bytes (words_left bytes) left.words left.spelled
 
 pub key_found : (key : List ℕ) (w : Word) (bytes : List ℕ) (ws total : List Word) → words_left bytes ≡ w ∷ ws → true ≡ is_key key w
     → from_key key (words_left bytes) ≡ total → words_left bytes ≡ total
-key_found key w bytes ws total is found so_far =
-    is ∙ sym (from_here (is_key key) w ws (sym found)) ∙ ap (from_key key) (sym is) ∙ so_far
+key_found key w bytes ws total is found so_far = cc
 
 pub key_later : (key : List ℕ) (w : Word) (bytes more : List ℕ) (total : List Word) → words_left bytes ≡ w ∷ words_left more
     → false ≡ is_key key w
@@ -74,8 +59,7 @@ key_nowhere key bytes total is so_far = is ∙ ap (from_key key) (sym is) ∙ so
 -- ---- before it
 
 before_some : (bytes rest : List ℕ) → 0 < length rest → before bytes rest ≡ take (length bytes - length rest - 1) bytes
-before_some bytes [] some = absurd (omega arith)
-before_some bytes (c ∷ cs) some = refl
+before_some bytes rest some = grind (arith, nat_tests)
 
 before_joined : (xs ys : List Word) → AllWords ys → before (line_bytes (xs ++ ys)) (line_bytes ys) ≡ line_bytes xs
 before_joined xs [] h = ap line_bytes (append-nil xs)
@@ -109,9 +93,8 @@ before_is key bytes rest left more is =
     ∙ joined
 
 all_taken : (n : ℕ) (ws : List Word) → AllWords ws → AllWords (take n ws)
-all_taken zero ws h = tt
-all_taken (suc n) [] h = tt
 all_taken (suc n) (w ∷ ws) h = (h.0, all_taken n ws h.1)
+all_taken _ _ h = tt
 
 pub front_words : (key bytes rest : List ℕ) → IsLeft bytes → IsLeft rest → words_left rest ≡ from_key key (words_left bytes)
     → words_left (before bytes rest) ≡ up_to key (words_left bytes)
@@ -132,19 +115,14 @@ given front behind = Some (front, behind)
 
 cut_by : (key : List ℕ) (ws : List Word) (n : ℕ) (b : Bool) → nat_lt n (length ws) ≡ b → n ≡ position_or_len (is_key key) ws
     → cut_at key ws ≡ (if b then Some (take n ws, drop (n + 1) ws) else None)
-cut_by key ws n true e is = rw (← is, e) refl
-cut_by key ws n false e is = rw (← is, e) refl
+cut_by key ws n b e is = grind (arith, nat_tests)
 
 behind_first : (n : ℕ) (ws : List Word) (w : Word) (more : List Word) → drop n ws ≡ w ∷ more → (n < length ws) × (drop (n + 1) ws ≡ more)
-behind_first n [] w more e =
-    let empty : List Word = [] in
-    let some : empty ≡ w ∷ more = sym (drop_all n empty (omega arith)) ∙ e in
-    absurd cc
-behind_first zero (x ∷ ws) w more e = (omega arith, ap (λ l. drop 1 l) e)
 behind_first (suc n) (x ∷ ws) w more e =
     let later = behind_first n ws w more e in
     let next : suc n + 1 ≡ suc (n + 1) = omega arith in
     (omega (arith, later.0), ap (λ (k : ℕ). drop k (x ∷ ws)) next ∙ later.1)
+behind_first _ _ w more e = grind (arith, nat_tests)
 
 pub cut_found : (key : List ℕ) (ws : List Word) (w : Word) (more : List Word) → from_key key ws ≡ w ∷ more
     → cut_at key ws ≡ Some (up_to key ws, more)
@@ -154,12 +132,7 @@ cut_found key ws w more e =
     cut_by key ws n true (lt-ltb n (length ws) parts.0) refl
     ∙ ap (λ (l : List Word). given (take n ws) l) parts.1
 
-past_all : (n : ℕ) (ws : List Word) → drop n ws ≡ [] → length ws ≤ n
-past_all n [] e = omega arith
-past_all zero (x ∷ ws) e = absurd cc
-past_all (suc n) (x ∷ ws) e = omega (arith, past_all n ws e)
-
 pub cut_nowhere : (key : List ℕ) (ws : List Word) → from_key key ws ≡ [] → cut_at key ws ≡ None
 cut_nowhere key ws e =
     let n = position_or_len (is_key key) ws in
-    cut_by key ws n false (le-ltb n (length ws) (past_all n ws e)) refl
+    cut_by key ws n false (le-ltb n (length ws) (omega (arith, ap length e, length-drop n ws))) refl

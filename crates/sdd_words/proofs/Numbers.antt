@@ -1,10 +1,10 @@
 -- A spelled number is parsed.
-use Rattle.sdd_words.proofs.All.{Bool, Err, FitsSigned, IsAscii-signed, IsNumeral, IsUtf8, IsUtf8-from_ascii, List, None, Ok, ParsesSigned, Result, Some, arith, bytes_eq, bytes_eq-Decides, cond, false, int_eq, ints, is_small, lt-ltb, ltb-true, mag, negsuc, not_true, parse-signed_decimal, pos, refl, signed_Decides, signed_decimal, signed_digits_value, subst, sym, true, w64, without_leading_sign, ℕ, ℤ, ◌&&◌, ◌<◌, ◌^◌, ◌∙◌, ◌≡◌}
+use Rattle.sdd_words.proofs.All.{Bool, Err, FitsSigned, IsAscii-signed, IsNumeral, IsUtf8, IsUtf8-from_ascii, List, None, Ok, ParsesSigned, Result, Some, and_parts, arith, bytes_eq, bytes_eq-Decides, cond, cond_some, false, int_eq, is_small, lt-ltb, ltb-true, mag, nat_tests, not_true, parse-signed_decimal, refl, signed_decimal, signed_digits_value, subst, sym, true, w64, without_leading_sign, ℕ, ℤ, ◌&&◌, ◌<◌, ◌^◌, ◌∙◌, ◌≡◌}
 use Rattle.sdd_words.specs.Number.{number_of}
+pub use Rattle.std.proofs.lemmas.Bool.{and_parts as both}
 
 small : (z : ℤ) → FitsSigned w64 z → mag z < 2 ^ 63
-small (pos n) fits = omega (arith, ints)
-small (negsuc n) fits = omega (arith, ints)
+small z fits = omega arith
 
 pub parses : {E : Type 0} (z : ℤ) (bs : List ℕ) (r : Result ℤ E) → FitsSigned w64 z → bs ≡ signed_decimal z → ParsesSigned w64 10 bs r
     → r ≡ Ok z
@@ -43,8 +43,7 @@ number_of-other bs z e other =
     by_tests bs z false (is_small z) e (not_true (bytes_eq bs (signed_decimal z)) (λ t. other ((bytes_eq-Decides bs (signed_decimal z)).0 t))) refl
 
 fits_small : (z : ℤ) → mag z < 2 ^ 63 → FitsSigned w64 z
-fits_small (pos n) lt = omega (arith, ints)
-fits_small (negsuc n) lt = omega (arith, ints)
+fits_small z lt = omega arith
 
 by_cases : (bs : List ℕ) (x y : Bool) → bytes_eq bs (signed_decimal (signed_digits_value 10 bs)) ≡ x → is_small (signed_digits_value 10 bs) ≡ y
     → (x ≡ true → y ≡ true → ⊥) → number_of bs ≡ None
@@ -66,22 +65,13 @@ number_of_other_bytes bs other =
     let u : IsUtf8 (signed_decimal z) = IsUtf8-from_ascii (signed_decimal z) (IsAscii-signed z (ltb-true (mag z) (2 ^ 63) q)) in
     absurd (other (rw e u)))
 
-found_if : (b : Bool) (y z : ℤ) → cond b (Some y) None ≡ Some z → (b ≡ true) × (y ≡ z)
-found_if true y z e = (refl, cc)
-found_if false y z e = absurd cc
-
-pub both : (x y : Bool) → (x && y) ≡ true → (x ≡ true) × (y ≡ true)
-both true true e = (refl, refl)
-both true false e = absurd cc
-both false y e = absurd cc
-
 -- what is read is spelled so
 pub number_takes : (bs : List ℕ) (z : ℤ) → number_of bs ≡ Some z → (bs ≡ signed_decimal z) × (mag z < 2 ^ 63)
 unfolding number_of
 number_takes bs z e =
     let v : ℤ = signed_digits_value 10 bs in
-    let a = found_if (bytes_eq bs (signed_decimal v) && is_small v) v z e in
-    let b = both (bytes_eq bs (signed_decimal v)) (is_small v) a.0 in
+    let a = cond_some (bytes_eq bs (signed_decimal v) && is_small v) v z e in
+    let b = and_parts (bytes_eq bs (signed_decimal v)) (is_small v) a.0 in
     rw (← a.1) ((bytes_eq-Decides bs (signed_decimal v)).0 b.0, ltb-true (mag v) (2 ^ 63) b.1)
 
 -- what parse asks of a signed number
@@ -96,8 +86,7 @@ value_if z lt p =
     ok_is {E = Unit {0}} (signed_digits_value 10 (signed_decimal z)) z (parse-signed_decimal w64 z (signed_decimal z) (Ok (signed_digits_value 10 (signed_decimal z))) (fits_small z lt) lt refl (p, refl))
 
 stable : (b : Bool) (y z : ℤ) → int_eq y z ≡ b → ((y ≡ z → ⊥) → ⊥) → y ≡ z
-stable true y z e h = (signed_Decides y z).0 e
-stable false y z e h = absurd (h (λ p. let q : int_eq y z ≡ true = (signed_Decides y z).1 p in absurd cc))
+stable b y z e h = grind (arith, nat_tests)
 
 signed_value : (z : ℤ) → mag z < 2 ^ 63 → signed_digits_value 10 (signed_decimal z) ≡ z
 signed_value z lt =

@@ -1,5 +1,5 @@
 -- The reading of words, one byte more.
-use Rattle.sdd_words.proofs.All.{Adds, Bool, Closed, Ends, Escape, Goes, InPlain, InText, List, Mode, Move, None, Option, Refuses, Some, Start, Word, [], ap, arith, drop, false, get_or, is_some, last_word, length, mode_after, move_of, moved, moves_to, onto, refl, sym, take, take_all, word_of, words_at_end, ℕ, ◌++◌, ◌-◌, ◌<◌, ◌∙◌, ◌∷◌, ◌≡◌}
+use Rattle.sdd_words.proofs.All.{Adds, Bool, Ends, Goes, List, Mode, Move, None, Option, Refuses, Some, Start, Word, [], ap, arith, drop, false, get_or, is_some, last_word, length, mode_after, move_of, moved, moves_to, nat_tests, onto, refl, sym, take, take_all, word_of, words_at_end, ℕ, ◌-◌, ◌<◌, ◌∙◌, ◌∷◌, ◌≡◌}
 use Rattle.sdd_words.specs.Scan.{scan}
 
 scan-cons : (mode : Mode) (text : List ℕ) (c : ℕ) (cs : List ℕ) (m : Move) → m ≡ move_of mode c
@@ -10,25 +10,17 @@ scan-cons mode text c cs m e = rw e refl
 -- whether bytes are words doesn't depend on what was read of the first one
 
 some_onto : (front : List Word) (read : Option (List Word)) → is_some (onto front read) ≡ is_some read
-some_onto front None = refl
-some_onto front (Some ws) = refl
+some_onto front read = grind (arith, nat_tests)
 
 some_moved : (m : Move) (mode : Mode) (a b : List ℕ) (c : ℕ) (cs : List ℕ)
     → ((to : Mode) (s t : List ℕ) → is_some (scan to s cs) ≡ is_some (scan to t cs))
     → is_some (moved m mode a c (λ m t. scan m t cs)) ≡ is_some (moved m mode b c (λ m t. scan m t cs))
-some_moved (Goes to) mode a b c cs same = same to a b
-some_moved (Adds to) mode a b c cs same = same to (a ++ c ∷ []) (b ++ c ∷ [])
-some_moved Ends mode a b c cs same = some_onto (word_of mode a ∷ []) (scan Start [] cs) ∙ sym (some_onto (word_of mode b ∷ []) (scan Start [] cs))
-some_moved Refuses mode a b c cs same = refl
+some_moved m mode a b c cs same = grind (arith, nat_tests)
 
 same_some : (mode : Mode) (a b cs : List ℕ) → is_some (scan mode a cs) ≡ is_some (scan mode b cs)
 unfolding scan
-same_some Start a b [] = refl
-same_some InPlain a b [] = refl
-same_some InText a b [] = refl
-same_some Escape a b [] = refl
-same_some Closed a b [] = refl
 same_some mode a b (c ∷ cs) = some_moved (move_of mode c) mode a b c cs (λ to s t. same_some to s t cs)
+same_some _ a b _ = grind (arith, nat_tests)
 
 -- what is left behind the first byte
 abbrev left : List ℕ → List ℕ
@@ -51,10 +43,8 @@ byte_more mode to (c ∷ cs) total some e so_far =
     rw all (sym (goes_on (move_of mode c) mode to c cs refl e) ∙ so_far)
 
 refused : (m : Move) (mode : Mode) (c : ℕ) (cs : List ℕ) → m ≡ move_of mode c → None ≡ moves_to m → is_some (scan mode [] (c ∷ cs)) ≡ false
-refused (Goes next) mode c cs is e = absurd cc
-refused (Adds next) mode c cs is e = absurd cc
-refused Ends mode c cs is e = absurd cc
 refused Refuses mode c cs is e = ap is_some (scan-cons mode [] c cs Refuses is)
+refused _ mode c cs is e = absurd cc
 
 pub byte_refused : (mode : Mode) (rest : List ℕ) (total : Bool) → 0 < length rest → None ≡ mode_after mode (get_or rest 0 0)
     → is_some (scan mode [] rest) ≡ total → false ≡ total
@@ -62,11 +52,7 @@ byte_refused mode [] total some e so_far = absurd (omega arith)
 byte_refused mode (c ∷ cs) total some e so_far = sym (refused (move_of mode c) mode c cs refl e) ∙ so_far
 
 some_last : (mode : Mode) → is_some (last_word mode []) ≡ is_some (words_at_end mode [])
-some_last Start = refl
-some_last InPlain = refl
-some_last InText = refl
-some_last Escape = refl
-some_last Closed = refl
+some_last mode = grind (arith, nat_tests)
 
 pub line_ended : (mode : Mode) (rest : List ℕ) (total : Bool) → length rest < 1 → is_some (scan mode [] rest) ≡ total
     → is_some (last_word mode []) ≡ total

@@ -1,5 +1,5 @@
 -- A text, its spelling, and where that ends.
-use Rattle.sdd_words.proofs.All.{Bool, List, None, Some, [], ap, append-nil, append_assoc, arith, drop, eqb, escaped, escaped_byte, false, get_or, if◌then◌else◌, leads_on, length, length-append, one_more, passes_to, refl, sym, take, take_all, true, unescaped, ℕ, ◌++◌, ◌+◌, ◌-◌, ◌<◌, ◌∙◌, ◌∷◌, ◌≡◌}
+use Rattle.sdd_words.proofs.All.{Bool, List, None, Some, [], ap, append-nil, append_assoc, arith, drop, eqb, escaped, escaped_byte, false, get_or, if◌then◌else◌, leads_on, length, length-append, nat_tests, one_more, passes_to, refl, sym, take, take_all, true, unescaped, ℕ, ◌++◌, ◌+◌, ◌-◌, ◌<◌, ◌∙◌, ◌∷◌, ◌≡◌}
 use Rattle.sdd_words.specs.Tokens.{unescaped_from, quote_from}
 
 -- ---- what is spelled is read
@@ -7,9 +7,7 @@ use Rattle.sdd_words.specs.Tokens.{unescaped_from, quote_from}
 byte_back : (c : ℕ) (cs : List ℕ) (x y : Bool) → eqb c 34 ≡ x → eqb c 92 ≡ y
     → unescaped_from false (escaped_byte c ++ cs) ≡ c ∷ unescaped_from false cs
 unfolding unescaped_from
-byte_back c cs true y p q = rw p refl
-byte_back c cs false true p q = rw (p, q) refl
-byte_back c cs false false p q = rw (p, q, q) refl
+byte_back c cs x y p q = grind (arith, nat_tests)
 
 pub text_back : (text : List ℕ) → unescaped (escaped text) ≡ text
 unfolding unescaped_from
@@ -47,9 +45,7 @@ all_read behind (c ∷ cs) front whole none so_far = absurd (omega arith)
 byte_passed : (c : ℕ) (cs : List ℕ) (x y : Bool) → eqb c 34 ≡ x → eqb c 92 ≡ y
     → quote_from false (escaped_byte c ++ cs) ≡ length (escaped_byte c) + quote_from false cs
 unfolding quote_from
-byte_passed c cs true y p q = rw p (omega arith)
-byte_passed c cs false true p q = rw (p, q) (omega arith)
-byte_passed c cs false false p q = rw (p, q, p, q) (omega arith)
+byte_passed c cs x y p q = grind (arith, nat_tests)
 
 pub ends_at_quote : (text rest : List ℕ) → quote_from false (escaped text ++ 34 ∷ rest) ≡ length (escaped text)
 unfolding quote_from

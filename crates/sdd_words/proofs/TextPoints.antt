@@ -1,16 +1,12 @@
 -- The points of a text are those of its spelling.
-use Rattle.sdd_words.proofs.All.{Bool, IsSpelling, List, [], ap, behind_point, cases_Bool, content, eqb, escaped, escaped_byte, false, has_one_point, has_point, inl, inr, is_point, refl, sym, true, unescaped, word_spelled, ℕ, ◌++◌, ◌∙◌, ◌∷◌, ◌≡◌}
+use Rattle.sdd_words.proofs.All.{Bool, IsSpelling, List, [], ap, arith, behind_point, cases_Bool, content, eqb, escaped, escaped_byte, false, has_one_point, has_point, inl, inr, is_point, nat_tests, refl, sym, true, unescaped, word_spelled, ℕ, ◌++◌, ◌∙◌, ◌∷◌, ◌≡◌}
 use Rattle.sdd_words.proofs.Points.{has_here, has_on, behind_here, behind_on}
 
 has_byte : (c : ℕ) (cs : List ℕ) (x y : Bool) → eqb c 34 ≡ x → eqb c 92 ≡ y → has_point (escaped_byte c ++ cs) ≡ has_point (c ∷ cs)
-has_byte c cs true y p q = rw p (has_on is_point 92 (c ∷ cs) refl)
-has_byte c cs false true p q = rw (p, q) (has_on is_point 92 (c ∷ cs) refl)
-has_byte c cs false false p q = rw (p, q) refl
+has_byte c cs x y p q = grind (arith, nat_tests)
 
 behind_byte : (c : ℕ) (cs : List ℕ) (x y : Bool) → eqb c 34 ≡ x → eqb c 92 ≡ y → behind_point (escaped_byte c ++ cs) ≡ behind_point (c ∷ cs)
-behind_byte c cs true y p q = rw p (behind_on is_point 92 (c ∷ cs) refl)
-behind_byte c cs false true p q = rw (p, q) (behind_on is_point 92 (c ∷ cs) refl)
-behind_byte c cs false false p q = rw (p, q) refl
+behind_byte c cs x y p q = grind (arith, nat_tests)
 
 has_text : (text : List ℕ) → has_point (escaped text) ≡ has_point text
 has_text [] = refl

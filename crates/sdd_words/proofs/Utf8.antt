@@ -1,17 +1,14 @@
 -- The spelling of a text is UTF-8, and that of a number is a plain word.
-use Rattle.sdd_words.proofs.All.{AllDigits, Bool, HasNoSpace, IsAscii, IsPlain, IsUtf8, List, [], all_scalars, ap, append-nil, append_assoc, arith, cases_lt, decimal, decimal_is_IsNumeral, digit_from_value, encode_ascii, encode_utf8_all, encodes-IsAscii, encodes-append, eqb, eqb-true, escaped, escaped_byte, false, get_or, inl, inr, inside_one, length, mag, negsuc, pos, refl, signed_decimal, suc, sym, true, zero, ℕ, ℤ, ◌++◌, ◌<◌, ◌^◌, ◌∙◌, ◌∷◌, ◌≡◌}
+use Rattle.sdd_words.proofs.All.{AllDigits, Bool, HasNoSpace, IsAscii, IsAscii-cons, IsAscii-nil, IsPlain, IsUtf8, List, [], all_scalars, and_parts, ap, append-nil, append_assoc, arith, cases_lt, decimal, decimal_is_IsNumeral, digit_from_value, encode_ascii, encode_utf8_all, encodes-IsAscii, encodes-append, eqb, escaped, escaped_byte, false, get_or, inl, inr, inside_one, length, mag, nat_tests, negsuc, pos, refl, signed_decimal, suc, sym, true, ℕ, ℤ, ◌++◌, ◌<◌, ◌^◌, ◌∙◌, ◌∷◌, ◌≡◌}
 use lib.Utf8.{encode, scalar}
-use Rattle.sdd_words.proofs.Numbers.{both}
 
-high_byte : (b : ℕ) (x y : Bool) → eqb b 34 ≡ x → eqb b 92 ≡ y → (b < 128 → ⊥) → escaped_byte b ≡ b ∷ []
-high_byte b true y p q h = let e = eqb-true b 34 p in absurd (h (omega arith))
-high_byte b false true p q h = let e = eqb-true b 92 q in absurd (h (omega arith))
-high_byte b false false p q h = rw (p, q) refl
+high_byte : (b : ℕ) → (b < 128 → ⊥) → escaped_byte b ≡ b ∷ []
+high_byte b h = grind (arith, nat_tests)
 
 high_same : (bs : List ℕ) → ((k : ℕ) → k < length bs → get_or bs k 0 < 128 → ⊥) → escaped bs ≡ bs
 high_same [] h = refl
 high_same (b ∷ bs) h =
-    let one : escaped_byte b ≡ b ∷ [] = high_byte b (eqb b 34) (eqb b 92) refl refl (h 0 (omega arith)) in
+    let one : escaped_byte b ≡ b ∷ [] = high_byte b (h 0 (omega arith)) in
     let more : escaped bs ≡ bs = high_same bs (λ k lt. h (suc k) (omega arith)) in
     ap (λ (l : List ℕ). l ++ escaped bs) one ∙ ap (λ (l : List ℕ). b ∷ l) more
 
@@ -20,18 +17,11 @@ escaped-append [] b = refl
 escaped-append (c ∷ a) b = ap (λ (l : List ℕ). escaped_byte c ++ l) (escaped-append a b) ∙ sym (append_assoc (escaped_byte c) (escaped a) (escaped b))
 
 one : (c : ℕ) → c < 128 → IsAscii (c ∷ [])
-one c lt zero = lt
-one c lt (suc i) = omega arith
-
-two : (c : ℕ) → c < 128 → IsAscii (92 ∷ c ∷ [])
-two c lt zero = omega arith
-two c lt (suc zero) = lt
-two c lt (suc (suc i)) = omega arith
+one c lt = IsAscii-cons c [] lt IsAscii-nil
 
 low_ascii : (c : ℕ) (x y : Bool) → eqb c 34 ≡ x → eqb c 92 ≡ y → c < 128 → encode_utf8_all (escaped_byte c) ≡ escaped_byte c
-low_ascii c true y p q lt = rw p (encodes-IsAscii (92 ∷ c ∷ []) (two c lt))
-low_ascii c false true p q lt = rw (p, q) (encodes-IsAscii (92 ∷ c ∷ []) (two c lt))
 low_ascii c false false p q lt = rw (p, q) (encodes-IsAscii (c ∷ []) (one c lt))
+low_ascii c _ _ p q lt = simp (p, q) (encodes-IsAscii (92 ∷ c ∷ []) (IsAscii-cons 92 (c ∷ []) (omega arith) (one c lt)))
 
 char_step : (c : ℕ) → escaped (encode c) ≡ encode_utf8_all (escaped_byte c)
 char_step c =
@@ -40,7 +30,7 @@ char_step c =
       | inr le ↦
           let same : escaped (encode c) ≡ encode c = high_same (encode c)
           (λ k lt low. let e : c ≡ get_or (encode c) k 0 = inside_one c [] (encode c) k (sym (append-nil (encode c))) lt low in omega arith) in
-          let byte : escaped_byte c ≡ c ∷ [] = high_byte c (eqb c 34) (eqb c 92) refl refl (λ lt. omega arith) in
+          let byte : escaped_byte c ≡ c ∷ [] = high_byte c (λ lt. omega arith) in
           same ∙ sym (append-nil (encode c)) ∙ ap encode_utf8_all (sym byte)
     ]
 
@@ -53,13 +43,11 @@ chars_escape (c ∷ cs) =
 
 scalar_step : (c : ℕ) (cs : List ℕ) (x y : Bool) → eqb c 34 ≡ x → eqb c 92 ≡ y → scalar c ≡ true → all_scalars (escaped cs) ≡ true
     → all_scalars (escaped_byte c ++ escaped cs) ≡ true
-scalar_step c cs true y p q h k = rw (p, h, k) refl
-scalar_step c cs false true p q h k = rw (p, q, h, k) refl
-scalar_step c cs false false p q h k = rw (p, q, h, k) refl
+scalar_step c cs x y p q h k = grind (arith, nat_tests)
 
 scalars_escape : (cs : List ℕ) → all_scalars cs ≡ true → all_scalars (escaped cs) ≡ true
 scalars_escape [] h = refl
-scalars_escape (c ∷ cs) h = let a = both (scalar c) (all_scalars cs) h in scalar_step c cs (eqb c 34) (eqb c 92) refl refl a.0 (scalars_escape cs a.1)
+scalars_escape (c ∷ cs) h = let a = and_parts (scalar c) (all_scalars cs) h in scalar_step c cs (eqb c 34) (eqb c 92) refl refl a.0 (scalars_escape cs a.1)
 
 pub IsUtf8-escaped : (text : List ℕ) → IsUtf8 text → IsUtf8 (escaped text)
 IsUtf8-escaped text u = (escaped u.0, (scalars_escape u.0 u.1.0, sym (chars_escape u.0) ∙ ap escaped u.1.1))

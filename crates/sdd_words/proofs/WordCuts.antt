@@ -1,5 +1,5 @@
 -- The first word of what is left of a line.
-use Rattle.sdd_words.proofs.All.{AllWords, Bool, HasNoSpace, IsLeft, List, Plain, Quoted, Word, [], ap, append_assoc, arith, behind_space, drop, drop-append-le, drop_all, eqb-true, escaped, false, get_or, is_space, length, line_bytes, more_bytes, or_none, position_or_len, quote_from, refl, subst, suc, sym, take, take-append-le, take_all, true, unescaped, word_bytes, words_left, ℕ, ◌++◌, ◌+◌, ◌-◌, ◌<◌, ◌∙◌, ◌∷◌, ◌≡◌, ◌≢◌}
+use Rattle.sdd_words.proofs.All.{AllWords, HasNoSpace, IsLeft, List, Plain, Quoted, Word, [], ap, append_assoc, arith, behind_space, drop, drop-append_seam, escaped, false, get_or, is_space, length, line_bytes, more_bytes, nat_tests, ne_eqb, or_none, position_or_len, quote_from, refl, subst, suc, sym, take, take-append_seam, unescaped, word_bytes, words_left, ℕ, ◌++◌, ◌<◌, ◌∙◌, ◌∷◌, ◌≡◌, ◌≢◌}
 use Rattle.sdd_words.specs.Scan.{scan}
 use Rattle.sdd_words.proofs.Points.{place_here, place_on}
 use Rattle.sdd_words.proofs.Splits.{scan_again}
@@ -17,26 +17,15 @@ is_left ws h = record {
   spelled = ap line_bytes (sym (left_again ws h));
 }
 
-front_taken : {A : Type 0} (xs ys : List A) → take (length xs) (xs ++ ys) ≡ xs
-front_taken xs ys = take-append-le (length xs) xs ys (omega arith) ∙ take_all (length xs) xs (omega arith)
-
-front_dropped : {A : Type 0} (xs ys : List A) → drop (length xs) (xs ++ ys) ≡ ys
-front_dropped xs ys = drop-append-le (length xs) xs ys (omega arith) ∙ ap (λ l. l ++ ys) (drop_all (length xs) xs (omega arith))
-
 behind_word : (ws : List Word) → behind_space (more_bytes ws) ≡ line_bytes ws
-behind_word [] = refl
-behind_word (w ∷ ws) = refl
-
-no_space : (c : ℕ) (b : Bool) → is_space c ≡ b → c ≢ 32 → is_space c ≡ false
-no_space c true e other = absurd (other (eqb-true c 32 e))
-no_space c false e other = e
+behind_word ws = grind (arith, nat_tests)
 
 -- a word without quotes ends before the first space
 ends_at_space : (word : List ℕ) (ws : List Word) → HasNoSpace word → position_or_len is_space (word ++ more_bytes ws) ≡ length word
 ends_at_space [] [] h = refl
 ends_at_space [] (w ∷ ws) h = place_here is_space 32 (word_bytes w ++ more_bytes ws) refl
 ends_at_space (c ∷ cs) ws h =
-    place_on is_space c (cs ++ more_bytes ws) (no_space c (is_space c) refl h.0) ∙ ap suc (ends_at_space cs ws h.1)
+    place_on is_space c (cs ++ more_bytes ws) (ne_eqb c 32 h.0) ∙ ap suc (ends_at_space cs ws h.1)
 
 -- a word without quotes at the front, and the words after it
 record PlainFirst (bytes : List ℕ) (ws : List Word) : Type 0 where
@@ -49,17 +38,7 @@ record PlainFirst (bytes : List ℕ) (ws : List Word) : Type 0 where
 
 plain_first : (bytes : List ℕ) (ws : List Word) → bytes ≡ line_bytes ws → AllWords ws → 0 < length bytes → get_or bytes 0 0 ≢ 34
     → PlainFirst bytes ws
-plain_first bytes [] e h some other = let none : length bytes ≡ 0 = ap length e in absurd (omega arith)
-plain_first bytes (Plain [] ∷ ws) e h some other = absurd h.0
-plain_first bytes (Plain (c ∷ cs) ∷ ws) e h some other = record {
-  word = c ∷ cs;
-  more = ws;
-  words = refl;
-  spelled = e;
-  no_space = (h.0.1, h.0.2);
-  are_words = h.1;
-}
-plain_first bytes (Quoted text ∷ ws) e h some other = absurd (other (ap (λ (l : List ℕ). get_or l 0 0) e))
+plain_first bytes ws e h some other = grind (arith, nat_tests)
 
 -- what it cuts off
 record CutsOff (bytes rest : List ℕ) (made : Word) : Type 0 where
@@ -73,10 +52,10 @@ plain_at bytes n left some other at =
     let length_is : n ≡ length first.word =
     at ∙ ap (position_or_len is_space) first.spelled ∙ ends_at_space first.word first.more first.no_space in
     let word_is : take n bytes ≡ first.word = ap (λ (k : ℕ). take k bytes) length_is ∙ ap (λ (l : List ℕ). take (length first.word) l) first.spelled
-    ∙ front_taken first.word (more_bytes first.more) in
+    ∙ take-append_seam first.word (more_bytes first.more) in
     let dropped : drop n bytes ≡ more_bytes first.more = ap (λ (k : ℕ). drop k bytes) length_is
     ∙ ap (λ (l : List ℕ). drop (length first.word) l) first.spelled
-    ∙ front_dropped first.word (more_bytes first.more) in
+    ∙ drop-append_seam first.word (more_bytes first.more) in
     let rest_is : behind_space (drop n bytes) ≡ line_bytes first.more = ap behind_space dropped ∙ behind_word first.more in
     record {
       cut = first.words ∙ ap (λ (l : List Word). Plain first.word ∷ l) (sym (left_again first.more first.are_words))
@@ -102,9 +81,6 @@ record TextFirst (bytes : List ℕ) (ws : List Word) : Type 0 where
   are_words : AllWords more
 
 text_first : (bytes : List ℕ) (ws : List Word) → 34 ∷ bytes ≡ line_bytes ws → AllWords ws → TextFirst bytes ws
-text_first bytes [] e h = absurd cc
-text_first bytes (Plain [] ∷ ws) e h = absurd h.0
-text_first bytes (Plain (c ∷ cs) ∷ ws) e h = absurd (h.0.0 (sym (ap (λ (l : List ℕ). get_or l 0 0) e)))
 text_first bytes (Quoted text ∷ ws) e h = record {
   text = text;
   more = ws;
@@ -112,6 +88,7 @@ text_first bytes (Quoted text ∷ ws) e h = record {
   spelled = ap (λ (l : List ℕ). drop 1 l) e ∙ append_assoc (escaped text) (34 ∷ []) (more_bytes ws);
   are_words = h.1;
 }
+text_first bytes _ e h = grind (arith, nat_tests)
 
 record CutsText (bytes : List ℕ) (n : ℕ) : Type 0 where
   cut : words_left (34 ∷ bytes) ≡ Quoted (unescaped (take n bytes)) ∷ words_left (behind_space (behind_space (drop n bytes)))
@@ -125,10 +102,10 @@ text_at bytes n left at =
     at ∙ ap (quote_from false) first.spelled ∙ ends_at_quote first.text (more_bytes first.more) in
     let word_is : take n bytes ≡ escaped first.text =
     ap (λ (k : ℕ). take k bytes) length_is ∙ ap (λ (l : List ℕ). take (length (escaped first.text)) l) first.spelled
-    ∙ front_taken (escaped first.text) (34 ∷ more_bytes first.more) in
+    ∙ take-append_seam (escaped first.text) (34 ∷ more_bytes first.more) in
     let dropped : drop n bytes ≡ 34 ∷ more_bytes first.more =
     ap (λ (k : ℕ). drop k bytes) length_is ∙ ap (λ (l : List ℕ). drop (length (escaped first.text)) l) first.spelled
-    ∙ front_dropped (escaped first.text) (34 ∷ more_bytes first.more) in
+    ∙ drop-append_seam (escaped first.text) (34 ∷ more_bytes first.more) in
     let rest_is : behind_space (behind_space (drop n bytes)) ≡ line_bytes first.more =
     ap (λ (l : List ℕ). behind_space (behind_space l)) dropped ∙ behind_word first.more in
     let text_is : unescaped (take n bytes) ≡ first.text = ap unescaped word_is ∙ text_back first.text in
@@ -151,7 +128,3 @@ text_left bytes n left at = (text_at bytes n left at).left
 pub text_spelled : (bytes : List ℕ) (n : ℕ) → IsLeft (34 ∷ bytes) → n ≡ quote_from false bytes
     → take n bytes ≡ escaped (unescaped (take n bytes))
 text_spelled bytes n left at = (text_at bytes n left at).spelled
-
-pub behind_length : (bytes : List ℕ) → length (behind_space bytes) ≡ length bytes - 1
-behind_length [] = refl
-behind_length (c ∷ cs) = omega arith

@@ -1,5 +1,7 @@
 -- What was written, one item more, and how written words are put together.
 use Rattle.sdd_words.proofs.All.{List, Word, [], add-one, ap, append-nil, append_assoc, drop, drop-cons, drop_all, flat_map, get_or, length, map, more_bytes, refl, spaced, sym, ℕ, ◌++◌, ◌+◌, ◌<◌, ◌∙◌, ◌∷◌, ◌≡◌, ◌≤◌}
+pub use Rattle.std.proofs.lemmas.Grind.{flat_map-append}
+pub use Rattle.std.proofs.lemmas.List.Folds.{flat_map-map}
 
 -- what f makes of the items before, and what it makes of those that are left
 pub item_written : {A : Type 0} (f : A → List ℕ) (xs : List A) (x : A) (out total : List ℕ) (i : ℕ) → i < length xs → x ≡ get_or xs i x
@@ -13,14 +15,6 @@ item_written f xs x out total i lt is e =
 pub items_written : {A : Type 0} (f : A → List ℕ) (xs : List A) (out total : List ℕ) (i : ℕ) → length xs ≤ i
     → out ++ flat_map f (drop i xs) ≡ total → out ≡ total
 items_written f xs out total i past e = sym (append-nil out) ∙ ap (λ l. out ++ flat_map f l) (sym (drop_all i xs past)) ∙ e
-
-pub flat_map-append : {A : Type 0} (f : A → List ℕ) (xs ys : List A) → flat_map f (xs ++ ys) ≡ flat_map f xs ++ flat_map f ys
-flat_map-append f [] ys = refl
-flat_map-append f (x ∷ xs) ys = ap (λ (l : List ℕ). f x ++ l) (flat_map-append f xs ys) ∙ sym (append_assoc (f x) (flat_map f xs) (flat_map f ys))
-
-pub flat_map-map : {A B : Type 0} (f : B → List ℕ) (g : A → B) (xs : List A) → flat_map f (map g xs) ≡ flat_map (λ x. f (g x)) xs
-flat_map-map f g [] = refl
-flat_map-map f g (x ∷ xs) = ap (λ (l : List ℕ). f (g x) ++ l) (flat_map-map f g xs)
 
 pub flat_map-flat_map : {A B : Type 0} (f : B → List ℕ) (g : A → List B) (xs : List A)
     → flat_map f (flat_map g xs) ≡ flat_map (λ x. flat_map f (g x)) xs

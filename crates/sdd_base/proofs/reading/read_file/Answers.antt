@@ -1,4 +1,4 @@
-use Rattle.sdd_base.proofs.All.{ap, arith, length, with_front, ◌<◌, ◌∙◌, ◌≡◌}
+use Rattle.sdd_base.proofs.All.{ap, arith, length, with_front, ◌<◌, ◌∙◌}
 use Rattle.sdd_base.proofs.Taken.{ended, none_taken, read_through, reads_to}
 use Rattle.sdd_base.proofs.reading.read_file.Goals as goal
 

@@ -1,4 +1,4 @@
-use Rattle.sdd_base.proofs.All.{Failing, FailingShelf, List, ShelfState, ap, find_file, ℕ, ◌∙◌, ◌≡◌}
+use Rattle.sdd_base.proofs.All.{Failing, FailingShelf, ap, find_file, ◌∙◌, ◌≡◌}
 use Rattle.sdd_base.proofs.Taken.{if_some}
 use Rattle.sdd_base.proofs.memory_shelf.MemShelfShelf.open_file.Goals as goal
 

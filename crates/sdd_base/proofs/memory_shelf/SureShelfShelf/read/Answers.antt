@@ -1,4 +1,4 @@
-use Rattle.sdd_base.proofs.All.{map, opened_at, ◌≡◌}
+use Rattle.sdd_base.proofs.All.{map, opened_at}
 use Rattle.sdd_base.proofs.Opened.{reads, length-opened, Reads}
 use Rattle.sdd_base.proofs.memory_shelf.SureShelfShelf.read.Goals as goal
 

@@ -1,4 +1,4 @@
-use Rattle.sdd_base.proofs.All.{length, take, ◌<◌, ◌≡◌}
+use Rattle.sdd_base.proofs.All.{length, take, ◌<◌}
 use Rattle.sdd_base.proofs.Fronts.{slice_get-front}
 use Rattle.sdd_base.proofs.open_files.OpenFiles.at.Goals as goal
 

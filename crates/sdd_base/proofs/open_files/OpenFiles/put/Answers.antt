@@ -1,4 +1,4 @@
-use Rattle.sdd_base.proofs.All.{length, take, ◌<◌, ◌≡◌}
+use Rattle.sdd_base.proofs.All.{length, take, ◌<◌}
 use Rattle.sdd_base.proofs.Fronts.{front-set}
 use Rattle.sdd_base.proofs.open_files.OpenFiles.put.Goals as goal
 
