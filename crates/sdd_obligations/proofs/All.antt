@@ -4,7 +4,6 @@ pub use Rattle.sdd_exec.proofs.Serving.{each_has as each_of}
 pub use Rattle.sdd_exec.specs.Choices.{Has}
 pub use Rattle.sdd_exec.specs.Serves.{Serves}
 pub use Rattle.sdd_invariants.proofs.Active.{each_at, handed_way, sent_way, step_way, step_way_over}
-pub use Rattle.sdd_invariants.proofs.Again.{first_there}
 pub use Rattle.sdd_invariants.proofs.Answered.{answered_all, from_a_d, honest, put_in_by_d, read_of, same_head}
 pub use Rattle.sdd_invariants.proofs.Apart.{up_le as trans_le}
 pub use Rattle.sdd_invariants.proofs.Applied.{key_rises, one_of_key, reads_strict, writes_strict}
@@ -13,8 +12,8 @@ pub use Rattle.sdd_invariants.proofs.AreSteps.{t_step}
 pub use Rattle.sdd_invariants.proofs.Bools.{and_left, and_right, differ, if_way, lower_same_higher, neither_left, neither_right, not_both, not_zero, only_right, same_number, same_or_not, true_or_false}
 pub use Rattle.sdd_invariants.proofs.ClassOrder.{class_rises, in_class_order}
 pub use Rattle.sdd_invariants.proofs.Clocks.{clock_grows, clock_number, drawn, drawn_at, limit_le, stamp_below_next, stamp_rises}
-pub use Rattle.sdd_invariants.proofs.Dones.{dones_few, hand_more as push_more, head_in, put_once, strict_left, tally_at}
-pub use Rattle.sdd_invariants.proofs.Exchanges.{asks_next, hand_goes}
+pub use Rattle.sdd_invariants.proofs.Dones.{dones_few, hand_more as push_more, head_in, next_in, put_once, strict_left, tally_at}
+pub use Rattle.sdd_invariants.proofs.Exchanges.{asks_next, hand_goes, never}
 pub use Rattle.sdd_invariants.proofs.Fair.{IsMarkEntry, all_new, allowed_mark, d_fair, home_fair, t_fair, u_fair}
 pub use Rattle.sdd_invariants.proofs.HoldChain.{hold_chain, same_turned as same_sym, t_table, u_table}
 pub use Rattle.sdd_invariants.proofs.Holding.{hold_rule, not_lt_is as not_past, t_none}
@@ -27,14 +26,14 @@ pub use Rattle.sdd_invariants.proofs.Once.{answered_there}
 pub use Rattle.sdd_invariants.proofs.Origins.{was_put}
 pub use Rattle.sdd_invariants.proofs.Places.{compare, longer}
 pub use Rattle.sdd_invariants.proofs.Processed.{and_false as and_no, not_own, own_record, passing, processed_handed, processed_more}
-pub use Rattle.sdd_invariants.proofs.PutBy.{put_by_d, was_handed}
+pub use Rattle.sdd_invariants.proofs.PutBy.{first_there, put_by_d, was_handed}
 pub use Rattle.sdd_invariants.proofs.Queues.{queue_is}
-pub use Rattle.sdd_invariants.proofs.Readied.{asks_whose, readied}
+pub use Rattle.sdd_invariants.proofs.Readied.{asks_whose, readied, same_attempt as one_attempt}
 pub use Rattle.sdd_invariants.proofs.ReadsPut.{start_puts, strict_modules}
 pub use Rattle.sdd_invariants.proofs.Recorded.{start_of_active}
 pub use Rattle.sdd_invariants.proofs.Releases.{one_if_le as one_le, served_by as hand_ts}
 pub use Rattle.sdd_invariants.proofs.Sent.{no_put as nothing_if, puts_grow, sent_grows, sent_is}
-pub use Rattle.sdd_invariants.proofs.Serving.{flip as not_same, u_due, u_way}
+pub use Rattle.sdd_invariants.proofs.Serving.{u_due, u_way}
 pub use Rattle.sdd_invariants.proofs.Sites.{site_is, site_self, the_one}
 pub use Rattle.sdd_invariants.proofs.Split.{le_is, processed_stays}
 pub use Rattle.sdd_invariants.proofs.Starting.{t_commit, u_commit}
@@ -56,8 +55,9 @@ pub use Rattle.sdd_invariants.proofs.logs.Grows.{mark_is_next}
 pub use Rattle.sdd_invariants.proofs.logs.Marking.{TurnsNone}
 pub use Rattle.sdd_invariants.proofs.logs.NewMarks.{lawful_permitted}
 pub use Rattle.sdd_invariants.proofs.logs.Rounding.{each_of_round}
-pub use Rattle.sdd_invariants.proofs.logs.attempt.Phases.{lacking_modules as lack_modules}
+pub use Rattle.sdd_invariants.proofs.logs.attempt.Phases.{lacking_modules as lack_modules, own as own_started}
 pub use Rattle.sdd_invariants.proofs.logs.attempt.Places.{not_first as suc_no_zero}
+pub use Rattle.sdd_invariants.proofs.logs.attempt.Queueing.{other_way as not_same}
 pub use Rattle.sdd_invariants.proofs.logs.attempt.Waiting.{shorter as filter_shorter}
 pub use Rattle.sdd_invariants.proofs.logs.net.Lists.{get-append as in_left}
 pub use Rattle.sdd_invariants.proofs.logs.tm.Lists.{get_map as at_map, get_within as place_within, of_map as in_mapped}
@@ -84,8 +84,8 @@ pub use Rattle.sdd_obligations.specs.Awaited.{AwaitsRows, IsAwaited, IsReadable,
 pub use Rattle.sdd_obligations.specs.Bounds.{AllFewTicks, IsNumbered, IsSmall, class_starts, greatest_height, most_classes, most_sites, start_of_class}
 pub use Rattle.sdd_obligations.specs.Contents.{AsksPhase, Tells, held_for, is_shipped, kept, question, question_of}
 pub use Rattle.sdd_obligations.specs.Obligations.{Obligations}
-pub use Rattle.sdd_obligations.specs.Fitting.{AreWritten, FitsInput, FitsText, IsItemChange}
 pub use Rattle.sdd_obligations.specs.Runnable.{IsRunnable}
+pub use Rattle.sdd_obligations.specs.Fitting.{AreWritten, FitsInput, FitsText, IsItemChange}
 pub use Rattle.sdd_obligations.specs.Heights.{AllLow, HandsLow, IsLow, IsUnder, height, starts_by, ticks_of, times_of, top}
 pub use Rattle.sdd_obligations.specs.Reading.{HasEras, before_answer, copies_read}
 pub use Rattle.sdd_obligations.specs.Real.{FitsEra, IsGood, IsServedAt, ServedBy, fits_submit}

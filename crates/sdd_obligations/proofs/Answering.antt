@@ -55,8 +55,7 @@ counted_hand a f [] e = cc
 counted_hand a f (Handed from m ∷ l) e = elim (true_or_false (same_site from a && f m)) [
   | inl p ↦ push_one f (same_site a from) (f m) (hands_from a l) m refl (turned a from (f m) p)
   | inr p ↦ (let i = counted_hand a f l (only_right (same_site from a && f m)
-      (list_any (at_site a f) (all_handed l)) p e) in let u =
-      push_more f (same_site a from) (hands_from a l) m in omega (arith, i, u))
+      (list_any (at_site a f) (all_handed l)) p e) in omega (arith, i, push_more f (same_site a from) (hands_from a l) m))
 ]
 counted_hand a f (_ ∷ l) e = counted_hand a f l e
 
@@ -66,13 +65,11 @@ pub none_before : (g : Input) (a b : Site) (log : Log) (f : Msg → Bool) (m : M
     → list_any (at_site a f) (all_handed (local_of g b log)) ≡ false
 none_before g a b log f m h e p l = elim (true_or_false (list_any (at_site a f) (all_handed (local_of g b log)))) [
   | inl q ↦ (let ps : List Msg = puts_to b (local_of g a log) in
-      let i = counted_hand a f (local_of g b log) q in
       let z : tally f (hands_from a (local_of g b log)) ≡ tally f (take (handed a b log) ps) = ap (tally f) (in_order g log a b h) in
       let more : tally f (take (suc (handed a b log)) ps) ≡ tally f (take (handed a b log) ps) + tally f
       (m ∷ []) = ap (tally f) (take_one_more (handed a b log) ps m e) ∙ tally_append f (take (handed a b log) ps) (m ∷ []) in
-      let less = tally_take f (suc (handed a b log)) ps in
       let one : one_if (f m) ≡ 1 = ap one_if p in
-      absurd (omega (arith, i, z, more, less, one, l)))
+      absurd (omega (arith, counted_hand a f (local_of g b log) q, z, more, tally_take f (suc (handed a b log)) ps, one, l)))
   | inr q ↦ q
 ]
 

@@ -1,8 +1,8 @@
 -- A data module answers in turn, where each question that is handed to it comes in turn.
-use Rattle.sdd_obligations.proofs.All.{Act, Answer, Apply, Asks, Bool, Cond, Did, Done, Each, Handed, IsClassHere, IsDueEach, List, Msg, Null, Open, Pass, Pipe, Read, Ready, Rec, Records, Refused, Reject, Rejected, Sends, Setting, Site, Some, Told, Ts, Turn, U, Wait, Write, [], and_right as and_right_of, answers, ap, ask_for, at_seam, cond, done_for, eqb-true, false, filter, frozen, goes_through, head, head_of, head_processed, home_of, if_way, if◌then◌else◌, inl, inr, is_a_refusal, is_answer, is_processing, is_read, length, map, not_own, opens, own_record, pipe, pipe_acted, processed_more, put, reads_asked, refl, rows_asked, same_or_not, same_site, site_self, slice_get, source_of, subst, sym, tail_of, to_site, told_by, true, turn_after_answer, turn_with, ℕ, ◌&&◌, ◌++◌, ◌==◌, ◌∙◌, ◌∷◌, ◌≡◌}
+use Rattle.sdd_obligations.proofs.All.{Act, Answer, Apply, Asks, Bool, Cond, Did, Done, Each, Handed, IsClassHere, IsDueEach, List, Msg, Null, Open, Pass, Pipe, Read, Ready, Rec, Records, Refused, Reject, Rejected, Sends, Setting, Site, Some, Told, Ts, Turn, U, Wait, Write, [], and_no, and_right as and_right_of, answers, ap, ask_for, at_seam, cond, done_for, eqb-true, false, filter, frozen, goes_through, head, head_of, head_processed, home_of, if_way, if◌then◌else◌, inl, inr, is_a_refusal, is_answer, is_processing, is_read, length, map, not_own, opens, own_record, pipe, pipe_acted, processed_more, put, reads_asked, refl, rows_asked, same_or_not, same_site, site_self, slice_get, source_of, subst, sym, tail_of, to_site, told_by, true, turn_after_answer, turn_with, ℕ, ◌&&◌, ◌++◌, ◌==◌, ◌∙◌, ◌∷◌, ◌≡◌}
 use Rattle.sdd_obligations.proofs.HandedAnswersKeepTurns.{told_one}
 use Rattle.sdd_obligations.proofs.DataSteps.{IsDataStep, counts_told, data_step, data_step_way}
-use Rattle.sdd_obligations.proofs.Replying.{HasTurn, HasTurnAt, IsAskedInTurn, IsProcessed, and_no, asker, asks_open, from_site, read_asks_none, read_is_a_read, turn_arrives, turn_hand, turn_replies, turn_still}
+use Rattle.sdd_obligations.proofs.Replying.{HasTurn, HasTurnAt, IsAskedInTurn, IsProcessed, asker, asks_open, from_site, read_asks_none, read_is_a_read, turn_arrives, turn_hand, turn_replies, turn_still}
 use Rattle.sdd_invariants.specs.site_module.SiteLog.{Log}
 
 -- a head that is processed
@@ -79,8 +79,7 @@ turn_read ts c at log k r m x src p same e through f home h =
           (let w = read_next ts c at log k v m h e through q in
           let here : same_site at src ≡ true = subst (λ s. same_site at s ≡ true) (sym (home w.class_is)) (site_self at) in
           let now : turn_with ts c at (Did act ∷ log) ≡ (if is_a_refusal x then Refused else Told w.uses m) =
-          turn_is ∙ ap (λ (b : Bool). if same_site at src && b then turn_after_answer x v else v) q
-          ∙ ap (λ (b : Bool). if b && true then turn_after_answer x v else v) here ∙ ap (turn_after_answer x) w.is in
+          turn_is ∙ (λ i. if here i && q i then turn_after_answer x v else v) ∙ ap (turn_after_answer x) w.is in
           let taken : pipe c (Did act ∷ log) ≡ head_processed (pipe c log) =
           subst (λ j. pipe j (Did act ∷ log) ≡ head_processed (pipe j log)) w.class_is (own_record k r ((src, x) ∷ []) log p).0 in
           let at_head : head (pipe c log) ≡ Some m = subst (λ j. head (pipe j log) ≡ Some m) w.class_is e in

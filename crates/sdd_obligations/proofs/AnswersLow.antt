@@ -63,17 +63,15 @@ head_is_low h c log m i e = subst (IsHeadLow h) e (first_low h (pipe c log).unpr
 reject_low : (h : ℕ) (s : Setting) (log : Log) (b : Site) (act : Act) (ts : Ts) (k by : ClassNo) (write : Ts) → HandsLow h log
     → IsRejectBy s log b act ts k by write → IsLow h (Reject ts k by write)
 reject_low h s log b act ts k by write i r =
-    let p = view_low h s log r.cond_by.class.0 i in
     let l = greatest_le (top h) (filter_map (write_time r.cond_by.frags)
     (at_class (view_of s log) r.cond_by.class.0).pipe.processed) (write_times_le h r.cond_by.frags
-    (at_class (view_of s log) r.cond_by.class.0).pipe.processed p.done) in
+    (at_class (view_of s log) r.cond_by.class.0).pipe.processed (view_low h s log r.cond_by.class.0 i).done) in
     (subst (λ t. t ≤ top h) (sym r.write_is) l, tt)
 
 ask_low : (h : ℕ) (s : Setting) (log : Log) (b : Site) (k : ClassNo) (time : Ts) → HandsLow h log → IsAskBy s log b k time → IsLow h (Ask k time)
 ask_low h s log b k time i r =
     let m = head_is_low h r.class log (Read r.ts r.of r.txn r.attempt r.conds r.uses) i r.head_is in
-    let l = cond_le_at (top h) r.conds r.place r.cond_at m.1 r.there in
-    (subst (λ (t : Ts). t.0 ≤ top h) (sym r.time_is) l, tt)
+    (subst (λ (t : Ts). t.0 ≤ top h) (sym r.time_is) (cond_le_at (top h) r.conds r.place r.cond_at m.1 r.there), tt)
 
 by_d_low : (h : ℕ) (s : Setting) (log : Log) (b : Site) (act : Act) (m : Msg) → HandsLow h log → IsPutByD s log b act m → IsLow h m
 by_d_low h s log b act (Ready ts k counts) i p = tt

@@ -1,7 +1,6 @@
 -- How an exchange stands with one of the data modules, by the turn, and that each of its steps keeps that.
-use Rattle.sdd_obligations.proofs.All.{Asking, Asks, Bool, Exchange, Fetch, Fetching, IsOfUses, IsStrict, List, Move, Msg, None, Over, Phase, Reading, Ready, Reduce, Reduced, Reducing, Rows, Ship, Shipping, Silent, Some, Step, Told, Turn, Values, [], after_hand, answered, ap, class_no, contains, counted, counts_for, false, fetches, fetches_from, goes_on, if◌then◌else◌, inl, inr, is_a_read, is_a_refusal, is_a_ship, is_answer, lacking, length, move_at, next_move, phase_ends, reduces, refl, same_number, ships, subst, sym, time_at, to_all, true, uses_at, with_use, with_values, without, ℕ, ◌&&◌, ◌++◌, ◌+◌, ◌==◌, ◌∙◌, ◌∷◌, ◌≡◌, ◌⊎◌}
+use Rattle.sdd_obligations.proofs.All.{Asking, Asks, Bool, Exchange, Fetch, Fetching, IsOfUses, IsStrict, List, Move, Msg, None, Over, Phase, Reading, Ready, Reduce, Reduced, Reducing, Rows, Ship, Shipping, Silent, Some, Step, Told, Turn, Values, [], after_hand, answered, ap, class_no, contains, counted, counts_for, false, fetches, fetches_from, goes_on, if◌then◌else◌, inl, inr, is_a_read, is_a_refusal, is_a_ship, is_answer, lacking, length, move_at, never, next_move, phase_ends, reduces, refl, same_number, ships, subst, sym, time_at, to_all, true, uses_at, with_use, with_values, without, ℕ, ◌&&◌, ◌++◌, ◌+◌, ◌==◌, ◌∙◌, ◌∷◌, ◌≡◌, ◌⊎◌}
 use Rattle.sdd_obligations.proofs.Modules.{firsts, one_to_each, reading_ascends, reading_reads, to_module, without_other, without_own}
-use Rattle.sdd_obligations.proofs.Opened.{never}
 
 -- the phase awaits the answer to a question
 
@@ -21,11 +20,9 @@ awaits Shipping m = is_a_ship m
 awaits Over m = false
 
 abbrev pub is_last : Phase → Bool
-is_last Reading = false
-is_last (Fetching v) = false
-is_last (Reducing v) = false
 is_last Shipping = true
 is_last Over = true
+is_last _ = false
 
 -- A question to module d is still to be sent; it is awaited; the last one is answered; or nothing is read there.
 pub data IsAt (d : ℕ) (ms : List (ℕ × List ℕ)) (p : Phase) (sends : List (ℕ × Msg)) (lacks : List ℕ) (v : Turn) : Type 0 where
@@ -116,11 +113,10 @@ over_at d ms sends lacks v z (apart a b e g) = apart a b e g
 
 ended_at : (ts c d : ℕ) (x : Exchange) (p : Phase) (v : Turn) → IsStrict (firsts x.modules) → x.lacks ≡ []
     → IsAt d x.modules p x.to_send x.lacks v → x.phase ≡ p → IsAtTurn d (phase_ends ts c x p) v
-ended_at ts c d x Reading v h z i e = to_next ts c d x x.left x.done v h (idle_of d x.modules Reading x.to_send x.lacks v z refl i)
 ended_at ts c d x (Fetching m) v h z i e = to_reduce ts c d m x v h (idle_of d x.modules (Fetching m) x.to_send x.lacks v z refl i)
-ended_at ts c d x (Reducing m) v h z i e = to_next ts c d x x.left x.done v h (idle_of d x.modules (Reducing m) x.to_send x.lacks v z refl i)
 ended_at ts c d x Shipping v h z i e = over_at d x.modules x.to_send x.lacks v z i
 ended_at ts c d x Over v h z i e = subst (λ p. IsAt d x.modules p x.to_send x.lacks v) (sym e) i
+ended_at ts c d x y v h z i e = to_next ts c d x x.left x.done v h (idle_of d x.modules y x.to_send x.lacks v z refl i)
 
 -- an answer came
 

@@ -1,5 +1,5 @@
 -- Within the limits of a run no log is higher than the greatest height.
-use Rattle.sdd_obligations.proofs.All.{Act, AllFewTicks, D, Did, Does, Each, Entry, Hand, Handed, Input, IsFair, IsLawful, IsNumbered, IsPermitted, IsSmall, IsWithin, List, Log, MAX_LINK_MESSAGES, MAX_RUN_EVENTS, MAX_TICKS, Mark, Notes, Option, Records, Redeclared, Redeclares, Round, Site, Some, Start, Submits, Submitted, T, Ticked, U, [], all_new, ap, arith, dm_no, each_local, greatest_height, handed, hands, height, home_of, lawful_permitted, length, length-append, length-map, length-range_with_len, local_of, local_step, made, map, marks, most_classes, most_sites, mul-le-mul, mul-le-mul_right, own_act, range_with_len, refl, setting_of, sites, starts, starts_by, starts_more, submits, subst, suc, suc-mul, sym, t_fair, ticks_of, tm_no, trans_le, u_fair, view_of, with_made, ℕ, ◌*◌, ◌+◌, ◌<◌, ◌^◌, ◌∙◌, ◌∷◌, ◌≡◌, ◌≤◌}
+use Rattle.sdd_obligations.proofs.All.{Act, AllFewTicks, D, Did, Does, Each, Entry, Input, IsFair, IsLawful, IsNumbered, IsPermitted, IsSmall, IsWithin, List, Log, MAX_LINK_MESSAGES, MAX_RUN_EVENTS, MAX_TICKS, Mark, Option, Records, Redeclares, Site, Some, Start, T, U, [], all_new, ap, arith, dm_no, each_local, greatest_height, handed, hands, height, home_of, lawful_permitted, length, length-append, length-map, length-range_with_len, local_of, local_step, made, map, marks, most_classes, most_sites, mul-le-mul, mul-le-mul_right, own_act, range_with_len, refl, setting_of, sites, starts, starts_by, starts_more, submits, subst, suc, suc-mul, sym, t_fair, ticks_of, tm_no, trans_le, u_fair, view_of, with_made, ℕ, ◌*◌, ◌+◌, ◌<◌, ◌^◌, ◌∙◌, ◌∷◌, ◌≡◌, ◌≤◌}
 use Rattle.sdd_obligations.proofs.Counting.{site_few}
 use Rattle.sdd_obligations.proofs.Limits.{handed_few, hands_few, marks_few, submits_few}
 use Rattle.sdd_obligations.proofs.NoStarts.{d_starts_not}
@@ -53,15 +53,11 @@ height_le g [] f l = omega arith
 height_le g (Mark e ∷ log) f l =
     mark_sum (ticks_of e) (marks log) MAX_TICKS (height log) (all_starts g log)
     (all_starts g (Mark e ∷ log)) (of_next g log (Mark e) f l.1 l.0) (height_le g log f l.1) (sum_up g (Mark e) log)
-height_le g (Round es ∷ log) f l = same_sum (marks log) MAX_TICKS (height log) (all_starts g log) _ (height_le g log f l.1) (sum_up g (Round es) log)
 height_le g (Redeclares t ∷ log) f l = later_sum (marks log) MAX_TICKS (height log) (all_starts g log) _ (height_le g log f l.1) (sum_up g (Redeclares t) log)
-height_le g (Hand a b n m ∷ log) f l = same_sum (marks log) MAX_TICKS (height log) (all_starts g log) _ (height_le g log f l.1) (sum_up g (Hand a b n m) log)
-height_le g (Submitted at n ∷ log) f l = same_sum (marks log) MAX_TICKS (height log) (all_starts g log) _
-    (height_le g log f l.1) (sum_up g (Submitted at n) log)
-height_le g (Notes ∷ log) f l = same_sum (marks log) MAX_TICKS (height log) (all_starts g log) _ (height_le g log f l.1) (sum_up g Notes log)
 height_le g (Does at act ∷ log) f l =
     act_sum (starts_by act) (marks log) MAX_TICKS (height log) (all_starts g log) _ (height_le g log f l.1)
     (sum_act g at act log (of_next g log (Does at act) f l.1 l.0).0)
+height_le g (x ∷ log) f l = same_sum (marks log) MAX_TICKS (height log) (all_starts g log) _ (height_le g log f l.1) (sum_up g x log)
 
 -- how many Starts a site has
 
@@ -95,16 +91,12 @@ of_classes : (g : Input) (at : Site) (log : Log) → IsSmall g → IsLawful g lo
 of_classes g at log s l p w n f =
     let a = site_few (setting_of g at) (local_of g at log) n f (all_new g at log p) in
     let few : suc (length g.catalogue.classes) ≤ most_classes = let c = s.few_classes in omega (arith, c) in
-    let b = mul-le-mul few (came_few g at log s l p w) in
-    trans_le (starts (local_of g at log)) _ most_starts a b
+    trans_le (starts (local_of g at log)) _ most_starts a (mul-le-mul few (came_few g at log s l p w))
 
 -- a data module has none
 abbrev StartsNot : site.Log → site.Entry → Type 0
 StartsNot l (Did act) = starts_by act ≡ 0
-StartsNot l (Handed from m) = Unit {0}
-StartsNot l (Ticked n) = Unit {0}
-StartsNot l (Submits n t) = Unit {0}
-StartsNot l (Redeclared era t) = Unit {0}
+StartsNot l _ = Unit {0}
 
 none_started : (l : site.Log) → Each StartsNot l → starts l ≡ 0
 none_started [] h = refl
@@ -131,11 +123,10 @@ last_of h x y u r v a b c d = omega (arith, a, b, c, d)
 pub height_few : (g : Input) (log : Log) → IsSmall g → IsLawful g log → IsWithin log → height log ≤ greatest_height
 height_few g log s l w =
     let p = lawful_permitted g log s.once l in
-    let a = height_le g log s.few_ticks l in
     let b : marks log * MAX_TICKS ≤ MAX_RUN_EVENTS * MAX_TICKS = mul-le-mul_right MAX_TICKS (marks_few log w) in
     let c = total_le_at (λ at. starts (local_of g at log)) (all_sites g) most_starts (λ n at e. site_bound g at log s l p w (n, e)) in
     let d : length (all_sites g) * most_starts ≤ most_sites * most_starts = mul-le-mul_right most_starts (few_sites g s) in
-    last_of (height log) (marks log * MAX_TICKS) (all_starts g log) _ _ _ a b c d
+    last_of (height log) (marks log * MAX_TICKS) (all_starts g log) _ _ _ (height_le g log s.few_ticks l) b c d
 
 pub greatest_below : greatest_height < 2 ^ 53
 greatest_below = omega arith

@@ -1,5 +1,5 @@
 -- A question that is next to be handed over is for rows that its data module holds.
-use Rattle.sdd_obligations.proofs.All.{AreFor, Asks, Bool, D, DmNo, Fetch, FitsShip, Frozen, Hand, HaveUse, Input, IsAllowed, IsOfUses, IsPermitted, IsServable, List, MayAsk, Msg, None, Option, Reduce, Replies, Ship, Silent, Site, Some, Told, Turn, [], active, answers, ap, arith, asks_rows, contains, false, flight, frozen, hand_was_put, handed, home, if◌then◌else◌, is_a_read, is_a_ship, is_answer, is_exchanging, is_question, local_of, not, number_of, questions, refl, setting_of, subst, sym, true, turn_after_answer, turn_at, turn_with, uses_held, ℕ, ◌∙◌, ◌∷◌, ◌≡◌, ◌≤◌}
+use Rattle.sdd_obligations.proofs.All.{AreFor, Asks, Bool, D, DmNo, Fetch, FitsShip, Frozen, Hand, HaveUse, Input, IsAllowed, IsOfUses, IsPermitted, IsServable, List, MayAsk, Msg, None, Option, Reduce, Replies, Ship, Silent, Site, Some, Told, Turn, [], active, answers, ap, arith, asks_rows, contains, false, flight, frozen, hand_was_put, handed, home, if◌then◌else◌, is_a_read, is_a_ship, is_answer, is_exchanging, is_question, local_of, never, not, number_of, questions, refl, setting_of, subst, sym, true, turn_after_answer, turn_at, turn_with, uses_held, ℕ, ◌∙◌, ◌∷◌, ◌≡◌, ◌≤◌}
 use Rattle.sdd_obligations.proofs.HandedAnswersKeepTurns.{answers_asked}
 use Rattle.sdd_obligations.proofs.Flights.{first_in_flight}
 use Rattle.sdd_obligations.proofs.Replying.{asks_question, asks_no_a_read as asks_no_read}
@@ -9,7 +9,6 @@ use Rattle.sdd_obligations.proofs.ExchangesGoByTurns.{first_of_kind, answer_in_t
 use Rattle.sdd_obligations.proofs.Halves.{IsLast, active_last, active_of, data_log, home_log, home_turns}
 use Rattle.sdd_obligations.proofs.Stages.{answer_flies, question_flies}
 use Rattle.sdd_obligations.proofs.Answered.{own}
-use Rattle.sdd_obligations.proofs.InStep.{never}
 use Rattle.sdd_invariants.specs.logs.Entries as all
 
 -- questions
@@ -55,9 +54,8 @@ for_held g log a d n m ts c h few i e =
     let f = first_in_flight g log (home g.catalogue c) (D d) n m j in
     let goes = question_flies _ _ _ _ m (questions ts c f.0) (first_of_kind (is_question ts c)
     (flight g (home g.catalogue c) (D d) log) m f.0 f.1 q) (k.stages ts d.0) in
-    let s = home_turns g c log h k in
     let x = active_of ts d.0 (active (setting_of g (home g.catalogue c)) c (home_log g c log))
-    (turn_at ts c d.0 (home_log g c log)) (s.turns ts d.0) (ap is_exchanging goes ∙ ap not no_read) in
+    (turn_at ts c d.0 (home_log g c log)) ((home_turns g c log h k).turns ts d.0) (ap is_exchanging goes ∙ ap not no_read) in
     let last : IsLast g ts c d.0 log = subst (λ t. IsLast g t c d.0 log) x.2 (active_last g c d.0 log x.0 h (few c) x.1) in
     let held = k.held ts d.0 last w.uses (ap uses_held w.is ∙ ap (λ (b : Bool). if b then None else Some w.uses) w.not_shipped) in
     record {

@@ -65,9 +65,8 @@ module_asked cat sound c txn cov u f d h k e =
 -- what a READ asks
 
 frags_are : (o : Option Msg) → frags_asked o ≡ ascending (fragments_in (uses_at_head o))
-frags_are None = refl
 frags_are (Some (Read ts class txn attempt conds uses)) = refl
-frags_are (Some _) = refl
+frags_are _ = refl
 
 asked_frag : (cat : Catalogue) (c d : ℕ) (txn : Txn) (u : Use) (f : FragNo) → Has (uses_of cat txn) u
     → Has u.frags f → is_read_at cat c d f.0 ≡ true → Has (ascending (fragments_in (uses_at cat c txn d)))

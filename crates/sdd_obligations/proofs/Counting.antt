@@ -42,7 +42,7 @@ same_count cs qs all l = omega (arith, l)
 count_other_start : (s : Setting) (k c : ℕ) (log : Log) (q : Queued) → (k == c) ≡ false → IsCounted s c log → IsCounted s c (Did (start_at s k log q) ∷ log)
 count_other_start s k c log q e h = rw e (same_count (class_starts c log) (length (queue s c log)) _ h)
 
-head_taken : (a : Attempt) (qs : List Queued) → IsServed (Some a) qs → suc (length (filter (λ q. not (q.number == a.txn)) qs)) ≤ length qs
+pub head_taken : (a : Attempt) (qs : List Queued) → IsServed (Some a) qs → suc (length (filter (λ q. not (q.number == a.txn)) qs)) ≤ length qs
 head_taken a [] h = absurd h
 head_taken a (q ∷ qs) h =
     let e : (q.number == a.txn) ≡ true = subst (λ n. (q.number == n) ≡ true) h.0 (same_number q.number) in
@@ -111,9 +111,7 @@ counted s c (_ ∷ log) f n = counted s c log f.1 n.1
 
 pub class_few : (s : Setting) (c : ℕ) (log : Log) → Each (IsFair s) log → Each IsNew log → class_starts c log ≤ length (submits log) + hands log
 class_few s c log f n =
-    let i = counted s c log f n in
-    let b = busy_served (active s c log) (queue s c log) (queue_is s c log f n).served in
-    omega (arith, i, b)
+    omega (arith, counted s c log f n, busy_served (active s c log) (queue s c log) (queue_is s c log f n).served)
 
 -- a site starts attempts of classes that are there
 
@@ -160,9 +158,8 @@ by_classes s (_ ∷ log) l f = by_classes s log l f.1
 pub site_few : (s : Setting) (log : Log) → IsNumbered s.site → Each (IsFair s) log → Each IsNew log
     → starts log ≤ suc (length s.catalogue.classes) * (length (submits log) + hands log)
 site_few s log l f n =
-    let a = by_classes s log l f in
     let b = total_le (λ c. class_starts c log) (classes_of s) (length (submits log) + hands log) (λ c. class_few s c log f n) in
     let e : length (classes_of s) ≡ suc (length s.catalogue.classes) = length-range_with_len 0 (suc (length s.catalogue.classes)) in
     let d : total (λ c. class_starts c log) (classes_of s) ≤ suc (length s.catalogue.classes) * (length (submits log) + hands log) =
     subst (λ k. total (λ c. class_starts c log) (classes_of s) ≤ k * (length (submits log) + hands log)) e b in
-    omega (arith, a, d)
+    omega (arith, by_classes s log l f, d)

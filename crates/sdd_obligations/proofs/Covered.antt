@@ -1,16 +1,13 @@
 -- The class of an active attempt covers its transaction, whatever class list was in force.
-use Rattle.sdd_obligations.proofs.All.{Attempt, Catalogue, Did, Each, Handed, HasEras, Input, IsCovered, IsEraOf, IsPermitted, Redeclared, Setting, Site, Some, Submits, Ticked, Txn, [], active, all_new, arith, class_for, covered, covered_in_era, current_era, each_local, eqb-true, era_of_itself, home, home_fair, inl, inr, is_for, length, local_of, only_right, same_or_not, setting_of, some_class, sym, true, ℕ, ◌==◌, ◌∷◌, ◌≡◌, ◌≤◌, ◌⊎◌}
+use Rattle.sdd_obligations.proofs.All.{Attempt, Catalogue, Each, HasEras, Input, IsCovered, IsEraOf, IsPermitted, Redeclared, Setting, Site, Some, Txn, [], active, all_new, arith, class_for, covered, covered_in_era, current_era, each_local, eqb-true, era_of_itself, home, home_fair, inl, inr, is_for, length, local_of, only_right, same_or_not, setting_of, some_class, sym, true, ℕ, ◌==◌, ◌∷◌, ◌≡◌, ◌≤◌, ◌⊎◌}
 use Rattle.sdd_obligations.proofs.Texts.{SubmitHas, active_so}
 use Rattle.sdd_invariants.specs.site_module.SiteLog.{Entry, Log}
 use Rattle.sdd_invariants.specs.logs.Entries as whole
 
 -- a class list that a site puts in force is one of the catalogue
 abbrev EraIs : Catalogue → Log → Entry → Type 0
-EraIs cat log (Handed from m) = Unit {0}
-EraIs cat log (Ticked n) = Unit {0}
-EraIs cat log (Submits n txn) = Unit {0}
 EraIs cat log (Redeclared era t) = IsEraOf cat era.catalogue
-EraIs cat log (Did act) = Unit {0}
+EraIs cat log _ = Unit {0}
 
 eras_are : (g : Input) → HasEras g → (at : Site) (log : whole.Log) → IsPermitted g log → Each (EraIs g.catalogue) (local_of g at log)
 eras_are g eras at = each_local g at (EraIs g.catalogue) (record {

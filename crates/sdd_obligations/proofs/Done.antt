@@ -149,5 +149,4 @@ redeclares_left g log few h =
     let rest : List Event = (left g.events log).0 in
     let d = (done g log few h).1 in
     let parts : redeclares_in g.events ≡ redeclares_in (d.front ++ rest) = ap redeclares_in d.is in
-    let sum = count_join d.front rest in
-    let same = d.lists_are in omega (arith, parts, sum, same)
+    let same = d.lists_are in omega (arith, parts, count_join d.front rest, same)

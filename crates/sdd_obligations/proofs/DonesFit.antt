@@ -1,5 +1,5 @@
 -- A DONE that is next to be handed over answers the last Commit of U, and is the first of its module.
-use Rattle.sdd_obligations.proofs.All.{Act, Attempt, Bases, Bool, Commit, D, Did, DmNo, Does, Done, Each, FitsDone, Hand, Handed, Input, IsDoneBy, IsFair, IsFairU, IsPermitted, IsStepU, List, Log, Msg, NoRecord, Option, Queued, Records, Redeclared, Served, Setting, Some, Submits, Ticked, Ts, U, Write, [], active, ap, append_assoc, arith, class_number, commit_act, compare, dones_few, dones_of, each_at, false, hand_ts, handed, head_put, inl, inr, is_done, is_done_of, is_recorded, last_served, local_grows, local_of, next_stamp, numbers_to, one_if, own_act, permitted_before, place_of_act, put_in_by_d, put_once, puts_to, refl, same_number, served_acted, setting_of, slice_get, start_at, start_of_active, start_u, subst, sym, tally, true, true_or_false, ts_of, u_due, u_fair, u_table, u_way, write_origin, zero_pair, ℕ, ◌++◌, ◌+◌, ◌<◌, ◌∙◌, ◌∷◌, ◌≡◌, ◌≤◌, ◌⊎◌}
+use Rattle.sdd_obligations.proofs.All.{Act, Attempt, Bases, Bool, Commit, D, Did, DmNo, Does, Done, Each, FitsDone, Hand, Handed, Input, IsDoneBy, IsFair, IsFairU, IsPermitted, IsStepU, List, Log, Msg, NoRecord, Option, Queued, Records, Served, Setting, Some, Ts, U, Write, [], active, ap, append_assoc, arith, class_number, commit_act, compare, dones_few, dones_of, each_at, false, hand_ts, handed, head_put, inl, inr, is_done, is_done_of, is_recorded, last_served, local_grows, local_of, next_stamp, numbers_to, one_if, own_act, permitted_before, place_of_act, put_in_by_d, put_once, puts_to, refl, same_number, served_acted, setting_of, slice_get, start_at, start_of_active, start_u, subst, sym, tally, true, true_or_false, ts_of, u_due, u_fair, u_table, u_way, write_origin, zero_pair, ℕ, ◌++◌, ◌+◌, ◌<◌, ◌∙◌, ◌∷◌, ◌≡◌, ◌≤◌, ◌⊎◌}
 use Rattle.sdd_obligations.proofs.Answering.{none_before}
 use Rattle.sdd_invariants.specs.site_module.SiteLog.{Entry}
 use Rattle.sdd_invariants.specs.site_module.SiteLog as site
@@ -12,8 +12,7 @@ same_done ts _ = refl
 
 same_tally : (ts : ℕ) (ms : List Msg) → tally (is_done ts) ms ≡ tally (is_done_of ts) ms
 same_tally ts [] = refl
-same_tally ts (m ∷ ms) = let i = same_tally ts ms in let e : one_if (is_done ts m) ≡ one_if
-    (is_done_of ts m) = ap one_if (same_done ts m) in omega (arith, i, e)
+same_tally ts (m ∷ ms) = let i = same_tally ts ms in omega (arith, i, ap one_if (same_done ts m))
 
 -- what was served last: since a Commit, unless there was another
 
@@ -54,10 +53,8 @@ served_or s t y b e (Handed from m ∷ x) = elim (served_or s t y b e x) [
   | inl q ↦ inl (hand_ts m (last_served s (x ++ Did y ∷ b)) ∙ q)
   | inr q ↦ inr (more_again y (Handed from m) x q)
 ]
-served_or s t y b e (Ticked n ∷ x) = elim (served_or s t y b e x) [ inl q ↦ inl q | inr q ↦ inr (more_again y (Ticked n) x q) ]
-served_or s t y b e (Submits n txn ∷ x) = elim (served_or s t y b e x) [ inl q ↦ inl q | inr q ↦ inr (more_again y (Submits n txn) x q) ]
-served_or s t y b e (Redeclared era u ∷ x) = elim (served_or s t y b e x) [ inl q ↦ inl q | inr q ↦ inr (more_again y (Redeclared era u) x q) ]
 served_or s t y b e (Did act ∷ x) = served_did s t y b act x (served_or s t y b e x)
+served_or s t y b e (w ∷ x) = elim (served_or s t y b e x) [ inl q ↦ inl q | inr q ↦ inr (more_again y w x q) ]
 
 -- a Commit at U is of the active attempt
 abbrev IsOfActive : Setting → site.Log → Act → Type 0
@@ -138,14 +135,13 @@ commit_last : (g : Input) (k t : ℕ) (log : Log) (bases : Bases) (a : Attempt) 
 commit_last g k t log bases a x b i h e act less =
     let s : Setting = setting_of g U in
     let y : Act = commit_act g.catalogue bases 0 a in
-    let fair = u_fair g log h in
     let start : (last_served s (Did y ∷ b)).ts ≡ a.ts = ap ts_of act in
     elim (served_or s a.ts y b start x) [
       | inl q ↦ ap (λ l. (last_served s l).ts) e ∙ q
       | inr q ↦ (let whole : local_of g U log ≡ q.later ++ Did q.act ∷ (q.between ++ Did y ∷ b) =
           e ∙ ap (λ l. l ++ Did y ∷ b) q.is ∙ append_assoc q.later (Did q.act ∷ q.between) (Did y ∷ b) in
           let u = each_at (IsFairU s) q.later (Did q.act) (q.between ++ Did y ∷ b) (subst (Each (IsFairU s)) whole (u_table g log h)) in
-          let v = each_at (IsFair s) q.later (Did q.act) (q.between ++ Did y ∷ b) (subst (Each (IsFair s)) whole fair) in
+          let v = each_at (IsFair s) q.later (Did q.act) (q.between ++ Did y ∷ b) (subst (Each (IsFair s)) whole (u_fair g log h)) in
           let c = commit_active s (q.between ++ Did y ∷ b) q.act (u_due s u.0.0.0 (q.between ++ Did y ∷ b) q.act u.0.0.1) q.commits in
           let w = start_between s y b (q.between ++ Did y ∷ b) c.0 q.between refl refl v.1 c.1 refl in
           let again : HasStartIn s y b (local_of g U log) =
@@ -157,8 +153,7 @@ commit_last g k t log bases a x b i h e act less =
                 whole ∙ ap (λ l. q.later ++ Did q.act ∷ l) w.is
                 ∙ sym (append_assoc q.later (Did q.act ∷ w.later) (Did (start_at s 0 (w.between ++ Did y ∷ b) w.queued) ∷ (w.between ++ Did y ∷ b)));
           } in
-          let d = all_done g k t log y b a i h again (each_at (IsFair s) q.between (Did y) b v.1).1 act in
-          absurd (omega (arith, d, less)))
+          absurd (omega (arith, all_done g k t log y b a i h again (each_at (IsFair s) q.between (Did y) b v.1).1 act, less)))
     ]
 
 pub done_fits : (g : Input) (k t : ℕ) (log : Log) (d : DmNo) (n : ℕ) (ts : Ts) → slice_get (numbers_to g.catalogue.tms) k ≡ Some t

@@ -1,5 +1,5 @@
 -- What a data module holds, where the WRITEs that are handed to it have changes of items.
-use Rattle.sdd_obligations.proofs.All.{Act, AllByRecursion, Answer, AreWritten, Bool, Catalogue, Change, Dated, Did, Each, Handed, IsDatabase, IsEntry, IsItemChange, IsSoundCatalogue, List, Msg, Option, Pipe, Records, Redeclared, Sends, Setting, Some, Submits, Ticked, Write, [], all_joined, applied, applied_acted, changes_in, classes_of, database_of, dated, false, flat_map, frags_asked, goes_through, head, head_of, head_processed, if◌then◌else◌, is_apply, is_at, is_processing, items_of, map, pipe, pipe_acted, put, recursion_from_All, snapshots, tail_of, true, ℕ, ◌&&◌, ◌++◌, ◌==◌, ◌∷◌}
+use Rattle.sdd_obligations.proofs.All.{Act, AllByRecursion, Answer, AreWritten, Bool, Catalogue, Change, Dated, Did, Each, Handed, IsDatabase, IsEntry, IsItemChange, IsSoundCatalogue, List, Msg, Option, Pipe, Records, Sends, Setting, Some, Write, [], all_joined, applied, applied_acted, changes_in, classes_of, database_of, dated, false, flat_map, frags_asked, goes_through, head, head_of, head_processed, if◌then◌else◌, is_apply, is_at, is_processing, items_of, map, pipe, pipe_acted, put, recursion_from_All, snapshots, tail_of, true, ℕ, ◌&&◌, ◌++◌, ◌==◌, ◌∷◌}
 use Rattle.sdd_obligations.proofs.Entries.{AreItems, all_gathered, first_are_items, items_are_entries}
 use Rattle.sdd_invariants.specs.site_module.SiteLog.{Entry, Log}
 
@@ -11,10 +11,7 @@ FitsMsg cat d _ = Unit {0}
 -- so of what is handed to it
 abbrev pub HandFits : Catalogue → ℕ → Log → Entry → Type 0
 HandFits cat d log (Handed from m) = FitsMsg cat d m
-HandFits cat d log (Ticked n) = Unit {0}
-HandFits cat d log (Submits n txn) = Unit {0}
-HandFits cat d log (Redeclared era t) = Unit {0}
-HandFits cat d log (Did act) = Unit {0}
+HandFits cat d log _ = Unit {0}
 
 -- and of what waits in a pipe
 abbrev AreFit : Catalogue → ℕ → List Msg → Type 0

@@ -1,8 +1,7 @@
 -- The rows that came to an exchange are those that the modules hold.
-use Rattle.sdd_obligations.proofs.All.{Asking, AwaitsNoValues, Bool, ClassNo, Exchange, Fetch, Fetching, Follows, Frozen, Has, Has-append, Has-left, Has-right, KeepsOnce, List, Move, Msg, None, Over, Phase, Read, Reading, Ready, Reduce, Reduced, Reducing, Replies, Row, Rows, Ship, Shipping, Some, Space, Step, Stmt, Tells, TellsAll, Ts, Value, Values, [], after_hand, after_send, all_rows, answered, ap, contains, counted, counts_for, eqb-true, false, fetches, fetches_from, follows_hand, follows_send, goes_on, if◌then◌else◌, inl, inr, is_a_read, is_a_refusal, is_a_ship, is_answer, is_shipped, lack_modules, lacking, length, move_at, next_move, phase_ends, question, question_of, refl, rows_of, subst, sym, tells_all, true, true_or_false, values_in, with_use, with_values, without, ℕ, ◌&&◌, ◌++◌, ◌+◌, ◌==◌, ◌∙◌, ◌∷◌, ◌≡◌}
+use Rattle.sdd_obligations.proofs.All.{Asking, AwaitsNoValues, Bool, ClassNo, Exchange, Fetch, Fetching, Follows, Frozen, Has, Has-append, Has-left, Has-right, KeepsOnce, List, Move, Msg, None, Over, Phase, Read, Reading, Ready, Reduce, Reduced, Reducing, Replies, Row, Rows, Ship, Shipping, Some, Space, Step, Stmt, Tells, TellsAll, Ts, Value, Values, [], after_hand, after_send, all_rows, answered, ap, contains, counted, counts_for, eqb-true, false, fetches, fetches_from, follows_hand, follows_send, goes_on, if◌then◌else◌, inl, inr, is_a_read, is_a_refusal, is_a_ship, is_answer, is_shipped, lack_modules, lacking, length, move_at, never, next_move, phase_ends, question, question_of, refl, rows_of, subst, sym, tells_all, true, true_or_false, values_in, with_use, with_values, without, ℕ, ◌&&◌, ◌++◌, ◌+◌, ◌==◌, ◌∙◌, ◌∷◌, ◌≡◌}
 use Rattle.sdd_obligations.proofs.AtTurn.{awaits}
 use Rattle.sdd_obligations.proofs.Modules.{firsts, without_other}
-use Rattle.sdd_obligations.proofs.InStep.{never}
 
 -- which question a phase awaits
 

@@ -1,6 +1,6 @@
 -- A FETCH, REDUCE or SHIP that a site sends is the first message that the active attempt of its class has still to send;
 -- and records are of classes of the catalogue.
-use Rattle.sdd_obligations.proofs.All.{Act, Attempt, Bases, Bool, D, Did, Handed, Held, Hold, List, Msg, None, Null, Option, Queued, Records, Redeclared, Release, Sends, Setting, Site, Some, Submits, Ticked, Ticking, Ts, U, [], active, ap, arith, asks_next, asks_rows, asks_whose, attempt_due, class_at, class_no, commit_act, dm_no, false, first_send, head_of, if◌then◌else◌, in_filtered, in_mapped, in_range, is_over, length, not, number_of, numbers_to, or_else, queue, refl, slice_get, start_act, subst, sym, time_at, true, ℕ, ◌&&◌, ◌==◌, ◌∷◌, ◌≡◌, ◌≤◌}
+use Rattle.sdd_obligations.proofs.All.{Act, Attempt, Bases, Bool, D, Did, Held, Hold, List, Msg, None, Null, Option, Queued, Records, Release, Sends, Setting, Site, Some, Ticking, Ts, U, [], active, ap, arith, asks_next, asks_rows, asks_whose, attempt_due, class_at, class_no, commit_act, dm_no, false, first_send, head_of, if◌then◌else◌, in_filtered, in_mapped, in_range, is_over, length, not, number_of, numbers_to, or_else, queue, refl, slice_get, start_act, subst, sym, time_at, true, ℕ, ◌&&◌, ◌==◌, ◌∷◌, ◌≡◌, ◌≤◌}
 use Rattle.sdd_invariants.specs.site_module.SiteLog.{Entry, Log}
 use Rattle.sdd_invariants.specs.tm.Due as tm
 use Rattle.sdd_invariants.specs.tm.Views as tm_views
@@ -23,10 +23,7 @@ IsFirstSend s log (Records k r sends) = k ≤ length s.catalogue.classes
 
 abbrev pub IsFirstEach : Setting → Log → Entry → Type 0
 IsFirstEach s log (Did act) = IsFirstSend s log act
-IsFirstEach s log (Handed from m) = Unit {0}
-IsFirstEach s log (Ticked n) = Unit {0}
-IsFirstEach s log (Submits n txn) = Unit {0}
-IsFirstEach s log (Redeclared era t) = Unit {0}
+IsFirstEach s log _ = Unit {0}
 
 send_is : (s : Setting) (log : Log) (x a : Act) → IsFirstSend s log x → Some x ≡ Some a → IsFirstSend s log a
 send_is s log x a h e = let p : x ≡ a = cc in subst (IsFirstSend s log) p h
@@ -81,8 +78,7 @@ start_first s log _ v c _ act l e = cc
 run_here : (s : Setting) (k c : ℕ) → slice_get (tm_views.runs s) k ≡ Some c → c ≤ length s.catalogue.classes
 run_here s k c e =
     let i = in_filtered (λ c. (class_at s.catalogue c).tm.0 == number_of s.site) (numbers_to (length s.catalogue.classes)) k c e in
-    let l = in_range 1 (length s.catalogue.classes) i.1 c i.2 in
-    omega (arith, l.1)
+    omega (arith, (in_range 1 (length s.catalogue.classes) i.1 c i.2).1)
 
 pub t_first : (s : Setting) (bases : Bases) (log : Log) (act : Act) → tm.IsDue s.catalogue bases (tm_views.view_of s log) act → IsFirstSend s log act
 t_first s bases log act (tm.by_exchange k c p e) =

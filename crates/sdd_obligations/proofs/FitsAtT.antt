@@ -1,5 +1,5 @@
 -- What is next to be handed to a transaction module, or to U, fits there.
-use Rattle.sdd_obligations.proofs.All.{AnswersRead, Ask, Bases, ClassNo, D, DmNo, Done, Hand, Held, Hold, Input, IsD, IsPermitted, IsSmall, IsT, IsUpheldR, IsWhole, Log, Msg, Ready, Reduced, Reject, Release, Rows, Site, T, TmNo, Ts, U, Values, arith, both, handed, is_verdict, local_of, number_of, same_number, setting_of, subst, sym, true, ℕ, ◌&&◌, ◌-◌, ◌==◌, ◌∷◌, ◌≡◌, ◌≤◌}
+use Rattle.sdd_obligations.proofs.All.{AnswersRead, Ask, Bases, ClassNo, D, DmNo, Done, Hand, Held, Hold, Input, IsD, IsPermitted, IsSmall, IsT, IsUpheldR, IsWhole, Log, Msg, Ready, Reduced, Reject, Release, Rows, Site, T, TmNo, Ts, U, Values, arith, handed, is_verdict, local_of, number_of, own_started as own, setting_of, subst, sym, true, ℕ, ◌-◌, ◌∷◌, ◌≡◌, ◌≤◌}
 use Rattle.sdd_obligations.proofs.OfNext.{d_of_sites, t_of_sites}
 use Rattle.sdd_obligations.proofs.Answering.{answers_read}
 use Rattle.sdd_obligations.proofs.AsksFit.{asked_class, asks_not_u}
@@ -18,9 +18,6 @@ answers_at : (g : Input) (log : Log) (d : DmNo) (b : Site) (n ts c : ℕ) (m : M
 answers_at g log d b n ts c m h small e =
     let at = verdict_home g d log (handed (D d) b log) m b ts c h.permitted.1 h.place e in
     answers_read g d log ts c m b h.permitted.1 at (subst (λ x. number_of x ≤ 63) at small) h.place e
-
-pub own : (ts c : ℕ) → ((ts == ts) && (c == c)) ≡ true
-own ts c = both (ts == ts) (c == c) (same_number ts) (same_number c)
 
 tm_small : (g : Input) (log : Log) (a : Site) (t : TmNo) (n : ℕ) (m : Msg) → IsSmall g → IsHanded g log a (T t) n m → number_of (T t) ≤ 63
 tm_small g log a t n m s h = let r = t_of_sites g.catalogue.tms g.catalogue.dms t h.to_there in let k = s.few_tms in omega (arith, r.1, k)

@@ -15,11 +15,10 @@ flight_step : (g : Input) (a b : Site) (e : Entry) (log : Log) → IsPermitted g
     → handed_by a (made g b log e) ++ flight g a b (e ∷ log) ≡ flight g a b log ++ put_by b (made g a log e)
 flight_step g a b e log h =
     let hs : List Msg = hands_from a (local_of g b log) in
-    let now = flight_splits g a b (e ∷ log) h in
     let before = flight_splits g a b log h.1 in
     cancel hs (handed_by a (made g b log e) ++ flight g a b (e ∷ log)) (flight g a b log ++ put_by b (made g a log e))
     (sym (append_assoc hs (handed_by a (made g b log e)) (flight g a b (e ∷ log)))
-    ∙ ap (λ l. l ++ flight g a b (e ∷ log)) (sym (hands_grow g a b e log)) ∙ sym now
+    ∙ ap (λ l. l ++ flight g a b (e ∷ log)) (sym (hands_grow g a b e log)) ∙ sym (flight_splits g a b (e ∷ log) h)
     ∙ puts_grow g a b e log ∙ ap (λ l. l ++ put_by b (made g a log e)) before ∙ append_assoc hs (flight g a b log) (put_by b (made g a log e)))
 
 pub questions_step : (g : Input) (ts c : ℕ) (a b : Site) (e : Entry) (log : Log) → IsPermitted g (e ∷ log)

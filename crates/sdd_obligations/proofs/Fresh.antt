@@ -1,5 +1,5 @@
 -- No WRITE that was handed to a data module has the timestamp of the one that is next.
-use Rattle.sdd_obligations.proofs.All.{Act, Bool, Change, ClassNo, D, Did, DmNo, Does, Hand, Handed, Input, IsApplyOf, IsLawful, IsNumbered, IsPermitted, IsRunner, IsSmall, List, Log, Msg, Queued, Records, Redeclared, Sends, Setting, Site, Some, Submits, T, Ticked, TmNo, Ts, TxnNo, U, Write, [], all_of, all_there, ap, append_assoc, arith, at_seam, class_puts, clock, commit_act, contains, eqb-true, false, goes_through, home, home_fair, if◌then◌else◌, in_left, in_pipe, inl, inr, length, local_grows, local_of, next_stamp, number_of, one_of_key, only_right, origin, permitted_before, pipe, pipe_at, place_within, refl, same_number, setting_of, sites, slice_get, start_at, start_of_active, subst, sym, tm_no, true, true_or_false, with_time, write_at, write_origin, write_time_of, write_times, writes_strict, ℕ, ◌*◌, ◌++◌, ◌+◌, ◌<◌, ◌==◌, ◌∙◌, ◌∷◌, ◌≡◌, ◌≤◌}
+use Rattle.sdd_obligations.proofs.All.{Act, Bool, Change, ClassNo, D, Did, DmNo, Does, Hand, Handed, Input, IsApplyOf, IsLawful, IsNumbered, IsPermitted, IsRunner, IsSmall, List, Log, Msg, Queued, Records, Sends, Setting, Site, Some, T, TmNo, Ts, TxnNo, U, Write, [], all_of, all_there, ap, append_assoc, arith, at_seam, class_puts, clock, commit_act, contains, eqb-true, false, goes_through, home, home_fair, if◌then◌else◌, in_left, in_pipe, inl, inr, length, local_grows, local_of, next_stamp, number_of, one_of_key, only_right, origin, permitted_before, pipe, pipe_at, place_within, refl, same_number, setting_of, sites, slice_get, start_at, start_of_active, subst, sym, tm_no, true, true_or_false, with_time, write_at, write_origin, write_time_of, write_times, writes_strict, ℕ, ◌*◌, ◌++◌, ◌+◌, ◌<◌, ◌==◌, ◌∙◌, ◌∷◌, ◌≡◌, ◌≤◌}
 use Rattle.sdd_obligations.proofs.OfNext.{IsThere, of_next, t_of_sites}
 use Rattle.sdd_obligations.proofs.Piping.{pipe_with}
 use Rattle.sdd_obligations.proofs.Stamped.{same_start, stamp_ticks}
@@ -142,10 +142,7 @@ one_write from m l t f e = more_write (Handed from m) l t (f e)
 has_write : (l : site.Log) (t : ℕ) → contains (write_times l) t ≡ true → HasWrite l t
 has_write [] t e = cc
 has_write (Handed from m ∷ l) t e = one_write from m l t (λ p. has_write l t p) e
-has_write (Ticked n ∷ l) t e = more_write (Ticked n) l t (has_write l t e)
-has_write (Submits n txn ∷ l) t e = more_write (Submits n txn) l t (has_write l t e)
-has_write (Redeclared era u ∷ l) t e = more_write (Redeclared era u) l t (has_write l t e)
-has_write (Did act ∷ l) t e = more_write (Did act) l t (has_write l t e)
+has_write (x ∷ l) t e = more_write x l t (has_write l t e)
 
 -- it is in its pipe
 

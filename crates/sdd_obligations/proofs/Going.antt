@@ -1,5 +1,5 @@
 -- Where a site that runs transactions sends to.
-use Rattle.sdd_obligations.proofs.All.{Act, Ask, Attempt, Bases, Bool, Change, D, Did, Fetch, GoesTo, Handed, Held, Hold, IsAnAsk, IsStepU, List, Msg, None, Null, Option, Question, Queued, Records, Redeclared, Reduce, Release, Sends, Setting, Ship, Site, Some, Submits, T, Ticked, U, WasAsked, [], active, ap, asks_acted, asks_handed, asks_next, asks_rows, attempt_due, bound, by_ask, by_exchange, by_hold, by_start, class_no, commit_act, cond, cons_option, dm_no, effect, exchange_due, false, filter_map, first_send, hands, head_of, if◌then◌else◌, in_either, in_filtered, in_mapped, in_one, inl, inr, is_over, modules_asked, null_at, numbers_to, or_else, refl, runs, same_site, sends_of_act, site_is, slice_get, start_at, start_of, start_read, subst, suc, sym, the_one, time_at, tm_no, to_site, true, u_way, write_to, zero, ℕ, ◌==◌, ◌∷◌, ◌≡◌, ◌⊎◌}
+use Rattle.sdd_obligations.proofs.All.{Act, Ask, Attempt, Bases, Bool, Change, D, Did, Fetch, GoesTo, Handed, Held, Hold, IsAnAsk, IsStepU, List, Msg, None, Null, Option, Question, Queued, Records, Reduce, Release, Sends, Setting, Ship, Site, Some, T, U, WasAsked, [], active, ap, asks_acted, asks_handed, asks_next, asks_rows, attempt_due, bound, by_ask, by_exchange, by_hold, by_start, class_no, commit_act, cond, cons_option, dm_no, effect, exchange_due, false, filter_map, first_send, hands, head_of, if◌then◌else◌, in_either, in_filtered, in_mapped, in_one, inl, inr, is_over, modules_asked, null_at, numbers_to, or_else, refl, runs, same_site, sends_of_act, site_is, slice_get, start_at, start_of, start_read, subst, suc, sym, the_one, time_at, tm_no, to_site, true, u_way, write_to, zero, ℕ, ◌==◌, ◌∷◌, ◌≡◌, ◌⊎◌}
 use Rattle.sdd_invariants.specs.All.{asks, class_view}
 use Rattle.sdd_invariants.specs.site_module.SiteLog.{Entry, Log}
 use Rattle.sdd_invariants.specs.tm.Due.{IsDue}
@@ -121,10 +121,8 @@ asks_left (Records c r sends) qs k q e = (k, e)
 pub was_asked_of : (log : Log) (k : ℕ) (q : Question) → slice_get (asks log) k ≡ Some q → WasAsked log q.from IsAnAsk
 was_asked_of [] k q e = cc
 was_asked_of (Handed from m ∷ log) k q e = asks_in (suc (hands log)) from m log (asks log) k q (λ j p. was_asked_of log j q p) e
-was_asked_of (Ticked n ∷ log) k q e = more_asked log (Ticked n) q.from (was_asked_of log k q e)
-was_asked_of (Submits n txn ∷ log) k q e = more_asked log (Submits n txn) q.from (was_asked_of log k q e)
-was_asked_of (Redeclared era t ∷ log) k q e = more_asked log (Redeclared era t) q.from (was_asked_of log k q e)
 was_asked_of (Did act ∷ log) k q e = let i = asks_left act (asks log) k q e in more_asked log (Did act) q.from (was_asked_of log i.0 q i.1)
+was_asked_of (x ∷ log) k q e = more_asked log x q.from (was_asked_of log k q e)
 
 null_goes : (log : Log) (q : Question) (b : Bool) (o : Option ℕ) (act : Act) → WasAsked log q.from IsAnAsk
     → (if b then null_at q o else None) ≡ Some act → Goes log act

@@ -1,12 +1,11 @@
 -- An exchange in lockstep, by the turns of both sides; and what each side keeps of it.
-use Rattle.sdd_obligations.proofs.All.{AllLe, Asks, Attempt, Bool, D, Each, Input, IsPermitted, IsStage, List, Log, MayAnswer, MayAsk, Msg, None, Option, Read, Refused, Some, Told, Turn, [], active, agreed, all_of, and_left, answer_goes, answers, ap, arith, both, class_puts, d_fair, dec_le, dm_no, eqb-true, false, flight, goes_through, head_in, home, home_fair, if_way, if◌then◌else◌, in_class_order, in_left, in_pipe, inl, inr, is_a_read, is_a_refusal, is_exchanging, is_read, length, limit_of, local_of, map, not, number_of, pipe, pipe_at, place_within, processed_stays, puts_to, question_goes, questions, refl, same_number, same_or_not, setting_of, slice_get, subst, suc, sym, time_of, timed, times_are, times_in, true, turn_after_answer, turn_at, turn_with, uses_held, zero, ℕ, ◌<◌, ◌==◌, ◌∙◌, ◌∷◌, ◌≡◌, ◌≤◌}
+use Rattle.sdd_obligations.proofs.All.{AllLe, Asks, Attempt, Bool, D, Each, Input, IsPermitted, IsStage, List, Log, MayAnswer, MayAsk, Msg, None, Option, Read, Refused, Some, Told, Turn, [], active, agreed, all_of, and_left, answer_goes, answers, ap, arith, both, class_puts, d_fair, dec_le, dm_no, eqb-true, false, flight, goes_through, head_in, home, home_fair, if_way, if◌then◌else◌, in_class_order, in_left, in_pipe, inl, inr, is_a_read, is_a_refusal, is_exchanging, is_read, length, limit_of, local_of, map, never, not, number_of, pipe, pipe_at, place_within, processed_stays, puts_to, question_goes, questions, refl, same_number, same_or_not, setting_of, slice_get, subst, suc, sym, time_of, timed, times_are, times_in, true, turn_after_answer, turn_at, turn_with, uses_held, zero, ℕ, ◌<◌, ◌==◌, ◌∙◌, ◌∷◌, ◌≡◌, ◌≤◌}
 use Rattle.sdd_obligations.proofs.QuestionsComeInTurn.{in_turn}
 use Rattle.sdd_obligations.proofs.HandedAnswersKeepTurns.{AtTurn, InTurn, IsTimely}
 use Rattle.sdd_obligations.proofs.RowsStayHeld.{IsAlone, IsHeldAt}
 use Rattle.sdd_obligations.proofs.Sources.{home_first, source_is_home}
 use Rattle.sdd_obligations.proofs.AnswersComeInTurn.{IsHomeOf, head_through, has_turn}
 use Rattle.sdd_obligations.proofs.Replying.{HasTurnAt, IsAskedInTurn}
-use Rattle.sdd_obligations.proofs.InStep.{never}
 use Rattle.sdd_invariants.specs.site_module.SiteLog as site
 
 abbrev pub home_log : Input → ℕ → Log → site.Log
@@ -131,10 +130,8 @@ alone g ts c d log h small i last = record {
       let o = held_if_exchanging (turn_with t c (home g.catalogue c) (data_log g d log)) x in
       let other = was_put_for g t c d log o.0 h i o.1 in
       let up = last_at g a.0.ts c d log own.place own.read (active_last g c d log a.0 h small a.1) own.there in
-      let down = last_at g ts c d log other.place other.read last other.there in
-      let z1 = read_time ts c own.read own.is in
       let z2 = read_time t c other.read other.is in
-      omega (arith, a.2, up, down, z1, z2));
+      omega (arith, a.2, up, last_at g ts c d log other.place other.read last other.there, read_time ts c own.read own.is, z2));
   no_read = λ ns e m at_head r.
       (let own = was_put_for g ts c d log ns h i e in
       let p = in_pipe g c (dm_no d) log h in
@@ -142,12 +139,10 @@ alone g ts c d log h small i last = record {
       subst (λ l. slice_get l (length (pipe c (data_log g d log)).processed) ≡ Some m) (sym p.1)
       (in_left (all_of (pipe_at g c (dm_no d) log)) p.0 (length (pipe c (data_log g d log)).processed) m
       (head_in (pipe c (data_log g d log)) m at_head)) in
-      let le = last_at g ts c d log (length (pipe c (data_log g d log)).processed) m last here in
-      let z = read_time ts c own.read own.is in
       let same : time_of m ≡ ts = elim (dec_le ts (time_of m)) [
-        | yes l ↦ omega (arith, l, le)
+        | yes l ↦ omega (arith, l, last_at g ts c d log (length (pipe c (data_log g d log)).processed) m last here)
         | no n ↦ (let lt = in_class_order g c (dm_no d) log (length (pipe c (data_log g d log)).processed)
-            own.place m own.read h small here own.there (omega (arith, n, z)) in
+            own.place m own.read h small here own.there (omega (arith, n, read_time ts c own.read own.is)) in
             let w = own.processed in absurd (omega (arith, lt, w)))
       ] in
       is_read_at ts c m r (head_through c (data_log g d log) m at_head) same);

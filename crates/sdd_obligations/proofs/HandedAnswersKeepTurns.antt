@@ -1,8 +1,7 @@
 -- An answer that is handed in turn to a site that makes attempts keeps its turns.
-use Rattle.sdd_obligations.proofs.All.{Asks, Attempt, Bool, D, Did, Exchange, Fetch, Fetching, Handed, IsStrict, List, MayAnswer, Msg, None, Option, Over, Phase, Read, Reading, Redeclared, Reduce, Reducing, Refused, Reject, Replies, RepliesToFetch, RepliesToReduce, RepliesToShip, Setting, Ship, Shipping, Silent, Site, Some, Submits, T, Ticked, Told, Turn, U, [], active, active_handed, after_hand, and_no, answers, ap, arith, asked_by, cond, contains, dm_no, false, hand_goes, if_way, if◌then◌else◌, inl, inr, is_a_read, is_a_refusal, is_a_ship, is_answer, is_exchanging, is_over, is_question, is_reading, last_stamp, not, questions, refl, rejects, same_number, same_or_not, stamp_rises, subst, sym, told_by, true, turn_after_answer, turn_after_question, turn_at, uses_at, ℕ, ◌&&◌, ◌<◌, ◌==◌, ◌∙◌, ◌∷◌, ◌≡◌}
+use Rattle.sdd_obligations.proofs.All.{Asks, Attempt, Bool, D, Exchange, Fetch, Fetching, Handed, IsStrict, List, MayAnswer, Msg, None, Option, Over, Phase, Read, Reading, Reduce, Reducing, Refused, Reject, Replies, RepliesToFetch, RepliesToReduce, RepliesToShip, Setting, Ship, Shipping, Silent, Site, Some, Told, Turn, [], active, active_handed, after_hand, and_no, answers, ap, arith, asked_by, cond, contains, dm_no, false, hand_goes, if_way, if◌then◌else◌, inl, inr, is_a_read, is_a_refusal, is_a_ship, is_answer, is_exchanging, is_over, is_question, is_reading, last_stamp, never, not, questions, refl, rejects, same_number, same_or_not, stamp_rises, subst, sym, told_by, true, turn_after_answer, turn_after_question, turn_at, uses_at, ℕ, ◌&&◌, ◌<◌, ◌==◌, ◌∙◌, ◌∷◌, ◌≡◌}
 use Rattle.sdd_obligations.proofs.AtTurn.{IsNext, IsAtTurn, answered_last, apart, awaited, awaits, hand_at, hand_not, is_fetch_of, is_reduce_of, silent_not_asks, told_not_asks, unsent, read_no_ship}
 use Rattle.sdd_obligations.proofs.Modules.{firsts}
-use Rattle.sdd_obligations.proofs.InStep.{never}
 use Rattle.sdd_invariants.specs.site_module.SiteLog.{Entry, Log}
 
 -- the turn of an attempt with timestamp ts at module d, where this is the active attempt of its class
@@ -22,10 +21,7 @@ pub record InTurn (s : Setting) (c : ℕ) (log : Log) : Type 0 where
 -- an answer that is handed is one that may come next
 abbrev pub IsTimely : ℕ → Log → Entry → Type 0
 IsTimely c log (Handed from m) = (ts d : ℕ) → from ≡ D (dm_no d) → is_answer ts c m ≡ true → MayAnswer (turn_at ts c d log) m
-IsTimely c log (Ticked n) = Unit {0}
-IsTimely c log (Submits n txn) = Unit {0}
-IsTimely c log (Redeclared era t) = Unit {0}
-IsTimely c log (Did act) = Unit {0}
+IsTimely c log _ = Unit {0}
 
 -- turns
 
@@ -219,10 +215,6 @@ turns_now o v w e h ts d = subst (AtTurn ts d o) (sym (e ts d)) (h ts d)
 
 pub in_turn_hand : (s : Setting) (c : ℕ) (log : Log) (from : Site) (m : Msg) → IsTimely c log (Handed from m) → InTurn s c log
     → InTurn s c (Handed from m ∷ log)
-in_turn_hand s c log U m timely h =
-    record { turns = h.turns; fresh = λ ts d l. h.fresh ts d (let r = stamp_rises s (Handed U m) log in omega arith); strict = h.strict }
-in_turn_hand s c log (T t) m timely h =
-    record { turns = h.turns; fresh = λ ts d l. h.fresh ts d (let r = stamp_rises s (Handed (T t) m) log in omega arith); strict = h.strict }
 in_turn_hand s c log (D n) m timely h = record {
   turns = turns_now (active_handed c (D n) m (active s c log))
       (after_answer c n.0 m (λ ts d. turn_at ts c d log)) (λ ts d. turn_at ts c d (Handed (D n) m ∷ log))
@@ -233,3 +225,5 @@ in_turn_hand s c log (D n) m timely h = record {
       stamp_rises s (Handed (D n) m) log in omega arith));
   strict = handed_strict c n.0 m (active s c log) h.strict;
 }
+in_turn_hand s c log x m timely h =
+    record { turns = h.turns; fresh = λ ts d l. h.fresh ts d (let r = stamp_rises s (Handed x m) log in omega arith); strict = h.strict }

@@ -1,14 +1,9 @@
 -- What a data module keeps for an attempt, entry by entry.
-use Rattle.sdd_obligations.proofs.All.{Act, Answer, Bool, ClassNo, Cond, Did, DmNo, Frozen, Handed, List, Msg, None, Option, Read, Rec, Records, Redeclared, Reduce, Rows, Sends, Setting, Site, Some, Submits, Ticked, Ts, TxnNo, Use, Value, [], ap, copies, dated, eqb-true, false, frozen, frozen_at, frozen_for, head, held_for, if◌then◌else◌, inl, inr, is_answer_record as is_answer, is_at, kept, pipe, reduced, reduced_at, refl, same_number, same_or_not, sym, true, ℕ, ◌&&◌, ◌==◌, ◌∙◌, ◌∷◌, ◌≡◌, ◌⊎◌}
+use Rattle.sdd_obligations.proofs.All.{Act, Answer, Bool, ClassNo, Cond, Did, DmNo, Frozen, Handed, List, Msg, None, Option, Read, Rec, Records, Reduce, Rows, Sends, Setting, Site, Some, Ts, TxnNo, Use, Value, [], ap, copies, dated, eqb-true, false, frozen, frozen_at, frozen_for, head, held_for, if◌then◌else◌, inl, inr, is_answer_record as is_answer, is_at, kept, pipe, reduced, reduced_at, refl, same_number, same_or_not, sym, true, ℕ, ◌&&◌, ◌==◌, ◌∙◌, ◌∷◌, ◌≡◌, ◌⊎◌}
 use Rattle.sdd_obligations.proofs.ShippedAnswered.{uses_at_head}
 use Rattle.sdd_obligations.proofs.Places.{IsAnswerAt}
 use Rattle.sdd_obligations.proofs.Snapped.{answer_more}
 use Rattle.sdd_invariants.specs.site_module.SiteLog.{Entry, Log}
-
--- rows are held for the attempt
-abbrev pub IsFor : ℕ → Option Frozen → Type 0
-IsFor ts None = ⊥
-IsFor ts (Some f) = f.ts ≡ ts
 
 own_first : (ts : ℕ) (f : Frozen) (o : Option Frozen) → f.ts ≡ ts → held_for ts (Some f) o ≡ Some f
 own_first ts f o e = ap (λ b. if b then Some f else o) (ap (λ n. n == ts) e ∙ same_number ts)
@@ -178,14 +173,11 @@ kept_answered s c ts (Handed from m ∷ log) f e = elim (hand_keeps s c ts from 
   | inl same ↦ for_more s c ts (Handed from m) log f same (kept_answered s c ts log) e
   | inr r ↦ answer_more ts (Handed from m) log (kept_answered s c ts log r.rows r.before)
 ]
-kept_answered s c ts (Ticked n ∷ log) f e = for_more s c ts (Ticked n) log f (kept_same s c ts (Ticked n) log refl) (kept_answered s c ts log) e
-kept_answered s c ts (Submits n txn ∷ log) f e = for_more s c ts (Submits n txn) log f (kept_same s c ts (Submits n txn) log refl) (kept_answered s c ts log) e
-kept_answered s c ts (Redeclared era t ∷ log) f e =
-    for_more s c ts (Redeclared era t) log f (kept_same s c ts (Redeclared era t) log refl) (kept_answered s c ts log) e
 kept_answered s c ts (Did act ∷ log) f e = elim (act_keeps s c ts act log) [
   | inl same ↦ for_more s c ts (Did act) log f same (kept_answered s c ts log) e
   | inr r ↦ r.answer
 ]
+kept_answered s c ts (x ∷ log) f e = for_more s c ts x log f (kept_same s c ts x log refl) (kept_answered s c ts log) e
 
 -- so does an Answer to another READ
 pub other_answer_keeps : (s : Setting) (c ts k : ℕ) (txn : TxnNo) (attempt : ℕ) (dm : DmNo)

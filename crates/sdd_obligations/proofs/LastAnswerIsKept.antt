@@ -1,11 +1,10 @@
 -- What a data module turn_after_answer last of an attempt's rows is what it keeps.
-use Rattle.sdd_obligations.proofs.All.{Act, Answer, Apply, Arrive, Asks, ClassNo, Cond, Did, Done, Fetch, Frozen, Handed, IsClassHere, List, Msg, None, Open, Option, Pass, Read, Ready, Records, Reduce, Refused, Reject, Rejected, Rows, Sends, Setting, Ship, Site, Some, Tells, Told, Ts, Turn, TxnNo, Use, Values, Wait, [], all_rows, and_no, and_right, answers, ap, append-nil, ask_for, asks_rows, both, class_asked, cond, done_for, eqb-true, false, filter, filter-append, frozen, head, head_of, home_of, if◌then◌else◌, inl, inr, is_a_read, is_answer, is_asked_of, is_number, is_question, is_read, kept, map, opens, pipe, puts_to, refl, rows_of, same_number, same_site, sends_of_act, site_self, source_of, subst, sym, to_site, told_by, true, turn_after_answer, turn_after_question, turn_with, uses_by, uses_held, uses_in, values_in, ℕ, ◌&&◌, ◌++◌, ◌==◌, ◌∙◌, ◌∷◌, ◌≡◌}
+use Rattle.sdd_obligations.proofs.All.{Act, Answer, Apply, Arrive, Asks, ClassNo, Cond, Did, Done, Fetch, Frozen, Handed, IsClassHere, List, Msg, None, Open, Option, Pass, Read, Ready, Records, Reduce, Refused, Reject, Rejected, Rows, Sends, Setting, Ship, Site, Some, Tells, Told, Ts, Turn, TxnNo, Use, Values, Wait, [], all_rows, and_no, and_right, answers, ap, append-nil, ask_for, asks_rows, both, class_asked, cond, done_for, eqb-true, false, filter, filter-append, frozen, head, head_of, home_of, if◌then◌else◌, inl, inr, is_a_read, is_answer, is_asked_of, is_number, is_question, is_read, kept, map, never, opens, pipe, puts_to, refl, rows_of, same_number, same_site, sends_of_act, site_self, source_of, subst, sym, to_site, told_by, true, turn_after_answer, turn_after_question, turn_with, uses_by, uses_held, uses_in, values_in, ℕ, ◌&&◌, ◌++◌, ◌==◌, ◌∙◌, ◌∷◌, ◌≡◌}
 use Rattle.sdd_obligations.proofs.DataSteps.{IsDataStep, counts_told, data_step_way, reply}
 use Rattle.sdd_obligations.proofs.HandedAnswersKeepTurns.{told_is, told_one}
 use Rattle.sdd_obligations.proofs.RowsStayHeld.{AreHeldFor, IsHeldAt}
 use Rattle.sdd_obligations.proofs.Replying.{HasTurnAt, asked_rows, asked_turn, asks_no_a_read, reply_answers, reply_no_refusal, told_turn}
 use Rattle.sdd_obligations.proofs.AnswersComeInTurn.{IsHomeOf, asks_no_answer, done_no_answer, head_through, read_next}
-use Rattle.sdd_obligations.proofs.InStep.{never}
 use Rattle.sdd_obligations.proofs.Kept.{hand_keeps, kept_now, other_answer_keeps, record_keeps, send_keeps}
 use Rattle.sdd_invariants.specs.site_module.SiteLog.{Log}
 

@@ -1,6 +1,6 @@
 -- How many marks there are within the limits, how many messages on a link, and how many messages and transactions a site
 -- was handed and given.
-use Rattle.sdd_obligations.proofs.All.{AllFewTicks, Bool, Call, Did, Does, Entry, Era, Event, Hand, Handed, Input, IsAllowed, IsLawful, IsMarkEntry, IsPermitted, IsWithin, Link, List, Log, MAX_LINK_MESSAGES, MAX_RUN_EVENTS, Mark, Msg, None, Notes, Option, Puts, Redeclares, Round, Site, Some, Submit, Submits, Submitted, T, Tick, Ticked, Txn, U, [], allowed_hand, allowed_mark, ap, arith, both, calls_of, delivered_within, false, given_to, handed, handed_le, hands, if_way, if◌then◌else◌, length, length-append, link, local_of, local_step, made, made_by_mark, marks, neither_left, neither_right, not_past, nothing_if, nth_era, put_by, puts, puts_past, redeclared_entry, redeclares, refl, same_link, same_site, sends_of_act, sent, sent_grows, site_self, sites, submits, suc, true, turned, txn_at, with_made, ℕ, ◌&&◌, ◌++◌, ◌+◌, ◌∷◌, ◌≡◌, ◌≤◌}
+use Rattle.sdd_obligations.proofs.All.{AllFewTicks, Bool, Call, Did, Does, Entry, Era, Event, Hand, Handed, Input, IsAllowed, IsLawful, IsMarkEntry, IsPermitted, IsWithin, Link, List, Log, MAX_LINK_MESSAGES, MAX_RUN_EVENTS, Mark, Msg, None, Option, Puts, Redeclares, Site, Some, Submit, Submits, Submitted, T, Tick, Ticked, Txn, U, [], allowed_hand, allowed_mark, ap, arith, both, calls_of, delivered_within, false, given_to, handed, handed_le, hands, if_way, if◌then◌else◌, length, length-append, link, local_of, local_step, made, made_by_mark, marks, neither_left, neither_right, not_past, nothing_if, nth_era, put_by, puts, puts_past, redeclared_entry, redeclares, refl, same_link, same_site, sends_of_act, sent, sent_grows, site_self, sites, submits, suc, true, turned, txn_at, with_made, ℕ, ◌&&◌, ◌++◌, ◌+◌, ◌∷◌, ◌≡◌, ◌≤◌}
 use Rattle.sdd_obligations.proofs.OfNext.{IsThere, from_there, of_next}
 use Rattle.sdd_obligations.proofs.Sums.{total, total_raise, total_up}
 use Rattle.sdd_invariants.specs.net.Links.{put}
@@ -58,18 +58,16 @@ handed_few g log p h a b = let i = handed_le g log a b p in let j = delivered_wi
 -- what came to the log of a site
 
 abbrev hands_by : Option site.Entry → ℕ
-hands_by None = 0
 hands_by (Some (Handed from m)) = 1
-hands_by (Some _) = 0
+hands_by _ = 0
 
 hands_more : (o : Option site.Entry) (l : site.Log) → hands (with_made o l) ≡ hands_by o + hands l
 hands_more (Some (Did act)) l = omega arith
 hands_more _ l = omega arith
 
 abbrev submits_by : Option site.Entry → ℕ
-submits_by None = 0
 submits_by (Some (Submits n t)) = 1
-submits_by (Some _) = 0
+submits_by _ = 0
 
 submits_more : (o : Option site.Entry) (l : site.Log) → length (submits (with_made o l)) ≡ submits_by o + length (submits l)
 submits_more (Some (Did act)) l = omega arith
@@ -111,19 +109,15 @@ is_pending log to n h = absurd h
 submits_step : (g : Input) (at : Site) (e : Entry) (log : Log) (k n : ℕ) → submits_by (made g at log e) ≤ k
     → length (submits (local_of g at log)) + k ≤ n → length (submits (local_of g at (e ∷ log))) ≤ n
 submits_step g at e log k n l h =
-    let a = submits_more (made g at log e) (local_of g at log) in
     let b : length (submits (local_of g at (e ∷ log))) ≡ length (submits (with_made (made g at log e) (local_of g at log))) =
     ap (λ x. length (submits x)) (local_step g at e log) in
-    omega (arith, a, b, l, h)
+    omega (arith, submits_more (made g at log e) (local_of g at log), b, l, h)
 
 submits_marks : (g : Input) (at : Site) (log : Log) → IsPermitted g log → length (submits (local_of g at log)) + pending log ≤ marks log
 submits_marks g U [] p = omega arith
 submits_marks g at (Mark e ∷ log) p =
     let i = submits_marks g at log p.1 in let z = (none_marked at e).1 in
     let j = submits_step g at (Mark e) log 0 (marks log) (omega (arith, z)) (omega (arith, i)) in omega (arith, j)
-submits_marks g at (Round es ∷ log) p =
-    let i = submits_marks g at log p.1 in
-    let j = submits_step g at (Round es) log 0 (marks log) (omega arith) (omega (arith, i)) in omega (arith, j)
 submits_marks g at (Redeclares t ∷ log) p =
     let i = submits_marks g at log p.1 in let z = (none_redeclared at (nth_era g (suc (redeclares log))) t).1 in
     let j = submits_step g at (Redeclares t) log 0 (marks log) (omega (arith, z)) (omega (arith, i)) in omega (arith, j)
@@ -134,14 +128,13 @@ submits_marks g at (Hand from to n m ∷ log) p =
 submits_marks g at (Submitted to n ∷ log) p =
     let i = submits_marks g at log p.1 in let z = is_pending log to n (allowed_mark g log (Submitted to n) p.0) in
     let j = submits_step g at (Submitted to n) log 1 (marks log) (given_if (same_site at to) n (txn_at g n)).1 (omega (arith, i, z)) in omega (arith, j)
-submits_marks g at (Notes ∷ log) p =
-    let i = submits_marks g at log p.1 in
-    let j = submits_step g at Notes log 0 (marks log) (omega arith) (omega (arith, i)) in omega (arith, j)
 submits_marks g at (Does by act ∷ log) p =
     let i = submits_marks g at log p.1 in
     let z = if_way (λ o. submits_by o ≡ 0) (same_site at by) (Some (Did act)) None refl refl in
     let j = submits_step g at (Does by act) log 0 (marks log) (omega (arith, z)) (omega (arith, i)) in omega (arith, j)
 submits_marks g _ [] p = omega arith
+submits_marks g at (x ∷ log) p =
+    let j = submits_step g at x log 0 (marks log) (omega arith) (omega (arith, submits_marks g at log p.1)) in omega (arith, j)
 
 pub submits_few : (g : Input) (at : Site) (log : Log) → IsPermitted g log → length (submits (local_of g at log)) ≤ marks log
 submits_few g at log p = let i = submits_marks g at log p in omega (arith, i)
@@ -154,9 +147,7 @@ hands_sum g at log = total (λ a. handed a at log) (sites g.catalogue.tms g.cata
 hands_step : (g : Input) (at : Site) (e : Entry) (log : Log) (n : ℕ) → hands_by (made g at log e) ≡ 0
     → hands (local_of g at log) ≤ n → hands (local_of g at (e ∷ log)) ≤ n
 hands_step g at e log n z h =
-    let a = hands_more (made g at log e) (local_of g at log) in
-    let b : hands (local_of g at (e ∷ log)) ≡ hands (with_made (made g at log e) (local_of g at log)) = ap hands (local_step g at e log) in
-    omega (arith, a, b, z, h)
+    omega (arith, hands_more (made g at log e) (local_of g at log), ap hands (local_step g at e log), z, h)
 
 -- a hand to the site
 hand_raises : (c d : Bool) (n k : ℕ) → ((c && d) ≡ true → n ≡ suc k) → k ≤ (if c && d then n else k)
@@ -179,9 +170,8 @@ hand_step : (g : Input) (at from to : Site) (n : ℕ) (m : Msg) (log : Log) (c :
     → IsThere (sites g.catalogue.tms g.catalogue.dms) from → same_site at to ≡ c → hands (local_of g at log) ≤ hands_sum g at log
     → hands (local_of g at (Hand from to n m ∷ log)) ≤ hands_sum g at (Hand from to n m ∷ log)
 hand_step g at from to n m log true h k e i =
-    let j = hand_sum g at from to n m log h k e in
     let a : hands (local_of g at (Hand from to n m ∷ log)) ≡ suc (hands (local_of g at log)) = rw e refl in
-    omega (arith, a, i, j)
+    omega (arith, a, i, hand_sum g at from to n m log h k e)
 hand_step g at from to n m log false h k e i =
     let j = total_up (λ a. handed a at log) (λ a. handed a at (Hand from to n m ∷ log))
     (sites g.catalogue.tms g.catalogue.dms) (λ a. hand_raises (same_site a from) (same_site at to) n

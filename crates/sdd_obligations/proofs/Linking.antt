@@ -1,5 +1,5 @@
 -- What an act sends goes along links of the network.
-use Rattle.sdd_obligations.proofs.All.{Act, All, All-head, All-tail, AllFewTicks, AllLinked, Attempt, Bases, Bool, Change, Class, ClassView, Cond, D, DmNo, Does, Done, Fetch, Hand, Hold, Home, Input, IsAnAsk, IsDueAt, IsLawful, IsPermitted, IsServedClass, IsWhole, List, Log, Msg, None, Null, Open, Option, Processes, Queued, Read, Reduce, Refuses, Sends, Setting, Ship, Site, Some, T, TmNo, U, View, Waits, WasAsked, Write, [], active, ap, are_linked, arith, attempt_due, base_of, both, class_no, commit_act, cond, counts_tm, dm_no, effect, false, filter, first_send, head, head_of, home_of, if◌then◌else◌, in_filtered, in_mapped, in_range, is_asked_of, is_link, is_over, is_site, link_back, local_of, map, modules_asked, nat_le, numbers_to, opens, or_else, place_of_hand, queue, refl, sends_of_act, setting_of, sites, slice_get, slice_index_or, source_of, start_at, start_read, subst, suc, sym, t_fair, time_at, tm_no, true, u_fair, view_of, was_handed, write_to, zero, ℕ, ◌++◌, ◌==◌, ◌∙◌, ◌∷◌, ◌≡◌, ◌≤◌}
+use Rattle.sdd_obligations.proofs.All.{Act, All, All-head, All-tail, AllFewTicks, AllLinked, Attempt, Bases, Bool, Change, Class, ClassView, Cond, D, DmNo, Does, Done, Fetch, Hand, Hold, Home, Input, IsAnAsk, IsDueAt, IsLawful, IsPermitted, IsServedClass, IsWhole, List, Log, Msg, None, Null, Open, Option, Processes, Queued, Read, Reduce, Refuses, Sends, Setting, Ship, Site, Some, T, TmNo, U, View, Waits, WasAsked, Write, [], active, ap, are_linked, arith, attempt_due, base_of, both, class_no, commit_act, cond, counts_tm, dm_no, effect, false, filter, first_send, first_there, head, head_of, home_of, if◌then◌else◌, in_filtered, in_mapped, in_range, is_asked_of, is_link, is_over, is_site, link_back, local_of, map, modules_asked, nat_le, numbers_to, opens, or_else, place_of_hand, queue, refl, sends_of_act, setting_of, sites, slice_get, slice_index_or, source_of, start_at, start_read, subst, suc, sym, t_fair, time_at, tm_no, true, u_fair, view_of, was_handed, write_to, zero, ℕ, ◌++◌, ◌==◌, ◌∙◌, ◌∷◌, ◌≡◌, ◌≤◌}
 use Rattle.sdd_obligations.proofs.OfNext.{IsThere, OfNext, d_of_sites, link_of_links, of_next, t_of_sites}
 use Rattle.sdd_obligations.proofs.Going.{in_made, was_asked_of}
 use Rattle.sdd_obligations.proofs.Near.{AllNear, HasNear, IsNear, SendsNear, active_near, modules_near}
@@ -196,10 +196,6 @@ answer_linked g d h k o (Fetch ts class u col) act l e = linked_some g (D d) _ a
 answer_linked g d h k o (Reduce ts class u col vs) act l e = linked_some g (D d) _ act (l, tt) e
 answer_linked g d h k o (Ship ts class) act l e = linked_some g (D d) _ act (l, tt) e
 answer_linked g d h k o _ act l e = cc
-
-pub first_there : (os : List Open) (o : Open) → head_of os ≡ Some o → slice_get os 0 ≡ Some o
-first_there [] o e = cc
-first_there (x ∷ os) o e = e
 
 open_linked : (g : Input) (d : DmNo) (log : Log) (h : Home) (k : ClassView) (o : Option Open) (act : Act) → AllFewTicks g.events → IsLawful g log
     → head_of (filter (is_asked_of k.class) (opens (local_of g (D d) log))) ≡ o → dm.answer_of h k o ≡ Some act → ActLinked g (D d) act

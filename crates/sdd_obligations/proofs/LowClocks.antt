@@ -80,9 +80,8 @@ marked g log (ws, []) e n most p h =
     let i = mark_ticks g log (quiet (all_links g) (calls_of log)) (round (all_links g) (calls_of log)) ws e p in
     let t = h.0 in (omega (arith, i, t), refl)
 marked g log (ws, x ∷ r) e n most p h =
-    let s = same_mark x e 0 p in
     let z = h.1 in
-    let t = h.0 in (omega (arith, s, z, t), omega (arith, z))
+    let t = h.0 in (omega (arith, same_mark x e 0 p, z, t), omega (arith, z))
 
 redeclared : (s : List Event × List Event) (n most : ℕ) → AreLeft n s most → AreLeft n (after_mark s) most
 redeclared (ws, []) n most h = let d = drop_ticks ws in let t = h.0 in (omega (arith, d, t), refl)
@@ -99,9 +98,8 @@ ticks_left g (Mark e ∷ log) f h =
     marked g log (left g.events log) e (log_ticks log) (all_ticks g.events) (mark_is_next g log (Mark e) refl h.0) (ticks_left g log f h.1)
 ticks_left g (Redeclares t ∷ log) f h = redeclared (left g.events log) (log_ticks log) (all_ticks g.events) (ticks_left g log f h.1)
 ticks_left g (Round es ∷ log) f h =
-    let i = ticks_left g log f h.1 in
     let e : es ≡ round (all_links g) (calls_of log) = of_next g log (Round es) f h.1 h.0 in
-    (i.0, ap all_ticks e ∙ round_none (calls_of log) (all_links g))
+    ((ticks_left g log f h.1).0, ap all_ticks e ∙ round_none (calls_of log) (all_links g))
 ticks_left g (_ ∷ log) f h = ticks_left g log f h.1
 
 -- each Start of the log is an attempt of its history

@@ -1,8 +1,9 @@
 -- A READY or REJECT goes to the site that runs its class; no REJECT and no ASK goes to U.
-use Rattle.sdd_obligations.proofs.All.{All-get_or, Bool, Catalogue, ClassNo, Cond, D, DmNo, Does, Input, IsClassHere, IsPermitted, IsReadyBy, IsRejectBy, IsServedClass, IsWhole, List, Log, Msg, Read, Ready, Reject, Setting, Site, Some, T, Ts, TxnNo, U, Use, View, [], ap, arith, class_at, class_number, cond, false, filter, first_there, head, home, home_of, in_filtered, in_range, inl, inr, is_verdict, length, local_of, never_spoilt, not_both, not_zero, numbers_to, permitted_before, pipe_at, put_in_by_d, puts_to, read_classes, refl, runs, same_number, same_or_not, setting_of, slice_get, source_of, spoiler, spoils, subst, suc, sym, tm_no, true, view_of, zero, ℕ, ◌-◌, ◌==◌, ◌∙◌, ◌∷◌, ◌≡◌, ◌≤◌}
+use Rattle.sdd_obligations.proofs.All.{All-get_or, Bool, Catalogue, ClassNo, Cond, D, DmNo, Does, Input, IsClassHere, IsPermitted, IsReadyBy, IsRejectBy, IsServedClass, IsWhole, List, Log, Msg, Read, Ready, Reject, Setting, Site, Some, T, Ts, TxnNo, U, Use, View, [], ap, arith, class_at, class_number, cond, false, filter, head, home, home_of, in_filtered, in_range, inl, inr, is_verdict, length, local_of, never_spoilt, not_both, not_zero, numbers_to, permitted_before, pipe_at, put_in_by_d, puts_to, read_classes, refl, runs, same_number, same_or_not, setting_of, slice_get, source_of, spoiler, spoils, subst, suc, sym, tm_no, true, view_of, zero, ℕ, ◌-◌, ◌==◌, ◌∙◌, ◌∷◌, ◌≡◌, ◌≤◌}
 use Rattle.sdd_obligations.proofs.HoldsFit.{at_place}
 use Rattle.sdd_obligations.proofs.Piping.{source_is_home}
 use Rattle.sdd_obligations.proofs.Verdicts.{in_class, two_same}
+use Rattle.sdd_invariants.proofs.Again.{first_there}
 
 -- to the site that runs its class
 
@@ -38,7 +39,7 @@ zero_source s j l e = home_zero s.catalogue j (e ∙ source_is_home s j (omega (
 
 -- a declared class's T and its place there
 
-kept_place : (f : ℕ → Bool) (xs : List ℕ) (i x : ℕ) → slice_get xs i ≡ Some x → f x ≡ true → (j : ℕ) × (slice_get (filter f xs) j ≡ Some x)
+pub kept_place : (f : ℕ → Bool) (xs : List ℕ) (i x : ℕ) → slice_get xs i ≡ Some x → f x ≡ true → (j : ℕ) × (slice_get (filter f xs) j ≡ Some x)
 kept_place f [] i x e h = cc
 kept_place f (y ∷ xs) zero x e h = let p : y ≡ x = cc in let q : f y ≡ true = subst (λ z. f z ≡ true) (sym p) h in (0, rw q e)
 kept_place f (y ∷ xs) (suc i) x e h =
@@ -67,8 +68,7 @@ not_spoilt : (g : Input) (d : DmNo) (log : Log) (ts : Ts) (k : ClassNo) (txn : T
 not_spoilt g d log ts k txn n ds us q w l m h e f =
     let v : View = view_of (setting_of g (D d)) (local_of g (D d) log) in
     let i = in_filtered (spoils v) ds 0 q (first_there _ q f) in
-    let r = read_classes g d log ts k txn n ds us i.1 q h e i.2 in
-    let c = in_range 1 (length g.catalogue.classes) i.1 q.class.0 r in
+    let c = in_range 1 (length g.catalogue.classes) i.1 q.class.0 (read_classes g d log ts k txn n ds us i.1 q h e i.2) in
     let up : q.class.0 ≤ length g.catalogue.classes = omega (arith, c.1) in
     let s = class_served g.catalogue q.class.0 w c.0 up in
     let t : ℕ = (class_at g.catalogue q.class.0).tm.0 in

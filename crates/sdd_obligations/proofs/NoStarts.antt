@@ -1,5 +1,5 @@
 -- A data module starts nothing.
-use Rattle.sdd_obligations.proofs.All.{Act, ClassView, Fetch, Home, IsDue, Msg, None, Null, Open, Option, Processes, Read, Reduce, Refuses, Ship, Some, View, Waits, Write, act_by, act_where, answer_of, answer_to, by_head, by_open, filter, head, head_of, head_step, is_asked_of, refl, starts_by, subst, ℕ, ◌≡◌}
+use Rattle.sdd_obligations.proofs.All.{Act, ClassView, Fetch, Home, IsDue, Msg, None, Open, Option, Processes, Read, Reduce, Ship, Some, View, act_by, act_where, answer_of, answer_to, by_head, by_open, filter, head, head_of, head_step, is_asked_of, refl, starts_by, subst, ℕ, ◌≡◌}
 use Rattle.sdd_invariants.specs.dm.declared.step.Step.{Step}
 
 no_start : (x a : Act) → starts_by x ≡ 0 → Some x ≡ Some a → starts_by a ≡ 0
@@ -17,12 +17,8 @@ by_asked h k None a e = cc
 by_asked h k (Some o) a e = by_answer h k o o.msg a e
 
 by_step : (h : Home) (v : View) (c : ℕ) (m : Msg) (step : Step) → starts_by (act_by h v c m step) ≡ 0
-by_step h v c (Null class time) step = refl
-by_step h v c (Write ts class txn changes) step = refl
 by_step h v c (Read ts class txn attempt conds uses) Processes = refl
-by_step h v c (Read ts class txn attempt conds uses) (Refuses by write) = refl
-by_step h v c (Read ts class txn attempt conds uses) (Waits ds) = refl
-by_step h v c m step = refl
+by_step h v c _ _ = refl
 
 by_where : (h : Home) (v : View) (c : ℕ) (o : Option Msg) (s : Option Step) (a : Act) → act_where h v c o s ≡ Some a → starts_by a ≡ 0
 by_where h v c (Some m) (Some step) a e = no_start (act_by h v c m step) a (by_step h v c m step) e

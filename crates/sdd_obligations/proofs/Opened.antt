@@ -1,5 +1,5 @@
 -- The messages that a data module has still to answer came by different hands; and lists of them.
-use Rattle.sdd_obligations.proofs.All.{Act, AllGt, AllLe, Arrive, Bool, Did, Handed, IsStrict, List, Msg, Open, Option, Records, Sends, Site, Some, [], ap, arith, class_asked, cond, false, filter, hands, if◌then◌else◌, is_some, le_join, le_up, lt_above, map, not_both, opens, opens_acted, refl, slice_get, strict_push, subst, suc, sym, true, zero, ℕ, ◌++◌, ◌<◌, ◌∙◌, ◌∷◌, ◌≡◌}
+use Rattle.sdd_obligations.proofs.All.{Act, AllGt, AllLe, Arrive, Bool, Did, Handed, IsStrict, List, Msg, Open, Option, Records, Sends, Site, Some, [], ap, arith, class_asked, cond, false, filter, hands, if◌then◌else◌, is_some, le_join, le_up, lt_above, map, never, opens, opens_acted, refl, slice_get, strict_push, subst, suc, sym, true, zero, ℕ, ◌++◌, ◌<◌, ◌∙◌, ◌∷◌, ◌≡◌}
 use Rattle.sdd_invariants.specs.site_module.SiteLog.{Log}
 
 abbrev pub hands_in : List Open → List ℕ
@@ -74,20 +74,15 @@ one_hand [] i j o p h e f g = cc
 one_hand (x ∷ os) zero zero o p h e f g = let q : ◌≡◌ {A = Option Open} (Some o) (Some p) = sym e ∙ f in cc
 one_hand (x ∷ os) zero (suc j) o p h e f g =
     let q : x ≡ o = cc in
-    let l = gt_at x.hand os j p h.0 f in
     let r : x.hand ≡ o.hand = ap (λ (y : Open). y.hand) q in
-    absurd (omega (arith, l, r, g))
+    absurd (omega (arith, gt_at x.hand os j p h.0 f, r, g))
 one_hand (x ∷ os) (suc i) zero o p h e f g =
     let q : x ≡ p = cc in
-    let l = gt_at x.hand os i o h.0 e in
     let r : x.hand ≡ p.hand = ap (λ (y : Open). y.hand) q in
-    absurd (omega (arith, l, r, g))
+    absurd (omega (arith, gt_at x.hand os i o h.0 e, r, g))
 one_hand (x ∷ os) (suc i) (suc j) o p h e f g = one_hand os i j o p h.1 e f g
 
 -- sifting
-
-pub never : {A : Type 0} (b : Bool) → b ≡ true → b ≡ false → A
-never b e f = absurd (not_both b e f)
 
 pub sift_within : {A : Type 0} (p q : A → Bool) (xs : List A) → ((j : ℕ) (x : A) → slice_get xs j ≡ Some x → q x ≡ true → p x ≡ true)
     → filter q (filter p xs) ≡ filter q xs

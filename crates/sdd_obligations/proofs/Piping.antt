@@ -59,11 +59,10 @@ pub pipe_fits : (g : Input) (d : DmNo) (log : Log) (a : Site) (n : ℕ) (m : Msg
     → number_of a ≤ 63 → piped m ≡ Some (c, t) → t < 2 ^ 62 → FitsPipe (setting_of g (D d)) (local_of g (D d) log) a c t
 pipe_fits g d log a n m c t h small e early =
     let at : home g.catalogue c ≡ a = put_at_home g a (D d) log (handed a (D d) log) m h.permitted.1 h.place c t e in
-    let l = class_here g.catalogue c a h.from_number at in
     let through : goes_through c m ≡ true = subst (λ o. class_is c o ≡ true) (sym e) (same_number c) in
     let time : time_of m ≡ t = subst (λ o. time_in o ≡ t) (sym e) refl in
     record {
-      source = class_fits g d a c at l;
+      source = class_fits g d a c at (class_here g.catalogue c a h.from_number at);
       in_turn = subst (λ x. last_time (pipe c (local_of g (D d) log)) ≤ x) time
           (in_turn g c d a n m log h.permitted (subst (λ x. number_of x ≤ 63) (sym at) small) through);
       early = early;

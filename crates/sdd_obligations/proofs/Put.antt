@@ -39,8 +39,7 @@ module _ (s : Setting) (sound : IsSoundCatalogue s.catalogue) (bases : Bases) (a
   write_fits c others a d k m based e =
       let b : Attempt = based.0 in
       let now : (effect s.catalogue (others a.ts) a.text).changes ≡ (effect s.catalogue (bases b.ts) b.text).changes = based.3 in
-      let put = commit_put_is s c others a d k m e in
-      subst (AreWritten s.catalogue d.0) (ap (changes_at s.catalogue d.0) (sym now) ∙ ap written (sym put.0))
+      subst (AreWritten s.catalogue d.0) (ap (changes_at s.catalogue d.0) (sym now) ∙ ap written (sym (commit_put_is s c others a d k m e).0))
       (effect_written s.catalogue sound b.text (active_so (FitsText s.catalogue) s c log b fair new (fit c) based.1) (bases b.ts) (are b.ts) d.0)
 
   put_fits : (act : Act) (d : DmNo) (k : ℕ) (m : Msg) → IsBased s bases log act → IsPutBy s log act m

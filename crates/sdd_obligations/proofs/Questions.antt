@@ -1,9 +1,8 @@
 -- The questions that an exchange puts are those of its phase.
-use Rattle.sdd_obligations.proofs.All.{AllByRecursion, Asking, Asks, AsksPhase, Bool, Exchange, Fetch, Fetching, List, MayAnswer, Move, Msg, None, Over, Phase, Read, Ready, Reduce, Reduced, Reducing, Refused, Reject, Replies, Rows, Ship, Shipping, Some, Step, Told, Turn, Value, Values, [], after_hand, answered, ap, contains, counted, counts_for, false, fetches, fetches_from, goes_on, if◌then◌else◌, is_a_refusal, is_answer, lacking, length, map, move_at, next_move, phase_ends, question, question_of, reduces, refl, subst, sym, to_all, true, turn_after_answer, with_use, with_values, without, ℕ, ◌&&◌, ◌++◌, ◌+◌, ◌==◌, ◌∙◌, ◌∷◌, ◌≡◌}
+use Rattle.sdd_obligations.proofs.All.{AllByRecursion, Asking, Asks, AsksPhase, Bool, Exchange, Fetch, Fetching, List, MayAnswer, Move, Msg, None, Over, Phase, Read, Ready, Reduce, Reduced, Reducing, Refused, Reject, Replies, Rows, Ship, Shipping, Some, Step, Told, Turn, Value, Values, [], after_hand, answered, ap, contains, counted, counts_for, false, fetches, fetches_from, goes_on, if◌then◌else◌, is_a_refusal, is_answer, lacking, length, map, move_at, never, next_move, phase_ends, question, question_of, reduces, refl, subst, sym, to_all, true, turn_after_answer, with_use, with_values, without, ℕ, ◌&&◌, ◌++◌, ◌+◌, ◌==◌, ◌∙◌, ◌∷◌, ◌≡◌}
 use Rattle.sdd_obligations.proofs.AtTurn.{IsAtTurn, awaits}
 use Rattle.sdd_obligations.proofs.HandedAnswersKeepTurns.{answers_asked, is_awaited}
 use Rattle.sdd_obligations.proofs.Modules.{without_other}
-use Rattle.sdd_obligations.proofs.InStep.{never}
 
 -- what goes to all modules is one question
 

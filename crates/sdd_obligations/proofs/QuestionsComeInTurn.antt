@@ -1,11 +1,10 @@
 -- A site that makes attempts asks in turn, where each answer that is handed to it comes in turn.
-use Rattle.sdd_obligations.proofs.All.{Act, Asks, Attempt, Bases, Bool, D, Did, Each, Fetch, Handed, IsFair, IsOfUses, IsSend, IsStep, IsStrict, List, MayAsk, Msg, None, Option, Phase, Queued, Read, Reading, Redeclared, Reduce, Sends, Setting, Ship, Silent, Site, Some, Submits, Ticked, Turn, [], a_held, a_hold, a_null, a_release, active, active_sent, after_send, and_left, and_no, ap, arith, ascending, asked_by, asks_rows, asks_whose, begins, commit_act, commit_puts, cond, contains, differ, dm_no, drawn_at, eqb-true, false, first_phase, fragments_in, head_of, if_way, if◌then◌else◌, inl, inr, is_a_read, is_exchanging, is_over, is_question, last_stamp, modules_asked, next_stamp, not_both, not_true as asks_not, number_of, of_exchange, questions, queue, refl, same_number, same_or_not, same_site, sends_of_act, site_is, stamp_below_next, stamp_rises, start_at, start_read, started, step_way_over, strict_modules, subst, sym, tail_of, to_site, true, turn_after_question, turn_at, uses_by, uses_in, uses_of, ℕ, ◌&&◌, ◌<◌, ◌==◌, ◌∙◌, ◌∷◌, ◌≡◌, ◌⊎◌}
+use Rattle.sdd_obligations.proofs.All.{Act, Asks, Attempt, Bases, Bool, D, Did, Each, Fetch, Handed, IsFair, IsOfUses, IsSend, IsStep, IsStrict, List, MayAsk, Msg, None, Option, Phase, Queued, Read, Reading, Reduce, Sends, Setting, Ship, Silent, Site, Some, Turn, [], a_held, a_hold, a_null, a_release, active, active_sent, after_send, and_left, and_no, ap, arith, ascending, asked_by, asks_rows, asks_whose, begins, commit_act, commit_puts, cond, contains, differ, dm_no, drawn_at, eqb-true, false, first_phase, fragments_in, head_of, if_way, if◌then◌else◌, inl, inr, is_a_read, is_exchanging, is_over, is_question, last_stamp, modules_asked, next_stamp, not_both, not_true as asks_not, number_of, of_exchange, one_attempt, own_started, questions, queue, refl, same_number, same_or_not, same_site, sends_of_act, site_is, stamp_below_next, stamp_rises, start_at, start_read, started, step_way_over, strict_modules, subst, sym, tail_of, to_site, true, turn_after_question, turn_at, uses_by, uses_in, uses_of, ℕ, ◌&&◌, ◌<◌, ◌==◌, ◌∙◌, ◌∷◌, ◌≡◌, ◌⊎◌}
 use Rattle.sdd_obligations.proofs.AtTurn.{IsAt, IsAtTurn, answered_last, apart, awaited, awaits, unsent}
 use Rattle.sdd_obligations.proofs.FirstSends.{IsFirstEach, IsFirstSend}
 use Rattle.sdd_obligations.proofs.Modules.{firsts, read_firsts, read_modules, read_uses, sent_to_each, to_module, below_not as not_below}
 use Rattle.sdd_obligations.proofs.HandedAnswersKeepTurns.{AllAtTurn, AtTurn, InTurn, IsStrictOf, IsTimely, Turns, asked_one, in_turn_hand, quiet_but, quiet_over, turns_now}
 use Rattle.sdd_obligations.proofs.Replying.{asks_no_a_read as asks_no_read}
-use Rattle.sdd_obligations.proofs.FitsAtT.{own as own_started}
 use Rattle.sdd_obligations.proofs.Stages.{nothing as nothing_there}
 use Rattle.sdd_invariants.specs.site_module.SiteLog.{Log}
 
@@ -60,9 +59,6 @@ not_asked_turn : (c : ℕ) (to : Site) (m : Msg) (v : Turns) (ts d : ℕ) → as
 not_asked_turn c to m v ts d e =
     ap (λ (b : Bool). if same_site (D (dm_no d)) to && b then turn_after_question m (v ts d) else v ts d) e
     ∙ ap (λ (b : Bool). if b then turn_after_question m (v ts d) else v ts d) (and_no (same_site (D (dm_no d)) to))
-
-pub one_attempt : (s : Setting) (c : ℕ) (log : Log) (a b : Attempt) → active s c log ≡ Some a → active s c log ≡ Some b → b ≡ a
-one_attempt s c log a b e f = let p : Some a ≡ Some b = sym e ∙ f in cc
 
 none_attempt : (s : Setting) (c : ℕ) (log : Log) (b : Attempt) → active s c log ≡ None → active s c log ≡ Some b → ⊥
 none_attempt s c log b e f = let p : ◌≡◌ {A = Option Attempt} None (Some b) = sym e ∙ f in cc
@@ -128,8 +124,7 @@ drawn_question : (s : Setting) (c : ℕ) (log : Log) (to : Site) (m : Msg) (hand
     → IsFirstSend s log (Sends to m hand) → last_stamp s log < ts → asks_rows ts c m ≡ false
 drawn_question s c log to m hand ts fair first l = asks_not (asks_rows ts c m) (λ e.
     let f = first ts c e in
-    let d = drawn_at s c log f.attempt fair f.active_is in
-    absurd (omega (arith, d, f.ts_is, l)))
+    absurd (omega (arith, drawn_at s c log f.attempt fair f.active_is, f.ts_is, l)))
 
 in_turn_send : (s : Setting) (c : ℕ) (log : Log) (to : Site) (m : Msg) (hand : Option ℕ) → Each (IsFair s) log
     → IsFirstSend s log (Sends to m hand) → IsSend s log m → InTurn s c log → InTurn s c (Did (Sends to m hand) ∷ log)
@@ -282,16 +277,10 @@ in_turn_act s c log act fair i first h = step_way_over s log act (λ x. IsFirstS
 pub in_turn : (s : Setting) (c : ℕ) (log : Log) → Each (IsFair s) log → Each (IsFirstEach s) log → Each (IsTimely c) log → InTurn s c log
 in_turn s c [] fair first timely = record { turns = λ ts d. refl; fresh = λ ts d l. refl; strict = tt }
 in_turn s c (Handed from m ∷ log) fair first timely = in_turn_hand s c log from m timely.0 (in_turn s c log fair.1 first.1 timely.1)
-in_turn s c (Ticked n ∷ log) fair first timely =
-    let i = in_turn s c log fair.1 first.1 timely.1 in
-    record { turns = i.turns; fresh = λ ts d l. i.fresh ts d (let r = stamp_rises s (Ticked n) log in omega (arith, l, r)); strict = i.strict }
-in_turn s c (Redeclared era t ∷ log) fair first timely =
-    let i = in_turn s c log fair.1 first.1 timely.1 in
-    record { turns = i.turns; fresh = λ ts d l. i.fresh ts d (let r = stamp_rises s (Redeclared era t) log in omega (arith, l, r)); strict = i.strict }
-in_turn s c (Submits n txn ∷ log) fair first timely =
-    let i = in_turn s c log fair.1 first.1 timely.1 in
-    record { turns = i.turns; fresh = λ ts d l. i.fresh ts d (let r = stamp_rises s (Submits n txn) log in omega (arith, l, r)); strict = i.strict }
 in_turn s c (Did act ∷ log) fair first timely = in_turn_act s c log act fair.1 fair.0 first.0 (in_turn s c log fair.1 first.1 timely.1)
+in_turn s c (x ∷ log) fair first timely =
+    let i = in_turn s c log fair.1 first.1 timely.1 in
+    record { turns = i.turns; fresh = λ ts d l. i.fresh ts d (let r = stamp_rises s x log in omega (arith, l, r)); strict = i.strict }
 
 -- what the site puts is turn_after_question in turn
 
@@ -340,9 +329,8 @@ asks_in_turn s c log act ts d i first h =
     ((next_stamp s log == ts) && (k == c)) (start_read s k log q d)
     (ap (questions ts c) (sent_to_each (start_read s k log q) (modules_asked s k q.text) d
     (strict_asked s k q)) ∙ questions_one ts c (contains (modules_asked s k q.text) d) (start_read s k log q d))
-    (λ b x. may_start (turn_at ts c d log) s k log q d (h.fresh ts d (let n =
-    eqb-true (next_stamp s log) ts (and_left (next_stamp s log == ts) (k == c) x) in let l =
-    stamp_below_next s log in omega (arith, n, l)))))
+    (λ b x. may_start (turn_at ts c d log) s k log q d (h.fresh ts d (let l =
+    stamp_below_next s log in omega (arith, eqb-true (next_stamp s log) ts (and_left (next_stamp s log == ts) (k == c) x), l)))))
     (λ k bases a at f o. λ first. elim (commit_puts s k bases (D (dm_no d)) a) [
       | inl e ↦ inl (ap (questions ts c) e)
       | inr p ↦ inl (ap (questions ts c) p.1)

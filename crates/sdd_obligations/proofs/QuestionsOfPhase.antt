@@ -1,11 +1,10 @@
 -- Along the log of the site of a class the questions of the active attempt are those of its phase.
-use Rattle.sdd_obligations.proofs.All.{Act, AllByRecursion, Asks, AsksPhase, Attempt, Bases, D, Did, DmNo, Each, Handed, IsFair, IsStep, List, Msg, None, Option, Queued, Redeclared, Reject, Sends, Setting, Silent, Site, Some, Submits, T, Ticked, Turn, U, [], active, active_handed, active_sent, after_hand, after_send, and_no, ap, asked_by, asks_rows, commit_act, commit_puts, cond, dm_no, false, head_of, if◌then◌else◌, inl, inr, is_a_read, is_a_refusal, is_answer, is_question, next_stamp, question_of, questions, queue, refl, rejects, same_number, same_or_not, same_site, sends_of_act, stamp_below_next, start_at, start_puts, start_read, started, step_way, subst, sym, tail_of, to_site, true, turn_after_answer, turn_after_question, turn_at, uses_by, uses_in, ℕ, ◌&&◌, ◌==◌, ◌∙◌, ◌∷◌, ◌≡◌, ◌⊎◌}
-use Rattle.sdd_obligations.proofs.QuestionsComeInTurn.{in_turn, send_is_question, one_attempt as one_active, and_true}
+use Rattle.sdd_obligations.proofs.All.{Act, AllByRecursion, Asks, AsksPhase, Attempt, Bases, D, Did, DmNo, Each, Handed, IsFair, IsStep, List, Msg, None, Option, Queued, Reject, Sends, Setting, Silent, Site, Some, Turn, [], active, active_handed, active_sent, after_hand, after_send, and_no, ap, asked_by, asks_rows, commit_act, commit_puts, cond, dm_no, false, head_of, if◌then◌else◌, inl, inr, is_a_read, is_a_refusal, is_answer, is_question, never, next_stamp, one_attempt as one_active, question_of, questions, queue, refl, rejects, same_number, same_or_not, same_site, sends_of_act, stamp_below_next, start_at, start_puts, start_read, started, step_way, subst, sym, tail_of, to_site, true, turn_after_answer, turn_after_question, turn_at, uses_by, uses_in, ℕ, ◌&&◌, ◌==◌, ◌∙◌, ◌∷◌, ◌≡◌, ◌⊎◌}
+use Rattle.sdd_obligations.proofs.QuestionsComeInTurn.{in_turn, send_is_question, and_true}
 use Rattle.sdd_obligations.proofs.AtTurn.{IsAtTurn, hand_not}
 use Rattle.sdd_obligations.proofs.FirstSends.{IsFirstEach, IsFirstSend}
 use Rattle.sdd_obligations.proofs.HandedAnswersKeepTurns.{AtTurn, InTurn, IsTimely, asked_one, told_one}
 use Rattle.sdd_obligations.proofs.Questions.{after_answer, hand_asks}
-use Rattle.sdd_obligations.proofs.InStep.{never}
 use Rattle.sdd_invariants.specs.site_module.SiteLog.{Log}
 
 abbrev pub AllAskPhase : ℕ → Log → Option Attempt → Type 0
@@ -175,15 +174,7 @@ pub asks_phase : (s : Setting) (c : ℕ) (log : Log) → Each (IsFair s) log →
 asks_phase s c [] fair first timely = tt
 asks_phase s c (Handed (D n) m ∷ log) fair first timely =
     hand_phase s c log n m (active s c log) refl (in_turn s c log fair.1 first.1 timely.1) timely.0 (asks_phase s c log fair.1 first.1 timely.1)
-asks_phase s c (Handed U m ∷ log) fair first timely =
-    same_turns c log (Handed U m ∷ log) (active s c log) (λ ts d a i t. refl) (asks_phase s c log fair.1 first.1 timely.1)
-asks_phase s c (Handed (T k) m ∷ log) fair first timely =
-    same_turns c log (Handed (T k) m ∷ log) (active s c log) (λ ts d a i t. refl) (asks_phase s c log fair.1 first.1 timely.1)
-asks_phase s c (Ticked n ∷ log) fair first timely =
-    same_turns c log (Ticked n ∷ log) (active s c log) (λ ts d a i t. refl) (asks_phase s c log fair.1 first.1 timely.1)
-asks_phase s c (Submits n txn ∷ log) fair first timely =
-    same_turns c log (Submits n txn ∷ log) (active s c log) (λ ts d a i t. refl) (asks_phase s c log fair.1 first.1 timely.1)
-asks_phase s c (Redeclared era k ∷ log) fair first timely =
-    same_turns c log (Redeclared era k ∷ log) (active s c log) (λ ts d a i t. refl) (asks_phase s c log fair.1 first.1 timely.1)
 asks_phase s c (Did act ∷ log) fair first timely =
     act_phase s c log act fair.0 first.0 (in_turn s c log fair.1 first.1 timely.1) (asks_phase s c log fair.1 first.1 timely.1)
+asks_phase s c (x ∷ log) fair first timely =
+    same_turns c log (x ∷ log) (active s c log) (λ ts d a i t. refl) (asks_phase s c log fair.1 first.1 timely.1)

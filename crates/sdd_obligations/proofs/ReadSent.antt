@@ -13,8 +13,7 @@ use Rattle.sdd_invariants.specs.attempt.Fits as fits
 abbrev pub IsLastRead : ℕ → Turn → List (Site × Msg) → Bool → Type 0
 IsLastRead d Silent reads answered = (reads ≡ []) × (answered ≡ false)
 IsLastRead d (Asks ns m) reads answered = is_a_read m ≡ true → (head_of reads ≡ Some (D (dm_no d), m)) × (answered ≡ false) × (uses_by m ns ≡ ns)
-IsLastRead d (Told ns m) reads answered = Unit {0}
-IsLastRead d Refused reads answered = Unit {0}
+IsLastRead d _ reads answered = Unit {0}
 
 abbrev pub reads_sent : ℕ → ℕ → ℕ → Log → List (Site × Msg)
 reads_sent ts c d log = filter (at_site (D (dm_no d)) (is_read ts c)) (fits.sent log)

@@ -1,13 +1,12 @@
 -- What a READ says: its conditions are on classes of the catalogue and ascend by class, its uses ascend by number, and its
 -- module has copies of their fragments.
-use Rattle.sdd_obligations.proofs.All.{Act, All-from_recursion, AllByRecursion, AllGt, AllLe, Bool, Catalogue, Cond, Condition, D, Delete, Did, DmNo, Each, FragNo, Hand, Input, IsFair, IsHere, IsPermitted, IsReadable, IsSend, IsStep, IsStrict, List, Msg, None, Option, Put, Query, Queued, Read, RelNo, Setting, Site, Some, Stmt, Update, Use, [], a_held, a_hold, a_null, a_release, ap, arith, ascending, both, bound, commit_puts, cond, cond_of, condition_on, conditions, conditions_at, cons_option, current_era, dm_no, each_at, eqb-true, false, filter, filter_map, frag_no, fragments_in, fragments_of, gt_down, hand_was_put, handed, has_copy, home, home_fair, if_way, in_if, in_none, in_one, inl, inr, is_a_read, is_asked, is_read_at, length, local_of, map, modules_asked, next_stamp, of_exchange, option_eq, part_uses, puts_to, range_with_len, reads_at, refl, same_number, sends_of_act, served_read, setting_of, slice_get, start_read, statement_uses, step_way, subst, suc, sym, the_one, to_site, true, undeclared_conditions, use_there, uses_from, uses_of, was_put, with_frags, zero, ℕ, ◌&&◌, ◌++◌, ◌+◌, ◌<◌, ◌==◌, ◌∙◌, ◌∷◌, ◌≡◌, ◌≤◌}
+use Rattle.sdd_obligations.proofs.All.{Act, All-from_recursion, AllByRecursion, AllGt, AllLe, Bool, Catalogue, Cond, Condition, D, Delete, Did, DmNo, Each, FragNo, Hand, Input, IsFair, IsHere, IsPermitted, IsReadable, IsSend, IsStep, IsStrict, List, Msg, None, Option, Put, Query, Queued, Read, RelNo, Setting, Site, Some, Stmt, Update, Use, [], a_held, a_hold, a_null, a_release, ap, arith, ascending, both, bound, commit_puts, cond, cond_of, condition_on, conditions, conditions_at, cons_option, current_era, dm_no, each_at, eqb-true, false, filter, filter_map, frag_no, fragments_in, fragments_of, gt_down, hand_was_put, handed, has_copy, home, home_fair, if_way, in_if, in_none, in_one, inl, inr, is_a_read, is_asked, is_read_at, length, local_of, map, modules_asked, never, next_stamp, of_exchange, option_eq, part_uses, puts_to, range_with_len, reads_at, refl, same_number, sends_of_act, served_read, setting_of, slice_get, start_read, statement_uses, step_way, subst, suc, sym, the_one, to_site, true, undeclared_conditions, use_there, uses_from, uses_of, was_put, with_frags, zero, ℕ, ◌&&◌, ◌++◌, ◌+◌, ◌<◌, ◌==◌, ◌∙◌, ◌∷◌, ◌≡◌, ◌≤◌}
 use Rattle.sdd_obligations.proofs.Ascending.{condition_class, conditions_strict, strict_ascends}
 use Rattle.sdd_obligations.proofs.QuestionsComeInTurn.{strict_asked}
 use Rattle.sdd_obligations.proofs.FirstSends.{IsFirstEach, IsFirstSend}
 use Rattle.sdd_obligations.proofs.Modules.{sent_to_each}
 use Rattle.sdd_obligations.proofs.Sources.{home_first, question_home}
 use Rattle.sdd_obligations.proofs.Replying.{asks_no_a_read as asks_no_read}
-use Rattle.sdd_obligations.proofs.InStep.{never}
 use Rattle.sdd_invariants.specs.site_module.SiteLog.{Log}
 use Rattle.sdd_invariants.specs.catalog.Rules as catalogues
 use Rattle.sdd_invariants.specs.protocol.declared.entry.Entry as line
@@ -189,13 +188,12 @@ uses_here : (s : Setting) (cat : Catalogue) (c d : ℕ) (us : List Use)
 uses_here s cat c d [] g sound l h = tt
 uses_here s cat c d (u ∷ us) g sound l h =
     let i = uses_here s cat c d us g sound l h.1 in
-    let k = copies_there cat c d u.frags sound l h.0 in
     elim (filter (λ (f : FragNo). is_read_at cat c d f.0) u.frags) as (λ fs. AllByRecursion
     (λ (f : FragNo). has_copy cat d f.0 ≡ true) fs → AllByRecursion (IsHere s)
     (cons_option (with_frags u fs) (filter_map (use_there cat c d) us))) [
       | [] ↦ λ j. i
       | f ∷ fs ↦ λ j. (g (record u { frags = f ∷ fs }) j, i)
-    ] k
+    ] (copies_there cat c d u.frags sound l h.0)
 
 -- the READ of a Start
 

@@ -1,26 +1,19 @@
 -- What a data module has still to answer is what the turns say: a hand, and the answer to a FETCH, REDUCE or SHIP.
-use Rattle.sdd_obligations.proofs.All.{Act, Arrive, Asks, Bool, Did, DmNo, Fetch, Frozen, Handed, List, MayAsk, Msg, None, Open, Option, Pipe, Read, Records, Redeclared, Reduce, Reduced, Refused, Rows, Sends, Ship, Silent, Site, Some, Submits, Ticked, Told, Turn, TxnNo, Values, [], all_held, and_right as and_right_of, ap, append-nil, asks_rows, class_asked, cond, false, filter, filter-append, goes_through, hands, head, head_of, head_processed, if_way, if◌then◌else◌, in_filtered, in_left, inl, inr, is_a_read, is_a_refusal, is_answer, is_asked_of, is_processing, is_question, is_read, is_read_of, is_some, length, map, not, not_both, not_true, one_or_none, opens, opens_handed, passing, pipe, pipe_acted, processed_handed, put, reads_asked, refl, rows_asked, rows_held, same_number, same_or_not, same_site, site_self, slice_get, subst, suc, sym, true, turn_after_answer, turn_after_question, turn_with, uses_by, uses_held, uses_in, values_in, zero, ℕ, ◌&&◌, ◌++◌, ◌==◌, ◌∙◌, ◌∷◌, ◌≡◌}
+use Rattle.sdd_obligations.proofs.All.{Act, Arrive, Asks, Bool, Did, DmNo, Fetch, Frozen, Handed, List, MayAsk, Msg, None, Open, Option, Pipe, Read, Records, Reduce, Reduced, Refused, Rows, Sends, Ship, Silent, Site, Some, Told, Turn, TxnNo, Values, [], all_held, and_no, and_right as and_right_of, ap, append-nil, asks_rows, class_asked, cond, false, filter, filter-append, first_there, goes_through, hands, head, head_of, head_processed, if_way, if◌then◌else◌, in_filtered, in_left, inl, inr, is_a_read, is_a_refusal, is_answer, is_asked_of, is_processing, is_question, is_read, is_read_of, is_some, length, map, never, not, not_both, not_true, one_or_none, opens, opens_handed, passing, pipe, pipe_acted, processed_handed, put, reads_asked, refl, rows_asked, rows_held, same_number, same_or_not, same_site, site_self, slice_get, subst, suc, sym, true, turn_after_answer, turn_after_question, turn_with, uses_by, uses_held, uses_in, values_in, zero, ℕ, ◌&&◌, ◌++◌, ◌==◌, ◌∙◌, ◌∷◌, ◌≡◌}
 use Rattle.sdd_obligations.proofs.HandedAnswersKeepTurns.{told_is, told_one, asked_one as asked_if}
 use Rattle.sdd_obligations.proofs.DataSteps.{reply}
 use Rattle.sdd_obligations.proofs.Opened.{are_apart, one_hand, sift_has, sift_swap, sift_within}
-use Rattle.sdd_obligations.proofs.Linking.{first_there}
-use Rattle.sdd_obligations.proofs.InStep.{never}
 use Rattle.sdd_invariants.specs.site_module.SiteLog.{Entry, Log}
 
 -- a question that is handed comes from the site that runs the class, and may come next
 abbrev pub IsAskedInTurn : ℕ → Site → Log → Entry → Type 0
 IsAskedInTurn c at log (Handed from m) = (ts : ℕ) → is_question ts c m ≡ true → (from ≡ at) × MayAsk (turn_with ts c at log) m
-IsAskedInTurn c at log (Ticked n) = Unit {0}
-IsAskedInTurn c at log (Submits n txn) = Unit {0}
-IsAskedInTurn c at log (Redeclared era t) = Unit {0}
-IsAskedInTurn c at log (Did act) = Unit {0}
+IsAskedInTurn c at log _ = Unit {0}
 
 -- a question that stands is of the attempt, with the numbers of its READ's uses
 abbrev pub IsOwn : ℕ → ℕ → Turn → Type 0
-IsOwn ts c Silent = Unit {0}
 IsOwn ts c (Asks ns m) = (is_question ts c m ≡ true) × (uses_by m ns ≡ ns)
-IsOwn ts c (Told ns m) = Unit {0}
-IsOwn ts c Refused = Unit {0}
+IsOwn ts c _ = Unit {0}
 
 -- a READ of the attempt is processed
 pub record IsProcessed (ts c : ℕ) (p : Pipe) : Type 0 where
@@ -47,10 +40,6 @@ pub record HasTurn (ts c : ℕ) (at : Site) (os : List Open) (p : Pipe) (v : Tur
 
 abbrev pub HasTurnAt : ℕ → ℕ → Site → Log → Type 0
 HasTurnAt ts c at log = HasTurn ts c at (opens log) (pipe c log) (turn_with ts c at log)
-
-pub and_no : (a : Bool) → (a && false) ≡ false
-and_no true = refl
-and_no false = refl
 
 -- messages
 

@@ -1,11 +1,9 @@
 -- What a data module answers comes in turn, and while an attempt exchanges rows they are held for it.
-use Rattle.sdd_obligations.proofs.All.{Act, Answer, Apply, Arrive, Asks, Bool, ClassNo, Cond, CopyRows, Did, Done, Fetch, Frozen, Handed, IsClassHere, List, MayAnswer, MayAsk, Msg, None, Open, Option, Pass, Read, Ready, Rec, Records, Reduce, Reduced, Refused, Reject, Rejected, Replies, Rows, Sends, Setting, Ship, Silent, Site, Some, Told, Ts, Turn, TxnNo, Use, Value, Values, Wait, [], all_held, and_left, and_right, answers, ap, ask_for, asks_rows, both, class_asked, column, cond, contains, copies, dated, dated_in, done_for, eqb-true, false, filter, flat_map, frozen, frozen_at, frozen_handed, given_up, head, head_of, home_of, if_way, if◌then◌else◌, in_filtered, inl, inr, is_a_read, is_a_refusal, is_a_ship, is_among, is_answer, is_answer_record, is_asked_of, is_exchanging, is_number, is_question, is_read, length, list_any, map, not, opens, or_left, or_right, pipe, reduced, reduced_at, refl, rows_for, rows_held, same_number, same_or_not, same_site, sends_of_act, site_self, source_of, subst, sym, to_site, told_by, true, turn_after_answer, turn_after_question, turn_with, uses_by, uses_held, values_in, view_of, ℕ, ◌&&◌, ◌++◌, ◌==◌, ◌||◌, ◌∙◌, ◌∷◌, ◌≡◌, ◌⊎◌}
+use Rattle.sdd_obligations.proofs.All.{Act, Answer, Apply, Arrive, Asks, Bool, ClassNo, Cond, CopyRows, Did, Done, Fetch, Frozen, Handed, IsClassHere, List, MayAnswer, MayAsk, Msg, None, Open, Option, Pass, Read, Ready, Rec, Records, Reduce, Reduced, Refused, Reject, Rejected, Replies, Rows, Sends, Setting, Ship, Silent, Site, Some, Told, Ts, Turn, TxnNo, Use, Value, Values, Wait, [], all_held, and_left, and_no, and_right, answers, ap, ask_for, asks_rows, both, class_asked, column, cond, contains, copies, dated, dated_in, done_for, eqb-true, false, filter, first_there, flat_map, frozen, frozen_at, frozen_handed, given_up, head, head_of, home_of, if_way, if◌then◌else◌, in_filtered, inl, inr, is_a_read, is_a_refusal, is_a_ship, is_among, is_answer, is_answer_record, is_asked_of, is_exchanging, is_number, is_question, is_read, length, list_any, map, never, not, opens, or_left, or_right, pipe, reduced, reduced_at, refl, rows_for, rows_held, same_number, same_or_not, same_site, sends_of_act, site_self, source_of, subst, sym, to_site, told_by, true, turn_after_answer, turn_after_question, turn_with, uses_by, uses_held, values_in, view_of, ℕ, ◌&&◌, ◌++◌, ◌==◌, ◌||◌, ◌∙◌, ◌∷◌, ◌≡◌, ◌⊎◌}
 use Rattle.sdd_obligations.proofs.HandedAnswersKeepTurns.{told_is, told_one}
 use Rattle.sdd_obligations.proofs.DataSteps.{IsDataStep, counts_told, data_step_way, reply}
 use Rattle.sdd_obligations.proofs.AnswersComeInTurn.{IsHomeOf, asks_no_answer, done_no_answer, head_through, read_next}
-use Rattle.sdd_obligations.proofs.Replying.{HasTurnAt, IsOwn, asked_rows, asked_turn, asks_no_a_read, reply_answers, reply_no_refusal, told_turn, held_told as held_now, and_no}
-use Rattle.sdd_obligations.proofs.Linking.{first_there}
-use Rattle.sdd_obligations.proofs.InStep.{never}
+use Rattle.sdd_obligations.proofs.Replying.{HasTurnAt, IsOwn, asked_rows, asked_turn, asks_no_a_read, reply_answers, reply_no_refusal, told_turn, held_told as held_now}
 use Rattle.sdd_invariants.specs.site_module.SiteLog.{Log}
 
 -- rows are held for the attempt, of these uses

@@ -1,5 +1,5 @@
 -- What a site that runs transactions sends lies below its clock's height.
-use Rattle.sdd_obligations.proofs.All.{Act, AllLe, AllLow, Attempt, Bases, Bool, Catalogue, Commit, Cond, D, Did, Each, Fetch, FragNo, Handed, Hold, HoldRule, IsFair, IsLow, IsSend, IsStepU, List, Msg, None, Option, P2, P3, Queued, Records, Redeclared, Reduce, Release, Sends, Served, Setting, Ship, Site, Some, Submits, T, Ticked, TmNo, Ts, [], a_held, a_hold, a_null, a_release, active, arith, ascending, asks_rows, bound, clock, clock_number, commit_act, commit_puts, cond_for, cond_of, condition_on, conditions_at, current_era, dm_no, drawn, drawn_at, frag_no, fragments_in, fragments_of, hand_ts, hold_rule, if_way, inl, inr, is_asked, last_served, last_stamp, limit_le, map, next_stamp, number_of, of_exchange, option_or, refl, same_site, sends_of_act, served_acted, stamp_or, stamp_rises, start_at, start_puts, start_read, starts_by, step_way, subst, suc, sym, t_step, tm_no, to_site, top, true, ts_of, u_way, uses_of, ℕ, ◌+◌, ◌==◌, ◌∷◌, ◌≡◌, ◌≤◌}
+use Rattle.sdd_obligations.proofs.All.{Act, AllLe, AllLow, Attempt, Bases, Bool, Catalogue, Commit, Cond, D, Did, Each, Fetch, FragNo, Handed, Hold, HoldRule, IsFair, IsLow, IsSend, IsStepU, List, Msg, None, Option, P2, P3, Queued, Records, Reduce, Release, Sends, Served, Setting, Ship, Site, Some, Submits, T, TmNo, Ts, [], a_held, a_hold, a_null, a_release, active, arith, ascending, asks_rows, bound, clock, clock_number, commit_act, commit_puts, cond_for, cond_of, condition_on, conditions_at, current_era, dm_no, drawn, drawn_at, frag_no, fragments_in, fragments_of, hand_ts, hold_rule, if_way, inl, inr, is_asked, last_served, last_stamp, limit_le, map, next_stamp, number_of, of_exchange, option_or, refl, same_site, sends_of_act, served_acted, stamp_or, stamp_rises, start_at, start_puts, start_read, starts_by, step_way, subst, suc, sym, t_step, tm_no, to_site, top, true, ts_of, u_way, uses_of, ℕ, ◌+◌, ◌==◌, ◌∷◌, ◌≡◌, ◌≤◌}
 use Rattle.sdd_obligations.proofs.LowLists.{IsEarlyCond, all_low_up, conds_all_le, conds_le, low_one}
 use Rattle.sdd_invariants.specs.All.{asked_by, classes_of}
 use Rattle.sdd_invariants.specs.site_module.SiteLog.{Log}
@@ -124,12 +124,11 @@ served_low s [] f = omega arith
 served_low s (Handed from m ∷ log) f =
     let i = served_low s log f.1 in let r = stamp_rises s (Handed from m) log in
     rw (hand_ts m (last_served s log)) (omega (arith, i, r))
-served_low s (Ticked n ∷ log) f = let i = served_low s log f.1 in let r = stamp_rises s (Ticked n) log in omega (arith, i, r)
 served_low s (Submits n txn ∷ log) f = served_low s log f.1
-served_low s (Redeclared era t ∷ log) f = let i = served_low s log f.1 in let r = stamp_rises s (Redeclared era t) log in omega (arith, i, r)
 served_low s (Did act ∷ log) f =
     let i = served_low s log f.1 in let d = drawn s log f.1 0 in let r = stamp_rises s (Did act) log in
     act_ts act (active s 0 log) (last_served s log) (last_stamp s (Did act ∷ log)) (omega (arith, d, r)) (omega (arith, i, r))
+served_low s (x ∷ log) f = let i = served_low s log f.1 in let r = stamp_rises s x log in omega (arith, i, r)
 
 pub u_low : (h : ℕ) (s : Setting) (log : Log) (act : Act) → number_of s.site ≤ 63 → (clock s.site log).ticks ≤ h
     → Each (IsFair s) log → IsStepU s log act → PutsLow h act

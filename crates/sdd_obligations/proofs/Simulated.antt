@@ -1,5 +1,5 @@
 -- The exchange of an active attempt follows a run over what its modules keep, on every permitted log.
-use Rattle.sdd_obligations.proofs.All.{Act, AllReadied, Asks, Attempt, Bases, Bool, Catalogue, CopyRows, D, Did, DmNo, Does, Each, Entry, Exchange, FitsInput, Frozen, Hand, Handed, Has, HasEras, Input, IsFair, IsPermitted, KeepsOnce, List, Log, Mark, Msg, None, Notes, Option, Queued, Redeclares, Reduce, Reject, Round, Sends, Setting, Site, Some, Space, Submitted, T, Tells, U, Value, [], active, active_handed, active_sent, after_hand, after_send, ap, asked_at, asks_rows, beginning, begins, bound, class_at, class_no, clock, commit_act, contains, contents, current_era, dated, dm_no, false, filter_map, follows_reduce, follows_start, frozen_for, frozen_once, frozen_space, head, head_of, home, home_fair, honest, if_way, if◌then◌else◌, inl, inr, is_a_refusal, is_answer, is_question, is_shipped, kept, length, local_of, local_step, made, module_read, modules_asked, next_stamp, own_act, pipe, question, question_of, queue, readied, reduced, refl, rejects, same_number, same_or_not, same_site, sends_of_act, setting_of, site_is, site_self, start_at, start_modules, started, step_way, subst, suc, sym, time_at, tm_no, true, turn_at, with_made, ℕ, ◌==◌, ◌∙◌, ◌∷◌, ◌≡◌, ◌≢◌, ◌≤◌}
+use Rattle.sdd_obligations.proofs.All.{Act, AllReadied, Asks, Attempt, Bases, Bool, Catalogue, CopyRows, D, Did, DmNo, Does, Each, Entry, Exchange, FitsInput, Frozen, Hand, Handed, Has, HasEras, Input, IsFair, IsPermitted, KeepsOnce, List, Log, Msg, None, Option, Queued, Reduce, Reject, Sends, Setting, Site, Some, Space, T, Tells, U, Value, [], active, active_handed, active_sent, after_hand, after_send, ap, asked_at, asks_rows, beginning, begins, bound, class_at, class_no, clock, commit_act, contains, contents, current_era, dated, dm_no, false, filter_map, follows_reduce, follows_start, frozen_for, frozen_once, frozen_space, head, head_of, home, home_fair, honest, if_way, if◌then◌else◌, inl, inr, is_a_refusal, is_answer, is_question, is_shipped, kept, length, local_of, local_step, made, module_read, modules_asked, never, next_stamp, own_act, pipe, question, question_of, queue, readied, reduced, refl, rejects, same_number, same_or_not, same_site, sends_of_act, setting_of, site_is, site_self, start_at, start_modules, started, step_way, subst, suc, sym, time_at, tm_no, true, turn_at, with_made, ℕ, ◌==◌, ◌∙◌, ◌∷◌, ◌≡◌, ◌≢◌, ◌≤◌}
 use Rattle.sdd_obligations.proofs.AtTurn.{hand_not}
 use Rattle.sdd_obligations.proofs.HandedAnswersKeepTurns.{is_awaited}
 use Rattle.sdd_obligations.proofs.Modules.{firsts}
@@ -11,7 +11,7 @@ use Rattle.sdd_obligations.proofs.Exchanging.{IsReply, Serving, hand_serves, sen
 use Rattle.sdd_obligations.proofs.Kept.{IsFrozen, IsReduced, act_keeps, hand_keeps, kept_answered}
 use Rattle.sdd_obligations.proofs.Once.{runs_once}
 use Rattle.sdd_obligations.proofs.Spaces.{Agrees, IsStillEntry, agrees_before, home_apart, kept_apart, kept_at, kept_still, made_still, or_first, own, set, space_at, space_same, still_active}
-use Rattle.sdd_obligations.proofs.InStep.{InStep, again, awaited_there, col_of, contains_has, never, none_read, reducing_is, use_of}
+use Rattle.sdd_obligations.proofs.InStep.{InStep, again, awaited_there, col_of, contains_has, none_read, reducing_is, use_of}
 use Rattle.sdd_serving.specs.Freezing.{uses_at}
 use Rattle.sdd_invariants.specs.site_module.SiteLog as site
 
@@ -339,16 +339,11 @@ module _ (g : Input) (good : FitsInput g) (eras : HasEras g) (c : ℕ) (in_step 
       let same : active s c (mine (Hand from (D d) n m ∷ log)) ≡ active s c (mine log) =
       home_same (Hand from (D d) n m) log (ap (λ b. if b then Some (Handed from m) else None) e) in
       subst (AllServed (Hand from (D d) n m ∷ log)) (sym same) (handed_module log from d n m (active s c (mine log)) h refl hand served)
-  by_hand log from U n m h served hand false e =
-      let same : active s c (mine (Hand from U n m ∷ log)) ≡ active s c (mine log) =
-      home_same (Hand from U n m) log (ap (λ b. if b then Some (Handed from m) else None) e) in
-      subst (AllServed (Hand from U n m ∷ log)) (sym same) (still_served (Hand from U n m) log
-      (active s c (mine log)) (λ ts d. kept_apart g c ts d (Hand from U n m) log refl) served)
-  by_hand log from (T t) n m h served hand false e =
-      let same : active s c (mine (Hand from (T t) n m ∷ log)) ≡ active s c (mine log) =
-      home_same (Hand from (T t) n m) log (ap (λ b. if b then Some (Handed from m) else None) e) in
-      subst (AllServed (Hand from (T t) n m ∷ log)) (sym same) (still_served (Hand from (T t) n m) log
-      (active s c (mine log)) (λ ts d. kept_apart g c ts d (Hand from (T t) n m) log refl) served)
+  by_hand log from x n m h served hand false e =
+      let same : active s c (mine (Hand from x n m ∷ log)) ≡ active s c (mine log) =
+      home_same (Hand from x n m) log (ap (λ b. if b then Some (Handed from m) else None) e) in
+      subst (AllServed (Hand from x n m ∷ log)) (sym same) (still_served (Hand from x n m) log
+      (active s c (mine log)) (λ ts d. kept_apart g c ts d (Hand from x n m) log refl) served)
 
   by_act : (log : Log) (by : Site) (act : Act) → IsPermitted g log → AllServed log (active s c (mine log))
       → IsPermitted g (Does by act ∷ log) → (b : Bool) → same_site at by ≡ b → AllServed (Does by act ∷ log)
@@ -361,15 +356,10 @@ module _ (g : Input) (good : FitsInput g) (eras : HasEras g) (c : ℕ) (in_step 
       let same : active s c (mine (Does (D d) act ∷ log)) ≡ active s c (mine log) =
       home_same (Does (D d) act) log (ap (λ b. if b then Some (Did act) else None) e) in
       subst (AllServed (Does (D d) act ∷ log)) (sym same) (acted_module log d act (active s c (mine log)) hand same served)
-  by_act log U act h served hand false e =
-      let same : active s c (mine (Does U act ∷ log)) ≡ active s c (mine log) = home_same (Does U act) log (ap (λ b. if b then Some (Did act) else None) e) in
-      subst (AllServed (Does U act ∷ log)) (sym same) (still_served (Does U act) log (active s c (mine log))
-      (λ ts d. kept_apart g c ts d (Does U act) log refl) served)
-  by_act log (T t) act h served hand false e =
-      let same : active s c (mine (Does (T t) act ∷ log)) ≡ active s c (mine log) =
-      home_same (Does (T t) act) log (ap (λ b. if b then Some (Did act) else None) e) in
-      subst (AllServed (Does (T t) act ∷ log)) (sym same) (still_served (Does (T t) act) log
-      (active s c (mine log)) (λ ts d. kept_apart g c ts d (Does (T t) act) log refl) served)
+  by_act log x act h served hand false e =
+      let same : active s c (mine (Does x act ∷ log)) ≡ active s c (mine log) = home_same (Does x act) log (ap (λ b. if b then Some (Did act) else None) e) in
+      subst (AllServed (Does x act ∷ log)) (sym same) (still_served (Does x act) log (active s c (mine log))
+      (λ ts d. kept_apart g c ts d (Does x act) log refl) served)
 
   by_still : (log : Log) (e : Entry) → IsStillEntry e → AllServed log (active s c (mine log)) → AllServed (e ∷ log) (active s c (mine (e ∷ log)))
   by_still log e still served =
@@ -384,8 +374,4 @@ module _ (g : Input) (good : FitsInput g) (eras : HasEras g) (c : ℕ) (in_step 
   served_all [] h = subst (AllServed []) (sym none_first) tt
   served_all (Hand from to n m ∷ log) h = by_hand log from to n m h.1 (served_all log h.1) h (same_site at to) refl
   served_all (Does by act ∷ log) h = by_act log by act h.1 (served_all log h.1) h (same_site at by) refl
-  served_all (Mark e ∷ log) h = by_still log (Mark e) tt (served_all log h.1)
-  served_all (Round es ∷ log) h = by_still log (Round es) tt (served_all log h.1)
-  served_all (Redeclares t ∷ log) h = by_still log (Redeclares t) tt (served_all log h.1)
-  served_all (Submitted to n ∷ log) h = by_still log (Submitted to n) tt (served_all log h.1)
-  served_all (Notes ∷ log) h = by_still log Notes tt (served_all log h.1)
+  served_all (x ∷ log) h = by_still log x tt (served_all log h.1)

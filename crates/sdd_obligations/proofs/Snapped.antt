@@ -1,7 +1,6 @@
 -- What an attempt reads at one data module: the copies just before the Answer to it.
-use Rattle.sdd_obligations.proofs.All.{Answer, Bool, Did, DmNo, Each, Handed, List, Msg, Records, Redeclared, Sends, Setting, Site, Submits, Ticked, TxnNo, [], ap, before_answer, dated, false, flat_map, frags_asked, head, if◌then◌else◌, inl, inr, is_at, items_of, pipe, refl, snapshots, subst, sym, true, ℕ, ◌++◌, ◌∙◌, ◌∷◌, ◌≡◌, ◌⊎◌}
+use Rattle.sdd_obligations.proofs.All.{Answer, Bool, Did, DmNo, Each, List, Msg, Records, Setting, Site, TxnNo, [], ap, before_answer, dated, false, flat_map, frags_asked, head, if◌then◌else◌, inl, inr, is_at, items_of, never, pipe, refl, snapshots, subst, sym, true, ℕ, ◌++◌, ◌∙◌, ◌∷◌, ◌≡◌, ◌⊎◌}
 use Rattle.sdd_obligations.proofs.Places.{IsAnswerAt}
-use Rattle.sdd_obligations.proofs.Opened.{never}
 use Rattle.sdd_invariants.specs.site_module.SiteLog.{Entry, Log}
 
 -- the Answer that is found: what is read is what the copies hold before it
@@ -46,14 +45,10 @@ snap_answer s ts k txn attempt dm sends log false e h = snap_more s ts (Did (Rec
 
 pub may_snap : (s : Setting) (ts : ℕ) (log : Log) → MaySnap s ts log
 may_snap s ts [] = inl refl
-may_snap s ts (Handed from m ∷ log) = snap_more s ts (Handed from m) log refl refl (may_snap s ts log)
-may_snap s ts (Ticked n ∷ log) = snap_more s ts (Ticked n) log refl refl (may_snap s ts log)
-may_snap s ts (Submits n txn ∷ log) = snap_more s ts (Submits n txn) log refl refl (may_snap s ts log)
-may_snap s ts (Redeclared era t ∷ log) = snap_more s ts (Redeclared era t) log refl refl (may_snap s ts log)
 may_snap s ts (Did (Records k (Answer txn attempt dm) sends) ∷ log) =
     snap_answer s ts k txn attempt dm sends log (is_at ts (head (pipe k log))) refl (may_snap s ts log)
 may_snap s ts (Did (Records k _ sends) ∷ log) = snap_more s ts _ log refl refl (may_snap s ts log)
-may_snap s ts (Did (Sends to m hand) ∷ log) = snap_more s ts (Did (Sends to m hand)) log refl refl (may_snap s ts log)
+may_snap s ts (x ∷ log) = snap_more s ts x log refl refl (may_snap s ts log)
 
 -- where there is an Answer, one is found
 snap_behind : (s : Setting) (ts : ℕ) (e : Entry) (log : Log) → snapshots s ts (e ∷ log) ≡ snapshots s ts log
@@ -75,15 +70,11 @@ module _ (s : Setting) (ts : ℕ) (k : ℕ) (txn : TxnNo) (attempt : ℕ) (dm : 
     (before : Log) (at : is_at ts (head (pipe k before)) ≡ true) where
   pub snapped_behind : (later : Log) → IsSnapped s ts (later ++ Did (Records k (Answer txn attempt dm) sends) ∷ before)
   snapped_behind [] = snap_there s ts k txn attempt dm sends before (is_at ts (head (pipe k before))) refl (λ no. never (is_at ts (head (pipe k before))) at no)
-  snapped_behind (Handed from m ∷ later) = snap_behind s ts (Handed from m) _ refl refl (snapped_behind later)
-  snapped_behind (Ticked n ∷ later) = snap_behind s ts (Ticked n) _ refl refl (snapped_behind later)
-  snapped_behind (Submits n t ∷ later) = snap_behind s ts (Submits n t) _ refl refl (snapped_behind later)
-  snapped_behind (Redeclared era t ∷ later) = snap_behind s ts (Redeclared era t) _ refl refl (snapped_behind later)
   snapped_behind (Did (Records c (Answer t a m) ss) ∷ later) =
       snap_there s ts c t a m ss _ (is_at ts (head (pipe c (later ++ Did (Records k (Answer txn attempt dm) sends) ∷ before)))) refl
       (λ no. snapped_behind later)
   snapped_behind (Did (Records c _ ss) ∷ later) = snap_behind s ts _ _ refl refl (snapped_behind later)
-  snapped_behind (Did (Sends to m hand) ∷ later) = snap_behind s ts (Did (Sends to m hand)) _ refl refl (snapped_behind later)
+  snapped_behind (x ∷ later) = snap_behind s ts x _ refl refl (snapped_behind later)
 
 pub snapped : (s : Setting) (ts : ℕ) (log : Log) → IsAnswerAt ts log → IsSnapped s ts log
 snapped s ts log h = subst (IsSnapped s ts) (sym h.is) (snapped_behind s ts h.class h.txn h.attempt h.dm h.sends h.before h.at h.later)

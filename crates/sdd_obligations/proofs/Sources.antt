@@ -1,10 +1,9 @@
 -- Questions of a class are put by the site that runs it, which is the one to which a data module answers; and what is sent
 -- first on permitted logs.
-use Rattle.sdd_obligations.proofs.All.{Act, Bool, Catalogue, Class, ClassNo, Cond, D, Did, DmNo, Each, Fetch, Hand, Handed, Input, IsClassHere, IsDueEach, IsFair, IsFetch, IsPermitted, IsPutByD, IsReduce, IsSend, IsShip, IsStep, List, Log, Msg, Read, Ready, Reduce, Reduced, Reject, Rows, Setting, Ship, Site, Some, T, TmNo, Ts, TxnNo, U, Use, Values, WasAsked, [], a_held, a_hold, a_null, a_release, and_right, ap, append_assoc, arith, asks_rows, asks_whose, base_of, class_at, commit_puts, d_fair, dm_no, each_at, each_local, eqb-true, false, hand_was_put, handed, head, home, home_fair, home_of, if_way, if◌then◌else◌, in_none, in_one, inl, inr, is_answer, is_question, length, local_of, map, next_stamp, of_exchange, permitted_before, pipe, place_of_hand, put_by_d, puts_to, refl, same_site, sends_of_act, setting_of, slice_get, slice_index_or, source_of, start_puts, start_read, step_way, subst, suc, suc_no_zero, sym, t_fair, the_one, tm_no, to_site, true, u_fair, was_put, zero, ℕ, ◌&&◌, ◌++◌, ◌-◌, ◌<◌, ◌==◌, ◌∙◌, ◌∷◌, ◌≡◌, ◌≤◌}
+use Rattle.sdd_obligations.proofs.All.{Act, Bool, Catalogue, Class, ClassNo, Cond, D, Did, DmNo, Each, Fetch, Hand, Handed, Input, IsClassHere, IsDueEach, IsFair, IsFetch, IsPermitted, IsPutByD, IsReduce, IsSend, IsShip, IsStep, List, Log, Msg, Read, Ready, Reduce, Reduced, Reject, Rows, Setting, Ship, Site, Some, T, TmNo, Ts, TxnNo, U, Use, Values, WasAsked, [], a_held, a_hold, a_null, a_release, and_right, ap, append_assoc, arith, asks_rows, asks_whose, base_of, class_at, commit_puts, d_fair, dm_no, each_at, each_local, eqb-true, false, hand_was_put, handed, head, home, home_fair, home_of, if_way, if◌then◌else◌, in_none, in_one, inl, inr, is_answer, is_question, length, local_of, map, never, next_stamp, of_exchange, permitted_before, pipe, place_of_hand, put_by_d, puts_to, refl, same_site, sends_of_act, setting_of, slice_get, slice_index_or, source_of, start_puts, start_read, step_way, subst, suc, suc_no_zero, sym, t_fair, the_one, tm_no, to_site, true, u_fair, was_put, zero, ℕ, ◌&&◌, ◌++◌, ◌-◌, ◌<◌, ◌==◌, ◌∙◌, ◌∷◌, ◌≡◌, ◌≤◌}
 use Rattle.sdd_obligations.proofs.FirstSends.{IsFirstEach, IsFirstSend, t_first, u_first}
 use Rattle.sdd_obligations.proofs.QuestionsComeInTurn.{send_is_question}
 use Rattle.sdd_obligations.proofs.AnswersComeInTurn.{head_through}
-use Rattle.sdd_obligations.proofs.InStep.{never}
 use Rattle.sdd_invariants.specs.site_module.SiteLog as site
 
 -- the site that runs a class, as a data module has it

@@ -1,5 +1,5 @@
 -- What the modules keep for an attempt, as the log of everything goes on.
-use Rattle.sdd_obligations.proofs.All.{Catalogue, CopyRows, D, Did, DmNo, Does, Entry, Era, Frozen, Hand, Handed, Input, Log, Mark, None, Option, Redeclared, Redeclares, Setting, Site, Some, Space, Submits, Submitted, T, Tick, Ticked, Txn, U, active, ap, class_at, contents, dated, dm_no, false, given_to, home, if_way, kept, local_of, local_step, made, nth_era, redeclared_entry, redeclares, refl, same_site, setting_of, subst, suc, sym, tm_no, txn_at, with_made, ℕ, ◌==◌, ◌∙◌, ◌∷◌, ◌≡◌}
+use Rattle.sdd_obligations.proofs.All.{Catalogue, CopyRows, D, Did, Does, Entry, Era, Frozen, Hand, Handed, Input, Log, Mark, None, Option, Redeclared, Redeclares, Setting, Site, Some, Space, Submits, Submitted, T, Tick, Ticked, Txn, U, active, ap, class_at, contents, dated, dm_no, false, given_to, home, if_way, kept, local_of, local_step, made, nth_era, redeclared_entry, redeclares, refl, same_site, setting_of, subst, suc, sym, tm_no, txn_at, with_made, ℕ, ◌==◌, ◌∙◌, ◌∷◌, ◌≡◌}
 use Rattle.sdd_obligations.proofs.Places.{IsAnswerAt}
 use Rattle.sdd_obligations.proofs.Snapped.{answer_more}
 use Rattle.sdd_obligations.proofs.Kept.{kept_same}
@@ -8,12 +8,9 @@ use Rattle.sdd_invariants.specs.site_module.SiteLog as site
 -- entries of a site's log that leave its attempts and its rows
 
 abbrev pub IsStill : Option site.Entry → Type 0
-IsStill None = Unit {0}
-IsStill (Some (Ticked n)) = Unit {0}
-IsStill (Some (Submits n txn)) = Unit {0}
-IsStill (Some (Redeclared era t)) = Unit {0}
 IsStill (Some (Handed from m)) = ⊥
 IsStill (Some (Did act)) = ⊥
+IsStill _ = Unit {0}
 
 pub still_kept : (s : Setting) (c ts : ℕ) (o : Option site.Entry) (l : site.Log) → IsStill o → kept s c ts (with_made o l) ≡ kept s c ts l
 still_kept s c ts None l h = refl
@@ -99,6 +96,3 @@ kept_still g c ts d e log h = ap (kept (set g d) c ts) (local_step g (D (dm_no d
 -- the site of a class is no data module
 pub home_apart : (cat : Catalogue) (c d : ℕ) → same_site (D (dm_no d)) (home cat c) ≡ false
 home_apart cat c d = if_way (λ x. same_site (D (dm_no d)) x ≡ false) (c == 0) U (T (tm_no (class_at cat c).tm.0)) refl refl
-
-pub apart_home : (cat : Catalogue) (c : ℕ) (d : DmNo) → same_site (home cat c) (D d) ≡ false
-apart_home cat c d = if_way (λ x. same_site x (D d) ≡ false) (c == 0) U (T (tm_no (class_at cat c).tm.0)) refl refl

@@ -1,13 +1,6 @@
 -- A WRITE's timestamp is above 0, and no two WRITEs of different Commits have the same.
-use Rattle.sdd_obligations.proofs.All.{Act, Attempt, Did, Each, IsFair, Queued, Setting, Some, active, ap, arith, clock, clock_grows, clock_number, compare, inl, inr, next_stamp, number_of, start_at, start_of_active, subst, sym, ℕ, ◌*◌, ◌++◌, ◌+◌, ◌<◌, ◌∷◌, ◌≡◌}
+use Rattle.sdd_obligations.proofs.All.{Act, Did, Queued, Setting, ap, arith, clock, clock_grows, clock_number, compare, inl, inr, next_stamp, number_of, start_at, ℕ, ◌*◌, ◌++◌, ◌+◌, ◌<◌, ◌∷◌, ◌≡◌}
 use Rattle.sdd_invariants.specs.site_module.SiteLog.{Entry, Log}
-
-pub stamp_above : (s : Setting) (log : Log) → 0 < next_stamp s log
-stamp_above s log = omega arith
-
--- the timestamp of an active attempt was drawn
-pub active_above : (s : Setting) (c : ℕ) (log : Log) (a : Attempt) → Each (IsFair s) log → active s c log ≡ Some a → 0 < a.ts
-active_above s c log a f e = let h = start_of_active s c log a f e in subst (λ t. 0 < t) (sym h.ts_is) (stamp_above s h.before)
 
 pub stamp_ticks : (s : Setting) (log : Log) → next_stamp s log ≡ ((clock s.site log).ticks + 1) * 64 + number_of s.site
 stamp_ticks s log = let n = clock_number s.site log in omega (arith, n)
@@ -15,10 +8,9 @@ stamp_ticks s log = let n = clock_number s.site log in omega (arith, n)
 -- of two Starts of a site the later one draws a greater timestamp
 later_start : (s : Setting) (c k : ℕ) (z b1 b2 : Log) (q1 : Queued) → b2 ≡ z ++ Did (start_at s c b1 q1) ∷ b1 → next_stamp s b1 < next_stamp s b2
 later_start s c k z b1 b2 q1 e =
-    let g = clock_grows s.site z (Did (start_at s c b1 q1) ∷ b1) in
     let n1 = clock_number s.site b1 in let n2 = clock_number s.site b2 in
     let h : (clock s.site b2).ticks ≡ (clock s.site (z ++ Did (start_at s c b1 q1) ∷ b1)).ticks = ap (λ l. (clock s.site l).ticks) e in
-    omega (arith, g, n1, n2, h)
+    omega (arith, clock_grows s.site z (Did (start_at s c b1 q1) ∷ b1), n1, n2, h)
 
 act_of : (x y : Act) → ◌≡◌ {A = Entry} (Did x) (Did y) → x ≡ y
 act_of x y e = cc

@@ -1,5 +1,5 @@
 -- The exchange of an active attempt and its modules go in step.
-use Rattle.sdd_obligations.proofs.All.{Act, Asks, Attempt, Bases, Bool, D, Did, DmNo, Does, Each, Entry, Fetch, Hand, Handed, Input, IsAllowed, IsFair, IsPermitted, IsStage, List, Log, Mark, MayAnswer, Msg, None, Notes, Option, Queued, Read, Redeclared, Redeclares, Reduce, Reject, Replies, Round, Sends, Setting, Ship, Silent, Site, Some, Submits, Submitted, T, Tells, Ticked, Told, Turn, U, [], active, active_handed, active_sent, agreed, allowed_act, answer_goes, answers, ap, beginning, class_at, commit_act, dm_no, drop, false, filter-append, flight, handed, handed_way, head_of, home, home_fair, if_way, if◌then◌else◌, inl, inr, is_a_read, is_a_refusal, is_answer, is_question, kept, local_of, local_step, made, next_stamp, number_of, own_act, puts_to, question_goes, queue, refl, same_number, same_or_not, same_site, sends_of_act, sent_way, setting_of, site_is, site_self, stamp_below_next, start_at, started, step_way, subst, sym, take, take-append-drop, tm_no, true, turn_after_answer, turn_at, turn_with, uses_by, uses_in, with_made, ℕ, ◌++◌, ◌==◌, ◌∙◌, ◌∷◌, ◌≡◌, ◌≤◌}
+use Rattle.sdd_obligations.proofs.All.{Act, Asks, Attempt, Bases, Bool, D, Did, DmNo, Does, Each, Entry, Fetch, Hand, Handed, Input, IsAllowed, IsFair, IsPermitted, IsStage, List, Log, MayAnswer, Msg, None, Option, Queued, Read, Redeclared, Reduce, Reject, Replies, Sends, Setting, Ship, Silent, Site, Some, Submits, T, Tells, Ticked, Told, Turn, U, [], active, active_handed, active_sent, agreed, allowed_act, answer_goes, answers, ap, beginning, class_at, commit_act, dm_no, drop, false, filter-append, flight, handed, handed_way, head_of, home, home_fair, if_way, if◌then◌else◌, inl, inr, is_a_read, is_a_refusal, is_answer, is_question, kept, local_of, local_step, made, next_stamp, number_of, own_act, puts_to, question_goes, queue, refl, same_number, same_or_not, same_site, sends_of_act, sent_way, setting_of, site_is, site_self, stamp_below_next, start_at, started, step_way, subst, sym, take, take-append-drop, tm_no, true, turn_after_answer, turn_at, turn_with, uses_by, uses_in, with_made, ℕ, ◌++◌, ◌==◌, ◌∙◌, ◌∷◌, ◌≡◌, ◌≤◌}
 use Rattle.sdd_obligations.proofs.Comes.{next_answer_is, next_question_is}
 use Rattle.sdd_obligations.proofs.DataSteps.{data_step}
 use Rattle.sdd_obligations.proofs.Halves.{active_last, data_turns, home_source, home_turns}
@@ -193,12 +193,9 @@ module _ (g : Input) (c : ℕ) (small : number_of (home g.catalogue c) ≤ 63) w
   by_hand log from (D d) n m turn_after_answer hand false e =
       subst (AllTold (Hand from (D d) n m ∷ log)) (sym (home_same (Hand from (D d) n m) log (ap (λ b. if b then Some (Handed from m) else None) e)))
       (told_on (Hand from (D d) n m) log (active s c (mine log)) (λ a i k. module_hand log from d n m a.ts hand k) turn_after_answer)
-  by_hand log from U n m turn_after_answer hand false e =
-      subst (AllTold (Hand from U n m ∷ log)) (sym (home_same (Hand from U n m) log (ap (λ b. if b then Some (Handed from m) else None) e)))
-      (told_on (Hand from U n m) log (active s c (mine log)) (λ a i k. apart (Hand from U n m) log a.ts k refl) turn_after_answer)
-  by_hand log from (T t) n m turn_after_answer hand false e =
-      subst (AllTold (Hand from (T t) n m ∷ log)) (sym (home_same (Hand from (T t) n m) log (ap (λ b. if b then Some (Handed from m) else None) e)))
-      (told_on (Hand from (T t) n m) log (active s c (mine log)) (λ a i k. apart (Hand from (T t) n m) log a.ts k refl) turn_after_answer)
+  by_hand log from x n m turn_after_answer hand false e =
+      subst (AllTold (Hand from x n m ∷ log)) (sym (home_same (Hand from x n m) log (ap (λ b. if b then Some (Handed from m) else None) e)))
+      (told_on (Hand from x n m) log (active s c (mine log)) (λ a i k. apart (Hand from x n m) log a.ts k refl) turn_after_answer)
 
   by_act : (log : Log) (by : Site) (act : Act) → AllTold log (active s c (mine log))
       → IsPermitted g (Does by act ∷ log) → (b : Bool) → same_site at by ≡ b → AllTold (Does by act ∷ log)
@@ -210,13 +207,9 @@ module _ (g : Input) (c : ℕ) (small : number_of (home g.catalogue c) ≤ 63) w
       subst (AllTold (Does (D d) act ∷ log)) (sym (home_same (Does (D d) act) log (ap (λ b. if b then Some (Did act) else None) e)))
       (told_on (Does (D d) act) log (active s c (mine log)) (λ a i k. module_act log d act a hand i k)
       turn_after_answer)
-  by_act log U act turn_after_answer hand false e =
-      subst (AllTold (Does U act ∷ log)) (sym (home_same (Does U act) log (ap (λ b. if b then Some (Did act) else None) e)))
-      (told_on (Does U act) log (active s c (mine log)) (λ a i k. apart (Does U act) log a.ts k refl)
-      turn_after_answer)
-  by_act log (T t) act turn_after_answer hand false e =
-      subst (AllTold (Does (T t) act ∷ log)) (sym (home_same (Does (T t) act) log (ap (λ b. if b then Some (Did act) else None) e)))
-      (told_on (Does (T t) act) log (active s c (mine log)) (λ a i k. apart (Does (T t) act) log a.ts k refl) turn_after_answer)
+  by_act log x act turn_after_answer hand false e =
+      subst (AllTold (Does x act ∷ log)) (sym (home_same (Does x act) log (ap (λ b. if b then Some (Did act) else None) e)))
+      (told_on (Does x act) log (active s c (mine log)) (λ a i k. apart (Does x act) log a.ts k refl) turn_after_answer)
 
   by_still : (log : Log) (e : Entry) → IsStillEntry e → AllTold log (active s c (mine log)) → AllTold (e ∷ log) (active s c (mine (e ∷ log)))
   by_still log e still turn_after_answer =
@@ -234,11 +227,7 @@ module _ (g : Input) (c : ℕ) (small : number_of (home g.catalogue c) ≤ 63) w
   told_all [] h = subst (AllTold []) (sym none_first) tt
   told_all (Hand from to n m ∷ log) h = by_hand log from to n m (told_all log h.1) h (same_site at to) refl
   told_all (Does by act ∷ log) h = by_act log by act (told_all log h.1) h (same_site at by) refl
-  told_all (Mark e ∷ log) h = by_still log (Mark e) tt (told_all log h.1)
-  told_all (Round es ∷ log) h = by_still log (Round es) tt (told_all log h.1)
-  told_all (Redeclares t ∷ log) h = by_still log (Redeclares t) tt (told_all log h.1)
-  told_all (Submitted to n ∷ log) h = by_still log (Submitted to n) tt (told_all log h.1)
-  told_all (Notes ∷ log) h = by_still log Notes tt (told_all log h.1)
+  told_all (x ∷ log) h = by_still log x tt (told_all log h.1)
 
   -- the answers of a module that were put, and the one that is under way
   answers_put : (ts : ℕ) (d : DmNo) (log : Log) (m : Msg) → answers ts c (flight g (D d) at log) ≡ m ∷ []

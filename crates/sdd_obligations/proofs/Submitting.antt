@@ -11,9 +11,8 @@ le_true a b l = grind (arith, nat_tests)
 pub is_new : (g : Input) (log : Log) (at : Site) (n : ℕ) (txn : Txn) → IsSmall g → IsLawful g log → next g log ≡ Some (Submitted at n)
     → txn_at g n ≡ Some txn → contains (submits (local_of g at log)) n ≡ false
 is_new g log at n txn s l e f =
-    let p = lawful_permitted g (Submitted at n ∷ log) s.once (e, l) in
     let own : local_of g at (Submitted at n ∷ log) ≡ Submits n txn ∷ local_of g at log = rw (site_self at, f) refl in
-    (subst (Each IsNew) own (all_new g at (Submitted at n ∷ log) p)).0
+    (subst (Each IsNew) own (all_new g at (Submitted at n ∷ log) (lawful_permitted g (Submitted at n ∷ log) s.once (e, l)))).0
 
 -- it goes to the site of its class, by the catalogue in force
 

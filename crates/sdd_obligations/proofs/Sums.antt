@@ -15,9 +15,8 @@ pub total_raise : {A : Type 0} (f g : A → ℕ) (n : ℕ) (xs : List A) (k : �
 total_raise f g n [] k x e h l = cc
 total_raise {A = A} f g n (y ∷ xs) zero x e h l =
     let p : ◌≡◌ {A = A} y x = cc in
-    let i = total_up f g xs h in
     let m : n + f y ≤ g y = subst (λ z. n + f z ≤ g z) (sym p) l in
-    omega (arith, i, m)
+    omega (arith, total_up f g xs h, m)
 total_raise f g n (y ∷ xs) (suc k) x e h l = let i = total_raise f g n xs k x e h l in let m = h y in omega (arith, i, m)
 
 pub total_le : {A : Type 0} (f : A → ℕ) (xs : List A) (k : ℕ) → ((x : A) → f x ≤ k) → total f xs ≤ length xs * k

@@ -1,15 +1,12 @@
 -- The transaction of an attempt is one that was given to its class, and has what all these have.
-use Rattle.sdd_obligations.proofs.All.{AllByRecursion, Attempt, Bool, Did, Each, FitsInput, FitsText, Handed, Input, IsFair, IsNew, IsPermitted, IsServed, List, None, Option, Queued, Redeclared, Setting, Site, Some, Submits, Ticked, Txn, [], active, cons_option, current_era, each_local, false, filter_map, if◌then◌else◌, is_committed, is_for, local_of, queue, queue_is, queued, refl, setting_of, starts_of, submits_of, subst, sym, true, ℕ, ◌++◌, ◌∷◌, ◌≡◌}
+use Rattle.sdd_obligations.proofs.All.{AllByRecursion, Attempt, Bool, Each, FitsInput, FitsText, Input, IsFair, IsNew, IsPermitted, IsServed, List, None, Option, Queued, Setting, Site, Some, Submits, Txn, [], active, cons_option, current_era, each_local, false, filter_map, if◌then◌else◌, is_committed, is_for, local_of, queue, queue_is, queued, refl, setting_of, starts_of, submits_of, subst, sym, true, ℕ, ◌++◌, ◌∷◌, ◌≡◌}
 use Rattle.sdd_invariants.specs.site_module.SiteLog.{Entry, Log}
 use Rattle.sdd_invariants.specs.logs.Entries as whole
 
 -- so has each transaction that is given to class c at a site
 abbrev pub SubmitHas : (Txn → Type 0) → Setting → ℕ → Log → Entry → Type 0
-SubmitHas P s c log (Handed from m) = Unit {0}
-SubmitHas P s c log (Ticked n) = Unit {0}
 SubmitHas P s c log (Submits n txn) = is_for c (current_era s log).catalogue txn ≡ true → P txn
-SubmitHas P s c log (Redeclared era t) = Unit {0}
-SubmitHas P s c log (Did act) = Unit {0}
+SubmitHas P s c log _ = Unit {0}
 
 module _ (P : Txn → Type 0) where
   abbrev AreSo : List (ℕ × Txn) → Type 0

@@ -1,5 +1,5 @@
 -- The height of a lawful log is one: no clock and no message's time is above it.
-use Rattle.sdd_obligations.proofs.All.{Act, AllFewTicks, AllLow, Ask, D, Did, Does, Entry, Era, Event, Hand, Handed, HandsLow, Held, Input, IsDueAt, IsLawful, IsLow, IsPermitted, IsUnder, List, Log, Mark, Msg, None, Notes, Option, Records, Redeclared, Redeclares, Reject, Release, Round, Site, Some, Start, Submits, Submitted, T, Tick, Ticked, Ticking, Txn, U, [], allowed_act, allowed_hand, arith, base_of, beginning, bound_at, clock, fold, given_to, greatest_bound, height, if_way, if◌then◌else◌, local_of, local_step, made, made_by_mark, map, max, nth_era, numbers_to, pushed_by, put_by, puts_grow, puts_to, redeclared_entry, redeclares, refl, same_site, sends_of_act, sent, sent_is, setting_of, slice_get, starts_by, subst, suc, sym, t_fair, ticked_by, ticks_of, tm_no, to_site, top, txn_at, u_due, u_fair, with_made, ℕ, ◌*◌, ◌+◌, ◌-◌, ◌/◌, ◌∷◌, ◌≡◌, ◌≤◌}
+use Rattle.sdd_obligations.proofs.All.{Act, AllFewTicks, AllLow, Ask, D, Did, Does, Entry, Era, Event, Hand, Handed, HandsLow, Held, Input, IsDueAt, IsLawful, IsLow, IsPermitted, IsUnder, List, Log, Mark, Msg, None, Option, Records, Redeclared, Redeclares, Reject, Release, Site, Some, Start, Submitted, T, Tick, Ticked, Ticking, Txn, U, [], allowed_act, allowed_hand, arith, base_of, beginning, bound_at, clock, fold, given_to, greatest_bound, height, if_way, if◌then◌else◌, local_of, local_step, made, made_by_mark, map, max, nth_era, numbers_to, pushed_by, put_by, puts_grow, puts_to, redeclared_entry, redeclares, refl, same_site, sends_of_act, sent, sent_is, setting_of, slice_get, starts_by, subst, suc, sym, t_fair, ticked_by, ticks_of, tm_no, to_site, top, txn_at, u_due, u_fair, with_made, ℕ, ◌*◌, ◌+◌, ◌-◌, ◌/◌, ◌∷◌, ◌≡◌, ◌≤◌}
 use Rattle.sdd_obligations.proofs.AnswersLow.{d_low}
 use Rattle.sdd_obligations.proofs.LowLists.{all_low_join, all_low_up, low_at, low_up}
 use Rattle.sdd_obligations.proofs.OfNext.{OfNext, of_next, t_of_sites}
@@ -8,12 +8,11 @@ use Rattle.sdd_invariants.specs.site_module.SiteLog as site
 
 -- what an entry of a site's log, if there is one, may be, where the height grows so
 abbrev MayGrow : ℕ → ℕ → Option site.Entry → Type 0
-MayGrow h k None = Unit {0}
 MayGrow h k (Some (Handed from m)) = IsLow h m
 MayGrow h k (Some (Ticked n)) = n + h ≤ k
-MayGrow h k (Some (Submits n txn)) = Unit {0}
 MayGrow h k (Some (Redeclared era t)) = t ≤ top h
 MayGrow h k (Some (Did act)) = (starts_by act + h ≤ k) × ((b : Site) → AllLow k (to_site b (sends_of_act act)))
+MayGrow h k _ = Unit {0}
 
 -- clocks
 
@@ -126,13 +125,11 @@ under g [] w f h p = record {
 }
 under g (Mark e ∷ log) w f h p =
     under_more g (height log) (ticks_of e + height log) (Mark e) log (omega arith) (under g log w f h.1 p.1) (λ at. by_mark (height log) at e)
-under g (Round es ∷ log) w f h p = under_more g (height log) (height log) (Round es) log (omega arith) (under g log w f h.1 p.1) (λ at. tt)
 under g (Redeclares t ∷ log) w f h p =
     let i = under g log w f h.1 p.1 in
     let e : t ≡ greatest_bound g log = of_next g log (Redeclares t) f h.1 h.0 in
-    let l = greatest_le g (height log) log i in
     under_more g (height log) (height log) (Redeclares t) log (omega arith) i
-    (λ at. by_era (height log) at (nth_era g (suc (redeclares log))) t (omega (arith, e, l)))
+    (λ at. by_era (height log) at (nth_era g (suc (redeclares log))) t (omega (arith, e, greatest_le g (height log) log i)))
 under g (Hand from to n m ∷ log) w f h p =
     let i = under g log w f h.1 p.1 in
     under_more g (height log) (height log) (Hand from to n m) log (omega arith) i
@@ -140,8 +137,8 @@ under g (Hand from to n m ∷ log) w f h p =
 under g (Submitted to n ∷ log) w f h p =
     under_more g (height log) (height log) (Submitted to n) log (omega arith) (under g log w f h.1 p.1)
     (λ at. if_way (MayGrow (height log) (height log)) (same_site at to) (given_to n (txn_at g n)) None (by_submit (height log) n (txn_at g n)) tt)
-under g (Notes ∷ log) w f h p = under_more g (height log) (height log) Notes log (omega arith) (under g log w f h.1 p.1) (λ at. tt)
 under g (Does by act ∷ log) w f h p =
     let i = under g log w f h.1 p.1 in
     let low = act_low g (height log) log by act w p.1 i (of_next g log (Does by act) f h.1 h.0) (allowed_act g log (Does by act) p.0) in
     under_more g (height log) (starts_by act + height log) (Does by act) log (omega arith) i (λ at. by_act g (height log) log at by act low)
+under g (x ∷ log) w f h p = under_more g (height log) (height log) x log (omega arith) (under g log w f h.1 p.1) (λ at. tt)

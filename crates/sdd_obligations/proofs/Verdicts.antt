@@ -1,5 +1,5 @@
 -- A data module puts at most one READY or REJECT for a READ, behind which the READ is processed.
-use Rattle.sdd_obligations.proofs.All.{Act, Answer, Bool, ClassNo, Cond, D, Did, DmNo, Each, Handed, Input, IsDueEach, IsPermitted, IsPutByD, IsStrict, List, Log, Msg, Pipe, Read, Ready, Rec, Records, Redeclared, Reject, Rejected, Sends, Setting, Site, Some, Submits, Ticked, Ts, TxnNo, Use, [], all_of, and_left, and_right, ap, arith, at_seam, class_number, d_fair, dec_le, each_local, eqb-true, false, filter_map-append, goes_through, head, head_of, head_processed, head_put, home, home_of, if_way, if◌then◌else◌, in_left, in_pipe, is_processing, is_verdict, key_rises, length, local_of, number_of, one_le, one_or_none, own_record, pipe, pipe_acted, pipe_at, place_within, processed_handed, processed_more, put_by_d, puts_to, read_at, reads_in, reads_strict, refl, same_number, same_site, sends_of_act, setting_of, slice_get, source_of, strict_left, subst, sym, tally, tally_append, tally_at, to_site, true, ℕ, ◌&&◌, ◌++◌, ◌<◌, ◌==◌, ◌∙◌, ◌∷◌, ◌≡◌, ◌≤◌}
+use Rattle.sdd_obligations.proofs.All.{Act, Answer, Bool, ClassNo, Cond, D, Did, DmNo, Each, Handed, Input, IsDueEach, IsPermitted, IsPutByD, IsStrict, List, Log, Msg, Pipe, Read, Ready, Rec, Records, Reject, Rejected, Sends, Setting, Site, Some, Ts, TxnNo, Use, [], all_of, and_left, and_right, ap, arith, at_seam, class_number, d_fair, dec_le, each_local, eqb-true, false, filter_map-append, goes_through, head, head_processed, head_put, home, home_of, if_way, if◌then◌else◌, in_left, in_pipe, is_processing, is_verdict, key_rises, length, local_of, next_in, number_of, one_le, one_or_none, own_record, pipe, pipe_acted, pipe_at, place_within, processed_handed, processed_more, put_by_d, puts_to, read_at, reads_in, reads_strict, refl, same_number, same_site, sends_of_act, setting_of, slice_get, source_of, strict_left, subst, sym, tally, tally_append, tally_at, to_site, true, ℕ, ◌&&◌, ◌++◌, ◌<◌, ◌==◌, ◌∙◌, ◌∷◌, ◌≡◌, ◌≤◌}
 use Rattle.sdd_invariants.specs.site_module.SiteLog as site
 
 -- the READs of a pipe rise, and its head is of the class
@@ -16,10 +16,7 @@ IsInClass log = (c : ℕ) (m : Msg) → head (pipe c log) ≡ Some m → goes_th
 
 abbrev IsStrictAt : ℕ → site.Log → site.Entry → Type 0
 IsStrictAt c log (Did act) = IsStrict (reads_in c (all_of (pipe c log))) × IsInClass log
-IsStrictAt c log (Handed from m) = Unit {0}
-IsStrictAt c log (Ticked n) = Unit {0}
-IsStrictAt c log (Submits n txn) = Unit {0}
-IsStrictAt c log (Redeclared era t) = Unit {0}
+IsStrictAt c log _ = Unit {0}
 
 stricts : (g : Input) (c : ℕ) (d : DmNo) (log : Log) → number_of (home g.catalogue c) ≤ 63 → IsPermitted g log → Each (IsStrictAt c) (local_of g (D d) log)
 stricts g c d log small = each_local g (D d) (IsStrictAt c) (record {
@@ -119,10 +116,6 @@ one_at_most : (f : Msg → Bool) (c : Bool) (m : Msg) → tally f (if c then m �
 one_at_most f true m = let i = one_le (f m) in omega (arith, i)
 one_at_most f false m = omega arith
 
-pub next_in : (ps us : List Msg) (m : Msg) → head_of us ≡ Some m → slice_get (ps ++ us) (length ps) ≡ Some m
-next_in ps [] m e = cc
-next_in ps (y ∷ us) m e = at_seam ps us y ∙ e
-
 read_key : (c t : ℕ) (ts : Ts) (k : ClassNo) (txn : TxnNo) (n : ℕ) (ds : List Cond) (us : List Use) → k.0 ≡ c → ts.0 ≡ t
     → read_at c (Read ts k txn n ds us) ≡ Some t
 read_key c t ts k txn n ds us e f = let q : (k.0 == c) ≡ true = subst (λ x. (k.0 == x) ≡ true) e (same_number k.0) in rw q (ap (λ y. Some y) f)
@@ -141,14 +134,13 @@ own_did c ts b act log strict v h =
           absurd (omega (arith, less)))
       | no n ↦ omega (arith, n)
     ] in
-    let a = tally_append (is_verdict ts c) (puts_to b log) (to_site b (sends_of_act act)) in
     let one : tally (is_verdict ts c) (to_site b (sends_of_act act)) ≤ 1 =
     subst (λ y. tally (is_verdict ts c) (to_site b (sends_of_act y)) ≤ 1) (sym v.act_is) (one_at_most (is_verdict ts c) (same_site b v.to) v.msg) in
     let r = own_record c v.rec ((v.to, v.msg) ∷ []) log v.processes in
     let pr : (pipe c (Did act ∷ log)).processed ≡ p.processed ++ w ∷ [] =
     ap (λ y. (pipe c (Did y ∷ log)).processed) v.act_is ∙ ap (λ (q : Pipe). q.processed) r.0 ∙ processed_more p w v.head_is in
     record {
-      le = omega (arith, a, none, one);
+      le = omega (arith, tally_append (is_verdict ts c) (puts_to b log) (to_site b (sends_of_act act)), none, one);
       was = λ l. (length p.processed, w, subst (λ ms. slice_get ms (length p.processed) ≡ Some w) (sym pr) (at_seam p.processed [] w), own);
     }
 
