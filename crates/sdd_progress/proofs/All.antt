@@ -37,7 +37,7 @@ pub use Rattle.sdd_obligations.proofs.FirstSends.{IsFirstEach}
 pub use Rattle.sdd_obligations.proofs.Halves.{data_turns, home_turns, read_time}
 pub use Rattle.sdd_obligations.proofs.HandedAnswersKeepTurns.{AtTurn, InTurn, IsTimely, answers_asked, is_awaited}
 pub use Rattle.sdd_obligations.proofs.HoldsFit.{at_place, chain_at}
-pub use Rattle.sdd_obligations.proofs.InStep.{never}
+pub use Rattle.sdd_obligations.proofs.invariants.Exchanges.{never}
 pub use Rattle.sdd_obligations.proofs.Linking.{lawful_part as lawful_end}
 pub use Rattle.sdd_obligations.proofs.Modules.{firsts, sent_to_each, to_module}
 pub use Rattle.sdd_obligations.proofs.Near.{AllNear, HasNear, IsNear, IsNearBy, active_near, modules_near}
@@ -106,7 +106,7 @@ pub use Rattle.sdd_obligations.proofs.serial_orders.Members.{Contains-from_filte
 pub use Rattle.sdd_obligations.proofs.serial_orders.Places.{same_commit, same_start}
 pub use Rattle.sdd_obligations.proofs.site_module.Finding.{found_at}
 pub use Rattle.sdd_obligations.proofs.tm.OpenAsks.{open_did, open_handed}
-pub use Rattle.sdd_obligations.specs.All.{Act, AllFewTicks, AllZero, Answer, AppliedBefore, Apply, AreAllApplied, AreFew, AreOpen, AreSubmittedOnce, Arrive, Ask, Asking, Asks, Attempt, Bases, Catalogue, Change, ClassNo, ClassView, Commit, Committed, Cond, Condition, Const, D, Delete, Diagonal, Did, DmNo, Does, Done, Each, Edge, Effect, Entry, Eras, Event, Exchange, Fetch, Fetching, FitsCondition, FitsInput, FitsQuery, FitsStart, FitsStatement, FitsText, FragNo, GoesTo, Hand, Handed, HasAnswer, HasCommit, HasNoCycle, Held, History, Hold, Home, Horizontal, Input, IsAgain, IsAllowed, IsApplied, IsAttempt, IsChain, IsClass, IsCommitT, IsCommitted, IsConditionOf, IsDatabase, IsDueEach, IsEdgeOf, IsEntry, IsEraOf, IsFair, IsFairT, IsFairU, IsFrom1To, IsHeld, IsHigh, IsLawful, IsModule, IsOf, IsOfEarlierEra, IsOfWrite, IsOrderable, IsPermitted, IsPutAt, IsRecordAt, IsRejectBy, IsRising, IsSerial, IsSoundCatalogue, IsStage, IsStepU, IsSubmitted, IsTable, IsWhole, Join, KeepsApplies, KeepsEras, KeepsLaws, KeepsRejections, KeepsStarts, KeepsUndeclared, Le, Log, MAX_TXNS, Mark, MayAnswer, Move, Msg, NamesOneOf, Notes, Nothing, Null, Open, Over, P2, P3, Pass, Phase, Pipe, Protocol, Put, PutsHeld, Query, Question, Queued, Read, Reading, ReadsFrom, Ready, Rec, Records, Redeclare, Redeclared, Redeclares, Reduce, Reduced, Reducing, Reject, RelNo, Release, Replies, Reply, Rests, Rise, Round, Row, Rows, Same, Sends, Served, Setting, Settle, Ship, Shipping, Site, Start, StartedBefore, StartedHead, Step, Stmt, Submits, Submitted, T, Tick, Ticked, TmCounts, TmNo, Ts, Turn, Txn, TxnNo, TxnsExist, U, Up, Update, Use, Values, Vertical, View, Wait, Write, active, active_after, active_handed, active_sent, after_hand, after_send, agreed, all_links, all_of, answer_goes, answer_of, answer_to, answered, answers, answers_hand, are_linked, ascending, ask_for, asked_by, asked_in, asked_on, askings, asks, asks_acted, asks_handed, asks_rows, attempt_due, attempt_of, attempts, base_of, begins, bound, bound_at, bound_of, by_ask, by_event, by_mark, by_release, calls_of, changes_to, class_asked, class_at, class_for, class_in, class_no, class_puts, clock, commit_act, commits_of_others, committed, committed_of, cond_for, cond_of, condition_on, conditions, conditions_of, conflict_graph, contains, contents, count_of, counted, counts, counts_acted, counts_for, database_of, dated, delivered, dm_no, does_at, done_for, dones_of, due_by, effect, eras_begun, event_at, fetches, fetches_from, fewest, first_phase, first_send, first_some, flight, frag_no, fragments_in, fragments_of, goes_on, goes_through, greatest_bound, hand_due, hand_number, hand_on, hand_with, handed, hands, hands_from, has_copy, head, head_of, history, hold_to, holds, holds_back, home, home_of, is_a_held, is_a_hold, is_a_release, is_answer, is_apply, is_asked, is_asked_of, is_candidate, is_commit_of_other, is_committed, is_done_of, is_down, is_down_after, is_empty, is_for, is_link, is_met, is_number, is_over, is_question, is_quiet_link, is_read, is_site, is_start_of, item_cmp, items_of, joins_from, lacking, last_served, left, limit_of, link, link_of, links, local_of, mark_due, mark_from, mark_of, marks, message_at, module_read, modules_asked, move_at, moves, moves_by, next, next_at, next_mark, next_move, next_number, next_stamp, note_if, nth_era, null_at, null_due, null_time, null_to, number_of, numbers_to, open_due, opens, or_else, p2_time, passed, phase_ends, pipe, pipe_at, placed, puts_to, question_goes, questions, queue, queued, quiet, read_at, reads_asked, redeclares, redeclares_in, reduces, rejects, results, round, row_of, rows_asked, rows_at, rows_in_fragment, run, runs, same_protocol, same_site, send_due, sends_of_act, sent, served_handed, setting_of, ships, site_due, sites, source_of, spoils, start_at, start_of, start_read, started, starts, starts_before, starts_of, submits_by, submits_in, submits_of, takes_part, tally, time_at, time_of, tm_no, to_site, touches, tried, ts_of, turn_at, turn_with, txn_no, u_stamp, undeclared_conditions, uses_at, uses_in, uses_of, view_of, waits, with_event, with_use, with_values, without, write_to, zero_cond}
+pub use Rattle.sdd_obligations.specs.All.{Act, AllFewTicks, AllZero, Answer, AppliedBefore, Apply, AreAllApplied, AreFew, AreOpen, AreSubmittedOnce, Ask, Asking, Asks, Attempt, Bases, Catalogue, Change, ClassNo, ClassView, Commit, Committed, Cond, Condition, Const, D, Diagonal, Did, DmNo, Does, Done, Each, Edge, Effect, Entry, Eras, Event, Exchange, Fetch, Fetching, FitsCondition, FitsInput, FitsQuery, FitsStart, FitsStatement, FitsText, FragNo, GoesTo, Hand, Handed, HasAnswer, HasCommit, HasNoCycle, Held, History, Hold, Home, Horizontal, Input, IsAgain, IsAllowed, IsApplied, IsAttempt, IsChain, IsClass, IsCommitT, IsCommitted, IsConditionOf, IsDatabase, IsDueEach, IsEdgeOf, IsEntry, IsEraOf, IsFair, IsFairT, IsFairU, IsFrom1To, IsHeld, IsHigh, IsLawful, IsModule, IsOf, IsOfEarlierEra, IsOfWrite, IsOrderable, IsPermitted, IsPutAt, IsRecordAt, IsRejectBy, IsRising, IsSerial, IsSoundCatalogue, IsStage, IsStepU, IsSubmitted, IsTable, IsWhole, Join, KeepsApplies, KeepsEras, KeepsLaws, KeepsRejections, KeepsStarts, KeepsUndeclared, Le, Log, MAX_TXNS, Mark, MayAnswer, Move, Msg, NamesOneOf, Notes, Nothing, Null, Open, Over, P2, P3, Phase, Pipe, Protocol, PutsHeld, Query, Question, Queued, Read, Reading, ReadsFrom, Ready, Rec, Records, Redeclare, Redeclared, Redeclares, Reduce, Reduced, Reducing, Reject, RelNo, Release, Replies, Reply, Rests, Rise, Row, Rows, Same, Sends, Served, Setting, Settle, Ship, Shipping, Site, Start, StartedBefore, StartedHead, Step, Stmt, Submit as Submitting, Submits, Submitted, T, Tick, Ticked, TmCounts, TmNo, Ts, Turn, Txn, TxnNo, TxnsExist, U, Up, Use, Values, Vertical, View, Write, active, active_after, active_handed, active_sent, after_hand, after_send, agreed, all_links, all_of, answer_goes, answer_of, answer_to, answered, answers, answers_hand, are_linked, ascending, ask_for, asked_by, asked_in, asked_on, askings, asks, asks_acted, asks_handed, asks_rows, attempt_due, attempt_of, attempts, base_of, begins, bound, bound_at, bound_of, by_ask, by_event, by_mark, by_release, calls_of, changes_to, class_asked, class_at, class_for, class_in, class_no, class_puts, clock, commit_act, commits_of_others, committed, committed_of, cond_for, cond_of, condition_on, conditions, conditions_of, conflict_graph, contains, contents, count_of, counted, counts, counts_acted, counts_for, database_of, dated, delivered, dm_no, does_at, done_for, dones_of, due_by, effect, eras_begun, event_at, fetches, fetches_from, fewest, first_phase, first_send, first_some, flight, frag_no, fragments_in, fragments_of, goes_on, goes_through, greatest_bound, hand_due, hand_number, hand_on, hand_with, handed, hands, hands_from, has_copy, head, head_of, history, hold_to, holds, holds_back, home, home_of, is_a_held, is_a_hold, is_a_release, is_answer, is_apply, is_asked, is_asked_of, is_candidate, is_commit_of_other, is_committed, is_done_of, is_down, is_down_after, is_empty, is_for, is_link, is_met, is_number, is_over, is_question, is_quiet_link, is_read, is_site, is_start_of, item_cmp, items_of, joins_from, lacking, last_served, left, limit_of, link, link_of, links, local_of, mark_due, mark_from, mark_of, marks, message_at, module_read, modules_asked, move_at, moves, moves_by, next, next_at, next_mark, next_move, next_number, next_stamp, note_if, nth_era, null_at, null_due, null_time, null_to, number_of, numbers_to, open_due, opens, or_else, p2_time, passed, phase_ends, pipe, pipe_at, placed, puts_to, question_goes, questions, queue, queued, quiet, read_at, reads_asked, redeclares, redeclares_in, reduces, rejects, results, round, row_of, rows_asked, rows_at, rows_in_fragment, run, runs, same_protocol, same_site, send_due, sends_of_act, sent, served_handed, setting_of, ships, site_due, sites, source_of, spoils, start_at, start_of, start_read, started, starts, starts_before, starts_of, submits_by, submits_in, submits_of, takes_part, tally, time_at, time_of, tm_no, to_site, touches, tried, ts_of, turn_at, turn_with, txn_no, u_stamp, undeclared_conditions, uses_at, uses_in, uses_of, view_of, waits, with_event, with_use, with_values, without, write_to, zero_cond}
 pub use Rattle.sdd_obligations.specs.dm.Copies.{classes_of}
 pub use Rattle.sdd_obligations.specs.dm.Views.{class_view}
 pub use Rattle.sdd_obligations.specs.history.declared.record.Rec.TheVariants.{Submit}

@@ -6,24 +6,31 @@ pub use Rattle.sdd_blocks.specs.Blocks.{AreBlocks, OnACycle}
 pub use Rattle.sdd_blocks.specs.Blocks.Linked.{last}
 pub use Rattle.sdd_blocks.specs.Graph.{IsSimpleCycle, JoinedWithout, Joins, Step}
 pub use Rattle.sdd_blocks.specs.Neighbours.{Neighbours}
+pub use Rattle.sdd_lawful.proofs.Beginnings.{in_numbers as range_there}
+pub use Rattle.sdd_lawful.proofs.Classes.{era_there}
+pub use Rattle.sdd_lawful.proofs.Conditions.{in_filter_mapped}
+pub use Rattle.sdd_lawful.proofs.Touched.{any_there as any_here}
+pub use Rattle.sdd_obligations.proofs.NoRejects.{kept_place as kept_there}
+pub use Rattle.sdd_obligations.proofs.Submitting.{le_true as is_le}
 pub use Rattle.sdd_obligations.proofs.invariants.Again.{first_there, is_spoilt, le_as as le_by, writer_of}
 pub use Rattle.sdd_obligations.proofs.invariants.Answered.{read_of}
 pub use Rattle.sdd_obligations.proofs.invariants.Apart.{low_or_high}
 pub use Rattle.sdd_obligations.proofs.invariants.AreReadSteps.{class_at_place, class_in_view, class_not_in_view, d_step}
-pub use Rattle.sdd_obligations.proofs.invariants.Bools.{and_left, and_right, if_way, neither_left, neither_right, not_both, not_zero, only_right, same_number, same_or_not, true_or_false}
+pub use Rattle.sdd_obligations.proofs.invariants.Bools.{and_left, and_right, neither_left, neither_right, not_both, not_zero, only_right, same_number, same_or_not, true_or_false}
 pub use Rattle.sdd_obligations.proofs.invariants.ClassOrder.{class_rises, earlier}
-pub use Rattle.sdd_obligations.proofs.invariants.Dones.{all_applied, next_in as head_in}
+pub use Rattle.sdd_obligations.proofs.invariants.Dones.{all_applied, head_in as head_place}
 pub use Rattle.sdd_obligations.proofs.invariants.Fair.{d_fair}
 pub use Rattle.sdd_obligations.proofs.invariants.InPipe.{in_pipe}
 pub use Rattle.sdd_obligations.proofs.invariants.Installed.{class_number, head_put, origin, write_origin}
 pub use Rattle.sdd_obligations.proofs.invariants.Lists.{any_at, at_seam, in_filtered, in_none, in_one, in_range, in_right, within_left}
 pub use Rattle.sdd_obligations.proofs.invariants.Made.{local_grows, local_step, maker, own_act, permitted_before}
-pub use Rattle.sdd_obligations.proofs.invariants.Once.{answered_once, answered_there, processed_grows}
+pub use Rattle.sdd_obligations.proofs.invariants.Once.{answered_once, processed_grows}
 pub use Rattle.sdd_obligations.proofs.invariants.Processed.{not_own, own_record, passing, processed_handed, processed_more, read_step_way}
 pub use Rattle.sdd_obligations.proofs.invariants.ReadsPut.{start_puts}
+pub use Rattle.sdd_obligations.proofs.invariants.Releases.{one_if_le as one_at_most}
 pub use Rattle.sdd_obligations.proofs.invariants.Sites.{site_self}
 pub use Rattle.sdd_obligations.proofs.invariants.Split.{le_is}
-pub use Rattle.sdd_obligations.proofs.invariants.Undeclared.{Part, answered_before, commit_t, low_applied, never_spoilt, part_join, part_of, permitted_part, read_classes, read_times as own_time}
+pub use Rattle.sdd_obligations.proofs.invariants.Undeclared.{answered_before, commit_t, low_applied, never_spoilt, not_again, part_join, part_of, permitted_part, read_classes, read_times as own_time}
 pub use Rattle.sdd_obligations.proofs.invariants.Waiting.{class_there, processed_in_is, spoils_is}
 pub use Rattle.sdd_obligations.proofs.catalog.Sound.{at_number, sound_classes, sound_whole}
 pub use Rattle.sdd_obligations.proofs.dm.Prefix.{all_handed, all_there}
@@ -36,7 +43,7 @@ pub use Rattle.sdd_obligations.proofs.logs.net.Lists.{get-append as in_left}
 pub use Rattle.sdd_obligations.proofs.logs.tm.Lists.{get_map as at_map, get_within as place_within, of_map as in_mapped}
 pub use Rattle.sdd_obligations.proofs.logs.umod.Lists.{or_nothing as neither_some}
 pub use Rattle.sdd_obligations.proofs.protocol.Tables.{all_at, blocks_of, first_block, first_block-vertical, vertical_block-lists}
-pub use Rattle.sdd_obligations.specs.invariants.All.{Act, AllGe, Answer, Apply, AreSubmittedOnce, Attempt, Bases, Catalogue, Change, Class, ClassNo, ClassView, Cond, D, Deliver, Diagonal, Did, DmNo, Does, Each, Edge, Entry, Era, Event, Fetch, FragNo, Hand, Handed, HasAnswer, Home, Horizontal, Input, IsApplied, IsApplyOf, IsClassHere, IsDue, IsDueEach, IsEra, IsLawful, IsPermitted, IsPutAt, IsRead, IsReadStep, IsRising, IsServedClass, IsSoundCatalogue, IsTable, IsTheLog, Log, Mark, May, Msg, Null, Open, P2, P3, Pass, Pipe, Processes, Protocol, Put, Query, Queued, Read, Ready, Rec, Records, Redeclare, Redeclared, Redeclares, Reduce, Reject, Sends, Setting, Settle, Ship, Site, Submit, Submits, Submitted, T, Tick, Ticked, TmNo, Ts, Txn, TxnNo, U, Use, Vertical, View, Wait, Write, act_by, act_where, active, all_of, answer_of, answer_to, ascending, asked_by, asked_in, asked_on, base_of, bound, by_head, by_open, by_record, by_wait, class_at, class_no, class_puts, classes_of, cond_for, cond_of, condition_on, conditions, conditions_at, current_era, dm_no, does_at, due_by, exchange_due, first_some, frag_no, fragments_in, goes_through, hand_due, head, head_due, head_of, home, home_of, in_passing, is_asked, is_asked_of, is_held, is_met, is_processing, is_wait, judged, last_write_for, local_of, made, mark_due, next, next_at, next_mark, next_stamp, note_if, nth_era, number_of, numbers_to, on_hold, open_due, or_else, or_zero, pipe, pipe_at, put, queue, redeclares, runs, same_protocol, same_site, sends_of_act, setting_of, site_due, sites, spoiler, spoils, start_at, start_due, start_of, start_read, step_on, time_at, time_of, tm_no, to_site, touches, txn_at, txn_no, u_stamp, uses_of, view_of, waits, with_made, with_submit}
+pub use Rattle.sdd_obligations.specs.invariants.All.{Act, AllGe, Answer, Apply, AreSubmittedOnce, Bases, Catalogue, Change, Class, ClassNo, ClassView, Cond, D, Deliver, Diagonal, Did, DmNo, Does, Each, Edge, Entry, Era, Event, Fetch, FragNo, Hand, Handed, Home, Horizontal, Input, IsApplied, IsApplyOf, IsClassHere, IsDue, IsDueEach, IsEra, IsLawful, IsPermitted, IsPutAt, IsRead, IsReadStep, IsRising, IsServedClass, IsSoundCatalogue, IsTable, IsTheLog, Log, Mark, May, Msg, Null, Open, P2, P3, Pass, Pipe, Processes, Protocol, Put, Query, Queued, Read, Ready, Rec, Records, Redeclare, Reduce, Reject, Sends, Setting, Settle, Ship, Site, Submit, T, Tick, TmNo, Ts, Txn, TxnNo, U, Use, Vertical, View, Wait, Write, act_by, act_where, active, all_of, answer_of, answer_to, ascending, asked_by, asked_in, asked_on, base_of, bound, by_head, by_open, by_record, by_wait, class_at, class_no, class_puts, classes_of, cond_for, cond_of, condition_on, conditions, conditions_at, current_era, dm_no, does_at, due_by, exchange_due, first_some, frag_no, fragments_in, goes_through, hand_due, head, head_due, head_of, home, home_of, in_passing, is_asked, is_asked_of, is_held, is_met, is_processing, is_wait, judged, last_write_for, local_of, made, mark_due, next, next_at, next_mark, next_stamp, note_if, nth_era, number_of, numbers_to, on_hold, open_due, or_else, or_zero, pipe, pipe_at, put, queue, redeclares, runs, same_protocol, sends_of_act, setting_of, site_due, sites, spoiler, spoils, start_at, start_due, start_of, start_read, step_on, time_at, time_of, tm_no, to_site, touches, txn_no, u_stamp, uses_of, view_of, waits, with_made}
 pub use Rattle.sdd_obligations.specs.invariants.Barrier.{IsLow}
 pub use Rattle.sdd_obligations.specs.invariants.Unspoilt.{spoiling}
 pub use Rattle.sdd_obligations.specs.base.Numbers.{rel_no}
@@ -68,10 +75,9 @@ pub use Rattle.sdd_progress.specs.WaitGraphs.{diagonal_at, diagonals, wait_graph
 pub use Rattle.sdd_progress.specs.Waited.{IsWaitOf, WaitsSince, lacking}
 pub use Rattle.sdd_progress.specs.WaitingReads.{IsStamped, IsTimestamp, WaitingRead, WaitsOn, wait_time}
 pub use Rattle.sdd_progress.specs.WaitingReads.WaitsOn.{holder, reader}
-pub use Rattle.std.proofs.Common.{Bool, List, None, Option, Some, [], ap, append-nil, append_assoc, arith, cond, eq-eqb, eqb-true, false, filter, filter_map, if◌then◌else◌, inl, inr, length, length-append, lit<, lit≤, map, nat_eq as eqb, nat_le, ne_eqb, negsuc, not, option_map, pos, refl, slice_get, slice_index, slice_index_or, subst, suc, sym, take, true, zero, ℕ, ◌&&◌, ◌*◌, ◌++◌, ◌+◌, ◌-◌, ◌<◌, ◌==◌, ◌||◌, ◌∙◌, ◌∷◌, ◌≡◌, ◌≢◌, ◌≤◌, ◌⊎◌}
+pub use Rattle.std.proofs.Common.{Bool, List, None, Option, Some, [], ap, append-nil, append_assoc, arith, cond, eq-eqb, eqb-true, false, filter, if◌then◌else◌, inl, inr, length, length-append, lit<, lit≤, map, nat_eq as eqb, nat_le, ne_eqb, negsuc, not, option_map, pos, refl, slice_get, slice_index, slice_index_or, subst, suc, sym, take, true, zero, ℕ, ◌&&◌, ◌*◌, ◌++◌, ◌+◌, ◌-◌, ◌<◌, ◌==◌, ◌||◌, ◌∙◌, ◌∷◌, ◌≡◌, ◌≢◌, ◌≤◌, ◌⊎◌}
 pub use Rattle.std.proofs.Math.Decide.{dec_le}
 pub use Rattle.std.proofs.lemmas.Bool.{and_from as both, cases_Bool, cases_eq, false≢true, or_left, or_right}
-pub use Rattle.std.proofs.lemmas.Bool.Decides.{nat_tests}
 pub use Rattle.std.proofs.lemmas.List.{get_or_past, length-map}
 pub use Rattle.std.proofs.lemmas.List.Elements.{All-from_recursion}
 pub use Rattle.std.proofs.lemmas.List.FromFn.{length-map-range_with_len}

@@ -1,6 +1,6 @@
 -- While the READ of an undeclared transaction is next at a module, each declared transaction whose WRITE is next there has a
 -- smaller timestamp, so that the READ holds no WRITE back.
-use Rattle.sdd_progress.proofs.All.{Act, Answer, Attempt, Change, ClassNo, Cond, D, DmNo, Does, HasAnswer, Input, IsClass, IsCommitT, IsHigh, IsModule, IsPermitted, IsSoundCatalogue, List, Log, Part, Read, Records, Some, T, Ts, TxnNo, U, Use, Write, all_applied, answered_before, answered_there, ap, append_assoc, arith, at_place, class_number, commit_t, false, has_cond, head, head_put, home, home_of, home_small, inl, inr, local_of, low_or_high, number_of, numbers_to, part_join, part_of, permitted_part, pipe_at, positive, read_classes, read_of, setting_of, slice_get, sound_whole, start_at, starts, subst, sym, tm_no, u_stamp, write_origin, zero_cond, ℕ, ◌++◌, ◌-◌, ◌<◌, ◌==◌, ◌∙◌, ◌∷◌, ◌≡◌, ◌≤◌}
+use Rattle.sdd_progress.proofs.All.{Act, Answer, Attempt, Change, ClassNo, Cond, D, DmNo, Does, HasAnswer, Input, IsClass, IsCommitT, IsHigh, IsModule, IsPermitted, IsSoundCatalogue, List, Log, Part, Read, Records, Some, T, Ts, TxnNo, U, Use, Write, all_applied, answered_before, answered_there, ap, append_assoc, arith, at_place, class_number, commit_t, false, has_cond, head, head_put, home_of, home_small, inl, inr, local_of, low_or_high, number_of, numbers_to, part_join, part_of, permitted_part, pipe_at, positive, read_classes, read_of, setting_of, slice_get, sound_whole, start_at, starts, subst, sym, tm_no, u_stamp, write_origin, zero_cond, ℕ, ◌++◌, ◌-◌, ◌<◌, ◌==◌, ◌∙◌, ◌∷◌, ◌≡◌, ◌≤◌}
 use Rattle.sdd_progress.proofs.Still.{run_at, runs_place}
 
 -- a READ that is answered doesn't stand at the head again
@@ -33,9 +33,7 @@ below_read g log j d ts of txn n conds uses w k x changes sound h p l m e f =
     let place = runs_place g j run.t (positive j p) l run.number_is in
     let at : slice_get (numbers_to g.catalogue.tms) (run.t - 1) ≡ Some run.t = at_place g.catalogue.tms run.t run.from run.to in
     let few = (sound_whole g.catalogue sound).few_tms in
-    let small : number_of (T (tm_no run.t)) ≤ 63 = (let s =
-    home_small g.catalogue sound j in let same : number_of (home g.catalogue j) ≡ run.t =
-    ap number_of run.home_is in omega (arith, s, same)) in
+    let small : number_of (T (tm_no run.t)) ≤ 63 = omega (arith, home_small g.catalogue sound j, ap number_of run.home_is) in
     let ct = commit_t g run.t j log o.later o.before o.bases o.attempt h run.home_is o.is o.active_is in
     elim (low_or_high g (run.t - 1) run.t j place.0 log r.later r.before r.queued o.attempt ct at place.1 small h r.is) [
       | inl lo ↦ (let b = lo.below in omega (arith, b, r.ts_is, o.ts_is))

@@ -63,8 +63,7 @@ module _ (g : Input) (log : Log) (w : Known g log) where
       let m = y.start.txn in
       let q = submit_in g log m o.second_place w.permitted o.second_submitted in
       let second = begun_at g log (Submitted q.at m) (Submit (txn_no m)) q.later q.rest o.second_place refl q.is q.place_is in
-      let less = o.earlier in
-      let p = apart x.start.txn o.first_place o.first_submitted (Submitted q.at m) q.later q.rest q.is (omega (arith, less, second)) in
+      let p = apart x.start.txn o.first_place o.first_submitted (Submitted q.at m) q.later q.rest q.is (omega (arith, o.earlier, second)) in
       let first = committed_by g log w p.mid p.at_rest x.start.txn o.first_place p.submitted x o.first refl in
       let z = w.starts.submitted a s in
       let one = w.starts.one_submit m z.place o.second_place (subst (λ n. IsSubmitted (history log) n z.place) e z.submitted) o.second_submitted in

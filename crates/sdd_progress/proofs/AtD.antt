@@ -2,6 +2,7 @@
 use Rattle.sdd_progress.proofs.AllEnds.{Act, Answer, Apply, Arrive, Bool, Change, ClassNo, ClassView, Cond, Did, DmNo, Fetch, Home, IsDue, List, Msg, None, Null, Open, Option, Pass, Processes, Read, Rec, Records, Reduce, Refuses, Rejected, Sends, Setting, Ship, Site, Some, Step, Ts, TxnNo, Use, View, Wait, Waits, Write, [], act_by, act_where, answer_of, answer_to, answers_hand, ap, arith, both, by_head, by_open, class_view, classes_of, false, filter, head, head_due, head_of, head_processed, home_of, if◌then◌else◌, in_filtered, in_mapped, is_asked_of, is_held, is_met, is_processing, is_read_of, is_wait, judge, length, list_all, not, opens, pipe, refl, same_Some, same_number, sends_of_act, slice_get, step_on, subst, suc, sym, tail_of, true, view_of, waits, ℕ, ◌&&◌, ◌+◌, ◌<◌, ◌==◌, ◌||◌, ◌∙◌, ◌∷◌, ◌≡◌, ◌≤◌}
 use Rattle.sdd_progress.proofs.Sums.{by_class, filter_shorter, total, total_less, total_up}
 use Rattle.sdd_obligations.specs.site_module.SiteLog.{Log}
+use Rattle.sdd_progress.proofs.Lists.{head_at as first_there}
 
 -- a head may wait once, and is then processed
 abbrev pub steps_left : List Msg → Bool → ℕ
@@ -30,10 +31,6 @@ waiting_less : (ms : List Msg) (m : Msg) → head_of ms ≡ Some m → steps_lef
 waiting_less [] m e = absurd (cc)
 waiting_less (x ∷ ms) m e = omega arith
 
-first_there : {A : Type 0} (xs : List A) (x : A) → head_of xs ≡ Some x → slice_get xs 0 ≡ Some x
-first_there [] x e = absurd (cc)
-first_there (y ∷ xs) x e = e
-
 module _ (s : Setting) (log : Log) where
   other_class : (k c : ℕ) (r : Rec) (sends : List (Site × Msg)) → (k == c) ≡ false → pipe_work (Did (Records k r sends) ∷ log) c ≡ pipe_work log c
   other_class k c r sends e = rw e refl
@@ -47,8 +44,7 @@ module _ (s : Setting) (log : Log) where
       rw (same_number c, p) (processed_less (pipe c log).unprocessed (waits c log) m top) in
       let all = total_less (pipe_work (Did (Records c r sends) ∷ log)) (pipe_work log) (classes_of s) n c at
       (by_class _ _ c own (λ k e. other_class c k r sends e)) own in
-      let opened = ap length same in
-      omega (arith, all, opened)
+      omega (arith, all, ap length same)
 
   waiting : (c n : ℕ) (r : Rec) (sends : List (Site × Msg)) (m : Msg) → slice_get (classes_of s) n ≡ Some c → head (pipe c log) ≡ Some m
       → is_processing r ≡ false → is_wait r ≡ true → waits c log ≡ false → opens (Did (Records c r sends) ∷ log) ≡ opens log
@@ -58,8 +54,7 @@ module _ (s : Setting) (log : Log) where
       rw (same_number c, p, w, idle) (waiting_less (pipe c log).unprocessed m top) in
       let all = total_less (pipe_work (Did (Records c r sends) ∷ log)) (pipe_work log) (classes_of s) n c at
       (by_class _ _ c own (λ k e. other_class c k r sends e)) own in
-      let opened = ap length same in
-      omega (arith, all, opened)
+      omega (arith, all, ap length same)
 
   -- what a head does
 

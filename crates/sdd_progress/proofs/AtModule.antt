@@ -1,5 +1,5 @@
 -- What an entry of the log of everything does at a data module.
-use Rattle.sdd_progress.proofs.AllWaits.{Act, Bool, D, Did, DmNo, Does, Entry, Handed, Input, IsDue, IsPermitted, List, Log, Msg, None, Option, Pipe, Rec, Records, Redeclared, Site, Some, Submits, Ticked, [], allowed_act, ap, false, goes_through, head, head_of, home_of, if◌then◌else◌, is_processing, is_wait, local_of, local_step, made, maker, pipe, put, refl, setting_of, subst, true, view_of, waits, with_made, ℕ, ◌++◌, ◌==◌, ◌||◌, ◌∙◌, ◌∷◌, ◌≡◌}
+use Rattle.sdd_progress.proofs.AllWaits.{Act, Bool, D, Did, DmNo, Does, Entry, Handed, Input, IsDue, IsPermitted, List, Log, Msg, None, Option, Pipe, Rec, Records, Site, Some, [], allowed_act, ap, false, goes_through, head, head_of, home_of, if◌then◌else◌, is_processing, is_wait, local_of, local_step, made, maker, pipe, put, refl, setting_of, subst, true, view_of, waits, with_made, ℕ, ◌++◌, ◌==◌, ◌||◌, ◌∙◌, ◌∷◌, ◌≡◌}
 use Rattle.sdd_obligations.specs.site_module.SiteLog as site
 
 abbrev pub at_module : Input → DmNo → Log → site.Log
@@ -30,9 +30,7 @@ by_made g d log e (Some (Handed from x)) h m s = handing from x s
 by_made g d log e (Some (Did act)) h m s =
     let is = maker g (D d) log e (Did act) m in
     acting act is s (allowed_act g log (Does (D d) act) (subst (λ x. IsPermitted g (x ∷ log)) is h).0)
-by_made g d log e (Some (Ticked n)) h m s = aside (λ c. leaves_as (at_module g d log) (at_module g d (e ∷ log)) (Ticked n) c s refl refl)
-by_made g d log e (Some (Submits n txn)) h m s = aside (λ c. leaves_as (at_module g d log) (at_module g d (e ∷ log)) (Submits n txn) c s refl refl)
-by_made g d log e (Some (Redeclared era t)) h m s = aside (λ c. leaves_as (at_module g d log) (at_module g d (e ∷ log)) (Redeclared era t) c s refl refl)
+by_made g d log e (Some x) h m s = aside (λ c. leaves_as (at_module g d log) (at_module g d (e ∷ log)) x c s refl refl)
 
 pub entry_at : (g : Input) (d : DmNo) (log : Log) (e : Entry) → IsPermitted g (e ∷ log) → IsEntryAt g d log e
 entry_at g d log e h = by_made g d log e (made g (D d) log e) h refl (local_step g (D d) e log)

@@ -78,7 +78,6 @@ module _ (g : Input) (log : Log) (w : Known g log) where
       → x.place < length (history mid)
   committed_by mid r n k s x c e =
       let there = commit_there mid r n k s in
-      let within = there.2 in
       let own : HasCommit (history log) n x.start.number x.place = record {
         reply = x.reply;
         changes = x.changes;
@@ -86,8 +85,7 @@ module _ (g : Input) (log : Log) (w : Known g log) where
         rows = x.rows;
         is_recorded = subst (λ m. IsRecordAt (history log) x.place (Commit (txn_no m) x.start.number x.reply x.changes x.values x.rows)) e c.committed;
       } in
-      let one = w.starts.one_commit n there.0 x.start.number there.1 x.place there.3 own in
-      omega (arith, within, one)
+      omega (arith, there.2, w.starts.one_commit n there.0 x.start.number there.1 x.place there.3 own)
 
   -- and applied wherever it is to be
   pub applied_by : (mid : Log) (r : IsRest g log mid) (x : Committed) (d : ℕ) → IsCommitted (history log) x → x.place < length (history mid)

@@ -1,6 +1,6 @@
 -- The module for undeclared transactions has less left to do after each act.
-use Rattle.sdd_progress.proofs.AllEnds.{Act, Attempt, Bases, Bool, D, Did, Each, Hold, IsFair, IsNew, IsServed, List, Msg, None, Option, Queued, Release, Sends, Setting, Some, T, TmCounts, Ts, [], active, ap, arith, asks_next, attempt_due, by_release, clock, commit_act, counts, counts_tm, dm_no, eq-eqb, eqb-true, false, first_send, head_of, hold_due, hold_to, idle_of, if◌then◌else◌, in_mapped, inl, inr, is_over, last_served, length, ltb-true, nat_lt, ne_eqb, numbers_to, or_else, queue, queue_is, refl, release_due, same_Some, same_or_not, slice_get, start_act, subst, suc, sym, time_at, tm_no, true, ℕ, ◌&&◌, ◌+◌, ◌-◌, ◌<◌, ◌==◌, ◌∙◌, ◌∷◌, ◌≡◌, ◌≤◌}
-use Rattle.sdd_progress.proofs.Lines.{class_work, commit_falls, committed_short, send_falls, send_up, start_falls, tried_long}
+use Rattle.sdd_progress.proofs.AllEnds.{Act, Attempt, Bases, Bool, D, Did, Each, Hold, IsFair, IsNew, IsServed, List, Msg, None, Option, Queued, Release, Sends, Setting, Some, T, TmCounts, Ts, [], active, ap, arith, asks_next, attempt_due, by_release, clock, commit_act, committed_short, counts, counts_tm, dm_no, eq-eqb, eqb-true, false, first_send, head_of, hold_due, hold_to, idle_of, if◌then◌else◌, in_mapped, inl, inr, is_over, last_served, length, ltb-true, nat_lt, ne_eqb, numbers_to, or_else, queue, queue_is, refl, release_due, same_Some, same_or_not, slice_get, start_act, subst, suc, sym, time_at, tm_no, true, ℕ, ◌&&◌, ◌+◌, ◌-◌, ◌<◌, ◌==◌, ◌∙◌, ◌∷◌, ◌≡◌, ◌≤◌}
+use Rattle.sdd_progress.proofs.Lines.{class_work, commit_falls, send_falls, send_up, start_falls, tried_long}
 use Rattle.sdd_progress.proofs.Sums.{total, total_less, total_up}
 use Rattle.sdd_obligations.specs.site_module.SiteLog.{Log}
 use Rattle.sdd_obligations.specs.umod.Due.{IsDue, by_exchange, by_hold, by_start, start_of}
@@ -106,8 +106,7 @@ module _ (s : Setting) (bases : Bases) (log : Log) (fair : Each (IsFair s) log) 
       let start : Act = start_act s.catalogue [] 0 (clock s.site log) q in
       subst (λ x. u_work s (Did x ∷ log) < u_work s log) (same_Some start act e)
       (let own = start_falls s [] (clock s.site log) 0 log q (idle_of (active s 0 log) (queue s 0 log) q served head z) head in
-      let long = tried_long q.number (queue s 0 log) in
-      let fewer : txns_in s (Did start ∷ log) ≤ txns_in s log = omega (arith, long) in
+      let fewer : txns_in s (Did start ∷ log) ≤ txns_in s log = omega (arith, tried_long q.number (queue s 0 log)) in
       let up = total_up (λ t. signs_left (txns_in s (Did start ∷ log)) (counts t log))
       (λ t. signs_left (txns_in s log) (counts t log)) (numbers_to s.catalogue.tms) (λ t. signs_fewer _ _ (counts t log) fewer) in
       omega (arith, own, up))

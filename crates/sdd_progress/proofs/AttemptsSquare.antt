@@ -1,8 +1,8 @@
 -- A history has no more attempts than the square of the number of its transactions: each starts once more than others
 -- commit at most, and each commits once.
-use Rattle.sdd_progress.proofs.All.{All-head, All-tail, AllByRecursion, Answer, Apply, AreFew, Arrive, Bool, Commit, HasCommit, History, IsDistinct-cons, List, NamesOneOf, None, Nothing, Option, Pass, Rec, Reject, Some, Start, Submit, TxnsExist, Wait, [], ap, arith, attempt_of, attempts, cases_eq, cases_lt, commits_of_others, cond, cons_option, eq-eqb, eqb, eqb-false, false, filter, filter_map, inl, inr, is_commit_of_other, is_start_of, le-leb, length, length-le_from_distinct_below, member_is, nat_le, nat_tests, ne_eqb, not, placed, refl, same_Some, starts_of, subst, suc, suc-mul, sym, true, zero, ℕ, ◌*◌, ◌+◌, ◌<◌, ◌==◌, ◌∷◌, ◌≡◌, ◌≢◌, ◌≤◌}
+use Rattle.sdd_progress.proofs.All.{All-head, All-tail, AllByRecursion, AreFew, Bool, Commit, HasCommit, History, IsDistinct-cons, List, NamesOneOf, None, Option, Rec, Some, Start, TxnsExist, [], ap, arith, attempt_of, attempts, cases_eq, cases_lt, commits_of_others, cond, cons_option, eq-eqb, eqb, eqb-false, false, filter, filter_map, inl, inr, is_commit_of_other, is_start_of, le-leb, length, length-le_from_distinct_below, member_is, nat_le, nat_tests, ne_eqb, not, placed, refl, same_Some, starts_of, subst, suc, suc-mul, sym, true, zero, ℕ, ◌*◌, ◌+◌, ◌<◌, ◌==◌, ◌∷◌, ◌≡◌, ◌≢◌, ◌≤◌}
 use Rattle.std.specs.List.{IsDistinct}
-use Rattle.sdd_progress.proofs.Writers.{each_weaker}
+use Rattle.sdd_progress.proofs.FewClasses.{each_weaker}
 
 -- each transaction has one Commit
 abbrev pub OneCommit : History → Type 0
@@ -88,9 +88,8 @@ with_committer n count e h (Some q) qs one here rest =
     let later = each_weaker (λ z c. commits_later n count e h z c) qs rest.each in
     let apart : (z : ℕ) → Commits n count h z → eqb q z ≡ false =
     λ z c. ne_eqb q z (λ same.
-    let again = commit_later e h z c.1.number c.0 c.1.commit in
     let places : 0 ≡ suc c.0 = one q first.number c.1.number 0 (suc c.0) first.commit
-    (subst (λ y. HasCommit (e ∷ h) y c.1.number (suc c.0)) (sym same) again) in
+    (subst (λ y. HasCommit (e ∷ h) y c.1.number (suc c.0)) (sym same) (commit_later e h z c.1.number c.0 c.1.commit)) in
     absurd (omega arith)) in
     record { differ = IsDistinct-cons eqb q qs (each_weaker apart qs rest.each) rest.differ; each = ((0, first), later) }
 
@@ -169,18 +168,7 @@ none_to_zero count ((k, Start txn attempt class ts p2 uses) ∷ h) exist =
     none_from txn.0 (k, Start txn attempt class ts p2 uses) (filter (λ e. start_to 0 e.1) h)
     (All-head (λ d. NamesOneOf count d.1) (k, Start txn attempt class ts p2 uses) h exist).0
     (none_to_zero count h (All-tail (λ d. NamesOneOf count d.1) (k, Start txn attempt class ts p2 uses) h exist))
-none_to_zero count ((k, Submit txn) ∷ h) exist = none_to_zero count h (All-tail (λ d. NamesOneOf count d.1) (k, Submit txn) h exist)
-none_to_zero count ((k, Arrive txn attempt dm) ∷ h) exist = none_to_zero count h (All-tail (λ d. NamesOneOf count d.1) (k, Arrive txn attempt dm) h exist)
-none_to_zero count ((k, Wait txn attempt dm conds) ∷ h) exist =
-    none_to_zero count h (All-tail (λ d. NamesOneOf count d.1) (k, Wait txn attempt dm conds) h exist)
-none_to_zero count ((k, Answer txn attempt dm) ∷ h) exist = none_to_zero count h (All-tail (λ d. NamesOneOf count d.1) (k, Answer txn attempt dm) h exist)
-none_to_zero count ((k, Reject txn attempt dm class ts) ∷ h) exist =
-    none_to_zero count h (All-tail (λ d. NamesOneOf count d.1) (k, Reject txn attempt dm class ts) h exist)
-none_to_zero count ((k, Commit txn attempt reply changes values rows) ∷ h) exist =
-    none_to_zero count h (All-tail (λ d. NamesOneOf count d.1) (k, Commit txn attempt reply changes values rows) h exist)
-none_to_zero count ((k, Apply txn class dm ts) ∷ h) exist = none_to_zero count h (All-tail (λ d. NamesOneOf count d.1) (k, Apply txn class dm ts) h exist)
-none_to_zero count ((k, Pass class dm time) ∷ h) exist = none_to_zero count h (All-tail (λ d. NamesOneOf count d.1) (k, Pass class dm time) h exist)
-none_to_zero count ((k, Nothing) ∷ h) exist = none_to_zero count h (All-tail (λ d. NamesOneOf count d.1) (k, Nothing) h exist)
+none_to_zero count ((k, x) ∷ h) exist = none_to_zero count h (All-tail (λ d. NamesOneOf count d.1) (k, x) h exist)
 
 -- all attempts are of transactions up to the count
 
@@ -194,23 +182,7 @@ all_to_count count k ((i, Start txn attempt class ts p2 uses) ∷ h) exist =
     all_from txn.0 count (length (filter_map attempt_of (placed (suc k) h))) (i, Start txn attempt class ts p2 uses) (filter (λ e. start_to count e.1) h)
     (All-head (λ d. NamesOneOf count d.1) (i, Start txn attempt class ts p2 uses) h exist).1
     (all_to_count count (suc k) h (All-tail (λ d. NamesOneOf count d.1) (i, Start txn attempt class ts p2 uses) h exist))
-all_to_count count k ((i, Submit txn) ∷ h) exist = all_to_count count (suc k) h (All-tail (λ d. NamesOneOf count d.1) (i, Submit txn) h exist)
-all_to_count count k ((i, Arrive txn attempt dm) ∷ h) exist =
-    all_to_count count (suc k) h (All-tail (λ d. NamesOneOf count d.1) (i, Arrive txn attempt dm) h exist)
-all_to_count count k ((i, Wait txn attempt dm conds) ∷ h) exist =
-    all_to_count count (suc k) h (All-tail (λ d. NamesOneOf count d.1) (i, Wait txn attempt dm conds) h
-    exist)
-all_to_count count k ((i, Answer txn attempt dm) ∷ h) exist =
-    all_to_count count (suc k) h (All-tail (λ d. NamesOneOf count d.1) (i, Answer txn attempt dm) h exist)
-all_to_count count k ((i, Reject txn attempt dm class ts) ∷ h) exist =
-    all_to_count count (suc k) h (All-tail (λ d. NamesOneOf count d.1) (i, Reject txn attempt dm class ts) h
-    exist)
-all_to_count count k ((i, Commit txn attempt reply changes values rows) ∷ h) exist =
-    all_to_count count (suc k) h (All-tail (λ d. NamesOneOf count d.1) (i, Commit txn attempt reply changes values rows) h exist)
-all_to_count count k ((i, Apply txn class dm ts) ∷ h) exist =
-    all_to_count count (suc k) h (All-tail (λ d. NamesOneOf count d.1) (i, Apply txn class dm ts) h exist)
-all_to_count count k ((i, Pass class dm time) ∷ h) exist = all_to_count count (suc k) h (All-tail (λ d. NamesOneOf count d.1) (i, Pass class dm time) h exist)
-all_to_count count k ((i, Nothing) ∷ h) exist = all_to_count count (suc k) h (All-tail (λ d. NamesOneOf count d.1) (i, Nothing) h exist)
+all_to_count count k ((i, x) ∷ h) exist = all_to_count count (suc k) h (All-tail (λ d. NamesOneOf count d.1) (i, x) h exist)
 
 module _ (count : ℕ) (h : History) (one : OneCommit h) (exist : TxnsExist count h) (few : AreFew h) where
   up_to : (m : ℕ) → m ≤ count → starts_to h m ≤ m * count

@@ -26,8 +26,7 @@ Begins g log es rest = (rest.1 ≡ []) × (quiet (all_links g) (calls_of log) �
 round_of : (g : Input) (log : Log) (es : List Event) (rest : List Event × List Event) → mark_of g log rest ≡ Some (Round es) → Begins g log es rest
 round_of g log es (ws, []) h =
     let r = round_from g log (quiet (all_links g) (calls_of log)) (round (all_links g) (calls_of log)) ws es h in
-    let some = has_event g.catalogue.tms g.catalogue.dms (calls_of log) r.0 in
-    (refl, r.0, subst (λ xs. 0 < length xs) r.1 some)
+    (refl, r.0, subst (λ xs. 0 < length xs) r.1 (has_event g.catalogue.tms g.catalogue.dms (calls_of log) r.0))
 round_of g log es (ws, e ∷ rest) h = absurd (cc)
 
 pub round_begins : (g : Input) (log : Log) (es : List Event) → next g log ≡ Some (Round es) → Begins g log es (left g.events log)

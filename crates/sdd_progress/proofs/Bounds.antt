@@ -11,9 +11,8 @@ fold_max_has : (f : ℕ → ℕ) (ns : List ℕ) (a k n : ℕ) → slice_get ns 
 fold_max_has f [] a k n e = cc
 fold_max_has f (x ∷ ns) a zero n e =
     let p : x ≡ n = cc in
-    let i = fold_max_ge f ns (max a (f x)) in
     let m : f x ≤ max a (f x) = omega arith in
-    let q : f x ≡ f n = ap f p in omega (arith, i, m, q)
+    let q : f x ≡ f n = ap f p in omega (arith, fold_max_ge f ns (max a (f x)), m, q)
 fold_max_has f (x ∷ ns) a (suc k) n e = fold_max_has f ns (max a (f x)) k n e
 
 pub bound_within : (g : Input) (log : Log) (n : ℕ) → 1 ≤ n → n ≤ g.catalogue.tms → bound_at g log n ≤ greatest_bound g log

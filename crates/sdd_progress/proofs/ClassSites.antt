@@ -1,26 +1,11 @@
 -- The sites that run classes: they are there, and have small numbers.
-use Rattle.sdd_progress.proofs.AllWaits.{Bool, Catalogue, Class, Input, IsClassOf, IsServedClass, IsSoundCatalogue, List, Some, T, [], ap, arith, at_number, class_at, cond, dec_le, false, filter, get_or_past, home, inl, inr, length, not_zero, number_of, numbers_to, range_with_len, refl, runs, same_number, same_or_not, setting_of, slice_get, sound_classes, sound_whole, subst, suc, sym, tm_no, true, zero, ℕ, ◌+◌, ◌-◌, ◌<◌, ◌==◌, ◌∙◌, ◌∷◌, ◌≡◌, ◌≤◌}
-
--- a number within a range is a member of it
-pub range_there : (a n x : ℕ) → a ≤ x → x < a + n → (k : ℕ) × (slice_get (range_with_len a n) k ≡ Some x)
-range_there a zero x l h = absurd (omega arith)
-range_there a (suc n) x l h = elim (dec_le x a) [
-  | yes le ↦ (let same : a ≡ x = omega arith in (0, ap (λ y. Some y) same))
-  | no gt ↦ (let i = range_there (a + 1) n x (omega (arith, gt)) (omega arith) in (suc i.0, i.1))
-]
+use Rattle.sdd_progress.proofs.AllWaits.{Catalogue, Class, Input, IsClassOf, IsServedClass, IsSoundCatalogue, Some, T, ap, arith, at_number, class_at, dec_le, get_or_past, home, inl, inr, kept_there, length, not_zero, number_of, numbers_to, range_there, refl, runs, same_number, same_or_not, setting_of, slice_get, sound_classes, sound_whole, subst, sym, tm_no, ℕ, ◌-◌, ◌==◌, ◌≡◌, ◌≤◌}
 
 pub class_served : (cat : Catalogue) (i : ℕ) → IsSoundCatalogue cat → IsClassOf cat i → IsServedClass cat (class_at cat i)
 class_served cat i sound c = at_number (IsServedClass cat) cat.classes i _ (sound_classes cat sound) c.from c.to
 
 pub home_of_class : (cat : Catalogue) (i : ℕ) → IsClassOf cat i → home cat i ≡ T (tm_no (class_at cat i).tm.0)
 home_of_class cat i c = rw (not_zero i c.from) refl
-
-kept_there : (p : ℕ → Bool) (xs : List ℕ) (k x : ℕ) → slice_get xs k ≡ Some x → p x ≡ true → (j : ℕ) × (slice_get (filter p xs) j ≡ Some x)
-kept_there p [] k x e h = cc
-kept_there p (y ∷ xs) zero x e h = let q : y ≡ x = cc in (0, rw (ap p q ∙ h) e)
-kept_there p (y ∷ xs) (suc k) x e h =
-    let i = kept_there p xs k x e h in
-    elim (p y) as (λ b. (j : ℕ) × (slice_get (cond b (y ∷ filter p xs) (filter p xs)) j ≡ Some x)) [ true ↦ (suc i.0, i.1) | false ↦ i ]
 
 pub in_runs : (g : Input) (i : ℕ) → IsClassOf g.catalogue i → (j : ℕ) × (slice_get (runs (setting_of g (T (tm_no (class_at g.catalogue i).tm.0)))) j ≡ Some i)
 in_runs g i c =
@@ -30,8 +15,7 @@ in_runs g i c =
 
 module_small : (cat : Catalogue) (c : ℕ) → IsSoundCatalogue cat → (class_at cat c).tm.0 ≤ 16
 module_small cat c sound =
-    let whole = sound_whole cat sound in
-    let few : cat.tms ≤ 16 = whole.few_tms in
+    let few : cat.tms ≤ 16 = (sound_whole cat sound).few_tms in
     elim (dec_le (length cat.classes) (c - 1)) [
       | yes past ↦ (let e : (class_at cat c).tm.0 ≡ 0 = ap (λ (k : Class). k.tm.0) (get_or_past cat.classes (c - 1) _ past) in omega arith)
       | no there ↦ elim (dec_le 1 c) [

@@ -1,7 +1,7 @@
 -- Where all is finished, every transaction that was submitted is committed, and nothing is pending.
-use Rattle.sdd_progress.proofs.All.{Act, AllCommitted, AreNumbered, Bool, Catalogue, Change, Commit, Did, Does, HasSoundLists, History, Input, IsClass, IsEraOf, IsFinished, IsNotLeft, IsPermitted, IsRecordAt, IsSubmitIn, IsSubmitted, List, Log, Mark, None, Option, Queued, Rec, Records, Reply, Site, Some, Submit, Submits, Submitted, T, TmNo, Told, Txn, WasCommitted, [], all_new, ap, arith, class_at, class_for, commit_act_in, commit_rec, cons_none, cons_option, covered, covers_home, dec_le, false, filter_map, for_class, further_back, given_at, history, home, home_by, home_fair, home_setting, if◌then◌else◌, inl, inr, is_committed, length, list_any, member_there, nth_era, option_map, or_left, or_right, permitted_before, place_of_act, positive, queue, queue_is, queued, recorded_there, redeclares, refl, same_or_not, slice_get, submit_in, submit_local, submits_of, submitted_in, subst, suc, sym, tm_no, true, txn_no, zero, ℕ, ◌++◌, ◌-◌, ◌∙◌, ◌∷◌, ◌≡◌, ◌⊎◌}
+use Rattle.sdd_progress.proofs.All.{Act, AllCommitted, AreNumbered, Bool, Catalogue, Change, Commit, Did, Does, HasSoundLists, History, Input, IsClass, IsEraOf, IsFinished, IsNotLeft, IsPermitted, IsRecordAt, IsSubmitIn, IsSubmitted, List, Log, Mark, None, Option, Queued, Rec, Records, Reply, Site, Some, Submit, Submits, Submitted, Submitting, T, TmNo, Told, Txn, WasCommitted, [], all_new, ap, arith, class_at, class_for, commit_act_in, commit_rec, cons_none, cons_option, covered, covers_home, dec_le, false, filter_map, for_class, further_back, given_at, history, home, home_by, home_fair, home_setting, if◌then◌else◌, inl, inr, is_committed, length, list_any, member_there, nth_era, option_map, or_left, or_right, permitted_before, place_of_act, positive, queue, queue_is, queued, recorded_there, redeclares, refl, same_or_not, slice_get, submit_in, submit_local, submits_of, submitted_in, subst, suc, sym, tm_no, true, txn_no, zero, ℕ, ◌++◌, ◌-◌, ◌∙◌, ◌∷◌, ◌≡◌, ◌⊎◌}
 use Rattle.sdd_progress.proofs.SinceRedeclare.{redeclares_back}
-use Rattle.sdd_obligations.specs.All.{Submit as Submitting, txn_at}
+use Rattle.sdd_obligations.specs.All.{txn_at}
 use Rattle.sdd_obligations.specs.logs.Due.{home_of}
 use Rattle.sdd_obligations.specs.invariants.Steps.{starts_of}
 use Rattle.sdd_lawful.proofs.Classes.{at_home}
@@ -68,10 +68,7 @@ text_of g log n k h numbered s =
     let x = given_at g s.rest s.at n now in
     let b = further_back log s.later s.rest (Submitted s.at n) (Mark (Submitting x.number)) [] x.earlier s.is x.is in
     let r = numbered b.0 x.earlier x.number b.1 in
-    let from = r.0 in
-    let to = r.1 in
-    let same = x.number_is in
-    let m = member_there (n - 1) g.txns (omega (arith, from, to, same)) in
+    let m = member_there (n - 1) g.txns (omega (arith, r.0, r.1, x.number_is)) in
     record { text = m.0; is = m.1 }
 
 -- a submitted transaction came to the module of its class, by the list in force then
@@ -94,12 +91,10 @@ submitted_at_home g log h lists numbered n k submitted =
     let t = text_of g log n k h numbered s in
     let era : Catalogue = (nth_era g (redeclares s.rest)).catalogue in
     let back = redeclares_back s.later (Submitted s.at n ∷ s.rest) in
-    let all : redeclares log ≡ redeclares (s.later ++ Submitted s.at n ∷ s.rest) = ap redeclares s.is in
-    let of : IsEraOf g.catalogue era = (lists (redeclares s.rest) (omega (arith, back, all))).era in
+    let of : IsEraOf g.catalogue era = (lists (redeclares s.rest) (omega (arith, back, ap redeclares s.is))).era in
     let c : ℕ = class_for era t.text in
     let at : s.at ≡ home g.catalogue c =
-    x.at_is ∙ ap (home_of (nth_era g (redeclares x.earlier)).catalogue) t.is
-    ∙ ap (λ i. home_of (nth_era g i).catalogue (Some t.text)) (sym (ap redeclares x.is)) ∙ home_is g.catalogue era of t.text c refl in
+    x.at_is ∙ (λ j. home_of (nth_era g (sym (ap redeclares x.is) j)).catalogue (t.is j)) ∙ home_is g.catalogue era of t.text c refl in
     let is : log ≡ s.later ++ Submitted (home g.catalogue c) n ∷ s.rest = s.is ∙ ap (λ a. s.later ++ Submitted a n ∷ s.rest) at in
     let m = submit_local g c n t.text s.later s.rest t.is in
     let local : at_home g c log ≡ m.0 ++ Submits n t.text ∷ at_home g c s.rest = ap (at_home g c) is ∙ m.1 in

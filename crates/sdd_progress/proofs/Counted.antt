@@ -1,5 +1,5 @@
 -- A lawful log has no more rounds than marks, and one.
-use Rattle.sdd_progress.proofs.AllEnds.{Event, Input, IsLawful, IsTheLog, IsWithin, List, Log, MAX_RUN_EVENTS, Mark, None, Redeclares, Round, [], after_mark, ap, arith, complete_parts, left, length, ltb-false, mark_of, marks, refl, rounds, suc, ℕ, ◌+◌, ◌<◌, ◌^◌, ◌∷◌, ◌≡◌, ◌≤◌}
+use Rattle.sdd_progress.proofs.AllEnds.{Event, Input, IsLawful, IsTheLog, IsWithin, List, Log, Mark, None, Redeclares, Round, [], after_mark, ap, arith, complete_parts, few_marks, left, length, mark_of, marks, refl, rounds, suc, ℕ, ◌+◌, ◌<◌, ◌^◌, ◌∷◌, ◌≡◌, ◌≤◌}
 use Rattle.sdd_progress.proofs.Beginning.{round_begins}
 
 -- a round in progress counts for one
@@ -37,13 +37,6 @@ few_rounds g log h =
     let c = counted g log h in
     let o = one_at_most (left g.events log).1 in
     omega arith
-
--- a log within the limits has no more marks than events may be
-few_marks : (log : Log) → IsWithin log → marks log ≤ MAX_RUN_EVENTS
-few_marks [] w = omega arith
-few_marks (Mark e ∷ log) w = let l = ltb-false MAX_RUN_EVENTS (suc (marks log)) w.0 in omega (arith, l)
-few_marks (Redeclares t ∷ log) w = let l = ltb-false MAX_RUN_EVENTS (suc (marks log)) w.0 in omega (arith, l)
-few_marks (_ ∷ log) w = few_marks log w.1
 
 pub few_within : (g : Input) (log : Log) → IsLawful g log → IsWithin log → rounds log ≤ 2 ^ 32
 few_within g log h w =

@@ -1,5 +1,5 @@
 -- The DONEs that were handed to the module for undeclared transactions, against those that it counts for its last Commit.
-use Rattle.sdd_progress.proofs.All.{Act, Attempt, Bases, D, Did, Done, Each, Hand, Handed, Hold, Input, IsAllowed, IsFair, IsFairU, IsPermitted, IsStepU, List, Msg, None, Option, Queued, Redeclared, Release, Sends, Served, Setting, Site, Some, Submits, T, Ticked, U, [], active, active_handed, active_sent, after_hand, after_send, ap, arith, asks_rows, bound, bound_below_next, bound_rises, commit_act, dec_le, dm_no, done_fits, dones_of, each_local, eqb-true, false, from_a_d, hand_ts, hand_was_put, handed, head_of, if◌then◌else◌, is_done_of, last_served, limit_le, limit_of, local_of, next_stamp, number_of, numbers_to, one_if, puts_to, queue, refl, rejects, sends_of_act, served_handed, setting_of, slice_get, start_at, started, subst, suc, sym, tm_no, true, ts_of, u_due, u_way, ℕ, ◌+◌, ◌<◌, ◌==◌, ◌∙◌, ◌∷◌, ◌≡◌, ◌≤◌}
+use Rattle.sdd_progress.proofs.All.{Act, Attempt, Bases, D, Did, Done, Each, Hand, Handed, Hold, Input, IsAllowed, IsFair, IsFairU, IsPermitted, IsStepU, List, Msg, None, Option, Queued, Release, Sends, Served, Setting, Site, Some, T, U, [], active, active_handed, active_sent, after_hand, after_send, ap, arith, asks_rows, bound, bound_below_next, bound_rises, commit_act, dec_le, dm_no, done_fits, dones_of, each_local, eqb-true, false, from_a_d, hand_ts, hand_was_put, handed, head_of, if◌then◌else◌, is_done_of, last_served, limit_le, limit_of, local_of, next_stamp, number_of, numbers_to, one_if, puts_to, queue, refl, rejects, sends_of_act, served_handed, setting_of, slice_get, start_at, started, subst, suc, sym, tm_no, true, ts_of, u_due, u_way, ℕ, ◌+◌, ◌<◌, ◌==◌, ◌∙◌, ◌∷◌, ◌≡◌, ◌≤◌}
 use Rattle.sdd_obligations.specs.site_module.SiteLog.{Entry, Log}
 use Rattle.sdd_obligations.specs.logs.Entries as whole
 
@@ -7,10 +7,7 @@ use Rattle.sdd_obligations.specs.logs.Entries as whole
 
 abbrev pub IsCurrent : Setting → Log → Entry → Type 0
 IsCurrent s log (Handed from m) = (x : ℕ) → is_done_of x m ≡ true → (last_served s log).ts ≡ x
-IsCurrent s log (Ticked n) = Unit {0}
-IsCurrent s log (Submits n txn) = Unit {0}
-IsCurrent s log (Redeclared era t) = Unit {0}
-IsCurrent s log (Did act) = Unit {0}
+IsCurrent s log _ = Unit {0}
 
 current_done : (g : Input) (k t : ℕ) (log : whole.Log) (from : Site) (n : ℕ) (m : Msg) (x : ℕ) → slice_get (numbers_to g.catalogue.tms) k ≡ Some t
     → IsPermitted g log → IsAllowed g log (Hand from U n m) → is_done_of x m ≡ true → (last_served (setting_of g U) (local_of g U log)).ts ≡ x
@@ -108,10 +105,9 @@ started_above ts low sends (Some q) a l p = let e : ts ≡ a.ts = ap ts_of p in 
 
 counted_start : (s : Setting) (log : Log) (q : Queued) → IsCountedOff s log → IsCountedOff s (Did (start_at s 0 log q) ∷ log)
 counted_start s log q h =
-    let l = h.low in
     let b = bound_below_next s log in
     same_counts s (Did (start_at s 0 log q)) log refl (λ x. refl) (λ a p. started_above (next_stamp s log)
-    (last_served s log).ts (sends_of_act (start_at s 0 log q)) (head_of (queue s 0 log)) a (omega (arith, l, b)) p) h
+    (last_served s log).ts (sends_of_act (start_at s 0 log q)) (head_of (queue s 0 log)) a (omega (arith, h.low, b)) p) h
 
 counted_commit : (s : Setting) (log : Log) (bases : Bases) (a : Attempt) → number_of s.site ≤ 63
     → Each (IsFair s) log → active s 0 log ≡ Some a → IsCountedOff s log → IsCountedOff s (Did (commit_act s.catalogue bases 0 a) ∷ log)
@@ -146,11 +142,7 @@ counted_act s log act small fair step h =
 pub counted_off : (s : Setting) (log : Log) → number_of s.site ≤ 63 → Each (IsFair s) log → Each (IsFairU s) log → Each (IsCurrent s) log → IsCountedOff s log
 counted_off s [] small fair table now = record { low = omega arith; attempt_above = λ a p. cc; handed_low = λ x l. absurd (omega (arith, l)); counted = refl }
 counted_off s (Handed from m ∷ log) small fair table now = counted_hand s from m log now.0 (counted_off s log small fair.1 table.1 now.1)
-counted_off s (Ticked n ∷ log) small fair table now =
-    let i = counted_off s log small fair.1 table.1 now.1 in same_counts s (Ticked n) log refl (λ x. refl) i.attempt_above i
-counted_off s (Submits n txn ∷ log) small fair table now =
-    let i = counted_off s log small fair.1 table.1 now.1 in same_counts s (Submits n txn) log refl (λ x. refl) i.attempt_above i
-counted_off s (Redeclared era t ∷ log) small fair table now =
-    let i = counted_off s log small fair.1 table.1 now.1 in same_counts s (Redeclared era t) log refl (λ x. refl) i.attempt_above i
 counted_off s (Did act ∷ log) small fair table now =
     counted_act s log act small fair.1 (u_due s table.0.0.0 log act table.0.0.1) (counted_off s log small fair.1 table.1 now.1)
+counted_off s (y ∷ log) small fair table now =
+    let i = counted_off s log small fair.1 table.1 now.1 in same_counts s y log refl (λ x. refl) i.attempt_above i

@@ -50,11 +50,10 @@ nothing (suc n) a = let i = nothing n (a + 1) in omega (arith, i)
 dones_of_modules : (x n a : ℕ) (l : site.Log) → sum_from (from_module x l) n a ≤ dones_of x l
 dones_of_modules x n a [] = nothing n a
 dones_of_modules x n a (Handed from m ∷ l) =
-    let i = dones_of_modules x n a l in
     let j = sum_one_more (from_module x l) (from_module x (Handed from m ∷ l)) (number_of from) (one_if (is_done_of x m)) n a
     (λ d e. none_added (is_done_of x) (same_site (D (dm_no d)) from) (hands_from (D (dm_no d)) l) m (other_site from d e))
     (hand_adds (is_done_of x) (same_site (D (dm_no (number_of from))) from) (hands_from (D (dm_no (number_of from))) l) m) in
-    omega (arith, i, j)
+    omega (arith, dones_of_modules x n a l, j)
 dones_of_modules x n a (_ ∷ l) = dones_of_modules x n a l
 
 one_each : (f : ℕ → ℕ) (n a : ℕ) → ((d : ℕ) → a ≤ d → d < a + n → 1 ≤ f d) → n ≤ sum_from f n a
@@ -109,9 +108,8 @@ all_done g log later before bases a h sound idle is =
     let same = all_handed g log (D (dm_no d)) U h (home_linked g.catalogue 0 d sound (omega arith) in_range).1 in
     one_there (is_done_of a.ts) (hands_from (D (dm_no d)) (local_of g U log)) p.0 (Done (time_at a.ts))
     (subst (λ ms. slice_get ms p.0 ≡ Some (Done (time_at a.ts))) (sym same) p.1) (same_number a.ts)) in
-    let n = one_each (from_module a.ts (local_of g U log)) g.catalogue.dms 1 each in
     let m = dones_of_modules a.ts g.catalogue.dms 1 (local_of g U log) in
-    omega (arith, n, m)
+    omega (arith, one_each (from_module a.ts (local_of g U log)) g.catalogue.dms 1 each, m)
 
 -- so it has counted them all
 pub dones_counted : (g : Input) (log : Log) (k t : ℕ) (later before : Log) (bases : Bases) (a : Attempt) → IsQuiet g log → IsSoundCatalogue g.catalogue → IsIdle g log

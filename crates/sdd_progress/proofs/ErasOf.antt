@@ -127,9 +127,8 @@ begun_later : (g : Input) (later log : Log) → eras_begun (eras_of g (later ++ 
 begun_later g [] log = refl
 begun_later g (Redeclares t ∷ later) log =
     let y : ℕ × Catalogue = (suc (marks (later ++ log)), (nth_era g (suc (redeclares (later ++ log)))).catalogue) in
-    let up = marks_up later log in
     sum_none _ _ _ _ (begun_more (eras_of g (later ++ log)) y (marks log)) (begun_later g later log)
-    (none_begun (suc (marks (later ++ log))) (marks log) y (omega (arith, up)))
+    (none_begun (suc (marks (later ++ log))) (marks log) y (omega (arith, marks_up later log)))
 begun_later g (_ ∷ later) log = begun_later g later log
 
 pub begun_is : (g : Input) (log later before : Log) → log ≡ later ++ before → eras_begun (eras_of g log) (marks before) ≡ suc (redeclares before)
@@ -162,6 +161,5 @@ are_eras_of g log lists = record {
   };
   era_is = current_era_is g log;
   tabled = λ later before is. (let l = redeclares_back later before in
-      let e : redeclares log ≡ redeclares (later ++ before) = ap redeclares is in
-      (lists (redeclares before) (omega (arith, l, e))).table);
+      (lists (redeclares before) (omega (arith, l, ap redeclares is))).table);
 }

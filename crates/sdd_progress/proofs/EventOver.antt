@@ -1,6 +1,5 @@
 -- Where an event is over, nothing is due at any site.
-use Rattle.sdd_progress.proofs.AllWaits.{Act, Bool, D, DmNo, Entry, Event, Input, IsEventOver, IsLawful, IsTheLog, List, Log, Mark, None, Option, Redeclare, Settle, Site, Some, Submit, T, Tick, TmNo, [], ap, arith, at_map, base_of, begins_event, begins_or_ends, does_at, due_by, false, first_some, hand_due, in_left, in_right, local_of, map, mark_due, next_at, next_mark, no_act, not_both, note_if, or_else, range_with_len, refl, setting_of, site_due, sites, slice_get, suc, true, ℕ, ◌∙◌, ◌∷◌, ◌≡◌, ◌≤◌}
-use Rattle.sdd_progress.proofs.ClassSites.{range_there}
+use Rattle.sdd_progress.proofs.AllWaits.{Act, Bool, D, DmNo, Entry, Event, Input, IsEventOver, IsLawful, IsTheLog, List, Log, Mark, None, Option, Redeclare, Settle, Site, Some, Submit, T, Tick, TmNo, [], ap, arith, at_map, base_of, begins_event, begins_or_ends, does_at, due_by, false, first_some, hand_due, in_left, in_right, local_of, map, mark_due, next_at, next_mark, no_act, not_both, note_if, or_else, range_there, range_with_len, refl, setting_of, site_due, sites, slice_get, suc, true, ℕ, ◌∙◌, ◌∷◌, ◌≡◌, ◌≤◌}
 use Rattle.sdd_progress.proofs.StuckHeads.{none_at}
 use Rattle.sdd_obligations.specs.dm.Due as dm
 use Rattle.sdd_obligations.specs.dm.Views as dm_views

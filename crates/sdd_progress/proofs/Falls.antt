@@ -77,18 +77,13 @@ none_between (e ∷ events) l = refl
 
 by_event : (g : Input) (log : Log) (e : Entry) → next g log ≡ Some e → is_of_events e ≡ true → is_past log e ≡ false → Falls g (e ∷ log) log
 by_event g log (Mark ev) h k p =
-    let l = ltb-false MAX_RUN_EVENTS (suc (marks log)) p in
-    let b = between_le (left g.events (Mark ev ∷ log)).1 in
-    in_stage (omega (arith, l, b))
+    in_stage (omega (arith, ltb-false MAX_RUN_EVENTS (suc (marks log)) p, between_le (left g.events (Mark ev ∷ log)).1))
 by_event g log (Redeclares t) h k p =
-    let l = ltb-false MAX_RUN_EVENTS (suc (marks log)) p in
-    let b = between_le (left g.events (Redeclares t ∷ log)).1 in
-    in_stage (omega (arith, l, b))
+    in_stage (omega (arith, ltb-false MAX_RUN_EVENTS (suc (marks log)) p, between_le (left g.events (Redeclares t ∷ log)).1))
 by_event g log (Round es) h k p =
     let r = round_begins g log es h in
     let before : between_rounds (left g.events log).1 ≡ 1 = ap between_rounds r.0 in
-    let now : between_rounds es ≡ 0 = none_between es r.2 in
-    in_stage (omega (arith, before, now))
+    in_stage (omega (arith, before, none_between es r.2))
 by_event g log _ h k p = absurd (false≢true k)
 
 pub falls : (g : Input) (log : Log) (e : Entry) → IsPermitted g log → next g log ≡ Some e → is_past log e ≡ false → Falls g (e ∷ log) log

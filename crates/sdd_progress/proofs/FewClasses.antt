@@ -15,7 +15,7 @@ pub none_cut_off : (G : WaitGraph) (x : ℕ) → AreCutOff G x []
 unfolding IsDistinct
 none_cut_off G x = record { differ = tt; each = tt }
 
-each_weaker : {P Q : ℕ → Type 0} → ((j : ℕ) → P j → Q j) → (js : List ℕ) → AllByRecursion P js → AllByRecursion Q js
+pub each_weaker : {P Q : ℕ → Type 0} → ((j : ℕ) → P j → Q j) → (js : List ℕ) → AllByRecursion P js → AllByRecursion Q js
 each_weaker f [] all = tt
 each_weaker f (j ∷ js) all = (f j all.0, each_weaker f js all.1)
 

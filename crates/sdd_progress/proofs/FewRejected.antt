@@ -40,8 +40,7 @@ reject_is : (h : History) (n number k : ℕ) (r : Rec) → IsRecordAt h k r → 
 reject_is h n number k (Reject txn attempt dm class ts) s t =
     let both = and_parts (txn.0 == n) (attempt == number) t in
     let named : Reject txn attempt dm class ts ≡ Reject (txn_no n) number dm class ts =
-    ap (λ z. Reject (txn_no z) attempt dm class ts) (eqb-true txn.0 n both.0)
-    ∙ ap (λ z. Reject (txn_no n) z dm class ts) (eqb-true attempt number both.1) in
+    (λ i. Reject (txn_no (eqb-true txn.0 n both.0 i)) (eqb-true attempt number both.1 i) dm class ts) in
     record { place = k; dm = dm.0; class = class.0; write = ts.0; is_recorded = subst (IsRecordAt h k) named s }
 reject_is h n number k _ s t = absurd (cc)
 

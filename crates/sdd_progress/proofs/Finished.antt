@@ -46,9 +46,8 @@ all_released g log t h sound idle l m =
     let s = setting_of g U in
     let lu : site.Log = local_of g U log in
     let place = at_place g.catalogue.tms t l m in
-    let c = chain_at g (tm_no t) log l m h.permitted in
     elim (dec_le (last_served s lu).commits (counts t lu).releases) [
-      | yes p ↦ (let q = c.committed in omega (arith, p, q))
+      | yes p ↦ (let q = (chain_at g (tm_no t) log l m h.permitted).committed in omega (arith, p, q))
       | no p ↦ (let less : (counts t lu).releases < (last_served s lu).commits = omega (arith, p) in
           let last = last_commit s lu (u_table g log h.permitted) (omega (arith, less)) in
           let at = place_of_act g U log last.later (commit_act g.catalogue last.bases 0 last.attempt) last.before last.is in
@@ -134,11 +133,10 @@ u_no_queue g log h sound idle (Some q) e =
     let v = um_views.view_of s lu in
     let served = all_served g log (sound_whole g.catalogue sound) h.permitted (idle.no_attempt 0 (omega arith)) in
     let fresh : q.tries ≡ 0 = zero_head (queue s 0 lu) q served.1 e in
-    let ready = u_holding g log q h sound idle e in
     let all : list_all (um.is_holding v) v.counts ≡ true = all_true (um.is_holding v) v.counts (λ k x i.
     (let r = in_mapped (λ t. counts t lu) (numbers_to g.catalogue.tms) k x i in
     let t = in_range 1 g.catalogue.tms k r.0 r.1 in
-    let n = ready r.0 t.0 (omega (arith, t.1)) in
+    let n = (u_holding g log q h sound idle e) r.0 t.0 (omega (arith, t.1)) in
     ap (um.is_holding v) (sym r.2) ∙ both _ _ (eq-eqb _ _ n.0) (eq-eqb _ _ n.1))) in
     let due : um.start_of g.catalogue v (Some q) ≡ None = subst (λ o. um.start_of g.catalogue v o ≡ None) e (u_still g log h).start in
     let off = if_none _ _ due in
@@ -153,11 +151,10 @@ off_hold g log t h sound idle l m =
     let s = setting_of g U in
     let lu : site.Log = local_of g U log in
     let none : head_of (queue s 0 lu) ≡ None = u_no_queue g log h sound idle (head_of (queue s 0 lu)) refl in
-    let c = chain_at g (tm_no t) log l m h.permitted in
     let v = level g log t h l m in
     let released = all_released g log t h sound idle l m in
     elim (holds_needed s (t - 1) t lu (at_place g.catalogue.tms t l m) (u_table g log h.permitted)) [
-      | inl p ↦ omega (arith, p, v.holds_same, v.releases, released, c.in_turn)
+      | inl p ↦ omega (arith, p, v.holds_same, v.releases, released, (chain_at g (tm_no t) log l m h.permitted).in_turn)
       | inr q ↦ absurd (none_not_some (head_of (queue s 0 lu)) q.0 none q.1)
     ]
 

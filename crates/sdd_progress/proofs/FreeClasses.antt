@@ -1,9 +1,8 @@
 -- Of a free class no attempt waits or is rejected, and what is handed over of it is processed before the event is over.
-use Rattle.sdd_progress.proofs.AllWaits.{Answer, Apply, Bool, Change, ClassNo, ClassView, Cond, D, DmNo, Does, Entry, Hand, Input, IsAnsweredIn, IsAppliedIn, IsClassHere, IsFreeClass, IsPermitted, IsRejectOf, IsSoundCatalogue, IsStuck, IsWaitOf, List, Log, May, Msg, None, Option, Read, Rec, Records, Rejected, Setting, Site, Some, Ts, TxnNo, Use, View, Write, [], allowed_act, and_left, and_right, any_at, ap, append_assoc, arith, class_at_place, class_no, eqb-true, false, goes_through, head, holds, holds_back, inl, inr, is_met, is_wait, lacking, list_all, list_any, not, not_both, permitted_before, pipe, pipe_at, refl, same_number, same_or_not, setting_of, site_due, slice_get, subst, sym, true, txn_no, view_of, waits, ℕ, ◌&&◌, ◌++◌, ◌==◌, ◌∙◌, ◌∷◌, ◌≡◌, ◌≢◌, ◌≤◌}
+use Rattle.sdd_progress.proofs.AllWaits.{Answer, Apply, Bool, Change, ClassNo, ClassView, Cond, D, DmNo, Does, Entry, Hand, Input, IsAnsweredIn, IsAppliedIn, IsClassHere, IsFreeClass, IsPermitted, IsRejectOf, IsSoundCatalogue, IsStuck, IsWaitOf, List, Log, May, Msg, None, Option, Read, Rec, Records, Rejected, Setting, Site, Some, Ts, TxnNo, Use, View, Write, [], allowed_act, and_left, and_right, any_at, ap, append_assoc, arith, class_at_place, class_no, eqb-true, false, goes_through, head, head_place, holds, holds_back, inl, inr, is_met, is_wait, lacking, list_all, list_any, not, not_both, permitted_before, pipe, pipe_at, refl, same_number, same_or_not, setting_of, site_due, slice_get, subst, sym, true, txn_no, view_of, waits, ℕ, ◌&&◌, ◌++◌, ◌==◌, ◌∙◌, ◌∷◌, ◌≡◌, ◌≢◌, ◌≤◌}
 use Rattle.sdd_progress.proofs.AtModule.{at_module}
 use Rattle.sdd_progress.proofs.EventOver.{none_at_data}
 use Rattle.sdd_progress.proofs.FreeConditions.{names_none, unconditional}
-use Rattle.sdd_progress.proofs.Passing.{head_place}
 use Rattle.sdd_progress.proofs.ProcessedIn.{IsProcessedIn, processed_by_end}
 use Rattle.sdd_progress.proofs.Rejected.{rejected, spoiler_there}
 use Rattle.sdd_progress.proofs.StuckHeads.{head_stuck}
@@ -77,11 +76,10 @@ pub none_at_head : (g : Input) (log : Log) (i : ℕ) (d : DmNo) → IsFreeClass 
 none_at_head g log i d free h sound lo hi none =
     let s : Setting = setting_of g (D d) in
     let l : site.Log = at_module g d log in
-    let x = head_stuck s l i (class_here g i d free) (none_at_data g log d lo hi none) in
     elim (head (pipe i l)) as (λ o. head (pipe i l) ≡ o → IsStuck s l i o → o ≡ None) [
       | None ↦ λ e y. refl
       | Some m ↦ λ e y. absurd (no_head g log i d m free h sound lo hi e y)
-    ] refl x
+    ] refl (head_stuck s l i (class_here g i d free) (none_at_data g log d lo hi none))
 
 -- what is handed over of the class is processed by then
 

@@ -1,34 +1,9 @@
 -- The conditions of a READ of a declared class come from the table that was in force at its Start.
-use Rattle.sdd_progress.proofs.AllWaits.{AllDiagonalsIn, AreConditionsOf, Bool, Catalogue, ClassNo, Cond, D, Diagonal, Did, DmNo, Does, Edge, FragNo, Hand, Handed, Horizontal, Input, IsFromTable, IsPermitted, IsPutAt, IsRead, List, Log, Mark, Msg, None, Option, P1, P2, P3, Protocol, Queued, Read, Redeclares, Setting, Site, Some, Submitted, T, Tick, Ticked, TmNo, Ts, Txn, TxnNo, Use, Vertical, [], all_of, and_left, and_right, ap, ascending, asked_by, asked_in, asked_on, bound, class_at, class_number, class_puts, classes_of, cond, cond_for, cond_of, condition_on, conditions, conditions_at, cons_option, current_era, eqb-true, false, filter_map, frag_no, fragments_in, home, if_way, in_left, in_none, in_one, in_pipe, inl, inr, is_asked, local_of, map, next_stamp, nth_era, option_or, origin, pipe_at, redeclares, refl, same_or_not, same_protocol, same_site, sends_of_act, setting_of, slice_get, start_at, start_puts, start_read, subst, suc, sym, tm_no, to_site, true, txn_at, uses_of, with_submit, zero, ℕ, ◌&&◌, ◌++◌, ◌==◌, ◌∙◌, ◌∷◌, ◌≡◌, ◌≢◌, ◌⊎◌}
+use Rattle.sdd_progress.proofs.AllWaits.{AllDiagonalsIn, AreConditionsOf, Bool, Catalogue, ClassNo, Cond, D, Diagonal, DmNo, Does, Edge, FragNo, Horizontal, Input, IsFromTable, IsPermitted, IsPutAt, IsRead, List, Log, Msg, None, Option, P1, P2, P3, Protocol, Queued, Read, Setting, Site, Some, T, TmNo, Ts, TxnNo, Use, Vertical, [], all_of, and_left, and_right, ap, ascending, asked_by, asked_in, asked_on, bound, class_at, class_number, class_puts, classes_of, cond, cond_for, cond_of, condition_on, conditions, conditions_at, current_era, eqb-true, era_there, false, frag_no, fragments_in, home, in_filter_mapped, in_left, in_none, in_one, in_pipe, inl, inr, is_asked, local_of, map, next_stamp, nth_era, option_or, origin, pipe_at, redeclares, refl, same_or_not, same_protocol, sends_of_act, setting_of, slice_get, start_at, start_puts, start_read, subst, sym, tm_no, to_site, true, uses_of, ℕ, ◌&&◌, ◌++◌, ◌==◌, ◌∙◌, ◌∷◌, ◌≡◌, ◌≢◌, ◌⊎◌}
 use Rattle.sdd_obligations.specs.protocol.declared.entry.Entry as line
 use Rattle.sdd_obligations.specs.site_module.SiteLog as site
 
 -- the classes in force at a transaction module are those of the list that was put in force last
-
-after_submit : (s : Setting) (n : ℕ) (o : Option Txn) (l : site.Log) → current_era s (with_submit n o l) ≡ current_era s l
-after_submit s n None l = refl
-after_submit s n (Some txn) l = refl
-
-era_there : (g : Input) (t : TmNo) (log : Log) → current_era (setting_of g (T t)) (local_of g (T t) log) ≡ nth_era g (redeclares log)
-era_there g t [] = refl
-era_there g t (Mark (Tick u n) ∷ log) =
-    let l : site.Log = local_of g (T t) log in
-    if_way (λ (x : site.Log). current_era (setting_of g (T t)) x ≡ nth_era g (redeclares log)) (same_site (T t) (T u)) (Ticked n ∷ l) l (era_there g t log)
-    (era_there g t log)
-era_there g t (Redeclares u ∷ log) = refl
-era_there g t (Hand from to n m ∷ log) =
-    let l : site.Log = local_of g (T t) log in
-    if_way (λ (x : site.Log). current_era (setting_of g (T t)) x ≡ nth_era g (redeclares log)) (same_site (T t) to) (Handed from m ∷ l) l (era_there g t log)
-    (era_there g t log)
-era_there g t (Submitted to n ∷ log) =
-    let l : site.Log = local_of g (T t) log in
-    if_way (λ (x : site.Log). current_era (setting_of g (T t)) x ≡ nth_era g (redeclares log)) (same_site (T t) to) (with_submit n (txn_at g n) l) l
-    (after_submit (setting_of g (T t)) n (txn_at g n) l ∙ era_there g t log) (era_there g t log)
-era_there g t (Does by act ∷ log) =
-    let l : site.Log = local_of g (T t) log in
-    if_way (λ (x : site.Log). current_era (setting_of g (T t)) x ≡ nth_era g (redeclares log)) (same_site (T t) by) (Did act ∷ l) l (era_there g t log)
-    (era_there g t log)
-era_there g t (_ ∷ log) = era_there g t log
 
 era_of_class : (g : Input) (c : ℕ) (log : Log) → c ≢ 0
     → current_era (setting_of g (home g.catalogue c)) (local_of g (home g.catalogue c) log) ≡ nth_era g (redeclares log)
@@ -64,18 +39,6 @@ asked_edge test i j (Diagonal a b h) f e =
     let p = cond_some ((a.0 == i) && ((b.0 == j) && test h.0)) (Some h) f e in
     let same : h ≡ f = (let q : ◌≡◌ {A = Option FragNo} (Some h) (Some f) = p.1 in cc) in
     record { reader = a; writer = b; is = ap (Diagonal a b) same; reader_is = eqb-true a.0 i (and_left _ _ p.0); writer_is = eqb-true b.0 j (and_left _ _ (and_right _ _ p.0)) }
-
-pub in_filter_mapped : {A B : Type 0} (f : A → Option B) (xs : List A) (k : ℕ) (y : B) → slice_get (filter_map f xs) k ≡ Some y
-    → (j : ℕ) × (x : A) × (slice_get xs j ≡ Some x) × (f x ≡ Some y)
-in_filter_mapped f [] k y e = cc
-in_filter_mapped {A = A} {B = B} f (x ∷ xs) k y e =
-    elim (f x) as (λ o. f x ≡ o → slice_get (cons_option o (filter_map f xs)) k ≡ Some y → (j : ℕ) × (z : A) × (slice_get (x ∷ xs) j ≡ Some z) × (f z ≡ Some y)) [
-      | None ↦ λ p q. let i = in_filter_mapped f xs k y q in (suc i.0, i.1, i.2, i.3)
-      | Some w ↦ λ p q. elim k as (λ n. slice_get (w ∷ filter_map f xs) n ≡ Some y → (j : ℕ) × (z : A) × (slice_get (x ∷ xs) j ≡ Some z) × (f z ≡ Some y)) [
-        | zero ↦ λ r. let s : ◌≡◌ {A = B} w y = cc in (0, x, refl, p ∙ ap (λ v. Some v) s)
-        | suc n ↦ λ r. let i = in_filter_mapped f xs n y r in (suc i.0, i.1, i.2, i.3)
-      ] q
-    ] refl e
 
 diagonals : (table : List line.Entry) (protocol : Protocol) (test : ℕ → Bool) (i j : ℕ) → AllDiagonalsIn table protocol i j (asked_by protocol test table i j)
 diagonals table protocol test i j k f e =

@@ -29,8 +29,7 @@ ends (x ∷ a) (y ∷ b) xs ys e = let p : a ++ xs ≡ b ++ ys = cc in ends a b 
 pub history_le : (later log : Log) → length (history log) ≤ length (history (later ++ log))
 history_le later log =
     let g = history_grows later log in
-    let n : length (history (later ++ log)) ≡ length (history log ++ g.0) = ap length g.1 in
-    let m = length-append (history log) g.0 in omega (arith, n, m)
+    let m = length-append (history log) g.0 in omega (arith, ap length g.1, m)
 
 -- an entry that stands before a longer history than its own is one of the longer log
 pub in_longer : (log later before other mid : Log) (e : Entry) → log ≡ later ++ e ∷ before → log ≡ other ++ mid
@@ -42,9 +41,8 @@ in_longer log later before other mid e is at l few = elim (ends later other (e �
       elim q.0 as (λ p. e ∷ before ≡ p ++ mid → (r : Log) × (mid ≡ r ++ e ∷ before)) [
         | [] ↦ λ same. ([], sym same)
         | x ∷ p ↦ λ same. (let rest : before ≡ p ++ mid = cc in
-            let v = history_le p mid in
             let m : length (history before) ≡ length (history (p ++ mid)) = ap (λ y. length (history y)) rest in
-            absurd (omega (arith, l, v, m)))
+            absurd (omega (arith, l, history_le p mid, m)))
       ] q.1)
 ]
 

@@ -44,11 +44,10 @@ is_not_over : (x : Exchange) (p : Phase) → IsCounted x → x.phase ≡ p → i
 is_not_over x p k e f = (k.modules (ap is_over e ∙ f), k.counts, k.left)
 
 ended : (ts c : ℕ) (x : Exchange) (p : Phase) → IsCounted x → x.phase ≡ p → IsGoing (phase_ends ts c x p)
-ended ts c x Reading k e = to_next ts c x x.left x.done (is_not_over x Reading k e refl) k.left
 ended ts c x (Fetching m) k e = to_reduce ts c m x (is_not_over x (Fetching m) k e refl) (subst (ReducesRead x.modules) e k.reduces)
-ended ts c x (Reducing m) k e = to_next ts c x x.left x.done (is_not_over x (Reducing m) k e refl) k.left
 ended ts c x Shipping k e = record { counted = record { modules = λ z. cc; reduces = tt; counts = k.counts; left = k.left }; lacks = λ z. cc }
 ended ts c x Over k e = record { counted = k; lacks = λ z. never (is_over x.phase) (ap is_over e) z }
+ended ts c x y k e = to_next ts c x x.left x.done (is_not_over x y k e refl) k.left
 
 lacks_now : (ts c : ℕ) (x : Exchange) (ds : List ℕ) → IsCounted x → IsGoing (lacking ts c x ds)
 lacks_now ts c x [] k = ended ts c (record x { lacks = [] }) x.phase (record {

@@ -51,9 +51,8 @@ none_left g log a b h e =
     let arrived : (link_of a b log).there.acked ≤ delivered (link_of a b log).there = (sound a b (calls_of log)).there.acked in
     let none : hand_on log (a, b) ≡ None = none_at (hand_on log) (all_links g) k.0 (a, b) h.no_hand k.1 in
     let part : takes_part b log ≡ true = takes_part_in g log g.catalogue.tms b h (link_parts g.catalogue.tms g.catalogue.dms a b e).to in
-    let same : length (sent a b log) ≡ length (puts_to b (local_of g a log)) = ap length (sent_is g a b log) in
     elim (dec_le (length (sent a b log)) (handed a b log)) [
-      | yes l ↦ omega (arith, l, same)
+      | yes l ↦ omega (arith, l, ap length (sent_is g a b log))
       | no l ↦ (let m = member_there (handed a b log) (sent a b log) (omega (arith, l)) in
           let z : suc (handed a b log) - 1 ≡ handed a b log = omega arith in
           let at : slice_get (sent a b log) (suc (handed a b log) - 1) ≡ Some m.0 = subst (λ j. slice_get (sent a b log) j ≡ Some m.0) (sym z) m.1 in

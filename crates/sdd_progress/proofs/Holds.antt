@@ -1,6 +1,6 @@
 -- A transaction module is told to hold only while a transaction waits at the module for undeclared transactions; and the
 -- Commit of the transaction that this served last.
-use Rattle.sdd_progress.proofs.All.{Act, Attempt, Bases, Bool, Catalogue, D, Did, Each, Fetch, Handed, Hold, IsChain, IsFairU, IsStepU, List, Msg, None, Option, Queued, Redeclared, Reduce, Release, Sends, Setting, Ship, Site, Some, Submits, T, Ticked, TmCounts, Ts, [], active, ap, arith, asks_next, asks_rows, attempt_due, balance, by_release, chain, commit_act, counts, counts_acted, dm_no, false, first_send, hand_commits, hand_counts, hand_ts, head_of, hold_to, if_way, if◌then◌else◌, inl, inr, is_for, is_over, last_served, map, numbers_to, one_if_le, or_else, puts_to, queue, refl, slice_get, start_at, subst, suc, tm_no, tried, true, ts_of, u_due, u_way, ℕ, ◌++◌, ◌<◌, ◌==◌, ◌∙◌, ◌∷◌, ◌≡◌, ◌≤◌, ◌⊎◌}
+use Rattle.sdd_progress.proofs.All.{Act, Attempt, Bases, Bool, Catalogue, D, Did, Each, Fetch, Handed, Hold, IsChain, IsFairU, IsStepU, List, Msg, None, Option, Queued, Reduce, Release, Sends, Setting, Ship, Site, Some, Submits, T, TmCounts, Ts, [], active, ap, arith, asks_next, asks_rows, attempt_due, balance, by_release, chain, commit_act, counts, counts_acted, dm_no, false, first_send, hand_commits, hand_counts, hand_ts, head_of, hold_to, if_way, if◌then◌else◌, inl, inr, is_for, is_over, last_served, map, numbers_to, one_if_le, or_else, puts_to, queue, refl, slice_get, start_at, subst, suc, tm_no, tried, true, ts_of, u_due, u_way, ℕ, ◌++◌, ◌<◌, ◌==◌, ◌∙◌, ◌∷◌, ◌≡◌, ◌≤◌, ◌⊎◌}
 use Rattle.sdd_obligations.specs.All.{by_exchange, by_hold, by_start, current_era}
 use Rattle.sdd_obligations.specs.site_module.SiteLog.{Entry, Log}
 use Rattle.sdd_obligations.specs.umod.Due.{IsDue, start_of}
@@ -98,9 +98,7 @@ needed_act s t log act c l step or h =
 
 one_ahead : (s : Setting) (t : ℕ) (log : Log) → IsChain s t log → (counts t log).holds ≤ suc (counts t log).releases
 one_ahead s t log c =
-    let whole = balance false c.state (puts_to (T (tm_no t)) log) c.turns_are in
-    let p = one_if_le c.state in
-    omega (arith, whole, p, c.holds_are, c.releases_are)
+    omega (arith, balance false c.state (puts_to (T (tm_no t)) log) c.turns_are, one_if_le c.state, c.holds_are, c.releases_are)
 
 hold_or_head : (s : Setting) (log : Log) (bases : Bases) (act : Act) (o : Option Queued)
     → head_of (queue s 0 log) ≡ o → IsDue s.catalogue bases (view_of s log) act → is_hold act ≡ false ⊎ ((q : Queued) × (head_of (queue s 0 log) ≡ Some q))
@@ -115,8 +113,6 @@ pub holds_needed : (s : Setting) (k t : ℕ) (log : Log) → slice_get (numbers_
 holds_needed s k t [] i h = inl (omega arith)
 holds_needed s k t (Handed from m ∷ log) i h =
     needed_on s t (Handed from m) log (hand_counts from m (counts t log)).1 (hand_commits m (last_served s log)) (λ q e. (q, e)) (holds_needed s k t log i h.1)
-holds_needed s k t (Ticked n ∷ log) i h = needed_on s t (Ticked n) log refl refl (λ q e. (q, e)) (holds_needed s k t log i h.1)
-holds_needed s k t (Redeclared era n ∷ log) i h = needed_on s t (Redeclared era n) log refl refl (λ q e. (q, e)) (holds_needed s k t log i h.1)
 holds_needed s k t (Submits n txn ∷ log) i h =
     needed_on s t (Submits n txn) log refl refl
     (λ q e. submitted_head (is_for 0 (current_era s log).catalogue txn) (queue s 0 log) (record {
@@ -128,6 +124,7 @@ holds_needed s k t (Did act ∷ log) i h =
     let c = chain s k t log i h.1 in
     needed_act s t log act c (one_ahead s t log c) (u_due s h.0.0.0 log act h.0.0.1)
     (hold_or_head s log h.0.0.0 act (head_of (queue s 0 log)) refl h.0.0.1) (holds_needed s k t log i h.1)
+holds_needed s k t (x ∷ log) i h = needed_on s t x log refl refl (λ q e. (q, e)) (holds_needed s k t log i h.1)
 
 -- the last Commit
 
@@ -154,9 +151,6 @@ pub last_commit : (s : Setting) (log : Log) → Each (IsFairU s) log → CommitI
 last_commit s [] h = λ l. absurd (omega (arith, l))
 last_commit s (Handed from m ∷ log) h =
     any_later s (Handed from m) log (hand_ts m (last_served s log)) (hand_commits m (last_served s log)) (last_commit s log h.1)
-last_commit s (Ticked n ∷ log) h = any_later s (Ticked n) log refl refl (last_commit s log h.1)
-last_commit s (Redeclared era n ∷ log) h = any_later s (Redeclared era n) log refl refl (last_commit s log h.1)
-last_commit s (Submits n txn ∷ log) h = any_later s (Submits n txn) log refl refl (last_commit s log h.1)
 last_commit s (Did act ∷ log) h =
     let i = last_commit s log h.1 in
     u_way s log act (λ x. CommitIfAny s (Did x ∷ log)) (λ q e z r. any_later s (Did (start_at s 0 log q)) log refl refl i)
@@ -164,3 +158,4 @@ last_commit s (Did act ∷ log) h =
     (λ d m a e. any_later s (Did (Sends (D (dm_no d)) m None)) log refl refl i)
     (λ t ts l w. any_later s (Did (Sends (T (tm_no t)) (Release ts) None)) log refl refl i)
     (λ t e. any_later s (Did (Sends (T (tm_no t)) Hold None)) log refl refl i) (u_due s h.0.0.0 log act h.0.0.1)
+last_commit s (x ∷ log) h = any_later s x log refl refl (last_commit s log h.1)

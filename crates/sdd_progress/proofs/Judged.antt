@@ -29,8 +29,7 @@ no_wait : {A : Type 0} (s : Setting) (l : site.Log) (c k : ℕ) (ts : Ts) (of : 
     → k ≡ c → head (pipe c l) ≡ Some (Read ts of txn attempt conds uses)
     → list_all (is_met (view_of s l)) conds ≡ true → IsDue (home_of s) (view_of s l) (Records k r sends) → is_wait r ≡ true → A
 no_wait s l c k ts of txn attempt conds uses r sends e h met due w =
-    let i = wait_due s l k r sends due w in
-    let x : IsWaitOf s l c (Records k r sends) = subst (λ z. IsWaitOf s l z (Records k r sends)) e i in
+    let x : IsWaitOf s l c (Records k r sends) = subst (λ z. IsWaitOf s l z (Records k r sends)) e (wait_due s l k r sends due w) in
     let same : Some (Read x.ts x.of x.txn x.attempt x.conds x.uses) ≡ Some (Read ts of txn attempt conds uses) = sym x.head_is ∙ h in
     let ds : x.conds ≡ conds = cc in
     none_is_some x.first x.more (sym (ap (lacking (view_of s l)) ds ∙ none_lacks (is_met (view_of s l)) conds met) ∙ x.lacks)

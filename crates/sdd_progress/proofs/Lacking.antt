@@ -1,5 +1,5 @@
 -- Where nothing goes on, an active attempt has a READ that is not processed.
-use Rattle.sdd_progress.proofs.All.{AllAskParts, AllByRecursion, AllHaveParts, Asks, AtTurn, Attempt, Bool, Catalogue, ClassView, Condition, Const, D, Delete, Exchange, Fetch, FitsCondition, FitsInput, FitsQuery, FitsStatement, FitsText, HasNear, HasParts, HasTurn, Home, Input, IsAtTurn, IsClass, IsGoing, IsModule, IsNear, IsNearBy, IsPermitted, IsQuiet, IsSoundCatalogue, IsStage, IsUnanswered, List, Log, Msg, None, Open, Option, Put, Query, Read, Reduce, RelNo, Same, Ship, Site, Some, Stmt, Turn, Update, View, [], active, active_near, active_so, agreed, all_new, and_right, answer_goes, answer_of, answer_to, answered_last, answers, ap, apart, arith, asker, askings, asks_open, asks_rows, at_home, at_map, at_module, attempt_due, awaited, base_of, class_asked, class_view, classes_of, cond, contains, data_turns, dm_no, eqb-true, false, filter, first_send, first_some, firsts, from_site, head_of, home, home_fair, home_first, home_of, home_turns, if◌then◌else◌, in_filtered, inl, inr, is_asked_of, is_empty, is_number, is_over, is_question, is_read, length, map, not_both, open_due, opens, or_left, or_none, pipe, question_goes, questions, range_at, reads_asked, recursion_from_All, refl, rows_asked, same_number, send_due, setting_of, slice_get, small_home, sound_whole, spoken, submitted_fit, subst, suc, sym, to_module, true, turn_at, turn_with, unsent, uses_in, view_of, ℕ, ◌+◌, ◌==◌, ◌∙◌, ◌∷◌, ◌≡◌, ◌≤◌}
+use Rattle.sdd_progress.proofs.All.{AllAskParts, AllByRecursion, AllHaveParts, Asks, AtTurn, Attempt, Bool, Catalogue, ClassView, Condition, Const, D, Exchange, Fetch, FitsCondition, FitsInput, FitsQuery, FitsStatement, FitsText, HasNear, HasParts, HasTurn, Home, Input, IsAtTurn, IsClass, IsGoing, IsModule, IsNear, IsNearBy, IsPermitted, IsQuiet, IsSoundCatalogue, IsStage, IsUnanswered, List, Log, Msg, None, Open, Option, Query, Read, Reduce, RelNo, Same, Ship, Site, Some, Stmt, Turn, View, [], active, active_near, active_so, agreed, all_new, and_right, answer_goes, answer_of, answer_to, answered_last, answers, ap, apart, arith, asker, askings, asks_open, asks_rows, at_home, at_map, at_module, attempt_due, awaited, base_of, class_asked, class_view, classes_of, cond, contains, data_turns, dm_no, eqb-true, false, filter, first_send, first_some, firsts, from_site, head_of, home, home_fair, home_first, home_of, home_turns, if◌then◌else◌, in_filtered, inl, inr, is_asked_of, is_empty, is_number, is_over, is_question, is_read, length, map, not_both, open_due, opens, or_left, or_none, pipe, question_goes, questions, range_at, reads_asked, recursion_from_All, refl, rows_asked, same_number, send_due, setting_of, slice_get, small_home, sound_whole, spoken, submitted_fit, subst, suc, sym, to_module, true, turn_at, turn_with, unsent, uses_in, view_of, ℕ, ◌+◌, ◌==◌, ◌∙◌, ◌∷◌, ◌≡◌, ◌≤◌}
 use Rattle.sdd_progress.proofs.Going.{is_going}
 use Rattle.sdd_progress.proofs.Handed.{none_in_flight}
 use Rattle.sdd_progress.proofs.Lists.{either, head_at, no_head, none_at}
@@ -19,12 +19,10 @@ conds_parts cat rels (q ∷ conds) h = (cond_parts cat rels q h.0, conds_parts c
 askings_parts : (cat : Catalogue) (before : ℕ) (statements : List Stmt)
     → AllByRecursion (FitsStatement cat) statements → AllAskParts (askings before statements)
 askings_parts cat before [] h = tt
-askings_parts cat before (Put rel row ∷ rest) h = askings_parts cat (before + uses_in (Put rel row)) rest h.1
-askings_parts cat before (Update rel sets conds ∷ rest) h = askings_parts cat (before + uses_in (Update rel sets conds)) rest h.1
-askings_parts cat before (Delete rel conds ∷ rest) h = askings_parts cat (before + uses_in (Delete rel conds)) rest h.1
 askings_parts cat before (Query out rels conds ∷ rest) h =
     let f : FitsQuery cat out rels conds = h.0 in
     (conds_parts cat rels conds (recursion_from_All (FitsCondition cat rels) conds f.4.1), askings_parts cat (before + uses_in (Query out rels conds)) rest h.1)
+askings_parts cat before (x ∷ rest) h = askings_parts cat (before + uses_in x) rest h.1
 
 -- an attempt that has nothing to send and may not commit
 
@@ -169,14 +167,12 @@ has_unanswered g log c a h good l e =
     let s = setting_of g (home g.catalogue c) in
     let at = home g.catalogue c in
     let sp = spoken g c log h.permitted (small_home g.catalogue good.sound c l) in
-    let turns = home_turns g c log h.permitted sp in
-    let going = goes_on g log c a h.permitted good l e in
     let waits = waits_for g.catalogue (base_of g log) c a
     (subst (λ o. attempt_due g.catalogue (base_of g log) c o ≡ None) e (exchange_none g log c h good.sound l)) in
-    let lack = lacking_one a.exchange.lacks (going.lacks waits.not_over) in
+    let lack = lacking_one a.exchange.lacks ((goes_on g log c a h.permitted good l e).lacks waits.not_over) in
     let d : ℕ = lack.0 in
     let is_recorded : AtTurn a.ts d (Some a) (turn_at a.ts c d (at_home g c log)) =
-    subst (λ o. AtTurn a.ts d o (turn_at a.ts c d (at_home g c log))) e (turns.turns a.ts d) in
+    subst (λ o. AtTurn a.ts d o (turn_at a.ts c d (at_home g c log))) e ((home_turns g c log h.permitted sp).turns a.ts d) in
     let q = asked_at d a.exchange (turn_at a.ts c d (at_home g c log)) waits.nothing_to_send lack.1 (is_recorded.0 refl) in
     let near : IsNearBy g.catalogue.dms a.exchange =
     subst (HasNear g.catalogue.dms) e (active_near s c (at_home g c log) (sound_whole g.catalogue good.sound) (home_fair g c log h.permitted)) in
@@ -187,8 +183,7 @@ has_unanswered g log c a h good l e =
     (pipe c (at_module g d log))) there (data_turns g a.ts c d log h.permitted sp) in
     let none : filter (asks_open a.ts c) (opens (at_module g d log)) ≡ [] =
     less_left (asks_open a.ts c) (is_asked_of c) (opens (at_module g d log)) (λ o f. asks_class a.ts c o.msg f) (none_open g log c d h l m) in
-    let no_rows = not_rows a.ts c at (opens (at_module g d log)) q.uses q.question none has.rows_are in
-    let read = read_it_is a.ts c q.question has.own.0 no_rows in
+    let read = read_it_is a.ts c q.question has.own.0 (not_rows a.ts c at (opens (at_module g d log)) q.uses q.question none has.rows_are) in
     let i = in_filtered (is_read a.ts c) (pipe c (at_module g d log)).unprocessed 0 q.question
     (read_there a.ts c q.uses q.question (pipe c (at_module g d log)).unprocessed read has.reads_are) in
     record { d = d; module_is = m; place = i.1; message = q.question; there = i.2; is_its = read }

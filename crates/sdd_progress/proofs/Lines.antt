@@ -1,5 +1,5 @@
 -- What the line of a class has left to do, once a site acts.
-use Rattle.sdd_progress.proofs.AllEnds.{Act, Attempt, Bases, Did, IsServed, List, Msg, None, Option, Queued, Sends, Setting, Site, Some, Ticking, [], active, active_sent, after_send, ap, arith, asks_rows, commit_act, false, filter, filter_short, head_of, if◌then◌else◌, length, map, not, queue, refl, same_number, send_due, sends_of_act, start_act, started, subst, suc, sym, tail_of, ticked, timestamp, tried, true, work_of, work_sent, ℕ, ◌<◌, ◌==◌, ◌∷◌, ◌≡◌, ◌≤◌}
+use Rattle.sdd_progress.proofs.AllEnds.{Act, Attempt, Bases, Did, IsServed, List, Msg, None, Option, Queued, Sends, Setting, Site, Some, Ticking, [], active, active_sent, after_send, ap, arith, asks_rows, commit_act, committed_short, false, filter, head_of, if◌then◌else◌, length, map, not, queue, refl, same_number, send_due, sends_of_act, start_act, started, subst, suc, sym, tail_of, ticked, timestamp, tried, true, work_of, work_sent, ℕ, ◌<◌, ◌==◌, ◌∷◌, ◌≡◌, ◌≤◌}
 use Rattle.sdd_obligations.specs.site_module.SiteLog.{Log}
 use Rattle.sdd_obligations.specs.protocol.declared.entry.Entry as line
 
@@ -54,13 +54,6 @@ pub start_other : (s : Setting) (table : List line.Entry) (clock : Ticking) (k c
 start_other s table clock k c log q e = rw e refl
 
 -- a Commit
-
-pub committed_short : (a : Attempt) (qs : List Queued) → IsServed (Some a) qs → suc (length (filter (λ q. not (q.number == a.txn)) qs)) ≤ length qs
-committed_short a [] h = absurd h
-committed_short a (q ∷ qs) h =
-    let e : (q.number == a.txn) ≡ true = subst (λ n. (q.number == n) ≡ true) h.0 (same_number q.number) in
-    let i = filter_short (λ q. not (q.number == a.txn)) qs in
-    rw e (omega (arith, i))
 
 committed_less : (a : Attempt) (qs : List Queued) → IsServed (Some a) qs → work_of None (filter (λ q. not (q.number == a.txn)) qs) < work_of (Some a) qs
 committed_less a [] h = absurd h

@@ -66,14 +66,11 @@ conditions g log c ts conds h sound marks z r =
 
 stamped : (g : Input) (log : Log) → IsSoundList g (redeclares log) → (r : WaitingRead) → IsWaiting g log r → IsStamped r
 stamped g log one r w =
-    let s = setting_of g (home g.catalogue r.class) in
-    let lb = local_of g (home g.catalogue r.class) w.from.before in
     let small = home_small g.catalogue one.fits.sound r.class in
     let ts = w.from.ts_is in
-    let n = stamp_ticks s lb in
+    let n = stamp_ticks (setting_of g (home g.catalogue r.class)) (local_of g (home g.catalogue r.class) w.from.before) in
     let t = w.ticks_are in
-    let p = w.p2_is in
-    record { least = omega (arith, ts, n, t); most = omega (arith, ts, n, t, small); before = omega (arith, t, p) }
+    record { least = omega (arith, ts, n, t); most = omega (arith, ts, n, t, small); before = omega (arith, t, w.p2_is) }
 
 -- the diagonal of a condition
 
@@ -143,12 +140,11 @@ write_stamp g log j d w of txn changes sound h e =
     let o = write_origin g log j (dm_no d) (time_at w) of txn changes (class_number of.0 j w put.of_class) put in
     let hb = permitted_part g log o.before h (part_of log o.later _ o.before o.is) in
     let st = start_of_active s j (local_of g (home g.catalogue j) o.before) o.attempt (home_fair g j o.before hb) o.active_is in
-    let n = stamp_ticks s st.before in
     let small = home_small g.catalogue sound j in
     record {
       ticks = (clock (home g.catalogue j) st.before).ticks + 1;
       number = number_of (home g.catalogue j);
-      is = omega (arith, o.ts_is, st.ts_is, n);
+      is = omega (arith, o.ts_is, st.ts_is, stamp_ticks s st.before);
       small = omega (arith, small);
     }
 
@@ -164,8 +160,7 @@ module _ (g : Input) (log : Log) (h : IsQuiet g log) (one : IsSoundList g (redec
         (time_at k.write) k.of k.txn k.changes one.fits.sound h.permitted z l r.module_is at_zero
         k.write_is in
         let own = zero_time g log (dm_no r.d) (time_at k.ts) r.of r.txn r.attempt k.conds r.uses k.place k.cond h.permitted at_zero k.there in
-        let held = k.held in
-        absurd (omega (arith, below, own, held)))
+        absurd (omega (arith, below, own, k.held)))
   ]
 
   fits : FitsWaitGraph (graph_of g log)
@@ -174,11 +169,8 @@ module _ (g : Input) (log : Log) (h : IsQuiet g log) (one : IsSoundList g (redec
   class_of_writer : (i j : ℕ) (own : Bool) → HasDiagonal (graph_of g log) i j own → ((j == 0) ≡ false) × IsClass g.catalogue j
   class_of_writer i j own d =
       let w = (fits.diagonal d.place d.diagonal d.at).writer in
-      let from = w.from in
-      let to = w.to in
-      let size = one.era.classes in
       let same = d.writer_is in
-      (not_zero j (omega (arith, from, same)), omega (arith, to, same, size))
+      (not_zero j (omega (arith, w.from, same)), omega (arith, w.to, same, one.era.classes))
 
   waits_on : (r : WaitingRead) → IsWaiting g log r → WaitsOn (graph_of g log) (IsWaiting g log) r
   waits_on r w =
@@ -193,9 +185,8 @@ module _ (g : Input) (log : Log) (h : IsQuiet g log) (one : IsSoundList g (redec
       let below = next_head g log r.class r.ts w.conds w.reader u.place x h one.fits u.there c.0 c.1 u.unmet in
       elim (next_reader g log x.class.0 x.time.0 h c.1 below) [
         | inl e ↦ (let from = conditions g log x.class.0 e.ts e.conds h one.fits.sound marks c.0 e.reader in
-            let l = e.below in
             reader d.place d.diagonal d.at d.reader_is (read_number g log x.class.0 e.ts e.conds from.0)
-            (waiting_number g log x.class.0 e.ts e.conds c.0 e.reader from.0 from.1) (sym d.writer_is) (omega (arith, l, time)))
+            (waiting_number g log x.class.0 e.ts e.conds c.0 e.reader from.0 from.1) (sym d.writer_is) (omega (arith, e.below, time)))
         | inr k ↦ (let z = holder_declared x.class.0 x.time.0 c.0 c.1 k in
             let from = conditions g log k.class k.ts k.conds h one.fits.sound marks z k.reader in
             let q : WaitingRead = read_number g log k.class k.ts k.conds from.0 in
@@ -203,12 +194,10 @@ module _ (g : Input) (log : Log) (h : IsQuiet g log) (one : IsSoundList g (redec
             cond_along g log k.class k.ts k.conds from.0 k.place k.cond from.1 k.there in
             let held_time = time_along (graph_of g log) q.class k.cond.class.0 k.cond.time.0 q b in
             let o = b.diagonal in
-            let low = k.held in
-            let high = k.below in
             holder d.place d.diagonal d.at d.reader_is q (waiting_number g log k.class k.ts k.conds z k.reader from.0 from.1) o.place o.diagonal o.at
             o.reader_is (o.writer_is ∙ k.names ∙ sym d.writer_is)
             k.write (write_stamp g log x.class.0 k.reader.d k.write k.of k.txn k.changes one.fits.sound
-            h.permitted k.write_is) (omega (arith, low, held_time)) (omega (arith, high, time)))
+            h.permitted k.write_is) (omega (arith, k.held, held_time)) (omega (arith, k.below, time)))
       ]
 
   none_declared : (c ts : ℕ) (conds : List Cond) → (c == 0) ≡ false → ¬ IsReader g log c ts conds
@@ -225,8 +214,7 @@ module _ (g : Input) (log : Log) (h : IsQuiet g log) (one : IsSoundList g (redec
       let i = in_range 1 (length g.catalogue.classes) u.place x.class.0 class in
       let z = not_zero x.class.0 i.0 in
       let l : IsClass g.catalogue x.class.0 = omega (arith, i.1) in
-      let below = next_head g log 0 ts conds r u.place x h one.fits u.there z l u.unmet in
-      elim (next_reader g log x.class.0 x.time.0 h l below) [
+      elim (next_reader g log x.class.0 x.time.0 h l (next_head g log 0 ts conds r u.place x h one.fits u.there z l u.unmet)) [
         | inl e ↦ none_declared x.class.0 e.ts e.conds z e.reader
         | inr k ↦ none_declared k.class k.ts k.conds (holder_declared x.class.0 x.time.0 z l k) k.reader
       ]

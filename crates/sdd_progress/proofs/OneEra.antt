@@ -58,17 +58,14 @@ module _ (g : Input) (log : Log) (w : Known g log) where
       let y = start_in g log a w.sound w.permitted s in
       let act = Does (home g.catalogue a.class) (start_act_of a y.sends) in
       let z = w.starts.submitted a s in
-      let one = w.starts.one_submit a.txn z.place k z.submitted t in
       let before = z.before in let submit_place = x.place_is in let start_place = y.place_is in
       let upper : log ≡ (y.later ++ act ∷ []) ++ y.before = y.is ∙ sym (append_assoc y.later (act ∷ []) y.before) in
       let lower : log ≡ (x.later ++ Submitted x.at a.txn ∷ []) ++ x.rest = x.is ∙ sym (append_assoc x.later (Submitted x.at a.txn ∷ []) x.rest) in
       let i = longer log (y.later ++ act ∷ []) y.before (x.later ++ Submitted x.at a.txn ∷ []) x.rest upper lower
-      (omega (arith, one, before, submit_place, start_place)) in
-      let b = redeclares_back i.0 x.rest in
-      let e : redeclares y.before ≡ redeclares (i.0 ++ x.rest) = ap redeclares i.1 in
+      (omega (arith, w.starts.one_submit a.txn z.place k z.submitted t, before, submit_place, start_place)) in
       let start = begun_at g log act _ y.later y.before a.place refl y.is y.place_is in
       let submit = begun_at g log (Submitted x.at a.txn) (Submit (txn_no a.txn)) x.later x.rest k refl x.is x.place_is in
-      omega (arith, b, e, start, submit)
+      omega (arith, redeclares_back i.0 x.rest, ap redeclares i.1, start, submit)
 
   pub one_era : (a : Attempt) (k : ℕ) → IsAttempt (history log) a → IsSubmitted (history log) a.txn k
       → eras_begun (eras_of g log) (event_at (history log) k) ≡ eras_begun (eras_of g log) (event_at (history log) a.place)

@@ -1,5 +1,5 @@
 -- A log that puts no further class list in force: the one list is sound, and there is no place where one was put in force.
-use Rattle.sdd_progress.proofs.All.{HasOneTable, HasSoundLists, Input, IsEraOf, IsIdleAtRedeclares, IsSoundList, IsUpAtRedeclares, Log, Redeclares, ap, arith, of_one_era, redeclares, refl, subst, sym, ℕ, ◌++◌, ◌∷◌, ◌≡◌}
+use Rattle.sdd_progress.proofs.All.{HasOneTable, HasSoundLists, Input, IsEraOf, IsSoundList, IsUpAtRedeclares, Log, Redeclares, ap, arith, of_one_era, redeclares, refl, subst, sym, ℕ, ◌++◌, ◌∷◌, ◌≡◌}
 use Rattle.sdd_progress.proofs.SinceRedeclare.{redeclares_back}
 
 pub one_list : (g : Input) (log : Log) → HasOneTable g → redeclares log ≡ 0 → HasSoundLists g log
@@ -10,12 +10,7 @@ one_list g log one none k l =
 
 no_redeclare : (log later before : Log) (t : ℕ) → redeclares log ≡ 0 → log ≡ later ++ Redeclares t ∷ before → ⊥
 no_redeclare log later before t none is =
-    let back = redeclares_back later (Redeclares t ∷ before) in
-    let all : redeclares log ≡ redeclares (later ++ Redeclares t ∷ before) = ap redeclares is in
-    absurd (omega (arith, back, all, none))
-
-pub idle_in_one : (g : Input) (log : Log) → redeclares log ≡ 0 → IsIdleAtRedeclares g log
-idle_in_one g log none later before t is = absurd (no_redeclare log later before t none is)
+    absurd (omega (arith, redeclares_back later (Redeclares t ∷ before), ap redeclares is, none))
 
 pub up_in_one : (g : Input) (log : Log) → redeclares log ≡ 0 → IsUpAtRedeclares g log
 up_in_one g log none later before t is d there = absurd (no_redeclare log later before t none is)

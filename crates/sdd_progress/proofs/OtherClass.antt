@@ -62,8 +62,7 @@ diagonal_of test entries i j own p2 c [] seconds t s e =
     let o = is_on j p2 seconds c e in
     (o.class, some_asked P2 test entries i j seconds o.first o.rest s o.some)
 diagonal_of test entries i j own p2 c (f ∷ thirds) seconds t s e =
-    let o = is_on j own (f ∷ thirds) c e in
-    (o.class, some_asked P3 test entries i j (f ∷ thirds) f thirds t refl)
+    ((is_on j own (f ∷ thirds) c e).class, some_asked P3 test entries i j (f ∷ thirds) f thirds t refl)
 
 -- a diagonal joins two classes
 pub two_classes : (cat : Catalogue) (entries : List Entry) (i j : ℕ) → IsTable cat entries → HasDiagonal entries i j → i ≢ j

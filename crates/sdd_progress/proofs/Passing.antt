@@ -1,21 +1,9 @@
 -- What a pipe has passed it has passed in every log that goes on from this one.
-use Rattle.sdd_progress.proofs.AllWaits.{AllGe, Bool, D, DmNo, Handed, Input, IsPermitted, IsRising, List, Msg, Pipe, Some, [], all_handed, all_of, all_there, any_at, ap, append-nil, append_assoc, arith, at_seam, class_rises, dec_le, earlier, false, goes_through, head, head_in, head_of, home, if◌then◌else◌, in_left, in_pipe, le_is, length, list_any, local_grows, local_of, map, nat_le, nat_tests, number_of, or_left, or_right, passed, passed_by, pipe, pipe_at, place_within, processed_grows, refl, slice_get, subst, suc, sym, time_of, true, within_left, zero, ℕ, ◌++◌, ◌<◌, ◌∙◌, ◌∷◌, ◌≡◌, ◌≤◌}
+use Rattle.sdd_progress.proofs.AllWaits.{AllGe, Bool, D, DmNo, Handed, Input, IsPermitted, IsRising, List, Msg, Pipe, Some, [], all_handed, all_of, all_there, any_at, any_here, ap, append-nil, append_assoc, arith, at_seam, class_rises, dec_le, earlier, false, goes_through, head, head_of, home, if◌then◌else◌, in_left, in_pipe, is_le, le_is, length, local_grows, local_of, map, nat_le, number_of, passed, passed_by, pipe, pipe_at, place_within, processed_grows, refl, slice_get, subst, sym, time_of, true, within_left, ℕ, ◌++◌, ◌<◌, ◌∙◌, ◌∷◌, ◌≡◌, ◌≤◌}
 use Rattle.sdd_obligations.specs.site_module.SiteLog.{Log}
 use Rattle.sdd_obligations.specs.logs.Entries as all
 
-pub is_le : (a b : ℕ) → a ≤ b → nat_le a b ≡ true
-is_le a b l = grind (arith, nat_tests)
-
--- a member that passes a test
-pub any_here : {A : Type 0} (f : A → Bool) (xs : List A) (k : ℕ) (x : A) → slice_get xs k ≡ Some x → f x ≡ true → list_any f xs ≡ true
-any_here f [] k x e h = cc
-any_here {A = A} f (y ∷ xs) zero x e h = let p : ◌≡◌ {A = A} y x = cc in or_left (f y) (list_any f xs) (ap f p ∙ h)
-any_here f (y ∷ xs) (suc k) x e h = or_right (f y) (list_any f xs) (any_here f xs k x e h)
-
 -- the head of a pipe stands behind what is processed
-
-pub head_place : (p : Pipe) (m : Msg) → head p ≡ Some m → slice_get (all_of p) (length p.processed) ≡ Some m
-head_place p m e = head_in p.processed p.unprocessed m e
 
 -- the first part of a list of rising times
 
@@ -46,8 +34,7 @@ reached_by : (ps qs : List Msg) (t : ℕ) → passed_by (head_of qs) ps t ≡ tr
     → (k : ℕ) × (m : Msg) × (slice_get (ps ++ qs) k ≡ Some m) × (t ≤ time_of m) × (k ≤ length ps)
 reached_by ps [] t e =
     let a = any_at (λ m. nat_le t (time_of m)) ps e in
-    let w = place_within ps a.0 a.1 a.2 in
-    (a.0, a.1, in_left ps [] a.0 a.1 a.2, le_is t (time_of a.1) a.3, omega (arith, w))
+    (a.0, a.1, in_left ps [] a.0 a.1 a.2, le_is t (time_of a.1) a.3, omega (arith, place_within ps a.0 a.1 a.2))
 reached_by ps (m ∷ qs) t e = (length ps, m, at_seam ps qs m, le_is t (time_of m) e, omega arith)
 
 pub has_reached : (p : Pipe) (t : ℕ) → passed p t ≡ true → HasReached p t
@@ -118,11 +105,4 @@ pub head_below : (p : Pipe) (t : ℕ) (m : Msg) → head p ≡ Some m → passed
 head_below p t m e f = elim (dec_le t (time_of m)) [
   | no n ↦ omega (arith, n)
   | yes l ↦ (let q : passed p t ≡ true = ap (λ o. passed_by o p.processed t) e ∙ is_le t (time_of m) l in cc)
-]
-
-pub behind_head : (p : Pipe) (t k : ℕ) (m : Msg) → IsRising (map time_of (all_of p)) → slice_get (all_of p) k ≡ Some m
-    → passed p t ≡ false → t ≤ time_of m → length p.processed < k
-behind_head p t k m h e f l = elim (dec_le k (length p.processed)) [
-  | no n ↦ omega (arith, n)
-  | yes j ↦ (let q : passed p t ≡ true = reached_is_passed p t h (record { place = k; msg = m; there = e; reaches = l; up_to_head = j }) in cc)
 ]

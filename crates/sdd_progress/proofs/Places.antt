@@ -53,5 +53,4 @@ each_there test h (k ∷ ks) all q e =
 pub few_places : (test : Rec → Bool) (h : History) (ks : List ℕ) → IsDistinct eqb ks → AllByRecursion (Passes test h) ks
     → length ks ≤ length (filter (λ e. test e.1) h)
 few_places test h ks differ all =
-    let few = length-le_from_is_member nat_eq_equiv ks (places test 0 h) differ (each_there test h ks all) in
-    omega (arith, few, as_many test 0 h)
+    omega (arith, length-le_from_is_member nat_eq_equiv ks (places test 0 h) differ (each_there test h ks all), as_many test 0 h)

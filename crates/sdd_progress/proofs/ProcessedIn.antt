@@ -1,7 +1,7 @@
 -- A message that came to a pipe and is processed later: the record that processes it.
-use Rattle.sdd_progress.proofs.AllWaits.{Act, Bool, D, Did, DmNo, Does, Entry, Hand, Handed, Input, IsPermitted, IsReadStep, List, Log, May, Msg, None, Pipe, Rec, Records, Setting, Site, Some, [], all_of, ap, append_assoc, arith, at_seam, by_record, d_step, dec_le, false, goes_through, head, head_of, if◌then◌else◌, in_left, inl, inr, is_processing, length, length-append, local_grows, not_own, own_record, passing, pipe, place_within, processed_handed, processed_more, put, read_step_way, refl, same_or_not, setting_of, site_self, slice_get, subst, suc, sym, true, view_of, waits, ℕ, ◌++◌, ◌<◌, ◌∙◌, ◌∷◌, ◌≡◌, ◌≤◌}
+use Rattle.sdd_progress.proofs.AllWaits.{Act, Bool, D, Did, DmNo, Does, Entry, Hand, Handed, Input, IsPermitted, IsReadStep, List, Log, May, Msg, None, Pipe, Rec, Records, Setting, Site, Some, [], all_of, ap, append_assoc, arith, at_seam, by_record, d_step, dec_le, false, goes_through, head, head_of, head_place, if◌then◌else◌, in_left, inl, inr, is_processing, length, length-append, local_grows, not_own, own_record, passing, pipe, place_within, processed_handed, processed_more, put, read_step_way, refl, same_or_not, setting_of, site_self, slice_get, subst, suc, sym, true, view_of, waits, ℕ, ◌++◌, ◌<◌, ◌∙◌, ◌∷◌, ◌≡◌, ◌≤◌}
 use Rattle.sdd_progress.proofs.AtModule.{IsEntryAt, acting, aside, at_module, entry_at, handing}
-use Rattle.sdd_progress.proofs.Passing.{head_place, pipe_later}
+use Rattle.sdd_progress.proofs.Passing.{pipe_later}
 use Rattle.sdd_progress.proofs.Rejected.{IsProcessing, processing_of}
 use Rattle.sdd_obligations.specs.site_module.SiteLog as site
 
@@ -30,9 +30,8 @@ own_processes s l c k m r sends p i there lo hi =
     let x : IsProcessing s l c r = processing_of s l c r sends p i in
     let grew : (pipe c (Did (Records c r sends) ∷ l)).processed ≡ (pipe c l).processed ++ x.msg ∷ [] = ap (λ (y : Pipe). y.processed)
     (own_record c r sends l p).0 ∙ processed_more (pipe c l) x.msg x.head_is in
-    let n : length (pipe c (Did (Records c r sends) ∷ l)).processed ≡ length ((pipe c l).processed ++ x.msg ∷ []) = ap length grew in
     let one = length-append (pipe c l).processed (x.msg ∷ []) in
-    let at : k ≡ length (pipe c l).processed = omega (arith, lo, hi, n, one) in
+    let at : k ≡ length (pipe c l).processed = omega (arith, lo, hi, ap length grew, one) in
     let same : Some x.msg ≡ Some m = sym (head_place (pipe c l) x.msg x.head_is) ∙ ap (slice_get (all_of (pipe c l))) (sym at) ∙ there in
     let is : x.msg ≡ m = cc in
     (r, sends, refl, x.head_is ∙ same, subst (λ y. May (view_of s l) c (waits c l) y r) is x.may)

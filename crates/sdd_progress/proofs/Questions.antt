@@ -26,14 +26,12 @@ one_hand low high [] j k q r h e f same = cc
 one_hand low high (x ∷ qs) zero zero q r h e f same = let p : Some q ≡ Some r = sym e ∙ f in cc
 one_hand low high (x ∷ qs) zero (suc k) q r h e f same =
     let p : x ≡ q = cc in
-    let up = risen x.hand high qs k r h.1 f in
     let here : x.hand ≡ q.hand = ap (λ (y : Question). y.hand) p in
-    absurd (omega (arith, up, here, same))
+    absurd (omega (arith, risen x.hand high qs k r h.1 f, here, same))
 one_hand low high (x ∷ qs) (suc j) zero q r h e f same =
     let p : x ≡ r = cc in
-    let up = risen x.hand high qs j q h.1 e in
     let here : x.hand ≡ r.hand = ap (λ (y : Question). y.hand) p in
-    absurd (omega (arith, up, here, same))
+    absurd (omega (arith, risen x.hand high qs j q h.1 e, here, same))
 one_hand low high (x ∷ qs) (suc j) (suc k) q r h e f same = one_hand x.hand high qs j k q r h.1 e f same
 
 apart_at : (n : ℕ) (qs : List Question) (k : ℕ) (q : Question) → AllByRecursion (λ (x : Question). x.hand ≢ n) qs → slice_get qs k ≡ Some q → q.hand ≢ n
@@ -75,10 +73,9 @@ asks_low at (Handed from m ∷ log) q h = elim (asked_in (suc (hands log)) from 
   | inl p ↦ bound_up at (Handed from m) log q.time (asks_low at log q p)
   | inr p ↦ subst (λ (x : Question). x.time ≤ bound_of (clock at (Handed from m ∷ log))) p.3 (ask_low at from m log p.0 p.1 p.2)
 ]
-asks_low at (Ticked n ∷ log) q h = bound_up at (Ticked n) log q.time (asks_low at log q h)
 asks_low at (Submits n txn ∷ log) q h = asks_low at log q h
-asks_low at (Redeclared era t ∷ log) q h = bound_up at (Redeclared era t) log q.time (asks_low at log q h)
 asks_low at (Did act ∷ log) q h = bound_up at (Did act) log q.time (asks_low at log q (acted_in act (asks log) q h))
+asks_low at (x ∷ log) q h = bound_up at x log q.time (asks_low at log q h)
 
 -- what a send of a transaction module answers: no hand, the last HOLD, or, as a NULL, an open ASK
 

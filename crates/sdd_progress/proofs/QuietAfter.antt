@@ -1,5 +1,5 @@
 -- Where a settle has ended the links are quiet.
-use Rattle.sdd_progress.proofs.AllEnds.{Bool, Deliver, Down, Entry, Event, Input, IsLawful, List, Log, Lose, Mark, None, Redeclare, Redeclares, Repeat, Resend, Round, Settle, Some, Submit, Tick, Up, [], after_mark, all_links, ap, calls_of, complete_parts, false, from_event, left, mark_from, mark_of, next, quiet, refl, round, subst, sym, tail_of, true, with_event, ℕ, ◌++◌, ◌∙◌, ◌∷◌, ◌≡◌}
+use Rattle.sdd_progress.proofs.AllEnds.{Bool, Entry, Event, Input, IsLawful, List, Log, Mark, None, Redeclare, Redeclares, Round, Settle, Some, Up, [], after_mark, all_links, ap, calls_of, complete_parts, false, from_event, left, mark_from, mark_of, next, quiet, refl, round, subst, sym, tail_of, true, with_event, ℕ, ◌++◌, ◌∙◌, ◌∷◌, ◌≡◌}
 use Rattle.sdd_progress.proofs.Marked.{next_is_of_events}
 
 -- an event behind a settle
@@ -44,15 +44,7 @@ ends_on : (ws : List Event) (e : Event) (rest : List Event) → from_event ws �
 unfolding ends is_settle
 ends_on [] e rest h p = absurd (cc)
 ends_on (Settle ∷ ws) e rest h p = ends_on ws e rest h (sym (ends_later ws e rest h) ∙ p)
-ends_on (Submit n ∷ ws) e rest h p = subst (λ xs. ends false xs ≡ true) (rest_is (Submit n) e ws rest h) p
-ends_on (Deliver a b k ∷ ws) e rest h p = subst (λ xs. ends false xs ≡ true) (rest_is (Deliver a b k) e ws rest h) p
-ends_on (Lose a b k ∷ ws) e rest h p = subst (λ xs. ends false xs ≡ true) (rest_is (Lose a b k) e ws rest h) p
-ends_on (Repeat a b k ∷ ws) e rest h p = subst (λ xs. ends false xs ≡ true) (rest_is (Repeat a b k) e ws rest h) p
-ends_on (Resend a b ∷ ws) e rest h p = subst (λ xs. ends false xs ≡ true) (rest_is (Resend a b) e ws rest h) p
-ends_on (Tick t n ∷ ws) e rest h p = subst (λ xs. ends false xs ≡ true) (rest_is (Tick t n) e ws rest h) p
-ends_on (Redeclare ∷ ws) e rest h p = subst (λ xs. ends false xs ≡ true) (rest_is Redeclare e ws rest h) p
-ends_on (Down d ∷ ws) e rest h p = subst (λ xs. ends false xs ≡ true) (rest_is (Down d) e ws rest h) p
-ends_on (Up d ∷ ws) e rest h p = subst (λ xs. ends false xs ≡ true) (rest_is (Up d) e ws rest h) p
+ends_on (w ∷ ws) e rest h p = subst (λ xs. ends false xs ≡ true) (rest_is w e ws rest h) p
 
 -- a mark or a class list is that of the first event with a mark
 
@@ -80,16 +72,7 @@ first_taken : (g : Input) (log : Log) (q : Bool) (events ws : List Event) (x : E
 first_taken g log q events [] x h = absurd (cc)
 first_taken g log true events (Settle ∷ ws) x h = settle_first x ws (first_taken g log true events ws x h)
 first_taken g log false events (Settle ∷ ws) x h = round_first events (Settle ∷ ws) x h
-first_taken g log true events (Redeclare ∷ ws) x h = takes_first (Redeclare ∷ ws) Redeclare ws x refl
-first_taken g log false events (Redeclare ∷ ws) x h = takes_first (Redeclare ∷ ws) Redeclare ws x refl
-first_taken g log q events (Submit n ∷ ws) x h = takes_first (Submit n ∷ ws) (Submit n) ws x refl
-first_taken g log q events (Deliver a b k ∷ ws) x h = takes_first (Deliver a b k ∷ ws) (Deliver a b k) ws x refl
-first_taken g log q events (Lose a b k ∷ ws) x h = takes_first (Lose a b k ∷ ws) (Lose a b k) ws x refl
-first_taken g log q events (Repeat a b k ∷ ws) x h = takes_first (Repeat a b k ∷ ws) (Repeat a b k) ws x refl
-first_taken g log q events (Resend a b ∷ ws) x h = takes_first (Resend a b ∷ ws) (Resend a b) ws x refl
-first_taken g log q events (Tick t n ∷ ws) x h = takes_first (Tick t n ∷ ws) (Tick t n) ws x refl
-first_taken g log q events (Down d ∷ ws) x h = takes_first (Down d ∷ ws) (Down d) ws x refl
-first_taken g log q events (Up d ∷ ws) x h = takes_first (Up d ∷ ws) (Up d) ws x refl
+first_taken g log _ events (w ∷ ws) x h = takes_first (w ∷ ws) w ws x refl
 
 after_first : (ws : List Event) → (f : Event) × (rest : List Event) × (from_event ws ≡ f ∷ rest) → ends false ws ≡ true
     → ends false (tail_of (from_event ws)) ≡ true

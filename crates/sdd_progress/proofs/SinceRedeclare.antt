@@ -1,5 +1,5 @@
 -- A READ that waits is of an attempt that started since the last class list was put in force, where all was idle then.
-use Rattle.sdd_progress.proofs.All.{ClassNo, Cond, D, Did, Does, Entry, Hand, Input, IsClass, IsIdle, IsIdleAtRedeclares, IsModule, IsPermitted, IsPutAt, IsQuiet, IsSoundCatalogue, List, Log, Mark, Msg, Notes, Read, Redeclares, Round, Site, Some, Submitted, Ts, TxnNo, Use, [], ap, append-nil, append_assoc, arith, at_module, class_number, class_puts, dm_no, head, head_place, home, home_small, in_class, in_pipe_later, inl, inr, is_put, length, local_at, local_grows, local_of, one_of_key, own_made, pipe, place_within, processed_grows, processed_stays, puts_to, read_at, reads_strict, redeclares, refl, same_number, slice_get, subst, sym, true, ℕ, ◌++◌, ◌==◌, ◌∙◌, ◌∷◌, ◌≡◌, ◌≤◌, ◌⊎◌}
+use Rattle.sdd_progress.proofs.All.{ClassNo, Cond, D, Did, Does, Entry, Input, IsClass, IsIdle, IsIdleAtRedeclares, IsModule, IsPermitted, IsPutAt, IsQuiet, IsSoundCatalogue, List, Log, Msg, Read, Redeclares, Site, Some, Ts, TxnNo, Use, [], ap, append-nil, append_assoc, arith, at_module, class_number, class_puts, dm_no, head, head_place, home, home_small, in_class, in_pipe_later, inl, inr, is_put, length, local_at, local_grows, local_of, one_of_key, own_made, pipe, place_within, processed_grows, processed_stays, puts_to, read_at, reads_strict, redeclares, refl, same_number, slice_get, subst, sym, true, ℕ, ◌++◌, ◌==◌, ◌∙◌, ◌∷◌, ◌≡◌, ◌≤◌, ◌⊎◌}
 use Rattle.sdd_progress.proofs.Applied.{pipe_has_all}
 
 -- a longer log puts no fewer lists in force
@@ -28,13 +28,8 @@ further e later before same (inr m) = inr (record { after = e ∷ m.after; time 
 
 pub redeclare_in : (later before : Log) → (redeclares (later ++ before) ≡ redeclares before) ⊎ HasRedeclare later
 redeclare_in [] before = inl refl
-redeclare_in (Mark e ∷ later) before = further (Mark e) later before refl (redeclare_in later before)
-redeclare_in (Round es ∷ later) before = further (Round es) later before refl (redeclare_in later before)
 redeclare_in (Redeclares t ∷ later) before = inr (record { after = []; time = t; rest = later; is = refl })
-redeclare_in (Hand a b n m ∷ later) before = further (Hand a b n m) later before refl (redeclare_in later before)
-redeclare_in (Submitted at n ∷ later) before = further (Submitted at n) later before refl (redeclare_in later before)
-redeclare_in (Notes ∷ later) before = further Notes later before refl (redeclare_in later before)
-redeclare_in (Does at act ∷ later) before = further (Does at act) later before refl (redeclare_in later before)
+redeclare_in (x ∷ later) before = further x later before refl (redeclare_in later before)
 
 read_key : (c : ℕ) (ts : Ts) (of : ClassNo) (txn : TxnNo) (attempt : ℕ) (conds : List Cond) (uses : List Use) → of.0 ≡ c
     → read_at c (Read ts of txn attempt conds uses) ≡ Some ts.0
@@ -57,22 +52,19 @@ not_put_by g log later mid between c d ts of txn attempt conds uses h sound l m 
     let all : class_puts g c (dm_no d) mid ≡ pm.processed =
     sym (pipe_has_all g mid c d quiet sound l m) ∙ ap (λ ms. pm.processed ++ ms) (idle.processed c d l m) ∙ append-nil pm.processed in
     let done : slice_get pm.processed i.0 ≡ Some x = subst (λ ms. slice_get ms i.0 ≡ Some x) all i.1 in
-    let within = place_within pm.processed i.0 x done in
     let grown = in_pipe_later g c (dm_no d) later mid quiet.permitted in
     let at1 : slice_get (class_puts g c (dm_no d) log) i.0 ≡ Some x =
     subst (λ ms. slice_get ms i.0 ≡ Some x) (sym (ap (class_puts g c (dm_no d)) is ∙ grown.1)) (processed_stays pm grown.0 i.0 x done) in
     let pl = pipe c (at_module g d log) in
     let at2 : slice_get (class_puts g c (dm_no d) log) (length pl.processed) ≡ Some x = head_place g c (dm_no d) [] log x h e in
     let key : read_at c x ≡ Some ts.0 = read_key c ts of txn attempt conds uses (class_number of.0 c ts.0 p.of_class) in
-    let low = home_small g.catalogue sound c in
     let one : i.0 ≡ length pl.processed =
     one_of_key (read_at c) (class_puts g c (dm_no d) log) i.0 (length pl.processed) x x ts.0
-    (reads_strict g c (dm_no d) log h (omega (arith, low))) at1 at2 key key in
+    (reads_strict g c (dm_no d) log h (omega (arith, home_small g.catalogue sound c))) at1 at2 key key in
     let lg = local_grows g (D (dm_no d)) later mid in
-    let more = processed_grows c lg.0 (at_module g d mid) in
     let same : length pl.processed ≡ length (pipe c (lg.0 ++ at_module g d mid)).processed =
     ap (λ z. length (pipe c z).processed) (ap (at_module g d) is ∙ lg.1) in
-    absurd (omega (arith, within, one, more, same))
+    absurd (omega (arith, place_within pm.processed i.0 x done, one, processed_grows c lg.0 (at_module g d mid), same))
 
 -- so it was put since the last list was put in force
 pub since_redeclare : (g : Input) (log : Log) (c d : ℕ) (ts : Ts) (of : ClassNo) (txn : TxnNo) (attempt : ℕ) (conds : List Cond) (uses : List Use)

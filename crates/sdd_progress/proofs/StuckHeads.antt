@@ -1,6 +1,5 @@
 -- Where nothing is due at a data module, the head of each pipe is stuck.
-use Rattle.sdd_progress.proofs.AllWaits.{Bool, Handed, Home, IsClassHere, IsStuck, List, Msg, None, Option, Processes, Read, Setting, Some, View, Write, [], act_where, all_handed, all_there, ap, class_there, class_view, due, false, first_some, goes_through, head, head_due, home_of, if◌then◌else◌, is_held, is_met, length, list_all, neither_some, open_due, pipe, refl, slice_get, step_on, subst, suc, sym, true, view_of, waits, zero, ℕ, ◌++◌, ◌∙◌, ◌∷◌, ◌≡◌}
-use Rattle.sdd_progress.proofs.Passing.{head_place}
+use Rattle.sdd_progress.proofs.AllWaits.{Bool, Handed, Home, IsClassHere, IsStuck, List, Msg, None, Option, Processes, Read, Setting, Some, View, Write, [], act_where, all_handed, all_there, ap, class_there, class_view, due, false, first_some, goes_through, head, head_due, head_place, home_of, if◌then◌else◌, is_held, is_met, length, list_all, neither_some, open_due, pipe, refl, slice_get, step_on, subst, suc, sym, true, view_of, waits, zero, ℕ, ◌++◌, ◌∙◌, ◌∷◌, ◌≡◌}
 use Rattle.sdd_obligations.specs.site_module.SiteLog.{Log}
 use Rattle.sdd_obligations.specs.dm.declared.step.Step.{Step}
 
@@ -16,11 +15,10 @@ none_at f (y ∷ xs) (suc k) x e g = none_at f xs k x (neither_some (f y) (first
 pushed_through : (c : ℕ) (b : Bool) (xs : List Msg) (m : Msg) → b ≡ goes_through c m
     → ((k : ℕ) (x : Msg) → slice_get xs k ≡ Some x → goes_through c x ≡ true) → (k : ℕ) (x : Msg)
     → slice_get (if b then xs ++ m ∷ [] else xs) k ≡ Some x → goes_through c x ≡ true
-pushed_through c false xs m e f k x g = f k x g
 pushed_through c true [] m e f zero x g = let p : m ≡ x = cc in subst (λ y. goes_through c y ≡ true) p (sym e)
 pushed_through c true [] m e f (suc k) x g = cc
-pushed_through c true (y ∷ xs) m e f zero x g = f zero x g
 pushed_through c true (y ∷ xs) m e f (suc k) x g = pushed_through c true xs m e (λ n z q. f (suc n) z q) k x g
+pushed_through c _ _ m e f k x g = f k x g
 
 all_through : (c : ℕ) (log : Log) (k : ℕ) (x : Msg) → slice_get (all_handed c log) k ≡ Some x → goes_through c x ≡ true
 all_through c [] k x e = cc

@@ -7,23 +7,16 @@ total f (x ∷ xs) = f x + total f xs
 
 pub total_up : {A : Type 0} (f g : A → ℕ) (xs : List A) → ((x : A) → f x ≤ g x) → total f xs ≤ total g xs
 total_up f g [] h = omega arith
-total_up f g (x ∷ xs) h =
-    let i = total_up f g xs h in
-    let l = h x in
-    omega (arith, i, l)
+total_up f g (x ∷ xs) h = omega (arith, total_up f g xs h, h x)
 
 -- where none rises and one falls, the sum falls
 pub total_less : {A : Type 0} (f g : A → ℕ) (xs : List A) (k : ℕ) (x : A) → slice_get xs k ≡ Some x
     → ((y : A) → f y ≤ g y) → f x < g x → total f xs < total g xs
 total_less f g [] k x e h l = absurd (cc)
 total_less f g (y ∷ xs) zero x e h l =
-    let i = total_up f g xs h in
     let m : f y < g y = subst (λ z. f z < g z) (sym (same_Some y x e)) l in
-    omega (arith, i, m)
-total_less f g (y ∷ xs) (suc k) x e h l =
-    let i = total_less f g xs k x e h l in
-    let m = h y in
-    omega (arith, i, m)
+    omega (arith, total_up f g xs h, m)
+total_less f g (y ∷ xs) (suc k) x e h l = omega (arith, total_less f g xs k x e h l, h y)
 
 -- of each class: one falls, and the others stay
 pub by_class : (f g : ℕ → ℕ) (k : ℕ) → f k < g k → ((c : ℕ) → (k == c) ≡ false → f c ≡ g c) → (c : ℕ) → f c ≤ g c
@@ -36,9 +29,8 @@ by_class f g k l h c = elim (same_or_not k c) [
 pub filter_shorter : {A : Type 0} (p : A → Bool) (xs : List A) (k : ℕ) (x : A) → slice_get xs k ≡ Some x → p x ≡ false → length (filter p xs) < length xs
 filter_shorter p [] k x e f = absurd (cc)
 filter_shorter p (y ∷ xs) zero x e f =
-    let i = filter_short p xs in
     let g : p y ≡ false = subst (λ z. p z ≡ false) (sym (same_Some y x e)) f in
-    rw g (omega (arith, i))
+    rw g (omega (arith, filter_short p xs))
 filter_shorter p (y ∷ xs) (suc k) x e f =
     let i = filter_shorter p xs k x e f in
     elim (p y) as (λ b. length (cond b (y ∷ filter p xs) (filter p xs)) < suc (length xs)) [ true ↦ omega (arith, i) | false ↦ omega (arith, i) ]

@@ -1,21 +1,9 @@
 -- The READ of an undeclared transaction is never rejected, and holds no WRITE back: what is put with a later timestamp was
 -- started once that transaction was applied at every module.
-use Rattle.sdd_progress.proofs.AllWaits.{Act, Answer, Attempt, Change, ClassNo, Cond, D, DmNo, Does, HasAnswer, Input, IsApplyOf, IsClassOf, IsPermitted, IsSoundCatalogue, List, Log, Msg, Part, Read, Records, Rejected, Setting, Site, Some, Ts, TxnNo, Use, Write, all_applied, allowed_act, and_left, and_right, answered_before, answered_there, any_at, ap, append_assoc, arith, class_at, class_number, commit_t, d_step, head, head_put, holds, holds_back, home_of, in_range, inl, inr, le_is, length, local_of, low_or_high, nat_le, never_spoilt, not_both, own_time, part_join, part_of, permitted_part, pipe_at, read_classes, read_of, setting_of, slice_get, sound_whole, spoils, subst, sym, true, u_stamp, view_of, write_origin, ℕ, ◌++◌, ◌==◌, ◌∙◌, ◌∷◌, ◌≡◌, ◌≤◌}
-use Rattle.sdd_progress.proofs.ClassSites.{class_served, home_of_class, in_runs, range_there}
+use Rattle.sdd_progress.proofs.AllWaits.{Act, Change, ClassNo, Cond, D, DmNo, Does, Input, IsApplyOf, IsClassOf, IsPermitted, IsSoundCatalogue, List, Log, Msg, Read, Records, Rejected, Setting, Site, Some, Ts, TxnNo, Use, Write, all_applied, allowed_act, and_left, and_right, answered_before, any_at, arith, class_at, class_number, commit_t, d_step, head, head_put, holds, holds_back, in_range, inl, inr, le_is, length, local_of, low_or_high, nat_le, never_spoilt, not_again, not_both, own_time, part_join, part_of, permitted_part, pipe_at, range_there, read_classes, read_of, setting_of, slice_get, sound_whole, spoils, subst, sym, true, u_stamp, view_of, write_origin, ℕ, ◌==◌, ◌∙◌, ◌∷◌, ◌≡◌, ◌≤◌}
+use Rattle.sdd_progress.proofs.ClassSites.{class_served, home_of_class, in_runs}
 use Rattle.sdd_progress.proofs.Rejected.{IsRejecting, rejecting, spoiler_there}
 use Rattle.sdd_obligations.specs.site_module.SiteLog as site
-
--- the READ of an undeclared transaction that is answered doesn't stand at the head again
-not_again : (g : Input) (d : DmNo) (log : Log) (a : Attempt) (ts : Ts) (k : ClassNo) (txn : TxnNo) (n : ℕ) (ds : List Cond) (us : List Use) (before : Log)
-    → IsPermitted g log → head (pipe_at g 0 d log) ≡ Some (Read ts k txn n ds us) → Part log before → HasAnswer g before d 0 a → a.ts ≡ ts.0 → ⊥
-not_again g d log a ts k txn n ds us before h e p w same =
-    let ans : Act = Records 0 (Answer w.txn w.attempt (home_of (setting_of g (D d))).dm) w.sends in
-    let whole : log ≡ (p.0 ++ w.later) ++ Does (D d) ans ∷ w.before = p.1 ∙ ap (λ l. p.0 ++ l) w.is
-    ∙ sym (append_assoc p.0 w.later (Does (D d) ans ∷ w.before)) in
-    answered_there g 0 d (p.0 ++ w.later) w.before
-    (home_of (setting_of g (D d))).dm w.sends w.ts ts w.of k w.txn w.txn txn w.attempt w.attempt n w.conds ds w.uses us (subst (IsPermitted g) whole h)
-    (omega arith)
-    w.head_is (subst (λ l. head (pipe_at g 0 d l) ≡ Some (Read ts k txn n ds us)) whole e) (w.ts_is ∙ same)
 
 -- while it stands there, nothing that is put is of a declared transaction with its timestamp or a later one
 none_later : (g : Input) (i num w : ℕ) (d : DmNo) (log : Log) (ts : Ts) (of : ClassNo) (txn : TxnNo) (n : ℕ) (ds : List Cond) (us : List Use)
@@ -24,16 +12,13 @@ none_later : (g : Input) (i num w : ℕ) (d : DmNo) (log : Log) (ts : Ts) (of : 
 none_later g i num w d log ts of txn n ds us h sound c lo hi e le cm =
     let t : ℕ = (class_at g.catalogue i).tm.0 in
     let served = class_served g.catalogue i sound c in
-    let whole = sound_whole g.catalogue sound in
-    let few : g.catalogue.tms ≤ 16 = whole.few_tms in
-    let from = served.module_from in
+    let few : g.catalogue.tms ≤ 16 = (sound_whole g.catalogue sound).few_tms in
     let to = served.module_to in
-    let k = range_there 1 g.catalogue.tms t from (omega arith) in
+    let k = range_there 1 g.catalogue.tms t served.module_from (omega arith) in
     let kd = range_there 1 g.catalogue.dms d.0 lo (omega arith) in
     let j = in_runs g i c in
-    let hm = home_of_class g.catalogue i c in
     let r = (read_of g 0 d log ts of txn n ds us h e).1 in
-    let ct = commit_t g t i log cm.later cm.before cm.bases cm.attempt h hm cm.is cm.active_is in
+    let ct = commit_t g t i log cm.later cm.before cm.bases cm.attempt h (home_of_class g.catalogue i c) cm.is cm.active_is in
     elim (low_or_high g k.0 t i j.0 log r.later r.before r.queued cm.attempt ct k.1 j.1 (omega arith) h r.is) [
       | inl low ↦ (let b = low.below in omega (arith, b, le, r.ts_is, cm.ts_is))
       | inr high ↦ (let p1 = part_of log high.start.later _ high.start.rest high.start.is in

@@ -1,10 +1,10 @@
 -- What the laws say of the worked logs of specs/Examples: an undeclared query beside a put, and a query that is rejected in
 -- the event in which it comes.
-use Rattle.sdd_progress.proofs.AllWaits.{AreSubmittedOnce, D, Does, EndsAnEvent, IsAnsweredIn, IsApplied, IsLow, IsPermitted, IsRejectedAfter, IsRejectedIn, IsSoundCatalogue, List, Msg, Read, Ready, Records, Reject, Rejected, Site, Some, T, U, Write, [], arith, base_of, changes_of_put, class_no, conds_of_query, conds_of_spoilt, dm_no, extended, given_put_first, given_put_later, given_spoilt, head, holds_back, in_its_event, inl, inr, lawful_permitted, lit<, lit≤, low_applied, low_or_high, one_if, one_writer, pipe_at, put_attempt, put_commits, put_first, put_handed, query_queued, read_handed, refl, same_or_not, subst, take, three_classes, time_at, tm_no, true, txn_no, u_stamp, uses_of_query, uses_of_spoilt, ℕ, ◌++◌, ◌+◌, ◌<◌, ◌==◌, ◌∷◌, ◌≡◌, ◌≤◌, ◌⊎◌}
+use Rattle.sdd_progress.proofs.AllWaits.{AreSubmittedOnce, D, Does, EndsAnEvent, IsAnsweredIn, IsApplied, IsLow, IsPermitted, IsRejectedAfter, IsRejectedIn, IsSoundCatalogue, List, Msg, Read, Ready, Records, Reject, Rejected, Site, Some, T, U, Write, [], arith, base_of, changes_of_put, class_no, conds_of_query, conds_of_spoilt, dm_no, extended, given_put_first, given_put_later, given_spoilt, head, holds_back, in_its_event, inl, inr, lawful_permitted, lit<, lit≤, low_applied, low_or_high, one_at_most, one_if, one_writer, pipe_at, put_attempt, put_commits, put_first, put_handed, query_queued, read_handed, refl, same_or_not, subst, take, three_classes, time_at, tm_no, true, txn_no, u_stamp, uses_of_query, uses_of_spoilt, ℕ, ◌++◌, ◌+◌, ◌<◌, ◌==◌, ◌∷◌, ◌≡◌, ◌≤◌, ◌⊎◌}
 use Rattle.sdd_obligations.specs.catalog.Rules.{faults_of}
 use Rattle.sdd_progress.proofs.OfLawful.{answered_or_rejected}
 use Rattle.sdd_progress.proofs.UndeclaredReads.{holds_none, not_rejected}
-use Rattle.sdd_progress.proofs.WorkedLogs.{made_lawful, one_at_most, one_not_zero}
+use Rattle.sdd_progress.proofs.WorkedLogs.{made_lawful, one_not_zero}
 
 pub writer_is_sound : IsSoundCatalogue one_writer
 unfolding faults_of

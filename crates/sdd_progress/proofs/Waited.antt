@@ -1,5 +1,5 @@
 -- A READ that waits began to by a Wait, since when nothing of its pipe was processed.
-use Rattle.sdd_progress.proofs.AllWaits.{Act, Bool, Change, ClassNo, ClassView, Cond, Did, Each, Fetch, Handed, Home, IsClassHere, IsDue, IsDueEach, IsWaitOf, List, Msg, None, Null, Open, Option, Pipe, Processes, Read, Rec, Records, Redeclared, Reduce, Sends, Setting, Ship, Site, Some, Submits, Ticked, Ts, TxnNo, Use, View, WaitsSince, Write, [], act_by, act_where, answer_of, answer_to, ap, by_head, by_open, class_at_place, false, filter, goes_through, head, head_due, head_of, home_of, if◌then◌else◌, inl, inr, is_asked_of, is_held, is_met, is_processing, is_wait, judged, lacking, list_all, not_both, not_own, pipe, processed_handed, put, refl, same_number, same_or_not, spoiler, step_on, subst, sym, true, view_of, waits, ℕ, ◌++◌, ◌==◌, ◌||◌, ◌∙◌, ◌∷◌, ◌≡◌, ◌⊎◌}
+use Rattle.sdd_progress.proofs.AllWaits.{Act, Bool, Change, ClassNo, ClassView, Cond, Did, Each, Fetch, Handed, Home, IsClassHere, IsDue, IsDueEach, IsWaitOf, List, Msg, None, Null, Open, Option, Pipe, Processes, Read, Rec, Records, Reduce, Sends, Setting, Ship, Site, Some, Ts, TxnNo, Use, View, WaitsSince, Write, [], act_by, act_where, answer_of, answer_to, ap, by_head, by_open, class_at_place, false, filter, goes_through, head, head_due, head_of, home_of, if◌then◌else◌, inl, inr, is_asked_of, is_held, is_met, is_processing, is_wait, judged, lacking, list_all, not_both, not_own, pipe, processed_handed, put, refl, same_number, same_or_not, spoiler, step_on, subst, sym, true, view_of, waits, ℕ, ◌++◌, ◌==◌, ◌||◌, ◌∙◌, ◌∷◌, ◌≡◌, ◌⊎◌}
 use Rattle.sdd_obligations.specs.site_module.SiteLog.{Entry, Log}
 
 -- what is due and records a Wait is that of a head
@@ -135,8 +135,5 @@ pub since : (s : Setting) (c : ℕ) (log : Log) → Each (IsDueEach s) log → w
 since s c [] h w = cc
 since s c (Handed from m ∷ log) h w =
     since_on s c (Handed from m) log (processed_handed c from m log) (λ x e. handed_same (goes_through c m) (pipe c log) m x e) (since s c log h.1 w)
-since s c (Ticked n ∷ log) h w = since_on s c (Ticked n) log refl (λ x e. refl) (since s c log h.1 w)
-since s c (Submits n txn ∷ log) h w = since_on s c (Submits n txn) log refl (λ x e. refl) (since s c log h.1 w)
-since s c (Redeclared era t ∷ log) h w = since_on s c (Redeclared era t) log refl (λ x e. refl) (since s c log h.1 w)
 since s c (Did (Records k r sends) ∷ log) h w = by_class s c k r sends log h.0 (λ z. since s c log h.1 z) w
-since s c (Did (Sends to m hand) ∷ log) h w = since_on s c (Did (Sends to m hand)) log refl (λ x e. refl) (since s c log h.1 w)
+since s c (y ∷ log) h w = since_on s c y log refl (λ x e. refl) (since s c log h.1 w)

@@ -23,9 +23,7 @@ first_le [] k x m h e f = cc
 first_le (y ∷ ms) zero x m h e f = let p : y ≡ x = cc in let q : y ≡ m = cc in let same : time_of x ≡ time_of m = ap time_of (sym p ∙ q) in omega (arith, same)
 first_le (y ∷ ms) (suc k) x m h e f =
     let p : y ≡ x = cc in
-    let l = least_at (time_of y) ms k m h.0 f in
-    let same : time_of y ≡ time_of x = ap time_of p in
-    omega (arith, l, same)
+    omega (arith, least_at (time_of y) ms k m h.0 f, ap time_of p)
 
 rising_right : (xs ys : List Msg) → IsRising (map time_of (xs ++ ys)) → IsRising (map time_of ys)
 rising_right [] ys h = h

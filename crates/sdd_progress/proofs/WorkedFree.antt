@@ -1,8 +1,8 @@
 -- Worked logs of a free class: a query is answered and a put applied before the event is over in which it is handed over.
-use Rattle.sdd_progress.proofs.AllWaits.{All-from_recursion, AreBlocks, Catalogue, Change, D, Deliver, EndsAnEvent, Era, Hand, Input, Int, IsAnsweredIn, IsAppliedIn, IsEra, IsFree, IsFreeClass, IsRejectedAfter, IsSimpleCycle, IsSoundCatalogue, IsTable, Joins, List, Log, Msg, OnACycle, P1, Put, Query, Read, Some, Step, Submit, T, Txn, Use, Vertical, Write, [], arith, class_no, dm_no, extended, frag_no, inl, inr, lit≤, local_of, negsuc, pos, protocol_in, queue, refl, rel_no, setting_of, slice_get, subst, suc, sym, take, time_at, tm_no, txn_no, zero, ℕ, ◌++◌, ◌==◌, ◌∙◌, ◌∷◌, ◌≡◌, ◌⊎◌}
+use Rattle.sdd_progress.proofs.AllWaits.{All-from_recursion, AreBlocks, Catalogue, Change, D, Deliver, EndsAnEvent, Era, Hand, Input, Int, IsAnsweredIn, IsAppliedIn, IsEra, IsFree, IsFreeClass, IsRejectedAfter, IsSimpleCycle, IsSoundCatalogue, IsTable, Joins, List, Log, Msg, OnACycle, P1, Put, Query, Read, Some, Step, Submit, T, Txn, Use, Vertical, Write, [], arith, class_no, dm_no, extended, frag_no, inl, inr, lit≤, local_of, negsuc, one_at_most, pos, protocol_in, queue, refl, rel_no, setting_of, slice_get, subst, suc, sym, take, time_at, tm_no, txn_no, zero, ℕ, ◌++◌, ◌==◌, ◌∙◌, ◌∷◌, ◌≡◌, ◌⊎◌}
 use Rattle.sdd_obligations.specs.catalog.Rules.{faults_of}
 use Rattle.sdd_progress.proofs.OfLawful.{answered_by_end, answered_or_rejected, applied_by_end, idle_starts}
-use Rattle.sdd_progress.proofs.WorkedLogs.{made_lawful, one_at_most}
+use Rattle.sdd_progress.proofs.WorkedLogs.{made_lawful}
 use Rattle.sdd_obligations.specs.catalog.declared.parts.Kind.TheVariants as kinds
 use Rattle.sdd_obligations.specs.protocol.declared.entry.Entry as line
 

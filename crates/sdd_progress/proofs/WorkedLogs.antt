@@ -1,6 +1,6 @@
 -- Worked logs that meet what the laws ask. Two classes, each of which reads what the other writes: a query waits until the
 -- other class has passed its time, and is answered then; or it comes behind a later put, and is rejected.
-use Rattle.sdd_progress.proofs.AllWaits.{Act, AreConditionsOf, AreSubmittedOnce, Bool, Catalogue, Cond, Const, D, Deliver, Diagonal, Does, EndsAnEvent, Era, Event, Input, Int, IsAnsweredIn, IsLawful, IsPermitted, IsRejectOf, IsSoundCatalogue, IsStuck, Le, List, Log, None, P1, P3, Put, Query, Read, Records, Reject, Rejected, Setting, Some, Submit, T, Txn, Use, Vertical, WaitsSince, [], arith, class_no, d_fair, dm_no, extended, false, frag_no, inl, inr, lawful_permitted, lit<, lit≤, local_of, negsuc, next, one_if, passed, pipe_at, pos, refl, rel_no, same_or_not, setting_of, subst, suc, take, time_at, tm_no, true, txn_no, zero, ℕ, ◌++◌, ◌+◌, ◌==◌, ◌∷◌, ◌≡◌, ◌≢◌, ◌≤◌}
+use Rattle.sdd_progress.proofs.AllWaits.{Act, AreConditionsOf, AreSubmittedOnce, Catalogue, Cond, Const, D, Deliver, Diagonal, Does, EndsAnEvent, Era, Event, Input, Int, IsAnsweredIn, IsLawful, IsPermitted, IsRejectOf, IsSoundCatalogue, IsStuck, Le, List, Log, None, P1, P3, Put, Query, Read, Records, Reject, Rejected, Setting, Some, Submit, T, Txn, Use, Vertical, WaitsSince, [], arith, class_no, d_fair, dm_no, extended, frag_no, inl, inr, lawful_permitted, lit<, lit≤, local_of, negsuc, next, one_at_most, one_if, passed, pipe_at, pos, refl, rel_no, same_or_not, setting_of, subst, suc, take, time_at, tm_no, true, txn_no, zero, ℕ, ◌++◌, ◌+◌, ◌==◌, ◌∷◌, ◌≡◌, ◌≢◌, ◌≤◌}
 use Rattle.sdd_obligations.specs.catalog.Rules.{faults_of}
 use Rattle.sdd_progress.proofs.FromTable.{conditions_of}
 use Rattle.sdd_progress.proofs.OfLawful.{answered}
@@ -60,10 +60,6 @@ made_lawful (suc n) g log h =
       | None ↦ λ p. h
       | Some e ↦ λ p. made_lawful n g (e ∷ log) (p, h)
     ] refl
-
-pub one_at_most : (b : Bool) → one_if b ≤ 1
-one_at_most true = omega arith
-one_at_most false = omega arith
 
 -- the READ of the query
 

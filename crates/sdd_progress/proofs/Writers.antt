@@ -3,6 +3,7 @@ use Rattle.sdd_progress.proofs.All.{AllByRecursion, Catalogue, Commit, Committed
 use Rattle.std.specs.List.{IsDistinct}
 use Rattle.sdd_progress.proofs.Places.{Passes, few_places}
 use Rattle.sdd_obligations.specs.serial_orders.Attempts.{Attempt}
+use Rattle.sdd_progress.proofs.FewClasses.{each_weaker}
 
 -- the lower one of an attempt's two times
 abbrev pub low_time : Attempt → ℕ
@@ -37,10 +38,6 @@ pub record WritersBelow (h : History) (n bound count : ℕ) : Type 0 where
 none_below : (h : History) (n bound : ℕ) → WritersBelow h n bound 0
 unfolding IsDistinct
 none_below h n bound = record { places = []; many = refl; differ = tt; each = tt }
-
-pub each_weaker : {P Q : ℕ → Type 0} → ((k : ℕ) → P k → Q k) → (ks : List ℕ) → AllByRecursion P ks → AllByRecursion Q ks
-each_weaker f [] all = tt
-each_weaker f (k ∷ ks) all = (f k all.0, each_weaker f ks all.1)
 
 writer_up : (h : History) (n bound most place : ℕ) → bound ≤ most → IsWriterBelow h n bound place → IsWriterBelow h n most place
 writer_up h n bound most place l w = record { txn = w.txn; committed = w.committed; at = w.at; other = w.other; below = let b = w.below in omega arith }
