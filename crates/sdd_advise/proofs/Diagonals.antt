@@ -11,7 +11,8 @@ map-filter f p (x ∷ xs) = grind (arith, nat_tests, (map-filter f p xs))
 -- lists of equal images: what their members at one place have
 images : (advices : List Advice) (entries : List Entry)
     → map (λ (a : Advice). a.edge) advices ≡ map (λ (e : Entry). e.edge) entries
-    → ((k : ℕ) (a : Advice) (e : Entry) → k < length advices → (get_or entries k e).edge ≡ (get_or advices k a).edge → (get_or entries k e).protocol ≡ (get_or advices k a).protocol)
+    → ((k : ℕ) (a : Advice) (e : Entry) → k < length advices → (get_or entries k e).edge ≡ (get_or advices k a).edge → (get_or entries k e).protocol ≡
+    (get_or advices k a).protocol)
     → map advised advices ≡ map listed entries
 images advices entries same right =
     let long : length advices ≡ length entries = sym (length-map advices (λ a. a.edge)) ∙ ap length same ∙ length-map entries (λ e. e.edge) in

@@ -137,7 +137,8 @@ module _ (edges : List Edge) (Goes : Edge → Type 0) (nodes place node first : 
             ];
       }
 
-module _ (edges : List Edge) (Goes : Edge → Type 0) (nodes place : ℕ) (places : List (Option ℕ)) (reached : List Reached) (u : IsUnderWay edges Goes nodes place places reached) where
+module _ (edges : List Edge) (Goes : Edge → Type 0) (nodes place : ℕ) (places : List (Option ℕ)) (reached : List Reached)
+    (u : IsUnderWay edges Goes nodes place places reached) where
   -- what was reached can be reached
   reached_so : (n k : ℕ) → k < n → k < length reached
       → CanReach edges Goes (reached_at reached 0).node (reached_at reached k).node

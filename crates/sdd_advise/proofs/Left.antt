@@ -2,7 +2,8 @@
 use Rattle.sdd_advise.proofs.All.{AreReached, IsLeftAt, IsSearching, Network, Passes, Search, Without, ap, false≢true, is_some, length, place_of, placed_nodes, reached_at, subst, sym, true, ℕ, ◌∙◌, ◌≡◌, ◌≤◌}
 use Rattle.sdd_advise.proofs.Going.{are_reached}
 
-module _ (network : Network) (without : Without) (start wanted place : ℕ) (search : Search) (u : IsSearching network without place search) (at_start : (reached_at search.reached.items 0).node ≡ start) where
+module _ (network : Network) (without : Without) (start wanted place : ℕ) (search : Search) (u : IsSearching network without place search)
+    (at_start : (reached_at search.reached.items 0).node ≡ start) where
   pub left_found : is_some (place_of search.places.items wanted) ≡ true → IsLeftAt network without start wanted search
   left_found has =
       record {

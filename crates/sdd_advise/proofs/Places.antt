@@ -32,7 +32,8 @@ horizontals_unlike cat =
     (λ i e m.
     let r = among_map (λ j. Horizontal (class_no i) (class_no j)) (filter (λ j. nat_lt i j && write_sets_meet cat i j) (classes_of cat)) e m in
     ap first_class (sym r.2))
-    (λ i. unlike_map (λ j. Horizontal (class_no i) (class_no j)) second_class (filter (λ j. nat_lt i j && write_sets_meet cat i j) (classes_of cat)) (λ j. refl) (unlike_filter _ (classes_of cat) (unlike_range 1 _)))
+    (λ i. unlike_map (λ j. Horizontal (class_no i) (class_no j)) second_class (filter (λ j. nat_lt i j && write_sets_meet cat i j) (classes_of cat))
+    (λ j. refl) (unlike_filter _ (classes_of cat) (unlike_range 1 _)))
     (unlike_range 1 _)
 
 -- the diagonals between two classes, from one class
@@ -48,7 +49,9 @@ from_unlike : (cat : Catalogue) (i : ℕ) → Unlike (diagonals_from cat i)
 from_unlike cat i =
     unlike_flat (diagonals_between cat i) second_class (classes_of cat)
     (λ j e m. ap second_class (sym (between cat i j e m).1))
-    (λ j. unlike_map (λ f. Diagonal (class_no i) (class_no j) (frag_no f)) fragment (filter (λ f. not (i == j) && (is_some (reads_at cat i f) && writes cat j f)) (fragments_of cat)) (λ f. refl) (unlike_filter _ (fragments_of cat) (unlike_range 1 _)))
+    (λ j. unlike_map (λ f. Diagonal (class_no i) (class_no j) (frag_no f)) fragment
+    (filter (λ f. not (i == j) && (is_some (reads_at cat i f) && writes cat j f)) (fragments_of cat)) (λ f. refl)
+    (unlike_filter _ (fragments_of cat) (unlike_range 1 _)))
     (unlike_range 1 _)
 
 diagonals_unlike : (cat : Catalogue) → Unlike (diagonal_edges cat)

@@ -8,7 +8,8 @@ pub record IsWayBack (edges : List Edge) (Goes : Edge → Type 0) (places : List
   pub back : IsWay edges Goes (reached_at reached at).node last (reverse way)
   pub later : (a : ℕ) → Has (nodes_of back.steps) a → (k : ℕ) × (at < k) × (place_of places a ≡ Some k)
 
-module _ (edges : List Edge) (Goes : Edge → Type 0) (nodes place : ℕ) (places : List (Option ℕ)) (reached : List Reached) (u : IsUnderWay edges Goes nodes place places reached) (last : ℕ) where
+module _ (edges : List Edge) (Goes : Edge → Type 0) (nodes place : ℕ) (places : List (Option ℕ)) (reached : List Reached)
+    (u : IsUnderWay edges Goes nodes place places reached) (last : ℕ) where
   -- at the last node
   pub at_last : (at : ℕ) → at < length reached → (reached_at reached at).node ≡ last
       → IsWayBack edges Goes places reached last at []

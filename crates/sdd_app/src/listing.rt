@@ -32,7 +32,11 @@ pub enum Listing {
 }
 
 /// What is printed of the catalogue.
-fn print_listing(alloc: Global, catalogue: &Catalogue, listing: Listing) -> Result<Vec<u8>, NoMemory>
+fn print_listing(
+    alloc: Global,
+    catalogue: &Catalogue,
+    listing: Listing,
+) -> Result<Vec<u8>, NoMemory>
     ensures { IfOk result (λ v. Tells listing catalogue.now v.items) }
 {
     match listing {

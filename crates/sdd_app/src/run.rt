@@ -22,7 +22,11 @@ use sdd_lang::sdd_base::{Pages, Shelf, Sink, write_pages};
 use std::alloc::Global;
 
 /// The text that the command prints, or the status of a call that prints none.
-fn carry_out_command<S: Shelf>(alloc: Global, command: Command, shelf: &mut S) -> Result<Pages, Status>
+fn carry_out_command<S: Shelf>(
+    alloc: Global,
+    command: Command,
+    shelf: &mut S,
+) -> Result<Pages, Status>
     requires { IsForm (form_of command) }
     ensures told { (fs : List ShelfFile) → FormIsOver (S.files shelf.old) fs (form_of command.entry)
         → Answers result (λ v. v) (FormComesTo fs (form_of command.entry)) }

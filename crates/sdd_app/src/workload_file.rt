@@ -17,7 +17,11 @@ use sdd_verified::sdd_script::{Workload, read_workload};
 use std::alloc::Global;
 
 /// The workload that the bytes give for the catalogue.
-fn read_workload_bytes(alloc: Global, bytes: &[u8], catalogue: &Catalogue) -> Result<Workload, Status>
+fn read_workload_bytes(
+    alloc: Global,
+    bytes: &[u8],
+    catalogue: &Catalogue,
+) -> Result<Workload, Status>
     ensures told { MatchResult result
         (λ w. workload catalogue.now bytes.now ≡ Ok w) (λ s. Explains s (BlamesWorkload (Some (workload catalogue.now bytes.now)))) }
     ensures valid { IfOk result (λ w. IsValid catalogue.now w) }

@@ -22,7 +22,9 @@ behind c a (Some place) = ap (λ (b : Bool). if b then underway c a.ts a.exchang
 
 by_first : (c : ℕ) (q : queues.Queued) (rest : List queues.Queued) (r : Running) (n : ℕ) (here mine : Bool) → mine ≡ true
     → filter (λ x. not (x.number == q.number)) rest ≡ rest
-    → (if here then underway c r.ts r.exchange else queued_at c (position (λ x. x.number == n) (cond (not mine) (q ∷ filter (λ x. not (x.number == q.number)) rest) (filter (λ x. not (x.number == q.number)) rest))))
+    → (if here then underway c r.ts r.exchange else queued_at c
+    (position (λ x. x.number == n)
+    (cond (not mine) (q ∷ filter (λ x. not (x.number == q.number)) rest) (filter (λ x. not (x.number == q.number)) rest))))
     ≡ at_place c (Some (attempt_of q r)) (cond here (Some 0) (position_from (λ x. x.number == n) 1 rest))
 by_first c q rest r n true mine e same = refl
 by_first c q rest r n false true e same = rw same

@@ -95,7 +95,9 @@ answers_now s bases log c d (Reduced t k u n) a is f all =
 answers_now s bases log c d (Rows t k rows) a is f all =
     later_answered a.ts c d.0 (D d, Rows t k rows) (handed log) ((t.0 == a.ts) && (k.0 == c)) a.exchange
     (with_rows a.exchange (a.exchange.found ++ rows) (a.exchange.rows + length rows)) (modules_stay a.ts c d.0 (Rows t k rows) a.exchange)
-    (λ e. shipping_not_reading a.exchange.phase (of_class s log is_shipping (D d) t.0 k.0 c a (of_rows s bases log (D d) t.0 (active s k.0 log) rows f) (eqb-true k.0 c (and_parts (t.0 == a.ts) (k.0 == c) e).1) is).phase) all
+    (λ e. shipping_not_reading a.exchange.phase
+    (of_class s log is_shipping (D d) t.0 k.0 c a (of_rows s bases log (D d) t.0 (active s k.0 log) rows f)
+    (eqb-true k.0 c (and_parts (t.0 == a.ts) (k.0 == c) e).1) is).phase) all
 answers_now s bases log c d m a is f all = by_now a.ts c (D d, m) (handed log) a.exchange all
 
 asking_now : (s : Setting) (bases : Bases) (log : Log) (c : ℕ) (d : DmNo) (m : Msg) (a : Attempt) → active s c log ≡ Some a → FitsAnswer s bases log (D d) m

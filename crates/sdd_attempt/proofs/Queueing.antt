@@ -117,7 +117,8 @@ handed_active : (c : ℕ) (q : Queued) (from : Site) (m : Msg) (r : Running)
     → option_map (attempt_of q) (handed_by c from m r) ≡ active_handed c from m (Some (attempt_of q r))
 handed_active c q (D d) m r =
     elim (rejects m r.ts c) as
-    (λ b. option_map (attempt_of q) (if b then None else Some (record r { exchange = after_hand r.ts c d.0 m r.exchange })) ≡ (if b then None else Some (record (attempt_of q r) { exchange = after_hand r.ts c d.0 m r.exchange }))) [
+    (λ b. option_map (attempt_of q) (if b then None else Some (record r { exchange = after_hand r.ts c d.0 m r.exchange })) ≡
+    (if b then None else Some (record (attempt_of q r) { exchange = after_hand r.ts c d.0 m r.exchange }))) [
       | true ↦ refl
       | false ↦ refl
     ]

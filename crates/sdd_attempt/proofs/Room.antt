@@ -215,7 +215,12 @@ first_moves before _ rest small = omega arith
 few_moves : (before : ℕ) (sts : List Stmt) → All IsSmallStatement sts → moves_left (askings before sts) [] ≤ 32 * length sts
 few_moves before [] all = omega arith
 few_moves before (s ∷ rest) all =
-    omega (arith, first_moves before s (askings (before + uses_in s) rest) (All-head IsSmallStatement s rest all), few_moves (before + uses_in s) rest (All-tail IsSmallStatement s rest all))
+    omega (
+      arith,
+      first_moves before s (askings (before + uses_in s) rest) (All-head IsSmallStatement s rest all),
+      few_moves (before + uses_in s) rest
+          (All-tail IsSmallStatement s rest all),
+    )
 
 -- 32 statements make at most 1024 moves
 begins_values : (moves modules : ℕ) → moves ≤ 1024 → modules ≤ 65536 → moves * for_move modules < 2 ^ 128
@@ -237,7 +242,11 @@ pub begins_room : (text : Txn) (sends : List (Site × Msg)) → IsSmallText text
 begins_room text sends small few =
     let moves = few_moves 0 text.statements small.statements in
     begins_by text (filter_map module_read sends) (begins text sends) refl (askings_small 0 text.statements (omega (arith, small.few)) small.statements)
-    (omega (arith, begins_values (moves_left (askings 0 text.statements) []) (length (filter_map module_read sends)) (omega (arith, moves, small.few)) (omega (arith, few_picked module_read sends, few)))) refl
+    (omega (
+      arith,
+      begins_values (moves_left (askings 0 text.statements) []) (length (filter_map module_read sends)) (omega (arith, moves, small.few))
+          (omega (arith, few_picked module_read sends, few)),
+    )) refl
 
 -- what is sent no longer takes no room
 pub sent_room : (x : Exchange) → HasRoom x → HasRoom (after_send x)

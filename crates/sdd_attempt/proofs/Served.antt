@@ -58,11 +58,13 @@ served_now s bases log c d (Ready t k counts) a is f asks h =
 served_now s bases log c d (Values t k u values) a is f asks h =
     let y : Exchange = with_union a.exchange (with_values a.exchange.union values) (a.exchange.values + length values) in
     not_over s.catalogue a.text (bases a.ts) ((t.0 == a.ts) && (k.0 == c)) a.exchange (answered a.ts c d.0 y)
-    (λ e. values_not_over a.ts c u y (without y.lacks d.0) (of_class s log (fetches_use u) (D d) t.0 k.0 c a f (eqb-true k.0 c (and_parts (t.0 == a.ts) (k.0 == c) e).1) is).phase) h
+    (λ e. values_not_over a.ts c u y (without y.lacks d.0)
+    (of_class s log (fetches_use u) (D d) t.0 k.0 c a f (eqb-true k.0 c (and_parts (t.0 == a.ts) (k.0 == c) e).1) is).phase) h
 served_now s bases log c d (Reduced t k u n) a is f asks h =
     let y : Exchange = with_counts a.exchange (counted d.0 ((u, n) ∷ []) a.exchange.counts) in
     not_over s.catalogue a.text (bases a.ts) ((t.0 == a.ts) && (k.0 == c)) a.exchange (answered a.ts c d.0 y)
-    (λ e. reduced_not_over a.ts c u y (without y.lacks d.0) (of_class s log (reduces_use u) (D d) t.0 k.0 c a f (eqb-true k.0 c (and_parts (t.0 == a.ts) (k.0 == c) e).1) is).phase) h
+    (λ e. reduced_not_over a.ts c u y (without y.lacks d.0)
+    (of_class s log (reduces_use u) (D d) t.0 k.0 c a f (eqb-true k.0 c (and_parts (t.0 == a.ts) (k.0 == c) e).1) is).phase) h
 served_now s bases log c d (Rows t k rows) a is f asks h =
     let y : Exchange = with_rows a.exchange (a.exchange.found ++ rows) (a.exchange.rows + length rows) in
     if_serves s.catalogue a.text (bases a.ts) ((t.0 == a.ts) && (k.0 == c)) a.exchange (answered a.ts c d.0 y)

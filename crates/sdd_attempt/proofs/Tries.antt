@@ -16,7 +16,9 @@ started : (n c k : ℕ) (r : Rec) (sends : List (Site × Msg)) (clk : ℕ) (qs :
     → AreTried (suc clk) (queue_after c (Records k r sends) qs)
 started n c k (Start txn attempt class ts p2 uses) sends clk qs h l =
     if_tried (suc clk) (k == c) (map (tried txn.0) qs) qs
-    (All-map (λ (q : Queued). q.tries ≤ suc clk) (tried txn.0) qs (All-weaker (λ (q : Queued). q.tries ≤ clk) (λ (q : Queued). (tried txn.0 q).tries ≤ suc clk) (λ q e. one_more clk txn.0 q e) qs h)) (tried_later clk (suc clk) qs h (omega arith))
+    (All-map (λ (q : Queued). q.tries ≤ suc clk) (tried txn.0) qs
+    (All-weaker (λ (q : Queued). q.tries ≤ clk) (λ (q : Queued). (tried txn.0 q).tries ≤ suc clk) (λ q e. one_more clk txn.0 q e) qs h))
+    (tried_later clk (suc clk) qs h (omega arith))
 started n c k (Commit txn attempt reply changes values rows) sends clk qs h l =
     if_tried (suc clk) (k == c) (filter (λ q. not (q.number == txn.0)) qs) qs
     (All-filter (λ q. not (q.number == txn.0)) (λ (q : Queued). q.tries ≤ suc clk) qs (tried_later clk (suc clk) qs h (omega arith)))

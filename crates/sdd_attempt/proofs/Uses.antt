@@ -64,14 +64,28 @@ same_length f (x ∷ xs) = ap suc (same_length f xs)
 few_for : (cat : Catalogue) (rel : ℕ) (restrictions : List Restriction) → length (fragments_for cat rel restrictions) ≤ length cat.fragments
 few_for cat rel restrictions =
     let p = meets_keys cat rel (allowed_keys (key_column cat rel) restrictions) in
-    omega (arith, same_length frag_no (filter p (numbers_to (length cat.fragments))), few_filtered p (numbers_to (length cat.fragments)), length-range_with_len 1 (length cat.fragments))
+    omega (
+      arith,
+      same_length frag_no (filter p (numbers_to (length cat.fragments))),
+      few_filtered p
+          (numbers_to (length cat.fragments)),
+      length-range_with_len 1 (length cat.fragments),
+    )
 
 few_in_parts : (cat : Catalogue) (before : ℕ) (conds : List Condition) (part : ℕ) (rels : List RelNo) → length cat.fragments ≤ 256
     → length (fragments_in (part_uses cat before conds part rels)) ≤ 256 * length rels
 few_in_parts cat before conds part [] small = omega arith
 few_in_parts cat before conds part (rel ∷ rels) small =
     let frags : List FragNo = fragments_for cat rel.0 (restrictions_of part conds) in
-    omega (arith, small, length-append (map (λ (f : FragNo). f.0) frags) (fragments_in (part_uses cat before conds (part + 1) rels)), same_length (λ (f : FragNo). f.0) frags, few_for cat rel.0 (restrictions_of part conds), few_in_parts cat before conds (part + 1) rels small)
+    omega (
+      arith,
+      small,
+      length-append (map (λ (f : FragNo). f.0) frags) (fragments_in (part_uses cat before conds (part + 1) rels)),
+      same_length
+          (λ (f : FragNo). f.0) frags,
+      few_for cat rel.0 (restrictions_of part conds),
+      few_in_parts cat before conds (part + 1) rels small,
+    )
 
 few_in_statement : (cat : Catalogue) (before : ℕ) (s : Stmt) → length cat.fragments ≤ 256 → IsSmallStatement s
     → length (fragments_in (statement_uses cat before s)) ≤ 1536

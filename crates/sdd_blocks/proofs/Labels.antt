@@ -34,7 +34,8 @@ pub edge_left_out : (edges : List (ℕ × ℕ)) (without nodes : ℕ) (parents :
     → (a ≡ without) ⊎ (b ≡ without) → AreLabelsSoFar edges without nodes parents (count + 1)
 edge_left_out edges without nodes parents count a b s e o = grind (arith, nat_tests)
 
-module _ (edges : List (ℕ × ℕ)) (without nodes x y k : ℕ) (j : Joins edges k x y) (x_other : x ≢ without) (y_other : y ≢ without) (x_within : x < nodes) (y_within : y < nodes) (before after : List ℕ) (n : length before ≡ nodes) (joined : AreJoined x y before after)
+module _ (edges : List (ℕ × ℕ)) (without nodes x y k : ℕ) (j : Joins edges k x y) (x_other : x ≢ without) (y_other : y ≢ without)
+    (x_within : x < nodes) (y_within : y < nodes) (before after : List ℕ) (n : length before ≡ nodes) (joined : AreJoined x y before after)
     (sound : (a b : ℕ) → a < nodes → b < nodes → a ≢ without → b ≢ without
     → slice_index before a ≡ slice_index before b → JoinedWithout edges without a b) where
   -- nodes with the two labels that became one are joined by way of the edge

@@ -43,7 +43,8 @@ module _ (edges : List (ℕ × ℕ)) (node : ℕ) (labels : List ℕ) (before : 
       → ((l : ℕ) → get_or first l None ≡ None) → IsTyingAt edges node labels before before first 0
   nothing_tied first n none = grind (arith, nat_tests)
 
-  module _ (pairs : List (ℕ × ℕ)) (first : List (Option ℕ)) (count a b : ℕ) (so_far : IsTyingAt edges node labels before pairs first count) (here : slice_get edges count ≡ Some (a, b)) where
+  module _ (pairs : List (ℕ × ℕ)) (first : List (Option ℕ)) (count a b : ℕ) (so_far : IsTyingAt edges node labels before pairs first count)
+      (here : slice_get edges count ≡ Some (a, b)) where
     -- the edge itself, where it is the one meant
     at_count : (k x : ℕ) → count ≤ k → k < count + 1 → Joins edges k node x → Joins edges count node x
     at_count k x h g j = let e : k ≡ count = omega arith in subst (λ z. Joins edges z node x) e j

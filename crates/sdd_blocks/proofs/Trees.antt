@@ -57,7 +57,8 @@ replaced-other old new label n = grind (arith, nat_tests)
 relabelled : ℕ → ℕ → List ℕ → List ℕ
 relabelled old new labels = map (replaced old new) labels
 
-module _ (parents : List ℕ) (low high : ℕ) (forest : IsForest parents) (low_within : low < length parents) (high_within : high < length parents) (low_top : slice_index parents low ≡ low) (high_top : slice_index parents high ≡ high) (labels : List ℕ) (r : AreRoots parents labels) where
+module _ (parents : List ℕ) (low high : ℕ) (forest : IsForest parents) (low_within : low < length parents) (high_within : high < length parents)
+    (low_top : slice_index parents low ≡ low) (high_top : slice_index parents high ≡ high) (labels : List ℕ) (r : AreRoots parents labels) where
   -- they stay as many
   length-relabelled : length (relabelled high low labels) ≡ length labels
   unfolding relabelled

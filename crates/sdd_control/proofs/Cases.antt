@@ -24,13 +24,23 @@ pub data Case (backups writes : ℕ) (log : Log) : Act → Note → Type 0 where
 
 module _ (backups writes : ℕ) (log : Log) where
   case_sends : (i : ℕ) (b : Bool) (to : Option ℕ) (all : Bool) (v : Val) (left : Option ℕ) → i ≤ backups
-      → (leads log i && not (noted (is_finish i) log)) ≡ b → first_from (untold log i) (i + 1) (backups - i) ≡ to → all_answered backups log i ≡ all → value log i ≡ v → unwritten writes log i ≡ left
+      → (leads log i && not (noted (is_finish i) log)) ≡ b → first_from (untold log i) (i + 1)
+      (backups - i) ≡ to → all_answered backups log i ≡ all → value log i ≡ v → unwritten writes log i ≡ left
       → Case backups writes log (Send i) (send i b to all v left)
-  case_sends i true (Some j) all v left l e f g h k = let p = and_left (leads log i) (not (noted (is_finish i) log)) e in tells i j v l (not_true (stopped log i) (and_left (not (stopped log i)) (heir log i) p)) (and_right (not (stopped log i)) (heir log i) p) f h
-  case_sends i true None true All (Some n) l e f g h k = let p = and_left (leads log i) (not (noted (is_finish i) log)) e in writes_one i n l (not_true (stopped log i) (and_left (not (stopped log i)) (heir log i) p)) (and_right (not (stopped log i)) (heir log i) p) g h k
-  case_sends i true None true All None l e f g h k = let p = and_left (leads log i) (not (noted (is_finish i) log)) e in finishes i All l (not_true (stopped log i) (and_left (not (stopped log i)) (heir log i) p)) (and_right (not (stopped log i)) (heir log i) p) g h (λ _. k)
-  case_sends i true None true Unknown left l e f g h k = let p = and_left (leads log i) (not (noted (is_finish i) log)) e in finishes i Unknown l (not_true (stopped log i) (and_left (not (stopped log i)) (heir log i) p)) (and_right (not (stopped log i)) (heir log i) p) g h (λ q. absurd (cc))
-  case_sends i true None true Nought left l e f g h k = let p = and_left (leads log i) (not (noted (is_finish i) log)) e in finishes i Nought l (not_true (stopped log i) (and_left (not (stopped log i)) (heir log i) p)) (and_right (not (stopped log i)) (heir log i) p) g h (λ q. absurd (cc))
+  case_sends i true (Some j) all v left l e f g h k = let p = and_left (leads log i) (not (noted (is_finish i) log)) e in
+      tells i j v l (not_true (stopped log i) (and_left (not (stopped log i)) (heir log i) p)) (and_right (not (stopped log i)) (heir log i) p) f h
+  case_sends i true None true All (Some n) l e f g h k = let p = and_left (leads log i) (not (noted (is_finish i) log)) e in
+      writes_one i n l (not_true (stopped log i) (and_left (not (stopped log i)) (heir log i) p))
+      (and_right (not (stopped log i)) (heir log i) p) g h k
+  case_sends i true None true All None l e f g h k = let p = and_left (leads log i) (not (noted (is_finish i) log)) e in
+      finishes i All l (not_true (stopped log i) (and_left (not (stopped log i)) (heir log i) p)) (and_right (not (stopped log i)) (heir log i) p) g h
+      (λ _. k)
+  case_sends i true None true Unknown left l e f g h k = let p = and_left (leads log i) (not (noted (is_finish i) log)) e in
+      finishes i Unknown l (not_true (stopped log i) (and_left (not (stopped log i)) (heir log i) p))
+      (and_right (not (stopped log i)) (heir log i) p) g h (λ q. absurd (cc))
+  case_sends i true None true Nought left l e f g h k = let p = and_left (leads log i) (not (noted (is_finish i) log)) e in
+      finishes i Nought l (not_true (stopped log i) (and_left (not (stopped log i)) (heir log i) p))
+      (and_right (not (stopped log i)) (heir log i) p) g h (λ q. absurd (cc))
   case_sends i _ _ _ v left l e f g h k = idle i
 
   case_delivered : (i j : ℕ) (b : Bool) (xs : List Message) (c : Bool) → stopped log j ≡ b
@@ -47,6 +57,7 @@ module _ (backups writes : ℕ) (log : Log) where
   case_halt i false e = stops i e
 
   pub case_of : (a : Act) → FitsAct backups a → Case backups writes log a (note_of backups writes log a)
-  case_of (Send i) f = case_sends i (leads log i && not (noted (is_finish i) log)) (first_from (untold log i) (i + 1) (backups - i)) (all_answered backups log i) (value log i) (unwritten writes log i) f refl refl refl refl refl
+  case_of (Send i) f = case_sends i (leads log i && not (noted (is_finish i) log)) (first_from (untold log i) (i + 1) (backups - i))
+      (all_answered backups log i) (value log i) (unwritten writes log i) f refl refl refl refl refl
   case_of (Deliver i j) f = case_delivered i j (stopped log j) (link log i j) (noted (is_above j i) log) refl refl refl
   case_of (Halt i) f = case_halt i (stopped log i) refl

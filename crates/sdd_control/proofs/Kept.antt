@@ -78,7 +78,9 @@ not_above j i k (x ∷ log) e f =
       | inl g ↦
           let h = value_is j k x.note g in
           elim (cases_lt i k) [
-            | inl l ↦ absurd (not_both (is_above j i x.note || noted (is_above j i) log) (or_left (is_above j i x.note) (noted (is_above j i) log) (subst (λ z. is_above j i z ≡ true) (sym h.1) (and_both (j == j) (nat_lt i k) (same_itself j) (lt-ltb i k l)))) e)
+            | inl l ↦ absurd (not_both (is_above j i x.note || noted (is_above j i) log)
+                (or_left (is_above j i x.note) (noted (is_above j i) log)
+                (subst (λ z. is_above j i z ≡ true) (sym h.1) (and_both (j == j) (nat_lt i k) (same_itself j) (lt-ltb i k l)))) e)
             | inr l ↦ l
           ]
       | inr g ↦ elim (cases_Bool (noted (is_above j i) log)) [
@@ -129,7 +131,8 @@ module _ (backups writes : ℕ) (log : Log) (a : Act) (n : Note) (c : Case backu
 
   answers_on : (i : ℕ) → all_answered backups log i ≡ true → all_answered backups (more log a n) i ≡ true
   answers_on i h =
-      every_all (answered (more log a n) i) (i + 1) (backups - i) (λ l p q. elim (or_cases (noted (is_ok i l) log) (knows log i l) (every_at (answered log i) (i + 1) (backups - i) l h p q)) [
+      every_all (answered (more log a n) i) (i + 1) (backups - i)
+      (λ l p q. elim (or_cases (noted (is_ok i l) log) (knows log i l) (every_at (answered log i) (i + 1) (backups - i) l h p q)) [
         | inl e ↦ or_left (noted (is_ok i l) (more log a n)) (knows (more log a n) i l) (or_right (is_ok i l n) (noted (is_ok i l) log) e)
         | inr e ↦ or_right (noted (is_ok i l) (more log a n)) (knows (more log a n) i l) (know_on i l e)
       ])

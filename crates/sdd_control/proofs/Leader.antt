@@ -194,7 +194,8 @@ told_or_known true b e = inl refl
 told_or_known false true e = inr refl
 told_or_known false false e = absurd (cc)
 
-module _ (backups writes : ℕ) (log : Log) (f : Flows log) (q : NoMessages backups log) (r : NoSends backups writes log) (m : ℕ) (in_range : m ≤ backups) (up : stopped log m ≡ false) where
+module _ (backups writes : ℕ) (log : Log) (f : Flows log) (q : NoMessages backups log) (r : NoSends backups writes log) (m : ℕ)
+    (in_range : m ≤ backups) (up : stopped log m ≡ false) where
   -- m knows each stopped site gone
   knows_it : (l : ℕ) → l ≤ backups → l ≢ m → stopped log l ≡ true → knows log m l ≡ true
   knows_it l b d s = by_case (f.missed l m d s)
@@ -228,7 +229,8 @@ module _ (backups writes : ℕ) (log : Log) (f : Flows log) (q : NoMessages back
             (and_both (not (stopped log m)) (heir log m) (ap not up) h) (ap not e) in
             let n : send m true (first_from (untold log m) (m + 1) (backups - m)) (all_answered backups log m) (value log m)
             (unwritten writes log m) ≡ Nothing =
-            subst (λ z. send m z (first_from (untold log m) (m + 1) (backups - m)) (all_answered backups log m) (value log m) (unwritten writes log m) ≡ Nothing) b (r m in_range up) in
+            subst (λ z. send m z (first_from (untold log m) (m + 1) (backups - m)) (all_answered backups log m) (value log m)
+            (unwritten writes log m) ≡ Nothing) b (r m in_range up) in
             let s = no_send m (first_from (untold log m) (m + 1) (backups - m)) (all_answered backups log m) (value log m) (unwritten writes log m) n in
             let all : all_answered backups log m ≡ true =
             every_all (answered log m) (m + 1) (backups - m)

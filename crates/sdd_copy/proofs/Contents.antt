@@ -65,7 +65,8 @@ keys-insert : {X : Type 0} (k : ℤ) (v : X) (es : List (ℤ × X)) → keys (in
 keys-insert k v [] = refl
 keys-insert k v (e ∷ es) =
     elim (int_cmp k e.0) as
-    (λ o. keys (match_ordering o ((k, v) ∷ e ∷ es) ((e.0, v) ∷ es) (e ∷ insert_entry int_cmp es k v)) ≡ match_ordering o (k ∷ e.0 ∷ keys es) (e.0 ∷ keys es) (e.0 ∷ insert_key int_cmp (keys es) k)) [
+    (λ o. keys (match_ordering o ((k, v) ∷ e ∷ es) ((e.0, v) ∷ es) (e ∷ insert_entry int_cmp es k v)) ≡ match_ordering o (k ∷ e.0 ∷ keys es)
+    (e.0 ∷ keys es) (e.0 ∷ insert_key int_cmp (keys es) k)) [
       | Less ↦ refl
       | Equal ↦ refl
       | Greater ↦ ap (λ l. e.0 ∷ l) (keys-insert k v es)
@@ -81,7 +82,8 @@ keys_same : {X : Type 0} (k : ℤ) (v : X) (es : List (ℤ × X)) → Ascends es
 keys_same k v [] h f = cc
 keys_same k v (e ∷ es) h f =
     elim (int_cmp k e.0) as
-    (λ o. int_cmp k e.0 ≡ o → cond (is_eq o) (Some e.1) (lookup (is_at (int_cmp k)) es) ≡ Some v → match_ordering o (k ∷ e.0 ∷ keys es) (e.0 ∷ keys es) (e.0 ∷ insert_key int_cmp (keys es) k) ≡ e.0 ∷ keys es) [
+    (λ o. int_cmp k e.0 ≡ o → cond (is_eq o) (Some e.1) (lookup (is_at (int_cmp k)) es) ≡ Some v → match_ordering o (k ∷ e.0 ∷ keys es)
+    (e.0 ∷ keys es) (e.0 ∷ insert_key int_cmp (keys es) k) ≡ e.0 ∷ keys es) [
       | Less ↦ λ p q. let none = above_none k es (above_all k e.0 es p h.0) in absurd cc
       | Equal ↦ λ p q. refl
       | Greater ↦ λ p q. ap (λ l. e.0 ∷ l) (keys_same k v es h.1 q)
@@ -108,7 +110,8 @@ lookup-insert : {X : Type 0} (q k : ℤ) (v : X) (es : List (ℤ × X))
 lookup-insert q k v [] = refl
 lookup-insert {X} q k v (e ∷ es) =
     elim (int_cmp k e.0) as
-    (λ o. int_cmp k e.0 ≡ o → lookup (is_at (int_cmp q)) (match_ordering o ((k, v) ∷ e ∷ es) ((e.0, v) ∷ es) (e ∷ insert_entry int_cmp es k v)) ≡ cond (is_eq (int_cmp q k)) (Some v) (cond (is_eq (int_cmp q e.0)) (Some e.1) (lookup (is_at (int_cmp q)) es))) [
+    (λ o. int_cmp k e.0 ≡ o → lookup (is_at (int_cmp q)) (match_ordering o ((k, v) ∷ e ∷ es) ((e.0, v) ∷ es) (e ∷ insert_entry int_cmp es k v)) ≡ cond
+    (is_eq (int_cmp q k)) (Some v) (cond (is_eq (int_cmp q e.0)) (Some e.1) (lookup (is_at (int_cmp q)) es))) [
       | Less ↦ λ p. refl
       | Equal ↦ λ p. let same : k ≡ e.0 = same_key k e.0 p in rw same
           (cond_twice (is_eq (int_cmp q e.0)) (Some v) (Some e.1) (lookup (is_at (int_cmp q)) es))
@@ -194,7 +197,8 @@ cond_same true x = refl
 cond_same false x = refl
 
 lookup_written : (k : ℤ) (es : Items) (x : ℕ × Change) (e : Bool) → is_eq (int_cmp k x.1.key) ≡ e
-    → lookup (is_at (int_cmp k)) (written es x) ≡ cond (is_newer x.0 (lookup (is_at (int_cmp x.1.key)) es)) (cond e (Some (x.0, x.1.row)) (lookup (is_at (int_cmp k)) es)) (lookup (is_at (int_cmp k)) es)
+    → lookup (is_at (int_cmp k)) (written es x) ≡ cond (is_newer x.0 (lookup (is_at (int_cmp x.1.key)) es))
+    (cond e (Some (x.0, x.1.row)) (lookup (is_at (int_cmp k)) es)) (lookup (is_at (int_cmp k)) es)
 lookup_written k es x e q =
     let b : Bool = is_newer x.0 (lookup (is_at (int_cmp x.1.key)) es) in
     lookup_either b k (insert_entry int_cmp es x.1.key (x.0, x.1.row)) es

@@ -36,7 +36,8 @@ pub emptied_is_fine : (parts : Parts) (before : List ClassPart) (c : ClassPart) 
     → class_rules parts before (emptied_part c) ≡ []
 emptied_is_fine parts before c e =
     ap (λ rules. rules ++ [] ++ [] ++ [])
-    (three_of_six (when (nat_le MAX_CLASSES (length before)) (TooMany counted.Class)) (when (has_name (names_of before) c.name) DuplicateName) (when (not (is_from_1_to parts.tms c.tm)) UnknownName) _ _ _ e)
+    (three_of_six (when (nat_le MAX_CLASSES (length before)) (TooMany counted.Class)) (when (has_name (names_of before) c.name) DuplicateName)
+    (when (not (is_from_1_to parts.tms c.tm)) UnknownName) _ _ _ e)
 
 -- a class that is found fine stays so behind classes of the same names
 pub fine_behind : (parts : Parts) (before earlier : List ClassPart) (c : ClassPart) → names_of before ≡ names_of earlier

@@ -41,7 +41,8 @@ enough_step rows room P Q step enough =
 one_part : (part p : ℕ) → is_taken (part ∷ []) p ≡ true → part ≡ p
 one_part part p h = ⊎_elim (λ yes. absurd cc) (λ same. same) (taken_or_new [] part p h)
 
-module _ (parts : List (List Row)) (conds : List Condition) (out : List Ref) (room : ℕ) (taken : List ℕ) (kept : List Choice) (part : ℕ) (less : part < length parts) (new : is_taken taken part ≡ false) where
+module _ (parts : List (List Row)) (conds : List Condition) (out : List Ref) (room : ℕ) (taken : List ℕ) (kept : List Choice) (part : ℕ)
+    (less : part < length parts) (new : is_taken taken part ≡ false) where
   -- a choice agrees with a kept one in the parts that were taken
   abbrev Before : Choice → Type 0
   Before t = (c : Choice) × Has kept c × Agrees parts taken c t
@@ -152,7 +153,8 @@ module _ (parts : List (List Row)) (conds : List Condition) (out : List Ref) (ro
       (λ row a. sifted_answers parts conds out room Before (part ∷ []) (choices_of_part parts conds part) thin row before_outside sound_thin first (in_part row a)) enough in (
         sound_next,
         enough_step all room (Answers parts conds out Before (part ∷ []) thin) (IsAnswered parts conds out group next)
-            (λ row a. sifted_answers parts conds out room (λ t. Unit {0}) group (joined parts conds taken part thin kept) next row (λ s t same rest. tt) sound_next second (in_joined thin row a)) thinned,
+            (λ row a. sifted_answers parts conds out room (λ t. Unit {0}) group (joined parts conds taken part thin kept) next row
+            (λ s t same rest. tt) sound_next second (in_joined thin row a)) thinned,
       )
 
 pub enough_start : (parts : List (List Row)) (conds : List Condition) (out : List Ref) (room : ℕ) → AreEnough parts conds out room [] ([] ∷ [])

@@ -132,7 +132,8 @@ keyed_from : (part : ℕ) (conds : List Condition) (ties : List Tie) (i : ℕ) (
     → (j : ℕ) × (j < length rows) × (i + j ≡ place) × (passes part conds (slice_index_or rows j []) ≡ true)
 keyed_from part conds ties i [] key place has = absurd has
 keyed_from part conds ties i (row ∷ rows) key place has =
-    let later : Has (keyed part conds ties (i + 1) rows) (key, place) → (j : ℕ) × (j < length (row ∷ rows)) × (i + j ≡ place) × (passes part conds (slice_index_or (row ∷ rows) j []) ≡ true) =
+    let later : Has (keyed part conds ties (i + 1) rows) (key, place) → (j : ℕ) × (j < length (row ∷ rows)) × (i + j ≡ place) ×
+    (passes part conds (slice_index_or (row ∷ rows) j []) ≡ true) =
     λ more.
     let r = keyed_from part conds ties (i + 1) rows key place more in
     let less : r.0 < length rows = r.1 in
@@ -150,7 +151,8 @@ keyed_from part conds ties i (row ∷ rows) key place has =
 
 -- the choices of one part
 pub choice_of_part : (parts : List (List Row)) (conds : List Condition) (part : ℕ) (d : Choice) → Has (choices_of_part parts conds part) d
-    → (place : ℕ) × (placed (length parts) [] part place ≡ d) × (place < length (slice_index_or parts part [])) × (passes part conds (slice_index_or (slice_index_or parts part []) place []) ≡ true)
+    → (place : ℕ) × (placed (length parts) [] part place ≡ d) × (place < length (slice_index_or parts part [])) ×
+    (passes part conds (slice_index_or (slice_index_or parts part []) place []) ≡ true)
 choice_of_part parts conds part d has =
     let rows : List Row = slice_index_or parts part [] in
     let one = Has-map_from (placed (length parts) [] part) (places (keyed part conds [] 0 rows) []) d has in
@@ -173,7 +175,8 @@ no_ties : (part : ℕ) (conds : List Condition) → ties_of [] part conds ≡ []
 no_ties part [] = refl
 no_ties part (Const left op value ∷ conds) = no_ties part conds
 no_ties part (Same left right ∷ conds) =
-    cons_none (tie_of [] part (Same left right)) (ties_of [] part conds) (either_none (tie_between [] part left right) (tie_between [] part right left) (no_tie part left right) (no_tie part right left))
+    cons_none (tie_of [] part (Same left right)) (ties_of [] part conds)
+    (either_none (tie_between [] part left right) (tie_between [] part right left) (no_tie part left right) (no_tie part right left))
     (no_ties part conds)
 
 inside_none : (parts : List (List Row)) (c : Choice) (conds : List Condition) → AllInside parts [] c conds
@@ -214,7 +217,8 @@ sound_joined parts conds taken part thin kept less new sound only d has =
     let four = Has-filter_from (λ (p : Row × ℕ). same_row p.0 (key_for ties (picked parts c))) pairs three.0 three.1 in
     let key : three.0.0 ≡ key_for ties (picked parts c) = (lists_decide value_decides _ _).0 four.1 in
     let five = Has-filter_map_from (pair_of parts ties part) thin three.0 four.0 in
-    let six = found_pair (nat_lt (slice_index five.0 part) (length rows)) (key_of ties (slice_index_or rows (slice_index five.0 part) []), slice_index five.0 part) three.0 five.2 in
+    let six = found_pair (nat_lt (slice_index five.0 part) (length rows))
+    (key_of ties (slice_index_or rows (slice_index five.0 part) []), slice_index five.0 part) three.0 five.2 in
     let row_key : key_of ties (slice_index_or rows (slice_index five.0 part) []) ≡ three.0.0 = ap (λ (p : Row × ℕ). p.0) six.1 in
     let at_place : slice_index five.0 part ≡ three.0.1 = ap (λ (p : Row × ℕ). p.1) six.1 in
     let seven = choice_of_part parts conds part five.0 (only five.0 five.1) in

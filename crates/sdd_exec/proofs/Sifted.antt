@@ -90,7 +90,8 @@ many_rows f P (o ∷ os) once each =
           has,
     )
 
-pub sifted_answers : (parts : List (List Row)) (conds : List Condition) (out : List Ref) (room : ℕ) (Rest : Choice → Type 0) (group : List ℕ) (choices kept : List Choice) (row : Row)
+pub sifted_answers : (parts : List (List Row)) (conds : List Condition) (out : List Ref) (room : ℕ) (Rest : Choice
+    → Type 0) (group : List ℕ) (choices kept : List Choice) (row : Row)
     → IsOutside parts group Rest → AreSound parts conds group kept → IsSifted parts conds out room group choices kept
     → Answers parts conds out Rest group choices row
     → Answers parts conds out Rest group kept row ⊎ TooMany room (Answers parts conds out Rest group kept)

@@ -28,7 +28,9 @@ pub with_found_more : {X : Type 0} (f : X → Option Row) (kept : List X) (i : �
     → distinct (filter_map f (take (i + 1) kept)) ≡ with_found (f (get_or kept i d)) (distinct (filter_map f (take i kept)))
 with_found_more f kept i d h =
     rw (take_more kept i d h, filter_map-append, fold-append)
-    (elim (f (get_or kept i d)) as (λ o. fold (λ kept row. insert_key row_cmp kept row) (distinct (filter_map f (take i kept))) (cons_option o []) ≡ with_found o (distinct (filter_map f (take i kept)))) [ None ↦ refl | Some row ↦ refl ])
+    (elim (f (get_or kept i d)) as
+    (λ o. fold (λ kept row. insert_key row_cmp kept row) (distinct (filter_map f (take i kept))) (cons_option o []) ≡ with_found o
+    (distinct (filter_map f (take i kept)))) [ None ↦ refl | Some row ↦ refl ])
 
 insert_longer : (xs : List Row) (k : Row) → length xs ≤ length (insert_key row_cmp xs k)
 insert_longer [] k = omega arith

@@ -62,7 +62,8 @@ module _ (cat : Catalogue) (rows : List (RelNo × Row)) (txns : List Txn) (h : H
         answered_before h t.start d t.place
         (subst (λ (o : Option ℕ). elim o [ None ↦ true | Some d ↦ is_answered_before h t.start d t.place ] ≡ true) e one)
     answered t d c (by_no_class z m) =
-        let u = each (λ (t : Committed). if_so (t.start.class == 0) (list_all (λ d. is_answered_before h t.start d t.place) (numbers_to cat.dms))) (committed h) t pass.answered_everywhere (there t c) in
+        let u = each (λ (t : Committed). if_so (t.start.class == 0) (list_all (λ d. is_answered_before h t.start d t.place) (numbers_to cat.dms)))
+        (committed h) t pass.answered_everywhere (there t c) in
         let all = so (t.start.class == 0) (list_all (λ d. is_answered_before h t.start d t.place) (numbers_to cat.dms)) u (eq-eqb t.start.class 0 z) in
         answered_before h t.start d t.place (each_to (λ d. is_answered_before h t.start d t.place) cat.dms d all m.0 m.1)
 

@@ -54,7 +54,9 @@ module _ (cat : Catalogue) (eras : Eras) (h : History) (there : (t : Committed) 
       let m = eras_begun eras (event_at h e.second_place) in
       let last = nat_lt x.start.ts y.start.ts && list_all (is_done cat h x y) (attempts h) in
       let t = each_pair (keeps_pair cat eras h) (committed h) (committed h) x y pass.apart (there x e.first) (there y e.second) in
-      let u = each_pair (λ (p q : ℕ × ℕ). if_so (is_earlier eras h x y p q) (nat_lt x.start.ts y.start.ts && list_all (is_done cat h x y) (attempts h))) (submits h) (submits h) p q t (in_submits h x.start.txn e.first_place e.first_submitted) (in_submits h y.start.txn e.second_place e.second_submitted) in
+      let u = each_pair (λ (p q : ℕ × ℕ). if_so (is_earlier eras h x y p q)
+      (nat_lt x.start.ts y.start.ts && list_all (is_done cat h x y) (attempts h))) (submits h) (submits h) p q t
+      (in_submits h x.start.txn e.first_place e.first_submitted) (in_submits h y.start.txn e.second_place e.second_submitted) in
       so (is_earlier eras h x y p q) last u
       (and_from (x.start.txn == x.start.txn) ((y.start.txn == y.start.txn) && nat_lt n m) (eq-eqb x.start.txn x.start.txn refl)
       (and_from (y.start.txn == y.start.txn) (nat_lt n m) (eq-eqb y.start.txn y.start.txn refl) (lt-ltb n m e.earlier)))

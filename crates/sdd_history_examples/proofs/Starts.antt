@@ -77,7 +77,10 @@ module _ (cat : Catalogue) (eras : Eras) (txns : List Txn) (h : History) (pass :
       → IsSubmitted h a.txn j → IsSubmitted h b.txn k → j ≤ k
   in_turn a b j k p q e l s r =
       let test : ℕ × ℕ → ℕ × ℕ → Bool = λ x y. if_so (x.0 == a.txn) (if_so (y.0 == b.txn) (not (nat_lt y.1 x.1))) in
-      let t = each_pair (λ (a b : Attempt). if_so (a.class == b.class) (if_so (nat_lt a.place b.place) (all_pairs (λ (x y : ℕ × ℕ). if_so (x.0 == a.txn) (if_so (y.0 == b.txn) (not (nat_lt y.1 x.1)))) (submits h) (submits h)))) (attempts h) (attempts h) a b pass.in_turn (in_attempts h a p) (in_attempts h b q) in
+      let t = each_pair (λ (a b : Attempt). if_so (a.class == b.class)
+      (if_so (nat_lt a.place b.place)
+      (all_pairs (λ (x y : ℕ × ℕ). if_so (x.0 == a.txn) (if_so (y.0 == b.txn) (not (nat_lt y.1 x.1)))) (submits h) (submits h)))) (attempts h)
+      (attempts h) a b pass.in_turn (in_attempts h a p) (in_attempts h b q) in
       let u = so (a.class == b.class) (if_so (nat_lt a.place b.place) (all_pairs test (submits h) (submits h))) t (eq-eqb a.class b.class e) in
       let v = so (nat_lt a.place b.place) (all_pairs test (submits h) (submits h)) u (lt-ltb a.place b.place l) in
       let w = each_pair test (submits h) (submits h) (a.txn, j) (b.txn, k) v (in_submits h a.txn j s) (in_submits h b.txn k r) in

@@ -14,7 +14,11 @@ module _ (high : ℕ) (classes : List Class) where
     All-from_recursion (λ (rel : RelNo). IsRelation (named (with_classes high classes)) rel.0) (rel_no 1 ∷ []) ((lit≤ tt, lit≤ tt), tt),
     (lit≤ tt, lit≤ tt),
     All-from_recursion (FitsRef (named (with_classes high classes)) (rel_no 1 ∷ [])) (column 2 ∷ []) (((lit≤ tt, lit≤ tt), (lit≤ tt, lit≤ tt)), tt),
-    (lit≤ tt, All-from_recursion (FitsCondition (named (with_classes high classes)) (rel_no 1 ∷ [])) (Const (column 1) op (Int (pos bound)) ∷ []) ((((lit≤ tt, lit≤ tt), (lit≤ tt, lit≤ tt)), refl), tt)),
+    (
+      lit≤ tt,
+      All-from_recursion (FitsCondition (named (with_classes high classes)) (rel_no 1 ∷ [])) (Const (column 1) op (Int (pos bound)) ∷ [])
+          ((((lit≤ tt, lit≤ tt), (lit≤ tt, lit≤ tt)), refl), tt),
+    ),
   )
 
   pub all_fit : FitsStatement (named (with_classes high classes)) all_rows
@@ -22,7 +26,8 @@ module _ (high : ℕ) (classes : List Class) where
     (lit≤ tt, lit≤ tt),
     All-from_recursion (λ (rel : RelNo). IsRelation (named (with_classes high classes)) rel.0) (rel_no 1 ∷ []) ((lit≤ tt, lit≤ tt), tt),
     (lit≤ tt, lit≤ tt),
-    All-from_recursion (FitsRef (named (with_classes high classes)) (rel_no 1 ∷ [])) (column 1 ∷ column 2 ∷ []) (((lit≤ tt, lit≤ tt), (lit≤ tt, lit≤ tt)), (((lit≤ tt, lit≤ tt), (lit≤ tt, lit≤ tt)), tt)),
+    All-from_recursion (FitsRef (named (with_classes high classes)) (rel_no 1 ∷ [])) (column 1 ∷ column 2 ∷ [])
+        (((lit≤ tt, lit≤ tt), (lit≤ tt, lit≤ tt)), (((lit≤ tt, lit≤ tt), (lit≤ tt, lit≤ tt)), tt)),
     (lit≤ tt, All-from_recursion (FitsCondition (named (with_classes high classes)) (rel_no 1 ∷ [])) [] tt),
   )
 

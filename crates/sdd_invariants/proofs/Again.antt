@@ -97,7 +97,8 @@ spoilt_in log d p e f =
 pub is_spoilt : (s : Setting) (log : site.Log) (d : Cond) → spoils (view_of s log) d ≡ true → IsSpoilt log d (or_zero (last_write_for (view_of s log) d))
 is_spoilt s log d e = elim (dec_le (suc d.class.0) (suc (length s.catalogue.classes))) [
   | yes l ↦ spoilt_in log d (at_class (view_of s log) d.class.0).pipe (processed_in_is s log d.class.0 l) e
-  | no n ↦ (let q : is_at_least d.time.0 (last_write d.frags empty_pipe) ≡ true = subst (λ (k : ClassView). is_at_least d.time.0 (last_write d.frags k.pipe) ≡ true) (class_not_in_view s log d.class.0 (omega (arith, n))) e in cc)
+  | no n ↦ (let q : is_at_least d.time.0 (last_write d.frags empty_pipe) ≡ true = subst
+      (λ (k : ClassView). is_at_least d.time.0 (last_write d.frags k.pipe) ≡ true) (class_not_in_view s log d.class.0 (omega (arith, n))) e in cc)
 ]
 
 -- a processed WRITE: its Commit and its Apply

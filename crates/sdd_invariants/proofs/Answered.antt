@@ -105,10 +105,12 @@ any_cons f x ms (suc k) m b h g e = or_right (f x) b (h k e)
 any_sent : (f : Msg → Bool) (b : Site) (sends : List (Site × Msg)) (k : ℕ) (m : Msg) → slice_get (to_site b sends) k ≡ Some m
     → f m ≡ true → list_any (λ (p : Site × Msg). f p.1) sends ≡ true
 any_sent f b [] k m e g = cc
-any_sent f b (p ∷ sends) k m e g = elim (same_site b p.0) as (λ c. slice_get (if c then p.1 ∷ to_site b sends else to_site b sends) k ≡ Some m → (f p.1 || list_any (λ (p : Site × Msg). f p.1) sends) ≡ true) [
-  | true ↦ λ q. any_cons f p.1 (to_site b sends) k m (list_any (λ (p : Site × Msg). f p.1) sends) (λ j r. any_sent f b sends j m r g) g q
-  | false ↦ λ q. or_right (f p.1) _ (any_sent f b sends k m q g)
-] e
+any_sent f b (p ∷ sends) k m e g = elim (same_site b p.0) as
+    (λ c. slice_get (if c then p.1 ∷ to_site b sends else to_site b sends) k ≡ Some m → (f p.1 || list_any
+    (λ (p : Site × Msg). f p.1) sends) ≡ true) [
+      | true ↦ λ q. any_cons f p.1 (to_site b sends) k m (list_any (λ (p : Site × Msg). f p.1) sends) (λ j r. any_sent f b sends j m r g) g q
+      | false ↦ λ q. or_right (f p.1) _ (any_sent f b sends k m q g)
+    ] e
 
 asked_more : (ts c : ℕ) (later l : site.Log) → was_asked ts c l ≡ true → was_asked ts c (later ++ l) ≡ true
 asked_more ts c [] l e = e
@@ -119,7 +121,9 @@ asked_of_put : (ts c : ℕ) (b : Site) (l : site.Log) (k : ℕ) (m : Msg) → sl
 asked_of_put ts c b l k m e f =
     let p = was_put b l k m e in
     subst (λ x. was_asked ts c x ≡ true) (sym p.is)
-    (asked_more ts c p.later (Did p.act ∷ p.before) (or_left (asks_in ts c (sends_of_act p.act)) (was_asked ts c p.before) (any_sent (asks_rows ts c) b (sends_of_act p.act) p.place m p.there f)))
+    (asked_more ts c p.later (Did p.act ∷ p.before)
+    (or_left (asks_in ts c (sends_of_act p.act)) (was_asked ts c p.before)
+    (any_sent (asks_rows ts c) b (sends_of_act p.act) p.place m p.there f)))
 
 asked_then : (g : Input) (log : Log) (at : Site) (d : DmNo) (ts c : ℕ) (later log2 : Log) (P : Msg → Type 0) → IsPermitted g log
     → log ≡ later ++ log2 → WasAsked (local_of g (D d) log2) at P → ((m : Msg) → P m → asks_rows ts c m ≡ true) → was_asked ts c (local_of g at log) ≡ true
@@ -284,7 +288,8 @@ answer_there g c d log a h e w =
       attempt = by.attempt;
       sends = (source_of (home_of (setting_of g (D d))) by.class, Ready r.t r.k r.counts) ∷ [];
       is = whole ∙ ap (λ x. front ++ Does (D d) x ∷ p.before)
-          (by.act_is ∙ ap (λ j. Records j (Answer by.txn by.attempt ((home_of (setting_of g (D d))).dm)) ((source_of (home_of (setting_of g (D d))) by.class, Ready r.t r.k r.counts) ∷ [])) of);
+          (by.act_is ∙ ap (λ j. Records j (Answer by.txn by.attempt ((home_of (setting_of g (D d))).dm))
+          ((source_of (home_of (setting_of g (D d))) by.class, Ready r.t r.k r.counts) ∷ [])) of);
       number_is = o.0;
       try_is = o.1;
       ts = r.t;
@@ -301,4 +306,5 @@ pub answered_all : (g : Input) (c : ℕ) (log : Log) (a : Attempt) (d : DmNo) �
     → contains (modules_asked (setting_of g (home g.catalogue c)) c a.text) d.0 ≡ true → HasAnswer g log d c a
 answered_all g c log a d h e o p =
     answer_there g c d log a h e
-    (all_ready (setting_of g (home g.catalogue c)) c (local_of g (home g.catalogue c) log) a d.0 (home_fair g c log h) (honest g (home g.catalogue c) log h) e (over_reads a.exchange o) p)
+    (all_ready (setting_of g (home g.catalogue c)) c (local_of g (home g.catalogue c) log) a d.0 (home_fair g c log h)
+    (honest g (home g.catalogue c) log h) e (over_reads a.exchange o) p)

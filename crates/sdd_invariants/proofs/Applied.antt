@@ -107,7 +107,8 @@ own_made at act = rw (site_self at) refl
 -- the WRITE of a Commit is among what its class's site put on the link
 pub commit_there : (g : Input) (d : DmNo) (j : ℕ) (later log : Log) (bases : Bases) (a : Attempt) → 1 ≤ d.0
     → d.0 ≤ g.catalogue.dms → 0 < length (changes_to g bases a d)
-    → (i : ℕ) × (slice_get (class_puts g j d (later ++ Does (home g.catalogue j) (commit_act g.catalogue bases j a) ∷ log)) i ≡ Some (Write (time_at a.ts) (class_no j) (txn_no a.txn) (changes_to g bases a d)))
+    → (i : ℕ) × (slice_get (class_puts g j d (later ++ Does (home g.catalogue j) (commit_act g.catalogue bases j a) ∷ log)) i ≡ Some
+    (Write (time_at a.ts) (class_no j) (txn_no a.txn) (changes_to g bases a d)))
 commit_there g d j later log bases a lo hi t =
     let at : Site = home g.catalogue j in
     let act : Act = commit_act g.catalogue bases j a in

@@ -265,7 +265,9 @@ all_applied g log x k d h l e =
     let pos : 0 < from_d x lu d = all_one (from_d x lu) (numbers_to g.catalogue.dms) k d (λ d. from_one g log x d h) (omega (arith, n, sum, l)) e in
     let w = tally_at (is_done_of x) (hands_from (D at) lu) pos in
     let t = done_is x w.1 w.3 in
-    let put : slice_get (puts_to U (local_of g (D at) log)) w.0 ≡ Some (Done t.0) = (in_taken (puts_to U (local_of g (D at) log)) (handed (D at) U log) w.0 (Done t.0) (subst (λ ms. slice_get ms w.0 ≡ Some (Done t.0)) (in_order g log (D at) U h) (w.2 ∙ ap (λ y. Some y) t.1))).0 in
+    let put : slice_get (puts_to U (local_of g (D at) log)) w.0 ≡ Some (Done t.0) = (in_taken (puts_to U (local_of g (D at) log))
+    (handed (D at) U log) w.0 (Done t.0)
+    (subst (λ ms. slice_get ms w.0 ≡ Some (Done t.0)) (in_order g log (D at) U h) (w.2 ∙ ap (λ y. Some y) t.1))).0 in
     let p = put_in_by_d g log at U w.0 (Done t.0) h put in
     let b : IsDoneBy (setting_of g (D at)) (local_of g (D at) p.before) U p.act t.0 = p.by in
     record { later = p.later; before = p.before; txn = b.txn; of = b.class; ts = t.0; changes = b.changes; is = p.is ∙ ap (λ y. p.later ++ Does (D at) y ∷ p.before) b.act_is; head_is = b.head_is; ts_is = t.2 }

@@ -86,7 +86,8 @@ new_after : (g : Input) (at : Site) (n : ℕ) (log : Log) → IsPermitted g log 
 new_after g at n (Mark (Submit k) ∷ log) h a =
     let fresh : not (was_marked k.0 log) ≡ true = allowed_mark g log (Mark (Submit k)) h.0 in
     elim (true_or_false (contains (submits (local_of g at log)) n)) [
-      | inl e ↦ (let m : was_marked n log ≡ true = seen_marked g at n log h.1 e in let f : not (was_marked n log) ≡ true = subst (λ x. not (was_marked x log) ≡ true) a fresh in absurd (both_ways (was_marked n log) m f))
+      | inl e ↦ (let m : was_marked n log ≡ true = seen_marked g at n log h.1 e in
+          let f : not (was_marked n log) ≡ true = subst (λ x. not (was_marked x log) ≡ true) a fresh in absurd (both_ways (was_marked n log) m f))
       | inr e ↦ e
     ]
 new_after g at n log h a = absurd a

@@ -136,7 +136,8 @@ none_more : (g : Input) (a b : Site) (e : Entry) (log : Log) → handed a b (e �
     → handed_by a (made g b log e) ≡ [] → IsPermitted g log → AreFirst g a b log → AreFirst g a b (e ∷ log)
 none_more g a b e log p q h i =
     hands_grow g a b e log ∙ ap (λ xs. hands_from a (local_of g b log) ++ xs) q ∙ append-nil _ ∙ i
-    ∙ sym (ap (λ k. take k (sent a b (e ∷ log))) p ∙ ap (take (handed a b log)) (sent_grows g a b e log) ∙ take-append-le (handed a b log) (sent a b log) (put_by b (made g a log e)) (handed_of_sent g log a b h))
+    ∙ sym (ap (λ k. take k (sent a b (e ∷ log))) p ∙ ap (take (handed a b log)) (sent_grows g a b e log)
+    ∙ take-append-le (handed a b log) (sent a b log) (put_by b (made g a log e)) (handed_of_sent g log a b h))
 
 -- a hand
 one_seen : (a from : Site) (c d : Bool) (k n : ℕ) (xs ys : List Msg) (m : Msg) → same_site a from ≡ c

@@ -68,7 +68,8 @@ handed_from : (cat : Catalogue) (c : ℕ) (l : site.Log) → Each (IsHomeHand ca
 handed_from cat c [] h = refl
 handed_from cat c (Handed from m ∷ l) h =
     hand_in c (goes_through c m) (same_site (home cat c) from) (all_handed c l) (hands_from (home cat c) l) m
-    (λ e. let r = class_and_time c (piped m) e in let q : home cat c ≡ from = h.0 c r.0 r.1 in subst (λ x. same_site (home cat c) x ≡ true) q (site_self (home cat c))) (handed_from cat c l h.1) refl
+    (λ e. let r = class_and_time c (piped m) e in let q : home cat c ≡ from = h.0 c r.0 r.1 in
+    subst (λ x. same_site (home cat c) x ≡ true) q (site_self (home cat c))) (handed_from cat c l h.1) refl
 handed_from cat c (_ ∷ l) h = handed_from cat c l h.1
 
 pub pipe_is : (g : Input) (c : ℕ) (d : DmNo) (log : Log) → IsPermitted g log
@@ -80,13 +81,19 @@ pipe_is g c d log h =
 pub in_pipe : (g : Input) (c : ℕ) (d : DmNo) (log : Log) → IsPermitted g log → (more : List Msg) × (class_puts g c d log ≡ all_of (pipe_at g c d log) ++ more)
 in_pipe g c d log h =
     let n : ℕ = handed (home g.catalogue c) (D d) log in
-    let ps : List Msg = puts_to (D d) (local_of g (home g.catalogue c) log) in
-    (class_in c (drop n ps), ap (class_in c) (sym (take-append-drop n ps)) ∙ filter-append (goes_through c) (take n ps) (drop n ps) ∙ ap (λ xs. xs ++ class_in c (drop n ps)) (sym (pipe_is g c d log h)))
+    let ps : List Msg = puts_to (D d) (local_of g (home g.catalogue c) log) in (
+      class_in c (drop n ps),
+      ap (class_in c) (sym (take-append-drop n ps)) ∙ filter-append (goes_through c) (take n ps) (drop n ps)
+          ∙ ap (λ xs. xs ++ class_in c (drop n ps)) (sym (pipe_is g c d log h)),
+    )
 
 -- and it stays so in every log that goes on from this one
 pub in_pipe_later : (g : Input) (c : ℕ) (d : DmNo) (later log : Log) → IsPermitted g log
     → (more : List Msg) × (class_puts g c d (later ++ log) ≡ all_of (pipe_at g c d log) ++ more)
 in_pipe_later g c d later log h =
     let i = in_pipe g c d log h in
-    let r = puts_more g (home g.catalogue c) (D d) later log in
-    (i.0 ++ class_in c r.0, ap (class_in c) r.1 ∙ filter-append (goes_through c) (puts_to (D d) (local_of g (home g.catalogue c) log)) r.0 ∙ ap (λ xs. xs ++ class_in c r.0) i.1 ∙ append_assoc (all_of (pipe_at g c d log)) i.0 (class_in c r.0))
+    let r = puts_more g (home g.catalogue c) (D d) later log in (
+      i.0 ++ class_in c r.0,
+      ap (class_in c) r.1 ∙ filter-append (goes_through c) (puts_to (D d) (local_of g (home g.catalogue c) log)) r.0
+          ∙ ap (λ xs. xs ++ class_in c r.0) i.1 ∙ append_assoc (all_of (pipe_at g c d log)) i.0 (class_in c r.0),
+    )

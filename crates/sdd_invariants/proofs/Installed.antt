@@ -170,13 +170,18 @@ applied_below g log d k ts of txn changes a h small e x =
 -- the WRITE of a Commit to a module that it touches
 pub commit_put : (g : Input) (c : ℕ) (d : DmNo) (later log : Log) (bases : Bases) (a : Attempt) → 1 ≤ d.0 → d.0 ≤ g.catalogue.dms
     → ((c == 0) ≡ true) ⊎ (0 < length (changes_to g bases a d))
-    → (i : ℕ) × (slice_get (class_puts g c d (later ++ Does (home g.catalogue c) (commit_act g.catalogue bases c a) ∷ log)) i ≡ Some (Write (time_at a.ts) (class_no c) (txn_no a.txn) (changes_to g bases a d)))
+    → (i : ℕ) × (slice_get (class_puts g c d (later ++ Does (home g.catalogue c) (commit_act g.catalogue bases c a) ∷ log)) i ≡ Some
+    (Write (time_at a.ts) (class_no c) (txn_no a.txn) (changes_to g bases a d)))
 commit_put g c d later log bases a lo hi t =
     let at : Site = home g.catalogue c in
     let act : Act = commit_act g.catalogue bases c a in
     let w : Msg = Write (time_at a.ts) (class_no c) (txn_no a.txn) (changes_to g bases a d) in
     let s = local_at g at later log (Does at act) (Did act) (own_made at act) in
-    let goes : (not (is_empty (changes_to g bases a d)) || (c == 0)) ≡ true = elim t [ inl z ↦ or_right _ _ z | inr n ↦ or_left _ _ (ap not (not_empty (changes_to g bases a d) n)) ] in
+    let goes : (not (is_empty (changes_to g bases a d)) || (c == 0)) ≡ true = elim t [
+      | inl z ↦ or_right _ _ z
+      | inr n ↦ or_left _ _
+          (ap not (not_empty (changes_to g bases a d) n))
+    ] in
     let k = some_to (write_to g.catalogue c a (effect g.catalogue (bases a.ts) a.text).changes) 1 g.catalogue.dms d.0 w lo (omega arith)
     (ap (λ b. cond b (to_module d.0 w) None) goes) in
     let p = is_put (D d) s.0 act (local_of g at log) k.0 w k.1 in

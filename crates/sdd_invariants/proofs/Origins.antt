@@ -31,7 +31,8 @@ not_empty (x ∷ xs) l = refl
 
 pub commit_writes : (s : Setting) (c : ℕ) (bases : Bases) (a : Attempt) (d : ℕ) → 1 ≤ d → d ≤ s.catalogue.dms
     → 0 < length (changes_at s.catalogue d (effect s.catalogue (bases a.ts) a.text).changes)
-    → (k : ℕ) × (slice_get (to_site (D (dm_no d)) (sends_of_act (commit_act s.catalogue bases c a))) k ≡ Some (Write (time_at a.ts) (class_no c) (txn_no a.txn) (changes_at s.catalogue d (effect s.catalogue (bases a.ts) a.text).changes)))
+    → (k : ℕ) × (slice_get (to_site (D (dm_no d)) (sends_of_act (commit_act s.catalogue bases c a))) k ≡ Some
+    (Write (time_at a.ts) (class_no c) (txn_no a.txn) (changes_at s.catalogue d (effect s.catalogue (bases a.ts) a.text).changes)))
 commit_writes s c bases a d l h n =
     some_to (write_to s.catalogue c a (effect s.catalogue (bases a.ts) a.text).changes) 1 s.catalogue.dms d _ l (omega arith)
     (rw (not_empty (changes_at s.catalogue d (effect s.catalogue (bases a.ts) a.text).changes) n) refl)

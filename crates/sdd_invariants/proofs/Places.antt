@@ -78,12 +78,14 @@ committed_by s c l2 l3 later b1 b2 b3 z a start commit y e f g n p idle =
       | inr q ↦ elim q [
         | inl r ↦ (r.between, r.is)
         | inr r ↦ absurd (elim (compare later r.between start y b1 b2 (sym g ∙ r.is)) [
-          | inl u ↦ (let i = longer z start b1 in let j : length b1 ≡ length b2 = ap length u.0 in let k : length b2 ≡ length (z ++ start ∷ b1) = ap length p in absurd (omega arith))
+          | inl u ↦ (let i = longer z start b1 in let j : length b1 ≡ length b2 = ap length u.0 in
+              let k : length b2 ≡ length (z ++ start ∷ b1) = ap length p in absurd (omega arith))
           | inr u ↦ elim u [
             | inl v ↦ (let i = none_in c r.between y v.between (subst (NoRecord c) v.front n) in
                 let stays = idle_stays s c (r.between ++ y ∷ []) b2 (none_front c r.between y i.0 i.1) idle in
                 not_both s c b3 a f (subst (λ l. active s c l ≡ None) (one_front r.between y b2 ∙ sym r.is) stays))
-            | inr v ↦ (let i = longer z start b1 in let j = longer v.between y b2 in let k : length b2 ≡ length (z ++ start ∷ b1) = ap length p in let m : length b1 ≡ length (v.between ++ y ∷ b2) = ap length v.is in absurd (omega arith))
+            | inr v ↦ (let i = longer z start b1 in let j = longer v.between y b2 in let k : length b2 ≡ length (z ++ start ∷ b1) = ap length p in
+                let m : length b1 ≡ length (v.between ++ y ∷ b2) = ap length v.is in absurd (omega arith))
           ]
         ])
       ]

@@ -5,8 +5,11 @@ use Rattle.sdd_invariants.proofs.Bools.{if_way, neither_left, neither_right, sam
 
 -- what holds of each kind of step holds of an act that is one
 pub read_step_way : (s : Setting) (log : Log) (act : Act) (P : Act → Type 0) → (is_moving act ≡ false → P act)
-    → ((c : ℕ) (conds : List Cond) (r : Rec) (sends : List (Site × Msg)) → IsClassHere s c → is_processing r ≡ false → is_wait r ≡ true → IsReadWith conds (head (pipe c log)) → spoiler (view_of s log) conds ≡ None → P (Records c r sends))
-    → ((c : ℕ) (m : Msg) (r : Rec) (sends : List (Site × Msg)) → IsClassHere s c → is_processing r ≡ true → head (pipe c log) ≡ Some m → May (view_of s log) c (waits c log) m r → P (Records c r sends))
+    → ((c : ℕ) (conds : List Cond) (r : Rec)
+    (sends : List (Site × Msg)) → IsClassHere s c → is_processing r ≡ false → is_wait r ≡ true → IsReadWith conds (head (pipe c log))
+    → spoiler (view_of s log) conds ≡ None → P (Records c r sends))
+    → ((c : ℕ) (m : Msg) (r : Rec) (sends : List (Site × Msg)) → IsClassHere s c → is_processing r ≡ true → head (pipe c log) ≡ Some m → May
+    (view_of s log) c (waits c log) m r → P (Records c r sends))
     → IsReadStep s log act → P act
 read_step_way s log act P f g h (in_passing e) = f e
 read_step_way s log act P f g h (by_wait c conds r sends l p w i j e) = subst P (sym e) (g c conds r sends l p w i j)

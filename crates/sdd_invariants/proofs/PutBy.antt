@@ -82,10 +82,12 @@ map_cons f d ds ms b (suc k) m p g e = let i = g k e in (suc i.0, i.1, i.2, i.3)
 in_map : (f : Cond → Site × Msg) (b : Site) (ds : List Cond) (k : ℕ) (m : Msg) → slice_get (to_site b (map f ds)) k ≡ Some m
     → (i : ℕ) × (x : Cond) × (slice_get ds i ≡ Some x) × (f x ≡ (b, m))
 in_map f b [] k m e = cc
-in_map f b (d ∷ ds) k m e = elim (same_site b (f d).0) as (λ x. same_site b (f d).0 ≡ x → slice_get (if x then (f d).1 ∷ to_site b (map f ds) else to_site b (map f ds)) k ≡ Some m → (i : ℕ) × (y : Cond) × (slice_get (d ∷ ds) i ≡ Some y) × (f y ≡ (b, m))) [
-  | true ↦ λ p q. map_cons f d ds (to_site b (map f ds)) b k m (site_is b (f d).0 p) (λ j r. in_map f b ds j m r) q
-  | false ↦ λ p q. let i = in_map f b ds k m q in (suc i.0, i.1, i.2, i.3)
-] refl e
+in_map f b (d ∷ ds) k m e = elim (same_site b (f d).0) as
+    (λ x. same_site b (f d).0 ≡ x → slice_get (if x then (f d).1 ∷ to_site b (map f ds) else to_site b (map f ds)) k ≡ Some m → (i : ℕ) × (y : Cond) ×
+    (slice_get (d ∷ ds) i ≡ Some y) × (f y ≡ (b, m))) [
+      | true ↦ λ p q. map_cons f d ds (to_site b (map f ds)) b k m (site_is b (f d).0 p) (λ j r. in_map f b ds j m r) q
+      | false ↦ λ p q. let i = in_map f b ds k m q in (suc i.0, i.1, i.2, i.3)
+    ] refl e
 
 ask_by : (s : Setting) (log : Log) (c : ℕ) (ts : Ts) (class : ClassNo) (txn : TxnNo) (attempt : ℕ) (conds : List Cond) (uses : List Use) (lacking : List Cond) (b : Site) (x : Msg) (i : ℕ) (d : Cond) (act : Act)
     → IsClassHere s c → head (pipe c log) ≡ Some (Read ts class txn attempt conds uses)

@@ -87,7 +87,8 @@ asked_act : (s : Setting) (ts c : ℕ) (log : Log) (act : Act) → Each (IsFair 
     → (was_asked ts c log ≡ true → ts ≤ last_stamp s log) → was_asked ts c (Did act ∷ log) ≡ true → ts ≤ last_stamp s (Did act ∷ log)
 asked_act s ts c log act fair i h =
     step_way s log act (λ x. was_asked ts c (Did x ∷ log) ≡ true → ts ≤ last_stamp s (Did x ∷ log))
-    (λ k q at f e. λ w. let p : was_asked ts c log ≡ true = only_right (asks_in ts c (sends_of_act (start_at s k log q))) (was_asked ts c log) (asks_start s ts c k log q) w in let l = h p in omega arith)
+    (λ k q at f e. λ w. let p : was_asked ts c log ≡ true = only_right (asks_in ts c (sends_of_act (start_at s k log q))) (was_asked ts c log)
+    (asks_start s ts c k log q) w in let l = h p in omega arith)
     (λ k bases a at f. λ w. h (only_right (asks_in ts c (sends_of_act (commit_act s.catalogue bases k a))) (was_asked ts c log) (asks_commit s ts c k bases a) w))
     (λ to m hand f. λ w. asked_send s ts c log to m hand fair f h (asks_rows ts c m) refl w) i
 
@@ -287,7 +288,9 @@ readied_act : (s : Setting) (c : ℕ) (log : Log) (act : Act) → Each (IsFair s
 readied_act s c log act fair i h = step_way s log act (λ x. AllReadied s c (Did x ∷ log) (active s c (Did x ∷ log)))
     (λ k q at f e. elim (same_or_not k c) [
       | inl p ↦ subst (λ j. AllReadied s j (Did (start_at s k log q) ∷ log) (active s j (Did (start_at s k log q) ∷ log))) p
-          (rw (same_number k) (subst (λ o. AllReadied s k (Did (start_at s k log q) ∷ log) (started (next_stamp s log) (sends_of_act (start_at s k log q)) o)) (sym e) (readied_start s k log q fair)))
+          (rw (same_number k) (subst
+          (λ o. AllReadied s k (Did (start_at s k log q) ∷ log) (started (next_stamp s log) (sends_of_act (start_at s k log q)) o)) (sym e)
+          (readied_start s k log q fair)))
       | inr p ↦ rw p (readied_on s c log (start_at s k log q) (active s c log) (λ ts. asks_start s ts c k log q) h)
     ])
     (λ k bases a at f. elim (same_or_not k c) [

@@ -18,7 +18,11 @@ pub record OpensRead (s : Setting) (c : ℕ) (b : Site) (log : Log) (act : Act) 
 
 read_one : (c k t : ℕ) (m : Msg) → read_at c m ≡ cond (k == c) (Some t) None → (reads_in c (m ∷ []) ≡ []) ⊎ (reads_in c (m ∷ []) ≡ t ∷ [])
 read_one c k t m e =
-    elim (k == c) as (λ b. read_at c m ≡ cond b (Some t) None → (reads_in c (m ∷ []) ≡ []) ⊎ (reads_in c (m ∷ []) ≡ t ∷ [])) [ true ↦ λ p. inr (rw p refl) | false ↦ λ p. inl (rw p refl) ] e
+    elim (k == c) as (λ b. read_at c m ≡ cond b (Some t) None → (reads_in c (m ∷ []) ≡ []) ⊎ (reads_in c (m ∷ []) ≡ t ∷ [])) [
+      | true ↦ λ p. inr
+          (rw p refl)
+      | false ↦ λ p. inl (rw p refl)
+    ] e
 
 -- what a Start puts on a link
 pub start_puts : (s : Setting) (c : ℕ) (b : Site) (log : Log) (q : Queued)
@@ -82,7 +86,8 @@ read_once s c b (Did act ∷ log) w h =
       | inr p ↦ (let one : reads_in c (puts_to b (Did act ∷ log)) ≡ reads_in c (puts_to b log) ++ p.0 ∷ [] = e ∙ ap (λ xs. reads_in c (puts_to b log) ++ xs) p.3 in
           record {
             strict = rw one (strict_push p.0 _ i.strict (lt_up (suc (bound s log)) p.0 _ p.1 i.closed));
-            closed = rw one (lt_push (suc (bound s (Did act ∷ log))) p.0 _ (lt_up (suc (bound s log)) (suc (bound s (Did act ∷ log))) _ (omega (arith, o.rises)) i.closed) (omega (arith, p.2)));
+            closed = rw one (lt_push (suc (bound s (Did act ∷ log))) p.0 _
+                (lt_up (suc (bound s log)) (suc (bound s (Did act ∷ log))) _ (omega (arith, o.rises)) i.closed) (omega (arith, p.2)));
           })
     ]
 read_once s c b (x ∷ log) w h = read_on s c b log x (bound_rises s x log) refl (read_once s c b log w h.1)

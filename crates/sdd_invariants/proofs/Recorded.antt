@@ -41,7 +41,9 @@ started_act : (s : Setting) (c : ℕ) (log : Log) (act : Act) → IsStep s log a
 started_act s c log act i h = step_way s log act (λ x. IsStarted s c (Did x ∷ log) (active s c (Did x ∷ log)))
     (λ k q at f e. elim (same_or_not k c) [
       | inl p ↦ subst (λ j. IsStarted s j (Did (start_at s k log q) ∷ log) (active s j (Did (start_at s k log q) ∷ log))) p
-          (rw (same_number k) (subst (λ o. IsStarted s k (Did (start_at s k log q) ∷ log) (started (next_stamp s log) (sends_of_act (start_at s k log q)) o)) (sym e) (started_now s k log q at f e)))
+          (rw (same_number k) (subst
+          (λ o. IsStarted s k (Did (start_at s k log q) ∷ log) (started (next_stamp s log) (sends_of_act (start_at s k log q)) o)) (sym e)
+          (started_now s k log q at f e)))
       | inr p ↦ rw p (started_more s c (Did (start_at s k log q)) log (active s c log) p h)
     ])
     (λ k bases a at f. elim (same_or_not k c) [
@@ -128,7 +130,9 @@ submit_found s c log n txn true k m t f g i e = elim (dec_le (suc k) (length (su
         before = log;
         is = ap (λ (x : ℕ × Txn). Submits x.0 x.1 ∷ log) r.1;
         of_class = subst (λ (x : ℕ × Txn). is_for c (current_era s log).catalogue x.1 ≡ true) r.1 f;
-        earlier = sym (ap (take k) g ∙ ap (λ j. take j (submits_of s c log ++ (n, txn) ∷ [])) r.0 ∙ take-append-le (length (submits_of s c log)) (submits_of s c log) ((n, txn) ∷ []) (omega arith) ∙ take_all (length (submits_of s c log)) (submits_of s c log) (omega arith));
+        earlier = sym (ap (take k) g ∙ ap (λ j. take j (submits_of s c log ++ (n, txn) ∷ [])) r.0
+            ∙ take-append-le (length (submits_of s c log)) (submits_of s c log) ((n, txn) ∷ []) (omega arith)
+            ∙ take_all (length (submits_of s c log)) (submits_of s c log) (omega arith));
       })
 ]
 

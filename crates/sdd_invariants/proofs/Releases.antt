@@ -149,7 +149,8 @@ serving_release s t ts log l v c u h =
           elim (dec_le (suc j) r) [
             | yes w ↦ h.done j x w g
             | no w ↦ (let at : j ≡ r = omega (arith, k, i, w) in
-                let short : length (take r xs) ≡ r = (let m = length-append (take r xs) (ts.0 ∷ []) in let o : length xs ≡ length (take r xs ++ ts.0 ∷ []) = ap length whole in omega arith) in
+                let short : length (take r xs) ≡ r = (let m = length-append (take r xs) (ts.0 ∷ []) in
+                let o : length xs ≡ length (take r xs ++ ts.0 ∷ []) = ap length whole in omega arith) in
                 let is : ts.0 ≡ x = at_end (take r xs) r ts.0 x short
                 (subst (λ ys. slice_get ys r ≡ Some x) whole (subst (λ y. slice_get xs y ≡ Some x) at g)) in
                 let d : s.catalogue.dms ≤ dones_of (last_served s log).ts log = omega (arith, v.1, h.dones_le) in
@@ -163,7 +164,12 @@ none_push ms = filter_map-append release_time ms (Hold ∷ []) ∙ append-nil _
 hold_times : (t n : ℕ) (log : Log)
     → release_times (puts_to (T (tm_no t)) (Did (Sends (T (tm_no n)) Hold None) ∷ log)) ≡ release_times (puts_to (T (tm_no t)) log)
 hold_times t n log =
-    elim (t == n) as (λ b. release_times (puts_to (T (tm_no t)) log ++ (if b then Hold ∷ [] else [])) ≡ release_times (puts_to (T (tm_no t)) log)) [ true ↦ none_push (puts_to (T (tm_no t)) log) | false ↦ ap release_times (append-nil (puts_to (T (tm_no t)) log)) ]
+    elim (t == n) as (λ b. release_times (puts_to (T (tm_no t)) log ++ (if b then Hold ∷ [] else [])) ≡ release_times
+    (puts_to (T (tm_no t)) log)) [
+      | true ↦ none_push (puts_to (T (tm_no t)) log)
+      | false ↦ ap release_times
+          (append-nil (puts_to (T (tm_no t)) log))
+    ]
 
 hold_releases : (t n : ℕ) (log : Log) → (counts t (Did (Sends (T (tm_no n)) Hold None) ∷ log)).releases ≡ (counts t log).releases
 hold_releases t n log =

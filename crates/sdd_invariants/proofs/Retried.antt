@@ -86,10 +86,12 @@ head_served a (q ∷ qs) n k h i = (sym h.0 ∙ i.0, sym h.2 ∙ i.1)
 
 -- a hand that ends it is a REJECT
 reject_by : (m : Msg) (ts c : ℕ) → rejects m ts c ≡ true → (t : Ts) × (k : ClassNo) × (by : ClassNo) × (w : Ts) × (m ≡ Reject t k by w) × (t.0 ≡ ts) × (k.0 ≡ c)
-reject_by (Reject t k by w) ts c e = elim (t.0 == ts) as (λ b. (t.0 == ts) ≡ b → (b && (k.0 == c)) ≡ true → (t2 : Ts) × (k2 : ClassNo) × (by2 : ClassNo) × (w2 : Ts) × (Reject t k by w ≡ Reject t2 k2 by2 w2) × (t2.0 ≡ ts) × (k2.0 ≡ c)) [
-  | true ↦ λ p q. (t, k, by, w, refl, eqb-true t.0 ts p, eqb-true k.0 c q)
-  | false ↦ λ p q. cc
-] refl e
+reject_by (Reject t k by w) ts c e = elim (t.0 == ts) as
+    (λ b. (t.0 == ts) ≡ b → (b && (k.0 == c)) ≡ true → (t2 : Ts) × (k2 : ClassNo) × (by2 : ClassNo) × (w2 : Ts) ×
+    (Reject t k by w ≡ Reject t2 k2 by2 w2) × (t2.0 ≡ ts) × (k2.0 ≡ c)) [
+      | true ↦ λ p q. (t, k, by, w, refl, eqb-true t.0 ts p, eqb-true k.0 c q)
+      | false ↦ λ p q. cc
+    ] refl e
 reject_by _ ts c e = cc
 
 ends_by : (s : Setting) (c : ℕ) (log : Log) (d : DmNo) (m : Msg) (a : Attempt) (n k : ℕ) → active s c log ≡ Some a
@@ -136,10 +138,15 @@ started_not ts sends None q e f = cc
 started_not ts sends (Some x) q e f = cc
 
 tried_start : (s : Setting) (c : ℕ) (log : Log) (q : Queued) → head_of (queue s c log) ≡ Some q → IsTriedAt s c log (queue s c log) (active s c log)
-    → IsTriedAt s c (Did (start_at s c log q) ∷ log) (map (tried q.number) (queue s c log)) (started (next_stamp s log) (sends_of_act (start_at s c log q)) (head_of (queue s c log)))
+    → IsTriedAt s c (Did (start_at s c log q) ∷ log) (map (tried q.number) (queue s c log))
+    (started (next_stamp s log) (sends_of_act (start_at s c log q)) (head_of (queue s c log)))
 tried_start s c log q e h =
     let but : ZeroBut q.number
-    (queue s c log) = elim h [ inl z ↦ but_zero q.number (queue s c log) z | inr t ↦ subst (λ n. ZeroBut n (queue s c log)) (sym (head_is t.number t.tries (queue s c log) q t.head e).0) t.others ] in
+    (queue s c log) = elim h [
+      | inl z ↦ but_zero q.number (queue s c log) z
+      | inr t ↦ subst (λ n. ZeroBut n (queue s c log))
+          (sym (head_is t.number t.tries (queue s c log) q t.head e).0) t.others
+    ] in
     inr (record {
       number = q.number;
       tries = suc q.tries;
@@ -169,11 +176,14 @@ tried_act : (s : Setting) (c : ℕ) (log : Log) (act : Act) → IsStep s log act
 tried_act s c log act i v h =
     step_way s log act (λ x. IsTriedAt s c (Did x ∷ log) (queue s c (Did x ∷ log)) (active s c (Did x ∷ log)))
     (λ k q at f e. elim (same_or_not k c) [
-      | inl p ↦ subst (λ j. IsTriedAt s c (Did (start_at s j log q) ∷ log) (queue s c (Did (start_at s j log q) ∷ log)) (active s c (Did (start_at s j log q) ∷ log))) (sym p) (rw (same_number c) (tried_start s c log q (rw p at e) h))
+      | inl p ↦ subst (λ j. IsTriedAt s c (Did (start_at s j log q) ∷ log) (queue s c (Did (start_at s j log q) ∷ log))
+          (active s c (Did (start_at s j log q) ∷ log))) (sym p) (rw (same_number c) (tried_start s c log q (rw p at e) h))
       | inr p ↦ rw p (tried_more s c (Did (start_at s k log q)) log (queue s c log) (active s c log) (active s c log) p (λ x. x) h)
     ])
     (λ k bases a at f. elim (same_or_not k c) [
-      | inl p ↦ subst (λ j. IsTriedAt s c (Did (commit_act s.catalogue bases j a) ∷ log) (queue s c (Did (commit_act s.catalogue bases j a) ∷ log)) (active s c (Did (commit_act s.catalogue bases j a) ∷ log))) (sym p) (rw (same_number c) (tried_commit s c log (Did (commit_act s.catalogue bases c a) ∷ log) a None (rw p at f) v h))
+      | inl p ↦ subst (λ j. IsTriedAt s c (Did (commit_act s.catalogue bases j a) ∷ log) (queue s c (Did (commit_act s.catalogue bases j a) ∷ log))
+          (active s c (Did (commit_act s.catalogue bases j a) ∷ log))) (sym p)
+          (rw (same_number c) (tried_commit s c log (Did (commit_act s.catalogue bases c a) ∷ log) a None (rw p at f) v h))
       | inr p ↦ rw p (tried_more s c (Did (commit_act s.catalogue bases k a)) log (queue s c log) (active s c log) (active s c log) p (λ x. x) h)
     ])
     (λ to m hand f. tried_more s c (Did (Sends to m hand)) log (queue s c log) (active s c log) (active_sent c m (active s c log)) refl (sent_none c m (active s c log)) h) i
@@ -190,5 +200,6 @@ pub was_rejected : (s : Setting) (c : ℕ) (log : Log) (q : Queued) → Each (Is
     → head_of (queue s c log) ≡ Some q → 0 < q.tries → IsRejected s c log q.number q.tries
 was_rejected s c log q h n idle e l = elim (tried_at s c log h n) [
   | inl z ↦ absurd (omega (arith, zero_head (queue s c log) q z e))
-  | inr t ↦ (let r = head_is t.number t.tries (queue s c log) q t.head e in subst (λ k. IsRejected s c log q.number k) (sym r.1) (subst (λ m. IsRejected s c log m t.tries) (sym r.0) (t.rejected idle)))
+  | inr t ↦ (let r = head_is t.number t.tries (queue s c log) q t.head e in
+      subst (λ k. IsRejected s c log q.number k) (sym r.1) (subst (λ m. IsRejected s c log m t.tries) (sym r.0) (t.rejected idle)))
 ]

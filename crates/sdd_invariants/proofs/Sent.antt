@@ -115,5 +115,8 @@ pub puts_more : (g : Input) (a b : Site) (later log : Log)
     → (more : List Msg) × (puts_to b (local_of g a (later ++ log)) ≡ puts_to b (local_of g a log) ++ more)
 puts_more g a b [] log = ([], sym (append-nil _))
 puts_more g a b (e ∷ later) log =
-    let i = puts_more g a b later log in
-    (i.0 ++ put_by b (made g a (later ++ log) e), puts_grow g a b e (later ++ log) ∙ ap (λ xs. xs ++ put_by b (made g a (later ++ log) e)) i.1 ∙ append_assoc (puts_to b (local_of g a log)) i.0 (put_by b (made g a (later ++ log) e)))
+    let i = puts_more g a b later log in (
+      i.0 ++ put_by b (made g a (later ++ log) e),
+      puts_grow g a b e (later ++ log) ∙ ap (λ xs. xs ++ put_by b (made g a (later ++ log) e)) i.1
+          ∙ append_assoc (puts_to b (local_of g a log)) i.0 (put_by b (made g a (later ++ log) e)),
+    )

@@ -58,7 +58,9 @@ ready_is a b c e =
 start_if : (s : Setting) (log : Log) (q : Queued) (z b : Bool) (act : Act) → head_of (queue s 0 log) ≡ Some q → (q.tries == 0) ≡ z
     → list_all (is_holding (view_of s log)) (view_of s log).counts ≡ b → (if z && b then Some (start_at s 0 log q) else None) ≡ Some act → IsStepU s log act
 start_if s log q true true act p z r e = step_is s log (start_at s 0 log q) act (u_start q p (eqb-true q.tries 0 z)
-    (λ k t i. ready_is (counts t log).holds (counts t log).helds (suc (last_served s log).commits) (all_at (is_holding (view_of s log)) (view_of s log).counts k (counts t log) r (at_map (λ t. counts t log) (numbers_to s.catalogue.tms) k t i))) refl) e
+    (λ k t i. ready_is (counts t log).holds (counts t log).helds (suc (last_served s log).commits)
+    (all_at (is_holding (view_of s log)) (view_of s log).counts k (counts t log) r
+    (at_map (λ t. counts t log) (numbers_to s.catalogue.tms) k t i))) refl) e
 start_if s log q _ _ act p z r e = cc
 
 start_u : (s : Setting) (log : Log) (o : Option Queued) (act : Act) → head_of (queue s 0 log) ≡ o
@@ -79,10 +81,14 @@ u_due s bases log act (by_hold j k p e) =
 
 -- what holds of each kind of step holds of an act that is one
 pub u_way : (s : Setting) (log : Log) (act : Act) (P : Act → Type 0)
-    → ((q : Queued) → head_of (queue s 0 log) ≡ Some q → q.tries ≡ 0 → ((k t : ℕ) → slice_get (numbers_to s.catalogue.tms) k ≡ Some t → ((counts t log).holds ≡ suc (last_served s log).commits) × ((counts t log).helds ≡ suc (last_served s log).commits)) → P (start_at s 0 log q))
+    → ((q : Queued) → head_of
+    (queue s 0 log) ≡ Some q → q.tries ≡ 0 → ((k t : ℕ) → slice_get
+    (numbers_to s.catalogue.tms) k ≡ Some t → ((counts t log).holds ≡ suc (last_served s log).commits) ×
+    ((counts t log).helds ≡ suc (last_served s log).commits)) → P (start_at s 0 log q))
     → ((bases : Bases) (a : Attempt) → active s 0 log ≡ Some a → P (commit_act s.catalogue bases 0 a))
     → ((d : ℕ) (m : Msg) (a : Attempt) → asks_rows a.ts 0 m ≡ true → P (Sends (D (dm_no d)) m None))
-    → ((t : ℕ) (ts : Ts) → (counts t log).releases < (last_served s log).commits → (ts.0 ≡ (last_served s log).ts) × ((last_served s log).dones ≡ s.catalogue.dms) → P (Sends (T (tm_no t)) (Release ts) None))
+    → ((t : ℕ) (ts : Ts) → (counts t log).releases < (last_served s log).commits → (ts.0 ≡ (last_served s log).ts) ×
+    ((last_served s log).dones ≡ s.catalogue.dms) → P (Sends (T (tm_no t)) (Release ts) None))
     → ((t : ℕ) → (counts t log).releases ≡ (counts t log).holds → P (Sends (T (tm_no t)) Hold None)) → IsStepU s log act → P act
 u_way s log act P a b c d e (u_start q i z r x) = subst P (sym x) (a q i z r)
 u_way s log act P a b c d e (u_commit bases w i x) = subst P (sym x) (b bases w i)
@@ -122,10 +128,11 @@ head_tried (x ∷ qs) q e =
 
 pub zero_left : (n : ℕ) (qs : List Queued) → ZeroBut n qs → AllZero (filter (λ q. not (q.number == n)) qs)
 zero_left n [] h = tt
-zero_left n (q ∷ qs) h = elim (q.number == n) as (λ b. (q.number == n) ≡ b → AllZero (cond (not b) (q ∷ filter (λ q. not (q.number == n)) qs) (filter (λ q. not (q.number == n)) qs))) [
-  | true ↦ λ e. zero_left n qs h.1
-  | false ↦ λ e. (elim h.0 [ inl p ↦ (let x : ◌≡◌ {A = Bool} true false = sym p ∙ e in cc) | inr z ↦ z ], zero_left n qs h.1)
-] refl
+zero_left n (q ∷ qs) h = elim (q.number == n) as
+    (λ b. (q.number == n) ≡ b → AllZero (cond (not b) (q ∷ filter (λ q. not (q.number == n)) qs) (filter (λ q. not (q.number == n)) qs))) [
+      | true ↦ λ e. zero_left n qs h.1
+      | false ↦ λ e. (elim h.0 [ inl p ↦ (let x : ◌≡◌ {A = Bool} true false = sym p ∙ e in cc) | inr z ↦ z ], zero_left n qs h.1)
+    ] refl
 
 pub not_started : (n : ℕ) (qs : List Queued) (q : Queued) → StartedHead n qs → head_of qs ≡ Some q → q.tries ≡ 0 → ⊥
 not_started n [] q h e z = h
@@ -164,7 +171,8 @@ tried_commit s log bases a e i h =
     ]
 
 tried_submit : (s : Setting) (log : Log) (k : ℕ) (txn : Txn) (b : Bool)
-    → ((starts log ≡ (last_served s log).commits) × AllZero (queue s 0 log)) ⊎ ((n : ℕ) × (starts log ≡ suc (last_served s log).commits) × StartedHead n (queue s 0 log) × ZeroBut n (queue s 0 log))
+    → ((starts log ≡ (last_served s log).commits) × AllZero (queue s 0 log)) ⊎
+    ((n : ℕ) × (starts log ≡ suc (last_served s log).commits) × StartedHead n (queue s 0 log) × ZeroBut n (queue s 0 log))
     → (qs : List Queued) → qs ≡ (if b then queue s 0 log ++ record { number = k; text = txn; tries = 0 } ∷ [] else queue s 0 log)
     → ((starts log ≡ (last_served s log).commits) × AllZero qs) ⊎ ((n : ℕ) × (starts log ≡ suc (last_served s log).commits) × StartedHead n qs × ZeroBut n qs)
 tried_submit s log k txn true h qs e = elim h [
@@ -190,7 +198,8 @@ is_tried s (Did act ∷ log) h =
 is_tried s (x ∷ log) h = tried_on s log x refl refl refl (is_tried s log h.1)
 
 hand_if : (b : Bool) (k : TmCounts)
-    → ((if b then record k { helds = suc k.helds } else k).releases ≡ k.releases) × ((if b then record k { helds = suc k.helds } else k).holds ≡ k.holds) × (k.helds ≤ (if b then record k { helds = suc k.helds } else k).helds)
+    → ((if b then record k { helds = suc k.helds } else k).releases ≡ k.releases) ×
+    ((if b then record k { helds = suc k.helds } else k).holds ≡ k.holds) × (k.helds ≤ (if b then record k { helds = suc k.helds } else k).helds)
 hand_if true k = (refl, refl, omega arith)
 hand_if false k = (refl, refl, omega arith)
 
@@ -334,7 +343,9 @@ chain s k t (Did act ∷ log) e h =
     let now = is_tried s log h.1 in
     let then_tried = is_tried s (Did act ∷ log) h in
     u_way s log act (λ x. IsTried s (Did x ∷ log) → IsChain s t (Did x ∷ log)) (λ q f z r. λ w. chain_start s t log q f z (r k t e) now i)
-    (λ bases a f. λ w. chain_on s t log (Did (commit_act s.catalogue bases 0 a)) refl (omega arith) (commits_le s (Did (commit_act s.catalogue bases 0 a) ∷ log) w) refl (ap (λ xs. puts_to (T (tm_no t)) log ++ xs) (no_puts s (tm_no t) bases a) ∙ append-nil _) i)
+    (λ bases a f. λ w. chain_on s t log (Did (commit_act s.catalogue bases 0 a)) refl (omega arith)
+    (commits_le s (Did (commit_act s.catalogue bases 0 a) ∷ log) w) refl
+    (ap (λ xs. puts_to (T (tm_no t)) log ++ xs) (no_puts s (tm_no t) bases a) ∙ append-nil _) i)
     (λ d m a f. λ w. chain_on s t log (Did (Sends (D (dm_no d)) m None)) refl (omega arith) i.committed refl (append-nil _) i)
     (λ n ts l v. λ w. elim (same_or_not t n) [
       | inl p ↦ subst (λ x. IsChain s t (Did (Sends (T (tm_no x)) (Release ts) None) ∷ log)) p

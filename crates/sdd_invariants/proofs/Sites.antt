@@ -35,10 +35,12 @@ none_of f b a (d ∷ ds) e h = rw (other_module b a d e h.0) (none_of f b a ds e
 pub one_of_each : (f : ℕ → Msg) (b : Site) (ds : List ℕ) → IsStrict ds
     → (to_site b (map (λ d. (D (dm_no d), f d)) ds) ≡ []) ⊎ ((d : ℕ) × (to_site b (map (λ d. (D (dm_no d), f d)) ds) ≡ f d ∷ []))
 one_of_each f b [] h = inl refl
-one_of_each f b (d ∷ ds) h = elim (same_site b (D (dm_no d))) as (λ x. same_site b (D (dm_no d)) ≡ x → (to_site b (map (λ d. (D (dm_no d), f d)) (d ∷ ds)) ≡ []) ⊎ ((d2 : ℕ) × (to_site b (map (λ d. (D (dm_no d), f d)) (d ∷ ds)) ≡ f d2 ∷ []))) [
-  | true ↦ λ e. inr (d, rw e (ap (λ xs. f d ∷ xs) (none_of f b d ds e h.0)))
-  | false ↦ λ e. rw e (one_of_each f b ds h.1)
-] refl
+one_of_each f b (d ∷ ds) h = elim (same_site b (D (dm_no d))) as
+    (λ x. same_site b (D (dm_no d)) ≡ x → (to_site b (map (λ d. (D (dm_no d), f d)) (d ∷ ds)) ≡ []) ⊎
+    ((d2 : ℕ) × (to_site b (map (λ d. (D (dm_no d), f d)) (d ∷ ds)) ≡ f d2 ∷ []))) [
+      | true ↦ λ e. inr (d, rw e (ap (λ xs. f d ∷ xs) (none_of f b d ds e h.0)))
+      | false ↦ λ e. rw e (one_of_each f b ds h.1)
+    ] refl
 
 -- to each module at most one
 abbrev pub GoesTo : (ℕ → Option (Site × Msg)) → Type 0
@@ -59,7 +61,8 @@ one_to f b a zero g = inl refl
 one_to f b a (suc n) g = elim (g a) [
   | inl e ↦ rw e (one_to f b (a + 1) n g)
   | inr p ↦ elim (same_site b (D (dm_no a))) as
-      (λ x. same_site b (D (dm_no a)) ≡ x → (to_site b (filter_map f (range_with_len a (suc n))) ≡ []) ⊎ ((d : ℕ) × (m : Msg) × (f d ≡ Some (D (dm_no d), m)) × (to_site b (filter_map f (range_with_len a (suc n))) ≡ m ∷ []))) [
+      (λ x. same_site b (D (dm_no a)) ≡ x → (to_site b (filter_map f (range_with_len a (suc n))) ≡ []) ⊎
+      ((d : ℕ) × (m : Msg) × (f d ≡ Some (D (dm_no d), m)) × (to_site b (filter_map f (range_with_len a (suc n))) ≡ m ∷ []))) [
         | true ↦ λ e. inr (a, p.0, p.1, rw (p.1, e) (ap (λ xs. p.0 ∷ xs) (none_to f b (a + 1) n g (λ d l. other_module b a d e (omega arith)))))
         | false ↦ λ e. rw (p.1, e) (one_to f b (a + 1) n g)
       ] refl

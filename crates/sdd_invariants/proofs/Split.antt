@@ -106,7 +106,8 @@ split g later log d q r txn attempt module_no sends ts k t a conds uses n i w j 
             let none : list_any (spoiling q) (pipe c l).processed ≡ false = subst (λ ms. list_any (spoiling q) ms ≡ false) (processed_in_is s l c lt)
             (sym (spoils_is s l q) ∙ clean) in
             below_time q w j x changes tch (any_false_at (spoiling q) (pipe c l).processed i (Write w j x changes) none in_it)),
-        (λ lo. has_passed (pipe c l) more.0 q.time.0 i (Write w j x changes) rises there lo (subst (λ (v : ClassView). passed v.pipe q.time.0 ≡ true) (class_in_view s l c lt) met)),
+        (λ lo. has_passed (pipe c l) more.0 q.time.0 i (Write w j x changes) rises there lo
+            (subst (λ (v : ClassView). passed v.pipe q.time.0 ≡ true) (class_in_view s l c lt) met)),
       )
       | no nlt ↦ (let p : passed empty_pipe q.time.0 ≡ true = subst (λ (v : ClassView). passed v.pipe q.time.0 ≡ true) (class_not_in_view s l c (omega (arith, nlt))) met in cc)
     ]

@@ -12,10 +12,12 @@ AllAre t (x ∷ xs) = (x ≡ t) × AllAre t xs
 -- lists
 times_join : (c : ℕ) (xs ys : List Msg) → times_in c (xs ++ ys) ≡ times_in c xs ++ times_in c ys
 times_join c [] ys = refl
-times_join c (m ∷ xs) ys = elim (goes_through c m) as (λ b. (if b then time_of m ∷ times_in c (xs ++ ys) else times_in c (xs ++ ys)) ≡ (if b then time_of m ∷ times_in c xs else times_in c xs) ++ times_in c ys) [
-  | true ↦ ap (λ l. time_of m ∷ l) (times_join c xs ys)
-  | false ↦ times_join c xs ys
-]
+times_join c (m ∷ xs) ys = elim (goes_through c m) as
+    (λ b. (if b then time_of m ∷ times_in c (xs ++ ys) else times_in c (xs ++ ys)) ≡
+    (if b then time_of m ∷ times_in c xs else times_in c xs) ++ times_in c ys) [
+      | true ↦ ap (λ l. time_of m ∷ l) (times_join c xs ys)
+      | false ↦ times_join c xs ys
+    ]
 
 all_ge_join : (k t : ℕ) (xs ys : List ℕ) → k ≤ t → AllGe k xs → AllAre t ys → AllGe k (xs ++ ys)
 all_ge_join k t [] [] l h i = tt
@@ -195,7 +197,8 @@ timed s c b (Did act ∷ log) w h =
     let e = times_join c (puts_to b log) (to_site b (sends_of_act act)) in
     record {
       rises = rw e (rising_join g.time _ _ i.rises (le_up (limit s c log) g.time _ g.above i.within) g.all_at);
-      within = rw e (le_same (limit s c (Did act ∷ log)) g.time _ _ g.below (le_up (limit s c log) (limit s c (Did act ∷ log)) _ (omega (arith, g.above, g.below)) i.within) g.all_at);
+      within = rw e (le_same (limit s c (Did act ∷ log)) g.time _ _ g.below
+          (le_up (limit s c log) (limit s c (Did act ∷ log)) _ (omega (arith, g.above, g.below)) i.within) g.all_at);
     }
 timed s c b (x ∷ log) w h =
     timed_on s c b log x (limit_on (bound s log) (bound s (x ∷ log)) (active s c log) (bound_rises s x log)) refl

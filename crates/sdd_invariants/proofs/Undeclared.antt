@@ -165,7 +165,8 @@ never_spoilt g k t j kd m d log ts of txn n ds us q h i run small hm id e f =
       | true ↦ λ p. (let z = is_spoilt s l q p in
           let wr = writer_of g log d q.class.0 z.place z.ts z.of z.txn z.changes h z.there in
           let same = read_times g d log ts of txn n ds us m q h e f in
-          absurd (spoilt_not g k t q.class.0 j kd d log ts of txn n ds us q z.ts.0 h i run small hm id e (subst (λ y. y ≤ z.ts.0) same (le_as q.time.0 _ z.ts.0 z.at_least z.ts_is)) wr))
+          absurd (spoilt_not g k t q.class.0 j kd d log ts of txn n ds us q z.ts.0 h i run small hm id e
+          (subst (λ y. y ≤ z.ts.0) same (le_as q.time.0 _ z.ts.0 z.at_least z.ts_is)) wr))
       | false ↦ λ p. refl
     ] refl
 

@@ -61,7 +61,8 @@ processed_by : (s : Setting) (e : Entry) (log : Log) (j : ℕ) → (pipe j (e �
     → processed_in s (e ∷ log) j ≡ processed_in s log j
 processed_by s e log j h = elim (dec_le (suc j) (suc (length s.catalogue.classes))) [
   | yes l ↦ processed_in_is s (e ∷ log) j l ∙ h ∙ sym (processed_in_is s log j l)
-  | no n ↦ (let l : suc (length s.catalogue.classes) ≤ j = omega (arith, n) in ap (λ (k : ClassView). k.pipe.processed) (class_not_in_view s (e ∷ log) j l ∙ sym (class_not_in_view s log j l)))
+  | no n ↦ (let l : suc (length s.catalogue.classes) ≤ j = omega (arith, n) in
+      ap (λ (k : ClassView). k.pipe.processed) (class_not_in_view s (e ∷ log) j l ∙ sym (class_not_in_view s log j l)))
 ]
 
 unspoilt_on : (s : Setting) (log more : Log) (ds : List Cond) → ((j : ℕ) → processed_in s more j ≡ processed_in s log j)
@@ -119,7 +120,9 @@ wait_own s c conds r sends log l p w e = λ q.
     let same : (j : ℕ) → pipe j (Did (Records c r sends) ∷ log) ≡ pipe j log = λ j. (not_own j c r sends log (inr p)).pipe_same in (
       l,
       subst (λ (x : Pipe). IsUnspoilt s (Did (Records c r sends) ∷ log) (head x)) (sym (same c))
-          (is_unspoilt_on s log (Did (Records c r sends) ∷ log) (head (pipe c log)) (λ j. processed_by s (Did (Records c r sends)) log j (ap (λ (x : Pipe). x.processed) (same j))) (read_unspoilt s log conds (head (pipe c log)) w (no_spoiler s log conds e))),
+          (is_unspoilt_on s log (Did (Records c r sends) ∷ log) (head (pipe c log))
+          (λ j. processed_by s (Did (Records c r sends)) log j (ap (λ (x : Pipe). x.processed) (same j)))
+          (read_unspoilt s log conds (head (pipe c log)) w (no_spoiler s log conds e))),
     )
 
 -- a record that processes the head of class k
@@ -243,7 +246,8 @@ waiting s (Handed from m ∷ log) h c = waiting_on s c (Handed from m) log
 waiting s (Did act ∷ log) h c =
     let i = waiting s log h.1 c in
     read_step_way s log act (λ x. IsWaiting s c (Did x ∷ log))
-    (λ e. waiting_on s c (Did act) log (λ j. ap (λ (x : Pipe). x.processed) (passing j act log e).0.pipe_same) (passing c act log e).1 (λ _. ap head (passing c act log e).0.pipe_same) i)
+    (λ e. waiting_on s c (Did act) log (λ j. ap (λ (x : Pipe). x.processed) (passing j act log e).0.pipe_same) (passing c act log e).1
+    (λ _. ap head (passing c act log e).0.pipe_same) i)
     (λ k conds r sends l p w a b. elim (same_or_not k c) [
       | inl q ↦ subst (λ x. IsWaiting s c (Did (Records x r sends) ∷ log)) (sym q) (wait_own s c conds r sends log (rw q at l) p (rw q at a) b)
       | inr q ↦ waiting_on s c (Did (Records k r sends)) log (λ j. ap (λ (x : Pipe). x.processed) (not_own j k r sends log (inr p)).pipe_same)

@@ -63,16 +63,21 @@ cond_is false x y e = cc
 pub write_is : (cat : Catalogue) (c : ℕ) (a : Attempt) (changes : List Change) (d : ℕ) (m : Msg) → write_to cat c a changes d ≡ Some (D (dm_no d), m)
     → m ≡ Write (time_at a.ts) (class_no c) (txn_no a.txn) (changes_at cat d changes)
 write_is cat c a changes d m e =
-    sym (ap (λ (p : Site × Msg). p.1) (cond_is (not (is_empty (changes_at cat d changes)) || (c == 0)) (D (dm_no d), Write (time_at a.ts) (class_no c) (txn_no a.txn) (changes_at cat d changes)) (D (dm_no d), m) e))
+    sym (ap (λ (p : Site × Msg). p.1)
+    (cond_is (not (is_empty (changes_at cat d changes)) || (c == 0))
+    (D (dm_no d), Write (time_at a.ts) (class_no c) (txn_no a.txn) (changes_at cat d changes)) (D (dm_no d), m) e))
 
 -- what a Commit puts on a link
 pub commit_puts : (s : Setting) (c : ℕ) (bases : Bases) (b : Site) (a : Attempt)
     → (to_site b (sends_of_act (commit_act s.catalogue bases c a)) ≡ [])
-    ⊎ ((d : ℕ) × (to_site b (sends_of_act (commit_act s.catalogue bases c a)) ≡ Write (time_at a.ts) (class_no c) (txn_no a.txn) (changes_at s.catalogue d (effect s.catalogue (bases a.ts) a.text).changes) ∷ []))
-commit_puts s c bases b a = elim (one_to (write_to s.catalogue c a (effect s.catalogue (bases a.ts) a.text).changes) b 1 s.catalogue.dms (goes_write s.catalogue c a (effect s.catalogue (bases a.ts) a.text).changes)) [
-  | inl e ↦ inl e
-  | inr p ↦ inr (p.0, p.3 ∙ ap (λ m. m ∷ []) (write_is s.catalogue c a (effect s.catalogue (bases a.ts) a.text).changes p.0 p.1 p.2))
-]
+    ⊎ ((d : ℕ) × (to_site b (sends_of_act (commit_act s.catalogue bases c a)) ≡ Write (time_at a.ts) (class_no c) (txn_no a.txn)
+    (changes_at s.catalogue d (effect s.catalogue (bases a.ts) a.text).changes) ∷ []))
+commit_puts s c bases b a = elim
+    (one_to (write_to s.catalogue c a (effect s.catalogue (bases a.ts) a.text).changes) b 1 s.catalogue.dms
+    (goes_write s.catalogue c a (effect s.catalogue (bases a.ts) a.text).changes)) [
+      | inl e ↦ inl e
+      | inr p ↦ inr (p.0, p.3 ∙ ap (λ m. m ∷ []) (write_is s.catalogue c a (effect s.catalogue (bases a.ts) a.text).changes p.0 p.1 p.2))
+    ]
 
 opens_commit_own : (s : Setting) (c : ℕ) (bases : Bases) (b : Site) (log : Log) (a : Attempt) → active s c log ≡ Some a
     → a.ts ≤ bound s log → Opens s c b log (commit_act s.catalogue bases c a)
@@ -128,7 +133,8 @@ open_handed : (s : Setting) (c : ℕ) (from : Site) (m : Msg) (log : Log) → nu
     → stamp_or (active s c log) ≤ last_stamp s log → open_from s c log ≤ open_from s c (Handed from m ∷ log)
 open_handed s c from m log w l =
     let up = bound_rises s (Handed from m) log in let z = stamp_below_bound s log w in
-    handed_way (λ o. open_from s c log ≤ open_of (bound s (Handed from m ∷ log)) o) c from m (active s c log) (open_bound (bound s log) (bound s (Handed from m ∷ log)) (active s c log) (omega arith) up)
+    handed_way (λ o. open_from s c log ≤ open_of (bound s (Handed from m ∷ log)) o) c from m (active s c log)
+    (open_bound (bound s log) (bound s (Handed from m ∷ log)) (active s c log) (omega arith) up)
     (λ a x e. let p : open_from s c log ≡ open_of (bound s log) (Some a) = ap (open_of (bound s log)) e in omega arith)
     (open_le (bound s log) (bound s (Handed from m ∷ log)) (active s c log) up)
 

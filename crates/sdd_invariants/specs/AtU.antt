@@ -12,7 +12,8 @@ use Rattle.sdd_invariants.specs.Traffic.{puts_to}
 -- one of the entries of U's table
 pub data IsStepU (s : Setting) (log : Log) (act : Act) : Type 0 where
   u_start : (q : Queued) → head_of (queue s 0 log) ≡ Some q → q.tries ≡ 0
-      → ((k t : ℕ) → slice_get (numbers_to s.catalogue.tms) k ≡ Some t → ((counts t log).holds ≡ suc (last_served s log).commits) × ((counts t log).helds ≡ suc (last_served s log).commits))
+      → ((k t : ℕ) → slice_get (numbers_to s.catalogue.tms) k ≡ Some t → ((counts t log).holds ≡ suc (last_served s log).commits) ×
+      ((counts t log).helds ≡ suc (last_served s log).commits))
       → act ≡ start_at s 0 log q → IsStepU s log act
   u_commit : (bases : Bases) (a : Attempt) → active s 0 log ≡ Some a → act ≡ commit_act s.catalogue bases 0 a → IsStepU s log act
   u_exchange : (d : ℕ) (m : Msg) (a : Attempt) → asks_rows a.ts 0 m ≡ true → act ≡ Sends (D (dm_no d)) m None → IsStepU s log act
@@ -55,7 +56,8 @@ StartedHead n (q ∷ qs) = (q.number ≡ n) × (0 < q.tries)
 
 abbrev pub IsTried : Setting → Log → Type 0
 IsTried s log =
-    ((starts log ≡ (last_served s log).commits) × AllZero (queue s 0 log)) ⊎ ((n : ℕ) × (starts log ≡ suc (last_served s log).commits) × StartedHead n (queue s 0 log) × ZeroBut n (queue s 0 log))
+    ((starts log ≡ (last_served s log).commits) × AllZero (queue s 0 log)) ⊎
+    ((n : ℕ) × (starts log ≡ suc (last_served s log).commits) × StartedHead n (queue s 0 log) × ZeroBut n (queue s 0 log))
 
 -- the chain at U, of one T
 pub record IsChain (s : Setting) (t : ℕ) (log : Log) : Type 0 where

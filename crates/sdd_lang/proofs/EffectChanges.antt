@@ -52,7 +52,8 @@ effect_made cat db (Query out rels conds ∷ rest) answers changed s =
     (λ b. AreMade (if b then failed TooMany else effect_from cat db rest (answers ++ found ∷ []) changed).changes) [ true ↦ no_changes | false ↦ next ]
 effect_made cat db (Update rel sets conds ∷ rest) answers changed s =
     elim (with_updates cat sets changed (chosen db rel.0 conds)) as
-    (λ o. with_updates cat sets changed (chosen db rel.0 conds) ≡ o → AreMade (elim o as (λ p. Effect) [ None ↦ failed Overflow | Some next ↦ effect_from cat db rest answers next ]).changes) [
+    (λ o. with_updates cat sets changed (chosen db rel.0 conds) ≡ o → AreMade
+    (elim o as (λ p. Effect) [ None ↦ failed Overflow | Some next ↦ effect_from cat db rest answers next ]).changes) [
       | None ↦ λ h. no_changes
       | Some next ↦ λ h. effect_made cat db rest answers next (updates_ascend cat sets changed next (chosen db rel.0 conds) s h)
     ] refl
@@ -91,9 +92,11 @@ one_entry : (es : Changed) (d e : (ℕ × ℤ) × Option Row) → Ascending es �
 one_entry [] d e sorted h k same = absurd h
 one_entry (f ∷ es) d e sorted (inl a) (inl b) same = a ∙ sym b
 one_entry (f ∷ es) d e sorted (inl a) (inr k) same =
-    absurd (not_below_itself f.0 e.0 (ap (λ (z : (ℕ × ℤ) × Option Row). z.0) (sym a) ∙ same) (key_below es e (λ i. item_cmp f.0 i ≡ Less) (sorted_head item_cmp f.0 (keys_of es) sorted) k))
+    absurd (not_below_itself f.0 e.0 (ap (λ (z : (ℕ × ℤ) × Option Row). z.0) (sym a) ∙ same)
+    (key_below es e (λ i. item_cmp f.0 i ≡ Less) (sorted_head item_cmp f.0 (keys_of es) sorted) k))
 one_entry (f ∷ es) d e sorted (inr h) (inl b) same =
-    absurd (not_below_itself f.0 d.0 (ap (λ (z : (ℕ × ℤ) × Option Row). z.0) (sym b) ∙ sym same) (key_below es d (λ i. item_cmp f.0 i ≡ Less) (sorted_head item_cmp f.0 (keys_of es) sorted) h))
+    absurd (not_below_itself f.0 d.0 (ap (λ (z : (ℕ × ℤ) × Option Row). z.0) (sym b) ∙ sym same)
+    (key_below es d (λ i. item_cmp f.0 i ≡ Less) (sorted_head item_cmp f.0 (keys_of es) sorted) h))
 one_entry (f ∷ es) d e sorted (inr h) (inr k) same = one_entry es d e (sorted_tail item_cmp f.0 (keys_of es) sorted) h k same
 
 -- an item of a relation is of its fragment
@@ -170,7 +173,11 @@ updates_in : (cat : Catalogue) (ws : List ℕ) (sets : List Assign) (changed nex
 updates_in cat ws sets changed next [] all h e = let same : changed ≡ next = cc in subst (AllByRecursion (ChangedIn ws)) same all
 updates_in cat ws sets changed next (f ∷ es) all h e =
     elim (replaced sets f.1) as
-    (λ o. elim o as (λ p. Option Changed) [ None ↦ None | Some row ↦ with_updates cat sets (with_change cat changed f.0.0 f.0.1 (Some row)) es ] ≡ Some next → AllByRecursion (ChangedIn ws) next) [
+    (λ o. elim o as (λ p. Option Changed) [
+      | None ↦ None
+      | Some row ↦ with_updates cat sets
+          (with_change cat changed f.0.0 f.0.1 (Some row)) es
+    ] ≡ Some next → AllByRecursion (ChangedIn ws) next) [
       | None ↦ λ k. cc
       | Some row ↦ λ k. updates_in cat ws sets (with_change cat changed f.0.0 f.0.1 (Some row)) next es
           (change_in cat ws changed f.0.0 f.0.1 (Some row) all h.0) h.1 k
@@ -218,7 +225,8 @@ effect_in cat sound ws db is (Update rel sets conds ∷ rest) answers changed fi
     let of : AllByRecursion (InSet ws) frags = subst (AllByRecursion (InSet ws)) (append-nil frags) written.0 in
     let here = chosen_in cat sound ws rel conds fits.0.0 (recursion_from_All (FitsCondition cat (rel ∷ [])) conds fits.0.3.1) of db is in
     elim (with_updates cat sets changed (chosen db rel.0 conds)) as
-    (λ o. with_updates cat sets changed (chosen db rel.0 conds) ≡ o → EffectIn ws (elim o as (λ p. Effect) [ None ↦ failed Overflow | Some next ↦ effect_from cat db rest answers next ])) [
+    (λ o. with_updates cat sets changed (chosen db rel.0 conds) ≡ o → EffectIn ws
+    (elim o as (λ p. Effect) [ None ↦ failed Overflow | Some next ↦ effect_from cat db rest answers next ])) [
       | None ↦ λ h. tt
       | Some next ↦ λ h. effect_in cat sound ws db is rest answers next fits.1 written.1
           (updates_in cat ws sets changed next (chosen db rel.0 conds) all here h)
@@ -254,4 +262,5 @@ lie_in_write_set cat sound txn fits db is =
     let each : AllByRecursion (InSet ws) ws = each_contained ws ws (λ f h. h) in
     let written = each_written cat ws txn.statements (ascending_back (InSet ws) (flat_map (written_by cat) txn.statements) each) in
     All-from_recursion (λ (c : Change). contains ws c.frag.0 ≡ true) (effect cat db txn).changes
-    (effect_in cat sound ws db (recursion_from_All (IsEntry cat) db is.entries) txn.statements [] [] (recursion_from_All (FitsStatement cat) txn.statements fits.statements) written tt)
+    (effect_in cat sound ws db (recursion_from_All (IsEntry cat) db is.entries) txn.statements [] []
+    (recursion_from_All (FitsStatement cat) txn.statements fits.statements) written tt)

@@ -10,7 +10,9 @@ unfolding first_from
 first_of_all cat txn = let n : length cat.classes ≡ length cat.classes + 1 - 1 = omega arith in cc
 
 first_step : (cat : Catalogue) (txn : Txn) (c m n : ℕ) → n ≡ suc m
-    → first_from cat txn c n ≡ unwrap_or (head_of (cond (covers cat txn c) (c ∷ filter (covers cat txn) (range_with_len (c + 1) m)) (filter (covers cat txn) (range_with_len (c + 1) m)))) 0
+    → first_from cat txn c n ≡ unwrap_or
+    (head_of (cond (covers cat txn c) (c ∷ filter (covers cat txn) (range_with_len (c + 1) m))
+    (filter (covers cat txn) (range_with_len (c + 1) m)))) 0
 unfolding first_from
 first_step cat txn c m n e = ap (λ k. unwrap_or (head_of (filter (covers cat txn) (range_with_len c k))) 0) e
 

@@ -11,7 +11,8 @@ each_lets_join [] part row = refl
 each_lets_join (Const left op value ∷ conds) part row =
     let r : Restriction = record { column = left.column; op = op; value = value } in
     elim (left.part == part) as
-    (λ b. (list_all (meets row) (cons_option (cond b (Some r) None) []) && list_all (λ c. may_join (c ∷ []) part row) conds) ≡ list_all (meets row) (cons_option (cond b (Some r) None) (restrictions_of part conds))) [
+    (λ b. (list_all (meets row) (cons_option (cond b (Some r) None) []) && list_all (λ c. may_join (c ∷ []) part row) conds) ≡ list_all (meets row)
+    (cons_option (cond b (Some r) None) (restrictions_of part conds))) [
       | true ↦ and_true (meets row r) _ _ (each_lets_join conds part row)
       | false ↦ each_lets_join conds part row
     ]

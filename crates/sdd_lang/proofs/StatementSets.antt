@@ -35,7 +35,8 @@ part_numbers cat rel part conds =
 
 -- the fragments of the first part, and then those of the others
 pub one_part : (cat : Catalogue) (ks : List ℕ) (conds : List Condition) (part : ℕ) (rel : RelNo) (rels : List RelNo)
-    → put_all ks (fragments_in (part_uses cat 0 conds part (rel ∷ rels))) ≡ put_all (put_all ks (part_numbers cat rel.0 part conds)) (fragments_in (part_uses cat 0 conds (part + 1) rels))
+    → put_all ks (fragments_in (part_uses cat 0 conds part (rel ∷ rels))) ≡ put_all (put_all ks (part_numbers cat rel.0 part conds))
+    (fragments_in (part_uses cat 0 conds (part + 1) rels))
 one_part cat ks conds part rel rels = simp (numbers_back, fold-append)
 
 -- the fragments of a part are put, where its keys are those that the conditions allow

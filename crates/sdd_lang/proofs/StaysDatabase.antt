@@ -160,7 +160,12 @@ updates_change : (cat : Catalogue) → IsSoundCatalogue cat → (rel : ℕ) (set
 updates_change cat sound rel sets there fits changed next [] all of e = let same : changed ≡ next = cc in subst (AllByRecursion (IsChange cat)) same all
 updates_change cat sound rel sets there fits changed next (f ∷ es) all of e =
     elim (replaced sets f.1) as
-    (λ o. replaced sets f.1 ≡ o → elim o as (λ p. Option Changed) [ None ↦ None | Some row ↦ with_updates cat sets (with_change cat changed f.0.0 f.0.1 (Some row)) es ] ≡ Some next → AllByRecursion (IsChange cat) next) [
+    (λ o. replaced sets f.1 ≡ o → elim o as
+    (λ p. Option Changed) [
+      | None ↦ None
+      | Some row ↦ with_updates cat sets
+          (with_change cat changed f.0.0 f.0.1 (Some row)) es
+    ] ≡ Some next → AllByRecursion (IsChange cat) next) [
       | None ↦ λ h k. cc
       | Some row ↦ λ h k.
           let entry : IsEntry cat f = of.0.0 in
@@ -193,11 +198,13 @@ effect_changes cat sound db is (Query out rels conds ∷ rest) answers changed f
     (λ b. ChangesItems cat (if b then failed TooMany else effect_from cat db rest (answers ++ found ∷ []) changed)) [ true ↦ tt | false ↦ next ]
 effect_changes cat sound db is (Update rel sets conds ∷ rest) answers changed fits held all =
     elim (with_updates cat sets changed (chosen db rel.0 conds)) as
-    (λ o. with_updates cat sets changed (chosen db rel.0 conds) ≡ o → ChangesItems cat (elim o as (λ p. Effect) [ None ↦ failed Overflow | Some next ↦ effect_from cat db rest answers next ])) [
+    (λ o. with_updates cat sets changed (chosen db rel.0 conds) ≡ o → ChangesItems cat
+    (elim o as (λ p. Effect) [ None ↦ failed Overflow | Some next ↦ effect_from cat db rest answers next ])) [
       | None ↦ λ h. tt
       | Some next ↦ λ h.
           effect_changes cat sound db is rest answers next fits.1 held.1
-          (updates_change cat sound rel.0 sets fits.0.0 (recursion_from_All (FitsAssign cat rel.0) sets fits.0.2) changed next (chosen db rel.0 conds) all (chosen_of cat rel.0 conds db is) h)
+          (updates_change cat sound rel.0 sets fits.0.0 (recursion_from_All (FitsAssign cat rel.0) sets fits.0.2) changed next
+          (chosen db rel.0 conds) all (chosen_of cat rel.0 conds db is) h)
     ] refl
 effect_changes cat sound db is (Delete rel conds ∷ rest) answers changed fits held all =
     effect_changes cat sound db is rest answers (with_deletes cat changed (chosen db rel.0 conds)) fits.1 held.1
@@ -227,4 +234,5 @@ pub stays_database : (cat : Catalogue) → IsSoundCatalogue cat → (txn : Txn) 
     → IsDatabase cat db → IsDatabase cat (after_changes cat db (effect cat db txn).changes)
 stays_database cat sound txn fits held db is =
     changes_stay cat sound db (effect cat db txn).changes is
-    (effect_changes cat sound db (recursion_from_All (IsEntry cat) db is.entries) txn.statements [] [] (recursion_from_All (FitsStatement cat) txn.statements fits.statements) (recursion_from_All PutsHeld txn.statements held) tt)
+    (effect_changes cat sound db (recursion_from_All (IsEntry cat) db is.entries) txn.statements [] []
+    (recursion_from_All (FitsStatement cat) txn.statements fits.statements) (recursion_from_All PutsHeld txn.statements held) tt)

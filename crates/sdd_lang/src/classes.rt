@@ -55,7 +55,11 @@ pub fn class_for(catalogue: &Catalogue, txn: &Txn) -> ClassNo
 }
 
 /// The fragments of the set, ascending.
-fn list_fragments(alloc: Global, catalogue: &Catalogue, set: &FragSet) -> Result<Vec<FragNo>, NoMemory>
+fn list_fragments(
+    alloc: Global,
+    catalogue: &Catalogue,
+    set: &FragSet,
+) -> Result<Vec<FragNo>, NoMemory>
     ensures { IfOk result (λ frags. map (λ f. f.0) frags.items ≡ members catalogue.now set.now) }
 {
     catalogue.known();

@@ -204,7 +204,10 @@ fn map_with(
 }
 
 /// The changes of a map.
-fn list_changes(alloc: Global, entries: BTreeMap<(u32, i64), Option<Row>>) -> Result<Changes, NoMemory>
+fn list_changes(
+    alloc: Global,
+    entries: BTreeMap<(u32, i64), Option<Row>>,
+) -> Result<Changes, NoMemory>
     ensures { IfOk result (λ changes. changes ≡ map change_of entries.entries) }
 {
     let mut changes = Vec::with_capacity(alloc, entries.len())?;

@@ -72,7 +72,9 @@ conds_of m = []
 conds_same : (cat : Catalogue) (table : List line.Entry) (c : ℕ) (frags : List ℕ) (own b d : ℕ)
     → conditions_at cat table c frags own b d ≡ conditions_at cat table c frags own (unwrap_or (option_map (λ (t : Ts). t.0) (p2_of c b)) 0) d
 conds_same cat table c frags own b d =
-    elim (c == 0) as (λ z. (if z then undeclared_conditions cat own else conditions cat table c d (map frag_no frags) own b) ≡ (if z then undeclared_conditions cat own else conditions cat table c d (map frag_no frags) own (unwrap_or (option_map (λ (t : Ts). t.0) (if z then None else Some (time_at b))) 0))) [
+    elim (c == 0) as (λ z. (if z then undeclared_conditions cat own else conditions cat table c d (map frag_no frags) own b) ≡
+    (if z then undeclared_conditions cat own else conditions cat table c d (map frag_no frags) own
+    (unwrap_or (option_map (λ (t : Ts). t.0) (if z then None else Some (time_at b))) 0))) [
       | true ↦ refl
       | false ↦ refl
     ]

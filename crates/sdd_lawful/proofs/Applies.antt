@@ -161,7 +161,8 @@ none_left_out g log sound h x y d k e t b =
     (Write (time_at y.start.ts) (class_no y.start.class) (txn_no y.start.txn) q.changes) = subst
     (λ c. head (pipe_at g c (dm_no d) q.before) ≡ Some (Write (time_at y.start.ts) (class_no y.start.class) (txn_no y.start.txn) q.changes))
     (sym e.class) q.head_is in
-    (split_at g log x (committed_in g log x sound h e.first) d k (apply_rec y.start.txn y.start.class d y.start.ts) m (Write (time_at y.start.ts) (class_no y.start.class) (txn_no y.start.txn) q.changes) sound h (by_change t) head_is).smaller e.time
+    (split_at g log x (committed_in g log x sound h e.first) d k (apply_rec y.start.txn y.start.class d y.start.ts) m
+    (Write (time_at y.start.ts) (class_no y.start.class) (txn_no y.start.txn) q.changes) sound h (by_change t) head_is).smaller e.time
 
 -- at the Answer of a committed attempt
 

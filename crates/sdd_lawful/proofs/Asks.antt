@@ -33,7 +33,11 @@ kept_number p [] n e t = e
 kept_number p (f ∷ fs) n e t = elim (same_or_not f.0 n) [
   | inl q ↦ rw (ap p q ∙ t) (or_left (f.0 == n) (contains (numbers_of (filter (λ f. p f.0) fs)) n) (ap (λ y. y == n) q ∙ same_number n))
   | inr q ↦ (let i = kept_number p fs n (only_right (f.0 == n) (contains (numbers_of fs) n) q e) t in
-      elim (p f.0) as (λ b. contains (numbers_of (cond b (f ∷ filter (λ f. p f.0) fs) (filter (λ f. p f.0) fs))) n ≡ true) [ true ↦ or_right (f.0 == n) (contains (numbers_of (filter (λ f. p f.0) fs)) n) i | false ↦ i ])
+      elim (p f.0) as (λ b. contains (numbers_of (cond b (f ∷ filter (λ f. p f.0) fs) (filter (λ f. p f.0) fs))) n ≡ true) [
+        | true ↦ or_right
+            (f.0 == n) (contains (numbers_of (filter (λ f. p f.0) fs)) n) i
+        | false ↦ i
+      ])
 ]
 
 from_kept : (p : ℕ → Bool) (fs : List FragNo) (n : ℕ) → contains (numbers_of (filter (λ f. p f.0) fs)) n ≡ true
@@ -43,7 +47,8 @@ from_kept p (f ∷ fs) n e = elim (true_or_false (p f.0)) [
   | inl q ↦ (let c : contains (f.0 ∷ numbers_of (filter (λ f. p f.0) fs)) n ≡ true = rw q at e in
       elim (same_or_not f.0 n) [
         | inl s ↦ (or_left (f.0 == n) (contains (numbers_of fs) n) (ap (λ y. y == n) s ∙ same_number n), ap p (sym s) ∙ q)
-        | inr s ↦ (let i = from_kept p fs n (only_right (f.0 == n) (contains (numbers_of (filter (λ f. p f.0) fs)) n) s c) in (or_right (f.0 == n) (contains (numbers_of fs) n) i.0, i.1))
+        | inr s ↦ (let i = from_kept p fs n (only_right (f.0 == n) (contains (numbers_of (filter (λ f. p f.0) fs)) n) s c) in
+            (or_right (f.0 == n) (contains (numbers_of fs) n) i.0, i.1))
       ])
   | inr q ↦ (let i = from_kept p fs n (rw q at e) in (or_right (f.0 == n) (contains (numbers_of fs) n) i.0, i.1))
 ]
@@ -69,7 +74,8 @@ pub there_read : (cat : Catalogue) (c d f : ℕ) (us : List Use) → contains (f
     → (contains (fragments_in us) f ≡ true) × (is_read_at cat c d f ≡ true)
 there_read cat c d f [] e = cc
 there_read cat c d f (u ∷ us) e =
-    elim (contains_either (numbers_of (filter (λ f. is_read_at cat c d f.0) u.frags)) (fragments_in (filter_map (use_there cat c d) us)) f (subst (λ l. contains l f ≡ true) (there_more cat c d u us) e)) [
+    elim (contains_either (numbers_of (filter (λ f. is_read_at cat c d f.0) u.frags)) (fragments_in (filter_map (use_there cat c d) us)) f
+    (subst (λ l. contains l f ≡ true) (there_more cat c d u us) e)) [
       | inl p ↦ (let i = from_kept (is_read_at cat c d) u.frags f p in (contains_left (numbers_of u.frags) (fragments_in us) f i.0, i.1))
       | inr p ↦ (let i = there_read cat c d f us p in (contains_right (numbers_of u.frags) (fragments_in us) f i.0, i.1))
     ]

@@ -141,7 +141,8 @@ one_commit g log sound h n i j k l p q =
     let b = begun g log n i k t x in
     let e : x.class ≡ y.class = sym b.class_is ∙ commit_class g log n j l u y b.attempt sound h b.started b.txn_is in
     let px = x.place_is in let py = y.place_is in
-    elim (compare x.later y.later (Does (home g.catalogue x.class) (Records x.class (commit_rec n i t) x.sends)) (Does (home g.catalogue y.class) (Records y.class (commit_rec n j u) y.sends)) x.before y.before (sym x.is ∙ y.is)) [
+    elim (compare x.later y.later (Does (home g.catalogue x.class) (Records x.class (commit_rec n i t) x.sends))
+    (Does (home g.catalogue y.class) (Records y.class (commit_rec n j u) y.sends)) x.before y.before (sym x.is ∙ y.is)) [
       | inl s ↦ sym px ∙ ap (λ b. length (history b)) s.0 ∙ py
       | inr s ↦ elim s [
         | inl v ↦ not_after g log n i j k l t u x y e v.between v.is

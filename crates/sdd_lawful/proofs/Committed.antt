@@ -110,7 +110,9 @@ committed_in g log t sound h c =
     (ap (λ (y : Attempt). y.uses) start ∙ b.uses_are ∙ ap (λ (y : Running). uses_of g.catalogue y.text) now) r.reply_is r.changes_are
 
 abbrev pub committed_made : (g : Input) (log : Log) (t : Committed) (x : IsCommittedIn g log t)
-    → IsMadeAt log t.place (Commit (txn_no x.running.txn) x.running.attempt (effect g.catalogue (x.bases x.running.ts) x.running.text).reply (effect g.catalogue (x.bases x.running.ts) x.running.text).changes x.running.exchange.values x.running.exchange.rows)
+    → IsMadeAt log t.place
+    (Commit (txn_no x.running.txn) x.running.attempt (effect g.catalogue (x.bases x.running.ts) x.running.text).reply
+    (effect g.catalogue (x.bases x.running.ts) x.running.text).changes x.running.exchange.values x.running.exchange.rows)
 committed_made g log t x =
     record { later = x.later; entry = Does (home g.catalogue t.start.class) (commit_act g.catalogue x.bases t.start.class x.running); before = x.before; is = x.is; makes = refl; place_is = x.place_is }
 

@@ -84,7 +84,10 @@ conds_by : (g : Input) (a : Attempt) (d : ℕ) (era_table table : List line.Entr
     → conditions_at g.catalogue era_table a.class (ascending (fragments_in a.uses)) a.ts (p2_time a) d ≡ conditions_of g.catalogue table a d
 conds_by g a d era_table table f =
     elim (a.class == 0) as
-    (λ b. ((b ≡ false) → era_table ≡ table) → (if b then undeclared_conditions g.catalogue a.ts else conditions g.catalogue era_table a.class d (map frag_no (ascending (fragments_in a.uses))) a.ts (p2_time a)) ≡ (if b then undeclared_conditions g.catalogue a.ts else conditions g.catalogue table a.class d (map frag_no (ascending (fragments_in a.uses))) a.ts (p2_time a))) [
+    (λ b. ((b ≡ false) → era_table ≡ table) → (if b then undeclared_conditions g.catalogue a.ts else conditions g.catalogue era_table a.class d
+    (map frag_no (ascending (fragments_in a.uses))) a.ts (p2_time a)) ≡
+    (if b then undeclared_conditions g.catalogue a.ts else conditions g.catalogue table a.class d
+    (map frag_no (ascending (fragments_in a.uses))) a.ts (p2_time a))) [
       | true ↦ λ h. refl
       | false ↦ λ h. ap (λ t. conditions g.catalogue t a.class d (map frag_no (ascending (fragments_in a.uses))) a.ts (p2_time a)) (h refl)
     ] f
@@ -102,7 +105,8 @@ conds_are g log eras a d later before e table are is x t =
 named_there : (frags : List FragNo) (f : ℕ) → contains (map (λ g. g.0) frags) f ≡ true → list_any (λ (g : FragNo). g.0 == f) frags ≡ true
 named_there [] f e = e
 named_there (g ∷ frags) f e =
-    elim (g.0 == f) as (λ b. (b || contains (map (λ g. g.0) frags) f) ≡ true → (b || list_any (λ (g : FragNo). g.0 == f) frags) ≡ true) [ true ↦ λ h. refl | false ↦ λ h. named_there frags f h ] e
+    elim (g.0 == f) as (λ b. (b || contains (map (λ g. g.0) frags) f) ≡ true → (b || list_any
+    (λ (g : FragNo). g.0 == f) frags) ≡ true) [ true ↦ λ h. refl | false ↦ λ h. named_there frags f h ] e
 
 pub touching : (cat : Catalogue) (xs : List Change) (frags : List FragNo) (f d : ℕ) → list_any (λ (c : Change). c.frag.0 == f) xs ≡ true
     → has_copy cat d f ≡ true → contains (map (λ g. g.0) frags) f ≡ true → touches frags (filter (λ (x : Change). has_copy cat d x.frag.0) xs) ≡ true

@@ -93,7 +93,8 @@ count_entry g c n x (Mark (Tick t k)) log own e = count_if c n x (same_site (hom
 count_entry g c n x (Redeclares t) log own e = plus_none _ x (count_era c n x (home g.catalogue c) (nth_era g (suc (redeclares log))) t (at_home g c log) e)
 count_entry g c n x (Hand from to k m) log own e = count_if c n x (same_site (home g.catalogue c) to) (Handed from m) (at_home g c log) refl e
 count_entry g c n x (Submitted to k) log own e =
-    plus_none _ x (if_way (HasCount c n x) (same_site (home g.catalogue c) to) (with_submit k (txn_at g k) (at_home g c log)) (at_home g c log) (count_submit c n x k (txn_at g k) (at_home g c log) e) e)
+    plus_none _ x (if_way (HasCount c n x) (same_site (home g.catalogue c) to) (with_submit k (txn_at g k) (at_home g c log)) (at_home g c log)
+    (count_submit c n x k (txn_at g k) (at_home g c log) e) e)
 count_entry g c n x (Does at (Records k r sends)) log own e = count_act g c n x at k r sends (at_home g c log) own e
 count_entry g c n x (Does at (Sends to m hand)) log own e = count_if c n x (same_site (home g.catalogue c) at) (Did (Sends to m hand)) (at_home g c log) refl e
 count_entry g c n x _ log own e = plus_none _ x e

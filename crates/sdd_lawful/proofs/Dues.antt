@@ -75,7 +75,8 @@ by_step l h v c w (Write ts class txn changes) a top e =
     (λ b. act_where h v c (Some (Write ts class txn changes)) (if b then None else Some Processes) ≡ Some a → DueTo l a) [ true ↦ λ p. cc | false ↦ λ p. due_some l _ a tt p ] e
 by_step l h v c true (Read ts class txn attempt conds uses) a top e =
     elim (list_all (is_met v) conds) as
-    (λ b. act_where h v c (Some (Read ts class txn attempt conds uses)) (if b then Some Processes else None) ≡ Some a → DueTo l a) [ true ↦ λ p. due_some l _ a tt p | false ↦ λ p. cc ] e
+    (λ b. act_where h v c (Some (Read ts class txn attempt conds uses))
+    (if b then Some Processes else None) ≡ Some a → DueTo l a) [ true ↦ λ p. due_some l _ a tt p | false ↦ λ p. cc ] e
 by_step l h v c false (Read ts class txn attempt conds uses) a top e =
     by_judged l h v c ts class txn attempt conds uses (filter (λ d. not (is_met v d)) conds) (spoiler v conds) a top refl e
 by_step l h v c w m a top e = cc
@@ -248,7 +249,9 @@ null_to s l bases act (tm.by_exchange n k p e) =
 null_to s l bases act (tm.by_ask n m k q p r e) =
     null_if l (q.class == k.class) q (tm.null_time (tm_views.view_of s l) k.active q.time) act (asked_from l m q r) e
 null_to s l bases act (tm.by_hold e) =
-    hold_null l (tm_views.on_hold (tm_views.view_of s l) && (list_all tm_views.is_idle (tm_views.view_of s l).classes && nat_lt (tm_views.view_of s l).holds.helds (tm_views.view_of s l).holds.holds)) U (time_at (bound_of (tm_views.view_of s l).clock)) (Some (tm_views.view_of s l).holds.last) act e
+    hold_null l (tm_views.on_hold (tm_views.view_of s l) &&
+    (list_all tm_views.is_idle (tm_views.view_of s l).classes && nat_lt (tm_views.view_of s l).holds.helds (tm_views.view_of s l).holds.holds)) U
+    (time_at (bound_of (tm_views.view_of s l).clock)) (Some (tm_views.view_of s l).holds.last) act e
 null_to s l bases act (tm.by_start n k p e) =
     start_if l s.catalogue (tm_views.view_of s l) k.class (not (tm_views.on_hold (tm_views.view_of s l)) && tm_views.is_idle k) (head_of k.queue) act e
 

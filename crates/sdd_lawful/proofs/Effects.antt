@@ -131,7 +131,9 @@ module _ (g : Input) (rows : List (RelNo × Row)) (eras : Eras) (log : Log) (sou
             let here : Contains (log_base.items_of cat (dated s i.before) f) e = subst (λ m. Contains (log_base.items_of cat (dated s m) f) e) (z.local_is w)
             (subst (λ m. Contains m e) (piece_is f d z.place x z.answered) there) in
             let f_there : Contains (log_base.frags_asked (head (pipe i.class i.before))) f = subst (λ m. Contains m f) (sym (asked_is d i z))
-            (number_member (ascending (fragments_in (filter_map (use_there cat a.class d) a.uses))) f (in_ascending (fragments_in (filter_map (use_there cat a.class d) a.uses)) f (read_there cat a.class d f a.uses rd (read_by (reads_at cat a.class f) d x.read)))) in
+            (number_member (ascending (fragments_in (filter_map (use_there cat a.class d) a.uses))) f
+            (in_ascending (fragments_in (filter_map (use_there cat a.class d) a.uses)) f
+            (read_there cat a.class d f a.uses rd (read_by (reads_at cat a.class f) d x.read)))) in
             subst (λ m. Contains m e) (sym i.are)
             (Contains-flat_map (log_base.items_of cat (dated s i.before)) (log_base.frags_asked (head (pipe i.class i.before))) f e f_there here))
         | inr i ↦ absurd (let w = answer_is d x.place x.answered in

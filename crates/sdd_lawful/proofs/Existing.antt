@@ -7,8 +7,11 @@ use Rattle.sdd_invariants.specs.protocol.declared.entry.Entry as line
 -- uses
 
 use_exists : (cat : Catalogue) (n : ℕ) (rel : RelNo) (restrictions : List Restriction) → IsRelation cat rel.0 → UseExists cat (use_of cat n rel restrictions)
-use_exists cat n rel restrictions h =
-    (h, All-from_recursion (λ (f : FragNo). IsFragment cat f.0) (fragments_for cat rel.0 restrictions) (all_numbers (IsThere cat) (fragments_for cat rel.0 restrictions) (fragments_there cat rel.0 restrictions)))
+use_exists cat n rel restrictions h = (
+  h,
+  All-from_recursion (λ (f : FragNo). IsFragment cat f.0) (fragments_for cat rel.0 restrictions)
+      (all_numbers (IsThere cat) (fragments_for cat rel.0 restrictions) (fragments_there cat rel.0 restrictions)),
+)
 
 parts_exist : (cat : Catalogue) (before : ℕ) (conds : List Condition) (part : ℕ) (rels : List RelNo)
     → AllByRecursion (λ (rel : RelNo). IsRelation cat rel.0) rels → AllByRecursion (UseExists cat) (part_uses cat before conds part rels)
@@ -72,7 +75,8 @@ module_exists cat sound c us d within exist e = elim (same_or_not c 0) [
 named : (frags : List ℕ) (f : ℕ) → list_any (λ (g : FragNo). g.0 == f) (map frag_no frags) ≡ true → contains frags f ≡ true
 named [] f e = e
 named (g ∷ frags) f e =
-    elim (g == f) as (λ b. (b || list_any (λ (g : FragNo). g.0 == f) (map frag_no frags)) ≡ true → (b || contains frags f) ≡ true) [ true ↦ λ h. refl | false ↦ λ h. named frags f h ] e
+    elim (g == f) as (λ b. (b || list_any (λ (g : FragNo). g.0 == f)
+    (map frag_no frags)) ≡ true → (b || contains frags f) ≡ true) [ true ↦ λ h. refl | false ↦ λ h. named frags f h ] e
 
 by_place : (cat : Catalogue) (fs : List FragNo) → ((k : ℕ) (f : FragNo) → slice_get fs k ≡ Some f → IsFragment cat f.0)
     → AllByRecursion (λ (f : FragNo). IsFragment cat f.0) fs

@@ -94,8 +94,11 @@ pub submitted_in : (s : Setting) (c n : ℕ) (text : Txn) (later before : Log) �
     → (i : ℕ) × (slice_get (submits_of s c (later ++ Submits n text ∷ before)) i ≡ Some (pair n text))
 submitted_in s c n text [] before h = (length (submits_of s c before), rw h (at_seam (submits_of s c before) [] (pair n text)))
 submitted_in s c n text (Submits k other ∷ later) before h =
-    let i = submitted_in s c n text later before h in
-    (i.0, submits_if (is_for c (current_era s (later ++ Submits n text ∷ before)).catalogue other) (submits_of s c (later ++ Submits n text ∷ before)) (pair k other) (pair n text) i.0 i.1)
+    let i = submitted_in s c n text later before h in (
+      i.0,
+      submits_if (is_for c (current_era s (later ++ Submits n text ∷ before)).catalogue other) (submits_of s c (later ++ Submits n text ∷ before))
+          (pair k other) (pair n text) i.0 i.1,
+    )
 submitted_in s c n text (_ ∷ later) before h = submitted_in s c n text later before h
 
 pub all_committed_at : (c : ℕ) (log : Log) (xs : List (ℕ × Txn)) (i : ℕ) (n : ℕ) (text : Txn) → AllCommitted c log xs

@@ -16,7 +16,8 @@ not_behind g log a d j k sound h x y l =
     let small = home_small g.catalogue sound a.class in
     let now : IsPermitted g (z.between ++ Does (D (dm_no d)) (Records a.class (answer_rec a d) x.sends) ∷ x.before) = subst
     (IsPermitted g) z.is y.permitted.1 in
-    absurd (answered_once g a.class (dm_no d) z.between x.before (dm_no d) x.sends (time_at a.ts) (time_at a.ts) (class_no a.class) (class_no a.class) (txn_no a.txn) (txn_no a.txn) a.number a.number x.read.conds y.read.conds x.read.uses y.read.uses now (omega arith) x.read.head_is
+    absurd (answered_once g a.class (dm_no d) z.between x.before (dm_no d) x.sends (time_at a.ts) (time_at a.ts) (class_no a.class) (class_no a.class)
+    (txn_no a.txn) (txn_no a.txn) a.number a.number x.read.conds y.read.conds x.read.uses y.read.uses now (omega arith) x.read.head_is
     (subst (λ b. head (pipe_at g a.class (dm_no d) b) ≡ Some (read_msg a y.read.conds y.read.uses)) z.is y.read.head_is) refl refl)
 
 answer_at : (g : Input) (log : Log) (a : Attempt) (n number d k : ℕ) → IsSoundCatalogue g.catalogue → IsPermitted g log → IsAttempt (history log) a
@@ -76,7 +77,8 @@ asks_module cat a d (by_no_class e m) =
     let p : (a.class == 0) ≡ true = ap (λ y. y == 0) e in rw p (contains_at (numbers_to cat.dms) i.0 d i.1)
 asks_module cat a d (by_use f r e) = elim (same_or_not a.class 0) [
   | inl p ↦ zero_asks cat a f d p e
-  | inr p ↦ rw p (in_ascending (filter_map (reads_at cat a.class) (ascending (fragments_in a.uses))) d (contains_made (reads_at cat a.class) (ascending (fragments_in a.uses)) f d (in_ascending (fragments_in a.uses) f r) e))
+  | inr p ↦ rw p (in_ascending (filter_map (reads_at cat a.class) (ascending (fragments_in a.uses))) d
+      (contains_made (reads_at cat a.class) (ascending (fragments_in a.uses)) f d (in_ascending (fragments_in a.uses) f r) e))
 ]
 
 pub answered : (g : Input) (log : Log) → IsSoundCatalogue g.catalogue → IsPermitted g log → (t : Committed) (d : ℕ) → IsCommitted (history log) t

@@ -55,7 +55,8 @@ made_at_pair [] k p q = cc
 made_at_pair (e ∷ log) k p q = made_in e log (record_of e) k p refl (λ s. made_at_pair log k p s) (subst (λ h. slice_get h k ≡ Some p) (history_step e log) q)
 
 recorded_pair : (o : Option (ℕ × Rec)) (r : Rec) (h : History) (k : ℕ) → slice_get h k ≡ o → IsRecordAt h k r → (p : ℕ × Rec) × (slice_get h k ≡ Some p) × (p.1 ≡ r)
-recorded_pair None r h k q s = let t : ◌≡◌ {A = Option Rec} None (Some r) = subst (λ (y : Option (ℕ × Rec)). elim y as (λ _. Option Rec) [ None ↦ None | Some z ↦ Some z.1 ] ≡ Some r) q s in cc
+recorded_pair None r h k q s = let t : ◌≡◌ {A = Option Rec} None (Some r) = subst
+    (λ (y : Option (ℕ × Rec)). elim y as (λ _. Option Rec) [ None ↦ None | Some z ↦ Some z.1 ] ≡ Some r) q s in cc
 recorded_pair (Some p) r h k q s =
     let t : Some p.1 ≡ Some r = subst (λ (y : Option (ℕ × Rec)). elim y as (λ _. Option Rec) [ None ↦ None | Some z ↦ Some z.1 ] ≡ Some r) q s in
     (p, q, (let u : p.1 ≡ r = cc in u))

@@ -106,7 +106,8 @@ spoilt_by g log d q h e =
 named_back : (frags : List FragNo) (f : ℕ) → list_any (λ (g : FragNo). g.0 == f) frags ≡ true → contains (map (λ g. g.0) frags) f ≡ true
 named_back [] f e = e
 named_back (g ∷ frags) f e =
-    elim (g.0 == f) as (λ b. (b || list_any (λ (g : FragNo). g.0 == f) frags) ≡ true → (b || contains (map (λ g. g.0) frags) f) ≡ true) [ true ↦ λ h. refl | false ↦ λ h. named_back frags f h ] e
+    elim (g.0 == f) as (λ b. (b || list_any (λ (g : FragNo). g.0 == f) frags) ≡ true → (b || contains
+    (map (λ g. g.0) frags) f) ≡ true) [ true ↦ λ h. refl | false ↦ λ h. named_back frags f h ] e
 
 pub touched_one : (g : Input) (t : Committed) (xs : List Change) (frags : List FragNo) (d : ℕ) → t.changes ≡ xs
     → touches frags (changes_at g.catalogue d xs) ≡ true → ChangesOne t frags

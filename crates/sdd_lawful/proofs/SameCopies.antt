@@ -58,11 +58,12 @@ module _ (g : Input) (rows : List (RelNo × Row)) (eras : Eras) (log : Log) (sou
   own_kind : (x : ℕ × Change) → Contains ours x → (Contains (map (first_row cat) begins) x ⊎ IsChangeOf g log d k x) × ((x.1.frag.0 == f) ≡ true)
   own_kind x c =
       let p = Contains-from_filter (λ (y : ℕ × Change). y.1.frag.0 == f) (dated (setting_of g (D (dm_no d))) here) x c in (
-        elim (Contains-append_cases (map (first_row cat) (database_of cat (setting_of g (D (dm_no d))).rows)) (flat_map (λ c. applied c here) (classes_of (setting_of g (D (dm_no d))))) x p.0) [
-          | inl i ↦ inl (subst (λ l. Contains l x) rows_are i)
-          | inr i ↦ inr (let r = Contains-from_flat_map (λ c. applied c here) (classes_of (setting_of g (D (dm_no d)))) x i in
-              let a = applied_from r.0 here x r.2 in change_in g log d k q m r.0 x sound h a (apply_is a.rec a.applies))
-        ],
+        elim (Contains-append_cases (map (first_row cat) (database_of cat (setting_of g (D (dm_no d))).rows))
+            (flat_map (λ c. applied c here) (classes_of (setting_of g (D (dm_no d))))) x p.0) [
+              | inl i ↦ inl (subst (λ l. Contains l x) rows_are i)
+              | inr i ↦ inr (let r = Contains-from_flat_map (λ c. applied c here) (classes_of (setting_of g (D (dm_no d)))) x i in
+                  let a = applied_from r.0 here x r.2 in change_in g log d k q m r.0 x sound h a (apply_is a.rec a.applies))
+            ],
         p.1,
       )
 
@@ -85,7 +86,8 @@ module _ (g : Input) (rows : List (RelNo × Row)) (eras : Eras) (log : Log) (sou
   back x c =
       let p = Contains-from_filter (λ (y : ℕ × Change). y.1.frag.0 == f) (laws.dated_at cat rows (history log) d k) x c in
       Contains-filter (λ (y : ℕ × Change). y.1.frag.0 == f) (dated (setting_of g (D (dm_no d))) here) x
-      (elim (Contains-append_cases (laws.first_rows cat rows) (flat_map laws.dated (filter (λ (t : Committed). laws.is_applied (history log) d k t.start.txn) (committed (history log)))) x p.0) [
+      (elim (Contains-append_cases (laws.first_rows cat rows)
+      (flat_map laws.dated (filter (λ (t : Committed). laws.is_applied (history log) d k t.start.txn) (committed (history log)))) x p.0) [
         | inl i ↦ Contains-append_left (map (first_row cat) (database_of cat (setting_of g (D (dm_no d))).rows)) _ x
             (subst (λ l. Contains l x) (sym rows_are) i)
         | inr i ↦ Contains-append_right (map (first_row cat) (database_of cat (setting_of g (D (dm_no d))).rows)) _ x

@@ -104,7 +104,8 @@ start_at_entry g log later at k txn number class ts p2 uses sends before sound h
     let now : IsPermitted g (Does at (Records k (start_of a) sends) ∷ before) =
     permitted_before g later (Does at (Records k (start_of a) sends) ∷ before) (subst (IsPermitted g) is h) in
     let here : at ≡ home g.catalogue k = run_home g at k (start_of a) sends before now refl in
-    let then_h : IsPermitted g (Does (home g.catalogue k) (Records k (start_of a) sends) ∷ before) = subst (λ x. IsPermitted g (Does x (Records k (start_of a) sends) ∷ before)) here now in
+    let then_h : IsPermitted g (Does (home g.catalogue k) (Records k (start_of a) sends) ∷ before) = subst
+    (λ x. IsPermitted g (Does x (Records k (start_of a) sends) ∷ before)) here now in
     let small = home_small g.catalogue sound k in
     let says : StartsAs g before a k = says_at g k before (Records k (start_of a) sends) then_h (omega arith) in
     let e : k ≡ class.0 = sym says.class_is in
@@ -121,7 +122,8 @@ given_of_start g log a x =
     let w = x.says.submitted in
     let p = place_of_submit g at x.before w.later a.txn x.says.text w.before w.is in
     let now : IsPermitted g (Submitted at a.txn ∷ p.rest) = permitted_before g p.later (Submitted at a.txn ∷ p.rest) (subst (IsPermitted g) p.is x.permitted.1) in
-    let of_class : IsForClass g a.class p.rest x.says.text = subst (λ l. is_for a.class (current_era (home_setting g a.class) l).catalogue x.says.text ≡ true) (sym p.local_is) w.of_class in
+    let of_class : IsForClass g a.class p.rest x.says.text = subst
+    (λ l. is_for a.class (current_era (home_setting g a.class) l).catalogue x.says.text ≡ true) (sym p.local_is) w.of_class in
     record {
       given = record {
         later = p.later;

@@ -27,7 +27,8 @@ class_within cat txn = elim (dec_le 1 (class_for cat txn)) [
 -- the class of what is given is there
 given_within : (g : Input) (log : Log) (eras : Eras) (n c : ℕ) (text : Txn) → AreErasOf g log eras → IsGivenTo g log n c text → c ≤ length g.catalogue.classes
 given_within g log eras n c text are w =
-    let era = (era_at g log eras are (w.later ++ Submitted (home g.catalogue c) n ∷ []) w.rest (w.is ∙ sym (append_assoc w.later (Submitted (home g.catalogue c) n ∷ []) w.rest))).classes in
+    let era = (era_at g log eras are (w.later ++ Submitted (home g.catalogue c) n ∷ []) w.rest
+    (w.is ∙ sym (append_assoc w.later (Submitted (home g.catalogue c) n ∷ []) w.rest))).classes in
     let at = class_within (nth_era g (redeclares w.rest)).catalogue text in
     let e = w.class_is in omega arith
 
@@ -103,7 +104,8 @@ differ_at g log a b x y sound h ne e =
     let j = stamp_there g log b y in
     let small = home_small g.catalogue sound a.class in
     let little = home_small g.catalogue sound b.class in
-    absurd (stamps_differ (home_setting g a.class) (home_setting g b.class) (at_home g a.class log) (at_home g b.class log) i.0 j.0 a.ts b.ts (omega arith) (omega arith) ne (home_fair g a.class log h) (home_fair g b.class log h) i.1 j.1 e)
+    absurd (stamps_differ (home_setting g a.class) (home_setting g b.class) (at_home g a.class log) (at_home g b.class log) i.0 j.0 a.ts b.ts
+    (omega arith) (omega arith) ne (home_fair g a.class log h) (home_fair g b.class log h) i.1 j.1 e)
 
 pub one_time : (g : Input) (log : Log) (eras : Eras) → IsSoundCatalogue g.catalogue → IsPermitted g log → AreErasOf g log eras
     → (a b : Attempt) → IsAttempt (history log) a → IsAttempt (history log) b → a.ts ≡ b.ts → a.place ≡ b.place
@@ -169,7 +171,8 @@ in_turn g log sound h a b j k s t e l p q = elim (dec_le j k) [
       let z = entries_in_order log k j (Submit (txn_no b.txn)) (Submit (txn_no a.txn)) (submit_made_at g log b.txn k v) (submit_made_at g log a.txn j u)
       (omega (arith, r)) in
       let bs = given_rest g log b y k h v in
-      let at_b : v.at ≡ home g.catalogue b.class = (same_submission g b.txn log v.later (given_of_attempt g log b y).later v.rest (given_of_attempt g log b y).rest v.at (home g.catalogue b.class) h v.is (given_of_attempt g log b y).is).1 in
+      let at_b : v.at ≡ home g.catalogue b.class = (same_submission g b.txn log v.later (given_of_attempt g log b y).later v.rest
+      (given_of_attempt g log b y).rest v.at (home g.catalogue b.class) h v.is (given_of_attempt g log b y).is).1 in
       let is : u.rest ≡ z.between ++ Submitted (home g.catalogue a.class) b.txn ∷ v.rest = z.is
       ∙ ap (λ c. z.between ++ Submitted c b.txn ∷ v.rest) (at_b ∙ ap (home g.catalogue) (sym e)) in
       let f : IsForClass g a.class v.rest y.says.text = subst (λ c. IsForClass g c v.rest y.says.text) (sym e)
@@ -273,7 +276,8 @@ by_last g log sound h t a c s e =
     let y = start_in g log a sound h s in
     let k : a.class ≡ x.class = commit_class g log t.start.txn t.start.number t.place told x a sound h s e in
     elim (lower_same_higher a.place t.place) [
-      | inl l ↦ (let z = entries_in_order log a.place t.place (start_of a) (commit_rec t.start.txn t.start.number told) (start_made g log a y) (commit_made g log t.start.txn t.start.number t.place told x) l in
+      | inl l ↦ (let z = entries_in_order log a.place t.place (start_of a) (commit_rec t.start.txn t.start.number told) (start_made g log a y)
+          (commit_made g log t.start.txn t.start.number t.place told x) l in
           let m = start_behind g a x.class y.sends z.between y.before x.before (ap (home g.catalogue) k) z.is in
           let grow = starts_grow m.0 (at_home g a.class y.before) a.class (txn_no a.txn) a.number (class_no a.class) (time_at a.ts) a.p2 a.uses y.sends in
           let count : starts_of a.class a.txn (at_home g x.class x.before) ≡ starts_of a.class a.txn
@@ -283,7 +287,8 @@ by_last g log sound h t a c s e =
           let number = y.says.attempt_is in omega arith)
       | inr l ↦ elim l [
         | inl p ↦ (let q : Some (start_of a) ≡ Some (commit_rec t.start.txn t.start.number told) = sym s ∙ ap (record_at (history log)) p ∙ c.committed in cc)
-        | inr l ↦ (let z = entries_in_order log t.place a.place (commit_rec t.start.txn t.start.number told) (start_of a) (commit_made g log t.start.txn t.start.number t.place told x) (start_made g log a y) l in
+        | inr l ↦ (let z = entries_in_order log t.place a.place (commit_rec t.start.txn t.start.number told) (start_of a)
+            (commit_made g log t.start.txn t.start.number t.place told x) (start_made g log a y) l in
             let seen : is_committed x.class t.start.txn (at_home g x.class y.before) ≡ true = subst
             (λ b. is_committed x.class t.start.txn (at_home g x.class b) ≡ true) (sym z.is)
             (commit_seen g x.class t.start.txn t.start.number told x.sends z.between x.before) in

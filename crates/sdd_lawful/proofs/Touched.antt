@@ -13,7 +13,9 @@ copies_there cat sound f = elim (dec_le (length cat.fragments) (f - 1)) [
     | no q ↦ (let e : f ≡ 0 = omega (arith, q) in
         let same : fragment_at cat f ≡ fragment_at cat 1 = ap (fragment_at cat) e in
         subst (λ (x : Fragment). AllByRecursion (λ (d : DmNo). IsModule cat d.0) x.copies) (sym same)
-        (recursion_from_All _ (fragment_at cat 1).copies (at_number (IsPlaced (length cat.relations) cat.dms) cat.fragments 1 _ (sound_fragments cat sound) (omega arith) (omega (arith, p))).copies))
+        (recursion_from_All _ (fragment_at cat 1).copies
+        (at_number (IsPlaced (length cat.relations) cat.dms) cat.fragments 1 _ (sound_fragments cat sound) (omega arith)
+        (omega (arith, p))).copies))
   ]
 ]
 

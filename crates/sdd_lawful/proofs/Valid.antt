@@ -92,7 +92,8 @@ snapshots_valid s sound ts (Did (Records k (Answer txn attempt dm) sends) ∷ l)
     let less = less_valid s.catalogue (Did (Records k (Answer txn attempt dm) sends)) l h in
     if_way (AllByRecursion (IsEntry s.catalogue)) (is_at ts (head (pipe k l))) (flat_map (items_of s.catalogue (dated s l)) (frags_asked (head (pipe k l))))
     (snapshots s ts l)
-    (all_gathered (IsEntry s.catalogue) (items_of s.catalogue (dated s l)) (frags_asked (head (pipe k l))) (λ f. entries_left s.catalogue sound (dated s l) (dated_valid s l first less) f))
+    (all_gathered (IsEntry s.catalogue) (items_of s.catalogue (dated s l)) (frags_asked (head (pipe k l)))
+    (λ f. entries_left s.catalogue sound (dated s l) (dated_valid s l first less) f))
     (snapshots_valid s sound ts l first less)
 snapshots_valid s sound ts (x ∷ l) first h = snapshots_valid s sound ts l first (less_valid s.catalogue x l h)
 
@@ -203,7 +204,8 @@ commit_valid g rows c bases a log sound fine h act valid =
     (recursion_from_All (λ (t : Txn). All PutsHeld t.statements) g.txns fine.txns_held) text in
     let entries = base_valid g log a.ts sound h.1 (all_begin g rows fine) valid in
     subst (AllValid g.catalogue) (sym changes)
-    (effect_changes g.catalogue sound (base_of g log a.ts) entries a.text.statements [] [] (recursion_from_All (FitsStatement g.catalogue) a.text.statements fits.statements) (recursion_from_All PutsHeld a.text.statements held) tt)
+    (effect_changes g.catalogue sound (base_of g log a.ts) entries a.text.statements [] []
+    (recursion_from_All (FitsStatement g.catalogue) a.text.statements fits.statements) (recursion_from_All PutsHeld a.text.statements held) tt)
 
 pub commits_valid : (g : Input) (rows : List (RelNo × Row)) (log : Log) → IsSoundCatalogue g.catalogue → HasSoundData g rows → IsPermitted g log → CommitsValid g log
 commits_valid g rows [] sound fine h c bases a [] before is act = cc

@@ -14,7 +14,8 @@ as_many : (test : Rec → Bool) (k : ℕ) (h : History) → length (places_of te
 unfolding places_of
 as_many test k [] = refl
 as_many test k (e ∷ h) =
-    elim (test e.1) as (λ b. length (cond b (k ∷ places_of test (suc k) h) (places_of test (suc k) h)) ≡ length (cond b (e ∷ filter (λ d. test d.1) h) (filter (λ d. test d.1) h))) [
+    elim (test e.1) as (λ b. length (cond b (k ∷ places_of test (suc k) h) (places_of test (suc k) h)) ≡ length
+    (cond b (e ∷ filter (λ d. test d.1) h) (filter (λ d. test d.1) h))) [
       | true ↦ ap suc (as_many test (suc k) h)
       | false ↦ as_many test (suc k) h
     ]

@@ -20,7 +20,9 @@ pub condition_time : (cat : Catalogue) (table : List Entry) (a : Attempt) (d : �
 condition_time cat table a d c =
     let frags = map frag_no (ascending (fragments_in a.uses)) in
     elim (a.class == 0) as
-    (λ b. Contains (cond b (undeclared_conditions cat a.ts) (conditions cat table a.class d frags a.ts (p2_time a))) c → is_some a.p2 ≡ not b → (c.time.0 ≡ a.ts) ⊎ ((t : Ts) × (a.p2 ≡ Some t) × (c.time.0 ≡ t.0))) [
+    (λ b. Contains (cond b (undeclared_conditions cat a.ts)
+    (conditions cat table a.class d frags a.ts (p2_time a))) c → is_some a.p2 ≡ not b → (c.time.0 ≡ a.ts) ⊎
+    ((t : Ts) × (a.p2 ≡ Some t) × (c.time.0 ≡ t.0))) [
       | true ↦ λ m e.
           let of = Contains-from_map (λ k. cond_of k a.ts (map frag_no (fragments_of cat))) (classes_of cat) c m in
           inl (ap (λ (z : Cond). z.time.0) of.2)

@@ -11,7 +11,8 @@ pub puts_past-append : (at : Site) (xs ys : List (Site × Msg)) (calls : List (C
 puts_past-append at [] ys calls = refl
 puts_past-append at (x ∷ xs) ys calls =
     ap (λ b. nat_lt MAX_LINK_MESSAGES (suc (length (link at x.0 calls).there.sent)) || b) (puts_past-append at xs ys (Puts at x.0 x.1 ∷ calls))
-    ∙ sym (or_assoc (nat_lt MAX_LINK_MESSAGES (suc (length (link at x.0 calls).there.sent))) (puts_past (Puts at x.0 x.1 ∷ calls) at xs) (puts_past (puts at xs (Puts at x.0 x.1 ∷ calls)) at ys))
+    ∙ sym (or_assoc (nat_lt MAX_LINK_MESSAGES (suc (length (link at x.0 calls).there.sent))) (puts_past (Puts at x.0 x.1 ∷ calls) at xs)
+    (puts_past (puts at xs (Puts at x.0 x.1 ∷ calls)) at ys))
 
 pub calls_acts : (at : Site) (acts : List Act) (log : Log) → calls_of (after_acts at acts log) ≡ puts at (sends_of acts) (calls_of log)
 calls_acts at [] log = refl

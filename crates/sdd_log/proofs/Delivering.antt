@@ -78,7 +78,8 @@ remain_more a b k log rest messages e r =
       count = omega (arith, l, c, s);
       messages = in_both (λ i x. slice_get (link_of a b more).there.sent (handed a b log + i) ≡ Some x) rest messages
           (λ j y p. sent_stays a b (Delivers a b k) (calls_of log) (handed a b log + j) y (r.messages j y p))
-          (λ j y p. let f : handed a b log + (length rest + j) ≡ delivered (link_of a b log).there + j = omega (arith, c) in rw f (newly_get (link_of a b log).there (link_of a b more).there messages j y same p));
+          (λ j y p. let f : handed a b log + (length rest + j) ≡ delivered (link_of a b log).there + j = omega (arith, c) in
+          rw f (newly_get (link_of a b log).there (link_of a b more).there messages j y same p));
     }
 
 -- what remains on other links stays

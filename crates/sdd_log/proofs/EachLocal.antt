@@ -53,9 +53,11 @@ allowed_act g log e (by_link a b n m p q r f) = tt
 -- be handed to the site, of each tick, of each transaction that may be given to it, of each class list, and of
 -- each act that is due, where it holds of all entries before.
 pub record HoldsOfEach (g : Input) (at : Site) (P : site.Log → site.Entry → Type 0) : Type 0 where
-  pub handed : (log : Log) → IsPermitted g log → (from : Site) (n : ℕ) (m : Msg) → IsAllowed g log (Hand from at n m) → Each P (local_of g at log) → P (local_of g at log) (Handed from m)
+  pub handed : (log : Log) → IsPermitted g log → (from : Site) (n : ℕ) (m : Msg) → IsAllowed g log (Hand from at n m) → Each P (local_of g at log)
+      → P (local_of g at log) (Handed from m)
   pub ticked : (log : Log) → IsPermitted g log → (n : ℕ) → Each P (local_of g at log) → P (local_of g at log) (Ticked n)
-  pub submits : (log : Log) → IsPermitted g log → (n : ℕ) (t : Txn) → IsAllowed g log (Submitted at n) → txn_at g n ≡ Some t → Each P (local_of g at log) → P (local_of g at log) (Submits n t)
+  pub submits : (log : Log) → IsPermitted g log → (n : ℕ) (t : Txn) → IsAllowed g log (Submitted at n) → txn_at g n ≡ Some t
+      → Each P (local_of g at log) → P (local_of g at log) (Submits n t)
   pub redeclared : (l : site.Log) (k t : ℕ) → Each P l → P l (Redeclared (nth_era g k) t)
   pub did : (log : Log) (act : Act) → IsPermitted g log → IsDueAt g log at act → Each P (local_of g at log) → P (local_of g at log) (Did act)
 
@@ -99,5 +101,6 @@ each_local g at P c (Does by act ∷ log) h =
 each_local g at P c (_ ∷ log) h = each_local g at P c log h.1
 
 -- and so of the log that a lawful log gives the site
-pub each_of_lawful : (g : Input) (at : Site) (P : site.Log → site.Entry → Type 0) → HoldsOfEach g at P → AreSubmittedOnce g.events → (log : Log) → IsLawful g log → Each P (local_of g at log)
+pub each_of_lawful : (g : Input) (at : Site) (P : site.Log → site.Entry → Type 0) → HoldsOfEach g at P → AreSubmittedOnce g.events → (log : Log)
+    → IsLawful g log → Each P (local_of g at log)
 each_of_lawful g at P c once log h = each_local g at P c log (lawful_permitted g log once h)

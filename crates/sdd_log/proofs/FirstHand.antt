@@ -21,7 +21,8 @@ through f (Some x) = f x
 first_filter : {A B C : Type 0} (f : B → Option C) (k : A → Option B) (xs : List A) → first_some f (filter_map k xs) ≡ first_some (λ x. through f (k x)) xs
 first_filter f k [] = refl
 first_filter f k (x ∷ xs) =
-    elim (k x) as (λ o. first_some f (cons_option o (filter_map k xs)) ≡ or_else (through f o) (first_some (λ x. through f (k x)) xs)) [ None ↦ first_filter f k xs | Some y ↦ ap (λ o. or_else (f y) o) (first_filter f k xs) ]
+    elim (k x) as (λ o. first_some f (cons_option o (filter_map k xs)) ≡ or_else (through f o)
+    (first_some (λ x. through f (k x)) xs)) [ None ↦ first_filter f k xs | Some y ↦ ap (λ o. or_else (f y) o) (first_filter f k xs) ]
 
 pub each_weaker : {A : Type 0} (P Q : A → Type 0) (xs : List A) → ((x : A) → P x → Q x) → AtEach P xs → AtEach Q xs
 each_weaker P Q [] h a = tt
@@ -131,7 +132,8 @@ one_to f all a b e here linked p aside =
     first_filter f (λ y. cond (are_linked a y) (Some (a, y)) None) all
     ∙ ap (λ ys. first_some (λ y. through f (cond (are_linked a y) (Some (a, y)) None)) ys) s.parts
     ∙ first_here (λ y. through f (cond (are_linked a y) (Some (a, y)) None)) s.before s.after b e
-    (each_weaker (λ y. same_site y b ≡ false) (λ y. through f (cond (are_linked a y) (Some (a, y)) None) ≡ None) s.before (λ y q. link_other f a y (are_linked a y) (aside y q)) s.others)
+    (each_weaker (λ y. same_site y b ≡ false) (λ y. through f (cond (are_linked a y) (Some (a, y)) None) ≡ None) s.before
+    (λ y q. link_other f a y (are_linked a y) (aside y q)) s.others)
     (link_here f a b (are_linked a b) e linked p)
 
 -- of the links from a, and from the sites before it, the one to b alone has something

@@ -11,7 +11,8 @@ pub delivered_puts : (x y at : Site) (sends : List (Site × Msg)) (calls : List 
 delivered_puts x y at [] calls = refl
 delivered_puts x y at (s ∷ sends) calls = delivered_puts x y at sends (Puts at s.0 s.1 ∷ calls) ∙ delivered_put x y at s.0 s.1 calls
 
-sent_puts : (x y at : Site) (sends : List (Site × Msg)) (calls : List (Call Msg)) (i : ℕ) (m : Msg) → slice_get (link x y calls).there.sent i ≡ Some m → slice_get (link x y (puts at sends calls)).there.sent i ≡ Some m
+sent_puts : (x y at : Site) (sends : List (Site × Msg)) (calls : List (Call Msg)) (i : ℕ) (m : Msg) → slice_get (link x y calls).there.sent i ≡ Some m
+    → slice_get (link x y (puts at sends calls)).there.sent i ≡ Some m
 sent_puts x y at [] calls i m e = e
 sent_puts x y at (s ∷ sends) calls i m e = sent_puts x y at sends (Puts at s.0 s.1 ∷ calls) i m (sent_stays x y (Puts at s.0 s.1) calls i m e)
 
@@ -50,7 +51,8 @@ remain_handed log a b m rest r =
       messages = λ i x e. let f : handed a b (Hand a b (suc (handed a b log)) m ∷ log) + i ≡ handed a b log + suc i = omega (arith, h) in rw f (r.messages (suc i) x e);
     }
 
-pub remain_other : (log : Log) (a b x y : Site) (n : ℕ) (m : Msg) (rest : List Msg) → (same_site x a && same_site y b) ≡ false → Remain log x y rest → Remain (Hand a b n m ∷ log) x y rest
+pub remain_other : (log : Log) (a b x y : Site) (n : ℕ) (m : Msg) (rest : List Msg) → (same_site x a && same_site y b) ≡ false → Remain log x y rest
+    → Remain (Hand a b n m ∷ log) x y rest
 remain_other log a b x y n m rest e r =
     let h : handed x y (Hand a b n m ∷ log) ≡ handed x y log = now_handed a b x y n m log e in
     record { count = rw h r.count; messages = λ i k p. rw h (r.messages i k p) }

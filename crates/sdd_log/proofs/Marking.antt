@@ -15,7 +15,8 @@ none_same g log more x e n = rw e (none_any_base g x (base_of g log) (base_of g 
 
 pub still_none : (g : Input) (log more : Log) → ((x : Site) → local_of g x more ≡ local_of g x log) → site_due g log ≡ None → site_due g more ≡ None
 still_none g log more e n =
-    none_at_all (next_at g log) (next_at g more) (sites g.catalogue.tms g.catalogue.dms) (λ x k. none_same g log more x (e x) k) (all_none (next_at g log) (sites g.catalogue.tms g.catalogue.dms) n)
+    none_at_all (next_at g log) (next_at g more) (sites g.catalogue.tms g.catalogue.dms) (λ x k. none_same g log more x (e x) k)
+    (all_none (next_at g log) (sites g.catalogue.tms g.catalogue.dms) n)
 
 ticked_here : (g : Input) (x t : Site) (bases : Bases) (n : ℕ) (l : site.Log) → x ≡ t → next_in g x bases l ≡ None
     → (next_in g t bases l ≡ None → next_in g t bases (Ticked n ∷ l) ≡ None) → next_in g x bases (Ticked n ∷ l) ≡ None

@@ -21,10 +21,12 @@ none_replicate n (suc k) e h = let i = none_replicate n k e h in omega arith
 none_resent : (n : ℕ) (ls : List (Site × Site)) (calls : List (Call Msg))
     → submits_in n (filter_map (λ l. cond (resends_now (link l.0 l.1 calls)) (Some (Resend l.0 l.1)) None) ls) ≡ 0
 none_resent n [] calls = refl
-none_resent n (l ∷ ls) calls = elim (resends_now (link l.0 l.1 calls)) as (λ b. submits_in n (cons_option (cond b (Some (Resend l.0 l.1)) None) (filter_map (λ l. cond (resends_now (link l.0 l.1 calls)) (Some (Resend l.0 l.1)) None) ls)) ≡ 0) [
-  | true ↦ (let i = none_resent n ls calls in omega arith)
-  | false ↦ none_resent n ls calls
-]
+none_resent n (l ∷ ls) calls = elim (resends_now (link l.0 l.1 calls)) as
+    (λ b. submits_in n (cons_option (cond b (Some (Resend l.0 l.1)) None)
+    (filter_map (λ l. cond (resends_now (link l.0 l.1 calls)) (Some (Resend l.0 l.1)) None) ls)) ≡ 0) [
+      | true ↦ (let i = none_resent n ls calls in omega arith)
+      | false ↦ none_resent n ls calls
+    ]
 
 none_delivered : (n : ℕ) (ls : List (Site × Site)) (calls : List (Call Msg))
     → submits_in n (flat_map (λ l. replicate (in_flight (link l.0 l.1 calls)) (Deliver l.0 l.1 1)) ls) ≡ 0
@@ -102,7 +104,9 @@ from_left : (g : Input) (log : Log) (e : Entry) → next g log ≡ Some e → Is
 from_left g log e h =
     one_of (IsFromLeft g log e) (mark_due g log) _ e (λ p. not_from g log e (is_not (mark_due g log) e (no_mark_due g log) p))
     (one_of (IsFromLeft g log e) (site_due g log) _ e (λ p. let r = found_at (λ at. does_at at (next_at g log at)) (sites g.catalogue.tms g.catalogue.dms) e p in not_from g log e (is_not (does_at r.1 (next_at g log r.1)) e (no_does r.1 (next_at g log r.1)) r.3))
-    (one_of (IsFromLeft g log e) (hand_due g log) _ e (λ p. let r = found_at (hand_on log) (all_links g) e p in not_from g log e (is_not (hand_on log r.1) e (no_hand log r.1 (takes_part r.1.1 log) (next_number (handed r.1.0 r.1.1 log) (delivered (link_of r.1.0 r.1.1 log).there))) r.3))
+    (one_of (IsFromLeft g log e) (hand_due g log) _ e (λ p. let r = found_at (hand_on log) (all_links g) e p in
+    not_from g log e (is_not (hand_on log r.1) e
+    (no_hand log r.1 (takes_part r.1.1 log) (next_number (handed r.1.0 r.1.1 log) (delivered (link_of r.1.0 r.1.1 log).there))) r.3))
     (from_left_at g log e))) h
 
 -- what is left and what was marked are the events

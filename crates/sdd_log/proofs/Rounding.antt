@@ -66,7 +66,8 @@ from_site all a = filter_map (λ b. cond (are_linked a b) (Some (a, b)) None) al
 of_link : (P : Site × Site → Type 0) (tms dms : ℕ) (a b : Site) → is_link tms dms a b ≡ true → AtEach P (links tms dms) → P (a, b)
 of_link P tms dms a b l h =
     let k = link_parts tms dms a b l in
-    let f : AtEach P (from_site (sites tms dms) a) = of_site (λ x. AtEach P (from_site (sites tms dms) x)) (sites tms dms) a (listed tms dms a k.from) (of_flat P (from_site (sites tms dms)) (sites tms dms) h) in
+    let f : AtEach P (from_site (sites tms dms) a) = of_site (λ x. AtEach P (from_site (sites tms dms) x)) (sites tms dms) a (listed tms dms a k.from)
+    (of_flat P (from_site (sites tms dms)) (sites tms dms) h) in
     of_site (λ y. (z : Site × Site) → cond (are_linked a y) (Some (a, y)) None ≡ Some z → P z) (sites tms dms) b (listed tms dms b k.to)
     (of_filter P (λ y. cond (are_linked a y) (Some (a, y)) None) (sites tms dms) f) (a, b) (rw k.linked refl)
 
@@ -76,13 +77,17 @@ when : {B : Type 0} (Q : B → Type 0) (c : Bool) (x y : B) → Q x → cond c (
 when Q true x y q e = let same : x ≡ y = cc in subst Q same q
 when Q false x y q e = cc
 
-pub each_of_round : {M : Type 0} (Q : Event → Type 0) (tms dms : ℕ) (calls : List (Call M)) → ((a b : Site) → is_link tms dms a b ≡ true → Q (Resend a b) × Q (Deliver a b 1)) → AtEach Q (round (links tms dms) calls)
+pub each_of_round : {M : Type 0} (Q : Event → Type 0) (tms dms : ℕ) (calls : List (Call M))
+    → ((a b : Site) → is_link tms dms a b ≡ true → Q (Resend a b) × Q (Deliver a b 1)) → AtEach Q (round (links tms dms) calls)
 each_of_round Q tms dms calls h =
-    each_append Q (filter_map (λ l. cond (resends_now (link l.0 l.1 calls)) (Some (Resend l.0 l.1)) None) (links tms dms)) (flat_map (λ l. replicate (in_flight (link l.0 l.1 calls)) (Deliver l.0 l.1 1)) (links tms dms))
+    each_append Q (filter_map (λ l. cond (resends_now (link l.0 l.1 calls)) (Some (Resend l.0 l.1)) None) (links tms dms))
+    (flat_map (λ l. replicate (in_flight (link l.0 l.1 calls)) (Deliver l.0 l.1 1)) (links tms dms))
     (each_filter Q (λ l. cond (resends_now (link l.0 l.1 calls)) (Some (Resend l.0 l.1)) None) (links tms dms)
-    (each_link (λ l. (y : Event) → cond (resends_now (link l.0 l.1 calls)) (Some (Resend l.0 l.1)) None ≡ Some y → Q y) tms dms (λ l e y p. when Q (resends_now (link l.0 l.1 calls)) (Resend l.0 l.1) y (h l.0 l.1 e).0 p)))
+    (each_link (λ l. (y : Event) → cond (resends_now (link l.0 l.1 calls)) (Some (Resend l.0 l.1)) None ≡ Some y → Q y) tms dms
+    (λ l e y p. when Q (resends_now (link l.0 l.1 calls)) (Resend l.0 l.1) y (h l.0 l.1 e).0 p)))
     (each_flat Q (λ l. replicate (in_flight (link l.0 l.1 calls)) (Deliver l.0 l.1 1)) (links tms dms)
-    (each_link (λ l. AtEach Q (replicate (in_flight (link l.0 l.1 calls)) (Deliver l.0 l.1 1))) tms dms (λ l e. each_replicate Q (in_flight (link l.0 l.1 calls)) (Deliver l.0 l.1 1) (h l.0 l.1 e).1)))
+    (each_link (λ l. AtEach Q (replicate (in_flight (link l.0 l.1 calls)) (Deliver l.0 l.1 1))) tms dms
+    (λ l e. each_replicate Q (in_flight (link l.0 l.1 calls)) (Deliver l.0 l.1 1) (h l.0 l.1 e).1)))
 
 -- a round without events
 
@@ -121,12 +126,14 @@ all_true f (x ∷ xs) h = and_from (f x) (list_all f xs) h.0 (all_true f xs h.1)
 module _ {M : Type 0} (tms dms : ℕ) (calls : List (Call M)) (e : round (links tms dms) calls ≡ []) where
   no_resends : AtEach (λ l. cond (resends_now (link l.0 l.1 calls)) (Some (Resend l.0 l.1)) None ≡ None) (links tms dms)
   no_resends =
-      let p = both_empty (filter_map (λ l. cond (resends_now (link l.0 l.1 calls)) (Some (Resend l.0 l.1)) None) (links tms dms)) (flat_map (λ l. replicate (in_flight (link l.0 l.1 calls)) (Deliver l.0 l.1 1)) (links tms dms)) e in
+      let p = both_empty (filter_map (λ l. cond (resends_now (link l.0 l.1 calls)) (Some (Resend l.0 l.1)) None) (links tms dms))
+      (flat_map (λ l. replicate (in_flight (link l.0 l.1 calls)) (Deliver l.0 l.1 1)) (links tms dms)) e in
       filter_empty (λ l. cond (resends_now (link l.0 l.1 calls)) (Some (Resend l.0 l.1)) None) (links tms dms) p.0
 
   no_flights : AtEach (λ l. replicate (in_flight (link l.0 l.1 calls)) (Deliver l.0 l.1 1) ≡ []) (links tms dms)
   no_flights =
-      let p = both_empty (filter_map (λ l. cond (resends_now (link l.0 l.1 calls)) (Some (Resend l.0 l.1)) None) (links tms dms)) (flat_map (λ l. replicate (in_flight (link l.0 l.1 calls)) (Deliver l.0 l.1 1)) (links tms dms)) e in
+      let p = both_empty (filter_map (λ l. cond (resends_now (link l.0 l.1 calls)) (Some (Resend l.0 l.1)) None) (links tms dms))
+      (flat_map (λ l. replicate (in_flight (link l.0 l.1 calls)) (Deliver l.0 l.1 1)) (links tms dms)) e in
       flat_empty (λ l. replicate (in_flight (link l.0 l.1 calls)) (Deliver l.0 l.1 1)) (links tms dms) p.1
 
   no_flight : (a b : Site) → is_link tms dms a b ≡ true → is_empty (link a b calls).there.flight ≡ true
@@ -138,10 +145,14 @@ module _ {M : Type 0} (tms dms : ℕ) (calls : List (Call M)) (e : round (links 
   quiet_link a b l =
       let here : is_empty (link a b calls).there.flight ≡ true = no_flight a b l in
       let returned : is_empty (link a b calls).back.flight ≡ true = subst (λ w. is_empty w.flight ≡ true) (back_is tms dms a b calls l) (no_flight b a (link_back tms dms a b l)) in
-      let none : resends_now (link a b calls) ≡ false = cond_none (resends_now (link a b calls)) (Resend a b) (of_link (λ l. cond (resends_now (link l.0 l.1 calls)) (Some (Resend l.0 l.1)) None ≡ None) tms dms a b l no_resends) in
-      let acked : nat_lt (link a b calls).there.acked (length (link a b calls).there.sent) ≡ false = first_false (nat_lt (link a b calls).there.acked (length (link a b calls).there.sent)) (is_empty (link a b calls).there.flight) (is_empty (link a b calls).back.flight) here returned none in
+      let none : resends_now (link a b calls) ≡ false = cond_none (resends_now (link a b calls)) (Resend a b)
+      (of_link (λ l. cond (resends_now (link l.0 l.1 calls)) (Some (Resend l.0 l.1)) None ≡ None) tms dms a b l no_resends) in
+      let acked : nat_lt (link a b calls).there.acked (length (link a b calls).there.sent) ≡ false = first_false
+      (nat_lt (link a b calls).there.acked (length (link a b calls).there.sent)) (is_empty (link a b calls).there.flight)
+      (is_empty (link a b calls).back.flight) here returned none in
       and_from (is_empty (link a b calls).there.flight) (nat_le (length (link a b calls).there.sent) (link a b calls).there.acked) here
       (le-leb (length (link a b calls).there.sent) (link a b calls).there.acked (ltb-false (link a b calls).there.acked (length (link a b calls).there.sent) acked))
 
   pub no_events_quiet : quiet (links tms dms) calls ≡ true
-  no_events_quiet = all_true (λ l. is_quiet_link (link l.0 l.1 calls)) (links tms dms) (each_link (λ l. is_quiet_link (link l.0 l.1 calls) ≡ true) tms dms (λ l p. quiet_link l.0 l.1 p))
+  no_events_quiet = all_true (λ l. is_quiet_link (link l.0 l.1 calls)) (links tms dms)
+      (each_link (λ l. is_quiet_link (link l.0 l.1 calls) ≡ true) tms dms (λ l p. quiet_link l.0 l.1 p))

@@ -46,7 +46,8 @@ module _ (g : Input) (n : TxnNo) (log : Log) (k : IsMarked g log (Submit n)) whe
       let left : AreDue (next_in g at (base_of g (submitted g n log))) (local_of g at (submitted g n log)) acts = rw (submitted_local txn is) due in
       let none : site_due g (Mark (Submit n) ∷ log) ≡ None = none_by_mark g log (Submit n) tt k.rests.no_site in
       (steps g at acts (submitted g n log) here refl
-      (settled_by_submit g at n.0 (Mark (Submit n) ∷ log) (sites g.catalogue.tms g.catalogue.dms) (all_none (next_at g (Mark (Submit n) ∷ log)) (sites g.catalogue.tms g.catalogue.dms) none)) left submitted_lawful).0
+      (settled_by_submit g at n.0 (Mark (Submit n) ∷ log) (sites g.catalogue.tms g.catalogue.dms)
+      (all_none (next_at g (Mark (Submit n) ∷ log)) (sites g.catalogue.tms g.catalogue.dms) none)) left submitted_lawful).0
 
   -- what the module does then are the next entries, and after them nothing is due
   pub submits_and_acts : (txn : Txn) (acts : List Act) → txn_at g n.0 ≡ Some txn → has_site (home_in g n log) (sites g.catalogue.tms g.catalogue.dms) ≡ true
@@ -57,7 +58,8 @@ module _ (g : Input) (n : TxnNo) (log : Log) (k : IsMarked g log (Submit n)) whe
       let left : AreDue (next_in g at (base_of g (submitted g n log))) (local_of g at (submitted g n log)) acts = rw (submitted_local txn is) due in
       let none : site_due g (Mark (Submit n) ∷ log) ≡ None = none_by_mark g log (Submit n) tt k.rests.no_site in
       let done = steps g at acts (submitted g n log) here refl
-      (settled_by_submit g at n.0 (Mark (Submit n) ∷ log) (sites g.catalogue.tms g.catalogue.dms) (all_none (next_at g (Mark (Submit n) ∷ log)) (sites g.catalogue.tms g.catalogue.dms) none)) left submitted_lawful in
+      (settled_by_submit g at n.0 (Mark (Submit n) ∷ log) (sites g.catalogue.tms g.catalogue.dms)
+      (all_none (next_at g (Mark (Submit n) ∷ log)) (sites g.catalogue.tms g.catalogue.dms) none)) left submitted_lawful in
       record {
         lawful = done.0;
         within = within_acts at acts (submitted g n log) few submitted_within;

@@ -80,7 +80,8 @@ module _ {M : Type 0} where
   -- a packet is there where its place is not past the end
   pub repeated_way : {E : Type 0} (old new : List (Channel M)) (at place : ℕ) (there : Bool) (l : Link M) (o : Option (Packet M))
       → 1 ≤ place → packet_at place l ≡ o
-      → (◌≡◌ {A = Result Bool E} (Ok there) (Ok true) → (w : Way M) (p : Packet M) → FitsWay (slice_get old at) w → slice_get w.flight (place - 1) ≡ Some p → Changes old new at (with_flight (w.flight ++ p ∷ []) w))
+      → (◌≡◌ {A = Result Bool E} (Ok there) (Ok true) → (w : Way M) (p : Packet M) → FitsWay (slice_get old at) w → slice_get w.flight
+      (place - 1) ≡ Some p → Changes old new at (with_flight (w.flight ++ p ∷ []) w))
       → (◌≡◌ {A = Result Bool E} (Ok there) (Ok true) → (w : Way M) → FitsWay (slice_get old at) w → place ≤ length w.flight)
       → (◌≡◌ {A = Result Bool E} (Ok there) (Ok false) → (w : Way M) → FitsWay (slice_get old at) w → Changes old new at w × (length w.flight < place))
       → FitsWay (slice_get old at) l.there

@@ -82,7 +82,9 @@ pub step : {M : Type 0} (tms dms : ℕ) (old new : List (Channel M)) (calls : Li
 step {M = M} tms dms old new calls call from to f is exists represents there back others = λ a b linked.
     let G : Link M → Type 0 = λ l. FitsWay (slice_get new (index_of tms dms a b)) l.there in
     subst G (sym (is a b (link a b calls)))
-    (elim (same_site a from && same_site b to) as (λ c. (same_site a from && same_site b to) ≡ c → G (if c then f (link a b calls) else if same_site a to && same_site b from then turned (f (turned (link a b calls))) else link a b calls)) [
+    (elim (same_site a from && same_site b to) as
+    (λ c. (same_site a from && same_site b to) ≡ c → G
+    (if c then f (link a b calls) else if same_site a to && same_site b from then turned (f (turned (link a b calls))) else link a b calls)) [
       | true ↦ λ p. (let q = and_parts (same_site a from) (same_site b to) p in
           subst (λ x. FitsWay (slice_get new (index_of tms dms x b)) (f (link x b calls)).there) (sym (same_is a from q.0))
           (subst (λ x. FitsWay (slice_get new (index_of tms dms from x)) (f (link from x calls)).there) (sym (same_is b to q.1)) there))
@@ -91,7 +93,8 @@ step {M = M} tms dms old new calls call from to f is exists represents there bac
             | true ↦ λ t. (let q = and_parts (same_site a to) (same_site b from) t in
                 subst (λ x. FitsWay (slice_get new (index_of tms dms x b)) (f (turned (link x b calls))).back) (sym (same_is a to q.0))
                 (subst (λ x. FitsWay (slice_get new (index_of tms dms to x)) (f (turned (link to x calls))).back) (sym (same_is b from q.1))
-                (subst (λ l. FitsWay (slice_get new (index_of tms dms to from)) (f (turned l)).back) (sym (link_turned from to calls (linked_apart from to (link_parts tms dms from to exists).linked))) back)))
+                (subst (λ l. FitsWay (slice_get new (index_of tms dms to from)) (f (turned l)).back)
+                (sym (link_turned from to calls (linked_apart from to (link_parts tms dms from to exists).linked))) back)))
             | false ↦ λ t.
                 subst (λ o. FitsWay o (link a b calls).there)
                 (sym (others (index_of tms dms a b)

@@ -13,8 +13,10 @@ module _ {M : Type 0} where
   puts _ _ m l ms le e = grind (arith, nat_tests)
 
   hands : (o : Option (Packet M)) (place : ℕ) (l : Link M) (ms : List M) → ms ≡ due l.there
-      → ms ++ messages_of (given_by o (newly_delivered l.there (with_packet o (λ p. arrives p (without_packet place l)) l).there)) ≡ due (with_packet o (λ p. arrives p (without_packet place l)) l).there
-  hands (Some (Message n m)) place l ms e = ap (λ xs. xs ++ drop (top l.there.arrived) (take (top (n ∷ l.there.arrived)) l.there.sent)) e ∙ take-on (top l.there.arrived) (top (n ∷ l.there.arrived)) l.there.sent (top_rises n l.there.arrived)
+      → ms ++ messages_of (given_by o (newly_delivered l.there (with_packet o (λ p. arrives p (without_packet place l)) l).there)) ≡ due
+      (with_packet o (λ p. arrives p (without_packet place l)) l).there
+  hands (Some (Message n m)) place l ms e = ap (λ xs. xs ++ drop (top l.there.arrived) (take (top (n ∷ l.there.arrived)) l.there.sent)) e
+      ∙ take-on (top l.there.arrived) (top (n ∷ l.there.arrived)) l.there.sent (top_rises n l.there.arrived)
   hands _ place l ms e = append-nil ms ∙ e
 
   -- a delivery on the link back hands nothing on here
@@ -52,10 +54,14 @@ module _ {M : Type 0} where
 pub in_order : {M : Type 0} (a b : Site) (calls : List (Call M)) → handed a b calls ≡ due (link a b calls).there
 in_order a b [] = refl
 in_order a b (Puts from to m ∷ calls) =
-    puts (same_site a from && same_site b to) (same_site a to && same_site b from) m (link a b calls) (handed a b calls) (delivered_le (link a b calls).there (delivered (link a b calls).back) (sound a b calls).there) (in_order a b calls)
-in_order a b (Delivers from to place ∷ calls) = delivers (same_site a from && same_site b to) (same_site a to && same_site b from) place (link a b calls) (handed a b calls) (in_order a b calls)
-in_order a b (Loses from to place ∷ calls) = loses (same_site a from && same_site b to) (same_site a to && same_site b from) place (link a b calls) (handed a b calls) (in_order a b calls)
-in_order a b (Repeats from to place ∷ calls) = repeats (same_site a from && same_site b to) (same_site a to && same_site b from) place (link a b calls) (handed a b calls) (in_order a b calls)
+    puts (same_site a from && same_site b to) (same_site a to && same_site b from) m (link a b calls) (handed a b calls)
+    (delivered_le (link a b calls).there (delivered (link a b calls).back) (sound a b calls).there) (in_order a b calls)
+in_order a b (Delivers from to place ∷ calls) = delivers (same_site a from && same_site b to) (same_site a to && same_site b from) place
+    (link a b calls) (handed a b calls) (in_order a b calls)
+in_order a b (Loses from to place ∷ calls) = loses (same_site a from && same_site b to) (same_site a to && same_site b from) place (link a b calls)
+    (handed a b calls) (in_order a b calls)
+in_order a b (Repeats from to place ∷ calls) = repeats (same_site a from && same_site b to) (same_site a to && same_site b from) place
+    (link a b calls) (handed a b calls) (in_order a b calls)
 in_order a b (Resends from to ∷ calls) = resends (same_site a from && same_site b to) (same_site a to && same_site b from) (link a b calls) (handed a b calls) (in_order a b calls)
 
 pub whole : {M : Type 0} (a b : Site) (calls : List (Call M))

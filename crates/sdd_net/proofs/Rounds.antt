@@ -36,7 +36,9 @@ links_from : (tms dms : ℕ) (a : Site) (ss : List Site) → is_site tms dms a �
     → AllExist tms dms (filter_map (λ b. cond (are_linked a b) (Some (a, b)) None) ss)
 links_from tms dms a [] h all = All-nil (Exists tms dms)
 links_from tms dms a (b ∷ ss) h all =
-    elim (are_linked a b) as (λ c. are_linked a b ≡ c → AllExist tms dms (cons_option (cond c (Some (a, b)) None) (filter_map (λ b. cond (are_linked a b) (Some (a, b)) None) ss))) [
+    elim (are_linked a b) as
+    (λ c. are_linked a b ≡ c → AllExist tms dms
+    (cons_option (cond c (Some (a, b)) None) (filter_map (λ b. cond (are_linked a b) (Some (a, b)) None) ss))) [
       | true ↦ λ e.
           let to : is_site tms dms b ≡ true = All-head (λ s. is_site tms dms s ≡ true) b ss all in
           All-cons (Exists tms dms) (a, b) (filter_map (λ b. cond (are_linked a b) (Some (a, b)) None) ss)
@@ -49,7 +51,8 @@ links_of : (tms dms : ℕ) (froms ss : List Site) → All (λ s. is_site tms dms
     → AllExist tms dms (flat_map (λ a. filter_map (λ b. cond (are_linked a b) (Some (a, b)) None) ss) froms)
 links_of tms dms [] ss h all = All-nil (Exists tms dms)
 links_of tms dms (a ∷ froms) ss h all =
-    All-append (Exists tms dms) (filter_map (λ b. cond (are_linked a b) (Some (a, b)) None) ss) (flat_map (λ a. filter_map (λ b. cond (are_linked a b) (Some (a, b)) None) ss) froms)
+    All-append (Exists tms dms) (filter_map (λ b. cond (are_linked a b) (Some (a, b)) None) ss)
+    (flat_map (λ a. filter_map (λ b. cond (are_linked a b) (Some (a, b)) None) ss) froms)
     (links_from tms dms a ss (All-head (λ s. is_site tms dms s ≡ true) a froms h) all)
     (links_of tms dms froms ss (All-tail (λ s. is_site tms dms s ≡ true) a froms h) all)
 

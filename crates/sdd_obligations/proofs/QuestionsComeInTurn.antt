@@ -174,7 +174,8 @@ start_stands s k log q d v e =
     let ms : List (ℕ × List ℕ) = read_modules f ds in
     let all : firsts ms ≡ ds = read_firsts f (start_numbers s k log q) ds (λ x. refl) in
     let own : after_start s k log q k v n d ≡ (if contains ds d then turn_after_question (f d) (v n d) else v n d) =
-    ap (λ (b : Bool). if contains ds d && b then turn_after_question (f d) (v n d) else v n d) (own_started n k) ∙ and_true (contains ds d) (turn_after_question (f d) (v n d)) (v n d) in
+    ap (λ (b : Bool). if contains ds d && b then turn_after_question (f d) (v n d) else v n d) (own_started n k)
+    ∙ and_true (contains ds d) (turn_after_question (f d) (v n d)) (v n d) in
     elim (contains ds d) as (λ b. contains ds d ≡ b → IsAtTurn d (begins q.text (sends_of_act (start_at s k log q))) (after_start s k log q k v n d)) [
       | true ↦ λ b.
           let here : contains (firsts ms) d ≡ true = ap (λ l. contains l d) all ∙ b in

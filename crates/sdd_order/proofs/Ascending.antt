@@ -27,7 +27,8 @@ insert_is (x ∷ xs) k y m =
           (subst (λ o. Contains (match_ordering o (k ∷ x ∷ xs) (x ∷ xs) (x ∷ insert_key nat_cmp xs k)) y) (less_is k x l) m)
       | inr (inl e) ↦ inr (subst (λ o. Contains (match_ordering o (k ∷ x ∷ xs) (x ∷ xs) (x ∷ insert_key nat_cmp xs k)) y) (equal_is k x e) m)
       | inr (inr g) ↦
-          elim (Contains-cases x (insert_key nat_cmp xs k) y (subst (λ o. Contains (match_ordering o (k ∷ x ∷ xs) (x ∷ xs) (x ∷ insert_key nat_cmp xs k)) y) (greater_is k x g) m)) [
+          elim (Contains-cases x (insert_key nat_cmp xs k) y
+          (subst (λ o. Contains (match_ordering o (k ∷ x ∷ xs) (x ∷ xs) (x ∷ insert_key nat_cmp xs k)) y) (greater_is k x g) m)) [
             | inl e ↦ inr (subst (Contains (x ∷ xs)) (sym e) (Contains-here x xs))
             | inr n ↦ elim (insert_is xs k y n) [ inl e ↦ inl e | inr h ↦ inr (Contains-later x xs y h) ]
           ]

@@ -32,7 +32,8 @@ chain_is m (n ∷ xs) r l c =
     elim (cases_eq m n) [
       | inl e ↦ later (chain_is n xs r.1 l (subst (λ b. Contains (cond b (chain_after (Some n) xs) ((m, n) ∷ chain_after (Some n) xs)) l) (eq-eqb m n e) c))
       | inr d ↦
-          elim (Contains-cases (m, n) (chain_after (Some n) xs) l (subst (λ b. Contains (cond b (chain_after (Some n) xs) ((m, n) ∷ chain_after (Some n) xs)) l) (ne_eqb m n d) c)) [
+          elim (Contains-cases (m, n) (chain_after (Some n) xs) l
+          (subst (λ b. Contains (cond b (chain_after (Some n) xs) ((m, n) ∷ chain_after (Some n) xs)) l) (ne_eqb m n d) c)) [
             | inl e ↦
                 let most = r.0 n (Contains-here n xs) in
                 subst (InChain (m ∷ n ∷ xs)) (sym e) (record {

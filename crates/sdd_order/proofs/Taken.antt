@@ -173,7 +173,8 @@ module _ {A : Type 0} (time : A → ℕ) where
     taken_is zero left x m = absurd (Contains-nil x m)
     taken_is (suc n) left x m =
         elim (earliest time (filter (is_ready before left) left)) as
-        (λ o. earliest time (filter (is_ready before left) left) ≡ o → Contains (elim o as (λ p. List A) [ None ↦ [] | Some y ↦ y ∷ taken before time n (without time y left) ]) x → Contains left x) [
+        (λ o. earliest time (filter (is_ready before left) left) ≡ o → Contains
+        (elim o as (λ p. List A) [ None ↦ [] | Some y ↦ y ∷ taken before time n (without time y left) ]) x → Contains left x) [
           | None ↦ λ e k. absurd (Contains-nil x k)
           | Some y ↦ λ e k. elim (Contains-cases y (taken before time n (without time y left)) x k) [
             | inl same ↦ subst (Contains left) (sym same) (next_is left y e).member
@@ -183,13 +184,15 @@ module _ {A : Type 0} (time : A → ℕ) where
 
     -- where some one is always ready all are taken
     pub taken_whole : (n : ℕ) (left : List A) → length left ≤ n → Differ left
-        → ((some : List A) → ((y : A) → Contains some y → Contains left y) → (s : A) → Contains some s → (r : A) × Contains some r × ((y : A) → Contains some y → before y r ≡ false))
+        → ((some : List A) → ((y : A) → Contains some y → Contains left y) → (s : A) → Contains some s → (r : A) × Contains some r ×
+        ((y : A) → Contains some y → before y r ≡ false))
         → (x : A) → Contains left x → Contains (taken before time n left) x
     taken_whole zero [] l d h x m = absurd (Contains-nil x m)
     taken_whole zero (y ∷ left) l d h x m = absurd (omega arith)
     taken_whole (suc n) left l d h x m =
         elim (earliest time (filter (is_ready before left) left)) as
-        (λ o. earliest time (filter (is_ready before left) left) ≡ o → Contains (elim o as (λ p. List A) [ None ↦ [] | Some y ↦ y ∷ taken before time n (without time y left) ]) x) [
+        (λ o. earliest time (filter (is_ready before left) left) ≡ o → Contains
+        (elim o as (λ p. List A) [ None ↦ [] | Some y ↦ y ∷ taken before time n (without time y left) ]) x) [
           | None ↦ λ e. let r = h left (λ y k. k) x m in absurd (none_next left e r.0 r.1 r.2)
           | Some y ↦ λ e.
               let next = next_is left y e in

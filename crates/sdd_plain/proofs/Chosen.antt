@@ -7,10 +7,14 @@ pub chosen_of_relation : (rel : ℕ) (conds : List Condition) (db : Database)
 chosen_of_relation rel conds [] = refl
 chosen_of_relation rel conds (e ∷ db) =
     elim (e.0.0 == rel) as
-    (λ b. (e.0.0 == rel) ≡ b → map (as_of rel) (filter (λ x. meets_all conds (x.1 ∷ [])) (cond b (e ∷ filter (λ x. x.0.0 == rel) db) (filter (λ x. x.0.0 == rel) db))) ≡ cond (b && meets_all conds (e.1 ∷ [])) (e ∷ chosen db rel conds) (chosen db rel conds)) [
+    (λ b. (e.0.0 == rel) ≡ b → map (as_of rel)
+    (filter (λ x. meets_all conds (x.1 ∷ [])) (cond b (e ∷ filter (λ x. x.0.0 == rel) db) (filter (λ x. x.0.0 == rel) db))) ≡ cond
+    (b && meets_all conds (e.1 ∷ [])) (e ∷ chosen db rel conds) (chosen db rel conds)) [
       | true ↦ λ is.
           elim (meets_all conds (e.1 ∷ [])) as
-          (λ m. map (as_of rel) (cond m (e ∷ filter (λ x. meets_all conds (x.1 ∷ [])) (filter (λ x. x.0.0 == rel) db)) (filter (λ x. meets_all conds (x.1 ∷ [])) (filter (λ x. x.0.0 == rel) db))) ≡ cond m (e ∷ chosen db rel conds) (chosen db rel conds)) [
+          (λ m. map (as_of rel)
+          (cond m (e ∷ filter (λ x. meets_all conds (x.1 ∷ [])) (filter (λ x. x.0.0 == rel) db))
+          (filter (λ x. meets_all conds (x.1 ∷ [])) (filter (λ x. x.0.0 == rel) db))) ≡ cond m (e ∷ chosen db rel conds) (chosen db rel conds)) [
             | true ↦ ap (λ es. as_of rel e ∷ es) (chosen_of_relation rel conds db)
                 ∙ ap (λ r. ((r, e.0.1), e.1) ∷ chosen db rel conds) (sym (eqb-true e.0.0 rel is))
             | false ↦ chosen_of_relation rel conds db

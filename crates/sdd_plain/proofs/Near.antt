@@ -107,7 +107,8 @@ tested_rows : (rel part : ℕ) (conds : List Condition) (keys : Interval) (db : 
 tested_rows rel part conds keys [] near = refl
 tested_rows rel part conds keys (e ∷ db) near =
     let rest = tested_rows rel part conds keys db near.1 in
-    ap (λ b. cond b (e ∷ filter (λ x. ((x.0.0 == rel) && is_within keys x.0.1) && may_join conds part x.1) db) (filter (λ x. ((x.0.0 == rel) && is_within keys x.0.1) && may_join conds part x.1) db)) (same_test rel part conds keys e near.0)
+    ap (λ b. cond b (e ∷ filter (λ x. ((x.0.0 == rel) && is_within keys x.0.1) && may_join conds part x.1) db)
+    (filter (λ x. ((x.0.0 == rel) && is_within keys x.0.1) && may_join conds part x.1) db)) (same_test rel part conds keys e near.0)
     ∙ ap (λ es. cond ((e.0.0 == rel) && may_join conds part e.1) (e ∷ es) es) rest
 
 each_tested : (rel part : ℕ) (conds : List Condition) (keys : Interval) (db : Database) → AllByRecursion (IsNear rel part conds keys) db

@@ -16,7 +16,8 @@ met_later g d later log q h small e =
     let s : Setting = setting_of g (D d) in
     let c : ℕ = q.class.0 in
     elim (dec_le (suc c) (suc (length s.catalogue.classes))) [
-      | yes l ↦ (let was : passed (pipe c (at_module g d log)) q.time.0 ≡ true = subst (λ (k : ClassView). passed k.pipe q.time.0 ≡ true) (class_in_view s (at_module g d log) c l) e in
+      | yes l ↦ (let was : passed (pipe c (at_module g d log)) q.time.0 ≡ true = subst (λ (k : ClassView). passed k.pipe q.time.0 ≡ true)
+          (class_in_view s (at_module g d log) c l) e in
           subst (λ (k : ClassView). passed k.pipe q.time.0 ≡ true) (sym (class_in_view s (at_module g d (later ++ log)) c l))
           (passed_later g c d q.time.0 later log h (small c) was))
       | no n ↦ (let none : false ≡ true = subst (λ (k : ClassView). passed k.pipe q.time.0 ≡ true) (class_not_in_view s (at_module g d log) c (omega (arith, n))) e in cc)
@@ -45,7 +46,8 @@ act_waits s l c ts of txn attempt conds uses act w i =
     (λ e. let p = passing c act l e in inl (p.1 ∙ w.0, ap (λ (x : Pipe). head x) p.0.pipe_same ∙ w.1))
     (λ k ds r sends here p q x y. inl (waits_on c k r sends l p w.0, ap (λ (z : Pipe). head z) (not_own c k r sends l (inr p)).pipe_same ∙ w.1))
     (λ k m r sends here p x may. elim (same_or_not k c) [
-      | inl e ↦ (let a = waited_answer s l c ts of txn attempt conds uses r sends w.0 w.1 p (subst (λ z. IsReadStep s l (Records z r sends)) e (by_record k m r sends here p x may refl)) in
+      | inl e ↦ (let a = waited_answer s l c ts of txn attempt conds uses r sends w.0 w.1 p
+          (subst (λ z. IsReadStep s l (Records z r sends)) e (by_record k m r sends here p x may refl)) in
           inr (a.0, sends, ap (λ z. Records z r sends) e ∙ ap (λ z. Records c z sends) a.1))
       | inr e ↦ inl (waits_other c k r sends l e ∙ w.0, ap (λ (z : Pipe). head z) (not_own c k r sends l (inl e)).pipe_same ∙ w.1)
     ]) i
@@ -64,7 +66,8 @@ waits_entry : (g : Input) (d : DmNo) (c : ℕ) (e : Entry) (entries log : Log) (
     → HeadWaits (at_module g d (e ∷ (entries ++ log))) c (Read ts of txn attempt conds uses) ⊎ IsAnsweredIn d c txn attempt (e ∷ entries)
 waits_entry g d c e entries log ts of txn attempt conds uses w (aside f) = inl ((f c).waits_same ∙ w.0, ap (λ (x : Pipe). head x) (f c).pipe_same ∙ w.1)
 waits_entry g d c e entries log ts of txn attempt conds uses w (handing from m s) =
-    inl (subst (λ l. HeadWaits l c (Read ts of txn attempt conds uses)) (sym s) (w.0, handed_head c from m (Read ts of txn attempt conds uses) (at_module g d (entries ++ log)) w.1))
+    inl (subst (λ l. HeadWaits l c (Read ts of txn attempt conds uses)) (sym s)
+    (w.0, handed_head c from m (Read ts of txn attempt conds uses) (at_module g d (entries ++ log)) w.1))
 waits_entry g d c e entries log ts of txn attempt conds uses w (acting act is s due) =
     let l : site.Log = at_module g d (entries ++ log) in
     elim (act_waits (setting_of g (D d)) l c ts of txn attempt conds uses act w (d_step (setting_of g (D d)) l act due)) [
@@ -98,6 +101,7 @@ answered g d c later log ts of txn attempt conds uses h small here from to w e m
     let s : Setting = setting_of g (D d) in
     let l : site.Log = at_module g d (later ++ log) in
     elim (waits_or_answered g d c later log ts of txn attempt conds uses h (w, e)) [
-      | inl x ↦ absurd (no_ready_head s l c ts of txn attempt conds uses (all_met_later g d later log conds h small met) x.1 (head_stuck s l c here (none_at_data g (later ++ log) d from to none)))
+      | inl x ↦ absurd (no_ready_head s l c ts of txn attempt conds uses (all_met_later g d later log conds h small met) x.1
+          (head_stuck s l c here (none_at_data g (later ++ log) d from to none)))
       | inr x ↦ x
     ]

@@ -170,6 +170,7 @@ answered_or_rejected g d c later log ts of txn attempt conds uses h small here f
     let s : Setting = setting_of g (D d) in
     let l : site.Log = at_module g d (later ++ log) in
     elim (stays_or_done g d c later log ts of txn attempt conds uses h small clean met (w, e)) [
-      | inl x ↦ absurd (no_ready_head s l c ts of txn attempt conds uses (all_met_later g d later log conds h small met) x.1 (head_stuck s l c here (none_at_data g (later ++ log) d from to none)))
+      | inl x ↦ absurd (no_ready_head s l c ts of txn attempt conds uses (all_met_later g d later log conds h small met) x.1
+          (head_stuck s l c here (none_at_data g (later ++ log) d from to none)))
       | inr x ↦ x
     ]

@@ -44,7 +44,8 @@ act_processes s l c k m act i there lo hi =
     (λ j ds r sends here p q y z x. absurd (count_same c k l (Did (Records j r sends) ∷ l) (ap (λ (y : Pipe). y.processed) (not_own c j r sends l (inr p)).pipe_same) lo x))
     (λ j n r sends here p h may x. elim (same_or_not j c) [
       | inl e ↦ subst (λ z. Processes s l c m (Records z r sends)) (sym e)
-          (own_processes s l c k m r sends p (subst (λ z. IsReadStep s l (Records z r sends)) e (by_record j n r sends here p h may refl)) there lo (subst (λ z. k < length (pipe c (Did (Records z r sends) ∷ l)).processed) e x))
+          (own_processes s l c k m r sends p (subst (λ z. IsReadStep s l (Records z r sends)) e (by_record j n r sends here p h may refl)) there lo
+          (subst (λ z. k < length (pipe c (Did (Records z r sends) ∷ l)).processed) e x))
       | inr e ↦ absurd (count_same c k l (Did (Records j r sends) ∷ l) (ap (λ (y : Pipe). y.processed) (not_own c j r sends l (inl e)).pipe_same) lo x)
     ]) i hi
 

@@ -65,7 +65,9 @@ spoiled_as : (s : Setting) (l : site.Log) (q : Cond) (k : ℕ) (m : Msg) (r : Re
 spoiled_as s l q k m r sends e here p h may before after =
     let c : ℕ = q.class.0 in
     subst (λ z. IsSpoiledBy s l q (Records z r sends)) (sym e)
-    (spoiled_by s l q m r sends (subst (IsClassHere s) e here) p (subst (λ z. head (pipe z l) ≡ Some m) e h) (subst (λ z. May (view_of s l) z (waits z l) m r) e may) before (subst (λ z. spoils (view_of s (Did (Records z r sends) ∷ l)) q ≡ true) e after))
+    (spoiled_by s l q m r sends (subst (IsClassHere s) e here) p (subst (λ z. head (pipe z l) ≡ Some m) e h)
+    (subst (λ z. May (view_of s l) z (waits z l) m r) e may) before
+    (subst (λ z. spoils (view_of s (Did (Records z r sends) ∷ l)) q ≡ true) e after))
 
 act_spoils : (s : Setting) (l : site.Log) (q : Cond) (act : Act) → IsReadStep s l act → spoils (view_of s l) q ≡ false
     → spoils (view_of s (Did act ∷ l)) q ≡ true → IsSpoiledBy s l q act
@@ -100,7 +102,9 @@ spoilt_now : (g : Input) (d : DmNo) (q : Cond) (e : Entry) (entries log : Log) �
     → spoils (view_of (setting_of g (D d)) (at_module g d (entries ++ log))) q ≡ false
     → spoils (view_of (setting_of g (D d)) (at_module g d (e ∷ (entries ++ log)))) q ≡ true → IsSpoiltIn g log d q (e ∷ entries)
 spoilt_now g d q e entries log (aside f) before after =
-    absurd (not_both _ after (spoils_same (setting_of g (D d)) (at_module g d (entries ++ log)) (at_module g d (e ∷ (entries ++ log))) q (ap (λ (x : Pipe). x.processed) (f q.class.0).pipe_same) ∙ before))
+    absurd (not_both _ after
+    (spoils_same (setting_of g (D d)) (at_module g d (entries ++ log)) (at_module g d (e ∷ (entries ++ log))) q
+    (ap (λ (x : Pipe). x.processed) (f q.class.0).pipe_same) ∙ before))
 spoilt_now g d q e entries log (handing from m s) before after =
     let l : site.Log = at_module g d (entries ++ log) in
     let same : (pipe q.class.0 (at_module g d (e ∷ (entries ++ log)))).processed ≡ (pipe q.class.0 l).processed = ap (λ k. (pipe q.class.0 k).processed) s

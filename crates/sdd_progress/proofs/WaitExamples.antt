@@ -59,7 +59,8 @@ not_above ts e l = omega (arith, e, l)
 
 pub put_is_low : IsLow given_put_first 1 1 (put_first 27) (put_first 12) put_attempt put_commits (u_stamp given_put_first (put_first 12))
 put_is_low =
-    elim (low_or_high given_put_first 0 1 1 0 (put_first 27) (take 14 (put_first 27)) (put_first 12) query_queued put_attempt put_commits refl refl (lit≤ tt) (first_permitted 27) refl) [
+    elim (low_or_high given_put_first 0 1 1 0 (put_first 27) (take 14 (put_first 27)) (put_first 12) query_queued put_attempt put_commits refl refl
+    (lit≤ tt) (first_permitted 27) refl) [
       | inl low ↦ low
       | inr high ↦ absurd (not_above (u_stamp given_put_first (put_first 12)) stamp_is high.above)
     ]

@@ -43,7 +43,8 @@ range_in_order entries count index h i j = grind (arith, nat_tests, cases_lt, ge
 -- the range for two classes has the diagonals between them
 pub diagonals_in_range : (entries : List Entry) (index : DiagonalIndex)
     → IsIndexOf entries (length entries) index → (i j : ℕ)
-    → filter (λ e. is_between i j e.edge) (take ((range_of index i j).1 - (range_of index i j).0) (drop (range_of index i j).0 entries)) ≡ filter (λ e. is_between i j e.edge) entries
+    → filter (λ e. is_between i j e.edge) (take ((range_of index i j).1 - (range_of index i j).0) (drop (range_of index i j).0 entries)) ≡ filter
+    (λ e. is_between i j e.edge) entries
 diagonals_in_range entries index h i j =
     filter_range (λ e. is_between i j e.edge) entries (range_of index i j).0 (range_of index i j).1 (range_in_order entries (length entries) index h i j)
     (λ k d l t. covered_within index i j k (get_or entries k d).edge (h.covers k d l) t)

@@ -43,7 +43,8 @@ cells_there cat edges blocks entries e h =
     each_edge (HasCell (length cat.classes + 1)) (conflict_graph cat) entries (entries_edges edges blocks entries h ∙ e)
     (All-weaker (IsEdgeOf cat) (HasCell (length cat.classes + 1)) (λ x g. has_cell cat x g) (conflict_graph cat) (edges_known cat))
 
-module _ (cat : Catalogue) (blocks : List ℕ) (entries : List Entry) (edges_are : edges_of entries ≡ conflict_graph cat) (blocks_are : blocks_of entries ≡ blocks) (long : length cat.classes ≤ length blocks) where
+module _ (cat : Catalogue) (blocks : List ℕ) (entries : List Entry) (edges_are : edges_of entries ≡ conflict_graph cat)
+    (blocks_are : blocks_of entries ≡ blocks) (long : length cat.classes ≤ length blocks) where
   -- the block of a vertical edge stands at the place of its class
   vertical_at : (i : ℕ) → 1 ≤ i → i ≤ length cat.classes → vertical_block entries i ≡ get_or blocks (i - 1) 0
   vertical_at i low high = grind (arith, nat_tests, vertical_block-lists, first_block-vertical)

@@ -101,7 +101,8 @@ module _ (cat : Catalogue) (sound : IsSoundCatalogue cat) (c : ℕ) (txn : Txn) 
   -- a row of a copy is one of the database
   copied : (d f : ℕ) (e : ℤ × Row) → rows_in_fragment cat db f ≡ entries_of cat f (copies d f) → Contains (copies d f) e → Contains db (entry cat f e)
   copied d f e t h =
-      (Contains-from_filter (λ (e : Item × Row). fragment_of cat e.0.0 e.0.1 == f) db (entry cat f e) (subst (λ z. Contains z (entry cat f e)) (sym t) (Contains-map (entry cat f) (copies d f) e h))).0
+      (Contains-from_filter (λ (e : Item × Row). fragment_of cat e.0.0 e.0.1 == f) db (entry cat f e)
+      (subst (λ z. Contains z (entry cat f e)) (sym t) (Contains-map (entry cat f) (copies d f) e h))).0
 
   -- and a row of the database is in the copy of its fragment
   in_copy : (d f : ℕ) (e : Item × Row) → rows_in_fragment cat db f ≡ entries_of cat f (copies d f) → Contains db e
@@ -151,7 +152,8 @@ module _ (cat : Catalogue) (sound : IsSoundCatalogue cat) (c : ℕ) (txn : Txn) 
       Has-map_from (λ (e : ℤ × Row). e.1) (fold with_keyed [] (found d v)) row (subst (λ (z : ℕ × List Row). Has z.1 row) (sym w.2) k.has) in
       let e : ℤ × Row = q.0 in
       let there : Contains (found d v) e =
-      elim (gathered_from int_cmp int_cmp_total exact_signed [] (found d v) e (sorted_nil int_cmp) (of_has (fold with_keyed [] (found d v)) e q.1)) [ inl nothing ↦ absurd (Contains-nil e nothing) | inr t ↦ t ] in
+      elim (gathered_from int_cmp int_cmp_total exact_signed [] (found d v) e (sorted_nil int_cmp)
+      (of_has (fold with_keyed [] (found d v)) e q.1)) [ inl nothing ↦ absurd (Contains-nil e nothing) | inr t ↦ t ] in
       let o = of_use d u v e p.1 is there in
       let in_db : Has (databases.rows_of db u.rel.0) e.1 = row_of db u.rel.0 ((u.rel.0, e.0), e.1) o.0 refl in
       let number : u.number ≡ n = sym is.number ∙ ap (λ (z : ℕ × List Row). z.0) w.2 ∙ k.number in

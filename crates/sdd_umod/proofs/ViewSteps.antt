@@ -3,9 +3,11 @@ use Rattle.sdd_umod.proofs.All.{Act, Bases, Catalogue, Did, Entry, Handed, IsDue
 
 pub view_step : (s : Setting) (e : Entry) (log : Log) → view_of s (e ∷ log) ≡ after e (view_of s log)
 view_step s (Handed from m) log =
-    ap (λ ks. record (view_of s (Handed from m ∷ log)) { counts = ks }) (map_twice (λ t. counts t log) (λ t. counts t (Handed from m ∷ log)) (counts_handed from m) (numbers_to s.catalogue.tms) (λ t. refl))
+    ap (λ ks. record (view_of s (Handed from m ∷ log)) { counts = ks })
+    (map_twice (λ t. counts t log) (λ t. counts t (Handed from m ∷ log)) (counts_handed from m) (numbers_to s.catalogue.tms) (λ t. refl))
 view_step s (Did act) log =
-    ap (λ ks. record (view_of s (Did act ∷ log)) { counts = ks }) (map_twice (λ t. counts t log) (λ t. counts t (Did act ∷ log)) (counts_acted act) (numbers_to s.catalogue.tms) (λ t. refl))
+    ap (λ ks. record (view_of s (Did act ∷ log)) { counts = ks })
+    (map_twice (λ t. counts t log) (λ t. counts t (Did act ∷ log)) (counts_acted act) (numbers_to s.catalogue.tms) (λ t. refl))
 view_step s _ log = refl
 
 pub next_is_due : (cat : Catalogue) (bases : Bases) (v : View) (a : Act) → due cat bases v ≡ Some a → IsDue cat bases v a

@@ -101,7 +101,12 @@ module _ (P : Value → Type 0) (ints : (n : ℤ) → in_range n ≡ true → P 
   updates_hold cat sets s cs next [] all of e = let same : cs ≡ next = cc in subst Changing same all
   updates_hold cat sets s cs next (f ∷ es) all of e =
       elim (replaced sets f.1)
-      as (λ o. replaced sets f.1 ≡ o → elim o as (λ p. Option Changed) [ None ↦ None | Some row ↦ with_updates cat sets (with_change cat cs f.0.0 f.0.1 (Some row)) es ] ≡ Some next → Changing next) [
+      as (λ o. replaced sets f.1 ≡ o → elim o as
+      (λ p. Option Changed) [
+        | None ↦ None
+        | Some row ↦ with_updates cat sets
+            (with_change cat cs f.0.0 f.0.1 (Some row)) es
+      ] ≡ Some next → Changing next) [
         | None ↦ λ p q. cc
         | Some row ↦ λ p q.
             updates_hold cat sets s (with_change cat cs f.0.0 f.0.1 (Some row)) next es
@@ -190,7 +195,8 @@ module _ (P : Value → Type 0) (ints : (n : ℤ) → in_range n ≡ true → P 
       ]
   effect_from_keeps cat db h (Update rel sets conds ∷ rest) answers cs w a all =
       elim (with_updates cat sets cs (chosen db rel.0 conds))
-      as (λ o. with_updates cat sets cs (chosen db rel.0 conds) ≡ o → Keeps (elim o as (λ p. Effect) [ None ↦ failed Overflow | Some next ↦ effect_from cat db rest answers next ])) [
+      as (λ o. with_updates cat sets cs (chosen db rel.0 conds) ≡ o → Keeps
+      (elim o as (λ p. Effect) [ None ↦ failed Overflow | Some next ↦ effect_from cat db rest answers next ])) [
         | None ↦ λ e. record { reply = tt; changes = tt }
         | Some next ↦ λ e.
             effect_from_keeps cat db h rest answers next w.1 a

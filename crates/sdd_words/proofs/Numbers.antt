@@ -83,7 +83,8 @@ not_not z lt none = let e = parse-signed_decimal {E = Unit {0}} w64 z (signed_de
 
 value_if : (z : ℤ) → mag z < 2 ^ 63 → IsParsed (signed_decimal z) → signed_digits_value 10 (signed_decimal z) ≡ z
 value_if z lt p =
-    ok_is {E = Unit {0}} (signed_digits_value 10 (signed_decimal z)) z (parse-signed_decimal w64 z (signed_decimal z) (Ok (signed_digits_value 10 (signed_decimal z))) (fits_small z lt) lt refl (p, refl))
+    ok_is {E = Unit {0}} (signed_digits_value 10 (signed_decimal z)) z
+    (parse-signed_decimal w64 z (signed_decimal z) (Ok (signed_digits_value 10 (signed_decimal z))) (fits_small z lt) lt refl (p, refl))
 
 stable : (b : Bool) (y z : ℤ) → int_eq y z ≡ b → ((y ≡ z → ⊥) → ⊥) → y ≡ z
 stable b y z e h = grind (arith, nat_tests)

@@ -22,7 +22,10 @@ fn add_committed(entry: &(u32, Rec), numbers: &mut BTreeSet<u32>) -> Result<(), 
 }
 
 /// The numbers of the transactions that records commit. O(r log t) for r records of t transactions.
-pub(crate) fn committed_txns(alloc: Global, history: &[(u32, Rec)]) -> Result<BTreeSet<u32>, NoMemory>
+pub(crate) fn committed_txns(
+    alloc: Global,
+    history: &[(u32, Rec)],
+) -> Result<BTreeSet<u32>, NoMemory>
     ensures { IfOk result (λ numbers. AreCommitted numbers history.now) }
 {
     let mut numbers = BTreeSet::new(alloc);

@@ -17,7 +17,9 @@ returns c =
     let places = c.in_ok-search.search.places.items in
     let same : c.from_vec.result ≡ placed_nodes places = c.from_vec.ensures ∙ c.in_ok-reached.ensures in
     let has = ap is_some (sym c.place.ensures) ∙ sym c.is_some.ensures ∙ c.if-is_some.false in (
-      (λ t. apart_so c.args.graph.now.edges (Passes c.args.without.now) c.args.start c.args.node c.args.nodes.now places c.in_ok-search.ensures.reached has (c.is_same-2.ensures.0 t ∙ same)),
+      (λ t. apart_so c.args.graph.now.edges
+          (Passes c.args.without.now) c.args.start c.args.node c.args.nodes.now places c.in_ok-search.ensures.reached has
+          (c.is_same-2.ensures.0 t ∙ same)),
       λ h.
           c.is_same-2.ensures.1
           (those_reached c.args.graph.now.edges (Passes c.args.without.now) c.args.start c.args.node c.args.nodes.now places c.in_ok-search.ensures.reached h.0 ∙ sym same),

@@ -24,7 +24,8 @@ pub returns-clause-ended : goal.returns-clause-ended
 returns-clause-ended g c =
     let e = c.in_ok-bytes.ensures.ended in
     let bytes = c.as_slice.result.now in
-    on_ok_by c.read_catalogue_bytes.result (λ cat. catalogue_in bytes ≡ Ok cat) (λ s. Explains s (BlamesCatalogue (Some (catalogue_in bytes)))) _ c.read_catalogue_bytes.ensures.told
+    on_ok_by c.read_catalogue_bytes.result (λ cat. catalogue_in bytes ≡ Ok cat)
+    (λ s. Explains s (BlamesCatalogue (Some (catalogue_in bytes)))) _ c.read_catalogue_bytes.ensures.told
     (λ cat ok. (e.0, read_to_end _ _ _ _ _ c.args.name.now _ e.0 e.1 (rw (← c.as_slice.ensures.value) (accepted_small bytes cat ok))))
 
 pub returns-clause-fault : goal.returns-clause-fault

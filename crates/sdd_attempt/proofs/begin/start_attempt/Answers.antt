@@ -8,7 +8,8 @@ returns-clause-running c =
     (unwrap_or (option_map (λ t. t.now) c.args.table) []) c.args.class.0 c.args.queued.now c.args.clock.now c.start-own.new.self c.start-own.result.0 c.bound-p2.result.0
     c.in_ok-beginning.beginning c.in_ok-exchange.exchange
     c.start-own.ensures.clock c.start-own.ensures.timestamp c.bound-p2.ensures c.in_ok-beginning.ensures
-    (c.in_ok-exchange.ensures (reads_of c.in_ok-beginning.beginning) c.in_ok-modules.ensures.modules ∙ ap (λ (q : Queued). begins q.text (reads_of c.in_ok-beginning.beginning)) c.queued.view_is)
+    (c.in_ok-exchange.ensures (reads_of c.in_ok-beginning.beginning) c.in_ok-modules.ensures.modules
+    ∙ ap (λ (q : Queued). begins q.text (reads_of c.in_ok-beginning.beginning)) c.queued.view_is)
 
 pub returns-clause-draft : goal.returns-clause-draft
 returns-clause-draft c =

@@ -6,4 +6,5 @@ use Rattle.sdd_catread.proofs.lists.read_each.Given as goal
 
 abbrev pub invariant-values : goal.invariant-values
 invariant-values g l =
-    with_front l.items.items (along (λ _. g.T.Spelled.spelled l.location) (l.value-index + 1) (map data_of (drop l.value-index l.values))) ≡ along (λ _. g.T.Spelled.spelled l.location) 1 (map data_of l.values)
+    with_front l.items.items (along (λ _. g.T.Spelled.spelled l.location) (l.value-index + 1) (map data_of (drop l.value-index l.values))) ≡ along
+    (λ _. g.T.Spelled.spelled l.location) 1 (map data_of l.values)

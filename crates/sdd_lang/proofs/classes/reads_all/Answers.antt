@@ -7,11 +7,15 @@ loop-number-init c = pass_all (λ f. is_some (reads_at c.args.catalogue.now c.ar
 
 pub returns-then-not-reads_where_set : goal.returns-then-not-reads_where_set
 returns-then-not-reads_where_set c =
-    sym (c.loop-number.invariant ∙ pass_fails (λ f. is_some (reads_at c.args.catalogue.now c.args.class.0 f)) c.args.set.now c.loop-number.number _ (omega arith) c.if-not-reads_where_set.ensures)
+    sym (c.loop-number.invariant
+    ∙ pass_fails (λ f. is_some (reads_at c.args.catalogue.now c.args.class.0 f)) c.args.set.now c.loop-number.number _
+    (omega arith) c.if-not-reads_where_set.ensures)
 
 pub loop-number-preserved : goal.loop-number-preserved
 loop-number-preserved c =
-    c.loop-number.invariant ∙ pass_more (λ f. is_some (reads_at c.args.catalogue.now c.args.class.0 f)) c.args.set.now c.loop-number.number _ (omega arith) c.if-not-reads_where_set.ensures
+    c.loop-number.invariant
+    ∙ pass_more (λ f. is_some (reads_at c.args.catalogue.now c.args.class.0 f)) c.args.set.now c.loop-number.number _
+    (omega arith) c.if-not-reads_where_set.ensures
 
 pub returns : goal.returns
 returns c =

@@ -27,4 +27,5 @@ returns-clause-law g c =
     let there = c.index_mut-channel.ensures.value in
     if_on c.receive.result _ _ c.receive.ensures.receiver (λ _ r w sent fits.
     changes channels c.args.at x _ _ c.requires.live there
-    (received_matches x c.receive.new.self w c.args.no c.args.msg c.requires.number sent (fits_there channels c.args.at x w c.requires.live there fits) c.receive.ensures.sender c.receive.ensures.flight r))
+    (received_matches x c.receive.new.self w c.args.no c.args.msg c.requires.number sent
+    (fits_there channels c.args.at x w c.requires.live there fits) c.receive.ensures.sender c.receive.ensures.flight r))

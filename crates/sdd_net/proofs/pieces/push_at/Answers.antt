@@ -5,7 +5,8 @@ use Rattle.sdd_net.proofs.pieces.push_at.Goals as goal
 pub returns-in_err-push_back-clause-err : goal.returns-in_err-push_back-clause-err
 returns-in_err-push_back-clause-err g c =
     on_err c.from_residual.result
-    (same_items _ c.args.pieces.now.items c.args.at c.index_mut-piece.result.now c.push_back.new.self (omega arith) c.index_mut-piece.ensures.value c.in_err-push_back.ensures.items)
+    (same_items _ c.args.pieces.now.items c.args.at c.index_mut-piece.result.now c.push_back.new.self
+    (omega arith) c.index_mut-piece.ensures.value c.in_err-push_back.ensures.items)
 
 pub returns-clause-ok : goal.returns-clause-ok
 returns-clause-ok g c =

@@ -6,7 +6,8 @@ pub way-init : goal.way-init
 way-init c = (
   c.requires.within,
   λ network without gone u.
-      subst (λ z. IsWayBack network.edges (Passes without) c.args.self.now.places.items c.args.self.now.reached.items (reached_at c.args.self.now.reached.items c.args.place).node c.args.place z)
+      subst (λ z. IsWayBack network.edges (Passes without) c.args.self.now.places.items c.args.self.now.reached.items
+      (reached_at c.args.self.now.reached.items c.args.place).node c.args.place z)
       (sym c.new-way.ensures.items)
       (at_last network.edges (Passes without) network.nodes gone c.args.self.now.places.items c.args.self.now.reached.items u _ c.args.place c.requires.within refl),
 )

@@ -6,11 +6,13 @@ pub returns-in-None : goal.returns-in-None
 returns-in-None c =
     let s = c.self.inside in
     let told = standing_told s.catalogue.now s.class.0 s.queue.items s.running c.args.number.0 c.self.invariant in
-    sym (sym (ap (λ (l : Line). standing_of l c.args.number.0) c.self.view_is) ∙ told ∙ ap (at_place s.class.0 (active_of s.queue.items s.running)) (sym c.place_of.ensures ∙ c.in-None.is))
+    sym (sym (ap (λ (l : Line). standing_of l c.args.number.0) c.self.view_is) ∙ told
+    ∙ ap (at_place s.class.0 (active_of s.queue.items s.running)) (sym c.place_of.ensures ∙ c.in-None.is))
 
 pub returns-in-Some : goal.returns-in-Some
 returns-in-Some c =
     let s = c.self.inside in
     let told = standing_told s.catalogue.now s.class.0 s.queue.items s.running c.args.number.0 c.self.invariant in
     c.standing_at.ensures ∙ sym (ap (λ (l : Line). standing_at l.class l.active c.in-Some.place) c.self.view_is)
-    ∙ sym (sym (ap (λ (l : Line). standing_of l c.args.number.0) c.self.view_is) ∙ told ∙ ap (at_place s.class.0 (active_of s.queue.items s.running)) (sym c.place_of.ensures ∙ c.in-Some.is))
+    ∙ sym (sym (ap (λ (l : Line). standing_of l c.args.number.0) c.self.view_is) ∙ told
+    ∙ ap (at_place s.class.0 (active_of s.queue.items s.running)) (sym c.place_of.ensures ∙ c.in-Some.is))

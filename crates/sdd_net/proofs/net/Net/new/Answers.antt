@@ -7,7 +7,11 @@ invariant_of-result g c = record {
   few_tms = c.requires.tms;
   few_dms = c.requires.dms;
   all_links = c.in_ok-links.ensures ∙ ap (map (placed c.args.tms c.args.dms)) (c.deref.ensures.value ∙ c.in_ok-pairs.ensures);
-  represents = λ _. ([], unused_stands _ c.args.tms c.args.dms c.in_ok-channels.channels.items (c.in_ok-channels.ensures ∙ ap (λ n. replicate n unused_channel) c.pair_count.ensures));
+  represents = λ _. (
+    [],
+    unused_stands _ c.args.tms c.args.dms c.in_ok-channels.channels.items
+        (c.in_ok-channels.ensures ∙ ap (λ n. replicate n unused_channel) c.pair_count.ensures),
+  );
 }
 
 pub returns-clause-unused : goal.returns-clause-unused

@@ -8,7 +8,8 @@ invariant_of-self-2 g c =
     let live = live_is c.args.self.now i.live i.tms i.dms i.channels.items c.self.view_is c.requires.live in
     let exists = exists_of c.args.self.now i.live i.tms i.dms i.channels.items c.args.from c.args.to c.self.view_is c.requires.exists in
     still i.tms i.dms i.links.items i.live true i.channels.items c.resend_at.new.channels.items (Resends c.args.from c.args.to) c.self.invariant live
-    (way_does i.tms i.dms i.channels.items c.resend_at.new.channels.items c.index_of-at.result c.args.from c.args.to (Resends c.args.from c.args.to) resend (λ a b l. refl) (λ l. refl) c.index_of-at.ensures exists
+    (way_does i.tms i.dms i.channels.items c.resend_at.new.channels.items c.index_of-at.result c.args.from c.args.to
+    (Resends c.args.from c.args.to) resend (λ a b l. refl) (λ l. refl) c.index_of-at.ensures exists
     (λ l s h. c.in_ok-some.ensures.law l.there h))
 
 pub returns-clause-ok : goal.returns-clause-ok
@@ -17,5 +18,6 @@ returns-clause-ok g c =
     let live = live_is c.args.self.now i.live i.tms i.dms i.channels.items c.self.view_is c.requires.live in
     let exists = exists_of c.args.self.now i.live i.tms i.dms i.channels.items c.args.from c.args.to c.self.view_is c.requires.exists in
     does c.args.self.now i.live true i.tms i.dms i.channels.items c.resend_at.new.channels.items (Resends c.args.from c.args.to) c.self.view_is refl
-    (way_does i.tms i.dms i.channels.items c.resend_at.new.channels.items c.index_of-at.result c.args.from c.args.to (Resends c.args.from c.args.to) resend (λ a b l. refl) (λ l. refl) c.index_of-at.ensures exists
+    (way_does i.tms i.dms i.channels.items c.resend_at.new.channels.items c.index_of-at.result c.args.from c.args.to
+    (Resends c.args.from c.args.to) resend (λ a b l. refl) (λ l. refl) c.index_of-at.ensures exists
     (λ l s h. c.in_ok-some.ensures.law l.there h))
