@@ -44,7 +44,7 @@ Represent copies xs = (f : ℕ) → is_here copies f ≡ true → items_at copie
 abbrev pub AreHere : Held → Use → Type 0
 AreHere copies u = All (λ f. is_here copies f.0 ≡ true) u.frags
 
--- copies in memory: what they hold, and whether none has answered want of memory
+-- copies in memory: what they hold, and whether no call on them ran out of memory
 
 abbrev pub held_in : List (Option (Kept Items)) → Held
 held_in copies = map (λ c. option_map (λ k. k.value) c) copies

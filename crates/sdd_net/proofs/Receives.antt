@@ -143,7 +143,7 @@ pub old_arrival : {M : Type 0} (n : ℕ) (m : M) (r : Kept (Receiving M)) → Is
     → (r ≡ record { live = true; value = received n m r.value }) × ([] ≡ handed_on n m r.value)
 old_arrival n m r live old = grind (arith, nat_tests)
 
--- the next message is handed on at once where none waits
+-- the next message is handed on at once where no message waits
 pub next_arrival : {M : Type 0} (n : ℕ) (m : M) (r : Receiving M) → (r.early ≡ []) × (n ≡ r.count + 1)
     → (m ∷ [] ≡ handed_on n m r) × (record r { count = r.count + 1 } ≡ received n m r)
 next_arrival n m r e = grind (arith, nat_tests)

@@ -82,7 +82,7 @@ ChannelsRepresent tms dms channels calls =
 abbrev pub Represents : {M : Type 0} → Kept (Directions M) → List (Call M) → Type 0
 Represents net calls = ChannelsRepresent net.value.tms net.value.dms net.value.channels calls
 
--- no call on a channel's parts has answered want of memory
+-- no call on the parts of a channel ran out of memory
 pub record IsLive {M : Type 0} (c : Channel M) : Type 0 where
   pub sender : IsTrue c.sender.live
   pub flight : IsTrue c.flight.live

@@ -49,7 +49,7 @@ no_hold s log bases act e (by_start p) = let q : start_of s.catalogue (view_of s
     subst (λ o. start_of s.catalogue (view_of s log) o ≡ Some act) e p in cc
 no_hold s log bases act e (by_hold n k p q) = let r : hold_to k None ≡ Some act = subst (λ o. hold_to k o ≡ Some act) e q in cc
 
--- where none waits, no more HOLDs are sent than there are Commits
+-- where no transaction waits, no more HOLDs are sent than there are Commits
 
 abbrev pub HoldsNeeded : Setting → ℕ → Log → Type 0
 HoldsNeeded s t log = ((counts t log).holds ≤ (last_served s log).commits) ⊎ ((q : Queued) × (head_of (queue s 0 log) ≡ Some q))

@@ -6,7 +6,7 @@ pub handed_on : {T U : Type 0} (r : Result T WorldEnd) (e : WorldEnd) → IsErrA
 handed_on (Ok v) e h k = absurd h
 handed_on (Err y) e h k = let same : y ≡ Limit = cc in ap (λ x. Err x) (sym h ∙ same)
 
--- want of memory is no limit
+-- running out of memory is no limit
 pub no_limit : {T : Type 0} (P : Type 0) (r : Result T WorldEnd) → IsErrAnd r (λ y. y ≡ NoMemory) → IsErrOf r Limit → P
 no_limit P (Ok v) h k = absurd h
 no_limit P (Err y) h k = let same : y ≡ Limit = cc in let e : NoMemory ≡ Limit = sym h ∙ same in cc
