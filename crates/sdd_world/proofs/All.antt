@@ -41,7 +41,7 @@ pub use Rattle.sdd_obligations.proofs.net.Directions.{link_parts, same_here, sam
 pub use Rattle.sdd_obligations.proofs.net.Lists.{get-set_other, get-set_same}
 pub use Rattle.sdd_obligations.proofs.net.Sound.{sound}
 pub use Rattle.sdd_obligations.proofs.wire.MessageLaws.{message_read_back}
-pub use Rattle.sdd_obligations.specs.All.{Ack, Acked, Act, AllHanded, AllLinked, AreDue, AtEach, Bases, Call, Catalogue, ClassView, D, Deliver, Delivered, Delivers, Did, Directions, DmNo, Does, Down, EndsIn, Era, Event, Fetch, FitsEra, Fitting, FittingSubmit, Hand, Handed, HasLink, History, Home, Input, IsBefore, IsDue, IsFirst, IsGood, IsLawful, IsLinkOf, IsLowest, IsPossible, IsSender, IsSiteOf, IsWithin as IsBelow, Kept, Link, Log, Lose, Loses, MAX_LINK_MESSAGES, MAX_RUN_EVENTS, Mailbox, Mark, Message, Messages, Msg, NoMemory, Notes, Nothing as Noted, Null, OnlyAt, Open, Outcome, Packet, Processes, Puts, Read, Rec, Records, Redeclare, Redeclared, Redeclares, Reduce, Remain, Repeat, Repeats, Resend, Resends, Rests, Round, Sends, Setting, Settle, Ship, Site, Submit, Submits, Submitted, T, TakesAway, TakesRounds, Tick, Ticked, TmNo, Txn, TxnNo, U, Up, View, Write, act_by, act_where, after_mark, all_links, answer_of, answer_to, arrives, base_of, beginning, bound_at, by_head, by_open, call_as, calls_of, class_for, dated, deliver, delivered, delivered_as, delivery, dm_no, due_by, empty_mailbox, fits, fits_at, fits_submit, fits_submit_at, fits_tick, from_one, given_by, greatest_bound, handed, has_copy, head, head_of, history, in_flight, index_of, is_asked_of, is_down, is_empty, is_link, is_processing, is_quiet_link, is_site, is_wait, kept_count, kept_from, left, link, link_as, link_of, links, local_of, log_after, lose, mailbox_at, marks, message_in, newly_delivered, next, next_in, note_if, nth_era, number_of, number_of_t, numbers_to, on_link, packet_as, packet_at, pipe, place_of, puts, puts_past, queue_at, quiet, records_of, records_of_act, redeclares, redeclares_in, repeat, resend, resends_now, round, rows_of, same_site, sends_of, sent_on, setting_of, settles_before, sites, spelled, takes_part, tm_no, turned, txn_at, view_of, waits, with_era, with_event, with_flight, with_packet, with_submit, without_packet}
+pub use Rattle.sdd_obligations.specs.All.{Ack, Acked, Act, AllHanded, AllLinked, AreDue, AtEach, Bases, Call, Catalogue, ClassView, D, Deliver, Delivered, Delivers, Did, Directions, DmNo, Does, Down, EndsIn, Era, Event, Fetch, FitsEra, FitsMsg, Fitting, FittingSubmit, Hand, Handed, HasLink, History, Home, Input, IsBefore, IsDue, IsFirst, IsGood, IsLawful, IsLinkOf, IsLowest, IsPossible, IsSender, IsSiteOf, IsWithin as IsBelow, Kept, Link, Log, Lose, Loses, MAX_LINK_MESSAGES, MAX_RUN_EVENTS, Mailbox, Mark, Message, Messages, Msg, NoMemory, Notes, Nothing as Noted, Null, OnlyAt, Open, Outcome, Packet, Processes, Puts, Read, Rec, Records, Redeclare, Redeclared, Redeclares, Reduce, Remain, Repeat, Repeats, Resend, Resends, Rests, Round, Sends, Setting, Settle, Ship, Site, Submit, Submits, Submitted, T, TakesAway, TakesRounds, Tick, Ticked, TmNo, Txn, TxnNo, U, Up, View, Write, act_by, act_where, after_mark, all_links, answer_of, answer_to, arrives, base_of, beginning, bound_at, by_head, by_open, call_as, calls_of, class_for, dated, deliver, delivered, delivered_as, delivery, dm_no, due_by, empty_mailbox, fits, fits_at, fits_submit, fits_submit_at, fits_tick, from_one, given_by, greatest_bound, handed, has_copy, head, head_of, history, in_flight, index_of, is_asked_of, is_down, is_empty, is_link, is_processing, is_quiet_link, is_site, is_wait, kept_count, kept_from, left, link, link_as, link_of, links, local_of, log_after, lose, mailbox_at, marks, message_in, newly_delivered, next, next_in, note_if, nth_era, number_of, number_of_t, numbers_to, on_link, packet_as, packet_at, pipe, place_of, puts, puts_past, queue_at, quiet, records_of, records_of_act, redeclares, redeclares_in, repeat, resend, resends_now, round, rows_of, same_site, sends_of, sent_on, setting_of, settles_before, sites, spelled, takes_part, tm_no, turned, txn_at, view_of, waits, with_era, with_event, with_flight, with_packet, with_submit, without_packet}
 pub use Rattle.sdd_obligations.specs.copy.Contents.{Dated}
 pub use Rattle.sdd_obligations.specs.dm.Due.{head_step}
 pub use Rattle.sdd_obligations.specs.dm.Pipes.{waits_acted}
@@ -49,11 +49,12 @@ pub use Rattle.sdd_obligations.specs.dm.Waiting.{conds_of, waiting_at}
 pub use Rattle.sdd_obligations.specs.dm.declared.step.Step.{Step}
 pub use Rattle.sdd_obligations.specs.dm.declared.step.Step.TheVariants.{Refuses, Waits}
 pub use Rattle.sdd_obligations.specs.history.declared.record.Rec.TheVariants.{Submit as Submission}
-pub use Rattle.sdd_obligations.specs.lang.Fits.{FitsTxn}
 pub use Rattle.sdd_obligations.specs.logs.Due.{home_of}
 pub use Rattle.sdd_obligations.specs.logs.Permitted.{IsDueAt}
 pub use Rattle.sdd_obligations.specs.net.Links.{put}
 pub use Rattle.sdd_obligations.specs.net.Mailboxes.{TakesMessage as TakesFrom}
+pub use Rattle.sdd_obligations.specs.net.Nets.{Matches}
+pub use Rattle.sdd_obligations.specs.net.Sound.{IsOf}
 pub use Rattle.sdd_obligations.specs.net.declared.delivered.Delivered.TheVariants.{Nothing}
 pub use Rattle.sdd_obligations.specs.protocol.declared.entry.Entry.{Entry}
 pub use Rattle.sdd_world.specs.AtSites.{At, IsClassAt, Lives, Representation, RepresentsAt}
@@ -73,7 +74,7 @@ pub use Rattle.sdd_world.specs.declared.ends.WorldEnd.TheVariants.{Limit}
 pub use Rattle.sdd_world.specs.declared.schedule.ClassList.{ClassList}
 pub use Rattle.sdd_world.specs.declared.sites.Sites.{Sites}
 pub use Rattle.sdd_world.specs.declared.world.World.{World}
-pub use Rattle.std.proofs.Common.{All, Bool, Err, Global, IfOk, IsErrAnd, IsErrOf, IsTrue, List, None, Ok, OnOk, Option, Result, Some, Vec, [], add-one, ap, append-nil, append_assoc, arith, cond, drop, eq-eqb, eqb-true, false, filter, filter_map, flat_map, fold, if◌then◌else◌, inl, inr, is_none, is_some, le-leb, le-ltb, leb-true, length, length-append, lt-ltb, map, max, nat_cmp, nat_le, nat_lt, ne_eqb, not, option_map, refl, replicate, rules, slice_get, slice_index_or as get_or, slice_set, subst, suc, sym, take, true, zero, ℕ, ◌&&◌, ◌++◌, ◌+◌, ◌-◌, ◌<◌, ◌==◌, ◌^◌, ◌||◌, ◌∙◌, ◌∷◌, ◌≡◌, ◌≢◌, ◌≤◌}
+pub use Rattle.std.proofs.Common.{All, Bool, Err, Global, IfOk, IsErrAnd, IsErrOf, IsTrue, List, None, Ok, OnOk, Option, Result, Some, Vec, [], add-one, ap, append-nil, append_assoc, arith, cond, drop, eq-eqb, eqb-true, false, filter, filter_map, flat_map, fold, if◌then◌else◌, inl, inr, is_none, is_some, le-leb, le-ltb, leb-true, length, length-append, lt-ltb, map, max, nat_cmp, nat_le, nat_lt, ne_eqb, not, option_map, refl, replicate, rules, slice_get, slice_index_or as get_or, slice_set, subst, suc, sym, take, true, zero, ℕ, ◌&&◌, ◌++◌, ◌+◌, ◌-◌, ◌<◌, ◌==◌, ◌^◌, ◌||◌, ◌↔◌, ◌∙◌, ◌∷◌, ◌≡◌, ◌≢◌, ◌≤◌}
 pub use Rattle.std.proofs.Math.Bool.{or-false}
 pub use Rattle.std.proofs.lemmas.Bool.{and_from, and_left, and_right, cases_lt, or_from as or_first, or_left as or_past, or_right as or_second}
 pub use Rattle.std.proofs.lemmas.List.{length-map, length-replicate, map-append, take_more}

@@ -1,5 +1,5 @@
 -- A world before its first event, over plain worlds.
-use Rattle.sdd_world.proofs.All.{Carries, Input, IsGood, IsSiteOf, IsSoundNetwork, KeepsFor, List, Mailbox, Msg, None, Option, Represent, Represents, Site, Some, Spooled, U, World, [], ap, arith, beginning, dm_no, empty_mailbox, false, get_or as slice_index_or, kept_from, length, length-replicate, mailbox_at, next_at_first, nth_era, place_of, queue_at, refl, replicate, rests_at_first, setting_of, subst, suc, sym, true, zero, ℕ, ◌-◌, ◌<◌, ◌∙◌, ◌≡◌, ◌≤◌}
+use Rattle.sdd_world.proofs.All.{Carries, Input, IsGood, IsSiteOf, IsSoundNetwork, KeepsFor, List, Mailbox, Msg, None, Option, Represent, Represents, Site, Some, Spooled, U, World, [], ap, arith, beginning, dm_no, empty_mailbox, false, get_or as slice_index_or, kept_from, length, length-replicate, mailbox_at, next_at_first, nth_era, place_of, queue_at, refl, replicate, rests_at_first, setting_of, subst, suc, sym, true, zero, ℕ, ◌-◌, ◌<◌, ◌∙◌, ◌≡◌}
 use Rattle.sdd_world.proofs.Keeping.{dm_within}
 
 nothing_at : {A : Type 0} (n k : ℕ) → slice_index_or (replicate {A = List A} n []) k [] ≡ []
@@ -31,9 +31,7 @@ spooled_none g tms dms t d = record {
   count = length-replicate dms (empty_mailbox tms) ∙ sym d;
   each = λ e here apart.
       (let i = dm_within g (dm_no e) here in
-      let low : 1 ≤ e = i.0 in
-      let high : e ≤ g.catalogue.dms = i.1 in
-      keeps_none g tms e (mailbox_at (empty_spool tms dms) e) t (one_of_all dms (e - 1) (empty_mailbox tms) _ (omega (arith, low, high, d))));
+      keeps_none g tms e (mailbox_at (empty_spool tms dms) e) t (one_of_all dms (e - 1) (empty_mailbox tms) _ (omega (arith, i.0, i.1, d))));
 }
 
 -- nothing is recorded, kept or due

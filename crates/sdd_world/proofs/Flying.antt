@@ -1,7 +1,5 @@
 -- Packets that are in flight, read from their spellings.
-use Rattle.sdd_world.proofs.All.{Ack, All, All-head, All-tail, AllByRecursion, AllPut, Call, Carries, Directions, Err, IfOk, IsPacketSpelling, Kept, List, Message, Msg, NoMemory, None, Ok, Option, Packet, PacketFits, Result, Site, Some, [], add-one, ap, append-nil, append_assoc, arith, drop, is_link, length, link, map, map-append, packet_as, refl, slice_get, sound, spelled, subst, suc, sym, true, zero, ℕ, ◌++◌, ◌+◌, ◌-◌, ◌<◌, ◌∙◌, ◌∷◌, ◌≡◌}
-use Rattle.sdd_obligations.specs.All.{FitsMsg}
-use Rattle.sdd_obligations.specs.net.Sound.{IsOf}
+use Rattle.sdd_world.proofs.All.{Ack, All, All-head, All-tail, AllByRecursion, AllPut, Call, Carries, Directions, Err, FitsMsg, IfOk, IsOf, IsPacketSpelling, Kept, List, Message, Msg, NoMemory, None, Ok, Option, Packet, PacketFits, Result, Site, Some, [], add-one, ap, append-nil, append_assoc, arith, drop, is_link, length, link, map, map-append, packet_as, refl, slice_get, sound, spelled, subst, suc, sym, true, zero, ℕ, ◌++◌, ◌+◌, ◌-◌, ◌<◌, ◌∙◌, ◌∷◌, ◌≡◌}
 use Rattle.sdd_world.proofs.Fitting.{sent_fit}
 use Rattle.sdd_world.proofs.ReadMessages.{same_message}
 
@@ -67,27 +65,23 @@ upto_is j k e = cc
 
 same_packet : (p q : Packet Msg) → PacketFits p → PacketFits q → packet_as spelled p ≡ packet_as spelled q → p ≡ q
 same_packet (Message n m) (Message k l) f h e =
-    ap (λ i. Message i m) (number_is n k (spelled m) (spelled l) e)
-    ∙ ap (λ x. Message k x) (same_message m l f h (message_is n k (spelled m) (spelled l) e))
-same_packet (Message n m) (Ack k) f h e = absurd cc
-same_packet (Ack j) (Message k l) f h e = absurd cc
+    (λ j. Message (number_is n k (spelled m) (spelled l) e j) (same_message m l f h (message_is n k (spelled m) (spelled l) e) j))
 same_packet (Ack j) (Ack k) f h e = ap (λ i. Ack i) (upto_is j k e)
+same_packet _ _ f h e = absurd cc
 
 -- only these packets have these spellings
 same_packets : (ps qs : List (Packet Msg)) → AllByRecursion PacketFits ps → AllByRecursion PacketFits qs
     → map (packet_as spelled) ps ≡ map (packet_as spelled) qs → ps ≡ qs
 same_packets [] [] f h e = refl
-same_packets [] (q ∷ qs) f h e = absurd cc
-same_packets (p ∷ ps) [] f h e = absurd cc
 same_packets (p ∷ ps) (q ∷ qs) f h e =
     let head : packet_as spelled p ≡ packet_as spelled q = cc in
     let tail : map (packet_as spelled) ps ≡ map (packet_as spelled) qs = cc in
     rw (same_packet p q f.0 h.0 head, same_packets ps qs f.1 h.1 tail) refl
+same_packets _ _ f h e = absurd cc
 
 map_drop : (n : ℕ) (ps : List (Packet Msg)) → map (packet_as spelled) (drop n ps) ≡ drop n (map (packet_as spelled) ps)
-map_drop zero ps = refl
-map_drop (suc n) [] = refl
 map_drop (suc n) (p ∷ ps) = map_drop n ps
+map_drop _ _ = refl
 
 fits_end : (ps : List (Packet Msg)) (p : Packet Msg) → AllByRecursion PacketFits ps → PacketFits p → AllByRecursion PacketFits (ps ++ p ∷ [])
 fits_end [] p h k = (k, tt)

@@ -1,5 +1,5 @@
 -- A class list is put in force at all transaction modules, one after the other.
-use Rattle.sdd_world.proofs.All.{AllRepresent, AreRedeclared, D, Era, FitsEra, Input, IsSiteOf, Log, Redeclared, Represent, Setting, Site, Sites, T, TmNo, U, and_from, and_parts, ap, arith, cases_lt, differ, false, fold, inl, inr, le-leb, leb-true, local_of, map, max, nat_le, number_of, range_with_len, refl, same_is, same_site, setting_of, subst, suc, sym, tm_no, true, ℕ, ◌+◌, ◌-◌, ◌<◌, ◌∙◌, ◌∷◌, ◌≡◌, ◌≤◌}
+use Rattle.sdd_world.proofs.All.{AllRepresent, AreRedeclared, Era, FitsEra, Input, IsSiteOf, Log, Redeclared, Represent, Setting, Site, Sites, T, TmNo, and_from, and_parts, ap, arith, cases_lt, differ, false, fold, inl, inr, le-leb, leb-true, local_of, map, max, nat_le, number_of, range_with_len, refl, same_is, same_site, setting_of, subst, suc, sym, tm_no, true, ℕ, ◌+◌, ◌-◌, ◌<◌, ◌∙◌, ◌∷◌, ◌≡◌, ◌≤◌}
 use Rattle.sdd_obligations.specs.site_module.SiteLog as site
 
 -- the transaction modules before number n represent logs with the list, all other modules for theirs
@@ -58,9 +58,8 @@ one_redeclared m m2 g log era t n f here fits law stay = record {
 -- behind the last number all represent what they are to represent
 pub all_redeclared : (m : Sites) (g : Input) (log : Log) (era : Era) (t n : ℕ)
     → n ≡ g.catalogue.tms + 1 → RedeclaredAt m g log era t n → AreRedeclared m g log era t
-all_redeclared m g log era t n e f U here = f.others U (λ k q. cc) here
 all_redeclared m g log era t n e f (T k) here = let r = t_within g k here in f.redeclared_at k.0 r.0 (let high = r.1 in omega (arith, e, high)) here
-all_redeclared m g log era t n e f (D d) here = f.others (D d) (λ k q. cc) here
+all_redeclared m g log era t n e f x here = f.others x (λ k q. cc) here
 
 -- the greatest of the bounds from number n on, where a is that of those before
 

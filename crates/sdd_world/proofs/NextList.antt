@@ -1,5 +1,5 @@
 -- Another class list is put in force, once the links are quiet, over plain worlds.
-use Rattle.sdd_world.proofs.All.{AllRepresent, AreRedeclared, Carries, Catalogue, EndsBy, EndsIn, Entry, Era, Event, FitsEra, Input, IsNextList, IsSettled, List, Log, MAX_RUN_EVENTS, Redeclare, Redeclares, Redeclaring, Represent, Represents, Sites, Spooled, U, World, [], all_obligations, ap, arith, calls_of, count_join, greatest_bound, left, local_of, lt-ltb, marks, none_left, nth_era, redeclare_next, redeclares, redeclares_in, redeclares_left, refl, rests_redeclared, setting_of, settles_before, subst, suc, sym, with_era, with_event, zero, ℕ, ◌+◌, ◌∙◌, ◌∷◌, ◌≡◌, ◌≢◌, ◌≤◌}
+use Rattle.sdd_world.proofs.All.{AllRepresent, AreRedeclared, Carries, Catalogue, EndsBy, EndsIn, Entry, Era, Event, FitsEra, Input, IsNextList, IsSettled, List, Log, MAX_RUN_EVENTS, Redeclare, Redeclares, Redeclaring, Represent, Represents, Sites, Spooled, U, World, [], all_facts, ap, arith, calls_of, count_join, greatest_bound, left, local_of, lt-ltb, marks, none_left, nth_era, redeclare_next, redeclares, redeclares_in, redeclares_left, refl, rests_redeclared, setting_of, settles_before, subst, suc, sym, with_era, with_event, zero, ℕ, ◌+◌, ◌∙◌, ◌∷◌, ◌≡◌, ◌≢◌}
 use Rattle.sdd_world.proofs.Parting.{spooled_on}
 use Rattle.sdd_world.proofs.Rounds.{few, free}
 
@@ -68,8 +68,7 @@ module _ (w : World) (g : Input) (log : Log) (era : Era) (f : Redeclaring w g lo
       let now : ℕ = greatest_bound g log in
       let more : Log = Redeclares now ∷ log in
       let m : w.marks ≡ marks log = f.calm.marks_are in
-      let low : w.marks ≤ MAX_RUN_EVENTS = few w g log f.calm in
-      let rests = rests_redeclared g log now f.calm.rests f.next_is (omega (arith, m, low, number)) in (
+      let rests = rests_redeclared g log now f.calm.rests f.next_is (omega (arith, m, few w g log f.calm, number)) in (
         more,
         record {
           calm = record {

@@ -1,6 +1,5 @@
 -- Messages that are read from their spellings.
-use Rattle.sdd_world.proofs.All.{Acked, AllByRecursion, AllDelivered, Delivered, IsSpelling, List, Messages, Msg, Nothing, Ok, Result, Spells, [], ap, arith, delivered_as, get_or, length, map, map-append, message_in, message_read_back, refl, spelled, subst, suc, sym, take, take_more, zero, ℕ, ◌++◌, ◌+◌, ◌<◌, ◌∙◌, ◌∷◌, ◌≡◌}
-use Rattle.sdd_obligations.specs.All.{FitsMsg}
+use Rattle.sdd_world.proofs.All.{Acked, AllByRecursion, AllDelivered, Delivered, FitsMsg, IsSpelling, List, Messages, Msg, Nothing, Ok, Result, Spells, [], ap, arith, delivered_as, get_or, length, map, map-append, message_in, message_read_back, refl, spelled, subst, suc, sym, take, take_more, zero, ℕ, ◌++◌, ◌+◌, ◌<◌, ◌∙◌, ◌∷◌, ◌≡◌}
 
 -- the only message that has a spelling is read from it
 ok_is : (m n : Msg) → ◌≡◌ {A = Result Msg ℕ} (Ok m) (Ok n) → m ≡ n

@@ -28,7 +28,7 @@ rests_round g log es r n = record {
   handed_all = λ a b p. r.handed_all a b (sym (part_round b es log) ∙ p);
 }
 
-rests_more : (g : Input) (e : Event) (log : Log) → Rests g log → Rests (with_event g e) log
+pub rests_more : (g : Input) (e : Event) (log : Log) → Rests g log → Rests (with_event g e) log
 rests_more g e log r = record { lawful = lawful_grows g e log r.lawful; within = r.within; no_mark = r.no_mark; no_site = r.no_site; handed_all = r.handed_all }
 
 spool_round : (g : Input) (es : List Event) (log : Log) (boxes : List (Mailbox Msg)) → Spooled g log boxes U → Spooled g (Round es ∷ log) boxes U

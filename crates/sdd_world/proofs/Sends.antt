@@ -43,9 +43,8 @@ pub sends_past : (old now : NetValue) (at : Site) (out left rest : List (Site ×
     → ((tms dms : ℕ) (calls : List (Call Msg)) → Carries now tms dms calls → AreLinked tms dms at (x ∷ []) → puts_past calls at (x ∷ []) ≡ true)
     → (tms dms : ℕ) (calls : List (Call Msg)) → Carries old tms dms calls → AreLinked tms dms at out → puts_past calls at out ≡ true
 sends_past old now at out left rest x s e f tms dms calls h k =
-    let a = s.so_far tms dms calls h k in
     let b : puts_past (puts at s.sent calls) at (x ∷ []) ≡ true =
-    f tms dms (puts at s.sent calls) a.1 (one_linked old now at out left rest x s e tms dms k) in
+    f tms dms (puts at s.sent calls) (s.so_far tms dms calls h k).1 (one_linked old now at out left rest x s e tms dms k) in
     let parts : out ≡ (s.sent ++ x ∷ []) ++ rest = s.parts ∙ ap (λ l. s.sent ++ l) e ∙ sym (append_assoc s.sent (x ∷ []) rest) in
     ap (λ l. puts_past calls at l) parts ∙ puts_past-append at (s.sent ++ x ∷ []) rest calls
     ∙ or_past (puts_past calls at (s.sent ++ x ∷ [])) (puts_past (puts at (s.sent ++ x ∷ []) calls) at rest)
@@ -56,9 +55,8 @@ pub sent_all : (old now : NetValue) (at : Site) (out left : List (Site × Msg)) 
     → (tms dms : ℕ) (calls : List (Call Msg)) → Carries old tms dms calls → AreLinked tms dms at out
     → (puts_past calls at out ≡ false) × Carries now tms dms (puts at out calls)
 sent_all old now at out left s e tms dms calls h k =
-    let a = s.so_far tms dms calls h k in
     let same : out ≡ s.sent = s.parts ∙ ap (λ l. s.sent ++ l) e ∙ append-nil s.sent in
-    rw same a
+    rw same (s.so_far tms dms calls h k)
 
 -- where a link has room for one more message, one more doesn't pass the limit
 pub one_more : (n m : ℕ) → n ≡ m → n ≢ MAX_LINK_MESSAGES → n ≤ MAX_LINK_MESSAGES → (nat_lt MAX_LINK_MESSAGES (suc m) || false) ≡ false

@@ -1,5 +1,4 @@
-use Rattle.sdd_world.proofs.All.{AllByRecursion, map, spelled, take, ◌≡◌}
-use Rattle.sdd_obligations.specs.All.{FitsMsg}
+use Rattle.sdd_world.proofs.All.{AllByRecursion, FitsMsg, map, spelled, take, ◌≡◌}
 use Rattle.sdd_world.proofs.opening.open_all.Given as goal
 
 -- so far the messages are those of the spellings so far

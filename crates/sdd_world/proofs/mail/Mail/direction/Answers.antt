@@ -1,5 +1,4 @@
-use Rattle.sdd_world.proofs.All.{ap, in_bytes, link_map, spelled, subst}
-use Rattle.sdd_obligations.specs.net.Nets.{Matches}
+use Rattle.sdd_world.proofs.All.{Matches, ap, in_bytes, link_map, spelled, subst}
 use Rattle.sdd_world.proofs.InBytes.{represents_in}
 use Rattle.sdd_world.proofs.mail.Mail.direction.Goals as goal
 

@@ -1,5 +1,4 @@
-use Rattle.sdd_world.proofs.All.{HasLink, IsTrue, subst}
-use Rattle.std.specs.Prelude.{◌↔◌}
+use Rattle.sdd_world.proofs.All.{HasLink, IsTrue, subst, ◌↔◌}
 use Rattle.sdd_world.proofs.mail.Mail.has_link.Goals as goal
 
 pub returns : goal.returns

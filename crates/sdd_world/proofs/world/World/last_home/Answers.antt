@@ -1,5 +1,6 @@
-use Rattle.sdd_world.proofs.All.{Catalogue, FitsTxn, Some, ap, fits_in_era, home_of as site_of, nth_era, redeclares, refl, subst, sym, ◌∙◌}
+use Rattle.sdd_world.proofs.All.{Catalogue, Some, ap, fits_in_era, home_of as site_of, nth_era, redeclares, refl, subst, sym, ◌∙◌}
 use Rattle.sdd_world.proofs.HomesExist.{no_txn, txn_read}
+use Rattle.sdd_obligations.specs.lang.Fits.{FitsTxn}
 use Rattle.sdd_world.proofs.world.World.last_home.Goals as goal
 
 pub home-requires : goal.home-requires
@@ -18,8 +19,7 @@ returns-in-Some c = λ given log s.
     let is = txn_read given c.args.number.0 c.saturating_sub-place.result given.txns
     c.transactions.result.now c.in-Some.txn.now refl (c.transactions.ensures given log s.calm) c.saturating_sub-place.ensures
     c.in-Some.ensures.lookup.3.0 c.in-Some.ensures.lookup.1 in
-    c.home.ensures ∙ ap (λ (k : Catalogue). site_of k (Some c.in-Some.txn.now)) (c.catalogue.ensures given log s.calm)
-    ∙ ap (site_of (nth_era given (redeclares log)).catalogue) (sym is)
+    c.home.ensures ∙ (λ i. site_of (c.catalogue.ensures given log s.calm i) (sym is i))
 
 pub returns-in-None : goal.returns-in-None
 returns-in-None c = λ given log s.
