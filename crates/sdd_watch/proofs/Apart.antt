@@ -1,12 +1,5 @@
 -- No run is told of and ended by the limit; and it has one text.
-use Rattle.std.proofs.Common.{ℕ, List, ◌≡◌, ◌∙◌, ap, subst, sym}
-use Rattle.sdd_obligations.specs.All.{Catalogue, IsTheLog}
-use Rattle.sdd_obligations.proofs.logs.One.{limit_or_complete, one_log}
-use Rattle.sdd_run.specs.Runs.{EndsAtLimit, input_of}
-use Rattle.sdd_run.specs.class_lists.InForce.{eras_in}
-use Rattle.sdd_run.specs.script.declared.workload.Workload.{Workload}
-use Rattle.sdd_run.proofs.OneReport.{one_list_of_tables}
-use Rattle.sdd_watch.specs.Text.{IsInsideOf, inside_text}
+use Rattle.sdd_watch.proofs.All.{Catalogue, EndsAtLimit, IsInsideOf, IsTheLog, List, Workload, eras_in, input_of, inside_text, limit_or_complete, one_list_of_tables, one_log, subst, sym, ℕ, ◌∙◌, ◌≡◌}
 
 pub text_or_limit : (cat : Catalogue) (work : Workload) (text : List ℕ) → IsInsideOf cat work text → EndsAtLimit cat work → ⊥
 text_or_limit cat work text told limit =
@@ -19,6 +12,5 @@ one_text cat work text other r s =
     let same = one_list_of_tables (eras_in cat work) r.tables s.tables r.tables_are s.tables_are in
     let there = subst (λ t. IsTheLog (input_of cat t work) r.log) same r.log_is in
     r.text_is
-    ∙ ap (λ t. inside_text (input_of cat t work) r.log) same
-    ∙ ap (inside_text (input_of cat s.tables work)) (one_log (input_of cat s.tables work) r.log s.log there s.log_is)
+    ∙ (λ i. inside_text (input_of cat (same i) work) (one_log (input_of cat s.tables work) r.log s.log there s.log_is i))
     ∙ sym s.text_is

@@ -1,19 +1,8 @@
 -- What a data module keeps tells how it stands.
-use Rattle.std.proofs.Common.{Bool, List, None, Option, Some, ap, arith, filter, if◌then◌else◌, length, map, not, refl, suc, true, false, zero, ℕ, ◌&&◌, ◌+◌, ◌<◌, ◌∙◌, ◌∷◌, ◌≡◌, ◌≤◌}
-use Rattle.std.specs.List.{filter_map, range_with_len}
-use Rattle.sdd_obligations.specs.All.{Change, ClassNo, Cond, DmNo, Kept, Msg, Read, Setting, Write, class_no, head, holds_back, is_met, pipe, view_of, waits}
-use Rattle.sdd_obligations.specs.dm.Heads.{head_at, holds_in, is_met_in, unmet}
-use Rattle.sdd_obligations.specs.dm.Represents.{Represents, Shows}
-use Rattle.sdd_obligations.specs.dm.State.{State}
-use Rattle.sdd_obligations.specs.dm.Views.{ClassView, class_view}
-use Rattle.sdd_obligations.specs.dm.Waiting.{holder_at, holders_in, holders_of, lacking_in, lacking_of}
+use Rattle.sdd_watch.proofs.All.{Bool, Change, ClassNo, ClassView, Cond, DmNo, Head, Kept, List, Msg, None, Option, Read, Setting, Shows, Some, State, Waits, Write, ap, arith, class_no, class_view, dm_told, false, filter, filter_map, filter_same, head, head_at, head_by, head_in, head_shown, head_told, holder_at, holders_in, holders_of, holds_back, holds_in, if◌then◌else◌, is_met, is_met_in, lacking_in, lacking_of, length, map, met_is, not, pipe, range_with_len, refl, suc, true, unmet, view_of, waits, waits_shown, zero, ℕ, ◌&&◌, ◌+◌, ◌<◌, ◌∙◌, ◌∷◌, ◌≡◌, ◌≤◌}
+use Rattle.sdd_obligations.specs.dm.Represents.{Represents}
 use Rattle.sdd_obligations.specs.site_module.SiteLog.{Log}
-use Rattle.sdd_obligations.proofs.invariants.logs.dm.ByClass.{filter_same}
-use Rattle.sdd_obligations.proofs.invariants.logs.dm.Shown.{head_shown, met_is, waits_shown}
-use Rattle.sdd_inside.specs.declared.standing.Head.{Head}
-use Rattle.sdd_inside.specs.declared.standing.Head.TheVariants.{Held, Waits}
-use Rattle.sdd_watch.specs.Keeping.{head_in}
-use Rattle.sdd_watch.specs.States.{dm_told, head_by, head_told}
+use Rattle.sdd_inside.specs.declared.standing.Head.TheVariants.{Held}
 
 -- the classes whose READ holds back a WRITE
 
@@ -32,9 +21,7 @@ chosen f g s log a (suc n) h =
 
 holder_is : (s : Setting) (st : State) (log : Log) (j w : ℕ) (changes : List Change) (c : ℕ) → Shows s st log → c ≤ length s.catalogue.classes
     → holds_in st.pipes st.waits j w changes c ≡ (waits c log && holds_back j w changes (head (pipe c log)))
-holder_is s st log j w changes c h l =
-    ap (λ b. b && holds_back j w changes (head_at st.pipes c)) (waits_shown s st log c h l)
-    ∙ ap (λ m. waits c log && holds_back j w changes m) (head_shown s st log c h l)
+holder_is s st log j w changes c h l = λ i. waits_shown s st log c h l i && holds_back j w changes (head_shown s st log c h l i)
 
 holders_are : (s : Setting) (st : State) (log : Log) (j w : ℕ) (changes : List Change) → Shows s st log
     → filter_map (holder_at st.pipes st.waits j w changes) (range_with_len 0 (length st.pipes))
@@ -54,13 +41,9 @@ unmet_is s st log h conds =
 head_is : (s : Setting) (st : State) (log : Log) (c : ℕ) (w : Bool) (o : Option Msg) → Shows s st log
     → head_in (class_no c) (if w then lacking_of st.pipes o else None) (holders_of st.pipes st.waits c o) ≡ head_by (view_of s log) c w o
 head_is s st log c true (Some (Read ts class txn attempt conds uses)) h = ap (λ ds. Some (Waits (class_no c) ds)) (unmet_is s st log h conds)
-head_is s st log c false (Some (Read ts class txn attempt conds uses)) h = refl
 head_is s st log c true (Some (Write ts class txn changes)) h = ap (λ ks. Some (Held (class_no c) ks)) (holders_are s st log c ts.0 changes h)
 head_is s st log c false (Some (Write ts class txn changes)) h = ap (λ ks. Some (Held (class_no c) ks)) (holders_are s st log c ts.0 changes h)
-head_is s st log c true None h = refl
-head_is s st log c false None h = refl
-head_is s st log c true (Some m) h = refl
-head_is s st log c false (Some m) h = refl
+head_is s st log c _ _ h = refl
 
 pub told_head : (st : State) (s : Setting) (log : Log) (c : ClassNo) (conds : Option (List Cond)) (readers : Option (List ClassNo)) → Shows s st log
     → c.0 ≤ length s.catalogue.classes → conds ≡ lacking_in st.pipes st.waits c.0 → readers ≡ holders_in st.pipes st.waits c.0

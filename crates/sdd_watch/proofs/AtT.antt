@@ -1,19 +1,10 @@
 -- What a transaction module keeps tells how it stands.
-use Rattle.std.proofs.Common.{All, Bool, List, Some, [], ap, arith, map, refl, slice_get, subst, suc, sym, ℕ, ◌*◌, ◌++◌, ◌+◌, ◌/◌, ◌∙◌, ◌∷◌, ◌≡◌}
-use Rattle.std.specs.Prelude.{filter, nat_lt, ◌==◌}
-use Rattle.std.specs.List.{AllByRecursion, filter_map, flat_map}
-use Rattle.std.proofs.lemmas.List.Elements.{All-from_recursion}
-use Rattle.std.proofs.lemmas.Simd.{map-map}
-use Rattle.sdd_obligations.specs.All.{ClassState, Kept, Setting, TmNo, asks, bound_of, clock, holds, runs, state_of}
-use Rattle.sdd_obligations.specs.attempt.Sound.{IsLineOf}
+use Rattle.sdd_watch.proofs.All.{Active, All, All-from_recursion, AllByRecursion, Bool, ClassState, IsLineInOrder, IsLineOf, Kept, List, Question, Setting, Some, TmNo, [], active_of, actives, ap, arith, asked, asks, bound_of, class_of, clock, filter, filter_map, flat_map, holds, map, map-map, nat_lt, question_by, questions_in, questions_to, refl, runs, slice_get, subst, suc, sym, tm_told, ℕ, ◌*◌, ◌++◌, ◌+◌, ◌/◌, ◌==◌, ◌∙◌, ◌∷◌, ◌≡◌}
+use Rattle.sdd_watch.proofs.MadeLists.{picked_map}
+use Rattle.sdd_obligations.specs.All.{state_of}
 use Rattle.sdd_obligations.specs.site_module.SiteLog.{Log}
 use Rattle.sdd_obligations.specs.tm.Represents.{Represents}
-use Rattle.sdd_obligations.specs.tm.State.{State, asked, class_of}
-use Rattle.sdd_inside.specs.declared.standing.Active.{Active}
-use Rattle.sdd_inside.specs.declared.standing.Question.{Question}
-use Rattle.sdd_watch.specs.Keeping.{IsLineInOrder, active_of, question_by, questions_in}
-use Rattle.sdd_watch.specs.States.{actives, questions_to, tm_told}
-use Rattle.sdd_watch.proofs.MadeLists.{picked_map}
+use Rattle.sdd_obligations.specs.tm.State.{State}
 
 ticks_of : (t n bound : ℕ) → n ≡ bound / 64 → bound ≡ t * 64 + 63 → n ≡ t
 ticks_of t n bound e f = omega arith

@@ -1,13 +1,6 @@
 -- The attempt of a line, as it is told.
-use Rattle.std.proofs.Common.{List, None, Option, Some, [], ap, map, refl, ℕ, ◌∙◌, ◌∷◌, ◌≡◌}
-use Rattle.std.specs.Prelude.{option_map, unwrap_or}
-use Rattle.sdd_obligations.specs.All.{Attempt, ClassNo, DmNo, Queued, Ts, TxnNo, class_no, dm_no, head_of, time_at, txn_no}
-use Rattle.sdd_obligations.specs.attempt.Lines.{awaited_by, lacked_by, tries_of_first}
-use Rattle.sdd_obligations.specs.attempt.Phases.{awaited_in}
-use Rattle.sdd_obligations.specs.attempt.Sound.{IsOfHead}
-use Rattle.sdd_obligations.specs.attempt.declared.answer.Answer.{Answer}
+use Rattle.sdd_watch.proofs.All.{Answer, Attempt, ClassNo, DmNo, IsOfHead, List, None, Option, Queued, Some, Ts, TxnNo, [], active_told, ap, attempt_told, awaited_by, awaited_in, class_no, dm_no, head_of, lacked_by, map, option_map, phase_by, refl, time_at, tries_of_first, txn_no, unwrap_or, ℕ, ◌∙◌, ◌∷◌, ◌≡◌}
 use Rattle.sdd_inside.specs.declared.standing.Phase as told
-use Rattle.sdd_watch.specs.States.{active_told, attempt_told, phase_by}
 
 -- numbers, of which a reader says the value
 

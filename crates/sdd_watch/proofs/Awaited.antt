@@ -1,7 +1,5 @@
 -- Messages in the order of their numbers, of which those up to a number are taken.
-use Rattle.std.proofs.Common.{◌≡◌, ℕ, ◌<◌, ◌≤◌, List, [], ◌∷◌, ◌++◌, length, refl, sym, ap, ◌∙◌, append_assoc, append-nil, arith, le-leb}
-use Rattle.sdd_watch.specs.Awaiting.{behind, up_to}
-use Rattle.sdd_watch.specs.declared.waiting.Purpose.{Purpose}
+use Rattle.sdd_watch.proofs.All.{List, Purpose, [], ap, append-nil, append_assoc, arith, behind, le-leb, length, refl, sym, up_to, ℕ, ◌++◌, ◌<◌, ◌∙◌, ◌∷◌, ◌≡◌, ◌≤◌}
 
 up_to_one : (n : ℕ) (x : ℕ × Purpose) (old new : List (ℕ × Purpose)) → old ≡ x ∷ new → x.0 ≤ n → up_to n old ≡ x ∷ up_to n new
 up_to_one n x old new e l = rw (e, le-leb x.0 n l) refl

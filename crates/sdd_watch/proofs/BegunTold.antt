@@ -1,27 +1,7 @@
 -- What is told before the first event, and of a whole run.
-use Rattle.std.proofs.Common.{ℕ, ◌<◌, ◌^◌, ◌≡◌, ◌∙◌, ap, arith, length, map, refl, subst, List, [], ◌++◌}
-use Rattle.sdd_obligations.specs.All.{Catalogue, Event, Input, IsSoundCatalogue, Txn}
-use Rattle.sdd_obligations.specs.base.Words.{tail_of}
-use Rattle.sdd_obligations.specs.protocol.declared.entry.Entry.{Entry}
-use Rattle.sdd_inside.specs.Lines.{beginning}
-use Rattle.sdd_run.specs.Lent.{era_of_list}
-use Rattle.sdd_run.specs.Runs.{AreTables, eras_with_tables, first_input}
-use Rattle.sdd_run.specs.class_lists.InForce.{eras_in, whole_in}
-use Rattle.sdd_run.specs.report.declared.copies.CopyTable.{CopyTable}
-use Rattle.sdd_run.specs.script.All.{IsValid}
-use Rattle.sdd_run.specs.script.declared.workload.Workload.{Workload}
-use Rattle.sdd_run.specs.world.Copies.{tables_of}
-use Rattle.sdd_run.specs.world.Schedules.{AreAllowed, with_events}
-use Rattle.sdd_run.specs.world.Represents.{Represents}
-use Rattle.sdd_run.specs.world.declared.schedule.ClassList.{ClassList}
-use Rattle.sdd_run.specs.world.declared.world.World.{World}
-use Rattle.sdd_run.proofs.Beginning.{all_given}
-use Rattle.sdd_run.proofs.Starting.{all_allowed}
-use Rattle.sdd_watch.specs.ScheduleSoFar.{IsTextOf, IsTold, Tells}
-use Rattle.sdd_watch.specs.Text.{IsInsideOf}
-use Rattle.sdd_watch.specs.Watching.{Watches}
-use Rattle.sdd_watch.specs.declared.teller.Teller.{Teller}
+use Rattle.sdd_watch.proofs.All.{AreAllowed, AreTables, Catalogue, ClassList, CopyTable, Event, Input, IsInsideOf, IsSoundCatalogue, IsTextOf, IsTold, IsValid, List, Represents, Teller, Tells, Txn, Watches, Workload, World, [], all_allowed, all_given, ap, arith, beginning, era_of_list, eras_in, eras_with_tables, first_input, length, map, refl, subst, tables_of, tail_of, whole_in, with_events, ℕ, ◌++◌, ◌<◌, ◌^◌, ◌∙◌, ◌≡◌}
 use Rattle.sdd_watch.proofs.TextSoFar.{text_begins}
+use Rattle.sdd_obligations.specs.protocol.declared.entry.Entry.{Entry}
 
 -- the first line
 pub begins_told : (g : Input) (t : Teller) (empty : List ℕ) (txns : List Txn) (copies : List CopyTable) → t.catalogue.now ≡ g.catalogue → empty ≡ []
@@ -48,17 +28,15 @@ pub begins_all : (cat : Catalogue) (tables : List (List Entry)) (work : Workload
     → BeginsAll cat tables work w events lists t
 begins_all cat tables work sound valid tabled w events lists t represents same left tells =
     let few = valid.few_events in
-    let count : length events ≡ length work.events = ap length same in
     record {
       told = record { represents = represents; tells = tells; place_is = refl };
       allowed = all_allowed cat tables work sound valid tabled events lists same left;
-      few = omega (arith, few, count);
+      few = omega (arith, few, ap length same);
     }
 
 -- the text of all events of a workload is that of its run
 pub inside_of : (cat : Catalogue) (tables : List (List Entry)) (work : Workload) → AreTables cat work tables → (events : List Event) → events ≡ work.events
     → (text : List ℕ) → IsTextOf (with_events (first_input cat tables work) events) text → IsInsideOf cat work text
 inside_of cat tables work tabled events same text h =
-    let all = ap (with_events (first_input cat tables work)) same ∙ all_given cat tables work in
-    let whole = subst (λ g. IsTextOf g text) all h in
+    let whole = subst (λ g. IsTextOf g text) (ap (with_events (first_input cat tables work)) same ∙ all_given cat tables work) h in
     record { tables = tables; tables_are = tabled; log = whole.log; log_is = whole.log_is; text_is = whole.text_is }

@@ -1,44 +1,9 @@
 -- What one event, and what it makes due, change on the links of a run.
-use Rattle.std.proofs.Common.{ℕ, suc, ◌≤◌, ◌≡◌, ◌∙◌, ◌==◌, ◌&&◌, Bool, true, false, if◌then◌else◌, List, [], ◌∷◌, ◌++◌, length, drop, filter_map, is_some, Option, Some, None, ap, arith, eq-eqb, eqb-true, refl, subst, sym}
-use Rattle.std.proofs.lemmas.Bool.{and_parts, eqb-false}
-use Rattle.sdd_obligations.specs.All.{Ack, D, Deliver, Does, Down, Entry, Event, Hand, Input, IsGood, IsPermitted, Link, Log, Lose, Mark, Message, Msg, Notes, Packet, Puts, Redeclare, Redeclares, Repeat, Resend, Round, Settle, Site, Submit, Submitted, T, Tick, U, Up, calls_of, deliver, delivered, handed, link, link_of, lose, marks, packet_at, puts, repeat, resend, same_site, sends_of_act, sent, turned}
-use Rattle.sdd_obligations.specs.net.Links.{Call, Way, numbered}
-use Rattle.sdd_obligations.proofs.invariants.InOrder.{allowed_hand, delivered_within, handed_le}
-use Rattle.sdd_obligations.proofs.invariants.Sites.{site_is}
-use Rattle.sdd_obligations.proofs.logs.NewMarks.{lawful_permitted}
-use Rattle.sdd_obligations.proofs.net.Sound.{sound}
-use Rattle.sdd_inside.specs.Differences.{takes_one}
-use Rattle.sdd_watch.specs.Awaiting.{behind, purposed, up_to, waiting_on}
-use Rattle.sdd_watch.specs.Happens.{arrived_by, found_by, last_event, lost_by}
-use Rattle.sdd_watch.specs.Looking.{advanced, all_waiting, seen_with}
-use Rattle.sdd_watch.specs.Watching.{IsBetween, IsMark, is_taken, left_between, left_of, link_after, link_before, seen_between, watched_link}
-use Rattle.sdd_watch.specs.declared.waiting.Purpose.{Purpose}
-use Rattle.sdd_watch.specs.declared.watched_link.LinkSeen.{LinkSeen}
+use Rattle.sdd_watch.proofs.All.{Ack, Bool, Call, Deliver, Does, Entry, Event, Hand, Input, IsBetween, IsGood, IsMark, IsPermitted, Link, LinkSeen, List, Log, Lose, Mark, Msg, None, Option, Packet, Purpose, Puts, Redeclare, Redeclares, Repeat, Resend, Site, Some, Way, [], advanced, all_waiting, allowed_hand, and_parts, ap, arith, arrived_by, behind, calls_of, deliver, delivered, drop, false, filter_map, found_by, handed, handed_of_sent, if◌then◌else◌, is_some, is_taken, last_event, lawful_permitted, left_between, left_of, length, link, link_after, link_before, link_of, lose, lost_by, marks, numbered, packet_at, purposed, puts, refl, repeat, resend, same_back, same_site, seen_between, seen_with, sends_of_act, sent, site_is, sound, subst, suc, sym, takes_one, true, turned, up_to, waiting_on, watched_link, ℕ, ◌&&◌, ◌++◌, ◌==◌, ◌∙◌, ◌∷◌, ◌≡◌, ◌≤◌}
 use Rattle.sdd_watch.proofs.Flights.{Grows, deliver_back, deliver_there, lose_back, lose_there, no_way, plain_way, put_way, repeat_back, repeat_there, resend_there, same, taking_way}
 use Rattle.sdd_watch.proofs.Numbered.{behind_is, flying, noted, up_to_is}
 
 -- sites
-
-eq_back : (a b : ℕ) → (a == b) ≡ (b == a)
-eq_back a b =
-    elim (a == b) as (λ c. (a == b) ≡ c → c ≡ (b == a)) [
-      | true ↦ λ e. sym (eq-eqb b a (sym (eqb-true a b e)))
-      | false ↦ λ e. (elim (b == a) as (λ c. (b == a) ≡ c → false ≡ c) [
-        | true ↦ λ f. absurd (eqb-false a b e (sym (eqb-true b a f)))
-        | false ↦ λ f. refl
-      ] refl)
-    ] refl
-
-same_back : (a b : Site) → same_site a b ≡ same_site b a
-same_back U U = refl
-same_back U (T b) = refl
-same_back U (D b) = refl
-same_back (T a) U = refl
-same_back (T a) (T b) = eq_back a.0 b.0
-same_back (T a) (D b) = refl
-same_back (D a) U = refl
-same_back (D a) (T b) = refl
-same_back (D a) (D b) = eq_back a.0 b.0
 
 both_back : (x y a b : Site) → (same_site a x && same_site b y) ≡ (same_site x a && same_site y b)
 both_back x y a b = ap (λ z. z && same_site b y) (same_back a x) ∙ ap (λ z. same_site x a && z) (same_back b y)
@@ -47,16 +12,13 @@ pub same_link : (x y a b : Site) → (same_site x a && same_site y b) ≡ true �
 same_link x y a b e = let p = and_parts (same_site x a) (same_site y b) e in (site_is x a p.0, site_is y b p.1)
 
 that_link : (x y a b : Site) (log : Log) → (same_site x a && same_site y b) ≡ true → link_of a b log ≡ link_of x y log
-that_link x y a b log e =
-    let p = same_link x y a b e in
-    subst (λ z. link_of z b log ≡ link_of x y log) p.0 (subst (λ z. link_of x z log ≡ link_of x y log) p.1 refl)
+that_link x y a b log e = let p = same_link x y a b e in λ i. link_of (sym p.0 i) (sym p.1 i) log
 
 -- what an event found, as far as a packet was taken
 
 takes_arrived : (a b : Site) (o : Option (Packet Msg)) (new : Log) → takes_one (arrived_by a b o new) ≡ is_some o
-takes_arrived a b None new = refl
-takes_arrived a b (Some (Message n m)) new = refl
 takes_arrived a b (Some (Ack upto)) new = refl
+takes_arrived a b _ new = refl
 
 takes_lost : (o : Option (Packet Msg)) → takes_one (lost_by o) ≡ is_some o
 takes_lost None = refl
@@ -69,29 +31,31 @@ GrowsBy e old new x y =
     Grows (link_of x y old).there (link_of x y (Mark e ∷ old)).there
     (left_of (is_taken e (found_by e old new) (x, y)) (length (link_of x y old).there.flight))
 
-by_deliver : (a b : Site) (k : ℕ) (old new : Log) (x y : Site) → GrowsBy (Deliver a b k) old new x y
-by_deliver a b k old new x y =
-    let l : Link Msg = link_of x y old in
-    let t : Bool = takes_one (found_by (Deliver a b k) old new) in
-    subst (λ z. Grows l.there (link_of x y (Mark (Deliver a b k) ∷ old)).there (left_of (t && z) (length l.there.flight))) (sym (both_back x y a b))
-    (taking_way (same_site x a && same_site y b) (same_site x b && same_site y a) t (deliver k) l
-    (λ e. subst (λ z. Grows l.there (deliver k l).there (left_of z (length l.there.flight)))
-    (sym (takes_arrived a b (packet_at k (link_of a b old)) new ∙ ap (λ (i : Link Msg). is_some (packet_at k i)) (that_link x y a b old e)))
-    (deliver_there k l)) (deliver_back k (turned l)))
+-- a call on the link from a to b, seen from the link from x to y
+abbrev on_link_of : Site → Site → Site → Site → (Link Msg → Link Msg) → Link Msg → Link Msg
+on_link_of x y a b f l =
+    if same_site x a && same_site y b then f l else if same_site x b && same_site y a then turned (f (turned l)) else l
 
-by_lose : (a b : Site) (k : ℕ) (old new : Log) (x y : Site) → GrowsBy (Lose a b k) old new x y
-by_lose a b k old new x y =
+-- one that takes a packet, if there is one
+by_taking : (f : Link Msg → Link Msg) (t : Bool) (a b : Site) (k : ℕ) (old : Log) (x y : Site)
+    → t ≡ is_some (packet_at k (link_of a b old))
+    → ((l : Link Msg) → Grows l.there (f l).there (left_of (is_some (packet_at k l)) (length l.there.flight)))
+    → ((l : Link Msg) → Grows l.back (f l).back (length l.back.flight))
+    → Grows (link_of x y old).there (on_link_of x y a b f (link_of x y old)).there
+    (left_of (t && (same_site a x && same_site b y)) (length (link_of x y old).there.flight))
+by_taking f t a b k old x y takes there back =
     let l : Link Msg = link_of x y old in
-    let t : Bool = takes_one (found_by (Lose a b k) old new) in
-    subst (λ z. Grows l.there (link_of x y (Mark (Lose a b k) ∷ old)).there (left_of (t && z) (length l.there.flight))) (sym (both_back x y a b))
-    (taking_way (same_site x a && same_site y b) (same_site x b && same_site y a) t (lose k) l
-    (λ e. subst (λ z. Grows l.there (lose k l).there (left_of z (length l.there.flight)))
-    (sym (takes_lost (packet_at k (link_of a b old)) ∙ ap (λ (i : Link Msg). is_some (packet_at k i)) (that_link x y a b old e)))
-    (lose_there k l)) (lose_back k (turned l)))
+    subst (λ z. Grows l.there (on_link_of x y a b f l).there (left_of (t && z) (length l.there.flight))) (sym (both_back x y a b))
+    (taking_way (same_site x a && same_site y b) (same_site x b && same_site y a) t f l
+    (λ e. subst (λ z. Grows l.there (f l).there (left_of z (length l.there.flight)))
+    (sym (takes ∙ ap (λ (i : Link Msg). is_some (packet_at k i)) (that_link x y a b old e))) (there l)) (back (turned l)))
 
 event_grows : (e : Event) (old new : Log) (x y : Site) → GrowsBy e old new x y
-event_grows (Deliver a b k) old new x y = by_deliver a b k old new x y
-event_grows (Lose a b k) old new x y = by_lose a b k old new x y
+event_grows (Deliver a b k) old new x y =
+    by_taking (deliver k) _ a b k old x y (takes_arrived a b (packet_at k (link_of a b old)) new)
+    (deliver_there k) (deliver_back k)
+event_grows (Lose a b k) old new x y =
+    by_taking (lose k) _ a b k old x y (takes_lost (packet_at k (link_of a b old))) (lose_there k) (lose_back k)
 event_grows (Repeat a b k) old new x y =
     let l : Link Msg = link_of x y old in
     plain_way (same_site x a && same_site y b) (same_site x b && same_site y a) (takes_one (found_by (Repeat a b k) old new)) (repeat k) l
@@ -100,12 +64,7 @@ event_grows (Resend a b) old new x y =
     let l : Link Msg = link_of x y old in
     plain_way (same_site x a && same_site y b) (same_site x b && same_site y a) (takes_one (found_by (Resend a b) old new)) resend l
     (resend_there l) (same (turned l).back)
-event_grows (Submit n) old new x y = no_way (takes_one (found_by (Submit n) old new)) (link_of x y old).there
-event_grows (Tick t n) old new x y = no_way (takes_one (found_by (Tick t n) old new)) (link_of x y old).there
-event_grows (Down d) old new x y = no_way (takes_one (found_by (Down d) old new)) (link_of x y old).there
-event_grows (Up d) old new x y = no_way (takes_one (found_by (Up d) old new)) (link_of x y old).there
-event_grows Settle old new x y = no_way (takes_one (found_by Settle old new)) (link_of x y old).there
-event_grows Redeclare old new x y = no_way (takes_one (found_by Redeclare old new)) (link_of x y old).there
+event_grows w old new x y = no_way (takes_one (found_by w old new)) (link_of x y old).there
 
 -- and what is put behind its mark
 
@@ -123,10 +82,7 @@ acts_grow old left x y (Does at act ∷ more) log z g =
     puts_grow old left x y at (sends_of_act act) (calls_of (more ++ log)) (acts_grow old left x y more log z g)
 acts_grow old left x y (Mark e ∷ more) log z g = absurd (omega (arith, z))
 acts_grow old left x y (Redeclares t ∷ more) log z g = absurd (omega (arith, z))
-acts_grow old left x y (Round es ∷ more) log z g = acts_grow old left x y more log z g
-acts_grow old left x y (Hand from to n m ∷ more) log z g = acts_grow old left x y more log z g
-acts_grow old left x y (Submitted at n ∷ more) log z g = acts_grow old left x y more log z g
-acts_grow old left x y (Notes ∷ more) log z g = acts_grow old left x y more log z g
+acts_grow old left x y (_ ∷ more) log z g = acts_grow old left x y more log z g
 
 -- the last mark
 
@@ -134,22 +90,14 @@ pub last_is : (more log : Log) → marks more ≡ 0 → last_event (more ++ log)
 last_is [] log z = refl
 last_is (Mark e ∷ more) log z = absurd (omega (arith, z))
 last_is (Redeclares t ∷ more) log z = absurd (omega (arith, z))
-last_is (Does at act ∷ more) log z = last_is more log z
-last_is (Round es ∷ more) log z = last_is more log z
-last_is (Hand from to n m ∷ more) log z = last_is more log z
-last_is (Submitted at n ∷ more) log z = last_is more log z
-last_is (Notes ∷ more) log z = last_is more log z
+last_is (_ ∷ more) log z = last_is more log z
 
 mark_grows : (mark : Entry) (old new : Log) (x y : Site) → IsMark mark
     → Grows (link_of x y old).there (link_of x y (mark ∷ old)).there
     (left_of (is_taken (last_event (mark ∷ old)) (found_by (last_event (mark ∷ old)) old new) (x, y)) (length (link_of x y old).there.flight))
 mark_grows (Mark e) old new x y h = event_grows e old new x y
 mark_grows (Redeclares t) old new x y h = no_way (takes_one (found_by Redeclare old new)) (link_of x y old).there
-mark_grows (Does at act) old new x y h = absurd h
-mark_grows (Round es) old new x y h = absurd h
-mark_grows (Hand from to n m) old new x y h = absurd h
-mark_grows (Submitted at n) old new x y h = absurd h
-mark_grows Notes old new x y h = absurd h
+mark_grows _ old new x y h = absurd h
 
 pub link_grows : (g : Input) (old new : Log) (l : Site × Site) → IsBetween g old new
     → Grows (link_of l.0 l.1 old).there (link_of l.0 l.1 new).there (left_between old new l)
@@ -176,15 +124,9 @@ handed_rises g (Hand from to n m ∷ more) log a b h =
     let next : n ≡ suc (handed from to (more ++ log)) = (allowed_hand g (more ++ log) (Hand from to n m) h.0).next in
     rises_if (same_site a from && same_site b to) n (handed a b (more ++ log)) (handed a b log)
     (λ e. let p = same_link a b from to e in
-    let there : n ≡ suc (handed a b (more ++ log)) =
-    subst (λ x. n ≡ suc (handed x b (more ++ log))) (sym p.0) (subst (λ y. n ≡ suc (handed from y (more ++ log))) (sym p.1) next) in
+    let there : n ≡ suc (handed a b (more ++ log)) = next ∙ (λ j. suc (handed (sym p.0 j) (sym p.1 j) (more ++ log))) in
     omega (arith, i, there)) i
-handed_rises g (Mark e ∷ more) log a b h = handed_rises g more log a b h.1
-handed_rises g (Redeclares t ∷ more) log a b h = handed_rises g more log a b h.1
-handed_rises g (Does at act ∷ more) log a b h = handed_rises g more log a b h.1
-handed_rises g (Round es ∷ more) log a b h = handed_rises g more log a b h.1
-handed_rises g (Submitted at n ∷ more) log a b h = handed_rises g more log a b h.1
-handed_rises g (Notes ∷ more) log a b h = handed_rises g more log a b h.1
+handed_rises g (_ ∷ more) log a b h = handed_rises g more log a b h.1
 
 pub joined_more : (more : Log) (mark : Entry) (old : Log) → more ++ mark ∷ old ≡ (more ++ mark ∷ []) ++ old
 joined_more [] mark old = refl
@@ -195,9 +137,6 @@ handed_between g old new a b good i =
     let is : new ≡ (i.more ++ i.mark ∷ []) ++ old = i.parts ∙ joined_more i.more i.mark old in
     let p : IsPermitted g new = lawful_permitted g new good.once i.after.lawful in
     subst (λ z. handed a b old ≤ handed a b z) (sym is) (handed_rises g (i.more ++ i.mark ∷ []) old a b (subst (IsPermitted g) is p))
-
-pub handed_of_sent : (g : Input) (log : Log) (a b : Site) → IsPermitted g log → handed a b log ≤ length (sent a b log)
-handed_of_sent g log a b h = let i = handed_le g log a b h in let j = delivered_within a b log in omega (arith, i, j)
 
 -- what is kept of a link, and what is seen of it
 

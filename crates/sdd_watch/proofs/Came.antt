@@ -1,27 +1,10 @@
 -- What came to a pipe between two logs is what was handed over on its one link.
-use Rattle.std.proofs.Common.{ℕ, zero, suc, ◌+◌, ◌-◌, ◌≤◌, ◌≡◌, ◌∙◌, ◌==◌, ◌&&◌, Bool, true, false, cond, if◌then◌else◌, List, [], ◌∷◌, ◌++◌, length, take, drop, filter, filter_map, find, slice_get, Option, Some, None, ap, arith, eqb-true, refl, subst, sym}
-use Rattle.std.specs.List.{cons_option}
-use Rattle.std.proofs.Math.Seq.{drop-append_seam, take-take}
-use Rattle.std.proofs.lemmas.List.{drop_all, take-append-drop, take-append-le}
-use Rattle.std.proofs.lemmas.List.Elements.{filter_map-append}
-use Rattle.sdd_obligations.specs.All.{Ack, D, Input, IsClassHere, IsGood, IsPermitted, Log, Message, Msg, Packet, Site, all_links, all_of, class_in, dm_no, goes_through, handed, home, local_of, pipe, puts_to, same_site, sent, setting_of}
-use Rattle.sdd_obligations.specs.net.Links.{numbered}
-use Rattle.sdd_obligations.specs.wire.declared.msg.Msg.TheVariants.{Done, Null, Read, Write}
-use Rattle.sdd_obligations.proofs.invariants.InPipe.{pipe_is}
-use Rattle.sdd_obligations.proofs.invariants.Sent.{sent_is}
-use Rattle.sdd_obligations.proofs.invariants.Sites.{site_self}
-use Rattle.sdd_obligations.proofs.logs.NewMarks.{lawful_permitted}
-use Rattle.sdd_obligations.proofs.OfNext.{IsThere}
-use Rattle.sdd_obligations.proofs.Sources.{source_is_home}
-use Rattle.sdd_watch.specs.Awaiting.{number_for, purposed}
-use Rattle.sdd_watch.specs.Looking.{messages_in, numbers_for}
-use Rattle.sdd_watch.specs.Moments.{came, handed_on, number_through, source}
-use Rattle.sdd_watch.specs.Watching.{IsBetween, arrived, arrived_on, handed_over, is_on}
-use Rattle.sdd_watch.specs.declared.waiting.Purpose.{Purpose}
-use Rattle.sdd_watch.specs.declared.watched_link.Arrived.{Arrived}
-use Rattle.sdd_watch.proofs.Between.{handed_between, handed_of_sent, link_grows, same_link}
-use Rattle.sdd_watch.proofs.Flights.{length_numbered}
+use Rattle.sdd_watch.proofs.All.{Ack, Arrived, Bool, D, Input, IsBetween, IsClassHere, IsGood, IsPermitted, IsThere, List, Log, Message, Msg, None, Null, Option, Packet, Purpose, Read, Site, Some, Write, [], all_links, all_of, ap, arith, arrived, arrived_on, came, class_in, cond, cons_option, dm_no, drop, drop-append_seam, drop_all, eqb-true, false, filter, filter_map, filter_map-append, find, goes_through, handed, handed_of_sent, handed_over, home, if◌then◌else◌, is_on, lawful_permitted, length, local_of, messages_in, number_for, number_through, numbered, numbers_for, pipe, pipe_is, purposed, puts_to, refl, same_site, sent, sent_is, setting_of, site_self, slice_get, source, source_is_home, subst, suc, sym, take, take-append-drop, take-append-le, take-take, true, zero, ℕ, ◌&&◌, ◌++◌, ◌+◌, ◌-◌, ◌==◌, ◌∙◌, ◌∷◌, ◌≡◌, ◌≤◌}
+use Rattle.sdd_watch.proofs.Between.{handed_between, link_grows, same_link}
+use Rattle.sdd_watch.proofs.Flights.{length_numbered, length_joined as length_of_both}
 use Rattle.sdd_watch.proofs.Numbered.{joined}
+use Rattle.sdd_watch.proofs.Unapplied.{take_numbered}
+use Rattle.sdd_watch.specs.Moments.{handed_on}
 
 -- which link it is
 
@@ -51,7 +34,7 @@ found_here old new a b l true rest z e = cc
 found_here old new a b l false rest z e = rw e refl
 
 pub that_one : (a b : Site) (l : Site × Site) → here a b l ≡ true → l ≡ (a, b)
-that_one a b l e = let p = same_link l.0 l.1 a b e in ap (λ x. (x, l.1)) p.0 ∙ ap (λ y. (a, y)) p.1
+that_one a b l e = let p = same_link l.0 l.1 a b e in λ i. (p.0 i, p.1 i)
 
 none_found : (old new : Log) (a b : Site) (ls : List (Site × Site)) → still old new (a, b) ≡ true
     → messages_in (find (is_on a b) (filter_map (arrived_on old new) ls)) ≡ []
@@ -84,9 +67,8 @@ one_found old new a b (l ∷ ls) (suc k) i e =
     ] refl
 
 length_take_le : {A : Type 0} (n : ℕ) (xs : List A) → length (take n xs) ≤ n
-length_take_le zero xs = omega arith
-length_take_le (suc n) [] = omega arith
 length_take_le (suc n) (x ∷ xs) = let i = length_take_le n xs in omega (arith, i)
+length_take_le _ _ = omega arith
 
 -- where nothing more was handed over, nothing was
 
@@ -96,14 +78,11 @@ none_still g old new a b good i e =
     ap (λ n. drop n (handed_on a b new)) same
     ∙ drop_all (handed a b new) (handed_on a b new) (length_take_le (handed a b new) (numbered 0 (sent a b new)))
 
-none_over : (g : Input) (old new : Log) (a b : Site) → IsGood g → IsBetween g old new → still old new (a, b) ≡ true → messages old new (a, b) ≡ []
-none_over g old new a b good i e = ap (filter_map purposed) (none_still g old new a b good i e)
-
 pub messages_found : (g : Input) (old new : Log) (a b : Site) → IsGood g → IsBetween g old new → IsThere (all_links g) (a, b)
     → messages_in (find (is_on a b) (arrived g old new)) ≡ messages old new (a, b)
 messages_found g old new a b good i there =
     elim (still old new (a, b)) as (λ c. still old new (a, b) ≡ c → messages_in (find (is_on a b) (arrived g old new)) ≡ messages old new (a, b)) [
-      | true ↦ λ e. none_found old new a b (all_links g) e ∙ sym (none_over g old new a b good i e)
+      | true ↦ λ e. none_found old new a b (all_links g) e ∙ sym (ap (filter_map purposed) (none_still g old new a b good i e))
       | false ↦ λ e. one_found old new a b (all_links g) there.0 there.1 e
     ] refl
 
@@ -115,8 +94,7 @@ number_is : (c n : ℕ) (m : Msg) (rest : List ℕ) (more : List (ℕ × Purpose
 number_is c n (Read ts class txn attempt conds uses) rest more e = ap (cons_option (if class.0 == c then Some n else None)) e
 number_is c n (Write ts class txn changes) rest more e = ap (cons_option (if class.0 == c then Some n else None)) e
 number_is c n (Null class time) rest more e = ap (cons_option (if class.0 == c then Some n else None)) e
-number_is c n (Done ts) rest more e = e
-number_is c n m rest more e = e
+number_is c n _ rest more e = e
 
 numbers_are : (c : ℕ) (ps : List (Packet Msg)) → filter_map (number_for c) (filter_map purposed ps) ≡ filter_map (number_through c) ps
 numbers_are c [] = refl
@@ -130,14 +108,13 @@ pub handed_parts : (g : Input) (old new : Log) (a b : Site) → IsGood g → IsB
 handed_parts g old new a b good i =
     let h : ℕ = handed a b old in
     let k : ℕ = handed a b new in
-    let rises = handed_between g old new a b good i in
     let grows = link_grows g old new (a, b) i in
     let all : numbered 0 (sent a b new) ≡ numbered 0 (sent a b old) ++ numbered (length (sent a b old)) grows.more =
     ap (numbered 0) grows.sent_is ∙ joined (sent a b old) grows.more in
     let few = handed_of_sent g old a b (lawful_permitted g old good.once i.before.lawful) in
     let count = length_numbered 0 (sent a b old) in
     let front : take h (handed_on a b new) ≡ handed_on a b old =
-    take-take h k (numbered 0 (sent a b new)) rises ∙ ap (take h) all
+    take-take h k (numbered 0 (sent a b new)) (handed_between g old new a b good i) ∙ ap (take h) all
     ∙ take-append-le h (numbered 0 (sent a b old)) (numbered (length (sent a b old)) grows.more) (omega (arith, few, count)) in
     sym (take-append-drop h (handed_on a b new)) ∙ ap (λ ps. ps ++ handed_over old new (a, b)) front
 
@@ -154,11 +131,6 @@ came_is g old new d c good i there =
 
 -- how many they are
 
-take_numbered : (n k : ℕ) (ms : List Msg) → take n (numbered k ms) ≡ numbered k (take n ms)
-take_numbered zero k ms = refl
-take_numbered (suc n) k [] = refl
-take_numbered (suc n) k (m ∷ ms) = ap (λ ps. Message (k + 1) m ∷ ps) (take_numbered n (k + 1) ms)
-
 as_many : (c k : ℕ) (ms : List Msg) → length (filter_map (number_through c) (numbered k ms)) ≡ length (filter (goes_through c) ms)
 as_many c k [] = refl
 as_many c k (m ∷ ms) =
@@ -167,10 +139,6 @@ as_many c k (m ∷ ms) =
       | true ↦ ap suc (as_many c (k + 1) ms)
       | false ↦ as_many c (k + 1) ms
     ]
-
-length_of_both : {A : Type 0} (xs ys : List A) → length (xs ++ ys) ≡ length xs + length ys
-length_of_both [] ys = let e : length ys ≡ 0 + length ys = omega arith in e
-length_of_both (x ∷ xs) ys = let i = length_of_both xs ys in omega (arith, i)
 
 pub all_came : (g : Input) (log : Log) (d c : ℕ) → IsPermitted g log → IsClassHere (setting_of g (D (dm_no d))) c
     → length (came g d c log)

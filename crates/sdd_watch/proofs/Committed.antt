@@ -1,15 +1,5 @@
 -- Of each transaction the place of its first Commit, one record after the other.
-use Rattle.std.proofs.Common.{ℕ, ◌+◌, ◌<◌, ◌≤◌, ◌≡◌, ◌∙◌, ◌==◌, cond, Bool, true, false, List, [], ◌∷◌, ◌++◌, find, get_or, is_some, length, take, Option, Some, None, ap, arith, eqb-true, inl, inr, length-take-le, refl, subst, sym}
-use Rattle.std.specs.BTreeMap.{is_at}
-use Rattle.std.specs.List.{position}
-use Rattle.std.specs.Option.{option_or}
-use Rattle.std.specs.Ordering.{nat_cmp}
-use Rattle.std.proofs.lemmas.Bool.{cases_Bool}
-use Rattle.std.proofs.lemmas.List.{take_all, take_more}
-use Rattle.sdd_obligations.specs.All.{Change, Commit, History, Rec, TxnNo}
-use Rattle.sdd_obligations.proofs.serial_orders.Reading.{is_eq_nat}
-use Rattle.sdd_run.specs.world.Pending.{commits}
-use Rattle.sdd_watch.specs.Happens.{changes_of, committed_by, committed_in}
+use Rattle.sdd_watch.proofs.All.{Bool, Change, Commit, History, List, None, Option, Rec, Some, TxnNo, [], ap, arith, cases_Bool, changes_of, commits, committed_by, committed_in, cond, eqb-true, false, find, get_or, inl, inr, is_at, is_eq_nat, is_some, length, length-take-le, nat_cmp, option_or, position, refl, subst, sym, take, take_all, take_more, true, ℕ, ◌++◌, ◌+◌, ◌<◌, ◌==◌, ◌∙◌, ◌∷◌, ◌≡◌, ◌≤◌}
 use Rattle.sdd_watch.proofs.FirstPlaces.{first_more, first_there, none_there}
 
 -- the places that are known are those of the first Commits
@@ -62,10 +52,7 @@ commits_is n _ = refl
 known_more : (records : History) (r : ℕ × Rec) (o : Option TxnNo) (old new : ℕ → Option ℕ) (place : ℕ) → o ≡ committed_by r → length records ≡ place
     → ((n : ℕ) → new n ≡ option_or (old n) (cond (is_of o n) (Some place) None)) → Known old records → Known new (records ++ r ∷ [])
 known_more records r o old new place is here put known n =
-    put n
-    ∙ ap (λ p. option_or p (cond (is_of o n) (Some place) None)) (known n)
-    ∙ ap (λ b. option_or (position (commits n) records) (cond b (Some place) None)) (ap (λ q. is_of q n) is ∙ sym (commits_is n r))
-    ∙ ap (λ k. option_or (position (commits n) records) (cond (commits n r) (Some k) None)) (sym here)
+    put n ∙ (λ i. option_or (known n i) (cond ((ap (λ q. is_of q n) is ∙ sym (commits_is n r)) i) (Some (sym here i)) None))
     ∙ sym (first_more (commits n) records r)
 
 pub known_with : (records : History) (r : ℕ × Rec) (t : TxnNo) (old new : ℕ → Option ℕ) (place : ℕ) → Some t ≡ committed_by r → length records ≡ place

@@ -1,25 +1,13 @@
 -- What an event changed is told by cut moments: of a flight by what stands behind the packets that stayed, and of a pipe by what
 -- came and was processed.
-use Rattle.std.proofs.Common.{ℕ, ◌-◌, ◌≡◌, ◌∙◌, ◌==◌, ◌&&◌, Bool, true, false, if◌then◌else◌, List, [], ◌∷◌, ◌++◌, length, drop, map, ap, arith, refl, sym}
-use Rattle.sdd_obligations.specs.All.{Input, Log, Msg, Site, all_links, is_empty, link_of, sent}
-use Rattle.sdd_obligations.specs.net.declared.packet.Packet.{Packet}
-use Rattle.sdd_inside.specs.Differences.{changes, difference, handed_between, in_flight, left, on_link, pipe_between, put_between, queue_between, takes_from}
-use Rattle.sdd_inside.specs.declared.delta.Delta.{Delta}
-use Rattle.sdd_inside.specs.declared.delta.Handed.{Handed}
-use Rattle.sdd_inside.specs.declared.delta.PipeDelta.{PipeDelta}
-use Rattle.sdd_inside.specs.declared.delta.Put.{Put}
-use Rattle.sdd_inside.specs.declared.moment.Happened.{Happened}
-use Rattle.sdd_inside.specs.declared.moment.Moment.{Moment}
-use Rattle.sdd_watch.specs.Happens.{found_by, last_event}
-use Rattle.sdd_watch.specs.Moments.{all_pipes, came, link_moment, moment_of, pipe_moment, queues_of}
-use Rattle.sdd_watch.specs.Watching.{is_taken, left_between, left_of, link_after, link_before, pipe_after, pipe_before}
+use Rattle.sdd_watch.proofs.All.{Bool, Delta, Handed, Happened, Input, List, Log, Moment, Msg, Packet, PipeDelta, Put, Site, [], all_links, all_pipes, ap, arith, came, changes, difference, drop, false, found_by, handed_between, if◌then◌else◌, in_flight, is_empty, is_taken, last_event, left_between, left_of, length, link_after, link_before, link_moment, link_of, map, moment_of, on_link, pipe_after, pipe_before, pipe_between, pipe_moment, put_between, queue_between, queues_of, refl, sent, sym, takes_from, true, ℕ, ◌&&◌, ◌++◌, ◌-◌, ◌==◌, ◌∙◌, ◌∷◌, ◌≡◌}
+use Rattle.sdd_inside.specs.Differences.{left}
 
 -- parts that tell the same, one by one
 same_changes : {A B C : Type 0} (f : A → A → List B) (p q r s : C → A) → ((x : C) → f (p x) (q x) ≡ f (r x) (s x)) → (xs : List C)
     → changes f (map p xs) (map q xs) ≡ changes f (map r xs) (map s xs)
 same_changes f p q r s e [] = refl
-same_changes f p q r s e (x ∷ xs) =
-    ap (λ l. l ++ changes f (map p xs) (map q xs)) (e x) ∙ ap (λ l. f (r x) (s x) ++ l) (same_changes f p q r s e xs)
+same_changes f p q r s e (x ∷ xs) = λ i. e x i ++ same_changes f p q r s e xs i
 
 -- links
 
@@ -53,10 +41,6 @@ told_pipe g old new p count =
 
 less_none : (n : ℕ) → n - 0 ≡ n
 less_none n = omega arith
-
-pipe_cut : (g : Input) (old new : Log) (h : Happened) (p : ℕ × ℕ)
-    → pipe_between h (pipe_before g old new p) (pipe_after g old new p) ≡ pipe_between h (pipe_moment g old p) (pipe_moment g new p)
-pipe_cut g old new h p = ap (told_pipe g old new p) (less_none (pipe_after g old new p).processed)
 
 -- all of it
 
@@ -93,8 +77,5 @@ cut_tells g old new h event found =
     let put = same_changes (put_between h) (link_before old) (link_after old new) (link_moment old) (link_moment new)
     (λ l. put_cut old new h l event found) (all_links g) in
     let pipes = same_changes (pipe_between h) (pipe_before g old new) (pipe_after g old new) (pipe_moment g old) (pipe_moment g new)
-    (λ p. pipe_cut g old new h p) (all_pipes g) in
-    ap (λ x. told h b a x (changes (put_between h) b.links a.links) (changes (pipe_between h) b.pipes a.pipes)) handed
-    ∙ ap (λ x. told h b a (changes (handed_between h) (moment_of g old).links (moment_of g new).links) x (changes (pipe_between h) b.pipes a.pipes)) put
-    ∙ ap (told h b a (changes (handed_between h) (moment_of g old).links (moment_of g new).links)
-    (changes (put_between h) (moment_of g old).links (moment_of g new).links)) pipes
+    (λ p. ap (told_pipe g old new p) (less_none (pipe_after g old new p).processed)) (all_pipes g) in
+    (λ i. told h b a (handed i) (put i) (pipes i))

@@ -1,13 +1,5 @@
 -- Logs, event by event: the log when so many events are over, and what lies between it and the next.
-use Rattle.std.proofs.Common.{ℕ, suc, ◌+◌, ◌<◌, ◌≤◌, ◌≡◌, ◌∙◌, refl, ap, sym, subst, arith, true, false, [], ◌∷◌, ◌++◌, Option, Some, None, inl, inr}
-use Rattle.std.specs.Prelude.{nat_le, if◌then◌else◌}
-use Rattle.std.proofs.lemmas.Bool.{cases_lt, le-leb, lt-leb}
-use Rattle.sdd_obligations.specs.All.{Does, Event, Hand, Input, IsLawful, Log, Mark, Notes, Redeclare, Redeclares, Rests, Round, Submitted, marks, next}
-use Rattle.sdd_obligations.specs.logs.Entries.{Entry}
-use Rattle.sdd_obligations.proofs.logs.One.{IsBefore, one_chain}
-use Rattle.sdd_watch.specs.Happens.{last_event}
-use Rattle.sdd_watch.specs.Moments.{at_event}
-use Rattle.sdd_watch.specs.Watching.{IsBetween, IsMark}
+use Rattle.sdd_watch.proofs.All.{Entry, Event, Input, IsBefore, IsBetween, IsLawful, IsMark, Log, Mark, None, Option, Redeclare, Redeclares, Rests, Some, [], ap, arith, at_event, cases_lt, false, if◌then◌else◌, inl, inr, last_event, le-leb, lt-leb, marks, marks_above, nat_le, next, one_chain, refl, subst, suc, sym, true, ℕ, ◌++◌, ◌+◌, ◌<◌, ◌∙◌, ◌∷◌, ◌≡◌, ◌≤◌}
 
 -- the event that an entry marks
 abbrev pub event_of : Entry → Option Event
@@ -18,50 +10,25 @@ event_of _ = None
 pub one_more_mark : (x : Entry) (e : Event) (log : Log) → event_of x ≡ Some e → marks (x ∷ log) ≡ suc (marks log)
 one_more_mark (Mark f) e log h = refl
 one_more_mark (Redeclares t) e log h = refl
-one_more_mark (Round es) e log h = cc
-one_more_mark (Hand a b n m) e log h = cc
-one_more_mark (Submitted a n) e log h = cc
-one_more_mark Notes e log h = cc
-one_more_mark (Does a act) e log h = cc
-
-pub marks_above : (m log : Log) → marks log ≤ marks (m ++ log)
-marks_above [] log = omega arith
-marks_above (Mark e ∷ m) log = let i = marks_above m log in omega (arith, i)
-marks_above (Redeclares t ∷ m) log = let i = marks_above m log in omega (arith, i)
-marks_above (Round es ∷ m) log = marks_above m log
-marks_above (Hand a b n x ∷ m) log = marks_above m log
-marks_above (Submitted a n ∷ m) log = marks_above m log
-marks_above (Notes ∷ m) log = marks_above m log
-marks_above (Does a act ∷ m) log = marks_above m log
+one_more_mark _ e log h = cc
 
 -- the last event of a log with one mark above another log
 
 last_of : (x : Entry) (e : Event) (log : Log) → event_of x ≡ Some e → last_event (x ∷ log) ≡ e
 last_of (Mark f) e log h = let p : f ≡ e = cc in p
 last_of (Redeclares t) e log h = let p : Redeclare ≡ e = cc in p
-last_of (Round es) e log h = cc
-last_of (Hand a b n m) e log h = cc
-last_of (Submitted a n) e log h = cc
-last_of Notes e log h = cc
-last_of (Does a act) e log h = cc
+last_of _ e log h = cc
 
 -- no further mark stands above it
 pub one_only : (m : Log) (x : Entry) (e : Event) (log : Log) → event_of x ≡ Some e → suc (marks (m ++ x ∷ log)) ≡ suc (marks log) → ⊥
-one_only m x e log h k =
-    let a : marks (x ∷ log) ≤ marks (m ++ x ∷ log) = marks_above m (x ∷ log) in
-    let b : marks (x ∷ log) ≡ suc (marks log) = one_more_mark x e log h in
-    absurd (omega (arith, a, b, k))
+one_only m x e log h k = absurd (omega (arith, marks_above m (x ∷ log), one_more_mark x e log h, k))
 
 pub last_above : (m : Log) (x : Entry) (e : Event) (log : Log) → event_of x ≡ Some e → marks (m ++ x ∷ log) ≡ suc (marks log)
     → last_event (m ++ x ∷ log) ≡ e
 last_above [] x e log h k = last_of x e log h
 last_above (Mark f ∷ m) x e log h k = absurd (one_only m x e log h k)
 last_above (Redeclares t ∷ m) x e log h k = absurd (one_only m x e log h k)
-last_above (Round es ∷ m) x e log h k = last_above m x e log h k
-last_above (Hand a b n y ∷ m) x e log h k = last_above m x e log h k
-last_above (Submitted a n ∷ m) x e log h k = last_above m x e log h k
-last_above (Notes ∷ m) x e log h k = last_above m x e log h k
-last_above (Does a act ∷ m) x e log h k = last_above m x e log h k
+last_above (_ ∷ m) x e log h k = last_above m x e log h k
 
 -- the log when so many events are over
 
@@ -74,9 +41,7 @@ at_below n x log h = ap (λ b. if b then x ∷ log else at_event n log) (lt-leb 
 
 pub at_beyond : (n : ℕ) (m : Log) (x : Entry) (log : Log) → n < marks (x ∷ log) → at_event n (m ++ x ∷ log) ≡ at_event n log
 at_beyond n [] x log h = at_below n x log h
-at_beyond n (y ∷ m) x log h =
-    let a : marks (x ∷ log) ≤ marks (y ∷ (m ++ x ∷ log)) = marks_above (y ∷ m) (x ∷ log) in
-    at_below n y (m ++ x ∷ log) (omega (arith, h, a)) ∙ at_beyond n m x log h
+at_beyond n (y ∷ m) x log h = at_below n y (m ++ x ∷ log) (omega (arith, h, marks_above (y ∷ m) (x ∷ log))) ∙ at_beyond n m x log h
 
 pub lawful_at : (g : Input) (n : ℕ) (log : Log) → IsLawful g log → IsLawful g (at_event n log)
 lawful_at g n [] h = tt
@@ -87,11 +52,7 @@ lawful_at g n (x ∷ log) h =
 grew : (x : Entry) (log : Log) → marks log < marks (x ∷ log) → (e : Event) × (event_of x ≡ Some e)
 grew (Mark e) log h = (e, refl)
 grew (Redeclares t) log h = (Redeclare, refl)
-grew (Round es) log h = absurd (omega (arith, h))
-grew (Hand a b n m) log h = absurd (omega (arith, h))
-grew (Submitted a n) log h = absurd (omega (arith, h))
-grew Notes log h = absurd (omega (arith, h))
-grew (Does a act) log h = absurd (omega (arith, h))
+grew _ log h = absurd (omega (arith, h))
 
 -- the next entry of the log marks an event
 pub record MarksNext (g : Input) (log : Log) : Type 0 where
@@ -122,11 +83,7 @@ parts_of l (e ∷ m) h = elim h as (λ _. (x : Log) × (e ∷ m ≡ x ++ l)) [
 ]
 
 marks_before : (l m : Log) → IsBefore l m → marks l ≤ marks m
-marks_before l m h =
-    let p = parts_of l m h in
-    let a : marks l ≤ marks (p.0 ++ l) = marks_above p.0 l in
-    let b : marks m ≡ marks (p.0 ++ l) = ap marks p.1 in
-    omega (arith, a, b)
+marks_before l m h = let p = parts_of l m h in omega (arith, marks_above p.0 l, ap marks p.1)
 
 -- one event lies between two logs, and this entry marks it
 pub record IsMarkedBetween (g : Input) (old new : Log) (e : Event) : Type 0 where
@@ -146,7 +103,7 @@ goes_on g old new x e l k h n less =
       | inl p ↦ parts_of (x ∷ old) new p
       | inr p ↦ elim p as (λ _. (more : Log) × (new ≡ more ++ x ∷ old)) [
         | inl q ↦ ([], q)
-        | inr q ↦ let a = marks_before new old q in absurd (omega (arith, a, less))
+        | inr q ↦ absurd (omega (arith, marks_before new old q, less))
       ]
     ]
 
@@ -170,12 +127,6 @@ goes_to_end g old new x l k n done =
       | inr p ↦ ([], sym (whole_is g new (x ∷ old) done first p))
     ]
 
-pub marked_between : (g : Input) (old new : Log) (x : Entry) (e : Event) → IsLawful g old → IsLawful g new → event_of x ≡ Some e
-    → next g old ≡ Some x → marks new ≡ suc (marks old) → IsMarkedBetween g old new e
-marked_between g old new x e l k h n one =
-    let p = goes_on g old new x e l k h n (omega (arith, one)) in
-    record { entry = x; event_is = h; more = p.0; parts = p.1; lawful = k; marks_are = one }
-
 pub last_is : (g : Input) (old new : Log) (e : Event) → IsMarkedBetween g old new e → last_event new ≡ e
 last_is g old new e b =
     ap last_event b.parts ∙ last_above b.more b.entry e old b.event_is (sym (ap marks b.parts) ∙ b.marks_are)
@@ -184,32 +135,22 @@ marks_join : (m log : Log) → marks (m ++ log) ≡ marks m + marks log
 marks_join [] log = omega arith
 marks_join (Mark e ∷ m) log = let i = marks_join m log in omega (arith, i)
 marks_join (Redeclares t ∷ m) log = let i = marks_join m log in omega (arith, i)
-marks_join (Round es ∷ m) log = marks_join m log
-marks_join (Hand a b n x ∷ m) log = marks_join m log
-marks_join (Submitted a n ∷ m) log = marks_join m log
-marks_join (Notes ∷ m) log = marks_join m log
-marks_join (Does a act ∷ m) log = marks_join m log
+marks_join (_ ∷ m) log = marks_join m log
 
 marks_it : (x : Entry) (e : Event) → event_of x ≡ Some e → IsMark x
 marks_it (Mark f) e h = tt
 marks_it (Redeclares t) e h = tt
-marks_it (Round es) e h = cc
-marks_it (Hand a b n m) e h = cc
-marks_it (Submitted a n) e h = cc
-marks_it Notes e h = cc
-marks_it (Does a act) e h = cc
+marks_it _ e h = cc
 
 pub is_between : (g : Input) (old new : Log) (e : Event) → Rests g old → Rests g new → IsMarkedBetween g old new e → IsBetween g old new
 is_between g old new e before after b =
     let all : marks new ≡ marks b.more + marks (b.entry ∷ old) = ap marks b.parts ∙ marks_join b.more (b.entry ∷ old) in
-    let one = one_more_mark b.entry e old b.event_is in
-    let now = b.marks_are in
     record {
       mark = b.entry;
       is_mark = marks_it b.entry e b.event_is;
       more = b.more;
       parts = b.parts;
-      no_marks = omega (arith, all, one, now);
+      no_marks = omega (arith, all, one_more_mark b.entry e old b.event_is, b.marks_are);
       before = before;
       after = after;
     }
@@ -217,5 +158,4 @@ is_between g old new e before after b =
 -- before the mark the log is that when so many events are over, and behind it that when one more is
 pub at_old : (g : Input) (old new : Log) (e : Event) (n : ℕ) → IsMarkedBetween g old new e → n ≤ marks old → at_event n new ≡ at_event n old
 at_old g old new e n b l =
-    let one = one_more_mark b.entry e old b.event_is in
-    ap (at_event n) b.parts ∙ at_beyond n b.more b.entry old (omega (arith, l, one))
+    ap (at_event n) b.parts ∙ at_beyond n b.more b.entry old (omega (arith, l, one_more_mark b.entry e old b.event_is))

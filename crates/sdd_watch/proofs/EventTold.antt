@@ -1,23 +1,5 @@
 -- An event is carried out and told, over plain worlds.
-use Rattle.std.proofs.Common.{ℕ, suc, ◌≡◌, ◌∙◌, refl, ap, sym, subst, arith, List, [], ◌∷◌, ◌++◌, length, Some, None}
-use Rattle.sdd_obligations.specs.All.{Deliver, Down, Event, Input, IsLawful, IsPossible, Log, Lose, Mark, Redeclare, Redeclares, Repeat, Resend, Rests, Round, Settle, Submit, Tick, Up, after_mark, left, marks, next, with_event}
-use Rattle.sdd_obligations.specs.base.Words.{tail_of}
-use Rattle.sdd_obligations.specs.logs.Entries.{Entry}
-use Rattle.sdd_obligations.specs.logs.Marks.{from_event, mark_of}
-use Rattle.sdd_obligations.proofs.logs.Completing.{one_more}
-use Rattle.sdd_obligations.proofs.logs.Grows.{grows, lawful_grows}
-use Rattle.sdd_inside.specs.Lines.{line}
-use Rattle.sdd_run.specs.world.Represents.{Represents}
-use Rattle.sdd_run.specs.world.declared.world.World.{World}
-use Rattle.sdd_run.proofs.world.Rounds.{single}
-use Rattle.sdd_watch.specs.Happens.{place_in, round_in, rounds}
-use Rattle.sdd_watch.specs.ScheduleSoFar.{IsTold, Tells}
-use Rattle.sdd_watch.specs.Text.{change}
-use Rattle.sdd_watch.specs.Watching.{IsTellable, IsToTell, IsTurn, Watches, foreseen_by}
-use Rattle.sdd_watch.specs.declared.foreseen.Foreseen.{Foreseen}
-use Rattle.sdd_watch.specs.declared.teller.Teller.{Teller}
-use Rattle.sdd_watch.specs.declared.watch.Turn.{Turn}
-use Rattle.sdd_watch.specs.declared.watch.Watch.{Watch}
+use Rattle.sdd_watch.proofs.All.{Entry, Event, Foreseen, Input, IsLawful, IsPossible, IsTellable, IsToTell, IsTold, IsTurn, List, Log, Mark, None, Redeclare, Redeclares, Represents, Round, Settle, Some, Teller, Tells, Turn, Watch, Watches, World, [], after_mark, ap, arith, change, foreseen_by, from_event, grows, lawful_grows, left, length, line, mark_of, marks, next, one_more, place_in, refl, rests_given, round_in, rounds, single, subst, suc, sym, tail_of, with_event, ℕ, ◌++◌, ◌∙◌, ◌∷◌, ◌≡◌}
 use Rattle.sdd_watch.proofs.EachEvent.{IsMarkedBetween, event_of, goes_to_end, is_between, last_is, one_more_mark}
 use Rattle.sdd_watch.proofs.GivenMore.{first_from, next_mark_is, one_longer}
 use Rattle.sdd_watch.proofs.InRounds.{no_mark_more, none_in_round}
@@ -67,8 +49,7 @@ tells_on g old new e t t2 b h gets = record {
 pub left_marked : (events : List Event) (x : Entry) (e : Event) (log : Log) → event_of x ≡ Some e → left events (x ∷ log) ≡ after_mark (left events log)
 left_marked events (Mark f) e log h = refl
 left_marked events (Redeclares t) e log h = refl
-left_marked events (Round es) e log h = cc
-left_marked events x e log h = cc
+left_marked events _ e log h = cc
 
 -- with its mark nothing is left, so the complete log has one mark more
 pub marked_to_end : (g : Input) (old new : Log) (x : Entry) (e : Event) → IsLawful g old → IsLawful g new → event_of x ≡ Some e
@@ -101,22 +82,11 @@ turn_at_end g old new x e place turn is h n none over b event scheduled round = 
 
 -- an event of the schedule that is no settle and no redeclare
 
-rests_given : (g : Input) (f : Event) (log : Log) → Rests g log → Rests (with_event g f) log
-rests_given g f log r =
-    record { lawful = lawful_grows g f log r.lawful; within = r.within; no_mark = r.no_mark; no_site = r.no_site; handed_all = r.handed_all }
-
 -- what an event names exists, also where an event more is given
 tellable_given : (g : Input) (f e : Event) → IsPossible g e → IsTellable (with_event g f) e
-tellable_given g f (Submit n) p = p
-tellable_given g f (Deliver a b k) p = p
-tellable_given g f (Lose a b k) p = p
-tellable_given g f (Repeat a b k) p = p
-tellable_given g f (Resend a b) p = p
-tellable_given g f (Tick t n) p = p
-tellable_given g f (Down d) p = p
-tellable_given g f (Up d) p = p
 tellable_given g f Settle p = absurd p
 tellable_given g f Redeclare p = tt
+tellable_given g f _ p = p
 
 module _ (w w2 : World) (g : Input) (log more : Log) (e : Event) (s : Represents w g log) (p : IsPossible g e)
     (s2 : Represents w2 (with_event g e) more) where

@@ -1,8 +1,5 @@
 -- The first member of a list that passes a test, and its place.
-use Rattle.std.proofs.Common.{ℕ, suc, ◌+◌, ◌<◌, ◌≡◌, ◌∙◌, cond, Bool, true, false, List, [], ◌∷◌, ◌++◌, find, get_or, length, Some, None, ap, arith, refl, sym}
-use Rattle.std.specs.List.{position, position_from}
-use Rattle.std.specs.Option.{option_or}
-use Rattle.std.proofs.lemmas.Iterator.Adapters.{position_from-zero}
+use Rattle.sdd_watch.proofs.All.{Bool, List, None, Some, [], ap, arith, cond, false, find, get_or, length, option_or, position, position_from, position_from-zero, refl, suc, sym, true, ℕ, ◌++◌, ◌+◌, ◌<◌, ◌∙◌, ◌∷◌, ◌≡◌}
 
 from_more : {A : Type 0} (p : A → Bool) (i : ℕ) (xs : List A) (x : A)
     → position_from p i (xs ++ x ∷ []) ≡ option_or (position_from p i xs) (cond (p x) (Some (i + length xs)) None)
@@ -22,8 +19,7 @@ pub first_more : {A : Type 0} (p : A → Bool) (xs : List A) (x : A) → positio
 first_more p xs x =
     let same : 0 + length xs ≡ length xs = omega arith in
     position_from-zero p (xs ++ x ∷ []) ∙ from_more p 0 xs x
-    ∙ ap (λ j. option_or (position_from p 0 xs) (cond (p x) (Some j) None)) same
-    ∙ ap (λ o. option_or o (cond (p x) (Some (length xs)) None)) (sym (position_from-zero p xs))
+    ∙ (λ i. option_or (sym (position_from-zero p xs) i) (cond (p x) (Some (same i)) None))
 
 -- such a member stands at the place
 pub record IsAt {A : Type 0} (p : A → Bool) (xs : List A) (k : ℕ) : Type 0 where
@@ -45,16 +41,14 @@ from_there {A} p i (y ∷ xs) k e = by (p y) refl (from_there p (i + 1) xs k) e
     by false t later e =
         let r = later e in
         let is = r.1 in
-        let lt = r.2 in
-        (suc r.0, omega (arith, is), omega (arith, lt), λ x is. ap (λ b. cond b (Some y) (find p xs)) t ∙ r.3 x is)
+        (suc r.0, omega (arith, is), omega (arith, r.2), λ x is. ap (λ b. cond b (Some y) (find p xs)) t ∙ r.3 x is)
 
 pub first_there : {A : Type 0} (p : A → Bool) (xs : List A) (k : ℕ) → position p xs ≡ Some k → IsAt p xs k
 first_there {A} p xs k e =
     let r = from_there p 0 xs k (sym (position_from-zero p xs) ∙ e) in
     let is = r.1 in
     let same : k ≡ r.0 = omega (arith, is) in
-    let lt = r.2 in
-    record { within = omega (arith, lt); found = λ x is. r.3 x (is ∙ ap (λ j. get_or xs j x) same) }
+    record { within = omega (arith, r.2); found = λ x is. r.3 x (is ∙ ap (λ j. get_or xs j x) same) }
 
 from_none : {A : Type 0} (p : A → Bool) (i : ℕ) (xs : List A) → position_from p i xs ≡ None → find p xs ≡ None
 from_none p i [] e = refl

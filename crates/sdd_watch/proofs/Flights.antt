@@ -1,12 +1,6 @@
 -- How an event and what it makes due change the way of a link: of the packets in flight all but one that is taken stay, in
 -- their order, and behind them stand those that are put, of which those of new messages are numbered on.
-use Rattle.std.proofs.Common.{ℕ, zero, suc, ◌+◌, ◌-◌, ◌≤◌, ◌<◌, ◌≡◌, ◌∙◌, ◌&&◌, Bool, true, false, if◌then◌else◌, List, [], ◌∷◌, ◌++◌, length, drop, filter, is_some, nat_lt, slice_get, Some, None, ap, append-nil, append_assoc, arith, le-ltb, lt-ltb, refl, subst, sym}
-use Rattle.std.proofs.lemmas.List.Elements.{filter-append}
-use Rattle.sdd_obligations.proofs.net.Lists.{All-at}
-use Rattle.sdd_obligations.specs.net.Links.{Way, Link, arrives, deliver, lose, numbered, packet_at, put, repeat, resend, turned, unacked, with_message, with_packet, without_at, without_packet}
-use Rattle.sdd_obligations.specs.net.Sound.{IsOf, IsSoundWay}
-use Rattle.sdd_obligations.specs.net.declared.packet.Packet.{Packet}
-use Rattle.sdd_obligations.specs.net.declared.packet.Packet.TheVariants.{Ack, Message}
+use Rattle.sdd_watch.proofs.All.{Ack, All-at, Bool, IsOf, IsSoundWay, Link, List, Message, None, Option, Packet, Some, Way, [], and_false, ap, append-nil, append_assoc, arith, arrives, deliver, drop, false, filter, filter-append, if◌then◌else◌, is_some, le-ltb, length, lose, lt-ltb, nat_lt, numbered, packet_at, put, refl, repeat, resend, slice_get, subst, suc, sym, true, turned, unacked, with_message, with_packet, without_at, without_packet, zero, ℕ, ◌&&◌, ◌++◌, ◌+◌, ◌-◌, ◌<◌, ◌∙◌, ◌∷◌, ◌≡◌, ◌≤◌}
 
 -- a packet of a message with a number above k
 abbrev pub is_above : {M : Type 0} → ℕ → Packet M → Bool
@@ -33,9 +27,9 @@ pub length_numbered : {M : Type 0} (k : ℕ) (xs : List M) → length (numbered 
 length_numbered k [] = refl
 length_numbered k (x ∷ xs) = ap suc (length_numbered (k + 1) xs)
 
-length_joined : {M : Type 0} (xs ys : List M) → length (xs ++ ys) ≡ length xs + length ys
+pub length_joined : {M : Type 0} (xs ys : List M) → length (xs ++ ys) ≡ length xs + length ys
 length_joined [] ys = let e : length ys ≡ 0 + length ys = omega arith in e
-length_joined (x ∷ xs) ys = let i = length_joined xs ys in omega (arith, i)
+length_joined (x ∷ xs) ys = omega (arith, length_joined xs ys)
 
 -- a message that is put
 
@@ -76,13 +70,10 @@ same w = record {
 }
 
 length_without : {A : Type 0} (xs : List A) (i : ℕ) (x : A) → slice_get xs i ≡ Some x → length (without_at xs i) ≡ length xs - 1
-length_without [] i x e = cc
 length_without (y ∷ ys) zero x e = omega arith
-length_without (y ∷ []) (suc i) x e = cc
 length_without (y ∷ z ∷ ys) (suc i) x e =
-    let at : suc i + 1 ≡ suc (i + 1) = omega arith in
-    let h = length_without (z ∷ ys) i x e in
-    rw at (omega (arith, h))
+    let at : suc i + 1 ≡ suc (i + 1) = omega arith in rw at (omega (arith, length_without (z ∷ ys) i x e))
+length_without _ _ x e = cc
 
 -- one packet is taken
 pub taken : {M : Type 0} (w new : Way M) (k : ℕ) (p : Packet M) → slice_get w.flight k ≡ Some p
@@ -118,8 +109,7 @@ within (x ∷ xs) (suc (suc n)) m l e =
     let z : suc (suc n) - 1 ≡ suc n = omega arith in
     let y : suc n - 1 ≡ n = omega arith in
     let there : slice_get xs n ≡ Some m = subst (λ j. slice_get (x ∷ xs) j ≡ Some m) z e in
-    let i = within xs (suc n) m (omega arith) (subst (λ j. slice_get xs j ≡ Some m) (sym y) there) in
-    omega (arith, i)
+    omega (arith, within xs (suc n) m (omega arith) (subst (λ j. slice_get xs j ≡ Some m) (sym y) there))
 
 -- a packet in flight is of a message that was put
 pub not_new : {M : Type 0} (sent : List M) (back : ℕ) (p : Packet M) → IsOf sent back p → filter (is_above (length sent)) (p ∷ []) ≡ []
@@ -156,16 +146,18 @@ deliver_there k l =
       | Some p ↦ λ e. gone k l p e
     ] refl
 
+-- where the packet is only looked up, the way back is that of what is done with it
+by_packet : {M : Type 0} (o : Option (Packet M)) (f : Packet M → Link M) (l : Link M)
+    → ((p : Packet M) → Grows l.back (f p).back (length l.back.flight)) → Grows l.back (with_packet o f l).back (length l.back.flight)
+by_packet None f l h = same l.back
+by_packet (Some p) f l h = h p
+
 answered : {M : Type 0} (k : ℕ) (l : Link M) (p : Packet M) → Grows l.back (arrives p (without_packet k l)).back (length l.back.flight)
 answered k l (Message n m) = repeated l.back _ (Ack _ ∷ []) refl refl refl
 answered k l (Ack j) = repeated l.back _ [] refl (sym (append-nil l.back.flight)) refl
 
 pub deliver_back : {M : Type 0} (k : ℕ) (l : Link M) → Grows l.back (deliver k l).back (length l.back.flight)
-deliver_back k l =
-    elim (packet_at k l) as (λ o. Grows l.back (with_packet o (λ p. arrives p (without_packet k l)) l).back (length l.back.flight)) [
-      | None ↦ same l.back
-      | Some p ↦ answered k l p
-    ]
+deliver_back k l = by_packet (packet_at k l) (λ p. arrives p (without_packet k l)) l (answered k l)
 
 pub lose_there : {M : Type 0} (k : ℕ) (l : Link M) → Grows l.there (lose k l).there (left_if (is_some (packet_at k l)) (length l.there.flight))
 lose_there k l =
@@ -176,11 +168,7 @@ lose_there k l =
     ] refl
 
 pub lose_back : {M : Type 0} (k : ℕ) (l : Link M) → Grows l.back (lose k l).back (length l.back.flight)
-lose_back k l =
-    elim (packet_at k l) as (λ o. Grows l.back (with_packet o (λ p. without_packet k l) l).back (length l.back.flight)) [
-      | None ↦ same l.back
-      | Some p ↦ same l.back
-    ]
+lose_back k l = by_packet (packet_at k l) (λ p. without_packet k l) l (λ p. same l.back)
 
 pub repeat_there : {M : Type 0} (k back : ℕ) (l : Link M) → IsSoundWay l.there back → Grows l.there (repeat k l).there (length l.there.flight)
 repeat_there k back l h =
@@ -192,24 +180,16 @@ repeat_there k back l h =
 
 pub repeat_back : {M : Type 0} (k : ℕ) (l : Link M) → Grows l.back (repeat k l).back (length l.back.flight)
 repeat_back k l =
-    elim (packet_at k l) as (λ o. Grows l.back
-    (with_packet o (λ p. record l { there = record l.there { flight = l.there.flight ++ p ∷ [] } }) l).back (length l.back.flight)) [
-      | None ↦ same l.back
-      | Some p ↦ same l.back
-    ]
+    by_packet (packet_at k l) (λ p. record l { there = record l.there { flight = l.there.flight ++ p ∷ [] } }) l (λ p. same l.back)
 
 pub resend_there : {M : Type 0} (l : Link M) → Grows l.there (resend l).there (length l.there.flight)
 resend_there l = repeated l.there _ (unacked l.there) (none_resent l.there) refl refl
 
 -- the same for a link seen from either end
 
-and_true : (t : Bool) → (t && true) ≡ t
+pub and_true : (t : Bool) → (t && true) ≡ t
 and_true true = refl
 and_true false = refl
-
-and_false : (t : Bool) → (t && false) ≡ false
-and_false true = refl
-and_false false = refl
 
 pub taking_way : {M : Type 0} (c d t : Bool) (f : Link M → Link M) (l : Link M)
     → (c ≡ true → Grows l.there (f l).there (left_if t (length l.there.flight)))

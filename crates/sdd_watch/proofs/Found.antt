@@ -1,11 +1,5 @@
 -- What is found on a link among what was handed over.
-use Rattle.std.proofs.Common.{ℕ, ◌≡◌, ◌∙◌, List, Option, Some, None, [], filter_map, find, ap}
-use Rattle.sdd_obligations.specs.All.{Site}
-use Rattle.sdd_watch.specs.Awaiting.{number_for}
-use Rattle.sdd_watch.specs.Looking.{messages_in, numbers_for}
-use Rattle.sdd_watch.specs.Watching.{is_on}
-use Rattle.sdd_watch.specs.declared.waiting.Purpose.{Purpose}
-use Rattle.sdd_watch.specs.declared.watched_link.Arrived.{Arrived}
+use Rattle.sdd_watch.proofs.All.{Arrived, List, None, Option, Purpose, Site, Some, [], ap, filter_map, find, is_on, messages_in, number_for, numbers_for, ℕ, ◌∙◌, ◌≡◌}
 
 pub messages_of_one : (one : Arrived) (o : Option Arrived) (messages : List (ℕ × Purpose)) → Some one ≡ o → messages ≡ one.messages → messages ≡ messages_in o
 messages_of_one one o messages e is = is ∙ ap messages_in e

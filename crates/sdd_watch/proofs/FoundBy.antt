@@ -1,13 +1,6 @@
 -- What an event is about to find, and then what it found.
-use Rattle.std.proofs.Common.{ℕ, zero, suc, ◌+◌, ◌≡◌, ◌∙◌, Bool, true, false, List, [], ◌∷◌, drop, is_some, map, not, option_map, slice_get, Option, Some, None, ap, refl, sym}
-use Rattle.std.proofs.lemmas.Option.{slice_get-map}
-use Rattle.sdd_obligations.specs.All.{Ack, Deliver, DmNo, Down, Event, Log, Lose, Message, Msg, Packet, Repeat, Resend, Site, Up, is_down, is_empty, link_of, packet_as, packet_at}
-use Rattle.sdd_obligations.specs.net.Links.{numbered, unacked}
-use Rattle.sdd_inside.specs.declared.delta.Found.{Found}
+use Rattle.sdd_watch.proofs.All.{Ack, Bool, Deliver, DmNo, Down, Event, Found, List, Log, Lose, Message, Msg, None, Option, Packet, Repeat, Resend, Site, Some, Taken, Up, [], ap, arrived_by, arrived_of, doing, drop, false, foreseen_by, found_by, is_down, is_empty, is_some, link_of, lost_by, map, not, numbered, option_map, packet_as, packet_at, refl, slice_get, slice_get-map, something_if, suc, sym, taken, taken_at, taking, true, unacked, zero, ℕ, ◌+◌, ◌∙◌, ◌∷◌, ◌≡◌}
 use Rattle.sdd_inside.specs.declared.delta.Found.TheVariants as founds
-use Rattle.sdd_inside.specs.declared.delta.Taken.{Taken}
-use Rattle.sdd_watch.specs.Happens.{arrived_by, arrived_of, found_by, lost_by, something_if, taken}
-use Rattle.sdd_watch.specs.Watching.{doing, foreseen_by, taken_at, taking}
 use Rattle.sdd_watch.specs.declared.foreseen.Foreseen.TheVariants as foreseens
 
 -- a packet of spellings

@@ -1,27 +1,8 @@
 -- What is kept of one event after the other, and what is told of what happened.
-use Rattle.std.proofs.Common.{ℕ, zero, suc, ◌+◌, ◌<◌, ◌≤◌, ◌≡◌, ◌∙◌, ◌||◌, All, List, ◌++◌, filter, length, map, take, Option, ap, arith, refl, subst, sym}
-use Rattle.std.specs.BTreeSet.{contains}
-use Rattle.std.specs.List.{list_any, range_with_len}
-use Rattle.std.proofs.lemmas.List.Elements.{All-append, All-cons, All-filter, All-map, All-nil}
-use Rattle.sdd_obligations.specs.All.{D, Event, History, Input, IsGood, IsSiteOf, Log, Site, T, U, dm_no, history, marks, sites}
-use Rattle.sdd_obligations.specs.serial_orders.Finding.{pair_cmp}
-use Rattle.sdd_inside.specs.declared.delta.Found.{Found}
-use Rattle.sdd_inside.specs.declared.delta.RowDelta.{RowDelta}
-use Rattle.sdd_inside.specs.declared.moment.Happened.{Happened}
-use Rattle.sdd_inside.specs.declared.standing.SiteState.{SiteState}
-use Rattle.sdd_run.specs.world.declared.world.World.{World}
-use Rattle.sdd_run.proofs.progress.Handed.{link_there}
-use Rattle.sdd_run.proofs.progress.Still.{d_site, t_site}
-use Rattle.sdd_watch.specs.Happens.{found_by, happened_at, last_event, round_at, rows_of, scheduled_at, states_of, takes_part}
-use Rattle.sdd_watch.specs.Looking.{says}
-use Rattle.sdd_watch.specs.Moments.{handed_on}
-use Rattle.sdd_watch.specs.Watching.{AreCommits, AreDones, IsBetween, IsOver, IsTurn, arrived, is_done_at}
-use Rattle.sdd_watch.specs.declared.commits.Commits.{Commits}
-use Rattle.sdd_watch.specs.declared.dones.Dones.{Dones}
-use Rattle.sdd_watch.specs.declared.watch.Turn.{Turn}
-use Rattle.sdd_watch.specs.declared.watched_link.Arrived.{Arrived}
+use Rattle.sdd_watch.proofs.All.{All, All-append, All-cons, All-filter, All-map, All-nil, AreCommits, AreDones, Arrived, Commits, D, Dones, Event, Found, Happened, History, Input, IsBetween, IsGood, IsOver, IsSiteOf, IsTurn, List, Log, Option, RowDelta, Site, SiteState, T, Turn, U, World, ap, arith, arrived, contains, d_site, dm_no, filter, found_by, happened_at, history, is_done_at, length, link_there, list_any, map, marks, pair_cmp, range_with_len, refl, round_at, rows_of, says, scheduled_at, sites, states_of, subst, suc, sym, t_site, take, takes_part, zero, ℕ, ◌++◌, ◌+◌, ◌<◌, ◌||◌, ◌∙◌, ◌≡◌, ◌≤◌}
 use Rattle.sdd_watch.proofs.Recorded.{first_records}
 use Rattle.sdd_watch.proofs.Said.{said_in_all}
+use Rattle.sdd_watch.specs.Moments.{handed_on}
 
 -- the sites exist
 
@@ -64,8 +45,7 @@ dones_more g old new known before after good between is add were = λ t d linked
 
 pub records_before : (g : Input) (old new : Log) (records : History) (n : ℕ) → IsBetween g old new → records ≡ history new → n ≡ length (history old)
     → take n records ≡ history old
-records_before g old new records n between is at =
-    ap (take n) is ∙ ap (λ k. take k (history new)) at ∙ first_records g old new between
+records_before g old new records n between is at = (λ i. take (at i) (is i)) ∙ first_records g old new between
 
 pub commits_more : (g : Input) (old new : Log) (records : History) (n : ℕ) (before after : Commits) → IsBetween g old new → records ≡ history new
     → n ≡ length (history old) → (AreCommits (take n records) before → AreCommits records after) → AreCommits (history old) before
@@ -91,10 +71,5 @@ pub happened_is : (g : Input) (old new : Log) (w : World) (turn : Turn) (found :
     → IsOver g old new w turn.event found → IsTurn g old new turn → number ≡ marks new → rows ≡ rows_of g old new → states ≡ states_of g old new
     → of_parts number turn.scheduled turn.round turn.event found rows states ≡ happened_at g old new
 happened_is g old new w turn found number rows states over at count told represent =
-    ap (λ x. of_parts x turn.scheduled turn.round turn.event found rows states) count
-    ∙ ap (λ x. of_parts (marks new) x turn.round turn.event found rows states) at.scheduled
-    ∙ ap (λ x. of_parts (marks new) (scheduled_at g old) x turn.event found rows states) at.round
-    ∙ ap (λ x. of_parts (marks new) (scheduled_at g old) (round_at g old) turn.event x rows states) over.found_is
-    ∙ ap (λ x. of_parts (marks new) (scheduled_at g old) (round_at g old) x (found_by x old new) rows states) over.event_is
-    ∙ ap (λ x. of_parts (marks new) (scheduled_at g old) (round_at g old) (last_event new) (found_by (last_event new) old new) x states) told
-    ∙ ap (of_parts (marks new) (scheduled_at g old) (round_at g old) (last_event new) (found_by (last_event new) old new) (rows_of g old new)) represent
+    (λ i. of_parts (count i) (at.scheduled i) (at.round i) turn.event (over.found_is i) rows states)
+    ∙ (λ i. of_parts (marks new) (scheduled_at g old) (round_at g old) (over.event_is i) (found_by (over.event_is i) old new) (told i) (represent i))

@@ -1,13 +1,5 @@
 -- Which events are left, and how many rounds were begun.
-use Rattle.std.proofs.Common.{ℕ, suc, ◌≡◌, ◌≢◌, ◌∙◌, refl, ap, sym, Bool, true, false, List, [], ◌∷◌, ◌++◌, Some, None, inl, inr}
-use Rattle.std.specs.Prelude.{◌⊎◌}
-use Rattle.sdd_obligations.specs.All.{Deliver, Does, Down, Event, Hand, Input, IsLawful, Log, Lose, Mark, Notes, Redeclare, Redeclares, Repeat, Resend, Round, Settle, Submit, Submitted, Tick, Up, after_mark, all_links, calls_of, left, marks, next, quiet, round}
-use Rattle.sdd_obligations.specs.logs.Entries.{Entry}
-use Rattle.sdd_obligations.specs.logs.Marks.{mark_from, mark_of}
-use Rattle.sdd_obligations.proofs.logs.Completing.{complete_parts}
-use Rattle.sdd_obligations.proofs.logs.Grows.{grows, mark_is_next, with_end}
-use Rattle.sdd_obligations.proofs.logs.Rounding.{no_events_quiet}
-use Rattle.sdd_watch.specs.Happens.{rounds, unless_in_round}
+use Rattle.sdd_watch.proofs.All.{Bool, Does, Entry, Event, Hand, Input, IsLawful, List, Log, Mark, None, Notes, Redeclare, Redeclares, Round, Settle, Some, Submitted, Up, [], after_mark, all_links, ap, calls_of, complete_parts, false, grows, inl, inr, left, mark_from, mark_is_next, mark_of, marks, next, no_events_quiet, quiet, refl, round, rounds, suc, sym, true, unless_in_round, with_end, ℕ, ◌++◌, ◌∙◌, ◌∷◌, ◌≡◌, ◌≢◌, ◌⊎◌}
 use Rattle.sdd_watch.proofs.EachEvent.{event_of, one_only}
 
 -- A round begins where no round is in progress and the links aren't quiet, and it has an event.
@@ -18,19 +10,10 @@ pub record BeginsRound (g : Input) (log : Log) (es : List Event) : Type 0 where
   pub is_loud : quiet (all_links g) (calls_of log) ≡ false
 
 round_from : (g : Input) (log : Log) (q : Bool) (r ws es : List Event) → mark_from g log q r ws ≡ Some (Round es) → (q ≡ false) × (r ≡ es) × (ws ≢ [])
-round_from g log q r [] es h = cc
 round_from g log true r (Settle ∷ ws) es h = let i = round_from g log true r ws es h in absurd (let no = i.0 in cc)
 round_from g log false r (Settle ∷ ws) es h = (refl, (let p : r ≡ es = cc in p), λ e. cc)
-round_from g log true r (Redeclare ∷ ws) es h = cc
 round_from g log false r (Redeclare ∷ ws) es h = (refl, (let p : r ≡ es = cc in p), λ e. cc)
-round_from g log q r (Submit n ∷ ws) es h = cc
-round_from g log q r (Deliver a b k ∷ ws) es h = cc
-round_from g log q r (Lose a b k ∷ ws) es h = cc
-round_from g log q r (Repeat a b k ∷ ws) es h = cc
-round_from g log q r (Resend a b ∷ ws) es h = cc
-round_from g log q r (Tick t k ∷ ws) es h = cc
-round_from g log q r (Down d ∷ ws) es h = cc
-round_from g log q r (Up d ∷ ws) es h = cc
+round_from g log _ r _ es h = cc
 
 round_of : (g : Input) (log : Log) (s : List Event × List Event) (es : List Event) → mark_of g log s ≡ Some (Round es)
     → (s.1 ≡ []) × (s.0 ≢ []) × (es ≢ []) × (quiet (all_links g) (calls_of log) ≡ false)
@@ -59,25 +42,14 @@ no_rounds_begun g (Mark e ∷ log) l h = marked (left g.events log) (λ none. no
     marked (ws, x ∷ r) before none = before none
 no_rounds_begun g (Redeclares t ∷ log) l h = refl
 no_rounds_begun g (Round es ∷ log) l h = absurd ((begins_round g log es l.0).some_left h)
-no_rounds_begun g (Hand a b n m ∷ log) l h = no_rounds_begun g log l.1 h
-no_rounds_begun g (Submitted a n ∷ log) l h = no_rounds_begun g log l.1 h
-no_rounds_begun g (Notes ∷ log) l h = no_rounds_begun g log l.1 h
-no_rounds_begun g (Does a act ∷ log) l h = no_rounds_begun g log l.1 h
+no_rounds_begun g (_ ∷ log) l h = no_rounds_begun g log l.1 h
 
 -- where a log is complete and the links aren't quiet, nothing is left
 
 none_from : (g : Input) (log : Log) (r ws : List Event) → mark_from g log false r ws ≡ None → ws ≡ []
 none_from g log r [] h = refl
-none_from g log r (Settle ∷ ws) h = cc
-none_from g log r (Redeclare ∷ ws) h = cc
-none_from g log r (Submit n ∷ ws) h = cc
-none_from g log r (Deliver a b k ∷ ws) h = cc
-none_from g log r (Lose a b k ∷ ws) h = cc
-none_from g log r (Repeat a b k ∷ ws) h = cc
-none_from g log r (Resend a b ∷ ws) h = cc
-none_from g log r (Tick t k ∷ ws) h = cc
-none_from g log r (Down d ∷ ws) h = cc
 none_from g log r (Up d ∷ ws) h = cc
+none_from g log r (_ ∷ ws) h = cc
 
 none_of : (g : Input) (log : Log) (s : List Event × List Event) → quiet (all_links g) (calls_of log) ≡ false → mark_of g log s ≡ None
     → s ≡ ([], [])
@@ -110,11 +82,7 @@ pub left_above : (events : List Event) (m : Log) (x : Entry) (e : Event) (log : 
 left_above events [] x e log h k = refl
 left_above events (Mark f ∷ m) x e log h k = absurd (one_only m x e log h k)
 left_above events (Redeclares t ∷ m) x e log h k = absurd (one_only m x e log h k)
-left_above events (Round es ∷ m) x e log h k = left_above events m x e log h k
-left_above events (Hand a b n y ∷ m) x e log h k = left_above events m x e log h k
-left_above events (Submitted a n ∷ m) x e log h k = left_above events m x e log h k
-left_above events (Notes ∷ m) x e log h k = left_above events m x e log h k
-left_above events (Does a act ∷ m) x e log h k = left_above events m x e log h k
+left_above events (_ ∷ m) x e log h k = left_above events m x e log h k
 
 -- By how many rounds were begun, and what is left of the last one, now and before: none was begun since
 pub record NoneBegun (now before : ℕ) (left_now left_before : List Event) : Type 0 where
@@ -142,10 +110,7 @@ rounds_above g (Round es ∷ m) x e log l h k =
       | inl none ↦ inr (record { some = b.some; none = sym none.round_is ∙ b.no_round })
       | inr one ↦ absurd (one.some b.no_round)
     ]
-rounds_above g (Hand a b n y ∷ m) x e log l h k = rounds_above g m x e log l.1 h k
-rounds_above g (Submitted a n ∷ m) x e log l h k = rounds_above g m x e log l.1 h k
-rounds_above g (Notes ∷ m) x e log l h k = rounds_above g m x e log l.1 h k
-rounds_above g (Does a act ∷ m) x e log l h k = rounds_above g m x e log l.1 h k
+rounds_above g (_ ∷ m) x e log l h k = rounds_above g m x e log l.1 h k
 
 -- where as many events of the round are left as behind the mark, no round was begun
 pub rounds_stay : (g : Input) (m : Log) (x : Entry) (e : Event) (log : Log) → IsLawful g (m ++ x ∷ log) → event_of x ≡ Some e
@@ -158,16 +123,10 @@ rounds_stay g m x e log l h k same =
 pub no_mark_more : (g : Input) (m log : Log) → IsLawful g (m ++ log) → left g.events log ≡ ([], [])
     → (marks (m ++ log) ≡ marks log) × (left g.events (m ++ log) ≡ ([], []))
 no_mark_more g [] log l h = (refl, h)
-no_mark_more g (Mark e ∷ m) log l h =
-    let i = no_mark_more g m log l.1 h in
-    let no : None ≡ Some (Mark e) = sym (ap (mark_of g (m ++ log)) i.1) ∙ mark_is_next g (m ++ log) (Mark e) refl l.0 in absurd cc
-no_mark_more g (Redeclares t ∷ m) log l h =
-    let i = no_mark_more g m log l.1 h in
-    let no : None ≡ Some (Redeclares t) = sym (ap (mark_of g (m ++ log)) i.1) ∙ mark_is_next g (m ++ log) (Redeclares t) refl l.0 in absurd cc
-no_mark_more g (Round es ∷ m) log l h =
-    let i = no_mark_more g m log l.1 h in
-    let no : None ≡ Some (Round es) = sym (ap (mark_of g (m ++ log)) i.1) ∙ mark_is_next g (m ++ log) (Round es) refl l.0 in absurd cc
 no_mark_more g (Hand a b n x ∷ m) log l h = no_mark_more g m log l.1 h
 no_mark_more g (Submitted a n ∷ m) log l h = no_mark_more g m log l.1 h
 no_mark_more g (Notes ∷ m) log l h = no_mark_more g m log l.1 h
 no_mark_more g (Does a act ∷ m) log l h = no_mark_more g m log l.1 h
+no_mark_more g (x ∷ m) log l h =
+    let i = no_mark_more g m log l.1 h in
+    let no : None ≡ Some x = sym (ap (mark_of g (m ++ log)) i.1) ∙ mark_is_next g (m ++ log) x refl l.0 in absurd cc

@@ -1,12 +1,5 @@
 -- What is kept beside links, queues and pipes stays where these change.
-use Rattle.std.proofs.Common.{ℕ, ◌≡◌, ◌∙◌, List, ◌++◌, drop, length, map, take, ap, subst, sym}
-use Rattle.std.proofs.Math.Seq.{take-append_seam}
-use Rattle.std.proofs.lemmas.List.{length-map}
-use Rattle.sdd_obligations.specs.All.{Input, Log, history}
-use Rattle.sdd_watch.specs.Watching.{AreCommits, AreDones, Knows, Watches}
-use Rattle.sdd_watch.specs.declared.commits.Commits.{Commits}
-use Rattle.sdd_watch.specs.declared.dones.Dones.{Dones}
-use Rattle.sdd_watch.specs.declared.watch.Watch.{Watch}
+use Rattle.sdd_watch.proofs.All.{AreCommits, AreDones, Commits, Dones, Input, Knows, List, Log, Watch, Watches, ap, drop, history, length, length-map, map, subst, sym, take, take-append_seam, ℕ, ◌++◌, ◌∙◌, ◌≡◌}
 
 pub known : (g : Input) (log : Log) (w : Watch) → Watches g log w → Knows g log w
 known g log w h = record { sites = h.sites; records = h.records; commits = h.commits; dones = h.dones }

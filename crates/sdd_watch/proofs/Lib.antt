@@ -1,3 +1,4 @@
+mod All
 pub mod Apart
 pub mod AtD
 pub mod AtT

@@ -1,15 +1,6 @@
 -- A look at each link, one after the other.
-use Rattle.std.proofs.Common.{◌≡◌, ◌∙◌, ℕ, ◌+◌, ◌<◌, ◌≤◌, List, [], ◌∷◌, ◌++◌, length, map, filter_map, take, get_or, slice_set, ap, arith, subst, sym}
-use Rattle.std.specs.List.{cons_option}
-use Rattle.std.proofs.lemmas.List.{length-map}
-use Rattle.sdd_obligations.specs.All.{Input, IsLinkOf, Log, Site, all_links}
-use Rattle.sdd_obligations.proofs.OfNext.{link_of_links}
-use Rattle.sdd_inside.specs.declared.moment.LinkMoment.{LinkMoment}
-use Rattle.sdd_watch.specs.Watching.{arrived, arrived_on, link_after, link_before, seen_between, watched_link}
-use Rattle.sdd_watch.specs.declared.watched_link.Arrived.{Arrived}
-use Rattle.sdd_watch.specs.declared.watched_link.LinkSeen.{LinkSeen}
-use Rattle.sdd_watch.specs.declared.watched_link.WatchedLink.{WatchedLink}
-use Rattle.sdd_watch.proofs.Visited.{PlaceAt, all_changed, changed_to, mapped_last, picked_last, place_at, take_past}
+use Rattle.sdd_watch.proofs.All.{Arrived, Input, IsLinkOf, LinkMoment, LinkSeen, List, Log, Site, WatchedLink, [], all_links, ap, arith, arrived, arrived_on, cons_option, filter_map, get_or, length, length-map, link_after, link_before, link_of_links, map, seen_between, slice_set, subst, sym, take, take_all, watched_link, ℕ, ◌++◌, ◌+◌, ◌<◌, ◌∙◌, ◌∷◌, ◌≡◌, ◌≤◌}
+use Rattle.sdd_watch.proofs.Visited.{PlaceAt, all_changed, changed_to, mapped_last, picked_last, place_at}
 
 -- of the first so many links what is kept and was seen
 pub record LinksSoFar (g : Input) (old new : Log) (i : ℕ) (links : List WatchedLink) (before after : List LinkMoment) (come : List Arrived) : Type 0 where
@@ -80,7 +71,7 @@ pub links_over : (g : Input) (old new : Log) (begun links : List WatchedLink) (i
     → LinksOver g old new links before after come
 links_over g old new begun links i before after come e past s =
     let n = ap length e ∙ length-map (all_links g) (watched_link old) in
-    let all : take i (all_links g) ≡ all_links g = take_past i (all_links g) (omega (arith, past, n)) in
+    let all : take i (all_links g) ≡ all_links g = take_all i (all_links g) (omega (arith, past, n)) in
     record {
       links_are = s.links_are ∙ all_changed (watched_link old) (watched_link new) i (all_links g) (omega (arith, past, n));
       before_are = s.before_are ∙ ap (map (link_before old)) all;

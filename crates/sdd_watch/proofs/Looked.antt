@@ -1,12 +1,5 @@
 -- A look at a link, at what is read of it in the world.
-use Rattle.std.proofs.Common.{ℕ, ◌≡◌, ◌∙◌, Bool, List, length, drop, ap, refl, subst, sym}
-use Rattle.sdd_obligations.specs.All.{Event, Input, IsGood, IsLinkOf, Log, Msg, Packet, Site, handed, link_of, sent}
-use Rattle.sdd_inside.specs.declared.delta.Found.{Found}
-use Rattle.sdd_watch.specs.Happens.{found_by, last_event}
-use Rattle.sdd_watch.specs.Looking.{advanced, seen_with}
-use Rattle.sdd_watch.specs.Watching.{IsBetween, is_taken, left_between, left_of, seen_between, watched_link}
-use Rattle.sdd_watch.specs.declared.watched_link.LinkSeen.{LinkSeen}
-use Rattle.sdd_watch.specs.declared.watched_link.WatchedLink.{WatchedLink}
+use Rattle.sdd_watch.proofs.All.{Bool, Event, Found, Input, IsBetween, IsGood, IsLinkOf, LinkSeen, List, Log, Msg, Packet, Site, WatchedLink, advanced, ap, drop, found_by, handed, is_taken, last_event, left_between, left_of, length, link_of, refl, seen_between, seen_with, sent, subst, sym, watched_link, ℕ, ◌∙◌, ◌≡◌}
 use Rattle.sdd_watch.proofs.Between.{link_advances, link_seen}
 
 keeps : (g : Input) (old new : Log) (l : Site × Site) (w next : WatchedLink) (left put over : ℕ) (news : List (Packet Msg)) → IsGood g
@@ -14,24 +7,14 @@ keeps : (g : Input) (old new : Log) (l : Site × Site) (w next : WatchedLink) (l
     → news ≡ drop (left_between old new l) (link_of l.0 l.1 new).there.flight → put ≡ length (sent l.0 l.1 new) → over ≡ handed l.0 l.1 new
     → next ≡ advanced left news put over w → next ≡ watched_link new l
 keeps g old new l w next left put over news good b is stay packets count given e =
-    e ∙ ap (advanced left news put over) is
-    ∙ ap (λ n. advanced n news put over (watched_link old l)) stay
-    ∙ ap (λ ps. advanced (left_between old new l) ps put over (watched_link old l)) packets
-    ∙ ap (λ n. advanced (left_between old new l) (drop (left_between old new l) (link_of l.0 l.1 new).there.flight) n over (watched_link old l)) count
-    ∙ ap (λ n. advanced (left_between old new l) (drop (left_between old new l) (link_of l.0 l.1 new).there.flight)
-    (length (sent l.0 l.1 new)) n (watched_link old l)) given
-    ∙ link_advances g old new l good b
+    e ∙ (λ i. advanced (stay i) (packets i) (count i) (given i) (is i)) ∙ link_advances g old new l good b
 
 sees : (g : Input) (old new : Log) (l : Site × Site) (w : WatchedLink) (seen : LinkSeen) (put over : ℕ) (news : List (Packet Msg)) → IsGood g
     → IsBetween g old new → w ≡ watched_link old l
     → news ≡ drop (left_between old new l) (link_of l.0 l.1 new).there.flight → put ≡ length (sent l.0 l.1 new) → over ≡ handed l.0 l.1 new
     → seen ≡ seen_with news put over w → seen ≡ seen_between old new l
 sees g old new l w seen put over news good b is packets count given e =
-    e ∙ ap (seen_with news put over) is
-    ∙ ap (λ ps. seen_with ps put over (watched_link old l)) packets
-    ∙ ap (λ n. seen_with (drop (left_between old new l) (link_of l.0 l.1 new).there.flight) n over (watched_link old l)) count
-    ∙ ap (λ n. seen_with (drop (left_between old new l) (link_of l.0 l.1 new).there.flight) (length (sent l.0 l.1 new)) n (watched_link old l)) given
-    ∙ link_seen g old new l good b
+    e ∙ (λ i. seen_with (packets i) (count i) (given i) (is i)) ∙ link_seen g old new l good b
 
 -- What is read at one look: of the event whether it took a packet, how many packets are left, what stands behind them, and how
 -- many messages are put and handed over.

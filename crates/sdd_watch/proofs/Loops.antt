@@ -1,10 +1,7 @@
 -- Loops: what was made and what is left to make is all of it.
-use Rattle.std.proofs.Common.{◌≡◌, ℕ, ◌+◌, ◌<◌, ◌≤◌, List, Option, flat_map, [], ◌∷◌, ◌++◌, length, map, filter_map, get_or, drop, refl, sym, ap, ◌∙◌, append_assoc, append-nil, drop-cons, add-one}
-use Rattle.std.proofs.lemmas.List.{drop_all}
-use Rattle.std.proofs.lemmas.List.Elements.{filter_map-append}
-use Rattle.sdd_obligations.proofs.net.SiteLists.{all_links_more}
+use Rattle.sdd_watch.proofs.All.{List, Option, [], add-one, all_links_more, ap, append-nil, append_assoc, drop, drop-cons, drop_all, filter_map, filter_map-append, flat_map, get_or, length, map, refl, sym, ℕ, ◌++◌, ◌+◌, ◌<◌, ◌∙◌, ◌∷◌, ◌≡◌, ◌≤◌}
 
-next : {A : Type 0} (xs : List A) (x : A) (i : ℕ) → i < length xs → x ≡ get_or xs i x → drop i xs ≡ x ∷ drop (i + 1) xs
+pub next : {A : Type 0} (xs : List A) (x : A) (i : ℕ) → i < length xs → x ≡ get_or xs i x → drop i xs ≡ x ∷ drop (i + 1) xs
 next xs x i lt is = rw (drop-cons xs i x, ← is, add-one) refl
 
 -- an image more, and all images
@@ -14,10 +11,6 @@ pub mapped_more : {A B : Type 0} (f : A → B) (xs : List A) (x : A) (out now to
 mapped_more f xs x out now total i lt is push e =
     ap (λ l. l ++ map f (drop (i + 1) xs)) push
     ∙ append_assoc out (f x ∷ []) (map f (drop (i + 1) xs)) ∙ ap (λ l. out ++ map f l) (sym (next xs x i lt is)) ∙ e
-
-pub mapped_end : {A B : Type 0} (f : A → B) (xs : List A) (out total : List B) (i : ℕ) → length xs ≤ i
-    → out ++ map f (drop i xs) ≡ total → out ≡ total
-mapped_end f xs out total i past e = sym (append-nil out) ∙ ap (λ l. out ++ map f l) (sym (drop_all i xs past)) ∙ e
 
 -- what one item gives, and what all give
 

@@ -1,8 +1,5 @@
 -- Lists that are made of the members of another one.
-use Rattle.std.proofs.Common.{List, Option, [], ap, arith, map, refl, sym, ℕ, ◌++◌, ◌+◌, ◌∙◌, ◌∷◌, ◌≡◌}
-use Rattle.std.specs.List.{cons_option, filter_map, range_with_len}
-use Rattle.std.proofs.lemmas.List.Elements.{filter_map-append}
-use Rattle.std.proofs.lemmas.List.FromFn.{map-range_with_len_more}
+use Rattle.sdd_watch.proofs.All.{List, Option, [], ap, arith, cons_option, filter_map, filter_map-append, map, map-range_with_len_more, range_with_len, refl, sym, ℕ, ◌++◌, ◌+◌, ◌∙◌, ◌∷◌, ◌≡◌}
 
 pub picked_map : {A B C : Type 0} (f : B → Option C) (g : A → B) (xs : List A) → filter_map f (map g xs) ≡ filter_map (λ x. f (g x)) xs
 picked_map f g [] = refl

@@ -1,15 +1,6 @@
 -- The messages of a link with their numbers: those up to a number, those behind it, and those that are put later.
-use Rattle.std.proofs.Common.{ℕ, zero, suc, ◌+◌, ◌-◌, ◌≤◌, ◌≡◌, ◌∙◌, true, false, cond, if◌then◌else◌, List, [], ◌∷◌, ◌++◌, length, take, drop, filter, filter_map, option_map, nat_lt, Option, Some, None, ap, arith, le-leb, refl, sym}
-use Rattle.std.specs.List.{cons_option}
-use Rattle.std.proofs.Math.Seq.{drop-append_seam}
-use Rattle.std.proofs.lemmas.Bool.{lt-leb}
-use Rattle.std.proofs.lemmas.List.{drop-append-le, drop-drop, drop-take}
-use Rattle.std.proofs.lemmas.List.Elements.{filter_map-append}
-use Rattle.sdd_obligations.specs.All.{Ack, Message, Msg, Packet}
-use Rattle.sdd_obligations.specs.net.Links.{Way, numbered}
-use Rattle.sdd_watch.specs.Awaiting.{behind, purpose_of, purposed, purposed_above, up_to}
-use Rattle.sdd_watch.specs.declared.waiting.Purpose.{Purpose}
-use Rattle.sdd_watch.proofs.Flights.{Grows, is_above, length_numbered, numbered_join}
+use Rattle.sdd_watch.proofs.All.{Ack, List, Message, Msg, None, Option, Packet, Purpose, Some, Way, [], ap, arith, behind, cond, cons_option, drop, drop-append-le, drop-append_seam, drop-drop, drop-take, false, filter, filter_map, filter_map-append, if◌then◌else◌, le-leb, length, lt-leb, nat_lt, numbered, option_map, purpose_of, purposed, purposed_above, refl, suc, sym, take, true, up_to, zero, ℕ, ◌++◌, ◌+◌, ◌-◌, ◌∙◌, ◌∷◌, ◌≡◌, ◌≤◌}
+use Rattle.sdd_watch.proofs.Flights.{Grows, is_above, length_numbered, numbered_join, length_joined as length_of_both}
 
 abbrev numbers_of : ℕ → List Msg → List (ℕ × Purpose)
 numbers_of k ms = filter_map purposed (numbered k ms)
@@ -118,16 +109,9 @@ noted h left old new l g =
     ∙ ap (filter_map purposed) (sym (drop-append-le h (numbered 0 old.sent) (numbered k g.more) within)
     ∙ ap (drop h) (sym (joined old.sent g.more) ∙ ap (numbered 0) (sym g.sent_is)))
 
-length_of_both : {A : Type 0} (xs ys : List A) → length (xs ++ ys) ≡ length xs + length ys
-length_of_both [] ys = let e : length ys ≡ 0 + length ys = omega arith in e
-length_of_both (x ∷ xs) ys = let i = length_of_both xs ys in omega (arith, i)
-
 -- and how many packets are in flight
 pub flying : (left : ℕ) (old new : Way Msg) → Grows old new left → left + length (drop left new.flight) ≡ length new.flight
 flying left old new g =
     let behind_left : drop left new.flight ≡ g.added =
     ap (λ n. drop n new.flight) (sym g.left_is) ∙ ap (drop (length g.kept)) g.flight_is ∙ drop-append_seam g.kept g.added in
-    let count : length new.flight ≡ length g.kept + length g.added = ap length g.flight_is ∙ length_of_both g.kept g.added in
-    let same = ap length behind_left in
-    let l = g.left_is in
-    omega (arith, count, same, l)
+    omega (arith, (ap length g.flight_is ∙ length_of_both g.kept g.added), ap length behind_left, g.left_is)

@@ -1,13 +1,5 @@
 -- The pipes before the first event: a pipe more of a data module, and a data module more.
-use Rattle.std.proofs.Common.{◌≡◌, ◌∙◌, ℕ, ◌+◌, ◌-◌, ◌≤◌, List, [], ◌∷◌, ◌++◌, flat_map, length, map, suc, ap, append-nil, append_assoc, arith, sym}
-use Rattle.std.specs.List.{range_with_len}
-use Rattle.std.proofs.lemmas.List.{map-append, map-id}
-use Rattle.std.proofs.lemmas.List.Concat.{flat_map-append}
-use Rattle.std.proofs.lemmas.List.FromFn.{map-range_with_len_more}
-use Rattle.sdd_obligations.specs.All.{ClassNo, DmNo, Input, Site, numbers_to}
-use Rattle.sdd_watch.specs.Moments.{all_pipes, pipes_at_module, source}
-use Rattle.sdd_watch.specs.Watching.{watched_pipe}
-use Rattle.sdd_watch.specs.declared.watched_pipe.WatchedPipe.{WatchedPipe}
+use Rattle.sdd_watch.proofs.All.{ClassNo, DmNo, Input, List, Site, WatchedPipe, [], all_pipes, ap, append-nil, append_assoc, arith, flat_map, flat_map-append, length, map, map-append, map-id, map-range_with_len_more, numbers_to, pipes_at_module, range_with_len, source, suc, sym, watched_pipe, ℕ, ◌++◌, ◌+◌, ◌-◌, ◌∙◌, ◌∷◌, ◌≡◌, ◌≤◌}
 
 -- of a data module those of the first so many classes, counted from 0
 abbrev pub first_classes : ℕ → ℕ → List (ℕ × ℕ)
@@ -24,9 +16,7 @@ class_more g d c at begun old new is e push =
     let f = watched_pipe g [] in
     let further : first_classes d.0 (c.0 + 1) ≡ first_classes d.0 c.0 ++ (d.0, c.0) ∷ [] =
     map-range_with_len_more (λ (k : ℕ). (d.0, k)) 0 c.0 c.0 (omega arith) in
-    push ∙ ap (λ ws. ws ++ empty_pipe d c at ∷ []) e
-    ∙ ap (λ (x : Site). (begun ++ map f (first_classes d.0 c.0)) ++ empty_pipe d c x ∷ []) is
-    ∙ append_assoc begun (map f (first_classes d.0 c.0)) (f (d.0, c.0) ∷ [])
+    push ∙ (λ i. e i ++ empty_pipe d c (is i) ∷ []) ∙ append_assoc begun (map f (first_classes d.0 c.0)) (f (d.0, c.0) ∷ [])
     ∙ ap (λ ws. begun ++ ws) (sym (map-append f (first_classes d.0 c.0) ((d.0, c.0) ∷ [])) ∙ ap (map f) (sym further))
 
 pub classes_done : (g : Input) (d : DmNo) (n : ℕ) (begun now : List WatchedPipe) → n ≡ suc (length g.catalogue.classes)

@@ -1,24 +1,10 @@
 -- A look at a pipe, at what is read of it in the world.
-use Rattle.std.proofs.Common.{◌≡◌, ◌∙◌, ℕ, ◌+◌, ◌-◌, ◌≤◌, List, Option, Some, None, [], length, drop, map, ap, arith, refl, subst}
-use Rattle.sdd_obligations.specs.All.{D, DmNo, Input, IsGood, IsSiteOf, Kept, Log, Msg, Pipe, Setting, Ts, class_no, dm_no, head_of, local_of, pipe, setting_of, time_at, time_of}
-use Rattle.sdd_obligations.specs.dm.Due.{or_zero}
-use Rattle.sdd_obligations.specs.dm.State.{State}
-use Rattle.sdd_obligations.specs.pipe.Digest.{Digest, IsDigest, passed_with}
-use Rattle.sdd_obligations.specs.pipe.Digest as digest
-use Rattle.sdd_obligations.specs.pipe.Pipe.{greatest}
-use Rattle.sdd_obligations.specs.pipe.Pipes.{pipe_at}
-use Rattle.sdd_obligations.specs.site_module.SiteLog as site
-use Rattle.sdd_obligations.proofs.logs.NewMarks.{lawful_permitted}
-use Rattle.sdd_inside.specs.declared.moment.PipeMoment.{PipeMoment}
-use Rattle.sdd_run.specs.world.Modules.{AllRepresent, LivesD, Represent}
-use Rattle.sdd_run.specs.world.declared.sites.Sites.{Sites}
-use Rattle.sdd_watch.specs.Looking.{numbers_for}
-use Rattle.sdd_watch.specs.Moments.{came, passed_to, source, time_passed}
-use Rattle.sdd_watch.specs.Watching.{IsBetween, arrived, pipe_after, pipe_before, watched_pipe}
-use Rattle.sdd_watch.specs.declared.watched_link.Arrived.{Arrived}
-use Rattle.sdd_watch.specs.declared.watched_pipe.WatchedPipe.{WatchedPipe}
+use Rattle.sdd_watch.proofs.All.{AllRepresent, Arrived, D, Digest, DmNo, Input, IsBetween, IsDigest, IsGood, IsSiteOf, Kept, List, LivesD, Log, Msg, None, Option, Pipe, PipeMoment, Setting, Sites, Some, State, Ts, WatchedPipe, [], ap, arith, arrived, came, class_no, dm_no, drop, greatest, head_of, lawful_permitted, length, local_of, map, numbers_for, or_zero, passed_to, passed_with, pipe, pipe_after, pipe_at, pipe_before, refl, setting_of, source, subst, time_at, time_of, time_passed, watched_pipe, ℕ, ◌+◌, ◌-◌, ◌∙◌, ◌≡◌, ◌≤◌}
 use Rattle.sdd_watch.proofs.Came.{all_came, came_is, more_came, processed_is}
 use Rattle.sdd_watch.proofs.Sourced.{source_there}
+use Rattle.sdd_run.specs.world.Modules.{Represent}
+use Rattle.sdd_obligations.specs.pipe.Digest as digest
+use Rattle.sdd_obligations.specs.site_module.SiteLog as site
 
 -- the pipe in the module
 
@@ -41,8 +27,7 @@ passed_by_head (Some m) processed = refl
 
 passed_told : (d : Digest) (p : Pipe) → IsDigest d p → or_zero (digest.passed_to d) ≡ passed_to p
 passed_told d p is =
-    ap (λ ms. or_zero (passed_with (head_of ms) d.latest)) is.unprocessed
-    ∙ ap (λ o. or_zero (passed_with (head_of p.unprocessed) o)) is.latest ∙ passed_by_head (head_of p.unprocessed) p.processed
+    (λ i. or_zero (passed_with (head_of (is.unprocessed i)) (is.latest i))) ∙ passed_by_head (head_of p.unprocessed) p.processed
 
 -- what is read of a pipe behind the event
 pub record IsRead (g : Input) (new : Log) (d c : ℕ) (unprocessed : ℕ) (passed : Ts) : Type 0 where
@@ -70,8 +55,7 @@ with_unprocessed w n = record w { unprocessed = n }
 
 pub pipe_kept : (g : Input) (old new : Log) (d c : ℕ) (w next : WatchedPipe) (unprocessed : ℕ) (passed : Ts) → w ≡ watched_pipe g old (d, c)
     → IsRead g new d c unprocessed passed → next ≡ record w { unprocessed = unprocessed } → next ≡ watched_pipe g new (d, c)
-pipe_kept g old new d c w next unprocessed passed is read e =
-    e ∙ ap (λ x. with_unprocessed x unprocessed) is ∙ ap (with_unprocessed (watched_pipe g old (d, c))) read.left
+pipe_kept g old new d c w next unprocessed passed is read e = e ∙ (λ i. with_unprocessed (is i) (read.left i))
 
 -- what is seen of it
 
@@ -81,9 +65,7 @@ moment_for w numbers processed passed = record { dm = w.dm; class = w.class; cam
 pub seen_before : (g : Input) (old new : Log) (d c : ℕ) (w : WatchedPipe) (unprocessed : ℕ) (passed : Ts) (moment : PipeMoment) (none : List ℕ)
     → w ≡ watched_pipe g old (d, c) → IsRead g new d c unprocessed passed → none ≡ []
     → moment ≡ record { dm = w.dm; class = w.class; came = none; processed = 0; passed = passed } → moment ≡ pipe_before g old new (d, c)
-seen_before g old new d c w unprocessed passed moment none is read z e =
-    e ∙ ap (λ x. moment_for x none 0 passed) is ∙ ap (λ ns. moment_for (watched_pipe g old (d, c)) ns 0 passed) z
-    ∙ ap (moment_for (watched_pipe g old (d, c)) [] 0) read.passed_is
+seen_before g old new d c w unprocessed passed moment none is read z e = e ∙ (λ i. moment_for (is i) (z i) 0 (read.passed_is i))
 
 -- what came is what was handed over on its link
 numbers_came : (g : Input) (old new : Log) (d c : ℕ) (w : WatchedPipe) (numbers : List ℕ) (here : List Arrived) → IsGood g → IsBetween g old new
@@ -105,8 +87,7 @@ count_processed g old new d c w numbers unprocessed count passed good b few is r
     let z = all_came g new d c (lawful_permitted g new good.once b.after.lawful) (omega (arith, few)) in
     let m = more_came g old new d c good b in
     e ∙ ap (λ (x : WatchedPipe). (x.unprocessed + length numbers) - unprocessed) is
-    ∙ ap (λ k. (length o.unprocessed + length numbers) - k) read.left
-    ∙ ap (λ xs. (length o.unprocessed + length xs) - length n.unprocessed) came_are
+    ∙ (λ i. (length o.unprocessed + length (came_are i)) - read.left i)
     ∙ processed_is (length o.unprocessed) (length n.unprocessed) (length o.processed) (length n.processed) (length (came g d c old)) (length (came g d c new))
     (length (drop (length (came g d c old)) (came g d c new))) a z m
 
@@ -116,10 +97,6 @@ pub seen_after : (g : Input) (old new : Log) (d c : ℕ) (w : WatchedPipe) (numb
     → count ≡ (w.unprocessed + length numbers) - unprocessed
     → moment ≡ record { dm = w.dm; class = w.class; came = numbers; processed = count; passed = passed } → moment ≡ pipe_after g old new (d, c)
 seen_after g old new d c w numbers unprocessed count passed moment here good b site few is all read came_are counted e =
-    let p : WatchedPipe = watched_pipe g old (d, c) in
     let news : numbers ≡ drop (length (came g d c old)) (came g d c new) = numbers_came g old new d c w numbers here good b site is all came_are in
-    e ∙ ap (λ x. moment_for x numbers count passed) is
-    ∙ ap (λ ns. moment_for p ns count passed) news
-    ∙ ap (λ k. moment_for p (drop (length (came g d c old)) (came g d c new)) k passed)
-    (count_processed g old new d c w numbers unprocessed count passed good b few is read news counted)
-    ∙ ap (moment_for p (drop (length (came g d c old)) (came g d c new)) (pipe_after g old new (d, c)).processed) read.passed_is
+    let many = count_processed g old new d c w numbers unprocessed count passed good b few is read news counted in
+    e ∙ (λ i. moment_for (is i) (news i) (many i) (read.passed_is i))

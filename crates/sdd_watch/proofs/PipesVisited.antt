@@ -1,16 +1,6 @@
 -- A look at each pipe, one after the other: the pipes before the place at hand are looked at.
-use Rattle.std.proofs.Common.{◌≡◌, ◌∙◌, inl, inr, ℕ, suc, ◌+◌, zero, ◌<◌, ◌≤◌, List, Some, drop, [], ◌∷◌, ◌++◌, length, flat_map, map, slice_get, take, get_or, slice_set, ap, arith, refl, subst, sym}
-use Rattle.std.proofs.lemmas.List.{drop-drop, drop-set-lt, get_or_default, length-map}
-use Rattle.sdd_obligations.specs.All.{D, Input, IsSiteOf, Log, dm_no, numbers_to, setting_of}
-use Rattle.sdd_obligations.specs.dm.Copies.{classes_of}
-use Rattle.sdd_obligations.proofs.tm.Lists.{of_map as in_mapped}
-use Rattle.sdd_obligations.proofs.Submitting.{le_true}
-use Rattle.sdd_obligations.proofs.invariants.Lists.{in_either, in_range}
-use Rattle.sdd_inside.specs.declared.moment.PipeMoment.{PipeMoment}
-use Rattle.sdd_watch.specs.Moments.{all_pipes, pipes_at_module}
-use Rattle.sdd_watch.specs.Watching.{pipe_after, pipe_before, watched_pipe}
-use Rattle.sdd_watch.specs.declared.watched_pipe.WatchedPipe.{WatchedPipe}
-use Rattle.sdd_watch.proofs.Visited.{PlaceAt, all_changed, changed_to, mapped_last, place_at, take_past}
+use Rattle.sdd_watch.proofs.All.{D, Input, IsSiteOf, List, Log, PipeMoment, Some, WatchedPipe, [], all_pipes, ap, arith, classes_of, dm_no, drop, drop-drop, drop-set-lt, flat_map, get_or, get_or_default, in_either, in_mapped, in_range, inl, inr, le_true, length, length-map, map, numbers_to, pipe_after, pipe_before, pipes_at_module, refl, setting_of, slice_get, slice_set, subst, suc, sym, take, take_all, watched_pipe, zero, ℕ, ◌++◌, ◌+◌, ◌<◌, ◌∙◌, ◌∷◌, ◌≡◌, ◌≤◌}
+use Rattle.sdd_watch.proofs.Visited.{PlaceAt, all_changed, changed_to, mapped_last, place_at}
 
 -- the pipes of a run: of each data module and each class
 
@@ -125,7 +115,7 @@ pub pipes_over : (g : Input) (old new : Log) (begun pipes : List WatchedPipe) (i
     → PipesOver g old new pipes before after
 pipes_over g old new begun pipes i before after e past s =
     let n = ap length e ∙ length-map (all_pipes g) (watched_pipe g old) in
-    let all : take i (all_pipes g) ≡ all_pipes g = take_past i (all_pipes g) (omega (arith, past, n)) in
+    let all : take i (all_pipes g) ≡ all_pipes g = take_all i (all_pipes g) (omega (arith, past, n)) in
     record {
       pipes_are = s.pipes_are ∙ all_changed (watched_pipe g old) (watched_pipe g new) i (all_pipes g) (omega (arith, past, n));
       before_are = s.before_are ∙ ap (map (pipe_before g old new)) all;

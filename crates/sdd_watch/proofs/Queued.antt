@@ -1,18 +1,11 @@
 -- The queues of classes, by what their modules keep.
-use Rattle.std.proofs.Common.{ℕ, ◌+◌, ◌-◌, ◌≤◌, ◌≡◌, ◌∙◌, List, [], ◌∷◌, ◌++◌, flat_map, map, ap, subst, sym}
-use Rattle.std.proofs.lemmas.Simd.{map-map}
-use Rattle.sdd_obligations.specs.All.{Catalogue, Input, IsSiteOf, Kept, Log, Setting, T, TmNo, U, local_of, numbers_to, runs, setting_of}
-use Rattle.sdd_obligations.specs.attempt.Lines.{Line}
+use Rattle.sdd_watch.proofs.All.{Catalogue, Input, IsSiteOf, Kept, Line, List, Log, QueueMoment, Setting, T, TmNo, U, [], ap, each_more, flat_map, local_of, map, map-map, numbers_to, queue_in, queue_moment, queue_of, queues_at, runs, setting_of, subst, sym, t_site, ℕ, ◌++◌, ◌+◌, ◌-◌, ◌∙◌, ◌∷◌, ◌≡◌, ◌≤◌}
+use Rattle.sdd_obligations.proofs.graph.Lists.{up_to}
 use Rattle.sdd_obligations.specs.site_module.SiteLog as site
 use Rattle.sdd_obligations.specs.tm.Represents as tm
 use Rattle.sdd_obligations.specs.tm.State as tm_state
 use Rattle.sdd_obligations.specs.umod.Represents as um
 use Rattle.sdd_obligations.specs.umod.State as um_state
-use Rattle.sdd_obligations.proofs.graph.Lists.{each_more, up_to}
-use Rattle.sdd_run.proofs.progress.Still.{t_site}
-use Rattle.sdd_inside.specs.declared.moment.QueueMoment.{QueueMoment}
-use Rattle.sdd_watch.specs.Looking.{queue_in, queue_of}
-use Rattle.sdd_watch.specs.Moments.{queue_moment, queues_at}
 
 pub queues_told : (g : Input) (log : Log) (t : TmNo) (k : Kept tm_state.State) → tm.Represents k (setting_of g (T t)) (local_of g (T t) log)
     → map queue_in k.value.classes ≡ queues_at g log t.0

@@ -1,8 +1,5 @@
 -- The records before an event are the first of those behind it.
-use Rattle.std.proofs.Common.{◌≡◌, ◌∙◌, [], ◌∷◌, ◌++◌, length, take, ap, append-nil, append_assoc, refl, sym}
-use Rattle.std.proofs.Math.Seq.{take-append_seam}
-use Rattle.sdd_obligations.specs.All.{Does, Hand, History, Input, Log, Mark, Notes, Redeclares, Round, Submitted, history}
-use Rattle.sdd_watch.specs.Watching.{IsBetween}
+use Rattle.sdd_watch.proofs.All.{Does, History, Input, IsBetween, Log, Notes, Submitted, [], ap, append-nil, append_assoc, history, length, refl, sym, take, take-append_seam, ◌++◌, ◌∙◌, ◌∷◌, ◌≡◌}
 use Rattle.sdd_watch.proofs.Between.{joined_more}
 
 abbrev Ends : Log → Log → Type 0
@@ -13,13 +10,10 @@ further more log x all e is = (e.0 ++ x, is ∙ ap (λ h. h ++ x) e.1 ∙ append
 
 ends : (more log : Log) → Ends more log
 ends [] log = ([], sym (append-nil (history log)))
-ends (Mark e ∷ more) log = ends more log
-ends (Redeclares t ∷ more) log = ends more log
-ends (Round es ∷ more) log = ends more log
-ends (Hand from to n m ∷ more) log = ends more log
 ends (Submitted at n ∷ more) log = further more log _ (history (Submitted at n ∷ more ++ log)) (ends more log) refl
 ends (Notes ∷ more) log = further more log _ (history (Notes ∷ more ++ log)) (ends more log) refl
 ends (Does at act ∷ more) log = further more log _ (history (Does at act ∷ more ++ log)) (ends more log) refl
+ends (_ ∷ more) log = ends more log
 
 pub first_records : (g : Input) (old new : Log) → IsBetween g old new → take (length (history old)) (history new) ≡ history old
 first_records g old new b =

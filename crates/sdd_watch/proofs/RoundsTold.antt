@@ -1,18 +1,5 @@
 -- The rounds of a settle or a redeclare, told event by event, over plain worlds.
-use Rattle.std.proofs.Common.{ℕ, suc, ◌-◌, ◌+◌, ◌^◌, ◌<◌, ◌≤◌, ◌≡◌, ◌≢◌, ◌∙◌, refl, ap, sym, subst, arith, true, false, List, [], ◌∷◌, ◌++◌, length, Option, Some, None}
-use Rattle.std.specs.Prelude.{MatchOption}
-use Rattle.sdd_obligations.specs.All.{Deliver, Down, Event, Input, IsLawful, IsPossible, Log, Lose, MAX_RUN_EVENTS, Mark, Redeclare, Redeclares, Repeat, Resend, Round, Settle, Submit, Tick, Up, after_mark, all_links, calls_of, greatest_bound, left, marks, next, quiet, with_event}
-use Rattle.sdd_obligations.proofs.logs.Completing.{redeclare_next, settled}
-use Rattle.sdd_run.specs.world.Represents.{Represents, Rounding, Settling, events_of}
-use Rattle.sdd_run.specs.world.declared.world.World.{World}
-use Rattle.sdd_run.proofs.world.Rounds.{few, free, round_before, round_ends}
-use Rattle.sdd_watch.specs.Happens.{place_in, round_in, rounds, unless_in_round}
-use Rattle.sdd_watch.specs.ScheduleSoFar.{IsTold, TellsBetween, TellsRound, TellsSettled}
-use Rattle.sdd_watch.specs.Watching.{IsTellable, IsToTell, IsTurn, foreseen_by}
-use Rattle.sdd_watch.specs.declared.foreseen.Foreseen.{Foreseen}
-use Rattle.sdd_watch.specs.declared.foreseen.Foreseen.TheVariants.{Something}
-use Rattle.sdd_watch.specs.declared.teller.Teller.{Teller}
-use Rattle.sdd_watch.specs.declared.watch.Turn.{Turn}
+use Rattle.sdd_watch.proofs.All.{Event, Foreseen, Input, IsLawful, IsPossible, IsTellable, IsToTell, IsTold, IsTurn, List, Log, Mark, MatchOption, None, Option, Redeclare, Redeclares, Represents, Round, Rounding, Settle, Settling, Some, Something, Teller, TellsBetween, TellsRound, TellsSettled, Turn, World, [], after_mark, all_links, ap, arith, calls_of, events_of, false, few, foreseen_by, free, greatest_bound, left, length, marks, next, place_in, quiet, redeclare_next, refl, round_before, round_ends, round_in, rounds, settled, subst, suc, sym, true, unless_in_round, with_event, ℕ, ◌++◌, ◌+◌, ◌-◌, ◌<◌, ◌^◌, ◌∙◌, ◌∷◌, ◌≡◌, ◌≢◌, ◌≤◌}
 use Rattle.sdd_watch.proofs.EachEvent.{IsMarkedBetween, goes_on, is_between, last_is}
 use Rattle.sdd_watch.proofs.EventTold.{GetsTold, marked_to_end, tells_given, tells_on, tells_round, turn_at_end}
 use Rattle.sdd_watch.proofs.GivenMore.{one_longer, rounds_more}
@@ -63,16 +50,9 @@ some_event w g log e events r = (begins_round g log events r.calm.rests.lawful.0
 -- an event of it is carried out
 
 tellable_now : (g : Input) (e : Event) → IsPossible g e → IsTellable g e
-tellable_now g (Submit n) p = p
-tellable_now g (Deliver a b k) p = p
-tellable_now g (Lose a b k) p = p
-tellable_now g (Repeat a b k) p = p
-tellable_now g (Resend a b) p = p
-tellable_now g (Tick t n) p = p
-tellable_now g (Down d) p = p
-tellable_now g (Up d) p = p
 tellable_now g Settle p = absurd p
 tellable_now g Redeclare p = tt
+tellable_now g _ p = p
 
 module _ (w w2 : World) (g : Input) (log more : Log) (e ev : Event) (rest : List Event) (t : Teller) (place number : ℕ)
     (h : TellsRound w g log e (ev ∷ rest) t place number) (r : Rounding w2 g more e rest) (one : w2.marks ≡ suc w.marks) where
@@ -110,12 +90,7 @@ module _ (w w2 : World) (g : Input) (log more : Log) (e ev : Event) (rest : List
 
   -- the number of the round fits
   pub number_fits : number + 1 < 2 ^ 32
-  number_fits =
-      let most : w2.marks ≤ MAX_RUN_EVENTS = few w2 g more r.calm in
-      let now : w2.marks ≡ marks more = r.calm.marks_are in
-      let low : number ≤ marks log = h.few in
-      let grown = marks_one in
-      omega (arith, most, now, low, grown)
+  number_fits = omega (arith, few w2 g more r.calm, r.calm.marks_are, h.few, marks_one)
 
   -- it is to be told
   pub round_to_tell : (turn : Turn) (finds : Foreseen) → turn.event ≡ ev → turn.scheduled ≡ place → turn.round ≡ Some (number + 1)
@@ -196,20 +171,10 @@ module _ (w w2 : World) (g : Input) (log more : Log) (e : Event) (t t2 : Teller)
       at (x ∷ es) h k = omega (arith, k)
 
   pub rounds_fall : 2 ^ 32 - events_of w2 < 2 ^ 32 - events_of w
-  rounds_fall =
-      let most : w2.marks ≤ MAX_RUN_EVENTS = few w2 g more h.rounding.calm in
-      let now : w2.marks ≡ marks more = h.rounding.calm.marks_are in
-      let was : w.marks ≡ marks log = before.settling.calm.marks_are in
-      let rose = one_more in
-      omega (arith, most, now, was, rose)
+  rounds_fall = omega (arith, few w2 g more h.rounding.calm, h.rounding.calm.marks_are, before.settling.calm.marks_are, one_more)
 
   pub next_fits : number + 1 < 2 ^ 32
-  next_fits =
-      let most : w2.marks ≤ MAX_RUN_EVENTS = few w2 g more h.rounding.calm in
-      let now : w2.marks ≡ marks more = h.rounding.calm.marks_are in
-      let low : number ≤ marks log = before.few in
-      let rose = one_more in
-      omega (arith, most, now, low, rose)
+  next_fits = omega (arith, few w2 g more h.rounding.calm, h.rounding.calm.marks_are, before.few, one_more)
 
 -- the rounds are over
 pub settles : (w : World) (g : Input) (log : Log) (e : Event) (t : Teller) (place number : ℕ) → TellsBetween w g log e t place number

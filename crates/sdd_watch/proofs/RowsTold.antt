@@ -1,20 +1,5 @@
 -- The rows of items to which changes were applied, one change after the other.
-use Rattle.std.proofs.Common.{ℕ, ℤ, ◌-◌, ◌==◌, ◌<◌, ◌≤◌, ◌≡◌, ◌∙◌, max, pos, Bool, true, false, if◌then◌else◌, List, [], ◌∷◌, ◌++◌, flat_map, fold, length, map, slice_index_or, Option, Some, None, ap, arith, refl, sym}
-use Rattle.std.specs.List.{list_any}
-use Rattle.std.proofs.lemmas.List.{get_or_past, map-append}
-use Rattle.std.proofs.lemmas.List.Concat.{flat_map-append}
-use Rattle.std.proofs.lemmas.List.Elements.{filter-append}
-use Rattle.sdd_obligations.specs.All.{Apply, Catalogue, Change, D, DmNo, FragNo, Fragment, History, Input, IsSiteOf, IsSoundCatalogue, Kept, Log, Rec, Represent, TxnNo, has_copy, is_here, rel_no}
-use Rattle.sdd_obligations.specs.base.declared.value.Value.{Value}
-use Rattle.sdd_obligations.specs.copy.Contents.{Dated, latest, of_fragment}
-use Rattle.sdd_obligations.specs.copy.Copies.{Held, items_at}
-use Rattle.sdd_obligations.specs.copy.Items.{Items, row_in, row_of_item}
-use Rattle.sdd_obligations.specs.invariants.Steps.{changes_at}
-use Rattle.sdd_obligations.proofs.copy.Contents.{items_keep, shown}
-use Rattle.sdd_inside.specs.declared.delta.RowDelta.{RowDelta}
-use Rattle.sdd_run.proofs.progress.Still.{d_site}
-use Rattle.sdd_run.proofs.progress.lawful.Touched.{copy_module}
-use Rattle.sdd_watch.specs.Happens.{applied_by, applied_in, changes_applied, changes_of, is_of_item, row_by, row_left, row_told, with_row}
+use Rattle.sdd_watch.proofs.All.{Apply, Bool, Catalogue, Change, D, Dated, DmNo, FragNo, Fragment, Held, History, Input, IsSiteOf, IsSoundCatalogue, Items, Kept, List, Log, None, Option, Rec, Represent, RowDelta, Some, TxnNo, Value, [], ap, applied_by, applied_in, arith, changes_applied, changes_at, changes_of, copy_module, d_site, false, filter-append, flat_map, flat_map-append, fold, get_or as slice_index_or, get_or_past, has_copy, if◌then◌else◌, is_here, is_of_item, items_at, items_keep, latest, length, list_any, map, map-append, max, of_fragment, pos, refl, rel_no, row_by, row_in, row_left, row_of_item, row_told, shown, sym, true, with_row, ℕ, ℤ, ◌++◌, ◌-◌, ◌<◌, ◌==◌, ◌∙◌, ◌∷◌, ◌≡◌, ◌≤◌}
 use Rattle.sdd_watch.proofs.Folding.{Joins}
 
 -- copies of a fragment

@@ -1,28 +1,14 @@
 -- The DONEs that were handed over between two logs.
-use Rattle.std.proofs.Common.{ℕ, zero, suc, ◌≡◌, ◌∙◌, ◌==◌, ◌&&◌, ◌||◌, Bool, true, false, List, [], ◌∷◌, filter_map, slice_get, Some, ap, eq-eqb, refl, subst, sym}
-use Rattle.std.specs.List.{cons_option, list_any}
-use Rattle.std.proofs.lemmas.List.Folds.{list_any-append}
-use Rattle.sdd_obligations.specs.All.{Ack, D, Done, Input, IsGood, Log, Message, Msg, Packet, Site, T, U, all_links, dm_no}
-use Rattle.sdd_obligations.proofs.invariants.Bools.{not_both}
-use Rattle.sdd_obligations.proofs.OfNext.{IsThere}
-use Rattle.sdd_watch.specs.Awaiting.{purposed}
-use Rattle.sdd_watch.specs.Looking.{says, says_one}
-use Rattle.sdd_watch.specs.Moments.{handed_on}
-use Rattle.sdd_watch.specs.Watching.{IsBetween, arrived, arrived_on, handed_over, is_done_at}
-use Rattle.sdd_watch.specs.declared.waiting.Purpose.{Purpose}
-use Rattle.sdd_watch.specs.declared.watched_link.Arrived.{Arrived}
+use Rattle.sdd_watch.proofs.All.{Ack, Arrived, Bool, D, Done, Input, IsBetween, IsGood, IsThere, List, Log, Message, Msg, Packet, Purpose, Site, Some, U, [], all_links, and_false, ap, arrived, arrived_on, cons_option, dm_no, eq-eqb, false, filter_map, handed_over, is_done_at, list_any, list_any-append, not_both, purposed, refl, says, says_one, slice_get, subst, suc, sym, true, zero, ℕ, ◌&&◌, ◌==◌, ◌||◌, ◌∙◌, ◌∷◌, ◌≡◌}
 use Rattle.sdd_watch.proofs.Came.{arrived_if, handed_parts, here, messages, none_still, still, that_one}
+use Rattle.sdd_watch.proofs.Flights.{and_true}
+use Rattle.sdd_watch.specs.Moments.{handed_on}
 
 -- messages of data module n
 
 both_or : (x c r : Bool) → ((x && c) || (r && c)) ≡ ((x || r) && c)
-both_or true true r = refl
 both_or true false true = refl
-both_or true false false = refl
-both_or false true true = refl
-both_or false true false = refl
-both_or false false true = refl
-both_or false false false = refl
+both_or _ _ _ = refl
 
 said_one : (t d n k : ℕ) (m : Msg) (rest : List (ℕ × Purpose)) (more : List (Packet Msg))
     → list_any (says_one t d n) rest ≡ (list_any (is_done_at t) more && (n == d))
@@ -35,14 +21,6 @@ said t d n [] = refl
 said t d n (Message k m ∷ ps) = said_one t d n k m (filter_map purposed ps) ps (said t d n ps)
 said t d n (Ack upto ∷ ps) = said t d n ps
 
-and_true : (x : Bool) → (x && true) ≡ x
-and_true true = refl
-and_true false = refl
-
-and_false : (x : Bool) → (x && false) ≡ false
-and_false true = refl
-and_false false = refl
-
 -- of one link
 
 abbrev on : Log → Log → Site × Site → Arrived
@@ -53,10 +31,7 @@ of_other old new t d (D n) U e =
     let z : (n.0 == d) ≡ false = sym (and_true (n.0 == d)) ∙ e in
     said t d n.0 (handed_over old new (D n, U)) ∙ ap (λ c. list_any (is_done_at t) (handed_over old new (D n, U)) && c) z
     ∙ and_false (list_any (is_done_at t) (handed_over old new (D n, U)))
-of_other old new t d (D n) (T m) e = refl
-of_other old new t d (D n) (D m) e = refl
-of_other old new t d U b e = refl
-of_other old new t d (T n) b e = refl
+of_other old new t d _ _ e = refl
 
 of_this : (old new : Log) (t d : ℕ) → says t d (on old new (D (dm_no d), U)) ≡ list_any (is_done_at t) (handed_over old new (D (dm_no d), U))
 of_this old new t d =

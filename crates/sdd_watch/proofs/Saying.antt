@@ -1,18 +1,9 @@
 -- What is said by one message more, and by all.
-use Rattle.std.proofs.Common.{ℕ, ◌+◌, ◌<◌, ◌≤◌, ◌≡◌, ◌∙◌, ◌==◌, ◌&&◌, ◌||◌, cond, Bool, true, false, List, length, take, get_or, ap, refl, sym}
-use Rattle.std.specs.List.{list_any}
-use Rattle.sdd_obligations.specs.All.{Ts}
-use Rattle.sdd_watch.specs.Looking.{says_one}
-use Rattle.sdd_watch.specs.declared.waiting.Purpose.{Purpose}
-use Rattle.sdd_watch.specs.declared.waiting.Purpose.TheVariants.{Applied}
-use Rattle.std.proofs.lemmas.List.{take_all}
-use Rattle.std.proofs.lemmas.List.Folds.{list_any_more}
+use Rattle.sdd_watch.proofs.All.{Applied, Bool, List, Purpose, Ts, ap, cond, false, get_or, length, list_any, list_any_more, refl, says_one, sym, take, take_all, true, ℕ, ◌&&◌, ◌+◌, ◌<◌, ◌==◌, ◌||◌, ◌∙◌, ◌≡◌, ◌≤◌}
 
 or_turn : (a b c : Bool) → (b || (a || c)) ≡ ((a || b) || c)
 or_turn true true c = refl
-or_turn true false c = refl
-or_turn false true c = refl
-or_turn false false c = refl
+or_turn _ _ c = refl
 
 pub said_more : {A : Type 0} (p : A → Bool) (xs : List A) (x : A) (i : ℕ) (first now new : Bool) → i < length xs → x ≡ get_or xs i x
     → now ≡ (list_any p (take i xs) || first) → new ≡ (p x || now) → new ≡ (list_any p (take (i + 1) xs) || first)

@@ -1,14 +1,5 @@
 -- Steps of a schedule that is told.
-use Rattle.std.proofs.Common.{ℕ, suc, ◌+◌, ◌≡◌, ◌∙◌, ap, arith, sym, subst, false, List, [], Result, Ok, Err}
-use Rattle.std.specs.Prelude.{IfOk, OnOk}
-use Rattle.sdd_obligations.specs.All.{Event, Input, IsGood, IsPossible, Log, Settle, TakesRounds, Redeclare, with_event}
-use Rattle.sdd_run.specs.world.Schedules.{IsAllowed, takes_rounds, with_events}
-use Rattle.sdd_run.specs.world.Represents.{EndsBy}
-use Rattle.sdd_run.specs.world.declared.ends.WorldEnd.{WorldEnd}
-use Rattle.sdd_run.specs.world.declared.schedule.ClassList.{ClassList}
-use Rattle.sdd_run.specs.world.declared.world.World.{World}
-use Rattle.sdd_watch.specs.ScheduleSoFar.{IsTextOf, IsTold, TellsSettled}
-use Rattle.sdd_watch.specs.declared.teller.Teller.{Teller}
+use Rattle.sdd_watch.proofs.All.{ClassList, EndsBy, Err, Event, IfOk, Input, IsAllowed, IsGood, IsPossible, IsTextOf, IsTold, List, Log, Ok, OnOk, Redeclare, Result, Settle, TakesRounds, Teller, TellsSettled, World, WorldEnd, [], ap, arith, false, subst, suc, sym, takes_rounds, with_event, with_events, ℕ, ◌+◌, ◌∙◌, ◌≡◌}
 use Rattle.sdd_watch.proofs.RoundsTold.{settle_told}
 
 -- what is promised of one event that is allowed
@@ -19,10 +10,6 @@ GoesOn w e lists t t2 place next =
 
 abbrev pub EndsIt : World → Event → List ClassList → Teller → ℕ → Type 0
 EndsIt w e lists t place = (g : Input) (log : Log) → IsTold w g log t place → IsAllowed g e lists → EndsBy (with_event g e)
-
-pub all_ok : {A E : Type 0} (res : Result A E) (P : Type 0) → P → OnOk res P
-all_ok (Ok x) P p = p
-all_ok (Err e) P p = tt
 
 -- a settle is carried out as the event that it is
 pub settle_goes : (w : World) (e : Event) (lists : List ClassList) (t t2 : Teller) (place : ℕ) (res : Result World WorldEnd) → e ≡ Settle

@@ -1,7 +1,5 @@
 -- What was made of the members of a list so far, and of all of them.
-use Rattle.std.proofs.Common.{ℕ, ◌+◌, ◌<◌, ◌≤◌, ◌≡◌, ◌∙◌, Bool, List, [], ◌∷◌, ◌++◌, filter, get_or, length, map, take, ap, sym}
-use Rattle.std.proofs.lemmas.List.{map-append, take_all, take_more}
-use Rattle.std.proofs.lemmas.List.Elements.{filter-append}
+use Rattle.sdd_watch.proofs.All.{Bool, List, [], ap, filter, filter-append, get_or, length, map, map-append, sym, take, take_all, take_more, ℕ, ◌++◌, ◌+◌, ◌<◌, ◌∙◌, ◌∷◌, ◌≡◌, ◌≤◌}
 
 -- those that pass a test
 
@@ -19,8 +17,7 @@ filtered_all p xs i all past e = e ∙ ap (filter p) (take_all i xs past)
 pub mapped_to : {A B : Type 0} (f : A → B) (xs : List A) (i : ℕ) (d : A) (old more : List B) (x : B) → i < length xs → x ≡ f (get_or xs i d)
     → more ≡ old ++ x ∷ [] → old ≡ map f (take i xs) → more ≡ map f (take (i + 1) xs)
 mapped_to f xs i d old more x lt is add e =
-    add ∙ ap (λ ys. ys ++ x ∷ []) e ∙ ap (λ y. map f (take i xs) ++ y ∷ []) is
-    ∙ sym (map-append f (take i xs) (get_or xs i d ∷ [])) ∙ ap (map f) (sym (take_more xs i d lt))
+    add ∙ (λ j. e j ++ is j ∷ []) ∙ sym (map-append f (take i xs) (get_or xs i d ∷ [])) ∙ ap (map f) (sym (take_more xs i d lt))
 
 pub mapped_all : {A B : Type 0} (f : A → B) (xs : List A) (i : ℕ) (all : List B) → length xs ≤ i → all ≡ map f (take i xs) → all ≡ map f xs
 mapped_all f xs i all past e = e ∙ ap (map f) (take_all i xs past)

@@ -1,12 +1,5 @@
 -- The site that runs a class is one of the network, with a link to each data module.
-use Rattle.std.proofs.Common.{ℕ, zero, suc, ◌-◌, ◌≤◌, ◌<◌, ◌≡◌, ◌∙◌, true, List, [], ◌∷◌, All, length, map, slice_index_or, ap, arith, refl}
-use Rattle.std.proofs.lemmas.List.Elements.{All-head, All-tail}
-use Rattle.sdd_obligations.specs.All.{Catalogue, Class, D, Input, IsGood, IsServedClass, IsSiteOf, IsWhole, Site, T, TmNo, U, all_links, are_linked, class_at, dm_no, is_link, is_site, tm_no}
-use Rattle.sdd_obligations.proofs.OfNext.{IsThere}
-use Rattle.sdd_obligations.proofs.Submitting.{le_true}
-use Rattle.sdd_obligations.proofs.catalog.Sound.{sound_whole}
-use Rattle.sdd_run.proofs.progress.Handed.{link_there}
-use Rattle.sdd_watch.specs.Moments.{source}
+use Rattle.sdd_watch.proofs.All.{All, All-head, All-tail, Catalogue, Class, D, Input, IsGood, IsServedClass, IsSiteOf, IsThere, IsWhole, List, Site, T, TmNo, U, [], all_links, ap, are_linked, arith, class_at, dm_no, get_or as slice_index_or, is_link, is_site, le_true, length, link_there, map, refl, sound_whole, source, suc, tm_no, true, zero, ℕ, ◌-◌, ◌<◌, ◌∙◌, ◌∷◌, ◌≡◌, ◌≤◌}
 
 abbrev no_class : Class
 no_class = record { name = []; tm = tm_no 0; reads = []; writes = [] }

@@ -1,11 +1,5 @@
 -- Which sites take part in an event.
-use Rattle.std.proofs.Common.{ℕ, ◌≡◌, ◌∙◌, ◌==◌, ◌&&◌, ◌||◌, Bool, true, false, List, [], ◌∷◌, ◌++◌, filter, filter_map, not, if◌then◌else◌, ap, append-nil, refl, sym}
-use Rattle.std.specs.List.{cons_option, list_any}
-use Rattle.sdd_obligations.specs.All.{DmNo, Down, Event, Input, Log, Redeclare, Site, Submit, Tick, TmNo, TxnNo, Up, all_links, handed, same_site}
-use Rattle.sdd_inside.specs.declared.delta.Found.{Found}
-use Rattle.sdd_watch.specs.Happens.{concerns, found_by, is_reached, last_event, takes_part}
-use Rattle.sdd_watch.specs.Watching.{arrived, arrived_on}
-use Rattle.sdd_watch.specs.declared.watched_link.Arrived.{Arrived}
+use Rattle.sdd_watch.proofs.All.{Arrived, Bool, DmNo, Down, Event, Found, Input, List, Log, Redeclare, Site, Submit, Tick, TmNo, TxnNo, Up, [], all_links, ap, append-nil, arrived, arrived_on, concerns, cons_option, false, filter, filter_map, found_by, handed, if◌then◌else◌, is_reached, last_event, list_any, not, refl, same_site, sym, takes_part, true, ℕ, ◌&&◌, ◌++◌, ◌==◌, ◌||◌, ◌∙◌, ◌∷◌, ◌≡◌}
 use Rattle.sdd_watch.proofs.Came.{arrived_if, still}
 
 abbrev is_to : Site → Arrived → Bool

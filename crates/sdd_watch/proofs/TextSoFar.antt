@@ -1,14 +1,5 @@
 -- The text so far: one line more with each event, and the same text where a round begins or an event more is given.
-use Rattle.std.proofs.Common.{ℕ, zero, suc, ◌-◌, ◌+◌, ◌<◌, ◌≤◌, ◌≡◌, ◌∙◌, refl, ap, sym, arith, List, [], ◌∷◌, ◌++◌, append_assoc, inl, inr}
-use Rattle.std.specs.List.{flat_map, range_with_len}
-use Rattle.std.proofs.lemmas.Bool.{cases_lt}
-use Rattle.std.proofs.lemmas.List.{append-nil, flat_map_more}
-use Rattle.sdd_obligations.specs.All.{Event, Input, IsLawful, Log, Round, marks, numbers_to, with_event}
-use Rattle.sdd_obligations.proofs.graph.Lists.{range_more}
-use Rattle.sdd_inside.specs.Lines.{beginning, line}
-use Rattle.sdd_run.specs.world.Copies.{tables_of}
-use Rattle.sdd_watch.specs.Moments.{at_event}
-use Rattle.sdd_watch.specs.Text.{change, inside_text, line_of}
+use Rattle.sdd_watch.proofs.All.{Event, Input, IsLawful, List, Log, Round, [], ap, append-nil, append_assoc, arith, at_event, beginning, cases_lt, change, flat_map, flat_map_more, inl, inr, inside_text, line, line_of, marks, numbers_to, range_more, range_with_len, refl, suc, sym, tables_of, with_event, zero, ℕ, ◌++◌, ◌+◌, ◌-◌, ◌<◌, ◌∙◌, ◌∷◌, ◌≡◌, ◌≤◌}
 use Rattle.sdd_watch.proofs.EachEvent.{IsMarkedBetween, at_below, at_old, at_self}
 use Rattle.sdd_watch.proofs.GivenMore.{line_more}
 use Rattle.sdd_watch.proofs.RoundEntry.{change_round}
@@ -66,16 +57,14 @@ module _ (g : Input) (old new : Log) (e : Event) (b : IsMarkedBetween g old new 
   earlier_line : (k : ℕ) → 1 ≤ k → k ≤ marks old → line_of g new k ≡ line_of g old k
   earlier_line k some few =
       let before = at_old g old new e (k - 1) b (omega (arith, few)) in
-      let after = at_old g old new e k b few in
-      λ i. line g.catalogue g.txns (change g (before i) (after i))
+      λ i. line g.catalogue g.txns (change g (before i) (at_old g old new e k b few i))
 
   last_line : (n : ℕ) → n ≡ marks old → line_of g new (suc n) ≡ line g.catalogue g.txns (change g old new)
   last_line n is =
-      let is_new : marks new ≡ suc (marks old) = b.marks_are in
       let k : suc n - 1 ≡ n = omega arith in
       let before : at_event (suc n - 1) new ≡ old =
       ap (λ j. at_event j new) k ∙ at_old g old new e n b (omega (arith, is)) ∙ at_self n old (omega (arith, is)) in
-      let after : at_event (suc n) new ≡ new = at_self (suc n) new (omega (arith, is, is_new)) in
+      let after : at_event (suc n) new ≡ new = at_self (suc n) new (omega (arith, is, b.marks_are)) in
       λ i. line g.catalogue g.txns (change g (before i) (after i))
 
   pub text_more : inside_text g new ≡ inside_text g old ++ line g.catalogue g.txns (change g old new)
@@ -85,7 +74,6 @@ module _ (g : Input) (old new : Log) (e : Event) (b : IsMarkedBetween g old new 
       ≡ flat_map (line_of g old) (numbers_to n) ++ line g.catalogue g.txns (change g old new) =
       ap (λ k. flat_map (line_of g new) (numbers_to k)) b.marks_are
       ∙ one_number (line_of g new) n
-      ∙ ap (λ xs. xs ++ line_of g new (suc n)) (same_to (line_of g new) (line_of g old) n earlier_line)
-      ∙ ap (λ x. flat_map (line_of g old) (numbers_to n) ++ x) (last_line n refl) in
+      ∙ (λ i. same_to (line_of g new) (line_of g old) n earlier_line i ++ last_line n refl i) in
       ap (λ xs. first_line g ++ xs) lines
       ∙ sym (append_assoc (first_line g) (flat_map (line_of g old) (numbers_to n)) (line g.catalogue g.txns (change g old new)))

@@ -1,14 +1,5 @@
 -- What is needed to tell an event says that it is over.
-use Rattle.std.proofs.Common.{◌≡◌}
-use Rattle.sdd_obligations.specs.All.{Input, Log}
-use Rattle.sdd_inside.specs.declared.delta.Found.{Found}
-use Rattle.sdd_run.specs.world.Represents.{Calm}
-use Rattle.sdd_run.specs.world.declared.world.World.{World}
-use Rattle.sdd_watch.specs.Happens.{found_by}
-use Rattle.sdd_watch.specs.Watching.{IsOver, IsTellable, IsToTell, foreseen_by}
-use Rattle.sdd_watch.specs.declared.foreseen.Foreseen.{Foreseen}
-use Rattle.sdd_watch.specs.declared.watch.Turn.{Turn}
-use Rattle.sdd_watch.specs.declared.watch.Watch.{Watch}
+use Rattle.sdd_watch.proofs.All.{Calm, Foreseen, Found, Input, IsOver, IsTellable, IsToTell, Log, Turn, Watch, World, foreseen_by, found_by, ◌≡◌}
 
 pub over_when : (g : Input) (old new : Log) (w : World) (watch : Watch) (turn : Turn) (foreseen : Foreseen) (found : Found)
     → IsToTell g old new w watch turn foreseen

@@ -1,25 +1,11 @@
 -- The DONEs that were handed to the module for undeclared transactions are those that its own log has.
-use Rattle.std.proofs.Common.{ℕ, zero, suc, ◌+◌, ◌<◌, ◌≤◌, ◌≡◌, ◌∙◌, ◌==◌, ◌&&◌, ◌||◌, cond, Bool, true, false, List, [], ◌∷◌, ◌++◌, filter, if◌then◌else◌, map, not, take, ap, arith, eqb-true, inl, inr, ne_eqb, refl, sym}
-use Rattle.std.specs.BTreeSet.{contains}
-use Rattle.std.specs.List.{list_any, range_with_len}
-use Rattle.std.proofs.lemmas.Bool.{cases_Bool, eqb-false}
-use Rattle.std.proofs.lemmas.List.Folds.{list_any-append}
-use Rattle.sdd_obligations.specs.All.{D, Done, Handed, Input, IsLinkOf, IsPermitted, Kept, Log, Message, Msg, Site, U, dm_no, handed, hands_from, local_of, numbers_to, sent, setting_of}
-use Rattle.sdd_obligations.specs.net.Links.{numbered}
-use Rattle.sdd_obligations.specs.serial_orders.Finding.{pair_cmp}
-use Rattle.sdd_obligations.specs.site_module.SiteLog as site
+use Rattle.sdd_watch.proofs.All.{AreDones, Bool, Calm, D, Done, Dones, Input, IsLinkOf, IsPermitted, Kept, List, Log, Message, Msg, Site, U, World, [], ap, arith, cond, contains, d_site, dm_no, false, filter, handed, hands_from, if◌then◌else◌, in_order, is_done_at, lawful_permitted, list_any, list_any-append, local_of, map, not, numbered, numbers_to, pair_cmp, range_with_len, refl, says_applied, sent, sent_is, setting_of, suc, sym, take, true, unapplied_of, zero, ℕ, ◌&&◌, ◌++◌, ◌+◌, ◌<◌, ◌==◌, ◌||◌, ◌∙◌, ◌∷◌, ◌≡◌, ◌≤◌}
+use Rattle.sdd_obligations.specs.All.{Handed}
 use Rattle.sdd_obligations.specs.umod.Represents.{Represents}
 use Rattle.sdd_obligations.specs.umod.State.{State}
-use Rattle.sdd_obligations.proofs.invariants.InOrder.{in_order}
-use Rattle.sdd_obligations.proofs.invariants.Sent.{sent_is}
-use Rattle.sdd_obligations.proofs.logs.NewMarks.{lawful_permitted}
-use Rattle.sdd_run.specs.world.Represents.{Calm}
-use Rattle.sdd_run.specs.world.declared.world.World.{World}
-use Rattle.sdd_run.proofs.progress.Still.{d_site}
 use Rattle.sdd_watch.specs.Moments.{handed_on}
-use Rattle.sdd_watch.specs.States.{says_applied, unapplied_of}
-use Rattle.sdd_watch.specs.Watching.{AreDones, is_done_at}
-use Rattle.sdd_watch.specs.declared.dones.Dones.{Dones}
+use Rattle.sdd_obligations.proofs.invariants.HoldChain.{same_turned as turned}
+use Rattle.sdd_obligations.specs.site_module.SiteLog as site
 
 -- by messages
 
@@ -36,10 +22,9 @@ among_numbered t k [] = refl
 among_numbered t k (m ∷ ms) =
     ap (λ b. b || list_any (is_done_at t) (numbered (k + 1) ms)) (done_message t (k + 1) m) ∙ ap (λ b. is_done t m || b) (among_numbered t (k + 1) ms)
 
-take_numbered : (n k : ℕ) (ms : List Msg) → take n (numbered k ms) ≡ numbered k (take n ms)
-take_numbered zero k ms = refl
-take_numbered (suc n) k [] = refl
+pub take_numbered : (n k : ℕ) (ms : List Msg) → take n (numbered k ms) ≡ numbered k (take n ms)
 take_numbered (suc n) k (m ∷ ms) = ap (λ ps. Message (k + 1) m ∷ ps) (take_numbered n (k + 1) ms)
+take_numbered _ k _ = refl
 
 -- by the entries of the log
 
@@ -50,13 +35,6 @@ and_false false = refl
 says_message : (t d n : ℕ) (m : Msg) → says_applied t d (Handed (D (dm_no n)) m) ≡ ((n == d) && is_done t m)
 says_message t d n (Done ts) = refl
 says_message t d n _ = and_false (n == d)
-
-turned : (m n : ℕ) → (m == n) ≡ (n == m)
-turned m n =
-    elim (cases_Bool (m == n)) [
-      | inl y ↦ ap (λ k. k == n) (eqb-true m n y) ∙ ap (λ k. n == k) (sym (eqb-true m n y))
-      | inr f ↦ f ∙ sym (ne_eqb n m (λ e. eqb-false m n f (sym e)))
-    ]
 
 or_last : (x y : Bool) → (x || y) ≡ (y || (x || false))
 or_last true true = refl
@@ -75,7 +53,6 @@ said_by_log t d [] = refl
 said_by_log t d (Handed (D n) m ∷ log) =
     ap (λ b. b || list_any (says_applied t d) log) (says_message t d n.0 m ∙ ap (λ b. b && is_done t m) (turned n.0 d))
     ∙ one_more t (d == n.0) m (hands_from (D (dm_no d)) log) (list_any (says_applied t d) log) (said_by_log t d log)
-said_by_log t d (Handed from m ∷ log) = said_by_log t d log
 said_by_log t d (_ ∷ log) = said_by_log t d log
 
 handed_says : (g : Input) (log : Log) (t d : ℕ) → IsPermitted g log

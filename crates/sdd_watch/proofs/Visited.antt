@@ -1,9 +1,6 @@
 -- A loop that changes each member of a list, each of which stands for a place: those before the place at hand are as they shall
 -- be, and the others still as they were.
-use Rattle.std.proofs.Common.{◌≡◌, ◌∙◌, ℕ, zero, suc, ◌<◌, ◌≤◌, List, Option, Some, [], ◌∷◌, ◌++◌, length, map, filter_map, take, drop, slice_get, get_or, slice_set, ap, arith, refl, subst, sym}
-use Rattle.std.specs.List.{cons_option}
-use Rattle.std.proofs.lemmas.List.{map-append}
-use Rattle.std.proofs.lemmas.List.Elements.{filter_map-append}
+use Rattle.sdd_watch.proofs.All.{List, Option, Some, [], ap, arith, cons_option, drop, filter_map, filter_map-append, get_or, length, map, map-append, refl, slice_get, slice_set, subst, suc, sym, take, zero, ℕ, ◌++◌, ◌<◌, ◌∙◌, ◌∷◌, ◌≡◌, ◌≤◌}
 
 -- as they are when so many are changed
 abbrev pub changed_to : {S W : Type 0} → (S → W) → (S → W) → ℕ → List S → List W
@@ -51,12 +48,6 @@ all_changed old new (suc i) [] past = refl
 all_changed old new zero (p ∷ places) past = absurd (omega (arith, past))
 all_changed old new (suc i) (p ∷ places) past = ap (λ ys. new p ∷ ys) (all_changed old new i places (omega (arith, past)))
 
-pub take_past : {S : Type 0} (i : ℕ) (places : List S) → length places ≤ i → take i places ≡ places
-take_past zero [] past = refl
-take_past (suc i) [] past = refl
-take_past zero (p ∷ places) past = absurd (omega (arith, past))
-take_past (suc i) (p ∷ places) past = ap (λ ps. p ∷ ps) (take_past i places (omega (arith, past)))
-
 -- what is made of a place more
 
 pub mapped_last : {A B : Type 0} (f : A → B) (xs : List A) (x : A) (all : List A) (made now : List B) (y : B)
@@ -67,5 +58,4 @@ mapped_last f xs x all made now y e push is more =
 pub picked_last : {A B : Type 0} (f : A → Option B) (xs : List A) (x : A) (all : List A) (made now : List B) (y : Option B)
     → made ≡ filter_map f xs → now ≡ made ++ cons_option y [] → y ≡ f x → all ≡ xs ++ x ∷ [] → now ≡ filter_map f all
 picked_last f xs x all made now y e push is more =
-    push ∙ ap (λ ys. ys ++ cons_option y []) e ∙ ap (λ z. filter_map f xs ++ cons_option z []) is
-    ∙ sym (filter_map-append f xs (x ∷ [])) ∙ ap (filter_map f) (sym more)
+    push ∙ (λ i. e i ++ cons_option (is i) []) ∙ sym (filter_map-append f xs (x ∷ [])) ∙ ap (filter_map f) (sym more)

@@ -1,6 +1,4 @@
-use Rattle.std.proofs.Common.{ap, ◌∙◌}
-use Rattle.sdd_obligations.specs.All.{calls_of}
-use Rattle.sdd_obligations.proofs.net.Directions.{link_back}
+use Rattle.sdd_watch.proofs.All.{ap, calls_of, link_back, ◌∙◌}
 use Rattle.sdd_watch.proofs.foreseen.acknowledged_upto.Goals as goal
 
 pub direction-requires : goal.direction-requires

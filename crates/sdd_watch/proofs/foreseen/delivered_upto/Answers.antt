@@ -1,5 +1,4 @@
-use Rattle.std.proofs.Common.{◌∙◌}
-use Rattle.sdd_obligations.specs.All.{calls_of}
+use Rattle.sdd_watch.proofs.All.{calls_of, ◌∙◌}
 use Rattle.sdd_watch.proofs.foreseen.delivered_upto.Goals as goal
 
 pub direction-requires : goal.direction-requires

@@ -1,7 +1,6 @@
-use Rattle.std.proofs.Common.{ap, sym, ◌∙◌}
+use Rattle.sdd_watch.proofs.All.{ap, arrived_of, sym, ◌∙◌}
 use Rattle.sdd_inside.specs.declared.delta.Found.TheVariants as founds
-use Rattle.sdd_watch.specs.Happens.{arrived_of}
-use Rattle.sdd_watch.proofs.foreseen.find_delivery.Goals as goal
+use Rattle.sdd_watch.proofs.foreseen.delivered.Goals as goal
 
 pub returns-in-Message : goal.returns-in-Message
 returns-in-Message c = λ g log calm linked.

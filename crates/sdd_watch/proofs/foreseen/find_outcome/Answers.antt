@@ -1,7 +1,4 @@
-use Rattle.std.proofs.Common.{ap, subst, sym, ◌∙◌}
-use Rattle.sdd_obligations.specs.All.{Event}
-use Rattle.sdd_watch.specs.Happens.{found_by}
-use Rattle.sdd_watch.specs.Watching.{IsTellable, foreseen_by}
+use Rattle.sdd_watch.proofs.All.{Event, IsTellable, ap, foreseen_by, found_by, subst, sym, ◌∙◌}
 use Rattle.sdd_watch.proofs.FoundBy.{delivery_found, loss_found, nothing_found, something_found}
 use Rattle.sdd_watch.proofs.foreseen.find_outcome.Goals as goal
 

@@ -1,6 +1,4 @@
-use Rattle.std.proofs.Common.{ap, is_some, not, subst, sym, ◌∙◌}
-use Rattle.sdd_obligations.specs.All.{Event, IsPossible, link_of, packet_at}
-use Rattle.sdd_watch.specs.Watching.{doing, foreseen_by, taking}
+use Rattle.sdd_watch.proofs.All.{Event, IsPossible, ap, doing, foreseen_by, is_some, link_of, not, packet_at, subst, sym, taking, ◌∙◌}
 use Rattle.sdd_watch.proofs.FoundBy.{otherwise_done, some_taken}
 use Rattle.sdd_watch.proofs.foreseen.foresee.Goals as goal
 

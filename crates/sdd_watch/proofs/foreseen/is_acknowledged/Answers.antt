@@ -1,5 +1,4 @@
-use Rattle.std.proofs.Common.{ap, ◌∙◌}
-use Rattle.sdd_obligations.specs.All.{calls_of, is_empty, link_of, spelled}
+use Rattle.sdd_watch.proofs.All.{ap, calls_of, is_empty, link_of, spelled, ◌∙◌}
 use Rattle.sdd_watch.proofs.FoundBy.{none_unacked}
 use Rattle.sdd_watch.proofs.foreseen.is_acknowledged.Goals as goal
 

@@ -1,6 +1,4 @@
-use Rattle.std.proofs.Common.{List, None, Option, Some, ap, ℕ, ◌-◌, ◌∙◌}
-use Rattle.std.specs.Prelude.{slice_get}
-use Rattle.sdd_obligations.specs.All.{Kept, Packet, calls_of, link_of, spelled}
+use Rattle.sdd_watch.proofs.All.{Kept, List, None, Option, Packet, Some, ap, calls_of, link_of, slice_get, spelled, ℕ, ◌-◌, ◌∙◌}
 use Rattle.sdd_watch.proofs.FoundBy.{taken_spelled}
 use Rattle.sdd_watch.proofs.foreseen.packet_at.Goals as goal
 

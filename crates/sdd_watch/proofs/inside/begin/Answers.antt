@@ -1,4 +1,4 @@
-use Rattle.std.proofs.Common.{[], ◌∙◌}
+use Rattle.sdd_watch.proofs.All.{[], ◌∙◌}
 use Rattle.sdd_watch.proofs.BegunTold.{begins_told}
 use Rattle.sdd_watch.proofs.inside.begin.Goals as goal
 

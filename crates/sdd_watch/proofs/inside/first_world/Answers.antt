@@ -1,13 +1,5 @@
-use Rattle.std.proofs.Common.{[], ◌≤◌, ◌∙◌, arith, refl, subst, sym}
-use Rattle.std.specs.List.{All}
-use Rattle.sdd_obligations.specs.All.{Catalogue, FitsStart, Input, IsEraOf, IsGood, IsSoundCatalogue, MAX_DMS, MAX_TMS}
-use Rattle.sdd_run.specs.class_lists.InForce.{whole_in}
-use Rattle.sdd_run.specs.world.Beginnings.{AllBegin, BeginsD, IsBegun}
+use Rattle.sdd_watch.proofs.All.{All, AllBegin, BeginsD, Catalogue, FitsStart, Input, IsBegun, IsEraOf, IsGood, IsSoundCatalogue, MAX_DMS, MAX_TMS, Represents, [], arith, first_era, refl, rows_start, some_table, starts, subst, sym, whole_in, ◌∙◌, ◌≤◌}
 use Rattle.sdd_run.specs.world.Represents as standing
-use Rattle.sdd_run.specs.world.Represents.{Represents}
-use Rattle.sdd_run.proofs.ErasWithTables.{first_era, some_table}
-use Rattle.sdd_run.proofs.Starting.{starts}
-use Rattle.sdd_run.proofs.Whole.{rows_start}
 use Rattle.sdd_watch.proofs.inside.first_world.Goals as goal
 
 pub data_modules-requires : goal.data_modules-requires

@@ -1,7 +1,4 @@
-use Rattle.std.proofs.Common.{◌∙◌, subst, sym}
-use Rattle.std.specs.List.{AllZip}
-use Rattle.sdd_obligations.specs.All.{IsTable}
-use Rattle.sdd_run.specs.class_lists.InForce.{eras_in}
+use Rattle.sdd_watch.proofs.All.{AllZip, IsTable, eras_in, subst, sym, ◌∙◌}
 use Rattle.sdd_watch.proofs.inside.inside_text.Goals as goal
 
 pub text_with_tables-requires-clause-tabled : goal.text_with_tables-requires-clause-tabled

@@ -1,10 +1,4 @@
-use Rattle.std.proofs.Common.{[], ◌∙◌, ap, length, subst, sym}
-use Rattle.sdd_obligations.specs.base.Words.{tail_of}
-use Rattle.sdd_obligations.specs.All.{IsSoundCatalogue}
-use Rattle.sdd_run.specs.Runs.{eras_with_tables, first_input}
-use Rattle.sdd_run.proofs.ErasWithTables.{tables_are}
-use Rattle.sdd_run.proofs.Reported.{ended}
-use Rattle.sdd_run.proofs.world.Failing.{handed_on}
+use Rattle.sdd_watch.proofs.All.{IsSoundCatalogue, [], ap, ended, eras_with_tables, first_input, handed_on, length, subst, sym, tables_are, tail_of, ◌∙◌}
 use Rattle.sdd_watch.proofs.BegunTold.{begins_all, inside_of}
 use Rattle.sdd_watch.proofs.inside.text_with_tables.Goals as goal
 

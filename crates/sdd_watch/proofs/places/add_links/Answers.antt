@@ -1,6 +1,4 @@
-use Rattle.std.proofs.Common.{None, Option, Some, ap, cond, get_or, sym, ◌∙◌}
-use Rattle.sdd_obligations.specs.All.{Site, U, are_linked}
-use Rattle.sdd_obligations.proofs.net.SiteLists.{links_yes, links_no}
+use Rattle.sdd_watch.proofs.All.{None, Option, Site, Some, U, ap, are_linked, cond, get_or, links_no, links_yes, sym, ◌∙◌}
 use Rattle.sdd_watch.proofs.places.add_links.Goals.{then-are_linked+in_ok-push, else-are_linked}
 use Rattle.sdd_watch.proofs.places.add_links.Goals as goal
 

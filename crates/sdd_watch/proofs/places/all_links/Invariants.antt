@@ -1,5 +1,4 @@
-use Rattle.std.proofs.Common.{None, Some, cond, filter_map, flat_map, take, ◌≡◌}
-use Rattle.sdd_obligations.specs.All.{are_linked}
+use Rattle.sdd_watch.proofs.All.{None, Some, are_linked, cond, filter_map, flat_map, take, ◌≡◌}
 use Rattle.sdd_watch.proofs.places.all_links.Given as goal
 
 abbrev pub invariant-loop-from : goal.invariant-loop-from

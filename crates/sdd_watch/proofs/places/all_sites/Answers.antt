@@ -1,7 +1,4 @@
-use Rattle.std.proofs.Common.{[], map, refl, ◌+◌, ◌∷◌}
-use Rattle.std.specs.List.{range_with_len}
-use Rattle.sdd_obligations.specs.All.{D, Site, T, U}
-use Rattle.sdd_obligations.proofs.net.SiteLists.{sites_more}
+use Rattle.sdd_watch.proofs.All.{D, Site, T, U, [], map, range_with_len, refl, sites_more, ◌+◌, ◌∷◌}
 use Rattle.sdd_watch.proofs.places.all_sites.Goals as goal
 
 pub loop-n-preserved : goal.loop-n-preserved

@@ -1,6 +1,4 @@
-use Rattle.std.proofs.Common.{[], map, ◌++◌, ◌∷◌, ◌≡◌}
-use Rattle.std.specs.List.{range_with_len}
-use Rattle.sdd_obligations.specs.All.{D, T, U}
+use Rattle.sdd_watch.proofs.All.{D, T, U, [], map, range_with_len, ◌++◌, ◌∷◌, ◌≡◌}
 use Rattle.sdd_watch.proofs.places.all_sites.Given as goal
 
 abbrev pub invariant-loop-n : goal.invariant-loop-n

@@ -1,7 +1,5 @@
-use Rattle.std.proofs.Common.{[], ap, map, ◌++◌, ◌∙◌, ◌∷◌}
-use Rattle.sdd_obligations.specs.attempt.Lines.{Line}
-use Rattle.sdd_watch.specs.Looking.{queue_in, queue_of}
-use Rattle.sdd_watch.proofs.Loops.{mapped_end, mapped_more}
+use Rattle.sdd_watch.proofs.All.{Line, [], ap, map, mapped_end, queue_in, queue_of, ◌++◌, ◌∙◌, ◌∷◌}
+use Rattle.sdd_watch.proofs.Loops.{mapped_more}
 use Rattle.sdd_watch.proofs.queues.add_queues.Goals as goal
 
 pub loop-class-preserved : goal.loop-class-preserved

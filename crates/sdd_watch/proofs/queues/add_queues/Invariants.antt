@@ -1,5 +1,4 @@
-use Rattle.std.proofs.Common.{drop, map, ◌++◌, ◌≡◌}
-use Rattle.sdd_watch.specs.Looking.{queue_in}
+use Rattle.sdd_watch.proofs.All.{drop, map, queue_in, ◌++◌, ◌≡◌}
 use Rattle.sdd_watch.proofs.queues.add_queues.Given as goal
 
 -- with what is left there are those of all classes

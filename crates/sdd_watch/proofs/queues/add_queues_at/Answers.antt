@@ -1,6 +1,4 @@
-use Rattle.std.proofs.Common.{ap, map, ◌++◌, ◌∙◌}
-use Rattle.sdd_obligations.specs.All.{T, local_of, setting_of}
-use Rattle.sdd_watch.specs.Looking.{queue_in}
+use Rattle.sdd_watch.proofs.All.{T, ap, local_of, map, queue_in, setting_of, ◌++◌, ◌∙◌}
 use Rattle.sdd_watch.proofs.Queued.{queues_told}
 use Rattle.sdd_watch.proofs.queues.add_queues_at.Goals as goal
 

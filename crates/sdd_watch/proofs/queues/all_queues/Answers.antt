@@ -1,5 +1,4 @@
-use Rattle.std.proofs.Common.{ap, arith, refl, ◌-◌, ◌∙◌, ◌≡◌}
-use Rattle.sdd_obligations.specs.All.{Catalogue, U, local_of, setting_of, tm_no}
+use Rattle.sdd_watch.proofs.All.{Catalogue, U, ap, arith, local_of, refl, setting_of, tm_no, ◌-◌, ◌∙◌, ◌≡◌}
 use Rattle.sdd_watch.proofs.Queued.{first_queue, module_there, queues_begin, queues_more, queues_to}
 use Rattle.sdd_watch.proofs.queues.all_queues.Goals as goal
 

@@ -1,6 +1,4 @@
-use Rattle.std.proofs.Common.{◌-◌, ◌≡◌}
-use Rattle.sdd_obligations.specs.All.{Input, Log}
-use Rattle.sdd_run.specs.world.Represents.{Calm}
+use Rattle.sdd_watch.proofs.All.{Calm, Input, Log, ◌-◌, ◌≡◌}
 use Rattle.sdd_watch.proofs.Queued.{queues_to}
 use Rattle.sdd_watch.proofs.queues.all_queues.Given as goal
 

@@ -1,6 +1,4 @@
-use Rattle.std.proofs.Common.{sym, ◌∙◌}
-use Rattle.sdd_obligations.specs.All.{history}
-use Rattle.sdd_run.proofs.world.Results.{after_ok}
+use Rattle.sdd_watch.proofs.All.{after_ok, history, sym, ◌∙◌}
 use Rattle.sdd_watch.proofs.RowsTold.{none_applied, some_applied}
 use Rattle.sdd_watch.proofs.rows.add_applied.Goals as goal
 

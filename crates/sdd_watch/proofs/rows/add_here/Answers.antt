@@ -1,5 +1,4 @@
-use Rattle.std.proofs.Common.{ap, sym, true, ◌∙◌, ◌≡◌}
-use Rattle.sdd_obligations.specs.All.{Catalogue, has_copy}
+use Rattle.sdd_watch.proofs.All.{Catalogue, ap, has_copy, sym, true, ◌∙◌, ◌≡◌}
 use Rattle.sdd_watch.proofs.RowsTold.{one_elsewhere, one_here}
 use Rattle.sdd_watch.proofs.rows.add_here.Goals as goal
 

@@ -1,6 +1,4 @@
-use Rattle.std.proofs.Common.{ap, ◌∙◌}
-use Rattle.std.specs.List.{list_any}
-use Rattle.sdd_watch.specs.Happens.{is_of_item}
+use Rattle.sdd_watch.proofs.All.{ap, is_of_item, list_any, ◌∙◌}
 use Rattle.sdd_watch.proofs.RowsTold.{row_added, row_stays}
 use Rattle.sdd_watch.proofs.rows.add_row.Goals as goal
 

@@ -1,5 +1,4 @@
-use Rattle.std.proofs.Common.{fold, refl}
-use Rattle.sdd_watch.specs.Happens.{changes_applied, with_row}
+use Rattle.sdd_watch.proofs.All.{changes_applied, fold, refl, with_row}
 use Rattle.sdd_watch.proofs.Folding.{folded_end, folded_more}
 use Rattle.sdd_watch.proofs.RowsTold.{changes_join}
 use Rattle.sdd_watch.proofs.rows.add_rows.Goals as goal

@@ -1,7 +1,4 @@
-use Rattle.std.proofs.Common.{drop, fold, ◌≡◌}
-use Rattle.sdd_obligations.specs.All.{Input, Log}
-use Rattle.sdd_run.specs.world.Represents.{Calm}
-use Rattle.sdd_watch.specs.Happens.{changes_applied, with_row}
+use Rattle.sdd_watch.proofs.All.{Calm, Input, Log, changes_applied, drop, fold, with_row, ◌≡◌}
 use Rattle.sdd_watch.proofs.rows.add_rows.Given as goal
 
 -- with what is left there are the rows of all changes

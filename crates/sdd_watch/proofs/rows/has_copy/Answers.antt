@@ -1,4 +1,4 @@
-use Rattle.std.proofs.Common.{arith}
+use Rattle.sdd_watch.proofs.All.{arith}
 use Rattle.sdd_watch.proofs.RowsTold.{copy_past, copy_within}
 use Rattle.sdd_watch.proofs.rows.has_copy.Goals as goal
 

@@ -1,4 +1,4 @@
-use Rattle.std.proofs.Common.{Some, ap, ◌∙◌}
+use Rattle.sdd_watch.proofs.All.{Some, ap, ◌∙◌}
 use Rattle.sdd_watch.proofs.rows.row_in.Goals as goal
 
 pub returns-in_ok-copy-in-Some : goal.returns-in_ok-copy-in-Some

@@ -1,6 +1,4 @@
-use Rattle.std.proofs.Common.{SFits as FitsSigned, ap, refl, rules, w64}
-use Rattle.std.proofs.lemmas.Int.{to_z-of_z}
-use Rattle.sdd_obligations.specs.All.{D, dated, local_of, setting_of}
+use Rattle.sdd_watch.proofs.All.{D, FitsSigned, ap, dated, local_of, refl, rules, setting_of, to_z-of_z, w64}
 use Rattle.sdd_watch.proofs.RowsTold.{copy_site}
 use Rattle.sdd_watch.proofs.rows.row_told.Goals as goal
 

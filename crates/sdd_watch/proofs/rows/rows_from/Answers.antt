@@ -1,7 +1,4 @@
-use Rattle.std.proofs.Common.{[], ap, append-nil, drop, flat_map, fold, subst, sym, ◌∙◌}
-use Rattle.sdd_obligations.specs.All.{History, history}
-use Rattle.sdd_watch.specs.Happens.{applied_by, with_row}
-use Rattle.sdd_watch.specs.Watching.{AreCommits}
+use Rattle.sdd_watch.proofs.All.{AreCommits, History, [], ap, append-nil, applied_by, drop, flat_map, fold, history, subst, sym, with_row, ◌∙◌}
 use Rattle.sdd_watch.proofs.Folding.{folded_end, folded_more}
 use Rattle.sdd_watch.proofs.RowsTold.{records_join}
 use Rattle.sdd_watch.proofs.rows.rows_from.Goals as goal
@@ -35,5 +32,4 @@ returns c = λ g old new calm between at.
     let give = flat_map (applied_by g (history new)) in
     folded_end (with_row g new) give records c.loop-place.rows.items (fold (with_row g new) [] (give (drop c.args.from records))) c.loop-place.place
     (records_join g (history new)) c.loop-place-test.false (c.loop-place.invariant g new calm)
-    ∙ ap (λ h. fold (with_row g new) [] (give (drop c.args.from h))) (c.as_slice-records.ensures ∙ c.history.ensures g new calm)
-    ∙ ap (λ n. fold (with_row g new) [] (give (drop n (history new)))) at
+    ∙ (λ i. fold (with_row g new) [] (give (drop (at i) ((c.as_slice-records.ensures ∙ c.history.ensures g new calm) i))))

@@ -1,7 +1,4 @@
-use Rattle.std.proofs.Common.{[], drop, flat_map, fold, ◌≡◌}
-use Rattle.sdd_obligations.specs.All.{Input, Log, history}
-use Rattle.sdd_run.specs.world.Represents.{Calm}
-use Rattle.sdd_watch.specs.Happens.{applied_by, with_row}
+use Rattle.sdd_watch.proofs.All.{Calm, Input, Log, [], applied_by, drop, flat_map, fold, history, with_row, ◌≡◌}
 use Rattle.sdd_watch.proofs.rows.rows_from.Given as goal
 
 -- with what is left there are the rows of all records from the place on

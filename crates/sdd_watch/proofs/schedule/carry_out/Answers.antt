@@ -1,9 +1,4 @@
-use Rattle.std.proofs.Common.{◌∙◌, ap, arith, length, refl, subst, sym}
-use Rattle.sdd_obligations.specs.All.{with_event}
-use Rattle.sdd_run.specs.world.Schedules.{AreAllowed, with_events}
-use Rattle.sdd_run.proofs.world.Carrying.{ends_from, first_allowed, first_one, with_first}
-use Rattle.sdd_run.proofs.world.Failing.{handed_on}
-use Rattle.sdd_obligations.proofs.net.Queues.{no_items}
+use Rattle.sdd_watch.proofs.All.{AreAllowed, ap, arith, ends_from, first_allowed, first_one, handed_on, length, no_items, refl, subst, sym, with_event, with_events, with_first, ◌∙◌}
 use Rattle.sdd_watch.proofs.Scheduled.{place_on, told_all}
 use Rattle.sdd_watch.proofs.schedule.carry_out.Goals as goal
 

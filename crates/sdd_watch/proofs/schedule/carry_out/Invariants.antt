@@ -1,7 +1,4 @@
-use Rattle.std.proofs.Common.{◌+◌, ◌≡◌, suc, length}
-use Rattle.sdd_obligations.specs.All.{Input, Log}
-use Rattle.sdd_run.specs.world.Schedules.{AreAllowed, with_events}
-use Rattle.sdd_watch.specs.ScheduleSoFar.{IsTold}
+use Rattle.sdd_watch.proofs.All.{AreAllowed, Input, IsTold, Log, length, suc, with_events, ◌+◌, ◌≡◌}
 use Rattle.sdd_watch.proofs.schedule.carry_out.Given as goal
 
 abbrev pub invariant-loop-event : goal.invariant-loop-event

@@ -1,7 +1,5 @@
-use Rattle.std.proofs.Common.{ap, subst, sym}
-use Rattle.sdd_run.specs.world.Schedules.{IsAllowed, lists_after}
-use Rattle.sdd_run.proofs.world.Carrying.{lists_stay, no_rounds}
-use Rattle.sdd_watch.proofs.Scheduled.{EndsIt, all_ok, redeclare_goes, redeclare_others, settle_ends, settle_goes, step_goes}
+use Rattle.sdd_watch.proofs.All.{IsAllowed, all_ok, ap, lists_after, lists_stay, no_rounds, subst, sym}
+use Rattle.sdd_watch.proofs.Scheduled.{EndsIt, redeclare_goes, redeclare_others, settle_ends, settle_goes, step_goes}
 use Rattle.sdd_watch.proofs.schedule.carry_out_one.Goals as goal
 
 pub rounds-requires : goal.rounds-requires

@@ -1,5 +1,4 @@
-use Rattle.std.proofs.Common.{ap, arith, refl}
-use Rattle.sdd_run.proofs.world.Failing.{handed_on}
+use Rattle.sdd_watch.proofs.All.{ap, arith, handed_on, refl}
 use Rattle.sdd_watch.proofs.RoundsTold.{marks_one, number_fits, round_to_tell, round_told}
 use Rattle.sdd_watch.proofs.schedule.in_round.Goals as goal
 

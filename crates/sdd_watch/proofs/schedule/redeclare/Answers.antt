@@ -1,8 +1,4 @@
-use Rattle.std.proofs.Common.{ap, refl, sym}
-use Rattle.sdd_obligations.specs.All.{Redeclare, with_event}
-use Rattle.sdd_run.proofs.world.Carrying.{next_list}
-use Rattle.sdd_run.proofs.world.Failing.{handed_on}
-use Rattle.sdd_run.specs.world.Schedules.{lists_after}
+use Rattle.sdd_watch.proofs.All.{Redeclare, ap, handed_on, lists_after, next_list, refl, sym, with_event}
 use Rattle.sdd_watch.proofs.RoundsTold.{list_to_tell, list_told}
 use Rattle.sdd_watch.proofs.schedule.redeclare.Goals as goal
 

@@ -1,7 +1,4 @@
-use Rattle.std.proofs.Common.{◌+◌, ap, arith, length, sym}
-use Rattle.sdd_obligations.specs.All.{marks}
-use Rattle.sdd_run.proofs.world.Failing.{handed_on}
-use Rattle.sdd_obligations.proofs.net.Queues.{no_items}
+use Rattle.sdd_watch.proofs.All.{ap, arith, handed_on, length, marks, no_items, sym, ◌+◌}
 use Rattle.sdd_watch.proofs.RoundsTold.{with_left}
 use Rattle.sdd_watch.proofs.schedule.round.Goals as goal
 

@@ -1,6 +1,4 @@
-use Rattle.std.proofs.Common.{◌+◌, ◌≡◌, length}
-use Rattle.sdd_obligations.specs.All.{Event, Input, Log, marks}
-use Rattle.sdd_watch.specs.ScheduleSoFar.{TellsRound}
+use Rattle.sdd_watch.proofs.All.{Event, Input, Log, TellsRound, length, marks, ◌+◌, ◌≡◌}
 use Rattle.sdd_watch.proofs.schedule.round.Given as goal
 
 abbrev pub invariant-loop-event : goal.invariant-loop-event

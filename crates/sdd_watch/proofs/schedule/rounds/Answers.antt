@@ -1,6 +1,4 @@
-use Rattle.std.proofs.Common.{◌∷◌, arith, refl}
-use Rattle.sdd_obligations.specs.All.{Round, with_event}
-use Rattle.sdd_run.proofs.world.Failing.{handed_on}
+use Rattle.sdd_watch.proofs.All.{Round, arith, handed_on, refl, with_event, ◌∷◌}
 use Rattle.sdd_watch.proofs.RoundsTold.{begins, none_of, next_fits, round_begins, round_over, rounds_fall, settles, some_event, some_of}
 use Rattle.sdd_watch.proofs.schedule.rounds.Goals as goal
 

@@ -1,7 +1,4 @@
-use Rattle.std.proofs.Common.{◌-◌, ◌^◌}
-use Rattle.sdd_obligations.specs.All.{Input, IsGood, Log, TakesRounds, with_event}
-use Rattle.sdd_run.specs.world.Represents.{events_of}
-use Rattle.sdd_watch.specs.ScheduleSoFar.{IsTold, TellsBetween}
+use Rattle.sdd_watch.proofs.All.{Input, IsGood, IsTold, Log, TakesRounds, TellsBetween, events_of, with_event, ◌-◌, ◌^◌}
 use Rattle.sdd_watch.proofs.schedule.rounds.Given as goal
 
 abbrev pub invariant-loop-now : goal.invariant-loop-now

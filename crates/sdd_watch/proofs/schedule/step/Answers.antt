@@ -1,6 +1,4 @@
-use Rattle.std.proofs.Common.{ap, refl}
-use Rattle.sdd_obligations.specs.All.{with_event}
-use Rattle.sdd_run.proofs.world.Failing.{handed_on}
+use Rattle.sdd_watch.proofs.All.{ap, handed_on, refl, with_event}
 use Rattle.sdd_watch.proofs.EventTold.{step_to_tell, step_told}
 use Rattle.sdd_watch.proofs.schedule.step.Goals as goal
 

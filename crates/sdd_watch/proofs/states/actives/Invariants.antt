@@ -1,7 +1,5 @@
 -- What is left of the classes is still to be told.
-use Rattle.std.proofs.Common.{drop, ◌++◌, ◌≡◌}
-use Rattle.std.specs.List.{filter_map}
-use Rattle.sdd_watch.specs.Keeping.{active_of}
+use Rattle.sdd_watch.proofs.All.{active_of, drop, filter_map, ◌++◌, ◌≡◌}
 use Rattle.sdd_watch.proofs.states.actives.Given as goal
 
 abbrev pub invariant-loop-run : goal.invariant-loop-run

@@ -1,4 +1,4 @@
-use Rattle.std.proofs.Common.{◌∙◌}
+use Rattle.sdd_watch.proofs.All.{◌∙◌}
 use Rattle.sdd_watch.proofs.Attempts.{attempt_is}
 use Rattle.sdd_watch.proofs.states.attempt.Goals as goal
 

@@ -1,7 +1,4 @@
-use Rattle.std.proofs.Common.{arith, length, sym, ◌∙◌, ◌≡◌, ◌≤◌}
-use Rattle.sdd_obligations.specs.All.{view_of}
-use Rattle.sdd_obligations.specs.dm.Views.{class_view}
-use Rattle.sdd_watch.specs.States.{head_told}
+use Rattle.sdd_watch.proofs.All.{arith, class_view, head_told, length, sym, view_of, ◌∙◌, ◌≡◌, ◌≤◌}
 use Rattle.sdd_watch.proofs.AtD.{told_is}
 use Rattle.sdd_watch.proofs.MadeLists.{picked_more}
 use Rattle.sdd_watch.proofs.states.dm_state.Goals as goal

@@ -1,11 +1,7 @@
 -- The heads of the classes before the one at hand are told.
-use Rattle.std.proofs.Common.{map, ◌≡◌}
-use Rattle.std.specs.List.{filter_map, range_with_len}
-use Rattle.sdd_obligations.specs.All.{Setting, view_of}
+use Rattle.sdd_watch.proofs.All.{Setting, class_view, filter_map, head_told, map, range_with_len, view_of, ◌≡◌}
 use Rattle.sdd_obligations.specs.dm.Represents.{Represents}
-use Rattle.sdd_obligations.specs.dm.Views.{class_view}
 use Rattle.sdd_obligations.specs.site_module.SiteLog.{Log}
-use Rattle.sdd_watch.specs.States.{head_told}
 use Rattle.sdd_watch.proofs.states.dm_state.Given as goal
 
 abbrev pub invariant-loop-class : goal.invariant-loop-class

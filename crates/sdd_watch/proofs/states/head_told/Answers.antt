@@ -1,4 +1,4 @@
-use Rattle.std.proofs.Common.{◌∙◌}
+use Rattle.sdd_watch.proofs.All.{◌∙◌}
 use Rattle.sdd_watch.proofs.AtD.{told_head}
 use Rattle.sdd_watch.proofs.states.head_told.Goals as goal
 

@@ -1,4 +1,4 @@
-use Rattle.sdd_obligations.specs.attempt.Lines.{lacked_by}
+use Rattle.sdd_watch.proofs.All.{lacked_by}
 use Rattle.sdd_watch.proofs.Attempts.{lacks_back}
 use Rattle.sdd_watch.proofs.states.lacking.Goals as goal
 

@@ -1,7 +1,5 @@
 -- What is left of the classes is still to be told.
-use Rattle.std.proofs.Common.{drop, ◌++◌, ◌≡◌}
-use Rattle.std.specs.List.{flat_map}
-use Rattle.sdd_watch.specs.Keeping.{questions_in}
+use Rattle.sdd_watch.proofs.All.{drop, flat_map, questions_in, ◌++◌, ◌≡◌}
 use Rattle.sdd_watch.proofs.states.open_questions.Given as goal
 
 abbrev pub invariant-loop-run : goal.invariant-loop-run

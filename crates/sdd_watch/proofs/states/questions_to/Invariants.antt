@@ -1,6 +1,5 @@
 -- The questions so far are those of the ASKs so far.
-use Rattle.std.proofs.Common.{map, ◌≡◌}
-use Rattle.sdd_watch.specs.Keeping.{question_by}
+use Rattle.sdd_watch.proofs.All.{map, question_by, ◌≡◌}
 use Rattle.sdd_watch.proofs.states.questions_to.Given as goal
 
 abbrev pub invariant-asks : goal.invariant-asks

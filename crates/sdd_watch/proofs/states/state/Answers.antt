@@ -1,7 +1,5 @@
-use Rattle.std.proofs.Common.{ap, subst, sym, ◌∙◌}
-use Rattle.sdd_obligations.specs.All.{D, IsSiteOf, local_of, setting_of}
+use Rattle.sdd_watch.proofs.All.{D, IsSiteOf, ap, dm_told, local_of, setting_of, state_of, subst, sym, ◌∙◌}
 use Rattle.sdd_inside.specs.declared.standing.SiteState.TheVariants as states
-use Rattle.sdd_watch.specs.States.{dm_told, state_of}
 use Rattle.sdd_watch.proofs.states.state.Goals as goal
 
 pub returns-in_ok-dm_state-in-D : goal.returns-in_ok-dm_state-in-D

@@ -1,7 +1,4 @@
-use Rattle.std.proofs.Common.{All, ap, subst, sym, ◌∙◌}
-use Rattle.std.specs.List.{filter_map, flat_map}
-use Rattle.sdd_obligations.specs.All.{ClassState}
-use Rattle.sdd_watch.specs.Keeping.{IsLineInOrder, active_of, questions_in}
+use Rattle.sdd_watch.proofs.All.{All, ClassState, IsLineInOrder, active_of, ap, filter_map, flat_map, questions_in, subst, sym, ◌∙◌}
 use Rattle.sdd_watch.proofs.AtT.{lines_in_order, told_is}
 use Rattle.sdd_watch.proofs.states.tm_state.Goals as goal
 

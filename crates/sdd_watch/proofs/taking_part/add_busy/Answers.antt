@@ -1,5 +1,4 @@
-use Rattle.std.proofs.Common.{sym, ◌∙◌}
-use Rattle.sdd_watch.specs.Happens.{takes_part}
+use Rattle.sdd_watch.proofs.All.{sym, takes_part, ◌∙◌}
 use Rattle.sdd_watch.proofs.TakingPart.{none_taken, one_taken}
 use Rattle.sdd_watch.proofs.taking_part.add_busy.Goals as goal
 

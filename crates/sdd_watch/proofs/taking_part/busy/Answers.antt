@@ -1,5 +1,4 @@
-use Rattle.sdd_obligations.specs.All.{U}
-use Rattle.sdd_watch.specs.Happens.{takes_part}
+use Rattle.sdd_watch.proofs.All.{U, takes_part}
 use Rattle.sdd_watch.proofs.SoFar.{filtered_all, filtered_to}
 use Rattle.sdd_watch.proofs.taking_part.busy.Goals as goal
 

@@ -1,7 +1,4 @@
-use Rattle.std.proofs.Common.{filter, take, ◌≡◌}
-use Rattle.sdd_obligations.specs.All.{Input, Log}
-use Rattle.sdd_watch.specs.Happens.{takes_part}
-use Rattle.sdd_watch.specs.Watching.{IsOver, arrived}
+use Rattle.sdd_watch.proofs.All.{Input, IsOver, Log, arrived, filter, take, takes_part, ◌≡◌}
 use Rattle.sdd_watch.proofs.taking_part.busy.Given as goal
 
 -- those so far

@@ -1,6 +1,4 @@
-use Rattle.std.proofs.Common.{ap, sym, ◌∙◌}
-use Rattle.sdd_obligations.specs.All.{Event, same_site}
-use Rattle.sdd_watch.specs.Happens.{concerns}
+use Rattle.sdd_watch.proofs.All.{Event, ap, concerns, same_site, sym, ◌∙◌}
 use Rattle.sdd_watch.proofs.TakingPart.{of_none}
 use Rattle.sdd_watch.proofs.taking_part.concerns.Goals as goal
 

@@ -1,9 +1,4 @@
-use Rattle.std.proofs.Common.{Some, ap, refl, subst, sym, ◌∙◌}
-use Rattle.sdd_obligations.specs.All.{Catalogue, nth_era, redeclares}
-use Rattle.sdd_obligations.specs.lang.Fits.{FitsTxn}
-use Rattle.sdd_obligations.specs.logs.Due.{home_of as site_of}
-use Rattle.sdd_obligations.proofs.class_eras.EraFits.{fits_in_era}
-use Rattle.sdd_run.proofs.world.HomesExist.{no_txn, txn_read}
+use Rattle.sdd_watch.proofs.All.{Catalogue, FitsTxn, Some, ap, fits_in_era, no_txn, nth_era, redeclares, refl, site_of, subst, sym, txn_read, ◌∙◌}
 use Rattle.sdd_watch.proofs.taking_part.home_of.Goals as goal
 
 pub home-requires : goal.home-requires
@@ -22,8 +17,7 @@ returns-in-Some c = λ g log calm.
     let is = txn_read g c.args.number.0 c.saturating_sub-place.result g.txns
     c.transactions.result.now c.in-Some.txn.now refl (c.transactions.ensures g log calm) c.saturating_sub-place.ensures
     c.in-Some.ensures.lookup.3.0 c.in-Some.ensures.lookup.1 in
-    c.home.ensures ∙ ap (λ (k : Catalogue). site_of k (Some c.in-Some.txn.now)) (c.catalogue.ensures g log calm)
-    ∙ ap (site_of (nth_era g (redeclares log)).catalogue) (sym is)
+    c.home.ensures ∙ (λ i. site_of (c.catalogue.ensures g log calm i) (sym is i))
 
 pub returns-in-None : goal.returns-in-None
 returns-in-None c = λ g log calm.

@@ -1,7 +1,4 @@
-use Rattle.std.proofs.Common.{ap, refl, ◌∙◌}
-use Rattle.std.proofs.lemmas.List.Elements.{All-get_or}
-use Rattle.sdd_obligations.specs.All.{Catalogue, IsSiteOf, U, local_of, setting_of}
-use Rattle.sdd_watch.specs.States.{state_of}
+use Rattle.sdd_watch.proofs.All.{All-get_or, Catalogue, IsSiteOf, U, ap, local_of, refl, setting_of, state_of, ◌∙◌}
 use Rattle.sdd_watch.proofs.SoFar.{mapped_all, mapped_to}
 use Rattle.sdd_watch.proofs.Unapplied.{unapplied_is}
 use Rattle.sdd_watch.proofs.taking_part.states.Goals as goal

@@ -1,8 +1,4 @@
-use Rattle.std.proofs.Common.{All, map, take, ◌≡◌}
-use Rattle.sdd_obligations.specs.All.{Input, IsSiteOf, Log}
-use Rattle.sdd_run.specs.world.Represents.{Calm}
-use Rattle.sdd_watch.specs.States.{state_of}
-use Rattle.sdd_watch.specs.Watching.{AreDones}
+use Rattle.sdd_watch.proofs.All.{All, AreDones, Calm, Input, IsSiteOf, Log, map, state_of, take, ◌≡◌}
 use Rattle.sdd_watch.proofs.taking_part.states.Given as goal
 
 -- those so far

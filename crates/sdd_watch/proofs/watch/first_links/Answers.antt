@@ -1,6 +1,4 @@
-use Rattle.std.proofs.Common.{[]}
-use Rattle.sdd_obligations.specs.All.{U}
-use Rattle.sdd_watch.specs.Watching.{watched_link}
+use Rattle.sdd_watch.proofs.All.{U, [], watched_link}
 use Rattle.sdd_watch.proofs.SoFar.{mapped_all, mapped_to}
 use Rattle.sdd_watch.proofs.watch.first_links.Goals as goal
 

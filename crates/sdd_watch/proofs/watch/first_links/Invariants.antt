@@ -1,5 +1,4 @@
-use Rattle.std.proofs.Common.{[], map, take, ◌≡◌}
-use Rattle.sdd_watch.specs.Watching.{watched_link}
+use Rattle.sdd_watch.proofs.All.{[], map, take, watched_link, ◌≡◌}
 use Rattle.sdd_watch.proofs.watch.first_links.Given as goal
 
 -- those so far

@@ -1,5 +1,5 @@
 -- One link more, and all of them.
-use Rattle.std.proofs.Common.{sym, ◌∙◌}
+use Rattle.sdd_watch.proofs.All.{sym, ◌∙◌}
 use Rattle.sdd_watch.proofs.LinksLooked.{at_link, links_more, links_over, no_links_yet}
 use Rattle.sdd_watch.proofs.watched_link.look_at_links.Goals as goal
 

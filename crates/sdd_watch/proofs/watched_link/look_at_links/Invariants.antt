@@ -1,7 +1,5 @@
 -- The links before the place at hand are looked at.
-use Rattle.std.proofs.Common.{map, ◌≡◌}
-use Rattle.sdd_obligations.specs.All.{Input, Log, all_links}
-use Rattle.sdd_watch.specs.Watching.{IsOver, watched_link}
+use Rattle.sdd_watch.proofs.All.{Input, IsOver, Log, all_links, map, watched_link, ◌≡◌}
 use Rattle.sdd_watch.proofs.LinksLooked.{LinksSoFar}
 use Rattle.sdd_watch.proofs.watched_link.look_at_links.Given as goal
 

@@ -1,6 +1,5 @@
 -- One pipe more, and all of them.
-use Rattle.std.proofs.Common.{ap, append-nil, arith, length, sym, ◌≡◌}
-use Rattle.sdd_obligations.specs.All.{Catalogue}
+use Rattle.sdd_watch.proofs.All.{Catalogue, ap, append-nil, arith, length, sym, ◌≡◌}
 use Rattle.sdd_watch.proofs.PipesBegun.{class_more, classes_done}
 use Rattle.sdd_watch.proofs.watched_pipe.add_pipes.Goals as goal
 

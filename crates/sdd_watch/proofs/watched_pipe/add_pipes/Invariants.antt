@@ -1,7 +1,5 @@
 -- The pipes of the classes before the one at hand are added.
-use Rattle.std.proofs.Common.{[], map, ◌++◌, ◌≡◌}
-use Rattle.sdd_obligations.specs.All.{Input}
-use Rattle.sdd_watch.specs.Watching.{watched_pipe}
+use Rattle.sdd_watch.proofs.All.{Input, [], map, watched_pipe, ◌++◌, ◌≡◌}
 use Rattle.sdd_watch.proofs.PipesBegun.{first_classes}
 use Rattle.sdd_watch.proofs.watched_pipe.add_pipes.Given as goal
 

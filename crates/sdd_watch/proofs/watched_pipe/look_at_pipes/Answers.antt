@@ -1,7 +1,5 @@
 -- One pipe more, and all of them.
-use Rattle.std.proofs.Common.{arith, get_or, refl}
-use Rattle.sdd_obligations.specs.All.{U, class_no, dm_no}
-use Rattle.sdd_watch.specs.declared.watched_pipe.WatchedPipe.{WatchedPipe}
+use Rattle.sdd_watch.proofs.All.{U, WatchedPipe, arith, class_no, dm_no, get_or, refl}
 use Rattle.sdd_watch.proofs.PipesVisited.{at_hand, at_module, no_pipes_yet, pipes_more, pipes_over, rest_stands}
 use Rattle.sdd_watch.proofs.watched_pipe.look_at_pipes.Goals as goal
 

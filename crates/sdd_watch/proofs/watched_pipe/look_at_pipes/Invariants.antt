@@ -1,9 +1,5 @@
 -- The pipes before the place at hand are looked at, and the others stand as they stood.
-use Rattle.std.proofs.Common.{map, ◌≡◌}
-use Rattle.sdd_obligations.specs.All.{Input, Log}
-use Rattle.sdd_run.specs.world.Represents.{Calm}
-use Rattle.sdd_watch.specs.Moments.{all_pipes}
-use Rattle.sdd_watch.specs.Watching.{IsBetween, arrived, watched_pipe}
+use Rattle.sdd_watch.proofs.All.{Calm, Input, IsBetween, Log, all_pipes, arrived, map, watched_pipe, ◌≡◌}
 use Rattle.sdd_watch.proofs.PipesVisited.{AsTheyStood, PipesSoFar}
 use Rattle.sdd_watch.proofs.watched_pipe.look_at_pipes.Given as goal
 

@@ -1,5 +1,4 @@
-use Rattle.std.proofs.Common.{◌≡◌, ◌++◌, drop, filter_map}
-use Rattle.sdd_watch.specs.Awaiting.{number_for}
+use Rattle.sdd_watch.proofs.All.{drop, filter_map, number_for, ◌++◌, ◌≡◌}
 use Rattle.sdd_watch.proofs.watched_pipe.numbers_among.Given as goal
 
 -- what is made and what is left to make is all of it

@@ -1,7 +1,5 @@
 -- The time is that of the head, or the greatest that was processed.
-use Rattle.std.proofs.Common.{ap}
-use Rattle.sdd_obligations.specs.All.{time_at}
-use Rattle.sdd_obligations.specs.dm.Due.{or_zero}
+use Rattle.sdd_watch.proofs.All.{ap, or_zero, time_at}
 use Rattle.sdd_watch.proofs.watched_pipe.passed_to.Goals as goal
 
 pub returns-in-Some : goal.returns-in-Some

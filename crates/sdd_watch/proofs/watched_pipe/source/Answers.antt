@@ -1,7 +1,5 @@
 -- Class 0 is run by the module for undeclared transactions, and any other one by its transaction module.
-use Rattle.std.proofs.Common.{ap, arith, length, subst, sym, ◌∙◌, ◌≡◌, ◌≤◌}
-use Rattle.sdd_obligations.specs.All.{Catalogue, Class, T, class_at}
-use Rattle.sdd_watch.specs.Moments.{source}
+use Rattle.sdd_watch.proofs.All.{Catalogue, Class, T, ap, arith, class_at, length, source, subst, sym, ◌∙◌, ◌≡◌, ◌≤◌}
 use Rattle.sdd_watch.proofs.Sourced.{source_of_class}
 use Rattle.sdd_watch.proofs.watched_pipe.source.Goals as goal
 

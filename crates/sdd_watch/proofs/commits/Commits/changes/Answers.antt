@@ -1,6 +1,4 @@
-use Rattle.std.proofs.Common.{ℕ, Option, refl, sym, ◌∙◌}
-use Rattle.std.specs.BTreeMap.{get}
-use Rattle.std.specs.Ordering.{nat_cmp}
+use Rattle.sdd_watch.proofs.All.{Option, get, nat_cmp, refl, sym, ℕ, ◌∙◌}
 use Rattle.sdd_watch.proofs.Committed.{changes_at_place, no_changes, within_records}
 use Rattle.sdd_watch.proofs.commits.Commits.changes.Goals as goal
 

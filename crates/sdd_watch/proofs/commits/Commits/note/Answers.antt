@@ -1,7 +1,4 @@
-use Rattle.std.proofs.Common.{sym, ◌∙◌}
-use Rattle.std.specs.BTreeMap.{get}
-use Rattle.std.specs.Ordering.{nat_cmp}
-use Rattle.sdd_run.proofs.world.Results.{after_ok}
+use Rattle.sdd_watch.proofs.All.{after_ok, get, nat_cmp, sym, ◌∙◌}
 use Rattle.sdd_watch.proofs.Committed.{known_still, known_with}
 use Rattle.sdd_watch.proofs.commits.Commits.note.Goals as goal
 

@@ -1,6 +1,4 @@
-use Rattle.std.proofs.Common.{ℕ, Option, sym, ◌∙◌}
-use Rattle.std.specs.BTreeMap.{get}
-use Rattle.std.specs.Ordering.{nat_cmp}
+use Rattle.sdd_watch.proofs.All.{Option, get, nat_cmp, sym, ℕ, ◌∙◌}
 use Rattle.sdd_watch.proofs.Committed.{kept_place, put_place}
 use Rattle.sdd_watch.proofs.commits.Commits.note_commit.Goals as goal
 

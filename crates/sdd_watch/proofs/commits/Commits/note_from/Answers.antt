@@ -1,6 +1,4 @@
-use Rattle.std.proofs.Common.{ℕ, Option}
-use Rattle.std.specs.BTreeMap.{get}
-use Rattle.std.specs.Ordering.{nat_cmp}
+use Rattle.sdd_watch.proofs.All.{Option, get, nat_cmp, ℕ}
 use Rattle.sdd_watch.proofs.Committed.{known_all, known_to}
 use Rattle.sdd_watch.proofs.commits.Commits.note_from.Goals as goal
 

@@ -1,5 +1,4 @@
-use Rattle.std.proofs.Common.{take}
-use Rattle.sdd_watch.specs.Watching.{AreCommits}
+use Rattle.sdd_watch.proofs.All.{AreCommits, take}
 use Rattle.sdd_watch.proofs.commits.Commits.note_from.Given as goal
 
 -- the records so far are noted

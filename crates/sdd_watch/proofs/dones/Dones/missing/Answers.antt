@@ -1,8 +1,4 @@
-use Rattle.std.proofs.Common.{◌≡◌, ◌∙◌, ◌-◌, [], ap, arith, filter, map, not}
-use Rattle.std.specs.BTreeSet.{contains}
-use Rattle.sdd_obligations.specs.All.{dm_no, numbers_to}
-use Rattle.sdd_obligations.specs.serial_orders.Finding.{pair_cmp}
-use Rattle.sdd_run.proofs.world.Lists.{kept_to}
+use Rattle.sdd_watch.proofs.All.{[], ap, arith, contains, dm_no, filter, kept_to, map, not, numbers_to, pair_cmp, ◌-◌, ◌∙◌, ◌≡◌}
 use Rattle.sdd_watch.proofs.dones.Dones.missing.Goals as goal
 
 pub loop-number-preserved : goal.loop-number-preserved

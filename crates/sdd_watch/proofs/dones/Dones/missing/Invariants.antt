@@ -1,7 +1,4 @@
-use Rattle.std.proofs.Common.{◌≡◌, ◌-◌, ◌++◌, [], filter, map, not}
-use Rattle.std.specs.BTreeSet.{contains}
-use Rattle.sdd_obligations.specs.All.{dm_no, numbers_to}
-use Rattle.sdd_obligations.specs.serial_orders.Finding.{pair_cmp}
+use Rattle.sdd_watch.proofs.All.{[], contains, dm_no, filter, map, not, numbers_to, pair_cmp, ◌++◌, ◌-◌, ◌≡◌}
 use Rattle.sdd_watch.proofs.dones.Dones.missing.Given as goal
 
 -- those so far

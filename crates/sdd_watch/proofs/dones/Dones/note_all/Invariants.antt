@@ -1,8 +1,4 @@
-use Rattle.std.proofs.Common.{ℕ, ◌≡◌, ◌||◌, take}
-use Rattle.std.specs.BTreeSet.{contains}
-use Rattle.std.specs.List.{list_any}
-use Rattle.sdd_obligations.specs.serial_orders.Finding.{pair_cmp}
-use Rattle.sdd_watch.specs.Looking.{says_one}
+use Rattle.sdd_watch.proofs.All.{contains, list_any, pair_cmp, says_one, take, ℕ, ◌||◌, ◌≡◌}
 use Rattle.sdd_watch.proofs.dones.Dones.note_all.Given as goal
 
 -- what was said before, and by the messages so far

@@ -1,7 +1,4 @@
-use Rattle.std.proofs.Common.{◌∙◌, ap, cond, true}
-use Rattle.std.specs.BTreeSet.{contains}
-use Rattle.sdd_obligations.specs.serial_orders.Finding.{pair_cmp}
-use Rattle.sdd_obligations.proofs.serial_orders.Reading.{same_pair}
+use Rattle.sdd_watch.proofs.All.{ap, cond, contains, pair_cmp, same_pair, true, ◌∙◌}
 use Rattle.sdd_watch.proofs.Saying.{said_by}
 use Rattle.sdd_watch.proofs.dones.Dones.note_one.Goals as goal
 

@@ -1,6 +1,4 @@
-use Rattle.std.proofs.Common.{ap, ◌++◌, ◌∙◌}
-use Rattle.sdd_obligations.specs.All.{Catalogue}
-use Rattle.sdd_inside.specs.Lines.{line}
+use Rattle.sdd_watch.proofs.All.{Catalogue, ap, line, ◌++◌, ◌∙◌}
 use Rattle.sdd_watch.proofs.ToTell.{over_when}
 use Rattle.sdd_watch.proofs.teller.Teller.tell.Goals as goal
 

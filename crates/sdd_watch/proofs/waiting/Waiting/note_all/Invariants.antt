@@ -1,5 +1,4 @@
-use Rattle.std.proofs.Common.{◌≡◌, ◌++◌, drop, filter_map}
-use Rattle.sdd_watch.specs.Awaiting.{purposed_above}
+use Rattle.sdd_watch.proofs.All.{drop, filter_map, purposed_above, ◌++◌, ◌≡◌}
 use Rattle.sdd_watch.proofs.waiting.Waiting.note_all.Given as goal
 
 -- what is added and what is left to add is all of it

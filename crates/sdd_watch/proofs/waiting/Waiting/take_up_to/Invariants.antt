@@ -1,5 +1,4 @@
-use Rattle.std.proofs.Common.{◌≡◌, ◌++◌, length}
-use Rattle.sdd_watch.specs.Awaiting.{behind, up_to}
+use Rattle.sdd_watch.proofs.All.{behind, length, up_to, ◌++◌, ◌≡◌}
 use Rattle.sdd_watch.proofs.waiting.Waiting.take_up_to.Given as goal
 
 -- what is taken and what is left to take is all of it

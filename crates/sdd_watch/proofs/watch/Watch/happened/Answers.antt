@@ -1,8 +1,4 @@
-use Rattle.std.proofs.Common.{ap, filter, map, subst, sym, ◌∙◌}
-use Rattle.sdd_watch.specs.Happens.{takes_part}
-use Rattle.sdd_watch.specs.States.{state_of}
-use Rattle.sdd_watch.specs.Watching.{AreDones}
-use Rattle.sdd_watch.specs.declared.watch.Watch.{Watch}
+use Rattle.sdd_watch.proofs.All.{AreDones, Watch, ap, filter, map, state_of, subst, sym, takes_part, ◌∙◌}
 use Rattle.sdd_watch.proofs.Happening.{dones_more, happened_is, takers_there}
 use Rattle.sdd_watch.proofs.watch.Watch.happened.Goals as goal
 

@@ -1,9 +1,4 @@
-use Rattle.std.proofs.Common.{ap, arith, refl, subst, sym, ◌∙◌}
-use Rattle.sdd_obligations.specs.All.{all_links}
-use Rattle.sdd_inside.specs.declared.moment.Moment.{Moment}
-use Rattle.sdd_watch.specs.Moments.{all_pipes}
-use Rattle.sdd_watch.specs.Watching.{Knows, watched_link, watched_pipe}
-use Rattle.sdd_watch.specs.declared.watch.Watch.{Watch}
+use Rattle.sdd_watch.proofs.All.{Knows, Moment, Watch, all_links, all_pipes, ap, arith, refl, subst, sym, watched_link, watched_pipe, ◌∙◌}
 use Rattle.sdd_watch.proofs.CutDifference.{change_told}
 use Rattle.sdd_watch.proofs.KeptBeside.{beside, known, written_back}
 use Rattle.sdd_watch.proofs.watch.Watch.look.Goals as goal

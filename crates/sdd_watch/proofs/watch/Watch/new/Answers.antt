@@ -1,6 +1,4 @@
-use Rattle.std.proofs.Common.{[], ap, map, refl, ◌∙◌}
-use Rattle.sdd_obligations.specs.All.{Catalogue, links, sites}
-use Rattle.sdd_watch.specs.Watching.{watched_link}
+use Rattle.sdd_watch.proofs.All.{Catalogue, [], ap, links, map, refl, sites, watched_link, ◌∙◌}
 use Rattle.sdd_watch.proofs.watch.Watch.new.Goals as goal
 
 pub returns : goal.returns

@@ -1,4 +1,4 @@
-use Rattle.std.proofs.Common.{ap, length, ◌∙◌}
+use Rattle.sdd_watch.proofs.All.{ap, length, ◌∙◌}
 use Rattle.sdd_watch.proofs.Happening.{commits_more}
 use Rattle.sdd_watch.proofs.watch.Watch.rows.Goals as goal
 

@@ -1,7 +1,5 @@
 -- What is read of the link in the world is what the log gives.
-use Rattle.std.proofs.Common.{◌≡◌}
-use Rattle.sdd_obligations.specs.All.{Input, IsLinkOf, Log, Site, calls_of}
-use Rattle.sdd_watch.specs.Watching.{IsOver, watched_link}
+use Rattle.sdd_watch.proofs.All.{Input, IsLinkOf, IsOver, Log, Site, calls_of, watched_link, ◌≡◌}
 use Rattle.sdd_watch.proofs.Looked.{IsRead, link_kept, link_looked, link_there, taken_told}
 use Rattle.sdd_watch.proofs.watched_link.WatchedLink.look.Goals as goal
 

@@ -1,9 +1,5 @@
 -- What is read of the pipe in the world is what the log gives.
-use Rattle.std.proofs.Common.{List, [], ap, length, refl, ℕ, ◌++◌, ◌+◌, ◌-◌, ◌∙◌, ◌∷◌, ◌≡◌, ◌≤◌}
-use Rattle.sdd_obligations.specs.All.{D, Input, IsSiteOf, Log, dm_no, local_of, setting_of}
-use Rattle.sdd_run.specs.world.Represents.{Calm}
-use Rattle.sdd_inside.specs.declared.moment.PipeMoment.{PipeMoment}
-use Rattle.sdd_watch.specs.Watching.{watched_pipe}
+use Rattle.sdd_watch.proofs.All.{Calm, D, Input, IsSiteOf, List, Log, PipeMoment, [], ap, dm_no, length, local_of, refl, setting_of, watched_pipe, ℕ, ◌++◌, ◌+◌, ◌-◌, ◌∙◌, ◌∷◌, ◌≡◌, ◌≤◌}
 use Rattle.sdd_watch.proofs.PipesLooked.{IsRead, pipe_kept, read_pipe, seen_after, seen_before}
 use Rattle.sdd_watch.proofs.watched_pipe.WatchedPipe.look.Goals as goal
 

@@ -1,0 +1,149 @@
+-- The names of std, of the crates below and of this crate's definitions that its proofs cite. Declares nothing.
+pub use Rattle.sdd_inside.proofs.Changes.{packets_end as mapped_end}
+pub use Rattle.sdd_inside.specs.Differences.{changes, difference, handed_between, in_flight, on_link, pipe_between, put_between, queue_between, takes_from, takes_one}
+pub use Rattle.sdd_inside.specs.Lines.{beginning, line}
+pub use Rattle.sdd_inside.specs.declared.delta.Delta.{Delta}
+pub use Rattle.sdd_inside.specs.declared.delta.Found.{Found}
+pub use Rattle.sdd_inside.specs.declared.delta.Handed.{Handed}
+pub use Rattle.sdd_inside.specs.declared.delta.PipeDelta.{PipeDelta}
+pub use Rattle.sdd_inside.specs.declared.delta.Put.{Put}
+pub use Rattle.sdd_inside.specs.declared.delta.RowDelta.{RowDelta}
+pub use Rattle.sdd_inside.specs.declared.delta.Taken.{Taken}
+pub use Rattle.sdd_inside.specs.declared.moment.Happened.{Happened}
+pub use Rattle.sdd_inside.specs.declared.moment.LinkMoment.{LinkMoment}
+pub use Rattle.sdd_inside.specs.declared.moment.Moment.{Moment}
+pub use Rattle.sdd_inside.specs.declared.moment.PipeMoment.{PipeMoment}
+pub use Rattle.sdd_inside.specs.declared.moment.QueueMoment.{QueueMoment}
+pub use Rattle.sdd_inside.specs.declared.standing.Active.{Active}
+pub use Rattle.sdd_inside.specs.declared.standing.Head.{Head}
+pub use Rattle.sdd_inside.specs.declared.standing.Head.TheVariants.{Waits}
+pub use Rattle.sdd_inside.specs.declared.standing.Question.{Question}
+pub use Rattle.sdd_inside.specs.declared.standing.SiteState.{SiteState}
+pub use Rattle.sdd_obligations.proofs.OfNext.{IsThere, link_of_links}
+pub use Rattle.sdd_obligations.proofs.ReadSent.{site_sym as same_back}
+pub use Rattle.sdd_obligations.proofs.Sources.{source_is_home}
+pub use Rattle.sdd_obligations.proofs.Submitting.{le_true}
+pub use Rattle.sdd_obligations.proofs.catalog.Sound.{sound_whole}
+pub use Rattle.sdd_obligations.proofs.class_eras.EraFits.{fits_in_era}
+pub use Rattle.sdd_obligations.proofs.copy.Contents.{items_keep, shown}
+pub use Rattle.sdd_obligations.proofs.graph.Lists.{each_more, range_more}
+pub use Rattle.sdd_obligations.proofs.invariants.Bools.{not_both}
+pub use Rattle.sdd_obligations.proofs.invariants.InOrder.{allowed_hand, handed_of_sent, in_order}
+pub use Rattle.sdd_obligations.proofs.invariants.InPipe.{pipe_is}
+pub use Rattle.sdd_obligations.proofs.invariants.Lists.{in_either, in_range}
+pub use Rattle.sdd_obligations.proofs.invariants.Processed.{and_false}
+pub use Rattle.sdd_obligations.proofs.invariants.Sent.{sent_is}
+pub use Rattle.sdd_obligations.proofs.invariants.Sites.{site_is, site_self}
+pub use Rattle.sdd_obligations.proofs.invariants.logs.attempt.Noting.{any_result as all_ok}
+pub use Rattle.sdd_obligations.proofs.invariants.logs.dm.ByClass.{filter_same}
+pub use Rattle.sdd_obligations.proofs.invariants.logs.dm.Shown.{head_shown, met_is, waits_shown}
+pub use Rattle.sdd_obligations.proofs.logs.Completing.{complete_parts, one_more, redeclare_next, settled}
+pub use Rattle.sdd_obligations.proofs.logs.Grows.{grows, lawful_grows, mark_is_next, with_end}
+pub use Rattle.sdd_obligations.proofs.logs.NewMarks.{lawful_permitted}
+pub use Rattle.sdd_obligations.proofs.logs.One.{IsBefore, limit_or_complete, one_chain, one_log}
+pub use Rattle.sdd_obligations.proofs.logs.Rounding.{no_events_quiet}
+pub use Rattle.sdd_obligations.proofs.net.Directions.{link_back}
+pub use Rattle.sdd_obligations.proofs.net.Lists.{All-at}
+pub use Rattle.sdd_obligations.proofs.net.Queues.{no_items}
+pub use Rattle.sdd_obligations.proofs.net.SiteLists.{all_links_more, links_no, links_yes, sites_more}
+pub use Rattle.sdd_obligations.proofs.net.Sound.{sound}
+pub use Rattle.sdd_obligations.proofs.serial_orders.Reading.{is_eq_nat, same_pair}
+pub use Rattle.sdd_obligations.proofs.tm.Lists.{of_map as in_mapped}
+pub use Rattle.sdd_obligations.specs.All.{Ack, Apply, Attempt, Call, Catalogue, Change, Class, ClassNo, ClassState, ClassView, Commit, Cond, D, Deliver, DmNo, Does, Done, Down, Entry, Event, FitsStart, FragNo, Fragment, Hand, History, Input, IsClassHere, IsEraOf, IsGood, IsLawful, IsLinkOf, IsPermitted, IsPossible, IsServedClass, IsSiteOf, IsSoundCatalogue, IsTable, IsTheLog, IsWhole, Kept, Link, Log, Lose, MAX_DMS, MAX_TMS, Mark, Message, Msg, Notes, Null, Packet, Pipe, Puts, Queued, Read, Rec, Redeclare, Redeclares, Repeat, Represent, Resend, Rests, Round, Setting, Settle, Site, Submit, Submitted, T, TakesRounds, Tick, TmNo, Ts, Txn, TxnNo, U, Up, Write, after_mark, all_links, all_of, are_linked, arrives, asks, bound_of, calls_of, class_at, class_in, class_no, clock, dated, deliver, delivered, dm_no, goes_through, greatest_bound, handed, hands_from, has_copy, head, head_of, history, holds, holds_back, home, is_down, is_empty, is_here, is_link, is_met, is_site, left, link, link_of, links, local_of, lose, mark_from, mark_of, marks, next, next_mark, nth_era, numbers_to, or_zero, packet_as, packet_at, pipe, puts, puts_to, quiet, redeclares, rel_no, repeat, resend, round, runs, same_site, sends_of_act, sent, setting_of, sites, spelled, time_at, time_of, tm_no, turned, txn_no, view_of, waits, with_event, with_packet, without_packet}
+pub use Rattle.sdd_obligations.specs.attempt.Lines.{Line, awaited_by, lacked_by, tries_of_first}
+pub use Rattle.sdd_obligations.specs.attempt.Phases.{awaited_in}
+pub use Rattle.sdd_obligations.specs.attempt.Sound.{IsLineOf, IsOfHead}
+pub use Rattle.sdd_obligations.specs.attempt.declared.answer.Answer.{Answer}
+pub use Rattle.sdd_obligations.specs.base.Words.{tail_of}
+pub use Rattle.sdd_obligations.specs.base.declared.value.Value.{Value}
+pub use Rattle.sdd_obligations.specs.copy.Contents.{Dated, latest, of_fragment}
+pub use Rattle.sdd_obligations.specs.copy.Copies.{Held, items_at}
+pub use Rattle.sdd_obligations.specs.copy.Items.{Items, row_in, row_of_item}
+pub use Rattle.sdd_obligations.specs.dm.Copies.{classes_of}
+pub use Rattle.sdd_obligations.specs.dm.Heads.{head_at, holds_in, is_met_in, unmet}
+pub use Rattle.sdd_obligations.specs.dm.Represents.{Shows}
+pub use Rattle.sdd_obligations.specs.dm.State.{State}
+pub use Rattle.sdd_obligations.specs.dm.Views.{class_view}
+pub use Rattle.sdd_obligations.specs.dm.Waiting.{holder_at, holders_in, holders_of, lacking_in, lacking_of}
+pub use Rattle.sdd_obligations.specs.invariants.Steps.{changes_at}
+pub use Rattle.sdd_obligations.specs.lang.Fits.{FitsTxn}
+pub use Rattle.sdd_obligations.specs.logs.Due.{home_of as site_of}
+pub use Rattle.sdd_obligations.specs.logs.Marks.{from_event}
+pub use Rattle.sdd_obligations.specs.net.Links.{Way, numbered, put, unacked, with_message, without_at}
+pub use Rattle.sdd_obligations.specs.net.Sound.{IsOf, IsSoundWay}
+pub use Rattle.sdd_obligations.specs.pipe.Digest.{Digest, IsDigest, passed_with}
+pub use Rattle.sdd_obligations.specs.pipe.Pipe.{greatest}
+pub use Rattle.sdd_obligations.specs.pipe.Pipes.{pipe_at}
+pub use Rattle.sdd_obligations.specs.serial_orders.Finding.{pair_cmp}
+pub use Rattle.sdd_obligations.specs.tm.State.{asked, class_of}
+pub use Rattle.sdd_run.proofs.Beginning.{all_given}
+pub use Rattle.sdd_run.proofs.ErasWithTables.{first_era, some_table, tables_are}
+pub use Rattle.sdd_run.proofs.OneReport.{one_list_of_tables}
+pub use Rattle.sdd_run.proofs.Reported.{ended}
+pub use Rattle.sdd_run.proofs.Starting.{all_allowed, starts}
+pub use Rattle.sdd_run.proofs.Whole.{rows_start}
+pub use Rattle.sdd_run.proofs.progress.ErasOf.{marks_up as marks_above}
+pub use Rattle.sdd_run.proofs.progress.Handed.{link_there}
+pub use Rattle.sdd_run.proofs.progress.Still.{d_site, t_site}
+pub use Rattle.sdd_run.proofs.progress.lawful.Touched.{copy_module}
+pub use Rattle.sdd_run.proofs.world.Carrying.{ends_from, first_allowed, first_one, lists_stay, next_list, no_rounds, with_first}
+pub use Rattle.sdd_run.proofs.world.Failing.{handed_on}
+pub use Rattle.sdd_run.proofs.world.HomesExist.{no_txn, txn_read}
+pub use Rattle.sdd_run.proofs.world.Lists.{kept_to}
+pub use Rattle.sdd_run.proofs.world.Results.{after_ok}
+pub use Rattle.sdd_run.proofs.world.Rounds.{few, free, rests_more as rests_given, round_before, round_ends, single}
+pub use Rattle.sdd_run.specs.Lent.{era_of_list}
+pub use Rattle.sdd_run.specs.Runs.{AreTables, EndsAtLimit, eras_with_tables, first_input, input_of}
+pub use Rattle.sdd_run.specs.class_lists.InForce.{eras_in, whole_in}
+pub use Rattle.sdd_run.specs.report.declared.copies.CopyTable.{CopyTable}
+pub use Rattle.sdd_run.specs.script.All.{IsValid}
+pub use Rattle.sdd_run.specs.script.declared.workload.Workload.{Workload}
+pub use Rattle.sdd_run.specs.world.Beginnings.{AllBegin, BeginsD, IsBegun}
+pub use Rattle.sdd_run.specs.world.Copies.{tables_of}
+pub use Rattle.sdd_run.specs.world.Modules.{AllRepresent, LivesD}
+pub use Rattle.sdd_run.specs.world.Pending.{commits}
+pub use Rattle.sdd_run.specs.world.Schedules.{AreAllowed, IsAllowed, lists_after, takes_rounds, with_events}
+pub use Rattle.sdd_run.specs.world.Represents.{Calm, EndsBy, Represents, Rounding, Settling, events_of}
+pub use Rattle.sdd_run.specs.world.declared.ends.WorldEnd.{WorldEnd}
+pub use Rattle.sdd_run.specs.world.declared.schedule.ClassList.{ClassList}
+pub use Rattle.sdd_run.specs.world.declared.sites.Sites.{Sites}
+pub use Rattle.sdd_run.specs.world.declared.world.World.{World}
+pub use Rattle.sdd_watch.specs.Awaiting.{behind, number_for, purpose_of, purposed, purposed_above, up_to, waiting_on}
+pub use Rattle.sdd_watch.specs.Happens.{applied_by, applied_in, arrived_by, arrived_of, changes_applied, changes_of, committed_by, committed_in, concerns, found_by, happened_at, is_of_item, is_reached, last_event, lost_by, place_in, place_of_first, round_at, round_in, rounds, row_by, row_left, row_told, rows_of, scheduled_at, something_if, states_of, taken, takes_part, unless_in_round, with_row}
+pub use Rattle.sdd_watch.specs.Keeping.{IsLineInOrder, active_of, head_in, question_by, questions_in}
+pub use Rattle.sdd_watch.specs.Looking.{advanced, all_waiting, messages_in, numbers_for, queue_in, queue_of, says, says_one, seen_with}
+pub use Rattle.sdd_watch.specs.Moments.{all_pipes, at_event, came, link_moment, moment_of, number_through, passed_to, pipe_moment, pipes_at_module, queue_moment, queues_at, queues_of, source, time_passed}
+pub use Rattle.sdd_watch.specs.States.{active_told, actives, attempt_told, dm_told, head_by, head_told, phase_by, questions_to, says_applied, state_of, tm_told, unapplied_of}
+pub use Rattle.sdd_watch.specs.ScheduleSoFar.{IsTextOf, IsTold, Tells, TellsBetween, TellsRound, TellsSettled}
+pub use Rattle.sdd_watch.specs.Text.{IsInsideOf, change, inside_text, line_of}
+pub use Rattle.sdd_watch.specs.Watching.{AreCommits, AreDones, IsBetween, IsMark, IsOver, IsTellable, IsToTell, IsTurn, Knows, Watches, arrived, arrived_on, doing, foreseen_by, handed_over, is_done_at, is_on, is_taken, left_between, left_of, link_after, link_before, pipe_after, pipe_before, seen_between, taken_at, taking, watched_link, watched_pipe}
+pub use Rattle.sdd_watch.specs.declared.commits.Commits.{Commits}
+pub use Rattle.sdd_watch.specs.declared.dones.Dones.{Dones}
+pub use Rattle.sdd_watch.specs.declared.foreseen.Foreseen.{Foreseen}
+pub use Rattle.sdd_watch.specs.declared.foreseen.Foreseen.TheVariants.{Something}
+pub use Rattle.sdd_watch.specs.declared.teller.Teller.{Teller}
+pub use Rattle.sdd_watch.specs.declared.waiting.Purpose.{Purpose}
+pub use Rattle.sdd_watch.specs.declared.waiting.Purpose.TheVariants.{Applied}
+pub use Rattle.sdd_watch.specs.declared.watch.Turn.{Turn}
+pub use Rattle.sdd_watch.specs.declared.watch.Watch.{Watch}
+pub use Rattle.sdd_watch.specs.declared.watched_link.Arrived.{Arrived}
+pub use Rattle.sdd_watch.specs.declared.watched_link.LinkSeen.{LinkSeen}
+pub use Rattle.sdd_watch.specs.declared.watched_link.WatchedLink.{WatchedLink}
+pub use Rattle.sdd_watch.specs.declared.watched_pipe.WatchedPipe.{WatchedPipe}
+pub use Rattle.std.proofs.Common.{All, Bool, Err, IfOk, List, MatchOption, None, Ok, OnOk, Option, Result, SFits as FitsSigned, Some, [], add-one, ap, append-nil, append_assoc, arith, cond, drop, drop-cons, drop-drop, drop-set-lt, eq-eqb, eqb-true, false, filter, filter_map, find, flat_map, fold, if◌then◌else◌, inl, inr, is_some, le-leb, le-ltb, length, length-take-le, lt-ltb, map, map-id, max, nat_cmp, nat_le, nat_lt, not, option_map, pos, position, refl, rules, slice_get, slice_index_or as get_or, slice_set, subst, suc, sym, take, take-append-drop, take_all, true, unwrap_or, w64, zero, ℕ, ℤ, ◌&&◌, ◌*◌, ◌++◌, ◌+◌, ◌-◌, ◌/◌, ◌<◌, ◌==◌, ◌^◌, ◌||◌, ◌∙◌, ◌∷◌, ◌≡◌, ◌≢◌, ◌≤◌, ◌⊎◌}
+pub use Rattle.std.proofs.Math.Seq.{drop-append_seam, take-append_seam, take-take}
+pub use Rattle.std.proofs.lemmas.Bool.{and_parts, cases_Bool, cases_lt, lt-leb}
+pub use Rattle.std.proofs.lemmas.Int.{to_z-of_z}
+pub use Rattle.std.proofs.lemmas.Iterator.Adapters.{position_from-zero}
+pub use Rattle.std.proofs.lemmas.List.{drop-append-le, drop-take, drop_all, flat_map_more, get_or_default, get_or_past, length-map, map-append, take-append-le, take_more}
+pub use Rattle.std.proofs.lemmas.List.Concat.{flat_map-append}
+pub use Rattle.std.proofs.lemmas.List.Elements.{All-append, All-cons, All-filter, All-from_recursion, All-get_or, All-head, All-map, All-nil, All-tail, filter-append, filter_map-append}
+pub use Rattle.std.proofs.lemmas.List.Folds.{list_any-append, list_any_more}
+pub use Rattle.std.proofs.lemmas.List.FromFn.{map-range_with_len_more}
+pub use Rattle.std.proofs.lemmas.List.Sums.{fold-append}
+pub use Rattle.std.proofs.lemmas.Option.{slice_get-map}
+pub use Rattle.std.proofs.lemmas.Simd.{map-map}
+pub use Rattle.std.specs.BTreeMap.{get, is_at}
+pub use Rattle.std.specs.BTreeSet.{contains}
+pub use Rattle.std.specs.List.{AllByRecursion, AllZip, cons_option, list_any, position_from, range_with_len}
+pub use Rattle.std.specs.Option.{option_or}
