@@ -1,5 +1,5 @@
 -- Another class list is put in force, once the links are quiet, over plain worlds.
-use Rattle.sdd_world.proofs.All.{AllRepresent, AreRedeclared, Carries, Catalogue, EndsBy, EndsIn, Entry, Era, Event, FitsEra, Input, IsNextList, IsSettled, List, Log, MAX_RUN_EVENTS, Redeclare, Redeclares, Redeclaring, Represent, Represents, Sites, Spooled, U, World, [], all_facts, ap, arith, calls_of, count_join, greatest_bound, left, local_of, lt-ltb, marks, none_left, nth_era, redeclare_next, redeclares, redeclares_in, redeclares_left, refl, rests_redeclared, setting_of, settles_before, subst, suc, sym, with_era, with_event, zero, ℕ, ◌+◌, ◌∙◌, ◌∷◌, ◌≡◌, ◌≢◌}
+use Rattle.sdd_world.proofs.All.{AllRepresent, AreRedeclared, Carries, Catalogue, EndsBy, EndsIn, Entry, Era, Event, FitsEra, Input, IsNextList, IsSettled, List, Log, MAX_RUN_EVENTS, Redeclare, Redeclares, Redeclaring, Represent, Represents, Sites, Spooled, U, World, [], all_obligations, ap, arith, calls_of, count_join, greatest_bound, left, local_of, lt-ltb, marks, none_left, nth_era, redeclare_next, redeclares, redeclares_in, redeclares_left, refl, rests_redeclared, setting_of, settles_before, subst, suc, sym, with_era, with_event, zero, ℕ, ◌+◌, ◌∙◌, ◌∷◌, ◌≡◌, ◌≢◌}
 use Rattle.sdd_world.proofs.Parting.{spooled_on}
 use Rattle.sdd_world.proofs.Rounds.{few, free}
 

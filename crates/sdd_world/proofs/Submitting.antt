@@ -1,5 +1,5 @@
 -- A transaction is given to its module, which does what is due, over plain worlds.
-use Rattle.sdd_world.proofs.All.{Act, All, AreDue, AreLinked, Bases, Carries, EndsBy, Era, Followed, Happened, Input, IsClassAt, IsLawful, IsPast, IsSiteOf, List, Log, Mailbox, Mark, Marked, MaySend, Msg, Outcome, Rec, Represent, Setting, Site, Sites, Some, Spooled, Submission, Submit, Submits, T, Txn, TxnNo, U, World, [], acts_lawful, after_acts, all_facts, ap, append_assoc, arith, base_of, calls_acts, calls_of, class_for, ends_in_acts, false, fits_in_era, fits_submit, get_or, history, history_acts, home_in, home_of, left_acts, linked_acts, listed, local_of, log_after, map, mark_within, marks, marks_acts, next_in, next_of, nth_era, other_acts, other_local, own_acts, puts, puts_past, records_of, redeclared_is, redeclares, refl, same_is, same_site, sends_of, setting_of, slice_get, submits_and_acts, submitted, submitted_local, submitted_within, subst, suc, sym, true, txn_at, zero, ℕ, ◌++◌, ◌-◌, ◌∙◌, ◌∷◌, ◌≡◌, ◌≤◌}
+use Rattle.sdd_world.proofs.All.{Act, All, AreDue, AreLinked, Bases, Carries, EndsBy, Era, Followed, Happened, Input, IsClassAt, IsLawful, IsPast, IsSiteOf, List, Log, Mailbox, Mark, Marked, MaySend, Msg, Outcome, Rec, Represent, Setting, Site, Sites, Some, Spooled, Submission, Submit, Submits, T, Txn, TxnNo, U, World, [], acts_lawful, after_acts, all_obligations, ap, append_assoc, arith, base_of, calls_acts, calls_of, class_for, ends_in_acts, false, fits_in_era, fits_submit, get_or, history, history_acts, home_in, home_of, left_acts, linked_acts, listed, local_of, log_after, map, mark_within, marks, marks_acts, next_in, next_of, nth_era, other_acts, other_local, own_acts, puts, puts_past, records_of, redeclared_is, redeclares, refl, same_is, same_site, sends_of, setting_of, slice_get, submits_and_acts, submitted, submitted_local, submitted_within, subst, suc, sym, true, txn_at, zero, ℕ, ◌++◌, ◌-◌, ◌∙◌, ◌∷◌, ◌≡◌, ◌≤◌}
 use Rattle.sdd_world.proofs.Handing.{are_linked, at_log, due_same, here_at}
 use Rattle.sdd_world.proofs.Marking.{happened}
 use Rattle.sdd_world.proofs.Parting.{events_before, later, redeclares_acts, spooled_acts, spooled_on}

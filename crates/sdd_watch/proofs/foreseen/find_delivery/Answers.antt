@@ -1,6 +1,6 @@
 use Rattle.sdd_watch.proofs.All.{ap, arrived_of, sym, ◌∙◌}
 use Rattle.sdd_inside.specs.declared.delta.Found.TheVariants as founds
-use Rattle.sdd_watch.proofs.foreseen.delivered.Goals as goal
+use Rattle.sdd_watch.proofs.foreseen.find_delivery.Goals as goal
 
 pub returns-in-Message : goal.returns-in-Message
 returns-in-Message c = λ g log calm linked.
