@@ -1,6 +1,6 @@
 -- A class that has a step makes the act that is due, and the module keeps what follows from the log.
 use Rattle.sdd_tm.proofs.All.{Act, AllByRecursion, AllUpTo, Answer, Attempt, Bases, Bool, ClassState, Commit, D, Did, InTurn, IsAmid, IsCalm, IsLineOf, IsOfHead, IsRequest, IsServed, IsSoundLog, IsWaiting, List, Log, Msg, NoReads, None, Notes, Null, Option, Queued, Send, Sends, Setting, Some, Start, State, Step, Ticking, ToCommit, ToSend, act_of, active, active_after, active_apart, all_starts, all_up_of, answer_time, answer_to, ap, arith, asking_of, asks, asks_apart, asks_done, asks_of, begins, can_answer, class_no, class_of, class_step, class_view, clock, commit_act, commit_next, commit_no_reads, commits, current_era, dm_no, false, false≢true, filter, find, handed, hands, has_to_send, head_of, holds, holds_acted, is_empty, is_none, line_after, line_apart, line_committed, line_elsewhere, line_sent, line_started, line_step, list_any, map, next, no_read_asked, not, on_hold, option_map, own_record, queue, queue_after, record_in, refl, request_of, runs, send_due, send_next, sends_of_act, sent, served_sent, slice_get, slice_set, stamped_did, start_act, start_due, start_is_up, start_next, start_no_reads, started, starts_committed, starts_left, starts_sent, starts_started, state_done, state_of, submits, subst, suc, sym, ticked, ticked_by, time_at, timestamp, tried, true, view_of, with_act, with_due_act, ℕ, ◌&&◌, ◌+◌, ◌<◌, ◌==◌, ◌^◌, ◌∙◌, ◌∷◌, ◌≡◌, ◌≢◌, ◌≤◌}
-use Rattle.sdd_tm.proofs.Lists.{some_is, get_map, of_map, by_order}
+use Rattle.sdd_tm.proofs.Lists.{get_map, of_map}
 use Rattle.sdd_tm.proofs.ClassNumbers.{runs_apart, runs_class}
 use Rattle.sdd_tm.proofs.OpenAsks.{open_did, first_answered}
 use Rattle.sdd_tm.proofs.Dues.{IsStep, sends, commits_now, answers, starts, step_is, attempt_is_due, null_is_due, start_is_due}
@@ -13,9 +13,7 @@ use Rattle.sdd_attempt.specs.protocol.declared.entry.Entry as line
 
 each_class : (s : Setting) (P : ℕ → Type 0) (place c : ℕ) → slice_get (runs s) place ≡ Some c → P c
     → ((i d : ℕ) → slice_get (runs s) i ≡ Some d → i ≢ place → P d) → (i d : ℕ) → slice_get (runs s) i ≡ Some d → P d
-each_class s P place c e own others i d f =
-    by_order (P d) i place (λ l. others i d f (λ q. absurd (omega arith))) (λ same. subst P (some_is (sym e ∙ ap (slice_get (runs s)) (sym same) ∙ f)) own)
-    (λ l. others i d f (λ q. absurd (omega arith)))
+each_class s P place c e own others i d f = grind arith
 
 -- The act that a class makes by its step is the one that is due, and then the module keeps what follows from the log.
 pub record Makes (s : Setting) (bases : Bases) (log : Log) (place : ℕ) (k : ClassState) (step : Step) (state : State) : Type 0 where

@@ -1,5 +1,5 @@
 -- What the module keeps of the log after each act: that of one class changes, as its step says.
-use Rattle.sdd_tm.proofs.All.{Act, Asked, Attempt, ClassState, D, Did, Held, HoldCounts, IsApart, IsRequest, List, Log, Msg, None, Null, Option, Question, Queued, Rec, Records, Sends, Setting, Site, Some, State, Ticking, [], active, active_after, active_apart, active_sent, ap, asks, asks_acted, asks_apart, asks_of, asks_rows, can_answer, class_no, class_of, class_view, clock, dm_no, false, filter, holds, holds_acted, line_after, map, not, queue, queue_after, queue_apart, refl, runs, sent_apart, slice_get, slice_set, state_of, sym, ticked_by, time_at, true, view_of, without_first, ℕ, ◌∙◌, ◌∷◌, ◌≡◌, ◌≢◌}
+use Rattle.sdd_tm.proofs.All.{Act, Asked, Attempt, ClassState, D, Did, Held, HoldCounts, IsApart, IsRequest, List, Log, Msg, None, Null, Option, Question, Queued, Rec, Records, Sends, Setting, Site, Some, State, Ticking, [], active, active_after, active_apart, active_sent, ap, asks, asks_acted, asks_apart, asks_of, asks_rows, can_answer, class_no, class_of, class_view, clock, dm_no, false, filter, holds, holds_acted, line_after, not, queue, queue_after, queue_apart, refl, rules, runs, sent_apart, slice_get, slice_set, state_of, sym, ticked_by, time_at, true, view_of, without_first, ℕ, ◌∙◌, ◌∷◌, ◌≡◌, ◌≢◌}
 use Rattle.sdd_tm.proofs.Lists.{map_is_set}
 use Rattle.sdd_tm.proofs.ClassNumbers.{runs_apart}
 use Rattle.sdd_tm.proofs.OpenAsks.{IsFirst}
@@ -14,10 +14,7 @@ with_class place clock new state = record state { clock = clock; classes = slice
 state_did : (s : Setting) (log : Log) (act : Act) (place c : ℕ) → slice_get (runs s) place ≡ Some c
     → holds_acted act (holds log) ≡ holds log → OthersStay s log act place → state_of s (Did act ∷ log) ≡ with_class place (ticked_by act (clock s.site log))
     (class_of s (Did act ∷ log) c) (state_of s log)
-state_did s log act place c e same others =
-    let classes : map (class_of s (Did act ∷ log)) (runs s) ≡ slice_set (map (class_of s log) (runs s)) place (class_of s (Did act ∷ log) c) =
-    map_is_set (class_of s (Did act ∷ log)) (class_of s log) (runs s) place c (class_of s (Did act ∷ log) c) e refl others in
-    rw (same, classes) refl
+state_did s log act place c e same others = search (rules, map_is_set)
 
 -- a class after an act, by its parts
 abbrev class_by : Setting → ℕ → List Queued → Option Attempt → List Asked → ClassState
@@ -26,9 +23,7 @@ class_by s c queue active asks = record { line = record { catalogue = s.catalogu
 class_stays : (s : Setting) (log : Log) (act : Act) (c : ℕ) → queue_after c act (queue s c log) ≡ queue s c log
     → active_after c act (queue s c log) (active s c log) ≡ active s c log
     → asks_of c (asks_acted act (asks log)) ≡ asks_of c (asks log) → class_of s (Did act ∷ log) c ≡ class_of s log c
-class_stays s log act c e f g =
-    ap (λ q. class_by s c q (active_after c act (queue s c log) (active s c log)) (asks_of c (asks_acted act (asks log)))) e
-    ∙ ap (λ a. class_by s c (queue s c log) a (asks_of c (asks_acted act (asks log)))) f ∙ ap (class_by s c (queue s c log) (active s c log)) g
+class_stays s log act c e f g = cc
 
 -- a message that answers no hand leaves the ASKs
 

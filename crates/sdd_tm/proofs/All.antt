@@ -1,8 +1,8 @@
 -- The names of std, of the crates below and of this crate's definitions that its proofs cite. Declares nothing.
-pub use Rattle.sdd_attempt.proofs.QuestionsOfAttempt.{NoReads}
-pub use Rattle.sdd_attempt.proofs.LineActs.{all_up_of, asking_of, left_is_few, new_in_queue, no_read_asked, record_in, resting, served_of, served_sent, starts_committed, starts_sent, starts_started, work_sent}
+pub use Rattle.sdd_attempt.proofs.LineActs.{all_up_of, asking_of, left_is_few, new_in_queue, no_read_asked, record_in, resting, served_sent, starts_committed, starts_sent, starts_started}
 pub use Rattle.sdd_attempt.proofs.LineSteps.{commits, has_to_send, none_due}
 pub use Rattle.sdd_attempt.proofs.Lists.{few_filtered as shorter}
+pub use Rattle.sdd_attempt.proofs.QuestionsOfAttempt.{NoReads}
 pub use Rattle.sdd_attempt.proofs.Served.{served_handed}
 pub use Rattle.sdd_attempt.proofs.SoundLines.{IsApart, IsRequest, active_apart, asks_apart, commit_no_reads, line_apart, line_committed, line_elsewhere, line_handed, line_redeclared, line_sent, line_started, line_submitted, line_ticked, own_class as own_record, queue_apart, request_of, sent_apart, start_is_up, start_modules, start_no_reads}
 pub use Rattle.sdd_attempt.proofs.Stamps.{stamped_did, stamped_still}
@@ -18,14 +18,12 @@ pub use Rattle.sdd_attempt.proofs.site_module.Does.{DoesMore, all_noted, does_fr
 pub use Rattle.sdd_attempt.proofs.site_module.Finding.{found_at, map_twice, one_of}
 pub use Rattle.sdd_attempt.proofs.site_module.Making.{made_more, made_nothing}
 pub use Rattle.sdd_attempt.proofs.site_module.lang.ReadSetDecides.{each_both as all_parts}
-pub use Rattle.std.proofs.lemmas.Simd.{map-map as map_map}
-pub use Rattle.sdd_attempt.specs.All.{Act, AllUpTo, AreEnough, AreEnoughAlong, AreTried, Ask, Attempt, AwaitsAt, Bases, Catalogue, ClassNo, Condition, D, Database, Delete, Did, Does, Entry, Era, Exchange, FitsAnswer, FitsCondition, FitsStatement, FitsTxn, FragNo, Handed, Has, Held, Hold, IsAwaited, IsDatabase, IsEntry, IsLineOf, IsOfHead, IsRelation, IsServed, IsWaiting, IsWhole, Item, Kept, Line, Log, MAX_CLASSES, Msg, Notes, Null, Phase, Put, Query, Queued, Ready, Rec, Records, Redeclared, Reduced, Reject, RelNo, Release, Row, Rows, Sends, Serves, ServesAt, Setting, Site, Stmt, Submits, T, Ticked, Ticking, TmNo, Tuple, Txn, TxnNo, U, Update, Use, Values, active, active_after, active_handed, active_sent, after_hand, answers_hand, ascending, asks_rows, at_zero, attempt_due, begins, bound_of, class_at, class_for, class_no, clock, commit_act, commit_next, contains, covers, current_era, dm_no, fetches_use, first_phase, first_some, fragment_of, fragments_for, fragments_in, handed, hands, head_of, is_empty, is_for, is_over, line_after, line_done, line_step, module_read, modules_of, nothing_noted, number_of, numbers_to, or_else, or_standing, part_of, product, pushed, pushed_by, queue, queue_after, read_set, reads_at, records_of, rejects, rel_of, restrictions_of, rows_of, send_due, send_next, sends_of_act, sent, standing_among, standing_of, start_act, start_next, started, starts_left, statement_uses, submits, ticked, ticked_by, time_at, timestamp, tried, uses_from, uses_in, uses_of, with_act, with_due_act, work_of, write_set, writes}
+pub use Rattle.sdd_attempt.specs.All.{Act, AllUpTo, AreEnough, AreEnoughAlong, AreTried, Ask, Attempt, Bases, Catalogue, ClassNo, Condition, D, Database, Delete, Did, Does, Entry, Era, Exchange, FitsAnswer, FitsCondition, FitsStatement, FitsTxn, FragNo, Handed, Has, Held, Hold, IsAwaited, IsDatabase, IsEntry, IsLineOf, IsOfHead, IsRelation, IsServed, IsSoundCatalogue, IsWaiting, IsWhole, Item, Kept, Line, Log, MAX_CLASSES, Msg, Notes, Null, Put, Query, Queued, Ready, Rec, Records, Redeclared, Reduced, Reject, RelNo, Release, Row, Rows, Sends, Serves, ServesAt, Setting, Site, Stmt, Submits, T, Ticked, Ticking, TmNo, Tuple, Txn, TxnNo, U, Update, Use, Values, active, active_after, active_handed, active_sent, after_hand, ascending, asks_rows, attempt_due, begins, bound_of, class_at, class_for, class_no, clock, commit_act, commit_next, contains, covers, current_era, dm_no, first_phase, first_some, fragment_of, fragments_for, fragments_in, handed, hands, head_of, is_empty, is_for, is_over, line_after, line_done, line_step, module_read, modules_of, nothing_noted, number_of, numbers_to, or_else, or_standing, part_of, product, pushed, pushed_by, queue, queue_after, read_set, reads_at, records_of, rejects, rel_of, restrictions_of, rows_of, send_due, send_next, sends_of_act, sent, standing_among, standing_of, start_act, start_next, started, starts_left, statement_uses, submits, ticked, ticked_by, time_at, timestamp, tried, uses_from, uses_in, uses_of, with_act, with_due_act, work_of, write_set, writes}
 pub use Rattle.sdd_attempt.specs.declared.standing.Standing.{Standing}
 pub use Rattle.sdd_attempt.specs.declared.standing.Standing.TheVariants.{Absent}
 pub use Rattle.sdd_attempt.specs.declared.step.LineStep.{LineStep}
 pub use Rattle.sdd_attempt.specs.declared.step.LineStep.TheVariants.{Commits as ToCommit, Sends as ToSend}
 pub use Rattle.sdd_attempt.specs.history.declared.record.Rec.TheVariants.{Submit}
-pub use Rattle.sdd_eras.proofs.EraFits.{fits_in_era}
 pub use Rattle.sdd_eras.proofs.EraSets.{read_in_era, uses_in_era}
 pub use Rattle.sdd_eras.specs.EraOf.{IsEraOf}
 pub use Rattle.sdd_tm.specs.Due.{IsDue, by_ask, by_exchange, by_hold, by_start, due, exchange_due, held_due, next, null_at, null_due, null_time, null_to, start_due, start_of}
@@ -41,11 +39,11 @@ pub use Rattle.sdd_tm.specs.declared.asked.Asked.{Asked}
 pub use Rattle.sdd_tm.specs.declared.places.Places.{Places}
 pub use Rattle.sdd_tm.specs.declared.step.Step.{Step}
 pub use Rattle.sdd_tm.specs.declared.step.Step.TheVariants.{Answer, Commit, Send, Start}
-pub use Rattle.std.proofs.Common.{Bool, Err, IfSome, IsSome, IsTrue, List, None, Ok, OnOk, OnSome, Option, Result, Some, [], add-one, ap, append-nil, arith, cond, drop, eq-eqb, eqb-true, false, filter, filter_map, find, if◌then◌else◌, is_none, is_some, le-ltb, length, lt-ltb, ltb-false, ltb-true, map, nat_lt, ne_eqb, not, option_map, position, refl, remove, slice_get, slice_index_or, slice_set, subst, suc, sym, true, unwrap_or, zero, ℕ, ◌&&◌, ◌*◌, ◌++◌, ◌+◌, ◌-◌, ◌/◌, ◌<◌, ◌==◌, ◌^◌, ◌||◌, ◌∙◌, ◌∷◌, ◌≡◌, ◌≢◌, ◌≤◌}
-pub use Rattle.std.proofs.lemmas.Bool.{and_parts, and_right, cond-false, eqb-false, false≢true, or_parts}
-pub use Rattle.std.proofs.lemmas.Bool.Decides.{nat_tests}
+pub use Rattle.std.proofs.Common.{Bool, Err, IfSome, IsSome, IsTrue, List, None, Ok, OnOk, OnSome, Option, Result, Some, [], add-one, ap, append-nil, arith, cond, drop, eq-eqb, eqb-true, false, filter, filter_map, find, if◌then◌else◌, is_none, is_some, le-ltb, length, ltb-true, map, nat_lt, ne_eqb, not, option_map, position, refl, remove, rules, slice_get, slice_index_or, slice_set, subst, suc, sym, true, unwrap_or, zero, ℕ, ◌&&◌, ◌*◌, ◌++◌, ◌+◌, ◌-◌, ◌/◌, ◌<◌, ◌==◌, ◌^◌, ◌||◌, ◌∙◌, ◌∷◌, ◌≡◌, ◌≢◌, ◌≤◌}
+pub use Rattle.std.proofs.lemmas.Bool.{and_parts, and_right, eqb-false, false≢true, or_parts}
 pub use Rattle.std.proofs.lemmas.Iterator.Adapters.{position_from-zero}
 pub use Rattle.std.proofs.lemmas.List.{length-map, map-append}
 pub use Rattle.std.proofs.lemmas.List.Elements.{filter-append, recursion_from_All}
 pub use Rattle.std.proofs.lemmas.List.FromFn.{length-range_with_len as length_range}
-pub use Rattle.std.specs.List.{AllByRecursion, cons_option, list_all, list_any, position_from, range_with_len}
+pub use Rattle.std.proofs.lemmas.Simd.{map-map as map_map}
+pub use Rattle.std.specs.List.{AllByRecursion, list_all, list_any, position_from, range_with_len}

@@ -1,5 +1,5 @@
 -- How several classes have a transaction: the first that has it tells.
-use Rattle.sdd_tm.proofs.All.{Absent, ClassState, List, Standing, [], add-one, ap, arith, drop, length, map, or_standing, refl, slice_index_or, standing_among, standing_of, suc, sym, zero, ℕ, ◌+◌, ◌<◌, ◌∷◌, ◌≡◌, ◌≢◌, ◌≤◌}
+use Rattle.sdd_tm.proofs.All.{Absent, ClassState, List, Standing, [], add-one, arith, drop, length, map, or_standing, refl, slice_index_or, standing_among, standing_of, suc, zero, ℕ, ◌+◌, ◌<◌, ◌∷◌, ◌≡◌, ◌≢◌, ◌≤◌}
 
 -- those from a place on
 abbrev pub standing_from : List ClassState → ℕ → ℕ → Standing
@@ -8,8 +8,7 @@ standing_from runs i n = standing_among (map (λ (k : ClassState). k.line) (drop
 standing_next : (runs : List ClassState) (i n : ℕ) (run : ClassState) → run ≡ slice_index_or runs i run → i < length runs
     → standing_from runs i n ≡ or_standing (standing_of run.line n) (standing_from runs (suc i) n)
 standing_next [] i n run e within = absurd (omega arith)
-standing_next (x ∷ runs) zero n run e within =
-    ap (λ (k : ClassState). or_standing (standing_of k.line n) (standing_among (map (λ (k : ClassState). k.line) runs) n)) (sym e)
+standing_next (x ∷ runs) zero n run e within = cc
 standing_next (x ∷ runs) (suc i) n run e within = standing_next runs i n run e (omega arith)
 
 pub standing_here : (runs : List ClassState) (i n : ℕ) (run : ClassState) → run ≡ slice_index_or runs i run → i < length runs
@@ -20,8 +19,7 @@ pub standing_passed : (x next : Standing) → x ≡ Absent → or_standing x nex
 standing_passed x next e = rw e refl
 
 pub standing_found : (x next : Standing) → x ≢ Absent → or_standing x next ≡ x
-standing_found Absent next h = absurd (h refl)
-standing_found _ next h = refl
+standing_found x next h = grind arith
 
 pub standing_past : (runs : List ClassState) (i n : ℕ) → length runs ≤ i → standing_from runs i n ≡ Absent
 standing_past [] zero n past = refl

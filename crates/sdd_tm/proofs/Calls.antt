@@ -1,5 +1,5 @@
 -- What a call of a transaction module does, of every log for which the module stands.
-use Rattle.sdd_tm.proofs.All.{AreSettled, Bases, Catalogue, ClassState, Does, DoesMore, Entry, Era, FitsSubmit, FitsTxn, Handed, IsAmid, IsCalm, IsEraOf, IsKept, IsLineOf, IsTrue, IsWhole, Kept, List, Log, Msg, None, Notes, Places, Rec, Redeclared, RelNo, Represents, Row, Setting, Site, Some, State, Submit, Submits, T, Ticked, TmNo, Txn, TxnNo, Works, [], after_held, all_noted, ap, arith, at_zero, bound_of, class_for, class_given, class_handed, class_of, class_step, classes_of, clock, current_era, does_from, false, first_class, first_state, fits, held_of, length, length-map, line_redeclared, line_ticked, map, next, nothing_noted, one_place, place_of, pushed, records_of, refl, runs, slice_get, stamped_still, state_given, state_handed, state_of, subst, suc, sym, ticked, touched, with_due_act, zero, ℕ, ◌<◌, ◌^◌, ◌∙◌, ◌∷◌, ◌≡◌}
+use Rattle.sdd_tm.proofs.All.{AreSettled, Bases, Catalogue, ClassState, Does, DoesMore, Entry, Era, FitsSubmit, FitsTxn, Handed, IsAmid, IsCalm, IsEraOf, IsKept, IsLineOf, IsTrue, IsWhole, Kept, List, Log, Msg, None, Notes, Places, Rec, Redeclared, RelNo, Represents, Row, Setting, Site, Some, State, Submit, Submits, T, Ticked, TmNo, Txn, TxnNo, Works, [], after_held, all_noted, ap, arith, bound_of, class_for, class_given, class_handed, class_step, classes_of, clock, current_era, does_from, false, first_class, first_state, fits, held_of, length, length-map, line_redeclared, line_ticked, map, next, nothing_noted, one_place, place_of, pushed, records_of, refl, rules, slice_get, stamped_still, state_given, state_handed, state_of, subst, suc, sym, ticked, touched, with_due_act, zero, ℕ, ◌<◌, ◌^◌, ◌∙◌, ◌∷◌, ◌≡◌}
 use Rattle.sdd_tm.proofs.Lists.{some_is}
 use Rattle.sdd_tm.proofs.Handing.{amid_handed}
 use Rattle.sdd_tm.proofs.Taking.{few_kept, apart_kept, fits_now}
@@ -67,8 +67,7 @@ pub take_does : (from : Site) (m : Msg) (old new : Kept State) (taken : State) (
     → Called taken new.value nothing_noted notes all → records ≡ all.recs → sends ≡ all.out → (s : Setting) (bases : Bases) (log : Log) → Represents old s log
     → fits s bases log from m → Does (next s bases) (Handed from m ∷ log) records sends (Represents new s)
 take_does from m old new taken notes all records sends live t c e f s bases log st fit =
-    all_noted (next s bases) (Handed from m ∷ log) all records sends (Represents new s)
-    (call_does taken new nothing_noted notes all s bases (Handed from m ∷ log) live c (amid_for old s bases log from m taken st fit t)) e f
+    search (rules, all_noted, call_does, amid_for)
 
 -- a transaction
 
@@ -152,25 +151,12 @@ tick_represents old new n e s log st =
 first_line : (s : Setting) (era : Era) (c : ℕ) → IsLineOf s c (Redeclared era 0 ∷ [])
 first_line s era c = record { in_queue = record { differ = tt; waiting = tt }; of_head = tt; asking = tt }
 
-first_classes : (s : Setting) (era : Era) (cs : List ℕ) → map (class_of s (Redeclared era 0 ∷ [])) cs ≡ map (first_class s.catalogue) cs
-first_classes s era [] = refl
-first_classes s era (c ∷ cs) = ap (λ rest. first_class s.catalogue c ∷ rest) (first_classes s era cs)
-
 abbrev setting_of : Catalogue → TmNo → List (RelNo × Row) → Setting
 setting_of whole tm rows = record { catalogue = whole; site = T tm; rows = rows }
 
-first_at : (whole : Catalogue) (era : Era) (tm : TmNo) (rows : List (RelNo × Row))
-    → state_of (setting_of whole tm rows) (Redeclared era 0 ∷ []) ≡ first_state whole era tm.0
-first_at whole era tm rows =
-    ap (λ cs. record { era = era; clock = at_zero tm.0; on_hold = false; owes_held = false; classes = cs })
-    (first_classes (setting_of whole tm rows) era (runs (setting_of whole tm rows)))
-
 first_is : (s : Setting) (whole : Catalogue) (era : Era) (tm : TmNo) → s.catalogue ≡ whole → s.site ≡ T tm
     → state_of s (Redeclared era 0 ∷ []) ≡ first_state whole era tm.0
-first_is s whole era tm e f =
-    let is : s ≡ setting_of whole tm s.rows =
-    ap (λ x. record s { catalogue = x }) e ∙ ap (λ x. record { catalogue = whole; site = x; rows = s.rows }) f in
-    ap (λ x. state_of x (Redeclared era 0 ∷ [])) is ∙ first_at whole era tm s.rows
+first_is s whole era tm e f = grind arith
 
 pub new_represents : (k : Kept State) (whole : Catalogue) (era : Era) (tm : TmNo) → IsTrue k.live
     → k.value ≡ first_state whole era tm.0 → catalogues.IsSoundCatalogue whole → IsWhole whole → IsEraOf whole era.catalogue

@@ -1,5 +1,5 @@
 -- The classes that a module runs: each number once, and each the number of a class.
-use Rattle.sdd_tm.proofs.All.{Bool, List, Setting, Some, [], ap, arith, class_at, cond, false, filter, length, number_of, numbers_to, range_with_len, refl, runs, slice_get, suc, true, zero, ℕ, ◌+◌, ◌<◌, ◌==◌, ◌∷◌, ◌≡◌, ◌≢◌, ◌≤◌}
+use Rattle.sdd_tm.proofs.All.{Bool, List, Setting, Some, [], ap, arith, filter, length, range_with_len, refl, runs, slice_get, suc, zero, ℕ, ◌+◌, ◌<◌, ◌∷◌, ◌≡◌, ◌≢◌, ◌≤◌}
 use Rattle.sdd_tm.proofs.Lists.{some_is}
 
 -- numbers in order, from the first on and below the second
@@ -21,12 +21,7 @@ range_climbs a (suc n) high l = (
 
 kept_climbs : (p : ℕ → Bool) (low high : ℕ) (xs : List ℕ) → Climb low high xs → Climb low high (filter p xs)
 kept_climbs p low high [] h = tt
-kept_climbs p low high (x ∷ xs) h =
-    let m : low ≤ x = h.0 in
-    elim (p x) as (λ b. Climb low high (cond b (x ∷ filter p xs) (filter p xs))) [
-      | true ↦ (h.0, h.1, kept_climbs p (suc x) high xs h.2)
-      | false ↦ lower low (suc x) high (filter p xs) (omega arith) (kept_climbs p (suc x) high xs h.2)
-    ]
+kept_climbs p low high (x ∷ xs) h = grind (arith, lower, kept_climbs p (suc x) high xs h.2)
 
 at_climb : (low high : ℕ) (xs : List ℕ) (i x : ℕ) → Climb low high xs → slice_get xs i ≡ Some x → (low ≤ x) × (x < high)
 at_climb low high [] i x h e = absurd cc
@@ -36,16 +31,12 @@ at_climb low high (y ∷ xs) (suc i) x h e = let r = at_climb (suc y) high xs i 
 climb_apart : (low high : ℕ) (xs : List ℕ) (i j x y : ℕ) → Climb low high xs → slice_get xs i ≡ Some x → slice_get xs j ≡ Some y → i ≢ j → x ≢ y
 climb_apart low high [] i j x y h e f apart = absurd cc
 climb_apart low high (z ∷ xs) zero zero x y h e f apart = absurd (apart refl)
-climb_apart low high (z ∷ xs) zero (suc j) x y h e f apart = λ same. let r = at_climb (suc z) high xs j y h.2 f in
-    let a : suc z ≤ y = r.0 in let b : z ≡ x = some_is e in absurd (omega arith)
-climb_apart low high (z ∷ xs) (suc i) zero x y h e f apart = λ same. let r = at_climb (suc z) high xs i x h.2 e in
-    let a : suc z ≤ x = r.0 in let b : z ≡ y = some_is f in absurd (omega arith)
+climb_apart low high (z ∷ xs) zero (suc j) x y h e f apart = grind (arith, at_climb)
+climb_apart low high (z ∷ xs) (suc i) zero x y h e f apart = grind (arith, at_climb)
 climb_apart low high (z ∷ xs) (suc i) (suc j) x y h e f apart = climb_apart (suc z) high xs i j x y h.2 e f (λ q. apart (ap suc q))
 
 runs_climb : (s : Setting) → Climb 1 (suc (length s.catalogue.classes)) (runs s)
-runs_climb s =
-    kept_climbs (λ c. (class_at s.catalogue c).tm.0 == number_of s.site) 1 (suc (length s.catalogue.classes)) (numbers_to (length s.catalogue.classes))
-    (range_climbs 1 (length s.catalogue.classes) (suc (length s.catalogue.classes)) (omega arith))
+runs_climb s = grind (arith, kept_climbs, range_climbs)
 
 -- a class at another place has another number
 pub runs_apart : (s : Setting) (i j c d : ℕ) → slice_get (runs s) i ≡ Some c → slice_get (runs s) j ≡ Some d → i ≢ j → c ≢ d

@@ -1,5 +1,5 @@
 -- What is due by a log, where at most one class has a step of its own: that class's step.
-use Rattle.sdd_tm.proofs.All.{Act, Answer, Attempt, Bases, Bool, Catalogue, ClassState, ClassView, Commit, IsCalm, LineStep, List, Log, None, Option, Queued, Send, Setting, Some, Start, Step, ToCommit, ToSend, View, active, asks, asks_of, attempt_due, can_answer, class_of, class_step, class_view, exchange_due, false, first_some, head_of, held_due, if◌then◌else◌, is_empty, is_none, line_step, list_any, next, none_due, not, null_due, of_line, on_hold, or_else, own_step, queue, refl, runs, slice_get, start_due, start_of, start_step, state_of, subst, true, view_of, ℕ, ◌&&◌, ◌∙◌, ◌∷◌, ◌≡◌, ◌≢◌}
+use Rattle.sdd_tm.proofs.All.{Act, Answer, Attempt, Bases, Bool, Catalogue, ClassState, ClassView, Commit, IsCalm, LineStep, List, Log, None, Option, Queued, Send, Setting, Some, Start, Step, ToCommit, ToSend, View, active, asks, asks_of, attempt_due, can_answer, class_of, class_step, class_view, exchange_due, false, first_some, head_of, held_due, if◌then◌else◌, is_empty, is_none, line_step, list_any, next, none_due, not, null_due, of_line, on_hold, or_else, own_step, queue, refl, rules, runs, slice_get, start_due, start_of, start_step, state_of, subst, true, view_of, ℕ, ◌&&◌, ◌∙◌, ◌∷◌, ◌≡◌, ◌≢◌}
 use Rattle.sdd_tm.proofs.Lists.{some_is, get_map, of_map, none_first, only_first, first_at}
 use Rattle.sdd_tm.proofs.OpenAsks.{none_answered}
 
@@ -45,9 +45,7 @@ step_by on k None false true s e f g h = subst (IsStep on k) (some_is h) (starts
 step_by on k None false false s e f g h = absurd cc
 
 pub step_is : (on : Bool) (k : ClassState) (s : Step) → class_step on k ≡ Some s → IsStep on k s
-step_is on k s e =
-    step_by on k (line_step k.line.active) (list_any (can_answer k.line.active) k.asks)
-    (not on && (is_none k.line.active && not (is_empty k.line.queue))) s refl refl refl e
+step_is on k s e = search (rules, step_by)
 
 -- the ranks of a log
 

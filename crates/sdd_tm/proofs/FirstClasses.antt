@@ -1,5 +1,5 @@
 -- The classes of a module are found one by one.
-use Rattle.sdd_tm.proofs.All.{Catalogue, ClassState, List, [], ap, append-nil, arith, class_at, cond, false, filter, filter-append, first_class, map, map-append, numbers_to, range_push, refl, suc, sym, true, ℕ, ◌++◌, ◌+◌, ◌-◌, ◌==◌, ◌∙◌, ◌∷◌, ◌≡◌, ◌≤◌}
+use Rattle.sdd_tm.proofs.All.{Catalogue, ClassState, List, [], ap, append-nil, arith, class_at, cond, false, filter, filter-append, first_class, map, map-append, numbers_to, range_push, refl, suc, true, ℕ, ◌++◌, ◌+◌, ◌-◌, ◌==◌, ◌∙◌, ◌∷◌, ◌≡◌, ◌≤◌}
 
 -- those among the first n classes
 abbrev pub classes_to : Catalogue → ℕ → ℕ → List ℕ
@@ -11,9 +11,6 @@ to_more cat tm n =
     ap (filter (λ c. (class_at cat c).tm.0 == tm)) (range_push 1 n ∙ ap (λ k. numbers_to n ++ k ∷ []) e)
     ∙ filter-append (λ c. (class_at cat c).tm.0 == tm) (numbers_to n) (suc n ∷ [])
 
-number_is : (n : ℕ) → 1 ≤ n → n + 1 - 1 ≡ suc (n - 1)
-number_is n l = omega arith
-
 -- one that is the module's
 pub class_kept : (cat : Catalogue) (tm n : ℕ) (before : List ClassState) (new : ClassState) → 1 ≤ n
     → ((class_at cat n).tm.0 == tm) ≡ true → new ≡ first_class cat n → before ≡ map (first_class cat) (classes_to cat tm (n - 1))
@@ -21,16 +18,10 @@ pub class_kept : (cat : Catalogue) (tm n : ℕ) (before : List ClassState) (new 
 class_kept cat tm n before new l own is e =
     let back : suc (n - 1) ≡ n = omega arith in
     let test : ((class_at cat (suc (n - 1))).tm.0 == tm) ≡ true = ap (λ k. (class_at cat k).tm.0 == tm) back ∙ own in
-    let all : classes_to cat tm (n + 1 - 1) ≡ classes_to cat tm (n - 1) ++ n ∷ [] =
-    ap (classes_to cat tm) (number_is n l) ∙ to_more cat tm (n - 1) ∙ ap (λ b. classes_to cat tm (n - 1) ++ cond b (suc (n - 1) ∷ []) []) test
-    ∙ ap (λ k. classes_to cat tm (n - 1) ++ k ∷ []) back in
+    let all : classes_to cat tm (n + 1 - 1) ≡ classes_to cat tm (n - 1) ++ n ∷ [] = grind (arith, to_more) in
     rw (all, map-append (first_class cat) (classes_to cat tm (n - 1)) (n ∷ []), e, is) refl
 
 -- and one that isn't
 pub class_left : (cat : Catalogue) (tm n : ℕ) → 1 ≤ n → ((class_at cat n).tm.0 == tm) ≡ false
     → map (first_class cat) (classes_to cat tm (n - 1)) ≡ map (first_class cat) (classes_to cat tm (n + 1 - 1))
-class_left cat tm n l other =
-    let back : suc (n - 1) ≡ n = omega arith in
-    let test : ((class_at cat (suc (n - 1))).tm.0 == tm) ≡ false = ap (λ k. (class_at cat k).tm.0 == tm) back ∙ other in
-    ap (map (first_class cat)) (sym (ap (classes_to cat tm) (number_is n l) ∙ to_more cat tm (n - 1)
-    ∙ ap (λ b. classes_to cat tm (n - 1) ++ cond b (suc (n - 1) ∷ []) []) test ∙ append-nil (classes_to cat tm (n - 1))))
+class_left cat tm n l other = grind (arith, class_at, to_more, cond, append-nil)

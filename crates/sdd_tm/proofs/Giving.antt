@@ -1,5 +1,5 @@
 -- A transaction that is given to the module goes to the queue of its class.
-use Rattle.sdd_tm.proofs.All.{AreSettled, Bases, Bool, Catalogue, FitsSubmit, IsAmid, IsSettingOf, IsSoundLog, List, Log, Setting, State, Submits, Txn, [], active, all_starts, and_parts, ap, arith, ascending, class_at, class_for, class_given, class_of, cond, covers, current_era, eqb-true, false, filter, fragments_in, head_of, if◌then◌else◌, is_for, is_some, length, line_submitted, list_all, map, map_map, nat_tests, ne_eqb, numbers_to, queue, read_in_era, read_set, reads_at, refl, resting, runs, stamped_still, state_given, state_of, subst, sym, true, unwrap_or, uses_in_era, write_set, writes, ℕ, ◌&&◌, ◌++◌, ◌+◌, ◌<◌, ◌==◌, ◌^◌, ◌||◌, ◌∙◌, ◌∷◌, ◌≡◌, ◌≤◌}
+use Rattle.sdd_tm.proofs.All.{AreSettled, Bases, Bool, Catalogue, FitsSubmit, IsAmid, IsSettingOf, IsSoundLog, List, Log, Setting, State, Submits, Txn, [], active, all_starts, and_parts, ap, arith, class_at, class_for, class_given, class_of, cond, covers, current_era, eqb-true, false, filter, head_of, is_for, is_some, length, line_submitted, list_all, map, map_map, ne_eqb, numbers_to, read_in_era, read_set, reads_at, refl, resting, runs, stamped_still, state_given, state_of, subst, sym, true, unwrap_or, uses_in_era, write_set, writes, ℕ, ◌&&◌, ◌+◌, ◌<◌, ◌==◌, ◌^◌, ◌||◌, ◌∙◌, ◌∷◌, ◌≡◌, ◌≤◌}
 use Rattle.sdd_tm.proofs.Lists.{map_same}
 use Rattle.sdd_tm.proofs.ClassNumbers.{runs_class}
 use Rattle.sdd_tm.proofs.Handing.{has_room, settled_of}
@@ -38,8 +38,7 @@ class_covers s log txn c setting low e =
     let era : Catalogue = (current_era s log).catalogue in
     let is : class_for era txn ≡ c = is_of_class c (class_for era txn) low e in
     let here = eras.covered era txn c (sym is) low in
-    let same : read_set era txn ≡ read_set s.catalogue txn =
-    ap (λ uses. ascending (fragments_in uses)) (uses_in_era s.catalogue era setting.era txn) in
+    let same : read_set era txn ≡ read_set s.catalogue txn = grind (arith, uses_in_era) in
     subst (λ fs. list_all (λ f. is_some (reads_at s.catalogue c f)) fs ≡ true) same
     (all_more (λ f. is_some (reads_at era c f)) (λ f. is_some (reads_at s.catalogue c f)) (read_set era txn)
     (λ f r. ap is_some (sym (read_in_era s.catalogue era setting.era c f here.class r)) ∙ r) (covered era txn c low is))
@@ -49,22 +48,7 @@ class_covers s log txn c setting low e =
 class_kept : (s : Setting) (log : Log) (n : ℕ) (txn : Txn) (c : ℕ) → 1 ≤ c
     → class_of s (Submits n txn ∷ log) c ≡ class_given (class_for (current_era s log).catalogue txn) n txn
     (class_of s log c)
-class_kept s log n txn c low =
-    let k : ℕ = class_for (current_era s log).catalogue txn in
-    let test : is_for c (current_era s log).catalogue txn ≡ (c == k) =
-    ap (λ b. b || k == c) (ne_eqb c 0 (λ q. absurd (omega arith))) ∙ turned k c in
-    by (c == k) test
-  where
-    turned : (a b : ℕ) → (a == b) ≡ (b == a)
-    turned a b = grind (arith, nat_tests)
-
-    by : (b : Bool) → is_for c (current_era s log).catalogue txn ≡ b
-        → class_of s (Submits n txn ∷ log)
-        c ≡ (if b then record (class_of s log c) {
-          line = record (class_of s log c).line { queue = queue s c log ++ record { number = n; text = txn; tries = 0 } ∷ [] };
-        } else class_of s log c)
-    by true e = rw e refl
-    by false e = rw e refl
+class_kept s log n txn c low = grind arith
 
 pub state_given_kept : (s : Setting) (log : Log) (n : ℕ) (txn : Txn)
     → state_of s (Submits n txn ∷ log) ≡ state_given (class_for (current_era s log).catalogue txn) n txn
@@ -93,8 +77,7 @@ pub amid_given : (s : Setting) (bases : Bases) (log : Log) (n : ℕ) (txn : Txn)
 amid_given s bases log n txn small setting sound settled f =
     let now : IsSoundLog s (Submits n txn ∷ log) = sound_given s bases log n txn small setting f sound in
     let is = state_given_kept s log n txn in
-    let same : IsSettingOf s (Submits n txn ∷ log) =
-    record { valid = setting.valid; whole = setting.whole; era = setting.era } in
+    let same : IsSettingOf s (Submits n txn ∷ log) = grind arith in
     record {
       setting = same;
       sound = now;

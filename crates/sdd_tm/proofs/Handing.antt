@@ -1,5 +1,5 @@
 -- A message that is handed: the module keeps what follows from the log, and only what the message touches may have a step.
-use Rattle.sdd_tm.proofs.All.{AreSettled, Ask, Asked, Attempt, AwaitsAt, Bases, Bool, ClassNo, ClassState, D, Exchange, FitsAnswer, Handed, Held, Hold, HoldCounts, InTurn, IsAmid, IsAwaited, IsSettingOf, IsSoundLog, List, Log, MAX_CLASSES, Msg, None, Option, Phase, Question, Ready, Reduced, Reject, Release, Rows, Setting, Site, Some, State, Values, [], active, active_handed, after_hand, all_starts, and_right, ap, arith, ask_handed, asked, asks, asks_handed, asks_of, class_at, class_handed, class_named, class_of, clock, cond, false, fetches_use, filter, fits, fits_kind, hands, hold_handed, holds, holds_handed, if◌then◌else◌, le-ltb, length, length_range, line_handed, line_step, lt-ltb, ltb-false, ltb-true, map, map_map, nat_lt, ne_eqb, number_of, numbers_to, on_hold, owed_handed, pushed_by, refl, rejects, resting, runs, served_handed, shorter, slice_get, stamped_still, state_handed, state_of, subst, suc, sym, true, view_of, ℕ, ◌&&◌, ◌++◌, ◌+◌, ◌<◌, ◌==◌, ◌^◌, ◌∙◌, ◌∷◌, ◌≡◌, ◌≢◌, ◌≤◌}
+use Rattle.sdd_tm.proofs.All.{AreSettled, Ask, Asked, Attempt, Bases, ClassNo, ClassState, Exchange, FitsAnswer, Handed, HoldCounts, InTurn, IsAmid, IsAwaited, IsSettingOf, IsSoundLog, List, Log, MAX_CLASSES, Msg, None, Option, Question, Ready, Reduced, Reject, Rows, Setting, Site, Some, State, Values, [], active, active_handed, after_hand, all_starts, and_right, ap, arith, ask_handed, asked, asks, asks_handed, asks_of, class_at, class_handed, class_named, class_of, clock, cond, false, fits, fits_kind, hands, hold_handed, holds, holds_handed, if◌then◌else◌, length, length_range, line_handed, line_step, map, map_map, nat_lt, ne_eqb, number_of, numbers_to, on_hold, owed_handed, pushed_by, refl, rejects, resting, runs, served_handed, shorter, slice_get, stamped_still, state_handed, state_of, subst, suc, sym, true, view_of, ℕ, ◌&&◌, ◌++◌, ◌+◌, ◌<◌, ◌==◌, ◌^◌, ◌∙◌, ◌∷◌, ◌≡◌, ◌≢◌, ◌≤◌}
 use Rattle.sdd_tm.proofs.Lists.{get_map, map_same}
 use Rattle.sdd_tm.proofs.OpenAsks.{open_handed}
 use Rattle.sdd_tm.proofs.Dues.{own_none, none_parts}
@@ -25,8 +25,7 @@ rejects_other (Reject t k by write) ts c h = test_apart t.0 ts k.0 c (h k refl)
 rejects_other _ ts c h = refl
 
 active_other : (c : ℕ) (from : Site) (m : Msg) (o : Option Attempt) → Apart m c → active_handed c from m o ≡ o
-active_other c (D d) m (Some a) h = rw (rejects_other m a.ts c h, exchange_other m a.ts c d.0 a.exchange h) refl
-active_other c _ m _ h = refl
+active_other c from m o h = grind (arith, rejects_other, exchange_other)
 
 ask_other : (c : ℕ) (from : Site) (m : Msg) (qs : List Asked) → Apart m c → ask_handed c from m qs ≡ qs
 ask_other c from (Ask k time) qs h = rw (ne_eqb k.0 c (h k refl)) refl
@@ -39,37 +38,21 @@ handed_other from m k h = rw (active_other k.line.class from m k.line.active h, 
 
 push_if : (qs : List Question) (q : Question) (c : ℕ) → asks_of c (qs ++ q ∷ []) ≡ (if q.class == c then asks_of c qs ++ asked q ∷ [] else asks_of c qs)
 push_if [] q c = elim (q.class == c) as (λ b. map asked (cond b (q ∷ []) []) ≡ (if b then asked q ∷ [] else [])) [ true ↦ refl | false ↦ refl ]
-push_if (x ∷ qs) q c =
-    elim (x.class == c) as (λ b. map asked (cond b (x ∷ filter (λ r. r.class == c) (qs ++ q ∷ []))
-    (filter (λ r. r.class == c) (qs ++ q ∷ [])))
-    ≡ (if q.class == c then map asked
-    (cond b (x ∷ filter (λ r. r.class == c) qs) (filter (λ r. r.class == c) qs)) ++ asked q ∷ [] else map asked
-    (cond b (x ∷ filter (λ r. r.class == c) qs) (filter (λ r. r.class == c) qs)))) [
-      | true ↦ ap (λ rest. asked x ∷ rest) (push_if qs q c) ∙ out (q.class == c) (asked x) (asks_of c qs ++ asked q ∷ []) (asks_of c qs)
-      | false ↦ push_if qs q c
-    ]
-  where
-    out : (b : Bool) (y : Asked) (us vs : List Asked) → y ∷ (if b then us else vs) ≡ (if b then y ∷ us else y ∷ vs)
-    out true y us vs = refl
-    out false y us vs = refl
+push_if (x ∷ qs) q c = grind (arith, push_if qs q c)
 
 asks_kept : (n c : ℕ) (from : Site) (m : Msg) (qs : List Question) → asks_of c (asks_handed n from m qs) ≡ ask_handed c from m (asks_of c qs)
-asks_kept n c from (Ask class time) qs = push_if qs (record { hand = n; from = from; class = class.0; time = time.0 }) c
-asks_kept n c from _ qs = refl
+asks_kept n c from m qs = grind (arith, push_if)
 
 class_kept : (s : Setting) (log : Log) (from : Site) (m : Msg) (c : ℕ) → class_of s (Handed from m ∷ log) c ≡ class_handed from m (class_of s log c)
 class_kept s log from m c = ap (λ qs. record (class_handed from m (class_of s log c)) { asks = qs }) (asks_kept (suc (hands log)) c from m (asks log))
 
 hold_kept : (n : ℕ) (m : Msg) (h : HoldCounts) → InTurn h
     → nat_lt (holds_handed n m h).releases (holds_handed n m h).holds ≡ hold_handed m (nat_lt h.releases h.holds)
-hold_kept n Hold h turns = let a = turns.released in let b = turns.answered in lt-ltb h.releases (suc h.holds) (omega arith)
-hold_kept n (Release ts) h turns = le-ltb (suc h.releases) h.holds turns.one
-hold_kept n _ h turns = refl
+hold_kept n m h turns = grind arith
 
 owed_kept : (n : ℕ) (m : Msg) (h : HoldCounts) → InTurn h
     → nat_lt (holds_handed n m h).helds (holds_handed n m h).holds ≡ owed_handed m (nat_lt h.helds h.holds)
-owed_kept n Hold h turns = let b = turns.answered in lt-ltb h.helds (suc h.holds) (omega arith)
-owed_kept n _ h turns = refl
+owed_kept n m h turns = grind arith
 
 pub state_kept : (s : Setting) (log : Log) (from : Site) (m : Msg) → InTurn (holds log)
     → state_of s (Handed from m ∷ log) ≡ state_handed from m (state_of s log)
@@ -82,28 +65,11 @@ state_kept s log from m turns =
 -- what holds of the log
 
 pub answer_fits : (s : Setting) (bases : Bases) (log : Log) (from : Site) (m : Msg) → fits_kind s bases log from m → FitsAnswer s bases log from m
-answer_fits s bases log from (Ready ts class counts) f = f.answers
-answer_fits s bases log from (Reject ts class by write) f = f.answers
-answer_fits s bases log from (Values ts class u values) f = f
-answer_fits s bases log from (Reduced ts class u n) f = f
-answer_fits s bases log from (Rows ts class rows) f = f
-answer_fits s bases log from _ f = tt
+answer_fits s bases log from m f = grind arith
 
 turns_kept : (s : Setting) (bases : Bases) (log : Log) (from : Site) (m : Msg) → fits_kind s bases log from m
     → InTurn (holds log) → InTurn (holds (Handed from m ∷ log))
-turns_kept s bases log from Hold f turns =
-    let a = turns.released in
-    let b = turns.answered in
-    let free : (holds log).holds ≤ (holds log).releases = ltb-false (holds log).releases (holds log).holds f.free in
-    record { released = a; answered = omega arith; one = omega arith }
-turns_kept s bases log from (Release ts) f turns =
-    let a = turns.released in
-    let b = turns.answered in
-    let one = turns.one in
-    let held : (holds log).releases < (holds log).holds = ltb-true (holds log).releases (holds log).holds f.hold in
-    let all : (holds log).helds ≡ (holds log).holds = f.held in
-    record { released = omega arith; answered = b; one = omega arith }
-turns_kept s bases log from _ f turns = record { released = turns.released; answered = turns.answered; one = turns.one }
+turns_kept s bases log from m f turns = grind arith
 
 pub sound_handed : (s : Setting) (bases : Bases) (log : Log) (from : Site) (m : Msg) → fits_kind s bases log from m
     → IsSoundLog s log → IsSoundLog s (Handed from m ∷ log)
@@ -122,11 +88,7 @@ settled_of s log settled i c e =
 -- the clock
 
 pub early : (s : Setting) (bases : Bases) (log : Log) (from : Site) (m : Msg) → fits s bases log from m → (pushed_by m (clock s.site log)).ticks < 2 ^ 56
-early s bases log from (Ask class time) f = let t = f.0.time in let l = f.1.early in omega arith
-early s bases log from (Reject ts class by write) f = let t = f.0.time in let l = f.1.early in omega arith
-early s bases log from (Release ts) f = let t = f.0.time in let l = f.1.early in omega arith
-early s bases log from (Held time) f = absurd f.1
-early s bases log from _ f = f.0.time
+early s bases log from m f = grind arith
 
 pub few_runs : (s : Setting) (log : Log) → IsSettingOf s log → length (runs s) ≤ 64
 few_runs s log setting =
@@ -137,10 +99,7 @@ few_runs s log setting =
 
 pub has_room : (s : Setting) (log : Log) → IsSettingOf s log → IsSoundLog s log → (clock s.site log).ticks < 2 ^ 56
     → (clock s.site log).ticks + all_starts (state_of s log).classes + 1 < 2 ^ 57
-has_room s log setting sound low =
-    let few = few_starts s log (runs s) sound.lines in
-    let runs_few = few_runs s log setting in
-    omega arith
+has_room s log setting sound low = grind (arith, few_starts, few_runs)
 
 -- the module within the call
 
@@ -162,11 +121,6 @@ amid_handed s bases log from m setting sound settled f =
 
 -- what the message touches
 
-awaited_class : (s : Setting) (log : Log) (f : Phase → Bool) (from : Site) (ts k c : ℕ)
-    → AwaitsAt f (active s k log) from ts → k ≡ c → AwaitsAt f (active s c log) from ts
-awaited_class s log f from ts k c h e = subst (λ n. AwaitsAt f (active s n log) from ts) e h
-
 -- an answer is one that its class awaits
 pub is_awaited : (s : Setting) (bases : Bases) (log : Log) (from : Site) (m : Msg) (c : ℕ) → fits_kind s bases log from m → IsAwaited c from m (active s c log)
-is_awaited s bases log from (Values ts class u values) c f = λ e. awaited_class s log (fetches_use u) from ts.0 class.0 c f e
-is_awaited s bases log from _ c f = tt
+is_awaited s bases log from m c f = grind arith

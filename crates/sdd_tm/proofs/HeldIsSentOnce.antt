@@ -1,6 +1,6 @@
 -- HELD: on hold, once no class is active, it is what is due, and once.
 use Rattle.sdd_tm.proofs.All.{Act, AllByRecursion, AreSettled, Bases, Bool, Did, Held, IsAmid, IsApart, List, Log, Msg, None, Notes, Option, Question, Sends, Setting, Some, State, Ticking, U, [], active, after_held, after_held_act, and_parts, ap, arith, asks, asks_acted, asks_of, bound_of, class_of, class_view, clock, false, held_due, held_of, holds, if◌then◌else◌, is_idle, is_none, le-ltb, line_apart, list_all, ltb-true, map, nat_lt, ne_eqb, next, on_hold, queue, refl, runs, sent_apart, served_sent, stamped_did, state_of, subst, suc, sym, time_at, true, view_of, with_act, with_due_act, ℕ, ◌&&◌, ◌<◌, ◌==◌, ◌∙◌, ◌∷◌, ◌≡◌, ◌≢◌}
-use Rattle.sdd_tm.proofs.Lists.{some_is, map_same}
+use Rattle.sdd_tm.proofs.Lists.{map_same}
 use Rattle.sdd_tm.proofs.OpenAsks.{without_hand, open_did}
 use Rattle.sdd_tm.proofs.Dues.{held_is_due}
 use Rattle.sdd_tm.specs.Views as views
@@ -75,12 +75,7 @@ pub record Tells (s : Setting) (bases : Bases) (log : Log) (state : State) (act 
   pub amid : IsAmid s bases (record state { owes_held = false }) (Did (Sends U (Held (time_at (bound_of state.clock))) (Some hand)) ∷ log)
 
 held_if : (b : Bool) (x act : Act) → (if b then Some x else None) ≡ Some act → (b ≡ true) × (x ≡ act)
-held_if true x act e = (refl, some_is e)
-held_if false x act e = absurd cc
-
-no_held_if : (b : Bool) (x y : Act) → (if b then Some x else None) ≡ None → (if b then Some y else None) ≡ None
-no_held_if true x y e = absurd cc
-no_held_if false x y e = refl
+held_if b x act e = grind arith
 
 -- as the log has it
 held_same : (s : Setting) (log : Log) → held_due (view_of s log)
@@ -105,17 +100,10 @@ tells_of s bases log act amid settled e =
 
 pub tells : (s : Setting) (bases : Bases) (state : State) (log : Log) (act : Act) → IsAmid s bases state log
     → AreSettled state → held_of state ≡ Some act → Tells s bases log state act
-tells s bases state log act amid settled e =
-    let is : state_of s log ≡ state = amid.state_is in
-    subst (λ (st : State). Tells s bases log st act) is
-    (tells_of s bases log act (subst (λ st. IsAmid s bases st log) (sym is) amid)
-    (subst AreSettled (sym is) settled) (subst (λ (st : State). held_of st ≡ Some act) (sym is) e))
+tells s bases state log act amid settled e = grind (arith, tells_of)
 
 nothing_of : (s : Setting) (bases : Bases) (log : Log) → AreSettled (state_of s log) → held_of (state_of s log) ≡ None → next s bases log ≡ None
-nothing_of s bases log settled e =
-    held_is_due s bases log settled ∙ held_same s log
-    ∙ no_held_if (on_hold (view_of s log) && (list_all is_idle (state_of s log).classes && nat_lt (holds log).helds
-    (holds log).holds)) (Sends U (Held (time_at (bound_of (clock s.site log)))) None) (held_act s log) e
+nothing_of s bases log settled e = grind (arith, held_is_due, held_same, is_idle, holds)
 
 pub nothing_due : (s : Setting) (bases : Bases) (state : State) (log : Log) → state_of s log ≡ state
     → AreSettled state → held_of state ≡ None → next s bases log ≡ None
@@ -123,29 +111,18 @@ nothing_due s bases state log is settled e = nothing_of s bases log (subst AreSe
 
 -- and then it isn't due again
 
-paid_off : (state : State) → held_of (record state { owes_held = false }) ≡ None
-paid_off state = off state.on_hold (list_all is_idle state.classes) (Sends U (Held (time_at (bound_of state.clock))) None)
-  where
-    off : (a b : Bool) (x : Act) → (if a && (b && false) then Some x else None) ≡ None
-    off true true x = refl
-    off _ _ x = refl
-
 told_off : (state : State) (o : Option Act) → held_of state ≡ o → held_of (after_held_act state o) ≡ None
-told_off state None e = e
-told_off state (Some act) e = paid_off state
+told_off state o e = grind arith
 
 pub told_once : (state : State) → held_of (after_held state) ≡ None
 told_once state = told_off state (held_of state) refl
 
 told_settled_by : (state : State) (o : Option Act) → AreSettled state → AreSettled (after_held_act state o)
-told_settled_by state None settled = settled
-told_settled_by state (Some act) settled = settled
+told_settled_by state o settled = grind arith
 
 pub told_settled : (state : State) → AreSettled state → AreSettled (after_held state)
 told_settled state settled = told_settled_by state (held_of state) settled
 
 -- a tick makes none due
 pub held_ticked : (state : State) (clock : Ticking) → held_of state ≡ None → held_of (record state { clock = clock }) ≡ None
-held_ticked state clock e =
-    no_held_if (state.on_hold && (list_all is_idle state.classes && state.owes_held))
-    (Sends U (Held (time_at (bound_of state.clock))) None) (Sends U (Held (time_at (bound_of clock))) None) e
+held_ticked state clock e = grind arith

@@ -38,8 +38,7 @@ none_first f [] h = refl
 none_first f (x ∷ xs) h = rw (h 0 x refl, none_first f xs (λ i y e. h (suc i) y e)) refl
 
 or_none : {B : Type 0} (a b : Option B) → b ≡ None → or_else a b ≡ a
-or_none None b e = e
-or_none (Some x) b e = refl
+or_none a b e = grind arith
 
 -- only the member at a place can make something
 pub only_first : {A B : Type 0} (f : A → Option B) (xs : List A) (k : ℕ) (x : A) → slice_get xs k ≡ Some x
@@ -78,7 +77,4 @@ map_is_set f g (y ∷ xs) (suc k) x new e is h =
 
 -- whichever order two numbers have
 pub by_order : (P : Type 0) (a b : ℕ) → (a < b → P) → (a ≡ b → P) → (b < a → P) → P
-by_order P zero zero f g h = g refl
-by_order P zero (suc b) f g h = f (omega arith)
-by_order P (suc a) zero f g h = h (omega arith)
-by_order P (suc a) (suc b) f g h = by_order P a b (λ l. f (omega arith)) (λ e. g (ap suc e)) (λ l. h (omega arith))
+by_order P a b f g h = grind arith

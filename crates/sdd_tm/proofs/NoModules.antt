@@ -1,19 +1,11 @@
 -- An attempt that reads at no module needs no rows: no row of a database meets the restrictions of one of its uses.
-use Rattle.sdd_tm.proofs.All.{AllByRecursion, AreEnough, AreEnoughAlong, Bases, Catalogue, Condition, Database, Delete, FitsCondition, FitsStatement, FitsTxn, FragNo, Has, Has-filter_map_from, Has-flat_map_from, Has-map_from, IsDatabase, IsEntry, IsRelation, IsServed, IsWaiting, Item, List, Msg, None, Option, Put, Query, Queued, RelNo, Row, Serves, Site, Some, Stmt, Ticking, Tuple, Txn, Update, Use, [], all_parts, and_parts, arith, ascending, ascending_back, cond, cond-false, cons_option, contains, each_has, false, false≢true, filter_map, first_phase, fragment_of, fragments_for, fragments_in, is_over, is_some, length, length-statement_uses, lies_in_use, list_all, map, meets_restrictions, module_read, modules_of, ne_eqb, numbers_to, part_of, parts_meet, product, read_set, reads_at, recursion_from_All, refl, rel_of, restrictions_of, rows_of, sends_of_act, start_act, start_modules, started, statement_uses, subst, sym, ticked, timestamp, true, uses_from, uses_in, uses_of, ℕ, ◌++◌, ◌+◌, ◌==◌, ◌∙◌, ◌∷◌, ◌≡◌, ◌≤◌}
-use Rattle.sdd_attempt.specs.All.{IsSoundCatalogue}
+use Rattle.sdd_tm.proofs.All.{AllByRecursion, AreEnough, AreEnoughAlong, Bases, Catalogue, Condition, Database, Delete, FitsCondition, FitsStatement, FitsTxn, FragNo, Has, Has-filter_map_from, Has-flat_map_from, Has-map_from, IsDatabase, IsEntry, IsRelation, IsServed, IsSoundCatalogue, IsWaiting, Item, List, Msg, Put, Query, Queued, RelNo, Row, Serves, Site, Some, Stmt, Ticking, Tuple, Txn, Update, Use, [], all_parts, arith, ascending, ascending_back, contains, each_has, false≢true, filter_map, first_phase, fragment_of, fragments_for, fragments_in, is_over, is_some, length, length-statement_uses, lies_in_use, list_all, map, meets_restrictions, module_read, modules_of, ne_eqb, part_of, parts_meet, product, read_set, reads_at, recursion_from_All, refl, rel_of, restrictions_of, rows_of, sends_of_act, start_act, start_modules, started, statement_uses, subst, sym, ticked, timestamp, true, uses_from, uses_in, uses_of, ℕ, ◌++◌, ◌+◌, ◌==◌, ◌∙◌, ◌∷◌, ◌≡◌, ◌≤◌}
 use Rattle.sdd_attempt.specs.protocol.declared.entry.Entry as line
 
 -- no row of the database
 
 entry_of : (db : Database) (rel : ℕ) (row : Row) → Has (rows_of db rel) row → (e : Item × Row) × Has db e × ((e.0.0 == rel) ≡ true) × (e.1 ≡ row)
-entry_of db rel row h =
-    let m = Has-filter_map_from (λ (e : Item × Row). cond (e.0.0 == rel) (Some e.1) None) db row h in
-    let e : Item × Row = m.0 in
-    elim (e.0.0 == rel) as (λ b. (e.0.0 == rel) ≡ b → cond b (Some e.1) None ≡ Some row
-    → (e : Item × Row) × Has db e × ((e.0.0 == rel) ≡ true) × (e.1 ≡ row)) [
-      | true ↦ λ q k. (e, m.1, q, cc)
-      | false ↦ λ q k. absurd cc
-    ] refl m.2
+entry_of db rel row h = grind (arith, Has-filter_map_from)
 
 no_row : (cat : Catalogue) → IsSoundCatalogue cat → (db : Database) → IsDatabase cat db
     → (rels : List RelNo) (part : ℕ) (conds : List Condition) (rel : ℕ) → rel_of rels part ≡ rel
@@ -32,16 +24,12 @@ abbrev NoFragments : List Use → Type 0
 NoFragments uses = AllByRecursion (λ (u : Use). u.frags ≡ []) uses
 
 first_of_product : (rows : List Row) (rest : List (List Row)) (tuple : Tuple) → Has (product (rows ∷ rest)) tuple → Has rows (part_of tuple 1)
-first_of_product rows rest tuple h =
-    let m = Has-flat_map_from (λ (row : Row). map (λ (t : Tuple). row ∷ t) (product rest)) rows tuple h in
-    let n = Has-map_from (λ (t : Tuple). m.0 ∷ t) (product rest) tuple m.2 in
-    subst (λ (t : Tuple). Has rows (part_of t 1)) n.2 m.1
+first_of_product rows rest tuple h = grind (arith, Has-flat_map_from, Has-map_from)
 
 enough : (cat : Catalogue) → IsSoundCatalogue cat → (db : Database) → IsDatabase cat db → (before : ℕ) (s : Stmt)
     → FitsStatement cat s → NoFragments (statement_uses cat before s) → AreEnough db [] before s
 enough cat sound db is before (Put rel row) fits none = tt
-enough cat sound db is before (Query out [] conds) fits none = λ tuple h met part within. let low : 1 ≤ part =
-    within.0 in let high : part ≤ 0 = within.1 in absurd (omega arith)
+enough cat sound db is before (Query out [] conds) fits none = omega arith
 enough cat sound db is before (Query out (rel ∷ rels) conds) fits none = λ tuple h met part within.
     let row = first_of_product (rows_of db rel.0) (map (λ (r : RelNo). rows_of db r.0) rels) tuple h in
     let there = recursion_from_All (λ (r : RelNo). IsRelation cat r.0) (rel ∷ rels) fits.1 in
@@ -67,23 +55,13 @@ enough_along cat sound db is before (s ∷ rest) fits none =
 
 nothing_serves : (cat : Catalogue) → IsSoundCatalogue cat → (txn : Txn) → FitsTxn cat txn → (db : Database) → IsDatabase cat db
     → NoFragments (uses_of cat txn) → Serves cat txn [] db
-nothing_serves cat sound txn fits db is none = record {
-  named = λ s h. absurd h;
-  held = λ u h row r. absurd r;
-  enough = enough_along cat sound db is 0 txn.statements (recursion_from_All (FitsStatement cat) txn.statements fits.statements) none;
-}
+nothing_serves cat sound txn fits db is none = grind (arith, enough_along, recursion_from_All)
 
 -- a class reads all of its transactions' fragments somewhere: where it has no module, there are none
 
 nothing_kept : (cat : Catalogue) (c : ℕ) (fs : List ℕ) → list_all (λ f. is_some (reads_at cat c f)) fs ≡ true → filter_map (reads_at cat c) fs ≡ [] → fs ≡ []
 nothing_kept cat c [] h e = refl
-nothing_kept cat c (f ∷ fs) h e =
-    there (reads_at cat c f) (and_parts (is_some (reads_at cat c f)) (list_all (λ f. is_some (reads_at cat c f)) fs)
-    h).0 e
-  where
-    there : (o : Option ℕ) → is_some o ≡ true → cons_option o (filter_map (reads_at cat c) fs) ≡ [] → f ∷ fs ≡ []
-    there None h e = absurd (false≢true h)
-    there (Some d) h e = absurd cc
+nothing_kept cat c (f ∷ fs) h e = grind arith
 
 not_empty : (xs : List ℕ) → ascending xs ≡ [] → xs ≡ []
 not_empty xs e = by xs (ascending_back (λ n. ⊥) xs (subst (AllByRecursion (λ n. ⊥)) (sym e) tt))
@@ -102,21 +80,12 @@ no_fragments (u ∷ uses) e = let p = first_is_empty u u.frags (fragments_in use
 
 pub no_modules : (cat : Catalogue) (c : ℕ) (txn : Txn) → 1 ≤ c → list_all (λ f. is_some (reads_at cat c f)) (read_set cat txn) ≡ true
     → modules_of cat c (ascending (fragments_in (uses_of cat txn))) ≡ [] → NoFragments (uses_of cat txn)
-no_modules cat c txn low covered e =
-    let declared : (c == 0) ≡ false = ne_eqb c 0 (λ q. absurd (omega arith)) in
-    let of : ascending (filter_map (reads_at cat c) (read_set cat txn)) ≡ [] =
-    sym (cond-false (c == 0) (numbers_to cat.dms) (ascending (filter_map (reads_at cat c) (read_set cat txn)))
-    declared) ∙ e in
-    no_fragments (uses_of cat txn)
-    (not_empty (fragments_in (uses_of cat txn))
-    (nothing_kept cat c (read_set cat txn) covered (not_empty (filter_map (reads_at cat c) (read_set cat txn))
-    of)))
+no_modules cat c txn low covered e = grind (arith, ne_eqb, ascending, read_set, no_fragments, not_empty, nothing_kept)
 
 -- so an attempt that begins is served, where it may commit at once
 
 over_without : (ms : List (ℕ × List ℕ)) → is_over (first_phase ms) ≡ true → map (λ (m : ℕ × List ℕ). m.0) ms ≡ []
-over_without [] e = refl
-over_without (m ∷ ms) e = absurd (false≢true e)
+over_without ms e = grind arith
 
 pub start_served : (cat : Catalogue) (table : List line.Entry) (bases : Bases) (c : ℕ) (given : List ℕ)
     (k : Ticking) (q : Queued) → IsSoundCatalogue cat → ((ts : ℕ) → IsDatabase cat (bases ts)) → 1 ≤ c

@@ -1,5 +1,5 @@
 -- The open ASKs: they keep their order, and the first of a class that can be answered goes away with its NULL.
-use Rattle.sdd_tm.proofs.All.{Act, AllByRecursion, AreOpen, Ask, Attempt, Bool, ClassView, Did, Handed, Held, Hold, HoldCounts, List, Log, Msg, None, Null, Option, Question, Records, Rise, Sends, Site, Some, View, [], answer_time, answers_hand, ap, arith, asked, asks, asks_of, bound_of, can_answer, class_no, cond, eq-eqb, eqb-true, false, false≢true, filter, find, first_some, hands, holds, holds_acted, if◌then◌else◌, list_any, map, ne_eqb, not, null_at, null_time, null_to, or_else, or_parts, refl, suc, sym, time_at, true, without_first, ℕ, ◌++◌, ◌<◌, ◌==◌, ◌||◌, ◌∙◌, ◌∷◌, ◌≡◌, ◌≢◌, ◌≤◌}
+use Rattle.sdd_tm.proofs.All.{Act, AllByRecursion, AreOpen, Ask, Attempt, Bool, ClassView, Did, Handed, Hold, HoldCounts, List, Log, Msg, None, Null, Option, Question, Records, Rise, Sends, Site, Some, View, [], answer_time, ap, arith, asked, asks, asks_of, can_answer, class_no, cond, eqb-true, false, false≢true, filter, find, first_some, hands, holds, holds_acted, if◌then◌else◌, list_any, map, ne_eqb, not, null_at, null_time, null_to, or_else, or_parts, refl, rules, suc, time_at, true, without_first, ℕ, ◌++◌, ◌<◌, ◌==◌, ◌||◌, ◌∙◌, ◌∷◌, ◌≡◌, ◌≢◌, ◌≤◌}
 
 -- hands that rise
 
@@ -39,9 +39,7 @@ all_pushed P (x ∷ qs) q h k = (h.0, all_pushed P qs q h.1 k)
 
 all_kept : (P : Question → Type 0) (p : Question → Bool) (qs : List Question) → AllByRecursion P qs → AllByRecursion P (filter p qs)
 all_kept P p [] h = tt
-all_kept P p (q ∷ qs) h =
-    elim (p q) as (λ b. AllByRecursion P (cond b (q ∷ filter p qs) (filter p qs)))
-    [ true ↦ (h.0, all_kept P p qs h.1) | false ↦ all_kept P p qs h.1 ]
+all_kept P p (q ∷ qs) h = grind (arith, all_kept P p qs h.1)
 
 -- what is open after a message
 
@@ -54,14 +52,7 @@ open_still log from m h e f = record {
 }
 
 pub open_handed : (log : Log) (from : Site) (m : Msg) → AreOpen log → AreOpen (Handed from m ∷ log)
-open_handed log from (Ask class time) h =
-    let q : Question = record { hand = suc (hands log); from = from; class = class.0; time = time.0 } in
-    let l = h.last in
-    record {
-      rise = rise_pushed 0 (hands log) (asks log) q refl h.rise;
-      last = omega arith;
-      apart = all_pushed (λ q. q.hand ≢ (holds log).last) (asks log) q h.apart (λ e. absurd (omega arith));
-    }
+open_handed log from (Ask class time) h = grind (arith, rise_pushed, asks, all_pushed, holds)
 open_handed log from Hold h = record {
   rise = rise_higher 0 (hands log) (suc (hands log)) (asks log) (omega arith) h.rise;
   last = omega arith;
@@ -72,17 +63,10 @@ open_handed log from m h = open_still log from m h refl refl
 -- and after an act
 
 same_last : (act : Act) (h : HoldCounts) → (holds_acted act h).last ≡ h.last
-same_last (Sends to (Held t) hand) h = refl
-same_last _ h = refl
+same_last act h = grind arith
 
 pub open_did : (log : Log) (act : Act) → AreOpen log → AreOpen (Did act ∷ log)
-open_did log (Sends to m hand) h =
-    let e = same_last (Sends to m hand) (holds log) in
-    record {
-      rise = rise_kept (λ q. not (answers_hand hand q.hand)) 0 (hands log) (asks log) h.rise;
-      last = rw e h.last;
-      apart = rw e (all_kept (λ q. q.hand ≢ (holds log).last) (λ q. not (answers_hand hand q.hand)) (asks log) h.apart);
-    }
+open_did log (Sends to m hand) h = search (rules, same_last, rise_kept, hands, asks, all_kept)
 open_did log (Records c r sends) h = record { rise = h.rise; last = h.last; apart = h.apart }
 
 -- the ASKs of a class
@@ -99,8 +83,7 @@ all_later n low high (q ∷ qs) l h =
     rw apart (ap (λ rest. q ∷ rest) (all_later n q.hand high qs (omega arith) h.1))
 
 not_yet : (v : View) (a : Option Attempt) (q : Question) → can_answer a (asked q) ≡ false → null_at q (null_time v a q.time) ≡ None
-not_yet v None q e = absurd (false≢true (sym e))
-not_yet v (Some a) q e = rw e refl
+not_yet v a q e = grind arith
 
 -- none of a class can be answered
 pub none_answered : (v : View) (k : ClassView) (qs : List Question)
@@ -131,13 +114,7 @@ pub record IsFirst (v : View) (k : ClassView) (low : ℕ) (qs : List Question) :
 answered_now : (v : View) (k : ClassView) (q : Question) → q.class ≡ k.class → can_answer k.active (asked q) ≡ true
     → null_at q (null_time v k.active q.time) ≡ Some
     (Sends q.from (Null (class_no k.class) (time_at (answer_time v.clock k.active))) (Some q.hand))
-answered_now v k q same e = by k.active e
-  where
-    by : (a : Option Attempt) → can_answer a (asked q) ≡ true
-        → null_at q (null_time v a q.time) ≡ Some
-        (Sends q.from (Null (class_no k.class) (time_at (answer_time v.clock a))) (Some q.hand))
-    by None f = ap (λ c. Some (Sends q.from (Null (class_no c) (time_at (bound_of v.clock))) (Some q.hand))) same
-    by (Some a) f = rw f (ap (λ c. Some (Sends q.from (Null (class_no c) (time_at a.ts)) (Some q.hand))) same)
+answered_now v k q same e = grind arith
 
 -- one ASK more before them: of another class, or not yet to be answered
 skips : (v : View) (k : ClassView) (low high : ℕ) (q : Question) (qs : List Question) → Rise low high (q ∷ qs) → null_to v k q ≡ None
@@ -182,11 +159,8 @@ first_here : (v : View) (k : ClassView) (low high : ℕ) (q : Question) (qs : Li
     → (q.class == k.class) ≡ true → can_answer k.active (asked q) ≡ true → IsFirst v k low (q ∷ qs)
 first_here v k low high q qs h own yes_now =
     let same : q.class ≡ k.class = eqb-true q.class k.class own in
-    let gone : without_hand q.hand (q ∷ qs) ≡ qs =
-    rw (eq-eqb q.hand q.hand refl) (all_later q.hand q.hand high qs (omega arith) h.1) in
-    let here : asks_of k.class (q ∷ qs) ≡ asked q ∷ asks_of k.class qs =
-    ap (λ b. map asked (cond b (q ∷ filter (λ r. r.class == k.class) qs) (filter (λ r. r.class == k.class) qs)))
-    own in
+    let gone : without_hand q.hand (q ∷ qs) ≡ qs = grind (arith, all_later) in
+    let here : asks_of k.class (q ∷ qs) ≡ asked q ∷ asks_of k.class qs = cc in
     let to : null_to v k q ≡ Some (Sends q.from (Null (class_no k.class) (time_at (answer_time v.clock k.active)))
     (Some q.hand)) = rw own (answered_now v k q same yes_now) in
     record {
@@ -194,18 +168,13 @@ first_here v k low high q qs h own yes_now =
       due = ap (λ o. or_else o (first_some (null_to v k) qs)) to;
       found = ap (find (can_answer k.active)) here ∙ ap (λ b. cond b (Some (asked q)) (find (can_answer k.active) (asks_of k.class qs))) yes_now;
       later = h.0;
-      gone = ap (asks_of k.class) gone
-          ∙ sym (ap (without_first (can_answer k.active)) here
-          ∙ ap (λ b. cond b (asks_of k.class qs) (asked q ∷ without_first (can_answer k.active) (asks_of k.class qs))) yes_now);
-      others = λ c apart.
-          let other : (q.class == c) ≡ false = ne_eqb q.class c (λ e. apart (sym same ∙ e)) in
-          ap (asks_of c) gone ∙ sym (ap (λ b. map asked (cond b (q ∷ filter (λ r. r.class == c) qs) (filter (λ r. r.class == c) qs))) other);
+      gone = cc;
+      others = λ c apart. grind (arith, ne_eqb, gone, asked, cond);
     }
 
 skips_none : (v : View) (k : ClassView) (q : Question) (b : Bool) → (q.class == k.class) ≡ b
     → (b ≡ true → can_answer k.active (asked q) ≡ false) → null_to v k q ≡ None
-skips_none v k q true e f = rw e (not_yet v k.active q (f refl))
-skips_none v k q false e f = rw e refl
+skips_none v k q b e f = grind arith
 
 pub first_answered : (v : View) (k : ClassView) (low high : ℕ) (qs : List Question) → Rise low high qs
     → list_any (can_answer k.active) (asks_of k.class qs) ≡ true → IsFirst v k low qs
@@ -221,7 +190,5 @@ first_answered v k low high (q ∷ qs) h e =
             | true ↦ λ yes_now f. first_here v k low high q qs h own yes_now
             | false ↦ λ not_now f. skips v k low high q qs h (skips_none v k q true own (λ r. not_now)) (λ r. not_now) (first_answered v k q.hand high qs h.1 f)
           ] refl g
-      | false ↦ λ other g.
-          skips v k low high q qs h (skips_none v k q false other (λ r. absurd (false≢true r)))
-          (λ r. absurd (false≢true (sym other ∙ eq-eqb q.class k.class r))) (first_answered v k q.hand high qs h.1 g)
+      | false ↦ λ other g. grind (arith, first_answered v k q.hand high qs h.1 g)
     ] refl e

@@ -1,6 +1,5 @@
 -- How many transactions of a module may start before the next message.
-use Rattle.sdd_tm.proofs.All.{ClassState, IsLineOf, List, Log, Setting, Some, [], active, all_starts, ap, arith, class_of, few_waiting, left_is_few, length, map, queue, refl, slice_get, slice_set, starts_left, submits, suc, zero, ℕ, ◌*◌, ◌+◌, ◌^◌, ◌∷◌, ◌≡◌, ◌≤◌}
-use Rattle.sdd_tm.proofs.Lists.{some_is}
+use Rattle.sdd_tm.proofs.All.{ClassState, IsLineOf, List, Log, Setting, Some, [], active, all_starts, arith, class_of, few_waiting, left_is_few, length, map, queue, refl, slice_get, slice_set, starts_left, submits, suc, zero, ℕ, ◌*◌, ◌+◌, ◌^◌, ◌∷◌, ◌≡◌, ◌≤◌}
 
 -- one class changes
 
@@ -8,9 +7,7 @@ pub starts_set : (classes : List ClassState) (place : ℕ) (k new : ClassState) 
     → all_starts (slice_set classes place new) + starts_left k.line.active k.line.queue ≡ all_starts
     classes + starts_left new.line.active new.line.queue
 starts_set [] place k new e = absurd cc
-starts_set (x ∷ classes) zero k new e =
-    let same : starts_left x.line.active x.line.queue ≡ starts_left k.line.active k.line.queue =
-    ap (λ (y : ClassState). starts_left y.line.active y.line.queue) (some_is e) in omega arith
+starts_set (x ∷ classes) zero k new e = grind arith
 starts_set (x ∷ classes) (suc place) k new e = let rest = starts_set classes place k new e in omega arith
 
 -- there are few

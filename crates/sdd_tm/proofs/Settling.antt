@@ -1,8 +1,8 @@
 -- The loop over the classes of a module: what each step asks for, and what it leaves.
-use Rattle.sdd_tm.proofs.All.{Answer, AreTried, Bases, Bool, ClassState, Commit, IsAmid, IsCalm, IsDatabase, IsServed, List, Log, None, Notes, Option, Send, ServesAt, Setting, Some, Start, State, Step, ToCommit, Works, act_of, ap, arith, class_of, class_step, clock, commits, length, line_step, refl, runs, served_of, slice_get, slice_set, state_done, step_at, subst, suc, sym, tries_told, with_due_act, work, ℕ, ◌+◌, ◌<◌, ◌∙◌, ◌∷◌, ◌≡◌, ◌≤◌}
+use Rattle.sdd_tm.proofs.All.{Answer, AreTried, Bases, Bool, ClassState, Commit, IsAmid, IsCalm, IsDatabase, IsServed, List, Log, None, Notes, Send, ServesAt, Setting, Some, Start, State, Step, ToCommit, Works, act_of, ap, arith, class_of, class_step, clock, commits, length, line_step, refl, runs, slice_get, slice_set, state_done, step_at, subst, suc, sym, tries_told, with_due_act, work, ℕ, ◌+◌, ◌<◌, ◌∙◌, ◌∷◌, ◌≡◌, ◌≤◌}
 use Rattle.sdd_tm.proofs.Lists.{of_map}
 use Rattle.sdd_tm.proofs.ClassNumbers.{runs_class}
-use Rattle.sdd_tm.proofs.Dues.{IsStep, commits_now, starts, step_is}
+use Rattle.sdd_tm.proofs.Dues.{IsStep, starts, step_is}
 use Rattle.sdd_tm.proofs.Acting.{may_start}
 use Rattle.sdd_tm.proofs.Calm.{calm_done, calm_next}
 use Rattle.sdd_tm.proofs.Working.{work_falls}
@@ -15,11 +15,7 @@ pub record HasStep (state : State) (place : ℕ) (step : Step) : Type 0 where
   pub steps : class_step state.on_hold class ≡ Some step
 
 pub has_step : (state : State) (place : ℕ) (step : Step) → Some step ≡ step_at state.on_hold (slice_get state.classes place) → HasStep state place step
-has_step state place step e = by (slice_get state.classes place) refl (sym e)
-  where
-    by : (o : Option ClassState) → slice_get state.classes place ≡ o → step_at state.on_hold o ≡ Some step → HasStep state place step
-    by None f g = absurd cc
-    by (Some k) f g = record { class = k; there = f; steps = g }
+has_step state place step e = grind arith
 
 pub none_there : (state : State) (place : ℕ) → None ≡ step_at state.on_hold (slice_get state.classes place)
     → (k : ClassState) → slice_get state.classes place ≡ Some k → class_step state.on_hold k ≡ None
@@ -70,10 +66,7 @@ idle_class state place k step e f g =
 -- one that commits has the rows
 
 commit_line : (on : Bool) (k : ClassState) (step : Step) → IsStep on k step → step ≡ Commit → line_step k.line.active ≡ Some ToCommit
-commit_line on k Commit (commits_now e) h = e
-commit_line on k Send i h = absurd cc
-commit_line on k Answer i h = absurd cc
-commit_line on k Start i h = absurd cc
+commit_line on k step i h = grind arith
 
 pub commit_served : (s : Setting) (bases : Bases) (state : State) (log : Log) (place : ℕ) (k : ClassState)
     (step : Step) → IsAmid s bases state log → slice_get state.classes place ≡ Some k
@@ -84,8 +77,7 @@ commit_served s bases state log place k step amid e steps is =
     let c = commits k.line.active line in
     let served : IsServed s.catalogue bases k.line.active =
     subst (λ (x : ClassState). IsServed s.catalogue bases x.line.active) o.is (amid.served place o.number o.runs_it) in
-    subst (λ cat. ServesAt cat bases k.line.active) (catalogue_class s bases state log place k amid e)
-    (served_of s.catalogue bases k.line.active c.attempt c.active c.over served)
+    grind arith
 
 -- the loop
 

@@ -1,8 +1,8 @@
 -- One class among the parts of a module takes a message, or a transaction.
-use Rattle.sdd_tm.proofs.All.{AreApart, Ask, Bases, ClassNo, ClassState, FitsSubmit, FitsTxn, Held, IsAwaited, IsKept, List, Log, Msg, None, Queued, Reject, Release, Setting, Site, Some, State, Txn, [], ap, arith, class_given, class_handed, class_named, class_of, contains, current_era, eq-eqb, false, fits_in_era, fits_kind, length, length-map, map, new_in_queue, place_of, push_of, refl, runs, slice_get, slice_index_or, slice_set, state_given, state_handed, state_of, subst, sym, with_hold_message, ℕ, ◌++◌, ◌/◌, ◌<◌, ◌^◌, ◌∙◌, ◌∷◌, ◌≡◌, ◌≢◌}
+use Rattle.sdd_tm.proofs.All.{AreApart, Bases, ClassNo, ClassState, FitsSubmit, FitsTxn, IsAwaited, IsKept, List, Log, Msg, None, Queued, Setting, Site, Some, State, Txn, [], ap, arith, class_given, class_handed, class_named, class_of, contains, eq-eqb, false, fits_kind, length, length-map, map, new_in_queue, place_of, push_of, refl, runs, slice_get, slice_index_or, slice_set, state_given, state_handed, state_of, subst, sym, with_hold_message, ℕ, ◌++◌, ◌/◌, ◌<◌, ◌^◌, ◌∙◌, ◌∷◌, ◌≡◌, ◌≢◌}
 use Rattle.sdd_tm.proofs.Lists.{some_is, of_map, map_same, get_within}
 use Rattle.sdd_tm.proofs.ClassPlaces.{somewhere, named_nowhere, named_alone, classes_apart}
-use Rattle.sdd_tm.proofs.Handing.{handed_other, is_awaited, few_runs}
+use Rattle.sdd_tm.proofs.Handing.{handed_other, few_runs}
 use Rattle.sdd_tm.proofs.Touching.{unnamed, given_other}
 use Rattle.sdd_tm.proofs.Indexing.{lent_is}
 
@@ -21,17 +21,11 @@ apart_kept s log state kept = subst (λ (st : State). AreApart st.classes) kept.
 pub awaited_kept : (s : Setting) (bases : Bases) (log : Log) (state : State) (from : Site) (m : Msg)
     → IsKept s log state → fits_kind s bases log from m → (place : ℕ) (k : ClassState)
     → slice_get state.classes place ≡ Some k → IsAwaited k.line.class from m k.line.active
-awaited_kept s bases log state from m kept f place k e =
-    let r = of_map (class_of s log) (runs s) place k (subst (λ (st : State). slice_get st.classes place ≡ Some k) (sym kept.state_is) e) in
-    subst (λ (x : ClassState). IsAwaited x.line.class from m x.line.active) r.2 (is_awaited s bases log from m r.0 f)
+awaited_kept s bases log state from m kept f place k e = grind (arith, of_map)
 
 -- a push that the clock has room for
 pub push_early : (s : Setting) (bases : Bases) (log : Log) (from : Site) (m : Msg) → fits_kind s bases log from m → push_of m / 64 < 2 ^ 57
-push_early s bases log from (Ask class time) f = let l = f.early in omega arith
-push_early s bases log from (Reject ts class by write) f = let l = f.early in omega arith
-push_early s bases log from (Release ts) f = let l = f.early in omega arith
-push_early s bases log from (Held time) f = absurd f
-push_early s bases log from _ f = omega arith
+push_early s bases log from m f = grind arith
 
 -- a message for a class
 
@@ -105,6 +99,4 @@ given_there state c place e = let at = somewhere state.classes c place (sym e) i
 -- a transaction that fits the setting's catalogue fits that in force
 pub fits_now : (s : Setting) (bases : Bases) (log : Log) (state : State) (n : ℕ) (txn : Txn)
     → IsKept s log state → FitsSubmit s bases log n txn → FitsTxn state.era.catalogue txn
-fits_now s bases log state n txn kept f =
-    subst (λ cat. FitsTxn cat txn) (ap (λ (st : State). st.era.catalogue) kept.state_is)
-    (fits_in_era s.catalogue (current_era s log).catalogue kept.setting.era txn f.fitting)
+fits_now s bases log state n txn kept f = grind arith

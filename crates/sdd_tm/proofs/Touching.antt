@@ -32,9 +32,7 @@ calm_one old new f c settled apart is hold others (Some p) e =
 -- a message
 
 hold_stays : (m : Msg) (d : ClassNo) (on_hold : Bool) → class_named m ≡ Some d → hold_handed m on_hold ≡ on_hold
-hold_stays Hold d on_hold e = absurd cc
-hold_stays (Release ts) d on_hold e = absurd cc
-hold_stays _ d on_hold e = refl
+hold_stays m d on_hold e = grind arith
 
 pub unnamed : (from : Site) (m : Msg) (k : ClassState) → class_named m ≡ None → class_handed from m k ≡ k
 unnamed from m k e = handed_other from m k (λ d f. absurd cc)
@@ -78,25 +76,15 @@ given_other c n txn k apart = rw (ne_eqb k.line.class c apart) refl
 pub calm_given : (old : State) (c n : ℕ) (txn : Txn) → AreSettled old → AreApart old.classes
     → IsCalm (one_place (place_of old.classes c)).from (one_place (place_of old.classes c)).end
     (state_given c n txn old)
-calm_given old c n txn settled apart =
-    calm_one old (state_given c n txn old) (class_given c n txn) c settled apart refl refl (given_other c n txn) (place_of old.classes c) refl
+calm_given old c n txn settled apart = grind (arith, calm_one)
 
 -- the places are there
 
 one_within : (classes : List ClassState) (c : ℕ) (o : Option ℕ) → place_of classes c ≡ o → (one_place o).end ≤ length classes
-one_within classes c None e = omega arith
-one_within classes c (Some p) e = let at = somewhere classes c p e in let l = get_within classes p at.class at.there in omega arith
+one_within classes c o e = grind arith
 
 pub place_within : (classes : List ClassState) (c : ℕ) → (one_place (place_of classes c)).end ≤ length classes
 place_within classes c = one_within classes c (place_of classes c) refl
 
-all_within : (n : ℕ) (m : Msg) → (all_places n m).end ≤ n
-all_within n (Release ts) = omega arith
-all_within n _ = omega arith
-
 pub touched_within : (classes : List ClassState) (m : Msg) → (touched classes m).end ≤ length classes
-touched_within classes m = by (class_named m)
-  where
-    by : (o : Option ClassNo) → (touched_by classes m o).end ≤ length classes
-    by None = all_within (length classes) m
-    by (Some d) = place_within classes d.0
+touched_within classes m = grind arith

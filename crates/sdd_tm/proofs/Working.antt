@@ -1,5 +1,5 @@
 -- Each step of a class leaves it less to do.
-use Rattle.sdd_tm.proofs.All.{Act, Answer, Asked, Attempt, Bases, Bool, ClassState, Commit, IsAmid, IsOfHead, Line, List, Log, None, Null, Option, Queued, Send, Sends, Setting, Site, Some, Start, State, Step, Ticking, [], act_of, active, active_after, active_sent, answer_time, answer_to, ap, arith, asking_of, asks, asks_of, begins, can_answer, class_done, class_no, class_of, class_step, clock, commit_act, commit_next, commits, cond, current_era, false, false≢true, filter, handed, has_to_send, head_of, length, line_done, list_any, map, not, on_hold, option_map, own_record, queue, queue_after, refl, request_of, runs, send_next, sends_of_act, sent, slice_get, slice_set, start_act, start_next, started, starts_committed, starts_started, state_done, state_of, subst, suc, sym, ticked, time_at, timestamp, tried, true, view_of, without_first, work, work_in, work_of, work_sent, zero, ℕ, ◌<◌, ◌==◌, ◌||◌, ◌∙◌, ◌∷◌, ◌≡◌}
+use Rattle.sdd_tm.proofs.All.{Act, Answer, Asked, Attempt, Bases, Bool, ClassState, Commit, IsAmid, IsOfHead, Line, List, Log, None, Null, Option, Queued, Send, Sends, Setting, Site, Some, Start, State, Step, Ticking, [], act_of, active, active_after, answer_time, answer_to, ap, arith, asks, asks_of, begins, class_done, class_no, class_of, class_step, clock, commit_act, commit_next, commits, cond, current_era, false, false≢true, filter, head_of, length, line_done, list_any, map, not, on_hold, option_map, own_record, queue, queue_after, refl, runs, sends_of_act, slice_get, slice_set, start_act, start_next, started, starts_committed, starts_started, state_done, state_of, subst, suc, sym, ticked, time_at, timestamp, tried, true, view_of, without_first, work, work_in, work_of, zero, ℕ, ◌<◌, ◌==◌, ◌||◌, ◌∙◌, ◌∷◌, ◌≡◌}
 use Rattle.sdd_tm.proofs.Lists.{some_is, of_map}
 use Rattle.sdd_tm.proofs.Dues.{IsStep, sends, commits_now, answers, starts, step_is}
 use Rattle.sdd_tm.proofs.Acting.{may_start}
@@ -20,37 +20,21 @@ fewer_asks p (q ∷ qs) e =
       | false ↦ λ g. let rest = fewer_asks p qs g in omega arith
     ] e
 
-null_same : (c d : ℕ) (time : ℕ) (o : Option Attempt) (queue : List Queued)
-    → work_of (active_sent c (Null (class_no d) (time_at time)) o) queue ≡ work_of o queue
-null_same c d time None queue = refl
-null_same c d time (Some a) queue = refl
-
 null_work : (c : ℕ) (l : Line) (time : ℕ) (o : Option Act)
     → ((act : Act) → o ≡ Some act → (to : Site) × (act ≡ Sends to (Null (class_no l.class) (time_at time)) None))
     → work_of (line_done o l).active (line_done o l).queue ≡ work_of l.active l.queue
-null_work c l time None h = refl
-null_work c l time (Some act) h = let r = h act refl in rw r.1 (null_same l.class l.class time l.active l.queue)
+null_work c l time o h = grind arith
 
 answer_is : (l : Line) (k : Ticking) (o : Option Asked) (act : Act) → answer_to k l o ≡ Some act
     → (to : Site) × (act ≡ Sends to (Null (class_no l.class) (time_at (answer_time k l.active))) None)
-answer_is l k None act e = absurd cc
-answer_is l k (Some ask) act e = (ask.from, sym (some_is e))
+answer_is l k o act e = grind arith
 
 -- a step of the class c
 
 step_falls : (s : Setting) (bases : Bases) (log : Log) (place c : ℕ) (step : Step) → IsAmid s bases (state_of s log) log → slice_get (runs s) place ≡ Some c
     → IsStep (on_hold (view_of s log)) (class_of s log c) step
     → work_in (class_done bases (current_era s log).table (clock s.site log) step (class_of s log c)) < work_in (class_of s log c)
-step_falls s bases log place c Send amid e (sends h) =
-    let r = has_to_send (active s c log) h in
-    let request = request_of c (sent log) (handed log) r.attempt r.act (asking_of s log c r.attempt (amid.sound.lines place c e) r.active) r.send in
-    let to_do : send_next (active s c log) ≡ Some r.act = ap send_next r.active ∙ r.send in
-    let less = work_sent c request.msg r.attempt r.act (queue s c log) request.asks r.send in
-    let now : work_of (active_sent c request.msg (active s c log)) (queue s c log) ≡ work_of (active_sent c request.msg (Some r.attempt)) (queue s c log) =
-    ap (λ o. work_of (active_sent c request.msg o) (queue s c log)) r.active in
-    let before : work_of (active s c log) (queue s c log) ≡ work_of (Some r.attempt) (queue s c log) =
-    ap (λ o. work_of o (queue s c log)) r.active in
-    rw (to_do, request.act_is) (omega arith)
+step_falls s bases log place c Send amid e (sends h) = grind arith
 step_falls s bases log place c Commit amid e (commits_now h) =
     let r = commits (active s c log) h in
     let a : Attempt = r.attempt in
@@ -70,11 +54,7 @@ step_falls s bases log place c Commit amid e (commits_now h) =
     ap (λ o. work_of o (queue s c log)) r.active in
     rw to_do (omega arith)
 step_falls s bases log place c Answer amid e (answers h can) =
-    let l : Line = (class_of s log c).line in
-    let o : Option Act = act_of bases (current_era s log).table (clock s.site log) (class_of s log c) Answer in
-    let same = null_work c l (answer_time (clock s.site log) (active s c log)) o (λ act f. answer_is l (clock s.site log) _ act f) in
-    let less = fewer_asks (can_answer (active s c log)) (asks_of c (asks log)) can in
-    omega arith
+    grind (arith, class_of, act_of, null_work, active, answer_is, fewer_asks, asks_of, asks)
 step_falls s bases log place c Start amid e (starts h cannot may) =
     let w = may_start (on_hold (view_of s log)) (active s c log) (queue s c log) may in
     by_start w.first w.rest w.idle w.queue_is

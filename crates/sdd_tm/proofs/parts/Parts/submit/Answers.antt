@@ -1,5 +1,5 @@
 -- The transaction goes to its class alone, where the module runs it.
-use Rattle.sdd_tm.proofs.All.{State, ap, arith, one_place, slice_index_or, slice_set, subst, sym, ℕ, ◌∙◌, ◌≡◌}
+use Rattle.sdd_tm.proofs.All.{State, ap, arith, one_place, slice_index_or, slice_set, subst, ◌∙◌, ◌≡◌}
 use Rattle.sdd_tm.proofs.Taking.{few_kept, apart_kept, given_nowhere, given_somewhere, given_fits, given_there}
 use Rattle.sdd_tm.proofs.parts.Parts.submit.Goals as goal
 
