@@ -1,6 +1,6 @@
 -- An attempt that isn't its transaction's first follows a Reject of the attempt before it, by a WRITE of a committed
 -- transaction; and its time of P2 is above that WRITE's time.
-use Rattle.sdd_invariants.proofs.All.{Bool, Change, ClassNo, ClassView, Cond, D, DmNo, Does, FragNo, Hand, Handed, Input, IsAgain, IsOf, IsOfWrite, IsPermitted, IsReadOf, IsRejectBy, IsWriter, List, Msg, None, Option, Pipe, Queued, Read, Records, Reject, Rejected, Setting, Site, Some, Ts, TxnNo, Write, [], active, ap, append_assoc, arith, at_class, class_puts, clock, cond, cons_option, dec_le, empty_pipe, false, filter, filter_map, fold, greatest, handed, head, head_of, home, home_of, inl, inr, is_at_least, last_write, last_write_for, length, local_of, max, next_stamp, number_of, or_zero, pipe, pipe_at, queue, raised, refl, results, setting_of, slice_get, source_of, spoils, subst, suc, sym, time_at, touches, true, view_of, write_time, zero, ℕ, ◌*◌, ◌++◌, ◌+◌, ◌/◌, ◌<◌, ◌∙◌, ◌∷◌, ◌≡◌, ◌≤◌, ◌⊎◌}
+use Rattle.sdd_invariants.proofs.All.{Bool, Change, ClassNo, ClassView, Cond, D, DmNo, Does, FragNo, Hand, Handed, Input, IsAgain, IsOf, IsOfWrite, IsPermitted, IsReadOf, IsRejectBy, IsWriter, List, Msg, None, Option, Pipe, Queued, Read, Records, Reject, Rejected, Setting, Site, Some, Ts, TxnNo, Write, [], active, ap, append_assoc, arith, at_class, class_puts, clock, cond, cons_option, dec_le, empty_pipe, filter, filter_map, fold, greatest, handed, head, head_of, home, home_of, inl, inr, is_at_least, last_write, last_write_for, length, local_of, max, next_stamp, number_of, or_zero, pipe, pipe_at, queue, raised, refl, results, setting_of, slice_get, source_of, spoils, subst, suc, sym, time_at, touches, true, view_of, write_time, zero, ℕ, ◌*◌, ◌++◌, ◌+◌, ◌/◌, ◌<◌, ◌∙◌, ◌∷◌, ◌≡◌, ◌≤◌, ◌⊎◌}
 use Rattle.sdd_invariants.proofs.Clocks.{clock_grows, clock_number}
 use Rattle.sdd_invariants.proofs.Recorded.{start_of_active}
 use Rattle.sdd_invariants.proofs.Retried.{was_rejected}
@@ -21,10 +21,7 @@ use Rattle.sdd_log.specs.site_module.SiteLog as site
 -- the greatest of numbers is one of them
 
 raised_is : (o : Option ℕ) (x w : ℕ) → raised o x ≡ Some w → (o ≡ Some w) ⊎ (x ≡ w)
-raised_is None x w e = inr cc
-raised_is (Some u) x w e =
-    let r : max u x ≡ w = cc in
-    elim (dec_le u x) [ yes l ↦ inr (omega arith) | no l ↦ (let z : u ≡ w = omega (arith, l) in inl (ap (λ y. Some y) z)) ]
+raised_is o x w e = grind arith
 
 greatest_from : (o : Option ℕ) (xs : List ℕ) (w : ℕ) → fold raised o xs ≡ Some w → (o ≡ Some w) ⊎ ((k : ℕ) × (slice_get xs k ≡ Some w))
 greatest_from o [] w e = inl e
@@ -52,8 +49,7 @@ mapped_in f (m ∷ ms) k w e =
     ] refl e
 
 cond_is : (b : Bool) (t w : ℕ) → cond b (Some t) None ≡ Some w → (b ≡ true) × (t ≡ w)
-cond_is true t w e = (refl, cc)
-cond_is false t w e = cc
+cond_is b t w e = grind arith
 
 time_is : (frags : List FragNo) (m : Msg) (w : ℕ) → write_time frags m ≡ Some w
     → (ts : Ts) × (k : ClassNo) × (txn : TxnNo) × (changes : List Change) × (m ≡ Write ts k txn changes) × (ts.0 ≡ w) × (touches frags changes ≡ true)
@@ -61,8 +57,7 @@ time_is frags (Write ts k txn changes) w e = let p = cond_is (touches frags chan
 time_is frags _ w e = cc
 
 pub first_there : (ds : List Cond) (d : Cond) → head_of ds ≡ Some d → slice_get ds 0 ≡ Some d
-first_there [] d e = cc
-first_there (x ∷ ds) d e = e
+first_there ds d e = grind arith
 
 pub first_of_filter : (f : Cond → Bool) (ds : List Cond) (d : Cond) → head_of (filter f ds) ≡ Some d → (k : ℕ) × (slice_get ds k ≡ Some d) × (f d ≡ true)
 first_of_filter f ds d e = let i = in_filtered f ds 0 d (first_there (filter f ds) d e) in (i.1, i.2, i.0)
@@ -70,8 +65,7 @@ first_of_filter f ds d e = let i = in_filtered f ds 0 d (first_there (filter f d
 -- a condition that is spoilt: by the WRITE that is named
 
 spoilt_by : (t : ℕ) (o : Option ℕ) → is_at_least t o ≡ true → (o ≡ Some (or_zero o)) × (t ≤ or_zero o)
-spoilt_by t None e = cc
-spoilt_by t (Some w) e = (refl, le_is t w e)
+spoilt_by t o e = grind (arith, le_is)
 
 pub record IsSpoilt (log : site.Log) (d : Cond) (w : ℕ) : Type 0 where
   pub at_least : d.time.0 ≤ w

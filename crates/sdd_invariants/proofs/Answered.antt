@@ -1,6 +1,6 @@
 -- What a data module puts, and why; an Answer follows its attempt's Start, and a Commit an Answer of its attempt at each
 -- module that it reads.
-use Rattle.sdd_invariants.proofs.All.{Act, Answer, Ask, Attempt, Bool, ClassNo, Cond, D, Did, DmNo, Does, Done, Each, Fetch, Hand, Handed, HasAnswer, Input, IsDueEach, IsFair, IsFetch, IsHonest, IsPermitted, IsPutByD, IsRead, IsReadOf, IsReadyBy, IsReduce, IsSend, IsShip, IsStep, List, Msg, Queued, Read, Ready, Records, Reduce, Reduced, Reject, Rows, Setting, Ship, Site, Some, T, Ts, TxnNo, U, Use, Values, WasAsked, [], a_held, a_hold, a_null, a_release, active, ap, append_assoc, arith, asks_in, asks_rows, clock, contains, counts, each_local, eqb-true, false, handed, head, head_of, home, home_of, if◌then◌else◌, inl, inr, is_answer, is_over, is_ready, list_any, local_of, modules_asked, next_stamp, of_exchange, or_left, or_right, pipe_at, puts_to, queue, refl, same_site, sends_of_act, setting_of, slice_get, source_of, start_at, start_read, subst, suc, sym, to_site, true, was_asked, was_ready, zero, ℕ, ◌&&◌, ◌++◌, ◌==◌, ◌||◌, ◌∙◌, ◌∷◌, ◌≡◌}
+use Rattle.sdd_invariants.proofs.All.{Act, Answer, Ask, Attempt, Bool, ClassNo, Cond, D, Did, DmNo, Does, Done, Each, Hand, Handed, HasAnswer, Input, IsDueEach, IsFair, IsFetch, IsHonest, IsPermitted, IsPutByD, IsRead, IsReadOf, IsReadyBy, IsReduce, IsSend, IsShip, IsStep, List, Msg, Queued, Read, Ready, Records, Reduced, Reject, Rows, Setting, Site, Some, T, Ts, TxnNo, U, Use, Values, WasAsked, [], a_held, a_hold, a_null, a_release, active, ap, append_assoc, arith, asks_in, asks_rows, contains, counts, each_local, eqb-true, false, handed, head, head_of, home, home_of, if◌then◌else◌, inl, inr, is_answer, is_over, is_ready, list_any, local_of, modules_asked, next_stamp, of_exchange, or_left, or_right, pipe_at, puts_to, queue, refl, same_site, sends_of_act, setting_of, slice_get, source_of, start_at, start_read, subst, suc, sym, to_site, true, was_asked, was_ready, ℕ, ◌&&◌, ◌++◌, ◌==◌, ◌||◌, ◌∙◌, ◌∷◌, ◌≡◌}
 use Rattle.sdd_invariants.proofs.Clocks.{clock_grows, clock_number}
 use Rattle.sdd_invariants.proofs.Origins.{was_put}
 use Rattle.sdd_invariants.proofs.ReadsPut.{start_puts}
@@ -36,10 +36,7 @@ of_one : (f : Msg → Bool) (ms : List Msg) (x : Msg) (k : ℕ) (m : Msg) → ms
 of_one f ms x k m e g h = subst (λ y. f y ≡ false) (in_one ms x k m e h) g
 
 asks_not_d : (ts c : ℕ) (m : Msg) → asks_rows ts c m ≡ true → is_from_d m ≡ false
-asks_not_d ts c (Fetch a b u col) e = refl
-asks_not_d ts c (Reduce a b u col vs) e = refl
-asks_not_d ts c (Ship a b) e = refl
-asks_not_d ts c _ e = cc
+asks_not_d ts c m e = grind arith
 
 send_not_d : (s : Setting) (log : site.Log) (m : Msg) → IsSend s log m → is_from_d m ≡ false
 send_not_d s log m (of_exchange k a at i e w) = asks_not_d a.ts k m e
@@ -99,8 +96,7 @@ from_a_d g log (T t) at k m h e f = absurd (not_both (is_from_d m) f (not_from_d
 
 any_cons : (f : Msg → Bool) (x : Msg) (ms : List Msg) (k : ℕ) (m : Msg) (b : Bool)
     → ((j : ℕ) → slice_get ms j ≡ Some m → b ≡ true) → f m ≡ true → slice_get (x ∷ ms) k ≡ Some m → (f x || b) ≡ true
-any_cons f x ms zero m b h g e = let p : x ≡ m = cc in or_left (f x) b (ap f p ∙ g)
-any_cons f x ms (suc k) m b h g e = or_right (f x) b (h k e)
+any_cons f x ms k m b h g e = grind (arith, or_left, or_right)
 
 any_sent : (f : Msg → Bool) (b : Site) (sends : List (Site × Msg)) (k : ℕ) (m : Msg) → slice_get (to_site b sends) k ≡ Some m
     → f m ≡ true → list_any (λ (p : Site × Msg). f p.1) sends ≡ true
@@ -138,8 +134,7 @@ asked_then g log at d ts c later log2 P h e w f =
     (append_assoc i.later (Hand at (D d) i.number w.asked ∷ []) i.rest ∙ sym i.is)
     (subst (λ l. was_asked ts c l ≡ true) (sym x.1) (asked_more ts c x.0 (local_of g at i.rest) a)) in
     let y = local_grows g at later log2 in
-    subst (λ l. was_asked ts c (local_of g at l) ≡ true) (sym e)
-    (subst (λ l. was_asked ts c l ≡ true) (sym y.1) (asked_more ts c y.0 (local_of g at log2) here))
+    grind (arith, asked_more)
 
 honest_d : (g : Input) (log : Log) (at : Site) (d : DmNo) (m : Msg) (ts c : ℕ) (later before : Log) (act : Act)
     → IsPermitted g log → log ≡ later ++ Does (D d) act ∷ before → IsPutByD (setting_of g (D d)) (local_of g (D d) before) at act m → is_answer ts c m ≡ true
@@ -192,11 +187,7 @@ read_of g c d log ts k txn attempt conds uses h e =
 -- one timestamp, one Start
 
 did_at : (s : Setting) (c : ℕ) (l1 b1 b2 : site.Log) (q2 : Queued) → next_stamp s b1 ≡ next_stamp s b2 → b1 ≡ l1 ++ Did (start_at s c b2 q2) ∷ b2 → ⊥
-did_at s c l1 b1 b2 q2 e f =
-    let g = clock_grows s.site l1 (Did (start_at s c b2 q2) ∷ b2) in
-    let n1 = clock_number s.site b1 in let n2 = clock_number s.site b2 in
-    let h : (clock s.site b1).ticks ≡ (clock s.site (l1 ++ Did (start_at s c b2 q2) ∷ b2)).ticks = ap (λ l. (clock s.site l).ticks) f in
-    omega arith
+did_at s c l1 b1 b2 q2 e f = grind (arith, clock_grows, start_at, clock_number)
 
 pub one_start : (s : Setting) (c : ℕ) (l1 l2 b1 b2 : site.Log) (q1 q2 : Queued) → next_stamp s b1 ≡ next_stamp s b2
     → l1 ++ Did (start_at s c b1 q1) ∷ b1 ≡ l2 ++ Did (start_at s c b2 q2) ∷ b2 → b1 ≡ b2

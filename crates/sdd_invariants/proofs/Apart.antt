@@ -33,12 +33,10 @@ end_at (y ∷ xs) zero x e = absurd (omega (arith, e))
 end_at (y ∷ xs) (suc r) x e = end_at xs r x (omega (arith, e))
 
 one_length : (o : Option ℕ) (n m : ℕ) (xs : List ℕ) → length xs ≡ m → length (cons_option o xs) ≡ (elim o as (λ _. ℕ) [ None ↦ 0 | Some x ↦ 1 ]) + m
-one_length None n m xs e = omega (arith, e)
-one_length (Some x) n m xs e = omega (arith, e)
+one_length o n m xs e = grind arith
 
 count_release : (m : Msg) → (elim (release_time m) as (λ _. ℕ) [ None ↦ 0 | Some x ↦ 1 ]) ≡ one_if (is_a_release m)
-count_release (Release ts) = refl
-count_release m = refl
+count_release m = grind arith
 
 times_length : (ms : List Msg) → length (release_times ms) ≡ tally is_a_release ms
 times_length [] = refl
@@ -64,8 +62,7 @@ push (Held time) = time.0
 push _ = 0
 
 push_is : (m : Msg) (k : Ticking) → (k.ticks ≤ (pushed_by m k).ticks) × (push m / 64 ≤ (pushed_by m k).ticks)
-push_is (Ask class time) k = (omega arith, omega arith)
-push_is _ k = (omega arith, omega arith)
+push_is m k = grind arith
 
 pushed_if : (b : Bool) (xs : List Msg) (x m : Msg) (i n k : ℕ) → n ≤ k → push x / 64 ≤ k
     → ((j : ℕ) → slice_get xs j ≡ Some m → push m / 64 ≤ n) → slice_get (if b then xs ++ x ∷ [] else xs) i ≡ Some m → push m / 64 ≤ k
@@ -84,8 +81,7 @@ has_pushed at a (Submits n txn ∷ l) i m e = has_pushed at a l i m e
 has_pushed at a (x ∷ l) i m e = up_le _ _ _ (has_pushed at a l i m e) (clock_rises at x l)
 
 release_push : (m : Msg) (x : ℕ) → release_time m ≡ Some x → push m ≡ x
-release_push (Release ts) x e = cc
-release_push m x e = cc
+release_push m x e = grind arith
 
 pub at_start : (g : Input) (k t : ℕ) (log : Log) (q : Queued) → slice_get (numbers_to g.catalogue.tms) k ≡ Some t
     → IsPermitted g (Does U (start_u g log q) ∷ log) → IsStartU g t log (starts (local_of g U log))

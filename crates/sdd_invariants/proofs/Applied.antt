@@ -1,6 +1,6 @@
 -- The split, said of records: a transaction of a condition's class that changes one of its fragments with a copy there is
 -- applied before the Answer exactly where its timestamp is below the condition's time.
-use Rattle.sdd_invariants.proofs.All.{Act, AllGt, Answer, Apply, Attempt, Bases, Change, Cond, D, Did, DmNo, Does, FragNo, Input, IsAnswerWith, IsApplied, IsOf, IsOfWrite, IsPermitted, IsStrict, List, Msg, None, Null, Option, Read, Rec, Records, Site, Some, Ts, Write, [], ap, append_assoc, arith, changes_to, class_in, class_no, class_puts, commit_act, cond, cons_option, false, filter_map, goes_through, home, if◌then◌else◌, length, local_of, number_of, pipe, pipe_at, place_within, puts_to, read_at, refl, results, same_site, setting_of, slice_get, subst, suc, sym, time_at, touches, true, txn_no, write_at, zero, ℕ, ◌++◌, ◌<◌, ◌==◌, ◌∙◌, ◌∷◌, ◌≡◌, ◌≢◌, ◌≤◌}
+use Rattle.sdd_invariants.proofs.All.{Act, AllGt, Answer, Attempt, Bases, Change, Cond, D, Did, DmNo, Does, FragNo, Input, IsAnswerWith, IsApplied, IsOf, IsOfWrite, IsPermitted, IsStrict, List, Msg, None, Option, Rec, Records, Site, Some, Ts, Write, [], ap, append_assoc, arith, changes_to, class_in, class_no, class_puts, commit_act, cond, cons_option, false, filter_map, goes_through, home, if◌then◌else◌, length, local_of, number_of, pipe, pipe_at, place_within, puts_to, read_at, refl, results, same_site, setting_of, slice_get, subst, suc, sym, time_at, touches, true, txn_no, write_at, zero, ℕ, ◌++◌, ◌<◌, ◌∙◌, ◌∷◌, ◌≡◌, ◌≢◌, ◌≤◌}
 use Rattle.sdd_invariants.proofs.Origins.{commit_writes, is_put}
 use Rattle.sdd_invariants.proofs.ReadsPut.{read_once}
 use Rattle.sdd_invariants.proofs.WritesPut.{written}
@@ -57,18 +57,13 @@ key_rises f (m ∷ ms) (suc a) (suc b) x y t u h e i p q l = key_rises f ms a b 
 
 same_keys : (c : ℕ) (f : Msg → Option ℕ) (ms : List Msg) → ((m : Msg) → goes_through c m ≡ false → f m ≡ None) → filter_map f (class_in c ms) ≡ filter_map f ms
 same_keys c f [] k = refl
-same_keys c f (x ∷ ms) k = elim (goes_through c x) as (λ b. goes_through c x ≡ b → filter_map f (cond b (x ∷ class_in c ms) (class_in c ms)) ≡ filter_map f (x ∷ ms)) [
-  | true ↦ λ e. ap (λ l. cons_option (f x) l) (same_keys c f ms k)
-  | false ↦ λ e. rw (k x e) (same_keys c f ms k)
-] refl
+same_keys c f (x ∷ ms) k = grind (arith, cond, same_keys c f ms k)
 
 no_write : (c : ℕ) (m : Msg) → goes_through c m ≡ false → write_at c m ≡ None
-no_write c (Write ts k txn changes) e = rw e refl
-no_write c _ e = refl
+no_write c m e = grind arith
 
 no_read : (c : ℕ) (m : Msg) → goes_through c m ≡ false → read_at c m ≡ None
-no_read c (Read ts k txn attempt conds uses) e = rw e refl
-no_read c _ e = refl
+no_read c m e = grind arith
 
 pub writes_strict : (g : Input) (c : ℕ) (d : DmNo) (log : Log) → IsPermitted g log → number_of (home g.catalogue c) ≤ 63
     → IsStrict (filter_map (write_at c) (class_puts g c d log))
@@ -84,15 +79,7 @@ reads_strict g c d log h small =
 
 -- a record of a WRITE belongs to a WRITE of that time and class
 pub of_write : (ts : Ts) (c txn : ℕ) (r : Rec) (m : Msg) → IsOfWrite ts c txn r → IsOf r m → write_at c m ≡ Some ts.0
-of_write ts c txn (Apply t j dm w) (Write u k x changes) h i =
-    let same : u ≡ ts = sym i.1 ∙ h.1 in
-    let of : k.0 ≡ c = sym i.2 ∙ h.2 in
-    let is : (k.0 == c) ≡ true = subst (λ z. (k.0 == z) ≡ true) of (same_number k.0) in
-    rw is (ap (λ (z : Ts). Some z.0) same)
-of_write ts c txn (Apply t j dm w) (Read a b d n e f) h i = absurd i
-of_write ts c txn (Apply t j dm w) (Null a b) h i = absurd i
-of_write ts c txn (Apply t j dm w) _ h i = absurd i
-of_write ts c txn r m h i = absurd h
+of_write ts c txn r m h i = grind (arith, same_number)
 
 pub write_own : (c t n : ℕ) (xs : List Change) → write_at c (Write (time_at t) (class_no c) (txn_no n) xs) ≡ Some t
 write_own c t n xs = rw (same_number c) refl

@@ -1,5 +1,5 @@
 -- What is due at a data module is a step.
-use Rattle.sdd_invariants.proofs.All.{Act, Bool, Change, ClassNo, ClassView, Cond, Fetch, Home, IsClassHere, IsDue, IsReadStep, IsReadWith, List, Log, Msg, None, Null, Open, Option, Processes, Read, Reduce, Setting, Ship, Some, Ts, TxnNo, Use, Write, [], act_by, act_where, answer_of, answer_to, arith, at_class, by_head, by_open, by_record, by_wait, class_view, classes_of, empty_pipe, false, filter, get_or-map-range_with_len, get_or_past, head, head_due, head_of, home_of, if◌then◌else◌, in_mapped, in_passing, inl, inr, is_asked_of, is_held, is_met, judged, lacking, length, length-map-range_with_len, list_all, map, pipe, refl, slice_get, spoiler, step_on, subst, suc, sym, true, view_of, waits, ℕ, ◌∷◌, ◌≡◌, ◌≤◌}
+use Rattle.sdd_invariants.proofs.All.{Act, Bool, Change, ClassNo, ClassView, Cond, Home, IsClassHere, IsDue, IsReadStep, IsReadWith, List, Log, Msg, None, Null, Open, Option, Processes, Read, Setting, Some, Ts, TxnNo, Use, Write, [], act_by, act_where, answer_of, answer_to, arith, at_class, by_head, by_open, by_record, by_wait, class_view, classes_of, empty_pipe, false, filter, get_or-map-range_with_len, get_or_past, head, head_due, head_of, home_of, if◌then◌else◌, in_mapped, inl, inr, is_asked_of, is_held, is_met, judged, lacking, length, length-map-range_with_len, list_all, pipe, refl, slice_get, spoiler, step_on, subst, suc, sym, true, view_of, waits, ℕ, ◌∷◌, ◌≡◌, ◌≤◌}
 use Rattle.sdd_invariants.proofs.Lists.{in_range, nothing_left}
 
 abbrev pub no_class : ClassView
@@ -10,10 +10,7 @@ pub class_in_view : (s : Setting) (log : Log) (c : ℕ) → IsClassHere s c → 
 class_in_view s log c h = get_or-map-range_with_len (class_view s log) 0 (suc (length s.catalogue.classes)) c c no_class h (omega arith)
 
 pub class_not_in_view : (s : Setting) (log : Log) (c : ℕ) → suc (length s.catalogue.classes) ≤ c → at_class (view_of s log) c ≡ no_class
-class_not_in_view s log c h =
-    let l : length (map (class_view s log) (classes_of s)) ≡ suc (length s.catalogue.classes) = length-map-range_with_len (class_view s log) 0
-    (suc (length s.catalogue.classes)) in
-    get_or_past (map (class_view s log) (classes_of s)) c no_class (omega arith)
+class_not_in_view s log c h = grind (arith, length-map-range_with_len, get_or_past)
 
 -- a class of the view, by its place
 pub class_at_place : (s : Setting) (log : Log) (n : ℕ) (k : ClassView) → slice_get (view_of s log).classes n ≡ Some k
@@ -26,15 +23,10 @@ step_is : (s : Setting) (log : Log) (x a : Act) → IsReadStep s log x → Some 
 step_is s log x a h e = let p : x ≡ a = cc in subst (IsReadStep s log) p h
 
 open_step : (s : Setting) (log : Log) (h : Home) (k : ClassView) (o : Open) (m : Msg) (a : Act) → answer_to h k o m ≡ Some a → IsReadStep s log a
-open_step s log h k o (Read ts class txn attempt conds uses) a e = step_is s log _ a (in_passing refl) e
-open_step s log h k o (Fetch ts class u col) a e = step_is s log _ a (in_passing refl) e
-open_step s log h k o (Reduce ts class u col vs) a e = step_is s log _ a (in_passing refl) e
-open_step s log h k o (Ship ts class) a e = step_is s log _ a (in_passing refl) e
-open_step s log h k o _ a e = cc
+open_step s log h k o m a e = grind (arith, step_is)
 
 asked_step : (s : Setting) (log : Log) (h : Home) (k : ClassView) (o : Option Open) (a : Act) → answer_of h k o ≡ Some a → IsReadStep s log a
-asked_step s log h k None a e = cc
-asked_step s log h k (Some o) a e = open_step s log h k o o.msg a e
+asked_step s log h k o a e = grind (arith, open_step)
 
 -- a READ that doesn't wait, by what it lacks and what spoils it
 judged_step : (s : Setting) (log : Log) (c : ℕ) (ts : Ts) (class : ClassNo) (txn : TxnNo) (attempt : ℕ) (conds : List Cond) (uses : List Use) (lacking : List Cond) (by : Option Cond) (a : Act)

@@ -1,5 +1,5 @@
 -- What is due at a transaction module or at U is a step.
-use Rattle.sdd_invariants.proofs.All.{Act, Attempt, Bases, Bool, D, Held, Hold, IsServed, IsStep, List, Log, Msg, None, Null, Option, Queued, Release, Sends, Setting, Site, Some, T, TmNo, Ts, U, [], a_held, a_hold, a_null, a_release, active, ap, arith, attempt_due, bound, by_commit, by_send, by_start, class_at, class_no, commit_act, dm_no, eqb-true, false, first_send, head_of, home, if◌then◌else◌, in_mapped, is_none, is_over, length, limit, limit_of, map, nat_le, not, number_of, numbers_to, of_exchange, or_else, queue, refl, slice_get, start_at, subst, sym, time_at, true, ℕ, ◌&&◌, ◌<◌, ◌==◌, ◌∙◌, ◌∷◌, ◌≡◌}
+use Rattle.sdd_invariants.proofs.All.{Act, Attempt, Bases, Bool, D, Held, Hold, IsServed, IsStep, List, Log, Msg, None, Null, Option, Queued, Release, Sends, Setting, Site, Some, T, TmNo, Ts, U, [], a_held, a_hold, a_null, a_release, active, ap, arith, attempt_due, bound, by_commit, by_send, by_start, class_at, class_no, commit_act, dm_no, eqb-true, false, first_send, head_of, home, if◌then◌else◌, in_mapped, is_none, is_over, limit, limit_of, map, nat_le, not, of_exchange, or_else, queue, refl, slice_get, start_at, subst, sym, time_at, true, ℕ, ◌&&◌, ◌==◌, ◌∙◌, ◌∷◌, ◌≡◌}
 use Rattle.sdd_invariants.proofs.Bools.{not_zero}
 use Rattle.sdd_invariants.proofs.Exchanges.{asks_next, not_reading}
 use Rattle.sdd_invariants.proofs.Lists.{in_filtered, in_range}
@@ -10,11 +10,7 @@ use Rattle.sdd_log.specs.umod.Views as um_views
 
 -- the classes that a transaction module runs are those whose home it is
 home_of_run : (s : Setting) (t : TmNo) (k c : ℕ) → s.site ≡ T t → slice_get (tm_views.runs s) k ≡ Some c → home s.catalogue c ≡ s.site
-home_of_run s t k c at e =
-    let i = in_filtered (λ c. (class_at s.catalogue c).tm.0 == number_of s.site) (numbers_to (length s.catalogue.classes)) k c e in
-    let n : (class_at s.catalogue c).tm.0 ≡ number_of s.site = eqb-true _ _ i.0 in
-    let z : (c == 0) ≡ false = not_zero c (in_range 1 (length s.catalogue.classes) i.1 c i.2).0 in
-    rw (z, n, at) refl
+home_of_run s t k c at e = grind (arith, in_filtered, class_at, eqb-true, not_zero, in_range)
 
 class_of_view : (s : Setting) (t : TmNo) (log : Log) (k : ℕ) (c : tm_views.ClassView) → s.site ≡ T t
     → slice_get (map (tm_views.class_view s log) (tm_views.runs s)) k ≡ Some c → (n : ℕ) × (home s.catalogue n ≡ s.site) × (tm_views.class_view s log n ≡ c)
@@ -99,14 +95,7 @@ t_step s t bases log act at (tm.by_start k c p e) =
 -- U: there a Start is due where the queue's head has none, so class 0 is idle
 
 pub idle_of : (o : Option Attempt) (qs : List Queued) (q : Queued) → IsServed o qs → head_of qs ≡ Some q → (q.tries == 0) ≡ true → o ≡ None
-idle_of None qs q h e z = refl
-idle_of (Some a) [] q h e z = absurd h
-idle_of (Some a) (x ∷ qs) q h e z =
-    let p : x ≡ q = cc in
-    let n : q.tries ≡ a.attempt = ap (λ (y : Queued). y.tries) (sym p) ∙ h.2 in
-    let zero_tries : q.tries ≡ 0 = eqb-true q.tries 0 z in
-    let l : 0 < a.attempt = h.3 in
-    absurd (omega arith)
+idle_of o qs q h e z = grind (arith, eqb-true)
 
 u_start_if : (s : Setting) (log : Log) (q : Queued) (z b : Bool) (act : Act) → home s.catalogue 0 ≡ s.site
     → IsServed (active s 0 log) (queue s 0 log) → head_of (queue s 0 log) ≡ Some q → (q.tries == 0) ≡ z

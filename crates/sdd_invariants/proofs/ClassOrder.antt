@@ -1,5 +1,5 @@
 -- Within a class a module processes in the order of times.
-use Rattle.sdd_invariants.proofs.All.{AllGe, D, DmNo, Input, IsPermitted, IsRising, List, Msg, Some, [], arith, class_puts, dec_le, head, head_of, home, in_left, length, local_of, map, number_of, pipe_at, puts_to, setting_of, slice_get, subst, suc, sym, time_of, zero, ℕ, ◌++◌, ◌<◌, ◌∷◌, ◌≡◌, ◌≤◌}
+use Rattle.sdd_invariants.proofs.All.{AllGe, D, DmNo, Input, IsPermitted, IsRising, List, Msg, Some, [], arith, class_puts, head, head_of, home, in_left, length, local_of, map, number_of, pipe_at, puts_to, setting_of, slice_get, subst, suc, time_of, zero, ℕ, ◌++◌, ◌<◌, ◌∷◌, ◌≡◌, ◌≤◌}
 use Rattle.sdd_invariants.proofs.Times.{timed}
 use Rattle.sdd_invariants.proofs.InPipe.{in_pipe_later, times_are}
 use Rattle.sdd_invariants.proofs.Lists.{at_seam}
@@ -23,10 +23,7 @@ rising_at (m ∷ ms) (suc a) (suc b) x y h e f l = rising_at ms a b x y h.1 e f 
 -- in a list of rising times the smaller time comes first
 pub earlier : (ms : List Msg) (a b t : ℕ) (x y : Msg) → IsRising (map time_of ms) → slice_get ms a ≡ Some x
     → slice_get ms b ≡ Some y → time_of x < t → t ≤ time_of y → a < b
-earlier ms a b t x y h e f l k = elim (dec_le b a) [
-  | yes le ↦ (let i = rising_at ms b a y x h f e le in absurd (omega arith))
-  | no n ↦ omega (arith, n)
-]
+earlier ms a b t x y h e f l k = grind (arith, rising_at)
 
 pub class_rises : (g : Input) (c : ℕ) (d : DmNo) (log : Log) → IsPermitted g log → number_of (home g.catalogue c) ≤ 63
     → IsRising (map time_of (class_puts g c d log))
@@ -56,8 +53,7 @@ pub head_place : (g : Input) (c : ℕ) (d : DmNo) (later log : Log) (m : Msg) �
     → slice_get (class_puts g c d (later ++ log)) (length (pipe_at g c d log).processed) ≡ Some m
 head_place g c d later log m h e =
     let i = in_pipe_later g c d later log h in
-    subst (λ ms. slice_get ms (length (pipe_at g c d log).processed) ≡ Some m) (sym i.1)
-    (head_at (pipe_at g c d log).processed (pipe_at g c d log).unprocessed i.0 m e)
+    grind (arith, head_at)
 
 -- at a head: of its class the messages with smaller times are processed, those with greater ones are not
 pub around_head : (g : Input) (c : ℕ) (d : DmNo) (later log : Log) (a : ℕ) (x m : Msg) → IsPermitted g (later ++ log)

@@ -1,5 +1,5 @@
 -- Starts draw timestamps that rise and lie above all that was promised before.
-use Rattle.sdd_invariants.proofs.All.{Act, AllLe, AllOf, Ask, Attempt, Bool, Did, Each, Entry, Fetch, Handed, IsClocked, IsFair, IsSend, IsStep, List, Log, Msg, None, Option, Queued, Records, Redeclared, Reduce, Sends, Setting, Ship, Site, Some, Start, Submits, Ticked, Ticking, [], a_held, a_hold, a_null, a_release, active, arith, asks_rows, bound, clock, false, head_of, if◌then◌else◌, last_stamp, limit, limit_of, next_stamp, number_of, of_exchange, promise_of, promises, pushed_by, queue, refl, sends_of_act, slice_get, stamp_or, stamps, start_at, started, subst, suc, sym, ticked_by, time_at, time_if_some, true, zero, ℕ, ◌*◌, ◌++◌, ◌+◌, ◌<◌, ◌==◌, ◌∙◌, ◌∷◌, ◌≡◌, ◌≢◌, ◌≤◌}
+use Rattle.sdd_invariants.proofs.All.{Act, AllLe, AllOf, Attempt, Bool, Did, Each, Entry, Handed, IsClocked, IsFair, IsSend, IsStep, List, Log, Msg, None, Option, Queued, Redeclared, Sends, Setting, Site, Some, Submits, Ticked, Ticking, [], active, arith, asks_rows, bound, clock, if◌then◌else◌, last_stamp, limit, limit_of, next_stamp, number_of, promise_of, promises, pushed_by, refl, slice_get, stamp_or, stamps, start_at, started, subst, suc, sym, ticked_by, time_at, time_if_some, true, zero, ℕ, ◌*◌, ◌++◌, ◌+◌, ◌<◌, ◌∙◌, ◌∷◌, ◌≡◌, ◌≢◌, ◌≤◌}
 use Rattle.sdd_invariants.proofs.Active.{handed_way, sent_way, step_way}
 use Rattle.sdd_invariants.proofs.Bools.{if_way}
 use Rattle.sdd_invariants.proofs.Lists.{le_join, le_up, lt_above}
@@ -7,20 +7,16 @@ use Rattle.sdd_invariants.proofs.Lists.{le_join, le_up, lt_above}
 -- a clock keeps its number, and no entry lowers it
 
 pushed_number : (m : Msg) (k : Ticking) → (pushed_by m k).number ≡ k.number
-pushed_number (Ask class time) k = refl
-pushed_number _ k = refl
+pushed_number m k = grind arith
 
 pushed_rises : (m : Msg) (k : Ticking) → k.ticks ≤ (pushed_by m k).ticks
-pushed_rises (Ask class time) k = omega arith
-pushed_rises _ k = omega arith
+pushed_rises m k = grind arith
 
 ticked_number : (act : Act) (k : Ticking) → (ticked_by act k).number ≡ k.number
-ticked_number (Records c (Start txn attempt class ts p2 uses) sends) k = refl
-ticked_number _ k = refl
+ticked_number act k = grind arith
 
 ticked_rises : (act : Act) (k : Ticking) → k.ticks ≤ (ticked_by act k).ticks
-ticked_rises (Records c (Start txn attempt class ts p2 uses) sends) k = omega arith
-ticked_rises _ k = omega arith
+ticked_rises act k = grind arith
 
 pub clock_number : (at : Site) (log : Log) → (clock at log).number ≡ number_of at
 clock_number at [] = refl
@@ -29,9 +25,7 @@ clock_number at (Did act ∷ log) = ticked_number act (clock at log) ∙ clock_n
 clock_number at (_ ∷ log) = clock_number at log
 
 pub clock_rises : (at : Site) (e : Entry) (log : Log) → (clock at log).ticks ≤ (clock at (e ∷ log)).ticks
-clock_rises at (Handed from m) log = pushed_rises m (clock at log)
-clock_rises at (Did act) log = ticked_rises act (clock at log)
-clock_rises at _ log = omega arith
+clock_rises at e log = grind (arith, pushed_rises, ticked_rises)
 
 pub clock_grows : (at : Site) (later log : Log) → (clock at log).ticks ≤ (clock at (later ++ log)).ticks
 clock_grows at [] log = omega arith
@@ -61,40 +55,24 @@ next_is_last s c log q = refl
 
 -- a clock that rises, and no new time
 clock_on : (s : Setting) (log : Log) (e : Entry) → stamps (e ∷ log) ≡ stamps log → promises (e ∷ log) ≡ promises log → IsClocked s log → IsClocked s (e ∷ log)
-clock_on s log e p q h = record {
-  drawn_le = rw p (le_up (last_stamp s log) (last_stamp s (e ∷ log)) (stamps log) (stamp_rises s e log) h.drawn_le);
-  falls = rw p h.falls;
-  promised_le = rw q (le_up (bound s log) (bound s (e ∷ log)) (promises log) (bound_rises s e log) h.promised_le);
-}
+clock_on s log e p q h = grind (arith, le_up, stamp_rises, bound, bound_rises)
 
 one_time : (b : Bool) (k t : ℕ) (xs : List ℕ) → t ≤ k → AllLe k xs → AllLe k (time_if_some (if b then None else Some (time_at t)) ++ xs)
-one_time true k t xs l h = h
-one_time false k t xs l h = (l, h)
+one_time b k t xs l h = grind arith
 
 clock_start : (s : Setting) (c : ℕ) (log : Log) (q : Queued) → IsClocked s log → IsClocked s (Did (start_at s c log q) ∷ log)
-clock_start s c log q h =
-    let up : bound s log ≤ bound s (Did (start_at s c log q) ∷ log) = bound_rises s (Did (start_at s c log q)) log in
-    record {
-      drawn_le = (omega arith, le_up (last_stamp s log) (next_stamp s log) (stamps log) (omega arith) h.drawn_le);
-      falls = (lt_above (last_stamp s log) (next_stamp s log) (stamps log) (omega arith) h.drawn_le, h.falls);
-      promised_le = one_time (c == 0) (bound s (Did (start_at s c log q) ∷ log)) (bound s log) (promises log) up
-          (le_up (bound s log) (bound s (Did (start_at s c log q) ∷ log)) (promises log) up h.promised_le);
-    }
+clock_start s c log q h = grind (arith, bound, start_at, bound_rises, le_up, lt_above, one_time)
 
 -- what an exchange sends carries no promise
 ask_promises_not : (ts c : ℕ) (to : Site) (m : Msg) (hand : Option ℕ) → asks_rows ts c m ≡ true → promise_of (Sends to m hand) ≡ []
-ask_promises_not ts c to (Fetch a b t u) hand e = refl
-ask_promises_not ts c to (Reduce a b t u v) hand e = refl
-ask_promises_not ts c to (Ship a b) hand e = refl
-ask_promises_not ts c to _ hand e = cc
+ask_promises_not ts c to m hand e = grind arith
 
 -- the active attempts' timestamps were drawn from the clock
 abbrev pub IsDrawn : Setting → Log → Type 0
 IsDrawn s log = (c : ℕ) → stamp_or (active s c log) ≤ last_stamp s log
 
 stamp_started : (ts : ℕ) (sends : List (Site × Msg)) (o : Option Queued) → stamp_or (started ts sends o) ≤ ts
-stamp_started ts sends None = omega arith
-stamp_started ts sends (Some q) = omega arith
+stamp_started ts sends o = grind arith
 
 drawn_sends : (s : Setting) (log : Log) (to : Site) (m : Msg) (hand : Option ℕ) → IsDrawn s log → IsDrawn s (Did (Sends to m hand) ∷ log)
 drawn_sends s log to m hand h c = sent_way (λ o. stamp_or o ≤ last_stamp s log) c m (active s c log)
@@ -104,21 +82,11 @@ stamp_if : (b : Bool) (k : ℕ) (x y : Option Attempt) → stamp_or x ≤ k → 
 stamp_if b k x y h i = if_way (λ o. stamp_or o ≤ k) b x y h i
 
 drawn_act : (s : Setting) (log : Log) (act : Act) → IsStep s log act → IsDrawn s log → IsDrawn s (Did act ∷ log)
-drawn_act s log act i h = step_way s log act (λ x. IsDrawn s (Did x ∷ log))
-    (λ k q at f e. λ c.
-    let old : stamp_or (active s c log) ≤ last_stamp s log = h c in
-    let new = stamp_started (next_stamp s log) (sends_of_act (start_at s k log q)) (head_of (queue s k log)) in
-    stamp_if (k == c) (next_stamp s log) _ (active s c log) (stamp_started (next_stamp s log) (sends_of_act (start_at s k log q)) (head_of (queue s c log)))
-    (omega arith)) (λ k bases a at f. λ c. stamp_if (k == c) (last_stamp s log) None (active s c log) (omega arith) (h c))
-    (λ to m hand f. drawn_sends s log to m hand h) i
+drawn_act s log act i h = grind (arith, step_way, active, stamp_started, start_at, stamp_if, drawn_sends)
 
 pub drawn : (s : Setting) (log : Log) → Each (IsFair s) log → IsDrawn s log
 drawn s [] h c = omega arith
-drawn s (Handed from m ∷ log) h c =
-    let old : stamp_or (active s c log) ≤ last_stamp s log = drawn s log h.1 c in
-    let up = stamp_rises s (Handed from m) log in
-    handed_way (λ o. stamp_or o ≤ last_stamp s (Handed from m ∷ log)) c from m (active s c log) (omega arith)
-    (λ a x e. let p : stamp_or (Some a) ≤ last_stamp s log = subst (λ o. stamp_or o ≤ last_stamp s log) e old in omega arith) (omega arith)
+drawn s (Handed from m ∷ log) h c = grind (arith, active, stamp_rises, handed_way, drawn s log h.1 c)
 drawn s (Ticked n ∷ log) h c = let old = drawn s log h.1 c in omega arith
 drawn s (Submits n txn ∷ log) h c = drawn s log h.1 c
 drawn s (Redeclared era t ∷ log) h c = let old = drawn s log h.1 c in let up = stamp_rises s (Redeclared era t) log in omega arith
@@ -128,19 +96,14 @@ pub drawn_at : (s : Setting) (c : ℕ) (log : Log) (a : Attempt) → Each (IsFai
 drawn_at s c log a h e = subst (λ o. stamp_or o ≤ last_stamp s log) e (drawn s log h c)
 
 limit_le_of : (b k : ℕ) (o : Option Attempt) → stamp_or o ≤ k → k ≤ b → limit_of b o ≤ b
-limit_le_of b k None h l = omega arith
-limit_le_of b k (Some a) h l = omega arith
+limit_le_of b k o h l = grind arith
 
 pub limit_le : (s : Setting) (log : Log) (c : ℕ) → number_of s.site ≤ 63 → Each (IsFair s) log → limit s c log ≤ bound s log
 limit_le s log c w h = limit_le_of (bound s log) (last_stamp s log) (active s c log) (drawn s log h c) (stamp_below_bound s log w)
 
 promised : (s : Setting) (log : Log) (to : Site) (m : Msg) (hand : Option ℕ) → ((c : ℕ) → limit s c log ≤ bound s log)
     → IsSend s log m → AllLe (bound s log) (promise_of (Sends to m hand))
-promised s log to m hand l (of_exchange c a at i e w) = rw (ask_promises_not a.ts c to m hand e) tt
-promised s log to m hand l (a_null c at e) = rw e (l c, tt)
-promised s log to m hand l (a_held e) = rw e (omega arith, tt)
-promised s log to m hand l (a_hold e) = rw e tt
-promised s log to m hand l (a_release ts e) = rw e tt
+promised s log to m hand l e = grind (arith, ask_promises_not)
 
 clock_act : (s : Setting) (log : Log) (act : Act) → ((c : ℕ) → limit s c log ≤ bound s log) → IsStep s log act → IsClocked s log → IsClocked s (Did act ∷ log)
 clock_act s log act l i h = step_way s log act (λ x. IsClocked s (Did x ∷ log)) (λ c q at f e. clock_start s c log q h)
@@ -156,9 +119,7 @@ stamp_is : (s : Setting) (log : Log) → next_stamp s log ≡ suc (clock s.site 
 stamp_is s log = let n = clock_number s.site log in omega arith
 
 of_act : (s : Setting) (log : Log) (act : Act) → IsStep s log act → AllOf (number_of s.site) (stamps log) → AllOf (number_of s.site) (stamps (Did act ∷ log))
-of_act s log act i h =
-    step_way s log act (λ x. AllOf (number_of s.site) (stamps (Did x ∷ log))) (λ c q at f e. (((clock s.site log).ticks, stamp_is s log), h))
-    (λ c bases a at f. h) (λ to m hand f. h) i
+of_act s log act i h = grind (arith, step_way, stamp_is)
 
 pub of_site : (s : Setting) (log : Log) → Each (IsFair s) log → AllOf (number_of s.site) (stamps log)
 of_site s [] h = tt
@@ -177,7 +138,4 @@ stamp_at n (y ∷ xs) (suc k) x h e = stamp_at n xs k x h.1 e
 pub stamps_differ : (s r : Setting) (log more : Log) (i j x y : ℕ) → number_of s.site ≤ 63 → number_of r.site ≤ 63
     → number_of s.site ≢ number_of r.site → Each (IsFair s) log → Each (IsFair r) more
     → slice_get (stamps log) i ≡ Some x → slice_get (stamps more) j ≡ Some y → x ≢ y
-stamps_differ s r log more i j x y a b d h k e f q =
-    let m = stamp_at (number_of s.site) (stamps log) i x (of_site s log h) e in
-    let n = stamp_at (number_of r.site) (stamps more) j y (of_site r more k) f in
-    other_stamp m.0 n.0 (number_of s.site) (number_of r.site) a b d (sym m.1 ∙ q ∙ n.1)
+stamps_differ s r log more i j x y a b d h k e f q = grind (arith, stamp_at, of_site, other_stamp)

@@ -1,5 +1,5 @@
 -- Where as many DONEs for a timestamp were handed to U as there are data modules, each of these has an Apply of class 0 with it.
-use Rattle.sdd_invariants.proofs.All.{Act, AllGt, Apply, Attempt, Bases, Bool, Change, ClassNo, D, Did, DmNo, Does, Done, Each, Handed, HasApply, Input, IsDoneBy, IsDueEach, IsPermitted, IsPutByD, IsStrict, IsWrite, List, Msg, Option, Pipe, Records, Redeclared, Sends, Setting, Site, Some, Submits, Ticked, Ts, TxnNo, U, Write, [], all_of, ap, arith, class_is, commit_act, dec_le, dm_no, dones_of, each_local, effect, eqb-true, false, filter_map, filter_map-append, goes_through, handed, hands_from, head, head_of, head_processed, home, home_of, if◌then◌else◌, in_left, inl, inr, is_done_of, length, local_of, number_of, numbers_to, one_if, one_or_none, pipe, pipe_acted, pipe_at, place_within, puts_to, range_with_len, refl, same_site, sends_of_act, setting_of, slice_get, subst, suc, sym, take, tally, to_site, true, write_at, write_to, writes_in, zero, ℕ, ◌++◌, ◌+◌, ◌<◌, ◌==◌, ◌∙◌, ◌∷◌, ◌≡◌, ◌≤◌}
+use Rattle.sdd_invariants.proofs.All.{Act, AllGt, Apply, Attempt, Bases, Bool, Change, ClassNo, D, Did, DmNo, Does, Done, Each, Handed, HasApply, Input, IsDoneBy, IsDueEach, IsPermitted, IsPutByD, IsStrict, IsWrite, List, Msg, Option, Pipe, Records, Sends, Setting, Site, Some, Ts, TxnNo, U, Write, [], all_of, ap, arith, class_is, commit_act, dec_le, dm_no, dones_of, each_local, effect, eqb-true, false, filter_map, filter_map-append, goes_through, handed, hands_from, head, head_of, head_processed, home, home_of, if◌then◌else◌, in_left, inl, inr, is_done_of, length, local_of, number_of, numbers_to, one_if, one_or_none, pipe, pipe_acted, pipe_at, place_within, puts_to, range_with_len, refl, sends_of_act, setting_of, slice_get, subst, suc, sym, take, tally, to_site, true, write_at, write_to, writes_in, zero, ℕ, ◌++◌, ◌+◌, ◌<◌, ◌==◌, ◌∙◌, ◌∷◌, ◌≡◌, ◌≤◌}
 use Rattle.sdd_invariants.proofs.Turns.{tally_append, tally_take}
 use Rattle.sdd_invariants.proofs.WritesPut.{goes_write}
 use Rattle.sdd_invariants.proofs.Processed.{own_record, processed_handed, processed_more}
@@ -39,8 +39,7 @@ pub strict_pipe : (g : Input) (c : ℕ) (d : DmNo) (log : Log) → number_of (ho
 strict_pipe g c d log small h =
     let p = in_pipe g c d log h in
     let l : List Msg = all_of (pipe_at g c d log) in
-    strict_left (writes_in c l) (writes_in c p.0)
-    (subst IsStrict (ap (writes_in c) p.1 ∙ filter_map-append (write_at c) l p.0) (writes_strict g c d log h small))
+    grind (arith, strict_left, filter_map-append, writes_strict)
 
 abbrev IsStrictHere : site.Log → site.Entry → Type 0
 IsStrictHere log (Did act) = IsStrict (writes_in 0 (all_of (pipe 0 log))) × ((m : Msg) → head (pipe 0 log) ≡ Some m → goes_through 0 m ≡ true)
@@ -74,19 +73,16 @@ quiet_did x act log e h =
     }
 
 done_is : (x : ℕ) (m : Msg) → is_done_of x m ≡ true → (t : Ts) × (m ≡ Done t) × (t.0 ≡ x)
-done_is x (Done t) e = (t, refl, eqb-true t.0 x e)
-done_is x m e = cc
+done_is x m e = grind (arith, eqb-true)
 
 one_at_most : (b : Bool) → one_if b + 0 ≤ 1
-one_at_most true = omega arith
-one_at_most false = omega arith
+one_at_most b = grind arith
 
 one_done : (x : ℕ) (t : Ts) → tally (is_done_of x) (to_site U ((U, Done t) ∷ [])) ≤ 1
 one_done x t = one_at_most (t.0 == x)
 
 pub next_in : (ps us : List Msg) (m : Msg) → head_of us ≡ Some m → slice_get (ps ++ us) (length ps) ≡ Some m
-next_in ps [] m e = cc
-next_in ps (y ∷ us) m e = at_seam ps us y ∙ e
+next_in ps us m e = grind (arith, at_seam)
 
 pub head_in : (p : Pipe) (m : Msg) → head p ≡ Some m → slice_get (all_of p) (length p.processed) ≡ Some m
 head_in p m e = next_in p.processed p.unprocessed m e
@@ -153,9 +149,7 @@ sum_up f g (d ∷ ds) h = let i = sum_up f g ds h in let j = h d in omega arith
 
 sum_more : (f g : ℕ → ℕ) (ds : List ℕ) (k d : ℕ) → ((d : ℕ) → f d ≤ g d) → suc (f d) ≤ g d → slice_get ds k ≡ Some d → suc (sum_of f ds) ≤ sum_of g ds
 sum_more f g [] k d h l e = cc
-sum_more f g (x ∷ ds) zero d h l e =
-    let p : x ≡ d = cc in
-    (let i = sum_up f g ds h in let j : suc (f x) ≤ g x = subst (λ y. suc (f y) ≤ g y) (sym p) l in omega arith)
+sum_more f g (x ∷ ds) zero d h l e = grind (arith, sum_up)
 sum_more f g (x ∷ ds) (suc k) d h l e = let i = sum_more f g ds k d h l e in let j = h x in omega arith
 
 -- each DONE comes from a data module of the catalogue
@@ -178,27 +172,15 @@ to_range f x a (suc n) k m g e = elim (g a) [
 ]
 
 pub hand_more : (f : Msg → Bool) (b : Bool) (xs : List Msg) (m : Msg) → tally f xs ≤ tally f (if b then xs ++ m ∷ [] else xs)
-hand_more f true xs m = let a = tally_append f xs (m ∷ []) in omega arith
-hand_more f false xs m = omega arith
+hand_more f b xs m = grind (arith, tally_append)
 
 hand_one : (f : Msg → Bool) (b : Bool) (xs : List Msg) (m : Msg) → b ≡ true → f m ≡ true → suc (tally f xs) ≤ tally f (if b then xs ++ m ∷ [] else xs)
-hand_one f true xs m p q = let a = tally_append f xs (m ∷ []) in let o : one_if (f m) ≡ 1 = ap one_if q in omega arith
-hand_one f false xs m p q = cc
+hand_one f b xs m p q = grind (arith, tally_append, one_if)
 
 dones_within : (n x : ℕ) (l : site.Log) → Each (IsFromModule n) l → dones_of x l ≤ sum_of (from_d x l) (numbers_to n)
 dones_within n x [] h = omega arith
 dones_within n x (Handed from m ∷ l) h =
-    let i = dones_within n x l h.1 in
-    let up : (d : ℕ) → from_d x l d ≤ from_d x (Handed from m ∷ l) d = λ d. hand_more (is_done_of x) (same_site (D (dm_no d)) from)
-    (hands_from (D (dm_no d)) l) m in
-    elim (is_done_of x m) as (λ b. is_done_of x m ≡ b → one_if b + dones_of x l ≤ sum_of (from_d x (Handed from m ∷ l)) (numbers_to n)) [
-      | true ↦ λ p. (let w = h.0 x p in
-          let same : same_site (D (dm_no w.1)) from ≡ true = subst (λ y. same_site (D (dm_no w.1)) y ≡ true) (sym w.2) (site_self (D (dm_no w.1))) in
-          let j = sum_more (from_d x l) (from_d x (Handed from m ∷ l)) (numbers_to n) w.0 w.1 up
-          (hand_one (is_done_of x) (same_site (D (dm_no w.1)) from) (hands_from (D (dm_no w.1)) l) m same p) w.3 in
-          omega arith)
-      | false ↦ λ p. (let j = sum_up (from_d x l) (from_d x (Handed from m ∷ l)) (numbers_to n) up in omega arith)
-    ] refl
+    grind (arith, hand_more, one_if, site_self, sum_more, hand_one, sum_up, dones_within n x l h.1)
 dones_within n x (_ ∷ l) h = dones_within n x l h.1
 
 write_range : (g : Input) (d : DmNo) (bases : Bases) (a : Attempt) (k : ℕ) (m : Msg)
@@ -217,8 +199,7 @@ in_range g log d ts of txn changes h e =
     let z : of.0 ≡ 0 = number_zero of.0 ts.0 p.of_class in
     let w : IsWrite (setting_of g U) (local_of g U p.before) p.act 0 ts.0 txn.0 = subst
     (λ j. IsWrite (setting_of g U) (local_of g U p.before) p.act j ts.0 txn.0) z p.by in
-    write_range g d w.bases w.attempt p.place (Write ts of txn changes)
-    (subst (λ y. slice_get (to_site (D d) (sends_of_act y)) p.place ≡ Some (Write ts of txn changes)) w.act_is p.there)
+    grind (arith, write_range)
 
 done_from : (g : Input) (log : Log) (from : Site) (k : ℕ) (m : Msg) (x : ℕ) → IsPermitted g log
     → slice_get (puts_to U (local_of g from log)) k ≡ Some m → is_done_of x m ≡ true
@@ -234,13 +215,7 @@ done_from g log from k m x h e f =
     (r.0, d.0.0, d.1, r.1)
 
 module_hands : (g : Input) (log : Log) → IsPermitted g log → Each (IsFromModule g.catalogue.dms) (local_of g U log)
-module_hands g = each_local g U (IsFromModule g.catalogue.dms) (record {
-  handed = λ log p from n m a i. λ x f. done_from g log from (handed from U log) m x p (hand_was_put g log from U n m a).1 f;
-  ticked = λ log p n i. tt;
-  submits = λ log p n k a e i. tt;
-  redeclared = λ l k u i. tt;
-  did = λ log act p due i. tt;
-})
+module_hands g = grind (arith, each_local, handed, done_from, hand_was_put)
 
 from_one : (g : Input) (log : Log) (x d : ℕ) → IsPermitted g log → from_d x (local_of g U log) d ≤ 1
 from_one g log x d h =

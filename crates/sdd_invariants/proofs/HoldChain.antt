@@ -1,5 +1,5 @@
 -- Between U and one T: the counts of HOLDs, RELEASEs, HELDs, Starts and Commits of class 0 stand in one chain.
-use Rattle.sdd_invariants.proofs.All.{Act, AllIdle, Bool, D, Did, Each, Handed, Held, Hold, HoldCounts, Input, IsFairT, IsFairU, IsHoldChain, IsPermitted, IsPutByD, List, Msg, NoneHold, Redeclared, Release, Sends, Setting, Site, Some, Submits, T, Ticked, TmCounts, TmNo, U, [], ap, arith, base_of, counts, counts_acted, counts_handed, counts_tm, each_local, false, flip as turned, handed, hands, hands_from, holds, holds_acted, holds_handed, if◌then◌else◌, inl, inr, is_a_held, is_a_hold, is_a_release, local_of, numbers_to, one_if, or_left, or_right, puts_to, refl, same_site, setting_of, slice_get, subst, suc, sym, take, tally, tm_no, true, zero, ℕ, ◌++◌, ◌+◌, ◌<◌, ◌==◌, ◌||◌, ◌∙◌, ◌∷◌, ◌≡◌}
+use Rattle.sdd_invariants.proofs.All.{Act, AllIdle, Bool, D, Did, Each, Handed, HoldCounts, Input, IsFairT, IsFairU, IsHoldChain, IsPermitted, IsPutByD, List, Msg, NoneHold, Setting, Site, Some, T, TmCounts, TmNo, U, [], ap, arith, counts, counts_acted, counts_handed, counts_tm, each_local, false, flip as turned, handed, hands, hands_from, holds, holds_acted, holds_handed, if◌then◌else◌, is_a_held, is_a_hold, is_a_release, local_of, numbers_to, one_if, or_left, or_right, puts_to, refl, same_site, setting_of, slice_get, subst, suc, take, tally, tm_no, true, zero, ℕ, ◌++◌, ◌+◌, ◌<◌, ◌==◌, ◌||◌, ◌∙◌, ◌∷◌, ◌≡◌}
 use Rattle.sdd_invariants.proofs.Holding.{still, t_helds, t_none}
 use Rattle.sdd_invariants.proofs.Serving.{chain}
 use Rattle.sdd_invariants.proofs.Turns.{balance, tally_append, tally_take, turns_take}
@@ -13,31 +13,17 @@ use Rattle.sdd_log.specs.All.{Log}
 use Rattle.sdd_log.specs.site_module.SiteLog as site
 
 pub t_table : (g : Input) (t : TmNo) (log : Log) → IsPermitted g log → Each (IsFairT (setting_of g (T t))) (local_of g (T t) log)
-t_table g t = each_local g (T t) (IsFairT (setting_of g (T t))) (record {
-  handed = λ log p from n m a i. tt;
-  ticked = λ log p n i. tt;
-  submits = λ log p n k a e i. tt;
-  redeclared = λ l k u i. tt;
-  did = λ log act p due i. (base_of g log, due);
-})
+t_table g t = grind (arith, each_local, handed)
 
 pub u_table : (g : Input) (log : Log) → IsPermitted g log → Each (IsFairU (setting_of g U)) (local_of g U log)
-u_table g = each_local g U (IsFairU (setting_of g U)) (record {
-  handed = λ log p from n m a i. tt;
-  ticked = λ log p n i. tt;
-  submits = λ log p n k a e i. tt;
-  redeclared = λ l k u i. tt;
-  did = λ log act p due i. ((base_of g log, due), (queue_is (setting_of g U) 0 (local_of g U log) (u_fair g log p) (all_new g U log p)).served);
-})
+u_table g = grind (arith, each_local, handed, queue_is, u_fair, all_new)
 
 -- HOLDs and RELEASEs are put by U alone
 abbrev of_hold : Msg → Bool
 of_hold m = is_a_hold m || is_a_release m
 
 d_not : (s : Setting) (l : site.Log) (b : Site) (act : Act) (m : Msg) → IsPutByD s l b act m → of_hold m ≡ false
-d_not s l b act Hold h = absurd h
-d_not s l b act (Release ts) h = absurd h
-d_not s l b act m h = refl
+d_not s l b act m h = grind arith
 
 none_at : (ms : List Msg) (k : ℕ) (m : Msg) → NoneHold ms → slice_get ms k ≡ Some m → of_hold m ≡ false
 none_at [] k m h e = cc
@@ -67,70 +53,48 @@ from_u g at = each_local g at IsFromU (record {
 })
 
 tally_push : (f : Msg → Bool) (b : Bool) (xs : List Msg) (m : Msg) → tally f (if b then xs ++ m ∷ [] else xs) ≡ tally f xs + (if b then one_if (f m) else 0)
-tally_push f true xs m = let i = tally_append f xs (m ∷ []) in omega arith
-tally_push f false xs m = omega arith
+tally_push f b xs m = grind (arith, tally_append)
 
 hand_holds : (n : ℕ) (m : Msg) (h : HoldCounts)
     → ((holds_handed n m h).holds ≡ h.holds + one_if (is_a_hold m)) × ((holds_handed n m h).releases ≡ h.releases + one_if (is_a_release m))
-hand_holds n Hold h = (omega arith, omega arith)
-hand_holds n _ h = (omega arith, omega arith)
+hand_holds n m h = grind arith
 
 seen_one : (a b : Bool) → (a ≡ true → b ≡ true) → (if b then one_if a else 0) ≡ one_if a
-seen_one true false f = let p : ◌≡◌ {A = Bool} false true = f refl in cc
-seen_one false true f = refl
-seen_one _ _ f = refl
+seen_one a b f = grind arith
 
 is_u : (from : Site) → from ≡ U → same_site U from ≡ true
 is_u from e = ap (same_site U) e
 
 act_holds : (act : Act) (h : HoldCounts) → ((holds_acted act h).holds ≡ h.holds) × ((holds_acted act h).releases ≡ h.releases)
-act_holds (Sends to (Held t) hand) h = (refl, refl)
-act_holds act h = (refl, refl)
+act_holds act h = grind arith
 
 pub handed_holds : (l : site.Log) → Each IsFromU l
     → ((holds l).holds ≡ tally is_a_hold (hands_from U l)) × ((holds l).releases ≡ tally is_a_release (hands_from U l))
 handed_holds [] h = (refl, refl)
 handed_holds (Handed from m ∷ l) h =
-    let i = handed_holds l h.1 in
-    let k = hand_holds (suc (hands l)) m (holds l) in
-    let a = tally_push is_a_hold (same_site U from) (hands_from U l) m in
-    let b = tally_push is_a_release (same_site U from) (hands_from U l) m in
-    let c = seen_one (is_a_hold m) (same_site U from) (λ p. is_u from (h.0 (or_left (is_a_hold m) (is_a_release m) p))) in
-    let d = seen_one (is_a_release m) (same_site U from) (λ p. is_u from (h.0 (or_right (is_a_hold m) (is_a_release m) p))) in
-    (omega arith, omega arith)
+    grind (arith, hand_holds, hands, holds, tally_push, seen_one, is_u, or_left, or_right, handed_holds l h.1)
 handed_holds (Did act ∷ l) h = let i = handed_holds l h.1 in let k = act_holds act (holds l) in (k.0 ∙ i.0, k.1 ∙ i.1)
 handed_holds (_ ∷ l) h = handed_holds l h.1
 
 -- the HELDs that U was handed from one T
 count_if : (b : Bool) (k : TmCounts) → (if b then record k { helds = suc k.helds } else k).helds ≡ k.helds + one_if b
-count_if true k = omega arith
-count_if false k = omega arith
+count_if b k = grind arith
 
 pub same_turned : (n t : ℕ) → (n == t) ≡ (t == n)
-same_turned n t = elim (same_or_not n t) [
-  | inl p ↦ subst (λ x. (n == x) ≡ (x == n)) p refl
-  | inr p ↦ p ∙ sym (turned n t p)
-]
+same_turned n t = grind (arith, same_or_not, turned)
 
 if_one : (b : Bool) → one_if b ≡ (if b then 1 else 0)
-if_one true = refl
-if_one false = refl
+if_one b = grind arith
 
 none_more : (b : Bool) (n : ℕ) → n ≡ n + (if b then 0 else 0)
-none_more true n = omega arith
-none_more false n = omega arith
+none_more b n = grind arith
 
 more_of : (act : Act) (k : TmCounts) → (counts_acted act k).helds ≡ k.helds
-more_of (Sends (T n) Hold hand) k = if_way (λ (x : TmCounts). x.helds ≡ k.helds) (n.0 == k.tm) (record k { holds = suc k.holds }) k refl refl
-more_of (Sends (T n) (Release ts) hand) k = if_way (λ (x : TmCounts). x.helds ≡ k.helds) (n.0 == k.tm) (record k { releases = suc k.releases }) k refl refl
-more_of act k = refl
+more_of act k = grind (arith, if_way, holds)
 
 hand_helds : (t : ℕ) (from : Site) (m : Msg) (k : TmCounts) → k.tm ≡ t
     → (counts_handed from m k).helds ≡ k.helds + (if same_site (T (tm_no t)) from then one_if (is_a_held m) else 0)
-hand_helds t (T n) (Held x) k e =
-    count_if (n.0 == k.tm) k ∙ ap (λ b. k.helds + one_if b) (ap (λ y. n.0 == y) e ∙ same_turned n.0 t) ∙ ap (λ y. k.helds + y) (if_one (t == n.0))
-hand_helds t (T n) _ k e = none_more (t == n.0) k.helds
-hand_helds t _ m k e = omega arith
+hand_helds t from m k e = grind (arith, count_if, one_if, same_turned, if_one, none_more)
 
 pub handed_helds : (t : ℕ) (l : site.Log) → (counts t l).helds ≡ tally is_a_held (hands_from (T (tm_no t)) l)
 handed_helds t [] = refl

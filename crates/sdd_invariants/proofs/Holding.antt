@@ -1,5 +1,5 @@
 -- At a T no more HELDs are sent than HOLDs were handed, and between a HELD and its RELEASE every class is idle.
-use Rattle.sdd_invariants.proofs.All.{Act, AllIdle, Attempt, Bases, Bool, Commit, D, Did, Each, Fetch, Handed, Held, Hold, HoldCounts, HoldRule, IsFairT, IsStill, List, Log, Msg, None, NoneHold, Null, Option, Question, Queued, QuietSends, Rec, Records, Reduce, Release, SendRule, Sends, Setting, Ship, Site, Some, Start, U, [], active, ap, append-nil, arith, asks_rows, at_map, attempt_due, bound, by_ask, by_exchange, by_hold, class_no, commit_act, dm_no, effect, exchange_due, false, first_send, hands, head_of, holds, holds_handed, if◌then◌else◌, in_mapped, inl, inr, is_a_held, is_a_hold, is_a_release, is_idle, is_none, is_over, list_all, map, modules_asked, nat_lt, nat_tests, not, null_at, on_hold, one_if, or_else, puts_to, refl, runs, same_site, sends_of_act, start_at, start_of, start_read, subst, suc, sym, tally, time_at, to_site, true, write_to, ℕ, ◌&&◌, ◌++◌, ◌+◌, ◌<◌, ◌==◌, ◌∙◌, ◌∷◌, ◌≡◌, ◌≤◌}
+use Rattle.sdd_invariants.proofs.All.{Act, AllIdle, Attempt, Bases, Bool, D, Did, Each, Handed, Held, Hold, HoldCounts, HoldRule, IsFairT, IsStill, List, Log, Msg, None, NoneHold, Option, Question, Queued, QuietSends, Rec, Records, Release, SendRule, Sends, Setting, Site, Some, U, [], active, ap, append-nil, arith, asks_rows, at_map, attempt_due, bound, by_ask, by_exchange, by_hold, commit_act, dm_no, effect, exchange_due, false, first_send, hands, head_of, holds, holds_handed, if◌then◌else◌, in_mapped, inl, inr, is_a_held, is_a_hold, is_a_release, is_idle, is_none, is_over, list_all, map, modules_asked, nat_lt, nat_tests, not, null_at, on_hold, one_if, or_else, puts_to, refl, runs, same_site, sends_of_act, start_at, start_of, start_read, subst, suc, sym, tally, time_at, to_site, true, write_to, ℕ, ◌&&◌, ◌++◌, ◌+◌, ◌<◌, ◌==◌, ◌∙◌, ◌∷◌, ◌≡◌, ◌≤◌}
 use Rattle.sdd_invariants.proofs.Turns.{none_hold_join, tally_append}
 use Rattle.sdd_invariants.proofs.ReadsPut.{start_puts}
 use Rattle.sdd_invariants.proofs.WritesPut.{commit_puts, goes_write}
@@ -35,10 +35,7 @@ quiet_commit s c bases a = (
 )
 
 asks_rule : (s : Setting) (log : Log) (to : Site) (ts c : ℕ) (m : Msg) → asks_rows ts c m ≡ true → SendRule s log to m
-asks_rule s log to ts c (Fetch a b t u) e = tt
-asks_rule s log to ts c (Reduce a b t u v) e = tt
-asks_rule s log to ts c (Ship a b) e = tt
-asks_rule s log to ts c _ e = cc
+asks_rule s log to ts c m e = grind arith
 
 rule_is : (s : Setting) (log : Log) (x a : Act) → HoldRule s log x → Some x ≡ Some a → HoldRule s log a
 rule_is s log x a h e = let p : x ≡ a = cc in subst (HoldRule s log) p h
@@ -57,16 +54,13 @@ send_rule s log bases c a (m ∷ rest) act i p e =
 
 attempt_rule : (s : Setting) (log : Log) (bases : Bases) (c : ℕ) (o : Option Attempt) (act : Act) → active s c log ≡ o
     → attempt_due s.catalogue bases c o ≡ Some act → HoldRule s log act
-attempt_rule s log bases c None act i e = cc
-attempt_rule s log bases c (Some a) act i e = send_rule s log bases c a a.exchange.to_send act i refl e
+attempt_rule s log bases c o act i e = grind (arith, send_rule)
 
 null_rule : (s : Setting) (log : Log) (q : Question) (b : Bool) (o : Option ℕ) (act : Act) → (if b then null_at q o else None) ≡ Some act → HoldRule s log act
-null_rule s log q true (Some t) act e = rule_is s log (Sends q.from (Null (class_no q.class) (time_at t)) (Some q.hand)) act tt e
-null_rule s log q _ _ act e = cc
+null_rule s log q b o act e = grind (arith, rule_is)
 
 pub none_of : (o : Option Attempt) → is_none o ≡ true → o ≡ None
-none_of None e = refl
-none_of (Some a) e = cc
+none_of o e = grind arith
 
 pub lt_is : (a b : ℕ) → nat_lt a b ≡ true → a < b
 lt_is a b e = grind (arith, nat_tests)
@@ -77,8 +71,7 @@ not_lt_is a b e = grind (arith, nat_tests)
 held_rule : (s : Setting) (log : Log) (a b c : Bool) (hand : Option ℕ) (act : Act) → (b ≡ true → AllIdle s log)
     → (c ≡ true → (holds log).helds < (holds log).holds)
     → (if a && (b && c) then Some (Sends U (Held (time_at (bound s log))) hand) else None) ≡ Some act → HoldRule s log act
-held_rule s log true true true hand act f g e = rule_is s log (Sends U (Held (time_at (bound s log))) hand) act (g refl, f refl, refl) e
-held_rule s log _ _ _ hand act f g e = cc
+held_rule s log a b c hand act f g e = grind (arith, rule_is, bound)
 
 start_rule : (s : Setting) (log : Log) (a b : Bool) (c : ℕ) (o : Option Queued) (act : Act) → (a ≡ false → (holds log).holds ≤ (holds log).releases)
     → (if not a && b then start_of s.catalogue (view_of s log) c o else None) ≡ Some act → HoldRule s log act
@@ -103,19 +96,13 @@ hand_still s from m log r l e h = record { owed = omega (arith, h.owed); idle = 
 
 pub hold_same : (n : ℕ) (m : Msg) (h : HoldCounts)
     → (h.releases ≤ (holds_handed n m h).releases) × (h.holds ≤ (holds_handed n m h).holds) × ((holds_handed n m h).helds ≡ h.helds)
-hold_same n Hold h = (omega arith, omega arith, refl)
-hold_same n _ h = (omega arith, omega arith, refl)
+hold_same n m h = grind arith
 
 send_still : (s : Setting) (to : Site) (m : Msg) (hand : Option ℕ) (log : Log) → SendRule s log to m → IsStill s log → IsStill s (Did (Sends to m hand) ∷ log)
-send_still s to (Held t) hand log r h = record { owed = r.0; idle = λ p k c q. none_sent c (Held t) (active s c log) (r.1 k c q) }
-send_still s to m hand log r h = record { owed = h.owed; idle = λ p k c q. none_sent c m (active s c log) (h.idle p k c q) }
+send_still s to m hand log r h = grind (arith, none_sent, active)
 
 act_still : (s : Setting) (act : Act) (log : Log) → HoldRule s log act → IsStill s log → IsStill s (Did act ∷ log)
-act_still s (Sends to m hand) log r h = send_still s to m hand log r h
-act_still s (Records k (Start txn attempt cl ts p2 us) sends) log r h = record { owed = h.owed; idle = λ p. absurd (omega (arith, h.owed, r.0)) }
-act_still s (Records k (Commit txn attempt reply changes values rows) sends) log r h =
-    record { owed = h.owed; idle = λ p j c q. if_way (λ o. o ≡ None) (k == c) None (active s c log) refl (h.idle p j c q) }
-act_still s (Records k _ sends) log r h = record { owed = h.owed; idle = h.idle }
+act_still s act log r h = grind (arith, send_still, if_way, active)
 
 pub still : (s : Setting) (log : Log) → Each (IsFairT s) log → IsStill s log
 still s [] h = record { owed = omega arith; idle = λ p. absurd (omega arith) }
@@ -130,9 +117,7 @@ send_none s log to b (Release ts) hand h = absurd h
 send_none s log to b m hand h = if_way NoneHold (same_site b to) (m ∷ []) [] (refl, refl, tt) tt
 
 act_none : (s : Setting) (log : Log) (b : Site) (act : Act) → HoldRule s log act → NoneHold (to_site b (sends_of_act act))
-act_none s log b (Sends to m hand) h = send_none s log to b m hand h
-act_none s log b (Records k (Start txn attempt c ts p2 us) sends) h = h.1.0 b
-act_none s log b (Records k _ sends) h = h.0 b
+act_none s log b act h = grind (arith, send_none)
 
 pub t_none : (s : Setting) (b : Site) (log : Log) → Each (IsFairT s) log → NoneHold (puts_to b log)
 t_none s b [] h = tt
@@ -144,18 +129,14 @@ pub hand_helds : (n : ℕ) (m : Msg) (h : HoldCounts) → (holds_handed n m h).h
 hand_helds n m h = (hold_same n m h).2
 
 quiet_if : (b : Bool) (m : Msg) (n k : ℕ) → is_a_held m ≡ false → n ≡ k → n ≡ k + tally is_a_held (if b then m ∷ [] else [])
-quiet_if true m n k f e = let z : one_if (is_a_held m) ≡ 0 = ap one_if f in omega (arith, e, z)
-quiet_if false m n k f e = omega (arith, e)
+quiet_if b m n k f e = grind (arith, one_if)
 
 quiet_send : (to : Site) (m : Msg) (n k : ℕ) → is_a_held m ≡ false → n ≡ k → n ≡ k + tally is_a_held (to_site U ((to, m) ∷ []))
 quiet_send to m n k f e = quiet_if (same_site U to) m n k f e
 
 send_helds : (s : Setting) (log : Log) (to : Site) (m : Msg) (hand : Option ℕ) → SendRule s log to m → (holds log).helds ≡ tally is_a_held (puts_to U log)
     → (holds (Did (Sends to m hand) ∷ log)).helds ≡ tally is_a_held (puts_to U log) + tally is_a_held (to_site U ((to, m) ∷ []))
-send_helds s log to (Held t) hand h e = rw h.2 (omega (arith, e))
-send_helds s log to Hold hand h e = absurd h
-send_helds s log to (Release a) hand h e = absurd h
-send_helds s log to m hand h e = quiet_send to m (holds log).helds (tally is_a_held (puts_to U log)) refl e
+send_helds s log to m hand h e = grind (arith, quiet_send, holds)
 
 quiet_records : (s : Setting) (log : Log) (k : ℕ) (r : Rec) (sends : List (Site × Msg)) → to_site U sends ≡ []
     → (holds log).helds ≡ tally is_a_held (puts_to U log)
@@ -163,13 +144,11 @@ quiet_records : (s : Setting) (log : Log) (k : ℕ) (r : Rec) (sends : List (Sit
 quiet_records s log k r sends e h = h ∙ ap (tally is_a_held) (sym (ap (λ xs. puts_to U log ++ xs) e ∙ append-nil _))
 
 rule_quiet : (s : Setting) (log : Log) (k : ℕ) (r : Rec) (sends : List (Site × Msg)) → HoldRule s log (Records k r sends) → QuietSends sends
-rule_quiet s log k (Start txn attempt c ts p2 us) sends h = h.1
-rule_quiet s log k _ sends h = h
+rule_quiet s log k r sends h = grind arith
 
 act_helds : (s : Setting) (log : Log) (act : Act) → HoldRule s log act → (holds log).helds ≡ tally is_a_held (puts_to U log)
     → (holds (Did act ∷ log)).helds ≡ tally is_a_held (puts_to U (Did act ∷ log))
-act_helds s log (Sends to m hand) h e = send_helds s log to m hand h e ∙ sym (tally_append is_a_held (puts_to U log) (to_site U ((to, m) ∷ [])))
-act_helds s log (Records k r sends) h e = quiet_records s log k r sends (rule_quiet s log k r sends h).1 e
+act_helds s log act h e = grind (arith, send_helds, tally_append, quiet_records, rule_quiet)
 
 pub t_helds : (s : Setting) (log : Log) → Each (IsFairT s) log → (holds log).helds ≡ tally is_a_held (puts_to U log)
 t_helds s [] h = refl

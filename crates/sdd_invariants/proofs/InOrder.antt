@@ -1,5 +1,5 @@
 -- The messages that were handed over on a link are, in order, the first of those that were put on it.
-use Rattle.sdd_invariants.proofs.All.{Bool, Call, Deliver, Delivers, Did, Does, Era, Event, Hand, Handed, Input, IsAllowed, IsPermitted, List, Lose, Loses, Mark, Msg, None, Option, Puts, Redeclare, Redeclares, Repeat, Repeats, Resend, Resends, Settle, Site, Some, Submit, Submitted, T, Tick, Ticked, Txn, U, [], ap, append-nil, arith, by_event, by_link, by_mark, by_redeclare, by_round, by_site, calls_of, delivered, delivered_le, due_by, false, given_to, handed, handed_by, hands_from, if◌then◌else◌, length, link, link_of, local_of, made, mark_due, message_at, note_if, nth_era, put_by, puts, puts_to, redeclared_entry, redeclares, refl, rises, same_site, sends_of_act, sent, slice_get, sound, subst, suc, sym, take, take-append-le, takes_part, true, txn_at, with_made, ℕ, ◌&&◌, ◌++◌, ◌-◌, ◌∙◌, ◌∷◌, ◌≡◌, ◌≤◌}
+use Rattle.sdd_invariants.proofs.All.{Bool, Call, Deliver, Delivers, Did, Does, Era, Event, Hand, Handed, Input, IsAllowed, IsPermitted, List, Lose, Loses, Mark, Msg, None, Option, Puts, Redeclares, Repeat, Repeats, Resend, Resends, Site, Some, Submitted, T, Tick, Ticked, Txn, U, [], ap, append-nil, arith, by_event, by_link, by_mark, by_redeclare, by_round, by_site, calls_of, delivered, delivered_le, due_by, false, given_to, handed, handed_by, hands_from, if◌then◌else◌, length, link, link_of, local_of, made, mark_due, message_at, note_if, nth_era, put_by, puts, puts_to, redeclared_entry, redeclares, refl, rises, same_site, sends_of_act, sent, slice_get, sound, subst, suc, sym, take, take-append-le, takes_part, true, txn_at, with_made, ℕ, ◌&&◌, ◌++◌, ◌-◌, ◌∙◌, ◌∷◌, ◌≡◌, ◌≤◌}
 use Rattle.sdd_invariants.proofs.Bools.{and_left, and_right}
 use Rattle.sdd_invariants.proofs.Lists.{take_one_more}
 use Rattle.sdd_invariants.proofs.Sites.{site_is}
@@ -20,23 +20,16 @@ NoHand None = Unit {0}
 NoHand (Some x) = is_hand x ≡ false
 
 no_note : (b : Bool) → NoHand (note_if b)
-no_note true = refl
-no_note false = tt
+no_note b = grind arith
 
 no_due_by : (g : Input) (e : Event) (log : Log) → NoHand (due_by g e log)
-no_due_by g (Submit n) log = refl
-no_due_by g (Tick t n) log = tt
-no_due_by g Settle log = tt
-no_due_by g Redeclare log = tt
-no_due_by g _ log = no_note _
+no_due_by g e log = grind (arith, no_note)
 
 no_mark_due : (g : Input) (log : Log) → NoHand (mark_due g log)
-no_mark_due g (Mark e ∷ log) = no_due_by g e log
-no_mark_due g _ = tt
+no_mark_due g log = grind (arith, no_due_by)
 
 is_not_hand : (o : Option Entry) (e : Entry) → NoHand o → o ≡ Some e → is_hand e ≡ false
-is_not_hand None e h p = cc
-is_not_hand (Some x) e h p = let q : x ≡ e = cc in subst (λ w. is_hand w ≡ false) q h
+is_not_hand o e h p = grind arith
 
 pub record IsNextHand (log : Log) (a b : Site) (n : ℕ) (m : Msg) : Type 0 where
   pub next : n ≡ suc (handed a b log)
@@ -49,8 +42,7 @@ IsNextIfHand log (Hand a b n m) = IsNextHand log a b n m
 IsNextIfHand log _ = Unit {0}
 
 no_hand_next : (log : Log) (e : Entry) → is_hand e ≡ false → IsNextIfHand log e
-no_hand_next log (Hand a b n m) h = cc
-no_hand_next log _ h = tt
+no_hand_next log e h = grind arith
 
 pub allowed_hand : (g : Input) (log : Log) (e : Entry) → IsAllowed g log e → IsNextIfHand log e
 allowed_hand g log e (by_mark x n) = tt
@@ -62,8 +54,7 @@ allowed_hand g log e (by_link a b n m p q r f) = record { next = p; delivered_is
 
 -- more was delivered than was handed over, and no more than was put
 within_if : (c : Bool) (n k d : ℕ) → (c ≡ true → n ≤ d) → k ≤ d → (if c then n else k) ≤ d
-within_if true n k d f l = f refl
-within_if false n k d f l = l
+within_if c n k d f l = grind arith
 
 pub at_link : (P : Site → Site → Type 0) (a b from to : Site) → (same_site a from && same_site b to) ≡ true → P from to → P a b
 at_link P a b from to e x = subst (λ f. P f b) (sym (site_is a from (and_left _ _ e))) (subst (λ t. P from t) (sym (site_is b to (and_right _ _ e))) x)
@@ -95,35 +86,28 @@ pub delivered_within : (a b : Site) (log : Log) → delivered (link_of a b log).
 delivered_within a b log = delivered_le (link_of a b log).there (delivered (link_of a b log).back) (sound a b (calls_of log)).there
 
 pub handed_within : (g : Input) (log : Log) (a b : Site) → IsPermitted g log → handed a b log ≤ length (puts_to b (local_of g a log))
-handed_within g log a b h =
-    let i = handed_le g log a b h in let j = delivered_within a b log in
-    subst (λ xs. handed a b log ≤ length xs) (sent_is g a b log) (omega arith)
+handed_within g log a b h = grind (arith, handed_le, delivered_within, handed, sent_is)
 
 -- the messages handed from a, once an entry came to the log of b
 
 pub if_more : (c : Bool) (xs : List Msg) (m : Msg) → (if c then xs ++ m ∷ [] else xs) ≡ xs ++ (if c then m ∷ [] else [])
-if_more true xs m = refl
-if_more false xs m = sym (append-nil _)
+if_more c xs m = grind (arith, append-nil)
 
 pub hands_step : (a : Site) (o : Option site.Entry) (l : site.Log) → hands_from a (with_made o l) ≡ hands_from a l ++ handed_by a o
-hands_step a (Some (Handed from m)) l = if_more (same_site a from) (hands_from a l) m
-hands_step a _ l = sym (append-nil _)
+hands_step a o l = grind (arith, if_more, append-nil)
 
 pub hands_grow : (g : Input) (a b : Site) (e : Entry) (log : Log)
     → hands_from a (local_of g b (e ∷ log)) ≡ hands_from a (local_of g b log) ++ handed_by a (made g b log e)
 hands_grow g a b e log = ap (hands_from a) (local_step g b e log) ∙ hands_step a (made g b log e) (local_of g b log)
 
 none_if : (a : Site) (c : Bool) (o : Option site.Entry) → handed_by a o ≡ [] → handed_by a (if c then o else None) ≡ []
-none_if a true o e = e
-none_if a false o e = refl
+none_if a c o e = grind arith
 
 none_given : (a : Site) (n : ℕ) (o : Option Txn) → handed_by a (given_to n o) ≡ []
-none_given a n None = refl
-none_given a n (Some t) = refl
+none_given a n o = grind arith
 
 none_redeclared : (a at : Site) (era : Era) (t : ℕ) → handed_by a (redeclared_entry at era t) ≡ []
-none_redeclared a U era t = refl
-none_redeclared a _ era t = refl
+none_redeclared a at era t = grind arith
 
 abbrev AreFirst : Input → Site → Site → Log → Type 0
 AreFirst g a b log = hands_from a (local_of g b log) ≡ take (handed a b log) (sent a b log)
@@ -143,10 +127,7 @@ none_more g a b e log p q h i =
 one_seen : (a from : Site) (c d : Bool) (k n : ℕ) (xs ys : List Msg) (m : Msg) → same_site a from ≡ c
     → ((c && d) ≡ true → (n ≡ suc k) × (slice_get xs k ≡ Some m)) → ys ≡ take k xs
     → ys ++ handed_by a (if d then Some (Handed from m) else None) ≡ take (if c && d then n else k) xs
-one_seen a from true true k n xs ys m p f e = let r = f refl in rw (p, e, r.0) (sym (take_one_more k xs m r.1))
-one_seen a from false true k n xs ys m p f e = rw p (append-nil _ ∙ e)
-one_seen a from true false k n xs ys m p f e = append-nil _ ∙ e
-one_seen a from false false k n xs ys m p f e = append-nil _ ∙ e
+one_seen a from c d k n xs ys m p f e = grind (arith, take_one_more, append-nil)
 
 there : (log : Log) (a b : Site) (n : ℕ) (m : Msg) → IsNextHand log a b n m → (n ≡ suc (handed a b log)) × (slice_get (sent a b log) (handed a b log) ≡ Some m)
 there log a b n m h = let z : n - 1 ≡ handed a b log = omega (arith, h.next) in (h.next, subst (λ k. slice_get (sent a b log) k ≡ Some m) z h.there)
@@ -174,6 +155,4 @@ in_order g log a b h = hands_are g log a b h ∙ ap (take (handed a b log)) (sen
 -- the message of a hand stands at its place among those that its site put on the link
 pub hand_was_put : (g : Input) (log : Log) (a b : Site) (n : ℕ) (m : Msg) → IsAllowed g log (Hand a b n m)
     → (n ≡ suc (handed a b log)) × (slice_get (puts_to b (local_of g a log)) (handed a b log) ≡ Some m)
-hand_was_put g log a b n m h =
-    let r = there log a b n m (allowed_hand g log (Hand a b n m) h) in
-    (r.0, subst (λ xs. slice_get xs (handed a b log) ≡ Some m) (sent_is g a b log) r.1)
+hand_was_put g log a b n m h = grind (arith, there, allowed_hand, handed, sent_is)

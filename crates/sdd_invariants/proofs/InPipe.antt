@@ -1,5 +1,5 @@
 -- The pipe of a class at a data module is a first part of the class's messages that its site put on the link there.
-use Rattle.sdd_invariants.proofs.All.{AllHomed, Bool, Catalogue, D, Did, DmNo, Each, Handed, Input, IsHomed, IsPermitted, List, Msg, None, Option, Redeclared, Site, Some, Submits, T, Ticked, U, [], all_handed, all_of, all_there, ap, append-nil, append_assoc, class_in, class_is, class_puts, cond, drop, each_local, eqb-true, false, filter-append, goes_through, handed, hands_from, home, if◌then◌else◌, local_of, map, pipe_at, piped, puts_to, refl, same_site, setting_of, slice_get, subst, suc, sym, take, take-append-drop, time_of, times_in, true, zero, ℕ, ◌++◌, ◌∙◌, ◌∷◌, ◌≡◌}
+use Rattle.sdd_invariants.proofs.All.{AllHomed, Bool, Catalogue, D, DmNo, Each, Handed, Input, IsHomed, IsPermitted, List, Msg, None, Option, Site, Some, T, U, [], all_handed, all_of, all_there, ap, append-nil, append_assoc, class_in, class_is, class_puts, cond, drop, each_local, eqb-true, false, filter-append, goes_through, handed, hands_from, home, if◌then◌else◌, local_of, map, pipe_at, piped, puts_to, refl, same_site, setting_of, slice_get, subst, suc, sym, take, take-append-drop, time_of, times_in, true, zero, ℕ, ◌++◌, ◌∙◌, ◌∷◌, ◌≡◌}
 use Rattle.sdd_invariants.proofs.Homes.{homed}
 use Rattle.sdd_invariants.proofs.PutBy.{d_pipes_none}
 use Rattle.sdd_invariants.proofs.Bools.{not_both}

@@ -1,6 +1,6 @@
 -- An Apply follows the Commit that put its WRITE; within a class a module applies in the order of timestamps and leaves
 -- none out; and an Answer stands behind the Applies of its class with smaller timestamps, and before the others.
-use Rattle.sdd_invariants.proofs.All.{Act, Apply, Attempt, Bases, Bool, Change, ClassNo, D, Did, DmNo, Does, Each, Input, IsApplied, IsApplyOf, IsFair, IsOf, IsPermitted, IsPutAt, IsPutBy, IsReadStep, IsWrite, List, May, Msg, None, Null, Option, Read, Rec, Records, Setting, Site, Some, Ts, TxnNo, Write, [], allowed_act, ap, arith, by_record, by_wait, changes_at, changes_to, class_in, class_is, class_no, class_puts, commit_act, cond, dm_no, effect, eqb-true, false, filter_map, goes_through, head, home, in_passing, inl, inr, is_empty, is_processing, length, local_of, not, number_of, or_left, or_right, pipe, pipe_at, place_within, puts_to, range_with_len, refl, results, sends_of_act, setting_of, slice_get, subst, suc, sym, time_at, time_of, to_site, true, txn_no, view_of, waits, write_at, write_to, zero, ℕ, ◌++◌, ◌+◌, ◌<◌, ◌==◌, ◌||◌, ◌∙◌, ◌∷◌, ◌≡◌, ◌≤◌, ◌⊎◌}
+use Rattle.sdd_invariants.proofs.All.{Act, Apply, Attempt, Bases, Bool, Change, ClassNo, D, Did, DmNo, Does, Each, Input, IsApplied, IsApplyOf, IsFair, IsOf, IsPermitted, IsPutAt, IsPutBy, IsReadStep, IsWrite, List, May, Msg, None, Null, Option, Read, Rec, Records, Setting, Site, Some, Ts, TxnNo, Write, [], allowed_act, ap, arith, by_record, by_wait, changes_at, changes_to, class_in, class_is, class_no, class_puts, commit_act, cond, dm_no, effect, eqb-true, false, filter_map, goes_through, head, home, in_passing, inl, inr, is_empty, length, local_of, not, number_of, or_left, or_right, pipe, pipe_at, place_within, puts_to, range_with_len, refl, results, sends_of_act, setting_of, slice_get, subst, suc, sym, time_at, time_of, to_site, true, txn_no, view_of, waits, write_at, write_to, zero, ℕ, ◌++◌, ◌+◌, ◌<◌, ◌==◌, ◌||◌, ◌∙◌, ◌∷◌, ◌≡◌, ◌≤◌, ◌⊎◌}
 use Rattle.sdd_invariants.proofs.Origins.{is_put, not_empty, was_put}
 use Rattle.sdd_invariants.proofs.ReadsPut.{put_by}
 use Rattle.sdd_invariants.proofs.WritesPut.{goes_write, write_is}
@@ -57,8 +57,7 @@ to_module d m = Some (D (dm_no d), m)
 
 in_here : (f : ℕ → Option (Site × Msg)) (x a : ℕ) (ms : List Msg) (k : ℕ) (m y : Msg) → x ≡ a → f a ≡ to_module a y
     → ((j : ℕ) → slice_get ms j ≡ Some m → f x ≡ to_module x m) → slice_get (y ∷ ms) k ≡ Some m → f x ≡ to_module x m
-in_here f x a ms zero m y q p g e = let r : y ≡ m = cc in subst (λ n. f n ≡ to_module n m) (sym q) (subst (λ z. f a ≡ to_module a z) r p)
-in_here f x a ms (suc k) m y q p g e = g k e
+in_here f x a ms k m y q p g e = grind arith
 
 in_to : (f : ℕ → Option (Site × Msg)) (x a n k : ℕ) (m : Msg) → GoesTo f
     → slice_get (to_site (D (dm_no x)) (filter_map f (range_with_len a n))) k ≡ Some m → f x ≡ to_module x m
@@ -72,12 +71,10 @@ in_to f x a (suc n) k m g e = elim (g a) [
 ]
 
 not_none : (xs : List Change) (b : Bool) → (not (is_empty xs) || b) ≡ true → (b ≡ true) ⊎ (0 < length xs)
-not_none [] b e = inl e
-not_none (x ∷ xs) b e = inr (omega arith)
+not_none xs b e = grind arith
 
 cond_true : (b : Bool) (x y : Site × Msg) → cond b (Some x) None ≡ Some y → b ≡ true
-cond_true true x y e = refl
-cond_true false x y e = cc
+cond_true b x y e = grind arith
 
 -- what a Commit puts on the link to a module
 pub commit_put_is : (s : Setting) (c : ℕ) (bases : Bases) (a : Attempt) (d : DmNo) (k : ℕ) (m : Msg)
@@ -121,9 +118,7 @@ apply_may s l k w m r txn of dm ts h q = cc
 pub apply_head : (s : Setting) (l : site.Log) (k : ℕ) (txn : TxnNo) (of : ClassNo) (dm : DmNo) (ts : Ts) (sends : List (Site × Msg))
     → IsReadStep s l (Records k (Apply txn of dm ts) sends) → (changes : List Change) × (head (pipe k l) ≡ Some (Write ts of txn changes))
 apply_head s l k txn of dm ts sends (in_passing e) = cc
-apply_head s l k txn of dm ts sends (by_wait j ds r ss lt p w i q e) =
-    let same : Apply txn of dm ts ≡ r = cc in
-    let x : is_processing r ≡ true = ap is_processing (sym same) in absurd (not_both (is_processing r) x p)
+apply_head s l k txn of dm ts sends (by_wait j ds r ss lt p w i q e) = grind (arith, not_both)
 apply_head s l k txn of dm ts sends (by_record j m r ss lt p i may e) =
     let same : Apply txn of dm ts ≡ r = cc in
     let at : k ≡ j = cc in

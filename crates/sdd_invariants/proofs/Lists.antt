@@ -1,5 +1,5 @@
 -- Members of lists by place, and lists of numbers in order.
-use Rattle.sdd_invariants.proofs.All.{AllGt, AllLe, AllLt, Bool, Equal, Greater, IsStrict, Less, List, Some, [], ap, arith, ascending, cond, false, filter, fold, if◌then◌else◌, inl, inr, insert_key, length, list_all, list_any, nat_cmp, nat_cmp_is, not, range_with_len, refl, slice_get, subst, suc, sym, take, true, zero, ℕ, ◌&&◌, ◌++◌, ◌+◌, ◌<◌, ◌∷◌, ◌≡◌, ◌≤◌, ◌⊎◌}
+use Rattle.sdd_invariants.proofs.All.{AllGt, AllLe, AllLt, Bool, IsStrict, List, Some, [], ap, arith, ascending, cond, false, filter, fold, if◌then◌else◌, inl, inr, insert_key, length, list_all, list_any, nat_cmp, not, range_with_len, refl, slice_get, subst, suc, take, true, zero, ℕ, ◌&&◌, ◌++◌, ◌+◌, ◌<◌, ◌∷◌, ◌≡◌, ◌≤◌, ◌⊎◌}
 use Rattle.sdd_invariants.proofs.Bools.{and_left, and_right, lower_same_higher, only_right, true_or_false}
 
 -- members by place
@@ -15,12 +15,10 @@ in_right [] ys k m e = (k, e)
 in_right (x ∷ xs) ys k m e = let i = in_right xs ys k m e in (suc i.0, i.1)
 
 pub in_if : {A : Type 0} (c : Bool) (x : A) (k : ℕ) (m : A) → slice_get (if c then x ∷ [] else []) k ≡ Some m → (c ≡ true) × (x ≡ m)
-in_if true x zero m e = (refl, cc)
-in_if _ x _ m e = cc
+in_if c x k m e = grind arith
 
 pub in_one : {A : Type 0} (ms : List A) (x : A) (k : ℕ) (m : A) → ms ≡ x ∷ [] → slice_get ms k ≡ Some m → x ≡ m
-in_one ms x zero m e f = let g : slice_get (x ∷ []) zero ≡ Some m = subst (λ l. slice_get l zero ≡ Some m) e f in cc
-in_one ms x (suc k) m e f = let g : slice_get (x ∷ []) (suc k) ≡ Some m = subst (λ l. slice_get l (suc k) ≡ Some m) e f in cc
+in_one ms x k m e f = grind arith
 
 pub in_none : {A B : Type 0} (ms : List A) (k : ℕ) (m : A) → ms ≡ [] → slice_get ms k ≡ Some m → B
 in_none ms k m e f = let g : slice_get [] k ≡ Some m = subst (λ l. slice_get l k ≡ Some m) e f in cc
@@ -124,23 +122,11 @@ strict_push t (x ∷ xs) h l = (gt_push x t xs h.0 l.0, strict_push t xs h.1 l.1
 
 gt_insert : (b k : ℕ) (xs : List ℕ) → b < k → AllGt b xs → AllGt b (insert_key nat_cmp xs k)
 gt_insert b k [] l h = (l, tt)
-gt_insert b k (x ∷ xs) l h = elim (lower_same_higher k x) [
-  | inl p ↦ rw (sym (nat_cmp_is k x Less p)) (l, h)
-  | inr q ↦ elim q [
-    | inl p ↦ rw (sym (nat_cmp_is k x Equal p)) h
-    | inr p ↦ rw (sym (nat_cmp_is k x Greater p)) (h.0, gt_insert b k xs l h.1)
-  ]
-]
+gt_insert b k (x ∷ xs) l h = grind (arith, lower_same_higher, gt_insert b k xs l h.1)
 
 strict_insert : (k : ℕ) (xs : List ℕ) → IsStrict xs → IsStrict (insert_key nat_cmp xs k)
 strict_insert k [] h = (tt, tt)
-strict_insert k (x ∷ xs) h = elim (lower_same_higher k x) [
-  | inl p ↦ rw (sym (nat_cmp_is k x Less p)) ((p, gt_down k x xs (omega arith) h.0), h)
-  | inr q ↦ elim q [
-    | inl p ↦ rw (sym (nat_cmp_is k x Equal p)) h
-    | inr p ↦ rw (sym (nat_cmp_is k x Greater p)) (gt_insert x k xs p h.0, strict_insert k xs h.1)
-  ]
-]
+strict_insert k (x ∷ xs) h = grind (arith, lower_same_higher, gt_down, gt_insert, strict_insert k xs h.1)
 
 strict_fold : (ns xs : List ℕ) → IsStrict xs → IsStrict (fold (λ ks k. insert_key nat_cmp ks k) xs ns)
 strict_fold [] xs h = h

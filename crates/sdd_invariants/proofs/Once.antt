@@ -1,5 +1,5 @@
 -- An attempt has at most one Answer at a module.
-use Rattle.sdd_invariants.proofs.All.{Act, Answer, Bool, ClassNo, Cond, D, Did, DmNo, Does, Each, Handed, Input, IsFair, IsNew, IsPermitted, List, Msg, Pipe, Queued, Read, Records, Sends, Setting, Site, Some, Start, Ts, TxnNo, Use, [], ap, append_assoc, arith, class_puts, false, head, head_of, head_processed, home, if◌then◌else◌, inl, inr, length, length-append, local_of, next_stamp, number_of, one_or_none, pipe, pipe_acted, pipe_at, queue, read_at, refl, setting_of, slice_get, start_at, start_more, starts_of, subst, suc, sym, true, ℕ, ◌&&◌, ◌++◌, ◌==◌, ◌∙◌, ◌∷◌, ◌≡◌, ◌≤◌}
+use Rattle.sdd_invariants.proofs.All.{Act, Answer, Bool, ClassNo, Cond, D, Did, DmNo, Does, Each, Handed, Input, IsFair, IsNew, IsPermitted, List, Msg, Pipe, Queued, Read, Records, Setting, Site, Some, Ts, TxnNo, Use, [], ap, append_assoc, arith, class_puts, head, head_of, head_processed, home, if◌then◌else◌, inl, inr, length, length-append, local_of, next_stamp, number_of, pipe, pipe_acted, pipe_at, queue, read_at, refl, setting_of, slice_get, start_at, start_more, starts_of, subst, suc, sym, true, ℕ, ◌++◌, ◌==◌, ◌∙◌, ◌∷◌, ◌≡◌, ◌≤◌}
 use Rattle.sdd_invariants.proofs.Places.{compare}
 use Rattle.sdd_invariants.proofs.Recorded.{head_left}
 use Rattle.sdd_invariants.proofs.Processed.{own_record, processed_handed, processed_more}
@@ -14,8 +14,7 @@ use Rattle.sdd_log.specs.site_module.SiteLog as site
 
 -- how often a transaction was started only grows
 more_up : (c n : ℕ) (act : Act) (x : ℕ) → x ≤ start_more c n act x
-more_up c n (Records k (Start txn attempt cl ts p2 us) sends) x = if_way (λ y. x ≤ y) ((k == c) && (n == txn.0)) (suc x) x (omega arith) (omega arith)
-more_up c n _ x = omega arith
+more_up c n act x = grind (arith, if_way)
 
 starts_grow : (c n : ℕ) (later log : site.Log) → starts_of c n log ≤ starts_of c n (later ++ log)
 starts_grow c n [] log = omega arith
@@ -48,20 +47,14 @@ same_try s c l1 l2 b1 b2 q1 q2 f1 n1 f2 n2 e1 e2 n t p = elim (compare l1 l2 (Di
 -- what is processed only grows
 
 processed_if : (b : Bool) (p : Pipe) → length p.processed ≤ length (if b then head_processed p else p).processed
-processed_if true p = omega (arith, length-append p.processed (one_or_none (head p)))
-processed_if false p = omega arith
+processed_if b p = grind (arith, length-append, head)
 
 processed_act : (c : ℕ) (act : Act) (p : Pipe) → length p.processed ≤ length (pipe_acted c act p).processed
-processed_act c (Records k r sends) p = processed_if _ p
-processed_act c (Sends to m hand) p = omega arith
+processed_act c act p = grind (arith, processed_if)
 
 pub processed_grows : (c : ℕ) (later log : site.Log) → length (pipe c log).processed ≤ length (pipe c (later ++ log)).processed
 processed_grows c [] log = omega arith
-processed_grows c (Handed from m ∷ later) log =
-    let i = processed_grows c later log in
-    let j : length (pipe c (Handed from m ∷ (later ++ log))).processed ≡ length (pipe c (later ++ log)).processed = ap length
-    (processed_handed c from m (later ++ log)) in
-    omega arith
+processed_grows c (Handed from m ∷ later) log = grind (arith, processed_handed, processed_grows c later log)
 processed_grows c (Did act ∷ later) log = let i = processed_grows c later log in let j = processed_act c act (pipe c (later ++ log)) in omega arith
 processed_grows c (_ ∷ later) log = processed_grows c later log
 

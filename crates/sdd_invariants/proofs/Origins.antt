@@ -1,5 +1,5 @@
 -- A message on a link was put by one act of the site's log, and what an act puts is on the link.
-use Rattle.sdd_invariants.proofs.All.{Act, Attempt, Bases, Change, D, Did, Entry, IsPut, List, Log, Msg, Setting, Site, Some, Write, [], ap, arith, changes_at, class_no, commit_act, dm_no, effect, false, in_left, inl, inr, is_empty, length, puts_to, refl, sends_of_act, slice_get, time_at, to_site, txn_no, write_to, ℕ, ◌++◌, ◌<◌, ◌∷◌, ◌≡◌, ◌≤◌}
+use Rattle.sdd_invariants.proofs.All.{Act, Attempt, Bases, Change, D, Did, Entry, IsPut, List, Log, Msg, Setting, Site, Some, Write, [], ap, arith, changes_at, class_no, commit_act, dm_no, effect, false, in_left, inl, inr, is_empty, length, puts_to, refl, sends_of_act, slice_get, time_at, to_site, txn_no, ℕ, ◌++◌, ◌<◌, ◌∷◌, ◌≡◌, ◌≤◌}
 use Rattle.sdd_invariants.proofs.Lists.{in_either, in_right}
 use Rattle.sdd_invariants.proofs.Sites.{some_to}
 
@@ -26,13 +26,10 @@ is_put b (x ∷ later) act before k m e = let i = is_put b later act before k m 
 -- a Commit's WRITE to a module with a copy
 
 pub not_empty : (xs : List Change) → 0 < length xs → is_empty xs ≡ false
-not_empty [] l = absurd (omega arith)
-not_empty (x ∷ xs) l = refl
+not_empty xs l = grind arith
 
 pub commit_writes : (s : Setting) (c : ℕ) (bases : Bases) (a : Attempt) (d : ℕ) → 1 ≤ d → d ≤ s.catalogue.dms
     → 0 < length (changes_at s.catalogue d (effect s.catalogue (bases a.ts) a.text).changes)
     → (k : ℕ) × (slice_get (to_site (D (dm_no d)) (sends_of_act (commit_act s.catalogue bases c a))) k ≡ Some
     (Write (time_at a.ts) (class_no c) (txn_no a.txn) (changes_at s.catalogue d (effect s.catalogue (bases a.ts) a.text).changes)))
-commit_writes s c bases a d l h n =
-    some_to (write_to s.catalogue c a (effect s.catalogue (bases a.ts) a.text).changes) 1 s.catalogue.dms d _ l (omega arith)
-    (rw (not_empty (changes_at s.catalogue d (effect s.catalogue (bases a.ts) a.text).changes) n) refl)
+commit_writes s c bases a d l h n = grind (arith, some_to, not_empty)

@@ -1,5 +1,5 @@
 -- Two places of one log; and a class that is idle stays so until it records something.
-use Rattle.sdd_invariants.proofs.All.{Attempt, Commit, D, Did, Entry, Handed, List, Log, Msg, NoRecord, None, Option, Queued, Rec, Records, Sends, Setting, Site, Some, Start, [], active, active_after, active_handed, active_sent, ap, arith, false, inl, inr, is_recorded, length, length-append, queue, refl, subst, sym, ℕ, ◌++◌, ◌<◌, ◌==◌, ◌∙◌, ◌∷◌, ◌≡◌, ◌⊎◌}
+use Rattle.sdd_invariants.proofs.All.{Attempt, Did, Entry, Handed, List, Log, Msg, NoRecord, None, Option, Queued, Rec, Records, Sends, Setting, Site, Some, [], active, active_after, active_handed, active_sent, ap, arith, false, inl, inr, is_recorded, length, length-append, queue, refl, subst, sym, ℕ, ◌++◌, ◌<◌, ◌==◌, ◌∙◌, ◌∷◌, ◌≡◌, ◌⊎◌}
 
 abbrev pub AreSame : {A : Type 0} → A → A → List A → List A → Type 0
 AreSame x y b1 b2 = (b1 ≡ b2) × (x ≡ y)
@@ -34,13 +34,10 @@ longer z x b = omega (arith, length-append z (x ∷ b))
 
 other_record : (c k : ℕ) (r : Rec) (sends : List (Site × Msg)) (qs : List Queued) (a : Option Attempt) → (k == c) ≡ false
     → active_after c (Records k r sends) qs a ≡ a
-other_record c k (Start txn attempt class ts p2 uses) sends qs a e = rw e refl
-other_record c k (Commit txn attempt reply changes values rows) sends qs a e = rw e refl
-other_record c k _ sends qs a e = refl
+other_record c k r sends qs a e = grind arith
 
 pub none_handed : (c : ℕ) (from : Site) (m : Msg) (o : Option Attempt) → o ≡ None → active_handed c from m o ≡ None
-none_handed c (D d) m o e = rw e refl
-none_handed c _ m o e = e
+none_handed c from m o e = grind arith
 
 pub none_sent : (c : ℕ) (m : Msg) (o : Option Attempt) → o ≡ None → active_sent c m o ≡ None
 none_sent c m o e = rw e refl

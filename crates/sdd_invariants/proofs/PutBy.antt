@@ -1,5 +1,5 @@
 -- Who puts what at a data module.
-use Rattle.sdd_invariants.proofs.All.{Act, Apply, Arrive, Bool, Change, ClassNo, ClassView, Cond, Did, Done, Each, Entry, Fetch, Handed, Home, IsClassHere, IsDue, IsDueEach, IsFetch, IsPutByD, IsReduce, IsShip, List, Log, Msg, None, Null, Open, Option, Processes, Read, Records, Reduce, Sends, Setting, Ship, Site, Some, Ts, TxnNo, U, Use, WasAsked, Write, [], act_by, act_where, answer_of, answer_to, ap, arith, ask_for, by_head, by_open, class_asked, eqb-true, false, filter, hands, head, head_due, head_of, home_of, if◌then◌else◌, inl, inr, is_asked_of, is_held, is_met, is_some, judged, lacking, list_all, map, not, opens, opens_acted, pipe, piped, puts_to, refl, same_site, sends_of_act, slice_get, spoiler, step_on, subst, suc, sym, to_site, true, view_of, waits, zero, ℕ, ◌++◌, ◌==◌, ◌∷◌, ◌≡◌, ◌⊎◌}
+use Rattle.sdd_invariants.proofs.All.{Act, Apply, Bool, Change, ClassNo, ClassView, Cond, Did, Done, Each, Entry, Fetch, Handed, Home, IsClassHere, IsDue, IsDueEach, IsFetch, IsPutByD, IsReduce, IsShip, List, Log, Msg, None, Null, Open, Option, Processes, Read, Records, Reduce, Setting, Ship, Site, Some, Ts, TxnNo, U, Use, WasAsked, Write, [], act_by, act_where, answer_of, answer_to, ap, arith, ask_for, by_head, by_open, class_asked, eqb-true, false, filter, hands, head, head_due, head_of, home_of, if◌then◌else◌, inl, inr, is_asked_of, is_held, is_met, is_some, judged, lacking, list_all, map, not, opens, opens_acted, pipe, piped, puts_to, refl, same_site, sends_of_act, slice_get, spoiler, step_on, subst, suc, sym, to_site, true, view_of, waits, zero, ℕ, ◌++◌, ◌==◌, ◌∷◌, ◌≡◌, ◌⊎◌}
 use Rattle.sdd_invariants.proofs.AreReadSteps.{class_at_place}
 use Rattle.sdd_invariants.proofs.Lists.{in_either, in_filtered, in_one}
 use Rattle.sdd_invariants.proofs.Sites.{site_is, the_one}
@@ -20,16 +20,10 @@ open_of n from m = record { hand = n; from = from; msg = m }
 
 open_in : (n : ℕ) (from : Site) (m : Msg) (b : Bool) (os : List Open) (k : ℕ) (o : Open) → slice_get (if b then os ++ open_of n from m ∷ [] else os) k ≡ Some o
     → ((j : ℕ) × (slice_get os j ≡ Some o)) ⊎ ((from ≡ o.from) × (m ≡ o.msg))
-open_in n from m false os k o e = inl (k, e)
-open_in n from m true os k o e = elim (in_either os (open_of n from m ∷ []) k o e) [
-  | inl p ↦ inl (k, p)
-  | inr p ↦ (let q : open_of n from m ≡ o = in_one (open_of n from m ∷ []) (open_of n from m) p.0 o refl p.1 in inr (ap (λ (x : Open). x.from) q, ap (λ (x : Open). x.msg) q))
-]
+open_in n from m b os k o e = grind (arith, in_either, in_one)
 
 acted_in : (act : Act) (os : List Open) (k : ℕ) (o : Open) → slice_get (opens_acted act os) k ≡ Some o → (j : ℕ) × (slice_get os j ≡ Some o)
-acted_in (Records c (Arrive txn attempt dm) sends) os k o e = let i = in_filtered _ os k o e in (i.1, i.2)
-acted_in (Sends to m hand) os k o e = let i = in_filtered _ os k o e in (i.1, i.2)
-acted_in (Records c _ sends) os k o e = (k, e)
+acted_in act os k o e = grind (arith, in_filtered)
 
 abbrev IsMsg : Msg → Msg → Type 0
 IsMsg m x = x ≡ m
@@ -61,8 +55,7 @@ by_open_one s log h k o (Ship ts class) a w e = puts_some s log _ a
 by_open_one s log h k o _ a w e = cc
 
 pub first_there : (os : List Open) (o : Open) → head_of os ≡ Some o → slice_get os 0 ≡ Some o
-first_there [] o e = cc
-first_there (x ∷ os) o e = e
+first_there os o e = grind arith
 
 by_asked : (s : Setting) (log : Log) (h : Home) (k : ClassView) (x : Option Open) (a : Act)
     → head_of (filter (is_asked_of k.class) (opens log)) ≡ x → answer_of h k x ≡ Some a → PutsBy s log a
@@ -94,8 +87,7 @@ ask_by : (s : Setting) (log : Log) (c : ℕ) (ts : Ts) (class : ClassNo) (txn : 
     → lacking ≡ filter (λ d. not (is_met (view_of s log) d)) conds → slice_get lacking i ≡ Some d → ask_for (home_of s) d ≡ (b, x) → IsPutByD s log b act x
 ask_by s log c ts class txn attempt conds uses lacking b x i d act l h f e p =
     let r = in_filtered (λ d. not (is_met (view_of s log) d)) conds i d (subst (λ ds. slice_get ds i ≡ Some d) f e) in
-    subst (IsPutByD s log b act) (ap (λ (z : Site × Msg). z.1) p)
-    (record { class = c; ts = ts; of = class; txn = txn; attempt = attempt; conds = conds; uses = uses; here = l; head_is = h; place = r.1; cond_at = d; there = r.2; class_is = refl; time_is = refl; to_is = ap (λ (z : Site × Msg). z.0) (sym p) })
+    grind arith
 
 by_judged : (s : Setting) (log : Log) (c : ℕ) (ts : Ts) (class : ClassNo) (txn : TxnNo) (attempt : ℕ) (conds : List Cond) (uses : List Use) (lacking : List Cond) (by : Option Cond) (a : Act)
     → IsClassHere s c → waits c log ≡ false → head (pipe c log) ≡ Some (Read ts class txn attempt conds uses)
@@ -116,9 +108,7 @@ suc_not_zero c e = let p : suc c ≡ 0 = eqb-true (suc c) 0 e in omega arith
 by_done : (s : Setting) (log : Log) (c : ℕ) (z : Bool) (ts : Ts) (class : ClassNo) (txn : TxnNo) (changes : List Change)
     → (c == 0) ≡ z → head (pipe c log) ≡ Some (Write ts class txn changes)
     → PutsBy s log (Records c (Apply txn class (home_of s).dm ts) (if z then (U, Done ts) ∷ [] else []))
-by_done s log zero true ts class txn changes z h b j x r =
-    let i = the_one b U (Done ts) j x r in
-    subst (IsPutByD s log b _) i.1 (record { txn = txn; class = class; changes = changes; head_is = h; act_is = refl; to_is = i.0 })
+by_done s log zero true ts class txn changes z h b j x r = grind (arith, the_one)
 by_done s log (suc c) true ts class txn changes z h b j x r = absurd (suc_not_zero c z)
 by_done s log c false ts class txn changes z h b j x r = cc
 
@@ -161,10 +151,7 @@ put_by_d s log act (by_head n k p e) =
 
 -- a data module puts nothing that goes through a pipe
 not_piped : (s : Setting) (log : Log) (b : Site) (act : Act) (m : Msg) → IsPutByD s log b act m → piped m ≡ None
-not_piped s log b act (Read ts k txn attempt conds uses) h = absurd h
-not_piped s log b act (Write ts k txn changes) h = absurd h
-not_piped s log b act (Null k t) h = absurd h
-not_piped s log b act _ h = refl
+not_piped s log b act m h = grind arith
 
 none_at : (xs ys : List Msg) → ((k : ℕ) (m : Msg) → slice_get xs k ≡ Some m → piped m ≡ None)
     → ((k : ℕ) (m : Msg) → slice_get ys k ≡ Some m → piped m ≡ None) → (k : ℕ) (m : Msg) → slice_get (xs ++ ys) k ≡ Some m → piped m ≡ None

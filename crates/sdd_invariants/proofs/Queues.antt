@@ -17,22 +17,13 @@ known_push log (y ∷ xs) x h e = (h.0, known_push log xs x h.1 e)
 map_each : (f g : ℕ × Txn → Option Queued) (h : Queued → Queued) (xs : List (ℕ × Txn))
     → ((x : ℕ × Txn) → (f x ≡ None) × (g x ≡ None) ⊎ ((q : Queued) × (f x ≡ Some q) × (g x ≡ Some (h q)))) → filter_map g xs ≡ map h (filter_map f xs)
 map_each f g h [] k = refl
-map_each f g h (x ∷ xs) k = elim (k x) [
-  | inl p ↦ rw (p.0, p.1) (map_each f g h xs k)
-  | inr p ↦ rw (p.1, p.2) (ap (λ l. h p.0 ∷ l) (map_each f g h xs k))
-]
+map_each f g h (x ∷ xs) k = grind (arith, map_each f g h xs k)
 
 filter_each : (f g : ℕ × Txn → Option Queued) (t : Queued → Bool) (xs : List (ℕ × Txn))
     → ((x : ℕ × Txn) → (f x ≡ None) × (g x ≡ None) ⊎ ((q : Queued) × (f x ≡ Some q) × (((t q ≡ true) × (g x ≡ Some q)) ⊎ ((t q ≡ false) × (g x ≡ None)))))
     → filter_map g xs ≡ filter t (filter_map f xs)
 filter_each f g t [] k = refl
-filter_each f g t (x ∷ xs) k = elim (k x) [
-  | inl p ↦ rw (p.0, p.1) (filter_each f g t xs k)
-  | inr p ↦ elim p.2 [
-    | inl r ↦ rw (p.1, r.0, r.1) (ap (λ l. p.0 ∷ l) (filter_each f g t xs k))
-    | inr r ↦ rw (p.1, r.0, r.1) (filter_each f g t xs k)
-  ]
-]
+filter_each f g t (x ∷ xs) k = grind (arith, filter_each f g t xs k)
 
 head_known : (c : ℕ) (log : Log) (xs : List (ℕ × Txn)) (q : Queued) → AllKnown log xs
     → head_of (filter_map (queued c log) xs) ≡ Some q → contains (submits log) q.number ≡ true
@@ -59,41 +50,21 @@ start_each : (c : ℕ) (log : Log) (act : Act) (n : ℕ) (x : ℕ × Txn)
     → ((m : ℕ) → is_committed c m (Did act ∷ log) ≡ is_committed c m log)
     → (queued c log x ≡ None) × (queued c (Did act ∷ log) x ≡ None) ⊎
     ((q : Queued) × (queued c log x ≡ Some q) × (queued c (Did act ∷ log) x ≡ Some (tried n q)))
-start_each c log act n x f g = elim (is_committed c x.0 log) as
-    (λ b. is_committed c x.0 log ≡ b → (queued c log x ≡ None) × (queued c (Did act ∷ log) x ≡ None) ⊎
-    ((q : Queued) × (queued c log x ≡ Some q) × (queued c (Did act ∷ log) x ≡ Some (tried n q)))) [
-      | true ↦ λ p. inl (rw p refl, rw (g x.0, p) refl)
-      | false ↦ λ p. inr (
-        record { number = x.0; text = x.1; tries = starts_of c x.0 log },
-        rw p refl,
-        rw (g x.0, p, f x.0)
-            (ap (λ y. Some y) (tried_stands x.0 n (starts_of c x.0 log) x.1)),
-      )
-    ] refl
+start_each c log act n x f g = grind (arith, is_committed, queued, tried_stands)
 
 serve_start : (ts : ℕ) (sends : List (Site × Msg)) (qs : List Queued) (q : Queued) → head_of qs ≡ Some q
     → IsServed (started ts sends (head_of qs)) (map (tried q.number) qs)
-serve_start ts sends [] q e = cc
-serve_start ts sends (x ∷ qs) q e =
-    let p : x ≡ q = cc in
-    let n : (x.number == q.number) ≡ true = ap (λ (y : Queued). x.number == y.number) (sym p) ∙ same_number x.number in
-    rw n (refl, refl, refl, omega arith)
+serve_start ts sends qs q e = grind (arith, same_number)
 
 served_push : (o : Option Attempt) (qs : List Queued) (q : Queued) → IsServed o qs → IsServed o (qs ++ q ∷ [])
-served_push None qs q h = tt
-served_push (Some a) [] q h = absurd h
-served_push (Some a) (x ∷ qs) q h = h
+served_push o qs q h = grind arith
 
 pub served_head : (a : Attempt) (qs : List Queued) → IsServed (Some a) qs
     → (q : Queued) × (head_of qs ≡ Some q) × (q.number ≡ a.txn) × (q.text ≡ a.text) × (q.tries ≡ a.attempt) × (0 < a.attempt)
-served_head a [] h = absurd h
-served_head a (q ∷ qs) h = (q, refl, h.0, h.1, h.2, h.3)
+served_head a qs h = grind arith
 
 other_number : (n m : ℕ) (log : Log) → contains (submits log) n ≡ false → contains (submits log) m ≡ true → (n == m) ≡ false
-other_number n m log e f = elim (same_or_not n m) [
-  | inl p ↦ (let g : contains (submits log) m ≡ false = subst (λ k. contains (submits log) k ≡ false) p e in cc)
-  | inr p ↦ p
-]
+other_number n m log e f = grind (arith, same_or_not, submits)
 
 queue_start : (s : Setting) (c : ℕ) (log : Log) (q : Queued) → head_of (queue s c log) ≡ Some q → IsQueue s c log → IsQueue s c (Did (start_at s c log q) ∷ log)
 queue_start s c log q e h =
@@ -143,16 +114,14 @@ commit_each c log act n x f g =
     ] refl
 
 same_map : (f g : ℕ × Txn → Option Queued) (xs : List (ℕ × Txn)) → ((x : ℕ × Txn) → f x ≡ g x) → filter_map f xs ≡ filter_map g xs
-same_map f g [] k = refl
-same_map f g (x ∷ xs) k = rw (k x, same_map f g xs k) refl
+same_map f g xs k = grind arith
 
 same_queued : (c : ℕ) (log : Log) (e : Entry) (x : ℕ × Txn) → ((n : ℕ) → starts_of c n (e ∷ log) ≡ starts_of c n log)
     → ((n : ℕ) → is_committed c n (e ∷ log) ≡ is_committed c n log) → queued c log x ≡ queued c (e ∷ log) x
 same_queued c log e x f g = rw (g x.0, f x.0) refl
 
 exchanged : (a : Attempt) (x : Exchange) (qs : List Queued) → IsServed (Some a) qs → IsServed (Some (record a { exchange = x })) qs
-exchanged a x [] h = absurd h
-exchanged a x (q ∷ qs) h = h
+exchanged a x qs h = grind arith
 
 queue_submit : (s : Setting) (c : ℕ) (log : Log) (k : ℕ) (txn : Txn) → contains (submits log) k ≡ false → IsQueue s c log → IsQueue s c (Submits k txn ∷ log)
 queue_submit s c log k txn new h =
@@ -198,13 +167,7 @@ queue_same : (s : Setting) (c : ℕ) (log : Log) (e : Entry) → queue s c (e �
     → ((n : ℕ) → is_committed c n (e ∷ log) ≡ is_committed c n log)
     → ((n : ℕ) → contains (submits (e ∷ log)) n ≡ contains (submits log) n) → IsServed (active s c (e ∷ log)) (queue s c log)
     → IsQueue s c log → IsQueue s c (e ∷ log)
-queue_same s c log e a b f g w i h = record {
-  is = a ∙ h.is ∙ same_map (queued c log) (queued c (e ∷ log)) (submits_of s c log) (λ x. same_queued c log e x f g)
-      ∙ ap (filter_map (queued c (e ∷ log))) (sym b);
-  known = subst (AllKnown (e ∷ log)) (sym b) (known_more log (e ∷ log) (submits_of s c log) (λ n p. w n ∙ p) h.known);
-  fresh = λ n p. (f n ∙ (h.fresh n (sym (w n) ∙ p)).0, g n ∙ (h.fresh n (sym (w n) ∙ p)).1);
-  served = subst (IsServed (active s c (e ∷ log))) (sym a) i;
-}
+queue_same s c log e a b f g w i h = grind (arith, same_map, queued, same_queued, known_more, active)
 
 queue_other_start : (s : Setting) (k c : ℕ) (log : Log) (q : Queued) → (k == c) ≡ false → IsQueue s c log → IsQueue s c (Did (start_at s k log q) ∷ log)
 queue_other_start s k c log q e h = queue_same s c log (Did (start_at s k log q)) (rw e refl) refl (λ n. rw e refl) (λ n. refl) (λ n. refl) (rw e h.served) h
@@ -230,11 +193,7 @@ queue_act s c log act i h = step_way s log act (λ x. IsQueue s c (Did x ∷ log
 
 pub queue_is : (s : Setting) (c : ℕ) (log : Log) → Each (IsFair s) log → Each IsNew log → IsQueue s c log
 queue_is s c [] h n = record { is = refl; known = tt; fresh = λ n p. (refl, refl); served = tt }
-queue_is s c (Handed from m ∷ log) h n =
-    let i = queue_is s c log h.1 n.1 in
-    queue_same s c log (Handed from m) refl refl (λ n. refl) (λ n. refl) (λ n. refl)
-    (handed_way (λ o. IsServed o (queue s c log)) c from m (active s c log) tt
-    (λ a x e. exchanged a x (queue s c log) (subst (λ o. IsServed o (queue s c log)) e i.served)) i.served) i
+queue_is s c (Handed from m ∷ log) h n = grind (arith, queue_same, handed_way, active, exchanged, queue_is s c log h.1 n.1)
 queue_is s c (Submits k txn ∷ log) h n = queue_submit s c log k txn n.0 (queue_is s c log h.1 n.1)
 queue_is s c (Did act ∷ log) h n = queue_act s c log act h.0 (queue_is s c log h.1 n.1)
 queue_is s c (x ∷ log) h n = let i = queue_is s c log h.1 n.1 in queue_same s c log x refl refl (λ n. refl) (λ n. refl) (λ n. refl) i.served i

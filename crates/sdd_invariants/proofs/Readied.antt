@@ -1,6 +1,6 @@
 -- Once an attempt awaits no READY any more, a READY for it was handed from each of its modules. It rests on this, that each
 -- answer of an exchange comes after a question.
-use Rattle.sdd_invariants.proofs.All.{Act, AllReadied, AreReady, Attempt, Bases, Bool, Catalogue, Change, ClassNo, D, Did, DmNo, Each, Entry, Exchange, Fetch, Handed, IsFair, IsHonest, IsSend, IsStep, List, Log, Msg, None, Option, Phase, Queued, Reading, Ready, Reduce, Reduced, Rows, Sends, Setting, Ship, Site, Some, Submits, Ts, Values, Write, [], a_held, a_hold, a_null, a_release, active, active_handed, active_sent, after_hand, after_send, answered, ap, arith, asks_in, asks_rows, begins, both, changes_at, class_no, commit_act, cond, cons_option, contains, counted, counts, dm_no, effect, eqb-true, false, filter_map, first_phase, firsts, if◌then◌else◌, inl, inr, is_empty, is_over, is_reading, is_ready, lacking, last_stamp, length, map, module_read, modules_asked, neither, next_stamp, not, numbers_to, of_exchange, or_left, or_right, phase_ends, refl, rejects, same_site, sends_of_act, site_d, stamp_or, start_at, start_read, started, subst, sym, time_at, true, txn_no, was_asked, was_ready, with_values, without, write_to, ℕ, ◌&&◌, ◌++◌, ◌+◌, ◌==◌, ◌||◌, ◌∙◌, ◌∷◌, ◌≡◌, ◌≤◌, ◌⊎◌}
+use Rattle.sdd_invariants.proofs.All.{Act, AllReadied, AreReady, Attempt, Bases, Bool, Catalogue, Change, ClassNo, D, Did, DmNo, Each, Entry, Exchange, Handed, IsFair, IsHonest, IsSend, IsStep, List, Log, Msg, None, Option, Phase, Queued, Ready, Reduced, Rows, Sends, Setting, Site, Some, Submits, Ts, Values, [], a_held, a_hold, a_null, a_release, active, active_handed, active_sent, after_hand, answered, ap, arith, asks_in, asks_rows, begins, both, commit_act, cond, contains, counted, counts, dm_no, eqb-true, false, filter_map, firsts, if◌then◌else◌, inl, inr, is_over, is_reading, is_ready, lacking, last_stamp, length, map, module_read, modules_asked, neither, next_stamp, not, of_exchange, or_left, or_right, refl, rejects, same_site, sends_of_act, site_d, stamp_or, start_at, start_read, started, subst, sym, true, was_asked, was_ready, with_values, without, write_to, ℕ, ◌&&◌, ◌++◌, ◌+◌, ◌==◌, ◌||◌, ◌∙◌, ◌∷◌, ◌≡◌, ◌≤◌, ◌⊎◌}
 use Rattle.sdd_invariants.proofs.Clocks.{drawn, stamp_rises}
 use Rattle.sdd_invariants.proofs.Active.{step_way}
 use Rattle.sdd_invariants.proofs.Bools.{and_left, and_right, if_way, not_both, only_right, same_number, same_or_not}
@@ -8,18 +8,11 @@ use Rattle.sdd_invariants.proofs.Exchanges.{GoesOn, answered_goes, hand_goes, ne
 use Rattle.sdd_invariants.proofs.Sites.{site_self}
 
 either : (a b : Bool) → (a || b) ≡ true → (a ≡ true) ⊎ (b ≡ true)
-either true b e = inl refl
-either false b e = inr e
+either a b e = grind arith
 
 -- whose question it is
 pub asks_whose : (t k ts c : ℕ) (m : Msg) → asks_rows t k m ≡ true → asks_rows ts c m ≡ true → (t ≡ ts) × (k ≡ c)
-asks_whose t k ts c (Fetch a b u col) e f =
-    (sym (eqb-true a.0 t (and_left _ _ e)) ∙ eqb-true a.0 ts (and_left _ _ f), sym (eqb-true b.0 k (and_right _ _ e)) ∙ eqb-true b.0 c (and_right _ _ f))
-asks_whose t k ts c (Reduce a b u col vs) e f =
-    (sym (eqb-true a.0 t (and_left _ _ e)) ∙ eqb-true a.0 ts (and_left _ _ f), sym (eqb-true b.0 k (and_right _ _ e)) ∙ eqb-true b.0 c (and_right _ _ f))
-asks_whose t k ts c (Ship a b) e f =
-    (sym (eqb-true a.0 t (and_left _ _ e)) ∙ eqb-true a.0 ts (and_left _ _ f), sym (eqb-true b.0 k (and_right _ _ e)) ∙ eqb-true b.0 c (and_right _ _ f))
-asks_whose t k ts c _ e f = cc
+asks_whose t k ts c m e f = grind (arith, eqb-true, and_left, and_right)
 
 -- what a Start and a Commit put is no question
 start_asks : (ts c : ℕ) (f : ℕ → Site × Msg) (ds : List ℕ) → ((d : ℕ) → asks_rows ts c (f d).1 ≡ false) → asks_in ts c (map f ds) ≡ false
@@ -29,29 +22,21 @@ start_asks ts c f (d ∷ ds) h = neither (asks_rows ts c (f d).1) _ (h d) (start
 commit_asks : (ts c : ℕ) (f : ℕ → Option (Site × Msg)) (ds : List ℕ)
     → ((d : ℕ) (p : Site × Msg) → f d ≡ Some p → asks_rows ts c p.1 ≡ false) → asks_in ts c (filter_map f ds) ≡ false
 commit_asks ts c f [] h = refl
-commit_asks ts c f (d ∷ ds) h = elim (f d) as (λ o. f d ≡ o → asks_in ts c (cons_option o (filter_map f ds)) ≡ false) [
-  | None ↦ λ e. commit_asks ts c f ds h
-  | Some p ↦ λ e. neither (asks_rows ts c p.1) _ (h d p e) (commit_asks ts c f ds h)
-] refl
+commit_asks ts c f (d ∷ ds) h = grind (arith, asks_in, neither, commit_asks ts c f ds h)
 
 cond_asks : (ts k : ℕ) (b : Bool) (to : Site) (m : Msg) (p : Site × Msg) → asks_rows ts k m ≡ false
     → cond b (Some (to, m)) None ≡ Some p → asks_rows ts k p.1 ≡ false
-cond_asks ts k true to m p f e = let q : ◌≡◌ {A = Site × Msg} (to, m) p = cc in subst (λ (x : Site × Msg). asks_rows ts k x.1 ≡ false) q f
-cond_asks ts k false to m p f e = cc
+cond_asks ts k b to m p f e = grind arith
 
 write_asks : (ts k : ℕ) (cat : Catalogue) (c : ℕ) (a : Attempt) (xs : List Change) (d : ℕ) (p : Site × Msg)
     → write_to cat c a xs d ≡ Some p → asks_rows ts k p.1 ≡ false
-write_asks ts k cat c a xs d p e =
-    let here : List Change = changes_at cat d xs in
-    cond_asks ts k (not (is_empty here) || (c == 0)) (D (dm_no d)) (Write (time_at a.ts) (class_no c) (txn_no a.txn) here) p refl e
+write_asks ts k cat c a xs d p e = grind (arith, cond_asks)
 
 asks_start : (s : Setting) (ts c k : ℕ) (log : Log) (q : Queued) → asks_in ts c (sends_of_act (start_at s k log q)) ≡ false
 asks_start s ts c k log q = start_asks ts c (λ d. (D (dm_no d), start_read s k log q d)) (modules_asked s k q.text) (λ d. refl)
 
 asks_commit : (s : Setting) (ts c k : ℕ) (bases : Bases) (a : Attempt) → asks_in ts c (sends_of_act (commit_act s.catalogue bases k a)) ≡ false
-asks_commit s ts c k bases a =
-    let xs : List Change = (effect s.catalogue (bases a.ts) a.text).changes in
-    commit_asks ts c (write_to s.catalogue k a xs) (numbers_to s.catalogue.dms) (λ d p e. write_asks ts c s.catalogue k a xs d p e)
+asks_commit s ts c k bases a = grind (arith, commit_asks, write_asks)
 
 null_whose : (ts c : ℕ) (m x : Msg) → m ≡ x → asks_rows ts c x ≡ false → asks_rows ts c m ≡ true → ⊥
 null_whose ts c m x e f g = not_both (asks_rows ts c m) g (ap (asks_rows ts c) e ∙ f)
@@ -99,10 +84,7 @@ asked_le s ts c (Did act ∷ log) h e = asked_act s ts c log act h.1 h.0 (asked_
 asked_le s ts c (x ∷ log) h e = let l = asked_le s ts c log h.1 e in let r = stamp_rises s x log in omega arith
 
 fresh_asked : (s : Setting) (c : ℕ) (log : Log) → Each (IsFair s) log → was_asked (next_stamp s log) c log ≡ false
-fresh_asked s c log h = elim (was_asked (next_stamp s log) c log) as (λ b. was_asked (next_stamp s log) c log ≡ b → b ≡ false) [
-  | true ↦ λ e. (let l = asked_le s (next_stamp s log) c log h e in absurd (omega arith))
-  | false ↦ λ e. refl
-] refl
+fresh_asked s c log h = grind (arith, asked_le)
 
 -- lists of modules
 has_without : (ns : List ℕ) (n m : ℕ) → contains ns m ≡ true → (m == n) ≡ false → contains (without ns n) m ≡ true
@@ -132,28 +114,18 @@ ready_ends ts c d log x y e h w z n p = elim (h n (subst (λ ms. contains (first
 
 ready_less : (ts c d : ℕ) (log : Log) (x : Exchange) (ds : List ℕ) → AreReady ts c log x → was_ready ts c (site_d d) log ≡ true
     → without x.lacks d ≡ ds → AreReady ts c log (record x { lacks = ds })
-ready_less ts c d log x ds h w z n p = elim (h n p) [
-  | inl r ↦ elim (same_or_not n d) [
-    | inl q ↦ inr (subst (λ k. was_ready ts c (site_d k) log ≡ true) (sym q) w)
-    | inr q ↦ inl (subst (λ l. contains l n ≡ true) z (has_without x.lacks d n r.0 q), r.1)
-  ]
-  | inr r ↦ inr r
-]
+ready_less ts c d log x ds h w z n p = grind (arith, same_or_not, has_without)
 
 ready_lacking : (ts c d : ℕ) (log : Log) (x : Exchange) (ds : List ℕ) → without x.lacks d ≡ ds
     → (lacking ts c x ds).modules ≡ x.modules → AreReady ts c log x → was_ready ts c (site_d d) log ≡ true → AreReady ts c log (lacking ts c x ds)
-ready_lacking ts c d log x [] z e h w = ready_ends ts c d log x (phase_ends ts c (record x { lacks = [] }) x.phase) e h w z
-ready_lacking ts c d log x (y ∷ rest) z e h w = ready_less ts c d log x (y ∷ rest) h w z
+ready_lacking ts c d log x ds z e h w = grind (arith, ready_ends, ready_less)
 
 ready_answered : (ts c d : ℕ) (log : Log) (x : Exchange) → AreReady ts c log x → was_ready ts c (site_d d) log ≡ true → AreReady ts c log (answered ts c d x)
 ready_answered ts c d log x h w = ready_lacking ts c d log x (without x.lacks d) refl (answered_goes ts c d x).modules_same h w
 
 -- once it reads no more, all are ready, and stay so
 ready_past : (ts c : ℕ) (log : Log) (x y : Exchange) → y.modules ≡ x.modules → is_reading x.phase ≡ false → AreReady ts c log x → AreReady ts c log y
-ready_past ts c log x y e f h n p = elim (h n (subst (λ ms. contains (firsts ms) n ≡ true) e p)) [
-  | inl r ↦ never (is_reading x.phase) r.1 f
-  | inr r ↦ inr r
-]
+ready_past ts c log x y e f h n p = grind (arith, never)
 
 ready_more : (ts c : ℕ) (e : Entry) (log : Log) (x : Exchange)
     → ((d : Site) → was_ready ts c d log ≡ true → was_ready ts c d (e ∷ log) ≡ true) → AreReady ts c log x → AreReady ts c (e ∷ log) x
@@ -170,19 +142,15 @@ is_past ts c log x f e =
 
 past_if : (ts c d : ℕ) (log : Log) (b : Bool) (x z : Exchange) → z.modules ≡ x.modules → (b ≡ true → is_reading x.phase ≡ false)
     → AreReady ts c log x → AreReady ts c log (if b then answered ts c d z else x)
-past_if ts c d log true x z e f h = ready_past ts c log x (answered ts c d z) ((answered_goes ts c d z).modules_same ∙ e) (f refl) h
-past_if ts c d log false x z e f h = h
+past_if ts c d log b x z e f h = grind (arith, ready_past, answered, answered_goes)
 
 got_if : (ts c d : ℕ) (log : Log) (b : Bool) (x z : Exchange) → AreReady ts c log z → (b ≡ true → was_ready ts c (site_d d) log ≡ true) → AreReady ts c log x
     → AreReady ts c log (if b then answered ts c d z else x)
-got_if ts c d log true x z h f k = ready_answered ts c d log z h (f refl)
-got_if ts c d log false x z h f k = k
+got_if ts c d log b x z h f k = grind (arith, ready_answered)
 
 got_ready : (ts c : ℕ) (d : DmNo) (t : Ts) (k : ClassNo) (counts : List (ℕ × ℕ)) (log : Log) → ((t.0 == ts) && (k.0 == c)) ≡ true
     → was_ready ts c (site_d d.0) (Handed (D d) (Ready t k counts) ∷ log) ≡ true
-got_ready ts c d t k counts log e =
-    or_left (same_site (D d) (D d) && is_ready ts c (Ready t k counts)) (was_ready ts c (D d) log)
-    (both (same_site (D d) (D d)) (is_ready ts c (Ready t k counts)) (site_self (D d)) e)
+got_ready ts c d t k counts log e = grind (arith, or_left, both, site_self)
 
 ready_hand : (ts c : ℕ) (d : DmNo) (m : Msg) (log : Log) (x : Exchange) → IsHonest log (Handed (D d) m)
     → (is_reading x.phase ≡ true → was_asked ts c log ≡ false) → AreReady ts c log x → AreReady ts c (Handed (D d) m ∷ log) (after_hand ts c d.0 m x)
@@ -228,10 +196,7 @@ starts_with s k log q (d ∷ ds) = ap (λ l. d ∷ l) (starts_with s k log q ds)
 
 begins_ready : (ts c : ℕ) (log : Log) (ms : List (ℕ × List ℕ)) (x : Exchange) → x.modules ≡ ms → x.lacks ≡ firsts ms
     → (ms ≡ [] → ⊥) ⊎ (ms ≡ []) → ((ms ≡ [] → ⊥) → is_reading x.phase ≡ true) → AreReady ts c log x
-begins_ready ts c log ms x e f d g n p = elim d [
-  | inl q ↦ inl (subst (λ l. contains l n ≡ true) (ap firsts e ∙ sym f) p, g q)
-  | inr q ↦ (let u : contains (firsts []) n ≡ true = subst (λ l. contains (firsts l) n ≡ true) (e ∙ q) p in cc)
-]
+begins_ready ts c log ms x e f d g n p = grind arith
 
 empty_or : (ms : List (ℕ × List ℕ)) → (ms ≡ [] → ⊥) ⊎ (ms ≡ [])
 empty_or [] = inr refl
@@ -239,8 +204,7 @@ empty_or (m ∷ ms) = inl (λ e. cc)
 
 begin_reads : (q : Queued) (sends : List (Site × Msg)) (ms : List (ℕ × List ℕ)) → filter_map module_read sends ≡ ms
     → (ms ≡ [] → ⊥) → is_reading (begins q.text sends).phase ≡ true
-begin_reads q sends [] e f = absurd (f refl)
-begin_reads q sends (m ∷ ms) e f = subst (λ (l : List (ℕ × List ℕ)). is_reading (first_phase l) ≡ true) (sym e) refl
+begin_reads q sends ms e f = grind arith
 
 readied_start : (s : Setting) (c : ℕ) (log : Log) (q : Queued) → Each (IsFair s) log
     → AllReadied s c (Did (start_at s c log q) ∷ log) (started (next_stamp s log) (sends_of_act (start_at s c log q)) (Some q))
@@ -257,9 +221,7 @@ readied_start s c log q h =
 -- an act that sends no question of the class
 readied_on : (s : Setting) (c : ℕ) (log : Log) (act : Act) (o : Option Attempt)
     → ((ts : ℕ) → asks_in ts c (sends_of_act act) ≡ false) → AllReadied s c log o → AllReadied s c (Did act ∷ log) o
-readied_on s c log act None f h = tt
-readied_on s c log act (Some a) f h =
-    record { modules_are = h.modules_are; ready = h.ready; unasked = λ p. neither _ (was_asked a.ts c log) (f a.ts) (h.unasked p) }
+readied_on s c log act o f h = grind (arith, neither)
 
 pub same_attempt : (s : Setting) (c : ℕ) (log : Log) (a b : Attempt) → active s c log ≡ Some a → active s c log ≡ Some b → b ≡ a
 same_attempt s c log a b e f = let p : Some a ≡ Some b = sym e ∙ f in cc
@@ -280,8 +242,7 @@ readied_send : (s : Setting) (c : ℕ) (log : Log) (to : Site) (m : Msg) (hand :
 readied_send s c log to m hand None e i h = tt
 readied_send s c log to m hand (Some a) e i h =
     let f = unasked_send s c log to m hand a e i h.unasked in
-    if_way (AllReadied s c (Did (Sends to m hand) ∷ log)) (asks_rows a.ts c m) (Some (record a { exchange = after_send a.exchange })) (Some a)
-    (record { modules_are = h.modules_are; ready = h.ready; unasked = f }) (record { modules_are = h.modules_are; ready = h.ready; unasked = f })
+    grind (arith, if_way)
 
 readied_act : (s : Setting) (c : ℕ) (log : Log) (act : Act) → Each (IsFair s) log → IsStep s log act
     → AllReadied s c log (active s c log) → AllReadied s c (Did act ∷ log) (active s c (Did act ∷ log))
@@ -301,9 +262,7 @@ readied_act s c log act fair i h = step_way s log act (λ x. AllReadied s c (Did
 
 same_readied : (s : Setting) (c : ℕ) (e : Entry) (log : Log) (o : Option Attempt) → ((ts : ℕ) → was_asked ts c (e ∷ log) ≡ was_asked ts c log)
     → ((ts : ℕ) (d : Site) → was_ready ts c d (e ∷ log) ≡ was_ready ts c d log) → AllReadied s c log o → AllReadied s c (e ∷ log) o
-same_readied s c e log None f g h = tt
-same_readied s c e log (Some a) f g h =
-    record { modules_are = h.modules_are; ready = ready_more a.ts c e log a.exchange (λ d p. g a.ts d ∙ p) h.ready; unasked = λ p. f a.ts ∙ h.unasked p }
+same_readied s c e log o f g h = grind (arith, ready_more)
 
 pub readied : (s : Setting) (c : ℕ) (log : Log) → Each (IsFair s) log → Each IsHonest log → AllReadied s c log (active s c log)
 readied s c [] h n = tt
@@ -313,14 +272,11 @@ readied s c (x ∷ log) h n = same_readied s c x log (active s c log) (λ ts. re
 
 -- of an attempt that reads no more
 over_not : (p : Phase) → is_over p ≡ true → is_reading p ≡ false
-over_not Reading e = cc
-over_not _ e = refl
+over_not p e = grind arith
 
 pub over_reads : (x : Exchange) → is_over x.phase ≡ true → is_reading x.phase ≡ false
 over_reads x e = over_not x.phase e
 
 pub all_ready : (s : Setting) (c : ℕ) (log : Log) (a : Attempt) (d : ℕ) → Each (IsFair s) log → Each IsHonest log
     → active s c log ≡ Some a → is_reading a.exchange.phase ≡ false → contains (modules_asked s c a.text) d ≡ true → was_ready a.ts c (site_d d) log ≡ true
-all_ready s c log a d h n e f p =
-    let i = subst (AllReadied s c log) e (readied s c log h n) in
-    elim (i.ready d (subst (λ l. contains l d ≡ true) (sym i.modules_are) p)) [ inl r ↦ never (is_reading a.exchange.phase) r.1 f | inr r ↦ r ]
+all_ready s c log a d h n e f p = grind (arith, readied, never)

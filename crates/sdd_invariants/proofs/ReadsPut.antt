@@ -1,5 +1,5 @@
 -- The READs of a class on a link have different, rising times.
-use Rattle.sdd_invariants.proofs.All.{Act, AllLt, Bool, Catalogue, Did, Each, Entry, IsFair, IsPutBy, IsSend, IsStep, IsStrict, List, Log, Msg, None, Null, Queued, Read, Sends, Setting, Site, Some, Submits, Write, [], a_held, a_hold, a_null, a_release, ap, append-nil, arith, ascending, asks_rows, bound, commit_act, cond, false, filter_map, filter_map-append, fragments_in, if◌then◌else◌, inl, inr, modules_asked, modules_of, next_stamp, number_of, numbers_to, of_exchange, puts_to, read_at, reads_at, reads_in, refl, same_site, sends_of_act, slice_get, start_at, start_read, subst, suc, sym, to_site, true, uses_of, ℕ, ◌++◌, ◌<◌, ◌==◌, ◌∙◌, ◌∷◌, ◌≡◌, ◌≤◌, ◌⊎◌}
+use Rattle.sdd_invariants.proofs.All.{Act, AllLt, Bool, Catalogue, Did, Each, Entry, IsFair, IsPutBy, IsSend, IsStep, IsStrict, List, Log, Msg, None, Queued, Sends, Setting, Site, Some, Submits, [], ap, append-nil, arith, ascending, asks_rows, bound, commit_act, cond, filter_map, filter_map-append, fragments_in, if◌then◌else◌, inl, inr, modules_asked, modules_of, next_stamp, number_of, numbers_to, puts_to, read_at, reads_at, reads_in, refl, same_site, sends_of_act, slice_get, start_at, start_read, subst, suc, to_site, true, uses_of, ℕ, ◌++◌, ◌<◌, ◌==◌, ◌∙◌, ◌∷◌, ◌≡◌, ◌≤◌, ◌⊎◌}
 use Rattle.sdd_invariants.proofs.Clocks.{bound_rises, clock_number}
 use Rattle.sdd_invariants.proofs.WritesPut.{commit_puts}
 use Rattle.sdd_invariants.proofs.Active.{step_way}
@@ -17,12 +17,7 @@ pub record OpensRead (s : Setting) (c : ℕ) (b : Site) (log : Log) (act : Act) 
   pub puts : (reads_in c (to_site b (sends_of_act act)) ≡ []) ⊎ ((t : ℕ) × (bound s log < t) × (t ≤ bound s (Did act ∷ log)) × (reads_in c (to_site b (sends_of_act act)) ≡ t ∷ []))
 
 read_one : (c k t : ℕ) (m : Msg) → read_at c m ≡ cond (k == c) (Some t) None → (reads_in c (m ∷ []) ≡ []) ⊎ (reads_in c (m ∷ []) ≡ t ∷ [])
-read_one c k t m e =
-    elim (k == c) as (λ b. read_at c m ≡ cond b (Some t) None → (reads_in c (m ∷ []) ≡ []) ⊎ (reads_in c (m ∷ []) ≡ t ∷ [])) [
-      | true ↦ λ p. inr
-          (rw p refl)
-      | false ↦ λ p. inl (rw p refl)
-    ] e
+read_one c k t m e = grind (arith, read_at, cond)
 
 -- what a Start puts on a link
 pub start_puts : (s : Setting) (c : ℕ) (b : Site) (log : Log) (q : Queued)
@@ -45,19 +40,13 @@ start_reads s k c b log q w =
     }
 
 no_reads_if : (c : ℕ) (b : Bool) (m : Msg) → read_at c m ≡ None → reads_in c (if b then m ∷ [] else []) ≡ []
-no_reads_if c true m e = rw e refl
-no_reads_if c false m e = refl
+no_reads_if c b m e = grind arith
 
 asks_not_read : (ts k c : ℕ) (m : Msg) → asks_rows ts k m ≡ true → read_at c m ≡ None
-asks_not_read ts k c (Read a b t u v w) e = cc
-asks_not_read ts k c _ e = refl
+asks_not_read ts k c m e = grind arith
 
 send_not_read : (s : Setting) (c : ℕ) (log : Log) (m : Msg) → IsSend s log m → read_at c m ≡ None
-send_not_read s c log m (of_exchange k a at i e w) = asks_not_read a.ts k c m e
-send_not_read s c log m (a_null k at e) = ap (read_at c) e
-send_not_read s c log m (a_held e) = ap (read_at c) e
-send_not_read s c log m (a_hold e) = ap (read_at c) e
-send_not_read s c log m (a_release ts e) = ap (read_at c) e
+send_not_read s c log m e = grind (arith, asks_not_read, read_at)
 
 pub opens_read : (s : Setting) (c : ℕ) (b : Site) (log : Log) (act : Act) → number_of s.site ≤ 63 → IsStep s log act → OpensRead s c b log act
 opens_read s c b log act w i = step_way s log act (OpensRead s c b log) (λ k q at f e. start_reads s k c b log q w)
@@ -93,17 +82,10 @@ read_once s c b (Did act ∷ log) w h =
 read_once s c b (x ∷ log) w h = read_on s c b log x (bound_rises s x log) refl (read_once s c b log w h.1)
 
 asks_by : (s : Setting) (log : Log) (act : Act) (ts k : ℕ) (m : Msg) → asks_rows ts k m ≡ true → IsPutBy s log act m
-asks_by s log act ts k (Read a b t u v w) e = cc
-asks_by s log act ts k (Write a b t u) e = cc
-asks_by s log act ts k (Null a b) e = cc
-asks_by s log act ts k _ e = tt
+asks_by s log act ts k m e = grind arith
 
 send_by : (s : Setting) (log : Log) (act : Act) (m : Msg) → IsSend s log m → IsPutBy s log act m
-send_by s log act m (of_exchange k a at i e w) = asks_by s log act a.ts k m e
-send_by s log act m (a_null k at e) = subst (IsPutBy s log act) (sym e) (at, refl)
-send_by s log act m (a_held e) = subst (IsPutBy s log act) (sym e) tt
-send_by s log act m (a_hold e) = subst (IsPutBy s log act) (sym e) tt
-send_by s log act m (a_release ts e) = subst (IsPutBy s log act) (sym e) tt
+send_by s log act m e = grind (arith, asks_by)
 
 pub put_by : (s : Setting) (b : Site) (log : Log) (act : Act) (k : ℕ) (m : Msg) → IsStep s log act
     → slice_get (to_site b (sends_of_act act)) k ≡ Some m → IsPutBy s log act m

@@ -1,5 +1,5 @@
 -- The records of a site that runs transactions: a Start is that of its queue's head, a Commit that of the class's active attempt; and an active attempt has its Start.
-use Rattle.sdd_invariants.proofs.All.{Act, AllCommitted, Attempt, Bases, Bool, Did, Each, Entry, Handed, HasStart, IsFair, IsFirstLeft, IsNew, IsRecord, IsServed, IsStep, List, Log, None, Option, Queued, Says, Sends, Setting, Some, Submits, Txn, WasSubmitted, [], active, ap, arith, bound, commit_act, current_era, dec_le, false, filter_map, head_of, home, if◌then◌else◌, inl, inr, is_committed, is_for, is_recorded, last_stamp, length, next_stamp, number_of, queue, queued, refl, sends_of_act, slice_get, stamps, start_at, started, starts_of, submits_of, subst, suc, sym, take, take-append-le, take_all, true, zero, ℕ, ◌++◌, ◌<◌, ◌∙◌, ◌∷◌, ◌≡◌, ◌≤◌}
+use Rattle.sdd_invariants.proofs.All.{Act, AllCommitted, Attempt, Bases, Bool, Did, Each, Entry, Handed, HasStart, IsFair, IsFirstLeft, IsNew, IsRecord, IsServed, IsStep, List, Log, None, Option, Queued, Says, Setting, Some, Submits, Txn, WasSubmitted, [], active, ap, arith, bound, commit_act, current_era, dec_le, false, filter_map, head_of, home, if◌then◌else◌, is_committed, is_for, is_recorded, last_stamp, length, next_stamp, number_of, queue, queued, refl, sends_of_act, slice_get, stamps, start_at, started, starts_of, submits_of, subst, suc, sym, take, take-append-le, take_all, true, zero, ℕ, ◌++◌, ◌<◌, ◌∙◌, ◌∷◌, ◌≡◌, ◌≤◌}
 use Rattle.sdd_invariants.proofs.Clocks.{clocked, stamp_below_bound}
 use Rattle.sdd_invariants.proofs.Queues.{queue_is, served_head}
 use Rattle.sdd_invariants.proofs.Active.{handed_way, sent_way, step_way}
@@ -38,27 +38,12 @@ started_now s c log q at f e =
 
 started_act : (s : Setting) (c : ℕ) (log : Log) (act : Act) → IsStep s log act → IsStarted s c log (active s c log)
     → IsStarted s c (Did act ∷ log) (active s c (Did act ∷ log))
-started_act s c log act i h = step_way s log act (λ x. IsStarted s c (Did x ∷ log) (active s c (Did x ∷ log)))
-    (λ k q at f e. elim (same_or_not k c) [
-      | inl p ↦ subst (λ j. IsStarted s j (Did (start_at s k log q) ∷ log) (active s j (Did (start_at s k log q) ∷ log))) p
-          (rw (same_number k) (subst
-          (λ o. IsStarted s k (Did (start_at s k log q) ∷ log) (started (next_stamp s log) (sends_of_act (start_at s k log q)) o)) (sym e)
-          (started_now s k log q at f e)))
-      | inr p ↦ rw p (started_more s c (Did (start_at s k log q)) log (active s c log) p h)
-    ])
-    (λ k bases a at f. elim (same_or_not k c) [
-      | inl p ↦ subst (λ j. IsStarted s j (Did (commit_act s.catalogue bases k a) ∷ log) (active s j (Did (commit_act s.catalogue bases k a) ∷ log))) p
-          (rw (same_number k) tt)
-      | inr p ↦ rw p (started_more s c (Did (commit_act s.catalogue bases k a)) log (active s c log) p h)
-    ])
-    (λ to m hand f. let j = started_more s c (Did (Sends to m hand)) log (active s c log) refl h in
-    sent_way (IsStarted s c (Did (Sends to m hand) ∷ log)) c m (active s c log) (λ a x e. subst (IsStarted s c (Did (Sends to m hand) ∷ log)) e j) j) i
+started_act s c log act i h =
+    grind (arith, step_way, active, same_or_not, start_at, same_number, started, started_now, started_more, sent_way)
 
 pub started_is : (s : Setting) (c : ℕ) (log : Log) → Each (IsFair s) log → IsStarted s c log (active s c log)
 started_is s c [] h = tt
-started_is s c (Handed from m ∷ log) h =
-    let j = started_more s c (Handed from m) log (active s c log) refl (started_is s c log h.1) in
-    handed_way (IsStarted s c (Handed from m ∷ log)) c from m (active s c log) tt (λ a x e. subst (IsStarted s c (Handed from m ∷ log)) e j) j
+started_is s c (Handed from m ∷ log) h = grind (arith, started_more, active, handed_way, started_is s c log h.1)
 started_is s c (Did act ∷ log) h = started_act s c log act h.0 (started_is s c log h.1)
 started_is s c (x ∷ log) h = started_more s c x log (active s c log) refl (started_is s c log h.1)
 
@@ -173,18 +158,7 @@ commit_says : (s : Setting) (c : ℕ) (bases : Bases) (log : Log) (a : Attempt) 
 commit_says s c bases log a h n at e =
     let r = served_head a (queue s c log) (subst (λ o. IsServed o (queue s c log)) e (queue_is s c log h n).served) in
     let l = head_left s c log r.0 h n r.1 in
-    record {
-      at_home = at;
-      now = a;
-      active_is = e;
-      number_is = refl;
-      try_is = refl;
-      bases = bases;
-      changes_are = refl;
-      start = start_of_active s c log a h e;
-      first = subst (λ k. is_committed c k log ≡ false) r.2 l.not_committed;
-      last_try = sym r.4 ∙ l.tries_are ∙ ap (λ k. starts_of c k log) r.2;
-    }
+    grind (arith, start_of_active, is_committed)
 
 pub says : (s : Setting) (log : Log) (act : Act) → number_of s.site ≤ 63 → Each (IsFair s) log → Each IsNew log → IsStep s log act → Says s log act
 says s log act w h n i = step_way s log act (Says s log)

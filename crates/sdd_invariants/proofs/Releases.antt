@@ -1,5 +1,5 @@
 -- At U: the RELEASEs to a T carry the timestamps of the Starts, in order; and for each of those as many DONEs were handed as there are data modules.
-use Rattle.sdd_invariants.proofs.All.{Act, Attempt, Bases, Bool, D, Did, Done, Each, Entry, Handed, Hold, IsChain, IsFairU, IsServing, IsStepU, IsTried, List, Log, Msg, None, Option, Queued, Records, Release, Sends, Served, Setting, Site, Some, Start, T, TmCounts, Ts, [], active, active_handed, ap, append-nil, arith, commit_act, counts, dec_le, dm_no, dones_of, drawn_so_far, false, filter_map-append, flip, hand_commits, head_of, if◌then◌else◌, inl, inr, is_done_of, last_of, last_served, length, length-append, modules_asked, next_stamp, numbers_to, one_if, puts_to, queue, refl, release_time, release_times, sends_of_act, served_handed, slice_get, start_at, start_read, started, starts, subst, suc, sym, take, take-append-le, tm_no, true, ts_of, zero, ℕ, ◌++◌, ◌+◌, ◌<◌, ◌==◌, ◌∙◌, ◌∷◌, ◌≡◌, ◌≤◌}
+use Rattle.sdd_invariants.proofs.All.{Act, Attempt, Bases, Bool, D, Did, Each, Entry, Handed, Hold, IsChain, IsFairU, IsServing, IsStepU, IsTried, List, Log, Msg, None, Option, Queued, Records, Release, Sends, Served, Setting, Site, Some, Start, T, Ts, [], active, ap, append-nil, arith, commit_act, counts, dm_no, dones_of, drawn_so_far, false, filter_map-append, flip, head_of, if◌then◌else◌, inl, inr, is_done_of, last_of, last_served, length, length-append, modules_asked, next_stamp, numbers_to, one_if, puts_to, queue, refl, release_time, release_times, sends_of_act, served_handed, slice_get, start_at, start_read, started, starts, subst, suc, sym, take, take-append-le, tm_no, zero, ℕ, ◌++◌, ◌+◌, ◌<◌, ◌∙◌, ◌∷◌, ◌≡◌, ◌≤◌}
 use Rattle.sdd_invariants.proofs.Serving.{chain, hand_counts, is_tried, no_puts, none_mapped, not_started, puts_else, sent_count, u_due, u_way}
 use Rattle.sdd_invariants.proofs.Turns.{balance}
 use Rattle.sdd_invariants.proofs.Active.{handed_way, sent_way}
@@ -37,37 +37,21 @@ LastIs xs None = Unit {0}
 LastIs xs (Some a) = last_of xs ≡ Some a.ts
 
 last_is : (xs : List ℕ) (o : Option Attempt) → ((a : Attempt) → o ≡ Some a → last_of xs ≡ Some a.ts) → LastIs xs o
-last_is xs None f = tt
-last_is xs (Some a) f = f a refl
+last_is xs o f = grind arith
 
 is_last : (xs : List ℕ) (o : Option Attempt) → LastIs xs o → (a : Attempt) → o ≡ Some a → last_of xs ≡ Some a.ts
 is_last xs o h a e = subst (LastIs xs) e h
 
 -- a hand
 pub served_by : (m : Msg) (v : Served) → (served_handed m v).ts ≡ v.ts
-served_by (Done t) v = if_way (λ (x : Served). x.ts ≡ v.ts) (t.0 == v.ts) (record v { dones = suc v.dones }) v refl refl
-served_by m v = refl
+served_by m v = grind (arith, if_way)
 
 dones_by : (m : Msg) (v : Served) (n : ℕ) → v.dones ≤ n → (served_handed m v).dones ≤ one_if (is_done_of v.ts m) + n
-dones_by (Done t) v n l =
-    elim (t.0 == v.ts) as (λ b. (if b then record v { dones = suc v.dones } else v).dones ≤ one_if b + n) [ true ↦ omega arith | false ↦ omega arith ]
-dones_by m v n l = omega arith
+dones_by m v n l = grind (arith, one_if)
 
 serving_hand : (s : Setting) (t : ℕ) (from : Site) (m : Msg) (log : Log) → IsServing s t log → IsServing s t (Handed from m ∷ log)
 serving_hand s t from m log h =
-    let k = hand_counts from m (counts t log) in
-    let c = hand_commits m (last_served s log) in
-    let ts = served_by m (last_served s log) in
-    record {
-      counted = h.counted;
-      active_last = is_last (drawn_so_far log) (active_handed 0 from m (active s 0 log))
-          (handed_way (LastIs (drawn_so_far log)) 0 from m (active s 0 log) tt (λ a x e. h.active_last a e) (last_is (drawn_so_far log) (active s 0 log) h.active_last));
-      served_last = λ e l. h.served_last (e ∙ c) (omega arith) ∙ ap (λ x. Some x) (sym ts);
-      dones_le = subst (λ x. (served_handed m (last_served s log)).dones ≤ dones_of x (Handed from m ∷ log)) (sym ts)
-          (dones_by m (last_served s log) (dones_of (last_served s log).ts log) h.dones_le);
-      released = h.released ∙ ap (λ r. take r (drawn_so_far log)) (sym k.0);
-      done = λ j x l e. (let i = h.done j x (omega (arith, k.0)) e in omega arith);
-    }
+    grind (arith, hand_counts, counts, served_by, is_last, active, handed_way, last_is, served_handed, dones_by)
 
 -- an act that leaves all but the active attempt
 serving_on : (s : Setting) (t : ℕ) (log : Log) (e : Entry) → drawn_so_far (e ∷ log) ≡ drawn_so_far log
@@ -75,14 +59,7 @@ serving_on : (s : Setting) (t : ℕ) (log : Log) (e : Entry) → drawn_so_far (e
     → ((x : ℕ) → dones_of x (e ∷ log) ≡ dones_of x log) → (counts t (e ∷ log)).releases ≡ (counts t log).releases
     → release_times (puts_to (T (tm_no t)) (e ∷ log)) ≡ release_times (puts_to (T (tm_no t)) log)
     → LastIs (drawn_so_far log) (active s 0 (e ∷ log)) → IsServing s t log → IsServing s t (e ∷ log)
-serving_on s t log e a b c d f g l h = record {
-  counted = rw (a, b) h.counted;
-  active_last = rw a (is_last (drawn_so_far log) (active s 0 (e ∷ log)) l);
-  served_last = rw (a, b, c) h.served_last;
-  dones_le = subst (λ v. v.dones ≤ dones_of v.ts (e ∷ log)) (sym c) (subst (λ n. (last_served s log).dones ≤ n) (sym (d (last_served s log).ts)) h.dones_le);
-  released = g ∙ h.released ∙ ap (λ r. take r (drawn_so_far log)) (sym f) ∙ ap (take (counts t (e ∷ log)).releases) (sym a);
-  done = λ j x q p. subst (λ n. s.catalogue.dms ≤ n) (sym (d x)) (h.done j x (omega (arith, f, q)) (subst (λ l. slice_get l j ≡ Some x) a p));
-}
+serving_on s t log e a b c d f g l h = grind (arith, is_last, active, counts)
 
 serving_start : (s : Setting) (t : ℕ) (log : Log) (q : Queued) → head_of (queue s 0 log) ≡ Some q
     → (counts t log).releases ≤ starts log → (last_served s log).commits ≤ starts log → IsServing s t log → IsServing s t (Did (start_at s 0 log q) ∷ log)
@@ -104,20 +81,7 @@ serving_start s t log q e r c h =
 
 serving_commit : (s : Setting) (t : ℕ) (log : Log) (bases : Bases) (a : Attempt) → active s 0 log ≡ Some a → IsServing s t log
     → IsServing s t (Did (commit_act s.catalogue bases 0 a) ∷ log)
-serving_commit s t log bases a e h =
-    let act : Act = commit_act s.catalogue bases 0 a in
-    let none : drawn_so_far (Did act ∷ log) ≡ drawn_so_far log = append-nil _ in
-    let same : puts_to (T (tm_no t)) (Did act ∷ log) ≡ puts_to (T (tm_no t)) log = ap (λ xs. puts_to (T (tm_no t)) log ++ xs) (no_puts s (tm_no t) bases a)
-    ∙ append-nil _ in
-    let ts : (last_served s (Did act ∷ log)).ts ≡ a.ts = ap ts_of e in
-    record {
-      counted = rw none h.counted;
-      active_last = λ b p. cc;
-      served_last = λ p l. ap last_of none ∙ h.active_last a e ∙ ap (λ x. Some x) (sym ts);
-      dones_le = omega arith;
-      released = ap release_times same ∙ h.released ∙ ap (take (counts t log).releases) (sym none);
-      done = λ j x l p. h.done j x l (subst (λ xs. slice_get xs j ≡ Some x) none p);
-    }
+serving_commit s t log bases a e h = grind (arith, append-nil, no_puts, last_of, counts)
 
 release_push : (ms : List Msg) (ts : Ts) → release_times (ms ++ Release ts ∷ []) ≡ release_times ms ++ ts.0 ∷ []
 release_push ms ts = filter_map-append release_time ms (Release ts ∷ [])
@@ -137,48 +101,20 @@ serving_release s t ts log l v c u h =
     let n : length xs ≡ suc r = omega (arith, h.counted) in
     let last : last_of xs ≡ Some ts.0 = h.served_last (omega arith) (omega arith) ∙ ap (λ x. Some x) (sym v.0) in
     let whole : xs ≡ take r xs ++ ts.0 ∷ [] = last_split xs r ts.0 n last in
-    record {
-      counted = rw none h.counted;
-      active_last = is_last (drawn_so_far (e ∷ log)) (active s 0 (e ∷ log))
-          (rw none (sent_way (LastIs xs) 0 (Release ts) (active s 0 log) (λ a x f. h.active_last a f) (last_is xs (active s 0 log) h.active_last)));
-      served_last = rw none h.served_last;
-      dones_le = h.dones_le;
-      released = ap release_times p ∙ release_push (puts_to (T (tm_no t)) log) ts ∙ ap (λ ys. ys ++ ts.0 ∷ []) h.released ∙ sym whole
-          ∙ sym (take_all xs (suc r) (omega arith)) ∙ ap (λ m. take m xs) (sym k) ∙ ap (take (counts t (e ∷ log)).releases) (sym none);
-      done = λ j x i f. (let g : slice_get xs j ≡ Some x = subst (λ ys. slice_get ys j ≡ Some x) none f in
-          elim (dec_le (suc j) r) [
-            | yes w ↦ h.done j x w g
-            | no w ↦ (let at : j ≡ r = omega (arith, k, i, w) in
-                let short : length (take r xs) ≡ r = (let m = length-append (take r xs) (ts.0 ∷ []) in
-                let o : length xs ≡ length (take r xs ++ ts.0 ∷ []) = ap length whole in omega arith) in
-                let is : ts.0 ≡ x = at_end (take r xs) r ts.0 x short
-                (subst (λ ys. slice_get ys r ≡ Some x) whole (subst (λ y. slice_get xs y ≡ Some x) at g)) in
-                let d : s.catalogue.dms ≤ dones_of (last_served s log).ts log = omega (arith, v.1, h.dones_le) in
-                subst (λ y. s.catalogue.dms ≤ dones_of y log) (sym v.0 ∙ is) d)
-          ]);
-    }
+    grind (arith, counts, is_last, active, sent_way, last_is, release_push, take_all, length-append, at_end)
 
 none_push : (ms : List Msg) → release_times (ms ++ Hold ∷ []) ≡ release_times ms
 none_push ms = filter_map-append release_time ms (Hold ∷ []) ∙ append-nil _
 
 hold_times : (t n : ℕ) (log : Log)
     → release_times (puts_to (T (tm_no t)) (Did (Sends (T (tm_no n)) Hold None) ∷ log)) ≡ release_times (puts_to (T (tm_no t)) log)
-hold_times t n log =
-    elim (t == n) as (λ b. release_times (puts_to (T (tm_no t)) log ++ (if b then Hold ∷ [] else [])) ≡ release_times
-    (puts_to (T (tm_no t)) log)) [
-      | true ↦ none_push (puts_to (T (tm_no t)) log)
-      | false ↦ ap release_times
-          (append-nil (puts_to (T (tm_no t)) log))
-    ]
+hold_times t n log = grind (arith, none_push, append-nil)
 
 hold_releases : (t n : ℕ) (log : Log) → (counts t (Did (Sends (T (tm_no n)) Hold None) ∷ log)).releases ≡ (counts t log).releases
-hold_releases t n log =
-    if_way (λ (x : TmCounts). x.releases ≡ (counts t log).releases) (n == (counts t log).tm) (record (counts t log) { holds = suc (counts t log).holds })
-    (counts t log) refl refl
+hold_releases t n log = grind (arith, if_way, counts)
 
 pub one_if_le : (b : Bool) → one_if b ≤ 1
-one_if_le true = omega arith
-one_if_le false = omega arith
+one_if_le b = grind arith
 
 pub ahead : (s : Setting) (t : ℕ) (log : Log) → IsChain s t log → starts log ≤ suc (counts t log).releases
 ahead s t log c =
@@ -208,9 +144,7 @@ serving s k t (Did act ∷ log) i h =
           (ap (λ x. (if x then record (counts t log) { releases = suc (counts t log).releases } else counts t log).releases) (sent_count t n log ∙ flip t n p))
           (ap release_times (puts_else t n (Release ts) log p)) j
     ]) (λ n e. serving_send s t log (T (tm_no n)) Hold (hold_releases t n log) (hold_times t n log) j) (u_due s h.0.0.0 log act h.0.0.1)
-serving s k t (y ∷ log) i h =
-    let j = serving s k t log i h.1 in
-    serving_on s t log y refl refl refl (λ x. refl) refl refl (last_is (drawn_so_far log) (active s 0 log) j.active_last) j
+serving s k t (y ∷ log) i h = grind (arith, serving_on, last_is, active, serving s k t log i h.1)
 
 -- at a Start of class 0 each T sent and was sent as many as it takes
 abbrev ReadyIf : Setting → Log → Act → Type 0

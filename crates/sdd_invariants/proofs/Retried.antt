@@ -1,5 +1,5 @@
 -- A transaction that is tried again is still its queue's head, and the REJECT of its last attempt was handed after that attempt's Start.
-use Rattle.sdd_invariants.proofs.All.{Act, AllZero, Attempt, Bool, ClassNo, D, Did, DmNo, Each, Entry, Handed, IsFair, IsNew, IsRejected, IsServed, IsStep, List, Log, Msg, None, Option, Queued, Reject, Sends, Setting, Site, Some, Submits, Ts, Txn, ZeroBut, [], active, active_handed, active_sent, after_hand, ap, arith, commit_act, cond, current_era, eqb-true, false, filter, head_of, if◌then◌else◌, inl, inr, is_for, is_recorded, map, next_stamp, not, queue, refl, rejects, sends_of_act, start_at, started, subst, suc, sym, tried, true, ℕ, ◌&&◌, ◌++◌, ◌<◌, ◌==◌, ◌∙◌, ◌∷◌, ◌≡◌, ◌⊎◌}
+use Rattle.sdd_invariants.proofs.All.{Act, AllZero, Attempt, Bool, ClassNo, D, Did, DmNo, Each, Entry, Handed, IsFair, IsNew, IsRejected, IsServed, IsStep, List, Log, Msg, None, Option, Queued, Reject, Sends, Setting, Site, Some, Submits, Ts, Txn, ZeroBut, [], active, active_handed, active_sent, ap, arith, commit_act, cond, current_era, eqb-true, false, filter, head_of, if◌then◌else◌, inl, inr, is_for, is_recorded, map, next_stamp, not, queue, refl, rejects, sends_of_act, start_at, started, subst, suc, sym, tried, true, ℕ, ◌++◌, ◌<◌, ◌==◌, ◌∙◌, ◌∷◌, ◌≡◌, ◌⊎◌}
 use Rattle.sdd_invariants.proofs.Queues.{queue_is}
 use Rattle.sdd_invariants.proofs.Active.{sent_way, step_way}
 use Rattle.sdd_invariants.proofs.Bools.{same_number, same_or_not}
@@ -47,8 +47,7 @@ tried_more s c e log qs o p r f h = elim h [
 ]
 
 head_push : (n k : ℕ) (qs : List Queued) (q : Queued) → IsHead n k qs → IsHead n k (qs ++ q ∷ [])
-head_push n k [] q h = absurd h
-head_push n k (x ∷ qs) q h = h
+head_push n k qs q h = grind arith
 
 but_tried : (n : ℕ) (qs : List Queued) → ZeroBut n qs → ZeroBut n (map (tried n) qs)
 but_tried n [] h = tt
@@ -81,18 +80,11 @@ head_is n k (x ∷ qs) q h e = let p : x ≡ q = cc in (ap (λ (y : Queued). y.n
 
 -- the active attempt, where there is one, is the head's
 head_served : (a : Attempt) (qs : List Queued) (n k : ℕ) → IsServed (Some a) qs → IsHead n k qs → (a.txn ≡ n) × (a.attempt ≡ k)
-head_served a [] n k h i = absurd h
-head_served a (q ∷ qs) n k h i = (sym h.0 ∙ i.0, sym h.2 ∙ i.1)
+head_served a qs n k h i = grind arith
 
 -- a hand that ends it is a REJECT
 reject_by : (m : Msg) (ts c : ℕ) → rejects m ts c ≡ true → (t : Ts) × (k : ClassNo) × (by : ClassNo) × (w : Ts) × (m ≡ Reject t k by w) × (t.0 ≡ ts) × (k.0 ≡ c)
-reject_by (Reject t k by w) ts c e = elim (t.0 == ts) as
-    (λ b. (t.0 == ts) ≡ b → (b && (k.0 == c)) ≡ true → (t2 : Ts) × (k2 : ClassNo) × (by2 : ClassNo) × (w2 : Ts) ×
-    (Reject t k by w ≡ Reject t2 k2 by2 w2) × (t2.0 ≡ ts) × (k2.0 ≡ c)) [
-      | true ↦ λ p q. (t, k, by, w, refl, eqb-true t.0 ts p, eqb-true k.0 c q)
-      | false ↦ λ p q. cc
-    ] refl e
-reject_by _ ts c e = cc
+reject_by m ts c e = grind (arith, eqb-true)
 
 ends_by : (s : Setting) (c : ℕ) (log : Log) (d : DmNo) (m : Msg) (a : Attempt) (n k : ℕ) → active s c log ≡ Some a
     → (a.txn ≡ n) × (a.attempt ≡ k) → rejects m a.ts c ≡ true → IsRejected s c (Handed (D d) m ∷ log) n k
@@ -103,12 +95,7 @@ ends_by s c log d m a n k e f r =
 ended : (s : Setting) (c : ℕ) (log : Log) (from : Site) (m : Msg) (o : Option Attempt) (n k : ℕ) → active s c log ≡ o
     → IsServed o (queue s c log) → IsHead n k (queue s c log) → (o ≡ None → IsRejected s c log n k)
     → active_handed c from m o ≡ None → IsRejected s c (Handed from m ∷ log) n k
-ended s c log (D d) m (Some a) n k e v h f g =
-    elim (rejects m a.ts c) as
-    (λ b. rejects m a.ts c ≡ b → (if b then None else Some (record a { exchange = after_hand a.ts c d.0 m a.exchange })) ≡ None → IsRejected s c (Handed (D d) m ∷ log) n k) [
-      | true ↦ λ r x. ends_by s c log d m a n k e (head_served a (queue s c log) n k v h) r
-      | false ↦ λ r x. cc
-    ] refl g
+ended s c log (D d) m (Some a) n k e v h f g = grind (arith, ends_by, head_served)
 ended s c log (D d) m None n k e v h f g = rejected_more s c (Handed (D d) m) log n k refl (f refl)
 ended s c log x m o n k e v h f g = rejected_more s c (Handed x m) log n k refl (f g)
 
@@ -134,8 +121,7 @@ tried_submit s c log k txn true h = elim h [
 ]
 
 started_not : (ts : ℕ) (sends : List (Site × Msg)) (o : Option Queued) (q : Queued) → o ≡ Some q → started ts sends o ≡ None → ⊥
-started_not ts sends None q e f = cc
-started_not ts sends (Some x) q e f = cc
+started_not ts sends o q e f = grind arith
 
 tried_start : (s : Setting) (c : ℕ) (log : Log) (q : Queued) → head_of (queue s c log) ≡ Some q → IsTriedAt s c log (queue s c log) (active s c log)
     → IsTriedAt s c (Did (start_at s c log q) ∷ log) (map (tried q.number) (queue s c log))
@@ -168,8 +154,7 @@ tried_commit s c log more a o e v h = elim h [
 ]
 
 sent_none : (c : ℕ) (m : Msg) (o : Option Attempt) → active_sent c m o ≡ None → o ≡ None
-sent_none c m None e = refl
-sent_none c m (Some a) e = sent_way (λ p. p ≡ None → Some a ≡ None) c m (Some a) (λ b x f g. cc) (λ g. cc) e
+sent_none c m o e = grind (arith, sent_way)
 
 tried_act : (s : Setting) (c : ℕ) (log : Log) (act : Act) → IsStep s log act → IsServed (active s c log) (queue s c log)
     → IsTriedAt s c log (queue s c log) (active s c log) → IsTriedAt s c (Did act ∷ log) (queue s c (Did act ∷ log)) (active s c (Did act ∷ log))

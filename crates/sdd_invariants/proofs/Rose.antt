@@ -1,5 +1,5 @@
 -- At a T: the HELD that was sent as number n + 1 and the log before it, its time, and that a Start comes where it isn't on hold.
-use Rattle.sdd_invariants.proofs.All.{Act, AllIdle, Bases, Did, Entry, Handed, Held, HoldCounts, IsHeldAt, IsSend, IsStep, Log, Msg, Option, Queued, Sends, Setting, Site, Ts, [], a_held, a_hold, a_null, a_release, ap, arith, asks_rows, bound, hands, holds, holds_acted, of_exchange, refl, start_at, subst, suc, sym, true, ℕ, ◌++◌, ◌∙◌, ◌∷◌, ◌≡◌, ◌≤◌}
+use Rattle.sdd_invariants.proofs.All.{Act, AllIdle, Bases, Did, Entry, Handed, Held, HoldCounts, IsHeldAt, IsSend, IsStep, Log, Msg, Option, Queued, Sends, Setting, Site, Ts, [], ap, arith, asks_rows, bound, hands, holds, holds_acted, refl, start_at, suc, sym, true, ℕ, ◌++◌, ◌∙◌, ◌∷◌, ◌≡◌, ◌≤◌}
 use Rattle.sdd_invariants.proofs.Holding.{hand_helds, hold_rule}
 use Rattle.sdd_invariants.proofs.Active.{step_way}
 use Rattle.sdd_log.specs.tm.Due.{IsDue}
@@ -19,8 +19,7 @@ held_rose (Did act ∷ log) n e = held_by act log n (held_rose log n) e
 held_rose (x ∷ log) n e = held_more x log n (held_rose log n e)
 
 helds_by : (act : Act) (h : HoldCounts) → h.helds ≤ (holds_acted act h).helds
-helds_by (Sends to (Held t) hand) h = omega arith
-helds_by act h = omega arith
+helds_by act h = grind arith
 
 pub helds_grow : (later log : Log) → (holds log).helds ≤ (holds (later ++ log)).helds
 helds_grow [] log = omega arith
@@ -34,15 +33,10 @@ HeldSays s log (Sends to (Held t) hand) = t.0 ≡ bound s log
 HeldSays s log act = Unit {0}
 
 held_asks : (s : Setting) (ts c : ℕ) (log : Log) (to : Site) (m : Msg) (hand : Option ℕ) → asks_rows ts c m ≡ true → HeldSays s log (Sends to m hand)
-held_asks s ts c log to (Held t) hand e = cc
-held_asks s ts c log to m hand e = tt
+held_asks s ts c log to m hand e = grind arith
 
 held_send : (s : Setting) (log : Log) (to : Site) (m : Msg) (hand : Option ℕ) → IsSend s log m → HeldSays s log (Sends to m hand)
-held_send s log to m hand (of_exchange c a at i e w) = held_asks s a.ts c log to m hand e
-held_send s log to m hand (a_null c at e) = subst (λ x. HeldSays s log (Sends to x hand)) (sym e) tt
-held_send s log to m hand (a_held e) = subst (λ x. HeldSays s log (Sends to x hand)) (sym e) refl
-held_send s log to m hand (a_hold e) = subst (λ x. HeldSays s log (Sends to x hand)) (sym e) tt
-held_send s log to m hand (a_release t e) = subst (λ x. HeldSays s log (Sends to x hand)) (sym e) tt
+held_send s log to m hand e = grind (arith, held_asks)
 
 pub held_time : (s : Setting) (log : Log) (to : Site) (t : Ts) (hand : Option ℕ) → IsStep s log (Sends to (Held t) hand) → t.0 ≡ bound s log
 held_time s log to t hand i =

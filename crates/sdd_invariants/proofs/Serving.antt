@@ -1,5 +1,5 @@
 -- The chain of holds at U.
-use Rattle.sdd_invariants.proofs.All.{Act, AllZero, Attempt, Bases, Bool, D, Did, Each, Entry, Handed, Held, Hold, IsChain, IsFairU, IsServed, IsStepU, IsTried, List, Log, Msg, None, Option, Queued, Release, Sends, Setting, Site, Some, StartedHead, Submits, T, TmCounts, TmNo, Ts, Txn, ZeroBut, [], active, ap, append-nil, arith, asks_rows, at_map, attempt_due, by_release, commit_act, cond, counts, counts_handed, counts_tm, current_era, dm_no, effect, eqb-true, false, filter, first_send, flip, hand_commits, head_of, hold_due, hold_to, if◌then◌else◌, in_mapped, inl, inr, is_a_hold, is_a_release, is_for, is_holding, is_over, last_served, list_all, map, modules_asked, not, numbers_to, one_if, or_else, puts_to, queue, refl, release_due, sends_of_act, slice_get, start_at, start_read, starts, subst, suc, sym, tm_no, to_site, tried, true, turns, u_commit, u_exchange, u_hold, u_release, u_start, write_to, ℕ, ◌&&◌, ◌++◌, ◌<◌, ◌==◌, ◌∙◌, ◌∷◌, ◌≡◌, ◌≤◌, ◌⊎◌}
+use Rattle.sdd_invariants.proofs.All.{Act, AllZero, Attempt, Bases, Bool, D, Did, Each, Entry, Handed, Hold, IsChain, IsFairU, IsServed, IsStepU, IsTried, List, Log, Msg, None, Option, Queued, Release, Sends, Setting, Site, Some, StartedHead, Submits, T, TmCounts, TmNo, Ts, Txn, ZeroBut, [], active, ap, append-nil, arith, asks_rows, at_map, attempt_due, by_release, commit_act, cond, counts, counts_handed, counts_tm, current_era, dm_no, eqb-true, false, filter, first_send, flip, hand_commits, head_of, hold_due, hold_to, if◌then◌else◌, in_mapped, inl, inr, is_a_hold, is_a_release, is_for, is_holding, is_over, last_served, list_all, map, modules_asked, not, numbers_to, one_if, or_else, puts_to, queue, refl, release_due, sends_of_act, slice_get, start_at, start_read, starts, subst, suc, sym, tm_no, to_site, tried, true, turns, u_commit, u_exchange, u_hold, u_release, u_start, ℕ, ◌&&◌, ◌++◌, ◌<◌, ◌==◌, ◌∙◌, ◌∷◌, ◌≡◌, ◌≤◌, ◌⊎◌}
 use Rattle.sdd_invariants.proofs.Holding.{lt_is}
 use Rattle.sdd_invariants.proofs.Turns.{balance, tally_append, turns_append}
 use Rattle.sdd_invariants.proofs.Queues.{served_head}
@@ -90,11 +90,7 @@ pub u_way : (s : Setting) (log : Log) (act : Act) (P : Act → Type 0)
     → ((t : ℕ) (ts : Ts) → (counts t log).releases < (last_served s log).commits → (ts.0 ≡ (last_served s log).ts) ×
     ((last_served s log).dones ≡ s.catalogue.dms) → P (Sends (T (tm_no t)) (Release ts) None))
     → ((t : ℕ) → (counts t log).releases ≡ (counts t log).holds → P (Sends (T (tm_no t)) Hold None)) → IsStepU s log act → P act
-u_way s log act P a b c d e (u_start q i z r x) = subst P (sym x) (a q i z r)
-u_way s log act P a b c d e (u_commit bases w i x) = subst P (sym x) (b bases w i)
-u_way s log act P a b c d e (u_exchange k m w i x) = subst P (sym x) (c k m w i)
-u_way s log act P a b c d e (u_release t ts i w x) = subst P (sym x) (d t ts i w)
-u_way s log act P a b c d e (u_hold t i x) = subst P (sym x) (e t i)
+u_way s log act P a b c d e h = grind (arith, u_start, u_commit)
 
 pub zero_push : (qs : List Queued) (q : Queued) → AllZero qs → q.tries ≡ 0 → AllZero (qs ++ q ∷ [])
 zero_push [] q h e = (e, tt)
@@ -105,53 +101,31 @@ but_push n [] q h e = (inr e, tt)
 but_push n (x ∷ qs) q h e = (h.0, but_push n qs q h.1 e)
 
 head_push : (n : ℕ) (qs : List Queued) (q : Queued) → StartedHead n qs → StartedHead n (qs ++ q ∷ [])
-head_push n [] q h = absurd h
-head_push n (x ∷ qs) q h = h
+head_push n qs q h = grind arith
 
 but_tried : (n : ℕ) (qs : List Queued) → AllZero qs → ZeroBut n (map (tried n) qs)
 but_tried n [] h = tt
-but_tried n (q ∷ qs) h = (
-  elim (q.number == n) as
-      (λ b. (q.number == n) ≡ b → (((cond b (record q { tries = suc q.tries }) q).number == n) ≡ true) ⊎ ((cond b (record q { tries = suc q.tries }) q).tries ≡ 0)) [
-        | true ↦ λ e. inl e
-        | false ↦ λ e. inr h.0
-      ] refl,
-  but_tried n qs h.1,
-)
+but_tried n (q ∷ qs) h = grind (arith, cond, but_tried n qs h.1)
 
 head_tried : (qs : List Queued) (q : Queued) → head_of qs ≡ Some q → StartedHead q.number (map (tried q.number) qs)
-head_tried [] q e = cc
-head_tried (x ∷ qs) q e =
-    let p : x ≡ q = cc in
-    let n : (x.number == q.number) ≡ true = ap (λ (y : Queued). x.number == y.number) (sym p) ∙ same_number x.number in
-    rw n (ap (λ (y : Queued). y.number) p, omega arith)
+head_tried qs q e = grind (arith, same_number)
 
 pub zero_left : (n : ℕ) (qs : List Queued) → ZeroBut n qs → AllZero (filter (λ q. not (q.number == n)) qs)
 zero_left n [] h = tt
-zero_left n (q ∷ qs) h = elim (q.number == n) as
-    (λ b. (q.number == n) ≡ b → AllZero (cond (not b) (q ∷ filter (λ q. not (q.number == n)) qs) (filter (λ q. not (q.number == n)) qs))) [
-      | true ↦ λ e. zero_left n qs h.1
-      | false ↦ λ e. (elim h.0 [ inl p ↦ (let x : ◌≡◌ {A = Bool} true false = sym p ∙ e in cc) | inr z ↦ z ], zero_left n qs h.1)
-    ] refl
+zero_left n (q ∷ qs) h = grind (arith, cond, zero_left n qs h.1)
 
 pub not_started : (n : ℕ) (qs : List Queued) (q : Queued) → StartedHead n qs → head_of qs ≡ Some q → q.tries ≡ 0 → ⊥
-not_started n [] q h e z = h
-not_started n (x ∷ qs) q h e z = let p : x ≡ q = cc in let t : x.tries ≡ 0 = ap (λ (y : Queued). y.tries) p ∙ z in omega (arith, h.1)
+not_started n qs q h e z = grind arith
 
 pub zero_head : (qs : List Queued) (q : Queued) → AllZero qs → head_of qs ≡ Some q → q.tries ≡ 0
-zero_head [] q h e = cc
-zero_head (x ∷ qs) q h e = let p : x ≡ q = cc in ap (λ (y : Queued). y.tries) (sym p) ∙ h.0
+zero_head qs q h e = grind arith
 
 number_head : (n : ℕ) (qs : List Queued) (q : Queued) → StartedHead n qs → head_of qs ≡ Some q → q.number ≡ n
-number_head n [] q h e = absurd h
-number_head n (x ∷ qs) q h e = let p : x ≡ q = cc in ap (λ (y : Queued). y.number) (sym p) ∙ h.0
+number_head n qs q h e = grind arith
 
 tried_on : (s : Setting) (log : Log) (e : Entry) → starts (e ∷ log) ≡ starts log
     → (last_served s (e ∷ log)).commits ≡ (last_served s log).commits → queue s 0 (e ∷ log) ≡ queue s 0 log → IsTried s log → IsTried s (e ∷ log)
-tried_on s log e a b c h = elim h [
-  | inl p ↦ inl (a ∙ p.0 ∙ sym b, subst AllZero (sym c) p.1)
-  | inr p ↦ inr (p.0, a ∙ p.1 ∙ ap suc (sym b), subst (StartedHead p.0) (sym c) p.2, subst (ZeroBut p.0) (sym c) p.3)
-]
+tried_on s log e a b c h = grind arith
 
 tried_start : (s : Setting) (log : Log) (q : Queued) → head_of (queue s 0 log) ≡ Some q → q.tries ≡ 0 → IsTried s log
     → IsTried s (Did (start_at s 0 log q) ∷ log)
@@ -175,14 +149,7 @@ tried_submit : (s : Setting) (log : Log) (k : ℕ) (txn : Txn) (b : Bool)
     ((n : ℕ) × (starts log ≡ suc (last_served s log).commits) × StartedHead n (queue s 0 log) × ZeroBut n (queue s 0 log))
     → (qs : List Queued) → qs ≡ (if b then queue s 0 log ++ record { number = k; text = txn; tries = 0 } ∷ [] else queue s 0 log)
     → ((starts log ≡ (last_served s log).commits) × AllZero qs) ⊎ ((n : ℕ) × (starts log ≡ suc (last_served s log).commits) × StartedHead n qs × ZeroBut n qs)
-tried_submit s log k txn true h qs e = elim h [
-  | inl p ↦ inl (p.0, rw e (zero_push (queue s 0 log) (record { number = k; text = txn; tries = 0 }) p.1 refl))
-  | inr p ↦ inr (p.0, p.1, rw e (head_push p.0 (queue s 0 log) (record { number = k; text = txn; tries = 0 }) p.2), rw e (but_push p.0 (queue s 0 log) (record { number = k; text = txn; tries = 0 }) p.3 refl))
-]
-tried_submit s log k txn false h qs e = elim h [
-  | inl p ↦ inl (p.0, rw e p.1)
-  | inr p ↦ inr (p.0, p.1, rw e p.2, rw e p.3)
-]
+tried_submit s log k txn b h qs e = grind (arith, zero_push, head_push, but_push)
 
 pub is_tried : (s : Setting) (log : Log) → Each (IsFairU s) log → IsTried s log
 is_tried s [] h = inl (refl, tt)
@@ -200,13 +167,11 @@ is_tried s (x ∷ log) h = tried_on s log x refl refl refl (is_tried s log h.1)
 hand_if : (b : Bool) (k : TmCounts)
     → ((if b then record k { helds = suc k.helds } else k).releases ≡ k.releases) ×
     ((if b then record k { helds = suc k.helds } else k).holds ≡ k.holds) × (k.helds ≤ (if b then record k { helds = suc k.helds } else k).helds)
-hand_if true k = (refl, refl, omega arith)
-hand_if false k = (refl, refl, omega arith)
+hand_if b k = grind arith
 
 pub hand_counts : (from : Site) (m : Msg) (k : TmCounts)
     → ((counts_handed from m k).releases ≡ k.releases) × ((counts_handed from m k).holds ≡ k.holds) × (k.helds ≤ (counts_handed from m k).helds)
-hand_counts (T n) (Held time) k = hand_if (n.0 == k.tm) k
-hand_counts from m k = (refl, refl, omega arith)
+hand_counts from m k = grind (arith, hand_if)
 
 pub commits_le : (s : Setting) (log : Log) → IsTried s log → (last_served s log).commits ≤ starts log
 commits_le s log h = elim h [ inl p ↦ omega (arith, p.0) | inr p ↦ omega (arith, p.1) ]
@@ -214,16 +179,7 @@ commits_le s log h = elim h [ inl p ↦ omega (arith, p.0) | inr p ↦ omega (ar
 chain_on : (s : Setting) (t : ℕ) (log : Log) (e : Entry) → counts t (e ∷ log) ≡ counts t log
     → (last_served s log).commits ≤ (last_served s (e ∷ log)).commits → (last_served s (e ∷ log)).commits ≤ starts (e ∷ log)
     → starts (e ∷ log) ≡ starts log → puts_to (T (tm_no t)) (e ∷ log) ≡ puts_to (T (tm_no t)) log → IsChain s t log → IsChain s t (e ∷ log)
-chain_on s t log e k c d n p h = record {
-  released = rw k (omega (arith, h.released));
-  committed = d;
-  started_held = rw (k, n) h.started_held;
-  started_hold = rw (k, n) h.started_hold;
-  state = h.state;
-  turns_are = rw p h.turns_are;
-  holds_are = rw (k, p) h.holds_are;
-  releases_are = rw (k, p) h.releases_are;
-}
+chain_on s t log e k c d n p h = grind arith
 
 pub none_mapped : (t : TmNo) (f : ℕ → Msg) (ds : List ℕ) → to_site (T t) (map (λ d. (D (dm_no d), f d)) ds) ≡ []
 none_mapped t f [] = refl
@@ -236,21 +192,10 @@ chain_start s t log q e z r i h =
     let n : starts log ≡ (last_served s log).commits = elim i [ inl p ↦ p.0 | inr p ↦ absurd (not_started p.0 (queue s 0 log) q p.2 e z) ] in
     let same : puts_to (T (tm_no t)) (Did (start_at s 0 log q) ∷ log) ≡ puts_to (T (tm_no t)) log = ap (λ xs. puts_to (T (tm_no t)) log ++ xs)
     (none_mapped (tm_no t) (start_read s 0 log q) (modules_asked s 0 q.text)) ∙ append-nil _ in
-    record {
-      released = h.released;
-      committed = omega (arith, h.committed);
-      started_held = omega (arith, r.1);
-      started_hold = omega (arith, r.0);
-      state = h.state;
-      turns_are = rw same h.turns_are;
-      holds_are = rw same h.holds_are;
-      releases_are = rw same h.releases_are;
-    }
+    grind arith
 
 pub no_puts : (s : Setting) (t : TmNo) (bases : Bases) (a : Attempt) → to_site (T t) (sends_of_act (commit_act s.catalogue bases 0 a)) ≡ []
-no_puts s t bases a =
-    none_to (write_to s.catalogue 0 a (effect s.catalogue (bases a.ts) a.text).changes) (T t) 1 s.catalogue.dms
-    (goes_write s.catalogue 0 a (effect s.catalogue (bases a.ts) a.text).changes) (λ d l. refl)
+no_puts s t bases a = grind (arith, none_to, goes_write)
 
 pub sent_count : (t n : ℕ) (log : Log) → (n == (counts t log).tm) ≡ (n == t)
 sent_count t n log = ap (λ x. n == x) (counts_tm t log)
@@ -262,12 +207,10 @@ turned_hold : (ms : List Msg) → turns (Some false) ms ≡ Some false → turns
 turned_hold ms e = turns_append (Some false) ms (Hold ∷ []) ∙ ap (λ x. turns x (Hold ∷ [])) e
 
 state_true : (c : Bool) → 1 ≤ one_if c → c ≡ true
-state_true true l = refl
-state_true false l = absurd (omega arith)
+state_true c l = grind arith
 
 state_false : (c : Bool) → one_if c ≡ 0 → c ≡ false
-state_false true l = absurd (omega arith)
-state_false false l = refl
+state_false c l = grind arith
 
 chain_release : (s : Setting) (t : ℕ) (ts : Ts) (log : Log) → (counts t log).releases < (last_served s log).commits
     → IsChain s t log → IsChain s t (Did (Sends (T (tm_no t)) (Release ts) None) ∷ log)
@@ -323,16 +266,7 @@ chain_hand : (s : Setting) (t : ℕ) (from : Site) (m : Msg) (log : Log) → IsC
 chain_hand s t from m log h =
     let k = hand_counts from m (counts t log) in
     let c = hand_commits m (last_served s log) in
-    record {
-      released = omega (arith, k.0, c, h.released);
-      committed = omega (arith, c, h.committed);
-      started_held = omega (arith, k.2, h.started_held);
-      started_hold = omega (arith, k.1, h.started_hold);
-      state = h.state;
-      turns_are = h.turns_are;
-      holds_are = k.1 ∙ h.holds_are;
-      releases_are = k.0 ∙ h.releases_are;
-    }
+    grind arith
 
 pub chain : (s : Setting) (k t : ℕ) (log : Log) → slice_get (numbers_to s.catalogue.tms) k ≡ Some t → Each (IsFairU s) log → IsChain s t log
 chain s k t [] e h =

@@ -1,18 +1,13 @@
 -- Sites that are the same, and messages among those sent to one.
-use Rattle.sdd_invariants.proofs.All.{AllGt, D, IsStrict, List, Msg, None, Option, Site, Some, T, U, [], ap, arith, cons_option, dm_no, eq-eqb, eqb-true, false, filter_map, if◌then◌else◌, inl, inr, map, range_with_len, refl, same_site, slice_get, subst, suc, sym, tm_no, to_site, true, zero, ℕ, ◌+◌, ◌<◌, ◌∷◌, ◌≡◌, ◌≤◌, ◌⊎◌}
+use Rattle.sdd_invariants.proofs.All.{AllGt, D, IsStrict, List, Msg, None, Option, Site, Some, [], arith, cons_option, dm_no, eq-eqb, eqb-true, false, filter_map, if◌then◌else◌, inl, inr, map, range_with_len, refl, same_site, slice_get, subst, suc, sym, to_site, true, zero, ℕ, ◌+◌, ◌<◌, ◌∷◌, ◌≡◌, ◌≤◌, ◌⊎◌}
 use Rattle.sdd_invariants.proofs.Bools.{differ, same_number, same_or_not}
 use Rattle.sdd_invariants.proofs.Lists.{in_if}
 
 pub site_is : (a b : Site) → same_site a b ≡ true → a ≡ b
-site_is U U e = refl
-site_is (T a) (T b) e = ap (λ n. T (tm_no n)) (eqb-true a.0 b.0 e)
-site_is (D a) (D b) e = ap (λ n. D (dm_no n)) (eqb-true a.0 b.0 e)
-site_is _ _ e = cc
+site_is a b e = grind (arith, eqb-true)
 
 pub site_self : (a : Site) → same_site a a ≡ true
-site_self U = refl
-site_self (T t) = eq-eqb t.0 t.0 refl
-site_self (D d) = eq-eqb d.0 d.0 refl
+site_self a = grind (arith, eq-eqb)
 
 -- the only message of a send
 pub the_one : (b to : Site) (x : Msg) (k : ℕ) (m : Msg) → slice_get (to_site b ((to, x) ∷ [])) k ≡ Some m → (b ≡ to) × (x ≡ m)
@@ -21,11 +16,7 @@ the_one b to x k m e = let i = in_if (same_site b to) x k m e in (site_is b to i
 -- one message to each of some modules
 
 pub other_module : (b : Site) (a d : ℕ) → same_site b (D (dm_no a)) ≡ true → a < d → same_site b (D (dm_no d)) ≡ false
-other_module (D x) a d e l = elim (same_or_not x.0 d) [
-  | inl p ↦ (let q : x.0 ≡ a = eqb-true x.0 a e in absurd (omega arith))
-  | inr p ↦ p
-]
-other_module _ a d e l = refl
+other_module b a d e l = grind (arith, same_or_not, eqb-true)
 
 none_of : (f : ℕ → Msg) (b : Site) (a : ℕ) (ds : List ℕ) → same_site b (D (dm_no a)) ≡ true → AllGt a ds → to_site b (map (λ d. (D (dm_no d), f d)) ds) ≡ []
 none_of f b a [] e h = refl
@@ -35,12 +26,7 @@ none_of f b a (d ∷ ds) e h = rw (other_module b a d e h.0) (none_of f b a ds e
 pub one_of_each : (f : ℕ → Msg) (b : Site) (ds : List ℕ) → IsStrict ds
     → (to_site b (map (λ d. (D (dm_no d), f d)) ds) ≡ []) ⊎ ((d : ℕ) × (to_site b (map (λ d. (D (dm_no d), f d)) ds) ≡ f d ∷ []))
 one_of_each f b [] h = inl refl
-one_of_each f b (d ∷ ds) h = elim (same_site b (D (dm_no d))) as
-    (λ x. same_site b (D (dm_no d)) ≡ x → (to_site b (map (λ d. (D (dm_no d), f d)) (d ∷ ds)) ≡ []) ⊎
-    ((d2 : ℕ) × (to_site b (map (λ d. (D (dm_no d), f d)) (d ∷ ds)) ≡ f d2 ∷ []))) [
-      | true ↦ λ e. inr (d, rw e (ap (λ xs. f d ∷ xs) (none_of f b d ds e h.0)))
-      | false ↦ λ e. rw e (one_of_each f b ds h.1)
-    ] refl
+one_of_each f b (d ∷ ds) h = grind (arith, none_of, one_of_each f b ds h.1)
 
 -- to each module at most one
 abbrev pub GoesTo : (ℕ → Option (Site × Msg)) → Type 0
@@ -58,15 +44,7 @@ none_to f b a (suc n) g h = elim (g a) [
 pub one_to : (f : ℕ → Option (Site × Msg)) (b : Site) (a n : ℕ) → GoesTo f
     → (to_site b (filter_map f (range_with_len a n)) ≡ []) ⊎ ((d : ℕ) × (m : Msg) × (f d ≡ Some (D (dm_no d), m)) × (to_site b (filter_map f (range_with_len a n)) ≡ m ∷ []))
 one_to f b a zero g = inl refl
-one_to f b a (suc n) g = elim (g a) [
-  | inl e ↦ rw e (one_to f b (a + 1) n g)
-  | inr p ↦ elim (same_site b (D (dm_no a))) as
-      (λ x. same_site b (D (dm_no a)) ≡ x → (to_site b (filter_map f (range_with_len a (suc n))) ≡ []) ⊎
-      ((d : ℕ) × (m : Msg) × (f d ≡ Some (D (dm_no d), m)) × (to_site b (filter_map f (range_with_len a (suc n))) ≡ m ∷ []))) [
-        | true ↦ λ e. inr (a, p.0, p.1, rw (p.1, e) (ap (λ xs. p.0 ∷ xs) (none_to f b (a + 1) n g (λ d l. other_module b a d e (omega arith)))))
-        | false ↦ λ e. rw (p.1, e) (one_to f b (a + 1) n g)
-      ] refl
-]
+one_to f b a (suc n) g = grind (arith, none_to, other_module, one_to f b (a + 1) n g)
 
 to_cons : (b : Site) (p : Site × Msg) (ps : List (Site × Msg)) (k : ℕ) (m : Msg) → slice_get (to_site b ps) k ≡ Some m
     → (j : ℕ) × (slice_get (to_site b (p ∷ ps)) j ≡ Some m)

@@ -1,6 +1,6 @@
 -- An Answer splits the WRITEs of a condition's class: those that change one of its fragments are processed before it
 -- exactly where their time is below the condition's.
-use Rattle.sdd_invariants.proofs.All.{Act, AllUnspoilt, Answer, Change, ClassNo, ClassView, Cond, D, DmNo, Does, Each, Input, IsDueEach, IsPermitted, IsReadStep, IsRising, IsUnspoilt, List, May, Msg, None, Pipe, Read, Records, Setting, Site, Some, Ts, TxnNo, Use, Write, [], all_of, allowed_act, ap, append_assoc, arith, by_record, by_wait, class_puts, cond, dec_le, empty_pipe, false, head, head_of, home, in_left, in_passing, inl, inr, is_at_least, is_met, is_processing, length, length-append, list_all, list_any, local_of, map, nat_le, nat_tests, number_of, passed, passed_by, pipe, pipe_at, place_within, setting_of, slice_get, spoiling, spoils, subst, suc, sym, time_of, touches, true, view_of, waits, zero, ℕ, ◌++◌, ◌+◌, ◌<◌, ◌∙◌, ◌∷◌, ◌≡◌, ◌≢◌, ◌≤◌, ◌⊎◌}
+use Rattle.sdd_invariants.proofs.All.{Act, AllUnspoilt, Answer, Change, ClassNo, ClassView, Cond, D, DmNo, Does, Each, Input, IsDueEach, IsPermitted, IsReadStep, IsRising, List, Msg, None, Pipe, Read, Records, Setting, Site, Some, Ts, TxnNo, Use, Write, [], all_of, allowed_act, ap, append_assoc, arith, class_puts, cond, dec_le, empty_pipe, false, head, head_of, home, in_left, inl, inr, is_at_least, is_met, length, length-append, list_all, list_any, local_of, map, nat_le, nat_tests, number_of, passed, passed_by, pipe, pipe_at, place_within, setting_of, slice_get, spoiling, spoils, subst, suc, sym, time_of, touches, true, view_of, waits, zero, ℕ, ◌++◌, ◌+◌, ◌<◌, ◌∙◌, ◌∷◌, ◌≡◌, ◌≢◌, ◌≤◌, ◌⊎◌}
 use Rattle.sdd_invariants.proofs.Waiting.{any_false_at, no_spoiler, processed_in_is, spoils_is, waiting}
 use Rattle.sdd_invariants.proofs.ClassOrder.{class_rises, earlier}
 use Rattle.sdd_invariants.proofs.InPipe.{in_pipe_later}
@@ -44,24 +44,8 @@ unspoilt_at s log (x ∷ ds) (suc n) d h e = unspoilt_at s log ds n d h.1 e
 pub answered_if : (s : Setting) (log : site.Log) (c : ℕ) (txn : TxnNo) (attempt : ℕ) (module_no : DmNo) (sends : List (Site × Msg)) (ts : Ts) (k : ClassNo) (t : TxnNo) (a : ℕ) (conds : List Cond) (uses : List Use)
     → Each (IsDueEach s) log → IsReadStep s log (Records c (Answer txn attempt module_no) sends) → head (pipe c log) ≡ Some (Read ts k t a conds uses)
     → (list_all (is_met (view_of s log)) conds ≡ true) × AllUnspoilt s log conds
-answered_if s log c txn attempt module_no sends ts k t a conds uses h (in_passing e) f = cc
-answered_if s log c txn attempt module_no sends ts k t a conds uses h (by_wait j ds r ss l p w i q e) f =
-    let same : Answer txn attempt module_no ≡ r = cc in
-    let x : is_processing r ≡ true = ap is_processing (sym same) in absurd (not_both (is_processing r) x p)
-answered_if s log c txn attempt module_no sends ts k t a conds uses h (by_record j m r ss l p i may e) f =
-    let same : Answer txn attempt module_no ≡ r = cc in
-    let at : c ≡ j = cc in
-    let i2 : head (pipe c log) ≡ Some m = subst (λ x. head (pipe x log) ≡ Some m) (sym at) i in
-    let is : m ≡ Read ts k t a conds uses = cc in
-    let m2 : May (view_of s log) c (waits c log) (Read ts k t a conds uses) (Answer txn attempt module_no) = subst
-    (λ x. May (view_of s log) x (waits x log) (Read ts k t a conds uses) (Answer txn attempt module_no)) (sym at)
-    (subst (λ x. May (view_of s log) j (waits j log) (Read ts k t a conds uses) x) (sym same) (subst (λ x. May (view_of s log) j (waits j log) x r) is may)) in (
-      m2.2,
-      elim m2.3 [
-        | inl w ↦ (let u = waiting s log h c w in subst (IsUnspoilt s log) f u.1)
-        | inr n ↦ no_spoiler s log conds n
-      ],
-    )
+answered_if s log c txn attempt module_no sends ts k t a conds uses h e f =
+    grind (arith, not_both, head, waits, waiting, no_spoiler)
 
 below_time : (q : Cond) (w : Ts) (j : ClassNo) (x : TxnNo) (changes : List Change) → touches q.frags changes ≡ true
     → spoiling q (Write w j x changes) ≡ false → w.0 < q.time.0
@@ -69,9 +53,7 @@ below_time q w j x changes t e = not_le_is q.time.0 w.0 (sym (ap (λ b. is_at_le
 
 pub processed_there : (p : Pipe) (more : List Msg) (i : ℕ) (m : Msg) → slice_get (all_of p ++ more) i ≡ Some m
     → i < length p.processed → slice_get p.processed i ≡ Some m
-processed_there p more i m e l =
-    let n : length (all_of p) ≡ length p.processed + length p.unprocessed = length-append p.processed p.unprocessed in
-    within_left p.processed p.unprocessed i m (within_left (all_of p) more i m e (omega arith)) l
+processed_there p more i m e l = grind (arith, all_of, length-append, within_left)
 
 pub processed_stays : (p : Pipe) (more : List Msg) (i : ℕ) (m : Msg) → slice_get p.processed i ≡ Some m → slice_get (all_of p ++ more) i ≡ Some m
 processed_stays p more i m e = in_left (all_of p) more i m (in_left p.processed p.unprocessed i m e)

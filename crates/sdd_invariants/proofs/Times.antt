@@ -1,5 +1,5 @@
 -- On a link the times of a class never fall: each is at most the class's limit, which never falls either.
-use Rattle.sdd_invariants.proofs.All.{Act, AllGe, AllLe, AllPiped, Attempt, Bases, Bool, Catalogue, Change, D, Did, Each, Entry, Fetch, Handed, IsFair, IsRising, IsSend, IsStep, IsTimed, List, Log, Msg, None, Null, Option, Queued, Reduce, Sends, Setting, Ship, Site, Some, Submits, Write, [], a_held, a_hold, a_null, a_release, active, ap, arith, asks_rows, bound, changes_at, class_is, class_no, commit_act, cond, dm_no, effect, false, filter_map, goes_through, head_of, if◌then◌else◌, inl, inr, is_empty, limit, limit_of, map, next_stamp, not, number_of, numbers_to, of_exchange, piped, puts_to, queue, refl, same_site, sends_of_act, start_at, subst, sym, time_at, time_in, time_of, times_in, to_site, true, txn_no, write_to, ℕ, ◌++◌, ◌==◌, ◌||◌, ◌∙◌, ◌∷◌, ◌≡◌, ◌≤◌}
+use Rattle.sdd_invariants.proofs.All.{Act, AllGe, AllLe, AllPiped, Attempt, Bases, Bool, Catalogue, Change, Did, Each, Entry, Handed, IsFair, IsRising, IsSend, IsStep, IsTimed, List, Log, Msg, None, Null, Option, Queued, Sends, Setting, Site, Some, Submits, [], active, ap, arith, asks_rows, bound, class_is, class_no, commit_act, cond, effect, false, filter_map, goes_through, head_of, if◌then◌else◌, inl, inr, limit, limit_of, map, next_stamp, number_of, numbers_to, piped, puts_to, queue, refl, same_site, sends_of_act, start_at, subst, sym, time_at, time_of, times_in, to_site, true, write_to, ℕ, ◌++◌, ◌==◌, ◌∙◌, ◌∷◌, ◌≡◌, ◌≤◌}
 use Rattle.sdd_invariants.proofs.Clocks.{bound_rises, limit_le}
 use Rattle.sdd_invariants.proofs.Active.{handed_way, sent_way, step_way}
 use Rattle.sdd_invariants.proofs.Bools.{same_number, same_or_not}
@@ -12,12 +12,7 @@ AllAre t (x ∷ xs) = (x ≡ t) × AllAre t xs
 -- lists
 times_join : (c : ℕ) (xs ys : List Msg) → times_in c (xs ++ ys) ≡ times_in c xs ++ times_in c ys
 times_join c [] ys = refl
-times_join c (m ∷ xs) ys = elim (goes_through c m) as
-    (λ b. (if b then time_of m ∷ times_in c (xs ++ ys) else times_in c (xs ++ ys)) ≡
-    (if b then time_of m ∷ times_in c xs else times_in c xs) ++ times_in c ys) [
-      | true ↦ ap (λ l. time_of m ∷ l) (times_join c xs ys)
-      | false ↦ times_join c xs ys
-    ]
+times_join c (m ∷ xs) ys = grind (arith, time_of, times_join c xs ys)
 
 all_ge_join : (k t : ℕ) (xs ys : List ℕ) → k ≤ t → AllGe k xs → AllAre t ys → AllGe k (xs ++ ys)
 all_ge_join k t [] [] l h i = tt
@@ -51,24 +46,17 @@ quiet_act s c b log act l e = record { time = limit s c log; above = omega arith
 
 times_if : (c t : ℕ) (b : Bool) (m : Msg) (ms : List Msg) → AllAre t (times_in c (m ∷ [])) → AllAre t (times_in c ms)
     → AllAre t (times_in c (if b then m ∷ ms else ms))
-times_if c t false m ms h i = i
-times_if c t true m ms h i =
-    elim (goes_through c m) as
-    (λ b. AllAre t (if b then time_of m ∷ [] else []) → AllAre t (if b then time_of m ∷ times_in c ms else times_in c ms)) [ true ↦ λ k. (k.0, i) | false ↦ λ k. i ] h
+times_if c t b m ms h i = grind (arith, time_of)
 
 time_piped : (c t : ℕ) (m : Msg) → piped m ≡ Some (c, t) → AllAre t (times_in c (m ∷ []))
-time_piped c t m e =
-    let is : goes_through c m ≡ true = ap (class_is c) e ∙ same_number c in
-    let at : time_of m ≡ t = ap time_in e in
-    rw is (at, tt)
+time_piped c t m e = grind (arith, class_is, same_number, time_of)
 
 piped_at : (c t : ℕ) (b : Site) (ps : List (Site × Msg)) → AllPiped c t ps → AllAre t (times_in c (to_site b ps))
 piped_at c t b [] h = tt
 piped_at c t b (p ∷ ps) h = times_if c t (same_site b p.0) p.1 (to_site b ps) (time_piped c t p.1 h.0) (piped_at c t b ps h.1)
 
 times_none : (c : ℕ) (b : Bool) (m : Msg) (ms : List Msg) → goes_through c m ≡ false → times_in c ms ≡ [] → times_in c (if b then m ∷ ms else ms) ≡ []
-times_none c false m ms h i = i
-times_none c true m ms h i = rw h i
+times_none c b m ms h i = grind arith
 
 piped_other : (k c t : ℕ) (b : Site) (ps : List (Site × Msg)) → (k == c) ≡ false → AllPiped k t ps → times_in c (to_site b ps) ≡ []
 piped_other k c t b [] e h = refl
@@ -80,15 +68,11 @@ piped_map k t f (d ∷ ds) h = (h d, piped_map k t f ds h)
 
 piped_cond : (k t : ℕ) (b : Bool) (p : Site × Msg) (f : ℕ → Option (Site × Msg)) (ds : List ℕ) → piped p.1 ≡ Some (k, t)
     → AllPiped k t (filter_map f ds) → (d : ℕ) → f d ≡ cond b (Some p) None → AllPiped k t (filter_map f (d ∷ ds))
-piped_cond k t true p f ds e h d g = rw g (e, h)
-piped_cond k t false p f ds e h d g = rw g h
+piped_cond k t b p f ds e h d g = grind arith
 
 piped_writes : (cat : Catalogue) (c : ℕ) (a : Attempt) (changes : List Change) (ds : List ℕ) → AllPiped c a.ts (filter_map (write_to cat c a changes) ds)
 piped_writes cat c a changes [] = tt
-piped_writes cat c a changes (d ∷ ds) =
-    piped_cond c a.ts (not (is_empty (changes_at cat d changes)) || (c == 0))
-    (D (dm_no d), Write (time_at a.ts) (class_no c) (txn_no a.txn) (changes_at cat d changes))
-    (write_to cat c a changes) ds refl (piped_writes cat c a changes ds) d refl
+piped_writes cat c a changes (d ∷ ds) = grind (arith, piped_cond, piped_writes cat c a changes ds)
 
 pub piped_start : (s : Setting) (c : ℕ) (log : Log) (q : Queued) → AllPiped c (next_stamp s log) (sends_of_act (start_at s c log q))
 piped_start s c log q = piped_map c _ _ _ (λ d. refl)
@@ -107,13 +91,10 @@ start_own s c b log q w i e = record {
 }
 
 limit_on : (b d : ℕ) (o : Option Attempt) → b ≤ d → limit_of b o ≤ limit_of d o
-limit_on b d None l = l
-limit_on b d (Some a) l = omega arith
+limit_on b d o l = grind arith
 
 start_other : (s : Setting) (k c : ℕ) (b : Site) (log : Log) (q : Queued) → (k == c) ≡ false → Goes s c b log (start_at s k log q)
-start_other s k c b log q e =
-    quiet_act s c b log (start_at s k log q) (rw e (limit_on (bound s log) (bound s (Did (start_at s k log q) ∷ log)) (active s c log) (omega arith)))
-    (piped_other k c (next_stamp s log) b (sends_of_act (start_at s k log q)) e (piped_start s k log q))
+start_other s k c b log q e = grind (arith, quiet_act, start_at, limit_on, bound, active, piped_other, piped_start)
 
 commit_own : (s : Setting) (c : ℕ) (bases : Bases) (b : Site) (log : Log) (a : Attempt) → limit s c log ≤ bound s log
     → active s c log ≡ Some a → Goes s c b log (commit_act s.catalogue bases c a)
@@ -126,18 +107,13 @@ commit_own s c bases b log a l e = record {
 
 commit_other : (s : Setting) (k c : ℕ) (bases : Bases) (b : Site) (log : Log) (a : Attempt) → (k == c) ≡ false
     → Goes s c b log (commit_act s.catalogue bases k a)
-commit_other s k c bases b log a e =
-    quiet_act s c b log (commit_act s.catalogue bases k a) (rw e (omega arith))
-    (piped_other k c a.ts b (sends_of_act (commit_act s.catalogue bases k a)) e (piped_commit s k bases a))
+commit_other s k c bases b log a e = grind (arith, quiet_act, piped_other, piped_commit)
 
 limit_sent : (s : Setting) (c : ℕ) (log : Log) (to : Site) (m : Msg) (hand : Option ℕ) → limit s c log ≡ limit s c (Did (Sends to m hand) ∷ log)
 limit_sent s c log to m hand = sent_way (λ o. limit s c log ≡ limit_of (bound s log) o) c m (active s c log) (λ a x e. ap (limit_of (bound s log)) e) refl
 
 asks_not_piped : (ts k c : ℕ) (m : Msg) → asks_rows ts k m ≡ true → goes_through c m ≡ false
-asks_not_piped ts k c (Fetch a b t u) e = refl
-asks_not_piped ts k c (Reduce a b t u v) e = refl
-asks_not_piped ts k c (Ship a b) e = refl
-asks_not_piped ts k c _ e = cc
+asks_not_piped ts k c m e = grind arith
 
 send_quiet : (s : Setting) (c : ℕ) (b : Site) (log : Log) (to : Site) (m : Msg) (hand : Option ℕ) → goes_through c m ≡ false → Goes s c b log (Sends to m hand)
 send_quiet s c b log to m hand e =
@@ -154,14 +130,7 @@ null_own s c b log to hand = record {
 }
 
 send_goes : (s : Setting) (c : ℕ) (b : Site) (log : Log) (to : Site) (m : Msg) (hand : Option ℕ) → IsSend s log m → Goes s c b log (Sends to m hand)
-send_goes s c b log to m hand (of_exchange k a at i e w) = send_quiet s c b log to m hand (asks_not_piped a.ts k c m e)
-send_goes s c b log to m hand (a_null k at e) = elim (same_or_not k c) [
-  | inl p ↦ subst (λ x. Goes s c b log (Sends to x hand)) (sym (e ∙ ap (λ j. Null (class_no j) (time_at (limit s j log))) p)) (null_own s c b log to hand)
-  | inr p ↦ send_quiet s c b log to m hand (ap (λ x. goes_through c x) e ∙ p)
-]
-send_goes s c b log to m hand (a_held e) = send_quiet s c b log to m hand (ap (λ x. goes_through c x) e)
-send_goes s c b log to m hand (a_hold e) = send_quiet s c b log to m hand (ap (λ x. goes_through c x) e)
-send_goes s c b log to m hand (a_release ts e) = send_quiet s c b log to m hand (ap (λ x. goes_through c x) e)
+send_goes s c b log to m hand e = grind (arith, send_quiet, asks_not_piped, same_or_not, null_own)
 
 pub goes : (s : Setting) (c : ℕ) (b : Site) (log : Log) (act : Act) → number_of s.site ≤ 63 → limit s c log ≤ bound s log
     → IsStep s log act → Goes s c b log act
@@ -183,9 +152,7 @@ timed_on s c b log e l p h =
 limit_handed : (s : Setting) (c : ℕ) (from : Site) (m : Msg) (log : Log) → limit s c log ≤ bound s log → limit s c log ≤ limit s c (Handed from m ∷ log)
 limit_handed s c from m log l =
     let up = bound_rises s (Handed from m) log in
-    handed_way (λ o. limit s c log ≤ limit_of (bound s (Handed from m ∷ log)) o) c from m (active s c log) (omega arith)
-    (λ a x e. let p : limit s c log ≡ limit_of (bound s log) (Some a) = ap (limit_of (bound s log)) e in omega arith)
-    (limit_on (bound s log) (bound s (Handed from m ∷ log)) (active s c log) up)
+    grind (arith, handed_way, bound, active, limit_on)
 
 pub timed : (s : Setting) (c : ℕ) (b : Site) (log : Log) → number_of s.site ≤ 63 → Each (IsFair s) log → IsTimed s c b log
 timed s c b [] w h = record { rises = tt; within = tt }

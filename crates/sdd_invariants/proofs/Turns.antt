@@ -11,8 +11,7 @@ turns_append (Some b) (x ∷ xs) ys = turns_append (turn b x) xs ys
 turns_append _ _ ys = refl
 
 turns_none : (ms : List Msg) (c : Bool) → turns None ms ≡ Some c → ⊥
-turns_none [] c e = cc
-turns_none (m ∷ ms) c e = cc
+turns_none ms c e = grind arith
 
 -- what is taken in turn is even, or one HOLD ahead
 pub balance : (b c : Bool) (ms : List Msg) → turns (Some b) ms ≡ Some c → tally is_a_hold ms + one_if b ≡ tally is_a_release ms + one_if c

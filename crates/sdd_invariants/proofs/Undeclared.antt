@@ -1,5 +1,5 @@
 -- H5's Applies, and that a READ of an undeclared transaction is never spoilt.
-use Rattle.sdd_invariants.proofs.All.{Act, Answer, Attempt, Bases, ClassNo, Cond, D, Did, DmNo, Does, HasAnswer, HasApply, HasStart, Input, IsApplied, IsCommitT, IsHigh, IsPermitted, IsRead, IsWriter, List, Msg, Queued, Read, Records, Setting, Site, Some, T, Ts, TxnNo, U, Use, Write, [], active, ap, append_assoc, arith, at_map, changes_to, clock, commit_act, contains, dm_no, dones_of, drawn_so_far, false, head, home, home_of, in_left, in_mapped, inl, inr, length, local_of, next_stamp, number_of, numbers_to, or_left, or_right, pipe_at, place_within, refl, runs, sends_of_act, setting_of, slice_get, spoils, start_at, start_read, start_u, starts, subst, suc, sym, tm_no, to_site, touches, true, u_stamp, undeclared_conditions, view_of, zero, zero_cond, ℕ, ◌++◌, ◌<◌, ◌==◌, ◌∙◌, ◌∷◌, ◌≡◌, ◌≢◌, ◌≤◌}
+use Rattle.sdd_invariants.proofs.All.{Act, Answer, Attempt, Bases, ClassNo, Cond, D, Did, DmNo, Does, HasAnswer, HasApply, Input, IsApplied, IsCommitT, IsHigh, IsPermitted, IsRead, IsWriter, List, Msg, Queued, Read, Records, Setting, Site, Some, T, Ts, TxnNo, U, Use, Write, [], active, ap, append_assoc, arith, at_map, changes_to, clock, commit_act, contains, dm_no, dones_of, drawn_so_far, false, head, home, home_of, in_left, in_mapped, inl, inr, length, local_of, next_stamp, number_of, numbers_to, or_left, or_right, pipe_at, place_within, refl, runs, sends_of_act, setting_of, slice_get, spoils, start_at, start_read, start_u, starts, subst, suc, sym, tm_no, to_site, touches, true, u_stamp, undeclared_conditions, view_of, zero, zero_cond, ℕ, ◌++◌, ◌<◌, ◌==◌, ◌∙◌, ◌∷◌, ◌≡◌, ◌≢◌, ◌≤◌}
 use Rattle.sdd_invariants.proofs.Apart.{at_start, drawn_grow, end_at, low_or_high}
 use Rattle.sdd_invariants.proofs.Dones.{all_applied}
 use Rattle.sdd_invariants.proofs.HoldChain.{hold_chain, u_table}
@@ -63,10 +63,7 @@ not_again g d log a ts k txn n ds us before h e p w same =
     let ans : Act = Records 0 (Answer w.txn w.attempt (home_of (setting_of g (D d))).dm) w.sends in
     let whole : log ≡ (p.0 ++ w.later) ++ Does (D d) ans ∷ w.before = p.1 ∙ ap (λ l. p.0 ++ l) w.is
     ∙ sym (append_assoc p.0 w.later (Does (D d) ans ∷ w.before)) in
-    answered_there g 0 d (p.0 ++ w.later) w.before
-    (home_of (setting_of g (D d))).dm w.sends w.ts ts w.of k w.txn w.txn txn w.attempt w.attempt n w.conds ds w.uses us (subst (IsPermitted g) whole h)
-    (omega arith)
-    w.head_is (subst (λ l. head (pipe_at g 0 d l) ≡ Some (Read ts k txn n ds us)) whole e) (w.ts_is ∙ same)
+    grind (arith, answered_there, head)
 
 -- of an undeclared transaction's READ: its conditions are on each class, at its timestamp, with all fragments
 
@@ -109,9 +106,7 @@ read_classes g d log ts k txn n ds us j q h e f =
 pub has_cond : (g : Input) (d : DmNo) (log : Log) (ts : Ts) (k : ClassNo) (txn : TxnNo) (n : ℕ) (ds : List Cond) (us : List Use) (j c : ℕ)
     → IsPermitted g log → head (pipe_at g 0 d log) ≡ Some (Read ts k txn n ds us) → slice_get (classes_of g.catalogue) j ≡ Some c
     → slice_get ds j ≡ Some (zero_cond g ts.0 c)
-has_cond g d log ts k txn n ds us j c h e f =
-    subst (λ l. slice_get l j ≡ Some (zero_cond g ts.0 c)) (sym (zero_conds g d log ts k txn n ds us h e))
-    (at_map (zero_cond g ts.0) (classes_of g.catalogue) j c f)
+has_cond g d log ts k txn n ds us j c h e f = grind (arith, zero_conds, at_map)
 
 -- a Commit at the site of its class, as H5 takes it
 pub commit_t : (g : Input) (t c : ℕ) (log later before : Log) (bases : Bases) (a : Attempt) → IsPermitted g log
@@ -124,14 +119,7 @@ commit_t g t c log later before bases a h hm e act =
     let x = local_grows g (home g.catalogue c) later (Does (home g.catalogue c) (commit_act g.catalogue bases c a) ∷ before) in
     let is : local_of g (home g.catalogue c) log ≡ x.0 ++ Did (commit_act g.catalogue bases c a) ∷ local_of g (home g.catalogue c) before = ap
     (local_of g (home g.catalogue c)) e ∙ x.1 ∙ ap (λ l. x.0 ++ l) (own_act g (home g.catalogue c) (commit_act g.catalogue bases c a) before) in
-    record {
-      later = x.0;
-      before = local_of g at before;
-      bases = bases;
-      is = subst (λ y. local_of g y log ≡ x.0 ++ Did (commit_act g.catalogue bases c a) ∷ local_of g y before) hm is;
-      active_is = subst (λ y. active (setting_of g y) c (local_of g y before) ≡ Some a) hm act;
-      start = subst (λ y. HasStart (setting_of g y) c (local_of g y before) a.txn a.attempt a.ts a.text) hm st;
-    }
+    grind (arith, active)
 
 -- class 0 is never spoilt
 spoilt_not : (g : Input) (k t c j kd : ℕ) (d : DmNo) (log : Log) (ts : Ts) (of : ClassNo) (txn : TxnNo) (n : ℕ) (ds : List Cond) (us : List Use) (q : Cond) (w : ℕ)

@@ -11,22 +11,17 @@ le_max : (t w u : ℕ) → nat_le t (max w u) ≡ (nat_le t w || nat_le t u)
 le_max t w u = grind (arith, nat_tests)
 
 raised_test : (t : ℕ) (o : Option ℕ) (x : ℕ) → is_at_least t (raised o x) ≡ (is_at_least t o || nat_le t x)
-raised_test t None x = refl
-raised_test t (Some u) x = le_max t u x
+raised_test t o x = grind (arith, le_max)
 
 or_nothing : (b : Bool) → b ≡ (b || false)
-or_nothing true = refl
-or_nothing false = refl
+or_nothing b = grind arith
 
 greatest_test : (t : ℕ) (o : Option ℕ) (xs : List ℕ) → is_at_least t (fold raised o xs) ≡ (is_at_least t o || list_any (nat_le t) xs)
 greatest_test t o [] = or_nothing (is_at_least t o)
-greatest_test t o (x ∷ xs) =
-    greatest_test t (raised o x) xs ∙ ap (λ b. b || list_any (nat_le t) xs) (raised_test t o x)
-    ∙ or_assoc (is_at_least t o) (nat_le t x) (list_any (nat_le t) xs)
+greatest_test t o (x ∷ xs) = grind (arith, raised_test, or_assoc, greatest_test t (raised o x) xs)
 
 any_of_some : (t : ℕ) (o : Option ℕ) (xs : List ℕ) → list_any (nat_le t) (cons_option o xs) ≡ (is_at_least t o || list_any (nat_le t) xs)
-any_of_some t None xs = refl
-any_of_some t (Some w) xs = refl
+any_of_some t o xs = grind arith
 
 any_of_times : (t : ℕ) (f : Msg → Option ℕ) (ms : List Msg) → list_any (nat_le t) (filter_map f ms) ≡ list_any (λ m. is_at_least t (f m)) ms
 any_of_times t f [] = refl
@@ -68,35 +63,23 @@ processed_by s e log j h = elim (dec_le (suc j) (suc (length s.catalogue.classes
 unspoilt_on : (s : Setting) (log more : Log) (ds : List Cond) → ((j : ℕ) → processed_in s more j ≡ processed_in s log j)
     → AllUnspoilt s log ds → AllUnspoilt s more ds
 unspoilt_on s log more [] f h = tt
-unspoilt_on s log more (d ∷ ds) f h = (
-  elim h.0 [
-    | inl z ↦ inl z
-    | inr p ↦ inr (spoils_is s more d ∙ ap (list_any (spoiling d)) (f d.class.0) ∙ sym (spoils_is s log d) ∙ p)
-  ],
-  unspoilt_on s log more ds f h.1,
-)
+unspoilt_on s log more (d ∷ ds) f h = grind (arith, spoils_is, unspoilt_on s log more ds f h.1)
 
 is_unspoilt_on : (s : Setting) (log more : Log) (o : Option Msg) → ((j : ℕ) → processed_in s more j ≡ processed_in s log j)
     → IsUnspoilt s log o → IsUnspoilt s more o
-is_unspoilt_on s log more None f h = h
-is_unspoilt_on s log more (Some (Read ts k txn attempt conds uses)) f h = unspoilt_on s log more conds f h
-is_unspoilt_on s log more (Some _) f h = absurd h
+is_unspoilt_on s log more o f h = grind (arith, unspoilt_on)
 
 -- an entry that processes nothing, and leaves heads that wait
 waiting_on : (s : Setting) (c : ℕ) (e : Entry) (log : Log) → ((j : ℕ) → (pipe j (e ∷ log)).processed ≡ (pipe j log).processed)
     → waits c (e ∷ log) ≡ waits c log → (IsUnspoilt s log (head (pipe c log)) → head (pipe c (e ∷ log)) ≡ head (pipe c log))
     → IsWaiting s c log → IsWaiting s c (e ∷ log)
-waiting_on s c e log f w r h = λ q.
-    let i = h (sym w ∙ q) in
-    (i.0, subst (IsUnspoilt s (e ∷ log)) (sym (r i.1)) (is_unspoilt_on s log (e ∷ log) (head (pipe c log)) (λ j. processed_by s e log j (f j)) i.1))
+waiting_on s c e log f w r h = grind (arith, is_unspoilt_on, head, processed_by)
 
 head_stays : (s : Setting) (log : Log) (xs ys : List Msg) → IsUnspoilt s log (head_of xs) → head_of (xs ++ ys) ≡ head_of xs
-head_stays s log [] ys h = absurd h
-head_stays s log (x ∷ xs) ys h = refl
+head_stays s log xs ys h = grind arith
 
 head_handed : (s : Setting) (log : Log) (b : Bool) (p : Pipe) (m : Msg) → IsUnspoilt s log (head p) → head (if b then put m p else p) ≡ head p
-head_handed s log true p m h = head_stays s log p.unprocessed (m ∷ []) h
-head_handed s log false p m h = refl
+head_handed s log b p m h = grind (arith, head_stays)
 
 -- a Wait
 
@@ -110,9 +93,7 @@ no_spoiler s log (d ∷ ds) e =
     ] refl e
 
 read_unspoilt : (s : Setting) (log : Log) (conds : List Cond) (o : Option Msg) → IsReadWith conds o → AllUnspoilt s log conds → IsUnspoilt s log o
-read_unspoilt s log conds None r h = r
-read_unspoilt s log conds (Some (Read ts k txn attempt ds uses)) r h = subst (AllUnspoilt s log) (sym r) h
-read_unspoilt s log conds (Some _) r h = absurd r
+read_unspoilt s log conds o r h = grind arith
 
 wait_own : (s : Setting) (c : ℕ) (conds : List Cond) (r : Rec) (sends : List (Site × Msg)) (log : Log) → IsClassHere s c
     → is_processing r ≡ false → IsReadWith conds (head (pipe c log)) → spoiler (view_of s log) conds ≡ None → IsWaiting s c (Did (Records c r sends) ∷ log)
@@ -148,8 +129,7 @@ safe_other k m [] f = tt
 safe_other k m (d ∷ ds) f = (rw (f d) (never_and (d.class.0 == k)), safe_other k m ds f)
 
 same_test : (a b : Bool) (w t : ℕ) → (a && (nat_le t w && b)) ≡ false → (a && is_at_least t (cond b (Some w) None)) ≡ false
-same_test true true w t e = elim (nat_le t w) as (λ x. (x && true) ≡ false → x ≡ false) [ true ↦ λ q. q | false ↦ λ q. refl ] e
-same_test _ _ w t e = refl
+same_test a b w t e = grind arith
 
 safe_write : (k : ℕ) (ts : Ts) (class : ClassNo) (txn : TxnNo) (changes : List Change) (ds : List Cond)
     → list_any (holds k ts.0 changes) ds ≡ false → IsSafe k (Write ts class txn changes) ds
@@ -163,12 +143,10 @@ IsReadSafe k m _ = Unit {0}
 
 read_safe : (k : ℕ) (ts : Ts) (class : ClassNo) (txn : TxnNo) (changes : List Change) (o : Option Msg)
     → holds_back k ts.0 changes o ≡ false → IsReadSafe k (Write ts class txn changes) o
-read_safe k ts class txn changes (Some (Read t c x attempt conds uses)) e = safe_write k ts class txn changes conds e
-read_safe k ts class txn changes _ e = tt
+read_safe k ts class txn changes o e = grind (arith, safe_write)
 
 read_safe_other : (k : ℕ) (m : Msg) (o : Option Msg) → ((d : Cond) → spoiling d m ≡ false) → IsReadSafe k m o
-read_safe_other k m (Some (Read t c x attempt conds uses)) f = safe_other k m conds f
-read_safe_other k m _ f = tt
+read_safe_other k m o f = grind (arith, safe_other)
 
 unheld : (k : ℕ) (x : Bool) → (k ≢ 0) → (not (k == 0) && x) ≡ false → x ≡ false
 unheld k x n e = let z : (k == 0) ≡ false = elim (same_or_not k 0) [ inl p ↦ absurd (n p) | inr p ↦ p ] in rw z at e

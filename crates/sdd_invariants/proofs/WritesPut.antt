@@ -1,5 +1,5 @@
 -- The WRITEs of a class on a link have different, rising times; each was put by the Commit of the attempt with its time.
-use Rattle.sdd_invariants.proofs.All.{Act, AllLt, Attempt, Bases, Bool, Catalogue, Change, D, Did, Each, Entry, Handed, IsFair, IsSend, IsStep, IsStrict, List, Log, Msg, None, Option, Queued, Sends, Setting, Site, Some, Submits, Write, [], a_held, a_hold, a_null, a_release, active, ap, append-nil, arith, asks_rows, bound, changes_at, class_no, commit_act, cond, dm_no, effect, false, filter_map-append, head_of, if◌then◌else◌, inl, inr, is_empty, last_stamp, map, not, number_of, of_exchange, puts_to, queue, refl, same_site, sends_of_act, stamp_or, start_at, subst, suc, sym, time_at, to_site, true, txn_no, write_at, write_to, writes_in, ℕ, ◌++◌, ◌<◌, ◌==◌, ◌||◌, ◌∙◌, ◌∷◌, ◌≡◌, ◌≤◌, ◌⊎◌}
+use Rattle.sdd_invariants.proofs.All.{Act, AllLt, Attempt, Bases, Bool, Catalogue, Change, D, Did, Each, Entry, Handed, IsFair, IsSend, IsStep, IsStrict, List, Log, Msg, None, Option, Queued, Sends, Setting, Site, Some, Submits, Write, [], active, ap, append-nil, arith, asks_rows, bound, changes_at, class_no, commit_act, cond, dm_no, effect, false, filter_map-append, head_of, if◌then◌else◌, inl, inr, last_stamp, map, number_of, puts_to, queue, refl, same_site, sends_of_act, stamp_or, start_at, subst, suc, sym, time_at, to_site, true, txn_no, write_at, write_to, writes_in, ℕ, ◌++◌, ◌<◌, ◌==◌, ◌∙◌, ◌∷◌, ◌≡◌, ◌≤◌, ◌⊎◌}
 use Rattle.sdd_invariants.proofs.Clocks.{bound_rises, drawn, stamp_below_bound}
 use Rattle.sdd_invariants.proofs.Active.{handed_way, sent_way, step_way}
 use Rattle.sdd_invariants.proofs.Bools.{same_number, same_or_not}
@@ -20,16 +20,13 @@ pub record Opens (s : Setting) (c : ℕ) (b : Site) (log : Log) (act : Act) : Ty
   pub puts : (writes_in c (to_site b (sends_of_act act)) ≡ []) ⊎ ((t : ℕ) × (open_from s c log ≤ t) × (t < open_from s c (Did act ∷ log)) × (writes_in c (to_site b (sends_of_act act)) ≡ t ∷ []))
 
 open_le : (b d : ℕ) (o : Option Attempt) → b ≤ d → open_of b o ≤ open_of d o
-open_le b d None l = omega arith
-open_le b d (Some a) l = omega arith
+open_le b d o l = grind arith
 
 open_bound : (b d : ℕ) (o : Option Attempt) → stamp_or o ≤ b → b ≤ d → open_of b o ≤ suc d
-open_bound b d None h l = omega arith
-open_bound b d (Some a) h l = omega arith
+open_bound b d o h l = grind arith
 
 no_writes_if : (c : ℕ) (b : Bool) (m : Msg) (ms : List Msg) → write_at c m ≡ None → writes_in c ms ≡ [] → writes_in c (if b then m ∷ ms else ms) ≡ []
-no_writes_if c true m ms e h = rw e h
-no_writes_if c false m ms e h = h
+no_writes_if c b m ms e h = grind arith
 
 start_writes : (c : ℕ) (b : Site) (f : ℕ → Site × Msg) (ds : List ℕ) → ((d : ℕ) → write_at c (f d).1 ≡ None) → writes_in c (to_site b (map f ds)) ≡ []
 start_writes c b f [] h = refl
@@ -37,10 +34,7 @@ start_writes c b f (d ∷ ds) h = no_writes_if c (same_site b (f d).0) (f d).1 (
 
 open_started : (s : Setting) (k c : ℕ) (log : Log) (q : Queued) → number_of s.site ≤ 63 → active s k log ≡ None
     → head_of (queue s k log) ≡ Some q → open_from s c log ≤ open_from s c (Did (start_at s k log q) ∷ log)
-open_started s k c log q w i e = elim (same_or_not k c) [
-  | inl p ↦ subst (λ j. open_from s j log ≤ open_from s j (Did (start_at s k log q) ∷ log)) p (rw (same_number k, i, e) (omega arith))
-  | inr p ↦ rw p (open_le (bound s log) (bound s (Did (start_at s k log q) ∷ log)) (active s c log) (omega arith))
-]
+open_started s k c log q w i e = grind (arith, same_or_not, start_at, same_number, open_le, bound, active)
 
 opens_start : (s : Setting) (k c : ℕ) (b : Site) (log : Log) (q : Queued) → number_of s.site ≤ 63 → active s k log ≡ None
     → head_of (queue s k log) ≡ Some q → Opens s c b log (start_at s k log q)
@@ -50,34 +44,24 @@ abbrev sent_to : ℕ → Msg → Option (Site × Msg)
 sent_to d m = Some (D (dm_no d), m)
 
 goes_cond : (b : Bool) (d : ℕ) (m : Msg) → (cond b (sent_to d m) None ≡ None) ⊎ ((x : Msg) × (cond b (sent_to d m) None ≡ sent_to d x))
-goes_cond true d m = inr (m, refl)
-goes_cond false d m = inl refl
+goes_cond b d m = grind arith
 
 pub goes_write : (cat : Catalogue) (c : ℕ) (a : Attempt) (changes : List Change) → GoesTo (write_to cat c a changes)
 goes_write cat c a changes d = goes_cond _ d _
 
 pub cond_is : (b : Bool) (x y : Site × Msg) → cond b (Some x) None ≡ Some y → x ≡ y
-cond_is true x y e = cc
-cond_is false x y e = cc
+cond_is b x y e = grind arith
 
 pub write_is : (cat : Catalogue) (c : ℕ) (a : Attempt) (changes : List Change) (d : ℕ) (m : Msg) → write_to cat c a changes d ≡ Some (D (dm_no d), m)
     → m ≡ Write (time_at a.ts) (class_no c) (txn_no a.txn) (changes_at cat d changes)
-write_is cat c a changes d m e =
-    sym (ap (λ (p : Site × Msg). p.1)
-    (cond_is (not (is_empty (changes_at cat d changes)) || (c == 0))
-    (D (dm_no d), Write (time_at a.ts) (class_no c) (txn_no a.txn) (changes_at cat d changes)) (D (dm_no d), m) e))
+write_is cat c a changes d m e = grind (arith, cond_is)
 
 -- what a Commit puts on a link
 pub commit_puts : (s : Setting) (c : ℕ) (bases : Bases) (b : Site) (a : Attempt)
     → (to_site b (sends_of_act (commit_act s.catalogue bases c a)) ≡ [])
     ⊎ ((d : ℕ) × (to_site b (sends_of_act (commit_act s.catalogue bases c a)) ≡ Write (time_at a.ts) (class_no c) (txn_no a.txn)
     (changes_at s.catalogue d (effect s.catalogue (bases a.ts) a.text).changes) ∷ []))
-commit_puts s c bases b a = elim
-    (one_to (write_to s.catalogue c a (effect s.catalogue (bases a.ts) a.text).changes) b 1 s.catalogue.dms
-    (goes_write s.catalogue c a (effect s.catalogue (bases a.ts) a.text).changes)) [
-      | inl e ↦ inl e
-      | inr p ↦ inr (p.0, p.3 ∙ ap (λ m. m ∷ []) (write_is s.catalogue c a (effect s.catalogue (bases a.ts) a.text).changes p.0 p.1 p.2))
-    ]
+commit_puts s c bases b a = grind (arith, one_to, goes_write, write_is)
 
 opens_commit_own : (s : Setting) (c : ℕ) (bases : Bases) (b : Site) (log : Log) (a : Attempt) → active s c log ≡ Some a
     → a.ts ≤ bound s log → Opens s c b log (commit_act s.catalogue bases c a)
@@ -100,15 +84,10 @@ open_sent : (s : Setting) (c : ℕ) (log : Log) (to : Site) (m : Msg) (hand : Op
 open_sent s c log to m hand = sent_way (λ o. open_from s c log ≡ open_of (bound s log) o) c m (active s c log) (λ a x e. ap (open_of (bound s log)) e) refl
 
 asks_not_write : (ts k c : ℕ) (m : Msg) → asks_rows ts k m ≡ true → write_at c m ≡ None
-asks_not_write ts k c (Write a b t u) e = cc
-asks_not_write ts k c _ e = refl
+asks_not_write ts k c m e = grind arith
 
 send_not_write : (s : Setting) (c : ℕ) (log : Log) (m : Msg) → IsSend s log m → write_at c m ≡ None
-send_not_write s c log m (of_exchange k a at i e w) = asks_not_write a.ts k c m e
-send_not_write s c log m (a_null k at e) = ap (write_at c) e
-send_not_write s c log m (a_held e) = ap (write_at c) e
-send_not_write s c log m (a_hold e) = ap (write_at c) e
-send_not_write s c log m (a_release ts e) = ap (write_at c) e
+send_not_write s c log m e = grind (arith, asks_not_write)
 
 pub opens : (s : Setting) (c : ℕ) (b : Site) (log : Log) (act : Act) → number_of s.site ≤ 63
     → ((k : ℕ) → stamp_or (active s k log) ≤ last_stamp s log) → IsStep s log act → Opens s c b log act
@@ -133,10 +112,7 @@ open_handed : (s : Setting) (c : ℕ) (from : Site) (m : Msg) (log : Log) → nu
     → stamp_or (active s c log) ≤ last_stamp s log → open_from s c log ≤ open_from s c (Handed from m ∷ log)
 open_handed s c from m log w l =
     let up = bound_rises s (Handed from m) log in let z = stamp_below_bound s log w in
-    handed_way (λ o. open_from s c log ≤ open_of (bound s (Handed from m ∷ log)) o) c from m (active s c log)
-    (open_bound (bound s log) (bound s (Handed from m ∷ log)) (active s c log) (omega arith) up)
-    (λ a x e. let p : open_from s c log ≡ open_of (bound s log) (Some a) = ap (open_of (bound s log)) e in omega arith)
-    (open_le (bound s log) (bound s (Handed from m ∷ log)) (active s c log) up)
+    grind (arith, handed_way, bound, active, open_bound, open_le)
 
 pub written : (s : Setting) (c : ℕ) (b : Site) (log : Log) → number_of s.site ≤ 63 → Each (IsFair s) log → IsWritten s c b log
 written s c b [] w h = record { strict = tt; closed = tt }
