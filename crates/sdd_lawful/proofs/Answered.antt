@@ -1,5 +1,5 @@
 -- The Answers of a history, as acts of data modules, each with the READ that it answers and the Start that sent it.
-use Rattle.sdd_lawful.proofs.All.{Act, Answer, Attempt, Bool, Catalogue, ClassNo, Cond, D, DmNo, Does, Entry, Input, IsAnswered, IsAttempt, IsMadeAt, IsPermitted, IsRead, IsReadStep, IsRecordAt, IsSoundCatalogue, List, Log, May, Msg, None, Read, Rec, Records, Setting, Site, Some, Ts, TxnNo, Use, View, [], allowed_act, ap, arith, ascending, bound, by_record, by_wait, class_no, class_number, conditions, conditions_at, contains, current_era, d_step, dm_no, false, filter_map, frag_no, fragments_in, head, head_put, history, home, if◌then◌else◌, in_passing, inl, inr, is_processing, length, local_of, map, modules_asked, modules_of, next_stamp, not_both, option_map, or_left, or_right, p2_of, p2_time, pipe, pipe_at, record_of, refl, same_number, same_or_not, sends_of_act, setting_of, slice_get, start_at, start_read, subst, suc, sym, time_at, to_site, true, txn_no, undeclared_conditions, unwrap_or, use_there, uses_of, view_of, waits, zero, ℕ, ◌++◌, ◌<◌, ◌==◌, ◌∙◌, ◌∷◌, ◌≡◌}
+use Rattle.sdd_lawful.proofs.All.{Act, Answer, Attempt, Bool, Catalogue, ClassNo, Cond, D, DmNo, Does, Entry, Input, IsAnswered, IsAttempt, IsMadeAt, IsPermitted, IsRead, IsReadStep, IsRecordAt, IsSoundCatalogue, List, Log, May, Msg, Read, Rec, Records, Setting, Site, Some, Ts, TxnNo, Use, View, [], allowed_act, ap, arith, ascending, bound, by_record, by_wait, class_no, class_number, conditions, conditions_at, contains, current_era, d_step, dm_no, filter_map, fragments_in, head, head_put, history, home, in_passing, inl, inr, length, local_of, map, modules_asked, modules_of, next_stamp, not_both, option_map, or_left, or_right, p2_of, p2_time, pipe, pipe_at, record_of, refl, same_number, same_or_not, sends_of_act, setting_of, slice_get, start_at, start_read, subst, sym, time_at, to_site, true, txn_no, unwrap_or, use_there, uses_of, view_of, waits, ℕ, ◌++◌, ◌<◌, ◌==◌, ◌∙◌, ◌∷◌, ◌≡◌}
 use Rattle.sdd_lawful.proofs.Applied.{IsDataIn, data_in}
 use Rattle.sdd_lawful.proofs.Classes.{at_home, further_back, home_setting}
 use Rattle.sdd_lawful.proofs.Commits.{begun_as}
@@ -37,9 +37,7 @@ pub record IsReadHead (k : ℕ) (l : site.Log) (txn : TxnNo) (attempt : ℕ) : T
 pub answer_head : (s : Setting) (l : site.Log) (k : ℕ) (txn : TxnNo) (attempt : ℕ) (dm : DmNo) (sends : List (Site × Msg))
     → IsReadStep s l (Records k (Answer txn attempt dm) sends) → IsReadHead k l txn attempt
 answer_head s l k txn attempt dm sends (in_passing e) = cc
-answer_head s l k txn attempt dm sends (by_wait j ds r ss lt p w i q e) =
-    let same : Answer txn attempt dm ≡ r = cc in
-    let x : is_processing r ≡ true = ap is_processing (sym same) in absurd (not_both (is_processing r) x p)
+answer_head s l k txn attempt dm sends (by_wait j ds r ss lt p w i q e) = grind (arith, not_both)
 answer_head s l k txn attempt dm sends (by_record j m r ss lt p i may e) =
     let same : Answer txn attempt dm ≡ r = cc in
     let at : k ≡ j = cc in
@@ -54,8 +52,7 @@ reads_to f ds = map (λ d. (D (dm_no d), f d)) ds
 read_here : (f : ℕ → Msg) (x d : ℕ) (ds : List ℕ) (k : ℕ) (m : Msg) → x ≡ d
     → ((j : ℕ) → slice_get (to_site (D (dm_no x)) (reads_to f ds)) j ≡ Some m → (contains ds x ≡ true) × (f x ≡ m))
     → slice_get (f d ∷ to_site (D (dm_no x)) (reads_to f ds)) k ≡ Some m → (contains (d ∷ ds) x ≡ true) × (f x ≡ m)
-read_here f x d ds zero m p i e = let q : f d ≡ m = cc in (or_left (d == x) (contains ds x) (ap (λ y. y == x) (sym p) ∙ same_number x), ap f p ∙ q)
-read_here f x d ds (suc k) m p i e = let r = i k e in (or_right (d == x) (contains ds x) r.0, r.1)
+read_here f x d ds k m p i e = grind (arith, or_left, same_number, or_right)
 
 pub in_reads : (f : ℕ → Msg) (x : ℕ) (ds : List ℕ) (k : ℕ) (m : Msg) → slice_get (to_site (D (dm_no x)) (reads_to f ds)) k ≡ Some m
     → (contains ds x ≡ true) × (f x ≡ m)
@@ -71,13 +68,7 @@ conds_of m = []
 
 conds_same : (cat : Catalogue) (table : List line.Entry) (c : ℕ) (frags : List ℕ) (own b d : ℕ)
     → conditions_at cat table c frags own b d ≡ conditions_at cat table c frags own (unwrap_or (option_map (λ (t : Ts). t.0) (p2_of c b)) 0) d
-conds_same cat table c frags own b d =
-    elim (c == 0) as (λ z. (if z then undeclared_conditions cat own else conditions cat table c d (map frag_no frags) own b) ≡
-    (if z then undeclared_conditions cat own else conditions cat table c d (map frag_no frags) own
-    (unwrap_or (option_map (λ (t : Ts). t.0) (if z then None else Some (time_at b))) 0))) [
-      | true ↦ refl
-      | false ↦ refl
-    ]
+conds_same cat table c frags own b d = grind (arith, conditions)
 
 abbrev pub read_msg : Attempt → List Cond → List Use → Msg
 read_msg a conds uses = Read (time_at a.ts) (class_no a.class) (txn_no a.txn) a.number conds uses

@@ -60,8 +60,7 @@ pub put_module : (g : Input) (c : ℕ) (d : DmNo) (log : Log) (ts : Ts) (of : Cl
     → IsPutAt g log c d (Write ts of txn changes) → IsModule g.catalogue d.0
 put_module g c d log ts of txn changes p =
     let w : IsWrite (home_setting g c) (at_home g c p.before) p.act of.0 ts.0 txn.0 = p.by in
-    write_module g.catalogue of.0 w.bases w.attempt d p.place (Write ts of txn changes)
-    (subst (λ x. slice_get (to_site (D d) (sends_of_act x)) p.place ≡ Some (Write ts of txn changes)) w.act_is p.there)
+    grind (arith, write_module)
 
 -- an Apply of a transaction
 
@@ -174,9 +173,7 @@ applied_rec g full front log d c n ts r is h of x = absurd of
 
 pub applied_before : (g : Input) (full front log : Log) (d : DmNo) (c : ℕ) (a : Running) → full ≡ front ++ log → IsPermitted g full
     → IsApplied g log d c a → AppliedBefore (history full) a.txn d.0 (length (history log))
-applied_before g full front log d c a is h x =
-    applied_rec g full front log d c a.txn (time_at a.ts) x.rec is (permitted_before g front log (subst (IsPermitted g) is h)) x.is
-    (result_in c (local_of g (D d) log) x.place x.rec x.there)
+applied_before g full front log d c a is h x = grind (arith, applied_rec, permitted_before, result_in)
 
 -- and the other way round
 

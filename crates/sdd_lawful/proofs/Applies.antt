@@ -1,5 +1,5 @@
 -- The history of a permitted log keeps the law of Applies.
-use Rattle.sdd_lawful.proofs.All.{AppliedBefore, Attempt, Committed, D, Does, GoesTo, Input, IsAnswered, IsApplied, IsCommitted, IsEarlier, IsMadeAt, IsOfCommit, IsPermitted, IsRecordAt, IsSoundCatalogue, KeepsApplies, Log, Msg, Rec, Records, Some, Touches, TxnNo, Write, [], ap, append_assoc, applied_below, arith, around_applied, by_change, changes_to, class_no, commit_act, dm_no, head, history, home, inl, inr, length, lower_same_higher, pipe_at, record_at, refl, subst, sym, time_at, time_of, true, txn_no, ℕ, ◌++◌, ◌<◌, ◌==◌, ◌∙◌, ◌∷◌, ◌≡◌, ◌⊎◌}
+use Rattle.sdd_lawful.proofs.All.{AppliedBefore, Attempt, Committed, D, Does, GoesTo, Input, IsAnswered, IsApplied, IsCommitted, IsEarlier, IsMadeAt, IsOfCommit, IsPermitted, IsRecordAt, IsSoundCatalogue, KeepsApplies, Log, Msg, Rec, Records, Some, Touches, Write, [], ap, append_assoc, applied_below, arith, around_applied, by_change, changes_to, class_no, commit_act, dm_no, head, history, home, inl, inr, length, lower_same_higher, pipe_at, record_at, refl, subst, sym, time_at, time_of, true, txn_no, ℕ, ◌++◌, ◌<◌, ◌==◌, ◌∙◌, ◌∷◌, ◌≡◌, ◌⊎◌}
 use Rattle.sdd_lawful.proofs.Answered.{IsAnswerIn, answer_in, answer_made, answer_rec, read_msg}
 use Rattle.sdd_lawful.proofs.Applied.{IsApplyIn, applied_before, applied_there, apply_in, apply_made, apply_rec}
 use Rattle.sdd_lawful.proofs.Classes.{further_back}
@@ -58,8 +58,7 @@ seen_applied g full t c d j k r m x l =
     let z = entries_in_order full j k (apply_rec t.start.txn t.start.class d t.start.ts) r (apply_made g full t.start.txn t.start.class d t.start.ts j x) m l in
     let named : apply_rec t.start.txn t.start.class d t.start.ts ≡ apply_rec c.running.txn t.start.class d c.running.ts = ap
     (λ y. apply_rec y t.start.class d t.start.ts) (sym c.txn_is) ∙ ap (λ y. apply_rec c.running.txn t.start.class d y) (sym c.ts_is) in
-    applied_there g m.before z.between x.before d t.start.class c.running x.sends
-    (z.is ∙ ap (λ y. z.between ++ Does (D (dm_no d)) (Records t.start.class y x.sends) ∷ x.before) named)
+    grind (arith, applied_there)
 
 -- and the other way round
 pub applied_seen : (g : Input) (full : Log) (t : Committed) (c : IsCommittedIn g full t) (d k : ℕ) (r : Rec) (m : IsMadeAt full k r)
@@ -131,9 +130,7 @@ no_earlier_after g log x y cy d j k sound h e time p q l =
     absurd (omega arith)
 
 same_apply : (log : Log) (n m c b d s t j k : ℕ) → IsRecordAt (history log) j (apply_rec n c d s) → IsRecordAt (history log) k (apply_rec m b d t) → j ≡ k → n ≡ m
-same_apply log n m c b d s t j k p q e =
-    let z : Some (apply_rec n c d s) ≡ Some (apply_rec m b d t) = sym p ∙ ap (record_at (history log)) e ∙ q in
-    let w : txn_no n ≡ txn_no m = cc in ap (λ (y : TxnNo). y.0) w
+same_apply log n m c b d s t j k p q e = grind arith
 
 rise : (g : Input) (log : Log) → IsSoundCatalogue g.catalogue → IsPermitted g log → (x y : Committed) (d j k : ℕ) → IsEarlier (history log) x y
     → deeds.IsApplied (history log) x.start.txn d j → deeds.IsApplied (history log) y.start.txn d k → j < k

@@ -7,10 +7,7 @@ use Rattle.sdd_lawful.proofs.Started.{start_act_of, start_in}
 -- numbers of a range
 
 above : (a x : ℕ) → a ≤ x → (a ≡ x → ⊥) → a + 1 ≤ x
-above a x lo ne = elim (lower_same_higher a x) [
-  | inl l ↦ omega arith
-  | inr r ↦ elim r [ inl e ↦ absurd (ne e) | inr l ↦ absurd (omega arith) ]
-]
+above a x lo ne = grind (arith, lower_same_higher)
 
 pub in_numbers : (a n x : ℕ) → a ≤ x → x < a + n → (k : ℕ) × (slice_get (range_with_len a n) k ≡ Some x)
 in_numbers a zero x lo hi = absurd (omega arith)

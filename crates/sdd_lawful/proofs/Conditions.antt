@@ -1,5 +1,5 @@
 -- The history of a permitted log keeps the law of read conditions.
-use Rattle.sdd_lawful.proofs.All.{AppliedBefore, AreErasOf, Attempt, Catalogue, Change, Committed, Cond, Contains, D, Does, Entry, Era, Eras, FragNo, Input, IsAnswerWith, IsAnswered, IsApplied, IsAttempt, IsCommitted, IsConditionOf, IsPermitted, IsSoundCatalogue, IsTable, KeepsConditions, List, Log, None, Option, P2, P3, Records, Some, T, TmNo, TouchesOne, [], any_at, ap, append_assoc, arith, ascending, asked_by, class_at, class_no, classes_of, commit_act, cond_for, cond_of, condition_on, conditions, conditions_at, conditions_of, cons_option, contains, current_era, dm_no, eqb-true, event_at, false, filter, filter_map, frag_no, fragments_in, fragments_of, get_or_from_slice_get, has_copy, history, home, if◌then◌else◌, in_mapped, in_range, inl, inr, is_asked, length, list_any, local_of, map, marks, member_at, nth_era, one_table, option_or, p2_time, place_within, redeclares, refl, same_or_not, setting_of, slice_get, split_applied, subst, suc, sym, time_at, tm_no, touches, true, txn_no, undeclared_conditions, zero, ℕ, ◌++◌, ◌<◌, ◌==◌, ◌||◌, ◌∙◌, ◌∷◌, ◌≡◌, ◌≤◌}
+use Rattle.sdd_lawful.proofs.All.{AppliedBefore, AreErasOf, Attempt, Catalogue, Change, Committed, Cond, Contains, D, Does, Entry, Eras, FragNo, Input, IsAnswerWith, IsAnswered, IsApplied, IsAttempt, IsCommitted, IsConditionOf, IsPermitted, IsSoundCatalogue, IsTable, KeepsConditions, List, Log, None, Option, P2, P3, Records, Some, TouchesOne, [], any_at, ap, append_assoc, arith, ascending, asked_by, class_at, class_no, classes_of, commit_act, cond_for, cond_of, condition_on, conditions, conditions_at, conditions_of, cons_option, contains, current_era, dm_no, eqb-true, event_at, false, filter, filter_map, frag_no, fragments_in, fragments_of, get_or_from_slice_get, has_copy, history, home, in_mapped, in_range, inl, inr, is_asked, length, list_any, map, marks, member_at, one_table, option_or, p2_time, place_within, refl, same_or_not, slice_get, split_applied, subst, suc, sym, time_at, touches, true, txn_no, zero, ℕ, ◌++◌, ◌<◌, ◌==◌, ◌||◌, ◌∙◌, ◌∷◌, ◌≡◌, ◌≤◌}
 use Rattle.sdd_lawful.proofs.Answered.{IsReadIn, answer_in, answer_made, answer_rec}
 use Rattle.sdd_lawful.proofs.Applies.{apply_of_committed, applied_seen, seen_applied}
 use Rattle.sdd_lawful.proofs.Classes.{at_home, era_there, further_back, home_setting}
@@ -31,13 +31,11 @@ in_filter_mapped {A = A} {B = B} f (x ∷ xs) k y e =
 -- a condition is on a class, from 1 on
 
 cond_for_class : (j time : ℕ) (fs : List FragNo) (c : Cond) → cond_for j time fs ≡ Some c → c.class.0 ≡ j
-cond_for_class j time [] c e = cc
-cond_for_class j time (f ∷ fs) c e = let p : cond_of j time (f ∷ fs) ≡ c = cc in ap (λ (x : Cond). x.class.0) (sym p)
+cond_for_class j time fs c e = grind arith
 
 either_class : (a b : Option Cond) (j : ℕ) (c : Cond) → ((x : Cond) → a ≡ Some x → x.class.0 ≡ j) → ((x : Cond) → b ≡ Some x → x.class.0 ≡ j)
     → option_or a b ≡ Some c → c.class.0 ≡ j
-either_class None b j c f g e = g c e
-either_class (Some x) b j c f g e = f c e
+either_class a b j c f g e = grind arith
 
 pub above_zero : (cat : Catalogue) (table : List line.Entry) (class : ℕ) (frags : List ℕ) (own p2 d k : ℕ) (c : Cond)
     → slice_get (conditions_at cat table class frags own p2 d) k ≡ Some c → 1 ≤ c.class.0
@@ -70,27 +68,11 @@ same_table : (g : Input) (log : Log) (eras : Eras) (a : Attempt) (table : List l
     → IsTable (law_eras.catalogue_at g.catalogue eras (event_at (history log) a.place)) table → (a.class == 0) ≡ false
     → (current_era (home_setting g a.class) (at_home g a.class start_log)).table ≡ table
 same_table g log eras a table all start_log are is event t ne =
-    let t_no : TmNo = tm_no (class_at g.catalogue a.class).tm.0 in
-    let here : home g.catalogue a.class ≡ T t_no = rw ne refl in
-    let era : current_era (home_setting g a.class) (at_home g a.class start_log) ≡ nth_era g (redeclares start_log) = ap
-    (λ s. current_era (setting_of g s) (local_of g s start_log)) here ∙ era_there g t_no start_log in
-    let cat : law_eras.catalogue_at g.catalogue eras (event_at (history log) a.place) ≡ (nth_era g (redeclares start_log)).catalogue = ap
-    (law_eras.catalogue_at g.catalogue eras) event ∙ are.era_is all start_log is in
-    ap (λ (f : Era). f.table) era
-    ∙ one_table (nth_era g (redeclares start_log)).catalogue (nth_era g (redeclares start_log)).table table (are.tabled all start_log is).table
-    (subst (λ c. IsTable c table) cat t)
+    grind (arith, class_at, current_era, at_home, era_there, one_table)
 
 conds_by : (g : Input) (a : Attempt) (d : ℕ) (era_table table : List line.Entry) → ((a.class == 0) ≡ false → era_table ≡ table)
     → conditions_at g.catalogue era_table a.class (ascending (fragments_in a.uses)) a.ts (p2_time a) d ≡ conditions_of g.catalogue table a d
-conds_by g a d era_table table f =
-    elim (a.class == 0) as
-    (λ b. ((b ≡ false) → era_table ≡ table) → (if b then undeclared_conditions g.catalogue a.ts else conditions g.catalogue era_table a.class d
-    (map frag_no (ascending (fragments_in a.uses))) a.ts (p2_time a)) ≡
-    (if b then undeclared_conditions g.catalogue a.ts else conditions g.catalogue table a.class d
-    (map frag_no (ascending (fragments_in a.uses))) a.ts (p2_time a))) [
-      | true ↦ λ h. refl
-      | false ↦ λ h. ap (λ t. conditions g.catalogue t a.class d (map frag_no (ascending (fragments_in a.uses))) a.ts (p2_time a)) (h refl)
-    ] f
+conds_by g a d era_table table f = grind (arith, conditions, ascending)
 
 pub conds_are : (g : Input) (log : Log) (eras : Eras) (a : Attempt) (d : ℕ) (later before : Log) (e : Entry) (table : List line.Entry) → AreErasOf g log eras
     → log ≡ later ++ e ∷ before → (x : IsReadIn g before a d)

@@ -1,5 +1,5 @@
 -- How many Starts of a transaction a history has is how often the site that runs its class started it.
-use Rattle.sdd_lawful.proofs.All.{Attempt, Bool, Did, Does, Entry, Era, Hand, Handed, History, Input, IsAttempt, IsPermitted, IsSoundCatalogue, List, Log, Mark, Msg, None, Option, Rec, Records, Redeclares, Sends, Site, SiteLog, Some, Start, Submitted, T, Tick, Ticked, Txn, TxnNo, U, [], ap, append_assoc, arith, cond, eqb-true, false, filter, filter-append, history, home, if_way, if◌then◌else◌, inl, inr, is_start_of, length, length-append, local_of, marks, nth_era, record_of, redeclares, refl, same_number, same_or_not, same_site, site_self, starts_before, starts_of, subst, suc, sym, take, true, txn_at, with_era, with_submit, ℕ, ◌&&◌, ◌++◌, ◌+◌, ◌==◌, ◌∙◌, ◌∷◌, ◌≡◌}
+use Rattle.sdd_lawful.proofs.All.{Attempt, Bool, Did, Does, Entry, Era, History, Input, IsAttempt, IsPermitted, IsSoundCatalogue, List, Log, Msg, None, Option, Rec, Records, Site, SiteLog, Some, Start, Txn, TxnNo, [], ap, append_assoc, arith, cond, eqb-true, false, filter, filter-append, history, home, if_way, if◌then◌else◌, is_start_of, length, length-append, local_of, marks, record_of, refl, same_number, same_or_not, same_site, site_self, starts_before, starts_of, subst, suc, sym, take, true, with_era, with_submit, ℕ, ◌&&◌, ◌++◌, ◌+◌, ◌==◌, ◌∙◌, ◌∷◌, ◌≡◌}
 use Rattle.sdd_lawful.proofs.Classes.{IsGivenTo, at_home, one_class}
 use Rattle.sdd_lawful.proofs.Places.{history_before, history_step, recorded}
 use Rattle.sdd_lawful.proofs.Started.{attempt_from, given_of_attempt, start_act_of, start_at_entry, start_in}
@@ -24,15 +24,10 @@ one_in : (n k : ℕ) (r : Rec) → starts_in n (made k r ∷ []) ≡ one_of (is_
 one_in n k r = elim (is_start_of n r) as (λ b. length (cond b (made k r ∷ []) []) ≡ one_of b) [ true ↦ refl | false ↦ refl ]
 
 recorded_in : (n k : ℕ) (o : Option Rec) → starts_in n (recorded k o) ≡ one_by n o
-recorded_in n k None = refl
-recorded_in n k (Some r) = one_in n k r
+recorded_in n k o = grind (arith, one_in)
 
 counts_step : (n : ℕ) (e : Entry) (log : Log) → starts_in n (history (e ∷ log)) ≡ starts_in n (history log) + one_by n (record_of e)
-counts_step n e log =
-    ap (starts_in n) (history_step e log)
-    ∙ ap length (filter-append (λ (x : ℕ × Rec). is_start_of n x.1) (history log) (recorded (marks log) (record_of e)))
-    ∙ length-append (filter (λ (x : ℕ × Rec). is_start_of n x.1) (history log)) _
-    ∙ ap (λ x. starts_in n (history log) + x) (recorded_in n (marks log) (record_of e))
+counts_step n e log = grind (arith, history_step, filter-append, recorded, marks, length-append, recorded_in)
 
 -- what the log of a site counts
 
@@ -47,41 +42,24 @@ plus_none : (x y : ℕ) → x ≡ y → x ≡ y + 0
 plus_none x y e = omega arith
 
 count_submit : (c n x k : ℕ) (o : Option Txn) (l : SiteLog) → starts_of c n l ≡ x → starts_of c n (with_submit k o l) ≡ x
-count_submit c n x k None l e = e
-count_submit c n x k (Some t) l e = e
+count_submit c n x k o l e = grind arith
 
 count_era : (c n x : ℕ) (at : Site) (era : Era) (t : ℕ) (l : SiteLog) → starts_of c n l ≡ x → starts_of c n (with_era at era t l) ≡ x
-count_era c n x U era t l e = e
-count_era c n x _ era t l e = e
+count_era c n x at era t l e = grind arith
 
 count_first : (g : Input) (c n : ℕ) (at : Site) → starts_of c n (local_of g at []) ≡ 0
-count_first g c n U = refl
-count_first g c n _ = refl
+count_first g c n at = grind arith
 
 -- a Start of the transaction, which is of the class; of another transaction it counts for neither
 abbrev IsOwnStart : Input → ℕ → ℕ → Site → ℕ → Rec → Type 0
 IsOwnStart g c n at k r = is_start_of n r ≡ true → (at ≡ home g.catalogue c) × (k ≡ c)
 
 count_other : (c n k x : ℕ) (txn : TxnNo) → (txn.0 == n) ≡ false → ((k == c) && (n == txn.0)) ≡ false
-count_other c n k x txn e =
-    let f : (n == txn.0) ≡ false = elim (same_or_not n txn.0) [
-      | inl p ↦ (let q : (txn.0 == n) ≡ true = ap (λ y. y == n) (sym p) ∙ same_number n in let z : true ≡ false = sym q ∙ e in cc)
-      | inr p ↦ p
-    ] in
-    elim (k == c) as (λ b. (b && (n == txn.0)) ≡ false) [ true ↦ f | false ↦ refl ]
+count_other c n k x txn e = grind (arith, same_or_not, same_number)
 
 count_act : (g : Input) (c n x : ℕ) (at : Site) (k : ℕ) (r : Rec) (sends : List (Site × Msg)) (l : SiteLog) → IsOwnStart g c n at k r → starts_of c n l ≡ x
     → starts_of c n (if same_site (home g.catalogue c) at then Did (Records k r sends) ∷ l else l) ≡ x + one_of (is_start_of n r)
-count_act g c n x at k (Start txn attempt class ts p2 uses) sends l own e = elim (same_or_not txn.0 n) [
-  | inl p ↦ (let q : (txn.0 == n) ≡ true = ap (λ y. y == n) p ∙ same_number n in
-      let i = own q in
-      let s : same_site (home g.catalogue c) at ≡ true = ap (same_site (home g.catalogue c)) i.0 ∙ site_self (home g.catalogue c) in
-      let a : (k == c) ≡ true = ap (λ y. y == c) i.1 ∙ same_number c in
-      let b : (n == txn.0) ≡ true = ap (λ y. n == y) p ∙ same_number n in
-      rw (s, a, b, q) (let f = ap suc e in omega arith))
-  | inr p ↦ rw p (count_if c n x (same_site (home g.catalogue c) at) (Did (Records k (Start txn attempt class ts p2 uses) sends)) l (rw (count_other c n k x txn p) refl) e)
-]
-count_act g c n x at k r sends l own e = count_if c n x (same_site (home g.catalogue c) at) (Did (Records k r sends)) l refl e
+count_act g c n x at k r sends l own e = grind (arith, same_or_not, same_number, site_self, count_if, count_other)
 
 abbrev IsOwnEntry : Input → ℕ → ℕ → Entry → Type 0
 IsOwnEntry g c n (Does at (Records k r sends)) = IsOwnStart g c n at k r
@@ -89,15 +67,7 @@ IsOwnEntry g c n _ = Unit {0}
 
 count_entry : (g : Input) (c n x : ℕ) (e : Entry) (log : Log) → IsOwnEntry g c n e → starts_of c n (at_home g c log) ≡ x
     → starts_of c n (at_home g c (e ∷ log)) ≡ x + one_by n (record_of e)
-count_entry g c n x (Mark (Tick t k)) log own e = count_if c n x (same_site (home g.catalogue c) (T t)) (Ticked k) (at_home g c log) refl e
-count_entry g c n x (Redeclares t) log own e = plus_none _ x (count_era c n x (home g.catalogue c) (nth_era g (suc (redeclares log))) t (at_home g c log) e)
-count_entry g c n x (Hand from to k m) log own e = count_if c n x (same_site (home g.catalogue c) to) (Handed from m) (at_home g c log) refl e
-count_entry g c n x (Submitted to k) log own e =
-    plus_none _ x (if_way (HasCount c n x) (same_site (home g.catalogue c) to) (with_submit k (txn_at g k) (at_home g c log)) (at_home g c log)
-    (count_submit c n x k (txn_at g k) (at_home g c log) e) e)
-count_entry g c n x (Does at (Records k r sends)) log own e = count_act g c n x at k r sends (at_home g c log) own e
-count_entry g c n x (Does at (Sends to m hand)) log own e = count_if c n x (same_site (home g.catalogue c) at) (Did (Sends to m hand)) (at_home g c log) refl e
-count_entry g c n x _ log own e = plus_none _ x e
+count_entry g c n x e log own h = grind (arith, count_if, at_home, plus_none, count_era, if_way, count_submit, count_act)
 
 abbrev AllOwn : Input → ℕ → ℕ → Log → Type 0
 AllOwn g c n [] = Unit {0}

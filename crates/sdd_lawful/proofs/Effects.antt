@@ -1,5 +1,5 @@
 -- What a committed transaction replies and changes is its effect on the database of its snapshots, as the history gives it.
-use Rattle.sdd_lawful.proofs.All.{AreErasOf, ArePlaced, Attempt, Bool, Catalogue, Change, Committed, Contains, Contains-flat_map, Contains-from_flat_map, Contains-nil, D, Database, Did, Does, Effect, Eras, HasSoundData, History, Input, IsAnswered, IsCommitted, IsModule, IsPermitted, IsRecordAt, IsSoundCatalogue, IsStrictlySortedBy, Item, KeepsAnswers, List, Log, None, Option, Rec, Records, RelNo, Row, Running, SiteLog, Some, Txn, [], answer_passes, ap, append_assoc, arith, ascending, by_use, commit_act, dated, dm_no, each_has, effect, entries_ascend, entry_placed, eqb-true, filter_map, flat_map, fold, fragment_at, fragment_of, fragments_in, from_ascending, gathered_from, gathered_sorted, gathered_there, has_copy, head, history, home, in_ascending, inl, inr, is_answer, is_answered, item_cmp, item_cmp_exact, item_cmp_total, keys_of, lies_there, local_of, module_of, number_member, numbers_to, one_active, one_entry, option_eq, pipe, position_or_len, reads, reads_at, reads_there, refl, same_members, same_number, setting_of, sorted_nil, subst, suc, sym, true, true_or_false, txn_at, txn_no, use_there, zero, ℕ, ◌++◌, ◌<◌, ◌==◌, ◌∙◌, ◌∷◌, ◌≡◌}
+use Rattle.sdd_lawful.proofs.All.{AreErasOf, ArePlaced, Attempt, Bool, Catalogue, Change, Committed, Contains, Contains-flat_map, Contains-from_flat_map, Contains-nil, D, Database, Did, Does, Effect, Eras, HasSoundData, History, Input, IsAnswered, IsCommitted, IsModule, IsPermitted, IsRecordAt, IsSoundCatalogue, IsStrictlySortedBy, Item, KeepsAnswers, List, Log, Option, Rec, Records, RelNo, Row, Running, SiteLog, Some, Txn, [], answer_passes, ap, append_assoc, arith, ascending, by_use, commit_act, dated, dm_no, each_has, effect, entries_ascend, entry_placed, eqb-true, filter_map, flat_map, fold, fragment_at, fragment_of, fragments_in, from_ascending, gathered_from, gathered_sorted, gathered_there, has_copy, head, history, home, in_ascending, inl, inr, is_answer, is_answered, item_cmp, item_cmp_exact, item_cmp_total, keys_of, lies_there, local_of, module_of, number_member, numbers_to, one_active, one_entry, option_eq, pipe, position_or_len, reads, reads_at, reads_there, refl, same_members, same_number, setting_of, sorted_nil, subst, suc, sym, true, true_or_false, txn_at, txn_no, use_there, zero, ℕ, ◌++◌, ◌<◌, ◌==◌, ◌∙◌, ◌∷◌, ◌≡◌}
 use Rattle.sdd_lawful.proofs.Answered.{IsAnswerIn, answer_in, answer_made, answer_rec}
 use Rattle.sdd_lawful.proofs.OneAnswerEach.{answer_after, answered, commit_after, one_answer}
 use Rattle.sdd_lawful.proofs.Asks.{read_there, there_read}
@@ -20,17 +20,14 @@ use Rattle.sdd_laws.specs.Snapshots as laws
 first_place : (p : Rec → Bool) (h : History) (k : ℕ) (r : Rec) → IsRecordAt h k r → p r ≡ true
     → ((j : ℕ) (s : Rec) → IsRecordAt h j s → p s ≡ true → j ≡ k) → position_or_len (λ e. p e.1) h ≡ k
 first_place p [] k r s t one = cc
-first_place p (x ∷ h) zero r s t one =
-    let q : Some x.1 ≡ Some r = s in let e : x.1 ≡ r = cc in
-    let f : p x.1 ≡ true = ap p e ∙ t in rw f refl
+first_place p (x ∷ h) zero r s t one = grind arith
 first_place p (x ∷ h) (suc k) r s t one = elim (true_or_false (p x.1)) [
   | inl e ↦ absurd (let z = one 0 x.1 refl e in omega arith)
   | inr e ↦ (let i = first_place p h k r s t (λ j q a b. let w = one (suc j) q a b in omega arith) in rw e (omega arith))
 ]
 
 read_module : (o : Option ℕ) (d : ℕ) → option_eq ◌==◌ o (Some d) ≡ true → o ≡ Some d
-read_module None d e = cc
-read_module (Some x) d e = ap (λ y. Some y) (eqb-true x d e)
+read_module o d e = grind (arith, eqb-true)
 
 one_module : (o : Option ℕ) (d e : ℕ) → o ≡ Some d → o ≡ Some e → d ≡ e
 one_module o d e p q = let r : Some d ≡ Some e = sym p ∙ q in cc

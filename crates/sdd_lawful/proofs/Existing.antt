@@ -1,5 +1,5 @@
 -- What transactions use is there: relations, fragments, the modules that are asked, and what conditions name.
-use Rattle.sdd_lawful.proofs.All.{All-from_recursion, AllByRecursion, Bool, Catalogue, Cond, CondExists, Condition, Delete, Diagonal, Edge, FitsStatement, FragNo, Horizontal, IsFragment, IsModule, IsRelation, IsSoundCatalogue, IsThere, List, None, Option, P2, P3, Protocol, Put, Query, RelNo, Restriction, Some, Stmt, Update, Use, UseExists, Vertical, [], all_join, all_numbers, and_left, and_right, ap, arith, ascending, asked_by, asked_in, asked_on, classes_of, cond_for, cond_of, condition_on, conditions_at, contains, contains_at, false, filter_map, frag_no, fragments_for, fragments_in, fragments_of, fragments_there, from_ascending, in_mapped, in_range, inl, inr, is_asked, is_read_at, length, list_any, map, member_at, modules_of, number_member, numbers_to, only_right, option_or, part_uses, reads_at, recursion_from_All, refl, restrictions_of, same_or_not, same_protocol, served_read, slice_get, statement_uses, subst, suc, true, true_or_false, use_of, uses_from, ℕ, ◌&&◌, ◌+◌, ◌==◌, ◌||◌, ◌∷◌, ◌≡◌, ◌≤◌}
+use Rattle.sdd_lawful.proofs.All.{All-from_recursion, AllByRecursion, Bool, Catalogue, Cond, CondExists, Condition, Delete, Edge, FitsStatement, FragNo, IsFragment, IsModule, IsRelation, IsSoundCatalogue, IsThere, List, Option, P2, P3, Protocol, Put, Query, RelNo, Restriction, Some, Stmt, Update, Use, UseExists, [], all_join, all_numbers, and_left, and_right, ap, arith, ascending, asked_by, asked_in, asked_on, classes_of, cond_for, cond_of, condition_on, conditions_at, contains, contains_at, false, filter_map, frag_no, fragments_for, fragments_in, fragments_of, fragments_there, from_ascending, in_mapped, in_range, inl, inr, is_asked, is_read_at, length, list_any, map, member_at, modules_of, number_member, numbers_to, only_right, option_or, part_uses, reads_at, recursion_from_All, refl, restrictions_of, same_or_not, same_protocol, served_read, slice_get, statement_uses, subst, suc, true, true_or_false, use_of, uses_from, ℕ, ◌+◌, ◌==◌, ◌||◌, ◌∷◌, ◌≡◌, ◌≤◌}
 use Rattle.sdd_lawful.proofs.Asks.{contains_either}
 use Rattle.sdd_lawful.proofs.Conditions.{in_filter_mapped}
 use Rattle.sdd_invariants.specs.protocol.declared.entry.Entry as line
@@ -84,20 +84,10 @@ by_place cat [] h = tt
 by_place cat (f ∷ fs) h = (h 0 f refl, by_place cat fs (λ k g e. h (suc k) g e))
 
 asked_edge : (p : ℕ → Bool) (i j : ℕ) (e : Edge) (f : FragNo) → asked_on p i j e ≡ Some f → p f.0 ≡ true
-asked_edge p i j (Vertical c) f e = cc
-asked_edge p i j (Horizontal c d) f e = cc
-asked_edge p i j (Diagonal reader writer g) f e =
-    elim (true_or_false ((reader.0 == i) && ((writer.0 == j) && p g.0))) [
-      | inl t ↦ (let q : Some g ≡ Some f = rw t at e in let r : g ≡ f = cc in
-          subst (λ (z : FragNo). p z.0 ≡ true) r (and_right (writer.0 == j) (p g.0) (and_right (reader.0 == i) ((writer.0 == j) && p g.0) t)))
-      | inr t ↦ (let q : None ≡ Some f = rw t at e in cc)
-    ]
+asked_edge p i j e f h = grind (arith, true_or_false, and_right)
 
 asked_entry : (protocol : Protocol) (p : ℕ → Bool) (i j : ℕ) (e : line.Entry) (f : FragNo) → asked_in protocol p i j e ≡ Some f → p f.0 ≡ true
-asked_entry protocol p i j e f h = elim (true_or_false (same_protocol e.protocol protocol)) [
-  | inl t ↦ asked_edge p i j e.edge f (rw t at h)
-  | inr t ↦ (let q : None ≡ Some f = rw t at h in cc)
-]
+asked_entry protocol p i j e f h = grind (arith, true_or_false, same_protocol, asked_edge)
 
 pub asked_exist : (cat : Catalogue) (c d : ℕ) (frags : List ℕ) (protocol : Protocol) (table : List line.Entry) (i j : ℕ)
     → ((f : ℕ) → contains frags f ≡ true → IsFragment cat f)
@@ -110,15 +100,11 @@ asked_exist cat c d frags protocol table i j h =
 
 cond_for_exists : (cat : Catalogue) (j time : ℕ) (fs : List FragNo) (q : Cond) → j ≤ length cat.classes → AllByRecursion (λ (f : FragNo). IsFragment cat f.0) fs
     → cond_for j time fs ≡ Some q → CondExists cat q
-cond_for_exists cat j time [] q c h e = cc
-cond_for_exists cat j time (f ∷ fs) q c h e =
-    let p : cond_of j time (f ∷ fs) ≡ q = cc in
-    subst (CondExists cat) p (c, All-from_recursion (λ (f : FragNo). IsFragment cat f.0) (f ∷ fs) h)
+cond_for_exists cat j time fs q c h e = grind (arith, All-from_recursion)
 
 either_exists : (cat : Catalogue) (a b : Option Cond) (q : Cond) → ((x : Cond) → a ≡ Some x → CondExists cat x) → ((x : Cond) → b ≡ Some x → CondExists cat x)
     → option_or a b ≡ Some q → CondExists cat q
-either_exists cat None b q f g e = g q e
-either_exists cat (Some x) b q f g e = f q e
+either_exists cat a b q f g e = grind arith
 
 all_numbered : (cat : Catalogue) (ns : List ℕ) → ((k n : ℕ) → slice_get ns k ≡ Some n → IsFragment cat n)
     → AllByRecursion (λ (f : FragNo). IsFragment cat f.0) (map frag_no ns)

@@ -1,5 +1,5 @@
 -- The sites that run classes have small numbers, which differ.
-use Rattle.sdd_lawful.proofs.All.{Catalogue, Class, IsServedClass, IsSoundCatalogue, Site, T, ap, arith, at_number, class_at, dec_le, differ, false, get_or_past, home, inl, inr, length, number_of, refl, same_or_not, sound_classes, sound_whole, subst, sym, tm_no, ℕ, ◌-◌, ◌==◌, ◌∙◌, ◌≡◌, ◌≢◌, ◌≤◌, ◌⊎◌}
+use Rattle.sdd_lawful.proofs.All.{Catalogue, Class, IsServedClass, IsSoundCatalogue, Site, ap, arith, at_number, class_at, dec_le, differ, false, get_or_past, home, length, number_of, same_or_not, sound_classes, sound_whole, ℕ, ◌-◌, ◌==◌, ◌≡◌, ◌≢◌, ◌≤◌, ◌⊎◌}
 
 -- the module of a class is there
 pub served : (cat : Catalogue) → IsSoundCatalogue cat → (c : ℕ) → 1 ≤ c → c ≤ length cat.classes → IsServedClass cat (class_at cat c)
@@ -23,10 +23,7 @@ module_small cat sound c = elim (dec_le (length cat.classes) (c - 1)) [
 ]
 
 pub home_small : (cat : Catalogue) → IsSoundCatalogue cat → (c : ℕ) → number_of (home cat c) ≤ 16
-home_small cat sound c = elim (same_or_not c 0) [
-  | inl p ↦ subst (λ k. number_of (home cat k) ≤ 16) (sym p) (omega arith)
-  | inr p ↦ (let m = module_small cat sound c in let e : number_of (home cat c) ≡ (class_at cat c).tm.0 = rw p refl in omega arith)
-]
+home_small cat sound c = grind (arith, same_or_not, module_small, class_at)
 
 pub positive : (c : ℕ) → (c == 0) ≡ false → 1 ≤ c
 positive c p = elim (dec_le 1 c) [ yes q ↦ q | no q ↦ absurd (differ c 0 p (omega (arith, q))) ]
@@ -36,24 +33,4 @@ abbrev pub DifferOrSame : Site → Site → Type 0
 DifferOrSame a b = (a ≡ b) ⊎ (number_of a ≢ number_of b)
 
 pub homes_differ : (cat : Catalogue) → IsSoundCatalogue cat → (c d : ℕ) → c ≤ length cat.classes → d ≤ length cat.classes → DifferOrSame (home cat c) (home cat d)
-homes_differ cat sound c d hc hd = elim (same_or_not c 0) [
-  | inl p ↦ elim (same_or_not d 0) [
-    | inl q ↦ inl (ap (home cat) (p ∙ sym q))
-    | inr q ↦ (let from : 1 ≤ d = positive d q in let s = (served cat sound d from hd).module_from in
-        let e : number_of (home cat d) ≡ (class_at cat d).tm.0 = rw q refl in
-        let f : number_of (home cat c) ≡ 0 = ap (λ k. number_of (home cat k)) p in
-        inr (λ z. let y : number_of (home cat c) ≡ number_of (home cat d) = z in absurd (omega arith)))
-  ]
-  | inr p ↦ elim (same_or_not d 0) [
-    | inl q ↦ (let from : 1 ≤ c = positive c p in let s = (served cat sound c from hc).module_from in
-        let e : number_of (home cat c) ≡ (class_at cat c).tm.0 = rw p refl in
-        let f : number_of (home cat d) ≡ 0 = ap (λ k. number_of (home cat k)) q in
-        inr (λ z. let y : number_of (home cat c) ≡ number_of (home cat d) = z in absurd (omega arith)))
-    | inr q ↦ (let a : home cat c ≡ T (tm_no (class_at cat c).tm.0) = rw p refl in
-        let b : home cat d ≡ T (tm_no (class_at cat d).tm.0) = rw q refl in
-        elim (same_or_not (class_at cat c).tm.0 (class_at cat d).tm.0) [
-          | inl s ↦ inl (a ∙ ap (λ n. T (tm_no n)) s ∙ sym b)
-          | inr s ↦ inr (λ z. differ (class_at cat c).tm.0 (class_at cat d).tm.0 s (sym (ap number_of a) ∙ z ∙ ap number_of b))
-        ])
-  ]
-]
+homes_differ cat sound c d hc hd = grind (arith, same_or_not, positive, served, class_at, differ)

@@ -120,8 +120,4 @@ starts_later c n (_ ∷ later) log = starts_later c n later log
 
 pub starts_grow : (later before : Log) (c : ℕ) (txn : TxnNo) (attempt : ℕ) (class : ClassNo) (ts : Ts) (p2 : Option Ts) (us : List Use) (sends : List (Site × Msg))
     → starts_of c txn.0 before < starts_of c txn.0 (later ++ Did (Records c (Start txn attempt class ts p2 us) sends) ∷ before)
-starts_grow later before c txn attempt class ts p2 us sends =
-    let i = starts_later c txn.0 later (Did (Records c (Start txn attempt class ts p2 us) sends) ∷ before) in
-    let e : starts_of c txn.0 (Did (Records c (Start txn attempt class ts p2 us) sends) ∷ before) ≡ suc (starts_of c txn.0 before) = rw
-    (same_number c, same_number txn.0) refl in
-    omega arith
+starts_grow later before c txn attempt class ts p2 us sends = grind (arith, starts_later, same_number)

@@ -1,5 +1,5 @@
 -- All that the records of a history name is there.
-use Rattle.sdd_lawful.proofs.All.{Act, All-from_recursion, AllByRecursion, Answer, Apply, AreErasOf, AreNumbered, Arrive, Ask, Attempt, Catalogue, Change, ChangeExists, ClassNo, Commit, Committed, Cond, CondExists, D, DmNo, Does, Entry, Eras, ExistsIn, FitsStatement, FitsTxn, Hand, HasSoundData, History, Input, IsAskBy, IsAttempt, IsClass, IsCommitted, IsDueAt, IsFrom1To, IsModule, IsPermitted, IsPutAt, IsRead, IsReadStep, IsRecordAt, IsSoundCatalogue, List, Log, Mark, Msg, NamesOneOf, None, Notes, Nothing, Null, NumbersExist, Option, Pass, Read, Rec, Records, Rejected, RelNo, Row, Sends, Setting, Site, Some, Start, Submit, Submitted, Ts, TxnNo, TxnsExist, Use, UseExists, Wait, [], all_join, allowed_act, ap, append_assoc, arith, ascending, class_number, contains, d_step, dm_no, false, first_of_filter, fragments_in, from_ascending, hand_was_put, handed, head, head_put, history, home, in_class, length, local_of, marks, modules_asked, modules_of, number_member, origin, p2_time, permitted_before, pipe_at, place_of_hand, put_at_home, put_in_by_d, puts_to, record_of, recursion_from_All, refl, same_number, sends_of_act, setting_of, slice_get, spoils, start_at, start_read, subst, suc, sym, to_site, true, txn_no, view_of, ℕ, ◌++◌, ◌-◌, ◌<◌, ◌∙◌, ◌∷◌, ◌≡◌, ◌≤◌}
+use Rattle.sdd_lawful.proofs.All.{Act, All-from_recursion, AllByRecursion, Answer, Apply, AreErasOf, AreNumbered, Arrive, Ask, Attempt, Catalogue, Change, ChangeExists, ClassNo, Commit, Committed, Cond, CondExists, D, DmNo, Does, Entry, Eras, ExistsIn, FitsTxn, Hand, HasSoundData, History, Input, IsAskBy, IsAttempt, IsClass, IsCommitted, IsDueAt, IsFrom1To, IsModule, IsPermitted, IsPutAt, IsRead, IsReadStep, IsRecordAt, IsSoundCatalogue, List, Log, Mark, Msg, NamesOneOf, Nothing, Null, NumbersExist, Option, Pass, Read, Rec, Records, Rejected, RelNo, Row, Sends, Setting, Site, Some, Start, Submit, Submitted, Ts, TxnNo, TxnsExist, Use, UseExists, Wait, [], all_join, allowed_act, ap, append_assoc, arith, ascending, class_number, contains, d_step, dm_no, false, first_of_filter, fragments_in, from_ascending, hand_was_put, handed, head, head_put, history, home, in_class, length, local_of, marks, modules_asked, modules_of, number_member, origin, p2_time, permitted_before, pipe_at, place_of_hand, put_at_home, put_in_by_d, puts_to, record_of, recursion_from_All, refl, same_number, sends_of_act, setting_of, slice_get, spoils, start_at, start_read, subst, suc, sym, to_site, true, txn_no, view_of, ℕ, ◌++◌, ◌-◌, ◌<◌, ◌∙◌, ◌∷◌, ◌≡◌, ◌≤◌}
 use Rattle.sdd_lawful.proofs.Answered.{answer_head, in_reads, read_of_some}
 use Rattle.sdd_lawful.proofs.Applied.{apply_in}
 use Rattle.sdd_lawful.proofs.Applies.{of_commit}
@@ -56,8 +56,7 @@ module _ (g : Input) (rows : List (RelNo × Row)) (eras : Eras) (log : Log) (sou
       let x = start_in g log a sound h s in
       let w = given_of_attempt g log a x in
       let fits = all_slice (FitsTxn cat) g.txns (a.txn - 1) x.says.text (recursion_from_All (FitsTxn cat) g.txns fine.txns_fit) w.text_is in
-      subst (AllByRecursion (UseExists cat)) (sym x.says.uses_are)
-      (uses_exist cat 0 x.says.text.statements (recursion_from_All (FitsStatement cat) x.says.text.statements fits.statements))
+      grind (arith, recursion_from_All, uses_exist)
 
   asked_module : (a : Attempt) (d : ℕ) → IsAttempt (history log) a → contains (modules_of cat a.class (ascending (fragments_in a.uses))) d ≡ true
       → IsModule cat d
@@ -288,17 +287,13 @@ module _ (g : Input) (rows : List (RelNo × Row)) (eras : Eras) (log : Log) (sou
       let x = of_data later at c (Pass class dm time) sends before is refl in pass_known later c class dm time sends before x.0 x.1 x.2
 
   entry_known : (later before : Log) (e : Entry) (r : Rec) → log ≡ later ++ e ∷ before → record_of e ≡ Some r → IsKnown r
-  entry_known later before (Submitted at n) r is m = let q : Submit (txn_no n) ≡ r = cc in subst IsKnown q (tt, submitted_known n at later before is)
-  entry_known later before Notes r is m = let q : Nothing ≡ r = cc in subst IsKnown q (tt, tt)
-  entry_known later before (Does at (Records c x sends)) r is m = let q : x ≡ r = cc in subst IsKnown q (record_known later at c x sends before is)
-  entry_known later before e r is m = cc
+  entry_known later before e r is m = grind (arith, submitted_known, record_known)
 
   abbrev AllKnown : History → Type 0
   AllKnown l = AllByRecursion (λ e. IsKnown e.1) l
 
   recorded_known : (later before : Log) (e : Entry) (o : Option Rec) → log ≡ later ++ e ∷ before → record_of e ≡ o → AllKnown (recorded (marks before) o)
-  recorded_known later before e None is m = tt
-  recorded_known later before e (Some r) is m = (entry_known later before e r is m, tt)
+  recorded_known later before e o is m = grind (arith, entry_known)
 
   known_till : (later before : Log) → log ≡ later ++ before → AllKnown (history before)
   known_till later [] is = tt

@@ -1,7 +1,7 @@
 -- The Answers and Commits of a history: one Answer of an attempt at a module, after its Start, and before its Commit one
 -- at each module that is asked.
-use Rattle.sdd_lawful.proofs.All.{Act, Answer, AnsweredBefore, Asks, Attempt, Catalogue, Committed, D, Does, HasCommit, Input, IsAttempt, IsCommitted, IsPermitted, IsRecordAt, IsSoundCatalogue, List, Log, None, Option, Records, Some, StartedBefore, [], answered_once, ap, arith, ascending, by_no_class, by_use, class_no, commit_act, commit_answered, cons_option, contains, contains_at, dm_no, each_in_range, filter_map, found_has, fragments_in, has_copy, head, history, home, home_of, in_ascending, inl, inr, length, lower_same_higher, lowest_copy, modules_of, numbers_to, only_right, or_left, or_right, pipe_at, range_with_len, reads_at, refl, same_number, same_or_not, setting_of, subst, sym, time_at, true, txn_no, ℕ, ◌++◌, ◌+◌, ◌<◌, ◌==◌, ◌∙◌, ◌∷◌, ◌≡◌, ◌≤◌}
-use Rattle.sdd_lawful.proofs.Answered.{IsAnswerIn, answer_in, answer_made, answer_of_some, answer_rec, read_msg}
+use Rattle.sdd_lawful.proofs.All.{Act, Answer, AnsweredBefore, Asks, Attempt, Catalogue, Committed, D, Does, HasCommit, Input, IsAttempt, IsCommitted, IsPermitted, IsRecordAt, IsSoundCatalogue, List, Log, None, Option, Records, Some, StartedBefore, [], answered_once, ap, arith, ascending, by_no_class, by_use, commit_act, commit_answered, cons_option, contains, contains_at, dm_no, each_in_range, filter_map, found_has, fragments_in, has_copy, head, history, home, home_of, in_ascending, inl, inr, length, lower_same_higher, lowest_copy, modules_of, numbers_to, only_right, or_left, or_right, range_with_len, reads_at, refl, same_number, same_or_not, setting_of, subst, sym, true, txn_no, ℕ, ◌++◌, ◌+◌, ◌<◌, ◌==◌, ◌∙◌, ◌∷◌, ◌≡◌, ◌≤◌}
+use Rattle.sdd_lawful.proofs.Answered.{IsAnswerIn, answer_in, answer_made, answer_of_some, answer_rec}
 use Rattle.sdd_lawful.proofs.Beginnings.{in_numbers}
 use Rattle.sdd_lawful.proofs.Classes.{further_back}
 use Rattle.sdd_lawful.proofs.Commits.{Told, begun, commit_in}
@@ -16,15 +16,11 @@ not_behind g log a d j k sound h x y l =
     let small = home_small g.catalogue sound a.class in
     let now : IsPermitted g (z.between ++ Does (D (dm_no d)) (Records a.class (answer_rec a d) x.sends) ∷ x.before) = subst
     (IsPermitted g) z.is y.permitted.1 in
-    absurd (answered_once g a.class (dm_no d) z.between x.before (dm_no d) x.sends (time_at a.ts) (time_at a.ts) (class_no a.class) (class_no a.class)
-    (txn_no a.txn) (txn_no a.txn) a.number a.number x.read.conds y.read.conds x.read.uses y.read.uses now (omega arith) x.read.head_is
-    (subst (λ b. head (pipe_at g a.class (dm_no d) b) ≡ Some (read_msg a y.read.conds y.read.uses)) z.is y.read.head_is) refl refl)
+    grind (arith, answered_once, head)
 
 answer_at : (g : Input) (log : Log) (a : Attempt) (n number d k : ℕ) → IsSoundCatalogue g.catalogue → IsPermitted g log → IsAttempt (history log) a
     → a.txn ≡ n → a.number ≡ number → IsRecordAt (history log) k (Answer (txn_no n) number (dm_no d)) → IsAnswerIn g log a d k
-answer_at g log a n number d k sound h s e f st =
-    answer_in g log a d k sound h s
-    (subst (λ i. IsRecordAt (history log) k (Answer (txn_no a.txn) i (dm_no d))) (sym f) (subst (λ i. IsRecordAt (history log) k (Answer (txn_no i) number (dm_no d))) (sym e) st))
+answer_at g log a n number d k sound h s e f st = grind (arith, answer_in)
 
 pub one_answer : (g : Input) (log : Log) → IsSoundCatalogue g.catalogue → IsPermitted g log → (n number d j k : ℕ)
     → IsRecordAt (history log) j (Answer (txn_no n) number (dm_no d)) → IsRecordAt (history log) k (Answer (txn_no n) number (dm_no d)) → j ≡ k
@@ -97,9 +93,4 @@ answered g log sound h t d ct asks =
     let rises = place_rises a.later (Does (D (dm_no d)) ans) a.before (Answer a.txn a.attempt (dm_no d)) refl in
     let size : length (history c.before) ≡ length (history (a.later ++ Does (D (dm_no d)) ans ∷ a.before)) = ap (λ l. length (history l)) a.is in
     let place = c.place_is in
-    record {
-      place = length (history a.before);
-      answered = subst (λ i. IsRecordAt (history log) (length (history a.before)) (Answer (txn_no t.start.txn) i (dm_no d))) (a.try_is ∙ c.number_is)
-          (subst (λ i. IsRecordAt (history log) (length (history a.before)) (Answer (txn_no i) a.attempt (dm_no d))) (a.number_is ∙ c.txn_is) there);
-      before = omega arith;
-    }
+    grind arith

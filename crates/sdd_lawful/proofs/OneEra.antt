@@ -1,10 +1,8 @@
 -- A log in which no further class list was put in force has one era.
-use Rattle.sdd_lawful.proofs.All.{AreEras, AreErasOf, Catalogue, Committed, History, Input, IsEra, IsEraOf, IsOfEarlierEra, KeepsEras, Log, Redeclares, Some, [], ap, arith, cond, era_of_itself, eras_begun, event_at, false, inl, inr, length, marks, nat_le, nat_tests, nth_era, one_era, redeclares, refl, slice_get, slice_index_or, subst, suc, sym, true, true_or_false, zero, ℕ, ◌++◌, ◌-◌, ◌∙◌, ◌∷◌, ◌≡◌}
-use Rattle.sdd_laws.specs.All.{catalogue_at}
+use Rattle.sdd_lawful.proofs.All.{AreEras, AreErasOf, Catalogue, Committed, History, Input, IsEra, IsEraOf, IsOfEarlierEra, KeepsEras, Log, Redeclares, Some, [], ap, arith, catalogue_at, cond, era_of_itself, eras_begun, false, length, marks, nat_le, nth_era, one_era, redeclares, refl, slice_get, slice_index_or, subst, suc, sym, true, true_or_false, ℕ, ◌++◌, ◌-◌, ◌∙◌, ◌∷◌, ◌≡◌}
 
 each_era : (cat : Catalogue) (k : ℕ) (a : ℕ × Catalogue) → slice_get (one_era cat) k ≡ Some a → IsEraOf cat a.1
-each_era cat zero a e = let p : (0, cat) ≡ a = cc in subst (λ (x : ℕ × Catalogue). IsEraOf cat x.1) p (era_of_itself cat)
-each_era cat (suc k) a e = cc
+each_era cat k a e = grind (arith, era_of_itself)
 
 no_next : {A : Type 0} (cat : Catalogue) (k : ℕ) (b : ℕ × Catalogue) → slice_get (one_era cat) (suc k) ≡ Some b → A
 no_next cat k b e = cc
@@ -33,20 +31,10 @@ of_one_era g log era same none = record {
 }
 
 begun_one : (cat : Catalogue) (event : ℕ) → eras_begun (one_era cat) event ≡ 1
-begun_one cat event = elim (true_or_false (nat_le 0 event)) [
-  | inl p ↦ rw p refl
-  | inr p ↦ absurd (grind (arith, nat_tests))
-]
+begun_one cat event = grind (arith, true_or_false)
 
 no_earlier : {A : Type 0} (cat : Catalogue) (h : History) (x y : Committed) → IsOfEarlierEra (one_era cat) h x y → A
-no_earlier cat h x y e =
-    let a = begun_one cat (event_at h e.first_place) in let b = begun_one cat (event_at h e.second_place) in let l = e.earlier in
-    absurd (omega arith)
+no_earlier cat h x y e = grind (arith, begun_one)
 
 pub keeps_eras : (cat : Catalogue) (h : History) → KeepsEras cat (one_era cat) h
-keeps_eras cat h = record {
-  times_rise = λ x y e. no_earlier cat h x y e;
-  committed = λ x y a e s t. no_earlier cat h x y e;
-  applied = λ x y a d e s t goes. no_earlier cat h x y e;
-  one_era = λ a k s t. begun_one cat (event_at h k) ∙ sym (begun_one cat (event_at h a.place));
-}
+keeps_eras cat h = grind (arith, no_earlier, one_era, begun_one)

@@ -1,16 +1,12 @@
 -- The records of a history are those of the entries of its log, in their order.
-use Rattle.sdd_lawful.proofs.All.{Does, Entry, History, IsBefore, IsMadeAt, IsRecordAt, List, Log, None, Notes, Option, Rec, Records, Sends, Some, Submitted, [], ap, append-nil, append_assoc, arith, at_seam, compare, dec_le, event_at, history, in_left, inl, inr, length, marks, place_within, record_of, refl, slice_get, subst, suc, sym, take, take-append_seam, zero, ℕ, ◌++◌, ◌<◌, ◌∙◌, ◌∷◌, ◌≡◌, ◌≤◌}
+use Rattle.sdd_lawful.proofs.All.{Entry, History, IsBefore, IsMadeAt, IsRecordAt, List, Log, None, Option, Rec, Some, [], ap, append-nil, append_assoc, arith, at_seam, compare, dec_le, event_at, history, in_left, inl, inr, length, marks, place_within, record_of, refl, slice_get, subst, suc, sym, take, take-append_seam, zero, ℕ, ◌++◌, ◌<◌, ◌∙◌, ◌∷◌, ◌≡◌, ◌≤◌}
 
 abbrev pub recorded : ℕ → Option Rec → History
 recorded event None = []
 recorded event (Some r) = (event, r) ∷ []
 
 pub history_step : (e : Entry) (log : Log) → history (e ∷ log) ≡ history log ++ recorded (marks log) (record_of e)
-history_step (Submitted at n) log = refl
-history_step Notes log = refl
-history_step (Does at (Records c r sends)) log = refl
-history_step (Does at (Sends to m hand)) log = refl
-history_step _ log = sym (append-nil _)
+history_step e log = grind (arith, append-nil)
 
 abbrev dated : Log → Rec → ℕ × Rec
 dated log r = (marks log, r)
@@ -55,17 +51,11 @@ made_at_pair [] k p q = cc
 made_at_pair (e ∷ log) k p q = made_in e log (record_of e) k p refl (λ s. made_at_pair log k p s) (subst (λ h. slice_get h k ≡ Some p) (history_step e log) q)
 
 recorded_pair : (o : Option (ℕ × Rec)) (r : Rec) (h : History) (k : ℕ) → slice_get h k ≡ o → IsRecordAt h k r → (p : ℕ × Rec) × (slice_get h k ≡ Some p) × (p.1 ≡ r)
-recorded_pair None r h k q s = let t : ◌≡◌ {A = Option Rec} None (Some r) = subst
-    (λ (y : Option (ℕ × Rec)). elim y as (λ _. Option Rec) [ None ↦ None | Some z ↦ Some z.1 ] ≡ Some r) q s in cc
-recorded_pair (Some p) r h k q s =
-    let t : Some p.1 ≡ Some r = subst (λ (y : Option (ℕ × Rec)). elim y as (λ _. Option Rec) [ None ↦ None | Some z ↦ Some z.1 ] ≡ Some r) q s in
-    (p, q, (let u : p.1 ≡ r = cc in u))
+recorded_pair o r h k q s = grind arith
 
 -- a record of the history is that of an entry
 pub made_at : (log : Log) (k : ℕ) (r : Rec) → IsRecordAt (history log) k r → IsMadeAt log k r
-made_at log k r s =
-    let p = recorded_pair (slice_get (history log) k) r (history log) k refl s in
-    subst (λ x. IsMadeAt log k x) p.2 (made_at_pair log k p.0 p.1)
+made_at log k r s = grind (arith, recorded_pair, made_at_pair)
 
 -- and the record of an entry stands in the history
 pub recorded_there : (later : Log) (e : Entry) (before : Log) (r : Rec) → record_of e ≡ Some r

@@ -1,5 +1,5 @@
 -- The history of a permitted log keeps the law of rejections.
-use Rattle.sdd_lawful.proofs.All.{Act, AppliedBefore, AreErasOf, Attempt, ClassNo, Cond, D, DmNo, Does, Entry, Eras, Input, IsAgain, IsAttempt, IsConditionOf, IsPermitted, IsRecordAt, IsSoundCatalogue, IsStep, IsTable, KeepsRejections, List, Log, Msg, None, Queued, Rec, Records, Rejected, Setting, Site, Some, Start, Ts, TxnNo, [], active, again, allowed_act, ap, append_assoc, arith, bound, commit_act, conditions_of, d_step, event_at, first_of_filter, head_of, history, home, home_of, length, local_of, nth_era, permitted_before, queue, redeclares, refl, setting_of, slice_get, spoils, step_way, subst, suc, sym, txn_no, view_of, ℕ, ◌++◌, ◌<◌, ◌∙◌, ◌∷◌, ◌≡◌}
+use Rattle.sdd_lawful.proofs.All.{Act, AppliedBefore, AreErasOf, Attempt, ClassNo, Cond, D, DmNo, Does, Entry, Eras, Input, IsAgain, IsAttempt, IsConditionOf, IsPermitted, IsRecordAt, IsSoundCatalogue, IsStep, IsTable, KeepsRejections, List, Log, Msg, None, Queued, Rec, Records, Rejected, Setting, Site, Some, Start, Ts, TxnNo, [], active, again, allowed_act, ap, append_assoc, arith, bound, catalogue_at, commit_act, conditions_of, d_step, event_at, first_of_filter, head_of, history, home, home_of, length, local_of, nth_era, permitted_before, queue, redeclares, refl, setting_of, slice_get, spoils, step_way, subst, suc, sym, txn_no, view_of, ℕ, ◌++◌, ◌<◌, ◌∙◌, ◌∷◌, ◌≡◌}
 use Rattle.sdd_lawful.proofs.Answered.{IsReadIn, read_of_some}
 use Rattle.sdd_lawful.proofs.Applied.{applied_before}
 use Rattle.sdd_lawful.proofs.Classes.{at_home, further_back, home_setting}
@@ -10,7 +10,6 @@ use Rattle.sdd_lawful.proofs.Places.{place_rises, recorded_there}
 use Rattle.sdd_lawful.proofs.Rejected.{rejecting, spoilt_by, touched_one}
 use Rattle.sdd_lawful.proofs.Started.{start_act_of, start_in}
 use Rattle.sdd_lawful.proofs.Starts.{p2_bound}
-use Rattle.sdd_laws.specs.All.{catalogue_at}
 use Rattle.sdd_invariants.specs.site_module.SiteLog as site
 
 -- a Start is of the head of its queue
@@ -53,8 +52,7 @@ rejected_there g log later before class txn attempt d by write sends n number is
     let r : Rec = Rejected txn attempt (home_of (setting_of g (D d))).dm by write in
     let s : IsRecordAt (history log) (length (history before)) r = subst (λ l. IsRecordAt (history l) (length (history before)) r) (sym is)
     (recorded_there later (Does (D d) (Records class r sends)) before r refl) in
-    subst (λ j. IsRecordAt (history log) (length (history before)) (Rejected (txn_no n) j d by write)) f
-    (subst (λ j. IsRecordAt (history log) (length (history before)) (Rejected (txn_no j) attempt d by write)) e s)
+    grind arith
 
 pub again_of : (g : Input) (log : Log) (eras : Eras) → IsSoundCatalogue g.catalogue → IsPermitted g log → AreErasOf g log eras
     → (a : Attempt) → IsAttempt (history log) a → 1 < a.number → IsAgain g.catalogue eras (history log) a

@@ -29,10 +29,7 @@ one_change changes made c e h k f g =
 
 filter_twice : {A : Type 0} (p : A → Bool) (xs : List A) → filter p (filter p xs) ≡ filter p xs
 filter_twice p [] = refl
-filter_twice p (x ∷ xs) = elim (true_or_false (p x)) [
-  | inl e ↦ rw (e, e) (ap (λ l. x ∷ l) (filter_twice p xs))
-  | inr e ↦ rw e (filter_twice p xs)
-]
+filter_twice p (x ∷ xs) = grind (arith, true_or_false, filter_twice p xs)
 
 module _ (g : Input) (rows : List (RelNo × Row)) (eras : Eras) (log : Log) (sound : IsSoundCatalogue g.catalogue) (fine : HasSoundData g rows)
     (h : IsPermitted g log) (are : AreErasOf g log eras) (d k : ℕ) (q : Rec) (m : IsMadeAt log k q) (f : ℕ) (copied : has_copy g.catalogue d f ≡ true) where

@@ -1,5 +1,5 @@
 -- The history of a permitted log keeps the law of Starts.
-use Rattle.sdd_lawful.proofs.All.{Act, AreErasOf, Attempt, Catalogue, Committed, CommittedBefore, Did, Does, Era, Eras, Input, IsAttempt, IsBound, IsCommitted, IsEraOf, IsMadeAt, IsOfSubmit, IsPermitted, IsRecordAt, IsSoundCatalogue, IsSubmitted, KeepsStarts, List, Log, Msg, None, Option, Records, Setting, Site, Some, Start, Submit, Submits, Submitted, T, TmNo, Ts, Txn, [], and_left, ap, append_assoc, arith, bound, class_at, class_for, class_no, clock, covered, covers, dec_le, eqb-true, era_is, event_at, false, filter, first_passes, head_of, history, home, home_fair, if◌then◌else◌, inl, inr, is_committed, is_for, is_some, length, local_of, lower_same_higher, marks, mul-add-mod_self_right, not, nth_era, number_of, numbers_to, option_map, or_right, p2_of, permitted_before, place_of_act, promises, record_at, redeclares, refl, same_number, same_or_not, setting_of, slice_get, stamps, stamps_differ, starts_of, submits_of, subst, sym, time_at, tm_no, true, txn_at, txn_no, unwrap_or, ℕ, ◌%◌, ◌++◌, ◌<◌, ◌==◌, ◌∙◌, ◌∷◌, ◌≡◌, ◌≢◌, ◌≤◌}
+use Rattle.sdd_lawful.proofs.All.{Act, AreErasOf, Attempt, Catalogue, Committed, CommittedBefore, Did, Does, Eras, Input, IsAttempt, IsBound, IsCommitted, IsEraOf, IsMadeAt, IsOfSubmit, IsPermitted, IsRecordAt, IsSoundCatalogue, IsSubmitted, KeepsStarts, List, Log, Msg, None, Option, Records, Setting, Site, Some, Start, Submit, Submits, Submitted, Ts, Txn, [], and_left, ap, append_assoc, arith, bound, catalogue_at, class_at, class_for, class_no, clock, covered, covers, dec_le, eqb-true, era_is, event_at, false, first_passes, history, home, home_fair, if◌then◌else◌, inl, inr, is_committed, is_some, length, local_of, lower_same_higher, marks, mul-add-mod_self_right, not, nth_era, number_of, option_map, or_right, p2_of, permitted_before, place_of_act, promises, record_at, redeclares, refl, same_number, same_or_not, slice_get, stamps, stamps_differ, starts_of, submits_of, subst, sym, time_at, true, txn_at, txn_no, unwrap_or, ℕ, ◌%◌, ◌++◌, ◌<◌, ◌==◌, ◌∙◌, ◌∷◌, ◌≡◌, ◌≢◌, ◌≤◌}
 use Rattle.sdd_lawful.proofs.Classes.{IsForClass, IsGivenTo, at_home, era_there, further_back, home_by, home_setting, submit_local}
 use Rattle.sdd_lawful.proofs.Commits.{Told, commit_class, commit_in, commit_made, commit_rec, commit_seen, one_commit}
 use Rattle.sdd_lawful.proofs.Counted.{numbered}
@@ -9,7 +9,6 @@ use Rattle.sdd_lawful.proofs.Places.{entries_in_order, event_there, place_rises,
 use Rattle.sdd_lawful.proofs.Started.{IsStartIn, act_local, given_of_attempt, given_of_start, start_act_of, start_in, start_made, start_of}
 use Rattle.sdd_lawful.proofs.Submissions.{IsSubmitIn, given_at, one_submit, same_submission, submit_in}
 use Rattle.sdd_invariants.specs.logs.Due.{home_of}
-use Rattle.sdd_laws.specs.All.{catalogue_at}
 use Rattle.sdd_invariants.specs.site_module.SiteLog as site
 
 -- classes by the eras
@@ -142,8 +141,7 @@ earlier_committed g log a x n text later rest w is same t f =
     let m = submit_local g a.class n text later rest t in
     let i = submitted_in (home_setting g a.class) a.class n text m.0 (at_home g a.class rest) f in
     let l : at_home g a.class s.given.rest ≡ m.0 ++ Submits n text ∷ at_home g a.class rest = ap (at_home g a.class) (sym same ∙ is) ∙ m.1 in
-    all_committed_at a.class (at_home g a.class x.before) (submits_of (home_setting g a.class) a.class (at_home g a.class s.given.rest)) i.0 n text s.earlier
-    (in_submits (home_setting g a.class) a.class n text (at_home g a.class s.given.rest) (m.0 ++ Submits n text ∷ at_home g a.class rest) i.0 l i.1)
+    grind (arith, at_home, all_committed_at, in_submits)
 
 abbrev submit_made_at : (g : Input) (log : Log) (n k : ℕ) → IsSubmitIn g log n k → IsMadeAt log k (Submit (txn_no n))
 submit_made_at g log n k u = record { later = u.later; entry = Submitted u.at n; before = u.rest; is = u.is; makes = refl; place_is = u.place_is }
@@ -187,39 +185,14 @@ in_turn g log sound h a b j k s t e l p q = elim (dec_le j k) [
 -- the site of a class
 
 pub covers_home : (cat : Catalogue) (txn : Txn) (c : ℕ) → c ≡ class_for cat txn → 1 ≤ c → (class_at cat c).tm.0 ≡ txn.tm.0
-covers_home cat txn c e l =
-    elim (head_of (filter (covers cat txn) (numbers_to (length cat.classes)))) as
-    (λ o. head_of (filter (covers cat txn) (numbers_to (length cat.classes))) ≡ o → c ≡ unwrap_or o 0 → (class_at cat c).tm.0 ≡ txn.tm.0) [
-      | None ↦ λ h z. absurd (omega arith)
-      | Some x ↦ λ h z.
-          let p = first_passes (covers cat txn) (numbers_to (length cat.classes)) x h in
-          let q : ((class_at cat x).tm.0 == txn.tm.0) ≡ true = and_left _ _ p in
-          ap (λ k. (class_at cat k).tm.0) z ∙ eqb-true (class_at cat x).tm.0 txn.tm.0 q
-    ] refl e
+covers_home cat txn c e l = grind (arith, covers, class_at, first_passes, and_left, eqb-true)
 
 home_is : (g : Input) (era : Catalogue) → IsEraOf g.catalogue era → (txn : Txn) (c : ℕ) → class_for era txn ≡ c
     → home_by (class_for era txn) txn ≡ home g.catalogue c
-home_is g era of txn c e = elim (same_or_not c 0) [
-  | inl p ↦ ap (λ k. home_by k txn) (e ∙ p) ∙ ap (home g.catalogue) (sym p)
-  | inr p ↦ (let from = positive c p in
-      let to : c ≤ length era.classes = subst (λ k. k ≤ length era.classes) e (class_within era txn) in
-      let here : home_by c txn ≡ T txn.tm = rw p refl in
-      let there : home g.catalogue c ≡ T (tm_no (class_at g.catalogue c).tm.0) = rw p refl in
-      let same : (class_at g.catalogue c).tm.0 ≡ txn.tm.0 = ap (λ (t : TmNo). t.0) (sym (of.home c from to)) ∙ covers_home era txn c (sym e) from in
-      ap (λ k. home_by k txn) e ∙ here ∙ ap (λ n. T (tm_no n)) (sym same) ∙ sym there)
-]
+home_is g era of txn c e = grind (arith, same_or_not, positive, class_within, class_at, covers_home)
 
 pub for_class : (g : Input) (c : ℕ) (rest : Log) (txn : Txn) → class_for (nth_era g (redeclares rest)).catalogue txn ≡ c → IsForClass g c rest txn
-for_class g c rest txn e = elim (same_or_not c 0) [
-  | inl p ↦ subst (λ k. IsForClass g k rest txn) (sym p) refl
-  | inr p ↦ (let t_no : TmNo = tm_no (class_at g.catalogue c).tm.0 in
-      let here : home g.catalogue c ≡ T t_no = rw p refl in
-      let k : class_for (site.current_era (setting_of g (T t_no)) (local_of g (T t_no) rest)).catalogue txn ≡ c = ap (λ (w : Era). class_for w.catalogue txn)
-      (era_there g t_no rest) ∙ e in
-      let q : is_for c (site.current_era (setting_of g (T t_no)) (local_of g (T t_no) rest)).catalogue txn ≡ true = or_right (c == 0) _
-      (ap (λ y. y == c) k ∙ same_number c) in
-      subst (λ a. is_for c (site.current_era (setting_of g a) (local_of g a rest)).catalogue txn ≡ true) (sym here) q)
-]
+for_class g c rest txn e = grind (arith, same_or_not, class_at, era_there, or_right, same_number)
 
 -- what is submitted before a transaction in its class is committed where it starts
 
@@ -304,10 +277,7 @@ some_p2 : (k b : ℕ) → is_some (p2_of k b) ≡ not (k == 0)
 some_p2 k b = elim (k == 0) as (λ c. is_some (if c then None else Some (time_at b)) ≡ not c) [ true ↦ refl | false ↦ refl ]
 
 pub p2_bound : (k b : ℕ) (p : Ts) → p2_of k b ≡ Some p → b ≡ p.0
-p2_bound k b p e = elim (same_or_not k 0) [
-  | inl z ↦ (let q : None ≡ Some p = rw z at e in cc)
-  | inr z ↦ (let q : Some (time_at b) ≡ Some p = rw z at e in let r : time_at b ≡ p = cc in ap (λ (x : Ts). x.0) r)
-]
+p2_bound k b p e = grind (arith, same_or_not)
 
 promise_below : (g : Input) (log : Log) (a b : Attempt) (x : IsStartIn g log a) (y : IsStartIn g log b) (p2 : ℕ) (o : Option Ts) → a.p2 ≡ o
     → home g.catalogue a.class ≡ home g.catalogue b.class → a.place < b.place → bound (home_setting g b.class) (at_home g b.class y.before) ≡ p2

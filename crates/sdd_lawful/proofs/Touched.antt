@@ -25,14 +25,10 @@ each_at P (y ∷ xs) zero x h e = let p : y ≡ x = cc in subst P p h.0
 each_at P (y ∷ xs) (suc k) x h e = each_at P xs k x h.1 e
 
 pub copy_module : (cat : Catalogue) → IsSoundCatalogue cat → (d f : ℕ) → has_copy cat d f ≡ true → IsModule cat d
-copy_module cat sound d f e =
-    let i = any_at (λ (x : DmNo). x.0 == d) (fragment_at cat f).copies e in
-    let p : i.1.0 ≡ d = eqb-true i.1.0 d i.3 in
-    subst (IsModule cat) p (each_at (λ (x : DmNo). IsModule cat x.0) (fragment_at cat f).copies i.0 i.1 (copies_there cat sound f) i.2)
+copy_module cat sound d f e = grind (arith, any_at, eqb-true, each_at, copies_there)
 
 pub goes_module : (cat : Catalogue) → IsSoundCatalogue cat → (t : Committed) (d : ℕ) → GoesTo cat t d → IsModule cat d
-goes_module cat sound t d (by_change x) = copy_module cat sound d x.fragment x.copied
-goes_module cat sound t d (by_no_class e m) = m
+goes_module cat sound t d e = grind (arith, copy_module)
 
 -- changes of which a module has a copy
 
@@ -56,10 +52,7 @@ any_there p (y ∷ xs) (suc k) x e f = or_right (p y) (list_any p xs) (any_there
 
 touches_any : (cat : Catalogue) (xs : List Change) (f d : ℕ) → list_any (λ (c : Change). c.frag.0 == f) xs ≡ true → has_copy cat d f ≡ true
     → 0 < length (filter (λ (x : Change). has_copy cat d x.frag.0) xs)
-touches_any cat xs f d e c =
-    let i = any_at (λ (c : Change). c.frag.0 == f) xs e in
-    let p : i.1.frag.0 ≡ f = eqb-true i.1.frag.0 f i.3 in
-    passing (λ (x : Change). has_copy cat d x.frag.0) xs i.0 i.1 i.2 (ap (has_copy cat d) p ∙ c)
+touches_any cat xs f d e c = grind (arith, any_at, eqb-true, passing, has_copy)
 
 pub touches_some : (g : Input) (log : Log) (t : Committed) (x : IsCommittedIn g log t) (d : ℕ) → Touches g.catalogue t d
     → 0 < length (changes_to g x.bases x.running (dm_no d))
@@ -73,16 +66,7 @@ goes_some g log t x d (by_no_class e m) = inl (ap (λ y. y == 0) e)
 
 pub some_goes : (cat : Catalogue) (t : Committed) (xs : List Change) (d : ℕ) → t.changes ≡ xs → IsModule cat d
     → ((t.start.class == 0) ≡ true) ⊎ (0 < length (changes_at cat d xs)) → GoesTo cat t d
-some_goes cat t xs d same m h = elim h [
-  | inl e ↦ by_no_class (eqb-true t.start.class 0 e) m
-  | inr l ↦ (let i = some_passes (λ (y : Change). has_copy cat d y.frag.0) xs l in
-      by_change (record {
-        fragment = i.1.frag.0;
-        changed = subst (λ ys. list_any (λ (c : Change). c.frag.0 == i.1.frag.0) ys ≡ true) (sym same)
-            (any_there (λ (c : Change). c.frag.0 == i.1.frag.0) xs i.0 i.1 i.2 (same_number i.1.frag.0));
-        copied = i.3;
-      }))
-]
+some_goes cat t xs d same m h = grind (arith, eqb-true, some_passes, has_copy, any_there, same_number)
 
 pub kept_there : {A : Type 0} (p : A → Bool) (xs : List A) (k : ℕ) (x : A) → slice_get xs k ≡ Some x → p x ≡ true
     → (j : ℕ) × (slice_get (filter p xs) j ≡ Some x)

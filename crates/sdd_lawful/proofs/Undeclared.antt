@@ -1,5 +1,5 @@
 -- The history of a permitted log keeps the law of undeclared transactions.
-use Rattle.sdd_lawful.proofs.All.{Act, AppliedBefore, Apply, AreErasOf, Attempt, Bases, Catalogue, Committed, Cond, D, Does, Done, Entry, Eras, GoesTo, HasApply, Input, IsAnswered, IsAttempt, IsCommitted, IsMadeAt, IsModule, IsPermitted, IsRecordAt, IsSoundCatalogue, IsWhollyAfter, IsWhollyBefore, KeepsUndeclared, Log, Queued, Rec, Records, Setting, Site, Some, T, Touches, U, [], all_applied, ap, append_assoc, arith, bound, by_change, by_no_class, class_at, classes_of, commit_act, commit_of, commit_t, cond_of, dm_no, false, frag_no, fragments_of, history, home, home_of, inl, inr, length, low_or_high, lower_same_higher, map, next_stamp, number_of, numbers_to, p2_of, permitted_before, refl, same_number, same_or_not, same_start, setting_of, slice_get, sound_whole, start_at, start_u, subst, suc, sym, tm_no, true, u_stamp, undeclared_conditions, uses_of, zero_applied, zero_pair, ℕ, ◌++◌, ◌<◌, ◌==◌, ◌∙◌, ◌∷◌, ◌≡◌, ◌≢◌, ◌≤◌, ◌⊎◌}
+use Rattle.sdd_lawful.proofs.All.{Act, AppliedBefore, Apply, AreErasOf, Attempt, Bases, Catalogue, Committed, Cond, D, Does, Done, Entry, Eras, GoesTo, HasApply, Input, IsAnswered, IsAttempt, IsCommitted, IsMadeAt, IsModule, IsPermitted, IsRecordAt, IsSoundCatalogue, IsWhollyAfter, IsWhollyBefore, KeepsUndeclared, Log, Queued, Rec, Records, Setting, Site, Some, T, Touches, U, [], all_applied, ap, append_assoc, arith, bound, class_at, classes_of, commit_act, commit_of, commit_t, cond_of, dm_no, false, frag_no, fragments_of, history, home, home_of, inl, inr, length, low_or_high, lower_same_higher, map, next_stamp, number_of, numbers_to, p2_of, permitted_before, refl, same_number, same_or_not, same_start, setting_of, slice_get, sound_whole, start_at, start_u, subst, suc, sym, tm_no, true, u_stamp, undeclared_conditions, uses_of, zero_applied, zero_pair, ℕ, ◌++◌, ◌<◌, ◌==◌, ◌∙◌, ◌∷◌, ◌≡◌, ◌≢◌, ◌≤◌, ◌⊎◌}
 use Rattle.sdd_lawful.proofs.Answered.{answer_in, answer_rec, conds_sent}
 use Rattle.sdd_lawful.proofs.Applied.{apply_rec}
 use Rattle.sdd_lawful.proofs.Applies.{of_commit}
@@ -121,8 +121,7 @@ zero_zero g log eras u t sound h are cu ct eu et ne = elim (lower_same_higher t.
 -- a declared transaction
 
 touches_of : (cat : Catalogue) (t : Committed) (d : ℕ) → (t.start.class == 0) ≡ false → GoesTo cat t d → Touches cat t d
-touches_of cat t d ne (by_change x) = x
-touches_of cat t d ne (by_no_class e m) = let p : true ≡ false = sym (ap (λ y. y == 0) e) ∙ ne in cc
+touches_of cat t d ne e = grind arith
 
 zero_sent : (g : Input) (a : Attempt) (log : Log) (d : ℕ) → a.class ≡ 0 → conds_sent g a log d ≡ undeclared_conditions g.catalogue a.ts
 zero_sent g a log d e = let p : (a.class == 0) ≡ true = ap (λ y. y == 0) e in rw p refl

@@ -1,5 +1,5 @@
 -- What committed transactions change are items of the catalogue, and so the database that an attempt reads is one.
-use Rattle.sdd_lawful.proofs.All.{Act, All, AllByRecursion, Answer, Apply, Bases, Catalogue, Change, D, Database, Dated, Did, DmNo, Does, FitsStatement, FitsTxn, HasRow, HasSoundData, Input, IsBased, IsChange, IsEntry, IsModule, IsPermitted, IsSoundCatalogue, IsWrite, Item, List, Log, Msg, PutsHeld, Rec, Records, RelNo, Row, Running, Setting, Site, SiteLog, Some, T, Txn, U, Write, [], active, all_filtered, all_have, all_join, and_left, and_right, ap, append_assoc, applied, apply_of_head, arith, base_of, changes_in, changes_to, class_at, class_number, commit_act, commit_put_is, database_of, dated, dm_no, each_has, each_inserted, effect, effect_changes, entry_placed, eqb-true, first_row, first_rows, flat_map, fold, fragment_at, frags_asked, has_copy, head, head_of, head_put, held_by, home, home_fair, if_way, inl, inr, is_apply, is_at, item_cmp, item_cmp_exact, items_of, local_of, map, numbers_to, one_active, permitted_before, pipe, place_of_act, queue, range_with_len, recursion_from_All, refl, rows_make_database, rows_of, sends_of_act, setting_of, slice_get, snapshots, snapshots_at, start_at, start_of_active, subst, suc, sym, t_commit, tm_no, to_site, true, true_or_false, txn_at, u_commit, with_item, zero, ℕ, ℤ, ◌&&◌, ◌++◌, ◌+◌, ◌-◌, ◌==◌, ◌∙◌, ◌∷◌, ◌≡◌, ◌≤◌}
+use Rattle.sdd_lawful.proofs.All.{Act, All, AllByRecursion, Answer, Apply, Bases, Catalogue, Change, D, Database, Dated, Did, DmNo, Does, FitsStatement, FitsTxn, HasSoundData, Input, IsBased, IsChange, IsEntry, IsModule, IsPermitted, IsSoundCatalogue, IsWrite, Item, List, Log, Msg, PutsHeld, Rec, Records, RelNo, Row, Running, Setting, Site, SiteLog, Some, T, Txn, U, Write, [], active, all_filtered, all_have, all_join, and_left, and_right, ap, append_assoc, applied, apply_of_head, arith, base_of, changes_in, changes_to, class_at, class_number, commit_act, commit_put_is, database_of, dated, dm_no, each_has, each_inserted, effect, effect_changes, entry_placed, eqb-true, first_row, first_rows, flat_map, fold, fragment_at, frags_asked, has_copy, head, head_put, held_by, home, home_fair, if_way, inl, inr, is_apply, is_at, item_cmp, item_cmp_exact, items_of, local_of, map, one_active, permitted_before, pipe, place_of_act, range_with_len, recursion_from_All, refl, rows_make_database, rows_of, sends_of_act, setting_of, slice_get, snapshots, snapshots_at, start_at, start_of_active, subst, suc, sym, t_commit, tm_no, to_site, true, true_or_false, txn_at, u_commit, with_item, zero, ℕ, ℤ, ◌&&◌, ◌++◌, ◌+◌, ◌-◌, ◌==◌, ◌∙◌, ◌∷◌, ◌≡◌, ◌≤◌}
 use Rattle.sdd_lawful.proofs.Classes.{at_home, home_setting}
 use Rattle.sdd_lawful.proofs.Commits.{text_of_head}
 use Rattle.sdd_invariants.specs.dm.Copies.{classes_of}
@@ -33,16 +33,9 @@ all_dated cat t (c ∷ changes) h = (h.0, all_dated cat t changes h.1)
 abbrev item_in : ℕ → ℤ → Item
 item_in rel key = (rel, key)
 
-abbrev entry_at : Item → Row → Item × Row
-entry_at item row = (item, row)
-
 entry_from : (cat : Catalogue) → IsSoundCatalogue cat → (f : ℕ) (c : Change) (e : Item × Row) → IsValid cat c → c.frag.0 ≡ f
     → item_in (fragment_at cat f).rel.0 c.key ≡ e.0 → c.row ≡ Some e.1 → IsEntry cat e
-entry_from cat sound f c e v frag item row =
-    let rel : (fragment_at cat f).rel.0 ≡ v.rel = ap (λ n. (fragment_at cat n).rel.0) (sym frag ∙ v.frag) ∙ entry_placed cat sound v.rel c.key v.there v.held in
-    let has = subst (HasRow cat v.rel c.key) row v.row in
-    let here : IsEntry cat (entry_at (item_in v.rel c.key) e.1) = record { relation = v.there; row = has.0; key = has.1; key_held = v.held } in
-    subst (λ i. IsEntry cat (entry_at i e.1)) (ap (λ r. item_in r c.key) (sym rel) ∙ item) here
+entry_from cat sound f c e v frag item row = grind (arith, entry_placed)
 
 entries_left : (cat : Catalogue) → IsSoundCatalogue cat → (xs : Dated) → AllValidAt cat xs → (f : ℕ) → AllByRecursion (IsEntry cat) (items_of cat xs f)
 entries_left cat sound xs all f =
@@ -150,9 +143,7 @@ all_at_modules g log ts sound h begin valid a (suc n) lo hi =
 -- so the database that an attempt reads has entries of the catalogue alone
 pub base_valid : (g : Input) (log : Log) (ts : ℕ) → IsSoundCatalogue g.catalogue → IsPermitted g log → AllBegin g → CommitsValid g log
     → AllByRecursion (IsEntry g.catalogue) (base_of g log ts)
-base_valid g log ts sound h begin valid =
-    put_together g.catalogue [] (flat_map (snapshots_at g log ts) (numbers_to g.catalogue.dms)) tt
-    (all_at_modules g log ts sound h begin valid 1 g.catalogue.dms (omega arith) (omega arith))
+base_valid g log ts sound h begin valid = grind (arith, put_together, all_at_modules)
 
 -- and what the transaction changes on it are items of the catalogue
 
@@ -181,14 +172,11 @@ text_of_active g c log a h e =
     let p = place_of_act g (home g.catalogue c) log st.later (start_at (home_setting g c) c st.before st.queued) st.before st.is in
     let hp = permitted_before g p.later (Does (home g.catalogue c) (start_at (home_setting g c) c st.before st.queued) ∷ p.rest)
     (subst (IsPermitted g) p.is h) in
-    ap (txn_at g) st.number_is ∙ text_of_head g c p.rest st.queued hp.1
-    (subst (λ l. head_of (queue (home_setting g c) c l) ≡ Some st.queued) (sym p.local_is) st.head) ∙ ap (λ t. Some t) (sym st.text_is)
+    grind (arith, text_of_head, head)
 
 pub base_is : (g : Input) (at : Site) (log : Log) (act : Act) → IsPermitted g (Does at act ∷ log) → IsRunSite at
     → IsBased (setting_of g at) (base_of g log) (local_of g at log) act
-base_is g U log act h s = u_commit g log act h
-base_is g (T t) log act h s = t_commit g t log act h
-base_is g (D d) log act h s = absurd s
+base_is g at log act h s = grind (arith, u_commit, t_commit)
 
 commit_valid : (g : Input) (rows : List (RelNo × Row)) (c : ℕ) (bases : Bases) (a : Running) (log : Log) → IsSoundCatalogue g.catalogue → HasSoundData g rows
     → IsPermitted g (Does (home g.catalogue c) (commit_act g.catalogue bases c a) ∷ log)
