@@ -32,7 +32,7 @@ pub use Rattle.sdd_invariants.proofs.Readied.{asks_whose, readied, same_attempt 
 pub use Rattle.sdd_invariants.proofs.ReadsPut.{start_puts, strict_modules}
 pub use Rattle.sdd_invariants.proofs.Recorded.{start_of_active}
 pub use Rattle.sdd_invariants.proofs.Releases.{one_if_le as one_le, served_by as hand_ts}
-pub use Rattle.sdd_invariants.proofs.Sent.{no_put as nothing_if, puts_grow, sent_grows, sent_is}
+pub use Rattle.sdd_invariants.proofs.Sent.{puts_grow, sent_grows, sent_is}
 pub use Rattle.sdd_invariants.proofs.Serving.{u_due, u_way}
 pub use Rattle.sdd_invariants.proofs.Sites.{site_is, site_self, the_one}
 pub use Rattle.sdd_invariants.proofs.Split.{le_is, processed_stays}
@@ -56,7 +56,6 @@ pub use Rattle.sdd_invariants.proofs.logs.Marking.{TurnsNone}
 pub use Rattle.sdd_invariants.proofs.logs.NewMarks.{lawful_permitted}
 pub use Rattle.sdd_invariants.proofs.logs.Rounding.{each_of_round}
 pub use Rattle.sdd_invariants.proofs.logs.attempt.Phases.{lacking_modules as lack_modules, own as own_started}
-pub use Rattle.sdd_invariants.proofs.logs.attempt.Places.{not_first as suc_no_zero}
 pub use Rattle.sdd_invariants.proofs.logs.attempt.Queueing.{other_way as not_same}
 pub use Rattle.sdd_invariants.proofs.logs.attempt.Waiting.{shorter as filter_shorter}
 pub use Rattle.sdd_invariants.proofs.logs.net.Lists.{get-append as in_left}
@@ -66,7 +65,7 @@ pub use Rattle.sdd_invariants.proofs.net.Directions.{link_back, link_parts}
 pub use Rattle.sdd_invariants.proofs.net.Lists.{All-at}
 pub use Rattle.sdd_invariants.proofs.net.Rounds.{links_exist}
 pub use Rattle.sdd_invariants.proofs.site_module.Finding.{found_at, one_of}
-pub use Rattle.sdd_invariants.specs.All.{Act, AllGe, AllGt, AllLe, AllLinked, AllLt, AllReadied, Answer, AnswersRead, Apply, AreFor, AreThere, Arrive, Ascend, Ask, Asking, AtEach, Attempt, AwaitsAt, Bases, Call, Catalogue, Change, Changed, Class, ClassNo, ClassView, Commit, Cond, Condition, D, Database, Delete, Deliver, Did, DmNo, Does, Done, Down, Each, Entry, Era, Event, Exchange, Fetch, Fetching, FitsChange, FitsClass, FitsCond, FitsDone, FitsHeldFrom, FitsHold, FitsPipe, FitsRelease, FitsRow, FitsRows, FitsShip, FitsSite, FitsTxn, FragNo, Hand, Handed, HasAnswer, HasRow, HaveUse, Held, History, Hold, HoldRule, Home, Input, IsAllowed, IsApplyOf, IsAskBy, IsBased, IsChange, IsClassHere, IsDatabase, IsDoneBy, IsDue, IsDueAt, IsDueEach, IsEntry, IsFair, IsFairT, IsFairU, IsFetch, IsHere, IsHoldChain, IsLawful, IsNew, IsPermitted, IsPutBy, IsPutByD, IsRead, IsReadOf, IsReadStep, IsReadyBy, IsReduce, IsRejectBy, IsRelation, IsRising, IsSend, IsServed, IsServedClass, IsShip, IsSiteOf, IsSoundCatalogue, IsStep, IsStepU, IsStrict, IsWhole, IsWithin, IsWrite, Item, Link, Log, Lose, MAX_EVENTS, MAX_LINK_MESSAGES, MAX_RUN_EVENTS, MAX_TICKS, Mark, Move, Msg, NoRecord, NoneHold, Notes, Nothing, Null, Open, Over, P2, P3, Pass, Phase, Pipe, Processes, Put, Puts, Query, Question, Queued, Read, Reading, Ready, Rec, Records, Redeclare, Redeclared, Redeclares, Reduce, Reduced, Reducing, Refuses, Reject, RelNo, Release, Repeat, Resend, Round, Row, Rows, Sends, Served, ServesIfLast, Setting, Settle, Ship, Shipping, Site, Start, StartsAbove, Step, Stmt, Submit, Submits, Submitted, T, Tick, Ticked, Ticking, TmCounts, TmNo, Ts, Txn, TxnNo, U, Up, Update, Use, Value, Values, View, Wait, Waits, WasAsked, Write, a_held, a_hold, a_null, a_release, act_by, act_where, active, active_handed, active_sent, after_hand, after_mark, after_send, all_held, all_links, all_of, answer_of, answer_to, answered, applied, applied_acted, are_linked, ascending, ask_for, asks_acted, asks_handed, asks_rows, at_class, at_site, attempt_due, base_of, beginning, begins, bound, bound_at, by_ask, by_exchange, by_head, by_hold, by_open, by_record, by_start, by_wait, calls_of, change_of, changes_at, changes_in, class_asked, class_at, class_for, class_is, class_no, class_puts, clock, column, commit_act, cond_for, cond_of, condition_on, conditions, conditions_at, contains, copies, counted, counts, counts_for, current_era, database_of, dated, dated_in, delivered, dm_no, does_at, done_for, dones_of, due_by, effect, exchange_due, fetches, fetches_from, fetches_use, first_phase, first_row, first_send, fits, frag_no, fragment_at, fragment_of, fragments_in, fragments_of, frags_asked, from_event, frozen, frozen_at, frozen_handed, given_to, given_up, goes_on, goes_through, greatest, greatest_bound, hand_due, hand_number, hand_on, hand_with, handed, handed_by, hands, hands_from, has_copy, head, head_due, head_of, head_processed, head_step, history, holds, home, home_of, in_flight, in_passing, is_a_held, is_a_hold, is_a_release, is_answer as is_answer_record, is_apply, is_asked, is_asked_of, is_at, is_committed, is_done, is_done_of, is_down, is_for, is_held, is_link, is_met, is_moving, is_number, is_over, is_processing, is_read, is_read_at, is_read_of, is_reading, is_recorded, is_shipping, is_site, is_verdict, item_cmp, items_of, judged, key_in, lacking, last_served, last_stamp, last_time, left, limit_of, link, link_of, links, local_of, made, made_by_mark, mark_due, mark_from, mark_of, marks, message_at, module_read, modules_asked, modules_of, move_at, next, next_at, next_move, next_number, next_stamp, note_if, nth_era, null_at, number_of, numbers_of, numbers_to, of_exchange, one_if, one_or_none, open_due, opens, opens_acted, opens_handed, or_else, or_zero, part_uses, phase_ends, pipe, pipe_acted, pipe_at, piped, pushed_by, put, put_by, puts, puts_past, puts_to, queue, queued, quiet, raised, read_at, reads_at, reads_in, records_of_act, redeclared_entry, redeclares, reduced_at, reduces, reduces_use, rejects, resends_now, round, rows_held, runs, same_site, sends_of_act, sent, served_acted, setting_of, ships, site_due, sites, snapshots, snapshots_at, source_of, spoiler, spoils, stamp_or, start_act, start_at, start_of, start_read, start_u, started, starts, starts_more, starts_of, statement_uses, step_on, submits, submits_of, submitted, tail_of, takes_part, tally, ticked_by, time_at, time_in, time_of, times_in, tm_no, to_all, to_site, touches, tried, ts_of, turned, turned_by, txn_at, txn_no, undeclared_conditions, use_there, uses_at, uses_from, uses_of, uses_read, view_of, waits, with_frags, with_item, with_made, with_submit, with_tick, with_time, with_use, with_values, without, write_at, write_time, write_time_of, write_times, write_to}
+pub use Rattle.sdd_invariants.specs.All.{Act, AllGe, AllGt, AllLe, AllLinked, AllLt, AllReadied, Answer, AnswersRead, Apply, AreFor, AreThere, Arrive, Ascend, Ask, Asking, AtEach, Attempt, AwaitsAt, Bases, Call, Catalogue, Change, Changed, Class, ClassNo, ClassView, Commit, Cond, Condition, D, Database, Delete, Deliver, Did, DmNo, Does, Done, Down, Each, Entry, Era, Event, Exchange, Fetch, Fetching, FitsChange, FitsClass, FitsCond, FitsDone, FitsHeldFrom, FitsHold, FitsPipe, FitsRelease, FitsRow, FitsRows, FitsShip, FitsSite, FitsTxn, FragNo, Hand, Handed, HasAnswer, HasRow, HaveUse, Held, History, Hold, HoldRule, Home, Input, IsAllowed, IsApplyOf, IsAskBy, IsBased, IsChange, IsClassHere, IsDatabase, IsDoneBy, IsDue, IsDueAt, IsDueEach, IsEntry, IsFair, IsFairT, IsFairU, IsFetch, IsHere, IsHoldChain, IsLawful, IsNew, IsPermitted, IsPutBy, IsPutByD, IsRead, IsReadOf, IsReadStep, IsReadyBy, IsReduce, IsRejectBy, IsRelation, IsRising, IsSend, IsServed, IsServedClass, IsShip, IsSiteOf, IsSoundCatalogue, IsStep, IsStepU, IsStrict, IsWhole, IsWithin, IsWrite, Item, Link, Log, Lose, MAX_EVENTS, MAX_LINK_MESSAGES, MAX_RUN_EVENTS, MAX_TICKS, Mark, Move, Msg, NoRecord, NoneHold, Notes, Nothing, Null, Open, Over, Pass, Phase, Pipe, Processes, Put, Puts, Query, Question, Queued, Read, Reading, Ready, Rec, Records, Redeclare, Redeclared, Redeclares, Reduce, Reduced, Reducing, Refuses, Reject, RelNo, Release, Repeat, Resend, Round, Row, Rows, Sends, Served, ServesIfLast, Setting, Settle, Ship, Shipping, Site, Start, StartsAbove, Step, Stmt, Submit, Submits, Submitted, T, Tick, Ticked, Ticking, TmCounts, TmNo, Ts, Txn, TxnNo, U, Up, Update, Use, Value, Values, View, Wait, Waits, WasAsked, Write, act_by, act_where, active, active_handed, active_sent, after_hand, after_mark, after_send, all_held, all_links, all_of, answer_of, answer_to, answered, applied, applied_acted, are_linked, ascending, ask_for, asks_acted, asks_handed, asks_rows, at_class, at_site, attempt_due, base_of, beginning, begins, bound, bound_at, by_ask, by_exchange, by_head, by_hold, by_open, by_record, by_start, by_wait, calls_of, change_of, changes_at, changes_in, class_asked, class_at, class_for, class_is, class_no, class_puts, clock, column, commit_act, cond_for, cond_of, condition_on, conditions, conditions_at, contains, copies, counted, counts, counts_for, current_era, database_of, dated, dated_in, delivered, dm_no, does_at, done_for, dones_of, due_by, effect, exchange_due, fetches, fetches_from, fetches_use, first_phase, first_row, first_send, fits, frag_no, fragment_at, fragments_in, fragments_of, frags_asked, from_event, frozen, frozen_at, frozen_handed, given_to, given_up, goes_on, goes_through, greatest, greatest_bound, hand_due, hand_number, hand_on, hand_with, handed, handed_by, hands, hands_from, has_copy, head, head_due, head_of, head_processed, head_step, history, holds, home, home_of, in_flight, in_passing, is_a_held, is_a_hold, is_a_release, is_answer as is_answer_record, is_apply, is_asked, is_asked_of, is_at, is_committed, is_done, is_done_of, is_down, is_for, is_held, is_link, is_met, is_moving, is_number, is_over, is_processing, is_read, is_read_at, is_read_of, is_reading, is_recorded, is_shipping, is_site, is_verdict, item_cmp, items_of, judged, key_in, lacking, last_served, last_stamp, last_time, left, limit_of, link, link_of, links, local_of, made, made_by_mark, mark_due, mark_from, mark_of, marks, message_at, module_read, modules_asked, modules_of, move_at, next, next_at, next_move, next_number, next_stamp, note_if, nth_era, null_at, number_of, numbers_of, numbers_to, one_if, one_or_none, open_due, opens, opens_acted, opens_handed, or_else, or_zero, part_uses, phase_ends, pipe, pipe_acted, pipe_at, piped, pushed_by, put, put_by, puts, puts_past, puts_to, queue, queued, quiet, raised, read_at, reads_at, reads_in, records_of_act, redeclared_entry, redeclares, reduced_at, reduces, reduces_use, rejects, resends_now, round, rows_held, runs, same_site, sends_of_act, sent, served_acted, setting_of, ships, site_due, sites, snapshots, snapshots_at, source_of, spoiler, spoils, stamp_or, start_act, start_at, start_of, start_read, start_u, started, starts, starts_more, starts_of, statement_uses, step_on, submits, submits_of, submitted, tail_of, takes_part, tally, ticked_by, time_at, time_in, time_of, times_in, tm_no, to_all, to_site, touches, tried, ts_of, turned, turned_by, txn_at, txn_no, undeclared_conditions, use_there, uses_at, uses_from, uses_of, uses_read, view_of, waits, with_frags, with_item, with_made, with_submit, with_tick, with_time, with_use, with_values, without, write_at, write_time, write_time_of, write_times, write_to}
 pub use Rattle.sdd_invariants.specs.attempt.Fits.{handed as all_handed}
 pub use Rattle.sdd_invariants.specs.dm.Copies.{classes_of}
 pub use Rattle.sdd_invariants.specs.dm.Views.{class_view}
@@ -83,13 +82,13 @@ pub use Rattle.sdd_obligations.specs.AfterEvents.{down_from, is_down_after, rede
 pub use Rattle.sdd_obligations.specs.Awaited.{AwaitsRows, IsAwaited, IsReadable, IsServable}
 pub use Rattle.sdd_obligations.specs.Bounds.{AllFewTicks, IsNumbered, IsSmall, class_starts, greatest_height, most_classes, most_sites, start_of_class}
 pub use Rattle.sdd_obligations.specs.Contents.{AsksPhase, Tells, held_for, is_shipped, kept, question, question_of}
-pub use Rattle.sdd_obligations.specs.Obligations.{Obligations}
-pub use Rattle.sdd_obligations.specs.Runnable.{IsRunnable}
 pub use Rattle.sdd_obligations.specs.Fitting.{AreWritten, FitsInput, FitsText, IsItemChange}
 pub use Rattle.sdd_obligations.specs.Heights.{AllLow, HandsLow, IsLow, IsUnder, height, starts_by, ticks_of, times_of, top}
+pub use Rattle.sdd_obligations.specs.Obligations.{Obligations}
 pub use Rattle.sdd_obligations.specs.Reading.{HasEras, before_answer, copies_read}
 pub use Rattle.sdd_obligations.specs.Real.{FitsEra, IsGood, IsServedAt, ServedBy, fits_submit}
 pub use Rattle.sdd_obligations.specs.Routes.{GoesTo, IsAnAsk, IsD, IsRouted, IsRunner, IsT}
+pub use Rattle.sdd_obligations.specs.Runnable.{IsRunnable}
 pub use Rattle.sdd_obligations.specs.Stages.{IsStage, agreed, answer_goes, flight, question_goes}
 pub use Rattle.sdd_obligations.specs.Turns.{Asks, IsOfUses, MayAnswer, MayAsk, Refused, Replies, RepliesToFetch, RepliesToRead, RepliesToReduce, RepliesToShip, Silent, Told, Turn, answers, asked_by, is_a_read, is_a_refusal, is_a_ship, is_answer, is_exchanging, is_question, questions, reads_asked, rows_asked, told_by, turn_after_answer, turn_after_question, turn_at, turn_with, uses_by, uses_held, uses_in}
 pub use Rattle.sdd_obligations.specs.Upheld.{IsUpheldD, IsUpheldR}
@@ -106,7 +105,7 @@ pub use Rattle.sdd_serving.specs.Reducing.{Space, TellsAll}
 pub use Rattle.sdd_serving.specs.Runs.{Runs, Stage}
 pub use Rattle.sdd_serving.specs.Runs.Runs.{asks, rests, sends, tells}
 pub use Rattle.sdd_serving.specs.Runs.Stage.{Resting, Telling}
-pub use Rattle.std.proofs.Common.{All, Bool, Contains, Equal, Greater, IfSome, IsTrue, Less, List, None, Option, Some, [], ap, append-nil, append_assoc, arith, cond, drop, eqb-true, false, filter, filter_map, find, flat_map, fold, if◌then◌else◌, inl, inr, int_cmp, is_eq, is_some, length, length-append, map, max, nat_cmp, nat_le, nat_lt, not, option_map, refl, replicate, slice_get, slice_index_or, subst, suc, sym, take, take-append-drop, true, zero, ℕ, ℤ, ◌&&◌, ◌*◌, ◌++◌, ◌+◌, ◌-◌, ◌/◌, ◌<◌, ◌==◌, ◌^◌, ◌||◌, ◌∙◌, ◌∷◌, ◌≡◌, ◌≢◌, ◌≤◌, ◌⊎◌}
+pub use Rattle.std.proofs.Common.{All, Bool, Contains, IfSome, IsTrue, List, None, Option, Some, [], ap, append-nil, append_assoc, arith, cond, drop, eqb-true, false, filter, filter_map, find, flat_map, fold, if◌then◌else◌, inl, inr, int_cmp, is_eq, is_some, length, length-append, map, max, nat_cmp, nat_le, nat_lt, not, option_map, refl, replicate, slice_get, slice_index_or, subst, suc, sym, take, take-append-drop, true, zero, ℕ, ℤ, ◌&&◌, ◌*◌, ◌++◌, ◌+◌, ◌-◌, ◌/◌, ◌<◌, ◌==◌, ◌^◌, ◌||◌, ◌∙◌, ◌∷◌, ◌≡◌, ◌≢◌, ◌≤◌, ◌⊎◌}
 pub use Rattle.std.proofs.Math.Decide.{dec_le}
 pub use Rattle.std.proofs.Math.Nat.{mul-le-mul, mul-le-mul_right, suc-mul}
 pub use Rattle.std.proofs.lemmas.Bool.{and_from as both, false_from_ne_true as not_true, or_left, or_right}
@@ -117,7 +116,6 @@ pub use Rattle.std.proofs.lemmas.List.FromFn.{length-range_with_len}
 pub use Rattle.std.proofs.lemmas.Map.Keys.{IsDistinct-from_sorted}
 pub use Rattle.std.proofs.lemmas.Map.Made.{IsDistinct-keys_filter}
 pub use Rattle.std.specs.BTreeSet.{insert_key}
-pub use Rattle.std.specs.Cmp.{nat_cmp_is}
 pub use Rattle.std.specs.List.{AllByRecursion, IsDistinct, cons_option, list_all, list_any, range_with_len}
 pub use Rattle.std.specs.Map.{keys_of}
 pub use Rattle.std.specs.Option.{option_eq, option_or}

@@ -1,5 +1,5 @@
 -- All that the modules ask: what is next on a lawful log fits the module to which it goes.
-use Rattle.sdd_obligations.proofs.All.{Bool, D, DmNo, Entry, FitsEra, FitsSite, Hand, Input, IsGood, IsLawful, IsRunnable, IsWithin, Log, Mark, Msg, Obligations, Redeclares, Site, Some, Submitted, T, Tick, TmNo, Txn, U, arith, base_of, class_for, clock, false, fits_submit, greatest_bound, height, if◌then◌else◌, lawful_permitted, local_of, next, nth_era, redeclares, setting_of, sound_whole, subst, suc, sym, tm_no, top, true, txn_at, ℕ, ◌/◌, ◌<◌, ◌==◌, ◌^◌, ◌∷◌, ◌≡◌, ◌≤◌}
+use Rattle.sdd_obligations.proofs.All.{Bool, D, DmNo, Entry, FitsEra, FitsSite, Hand, Input, IsGood, IsLawful, IsRunnable, IsWithin, Log, Mark, Msg, Obligations, Redeclares, Site, Some, Submitted, T, Tick, TmNo, Txn, U, arith, base_of, clock, fits_submit, greatest_bound, height, if◌then◌else◌, lawful_permitted, local_of, next, nth_era, redeclares, setting_of, sound_whole, suc, tm_no, top, txn_at, ℕ, ◌/◌, ◌<◌, ◌^◌, ◌∷◌, ◌≡◌, ◌≤◌}
 use Rattle.sdd_obligations.proofs.Put.{databases}
 use Rattle.sdd_obligations.proofs.Early.{clock_below, height_below, is_under}
 use Rattle.sdd_obligations.proofs.OfNext.{of_next}
@@ -10,7 +10,6 @@ use Rattle.sdd_obligations.proofs.Handing.{is_handed}
 use Rattle.sdd_obligations.proofs.Exchanged.{served_here, upheld_d, upheld_r}
 use Rattle.sdd_obligations.proofs.Submitting.{at_home, declared_here, home_exists, is_new}
 use Rattle.sdd_obligations.proofs.Upholding.{sends_linked}
-use Rattle.sdd_invariants.specs.logs.Due.{home_of}
 use Rattle.sdd_obligations.specs.Real.{fits}
 
 early : (t : ℕ) → t < 2 ^ 53 → t < 2 ^ 56
@@ -55,8 +54,7 @@ hand_fits g good log a U n m l w e =
     )
 
 not_d : {A : Type 0} (b : Bool) (k : TmNo) (d : DmNo) → D d ≡ (if b then U else T k) → A
-not_d true k d e = cc
-not_d false k d e = cc
+not_d b k d e = grind arith
 
 submit_fits : (g : Input) → IsGood g → (log : Log) (at : Site) (n : ℕ) (txn : Txn) → IsLawful g log → IsWithin log → next g log ≡ Some (Submitted at n)
     → txn_at g n ≡ Some txn → fits_submit at (setting_of g at) (base_of g (Submitted at n ∷ log)) (local_of g at log) n txn
@@ -75,10 +73,7 @@ submit_fits g good log (T t) n txn l w e f =
       declared = r.1;
       fresh = is_new g log (T t) n txn (fit_of g good).small l e f;
     }
-submit_fits g good log (D d) n txn l w e f =
-    let h : D d ≡ home_of (nth_era g (redeclares log)).catalogue (Some txn) =
-    subst (λ o. D d ≡ home_of (nth_era g (redeclares log)).catalogue o) f (at_home g log (D d) n (fit_of g good).small l e) in
-    not_d (class_for (nth_era g (redeclares log)).catalogue txn == 0) txn.tm d h
+submit_fits g good log (D d) n txn l w e f = grind (arith, at_home, fit_of, not_d)
 
 early_time : (h t : ℕ) → h < 2 ^ 53 → t ≤ top h → t / 64 < 2 ^ 57
 early_time h t l m = let d : t / 64 ≤ h = div_le t h m in omega (arith, l, d)
@@ -89,10 +84,7 @@ redeclare_fits g good log t l w e =
     let s = (fit_of g good).small in
     let is : t ≡ greatest_bound g log = of_next g log (Redeclares t) s.few_ticks l e in
     let low : greatest_bound g log ≤ top (height log) = greatest_le g (height log) log (is_under g log s l) in
-    record {
-      early = early_time (height log) t (height_below g log s l w) (subst (λ x. x ≤ top (height log)) (sym is) low);
-      era = good.eras (suc (redeclares log));
-    }
+    grind (arith, top, early, early_time, height_below)
 
 pub all_obligations : Obligations
 all_obligations = record {

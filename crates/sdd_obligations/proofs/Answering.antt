@@ -1,5 +1,5 @@
 -- A READY or REJECT that is next to be handed over answers a READ of the site, and is the first that does.
-use Rattle.sdd_obligations.proofs.All.{Act, AnswersRead, Bool, D, Did, DmNo, Does, Handed, Input, IsPermitted, List, Log, Msg, Read, Site, Some, [], all_handed, and_left, and_right, ap, append_assoc, arith, at_site, both, false, handed, hands_from, head_put, home, if◌then◌else◌, in_order, inl, inr, is_read, is_verdict, list_any, local_grows, local_of, number_of, one_if, only_right, or_left, or_right, own_act, permitted_before, push_more, put_in_by_d, puts_to, refl, same_number, same_site, sends_of_act, setting_of, site_is, site_self, slice_get, subst, suc, sym, take, take_one_more, tally, tally_append, tally_take, to_site, true, true_or_false, zero, ℕ, ◌&&◌, ◌++◌, ◌+◌, ◌<◌, ◌==◌, ◌∙◌, ◌∷◌, ◌≡◌, ◌≤◌}
+use Rattle.sdd_obligations.proofs.All.{Act, AnswersRead, Bool, D, Did, DmNo, Does, Handed, Input, IsPermitted, List, Log, Msg, Read, Site, Some, [], all_handed, and_left, and_right, ap, append_assoc, arith, at_site, both, false, handed, hands_from, head_put, home, if◌then◌else◌, in_order, inl, inr, is_read, is_verdict, list_any, local_grows, local_of, number_of, one_if, only_right, or_left, or_right, own_act, permitted_before, push_more, put_in_by_d, puts_to, refl, same_number, same_site, sends_of_act, setting_of, site_is, site_self, slice_get, subst, suc, sym, take, take_one_more, tally, tally_append, tally_take, to_site, true, true_or_false, ℕ, ◌&&◌, ◌++◌, ◌+◌, ◌<◌, ◌==◌, ◌∙◌, ◌∷◌, ◌≡◌, ◌≤◌}
 use Rattle.sdd_obligations.proofs.Verdicts.{in_class, one_verdict, verdict_by}
 use Rattle.sdd_invariants.specs.attempt.Fits.{sent}
 use Rattle.sdd_invariants.specs.site_module.SiteLog as site
@@ -20,12 +20,7 @@ any_right f (x ∷ xs) ys e = or_right (f x) (list_any f (xs ++ ys)) (any_right 
 of_head : (b : Site) (f : Msg → Bool) (p : Site × Msg) (ps : List (Site × Msg)) (k : ℕ) (m : Msg) (c : Bool) → same_site b p.0 ≡ c
     → ((j : ℕ) → slice_get (to_site b ps) j ≡ Some m → list_any (at_site b f) ps ≡ true)
     → slice_get (if c then p.1 ∷ to_site b ps else to_site b ps) k ≡ Some m → f m ≡ true → list_any (at_site b f) (p ∷ ps) ≡ true
-of_head b f p ps zero m true q g e h =
-    let r : p.1 ≡ m = cc in
-    let t : same_site p.0 b ≡ true = subst (λ x. same_site x b ≡ true) (site_is b p.0 q) (site_self b) in
-    or_left (same_site p.0 b && f p.1) (list_any (at_site b f) ps) (both (same_site p.0 b) (f p.1) t (ap f r ∙ h))
-of_head b f p ps (suc k) m true q g e h = or_right (same_site p.0 b && f p.1) (list_any (at_site b f) ps) (g k e)
-of_head b f p ps k m false q g e h = or_right (same_site p.0 b && f p.1) (list_any (at_site b f) ps) (g k e)
+of_head b f p ps k m c q g e h = grind (arith, site_is, site_self, or_left, both, or_right)
 
 any_sent : (b : Site) (f : Msg → Bool) (ps : List (Site × Msg)) (k : ℕ) (m : Msg) → slice_get (to_site b ps) k ≡ Some m → f m ≡ true
     → list_any (at_site b f) ps ≡ true
@@ -42,13 +37,10 @@ sent_of_act b f (_ ∷ later) act before k m e h = sent_of_act b f later act bef
 -- what was handed is counted
 
 push_one : (f : Msg → Bool) (c d : Bool) (xs : List Msg) (m : Msg) → f m ≡ d → (c && d) ≡ true → 0 < tally f (if c then xs ++ m ∷ [] else xs)
-push_one f true true xs m p e = let a = tally_append f xs (m ∷ []) in let o : one_if (f m) ≡ 1 = ap one_if p in omega (arith, a, o)
-push_one f _ _ xs m p e = cc
+push_one f c d xs m p e = grind (arith, tally_append, one_if)
 
 turned : (a from : Site) (d : Bool) → (same_site from a && d) ≡ true → (same_site a from && d) ≡ true
-turned a from d e =
-    let p : from ≡ a = site_is from a (and_left (same_site from a) d e) in
-    subst (λ x. (same_site x from && d) ≡ true) p (both (same_site from from) d (site_self from) (and_right (same_site from a) d e))
+turned a from d e = grind (arith, site_is, and_left, both, site_self, and_right)
 
 pub counted_hand : (a : Site) (f : Msg → Bool) (l : site.Log) → list_any (at_site a f) (all_handed l) ≡ true → 0 < tally f (hands_from a l)
 counted_hand a f [] e = cc
@@ -92,8 +84,7 @@ verdict_asked g d log k ts c m b h e f =
     p.is ∙ ap (λ l. p.later ++ Does (D d) p.act ∷ l) o.is ∙ sym (append_assoc p.later (Does (D d) p.act ∷ o.later) (Does at o.act ∷ o.before)) in
     let here : local_of g at log ≡ x.0 ++ Did o.act ∷ local_of g at o.before =
     ap (local_of g at) whole ∙ x.1 ∙ ap (λ l. x.0 ++ l) (own_act g at o.act o.before) in
-    subst (λ l. list_any (at_site (D d) (is_read ts c)) (sent l) ≡ true) (sym here)
-    (sent_of_act (D d) (is_read ts c) x.0 o.act (local_of g at o.before) o.place w o.there (same_read ts c v.stamp.0 v.of.0 v.time_is v.class_is))
+    grind (arith, is_read, sent, sent_of_act, same_read)
 
 pub answers_read : (g : Input) (d : DmNo) (log : Log) (ts c : ℕ) (m : Msg) (b : Site) → IsPermitted g log → b ≡ home g.catalogue c
     → number_of (home g.catalogue c) ≤ 63 → slice_get (puts_to b (local_of g (D d) log)) (handed (D d) b log) ≡ Some m

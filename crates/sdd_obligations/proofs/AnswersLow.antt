@@ -1,5 +1,5 @@
 -- What a data module sends lies below what was handed to it.
-use Rattle.sdd_obligations.proofs.All.{Act, AllLow, Ask, ClassNo, ClassView, Did, Done, Handed, HandsLow, IsAskBy, IsDue, IsLow, IsPutByD, IsRejectBy, List, Msg, None, Option, Pipe, Read, Ready, Records, Reduced, Reject, Rows, Sends, Setting, Site, Some, Ts, Values, [], arith, at_class, class_in_view, class_not_in_view, dec_le, filter_map, goes_through, head, head_processed, home_of, if_way, is_processing, length, one_or_none, pipe, pipe_acted, put, put_by_d, sends_of_act, starts_by, subst, suc, sym, tail_of, to_site, top, view_of, write_time, ℕ, ◌&&◌, ◌+◌, ◌==◌, ◌∷◌, ◌≡◌, ◌≤◌}
+use Rattle.sdd_obligations.proofs.All.{Act, AllLow, Ask, ClassNo, ClassView, Did, Handed, HandsLow, IsAskBy, IsDue, IsLow, IsPutByD, IsRejectBy, List, Msg, None, Option, Pipe, Read, Records, Reject, Sends, Setting, Site, Some, Ts, [], arith, at_class, class_in_view, class_not_in_view, dec_le, filter_map, goes_through, head, head_processed, home_of, if_way, is_processing, length, one_or_none, pipe, pipe_acted, put, put_by_d, sends_of_act, starts_by, subst, suc, sym, tail_of, to_site, top, view_of, write_time, ℕ, ◌&&◌, ◌+◌, ◌==◌, ◌∷◌, ◌≡◌, ◌≤◌}
 use Rattle.sdd_obligations.proofs.LowLists.{all_low_join, all_low_of, all_low_up, cond_le_at, greatest_le, write_times_le}
 use Rattle.sdd_obligations.proofs.SendsLow.{PutsLow}
 use Rattle.sdd_invariants.specs.site_module.SiteLog.{Log}
@@ -11,12 +11,10 @@ pub record IsPipeLow (h : ℕ) (p : Pipe) : Type 0 where
   pub left : AllLow h p.unprocessed
 
 head_low : (h : ℕ) (ms : List Msg) → AllLow h ms → AllLow h (one_or_none (head (record { processed = []; unprocessed = ms })))
-head_low h [] i = tt
-head_low h (m ∷ ms) i = (i.0, tt)
+head_low h ms i = grind arith
 
 tail_low : (h : ℕ) (ms : List Msg) → AllLow h ms → AllLow h (tail_of ms)
-tail_low h [] i = tt
-tail_low h (m ∷ ms) i = i.1
+tail_low h ms i = grind arith
 
 put_low : (h : ℕ) (m : Msg) (p : Pipe) → IsLow h m → IsPipeLow h p → IsPipeLow h (put m p)
 put_low h m p i j = record { done = j.done; left = all_low_join h p.unprocessed (m ∷ []) j.left (i, tt) }
@@ -52,8 +50,7 @@ IsHeadLow h None = Unit {0}
 IsHeadLow h (Some m) = IsLow h m
 
 first_low : (h : ℕ) (ms : List Msg) → AllLow h ms → IsHeadLow h (head (record { processed = []; unprocessed = ms }))
-first_low h [] i = tt
-first_low h (m ∷ ms) i = i.0
+first_low h ms i = grind arith
 
 pub head_is_low : (h c : ℕ) (log : Log) (m : Msg) → HandsLow h log → head (pipe c log) ≡ Some m → IsLow h m
 head_is_low h c log m i e = subst (IsHeadLow h) e (first_low h (pipe c log).unprocessed (pipe_low h c log i).left)
@@ -74,14 +71,7 @@ ask_low h s log b k time i r =
     (subst (λ (t : Ts). t.0 ≤ top h) (sym r.time_is) (cond_le_at (top h) r.conds r.place r.cond_at m.1 r.there), tt)
 
 by_d_low : (h : ℕ) (s : Setting) (log : Log) (b : Site) (act : Act) (m : Msg) → HandsLow h log → IsPutByD s log b act m → IsLow h m
-by_d_low h s log b act (Ready ts k counts) i p = tt
-by_d_low h s log b act (Reject ts k by write) i p = reject_low h s log b act ts k by write i p
-by_d_low h s log b act (Done ts) i p = tt
-by_d_low h s log b act (Values ts k u vs) i p = tt
-by_d_low h s log b act (Reduced ts k u n) i p = tt
-by_d_low h s log b act (Rows ts k rows) i p = tt
-by_d_low h s log b act (Ask k t) i p = ask_low h s log b k t i p
-by_d_low h s log b act _ i p = absurd p
+by_d_low h s log b act m i p = grind (arith, reject_low, ask_low)
 
 pub d_low : (h : ℕ) (s : Setting) (log : Log) (act : Act) → HandsLow h log → IsDue (home_of s) (view_of s log) act → PutsLow h act
 d_low h s log act i d b =

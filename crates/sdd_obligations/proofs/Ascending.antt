@@ -1,21 +1,17 @@
 -- The conditions of a READ ascend by class, and what ascends does so at each step.
-use Rattle.sdd_obligations.proofs.All.{AllGt, Ascend, Bool, Catalogue, Cond, FragNo, IsStrict, List, None, Option, P2, P3, Some, StartsAbove, [], ap, arith, cond_for, cond_of, condition_on, conditions, conditions_at, cons_option, filter_map, frag_no, fragments_of, if_way, is_asked, length, map, option_or, range_with_len, refl, subst, suc, sym, undeclared_conditions, zero, ℕ, ◌+◌, ◌<◌, ◌==◌, ◌∷◌, ◌≡◌}
+use Rattle.sdd_obligations.proofs.All.{AllGt, Ascend, Bool, Catalogue, Cond, FragNo, IsStrict, List, None, Option, Some, StartsAbove, [], arith, cond_for, cond_of, condition_on, conditions, conditions_at, cons_option, filter_map, frag_no, fragments_of, if_way, is_asked, length, map, option_or, range_with_len, refl, suc, undeclared_conditions, zero, ℕ, ◌+◌, ◌<◌, ◌==◌, ◌∷◌, ◌≡◌}
 use Rattle.sdd_invariants.specs.All.{asked_by}
 use Rattle.sdd_invariants.specs.protocol.declared.entry.Entry as line
 
 cond_class : (j t : ℕ) (fs : List FragNo) (q : Cond) → cond_for j t fs ≡ Some q → q.class.0 ≡ j
-cond_class j t [] q e = cc
-cond_class j t (f ∷ fs) q e = let p : cond_of j t (f ∷ fs) ≡ q = cc in ap (λ (x : Cond). x.class.0) (sym p)
+cond_class j t fs q e = grind arith
 
 either_class : (o p : Option Cond) (j : ℕ) (q : Cond) → ((x : Cond) → o ≡ Some x → x.class.0 ≡ j) → ((x : Cond) → p ≡ Some x → x.class.0 ≡ j)
     → option_or o p ≡ Some q → q.class.0 ≡ j
-either_class None p j q f g e = g q e
-either_class (Some x) p j q f g e = let r : x ≡ q = cc in subst (λ (y : Cond). y.class.0 ≡ j) r (f x refl)
+either_class o p j q f g e = grind arith
 
 pub condition_class : (f : ℕ → Bool) (entries : List line.Entry) (i own p2 j : ℕ) (q : Cond) → condition_on f entries i own p2 j ≡ Some q → q.class.0 ≡ j
-condition_class f entries i own p2 j q e =
-    either_class (cond_for j own (asked_by P3 f entries i j)) (cond_for j p2 (asked_by P2 f entries i j)) j
-    q (λ x. cond_class j own (asked_by P3 f entries i j) x) (λ x. cond_class j p2 (asked_by P2 f entries i j) x) e
+condition_class f entries i own p2 j q e = grind (arith, either_class, asked_by, cond_class)
 
 -- conditions made for ascending classes
 
@@ -27,10 +23,7 @@ made_above : (f : ℕ → Option Cond) (k a n : ℕ) → ((j : ℕ) (q : Cond) �
 made_above f k a zero g l = tt
 made_above f k a (suc n) g l =
     let i = made_above f k (a + 1) n g (omega (arith, l)) in
-    elim (f a) as (λ o. f a ≡ o → AllGt k (classes_in (cons_option o (filter_map f (range_with_len (a + 1) n))))) [
-      | None ↦ λ e. i
-      | Some q ↦ λ e. (let c = g a q e in omega (arith, l, c), i)
-    ] refl
+    grind arith
 
 made_strict : (f : ℕ → Option Cond) (a n : ℕ) → ((j : ℕ) (q : Cond) → f j ≡ Some q → q.class.0 ≡ j) → IsStrict (classes_in (filter_map f (range_with_len a n)))
 made_strict f a zero g = tt
@@ -60,8 +53,7 @@ conditions_strict cat table c frags own p2 d =
 -- what stands above all that comes before it stands above the one before it
 
 starts_above : (k : ℕ) (ns : List ℕ) → AllGt k ns → StartsAbove k ns
-starts_above k [] h = tt
-starts_above k (n ∷ ns) h = h.0
+starts_above k ns h = grind arith
 
 pub strict_ascends : (ns : List ℕ) → IsStrict ns → Ascend ns
 strict_ascends [] h = tt

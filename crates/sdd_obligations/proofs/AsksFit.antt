@@ -1,5 +1,5 @@
 -- An ASK that is next to be handed over is for a class that the module runs.
-use Rattle.sdd_obligations.proofs.All.{Ask, Bool, Catalogue, Class, ClassNo, D, DmNo, Does, Input, IsAskBy, IsPermitted, IsRead, List, Log, Msg, Read, Setting, Some, T, TmNo, Ts, U, [], ap, arith, class_at, cond, contains, false, filter, head_put, home, home_of, length, local_of, map, numbers_to, or_left, or_right, permitted_before, put_in_by_d, puts_to, range_with_len, runs, same_number, setting_of, slice_get, slice_index_or, source_of, subst, suc, sym, tm_no, true, zero, ℕ, ◌+◌, ◌-◌, ◌<◌, ◌==◌, ◌∷◌, ◌≡◌, ◌≤◌}
+use Rattle.sdd_obligations.proofs.All.{Ask, Bool, Catalogue, Class, ClassNo, D, DmNo, Does, Input, IsAskBy, IsPermitted, IsRead, List, Log, Msg, Read, Setting, Some, T, TmNo, Ts, U, [], ap, arith, class_at, cond, contains, filter, head_put, home, home_of, length, local_of, map, numbers_to, or_left, or_right, permitted_before, put_in_by_d, puts_to, range_with_len, runs, same_number, setting_of, slice_get, slice_index_or, source_of, subst, suc, sym, tm_no, true, zero, ℕ, ◌+◌, ◌-◌, ◌<◌, ◌∷◌, ◌≡◌, ◌≤◌}
 use Rattle.sdd_obligations.proofs.Conditions.{act_within, one_within}
 use Rattle.sdd_obligations.proofs.Sums.{range_at}
 
@@ -13,24 +13,12 @@ t_source (k ∷ ks) (suc i) t e = let r = t_source ks i t e in (omega (arith, r.
 
 pub source_t : (cat : Catalogue) (c : ℕ) (t : TmNo) → T t ≡ slice_index_or (U ∷ map (λ k. T k.tm) cat.classes) c U
     → (1 ≤ c) × (c ≤ length cat.classes) × ((class_at cat c).tm.0 ≡ t.0)
-source_t cat zero t e = cc
-source_t cat (suc i) t e =
-    let r = t_source cat.classes i t e in
-    let n : suc i - 1 ≡ i = omega arith in
-    (omega arith, omega (arith, r.0), rw n r.1)
+source_t cat c t e = grind (arith, t_source)
 
 contains_kept : (f : ℕ → Bool) (xs : List ℕ) (j c : ℕ) → slice_get xs j ≡ Some c → f c ≡ true → contains (filter f xs) c ≡ true
 contains_kept f [] j c e h = cc
-contains_kept f (x ∷ xs) zero c e h =
-    let p : x ≡ c = cc in
-    let q : f x ≡ true = subst (λ y. f y ≡ true) (sym p) h in
-    let s : (x == c) ≡ true = subst (λ y. (x == y) ≡ true) p (same_number x) in
-    rw q (or_left (x == c) (contains (filter f xs) c) s)
-contains_kept f (x ∷ xs) (suc j) c e h =
-    elim (f x) as (λ b. contains (cond b (x ∷ filter f xs) (filter f xs)) c ≡ true) [
-      | true ↦ or_right (x == c) (contains (filter f xs) c) (contains_kept f xs j c e h)
-      | false ↦ contains_kept f xs j c e h
-    ]
+contains_kept f (x ∷ xs) zero c e h = grind (arith, same_number, or_left)
+contains_kept f (x ∷ xs) (suc j) c e h = grind (arith, cond, or_right, contains_kept f xs j c e h)
 
 pub runs_it : (g : Input) (t : TmNo) (c : ℕ) → 1 ≤ c → c ≤ length g.catalogue.classes → (class_at g.catalogue c).tm.0 ≡ t.0
     → contains (runs (setting_of g (T t))) c ≡ true
@@ -39,8 +27,7 @@ runs_it g t c l m e =
     let there : slice_get (numbers_to (length g.catalogue.classes)) (c - 1) ≡ Some c =
     subst (λ x. slice_get (range_with_len 1 (length g.catalogue.classes)) (c - 1) ≡ Some x) n
     (range_at 1 (length g.catalogue.classes) (c - 1) (omega (arith, l, m))) in
-    contains_kept (λ k. (class_at g.catalogue k).tm.0 == t.0) (numbers_to (length g.catalogue.classes))
-    (c - 1) c there (subst (λ x. ((class_at g.catalogue c).tm.0 == x) ≡ true) e (same_number (class_at g.catalogue c).tm.0))
+    grind (arith, contains_kept, class_at, same_number)
 
 pub asked_class : (g : Input) (d : DmNo) (t : TmNo) (log : Log) (n : ℕ) (k : ClassNo) (time : Ts) → IsPermitted g log
     → slice_get (puts_to (T t) (local_of g (D d) log)) n ≡ Some (Ask k time) → contains (runs (setting_of g (T t))) k.0 ≡ true
@@ -58,8 +45,7 @@ u_source (k ∷ ks) zero l e = cc
 u_source (k ∷ ks) (suc i) l e = u_source ks i (omega (arith, l)) e
 
 not_u : (s : Setting) (c : ℕ) → 1 ≤ c → c ≤ length s.catalogue.classes → U ≡ source_of (home_of s) c → ⊥
-not_u s zero l m e = omega (arith, l)
-not_u s (suc i) l m e = u_source s.catalogue.classes i (omega (arith, m)) e
+not_u s c l m e = grind (arith, u_source)
 
 pub asks_not_u : (g : Input) (d : DmNo) (log : Log) (n : ℕ) (k : ClassNo) (time : Ts) → IsPermitted g log
     → slice_get (puts_to U (local_of g (D d) log)) n ≡ Some (Ask k time) → ⊥

@@ -1,5 +1,5 @@
 -- Within the limits of a run no log is higher than the greatest height.
-use Rattle.sdd_obligations.proofs.All.{Act, AllFewTicks, D, Did, Does, Each, Entry, Input, IsFair, IsLawful, IsNumbered, IsPermitted, IsSmall, IsWithin, List, Log, MAX_LINK_MESSAGES, MAX_RUN_EVENTS, MAX_TICKS, Mark, Option, Records, Redeclares, Site, Some, Start, T, U, [], all_new, ap, arith, dm_no, each_local, greatest_height, handed, hands, height, home_of, lawful_permitted, length, length-append, length-map, length-range_with_len, local_of, local_step, made, map, marks, most_classes, most_sites, mul-le-mul, mul-le-mul_right, own_act, range_with_len, refl, setting_of, sites, starts, starts_by, starts_more, submits, subst, suc, suc-mul, sym, t_fair, ticks_of, tm_no, trans_le, u_fair, view_of, with_made, ℕ, ◌*◌, ◌+◌, ◌<◌, ◌^◌, ◌∙◌, ◌∷◌, ◌≡◌, ◌≤◌}
+use Rattle.sdd_obligations.proofs.All.{Act, AllFewTicks, D, Did, Does, Each, Entry, Input, IsFair, IsLawful, IsNumbered, IsPermitted, IsSmall, IsWithin, List, Log, MAX_LINK_MESSAGES, MAX_RUN_EVENTS, MAX_TICKS, Mark, Option, Redeclares, Site, T, U, [], all_new, ap, arith, dm_no, each_local, greatest_height, handed, hands, height, home_of, lawful_permitted, length, length-append, length-map, length-range_with_len, local_of, local_step, made, map, marks, most_classes, most_sites, mul-le-mul, mul-le-mul_right, own_act, range_with_len, refl, setting_of, sites, starts, starts_by, starts_more, submits, subst, suc, suc-mul, sym, t_fair, ticks_of, tm_no, trans_le, u_fair, view_of, with_made, ℕ, ◌*◌, ◌+◌, ◌<◌, ◌^◌, ◌∙◌, ◌∷◌, ◌≡◌, ◌≤◌}
 use Rattle.sdd_obligations.proofs.Counting.{site_few}
 use Rattle.sdd_obligations.proofs.Limits.{handed_few, hands_few, marks_few, submits_few}
 use Rattle.sdd_obligations.proofs.NoStarts.{d_starts_not}
@@ -10,12 +10,10 @@ use Rattle.sdd_invariants.specs.site_module.SiteLog as site
 -- the height is the sum of ticks and of all sites' Starts
 
 act_starts : (act : Act) (n : ℕ) → starts_more act n ≡ starts_by act + n
-act_starts (Records c (Start txn attempt class ts p2 uses) sends) n = omega arith
-act_starts act n = omega arith
+act_starts act n = grind arith
 
 starts_rise : (o : Option site.Entry) (l : site.Log) → starts l ≤ starts (with_made o l)
-starts_rise (Some (Did act)) l = let e = act_starts act (starts l) in omega (arith, e)
-starts_rise _ l = omega arith
+starts_rise o l = grind (arith, act_starts, starts)
 
 starts_up : (g : Input) (e : Entry) (log : Log) (at : Site) → starts (local_of g at log) ≤ starts (local_of g at (e ∷ log))
 starts_up g e log at = subst (λ l. starts (local_of g at log) ≤ starts l) (sym (local_step g at e log)) (starts_rise (made g at log e) (local_of g at log))

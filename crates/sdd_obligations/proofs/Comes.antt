@@ -26,12 +26,10 @@ rows_turn (Told ns q) m h e = record { uses = ns; last = q; is = refl; not_shipp
 rows_turn _ m h e = absurd h
 
 held_for : (ts : ℕ) (ns : List ℕ) (f : Option Frozen) → AreHeldFor ts ns f → AreFor ts f
-held_for ts ns None h = h
-held_for ts ns (Some f) h = h.0
+held_for ts ns f h = grind arith
 
 held_use : (ts u : ℕ) (ns : List ℕ) (f : Option Frozen) → AreHeldFor ts ns f → contains ns u ≡ true → HaveUse u f
-held_use ts u ns None h e = h
-held_use ts u ns (Some f) h e = subst (λ l. contains l u ≡ true) (sym h.1) e
+held_use ts u ns f h e = grind arith
 
 record IsForHeld (g : Input) (log : all.Log) (a : Site) (d : DmNo) (ts c : ℕ) (m : Msg) : Type 0 where
   ship : FitsShip (setting_of g (D d)) (local_of g (D d) log) a c ts

@@ -1,5 +1,5 @@
 -- The conditions of a READ are on classes of the catalogue.
-use Rattle.sdd_obligations.proofs.All.{Act, All, All-cons, All-nil, AllLt, Catalogue, ClassNo, Cond, Each, FitsCond, FragNo, IsFair, IsRead, List, Msg, None, Option, P2, P3, Queued, Read, Setting, Site, Some, Ts, TxnNo, Use, [], arith, ascending, bound, cond_for, cond_of, condition_on, conditions_at, cons_option, current_era, each_at, filter_map, frag_no, fragments_in, fragments_of, if_way, in_none, in_one, inl, inr, is_asked, length, map, next_stamp, option_or, puts_to, range_with_len, sends_of_act, slice_get, start_at, start_puts, start_read, subst, suc, to_site, uses_of, was_put, zero, ℕ, ◌+◌, ◌<◌, ◌==◌, ◌^◌, ◌∷◌, ◌≡◌, ◌≤◌}
+use Rattle.sdd_obligations.proofs.All.{Act, All, All-cons, All-nil, AllLt, Catalogue, ClassNo, Cond, Each, FitsCond, FragNo, IsFair, IsRead, List, Msg, None, Option, Queued, Read, Setting, Site, Some, Ts, TxnNo, Use, [], arith, ascending, bound, cond_for, conditions_at, cons_option, current_era, each_at, filter_map, fragments_in, if_way, in_none, in_one, inl, inr, length, map, next_stamp, option_or, puts_to, range_with_len, sends_of_act, slice_get, start_at, start_puts, start_read, subst, suc, to_site, uses_of, was_put, zero, ℕ, ◌+◌, ◌<◌, ◌^◌, ◌∷◌, ◌≡◌, ◌≤◌}
 use Rattle.sdd_invariants.specs.All.{asked_by, classes_of}
 use Rattle.sdd_invariants.specs.site_module.SiteLog.{Log}
 use Rattle.sdd_invariants.proofs.ReadsPut.{put_by}
@@ -23,16 +23,13 @@ AllFrom1 n [] = Unit {0}
 AllFrom1 n (c ∷ cs) = IsFrom1 n c × AllFrom1 n cs
 
 for_within : (n j t : ℕ) (fs : List FragNo) → IsFrom1 n j → IsWithin n (cond_for j t fs)
-for_within n j t [] l = tt
-for_within n j t (f ∷ fs) l = l
+for_within n j t fs l = grind arith
 
 either_within : (n : ℕ) (a b : Option Cond) → IsWithin n a → IsWithin n b → IsWithin n (option_or a b)
-either_within n None b h i = i
-either_within n (Some d) b h i = h
+either_within n a b h i = grind arith
 
 cons_within : (n : ℕ) (o : Option Cond) (ds : List Cond) → IsWithin n o → AllWithin n ds → AllWithin n (cons_option o ds)
-cons_within n None ds h i = i
-cons_within n (Some d) ds h i = (h, i)
+cons_within n o ds h i = grind arith
 
 made_within : (n : ℕ) (f : ℕ → Option Cond) (cs : List ℕ) → ((c : ℕ) → IsFrom1 n c → IsWithin n (f c)) → AllFrom1 n cs → AllWithin n (filter_map f cs)
 made_within n f [] h l = tt
@@ -51,10 +48,7 @@ conditions_within : (cat : Catalogue) (table : List line.Entry) (c : ℕ) (frags
 conditions_within cat table c frags own p2 d =
     let n : ℕ = length cat.classes in
     let all : AllFrom1 n (classes_of cat) = range_le 1 n n (omega arith) (omega arith) in
-    if_way (AllWithin n) (c == 0) _ _ (mapped_within n (λ j. cond_of j own (map frag_no (fragments_of cat))) (classes_of cat) (λ j l. l) all)
-    (made_within n (condition_on (is_asked cat c d (map frag_no frags)) table c own p2) (classes_of cat)
-    (λ j l. either_within n (cond_for j own (asked_by P3 (is_asked cat c d (map frag_no frags)) table c j))
-    (cond_for j p2 (asked_by P2 (is_asked cat c d (map frag_no frags)) table c j)) (for_within n j own _ l) (for_within n j p2 _ l)) all)
+    grind (arith, if_way, mapped_within, made_within, either_within, asked_by, for_within)
 
 -- of a READ that was put
 

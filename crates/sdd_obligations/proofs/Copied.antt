@@ -1,5 +1,5 @@
 -- The database of an attempt's snapshots has the copies that its modules had at their Answers.
-use Rattle.sdd_obligations.proofs.All.{Act, Answer, ArePlaced, AreThere, Attempt, Catalogue, Change, Contains, Contains-range, D, Database, Dated, DmNo, Does, FitsInput, FragNo, Has, Has-filter_map, Has-filter_map_from, Has-flat_map, Has-flat_map_from, Has-map, Has-map_from, HasAnswer, HasCopies, HasEras, Input, IsChange, IsItemChange, IsPermitted, IsPiece, IsPlaced, IsSoundCatalogue, IsUsed, Item, List, Log, Msg, None, Option, Read, Records, Row, Setting, Some, Txn, Use, active, answered_all, ap, arith, ascending, base_of, before_answer, contains, copies_read, dated, dm_no, each_has, each_of, entry_placed, false, filter_map, flat_map, fragment_at, fragment_of, fragments_in, frags_asked, has_copies, head, home, home_of, if◌then◌else◌, inl, inr, is_at, is_over, is_read_at, is_some, items_of, length, local_grows, local_of, map, modules_asked, modules_of, numbers_to, of_has, option_eq, own_act, pipe, reads_at, recursion_from_All, refl, same_number, served_read, setting_of, snapshots_at, some_copy, subst, sym, there_is, to_has, true, use_part, use_there, uses_of, uses_there, ℕ, ◌++◌, ◌==◌, ◌∙◌, ◌∷◌, ◌≡◌, ◌≤◌}
+use Rattle.sdd_obligations.proofs.All.{Act, Answer, ArePlaced, AreThere, Attempt, Catalogue, Change, Contains, Contains-range, D, Database, Dated, DmNo, Does, FitsInput, FragNo, Has, Has-filter_map, Has-filter_map_from, Has-flat_map, Has-flat_map_from, Has-map, Has-map_from, HasAnswer, HasCopies, HasEras, Input, IsItemChange, IsPermitted, IsPiece, IsPlaced, IsSoundCatalogue, IsUsed, Item, List, Log, Msg, Option, Records, Row, Setting, Some, Txn, Use, active, answered_all, ap, arith, ascending, base_of, before_answer, contains, copies_read, dated, dm_no, each_has, each_of, entry_placed, false, filter_map, flat_map, fragments_in, frags_asked, has_copies, head, home, home_of, if◌then◌else◌, inl, inr, is_over, is_read_at, is_some, items_of, length, local_grows, local_of, map, modules_asked, modules_of, numbers_to, of_has, option_eq, own_act, pipe, reads_at, recursion_from_All, same_number, served_read, setting_of, snapshots_at, some_copy, subst, sym, there_is, to_has, true, use_part, use_there, uses_of, uses_there, ℕ, ◌==◌, ◌∙◌, ◌∷◌, ◌≡◌, ◌≤◌}
 use Rattle.sdd_obligations.proofs.EffectsHeld.{HandFits, all_items}
 use Rattle.sdd_obligations.proofs.Put.{acts_fit, databases, hands_fit}
 use Rattle.sdd_obligations.proofs.ShippedAnswered.{answer_to, uses_at_head}
@@ -17,8 +17,7 @@ is_read : (o : Option ℕ) (d : ℕ) → o ≡ Some d → option_eq ◌==◌ o (
 is_read o d e = subst (λ z. option_eq ◌==◌ z (Some d) ≡ true) (sym e) (same_number d)
 
 some_is : (o : Option ℕ) → is_some o ≡ true → (d : ℕ) × (o ≡ Some d)
-some_is None e = cc
-some_is (Some d) e = (d, refl)
+some_is o e = grind arith
 
 frag_among : (us : List Use) (u : Use) (f : FragNo) → Has us u → Has u.frags f → Has (fragments_in us) f.0
 frag_among us u f h k = Has-flat_map (λ (u : Use). map (λ f. f.0) u.frags) us u f.0 h (Has-map (λ (f : FragNo). f.0) u.frags f k)
@@ -47,9 +46,7 @@ module_there cat sound c txn cov u f d h k e =
     (s.module_from, s.module_to)
 
 module_in : (cat : Catalogue) (d : ℕ) → (1 ≤ d) × (d ≤ cat.dms) → Has (numbers_to cat.dms) d
-module_in cat d within =
-    let low = within.0 in let high = within.1 in
-    to_has (numbers_to cat.dms) d (Contains-range 1 cat.dms d low (omega arith))
+module_in cat d within = grind (arith, to_has, Contains-range)
 
 module_asked : (cat : Catalogue) → IsSoundCatalogue cat → (c : ℕ) (txn : Txn) → Covers cat c txn
     → (u : Use) (f : FragNo) (d : ℕ) → Has (uses_of cat txn) u → Has u.frags f → reads_at cat c f.0 ≡ Some d
@@ -65,8 +62,7 @@ module_asked cat sound c txn cov u f d h k e =
 -- what a READ asks
 
 frags_are : (o : Option Msg) → frags_asked o ≡ ascending (fragments_in (uses_at_head o))
-frags_are (Some (Read ts class txn attempt conds uses)) = refl
-frags_are _ = refl
+frags_are o = grind arith
 
 asked_frag : (cat : Catalogue) (c d : ℕ) (txn : Txn) (u : Use) (f : FragNo) → Has (uses_of cat txn) u
     → Has u.frags f → is_read_at cat c d f.0 ≡ true → Has (ascending (fragments_in (uses_at cat c txn d)))
@@ -80,36 +76,19 @@ asked_frag cat c d txn u f h k t =
 frag_asked : (cat : Catalogue) (c d : ℕ) (txn : Txn) (f : ℕ)
     → Has (ascending (fragments_in (uses_at cat c txn d))) f → IsUsed cat txn f × (is_read_at cat c d f ≡ true)
 frag_asked cat c d txn f h =
-    let p = Has-flat_map_from (λ (u : Use). map (λ f. f.0) u.frags) (uses_at cat c txn d) f (from_order (fragments_in (uses_at cat c txn d)) f h) in
-    let v : Use = p.0 in
-    let q = Has-map_from (λ (f : FragNo). f.0) v.frags f p.2 in
-    let r = Has-filter_map_from (use_there cat c d) (uses_of cat txn) v p.1 in
-    let from = (there_is cat c d r.0 v r.2).from q.0 q.1 in
-    (record { usage = r.0; frag = q.0; there = r.1; among = from.0; number = q.2 }, subst (λ n. is_read_at cat c d n ≡ true) q.2 from.1)
+    grind (arith, Has-flat_map_from, uses_at, from_order, Has-map_from, Has-filter_map_from, use_there, there_is, is_read_at)
 
 -- the places of changes
 
 item_placed : (cat : Catalogue) → IsSoundCatalogue cat → (c : Change) → IsItemChange cat c → IsPlaced cat c
-item_placed cat sound c h =
-    let is : IsChange cat ((c.frag.0, c.key), c.row) = h in
-    ap (λ r. fragment_of cat r c.key) (ap (λ n. (fragment_at cat n).rel.0) is.frag ∙ entry_placed cat sound is.rel c.key is.there is.held) ∙ sym is.frag
+item_placed cat sound c h = grind (arith, entry_placed)
 
 -- an Answer of the attempt, in the log of its module
 answer_at : (g : Input) (log : Log) (d : DmNo) (c : ℕ) (a : Attempt) → HasAnswer g log d c a → IsAnswerAt a.ts (local_of g (D d) log)
 answer_at g log d c a h =
     let act : Act = Records c (Answer h.txn h.attempt (home_of (setting_of g (D d))).dm) h.sends in
     let x = local_grows g (D d) h.later (Does (D d) act ∷ h.before) in
-    record {
-      later = x.0;
-      class = c;
-      txn = h.txn;
-      attempt = h.attempt;
-      dm = (home_of (setting_of g (D d))).dm;
-      sends = h.sends;
-      before = local_of g (D d) h.before;
-      is = ap (local_of g (D d)) h.is ∙ x.1 ∙ ap (λ l. x.0 ++ l) (own_act g (D d) act h.before);
-      at = subst (λ o. is_at a.ts o ≡ true) (sym h.head_is) (ap (λ t. t == a.ts) h.ts_is ∙ same_number a.ts);
-    }
+    grind (arith, own_act, same_number)
 
 module _ (g : Input) (good : FitsInput g) (eras : HasEras g) (c : ℕ) (log : Log) (a : Attempt) (h : IsPermitted g log)
     (is : active (setting_of g (home g.catalogue c)) c (local_of g (home g.catalogue c) log) ≡ Some a) (over : is_over a.exchange.phase ≡ true) where

@@ -1,5 +1,5 @@
 -- A class starts no more attempts than transactions were given to its site and messages handed to it.
-use Rattle.sdd_obligations.proofs.All.{Act, Attempt, Bases, Bool, Catalogue, Class, Did, Each, Handed, IsFair, IsNew, IsNumbered, IsServed, IsStep, List, Msg, None, Option, Queued, Sends, Setting, Site, Some, Submits, T, [], active, active_handed, active_sent, ap, arith, class_at, class_starts, classes_of, commit_act, current_era, dec_le, false, filter, filter_shorter, get_or_past, hands, head_of, home, if◌then◌else◌, inl, inr, is_for, length, length-append, length-map, length-range_with_len, map, next_stamp, not, queue, queue_is, refl, same_number, same_or_not, sends_of_act, sent_way, slice_get, start_at, start_of_class, started, starts, step_way, submits, submitted, subst, suc, sym, tm_no, tried, true, ℕ, ◌*◌, ◌++◌, ◌+◌, ◌-◌, ◌==◌, ◌∷◌, ◌≡◌, ◌≤◌}
+use Rattle.sdd_obligations.proofs.All.{Act, Attempt, Bases, Bool, Catalogue, Did, Each, Handed, IsFair, IsNew, IsNumbered, IsServed, IsStep, List, Msg, None, Option, Queued, Sends, Setting, Site, Some, Submits, T, [], active, active_sent, ap, arith, class_at, class_starts, classes_of, commit_act, current_era, false, filter, filter_shorter, get_or_past, hands, head_of, home, if◌then◌else◌, inl, inr, length, length-append, length-map, length-range_with_len, map, next_stamp, not, queue, queue_is, refl, same_number, same_or_not, sends_of_act, sent_way, slice_get, start_at, start_of_class, started, starts, step_way, submits, submitted, subst, suc, sym, tm_no, tried, ℕ, ◌*◌, ◌++◌, ◌+◌, ◌-◌, ◌==◌, ◌∷◌, ◌≡◌, ◌≤◌}
 use Rattle.sdd_obligations.proofs.Sums.{range_at, total, total_le, total_raise, total_up}
 use Rattle.sdd_invariants.specs.site_module.SiteLog.{Log}
 
@@ -8,16 +8,13 @@ busy None = 0
 busy (Some a) = 1
 
 busy_le : (o : Option Attempt) → busy o ≤ 1
-busy_le None = omega arith
-busy_le (Some a) = omega arith
+busy_le o = grind arith
 
 busy_started : (ts : ℕ) (sends : List (Site × Msg)) (o : Option Queued) (q : Queued) → o ≡ Some q → busy (started ts sends o) ≡ 1
-busy_started ts sends None q e = cc
-busy_started ts sends (Some x) q e = refl
+busy_started ts sends o q e = grind arith
 
 busy_served : (o : Option Attempt) (qs : List Queued) → IsServed o qs → busy o ≤ length qs
-busy_served (Some a) [] h = absurd h
-busy_served _ _ h = omega arith
+busy_served o qs h = grind arith
 
 -- the Starts of the class and what waits in its queue
 abbrev IsCounted : Setting → ℕ → Log → Type 0
@@ -43,11 +40,7 @@ count_other_start : (s : Setting) (k c : ℕ) (log : Log) (q : Queued) → (k ==
 count_other_start s k c log q e h = rw e (same_count (class_starts c log) (length (queue s c log)) _ h)
 
 pub head_taken : (a : Attempt) (qs : List Queued) → IsServed (Some a) qs → suc (length (filter (λ q. not (q.number == a.txn)) qs)) ≤ length qs
-head_taken a [] h = absurd h
-head_taken a (q ∷ qs) h =
-    let e : (q.number == a.txn) ≡ true = subst (λ n. (q.number == n) ≡ true) h.0 (same_number q.number) in
-    let i = filter_shorter (λ q. not (q.number == a.txn)) qs in
-    rw e (omega (arith, i))
+head_taken a qs h = grind (arith, same_number, filter_shorter)
 
 commit_count : (cs qs more subs hs b : ℕ) → suc more ≤ qs → b ≤ 1 → cs + qs ≤ subs + hs + b → 0 + cs + more ≤ subs + hs + 0
 commit_count cs qs more subs hs b l m h = omega (arith, l, m, h)
@@ -71,9 +64,7 @@ send_count : (cs qs all b d : ℕ) → b ≤ d → cs + qs ≤ all + b → 0 + c
 send_count cs qs all b d l h = omega (arith, l, h)
 
 count_send : (s : Setting) (c : ℕ) (log : Log) (to : Site) (m : Msg) (hand : Option ℕ) → IsCounted s c log → IsCounted s c (Did (Sends to m hand) ∷ log)
-count_send s c log to m hand h =
-    send_count (class_starts c log) (length (queue s c log)) (length (submits log) + hands log)
-    (busy (active s c log)) (busy (active_sent c m (active s c log))) (sent_busy s c log m) h
+count_send s c log to m hand h = grind (arith, send_count, submits, hands, active, sent_busy)
 
 count_act : (s : Setting) (c : ℕ) (log : Log) (act : Act) → IsStep s log act → IsServed (active s c log) (queue s c log)
     → IsCounted s c log → IsCounted s c (Did act ∷ log)
@@ -88,8 +79,7 @@ count_act s c log act i v h = step_way s log act (λ x. IsCounted s c (Did x ∷
     ]) (λ to m hand f. count_send s c log to m hand h) i
 
 submit_longer : (b : Bool) (q : Queued) (qs : List Queued) → length (if b then qs ++ q ∷ [] else qs) ≤ suc (length qs)
-submit_longer true q qs = let e = length-append qs (q ∷ []) in omega (arith, e)
-submit_longer false q qs = omega arith
+submit_longer b q qs = grind (arith, length-append)
 
 submit_count : (cs qs more subs hs b : ℕ) → more ≤ suc qs → cs + qs ≤ subs + hs + b → cs + more ≤ suc subs + hs + b
 submit_count cs qs more subs hs b l h = omega (arith, l, h)
@@ -99,13 +89,9 @@ hand_count cs qs subs hs b d l h = omega (arith, l, h)
 
 counted : (s : Setting) (c : ℕ) (log : Log) → Each (IsFair s) log → Each IsNew log → IsCounted s c log
 counted s c [] f n = omega arith
-counted s c (Handed from m ∷ log) f n =
-    hand_count (class_starts c log) (length (queue s c log)) (length (submits log)) (hands log)
-    (busy (active s c log)) (busy (active_handed c from m (active s c log))) (busy_le (active s c log)) (counted s c log f.1 n.1)
+counted s c (Handed from m ∷ log) f n = grind (arith, hand_count, submits, hands, active, busy_le, counted s c log f.1 n.1)
 counted s c (Submits k txn ∷ log) f n =
-    submit_count (class_starts c log) (length (queue s c log))
-    (length (submitted c (current_era s log).catalogue k txn (queue s c log))) (length (submits log)) (hands log) (busy (active s c log))
-    (submit_longer (is_for c (current_era s log).catalogue txn) (record { number = k; text = txn; tries = 0 }) (queue s c log)) (counted s c log f.1 n.1)
+    grind (arith, submit_count, submitted, current_era, submits, hands, active, submit_longer, counted s c log f.1 n.1)
 counted s c (Did act ∷ log) f n = count_act s c log act f.0 (queue_is s c log f.1 n.1).served (counted s c log f.1 n.1)
 counted s c (_ ∷ log) f n = counted s c log f.1 n.1
 
@@ -116,12 +102,7 @@ class_few s c log f n =
 -- a site starts attempts of classes that are there
 
 no_class_past : (cat : Catalogue) (c t : ℕ) → (class_at cat c).tm.0 ≡ t → 1 ≤ t → (c == 0) ≡ false → c ≤ length cat.classes
-no_class_past cat c t e l z = elim (dec_le c (length cat.classes)) [
-  | yes p ↦ p
-  | no p ↦ (let past : class_at cat c ≡ record { name = []; tm = tm_no 0; reads = []; writes = [] } =
-      get_or_past cat.classes (c - 1) (record { name = []; tm = tm_no 0; reads = []; writes = [] }) (omega (arith, p)) in
-      let none : (class_at cat c).tm.0 ≡ 0 = ap (λ (k : Class). k.tm.0) past in absurd (omega (arith, none, e, l)))
-]
+no_class_past cat c t e l z = grind (arith, class_at, get_or_past)
 
 of_tm : (cat : Catalogue) (c : ℕ) (at : Site) → IsNumbered at → T (tm_no (class_at cat c).tm.0) ≡ at → (c == 0) ≡ false → c ≤ length cat.classes
 of_tm cat c (T t) l q z = let n : (class_at cat c).tm.0 ≡ t.0 = cc in no_class_past cat c t.0 n l z

@@ -10,13 +10,7 @@ EraIs cat log (Redeclared era t) = IsEraOf cat era.catalogue
 EraIs cat log _ = Unit {0}
 
 eras_are : (g : Input) → HasEras g → (at : Site) (log : whole.Log) → IsPermitted g log → Each (EraIs g.catalogue) (local_of g at log)
-eras_are g eras at = each_local g at (EraIs g.catalogue) (record {
-  handed = λ log p from n m a i. tt;
-  ticked = λ log p n i. tt;
-  submits = λ log p n txn a e i. tt;
-  redeclared = λ l k t i. eras k;
-  did = λ log act p due i. tt;
-})
+eras_are g eras at = grind (arith, each_local)
 
 current_era_is : (s : Setting) (log : Log) → Each (EraIs s.catalogue) log → IsEraOf s.catalogue (current_era s log).catalogue
 current_era_is s [] h = era_of_itself s.catalogue
@@ -36,14 +30,7 @@ covers_for cat era of c txn e = elim (same_or_not c 0) [
 
 submitted_covered : (g : Input) → HasEras g → (at : Site) (c : ℕ) (log : whole.Log) → IsPermitted g log
     → Each (SubmitHas (Covers g.catalogue c) (setting_of g at) c) (local_of g at log)
-submitted_covered g eras at c = each_local g at (SubmitHas (Covers g.catalogue c) (setting_of g at) c) (record {
-  handed = λ log p from n m a i. tt;
-  ticked = λ log p n i. tt;
-  submits = λ log p n txn a e i own. covers_for g.catalogue (current_era (setting_of g at) (local_of g at log)).catalogue
-      (current_era_is (setting_of g at) (local_of g at log) (eras_are g eras at log p)) c txn own;
-  redeclared = λ l k t i. tt;
-  did = λ log act p due i. tt;
-})
+submitted_covered g eras at c = grind (arith, each_local, covers_for, current_era, current_era_is, eras_are)
 
 pub attempt_covered : (g : Input) → HasEras g → (c : ℕ) (log : whole.Log) (a : Attempt)
     → IsPermitted g log → active (setting_of g (home g.catalogue c)) c
@@ -54,5 +41,4 @@ attempt_covered g eras c log a h e =
     (all_new g at log h) (submitted_covered g eras at c log h) e
 
 pub class_within : (cat : Catalogue) (c : ℕ) (txn : Txn) → Covers cat c txn → c ≤ length cat.classes
-class_within cat c txn (inl z) = let n = z in omega arith
-class_within cat c txn (inr h) = h.class.to
+class_within cat c txn e = grind arith

@@ -9,8 +9,7 @@ down_join d b [] ys = refl
 down_join d b (x ∷ xs) ys = down_join d (turned_by d x b) xs ys
 
 count_in : (e : Event) (es : List Event) → redeclares_in (e ∷ es) ≡ redeclares_in (e ∷ []) + redeclares_in es
-count_in (Submit n) es = omega arith
-count_in _ es = omega arith
+count_in e es = grind arith
 
 pub count_join : (xs ys : List Event) → redeclares_in (xs ++ ys) ≡ redeclares_in xs + redeclares_in ys
 count_join [] ys = omega arith
@@ -97,9 +96,7 @@ one_more g down lists more total ws e s i n sum =
 -- an event that turns no module
 
 turned_same : (d : ℕ) (e : Event) (b : Bool) → TurnsNone e → turned_by d e b ≡ b
-turned_same d (Down m) b h = absurd h
-turned_same d (Up m) b h = absurd h
-turned_same d _ b h = refl
+turned_same d e b h = grind arith
 
 abbrev pub AreDone : Input → (ℕ → Bool) → ℕ → List Event × List Event → Type 0
 AreDone g down lists s = AtEach TurnsNone s.1 × IsDoneAs g down lists s.0

@@ -7,12 +7,10 @@ use Rattle.sdd_invariants.specs.site_module.SiteLog as site
 -- the first of its module
 
 same_done : (ts : ℕ) (m : Msg) → is_done ts m ≡ is_done_of ts m
-same_done ts (Done t) = refl
-same_done ts _ = refl
+same_done ts m = grind arith
 
 same_tally : (ts : ℕ) (ms : List Msg) → tally (is_done ts) ms ≡ tally (is_done_of ts) ms
-same_tally ts [] = refl
-same_tally ts (m ∷ ms) = let i = same_tally ts ms in omega (arith, i, ap one_if (same_done ts m))
+same_tally ts ms = grind (arith, one_if, same_done)
 
 -- what was served last: since a Commit, unless there was another
 
@@ -21,8 +19,7 @@ is_commit (Records k (Commit txn attempt reply changes values rows) sends) = tru
 is_commit _ = false
 
 no_serve : (act : Act) (o : Option Attempt) (v : Served) → is_commit act ≡ false → served_acted act o v ≡ v
-no_serve (Records k (Commit txn attempt reply changes values rows) sends) o v e = cc
-no_serve act o v e = refl
+no_serve act o v e = grind arith
 
 -- another Commit behind it
 record IsAgain (y : Act) (x : site.Log) : Type 0 where

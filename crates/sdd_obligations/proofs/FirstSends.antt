@@ -1,6 +1,6 @@
 -- A FETCH, REDUCE or SHIP that a site sends is the first message that the active attempt of its class has still to send;
 -- and records are of classes of the catalogue.
-use Rattle.sdd_obligations.proofs.All.{Act, Attempt, Bases, Bool, D, Did, Held, Hold, List, Msg, None, Null, Option, Queued, Records, Release, Sends, Setting, Site, Some, Ticking, Ts, U, [], active, ap, arith, asks_next, asks_rows, asks_whose, attempt_due, class_at, class_no, commit_act, dm_no, false, first_send, head_of, if◌then◌else◌, in_filtered, in_mapped, in_range, is_over, length, not, number_of, numbers_to, or_else, queue, refl, slice_get, start_act, subst, sym, time_at, true, ℕ, ◌&&◌, ◌==◌, ◌∷◌, ◌≡◌, ◌≤◌}
+use Rattle.sdd_obligations.proofs.All.{Act, Attempt, Bases, Bool, D, Did, Held, Hold, List, Msg, None, Option, Queued, Records, Release, Sends, Setting, Site, Some, Ticking, Ts, U, [], active, ap, arith, asks_next, asks_rows, asks_whose, attempt_due, class_at, commit_act, dm_no, first_send, head_of, if◌then◌else◌, in_filtered, in_mapped, in_range, is_over, length, not, or_else, queue, refl, slice_get, start_act, subst, sym, true, ℕ, ◌&&◌, ◌==◌, ◌∷◌, ◌≡◌, ◌≤◌}
 use Rattle.sdd_invariants.specs.site_module.SiteLog.{Entry, Log}
 use Rattle.sdd_invariants.specs.tm.Due as tm
 use Rattle.sdd_invariants.specs.tm.Views as tm_views
@@ -45,8 +45,7 @@ first_of s log c a p rest l i e ts k f =
 
 over_first : (s : Setting) (log : Log) (bases : Bases) (c : ℕ) (a : Attempt) (b : Bool) (act : Act)
     → c ≤ length s.catalogue.classes → (if b then Some (commit_act s.catalogue bases c a) else None) ≡ Some act → IsFirstSend s log act
-over_first s log bases c a true act l e = send_is s log (commit_act s.catalogue bases c a) act l e
-over_first s log bases c a false act l e = cc
+over_first s log bases c a b act l e = grind (arith, send_is)
 
 send_first : (s : Setting) (log : Log) (bases : Bases) (c : ℕ) (a : Attempt) (ms : List (ℕ × Msg)) (act : Act)
     → c ≤ length s.catalogue.classes → active s c log ≡ Some a → a.exchange.to_send ≡ ms
@@ -56,29 +55,23 @@ send_first s log bases c a (m ∷ rest) act l i p e = send_is s log (Sends (D (d
 
 attempt_first : (s : Setting) (log : Log) (bases : Bases) (c : ℕ) (o : Option Attempt) (act : Act) → c ≤ length s.catalogue.classes
     → active s c log ≡ o → attempt_due s.catalogue bases c o ≡ Some act → IsFirstSend s log act
-attempt_first s log bases c None act l i e = cc
-attempt_first s log bases c (Some a) act l i e = send_first s log bases c a a.exchange.to_send act l i refl e
+attempt_first s log bases c o act l i e = grind (arith, send_first)
 
 null_first : (s : Setting) (log : Log) (q : tm_views.Question) (b : Bool) (o : Option ℕ) (act : Act)
     → (if b then tm.null_at q o else None) ≡ Some act → IsFirstSend s log act
-null_first s log q true (Some t) act e = send_is s log (Sends q.from (Null (class_no q.class) (time_at t)) (Some q.hand)) act (λ ts c f. cc) e
-null_first s log q _ _ act e = cc
+null_first s log q b o act e = grind (arith, send_is)
 
 held_first : (s : Setting) (log : Log) (b : Bool) (t : Ts) (hand : Option ℕ) (act : Act)
     → (if b then Some (Sends U (Held t) hand) else None) ≡ Some act → IsFirstSend s log act
-held_first s log true t hand act e = send_is s log (Sends U (Held t) hand) act (λ ts c f. cc) e
-held_first s log false t hand act e = cc
+held_first s log b t hand act e = grind (arith, send_is)
 
 start_first : (s : Setting) (log : Log) (b : Bool) (v : tm_views.View) (c : ℕ) (o : Option Queued) (act : Act)
     → c ≤ length s.catalogue.classes → (if b then tm.start_of s.catalogue v c o else None) ≡ Some act → IsFirstSend s log act
-start_first s log true v c (Some q) act l e = send_is s log (start_act s.catalogue v.era.table c v.clock q) act l e
-start_first s log _ v c _ act l e = cc
+start_first s log b v c o act l e = grind (arith, send_is)
 
 -- the classes that a transaction module runs are of the catalogue
 run_here : (s : Setting) (k c : ℕ) → slice_get (tm_views.runs s) k ≡ Some c → c ≤ length s.catalogue.classes
-run_here s k c e =
-    let i = in_filtered (λ c. (class_at s.catalogue c).tm.0 == number_of s.site) (numbers_to (length s.catalogue.classes)) k c e in
-    omega (arith, (in_range 1 (length s.catalogue.classes) i.1 c i.2).1)
+run_here s k c e = grind (arith, in_filtered, class_at, in_range)
 
 pub t_first : (s : Setting) (bases : Bases) (log : Log) (act : Act) → tm.IsDue s.catalogue bases (tm_views.view_of s log) act → IsFirstSend s log act
 t_first s bases log act (tm.by_exchange k c p e) =
@@ -93,28 +86,20 @@ t_first s bases log act (tm.by_start k c p e) =
 
 release_first : (s : Setting) (log : Log) (b : Bool) (to : Site) (ts : Ts) (act : Act)
     → (if b then Some (Sends to (Release ts) None) else None) ≡ Some act → IsFirstSend s log act
-release_first s log true to ts act e = send_is s log (Sends to (Release ts) None) act (λ t c f. cc) e
-release_first s log false to ts act e = cc
+release_first s log b to ts act e = grind (arith, send_is)
 
 u_start_if : (s : Setting) (log : Log) (b : Bool) (clock_at : Ticking) (q : Queued) (act : Act)
     → (if b then Some (start_act s.catalogue [] 0 clock_at q) else None) ≡ Some act → IsFirstSend s log act
-u_start_if s log true clock_at q act e = send_is s log (start_act s.catalogue [] 0 clock_at q) act (omega arith) e
-u_start_if s log false clock_at q act e = cc
+u_start_if s log b clock_at q act e = grind (arith, send_is)
 
 u_start_first : (s : Setting) (log : Log) (v : um_views.View) (o : Option Queued) (act : Act) → um.start_of s.catalogue v o ≡ Some act → IsFirstSend s log act
-u_start_first s log v None act e = cc
-u_start_first s log v (Some q) act e = u_start_if s log _ v.clock q act e
+u_start_first s log v o act e = grind (arith, u_start_if)
 
 hold_if : (s : Setting) (log : Log) (b : Bool) (to : Site) (act : Act) → (if b then Some (Sends to Hold None) else None) ≡ Some act → IsFirstSend s log act
-hold_if s log true to act e = send_is s log (Sends to Hold None) act (λ t c f. cc) e
-hold_if s log false to act e = cc
+hold_if s log b to act e = grind (arith, send_is)
 
 hold_first : (s : Setting) (log : Log) (k : um_views.TmCounts) (o : Option Queued) (act : Act) → um.hold_to k o ≡ Some act → IsFirstSend s log act
-hold_first s log k None act e = cc
-hold_first s log k (Some q) act e = hold_if s log _ _ act e
+hold_first s log k o act e = grind (arith, hold_if)
 
 pub u_first : (s : Setting) (bases : Bases) (log : Log) (act : Act) → um.IsDue s.catalogue bases (um_views.view_of s log) act → IsFirstSend s log act
-u_first s bases log act (um.by_exchange e) = attempt_first s log bases 0 (active s 0 log) act (omega arith) refl e
-u_first s bases log act (um.by_release t k p e) = release_first s log _ _ _ act e
-u_first s bases log act (um.by_start e) = u_start_first s log (um_views.view_of s log) (head_of (queue s 0 log)) act e
-u_first s bases log act (um.by_hold t k p e) = hold_first s log k (head_of (queue s 0 log)) act e
+u_first s bases log act e = grind (arith, attempt_first, active, release_first, u_start_first, hold_first)

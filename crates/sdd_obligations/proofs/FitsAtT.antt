@@ -1,5 +1,5 @@
 -- What is next to be handed to a transaction module, or to U, fits there.
-use Rattle.sdd_obligations.proofs.All.{AnswersRead, Ask, Bases, ClassNo, D, DmNo, Done, Hand, Held, Hold, Input, IsD, IsPermitted, IsSmall, IsT, IsUpheldR, IsWhole, Log, Msg, Ready, Reduced, Reject, Release, Rows, Site, T, TmNo, Ts, U, Values, arith, handed, is_verdict, local_of, number_of, own_started as own, setting_of, subst, sym, true, ℕ, ◌-◌, ◌∷◌, ◌≡◌, ◌≤◌}
+use Rattle.sdd_obligations.proofs.All.{AnswersRead, Ask, Bases, ClassNo, D, DmNo, Done, Held, Hold, Input, IsD, IsSmall, IsT, IsUpheldR, IsWhole, Log, Msg, Ready, Reduced, Reject, Release, Rows, Site, T, TmNo, Ts, U, Values, arith, handed, is_verdict, local_of, number_of, own_started as own, setting_of, subst, true, ℕ, ◌-◌, ◌≡◌, ◌≤◌}
 use Rattle.sdd_obligations.proofs.OfNext.{d_of_sites, t_of_sites}
 use Rattle.sdd_obligations.proofs.Answering.{answers_read}
 use Rattle.sdd_obligations.proofs.AsksFit.{asked_class, asks_not_u}
@@ -34,23 +34,15 @@ t_ready g log _ t n ts c m s h r e = absurd r
 
 t_ask : (g : Input) (log : Log) (a : Site) (t : TmNo) (n : ℕ) (k : ClassNo) (time : Ts) → IsHanded g log a (T t) n (Ask k time) → IsD a
     → tm.FitsAsk (setting_of g (T t)) k.0 time.0
-t_ask g log (D d) t n k time h r =
-    record { runs_it = asked_class g d t log (handed (D d) (T t) log) k time h.permitted.1 h.place; early = late time.0 h.times.0 }
-t_ask g log _ t n k time h r = absurd r
+t_ask g log a t n k time h r = grind (arith, asked_class, handed, late)
 
 t_hold : (g : Input) (log : Log) (a : Site) (t : TmNo) (n : ℕ) → IsHanded g log a (T t) n Hold → a ≡ U
     → tm.FitsHold (setting_of g (T t)) (local_of g (T t) log) a
-t_hold g log a t n h e =
-    let r = t_of_sites g.catalogue.tms g.catalogue.dms t h.to_there in
-    let p : IsPermitted g (Hand U (T t) n Hold ∷ log) = subst (λ x. IsPermitted g (Hand x (T t) n Hold ∷ log)) e h.permitted in
-    subst (λ x. tm.FitsHold (setting_of g (T t)) (local_of g (T t) log) x) (sym e) (hold_fits g t n log r.0 r.1 p)
+t_hold g log a t n h e = grind (arith, t_of_sites, hold_fits)
 
 t_release : (g : Input) (log : Log) (a : Site) (t : TmNo) (n : ℕ) (ts : Ts) → IsHanded g log a (T t) n (Release ts) → a ≡ U
     → tm.FitsRelease (setting_of g (T t)) (local_of g (T t) log) a ts.0
-t_release g log a t n ts h e =
-    let r = t_of_sites g.catalogue.tms g.catalogue.dms t h.to_there in
-    let p : IsPermitted g (Hand U (T t) n (Release ts) ∷ log) = subst (λ x. IsPermitted g (Hand x (T t) n (Release ts) ∷ log)) e h.permitted in
-    subst (λ x. tm.FitsRelease (setting_of g (T t)) (local_of g (T t) log) x ts.0) (sym e) (release_fits g t n ts log r.0 r.1 (late ts.0 h.times.0) p)
+t_release g log a t n ts h e = grind (arith, t_of_sites, release_fits, late)
 
 pub t_fits : (g : Input) (log : Log) (a : Site) (t : TmNo) (n : ℕ) (m : Msg) (bases : Bases) → IsSmall g → IsHanded g log a (T t) n m
     → IsUpheldR (setting_of g (T t)) bases (local_of g (T t) log) a m → tm.fits_kind (setting_of g (T t)) bases (local_of g (T t) log) a m
@@ -77,19 +69,13 @@ u_ready g log _ n ts c m h r e = absurd r
 
 u_reject : {A : Type 0} (g : Input) (log : Log) (a : Site) (n : ℕ) (ts : Ts) (k by : ClassNo) (write : Ts) → IsWhole g.catalogue
     → IsHanded g log a U n (Reject ts k by write) → IsD a → A
-u_reject g log (D d) n ts k by write w h r =
-    let i = d_of_sites g.catalogue.tms g.catalogue.dms d h.from_there in
-    absurd (u_not_rejected g d log (handed (D d) U log) ts k by write w i.0 i.1 h.permitted.1 h.place)
-u_reject g log _ n ts k by write w h r = absurd r
+u_reject g log a n ts k by write w h r = grind (arith, d_of_sites, u_not_rejected, handed)
 
 u_ask : {A : Type 0} (g : Input) (log : Log) (a : Site) (n : ℕ) (k : ClassNo) (time : Ts) → IsHanded g log a U n (Ask k time) → IsD a → A
-u_ask g log (D d) n k time h r = absurd (asks_not_u g d log (handed (D d) U log) k time h.permitted.1 h.place)
-u_ask g log _ n k time h r = absurd r
+u_ask g log a n k time h r = grind (arith, asks_not_u, handed)
 
 u_held : (g : Input) (log : Log) (a : Site) (n : ℕ) (time : Ts) → IsHanded g log a U n (Held time) → IsT a → um.FitsHeld (local_of g U log) a time.0
-u_held g log (T t) n time h r =
-    let i = t_of_sites g.catalogue.tms g.catalogue.dms t h.from_there in held_fits g t n time log i.0 i.1 (late time.0 h.times.0) h.permitted
-u_held g log _ n time h r = absurd r
+u_held g log a n time h r = grind (arith, t_of_sites, held_fits, late)
 
 u_done : (g : Input) (log : Log) (a : Site) (n : ℕ) (ts : Ts) → IsWhole g.catalogue → IsHanded g log a U n (Done ts) → IsD a
     → um.FitsDone (setting_of g U) (local_of g U log) a ts.0

@@ -58,8 +58,7 @@ of_network g (T t) s r k =
 of_network g (D d) s r k = absurd r
 
 home_runs : (b : Bool) (t : TmNo) → IsRunner (if b then U else T t)
-home_runs true t = tt
-home_runs false t = tt
+home_runs b t = grind arith
 
 act_of_network : (g : Input) (log : Log) (d : DmNo) (c n t : ℕ) → IsSmall g → IsLawful g log → IsApplyOf g log d c n t → IsOfNetwork (home g.catalogue c)
 act_of_network g log d c n t s l a =
@@ -153,9 +152,7 @@ in_more false xs x m k e = e
 in_handed : (c : ℕ) (later : site.Log) (from : Site) (m : Msg) (before : site.Log) → goes_through c m ≡ true
     → (k : ℕ) × (slice_get (all_handed c (later ++ Handed from m ∷ before)) k ≡ Some m)
 in_handed c [] from m before e = (length (all_handed c before), rw e (at_seam (all_handed c before) [] m))
-in_handed c (Handed a x ∷ later) from m before e =
-    let i = in_handed c later from m before e in
-    (i.0, in_more (goes_through c x) (all_handed c (later ++ Handed from m ∷ before)) x m i.0 i.1)
+in_handed c (Handed a x ∷ later) from m before e = grind (arith, in_more, all_handed, in_handed c later from m before e)
 in_handed c (_ ∷ later) from m before e = in_handed c later from m before e
 
 in_its_pipe : (c : ℕ) (l later : site.Log) (from : Site) (m : Msg) (before : site.Log) → l ≡ later ++ Handed from m ∷ before

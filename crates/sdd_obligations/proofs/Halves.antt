@@ -1,5 +1,5 @@
 -- An exchange in lockstep, by the turns of both sides; and what each side keeps of it.
-use Rattle.sdd_obligations.proofs.All.{AllLe, Asks, Attempt, Bool, D, Each, Input, IsPermitted, IsStage, List, Log, MayAnswer, MayAsk, Msg, None, Option, Read, Refused, Some, Told, Turn, [], active, agreed, all_of, and_left, answer_goes, answers, ap, arith, both, class_puts, d_fair, dec_le, dm_no, eqb-true, false, flight, goes_through, head_in, home, home_fair, if_way, if◌then◌else◌, in_class_order, in_left, in_pipe, inl, inr, is_a_read, is_a_refusal, is_exchanging, is_read, length, limit_of, local_of, map, never, not, number_of, pipe, pipe_at, place_within, processed_stays, puts_to, question_goes, questions, refl, same_number, same_or_not, setting_of, slice_get, subst, suc, sym, time_of, timed, times_are, times_in, true, turn_after_answer, turn_at, turn_with, uses_held, zero, ℕ, ◌<◌, ◌==◌, ◌∙◌, ◌∷◌, ◌≡◌, ◌≤◌}
+use Rattle.sdd_obligations.proofs.All.{AllLe, Asks, Attempt, Bool, D, Each, Input, IsPermitted, IsStage, List, Log, MayAnswer, MayAsk, Msg, None, Option, Some, Turn, [], active, all_of, and_left, answers, ap, arith, both, class_puts, d_fair, dec_le, dm_no, eqb-true, false, flight, goes_through, head_in, home, home_fair, if_way, if◌then◌else◌, in_class_order, in_left, in_pipe, is_a_read, is_exchanging, is_read, length, limit_of, local_of, map, never, not, number_of, pipe, pipe_at, place_within, processed_stays, puts_to, questions, same_number, same_or_not, setting_of, slice_get, subst, suc, sym, time_of, timed, times_are, times_in, true, turn_after_answer, turn_at, turn_with, uses_held, zero, ℕ, ◌<◌, ◌∷◌, ◌≡◌, ◌≤◌}
 use Rattle.sdd_obligations.proofs.QuestionsComeInTurn.{in_turn}
 use Rattle.sdd_obligations.proofs.HandedAnswersKeepTurns.{AtTurn, InTurn, IsTimely}
 use Rattle.sdd_obligations.proofs.RowsStayHeld.{IsAlone, IsHeldAt}
@@ -44,21 +44,16 @@ data_turns g ts c d log h i =
 -- an attempt that exchanges rows is the active one
 
 told_quiet : (v : Turn) (x : Msg) → MayAnswer v x → is_exchanging (turn_after_answer x v) ≡ false
-told_quiet (Asks ns q) x h = if_way (λ w. is_exchanging w ≡ false) (is_a_refusal x) Refused (Told ns q) refl refl
-told_quiet _ x h = absurd h
+told_quiet v x h = grind (arith, Asks, if_way)
 
 may_ask_quiet : {A : Type 0} (w : Turn) (m : Msg) → MayAsk w m → is_exchanging w ≡ true → A
-may_ask_quiet (Asks ns q) m h e = absurd h
-may_ask_quiet _ m h e = cc
+may_ask_quiet w m h e = grind (arith, Asks)
 
 exchanging_home : (v w : Turn) (qs xs : List Msg) → IsStage v w qs xs → is_exchanging w ≡ true → is_exchanging v ≡ true
-exchanging_home v w qs xs (agreed s q x) e = ap is_exchanging s ∙ e
-exchanging_home v w qs xs (question_goes m q x s a) e = may_ask_quiet w m a e
-exchanging_home v w qs xs (answer_goes y q x s a) e = never (is_exchanging w) e (ap is_exchanging s ∙ told_quiet v y a)
+exchanging_home v w qs xs h e = grind (arith, may_ask_quiet, never, told_quiet)
 
 pub active_of : (ts d : ℕ) (o : Option Attempt) (v : Turn) → AtTurn ts d o v → is_exchanging v ≡ true → (a : Attempt) × (o ≡ Some a) × (a.ts ≡ ts)
-active_of ts d None v h e = never (is_exchanging v) e h
-active_of ts d (Some a) v h e = elim (same_or_not a.ts ts) [ inl p ↦ (a, refl, p) | inr p ↦ never (is_exchanging v) e (h.1 p) ]
+active_of ts d o v h e = grind (arith, never, same_or_not)
 
 pub exchanging_active : (g : Input) (ts c d : ℕ) (log : Log) → IsPermitted g log → IsSpoken g c log
     → is_exchanging (turn_with ts c (home g.catalogue c) (data_log g d log)) ≡ true
@@ -83,8 +78,7 @@ last_at : (g : Input) (ts c d : ℕ) (log : Log) (j : ℕ) (m : Msg) → IsLast 
 last_at g ts c d log j m h e = le_at ts (class_puts g c (dm_no d) log) j m (subst (AllLe ts) (times_are c (puts_to (D (dm_no d)) (home_log g c log))) h) e
 
 pub read_time : (ts c : ℕ) (m : Msg) → is_read ts c m ≡ true → time_of m ≡ ts
-read_time ts c (Read t k txn attempt conds uses) e = eqb-true t.0 ts (and_left (t.0 == ts) (k.0 == c) e)
-read_time ts c m e = cc
+read_time ts c m e = grind (arith, eqb-true, and_left)
 
 -- a READ of an attempt for which rows are held was put
 record WasPut (g : Input) (ts c d : ℕ) (log : Log) : Type 0 where
@@ -108,8 +102,7 @@ was_put_for g ts c d log ns h i e =
     }
 
 not_read_held : (b : Bool) (ns : List ℕ) → not b ≡ true → (if b then None else Some ns) ≡ Some ns
-not_read_held true ns e = cc
-not_read_held false ns e = refl
+not_read_held b ns e = grind arith
 
 held_if_exchanging : (v : Turn) → is_exchanging v ≡ true → (ns : List ℕ) × (uses_held v ≡ Some ns)
 held_if_exchanging (Asks ns m) e = (ns, not_read_held (is_a_read m) ns e)
@@ -117,8 +110,7 @@ held_if_exchanging _ e = cc
 
 -- the READ of a class with this time, at the head of its pipe
 is_read_at : (ts c : ℕ) (m : Msg) → is_a_read m ≡ true → goes_through c m ≡ true → time_of m ≡ ts → is_read ts c m ≡ true
-is_read_at ts c (Read t k txn attempt conds uses) e f z = both (t.0 == ts) (k.0 == c) (subst (λ n. (t.0 == n) ≡ true) z (same_number t.0)) f
-is_read_at ts c m e f z = cc
+is_read_at ts c m e f z = grind (arith, both, same_number)
 
 pub alone : (g : Input) (ts c d : ℕ) (log : Log) → IsPermitted g log → number_of (home g.catalogue c) ≤ 63 → IsSpoken g c log
     → IsLast g ts c d log → IsAlone (setting_of g (D (dm_no d))) ts c (home g.catalogue c) (data_log g d log)

@@ -1,5 +1,5 @@
 -- An answer that is handed in turn to a site that makes attempts keeps its turns.
-use Rattle.sdd_obligations.proofs.All.{Asks, Attempt, Bool, D, Exchange, Fetch, Fetching, Handed, IsStrict, List, MayAnswer, Msg, None, Option, Over, Phase, Read, Reading, Reduce, Reducing, Refused, Reject, Replies, RepliesToFetch, RepliesToReduce, RepliesToShip, Setting, Ship, Shipping, Silent, Site, Some, Told, Turn, [], active, active_handed, after_hand, and_no, answers, ap, arith, asked_by, cond, contains, dm_no, false, hand_goes, if_way, if◌then◌else◌, inl, inr, is_a_read, is_a_refusal, is_a_ship, is_answer, is_exchanging, is_over, is_question, is_reading, last_stamp, never, not, questions, refl, rejects, same_number, same_or_not, stamp_rises, subst, sym, told_by, true, turn_after_answer, turn_after_question, turn_at, uses_at, ℕ, ◌&&◌, ◌<◌, ◌==◌, ◌∙◌, ◌∷◌, ◌≡◌}
+use Rattle.sdd_obligations.proofs.All.{Asks, Attempt, Bool, D, Exchange, Fetch, Handed, IsStrict, List, MayAnswer, Msg, None, Option, Phase, Read, Reduce, Refused, Replies, RepliesToFetch, RepliesToReduce, RepliesToShip, Setting, Ship, Silent, Site, Some, Told, Turn, [], active, active_handed, after_hand, and_no, answers, ap, arith, asked_by, cond, contains, dm_no, false, hand_goes, if_way, if◌then◌else◌, inl, inr, is_a_read, is_a_refusal, is_answer, is_exchanging, is_over, is_question, is_reading, last_stamp, never, not, questions, refl, rejects, same_number, same_or_not, stamp_rises, subst, sym, told_by, true, turn_after_answer, turn_after_question, turn_at, uses_at, ℕ, ◌&&◌, ◌<◌, ◌==◌, ◌∙◌, ◌∷◌, ◌≡◌}
 use Rattle.sdd_obligations.proofs.AtTurn.{IsNext, IsAtTurn, answered_last, apart, awaited, awaits, hand_at, hand_not, is_fetch_of, is_reduce_of, silent_not_asks, told_not_asks, unsent, read_no_ship}
 use Rattle.sdd_obligations.proofs.Modules.{firsts}
 use Rattle.sdd_invariants.specs.site_module.SiteLog.{Entry, Log}
@@ -27,13 +27,11 @@ IsTimely c log _ = Unit {0}
 
 pub told_one : (ts c : ℕ) (b : Bool) (m : Msg) (v : Turn)
     → told_by (answers ts c (if b then m ∷ [] else [])) v ≡ (if b && is_answer ts c m then turn_after_answer m v else v)
-told_one ts c false m v = refl
-told_one ts c true m v = elim (is_answer ts c m) as (λ x. told_by (cond x (m ∷ []) []) v ≡ (if x then turn_after_answer m v else v)) [ true ↦ refl | false ↦ refl ]
+told_one ts c b m v = grind (arith, told_by, cond)
 
 pub asked_one : (ts c : ℕ) (b : Bool) (m : Msg) (v : Turn)
     → asked_by (questions ts c (if b then m ∷ [] else [])) v ≡ (if b && is_question ts c m then turn_after_question m v else v)
-asked_one ts c false m v = refl
-asked_one ts c true m v = elim (is_question ts c m) as (λ x. asked_by (cond x (m ∷ []) []) v ≡ (if x then turn_after_question m v else v)) [ true ↦ refl | false ↦ refl ]
+asked_one ts c b m v = grind (arith, asked_by, cond)
 
 -- an answer may come only to a question
 pub record IsAskedBy (v : Turn) (m : Msg) : Type 0 where
@@ -50,8 +48,7 @@ pub told_is : (v : Turn) (ns : List ℕ) (q m : Msg) → v ≡ Asks ns q → is_
 told_is v ns q m e f = ap (turn_after_answer m) e ∙ ap (λ (b : Bool). if b then Refused else Told ns q) f
 
 pub quiet_told : (m : Msg) (v : Turn) → is_exchanging v ≡ false → is_exchanging (turn_after_answer m v) ≡ false
-quiet_told m (Asks ns q) e = if_way (λ w. is_exchanging w ≡ false) (is_a_refusal m) Refused (Told ns q) refl refl
-quiet_told m _ e = refl
+quiet_told m v e = grind (arith, Asks, if_way)
 
 quiet_if : (b : Bool) (m : Msg) (v : Turn) → is_exchanging v ≡ false → is_exchanging (if b then turn_after_answer m v else v) ≡ false
 quiet_if b m v e = if_way (λ w. is_exchanging w ≡ false) b (turn_after_answer m v) v (quiet_told m v e) e
@@ -62,16 +59,13 @@ silent_if b m v e = if_way (λ w. w ≡ Silent) b (turn_after_answer m v) v (ap 
 -- a rejection answers a READ
 
 reject_no_fetch : {A : Type 0} (u : ℕ) (m : Msg) → is_a_refusal m ≡ true → RepliesToFetch u m → A
-reject_no_fetch u (Reject t k by w) e h = absurd h
-reject_no_fetch u m e h = cc
+reject_no_fetch u m e h = grind arith
 
 reject_no_reduce : {A : Type 0} (u : ℕ) (m : Msg) → is_a_refusal m ≡ true → RepliesToReduce u m → A
-reject_no_reduce u (Reject t k by w) e h = absurd h
-reject_no_reduce u m e h = cc
+reject_no_reduce u m e h = grind arith
 
 reject_no_ship : {A : Type 0} (ns : List ℕ) (m : Msg) → is_a_refusal m ≡ true → RepliesToShip ns m → A
-reject_no_ship ns (Reject t k by w) e h = absurd h
-reject_no_ship ns m e h = cc
+reject_no_ship ns m e h = grind arith
 
 rejected_read : (ns : List ℕ) (q m : Msg) → is_a_refusal m ≡ true → Replies ns q m → is_a_read q ≡ true
 rejected_read ns (Read t k txn attempt conds uses) m e h = refl
@@ -89,19 +83,13 @@ read_no_reduce n (Read t k txn attempt conds uses) e = refl
 read_no_reduce n m e = cc
 
 awaits_read : (p : Phase) (q : Msg) → awaits p q ≡ true → is_a_read q ≡ true → is_reading p ≡ true
-awaits_read Reading q e f = refl
-awaits_read (Fetching v) q e f = never (is_fetch_of v.source.part q) e (read_no_fetch v.source.part q f)
-awaits_read (Reducing v) q e f = never (is_reduce_of v.target.part q) e (read_no_reduce v.target.part q f)
-awaits_read Shipping q e f = never (is_a_ship q) e (read_no_ship q f)
-awaits_read Over q e f = cc
+awaits_read p q e f = grind (arith, never, read_no_fetch, read_no_reduce, read_no_ship)
 
 reading_awaits : (p : Phase) (q : Msg) → is_reading p ≡ true → awaits p q ≡ true → is_a_read q ≡ true
-reading_awaits Reading q e f = f
-reading_awaits _ q e f = cc
+reading_awaits p q e f = grind arith
 
 over_awaits : {A : Type 0} (p : Phase) (q : Msg) → is_over p ≡ true → awaits p q ≡ true → A
-over_awaits Over q e f = cc
-over_awaits _ q e f = cc
+over_awaits p q e f = grind arith
 
 -- what is known of a module whose question has no answer
 pub record IsAwaited (d : ℕ) (x : Exchange) (ns : List ℕ) (q : Msg) : Type 0 where
@@ -145,12 +133,10 @@ abbrev after_answer : ℕ → ℕ → Msg → Turns → Turns
 after_answer c n m v ts d = if (d == n) && is_answer ts c m then turn_after_answer m (v ts d) else v ts d
 
 refusal_is : (m : Msg) (ts c : ℕ) → rejects m ts c ≡ true → (is_answer ts c m ≡ true) × (is_a_refusal m ≡ true)
-refusal_is (Reject t k by w) ts c e = (e, refl)
-refusal_is m ts c e = cc
+refusal_is m ts c e = grind arith
 
 not_refused : (m : Msg) (ts c : ℕ) → is_answer ts c m ≡ true → rejects m ts c ≡ false → is_a_refusal m ≡ false
-not_refused (Reject t k by w) ts c e f = never (is_answer ts c (Reject t k by w)) e f
-not_refused m ts c e f = refl
+not_refused m ts c e f = grind (arith, never)
 
 pub quiet_but : (a : Attempt) (v : Turns) (ts d : ℕ) → AllAtTurn (Some a) v → (IsAtTurn d a.exchange (v ts d) → is_exchanging (v ts d) ≡ false)
     → is_exchanging (v ts d) ≡ false
@@ -167,11 +153,7 @@ rejected_turns c n m a v h e timely ts d =
 
 next_of : (n d : ℕ) (b : Bool) (m : Msg) (v : Turn) (ns : List ℕ) (q : Msg) → b ≡ true → (d ≡ n → v ≡ Asks ns q)
     → is_a_refusal m ≡ false → IsNext n d v (if (d == n) && b then turn_after_answer m v else v)
-next_of n d true m v ns q e f g = elim (same_or_not d n) [
-  | inl p ↦ (let z : (d == n) ≡ true = subst (λ y. (d == y) ≡ true) p (same_number d) in inl (p, ns, q, f p, rw z (told_is v ns q m (f p) g)))
-  | inr p ↦ inr (p, rw p refl)
-]
-next_of n d false m v ns q e f g = cc
+next_of n d b m v ns q e f g = grind (arith, same_or_not, same_number, told_is)
 
 at_turn_on : (c n d : ℕ) (m : Msg) (a : Attempt) (v : Turns) → IsStrict (firsts a.exchange.modules) → AllAtTurn (Some a) v
     → rejects m a.ts c ≡ false → (is_answer a.ts c m ≡ true → MayAnswer (v a.ts n) m)
@@ -204,11 +186,7 @@ handed_turns c n m (Some a) v strict h timely =
     ] refl
 
 handed_strict : (c n : ℕ) (m : Msg) (o : Option Attempt) → IsStrictOf o → IsStrictOf (active_handed c (D (dm_no n)) m o)
-handed_strict c n m None h = tt
-handed_strict c n m (Some a) h =
-    if_way IsStrictOf (rejects m a.ts c) None
-    (Some (record a { exchange = after_hand a.ts c n m a.exchange })) tt (subst (λ l. IsStrict (firsts l))
-    (sym (hand_goes a.ts c n m a.exchange).modules_same) h)
+handed_strict c n m o h = grind (arith, if_way, hand_goes)
 
 pub turns_now : (o : Option Attempt) (v w : Turns) → ((ts d : ℕ) → w ts d ≡ v ts d) → AllAtTurn o v → AllAtTurn o w
 turns_now o v w e h ts d = subst (AtTurn ts d o) (sym (e ts d)) (h ts d)

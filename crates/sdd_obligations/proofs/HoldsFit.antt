@@ -1,5 +1,5 @@
 -- HOLD, HELD and RELEASE come in turn.
-use Rattle.sdd_obligations.proofs.All.{Bool, FitsHeldFrom, FitsHold, FitsRelease, Hand, Handed, Held, Hold, Input, IsHoldChain, IsPermitted, Log, Msg, Release, Site, Some, T, TmCounts, TmNo, Ts, U, ap, arith, counts, counts_tm, false, hold_chain, holds, if◌then◌else◌, local_of, nat_lt, nat_tests, numbers_to, range_with_len, refl, same_number, setting_of, site_self, slice_get, subst, suc, sym, true, ℕ, ◌+◌, ◌-◌, ◌<◌, ◌==◌, ◌^◌, ◌∷◌, ◌≡◌, ◌≤◌}
+use Rattle.sdd_obligations.proofs.All.{Bool, FitsHeldFrom, FitsHold, FitsRelease, Hand, Handed, Held, Hold, Input, IsHoldChain, IsPermitted, Log, Msg, Release, Site, Some, T, TmCounts, TmNo, Ts, U, ap, arith, counts, counts_tm, false, hold_chain, holds, if◌then◌else◌, local_of, nat_lt, nat_tests, numbers_to, refl, same_number, setting_of, site_self, slice_get, subst, suc, sym, true, ℕ, ◌-◌, ◌<◌, ◌==◌, ◌^◌, ◌∷◌, ◌≡◌, ◌≤◌}
 use Rattle.sdd_obligations.proofs.Sums.{range_at}
 use Rattle.sdd_invariants.specs.site_module.SiteLog as site
 
@@ -11,9 +11,7 @@ lt_false a b l = grind (arith, nat_tests)
 
 -- the T stands among those of the catalogue
 pub at_place : (n t : ℕ) → 1 ≤ t → t ≤ n → slice_get (numbers_to n) (t - 1) ≡ Some t
-at_place n t l m =
-    let e : 1 + (t - 1) ≡ t = omega (arith, l) in
-    subst (λ x. slice_get (range_with_len 1 n) (t - 1) ≡ Some x) e (range_at 1 n (t - 1) (omega (arith, l, m)))
+at_place n t l m = grind (arith, range_at)
 
 pub chain_at : (g : Input) (t : TmNo) (log : Log) → 1 ≤ t.0 → t.0 ≤ g.catalogue.tms → IsPermitted g log → IsHoldChain g t.0 log
 chain_at g t log l m h = hold_chain g (t.0 - 1) t.0 log (at_place g.catalogue.tms t.0 l m) h
@@ -57,8 +55,7 @@ one_held : (t : ℕ) (k : TmCounts) → k.tm ≡ t → (if t == k.tm then record
 one_held t k e = let q : (t == k.tm) ≡ true = subst (λ x. (t == x) ≡ true) (sym e) (same_number t) in rw q refl
 
 same_holds : (b : Bool) (k : TmCounts) → (if b then record k { helds = suc k.helds } else k).holds ≡ k.holds
-same_holds true k = refl
-same_holds false k = refl
+same_holds b k = grind arith
 
 pub held_fits : (g : Input) (t : TmNo) (n : ℕ) (time : Ts) (log : Log) → 1 ≤ t.0 → t.0 ≤ g.catalogue.tms → time.0 < 2 ^ 62
     → IsPermitted g (Hand (T t) U n (Held time) ∷ log) → FitsHeldFrom (local_of g U log) t.0 time.0

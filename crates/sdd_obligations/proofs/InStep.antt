@@ -1,5 +1,5 @@
 -- What it means that the exchange of an attempt goes in step with the modules that it reads at.
-use Rattle.sdd_obligations.proofs.All.{Act, Answer, Asks, AsksPhase, Attempt, Bool, D, Did, DmNo, Does, Exchange, Fetching, FitsInput, Frozen, Hand, Has, Input, IsPermitted, List, Log, Move, Msg, Option, Over, Phase, Reading, Records, Reduce, Reducing, Replies, Shipping, Silent, Site, Some, Tells, Turn, Value, [], ap, arith, contains, eqb-true, false, first_phase, home, inl, inr, is_a_read, is_answer, is_question, is_shipped, length, local_of, longer, refl, subst, sym, true, turn_at, ℕ, ◌++◌, ◌==◌, ◌||◌, ◌∙◌, ◌∷◌, ◌≡◌}
+use Rattle.sdd_obligations.proofs.All.{Act, Answer, Asks, AsksPhase, Attempt, Bool, D, Did, DmNo, Does, Exchange, FitsInput, Frozen, Hand, Has, Input, IsPermitted, List, Log, Move, Msg, Option, Phase, Records, Reduce, Reducing, Replies, Site, Some, Tells, Turn, Value, [], ap, arith, contains, eqb-true, false, first_phase, home, inl, inr, is_a_read, is_answer, is_question, is_shipped, length, local_of, longer, refl, subst, sym, true, turn_at, ℕ, ◌++◌, ◌==◌, ◌||◌, ◌∙◌, ◌∷◌, ◌≡◌}
 use Rattle.sdd_obligations.proofs.AtTurn.{IsAtTurn, answered_last, apart, awaited, awaits, unsent}
 use Rattle.sdd_obligations.proofs.Modules.{firsts}
 use Rattle.sdd_obligations.proofs.Places.{IsAnswerAt, one_answer}
@@ -33,10 +33,7 @@ pub record InStep (g : Input) (c : ℕ) (log : Log) (a : Attempt) : Type 0 where
 
 -- a module whose answer is awaited is one of the exchange's
 pub awaited_there : (d : ℕ) (x : Exchange) (v : Turn) (ns : List ℕ) (q : Msg) → IsAtTurn d x v → v ≡ Asks ns q → contains (firsts x.modules) d ≡ true
-awaited_there d x v ns q (unsent m r ms a b e s u w f g) z = g
-awaited_there d x v ns q (awaited m ms a b e w f g) z = g
-awaited_there d x v ns q (answered_last r ms a b e s f g) z = g
-awaited_there d x v ns q (apart a b e g) z = let p : Silent ≡ Asks ns q = sym e ∙ z in cc
+awaited_there d x v ns q e z = grind (arith, unsent, awaited, answered_last, apart, Asks)
 
 -- a REDUCE that is awaited is that of the phase
 abbrev pub is_a_reduce : Msg → Bool
@@ -44,12 +41,7 @@ is_a_reduce (Reduce t k u col vs) = true
 is_a_reduce _ = false
 
 pub reducing_is : (p : Phase) (q : Msg) → awaits p q ≡ true → is_a_reduce q ≡ true → (v : Move) × (p ≡ Reducing v)
-reducing_is (Reducing v) q a e = (v, refl)
-reducing_is Reading (Reduce t k u col vs) a e = cc
-reducing_is (Fetching v) (Reduce t k u col vs) a e = cc
-reducing_is Shipping (Reduce t k u col vs) a e = cc
-reducing_is Over q a e = cc
-reducing_is p q a e = cc
+reducing_is p q a e = grind arith
 
 abbrev pub col_of : Msg → ℕ × List Value
 col_of (Reduce t k u col vs) = (col, vs)
@@ -61,8 +53,7 @@ use_of _ = 0
 
 -- an exchange that is over when it begins reads nothing
 pub none_read : {A : Type 0} (ms : List (ℕ × List ℕ)) (ds : List ℕ) (d : ℕ) → firsts ms ≡ ds → is_shipped (first_phase ms) ≡ true → Has ds d → A
-none_read [] ds d e ships k = absurd (subst (λ xs. Has xs d) (sym e) k)
-none_read (m ∷ ms) ds d e ships k = cc
+none_read ms ds d e ships k = grind arith
 
 -- a READ isn't answered twice at a module
 pub again : (g : Input) → FitsInput g → (c : ℕ) (d : DmNo) (act : Act) (log : Log) (ts : ℕ)

@@ -1,6 +1,6 @@
 -- How many marks there are within the limits, how many messages on a link, and how many messages and transactions a site
 -- was handed and given.
-use Rattle.sdd_obligations.proofs.All.{AllFewTicks, Bool, Call, Did, Does, Entry, Era, Event, Hand, Handed, Input, IsAllowed, IsLawful, IsMarkEntry, IsPermitted, IsWithin, Link, List, Log, MAX_LINK_MESSAGES, MAX_RUN_EVENTS, Mark, Msg, None, Option, Puts, Redeclares, Site, Some, Submit, Submits, Submitted, T, Tick, Ticked, Txn, U, [], allowed_hand, allowed_mark, ap, arith, both, calls_of, delivered_within, false, given_to, handed, handed_le, hands, if_way, if◌then◌else◌, length, length-append, link, local_of, local_step, made, made_by_mark, marks, neither_left, neither_right, not_past, nothing_if, nth_era, put_by, puts, puts_past, redeclared_entry, redeclares, refl, same_link, same_site, sends_of_act, sent, sent_grows, site_self, sites, submits, suc, true, turned, txn_at, with_made, ℕ, ◌&&◌, ◌++◌, ◌+◌, ◌∷◌, ◌≡◌, ◌≤◌}
+use Rattle.sdd_obligations.proofs.All.{AllFewTicks, Bool, Call, Did, Does, Entry, Era, Event, Hand, Handed, Input, IsAllowed, IsLawful, IsMarkEntry, IsPermitted, IsWithin, Link, List, Log, MAX_LINK_MESSAGES, MAX_RUN_EVENTS, Mark, Msg, None, Option, Puts, Redeclares, Site, Some, Submits, Submitted, Txn, U, [], allowed_hand, allowed_mark, ap, arith, both, calls_of, delivered_within, false, given_to, handed, handed_le, hands, if_way, if◌then◌else◌, length, length-append, link, local_of, local_step, made, made_by_mark, marks, neither_left, neither_right, not_past, nth_era, put_by, puts, puts_past, redeclared_entry, redeclares, refl, same_link, same_site, sends_of_act, sent, sent_grows, site_self, sites, submits, suc, true, turned, txn_at, with_made, ℕ, ◌&&◌, ◌++◌, ◌+◌, ◌∷◌, ◌≡◌, ◌≤◌}
 use Rattle.sdd_obligations.proofs.OfNext.{IsThere, from_there, of_next}
 use Rattle.sdd_obligations.proofs.Sums.{total, total_raise, total_up}
 use Rattle.sdd_invariants.specs.net.Links.{put}
@@ -20,9 +20,7 @@ AllWithin calls = (a b : Site) → length (link a b calls).there.sent ≤ MAX_LI
 -- a put on a link is one message more there, and none on another link
 put_within : (n : ℕ) (c d : Bool) (m : Msg) (l : Link Msg) → (c ≡ true → suc (length l.there.sent) ≤ n) → length l.there.sent ≤ n
     → length (if c then put m l else if d then turned (put m (turned l)) else l).there.sent ≤ n
-put_within n true d m l f h = let e = length-append l.there.sent (m ∷ []) in let p = f refl in omega (arith, e, p)
-put_within n false true m l f h = h
-put_within n false false m l f h = h
+put_within n c d m l f h = grind (arith, length-append, sent)
 
 one_within : (at to : Site) (m : Msg) (calls : List (Call Msg)) → AllWithin calls
     → suc (length (link at to calls).there.sent) ≤ MAX_LINK_MESSAGES → AllWithin (Puts at to m ∷ calls)
@@ -38,13 +36,10 @@ puts_within at (s ∷ sends) calls w e =
     puts_within at sends (Puts at s.0 s.1 ∷ calls) (one_within at s.0 s.1 calls w l) (neither_right _ _ e)
 
 nothing_marked : (a b : Site) (e : Event) → put_by b (made_by_mark a e) ≡ []
-nothing_marked a b (Tick t n) = nothing_if b (same_site a (T t)) (Some (Ticked n)) refl
-nothing_marked a b _ = refl
+nothing_marked a b e = grind arith
 
 as_before : (n : ℕ) (xs ys zs : List Msg) → zs ≡ xs ++ ys → ys ≡ [] → length xs ≤ n → length zs ≤ n
-as_before n xs ys zs e f l =
-    let a = length-append xs ys in let b : length zs ≡ length (xs ++ ys) = ap length e in let c : length ys ≡ 0 = ap length f in
-    omega (arith, a, b, c, l)
+as_before n xs ys zs e f l = grind (arith, length-append)
 
 pub sent_few : (g : Input) (log : Log) → IsWithin log → (a b : Site) → length (sent a b log) ≤ MAX_LINK_MESSAGES
 sent_few g [] h a b = omega arith
@@ -62,16 +57,14 @@ hands_by (Some (Handed from m)) = 1
 hands_by _ = 0
 
 hands_more : (o : Option site.Entry) (l : site.Log) → hands (with_made o l) ≡ hands_by o + hands l
-hands_more (Some (Did act)) l = omega arith
-hands_more _ l = omega arith
+hands_more o l = grind arith
 
 abbrev submits_by : Option site.Entry → ℕ
 submits_by (Some (Submits n t)) = 1
 submits_by _ = 0
 
 submits_more : (o : Option site.Entry) (l : site.Log) → length (submits (with_made o l)) ≡ submits_by o + length (submits l)
-submits_more (Some (Did act)) l = omega arith
-submits_more _ l = omega arith
+submits_more o l = grind arith
 
 -- an entry counts where it is of its kind
 abbrev None2 : Option site.Entry → Type 0
@@ -81,20 +74,16 @@ none_if : (c : Bool) (o : Option site.Entry) → None2 o → None2 (if c then o 
 none_if c o h = if_way None2 c o None h (refl, refl)
 
 none_marked : (at : Site) (e : Event) → None2 (made_by_mark at e)
-none_marked at (Tick t n) = none_if (same_site at (T t)) (Some (Ticked n)) (refl, refl)
-none_marked at _ = (refl, refl)
+none_marked at e = grind (arith, none_if)
 
 none_redeclared : (at : Site) (era : Era) (t : ℕ) → None2 (redeclared_entry at era t)
-none_redeclared U era t = (refl, refl)
-none_redeclared _ era t = (refl, refl)
+none_redeclared at era t = grind arith
 
 given_one : (n : ℕ) (o : Option Txn) → (hands_by (given_to n o) ≡ 0) × (submits_by (given_to n o) ≤ 1)
-given_one n None = (refl, omega arith)
-given_one n (Some t) = (refl, omega arith)
+given_one n o = grind arith
 
 given_if : (c : Bool) (n : ℕ) (o : Option Txn) → (hands_by (if c then given_to n o else None) ≡ 0) × (submits_by (if c then given_to n o else None) ≤ 1)
-given_if true n o = given_one n o
-given_if false n o = (refl, omega arith)
+given_if c n o = grind (arith, given_one)
 
 -- each mark gives at most one transaction to a site
 
@@ -103,35 +92,20 @@ pending (Mark e ∷ log) = 1
 pending _ = 0
 
 is_pending : (log : Log) (to : Site) (n : ℕ) → IsMarkEntry log (Submitted to n) → pending log ≡ 1
-is_pending (Mark (Submit k) ∷ log) to n h = refl
-is_pending log to n h = absurd h
+is_pending log to n h = grind arith
 
 submits_step : (g : Input) (at : Site) (e : Entry) (log : Log) (k n : ℕ) → submits_by (made g at log e) ≤ k
     → length (submits (local_of g at log)) + k ≤ n → length (submits (local_of g at (e ∷ log))) ≤ n
-submits_step g at e log k n l h =
-    let b : length (submits (local_of g at (e ∷ log))) ≡ length (submits (with_made (made g at log e) (local_of g at log))) =
-    ap (λ x. length (submits x)) (local_step g at e log) in
-    omega (arith, submits_more (made g at log e) (local_of g at log), b, l, h)
+submits_step g at e log k n l h = grind (arith, submits, made, local_step, submits_more)
 
 submits_marks : (g : Input) (at : Site) (log : Log) → IsPermitted g log → length (submits (local_of g at log)) + pending log ≤ marks log
 submits_marks g U [] p = omega arith
-submits_marks g at (Mark e ∷ log) p =
-    let i = submits_marks g at log p.1 in let z = (none_marked at e).1 in
-    let j = submits_step g at (Mark e) log 0 (marks log) (omega (arith, z)) (omega (arith, i)) in omega (arith, j)
-submits_marks g at (Redeclares t ∷ log) p =
-    let i = submits_marks g at log p.1 in let z = (none_redeclared at (nth_era g (suc (redeclares log))) t).1 in
-    let j = submits_step g at (Redeclares t) log 0 (marks log) (omega (arith, z)) (omega (arith, i)) in omega (arith, j)
-submits_marks g at (Hand from to n m ∷ log) p =
-    let i = submits_marks g at log p.1 in
-    let z = if_way (λ o. submits_by o ≡ 0) (same_site at to) (Some (Handed from m)) None refl refl in
-    let j = submits_step g at (Hand from to n m) log 0 (marks log) (omega (arith, z)) (omega (arith, i)) in omega (arith, j)
+submits_marks g at (Mark e ∷ log) p = grind (arith, none_marked, submits_step, marks, submits_marks g at log p.1)
+submits_marks g at (Redeclares t ∷ log) p = grind (arith, none_redeclared, submits_step, marks, submits_marks g at log p.1)
+submits_marks g at (Hand from to n m ∷ log) p = grind (arith, if_way, submits_step, marks, submits_marks g at log p.1)
 submits_marks g at (Submitted to n ∷ log) p =
-    let i = submits_marks g at log p.1 in let z = is_pending log to n (allowed_mark g log (Submitted to n) p.0) in
-    let j = submits_step g at (Submitted to n) log 1 (marks log) (given_if (same_site at to) n (txn_at g n)).1 (omega (arith, i, z)) in omega (arith, j)
-submits_marks g at (Does by act ∷ log) p =
-    let i = submits_marks g at log p.1 in
-    let z = if_way (λ o. submits_by o ≡ 0) (same_site at by) (Some (Did act)) None refl refl in
-    let j = submits_step g at (Does by act) log 0 (marks log) (omega (arith, z)) (omega (arith, i)) in omega (arith, j)
+    grind (arith, is_pending, allowed_mark, submits_step, marks, given_if, submits_marks g at log p.1)
+submits_marks g at (Does by act ∷ log) p = grind (arith, if_way, submits_step, marks, submits_marks g at log p.1)
 submits_marks g _ [] p = omega arith
 submits_marks g at (x ∷ log) p =
     let j = submits_step g at x log 0 (marks log) (omega arith) (omega (arith, submits_marks g at log p.1)) in omega (arith, j)
@@ -151,8 +125,7 @@ hands_step g at e log n z h =
 
 -- a hand to the site
 hand_raises : (c d : Bool) (n k : ℕ) → ((c && d) ≡ true → n ≡ suc k) → k ≤ (if c && d then n else k)
-hand_raises true true n k f = let e = f refl in omega (arith, e)
-hand_raises _ _ n k f = omega arith
+hand_raises c d n k f = grind arith
 
 numbered : (g : Input) (log : Log) (a b from to : Site) (n : ℕ) (m : Msg) → IsAllowed g log (Hand from to n m)
     → (same_site a from && same_site b to) ≡ true → n ≡ suc (handed a b log)
@@ -169,15 +142,8 @@ hand_sum g at from to n m log h k e =
 hand_step : (g : Input) (at from to : Site) (n : ℕ) (m : Msg) (log : Log) (c : Bool) → IsAllowed g log (Hand from to n m)
     → IsThere (sites g.catalogue.tms g.catalogue.dms) from → same_site at to ≡ c → hands (local_of g at log) ≤ hands_sum g at log
     → hands (local_of g at (Hand from to n m ∷ log)) ≤ hands_sum g at (Hand from to n m ∷ log)
-hand_step g at from to n m log true h k e i =
-    let a : hands (local_of g at (Hand from to n m ∷ log)) ≡ suc (hands (local_of g at log)) = rw e refl in
-    omega (arith, a, i, hand_sum g at from to n m log h k e)
-hand_step g at from to n m log false h k e i =
-    let j = total_up (λ a. handed a at log) (λ a. handed a at (Hand from to n m ∷ log))
-    (sites g.catalogue.tms g.catalogue.dms) (λ a. hand_raises (same_site a from) (same_site at to) n
-    (handed a at log) (numbered g log a at from to n m h)) in
-    let a : hands (local_of g at (Hand from to n m ∷ log)) ≡ hands (local_of g at log) = rw e refl in
-    omega (arith, a, i, j)
+hand_step g at from to n m log true h k e i = grind (arith, hands, hand_sum)
+hand_step g at from to n m log false h k e i = grind (arith, total_up, handed, sites, hand_raises, numbered, hands)
 
 pub hands_few : (g : Input) (at : Site) (log : Log) → AllFewTicks g.events → IsLawful g log → IsPermitted g log → hands (local_of g at log) ≤ hands_sum g at log
 hands_few g U [] f l p = omega arith

@@ -1,5 +1,5 @@
 -- What an act sends goes along links of the network.
-use Rattle.sdd_obligations.proofs.All.{Act, All, All-head, All-tail, AllFewTicks, AllLinked, Attempt, Bases, Bool, Change, Class, ClassView, Cond, D, DmNo, Does, Done, Fetch, Hand, Hold, Home, Input, IsAnAsk, IsDueAt, IsLawful, IsPermitted, IsServedClass, IsWhole, List, Log, Msg, None, Null, Open, Option, Processes, Queued, Read, Reduce, Refuses, Sends, Setting, Ship, Site, Some, T, TmNo, U, View, Waits, WasAsked, Write, [], active, ap, are_linked, arith, attempt_due, base_of, both, class_no, commit_act, cond, counts_tm, dm_no, effect, false, filter, first_send, first_there, head, head_of, home_of, if◌then◌else◌, in_filtered, in_mapped, in_range, is_asked_of, is_link, is_over, is_site, link_back, local_of, map, modules_asked, nat_le, numbers_to, opens, or_else, place_of_hand, queue, refl, sends_of_act, setting_of, sites, slice_get, slice_index_or, source_of, start_at, start_read, subst, suc, sym, t_fair, time_at, tm_no, true, u_fair, view_of, was_handed, write_to, zero, ℕ, ◌++◌, ◌==◌, ◌∙◌, ◌∷◌, ◌≡◌, ◌≤◌}
+use Rattle.sdd_obligations.proofs.All.{Act, All, All-head, All-tail, AllFewTicks, AllLinked, Attempt, Bases, Bool, Change, Class, ClassView, Cond, D, DmNo, Does, Done, Hand, Home, Input, IsAnAsk, IsDueAt, IsLawful, IsPermitted, IsServedClass, IsWhole, List, Log, Msg, None, Null, Open, Option, Processes, Queued, Read, Refuses, Sends, Setting, Site, Some, T, TmNo, U, View, Waits, WasAsked, Write, [], active, ap, are_linked, arith, attempt_due, base_of, both, commit_act, cond, counts_tm, dm_no, effect, false, filter, first_send, first_there, head, head_of, home_of, if◌then◌else◌, in_filtered, in_mapped, in_range, is_asked_of, is_link, is_over, is_site, link_back, local_of, map, modules_asked, nat_le, numbers_to, opens, or_else, place_of_hand, queue, refl, sends_of_act, setting_of, sites, slice_get, slice_index_or, source_of, start_at, start_read, subst, suc, sym, t_fair, tm_no, true, u_fair, view_of, was_handed, write_to, zero, ℕ, ◌++◌, ◌==◌, ◌∙◌, ◌∷◌, ◌≡◌, ◌≤◌}
 use Rattle.sdd_obligations.proofs.OfNext.{IsThere, OfNext, d_of_sites, link_of_links, of_next, t_of_sites}
 use Rattle.sdd_obligations.proofs.Going.{in_made, was_asked_of}
 use Rattle.sdd_obligations.proofs.Near.{AllNear, HasNear, IsNear, SendsNear, active_near, modules_near}
@@ -77,8 +77,7 @@ start_linked g at c log q w f =
 
 write_linked : (g : Input) (at : Site) (b : Bool) (d : ℕ) (m : Msg) (p : Site × Msg) → Links g at (D (dm_no d))
     → cond {A = Option (Site × Msg)} b (Some (D (dm_no d), m)) None ≡ Some p → Links g at p.0
-write_linked g at true d m p l e = let q : ◌≡◌ {A = Site × Msg} (D (dm_no d), m) p = cc in subst (λ (x : Site × Msg). Links g at x.0) q l
-write_linked g at false d m p l e = cc
+write_linked g at b d m p l e = grind arith
 
 commit_linked : (g : Input) (at : Site) (c : ℕ) (bases : Bases) (a : Attempt) → ToModules g at → ActLinked g at (commit_act g.catalogue bases c a)
 commit_linked g at c bases a f =
@@ -107,15 +106,11 @@ attempt_linked g at c bases log (Some a) act f h e = send_linked g at c bases a 
 
 null_linked : (g : Input) (at : Site) (q : tm_views.Question) (b : Bool) (o : Option ℕ) (act : Act) → Links g at q.from
     → (if b then tm.null_at q o else None) ≡ Some act → ActLinked g at act
-null_linked g at q true (Some t) act l e =
-    linked_some g at (Sends q.from (Null (class_no q.class) (time_at t)) (Some q.hand)) act
-    (one_linked g at q.from (Null (class_no q.class) (time_at t)) (Some q.hand) l) e
-null_linked g at q _ _ act l e = cc
+null_linked g at q b o act l e = grind (arith, linked_some, one_linked)
 
 held_linked : (g : Input) (at : Site) (b : Bool) (m : Msg) (hand : Option ℕ) (act : Act) → Links g at U
     → (if b then Some (Sends U m hand) else None) ≡ Some act → ActLinked g at act
-held_linked g at true m hand act l e = linked_some g at (Sends U m hand) act (one_linked g at U m hand l) e
-held_linked g at false m hand act l e = cc
+held_linked g at b m hand act l e = grind (arith, linked_some, one_linked)
 
 begin_linked : (g : Input) (t : TmNo) (log : site.Log) (b : Bool) (c : ℕ) (o : Option Queued) (act : Act) → IsWhole g.catalogue → ToModules g (T t)
     → (if b then tm.start_of g.catalogue (tm_views.view_of (setting_of g (T t)) log) c o else None) ≡ Some act → ActLinked g (T t) act
@@ -139,12 +134,10 @@ t_linked g t log bases act w f h p here (tm.by_start k c i e) =
 
 tm_linked : (g : Input) (b : Bool) (t : ℕ) (m : Msg) (act : Act) → Links g U (T (tm_no t))
     → (if b then Some (Sends (T (tm_no t)) m None) else None) ≡ Some act → ActLinked g U act
-tm_linked g true t m act l e = linked_some g U (Sends (T (tm_no t)) m None) act (one_linked g U (T (tm_no t)) m None l) e
-tm_linked g false t m act l e = cc
+tm_linked g b t m act l e = grind (arith, linked_some, one_linked)
 
 hold_linked : (g : Input) (k : um_views.TmCounts) (o : Option Queued) (act : Act) → Links g U (T (tm_no k.tm)) → um.hold_to k o ≡ Some act → ActLinked g U act
-hold_linked g k None act l e = cc
-hold_linked g k (Some q) act l e = tm_linked g (k.releases == k.holds) k.tm Hold act l e
+hold_linked g k o act l e = grind (arith, tm_linked)
 
 u_start_linked : (g : Input) (log : site.Log) (b : Bool) (q : Queued) (act : Act) → IsWhole g.catalogue → ToModules g U
     → (if b then Some (start_at (setting_of g U) 0 log q) else None) ≡ Some act → ActLinked g U act
@@ -170,9 +163,7 @@ u_linked g log bases act w p (um.by_exchange e) =
     attempt_linked g U 0 bases (local_of g U log) (active (setting_of g U) 0 (local_of g U log)) act
     (λ d n. link_of g U (D (dm_no d)) refl (near_here g d n) refl) (active_near (setting_of g U) 0 (local_of g U log) w (u_fair g log p)) e
 u_linked g log bases act w p (um.by_release j k i e) = tm_linked g _ k.tm _ act (count_linked g (local_of g U log) j k i) e
-u_linked g log bases act w p (um.by_start e) =
-    u_begin_linked g (local_of g U log) (head_of (queue (setting_of g U) 0 (local_of g U log))) act w
-    (λ d n. link_of g U (D (dm_no d)) refl (near_here g d n) refl) e
+u_linked g log bases act w p (um.by_start e) = grind (arith, u_begin_linked, link_of, near_here)
 u_linked g log bases act w p (um.by_hold j k i e) =
     hold_linked g k (head_of (queue (setting_of g U) 0 (local_of g U log))) act (count_linked g (local_of g U log) j k i) e
 
@@ -186,16 +177,11 @@ class_source g d (k ∷ ks) zero h here =
 class_source g d (k ∷ ks) (suc i) h here = class_source g d ks i (All-tail (IsServedClass g.catalogue) k ks h) here
 
 source_linked : (g : Input) (d : DmNo) (c : ℕ) → IsWhole g.catalogue → Here g (D d) → Links g (D d) (source_of (home_of (setting_of g (D d))) c)
-source_linked g d zero w here = link_of g (D d) U here refl refl
-source_linked g d (suc c) w here = class_source g d g.catalogue.classes c w.classes here
+source_linked g d c w here = grind (arith, link_of, class_source)
 
 answer_linked : (g : Input) (d : DmNo) (h : Home) (k : ClassView) (o : Open) (m : Msg) (act : Act) → Links g (D d) o.from
     → dm.answer_to h k o m ≡ Some act → ActLinked g (D d) act
-answer_linked g d h k o (Read ts class txn attempt conds uses) act l e = linked_some g (D d) _ act tt e
-answer_linked g d h k o (Fetch ts class u col) act l e = linked_some g (D d) _ act (l, tt) e
-answer_linked g d h k o (Reduce ts class u col vs) act l e = linked_some g (D d) _ act (l, tt) e
-answer_linked g d h k o (Ship ts class) act l e = linked_some g (D d) _ act (l, tt) e
-answer_linked g d h k o _ act l e = cc
+answer_linked g d h k o m act l e = grind (arith, linked_some)
 
 open_linked : (g : Input) (d : DmNo) (log : Log) (h : Home) (k : ClassView) (o : Option Open) (act : Act) → AllFewTicks g.events → IsLawful g log
     → head_of (filter (is_asked_of k.class) (opens (local_of g (D d) log))) ≡ o → dm.answer_of h k o ≡ Some act → ActLinked g (D d) act
@@ -210,8 +196,7 @@ asks_linked g d [] w here = tt
 asks_linked g d (q ∷ ds) w here = (source_linked g d q.class.0 w here, asks_linked g d ds w here)
 
 done_linked : (g : Input) (d : DmNo) (b : Bool) (m : Msg) → Here g (D d) → AllLinked g (D d) (if b then (U, m) ∷ [] else [])
-done_linked g d true m here = (link_of g (D d) U here refl refl, tt)
-done_linked g d false m here = tt
+done_linked g d b m here = grind (arith, link_of)
 
 step_linked : (g : Input) (d : DmNo) (v : View) (c : ℕ) (m : Msg) (step : Step) → IsWhole g.catalogue → Here g (D d)
     → ActLinked g (D d) (dm.act_by (home_of (setting_of g (D d))) v c m step)
@@ -224,15 +209,11 @@ step_linked g d v c m step w here = (link_of g (D d) U here refl refl, tt)
 
 head_linked : (g : Input) (d : DmNo) (v : View) (c : ℕ) (o : Option Msg) (s : Option Step) (act : Act) → IsWhole g.catalogue → Here g (D d)
     → dm.act_where (home_of (setting_of g (D d))) v c o s ≡ Some act → ActLinked g (D d) act
-head_linked g d v c (Some m) (Some step) act w here e = linked_some g (D d) _ act (step_linked g d v c m step w here) e
-head_linked g d v c _ _ act w here e = cc
+head_linked g d v c o s act w here e = grind (arith, linked_some, step_linked)
 
 d_linked : (g : Input) (d : DmNo) (log : Log) (act : Act) → IsWhole g.catalogue → AllFewTicks g.events → IsLawful g log → Here g (D d)
     → dm.IsDue (home_of (setting_of g (D d))) (view_of (setting_of g (D d)) (local_of g (D d) log)) act → ActLinked g (D d) act
-d_linked g d log act w f l here (dm.by_open n k p e) =
-    open_linked g d log (home_of (setting_of g (D d))) k (head_of (filter (is_asked_of k.class) (opens (local_of g (D d) log)))) act f l refl e
-d_linked g d log act w f l here (dm.by_head n k p e) =
-    head_linked g d (view_of (setting_of g (D d)) (local_of g (D d) log)) k.class (head k.pipe) _ act w here e
+d_linked g d log act w f l here e = grind (arith, open_linked, opens, head_linked, head)
 
 -- of any site
 

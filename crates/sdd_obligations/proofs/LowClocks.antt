@@ -1,6 +1,6 @@
 -- The clocks of a run whose schedule has few events, and that has few attempts: ticks come from the schedule alone, and each
 -- Start is an attempt.
-use Rattle.sdd_obligations.proofs.All.{Act, AllFewTicks, Bool, Call, Deliver, Does, Down, Event, History, Input, IsLawful, IsSmall, List, Log, Lose, MAX_EVENTS, MAX_TICKS, Mark, Msg, None, Notes, Nothing, Rec, Records, Redeclares, Repeat, Resend, Round, Settle, Site, Some, Start, Submission, Submit, Submitted, Tick, Up, [], after_mark, all_links, ap, arith, attempt_of, attempts, calls_of, clock, cond, cons_option, false, filter_map, flat_map, from_event, height, history, in_flight, left, length, link, local_of, map, mark_from, mark_is_next, mark_of, marks, mul-le-mul_right, placed, quiet, records_of_act, refl, replicate, resends_now, round, starts_by, subst, suc, suc-mul, tail_of, ticks_of, trans_le, true, txn_no, zero, ℕ, ◌*◌, ◌++◌, ◌+◌, ◌<◌, ◌^◌, ◌∙◌, ◌∷◌, ◌≡◌, ◌≤◌}
+use Rattle.sdd_obligations.proofs.All.{Act, AllFewTicks, Bool, Call, Deliver, Does, Down, Event, History, Input, IsLawful, IsSmall, List, Log, Lose, MAX_EVENTS, MAX_TICKS, Mark, Msg, None, Notes, Nothing, Rec, Redeclares, Repeat, Resend, Round, Settle, Site, Some, Start, Submission, Submit, Submitted, Tick, Up, [], after_mark, all_links, ap, arith, attempt_of, attempts, calls_of, clock, cond, cons_option, filter_map, flat_map, from_event, height, history, in_flight, left, length, link, local_of, map, mark_from, mark_is_next, mark_of, marks, placed, quiet, records_of_act, refl, replicate, resends_now, round, starts_by, subst, suc, suc-mul, tail_of, ticks_of, true, txn_no, zero, ℕ, ◌*◌, ◌++◌, ◌+◌, ◌<◌, ◌^◌, ◌∙◌, ◌∷◌, ◌≡◌, ◌≤◌}
 use Rattle.sdd_obligations.proofs.Early.{is_under}
 use Rattle.sdd_obligations.proofs.OfNext.{of_next}
 use Rattle.sdd_laws.specs.All.{Attempt}
@@ -28,8 +28,7 @@ none_join : (xs ys : List Event) → all_ticks xs ≡ 0 → all_ticks ys ≡ 0 �
 none_join xs ys a b = let j = ticks_join xs ys in omega (arith, j, a, b)
 
 resend_none : (b : Bool) (x y : Site) (es : List Event) → all_ticks es ≡ 0 → all_ticks (cons_option (cond b (Some (Resend x y)) None) es) ≡ 0
-resend_none true x y es e = omega (arith, e)
-resend_none false x y es e = e
+resend_none b x y es e = grind arith
 
 resends_none : (calls : List (Call Msg)) (ls : List (Site × Site))
     → all_ticks (filter_map (λ l. cond (resends_now (link l.0 l.1 calls)) (Some (Resend l.0 l.1)) None) ls) ≡ 0
@@ -76,16 +75,10 @@ AreLeft n s most = (n + all_ticks s.0 ≤ most) × (all_ticks s.1 ≡ 0)
 
 marked : (g : Input) (log : Log) (s : List Event × List Event) (e : Event) (n most : ℕ) → mark_of g log s ≡ Some (Mark e) → AreLeft n s most
     → AreLeft (ticks_of e + n) (after_mark s) most
-marked g log (ws, []) e n most p h =
-    let i = mark_ticks g log (quiet (all_links g) (calls_of log)) (round (all_links g) (calls_of log)) ws e p in
-    let t = h.0 in (omega (arith, i, t), refl)
-marked g log (ws, x ∷ r) e n most p h =
-    let z = h.1 in
-    let t = h.0 in (omega (arith, same_mark x e 0 p, z, t), omega (arith, z))
+marked g log s e n most p h = grind (arith, mark_ticks, quiet, same_mark)
 
 redeclared : (s : List Event × List Event) (n most : ℕ) → AreLeft n s most → AreLeft n (after_mark s) most
-redeclared (ws, []) n most h = let d = drop_ticks ws in let t = h.0 in (omega (arith, d, t), refl)
-redeclared (ws, x ∷ r) n most h = (h.0, let z = h.1 in omega (arith, z))
+redeclared s n most h = grind (arith, drop_ticks)
 
 abbrev log_ticks : Log → ℕ
 log_ticks [] = 0
@@ -124,8 +117,7 @@ starts_in [] = 0
 starts_in (e ∷ h) = start_of e.1 + starts_in h
 
 one_attempt : (k : ℕ) (r : Rec) (found : List Attempt) → length (cons_option (attempt_of (k, r)) found) ≡ start_of r + length found
-one_attempt k (Start txn attempt class ts p2 uses) found = omega arith
-one_attempt k r found = omega arith
+one_attempt k r found = grind arith
 
 attempts_count : (k : ℕ) (h : History) → length (filter_map attempt_of (placed k h)) ≡ starts_in h
 attempts_count k [] = refl
@@ -136,8 +128,7 @@ starts_join [] more = omega arith
 starts_join (e ∷ h) more = let i = starts_join h more in omega (arith, i)
 
 act_starts : (k : ℕ) (act : Act) → starts_in (map (λ r. (k, r)) (records_of_act act)) ≡ starts_by act
-act_starts k (Records c (Start txn attempt class ts p2 uses) sends) = omega arith
-act_starts k act = omega arith
+act_starts k act = grind arith
 
 no_more : (a b c : ℕ) → a ≡ b + 0 → b ≡ c → a ≡ c
 no_more a b c e f = omega (arith, e, f)
@@ -150,9 +141,7 @@ starts_are [] = refl
 starts_are (Submitted at n ∷ log) =
     no_more _ (starts_in (history log)) (log_starts log) (starts_join (history log) ((marks log, Submission (txn_no n)) ∷ [])) (starts_are log)
 starts_are (Notes ∷ log) = no_more _ (starts_in (history log)) (log_starts log) (starts_join (history log) ((marks log, Nothing) ∷ [])) (starts_are log)
-starts_are (Does at act ∷ log) =
-    more_starts _ (starts_in (history log)) (log_starts log) _ (starts_by act)
-    (starts_join (history log) (map (λ r. (marks log, r)) (records_of_act act))) (act_starts (marks log) act) (starts_are log)
+starts_are (Does at act ∷ log) = grind (arith, more_starts, starts_join, marks, act_starts, starts_are log)
 starts_are (_ ∷ log) = starts_are log
 
 -- so both are few
@@ -163,7 +152,4 @@ low c h t s u v a b d e f = omega (arith, a, b, d, e, f)
 pub clock_low : (g : Input) (log : Log) (at : Site) → IsSmall g → IsLawful g log → length g.events ≤ MAX_EVENTS
     → length (attempts (history log)) ≤ 2 ^ 22 → (clock at (local_of g at log)).ticks < 2 ^ 39
 clock_low g log at s l events few =
-    let ticks = trans_le (all_ticks g.events) _ _ (ticks_few g.events s.few_ticks) (mul-le-mul_right MAX_TICKS events) in
-    let starts = attempts_count 0 (history log) ∙ starts_are log in
-    low (clock at (local_of g at log)).ticks (height log) (log_ticks log) (log_starts log) (all_ticks (left g.events log).0) (all_ticks g.events)
-    ((is_under g log s l).clocks at) (height_is log) (ticks_left g log s.few_ticks l).0 ticks (subst (λ n. n ≤ 2 ^ 22) starts few)
+    grind (arith, ticks_few, attempts_count, starts_are, low, left, is_under, height_is, ticks_left)

@@ -1,5 +1,5 @@
 -- Times and messages below a height, in lists.
-use Rattle.sdd_obligations.proofs.All.{AllLe, AllLow, Bool, Cond, FragNo, IsLow, List, Msg, None, Option, Some, Write, [], arith, cond, cons_option, false, filter_map, fold, greatest, if◌then◌else◌, le_up, map, or_zero, raised, refl, slice_get, subst, suc, times_of, top, touches, true, write_time, zero, ℕ, ◌++◌, ◌∷◌, ◌≡◌, ◌≤◌}
+use Rattle.sdd_obligations.proofs.All.{AllLe, AllLow, Bool, Cond, FragNo, IsLow, List, Msg, None, Option, Some, Write, [], arith, cond, cons_option, filter_map, fold, greatest, if◌then◌else◌, le_up, map, or_zero, raised, refl, slice_get, subst, suc, times_of, top, touches, write_time, zero, ℕ, ◌++◌, ◌∷◌, ◌≡◌, ◌≤◌}
 
 pub low_up : (h k : ℕ) (m : Msg) → h ≤ k → IsLow h m → IsLow k m
 low_up h k m l i = le_up (top h) (top k) (times_of m) (omega arith) i
@@ -22,8 +22,7 @@ all_low_of h [] f = tt
 all_low_of h (m ∷ ms) f = (f 0 m refl, all_low_of h ms (λ k x e. f (suc k) x e))
 
 pub low_one : (h : ℕ) (c : Bool) (m : Msg) → IsLow h m → AllLow h (if c then m ∷ [] else [])
-low_one h true m i = (i, tt)
-low_one h false m i = tt
+low_one h c m i = grind arith
 
 -- of a list of conditions
 
@@ -33,8 +32,7 @@ IsEarlyCond k (Some d) = d.time.0 ≤ k
 
 cons_cond : (k : ℕ) (o : Option Cond) (ds : List Cond) → IsEarlyCond k o → AllLe k (map (λ (d : Cond). d.time.0) ds)
     → AllLe k (map (λ (d : Cond). d.time.0) (cons_option o ds))
-cons_cond k None ds i h = h
-cons_cond k (Some d) ds i h = (i, h)
+cons_cond k o ds i h = grind arith
 
 pub conds_le : (k : ℕ) (f : ℕ → Option Cond) (cs : List ℕ) → ((c : ℕ) → IsEarlyCond k (f c)) → AllLe k (map (λ (d : Cond). d.time.0) (filter_map f cs))
 conds_le k f [] h = tt
@@ -52,8 +50,7 @@ cond_le_at k (x ∷ ds) (suc n) d h e = cond_le_at k ds n d h.1 e
 -- the greatest of the times of WRITEs
 
 raised_le : (k : ℕ) (o : Option ℕ) (n : ℕ) → or_zero o ≤ k → n ≤ k → or_zero (raised o n) ≤ k
-raised_le k None n i j = j
-raised_le k (Some m) n i j = omega arith
+raised_le k o n i j = grind arith
 
 fold_le : (k : ℕ) (o : Option ℕ) (ns : List ℕ) → or_zero o ≤ k → AllLe k ns → or_zero (fold raised o ns) ≤ k
 fold_le k o [] i h = i
@@ -63,8 +60,7 @@ pub greatest_le : (k : ℕ) (ns : List ℕ) → AllLe k ns → or_zero (greatest
 greatest_le k ns h = fold_le k None ns (omega arith) h
 
 cons_time : (k : ℕ) (b : Bool) (t : ℕ) (ns : List ℕ) → t ≤ k → AllLe k ns → AllLe k (cons_option (cond b (Some t) None) ns)
-cons_time k true t ns i h = (i, h)
-cons_time k false t ns i h = h
+cons_time k b t ns i h = grind arith
 
 pub write_times_le : (h : ℕ) (frags : List FragNo) (ms : List Msg) → AllLow h ms → AllLe (top h) (filter_map (write_time frags) ms)
 write_times_le h frags [] i = tt

@@ -1,5 +1,5 @@
 -- Lists of modules: what is sent to each of them, and the uses that are read there.
-use Rattle.sdd_obligations.proofs.All.{AllGt, Bool, D, IsStrict, List, Msg, None, Some, [], ap, arith, cond, cons_option, contains, dm_no, either, eqb-true, false, filter, filter_map, if◌then◌else◌, inl, inr, map, module_read, not, not_same, or_left, or_right, refl, same_number, same_or_not, subst, sym, to_all, to_site, true, uses_at, without, ℕ, ◌++◌, ◌<◌, ◌==◌, ◌||◌, ◌∙◌, ◌∷◌, ◌≡◌}
+use Rattle.sdd_obligations.proofs.All.{AllGt, Bool, D, IsStrict, List, Msg, None, Some, [], ap, arith, cond, cons_option, contains, dm_no, either, eqb-true, false, filter, filter_map, if◌then◌else◌, inl, inr, map, module_read, not_same, or_left, or_right, refl, same_number, same_or_not, subst, sym, to_all, to_site, true, uses_at, without, ℕ, ◌++◌, ◌<◌, ◌==◌, ◌||◌, ◌∙◌, ◌∷◌, ◌≡◌}
 
 pub below_not : (a b : ℕ) → a < b → (a == b) ≡ false
 below_not a b l = elim (same_or_not a b) [ inl p ↦ absurd (omega (arith, p, l)) | inr p ↦ p ]
@@ -8,19 +8,11 @@ below_not a b l = elim (same_or_not a b) [ inl p ↦ absurd (omega (arith, p, l)
 
 pub without_own : (ns : List ℕ) (n : ℕ) → contains (without ns n) n ≡ false
 without_own [] n = refl
-without_own (x ∷ ns) n = elim (x == n) as (λ b. (x == n) ≡ b → contains (cond (not b) (x ∷ without ns n) (without ns n)) n ≡ false) [
-  | true ↦ λ p. without_own ns n
-  | false ↦ λ p. rw p (without_own ns n)
-] refl
+without_own (x ∷ ns) n = grind (arith, cond, without, without_own ns n)
 
 pub without_other : (ns : List ℕ) (n d : ℕ) → (d == n) ≡ false → contains (without ns n) d ≡ contains ns d
 without_other [] n d e = refl
-without_other (x ∷ ns) n d e =
-    elim (x == n) as (λ b. (x == n) ≡ b → contains (cond (not b) (x ∷ without ns n) (without ns n))
-    d ≡ ((x == d) || contains ns d)) [
-      | true ↦ λ p. (let q : (x == d) ≡ false = subst (λ y. (y == d) ≡ false) (sym (eqb-true x n p)) (not_same d n e) in rw q (without_other ns n d e))
-      | false ↦ λ p. ap (λ b. (x == d) || b) (without_other ns n d e)
-    ] refl
+without_other (x ∷ ns) n d e = grind (arith, cond, without, eqb-true, not_same, without_other ns n d e)
 
 -- members of what is joined
 
@@ -46,11 +38,7 @@ none_above m d (x ∷ ds) h = rw (below_not d x h.0) (none_above m d ds h.1)
 
 pub one_to_each : (m : Msg) (ds : List ℕ) (d : ℕ) → IsStrict ds → to_module d (to_all m ds) ≡ (if contains ds d then m ∷ [] else [])
 one_to_each m [] d h = refl
-one_to_each m (x ∷ ds) d h = elim (same_or_not d x) [
-  | inl p ↦ subst (λ y. to_module y (to_all m (x ∷ ds)) ≡ (if contains (x ∷ ds) y then m ∷ [] else []))
-      (sym p) (rw (same_number x) (ap (λ l. m ∷ l) (none_above m x ds h.0)))
-  | inr p ↦ rw (p, not_same d x p) (one_to_each m ds d h.1)
-]
+one_to_each m (x ∷ ds) d h = grind (arith, same_or_not, same_number, none_above, not_same, one_to_each m ds d h.1)
 
 none_sent_above : (f : ℕ → Msg) (d : ℕ) (ds : List ℕ) → AllGt d ds → to_site (D (dm_no d)) (map (λ d. (D (dm_no d), f d)) ds) ≡ []
 none_sent_above f d [] h = refl
@@ -59,11 +47,7 @@ none_sent_above f d (x ∷ ds) h = rw (below_not d x h.0) (none_sent_above f d d
 pub sent_to_each : (f : ℕ → Msg) (ds : List ℕ) (d : ℕ) → IsStrict ds
     → to_site (D (dm_no d)) (map (λ d. (D (dm_no d), f d)) ds) ≡ (if contains ds d then f d ∷ [] else [])
 sent_to_each f [] d h = refl
-sent_to_each f (x ∷ ds) d h = elim (same_or_not d x) [
-  | inl p ↦ subst (λ y. to_site (D (dm_no y)) (map (λ d. (D (dm_no d), f d)) (x ∷ ds)) ≡ (if contains (x ∷ ds) y then f y ∷ [] else [])) (sym p)
-      (rw (same_number x) (ap (λ l. f x ∷ l) (none_sent_above f x ds h.0)))
-  | inr p ↦ rw (p, not_same d x p) (sent_to_each f ds d h.1)
-]
+sent_to_each f (x ∷ ds) d h = grind (arith, same_or_not, same_number, none_sent_above, not_same, sent_to_each f ds d h.1)
 
 -- modules with the numbers of the uses that are read there
 abbrev pub firsts : List (ℕ × List ℕ) → List ℕ
@@ -75,10 +59,7 @@ reading ms u = filter_map (λ m. cond (contains m.1 u) (Some m.0) None) ms
 
 reading_above : (ms : List (ℕ × List ℕ)) (u k : ℕ) → AllGt k (firsts ms) → AllGt k (reading ms u)
 reading_above [] u k h = tt
-reading_above (m ∷ ms) u k h = elim (contains m.1 u) as (λ b. AllGt k (cons_option (cond b (Some m.0) None) (reading ms u))) [
-  | true ↦ (h.0, reading_above ms u k h.1)
-  | false ↦ reading_above ms u k h.1
-]
+reading_above (m ∷ ms) u k h = grind (arith, cond, reading_above ms u k h.1)
 
 pub reading_ascends : (ms : List (ℕ × List ℕ)) (u : ℕ) → IsStrict (firsts ms) → IsStrict (reading ms u)
 reading_ascends [] u h = tt

@@ -1,5 +1,5 @@
 -- An attempt sends to data modules of the catalogue alone.
-use Rattle.sdd_obligations.proofs.All.{Act, All, All-get_or, All-nil, Asking, Attempt, Bool, Catalogue, Class, D, Did, Each, Equal, Exchange, Fetching, Greater, Handed, IsFair, IsServedClass, IsStep, IsWhole, Less, List, Move, Msg, None, Option, Over, Phase, Queued, ReadPlace, Ready, Reduced, Rows, Setting, Shipping, Site, Some, Step, Values, [], active, active_handed, active_sent, after_hand, after_send, answered, arith, ascending, asks_rows, class_at, cond, cons_option, contains, counted, counts_for, dec_le, dm_no, false, fetches, fetches_from, filter_map, find, fold, found_in_all, get_or_past, goes_on, head_of, if_way, if◌then◌else◌, inl, inr, insert_key, lacking, length, lower_same_higher, map, module_read, modules_asked, modules_of, move_at, nat_cmp, nat_cmp_is, next_move, next_stamp, numbers_to, option_map, phase_ends, queue, range_with_len, reads_at, reduces, refl, rejects, sends_of_act, ships, start_at, start_read, started, step_way, subst, suc, sym, tail_of, tm_no, to_all, true, with_use, with_values, without, zero, ℕ, ◌&&◌, ◌++◌, ◌+◌, ◌-◌, ◌==◌, ◌∷◌, ◌≡◌, ◌≤◌}
+use Rattle.sdd_obligations.proofs.All.{Act, All, All-get_or, All-nil, Asking, Attempt, Bool, Catalogue, D, Did, Each, Exchange, Fetching, Handed, IsFair, IsStep, IsWhole, List, Move, Msg, None, Option, Over, Phase, Queued, ReadPlace, Ready, Reduced, Rows, Setting, Shipping, Site, Some, Step, Values, [], active, active_handed, active_sent, after_hand, after_send, answered, arith, ascending, class_at, cond, cons_option, contains, counted, counts_for, dm_no, false, fetches, fetches_from, filter_map, find, fold, found_in_all, get_or_past, goes_on, head_of, if_way, if◌then◌else◌, insert_key, lacking, length, lower_same_higher, map, module_read, modules_asked, modules_of, move_at, nat_cmp, next_move, next_stamp, numbers_to, option_map, phase_ends, queue, range_with_len, reads_at, reduces, refl, rejects, sends_of_act, ships, start_at, start_read, started, step_way, subst, suc, tail_of, to_all, true, with_use, with_values, without, zero, ℕ, ◌&&◌, ◌++◌, ◌+◌, ◌-◌, ◌==◌, ◌∷◌, ◌≡◌, ◌≤◌}
 use Rattle.sdd_invariants.specs.catalog.Numbers.{IsServed}
 use Rattle.sdd_invariants.specs.site_module.SiteLog.{Log}
 
@@ -32,8 +32,7 @@ to_near n m [] h = tt
 to_near n m (d ∷ ds) h = (h.0, to_near n m ds h.1)
 
 cons_near : (n : ℕ) (b : Bool) (d : ℕ) (ds : List ℕ) → IsNear n d → AllNear n ds → AllNear n (cons_option (cond b (Some d) None) ds)
-cons_near n true d ds h i = (h, i)
-cons_near n false d ds h i = i
+cons_near n b d ds h i = grind arith
 
 use_near : (n u : ℕ) (ms : List (ℕ × List ℕ)) → ModulesNear n ms → AllNear n (filter_map (λ m. cond (contains m.1 u) (Some m.0) None) ms)
 use_near n u [] h = tt
@@ -104,8 +103,7 @@ hand_near n ts c d (Rows t k rows) x h =
 hand_near n ts c d _ x h = h
 
 tail_near : (n : ℕ) (ps : List (ℕ × Msg)) → SendsNear n ps → SendsNear n (tail_of ps)
-tail_near n [] h = tt
-tail_near n (p ∷ ps) h = h.1
+tail_near n ps h = grind arith
 
 sent_near : (n : ℕ) (x : Exchange) → IsNearBy n x → IsNearBy n (after_send x)
 sent_near n x h = record { modules = h.modules; sends = tail_near n x.to_send h.sends }
@@ -114,13 +112,7 @@ sent_near n x h = record { modules = h.modules; sends = tail_near n x.to_send h.
 
 insert_near : (n : ℕ) (ks : List ℕ) (k : ℕ) → IsNear n k → AllNear n ks → AllNear n (insert_key nat_cmp ks k)
 insert_near n [] k h i = (h, tt)
-insert_near n (x ∷ ks) k h i = elim (lower_same_higher k x) [
-  | inl p ↦ rw (sym (nat_cmp_is k x Less p)) (h, i)
-  | inr q ↦ elim q [
-    | inl p ↦ rw (sym (nat_cmp_is k x Equal p)) i
-    | inr p ↦ rw (sym (nat_cmp_is k x Greater p)) (i.0, insert_near n ks k h i.1)
-  ]
-]
+insert_near n (x ∷ ks) k h i = grind (arith, lower_same_higher, insert_near n ks k h i.1)
 
 fold_near : (n : ℕ) (ds ks : List ℕ) → AllNear n ds → AllNear n ks → AllNear n (fold (λ ks k. insert_key nat_cmp ks k) ks ds)
 fold_near n [] ks h i = i
@@ -131,21 +123,14 @@ range_near a zero n l k = tt
 range_near a (suc m) n l k = ((l, omega (arith, k)), range_near (a + 1) m n (omega (arith, l)) (omega (arith, k)))
 
 made_cons : (n : ℕ) (o : Option ℕ) (ds : List ℕ) → ((d : ℕ) → o ≡ Some d → IsNear n d) → AllNear n ds → AllNear n (cons_option o ds)
-made_cons n None ds f h = h
-made_cons n (Some d) ds f h = (f d refl, h)
+made_cons n o ds f h = grind arith
 
 made_near : (n : ℕ) (f : ℕ → Option ℕ) (xs : List ℕ) → ((x d : ℕ) → f x ≡ Some d → IsNear n d) → AllNear n (filter_map f xs)
 made_near n f [] h = tt
 made_near n f (x ∷ xs) h = made_cons n (f x) (filter_map f xs) (h x) (made_near n f xs h)
 
-abbrev no_class : Class
-no_class = record { name = []; tm = tm_no 0; reads = []; writes = [] }
-
 reads_served : (cat : Catalogue) (c : ℕ) → IsWhole cat → All (IsServed cat) (class_at cat c).reads
-reads_served cat c w = elim (dec_le (suc (c - 1)) (length cat.classes)) [
-  | yes l ↦ (All-get_or (IsServedClass cat) cat.classes (c - 1) no_class l w.classes).reads
-  | no m ↦ subst (λ (k : Class). All (IsServed cat) k.reads) (sym (get_or_past cat.classes (c - 1) no_class (omega (arith, m)))) (All-nil (IsServed cat))
-]
+reads_served cat c w = grind (arith, All-get_or, get_or_past, All-nil)
 
 found_near : (cat : Catalogue) (p : ReadPlace → Bool) (rs : List ReadPlace) (o : Option ReadPlace) (d : ℕ) → All (IsServed cat) rs → find p rs ≡ o
     → option_map (λ r. r.at.0) o ≡ Some d → IsNear cat.dms d
@@ -189,9 +174,7 @@ handed_near n c (D d) m (Some a) h =
 handed_near n c _ m o h = h
 
 send_near : (n c : ℕ) (m : Msg) (o : Option Attempt) → HasNear n o → HasNear n (active_sent c m o)
-send_near n c m None h = tt
-send_near n c m (Some a) h = if_way (HasNear n) (asks_rows a.ts c m)
-    (Some (record a { exchange = after_send a.exchange })) (Some a) (sent_near n a.exchange h) h
+send_near n c m o h = grind (arith, if_way, sent_near)
 
 act_near : (s : Setting) (c : ℕ) (log : Log) (act : Act) → IsWhole s.catalogue → IsStep s log act → HasNear s.catalogue.dms (active s c log)
     → HasNear s.catalogue.dms (active s c (Did act ∷ log))

@@ -1,5 +1,5 @@
 -- A READY or REJECT goes to the site that runs its class; no REJECT and no ASK goes to U.
-use Rattle.sdd_obligations.proofs.All.{All-get_or, Bool, Catalogue, ClassNo, Cond, D, DmNo, Does, Input, IsClassHere, IsPermitted, IsReadyBy, IsRejectBy, IsServedClass, IsWhole, List, Log, Msg, Read, Ready, Reject, Setting, Site, Some, T, Ts, TxnNo, U, Use, View, [], ap, arith, class_at, class_number, cond, false, filter, head, home, home_of, in_filtered, in_range, inl, inr, is_verdict, length, local_of, never_spoilt, not_both, not_zero, numbers_to, permitted_before, pipe_at, put_in_by_d, puts_to, read_classes, refl, runs, same_number, same_or_not, setting_of, slice_get, source_of, spoiler, spoils, subst, suc, sym, tm_no, true, view_of, zero, ℕ, ◌-◌, ◌==◌, ◌∙◌, ◌∷◌, ◌≡◌, ◌≤◌}
+use Rattle.sdd_obligations.proofs.All.{All-get_or, Bool, Catalogue, ClassNo, Cond, D, DmNo, Does, Input, IsClassHere, IsPermitted, IsReadyBy, IsRejectBy, IsServedClass, IsWhole, List, Log, Msg, Read, Ready, Reject, Setting, Site, Some, T, Ts, TxnNo, U, Use, View, [], ap, arith, class_at, class_number, cond, false, filter, head, home, home_of, in_filtered, in_range, is_verdict, length, local_of, never_spoilt, not_both, not_zero, numbers_to, permitted_before, pipe_at, put_in_by_d, puts_to, read_classes, refl, runs, same_number, same_or_not, setting_of, slice_get, source_of, spoiler, spoils, subst, suc, sym, tm_no, true, view_of, zero, ℕ, ◌-◌, ◌==◌, ◌∙◌, ◌∷◌, ◌≡◌, ◌≤◌}
 use Rattle.sdd_obligations.proofs.HoldsFit.{at_place}
 use Rattle.sdd_obligations.proofs.Piping.{source_is_home}
 use Rattle.sdd_obligations.proofs.Verdicts.{in_class, two_same}
@@ -29,10 +29,7 @@ verdict_home g d log k m b ts c h e f = cc
 -- of U only class 0 is
 
 home_zero : (cat : Catalogue) (j : ℕ) → U ≡ home cat j → j ≡ 0
-home_zero cat j e = elim (same_or_not j 0) [
-  | inl p ↦ p
-  | inr p ↦ (let q : U ≡ T (tm_no (class_at cat j).tm.0) = rw p at e in cc)
-]
+home_zero cat j e = grind (arith, same_or_not, class_at)
 
 zero_source : (s : Setting) (j : ℕ) → IsClassHere s j → U ≡ source_of (home_of s) j → j ≡ 0
 zero_source s j l e = home_zero s.catalogue j (e ∙ source_is_home s j (omega (arith, l)))
@@ -53,12 +50,7 @@ runs_place g c l m =
     (numbers_to (length g.catalogue.classes)) (c - 1) c (at_place (length g.catalogue.classes) c l m) (same_number (class_at g.catalogue c).tm.0)
 
 class_served : (cat : Catalogue) (c : ℕ) → IsWhole cat → 1 ≤ c → c ≤ length cat.classes → IsServedClass cat (class_at cat c)
-class_served cat c w l m = All-get_or (IsServedClass cat) cat.classes (c - 1) (record {
-  name = [];
-  tm = tm_no 0;
-  reads = [];
-  writes = [];
-}) (omega (arith, l, m)) w.classes
+class_served cat c w l m = grind (arith, All-get_or)
 
 -- so no REJECT goes to U
 

@@ -1,6 +1,6 @@
 -- What the next entry of a log is, beyond that it is allowed: it concerns sites and links of the network, and an event
 -- comes from those that were given or from a round.
-use Rattle.sdd_obligations.proofs.All.{Act, All-at, AllFewTicks, Bool, Call, D, Deliver, DmNo, Does, Down, Entry, Event, Hand, Input, IsLawful, IsTrue, List, Log, Lose, MAX_TICKS, Mark, Msg, None, Notes, Option, Redeclare, Redeclares, Repeat, Resend, Round, Settle, Site, Some, Submit, Submitted, T, Tick, TmNo, U, Up, [], after_mark, all_links, and_left, and_right, arith, at_map, calls_of, cond, cons_option, delivered, dm_no, does_at, due_by, false, filter_map, flat_map, found_at, from_event, greatest_bound, hand_due, hand_number, hand_on, hand_with, handed, if◌then◌else◌, in_either, in_flight, in_left, in_mapped, in_range, in_right, inl, inr, is_link, is_site, le_is, left, link, link_of, link_parts, links, links_exist, map, mark_due, mark_from, mark_of, message_at, nat_le, next, next_at, next_number, note_if, one_of, quiet, range_with_len, refl, replicate, resends_now, round, site_due, sites, slice_get, subst, suc, sym, tail_of, takes_part, ticks_of, tm_no, true, zero, ℕ, ◌&&◌, ◌++◌, ◌+◌, ◌-◌, ◌∷◌, ◌≡◌, ◌≤◌}
+use Rattle.sdd_obligations.proofs.All.{Act, All-at, AllFewTicks, Bool, Call, D, Deliver, DmNo, Does, Down, Entry, Event, Hand, Input, IsLawful, IsTrue, List, Log, Lose, MAX_TICKS, Mark, Msg, None, Notes, Option, Redeclare, Redeclares, Repeat, Resend, Round, Settle, Site, Some, Submit, Submitted, T, Tick, TmNo, U, Up, [], after_mark, all_links, and_left, and_right, arith, at_map, calls_of, cond, cons_option, delivered, dm_no, does_at, due_by, false, filter_map, flat_map, found_at, from_event, greatest_bound, hand_due, hand_number, hand_on, hand_with, handed, if◌then◌else◌, in_either, in_flight, in_left, in_mapped, in_range, in_right, inl, inr, is_link, is_site, le_is, left, link, link_of, link_parts, links, links_exist, map, mark_due, mark_from, mark_of, nat_le, next, next_at, next_number, note_if, one_of, quiet, range_with_len, refl, replicate, resends_now, round, site_due, sites, slice_get, subst, suc, sym, tail_of, takes_part, ticks_of, tm_no, true, zero, ℕ, ◌&&◌, ◌++◌, ◌+◌, ◌-◌, ◌∷◌, ◌≡◌, ◌≤◌}
 use Rattle.sdd_obligations.proofs.Sums.{range_at}
 
 abbrev pub IsThere : {A : Type 0} → List A → A → Type 0
@@ -18,8 +18,7 @@ OfNext g log Notes = Unit {0}
 -- by an event
 
 of_note : (g : Input) (log : Log) (b : Bool) (e : Entry) → note_if b ≡ Some e → OfNext g log e
-of_note g log true e p = let q : Notes ≡ e = cc in subst (OfNext g log) q tt
-of_note g log false e p = cc
+of_note g log b e p = grind arith
 
 of_event : (g : Input) (x : Event) (log : Log) (e : Entry) → due_by g x log ≡ Some e → OfNext g (Mark x ∷ log) e
 of_event g (Submit n) log (Submitted at k) p = p
@@ -32,25 +31,21 @@ of_event g (Up d) log e p = of_note g (Mark (Up d) ∷ log) _ e p
 of_event g _ log e p = cc
 
 of_mark : (g : Input) (log : Log) (e : Entry) → mark_due g log ≡ Some e → OfNext g log e
-of_mark g (Mark x ∷ log) e p = of_event g x log e p
-of_mark g _ e p = cc
+of_mark g log e p = grind (arith, of_event)
 
 -- at a site, on a link
 
 of_site : (g : Input) (log : Log) (at : Site) (o : Option Act) (e : Entry) → IsThere (sites g.catalogue.tms g.catalogue.dms) at
     → next_at g log at ≡ o → does_at at o ≡ Some e → OfNext g log e
-of_site g log at None e k p q = cc
-of_site g log at (Some a) e k p q = let s : Does at a ≡ e = cc in subst (OfNext g log) s (k, p)
+of_site g log at o e k p q = grind arith
 
 of_message : (g : Input) (log : Log) (a b : Site) (n : ℕ) (o : Option Msg) (e : Entry) → IsThere (all_links g) (a, b)
     → hand_with (a, b) n o ≡ Some e → OfNext g log e
-of_message g log a b n None e k p = cc
-of_message g log a b n (Some m) e k p = let s : Hand a b n m ≡ e = cc in subst (OfNext g log) s k
+of_message g log a b n o e k p = grind arith
 
 of_link : (g : Input) (log : Log) (a b : Site) (c : Bool) (o : Option ℕ) (e : Entry) → IsThere (all_links g) (a, b)
     → (if c then hand_number log (a, b) o else None) ≡ Some e → OfNext g log e
-of_link g log a b true (Some n) e k p = of_message g log a b n (message_at a b n log) e k p
-of_link g log a b _ _ e k p = cc
+of_link g log a b c o e k p = grind (arith, of_message)
 
 -- the next mark
 
@@ -78,8 +73,7 @@ abbrev pub AreFewLeft : List Event × List Event → Type 0
 AreFewLeft s = AllFewTicks s.0 × AllFewTicks s.1
 
 of_left : (g : Input) (log : Log) (s : List Event × List Event) (e : Entry) → AreFewLeft s → mark_of g log s ≡ Some e → OfNext g log e
-of_left g log (ws, []) e f p = of_events g log (quiet (all_links g) (calls_of log)) ws e f.0 p
-of_left g log (ws, x ∷ r) e f p = some_mark g log x e f.1.0 p
+of_left g log s e f p = grind (arith, of_events, quiet, some_mark)
 
 few_from : (es : List Event) → AllFewTicks es → AllFewTicks (from_event es)
 few_from [] f = tt
@@ -87,20 +81,17 @@ few_from (Settle ∷ es) f = few_from es f.1
 few_from (_ ∷ es) f = f
 
 few_tail : (es : List Event) → AllFewTicks es → AllFewTicks (tail_of es)
-few_tail [] f = tt
-few_tail (e ∷ es) f = f.1
+few_tail es f = grind arith
 
 few_after : (s : List Event × List Event) → AreFewLeft s → AreFewLeft (after_mark s)
-few_after (ws, []) f = (few_tail (from_event ws) (few_from ws f.0), tt)
-few_after (ws, x ∷ r) f = (f.0, f.1.1)
+few_after s f = grind (arith, few_tail, few_from)
 
 few_join : (xs ys : List Event) → AllFewTicks xs → AllFewTicks ys → AllFewTicks (xs ++ ys)
 few_join [] ys f h = h
 few_join (x ∷ xs) ys f h = (f.0, few_join xs ys f.1 h)
 
 few_resend : (b : Bool) (x y : Site) (es : List Event) → AllFewTicks es → AllFewTicks (cons_option (cond b (Some (Resend x y)) None) es)
-few_resend true x y es f = (omega arith, f)
-few_resend false x y es f = f
+few_resend b x y es f = grind arith
 
 few_resends : (calls : List (Call Msg)) (ls : List (Site × Site))
     → AllFewTicks (filter_map (λ l. cond (resends_now (link l.0 l.1 calls)) (Some (Resend l.0 l.1)) None) ls)

@@ -7,17 +7,11 @@ hands_in os = map (λ (o : Open). o.hand) os
 
 gt_filter : (p : Open → Bool) (k : ℕ) (os : List Open) → AllGt k (hands_in os) → AllGt k (hands_in (filter p os))
 gt_filter p k [] h = tt
-gt_filter p k (o ∷ os) h = elim (p o) as (λ b. AllGt k (hands_in (cond b (o ∷ filter p os) (filter p os)))) [
-  | true ↦ (h.0, gt_filter p k os h.1)
-  | false ↦ gt_filter p k os h.1
-]
+gt_filter p k (o ∷ os) h = grind (arith, cond, gt_filter p k os h.1)
 
 le_filter : (p : Open → Bool) (k : ℕ) (os : List Open) → AllLe k (hands_in os) → AllLe k (hands_in (filter p os))
 le_filter p k [] h = tt
-le_filter p k (o ∷ os) h = elim (p o) as (λ b. AllLe k (hands_in (cond b (o ∷ filter p os) (filter p os)))) [
-  | true ↦ (h.0, le_filter p k os h.1)
-  | false ↦ le_filter p k os h.1
-]
+le_filter p k (o ∷ os) h = grind (arith, cond, le_filter p k os h.1)
 
 strict_filter : (p : Open → Bool) (os : List Open) → IsStrict (hands_in os) → IsStrict (hands_in (filter p os))
 strict_filter p [] h = tt
@@ -37,13 +31,7 @@ pub record AreApart (log : Log) : Type 0 where
 apart_if : (b : Bool) (n : ℕ) (from : Site) (m : Msg) (os : List Open) → IsStrict (hands_in os) → AllLe n (hands_in os)
     → IsStrict (hands_in (if b then os ++ record { hand = suc n; from = from; msg = m } ∷ [] else os))
     × AllLe (suc n) (hands_in (if b then os ++ record { hand = suc n; from = from; msg = m } ∷ [] else os))
-apart_if true n from m os h l =
-    let o : Open = record { hand = suc n; from = from; msg = m } in (
-      subst IsStrict (sym (hands_push os o)) (strict_push (suc n) (hands_in os) h (lt_above n (suc n) (hands_in os) (omega arith) l)),
-      subst (AllLe (suc n)) (sym (hands_push os o)) (le_join (suc n) (hands_in os) (suc n ∷ [])
-          (le_up n (suc n) (hands_in os) (omega arith) l) (omega arith, tt)),
-    )
-apart_if false n from m os h l = (h, le_up n (suc n) (hands_in os) (omega arith) l)
+apart_if b n from m os h l = grind (arith, hands_push, strict_push, lt_above, le_join, le_up)
 
 apart_acted : (act : Act) (n : ℕ) (os : List Open) → IsStrict (hands_in os) → AllLe n (hands_in os)
     → IsStrict (hands_in (opens_acted act os)) × AllLe n (hands_in (opens_acted act os))
@@ -99,26 +87,11 @@ sift_within p q (x ∷ xs) f =
 
 pub sift_swap : {A : Type 0} (p q : A → Bool) (xs : List A) → filter q (filter p xs) ≡ filter p (filter q xs)
 sift_swap p q [] = refl
-sift_swap p q (x ∷ xs) =
-    let i = sift_swap p q xs in
-    elim (p x) as (λ b. p x ≡ b → filter q (cond b (x ∷ filter p xs) (filter p xs)) ≡ filter p (filter q (x ∷ xs))) [
-      | true ↦ λ e. elim (q x) as (λ b. q x ≡ b → cond b (x ∷ filter q (filter p xs))
-          (filter q (filter p xs)) ≡ filter p (cond b (x ∷ filter q xs) (filter q xs))) [
-            | true ↦ λ g. rw e (ap (λ l. x ∷ l) i)
-            | false ↦ λ g. i
-          ] refl
-      | false ↦ λ e. elim (q x) as (λ b. q x ≡ b → filter q (filter p xs) ≡ filter p (cond b (x ∷ filter q xs) (filter q xs))) [
-        | true ↦ λ g. rw e i
-        | false ↦ λ g. i
-      ] refl
-    ] refl
+sift_swap p q (x ∷ xs) = grind (arith, cond, sift_swap p q xs)
 
 pub sift_has : {A : Type 0} (p : A → Bool) (xs : List A) (j : ℕ) (x : A) → slice_get xs j ≡ Some x → p x ≡ true → (i : ℕ) × (slice_get (filter p xs) i ≡ Some x)
 sift_has p [] j x e f = cc
-sift_has {A = A} p (y ∷ xs) zero x e f =
-    let q : ◌≡◌ {A = A} y x = cc in
-    let g : p y ≡ true = subst (λ z. p z ≡ true) (sym q) f in
-    (0, subst (λ b. slice_get (cond b (y ∷ filter p xs) (filter p xs)) 0 ≡ Some x) (sym g) e)
+sift_has {A = A} p (y ∷ xs) zero x e f = grind (arith, cond)
 sift_has p (y ∷ xs) (suc j) x e f =
     let i = sift_has p xs j x e f in
     elim (p y) as (λ b. (n : ℕ) × (slice_get (cond b (y ∷ filter p xs) (filter p xs)) n ≡ Some x)) [ true ↦ (suc i.0, i.1) | false ↦ i ]

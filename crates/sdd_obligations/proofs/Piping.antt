@@ -1,5 +1,5 @@
 -- A READ, WRITE or NULL that is next to be handed over comes from the site that runs its class, in turn.
-use Rattle.sdd_obligations.proofs.All.{AllGe, AllLe, Class, D, DmNo, FitsClass, FitsPipe, Hand, Handed, Input, IsPermitted, IsRising, List, Log, Msg, Setting, Site, Some, T, U, [], all_of, ap, append_assoc, arith, class_is, class_puts, class_rises, false, fold, goes_through, handed, home, home_of, in_pipe, last_time, length, local_of, map, max, not_zero, number_of, pipe, pipe_at, piped, put_at_home, refl, same_number, setting_of, site_self, slice_index_or, source_of, subst, suc, sym, time_in, time_of, tm_no, true, zero, ℕ, ◌++◌, ◌-◌, ◌<◌, ◌==◌, ◌^◌, ◌∙◌, ◌∷◌, ◌≡◌, ◌≤◌}
+use Rattle.sdd_obligations.proofs.All.{AllGe, AllLe, Class, D, DmNo, FitsClass, FitsPipe, Hand, Input, IsPermitted, IsRising, List, Log, Msg, Setting, Site, Some, T, U, [], all_of, ap, append_assoc, arith, class_is, class_puts, class_rises, fold, goes_through, handed, home, home_of, in_pipe, last_time, length, local_of, map, max, not_zero, number_of, pipe, pipe_at, piped, put_at_home, refl, same_number, setting_of, site_self, slice_index_or, source_of, subst, suc, sym, time_in, time_of, tm_no, true, zero, ℕ, ◌++◌, ◌<◌, ◌^◌, ◌∙◌, ◌∷◌, ◌≡◌, ◌≤◌}
 use Rattle.sdd_obligations.proofs.Counting.{class_here}
 use Rattle.sdd_obligations.proofs.Handing.{IsHanded}
 use Rattle.sdd_obligations.proofs.Under.{max_le as max_of}
@@ -13,11 +13,7 @@ source_at (k ∷ ks) zero l = refl
 source_at (k ∷ ks) (suc i) l = source_at ks i (omega (arith, l))
 
 pub source_is_home : (s : Setting) (c : ℕ) → c ≤ length s.catalogue.classes → source_of (home_of s) c ≡ home s.catalogue c
-source_is_home s zero l = refl
-source_is_home s (suc c) l =
-    let z : (suc c == 0) ≡ false = not_zero (suc c) (omega arith) in
-    let e : suc c - 1 ≡ c = omega arith in
-    rw (z, e) (source_at s.catalogue.classes c (omega (arith, l)))
+source_is_home s c l = grind (arith, not_zero, source_at)
 
 class_fits : (g : Input) (d : DmNo) (from : Site) (c : ℕ) → home g.catalogue c ≡ from → c ≤ length g.catalogue.classes → FitsClass (setting_of g (D d)) from c
 class_fits g d from c e l = record { is_class = l; home = sym e ∙ sym (source_is_home (setting_of g (D d)) c l) }
@@ -42,9 +38,7 @@ last_before xs m more h = fold_le (time_of m) 0 (map time_of xs) (omega arith) (
 -- its pipe with it
 pub pipe_with : (g : Input) (c : ℕ) (d : DmNo) (a : Site) (n : ℕ) (m : Msg) (log : Log) → goes_through c m ≡ true
     → all_of (pipe_at g c d (Hand a (D d) n m ∷ log)) ≡ all_of (pipe_at g c d log) ++ m ∷ []
-pipe_with g c d a n m log e =
-    let own : local_of g (D d) (Hand a (D d) n m ∷ log) ≡ Handed a m ∷ local_of g (D d) log = rw (site_self (D d)) refl in
-    ap (λ l. all_of (pipe c l)) own ∙ (rw e (sym (append_assoc (pipe_at g c d log).processed (pipe_at g c d log).unprocessed (m ∷ []))))
+pipe_with g c d a n m log e = grind (arith, site_self, all_of, append_assoc)
 
 in_turn : (g : Input) (c : ℕ) (d : DmNo) (a : Site) (n : ℕ) (m : Msg) (log : Log) → IsPermitted g (Hand a (D d) n m ∷ log)
     → number_of (home g.catalogue c) ≤ 63 → goes_through c m ≡ true → last_time (pipe c (local_of g (D d) log)) ≤ time_of m

@@ -1,5 +1,5 @@
 -- A site that makes attempts asks in turn, where each answer that is handed to it comes in turn.
-use Rattle.sdd_obligations.proofs.All.{Act, Asks, Attempt, Bases, Bool, D, Did, Each, Fetch, Handed, IsFair, IsOfUses, IsSend, IsStep, IsStrict, List, MayAsk, Msg, None, Option, Phase, Queued, Read, Reading, Reduce, Sends, Setting, Ship, Silent, Site, Some, Turn, [], a_held, a_hold, a_null, a_release, active, active_sent, after_send, and_left, and_no, ap, arith, ascending, asked_by, asks_rows, asks_whose, begins, commit_act, commit_puts, cond, contains, differ, dm_no, drawn_at, eqb-true, false, first_phase, fragments_in, head_of, if_way, if◌then◌else◌, inl, inr, is_a_read, is_exchanging, is_over, is_question, last_stamp, modules_asked, next_stamp, not_both, not_true as asks_not, number_of, of_exchange, one_attempt, own_started, questions, queue, refl, same_number, same_or_not, same_site, sends_of_act, site_is, stamp_below_next, stamp_rises, start_at, start_read, started, step_way_over, strict_modules, subst, sym, tail_of, to_site, true, turn_after_question, turn_at, uses_by, uses_in, uses_of, ℕ, ◌&&◌, ◌<◌, ◌==◌, ◌∙◌, ◌∷◌, ◌≡◌, ◌⊎◌}
+use Rattle.sdd_obligations.proofs.All.{Act, Asks, Attempt, Bases, Bool, D, Did, Each, Handed, IsFair, IsSend, IsStep, IsStrict, List, MayAsk, Msg, None, Option, Phase, Queued, Reading, Sends, Setting, Silent, Site, Some, Turn, [], active, active_sent, after_send, and_left, and_no, ap, arith, ascending, asked_by, asks_rows, asks_whose, begins, commit_act, commit_puts, cond, contains, differ, dm_no, drawn_at, eqb-true, false, first_phase, fragments_in, head_of, if_way, if◌then◌else◌, inl, inr, is_a_read, is_exchanging, is_over, is_question, last_stamp, modules_asked, next_stamp, not_both, not_true as asks_not, one_attempt, own_started, questions, queue, refl, same_number, same_or_not, same_site, sends_of_act, site_is, stamp_below_next, stamp_rises, start_at, start_read, started, step_way_over, strict_modules, subst, sym, tail_of, to_site, true, turn_after_question, turn_at, uses_by, uses_in, uses_of, ℕ, ◌&&◌, ◌<◌, ◌==◌, ◌∙◌, ◌∷◌, ◌≡◌, ◌⊎◌}
 use Rattle.sdd_obligations.proofs.AtTurn.{IsAt, IsAtTurn, answered_last, apart, awaited, awaits, unsent}
 use Rattle.sdd_obligations.proofs.FirstSends.{IsFirstEach, IsFirstSend}
 use Rattle.sdd_obligations.proofs.Modules.{firsts, read_firsts, read_modules, read_uses, sent_to_each, to_module, below_not as not_below}
@@ -11,21 +11,13 @@ use Rattle.sdd_invariants.specs.site_module.SiteLog.{Log}
 -- a send
 
 pub asks_is_question : (t k ts c : ℕ) (m : Msg) → asks_rows t k m ≡ true → is_question ts c m ≡ asks_rows ts c m
-asks_is_question t k ts c (Fetch a b u col) e = refl
-asks_is_question t k ts c (Reduce a b u col vs) e = refl
-asks_is_question t k ts c (Ship a b) e = refl
-asks_is_question t k ts c m e = cc
+asks_is_question t k ts c m e = grind arith
 
 pub send_is_question : (s : Setting) (log : Log) (ts c : ℕ) (m : Msg) → IsSend s log m → is_question ts c m ≡ asks_rows ts c m
-send_is_question s log ts c m (of_exchange k a at i e w) = asks_is_question a.ts k ts c m e
-send_is_question s log ts c m (a_null k at e) = ap (is_question ts c) e ∙ sym (ap (asks_rows ts c) e)
-send_is_question s log ts c m (a_held e) = ap (is_question ts c) e ∙ sym (ap (asks_rows ts c) e)
-send_is_question s log ts c m (a_hold e) = ap (is_question ts c) e ∙ sym (ap (asks_rows ts c) e)
-send_is_question s log ts c m (a_release t e) = ap (is_question ts c) e ∙ sym (ap (asks_rows ts c) e)
+send_is_question s log ts c m e = grind (arith, asks_is_question)
 
 uses_kept : (m : Msg) (ns : List ℕ) → is_a_read m ≡ false → uses_by m ns ≡ ns
-uses_kept (Read a b txn attempt conds uses) ns e = cc
-uses_kept _ ns e = refl
+uses_kept m ns e = grind arith
 
 -- the turns after a question to a site
 abbrev after_question : ℕ → Site → Msg → Turns → Turns
@@ -56,16 +48,13 @@ sent_at n d m rest ms p lacks v false r z (apart a i e g) = apart (subst (λ (b 
 
 -- where no question is sent
 not_asked_turn : (c : ℕ) (to : Site) (m : Msg) (v : Turns) (ts d : ℕ) → asks_rows ts c m ≡ false → after_question c to m v ts d ≡ v ts d
-not_asked_turn c to m v ts d e =
-    ap (λ (b : Bool). if same_site (D (dm_no d)) to && b then turn_after_question m (v ts d) else v ts d) e
-    ∙ ap (λ (b : Bool). if b then turn_after_question m (v ts d) else v ts d) (and_no (same_site (D (dm_no d)) to))
+not_asked_turn c to m v ts d e = grind arith
 
 none_attempt : (s : Setting) (c : ℕ) (log : Log) (b : Attempt) → active s c log ≡ None → active s c log ≡ Some b → ⊥
 none_attempt s c log b e f = let p : ◌≡◌ {A = Option Attempt} None (Some b) = sym e ∙ f in cc
 
 pub and_true : (b : Bool) (x y : Turn) → (if b && true then x else y) ≡ (if b then x else y)
-and_true true x y = refl
-and_true false x y = refl
+and_true b x y = grind arith
 
 asked_own : (s : Setting) (c : ℕ) (log : Log) (to : Site) (m : Msg) (hand : Option ℕ) (a : Attempt) (v : Turns) (ts d : ℕ)
     → IsFirstSend s log (Sends to m hand) → active s c log ≡ Some a → AllAtTurn (Some a) v → asks_rows a.ts c m ≡ true
@@ -88,9 +77,7 @@ asked_own s c log to m hand a v ts d first e h q =
 
 sent_turns : (s : Setting) (c : ℕ) (log : Log) (to : Site) (m : Msg) (hand : Option ℕ) (o : Option Attempt) (v : Turns)
     → IsFirstSend s log (Sends to m hand) → active s c log ≡ o → AllAtTurn o v → AllAtTurn (active_sent c m o) (after_question c to m v)
-sent_turns s c log to m hand None v first i h = λ ts d.
-    (let q : asks_rows ts c m ≡ false = asks_not (asks_rows ts c m) (λ e. let f = first ts c e in none_attempt s c log f.attempt i f.active_is) in
-    subst (λ w. is_exchanging w ≡ false) (sym (not_asked_turn c to m v ts d q)) (h ts d))
+sent_turns s c log to m hand None v first i h = grind (arith, none_attempt, not_asked_turn)
 sent_turns s c log to m hand (Some a) v first i h =
     elim (asks_rows a.ts c m) as (λ b. asks_rows a.ts c m ≡ b
     → AllAtTurn (if b then Some (record a { exchange = after_send a.exchange }) else Some a)
@@ -110,21 +97,16 @@ sent_turns s c log to m hand (Some a) v first i h =
     ] refl
 
 sent_strict : (c : ℕ) (m : Msg) (o : Option Attempt) → IsStrictOf o → IsStrictOf (active_sent c m o)
-sent_strict c m None h = tt
-sent_strict c m (Some a) h = if_way IsStrictOf (asks_rows a.ts c m) (Some (record a { exchange = after_send a.exchange })) (Some a) h h
+sent_strict c m o h = grind (arith, if_way)
 
 -- what a send asks of module d
 send_turn : (s : Setting) (c : ℕ) (log : Log) (to : Site) (m : Msg) (hand : Option ℕ) (ts d : ℕ) → IsSend s log m
     → turn_at ts c d (Did (Sends to m hand) ∷ log) ≡ after_question c to m (λ ts d. turn_at ts c d log) ts d
-send_turn s c log to m hand ts d i =
-    asked_one ts c (same_site (D (dm_no d)) to) m (turn_at ts c d log)
-    ∙ ap (λ (b : Bool). if same_site (D (dm_no d)) to && b then turn_after_question m (turn_at ts c d log) else turn_at ts c d log) (send_is_question s log ts c m i)
+send_turn s c log to m hand ts d i = grind (arith, asked_one, turn_at, send_is_question)
 
 drawn_question : (s : Setting) (c : ℕ) (log : Log) (to : Site) (m : Msg) (hand : Option ℕ) (ts : ℕ) → Each (IsFair s) log
     → IsFirstSend s log (Sends to m hand) → last_stamp s log < ts → asks_rows ts c m ≡ false
-drawn_question s c log to m hand ts fair first l = asks_not (asks_rows ts c m) (λ e.
-    let f = first ts c e in
-    absurd (omega (arith, drawn_at s c log f.attempt fair f.active_is, f.ts_is, l)))
+drawn_question s c log to m hand ts fair first l = grind (arith, drawn_at)
 
 in_turn_send : (s : Setting) (c : ℕ) (log : Log) (to : Site) (m : Msg) (hand : Option ℕ) → Each (IsFair s) log
     → IsFirstSend s log (Sends to m hand) → IsSend s log m → InTurn s c log → InTurn s c (Did (Sends to m hand) ∷ log)
@@ -154,13 +136,10 @@ start_turn s k log q c ts d =
 
 not_started_turn : (s : Setting) (k : ℕ) (log : Log) (q : Queued) (c ts d : ℕ) (v : Turns) → ((next_stamp s log == ts) && (k == c)) ≡ false
     → after_start s k log q c v ts d ≡ v ts d
-not_started_turn s k log q c ts d v e =
-    ap (λ (b : Bool). if contains (modules_asked s k q.text) d && b then turn_after_question (start_read s k log q d) (v ts d) else v ts d) e
-    ∙ ap (λ (b : Bool). if b then turn_after_question (start_read s k log q d) (v ts d) else v ts d) (and_no (contains (modules_asked s k q.text) d))
+not_started_turn s k log q c ts d v e = grind arith
 
 first_reading : (ms : List (ℕ × List ℕ)) (d : ℕ) → contains (firsts ms) d ≡ true → first_phase ms ≡ Reading
-first_reading [] d e = cc
-first_reading (m ∷ ms) d e = refl
+first_reading ms d e = grind arith
 
 abbrev start_numbers : Setting → ℕ → Log → Queued → ℕ → List ℕ
 start_numbers s k log q d = uses_by (start_read s k log q d) []
@@ -241,21 +220,12 @@ in_turn_other s k c log q p h =
 
 commit_turn : (s : Setting) (k : ℕ) (bases : Bases) (a : Attempt) (log : Log) (ts c d : ℕ)
     → turn_at ts c d (Did (commit_act s.catalogue bases k a) ∷ log) ≡ turn_at ts c d log
-commit_turn s k bases a log ts c d = elim (commit_puts s k bases (D (dm_no d)) a) [
-  | inl e ↦ ap (λ l. asked_by (questions ts c l) (turn_at ts c d log)) e
-  | inr p ↦ ap (λ l. asked_by (questions ts c l) (turn_at ts c d log)) p.1
-]
+commit_turn s k bases a log ts c d = grind (arith, commit_puts, asked_by, turn_at)
 
 commit_of : (s : Setting) (k c : ℕ) (bases : Bases) (a : Attempt) (log : Log) (o : Option Attempt)
     → active s c (Did (commit_act s.catalogue bases k a) ∷ log) ≡ o → AllAtTurn o (λ ts d. turn_at ts c d log) → IsStrictOf o
     → ((ts d : ℕ) → last_stamp s log < ts → turn_at ts c d log ≡ Silent) → InTurn s c (Did (commit_act s.catalogue bases k a) ∷ log)
-commit_of s k c bases a log o e h strict fresh = record {
-  turns = subst (λ o. AllAtTurn o (λ ts d. turn_at ts c d (Did (commit_act s.catalogue bases k a) ∷ log))) (sym e)
-      (turns_now o (λ ts d. turn_at ts c d log)
-      (λ ts d. turn_at ts c d (Did (commit_act s.catalogue bases k a) ∷ log)) (λ ts d. commit_turn s k bases a log ts c d) h);
-  fresh = λ ts d l. commit_turn s k bases a log ts c d ∙ fresh ts d (omega (arith, l));
-  strict = subst IsStrictOf (sym e) strict;
-}
+commit_of s k c bases a log o e h strict fresh = grind (arith, turn_at, turns_now, commit_turn)
 
 over_turns : (a : Attempt) (v : Turns) → is_over a.exchange.phase ≡ true → AllAtTurn (Some a) v → AllAtTurn None v
 over_turns a v e h ts d = quiet_but a v ts d h (λ i. quiet_over d a.exchange (v ts d) e i)
@@ -279,9 +249,7 @@ pub in_turn : (s : Setting) (c : ℕ) (log : Log) → Each (IsFair s) log → Ea
 in_turn s c [] fair first timely = record { turns = λ ts d. refl; fresh = λ ts d l. refl; strict = tt }
 in_turn s c (Handed from m ∷ log) fair first timely = in_turn_hand s c log from m timely.0 (in_turn s c log fair.1 first.1 timely.1)
 in_turn s c (Did act ∷ log) fair first timely = in_turn_act s c log act fair.1 fair.0 first.0 (in_turn s c log fair.1 first.1 timely.1)
-in_turn s c (x ∷ log) fair first timely =
-    let i = in_turn s c log fair.1 first.1 timely.1 in
-    record { turns = i.turns; fresh = λ ts d l. i.fresh ts d (let r = stamp_rises s x log in omega (arith, l, r)); strict = i.strict }
+in_turn s c (x ∷ log) fair first timely = grind (arith, stamp_rises, in_turn s c log fair.1 first.1 timely.1)
 
 -- what the site puts is turn_after_question in turn
 
@@ -289,12 +257,10 @@ abbrev pub IsInTurn : Turn → List Msg → Type 0
 IsInTurn v ms = (ms ≡ []) ⊎ ((m : Msg) × (ms ≡ m ∷ []) × MayAsk v m)
 
 questions_one : (ts c : ℕ) (b : Bool) (m : Msg) → questions ts c (if b then m ∷ [] else []) ≡ (if b && is_question ts c m then m ∷ [] else [])
-questions_one ts c false m = refl
-questions_one ts c true m = elim (is_question ts c m) as (λ x. cond x (m ∷ []) [] ≡ (if x then m ∷ [] else [])) [ true ↦ refl | false ↦ refl ]
+questions_one ts c b m = grind (arith, cond)
 
 one_in_turn : (v : Turn) (ms : List Msg) (b x : Bool) (m : Msg) → ms ≡ (if b && x then m ∷ [] else []) → (b ≡ true → x ≡ true → MayAsk v m) → IsInTurn v ms
-one_in_turn v ms true true m e f = inr (m, e, f refl refl)
-one_in_turn v ms _ _ m e f = inl e
+one_in_turn v ms b x m e f = grind arith
 
 may_start : (v : Turn) (s : Setting) (k : ℕ) (log : Log) (q : Queued) (d : ℕ) → v ≡ Silent → MayAsk v (start_read s k log q d)
 may_start v s k log q d e = subst (λ w. MayAsk w (start_read s k log q d)) (sym e) refl
@@ -302,25 +268,11 @@ may_start v s k log q d e = subst (λ w. MayAsk w (start_read s k log q d)) (sym
 -- of the first message to be sent
 may_send : (d : ℕ) (m : Msg) (rest : List (ℕ × Msg)) (ms : List (ℕ × List ℕ)) (p : Phase) (lacks : List ℕ) (v : Turn)
     → IsAt d ms p ((d, m) ∷ rest) lacks v → MayAsk v m
-may_send d m rest ms p lacks v (unsent q x ns a i e s u w f g) =
-    let k = cons_is m q (to_module d rest) [] (subst (λ (b : Bool). (if b then m ∷ to_module d rest else to_module d rest) ≡ q ∷ []) (same_number d) a) in
-    subst (λ w. MayAsk w m) (sym e) (s, subst (IsOfUses ns) (sym k.0) u)
-may_send d m rest ms p lacks v (awaited q ns a i e w f g) =
-    nothing_there m (to_module d rest) (subst (λ (b : Bool). (if b then m ∷ to_module d rest else to_module d rest) ≡ []) (same_number d) a)
-may_send d m rest ms p lacks v (answered_last q ns a i e s f g) =
-    nothing_there m (to_module d rest) (subst (λ (b : Bool). (if b then m ∷ to_module d rest else to_module d rest) ≡ []) (same_number d) a)
-may_send d m rest ms p lacks v (apart a i e g) =
-    nothing_there m (to_module d rest) (subst (λ (b : Bool). (if b then m ∷ to_module d rest else to_module d rest) ≡ []) (same_number d) a)
+may_send d m rest ms p lacks v e = grind (arith, unsent, cons_is, same_number, awaited, answered_last, apart)
 
 may_sent : (s : Setting) (c : ℕ) (log : Log) (to : Site) (m : Msg) (hand : Option ℕ) (ts d : ℕ) → IsFirstSend s log (Sends to m hand)
     → InTurn s c log → same_site (D (dm_no d)) to ≡ true → asks_rows ts c m ≡ true → MayAsk (turn_at ts c d log) m
-may_sent s c log to m hand ts d first h e q =
-    let f = first ts c q in
-    let here : d ≡ f.module_no = ap number_of (site_is (D (dm_no d)) to e ∙ f.to_is) in
-    let at : AtTurn ts d (Some f.attempt) (turn_at ts c d log) = subst (λ o. AtTurn ts d o (turn_at ts c d log)) f.active_is (h.turns ts d) in
-    let sends : f.attempt.exchange.to_send ≡ (d, m) ∷ f.rest = subst (λ n. f.attempt.exchange.to_send ≡ (n, m) ∷ f.rest) (sym here) f.first in
-    may_send d m f.rest f.attempt.exchange.modules f.attempt.exchange.phase f.attempt.exchange.lacks (turn_at ts c d log)
-    (subst (λ l. IsAt d f.attempt.exchange.modules f.attempt.exchange.phase l f.attempt.exchange.lacks (turn_at ts c d log)) sends (at.0 f.ts_is))
+may_sent s c log to m hand ts d first h e q = grind (arith, site_is, turn_at, may_send)
 
 pub asks_in_turn : (s : Setting) (c : ℕ) (log : Log) (act : Act) (ts d : ℕ) → IsStep s log act → IsFirstSend s log act → InTurn s c log
     → IsInTurn (turn_at ts c d log) (questions ts c (to_site (D (dm_no d)) (sends_of_act act)))

@@ -1,6 +1,6 @@
 -- What a READ says: its conditions are on classes of the catalogue and ascend by class, its uses ascend by number, and its
 -- module has copies of their fragments.
-use Rattle.sdd_obligations.proofs.All.{Act, All-from_recursion, AllByRecursion, AllGt, AllLe, Bool, Catalogue, Cond, Condition, D, Delete, Did, DmNo, Each, FragNo, Hand, Input, IsFair, IsHere, IsPermitted, IsReadable, IsSend, IsStep, IsStrict, List, Msg, None, Option, Put, Query, Queued, Read, RelNo, Setting, Site, Some, Stmt, Update, Use, [], a_held, a_hold, a_null, a_release, ap, arith, ascending, both, bound, commit_puts, cond, cond_of, condition_on, conditions, conditions_at, cons_option, current_era, dm_no, each_at, eqb-true, false, filter, filter_map, frag_no, fragments_in, fragments_of, gt_down, hand_was_put, handed, has_copy, home, home_fair, if_way, in_if, in_none, in_one, inl, inr, is_a_read, is_asked, is_read_at, length, local_of, map, modules_asked, never, next_stamp, of_exchange, option_eq, part_uses, puts_to, range_with_len, reads_at, refl, same_number, sends_of_act, served_read, setting_of, slice_get, start_read, statement_uses, step_way, subst, suc, sym, the_one, to_site, true, undeclared_conditions, use_there, uses_from, uses_of, was_put, with_frags, zero, ℕ, ◌&&◌, ◌++◌, ◌+◌, ◌<◌, ◌==◌, ◌∙◌, ◌∷◌, ◌≡◌, ◌≤◌}
+use Rattle.sdd_obligations.proofs.All.{Act, All-from_recursion, AllByRecursion, AllGt, AllLe, Bool, Catalogue, Cond, Condition, D, Delete, Did, DmNo, Each, FragNo, Hand, Input, IsFair, IsHere, IsPermitted, IsReadable, IsSend, IsStep, IsStrict, List, Msg, Option, Put, Query, Queued, Read, RelNo, Setting, Site, Some, Stmt, Update, Use, [], ap, arith, ascending, both, bound, commit_puts, cond, cond_of, condition_on, conditions, conditions_at, cons_option, current_era, dm_no, each_at, eqb-true, false, filter, filter_map, frag_no, fragments_in, fragments_of, gt_down, hand_was_put, handed, has_copy, home, home_fair, if_way, in_if, in_none, in_one, inl, inr, is_a_read, is_asked, is_read_at, length, local_of, map, modules_asked, never, next_stamp, option_eq, part_uses, puts_to, range_with_len, reads_at, refl, same_number, sends_of_act, served_read, setting_of, slice_get, start_read, statement_uses, step_way, subst, suc, sym, the_one, to_site, true, undeclared_conditions, use_there, uses_from, uses_of, was_put, with_frags, zero, ℕ, ◌&&◌, ◌++◌, ◌+◌, ◌<◌, ◌==◌, ◌∙◌, ◌∷◌, ◌≡◌, ◌≤◌}
 use Rattle.sdd_obligations.proofs.Ascending.{condition_class, conditions_strict, strict_ascends}
 use Rattle.sdd_obligations.proofs.QuestionsComeInTurn.{strict_asked}
 use Rattle.sdd_obligations.proofs.FirstSends.{IsFirstEach, IsFirstSend}
@@ -22,10 +22,7 @@ conds_in_range : (f : ℕ → Option Cond) (a n bound : ℕ) → ((j : ℕ) (q :
 conds_in_range f a zero bound g l = tt
 conds_in_range f a (suc n) bound g l =
     let i = conds_in_range f (a + 1) n bound g (omega (arith, l)) in
-    elim (f a) as (λ o. f a ≡ o → AllByRecursion (IsOn bound) (cons_option o (filter_map f (range_with_len (a + 1) n)))) [
-      | None ↦ λ e. i
-      | Some q ↦ λ e. (let k = g a q e in omega (arith, l, k), i)
-    ] refl
+    grind arith
 
 undeclared_in_range : (own : ℕ) (fs : List FragNo) (a n bound : ℕ) → a + n ≤ suc bound
     → AllByRecursion (IsOn bound) (map (λ c. cond_of c own fs) (range_with_len a n))
@@ -106,12 +103,7 @@ all_numbered cat before (s ∷ rest) =
 
 there_above : (cat : Catalogue) (c d k : ℕ) (us : List Use) → AllGt k (numbers us) → AllGt k (numbers (filter_map (use_there cat c d) us))
 there_above cat c d k [] h = tt
-there_above cat c d k (u ∷ us) h =
-    elim (filter (λ (f : FragNo). is_read_at cat c d f.0) u.frags) as (λ l. AllGt k
-    (numbers (cons_option (with_frags u l) (filter_map (use_there cat c d) us)))) [
-      | [] ↦ there_above cat c d k us h.1
-      | f ∷ fs ↦ (h.0, there_above cat c d k us h.1)
-    ]
+there_above cat c d k (u ∷ us) h = grind (arith, is_read_at, use_there, there_above cat c d k us h.1)
 
 there_strict : (cat : Catalogue) (c d : ℕ) (us : List Use) → IsStrict (numbers us) → IsStrict (numbers (filter_map (use_there cat c d) us))
 there_strict cat c d [] h = tt
@@ -135,12 +127,7 @@ frags_in_range : (cat : Catalogue) (p : ℕ → Bool) (a n : ℕ) → 1 ≤ a �
 frags_in_range cat p a zero h l = tt
 frags_in_range cat p a (suc n) h l =
     let i = frags_in_range cat p (a + 1) n (omega arith) (omega (arith, l)) in
-    elim (p a) as (λ b. AllByRecursion (IsFragment cat)
-    (map frag_no (cond b (a ∷ filter p (range_with_len (a + 1) n))
-    (filter p (range_with_len (a + 1) n))))) [
-      | true ↦ ((h, omega (arith, l)), i)
-      | false ↦ i
-    ]
+    grind (arith, cond)
 
 parts_placed : (cat : Catalogue) (before : ℕ) (conds : List Condition) (part : ℕ) (rels : List RelNo)
     → AllByRecursion (AreFragments cat) (part_uses cat before conds part rels)
@@ -162,12 +149,10 @@ join_placed cat (u ∷ us) vs h i = (h.0, join_placed cat us vs h.1 i)
 all_placed : (cat : Catalogue) (before : ℕ) (ss : List Stmt) → AllByRecursion (AreFragments cat) (uses_from cat before ss)
 all_placed cat before [] = tt
 all_placed cat before (s ∷ rest) =
-    join_placed cat (statement_uses cat before s) (uses_from cat (before + length (statement_uses cat before s)) rest) (statement_placed cat before s)
-    (all_placed cat (before + length (statement_uses cat before s)) rest)
+    grind (arith, join_placed, statement_placed, all_placed cat (before + length (statement_uses cat before s)) rest)
 
 pub same_option : (o : Option ℕ) (d : ℕ) → option_eq ◌==◌ o (Some d) ≡ true → o ≡ Some d
-same_option None d e = cc
-same_option (Some x) d e = ap (λ y. Some y) (eqb-true x d e)
+same_option o d e = grind (arith, eqb-true)
 
 copies_there : (cat : Catalogue) (c d : ℕ) (fs : List FragNo) → catalogues.IsSoundCatalogue cat → c ≤ length cat.classes → AllByRecursion (IsFragment cat) fs
     → AllByRecursion (λ (f : FragNo). has_copy cat d f.0 ≡ true) (filter (λ (f : FragNo). is_read_at cat c d f.0) fs)
@@ -204,11 +189,7 @@ record IsReadOf (s : Setting) (log : Log) (d : ℕ) (m : Msg) : Type 0 where
   is : start_read s class log queued d ≡ m
 
 send_no_read : (s : Setting) (log : Log) (m : Msg) → IsSend s log m → is_a_read m ≡ false
-send_no_read s log m (of_exchange k a at i e w) = asks_no_read a.ts k m e
-send_no_read s log m (a_null k at e) = ap is_a_read e
-send_no_read s log m (a_held e) = ap is_a_read e
-send_no_read s log m (a_hold e) = ap is_a_read e
-send_no_read s log m (a_release t e) = ap is_a_read e
+send_no_read s log m e = grind (arith, asks_no_read)
 
 act_read : (s : Setting) (log : Log) (act : Act) (d place : ℕ) (m : Msg) → IsStep s log act → IsFirstSend s log act
     → slice_get (to_site (D (dm_no d)) (sends_of_act act)) place ≡ Some m → is_a_read m ≡ true → IsReadOf s log d m

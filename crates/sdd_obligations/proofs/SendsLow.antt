@@ -1,5 +1,5 @@
 -- What a site that runs transactions sends lies below its clock's height.
-use Rattle.sdd_obligations.proofs.All.{Act, AllLe, AllLow, Attempt, Bases, Bool, Catalogue, Commit, Cond, D, Did, Each, Fetch, FragNo, Handed, Hold, HoldRule, IsFair, IsLow, IsSend, IsStepU, List, Msg, None, Option, P2, P3, Queued, Records, Reduce, Release, Sends, Served, Setting, Ship, Site, Some, Submits, T, TmNo, Ts, [], a_held, a_hold, a_null, a_release, active, arith, ascending, asks_rows, bound, clock, clock_number, commit_act, commit_puts, cond_for, cond_of, condition_on, conditions_at, current_era, dm_no, drawn, drawn_at, frag_no, fragments_in, fragments_of, hand_ts, hold_rule, if_way, inl, inr, is_asked, last_served, last_stamp, limit_le, map, next_stamp, number_of, of_exchange, option_or, refl, same_site, sends_of_act, served_acted, stamp_or, stamp_rises, start_at, start_puts, start_read, starts_by, step_way, subst, suc, sym, t_step, tm_no, to_site, top, true, ts_of, u_way, uses_of, ℕ, ◌+◌, ◌==◌, ◌∷◌, ◌≡◌, ◌≤◌}
+use Rattle.sdd_obligations.proofs.All.{Act, AllLe, AllLow, Attempt, Bases, Bool, Catalogue, Cond, D, Did, Each, FragNo, Handed, Hold, HoldRule, IsFair, IsLow, IsSend, IsStepU, List, Msg, None, Option, Queued, Release, Sends, Served, Setting, Site, Submits, T, TmNo, Ts, [], active, arith, ascending, asks_rows, bound, clock, clock_number, commit_act, commit_puts, cond_for, cond_of, condition_on, conditions_at, current_era, dm_no, drawn, drawn_at, frag_no, fragments_in, fragments_of, hold_rule, if_way, inl, inr, is_asked, last_served, last_stamp, limit_le, map, next_stamp, number_of, option_or, refl, same_site, sends_of_act, served_acted, stamp_or, stamp_rises, start_at, start_puts, start_read, starts_by, step_way, subst, suc, t_step, tm_no, to_site, top, true, ts_of, u_way, uses_of, ℕ, ◌+◌, ◌==◌, ◌∷◌, ◌≡◌, ◌≤◌}
 use Rattle.sdd_obligations.proofs.LowLists.{IsEarlyCond, all_low_up, conds_all_le, conds_le, low_one}
 use Rattle.sdd_invariants.specs.All.{asked_by, classes_of}
 use Rattle.sdd_invariants.specs.site_module.SiteLog.{Log}
@@ -10,18 +10,14 @@ use Rattle.sdd_invariants.specs.tm.Views as tm_views
 -- the conditions of a READ tell its own time or that of P2
 
 for_le : (k j t : ℕ) (fs : List FragNo) → t ≤ k → IsEarlyCond k (cond_for j t fs)
-for_le k j t [] l = tt
-for_le k j t (f ∷ fs) l = l
+for_le k j t fs l = grind arith
 
 either_le : (k : ℕ) (a b : Option Cond) → IsEarlyCond k a → IsEarlyCond k b → IsEarlyCond k (option_or a b)
-either_le k None b h i = i
-either_le k (Some d) b h i = h
+either_le k a b h i = grind arith
 
 condition_le : (k : ℕ) (asked : ℕ → Bool) (entries : List line.Entry) (i own p2 j : ℕ) → own ≤ k → p2 ≤ k
     → IsEarlyCond k (condition_on asked entries i own p2 j)
-condition_le k asked entries i own p2 j l m =
-    either_le k (cond_for j own (asked_by P3 asked entries i j))
-    (cond_for j p2 (asked_by P2 asked entries i j)) (for_le k j own (asked_by P3 asked entries i j) l) (for_le k j p2 (asked_by P2 asked entries i j) m)
+condition_le k asked entries i own p2 j l m = grind (arith, either_le, asked_by, for_le)
 
 abbrev AreEarly : ℕ → List Cond → Type 0
 AreEarly k ds = AllLe k (map (λ (d : Cond). d.time.0) ds)
@@ -73,19 +69,13 @@ bound_low : (h : ℕ) (s : Setting) (log : Log) → (clock s.site log).ticks ≤
 bound_low h s log l = omega arith
 
 commit_low : (h : ℕ) (s : Setting) (c : ℕ) (bases : Bases) (a : Attempt) → a.ts ≤ top h → PutsLow h (commit_act s.catalogue bases c a)
-commit_low h s c bases a l b = low_more (starts_by (commit_act s.catalogue bases c a)) h _ (elim (commit_puts s c bases b a) [
-  | inl e ↦ none_low h _ e
-  | inr p ↦ one_low h _ _ (l, tt) p.1
-])
+commit_low h s c bases a l b = grind (arith, low_more, commit_puts, none_low, one_low)
 
 send_low : (h : ℕ) (to : Site) (m : Msg) (hand : Option ℕ) → IsLow h m → PutsLow h (Sends to m hand)
 send_low h to m hand i b = low_more (starts_by (Sends to m hand)) h _ (low_one h (same_site b to) m i)
 
 asks_low : (h ts c : ℕ) (m : Msg) → asks_rows ts c m ≡ true → IsLow h m
-asks_low h ts c (Fetch a b t u) e = tt
-asks_low h ts c (Reduce a b t u v) e = tt
-asks_low h ts c (Ship a b) e = tt
-asks_low h ts c _ e = cc
+asks_low h ts c m e = grind arith
 
 -- at a T
 
@@ -95,13 +85,7 @@ released_not h s log to m hand ts e r = absurd (subst (λ x. HoldRule s log (Sen
 
 t_send : (h : ℕ) (s : Setting) (log : Log) (to : Site) (m : Msg) (hand : Option ℕ) → number_of s.site ≤ 63
     → (clock s.site log).ticks ≤ h → Each (IsFair s) log → IsSend s log m → HoldRule s log (Sends to m hand) → PutsLow h (Sends to m hand)
-t_send h s log to m hand w l f (of_exchange c a at i e p) r = send_low h to m hand (asks_low h a.ts c m e)
-t_send h s log to m hand w l f (a_null c at e) r =
-    let k = limit_le s log c w f in let n = bound_low h s log l in
-    send_low h to m hand (subst (IsLow h) (sym e) (omega (arith, k, n), tt))
-t_send h s log to m hand w l f (a_held e) r = send_low h to m hand (subst (IsLow h) (sym e) (bound_low h s log l, tt))
-t_send h s log to m hand w l f (a_hold e) r = send_low h to m hand (subst (IsLow h) (sym e) tt)
-t_send h s log to m hand w l f (a_release ts e) r = released_not h s log to m hand ts e r
+t_send h s log to m hand w l f e r = grind (arith, send_low, asks_low, limit_le, bound_low, released_not)
 
 pub t_low : (h : ℕ) (s : Setting) (t : TmNo) (bases : Bases) (log : Log) (act : Act) → s.site ≡ T t → number_of s.site ≤ 63
     → (clock s.site log).ticks ≤ h → Each (IsFair s) log → tm.IsDue s.catalogue bases (tm_views.view_of s log) act → PutsLow h act
@@ -112,22 +96,16 @@ t_low h s t bases log act at w l f d = step_way s log act (λ x. HoldRule s log 
 -- at U: the time of a RELEASE is that of the attempt that was served last
 
 ts_is : (o : Option Attempt) (k : ℕ) → stamp_or o ≤ k → ts_of o ≤ k
-ts_is None k h = omega arith
-ts_is (Some a) k h = h
+ts_is o k h = grind arith
 
 act_ts : (act : Act) (o : Option Attempt) (v : Served) (k : ℕ) → stamp_or o ≤ k → v.ts ≤ k → (served_acted act o v).ts ≤ k
-act_ts (Records c (Commit txn attempt reply changes values rows) sends) o v k h i = ts_is o k h
-act_ts act o v k h i = i
+act_ts act o v k h i = grind (arith, ts_is)
 
 pub served_low : (s : Setting) (log : Log) → Each (IsFair s) log → (last_served s log).ts ≤ last_stamp s log
 served_low s [] f = omega arith
-served_low s (Handed from m ∷ log) f =
-    let i = served_low s log f.1 in let r = stamp_rises s (Handed from m) log in
-    rw (hand_ts m (last_served s log)) (omega (arith, i, r))
+served_low s (Handed from m ∷ log) f = grind (arith, stamp_rises, served_low s log f.1)
 served_low s (Submits n txn ∷ log) f = served_low s log f.1
-served_low s (Did act ∷ log) f =
-    let i = served_low s log f.1 in let d = drawn s log f.1 0 in let r = stamp_rises s (Did act) log in
-    act_ts act (active s 0 log) (last_served s log) (last_stamp s (Did act ∷ log)) (omega (arith, d, r)) (omega (arith, i, r))
+served_low s (Did act ∷ log) f = grind (arith, drawn, stamp_rises, act_ts, active, served_low s log f.1)
 served_low s (x ∷ log) f = let i = served_low s log f.1 in let r = stamp_rises s x log in omega (arith, i, r)
 
 pub u_low : (h : ℕ) (s : Setting) (log : Log) (act : Act) → number_of s.site ≤ 63 → (clock s.site log).ticks ≤ h

@@ -1,15 +1,12 @@
 -- Questions of a class are put by the site that runs it, which is the one to which a data module answers; and what is sent
 -- first on permitted logs.
-use Rattle.sdd_obligations.proofs.All.{Act, Bool, Catalogue, Class, ClassNo, Cond, D, Did, DmNo, Each, Fetch, Hand, Handed, Input, IsClassHere, IsDueEach, IsFair, IsFetch, IsPermitted, IsPutByD, IsReduce, IsSend, IsShip, IsStep, List, Log, Msg, Read, Ready, Reduce, Reduced, Reject, Rows, Setting, Ship, Site, Some, T, TmNo, Ts, TxnNo, U, Use, Values, WasAsked, [], a_held, a_hold, a_null, a_release, and_right, ap, append_assoc, arith, asks_rows, asks_whose, base_of, class_at, commit_puts, d_fair, dm_no, each_at, each_local, eqb-true, false, hand_was_put, handed, head, home, home_fair, home_of, if_way, if◌then◌else◌, in_none, in_one, inl, inr, is_answer, is_question, length, local_of, map, never, next_stamp, of_exchange, permitted_before, pipe, place_of_hand, put_by_d, puts_to, refl, same_site, sends_of_act, setting_of, slice_get, slice_index_or, source_of, start_puts, start_read, step_way, subst, suc, suc_no_zero, sym, t_fair, the_one, tm_no, to_site, true, u_fair, was_put, zero, ℕ, ◌&&◌, ◌++◌, ◌-◌, ◌<◌, ◌==◌, ◌∙◌, ◌∷◌, ◌≡◌, ◌≤◌}
+use Rattle.sdd_obligations.proofs.All.{Act, Catalogue, Class, ClassNo, Cond, D, Did, DmNo, Each, Hand, Handed, Input, IsClassHere, IsDueEach, IsFair, IsFetch, IsPermitted, IsPutByD, IsReduce, IsSend, IsShip, IsStep, List, Log, Msg, Read, Ready, Reduced, Reject, Rows, Setting, Site, Some, T, TmNo, Ts, TxnNo, U, Use, Values, WasAsked, [], and_right, ap, append_assoc, arith, asks_rows, asks_whose, base_of, class_at, commit_puts, d_fair, dm_no, each_at, each_local, eqb-true, false, hand_was_put, handed, head, home, home_fair, home_of, if_way, in_none, in_one, inl, inr, is_answer, is_question, length, local_of, map, never, next_stamp, permitted_before, pipe, place_of_hand, put_by_d, puts_to, refl, same_site, sends_of_act, setting_of, slice_get, slice_index_or, source_of, start_puts, start_read, step_way, subst, suc, sym, t_fair, the_one, tm_no, to_site, true, u_fair, was_put, zero, ℕ, ◌&&◌, ◌++◌, ◌-◌, ◌<◌, ◌==◌, ◌∙◌, ◌∷◌, ◌≡◌, ◌≤◌}
 use Rattle.sdd_obligations.proofs.FirstSends.{IsFirstEach, IsFirstSend, t_first, u_first}
 use Rattle.sdd_obligations.proofs.QuestionsComeInTurn.{send_is_question}
 use Rattle.sdd_obligations.proofs.AnswersComeInTurn.{head_through}
 use Rattle.sdd_invariants.specs.site_module.SiteLog as site
 
 -- the site that runs a class, as a data module has it
-
-abbrev no_class : Class
-no_class = record { name = []; tm = tm_no 0; reads = []; writes = [] }
 
 class_there : (ks : List Class) (n : ℕ) (k : Class) → n < length ks
     → slice_index_or (map (λ (k : Class). T k.tm) ks) n U ≡ T (tm_no (slice_index_or ks n k).tm.0)
@@ -18,13 +15,7 @@ class_there (x ∷ ks) zero k l = refl
 class_there (x ∷ ks) (suc n) k l = class_there ks n k (omega (arith, l))
 
 pub source_is_home : (s : Setting) (c : ℕ) → IsClassHere s c → source_of (home_of s) c ≡ home s.catalogue c
-source_is_home s zero l = refl
-source_is_home s (suc n) l =
-    let z : suc n - 1 ≡ n = omega arith in
-    let e : T (tm_no (class_at s.catalogue (suc n)).tm.0) ≡ T (tm_no (slice_index_or s.catalogue.classes n no_class).tm.0) =
-    ap (λ k. T (tm_no (slice_index_or s.catalogue.classes k no_class).tm.0)) z in
-    class_there s.catalogue.classes n no_class (omega (arith, l))
-    ∙ sym (ap (λ (b : Bool). if b then U else T (tm_no (class_at s.catalogue (suc n)).tm.0)) (suc_no_zero n) ∙ e)
+source_is_home s c l = grind (arith, class_at, class_there)
 
 pub home_apart : (cat : Catalogue) (c d : ℕ) → same_site (home cat c) (D (dm_no d)) ≡ false
 home_apart cat c d = if_way (λ x. same_site x (D (dm_no d)) ≡ false) (c == 0) U (T (tm_no (class_at cat c).tm.0)) refl refl
@@ -66,11 +57,7 @@ none_asks : {A : Type 0} (ts c : ℕ) (m x : Msg) → m ≡ x → asks_rows ts c
 none_asks ts c m x e f g = never (asks_rows ts c m) g (ap (asks_rows ts c) e ∙ f)
 
 send_class : (s : Setting) (log : site.Log) (ts c : ℕ) (m : Msg) → IsSend s log m → asks_rows ts c m ≡ true → home s.catalogue c ≡ s.site
-send_class s log ts c m (of_exchange k a at i e w) f = asks_class s a.ts k ts c m at e f
-send_class s log ts c m (a_null k at e) f = none_asks ts c m _ e refl f
-send_class s log ts c m (a_held e) f = none_asks ts c m _ e refl f
-send_class s log ts c m (a_hold e) f = none_asks ts c m _ e refl f
-send_class s log ts c m (a_release t e) f = none_asks ts c m _ e refl f
+send_class s log ts c m e f = grind (arith, asks_class, none_asks)
 
 step_question : (s : Setting) (b : Site) (log : site.Log) (act : Act) (place : ℕ) (m : Msg) (ts c : ℕ) → IsStep s log act
     → slice_get (to_site b (sends_of_act act)) place ≡ Some m → is_question ts c m ≡ true → home s.catalogue c ≡ s.site
@@ -91,11 +78,7 @@ step_question s b log act place m ts c i =
     send_class s log ts c x f (sym (send_is_question s log ts c x f) ∙ ap (is_question ts c) is ∙ own))) i
 
 data_question : {A : Type 0} (s : Setting) (log : site.Log) (b : Site) (act : Act) (m : Msg) (ts c : ℕ) → IsPutByD s log b act m → is_question ts c m ≡ true → A
-data_question s log b act (Read t k txn attempt conds uses) ts c h e = absurd h
-data_question s log b act (Fetch t k u col) ts c h e = absurd h
-data_question s log b act (Reduce t k u col vs) ts c h e = absurd h
-data_question s log b act (Ship t k) ts c h e = absurd h
-data_question s log b act m ts c h e = cc
+data_question s log b act m ts c h e = grind arith
 
 asked_at_home : (s : Setting) (b : Site) (log : site.Log) (place : ℕ) (m : Msg) (ts c : ℕ) → Each (IsFair s) log
     → slice_get (puts_to b log) place ≡ Some m → is_question ts c m ≡ true → home s.catalogue c ≡ s.site
@@ -125,15 +108,7 @@ AsksHere s log act =
     → slice_get (to_site b (sends_of_act act)) place ≡ Some m → asks_rows ts c m ≡ true → c ≤ length s.catalogue.classes
 
 act_here : (s : Setting) (log : site.Log) (act : Act) → IsStep s log act → AsksHere s log act
-act_here s log act i = step_way s log act (AsksHere s log)
-    (λ k q at f e. λ first b place ts c m there own. elim (start_puts s k b log q) [
-      | inl p ↦ in_none _ place m p there
-      | inr p ↦ never (asks_rows ts c m) own (sym (ap (asks_rows ts c) (in_one _ (start_read s k log q p.0) place m p.1 there)))
-    ])
-    (λ k bases a at f. λ first b place ts c m there own. elim (commit_puts s k bases b a) [
-      | inl p ↦ in_none _ place m p there
-      | inr p ↦ never (asks_rows ts c m) own (sym (ap (asks_rows ts c) (in_one _ _ place m p.1 there)))
-    ]) (λ to x hand f. λ first b place ts c m there own. (first ts c (ap (asks_rows ts c) (the_one b to x place m there).1 ∙ own)).here) i
+act_here s log act i = grind (arith, step_way, start_puts, in_none, never, in_one, commit_puts, the_one)
 
 pub asked_here : (g : Input) (c : ℕ) (b : Site) (log : Log) (place : ℕ) (m : Msg) (ts : ℕ) → IsPermitted g log
     → slice_get (puts_to b (local_of g (home g.catalogue c) log)) place ≡ Some m → asks_rows ts c m ≡ true → c ≤ length g.catalogue.classes
@@ -148,17 +123,10 @@ asked_here g c b log place m ts h e f =
 -- who puts an answer, and to whom
 
 asks_no_answer_of : (ts k t c : ℕ) (m : Msg) → asks_rows ts k m ≡ true → is_answer t c m ≡ false
-asks_no_answer_of ts k t c (Fetch a b u col) e = refl
-asks_no_answer_of ts k t c (Reduce a b u col vs) e = refl
-asks_no_answer_of ts k t c (Ship a b) e = refl
-asks_no_answer_of ts k t c m e = cc
+asks_no_answer_of ts k t c m e = grind arith
 
 send_no_answer : (s : Setting) (log : site.Log) (ts c : ℕ) (m : Msg) → IsSend s log m → is_answer ts c m ≡ false
-send_no_answer s log ts c m (of_exchange k a at i e w) = asks_no_answer_of a.ts k ts c m e
-send_no_answer s log ts c m (a_null k at e) = ap (is_answer ts c) e
-send_no_answer s log ts c m (a_held e) = ap (is_answer ts c) e
-send_no_answer s log ts c m (a_hold e) = ap (is_answer ts c) e
-send_no_answer s log ts c m (a_release t e) = ap (is_answer ts c) e
+send_no_answer s log ts c m e = grind (arith, asks_no_answer_of)
 
 step_no_answer : (s : Setting) (b : Site) (log : site.Log) (act : Act) (place : ℕ) (m : Msg) (ts c : ℕ) → IsStep s log act
     → slice_get (to_site b (sends_of_act act)) place ≡ Some m → is_answer ts c m ≡ false
@@ -198,9 +166,7 @@ head_class c log ts k txn attempt conds uses e = eqb-true k.0 c (head_through c 
 
 answered_home : (s : Setting) (n c : ℕ) (k : ClassNo) (ts : ℕ) (t : Ts) (b : Site) → IsClassHere s n → k.0 ≡ n → b ≡ source_of (home_of s) n
     → ((t.0 == ts) && (k.0 == c)) ≡ true → home s.catalogue c ≡ b
-answered_home s n c k ts t b l e f g =
-    let same : n ≡ c = sym e ∙ eqb-true k.0 c (and_right (t.0 == ts) (k.0 == c) g) in
-    subst (λ j. home s.catalogue j ≡ b) same (sym (source_is_home s n l) ∙ sym f)
+answered_home s n c k ts t b l e f g = grind (arith, eqb-true, and_right, source_is_home)
 
 data_answer : (g : Input) (d : DmNo) (log : Log) (b : Site) (later : site.Log) (act : Act) (before : site.Log) (m : Msg) (ts c : ℕ)
     → IsPermitted g log → local_of g (D d) log ≡ later ++ Did act ∷ before → IsPutByD (setting_of g (D d)) before b act m

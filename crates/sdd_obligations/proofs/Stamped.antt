@@ -1,5 +1,5 @@
 -- A WRITE's timestamp is above 0, and no two WRITEs of different Commits have the same.
-use Rattle.sdd_obligations.proofs.All.{Act, Did, Queued, Setting, ap, arith, clock, clock_grows, clock_number, compare, inl, inr, next_stamp, number_of, start_at, ℕ, ◌*◌, ◌++◌, ◌+◌, ◌<◌, ◌∷◌, ◌≡◌}
+use Rattle.sdd_obligations.proofs.All.{Act, Did, Queued, Setting, arith, clock, clock_grows, clock_number, compare, inl, inr, next_stamp, number_of, start_at, ℕ, ◌*◌, ◌++◌, ◌+◌, ◌<◌, ◌∷◌, ◌≡◌}
 use Rattle.sdd_invariants.specs.site_module.SiteLog.{Entry, Log}
 
 pub stamp_ticks : (s : Setting) (log : Log) → next_stamp s log ≡ ((clock s.site log).ticks + 1) * 64 + number_of s.site
@@ -7,10 +7,7 @@ stamp_ticks s log = let n = clock_number s.site log in omega (arith, n)
 
 -- of two Starts of a site the later one draws a greater timestamp
 later_start : (s : Setting) (c k : ℕ) (z b1 b2 : Log) (q1 : Queued) → b2 ≡ z ++ Did (start_at s c b1 q1) ∷ b1 → next_stamp s b1 < next_stamp s b2
-later_start s c k z b1 b2 q1 e =
-    let n1 = clock_number s.site b1 in let n2 = clock_number s.site b2 in
-    let h : (clock s.site b2).ticks ≡ (clock s.site (z ++ Did (start_at s c b1 q1) ∷ b1)).ticks = ap (λ l. (clock s.site l).ticks) e in
-    omega (arith, clock_grows s.site z (Did (start_at s c b1 q1) ∷ b1), n1, n2, h)
+later_start s c k z b1 b2 q1 e = grind (arith, clock_number, start_at, clock_grows)
 
 act_of : (x y : Act) → ◌≡◌ {A = Entry} (Did x) (Did y) → x ≡ y
 act_of x y e = cc

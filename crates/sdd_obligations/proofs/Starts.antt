@@ -5,11 +5,7 @@ use Rattle.sdd_invariants.specs.site_module.SiteLog as site
 -- in one site's log
 
 behind : (s : Setting) (c : ℕ) (z b1 b2 : site.Log) (q : Queued) → next_stamp s b1 ≡ next_stamp s b2 → b2 ≡ z ++ Did (start_at s c b1 q) ∷ b1 → ⊥
-behind s c z b1 b2 q e f =
-    let g = clock_grows s.site z (Did (start_at s c b1 q) ∷ b1) in
-    let n1 = clock_number s.site b1 in let n2 = clock_number s.site b2 in
-    let h : (clock s.site b2).ticks ≡ (clock s.site (z ++ Did (start_at s c b1 q) ∷ b1)).ticks = ap (λ l. (clock s.site l).ticks) f in
-    omega arith
+behind s c z b1 b2 q e f = grind (arith, clock_grows, start_at, clock_number)
 
 abbrev class_recorded : site.Entry → ℕ
 class_recorded (Did (Records k r sends)) = k

@@ -1,5 +1,5 @@
 -- Sums of numbers over lists.
-use Rattle.sdd_obligations.proofs.All.{List, Some, [], arith, length, range_with_len, refl, slice_get, subst, suc, suc-mul, sym, zero, ℕ, ◌*◌, ◌+◌, ◌<◌, ◌∷◌, ◌≡◌, ◌≤◌}
+use Rattle.sdd_obligations.proofs.All.{List, Some, [], arith, length, range_with_len, refl, slice_get, subst, suc, suc-mul, zero, ℕ, ◌*◌, ◌+◌, ◌<◌, ◌∷◌, ◌≡◌, ◌≤◌}
 
 abbrev pub total : {A : Type 0} → (A → ℕ) → List A → ℕ
 total f [] = 0
@@ -13,10 +13,7 @@ total_up f g (x ∷ xs) h = let i = total_up f g xs h in let l = h x in omega (a
 pub total_raise : {A : Type 0} (f g : A → ℕ) (n : ℕ) (xs : List A) (k : ℕ) (x : A) → slice_get xs k ≡ Some x
     → ((y : A) → f y ≤ g y) → n + f x ≤ g x → n + total f xs ≤ total g xs
 total_raise f g n [] k x e h l = cc
-total_raise {A = A} f g n (y ∷ xs) zero x e h l =
-    let p : ◌≡◌ {A = A} y x = cc in
-    let m : n + f y ≤ g y = subst (λ z. n + f z ≤ g z) (sym p) l in
-    omega (arith, total_up f g xs h, m)
+total_raise {A = A} f g n (y ∷ xs) zero x e h l = grind (arith, total_up)
 total_raise f g n (y ∷ xs) (suc k) x e h l = let i = total_raise f g n xs k x e h l in let m = h y in omega (arith, i, m)
 
 pub total_le : {A : Type 0} (f : A → ℕ) (xs : List A) (k : ℕ) → ((x : A) → f x ≤ k) → total f xs ≤ length xs * k

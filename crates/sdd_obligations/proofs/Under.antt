@@ -1,5 +1,5 @@
 -- The height of a lawful log is one: no clock and no message's time is above it.
-use Rattle.sdd_obligations.proofs.All.{Act, AllFewTicks, AllLow, Ask, D, Did, Does, Entry, Era, Event, Hand, Handed, HandsLow, Held, Input, IsDueAt, IsLawful, IsLow, IsPermitted, IsUnder, List, Log, Mark, Msg, None, Option, Records, Redeclared, Redeclares, Reject, Release, Site, Some, Start, Submitted, T, Tick, Ticked, Ticking, Txn, U, [], allowed_act, allowed_hand, arith, base_of, beginning, bound_at, clock, fold, given_to, greatest_bound, height, if_way, if◌then◌else◌, local_of, local_step, made, made_by_mark, map, max, nth_era, numbers_to, pushed_by, put_by, puts_grow, puts_to, redeclared_entry, redeclares, refl, same_site, sends_of_act, sent, sent_is, setting_of, slice_get, starts_by, subst, suc, sym, t_fair, ticked_by, ticks_of, tm_no, to_site, top, txn_at, u_due, u_fair, with_made, ℕ, ◌*◌, ◌+◌, ◌-◌, ◌/◌, ◌∷◌, ◌≡◌, ◌≤◌}
+use Rattle.sdd_obligations.proofs.All.{Act, AllFewTicks, AllLow, D, Did, Does, Entry, Era, Event, Hand, Handed, HandsLow, Input, IsDueAt, IsLawful, IsLow, IsPermitted, IsUnder, List, Log, Mark, Msg, None, Option, Redeclared, Redeclares, Site, Some, Submitted, T, Ticked, Ticking, Txn, U, [], allowed_act, allowed_hand, arith, base_of, beginning, bound_at, clock, fold, given_to, greatest_bound, height, if_way, if◌then◌else◌, local_of, local_step, made, made_by_mark, map, max, numbers_to, pushed_by, put_by, puts_grow, puts_to, redeclared_entry, refl, same_site, sends_of_act, sent, sent_is, setting_of, slice_get, starts_by, subst, sym, t_fair, ticked_by, ticks_of, tm_no, to_site, top, u_due, u_fair, with_made, ℕ, ◌*◌, ◌+◌, ◌-◌, ◌/◌, ◌∷◌, ◌≡◌, ◌≤◌}
 use Rattle.sdd_obligations.proofs.AnswersLow.{d_low}
 use Rattle.sdd_obligations.proofs.LowLists.{all_low_join, all_low_up, low_at, low_up}
 use Rattle.sdd_obligations.proofs.OfNext.{OfNext, of_next, t_of_sites}
@@ -26,22 +26,13 @@ push_le : (a t h : ℕ) → a ≤ h → t ≤ h * 64 + 63 → max a (t / 64) ≤
 push_le a t h l m = max_le a (t / 64) h l (div_le t h m)
 
 pushed_le : (h : ℕ) (m : Msg) (c : Ticking) → c.ticks ≤ h → IsLow h m → (pushed_by m c).ticks ≤ h
-pushed_le h (Ask class time) c l i = push_le c.ticks time.0 h l i.0
-pushed_le h (Reject ts class by write) c l i = push_le c.ticks write.0 h l i.0
-pushed_le h (Release ts) c l i = push_le c.ticks ts.0 h l i.0
-pushed_le h (Held time) c l i = push_le c.ticks time.0 h l i.0
-pushed_le h _ c l i = l
+pushed_le h m c l i = grind (arith, push_le)
 
 started_le : (h k : ℕ) (act : Act) (c : Ticking) → c.ticks ≤ h → starts_by act + h ≤ k → (ticked_by act c).ticks ≤ k
-started_le h k (Records j (Start txn attempt class ts p2 uses) sends) c l m = omega (arith, l, m)
-started_le h k act c l m = omega (arith, l, m)
+started_le h k act c l m = grind arith
 
 clock_le : (at : Site) (h k : ℕ) (o : Option site.Entry) (l : site.Log) → h ≤ k → (clock at l).ticks ≤ h → MayGrow h k o → (clock at (with_made o l)).ticks ≤ k
-clock_le at h k (Some (Handed from x)) l u c m = let p = pushed_le h x (clock at l) c m in omega (arith, u, p)
-clock_le at h k (Some (Ticked n)) l u c m = omega (arith, c, m)
-clock_le at h k (Some (Redeclared era t)) l u c m = let p = push_le (clock at l).ticks t h c m in omega (arith, u, p)
-clock_le at h k (Some (Did act)) l u c m = started_le h k act (clock at l) c m.0
-clock_le at h k _ l u c m = omega (arith, u, c)
+clock_le at h k o l u c m = grind (arith, pushed_le, push_le, started_le)
 
 -- what is handed, and what is put
 
@@ -55,8 +46,7 @@ hands_low h k (Some (Handed from x)) l u i m = (low_up h k x u m, hands_up h k l
 hands_low h k _ l u i m = hands_up h k l u i
 
 put_low : (h k : ℕ) (b : Site) (o : Option site.Entry) → MayGrow h k o → AllLow k (put_by b o)
-put_low h k b (Some (Did act)) m = m.1 b
-put_low h k b _ m = tt
+put_low h k b o m = grind arith
 
 under_more : (g : Input) (h k : ℕ) (e : Entry) (log : Log) → h ≤ k → IsUnder g h log → ((at : Site) → MayGrow h k (made g at log e)) → IsUnder g k (e ∷ log)
 under_more g h k e log u i m = record {
@@ -71,16 +61,13 @@ under_more g h k e log u i m = record {
 -- each entry
 
 by_mark : (h : ℕ) (at : Site) (e : Event) → MayGrow h (ticks_of e + h) (made_by_mark at e)
-by_mark h at (Tick t n) = if_way (MayGrow h (n + h)) (same_site at (T t)) (Some (Ticked n)) None (omega arith) tt
-by_mark h at _ = tt
+by_mark h at e = grind (arith, if_way)
 
 by_era : (h : ℕ) (at : Site) (era : Era) (t : ℕ) → t ≤ top h → MayGrow h h (redeclared_entry at era t)
-by_era h (T n) era t l = l
-by_era h _ era t l = tt
+by_era h at era t l = grind arith
 
 by_submit : (h n : ℕ) (o : Option Txn) → MayGrow h h (given_to n o)
-by_submit h n None = tt
-by_submit h n (Some txn) = tt
+by_submit h n o = grind arith
 
 by_hand : (g : Input) (h : ℕ) (log : Log) (from to at : Site) (n : ℕ) (m : Msg) → IsUnder g h log
     → slice_get (sent from to log) (n - 1) ≡ Some m → MayGrow h h (if same_site at to then Some (Handed from m) else None)
@@ -114,29 +101,18 @@ abbrev IsEmptyOf : site.Log → Type 0
 IsEmptyOf l = ((at : Site) → (clock at l).ticks ≤ 0) × ((b : Site) → puts_to b l ≡ []) × HandsLow 0 l
 
 beginning_low : (g : Input) (at : Site) → IsEmptyOf (beginning g at)
-beginning_low g U = ((λ b. omega arith), (λ b. refl), tt)
-beginning_low g _ = ((λ b. omega arith), (λ b. refl), tt)
+beginning_low g at = grind arith
 
 pub under : (g : Input) (log : Log) → g.catalogue.tms ≤ 63 → AllFewTicks g.events → IsLawful g log → IsPermitted g log → IsUnder g (height log) log
-under g [] w f h p = record {
-  clocks = λ at. (beginning_low g at).0 at;
-  puts = λ a b. subst (AllLow 0) (sym ((beginning_low g a).1 b)) tt;
-  hands = λ at. (beginning_low g at).2;
-}
+under g [] w f h p = grind (arith, beginning_low)
 under g (Mark e ∷ log) w f h p =
     under_more g (height log) (ticks_of e + height log) (Mark e) log (omega arith) (under g log w f h.1 p.1) (λ at. by_mark (height log) at e)
 under g (Redeclares t ∷ log) w f h p =
     let i = under g log w f h.1 p.1 in
     let e : t ≡ greatest_bound g log = of_next g log (Redeclares t) f h.1 h.0 in
-    under_more g (height log) (height log) (Redeclares t) log (omega arith) i
-    (λ at. by_era (height log) at (nth_era g (suc (redeclares log))) t (omega (arith, e, greatest_le g (height log) log i)))
-under g (Hand from to n m ∷ log) w f h p =
-    let i = under g log w f h.1 p.1 in
-    under_more g (height log) (height log) (Hand from to n m) log (omega arith) i
-    (λ at. by_hand g (height log) log from to at n m i (allowed_hand g log (Hand from to n m) p.0).there)
-under g (Submitted to n ∷ log) w f h p =
-    under_more g (height log) (height log) (Submitted to n) log (omega arith) (under g log w f h.1 p.1)
-    (λ at. if_way (MayGrow (height log) (height log)) (same_site at to) (given_to n (txn_at g n)) None (by_submit (height log) n (txn_at g n)) tt)
+    grind (arith, under_more, by_era, greatest_le, under g log w f h.1 p.1)
+under g (Hand from to n m ∷ log) w f h p = grind (arith, under_more, by_hand, allowed_hand, under g log w f h.1 p.1)
+under g (Submitted to n ∷ log) w f h p = grind (arith, under_more, if_way, by_submit, under g log w f h.1 p.1)
 under g (Does by act ∷ log) w f h p =
     let i = under g log w f h.1 p.1 in
     let low = act_low g (height log) log by act w p.1 i (of_next g log (Does by act) f h.1 h.0) (allowed_act g log (Does by act) p.0) in

@@ -1,5 +1,5 @@
 -- A data module puts at most one READY or REJECT for a READ, behind which the READ is processed.
-use Rattle.sdd_obligations.proofs.All.{Act, Answer, Bool, ClassNo, Cond, D, Did, DmNo, Each, Handed, Input, IsDueEach, IsPermitted, IsPutByD, IsStrict, List, Log, Msg, Pipe, Read, Ready, Rec, Records, Reject, Rejected, Sends, Setting, Site, Some, Ts, TxnNo, Use, [], all_of, and_left, and_right, ap, arith, at_seam, class_number, d_fair, dec_le, each_local, eqb-true, false, filter_map-append, goes_through, head, head_processed, head_put, home, home_of, if_way, if◌then◌else◌, in_left, in_pipe, is_processing, is_verdict, key_rises, length, local_of, next_in, number_of, one_le, one_or_none, own_record, pipe, pipe_acted, pipe_at, place_within, processed_handed, processed_more, put_by_d, puts_to, read_at, reads_in, reads_strict, refl, same_number, same_site, sends_of_act, setting_of, slice_get, source_of, strict_left, subst, sym, tally, tally_append, tally_at, to_site, true, ℕ, ◌&&◌, ◌++◌, ◌<◌, ◌==◌, ◌∙◌, ◌∷◌, ◌≡◌, ◌≤◌}
+use Rattle.sdd_obligations.proofs.All.{Act, Answer, Bool, ClassNo, Cond, D, Did, DmNo, Each, Handed, Input, IsDueEach, IsPermitted, IsPutByD, IsStrict, List, Log, Msg, Pipe, Read, Ready, Rec, Records, Reject, Rejected, Sends, Setting, Site, Some, Ts, TxnNo, Use, [], all_of, and_left, and_right, ap, arith, at_seam, class_number, d_fair, dec_le, each_local, eqb-true, filter_map-append, goes_through, head, head_processed, head_put, home, home_of, if_way, if◌then◌else◌, in_left, in_pipe, is_processing, is_verdict, key_rises, length, local_of, next_in, number_of, one_le, one_or_none, own_record, pipe, pipe_acted, pipe_at, place_within, processed_handed, processed_more, put_by_d, puts_to, read_at, reads_in, reads_strict, refl, same_number, same_site, sends_of_act, setting_of, slice_get, source_of, strict_left, subst, sym, tally, tally_append, tally_at, to_site, true, ℕ, ◌&&◌, ◌++◌, ◌<◌, ◌==◌, ◌∙◌, ◌∷◌, ◌≡◌, ◌≤◌}
 use Rattle.sdd_invariants.specs.site_module.SiteLog as site
 
 -- the READs of a pipe rise, and its head is of the class
@@ -113,8 +113,7 @@ quiet_did c ts b act log e h =
     }
 
 one_at_most : (f : Msg → Bool) (c : Bool) (m : Msg) → tally f (if c then m ∷ [] else []) ≤ 1
-one_at_most f true m = let i = one_le (f m) in omega (arith, i)
-one_at_most f false m = omega arith
+one_at_most f c m = grind (arith, one_le)
 
 read_key : (c t : ℕ) (ts : Ts) (k : ClassNo) (txn : TxnNo) (n : ℕ) (ds : List Cond) (us : List Use) → k.0 ≡ c → ts.0 ≡ t
     → read_at c (Read ts k txn n ds us) ≡ Some t
