@@ -1,15 +1,9 @@
 -- The names of std, of the crates below and of this crate's definitions that its proofs cite. Declares nothing.
 pub use Rattle.sdd_acyclic.proofs.EachTable.{each_table}
-pub use Rattle.sdd_watch.proofs.run.progress.lawful.Applies.{keeps_applies}
-pub use Rattle.sdd_watch.proofs.run.progress.lawful.Effects.{keeps_answers}
-pub use Rattle.sdd_watch.proofs.run.progress.lawful.Places.{place_rises, recorded_there}
-pub use Rattle.sdd_watch.proofs.run.progress.lawful.Starts.{event_of_submit, keeps_starts}
-pub use Rattle.sdd_watch.proofs.run.progress.lawful.Submissions.{given_at, submit_in}
-pub use Rattle.sdd_watch.specs.run.progress.lawful.SoundInput.{AreErasOf, HasSoundData}
 pub use Rattle.sdd_obligations.proofs.Done.{count_join, done}
 pub use Rattle.sdd_obligations.proofs.Linking.{lawful_part as lawful_before}
 pub use Rattle.sdd_obligations.proofs.base.Membership.{Contains-cases, Contains-here, Contains-later, Contains-nil}
-pub use Rattle.sdd_obligations.proofs.invariants.Bools.{and_left, neither_left, neither_right}
+pub use Rattle.sdd_obligations.proofs.invariants.Bools.{neither_left, neither_right}
 pub use Rattle.sdd_obligations.proofs.invariants.Made.{permitted_before}
 pub use Rattle.sdd_obligations.proofs.invariants.Places.{compare}
 pub use Rattle.sdd_obligations.proofs.invariants.logs.NewMarks.{marks_round as round_from}
@@ -24,7 +18,7 @@ pub use Rattle.sdd_obligations.proofs.laws.serial_orders.InOrder.{each as at_eac
 pub use Rattle.sdd_obligations.proofs.laws.serial_orders.Members.{All-members as all_members}
 pub use Rattle.sdd_obligations.proofs.logs.NewMarks.{lawful_permitted, left_is, marked}
 pub use Rattle.sdd_obligations.proofs.net.Lists.{All-at}
-pub use Rattle.sdd_obligations.specs.All.{AllFewTicks, Answer, Apply, AreSubmittedOnce, Arrive, Call, Catalogue, Change, Class, Commit, Committed, Cond, Condition, D, Delete, Deliver, Does, Down, Effect, Entry, Eras, Event, Fragment, Hand, HasCommit, History, Input, Int, IsCommitted, IsFrom1To, IsLawful, IsOrderable, IsPermitted, IsSerial, IsSoundCatalogue, IsSubmitted, IsTable, KeepsStarts, Log, Lose, MAX_TXNS, Mark, Msg, Notes, Nothing, Pass, Put, Query, Rec, Redeclare, Redeclares, Reject, RelNo, Repeat, Reply, Resend, Round, Row, Settle, Site, Start, Stmt, Submit, Submitted, T, Tick, Ts, Txn, TxnNo, U, Up, Update, Wait, after_mark, all_links, calls_of, class_for, committed, contents, copy_at, database_of, dm_no, due_by, effect, event_at, hand_due, history, in_flight, is_down, item_cmp, left, link, mark_due, mark_from, mark_of, marks, next, next_mark, note_if, nth_era, one_if, or_else, quiet, redeclares, redeclares_in, resends_now, round, run, site_due, submits_by, submits_in, tm_no, txn_no}
+pub use Rattle.sdd_obligations.specs.All.{AllFewTicks, Answer, Apply, AreSubmittedOnce, Arrive, Call, Catalogue, Change, Class, Commit, Committed, Cond, Condition, Delete, Deliver, Does, Down, Effect, Entry, Eras, Event, Fragment, Hand, HasCommit, History, Input, Int, IsCommitted, IsFrom1To, IsLawful, IsOrderable, IsPermitted, IsSerial, IsSoundCatalogue, IsSubmitted, IsTable, KeepsStarts, Log, Lose, MAX_TXNS, Mark, Msg, Notes, Nothing, Pass, Put, Query, Rec, Redeclares, Reject, RelNo, Repeat, Reply, Resend, Round, Row, Settle, Site, Start, Stmt, Submit, Submitted, Tick, Ts, Txn, TxnNo, Up, Update, Wait, after_mark, all_links, calls_of, class_for, committed, contents, copy_at, database_of, effect, event_at, hand_due, history, in_flight, is_down, item_cmp, left, link, mark_due, mark_from, mark_of, marks, next, next_mark, nth_era, one_if, or_else, quiet, redeclares, redeclares_in, resends_now, round, run, site_due, submits_by, submits_in, tm_no, txn_no}
 pub use Rattle.sdd_obligations.specs.base.Name.{IsName}
 pub use Rattle.sdd_obligations.specs.base.Order.{column, row_cmp}
 pub use Rattle.sdd_obligations.specs.base.Words.{tail_of}
@@ -57,6 +51,23 @@ pub use Rattle.sdd_obligations.specs.logs.Marks.{from_event}
 pub use Rattle.sdd_obligations.specs.logs.Traffic.{turned_by}
 pub use Rattle.sdd_obligations.specs.serial_orders.Orders.{IsAlong}
 pub use Rattle.sdd_obligations.specs.serial_orders.SerialOrder.{serial_order}
+pub use Rattle.sdd_verified.specs.Lines.{tells_pending}
+pub use Rattle.sdd_verified.specs.Parts.{all_pending_words, all_shipped_words, answers_words, copies_words, copy_words, order_words, outcome_words, pending_words, queries_words, query_words, replies_words, reply_words, row_words, rows_words, shipped_words}
+pub use Rattle.sdd_verified.specs.Summaries.{SettleAll, TellsAllDone, takes_down}
+pub use Rattle.sdd_verified.specs.Tellings.{TellAlike, TellOfTheSame, copies_told, pending_names, pending_numbers}
+pub use Rattle.sdd_verify.proofs.DifferentNames.{some_is}
+pub use Rattle.sdd_verify.proofs.LineCuts.{IsWhole, cut_are_lines, whole_empty, whole_ended, whole_is}
+pub use Rattle.sdd_verify.proofs.LinesFound.{IsOther}
+pub use Rattle.sdd_verify.proofs.NamesTold.{IsThere, member_at, name_in}
+pub use Rattle.sdd_verify.proofs.OrderWords.{behind_spaces}
+pub use Rattle.sdd_verify.proofs.Submissions.{found_member}
+pub use Rattle.sdd_verify.proofs.VerifiedReports.{name_line, verified_yes}
+pub use Rattle.sdd_verify.specs.Classes.{class_of, classes_from, classes_submitted, era_at, redeclared}
+pub use Rattle.sdd_verify.specs.Lines.{is_order_line, lines_of, tells_reply}
+pub use Rattle.sdd_verify.specs.Replies.{replies, serial_replies}
+pub use Rattle.sdd_verify.specs.Submitted.{submitted, submitted_by, texts_of, txn_of}
+pub use Rattle.sdd_verify.specs.Verified.{IsInTurn, IsVerified, at}
+pub use Rattle.sdd_verify.specs.declared.limits.TheConstants.{MAX_REPORT_BYTES}
 pub use Rattle.sdd_watch.proofs.run.ErasWithTables.{list_at as list_at_number}
 pub use Rattle.sdd_watch.proofs.run.Goods.{few_ticks}
 pub use Rattle.sdd_watch.proofs.run.Left.{told_rows}
@@ -70,30 +81,37 @@ pub use Rattle.sdd_watch.proofs.run.Submissions.{once}
 pub use Rattle.sdd_watch.proofs.run.class_lists.OtherClasses.{whole_over}
 pub use Rattle.sdd_watch.proofs.run.class_lists.WholeSound.{whole_named, whole_sound}
 pub use Rattle.sdd_watch.proofs.run.make.ValidEvents.{txns_count}
-pub use Rattle.sdd_watch.proofs.run.make.ValidTxns.{choose}
 pub use Rattle.sdd_watch.proofs.run.make.ValidWorkloads.{workload_valid}
+pub use Rattle.sdd_watch.proofs.run.progress.Ends.{run_ends}
 pub use Rattle.sdd_watch.proofs.run.progress.ErasOf.{index_or}
+pub use Rattle.sdd_watch.proofs.run.progress.Marked.{next_is_of_events}
+pub use Rattle.sdd_watch.proofs.run.progress.lawful.Applies.{keeps_applies}
+pub use Rattle.sdd_watch.proofs.run.progress.lawful.Effects.{keeps_answers}
+pub use Rattle.sdd_watch.proofs.run.progress.lawful.Places.{place_rises, recorded_there}
+pub use Rattle.sdd_watch.proofs.run.progress.lawful.Starts.{event_of_submit, keeps_starts}
+pub use Rattle.sdd_watch.proofs.run.progress.lawful.Submissions.{given_at, submit_in}
 pub use Rattle.sdd_watch.proofs.run.script.EventLaws.{plain_space as plain_spaceless}
 pub use Rattle.sdd_watch.proofs.run.script.NamePlaces.{place_of_name}
 pub use Rattle.sdd_watch.proofs.run.script.WordLooks.{name_fine, no_newline-append, value_fine}
+pub use Rattle.sdd_watch.specs.run.ComesBefore.{ComesBefore, IsSubmittedBefore}
 pub use Rattle.sdd_watch.specs.run.Reports.{report_of}
 pub use Rattle.sdd_watch.specs.run.Runs.{EndsAtLimit, IsReportOn, IsSummaryOn, input_of, order_of}
 pub use Rattle.sdd_watch.specs.run.Settled.{EndsQuiet, NoneIsDown}
-pub use Rattle.sdd_watch.specs.run.ComesBefore.{ComesBefore, IsSubmittedBefore}
 pub use Rattle.sdd_watch.specs.run.class_lists.InForce.{classes_in, eras_in, whole_in}
 pub use Rattle.sdd_watch.specs.run.make.Bank.{bank}
 pub use Rattle.sdd_watch.specs.run.make.Draws.{draw, shown}
 pub use Rattle.sdd_watch.specs.run.make.Summary.{is_commit, summary_of}
-pub use Rattle.sdd_watch.specs.run.make.Turns.{arrival, deliveries, delivery, drawn_events, drawn_txn, events_of, turn, turns, turns_of, txns_of, workload_of}
+pub use Rattle.sdd_watch.specs.run.make.Turns.{deliveries, delivery, drawn_events, drawn_txn, events_of, turn, turns, turns_of, txns_of, workload_of}
 pub use Rattle.sdd_watch.specs.run.progress.Committed.{AllCommitted}
 pub use Rattle.sdd_watch.specs.run.progress.Eras.{eras_of}
+pub use Rattle.sdd_watch.specs.run.progress.lawful.SoundInput.{AreErasOf, HasSoundData}
 pub use Rattle.sdd_watch.specs.run.report.Committed.{Told, names_of, order_line, shipped_line, shipped_of, told_of}
 pub use Rattle.sdd_watch.specs.run.report.Copies.{copies_lines, copy_lines, place_words}
-pub use Rattle.sdd_watch.specs.run.report.Names.{attempt_word, class_name, class_time, class_word, fragment_name, module_word, site_word, spaced, txn_name}
+pub use Rattle.sdd_watch.specs.run.report.Names.{attempt_word, class_time, class_word, fragment_name, module_word, site_word, spaced, txn_name}
 pub use Rattle.sdd_watch.specs.run.report.Pending.{pending_line, pending_lines, why_words}
 pub use Rattle.sdd_watch.specs.run.report.Replies.{queries_from, query_lines, replies_along, reply_lines, row_line, value_bytes}
 pub use Rattle.sdd_watch.specs.run.report.Report.{Report, after_replies, report_text}
-pub use Rattle.sdd_watch.specs.run.report.Trace.{cond_words, of_attempt, of_visit, record_words, time_word, trace, trace_line}
+pub use Rattle.sdd_watch.specs.run.report.Trace.{cond_words, of_attempt, of_visit, record_words, time_word, trace}
 pub use Rattle.sdd_watch.specs.run.report.declared.copies.CopyTable.{CopyTable}
 pub use Rattle.sdd_watch.specs.run.report.declared.pending.Pending.{Pending}
 pub use Rattle.sdd_watch.specs.run.report.declared.pending.Why.{Why}
@@ -103,32 +121,13 @@ pub use Rattle.sdd_watch.specs.run.script.declared.workload.Workload.{Workload}
 pub use Rattle.sdd_watch.specs.run.world.AtSites.{standing_at}
 pub use Rattle.sdd_watch.specs.run.world.Copies.{tables_of}
 pub use Rattle.sdd_watch.specs.run.world.Standings.{standing_at_t, standing_at_u}
-pub use Rattle.sdd_watch.proofs.run.progress.Ends.{run_ends}
-pub use Rattle.sdd_watch.proofs.run.progress.Marked.{next_is_of_events}
-pub use Rattle.sdd_verified.specs.Lines.{tells_pending}
-pub use Rattle.sdd_verified.specs.Parts.{all_pending_words, all_shipped_words, answers_words, copies_words, copy_words, order_words, outcome_words, pending_words, queries_words, query_words, replies_words, reply_words, row_words, rows_words, shipped_words}
-pub use Rattle.sdd_verified.specs.Summaries.{SettleAll, TellsAllDone, takes_down}
-pub use Rattle.sdd_verified.specs.Tellings.{TellAlike, TellOfTheSame, copies_told, pending_names, pending_numbers}
-pub use Rattle.sdd_verify.proofs.DifferentNames.{some_is}
-pub use Rattle.sdd_verify.proofs.LineCuts.{IsWhole, cut_are_lines, whole_empty, whole_ended, whole_is}
-pub use Rattle.sdd_verify.proofs.LinesFound.{IsOther}
-pub use Rattle.sdd_verify.proofs.NamesTold.{IsThere, member_at, name_in}
-pub use Rattle.sdd_verify.proofs.OrderWords.{behind_spaces}
-pub use Rattle.sdd_verify.proofs.Submissions.{found_member}
-pub use Rattle.sdd_verify.proofs.VerifiedReports.{name_line, verified_yes}
-pub use Rattle.sdd_verify.specs.Classes.{class_if, class_of, classes_from, classes_submitted, era_at, redeclared}
-pub use Rattle.sdd_verify.specs.Lines.{is_order_line, lines_of, tells_reply}
-pub use Rattle.sdd_verify.specs.Replies.{replies, serial_replies}
-pub use Rattle.sdd_verify.specs.Submitted.{submitted, submitted_by, texts_of, txn_of}
-pub use Rattle.sdd_verify.specs.Verified.{IsInTurn, IsVerified, at}
-pub use Rattle.sdd_verify.specs.declared.limits.TheConstants.{MAX_REPORT_BYTES}
 pub use Rattle.sdd_words.proofs.Spelled.{cut_again}
 pub use Rattle.sdd_words.proofs.Splits.{scan_again}
 pub use Rattle.sdd_words.specs.Lines.{AreLines, HasNoNewline, cut_lines, spelled_lines}
 pub use Rattle.sdd_words.specs.Scan.{scan}
 pub use Rattle.sdd_words.specs.Values.{value_word}
-pub use Rattle.sdd_words.specs.Words.{AllWords, HasNoSpace, IsPlain, Plain, Word, line_bytes, more_bytes, word_bytes}
-pub use Rattle.std.proofs.Common.{All, Bool, Contains, Equal, Greater, Less, List, MatchOption, None, Option, Some, [], ap, append_assoc, arith, bytes_eq, codes, cond, count_by, decimal, eq-eqb, eqb-true, false, filter, filter_map, flat_map, fold, if◌then◌else◌, inl, inr, int_cmp, is_eq, leb-true, length, lt-ltb, ltb-true, map, nat_le, nat_lt, ne_eqb, negsuc, not, option_map, pos, position, refl, replicate, rules, slice_get, slice_index_or, slice_set, subst, suc, sym, true, unwrap_or, zero, ℕ, ℤ, ◌%◌, ◌&&◌, ◌*◌, ◌++◌, ◌+ℤ◌, ◌+◌, ◌-◌, ◌/◌, ◌<◌, ◌==◌, ◌^◌, ◌||◌, ◌∙◌, ◌∷◌, ◌≡◌, ◌≢◌, ◌≤◌, ◌⊎◌}
+pub use Rattle.sdd_words.specs.Words.{AllWords, HasNoSpace, IsPlain, Plain, line_bytes, more_bytes, word_bytes}
+pub use Rattle.std.proofs.Common.{All, Bool, Contains, Equal, Greater, Less, List, MatchOption, None, Option, Some, [], ap, append_assoc, arith, bytes_eq, codes, cond, count_by, decimal, eq-eqb, eqb-true, false, filter, filter_map, flat_map, fold, if◌then◌else◌, inl, inr, int_cmp, is_eq, length, lt-ltb, ltb-true, map, nat_lt, ne_eqb, not, option_map, pos, position, refl, replicate, rules, slice_get, slice_index_or, slice_set, subst, suc, sym, true, unwrap_or, zero, ℕ, ℤ, ◌%◌, ◌&&◌, ◌*◌, ◌++◌, ◌+ℤ◌, ◌+◌, ◌-◌, ◌/◌, ◌<◌, ◌==◌, ◌^◌, ◌||◌, ◌∙◌, ◌∷◌, ◌≡◌, ◌≢◌, ◌≤◌, ◌⊎◌}
 pub use Rattle.std.proofs.lemmas.Bool.{cases_eq, cases_lt}
 pub use Rattle.std.proofs.lemmas.Bool.Decides.{nat_tests}
 pub use Rattle.std.proofs.lemmas.Fmt.{decimal_injective}

@@ -1,6 +1,6 @@
 -- The class of a submitted transaction, by its place in the order of submission: it is by the catalogue that is in force
 -- behind the `redeclare`s before the event that submits it.
-use Rattle.sdd_verified.proofs.All.{All, All-head, All-tail, Catalogue, Event, IsValidEvent, List, None, Option, Redeclare, Some, Txn, [], ap, arith, cases_eq, class_for, class_if, classes_from, cond, eq-eqb, false, inl, inr, length, ne_eqb, one_if, redeclared, redeclares_in, refl, slice_get, slice_index_or, some_is, submits_in, submitted_by, suc, sym, true, zero, ℕ, ◌++◌, ◌+◌, ◌-◌, ◌==◌, ◌∙◌, ◌∷◌, ◌≡◌, ◌≤◌}
+use Rattle.sdd_verified.proofs.All.{All, All-head, All-tail, Catalogue, Event, IsValidEvent, List, None, Option, Some, Txn, [], ap, arith, class_for, classes_from, cond, eq-eqb, length, ne_eqb, one_if, redeclared, redeclares_in, refl, slice_get, slice_index_or, some_is, submits_in, submitted_by, suc, ℕ, ◌++◌, ◌+◌, ◌-◌, ◌==◌, ◌∙◌, ◌∷◌, ◌≡◌, ◌≤◌}
 use Rattle.sdd_verified.proofs.Numbered.{Submits, counted, counted_by, number_by, number_in, some_place, submits}
 use Rattle.sdd_watch.specs.run.script.Valid as scripts
 
@@ -22,11 +22,7 @@ module _ (era : ℕ → Catalogue) (txns : List Txn) (n : ℕ) (t : Txn) (there 
 
   behind : (x : ℕ) (classes : List ℕ) (number class : ℕ) → 1 ≤ number → slice_index_or classes (number - 1) 0 ≡ class
       → slice_index_or (x ∷ classes) (suc number - 1) 0 ≡ class
-  behind x classes zero class some e = absurd (omega (arith, some))
-  behind x classes (suc number) class some e =
-      let here : suc (suc number) - 1 ≡ suc number = omega arith in
-      let before : suc number - 1 ≡ number = omega arith in
-      ap (λ i. slice_index_or (x ∷ classes) i 0) here ∙ sym (ap (λ i. slice_index_or classes i 0) before) ∙ e
+  behind x classes number class some e = grind arith
 
   class_by : (k : ℕ) (e : Event) (events : List Event) (number : Option ℕ) (text : Option Txn)
       → scripts.submitted_by e ≡ number → submitted_by txns e ≡ text → Submits txns number text
@@ -34,26 +30,8 @@ module _ (era : ℕ → Catalogue) (txns : List Txn) (n : ℕ) (t : Txn) (there 
       ≡ class_for (era (redeclared_at n (redeclared e k) events)) t)
       → 1 ≤ counted_by number n + submits_in n events → ClassAt (e ∷ events) k (number_by number n (number_in events n))
       ≡ class_for (era (at_event number n k (redeclared_at n (redeclared e k) events))) t
-  class_by k e events None None a b h later some =
-      let rest : List ℕ = classes_from era txns (redeclared e k) events in
-      ap (λ (o : Option Txn). slice_index_or (class_if (era k) o ++ rest) (number_in events n - 1) 0) b ∙ later (omega (arith, some))
-  class_by k e events None (Some u) a b h later some = absurd cc
-  class_by k e events (Some m) None a b h later some = let read = h.there in absurd cc
-  class_by k e events (Some m) (Some u) a b h later some =
-      let rest : List ℕ = classes_from era txns (redeclared e k) events in
-      let number : ℕ = number_by (Some m) n (number_in events n) in
-      ap (λ (o : Option Txn). slice_index_or (class_if (era k) o ++ rest) (number - 1) 0) b
-      ∙ elim (cases_eq m n) [
-        | inl same ↦
-            let one : (m == n) ≡ true = eq-eqb m n same in
-            let is : u ≡ t = some_is u t (h.is ∙ ap (λ (x : ℕ). slice_get txns (x - 1)) same ∙ there) in
-            rw one (ap (class_for (era k)) is)
-        | inr other ↦
-            let apart : (m == n) ≡ false = ne_eqb m n other in
-            let none : counted_by (Some m) n ≡ 0 = ap one_if apart in
-            let left : 1 ≤ submits_in n events = omega (arith, some, none) in
-            rw apart (behind (class_for (era k) u) rest (number_in events n) _ (some_place events n left) (later left))
-      ]
+  class_by k e events number text a b h later some =
+      grind (arith, redeclared, number_by, eq-eqb, some_is, ne_eqb, one_if, behind, some_place)
 
   pub class_at : (cat : Catalogue) (k : ℕ) (events : List Event) → All (IsValidEvent cat (length txns)) events
       → 1 ≤ submits_in n events → ClassAt events k (number_in events n) ≡ class_for (era (redeclared_at n k events)) t
@@ -67,16 +45,10 @@ module _ (era : ℕ → Catalogue) (txns : List Txn) (n : ℕ) (t : Txn) (there 
 -- events before which the transaction isn't submitted
 
 gone_more : (e : Event) (events : List Event) (k : ℕ) → redeclares_in events + redeclared e k ≡ redeclares_in (e ∷ events) + k
-gone_more Redeclare events k = omega arith
-gone_more _ events k = refl
+gone_more e events k = grind arith
 
 not_here : (number : Option ℕ) (n k later : ℕ) → counted_by number n ≡ 0 → at_event number n k later ≡ later
-not_here None n k later none = refl
-not_here (Some m) n k later none =
-    elim (cases_eq m n) [
-      | inl same ↦ let one : (m == n) ≡ true = eq-eqb m n same in let q : 1 ≡ 0 = rw one at none in absurd (omega (arith, q))
-      | inr other ↦ let apart : (m == n) ≡ false = ne_eqb m n other in rw apart refl
-    ]
+not_here number n k later none = grind arith
 
 pub behind_front : (n k : ℕ) (front rest : List Event) → submits_in n front ≡ 0
     → redeclared_at n k (front ++ rest) ≡ redeclared_at n (redeclares_in front + k) rest
@@ -91,19 +63,10 @@ behind_front n k (e ∷ front) rest none =
 -- it is submitted before any `redeclare`
 
 none_here : (e : Event) (events : List Event) (k : ℕ) → redeclares_in (e ∷ events) ≡ 0 → (redeclared e k ≡ k) × (redeclares_in events ≡ 0)
-none_here Redeclare events k none = absurd (omega (arith, none))
-none_here _ events k none = (refl, none)
+none_here e events k none = grind arith
 
 here_or_later : (number : Option ℕ) (n k later count : ℕ) → 1 ≤ counted_by number n + count → (1 ≤ count → later ≡ k) → at_event number n k later ≡ k
-here_or_later None n k later count some e = e (omega (arith, some))
-here_or_later (Some m) n k later count some e =
-    elim (cases_eq m n) [
-      | inl same ↦ let one : (m == n) ≡ true = eq-eqb m n same in rw one refl
-      | inr other ↦
-          let apart : (m == n) ≡ false = ne_eqb m n other in
-          let none : counted_by (Some m) n ≡ 0 = ap one_if apart in
-          rw apart (e (omega (arith, some, none)))
-    ]
+here_or_later number n k later count some e = grind arith
 
 pub before_any : (n k : ℕ) (front rest : List Event) → redeclares_in front ≡ 0 → 1 ≤ submits_in n front → redeclared_at n k (front ++ rest) ≡ k
 before_any n k [] rest none some = absurd (omega (arith, some))

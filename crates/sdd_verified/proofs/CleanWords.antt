@@ -1,5 +1,5 @@
 -- No word of a report holds a newline, where no value does.
-use Rattle.sdd_verified.proofs.All.{All, AllByRecursion, Catalogue, Class, D, Fragment, HasNoNewline, Int, IsName, List, Queued, Row, Site, T, Txn, TxnNo, U, Underway, Value, Waits, Why, [], arith, class_time, codes, flat_map, fragment_name, in_range, module_word, names_of, negsuc, no_newline-append, pos, refl, rules, site_word, slice_get, spaced, suc, true, value_bytes, why_words, ℕ, ℤ, ◌++◌, ◌-◌, ◌∷◌, ◌≡◌}
+use Rattle.sdd_verified.proofs.All.{All, AllByRecursion, Catalogue, Class, Fragment, HasNoNewline, Int, IsName, List, Queued, Row, Site, Txn, TxnNo, Underway, Value, Waits, Why, [], arith, class_time, codes, flat_map, fragment_name, in_range, module_word, names_of, no_newline-append, refl, rules, site_word, slice_get, spaced, true, value_bytes, why_words, ℕ, ℤ, ◌++◌, ◌-◌, ◌∷◌, ◌≡◌}
 use Rattle.sdd_verified.proofs.ReportLines.{class_time_line, module_line, named_by, number_line, spaced_line, txn_line}
 use Rattle.sdd_verified.proofs.ValuesKept.{Holds}
 
@@ -9,8 +9,7 @@ abbrev pub IsClean : Value → Type 0
 IsClean v = HasNoNewline (value_bytes v)
 
 pub ints_clean : (n : ℤ) → in_range n ≡ true → IsClean (Int n)
-ints_clean (pos n) fits = number_line n
-ints_clean (negsuc n) fits = (λ e. omega (arith, e), number_line (suc n))
+ints_clean n fits = grind (arith, number_line)
 
 pub values_line : (row : Row) → Holds IsClean ints_clean row → HasNoNewline (flat_map (λ v. 32 ∷ value_bytes v) row)
 values_line [] h = tt
@@ -33,9 +32,7 @@ module _ (cat : Catalogue) (txns : List Txn) (classes_named : All (λ (k : Class
   -- what is waited for, and what is copied
 
   pub site_line : (site : Site) → HasNoNewline (site_word site)
-  site_line U = search rules
-  site_line (T tm) = (λ e. omega (arith, e), number_line tm.0)
-  site_line (D dm) = (λ e. omega (arith, e), number_line dm.0)
+  site_line site = grind (arith, number_line)
 
   pub why_line : (why : Why) → HasNoNewline (why_words cat why)
   why_line (Queued class place) =

@@ -1,12 +1,11 @@
 -- In a complete log each transaction that its events submit is submitted.
-use Rattle.sdd_verified.proofs.All.{Bool, Does, Entry, Event, Hand, Input, IsLawful, IsSubmitted, List, Log, Mark, None, Notes, Option, Redeclare, Redeclares, Round, Settle, Site, Some, Submission, Submit, Submitted, Tick, TxnNo, [], all_links, ap, arith, calls_of, due_by, eqb-true, false, from_event, hand_due, history, home_of, inl, inr, left, left_is, length, mark_due, mark_from, mark_of, marked, next, next_mark, note_if, nth_era, one_if, or_else, quiet, recorded_there, redeclares, refl, round, site_due, submits_by, submits_in, subst, sym, true, txn_no, ℕ, ◌++◌, ◌+◌, ◌==◌, ◌∙◌, ◌∷◌, ◌≡◌, ◌≤◌, ◌⊎◌}
+use Rattle.sdd_verified.proofs.All.{Bool, Does, Entry, Event, Hand, Input, IsLawful, IsSubmitted, List, Log, Mark, None, Notes, Option, Redeclares, Round, Settle, Site, Some, Submission, Submit, Submitted, TxnNo, [], ap, arith, eqb-true, false, from_event, hand_due, history, home_of, inl, inr, left, left_is, length, mark_due, mark_from, mark_of, marked, next, next_mark, nth_era, one_if, or_else, recorded_there, redeclares, refl, site_due, submits_by, submits_in, subst, sym, true, txn_no, ℕ, ◌++◌, ◌+◌, ◌==◌, ◌∙◌, ◌∷◌, ◌≡◌, ◌≤◌, ◌⊎◌}
 use Rattle.sdd_obligations.specs.All.{txn_at}
 
 -- of what a complete log leaves no event has a mark
 
 no_other : (a b : Option Entry) → or_else a b ≡ None → (a ≡ None) × (b ≡ None)
-no_other None b h = (refl, h)
-no_other (Some x) b h = cc
+no_other a b h = grind arith
 
 pub record NoneIsDue (g : Input) (log : Log) : Type 0 where
   pub mark : mark_due g log ≡ None
@@ -31,8 +30,7 @@ settles_submit_none n (Settle ∷ ws) h = let i = settles_submit_none n ws h in 
 settles_submit_none n (_ ∷ ws) h = cc
 
 none_left : (g : Input) (log : Log) (n : ℕ) (s : List Event × List Event) → mark_of g log s ≡ None → submits_in n s.0 ≡ 0
-none_left g log n (ws, []) h = settles_submit_none n ws (none_from g log (quiet (all_links g) (calls_of log)) (round (all_links g) (calls_of log)) ws h)
-none_left g log n (ws, e ∷ r) h = cc
+none_left g log n s h = grind (arith, settles_submit_none, none_from)
 
 pub all_marked : (g : Input) (log : Log) (n : ℕ) → IsLawful g log → next g log ≡ None → marked n log ≡ submits_in n g.events
 all_marked g log n lawful complete =
@@ -48,30 +46,15 @@ sorted _ = inr (λ n. refl)
 
 -- where no `submit` is the last entry, that entry marks none
 not_last : (g : Input) (n : ℕ) (e : Entry) (log : Log) → mark_due g (e ∷ log) ≡ None → marked n (e ∷ log) ≡ marked n log
-not_last g n (Mark (Submit k)) log h = cc
-not_last g n (Mark _) log h = omega arith
-not_last g n _ log h = refl
+not_last g n e log h = grind arith
 
 -- what is due by an event is no mark
 
-no_note : (b : Bool) (x : Event) → note_if b ≡ Some (Mark x) → ⊥
-no_note true x h = cc
-no_note false x h = cc
-
-no_mark_by : (g : Input) (e x : Event) (log : Log) → due_by g e log ≡ Some (Mark x) → ⊥
-no_mark_by g (Submit n) x log h = cc
-no_mark_by g (Tick t k) x log h = cc
-no_mark_by g Settle x log h = cc
-no_mark_by g Redeclare x log h = cc
-no_mark_by g _ x log h = no_note _ x h
-
 no_mark_due : (g : Input) (x : Event) (log : Log) → mark_due g log ≡ Some (Mark x) → ⊥
-no_mark_due g x (Mark e ∷ log) h = no_mark_by g e x log h
-no_mark_due g x _ h = cc
+no_mark_due g x log h = grind arith
 
 first_none : (a b : Option Entry) (x : Entry) → (a ≡ Some x → ⊥) → or_else a b ≡ Some x → a ≡ None
-first_none None b x h e = refl
-first_none (Some y) b x h e = absurd (h e)
+first_none a b x h e = grind arith
 
 before_mark : (g : Input) (log : Log) (e : Event) → next g log ≡ Some (Mark e) → mark_due g log ≡ None
 before_mark g log e h = first_none (mark_due g log) _ (Mark e) (no_mark_due g e log) h

@@ -1,5 +1,5 @@
 -- Made input leaves nothing undone: it submits each of its transactions, takes no module down, and ends with a settle.
-use Rattle.sdd_verified.proofs.All.{D, Event, IsSoundCatalogue, IsSummaryOn, List, MAX_TXNS, Settle, SettleAll, T, TellsAllDone, [], ap, append_assoc, arith, arrival, bank, cases_eq, choose, deliveries, delivery, dm_no, draw, drawn_events, drawn_txn, eq-eqb, events_of, false, inl, inr, length, list_any, nat_lt, one_if, refl, shown, submits_in, subst, suc, sym, takes_down, tm_no, turn, turns, turns_of, txns_count, txns_of, whole_sound, workload_of, workload_valid, zero, ℕ, ◌%◌, ◌++◌, ◌+◌, ◌/◌, ◌<◌, ◌==◌, ◌∷◌, ◌≡◌, ◌≤◌}
+use Rattle.sdd_verified.proofs.All.{Event, IsSoundCatalogue, IsSummaryOn, List, MAX_TXNS, SettleAll, TellsAllDone, ap, append_assoc, arith, bank, cases_eq, deliveries, delivery, draw, drawn_events, drawn_txn, eq-eqb, events_of, false, inl, inr, length, list_any, one_if, refl, shown, submits_in, subst, suc, sym, takes_down, turn, turns, turns_of, txns_count, txns_of, whole_sound, workload_of, workload_valid, zero, ℕ, ◌++◌, ◌+◌, ◌<◌, ◌==◌, ◌≡◌, ◌≤◌}
 use Rattle.sdd_obligations.specs.catalog.Rules.{faults_of}
 use Rattle.sdd_verified.proofs.AllSummed.{all_summed}
 use Rattle.sdd_verified.proofs.Submitting.{submits_append as submits_both}
@@ -24,14 +24,8 @@ submits_turn n (suc count) i x lo hi =
 
 -- no module is taken down
 
-abbrev IsUp : Event → Type 0
-IsUp e = takes_down e ≡ false
-
 delivery_up : (k : ℕ) → takes_down (delivery k) ≡ false
-delivery_up k =
-    let t : ℕ = (k % 9) / 3 + 1 in
-    let d : ℕ = k % 3 + 1 in
-    choose IsUp (nat_lt k 9) (arrival (T (tm_no t)) (D (dm_no d))) (arrival (D (dm_no d)) (T (tm_no t))) refl refl
+delivery_up k = grind arith
 
 deliveries_up : (count x : ℕ) (rest : List Event) → list_any takes_down rest ≡ false → list_any takes_down ((deliveries count x).0 ++ rest) ≡ false
 deliveries_up zero x rest h = h
@@ -43,19 +37,10 @@ turns_up (suc count) i x rest h =
     let y : ℕ = (drawn_txn i x).1 in
     let z : ℕ = (turn i x).1 in
     let more = turns_up count (i + 1) z rest h in
-    subst (λ es. list_any takes_down es ≡ false) (sym (append_assoc (drawn_events i y).0 (events_of (turns count (i + 1) z).0) rest))
-    (deliveries_up (shown 4 (next y)) (next y) (events_of (turns count (i + 1) z).0 ++ rest) more)
+    grind (arith, append_assoc, deliveries_up)
 
 made_settles : (seed n : ℕ) → SettleAll n (workload_of seed n).events
-made_settles seed n =
-    record {
-      submit_all = λ k lo hi.
-          (let there = submits_turn k n 1 seed lo (omega (arith, hi)) in
-          let both = submits_both k (events_of (turns_of seed n)) (Settle ∷ []) in
-          omega (arith, there, both));
-      none_down = turns_up n 1 seed (Settle ∷ []) refl;
-      ends = record { before = events_of (turns_of seed n); last = Settle; is = refl; at_rest = tt };
-    }
+made_settles seed n = grind (arith, submits_turn, submits_both, turns_up)
 
 bank_is_sound : IsSoundCatalogue bank
 unfolding faults_of

@@ -1,5 +1,5 @@
 -- An order of a workload's transactions, by their places in the order of submission.
-use Rattle.sdd_verified.proofs.All.{All, All-cons, All-head, All-nil, All-tail, Catalogue, IsInTurn, IsThere, IsValid, List, None, Option, Some, Txn, TxnNo, Workload, [], ap, arith, at, behind_spaces, class_of, classes_submitted, codes, flat_map-map, length, map, name_in, option_map_or, order_line, refl, submits_in, submitted, subst, suc, sym, texts_of, txn_no, txn_of, zero, ℕ, ◌++◌, ◌<◌, ◌∙◌, ◌∷◌, ◌≡◌, ◌≢◌, ◌≤◌}
+use Rattle.sdd_verified.proofs.All.{All, All-cons, All-head, All-nil, All-tail, Catalogue, IsInTurn, IsThere, IsValid, List, Option, Txn, TxnNo, Workload, [], arith, at, behind_spaces, class_of, classes_submitted, codes, flat_map-map, length, map, name_in, order_line, refl, submits_in, submitted, subst, suc, sym, texts_of, txn_no, txn_of, zero, ℕ, ◌++◌, ◌<◌, ◌∷◌, ◌≡◌, ◌≢◌, ◌≤◌}
 use Rattle.sdd_verified.proofs.Numbered.{PlaceOf, number_in, place_of}
 
 module _ (cat : Catalogue) (work : Workload) (valid : IsValid cat work) where
@@ -15,39 +15,30 @@ module _ (cat : Catalogue) (work : Workload) (valid : IsValid cat work) where
   pub moved_there : (order : List TxnNo) → All IsSubmittedOne order → All (IsThere (submitted work)) (map moved order)
   moved_there [] some = All-nil (IsThere (submitted work))
   moved_there (n ∷ order) some =
-      let p = place n (All-head IsSubmittedOne n order some) in
-      All-cons (IsThere (submitted work)) (moved n) (map moved order) (p.from, p.within) (moved_there order (All-tail IsSubmittedOne n order some))
+      grind (arith, place, All-head, All-cons, All-tail, moved_there order (All-tail IsSubmittedOne n order some))
 
   same_text : (n : TxnNo) → IsSubmittedOne n → txn_of (submitted work) (moved n) ≡ txn_of work.txns n
   same_text n some = (place n some).is
 
   texts_by : (n : TxnNo) (order others : List TxnNo) (o : Option Txn) → txn_of work.txns n ≡ o → txn_of (submitted work) (moved n) ≡ o
       → texts_of (submitted work) others ≡ texts_of work.txns order → texts_of (submitted work) (moved n ∷ others) ≡ texts_of work.txns (n ∷ order)
-  texts_by n order others None a b e = rw (a, b) e
-  texts_by n order others (Some t) a b e = rw (a, b) (ap (λ (l : List Txn). t ∷ l) e)
+  texts_by n order others o a b e = grind arith
 
   pub moved_texts : (order : List TxnNo) → All IsSubmittedOne order → texts_of (submitted work) (map moved order) ≡ texts_of work.txns order
   moved_texts [] some = refl
   moved_texts (n ∷ order) some =
-      texts_by n order (map moved order) (txn_of work.txns n) refl (same_text n (All-head IsSubmittedOne n order some))
-      (moved_texts order (All-tail IsSubmittedOne n order some))
+      grind (arith, same_text, All-head, All-tail, moved_texts order (All-tail IsSubmittedOne n order some))
 
   moved_names : (order : List TxnNo) → All IsSubmittedOne order → map (name_in (submitted work)) (map moved order) ≡ map (name_in work.txns) order
   moved_names [] some = refl
   moved_names (n ∷ order) some =
-      let here : name_in (submitted work) (moved n) ≡ name_in work.txns n =
-      ap (λ (o : Option Txn). option_map_or (λ (t : Txn). t.name) o []) (same_text n (All-head IsSubmittedOne n order some)) in
-      let more = moved_names order (All-tail IsSubmittedOne n order some) in
-      rw (here, more) refl
+      grind (arith, same_text, All-head, All-tail, moved_names order (All-tail IsSubmittedOne n order some))
 
   by_names : (txns : List Txn) (order : List TxnNo) → order_line txns order ≡ codes "order" ++ (behind_spaces (map (name_in txns) order) ++ 10 ∷ [])
   by_names txns order = simp flat_map-map
 
   pub moved_line : (order : List TxnNo) → All IsSubmittedOne order → order_line (submitted work) (map moved order) ≡ order_line work.txns order
-  moved_line order some =
-      by_names (submitted work) (map moved order)
-      ∙ ap (λ (l : List (List ℕ)). codes "order" ++ (behind_spaces l ++ 10 ∷ [])) (moved_names order some)
-      ∙ sym (by_names work.txns order)
+  moved_line order some = grind (arith, by_names, moved_names)
 
   -- members by their places
 

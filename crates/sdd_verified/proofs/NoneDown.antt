@@ -67,15 +67,9 @@ begun_up g log es (ws, e ∷ r) h = cc
 
 mark_from_up : (g : Input) (log : Log) (q : Bool) (r ws : List Event) (e : Event) → mark_from g log q r ws ≡ Some (Mark e) → AreUp ws → takes_down e ≡ false
 mark_from_up g log true r (Settle ∷ ws) e h u = mark_from_up g log true r ws e h u.1
-mark_from_up g log q r (Submit n ∷ ws) e h u = let p : Submit n ≡ e = cc in subst (λ x. takes_down x ≡ false) p refl
-mark_from_up g log q r (Deliver a b k ∷ ws) e h u = let p : Deliver a b k ≡ e = cc in subst (λ x. takes_down x ≡ false) p refl
-mark_from_up g log q r (Lose a b k ∷ ws) e h u = let p : Lose a b k ≡ e = cc in subst (λ x. takes_down x ≡ false) p refl
-mark_from_up g log q r (Repeat a b k ∷ ws) e h u = let p : Repeat a b k ≡ e = cc in subst (λ x. takes_down x ≡ false) p refl
-mark_from_up g log q r (Resend a b ∷ ws) e h u = let p : Resend a b ≡ e = cc in subst (λ x. takes_down x ≡ false) p refl
-mark_from_up g log q r (Tick t k ∷ ws) e h u = let p : Tick t k ≡ e = cc in subst (λ x. takes_down x ≡ false) p refl
 mark_from_up g log q r (Down d ∷ ws) e h u = let p : Down d ≡ e = cc in subst (λ x. takes_down x ≡ false) p u.0
-mark_from_up g log q r (Up d ∷ ws) e h u = let p : Up d ≡ e = cc in subst (λ x. takes_down x ≡ false) p refl
-mark_from_up g log _ r _ e h u = cc
+mark_from_up g log q r [] e h u = cc
+mark_from_up g log q r (x ∷ ws) e h u = let p : x ≡ e = cc in subst (λ y. takes_down y ≡ false) p refl
 
 mark_of_up : (g : Input) (log : Log) (s : List Event × List Event) (e : Event) → mark_of g log s ≡ Some (Mark e) → AreLeftUp s → takes_down e ≡ false
 mark_of_up g log (ws, []) e h u = mark_from_up g log (quiet (all_links g) (calls_of log)) (round (all_links g) (calls_of log)) ws e h u.events

@@ -17,8 +17,7 @@ counted_by None n = 0
 counted_by (Some k) n = one_if (k == n)
 
 pub counted : (e : Event) (n : ℕ) → submits_by n e ≡ counted_by (scripts.submitted_by e) n
-counted (Submit k) n = refl
-counted _ n = refl
+counted e n = grind arith
 
 -- and its text
 pub record Reads (txns : List Txn) (k : ℕ) (text : Option Txn) : Type 0 where
@@ -39,15 +38,9 @@ submits cat txns _ v = refl
 
 -- a transaction that is submitted has a place
 
-some_by : (number : Option ℕ) (n behind count : ℕ) → (1 ≤ count → 1 ≤ behind) → 1 ≤ counted_by number n + count → 1 ≤ number_by number n behind
-some_by None n behind count later h = later (omega (arith, h))
-some_by (Some k) n behind count later h = elim (k == n) as (λ b. 1 ≤ cond b 1 (suc behind)) [ true ↦ omega arith | false ↦ omega arith ]
-
 pub some_place : (events : List Event) (n : ℕ) → 1 ≤ submits_in n events → 1 ≤ number_in events n
 some_place [] n h = omega (arith, h)
-some_place (e ∷ events) n h =
-    let count = counted e n in
-    some_by (scripts.submitted_by e) n (number_in events n) (submits_in n events) (some_place events n) (omega (arith, h, count))
+some_place (e ∷ events) n h = grind (arith, some_place events n)
 
 -- and there its text is read
 
@@ -100,46 +93,9 @@ place_of cat txns n (e ∷ events) fine some =
 
 -- different transactions have different places
 
-differ_by : (number : Option ℕ) (n m a b count_n count_m : ℕ) → (1 ≤ count_n → 1 ≤ count_m → a ≡ b → n ≡ m) → (1 ≤ count_n → 1 ≤ a) → (1 ≤ count_m → 1 ≤ b)
-    → 1 ≤ counted_by number n + count_n → 1 ≤ counted_by number m + count_m → number_by number n a ≡ number_by number m b → n ≡ m
-differ_by None n m a b count_n count_m later x y p q e = later (omega (arith, p)) (omega (arith, q)) e
-differ_by (Some k) n m a b count_n count_m later x y p q e =
-    elim (cases_eq k n) [
-      | inl here ↦ elim (cases_eq k m) [
-        | inl also ↦ sym here ∙ also
-        | inr far ↦
-            let h : (k == n) ≡ true = eq-eqb k n here in
-            let f : (k == m) ≡ false = ne_eqb k m far in
-            let g : 1 ≡ suc b = rw (h, f) at e in
-            let none : counted_by (Some k) m ≡ 0 = ap one_if f in
-            let least = y (omega (arith, q, none)) in
-            absurd (omega (arith, g, least))
-      ]
-      | inr far ↦ elim (cases_eq k m) [
-        | inl also ↦
-            let h : (k == m) ≡ true = eq-eqb k m also in
-            let f : (k == n) ≡ false = ne_eqb k n far in
-            let g : suc a ≡ 1 = rw (f, h) at e in
-            let none : counted_by (Some k) n ≡ 0 = ap one_if f in
-            let least = x (omega (arith, p, none)) in
-            absurd (omega (arith, g, least))
-        | inr away ↦
-            let f : (k == n) ≡ false = ne_eqb k n far in
-            let h : (k == m) ≡ false = ne_eqb k m away in
-            let g : suc a ≡ suc b = rw (f, h) at e in
-            let none : counted_by (Some k) n ≡ 0 = ap one_if f in
-            let no : counted_by (Some k) m ≡ 0 = ap one_if h in
-            later (omega (arith, p, none)) (omega (arith, q, no)) (omega (arith, g))
-      ]
-    ]
-
 pub one_place : (events : List Event) (n m : ℕ) → 1 ≤ submits_in n events → 1 ≤ submits_in m events → number_in events n ≡ number_in events m → n ≡ m
 one_place [] n m p q e = absurd (omega (arith, p))
-one_place (event ∷ events) n m p q e =
-    let a = counted event n in
-    let b = counted event m in
-    differ_by (scripts.submitted_by event) n m (number_in events n) (number_in events m) (submits_in n events) (submits_in m events)
-    (one_place events n m) (some_place events n) (some_place events m) (omega (arith, p, a)) (omega (arith, q, b)) e
+one_place (event ∷ events) n m p q e = grind (arith, some_place, one_place events n m)
 
 -- a smaller place stands before a greater one
 
@@ -165,9 +121,7 @@ more_front e events m n none s =
 separates_by : (e : Event) (events : List Event) (number : Option ℕ) (m n : ℕ) → scripts.submitted_by e ≡ number
     → (1 ≤ submits_in m events → number_in events m < number_in events n → Separates events m n) → 1 ≤ counted_by number m + submits_in m events
     → number_by number m (number_in events m) < number_by number n (number_in events n) → Separates (e ∷ events) m n
-separates_by e events None m n a later some less =
-    let none : submits_by n e ≡ 0 = counted e n ∙ ap (λ (o : Option ℕ). counted_by o n) a in
-    more_front e events m n none (later (omega (arith, some)) less)
+separates_by e events None m n a later some less = grind (arith, more_front)
 separates_by e events (Some k) m n a later some less =
     elim (cases_eq k n) [
       | inl here ↦

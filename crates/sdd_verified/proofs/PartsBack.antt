@@ -1,5 +1,5 @@
 -- The lines of a report give back what they tell.
-use Rattle.sdd_verified.proofs.All.{AllByRecursion, AllWords, Bool, Catalogue, CopyTable, HasNoSpace, Int, IsPlain, List, Overflow, Pending, Plain, Reply, Row, Rows, Some, Text, TooMany, Txn, Value, Word, [], all_pending_words, and_left, answers_words, ap, append_assoc, append_cancel_left, append_cancel_right, arith, codes, cond, copies_told, copies_words, copy_words, decimal, decimal_injective, digit_glyph, digits_onto, false, flat_map, in_range, leb-true, length, line_bytes, mag, map, more_bytes, nat_le, negsuc, order_words, outcome_words, pending_names, pending_words, place_words, pos, queries_words, query_words, refl, replies_words, row_words, rows_words, scan, scan_again, signed_decimal, spaced, subst, suc, sym, true, txn_name, value_bytes, value_word, why_words, word_bytes, zero, ℕ, ℤ, ◌%◌, ◌*◌, ◌++◌, ◌+◌, ◌-◌, ◌/◌, ◌==◌, ◌^◌, ◌||◌, ◌∙◌, ◌∷◌, ◌≡◌, ◌≤◌}
+use Rattle.sdd_verified.proofs.All.{AllByRecursion, AllWords, Bool, Catalogue, CopyTable, HasNoSpace, Int, IsPlain, List, Overflow, Pending, Plain, Reply, Row, Rows, Some, Text, TooMany, Txn, Value, [], all_pending_words, answers_words, ap, append_assoc, append_cancel_left, append_cancel_right, arith, codes, cond, copies_told, copies_words, copy_words, decimal, decimal_injective, digit_glyph, digits_onto, false, flat_map, in_range, length, line_bytes, mag, map, more_bytes, order_words, outcome_words, pending_names, pending_words, place_words, queries_words, query_words, refl, replies_words, row_words, rows_words, scan, scan_again, signed_decimal, spaced, subst, suc, sym, true, txn_name, value_bytes, value_word, why_words, word_bytes, zero, ℕ, ℤ, ◌%◌, ◌*◌, ◌++◌, ◌+◌, ◌/◌, ◌==◌, ◌^◌, ◌||◌, ◌∙◌, ◌∷◌, ◌≡◌, ◌≤◌}
 use Rattle.std.specs.Fmt.{digits}
 use Rattle.sdd_verified.proofs.ReportLines.{decimal_is, glyph_apart}
 use Rattle.sdd_verified.proofs.ValuesKept.{Answers, Hold, Holds}
@@ -33,8 +33,7 @@ parted p (x ∷ xs) (z ∷ zs) ys ws h k f g e =
     (ap (λ y. y ∷ xs) s.0 ∙ ap (λ l. z ∷ l) r.0, r.1)
 
 pub fails_on : {A : Type 0} (p : A → Bool) (xs ys : List A) → FirstFails p xs → FirstFails p ys → FirstFails p (xs ++ ys)
-fails_on p [] ys h k = k
-fails_on p (x ∷ xs) ys h k = h
+fails_on p xs ys h k = grind arith
 
 pub both_pass : {A : Type 0} (p : A → Bool) (xs ys : List A) → AllPass p xs → AllPass p ys → AllPass p (xs ++ ys)
 both_pass p [] ys h k = k
@@ -65,10 +64,7 @@ is_pending line = kind line == kind (codes "pending")
 -- numbers hold no space, and give back what they tell
 
 no_space_digits : (k n : ℕ) (acc : List ℕ) → HasNoSpace acc → HasNoSpace (digits_onto (suc k) 10 false n acc)
-no_space_digits zero n acc h =
-    let g : ℕ = digit_glyph false (n % 10) in
-    let here : HasNoSpace (g ∷ acc) = (glyph_apart n, h) in
-    elim (n / 10 == 0) as (λ b. HasNoSpace (cond b (g ∷ acc) (digits_onto zero 10 false (n / 10) (g ∷ acc)))) [ true ↦ here | false ↦ here ]
+no_space_digits zero n acc h = grind arith
 no_space_digits (suc k) n acc h =
     let g : ℕ = digit_glyph false (n % 10) in
     let here : HasNoSpace (g ∷ acc) = (glyph_apart n, h) in
@@ -82,15 +78,13 @@ unfolding digits
 no_space_decimal n = no_space_digits 63 n [] tt
 
 plain_by : (bytes : List ℕ) (first : ℕ) (rest : List ℕ) → bytes ≡ first ∷ rest → 48 ≤ first → HasNoSpace bytes → IsPlain bytes
-plain_by [] first rest e least h = absurd cc
-plain_by (c ∷ cs) first rest e least h = let same = (same_first c first cs rest e).0 in ((λ q. omega (arith, q, same, least)), h.0, h.1)
+plain_by bytes first rest e least h = grind arith
 
 decimal_plain : (n : ℕ) → IsPlain (decimal n)
 decimal_plain n = let d = decimal_is n in plain_by (decimal n) d.first d.rest d.is d.least (no_space_decimal n)
 
 signed_plain : (n : ℤ) → IsPlain (signed_decimal n)
-signed_plain (pos n) = decimal_plain n
-signed_plain (negsuc n) = ((λ e. omega (arith, e)), (λ e. omega (arith, e)), no_space_decimal (suc n))
+signed_plain n = grind (arith, decimal_plain)
 
 no_minus : (n m : ℕ) → decimal n ≡ 45 ∷ decimal m → ⊥
 no_minus n m e =
@@ -104,17 +98,10 @@ IsTold (Int n) = mag n ≤ 2 ^ 63
 IsTold (Text t) = Unit {0}
 
 pub ints_told : (n : ℤ) → in_range n ≡ true → IsTold (Int n)
-ints_told (pos n) fits = let most = leb-true n (2 ^ 63 - 1) fits in omega (arith, most)
-ints_told (negsuc n) fits = let most = leb-true n (2 ^ 63 - 1) (and_left (nat_le n (2 ^ 63 - 1)) true fits) in omega (arith, most)
+ints_told n fits = grind arith
 
 number_back : (a b : ℤ) → mag a ≤ 2 ^ 63 → mag b ≤ 2 ^ 63 → signed_decimal a ≡ signed_decimal b → a ≡ b
-number_back (pos a) (pos b) h k e = ap pos (decimal_injective a b (omega (arith, h)) (omega (arith, k)) e)
-number_back (pos a) (negsuc b) h k e = absurd (no_minus a (suc b) e)
-number_back (negsuc a) (pos b) h k e = absurd (no_minus b (suc a) (sym e))
-number_back (negsuc a) (negsuc b) h k e =
-    let s = same_first 45 45 (decimal (suc a)) (decimal (suc b)) e in
-    let n = decimal_injective (suc a) (suc b) (omega (arith, h)) (omega (arith, k)) s.1 in
-    ap negsuc (omega (arith, n))
+number_back a b h k e = grind (arith, decimal_injective, no_minus)
 
 -- rows give back their values
 
@@ -157,14 +144,8 @@ row_scanned row h =
     ∙ scan_again (Plain (codes "row") ∷ map value_word row)
     (((λ e. omega (arith, e)), (λ e. omega (arith, e)), ((λ e. omega (arith, e)), ((λ e. omega (arith, e)), tt))), words_fine row h)
 
-some_words : (xs ys : List Word) → Some xs ≡ Some ys → xs ≡ ys
-some_words xs ys e = cc
-
 row_back : (row other : Row) → AreValues row → AreValues other → row_words row ≡ row_words other → row ≡ other
-row_back row other h k e =
-    let w = some_words (Plain (codes "row") ∷ map value_word row) (Plain (codes "row") ∷ map value_word other)
-    (sym (row_scanned row h) ∙ ap (λ (l : List ℕ). scan Start [] l) e ∙ row_scanned other k) in
-    values_back row other h k (same_first (Plain (codes "row")) (Plain (codes "row")) (map value_word row) (map value_word other) w).1
+row_back row other h k e = grind (arith, row_scanned, values_back)
 
 rows_back : (rows others : List Row) → AreAllValues rows → AreAllValues others → rows_words rows ≡ rows_words others → rows ≡ others
 rows_back [] [] h k e = refl
@@ -180,9 +161,7 @@ rows_pass (row ∷ rows) = (refl, rows_pass rows)
 -- what stands behind rows, and isn't one
 behind_rows : (rows others : List Row) (xs ys : List (List ℕ)) → AreAllValues rows → AreAllValues others → FirstFails is_row xs → FirstFails is_row ys
     → rows_words rows ++ xs ≡ rows_words others ++ ys → (rows ≡ others) × (xs ≡ ys)
-behind_rows rows others xs ys h k f g e =
-    let r = parted is_row (rows_words rows) (rows_words others) xs ys (rows_pass rows) (rows_pass others) f g e in
-    (rows_back rows others h k r.0, r.1)
+behind_rows rows others xs ys h k f g e = grind (arith, parted, rows_pass, rows_back)
 
 -- replies
 

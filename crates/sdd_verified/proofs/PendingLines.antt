@@ -1,5 +1,5 @@
 -- A report has as many lines of pending transactions as transactions are pending.
-use Rattle.sdd_verified.proofs.All.{AreNamed, Bool, Catalogue, Contains, Contains-cases, Contains-nil, IsReportOn, IsSoundCatalogue, IsValid, List, Pending, TxnNo, Workload, [], ap, arith, codes, cond, count_by, false, history, inl, input_of, inr, length, length-map, lines_of, ltb-true, ne_eqb, not, order_words, pending_words, refl, replies_words, report_of, serial_order, subst, sum_by-cons, sym, tells_pending, true, whole_in, ℕ, ◌++◌, ◌+◌, ◌==◌, ◌∙◌, ◌∷◌, ◌≡◌}
+use Rattle.sdd_verified.proofs.All.{AreNamed, Bool, Catalogue, Contains, Contains-cases, Contains-nil, IsReportOn, IsSoundCatalogue, IsValid, List, Pending, TxnNo, Workload, [], ap, arith, codes, cond, count_by, false, history, inl, input_of, inr, length, length-map, lines_of, ltb-true, ne_eqb, not, order_words, pending_words, refl, replies_words, report_of, serial_order, subst, sum_by-cons, sym, tells_pending, true, whole_in, ℕ, ◌++◌, ◌+◌, ◌∙◌, ◌∷◌, ◌≡◌}
 use Rattle.sdd_verified.proofs.PartsBack.{AllPass}
 use Rattle.sdd_verified.proofs.PassingLines.{copies_pass, pending_pass, replies_pass, shipped_pass}
 use Rattle.sdd_verified.proofs.ReportParts.{happened, is_numbered, kept, lines_are, names, replies, shipped, trace_passes, waiting}
@@ -20,12 +20,10 @@ abbrev tells_other : List ℕ → Bool
 tells_other line = not (tells_pending line)
 
 not_one : (b : Bool) → counts b ≡ 0 → b ≡ false
-not_one true h = absurd (omega (arith, h))
-not_one false h = refl
+not_one b h = grind arith
 
 other_none : (b : Bool) → not b ≡ true → counts b ≡ 0
-other_none true h = cc
-other_none false h = refl
+other_none b h = grind arith
 
 none_counted : (lines : List (List ℕ)) → AllPass tells_other lines → count_by tells_pending lines ≡ 0
 none_counted [] h = refl
@@ -52,10 +50,7 @@ none_there (first ∷ lines) h line there =
 
 -- a line that begins with a digit tells of none
 numbered_other : (line : List ℕ) → is_numbered line ≡ true → tells_other line ≡ true
-numbered_other [] h = refl
-numbered_other (c ∷ line) h =
-    let less = ltb-true c 58 h in
-    let other : (112 == c) ≡ false = ne_eqb 112 c (λ e. omega (arith, e, less)) in rw other refl
+numbered_other line h = grind (arith, ltb-true, ne_eqb)
 
 all_numbered : (lines : List (List ℕ)) → AllPass is_numbered lines → AllPass tells_other lines
 all_numbered [] h = tt

@@ -1,5 +1,5 @@
 -- Members of an order by their places, where none stands twice.
-use Rattle.sdd_verified.proofs.All.{Catalogue, ComesBefore, Contains, Contains-here, Contains-later, History, IsAlong, List, TxnNo, [], ap, arith, at, cases_lt, inl, inr, length, refl, slice_index_or as get_or, suc, sym, txn_no, zero, ℕ, ◌++◌, ◌+◌, ◌<◌, ◌∙◌, ◌∷◌, ◌≡◌, ◌≢◌}
+use Rattle.sdd_verified.proofs.All.{Catalogue, ComesBefore, Contains, Contains-here, Contains-later, History, IsAlong, List, TxnNo, [], ap, arith, at, length, refl, slice_index_or as get_or, suc, sym, txn_no, zero, ℕ, ◌++◌, ◌+◌, ◌<◌, ◌∙◌, ◌∷◌, ◌≡◌, ◌≢◌}
 
 pub member : (order : List TxnNo) (i : ℕ) → i < length order → Contains order (at order i)
 member [] i lt = absurd (omega arith)
@@ -17,14 +17,7 @@ different cat h _ along i _ less within = absurd (omega arith)
 
 -- so its place is known
 one_place : (order : List TxnNo) (i k : ℕ) → AreDifferent order → i < length order → k < length order → (at order i).0 ≡ (at order k).0 → i ≡ k
-one_place order i k apart in_i in_k same =
-    elim (cases_lt i k) [
-      | inl less ↦ absurd (apart i k less in_k same)
-      | inr le ↦ elim (cases_lt k i) [
-        | inl more ↦ absurd (apart k i more in_i (sym same))
-        | inr ge ↦ omega arith
-      ]
-    ]
+one_place order i k apart in_i in_k same = grind arith
 
 at_front : (front : List TxnNo) (n : TxnNo) (rest : List TxnNo) → at (front ++ n ∷ rest) (length front) ≡ n
 at_front [] n rest = refl
@@ -32,9 +25,7 @@ at_front (x ∷ front) n rest = at_front front n rest
 
 at_behind : (front : List TxnNo) (n : TxnNo) (rest : List TxnNo) (j : ℕ) → at (front ++ n ∷ rest) (length front + suc j) ≡ at rest j
 at_behind [] n rest j = let e : 0 + suc j ≡ suc j = omega arith in ap (at (n ∷ rest)) e
-at_behind (x ∷ front) n rest j =
-    let e : length (x ∷ front) + suc j ≡ suc (length front + suc j) = omega arith in
-    ap (at (x ∷ (front ++ n ∷ rest))) e ∙ at_behind front n rest j
+at_behind (x ∷ front) n rest j = grind (arith, at_behind front n rest j)
 
 any_default : (xs : List TxnNo) (j : ℕ) (x d : TxnNo) → j < length xs → get_or xs j x ≡ get_or xs j d
 any_default [] j x d lt = absurd (omega arith)

@@ -1,5 +1,5 @@
 -- The lines of a report: none of its trace tells an order, and what follows the replies begins with a line of no reply.
-use Rattle.sdd_verified.proofs.All.{All, All-cons, All-nil, AreLines, Catalogue, Class, Cond, CopyTable, HasNoNewline, IsName, IsOther, List, None, Option, Pending, Rec, Some, Told, Ts, Txn, TxnNo, [], ap, append_assoc, arith, attempt_word, class_name, class_time, class_word, codes, cond, cond_words, copies_lines, copy_lines, decimal, digit_glyph, digits_onto, false, flat_map, found_member, is_order_line, module_word, name_line, nat_tests, ne_eqb, no_newline-append, of_attempt, of_visit, option_map_or, pending_line, pending_lines, record_words, refl, rules, shipped_line, shipped_of, slice_get, spaced, spelled_lines, subst, suc, sym, tells_reply, time_word, told_of, trace, trace_line, true, txn_name, zero, ℕ, ◌%◌, ◌++◌, ◌+◌, ◌-◌, ◌/◌, ◌<◌, ◌==◌, ◌∙◌, ◌∷◌, ◌≡◌, ◌≢◌, ◌≤◌}
+use Rattle.sdd_verified.proofs.All.{All, All-cons, All-nil, AreLines, Catalogue, Class, Cond, CopyTable, HasNoNewline, IsName, IsOther, List, None, Option, Pending, Rec, Some, Told, Ts, Txn, TxnNo, [], append_assoc, arith, attempt_word, class_time, class_word, codes, cond, cond_words, copies_lines, decimal, digit_glyph, digits_onto, false, flat_map, found_member, is_order_line, module_word, name_line, nat_tests, ne_eqb, no_newline-append, of_attempt, of_visit, option_map_or, pending_lines, record_words, refl, rules, shipped_line, shipped_of, slice_get, spaced, spelled_lines, subst, suc, sym, tells_reply, time_word, told_of, trace, true, txn_name, zero, ℕ, ◌%◌, ◌++◌, ◌+◌, ◌-◌, ◌/◌, ◌<◌, ◌==◌, ◌∷◌, ◌≡◌, ◌≢◌, ◌≤◌}
 use Rattle.std.specs.Fmt.{digits}
 use Rattle.sdd_obligations.specs.history.declared.record.Rec.TheVariants as records
 
@@ -34,10 +34,7 @@ digit_first n acc h =
     }
 
 digits_from : (k n : ℕ) (acc : List ℕ) → HasNoNewline acc → IsNumber (digits_onto (suc k) 10 false n acc)
-digits_from zero n acc h =
-    let here = digit_first n acc h in
-    let g : ℕ = digit_glyph false (n % 10) in
-    elim (n / 10 == 0) as (λ b. IsNumber (cond b (g ∷ acc) (digits_onto zero 10 false (n / 10) (g ∷ acc)))) [ true ↦ here | false ↦ here ]
+digits_from zero n acc h = grind arith
 digits_from (suc k) n acc h =
     let here = digit_first n acc h in
     let g : ℕ = digit_glyph false (n % 10) in
@@ -69,10 +66,7 @@ module _ (cat : Catalogue) (txns : List Txn) (classes_named : All (λ (k : Class
   txn_line n = named_by (λ (t : Txn). t.name) txns (n - 1) (slice_get txns (n - 1)) refl txns_named
 
   pub class_line : (c : ℕ) → HasNoNewline (class_word cat c)
-  class_line c =
-      let named = named_by (λ (k : Class). k.name) cat.classes (c - 1) (slice_get cat.classes (c - 1)) refl classes_named in
-      let dash : HasNoNewline (codes "-") = search rules in
-      elim (c == 0) as (λ b. HasNoNewline (cond b (codes "-") (class_name cat c))) [ true ↦ dash | false ↦ named ]
+  class_line c = grind (arith, named_by)
 
   attempt_line : (n attempt : ℕ) → HasNoNewline (attempt_word txns n attempt)
   attempt_line n attempt = no_newline-append (txn_name txns n) (35 ∷ decimal attempt) (txn_line n) (λ e. omega (arith, e), number_line attempt)
@@ -82,8 +76,7 @@ module _ (cat : Catalogue) (txns : List Txn) (classes_named : All (λ (k : Class
       (spaced_line (class_word cat c) (class_line c)) (spaced_line (decimal time) (number_line time))
 
   time_line : (time : Option Ts) → HasNoNewline (time_word time)
-  time_line None = search rules
-  time_line (Some time) = number_line time.0
+  time_line time = grind (arith, number_line)
 
   pub module_line : (d : ℕ) → HasNoNewline (spaced (module_word d))
   module_line d = spaced_line (module_word d) (λ e. omega (arith, e), number_line d)
@@ -137,27 +130,15 @@ module _ (cat : Catalogue) (txns : List Txn) (classes_named : All (λ (k : Class
 
   pub trace_is : (history : List (ℕ × Rec)) → trace cat txns history ≡ spelled_lines (lines_in history)
   trace_is [] = refl
-  trace_is (made ∷ history) =
-      let words : List ℕ = spaced (record_words cat txns made.1) in
-      ap (λ (l : List ℕ). trace_line cat txns made ++ l) (trace_is history)
-      ∙ append_assoc (decimal made.0) (words ++ 10 ∷ []) (spelled_lines (lines_in history))
-      ∙ ap (λ (l : List ℕ). decimal made.0 ++ l) (append_assoc words (10 ∷ []) (spelled_lines (lines_in history)))
-      ∙ sym (append_assoc (decimal made.0) words (10 ∷ spelled_lines (lines_in history)))
+  trace_is (made ∷ history) = grind (arith, append_assoc, trace_is history)
 
   pub trace_lines : (history : List (ℕ × Rec)) → AreLines (lines_in history)
   trace_lines [] = tt
-  trace_lines (made ∷ history) = (
-    no_newline-append (decimal made.0) (spaced (record_words cat txns made.1)) (number_line made.0)
-        (spaced_line (record_words cat txns made.1) (record_line made.1)),
-    trace_lines history,
-  )
+  trace_lines (made ∷ history) = grind (arith, no_newline-append, number_line, record_line, trace_lines history)
 
   -- which begin with a digit
   other_by : (first : ℕ) (rest : List ℕ) → first ≤ 57 → is_order_line (first ∷ rest) ≡ false
-  other_by first rest most =
-      let a : (first == 111) ≡ false = ne_eqb first 111 (λ e. omega (arith, e, most)) in
-      let b : (111 == first) ≡ false = ne_eqb 111 first (λ e. omega (arith, e, most)) in
-      rw (a, b) refl
+  other_by first rest most = grind (arith, ne_eqb)
 
   other_line : (made : ℕ × Rec) → is_order_line (line_of made) ≡ false
   other_line made =
@@ -182,25 +163,12 @@ pub record Begins (text : List ℕ) : Type 0 where
   pub is : text ≡ first ∷ rest
   pub none : BeginsNone first
 
-begins_front : (a b : List ℕ) → Begins a → Begins (a ++ b)
-begins_front a b h = record { first = h.first; rest = h.rest ++ b; is = ap (λ (l : List ℕ). l ++ b) h.is; none = h.none }
-
-shipped_begins : (name : List ℕ) (told : Told) → Begins (shipped_line name told)
-shipped_begins name told = record { first = 115; rest = _; is = refl; none = (λ e. omega (arith, e), λ rest. refl) }
-
-pending_begins : (cat : Catalogue) (txns : List Txn) (p : Pending) → Begins (pending_line cat txns p)
-pending_begins cat txns p = record { first = 112; rest = _; is = refl; none = (λ e. omega (arith, e), λ rest. refl) }
-
-copy_begins : (cat : Catalogue) (table : CopyTable) → Begins (copy_lines cat table)
-copy_begins cat table = record { first = 99; rest = _; is = refl; none = (λ e. omega (arith, e), λ rest. refl) }
-
 end_begins : Begins (codes "end\n")
 end_begins = record { first = 101; rest = _; is = refl; none = (λ e. omega (arith, e), λ rest. refl) }
 
 shipped_by : (txns : List Txn) (n : TxnNo) (o : Option Told) (rest : List ℕ) → Begins rest
     → Begins (option_map_or (λ (told : Told). shipped_line (txn_name txns n.0) told) o [] ++ rest)
-shipped_by txns n None rest h = h
-shipped_by txns n (Some told) rest h = begins_front (shipped_line (txn_name txns n.0) told) rest (shipped_begins (txn_name txns n.0) told)
+shipped_by txns n o rest h = grind arith
 
 all_shipped : (txns : List Txn) (history : List (ℕ × Rec)) (order : List TxnNo) (rest : List ℕ)
     → Begins rest → Begins (flat_map (shipped_of txns history) order ++ rest)
@@ -211,15 +179,11 @@ all_shipped txns history (n ∷ order) rest h =
 
 all_pending : (cat : Catalogue) (txns : List Txn) (pending : List Pending) (rest : List ℕ) → Begins rest → Begins (pending_lines cat txns pending ++ rest)
 all_pending cat txns [] rest h = h
-all_pending cat txns (p ∷ pending) rest h =
-    subst Begins (sym (append_assoc (pending_line cat txns p) (pending_lines cat txns pending) rest))
-    (begins_front (pending_line cat txns p) (pending_lines cat txns pending ++ rest) (pending_begins cat txns p))
+all_pending cat txns (p ∷ pending) rest h = grind arith
 
 all_copies : (cat : Catalogue) (copies : List CopyTable) (rest : List ℕ) → Begins rest → Begins (copies_lines cat copies ++ rest)
 all_copies cat [] rest h = h
-all_copies cat (table ∷ copies) rest h =
-    subst Begins (sym (append_assoc (copy_lines cat table) (copies_lines cat copies) rest))
-    (begins_front (copy_lines cat table) (copies_lines cat copies ++ rest) (copy_begins cat table))
+all_copies cat (table ∷ copies) rest h = grind arith
 
 pub rest_begins : (cat : Catalogue) (txns : List Txn) (history : List (ℕ × Rec)) (order : List TxnNo) (pending : List Pending) (copies : List CopyTable)
     → Begins (flat_map (shipped_of txns history) order ++ (pending_lines cat txns pending ++ (copies_lines cat copies ++ codes "end\n")))

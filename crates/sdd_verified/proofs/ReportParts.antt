@@ -1,5 +1,5 @@
 -- A report, by its lines.
-use Rattle.sdd_verified.proofs.All.{All, AllByRecursion, AllZip, AreNamed, Bool, Catalogue, CopyTable, Int, IsName, IsReplyOf, IsReportOn, IsSoundCatalogue, IsValid, IsValue, List, Rec, Reply, Report, Text, Txn, TxnNo, Value, Workload, [], all_by_member, all_pending_words, all_shipped_words, ap, arith, codes, copies_lines, copies_words, copy_words, cut_again, cut_lines, false, history, input_of, length, length-map, lt-ltb, names_of, nat_lt, order_line, order_words, pending_lines, record_words, refl, replies_along, replies_words, report_of, run, serial_order, spaced, subst, suc, sym, trace, true, txn_name, value_fine, whole_in, ℕ, ◌++◌, ◌∙◌, ◌∷◌, ◌≡◌, ◌≤◌}
+use Rattle.sdd_verified.proofs.All.{All, AllByRecursion, AllZip, AreNamed, Bool, Catalogue, CopyTable, IsName, IsReplyOf, IsReportOn, IsSoundCatalogue, IsValid, IsValue, List, Rec, Reply, Report, Txn, TxnNo, Value, Workload, [], all_by_member, all_pending_words, all_shipped_words, ap, arith, codes, copies_lines, copies_words, copy_words, cut_again, cut_lines, false, history, input_of, length, length-map, lt-ltb, names_of, nat_lt, order_line, order_words, pending_lines, record_words, refl, replies_along, replies_words, report_of, run, serial_order, spaced, subst, suc, sym, trace, true, txn_name, value_fine, whole_in, ℕ, ◌++◌, ◌∙◌, ◌∷◌, ◌≡◌, ◌≤◌}
 use Rattle.sdd_verified.proofs.GivenValues.{answers_given, copied_given}
 use Rattle.sdd_verified.proofs.PartsBack.{AllPass, AreAllValues, AreAnswers, FirstFails, IsTold, fails_on, ints_told, is_pending, is_reply, is_shipped}
 use Rattle.sdd_verified.proofs.PassingLines.{first_copy, first_pending, first_shipped}
@@ -15,8 +15,7 @@ clean v h = (value_fine v h).line
 
 -- numbers of 64 bits, and values of workloads, are told as they are
 told : (v : Value) → IsValue v → IsTold v
-told (Int n) h = omega (arith, h)
-told (Text t) h = tt
+told v h = grind arith
 
 -- a line that begins with a digit
 abbrev pub is_numbered : List ℕ → Bool

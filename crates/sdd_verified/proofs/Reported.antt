@@ -1,5 +1,5 @@
 -- The report on a run is verified.
-use Rattle.sdd_verified.proofs.All.{All, All-cons, All-head, All-nil, All-tail, AllFewTicks, AreNamed, AreSubmittedOnce, Catalogue, ComesBefore, Committed, Contains, History, Input, IsCommitted, IsFrom1To, IsName, IsOfSubmit, IsReportOn, IsSoundCatalogue, IsSubmitted, IsSubmittedBefore, IsValid, IsValidTxn, IsVerified, KeepsStarts, List, MAX_REPORT_BYTES, Reply, Report, Some, Txn, TxnNo, Workload, [], after_replies, all_members, ap, arith, at, cases_lt, catalogue_at, class_for, class_of, classes_in, classes_submitted, copies_lines, database_of, era_at, eras_are, eras_in, eras_of, event_at, event_of_submit, few_lists, few_ticks, flat_map, history, index_or, inl, input_of, inr, length, list_at_number, map, named_by_events, names_of, nth_era, once, order_line, pending_lines, redeclares, refl, replies, replies_along, reply_lines, report_of, run, serial, serial_order, serial_replies, shipped_of, slice_get, spelled_lines, starts, submits_in, submitted, subst, sym, texts_of, txn_of, whole_in, whole_over, ℕ, ◌++◌, ◌-◌, ◌<◌, ◌∙◌, ◌∷◌, ◌≡◌, ◌≢◌, ◌≤◌}
+use Rattle.sdd_verified.proofs.All.{All, All-head, All-tail, AllFewTicks, AreNamed, AreSubmittedOnce, Catalogue, ComesBefore, Committed, Contains, History, Input, IsCommitted, IsFrom1To, IsName, IsOfSubmit, IsReportOn, IsSoundCatalogue, IsSubmitted, IsSubmittedBefore, IsValid, IsValidTxn, IsVerified, KeepsStarts, List, MAX_REPORT_BYTES, Reply, Report, Some, Txn, TxnNo, Workload, [], after_replies, all_members, ap, arith, at, cases_lt, catalogue_at, class_for, class_of, classes_in, classes_submitted, database_of, era_at, eras_are, eras_in, eras_of, event_at, event_of_submit, few_lists, few_ticks, history, index_or, inl, input_of, inr, length, list_at_number, map, named_by_events, names_of, nth_era, once, order_line, redeclares, refl, replies, replies_along, report_of, run, serial, serial_order, serial_replies, slice_get, spelled_lines, starts, submits_in, submitted, subst, sym, texts_of, txn_of, whole_in, whole_over, ℕ, ◌++◌, ◌-◌, ◌<◌, ◌∙◌, ◌∷◌, ◌≡◌, ◌≢◌, ◌≤◌}
 use Rattle.sdd_verified.proofs.ClassPlaces.{class_at, redeclared_at}
 use Rattle.sdd_verified.proofs.ListAt.{list_at}
 use Rattle.sdd_verified.proofs.FirstLines.{FirstLine, first_line, whole_end}
@@ -17,21 +17,12 @@ HasText txns n = (t : Txn) × (txn_of txns n ≡ Some t)
 replies_are : (txns : List Txn) (order : List TxnNo) (answers : List Reply) → All (HasText txns) order
     → replies_along (names_of txns order) answers ≡ replies (texts_of txns order) answers
 replies_are txns [] answers there = refl
-replies_are txns (n ∷ order) [] there =
-    let here = All-head (HasText txns) n order there in
-    let is = here.1 in
-    rw is refl
+replies_are txns (n ∷ order) [] there = grind (arith, All-head)
 replies_are txns (n ∷ order) (reply ∷ answers) there =
-    let here = All-head (HasText txns) n order there in
-    let is = here.1 in
-    let more = replies_are txns order answers (All-tail (HasText txns) n order there) in
-    rw is (ap (λ (l : List ℕ). reply_lines here.0.name reply ++ l) more)
+    grind (arith, All-head, replies_are txns order answers (All-tail (HasText txns) n order there))
 
 pub names_of_txns : (cat : Catalogue) (txns : List Txn) → All (IsValidTxn cat) txns → All (λ (t : Txn). IsName t.name) txns
-names_of_txns cat [] valid = All-nil (λ (t : Txn). IsName t.name)
-names_of_txns cat (t ∷ txns) valid =
-    All-cons (λ (u : Txn). IsName u.name) t txns (All-head (IsValidTxn cat) t txns valid).named
-    (names_of_txns cat txns (All-tail (IsValidTxn cat) t txns valid))
+names_of_txns cat txns valid = grind arith
 
 module _ (cat : Catalogue) (work : Workload) (text : List ℕ) (sound : IsSoundCatalogue (whole_in cat work)) (named : AreNamed (whole_in cat work))
     (valid : IsValid cat work) (r : IsReportOn cat work text) where
@@ -160,9 +151,7 @@ module _ (cat : Catalogue) (work : Workload) (text : List ℕ) (sound : IsSoundC
   told = report_of given r.log
 
   follows : FirstLine (after_replies told)
-  follows =
-      first_line (after_replies told) (rest_begins whole work.txns (history r.log) order told.pending told.copies)
-      (whole_end (flat_map (shipped_of work.txns (history r.log)) order) (pending_lines whole work.txns told.pending) (copies_lines whole told.copies))
+  follows = grind (arith, first_line, rest_begins, whole_end)
 
   abbrev Placed : List TxnNo
   Placed = map (moved cat work valid) order

@@ -17,8 +17,7 @@ end_from events (Settle ∷ rest) h = end_from events rest (end_tail events (Set
 end_from events _ h = h
 
 end_mark : (events : List Event) (s : List Event × List Event) → EndOf events s.0 → EndOf events (after_mark s).0
-end_mark events (rest, []) h = end_tail events (from_event rest) (end_from events rest h)
-end_mark events (rest, e ∷ round) h = h
+end_mark events s h = grind (arith, end_tail, end_from)
 
 pub end_left : (events : List Event) (log : Log) → EndOf events (left events log).0
 end_left events [] = record { front = []; is = refl }
@@ -53,13 +52,7 @@ two_fronts (x ∷ xs) ys (f ∷ fs) ss e =
 again : (m n : ℕ) (a b : Site) (between rest_m rest_n : Log) (k l : TxnNo) (earlier_m earlier_n : Log)
     → between ++ Submitted b n ∷ rest_n ≡ Mark (Submit k) ∷ earlier_m → rest_n ≡ Mark (Submit l) ∷ earlier_n → 1 ≤ marked m earlier_n → 1 ≤ marked m earlier_m
 again m n a b [] rest_m rest_n k l earlier_m earlier_n e f some = let q : Submitted b n ≡ Mark (Submit k) = cc in absurd cc
-again m n a b (x ∷ between) rest_m rest_n k l earlier_m earlier_n e f some =
-    let q : between ++ Submitted b n ∷ rest_n ≡ earlier_m = cc in
-    let here : 1 ≤ marked m rest_n =
-    subst (λ (log : Log). 1 ≤ marked m log) (sym f) (let more : marked m earlier_n ≤ marked m
-    (Mark (Submit l) ∷ earlier_n) = omega arith in omega (arith, some, more)) in
-    let later = marked_later m between (Submitted b n ∷ rest_n) in
-    subst (λ (log : Log). 1 ≤ marked m log) q (omega (arith, here, later))
+again m n a b (x ∷ between) rest_m rest_n k l earlier_m earlier_n e f some = grind (arith, marked_later)
 
 pub own_mark : (n : ℕ) → one_if (n == n) ≡ 1
 own_mark n = ap one_if (eq-eqb n n refl)
