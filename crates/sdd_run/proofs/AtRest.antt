@@ -122,11 +122,7 @@ is_last g (Mark e ∷ log) h p =
 is_last g (Redeclares t ∷ log) h p =
     last_one g log t (list_taken g log t (left g.events log) (next_is_of_events g log (Redeclares t) refl h.0)
     (to_come g log (Redeclares t) h (is_last g log h.1 p)))
-is_last g (Round es ∷ log) h p = inl (to_come g log (Round es) h (is_last g log h.1 p))
-is_last g (Hand a b n m ∷ log) h p = inl (to_come g log (Hand a b n m) h (is_last g log h.1 p))
-is_last g (Submitted at n ∷ log) h p = inl (to_come g log (Submitted at n) h (is_last g log h.1 p))
-is_last g (Notes ∷ log) h p = inl (to_come g log Notes h (is_last g log h.1 p))
-is_last g (Does at act ∷ log) h p = inl (to_come g log (Does at act) h (is_last g log h.1 p))
+is_last g (x ∷ log) h p = inl (to_come g log x h (is_last g log h.1 p))
 
 -- where it is to come, something is next
 

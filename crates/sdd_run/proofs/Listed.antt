@@ -148,15 +148,7 @@ was_committed ((event, Commit txn attempt reply changes values rows) ∷ h) n e 
       record { place = 0; number = attempt; commit = record { reply = reply; changes = changes; values = values; rows = rows; is_recorded = ap (λ r. Some r) same } })
   | inr p ↦ later_commit (event, Commit txn attempt reply changes values rows) h n (was_committed h n p)
 ]
-was_committed ((event, Submit txn) ∷ h) n e = later_commit (event, Submit txn) h n (was_committed h n e)
-was_committed ((event, Start txn attempt class ts p2 uses) ∷ h) n e = later_commit (event, Start txn attempt class ts p2 uses) h n (was_committed h n e)
-was_committed ((event, Arrive txn attempt dm) ∷ h) n e = later_commit (event, Arrive txn attempt dm) h n (was_committed h n e)
-was_committed ((event, Wait txn attempt dm conds) ∷ h) n e = later_commit (event, Wait txn attempt dm conds) h n (was_committed h n e)
-was_committed ((event, Answer txn attempt dm) ∷ h) n e = later_commit (event, Answer txn attempt dm) h n (was_committed h n e)
-was_committed ((event, Reject txn attempt dm class ts) ∷ h) n e = later_commit (event, Reject txn attempt dm class ts) h n (was_committed h n e)
-was_committed ((event, Apply txn class dm ts) ∷ h) n e = later_commit (event, Apply txn class dm ts) h n (was_committed h n e)
-was_committed ((event, Pass class dm time) ∷ h) n e = later_commit (event, Pass class dm time) h n (was_committed h n e)
-was_committed ((event, Nothing) ∷ h) n e = later_commit (event, Nothing) h n (was_committed h n e)
+was_committed (x ∷ h) n e = later_commit x h n (was_committed h n e)
 
 listed_at : (f : ℕ × Rec → Option Pending) (h : History) (n k : ℕ) (one : Pending) → IsRecordAt h k (Submit (txn_no n))
     → ((event : ℕ) → f (event, Submit (txn_no n)) ≡ Some one) → (j : ℕ) × (slice_get (filter_map f h) j ≡ Some one)

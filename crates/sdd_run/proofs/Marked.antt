@@ -19,15 +19,7 @@ named cat count n [] v h = absurd (omega (arith, h))
 named cat count n (Submit m ∷ es) v h =
     named_by cat count n m.0 (submits_in n es) (m.0 == n) refl (All-head (IsValidEvent cat count) (Submit m) es v)
     (named cat count n es (All-tail (IsValidEvent cat count) (Submit m) es v)) h
-named cat count n (Deliver a b k ∷ es) v h = named cat count n es (All-tail (IsValidEvent cat count) (Deliver a b k) es v) (omega (arith, h))
-named cat count n (Lose a b k ∷ es) v h = named cat count n es (All-tail (IsValidEvent cat count) (Lose a b k) es v) (omega (arith, h))
-named cat count n (Repeat a b k ∷ es) v h = named cat count n es (All-tail (IsValidEvent cat count) (Repeat a b k) es v) (omega (arith, h))
-named cat count n (Resend a b ∷ es) v h = named cat count n es (All-tail (IsValidEvent cat count) (Resend a b) es v) (omega (arith, h))
-named cat count n (Tick t k ∷ es) v h = named cat count n es (All-tail (IsValidEvent cat count) (Tick t k) es v) (omega (arith, h))
-named cat count n (Settle ∷ es) v h = named cat count n es (All-tail (IsValidEvent cat count) Settle es v) (omega (arith, h))
-named cat count n (Redeclare ∷ es) v h = named cat count n es (All-tail (IsValidEvent cat count) Redeclare es v) (omega (arith, h))
-named cat count n (Down d ∷ es) v h = named cat count n es (All-tail (IsValidEvent cat count) (Down d) es v) (omega (arith, h))
-named cat count n (Up d ∷ es) v h = named cat count n es (All-tail (IsValidEvent cat count) (Up d) es v) (omega (arith, h))
+named cat count n (x ∷ es) v h = named cat count n es (All-tail (IsValidEvent cat count) x es v) (omega (arith, h))
 
 pub are_numbered : (g : Input) (log : Log) → All (IsValidEvent g.catalogue (length g.txns)) g.events → IsLawful g log → AreNumbered g log
 are_numbered g log valid lawful = λ later before n is.
