@@ -27,10 +27,8 @@ shows_text fs work cat w v e p = subst (λ r. OverWork r (ComesToInside cat) v) 
 -- the names that two words are
 
 pub no_names : (ws : List (List ℕ)) → AreNotTwo ws → names_in ws ≡ None
-no_names [] none = refl
-no_names (a ∷ []) none = refl
 no_names (a ∷ b ∷ []) none = absurd (none a b refl)
-no_names (a ∷ b ∷ c ∷ ws) none = refl
+no_names _ none = refl
 
 abbrev pub names_of : List ℕ → List ℕ → Names
 names_of cat work = record { catalogue = cat; workload = work }

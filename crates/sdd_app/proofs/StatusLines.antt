@@ -7,10 +7,4 @@ use Rattle.sdd_app.specs.declared.status.Status.TheVariants.{Done, Usage, BadCat
 -- but for how a program is called they are the same
 pub same_line : (s : Status) → s ≢ Usage → line_of s ≡ inside_line_of s
 same_line Usage other = absurd (other refl)
-same_line Done other = refl
-same_line (BadCatalogue f) other = refl
-same_line (BadWorkload f) other = refl
-same_line ReadFault other = refl
-same_line WriteFault other = refl
-same_line NoMemory other = refl
-same_line Limit other = refl
+same_line _ other = refl

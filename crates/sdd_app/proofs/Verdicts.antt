@@ -8,8 +8,6 @@ pub explains_more : (s : Status) (P Q : Verdict → Type 0) → ((v : Verdict) �
 explains_more Usage P Q more e = more NoForm e
 explains_more (BadCatalogue f) P Q more e = more (FaultyCatalogue f) e
 explains_more (BadWorkload f) P Q more e = more (FaultyWorkload f) e
-explains_more ReadFault P Q more e = tt
-explains_more NoMemory P Q more e = tt
 explains_more Limit P Q more e = more PastLimit e
 explains_more _ P Q more e = e
 
