@@ -26,13 +26,13 @@ pub use Rattle.sdd_graph.specs.Edges.{IsClassOf}
 pub use Rattle.sdd_module.proofs.Making.{with_sends-append}
 pub use Rattle.sdd_module.proofs.lang.Sets.{IsThere, each_filtered as all_kept, fragments_there, reads_there}
 pub use Rattle.sdd_module.proofs.lang.catalog.RangeLemmas.{position_from_later as later}
-pub use Rattle.sdd_module.specs.All.{Act, Ask, Bases, Catalogue, Change, ClassNo, Commit, Condition, Const, D, Database, Delete, Did, DmNo, Effect, Entry, Era, Fetch, FitsCondition, FitsStatement, FitsTxn, FragNo, Handed, Held, IsWhole, Log, Msg, Notes, Nothing, Put, Query, Read, Ready, Rec, Records, Redeclared, Reduce, Reduced, Reject, RelNo, Release, Restriction, Row, Rows, Same, Sends, Setting, Ship, Site, Start, Stmt, Submits, T, Ticked, Ticking, Ts, Txn, TxnNo, U, Update, Use, Value, Values, Write, allowed_keys, ascending, bound_of, class_no, conditions, contains, current_era, dm_no, effect, frag_no, fragments_for, fragments_in, has_copy, head_of, is_empty, is_read_at, key_column, meets_keys, numbers_to, or_else, part_uses, pushed, read_set, reads_at, restrictions_of, same_site, sends_of_act, statement_uses, submits, tail_of, ticked, time_at, timestamp, txn_no, undeclared_conditions, uses_from, uses_in, uses_of, value_cmp, with_act, with_values}
+pub use Rattle.sdd_module.specs.All.{Act, Bases, Catalogue, Change, ClassNo, Commit, Condition, Const, D, Database, Delete, Did, DmNo, Effect, Entry, Era, Fetch, FitsStatement, FitsTxn, FragNo, Handed, IsWhole, Log, Msg, Notes, Nothing, Put, Query, Read, Ready, Rec, Records, Redeclared, Reduce, Reduced, RelNo, Restriction, Row, Rows, Same, Sends, Setting, Ship, Site, Start, Stmt, Submits, T, Ticked, Ticking, Ts, Txn, TxnNo, U, Update, Use, Value, Values, ascending, bound_of, class_no, conditions, contains, current_era, dm_no, effect, frag_no, fragments_for, fragments_in, head_of, is_read_at, numbers_to, or_else, part_uses, pushed, read_set, reads_at, restrictions_of, same_site, sends_of_act, statement_uses, submits, tail_of, ticked, time_at, timestamp, txn_no, uses_from, uses_in, uses_of, value_cmp, with_act, with_values}
 pub use Rattle.sdd_semijoin.proofs.Undone.{few_undone, fewer_left}
 pub use Rattle.sdd_semijoin.specs.Steps.{Join, Move, better, fewest, is_candidate, joins_from, moves, moves_by, next_move, rows_at}
 pub use Rattle.sdd_semijoin.specs.declared.step.Step.{Step}
-pub use Rattle.std.proofs.Common.{All, Bool, Equal, Err, Greater, Less, List, None, Ok, OnOk, Option, Ordering, Result, Some, [], ap, append_assoc, arith, cond, drop, eq-eqb, eqb-true, false, filter, filter_map, flat_map, fold, if◌then◌else◌, inl, inr, insert, is_some, length, length-append, map, nat_cmp, nat_lt, ne_eqb, not, option_map, position, refl, rules, slice_index_or as get_or, slice_set, subst, suc, suc-mul, sum, sym, take, true, unwrap_or, zero, ℕ, ◌&&◌, ◌*◌, ◌++◌, ◌+◌, ◌-◌, ◌<◌, ◌==◌, ◌^◌, ◌||◌, ◌∙◌, ◌∷◌, ◌≡◌, ◌≢◌, ◌≤◌}
+pub use Rattle.std.proofs.Common.{All, Bool, Err, List, None, Ok, OnOk, Option, Ordering, Result, Some, [], ap, append_assoc, arith, cond, drop, eq-eqb, eqb-true, false, filter, filter_map, flat_map, fold, if◌then◌else◌, inl, inr, insert, is_some, length, length-append, map, nat_cmp, nat_lt, ne_eqb, not, option_map, position, refl, rules, slice_index_or as get_or, slice_set, subst, suc, suc-mul, sum, sym, take, true, unwrap_or, zero, ℕ, ◌&&◌, ◌*◌, ◌++◌, ◌+◌, ◌-◌, ◌<◌, ◌==◌, ◌^◌, ◌||◌, ◌∙◌, ◌∷◌, ◌≡◌, ◌≢◌, ◌≤◌}
 pub use Rattle.std.proofs.Math.Nat.{mul-le-mul_right}
-pub use Rattle.std.proofs.lemmas.Bool.{and_from, and_left, and_parts, and_right, cases_eq, cond-false, cond-true, false≢true, or_cases, or_left, or_parts as neither, or_right}
+pub use Rattle.std.proofs.lemmas.Bool.{and_from, and_parts, and_right, cases_eq, cond-true, false≢true, or_cases, or_left, or_parts as neither, or_right}
 pub use Rattle.std.proofs.lemmas.Bool.Decides.{nat_tests}
 pub use Rattle.std.proofs.lemmas.Fn.{filter_same}
 pub use Rattle.std.proofs.lemmas.Grind.{flat_map-append}
@@ -42,6 +42,5 @@ pub use Rattle.std.proofs.lemmas.List.Elements.{All-append, All-cons, All-filter
 pub use Rattle.std.proofs.lemmas.List.FromFn.{length-range_with_len}
 pub use Rattle.std.proofs.lemmas.Nat.{mul-le}
 pub use Rattle.std.specs.BTreeSet.{insert_key}
-pub use Rattle.std.specs.Cmp.{second_so}
 pub use Rattle.std.specs.List.{AllByRecursion, cons_option, list_all, list_any, position_from, range_with_len}
 pub use Rattle.std.specs.Ordering.{match_ordering}

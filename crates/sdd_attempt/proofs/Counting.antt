@@ -1,5 +1,5 @@
 -- How many rows are counted of a use.
-use Rattle.sdd_attempt.proofs.All.{Bool, DmNo, List, None, Some, [], ap, arith, at_drop_more, cond, cons_option, count_in, count_of, counted, drop, false, filter, filter_map, fold, get_or, is_other, length, map, map-append, not, numbered, sum, sym, true, ℕ, ◌&&◌, ◌++◌, ◌+◌, ◌<◌, ◌==◌, ◌∙◌, ◌∷◌, ◌≡◌}
+use Rattle.sdd_attempt.proofs.All.{Bool, DmNo, List, None, Some, [], ap, arith, at_drop_more, cond, cons_option, count_in, count_of, counted, drop, filter, filter_map, fold, get_or, is_other, length, map, map-append, not, numbered, sum, sym, ℕ, ◌&&◌, ◌++◌, ◌+◌, ◌<◌, ◌==◌, ◌∙◌, ◌∷◌, ◌≡◌}
 use Rattle.sdd_attempt.proofs.Lists.{map-filter}
 
 sum_from : (a : ℕ) (ns : List ℕ) → fold ◌+◌ a ns ≡ a + sum ns
@@ -10,8 +10,7 @@ sum_first : (n : ℕ) (ns : List ℕ) → sum (n ∷ ns) ≡ n + sum ns
 sum_first n ns = omega (arith, sum_from (0 + n) ns)
 
 sum_by_test : (t : Bool) (n : ℕ) (ns : List ℕ) → sum (cons_option (cond t (Some n) None) ns) ≡ cond t n 0 + sum ns
-sum_by_test true n ns = sum_first n ns
-sum_by_test false n ns = omega arith
+sum_by_test t n ns = grind (arith, sum_first)
 
 count_first : (e : (ℕ × DmNo) × ℕ) (es : List ((ℕ × DmNo) × ℕ)) (u : ℕ) → count_of (map numbered (e ∷ es)) u ≡ count_in u e + count_of (map numbered es) u
 count_first e es u = sum_by_test (e.0.0 == u) e.1 (filter_map (λ (c : (ℕ × ℕ) × ℕ). cond (c.0.0 == u) (Some c.1) None) (map numbered es))

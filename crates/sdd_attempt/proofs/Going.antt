@@ -1,14 +1,11 @@
 -- The moves of an exchange: which comes next, and that what is counted only grows.
-use Rattle.sdd_attempt.proofs.All.{All-tail, AreSmall, Asking, Bool, ClassNo, Exchange, Fetching, IsSmallQuery, List, Move, None, Option, Over, Phase, Reduction, Shipping, Some, Step, Ts, Value, Values, [], after_hand, answered, ap, arith, counts_for, drop, fetches, fetches_from, get_or, goes_on, if◌then◌else◌, lacking, length, move_at, move_of, next_move, option_map, phase_ends, reduces, refl, subst, sym, true, with_use, with_values, without, ℕ, ◌&&◌, ◌++◌, ◌+◌, ◌<◌, ◌==◌, ◌∙◌, ◌∷◌, ◌≡◌, ◌≤◌}
-use Rattle.sdd_attempt.proofs.LineActs.{some_is}
+use Rattle.sdd_attempt.proofs.All.{All-tail, AreSmall, Asking, Bool, ClassNo, Exchange, IsSmallQuery, List, Move, None, Option, Phase, Reduction, Some, Step, Ts, Value, Values, [], after_hand, answered, ap, arith, counts_for, drop, fetches, get_or, goes_on, if◌then◌else◌, lacking, length, move_at, move_of, next_move, option_map, phase_ends, reduces, subst, sym, true, with_values, without, ℕ, ◌&&◌, ◌++◌, ◌+◌, ◌<◌, ◌==◌, ◌∙◌, ◌∷◌, ◌≡◌, ◌≤◌}
 
 no_move : {A B : Type 0} (f : A → B) (o : Option A) → None ≡ option_map f o → o ≡ None
-no_move f None e = refl
-no_move f (Some a) e = cc
+no_move f o e = grind arith
 
 a_move : {A B : Type 0} (f : A → B) (o : Option A) (b : B) → Some b ≡ option_map f o → (a : A) × (o ≡ Some a) × (b ≡ f a)
-a_move f None b e = cc
-a_move f (Some a) b e = (a, refl, some_is e)
+a_move f o b e = grind arith
 
 -- the exchange by the next move of the first query
 abbrev pub goes_by : ℕ → ℕ → Exchange → Asking → List Asking → List Step → Option Move → Exchange
@@ -17,21 +14,12 @@ goes_by ts c x q rest steps (Some m) = fetches ts c (move_at q.before m) (record
 
 pub goes_split : (ts c : ℕ) (x : Exchange) (q : Asking) (rest : List Asking) (steps : List Step)
     → goes_on ts c x (q ∷ rest) steps ≡ goes_by ts c x q rest steps (next_move q.conds (counts_for x.counts q) steps)
-goes_split ts c x q rest steps = elim (next_move q.conds (counts_for x.counts q) steps) as (λ o. elim o [ None ↦ goes_on ts c x rest [] | Some m ↦ fetches ts c (move_at q.before m) (record x { left = q ∷ rest; done = steps ++ m.step ∷ [] }) ] ≡ goes_by ts c x q rest steps o) [
-  | None ↦ refl
-  | Some m ↦ refl
-]
+goes_split ts c x q rest steps = cc
 
 -- what is left and done doesn't matter where both are given
 goes_same : (ts c : ℕ) (x : Exchange) (left : List Asking) (steps : List Step) (qs : List Asking) (now : List Step)
     → goes_on ts c (record x { left = left; done = steps }) qs now ≡ goes_on ts c x qs now
-goes_same ts c x left steps [] now = refl
-goes_same ts c x left steps (q ∷ rest) now =
-    elim (next_move q.conds (counts_for x.counts q) now) as
-    (λ o. goes_by ts c (record x { left = left; done = steps }) q rest now o ≡ goes_by ts c x q rest now o) [
-      | None ↦ goes_same ts c x left steps rest []
-      | Some m ↦ refl
-    ]
+goes_same ts c x left steps qs now = grind arith
 
 -- the first query has no move more
 pub goes_past : (ts c : ℕ) (x : Exchange) (q : Asking) (rest : List Asking) (steps : List Step) → next_move q.conds (counts_for x.counts q) steps ≡ None
@@ -45,8 +33,7 @@ pub goes_to : (ts c : ℕ) (x : Exchange) (q : Asking) (rest : List Asking) (ste
 goes_to ts c x q rest steps m e = sym (goes_split ts c x q rest steps ∙ ap (goes_by ts c x q rest steps) e)
 
 first_of : (left : List Asking) (q : Asking) → 0 < length left → q ≡ get_or left 0 q → left ≡ q ∷ drop 1 left
-first_of [] q some e = absurd (omega arith)
-first_of (x ∷ left) q some e = ap (λ z. z ∷ left) (sym e)
+first_of left q some e = grind arith
 
 pub small_rest : (left : List Asking) → AreSmall left → AreSmall (drop 1 left)
 small_rest [] all = all
@@ -88,31 +75,15 @@ to_first ts c x z q counts steps more one next same some first e f has asked g =
 reduces_grows : (ts c : ℕ) (m : Move) (x : Exchange) → x.values ≤ (reduces ts c m x).values
 reduces_grows ts c m x = omega arith
 
-from_grows : (ts c : ℕ) (m : Move) (x : Exchange) (ds : List ℕ) → x.values ≤ (fetches_from ts c m x ds).values
-from_grows ts c m x [] = omega arith
-from_grows ts c m x (d ∷ ds) = omega arith
-
-by_grows : (ts c : ℕ) (x : Exchange) (q : Asking) (rest : List Asking) (steps : List Step) (o : Option Move) → x.values ≤ (goes_on ts c x rest []).values
-    → x.values ≤ (goes_by ts c x q rest steps o).values
-by_grows ts c x q rest steps None h = h
-by_grows ts c x q rest steps (Some m) h =
-    from_grows ts c (move_at q.before m) (record x { left = q ∷ rest; done = steps ++ m.step ∷ [] }) (with_use x (move_at q.before m).source.part)
-
 goes_grows : (ts c : ℕ) (x : Exchange) (qs : List Asking) (steps : List Step) → x.values ≤ (goes_on ts c x qs steps).values
 goes_grows ts c x [] steps = omega arith
-goes_grows ts c x (q ∷ rest) steps =
-    subst (λ y. x.values ≤ y.values) (sym (goes_split ts c x q rest steps))
-    (by_grows ts c x q rest steps (next_move q.conds (counts_for x.counts q) steps) (goes_grows ts c x rest []))
+goes_grows ts c x (q ∷ rest) steps = grind (arith, goes_grows ts c x rest [])
 
 ends_grows : (ts c : ℕ) (x : Exchange) (p : Phase) → x.values ≤ (phase_ends ts c x p).values
-ends_grows ts c x (Fetching m) = reduces_grows ts c m x
-ends_grows ts c x Shipping = omega arith
-ends_grows ts c x Over = omega arith
-ends_grows ts c x _ = goes_grows ts c x x.left x.done
+ends_grows ts c x p = grind (arith, reduces_grows, goes_grows)
 
 lacking_grows : (ts c : ℕ) (x : Exchange) (ds : List ℕ) → x.values ≤ (lacking ts c x ds).values
-lacking_grows ts c x [] = ends_grows ts c (record x { lacks = [] }) x.phase
-lacking_grows ts c x (d ∷ ds) = omega arith
+lacking_grows ts c x ds = grind (arith, ends_grows)
 
 pub answered_grows : (ts c d : ℕ) (x : Exchange) → x.values ≤ (answered ts c d x).values
 answered_grows ts c d x = lacking_grows ts c x (without x.lacks d)

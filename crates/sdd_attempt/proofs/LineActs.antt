@@ -1,8 +1,7 @@
 -- What the acts of an attempt leave of its line: what may start, what is left to do, and which rows serve.
-use Rattle.sdd_attempt.proofs.All.{Act, AllByRecursion, AllUpTo, Attempt, Bases, Catalogue, IsAsking, IsAskingAt, IsLineOf, IsOfHead, IsServed, IsUpTo, IsWaiting, List, Log, Msg, None, Nothing, Option, Queued, Read, Rec, Records, Sends, ServesAt, Setting, Site, Some, [], active, active_sent, after_send, and_from, ap, arith, asks_rows, cond-true, contains, eq-eqb, false, false≢true, filter, first_send, handed, if◌then◌else◌, is_over, is_read, length, line_step, map, ne_eqb, not, queue, refl, send_due, sent, starts_left, submits, subst, suc, sym, tail_of, tried, true, work_of, ℕ, ◌<◌, ◌==◌, ◌∙◌, ◌∷◌, ◌≡◌, ◌≤◌}
+use Rattle.sdd_attempt.proofs.All.{Act, AllByRecursion, AllUpTo, Attempt, Bases, Catalogue, IsAsking, IsAskingAt, IsLineOf, IsOfHead, IsServed, IsUpTo, IsWaiting, List, Log, Msg, None, Nothing, Option, Queued, Read, Rec, Records, Sends, ServesAt, Setting, Site, Some, [], active, active_sent, and_from, ap, arith, asks_rows, contains, eq-eqb, false, false≢true, filter, handed, is_over, is_read, length, line_step, map, not, queue, refl, send_due, sent, starts_left, submits, subst, suc, sym, tried, true, work_of, ℕ, ◌<◌, ◌==◌, ◌∙◌, ◌∷◌, ◌≡◌, ◌≤◌}
 use Rattle.sdd_attempt.proofs.QuestionsOfAttempt.{NoReads}
 use Rattle.sdd_attempt.proofs.Waiting.{fewer_committed}
-use Rattle.sdd_attempt.proofs.LineSteps.{not_over}
 
 pub some_is : {A : Type 0} {x y : A} → Some x ≡ Some y → x ≡ y
 some_is e = cc
@@ -11,11 +10,7 @@ some_is e = cc
 
 -- a message of an exchange
 pub starts_sent : (c : ℕ) (m : Msg) (o : Option Attempt) (queue : List Queued) → starts_left (active_sent c m o) queue ≡ starts_left o queue
-starts_sent c m None queue = refl
-starts_sent c m (Some a) queue =
-    elim (asks_rows a.ts c m)
-    as (λ b. starts_left (if b then Some (record a { exchange = after_send a.exchange }) else Some a)
-    queue ≡ length (tail_of queue)) [ true ↦ refl | false ↦ refl ]
+starts_sent c m o queue = grind arith
 
 -- a Start
 pub starts_started : (n : ℕ) (a : Attempt) (q : Queued) (rest : List Queued)
@@ -35,29 +30,19 @@ starts_committed a (q ∷ rest) h = let less =
     omega arith
 
 pub left_is_few : (o : Option Attempt) (queue : List Queued) → starts_left o queue ≤ length queue
-left_is_few (Some a) (q ∷ queue) = omega arith
-left_is_few _ _ = omega arith
+left_is_few o queue = grind arith
 
 -- what is left to do
-
-one_less : (ms : List (ℕ × Msg)) (act : Act) → first_send ms ≡ Some act → suc (length (tail_of ms)) ≡ length ms
-one_less [] act e = absurd cc
-one_less (m ∷ ms) act e = refl
 
 -- a message of an exchange is one less
 pub work_sent : (c : ℕ) (m : Msg) (a : Attempt) (act : Act) (queue : List Queued) → asks_rows a.ts c m ≡ true
     → send_due a.exchange ≡ Some act → work_of (active_sent c m (Some a)) queue < work_of (Some a) queue
-work_sent c m a act queue e f =
-    let now : active_sent c m (Some a) ≡ Some (record a { exchange = after_send a.exchange }) =
-    cond-true (asks_rows a.ts c m) (Some (record a { exchange = after_send a.exchange })) (Some a) e in
-    let one = one_less a.exchange.to_send act f in
-    rw now (omega arith)
+work_sent c m a act queue e f = grind arith
 
 -- the messages of an act
 
 pub no_read_asked : (t ts c : ℕ) (m : Msg) → asks_rows ts c m ≡ true → IsUpTo t m
-no_read_asked t ts c (Read r class txn attempt conds uses) e = absurd (false≢true e)
-no_read_asked t ts c _ e = tt
+no_read_asked t ts c m e = grind arith
 
 up_of_no_read : (t ts c : ℕ) (m : Msg) → ((ts c : ℕ) → is_read ts c m ≡ false) → IsUpTo t m
 up_of_no_read t ts c (Read r class txn attempt conds uses) h =
@@ -79,32 +64,23 @@ asking_of s log c a h is = subst (IsAskingAt c (sent log) (handed log)) is h.ask
 -- rows that serve
 
 pub served_sent : (cat : Catalogue) (bases : Bases) (c : ℕ) (m : Msg) (o : Option Attempt) → IsServed cat bases o → IsServed cat bases (active_sent c m o)
-served_sent cat bases c m None h = tt
-served_sent cat bases c m (Some a) h =
-    elim (asks_rows a.ts c m)
-    as (λ b. IsServed cat bases (if b then Some (record a { exchange = after_send a.exchange }) else Some a))
-    [ true ↦ h | false ↦ h ]
+served_sent cat bases c m o h = grind arith
 
 -- an attempt between calls can't commit
 pub resting : (cat : Catalogue) (bases : Bases) (o : Option Attempt) → line_step o ≡ None → IsServed cat bases o
-resting cat bases None e = tt
-resting cat bases (Some a) e = λ over. absurd (false≢true (sym (not_over a e) ∙ over))
+resting cat bases o e = grind arith
 
 -- one that commits has the rows
 pub served_of : (cat : Catalogue) (bases : Bases) (o : Option Attempt) (a : Attempt) → o ≡ Some a
     → is_over a.exchange.phase ≡ true → IsServed cat bases o → ServesAt cat bases o
-served_of cat bases None a e over h = tt
-served_of cat bases (Some b) a e over h = h (subst (λ (x : Attempt). is_over x.exchange.phase ≡ true) (sym (some_is e)) over)
+served_of cat bases o a e over h = grind arith
 
 -- a number that is new isn't in a queue
 
 not_among : (cat : Catalogue) (c n : ℕ) (given : List ℕ) (qs : List Queued) → AllByRecursion (IsWaiting cat c given) qs → contains given n ≡ false
     → contains (map (λ (q : Queued). q.number) qs) n ≡ false
 not_among cat c n given [] h fresh = refl
-not_among cat c n given (q ∷ qs) h fresh =
-    let apart : (q.number == n) ≡ false =
-    ne_eqb q.number n (λ e. false≢true (sym fresh ∙ ap (contains given) (sym e) ∙ h.0.is_given)) in
-    rw apart (not_among cat c n given qs h.1 fresh)
+not_among cat c n given (q ∷ qs) h fresh = grind (arith, not_among cat c n given qs h.1 fresh)
 
 pub new_in_queue : (s : Setting) (log : Log) (c n : ℕ) → IsLineOf s c log → contains (submits log) n ≡ false
     → contains (map (λ (q : Queued). q.number) (queue s c log)) n ≡ false

@@ -1,5 +1,5 @@
 -- Lists that are made item by item, and lists of items that are kept in another form.
-use Rattle.sdd_attempt.proofs.All.{Bool, List, None, Option, Some, [], ap, append_assoc, arith, at_drop_more, cons_option, drop, false, filter, filter_map, filter_map-append, get_or, if◌then◌else◌, length, map, numbers_to, option_map, refl, suc, sym, true, up_to, ℕ, ◌++◌, ◌+◌, ◌-◌, ◌<◌, ◌∙◌, ◌∷◌, ◌≡◌, ◌≤◌}
+use Rattle.sdd_attempt.proofs.All.{Bool, List, Option, [], ap, append_assoc, arith, at_drop_more, cons_option, drop, filter, filter_map, filter_map-append, get_or, if◌then◌else◌, length, map, numbers_to, option_map, refl, suc, sym, up_to, ℕ, ◌++◌, ◌+◌, ◌-◌, ◌<◌, ◌∙◌, ◌∷◌, ◌≡◌, ◌≤◌}
 
 -- two lists that are made of one
 pub map_both : {A B C D : Type 0} (f : A → B) (g : B → D) (h : A → C) (k : C → D) → ((a : A) → g (f a) ≡ k (h a)) → (xs : List A)
@@ -9,8 +9,7 @@ map_both f g h k same (x ∷ xs) = rw (same x, map_both f g h k same xs) refl
 
 kept_by : {A B : Type 0} (h : A → B) (x : A) (t : Bool) (ys : List A) (zs : List B) → map h ys ≡ zs
     → map h (if t then x ∷ ys else ys) ≡ (if t then h x ∷ zs else zs)
-kept_by h x true ys zs e = ap (λ l. h x ∷ l) e
-kept_by h x false ys zs e = e
+kept_by h x t ys zs e = grind arith
 
 -- what is kept in another form passes the same test
 pub map-filter : {A B : Type 0} (h : A → B) (q : B → Bool) (xs : List A) → map h (filter (λ x. q (h x)) xs) ≡ filter q (map h xs)
@@ -19,8 +18,7 @@ map-filter h q (x ∷ xs) = kept_by h x (q (h x)) (filter (λ y. q (h y)) xs) (f
 
 picked : {C D : Type 0} (k : C → D) (o : Option C) (p : Option D) (ys : List C) (zs : List D) → option_map k o ≡ p → map k ys ≡ zs
     → map k (cons_option o ys) ≡ cons_option p zs
-picked k None p ys zs e f = rw (← e) f
-picked k (Some c) p ys zs e f = rw (← e) (ap (λ l. k c ∷ l) f)
+picked k o p ys zs e f = grind arith
 
 -- and is picked where it is in that form
 pub map-filter_map : {A B C D : Type 0} (h : A → B) (k : C → D) (f : A → Option C) (g : B → Option D) → ((a : A) → option_map k (f a) ≡ g (h a)) → (xs : List A)
@@ -39,8 +37,7 @@ pub filter_map_more : {A B : Type 0} (f : A → Option B) (xs : List A) (i : ℕ
 filter_map_more f xs i x old more all l e g h =
     let here : filter_map f (drop i xs) ≡ filter_map f (x ∷ drop (i + 1) xs) = at_drop_more (filter_map f) xs i x l
     ∙ ap (λ z. filter_map f (z ∷ drop (i + 1) xs)) (sym e) in
-    ap (λ ys. ys ++ filter_map f (drop (i + 1) xs)) g ∙ append_assoc old (filter_map f (x ∷ [])) (filter_map f (drop (i + 1) xs))
-    ∙ ap (λ ys. old ++ ys) (sym (filter_map-append f (x ∷ []) (drop (i + 1) xs))) ∙ ap (λ ys. old ++ ys) (sym here) ∙ h
+    grind (arith, append_assoc, filter_map-append)
 
 -- one number more, of those from 1 on
 pub picked_to : {B : Type 0} (f : ℕ → Option B) (n : ℕ) (old more : List B) → 1 ≤ n → more ≡ old ++ filter_map f (n ∷ [])
@@ -51,16 +48,14 @@ picked_to f n old more some e before =
 -- no list grows by a choice
 
 picked_few : {A : Type 0} (o : Option A) (xs : List A) → length (cons_option o xs) ≤ suc (length xs)
-picked_few None xs = omega arith
-picked_few (Some x) xs = omega arith
+picked_few o xs = grind arith
 
 pub few_picked : {A B : Type 0} (f : A → Option B) (xs : List A) → length (filter_map f xs) ≤ length xs
 few_picked f [] = omega arith
 few_picked f (x ∷ xs) = omega (arith, picked_few (f x) (filter_map f xs), few_picked f xs)
 
 kept_few : {A : Type 0} (t : Bool) (x : A) (xs : List A) → length (if t then x ∷ xs else xs) ≤ suc (length xs)
-kept_few true x xs = omega arith
-kept_few false x xs = omega arith
+kept_few t x xs = grind arith
 
 pub few_filtered : {A : Type 0} (p : A → Bool) (xs : List A) → length (filter p xs) ≤ length xs
 few_filtered p [] = omega arith

@@ -38,9 +38,7 @@ begun_noted cat table c q clock now own p2 b rec old mid new e f g h i j k =
 pub begun_running : (cat : Catalogue) (table : List line.Entry) (c : ℕ) (q : Queued) (clock now : Ticking) (own p2 : ℕ) (b : Beginning) (x : Exchange)
     → now ≡ ticked clock 1 → own ≡ timestamp now → p2 ≡ bound_of clock → b ≡ beginning_of cat table c q own p2 → x ≡ begins q.text (reads_of b)
     → running_of own x ≡ running_of (timestamp (ticked clock 1)) (begins q.text (sends_of_act (start_act cat table c clock q)))
-begun_running cat table c q clock now own p2 b x e f g h i =
-    ap (λ n. running_of n x) (f ∙ ap timestamp e) ∙ ap (running_of (timestamp (ticked clock 1)))
-    (i ∙ ap (λ y. begins q.text (reads_of y)) (begun_reads cat table c q clock now own p2 b e f g h))
+begun_running cat table c q clock now own p2 b x e f g h i = cc
 
 abbrev commit_of : TxnNo → ℕ → ℕ → ℕ → Effect → Rec
 commit_of number tries values rows e = Commit number tries e.reply e.changes values rows

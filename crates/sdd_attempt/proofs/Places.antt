@@ -1,5 +1,5 @@
 -- The standing of a transaction by its place in the queue.
-use Rattle.sdd_attempt.proofs.All.{Absent, Attempt, Bool, Catalogue, IsLine, List, None, Option, Running, Some, Standing, [], active_of, ap, arith, attempt_of, class_no, cond, false, filter, if◌then◌else◌, later, nat_tests, not, option_map, position, position_from, position_from-zero, queued_at, refl, standing_at, standing_by, suc, sym, true, underway, ℕ, ◌==◌, ◌∙◌, ◌∷◌, ◌≡◌}
+use Rattle.sdd_attempt.proofs.All.{Absent, Attempt, Bool, Catalogue, IsLine, List, None, Option, Running, Some, Standing, [], active_of, ap, arith, attempt_of, cond, false, filter, if◌then◌else◌, later, nat_tests, not, option_map, position, position_from, position_from-zero, queued_at, refl, standing_at, standing_by, suc, sym, true, underway, ℕ, ◌==◌, ◌∙◌, ◌∷◌, ◌≡◌}
 use Rattle.sdd_attempt.proofs.Queueing.{all_kept, itself}
 use Rattle.sdd_attempt.specs.declared.standing.Standing.TheVariants.{Queued}
 use Rattle.sdd_attempt.specs.Queues as queues
@@ -10,15 +10,13 @@ at_place c a None = Absent
 at_place c a (Some place) = standing_at c a place
 
 idle_at : (c : ℕ) (o : Option ℕ) → queued_at c o ≡ at_place c None o
-idle_at c None = refl
-idle_at c (Some place) = refl
+idle_at c o = grind arith
 
 pub not_first : (n : ℕ) → (suc n == 0) ≡ false
 not_first n = grind (arith, nat_tests)
 
 behind : (c : ℕ) (a : Attempt) (o : Option ℕ) → queued_at c o ≡ at_place c (Some a) (option_map suc o)
-behind c a None = refl
-behind c a (Some place) = ap (λ (b : Bool). if b then underway c a.ts a.exchange else Queued (class_no c) (suc place)) (sym (not_first place))
+behind c a o = grind arith
 
 by_first : (c : ℕ) (q : queues.Queued) (rest : List queues.Queued) (r : Running) (n : ℕ) (here mine : Bool) → mine ≡ true
     → filter (λ x. not (x.number == q.number)) rest ≡ rest
@@ -26,12 +24,7 @@ by_first : (c : ℕ) (q : queues.Queued) (rest : List queues.Queued) (r : Runnin
     (position (λ x. x.number == n)
     (cond (not mine) (q ∷ filter (λ x. not (x.number == q.number)) rest) (filter (λ x. not (x.number == q.number)) rest))))
     ≡ at_place c (Some (attempt_of q r)) (cond here (Some 0) (position_from (λ x. x.number == n) 1 rest))
-by_first c q rest r n true mine e same = refl
-by_first c q rest r n false true e same = rw same
-    (behind c (attempt_of q r) (position (λ x. x.number == n) rest)
-    ∙ ap (λ o. at_place c (Some (attempt_of q r)) (option_map suc o)) (position_from-zero (λ x. x.number == n) rest)
-    ∙ ap (at_place c (Some (attempt_of q r))) (sym (later (λ x. x.number == n) 0 rest)))
-by_first c q rest r n false false e same = cc
+by_first c q rest r n here mine e same = grind (arith, behind, position_from-zero, later)
 
 pub standing_told : (cat : Catalogue) (c : ℕ) (queue : List queues.Queued) (r : Option Running) (n : ℕ) → IsLine cat c queue r
     → standing_by c queue (active_of queue r) n ≡ at_place c (active_of queue r) (position (λ q. q.number == n) queue)

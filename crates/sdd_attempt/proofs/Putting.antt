@@ -1,5 +1,5 @@
 -- One module more, among some that ascend.
-use Rattle.sdd_attempt.proofs.All.{Bool, DmNo, Equal, Greater, Less, List, None, Option, Some, [], ap, arith, cond, false, get_or, insert, insert_key, later, map, nat_cmp, nat_lt, nat_tests, not, option_map, position, position_from-zero, refl, suc, sym, true, unwrap_or, ℕ, ◌++◌, ◌==◌, ◌∙◌, ◌∷◌, ◌≡◌}
+use Rattle.sdd_attempt.proofs.All.{Bool, DmNo, List, None, Option, Some, [], ap, arith, cond, false, get_or, insert, insert_key, later, map, nat_cmp, nat_lt, nat_tests, not, option_map, position, position_from-zero, refl, suc, sym, true, ℕ, ◌++◌, ◌==◌, ◌∙◌, ◌∷◌, ◌≡◌}
 
 abbrev number : DmNo → ℕ
 number n = n.0
@@ -15,26 +15,12 @@ first_of_more p x xs = position_from-zero p (x ∷ xs) ∙ ap (cond (p x) (Some 
 
 -- a comparison by two tests
 
-greater : (k n : ℕ) → nat_lt n k ≡ true → nat_cmp k n ≡ Greater
-greater k n e = let a : nat_lt k n ≡ false = grind (arith, nat_tests) in let b : (k == n) ≡ false = grind (arith, nat_tests) in rw (a, b) refl
-
-less : (k n : ℕ) → nat_lt n k ≡ false → (n == k) ≡ false → nat_cmp k n ≡ Less
-less k n e f = let a : nat_lt k n ≡ true = grind (arith, nat_tests) in rw a refl
-
-equal : (k n : ℕ) → (n == k) ≡ true → nat_cmp k n ≡ Equal
-equal k n e = let a : nat_lt k n ≡ false = grind (arith, nat_tests) in let b : (k == n) ≡ true = grind (arith, nat_tests) in rw (a, b) refl
-
 -- where all are lower, it is put behind them
-
-none_before : (o : Option ℕ) → option_map suc o ≡ None → o ≡ None
-none_before None e = refl
-none_before (Some i) e = cc
 
 behind_first : (x d : DmNo) (xs : List DmNo) (t : Bool) → nat_lt x.0 d.0 ≡ t → cond (not t) (Some 0) (option_map suc (position (reaches d.0) xs)) ≡ None
     → (position (reaches d.0) xs ≡ None → insert_key nat_cmp (map number xs) d.0 ≡ map number (xs ++ d ∷ []))
     → insert_key nat_cmp (map number (x ∷ xs)) d.0 ≡ map number ((x ∷ xs) ++ d ∷ [])
-behind_first x d xs false t e h = cc
-behind_first x d xs true t e h = rw (greater d.0 x.0 t) (ap (λ l. x.0 ∷ l) (h (none_before (position (reaches d.0) xs) e)))
+behind_first x d xs t m e h = grind arith
 
 pub put_behind : (xs : List DmNo) (d : DmNo) → position (λ n. not (nat_lt n.0 d.0)) xs ≡ None
     → insert_key nat_cmp (map (λ n. n.0) xs) d.0 ≡ map (λ n. n.0) (xs ++ d ∷ [])
@@ -46,27 +32,10 @@ put_behind (x ∷ xs) d e = behind_first x d xs (nat_lt x.0 d.0) refl (sym (firs
 abbrev put_at : DmNo → List DmNo → ℕ → DmNo → List DmNo
 put_at z xs i d = cond ((get_or xs i z).0 == d.0) xs (insert xs i d)
 
-further : (x d : DmNo) (xs : List DmNo) (j : ℕ) (t : Bool)
-    → x.0 ∷ map number (cond t xs (insert xs j d)) ≡ map number (cond t (x ∷ xs) (insert (x ∷ xs) (suc j) d))
-further x d xs j true = refl
-further x d xs j false = refl
-
-at_first : (x d : DmNo) (xs : List DmNo) (t : Bool) → (x.0 == d.0) ≡ t → nat_lt x.0 d.0 ≡ false
-    → insert_key nat_cmp (map number (x ∷ xs)) d.0 ≡ map number (cond t (x ∷ xs) (insert (x ∷ xs) 0 d))
-at_first x d xs true e f = rw (equal d.0 x.0 e) refl
-at_first x d xs false e f = rw (less d.0 x.0 f e) refl
-
-zero_is : (i : ℕ) → Some 0 ≡ Some i → 0 ≡ i
-zero_is i e = cc
-
 at_or_further : (z x d : DmNo) (xs : List DmNo) (i : ℕ) (t : Bool) (o : Option ℕ) → nat_lt x.0 d.0 ≡ t → cond (not t) (Some 0) (option_map suc o) ≡ Some i
     → ((j : ℕ) → o ≡ Some j → insert_key nat_cmp (map number xs) d.0 ≡ map number (put_at z xs j d))
     → insert_key nat_cmp (map number (x ∷ xs)) d.0 ≡ map number (put_at z (x ∷ xs) i d)
-at_or_further z x d xs i false o t e h = at_first x d xs (x.0 == d.0) refl t ∙ ap (λ k. map number (put_at z (x ∷ xs) k d)) (zero_is i e)
-at_or_further z x d xs i true None t e h = cc
-at_or_further z x d xs i true (Some j) t e h =
-    rw (greater d.0 x.0 t)
-    (ap (λ l. x.0 ∷ l) (h j refl) ∙ further x d xs j ((get_or xs j z).0 == d.0) ∙ ap (λ (o : Option ℕ). map number (put_at z (x ∷ xs) (unwrap_or o 0) d)) e)
+at_or_further z x d xs i t o m e h = grind arith
 
 among : (z : DmNo) (xs : List DmNo) (d : DmNo) (i : ℕ) → position (reaches d.0) xs ≡ Some i
     → insert_key nat_cmp (map number xs) d.0 ≡ map number (put_at z xs i d)

@@ -1,5 +1,5 @@
 -- An exchange has room from its beginning to its end.
-use Rattle.sdd_attempt.proofs.All.{All, All-append, All-cons, All-head, All-nil, All-tail, All-weaker, AreAwaited, AreSmall, Asking, Bool, CarriesFew, Condition, Const, Exchange, Fetching, Greater, HasRoom, HasUnion, IsSmallQuery, IsSmallStatement, IsSmallText, JoinsWithin, List, Move, Msg, None, Option, Ordering, Over, Phase, Query, Row, Same, Shipping, Site, Some, Step, Stmt, Txn, Value, [], after_hand, after_send, answered, arith, asking_of, askings, begins, cond, contains, counted, counts_for, false, fetches, fetches_from, few_undone, fewer_left, filter_map, first_phase, for_move, for_phase, for_reduce, goes_on, if◌then◌else◌, insert_key, is_fetching, lacking, length, length-append, match_ordering, module_read, most_values, move_at, moves_left, mul-le, mul-le-mul_right, next_move, not, phase_ends, reduces, refl, subst, suc, suc-mul, sym, true, uses_in, value_cmp, with_use, with_values, without, ℕ, ◌&&◌, ◌*◌, ◌++◌, ◌+◌, ◌<◌, ◌==◌, ◌^◌, ◌||◌, ◌∷◌, ◌≡◌, ◌≤◌}
+use Rattle.sdd_attempt.proofs.All.{All, All-append, All-head, All-nil, All-tail, AreAwaited, AreSmall, Asking, Bool, CarriesFew, Exchange, Fetching, HasRoom, HasUnion, IsSmallQuery, IsSmallStatement, IsSmallText, List, Move, Msg, None, Option, Ordering, Over, Phase, Row, Shipping, Site, Some, Step, Stmt, Txn, Value, [], after_hand, after_send, answered, arith, asking_of, askings, begins, cond, contains, counted, counts_for, false, fetches, fetches_from, few_undone, fewer_left, first_phase, for_move, for_phase, for_reduce, goes_on, if◌then◌else◌, insert_key, is_fetching, lacking, length, length-append, match_ordering, most_values, move_at, moves_left, mul-le, mul-le-mul_right, next_move, not, phase_ends, reduces, refl, subst, suc, suc-mul, sym, true, uses_in, value_cmp, with_use, with_values, without, ℕ, ◌&&◌, ◌*◌, ◌++◌, ◌+◌, ◌<◌, ◌==◌, ◌^◌, ◌||◌, ◌∷◌, ◌≡◌, ◌≤◌}
 use Rattle.sdd_attempt.proofs.Going.{goes_by, goes_split}
 use Rattle.sdd_attempt.proofs.Lists.{few_filtered, few_picked}
 use Rattle.sdd_module.specs.wire.declared.msg.Msg.TheVariants as msgs
@@ -22,8 +22,7 @@ fewer_without (n ∷ ns) d e =
 
 put_by : (o : Ordering) (v x : Value) (xs ys : List Value) → length ys ≤ suc (length xs)
     → length (match_ordering o (v ∷ x ∷ xs) (x ∷ xs) (x ∷ ys)) ≤ suc (suc (length xs))
-put_by Greater v x xs ys h = omega (arith, h)
-put_by _ v x xs ys h = omega arith
+put_by o v x xs ys h = grind arith
 
 inserted_few : (vs : List Value) (v : Value) → length (insert_key value_cmp vs v) ≤ suc (length vs)
 inserted_few [] v = omega arith
@@ -57,9 +56,7 @@ pub record CanMove (x : Exchange) : Type 0 where
   pub rows : x.rows ≡ length x.found
 
 from_room : (ts c : ℕ) (m : Move) (x : Exchange) (ds : List ℕ) → length ds ≤ length x.modules → CanMove x → HasRoom (fetches_from ts c m x ds)
-from_room ts c m x [] few can =
-    reduces_room ts c m (record x { union = [] }) (record { small = can.small; values = omega (arith, can.values); union = omega arith; rows = can.rows })
-from_room ts c m x (d ∷ ds) few can = record { small = can.small; values = omega (arith, can.values, few); union = omega (arith, few); rows = can.rows }
+from_room ts c m x ds few can = grind arith
 
 fetches_room : (ts c : ℕ) (m : Move) (x : Exchange) → CanMove x → HasRoom (fetches ts c m x)
 fetches_room ts c m x can = from_room ts c m x (with_use x m.source.part) (few_with_use x m.source.part) can
@@ -106,19 +103,16 @@ ends_room ts c x Over e room = room
 ends_room ts c x _ e room = goes_room ts c x x.left x.done room.small room.rows (omega (arith, room.values))
 
 lacking_room : (ts c : ℕ) (x : Exchange) (ds : List ℕ) → HasRoom (record x { lacks = ds }) → HasRoom (lacking ts c x ds)
-lacking_room ts c x [] room = ends_room ts c (record x { lacks = [] }) x.phase refl room
-lacking_room ts c x (d ∷ ds) room = room
+lacking_room ts c x ds room = grind (arith, ends_room)
 
 -- answers
 
 -- where fewer answers lack there is as much room
 phase_fewer : (few lacks modules : ℕ) (p : Phase) → few ≤ lacks → for_phase few modules p ≤ for_phase lacks modules p
-phase_fewer few lacks modules (Fetching m) le = omega (arith, le)
-phase_fewer few lacks modules _ le = omega arith
+phase_fewer few lacks modules p le = grind arith
 
 union_fewer : (union few lacks modules : ℕ) (p : Phase) → few ≤ lacks → HasUnion union lacks modules p → HasUnion union few modules p
-union_fewer union few lacks modules (Fetching m) le h = omega (arith, le, h)
-union_fewer union few lacks modules _ le h = tt
+union_fewer union few lacks modules p le h = grind arith
 
 answered_room : (ts c d : ℕ) (x : Exchange) → HasRoom x → HasRoom (answered ts c d x)
 answered_room ts c d x room =
@@ -134,13 +128,11 @@ answered_room ts c d x room =
 -- the values that come have the room of the answer that lacked
 values_by : (values few lacks modules : ℕ) (p : Phase) → is_fetching p ≡ true → few < lacks → values < 2 ^ 64
     → values + for_phase few modules p ≤ for_phase lacks modules p
-values_by values few lacks modules (Fetching m) e less small = omega (arith, less, small)
-values_by values few lacks modules _ e less small = cc
+values_by values few lacks modules p e less small = grind arith
 
 united_by : (union all values few lacks modules : ℕ) (p : Phase) → is_fetching p ≡ true → few < lacks → values < 2 ^ 64 → all ≤ union + values
     → HasUnion union lacks modules p → HasUnion all few modules p
-united_by union all values few lacks modules (Fetching m) e less small le h = omega (arith, less, small, le, h)
-united_by union all values few lacks modules _ e less small le h = cc
+united_by union all values few lacks modules p e less small le h = grind arith
 
 values_room : (ts c d : ℕ) (vs : List Value) (x : Exchange) → HasRoom x → is_fetching x.phase ≡ true → contains x.lacks d ≡ true → length vs < 2 ^ 64
     → HasRoom (answered ts c d (record x { union = with_values x.union vs; values = x.values + length vs }))
@@ -169,8 +161,7 @@ counts_room ts c d counts x room =
 -- a message
 
 where_own : (own : Bool) (x y : Exchange) → HasRoom x → (own ≡ true → HasRoom y) → HasRoom (if own then y else x)
-where_own true x y room h = h refl
-where_own false x y room h = room
+where_own own x y room h = grind arith
 
 pub handed_room : (ts c d : ℕ) (m : Msg) (x : Exchange) → HasRoom x → AreAwaited ts c d m x → CarriesFew m → HasRoom (after_hand ts c d m x)
 handed_room ts c d (msgs.Ready t k counts) x room awaited few =
@@ -184,20 +175,11 @@ handed_room ts c d _ x room awaited few = room
 
 -- the beginning
 
-joins_within : (before : ℕ) → before ≤ 186 → (c : Condition) → JoinsWithin 0 6 c → JoinsWithin before 192 c
-joins_within before low (Const left op value) h = tt
-joins_within before low (Same left right) h = (omega (arith, low, h.0), omega (arith, low, h.1))
-
 asking_small : (before : ℕ) (s : Stmt) → before + uses_in s ≤ 192 → before ≤ 186 → IsSmallStatement s → AreSmall (asking_of before s)
-asking_small before (Query out rels conds) few low small =
-    All-cons IsSmallQuery (record { before = before; uses = length rels; conds = conds }) []
-    (record { uses = few; conds = small.1; joins = All-weaker (JoinsWithin 0 6) (JoinsWithin before 192) (joins_within before low) conds small.2 })
-    (All-nil IsSmallQuery)
-asking_small before _ few low small = All-nil IsSmallQuery
+asking_small before s few low small = grind arith
 
 few_uses : (s : Stmt) → IsSmallStatement s → uses_in s ≤ 6
-few_uses (Query out rels conds) small = small.0
-few_uses _ small = omega arith
+few_uses s small = grind arith
 
 askings_small : (before : ℕ) (sts : List Stmt) → before + 6 * length sts ≤ 192 → All IsSmallStatement sts → AreSmall (askings before sts)
 askings_small before [] few all = All-nil IsSmallQuery
@@ -209,44 +191,23 @@ askings_small before (s ∷ rest) few all =
     (askings_small (before + uses_in s) rest (omega (arith, few, uses)) (All-tail IsSmallStatement s rest all))
 
 first_moves : (before : ℕ) (s : Stmt) (rest : List Asking) → IsSmallStatement s → moves_left (asking_of before s ++ rest) [] ≤ 32 + moves_left rest []
-first_moves before (Query out rels conds) rest small = omega (arith, few_undone conds [], small.1)
-first_moves before _ rest small = omega arith
+first_moves before s rest small = grind (arith, few_undone)
 
 few_moves : (before : ℕ) (sts : List Stmt) → All IsSmallStatement sts → moves_left (askings before sts) [] ≤ 32 * length sts
 few_moves before [] all = omega arith
 few_moves before (s ∷ rest) all =
-    omega (
-      arith,
-      first_moves before s (askings (before + uses_in s) rest) (All-head IsSmallStatement s rest all),
-      few_moves (before + uses_in s) rest
-          (All-tail IsSmallStatement s rest all),
-    )
+    grind (arith, first_moves, All-head, All-tail, few_moves (before + uses_in s) rest (All-tail IsSmallStatement s rest all))
 
 -- 32 statements make at most 1024 moves
 begins_values : (moves modules : ℕ) → moves ≤ 1024 → modules ≤ 65536 → moves * for_move modules < 2 ^ 128
-begins_values moves modules few low =
-    let reduce : most_values modules * modules ≤ (65536 * 2 ^ 64) * 65536 = mul-le (most_values modules) modules (65536 * 2 ^ 64) 65536
-    (omega (arith, low)) low in
-    let all : moves * for_move modules ≤ 1024 * (65536 * 2 ^ 64 + (65536 * 2 ^ 64) * 65536) = mul-le moves (for_move modules) 1024
-    (65536 * 2 ^ 64 + (65536 * 2 ^ 64) * 65536) few (omega (arith, low, reduce)) in
-    omega (arith, all)
+begins_values moves modules few low = grind arith
 
 begins_by : (text : Txn) (ms : List (ℕ × List ℕ)) (x : Exchange) → x.phase ≡ first_phase ms → AreSmall x.left
     → x.values + moves_left x.left x.done * for_move (length x.modules) < 2 ^ 128 → x.rows ≡ length x.found → HasRoom x
-begins_by text [] x e small values rows =
-    record { small = small; values = subst (λ p. x.values + for_phase (length x.lacks) (length x.modules) p + moves_left x.left x.done * for_move (length x.modules) < 2 ^ 128) (sym e) (omega (arith, values)); union = subst (HasUnion (length x.union) (length x.lacks) (length x.modules)) (sym e) tt; rows = rows }
-begins_by text (m ∷ ms) x e small values rows =
-    record { small = small; values = subst (λ p. x.values + for_phase (length x.lacks) (length x.modules) p + moves_left x.left x.done * for_move (length x.modules) < 2 ^ 128) (sym e) (omega (arith, values)); union = subst (HasUnion (length x.union) (length x.lacks) (length x.modules)) (sym e) tt; rows = rows }
+begins_by text ms x e small values rows = grind arith
 
 pub begins_room : (text : Txn) (sends : List (Site × Msg)) → IsSmallText text → length sends ≤ 65536 → HasRoom (begins text sends)
-begins_room text sends small few =
-    let moves = few_moves 0 text.statements small.statements in
-    begins_by text (filter_map module_read sends) (begins text sends) refl (askings_small 0 text.statements (omega (arith, small.few)) small.statements)
-    (omega (
-      arith,
-      begins_values (moves_left (askings 0 text.statements) []) (length (filter_map module_read sends)) (omega (arith, moves, small.few))
-          (omega (arith, few_picked module_read sends, few)),
-    )) refl
+begins_room text sends small few = grind (arith, few_moves, begins_by, begins, askings_small, begins_values, few_picked)
 
 -- what is sent no longer takes no room
 pub sent_room : (x : Exchange) → HasRoom x → HasRoom (after_send x)

@@ -1,6 +1,5 @@
 -- The line of a class after each entry of the log of a site.
-use Rattle.sdd_attempt.proofs.All.{Act, AllByRecursion, AllUpTo, AreStamped, Attempt, Bases, Catalogue, Change, Commit, D, Did, Era, Fetch, FitsAnswer, FitsTxn, Handed, IsAsking, IsAskingAt, IsLineOf, IsOfHead, IsQueue, List, Log, Msg, None, Option, Queued, Rec, Records, Redeclared, Reduce, Sends, Setting, Ship, Site, Some, Start, Submits, Ticked, Ticking, Txn, Use, Write, [], active, active_after, active_sent, and_parts, and_right, ap, arith, ascending, asks_rows, bound_of, class_no, clock, commit_act, cond, cond-false, cond-true, cons_option, contains, current_era, dm_no, effect, eq-eqb, eqb-true, false, false≢true, filter, filter_map, first_send, fragments_in, handed, has_copy, head_of, is_empty, is_for, is_read, is_some, list_all, map, module_read, modules_of, ne_eqb, not, numbers_to, or_left, or_right, queue, queue_after, read_set, read_to, reads_at, refl, send_due, sends_of_act, sent, start_act, started, submits, subst, sym, ticked, time_at, timestamp, tried, true, txn_no, uses_of, write_to, ℕ, ◌&&◌, ◌++◌, ◌<◌, ◌==◌, ◌^◌, ◌||◌, ◌∙◌, ◌∷◌, ◌≡◌, ◌≢◌}
-use Rattle.sdd_attempt.proofs.Phases.{AllAsk}
+use Rattle.sdd_attempt.proofs.All.{Act, AllByRecursion, AllUpTo, AreStamped, Attempt, Bases, Catalogue, Change, D, Did, Era, FitsAnswer, FitsTxn, Handed, IsAsking, IsAskingAt, IsLineOf, IsOfHead, List, Log, Msg, None, Option, Queued, Rec, Records, Redeclared, Sends, Setting, Site, Some, Submits, Ticked, Ticking, Txn, Use, [], active, active_after, active_sent, and_right, ap, arith, ascending, asks_rows, bound_of, clock, commit_act, cond, cond-true, contains, current_era, dm_no, effect, eq-eqb, false, filter_map, first_send, fragments_in, handed, head_of, is_for, is_read, is_some, list_all, map, module_read, modules_of, ne_eqb, numbers_to, or_left, or_right, queue, queue_after, read_set, read_to, reads_at, refl, send_due, sends_of_act, sent, start_act, started, submits, subst, sym, ticked, timestamp, tried, true, uses_of, write_to, ℕ, ◌&&◌, ◌++◌, ◌<◌, ◌==◌, ◌^◌, ◌∙◌, ◌∷◌, ◌≡◌, ◌≢◌}
 use Rattle.sdd_attempt.proofs.QuestionsOfAttempt.{NoReads, AreReads, asking_handed, asking_sends, asking_sent, asking_started}
 use Rattle.sdd_attempt.proofs.Waiting.{queue_did, queue_submitted, head_handed, head_submitted, head_sent, head_started}
 use Rattle.sdd_module.specs.protocol.declared.entry.Entry as line
@@ -9,11 +8,7 @@ use Rattle.sdd_module.specs.protocol.declared.entry.Entry as line
 
 pub line_handed : (s : Setting) (bases : Bases) (c : ℕ) (log : Log) (from : Site) (m : Msg) → FitsAnswer s bases log from m → IsLineOf s c log
     → IsLineOf s c (Handed from m ∷ log)
-line_handed s bases c log from m f h = record {
-  in_queue = h.in_queue;
-  of_head = head_handed c (queue s c log) from m (active s c log) h.of_head;
-  asking = asking_handed s bases log c from m f h.asking;
-}
+line_handed s bases c log from m f h = grind (arith, head_handed, active, asking_handed)
 
 pub line_submitted : (s : Setting) (c : ℕ) (log : Log) (n : ℕ) (txn : Txn) → contains (submits log) n ≡ false → n < 2 ^ 32 → FitsTxn s.catalogue txn
     → (is_for c (current_era s log).catalogue txn ≡ true → list_all (λ f. is_some (reads_at s.catalogue c f)) (read_set s.catalogue txn) ≡ true)
@@ -38,66 +33,37 @@ pub record IsApart (c : ℕ) (m : Msg) : Type 0 where
   pub asks : (ts : ℕ) → asks_rows ts c m ≡ false
 
 pub sent_apart : (c : ℕ) (m : Msg) (o : Option Attempt) → IsApart c m → active_sent c m o ≡ o
-sent_apart c m None h = refl
-sent_apart c m (Some a) h = cond-false (asks_rows a.ts c m) _ (Some a) (h.asks a.ts)
+sent_apart c m o h = grind arith
 
 pub line_apart : (s : Setting) (c : ℕ) (log : Log) (to : Site) (m : Msg) (hand : Option ℕ) → IsApart c m → IsLineOf s c log
     → IsLineOf s c (Did (Sends to m hand) ∷ log)
-line_apart s c log to m hand apart h = record {
-  in_queue = h.in_queue;
-  of_head = head_sent c (queue s c log) m (active s c log) h.of_head;
-  asking = subst (IsAskingAt c ((to, m) ∷ sent log) (handed log)) (sym (sent_apart c m (active s c log) apart))
-      (asking_sends c ((to, m) ∷ []) (sent log) (handed log) (active s c log) (λ ts. (apart.reads ts, tt)) h.asking);
-}
+line_apart s c log to m hand apart h = grind arith
 
 other_class : (ts t k c : ℕ) → k ≢ c → ((t == ts) && (k == c)) ≡ false
 other_class ts t k c h = and_right (t == ts) (k == c) (ne_eqb k c h)
 
 -- rows of one class are asked for by that class alone
 pub asks_apart : (ts k c : ℕ) (m : Msg) → asks_rows ts k m ≡ true → k ≢ c → IsApart c m
-asks_apart ts k c (Fetch t class u col) e h =
-    let same : class.0 ≡ k = eqb-true class.0 k
-    (and_parts (t.0 == ts) (class.0 == k) e).1 in record { reads = λ r. refl; asks = λ r. other_class r t.0 class.0 c (λ q. h (sym same ∙ q)) }
-asks_apart ts k c (Reduce t class u col values) e h =
-    let same : class.0 ≡ k = eqb-true class.0 k
-    (and_parts (t.0 == ts) (class.0 == k) e).1 in record { reads = λ r. refl; asks = λ r. other_class r t.0 class.0 c (λ q. h (sym same ∙ q)) }
-asks_apart ts k c (Ship t class) e h =
-    let same : class.0 ≡ k = eqb-true class.0 k
-    (and_parts (t.0 == ts) (class.0 == k) e).1 in record { reads = λ r. refl; asks = λ r. other_class r t.0 class.0 c (λ q. h (sym same ∙ q)) }
-asks_apart ts k c _ e h = absurd (false≢true e)
+asks_apart ts k c m e h = grind arith
 
 -- the records of another class
 
 pub queue_apart : (c k : ℕ) (r : Rec) (sends : List (Site × Msg)) (qs : List Queued) → k ≢ c → queue_after c (Records k r sends) qs ≡ qs
-queue_apart c k (Start txn attempt class ts p2 uses) sends qs h = cond-false (k == c) (map (tried txn.0) qs) qs (ne_eqb k c h)
-queue_apart c k (Commit txn attempt reply changes values rows) sends qs h = cond-false (k == c) (filter (λ q. not (q.number == txn.0)) qs) qs (ne_eqb k c h)
-queue_apart c k _ sends qs h = refl
+queue_apart c k r sends qs h = grind arith
 
 pub active_apart : (c k : ℕ) (r : Rec) (sends : List (Site × Msg)) (qs : List Queued) (o : Option Attempt) → k ≢ c → active_after c (Records k r sends) qs o ≡ o
-active_apart c k (Start txn attempt class ts p2 uses) sends qs o h = cond-false (k == c) (started ts.0 sends (head_of qs)) o (ne_eqb k c h)
-active_apart c k (Commit txn attempt reply changes values rows) sends qs o h = cond-false (k == c) None o (ne_eqb k c h)
-active_apart c k _ sends qs o h = refl
+active_apart c k r sends qs o h = grind arith
 
 pub line_elsewhere : (s : Setting) (c k : ℕ) (log : Log) (r : Rec) (sends : List (Site × Msg)) → k ≢ c → ((ts : ℕ) → NoReads ts c sends) → IsLineOf s c log
     → IsLineOf s c (Did (Records k r sends) ∷ log)
 line_elsewhere s c k log r sends apart none h =
-    let same_queue : queue_after c (Records k r sends) (queue s c log) ≡ queue s c log = queue_apart c k r sends (queue s c log) apart in
-    let same_active : active_after c (Records k r sends) (queue s c log) (active s c log) ≡ active s c log = active_apart c k r sends (queue s c log)
-    (active s c log) apart in
-    record {
-      in_queue = subst (IsQueue s.catalogue c (submits log)) (sym same_queue) h.in_queue;
-      of_head = subst (λ q. IsOfHead q (active_after c (Records k r sends) (queue s c log) (active s c log))) (sym same_queue)
-          (subst (IsOfHead (queue s c log)) (sym same_active) h.of_head);
-      asking = subst (IsAskingAt c (sends ++ sent log) (handed log)) (sym same_active)
-          (asking_sends c sends (sent log) (handed log) (active s c log) none h.asking);
-    }
+    grind (arith, queue_apart, active, active_apart, submits, sent, handed, asking_sends)
 
 -- the next message of the exchange
 
 send_is : (ms : List (ℕ × Msg)) (act : Act) → first_send ms ≡ Some act
     → (m : ℕ × Msg) × (rest : List (ℕ × Msg)) × (ms ≡ m ∷ rest) × (act ≡ Sends (D (dm_no m.0)) m.1 None)
-send_is [] act e = absurd cc
-send_is (m ∷ rest) act e = (m, rest, refl, cc)
+send_is ms act e = grind arith
 
 -- an act of an exchange: it asks for rows of its attempt
 pub record IsRequest (c : ℕ) (a : Attempt) (act : Act) : Type 0 where
@@ -108,10 +74,7 @@ pub record IsRequest (c : ℕ) (a : Attempt) (act : Act) : Type 0 where
 
 pub request_of : (c : ℕ) (sent handed : List (Site × Msg)) (a : Attempt) (act : Act) → IsAsking c sent handed a → send_due a.exchange ≡ Some act
     → IsRequest c a act
-request_of c sent handed a act h e =
-    let o = send_is a.exchange.to_send act e in
-    let all : AllAsk a.ts c (o.0 ∷ o.1) = subst (AllAsk a.ts c) o.2 h.asks in
-    record { to = o.0.0; msg = o.0.1; act_is = o.3; asks = all.0 }
+request_of c sent handed a act h e = grind arith
 
 line_requests : (s : Setting) (c : ℕ) (log : Log) (act : Act) (o : Option Attempt) (a : Attempt) → active s c log ≡ o → o ≡ Some a
     → send_due a.exchange ≡ Some act → IsLineOf s c log → IsLineOf s c (Did act ∷ log)
@@ -136,14 +99,7 @@ line_sent s c log act a is e h = line_requests s c log act (active s c log) a re
 writes_no_reads : (cat : Catalogue) (c : ℕ) (a : Attempt) (changes : List Change) (ts k : ℕ) (ds : List ℕ)
     → NoReads ts k (filter_map (write_to cat c a changes) ds)
 writes_no_reads cat c a changes ts k [] = tt
-writes_no_reads cat c a changes ts k (d ∷ ds) =
-    let rest = writes_no_reads cat c a changes ts k ds in
-    let here : List Change = filter (λ x. has_copy cat d x.frag.0) changes in
-    elim (not (is_empty here) || (c == 0)) as
-    (λ b. NoReads ts k (cons_option (cond b (Some (D (dm_no d), Write (time_at a.ts) (class_no c) (txn_no a.txn) here)) None) (filter_map (write_to cat c a changes) ds))) [
-      | true ↦ (refl, rest)
-      | false ↦ rest
-    ]
+writes_no_reads cat c a changes ts k (d ∷ ds) = grind (arith, writes_no_reads cat c a changes ts k ds)
 
 pub commit_no_reads : (cat : Catalogue) (bases : Bases) (c : ℕ) (a : Attempt) (ts k : ℕ) → NoReads ts k (sends_of_act (commit_act cat bases c a))
 commit_no_reads cat bases c a ts k = writes_no_reads cat c a (effect cat (bases a.ts) a.text).changes ts k (numbers_to cat.dms)
@@ -200,16 +156,12 @@ start_no_reads cat table c k q ts other h =
 
 pub start_is_up : (cat : Catalogue) (table : List line.Entry) (c : ℕ) (k : Ticking) (q : Queued)
     → AllUpTo (timestamp (ticked k 1)) (sends_of_act (start_act cat table c k q))
-start_is_up cat table c k q =
-    let uses : List Use = uses_of cat q.text in
-    reads_up cat table c q uses (timestamp (ticked k 1)) (bound_of k) (modules_of cat c (ascending (fragments_in uses)))
+start_is_up cat table c k q = grind (arith, reads_up, ticked, ascending)
 
 -- the modules to which it sends READs
 pub start_modules : (cat : Catalogue) (table : List line.Entry) (c : ℕ) (k : Ticking) (q : Queued)
     → map (λ (m : ℕ × List ℕ). m.0) (filter_map module_read (sends_of_act (start_act cat table c k q))) ≡ modules_of cat c (ascending (fragments_in (uses_of cat q.text)))
-start_modules cat table c k q =
-    let uses : List Use = uses_of cat q.text in
-    modules_read cat table c q uses (timestamp (ticked k 1)) (bound_of k) (modules_of cat c (ascending (fragments_in uses)))
+start_modules cat table c k q = grind (arith, modules_read, ticked, ascending)
 
 ticks_on : (k : Ticking) → timestamp k < timestamp (ticked k 1)
 ticks_on k = omega arith

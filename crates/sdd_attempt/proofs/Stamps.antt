@@ -1,5 +1,5 @@
 -- The clock of a site only goes on, so no READ that it sent has a time that is still to come.
-use Rattle.sdd_attempt.proofs.All.{Act, AllUpTo, AreStamped, Ask, Did, Entry, Handed, Held, IsUpTo, List, Log, Msg, Read, Rec, Records, Redeclared, Reject, Release, Sends, Setting, Site, Start, Ticking, [], and_left, arith, clock, false, is_read, ne_eqb, pushed, pushed_by, refl, sends_of_act, sent, subst, sym, ticked_by, timestamp, ℕ, ◌++◌, ◌<◌, ◌==◌, ◌∷◌, ◌≡◌, ◌≤◌}
+use Rattle.sdd_attempt.proofs.All.{Act, AllUpTo, AreStamped, Did, Entry, IsUpTo, List, Log, Msg, Setting, Site, Ticking, [], arith, clock, false, is_read, pushed, pushed_by, refl, sends_of_act, sent, ticked_by, timestamp, ℕ, ◌++◌, ◌<◌, ◌∷◌, ◌≡◌, ◌≤◌}
 
 -- the clock
 
@@ -10,25 +10,13 @@ pub no_sooner_push : (k : Ticking) (t : ℕ) → NoSooner k (pushed k t)
 no_sooner_push k t = (omega arith, refl)
 
 pub no_sooner_hand : (m : Msg) (k : Ticking) → NoSooner k (pushed_by m k)
-no_sooner_hand (Ask class time) k = no_sooner_push k time.0
-no_sooner_hand (Reject ts class by write) k = no_sooner_push k write.0
-no_sooner_hand (Release ts) k = no_sooner_push k ts.0
-no_sooner_hand (Held time) k = no_sooner_push k time.0
-no_sooner_hand _ k = (omega arith, refl)
-
-no_sooner_record : (c : ℕ) (r : Rec) (sends : List (Site × Msg)) (k : Ticking) → NoSooner k (ticked_by (Records c r sends) k)
-no_sooner_record c (Start txn attempt class ts p2 uses) sends k = (omega arith, refl)
-no_sooner_record c _ sends k = (omega arith, refl)
+no_sooner_hand m k = grind arith
 
 pub no_sooner_act : (act : Act) (k : Ticking) → NoSooner k (ticked_by act k)
-no_sooner_act (Records c r sends) k = no_sooner_record c r sends k
-no_sooner_act (Sends to m hand) k = (omega arith, refl)
+no_sooner_act act k = grind arith
 
 pub no_sooner : (at : Site) (e : Entry) (log : Log) → NoSooner (clock at log) (clock at (e ∷ log))
-no_sooner at (Handed from m) log = no_sooner_hand m (clock at log)
-no_sooner at (Redeclared era t) log = no_sooner_push (clock at log) t
-no_sooner at (Did act) log = no_sooner_act act (clock at log)
-no_sooner at _ log = (omega arith, refl)
+no_sooner at e log = grind arith
 
 stamp_later : (k l : Ticking) → NoSooner k l → timestamp k ≤ timestamp l
 stamp_later k l h = let same : l.number ≡ k.number = h.1 in let le : k.ticks ≤ l.ticks = h.0 in omega arith
@@ -39,8 +27,7 @@ stamps_grow at e log = stamp_later (clock at log) (clock at (e ∷ log)) (no_soo
 -- messages up to a time
 
 later : (t u : ℕ) → t ≤ u → (m : Msg) → IsUpTo t m → IsUpTo u m
-later t u l (Read ts class txn attempt conds uses) h = omega arith
-later t u l _ h = tt
+later t u l e h = grind arith
 
 pub all_later : (t u : ℕ) → t ≤ u → (ms : List (Site × Msg)) → AllUpTo t ms → AllUpTo u ms
 all_later t u l [] h = tt
@@ -52,19 +39,12 @@ all_both t (m ∷ ms) ns h k = (h.0, all_both t ms ns h.1 k)
 
 -- a READ with a later time isn't among them
 pub no_read : (t ts c : ℕ) (m : Msg) → t < ts → IsUpTo t m → is_read ts c m ≡ false
-no_read t ts c (Read r class txn attempt conds uses) l h = and_left (r.0 == ts) (class.0 == c) (ne_eqb r.0 ts (λ e. absurd (omega arith)))
-no_read t ts c _ l h = refl
+no_read t ts c m l h = grind arith
 
 pub stamped_did : (s : Setting) (log : Log) (act : Act) → AreStamped s log → AllUpTo (timestamp (clock s.site (Did act ∷ log))) (sends_of_act act)
     → AreStamped s (Did act ∷ log)
-stamped_did s log act st h =
-    let now : ℕ = timestamp (clock s.site log) in
-    let next : ℕ = timestamp (clock s.site (Did act ∷ log)) in
-    all_both next (sends_of_act act) (sent log) h (all_later now next (stamps_grow s.site (Did act) log) (sent log) st)
+stamped_did s log act st h = grind (arith, all_both, sent, all_later, stamps_grow)
 
 -- an entry by which nothing is sent
 pub stamped_still : (s : Setting) (log : Log) (e : Entry) → sent (e ∷ log) ≡ sent log → AreStamped s log → AreStamped s (e ∷ log)
-stamped_still s log e same st =
-    let now : ℕ = timestamp (clock s.site log) in
-    let next : ℕ = timestamp (clock s.site (e ∷ log)) in
-    subst (AllUpTo next) (sym same) (all_later now next (stamps_grow s.site e log) (sent log) st)
+stamped_still s log e same st = grind (arith, all_later, stamps_grow, sent)

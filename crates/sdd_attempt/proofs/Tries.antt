@@ -9,8 +9,7 @@ one_more : (n k : ℕ) (q : Queued) → q.tries ≤ n → (tried k q).tries ≤ 
 one_more n k q h = elim (q.number == k) as (λ b. (cond b (record q { tries = suc q.tries }) q).tries ≤ suc n) [ true ↦ omega arith | false ↦ omega arith ]
 
 if_tried : (n : ℕ) (b : Bool) (xs ys : List Queued) → AreTried n xs → AreTried n ys → AreTried n (cond b xs ys)
-if_tried n true xs ys h k = h
-if_tried n false xs ys h k = k
+if_tried n b xs ys h k = grind arith
 
 started : (n c k : ℕ) (r : Rec) (sends : List (Site × Msg)) (clk : ℕ) (qs : List Queued) → AreTried clk qs → clk ≤ n
     → AreTried (suc clk) (queue_after c (Records k r sends) qs)

@@ -1,5 +1,5 @@
 -- The uses of a transaction and their fragments: each is there, and they are few.
-use Rattle.sdd_attempt.proofs.All.{All, All-append, All-cons, All-from_recursion, All-head, All-nil, All-tail, All-weaker, AllByRecursion, AreThere, Bool, Catalogue, Condition, Const, Delete, FitsCondition, FitsStatement, FitsTxn, FragNo, Greater, IsClassOf, IsSmallStatement, IsSmallText, IsThere, IsWhole, JoinsWithin, List, Ordering, Put, Query, RelNo, Restriction, Same, Stmt, Txn, Update, Use, [], allowed_keys, ap, arith, ascending, conditions, conditions_at, false, filter, filter_map, flat_map-append, fold, frag_no, fragments_for, fragments_in, fragments_there, if◌then◌else◌, insert_key, key_column, length, length-append, length-range_with_len, map, match_ordering, meets_keys, modules_of, nat_cmp, nat_tests, numbers_to, part_uses, reads_at, refl, restrictions_of, statement_uses, suc, sym, true, undeclared_conditions, uses_from, uses_of, ℕ, ◌*◌, ◌+◌, ◌==◌, ◌∙◌, ◌∷◌, ◌≡◌, ◌≤◌}
+use Rattle.sdd_attempt.proofs.All.{All, All-append, All-cons, All-from_recursion, All-head, All-nil, All-tail, All-weaker, AllByRecursion, AreThere, Bool, Catalogue, Condition, Delete, FitsStatement, FitsTxn, FragNo, IsClassOf, IsSmallStatement, IsSmallText, IsThere, IsWhole, List, Ordering, Put, Query, RelNo, Restriction, Stmt, Txn, Update, Use, [], ap, arith, ascending, conditions, conditions_at, false, filter_map, flat_map-append, fold, frag_no, fragments_for, fragments_in, fragments_there, if◌then◌else◌, insert_key, length, length-append, length-range_with_len, map, match_ordering, modules_of, nat_cmp, nat_tests, numbers_to, part_uses, reads_at, refl, restrictions_of, statement_uses, suc, uses_from, uses_of, ℕ, ◌*◌, ◌+◌, ◌==◌, ◌∷◌, ◌≡◌, ◌≤◌}
 use Rattle.sdd_attempt.proofs.Lists.{few_filtered, few_picked}
 use Rattle.sdd_module.specs.protocol.declared.entry.Entry as line
 
@@ -51,9 +51,7 @@ not_zero c some = grind (arith, nat_tests)
 
 pub declared_at : (cat : Catalogue) (table : List line.Entry) (c : ℕ) (frags : List ℕ) (fs : List FragNo) (own p2 d : ℕ) → IsClassOf cat c
     → map (λ (f : FragNo). f.0) fs ≡ frags → conditions cat table c d fs own p2 ≡ conditions_at cat table c frags own p2 d
-declared_at cat table c frags fs own p2 d class e =
-    ap (λ l. conditions cat table c d l own p2) (sym (frags_back fs) ∙ ap (map frag_no) e)
-    ∙ sym (ap (λ (b : Bool). if b then undeclared_conditions cat own else conditions cat table c d (map frag_no frags) own p2) (not_zero c class.from))
+declared_at cat table c frags fs own p2 d class e = grind (arith, conditions, frags_back, not_zero)
 
 -- uses and fragments are few
 
@@ -62,15 +60,7 @@ same_length f [] = refl
 same_length f (x ∷ xs) = ap suc (same_length f xs)
 
 few_for : (cat : Catalogue) (rel : ℕ) (restrictions : List Restriction) → length (fragments_for cat rel restrictions) ≤ length cat.fragments
-few_for cat rel restrictions =
-    let p = meets_keys cat rel (allowed_keys (key_column cat rel) restrictions) in
-    omega (
-      arith,
-      same_length frag_no (filter p (numbers_to (length cat.fragments))),
-      few_filtered p
-          (numbers_to (length cat.fragments)),
-      length-range_with_len 1 (length cat.fragments),
-    )
+few_for cat rel restrictions = grind (arith, same_length, few_filtered, length-range_with_len)
 
 few_in_parts : (cat : Catalogue) (before : ℕ) (conds : List Condition) (part : ℕ) (rels : List RelNo) → length cat.fragments ≤ 256
     → length (fragments_in (part_uses cat before conds part rels)) ≤ 256 * length rels
@@ -110,8 +100,7 @@ few_in_statements cat before (s ∷ rest) small all =
 
 put_few : (o : Ordering) (k x : ℕ) (xs ys : List ℕ) → length ys ≤ suc (length xs)
     → length (match_ordering o (k ∷ x ∷ xs) (x ∷ xs) (x ∷ ys)) ≤ suc (suc (length xs))
-put_few Greater k x xs ys h = omega (arith, h)
-put_few _ k x xs ys h = omega arith
+put_few o k x xs ys h = grind arith
 
 inserted_few : (ks : List ℕ) (k : ℕ) → length (insert_key nat_cmp ks k) ≤ suc (length ks)
 inserted_few [] k = omega arith
@@ -123,21 +112,12 @@ all_few ks (n ∷ ns) = omega (arith, all_few (insert_key nat_cmp ks n) ns, inse
 
 few_modules_by : (cat : Catalogue) (c : ℕ) (undeclared : Bool) (frags : List ℕ) → cat.dms ≤ 16 → length frags ≤ 65536
     → length (if undeclared then numbers_to cat.dms else ascending (filter_map (reads_at cat c) frags)) ≤ 65536
-few_modules_by cat c true frags low few = omega (arith, length-range_with_len 1 cat.dms, low)
-few_modules_by cat c false frags low few = omega (arith, all_few [] (filter_map (reads_at cat c) frags), few_picked (reads_at cat c) frags, few)
+few_modules_by cat c undeclared frags low few = grind (arith, length-range_with_len, all_few, few_picked)
 
 -- a transaction that fits is small
 
-small_join : (cat : Catalogue) (rels : List RelNo) → length rels ≤ 6 → (c : Condition) → FitsCondition cat rels c → JoinsWithin 0 6 c
-small_join cat rels few (Const left op value) fits = tt
-small_join cat rels few (Same left right) fits =
-    let l : left.part ≤ length rels = fits.0.0.1 in let r : right.part ≤ length rels = fits.1.0.1 in (omega arith, omega arith)
-
 small_statement : (cat : Catalogue) (s : Stmt) → FitsStatement cat s → IsSmallStatement s
-small_statement cat (Query out rels conds) fits =
-    let few : length rels ≤ 6 = fits.0.1 in
-    (few, fits.4.0, All-weaker (FitsCondition cat rels) (JoinsWithin 0 6) (small_join cat rels few) conds fits.4.1)
-small_statement cat _ fits = tt
+small_statement cat s fits = grind arith
 
 pub small_text : (cat : Catalogue) (txn : Txn) → FitsTxn cat txn → IsSmallText txn
 small_text cat txn fits =
@@ -145,6 +125,4 @@ small_text cat txn fits =
 
 pub few_modules : (cat : Catalogue) (c : ℕ) (txn : Txn) → IsWhole cat → IsSmallText txn
     → length (modules_of cat c (ascending (fragments_in (uses_of cat txn)))) ≤ 65536
-few_modules cat c txn whole small =
-    few_modules_by cat c (c == 0) (ascending (fragments_in (uses_of cat txn))) whole.few_dms
-    (omega (arith, all_few [] (fragments_in (uses_of cat txn)), few_in_statements cat 0 txn.statements whole.few_fragments small.statements, small.few))
+few_modules cat c txn whole small = grind (arith, few_modules_by, ascending, all_few, few_in_statements)

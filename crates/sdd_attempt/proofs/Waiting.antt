@@ -1,6 +1,6 @@
 -- The queue of a class after each entry of the log: its transactions stay different ones that fit, and the active
 -- attempt is of the first of them.
-use Rattle.sdd_attempt.proofs.All.{Act, AllByRecursion, Attempt, Bool, Catalogue, Commit, D, Differ, FitsTxn, IsOfHead, IsQueue, IsWaiting, List, Msg, None, Option, Queued, Rec, Records, Sends, Site, Some, Start, Txn, [], active_handed, active_sent, after_hand, after_send, all_kept, ap, arith, asks_rows, cond, contains, eq-eqb, eqb-true, false, false≢true, filter, head_of, if◌then◌else◌, is_for, is_some, length, list_all, map, not, or_right, queue_after, read_set, reads_at, refl, rejects, started, submitted, subst, suc, sym, tried, true, zero, ℕ, ◌++◌, ◌<◌, ◌==◌, ◌^◌, ◌∙◌, ◌∷◌, ◌≡◌, ◌≢◌, ◌≤◌}
+use Rattle.sdd_attempt.proofs.All.{Act, AllByRecursion, Attempt, Bool, Catalogue, Differ, FitsTxn, IsOfHead, IsQueue, IsWaiting, List, Msg, Option, Queued, Rec, Records, Site, Some, Txn, [], active_handed, active_sent, all_kept, ap, arith, cond, contains, eq-eqb, eqb-true, false, filter, head_of, is_for, is_some, length, list_all, map, not, or_right, queue_after, read_set, reads_at, refl, started, submitted, subst, suc, sym, tried, true, zero, ℕ, ◌++◌, ◌<◌, ◌==◌, ◌^◌, ◌∙◌, ◌∷◌, ◌≡◌, ◌≢◌, ◌≤◌}
 
 -- a try changes no number and no text
 
@@ -8,11 +8,7 @@ tried_number : (n : ℕ) (q : Queued) → (tried n q).number ≡ q.number
 tried_number n q = elim (q.number == n) as (λ b. (cond b (record q { tries = suc q.tries }) q).number ≡ q.number) [ true ↦ refl | false ↦ refl ]
 
 tried_waiting : (cat : Catalogue) (c : ℕ) (given : List ℕ) (n : ℕ) (q : Queued) → IsWaiting cat c given q → IsWaiting cat c given (tried n q)
-tried_waiting cat c given n q h =
-    elim (q.number == n) as (λ b. IsWaiting cat c given (cond b (record q { tries = suc q.tries }) q)) [
-      | true ↦ record { is_given = h.is_given; small = h.small; fitting = h.fitting; covered = h.covered }
-      | false ↦ h
-    ]
+tried_waiting cat c given n q h = grind arith
 
 all_tried : (cat : Catalogue) (c : ℕ) (given : List ℕ) (n : ℕ) (qs : List Queued) → AllByRecursion (IsWaiting cat c given) qs
     → AllByRecursion (IsWaiting cat c given) (map (tried n) qs)
@@ -31,32 +27,20 @@ tried_differ n (q ∷ qs) h = (tried_apart n (tried n q).number q.number qs (tri
 
 kept_differ : (p : Queued → Bool) (qs : List Queued) → Differ qs → Differ (filter p qs)
 kept_differ p [] h = tt
-kept_differ p (q ∷ qs) h =
-    elim (p q) as (λ b. Differ (cond b (q ∷ filter p qs) (filter p qs))) [
-      | true ↦ (all_kept (λ (r : Queued). r.number ≢ q.number) p qs h.0, kept_differ p qs h.1)
-      | false ↦ kept_differ p qs h.1
-    ]
+kept_differ p (q ∷ qs) h = grind (arith, cond, all_kept, kept_differ p qs h.1)
 
 -- an act
 
 if_queue : (cat : Catalogue) (c : ℕ) (given : List ℕ) (b : Bool) (old new : List Queued) → IsQueue cat c given old → IsQueue cat c given new
     → IsQueue cat c given (cond b new old)
-if_queue cat c given true old new h k = k
-if_queue cat c given false old new h k = h
+if_queue cat c given b old new h k = grind arith
 
 record_queue : (cat : Catalogue) (c k : ℕ) (given : List ℕ) (r : Rec) (sends : List (Site × Msg)) (qs : List Queued) → IsQueue cat c given qs
     → IsQueue cat c given (queue_after c (Records k r sends) qs)
-record_queue cat c k given (Start txn attempt class ts p2 uses) sends qs h =
-    if_queue cat c given (k == c) qs (map (tried txn.0) qs) h
-    (record { differ = tried_differ txn.0 qs h.differ; waiting = all_tried cat c given txn.0 qs h.waiting })
-record_queue cat c k given (Commit txn attempt reply changes values rows) sends qs h =
-    if_queue cat c given (k == c) qs (filter (λ q. not (q.number == txn.0)) qs) h
-    (record { differ = kept_differ (λ q. not (q.number == txn.0)) qs h.differ; waiting = all_kept (IsWaiting cat c given) (λ q. not (q.number == txn.0)) qs h.waiting })
-record_queue cat c k given _ sends qs h = h
+record_queue cat c k given r sends qs h = grind (arith, if_queue, tried_differ, all_tried, kept_differ, all_kept)
 
 pub queue_did : (cat : Catalogue) (c : ℕ) (given : List ℕ) (act : Act) (qs : List Queued) → IsQueue cat c given qs → IsQueue cat c given (queue_after c act qs)
-queue_did cat c given (Records k r sends) qs h = record_queue cat c k given r sends qs h
-queue_did cat c given (Sends to m hand) qs h = h
+queue_did cat c given act qs h = grind (arith, record_queue)
 
 -- a submission
 
@@ -73,61 +57,25 @@ all_push P (y ∷ xs) x h k = (h.0, all_push P xs x h.1 k)
 differ_push : (cat : Catalogue) (c : ℕ) (given : List ℕ) (qs : List Queued) (r : Queued) → AllByRecursion (IsWaiting cat c given) qs
     → contains given r.number ≡ false → Differ qs → Differ (qs ++ r ∷ [])
 differ_push cat c given [] r all fresh h = (tt, tt)
-differ_push cat c given (q ∷ qs) r all fresh h =
-    let apart : r.number ≢ q.number = λ e. false≢true (sym fresh ∙ ap (contains given) e ∙ all.0.is_given) in
-    (all_push (λ (x : Queued). x.number ≢ q.number) qs r h.0 apart, differ_push cat c given qs r all.1 fresh h.1)
+differ_push cat c given (q ∷ qs) r all fresh h = grind (arith, all_push, differ_push cat c given qs r all.1 fresh h.1)
 
 pub queue_submitted : (cat : Catalogue) (c : ℕ) (given : List ℕ) (here : Catalogue) (n : ℕ) (txn : Txn) (qs : List Queued) → contains given n ≡ false
     → n < 2 ^ 32 → FitsTxn cat txn → (is_for c here txn ≡ true → list_all (λ f. is_some (reads_at cat c f)) (read_set cat txn) ≡ true) → IsQueue cat c given qs
     → IsQueue cat c (n ∷ given) (submitted c here n txn qs)
 queue_submitted cat c given here n txn qs fresh small fits covered h =
-    let new : Queued = record { number = n; text = txn; tries = 0 } in
-    let old : IsQueue cat c (n ∷ given) qs = record { differ = h.differ; waiting = waits_still cat c n given qs h.waiting } in
-    elim (is_for c here txn) as (λ b. is_for c here txn ≡ b → IsQueue cat c (n ∷ given) (cond b (qs ++ new ∷ []) qs)) [
-      | true ↦ λ e. record {
-        differ = differ_push cat c given qs new h.waiting fresh h.differ;
-        waiting = all_push (IsWaiting cat c (n ∷ given)) qs new old.waiting
-            (record { is_given = rw (eq-eqb n n refl) refl; small = small; fitting = fits; covered = covered e });
-      }
-      | false ↦ λ e. old
-    ] refl
+    grind (arith, waits_still, cond, differ_push, all_push, eq-eqb)
 
 -- the head
 
-head_if : (queue : List Queued) (a b : Attempt) → b.txn ≡ a.txn → b.text ≡ a.text → b.attempt ≡ a.attempt → IsOfHead queue (Some a) → IsOfHead queue (Some b)
-head_if queue a b e f g h = rw (e, f, g) h
-
-reject_head : (queue : List Queued) (a b : Attempt) (r : Bool) → IsOfHead queue (Some b) → IsOfHead queue (if r then None else Some b)
-reject_head queue a b true h = tt
-reject_head queue a b false h = h
-
 pub head_handed : (c : ℕ) (queue : List Queued) (from : Site) (m : Msg) (o : Option Attempt) → IsOfHead queue o → IsOfHead queue (active_handed c from m o)
-head_handed c queue (D d) m (Some a) h =
-    let b : Attempt = record a { exchange = after_hand a.ts c d.0 m a.exchange } in
-    reject_head queue a b (rejects m a.ts c) (head_if queue a b refl refl refl h)
-head_handed c queue (D d) m None h = tt
-head_handed c queue _ m o h = h
-
-head_push : (qs : List Queued) (q r : Queued) → head_of qs ≡ Some q → head_of (qs ++ r ∷ []) ≡ Some q
-head_push [] q r h = absurd cc
-head_push (x ∷ qs) q r h = h
-
-head_pushed : (queue : List Queued) (r : Queued) (o : Option Attempt) → IsOfHead queue o → IsOfHead (queue ++ r ∷ []) o
-head_pushed queue r None h = tt
-head_pushed queue r (Some a) h = head_push queue (record { number = a.txn; text = a.text; tries = a.attempt }) r h
+head_handed c queue from m o h = grind arith
 
 pub head_submitted : (c : ℕ) (here : Catalogue) (n : ℕ) (txn : Txn) (queue : List Queued) (o : Option Attempt) → IsOfHead queue o
     → IsOfHead (submitted c here n txn queue) o
-head_submitted c here n txn queue o h =
-    elim (is_for c here txn) as (λ b. IsOfHead (cond b (queue ++ record { number = n; text = txn; tries = 0 } ∷ []) queue) o) [
-      | true ↦ head_pushed queue (record { number = n; text = txn; tries = 0 }) o h
-      | false ↦ h
-    ]
+head_submitted c here n txn queue o h = grind arith
 
 pub head_sent : (c : ℕ) (queue : List Queued) (m : Msg) (o : Option Attempt) → IsOfHead queue o → IsOfHead queue (active_sent c m o)
-head_sent c queue m None h = tt
-head_sent c queue m (Some a) h =
-    elim (asks_rows a.ts c m) as (λ b. IsOfHead queue (if b then Some (record a { exchange = after_send a.exchange }) else Some a)) [ true ↦ h | false ↦ h ]
+head_sent c queue m o h = grind arith
 
 -- a Start of the first one
 pub head_started : (ts : ℕ) (sends : List (Site × Msg)) (q : Queued) (rest : List Queued)
@@ -146,20 +94,11 @@ shorter p (q ∷ qs) = let rest = shorter p qs in elim (p q) as (λ b. length (c
 
 -- a Commit of the first one leaves fewer
 pub fewer_committed : (n : ℕ) (qs : List Queued) (q : Queued) → head_of qs ≡ Some q → q.number ≡ n → length (others n qs) < length qs
-fewer_committed n [] q h e = absurd cc
-fewer_committed n (x ∷ qs) q h e =
-    let same : x ≡ q = cc in
-    let own : (x.number == n) ≡ true = eq-eqb x.number n (ap (λ (y : Queued). y.number) same ∙ e) in
-    let rest = shorter (λ q. not (q.number == n)) qs in
-    rw own (omega arith)
+fewer_committed n qs q h e = grind (arith, eq-eqb, shorter)
 
 all_apart : (n : ℕ) (qs : List Queued) → AllByRecursion (λ r. r.number ≢ n) qs → others n qs ≡ qs
 all_apart n [] h = refl
-all_apart n (q ∷ qs) h =
-    elim (q.number == n) as (λ b. (q.number == n) ≡ b → cond (not b) (q ∷ others n qs) (others n qs) ≡ q ∷ qs) [
-      | true ↦ λ e. absurd (h.0 (eqb-true q.number n e))
-      | false ↦ λ e. ap (λ rs. q ∷ rs) (all_apart n qs h.1)
-    ] refl
+all_apart n (q ∷ qs) h = grind (arith, all_apart n qs h.1)
 
 -- of different numbers at most one is lost
 one_lost : (n : ℕ) (qs : List Queued) → Differ qs → length qs ≤ suc (length (others n qs))
@@ -175,12 +114,7 @@ one_lost n (q ∷ qs) h =
 
 below_others : (n : ℕ) (qs : List Queued) → AllByRecursion (λ q. q.number < suc n) qs → AllByRecursion (λ q. q.number < n) (others n qs)
 below_others n [] h = tt
-below_others n (q ∷ qs) h =
-    elim (q.number == n) as (λ b. (q.number == n) ≡ b → AllByRecursion (λ q. q.number < n) (cond (not b) (q ∷ others n qs) (others n qs))) [
-      | true ↦ λ e. below_others n qs h.1
-      | false ↦ λ e. let apart : q.number ≢ n = λ s. false≢true (sym e ∙ eq-eqb q.number n s) in let low : q.number < suc n = h.0 in
-          (omega arith, below_others n qs h.1)
-    ] refl
+below_others n (q ∷ qs) h = grind (arith, below_others n qs h.1)
 
 -- there are no more than there are numbers
 pub few_numbers : (n : ℕ) (qs : List Queued) → Differ qs → AllByRecursion (λ q. q.number < n) qs → length qs ≤ n
