@@ -1,6 +1,6 @@
 -- Assignments: what is read is spelled and fits, and what is spelled and fits is read.
 use Rattle.sdd_script.proofs.All.{Add, AllByRecursion, Answers, Assign, AssignsValue, BadNumber, Bool, Catalogue, FitsAssign, FitsRef, Found, IsColumn, Kind, List, None, Ok, Option, Plain, Quoted, Ref, RelNo, Result, Setting, Some, To, Word, WorkRule, [], add_of, addend_of, adds_of, along, along_ok, ap, arith, assign_of, assign_words, bind_ok, both_hold, bytes_eq, bytes_eq-Decides, codes, column_of_use, column_word, cond, eq-eqb, eqb, false, is_free, is_of_kind, key_column, key_of, kind_at, kind_of_ref, known_ok, looks_like_column, mag, map, ne_eqb, not, number_again, number_of, number_takes, ok_along, ok_is, option_map, own_column, refl, rel_of, sets_words, setting_of, signed_decimal, subst, sym, to_of, true, value_of, value_word, ℕ, ℤ, ◌&&◌, ◌++◌, ◌+◌, ◌<◌, ◌==◌, ◌^◌, ◌∙◌, ◌∷◌, ◌≡◌, ◌≢◌, ◌≤◌}
-use Rattle.sdd_words.specs.Forms.{settings, joined}
+use Rattle.sdd_words.specs.Forms.{settings}
 use Rattle.sdd_script.proofs.StepLaws.{must_then, not_true, some_of}
 use Rattle.sdd_script.proofs.ValueLaws.{value_takes, value_again, kind_int, kind_same, key_is}
 use Rattle.sdd_script.proofs.WordLooks.{value_free, number_free}
@@ -23,26 +23,17 @@ setted (s ∷ ss) = s.left ∷ Plain (adds_word s.adds) ∷ s.right ∷ setted s
 abbrev pub LooksSet : Setting → Type 0
 LooksSet s = (looks_like_column s.left ≡ true) × (is_free s.right ≡ true)
 
-bool_is : (x y : Bool) → some_of x ≡ some_of y → x ≡ y
-bool_is x y e = cc
-
 setting_is : (x y : Setting) → some_of x ≡ some_of y → x ≡ y
 setting_is x y e = cc
 
 adds_if : (bytes : List ℕ) (adds a b : Bool) → bytes_eq bytes (codes "=") ≡ a
     → bytes_eq bytes (codes "+=") ≡ b → cond a (Some false) (cond b (Some true) None) ≡ Some adds
     → bytes ≡ adds_word adds
-adds_if bytes adds true b p q e = (bytes_eq-Decides bytes (codes "=")).0 p ∙ ap adds_word (bool_is false adds e)
-adds_if bytes adds false true p q e = (bytes_eq-Decides bytes (codes "+=")).0 q ∙ ap adds_word (bool_is true adds e)
-adds_if bytes adds false false p q e = absurd cc
+adds_if bytes adds a b p q e = grind (arith, bytes_eq-Decides)
 
 adds_take : (w : Word) (adds : Bool) → adds_of w ≡ Some adds → w ≡ Plain (adds_word adds)
 adds_take (Plain bytes) adds e = ap (λ (l : List ℕ). Plain l) (adds_if bytes adds (bytes_eq bytes (codes "=")) (bytes_eq bytes (codes "+=")) refl refl e)
 adds_take (Quoted text) adds e = absurd cc
-
-adds_again : (adds : Bool) → adds_of (Plain (adds_word adds)) ≡ Some adds
-adds_again true = refl
-adds_again false = refl
 
 record IsSetting (left op right : Word) (s : Setting) : Type 0 where
   left_is : left ≡ s.left
@@ -93,11 +84,7 @@ settings_take (left ∷ op ∷ right ∷ more) ss e =
 settings_take (a ∷ _) ss e = absurd cc
 
 setting_again : (s : Setting) → LooksSet s → setting_of s.left (Plain (adds_word s.adds)) s.right ≡ Some s
-setting_again s h =
-    let a = h.0 in
-    let b = h.1 in
-    let o = adds_again s.adds in
-    rw (a, b, o) refl
+setting_again s h = grind arith
 
 pub settings_again : (ss : List Setting) → AllByRecursion LooksSet ss → settings (setted ss) ≡ Some ss
 unfolding settings

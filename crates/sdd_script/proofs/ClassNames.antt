@@ -1,19 +1,12 @@
 -- The names of a catalogue's classes: they differ, and they are found by numbers.
-use Rattle.sdd_script.proofs.All.{Bool, Catalogue, Class, ClassPart, Fragment, IsSoundCatalogue, List, [], ap, append-nil, append_assoc, arith, both_empty, bytes_eq, class_names, class_part, class_rules, empty_of_map, false, faults_of_class, found_from, get_or, has_name, joined, length, list_any, list_any-append, list_any-map, map, map-append, map-map, name_of_class, no_faults, numbers_to, part_names, parts_of, range_with_len, refl, repeats, subst, suc, sym, tm_no, true, unbroken, ℕ, ◌++◌, ◌+◌, ◌-◌, ◌<◌, ◌||◌, ◌∙◌, ◌∷◌, ◌≡◌}
+use Rattle.sdd_script.proofs.All.{Bool, Catalogue, Class, ClassPart, Fragment, IsSoundCatalogue, List, [], ap, append-nil, append_assoc, arith, both_empty, bytes_eq, class_names, class_part, false, faults_of_class, found_from, get_or, has_name, joined, length, list_any, list_any-append, list_any-map, map, map-append, map-map, name_of_class, no_faults, numbers_to, part_names, parts_of, range_with_len, refl, repeats, subst, suc, sym, tm_no, true, ℕ, ◌++◌, ◌+◌, ◌-◌, ◌<◌, ◌||◌, ◌∙◌, ◌∷◌, ◌≡◌}
 use Rattle.sdd_script.proofs.NamePlaces.{none_any, repeats_not}
 use Rattle.sdd_lang.specs.All.{Parts}
 
 -- ---- they differ
 
 new_name : (parts : Parts) (before : List ClassPart) (c : ClassPart) → faults_of_class parts before c ≡ [] → has_name (part_names before) c.name ≡ false
-new_name parts before c e =
-    let rules : class_rules parts before c ≡ [] = empty_of_map _ _ e in
-    let a = both_empty _ _ rules in
-    let b = both_empty _ _ a.0 in
-    let d = both_empty _ _ b.0 in
-    let f = both_empty _ _ d.0 in
-    let g = both_empty _ _ f.0 in
-    unbroken _ _ g.1
+new_name parts before c e = grind arith
 
 names_with : (before : List ClassPart) (c : ClassPart) → part_names (before ++ c ∷ []) ≡ part_names before ++ c.name ∷ []
 names_with before c = map-append (λ (k : ClassPart). k.name) before (c ∷ [])
@@ -85,19 +78,15 @@ lists_or_open_list name lists classes = list_any-append (named name) (joined lis
 
 pub catalogue_or_lists : (cat : Catalogue) (classes : List ClassPart) (name : List ℕ)
     → has_name (class_names cat ++ part_names classes) name ≡ (has_name (class_names cat) name || list_any (λ (c : ClassPart). bytes_eq name c.name) classes)
-catalogue_or_lists cat classes name = list_any-append (bytes_eq name) (class_names cat) (part_names classes)
-    ∙ ap (λ (b : Bool). has_name (class_names cat) name || b)
-    (list_any-map (bytes_eq name) (λ (c : ClassPart). c.name) classes)
+catalogue_or_lists cat classes name = grind (arith, list_any-append, list_any-map)
 
 -- ---- a test of two, of which the second is asked where the first fails
 
 either_first : (b l k : Bool) → b ≡ l → b ≡ true → b ≡ (l || k)
-either_first true true k e t = refl
-either_first _ _ k e t = absurd cc
+either_first b l k e t = grind arith
 
 either_second : (b l d k : Bool) → b ≡ l → b ≡ false → d ≡ k → d ≡ (l || k)
-either_second false false d k e f g = g
-either_second _ _ d k e f g = absurd cc
+either_second b l d k e f g = grind arith
 
 abbrev pub in_lists : List ℕ → List (List ClassPart) → Bool
 in_lists name lists = list_any (λ (l : List ClassPart). list_any (λ (c : ClassPart). bytes_eq name c.name) l) lists

@@ -9,15 +9,7 @@ abbrev new_class : List ℕ → TmNo → ClassPart
 new_class name tm = class_so_far (record { name = name; tm = tm; reads = []; writes = [] })
 
 class_valid : (cat : Catalogue) (name : List ℕ) (tm : TmNo) → IsName name → IsFrom1To cat.tms tm.0 → IsValidClass cat (new_class name tm)
-class_valid cat name tm named there = record {
-  named = named;
-  module_is_there = there;
-  reads = All-from_recursion (IsValidRead cat) [] tt;
-  reads_once = refl;
-  few_reads = omega arith;
-  writes = All-from_recursion (IsFragment cat) [] tt;
-  writes_once = refl;
-}
+class_valid cat name tm named there = grind arith
 
 pub names_parted : (cat : Catalogue) (front : List ClassPart) (c : ClassPart) (cs : List ClassPart)
     → class_names cat ++ part_names (front ++ c ∷ cs) ≡ (class_names cat ++ part_names front) ++ c.name ∷ part_names cs

@@ -1,14 +1,13 @@
 -- Events: what is read is spelled and is there, and what is spelled and is there is read.
-use Rattle.sdd_script.proofs.All.{BadEvent, BadLine, BadNumber, Bool, Catalogue, D, DmNo, Down, Event, HasNoNewline, HasNoSpace, IsAscii-cons, IsAscii-nil, IsFrom1To, IsLink, IsPlain, IsSite, IsUtf8, IsUtf8-append, IsUtf8-from_ascii, List, MAX_PLACE, MAX_TICKS, None, Ok, Option, Plain, Quoted, Redeclare, Resend, Settle, Site, Some, T, Tick, TmNo, U, Up, Word, [], ap, are_linked, arith, bind_ok, both_are, both_hold, cond, count_of, count_word, data_module_of, decimal, dm_of, down_of, eqb-true, false, flight_place, from_one, is_free, known_ok, length, link_of, lt-ltb, ltb-true, module_of, must, nat_le, nat_lt, nat_lt as ltb, negsuc, number_again, number_of, number_takes, numbered, ok_is, option_map, pos, redeclare_of, refl, resend_of, settle_of, site_in, site_of, site_word, subst, tick_of, tm_no, tm_of, true, up_of, ℕ, ℤ, ◌&&◌, ◌<◌, ◌==◌, ◌>>=◌, ◌^◌, ◌∙◌, ◌∷◌, ◌≡◌, ◌≢◌}
-use Rattle.sdd_script.proofs.StepLaws.{must_then, le_of, of_le, some_is}
+use Rattle.sdd_script.proofs.All.{BadEvent, BadLine, Bool, Catalogue, D, DmNo, Down, Event, HasNoNewline, HasNoSpace, IsAscii-cons, IsAscii-nil, IsFrom1To, IsLink, IsPlain, IsSite, IsUtf8, IsUtf8-append, IsUtf8-from_ascii, List, MAX_PLACE, MAX_TICKS, None, Ok, Option, Plain, Quoted, Redeclare, Resend, Settle, Site, Some, T, Tick, TmNo, U, Up, Word, [], ap, are_linked, arith, bind_ok, both_hold, cond, count_of, count_word, data_module_of, decimal, dm_of, down_of, eqb-true, false, flight_place, from_one, is_free, known_ok, length, link_of, lt-ltb, module_of, must, nat_le, nat_lt, nat_lt as ltb, negsuc, number_again, number_of, number_takes, numbered, ok_is, option_map, pos, redeclare_of, refl, resend_of, settle_of, site_in, site_of, site_word, subst, tick_of, tm_no, tm_of, true, up_of, ℕ, ℤ, ◌&&◌, ◌<◌, ◌==◌, ◌>>=◌, ◌^◌, ◌∙◌, ◌∷◌, ◌≡◌, ◌≢◌}
+use Rattle.sdd_script.proofs.StepLaws.{must_then, of_le}
 use Rattle.sdd_script.proofs.WordLooks.{IsFine, count_fine, count_free}
 use Rattle.sdd_script.proofs.UseLaws.{IsKnown}
 
 -- ---- numbers from 1
 
 one_if : (most n k : ℕ) (b : Bool) → (nat_lt 0 n && nat_le n most) ≡ b → cond b (Some n) None ≡ Some k → (n ≡ k) × IsFrom1To most n
-one_if most n k false t e = absurd cc
-one_if most n k true t e = let h = both_hold (nat_lt 0 n) (nat_le n most) t in (some_is n k e, (omega (arith, ltb-true 0 n h.0), le_of n most h.1))
+one_if most n k b t e = grind arith
 
 one_takes : (most : ℕ) (bytes : List ℕ) (n : ℕ) (o : Option ℤ) → number_of bytes ≡ o → from_one most o ≡ Some n
     → (bytes ≡ decimal n) × IsFrom1To most n
@@ -141,17 +140,10 @@ link_takes cat from to l e =
     })
 
 pub link_again : (cat : Catalogue) → IsKnown cat → (from to : Site) → IsLink cat from to → link_of cat (site_word from) (site_word to) ≡ Ok (from, to)
-link_again cat k from to h =
-    let a = site_again cat k from h.0 in
-    let b = site_again cat k to h.1 in
-    let c : are_linked from to ≡ true = h.2 in
-    rw (a, b, c) refl
+link_again cat k from to h = grind (arith, site_again)
 
 pub count_takes : (most : ℕ) (w : Word) (n : ℕ) → count_of most w ≡ Ok n → (w ≡ count_word n) × IsFrom1To most n
-count_takes most (Plain bytes) n e =
-    let h = numbered_takes most bytes n (known_ok BadNumber (numbered most bytes) n e) in
-    (ap (λ (l : List ℕ). Plain l) h.0, h.1)
-count_takes most (Quoted text) n e = absurd cc
+count_takes most w n e = grind (arith, numbered_takes)
 
 pub count_again : (most n : ℕ) → most < 2 ^ 63 → IsFrom1To most n → count_of most (count_word n) ≡ Ok n
 count_again most n small h = let e = numbered_again most n small h in rw e refl
@@ -171,8 +163,7 @@ lettered c bytes lt newline space quote s l u = record {
 }
 
 pub plain_space : (bytes : List ℕ) → IsPlain bytes → HasNoSpace bytes
-plain_space [] h = absurd h
-plain_space (c ∷ bytes) h = (h.1, h.2)
+plain_space bytes h = grind arith
 
 numbered_fine : (c n : ℕ) → c < 128 → c ≢ 10 → c ≢ 32 → c ≢ 34 → n < 2 ^ 63 → IsFine (Plain (c ∷ decimal n))
 numbered_fine c n lt newline space quote small = let f =
@@ -185,8 +176,7 @@ site_fine cat k (T tm) h = numbered_fine 84 tm.0 (omega arith) (λ e. omega arit
 site_fine cat k (D dm) h = numbered_fine 68 dm.0 (omega arith) (λ e. omega arith) (λ e. omega arith) (λ e. omega arith) (omega (arith, h.1, k.few_dms))
 
 pub site_free : (site : Site) → is_free (site_word site) ≡ true
-site_free U = refl
-site_free _ = refl
+site_free site = grind arith
 
 pub place_free : (n : ℕ) → IsFrom1To MAX_PLACE n → is_free (count_word n) ≡ true
 place_free n h = count_free n (omega (arith, h.1))
@@ -218,12 +208,7 @@ place_takes cat _ p h = absurd cc
 pub place_again : (cat : Catalogue) → IsKnown cat → (from to : Site) (place : ℕ) → IsLink cat from to
     → IsFrom1To MAX_PLACE place → flight_place cat
     (site_word from ∷ site_word to ∷ count_word place ∷ []) ≡ Ok (flight from to place)
-place_again cat k from to place h n =
-    let f = both_are (is_free (site_word from) && is_free (site_word to)) (is_free (count_word place))
-    (both_are (is_free (site_word from)) (is_free (site_word to)) (site_free from) (site_free to)) (place_free place n) in
-    let a = link_again cat k from to h in
-    let b = count_again MAX_PLACE place (omega arith) n in
-    rw (f, a, b) refl
+place_again cat k from to place h n = grind (arith, place_free, link_again, count_again)
 
 pub record IsResent (cat : Catalogue) (words : List Word) (e : Event) : Type 0 where
   pub from : Site
@@ -248,10 +233,7 @@ resend_takes cat _ e h = absurd cc
 
 pub resend_again : (cat : Catalogue) → IsKnown cat → (from to : Site) → IsLink cat from to
     → resend_of cat (site_word from ∷ site_word to ∷ []) ≡ Ok (Resend from to)
-resend_again cat k from to h =
-    let f = both_are (is_free (site_word from)) (is_free (site_word to)) (site_free from) (site_free to) in
-    let a = link_again cat k from to h in
-    rw (f, a) refl
+resend_again cat k from to h = grind (arith, link_again)
 
 pub record IsTick (cat : Catalogue) (words : List Word) (e : Event) : Type 0 where
   pub tm : TmNo
@@ -280,19 +262,13 @@ tick_takes cat _ e h = absurd cc
 
 pub tick_again : (cat : Catalogue) → IsKnown cat → (tm : TmNo) (n : ℕ) → IsFrom1To cat.tms tm.0
     → IsFrom1To MAX_TICKS n → tick_of cat (site_word (T tm) ∷ count_word n ∷ []) ≡ Ok (Tick tm n)
-tick_again cat k tm n h m =
-    let a = tm_again cat k tm h in
-    let f = place_free n m in
-    let b = count_again MAX_TICKS n (omega arith) m in
-    rw (f, a, b) refl
+tick_again cat k tm n h m = grind (arith, tm_again, place_free, count_again)
 
 pub settle_takes : (words : List Word) (e : Event) → settle_of words ≡ Ok e → (words ≡ []) × (Settle ≡ e)
-settle_takes [] e h = (refl, ok_is Settle e h)
-settle_takes (w ∷ words) e h = absurd cc
+settle_takes words e h = grind arith
 
 pub redeclare_takes : (words : List Word) (e : Event) → redeclare_of words ≡ Ok e → (words ≡ []) × (Redeclare ≡ e)
-redeclare_takes [] e h = (refl, ok_is Redeclare e h)
-redeclare_takes (w ∷ words) e h = absurd cc
+redeclare_takes words e h = grind arith
 
 -- a data module goes down or comes up
 pub record IsTurn (turn : DmNo → Event) (cat : Catalogue) (words : List Word) (e : Event) : Type 0 where

@@ -1,5 +1,5 @@
 -- A loop that reads each item of a list of a line's parts, and keeps no more than tell that they are too many.
-use Rattle.sdd_script.proofs.All.{Bool, Catalogue, Column, Err, Fails, IfSome, LineError, List, None, Ok, Option, RelNo, Result, Some, UnknownName, Value, Word, WorkRule, WrongKind, [], along, ap, append-nil, append_assoc, arith, cases_Bool, columns_of, drop, drop_all, drop_more, eqb-true, false, few, few_of, few_row, get_or, inl, inr, kind_of_place, known, length, length-append, length-take, ltb-false, ltb-true, must, nat_lt, ne_eqb, option_map, refl, rel_no, relation_of, rule_in, slice_get, subst, suc, sym, take, take-append-le, take_all, true, value_of, values_of, zero, ℕ, ◌++◌, ◌+◌, ◌<◌, ◌==◌, ◌>>=◌, ◌∙◌, ◌∷◌, ◌≡◌, ◌≤◌}
+use Rattle.sdd_script.proofs.All.{Bool, Catalogue, Column, Err, Fails, LineError, List, None, Ok, Option, RelNo, Result, UnknownName, Value, Word, WorkRule, WrongKind, [], along, ap, append-nil, append_assoc, arith, cases_Bool, columns_of, drop, drop_all, drop_more, few, few_of, few_row, get_or, inl, inr, kind_of_place, known, length, length-append, length-take, ltb-false, ltb-true, must, nat_lt, ne_eqb, option_map, refl, rel_no, relation_of, rule_in, slice_get, suc, sym, take, take-append-le, take_all, value_of, values_of, zero, ℕ, ◌++◌, ◌+◌, ◌<◌, ◌==◌, ◌>>=◌, ◌∙◌, ◌∷◌, ◌≡◌, ◌≤◌}
 use Rattle.sdd_script.specs.Values.{row_of}
 use Rattle.sdd_script.specs.Statements.{parts_of}
 use Rattle.sdd_lang.proofs.base.ReadingLaws as readings
@@ -25,8 +25,7 @@ kept_and_left most f kept rest = few most (with_front kept (along f (length kept
 
 regroup : {B : Type 0} (front : List B) (y : B) (reading : Result (List B) WorkRule)
     → with_front front (reading >>= (λ ys. Ok (y ∷ ys))) ≡ with_front (front ++ y ∷ []) reading
-regroup front y (Ok ys) = ap (λ zs. Ok zs) (sym (append_assoc front (y ∷ []) ys))
-regroup front y (Err fault) = refl
+regroup front y reading = grind (arith, append_assoc)
 
 -- one more where as many are kept as may be changes nothing
 full : {B : Type 0} (most : ℕ) (kept : List B) (y : B) (reading : Result (List B) WorkRule) → length kept ≡ most + 1
@@ -39,10 +38,7 @@ full most kept y (Ok ys) is =
 
 read_on : {A B : Type 0} (most : ℕ) (f : ℕ → A → Result B WorkRule) (kept : List B) (x : A) (y : B) (rest : List A) → f (length kept) x ≡ Ok y
     → few most (with_front (kept ++ y ∷ []) (along f (length kept + 1) rest)) ≡ kept_and_left most f kept (x ∷ rest)
-read_on most f kept x y rest read =
-    let one : along f (length kept) (x ∷ rest) ≡ (along f (length kept + 1) rest >>= (λ ys. Ok (y ∷ ys))) =
-    ap (λ r. r >>= (λ y. along f (length kept + 1) rest >>= (λ ys. Ok (y ∷ ys)))) read in
-    ap (few most) (sym (ap (with_front kept) one ∙ regroup kept y (along f (length kept + 1) rest)))
+read_on most f kept x y rest read = grind (arith, regroup)
 
 -- an item that is read is kept, where there aren't too many
 pub goes_few : {A B : Type 0} (most : ℕ) (f : ℕ → A → Result B WorkRule) (steady : IsSteady most f) (kept new : List B) (x : A) (y : B) (rest : List A)
@@ -71,20 +67,11 @@ goes_few most f steady kept new x y rest total within is read so_far =
           )
     ]
 
-fails_few : {B : Type 0} (most : ℕ) (err : LineError) (reading : Result (List B) WorkRule) → Fails rule_in err reading
-    → Fails rule_in err (few most reading)
-fails_few most err reading h =
-    elim (rule_in err) as (λ o. IfSome o (λ fault. reading ≡ Err fault)
-    → IfSome o (λ fault. few most reading ≡ Err fault)) [ None ↦ λ h. tt | Some fault ↦ λ h. rw h refl ] h
-
 -- the fault of an item is that of all
 pub ends_few : {A B : Type 0} (most : ℕ) (f : ℕ → A → Result B WorkRule) (kept : List B) (x : A) (rest : List A) (err : LineError)
     (total : Result (List B) WorkRule) → Fails rule_in err (f (length kept) x) → kept_and_left most f kept
     (x ∷ rest) ≡ total → Fails rule_in err total
-ends_few {B = B} most f kept x rest err total fails so_far =
-    let here = readings.fails_bind rule_in err (f (length kept) x) (λ y. along f (length kept + 1) rest >>= (λ ys. Ok (y ∷ ys))) fails in
-    let front = readings.fails_bind rule_in err (along f (length kept) (x ∷ rest)) (λ ys. Ok (kept ++ ys)) here in
-    subst (λ (r : Result (List B) WorkRule). Fails rule_in err r) so_far (fails_few most err (with_front kept (along f (length kept) (x ∷ rest))) front)
+ends_few {B = B} most f kept x rest err total fails so_far = grind arith
 
 -- the same of an item by its index, with any default
 pub goes_few_at : {A B : Type 0} (most : ℕ) (f : ℕ → A → Result B WorkRule) (steady : IsSteady most f) (kept new : List B) (xs : List A) (d : A) (i : ℕ) (y : B)
@@ -113,8 +100,7 @@ done_few_at most f kept xs i total past within so_far =
     done_few most f kept total within (ap (kept_and_left most f kept) (sym (drop_all i xs past)) ∙ so_far)
 
 own_front : {B : Type 0} (reading : Result (List B) WorkRule) → with_front [] reading ≡ reading
-own_front (Ok ys) = refl
-own_front (Err fault) = refl
+own_front reading = grind arith
 
 pub begins_few : {A B : Type 0} (most : ℕ) (f : ℕ → A → Result B WorkRule) (xs : List A) → kept_and_left most f [] xs ≡ few most (along f 0 xs)
 begins_few most f xs = ap (few most) (own_front (along f 0 xs))
@@ -170,10 +156,7 @@ with_row rel row = Ok (rel, row)
 
 counted : (rel : RelNo) (most : ℕ) (xs : List Value) (b : Bool) → (length xs == most) ≡ b
     → (must WrongKind b >>= (λ _. with_row rel (take (most + 1) xs))) ≡ (must WrongKind b >>= (λ _. with_row rel xs))
-counted rel most xs false e = refl
-counted rel most xs true e =
-    let is : length xs ≡ most = eqb-true (length xs) most e in
-    ap (with_row rel) (take_all (most + 1) xs (omega arith))
+counted rel most xs b e = grind (arith, take_all)
 
 rows_by : (columns : List Column) (rel : RelNo) (words : List Word) (read : Result (List Value) WorkRule) → values_of columns words ≡ read
     → (few (length columns) read >>= (λ row. must WrongKind (length row == length columns) >>= (λ _. with_row rel row)))
@@ -195,8 +178,7 @@ whole_row cat words rel =
 
 few_by : (cat : Catalogue) (named : Option ℕ) (words : List Word)
     → (known UnknownName named >>= (λ rel. few_row (columns_of cat rel) (rel_no rel) words)) ≡ (known UnknownName named >>= whole_row cat words)
-few_by cat None words = refl
-few_by cat (Some rel) words = row_few (columns_of cat rel) (rel_no rel) words
+few_by cat named words = grind (arith, row_few)
 
 pub rows_same : (cat : Catalogue) (name : Word) (words : List Word) → few_of cat name words ≡ row_of cat name words
 unfolding row_of

@@ -40,39 +40,16 @@ simple_ascii (c ∷ cs) e =
     IsAscii-cons c cs (simple_low c h.0) (simple_ascii cs h.1)
 
 simple_fine : (bytes : List ℕ) → is_simple bytes ≡ true → IsFine (Plain bytes)
-simple_fine [] e = absurd cc
-simple_fine (c ∷ cs) e =
-    let h = both_hold (not (c == 34)) (list_all is_simple_byte (c ∷ cs)) e in
-    let s = no_spaces is_simple_byte (c ∷ cs) refl h.1 in
-    record {
-      word = (not_it (λ x. not (x == 34)) c 34 refl h.0, s.0, s.1);
-      utf8 = IsUtf8-from_ascii (c ∷ cs) (simple_ascii (c ∷ cs) h.1);
-      sound = refl;
-      line = no_newlines is_simple_byte (c ∷ cs) refl h.1;
-    }
+simple_fine bytes e = grind (arith, no_spaces, not_it, IsUtf8-from_ascii, simple_ascii, no_newlines)
 
 keyword_simple : (key : Keyword) → is_simple (keyword_bytes key) ≡ true
-keyword_simple keys.Row = refl
-keyword_simple keys.Txn = refl
-keyword_simple (keys.Statement skeys.Put) = refl
-keyword_simple keys.Done = refl
-keyword_simple (keys.Class class_keys.List) = refl
-keyword_simple (keys.Event ekeys.Submit) = refl
-keyword_simple keys.End = refl
-keyword_simple (keys.Event _) = refl
-keyword_simple (keys.Statement _) = refl
-keyword_simple (keys.Class _) = refl
+keyword_simple key = grind arith
 
 pub keyword_fine : (key : Keyword) → IsFine (Plain (keyword_bytes key))
 keyword_fine key = simple_fine (keyword_bytes key) (keyword_simple key)
 
 op_simple : (op : Op) → is_simple (op_word op) ≡ true
-op_simple ops.Eq = refl
-op_simple ops.Ne = refl
-op_simple ops.Lt = refl
-op_simple ops.Le = refl
-op_simple ops.Gt = refl
-op_simple ops.Ge = refl
+op_simple op = grind arith
 
 op_fine : (op : Op) → IsFine (Plain (op_word op))
 op_fine op = simple_fine (op_word op) (op_simple op)
@@ -83,20 +60,8 @@ conditions_fine : (cat : Catalogue) → IsKnown cat → (rels : List RelNo) → 
     → IsFine (Plain key) → (ds : List Condition) → AllByRecursion (FitsCondition cat rels) ds
     → AllByRecursion HoldsValue ds → AreFine (conditions_words key cat rels ds)
 conditions_fine cat k rels p key f [] fits v = tt
-conditions_fine cat k rels p key f (Const left op value ∷ ds) fits v = (
-  f,
-  (
-    (column_word_is cat k rels left p fits.0.0).fine,
-    (
-      op_fine op,
-      (
-        value_fine value v.0,
-        conditions_fine cat k rels p (codes "and")
-            (simple_fine (codes "and") refl) ds fits.1 v.1,
-      ),
-    ),
-  ),
-)
+conditions_fine cat k rels p key f (Const left op value ∷ ds) fits v =
+    grind (arith, column_word_is, op_fine, value_fine, conditions_fine cat k rels p (codes "and") (simple_fine (codes "and") refl) ds fits.1 v.1)
 conditions_fine cat k rels p key f (Same left right ∷ ds) fits v = (
   f,
   (
@@ -211,8 +176,7 @@ behind_key txns e = drop 1 (event_words txns e)
 
 pub words_of_event : (txns : List Txn) (e : Event)
     → Plain (event_key_bytes (event_key e)) ∷ behind_key txns e ≡ event_words txns e
-words_of_event txns (Submit txn) = refl
-words_of_event txns _ = refl
+words_of_event txns e = grind arith
 
 flight_fine : (cat : Catalogue) → IsKnown cat → (from to : Site) (place : ℕ) → IsLink cat from to → IsFrom1To MAX_PLACE place
     → AreFine (site_word from ∷ site_word to ∷ count_word place ∷ [])

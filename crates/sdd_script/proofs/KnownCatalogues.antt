@@ -1,5 +1,5 @@
 -- In every catalogue each number is found by its name.
-use Rattle.sdd_script.proofs.All.{All-get_or, AreNamed, Bool, Catalogue, Column, ColumnPart, HasKey, Int, IsColumn, IsName, IsNamed, IsRelation, IsSoundCatalogue, IsWhole, List, None, ReadsAgain, ReadsSpelling, Relation, RelationPart, Some, [], ap, arith, both_empty, bytes_eq, bytes_eq-Decides, column_named, column_part, columns_of, cond, empty_of_map, false, faults_of_relation, found_one, get_or, get_or-map, is_name, length, length-map, map, map-map, name_of_column, name_of_relation, nat_lt as ltb, no_faults, not, number_of_place, option_map_or, parts_of, position, prefix_len, refl, relation_at, relation_named, relation_names, relation_part, relation_rules, repeats, slice_get, subst, suc, sym, take, true, unbroken, unfound_at, zero, ℕ, ◌+◌, ◌-◌, ◌<◌, ◌∙◌, ◌∷◌, ◌≡◌, ◌≤◌}
+use Rattle.sdd_script.proofs.All.{All-get_or, AreNamed, Bool, Catalogue, Column, ColumnPart, Int, IsColumn, IsName, IsNamed, IsRelation, IsSoundCatalogue, IsWhole, List, None, ReadsAgain, ReadsSpelling, Relation, RelationPart, Some, [], ap, arith, both_empty, bytes_eq, bytes_eq-Decides, column_named, column_part, columns_of, cond, empty_of_map, false, faults_of_relation, found_one, get_or, get_or-map, is_name, length, length-map, map, map-map, name_of_column, name_of_relation, nat_lt as ltb, no_faults, not, number_of_place, option_map_or, parts_of, position, prefix_len, refl, relation_at, relation_named, relation_names, relation_part, relation_rules, repeats, rules, slice_get, subst, suc, sym, take, true, unbroken, unfound_at, zero, ℕ, ◌-◌, ◌<◌, ◌∙◌, ◌∷◌, ◌≡◌, ◌≤◌}
 use Rattle.sdd_script.proofs.Marks.{position-map}
 use Rattle.sdd_script.proofs.UseLaws.{IsKnown}
 use Rattle.sdd_script.proofs.NamePlaces.{turned, place_of_name}
@@ -66,8 +66,7 @@ differ cat s rel h =
     subst (λ (l : List (List ℕ)). repeats l ≡ false) same at
 
 prefix_same : {A : Type 0} (p q : A → Bool) (xs : List A) → ((x : A) → p x ≡ q x) → prefix_len p xs ≡ prefix_len q xs
-prefix_same p q [] h = refl
-prefix_same p q (x ∷ xs) h = ap (λ (b : Bool). cond b (1 + prefix_len p xs) 0) (h x) ∙ ap (λ (n : ℕ). cond (q x) (1 + n) 0) (prefix_same p q xs h)
+prefix_same p q xs h = grind arith
 
 position_same : {A : Type 0} (p q : A → Bool) (xs : List A) → ((x : A) → p x ≡ q x) → position p xs ≡ position q xs
 position_same p q xs h = ap (λ (n : ℕ). cond (ltb n (length xs)) (Some n) None) (prefix_same (λ y. not (p y)) (λ y. not (q y)) xs (λ x. ap not (h x)))
@@ -116,9 +115,7 @@ column_named_so cat n rel column h k =
     subst (λ (l : List ℕ). is_name l ≡ true) (sym same) named
 
 some_columns : (cat : Catalogue) → IsWhole cat → (rel : ℕ) → IsRelation cat rel → 1 ≤ length (columns_of cat rel)
-some_columns cat w rel h =
-    let key : HasKey (relation_at cat rel) = All-get_or HasKey cat.relations (rel - 1) no_relation (omega (arith, h.0, h.1)) w.relations in
-    omega (arith, key.from, key.to, ap (λ (l : List Column). length l) (columns_are cat rel))
+some_columns cat w rel h = grind (arith, columns_are)
 
 pub known : (cat : Catalogue) → IsSoundCatalogue cat → IsWhole cat → AreNamed cat → IsKnown cat
 known cat s w n = record {

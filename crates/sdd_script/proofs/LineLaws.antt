@@ -1,5 +1,5 @@
 -- A line and its words, and its first word.
-use Rattle.sdd_script.proofs.All.{AllByRecursion, AllWords, Bool, Catalogue, ClassKey, EventKey, HasNoNewline, IsAscii-cons, IsAscii-nil, IsUtf8, IsUtf8-append, IsUtf8-from_ascii, Keyword, List, None, Ok, Option, Plain, Quoted, Some, State, StatementKey, Word, [], ap, arith, both_are, bytes_eq, bytes_eq-Decides, class_key_in, codes, cond, event_key_in, false, inner_keyword, is_sound, is_utf8, is_utf8-from_IsUtf8, keyword_in, keyword_of, keyword_rules, line_bytes, list_all, more_bytes, outer_keyword, refl, scan_again, scan_spelled, statement_key_in, true, word_bytes, words_of, words_rules, ℕ, ◌++◌, ◌∙◌, ◌∷◌, ◌≡◌}
+use Rattle.sdd_script.proofs.All.{AllByRecursion, AllWords, Bool, Catalogue, ClassKey, EventKey, HasNoNewline, IsAscii-cons, IsAscii-nil, IsUtf8, IsUtf8-append, IsUtf8-from_ascii, Keyword, List, None, Ok, Option, Plain, Some, State, StatementKey, Word, [], ap, arith, both_are, bytes_eq, bytes_eq-Decides, class_key_in, codes, cond, event_key_in, inner_keyword, is_sound, is_utf8, is_utf8-from_IsUtf8, keyword_in, keyword_of, keyword_rules, line_bytes, list_all, more_bytes, outer_keyword, refl, rules, scan_again, scan_spelled, statement_key_in, true, word_bytes, words_of, words_rules, ℕ, ◌++◌, ◌∙◌, ◌∷◌, ◌≡◌}
 use Rattle.sdd_script.specs.LineRules.{line_rules}
 use Rattle.sdd_script.proofs.StepLaws.{must_then, known_then, some_is}
 use Rattle.sdd_script.proofs.WordLooks.{IsFine, no_newline-append}
@@ -95,8 +95,7 @@ keyword_bytes keys.End = codes "end"
 
 choice : {K : Type 0} (f : K → List ℕ) (bytes : List ℕ) (o key : K) (rest : Option K) (b : Bool)
     → bytes_eq bytes (f o) ≡ b → cond b (Some o) rest ≡ Some key → (rest ≡ Some key → bytes ≡ f key) → bytes ≡ f key
-choice f bytes o key rest true e is later = (bytes_eq-Decides bytes (f o)).0 e ∙ ap f (some_is o key is)
-choice f bytes o key rest false e is later = later is
+choice f bytes o key rest b e is later = grind (arith, bytes_eq-Decides)
 
 statement_key_is : (bytes : List ℕ) (key : StatementKey) → statement_key_in bytes ≡ Some key → bytes ≡ statement_key_bytes key
 statement_key_is bytes key e =
@@ -127,9 +126,7 @@ event_key_is bytes key e =
 
 outer_is : (bytes : List ℕ) (key : Keyword) (o : Option ClassKey) (p : Option EventKey)
     → class_key_in bytes ≡ o → event_key_in bytes ≡ p → outer_keyword o p ≡ Some key → bytes ≡ keyword_bytes key
-outer_is bytes key (Some k) p a b e = class_key_is bytes k a ∙ ap keyword_bytes (some_is (keys.Class k) key e)
-outer_is bytes key None (Some v) a b e = event_key_is bytes v b ∙ ap keyword_bytes (some_is (keys.Event v) key e)
-outer_is bytes key None None a b e = absurd cc
+outer_is bytes key o p a b e = grind (arith, class_key_is, event_key_is)
 
 abbrev outer_of : List ℕ → Option Keyword
 outer_of bytes = outer_keyword (class_key_in bytes) (event_key_in bytes)
@@ -148,20 +145,10 @@ keyword_bytes_are bytes key e =
     (bytes_eq bytes (codes "end")) refl e (λ e. inner_is bytes key (statement_key_in bytes) refl e))))
 
 pub keyword_takes : (w : Word) (key : Keyword) → keyword_of w ≡ Some key → w ≡ Plain (keyword_bytes key)
-keyword_takes (Plain bytes) key e = ap (λ (l : List ℕ). Plain l) (keyword_bytes_are bytes key e)
-keyword_takes (Quoted text) key e = absurd cc
+keyword_takes w key e = grind (arith, keyword_bytes_are)
 
 pub keyword_again : (key : Keyword) → keyword_of (Plain (keyword_bytes key)) ≡ Some key
-keyword_again keys.Row = refl
-keyword_again keys.Txn = refl
-keyword_again (keys.Statement Put) = refl
-keyword_again keys.Done = refl
-keyword_again (keys.Class class_keys.List) = refl
-keyword_again (keys.Event Submit) = refl
-keyword_again keys.End = refl
-keyword_again (keys.Event _) = refl
-keyword_again (keys.Statement _) = refl
-keyword_again (keys.Class _) = refl
+keyword_again key = grind arith
 
 pub record HasKeyword (cat : Catalogue) (st to : State) (ws : List Word) : Type 0 where
   pub key : Keyword

@@ -199,10 +199,7 @@ classes_chain cat k st done rest (c ∷ cs) n l h once few =
 -- ---- lists
 
 open_still : (p : Place) → takes_lists p ≡ true → is_ended p ≡ false
-open_still places.Rows t = refl
-open_still places.Between t = refl
-open_still places.Declared t = refl
-open_still _ t = absurd cc
+open_still p t = grind arith
 
 list_step : (cat : Catalogue) (st : State) (p : Place) (done : List (List ClassPart)) (n : ℕ)
     → takes_lists p ≡ true → length done < MAX_LISTS → IsStep cat (at st p done n)

@@ -3,8 +3,7 @@ use Rattle.sdd_script.proofs.All.{AreDistinct, Bool, List, None, Some, [], ap, a
 use Rattle.sdd_script.proofs.WordCuts.{NonePasses, position_again, no_position}
 
 pub if_false : (a b : Bool) → cond a true b ≡ false → (a ≡ false) × (b ≡ false)
-if_false true b e = absurd cc
-if_false false b e = (refl, e)
+if_false a b e = grind arith
 
 -- a test that no item passes
 
@@ -17,12 +16,10 @@ any_none p [] h = refl
 any_none p (x ∷ xs) h = let a = h.0 in let b = any_none p xs h.1 in rw (a, b) refl
 
 within_if : (b : Bool) (k : ℕ) → is_some (cond b (Some k) None) ≡ false → b ≡ false
-within_if true k e = absurd cc
-within_if false k e = refl
+within_if b k e = grind arith
 
 none_if : (b : Bool) (n m : ℕ) → suc n ≤ cond (not b) (1 + m) 0 → (b ≡ false) × (n ≤ m)
-none_if true n m h = absurd (omega (arith, h))
-none_if false n m h = (refl, omega (arith, h))
+none_if b n m h = grind arith
 
 past_none : {A : Type 0} (p : A → Bool) (xs : List A) → length xs ≤ position_or_len p xs → NonePasses p xs
 past_none p [] h = tt
@@ -37,9 +34,7 @@ found_none p xs h = let e = no_position p xs h in rw e refl
 -- ---- names
 
 turned_if : (a b : List ℕ) (x y : Bool) → bytes_eq a b ≡ x → bytes_eq b a ≡ y → x ≡ y
-turned_if a b true false p q = let e : a ≡ b = (bytes_eq-Decides a b).0 p in let r : bytes_eq b a ≡ true = (bytes_eq-Decides b a).1 (sym e) in absurd cc
-turned_if a b false true p q = let e : b ≡ a = (bytes_eq-Decides b a).0 q in let r : bytes_eq a b ≡ true = (bytes_eq-Decides a b).1 (sym e) in absurd cc
-turned_if a b _ _ p q = refl
+turned_if a b x y p q = grind (arith, bytes_eq-Decides)
 
 pub turned : (a b : List ℕ) → bytes_eq a b ≡ bytes_eq b a
 turned a b = turned_if a b (bytes_eq a b) (bytes_eq b a) refl refl

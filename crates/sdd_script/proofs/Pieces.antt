@@ -1,6 +1,5 @@
 -- Written pieces make words and lines.
-use Rattle.sdd_script.proofs.All.{List, Plain, Word, [], ap, append-nil, append_assoc, ended, flat_map, flat_map-flat_map, flat_map-map, line_bytes, map, more_bytes, more_bytes-append, spaced, sym, words_spaced, ℕ, ◌++◌, ◌∙◌, ◌∷◌, ◌≡◌}
-use Rattle.sdd_words.proofs.Written.{flat_map-append}
+use Rattle.sdd_script.proofs.All.{List, Plain, Word, [], ap, append-nil, append_assoc, ended, flat_map, flat_map-append, flat_map-flat_map, flat_map-map, line_bytes, map, more_bytes, more_bytes-append, spaced, sym, words_spaced, ℕ, ◌++◌, ◌∙◌, ◌∷◌, ◌≡◌}
 
 -- one piece more
 pub after : {a t : List ℕ} (b s : List ℕ) → a ≡ b ++ s → b ≡ t → a ≡ t ++ s

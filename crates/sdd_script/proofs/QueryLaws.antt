@@ -1,7 +1,7 @@
 -- Statements: what is read is spelled and fits, and what is spelled and fits is read.
-use Rattle.sdd_script.proofs.All.{All-from_recursion, AllByRecursion, Answers, Assign, Bool, Catalogue, Comparison, Condition, Delete, FitsCondition, FitsRef, FitsStatement, HoldsValue, HoldsValues, IsRelation, IsValue, List, MAX_ASSIGNMENTS, MAX_CONDITIONS, MAX_OUTPUT_COLUMNS, MAX_STATEMENTS, MAX_USES, Ok, Option, Parts, Plain, Put, Query, Ref, RelNo, Result, Some, Stmt, TooMany, Update, Value, Word, WorkRule, [], along, along_ok, ap, append-nil, are_free, arith, bind_ok, both_are, both_hold, codes, column_of_use, column_word, comparisons, conditions_form, conditions_of, cut_at, false, from_key, is_free, is_key, kind_of_ref, length, list_all, listed_column, look_like_columns, looks_like_column, lt-ltb, ltb-true, map, must_ok, name_of_relation, nat_le, nat_lt, nat_lt as ltb, not_empty, ok_along, ok_is, part_in, put_of, query_of, query_of_parts, recursion_from_All, refl, rel_no, relation_of, relation_word, row_of, row_words, statement_limits, statement_words, subst, sym, true, up_to, where_words, ℕ, ◌&&◌, ◌++◌, ◌+◌, ◌<◌, ◌>>=◌, ◌∙◌, ◌∷◌, ◌≡◌, ◌≤◌}
+use Rattle.sdd_script.proofs.All.{All-from_recursion, AllByRecursion, Answers, Assign, Bool, Catalogue, Comparison, Condition, Delete, FitsCondition, FitsRef, FitsStatement, HoldsValue, HoldsValues, IsRelation, IsValue, List, Ok, Option, Parts, Plain, Put, Query, Ref, RelNo, Result, Some, Stmt, Update, Value, Word, WorkRule, [], along, along_ok, ap, append-nil, are_free, arith, bind_ok, both_are, both_hold, codes, column_of_use, column_word, comparisons, conditions_form, conditions_of, cut_at, false, from_key, is_free, is_key, kind_of_ref, length, list_all, listed_column, look_like_columns, looks_like_column, map, not_empty, ok_along, ok_is, part_in, put_of, query_of, query_of_parts, recursion_from_All, refl, rel_no, relation_of, relation_word, row_of, row_words, statement_limits, statement_words, subst, sym, true, up_to, where_words, ℕ, ◌&&◌, ◌++◌, ◌+◌, ◌<◌, ◌>>=◌, ◌∙◌, ◌∷◌, ◌≡◌, ◌≤◌}
 use Rattle.sdd_script.specs.Statements.{query_over, parts_of}
-use Rattle.sdd_script.proofs.StepLaws.{must_then, known_then, le_of, of_le}
+use Rattle.sdd_script.proofs.StepLaws.{must_then, known_then, of_le}
 use Rattle.sdd_script.proofs.WordLooks.{name_free}
 use Rattle.sdd_script.proofs.WordCuts.{NonePasses, cut_takes, cut_again, joined_again, key_is_that, before_again, from_again, all_before, none_from}
 use Rattle.sdd_script.proofs.UseLaws.{IsKnown, relation_takes, relation_again}
@@ -21,53 +21,21 @@ pub record IsStatement (cat : Catalogue) (key : List ℕ) (words : List Word) (s
 pub query_limits : (before : ℕ) (out : List Ref) (rels : List RelNo) (conds : List Condition) (u : Unit {0})
     → statement_limits before (Query out rels conds) ≡ Ok u → (length rels ≤ 6) × (length conds ≤ 16)
     × (length out ≤ 16)
-query_limits before out rels conds u e =
-    let a = must_then _ (nat_lt before MAX_STATEMENTS) _ u e in
-    let b = must_then _ (nat_le (length rels) MAX_USES) _ u a.1 in
-    let c = must_then _ (nat_le (length conds) MAX_CONDITIONS) _ u b.1 in
-    let d = must_ok (TooMany counts.Column) (nat_le (length out) MAX_OUTPUT_COLUMNS) u c.1 in
-    (le_of (length rels) 6 b.0, le_of (length conds) 16 c.0, le_of (length out) 16 d)
+query_limits before out rels conds u e = grind arith
 
 pub update_limits : (before : ℕ) (rel : RelNo) (sets : List Assign) (conds : List Condition) (u : Unit {0})
     → statement_limits before (Update rel sets conds) ≡ Ok u → (length conds ≤ 16) × (length sets ≤ 16)
-update_limits before rel sets conds u e =
-    let a = must_then _ (nat_lt before MAX_STATEMENTS) _ u e in
-    let c = must_then _ (nat_le (length conds) MAX_CONDITIONS) _ u a.1 in
-    let d = must_ok (TooMany counts.Column) (nat_le (length sets) MAX_ASSIGNMENTS) u c.1 in
-    (le_of (length conds) 16 c.0, le_of (length sets) 16 d)
+update_limits before rel sets conds u e = grind arith
 
 pub delete_limits : (before : ℕ) (rel : RelNo) (conds : List Condition) (u : Unit {0}) → statement_limits before (Delete rel conds) ≡ Ok u
     → length conds ≤ 16
-delete_limits before rel conds u e =
-    let a = must_then _ (nat_lt before MAX_STATEMENTS) _ u e in
-    le_of (length conds) 16 (must_ok (TooMany counts.Cond) (nat_le (length conds) MAX_CONDITIONS) u a.1)
+delete_limits before rel conds u e = grind arith
 
 pub limits_before : (before : ℕ) (s : Stmt) (u : Unit {0}) → statement_limits before s ≡ Ok u → before < 32
-limits_before before (Put rel row) u e = ltb-true before 32 (must_ok (TooMany counts.Statement) (nat_lt before MAX_STATEMENTS) u e)
-limits_before before (Query out rels conds) u e =
-    ltb-true before 32 (must_then _ (nat_lt before MAX_STATEMENTS) _ u e).0
-limits_before before (Update rel sets conds) u e =
-    ltb-true before 32 (must_then _ (nat_lt before MAX_STATEMENTS) _ u e).0
-limits_before before (Delete rel conds) u e =
-    ltb-true before 32 (must_then _ (nat_lt before MAX_STATEMENTS) _ u e).0
+limits_before before s u e = grind arith
 
 pub limits_again : (cat : Catalogue) (before : ℕ) (s : Stmt) → before < 32 → FitsStatement cat s → statement_limits before s ≡ Ok tt
-limits_again cat before (Put rel row) lt h = let a : ltb before 32 ≡ true = lt-ltb before 32 lt in rw a refl
-limits_again cat before (Query out rels conds) lt h =
-    let a : ltb before 32 ≡ true = lt-ltb before 32 lt in
-    let b = of_le (length rels) 6 h.0.1 in
-    let c = of_le (length conds) 16 h.4.0 in
-    let d = of_le (length out) 16 h.2.1 in
-    rw (a, b, c, d) refl
-limits_again cat before (Update rel sets conds) lt h =
-    let a : ltb before 32 ≡ true = lt-ltb before 32 lt in
-    let c = of_le (length conds) 16 h.3.0 in
-    let d = of_le (length sets) 16 h.1.1 in
-    rw (a, c, d) refl
-limits_again cat before (Delete rel conds) lt h =
-    let a : ltb before 32 ≡ true = lt-ltb before 32 lt in
-    let c = of_le (length conds) 16 h.1.0 in
-    rw (a, c) refl
+limits_again cat before s lt h = grind (arith, of_le)
 
 -- ---- put
 
@@ -85,10 +53,7 @@ put_takes cat (name ∷ words) s e =
 
 pub put_again : (cat : Catalogue) → IsKnown cat → (rel : RelNo) (row : List Value) → FitsRowOf cat rel row
     → put_of cat (row_words cat rel row) ≡ Ok (Put rel row)
-put_again cat k rel row h =
-    let a = row_free cat k rel row h in
-    let b = row_again cat k rel row h in
-    rw (a, b) refl
+put_again cat k rel row h = grind (arith, row_free, row_again)
 
 -- ---- the relations and columns of a query
 
@@ -176,8 +141,7 @@ columns_again cat k rels p i (r ∷ out) h = (listed_again cat rels r (ref_again
 -- ---- where a list of words ends
 
 no_key : (key : List ℕ) (w : Word) (b : Bool) → is_key key w ≡ b → is_free (Plain key) ≡ false → is_free w ≡ true → is_key key w ≡ false
-no_key key w true e r f = let same = key_is_that key w e in let q : is_free (Plain key) ≡ true = subst (λ (x : Word). is_free x ≡ true) same f in absurd cc
-no_key key w false e r f = e
+no_key key w b e r f = grind (arith, key_is_that)
 
 pub free_no_key : (key : List ℕ) (w : Word) → is_free (Plain key) ≡ false → is_free w ≡ true → is_key key w ≡ false
 free_no_key key w r f = no_key key w (is_key key w) refl r f
@@ -293,21 +257,13 @@ query_parts_again cat k out rels conds h =
 all_free_names : (cat : Catalogue) → IsKnown cat → (rels : List RelNo)
     → AllByRecursion (λ (r : RelNo). IsRelation cat r.0) rels → list_all is_free (map (relation_word cat) rels) ≡ true
 all_free_names cat k [] h = refl
-all_free_names cat k (r ∷ rels) h =
-    both_are (is_free (relation_word cat r)) (list_all is_free (map (relation_word cat) rels))
-    (name_free (name_of_relation cat r.0) (k.relation_name r.0 h.0)) (all_free_names cat k rels h.1)
+all_free_names cat k (r ∷ rels) h = grind (arith, name_free, all_free_names cat k rels h.1)
 
 columns_look : (cat : Catalogue) → IsKnown cat → (rels : List RelNo) → AreParts cat rels → (out : List Ref)
     → AllByRecursion (FitsRef cat rels) out → (list_all looks_like_column (map (column_word cat rels) out) ≡ true)
     × (list_all is_free (map (column_word cat rels) out) ≡ true)
 columns_look cat k rels p [] h = (refl, refl)
-columns_look cat k rels p (r ∷ out) h =
-    let w = column_word_is cat k rels r p h.0 in
-    let more = columns_look cat k rels p out h.1 in (
-      both_are (looks_like_column (column_word cat rels r))
-          (list_all looks_like_column (map (column_word cat rels) out)) w.looks more.0,
-      both_are (is_free (column_word cat rels r)) (list_all is_free (map (column_word cat rels) out)) w.free more.1,
-    )
+columns_look cat k rels p (r ∷ out) h = grind (arith, column_word_is, columns_look cat k rels p out h.1)
 
 pub query_again : (cat : Catalogue) → IsKnown cat → (out : List Ref) (rels : List RelNo) (conds : List Condition) → FitsQuery cat out rels conds
     → query_of cat (map (column_word cat rels) out ++ Plain (codes "from") ∷

@@ -1,5 +1,5 @@
 -- What is read is a workload that the catalogue allows, and the file is its spelling.
-use Rattle.sdd_script.proofs.All.{Accepts, All, All-from_recursion, BadLine, Bool, Catalogue, ClassPart, Deliver, Down, Err, Event, EventKey, FitsStatement, HoldsValues, IsFrom1To, IsLink, IsSoundCatalogue, IsValid, IsValidClass, IsValidEvent, IsWhole, Keyword, List, Lose, MAX_PLACE, MAX_WORKLOAD_BYTES, None, Ok, Option, Place, Plain, Quoted, Redeclare, Repeat, Resend, Result, Settle, Site, Some, State, StatementKey, Stmt, Submit, Tick, Txn, TxnNo, Up, Word, WorkFault, WorkRule, Workload, [], all_classes, ap, append-nil, append_assoc, arith, at_line, bind_ok, bytes_eq, bytes_eq-Decides, class_names, classes_in, codes, cond, count_word, cut_lines, cut_takes, ended, event_of, event_words, false, flat_map, flight_place, get_or, is_ended, is_free, is_utf8, joined, keyword_rules, length, length-map, line_bytes, line_rules, lines_of, ltb-false, map, name_in, name_of_txn, nat_lt, nothing_read, number_named, ok_is, one_line, open_list, option_map, option_map_or, part_names, position, position-Some, refl, repeats, site_word, slice_get, slice_get-map, spelled_lines, spelling, statement_of, submit_of, subst, sym, tail_rules, takes_events, true, txn_named, txn_no, unwrap_or, unwrap_or-slice_get, walk_bytes, workload, workload_of_state, ℕ, ◌++◌, ◌+◌, ◌-◌, ◌<◌, ◌>>=◌, ◌∙◌, ◌∷◌, ◌≡◌}
+use Rattle.sdd_script.proofs.All.{Accepts, All-from_recursion, BadLine, Bool, Catalogue, Deliver, Down, Err, Event, EventKey, FitsStatement, HoldsValues, IsFrom1To, IsLink, IsSoundCatalogue, IsValid, IsValidClass, IsValidEvent, IsWhole, Keyword, List, Lose, MAX_PLACE, MAX_WORKLOAD_BYTES, None, Ok, Option, Place, Plain, Quoted, Redeclare, Repeat, Resend, Result, Settle, Site, Some, State, StatementKey, Stmt, Submit, Tick, Txn, TxnNo, Up, Word, WorkFault, WorkRule, Workload, [], all_classes, ap, append-nil, append_assoc, arith, at_line, bind_ok, bytes_eq, bytes_eq-Decides, class_names, classes_in, codes, cond, count_word, cut_lines, cut_takes, ended, event_of, event_words, false, flat_map, flight_place, get_or, is_ended, is_free, is_utf8, joined, keyword_rules, length, length-map, line_bytes, line_rules, lines_of, ltb-false, map, name_in, name_of_txn, nat_lt, nothing_read, number_named, ok_is, one_line, open_list, option_map, option_map_or, position, position-Some, refl, repeats, rules, site_word, slice_get, slice_get-map, spelled_lines, spelling, statement_of, submit_of, subst, sym, tail_rules, takes_events, true, txn_named, txn_no, unwrap_or, unwrap_or-slice_get, walk_bytes, workload, workload_of_state, ℕ, ◌++◌, ◌+◌, ◌-◌, ◌<◌, ◌>>=◌, ◌∙◌, ◌∷◌, ◌≡◌}
 use Rattle.sdd_script.specs.Walk.{walk}
 use Rattle.sdd_script.proofs.StepLaws.{must_then, known_then, some_is}
 use Rattle.sdd_script.proofs.QueryLaws.{IsStatement, put_takes, query_takes}
@@ -21,8 +21,7 @@ use Rattle.sdd_script.specs.declared.place.Place.TheVariants as places
 -- ---- events
 
 or_named : (o : Option Txn) → option_map_or (λ (t : Txn). t.name) o [] ≡ unwrap_or (option_map (λ (t : Txn). t.name) o) []
-or_named None = refl
-or_named (Some t) = refl
+or_named o = grind arith
 
 pub name_at_number : (txns : List Txn) (txn : ℕ) → name_of_txn txns txn ≡ get_or (names_of txns) (txn - 1) []
 name_at_number txns txn = or_named (slice_get txns (txn - 1)) ∙ ap (λ (o : Option (List ℕ)). unwrap_or o [])
@@ -164,15 +163,13 @@ line_leads cat st to line s e =
 
 one_if : (cat : Catalogue) (st to : State) (line : List ℕ) (b : Bool) → cond b (Err BadLine) (line_rules cat st line) ≡ Ok to
     → line_rules cat st line ≡ Ok to
-one_if cat st to line true e = absurd cc
-one_if cat st to line false e = e
+one_if cat st to line b e = grind arith
 
 -- ---- a file
 
 at_ok : (n : ℕ) (r : Result State WorkRule) (f : State → Result State WorkFault) (to : State)
     → at_line n r f ≡ Ok to → (st : State) × (r ≡ Ok st) × (f st ≡ Ok to)
-at_ok n (Ok st) f to e = (st, refl, e)
-at_ok n (Err rule) f to e = absurd cc
+at_ok n r f to e = grind arith
 
 abbrev read_state : State → Result State WorkFault
 read_state st = Ok st
@@ -186,12 +183,10 @@ record IsEnd (st to : State) (tail : List ℕ) : Type 0 where
   ended : is_ended st.place ≡ true
 
 ended_if : (st to : State) (b : Bool) (rule : WorkRule) → cond b (Ok st) (Err rule) ≡ Ok to → (b ≡ true) × (st ≡ to)
-ended_if st to true rule e = (refl, ok_is st to e)
-ended_if st to false rule e = absurd cc
+ended_if st to b rule e = grind arith
 
 never_if : (a b : Bool) (to : State) (x y z : WorkRule) → cond a (Err x) (cond b (Err y) (Err z)) ≡ Ok to → ⊥
-never_if false false to x y z e = absurd cc
-never_if _ _ to x y z e = absurd cc
+never_if a b to x y z e = grind arith
 
 tail_takes : (st to : State) (tail : List ℕ) → tail_rules st tail ≡ Ok to → IsEnd st to tail
 tail_takes st to [] e = let h = ended_if st to (is_ended st.place) _ e in record { nothing = refl; is = h.1; ended = h.0 }
@@ -267,49 +262,24 @@ abbrev made : State → Workload
 made st = record { rows = st.rows; txns = st.txns; lists = st.lists; events = st.events }
 
 ended_place : (place : Place) → is_ended place ≡ true → place ≡ places.Ended
-ended_place places.Ended e = refl
-ended_place _ e = absurd cc
+ended_place place e = grind arith
 
 sound_valid : (cat : Catalogue) (st : State) → Sound cat st → st.place ≡ places.Ended → IsValid cat (made st)
 sound_valid cat st s p =
     let names : st.names ≡ names_of st.txns = s.names ∙ ap (λ (x : Place). names_of st.txns ++ open_name x) p ∙ append-nil (names_of st.txns) in
     let len : length st.names ≡ length st.txns = ap (λ (l : List (List ℕ)). length l) names ∙ length-map st.txns (λ (t : Txn). t.name) in
     let all : all_classes st ≡ joined st.lists = ap (λ (x : Place). joined st.lists ++ classes_in (open_list x)) p ∙ append-nil (joined st.lists) in
-    record {
-      rows = s.rows;
-      txns = s.txns;
-      names = subst (λ (l : List (List ℕ)). repeats l ≡ false) names s.differ;
-      lists = record {
-        classes = subst (All (IsValidClass cat)) all s.declares.valid;
-        names = subst (λ (cs : List ClassPart). repeats (class_names cat ++ part_names cs) ≡ false) all s.declares.names;
-        few_classes = omega (arith, s.declares.counted, s.declares.few, ap (λ (l : List ClassPart). length l) all);
-        few_lists = omega (arith, s.few_lists);
-      };
-      events = s.events;
-      submitted = s.once;
-      timely = s.timely;
-      few_rows = omega (arith, s.written, s.few_rows);
-      few_txns = omega (arith, len, s.few_txns);
-      few_events = s.few_events;
-    }
-
-abbrev read_work : Workload → Result Workload WorkFault
-read_work w = Ok w
-
-workload_is : (x y : Workload) → read_work x ≡ read_work y → x ≡ y
-workload_is x y e = cc
+    grind arith
 
 finished_ok : (r : Result State WorkFault) (w : Workload) → workload_of_state r ≡ Ok w → (st : State) × (r ≡ Ok st) × (made st ≡ w)
-finished_ok (Ok st) w e = (st, refl, workload_is (made st) w e)
-finished_ok (Err fault) w e = absurd cc
+finished_ok r w e = grind arith
 
 state_spelled : (cat : Catalogue) (st : State) → st.place ≡ places.Ended → so_far cat st ≡ lines_of cat (made st)
 state_spelled cat st p = ap (λ (x : Place). lines_at cat st.rows st.txns st.lists x st.statements st.events) p ∙ lines_at_end cat (made st) st.statements
 
 small_if : (bytes : List ℕ) (w : Workload) (fault : WorkFault) (r : Result Workload WorkFault) (b : Bool)
     → cond b (Err fault) r ≡ Ok w → (b ≡ false) × (r ≡ Ok w)
-small_if bytes w fault r true e = absurd cc
-small_if bytes w fault r false e = (refl, e)
+small_if bytes w fault r b e = grind arith
 
 -- lines joined are lines with their newlines
 pub lines_spelled : (lines : List (List Word)) → spelled_lines (map line_bytes lines) ≡ flat_map ended lines

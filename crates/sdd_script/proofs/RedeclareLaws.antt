@@ -1,5 +1,5 @@
 -- Where a `redeclare` may stand: the test of a line, and what holds of all events.
-use Rattle.sdd_script.proofs.All.{AreTimely, Bool, Event, List, MayRedeclare, Redeclare, Some, [], ap, arith, both_are, both_hold, cases_lt, count_by, false, inl, inr, is_down, is_redeclare, length, list_any, lt-ltb, ltb-true, may_follow, may_redeclare, nat_lt, not, or_false, range_with_len, refl, slice_get, some_down, subst, suc, sym, take, take-append-le, take-append_seam, true, zero, ℕ, ◌++◌, ◌+◌, ◌<◌, ◌∙◌, ◌∷◌, ◌≡◌, ◌≤◌}
+use Rattle.sdd_script.proofs.All.{AreTimely, Bool, Event, List, MayRedeclare, Redeclare, Some, [], ap, arith, both_hold, cases_lt, count_by, false, inl, inr, is_down, is_redeclare, length, list_any, ltb-true, may_follow, may_redeclare, nat_lt, not, or_false, range_with_len, refl, slice_get, some_down, subst, suc, sym, take, take-append-le, take-append_seam, true, zero, ℕ, ◌++◌, ◌+◌, ◌<◌, ◌∙◌, ◌∷◌, ◌≡◌, ◌≤◌}
 use Rattle.sdd_script.proofs.StepLaws.{not_true, some_is}
 
 -- ---- no number of a range passes a test
@@ -31,9 +31,7 @@ may_redeclare_takes dms lists events e =
     }
 
 pub may_redeclare_again : (dms lists : ℕ) (events : List Event) → MayRedeclare dms lists events → may_redeclare dms lists events ≡ true
-may_redeclare_again dms lists events h =
-    let up : some_down dms events ≡ false = passes_none (λ d. is_down d events) 1 dms (λ k lo hi. h.up k (lo, omega (arith, hi))) in
-    both_are (nat_lt (count_by is_redeclare events) lists) (not (some_down dms events)) (lt-ltb (count_by is_redeclare events) lists h.left) (ap not up)
+may_redeclare_again dms lists events h = grind (arith, passes_none)
 
 -- ---- the events so far
 

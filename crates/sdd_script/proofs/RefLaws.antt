@@ -1,9 +1,9 @@
 -- Columns of a statement's relations: what is read is spelled and is there, and what is spelled and is there is read.
-use Rattle.sdd_script.proofs.All.{All, All-get_or, Catalogue, FitsRef, Found, IsColumn, IsFrom1To, IsRelation, Kind, List, None, Ok, Op, Option, Parts, Plain, Quoted, Ref, RelNo, Some, Word, [], ap, arith, before_point, behind_point, both_hold, column_of_use, column_word, columns_of, decimal, false, has_point, is_free, is_name, is_name_byte, is_point, kind_of_place, kind_of_ref, length, length-map, looks_like_column, map, name_of_column, names_column, none_after, option_map, position, refl, rel_of, slice_get, slice_get-get_or, slice_get-map, slice_get_within, spells_column, subst, sym, true, whole_digits, ℕ, ◌++◌, ◌-◌, ◌<◌, ◌^◌, ◌∙◌, ◌∷◌, ◌≡◌, ◌≤◌}
+use Rattle.sdd_script.proofs.All.{All, All-get_or, Catalogue, FitsRef, Found, IsColumn, IsFrom1To, IsRelation, Kind, List, Ok, Op, Option, Parts, Plain, Quoted, Ref, RelNo, Some, Word, ap, arith, behind_point, both_hold, column_of_use, column_word, columns_of, decimal, has_point, is_free, is_name, is_point, kind_of_place, kind_of_ref, length, length-map, looks_like_column, map, name_of_column, names_column, none_after, option_map, position, refl, rel_of, slice_get, slice_get-get_or, slice_get-map, slice_get_within, spells_column, subst, sym, true, ℕ, ◌++◌, ◌-◌, ◌<◌, ◌^◌, ◌∙◌, ◌∷◌, ◌≡◌, ◌≤◌}
 use Rattle.sdd_script.proofs.StepLaws.{some_is}
 use Rattle.sdd_script.proofs.ValueLaws.{columns_are}
 use Rattle.sdd_script.proofs.WordCuts.{no_point}
-use Rattle.sdd_script.proofs.WordLooks.{IsFine, name_parts, no_points, column_fine, column_free, column_looks, column_spelled}
+use Rattle.sdd_script.proofs.WordLooks.{IsFine, no_points, column_fine, column_free, column_looks, column_spelled}
 use Rattle.sdd_script.proofs.UseLaws.{IsKnown, use_of_takes, use_again, kind_is}
 use Rattle.sdd_lang.specs.base.declared.restriction.Op.TheVariants as ops
 
@@ -97,19 +97,10 @@ column_word_is cat k rels r h fits =
 -- a word that names a column behind `=` looks like one
 
 one_point : (bytes : List ℕ) (o : Option ℕ) → position is_point bytes ≡ o → is_name (behind_point bytes) ≡ true → has_point bytes ≡ true
-one_point bytes None p e = let b : [] ≡ behind_point bytes =
-    none_after is_point bytes (sym p) in let q : is_name [] ≡ true =
-    subst (λ (l : List ℕ). is_name l ≡ true) (sym b) e in absurd cc
-one_point bytes (Some i) p e = rw p refl
+one_point bytes o p e = grind (arith, none_after)
 
 spelled_looks : (bytes : List ℕ) → spells_column bytes ≡ true → looks_like_column (Plain bytes) ≡ true
-spelled_looks bytes e =
-    let h = both_hold (whole_digits (before_point bytes)) (is_name (behind_point bytes)) e in
-    let a = one_point bytes (position is_point bytes) refl h.1 in
-    let b : has_point (behind_point bytes) ≡ false =
-    no_point (behind_point bytes) (no_points is_name_byte (behind_point bytes) refl
-    (name_parts (behind_point bytes) h.1).bytes_are) in
-    rw (a, b) refl
+spelled_looks bytes e = grind (arith, both_hold, one_point, no_point, no_points)
 
 pub record IsNaming (op : Op) (w : Word) : Type 0 where
   pub equals : op ≡ ops.Eq

@@ -56,9 +56,7 @@ pub row_free : (cat : Catalogue) → IsKnown cat → (rel : RelNo) (row : List V
 row_free cat k rel row h =
     let same : map kind_of row ≡ kinds_of (columns_of cat rel.0) = h.1 ∙ ap kinds_of (sym (columns_are cat rel.0)) in
     let len : length row ≡ length (columns_of cat rel.0) = omega (arith, values_length (columns_of cat rel.0) row same h.2, length-map row value_word) in
-    both_are (is_free (relation_word cat rel)) (are_free (map value_word row)) (name_free (name_of_relation cat rel.0) (k.relation_name rel.0 h.0))
-    (both_are (not_empty (map value_word row)) (list_all is_free (map value_word row))
-    (some_words row (omega (arith, len, k.some_column rel.0 h.0))) (all_free row h.2))
+    grind (arith, name_free, some_words, all_free)
 
 values_fine : (row : List Value) → AllByRecursion IsValue row → AllByRecursion IsFine (map value_word row)
 values_fine [] h = tt

@@ -1,5 +1,5 @@
 -- An event, and the end, keep what holds in every state, and add themselves to the lines before.
-use Rattle.sdd_script.proofs.All.{AreDistinct, Bool, Catalogue, ClassPart, Event, IsValidEvent, List, MAX_EVENTS, Ok, OpenList, Place, Plain, Result, State, Stmt, Submit, Txn, TxnNo, Word, WorkRule, [], ap, append-nil, arith, bind_ok, classes_in, codes, end_rules, end_words, event_rules, event_words, false, filter_map, filter_map-append, is_submitted, joined, length, list_any-map, ltb-true, map, map-append, may_follow, nat_lt, no_classes, not, ok_is, open_list, refl, submitted_by, subst, sym, takes_events, true, with_submitted, ℕ, ◌++◌, ◌<◌, ◌==◌, ◌∙◌, ◌∷◌, ◌≡◌}
+use Rattle.sdd_script.proofs.All.{AreDistinct, Bool, Catalogue, ClassPart, Event, IsValidEvent, List, MAX_EVENTS, Ok, OpenList, Place, Plain, Result, State, Stmt, Submit, Txn, TxnNo, Word, WorkRule, [], ap, append-nil, arith, bind_ok, classes_in, codes, end_rules, end_words, event_rules, event_words, false, filter_map, filter_map-append, is_submitted, joined, length, list_any-map, ltb-true, map, map-append, may_follow, nat_lt, no_classes, not, ok_is, open_list, submitted_by, subst, sym, takes_events, true, with_submitted, ℕ, ◌++◌, ◌<◌, ◌==◌, ◌∙◌, ◌∷◌, ◌≡◌}
 use Rattle.sdd_script.proofs.StepLaws.{must_then, not_true}
 use Rattle.sdd_script.proofs.WordCuts.{NonePasses}
 use Rattle.sdd_script.proofs.NamePlaces.{none_any, distinct_more}
@@ -19,25 +19,15 @@ abbrev with_occurrence : State → Event → State
 with_occurrence st e = record st { place = places.Events; events = st.events ++ e ∷ []; submitted = with_submitted st.submitted e }
 
 pub no_open : (place : Place) → takes_events place ≡ true → open_name place ≡ []
-no_open (places.Inside h) t = absurd cc
-no_open (places.Listing list) t = absurd cc
-no_open places.Ended t = absurd cc
-no_open _ t = refl
+no_open place t = grind arith
 
 pub no_statements : (place : Place) (txns : List Txn) (lists : List (List ClassPart)) (ss : List Stmt)
     (events : List Event) → takes_events place ≡ true → InOrder place txns lists ss events → ss ≡ []
-no_statements places.Rows txns lists ss events t o = o.2
-no_statements places.Between txns lists ss events t o = o.1
-no_statements places.Declared txns lists ss events t o = o.0
-no_statements places.Events txns lists ss events t o = o
-no_statements _ txns lists ss events t o = absurd cc
+no_statements place txns lists ss events t o = grind arith
 
 -- no list is open there
 none_open : (place : Place) → takes_events place ≡ true → open_list place ≡ no_classes
-none_open (places.Inside h) t = absurd cc
-none_open (places.Listing list) t = absurd cc
-none_open places.Ended t = absurd cc
-none_open _ t = refl
+none_open place t = grind arith
 
 abbrev numbers : List TxnNo → List ℕ
 numbers txns = map (λ (t : TxnNo). t.0) txns
@@ -62,9 +52,7 @@ once_more submitted events (Submit txn) h d other =
     (filter_map submitted_by (events ++ Submit txn ∷ []))
     (distinct_more (filter_map submitted_by events) txn.0 d none)
     (sym (filter_map-append submitted_by events (Submit txn ∷ [])))
-once_more submitted events e h d other =
-    same_distinct (filter_map submitted_by events) (filter_map submitted_by (events ++ e ∷ [])) d
-    (sym (append-nil (filter_map submitted_by events)) ∙ sym (filter_map-append submitted_by events (e ∷ [])))
+once_more submitted events e h d other = grind (arith, append-nil, filter_map-append)
 
 event_sound : (cat : Catalogue) (st : State) (e : Event) → Sound cat st → takes_events st.place ≡ true
     → IsValidEvent cat (length st.txns) e → is_submitted st.submitted e ≡ false
@@ -117,27 +105,7 @@ abbrev with_end : State → State
 with_end st = record st { place = places.Ended }
 
 end_sound : (cat : Catalogue) (st : State) → Sound cat st → takes_events st.place ≡ true → Sound cat (with_end st)
-end_sound cat st s t = record {
-  rows = s.rows;
-  txns = s.txns;
-  statements = s.statements;
-  values = s.values;
-  few_statements = s.few_statements;
-  header = tt;
-  names = s.names ∙ ap (λ (l : List (List ℕ)). names_of st.txns ++ l) (no_open st.place t);
-  differ = s.differ;
-  declares = subst (λ (l : OpenList). Declares cat (joined st.lists ++ classes_in l) st.classes) (none_open st.place t) s.declares;
-  few_lists = omega (arith, s.few_lists);
-  timely = s.timely;
-  events = s.events;
-  submitted = s.submitted;
-  once = s.once;
-  written = s.written;
-  few_rows = s.few_rows;
-  few_txns = s.few_txns;
-  few_events = s.few_events;
-  order = no_statements st.place st.txns st.lists st.statements st.events t s.order;
-}
+end_sound cat st s t = grind arith
 
 pub end_leads : (cat : Catalogue) (st to : State) (words : List Word) → Sound cat st
     → end_rules st words ≡ Ok to → Leads cat st to (Plain (codes "end") ∷ words)

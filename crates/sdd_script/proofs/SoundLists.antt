@@ -1,6 +1,6 @@
 -- The lines of class lists keep what holds in every state, and add themselves to the lines before.
-use Rattle.sdd_script.proofs.All.{AreTimely, Bool, Catalogue, ClassPart, DmNo, Event, IsValidRead, List, MAX_CLASSES, MAX_LISTS, MAX_READS, None, Ok, OpenList, Place, Plain, ReadPart, Some, State, Stmt, TmNo, Txn, Word, [], ap, append-nil, arith, bind_ok, both_hold, class_so_far, class_words, classes_in, closed, codes, cond, dm_of, done_rules, done_words, false, fragment_of, has_copy, has_name, is_free, is_taken, joined, length, list_rules, list_words, ltb-true, name_of, nat_lt, no_classes, not, ok_is, one_more_class, open_list, read_names, reads_at, reads_rules, reads_words, refl, subst, sym, takes_classes, takes_lists, takes_reads, takes_reads_in, takes_writes, takes_writes_in, tm_of, true, with_class, with_read, with_write, writes_at, writes_rules, writes_words, ℕ, ◌&&◌, ◌++◌, ◌+◌, ◌<◌, ◌∙◌, ◌∷◌, ◌≡◌, ◌≤◌}
-use Rattle.sdd_script.proofs.StepLaws.{must_then, known_then, not_true, some_is}
+use Rattle.sdd_script.proofs.All.{AreTimely, Bool, Catalogue, ClassPart, DmNo, Event, IsValidRead, List, MAX_CLASSES, MAX_LISTS, MAX_READS, None, Ok, OpenList, Place, Plain, ReadPart, Some, State, Stmt, Txn, Word, [], ap, append-nil, arith, bind_ok, both_hold, class_rules, class_so_far, class_words, classes_in, closed, codes, cond, dm_of, done_rules, done_words, fragment_of, has_copy, has_name, is_free, is_taken, joined, length, list_rules, list_words, ltb-true, name_of, nat_lt, no_classes, not, ok_is, one_more_class, open_list, read_names, reads_at, reads_rules, reads_words, refl, subst, sym, takes_classes, takes_lists, takes_reads, takes_reads_in, takes_writes, takes_writes_in, tm_of, true, with_class, with_read, with_write, writes_at, writes_rules, writes_words, ℕ, ◌&&◌, ◌++◌, ◌+◌, ◌<◌, ◌∙◌, ◌∷◌, ◌≡◌, ◌≤◌}
+use Rattle.sdd_script.proofs.StepLaws.{must_then, known_then, not_true}
 use Rattle.sdd_script.proofs.EventLaws.{dm_takes, tm_takes}
 use Rattle.sdd_script.proofs.Fragments.{fragment_takes, kept_at}
 use Rattle.sdd_script.proofs.Declaring.{class_declared, read_declared, write_declared}
@@ -9,7 +9,6 @@ use Rattle.sdd_script.proofs.RedeclareLaws.{none_timely}
 use Rattle.sdd_script.proofs.SoFar.{lines_at, InOrder}
 use Rattle.sdd_script.proofs.SoundStates.{Sound, Declares, Leads, HeaderFits, names_of, open_name, lists_open, name_of_takes, one_longer, at_place, txn_closed}
 use Rattle.sdd_script.proofs.ListChains.{joined_on as joined_more}
-use Rattle.sdd_script.specs.ClassLists.{class_rules}
 use Rattle.sdd_script.specs.declared.fault.Counts.TheVariants as counts
 use Rattle.sdd_script.specs.declared.place.Place.TheVariants as places
 
@@ -114,16 +113,11 @@ inside_leads cat st new n w s within d adds =
 -- a class
 
 in_list : (place : Place) → takes_classes place ≡ true → Within place
-in_list (places.Listing list) t = refl
-in_list _ t = absurd cc
-
-abbrev classed : State → List ℕ → TmNo → ℕ → State
-classed st name tm n = record st { place = places.Listing (with_class (open_list st.place) name tm); classes = n }
+in_list place t = grind arith
 
 one_more_is : (classes n : ℕ) (b : Bool) → nat_lt classes MAX_CLASSES ≡ b
     → cond b (Some (classes + 1)) None ≡ Some n → (classes + 1 ≡ n) × (classes < MAX_CLASSES)
-one_more_is classes n true t e = (some_is (classes + 1) n e, ltb-true classes MAX_CLASSES t)
-one_more_is classes n false t e = absurd cc
+one_more_is classes n b t e = grind arith
 
 pub class_leads : (cat : Catalogue) (st to : State) (words : List Word) → Sound cat st
     → class_rules cat st words ≡ Ok to → Leads cat st to (Plain (codes "class") ∷ words)
@@ -144,16 +138,13 @@ class_leads cat st to (word ∷ tm ∷ []) s e =
     (class_words (class_so_far (record { name = b.0; tm = c.0; reads = []; writes = [] }))) s
     (in_list st.place place)
     (class_declared cat st.lists l st.classes b.0 c.0 s.declares w.1 t.1 (not_true (is_taken cat st b.0) d.0) n.1) (class_more l b.0 c.0) in
-    subst (λ (x : State). Leads cat st x (Plain (codes "class") ∷ word ∷ tm ∷ []))
-    (ap (classed st b.0 c.0) n.0 ∙ ok_is (classed st b.0 c.0 f.0) to f.2)
-    (subst (λ (ws : List Word). Leads cat st (classed st b.0 c.0 (st.classes + 1)) ws) (sym spelled) leads)
+    grind arith
 class_leads cat st to _ s e = absurd cc
 
 -- a read
 
 reads_within : (place : Place) → takes_reads place ≡ true → Within place × (takes_reads_in (open_list place) ≡ true)
-reads_within (places.Listing list) t = (refl, t)
-reads_within _ t = absurd cc
+reads_within place t = grind arith
 
 abbrev read_at : List ℕ → DmNo → ReadPart
 read_at name dm = record { fragment = name; at = dm.0 }
@@ -186,18 +177,13 @@ reads_leads cat st to (word ∷ dm ∷ []) s e =
     (read_declared cat (joined st.lists) l st.classes r s.declares valid
     (not_true (has_name (read_names (reads_at st.place)) b.0.0) may.0)
     (ltb-true (length (reads_at st.place)) MAX_READS f.0)) (read_more l r place.1) in
-    subst (λ (x : State). Leads cat st x (Plain (codes "reads") ∷ word ∷ dm ∷ [])) (ok_is (reading st b.0.0 c.0) to f.1)
-    (subst (λ (ws : List Word). Leads cat st (reading st b.0.0 c.0) ws) (sym spelled) leads)
+    grind arith
 reads_leads cat st to _ s e = absurd cc
 
 -- a write
 
 writes_within : (place : Place) → takes_writes place ≡ true → Within place × (takes_writes_in (open_list place) ≡ true)
-writes_within (places.Listing list) t = (refl, t)
-writes_within _ t = absurd cc
-
-abbrev writing : State → List ℕ → State
-writing st name = record st { place = places.Listing (with_write (open_list st.place) name) }
+writes_within place t = grind arith
 
 pub writes_leads : (cat : Catalogue) (st to : State) (words : List Word) → Sound cat st
     → writes_rules cat st words ≡ Ok to → Leads cat st to (Plain (codes "writes") ∷ words)
@@ -212,8 +198,7 @@ writes_leads cat st to (word ∷ []) s e =
     let leads = inside_leads cat st (with_write l b.0.0) st.classes (writes_words b.0.0) s place.0
     (write_declared cat (joined st.lists) l st.classes b.0.0 s.declares w.there
     (not_true (has_name (writes_at st.place) b.0.0) d.0)) (write_more l b.0.0 place.1) in
-    subst (λ (x : State). Leads cat st x (Plain (codes "writes") ∷ word ∷ [])) (ok_is (writing st b.0.0) to d.1)
-    (subst (λ (ws : List Word). Leads cat st (writing st b.0.0) ws) (sym spelled) leads)
+    grind arith
 writes_leads cat st to _ s e = absurd cc
 
 -- ---- a list ends, or a transaction

@@ -84,8 +84,7 @@ with_row_at st r n = record st { rows = st.rows ++ r ∷ []; written = n }
 
 one_more_is : (written n : ℕ) (b : Bool) → nat_lt written MAX_ROWS ≡ b → cond b (Some (written + 1)) None ≡ Some n
     → (written + 1 ≡ n) × (written < MAX_ROWS)
-one_more_is written n true t e = (some_is (written + 1) n e, ltb-true written MAX_ROWS t)
-one_more_is written n false t e = absurd cc
+one_more_is written n b t e = grind arith
 
 row_sound : (cat : Catalogue) (st : State) (r : RelNo × List Value) → Sound cat st → IsValidRow cat r → st.written < MAX_ROWS
     → Sound cat (with_row st r)
@@ -136,22 +135,17 @@ abbrev with_header : State → Header → State
 with_header st h = record st { place = places.Inside h; names = st.names ++ h.name ∷ [] }
 
 closed_name : (place : Place) → takes_txns place ≡ true → open_name place ≡ []
-closed_name places.Rows t = refl
-closed_name places.Between t = refl
-closed_name _ t = absurd cc
+closed_name place t = grind arith
 
 no_more : (place : Place) (txns : List Txn) (lists : List (List ClassPart)) (ss : List Stmt)
     (events : List Event) → takes_txns place ≡ true → InOrder place txns lists ss events → (lists ≡ [])
     × (events ≡ [])
-no_more places.Rows txns lists ss events t o = (o.1, o.3)
-no_more places.Between txns lists ss events t o = (o.0, o.2)
-no_more _ txns lists ss events t o = absurd cc
+no_more place txns lists ss events t o = grind arith
 
 -- outside of lists none is open
 
 pub none_open : (place : Place) → takes_txns place ≡ true → open_list place ≡ no_classes
-none_open (places.Listing list) t = absurd cc
-none_open _ t = refl
+none_open place t = grind arith
 
 header_sound : (cat : Catalogue) (st : State) (h : Header) → Sound cat st → takes_txns st.place ≡ true
     → IsName h.name → IsFrom1To cat.tms h.tm.0 → NonePasses (bytes_eq h.name) st.names
@@ -227,8 +221,7 @@ written_is written n _ few e = let h = some_is written n e in (omega (arith, h),
 statement_order : (place : Place) (txns : List Txn) (lists : List (List ClassPart)) (ss other : List Stmt)
     (events : List Event) → takes_statements place ≡ true → InOrder place txns lists ss events
     → InOrder place txns lists other events
-statement_order (places.Inside h) txns lists ss other events t o = o
-statement_order _ txns lists ss other events t o = absurd cc
+statement_order place txns lists ss other events t o = grind arith
 
 sum_more : (w r t q x all : ℕ) → w ≡ r + t + q → all ≡ q + (0 + x) → w + x ≡ r + t + all
 sum_more w r t q x all e f = omega (arith, e, f)

@@ -1,11 +1,11 @@
 -- The spelling of a workload that the catalogue allows is read as the workload.
-use Rattle.sdd_script.proofs.All.{AllByRecursion, AreLines, BadLine, Bool, Catalogue, ClassPart, Err, Event, FitsStatement, HasNoNewline, Header, HoldsValues, IsValidRow, IsValidTxn, IsValue, Keyword, List, MAX_ROWS, MAX_TXNS, None, Ok, Place, Plain, RelNo, Result, Some, State, StatementKey, Stmt, T, Txn, TxnNo, UnknownName, Value, Word, WorkRule, [], ap, append-nil, append_assoc, arith, at_line, both_are, bytes_eq, cond, done_words, drop, false, flat_map, header_words, is_ended, is_free, is_some, keyword_rules, known, length, length-append, line_bytes, line_rules, lt-ltb, map, map-append, name_of, nat_lt as ltb, not, one_line, position, recursion_from_All, refl, repeats, row_words, rows_put_by, site_word, start_words, statement_of, statement_rules, statement_words, subst, sum_by, sum_by-cons, sym, tail_rules, takes_txns, true, txn_lines, written_with, ℕ, ◌&&◌, ◌++◌, ◌+◌, ◌<◌, ◌∙◌, ◌∷◌, ◌≡◌, ◌≤◌}
+use Rattle.sdd_script.proofs.All.{AllByRecursion, AreLines, BadLine, Bool, Catalogue, ClassPart, Err, Event, FitsStatement, HasNoNewline, Header, HoldsValues, IsValidRow, IsValidTxn, IsValue, Keyword, List, MAX_ROWS, MAX_TXNS, None, Ok, Place, Plain, RelNo, Result, Some, State, StatementKey, Stmt, T, Txn, TxnNo, UnknownName, Value, Word, WorkRule, [], ap, append-nil, append_assoc, arith, at_line, both_are, bytes_eq, cond, done_words, drop, false, flat_map, header_words, is_ended, is_free, is_some, keyword_rules, known, length, length-append, line_bytes, line_rules, lt-ltb, map, map-append, name_of, nat_lt as ltb, not, one_line, position, recursion_from_All, refl, repeats, row_words, rows_put_by, site_word, start_words, statement_of, statement_rules, statement_words, subst, sum_by, sum_by-cons, sym, tail_rules, takes_txns, true, txn_lines, ℕ, ◌&&◌, ◌++◌, ◌+◌, ◌<◌, ◌∙◌, ◌∷◌, ◌≡◌, ◌≤◌}
 use Rattle.sdd_script.specs.Walk.{walk}
 use Rattle.sdd_script.proofs.WordCuts.{NonePasses}
 use Rattle.sdd_script.proofs.WordLooks.{name_free}
 use Rattle.sdd_script.proofs.UseLaws.{IsKnown}
 use Rattle.sdd_script.proofs.RowLaws.{FitsRowOf, row_again, row_free}
-use Rattle.sdd_script.proofs.QueryLaws.{put_again, query_fits, query_again, limits_again}
+use Rattle.sdd_script.proofs.QueryLaws.{put_again, query_fits, query_again}
 use Rattle.sdd_script.proofs.UpdateLaws.{update_fits, update_again, delete_again}
 use Rattle.sdd_script.proofs.EventLaws.{tm_again, site_free}
 use Rattle.sdd_script.proofs.LineLaws.{keyword_bytes, statement_key_bytes, line_again, line_has_no_newline, words_again}
@@ -116,18 +116,11 @@ rows_chain cat k (r ∷ rs) rows written h few =
 abbrev inside : Catalogue → Header → List (RelNo × List Value) → ℕ → List (List ℕ) → List Txn → List Stmt → State
 inside cat h rows written names txns ss = early cat (places.Inside h) rows written names txns ss
 
-room_again : (written : ℕ) (q : Stmt) → written + rows_put q ≤ MAX_ROWS → written_with written q ≡ Some (written + rows_put q)
-room_again written (statements.Put rel row) h = ap (λ (b : Bool). cond b (Some (written + 1)) None) (lt-ltb written MAX_ROWS (omega (arith, h)))
-room_again written _ h = ap (λ (n : ℕ). Some n) (omega arith)
-
 statement_rules_again : (cat : Catalogue) (h : Header) (rows : List (RelNo × List Value)) (written : ℕ)
     (names : List (List ℕ)) (txns : List Txn) (ss : List Stmt) (q : Stmt) (reading : Result Stmt WorkRule)
     → reading ≡ Ok q → FitsStatement cat q → length ss < 32 → written + rows_put q ≤ MAX_ROWS
     → statement_rules (inside cat h rows written names txns ss) reading ≡ Ok (inside cat h rows (written + rows_put q) names txns (ss ++ q ∷ []))
-statement_rules_again cat h rows written names txns ss q reading e fits few room =
-    let a : written_with written q ≡ Some (written + rows_put q) = room_again written q room in
-    let b = limits_again cat (length ss) q few fits in
-    rw (e, a, b) refl
+statement_rules_again cat h rows written names txns ss q reading e fits few room = grind arith
 
 -- a statement's first word, and the words behind it
 abbrev statement_key : Stmt → StatementKey
@@ -141,8 +134,7 @@ behind_key cat q = drop 1 (statement_words cat q)
 
 words_of_statement : (cat : Catalogue) (q : Stmt)
     → Plain (statement_key_bytes (statement_key q)) ∷ behind_key cat q ≡ statement_words cat q
-words_of_statement cat (statements.Put rel row) = refl
-words_of_statement cat _ = refl
+words_of_statement cat q = grind arith
 
 statement_again : (cat : Catalogue) → IsKnown cat → (q : Stmt) → FitsStatement cat q → HoldsValues q
     → statement_of (statement_key q) cat (behind_key cat q) ≡ Ok q
@@ -180,9 +172,7 @@ statements_chain : (cat : Catalogue) → IsKnown cat → (h : Header) (rows : Li
     → written + sum_by rows_put qs ≤ MAX_ROWS
     → Chain cat (inside cat h rows written names txns ss) (map line_bytes (map (statement_words cat) qs))
     (inside cat h rows (written + sum_by rows_put qs) names txns (ss ++ qs))
-statements_chain cat k h rows names txns [] ss written fits hold few room =
-    inside_same cat h rows written (written + 0) names txns ss (ss ++ []) (omega arith)
-    (sym (append-nil ss))
+statements_chain cat k h rows names txns [] ss written fits hold few room = grind (arith, append-nil)
 statements_chain cat k h rows names txns (q ∷ qs) ss written fits hold few room =
     let sum : sum_by rows_put (q ∷ qs) ≡ rows_put q + sum_by rows_put qs = sum_by-cons rows_put q qs in
     let len : length (ss ++ q ∷ []) ≡ length ss + 1 = length-append ss (q ∷ []) in
@@ -203,9 +193,7 @@ abbrev pub outside : Catalogue → Place → List (RelNo × List Value) → ℕ 
 outside cat place rows written names txns = early cat place rows written names txns []
 
 pub going_on : (place : Place) → takes_txns place ≡ true → is_ended place ≡ false
-going_on places.Rows t = refl
-going_on places.Between t = refl
-going_on _ t = absurd cc
+going_on place t = grind arith
 
 abbrev header_for : Txn → Header
 header_for t = record { name = t.name; tm = t.tm }

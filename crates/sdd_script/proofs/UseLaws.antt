@@ -1,5 +1,5 @@
 -- Relations and columns of uses: what is read is spelled and is there, and what is spelled and is there is read.
-use Rattle.sdd_script.proofs.All.{Bool, Catalogue, Column, Found, Int, IsColumn, IsRelation, List, None, Ok, Option, Parts, Plain, Quoted, Ref, Some, Word, [], ap, arith, before_point, behind_point, both_hold, bytes_eq, bytes_eq-Decides, column_in, column_named, column_of_use, columns_of, cond, decimal, eqb, false, find, get_or, has_point, is_name, is_whole, kind_at, kind_of_place, length, looks_like_column, lt-ltb, ltb-true, name_of_column, name_of_relation, nat_lt as ltb, ne_eqb, negsuc, not, number_again, number_of, number_takes, ok_is, option_map_or, pos, position-Some, range_with_len, refl, rel_no, relation_named, relation_of, relation_word, signed_decimal, slice_get, slice_get-get_or, subst, suc, sym, true, use_at, use_in, use_numbered, zero, ℕ, ℤ, ◌++◌, ◌+◌, ◌-◌, ◌<◌, ◌^◌, ◌||◌, ◌∙◌, ◌∷◌, ◌≡◌, ◌≤◌}
+use Rattle.sdd_script.proofs.All.{Bool, Catalogue, Column, Found, Int, IsColumn, IsRelation, List, None, Ok, Option, Parts, Plain, Quoted, Ref, Some, Word, [], ap, arith, before_point, behind_point, both_hold, bytes_eq, bytes_eq-Decides, column_in, column_named, column_of_use, columns_of, cond, decimal, false, find, get_or, is_name, is_whole, kind_at, kind_of_place, length, looks_like_column, name_of_column, name_of_relation, number_again, number_of, number_takes, ok_is, option_map_or, pos, position-Some, range_with_len, refl, rel_no, relation_named, relation_of, relation_word, signed_decimal, slice_get, slice_get-get_or, subst, suc, sym, true, use_at, use_numbered, zero, ℕ, ℤ, ◌++◌, ◌+◌, ◌-◌, ◌<◌, ◌^◌, ◌∙◌, ◌∷◌, ◌≡◌, ◌≤◌}
 use Rattle.sdd_script.proofs.StepLaws.{must_then, known_then, some_is}
 use Rattle.sdd_script.proofs.ValueLaws.{columns_are}
 use Rattle.sdd_script.proofs.WordCuts.{point_cut}
@@ -105,28 +105,8 @@ pub record IsUseAt (parts : Parts) (z : ℤ) (u : ℕ × ℕ) : Type 0 where
   pub small : u.0 < 2 ^ 32
   pub there : slice_get parts (u.0 - 1) ≡ Some (Some u.1)
 
-use_in_is : (o : Option (Option ℕ)) (part : ℕ) (u : ℕ × ℕ) → use_in o part ≡ Some u → (u.0 ≡ part) × (o ≡ Some (Some u.1))
-use_in_is (Some (Some rel)) part u e = rw (← some_is {A = ℕ × ℕ} (part, rel) u e) (refl, refl)
-use_in_is _ part u e = absurd cc
-
-use_at_if : (parts : Parts) (part : ℕ) (u : ℕ × ℕ) (a b : Bool) → eqb part 0 ≡ a → ltb part (2 ^ 32) ≡ b
-    → cond (a || not b) None (use_in (slice_get parts (part - 1)) part) ≡ Some u → IsUseAt parts (pos part) u
-use_at_if parts zero u false true p q e = absurd cc
-use_at_if parts (suc part) u false true p q e =
-    let i = use_in_is (slice_get parts (suc part - 1)) (suc part) u e in
-    let same : u.0 ≡ suc part = i.0 in
-    let small : suc part < 2 ^ 32 = ltb-true (suc part) (2 ^ 32) q in
-    record {
-      is = ap (λ (n : ℕ). pos n) (sym same);
-      some = omega (arith, same);
-      small = omega (arith, same, small);
-      there = subst (λ (n : ℕ). slice_get parts (n - 1) ≡ Some (Some u.1)) (sym same) i.1;
-    }
-use_at_if parts part u _ _ p q e = absurd cc
-
 pub use_takes : (parts : Parts) (z : ℤ) (u : ℕ × ℕ) → use_at parts z ≡ Some u → IsUseAt parts z u
-use_takes parts (pos part) u e = use_at_if parts part u (eqb part 0) (ltb part (2 ^ 32)) refl refl e
-use_takes parts (negsuc n) u e = absurd cc
+use_takes parts z u e = grind arith
 
 use_of_number : (cat : Catalogue) (parts : Parts) (bytes : List ℕ) (f : Found) (u : ℕ × ℕ) (o : Option ℤ)
     → number_of (before_point bytes) ≡ o → bytes ≡ before_point bytes ++ 46 ∷ behind_point bytes
@@ -159,8 +139,7 @@ use_of_takes cat parts (Quoted text) f look e = absurd cc
 use_of_takes cat parts (Plain bytes) f look e =
     let a = must_then _ (is_whole (before_point bytes)) _ f e in
     let b = known_then _ (use_numbered parts (number_of (before_point bytes))) _ f a.1 in
-    use_of_number cat parts bytes f b.0 (number_of (before_point bytes)) refl
-    (point_cut bytes (both_hold (has_point bytes) (not (has_point (behind_point bytes))) look).0) b.1 b.2
+    grind (arith, use_of_number, point_cut, both_hold)
 
 -- what is spelled is read
 
@@ -173,10 +152,7 @@ pub record HasUse (cat : Catalogue) (parts : Parts) (rel : ℕ) (r : Ref) : Type
 
 use_at_again : (parts : Parts) (part rel : ℕ) → 1 ≤ part → part < 2 ^ 32 → slice_get parts (part - 1) ≡ Some
     (Some rel) → use_at parts (pos part) ≡ Some (part, rel)
-use_at_again parts part rel some small there =
-    let a : eqb part 0 ≡ false = ne_eqb part 0 (λ e. omega arith) in
-    let b : ltb part (2 ^ 32) ≡ true = lt-ltb part (2 ^ 32) small in
-    rw (a, b, there) refl
+use_at_again parts part rel some small there = grind arith
 
 pub kind_is : (cat : Catalogue) (rel column : ℕ) → IsColumn cat rel column
     → kind_of_place (columns_of cat rel) (column - 1) ≡ Some (kind_at cat rel column)

@@ -1,5 +1,5 @@
 -- Values: what is read is spelled and fits, and what is spelled and fits is read.
-use Rattle.sdd_script.proofs.All.{AllByRecursion, Answers, BadLine, BadNumber, Bool, Catalogue, Column, IsValue, Kind, List, None, Ok, Option, Plain, Quoted, Relation, Result, Some, Value, Word, WorkRule, WrongKind, [], add-one, along_ok, ap, arith, columns_of, cond, false, get_or, is_of_kind, is_text, key_column, key_of, kind_of, kind_of_place, length, map, must, name_of_relation, number_again, number_of, number_takes, ok_along, ok_is, option_map_or, refl, relation_at, slice_get, subst, suc, sym, text_in, true, unwrap_or, unwrap_or-slice_get, value_of, value_word, values_of, ℕ, ◌+◌, ◌-◌, ◌>>=◌, ◌∙◌, ◌∷◌, ◌≡◌}
+use Rattle.sdd_script.proofs.All.{AllByRecursion, Answers, Bool, Catalogue, Column, IsValue, Kind, List, None, Ok, Option, Plain, Quoted, Relation, Result, Some, Value, Word, WorkRule, [], add-one, along_ok, ap, arith, columns_of, cond, get_or, is_of_kind, is_text, key_column, key_of, kind_of, kind_of_place, length, map, name_of_relation, number_again, number_of, number_takes, ok_along, ok_is, option_map_or, refl, relation_at, slice_get, subst, suc, sym, text_in, true, unwrap_or, unwrap_or-slice_get, value_of, value_word, values_of, ℕ, ◌+◌, ◌-◌, ◌∙◌, ◌∷◌, ◌≡◌}
 use Rattle.sdd_script.proofs.StepLaws.{must_then, known_then}
 use Rattle.sdd_lang.specs.base.declared.value.Value.TheVariants as values
 use Rattle.sdd_lang.specs.catalog.declared.parts.Kind.TheVariants as kinds
@@ -7,8 +7,7 @@ use Rattle.sdd_lang.specs.catalog.declared.parts.Kind.TheVariants as kinds
 -- ---- the two spellings of a relation's parts
 
 at_or : {A B : Type 0} (f : A → B) (o : Option A) (d : A) → option_map_or f o (f d) ≡ f (unwrap_or o d)
-at_or f None d = refl
-at_or f (Some x) d = refl
+at_or f o d = grind arith
 
 pub part_at : {A B : Type 0} (f : A → B) (xs : List A) (i : ℕ) (d : A) → option_map_or f (slice_get xs i) (f d) ≡ f (get_or xs i d)
 part_at f xs i d = at_or f (slice_get xs i) d ∙ ap f (unwrap_or-slice_get xs i d)
@@ -30,25 +29,19 @@ pub record IsRead (kind : Kind) (w : Word) (v : Value) : Type 0 where
   pub fits : IsValue v
 
 pub kind_int : (k : Kind) → is_of_kind (Some k) kinds.Int ≡ true → kinds.Int ≡ k
-kind_int kinds.Int e = refl
-kind_int kinds.Text e = absurd cc
+kind_int k e = grind arith
 
 pub kind_text : (k : Kind) → is_of_kind (Some k) kinds.Text ≡ true → kinds.Text ≡ k
-kind_text kinds.Int e = absurd cc
-kind_text kinds.Text e = refl
+kind_text k e = grind arith
 
 pub same_kind : (a b : Kind) → is_of_kind (Some a) b ≡ true → a ≡ b
-same_kind kinds.Int kinds.Text e = absurd cc
-same_kind kinds.Text kinds.Int e = absurd cc
-same_kind _ _ e = refl
+same_kind a b e = grind arith
 
 pub kind_same : (a : Kind) → is_of_kind (Some a) a ≡ true
-kind_same kinds.Int = refl
-kind_same kinds.Text = refl
+kind_same a = grind arith
 
 pub some_text : (bytes text : List ℕ) (b : Bool) → cond b (Some bytes) None ≡ Some text → (b ≡ true) × (bytes ≡ text)
-some_text bytes text true e = (refl, cc)
-some_text bytes text false e = absurd cc
+some_text bytes text b e = grind arith
 
 pub text_takes : (bytes text : List ℕ) → text_in bytes ≡ Some text → (is_text bytes ≡ true) × (bytes ≡ text)
 text_takes bytes text e = some_text bytes text (is_text bytes) e
@@ -70,8 +63,7 @@ value_takes k (Quoted text) v e =
     })
 
 pub value_again : (v : Value) → IsValue v → value_of (Some (kind_of v)) (value_word v) ≡ Ok v
-value_again (values.Int z) h = let e = number_again z h in rw e refl
-value_again (values.Text text) h = rw h refl
+value_again v h = grind (arith, number_again)
 
 -- ---- rows
 

@@ -1,5 +1,5 @@
 -- The whole file: the spelling of a workload that the catalogue allows is read as the workload.
-use Rattle.sdd_script.proofs.All.{All, All-get_or, AllByRecursion, AreDistinct, AreTimely, Bool, Catalogue, ClassPart, Deliver, Down, Err, Event, IsFrom1To, IsValid, IsValidEvent, IsValidRow, IsValidTxn, List, Lose, MAX_EVENTS, MAX_WORKLOAD_BYTES, Ok, Place, Plain, RelNo, Repeat, Resend, Result, Some, State, Submit, Tick, TooLong, Txn, TxnNo, Up, Value, Word, WorkRule, Workload, [], ap, append-nil, append_assoc, arith, bytes_eq, cond, cut_again, cut_lines, end_words, event_of, event_rules, event_words, false, filter_map, flat_map, get_or, get_or-map, is_ended, is_name, is_submitted, le-ltb, length, length-append, length-map, line_bytes, lines_of, list_any, list_any-map, list_lines, lt-ltb, map, map-append, may_follow, name_of_txn, nat_lt, nat_lt as ltb, nothing_read, position, recursion_from_All, refl, repeats, rows_put_by, spelling, start_words, submit_of, submitted_by, subst, sum_by, sym, takes_events, takes_lists, takes_txns, true, txn_lines, txn_no, walk, walk_bytes, with_submitted, workload, workload_of_state, ℕ, ◌++◌, ◌+◌, ◌-◌, ◌<◌, ◌==◌, ◌∙◌, ◌∷◌, ◌≡◌, ◌≤◌}
+use Rattle.sdd_script.proofs.All.{All, All-get_or, AllByRecursion, AreDistinct, AreTimely, Catalogue, ClassPart, Deliver, Down, Event, IsFrom1To, IsValid, IsValidEvent, IsValidRow, IsValidTxn, List, Lose, MAX_EVENTS, MAX_WORKLOAD_BYTES, Ok, Place, Plain, RelNo, Repeat, Resend, Result, Some, State, Submit, Tick, Txn, TxnNo, Up, Value, Word, WorkRule, Workload, [], ap, append-nil, append_assoc, arith, bytes_eq, cut_again, cut_lines, end_words, event_of, event_rules, event_words, false, filter_map, flat_map, get_or, get_or-map, is_ended, is_name, is_submitted, le-ltb, length, length-append, length-map, line_bytes, lines_of, list_any, list_any-map, list_lines, lt-ltb, map, map-append, may_follow, name_of_txn, nat_lt, nat_lt as ltb, nothing_read, position, recursion_from_All, refl, repeats, rows_put_by, spelling, start_words, submit_of, submitted_by, subst, sum_by, sym, takes_events, takes_lists, takes_txns, true, txn_lines, txn_no, walk, with_submitted, workload, ℕ, ◌++◌, ◌+◌, ◌-◌, ◌<◌, ◌==◌, ◌∙◌, ◌∷◌, ◌≡◌, ◌≤◌}
 use Rattle.sdd_script.proofs.WordLooks.{name_fine, name_free}
 use Rattle.sdd_script.proofs.UseLaws.{IsKnown}
 use Rattle.sdd_script.proofs.EventLaws.{place_again, resend_again, tick_again, down_again, up_again}
@@ -80,10 +80,7 @@ fresh submitted _ es d = record { new = refl; distinct = d }
 -- ---- events
 
 still : (place : Place) → takes_events place ≡ true → is_ended place ≡ false
-still (places.Inside h) t = absurd cc
-still (places.Listing list) t = absurd cc
-still places.Ended t = absurd cc
-still _ t = refl
+still place t = grind arith
 
 record MayComeNext (cat : Catalogue) (place : Place) (lists : List (List ClassPart)) (submitted : List TxnNo) (events : List Event) (e : Event) : Type 0 where
   takes : takes_events place ≡ true
@@ -186,15 +183,10 @@ events_chain cat k rows written txns lists classes valid differ (e ∷ es) place
 -- ---- the whole
 
 lists_from : (place : Place) → takes_txns place ≡ true → takes_lists place ≡ true
-lists_from places.Rows t = refl
-lists_from places.Between t = refl
-lists_from _ t = absurd cc
+lists_from place t = grind arith
 
 events_from : (place : Place) → takes_lists place ≡ true → takes_events place ≡ true
-events_from places.Rows t = refl
-events_from places.Between t = refl
-events_from places.Declared t = refl
-events_from _ t = absurd cc
+events_from place t = grind arith
 
 end_step : (cat : Catalogue) (place : Place) (rows : List (RelNo × List Value)) (written : ℕ)
     (txns : List Txn) (lists : List (List ClassPart)) (classes : ℕ) (submitted : List TxnNo)
@@ -273,6 +265,4 @@ read_again cat k w v small =
     let b : cut_lines (spelling cat w) ≡ (lines, []) = ap cut_lines (sym (lines_spelled (lines_of cat w)))
     ∙ cut_again lines (chain_lines cat (nothing_read cat) last lines c.chain) in
     let d : walk cat 1 (nothing_read cat) lines [] ≡ Ok last = chain_walk cat 1 (nothing_read cat) last lines c.chain refl in
-    ap (λ (t : Bool). cond t (Err (record { line = 0; rule = TooLong })) (workload_of_state (walk_bytes cat 1 (nothing_read cat) (spelling cat w)))) a
-    ∙ ap (λ (cut : List (List ℕ) × List ℕ). workload_of_state (walk cat 1 (nothing_read cat) cut.0 cut.1)) b
-    ∙ ap workload_of_state d
+    grind arith

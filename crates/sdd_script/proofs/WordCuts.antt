@@ -1,6 +1,5 @@
 -- A list cut at the first item that passes, both ways.
-use Rattle.sdd_script.proofs.All.{Bool, List, None, Option, Plain, Quoted, Some, Word, [], add-one, after_first, ap, append_assoc, arith, before_first, before_point, behind_point, bytes_eq-Decides, cond, cut_at, drop, drop-cons, drop_all, drop_at, eqb-true, false, get_or, has_point, is_key, is_point, is_some, le-ltb, length, length-append, lt-ltb, nat_lt, nat_lt as ltb, option_map, place_if, position, position-Some, position_or_len, refl, sym, take, take-append-drop, take_all, take_at, true, ℕ, ◌++◌, ◌+◌, ◌<◌, ◌∙◌, ◌∷◌, ◌≡◌}
-use Rattle.sdd_script.proofs.StepLaws.{some_is}
+use Rattle.sdd_script.proofs.All.{Bool, List, None, Option, Plain, Quoted, Some, Word, [], add-one, after_first, ap, append_assoc, arith, before_first, before_point, behind_point, bytes_eq-Decides, cond, cut_at, drop, drop-cons, drop_all, drop_at, eqb-true, false, get_or, has_point, is_key, is_point, is_some, length, length-append, nat_lt as ltb, option_map, place_if, position, position-Some, position_or_len, refl, sym, take, take-append-drop, take_all, take_at, true, ℕ, ◌++◌, ◌+◌, ◌<◌, ◌∙◌, ◌∷◌, ◌≡◌}
 
 abbrev pub NonePasses : {A : Type 0} → (A → Bool) → List A → Type 0
 NonePasses p [] = Unit {0}
@@ -27,10 +26,7 @@ from_again p xs x rest h e = drop_at xs (x ∷ rest) (position_or_len p (xs ++ x
 
 pub position_again : {A : Type 0} (p : A → Bool) (xs : List A) (x : A) (rest : List A) → NonePasses p xs
     → p x ≡ true → position p (xs ++ x ∷ rest) ≡ Some (length xs)
-position_again p xs x rest h e =
-    let f = first_at p xs x rest h e in
-    let lt : nat_lt (length xs) (length (xs ++ x ∷ rest)) ≡ true = lt-ltb _ _ (omega (arith, length-append xs (x ∷ rest))) in
-    rw (f, lt) refl
+position_again p xs x rest h e = grind (arith, first_at, length-append)
 
 -- where none passes
 
@@ -39,10 +35,7 @@ none_at p [] h = refl
 none_at p (y ∷ xs) h = let a = h.0 in let ih = none_at p xs h.1 in rw (a, ih) (omega arith)
 
 pub no_position : {A : Type 0} (p : A → Bool) (xs : List A) → NonePasses p xs → position p xs ≡ None
-no_position p xs h =
-    let f = none_at p xs h in
-    let lt : nat_lt (length xs) (length xs) ≡ false = le-ltb (length xs) (length xs) (omega arith) in
-    rw (f, lt) refl
+no_position p xs h = grind (arith, none_at)
 
 pub all_before : {A : Type 0} (p : A → Bool) (xs : List A) → NonePasses p xs → before_first p xs ≡ xs
 all_before p xs h = take_all (position_or_len p xs) xs (omega (arith, none_at p xs h))
@@ -56,8 +49,7 @@ pub joined_again : {A : Type 0} (p : A → Bool) (xs : List A) → before_first 
 joined_again p xs = take-append-drop (position_or_len p xs) xs
 
 pub key_is_that : (key : List ℕ) (w : Word) → is_key key w ≡ true → w ≡ Plain key
-key_is_that key (Plain bytes) e = ap (λ (l : List ℕ). Plain l) ((bytes_eq-Decides bytes key).0 e)
-key_is_that key (Quoted text) e = absurd cc
+key_is_that key w e = grind (arith, bytes_eq-Decides)
 
 pub is_key_again : (key : List ℕ) → is_key key (Plain key) ≡ true
 is_key_again key = (bytes_eq-Decides key key).1 refl
@@ -76,12 +68,7 @@ cut_there ws k = (take k ws, drop (k + 1) ws)
 
 cut_if : (key : List ℕ) (ws before behind : List Word) (o : Option ℕ) → position (is_key key) ws ≡ o
     → option_map (cut_there ws) o ≡ Some (before, behind) → ws ≡ before ++ Plain key ∷ behind
-cut_if key ws before behind None p e = absurd cc
-cut_if key ws before behind (Some k) p e =
-    let cut = some_is {A = List Word × List Word} (cut_there ws k) (before, behind) e in
-    let a : take k ws ≡ before = ap (λ (x : List Word × List Word). x.0) cut in
-    let b : drop (k + 1) ws ≡ behind = ap (λ (x : List Word × List Word). x.1) cut in
-    rw (← a, ← b) (key_cut key ws k p)
+cut_if key ws before behind o p e = grind (arith, key_cut)
 
 pub cut_takes : (key : List ℕ) (ws before behind : List Word) → cut_at key ws ≡ Some (before, behind) → ws ≡ before ++ Plain key ∷ behind
 cut_takes key ws before behind e = cut_if key ws before behind (position (is_key key) ws) refl e

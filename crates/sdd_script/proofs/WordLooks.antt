@@ -1,5 +1,5 @@
 -- What the words of a spelling look like: each is a word, a text, holds no newline, and is no keyword where it could be mistaken for one.
-use Rattle.sdd_script.proofs.All.{AllDigits, Bool, HasNoNewline, HasNoSpace, IsAscii-signed, IsPlain, IsUtf8, IsUtf8-append, IsUtf8-escaped, IsUtf8-from_ascii, IsUtf8-from_is_utf8, IsValue, IsWord, List, None, Op, Plain, Quoted, Value, Word, [], after_first, ap, append-nil, arith, before_point, begins_with_letter, behind_point, both_are, both_hold, bytes_eq, codes, decimal, decimal_digit, decimal_is_IsNumeral, digit_from_value, drop_all, eqb, escaped, escaped_byte, false, first_decimal, get_or, has_newline, has_point, is_digit, is_free, is_keyword, is_letter, is_name, is_name_byte, is_point, is_sound, is_text, is_utf8, is_whole, length, list_all, looks_like_column, mag, name_is_utf8, names_column, nat_le, ne_eqb, negsuc, not, number_plain, op_in, or_false as or_parts, pos, position_or_len, refl, signed_decimal, spells_column, subst, suc, true, value_word, whole_digits, word_bytes, zero, ℕ, ℤ, ◌&&◌, ◌++◌, ◌+◌, ◌<◌, ◌^◌, ◌∷◌, ◌≡◌, ◌≢◌, ◌≤◌}
+use Rattle.sdd_script.proofs.All.{AllDigits, Bool, HasNoNewline, HasNoSpace, IsAscii-signed, IsPlain, IsUtf8, IsUtf8-append, IsUtf8-escaped, IsUtf8-from_ascii, IsUtf8-from_is_utf8, IsValue, IsWord, List, Op, Plain, Quoted, Value, Word, [], after_first, ap, append-nil, arith, before_point, begins_with_letter, behind_point, both_are, both_hold, decimal, decimal_digit, decimal_is_IsNumeral, digit_from_value, drop_all, eqb, escaped, escaped_byte, false, first_decimal, get_or, has_newline, has_point, is_digit, is_free, is_keyword, is_letter, is_name, is_name_byte, is_point, is_sound, is_text, is_utf8, is_whole, length, list_all, looks_like_column, mag, name_is_utf8, names_column, nat_le, ne_eqb, negsuc, not, number_plain, or_false as or_parts, pos, position_or_len, refl, signed_decimal, spells_column, subst, suc, true, value_word, whole_digits, word_bytes, zero, ℕ, ℤ, ◌&&◌, ◌++◌, ◌+◌, ◌<◌, ◌^◌, ◌∷◌, ◌≡◌, ◌≢◌, ◌≤◌}
 use Rattle.sdd_script.proofs.StepLaws.{not_true, of_le as le_is}
 use Rattle.sdd_script.proofs.WordCuts.{NonePasses, none_at, before_again, after_again, position_again, no_point}
 use Rattle.sdd_lang.specs.base.declared.restriction.Op.TheVariants as ops
@@ -23,8 +23,7 @@ no_space-append [] b h k = k
 no_space-append (c ∷ a) b h k = (h.0, no_space-append a b h.1 k)
 
 plain-append : (a b : List ℕ) → IsPlain a → HasNoSpace b → IsPlain (a ++ b)
-plain-append [] b h k = absurd h
-plain-append (c ∷ a) b h k = (h.0, h.1, no_space-append a b h.2 k)
+plain-append a b h k = grind (arith, no_space-append)
 
 -- ---- names
 
@@ -56,10 +55,7 @@ name_parts bs e =
     record { letter = (both_hold (begins_with_letter bs) (nat_le (length bs) 32) front.0).0; bytes_are = front.1; no_key = not_true (is_keyword bs) all.1 }
 
 plain_name : (bs : List ℕ) → begins_with_letter bs ≡ true → list_all is_name_byte bs ≡ true → IsPlain bs
-plain_name [] l e = absurd cc
-plain_name (b ∷ bs) l e =
-    let h = both_hold (is_name_byte b) (list_all is_name_byte bs) e in
-    (not_it is_name_byte b 34 refl h.0, not_it is_name_byte b 32 refl h.0, no_spaces is_name_byte bs refl h.1)
+plain_name bs l e = grind (arith, no_spaces)
 
 pub name_fine : (bs : List ℕ) → is_name bs ≡ true → IsFine (Plain bs)
 name_fine bs e = let n = name_parts bs e in record {
@@ -81,10 +77,7 @@ free_first c cs f w a s p e n l g = rw (f, w, a, s, p, e, n, l, g) refl
 free_if : (c : ℕ) (cs : List ℕ) → is_keyword (c ∷ cs) ≡ false → eqb c 43 ≡ false → eqb c 61 ≡ false → eqb c 33 ≡ false
     → eqb c 60 ≡ false → eqb c 62 ≡ false
     → is_free (Plain (c ∷ cs)) ≡ true
-free_if c cs k p e n l g =
-    let o : op_in (c ∷ cs) ≡ None = rw (e, n, l, g) refl in
-    let q : bytes_eq (c ∷ cs) (codes "+=") ≡ false = rw p refl in
-    rw (k, q, o) refl
+free_if c cs k p e n l g = grind arith
 
 name_free_if : (bs : List ℕ) → begins_with_letter bs ≡ true → is_keyword bs ≡ false → is_free (Plain bs) ≡ true
 name_free_if [] l k = absurd cc
@@ -165,9 +158,7 @@ unfolding lib.Utf8.encode
 quote = (34 ∷ [], (refl, refl))
 
 escaped_line : (c : ℕ) (x y : Bool) → eqb c 34 ≡ x → eqb c 92 ≡ y → c ≢ 10 → HasNoNewline (escaped_byte c)
-escaped_line c true y p q n = rw p ((λ e. omega arith), (n, tt))
-escaped_line c false true p q n = rw (p, q) ((λ e. omega arith), (n, tt))
-escaped_line c false false p q n = rw (p, q) (n, tt)
+escaped_line c x y p q n = grind arith
 
 escaped_no_newline : (text : List ℕ) → has_newline text ≡ false → HasNoNewline (escaped text)
 escaped_no_newline [] e = tt
@@ -198,26 +189,20 @@ value_fine (values.Int z) h = number_fine z h
 value_fine (values.Text text) h = text_fine text h
 
 pub value_free : (v : Value) → IsValue v → is_free (value_word v) ≡ true
-value_free (values.Int z) h = number_free z h
-value_free (values.Text text) h = refl
+value_free v h = grind (arith, number_free)
 
 and_false : (b : Bool) → (b && false) ≡ false
-and_false true = refl
-and_false false = refl
+and_false b = grind arith
 
 none_behind : {A : Type 0} (p : A → Bool) (xs : List A) → NonePasses p xs → after_first p xs ≡ []
 none_behind p xs h = drop_all (position_or_len p xs + 1) xs (omega (arith, none_at p xs h))
 
 -- a value is never taken for a column
 no_column : (bytes : List ℕ) → NonePasses is_point bytes → spells_column bytes ≡ false
-no_column bytes h =
-    let b : behind_point bytes ≡ [] = none_behind is_point bytes h in
-    rw b (and_false (whole_digits (before_point bytes)))
+no_column bytes h = grind (arith, none_behind)
 
 pub value_names_no_column : (op : Op) (v : Value) → IsValue v → names_column op (value_word v) ≡ false
-value_names_no_column ops.Eq (values.Int z) h = no_column (signed_decimal z) (signed_no_point z h)
-value_names_no_column ops.Eq (values.Text text) h = refl
-value_names_no_column _ v h = refl
+value_names_no_column op v h = grind (arith, no_column, signed_no_point)
 
 -- ---- columns of uses
 
@@ -262,26 +247,17 @@ column_looks n name lt e =
     rw (a, c) refl
 
 whole_if : (ds : List ℕ) → 0 < length ds → list_all is_digit ds ≡ true → 48 < get_or ds 0 0 → whole_digits ds ≡ true
-whole_if [] some h first = absurd (omega arith)
-whole_if (c ∷ ds) some h first = let n : eqb c 48 ≡ false = ne_eqb c 48 (λ e. omega arith) in rw n h
+whole_if ds some h first = grind arith
 
 pub decimal_whole : (n : ℕ) → n < 2 ^ 63 → whole_digits (decimal n) ≡ true
 decimal_whole zero lt = rw (decimal_digit 0 (omega arith)) refl
 decimal_whole (suc n) lt = let d = decimal_parts (suc n) lt in whole_if (decimal (suc n)) d.some d.digits (first_decimal (suc n) (omega arith) (omega arith))
 
-whole_digit_first : (c : ℕ) (cs : List ℕ) → eqb c 45 ≡ false → whole_digits (c ∷ cs) ≡ true → is_whole (c ∷ cs) ≡ true
-whole_digit_first c cs n e = rw n e
-
 digits_whole : (ds : List ℕ) → list_all is_digit ds ≡ true → whole_digits ds ≡ true → is_whole ds ≡ true
-digits_whole [] d e = absurd cc
-digits_whole (c ∷ cs) d e = whole_digit_first c cs (ne_eqb c 45 (not_it is_digit c 45 refl (both_hold (is_digit c) (list_all is_digit cs) d).0)) e
+digits_whole ds d e = grind arith
 
 pub decimal_is_whole : (n : ℕ) → n < 2 ^ 63 → is_whole (decimal n) ≡ true
 decimal_is_whole n lt = digits_whole (decimal n) (decimal_parts n lt).digits (decimal_whole n lt)
 
 pub column_spelled : (n : ℕ) (name : List ℕ) → n < 2 ^ 63 → is_name name ≡ true → spells_column (decimal n ++ 46 ∷ name) ≡ true
-column_spelled n name lt e =
-    let a = before_is n name lt in
-    let b = behind_is n name lt in
-    let w = decimal_whole n lt in
-    rw (a, b, w, e) refl
+column_spelled n name lt e = grind (arith, before_is, behind_is, decimal_whole)
