@@ -10,7 +10,8 @@ module_went modules (D e) d same h = subst (λ n. contains modules n ≡ true) (
 module_went modules _ d same h = absurd h
 
 -- to a module to which a READ went
-went : (ts c : ℕ) (modules : List ℕ) (d : DmNo) (ms : List (Site × Msg)) → ReadsWent ts c modules ms → list_any (at_site (D d) (is_read ts c)) ms ≡ true
+went : (ts c : ℕ) (modules : List ℕ) (d : DmNo) (ms : List (Site × Msg)) → ReadsWent ts c modules ms
+    → list_any (at_site (D d) (is_read ts c)) ms ≡ true
     → contains modules d.0 ≡ true
 went ts c modules d [] h e = absurd (false≢true e)
 went ts c modules d (m ∷ ms) h e =
@@ -32,14 +33,16 @@ ready_awaited log c a d h f =
 
 -- the answers of an attempt, to which the message adds that of its module
 abbrev AllAnswered : ℕ → ℕ → List (Site × Msg) → Exchange → Type 0
-AllAnswered ts c handed x = (e : ℕ) → contains (modules_in x) e ≡ true → awaits_ready x e ≡ false → list_any (at_site (D (dm_no e)) (is_verdict ts c)) handed ≡ true
+AllAnswered ts c handed x = (e : ℕ) → contains (modules_in x) e ≡ true → awaits_ready x e ≡ false → list_any
+    (at_site (D (dm_no e)) (is_verdict ts c)) handed ≡ true
 
 by_now : (ts c : ℕ) (h : Site × Msg) (handed : List (Site × Msg)) (x : Exchange) → AllAnswered ts c handed x → AllAnswered ts c (h ∷ handed) x
 by_now ts c h handed x all e there w =
     or_right (at_site (D (dm_no e)) (is_verdict ts c) h) (list_any (at_site (D (dm_no e)) (is_verdict ts c)) handed) (all e there w)
 
 -- an answer in a later phase: no READY was awaited
-later_answered : (ts c d : ℕ) (h : Site × Msg) (handed : List (Site × Msg)) (b : Bool) (x y : Exchange) → (cond b (answered ts c d y) x).modules ≡ x.modules
+later_answered : (ts c d : ℕ) (h : Site × Msg) (handed : List (Site × Msg)) (b : Bool) (x y : Exchange)
+    → (cond b (answered ts c d y) x).modules ≡ x.modules
     → (b ≡ true → is_reading x.phase ≡ false) → AllAnswered ts c handed x → AllAnswered ts c (h ∷ handed) (cond b (answered ts c d y) x)
 later_answered ts c d h handed true x y same phase all e there w =
     let before : contains (modules_in x) e ≡ true = subst (λ (ms : List (ℕ × List ℕ)). contains (map (λ m. m.0) ms) e ≡ true) same there in
@@ -48,9 +51,11 @@ later_answered ts c d h handed true x y same phase all e there w =
 later_answered ts c d h handed false x y same phase all e there w = by_now ts c h handed x all e there w
 
 -- a READY: the others are awaited as before
-ready_answered : (ts c d : ℕ) (h : Site × Msg) (handed : List (Site × Msg)) (b : Bool) (x y : Exchange) → (cond b (answered ts c d y) x).modules ≡ x.modules
+ready_answered : (ts c d : ℕ) (h : Site × Msg) (handed : List (Site × Msg)) (b : Bool) (x y : Exchange)
+    → (cond b (answered ts c d y) x).modules ≡ x.modules
     → y.phase ≡ x.phase → y.lacks ≡ x.lacks
-    → (b ≡ true → at_site (D (dm_no d)) (is_verdict ts c) h ≡ true) → AllAnswered ts c handed x → AllAnswered ts c (h ∷ handed) (cond b (answered ts c d y) x)
+    → (b ≡ true → at_site (D (dm_no d)) (is_verdict ts c) h ≡ true) → AllAnswered ts c handed x → AllAnswered ts c
+    (h ∷ handed) (cond b (answered ts c d y) x)
 ready_answered ts c d h handed true x y same phase lacks verdict all e there w =
     let before : contains (modules_in x) e ≡ true = subst (λ (ms : List (ℕ × List ℕ)). contains (map (λ m. m.0) ms) e ≡ true) same there in
     let now : awaits_ready (lacking ts c y (without x.lacks d)) e ≡ false = subst (λ ls. awaits_ready (lacking ts c y (without ls d)) e ≡ false) lacks w in
@@ -78,7 +83,8 @@ of_rows s bases log from ts (Some a) rows h = h.awaited
 verdict_of : (d ts t c k : ℕ) → ((t == ts) && (k == c)) ≡ true → ((d == d) && ((t == ts) && (k == c))) ≡ true
 verdict_of d ts t c k h = and_from (d == d) ((t == ts) && (k == c)) (eq-eqb d d refl) h
 
-answers_now : (s : Setting) (bases : Bases) (log : Log) (c : ℕ) (d : DmNo) (m : Msg) (a : Attempt) → active s c log ≡ Some a → FitsAnswer s bases log (D d) m
+answers_now : (s : Setting) (bases : Bases) (log : Log) (c : ℕ) (d : DmNo) (m : Msg) (a : Attempt)
+    → active s c log ≡ Some a → FitsAnswer s bases log (D d) m
     → AllAnswered a.ts c (handed log) a.exchange → AllAnswered a.ts c ((D d, m) ∷ handed log) (after_hand a.ts c d.0 m a.exchange)
 answers_now s bases log c d (Ready t k counts) a is f all =
     ready_answered a.ts c d.0 (D d, Ready t k counts) (handed log) ((t.0 == a.ts) && (k.0 == c)) a.exchange
@@ -87,11 +93,13 @@ answers_now s bases log c d (Ready t k counts) a is f all =
 answers_now s bases log c d (Values t k u values) a is f all =
     later_answered a.ts c d.0 (D d, Values t k u values) (handed log) ((t.0 == a.ts) && (k.0 == c)) a.exchange
     (with_union a.exchange (with_values a.exchange.union values) (a.exchange.values + length values)) (modules_stay a.ts c d.0 (Values t k u values) a.exchange)
-    (λ e. fetching_not_reading u a.exchange.phase (of_class s log (fetches_use u) (D d) t.0 k.0 c a f (eqb-true k.0 c (and_parts (t.0 == a.ts) (k.0 == c) e).1) is).phase) all
+    (λ e. fetching_not_reading u a.exchange.phase
+    (of_class s log (fetches_use u) (D d) t.0 k.0 c a f (eqb-true k.0 c (and_parts (t.0 == a.ts) (k.0 == c) e).1) is).phase) all
 answers_now s bases log c d (Reduced t k u n) a is f all =
     later_answered a.ts c d.0 (D d, Reduced t k u n) (handed log) ((t.0 == a.ts) && (k.0 == c)) a.exchange
     (with_counts a.exchange (counted d.0 ((u, n) ∷ []) a.exchange.counts)) (modules_stay a.ts c d.0 (Reduced t k u n) a.exchange)
-    (λ e. reducing_not_reading u a.exchange.phase (of_class s log (reduces_use u) (D d) t.0 k.0 c a f (eqb-true k.0 c (and_parts (t.0 == a.ts) (k.0 == c) e).1) is).phase) all
+    (λ e. reducing_not_reading u a.exchange.phase
+    (of_class s log (reduces_use u) (D d) t.0 k.0 c a f (eqb-true k.0 c (and_parts (t.0 == a.ts) (k.0 == c) e).1) is).phase) all
 answers_now s bases log c d (Rows t k rows) a is f all =
     later_answered a.ts c d.0 (D d, Rows t k rows) (handed log) ((t.0 == a.ts) && (k.0 == c)) a.exchange
     (with_rows a.exchange (a.exchange.found ++ rows) (a.exchange.rows + length rows)) (modules_stay a.ts c d.0 (Rows t k rows) a.exchange)
@@ -100,7 +108,8 @@ answers_now s bases log c d (Rows t k rows) a is f all =
     (eqb-true k.0 c (and_parts (t.0 == a.ts) (k.0 == c) e).1) is).phase) all
 answers_now s bases log c d m a is f all = by_now a.ts c (D d, m) (handed log) a.exchange all
 
-asking_now : (s : Setting) (bases : Bases) (log : Log) (c : ℕ) (d : DmNo) (m : Msg) (a : Attempt) → active s c log ≡ Some a → FitsAnswer s bases log (D d) m
+asking_now : (s : Setting) (bases : Bases) (log : Log) (c : ℕ) (d : DmNo) (m : Msg) (a : Attempt)
+    → active s c log ≡ Some a → FitsAnswer s bases log (D d) m
     → IsAsking c (sent log) (handed log) a → (b : Bool)
     → IsAskingAt c (sent log) ((D d, m) ∷ handed log) (if b then None else Some (record a { exchange = after_hand a.ts c d.0 m a.exchange }))
 asking_now s bases log c d m a is f h true = tt
@@ -110,12 +119,14 @@ asking_now s bases log c d m a is f h false = record {
   answered = answers_now s bases log c d m a is f h.answered;
 }
 
-asking_still : (c : ℕ) (sent handed : List (Site × Msg)) (h : Site × Msg) (o : Option Attempt) → IsAskingAt c sent handed o → IsAskingAt c sent (h ∷ handed) o
+asking_still : (c : ℕ) (sent handed : List (Site × Msg)) (h : Site × Msg) (o : Option Attempt)
+    → IsAskingAt c sent handed o → IsAskingAt c sent (h ∷ handed) o
 asking_still c sent handed h None k = tt
 asking_still c sent handed h (Some a) k = record { asks = k.asks; reads = k.reads; answered = by_now a.ts c h handed a.exchange k.answered }
 
 asking_from : (s : Setting) (bases : Bases) (log : Log) (c : ℕ) (from : Site) (m : Msg) (o : Option Attempt) → active s c log ≡ o
-    → FitsAnswer s bases log from m → IsAskingAt c (sent log) (handed log) o → IsAskingAt c (sent log) ((from, m) ∷ handed log) (active_handed c from m o)
+    → FitsAnswer s bases log from m → IsAskingAt c (sent log) (handed log) o → IsAskingAt c (sent log)
+    ((from, m) ∷ handed log) (active_handed c from m o)
 asking_from s bases log c (D d) m (Some a) is f h = asking_now s bases log c d m a is f h (rejects m a.ts c)
 asking_from s bases log c (D d) m None is f h = tt
 asking_from s bases log c U m o is f h = asking_still c (sent log) (handed log) (U, m) o h
@@ -178,7 +189,8 @@ reads_to : (ts c : ℕ) (ds : List ℕ) (sends : List (Site × Msg)) → AreRead
 reads_to ts c ds [] h = tt
 reads_to ts c ds (m ∷ sends) h = (λ e. subst (IsModuleOf ds) (sym h.0.1) h.0.2, reads_to ts c ds sends h.1)
 
-all_awaited : (ms : List (ℕ × List ℕ)) (e : ℕ) → contains (map (λ m. m.0) ms) e ≡ true → (is_reading (first_phase ms) && contains (map (λ m. m.0) ms) e) ≡ true
+all_awaited : (ms : List (ℕ × List ℕ)) (e : ℕ) → contains (map (λ m. m.0) ms) e ≡ true
+    → (is_reading (first_phase ms) && contains (map (λ m. m.0) ms) e) ≡ true
 all_awaited [] e h = absurd (false≢true h)
 all_awaited (m ∷ ms) e h = h
 

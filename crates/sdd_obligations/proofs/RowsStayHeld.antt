@@ -19,7 +19,8 @@ answers_one : (ts c : ℕ) (b : Bool) (m : Msg) → answers ts c (if b then m �
 answers_one ts c false m = refl
 answers_one ts c true m = elim (is_answer ts c m) as (λ x. cond x (m ∷ []) [] ≡ (if x then m ∷ [] else [])) [ true ↦ refl | false ↦ refl ]
 
-one_told : (v : Turn) (ms : List Msg) (b x : Bool) (m : Msg) → ms ≡ (if b && x then m ∷ [] else []) → (x ≡ true → MayAnswer v m) → IsToldInTurn v ms
+one_told : (v : Turn) (ms : List Msg) (b x : Bool) (m : Msg) → ms ≡ (if b && x then m ∷ [] else [])
+    → (x ≡ true → MayAnswer v m) → IsToldInTurn v ms
 one_told v ms true true m e f = inr (m, e, f refl)
 one_told v ms _ _ m e f = inl e
 
@@ -48,7 +49,8 @@ all_named_in ns (u ∷ us) f =
     (row_named ns u.0 u.1 (f u.0 (or_left (u.0 == u.0) (contains (map (λ e. e.0) us) u.0) (same_number u.0))))
     (all_named_in ns us (λ n e. f n (or_right (u.0 == n) (contains (map (λ e. e.0) us) n) e)))
 
-held_named : (ts : ℕ) (ns : List ℕ) (f : Option Frozen) → AreHeldFor ts ns f → list_any (λ (r : ℕ × List Value). not (contains ns r.0)) (all_held f) ≡ false
+held_named : (ts : ℕ) (ns : List ℕ) (f : Option Frozen) → AreHeldFor ts ns f
+    → list_any (λ (r : ℕ × List Value). not (contains ns r.0)) (all_held f) ≡ false
 held_named ts ns None h = absurd h
 held_named ts ns (Some f) h = all_named_in ns f.uses (λ n e. subst (λ l. contains l n ≡ true) h.1 e)
 
@@ -65,8 +67,10 @@ uses_named c [] = refl
 uses_named c (u ∷ uses) = ap (λ l. u.number ∷ l) (uses_named c uses)
 
 -- an answer to rows is of the question
-may_reply : (ts : ℕ) (ns : List ℕ) (f : Option Frozen) (q m : Msg) → reply f q ≡ Some m → (is_a_ship q ≡ true → AreHeldFor ts ns f) → Replies ns q m
-may_reply ts ns f (Fetch t k u col) m e h = let p : Values t k u (values_in (rows_held u f) col) ≡ m = cc in subst (λ x. Replies ns (Fetch t k u col) x) p refl
+may_reply : (ts : ℕ) (ns : List ℕ) (f : Option Frozen) (q m : Msg) → reply f q ≡ Some m
+    → (is_a_ship q ≡ true → AreHeldFor ts ns f) → Replies ns q m
+may_reply ts ns f (Fetch t k u col) m e h = let p : Values t k u (values_in (rows_held u f) col) ≡ m = cc in
+    subst (λ x. Replies ns (Fetch t k u col) x) p refl
 may_reply ts ns f (Reduce t k u col vs) m e h =
     let p : Reduced t k u (length (rows_held u f)) ≡ m = cc in subst (λ x. Replies ns (Reduce t k u col vs) x) p refl
 may_reply ts ns f (Ship t k) m e h = let p : Rows t k (all_held f) ≡ m = cc in subst (λ x. Replies ns (Ship t k) x) p (held_named ts ns f (h refl))
@@ -88,9 +92,11 @@ asked_class : (ts c k : ℕ) (o : Open) → asks_rows ts c o.msg ≡ true → is
 asked_class ts c k o e f = class_of_asked ts c k o.msg e f
 
 pub tells_in_turn : (s : Setting) (ts c : ℕ) (at : Site) (log : Log) (act : Act) → IsHomeOf s c at → IsDataStep s log act → HasTurnAt ts c at log
-    → ((ns : List ℕ) → is_exchanging (turn_with ts c at log) ≡ true → uses_held (turn_with ts c at log) ≡ Some ns → AreHeldFor ts ns (frozen s c log))
+    → ((ns : List ℕ) → is_exchanging (turn_with ts c at log) ≡ true → uses_held
+    (turn_with ts c at log) ≡ Some ns → AreHeldFor ts ns (frozen s c log))
     → IsToldInTurn (turn_with ts c at log) (answers ts c (to_site at (sends_of_act act)))
-tells_in_turn s ts c at log act home i h held = data_step_way s log act (λ x. IsToldInTurn (turn_with ts c at log) (answers ts c (to_site at (sends_of_act x))))
+tells_in_turn s ts c at log act home i h held = data_step_way s log act
+    (λ x. IsToldInTurn (turn_with ts c at log) (answers ts c (to_site at (sends_of_act x))))
     (λ k txn attempt. inl refl)
     (λ k o m e r. one_told (turn_with ts c at log) _ (same_site at o.from) (is_answer ts c m) m (answers_one ts c (same_site at o.from) m)
     (λ x.
@@ -158,7 +164,8 @@ held_back _ m ns h e = absurd h
 abbrev pub IsHeldAt : Setting → ℕ → ℕ → Site → Log → Type 0
 IsHeldAt s ts c at log = (ns : List ℕ) → uses_held (turn_with ts c at log) ≡ Some ns → AreHeldFor ts ns (frozen s c log)
 
-held_if_asked : (b : Bool) (v : Turn) (m : Msg) (ns : List ℕ) → (b ≡ true → MayAsk v m) → uses_held (if b then turn_after_question m v else v) ≡ Some ns
+held_if_asked : (b : Bool) (v : Turn) (m : Msg) (ns : List ℕ) → (b ≡ true → MayAsk v m)
+    → uses_held (if b then turn_after_question m v else v) ≡ Some ns
     → uses_held v ≡ Some ns
 held_if_asked true v m ns f e = held_back v m ns (f refl) e
 held_if_asked false v m ns f e = e
@@ -182,7 +189,8 @@ given_is c (Rows t k rows) f = refl
 given_is c _ f = refl
 
 -- ROWS answer the SHIP of an attempt
-gave_up : (c : ℕ) (f : Option Frozen) (q m : Msg) → reply f q ≡ Some m → gives_up c m ≡ true → (t : ℕ) × (asks_rows t c q ≡ true) × (is_a_ship q ≡ true)
+gave_up : (c : ℕ) (f : Option Frozen) (q m : Msg) → reply f q ≡ Some m → gives_up c m ≡ true
+    → (t : ℕ) × (asks_rows t c q ≡ true) × (is_a_ship q ≡ true)
 unfolding gives_up
 gave_up c f (Fetch t k u col) m e g = let p : Values t k u (values_in (rows_held u f) col) ≡ m =
     cc in let z : gives_up c (Values t k u (values_in (rows_held u f) col)) ≡ true =
@@ -195,9 +203,11 @@ gave_up c f (Ship t k) m e g =
     (t.0, both (t.0 == t.0) (k.0 == c) (same_number t.0) z, refl)
 gave_up c f q m e g = cc
 
-ship_told : (v : Turn) (ns ms : List ℕ) (q m : Msg) → v ≡ Asks ns q → is_a_ship q ≡ true → is_a_refusal m ≡ false → uses_held (turn_after_answer m v) ≡ Some ms → ⊥
+ship_told : (v : Turn) (ns ms : List ℕ) (q m : Msg) → v ≡ Asks ns q → is_a_ship q ≡ true → is_a_refusal m ≡ false
+    → uses_held (turn_after_answer m v) ≡ Some ms → ⊥
 ship_told v ns ms q m e f g h =
-    let z : ◌≡◌ {A = Option (List ℕ)} None (Some ms) = sym (ap uses_held (told_is v ns q m e g) ∙ ap (λ (b : Bool). if b then None else Some ns) f) ∙ h in cc
+    let z : ◌≡◌ {A = Option (List ℕ)} None (Some ms) = sym
+    (ap uses_held (told_is v ns q m e g) ∙ ap (λ (b : Bool). if b then None else Some ns) f) ∙ h in cc
 
 not_ship : (b : Bool) (ms ns : List ℕ) → (if b then None else Some ms) ≡ Some ns → Some ms ≡ Some ns
 not_ship true ms ns e = cc
@@ -240,7 +250,8 @@ held_replies s ts c at log k o m alone e r h ns z =
     elim (same_site at o.from && is_answer ts c m) as (λ b. (same_site at o.from && is_answer ts c m) ≡ b
     → uses_held (if b then turn_after_answer m v else v) ≡ Some ns → uses_held v ≡ Some ns) [
       | true ↦ λ b x.
-          (let q : asks_rows ts c o.msg ≡ true = sym (reply_answers ts c (frozen s k log) o.msg m r) ∙ and_right (same_site at o.from) (is_answer ts c m) b in
+          (let q : asks_rows ts c o.msg ≡ true = sym (reply_answers ts c (frozen s k log) o.msg m r)
+          ∙ and_right (same_site at o.from) (is_answer ts c m) b in
           let u = asked_rows ts c at log v k o (alone.has ts) e q in
           told_back v m ns (ap asks_a_read u.is ∙ asks_no_a_read ts c o.msg q) x)
       | false ↦ λ b x. x
@@ -257,7 +268,8 @@ held_replies s ts c at log k o m alone e r h ns z =
           subst (λ (b : Bool). uses_held (if b then turn_after_answer m v else v) ≡ Some ns)
           (both (same_site at o.from) (is_answer ts c m) here (reply_answers ts c (frozen s k log) o.msg m r ∙ q)) now in
           absurd (ship_told v u.uses ns o.msg m u.is y.2 (reply_no_refusal (frozen s k log) o.msg m r) told_now))
-      | false ↦ λ g. subst (AreHeldFor ts ns) (sym (given_is c m (frozen s c log) ∙ ap (λ (b : Bool). if b then None else frozen s c log) g)) (h ns before)
+      | false ↦ λ g. subst (AreHeldFor ts ns)
+          (sym (given_is c m (frozen s c log) ∙ ap (λ (b : Bool). if b then None else frozen s c log) g)) (h ns before)
     ] refl
 
 -- a record that freezes nothing
@@ -281,8 +293,11 @@ some_is a b e = cc
 
 -- the READ of the attempt is answered, or one of another
 held_answers : (s : Setting) (ts c : ℕ) (at : Site) (log : Log) (k : ℕ) (t : Ts) (j : ClassNo) (txn : TxnNo) (attempt : ℕ) (conds : List Cond) (uses : List Use)
-    → IsHomeOf s c at → IsAlone s ts c at log → IsClassHere s k → head (pipe k log) ≡ Some (Read t j txn attempt conds uses) → IsHeldAt s ts c at log
-    → IsHeldAt s ts c at (Did (Records k (Answer txn attempt (home_of s).dm) ((source_of (home_of s) k, Ready t j (counts_told s log t.0 uses)) ∷ [])) ∷ log)
+    → IsHomeOf s c at → IsAlone s ts c at log → IsClassHere s k → head (pipe k log) ≡ Some
+    (Read t j txn attempt conds uses) → IsHeldAt s ts c at log
+    → IsHeldAt s ts c at (Did
+    (Records k (Answer txn attempt (home_of s).dm)
+    ((source_of (home_of s) k, Ready t j (counts_told s log t.0 uses)) ∷ [])) ∷ log)
 held_answers s ts c at log k t j txn attempt conds uses home alone l e h ns z =
     let v : Turn = turn_with ts c at log in
     let m : Msg = Read t j txn attempt conds uses in
@@ -306,7 +321,8 @@ held_answers s ts c at log k t j txn attempt conds uses home alone l e h ns z =
           subst (AreHeldFor ts ns) (sym rows) (eqb-true t.0 ts (and_left (t.0 == ts) (j.0 == c) q), uses_named (copies (dated s log)) uses ∙ own ∙ same))
       | false ↦ λ q.
           (let before : uses_held v ≡ Some ns =
-          subst (λ (b : Bool). uses_held (if b then turn_after_answer x v else v) ≡ Some ns) (ap (λ b. same_site at src && b) q ∙ and_no (same_site at src)) now in
+          subst (λ (b : Bool). uses_held (if b then turn_after_answer x v else v) ≡ Some ns)
+          (ap (λ b. same_site at src && b) q ∙ and_no (same_site at src)) now in
           elim (same_or_not k c) [
             | inl p ↦ never (is_read ts c m) (alone.no_read ns before m (subst (λ n. head (pipe n log) ≡ Some m) p e) refl) q
             | inr p ↦ subst (AreHeldFor ts ns) (sym (other_frozen s c k log (Answer txn attempt (home_of s).dm) ((src, x) ∷ []) p)) (h ns before)
@@ -316,7 +332,8 @@ held_answers s ts c at log k t j txn attempt conds uses home alone l e h ns z =
 -- or rejected
 held_refuses : (s : Setting) (ts c : ℕ) (at : Site) (log : Log) (k : ℕ) (t : Ts) (j : ClassNo) (txn : TxnNo)
     (attempt : ℕ) (conds : List Cond) (uses : List Use) (by : ClassNo) (write : Ts)
-    → IsHomeOf s c at → IsAlone s ts c at log → IsClassHere s k → head (pipe k log) ≡ Some (Read t j txn attempt conds uses) → IsHeldAt s ts c at log
+    → IsHomeOf s c at → IsAlone s ts c at log → IsClassHere s k → head (pipe k log) ≡ Some
+    (Read t j txn attempt conds uses) → IsHeldAt s ts c at log
     → IsHeldAt s ts c at (Did (Records k (Rejected txn attempt (home_of s).dm by write) ((source_of (home_of s) k, Reject t j by write) ∷ [])) ∷ log)
 held_refuses s ts c at log k t j txn attempt conds uses by write home alone l e h ns z =
     let v : Turn = turn_with ts c at log in
@@ -336,7 +353,8 @@ held_refuses s ts c at log k t j txn attempt conds uses by write home alone l e 
           let none : ◌≡◌ {A = Option (List ℕ)} None (Some ns) = sym (ap (λ y. uses_held (turn_after_answer x y)) w.is) ∙ told_now in cc)
       | false ↦ λ q.
           (let before : uses_held v ≡ Some ns =
-          subst (λ (b : Bool). uses_held (if b then turn_after_answer x v else v) ≡ Some ns) (ap (λ b. same_site at src && b) q ∙ and_no (same_site at src)) now in
+          subst (λ (b : Bool). uses_held (if b then turn_after_answer x v else v) ≡ Some ns)
+          (ap (λ b. same_site at src && b) q ∙ and_no (same_site at src)) now in
           subst (AreHeldFor ts ns) (sym (same_frozen s c k log (Rejected txn attempt (home_of s).dm by write) ((src, x) ∷ []) refl)) (h ns before))
     ] refl
 
