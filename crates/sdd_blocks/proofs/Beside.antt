@@ -1,5 +1,5 @@
 -- The other ends of linked edges at a node are joined without it.
-use Rattle.sdd_blocks.proofs.All.{JoinedWithout, Joins, Linked, List, Neighbours, cases_eq, inl, inr, last, more, subst, sym, ℕ, ◌∙◌, ◌≢◌}
+use Rattle.sdd_blocks.proofs.All.{JoinedWithout, Joins, Linked, List, Neighbours, arith, cases_eq, inl, inr, last, more, sym, ℕ, ◌∙◌, ◌≢◌}
 use Rattle.sdd_blocks.proofs.Walks.{joins_back}
 use Rattle.sdd_blocks.proofs.Joined.{joined_self, joined_edge, joined_on, joined_back}
 use Rattle.sdd_blocks.proofs.Cycles.{same_ends}
@@ -16,20 +16,15 @@ module _ (edges : List (ℕ × ℕ)) (a x : ℕ) where
   meet_beside j k b one other f g around beside p q h n =
       elim (cases_eq b a) [
         | inl e ↦
-            let one_apart : one ≢ a = λ d. around.avoids (inl (d ∙ sym e)) in
-            let from_one = beside one b (joins_back edges j b one f) one_apart in
-            let around_a : JoinedWithout edges a one other = subst (λ z. JoinedWithout edges z one other) e around in
+            let from_one = beside one b (joins_back edges j b one f) (λ d. around.avoids (inl (d ∙ sym e))) in
             elim (same_ends edges k p q b other h g) [
               | inl d ↦ absurd (n (d.0 ∙ e))
-              | inr d ↦ subst (λ z. JoinedWithout edges a z x) (sym d.0) (joined_on edges a other one x (joined_back edges a one other around_a) from_one)
+              | inr d ↦ rw d.0 (joined_on edges a other one x (joined_back edges a one other (rw e at around)) from_one)
             ]
         | inr m ↦
-            let from_b = beside b one f m in
             elim (same_ends edges k p q b other h g) [
-              | inl d ↦ subst (λ z. JoinedWithout edges a z x) (sym d.0) from_b
-              | inr d ↦
-                  let edge = joined_edge edges a k p b (subst (λ z. Joins edges k p z) d.1 h) n m in
-                  joined_on edges a p b x edge from_b
+              | inl d ↦ rw d.0 (beside b one f m)
+              | inr d ↦ joined_on edges a p b x (joined_edge edges a k p b (rw d.1 at h) n m) (beside b one f m)
             ]
       ]
 
@@ -50,9 +45,5 @@ module _ (edges : List (ℕ × ℕ)) (a x : ℕ) where
 pub linked_around : (edges : List (ℕ × ℕ)) (a j x k y : ℕ) → Linked edges j k → Joins edges j a x
     → x ≢ a → Joins edges k a y → y ≢ a → JoinedWithout edges a x y
 linked_around edges a j x k y h f n g m =
-    let here : IsBeside edges a x j =
-    λ p q d e. elim (same_ends edges j p q a x d f) [
-      | inl s ↦ absurd (e s.0)
-      | inr s ↦ subst (λ z. JoinedWithout edges a z x) (sym s.0) (joined_self edges a x n)
-    ] in
+    let here : IsBeside edges a x j = grind (arith, same_ends, joined_self) in
     joined_back edges a y x (linked_beside edges a x j k h here y a (joins_back edges k a y g) m)

@@ -1,5 +1,5 @@
 -- The edges of one simple cycle have one block number, which is not 0.
-use Rattle.sdd_blocks.proofs.All.{AreBlocks, Has, HaveNumber, IsSimpleCycle, IsWalk, List, OneNumberACycle, ShareACycle, Some, Step, [], ap, arith, edges_of, inl, inr, last, length, refl, slice_get, slice_get-get_or, slice_index, subst, ℕ, ◌<◌, ◌∙◌, ◌∷◌, ◌≡◌, ◌≢◌}
+use Rattle.sdd_blocks.proofs.All.{AreBlocks, Has, HaveNumber, IsSimpleCycle, IsWalk, List, OneNumberACycle, Some, Step, [], ap, arith, edges_of, inl, inr, last, length, refl, slice_get, slice_get-get_or, slice_index, subst, ℕ, ◌<◌, ◌∙◌, ◌∷◌, ◌≡◌, ◌≢◌}
 use Rattle.sdd_blocks.proofs.Classes.{joins_within}
 
 -- the edges of a walk are edges of the graph
@@ -14,23 +14,16 @@ module _ (edges : List (ℕ × ℕ)) (blocks : List ℕ) (are : AreBlocks edges 
   where
     -- an edge of the cycle has a number
     number_at : (k : ℕ) → Has (edges_of steps) k → slice_get blocks k ≡ Some (slice_index blocks k)
-    number_at k h =
-        slice_get-get_or blocks k 0
-        (let l = walk_within edges start steps start k cycle.closed h in omega (arith, are.one_each))
-
-    share : (j k : ℕ) → Has (edges_of steps) j → Has (edges_of steps) k → ShareACycle edges j k
-    share j k h g = record { start = start; steps = steps; cycle = cycle; first = h; second = g }
+    number_at k h = grind (arith, slice_get-get_or, walk_within)
 
     -- it isn't 0
     pub not_zero_on_cycle : (k : ℕ) → Has (edges_of steps) k → slice_index blocks k ≢ 0
-    not_zero_on_cycle k h z = are.none k (subst (λ n. slice_get blocks k ≡ Some n) z (number_at k h)) (share k k h h)
+    not_zero_on_cycle k h z = are.none k (subst (λ n. slice_get blocks k ≡ Some n) z (number_at k h)) (record { start = start; steps = steps; cycle = cycle; first = h; second = h })
 
     -- two edges of the cycle have one
     pub same_on_cycle : (j k : ℕ) → Has (edges_of steps) j → Has (edges_of steps) k
         → slice_index blocks j ≡ slice_index blocks k
-    same_on_cycle j k h g =
-        (are.same j k (slice_index blocks j) (slice_index blocks k) (number_at j h) (number_at k g)
-        (not_zero_on_cycle j h)).1 (last (share j k h g))
+    same_on_cycle j k h g = grind (arith, slice_index, number_at, not_zero_on_cycle, last)
 
     -- the number of an edge of the cycle is that of all
     number_of_all : (j : ℕ) → Has (edges_of steps) j → HaveNumber blocks steps (slice_index blocks j)

@@ -1,5 +1,5 @@
 -- Nodes joined by walks that do not meet one node.
-use Rattle.sdd_blocks.proofs.All.{Has, JoinedWithout, Joins, List, [], arith, inl, inr, nat_tests, nodes_of, refl, ℕ, ◌++◌, ◌∷◌, ◌≢◌}
+use Rattle.sdd_blocks.proofs.All.{JoinedWithout, Joins, List, [], arith, inl, inr, nat_tests, refl, ℕ, ◌++◌, ◌∷◌, ◌≢◌}
 use Rattle.sdd_blocks.proofs.Members.{has_append_cases}
 use Rattle.sdd_blocks.proofs.Walks.{walk_append, nodes_of-append, walk_back}
 
@@ -10,11 +10,7 @@ joined_self edges w a n = record { steps = []; walk = refl; avoids = λ m. elim 
 -- an edge joins its ends
 pub joined_edge : (edges : List (ℕ × ℕ)) (w k a b : ℕ) → Joins edges k a b → a ≢ w → b ≢ w → JoinedWithout edges w a b
 joined_edge edges w k a b j n m =
-    record {
-      steps = record { edge = k; to = b } ∷ [];
-      walk = (j, refl);
-      avoids = λ h. elim h [ inl e ↦ n e | inr p ↦ elim p [ inl e ↦ m e | inr x ↦ x ] ];
-    }
+    record { steps = record { edge = k; to = b } ∷ []; walk = (j, refl); avoids = grind (arith, nat_tests) }
 
 -- walks without a node follow one another
 pub joined_on : (edges : List (ℕ × ℕ)) (w a b c : ℕ) → JoinedWithout edges w a b
@@ -23,12 +19,7 @@ joined_on edges w a b c p q =
     record {
       steps = p.steps ++ q.steps;
       walk = walk_append edges a p.steps b q.steps c p.walk q.walk;
-      avoids = λ h. elim h [
-        | inl e ↦ p.avoids (inl e)
-        | inr m ↦
-            let m' : Has (nodes_of p.steps ++ nodes_of q.steps) w = rw (nodes_of-append p.steps q.steps) at m in
-            elim (has_append_cases (nodes_of p.steps) (nodes_of q.steps) w m') [ inl x ↦ p.avoids (inr x) | inr x ↦ q.avoids (inr x) ]
-      ];
+      avoids = grind (arith, nat_tests, nodes_of-append, has_append_cases);
     }
 
 -- a walk without a node turned round is one without it

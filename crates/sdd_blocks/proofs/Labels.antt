@@ -1,15 +1,13 @@
 -- The labels of the roots become those of the components, one edge after the other.
 use Rattle.sdd_blocks.proofs.All.{All, AreComponents, AreJoined, AreRoots, Has, IsForest, IsWalk, JoinedWithout, Joins, List, Some, Step, [], ap, arith, cases_lt, get_or-range_with_len, get_or_from_slice_get, inl, inr, length, nat_tests, nodes_of, range_with_len, slice_get, slice_get_within, slice_index, some_pair_parts, subst, sym, ℕ, ◌+◌, ◌<◌, ◌∙◌, ◌∷◌, ◌≡◌, ◌≢◌, ◌≤◌, ◌⊎◌}
-use Rattle.sdd_blocks.proofs.Walks.{joins_back}
-use Rattle.sdd_blocks.proofs.Joined.{joined_self, joined_edge, joined_on}
+use Rattle.sdd_blocks.proofs.Joined.{joined_self, joined_edge, joined_on, joined_back}
 
 -- the ends of an edge of the list are nodes, where those of all edges are
 pub ends_within : (edges : List (ℕ × ℕ)) (nodes : ℕ)
     → All (λ e. (e.0 < nodes) × (e.1 < nodes)) edges → (k a b : ℕ) → slice_get edges k ≡ Some (a, b)
     → (a < nodes) × (b < nodes)
 ends_within edges nodes ends k a b e =
-    let h = slice_get_within edges k (a, b) e in
-    subst (λ z. (z.0 < nodes) × (z.1 < nodes)) (get_or_from_slice_get edges k (a, b) (a, b) e) (ends k (a, b) h)
+    subst (λ z. (z.0 < nodes) × (z.1 < nodes)) (get_or_from_slice_get edges k (a, b) (a, b) e) (ends k (a, b) (slice_get_within edges k (a, b) e))
 
 -- the labels after the first edges: equal labels are joined, and the ends of these edges have equal labels
 pub record AreLabelsSoFar (edges : List (ℕ × ℕ)) (without nodes : ℕ) (parents : List ℕ) (count : ℕ) : Type 0 where
@@ -38,25 +36,12 @@ module _ (edges : List (ℕ × ℕ)) (without nodes x y k : ℕ) (j : Joins edge
     (x_within : x < nodes) (y_within : y < nodes) (before after : List ℕ) (n : length before ≡ nodes) (joined : AreJoined x y before after)
     (sound : (a b : ℕ) → a < nodes → b < nodes → a ≢ without → b ≢ without
     → slice_index before a ≡ slice_index before b → JoinedWithout edges without a b) where
-  -- nodes with the two labels that became one are joined by way of the edge
-  by_the_edge : (a b : ℕ) → a < nodes → b < nodes → a ≢ without → b ≢ without
-      → slice_index before a ≡ joined.old → slice_index before b ≡ joined.new
-      → JoinedWithout edges without a b × JoinedWithout edges without b a
-  by_the_edge a b h g p q d e =
-      elim joined.of_both [
-        | inl o ↦ (
-          joined_on edges without a x b (sound a x h x_within p x_other (d ∙ o.0))
-              (joined_on edges without x y b (joined_edge edges without k x y j x_other y_other) (sound y b y_within g y_other q (sym o.1 ∙ sym e))),
-          joined_on edges without b y a (sound b y g y_within q y_other (e ∙ o.1))
-              (joined_on edges without y x a (joined_edge edges without k y x (joins_back edges k x y j) y_other x_other) (sound x a x_within h x_other p (sym o.0 ∙ sym d))),
-        )
-        | inr o ↦ (
-          joined_on edges without a y b (sound a y h y_within p y_other (d ∙ o.0))
-              (joined_on edges without y x b (joined_edge edges without k y x (joins_back edges k x y j) y_other x_other) (sound x b x_within g x_other q (sym o.1 ∙ sym e))),
-          joined_on edges without b x a (sound b x g x_within q x_other (e ∙ o.1))
-              (joined_on edges without x y a (joined_edge edges without k x y j x_other y_other) (sound y a y_within h y_other p (sym o.0 ∙ sym d))),
-        )
-      ]
+  -- nodes with the labels of the two ends are joined by way of the edge
+  way : (a b : ℕ) → a < nodes → b < nodes → a ≢ without → b ≢ without → slice_index before a ≡ slice_index before x
+      → slice_index before y ≡ slice_index before b → JoinedWithout edges without a b
+  way a b h g p q d e =
+      joined_on edges without a x b (sound a x h x_within p x_other d)
+      (joined_on edges without x y b (joined_edge edges without k x y j x_other y_other) (sound y b y_within g y_other q e))
 
   -- a label after the edge: the new one in place of the old one, or what it was
   label_cases : (a : ℕ) → a < nodes
@@ -71,10 +56,16 @@ module _ (edges : List (ℕ × ℕ)) (without nodes x y k : ℕ) (j : Joins edge
       elim (label_cases a h) [
         | inl c ↦ elim (label_cases b g) [
           | inl d ↦ sound a b h g p q (c.0 ∙ sym d.0)
-          | inr d ↦ (by_the_edge a b h g p q c.0 (sym d.1 ∙ sym e ∙ c.1)).0
+          | inr d ↦ elim joined.of_both [
+            | inl o ↦ way a b h g p q (c.0 ∙ o.0) (sym o.1 ∙ sym c.1 ∙ e ∙ d.1)
+            | inr o ↦ joined_back edges without b a (way b a g h q p (sym d.1 ∙ sym e ∙ c.1 ∙ o.1) (sym o.0 ∙ sym c.0))
+          ]
         ]
         | inr c ↦ elim (label_cases b g) [
-          | inl d ↦ (by_the_edge b a g h q p d.0 (sym c.1 ∙ e ∙ d.1)).1
+          | inl d ↦ elim joined.of_both [
+            | inl o ↦ joined_back edges without b a (way b a g h q p (d.0 ∙ o.0) (sym o.1 ∙ sym d.1 ∙ sym e ∙ c.1))
+            | inr o ↦ way a b h g p q (sym c.1 ∙ e ∙ d.1 ∙ o.1) (sym o.0 ∙ sym d.0)
+          ]
           | inr d ↦ sound a b h g p q (sym c.1 ∙ e ∙ d.1)
         ]
       ]
@@ -97,9 +88,8 @@ pub edge_joined : (edges : List (ℕ × ℕ)) (without nodes : ℕ) (parents nex
     → AreLabelsSoFar edges without nodes next (count + 1)
 edge_joined edges without nodes parents next count x y s ends e p q n f joins =
     let j = joins s.labels s.roots in
-    let many : length s.labels ≡ nodes = s.roots.one_each ∙ s.one_each in
-    let within : (k a b : ℕ) → slice_get edges k ≡ Some (a, b) → (a < nodes) × (b < nodes) = ends_within edges nodes ends in
-    let here = within count x y e in
+    let many = s.roots.one_each ∙ s.one_each in
+    let here = ends_within edges nodes ends count x y e in
     record {
       one_each = n ∙ s.one_each;
       forest = f;
@@ -108,13 +98,12 @@ edge_joined edges without nodes parents next count x y s ends e p q n f joins =
       sound = sound_after edges without nodes x y count (inl e) p q here.0 here.1 s.labels j.0 many j.2 s.sound;
       whole = λ k a b h g u v. elim (cases_lt k count) [
         | inl l ↦
-            let there = within k a b g in
+            let there = ends_within edges nodes ends k a b g in
             kept_after edges without nodes x y count (inl e) p q here.0 here.1 s.labels j.0 many j.2 s.sound a b there.0 there.1 (s.whole k a b l g u v)
         | inr l ↦
             let at : k ≡ count = omega arith in
             let same = some_pair_parts a x b y (sym g ∙ ap (λ z. slice_get edges z) at ∙ e) in
-            let ends' = ends_after edges without nodes x y count (inl e) p q here.0 here.1 s.labels j.0 many j.2 s.sound in
-            ap (λ z. slice_index j.0 z) same.0 ∙ ends' ∙ ap (λ z. slice_index j.0 z) (sym same.1)
+            rw (same.0, same.1) (ends_after edges without nodes x y count (inl e) p q here.0 here.1 s.labels j.0 many j.2 s.sound)
       ];
     }
 
@@ -124,17 +113,11 @@ walk_label : (edges : List (ℕ × ℕ)) (without : ℕ) (labels : List ℕ)
     → (a : ℕ) (steps : List Step) (b : ℕ) → IsWalk edges a steps b → (¬ Has (a ∷ nodes_of steps) without)
     → slice_index labels a ≡ slice_index labels b
 walk_label edges without labels whole a [] b w away = ap (λ z. slice_index labels z) w
-walk_label edges without labels whole a (s ∷ steps) b w away =
-    let from : a ≢ without = λ e. away (inl e) in
-    let to : s.to ≢ without = λ e. away (inr (inl e)) in
-    let one : slice_index labels a ≡ slice_index labels s.to =
-    elim w.0 [ inl e ↦ whole s.edge a s.to e from to | inr e ↦ sym (whole s.edge s.to a e to from) ] in
-    one ∙ walk_label edges without labels whole s.to steps b w.1 (λ h. away (inr h))
+walk_label edges without labels whole a (s ∷ steps) b w away = grind (arith, slice_index, (walk_label edges without labels whole s.to steps b w.1 (λ h. away (inr h))))
 
 -- after all edges the labels are those of the components
 pub components_done : (edges : List (ℕ × ℕ)) (without nodes : ℕ) (parents : List ℕ) (count : ℕ) (found : List ℕ)
     → AreLabelsSoFar edges without nodes parents count → length edges ≤ count
     → All (λ label. label < length parents) found → ((labels : List ℕ) → AreRoots parents labels → found ≡ labels)
     → (length found ≡ nodes) × AreComponents edges without found
-components_done edges without nodes parents count found s done below is_labels =
-    grind (arith, nat_tests, walk_label, slice_get_within)
+components_done edges without nodes parents count found s done below is_labels = grind (arith, walk_label, slice_get_within)

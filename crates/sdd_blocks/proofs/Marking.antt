@@ -1,5 +1,5 @@
 -- Marks for the members of pairs, one pair after the other.
-use Rattle.sdd_blocks.proofs.All.{All, AreMarked, IsPaired, Joins, List, Some, ap, arith, cases_lt, get_or, get_or_default, get_or_from_slice_get, inl, inr, length, length-set, nat_tests, refl, set, slice_get, slice_get_within, slice_index, some_pair_parts, subst, suc, sym, zero, ℕ, ◌+◌, ◌<◌, ◌∙◌, ◌≡◌, ◌≤◌}
+use Rattle.sdd_blocks.proofs.All.{All, AreMarked, IsPaired, Joins, List, Some, ap, arith, cases_lt, get_or, get_or_default, get_or_from_slice_get, inl, inr, length, length-set, nat_tests, refl, set, slice_get, slice_get_within, slice_index, some_pair_parts, suc, sym, zero, ℕ, ◌+◌, ◌<◌, ◌∙◌, ◌≡◌, ◌≤◌}
 use Rattle.sdd_blocks.proofs.Places.{read_set}
 
 -- the members of the first pairs have marks of their labels, and all others have 0
@@ -19,7 +19,7 @@ pub pair_marked : (pairs : List (ℕ × ℕ)) (labels marks : List ℕ) (count a
     → IsMarkingAt pairs labels (set (set marks a (slice_index labels a + 1)) b (slice_index labels b + 1)) (count + 1)
 pair_marked pairs labels marks count a b s here a_within b_within =
     let once = set marks a (slice_index labels a + 1) in
-    let once_length : length once ≡ length marks = length-set marks a (slice_index labels a + 1) in
+    let once_length = length-set marks a (slice_index labels a + 1) in
     let in_once : b < length once = omega (arith, s.one_each) in
     let in_marks : a < length marks = omega (arith, s.one_each) in
     record {
@@ -31,26 +31,15 @@ pair_marked pairs labels marks count a b s here a_within b_within =
               | inl f ↦ absurd (omega (arith, d.1, f.1, e))
               | inr f ↦ elim (cases_lt i count) [
                 | inl l ↦ s.off k (sym f.1 ∙ sym d.1 ∙ e) i j l m
-                | inr l ↦
-                    let at : i ≡ count = omega arith in
-                    elim (subst (λ z. Joins pairs z k j) at m) [
-                      | inl g ↦ f.0 (some_pair_parts k a j b (sym g ∙ here)).0
-                      | inr g ↦ d.0 (some_pair_parts j a k b (sym g ∙ here)).1
-                    ]
+                | inr l ↦ grind (arith, nat_tests, some_pair_parts)
               ]
             ]
           ];
       on = λ k x e.
           elim (read_set once b (slice_index labels b + 1) k 0 in_once) [
-            | inl d ↦ (
-              ap (λ z. slice_index labels z) d.0 ∙ omega (arith, d.1, e),
-              subst (λ z. IsPaired pairs z) (sym d.0) (count, a, inr here),
-            )
+            | inl d ↦ (ap (λ z. slice_index labels z) d.0 ∙ omega (arith, d.1, e), rw d.0 (count, a, inr here))
             | inr d ↦ elim (read_set marks a (slice_index labels a + 1) k 0 in_marks) [
-              | inl f ↦ (
-                ap (λ z. slice_index labels z) f.0 ∙ omega (arith, d.1, f.1, e),
-                subst (λ z. IsPaired pairs z) (sym f.0) (count, b, inl here),
-              )
+              | inl f ↦ (ap (λ z. slice_index labels z) f.0 ∙ omega (arith, d.1, f.1, e), rw f.0 (count, b, inl here))
               | inr f ↦ s.on k x (sym f.1 ∙ sym d.1 ∙ e)
             ]
           ];
@@ -80,6 +69,5 @@ pub marks_below : (pairs : List (ℕ × ℕ)) (labels marks : List ℕ) (count :
     → IsMarkingAt pairs labels marks count → All (λ label. label < length labels) labels
     → All (λ mark. mark < length labels + 1) marks
 marks_below pairs labels marks count s below k d h =
-    let same : get_or marks k d ≡ get_or marks k 0 = get_or_default marks k d 0 h in
     let l = mark_below pairs labels marks count s below k (omega (arith, s.one_each)) (get_or marks k 0) refl in
-    omega (arith, same)
+    omega (arith, (get_or_default marks k d 0 h))

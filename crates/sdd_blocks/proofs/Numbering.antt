@@ -1,5 +1,5 @@
 -- Numbers for marks, one mark after the other.
-use Rattle.sdd_blocks.proofs.All.{AreNumbered, List, Some, [], ap, arith, cases_eq, cases_lt, get_or, get_or-set_same, get_or_append_left, get_or_from_slice_get, get_or_push, inl, inr, length, length_push, nat_tests, refl, set, slice_get, slice_get-get_or, slice_get_within, subst, suc, sym, ℕ, ◌++◌, ◌+◌, ◌<◌, ◌∙◌, ◌∷◌, ◌≡◌, ◌≢◌, ◌≤◌}
+use Rattle.sdd_blocks.proofs.All.{AreNumbered, List, Some, [], ap, arith, cases_eq, cases_lt, get_or, get_or-set_same, get_or_append_left, get_or_from_slice_get, get_or_push, inl, inr, length, length_push, nat_tests, set, slice_get, slice_get-get_or, slice_get_within, suc, sym, ℕ, ◌++◌, ◌+◌, ◌<◌, ◌∙◌, ◌∷◌, ◌≡◌, ◌≢◌, ◌≤◌}
 use Rattle.sdd_blocks.proofs.Places.{read_set}
 
 -- the first marks have numbers up to `last`, as given for each mark
@@ -46,27 +46,20 @@ module _ (marks given numbers : List ℕ) (last count : ℕ) (s : IsNumberingAt 
       let n = get_or given (get_or marks count 0) 0 in
       record {
         one_each = length_push numbers n ∙ ap (λ z. z + 1) s.one_each;
-        few = let l = s.few in omega arith;
+        few = omega (arith, s.few);
         zero_given = s.zero_given;
         bounded = s.bounded;
         distinct = s.distinct;
-        number_is = λ k h. elim (cases_lt k count) [
-          | inl l ↦ kept n k l ∙ s.number_is k l
-          | inr l ↦ let e : k ≡ count = omega arith in subst (λ z. get_or (numbers ++ n ∷ []) z 0 ≡ get_or given (get_or marks z 0) 0) (sym e) (new n)
-        ];
-        all_given = λ k h. elim (cases_lt k count) [
-          | inl l ↦ s.all_given k l
-          | inr l ↦ let e : k ≡ count = omega arith in subst (λ z. get_or marks z 0 ≢ 0 → get_or given (get_or marks z 0) 0 ≢ 0) (sym e) known
-        ];
-        reached = λ b h. let r = reached_kept n b h in (r.0, let l = r.1 in omega arith, r.2);
+        number_is = grind (arith, nat_tests, kept n, new n, s.number_is);
+        all_given = grind (arith, nat_tests, s.all_given);
+        reached = λ b h. let r = reached_kept n b h in (r.0, omega (arith, r.1), r.2);
         in_order = λ k b h e. elim (cases_lt k count) [
           | inl l ↦ in_order_kept n k b l e
           | inr l ↦
               let at : k ≡ count = omega arith in
-              let is : n ≡ suc (suc b) = sym (new n) ∙ ap (λ z. get_or (numbers ++ n ∷ []) z 0) (sym at) ∙ e in
-              let m = s.bounded (get_or marks count 0) in
-              let r = reached_kept n b (omega (arith, is)) in
-              (r.0, let g = r.1 in omega arith, r.2)
+              let is : n ≡ suc (suc b) = sym (new n) ∙ rw at at e in
+              let r = reached_kept n b (omega (arith, is, s.bounded (get_or marks count 0))) in
+              (r.0, omega (arith, r.1), r.2)
         ];
       }
 
@@ -79,52 +72,23 @@ module _ (marks given numbers : List ℕ) (last count : ℕ) (s : IsNumberingAt 
       let n = last + 1 in
       record {
         one_each = length_push numbers n ∙ ap (λ z. z + 1) s.one_each;
-        few = let l = s.few in omega arith;
+        few = omega (arith, s.few);
         zero_given = elim (read_set given mark n 0 0 within) [ inl d ↦ absurd (not_zero (sym d.0)) | inr d ↦ d.1 ∙ s.zero_given ];
-        bounded = λ x. let b = s.bounded x in elim (read_set given mark n x 0 within) [ inl d ↦ omega (arith, d.1) | inr d ↦ omega (arith, d.1) ];
-        distinct = λ x y e z.
-            let bx = s.bounded x in
-            let by = s.bounded y in
-            elim (read_set given mark n x 0 within) [
-              | inl d ↦ elim (read_set given mark n y 0 within) [
-                | inl f ↦ d.0 ∙ sym f.0
-                | inr f ↦ absurd (omega (arith, d.1, f.1, e))
-              ]
-              | inr d ↦ elim (read_set given mark n y 0 within) [
-                | inl f ↦ absurd (omega (arith, d.1, f.1, e))
-                | inr f ↦ s.distinct x y (sym d.1 ∙ e ∙ f.1) (λ q. z (d.1 ∙ q))
-              ]
-            ];
-        number_is = λ k h. elim (cases_lt k count) [
-          | inl l ↦ elim (read_set given mark n (get_or marks k 0) 0 within) [
-            | inl d ↦ absurd (s.all_given k l (λ q. not_zero (sym d.0 ∙ q)) (ap (λ z. get_or given z 0) d.0 ∙ not_given))
-            | inr d ↦ kept n k l ∙ s.number_is k l ∙ sym d.1
-          ]
-          | inr l ↦
-              let e : k ≡ count = omega arith in
-              elim (read_set given mark n mark 0 within) [
-                | inl d ↦ subst (λ z. get_or (numbers ++ n ∷ []) z 0 ≡ get_or (set given mark n) (get_or marks z 0) 0) (sym e) (new n ∙ sym d.1)
-                | inr d ↦ absurd (d.0 refl)
-              ]
-        ];
-        all_given = λ k h z. elim (read_set given mark n (get_or marks k 0) 0 within) [
-          | inl d ↦ λ q. absurd (omega (arith, d.1, q))
-          | inr d ↦ elim (cases_lt k count) [
-            | inl l ↦ λ q. s.all_given k l z (sym d.1 ∙ q)
-            | inr l ↦ let e : k ≡ count = omega arith in absurd (d.0 (ap (λ z. get_or marks z 0) e))
-          ]
-        ];
+        bounded = grind (arith, read_set given mark n, s.bounded);
+        distinct = grind (arith, read_set given mark n, s.bounded, s.distinct);
+        number_is = grind (arith, cases_lt, read_set given mark n, kept n, new n, s.number_is, s.all_given);
+        all_given = grind (arith, cases_lt, read_set given mark n, s.all_given);
         reached = λ b h. elim (cases_lt b last) [
-          | inl l ↦ let r = reached_kept n b l in (r.0, let g = r.1 in omega arith, r.2)
+          | inl l ↦ let r = reached_kept n b l in (r.0, omega (arith, r.1), r.2)
           | inr l ↦ (count, omega arith, new n ∙ omega arith)
         ];
         in_order = λ k b h e. elim (cases_lt k count) [
           | inl l ↦ in_order_kept n k b l e
           | inr l ↦
               let at : k ≡ count = omega arith in
-              let is : n ≡ suc (suc b) = sym (new n) ∙ ap (λ z. get_or (numbers ++ n ∷ []) z 0) (sym at) ∙ e in
+              let is : n ≡ suc (suc b) = sym (new n) ∙ rw at at e in
               let r = reached_kept n b (omega (arith, is)) in
-              (r.0, let g = r.1 in omega arith, r.2)
+              (r.0, omega (arith, r.1), r.2)
         ];
       }
 
@@ -142,10 +106,9 @@ module _ (marks given numbers : List ℕ) (last count : ℕ) (s : IsNumberingAt 
   one_mark : (j k a b x y : ℕ) → slice_get numbers j ≡ Some a → slice_get numbers k ≡ Some b
       → slice_get marks j ≡ Some x → slice_get marks k ≡ Some y → a ≡ b → x ≡ y
   one_mark j k a b x y p q u v e =
-      elim (cases_eq a 0) [
-        | inl z ↦ zero_number j a x p u z ∙ sym (zero_number k b y q v (sym e ∙ z))
-        | inr z ↦ s.distinct x y (sym (number_at j a x p u) ∙ e ∙ number_at k b y q v) (λ f. z (number_at j a x p u ∙ f))
-      ]
+      let ax = number_at j a x p u in
+      let by = number_at k b y q v in
+      grind (arith, nat_tests, cases_eq, zero_number j a x p u, zero_number k b y q v, s.distinct x y)
 
   pub all_numbered : AreNumbered marks numbers
   all_numbered =
@@ -166,12 +129,7 @@ pub step_given : (marks given numbers next_given next_numbers : List ℕ) (last 
     → (get_or marks count 0 ≢ 0 → get_or given (get_or marks count 0) 0 ≢ 0) → n ≡ get_or next_given (get_or marks count 0) 0
     → next_numbers ≡ numbers ++ n ∷ [] → IsNumberingAt marks next_given next_numbers next_last (count + 1)
 step_given marks given numbers next_given next_numbers last next_last count n s g l known is e =
-    let now = number_given marks given numbers last count s known in
-    let numbers_is : next_numbers ≡ numbers ++ get_or given (get_or marks count 0) 0 ∷ [] = e
-    ∙ ap (λ z. numbers ++ z ∷ []) (is ∙ ap (λ z. get_or z (get_or marks count 0) 0) g) in
-    subst (λ z. IsNumberingAt marks z next_numbers next_last (count + 1)) (sym g)
-    (subst (λ z. IsNumberingAt marks given z next_last (count + 1)) (sym numbers_is)
-    (subst (λ z. IsNumberingAt marks given (numbers ++ get_or given (get_or marks count 0) 0 ∷ []) z (count + 1)) (sym l) now))
+    rw (e, is, g, l) (number_given marks given numbers last count s known)
 
 -- one step where the mark gets the next number
 pub step_made : (marks given numbers next_given next_numbers : List ℕ) (last next_last count n : ℕ)
@@ -181,10 +139,4 @@ pub step_made : (marks given numbers next_given next_numbers : List ℕ) (last n
     → n ≡ get_or next_given (get_or marks count 0) 0 → next_numbers ≡ numbers ++ n ∷ []
     → IsNumberingAt marks next_given next_numbers next_last (count + 1)
 step_made marks given numbers next_given next_numbers last next_last count n s g l not_zero not_given within is e =
-    let mark = get_or marks count 0 in
-    let now = number_made marks given numbers last count s not_zero not_given within in
-    let n_is : n ≡ last + 1 = is ∙ ap (λ z. get_or z mark 0) g ∙ get_or-set_same given mark (last + 1) 0 within in
-    let numbers_is : next_numbers ≡ numbers ++ (last + 1) ∷ [] = e ∙ ap (λ z. numbers ++ z ∷ []) n_is in
-    subst (λ z. IsNumberingAt marks z next_numbers next_last (count + 1)) (sym g)
-    (subst (λ z. IsNumberingAt marks (set given mark (last + 1)) z next_last (count + 1)) (sym numbers_is)
-    (subst (λ z. IsNumberingAt marks (set given mark (last + 1)) (numbers ++ (last + 1) ∷ []) z (count + 1)) (sym l) now))
+    rw (e, is, g, l, get_or-set_same given (get_or marks count 0) (last + 1) 0 within) (number_made marks given numbers last count s not_zero not_given within)

@@ -21,8 +21,7 @@ not_lower edges xs ys p q k a b e f before =
       | inl l ↦
           let r = lower_before edges ys q b k a f l in
           let linked = (p.same r.0 k (suc a) (suc a) (before r.0 (suc a) r.1 r.2) e (λ z. absurd (omega arith))).0 refl in
-          let same = (q.same r.0 k (suc a) (suc b) r.2 f (λ z. absurd (omega arith))).1 linked in
-          absurd (omega arith)
+          absurd (omega (arith, (q.same r.0 k (suc a) (suc b) r.2 f (λ z. absurd (omega arith))).1 linked))
       | inr l ↦ l
     ]
 
@@ -43,13 +42,9 @@ module _ (edges : List (ℕ × ℕ)) (xs ys : List ℕ) (p : AreBlocks edges xs)
   same_below (suc n) k l h =
       let x = slice_get-get_or xs k 0 (omega (arith, p.one_each)) in
       let y = slice_get-get_or ys k 0 (omega (arith, q.one_each)) in
-      same_number edges xs ys p q k (get_or xs k 0) (get_or ys k 0) x y
-      (λ j c m e.
-      let s = same_below n j (omega arith) (omega arith) in
-      slice_get-get_or xs j 0 (omega (arith, p.one_each)) ∙ ap (λ z. Some z) s ∙ sym (slice_get-get_or ys j 0 (omega (arith, q.one_each))) ∙ e)
-      (λ j c m e.
-      let s = same_below n j (omega arith) (omega arith) in
-      slice_get-get_or ys j 0 (omega (arith, q.one_each)) ∙ ap (λ z. Some z) (sym s) ∙ sym (slice_get-get_or xs j 0 (omega (arith, p.one_each))) ∙ e)
+      let s : (j : ℕ) → j < k → slice_get xs j ≡ slice_get ys j = λ j m.
+      grind (arith, p.one_each, q.one_each, slice_get-get_or, same_below n j (omega arith) (omega arith)) in
+      same_number edges xs ys p q k (get_or xs k 0) (get_or ys k 0) x y (λ j c m e. s j m ∙ e) (λ j c m e. sym (s j m) ∙ e)
 
   -- two lists of block numbers of one graph are equal
   pub one_numbering : xs ≡ ys

@@ -1,16 +1,11 @@
 -- Edges as runs of edges with the same ends.
-use Rattle.sdd_blocks.proofs.All.{All, All-push, AreComponents, Has, IsWalk, JoinedWithout, Joins, List, Run, Some, Step, [], ap, append-nil, append_assoc, arith, cases_lt, drop, edges_in, get_or, inl, inr, length, length-append, length-replicate, map, nodes_of, none-some, refl, replicate, replicate_more, slice_get, slice_get-get_or, subst, suc, sym, take, take-append-drop, take_all, take_more, zero, ℕ, ◌++◌, ◌+◌, ◌-◌, ◌<◌, ◌∙◌, ◌∷◌, ◌≡◌, ◌≤◌}
+use Rattle.sdd_blocks.proofs.All.{All, All-push, AreComponents, Has, IsWalk, JoinedWithout, Joins, List, Run, Some, Step, [], ap, append-nil, append_assoc, arith, cases_lt, edges_in, get_or, inl, inr, length, length-append, length-replicate, map, nodes_of, none-some, refl, replicate, replicate_more, slice_get, slice_get-get_or, subst, suc, sym, take, take-append-drop, take_all, take_more, zero, ℕ, ◌++◌, ◌+◌, ◌-◌, ◌<◌, ◌∙◌, ◌∷◌, ◌≡◌, ◌≤◌}
 use Rattle.sdd_blocks.proofs.Labels.{ends_within}
 
 -- the edges of two lists of runs
 pub edges_in-append : (front back : List Run) → edges_in (front ++ back) ≡ edges_in front ++ edges_in back
 edges_in-append [] back = refl
-edges_in-append (r ∷ front) back =
-    ap (λ z. replicate r.count r.ends ++ z) (edges_in-append front back)
-    ∙ sym (append_assoc (replicate r.count r.ends) (edges_in front) (edges_in back))
-
-edges_in-push : (runs : List Run) (r : Run) → edges_in (runs ++ r ∷ []) ≡ edges_in runs ++ replicate r.count r.ends
-edges_in-push runs r = edges_in-append runs (r ∷ []) ∙ ap (λ z. edges_in runs ++ z) (append-nil (replicate r.count r.ends))
+edges_in-append (r ∷ front) back = grind (arith, append_assoc, (edges_in-append front back))
 
 -- the edges before a place are those of the runs and of the run that isn't ended yet
 pub record AreRunsSoFar (edges : List (ℕ × ℕ)) (runs : List Run) (count i : ℕ) : Type 0 where
@@ -25,41 +20,25 @@ no_runs_yet edges = record { edges_are = refl; some = λ k d h. absurd (omega ar
 
 module _ (edges : List (ℕ × ℕ)) (runs : List Run) (count i : ℕ) (so_far : AreRunsSoFar edges runs count i) where
   run_longer : i < length edges → edges_in runs ++ replicate (count + 1) (get_or edges i (0, 0)) ≡ take (i + 1) edges
-  run_longer within =
-      let e = get_or edges i (0, 0) in
-      ap (λ z. edges_in runs ++ z) (sym (replicate_more count e))
-      ∙ sym (append_assoc (edges_in runs) (replicate count e) (e ∷ []))
-      ∙ ap (λ z. z ++ e ∷ []) so_far.edges_are
-      ∙ sym (take_more edges i (0, 0) within)
+  run_longer within = rw (take_more edges i (0, 0) within, ← so_far.edges_are, append_assoc, replicate_more)
 
   -- an edge more in a run that goes on
   pub run_goes_on : i + 1 < length edges → get_or edges (i + 1) (0, 0) ≡ get_or edges i (0, 0) → AreRunsSoFar edges runs (count + 1) (i + 1)
-  run_goes_on within same =
-      record {
-        edges_are = ap (λ e. edges_in runs ++ replicate (count + 1) e) same ∙ run_longer (omega arith);
-        some = so_far.some;
-        few = let f = so_far.few in omega arith;
-        ended = λ h. absurd (omega arith);
-      }
+  run_goes_on within same = grind (arith, run_longer)
 
   -- a run that ends with an edge
   pub run_ended : i < length edges → AreRunsSoFar edges (runs ++ record { ends = get_or edges i (0, 0); count = count + 1 } ∷ []) 0 (i + 1)
   run_ended within =
-      let r : Run = record { ends = get_or edges i (0, 0); count = count + 1 } in
-      let least : 1 ≤ count + 1 = omega arith in
       record {
-        edges_are = append-nil (edges_in (runs ++ r ∷ [])) ∙ edges_in-push runs r ∙ run_longer within;
-        some = All-push (λ (r : Run). 1 ≤ r.count) runs r so_far.some least;
+        edges_are = simp (append-nil, edges_in-append) (run_longer within);
+        some = All-push (λ (r : Run). 1 ≤ r.count) runs _ so_far.some (omega arith);
         few = omega arith;
         ended = λ h. refl;
       }
 
   -- after the last edge the runs have all edges
   pub all_ended : length edges ≤ i → edges_in runs ≡ edges
-  all_ended done =
-      sym (append-nil (edges_in runs))
-      ∙ ap (λ n. edges_in runs ++ replicate n (get_or edges i (0, 0))) (sym (so_far.ended done))
-      ∙ so_far.edges_are ∙ take_all i edges done
+  all_ended done = grind (arith, append-nil, get_or, take_all)
 
 -- members of a run, and of what follows it
 get_in_run : (n : ℕ) (e : ℕ × ℕ) (rest : List (ℕ × ℕ)) (k : ℕ) → k < n → slice_get (replicate n e ++ rest) k ≡ Some e
@@ -69,40 +48,27 @@ get_in_run (suc n) e rest (suc k) h = get_in_run n e rest k (omega arith)
 
 get_past_run : (n : ℕ) (e : ℕ × ℕ) (rest : List (ℕ × ℕ)) (k : ℕ) → slice_get (replicate n e ++ rest) (n + k) ≡ slice_get rest k
 get_past_run zero e rest k = let z : 0 + k ≡ k = omega arith in ap (slice_get rest) z
-get_past_run (suc n) e rest k =
-    let s : suc n + k ≡ suc (n + k) = omega arith in
-    ap (slice_get (replicate (suc n) e ++ rest)) s ∙ get_past_run n e rest k
+get_past_run (suc n) e rest k = grind (arith, slice_get, (get_past_run n e rest k))
 
 -- the edges of a run have its ends
 pub run_at : (runs : List Run) (i : ℕ) (r : Run) → i < length runs → r ≡ get_or runs i r → (k : ℕ)
     → length (edges_in (take i runs)) ≤ k → k < length (edges_in (take i runs)) + r.count → slice_get (edges_in runs) k ≡ Some r.ends
 run_at [] i r within is k from to = absurd (omega arith)
-run_at (x ∷ runs) zero r within is k from to =
-    subst (λ z. slice_get (replicate x.count x.ends ++ edges_in runs) k ≡ Some z.ends) (sym is)
-    (get_in_run x.count x.ends (edges_in runs) k (let c : r.count ≡ x.count = ap (λ z. z.count) is in omega arith))
+run_at (x ∷ runs) zero r within is k from to = grind (arith, slice_get, get_in_run)
 run_at (x ∷ runs) (suc i) r within is k from to =
     let all : length (edges_in (take (suc i) (x ∷ runs))) ≡ x.count + length (edges_in (take i runs)) =
     length-append (replicate x.count x.ends) (edges_in (take i runs)) ∙ ap (λ n. n + length (edges_in (take i runs))) (length-replicate x.count x.ends) in
-    let split : k ≡ x.count + (k - x.count) = omega arith in
-    ap (slice_get (edges_in (x ∷ runs))) split ∙ get_past_run x.count x.ends (edges_in runs) (k - x.count)
+    ap (slice_get (edges_in (x ∷ runs))) (omega arith) ∙ get_past_run x.count x.ends (edges_in runs) (k - x.count)
     ∙ run_at runs i r (omega arith) is (k - x.count) (omega arith) (omega arith)
 
 -- how many edges there are up to the next run
 pub count_more : (runs : List Run) (i : ℕ) (r : Run) → i < length runs → r ≡ get_or runs i r
     → length (edges_in (take (i + 1) runs)) ≡ length (edges_in (take i runs)) + r.count
-count_more runs i r within is =
-    ap (λ z. length (edges_in z)) (take_more runs i r within ∙ ap (λ z. take i runs ++ z ∷ []) (sym is))
-    ∙ ap length (edges_in-push (take i runs) r)
-    ∙ length-append (edges_in (take i runs)) (replicate r.count r.ends)
-    ∙ ap (λ n. length (edges_in (take i runs)) + n) (length-replicate r.count r.ends)
+count_more runs i r within is = rw (take_more runs i r within, ← is) (simp (edges_in-append, append-nil, length-append, length-replicate))
 
 -- the first runs have no more edges than all
 pub count_within : (runs : List Run) (i : ℕ) → length (edges_in (take i runs)) ≤ length (edges_in runs)
-count_within runs i =
-    let e : length (edges_in runs) ≡ length (edges_in (take i runs)) + length (edges_in (drop i runs)) =
-    ap (λ z. length (edges_in z)) (sym (take-append-drop i runs)) ∙ ap length (edges_in-append (take i runs) (drop i runs))
-    ∙ length-append (edges_in (take i runs)) (edges_in (drop i runs)) in
-    omega arith
+count_within runs i = omega (arith, simp (edges_in-append, length-append) at (ap (λ z. length (edges_in z)) (take-append-drop i runs)))
 
 -- an edge has the ends of a run
 pub run_of_edge : (runs : List Run) (k : ℕ) (e : ℕ × ℕ) → slice_get (edges_in runs) k ≡ Some e
@@ -113,9 +79,7 @@ run_of_edge (r ∷ runs) k e h =
       | inl l ↦ (0, sym (get_in_run r.count r.ends (edges_in runs) k l) ∙ h)
       | inr l ↦
           let split : k ≡ r.count + (k - r.count) = omega arith in
-          let there : slice_get (edges_in runs) (k - r.count) ≡ Some e =
-          sym (get_past_run r.count r.ends (edges_in runs) (k - r.count)) ∙ ap (slice_get (edges_in (r ∷ runs))) (sym split) ∙ h in
-          let found = run_of_edge runs (k - r.count) e there in
+          let found = run_of_edge runs (k - r.count) e (sym (get_past_run r.count r.ends (edges_in runs) (k - r.count)) ∙ rw split at h) in
           (suc found.0, found.1)
     ]
 
@@ -146,10 +110,7 @@ walk_along : (xs ys : List (ℕ × ℕ)) → HasEdgesOf xs ys → (a : ℕ) (ste
 walk_along xs ys has a [] b w = ([], w, refl)
 walk_along xs ys has a (s ∷ steps) b w =
     let rest = walk_along xs ys has s.to steps b w.1 in
-    let first : (j : ℕ) × Joins ys j a s.to = elim w.0 [
-      | inl e ↦ let p = has s.edge (a, s.to) e in (p.0, inl p.1)
-      | inr e ↦ let p = has s.edge (s.to, a) e in (p.0, inr p.1)
-    ] in
+    let first : (j : ℕ) × Joins ys j a s.to = grind (arith, has s.edge (a, s.to), has s.edge (s.to, a)) in
     (record { edge = first.0; to = s.to } ∷ rest.0, (first.1, rest.1), ap (λ z. s.to ∷ z) rest.2)
 
 joined_along : (xs ys : List (ℕ × ℕ)) → HasEdgesOf xs ys → (without a b : ℕ) → JoinedWithout xs without a b → JoinedWithout ys without a b

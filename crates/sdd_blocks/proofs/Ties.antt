@@ -1,5 +1,5 @@
 -- Pairs that tie neighbours together, one edge after the other, and one node after the other.
-use Rattle.sdd_blocks.proofs.All.{All, AreComponents, Has, JoinedWithout, Joins, List, Neighbours, None, Option, Some, TieAt, TieNeighbours, Tied, [], ap, arith, cases_lt, get_or, inl, inr, length, length-set, nat_tests, nodes_of, none-some, other_end, same_Some, set, slice_get, slice_index, subst, sym, ℕ, ◌++◌, ◌+◌, ◌<◌, ◌∙◌, ◌∷◌, ◌≡◌, ◌≢◌, ◌≤◌, ◌⊎◌}
+use Rattle.sdd_blocks.proofs.All.{All, AreComponents, Joins, List, Neighbours, None, Option, Some, TieAt, TieNeighbours, Tied, [], ap, arith, cases_lt, get_or, get_or-set_same, inl, inr, length, length-set, nat_tests, none-some, other_end, same_Some, set, slice_get, slice_index, subst, sym, ℕ, ◌++◌, ◌+◌, ◌<◌, ◌∙◌, ◌∷◌, ◌≡◌, ◌≢◌, ◌≤◌, ◌⊎◌}
 use Rattle.sdd_blocks.proofs.Walks.{joins_back, end_met}
 use Rattle.sdd_blocks.proofs.Labels.{ends_within}
 use Rattle.sdd_blocks.proofs.Classes.{joins_within}
@@ -45,29 +45,11 @@ module _ (edges : List (ℕ × ℕ)) (node : ℕ) (labels : List ℕ) (before : 
 
   module _ (pairs : List (ℕ × ℕ)) (first : List (Option ℕ)) (count a b : ℕ) (so_far : IsTyingAt edges node labels before pairs first count)
       (here : slice_get edges count ≡ Some (a, b)) where
-    -- the edge itself, where it is the one meant
-    at_count : (k x : ℕ) → count ≤ k → k < count + 1 → Joins edges k node x → Joins edges count node x
-    at_count k x h g j = let e : k ≡ count = omega arith in subst (λ z. Joins edges z node x) e j
-
     -- an edge that leads to no other node
     pub not_tied : other_end (a, b) node ≡ None → IsTyingAt edges node labels before pairs first (count + 1)
-    not_tied o =
-        record {
-          one_each = so_far.one_each;
-          kept = so_far.kept;
-          sound = so_far.sound;
-          first_is = λ l r e. let f = so_far.first_is l r e in (f.0, let h = f.1 in omega arith, f.2, f.3, f.4);
-          whole = λ k x h j n. elim (cases_lt k count) [
-            | inl g ↦ so_far.whole k x g j n
-            | inr g ↦ absurd (none-some x (sym o ∙ joins_other_end edges count a b node x here (at_count k x g h j) n))
-          ];
-        }
+    not_tied o = grind (arith, cases_lt, none-some, joins_other_end)
 
     module _ (x : ℕ) (o : other_end (a, b) node ≡ Some x) where
-      -- the other end of the edge is this one
-      same_end : (k y : ℕ) → count ≤ k → k < count + 1 → Joins edges k node y → y ≢ node → x ≡ y
-      same_end k y h g j n = same_Some x y (sym o ∙ joins_other_end edges count a b node y here (at_count k y h g j) n)
-
       -- an edge that is the first of its label
       pub first_made : x < length labels → get_or first (slice_index labels x) None ≡ None
           → slice_index labels x < length first
@@ -79,25 +61,14 @@ module _ (edges : List (ℕ × ℕ)) (node : ℕ) (labels : List ℕ) (before : 
             one_each = length-set first label (Some count) ∙ so_far.one_each;
             kept = so_far.kept;
             sound = so_far.sound;
-            first_is = λ l r e. elim (read_set first label (Some count) l None h) [
-              | inl d ↦
-                  let s : count ≡ r = same_Some count r (sym d.1 ∙ e) in
-                  (x, omega arith, subst (λ z. Joins edges z node x) s j.0, j.1, sym d.0)
-              | inr d ↦ let f = so_far.first_is l r (sym d.1 ∙ e) in (f.0, let g = f.1 in omega arith, f.2, f.3, f.4)
-            ];
+            first_is = grind (arith, nat_tests, read_set, same_Some);
             whole = λ k y g i n. elim (cases_lt k count) [
               | inl m ↦
-                  let w = so_far.whole k y m i n in
-                  elim (read_set first label (Some count) (slice_index labels y) None h) [
-                    | inl d ↦ absurd (none-some w.0 (sym none ∙ ap (λ z. get_or first z None) (sym d.0) ∙ w.1))
-                    | inr d ↦ (w.0, d.1 ∙ w.1, w.2)
-                  ]
+                  let w = so_far.whole k y m i n in (grind (arith, nat_tests, read_set, slice_index))
               | inr m ↦
-                  let s = same_end k y m g i n in
-                  elim (read_set first label (Some count) (slice_index labels y) None h) [
-                    | inl d ↦ (count, d.1, inl (omega arith))
-                    | inr d ↦ absurd (d.0 (ap (λ z. slice_index labels z) (sym s)))
-                  ]
+                  let at : k ≡ count = omega arith in
+                  let s = same_Some x y (sym o ∙ joins_other_end edges count a b node y here (rw at at i) n) in
+                  (count, rw (← s) (get_or-set_same first label (Some count) None h), inl at)
             ];
           }
 
@@ -109,18 +80,11 @@ module _ (edges : List (ℕ × ℕ)) (node : ℕ) (labels : List ℕ) (before : 
       tied_to_first components ends r e =
           let j = other_end_joins edges count a b node x here o in
           let f = so_far.first_is (slice_index labels x) r e in
-          let x_within : x < length labels = joins_end_within edges (length labels) ends count node x j.0 in
-          let y_within : f.0 < length labels = joins_end_within edges (length labels) ends r node f.0 f.2 in
+          let x_within = joins_end_within edges (length labels) ends count node x j.0 in
+          let y_within = joins_end_within edges (length labels) ends r node f.0 f.2 in
+          let around = components.sound x f.0 x_within y_within j.1 f.3 (sym f.4) in
           let new : Neighbours edges count r =
-          record {
-            node = node;
-            one = x;
-            other = f.0;
-            differ = λ d. let g = f.1 in absurd (omega arith);
-            first = j.0;
-            second = f.2;
-            around = components.sound x f.0 x_within y_within j.1 f.3 (sym f.4);
-          } in
+          record { node = node; one = x; other = f.0; differ = λ d. absurd (omega (arith, f.1)); first = j.0; second = f.2; around = around } in
           record {
             one_each = so_far.one_each;
             kept = λ i p g. get_push_kept pairs (count, r) i p (so_far.kept i p g);
@@ -128,18 +92,15 @@ module _ (edges : List (ℕ × ℕ)) (node : ℕ) (labels : List ℕ) (before : 
               | inl h ↦ so_far.sound i m k h
               | inr h ↦ inr (subst (λ z. Neighbours edges z.0 z.1) h new)
             ];
-            first_is = λ l q g. let h = so_far.first_is l q g in (h.0, let m = h.1 in omega arith, h.2, h.3, h.4);
+            first_is = λ l q g. let h = so_far.first_is l q g in (h.0, omega (arith, h.1), h.2, h.3, h.4);
             whole = λ k y g i n. elim (cases_lt k count) [
               | inl m ↦
                   let w = so_far.whole k y m i n in
                   (w.0, w.1, tied_kept pairs (pairs ++ (count, r) ∷ []) (get_push_kept pairs (count, r)) k w.0 w.2)
               | inr m ↦
-                  let s = same_end k y m g i n in
-                  let at : k ≡ count = omega arith in (
-                    r,
-                    ap (λ z. get_or first (slice_index labels z) None) (sym s) ∙ e,
-                    inr (length pairs, get_push_last pairs (count, r) ∙ ap (λ z. Some (z, r)) (sym at)),
-                  )
+                  let at : k ≡ count = omega arith in
+                  let s = same_Some x y (sym o ∙ joins_other_end edges count a b node y here (rw at at i) n) in
+                  (r, rw (← s) e, inr (length pairs, rw at (get_push_last pairs (count, r))))
             ];
           }
 
@@ -152,16 +113,10 @@ module _ (edges : List (ℕ × ℕ)) (node : ℕ) (labels : List ℕ) (before : 
       → ((r : ℕ) → get_or first (slice_index labels x) None ≡ Some r → (next ≡ first) × (after ≡ pairs ++ (count, r) ∷ []))
       → (q : Option ℕ) → get_or first (slice_index labels x) None ≡ q → IsTyingAt edges node labels before after next (count + 1)
   edge_tied pairs after first next count a b x s here o components ends none some None e =
-      let n = none e in
-      let j = other_end_joins edges count a b node x here o in
-      let within : x < length labels = joins_end_within edges (length labels) ends count node x j.0 in
-      let below : slice_index labels x < length first = let l = components.below x 0 within in omega (arith, s.one_each) in
-      subst (λ z. IsTyingAt edges node labels before z next (count + 1)) (sym n.1)
-      (subst (λ z. IsTyingAt edges node labels before pairs z (count + 1)) (sym n.0) (first_made pairs first count a b s here x o within e below))
+      let within = joins_end_within edges (length labels) ends count node x (other_end_joins edges count a b node x here o).0 in
+      rw ((none e).1, (none e).0) (first_made pairs first count a b s here x o within e (omega (arith, components.below x 0 within, s.one_each)))
   edge_tied pairs after first next count a b x s here o components ends none some (Some r) e =
-      let n = some r e in
-      subst (λ z. IsTyingAt edges node labels before z next (count + 1)) (sym n.1)
-      (subst (λ z. IsTyingAt edges node labels before (pairs ++ (count, r) ∷ []) z (count + 1)) (sym n.0) (tied_to_first pairs first count a b s here x o components ends r e))
+      rw ((some r e).1, (some r e).0) (tied_to_first pairs first count a b s here x o components ends r e)
 
   -- edges that lead to no other node
   pub none_tied : (pairs : List (ℕ × ℕ)) (first : List (Option ℕ)) (from n a b : ℕ)
@@ -179,15 +134,14 @@ module _ (edges : List (ℕ × ℕ)) (node : ℕ) (labels : List ℕ) (before : 
         kept = so_far.kept;
         sound = so_far.sound;
         whole = λ j k h e.
-            let one : Joins edges j node h.one = subst (λ z. Joins edges j z h.one) e h.first in
-            let other : Joins edges k node h.other = subst (λ z. Joins edges k z h.other) e h.second in
-            let around : JoinedWithout edges node h.one h.other = subst (λ z. JoinedWithout edges z h.one h.other) e h.around in
-            let one_apart : h.one ≢ node = λ d. around.avoids (inl d) in
-            let other_apart : h.other ≢ node = λ d. around.avoids (subst (λ z. Has (h.one ∷ nodes_of around.steps) z) d (end_met edges h.one around.steps h.other around.walk)) in
-            let v = so_far.whole j h.one (let l = joins_within edges j node h.one one in omega arith) one one_apart in
-            let w = so_far.whole k h.other (let l = joins_within edges k node h.other other in omega arith) other other_apart in
-            let same : w.0 ≡ v.0 = same_Some w.0 v.0 (sym w.1 ∙ ap (λ z. get_or first z None) (sym (components.whole h.one h.other around)) ∙ v.1) in
-            (v.0, v.2, subst (λ z. Tied pairs k z) same w.2);
+            let one = rw e at h.first in
+            let other = rw e at h.second in
+            let around = rw e at h.around in
+            let met = end_met edges h.one around.steps h.other around.walk in
+            let v = so_far.whole j h.one (omega (arith, joins_within edges j node h.one one)) one (λ d. around.avoids (inl d)) in
+            let w = so_far.whole k h.other (omega (arith, joins_within edges k node h.other other)) other (λ d. around.avoids (rw d at met)) in
+            let same = same_Some w.0 v.0 (sym w.1 ∙ ap (λ z. get_or first z None) (sym (components.whole h.one h.other around)) ∙ v.1) in
+            (v.0, v.2, rw same at w.2);
       }
 
 -- the neighbours that meet at nodes below `count` are tied
@@ -206,9 +160,7 @@ one_more_node edges before after count s t =
     record {
       sound = λ i j k e. elim (t.sound i j k e) [ inl b ↦ s.sound i j k b | inr h ↦ h ];
       whole = λ j k h l. elim (cases_lt h.node count) [
-        | inl m ↦
-            let w = s.whole j k h m in
-            (w.0, tied_kept before after t.kept j w.0 w.1, tied_kept before after t.kept k w.0 w.2)
+        | inl m ↦ let w = s.whole j k h m in (w.0, tied_kept before after t.kept j w.0 w.1, tied_kept before after t.kept k w.0 w.2)
         | inr m ↦ t.whole j k h (omega arith)
       ];
     }
@@ -219,5 +171,6 @@ pub all_nodes : (edges pairs : List (ℕ × ℕ)) (nodes count : ℕ) → IsTyin
 all_nodes edges pairs nodes count s done ends =
     record {
       sound = s.sound;
-      whole = λ j k h. s.whole j k h (let l = joins_end_within edges nodes ends j h.one h.node (joins_back edges j h.node h.one h.first) in omega arith);
+      whole = λ j k h. s.whole j k h
+          (omega (arith, joins_end_within edges nodes ends j h.one h.node (joins_back edges j h.node h.one h.first)));
     }

@@ -1,5 +1,5 @@
 -- What a change of the forest does to the labels that it gives.
-use Rattle.sdd_blocks.proofs.All.{All, AreJoined, AreRoots, IsForest, List, [], ap, arith, ext_get_or, get_or, get_or-map, get_or-range_with_len, inl, inr, length, length-map, length-range_with_len, length-set, length_push, map, map-id, map-range_with_len_more, nat_tests, range_with_len, refl, replaced, set, slice_index, sym, ℕ, ◌++◌, ◌+◌, ◌<◌, ◌∙◌, ◌∷◌, ◌≡◌, ◌≢◌, ◌≤◌}
+use Rattle.sdd_blocks.proofs.All.{All, AreJoined, AreRoots, IsForest, List, [], ap, arith, ext_get_or, get_or, get_or-map, get_or-range_with_len, inl, inr, length, length-map, length-range_with_len, length-set, length_push, map, map-id, map-range_with_len_more, nat_tests, range_with_len, refl, replaced, set, slice_index, sym, ℕ, ◌++◌, ◌+◌, ◌<◌, ◌∙◌, ◌∷◌, ◌≡◌, ◌≢◌, ◌≤◌, ◌⊎◌}
 use Rattle.sdd_blocks.proofs.Places.{read_set, read_push}
 
 -- as many roots as nodes
@@ -53,72 +53,29 @@ replaced-new old new = grind (arith, nat_tests)
 pub replaced-other : (old new label : ℕ) → label ≢ old → replaced old new label ≡ label
 replaced-other old new label n = grind (arith, nat_tests)
 
--- all labels, with one replaced by another
-relabelled : ℕ → ℕ → List ℕ → List ℕ
-relabelled old new labels = map (replaced old new) labels
-
 module _ (parents : List ℕ) (low high : ℕ) (forest : IsForest parents) (low_within : low < length parents) (high_within : high < length parents)
     (low_top : slice_index parents low ≡ low) (high_top : slice_index parents high ≡ high) (labels : List ℕ) (r : AreRoots parents labels) where
-  -- they stay as many
-  length-relabelled : length (relabelled high low labels) ≡ length labels
-  unfolding relabelled
-  length-relabelled = length-map labels (replaced high low)
-
-  -- each is replaced where it stands
-  relabelled-at : (v : ℕ) → v < length labels
-      → slice_index (relabelled high low labels) v ≡ replaced high low (slice_index labels v)
-  unfolding relabelled
-  relabelled-at v h = get_or-map (replaced high low) labels v 0 0 h
-
-  -- the lower root keeps its label
-  low_label : slice_index (relabelled high low labels) low ≡ low
-  low_label = relabelled-at low (omega (arith, r.one_each)) ∙ ap (replaced high low) (r.root low low_within low_top) ∙ replaced-new high low
-
-  -- the higher root gets the label of the lower
-  high_label : slice_index (relabelled high low labels) high ≡ low
-  high_label = relabelled-at high (omega (arith, r.one_each)) ∙ ap (replaced high low) (r.root high high_within high_top) ∙ replaced-same high low
-
-  -- one root below another
-  roots-linked : AreRoots (set parents high low) (relabelled high low labels)
-  roots-linked =
-      let within : (v : ℕ) → v < length (set parents high low) → v < length parents = λ v h. omega (arith, length-set parents high low) in
-      let after : (v : ℕ) → v < length parents → slice_index (relabelled high low labels) v ≡ replaced high low (slice_index labels v) =
-      λ v h. relabelled-at v (omega (arith, r.one_each)) in
-      record {
-        one_each = length-relabelled ∙ r.one_each ∙ sym (length-set parents high low);
-        same = λ v h. elim (read_set parents high low v 0 high_within) [
-          | inl d ↦ ap (λ z. slice_index (relabelled high low labels) z) d.1 ∙ low_label ∙ sym high_label
-              ∙ ap (λ z. slice_index (relabelled high low labels) z) (sym d.0)
-          | inr d ↦
-              let p = forest v (within v h) in
-              ap (λ z. slice_index (relabelled high low labels) z) d.1 ∙ after (slice_index parents v) (let q = within v h in omega arith)
-              ∙ ap (replaced high low) (r.same v (within v h)) ∙ sym (after v (within v h))
-        ];
-        root = λ v h s. elim (read_set parents high low v 0 high_within) [
-          | inl d ↦ ap (λ z. slice_index (relabelled high low labels) z) d.0 ∙ high_label ∙ sym d.1 ∙ s
-          | inr d ↦
-              let own : slice_index labels v ≡ v = r.root v (within v h) (sym d.1 ∙ s) in
-              after v (within v h) ∙ ap (replaced high low) own ∙ replaced-other high low v d.0
-        ];
-      }
-
   -- the labels of two nodes whose roots are these have become one
+  one_label : (a b : ℕ) → ((high ≡ slice_index labels a) × (low ≡ slice_index labels b)) ⊎ ((high ≡ slice_index labels b) × (low ≡ slice_index labels a))
+      → (after : List ℕ) × AreRoots (set parents high low) after × AreJoined a b labels after
+  one_label a b o =
+      let after = map (replaced high low) labels in
+      let many = length-map labels (replaced high low) in
+      let at : (v : ℕ) → v < length labels → slice_index after v ≡ replaced high low (slice_index labels v) = λ v.
+      get_or-map (replaced high low) labels v 0 0 in (
+        after,
+        (grind (arith, length-set, slice_index, at, many, read_set, replaced, replaced-new, replaced-same, replaced-other)),
+        record { old = high; new = low; of_both = o; one_each = many; replaced_at = at },
+      )
+
+  -- the roots in this order, and in the other
   pub linked_down : (a b : ℕ) → high ≡ slice_index labels a → low ≡ slice_index labels b
       → (after : List ℕ) × AreRoots (set parents high low) after × AreJoined a b labels after
-  linked_down a b p q = (
-    relabelled high low labels,
-    roots-linked,
-    record { old = high; new = low; of_both = inl (p, q); one_each = length-relabelled; replaced_at = relabelled-at },
-  )
+  linked_down a b p q = one_label a b (inl (p, q))
 
-  -- the same with the nodes in the other order
   pub linked_up : (a b : ℕ) → low ≡ slice_index labels a → high ≡ slice_index labels b
       → (after : List ℕ) × AreRoots (set parents high low) after × AreJoined a b labels after
-  linked_up a b p q = (
-    relabelled high low labels,
-    roots-linked,
-    record { old = high; new = low; of_both = inr (q, p); one_each = length-relabelled; replaced_at = relabelled-at },
-  )
+  linked_up a b p q = one_label a b (inr (q, p))
 
 -- on the way up from a node: the forest has been halved, and gives the labels that it gave
 pub record IsOnTheWayUp (old new : List ℕ) (node at : ℕ) : Type 0 where
@@ -139,7 +96,6 @@ pub climbs : (old new : List ℕ) (node at next : ℕ) → IsOnTheWayUp old new 
     → IsOnTheWayUp old (set new at next) node next
 climbs old new node at next w n e =
     let inside : at < length new = let h = w.within in omega (arith, w.one_each) in
-    let low : next < at = next_below new w.forest at inside next n e in
     record {
       one_each = length-set new at next ∙ w.one_each;
       forest = forest-set new w.forest at inside next (omega arith);
@@ -199,23 +155,11 @@ pub all_roots : (old now found : List ℕ) (node : ℕ) → AreRootsSoFar old no
 all_roots old now found node s n labels r =
     ext_get_or 0 found labels (s.count ∙ sym n ∙ sym r.one_each) (λ v h. (s.labels labels r).1 v (omega (arith, s.count)))
 
--- a label that is replaced by itself stays
-replaced-itself : (old new label : ℕ) → old ≡ new → label ≡ replaced old new label
-replaced-itself old new label e = grind (arith, nat_tests)
-
 -- nodes with one parent are in one set already
 pub joined_already : (parents : List ℕ) (a b : ℕ) → a < length parents → b < length parents → slice_index parents a ≡ slice_index parents b
     → (before : List ℕ) → AreRoots parents before → (after : List ℕ) × AreRoots parents after × AreJoined a b before after
 joined_already parents a b a_within b_within e before r =
-    let label : slice_index before a ≡ slice_index before b =
-    sym (r.same a a_within) ∙ ap (λ z. slice_index before z) e ∙ r.same b b_within in (
-      before,
-      r,
-      record {
-        old = slice_index before a;
-        new = slice_index before b;
-        of_both = inl (refl, refl);
-        one_each = refl;
-        replaced_at = λ v h. replaced-itself (slice_index before a) (slice_index before b) (slice_index before v) label;
-      },
-    )
+    let label : slice_index before a ≡ slice_index before b = sym (r.same a a_within) ∙ ap (λ z. slice_index before z) e ∙ r.same b b_within in
+    let j : AreJoined a b before before =
+    record { old = slice_index before a; new = slice_index before b; of_both = inl (refl, refl); one_each = refl; replaced_at = grind (arith, nat_tests) } in
+    (before, r, j)

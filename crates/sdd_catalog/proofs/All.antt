@@ -1,10 +1,10 @@
 -- The names of std, of the crates below and of this crate's definitions that its proofs cite. Declares nothing.
 pub use Rattle.sdd_base.specs.Name.{IsName}
-pub use Rattle.sdd_base.specs.Numbers.{dm_no, frag_no, rel_no}
+pub use Rattle.sdd_base.specs.Numbers.{dm_no, frag_no}
 pub use Rattle.sdd_base.specs.Words.{contains, head_of, or_else}
 pub use Rattle.sdd_base.specs.declared.number.DmNo.{DmNo}
 pub use Rattle.sdd_base.specs.declared.number.FragNo.{FragNo}
-pub use Rattle.sdd_catalog.specs.Catalogue.{Catalogue, HoldsKey, IsOf, catalogue_of, class_at, class_of, class_part, column_of, column_part, fragment_at, fragment_from, fragment_names, fragment_of, fragment_part, has_copy, holds_key, lowest_copy, numbers_to, parts_of, read_of, read_part, reads_at, relation_names, relation_of, relation_part}
+pub use Rattle.sdd_catalog.specs.Catalogue.{Catalogue, HoldsKey, IsOf, catalogue_of, class_at, class_of, class_part, column_of, column_part, fragment_at, fragment_from, fragment_names, fragment_of, fragment_part, holds_key, lowest_copy, numbers_to, parts_of, read_of, read_part, reads_at, relation_names, relation_of, relation_part}
 pub use Rattle.sdd_catalog.specs.Cover.{Cover, IsIndexed, IsNumberFor, no_relation, range_table, ranges_for}
 pub use Rattle.sdd_catalog.specs.Marks.{AreMarked}
 pub use Rattle.sdd_catalog.specs.Names.{Text, is_at, name_at, number_of, place_of}
@@ -28,9 +28,9 @@ pub use Rattle.sdd_catalog.specs.declared.resolved.Column.{Column}
 pub use Rattle.sdd_catalog.specs.declared.resolved.Fragment.{Fragment}
 pub use Rattle.sdd_catalog.specs.declared.resolved.Read.{Read}
 pub use Rattle.sdd_catalog.specs.declared.resolved.Relation.{Relation}
-pub use Rattle.std.proofs.Common.{All, Bool, IfSome, List, None, Option, Some, [], ap, append-nil, append_assoc, arith, bytes_eq, cond, drop, false, find, get_or-set_other, get_or-set_same, inl, inr, insert, int_le, int_lt, is_some, length, length-append, length-set, length-take-le, map, map-id, nat_le, nat_lt, not, option_map, pos, refl, replicate, rules, slice_index_or as get_or, slice_set as set, subst, suc, sym, take, take_all, tests, to_z-of_z, true, unwrap_or, zero, ℕ, ℤ, ◌++◌, ◌+ℤ◌, ◌+◌, ◌-◌, ◌<ℤ◌, ◌<◌, ◌==◌, ◌^◌, ◌||◌, ◌∙◌, ◌∷◌, ◌≡◌, ◌≢◌, ◌≤ℤ◌, ◌≤◌, ◌⊎◌}
+pub use Rattle.std.proofs.Common.{All, Bool, IfSome, List, None, Option, Some, [], ap, append-nil, append_assoc, arith, bytes_eq, cond, drop, false, find, get_or-set_other, get_or-set_same, inl, inr, insert, int_le, int_lt, is_some, length, length-append, length-set, length-take-le, map, map-id, nat_le, not, option_map, pos, refl, replicate, rules, slice_index_or as get_or, slice_set as set, subst, suc, sym, take, take_all, tests, to_z-of_z, true, unwrap_or, zero, ℕ, ℤ, ◌++◌, ◌+ℤ◌, ◌+◌, ◌-◌, ◌<ℤ◌, ◌<◌, ◌==◌, ◌^◌, ◌||◌, ◌∙◌, ◌∷◌, ◌≡◌, ◌≢◌, ◌≤ℤ◌, ◌≤◌, ◌⊎◌}
 pub use Rattle.std.proofs.Math.Bool.{or-true}
-pub use Rattle.std.proofs.lemmas.Bool.{cases_Bool, cases_lt, false_from_ne_true}
+pub use Rattle.std.proofs.lemmas.Bool.{cases_Bool, cases_lt}
 pub use Rattle.std.proofs.lemmas.Bool.Decides.{Decides-eqb, nat_tests}
 pub use Rattle.std.proofs.lemmas.Cmp.{nat_list_eq_equiv}
 pub use Rattle.std.proofs.lemmas.Grind.{common_steps}
@@ -39,11 +39,9 @@ pub use Rattle.std.proofs.lemmas.List.{drop_all, drop_more, get_or-map, get_or-r
 pub use Rattle.std.proofs.lemmas.List.Elements.{All-from_recursion, All-map, All-push, All-same, All-weaker}
 pub use Rattle.std.proofs.lemmas.List.Folds.{list_any-append, map_fixed}
 pub use Rattle.std.proofs.lemmas.List.Sorted.{IsPartitionPoint-from_clause}
-pub use Rattle.std.proofs.lemmas.Option.{none-some, same_Some}
+pub use Rattle.std.proofs.lemmas.Option.{same_Some}
 pub use Rattle.std.proofs.lemmas.Simd.{map-map}
 pub use Rattle.std.proofs.lemmas.Slice.Eq.{bytes_eq-Decides}
-pub use Rattle.std.specs.Cmp.{first_so, second_so}
-pub use Rattle.std.specs.Cmp.Derive.{both_true}
 pub use Rattle.std.specs.HashMap.{get}
 pub use Rattle.std.specs.List.{AllByRecursion, list_any, position_from, range_with_len}
 pub use Rattle.std.specs.List.Sorted.{IsPartitionPoint, IsPartitionedBy}

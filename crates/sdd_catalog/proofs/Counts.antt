@@ -10,8 +10,7 @@ few_before_relation items i r within e = grind (arith, nat_tests, fine_relation,
 
 pub few_before_fragment : (parts : Parts) (items : List FragmentPart) (i : ℕ) (f : FragmentPart) → i ≤ length items
     → head_of (faults_of_fragment parts (take i items) f) ≡ None → i < 256
-few_before_fragment parts items i f within e =
-    grind (arith, nat_tests, fine_fragment, empty_of_map, empty_of_head, length-take-le)
+few_before_fragment parts items i f within e = grind (arith, fine_fragment, empty_of_map, empty_of_head, length-take-le)
 
 pub few_before_class : (parts : Parts) (items : List ClassPart) (i : ℕ) (c : ClassPart) → i ≤ length items
     → head_of (faults_of_class parts (take i items) c) ≡ None → i < 64

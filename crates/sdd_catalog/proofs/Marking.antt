@@ -8,18 +8,8 @@ no_marks names n count =
     record {
       one_each = length-replicate n false ∙ count;
       marked = λ name place e.
-          let bound : place < length names = (found_place (bytes_eq name) names [] place e).within in
-          get_or-replicate n place false false (omega arith);
+          get_or-replicate n place false false (omega (arith, (found_place (bytes_eq name) names [] place e).within));
     }
-
-has_name-push : (before : List Text) (name q : Text) → has_name (before ++ name ∷ []) q ≡ (has_name before q || (bytes_eq q name || false))
-has_name-push before name q = list_any-append (bytes_eq q) before (name ∷ [])
-
-or_true : (a : Bool) → (a || (true || false)) ≡ true
-or_true a = grind (arith, nat_tests)
-
-or_false : (a : Bool) → (a || (false || false)) ≡ a
-or_false a = grind (arith, nat_tests)
 
 -- a name has one place, and a place has one name
 name_at_place : (names : List Text) (name : Text) (k : ℕ) → place_of name names ≡ Some k → name ≡ get_or names k []
@@ -30,22 +20,21 @@ pub name_marked : (names before : List Text) (marks : List Bool) (name : Text) (
     → AreMarked names before marks → place_of name names ≡ Some place → AreMarked names (before ++ name ∷ []) (set marks place true)
 name_marked names before marks name place so_far e =
     let bound : place < length names = (found_place (bytes_eq name) names [] place e).within in
-    let within : place < length marks = omega (arith, so_far.one_each) in
     record {
       one_each = length-set marks place true ∙ so_far.one_each;
       marked = λ q k at. elim (cases_Bool (bytes_eq q name)) [
         | inl y ↦
             let same : q ≡ name = (bytes_eq-Decides q name).0 y in
             let here : k ≡ place = same_Some k place (sym at ∙ ap (λ n. place_of n names) same ∙ e) in
-            ap (λ n. get_or (set marks place true) n false) here ∙ get_or-set_same marks place true false within
-            ∙ sym (has_name-push before name q ∙ ap (λ b. has_name before q || (b || false)) y ∙ or_true (has_name before q))
+            ap (λ n. get_or (set marks place true) n false) here ∙ get_or-set_same marks place true false (omega (arith, so_far.one_each))
+            ∙ sym ((list_any-append (bytes_eq q) before (name ∷ [])) ∙ ap (λ b. has_name before q || (b || false)) y ∙ (grind (arith, nat_tests)))
         | inr n ↦
             let apart : k ≢ place = λ h.
             let same : q ≡ name = name_at_place names q k at ∙ ap (λ n. get_or names n []) h ∙ sym (name_at_place names name place e) in
             let yes : bytes_eq q name ≡ true = (bytes_eq-Decides q name).1 same in
             cc in
             get_or-set_other marks place k true false apart ∙ so_far.marked q k at
-            ∙ sym (has_name-push before name q ∙ ap (λ b. has_name before q || (b || false)) n ∙ or_false (has_name before q))
+            ∙ sym ((list_any-append (bytes_eq q) before (name ∷ [])) ∙ ap (λ b. has_name before q || (b || false)) n ∙ (grind (arith, nat_tests)))
       ];
     }
 

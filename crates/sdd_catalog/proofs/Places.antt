@@ -1,24 +1,17 @@
 -- The place of the first item with a name.
-use Rattle.sdd_catalog.proofs.All.{Bool, FragmentPart, IfSome, List, None, Option, Some, Text, [], ap, arith, bytes_eq, cond, drop, drop_more, false, find, fragment_names, get_or, has_name, is_some, length, list_any, map, nat_list_eq_equiv, nat_tests, place_of, position_from, refl, same_Some, subst, sym, true, ℕ, ◌+◌, ◌<◌, ◌||◌, ◌∙◌, ◌∷◌, ◌≡◌, ◌≤◌}
+use Rattle.sdd_catalog.proofs.All.{Bool, FragmentPart, IfSome, List, None, Option, Some, Text, [], ap, arith, bytes_eq, cond, drop, drop_more, false, find, fragment_names, get_or, has_name, is_some, length, list_any, map, nat_list_eq_equiv, nat_tests, place_of, position_from, refl, same_Some, subst, sym, ℕ, ◌+◌, ◌<◌, ◌∙◌, ◌∷◌, ◌≡◌, ◌≤◌}
 use Rattle.sdd_catalog.proofs.NameLemmas.{IsFound, found_at, position_from-map}
 
 -- there is a place exactly where some item passes
 pub some_place : {A : Type 0} (p : A → Bool) (i : ℕ) (xs : List A) → is_some (position_from p i xs) ≡ list_any p xs
 some_place p i [] = refl
-some_place p i (x ∷ xs) =
-    elim (p x) as (λ b. is_some (cond b (Some i) (position_from p (i + 1) xs)) ≡ (b || list_any p xs)) [
-      | true ↦ refl
-      | false ↦ some_place p (i + 1) xs
-    ]
+some_place p i (x ∷ xs) = grind (arith, is_some, position_from, list_any, (some_place p (i + 1) xs))
 
 -- the first item that passes stands at the place
 pub found_place : {A : Type 0} (p : A → Bool) (xs : List A) (d : A) (k : ℕ) → position_from p 0 xs ≡ Some k → IsFound p 0 xs d k
 found_place p xs d k e =
-    let there : list_any p xs ≡ true = sym (some_place p 0 xs) ∙ ap is_some e in
-    let found = found_at p 0 xs d there in
-    let same : 0 + found.0 ≡ k = same_Some (0 + found.0) k (sym found.1.place ∙ e) in
-    let place : found.0 ≡ k = omega arith in
-    subst (IsFound p 0 xs d) place found.1
+    let found = found_at p 0 xs d (sym (some_place p 0 xs) ∙ ap is_some e) in
+    subst (IsFound p 0 xs d) (omega (arith, same_Some (0 + found.0) k (sym found.1.place ∙ e))) found.1
 
 -- the item at the place of a name among the names of items
 pub named_place : {A : Type 0} (f : A → Text) (name : Text) (xs : List A) (d : A) (k : ℕ) → place_of name (map f xs) ≡ Some k
@@ -39,11 +32,7 @@ item_at_place f name xs k x e is = ap Some is ∙ sym (named_place f name xs x k
 -- where a name has no place, no item has it
 none_found : {A : Type 0} (p : A → Bool) (xs : List A) → list_any p xs ≡ false → find p xs ≡ None
 none_found p [] e = refl
-none_found p (x ∷ xs) e =
-    elim (p x) as (λ b. (b || list_any p xs) ≡ false → cond b (Some x) (find p xs) ≡ None) [
-      | true ↦ λ h. cc
-      | false ↦ λ h. none_found p xs h
-    ] e
+none_found p (x ∷ xs) e = grind (arith, nat_tests, (none_found p xs))
 
 pub no_item_at_place : {A : Type 0} (f : A → Text) (name : Text) (xs : List A) → None ≡ place_of name (map f xs)
     → None ≡ find (λ x. bytes_eq name (f x)) xs
@@ -61,8 +50,7 @@ pub one_place_back : (fragments : List FragmentPart) (i j : ℕ) (f : FragmentPa
     → ((name : List ℕ) → new name ≡ cond (bytes_eq key name) (Some i) (old name))
     → ((name : List ℕ) → old name ≡ position_from (λ f. bytes_eq name f.name) j (drop j fragments))
     → (name : List ℕ) → new name ≡ position_from (λ f. bytes_eq name f.name) i (drop i fragments)
-one_place_back fragments i j f key old new next within is same updates before name =
-    grind (arith, nat_tests, drop_more, nat_list_eq_equiv)
+one_place_back fragments i j f key old new next within is same updates before name = grind (arith, drop_more, nat_list_eq_equiv)
 
 -- the places from the first item on are all places
 pub all_places : (fragments : List FragmentPart) (i : ℕ) (made : List ℕ → Option ℕ) → i ≤ 0

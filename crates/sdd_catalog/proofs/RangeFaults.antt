@@ -1,12 +1,11 @@
 -- The first fault of ranges in order.
-use Rattle.sdd_catalog.proofs.All.{CatFault, CatRule, KeyRange, List, None, Option, RangeGap, Some, ap, arith, drop, drop_all, drop_more, faults_after, faults_at, get_or, greatest_key, head_of, int_lt, length, nat_tests, next_rules, option_map, or_else, sym, when, ℕ, ◌+◌, ◌<◌, ◌∙◌, ◌≡◌, ◌≤◌}
+use Rattle.sdd_catalog.proofs.All.{CatFault, CatRule, KeyRange, List, None, Option, RangeGap, Some, ap, arith, drop, drop_all, drop_more, faults_after, faults_at, get_or, greatest_key, head_of, int_lt, length, next_rules, option_map, or_else, sym, when, ℕ, ◌+◌, ◌<◌, ◌∙◌, ◌≡◌, ◌≤◌}
 use Rattle.sdd_catalog.proofs.Firsts.{head_of-append, head_of_map}
 use Rattle.sdd_catalog.specs.declared.fault.Part.TheVariants.{Fragment}
 
 pub after_split : (last : KeyRange) (items : List KeyRange) (i : ℕ) (x : KeyRange) → x ≡ get_or items i x → i < length items
     → head_of (faults_after last (drop i items)) ≡ or_else (head_of (faults_at Fragment x.number (next_rules last.to x.from))) (head_of (faults_after x (drop (i + 1) items)))
-after_split last items i x is within =
-    grind (arith, nat_tests, drop_more, head_of-append)
+after_split last items i x is within = grind (arith, drop_more, head_of-append)
 
 -- a range that breaks no rule is passed
 pub after_next : (all : Option CatFault) (last : KeyRange) (items : List KeyRange) (i : ℕ) (x : KeyRange) → x ≡ get_or items i x → i < length items

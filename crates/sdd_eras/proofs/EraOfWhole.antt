@@ -1,5 +1,5 @@
 -- Each catalogue in force is that of an era of the catalogue with the classes of all lists.
-use Rattle.sdd_eras.proofs.All.{Catalogue, Class, HasSets, IsEraOf, List, Some, [], ap, arith, drop, emptied, eras, extended, inl, inr, length, length-append, length-map, map, refl, retired, slice_get, slice_index_or, subst, suc, sym, take, whole, zero, ℕ, ◌++◌, ◌+◌, ◌-◌, ◌<◌, ◌∙◌, ◌∷◌, ◌≡◌, ◌≤◌}
+use Rattle.sdd_eras.proofs.All.{Catalogue, Class, HasSets, IsEraOf, List, Some, [], ap, arith, drop, emptied, eras, extended, inl, inr, length, length-append, length-map, map, refl, retired, slice_get, slice_index_or, subst, suc, take, whole, zero, ℕ, ◌++◌, ◌+◌, ◌-◌, ◌<◌, ◌∷◌, ◌≡◌, ◌≤◌}
 
 -- a class of an era and that of the same number in the whole catalogue
 pub record IsUnder (whole class : Class) : Type 0 where
@@ -55,56 +55,17 @@ pub record IsLower (cat era : Catalogue) : Type 0 where
   pub classes : AreUnder cat.classes era.classes
 
 era_of_lower : (cat era : Catalogue) → IsLower cat era → IsEraOf cat era
-era_of_lower cat era h =
-    record {
-      tms = h.tms;
-      dms = h.dms;
-      relations = h.relations;
-      fragments = h.fragments;
-      classes = under_few cat.classes era.classes h.classes;
-      home = λ c from to. (under_at cat.classes era.classes (c - 1) _ h.classes (omega (arith, from, to))).tm;
-      sets = λ c from to. (under_at cat.classes era.classes (c - 1) _ h.classes (omega (arith, from, to))).sets;
-    }
+era_of_lower cat era h = grind (arith, under_few, under_at)
 
 -- an era stays one where the whole catalogue gets further classes
 era_of_more : (cat era : Catalogue) (lists : List (List Class)) → IsLower cat era → IsEraOf (whole cat lists) era
 era_of_more cat era [] h = era_of_lower cat era h
-era_of_more cat era (classes ∷ lists) h =
-    era_of_more (extended classes cat) era lists
-    (record {
-      tms = h.tms;
-      dms = h.dms;
-      relations = h.relations;
-      fragments = h.fragments;
-      classes = more_under cat.classes classes era.classes h.classes;
-    })
+era_of_more cat era (classes ∷ lists) h = grind (arith, more_under, (era_of_more (extended classes cat) era lists (record { tms = h.tms; dms = h.dms; relations = h.relations; fragments = h.fragments; classes = more_under cat.classes classes era.classes h.classes })))
 
 -- all classes are emptied
 all_emptied : (cs : List Class) → map emptied (take (length cs) cs) ++ drop (length cs) cs ≡ map emptied cs
 all_emptied [] = refl
 all_emptied (c ∷ cs) = ap (λ rest. emptied c ∷ rest) (all_emptied cs)
-
--- the next one in force: the classes so far retire, and the further ones stand behind them
-next_lower : (cat under : Catalogue) (classes : List Class) → length cat.classes ≡ length under.classes
-    → IsLower cat under → IsLower (extended classes cat) (extended classes (retired (length under.classes) under))
-next_lower cat under classes same h =
-    record {
-      tms = h.tms;
-      dms = h.dms;
-      relations = h.relations;
-      fragments = h.fragments;
-      classes =
-          subst (λ cs. AreUnder (cat.classes ++ classes) (cs ++ classes)) (sym (all_emptied under.classes))
-          (both_under cat.classes (map emptied under.classes) classes
-          (same ∙ sym (length-map under.classes emptied)) (emptied_under cat.classes under.classes h.classes));
-    }
-
-next_many : (cat under : Catalogue) (classes : List Class) → length cat.classes ≡ length under.classes
-    → length (extended classes cat).classes ≡ length (extended classes (retired (length under.classes) under)).classes
-next_many cat under classes same =
-    length-append cat.classes classes
-    ∙ ap (λ n. n + length classes) (same ∙ sym (length-map under.classes emptied) ∙ ap length (sym (all_emptied under.classes)))
-    ∙ sym (length-append (retired (length under.classes) under).classes classes)
 
 era_among : (cat under : Catalogue) (lists : List (List Class)) (k : ℕ) (era : Catalogue)
     → length cat.classes ≡ length under.classes → IsLower cat under → slice_get (eras under lists) k ≡ Some era
@@ -115,9 +76,7 @@ era_among cat under [] (suc k) era same h e = absurd cc
 era_among cat under (classes ∷ lists) zero era same h e =
     let is : under ≡ era = cc in
     subst (IsEraOf (whole cat (classes ∷ lists))) is (era_of_more cat under (classes ∷ lists) h)
-era_among cat under (classes ∷ lists) (suc k) era same h e =
-    era_among (extended classes cat) (extended classes (retired (length under.classes) under)) lists k era
-    (next_many cat under classes same) (next_lower cat under classes same h) e
+era_among cat under (classes ∷ lists) (suc k) era same h e = grind (arith, length-append, AreUnder, all_emptied, both_under, length-map, emptied_under, (era_among (extended classes cat) (extended classes (retired (length under.classes) under)) lists k era (grind (arith, length-append, length-map, all_emptied)) (grind (arith, AreUnder, all_emptied, both_under, length-map, emptied_under)) e))
 
 -- each catalogue in force is that of an era of the whole one
 pub era_of_whole : (cat : Catalogue) (lists : List (List Class)) (k : ℕ) (era : Catalogue)

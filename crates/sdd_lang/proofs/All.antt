@@ -1,6 +1,6 @@
 -- The names of std, of the crates below and of this crate's definitions that its proofs cite. Declares nothing.
 pub use Rattle.sdd_base.specs.Numbers.{frag_no}
-pub use Rattle.sdd_base.specs.Order.{admits, column, meets, number_in, value_cmp}
+pub use Rattle.sdd_base.specs.Order.{admits, column, meets, number_in}
 pub use Rattle.sdd_base.specs.Words.{ascending, contains, head_of}
 pub use Rattle.sdd_base.specs.declared.change.Change.{Change}
 pub use Rattle.sdd_base.specs.declared.limits.TheConstants.{MAX_REPLY_ROWS}
@@ -8,13 +8,12 @@ pub use Rattle.sdd_base.specs.declared.number.FragNo.{FragNo}
 pub use Rattle.sdd_base.specs.declared.number.RelNo.{RelNo}
 pub use Rattle.sdd_base.specs.declared.reply.Reply.TheVariants.{Overflow, TooMany}
 pub use Rattle.sdd_base.specs.declared.restriction.Op.{Op}
-pub use Rattle.sdd_base.specs.declared.restriction.Op.TheVariants.{Eq, Ge, Gt, Le, Lt, Ne}
 pub use Rattle.sdd_base.specs.declared.restriction.Restriction.{Restriction}
 pub use Rattle.sdd_base.specs.declared.usage.Use.{Use}
 pub use Rattle.sdd_base.specs.declared.value.Value.{Value}
-pub use Rattle.sdd_base.specs.declared.value.Value.TheVariants.{Int, Text}
+pub use Rattle.sdd_base.specs.declared.value.Value.TheVariants.{Int}
 pub use Rattle.sdd_catalog.proofs.Covering.{not_at_most as not_most}
-pub use Rattle.sdd_catalog.proofs.Found.{both_empty, each_unfound, empty_of_map}
+pub use Rattle.sdd_catalog.proofs.Found.{each_unfound, empty_of_map}
 pub use Rattle.sdd_catalog.proofs.FragmentOf.{le_true, one_holder, table_cover}
 pub use Rattle.sdd_catalog.proofs.Members.{IsIn, at_in}
 pub use Rattle.sdd_catalog.proofs.NameLemmas.{numbered}
@@ -24,11 +23,9 @@ pub use Rattle.sdd_catalog.proofs.Validity.{fine_relation, no_faults, not_false,
 pub use Rattle.sdd_catalog.specs.Catalogue.{Catalogue, HoldsKey, IsOf, column_of, fragment_at, fragment_of, key_column, kind_at, numbers_to, parts_of, reads_at, relation_at, relation_of, writes}
 pub use Rattle.sdd_catalog.specs.Cover.{Cover, IsNumberFor, ranges_for}
 pub use Rattle.sdd_catalog.specs.Names.{number_of}
-pub use Rattle.sdd_catalog.specs.Numbers.{HasKey}
-pub use Rattle.sdd_catalog.specs.Rules.{IsSoundCatalogue, column_named, greatest_key, is_int, key_rules, least_key, relation_rules}
+pub use Rattle.sdd_catalog.specs.Rules.{IsSoundCatalogue, greatest_key, least_key, relation_rules}
 pub use Rattle.sdd_catalog.specs.declared.parts.ColumnPart.{ColumnPart}
 pub use Rattle.sdd_catalog.specs.declared.parts.Kind.{Kind}
-pub use Rattle.sdd_catalog.specs.declared.parts.Parts.{Parts}
 pub use Rattle.sdd_catalog.specs.declared.parts.RelationPart.{RelationPart}
 pub use Rattle.sdd_catalog.specs.declared.ranges.KeyRange.{KeyRange}
 pub use Rattle.sdd_catalog.specs.declared.resolved.Column.{Column}
@@ -49,8 +46,8 @@ pub use Rattle.sdd_lang.specs.Serial.{after_changes, changed_by, item_of, set_to
 pub use Rattle.sdd_lang.specs.Sound.{IsDatabase, IsEntry, IsHeld, PutsHeld}
 pub use Rattle.sdd_lang.specs.Source.{AgreeAlong, Chosen, Found, chosen_in, effect_by, effect_over, entries_of, found_in, uses_in}
 pub use Rattle.sdd_lang.specs.Tuples.{may_join, rows_lent}
-pub use Rattle.sdd_lang.specs.Update.{added, assigned, assigned_all, chosen, in_range, replaced}
-pub use Rattle.sdd_lang.specs.Uses.{Interval, IsOfKeys, IsWithin, all_keys, allowed_keys, common, fragments_for, holds_some, keys_for, larger, meets_keys, part_uses, restriction_of, restrictions_of, smaller, statement_uses, uses_from, uses_of}
+pub use Rattle.sdd_lang.specs.Update.{assigned, assigned_all, chosen, in_range, replaced}
+pub use Rattle.sdd_lang.specs.Uses.{Interval, IsOfKeys, IsWithin, all_keys, allowed_keys, common, fragments_for, holds_some, keys_for, meets_keys, part_uses, restriction_of, restrictions_of, statement_uses, uses_from, uses_of}
 pub use Rattle.sdd_lang.specs.declared.assign.Assign.{Assign}
 pub use Rattle.sdd_lang.specs.declared.assign.Assign.TheVariants.{Add, To}
 pub use Rattle.sdd_lang.specs.declared.condition.Condition.{Condition}
@@ -60,9 +57,9 @@ pub use Rattle.sdd_lang.specs.declared.effect.Effect.{Effect}
 pub use Rattle.sdd_lang.specs.declared.statement.Stmt.{Stmt}
 pub use Rattle.sdd_lang.specs.declared.statement.Stmt.TheVariants.{Delete, Put, Query, Update}
 pub use Rattle.sdd_lang.specs.declared.transaction.Txn.{Txn}
-pub use Rattle.std.proofs.Common.{All, Bool, Contains, Equal, Greater, Less, List, None, Option, Ordering, SFits as FitsSigned, Some, [], add-zero, ap, append-nil, append_assoc, arith, cond, drop, false, filter, flat_map, fold, get_or-set_other, get_or-set_same, if◌then◌else◌, inl, inr, int_cmp, int_le, is_some, length, length-append, map, nat_cmp, nat_lt, not, pos, refl, replicate, rules, slice_get, slice_index_or as get_or, slice_set, subst, suc, sym, take, take_all, to_z-of_z, true, unwrap_or, w64, zero, ℕ, ℤ, ◌&&◌, ◌*◌, ◌++◌, ◌+ℤ◌, ◌+◌, ◌-ℤ◌, ◌-◌, ◌<ℤ◌, ◌<◌, ◌==◌, ◌||◌, ◌∙◌, ◌∷◌, ◌≡◌, ◌≢◌, ◌≤ℤ◌, ◌≤◌, ◌⊎◌}
+pub use Rattle.std.proofs.Common.{All, Bool, Greater, Less, List, None, Option, Ordering, SFits as FitsSigned, Some, [], add-zero, ap, append-nil, append_assoc, arith, cond, drop, false, filter, flat_map, fold, get_or-set_other, get_or-set_same, if◌then◌else◌, inl, inr, int_cmp, int_le, is_some, length, length-append, map, nat_cmp, nat_lt, not, pos, refl, replicate, rules, slice_get, slice_index_or as get_or, slice_set, subst, suc, sym, take, take_all, to_z-of_z, true, unwrap_or, w64, zero, ℕ, ℤ, ◌&&◌, ◌*◌, ◌++◌, ◌+◌, ◌-◌, ◌<ℤ◌, ◌<◌, ◌==◌, ◌||◌, ◌∙◌, ◌∷◌, ◌≡◌, ◌≤ℤ◌, ◌≤◌}
 pub use Rattle.std.proofs.lemmas.Bool.{and_from as and_both, cases_lt, or_right as or_holds}
-pub use Rattle.std.proofs.lemmas.Bool.Decides.{Decides-eqb}
+pub use Rattle.std.proofs.lemmas.Bool.Decides.{Decides-eqb, nat_tests}
 pub use Rattle.std.proofs.lemmas.Cmp.{int_cmp_total, int_ranked, nat_cmp_total, on_total, then_total, tied_itself}
 pub use Rattle.std.proofs.lemmas.Grind.{common_steps}
 pub use Rattle.std.proofs.lemmas.Int.{ints}

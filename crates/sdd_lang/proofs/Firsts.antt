@@ -17,19 +17,12 @@ unfolding first_from
 first_step cat txn c m n e = ap (λ k. unwrap_or (head_of (filter (covers cat txn) (range_with_len c k))) 0) e
 
 pub first_here : (cat : Catalogue) (txn : Txn) (c n : ℕ) → c < n → true ≡ covers cat txn c → first_from cat txn c (n - c) ≡ c
-first_here cat txn c n within covered =
-    let m : ℕ = n - c - 1 in
-    let e : n - c ≡ suc m = omega arith in
-    cc (first_step cat txn c m (n - c) e, covered)
+first_here cat txn c n within covered = cc (first_step cat txn c (n - c - 1) (n - c) (omega arith), covered)
 
 pub first_later : (cat : Catalogue) (txn : Txn) (c n : ℕ) → c < n → false ≡ covers cat txn c
     → first_from cat txn c (n - c) ≡ first_from cat txn (c + 1) (n - (c + 1))
 unfolding first_from
-first_later cat txn c n within covered =
-    let m : ℕ = n - c - 1 in
-    let e : n - c ≡ suc m = omega arith in
-    let f : m ≡ n - (c + 1) = omega arith in
-    cc
+first_later cat txn c n within covered = grind arith
 
 pub first_of_none : (cat : Catalogue) (txn : Txn) (c n : ℕ) → n ≤ c → first_from cat txn c (n - c) ≡ 0
 unfolding first_from

@@ -1,11 +1,8 @@
 -- Sets of fragments, as flags: what one more flag adds, and whether all members pass a test.
-use Rattle.sdd_lang.proofs.All.{AllByRecursion, Bool, Catalogue, Equal, Greater, Less, List, [], ap, arith, cases_lt, cond, false, filter, get_or-replicate, get_or-set_other, get_or-set_same, get_or_past, has, inl, inr, insert_key, length, length-replicate, list_all, members, nat_cmp, nat_cmp_is, not, numbers_to, range_with_len, refl, replicate, slice_set as set, subst, suc, sym, true, zero, ℕ, ◌+◌, ◌-◌, ◌<◌, ◌||◌, ◌∙◌, ◌∷◌, ◌≡◌, ◌≢◌, ◌≤◌}
+use Rattle.sdd_lang.proofs.All.{AllByRecursion, Bool, Catalogue, Less, List, [], arith, cases_lt, cond, false, filter, get_or-replicate, get_or-set_other, get_or-set_same, get_or_past, has, inl, inr, insert_key, length, length-replicate, list_all, members, nat_cmp, nat_cmp_is, nat_tests, not, numbers_to, range_with_len, refl, replicate, slice_set as set, suc, sym, true, zero, ℕ, ◌+◌, ◌-◌, ◌<◌, ◌||◌, ◌∷◌, ◌≡◌, ◌≤◌}
 
 none_has : (n f : ℕ) → has (replicate n false) f ≡ false
-none_has n f = elim (cases_lt f n) [
-  | inl within ↦ get_or-replicate n f false false within
-  | inr past ↦ let e : length (replicate n false) ≡ n = length-replicate n false in get_or_past (replicate n false) f false (omega arith)
-]
+none_has n f = grind (arith, cases_lt, get_or-replicate, length-replicate, get_or_past)
 
 none_kept : (p : ℕ → Bool) → ((f : ℕ) → p f ≡ false) → (ns : List ℕ) → filter p ns ≡ []
 none_kept p none [] = refl
@@ -17,53 +14,30 @@ no_members n cat = none_kept (has (replicate n false)) (none_has n) (numbers_to 
 
 above_same : (flags : List Bool) (f a n : ℕ) → f < a → filter (has (set flags f true)) (range_with_len a n) ≡ filter (has flags) (range_with_len a n)
 above_same flags f a zero past = refl
-above_same flags f a (suc n) past =
-    let other : a ≢ f = λ e. omega arith in
-    let rest : filter (has (set flags f true)) (range_with_len (a + 1) n) ≡ filter (has flags) (range_with_len (a + 1) n) = above_same flags f (a + 1) n
-    (omega arith) in
-    simp (get_or-set_other, rest)
+above_same flags f a (suc n) past = grind (arith, range_with_len, get_or-set_other, (above_same flags f (a + 1) n (omega arith)))
 
 kept_above : (p : ℕ → Bool) (f a n : ℕ) → f < a → AllByRecursion (λ x. f < x) (filter p (range_with_len a n))
 kept_above p f a zero past = tt
-kept_above p f a (suc n) past =
-    elim (p a) as (λ b. AllByRecursion (λ x. f < x) (cond b (a ∷ filter p (range_with_len (a + 1) n)) (filter p (range_with_len (a + 1) n)))) [
-      | true ↦ (past, kept_above p f (a + 1) n (omega arith))
-      | false ↦ kept_above p f (a + 1) n (omega arith)
-    ]
+kept_above p f a (suc n) past = grind (arith, range_with_len, (kept_above p f (a + 1) n (omega arith)))
 
 put_before : (xs : List ℕ) (f : ℕ) → AllByRecursion (λ x. f < x) xs → insert_key nat_cmp xs f ≡ f ∷ xs
 put_before [] f all = refl
 put_before (x ∷ xs) f all = rw (sym (nat_cmp_is f x Less all.0)) refl
 
 put_at_first : (b : Bool) (xs : List ℕ) (f : ℕ) → AllByRecursion (λ x. f < x) xs → insert_key nat_cmp (cond b (f ∷ xs) xs) f ≡ f ∷ xs
-put_at_first true xs f all = rw (sym (nat_cmp_is f f Equal refl)) refl
-put_at_first false xs f all = put_before xs f all
-
-put_behind : (b : Bool) (xs : List ℕ) (a f : ℕ) → a < f
-    → insert_key nat_cmp (cond b (a ∷ xs) xs) f ≡ cond b (a ∷ insert_key nat_cmp xs f) (insert_key nat_cmp xs f)
-put_behind true xs a f past = rw (sym (nat_cmp_is f a Greater past)) refl
-put_behind false xs a f past = refl
+put_at_first b xs f all = grind (arith, nat_cmp_is, put_before)
 
 set_first : (flags : List Bool) (f n : ℕ) → f < length flags
     → filter (has (set flags f true)) (range_with_len f (suc n)) ≡ insert_key nat_cmp (filter (has flags) (range_with_len f (suc n))) f
-set_first flags f n within =
-    ap (λ b. cond b (f ∷ filter (has (set flags f true)) (range_with_len (f + 1) n)) (filter (has (set flags f true)) (range_with_len (f + 1) n)))
-    (get_or-set_same flags f true false within)
-    ∙ ap (λ xs. f ∷ xs) (above_same flags f (f + 1) n (omega arith))
-    ∙ sym (put_at_first (has flags f) (filter (has flags) (range_with_len (f + 1) n)) f (kept_above (has flags) f (f + 1) n (omega arith)))
+set_first flags f n within = rw (get_or-set_same flags f true false within, above_same flags f (f + 1) n (omega arith))
+    (sym (put_at_first (has flags f) (filter (has flags) (range_with_len (f + 1) n)) f (kept_above (has flags) f (f + 1) n (omega arith))))
 
 set_within : (flags : List Bool) (f : ℕ) → f < length flags → (a n : ℕ) → a ≤ f → f < a + n
     → filter (has (set flags f true)) (range_with_len a n) ≡ insert_key nat_cmp (filter (has flags) (range_with_len a n)) f
 set_within flags f within a zero from to = absurd (omega arith)
 set_within flags f within a (suc n) from to = elim (cases_lt a f) [
-  | inl before ↦ let other : a ≢ f = λ e. omega arith in
-      ap (λ b. cond b (a ∷ filter (has (set flags f true)) (range_with_len (a + 1) n)) (filter (has (set flags f true)) (range_with_len (a + 1) n)))
-      (get_or-set_other flags f a true false other)
-      ∙ ap (λ xs. cond (has flags a) (a ∷ xs) xs) (set_within flags f within (a + 1) n (omega arith) (omega arith))
-      ∙ sym (put_behind (has flags a) (filter (has flags) (range_with_len (a + 1) n)) a f before)
-  | inr here ↦ let same : f ≡ a = omega arith in
-      subst (λ k. filter (has (set flags f true)) (range_with_len k (suc n)) ≡ insert_key nat_cmp (filter (has flags) (range_with_len k (suc n))) f) same
-      (set_first flags f n within)
+  | inl before ↦ grind (arith, nat_tests, get_or-set_other, nat_cmp_is, (set_within flags f within (a + 1) n (omega arith) (omega arith)))
+  | inr here ↦ let same : f ≡ a = omega arith in rw (← same) (set_first flags f n within)
 ]
 
 -- a flag that is set puts its number in its place
@@ -83,27 +57,11 @@ pub pass_none : (p : ℕ → Bool) (flags : List Bool) (c n : ℕ) → n ≤ c �
 unfolding pass_from
 pass_none p flags c n past = let e : n - c ≡ 0 = omega arith in cc
 
-first_fails : (p : ℕ → Bool) (h : Bool) (c : ℕ) (rest : List ℕ) → false ≡ (not h || p c) → list_all p (cond h (c ∷ rest) rest) ≡ false
-first_fails p true c rest e = rw (sym e) refl
-first_fails p false c rest e = cc
-
-first_passes : (p : ℕ → Bool) (h : Bool) (c : ℕ) (rest : List ℕ) → true ≡ (not h || p c)
-    → list_all p (cond h (c ∷ rest) rest) ≡ list_all p rest
-first_passes p true c rest e = rw (sym e) refl
-first_passes p false c rest e = refl
-
 pub pass_fails : (p : ℕ → Bool) (flags : List Bool) (c n : ℕ) → c < n → false ≡ (not (has flags c) || p c) → pass_from p flags c (n - c) ≡ false
 unfolding pass_from
-pass_fails p flags c n within e =
-    let m : ℕ = n - c - 1 in
-    let k : n - c ≡ suc m = omega arith in
-    cc (k, first_fails p (has flags c) c (filter (has flags) (range_with_len (c + 1) m)) e)
+pass_fails p flags c n within e = grind (arith, range_with_len)
 
 pub pass_more : (p : ℕ → Bool) (flags : List Bool) (c n : ℕ) → c < n → true ≡ (not (has flags c) || p c)
     → pass_from p flags c (n - c) ≡ pass_from p flags (c + 1) (n - (c + 1))
 unfolding pass_from
-pass_more p flags c n within e =
-    let m : ℕ = n - c - 1 in
-    let k : n - c ≡ suc m = omega arith in
-    let j : m ≡ n - (c + 1) = omega arith in
-    cc (k, first_passes p (has flags c) c (filter (has flags) (range_with_len (c + 1) m)) e, j)
+pass_more p flags c n within e = grind (arith, range_with_len)

@@ -3,15 +3,12 @@ use Rattle.sdd_lang.proofs.All.{Bool, FragNo, List, [], ap, append-nil, arith, c
 
 pub range_more : (a n : ℕ) → range_with_len a (suc n) ≡ range_with_len a n ++ (a + n) ∷ []
 range_more a zero = let e : a ≡ a + 0 = omega arith in ap (λ k. k ∷ []) e
-range_more a (suc n) =
-    let e : a + 1 + n ≡ a + suc n = omega arith in
-    ap (λ ks. a ∷ ks) (range_more (a + 1) n ∙ ap (λ k. range_with_len (a + 1) n ++ k ∷ []) e)
+range_more a (suc n) = grind (arith, range_with_len, (range_more (a + 1) n))
 
 pub numbers_more : (n : ℕ) → 1 ≤ n → numbers_to (n + 1 - 1) ≡ numbers_to (n - 1) ++ n ∷ []
 numbers_more n from =
     let e : n + 1 - 1 ≡ suc (n - 1) = omega arith in
-    let f : 1 + (n - 1) ≡ n = omega arith in
-    ap (λ k. numbers_to k) e ∙ range_more 1 (n - 1) ∙ ap (λ k. numbers_to (n - 1) ++ k ∷ []) f
+    ap (λ k. numbers_to k) e ∙ range_more 1 (n - 1) ∙ ap (λ k. numbers_to (n - 1) ++ k ∷ []) (omega arith)
 
 kept_more : (p : ℕ → Bool) (n : ℕ) → 1 ≤ n
     → map frag_no (filter p (numbers_to (n + 1 - 1))) ≡ map frag_no (filter p (numbers_to (n - 1))) ++ map frag_no (cond (p n) (n ∷ []) [])
@@ -24,5 +21,4 @@ frag_kept p n xs ys from passes so more = cc (more, so, passes, kept_more p n fr
 
 pub frag_left : (p : ℕ → Bool) (n : ℕ) (xs ys : List FragNo) → 1 ≤ n → false ≡ p n → xs ≡ map frag_no (filter p (numbers_to (n - 1)))
     → ys ≡ xs → ys ≡ map frag_no (filter p (numbers_to (n + 1 - 1)))
-frag_left p n xs ys from fails so same =
-    cc (same, so, append-nil (map frag_no (filter p (numbers_to (n - 1)))), fails, kept_more p n from)
+frag_left p n xs ys from fails so same = grind (arith, append-nil, kept_more)

@@ -1,23 +1,15 @@
 -- The fragments that a transaction touches, statement by statement.
-use Rattle.sdd_lang.proofs.All.{Bool, Catalogue, Condition, Delete, FragNo, Interval, List, Put, Query, RelNo, Relation, Stmt, Txn, Update, Use, [], all_keys, allowed_keys, ap, ascending, at_drop_more, common, cond, drop, false, filter, filter-append, filter_map-append, flat_map, flat_map-append, fold-append, frag_no, fragments_in, get_or, has, insert_key, key_column, keys_for, keys_left, length, map, meets_keys, members, nat_cmp, number_in, numbers_to, part_uses, put_all, read_set, refl, relation_at, restriction_of, restrictions_of, statement_uses, sym, take, take_all, take_more, true, uses_from, ℕ, ◌++◌, ◌+◌, ◌-◌, ◌<◌, ◌==◌, ◌∙◌, ◌∷◌, ◌≡◌, ◌≤◌}
+use Rattle.sdd_lang.proofs.All.{Bool, Catalogue, Condition, FragNo, Interval, List, RelNo, Relation, Stmt, Txn, [], allowed_keys, ap, arith, ascending, at_drop_more, drop, false, filter, filter-append, filter_map-append, flat_map, flat_map-append, fold-append, frag_no, fragments_in, get_or, has, insert_key, key_column, keys_left, length, map, meets_keys, members, nat_cmp, numbers_to, part_uses, put_all, read_set, refl, relation_at, restrictions_of, statement_uses, sym, take, take_all, take_more, true, uses_from, ℕ, ◌+◌, ◌-◌, ◌<◌, ◌∙◌, ◌∷◌, ◌≡◌, ◌≤◌}
 use Rattle.sdd_lang.proofs.Numbering.{numbers_more}
 
 -- one number more is looked at: it is put where it passes
 pub one_put : (p : ℕ → Bool) (n : ℕ) (ks xs ys : List ℕ) → 1 ≤ n → true ≡ p n → xs ≡ put_all ks (filter p (numbers_to (n - 1)))
     → ys ≡ insert_key nat_cmp xs n → ys ≡ put_all ks (filter p (numbers_to (n + 1 - 1)))
-one_put p n ks xs ys from passes so more =
-    more ∙ ap (λ zs. insert_key nat_cmp zs n) so
-    ∙ sym (fold-append (λ zs k. insert_key nat_cmp zs k) ks (filter p (numbers_to (n - 1))) (n ∷ []))
-    ∙ ap (λ b. put_all ks (filter p (numbers_to (n - 1)) ++ cond b (n ∷ []) [])) passes
-    ∙ ap (put_all ks) (sym (ap (filter p) (numbers_more n from) ∙ filter-append p (numbers_to (n - 1)) (n ∷ [])))
+one_put p n ks xs ys from passes so more = grind (arith, insert_key, nat_cmp, fold-append, numbers_more, filter-append)
 
 pub none_put : (p : ℕ → Bool) (n : ℕ) (ks xs ys : List ℕ) → 1 ≤ n → false ≡ p n → xs ≡ put_all ks (filter p (numbers_to (n - 1)))
     → ys ≡ xs → ys ≡ put_all ks (filter p (numbers_to (n + 1 - 1)))
-none_put p n ks xs ys from fails so same =
-    same ∙ so
-    ∙ sym (fold-append (λ zs k. insert_key nat_cmp zs k) ks (filter p (numbers_to (n - 1))) [])
-    ∙ ap (λ b. put_all ks (filter p (numbers_to (n - 1)) ++ cond b (n ∷ []) [])) fails
-    ∙ ap (put_all ks) (sym (ap (filter p) (numbers_more n from) ∙ filter-append p (numbers_to (n - 1)) (n ∷ [])))
+none_put p n ks xs ys from fails so same = grind (arith, fold-append, insert_key, nat_cmp, numbers_more, filter-append)
 
 pub numbers_back : (ns : List ℕ) → map (λ (f : FragNo). f.0) (map frag_no ns) ≡ ns
 numbers_back [] = refl
@@ -44,10 +36,7 @@ pub part_put : (cat : Catalogue) (ks xs : List ℕ) (part : ℕ) (conds : List C
     → r ≡ relation_at cat rel.0 → keys ≡ allowed_keys r.key (restrictions_of part conds)
     → xs ≡ put_all ks (filter (meets_keys cat rel.0 keys) (numbers_to (length cat.fragments)))
     → put_all xs (fragments_in (part_uses cat 0 conds (part + 1) rels)) ≡ put_all ks (fragments_in (part_uses cat 0 conds part (rel ∷ rels)))
-part_put cat ks xs part conds rel rels r keys is allowed put =
-    let e : keys ≡ allowed_keys (key_column cat rel.0) (restrictions_of part conds) = allowed
-    ∙ ap (λ (s : Relation). allowed_keys s.key (restrictions_of part conds)) is in
-    simp (put, e, one_part)
+part_put cat ks xs part conds rel rels r keys is allowed put = simp (put, allowed, is, one_part)
 
 -- with the fragments of one part more, those that are left complete them as before
 pub part_more : (cat : Catalogue) (ks xs ys : List ℕ) (part : ℕ) (conds : List Condition) (rels : List RelNo) (i : ℕ) (d : RelNo) (r : Relation) (keys : Interval)
@@ -63,14 +52,7 @@ part_more cat ks xs ys part conds rels i d r keys within is allowed put so =
 parts_alike : (cat : Catalogue) (before : ℕ) (conds : List Condition) (part : ℕ) (rels : List RelNo)
     → fragments_in (part_uses cat before conds part rels) ≡ fragments_in (part_uses cat 0 conds part rels)
 parts_alike cat before conds part [] = refl
-parts_alike cat before conds part (rel ∷ rels) =
-    ap (λ ns. map (λ (f : FragNo). f.0) (map frag_no (part_numbers cat rel.0 part conds)) ++ ns) (parts_alike cat before conds (part + 1) rels)
-
-statements_alike : (cat : Catalogue) (before : ℕ) (s : Stmt) → fragments_in (statement_uses cat before s) ≡ fragments_in (statement_uses cat 0 s)
-statements_alike cat before (Put rel row) = refl
-statements_alike cat before (Query out rels conds) = parts_alike cat before conds 1 rels
-statements_alike cat before (Update rel sets conds) = parts_alike cat before conds 1 (rel ∷ [])
-statements_alike cat before (Delete rel conds) = parts_alike cat before conds 1 (rel ∷ [])
+parts_alike cat before conds part (rel ∷ rels) = grind (arith, part_numbers, (parts_alike cat before conds (part + 1) rels))
 
 -- the fragments that a statement reads
 abbrev pub read_by : Catalogue → Stmt → List ℕ
@@ -78,11 +60,7 @@ read_by cat s = fragments_in (statement_uses cat 0 s)
 
 read_from : (cat : Catalogue) (before : ℕ) (statements : List Stmt) → fragments_in (uses_from cat before statements) ≡ flat_map (read_by cat) statements
 read_from cat before [] = refl
-read_from cat before (s ∷ rest) =
-    flat_map-append (λ (u : Use). map (λ (f : FragNo). f.0) u.frags) (statement_uses cat before s)
-    (uses_from cat (before + length (statement_uses cat before s)) rest)
-    ∙ ap (λ ns. ns ++ fragments_in (uses_from cat (before + length (statement_uses cat before s)) rest)) (statements_alike cat before s)
-    ∙ ap (λ ns. read_by cat s ++ ns) (read_from cat (before + length (statement_uses cat before s)) rest)
+read_from cat before (s ∷ rest) = grind (arith, flat_map-append, parts_alike, read_by, (read_from cat (before + length (statement_uses cat before s)) rest))
 
 -- what all statements read, the transaction reads
 pub all_read : (cat : Catalogue) (txn : Txn) (i : ℕ) (xs : List ℕ) → length txn.statements ≤ i
@@ -92,8 +70,4 @@ all_read cat txn i xs past so = simp (so, take_all, read_from)
 -- the keys that one condition more leaves
 pub keys_more : (key part : ℕ) (conds : List Condition) (i : ℕ) (c : Condition) → i < length conds → c ≡ get_or conds i c
     → allowed_keys key (restrictions_of part (take (i + 1) conds)) ≡ keys_left key (allowed_keys key (restrictions_of part (take i conds))) (restrictions_of part (c ∷ []))
-keys_more key part conds i c within is =
-    ap (λ cs. allowed_keys key (restrictions_of part cs)) (take_more conds i c within ∙ ap (λ z. take i conds ++ z ∷ []) (sym is))
-    ∙ ap (allowed_keys key) (filter_map-append (restriction_of part) (take i conds) (c ∷ []))
-    ∙ fold-append (λ ks r. cond (r.column == key) (common ks (keys_for r.op (number_in r.value))) ks) all_keys (restrictions_of part (take i conds))
-    (restrictions_of part (c ∷ []))
+keys_more key part conds i c within is = rw (take_more conds i c within, ← is) (simp (filter_map-append, fold-append))

@@ -1,5 +1,5 @@
 -- What each call of the network does to what it represents.
-use Rattle.sdd_net.proofs.All.{ArePair, Bool, Call, Changes, ChangesPair, Channel, ChannelsRepresent, Delivers, Directions, Does, FitsWay, HasLink, IsNet, IsSoundLink, IsTrue, Kept, Link, List, Loses, Matches, None, Ok, Option, Packet, PlacedLink, Repeats, Represents, Result, Site, Some, Way, [], after_call, ap, arith, deliver, false, index_of, is_link, is_some, length, link, lose, mul-add-lt, nat_tests, on_link, packet_at, refl, repeat, replicate, site_count, slice_get, slice_get_within, subst, suc, sym, true, unused, unused_channel, with_flight, with_packet, without_at, ℕ, ◌*◌, ◌++◌, ◌-◌, ◌<◌, ◌∙◌, ◌∷◌, ◌≡◌, ◌≤◌}
+use Rattle.sdd_net.proofs.All.{ArePair, Bool, Call, Changes, ChangesPair, Channel, ChannelsRepresent, Delivers, Directions, Does, FitsWay, HasLink, IsNet, IsSoundLink, IsTrue, Kept, Link, List, Loses, None, Ok, Option, Packet, PlacedLink, Repeats, Represents, Result, Site, Some, Way, [], after_call, ap, arith, deliver, false, index_of, is_link, is_some, length, link, lose, mul-add-lt, nat_tests, on_link, packet_at, refl, repeat, replicate, site_count, slice_get, slice_get_within, subst, suc, sym, true, unused, unused_channel, with_flight, with_packet, without_at, ℕ, ◌*◌, ◌++◌, ◌-◌, ◌<◌, ◌∙◌, ◌∷◌, ◌≡◌, ◌≤◌}
 use Rattle.sdd_net.proofs.Lists.{without-past}
 use Rattle.sdd_net.proofs.Directions.{link_parts, link_back, place_below, index_apart, back_is, step, one_way}
 use Rattle.sdd_net.proofs.Sound.{sound}
@@ -58,24 +58,14 @@ module _ {M : Type 0} where
       (subst (λ k. FitsWay (slice_get new k) (f l).there) e c.fits)
       (λ k ne. c.others k (λ x. ne (x ∙ e)))
 
-  back_kept : (o : Option (Packet M)) (f : Packet M → Way M) (l : Link M)
-      → (with_packet o (λ p. record l { there = f p }) l).back ≡ l.back
-  back_kept o f l = grind (arith, nat_tests)
-
-  lost : (o : Option (Packet M)) (k : ℕ) (l : Link M) → slice_get l.there.flight k ≡ o
-      → (with_packet o (λ p. record l { there = with_flight (without_at l.there.flight k) l.there }) l).there ≡ with_flight
-      (without_at l.there.flight k) l.there
-  lost None k l e = ap (λ f. with_flight f l.there) (sym (without-past l.there.flight k e))
-  lost (Some p) k l e = refl
-
   pub lose_does : (tms dms : ℕ) (old new : List (Channel M)) (at place : ℕ) (from to : Site)
       → at ≡ index_of tms dms from to → IsTrue (is_link tms dms from to)
       → ((w : Way M) → FitsWay (slice_get old at) w → Changes old new at (with_flight (without_at w.flight (place - 1)) w))
       → (calls : List (Call M)) → ChannelsRepresent tms dms old calls → ChannelsRepresent tms dms new (Loses from to place ∷ calls)
   lose_does tms dms old new at place from to e exists change =
       way_does tms dms old new at from to (Loses from to place) (lose place) (λ a b l. refl)
-      (λ l. back_kept (packet_at place l) (λ p. with_flight (without_at l.there.flight (place - 1)) l.there) l) e exists
-      (λ l s h. subst (Changes old new at) (sym (lost (packet_at place l) (place - 1) l refl)) (change l.there h))
+      (λ l. (grind (arith, nat_tests))) e exists
+      (λ l s h. subst (Changes old new at) (sym (grind (arith, without-past))) (change l.there h))
 
   -- a packet is there where its place is not past the end
   pub repeated_way : {E : Type 0} (old new : List (Channel M)) (at place : ℕ) (there : Bool) (l : Link M) (o : Option (Packet M))
@@ -87,9 +77,7 @@ module _ {M : Type 0} where
       → FitsWay (slice_get old at) l.there
       → Changes old new at (with_packet o (λ p. record l { there = with_flight (l.there.flight ++ p ∷ []) l.there }) l).there × (there ≡ is_some o)
   repeated_way old new at place true l (Some p) one e some inside none fits = (some refl l.there p fits e, refl)
-  repeated_way old new at place false l (Some p) one e some inside none fits = grind (arith, nat_tests, slice_get_within)
-  repeated_way old new at place true l None one e some inside none fits = grind (arith, nat_tests, past)
-  repeated_way old new at place false l None one e some inside none fits = ((none refl l.there fits).0, refl)
+  repeated_way old new at place there l o one e some inside none fits = grind (arith, slice_get_within, past)
 
   pub repeat_does : (tms dms : ℕ) (old new : List (Channel M)) (at place : ℕ) (from to : Site)
       → at ≡ index_of tms dms from to → IsTrue (is_link tms dms from to)
@@ -97,14 +85,13 @@ module _ {M : Type 0} where
       → (calls : List (Call M)) → ChannelsRepresent tms dms old calls → ChannelsRepresent tms dms new (Repeats from to place ∷ calls)
   repeat_does tms dms old new at place from to e exists change =
       way_does tms dms old new at from to (Repeats from to place) (repeat place) (λ a b l. refl)
-      (λ l. back_kept (packet_at place l) (λ p. with_flight (l.there.flight ++ p ∷ []) l.there) l) e exists (λ l s h. change l h)
+      (λ l. (grind (arith, nat_tests))) e exists (λ l s h. change l h)
 
   -- the two directions of a link
   pub pair_of : (tms dms : ℕ) (channels : List (Channel M)) (there back : ℕ) (from to : Site) (calls : List (Call M))
       → there ≡ index_of tms dms from to → back ≡ index_of tms dms to from → IsTrue (is_link tms dms from to)
       → ChannelsRepresent tms dms channels calls → ArePair channels there back (link from to calls)
-  pair_of tms dms channels there back from to calls e f exists represents =
-      grind (arith, nat_tests, index_apart, back_is, link_back)
+  pair_of tms dms channels there back from to calls e f exists represents = grind (arith, index_apart, back_is, link_back)
 
   pub deliver_does : (tms dms : ℕ) (old new : List (Channel M)) (there back place : ℕ) (from to : Site)
       → there ≡ index_of tms dms from to → back ≡ index_of tms dms to from → IsTrue (is_link tms dms from to)
@@ -119,10 +106,6 @@ module _ {M : Type 0} where
       (subst (λ k. FitsWay (slice_get new k) (deliver place l).back) f c.fits_back)
       (λ k x y. c.others k (λ z. x (z ∙ e)) (λ z. y (z ∙ f)))
 
--- a new network
-unused_matches : (M : Type 0) → Matches {M = M} unused_channel unused
-unused_matches M = grind (arith, nat_tests)
-
 pub unused_stands : (M : Type 0) (tms dms : ℕ) (channels : List (Channel M))
     → channels ≡ replicate (site_count tms dms * site_count tms dms) unused_channel → ChannelsRepresent tms dms channels []
 unused_stands M tms dms channels e a b exists =
@@ -131,4 +114,4 @@ unused_stands M tms dms channels e a b exists =
     (place_below tms dms b p.to) in
     let at : slice_get channels (index_of tms dms a b) ≡ Some unused_channel =
     ap (λ cs. slice_get cs (index_of tms dms a b)) e ∙ get-replicate (site_count tms dms * site_count tms dms) (index_of tms dms a b) unused_channel below in
-    subst (λ o. FitsWay {M = M} o unused) (sym at) (unused_matches M)
+    subst (λ o. FitsWay {M = M} o unused) (sym at) (grind (arith, nat_tests))

@@ -1,5 +1,5 @@
 -- A delivery, step by step.
-use Rattle.sdd_net.proofs.All.{Ack, Acked, ArePair, Changes, ChangesPair, Channel, FitsWay, IsLive, IsLiveAt, IsOf, IsSoundLink, IsSoundWay, Link, List, Matches, Message, Messages, None, Nothing, Option, Packet, Some, Way, [], ap, arith, arrives, deliver, delivered, delivery, length, nat_tests, newly_delivered, packet_at, refl, sent_by, slice_get, subst, sym, with_ack, with_arrival, with_flight, with_packet, without_at, without_packet, ℕ, ◌++◌, ◌-◌, ◌∷◌, ◌≡◌, ◌≢◌, ◌≤◌}
+use Rattle.sdd_net.proofs.All.{Ack, Acked, ArePair, Changes, ChangesPair, Channel, FitsWay, IsLive, IsLiveAt, IsOf, IsSoundLink, IsSoundWay, Link, List, Matches, Message, Messages, None, Nothing, Option, Packet, Some, Way, [], ap, arith, deliver, delivered, delivery, length, nat_tests, newly_delivered, packet_at, refl, sent_by, slice_get, subst, sym, with_ack, with_arrival, with_flight, without_at, ℕ, ◌++◌, ◌-◌, ◌∷◌, ◌≡◌, ◌≢◌, ◌≤◌}
 use Rattle.sdd_net.proofs.Lists.{All-at, without-past}
 use Rattle.sdd_net.proofs.Matching.{last_number_is}
 use Rattle.sdd_net.proofs.Sound.{delivered_le}
@@ -12,8 +12,7 @@ module _ {M : Type 0} where
   fits_live o w h = grind (arith, nat_tests)
 
   pub sent_of : (o : Option (Channel M)) (w : Way M) → w.acked ≤ length w.sent → FitsWay o w → sent_by o ≡ length w.sent
-  sent_of None w l h = absurd h
-  sent_of (Some c) w l h = last_number_is c w l h
+  sent_of o w l h = grind (arith, last_number_is)
 
   -- what a change on one direction leaves of another
   pub stays : (old new : List (Channel M)) (at other : ℕ) (w v : Way M) → Changes old new at w
@@ -38,12 +37,7 @@ module _ {M : Type 0} where
   pub delivers_nothing : (old new : List (Channel M)) (there back place : ℕ) (l : Link M)
       → ArePair old there back l → packet_at place l ≡ None
       → Changes old new there (with_flight (without_at l.there.flight (place - 1)) l.there) → ChangesPair old new there back (deliver place l)
-  delivers_nothing old new there back place l pair e h =
-      subst (λ o. ChangesPair old new there back (with_packet o (λ p. arrives p (without_packet place l)) l)) (sym e) (record {
-        fits_there = subst (λ f. FitsWay (slice_get new there) (with_flight f l.there)) (without-past l.there.flight (place - 1) e) h.fits;
-        fits_back = stays old new there back (with_flight (without_at l.there.flight (place - 1)) l.there) l.back h (λ x. pair.apart (sym x)) pair.fits_back;
-        others = λ k a b. h.others k a;
-      })
+  delivers_nothing old new there back place l pair e h = grind (arith, slice_get, without-past, stays)
 
   pub delivers_ack : (old mid new : List (Channel M)) (there back place k : ℕ) (l : Link M)
       → ArePair old there back l → packet_at place l ≡ Some (Ack k)

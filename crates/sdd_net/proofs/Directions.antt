@@ -31,19 +31,14 @@ within n most e = let p = and_parts (nat_le 1 n) (nat_le n most) e in (leb-true 
 pub place_below : (tms dms : ℕ) (a : Site) → is_site tms dms a ≡ true → place_of tms a < site_count tms dms
 place_below tms dms a e = grind (arith, nat_tests)
 
-place_is : (tms dms : ℕ) (a b : Site) → is_site tms dms a ≡ true → is_site tms dms b ≡ true
-    → place_of tms a ≡ place_of tms b → a ≡ b
-place_is tms dms a b d e p = grind (arith, nat_tests)
-
 -- two links have one index only if they are one
 pub index_is : (tms dms : ℕ) (a b c d : Site) → IsTrue (is_link tms dms a b)
     → IsTrue (is_link tms dms c d) → index_of tms dms a b ≡ index_of tms dms c d → (a ≡ c) × (b ≡ d)
 index_is tms dms a b c d h k e =
     let p = link_parts tms dms a b h in
-    let q = link_parts tms dms c d k in
     let same = same_from_place (place_of tms a) (place_of tms b) (place_of tms c) (place_of tms d) (site_count tms dms) (place_below tms dms b p.to)
-    (place_below tms dms d q.to) e in
-    (place_is tms dms a c p.from q.from same.0, place_is tms dms b d p.to q.to same.1)
+    (place_below tms dms d (link_parts tms dms c d k).to) e in
+    ((grind (arith, nat_tests)), (grind (arith, nat_tests)))
 
 pub index_apart : (tms dms : ℕ) (a b : Site) → IsTrue (is_link tms dms a b)
     → index_of tms dms a b ≢ index_of tms dms b a
@@ -93,8 +88,7 @@ step {M = M} tms dms old new calls call from to f is exists represents there bac
             | true ↦ λ t. (let q = and_parts (same_site a to) (same_site b from) t in
                 subst (λ x. FitsWay (slice_get new (index_of tms dms x b)) (f (turned (link x b calls))).back) (sym (same_is a to q.0))
                 (subst (λ x. FitsWay (slice_get new (index_of tms dms to x)) (f (turned (link to x calls))).back) (sym (same_is b from q.1))
-                (subst (λ l. FitsWay (slice_get new (index_of tms dms to from)) (f (turned l)).back)
-                (sym (link_turned from to calls (linked_apart from to (link_parts tms dms from to exists).linked))) back)))
+                (grind (arith, slice_get, index_of, turned, link_turned, linked_apart, link_parts))))
             | false ↦ λ t.
                 subst (λ o. FitsWay o (link a b calls).there)
                 (sym (others (index_of tms dms a b)
@@ -114,8 +108,5 @@ pub one_way : {M : Type 0} (tms dms : ℕ) (old new : List (Channel M)) (calls :
     → ((k : ℕ) → k ≢ index_of tms dms from to → slice_get new k ≡ slice_get old k) → ChannelsRepresent tms dms new (call ∷ calls)
 one_way {M = M} tms dms old new calls call from to f is same exists represents there others =
     step tms dms old new calls call from to f is exists represents there
-    (subst (λ w. FitsWay (slice_get new (index_of tms dms to from)) w) (sym (same (link from to calls)))
-    (subst (λ w. FitsWay (slice_get new (index_of tms dms to from)) w) (back_is tms dms from to calls exists)
-    (subst (λ o. FitsWay o (link to from calls).there) (sym (others (index_of tms dms to from) (λ e. index_apart tms dms from to exists (sym e))))
-    (represents to from (link_back tms dms from to exists)))))
+    (grind (arith, slice_get, index_of, link, back_is, index_apart, link_back))
     (λ k here back. others k here)

@@ -1,5 +1,5 @@
 -- A list that is joined of pieces: where an item of a piece stands, and what a change of a piece changes.
-use Rattle.sdd_net.proofs.All.{IfSome, IsSome, List, None, OnErr, OnSome, Option, Result, Some, [], ap, append-nil, append_assoc, arith, drop, flat_map, flat_map-append, get_before, get_or, length, length-append, nat_tests, refl, remove, remove-append_left, remove-append_right, replicate, replicate-append-replicate, slice_get, slice_get_read, slice_set, suc, sym, take, without_at, zero, ℕ, ◌++◌, ◌+◌, ◌-◌, ◌<◌, ◌∙◌, ◌∷◌, ◌≡◌}
+use Rattle.sdd_net.proofs.All.{IfSome, IsSome, List, OnErr, OnSome, Option, Result, Some, [], ap, append-nil, append_assoc, arith, drop, flat_map, flat_map-append, get_before, get_or, length, length-append, nat_tests, refl, remove, remove-append_left, remove-append_right, replicate, replicate-append-replicate, slice_get, slice_get_read, slice_set, suc, sym, take, without_at, zero, ℕ, ◌++◌, ◌+◌, ◌-◌, ◌<◌, ◌∙◌, ◌∷◌, ◌≡◌}
 
 -- an item stands behind the items before it
 get_behind : {A : Type 0} (before after : List A) (j : ℕ)
@@ -7,17 +7,13 @@ get_behind : {A : Type 0} (before after : List A) (j : ℕ)
 get_behind [] after j = let same : 0 + j ≡ j = omega arith in rw same refl
 get_behind (x ∷ before) after j = grind (arith, nat_tests, (get_behind before after j))
 
-without_is : {A : Type 0} (xs : List A) (k : ℕ) → remove xs k ≡ without_at xs k
-without_is xs k = let next : suc k ≡ k + 1 = omega arith in ap (λ n. take k xs ++ drop n xs) next
-
 -- an item of the middle part is taken out of it
 without_between : {A : Type 0} (before middle after : List A) (j : ℕ) → j < length middle
     → without_at (before ++ (middle ++ after)) (length before + j) ≡ before ++ (remove middle j ++ after)
 without_between before middle after j l =
-    let same : length before + j - length before ≡ j = omega arith in
-    sym (without_is (before ++ (middle ++ after)) (length before + j))
+    sym (let next : suc (length before + j) ≡ (length before + j) + 1 = omega arith in ap (λ n. take (length before + j) (before ++ (middle ++ after)) ++ drop n (before ++ (middle ++ after))) next)
     ∙ remove-append_right before (middle ++ after) (length before) (length before + j) refl (omega arith)
-    ∙ ap (λ k. before ++ remove (middle ++ after) k) same
+    ∙ ap (λ k. before ++ remove (middle ++ after) k) (omega arith)
     ∙ ap (λ ys. before ++ ys) (remove-append_left middle after j l)
 
 module _ {X A : Type 0} (f : X → List A) where
@@ -109,8 +105,7 @@ on_err r a = grind (arith, nat_tests)
 pub item_read : {R A : Type 0} (value : R → A) (r : Option R) (whole piece : List A) (k j : ℕ)
     → j < length piece → slice_get whole k ≡ slice_get piece j → IfSome r (λ y. value y ≡ get_or piece j (value y))
     → IfSome r (λ y. slice_get whole k ≡ Some (value y))
-item_read value None whole piece k j l e read = tt
-item_read value (Some y) whole piece k j l e read = e ∙ slice_get_read piece (length piece) j (value y) refl l read
+item_read value r whole piece k j l e read = grind (arith, slice_get_read)
 
 -- what holds of a result that is there
 pub of_some : {A : Type 0} (r : Option A) {B : Type 0} → IsSome r → OnSome r B → B

@@ -1,5 +1,5 @@
 -- Each step of a channel is the step of the way for which it stands.
-use Rattle.sdd_net.proofs.All.{AreSent, Bool, Channel, HasReceived, IfOk, IsTrue, Kept, List, Matches, Message, None, OnOk, OnSome, Option, Packet, Result, Some, Way, [], acknowledged, ap, arith, drop, drop-append-le, drop-drop, is_empty, last_number, length, length-drop, max, nat_lt, nat_tests, not, numbered, received, refl, slice_get, subst, suc, sym, true, unacked, without_at, ℕ, ◌++◌, ◌+◌, ◌-◌, ◌∙◌, ◌∷◌, ◌≡◌, ◌≤◌}
+use Rattle.sdd_net.proofs.All.{AreSent, Bool, Channel, HasReceived, IfOk, IsTrue, Kept, List, Matches, Message, None, OnOk, OnSome, Option, Packet, Result, Some, Way, [], acknowledged, ap, arith, drop, drop-append-le, drop-drop, is_empty, last_number, length, length-drop, max, nat_lt, nat_tests, not, numbered, received, slice_get, subst, suc, sym, true, unacked, without_at, ℕ, ◌++◌, ◌+◌, ◌-◌, ◌∙◌, ◌∷◌, ◌≡◌, ◌≤◌}
 use Rattle.sdd_net.proofs.Lists.{get-append, without-past}
 use Rattle.sdd_net.proofs.Receives.{Receives, receives}
 
@@ -31,13 +31,7 @@ module _ {M : Type 0} where
       → d.flight ≡ record { live = true; value = c.flight.value ++ Message (last_number c.sender.value + 1) m ∷ [] }
       → d.receiver ≡ c.receiver
       → Matches d (record w { sent = w.sent ++ m ∷ []; flight = w.flight ++ Message (length w.sent + 1) m ∷ [] })
-  put_matches c d w m l h s f r = record {
-    sender = s ∙ rw (acked_is c w h, unacked_is c w h, drop-append-le w.acked w.sent (m ∷ []) l) refl;
-    flight = f ∙ rw (flight_is c w h, last_number_is c w l h) refl;
-    receiver_live = ap (λ x. x.live) r ∙ h.receiver_live;
-    received = subst (λ x. HasReceived x.value w.arrived (w.sent ++ m ∷ [])) (sym r)
-        (record { count = h.received.count; early = record { ascends = h.received.early.ascends; are_sent = are_sent_more w.sent (m ∷ []) c.receiver.value.early h.received.early.are_sent; same = h.received.early.same } });
-  }
+  put_matches c d w m l h s f r = grind (arith, acked_is, unacked_is, drop-append-le, flight_is, last_number_is, are_sent_more)
 
   -- where only the flight changes
   pub flight_matches : (c d : Channel M) (w : Way M) (flight : List (Packet M)) → Matches c w
@@ -71,12 +65,11 @@ module _ {M : Type 0} where
       → d.sender ≡ c.sender → d.flight ≡ c.flight → d.receiver ≡ record { live = true; value = received n m c.receiver.value }
       → Matches d (record w { arrived = n ∷ w.arrived })
   received_matches c d w n m one is h s f r =
-      let got : Receives n m w.arrived w.sent c.receiver.value = message_received c w n m one is h in
       record {
         sender = s ∙ h.sender;
         flight = f ∙ h.flight;
         receiver_live = ap (λ x. x.live) r;
-        received = subst (λ x. HasReceived x.value (n ∷ w.arrived) w.sent) (sym r) got.represents;
+        received = subst (λ x. HasReceived x.value (n ∷ w.arrived) w.sent) (sym r) (message_received c w n m one is h).represents;
       }
 
   -- something is unacknowledged
@@ -89,8 +82,7 @@ module _ {M : Type 0} where
       → result ≡ slice_get old.value k → OnSome result (new ≡ record { live = true; value = without_at old.value k }) →
       (result ≡ None → new ≡ old) → IsTrue old.live
       → new ≡ record { live = true; value = without_at old.value k }
-  left_is None old new k e some none live = none refl ∙ rw (without-past old.value k (sym e)) (ap (λ b. record { live = b; value = old.value }) live)
-  left_is (Some p) old new k e some none live = some
+  left_is result old new k e some none live = grind (arith, without-past)
 
 -- what two facts about a result that is Ok lead to
 pub on_both : {T E : Type 0} (r : Result T E) (A B C : Type 0) → OnOk r A → OnOk r B → (A → B → C) → OnOk r C

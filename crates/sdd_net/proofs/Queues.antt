@@ -1,5 +1,5 @@
 -- The lists of a mailbox, of which one changes.
-use Rattle.sdd_net.proofs.All.{Bool, IsBefore, IsLowest, IsWithin, List, MatchOption, None, OnErr, Option, Result, Site, Some, TakesFirst, TakesMessage, [], ap, arith, empty_mailbox, false, get_or, get_or as slice_index_or, get_or-map, get_or-set_other, get_or-set_same, length, length-set, map, map-set, map-set_same, nat_tests, nil_from_length, option_to_list, place_of, queue_at, refl, replicate, same_site, slice_set, subst, suc, sym, total, true, ℕ, ◌++◌, ◌+◌, ◌<◌, ◌∙◌, ◌∷◌, ◌≡◌, ◌≢◌, ◌≤◌}
+use Rattle.sdd_net.proofs.All.{Bool, IsLowest, IsWithin, List, MatchOption, None, OnErr, Option, Result, Site, Some, TakesFirst, TakesMessage, [], ap, arith, empty_mailbox, false, get_or, get_or as slice_index_or, get_or-map, get_or-set_other, get_or-set_same, length, length-set, map, map-set, map-set_same, nat_tests, nil_from_length, option_to_list, place_of, queue_at, replicate, same_site, slice_set, suc, sym, total, true, ℕ, ◌++◌, ◌+◌, ◌<◌, ◌∙◌, ◌∷◌, ◌≡◌, ◌≤◌}
 use Rattle.sdd_net.specs.Mailboxes.{Puts}
 
 pub map_index : {A B : Type 0} (f : A → B) (xs : List A) (i : ℕ) (x : A) (d : B) → i < length xs → x ≡ get_or xs i x
@@ -28,8 +28,7 @@ Popped {M = M} f xs ys i (Some m) = (rest : List M) × (slice_index_or (map f xs
 pub popped : {A M : Type 0} (f : A → List M) (xs : List A) (i : ℕ) (x y : A) (o : Option M) → i < length xs → x ≡ get_or xs i x
     → f x ≡ option_to_list o ++ f y → (o ≡ None → f x ≡ [])
     → Popped f xs (slice_set xs i y) i o
-popped f xs i x y None l e g n =
-    (map-set_same f xs i y x (sym g ∙ ap f e), map_index f xs i x [] l e ∙ n refl)
+popped f xs i x y None l e g n = grind (arith, map-set_same, map_index)
 popped f xs i x y (Some m) l e g n = (f y, map_index f xs i x [] l e ∙ g, map-set f xs i y)
 
 pub no_items : {A : Type 0} (xs : List A) (n : ℕ) → n ≡ length xs → n ≡ 0 → xs ≡ []
@@ -56,37 +55,11 @@ some_is j k e = cc
 pub same_place : (x y : Site) (k : ℕ) → place_of x ≡ Some k → place_of y ≡ Some k → same_site x y ≡ true
 same_place x y k e f = grind (arith, nat_tests)
 
-queue_other : {M : Type 0} (queues : List (List M)) (place : ℕ) (queue : List M) (o : Option ℕ) → ((j : ℕ) → o ≡ Some j → j ≢ place)
-    → queue_at (slice_set queues place queue) o ≡ queue_at queues o
-queue_other queues place queue None n = refl
-queue_other queues place queue (Some j) n = get_or-set_other queues place j queue [] (n j refl)
-
-apart : (x from : Site) (k : ℕ) → place_of from ≡ Some k → same_site x from ≡ false → (j : ℕ) → place_of x ≡ Some j → j ≢ k
-apart x from k e f j g = grind (arith, nat_tests)
-
-within_of : (n : ℕ) (o : Option ℕ) → IsWithin n o → (k : ℕ) × (o ≡ Some k) × (k < n)
-within_of n o h = grind (arith, nat_tests)
-
 pub puts : {M : Type 0} (down : Bool) (old new : List (List M)) (from : Site) (place : ℕ) (msg : M) → IsWithin (length old) (place_of from)
     → ((k : ℕ) → place_of from ≡ Some k → place ≡ k)
     → new ≡ slice_set old place (slice_index_or old place [] ++ msg ∷ [])
     → Puts (record { down = down; queues = old }) (record { down = down; queues = new }) from msg
-puts {M = M} down old new from place msg h f e =
-    let w = within_of (length old) (place_of from) h in
-    let at : place_of from ≡ Some place = w.1 ∙ ap (λ k. Some k) (sym (f w.0 w.1)) in
-    let less : place < length old = rw (f w.0 w.1) w.2 in
-    let queue : List M = slice_index_or old place [] ++ msg ∷ [] in
-    record {
-      down = refl;
-      count = ap length e ∙ length-set old place queue;
-      here = ap (queue_at new) at ∙ ap (λ qs. slice_index_or qs place []) e ∙ get_or-set_same old place queue [] less
-          ∙ ap (λ z. z ++ msg ∷ []) (sym (ap (queue_at old) at));
-      others = λ x p. ap (λ qs. queue_at qs (place_of x)) e ∙ queue_other old place queue (place_of x) (apart x from place at p);
-    }
-
-lowest : {M : Type 0} (old : List (List M)) (place : ℕ) → ((j : ℕ) → j < place → slice_index_or old j [] ≡ []) → (o : Option ℕ)
-    → IsBefore o (Some place) → queue_at old o ≡ []
-lowest old place f o h = grind (arith, nat_tests)
+puts {M = M} down old new from place msg h f e = grind (arith, slice_index_or, length-set, get_or-set_same, get_or-set_other, nat_tests)
 
 total_set : {M : Type 0} (queues : List (List M)) (i : ℕ) (item : M) (rest : List M) → i < length queues → slice_index_or queues i [] ≡ item ∷ rest
     → suc (total (slice_set queues i rest)) ≡ total queues
@@ -96,18 +69,7 @@ total_set _ _ item rest l e = grind (arith, nat_tests)
 pub takes : {M : Type 0} (down : Bool) (old new : List (List M)) (from : Site) (place : ℕ) (msg : M) → place_of from ≡ Some place
     → TakesFirst old new place msg
     → TakesMessage (record { down = down; queues = old }) (record { down = down; queues = new }) from msg × IsLowest (record { down = down; queues = old }) from
-takes {M = M} down old new from place msg at t = (
-  record {
-    down = refl;
-    count = ap length t.left ∙ length-set old place t.rest;
-    sender = subst (IsWithin (length old)) (sym at) t.within;
-    here = ap (queue_at old) at ∙ t.here ∙ ap (λ z. msg ∷ z)
-        (sym (ap (queue_at new) at ∙ ap (λ qs. slice_index_or qs place []) t.left ∙ get_or-set_same old place t.rest [] t.within));
-    fewer = ap (λ qs. suc (total qs)) t.left ∙ total_set old place msg t.rest t.within t.here;
-    others = λ x p. ap (λ qs. queue_at qs (place_of x)) t.left ∙ queue_other old place t.rest (place_of x) (apart x from place at p);
-  },
-  λ x b. lowest old place t.lower (place_of x) (subst (IsBefore (place_of x)) at b),
-)
+takes {M = M} down old new from place msg at t = grind (arith, length-set, slice_index_or, get_or-set_same, total_set, get_or-set_other, nat_tests)
 
 pub nothing_kept : {M : Type 0} (queues : List (List M)) → ((j : ℕ) → slice_index_or queues j [] ≡ []) → (o : Option ℕ) → queue_at queues o ≡ []
 nothing_kept queues f o = grind (arith, nat_tests)

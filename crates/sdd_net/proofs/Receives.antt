@@ -22,21 +22,12 @@ ascends_insert k n m ((x, y) ∷ rest) h l =
 are_sent_insert : {M : Type 0} (sent : List M) (n : ℕ) (m : M) (early : List (ℕ × M))
     → AreSent sent early → slice_get sent (n - 1) ≡ Some m → AreSent sent (insert_entry nat_cmp early n m)
 are_sent_insert sent n m [] h e = (e, tt)
-are_sent_insert sent n m ((x, y) ∷ rest) h e =
-    by_order n x (λ o. AreSent sent (match_ordering o ((n, m) ∷ (x, y) ∷ rest) ((x, m) ∷ rest) ((x, y) ∷ insert_entry nat_cmp rest n m)))
-    (λ less. (e, (h.0, h.1)))
-    (λ same. (subst (λ z. slice_get sent (z - 1) ≡ Some m) same e, h.1))
-    (λ more. (h.0, are_sent_insert sent n m rest h.1 e))
+are_sent_insert sent n m ((x, y) ∷ rest) h e = grind (arith, by_order, match_ordering, insert_entry, nat_cmp, slice_get, (are_sent_insert sent n m rest h.1 e))
 
 has_insert : {M : Type 0} (j n : ℕ) (m : M) (early : List (ℕ × M))
     → contains (numbers (insert_entry nat_cmp early n m)) j ≡ ((n == j) || contains (numbers early) j)
 has_insert j n m [] = refl
 has_insert j n m ((x, y) ∷ rest) = grind (arith, nat_tests, (has_insert j n m rest))
-
-insert_early : {M : Type 0} (k : ℕ) (arrived : List ℕ) (sent : List M) (n : ℕ) (m : M) (early : List (ℕ × M))
-    → k < n → slice_get sent (n - 1) ≡ Some m → IsEarly k arrived sent early
-    → IsEarly k (n ∷ arrived) sent (insert_entry nat_cmp early n m)
-insert_early k arrived sent n m early l e h = grind (arith, nat_tests, ascends_insert, are_sent_insert, has_insert)
 
 -- what is in turn is what leads to the new count
 pub record Turns {M : Type 0} (k : ℕ) (ns : List ℕ) (sent : List M) (early : List (ℕ × M)) : Type 0 where
@@ -48,21 +39,12 @@ stays : {M : Type 0} (k : ℕ) (ns : List ℕ) (sent : List M) (early : List (�
     → IsEarly k ns sent early → k ≡ top ns → in_turn k early ≡ [] → out_of_turn k early ≡ early → Turns k ns sent early
 stays {M = M} k ns sent early h e none rest = grind (arith, nat_tests, add-zero, drop_all, length-take)
 
-next_early : {M : Type 0} (k : ℕ) (ns : List ℕ) (sent : List M) (m : M) (rest : List (ℕ × M))
-    → IsEarly k ns sent ((k + 1, m) ∷ rest) → IsEarly (k + 1) ns sent rest
-next_early k ns sent m rest h = grind (arith, nat_tests)
-
-next_there : {M : Type 0} (k : ℕ) (ns : List ℕ) (sent : List M) (m : M) (rest : List (ℕ × M))
-    → IsEarly k ns sent ((k + 1, m) ∷ rest) → contains ns (suc k) ≡ true
-next_there k ns sent m rest h = grind (arith, nat_tests)
-
 turn : {M : Type 0} (k : ℕ) (ns : List ℕ) (sent : List M) (m : M) (rest : List (ℕ × M))
     → IsEarly k ns sent ((k + 1, m) ∷ rest) → Turns (k + 1) ns sent rest → Turns k ns sent ((k + 1, m) ∷ rest)
 turn {M = M} k ns sent m rest h t =
     let test : (k + 1 == k + 1) ≡ true = eq-eqb (k + 1) (k + 1) refl in
-    let member : slice_get sent (k + 1 - 1) ≡ Some m = h.are_sent.0 in
     let at : k + 1 - 1 ≡ k = omega arith in
-    let here : slice_get (take (top ns) sent) k ≡ Some m = get-take sent (top ns) k m (omega (arith, t.count)) (rw at at member) in
+    let here : slice_get (take (top ns) sent) k ≡ Some m = get-take sent (top ns) k m (omega (arith, t.count)) (rw at at h.are_sent.0) in
     let one : suc k ≡ k + 1 = omega arith in
     record {
       count = rw test (omega (arith, t.count));
@@ -75,14 +57,12 @@ pub turns_to : {M : Type 0} (k : ℕ) (ns : List ℕ) (sent : List M) (early : L
 turns_to k ns sent [] h below = stays k ns sent [] h (stops ns k below (sym (h.same (suc k) (omega arith)))) refl refl
 turns_to {M = M} k ns sent ((x, m) ∷ rest) h below = elim (x == k + 1) as (λ b. (x == k + 1) ≡ b → Turns k ns sent ((x, m) ∷ rest)) [
   | true ↦ λ p. (let same : x ≡ k + 1 = eqb-true x (k + 1) p in
-      let h1 : IsEarly k ns sent ((k + 1, m) ∷ rest) = subst (λ z. IsEarly k ns sent ((z, m) ∷ rest)) same h in
       let one : suc k ≡ k + 1 = omega arith in
-      let below1 : (j : ℕ) → j < k + 1 → contains ns (suc j) ≡ true = λ j l. counts_up ns k below (next_there k ns sent m rest h1) j (omega arith) in
+      let below1 : (j : ℕ) → j < k + 1 → contains ns (suc j) ≡ true = λ j l. counts_up ns k below (grind (arith, nat_tests)) j (omega arith) in
       subst (λ z. Turns k ns sent ((z, m) ∷ rest)) (sym same)
-      (turn k ns sent m rest h1 (turns_to (k + 1) ns sent rest (next_early k ns sent m rest h1) below1)))
+      (turn k ns sent m rest (subst (λ z. IsEarly k ns sent ((z, m) ∷ rest)) same h) (turns_to (k + 1) ns sent rest (grind (arith, nat_tests)) below1)))
   | false ↦ λ p. (let ne : x ≢ k + 1 = eqb-false x (k + 1) p in
-      let above : k < x = h.ascends.0 in
-      let gap : contains (numbers ((x, m) ∷ rest)) (suc k) ≡ false = none_below (suc k) (suc k) ((x, m) ∷ rest) (omega (arith, ne), h.ascends.1)
+      let gap : contains (numbers ((x, m) ∷ rest)) (suc k) ≡ false = none_below (suc k) (suc k) ((x, m) ∷ rest) (omega (arith, ne, h.ascends.0), h.ascends.1)
       (omega arith) in
       stays k ns sent ((x, m) ∷ rest) h (stops ns k below (sym (h.same (suc k) (omega arith)) ∙ gap)) (rw p refl) (rw p refl))
 ] refl
@@ -95,19 +75,11 @@ pub record Receives {M : Type 0} (n : ℕ) (m : M) (arrived : List ℕ) (sent : 
 receives_old : {M : Type 0} (n : ℕ) (m : M) (arrived : List ℕ) (sent : List M) (r : Receiving M)
     → 1 ≤ n → n ≤ top arrived → HasReceived r arrived sent → Receives n m arrived sent r
 receives_old {M = M} n m arrived sent r one old h =
-    let at : suc (n - 1) ≡ n = omega arith in
-    let there : contains arrived n ≡ true = subst (λ j. contains arrived j ≡ true) at ((top_is arrived).0 (n - 1) (omega arith)) in
+    let there : contains arrived n ≡ true = subst (λ j. contains arrived j ≡ true) (omega arith) ((top_is arrived).0 (n - 1) (omega arith)) in
     let same : top (n ∷ arrived) ≡ top arrived = repeated n arrived there in
     let test : nat_le n r.count ≡ true = le-leb n r.count (omega (arith, h.count)) in
     record {
-      represents = record {
-        count = rw (test, same) h.count;
-        early = rw (test, same) (record {
-          ascends = h.early.ascends;
-          are_sent = h.early.are_sent;
-          same = λ j l. (let ne : n ≢ j = λ x. omega arith in let apart : (n == j) ≡ false = ne_eqb n j ne in rw apart (h.early.same j l));
-        });
-      };
+      represents = grind (arith, ne_eqb);
       handed = rw (test, same) (sym (drop_all (top arrived) (take (top arrived) sent) (omega (arith, length-take (top arrived) sent))));
     }
 
@@ -117,7 +89,7 @@ receives_new {M = M} n m arrived sent r new is h =
     let e : r.count ≡ top arrived = h.count in
     let test : nat_le n r.count ≡ false = lt-leb n r.count (omega arith) in
     let t : Turns (top arrived) (n ∷ arrived) sent (insert_entry nat_cmp r.early n m) =
-    turns_to (top arrived) (n ∷ arrived) sent (insert_entry nat_cmp r.early n m) (insert_early (top arrived) arrived sent n m r.early new is h.early)
+    turns_to (top arrived) (n ∷ arrived) sent (insert_entry nat_cmp r.early n m) (grind (arith, nat_tests, ascends_insert, are_sent_insert, has_insert))
     (starts n arrived) in
     record {
       represents = record { count = rw (test, e) t.count; early = rw (test, e) t.waits };

@@ -1,5 +1,5 @@
 -- What the network tells of all its links is what the definitions say of them.
-use Rattle.sdd_net.proofs.All.{All, All-append, All-cons, All-head, All-map, All-nil, All-same, All-tail, All-weaker, Bool, Call, Channel, ChannelsRepresent, D, Deliver, Directions, Event, FitsWay, IsLiveAt, IsNet, IsTrue, Kept, List, None, Option, PlacedLink, Represents, Resend, Site, Some, T, U, Way, [], ap, are_linked, arith, channel_on, cond, cons_option, deliveries_on, false, filter_map, filter_map-append, flat_map, flat_map-append, get_or, in_flight, in_flight_at, index_of, is_empty, is_link, is_quiet_link, is_site, le-leb, length, link, links, list_all, list_all_at, map, nat_le, nat_lt, nat_tests, placed, quiet, quiet_at, quiet_on, range_with_len, refl, replicate, resend_on, resends_at, resends_now, round, sites, slice_get, subst, suc, sym, take, take_all, take_more, true, zero, ℕ, ◌&&◌, ◌++◌, ◌+◌, ◌-◌, ◌<◌, ◌∙◌, ◌∷◌, ◌≡◌, ◌≤◌}
+use Rattle.sdd_net.proofs.All.{All, All-append, All-cons, All-head, All-map, All-nil, All-same, All-tail, All-weaker, Bool, Call, Channel, ChannelsRepresent, D, Deliver, Directions, Event, FitsWay, IsLiveAt, IsNet, IsTrue, Kept, List, None, Option, PlacedLink, Represents, Resend, Site, Some, T, U, Way, [], are_linked, arith, channel_on, cond, cons_option, deliveries_on, false, filter_map, filter_map-append, flat_map, flat_map-append, get_or, in_flight, in_flight_at, index_of, is_empty, is_link, is_quiet_link, is_site, le-leb, length, link, links, list_all, list_all_at, map, nat_lt, nat_tests, placed, quiet, quiet_on, range_with_len, refl, replicate, resend_on, resends_at, resends_now, round, sites, slice_get, subst, suc, take, take_all, take_more, true, zero, ℕ, ◌&&◌, ◌++◌, ◌+◌, ◌-◌, ◌<◌, ◌∙◌, ◌∷◌, ◌≡◌, ◌≤◌}
 use Rattle.sdd_net.proofs.Matching.{flight_is, unacked_count, not_empty}
 use Rattle.sdd_net.proofs.Directions.{link_back, back_is}
 use Rattle.sdd_net.proofs.Deliveries.{fits_live}
@@ -8,9 +8,6 @@ use Rattle.sdd_net.proofs.Calls.{net_of, live_is}
 range_within : (P : ℕ → Type 0) (a n : ℕ) → ((k : ℕ) → a ≤ k → k < a + n → P k) → All P (range_with_len a n)
 range_within P a zero f = All-nil P
 range_within P a (suc n) f = grind (arith, nat_tests, (range_within P (a + 1) n (λ k l m. f k (omega arith) (omega arith))))
-
-numbered_site : (n most : ℕ) → 1 ≤ n → n < 1 + most → (nat_le 1 n && nat_le n most) ≡ true
-numbered_site n most l m = rw (le-leb 1 n l, le-leb n most (omega arith)) refl
 
 -- the sites exist
 sites_exist : (tms dms : ℕ) → All (λ s. is_site tms dms s ≡ true) (sites tms dms)
@@ -22,8 +19,8 @@ sites_exist tms dms =
     let ds : List ℕ = range_with_len 1 dms in
     All-cons exists U (map t ts ++ map d ds) refl
     (All-append exists (map t ts) (map d ds)
-    (All-map exists t ts (range_within (λ n. exists (t n)) 1 tms (λ k l m. numbered_site k tms l m)))
-    (All-map exists d ds (range_within (λ n. exists (d n)) 1 dms (λ k l m. numbered_site k dms l m))))
+    (All-map exists t ts (range_within (λ n. exists (t n)) 1 tms (λ k l m. (rw (le-leb 1 k l, le-leb k tms (omega arith)) refl))))
+    (All-map exists d ds (range_within (λ n. exists (d n)) 1 dms (λ k l m. (rw (le-leb 1 k l, le-leb k dms (omega arith)) refl)))))
 
 abbrev Exists : ℕ → ℕ → Site × Site → Type 0
 Exists tms dms l = IsTrue (is_link tms dms l.0 l.1)
@@ -40,9 +37,8 @@ links_from tms dms a (b ∷ ss) h all =
     (λ c. are_linked a b ≡ c → AllExist tms dms
     (cons_option (cond c (Some (a, b)) None) (filter_map (λ b. cond (are_linked a b) (Some (a, b)) None) ss))) [
       | true ↦ λ e.
-          let to : is_site tms dms b ≡ true = All-head (λ s. is_site tms dms s ≡ true) b ss all in
           All-cons (Exists tms dms) (a, b) (filter_map (λ b. cond (are_linked a b) (Some (a, b)) None) ss)
-          (rw (h, to, e) refl) (links_from tms dms a ss h (All-tail (λ s. is_site tms dms s ≡ true) b ss all))
+          (rw (h, (All-head (λ s. is_site tms dms s ≡ true) b ss all), e) refl) (links_from tms dms a ss h (All-tail (λ s. is_site tms dms s ≡ true) b ss all))
       | false ↦ λ e. links_from tms dms a ss h (All-tail (λ s. is_site tms dms s ≡ true) b ss all)
     ] refl
 
@@ -69,53 +65,31 @@ on_links tms dms P f = All-weaker (Exists tms dms) P f (links tms dms) (links_ex
 list_all_mapped : {A B : Type 0} (p : B → Bool) (q : A → Bool) (g : A → B) (xs : List A)
     → All (λ x. p (g x) ≡ q x) xs → list_all p (map g xs) ≡ list_all q xs
 list_all_mapped p q g [] h = refl
-list_all_mapped p q g (x ∷ xs) h =
-    let rest = list_all_mapped p q g xs (All-tail (λ x. p (g x) ≡ q x) x xs h) in
-    rw (All-head (λ x. p (g x) ≡ q x) x xs h, rest) refl
+list_all_mapped p q g (x ∷ xs) h = rw (All-head (λ x. p (g x) ≡ q x) x xs h, (list_all_mapped p q g xs (All-tail (λ x. p (g x) ≡ q x) x xs h))) refl
 
 filter_map_mapped : {A B C : Type 0} (f : B → Option C) (h : A → Option C) (g : A → B) (xs : List A)
     → All (λ x. f (g x) ≡ h x) xs → filter_map f (map g xs) ≡ filter_map h xs
 filter_map_mapped f h g [] e = refl
 filter_map_mapped f h g (x ∷ xs) e =
-    let rest = filter_map_mapped f h g xs (All-tail (λ x. f (g x) ≡ h x) x xs e) in
-    rw (All-head (λ x. f (g x) ≡ h x) x xs e, rest) refl
+    rw (All-head (λ x. f (g x) ≡ h x) x xs e, (filter_map_mapped f h g xs (All-tail (λ x. f (g x) ≡ h x) x xs e))) refl
 
 flat_map_mapped : {A B C : Type 0} (f : B → List C) (h : A → List C) (g : A → B) (xs : List A)
     → All (λ x. f (g x) ≡ h x) xs → flat_map f (map g xs) ≡ flat_map h xs
 flat_map_mapped f h g [] e = refl
-flat_map_mapped f h g (x ∷ xs) e =
-    let rest = flat_map_mapped f h g xs (All-tail (λ x. f (g x) ≡ h x) x xs e) in
-    rw (All-head (λ x. f (g x) ≡ h x) x xs e, rest) refl
-
-is_empty-count : {A : Type 0} (xs : List A) (a n : ℕ) → length xs ≡ n - a → is_empty xs ≡ nat_le n a
-is_empty-count xs a n e = grind (arith, nat_tests)
+flat_map_mapped f h g (x ∷ xs) e = rw (All-head (λ x. f (g x) ≡ h x) x xs e, (flat_map_mapped f h g xs (All-tail (λ x. f (g x) ≡ h x) x xs e))) refl
 
 -- what represents a link at a place past the end
 abbrev pub no_link : PlacedLink
 no_link = record { from = U; to = U; there = 0; back = 0 }
 
 module _ {M : Type 0} where
-  quiet_fits : (o : Option (Channel M)) (w : Way M) → FitsWay o w
-      → quiet_at o ≡ (is_empty w.flight && nat_le (length w.sent) w.acked)
-  quiet_fits None w h = absurd h
-  quiet_fits (Some c) w h = rw (flight_is c w h, is_empty-count c.sender.value.unacked w.acked (length w.sent) (unacked_count c w h)) refl
-
   resends_fits : (o p : Option (Channel M)) (w v : Way M) → FitsWay o w → FitsWay p v
       → resends_at o p ≡ (nat_lt w.acked (length w.sent) && (is_empty w.flight && is_empty v.flight))
-  resends_fits (Some c) (Some d) w v h k =
-      rw (flight_is c w h, flight_is d v k, not_empty c.sender.value.unacked w.acked (length w.sent) (unacked_count c w h)) refl
-  resends_fits _ _ w v h k = absurd (omega arith)
+  resends_fits o p w v h k = grind (arith, flight_is, not_empty, unacked_count)
 
   in_flight_fits : (o p : Option (Channel M)) (w v : Way M) → FitsWay o w → FitsWay p v
       → in_flight_at o p ≡ length w.flight + cond (nat_lt w.acked (length w.sent) && (is_empty w.flight && is_empty v.flight)) (length w.sent - w.acked) 0
-  in_flight_fits None p w v h k = absurd h
-  in_flight_fits (Some c) p w v h k = rw (resends_fits (Some c) p w v h k, flight_is c w h, unacked_count c w h) refl
-
-  -- the channel back represents the link back
-  fits_back : (tms dms : ℕ) (channels : List (Channel M)) (calls : List (Call M)) (a b : Site)
-      → ChannelsRepresent tms dms channels calls → IsTrue (is_link tms dms a b)
-      → FitsWay (slice_get channels (index_of tms dms b a)) (link a b calls).back
-  fits_back tms dms channels calls a b s h = subst (λ w. FitsWay (slice_get channels (index_of tms dms b a)) w) (back_is tms dms a b calls h) (s b a (link_back tms dms a b h))
+  in_flight_fits o p w v h k = grind (arith, resends_fits, flight_is, unacked_count)
 
   -- the links of a network, with their places
   abbrev pub all_placed : Directions M → List PlacedLink
@@ -134,18 +108,16 @@ module _ {M : Type 0} where
         (links d.tms d.dms)
         (on_links d.tms d.dms
         (λ l. quiet_on d.channels (placed d.tms d.dms l) ≡ is_quiet_link (link l.0 l.1 calls))
-        (λ l h. quiet_fits (channel_on d l.0 l.1) (link l.0 l.1 calls).there (s l.0 l.1 h)))
+        (λ l h. (grind (arith, flight_is, nat_tests, unacked_count))))
 
     back_fits : (a b : Site) → IsTrue (is_link d.tms d.dms a b) → FitsWay (channel_on d b a) (link a b calls).back
-    back_fits a b h = fits_back d.tms d.dms d.channels calls a b s h
+    back_fits a b h = (subst (λ w. FitsWay (slice_get d.channels (index_of d.tms d.dms b a)) w) (back_is d.tms d.dms a b calls h) (s b a (link_back d.tms d.dms a b h)))
 
     resends_are : filter_map (resend_on d.channels) (all_placed d) ≡ filter_map (resend_due calls) (links d.tms d.dms)
     resends_are =
         filter_map_mapped (resend_on d.channels) (resend_due calls) (placed d.tms d.dms) (links d.tms d.dms)
         (on_links d.tms d.dms (λ l. resend_on d.channels (placed d.tms d.dms l) ≡ resend_due calls l)
-        (λ l h. ap (λ c. cond c (Some (Resend l.0 l.1)) None)
-        (resends_fits (channel_on d l.0 l.1) (channel_on d l.1 l.0) (link l.0 l.1 calls).there
-        (link l.0 l.1 calls).back (s l.0 l.1 h) (back_fits l.0 l.1 h))))
+        (grind (arith, resends_fits, channel_on, link, back_fits)))
 
     deliveries_are : flat_map (deliveries_on d.channels) (all_placed d)
         ≡ flat_map (deliveries_due calls) (links d.tms d.dms)
@@ -153,9 +125,7 @@ module _ {M : Type 0} where
         flat_map_mapped (deliveries_on d.channels) (deliveries_due calls) (placed d.tms d.dms)
         (links d.tms d.dms)
         (on_links d.tms d.dms (λ l. deliveries_on d.channels (placed d.tms d.dms l) ≡ deliveries_due calls l)
-        (λ l h. ap (λ n. replicate n (Deliver l.0 l.1 1))
-        (in_flight_fits (channel_on d l.0 l.1) (channel_on d l.1 l.0) (link l.0 l.1 calls).there
-        (link l.0 l.1 calls).back (s l.0 l.1 h) (back_fits l.0 l.1 h))))
+        (grind (arith, in_flight_fits, channel_on, link, back_fits)))
 
   -- a link whose two channels are there
   abbrev pub IsLiveLink : List (Channel M) → PlacedLink → Type 0
@@ -165,10 +135,7 @@ module _ {M : Type 0} where
       → All (IsLiveLink d.channels) (all_placed d)
   links_live d calls s =
       All-map (IsLiveLink d.channels) (placed d.tms d.dms) (links d.tms d.dms)
-      (on_links d.tms d.dms (λ l. IsLiveLink d.channels (placed d.tms d.dms l)) (λ l h. (
-        fits_live (channel_on d l.0 l.1) (link l.0 l.1 calls).there (s l.0 l.1 h),
-        fits_live (channel_on d l.1 l.0) (link l.0 l.1 calls).back (back_fits d calls s l.0 l.1 h),
-      )))
+      (on_links d.tms d.dms (λ l. IsLiveLink d.channels (placed d.tms d.dms l)) (grind (arith, fits_live, channel_on, link, back_fits)))
 
   -- the list of links that the network keeps
   pub all_is : (net : Kept (Directions M)) (live : Bool) (tms dms : ℕ) (channels : List (Channel M))
@@ -192,18 +159,14 @@ module _ {M : Type 0} where
       → items ≡ all_placed net.value → length items ≤ k
       → list_all (quiet_on net.value.channels) (take k items) ≡ true → Represents net calls
       → true ≡ quiet (links net.value.tms net.value.dms) calls
-  quiet_all net items k calls e l h s =
-      sym (rw (take_all k items l) at h) ∙ ap (list_all (quiet_on net.value.channels)) e
-      ∙ quiet_is net.value calls s
+  quiet_all net items k calls e l h s = grind (arith, take_all, list_all, quiet_is)
 
   pub quiet_not : (net : Kept (Directions M)) (items : List PlacedLink) (k : ℕ) (d : PlacedLink)
       (calls : List (Call M))
       → items ≡ all_placed net.value → k < length items
       → quiet_on net.value.channels (get_or items k d) ≡ false → Represents net calls
       → false ≡ quiet (links net.value.tms net.value.dms) calls
-  quiet_not net items k d calls e l h s =
-      sym (list_all_at (quiet_on net.value.channels) items k d l h)
-      ∙ ap (list_all (quiet_on net.value.channels)) e ∙ quiet_is net.value calls s
+  quiet_not net items k d calls e l h s = grind (arith, list_all_at, list_all, quiet_is)
 
   pub round_all : (net : Kept (Directions M)) (items : List PlacedLink) (k : ℕ)
       (resends deliveries events : List Event) (calls : List (Call M))
@@ -211,8 +174,7 @@ module _ {M : Type 0} where
       → resends ≡ filter_map (resend_on net.value.channels) (take k items)
       → deliveries ≡ flat_map (deliveries_on net.value.channels) (take k items)
       → events ≡ resends ++ deliveries → Represents net calls → events ≡ round (links net.value.tms net.value.dms) calls
-  round_all net items k resends deliveries events calls e l f g h s =
-      rw (h, f, g, take_all k items l, e, resends_are net.value calls s, deliveries_are net.value calls s) refl
+  round_all net items k resends deliveries events calls e l f g h s = grind (arith, take_all, resends_are, deliveries_are)
 
 -- what one link more adds
 pub resends_more : {A B : Type 0} (f : A → Option B) (xs : List A) (k : ℕ) (d : A) (old new : List B)

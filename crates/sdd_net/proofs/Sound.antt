@@ -1,5 +1,5 @@
 -- What holds of every link, whatever calls were made.
-use Rattle.sdd_net.proofs.All.{Ack, All, All-append, All-cons, All-drop, All-nil, All-push, All-weaker, Bool, Call, Delivers, IsNumber, IsOf, IsSoundLink, IsSoundWay, Link, List, Loses, Message, None, Packet, Puts, Repeats, Resends, Site, Some, Way, [], arith, arrives, deliver, delivered, false, if◌then◌else◌, length, length-append, link, lose, nat_tests, numbered, on_link, packet_at, put, refl, repeat, resend, same_site, slice_get, slice_get_within, suc, top, true, turned, unacked, unused, with_packet, without_at, without_packet, zero, ℕ, ◌&&◌, ◌++◌, ◌+◌, ◌-◌, ◌<◌, ◌∷◌, ◌≡◌, ◌≤◌}
+use Rattle.sdd_net.proofs.All.{Ack, All, All-append, All-cons, All-drop, All-nil, All-push, All-weaker, Call, Delivers, IsNumber, IsOf, IsSoundLink, IsSoundWay, Link, List, Loses, Message, None, Packet, Puts, Repeats, Resends, Site, Some, Way, [], arith, arrives, deliver, delivered, length, length-append, link, lose, nat_tests, numbered, on_link, packet_at, put, refl, repeat, resend, slice_get, slice_get_within, suc, top, turned, unacked, unused, with_packet, without_at, without_packet, zero, ℕ, ◌++◌, ◌+◌, ◌-◌, ◌<◌, ◌∷◌, ◌≡◌, ◌≤◌}
 use Rattle.sdd_net.proofs.Lists.{All-without_at, All-at, All-among, get-append, get-last}
 use Rattle.sdd_net.proofs.Tops.{top_is, top_rises}
 
@@ -17,8 +17,7 @@ delivered_le w back h = top_le (IsNumber w.sent) w.arrived (length w.sent) (λ n
 -- where more was sent and more is acknowledged, packets stay right
 more_packet : {M : Type 0} (sent more : List M) (j k : ℕ) → j ≤ k → (p : Packet M) → IsOf sent j p
     → IsOf (sent ++ more) k p
-more_packet sent more j k l (Message n m) h = (h.0, get-append sent more (n - 1) m h.1)
-more_packet sent more j k l (Ack i) h = let b : i ≤ j = h in omega arith
+more_packet sent more j k l p h = grind (arith, get-append)
 
 more_acks : {M : Type 0} (sent : List M) (j k : ℕ) → j ≤ k → (p : Packet M) → IsOf sent j p → IsOf sent k p
 more_acks sent j k l p h = grind (arith, nat_tests)
@@ -44,8 +43,7 @@ put_sound m l h = record {
   there = record {
     packets =
         All-push (IsOf (l.there.sent ++ m ∷ []) (delivered l.back)) l.there.flight (Message (length l.there.sent + 1) m)
-        (All-weaker (IsOf l.there.sent (delivered l.back)) (IsOf (l.there.sent ++ m ∷ []) (delivered l.back))
-        (more_packet l.there.sent (m ∷ []) (delivered l.back) (delivered l.back) (omega arith)) l.there.flight h.there.packets)
+        (grind (arith, delivered, more_packet))
         (omega arith, let at : length l.there.sent ≡ length l.there.sent + 1 - 1 = omega arith in rw at at (get-last l.there.sent m));
     numbers =
         All-weaker (IsNumber l.there.sent) (IsNumber (l.there.sent ++ m ∷ [])) (more_numbers l.there.sent m)
@@ -69,16 +67,13 @@ arrives_sound {M = M} (Message n m) l of h =
       back = record {
         packets =
             All-push (IsOf l.back.sent (top (n ∷ l.there.arrived))) l.back.flight (Ack (top (n ∷ l.there.arrived)))
-            (All-weaker (IsOf l.back.sent (delivered l.there)) (IsOf l.back.sent (top (n ∷ l.there.arrived)))
-            (more_acks l.back.sent (delivered l.there) (top (n ∷ l.there.arrived)) rises) l.back.flight h.back.packets)
+            (grind (arith, delivered, top, more_acks))
             (omega arith);
         numbers = h.back.numbers;
         acked = h.back.acked;
       };
     }
-arrives_sound (Ack k) l of h =
-    let le : k ≤ delivered l.back = of in
-    record { there = h.there; back = record { packets = h.back.packets; numbers = h.back.numbers; acked = omega (arith, h.back.acked) } }
+arrives_sound (Ack k) l of h = grind arith
 
 -- a call on a packet keeps it, if what is done with the packet does
 at_packet : {M : Type 0} (place : ℕ) (f : Packet M → Link M) (l : Link M) → IsSoundLink l
@@ -114,19 +109,12 @@ resend_sound l h = record {
 turned_sound : {M : Type 0} (l : Link M) → IsSoundLink l → IsSoundLink (turned l)
 turned_sound l h = record { there = h.back; back = h.there }
 
-on_way : {M : Type 0} (c d : Bool) (f : Link M → Link M) (l : Link M)
-    → ((k : Link M) → IsSoundLink k → IsSoundLink (f k)) → IsSoundLink l
-    → IsSoundLink (if c then f l else if d then turned (f (turned l)) else l)
-on_way false true f l h i = turned_sound (f (turned l)) (h (turned l) (turned_sound l i))
-on_way _ _ f l h i = grind (arith, nat_tests)
-
 on_link_sound : {M : Type 0} (a b from to : Site) (f : Link M → Link M) (l : Link M)
     → ((k : Link M) → IsSoundLink k → IsSoundLink (f k)) → IsSoundLink l → IsSoundLink (on_link a b from to f l)
-on_link_sound a b from to f l h i = on_way (same_site a from && same_site b to) (same_site a to && same_site b from) f l h i
+on_link_sound a b from to f l h i = (grind (arith, turned_sound))
 
 unused_sound : {M : Type 0} → IsSoundWay {M = M} unused 0
-unused_sound {M = M} =
-    record { packets = All-nil (IsOf {M = M} [] 0); numbers = All-nil (IsNumber {M = M} []); acked = omega arith }
+unused_sound {M = M} = grind arith
 
 pub sound : {M : Type 0} (a b : Site) (calls : List (Call M)) → IsSoundLink (link a b calls)
 sound a b [] = record { there = unused_sound; back = unused_sound }

@@ -1,5 +1,5 @@
 -- The conditions on a writer rest on the diagonals between the reader and the writer alone.
-use Rattle.sdd_protocol.proofs.All.{All, All-head, All-tail, Bool, Covers, DiagonalIndex, Edge, Entry, IsIndexOf, List, None, Option, Protocol, [], ap, append-nil, arith, asked_by, asked_in, cases_Bool, cases_lt, condition_on, drop, drop_split, false, filter, filter-append, filter_map, get_or, get_or-drop, get_or-take, get_or_past, inl, inr, is_between, length, length-drop, length-take, nat_tests, range_of, refl, subst, sym, take, take-append-drop, true, ℕ, ◌++◌, ◌+◌, ◌-◌, ◌<◌, ◌∙◌, ◌∷◌, ◌≡◌, ◌≤◌}
+use Rattle.sdd_protocol.proofs.All.{All, All-head, All-tail, Bool, Covers, DiagonalIndex, Edge, Entry, IsIndexOf, List, None, Option, Protocol, [], ap, append-nil, arith, asked_by, asked_in, cases_Bool, cases_lt, condition_on, drop, drop_split, false, filter, filter-append, filter_map, get_or, get_or-drop, get_or-take, get_or_past, inl, inr, is_between, length, length-drop, length-take, nat_tests, range_of, refl, sym, take, take-append-drop, true, ℕ, ◌++◌, ◌+◌, ◌-◌, ◌<◌, ◌∙◌, ◌∷◌, ◌≡◌, ◌≤◌}
 
 -- a filter that nothing passes
 filter_none : {X : Type 0} (p : X → Bool) (xs : List X) → All (λ x. p x ≡ false) xs → filter p xs ≡ []
@@ -14,13 +14,9 @@ filter_range p xs a b le h =
     let fails : (k : ℕ) (d : _) → k < length xs → ((a ≤ k) × (k < b) → ⊥) → p (get_or xs k d) ≡ false =
     λ k d l n. elim (cases_Bool (p (get_or xs k d))) [ inl t ↦ absurd (n (h k d l t)) | inr f ↦ f ] in
     let front : filter p (take a xs) ≡ [] =
-    filter_none p (take a xs) (λ k d l.
-    let m = length-take a xs in
-    subst (λ z. p z ≡ false) (sym (get_or-take a xs k d (omega arith))) (fails k d (omega arith) (λ w. absurd (omega arith)))) in
+    filter_none p (take a xs) (grind (arith, length-take, get_or-take)) in
     let back : filter p (drop b xs) ≡ [] =
-    filter_none p (drop b xs) (λ k d l.
-    let m = length-drop b xs in
-    subst (λ z. p z ≡ false) (sym (get_or-drop b xs k d)) (fails (b + k) d (omega arith) (λ w. absurd (omega arith)))) in
+    filter_none p (drop b xs) (grind (arith, length-drop, get_or-drop)) in
     let range = take (b - a) (drop a xs) in
     sym (append-nil (filter p range))
     ∙ ap (λ z. filter p range ++ z) (sym back)

@@ -1,5 +1,5 @@
 -- The steps from a catalogue's conflict graph to its table.
-use Rattle.sdd_protocol.proofs.All.{All, All-map, All-weaker, AreBlocks, AreEntries, Catalogue, Diagonal, Edge, Entry, HasCell, HasVertical, Horizontal, IsEdgeOf, IsTable, JoinsNodes, List, Vertical, ap, arith, conflict_graph, diagonal_protocol, edges_known, ends, get_or, get_or-map, length, length-append, length-map, length-map-range_with_len, map, nat_tests, protocol_by, protocol_in, refl, subst, sym, take_all, vertical_block, ℕ, ◌*◌, ◌+◌, ◌-◌, ◌<◌, ◌∙◌, ◌≡◌, ◌≤◌}
+use Rattle.sdd_protocol.proofs.All.{All, All-map, All-weaker, AreBlocks, AreEntries, Catalogue, Edge, Entry, HasCell, HasVertical, IsEdgeOf, IsTable, JoinsNodes, List, ap, arith, conflict_graph, edges_known, ends, get_or, get_or-map, length, length-append, length-map, length-map-range_with_len, map, nat_tests, subst, sym, take_all, vertical_block, ℕ, ◌*◌, ◌+◌, ◌-◌, ◌<◌, ◌∙◌, ◌≡◌, ◌≤◌}
 use Rattle.sdd_protocol.proofs.Tables.{edges_of, blocks_of, vertical_block-lists, first_block-vertical}
 
 -- the ends of edges are nodes
@@ -49,11 +49,6 @@ module _ (cat : Catalogue) (blocks : List ℕ) (entries : List Entry) (edges_are
   vertical_at : (i : ℕ) → 1 ≤ i → i ≤ length cat.classes → vertical_block entries i ≡ get_or blocks (i - 1) 0
   vertical_at i low high = grind (arith, nat_tests, vertical_block-lists, first_block-vertical)
 
-  same_protocol : (e : Edge) (block : ℕ) → IsEdgeOf cat e → protocol_by blocks e block ≡ protocol_in entries e block
-  same_protocol (Vertical i) block h = refl
-  same_protocol (Horizontal i j) block h = refl
-  same_protocol (Diagonal i j f) block h = ap (λ v. diagonal_protocol block v) (sym (vertical_at i.0 h.reader.from h.reader.to))
-
 -- the entries of the conflict graph with its blocks are the table
 pub is_table : (cat : Catalogue) (edges : List Edge) (blocks : List ℕ) (entries : List Entry)
     → edges ≡ conflict_graph cat → AreBlocks (map ends edges) blocks
@@ -68,6 +63,5 @@ is_table cat edges blocks entries e b h =
     record {
       edges = edges_are;
       blocks = subst (λ z. AreBlocks (map ends (conflict_graph cat)) z) (sym blocks_are) (subst (λ z. AreBlocks (map ends z) blocks) e b);
-      protocols = λ k d l. h.protocols k d l ∙ same_protocol cat blocks entries edges_are blocks_are long (get_or entries k d).edge
-          (get_or entries k d).block (known k d l);
+      protocols = grind (arith, vertical_at, get_or);
     }

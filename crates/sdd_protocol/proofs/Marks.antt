@@ -1,5 +1,5 @@
 -- Marks for the fragments that are asked for, one fragment after another.
-use Rattle.sdd_protocol.proofs.All.{AreMarks, Bool, Catalogue, FragNo, List, [], and_from, and_right, ap, arith, cases_eq, eq-eqb, false, get_or, get_or-set_other, get_or-set_same, inl, inr, is_asked, is_read_at, length, list_any, list_any_more, nat_tests, or-false, or-true, refl, replicate, set, subst, suc, sym, take, true, ℕ, ◌&&◌, ◌+◌, ◌<◌, ◌==◌, ◌||◌, ◌∙◌, ◌≡◌, ◌≢◌}
+use Rattle.sdd_protocol.proofs.All.{AreMarks, Bool, Catalogue, FragNo, List, [], and_from, and_right, ap, arith, cases_eq, eq-eqb, false, get_or, get_or-set_other, get_or-set_same, is_asked, is_read_at, length, list_any, list_any_more, nat_tests, or-false, or-true, refl, replicate, set, suc, take, true, ℕ, ◌&&◌, ◌+◌, ◌<◌, ◌==◌, ◌||◌, ◌≡◌, ◌≢◌}
 
 -- no mark stands at first
 none_marked : (n f : ℕ) → get_or (replicate n false) f false ≡ false
@@ -24,17 +24,7 @@ module _ (cat : Catalogue) (i dm : ℕ) (frags : List FragNo) (k : ℕ) (d : Fra
   pub marks_more : (marks : List Bool) → AreMarks (is_asked cat i dm (take k frags)) marks
       → is_read_at cat i dm (get_or frags k d).0 ≡ true → (get_or frags k d).0 < length marks
       → AreMarks (is_asked cat i dm (take (k + 1) frags)) (set marks (get_or frags k d).0 true)
-  marks_more marks h read within f =
-      let g = (get_or frags k d).0 in
-      let before : Bool = list_any (λ z. z.0 == f) (take k frags) in
-      elim (cases_eq g f) [
-        | inl e ↦
-            let asked : is_asked cat i dm (take (k + 1) frags) f ≡ true =
-            asked_more f ∙ and_from (before || (g == f)) (is_read_at cat i dm f) (ap (λ z. before || z) (eq-eqb g f e) ∙ or-true before)
-            (subst (λ z. is_read_at cat i dm z ≡ true) e read) in
-            ap (λ z. get_or (set marks g true) z false) (sym e) ∙ get_or-set_same marks g true false within ∙ sym asked
-        | inr n ↦ get_or-set_other marks g f true false (λ z. n (sym z)) ∙ h f ∙ sym (asked_other f n)
-      ]
+  marks_more marks h read within f = grind (arith, get_or, list_any, cases_eq, asked_more, and_from, eq-eqb, or-true, get_or-set_same, get_or-set_other, asked_other)
 
   -- another one is left out
   pub marks_same : (marks : List Bool) → AreMarks (is_asked cat i dm (take k frags)) marks

@@ -67,14 +67,9 @@ module _ (entries : List Entry) (count : ℕ) (index : DiagonalIndex) (h : IsInd
       (widened_range (range_of index i.0 j.0) count (range_at i.0 j.0 c.0 c.1)) within_later
   within_more _ c = omega arith
 
-  square_more : (e : Edge)
-      → length (with_edge index e count).ranges ≡ (with_edge index e count).width * (with_edge index e count).width
-  square_more (Diagonal i j g) = length-set index.ranges (cell index i.0 j.0) (widened (range_of index i.0 j.0) count) ∙ h.square
-  square_more _ = cc
-
   pub index_more : (d : Entry) → count < length entries → HasCell index.width (get_or entries count d).edge
       → IsIndexOf entries (count + 1) (with_edge index (get_or entries count d).edge count)
-  index_more d l c = grind (arith, nat_tests, square_more, within_more, cases_eq, get_or_default, covers_new, covers_same)
+  index_more d l c = grind (arith, nat_tests, length-set, within_more, cases_eq, get_or_default, covers_new, covers_same)
 
 width-with_edge : (index : DiagonalIndex) (e : Edge) (k : ℕ) → (with_edge index e k).width ≡ index.width
 width-with_edge index e k = grind (arith, nat_tests)

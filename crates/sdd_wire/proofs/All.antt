@@ -9,19 +9,16 @@ pub use Rattle.sdd_base.specs.declared.number.ClassNo.{ClassNo}
 pub use Rattle.sdd_base.specs.declared.number.Ts.{Ts}
 pub use Rattle.sdd_base.specs.declared.number.TxnNo.{TxnNo}
 pub use Rattle.sdd_base.specs.declared.restriction.Op.{Op}
-pub use Rattle.sdd_base.specs.declared.restriction.Op.TheVariants.{Eq, Ge, Gt, Le, Lt, Ne}
 pub use Rattle.sdd_base.specs.declared.usage.Use.{Use}
 pub use Rattle.sdd_base.specs.declared.value.Value.{Value}
-pub use Rattle.sdd_base.specs.declared.value.Value.TheVariants.{Int, Text}
 pub use Rattle.sdd_wire.specs.Fits.{FitsChange, FitsClass, FitsCond, FitsFrag, FitsI64, FitsList, FitsMsg, FitsOp, FitsOption, FitsPair, FitsRel, FitsRestriction, FitsRow, FitsTs, FitsTxnNo, FitsU32, FitsU64, FitsUse, FitsValue}
-pub use Rattle.sdd_wire.specs.Reading.{change_at, cond_at, fault_in, fields_by_tag, frag_at, is_text, message_in, ops_by_byte, row_at, text_in, use_at, value_by, whole}
+pub use Rattle.sdd_wire.specs.Reading.{fault_in, fields_by_tag, frag_at, is_text, message_in, ops_by_byte, row_at, text_in, value_by, whole}
 pub use Rattle.sdd_wire.specs.Source.{Reading, Source, after, byte_at, first_byte, flag, flag_at, if_there, items_at, known_at, list_at, meant, number_at, numbered, option_at, pair_at, piece_at, place, read_as, source_of, ◌>>=◌}
 pub use Rattle.sdd_wire.specs.Spelling.{spelled, spelled_change, spelled_class, spelled_cond, spelled_frag, spelled_list, spelled_op, spelled_option, spelled_pair, spelled_rel, spelled_restriction, spelled_row, spelled_text, spelled_ts, spelled_txn, spelled_u32, spelled_u64, spelled_use, spelled_value}
 pub use Rattle.sdd_wire.specs.declared.fault.WireFault.{WireFault}
-pub use Rattle.sdd_wire.specs.declared.fault.WireFault.TheVariants.{Bad, NoMemory}
 pub use Rattle.sdd_wire.specs.declared.msg.Msg.{Msg}
 pub use Rattle.sdd_wire.specs.declared.msg.Msg.TheVariants.{Ask, Done, Fetch, Held, Hold, Null, Read, Ready, Reduce, Reduced, Reject, Release, Rows, Ship, Values, Write}
-pub use Rattle.std.proofs.Common.{All, Bool, Contains, Err, IfOk, IsUtf8, List, None, Ok, Option, Result, Some, [], add-one, ap, append-nil, append_assoc, arith, drop, drop_at, eq-eqb, eqb-true, false, flat_map, get_or-drop, get_or-take, if◌then◌else◌, inl, inr, le-leb, le-ltb, leb-true, length, length-append, length-take, ltb-false, nat_le, nat_lt, not, of_z as cast_unsigned, refl, slice_get, slice_index_or as get_or, subst, suc, sym, take, take-append-drop, take_at, to_z as cast_signed, true, w32, w64, zero, ℕ, ◌&&◌, ◌++◌, ◌+◌, ◌-◌, ◌<◌, ◌==◌, ◌^◌, ◌∙◌, ◌∷◌, ◌≡◌, ◌≤◌}
+pub use Rattle.std.proofs.Common.{All, Bool, Contains, Err, IfOk, IsUtf8, List, None, Ok, Option, Result, Some, [], add-one, ap, append-nil, append_assoc, arith, drop, drop_at, eq-eqb, eqb-true, false, flat_map, get_or-drop, get_or-take, if◌then◌else◌, le-leb, le-ltb, leb-true, length, length-append, length-take, nat_le, nat_lt, not, of_z as cast_unsigned, refl, slice_get, slice_index_or as get_or, subst, suc, sym, take, take-append-drop, take_at, to_z as cast_signed, true, w32, w64, zero, ℕ, ◌&&◌, ◌++◌, ◌+◌, ◌-◌, ◌<◌, ◌==◌, ◌^◌, ◌∙◌, ◌∷◌, ◌≡◌, ◌≤◌}
 pub use Rattle.std.proofs.Math.Facts.{Fits-of_z, sfits_to_z}
 pub use Rattle.std.proofs.lemmas.Bool.{and_from, and_parts, both_ways, cases_lt, false_from_ne_true, not-true, not_from_false}
 pub use Rattle.std.proofs.lemmas.Int.{of_z-to_z, to_z-of_z}

@@ -1,14 +1,9 @@
 -- Items that a loop reads, one after the other.
-use Rattle.sdd_wire.proofs.All.{AllByRecursion, Err, Fails, List, Ok, Reading, Result, Source, WireFault, [], add-one, after, ap, append-nil, append_assoc, arith, fault_in, flat_map, flat_map_more, get_or, items_at, length, nat_tests, read_as, refl, suc, sym, take, take_more, ℕ, ◌++◌, ◌+◌, ◌-◌, ◌<◌, ◌∙◌, ◌∷◌, ◌≡◌, ◌≤◌}
+use Rattle.sdd_wire.proofs.All.{AllByRecursion, Fails, List, Ok, Reading, Result, Source, WireFault, [], add-one, after, append-nil, append_assoc, arith, fault_in, flat_map, flat_map_more, get_or, items_at, length, nat_tests, read_as, suc, sym, take, take_more, ℕ, ◌++◌, ◌+◌, ◌-◌, ◌<◌, ◌∙◌, ◌∷◌, ◌≡◌, ◌≤◌}
 
 -- what was read before, and what is still read
 abbrev pub with_front : {A : Type 0} → List A → Result (List A × Source) ℕ → Result (List A × Source) ℕ
 with_front front reading = after reading (λ xs. read_as (front ++ xs))
-
-regroup : {A : Type 0} (front : List A) (x : A) (reading : Result (List A × Source) ℕ)
-    → with_front front (after reading (λ xs. read_as (x ∷ xs))) ≡ with_front (front ++ x ∷ []) reading
-regroup front x (Ok xs) = ap (λ ys. Ok (ys, xs.1)) (sym (append_assoc front (x ∷ []) xs.0))
-regroup front x (Err at) = refl
 
 -- What a loop has read, with what it still reads, is the total. One item more:
 pub goes_on : {A : Type 0} (item : Reading A) (front : List A) (count i : ℕ) (s t : Source) (x : A)
@@ -18,9 +13,7 @@ pub goes_on : {A : Type 0} (item : Reading A) (front : List A) (count i : ℕ) (
 goes_on {A = A} item front count i s t x total lt h so_far =
     let k : count - i ≡ suc (count - (i + 1)) = omega arith in
     let more : Result (List A × Source) ℕ = items_at item (count - (i + 1)) t in
-    let one : with_front front (items_at item (count - i) s) ≡ with_front (front ++ x ∷ []) more =
-    rw (k, h) (regroup front x more) in
-    sym one ∙ so_far
+    sym (rw (k, h) (grind (arith, append_assoc))) ∙ so_far
 
 -- an item at which the reading breaks
 pub ends : {A : Type 0} (item : Reading A) (e : WireFault) (front : List A) (count i : ℕ) (s : Source)

@@ -1,6 +1,6 @@
 -- What is read is spelled so, and what is spelled is read: the law of one reading, and of one reading
 -- and then the next.
-use Rattle.sdd_wire.proofs.All.{List, Ok, Option, Reading, Result, Some, Source, [], after, ap, append_assoc, arith, get_or, known_at, meant, nat_tests, place, read_as, subst, sym, ℕ, ◌++◌, ◌<◌, ◌>>=◌, ◌∙◌, ◌≡◌}
+use Rattle.sdd_wire.proofs.All.{List, Ok, Option, Reading, Result, Some, Source, [], after, ap, append_assoc, arith, get_or, known_at, meant, nat_tests, place, read_as, subst, sym, ℕ, ◌++◌, ◌<◌, ◌>>=◌, ◌≡◌}
 
 abbrev pub AreBytes : List ℕ → Type 0
 AreBytes bytes = (i : ℕ) → get_or bytes i 0 < 256
@@ -79,10 +79,9 @@ only_last {B = B} {spelling = spelling} {last = last} {Q = Q} made law then = re
       let read = after_ok (last s) (λ x. read_as (made x)) (y, t) e in
       let a = law.only.took s read.1 read.0 bytes read.2 in
       let end = ok_is (made read.0, read.1) (y, t) read.3 in
-      let front = spelled_front s a.text (spelling read.0) read.1 a.holds.0 a.takes in
       record {
         text = spelling read.0;
-        takes = subst (λ (p : B × Source). TakesText s (spelling read.0) p.1) end front;
+        takes = subst (λ (p : B × Source). TakesText s (spelling read.0) p.1) end (spelled_front s a.text (spelling read.0) read.1 a.holds.0 a.takes);
         holds = subst (λ (p : B × Source). Q p.0 (spelling read.0)) end (then read.0 a.holds.1);
       };
 }
@@ -125,19 +124,13 @@ only_meant {spelling = spelling} {field = field} meaning law then = record {
       let read = after_ok (field s) (λ x. known_at (place s) (meaning x)) (y, t) e in
       let a = law.only.took s read.1 read.0 bytes read.2 in
       let found = known_ok (place s) (meaning read.0) read.1 (y, t) read.3 in
-      let front = spelled_front s a.text (spelling read.0) read.1 a.holds.0 a.takes in
       record {
         text = spelling read.0;
-        takes = subst (λ (u : Source). TakesText s (spelling read.0) u) found.1 front;
+        takes = subst (λ (u : Source). TakesText s (spelling read.0) u) found.1 (spelled_front s a.text (spelling read.0) read.1 a.holds.0 a.takes);
         holds = then read.0 y a.holds.1 found.0;
       };
 }
 
 pub back_meant : {A B : Type 0} {field : Reading A} {text : List ℕ} {x : A} {y : B} (meaning : A → Option B)
     → ReadsBack field text x → meaning x ≡ Some y → ReadsBack (meant meaning field) text y
-back_meant {text = text} meaning a is = record {
-  reads = λ whole rest.
-      let at : ℕ = place (left whole (text ++ rest)) in
-      ap (λ r. after r (λ x. known_at at (meaning x))) (a.reads whole rest)
-      ∙ ap (λ o. known_at at o (left whole rest)) is;
-}
+back_meant {text = text} meaning a is = grind (arith, left)

@@ -1,15 +1,9 @@
 -- The laws of messages: of the fields behind each tag, and of a tag with its fields.
-use Rattle.sdd_wire.proofs.All.{Ask, Change, ClassNo, Cond, Done, Err, Fetch, FitsChange, FitsCond, FitsList, FitsMsg, FitsPair, FitsRow, FitsU32, FitsU64, FitsUse, Held, Hold, List, Msg, Null, Ok, Read, Reading, Ready, Reduce, Reduced, Reject, Release, Result, Rows, Ship, Some, Source, Ts, TxnNo, Use, Value, Values, Write, [], ap, append-nil, append_assoc, arith, change_at, cond_at, fields_by_tag, if◌then◌else◌, is_empty, length, list_at, nat_tests, number_at, numbered, pair_at, read_as, refl, row_at, source_of, spelled, spelled_change, spelled_cond, spelled_list, spelled_pair, spelled_row, spelled_u32, spelled_u64, spelled_use, subst, sym, tail_of, use_at, w32, w64, whole, ℕ, ◌++◌, ◌∙◌, ◌∷◌, ◌≡◌}
+use Rattle.sdd_wire.proofs.All.{Ask, Change, ClassNo, Cond, Done, Err, Fetch, FitsList, FitsMsg, FitsPair, FitsRow, FitsU32, FitsU64, Held, Hold, List, Msg, Null, Ok, Read, Reading, Ready, Reduce, Reduced, Reject, Release, Result, Rows, Ship, Some, Source, Ts, TxnNo, Use, Value, Values, Write, [], ap, append-nil, append_assoc, arith, fields_by_tag, if◌then◌else◌, is_empty, length, list_at, nat_tests, number_at, numbered, pair_at, read_as, refl, row_at, source_of, spelled, spelled_list, spelled_pair, spelled_row, spelled_u32, spelled_u64, subst, sym, tail_of, w32, w64, whole, ℕ, ◌++◌, ◌∙◌, ◌∷◌, ◌≡◌}
 use Rattle.sdd_wire.specs.Reading.{read_at, ready_at, reject_at, fetch_at, values_at, reduce_at, reduced_at, ship_at, rows_at, write_at, null_at, ask_at, held_at, done_at, release_at, message_at, message_in}
 use Rattle.sdd_wire.proofs.Laws.{AreBytes, OnlyReads, ReadsBack, IsSpelled, Law, only_then, only_meant, only_next, only_last, only_done, back_next, back_last, back_as}
 use Rattle.sdd_wire.proofs.NumberLaws.{byte_law, u32_law, u64_law, class_law, txn_law, ts_law}
 use Rattle.sdd_wire.proofs.PartLaws.{pair_law, list_law, row_law, use_law, cond_law, change_law, AllNumbered, numbered_so}
-
-conds_law : Law (FitsList FitsCond) (spelled_list spelled_cond) (list_at cond_at)
-conds_law = list_law cond_law
-
-uses_law : Law (FitsList FitsUse) (spelled_list spelled_use) (list_at use_at)
-uses_law = list_law use_law
 
 counts_law : Law (FitsList (FitsPair FitsU32 FitsU64)) (spelled_list (spelled_pair spelled_u32 spelled_u64))
     (list_at (pair_at (number_at w32) (number_at w64)))
@@ -18,9 +12,6 @@ counts_law = list_law (pair_law u32_law u64_law)
 rows_law : Law (FitsList (FitsPair FitsU32 FitsRow)) (spelled_list (spelled_pair spelled_u32 spelled_row))
     (list_at (pair_at (number_at w32) row_at))
 rows_law = list_law (pair_law u32_law row_law)
-
-changes_law : Law (FitsList FitsChange) (spelled_list spelled_change) (list_at change_at)
-changes_law = list_law change_law
 
 -- the fields, behind a tag
 abbrev Fields : ℕ → Reading Msg → Type 0
@@ -34,17 +25,13 @@ read_fields : Fields 1 read_at
 unfolding read_at
 read_fields =
     only_next ts_law (λ ts h1. only_next class_law (λ class h2. only_next txn_law (λ txn h3.
-    only_next u64_law (λ attempt h4. only_next conds_law (λ conds h5.
-    only_last _ uses_law (λ uses h6. (simp append_assoc, (h1, h2, h3, h4, h5, h6))))))))
+    only_next u64_law (λ attempt h4. only_next (list_law cond_law) (λ conds h5.
+    only_last _ (list_law use_law) (λ uses h6. (simp append_assoc, (h1, h2, h3, h4, h5, h6))))))))
 
 read_back : (ts : Ts) (class : ClassNo) (txn : TxnNo) (attempt : ℕ) (conds : List Cond) (uses : List Use)
     → FitsMsg (Read ts class txn attempt conds uses) → Back read_at (Read ts class txn attempt conds uses)
 unfolding read_at
-read_back ts class txn attempt conds uses fits =
-    back_as (back_next _ (ts_law.back ts fits.0) (back_next _ (class_law.back class fits.1) (
-    back_next _ (txn_law.back txn fits.2) (back_next _ (u64_law.back attempt fits.3) (
-    back_next _ (conds_law.back conds fits.4) (
-    back_last _ (uses_law.back uses fits.5))))))) (simp append_assoc)
+read_back ts class txn attempt conds uses fits = grind (arith, back_as, back_next, ts_law, class_law, txn_law, u64_law, list_law, cond_law, back_last, use_law, append_assoc)
 
 ready_fields : Fields 2 ready_at
 unfolding ready_at
@@ -55,9 +42,7 @@ ready_fields =
 ready_back : (ts : Ts) (class : ClassNo) (counts : List (ℕ × ℕ)) → FitsMsg (Ready ts class counts)
     → Back ready_at (Ready ts class counts)
 unfolding ready_at
-ready_back ts class counts fits =
-    back_as (back_next _ (ts_law.back ts fits.0) (back_next _ (class_law.back class fits.1) (
-    back_last _ (counts_law.back counts fits.2)))) (simp append_assoc)
+ready_back ts class counts fits = grind (arith, back_as, back_next, ts_law, class_law, back_last, counts_law, append_assoc)
 
 reject_fields : Fields 3 reject_at
 unfolding reject_at
@@ -79,10 +64,7 @@ fetch_fields =
 fetch_back : (ts : Ts) (class : ClassNo) (use_no : ℕ) (column : ℕ)
     → FitsMsg (Fetch ts class use_no column) → Back fetch_at (Fetch ts class use_no column)
 unfolding fetch_at
-fetch_back ts class use_no column fits =
-    back_as (back_next _ (ts_law.back ts fits.0) (back_next _ (class_law.back class fits.1) (
-    back_next _ (u32_law.back use_no fits.2) (
-    back_last _ (u32_law.back column fits.3))))) (simp append_assoc)
+fetch_back ts class use_no column fits = grind (arith, back_as, back_next, ts_law, class_law, u32_law, back_last, append_assoc)
 
 values_fields : Fields 5 values_at
 unfolding values_at
@@ -93,25 +75,18 @@ values_fields =
 values_back : (ts : Ts) (class : ClassNo) (use_no : ℕ) (values : List Value)
     → FitsMsg (Values ts class use_no values) → Back values_at (Values ts class use_no values)
 unfolding values_at
-values_back ts class use_no values fits =
-    back_as (back_next _ (ts_law.back ts fits.0) (back_next _ (class_law.back class fits.1) (
-    back_next _ (u32_law.back use_no fits.2) (
-    back_last _ (row_law.back values fits.3))))) (simp append_assoc)
+values_back ts class use_no values fits = grind (arith, back_as, back_next, ts_law, class_law, u32_law, back_last, row_law, append_assoc)
 
 reduce_fields : Fields 6 reduce_at
 unfolding reduce_at
 reduce_fields =
     only_next ts_law (λ ts h1. only_next class_law (λ class h2. only_next u32_law (λ use_no h3.
-    only_next u32_law (λ column h4. only_last _ row_law (λ values h5.
-    (simp append_assoc, (h1, h2, h3, h4, h5)))))))
+    only_next u32_law (λ column h4. only_last _ row_law (grind (arith, append_assoc))))))
 
 reduce_back : (ts : Ts) (class : ClassNo) (use_no : ℕ) (column : ℕ) (values : List Value)
     → FitsMsg (Reduce ts class use_no column values) → Back reduce_at (Reduce ts class use_no column values)
 unfolding reduce_at
-reduce_back ts class use_no column values fits =
-    back_as (back_next _ (ts_law.back ts fits.0) (back_next _ (class_law.back class fits.1) (
-    back_next _ (u32_law.back use_no fits.2) (back_next _ (u32_law.back column fits.3) (
-    back_last _ (row_law.back values fits.4)))))) (simp append_assoc)
+reduce_back ts class use_no column values fits = grind (arith, back_as, back_next, ts_law, class_law, u32_law, back_last, row_law, append_assoc)
 
 reduced_fields : Fields 7 reduced_at
 unfolding reduced_at
@@ -122,10 +97,7 @@ reduced_fields =
 reduced_back : (ts : Ts) (class : ClassNo) (use_no : ℕ) (count : ℕ)
     → FitsMsg (Reduced ts class use_no count) → Back reduced_at (Reduced ts class use_no count)
 unfolding reduced_at
-reduced_back ts class use_no count fits =
-    back_as (back_next _ (ts_law.back ts fits.0) (back_next _ (class_law.back class fits.1) (
-    back_next _ (u32_law.back use_no fits.2) (
-    back_last _ (u64_law.back count fits.3))))) (simp append_assoc)
+reduced_back ts class use_no count fits = grind (arith, back_as, back_next, ts_law, class_law, u32_law, back_last, u64_law, append_assoc)
 
 ship_fields : Fields 8 ship_at
 unfolding ship_at
@@ -138,29 +110,23 @@ ship_back ts class fits = back_next _ (ts_law.back ts fits.0) (back_last _ (clas
 rows_fields : Fields 9 rows_at
 unfolding rows_at
 rows_fields =
-    only_next ts_law (λ ts h1. only_next class_law (λ class h2. only_last _ rows_law (λ rows h3.
-    (simp append_assoc, (h1, h2, h3)))))
+    only_next ts_law (λ ts h1. only_next class_law (λ class h2. only_last _ rows_law (grind (arith, append_assoc))))
 
 rows_back : (ts : Ts) (class : ClassNo) (rows : List (ℕ × List Value)) → FitsMsg (Rows ts class rows)
     → Back rows_at (Rows ts class rows)
 unfolding rows_at
-rows_back ts class rows fits =
-    back_as (back_next _ (ts_law.back ts fits.0) (back_next _ (class_law.back class fits.1) (
-    back_last _ (rows_law.back rows fits.2)))) (simp append_assoc)
+rows_back ts class rows fits = grind (arith, back_as, back_next, ts_law, class_law, back_last, rows_law, append_assoc)
 
 write_fields : Fields 10 write_at
 unfolding write_at
 write_fields =
     only_next ts_law (λ ts h1. only_next class_law (λ class h2. only_next txn_law (λ txn h3.
-    only_last _ changes_law (λ changes h4. (simp append_assoc, (h1, h2, h3, h4))))))
+    only_last _ (list_law change_law) (λ changes h4. (simp append_assoc, (h1, h2, h3, h4))))))
 
 write_back : (ts : Ts) (class : ClassNo) (txn : TxnNo) (changes : List Change)
     → FitsMsg (Write ts class txn changes) → Back write_at (Write ts class txn changes)
 unfolding write_at
-write_back ts class txn changes fits =
-    back_as (back_next _ (ts_law.back ts fits.0) (back_next _ (class_law.back class fits.1) (
-    back_next _ (txn_law.back txn fits.2) (
-    back_last _ (changes_law.back changes fits.3))))) (simp append_assoc)
+write_back ts class txn changes fits = grind (arith, back_as, back_next, ts_law, class_law, txn_law, back_last, list_law, change_law, append_assoc)
 
 null_fields : Fields 11 null_at
 unfolding null_at
@@ -207,37 +173,7 @@ release_back ts fits = back_last _ (ts_law.back ts fits)
 
 -- a tag that is read is that of the message
 by_tags : AllNumbered Fields 1 fields_by_tag
-by_tags = (
-  read_fields,
-  (
-    ready_fields,
-    (
-      reject_fields,
-      (
-        fetch_fields,
-        (
-          values_fields,
-          (
-            reduce_fields,
-            (
-              reduced_fields,
-              (
-                ship_fields,
-                (
-                  rows_fields,
-                  (
-                    write_fields,
-                    (null_fields, (ask_fields, (hold_fields, (held_fields, (done_fields, (release_fields, tt)))))),
-                  ),
-                ),
-              ),
-            ),
-          ),
-        ),
-      ),
-    ),
-  ),
-)
+by_tags = grind (arith, read_fields, ready_fields, reject_fields, fetch_fields, values_fields, reduce_fields, reduced_fields, ship_fields, rows_fields, write_fields, null_fields, ask_fields, hold_fields, held_fields, done_fields, release_fields)
 
 behind_tag : (tag : ℕ) (fields : Reading Msg) (text : List ℕ) (msg : Msg)
     → numbered fields_by_tag tag ≡ Some fields → ReadsBack fields text msg → ReadsBack message_at (tag ∷ text) msg
@@ -298,8 +234,7 @@ pub message_read_back : (msg : Msg) → FitsMsg msg → message_in (spelled msg)
 unfolding message_in
 message_read_back msg fits =
     let n : ℕ = length (spelled msg) in
-    let is : spelled msg ≡ spelled msg ++ [] = sym (append-nil (spelled msg)) in
-    ap (λ (l : List ℕ). whole (message_at (record { whole = n; left = l }))) is
+    ap (λ (l : List ℕ). whole (message_at (record { whole = n; left = l }))) (sym (append-nil (spelled msg)))
     ∙ ap whole ((message_law.back msg fits).reads n [])
 
 pub message_spelled_so : (bytes : List ℕ) (msg : Msg) → AreBytes bytes → message_in bytes ≡ Ok msg
@@ -308,5 +243,4 @@ unfolding message_in
 message_spelled_so bytes msg are_bytes e =
     let read = whole_ok (message_at (source_of bytes)) msg e in
     let took = message_law.only.took (source_of bytes) read.0 msg are_bytes read.1 in
-    let all : bytes ≡ took.text = took.takes.parts ∙ ap (λ (l : List ℕ). took.text ++ l) read.2 ∙ append-nil took.text in
-    (took.holds.1, all ∙ took.holds.0)
+    (took.holds.1, (took.takes.parts ∙ ap (λ (l : List ℕ). took.text ++ l) read.2 ∙ append-nil took.text) ∙ took.holds.0)

@@ -1,5 +1,5 @@
 -- The laws of bytes and numbers.
-use Rattle.sdd_wire.proofs.All.{Bool, Err, Fits-of_z, FitsClass, FitsFrag, FitsI64, FitsRel, FitsTs, FitsTxnNo, FitsU32, FitsU64, List, Ok, Reading, Result, Some, Source, [], ap, arith, be_bytes_4, be_bytes_8, byte_at, cases_lt, cast_signed, cast_unsigned, drop, drop_at, false, first_byte, flag, flag_at, from_be_bytes, from_be_bytes-to_be_bytes_4, from_be_bytes-to_be_bytes_8, get_or-drop, get_or-take, get_or_past, if◌then◌else◌, le-ltb, length, length-append, length-take, ltb-false, nat_lt, nat_tests, of_z-to_z, piece_at, place, refl, sfits_to_z, spelled_class, spelled_frag, spelled_rel, spelled_ts, spelled_txn, subst, suc, sym, take, take-append-drop, take_at, to_be_bytes, to_z-of_z, true, w32, w64, ℕ, ◌++◌, ◌+◌, ◌<◌, ◌∙◌, ◌∷◌, ◌≡◌, ◌≤◌}
+use Rattle.sdd_wire.proofs.All.{Bool, Err, Fits-of_z, FitsClass, FitsFrag, FitsI64, FitsRel, FitsTs, FitsTxnNo, FitsU32, FitsU64, List, Ok, Reading, Result, Some, Source, [], ap, arith, be_bytes_4, be_bytes_8, byte_at, cases_lt, cast_signed, cast_unsigned, drop, drop_at, false, first_byte, flag, flag_at, from_be_bytes, from_be_bytes-to_be_bytes_4, from_be_bytes-to_be_bytes_8, get_or-drop, get_or-take, get_or_past, if◌then◌else◌, le-ltb, length, length-append, length-take, nat_lt, nat_tests, of_z-to_z, piece_at, place, refl, sfits_to_z, spelled_class, spelled_frag, spelled_rel, spelled_ts, spelled_txn, subst, suc, sym, take, take-append-drop, take_at, to_be_bytes, to_z-of_z, true, w32, w64, ℕ, ◌<◌, ◌∙◌, ◌∷◌, ◌≡◌}
 use Rattle.sdd_wire.specs.Source.{number_at}
 use Rattle.sdd_wire.specs.Spelling.{spelled_u32, spelled_u64, spelled_i64}
 use Rattle.sdd_wire.specs.Reading.{i64_at, class_at, rel_at, frag_at, txn_at, ts_at}
@@ -7,41 +7,12 @@ use Rattle.sdd_wire.proofs.Laws.{AreBytes, Took, ReadsBack, IsSpelled, Law, only
 
 -- pieces
 
-AreBytes-drop : (n : ℕ) (bytes : List ℕ) → AreBytes bytes → AreBytes (drop n bytes)
-AreBytes-drop n bytes h i = rw get_or-drop (h (n + i))
-
-AreBytes-take : (n : ℕ) (bytes : List ℕ) → AreBytes bytes → AreBytes (take n bytes)
-AreBytes-take n bytes h i = grind (arith, nat_tests, cases_lt, get_or-take, get_or_past, length-take)
-
 pub record IsPiece (n : ℕ) (piece : List ℕ) : Type 0 where
   pub long : length piece ≡ n
   pub bytes : AreBytes piece
 
 pub piece_back : (n : ℕ) (text : List ℕ) → length text ≡ n → ReadsBack (piece_at n) text text
-piece_back n text len = record {
-  reads = λ whole rest.
-      let long : nat_lt (length (text ++ rest)) n ≡ false = le-ltb _ _ (omega (arith, length-append text rest)) in
-      rw (long, take_at text rest n len, drop_at text rest n len) refl;
-}
-
-took_piece : (n : ℕ) (s t : Source) (x : List ℕ) → AreBytes s.left → n ≤ length s.left
-    → take n s.left ≡ x → record s { left = drop n s.left } ≡ t → Took (IsSpelled (IsPiece n) (λ y. y)) s x t
-took_piece n s t x fits long front rest =
-    let whole : s.left ≡ take n s.left ++ drop n s.left = sym (take-append-drop n s.left) in
-    record {
-      text = x;
-      takes = record {
-        parts = whole ∙ ap (λ (l : List ℕ). l ++ drop n s.left) front ∙ ap (λ (u : Source). x ++ u.left) rest;
-        bytes = rw (← rest) (AreBytes-drop n s.left fits);
-      };
-      holds = (
-        refl,
-        record {
-          long = rw (← front) (omega (arith, length-take n s.left));
-          bytes = rw (← front) (AreBytes-take n s.left fits);
-        },
-      );
-    }
+piece_back n text len = grind (arith, nat_lt, le-ltb, length-append, take_at, drop_at)
 
 abbrev done : {A : Type 0} → A × Source → Result (A × Source) ℕ
 done x = Ok x
@@ -57,9 +28,8 @@ piece_law n = record {
   back = λ text fits. piece_back n text fits.long;
   only = record {
     took = λ s t x fits e.
-        let split : List ℕ × Source = (take n s.left, record s { left = drop n s.left }) in
-        let read = piece_ok (nat_lt (length s.left) n) (place s) split (x, t) e in
-        took_piece n s t x fits (ltb-false _ _ read.0) (ap (λ p. p.0) read.1) (ap (λ p. p.1) read.1);
+        let read = piece_ok (nat_lt (length s.left) n) (place s) (take n s.left, record s { left = drop n s.left }) (x, t) e in
+        (grind (arith, take-append-drop, get_or-drop, length-take, nat_tests, cases_lt, get_or-take, get_or_past));
   };
 }
 
@@ -114,9 +84,7 @@ back_value {reading = reading} {text = text} h is = subst (λ z. ReadsBack readi
 pub u32_law : Law FitsU32 spelled_u32 (number_at w32)
 unfolding number_at spelled_u32
 u32_law = record {
-  back = λ n fits.
-      back_value (back_last (from_be_bytes w32) (piece_back 4 (to_be_bytes w32 n) refl))
-      (from_be_bytes-to_be_bytes_4 n fits);
+  back = grind (arith, back_value, back_last, from_be_bytes, piece_back, to_be_bytes, from_be_bytes-to_be_bytes_4);
   only = only_last (from_be_bytes w32) (piece_law 4) (λ bytes piece.
       let b = piece.bytes in
       (sym (be_bytes_4 bytes _ piece.long b refl), omega (arith, b 0, b 1, b 2, b 3)));
@@ -128,10 +96,7 @@ u64_law = record {
   back = λ n fits.
       back_value (back_last (from_be_bytes w64) (piece_back 8 (to_be_bytes w64 n) refl))
       (from_be_bytes-to_be_bytes_8 n fits);
-  only = only_last (from_be_bytes w64) (piece_law 8) (λ bytes piece.
-      let b = piece.bytes in
-      let fits : FitsU64 (from_be_bytes w64 bytes) = omega (arith, b 0, b 1, b 2, b 3, b 4, b 5, b 6, b 7) in
-      (sym (be_bytes_8 bytes _ piece.long b refl), fits));
+  only = only_last (from_be_bytes w64) (piece_law 8) (grind (arith, from_be_bytes, be_bytes_8));
 }
 
 pub i64_law : Law FitsI64 spelled_i64 i64_at
@@ -140,8 +105,7 @@ i64_law = record {
   back = λ z fits.
       back_value (back_last (cast_signed w64) (u64_law.back (cast_unsigned w64 z) (Fits-of_z fits).fits))
       (to_z-of_z w64 z fits);
-  only = only_last (cast_signed w64) u64_law (λ n fits.
-      (ap (to_be_bytes w64) (sym (of_z-to_z w64 n fits)), sfits_to_z (record { fits = fits })));
+  only = only_last (cast_signed w64) u64_law (grind (arith, to_be_bytes, of_z-to_z, sfits_to_z));
 }
 
 pub class_law : Law FitsClass spelled_class class_at

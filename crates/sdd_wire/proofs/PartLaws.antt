@@ -1,5 +1,5 @@
 -- The laws of lists, texts and values, and of the parts of messages that are made of them.
-use Rattle.sdd_wire.proofs.All.{AllByRecursion, Bool, FitsChange, FitsCond, FitsFrag, FitsList, FitsOp, FitsOption, FitsPair, FitsRestriction, FitsRow, FitsUse, FitsValue, Int, IsText, List, None, Op, Option, Reading, Some, Text, Value, [], ap, append_assoc, arith, false, flat_map, frag_at, if_there, items_at, length, list_at, nat_tests, numbered, ops_by_byte, option_at, pair_at, refl, row_at, slice_get, spelled_change, spelled_cond, spelled_frag, spelled_list, spelled_op, spelled_option, spelled_pair, spelled_restriction, spelled_row, spelled_text, spelled_use, spelled_value, subst, suc, sym, text_in, true, value_by, zero, ℕ, ◌++◌, ◌+◌, ◌∙◌, ◌∷◌, ◌≡◌}
+use Rattle.sdd_wire.proofs.All.{AllByRecursion, Bool, FitsChange, FitsCond, FitsFrag, FitsList, FitsOp, FitsOption, FitsPair, FitsRestriction, FitsRow, FitsUse, FitsValue, IsText, List, None, Op, Option, Reading, Some, Value, [], ap, append_assoc, arith, false, flat_map, frag_at, if_there, items_at, length, list_at, nat_tests, numbered, ops_by_byte, option_at, pair_at, refl, row_at, slice_get, spelled_change, spelled_cond, spelled_frag, spelled_list, spelled_op, spelled_option, spelled_pair, spelled_restriction, spelled_row, spelled_text, spelled_use, spelled_value, subst, suc, text_in, true, value_by, zero, ℕ, ◌++◌, ◌+◌, ◌∷◌, ◌≡◌}
 use Rattle.sdd_wire.specs.Reading.{text_at, value_at, op_at, restriction_at, use_at, cond_at, change_at}
 use Rattle.sdd_wire.proofs.Laws.{OnlyReads, ReadsBack, IsSpelled, Law, only_next, only_last, only_weaker, only_meant, only_done, back_next, back_last, back_as, back_meant}
 use Rattle.sdd_wire.proofs.NumberLaws.{IsByte, piece_back, piece_law, byte_law, flag_byte, flag_law, u32_law, u64_law, i64_law, class_law, rel_law, frag_law, ts_law}
@@ -39,8 +39,7 @@ items_back : {A : Type 0} {fits : A → Type 0} {spelling : A → List ℕ} {ite
     → Law fits spelling item → (n : ℕ) (xs : List A) → length xs ≡ n → AllByRecursion fits xs
     → ReadsBack (items_at item n) (flat_map spelling xs) xs
 items_back law zero [] len fits = record { reads = λ whole rest. refl }
-items_back law (suc n) (x ∷ xs) len fits =
-    back_next _ (law.back x fits.0) (back_last _ (items_back law n xs (omega arith) fits.1))
+items_back law (suc n) (x ∷ xs) len fits = grind (arith, back_next, back_last, (items_back law n xs (omega arith) fits.1))
 items_back law _ _ len fits = absurd (omega arith)
 
 items_law : {A : Type 0} {fits : A → Type 0} {spelling : A → List ℕ} {item : Reading A}
@@ -56,8 +55,7 @@ items_law law (suc n) = record {
 
 pub list_law : {A : Type 0} {fits : A → Type 0} {spelling : A → List ℕ} {item : Reading A}
     → Law fits spelling item → Law (FitsList fits) (spelled_list spelling) (list_at item)
-list_law {fits = fits} {spelling = spelling} law =
-    grind (arith, nat_tests, back_next, u64_law, items_back, only_next, only_weaker, items_law)
+list_law {fits = fits} {spelling = spelling} law = grind (arith, back_next, u64_law, items_back, only_next, only_weaker, items_law)
 
 -- texts, values and operators
 
@@ -68,15 +66,12 @@ text_law = record {
       let size : IsByte (length text) = record { below = omega (arith, fits.short) } in
       back_next _ (byte_law.back (length text) size)
       (back_meant text_in (piece_back (length text) text refl) (text_found text fits));
-  only = only_next byte_law (λ size hs. only_meant text_in (piece_law size) (λ bytes text piece is.
-      let found = found_text bytes text is in
-      (ap (λ n. n ∷ bytes) (sym piece.long) ∙ ap spelled_text found.0, found.1)));
+  only = only_next byte_law (λ size hs. only_meant text_in (piece_law size) (grind (arith, found_text, spelled_text)));
 }
 
 value_back : (v : Value) → FitsValue v → ReadsBack value_at (spelled_value v) v
 unfolding value_at
-value_back (Int z) fits = back_next _ (flag_law.back false tt) (back_last _ (i64_law.back z fits))
-value_back (Text text) fits = back_next _ (flag_law.back true tt) (back_last _ (text_law.back text fits))
+value_back v fits = grind (arith, back_next, flag_law, back_last, i64_law, text_law)
 
 value_only : (b : Bool) → OnlyReads (λ v more. IsSpelled FitsValue spelled_value v (flag_byte b ++ more)) (value_by b)
 value_only false = only_last _ i64_law (λ z h. (refl, h))
@@ -101,8 +96,7 @@ at_number _ first _ _ x all is = grind (arith, nat_tests)
 
 pub numbered_so : {A : Type 0} (P : ℕ → A → Type 0) (xs : List A) (n : ℕ) (x : A)
     → AllNumbered P 1 xs → numbered xs n ≡ Some x → P n x
-numbered_so P xs zero x all is = absurd cc
-numbered_so P xs (suc n) x all is = subst (λ k. P k x) (omega arith) (at_number P 1 xs n x all is)
+numbered_so P xs n x all is = grind (arith, at_number)
 
 op_back : (op : Op) → FitsOp op → ReadsBack op_at (spelled_op op) op
 unfolding op_at
@@ -112,10 +106,7 @@ pub op_law : Law FitsOp spelled_op op_at
 unfolding op_at
 op_law = record {
   back = op_back;
-  only = only_meant _ byte_law (λ n op fits is.
-      let each : AllNumbered (λ n op. n ∷ [] ≡ spelled_op op) 1 ops_by_byte =
-      (refl, (refl, (refl, (refl, (refl, (refl, tt)))))) in
-      (numbered_so (λ n op. n ∷ [] ≡ spelled_op op) ops_by_byte n op each is, tt));
+  only = only_meant _ byte_law (grind (arith, AllNumbered, spelled_op, ops_by_byte, numbered_so));
 }
 
 -- restrictions, uses, conditions and changes
@@ -123,9 +114,7 @@ op_law = record {
 pub restriction_law : Law FitsRestriction spelled_restriction restriction_at
 unfolding restriction_at
 restriction_law = record {
-  back = λ r fits.
-      back_as (back_next _ (u32_law.back r.column fits.0) (back_next _ (op_law.back r.op tt) (
-      back_last _ (value_law.back r.value fits.1)))) (simp append_assoc);
+  back = grind (arith, back_as, back_next, u32_law, op_law, back_last, value_law, append_assoc);
   only =
       only_next u32_law (λ column h1. only_next op_law (λ op h2.
       only_last _ value_law (λ value h3. (simp append_assoc, (h1, h3)))));
@@ -134,27 +123,19 @@ restriction_law = record {
 frags_law : Law (FitsList FitsFrag) (spelled_list spelled_frag) (list_at frag_at)
 frags_law = list_law frag_law
 
-restrictions_law : Law (FitsList FitsRestriction) (spelled_list spelled_restriction) (list_at restriction_at)
-restrictions_law = list_law restriction_law
-
 pub use_law : Law FitsUse spelled_use use_at
 unfolding use_at
 use_law = record {
-  back = λ u fits.
-      back_as (back_next _ (u32_law.back u.number fits.0) (back_next _ (rel_law.back u.rel fits.1) (
-      back_next _ (frags_law.back u.frags fits.2) (
-      back_last _ (restrictions_law.back u.restrictions fits.3))))) (simp append_assoc);
+  back = grind (arith, back_as, back_next, u32_law, rel_law, frags_law, back_last, list_law, restriction_law, append_assoc);
   only =
       only_next u32_law (λ number h1. only_next rel_law (λ rel h2. only_next frags_law (λ frags h3.
-      only_last _ restrictions_law (λ restrictions h4. (simp append_assoc, (h1, h2, h3, h4))))));
+      only_last _ (list_law restriction_law) (λ restrictions h4. (simp append_assoc, (h1, h2, h3, h4))))));
 }
 
 pub cond_law : Law FitsCond spelled_cond cond_at
 unfolding cond_at
 cond_law = record {
-  back = λ c fits.
-      back_as (back_next _ (class_law.back c.class fits.0) (back_next _ (ts_law.back c.time fits.1) (
-      back_last _ (frags_law.back c.frags fits.2)))) (simp append_assoc);
+  back = grind (arith, back_as, back_next, class_law, ts_law, back_last, frags_law, append_assoc);
   only =
       only_next class_law (λ class h1. only_next ts_law (λ time h2.
       only_last _ frags_law (λ frags h3. (simp append_assoc, (h1, h2, h3)))));
@@ -163,9 +144,7 @@ cond_law = record {
 pub change_law : Law FitsChange spelled_change change_at
 unfolding change_at
 change_law = record {
-  back = λ c fits.
-      back_as (back_next _ (frag_law.back c.frag fits.0) (back_next _ (i64_law.back c.key fits.1) (
-      back_last _ ((option_law row_law).back c.row fits.2)))) (simp append_assoc);
+  back = grind (arith, back_as, back_next, frag_law, i64_law, back_last, option_law, row_law, append_assoc);
   only =
       only_next frag_law (λ frag h1. only_next i64_law (λ key h2.
       only_last _ (option_law row_law) (λ row h3. (simp append_assoc, (h1, h2, h3)))));

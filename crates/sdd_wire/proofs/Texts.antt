@@ -1,5 +1,5 @@
 -- Bytes that are the text of a column, and others.
-use Rattle.sdd_wire.proofs.All.{Any-from_list_any, Bool, Contains, IsText, IsUtf8, IsUtf8-from_is_utf8, List, MAX_TEXT_BYTES, None, Some, and_from, and_parts, arith, both_ways, contains, eq-eqb, eqb-true, false, false_from_ne_true, get_or_default, if◌then◌else◌, is_text, is_utf8, is_utf8-from_IsUtf8, le-leb, leb-true, length, list_any_at, nat_le, nat_tests, not, not-true, not_from_false, refl, text_in, true, ℕ, ◌&&◌, ◌==◌, ◌∙◌, ◌≡◌}
+use Rattle.sdd_wire.proofs.All.{Any-from_list_any, Bool, Contains, IsText, IsUtf8, IsUtf8-from_is_utf8, List, MAX_TEXT_BYTES, None, Some, and_from, and_parts, arith, both_ways, contains, eq-eqb, eqb-true, false_from_ne_true, get_or_default, if◌then◌else◌, is_text, is_utf8, is_utf8-from_IsUtf8, le-leb, leb-true, length, list_any_at, nat_le, nat_tests, not, not-true, not_from_false, refl, text_in, true, ℕ, ◌&&◌, ◌==◌, ◌∙◌, ◌≡◌}
 
 pub contains-true : (ns : List ℕ) (n : ℕ) → contains ns n ≡ true → Contains ns n
 contains-true ns n h =
@@ -19,16 +19,14 @@ pub is_text-true : (bytes : List ℕ) → is_text bytes ≡ true → IsText byte
 is_text-true bytes h =
     let outer = and_parts (is_short bytes && is_line bytes) (is_utf8 bytes) h in
     let inner = and_parts (is_short bytes) (is_line bytes) outer.0 in
-    let no_newline : contains bytes 10 ≡ false = not-true (contains bytes 10) inner.1 in
     record {
       short = leb-true _ _ inner.0;
-      on_a_line = λ there. both_ways (contains bytes 10) no_newline (Contains-true bytes 10 there);
+      on_a_line = λ there. both_ways (contains bytes 10) (not-true (contains bytes 10) inner.1) (Contains-true bytes 10 there);
       utf8 = IsUtf8-from_is_utf8 bytes outer.1;
     }
 
 pub IsText-true : (bytes : List ℕ) → IsText bytes → is_text bytes ≡ true
-IsText-true bytes t =
-    grind (arith, nat_tests, false_from_ne_true, contains-true, not_from_false, and_from, le-leb, is_utf8-from_IsUtf8)
+IsText-true bytes t = grind (arith, false_from_ne_true, contains-true, not_from_false, and_from, le-leb, is_utf8-from_IsUtf8)
 
 -- a text is found
 pub text_found : (bytes : List ℕ) → IsText bytes → text_in bytes ≡ Some bytes

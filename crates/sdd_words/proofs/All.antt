@@ -19,20 +19,19 @@ pub use Rattle.sdd_words.specs.declared.split.Mode.{Mode}
 pub use Rattle.sdd_words.specs.declared.split.Mode.TheVariants.{Closed, Escape, InPlain, InText, Start}
 pub use Rattle.sdd_words.specs.declared.split.Move.{Move}
 pub use Rattle.sdd_words.specs.declared.split.Move.TheVariants.{Adds, Ends, Goes, Refuses}
-pub use Rattle.std.proofs.Common.{Bool, Err, IsAscii, IsUtf8, List, MatchOption, None, Ok, Option, Result, SFits as FitsSigned, Some, [], add-one, ap, append-nil, append_assoc, arith, bytes_eq, codes, cond, decimal, drop, drop-cons, encode_utf8_all, eq-eqb, eqb-true, false, flat_map, get_or-take, if◌then◌else◌, inl, inr, int_eq, is_some, le-ltb, length, length-append, length-drop, length-take, lt-ltb, ltb-false, ltb-true, map, nat_eq as eqb, nat_le, nat_lt, ne_eqb, negsuc, not, pos, position, refl, rules, slice_index_or as get_or, subst, suc, sym, take, take-append-drop, take_all, true, unwrap_or, w64, zero, ℕ, ℤ, ◌&&◌, ◌++◌, ◌+◌, ◌-◌, ◌<◌, ◌==◌, ◌^◌, ◌∙◌, ◌∷◌, ◌≡◌, ◌≢◌, ◌≤◌}
+pub use Rattle.std.proofs.Common.{Bool, Err, IsAscii, IsUtf8, List, MatchOption, None, Ok, Option, Result, SFits as FitsSigned, Some, [], add-one, ap, append-nil, append_assoc, arith, bytes_eq, codes, cond, decimal, drop, drop-cons, encode_utf8_all, false, flat_map, get_or-take, if◌then◌else◌, inl, inr, int_eq, is_some, le-ltb, length, length-append, length-drop, length-take, lt-ltb, ltb-false, ltb-true, map, nat_eq as eqb, nat_le, nat_lt, ne_eqb, not, position, refl, rules, slice_index_or as get_or, subst, suc, sym, take, take-append-drop, take_all, true, unwrap_or, w64, ℕ, ℤ, ◌&&◌, ◌++◌, ◌+◌, ◌-◌, ◌<◌, ◌==◌, ◌^◌, ◌∙◌, ◌∷◌, ◌≡◌, ◌≢◌, ◌≤◌}
 pub use Rattle.std.proofs.lemmas.Bool.{and_parts, cases_Bool, cases_lt, cond-false, cond-true, false_from_ne_true as not_true}
 pub use Rattle.std.proofs.lemmas.Bool.Decides.{nat_tests}
 pub use Rattle.std.proofs.lemmas.Fmt.{IsAscii-signed, decimal_is_IsNumeral, parse-decimal, parse-signed_decimal}
-pub use Rattle.std.proofs.lemmas.Int.{ints, to_z-of_z}
+pub use Rattle.std.proofs.lemmas.Int.{to_z-of_z}
 pub use Rattle.std.proofs.Math.Seq.{drop-append_seam, take-append_seam}
-pub use Rattle.std.proofs.lemmas.List.{drop-append-le, drop_all, take-append-le}
+pub use Rattle.std.proofs.lemmas.List.{drop_all, take-append-le}
 pub use Rattle.std.proofs.lemmas.List.Sums.{prefix_len-le-length, prefix_len_is}
 pub use Rattle.std.proofs.lemmas.Option.{cond_some}
 pub use Rattle.std.proofs.lemmas.Slice.Eq.{bytes_eq-Decides}
 pub use Rattle.std.proofs.lemmas.Str.{IsUtf8-from_ascii, IsUtf8-from_is_utf8, encode_ascii, encodes-IsAscii, encodes-append, inside_one, is_utf8-from_IsUtf8}
 pub use Rattle.std.proofs.lemmas.Str.Ascii.{IsAscii-cons, IsAscii-nil}
 pub use Rattle.std.proofs.lemmas.Str.Parse.{digit_from_value}
-pub use Rattle.std.specs.Cmp.{signed_Decides}
 pub use Rattle.std.specs.Fmt.{signed_decimal}
 pub use Rattle.std.specs.Int.Signed.{mag}
 pub use Rattle.std.specs.List.{after_first, before_first, list_all, position_or_len}

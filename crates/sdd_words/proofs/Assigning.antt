@@ -18,8 +18,7 @@ settings_few ws few some = grind (arith, nat_tests)
 
 pub setting_read : (l o r : Word) (more ws : List Word) (read : Option Setting) → ws ≡ l ∷ o ∷ r ∷ more → read ≡ setting_of l o r
     → MatchOption read (not_empty ws ≡ true → settings ws ≡ None) (λ one. settings ws ≡ joined (Some one) (settings more))
-setting_read l o r more ws None is e = λ _. no_setting l o r more ws is e
-setting_read l o r more ws (Some s) is e = setting_more l o r more ws s is e
+setting_read l o r more ws read is e = grind (arith, no_setting, setting_more)
 
 -- whether words are assignments, one less
 pub are_settings_more : (ws more : List Word) (s : Setting) (total : Bool) → settings ws ≡ joined (Some s) (settings more)

@@ -16,22 +16,13 @@ unfolding cut_lines
 no_line [] none = refl
 no_line (c ∷ cs) none = rw (not_newline c (eqb c 10) refl (none 0 (omega arith)), no_line cs (λ k lt. none (suc k) (omega arith))) refl
 
-newline_at : (bs : List ℕ) (j : ℕ) → j < length bs → get_or bs j 0 ≡ 10 → drop j bs ≡ 10 ∷ drop (j + 1) bs
-newline_at bs j l h = rw (drop-cons bs j 0, h, add-one) refl
-
-parts : (bytes : List ℕ) (i : ℕ) → i < length bytes → get_or bytes i 0 ≡ 10 → bytes ≡ take i bytes ++ 10 ∷ drop (i + 1) bytes
-parts bytes i lt e = sym (take-append-drop i bytes) ∙ ap (λ (t : List ℕ). take i bytes ++ t) (newline_at bytes i lt e)
-
-none_in : (bytes : List ℕ) (i k : ℕ) → ((j : ℕ) → j < i → get_or bytes j 0 ≡ 10 → ⊥) → k < i → get_or (take i bytes) k 0 ≡ 10 → ⊥
-none_in bytes i k none below = rw (get_or-take i bytes k 0 below) (none k below)
-
 pub cuts_at : (bytes : List ℕ) (i : ℕ) → i < length bytes → get_or bytes i 0 ≡ 10 → ((k : ℕ) → k < i → get_or bytes k 0 ≡ 10 → ⊥)
     → Cuts bytes (take i bytes) (drop (i + 1) bytes)
 cuts_at bytes i lt e none =
-    let p = parts bytes i lt e in
+    let p = (sym (take-append-drop i bytes) ∙ ap (λ (t : List ℕ). take i bytes ++ t) (rw (drop-cons bytes i 0, e, add-one) refl)) in
     let len : length (take i bytes) ≡ i = omega (arith, length-take i bytes) in
     record {
       whole = p;
-      first = ap cut_lines p ∙ whole-first (take i bytes) (drop (i + 1) bytes) (λ k below. none_in bytes i k none (omega arith));
+      first = ap cut_lines p ∙ whole-first (take i bytes) (drop (i + 1) bytes) (λ k below. (rw (get_or-take i bytes k 0 (omega arith)) (none k (omega arith))));
       shorter = omega (arith, length-drop (i + 1) bytes);
     }

@@ -1,14 +1,11 @@
 -- A spelled number is parsed.
-use Rattle.sdd_words.proofs.All.{Bool, Err, FitsSigned, IsAscii-signed, IsNumeral, IsUtf8, IsUtf8-from_ascii, List, None, Ok, ParsesSigned, Result, Some, and_parts, arith, bytes_eq, bytes_eq-Decides, cond, cond_some, false, int_eq, is_small, lt-ltb, ltb-true, mag, nat_tests, not_true, parse-signed_decimal, refl, signed_decimal, signed_digits_value, subst, sym, true, w64, without_leading_sign, ℕ, ℤ, ◌&&◌, ◌<◌, ◌^◌, ◌∙◌, ◌≡◌}
+use Rattle.sdd_words.proofs.All.{Bool, Err, FitsSigned, IsAscii-signed, IsNumeral, IsUtf8, IsUtf8-from_ascii, List, None, Ok, ParsesSigned, Result, Some, and_parts, arith, bytes_eq, bytes_eq-Decides, cond, cond_some, int_eq, is_small, lt-ltb, ltb-true, mag, nat_tests, not_true, parse-signed_decimal, refl, signed_decimal, signed_digits_value, subst, sym, true, w64, without_leading_sign, ℕ, ℤ, ◌&&◌, ◌<◌, ◌^◌, ◌∙◌, ◌≡◌}
 use Rattle.sdd_words.specs.Number.{number_of}
 pub use Rattle.std.proofs.lemmas.Bool.{and_parts as both}
 
-small : (z : ℤ) → FitsSigned w64 z → mag z < 2 ^ 63
-small z fits = omega arith
-
 pub parses : {E : Type 0} (z : ℤ) (bs : List ℕ) (r : Result ℤ E) → FitsSigned w64 z → bs ≡ signed_decimal z → ParsesSigned w64 10 bs r
     → r ≡ Ok z
-parses z bs r fits e h = parse-signed_decimal w64 z bs r fits (small z fits) e h
+parses z bs r fits e h = parse-signed_decimal w64 z bs r fits (omega arith) e h
 
 pub same_number : {E : Type 0} (r : Result ℤ E) (y z : ℤ) → r ≡ Ok y → r ≡ Ok z → y ≡ z
 same_number r y z a b = cc
@@ -36,50 +33,35 @@ by_tests bs z x y e p q = rw (← e, p, q) refl
 
 pub number_of-spelled : (bs : List ℕ) (z : ℤ) → z ≡ signed_digits_value 10 bs → bs ≡ signed_decimal z → FitsSigned w64 z
     → number_of bs ≡ Some z
-number_of-spelled bs z e h fits = by_tests bs z true true e ((bytes_eq-Decides bs (signed_decimal z)).1 h) (lt-ltb (mag z) (2 ^ 63) (small z fits))
+number_of-spelled bs z e h fits = by_tests bs z true true e ((bytes_eq-Decides bs (signed_decimal z)).1 h) (lt-ltb (mag z) (2 ^ 63) (omega arith))
 
 pub number_of-other : (bs : List ℕ) (z : ℤ) → z ≡ signed_digits_value 10 bs → (bs ≡ signed_decimal z → ⊥) → number_of bs ≡ None
-number_of-other bs z e other =
-    by_tests bs z false (is_small z) e (not_true (bytes_eq bs (signed_decimal z)) (λ t. other ((bytes_eq-Decides bs (signed_decimal z)).0 t))) refl
+number_of-other bs z e other = grind (arith, by_tests, not_true, bytes_eq, signed_decimal, bytes_eq-Decides)
 
 fits_small : (z : ℤ) → mag z < 2 ^ 63 → FitsSigned w64 z
 fits_small z lt = omega arith
 
 by_cases : (bs : List ℕ) (x y : Bool) → bytes_eq bs (signed_decimal (signed_digits_value 10 bs)) ≡ x → is_small (signed_digits_value 10 bs) ≡ y
     → (x ≡ true → y ≡ true → ⊥) → number_of bs ≡ None
-by_cases bs true true p q no-both = absurd (no-both refl refl)
-by_cases bs true false p q no-both = by_tests bs (signed_digits_value 10 bs) true false refl p q
-by_cases bs false y p q no-both = by_tests bs (signed_digits_value 10 bs) false y refl p q
+by_cases bs x y p q h6 = grind (arith, by_tests, signed_digits_value)
 
 pub number_of-unparsed : {E : Type 0} (r : Result ℤ E) (f : E) (bs : List ℕ) → ParsesSigned w64 10 bs r → r ≡ Err f → number_of bs ≡ None
-number_of-unparsed r f bs h e =
-    let z : ℤ = signed_digits_value 10 bs in
-    by_cases bs (bytes_eq bs (signed_decimal z)) (is_small z) refl refl
-    (λ p q. let k = parses z bs r (fits_small z (ltb-true (mag z) (2 ^ 63) q)) ((bytes_eq-Decides bs (signed_decimal z)).0 p) h in absurd cc)
+number_of-unparsed r f bs h e = grind (arith, signed_digits_value, by_cases, bytes_eq, signed_decimal, parses, fits_small, ltb-true, bytes_eq-Decides)
 
 pub number_of_other_bytes : (bs : List ℕ) → (IsUtf8 bs → ⊥) → number_of bs ≡ None
 number_of_other_bytes bs other =
     let z : ℤ = signed_digits_value 10 bs in
     by_cases bs (bytes_eq bs (signed_decimal z)) (is_small z) refl refl (λ p q.
-    let e : bs ≡ signed_decimal z = (bytes_eq-Decides bs (signed_decimal z)).0 p in
-    let u : IsUtf8 (signed_decimal z) = IsUtf8-from_ascii (signed_decimal z) (IsAscii-signed z (ltb-true (mag z) (2 ^ 63) q)) in
-    absurd (other (rw e u)))
+    absurd (other (rw ((bytes_eq-Decides bs (signed_decimal z)).0 p) (IsUtf8-from_ascii (signed_decimal z) (IsAscii-signed z (ltb-true (mag z) (2 ^ 63) q))))))
 
 -- what is read is spelled so
 pub number_takes : (bs : List ℕ) (z : ℤ) → number_of bs ≡ Some z → (bs ≡ signed_decimal z) × (mag z < 2 ^ 63)
 unfolding number_of
-number_takes bs z e =
-    let v : ℤ = signed_digits_value 10 bs in
-    let a = cond_some (bytes_eq bs (signed_decimal v) && is_small v) v z e in
-    let b = and_parts (bytes_eq bs (signed_decimal v)) (is_small v) a.0 in
-    rw (← a.1) ((bytes_eq-Decides bs (signed_decimal v)).0 b.0, ltb-true (mag v) (2 ^ 63) b.1)
+number_takes bs z e = grind (arith, signed_digits_value, cond_some, bytes_eq, signed_decimal, and_parts, bytes_eq-Decides, ltb-true)
 
 -- what parse asks of a signed number
 abbrev IsParsed : List ℕ → Type 0
 IsParsed bs = IsNumeral 10 (without_leading_sign bs) × FitsSigned w64 (signed_digits_value 10 bs)
-
-not_not : (z : ℤ) → mag z < 2 ^ 63 → (IsParsed (signed_decimal z) → ⊥) → ⊥
-not_not z lt none = let e = parse-signed_decimal {E = Unit {0}} w64 z (signed_decimal z) (Err tt) (fits_small z lt) lt refl none in absurd cc
 
 value_if : (z : ℤ) → mag z < 2 ^ 63 → IsParsed (signed_decimal z) → signed_digits_value 10 (signed_decimal z) ≡ z
 value_if z lt p =
@@ -91,7 +73,7 @@ stable b y z e h = grind (arith, nat_tests)
 
 signed_value : (z : ℤ) → mag z < 2 ^ 63 → signed_digits_value 10 (signed_decimal z) ≡ z
 signed_value z lt =
-    stable (int_eq (signed_digits_value 10 (signed_decimal z)) z) (signed_digits_value 10 (signed_decimal z)) z refl (λ other. not_not z lt (λ p. other (value_if z lt p)))
+    stable (int_eq (signed_digits_value 10 (signed_decimal z)) z) (signed_digits_value 10 (signed_decimal z)) z refl (λ other. (let e = parse-signed_decimal {E = Unit {0}} w64 z (signed_decimal z) (Err tt) (fits_small z lt) lt refl (λ p. other (value_if z lt p)) in absurd cc))
 
 -- what is spelled is read
 pub number_again : (z : ℤ) → mag z < 2 ^ 63 → number_of (signed_decimal z) ≡ Some z

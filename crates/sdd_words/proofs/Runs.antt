@@ -14,13 +14,9 @@ run_is text n le plain stops =
 -- the run ends before the first quote or backslash that a search finds
 pub run_before : (text : List ℕ) (n : ℕ) → NoneBefore (Passes is_special text) 0 (length text) n
     → Passes is_special text n → n ≡ position_or_len is_special text
-run_before text n found stops =
-    run_is text n (omega (arith, found.high))
-    (λ k lt. false_from_ne_true _ (found.before k (omega arith) lt)) (λ _. stops)
+run_before text n found stops = grind (arith, run_is, false_from_ne_true)
 
 -- a text in which none is found is one run
 pub run_of_all : (text : List ℕ) → Nowhere (Passes is_special text) 0 (length text)
     → length text ≡ position_or_len is_special text
-run_of_all text none =
-    run_is text (length text) (omega arith)
-    (λ k lt. false_from_ne_true _ (none k (omega arith) lt)) (λ lt. absurd (omega (arith, lt)))
+run_of_all text none = grind (arith, run_is, false_from_ne_true)

@@ -37,10 +37,7 @@ goes_on Refuses mode to c cs is e = absurd cc
 
 pub byte_more : (mode to : Mode) (rest : List ℕ) (total : Bool) → 0 < length rest → Some to ≡ mode_after mode (get_or rest 0 0)
     → is_some (scan mode [] rest) ≡ total → is_some (scan to [] (left rest)) ≡ total
-byte_more mode to [] total some e so_far = absurd (omega arith)
-byte_more mode to (c ∷ cs) total some e so_far =
-    let all : left (c ∷ cs) ≡ cs = take_all _ _ (omega arith) in
-    rw all (sym (goes_on (move_of mode c) mode to c cs refl e) ∙ so_far)
+byte_more mode to rest total some e so_far = grind (arith, left, take_all, goes_on)
 
 refused : (m : Move) (mode : Mode) (c : ℕ) (cs : List ℕ) → m ≡ move_of mode c → None ≡ moves_to m → is_some (scan mode [] (c ∷ cs)) ≡ false
 refused Refuses mode c cs is e = ap is_some (scan-cons mode [] c cs Refuses is)

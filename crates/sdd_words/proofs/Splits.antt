@@ -1,5 +1,5 @@
 -- What is read is spelled, and what is spelled is read.
-use Rattle.sdd_words.proofs.All.{Adds, AllWords, AreWords, Bool, Closed, Ends, Escape, Goes, HasNoSpace, InPlain, InText, IsPlain, IsWord, List, Mode, Move, Option, Plain, Quoted, Refuses, Some, Start, Word, [], ap, append-nil, append_assoc, arith, eqb, escaped, escaped_byte, false, line_bytes, more_bytes, move_of, moved, nat_tests, ne_eqb, onto, refl, sym, word_bytes, word_of, words_at_end, ℕ, ◌++◌, ◌∙◌, ◌∷◌, ◌≡◌, ◌≢◌}
+use Rattle.sdd_words.proofs.All.{Adds, AllWords, AreWords, Bool, Closed, Ends, Escape, Goes, HasNoSpace, InPlain, InText, IsPlain, IsWord, List, Mode, Move, Option, Plain, Quoted, Refuses, Some, Start, Word, [], append-nil, append_assoc, arith, eqb, escaped, escaped_byte, line_bytes, more_bytes, move_of, moved, nat_tests, ne_eqb, onto, refl, word_bytes, word_of, ℕ, ◌++◌, ◌∙◌, ◌∷◌, ◌≡◌, ◌≢◌}
 use Rattle.sdd_words.specs.Scan.{scan}
 
 -- ---- what is spelled is read
@@ -7,10 +7,7 @@ use Rattle.sdd_words.specs.Scan.{scan}
 plain_again : (bytes text rest : List ℕ) → HasNoSpace bytes → scan InPlain text (bytes ++ rest) ≡ scan InPlain (text ++ bytes) rest
 unfolding scan
 plain_again [] text rest h = rw (append-nil text) refl
-plain_again (c ∷ cs) text rest h =
-    let n : eqb c 32 ≡ false = ne_eqb c 32 h.0 in
-    let ih : scan InPlain (text ++ c ∷ []) (cs ++ rest) ≡ scan InPlain ((text ++ c ∷ []) ++ cs) rest = plain_again cs (text ++ c ∷ []) rest h.1 in
-    rw n (ih ∙ ap (λ (t : List ℕ). scan InPlain t rest) (append_assoc text (c ∷ []) cs))
+plain_again (c ∷ cs) text rest h = grind (arith, ne_eqb, append_assoc, (plain_again cs (text ++ c ∷ []) rest h.1))
 
 text_step : (c : ℕ) (cs text rest : List ℕ) (x y : Bool) → eqb c 34 ≡ x → eqb c 92 ≡ y
     → scan InText (text ++ c ∷ []) (escaped cs ++ rest) ≡ scan InText ((text ++ c ∷ []) ++ cs) rest
@@ -21,15 +18,11 @@ text_step c cs text rest x y p q ih = grind (arith, nat_tests)
 text_again : (bytes text rest : List ℕ) → scan InText text (escaped bytes ++ rest) ≡ scan InText (text ++ bytes) rest
 unfolding scan
 text_again [] text rest = rw (append-nil text) refl
-text_again (c ∷ cs) text rest =
-    text_step c cs text rest (eqb c 34) (eqb c 92) refl refl (text_again cs (text ++ c ∷ []) rest)
-    ∙ ap (λ (t : List ℕ). scan InText t rest) (append_assoc text (c ∷ []) cs)
+text_again (c ∷ cs) text rest = grind (arith, text_step, append_assoc, (text_again cs (text ++ c ∷ []) rest))
 
 text_closed : (text rest : List ℕ) → scan Start [] (word_bytes (Quoted text) ++ rest) ≡ scan Closed text rest
 unfolding scan
-text_closed text rest =
-    let at : (escaped text ++ 34 ∷ []) ++ rest ≡ escaped text ++ 34 ∷ rest = append_assoc (escaped text) (34 ∷ []) rest in
-    rw at (text_again text [] (34 ∷ rest))
+text_closed text rest = grind (arith, append_assoc, text_again)
 
 -- a word is read, and then what follows it
 abbrev after_word : Word → List ℕ → Option (List Word)
@@ -38,12 +31,7 @@ after_word (Quoted text) rest = scan Closed text rest
 
 begun : (w : Word) (rest : List ℕ) → IsWord w → scan Start [] (word_bytes w ++ rest) ≡ after_word w rest
 unfolding scan
-begun (Plain []) rest h = absurd h
-begun (Plain (c ∷ cs)) rest h =
-    let p : eqb c 34 ≡ false = ne_eqb c 34 h.0 in
-    let q : eqb c 32 ≡ false = ne_eqb c 32 h.1 in
-    rw (p, q) (plain_again cs (c ∷ []) rest h.2)
-begun (Quoted text) rest h = text_closed text rest
+begun w rest h = grind (arith, ne_eqb, plain_again, text_closed)
 
 followed : (w : Word) (cs : List ℕ) → after_word w (32 ∷ cs) ≡ onto (w ∷ []) (scan Start [] cs)
 unfolding scan
@@ -55,12 +43,10 @@ ended w = grind (arith, nat_tests)
 
 more_again : (w : Word) (ws : List Word) → IsWord w → AllWords ws → scan Start [] (word_bytes w ++ more_bytes ws) ≡ Some (w ∷ ws)
 more_again w [] h hs = begun w [] h ∙ ended w
-more_again w (v ∷ vs) h hs =
-    begun w (more_bytes (v ∷ vs)) h ∙ followed w (word_bytes v ++ more_bytes vs) ∙ ap (onto (w ∷ [])) (more_again v vs hs.0 hs.1)
+more_again w (v ∷ vs) h hs = grind (arith, begun, followed, (more_again v vs hs.0 hs.1))
 
 pub scan_again : (ws : List Word) → AreWords ws → scan Start [] (line_bytes ws) ≡ Some ws
-scan_again [] h = absurd h
-scan_again (w ∷ ws) h = more_again w ws h.0 h.1
+scan_again ws h = grind (arith, more_again)
 
 -- ---- what is read is spelled
 
@@ -85,16 +71,11 @@ pub record Spells (bytes : List ℕ) (ws : List Word) : Type 0 where
 
 escaped-snoc : (text : List ℕ) (c : ℕ) → escaped (text ++ c ∷ []) ≡ escaped text ++ escaped_byte c
 escaped-snoc [] c = append-nil (escaped_byte c)
-escaped-snoc (x ∷ text) c =
-    ap (λ (t : List ℕ). escaped_byte x ++ t) (escaped-snoc text c) ∙ sym (append_assoc (escaped_byte x) (escaped text) (escaped_byte c))
+escaped-snoc (x ∷ text) c = grind (arith, append_assoc, (escaped-snoc text c))
 
 no_space-snoc : (text : List ℕ) (c : ℕ) → HasNoSpace text → c ≢ 32 → HasNoSpace (text ++ c ∷ [])
 no_space-snoc [] c h n = (n, tt)
 no_space-snoc (x ∷ text) c h n = (h.0, no_space-snoc text c h.1 n)
-
-plain-snoc : (text : List ℕ) (c : ℕ) → IsPlain text → c ≢ 32 → IsPlain (text ++ c ∷ [])
-plain-snoc [] c h n = absurd h
-plain-snoc (x ∷ text) c h n = (h.0, h.1, no_space-snoc text c h.2 n)
 
 -- one byte more, which leads from a mode and text to others
 record Moves (mode to : Mode) (text next : List ℕ) (c : ℕ) : Type 0 where
@@ -109,22 +90,8 @@ goes_as : (mode to : Mode) (c : ℕ) (text : List ℕ) → Keeps mode text → G
 goes_as mode to c text k e = grind (arith, nat_tests)
 
 adds_as : (mode to : Mode) (c : ℕ) (text : List ℕ) → Keeps mode text → Adds to ≡ move_of mode c → Moves mode to text (text ++ c ∷ []) c
-adds_as Start to c text k e =
-    let t : to ≡ InPlain = grind (arith, nat_tests) in
-    rw (t, k) (record { same = refl; keeps = (grind (arith, nat_tests), grind (arith, nat_tests), tt) })
-adds_as InPlain to c text k e =
-    let t : to ≡ InPlain = grind (arith, nat_tests) in
-    rw t (record { same = refl; keeps = plain-snoc text c k (grind (arith, nat_tests)) })
-adds_as InText to c text k e =
-    let t : to ≡ InText = grind (arith, nat_tests) in
-    let one : escaped_byte c ≡ c ∷ [] = grind (arith, nat_tests) in
-    rw t (record { same = ap (λ (l : List ℕ). 34 ∷ l) (sym (escaped-snoc text c ∙ ap (λ (l : List ℕ). escaped text ++ l) one)); keeps = tt })
-adds_as Escape to c text k e =
-    let t : to ≡ InText = grind (arith, nat_tests) in
-    let one : escaped_byte c ≡ 92 ∷ c ∷ [] = grind (arith, nat_tests) in
-    let spelled = append_assoc (escaped text) (92 ∷ []) (c ∷ []) ∙ sym (escaped-snoc text c ∙ ap (λ (l : List ℕ). escaped text ++ l) one) in
-    rw t (record { same = ap (λ (l : List ℕ). 34 ∷ l) spelled; keeps = tt })
-adds_as Closed to c text k e = absurd (grind (arith, nat_tests))
+adds_as Start to c text k e = grind arith
+adds_as mode to c text k e = grind (arith, no_space-snoc, escaped-snoc, append_assoc)
 
 -- a word that ends
 record IsMade (mode : Mode) (text : List ℕ) : Type 0 where
@@ -141,15 +108,6 @@ ends_as mode c text k e = grind (arith, nat_tests)
 abbrev found : List Word → Option (List Word)
 found ws = Some ws
 
-same_words : (xs ys : List Word) → found xs ≡ found ys → xs ≡ ys
-same_words xs ys e = cc
-
-at_end : (mode : Mode) (text : List ℕ) (ws : List Word) → Keeps mode text → words_at_end mode text ≡ Some ws → Spells (before mode text) ws
-at_end InPlain text ws k e = let p = same_words (Plain text ∷ []) ws e in rw (← p) (record { words = (k, tt); spelled = sym (append-nil text) })
-at_end Closed text ws k e =
-    let p = same_words (Quoted text ∷ []) ws e in rw (← p) (record { words = (tt, tt); spelled = sym (append-nil (word_bytes (Quoted text))) })
-at_end _ text ws k e = absurd cc
-
 onto_is : (w : Word) (read : Option (List Word)) (ws : List Word) → onto (w ∷ []) read ≡ Some ws
     → (vs : List Word) × (read ≡ Some vs) × (ws ≡ w ∷ vs)
 onto_is w read ws e = grind (arith, nat_tests)
@@ -159,10 +117,7 @@ joins w cs vs h s = grind (arith, nat_tests)
 
 steps_on : (mode to : Mode) (text next : List ℕ) (c : ℕ) (cs : List ℕ) (ws : List Word) → Moves mode to text next c → Spells (before to next ++ cs) ws
     → Spells (before mode text ++ c ∷ cs) ws
-steps_on mode to text next c cs ws m s =
-    let e : before mode text ++ c ∷ cs ≡ before to next ++ cs = sym (append_assoc (before mode text) (c ∷ []) cs)
-    ∙ ap (λ (l : List ℕ). l ++ cs) m.same in
-    rw e s
+steps_on mode to text next c cs ws m s = grind (arith, before, append_assoc)
 
 takes_one : (m : Move) (mode : Mode) (text : List ℕ) (c : ℕ) (cs : List ℕ) (ws : List Word) → m ≡ move_of mode c → Keeps mode text
     → ((to : Mode) (t : List ℕ) (vs : List Word) → Keeps to t → scan to t cs ≡ Some vs → Spells (before to t ++ cs) vs)
@@ -179,7 +134,7 @@ takes_one Refuses mode text c cs ws is k ih e = absurd cc
 takes : (mode : Mode) (text bytes : List ℕ) (ws : List Word) → Keeps mode text → scan mode text bytes ≡ Some ws
     → Spells (before mode text ++ bytes) ws
 unfolding scan
-takes mode text [] ws k e = rw (append-nil (before mode text)) (at_end mode text ws k e)
+takes mode text [] ws k e = rw (append-nil (before mode text)) (grind (arith, append-nil))
 takes mode text (c ∷ cs) ws k e = takes_one (move_of mode c) mode text c cs ws refl k (λ to t vs h g. takes to t cs vs h g) e
 
 pub scan_takes : (line : List ℕ) (ws : List Word) → scan Start [] line ≡ Some ws → AreWords ws × (line ≡ line_bytes ws)

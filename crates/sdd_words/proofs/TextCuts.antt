@@ -1,5 +1,5 @@
 -- A text, its spelling, and where that ends.
-use Rattle.sdd_words.proofs.All.{Bool, List, None, Some, [], ap, append-nil, append_assoc, arith, drop, eqb, escaped, escaped_byte, false, get_or, if◌then◌else◌, leads_on, length, length-append, nat_tests, one_more, passes_to, refl, sym, take, take_all, true, unescaped, ℕ, ◌++◌, ◌+◌, ◌-◌, ◌<◌, ◌∙◌, ◌∷◌, ◌≡◌}
+use Rattle.sdd_words.proofs.All.{Bool, List, None, Some, [], ap, append-nil, append_assoc, arith, drop, eqb, escaped, escaped_byte, false, get_or, if◌then◌else◌, leads_on, length, length-append, nat_tests, one_more, passes_to, refl, sym, take, take_all, unescaped, ℕ, ◌++◌, ◌+◌, ◌-◌, ◌<◌, ◌∙◌, ◌∷◌, ◌≡◌}
 use Rattle.sdd_words.specs.Tokens.{unescaped_from, quote_from}
 
 -- ---- what is spelled is read
@@ -12,8 +12,7 @@ byte_back c cs x y p q = grind (arith, nat_tests)
 pub text_back : (text : List ℕ) → unescaped (escaped text) ≡ text
 unfolding unescaped_from
 text_back [] = refl
-text_back (c ∷ cs) =
-    byte_back c (escaped cs) (eqb c 34) (eqb c 92) refl refl ∙ ap (λ (l : List ℕ). c ∷ l) (text_back cs)
+text_back (c ∷ cs) = grind (arith, byte_back, (text_back cs))
 
 -- what is left behind the first byte
 abbrev left : List ℕ → List ℕ
@@ -25,8 +24,7 @@ left_is c cs = take_all _ _ (omega arith)
 read_by : (b behind : Bool) (c : ℕ) (cs front whole : List ℕ) → leads_on behind c ≡ b → front ++ unescaped_from behind (c ∷ cs) ≡ whole
     → (if b then front else front ++ c ∷ []) ++ unescaped_from b cs ≡ whole
 unfolding unescaped_from
-read_by true behind c cs front whole e so_far = rw e at so_far
-read_by false behind c cs front whole e so_far = append_assoc front (c ∷ []) (unescaped_from false cs) ∙ (rw e at so_far)
+read_by b behind c cs front whole e so_far = grind (arith, append_assoc)
 
 -- one byte more of a text
 pub byte_read : (behind : Bool) (rest front whole : List ℕ) → 0 < length rest → front ++ unescaped_from behind rest ≡ whole
@@ -50,11 +48,7 @@ byte_passed c cs x y p q = grind (arith, nat_tests)
 pub ends_at_quote : (text rest : List ℕ) → quote_from false (escaped text ++ 34 ∷ rest) ≡ length (escaped text)
 unfolding quote_from
 ends_at_quote [] rest = refl
-ends_at_quote (c ∷ cs) rest =
-    let all : (escaped_byte c ++ escaped cs) ++ 34 ∷ rest ≡ escaped_byte c ++ (escaped cs ++ 34 ∷ rest) =
-    append_assoc (escaped_byte c) (escaped cs) (34 ∷ rest) in
-    rw all (byte_passed c (escaped cs ++ 34 ∷ rest) (eqb c 34) (eqb c 92) refl refl
-    ∙ ap (λ (n : ℕ). length (escaped_byte c) + n) (ends_at_quote cs rest) ∙ sym (length-append (escaped_byte c) (escaped cs)))
+ends_at_quote (c ∷ cs) rest = grind (arith, append_assoc, byte_passed, length-append, (ends_at_quote cs rest))
 
 -- one byte more is passed
 pub passed_more : (behind to : Bool) (rest : List ℕ) (place total : ℕ) → 0 < length rest → Some to ≡ passes_to behind (get_or rest 0 0)
@@ -62,17 +56,14 @@ pub passed_more : (behind to : Bool) (rest : List ℕ) (place total : ℕ) → 0
 unfolding quote_from
 passed_more behind to [] place total some e so_far = absurd (omega arith)
 passed_more behind to (c ∷ cs) place total some e so_far =
-    let one : quote_from behind (c ∷ cs) ≡ 1 + quote_from to cs = ap (λ o. one_more o (λ b. quote_from b cs)) (sym e) in
-    rw (left_is c cs) (omega (arith, one, so_far))
+    rw (left_is c cs) (omega (arith, (ap (λ o. one_more o (λ b. quote_from b cs)) (sym e)), so_far))
 
 -- the quote is found
 pub passed_none : (behind : Bool) (rest : List ℕ) (place total : ℕ) → 0 < length rest → None ≡ passes_to behind (get_or rest 0 0)
     → place + quote_from behind rest ≡ total → place ≡ total
 unfolding quote_from
 passed_none behind [] place total some e so_far = absurd (omega arith)
-passed_none behind (c ∷ cs) place total some e so_far =
-    let one : quote_from behind (c ∷ cs) ≡ 0 = ap (λ o. one_more o (λ b. quote_from b cs)) (sym e) in
-    omega (arith, one, so_far)
+passed_none behind (c ∷ cs) place total some e so_far = grind arith
 
 pub left_length : (rest : List ℕ) (place total : ℕ) → 0 < length rest → place + length rest ≡ total → place + 1 + length (left rest) ≡ total
 left_length [] place total some e = absurd (omega arith)

@@ -1,5 +1,5 @@
 -- The spelling of a text is UTF-8, and that of a number is a plain word.
-use Rattle.sdd_words.proofs.All.{AllDigits, Bool, HasNoSpace, IsAscii, IsAscii-cons, IsAscii-nil, IsPlain, IsUtf8, List, [], all_scalars, and_parts, ap, append-nil, append_assoc, arith, cases_lt, decimal, decimal_is_IsNumeral, digit_from_value, encode_ascii, encode_utf8_all, encodes-IsAscii, encodes-append, eqb, escaped, escaped_byte, false, get_or, inl, inr, inside_one, length, mag, nat_tests, negsuc, pos, refl, signed_decimal, suc, sym, true, ℕ, ℤ, ◌++◌, ◌<◌, ◌^◌, ◌∙◌, ◌∷◌, ◌≡◌}
+use Rattle.sdd_words.proofs.All.{AllDigits, Bool, HasNoSpace, IsAscii, IsAscii-cons, IsAscii-nil, IsPlain, IsUtf8, List, [], all_scalars, and_parts, ap, append-nil, append_assoc, arith, cases_lt, decimal_is_IsNumeral, digit_from_value, encode_ascii, encode_utf8_all, encodes-IsAscii, encodes-append, eqb, escaped, escaped_byte, get_or, inside_one, length, mag, nat_tests, refl, signed_decimal, suc, sym, true, ℕ, ℤ, ◌++◌, ◌<◌, ◌^◌, ◌∙◌, ◌∷◌, ◌≡◌}
 use lib.Utf8.{encode, scalar}
 
 high_byte : (b : ℕ) → (b < 128 → ⊥) → escaped_byte b ≡ b ∷ []
@@ -8,9 +8,7 @@ high_byte b h = grind (arith, nat_tests)
 high_same : (bs : List ℕ) → ((k : ℕ) → k < length bs → get_or bs k 0 < 128 → ⊥) → escaped bs ≡ bs
 high_same [] h = refl
 high_same (b ∷ bs) h =
-    let one : escaped_byte b ≡ b ∷ [] = high_byte b (h 0 (omega arith)) in
-    let more : escaped bs ≡ bs = high_same bs (λ k lt. h (suc k) (omega arith)) in
-    ap (λ (l : List ℕ). l ++ escaped bs) one ∙ ap (λ (l : List ℕ). b ∷ l) more
+    ap (λ (l : List ℕ). l ++ escaped bs) (high_byte b (h 0 (omega arith))) ∙ ap (λ (l : List ℕ). b ∷ l) (high_same bs (λ k lt. h (suc k) (omega arith)))
 
 pub escaped-append : (a b : List ℕ) → escaped (a ++ b) ≡ escaped a ++ escaped b
 escaped-append [] b = refl
@@ -19,27 +17,13 @@ escaped-append (c ∷ a) b = ap (λ (l : List ℕ). escaped_byte c ++ l) (escape
 one : (c : ℕ) → c < 128 → IsAscii (c ∷ [])
 one c lt = IsAscii-cons c [] lt IsAscii-nil
 
-low_ascii : (c : ℕ) (x y : Bool) → eqb c 34 ≡ x → eqb c 92 ≡ y → c < 128 → encode_utf8_all (escaped_byte c) ≡ escaped_byte c
-low_ascii c false false p q lt = rw (p, q) (encodes-IsAscii (c ∷ []) (one c lt))
-low_ascii c _ _ p q lt = simp (p, q) (encodes-IsAscii (92 ∷ c ∷ []) (IsAscii-cons 92 (c ∷ []) (omega arith) (one c lt)))
-
 char_step : (c : ℕ) → escaped (encode c) ≡ encode_utf8_all (escaped_byte c)
-char_step c =
-    elim (cases_lt c 128) [
-      | inl lt ↦ rw (encode_ascii c lt) (append-nil (escaped_byte c) ∙ sym (low_ascii c (eqb c 34) (eqb c 92) refl refl lt))
-      | inr le ↦
-          let same : escaped (encode c) ≡ encode c = high_same (encode c)
-          (λ k lt low. let e : c ≡ get_or (encode c) k 0 = inside_one c [] (encode c) k (sym (append-nil (encode c))) lt low in omega arith) in
-          let byte : escaped_byte c ≡ c ∷ [] = high_byte c (λ lt. omega arith) in
-          same ∙ sym (append-nil (encode c)) ∙ ap encode_utf8_all (sym byte)
-    ]
+char_step c = grind (arith, cases_lt, encode_ascii, append-nil, encodes-IsAscii, one, high_same, get_or, inside_one, high_byte, encode_utf8_all)
 
 -- escaping characters is escaping bytes
 chars_escape : (cs : List ℕ) → escaped (encode_utf8_all cs) ≡ encode_utf8_all (escaped cs)
 chars_escape [] = refl
-chars_escape (c ∷ cs) =
-    escaped-append (encode c) (encode_utf8_all cs) ∙ ap (λ (l : List ℕ). l ++ escaped (encode_utf8_all cs)) (char_step c)
-    ∙ ap (λ (l : List ℕ). encode_utf8_all (escaped_byte c) ++ l) (chars_escape cs) ∙ sym (encodes-append (escaped_byte c) (escaped cs))
+chars_escape (c ∷ cs) = grind (arith, escaped-append, encode_utf8_all, char_step, encodes-append, (chars_escape cs))
 
 scalar_step : (c : ℕ) (cs : List ℕ) (x y : Bool) → eqb c 34 ≡ x → eqb c 92 ≡ y → scalar c ≡ true → all_scalars (escaped cs) ≡ true
     → all_scalars (escaped_byte c ++ escaped cs) ≡ true
@@ -57,11 +41,7 @@ digits_plain [] h = tt
 digits_plain (c ∷ ds) h = let r = digit_from_value c (omega (arith, h.0)) in ((λ e. omega (arith, r.0)), digits_plain ds h.1)
 
 numeral_plain : (ds : List ℕ) → 0 < length ds → AllDigits 10 ds → IsPlain ds
-numeral_plain [] some h = absurd (omega arith)
-numeral_plain (c ∷ ds) some h =
-    let r = digit_from_value c (omega (arith, h.0)) in ((λ e. omega (arith, r.0)), (λ e. omega (arith, r.0)), digits_plain ds h.1)
+numeral_plain ds some h = grind (arith, digit_from_value, digits_plain)
 
 pub number_plain : (z : ℤ) → mag z < 2 ^ 63 → IsPlain (signed_decimal z)
-number_plain (pos n) lt = let k = decimal_is_IsNumeral n (omega arith) in numeral_plain (decimal n) k.0.0 k.0.1
-number_plain (negsuc n) lt =
-    let k = decimal_is_IsNumeral (suc n) (omega arith) in ((λ e. omega arith), (λ e. omega arith), digits_plain (decimal (suc n)) k.0.1)
+number_plain z lt = grind (arith, decimal_is_IsNumeral, numeral_plain, digits_plain)

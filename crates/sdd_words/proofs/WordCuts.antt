@@ -1,5 +1,5 @@
 -- The first word of what is left of a line.
-use Rattle.sdd_words.proofs.All.{AllWords, HasNoSpace, IsLeft, List, Plain, Quoted, Word, [], ap, append_assoc, arith, behind_space, drop, drop-append_seam, escaped, false, get_or, is_space, length, line_bytes, more_bytes, nat_tests, ne_eqb, or_none, position_or_len, quote_from, refl, subst, suc, sym, take, take-append_seam, unescaped, word_bytes, words_left, ℕ, ◌++◌, ◌<◌, ◌∙◌, ◌∷◌, ◌≡◌, ◌≢◌}
+use Rattle.sdd_words.proofs.All.{AllWords, HasNoSpace, IsLeft, List, Plain, Quoted, Word, [], ap, append_assoc, arith, behind_space, drop, drop-append_seam, escaped, false, get_or, is_space, length, line_bytes, more_bytes, nat_tests, ne_eqb, position_or_len, quote_from, refl, subst, sym, take, take-append_seam, unescaped, word_bytes, words_left, ℕ, ◌++◌, ◌<◌, ◌∙◌, ◌∷◌, ◌≡◌, ◌≢◌}
 use Rattle.sdd_words.specs.Scan.{scan}
 use Rattle.sdd_words.proofs.Points.{place_here, place_on}
 use Rattle.sdd_words.proofs.Splits.{scan_again}
@@ -8,24 +8,16 @@ use Rattle.sdd_words.proofs.TextCuts.{ends_at_quote, text_back}
 -- the words are those that are spelled
 pub left_again : (ws : List Word) → AllWords ws → words_left (line_bytes ws) ≡ ws
 unfolding scan
-left_again [] h = refl
-left_again (w ∷ ws) h = ap or_none (scan_again (w ∷ ws) h)
+left_again ws h = grind (arith, scan_again)
 
 pub is_left : (ws : List Word) → AllWords ws → IsLeft (line_bytes ws)
-is_left ws h = record {
-  words = subst AllWords (sym (left_again ws h)) h;
-  spelled = ap line_bytes (sym (left_again ws h));
-}
-
-behind_word : (ws : List Word) → behind_space (more_bytes ws) ≡ line_bytes ws
-behind_word ws = grind (arith, nat_tests)
+is_left ws h = grind (arith, left_again)
 
 -- a word without quotes ends before the first space
 ends_at_space : (word : List ℕ) (ws : List Word) → HasNoSpace word → position_or_len is_space (word ++ more_bytes ws) ≡ length word
 ends_at_space [] [] h = refl
 ends_at_space [] (w ∷ ws) h = place_here is_space 32 (word_bytes w ++ more_bytes ws) refl
-ends_at_space (c ∷ cs) ws h =
-    place_on is_space c (cs ++ more_bytes ws) (ne_eqb c 32 h.0) ∙ ap suc (ends_at_space cs ws h.1)
+ends_at_space (c ∷ cs) ws h = grind (arith, place_on, ne_eqb, (ends_at_space cs ws h.1))
 
 -- a word without quotes at the front, and the words after it
 record PlainFirst (bytes : List ℕ) (ws : List Word) : Type 0 where
@@ -36,10 +28,6 @@ record PlainFirst (bytes : List ℕ) (ws : List Word) : Type 0 where
   no_space : HasNoSpace word
   are_words : AllWords more
 
-plain_first : (bytes : List ℕ) (ws : List Word) → bytes ≡ line_bytes ws → AllWords ws → 0 < length bytes → get_or bytes 0 0 ≢ 34
-    → PlainFirst bytes ws
-plain_first bytes ws e h some other = grind (arith, nat_tests)
-
 -- what it cuts off
 record CutsOff (bytes rest : List ℕ) (made : Word) : Type 0 where
   cut : words_left bytes ≡ made ∷ words_left rest
@@ -47,22 +35,7 @@ record CutsOff (bytes rest : List ℕ) (made : Word) : Type 0 where
 
 plain_at : (bytes : List ℕ) (n : ℕ) (left : IsLeft bytes) → 0 < length bytes → get_or bytes 0 0 ≢ 34 → n ≡ position_or_len is_space bytes
     → CutsOff bytes (behind_space (drop n bytes)) (Plain (take n bytes))
-plain_at bytes n left some other at =
-    let first = plain_first bytes (words_left bytes) left.spelled left.words some other in
-    let length_is : n ≡ length first.word =
-    at ∙ ap (position_or_len is_space) first.spelled ∙ ends_at_space first.word first.more first.no_space in
-    let word_is : take n bytes ≡ first.word = ap (λ (k : ℕ). take k bytes) length_is ∙ ap (λ (l : List ℕ). take (length first.word) l) first.spelled
-    ∙ take-append_seam first.word (more_bytes first.more) in
-    let dropped : drop n bytes ≡ more_bytes first.more = ap (λ (k : ℕ). drop k bytes) length_is
-    ∙ ap (λ (l : List ℕ). drop (length first.word) l) first.spelled
-    ∙ drop-append_seam first.word (more_bytes first.more) in
-    let rest_is : behind_space (drop n bytes) ≡ line_bytes first.more = ap behind_space dropped ∙ behind_word first.more in
-    record {
-      cut = first.words ∙ ap (λ (l : List Word). Plain first.word ∷ l) (sym (left_again first.more first.are_words))
-          ∙ ap (λ (l : List ℕ). Plain first.word ∷ words_left l) (sym rest_is)
-          ∙ ap (λ (l : List ℕ). Plain l ∷ words_left (behind_space (drop n bytes))) (sym word_is);
-      left = subst IsLeft (sym rest_is) (is_left first.more first.are_words);
-    }
+plain_at bytes n left some other at = grind (arith, position_or_len, ends_at_space, take-append_seam, drop-append_seam, nat_tests, left_again, is_left)
 
 pub plain_cut : (bytes : List ℕ) (n : ℕ) → IsLeft bytes → 0 < length bytes → get_or bytes 0 0 ≢ 34 → n ≡ position_or_len is_space bytes
     → words_left bytes ≡ Plain (take n bytes) ∷ words_left (behind_space (drop n bytes))
@@ -81,14 +54,7 @@ record TextFirst (bytes : List ℕ) (ws : List Word) : Type 0 where
   are_words : AllWords more
 
 text_first : (bytes : List ℕ) (ws : List Word) → 34 ∷ bytes ≡ line_bytes ws → AllWords ws → TextFirst bytes ws
-text_first bytes (Quoted text ∷ ws) e h = record {
-  text = text;
-  more = ws;
-  words = refl;
-  spelled = ap (λ (l : List ℕ). drop 1 l) e ∙ append_assoc (escaped text) (34 ∷ []) (more_bytes ws);
-  are_words = h.1;
-}
-text_first bytes _ e h = grind (arith, nat_tests)
+text_first bytes ws e h = grind (arith, append_assoc)
 
 record CutsText (bytes : List ℕ) (n : ℕ) : Type 0 where
   cut : words_left (34 ∷ bytes) ≡ Quoted (unescaped (take n bytes)) ∷ words_left (behind_space (behind_space (drop n bytes)))
@@ -106,14 +72,10 @@ text_at bytes n left at =
     let dropped : drop n bytes ≡ 34 ∷ more_bytes first.more =
     ap (λ (k : ℕ). drop k bytes) length_is ∙ ap (λ (l : List ℕ). drop (length (escaped first.text)) l) first.spelled
     ∙ drop-append_seam (escaped first.text) (34 ∷ more_bytes first.more) in
-    let rest_is : behind_space (behind_space (drop n bytes)) ≡ line_bytes first.more =
-    ap (λ (l : List ℕ). behind_space (behind_space l)) dropped ∙ behind_word first.more in
     let text_is : unescaped (take n bytes) ≡ first.text = ap unescaped word_is ∙ text_back first.text in
     record {
-      cut = first.words ∙ ap (λ (l : List Word). Quoted first.text ∷ l) (sym (left_again first.more first.are_words))
-          ∙ ap (λ (l : List ℕ). Quoted first.text ∷ words_left l) (sym rest_is)
-          ∙ ap (λ (l : List ℕ). Quoted l ∷ words_left (behind_space (behind_space (drop n bytes)))) (sym text_is);
-      left = subst IsLeft (sym rest_is) (is_left first.more first.are_words);
+      cut = grind (arith, left_again, words_left, behind_space);
+      left = subst IsLeft (sym (ap (λ (l : List ℕ). behind_space (behind_space l)) dropped ∙ (grind (arith, nat_tests)))) (is_left first.more first.are_words);
       spelled = word_is ∙ ap escaped (sym text_is);
     }
 

@@ -1,5 +1,5 @@
 -- What was written, one item more, and how written words are put together.
-use Rattle.sdd_words.proofs.All.{List, Word, [], add-one, ap, append-nil, append_assoc, drop, drop-cons, drop_all, flat_map, get_or, length, map, more_bytes, refl, spaced, sym, ℕ, ◌++◌, ◌+◌, ◌<◌, ◌∙◌, ◌∷◌, ◌≡◌, ◌≤◌}
+use Rattle.sdd_words.proofs.All.{List, Word, [], add-one, ap, append-nil, append_assoc, arith, drop, drop-cons, drop_all, flat_map, get_or, length, map, more_bytes, refl, spaced, sym, ℕ, ◌++◌, ◌+◌, ◌<◌, ◌∙◌, ◌∷◌, ◌≡◌, ◌≤◌}
 pub use Rattle.std.proofs.lemmas.Grind.{flat_map-append}
 pub use Rattle.std.proofs.lemmas.List.Folds.{flat_map-map}
 
@@ -7,10 +7,7 @@ pub use Rattle.std.proofs.lemmas.List.Folds.{flat_map-map}
 pub item_written : {A : Type 0} (f : A → List ℕ) (xs : List A) (x : A) (out total : List ℕ) (i : ℕ) → i < length xs → x ≡ get_or xs i x
     → out ++ flat_map f (drop i xs) ≡ total
     → (out ++ f x) ++ flat_map f (drop (i + 1) xs) ≡ total
-item_written f xs x out total i lt is e =
-    let d : drop i xs ≡ x ∷ drop (i + 1) xs = rw (drop-cons xs i x, ← is, add-one) refl in
-    let g : flat_map f (drop i xs) ≡ f x ++ flat_map f (drop (i + 1) xs) = rw d refl in
-    append_assoc out (f x) (flat_map f (drop (i + 1) xs)) ∙ ap (λ (l : List ℕ). out ++ l) (sym g) ∙ e
+item_written f xs x out total i lt is e = grind (arith, drop-cons, add-one, flat_map, append_assoc)
 
 pub items_written : {A : Type 0} (f : A → List ℕ) (xs : List A) (out total : List ℕ) (i : ℕ) → length xs ≤ i
     → out ++ flat_map f (drop i xs) ≡ total → out ≡ total
@@ -28,5 +25,4 @@ words_spaced f (x ∷ xs) = ap (λ (l : List ℕ). spaced (f x) ++ l) (words_spa
 
 pub more_bytes-append : (ws vs : List Word) → more_bytes (ws ++ vs) ≡ more_bytes ws ++ more_bytes vs
 more_bytes-append [] vs = refl
-more_bytes-append (w ∷ ws) vs =
-    ap (λ (l : List ℕ). spaced w ++ l) (more_bytes-append ws vs) ∙ sym (append_assoc (spaced w) (more_bytes ws) (more_bytes vs))
+more_bytes-append (w ∷ ws) vs = grind (arith, append_assoc, (more_bytes-append ws vs))

@@ -1,6 +1,6 @@
-use Rattle.sdd_blocks.proofs.All.{Global, Vec, inl, inr, slice_get-get_or, subst, sym, ℕ, ◌+◌}
+use Rattle.sdd_blocks.proofs.All.{Global, Vec, inl, inr, slice_get-get_or, ℕ}
 use Rattle.sdd_blocks.proofs.Results.{IfOk-both_then}
-use Rattle.sdd_blocks.proofs.Labels.{AreLabelsSoFar, no_edges_yet, edge_left_out, edge_joined, components_done}
+use Rattle.sdd_blocks.proofs.Labels.{no_edges_yet, edge_left_out, edge_joined, components_done}
 use Rattle.sdd_blocks.proofs.components.components.Goals.{then-a-without+then-b-without, else-a-without, else-a-without-via-then-a-without+else-b-without, else-a-without-via-else-a-without}
 use Rattle.sdd_blocks.proofs.components.components.Goals as goal
 
@@ -15,12 +15,10 @@ loop-edge-preserved c =
     let here = slice_get-get_or edges at (0, 0) c.loop-edge-test.true in
     elim c.if-a-without.branch [
       | then-a-without+then-b-without w ↦
-          subst (λ z. AreLabelsSoFar edges c.args.without c.args.nodes z.parents.items (at + 1)) (sym w.forest-is)
-          (edge_joined edges c.args.without c.args.nodes _ _ at _ _ c.loop-edge.invariant c.requires here w.if-a-without.true w.if-b-without.true
+          rw w.forest-is (edge_joined edges c.args.without c.args.nodes _ _ at _ _ c.loop-edge.invariant c.requires here w.if-a-without.true w.if-b-without.true
           w.join.ensures.length w.join.ensures.forest w.join.ensures.joined)
       | else-a-without w ↦
-          subst (λ z. AreLabelsSoFar edges c.args.without c.args.nodes z.parents.items (at + 1)) (sym w.forest-is)
-          (edge_left_out edges c.args.without c.args.nodes _ at _ _ c.loop-edge.invariant here
+          rw w.forest-is (edge_left_out edges c.args.without c.args.nodes _ at _ _ c.loop-edge.invariant here
           (elim w.else-a-without.branch [
             | else-a-without-via-then-a-without+else-b-without x ↦ inr x.if-b-without.false
             | else-a-without-via-else-a-without x ↦ inl x.if-a-without.false

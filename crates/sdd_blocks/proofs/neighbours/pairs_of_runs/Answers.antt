@@ -1,20 +1,16 @@
-use Rattle.sdd_blocks.proofs.All.{All, AreComponents, edges_in, subst, sym, ◌<◌}
+use Rattle.sdd_blocks.proofs.All.{edges_in}
 use Rattle.sdd_blocks.proofs.RunEdges.{run_ends_within, components_of_runs}
 use Rattle.sdd_blocks.proofs.Ties.{one_more_node, all_nodes}
 use Rattle.sdd_blocks.proofs.neighbours.pairs_of_runs.Goals as goal
 
 pub components-requires : goal.components-requires
 components-requires c =
-    subst (λ z. All (λ e. (e.0 < c.args.nodes) × (e.1 < c.args.nodes)) z) (sym c.requires.each)
-    (run_ends_within c.args.runs.now c.args.nodes c.requires.some c.requires.ends)
+    rw c.requires.each (run_ends_within c.args.runs.now c.args.nodes c.requires.some c.requires.ends)
 
 pub tie_at-requires-clause-components : goal.tie_at-requires-clause-components
 tie_at-requires-clause-components c =
-    let runs = c.args.runs.now in
-    let node = c.loop-node.node in
-    let labels = c.in_ok-labels.labels.items in
-    subst (λ z. AreComponents (edges_in runs) node z) (sym c.deref.ensures.value)
-    (components_of_runs runs c.requires.some node labels (subst (λ z. AreComponents z node labels) c.requires.each c.in_ok-labels.ensures.components))
+    rw c.deref.ensures.value (components_of_runs c.args.runs.now c.requires.some c.loop-node.node c.in_ok-labels.labels.items
+    (rw c.requires.each at c.in_ok-labels.ensures.components))
 
 pub loop-node-preserved : goal.loop-node-preserved
 loop-node-preserved c = one_more_node _ _ _ c.loop-node.node c.loop-node.invariant c.in_ok-tie_at.ensures

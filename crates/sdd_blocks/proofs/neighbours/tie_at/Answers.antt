@@ -1,6 +1,6 @@
-use Rattle.sdd_blocks.proofs.All.{All, List, Run, Some, ap, arith, edges_in, get_or, get_or_default, length, other_end, refl, slice_get, subst, sym, take, take_all, ℕ, ◌+◌, ◌<◌, ◌∙◌, ◌≡◌, ◌≤◌}
+use Rattle.sdd_blocks.proofs.All.{All, List, Run, Some, ap, arith, edges_in, get_or, get_or_default, length, other_end, refl, slice_get, sym, take, take_all, ℕ, ◌+◌, ◌<◌, ◌∙◌, ◌≡◌, ◌≤◌}
 use Rattle.sdd_blocks.proofs.RunEdges.{run_at, count_more, count_within}
-use Rattle.sdd_blocks.proofs.Ties.{IsTyingAt, edge_tied, none_tied, all_tied, other_end_joins, joins_end_within}
+use Rattle.sdd_blocks.proofs.Ties.{edge_tied, none_tied, all_tied, other_end_joins, joins_end_within}
 use Rattle.sdd_blocks.proofs.neighbours.tie_at.Goals.{in-Some+else-loop-edge-test, in_default}
 use Rattle.sdd_blocks.proofs.neighbours.tie_at.Goals as goal
 
@@ -31,67 +31,41 @@ overflow_add-past c =
 
 pub bounds-labels-end : goal.bounds-labels-end
 bounds-labels-end c =
-    let from = c.loop-run.invariant.from in
-    let here = edge_at c.args.runs.now c.loop-run.run-index c.loop-run.from c.loop-edge.edge c.loop-run-test.true from
-    c.loop-edge.auto.edge c.loop-edge-test.true in
+    let here = edge_at _ c.loop-run.run-index _ c.loop-edge.edge c.loop-run-test.true c.loop-run.invariant.from c.loop-edge.auto.edge c.loop-edge-test.true in
     end_within (edges_in c.args.runs.now) c.args.labels.now c.loop-edge.edge c.args.node c.in-Some.end _ here c.in-Some.ensures c.requires.ends
 
 pub tie-requires : goal.tie-requires
 tie-requires c =
-    let from = c.loop-run.invariant.from in
-    let here = edge_at c.args.runs.now c.loop-run.run-index c.loop-run.from c.loop-edge.edge c.loop-run-test.true from
-    c.loop-edge.auto.edge c.loop-edge-test.true in
+    let here = edge_at _ c.loop-run.run-index _ c.loop-edge.edge c.loop-run-test.true c.loop-run.invariant.from c.loop-edge.auto.edge c.loop-edge-test.true in
     let within = end_within (edges_in c.args.runs.now) c.args.labels.now c.loop-edge.edge c.args.node c.in-Some.end _ here c.in-Some.ensures c.requires.ends in
-    let below = c.requires.components.below c.in-Some.end 0 within in
-    omega (arith, below, c.loop-edge.invariant.one_each)
+    omega (arith, c.requires.components.below c.in-Some.end 0 within, c.loop-edge.invariant.one_each)
 
 pub loop-edge-preserved : goal.loop-edge-preserved
 loop-edge-preserved c =
-    let from = c.loop-run.invariant.from in
-    let here = edge_at c.args.runs.now c.loop-run.run-index c.loop-run.from c.loop-edge.edge c.loop-run-test.true from
-    c.loop-edge.auto.edge c.loop-edge-test.true in
+    let here = edge_at _ c.loop-run.run-index _ c.loop-edge.edge c.loop-run-test.true c.loop-run.invariant.from c.loop-edge.auto.edge c.loop-edge-test.true in
     edge_tied (edges_in c.args.runs.now) c.args.node c.args.labels.now c.args.pairs.now.items
     c.loop-edge.pairs.items c.tie.new.pairs.items c.loop-edge.first.items c.tie.new.first.items c.loop-edge.edge _ _ c.in-Some.end
     c.loop-edge.invariant here (sym c.in-Some.ensures) c.requires.components c.requires.ends c.in_ok-tie.ensures.none c.in_ok-tie.ensures.some _ refl
 
 pub loop-run-preserved : goal.loop-run-preserved
 loop-run-preserved c =
-    let runs = c.args.runs.now in
-    let edges = edges_in runs in
-    let node = c.args.node in
-    let labels = c.args.labels.now in
-    let before = c.args.pairs.now.items in
-    let i = c.loop-run.run-index in
-    let from = c.loop-run.from in
     let new = c.match-other_end in
-    let within = c.loop-run-test.true in
-    let more = past_run runs i from within c.loop-run.invariant.from in
+    let more = past_run c.args.runs.now c.loop-run.run-index c.loop-run.from c.loop-run-test.true c.loop-run.invariant.from in
     elim c.match-other_end.branch [
       | in-Some+else-loop-edge-test w ↦
-          let high = w.loop-edge.auto.edge-end in
-          let past = w.loop-edge-test.false in
-          let end : w.loop-edge.edge ≡ new.from = omega (arith, w.from-is) in
-          record {
-            tying = subst (λ z. IsTyingAt edges node labels before z.items new.first.items new.from) (sym w.pairs-is)
-                (subst (λ z. IsTyingAt edges node labels before w.loop-edge.pairs.items z.items new.from) (sym w.first-is)
-                (subst (IsTyingAt edges node labels before w.loop-edge.pairs.items w.loop-edge.first.items) end w.loop-edge.invariant));
-            from = w.from-is ∙ more;
-          }
+          let end : w.loop-edge.edge ≡ new.from = omega (arith, w.from-is, w.loop-edge.auto.edge-end, w.loop-edge-test.false) in
+          record { tying = rw (w.pairs-is, w.first-is, ← end) w.loop-edge.invariant; from = w.from-is ∙ more }
       | in_default w ↦
           record {
-            tying = subst (λ z. IsTyingAt edges node labels before z.items new.first.items new.from) (sym w.pairs-is)
-                (subst (λ z. IsTyingAt edges node labels before c.loop-run.pairs.items z.items new.from) (sym w.first-is)
-                (subst (IsTyingAt edges node labels before c.loop-run.pairs.items c.loop-run.first.items) (sym w.from-is)
-                (none_tied edges node labels before c.loop-run.pairs.items c.loop-run.first.items from _ _ _ c.loop-run.invariant.tying
-                (λ k low high. edge_at runs i from k within c.loop-run.invariant.from low high) (sym w.in_default.ensures))));
+            tying = rw (w.pairs-is, w.first-is, w.from-is)
+                (none_tied _ _ _ _ _ _ c.loop-run.from _ _ _ c.loop-run.invariant.tying
+                (λ k low high. edge_at _ c.loop-run.run-index _ k c.loop-run-test.true c.loop-run.invariant.from low high) (sym w.in_default.ensures));
             from = w.from-is ∙ more;
           }
     ]
 
 pub returns : goal.returns
 returns c =
-    let runs = c.args.runs.now in
-    let i = c.loop-run.run-index in
-    let all = ap (λ (z : List Run). length (edges_in z)) (take_all i runs c.loop-run-test.false) in
-    all_tied (edges_in runs) c.args.node c.args.labels.now c.args.pairs.now.items _ _ c.loop-run.from c.loop-run.invariant.tying
+    let all = ap (λ (z : List Run). length (edges_in z)) (take_all c.loop-run.run-index c.args.runs.now c.loop-run-test.false) in
+    all_tied (edges_in c.args.runs.now) c.args.node c.args.labels.now c.args.pairs.now.items _ _ c.loop-run.from c.loop-run.invariant.tying
     (omega (arith, all, c.loop-run.invariant.from)) c.requires.components

@@ -1,17 +1,15 @@
-use Rattle.sdd_catalog.proofs.All.{AreMarked, FragmentPart, List, Parts, Text, [], ap, fragment_names, length, length-map, refl, subst, sym, take, take_more, write_rules, ◌++◌, ◌+◌, ◌∙◌, ◌∷◌, ◌≡◌}
+use Rattle.sdd_catalog.proofs.All.{FragmentPart, Parts, ap, fragment_names, length, length-map, refl, sym, take_more, write_rules, ◌∙◌}
 use Rattle.sdd_catalog.proofs.Firsts.{found_here, found_later}
 use Rattle.sdd_catalog.proofs.Marking.{no_marks}
 use Rattle.sdd_catalog.proofs.class_rules.broken_by_writes.Goals as goal
 
 pub loop-index-init : goal.loop-index-init
 loop-index-init c =
-    let fragments = c.args.parts.now.fragments in
     let count = ap length (c.as_slice.ensures ∙ ap (λ (p : Parts). p.fragments) c.parts.ensures)
-    ∙ sym (length-map fragments (λ (f : FragmentPart). f.name)) in
+    ∙ sym (length-map c.args.parts.now.fragments (λ (f : FragmentPart). f.name)) in
     record {
       rest = refl;
-      marks = subst (AreMarked (fragment_names fragments) []) (sym (c.in_ok-marks.ensures.items_if_clones_equal (λ y e. e)))
-          (no_marks (fragment_names fragments) _ count);
+      marks = rw (c.in_ok-marks.ensures.items_if_clones_equal (λ y e. e)) (no_marks (fragment_names c.args.parts.now.fragments) _ count);
     }
 
 pub broken_by_write-requires : goal.broken_by_write-requires
@@ -22,16 +20,11 @@ loop-index-preserved c =
     let writes = c.args.writes.now in
     let i = c.loop-index.index in
     let x = c.index-writes-index.result in
-    let before = take i writes in
-    let within = c.loop-index-test.true in
-    let more : take (i + 1) writes ≡ before ++ x ∷ [] = take_more writes i x within
-    ∙ ap (λ (z : Text). before ++ z ∷ []) (sym c.index-writes-index.is) in
     let marked = c.loop-index.invariant.marks in
-    let names = fragment_names c.args.parts.now.fragments in
-    let fine = sym (c.in_default.ensures.rule before marked) in
+    let fine = sym (c.in_default.ensures.rule _ marked) in
     record {
-      rest = c.loop-index.invariant.rest ∙ found_later (write_rules c.args.parts.now) writes i x c.index-writes-index.is within fine;
-      marks = subst (λ (z : List Text). AreMarked names z c.broken_by_write.new.marks.items) (sym more) (c.in_default.ensures.marks before marked refl);
+      rest = c.loop-index.invariant.rest ∙ found_later (write_rules c.args.parts.now) writes i x c.index-writes-index.is c.loop-index-test.true fine;
+      marks = rw (take_more writes i x c.loop-index-test.true, ← c.index-writes-index.is) (c.in_default.ensures.marks _ marked refl);
     }
 
 pub returns-in-Some : goal.returns-in-Some

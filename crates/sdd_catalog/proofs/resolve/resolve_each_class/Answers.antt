@@ -1,10 +1,9 @@
-use Rattle.sdd_catalog.proofs.All.{All-push, All-same, Class, IsName, arith, common_steps}
+use Rattle.sdd_catalog.proofs.All.{All-push, Class, IsName, arith, common_steps}
 use Rattle.sdd_catalog.proofs.resolve.resolve_each_class.Goals as goal
 
 pub loop-class-preserved : goal.loop-class-preserved
 loop-class-preserved c =
     record {
       value = grind (arith, common_steps);
-      named = All-same (λ (c : Class). IsName c.name) _ _ c.in_ok-push.ensures.items
-          (All-push (λ (c : Class). IsName c.name) _ _ c.loop-class.invariant.named c.in_ok-resolve_class.ensures.named);
+      named = rw c.in_ok-push.ensures.items (All-push (λ (c : Class). IsName c.name) _ _ c.loop-class.invariant.named c.in_ok-resolve_class.ensures.named);
     }

@@ -1,10 +1,10 @@
-use Rattle.sdd_blocks.proofs.All.{arith, subst, sym, ◌+◌}
-use Rattle.sdd_blocks.proofs.Trees.{AreRootsSoFar, one_more_root, all_roots}
+use Rattle.sdd_blocks.proofs.All.{arith}
+use Rattle.sdd_blocks.proofs.Trees.{one_more_root, all_roots}
 use Rattle.sdd_blocks.proofs.forest.Forest.into_labels.Goals as goal
 
 pub loop-node-preserved : goal.loop-node-preserved
 loop-node-preserved c =
-    subst (λ z. AreRootsSoFar c.args.self.parents.items c.root.new.self.parents.items z (c.loop-node.node + 1)) (sym c.in_ok-push.ensures.items)
+    rw c.in_ok-push.ensures.items
     (one_more_root _ _ _ _ c.loop-node.node c.root.result c.loop-node.invariant c.root.ensures.length c.root.ensures.forest c.root.ensures.within c.root.ensures.labels)
 
 pub returns-clause-labels : goal.returns-clause-labels

@@ -1,4 +1,4 @@
-use Rattle.sdd_blocks.proofs.All.{AreRoots, IsForest, List, [], ap, arith, length, range_with_len, subst, sym, ℕ, ◌++◌, ◌∙◌, ◌∷◌, ◌≡◌}
+use Rattle.sdd_blocks.proofs.All.{List, [], ap, arith, range_with_len, sym, ℕ, ◌++◌, ◌∙◌, ◌∷◌, ◌≡◌}
 use Rattle.sdd_blocks.proofs.Trees.{forest-singles, roots-singles, length-singles, singles-push}
 use Rattle.sdd_blocks.proofs.forest.Forest.new.Goals as goal
 
@@ -11,15 +11,12 @@ loop-node-preserved c = c.in_ok-push.ensures.items ∙ ap (λ z. z ++ c.loop-nod
 
 pub returns-clause-length : goal.returns-clause-length
 returns-clause-length c =
-    let e = singles c.loop-node.node c.args.nodes c.loop-node.parents.items (omega arith) c.loop-node.invariant in
-    subst (λ z. length z ≡ c.args.nodes) (sym e) (length-singles c.args.nodes)
+    rw (singles c.loop-node.node c.args.nodes c.loop-node.parents.items (omega arith) c.loop-node.invariant) (length-singles c.args.nodes)
 
 pub returns-clause-forest : goal.returns-clause-forest
 returns-clause-forest c =
-    let e = singles c.loop-node.node c.args.nodes c.loop-node.parents.items (omega arith) c.loop-node.invariant in
-    subst (λ z. IsForest z) (sym e) (forest-singles c.args.nodes)
+    rw (singles c.loop-node.node c.args.nodes c.loop-node.parents.items (omega arith) c.loop-node.invariant) (forest-singles c.args.nodes)
 
 pub returns-clause-roots : goal.returns-clause-roots
 returns-clause-roots c =
-    let e = singles c.loop-node.node c.args.nodes c.loop-node.parents.items (omega arith) c.loop-node.invariant in
-    subst (λ z. AreRoots z (range_with_len 0 c.args.nodes)) (sym e) (roots-singles c.args.nodes)
+    rw (singles c.loop-node.node c.args.nodes c.loop-node.parents.items (omega arith) c.loop-node.invariant) (roots-singles c.args.nodes)
