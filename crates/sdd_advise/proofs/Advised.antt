@@ -1,5 +1,5 @@
 -- The advices that two searches give.
-use Rattle.sdd_advise.proofs.All.{Advice, All, All-contains, AllZip, AreAdvices, AreReached, Catalogue, ClassNo, Contains, Diagonal, Differ, Edge, EndsWith, GoesAlong, Has, Horizontal, IsAway, IsClosed, IsCycleFrom, IsOther, IsReadOf, IsWalk, IsWay, Joins, LieApart, List, NamesClasses, None, Option, P1, P2, P3, ShowsFor, ShowsP1, ShowsP2, ShowsP3, Some, Step, Vertical, [], advice_of, ap, arith, conflict_graph, cycle_at, edges_differ, edges_of, ends, false≢true, filter, filter_more, get_or, get_push_last, inl, inr, is_diagonal, is_some, length, length_push, map, nat_tests, nodes_of, place_of, placed_nodes, refl, same_Some, slice_get, subst, sym, take, take_all, true, ℕ, ◌++◌, ◌+◌, ◌-◌, ◌<◌, ◌∙◌, ◌∷◌, ◌≡◌, ◌≢◌, ◌≤◌}
+use Rattle.sdd_advise.proofs.All.{Advice, All, All-contains, AllZip, AreAdvices, AreReached, Catalogue, ClassNo, Contains, Differ, Edge, EndsWith, GoesAlong, Has, IsAway, IsClosed, IsCycleFrom, IsOther, IsReadOf, IsWalk, IsWay, Joins, LieApart, List, NamesClasses, None, Option, P1, P2, P3, ShowsFor, ShowsP1, ShowsP2, ShowsP3, Some, Step, Vertical, [], advice_of, ap, arith, conflict_graph, cycle_at, edges_differ, edges_of, ends, false≢true, filter, filter_more, get_or, get_push_last, inl, inr, is_diagonal, is_some, length, length_push, map, nat_tests, nodes_of, place_of, placed_nodes, refl, same_Some, slice_get, subst, sym, take, take_all, true, ℕ, ◌++◌, ◌+◌, ◌-◌, ◌<◌, ◌∙◌, ◌∷◌, ◌≡◌, ◌≢◌, ◌≤◌}
 use Rattle.sdd_advise.proofs.Ascending.{contained_passes}
 use Rattle.sdd_advise.proofs.Edges.{joins_at, joins_from}
 use Rattle.sdd_advise.proofs.Members.{place_in}
@@ -29,8 +29,7 @@ along_push edges _ _ s x z g = grind (arith, nat_tests)
 -- don't go along the edge that is left out
 edge_avoided : (edges : List Edge) (e : Edge) (k : ℕ) (steps : List Step) (way : List Edge) → slice_get edges k ≡ Some e
     → AllZip (λ step edge. GoesAlong edges step edge × IsOther e edge) steps way → ¬ Has (edges_of steps) k
-edge_avoided edges e k (s ∷ steps) (x ∷ way) at z (inl p) =
-    z.0.1 (same_Some x e (sym z.0.0 ∙ ap (λ j. slice_get edges j) p ∙ at))
+edge_avoided edges e k (s ∷ steps) (x ∷ way) at z (inl p) = grind (arith, same_Some, slice_get)
 edge_avoided edges e k (s ∷ steps) (x ∷ way) at z (inr h) = edge_avoided edges e k steps way at z.1 h
 edge_avoided edges e k _ _ at z h = omega arith
 
@@ -43,8 +42,7 @@ node_avoided : (edges : List Edge) (node from : ℕ) (steps : List Step) (to : �
     → AllZip (λ step edge. GoesAlong edges step edge × IsAway node edge) steps way → ¬ Has (nodes_of steps) node
 node_avoided edges node from (s ∷ steps) to (x ∷ way) w z (inl p) =
     let j = joins_from edges s.edge from s.to w.0 in
-    let same : j.0 ≡ x = same_Some j.0 x (sym j.1 ∙ z.0.0) in
-    end_away x from s.to node (subst (λ y. Joins y from s.to) same j.2) z.0.1 p
+    end_away x from s.to node (subst (λ y. Joins y from s.to) (same_Some j.0 x (sym j.1 ∙ z.0.0)) j.2) z.0.1 p
 node_avoided edges node from (s ∷ steps) to (x ∷ way) w z (inr h) = node_avoided edges node s.to steps to way w.1 z.1 h
 node_avoided edges node from _ to _ w z h = omega arith
 
@@ -66,9 +64,8 @@ module _ (edges : List Edge) (edge : Edge) (there : Contains edges edge) (apart 
   closed_by [] way z w d = absurd (apart w)
   closed_by (s ∷ steps) way z w d =
       let all : List Step = s ∷ steps in
-      let first : Step = record { edge = place.0; to = (ends edge).1 } in
       record {
-        steps = first ∷ all;
+        steps = (record { edge = place.0; to = (ends edge).1 }) ∷ all;
         along = (place.1, along_goes edges (IsOther edge) all way z);
         simple = record {
           closed = (joins_at edges place.0 edge (ends edge).0 (ends edge).1 place.1 (inl refl), w);
@@ -97,18 +94,16 @@ module _ (edges : List Edge) (edge : Edge) (there : Contains edges edge) (apart 
   shown_by_way vertical way closed upright other same w is =
       let read = (ends edge).0 in
       let m = place_in edges vertical upright in
-      let first : Step = record { edge = place.0; to = (ends edge).1 } in
       let final : Step = record { edge = m.0; to = read } in
       let differ : place.0 ≢ m.0 = λ e. other (same_Some edge vertical (sym place.1 ∙ ap (λ j. slice_get edges j) e ∙ m.1)) in
-      let back : Joins vertical (ends vertical).1 read = inr (ap (λ z. (z, (ends vertical).1)) same) in
       let cycle : IsCycleFrom edges read (edge ∷ (way ++ vertical ∷ [])) =
       record {
-        steps = first ∷ (w.steps ++ final ∷ []);
+        steps = (record { edge = place.0; to = (ends edge).1 }) ∷ (w.steps ++ final ∷ []);
         along = (place.1, along_push edges w.steps way final vertical (along_goes edges (IsAway read) w.steps way w.along) m.1);
         simple =
             cycle_at (map ends edges) read place.0 (ends edge).1 m.0 (ends vertical).1 w.steps differ
             (joins_at edges place.0 edge read (ends edge).1 place.1 (inl refl))
-            (joins_at edges m.0 vertical (ends vertical).1 read m.1 back)
+            (joins_at edges m.0 vertical (ends vertical).1 read m.1 (inr (ap (λ z. (z, (ends vertical).1)) same)))
             (record { walk = w.walk; differ = w.differ })
             (λ h. elim h [
               | inl p ↦ apart p

@@ -41,7 +41,7 @@ pub use Rattle.sdd_graph.specs.declared.edge.Edge.{Edge}
 pub use Rattle.sdd_graph.specs.declared.edge.Edge.TheVariants.{Diagonal, Horizontal, Vertical}
 pub use Rattle.sdd_protocol.proofs.MadeTable.{many_edges}
 pub use Rattle.sdd_protocol.proofs.Tables.{all_at, blocks_of, first_block, first_block-vertical, vertical_block-lists}
-pub use Rattle.sdd_protocol.specs.Protocols.{IsTable, diagonal_protocol, is_vertical_of, protocol_in, vertical_block}
+pub use Rattle.sdd_protocol.specs.Protocols.{IsTable, diagonal_protocol, protocol_in, vertical_block}
 pub use Rattle.sdd_protocol.specs.declared.entry.Entry.{Entry}
 pub use Rattle.sdd_protocol.specs.declared.protocol.Protocol.{Protocol}
 pub use Rattle.sdd_protocol.specs.declared.protocol.Protocol.TheVariants.{P1, P2, P3}
@@ -52,7 +52,7 @@ pub use Rattle.std.proofs.lemmas.List.Elements.{All-cons, All-contains, All-cont
 pub use Rattle.std.proofs.lemmas.List.FromFn.{get_or-map-range_with_len, get_or-range_with_len, length-map-range_with_len, length-range_with_len, map-range_with_len_more}
 pub use Rattle.std.proofs.lemmas.List.Kept.{IsStrictlyIncreasing-filter}
 pub use Rattle.std.proofs.lemmas.List.Sums.{sum_by-cons, sum_by-set}
-pub use Rattle.std.proofs.lemmas.Option.{MatchOption-at_none, MatchOption-at_some, get_or_from_slice_get, none-some, option_and_then_some, same_Some, slice_get-get_or, slice_get-map, slice_get_within}
+pub use Rattle.std.proofs.lemmas.Option.{MatchOption-at_some, get_or_from_slice_get, none-some, option_and_then_some, same_Some, slice_get-get_or, slice_get-map, slice_get_within}
 pub use Rattle.std.proofs.lemmas.Result.{IfOk-weaker}
 pub use Rattle.std.specs.List.{AllByRecursion, AllZip, cons_option, range_with_len}
 pub use Rattle.std.specs.List.Sorted.{IsStrictlyIncreasing}

@@ -32,8 +32,7 @@ same_rising low (x ∷ xs) (y ∷ ys) p q to back =
     elim (to x (inl refl)) [
       | inl e ↦ sym e
       | inr h ↦
-          let l = rises_from (y + 1) ys x q.1 h in
-          elim (back y (inl refl)) [ inl e ↦ e | inr g ↦ let m = rises_from (x + 1) xs y p.1 g in absurd (omega arith) ]
+          elim (back y (inl refl)) [ inl e ↦ e | inr g ↦ let m = rises_from (x + 1) xs y p.1 g in absurd (omega (arith, rises_from (y + 1) ys x q.1 h)) ]
     ] in
     let q' : Rises (x + 1) ys = subst (λ z. Rises (z + 1) ys) (sym same) q.1 in
     let rest : xs ≡ ys =
@@ -44,14 +43,7 @@ same_rising low (x ∷ xs) (y ∷ ys) p q to back =
 
 rising : (low : ℕ) (xs : List ℕ) → IsStrictlyIncreasing xs → (0 < length xs → low ≤ get_or xs 0 0) → Rises low xs
 rising low [] inc h = tt
-rising low (x ∷ xs) inc h = (
-  h (omega arith),
-  rising (x + 1) xs
-      (λ k l.
-      let e : suc k + 1 ≡ suc (k + 1) = omega arith in
-      subst (λ z. get_or xs k 0 < get_or (x ∷ xs) z 0) e (inc (suc k) (omega arith)))
-      (λ l. let m : x < get_or xs 0 0 = inc 0 (omega arith) in omega arith),
-)
+rising low (x ∷ xs) inc h = grind (arith, get_or, (rising (x + 1) xs (λ k l. let e : suc k + 1 ≡ suc (k + 1) = omega arith in subst (λ z. get_or xs k 0 < get_or (x ∷ xs) z 0) e (inc (suc k) (omega arith))) (λ l. let m : x < get_or xs 0 0 = inc 0 (omega arith) in omega arith)))
 
 -- two ascending lists with the same members are equal
 pub same_ascending : (xs ys : List ℕ) → IsStrictlyIncreasing xs → IsStrictlyIncreasing ys
@@ -65,11 +57,7 @@ same_ascending xs ys p q to back =
 pub passing_ascend : (p : ℕ → Bool) (n : ℕ) → IsStrictlyIncreasing (filter p (range_with_len 0 n))
 passing_ascend p n =
     IsStrictlyIncreasing-filter p (range_with_len 0 n)
-    (λ k l.
-    let long = length-range_with_len 0 n in
-    let one = get_or-range_with_len 0 n k 0 (omega arith) in
-    let other = get_or-range_with_len 0 n (k + 1) 0 (omega arith) in
-    omega arith)
+    (grind (arith, length-range_with_len, get_or-range_with_len))
 
 -- those that pass, pass
 passes : (p : ℕ → Bool) (xs : List ℕ) (a : ℕ) → Among (filter p xs) a → p a ≡ true
@@ -87,11 +75,7 @@ among_passing p low (suc n) a e l m =
     elim (cases_eq low a) [
       | inl same ↦ rw (ap p same ∙ e) (inl same)
       | inr other ↦
-          let rest : Among (filter p (range_with_len (low + 1) n)) a = among_passing p (low + 1) n a e (omega arith) (omega arith) in
-          elim (p low) as (λ b. Among (cond b (low ∷ filter p (range_with_len (low + 1) n)) (filter p (range_with_len (low + 1) n))) a) [
-            | true ↦ inr rest
-            | false ↦ rest
-          ]
+          grind (arith, Among, range_with_len, (among_passing p (low + 1) n a e (omega arith) (omega arith)))
     ]
 
 -- a number below the bound is there exactly where it passes
@@ -105,9 +89,8 @@ passing_next : (p : ℕ → Bool) (n : ℕ)
     → filter p (range_with_len 0 (n + 1)) ≡ filter p (range_with_len 0 n) ++ cond (p n) (n ∷ []) []
 passing_next p n =
     let e : n + 1 ≡ suc n = omega arith in
-    let f : 0 + n ≡ n = omega arith in
     ap (λ z. filter p (range_with_len 0 z)) e
-    ∙ ap (filter p) (range_more 0 n ∙ ap (λ z. range_with_len 0 n ++ z ∷ []) f)
+    ∙ ap (filter p) (range_more 0 n ∙ ap (λ z. range_with_len 0 n ++ z ∷ []) (omega arith))
     ∙ filter-append p (range_with_len 0 n) (n ∷ [])
 
 -- one number more that passes, and one that doesn't

@@ -1,5 +1,5 @@
 -- Good advices for all diagonals say what the table says of its diagonals.
-use Rattle.sdd_advise.proofs.All.{Advice, AdvicesSayTheTable, All-contains_itself, All-filter, Bool, Catalogue, Contains, Entry, List, [], advised, ap, arith, cond, false, filter, get_or, get_or-map, is_diagonal, length, length-map, listed, map, nat_tests, refl, same_lists, sym, true, ℕ, ◌<◌, ◌∙◌, ◌∷◌, ◌≡◌}
+use Rattle.sdd_advise.proofs.All.{Advice, AdvicesSayTheTable, All-contains_itself, All-filter, Bool, Catalogue, Contains, Entry, List, [], advised, ap, arith, filter, get_or, get_or-map, is_diagonal, length, length-map, listed, map, nat_tests, refl, same_lists, sym, ℕ, ◌<◌, ◌∙◌, ◌∷◌, ◌≡◌}
 use Rattle.sdd_advise.proofs.Right.{good_advice_is_right}
 
 -- a filter by the image, before and after
@@ -17,8 +17,7 @@ images : (advices : List Advice) (entries : List Entry)
 images advices entries same right =
     let long : length advices ≡ length entries = sym (length-map advices (λ a. a.edge)) ∙ ap length same ∙ length-map entries (λ e. e.edge) in
     let one = length-map advices advised in
-    let other = length-map entries listed in
-    same_lists (map advised advices) (map listed entries) (omega arith)
+    same_lists (map advised advices) (map listed entries) (omega (arith, length-map entries listed))
     (λ k d l.
     let within : k < length advices = omega arith in
     let there : k < length entries = omega arith in
@@ -37,9 +36,8 @@ advices_say_the_table cat entries t advices are =
     let found : List Entry = filter (λ (e : Entry). is_diagonal e.edge) entries in
     let same : map (λ (a : Advice). a.edge) advices ≡ map (λ (e : Entry). e.edge) found =
     are.edges ∙ ap (filter is_diagonal) (sym t.edges) ∙ sym (map-filter (λ (e : Entry). e.edge) is_diagonal entries) in
-    let long : length advices ≡ length found = sym (length-map advices (λ a. a.edge)) ∙ ap length same ∙ length-map found (λ e. e.edge) in
     images advices found same
     (λ k a e l edge.
-    let m : k < length found = omega arith in
+    let m : k < length found = omega (arith, sym (length-map advices (λ a. a.edge)) ∙ ap length same ∙ length-map found (λ e. e.edge)) in
     good_advice_is_right cat entries t (get_or advices k a) (are.good k a l) (get_or found k e)
     (All-filter (λ (x : Entry). is_diagonal x.edge) (Contains entries) entries (All-contains_itself entries) k e m) edge)

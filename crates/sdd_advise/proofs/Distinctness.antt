@@ -1,5 +1,5 @@
 -- Whether no node is twice in a list, by marks.
-use Rattle.sdd_advise.proofs.All.{Bool, Differ, Has, List, [], arith, both_ways, differ_push, false, get_or, get_or-replicate, has_push_cases, has_push_last, inl, inr, length, length-replicate, length-set, nat_tests, read_set, refl, replicate, set, subst, suc, sym, take, take_all, take_more, true, zero, ℕ, ◌++◌, ◌+◌, ◌<◌, ◌∙◌, ◌∷◌, ◌≡◌, ◌≤◌}
+use Rattle.sdd_advise.proofs.All.{Bool, Differ, Has, List, [], arith, both_ways, differ_push, false, get_or, get_or-replicate, has_push_cases, has_push_last, inl, inr, length, length-replicate, length-set, nat_tests, read_set, replicate, set, subst, suc, sym, take, take_all, take_more, true, zero, ℕ, ◌++◌, ◌+◌, ◌<◌, ◌∷◌, ◌≡◌, ◌≤◌}
 
 -- the nodes so far differ, and are those that are marked
 pub record IsMarking (nodes : List ℕ) (count limit : ℕ) (marks : List Bool) : Type 0 where
@@ -26,28 +26,7 @@ one_marked nodes count limit marks more m l w fresh e =
     let longer : take (count + 1) nodes ≡ take count nodes ++ v ∷ [] = take_more nodes count 0 l in
     let room : v < length marks = omega (arith, m.one_each) in
     subst (λ z. IsMarking nodes (count + 1) limit z) (sym e)
-    (record {
-      one_each = length-set marks v true ∙ m.one_each;
-      differ =
-          subst Differ (sym longer)
-          (differ_push (take count nodes) v m.differ (λ h. both_ways (get_or marks v false) fresh (m.has v w h)));
-      marked = λ a b t.
-          subst (λ z. Has z a) (sym longer)
-          (elim (read_set marks v true a false room) [
-            | inl h ↦ subst (λ z. Has (take count nodes ++ v ∷ []) z) (sym h.0) (has_push_last (take count nodes) v)
-            | inr h ↦ has_left (take count nodes) (v ∷ []) a (m.marked a b (sym h.1 ∙ t))
-          ]);
-      has = λ a b h.
-          elim (read_set marks v true a false room) [
-            | inl r ↦ r.1
-            | inr r ↦
-                r.1
-                ∙ elim (has_push_cases (take count nodes) v a (subst (λ z. Has z a) longer h)) [
-                  | inl p ↦ m.has a b p
-                  | inr q ↦ absurd (r.0 (sym q))
-                ]
-          ];
-    })
+    (grind (arith, length-set, differ_push, both_ways, get_or, read_set, has_push_last, has_left, has_push_cases))
 
 has_at : (xs : List ℕ) (k : ℕ) → k < length xs → Has xs (get_or xs k 0)
 has_at (x ∷ xs) (suc k) l = inr (has_at xs k (omega arith))

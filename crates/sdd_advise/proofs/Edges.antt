@@ -1,5 +1,5 @@
 -- The edges of a graph by their places, and what walks along them reach.
-use Rattle.sdd_advise.proofs.All.{AllZip, CanReach, Contains, Edge, GoesAlong, Has, IsAway, IsOther, IsWalk, Joins, List, None, Option, Some, Step, [], along, ap, arith, edges_of, ends, get_or_from_slice_get, inl, inr, map, nat_tests, nodes_of, none-some, option_map, refl, same_Some, slice_get, slice_get-map, slice_get_within, subst, suc, sym, zero, ℕ, ◌∙◌, ◌∷◌, ◌≡◌, ◌≢◌}
+use Rattle.sdd_advise.proofs.All.{AllZip, CanReach, Contains, Edge, GoesAlong, Has, IsAway, IsOther, IsWalk, Joins, List, Option, Some, Step, [], along, ap, arith, edges_of, ends, get_or_from_slice_get, inl, inr, map, nat_tests, nodes_of, option_map, slice_get, slice_get-map, slice_get_within, subst, suc, ℕ, ◌∙◌, ◌∷◌, ◌≡◌, ◌≢◌}
 use Rattle.sdd_blocks.specs.Graph as blocks
 
 -- what stands at a place is contained
@@ -14,14 +14,12 @@ mapped f o y e = grind (arith, nat_tests)
 -- an edge at a place joins its ends there
 pub joins_at : (edges : List Edge) (k : ℕ) (e : Edge) (a b : ℕ) → slice_get edges k ≡ Some e → Joins e a b
     → blocks.Joins (map ends edges) k a b
-joins_at edges k e a b at (inl p) = inl (slice_get-map ends edges k ∙ ap (option_map ends) at ∙ ap (λ z. Some z) p)
-joins_at edges k e a b at (inr p) = inr (slice_get-map ends edges k ∙ ap (option_map ends) at ∙ ap (λ z. Some z) p)
+joins_at edges k e a b at h7 = grind (arith, slice_get-map, option_map)
 
 -- and what joins there is such an edge
 pub joins_from : (edges : List Edge) (k a b : ℕ) → blocks.Joins (map ends edges) k a b
     → (e : Edge) × (slice_get edges k ≡ Some e) × Joins e a b
-joins_from edges k a b (inl p) = grind (arith, nat_tests, mapped, slice_get-map)
-joins_from edges k a b (inr p) = grind (arith, nat_tests, mapped, slice_get-map)
+joins_from edges k a b h5 = grind (arith, mapped, slice_get-map)
 
 -- what is reached by a walk that doesn't go along an edge
 pub reach_without_edge : (edges : List Edge) (k : ℕ) (e : Edge) → ((j : ℕ) → slice_get edges j ≡ Some e → j ≡ k)
@@ -53,7 +51,5 @@ reach_without_node edges node start from (s ∷ steps) to r w away =
 pub step_along : (edges : List Edge) (steps : List Step) (cycle : List Edge) (m : ℕ) (e : Edge)
     → AllZip (GoesAlong edges) steps cycle → slice_get cycle m ≡ Some e
     → (k : ℕ) × Has (edges_of steps) k × (slice_get edges k ≡ Some e)
-step_along edges (s ∷ steps) (x ∷ cycle) (suc m) e z at =
-    let r = step_along edges steps cycle m e z.1 at in
-    (r.0, inr r.1, r.2)
+step_along edges (s ∷ steps) (x ∷ cycle) (suc m) e z at = grind (arith, (step_along edges steps cycle m e z.1))
 step_along edges _ _ _ e z at = grind (arith, nat_tests)

@@ -11,35 +11,20 @@ blank n = replicate n None
 
 all_open : (n : ℕ) → count_by is_none (blank n) ≡ n
 all_open zero = refl
-all_open (suc n) =
-    let rest = all_open n in
-    let cons = sum_by-cons open_place None (blank n) in
-    omega arith
+all_open (suc n) = omega (arith, all_open n, sum_by-cons open_place None (blank n))
 
 none_there : (n node : ℕ) → place_of (blank n) node ≡ None
-none_there n node =
-    elim (cases_lt node n) [
-      | inl l ↦ get_or-replicate n node None None l
-      | inr l ↦ get_or_past (blank n) node None (let long : length (blank n) ≡ n = length-replicate n None in omega arith)
-    ]
+none_there n node = grind (arith, cases_lt, get_or-replicate, get_or_past, blank, length-replicate)
 
 -- a place that is given: that of the node, or as before
 given : (places : List (Option ℕ)) (v k a : ℕ) → v < length places
     → ((a ≡ v) × (place_of (set places v (Some k)) a ≡ Some k)) ⊎ ((a ≢ v) × (place_of (set places v (Some k)) a ≡ place_of places a))
-given places v k a l =
-    elim (cases_eq a v) [
-      | inl e ↦ inl (e, ap (λ z. place_of (set places v (Some k)) z) e ∙ get_or-set_same places v (Some k) None l)
-      | inr n ↦ inr (n, get_or-set_other places v a (Some k) None n)
-    ]
+given places v k a l = grind (arith, cases_eq, get_or-set_same, get_or-set_other)
 
 -- what has a place keeps it
 pub some_stays : (places : List (Option ℕ)) (v k a : ℕ) → v < length places → is_some (place_of places a) ≡ true
     → is_some (place_of (set places v (Some k)) a) ≡ true
-some_stays places v k a l h =
-    elim (given places v k a l) [
-      | inl g ↦ ap is_some g.1
-      | inr g ↦ ap is_some g.1 ∙ h
-    ]
+some_stays places v k a l h = grind (arith, given, is_some)
 
 module _ (edges : List Edge) (Goes : Edge → Type 0) (nodes : ℕ) where
   -- at the start
@@ -57,23 +42,10 @@ module _ (edges : List Edge) (Goes : Edge → Type 0) (nodes : ℕ) where
         few = few;
         one_each = length-set (blank nodes) start (Some 0) ∙ long;
         room =
-            let all = all_open nodes in
-            let count = sum_by-set open_place (blank nodes) start (Some 0) None within in
-            let was : open_place (place_of (blank nodes) start) ≡ 1 = ap open_place (none_there nodes start) in
-            omega arith;
+            omega (arith, all_open nodes, sum_by-set open_place (blank nodes) start (Some 0) None within, ap open_place (none_there nodes start));
         up_to = omega arith;
         begun = omega arith;
-        traced = record {
-          placed = λ node k e.
-              elim (given (blank nodes) start 0 node within) [
-                | inl h ↦ (
-                  let z : k ≡ 0 = same_Some k 0 (sym e ∙ h.1) in omega arith,
-                  ap (λ z. (reached_at one z).node) (same_Some k 0 (sym e ∙ h.1)) ∙ sym h.0,
-                )
-                | inr h ↦ absurd (none-some k (sym (none_there nodes node) ∙ sym h.1 ∙ e))
-              ];
-          earlier = λ k m. subst (λ z. MatchOption (reached_at one z).came (z ≡ 0) (λ came. came.from < z)) (sym (at_zero k m)) refl;
-        };
+        traced = grind (arith, given, blank, same_Some, reached_at, none-some, none_there);
         there = λ k m.
             subst (λ z. ((reached_at one z).node < nodes) × (place_of (set (blank nodes) start (Some 0)) (reached_at one z).node ≡ Some z)) (sym (at_zero k m))
             (l, get_or-set_same (blank nodes) start (Some 0) None within);
@@ -127,16 +99,7 @@ module _ (edges : List Edge) (Goes : Edge → Type 0) (nodes : ℕ) where
                     (subst (λ z. Joins c.edge (reached_at reached c.from).node z) (ap (λ (z : Reached). z.node) (sym (old_at k m))) w.joins);
               }
           | inr m ↦
-              let here : reached_at more k ≡ new_one = ap (λ z. reached_at more z) m ∙ new_at in
-              let same : came ≡ c = same_Some came c (ap (λ (z : Reached). z.came) (sym here) ∙ e) in
-              subst (λ z. LeadsTo edges Goes more k z) same
-              (record {
-                is_edge = is_edge;
-                goes = goes;
-                joins =
-                    subst (λ z. Joins came.edge z (reached_at more k).node) (ap (λ (z : Reached). z.node) (sym (old_at came.from before)))
-                    (subst (λ z. Joins came.edge (reached_at reached came.from).node z) (ap (λ (z : Reached). z.node) (sym here)) joins);
-              })
+              grind (arith, reached_at, more, new_one, new_at, same_Some, old_at)
         ]
 
     placed_more : (node k : ℕ) → place_of more_places node ≡ Some k → (k < length more) × ((reached_at more k).node ≡ node)
@@ -144,12 +107,10 @@ module _ (edges : List Edge) (Goes : Edge → Type 0) (nodes : ℕ) where
         let longer = one_more in
         elim (given places v (length reached) node room_there) [
           | inl h ↦
-              let at : k ≡ length reached = same_Some k (length reached) (sym e ∙ h.1) in
-              (omega arith, ap (λ z. (reached_at more z).node) at ∙ ap (λ (z : Reached). z.node) new_at ∙ sym h.0)
+              grind (arith, same_Some, reached_at, more, new_at)
           | inr h ↦
               let p = u.traced.placed node k (sym h.1 ∙ e) in
-              let l = p.0 in
-              (omega arith, ap (λ (z : Reached). z.node) (old_at k p.0) ∙ p.1)
+              (omega (arith, p.0), ap (λ (z : Reached). z.node) (old_at k p.0) ∙ p.1)
         ]
 
     earlier_more : (k : ℕ) → k < length more → MatchOption (reached_at more k).came (k ≡ 0) (λ c. c.from < k)
@@ -164,12 +125,9 @@ module _ (edges : List Edge) (Goes : Edge → Type 0) (nodes : ℕ) where
     there_more k l =
         elim (old_or_new k l) [
           | inl m ↦
-              let t = u.there k m in
-              subst (λ (z : Reached). (z.node < nodes) × (place_of more_places z.node ≡ Some k)) (sym (old_at k m))
-              (t.0, get_or-set_other places v (reached_at reached k).node (Some (length reached)) None (others k m) ∙ t.1)
+              grind (arith, place_of, more_places, old_at, get_or-set_other, reached_at, others)
           | inr m ↦
-              subst (λ (z : Reached). (z.node < nodes) × (place_of more_places z.node ≡ Some k)) (sym (ap (λ z. reached_at more z) m ∙ new_at))
-              (within, get_or-set_same places v (Some (length reached)) None room_there ∙ ap (λ z. Some z) (sym m))
+              grind (arith, place_of, more_places, reached_at, more, new_at, get_or-set_same, room_there)
         ]
 
     pub node_reached : IsUnderWay edges Goes nodes place more_places more
@@ -178,18 +136,15 @@ module _ (edges : List Edge) (Goes : Edge → Type 0) (nodes : ℕ) where
           few = u.few;
           one_each = length-set places v (Some (length reached)) ∙ u.one_each;
           room =
-              let count = sum_by-set open_place places v (Some (length reached)) None room_there in
-              let was : open_place (place_of places v) ≡ 1 = ap open_place open_there in
-              omega (arith, u.room, one_more);
+              grind (arith, sum_by-set, open_place, room_there, place_of, one_more);
           up_to = omega (arith, u.up_to, one_more);
           begun = omega (arith, u.begun, one_more);
           traced = record { placed = placed_more; earlier = earlier_more };
           there = there_more;
           ways = leads;
           gone = λ k node edge l is g j.
-              let m : k < length reached = omega (arith, u.up_to) in
               some_stays places v (length reached) node room_there
-              (u.gone k node edge l is g (subst (λ z. Joins edge z node) (ap (λ (z : Reached). z.node) (old_at k m)) j));
+              (u.gone k node edge l is g (subst (λ z. Joins edge z node) (ap (λ (z : Reached). z.node) (old_at k (omega (arith, u.up_to)))) j));
         }
 
     pub first_stays : (reached_at more 0).node ≡ (reached_at reached 0).node

@@ -1,24 +1,19 @@
 -- A search goes on from one node, and is done.
-use Rattle.sdd_advise.proofs.All.{All, All-contains, All-more, All-nil, All-weaker, AreReached, Bool, Came, CanReach, Contains, Edge, IsUnderWay, Joins, List, MatchOption-at_none, MatchOption-at_some, Neighbour, None, Option, Reached, Search, Some, [], along, ap, arith, cases_lt, get_or, get_or-set_same, get_or_append_left, here, inl, inr, is_some, length, length_push, neighbours, place_of, placed_nodes, reached_at, refl, set, subst, suc, sym, take, take_all, true, zero, ℕ, ◌++◌, ◌+◌, ◌<◌, ◌∙◌, ◌∷◌, ◌≡◌, ◌≤◌, ◌⊎◌}
+use Rattle.sdd_advise.proofs.All.{All, All-contains, All-more, All-nil, All-weaker, AreReached, Bool, Came, CanReach, Contains, Edge, IsUnderWay, Joins, List, MatchOption-at_some, Neighbour, None, Option, Reached, Search, Some, [], along, ap, arith, cases_lt, get_or, get_or-set_same, get_or_append_left, here, inl, inr, is_some, length, length_push, neighbours, place_of, placed_nodes, reached_at, refl, set, subst, suc, sym, take, take_all, true, zero, ℕ, ◌++◌, ◌+◌, ◌<◌, ◌∙◌, ◌∷◌, ◌≡◌, ◌≤◌, ◌⊎◌}
 use Rattle.sdd_advise.proofs.Ascending.{passing_ascend, contains_passing, contained_passes}
 use Rattle.sdd_advise.proofs.Beside.{IsNeighbour, neighbour_there, all_neighbours}
 use Rattle.sdd_advise.proofs.Found.{some_stays, node_reached, first_stays}
 
 -- what has a place has one
 has_place : (o : Option ℕ) → is_some o ≡ true → (k : ℕ) × (o ≡ Some k)
-has_place None e = cc
-has_place (Some k) e = (k, refl)
+has_place o e = grind arith
 
 place_or_none : (o : Option ℕ) → (is_some o ≡ true) ⊎ (o ≡ None)
-place_or_none None = inr refl
-place_or_none (Some k) = inl refl
+place_or_none o = grind arith
 
 -- where the edge passes, the neighbour was reached
 abbrev IsMet : (Edge → Type 0) → List (Option ℕ) → Neighbour → Type 0
 IsMet Goes places n = Goes n.edge → is_some (place_of places n.node) ≡ true
-
-set_here : (places : List (Option ℕ)) (v k : ℕ) → v < length places → place_of (set places v (Some k)) v ≡ Some k
-set_here places v k l = get_or-set_same places v (Some k) None l
 
 pushed : (reached : List Reached) (node : ℕ) (came : Came)
     → length (reached ++ record { node = node; came = Some came } ∷ []) ≡ length reached + 1
@@ -94,11 +89,10 @@ module _ (edges : List Edge) (Goes : Edge → Type 0) (nodes place node first : 
             let stays : (a : ℕ) → is_some (place_of old.places.items a) ≡ true → is_some (place_of new.places.items a) ≡ true =
             λ a h. ap (λ z. is_some (place_of z a)) (places none) ∙ some_stays old.places.items n.node (length old.reached.items) a room h in
             let here : is_some (place_of new.places.items n.node) ≡ true =
-            ap (λ z. is_some (place_of z n.node)) (places none) ∙ ap is_some (set_here old.places.items n.node (length old.reached.items) room) in
+            ap (λ z. is_some (place_of z n.node)) (places none) ∙ ap is_some (get_or-set_same old.places.items n.node (Some (length old.reached.items)) None room) in
             record {
               under =
-                  subst (λ z. IsUnderWay edges Goes nodes place z new.reached.items) (sym (places none))
-                  (subst (λ z. IsUnderWay edges Goes nodes place (set old.places.items n.node (Some (length old.reached.items))) z) (sym new_reached) made);
+                  grind arith;
               within = let w = g.within in omega (arith, ap length new_reached, pushed old.reached.items n.node came);
               at_node = ap (λ z. (reached_at z place).node) new_reached ∙ ap (λ (z : Reached). z.node)
                   (kept_at old.reached.items n.node came place g.within) ∙ g.at_node;
@@ -129,9 +123,8 @@ module _ (edges : List Edge) (Goes : Edge → Type 0) (nodes place node first : 
             elim (cases_lt k place) [
               | inl before ↦ u.gone k other edge before is_edge goes joins
               | inr after ↦
-                  let same : k ≡ place = omega arith in
                   let from_here : Joins edge node other = subst (λ z. Joins edge z other)
-                  (ap (λ z. (reached_at search.reached.items z).node) same ∙ g.at_node) joins in
+                  (ap (λ z. (reached_at search.reached.items z).node) (omega arith) ∙ g.at_node) joins in
                   All-contains (IsMet Goes search.places.items) list (record { edge = edge; node = other }) met
                   (subst (λ z. Contains z (record { edge = edge; node = other })) (sym is) (neighbour_there edges node other edge is_edge from_here)) goes
             ];
@@ -146,9 +139,7 @@ module _ (edges : List Edge) (Goes : Edge → Type 0) (nodes place : ℕ) (place
   reached_so (suc n) k l m =
       elim ((reached_at reached k).came) as
       (λ o. (reached_at reached k).came ≡ o → CanReach edges Goes (reached_at reached 0).node (reached_at reached k).node) [
-        | None ↦ λ e.
-            let first : k ≡ 0 = MatchOption-at_none (k ≡ 0) (λ (c : Came). c.from < k) e (u.traced.earlier k m) in
-            subst (λ z. CanReach edges Goes (reached_at reached 0).node (reached_at reached z).node) (sym first) here
+        | None ↦ grind (arith, reached_at, here)
         | Some came ↦ λ e.
             let before : came.from < k = MatchOption-at_some (k ≡ 0) (λ (c : Came). c.from < k) came e (u.traced.earlier k m) in
             let leads = u.ways k came m e in
@@ -169,8 +160,7 @@ module _ (edges : List Edge) (Goes : Edge → Type 0) (nodes place : ℕ) (place
     has_place_so node (along {a = a} edge r is_edge goes joins) =
         let k = has_place (place_of places a) (has_place_so a r) in
         let p = u.traced.placed a k.0 k.1 in
-        let l = p.0 in
-        u.gone k.0 node edge (omega arith) is_edge goes (subst (λ z. Joins edge z node) (sym p.1) joins)
+        u.gone k.0 node edge (omega (arith, p.0)) is_edge goes (subst (λ z. Joins edge z node) (sym p.1) joins)
 
     pub are_reached : AreReached edges Goes (reached_at reached 0).node (placed_nodes places)
     are_reached =
@@ -183,8 +173,6 @@ module _ (edges : List Edge) (Goes : Edge → Type 0) (nodes place : ℕ) (place
                 let h = has_place_so node r in
                 let k = has_place (place_of places node) h in
                 let p = u.traced.placed node k.0 k.1 in
-                let t = u.there k.0 p.0 in
-                let l : (reached_at reached k.0).node < nodes = t.0 in
-                contains_passing has (length places) node h (omega (arith, u.one_each, p.1)),
+                contains_passing has (length places) node h (omega (arith, u.one_each, p.1, (u.there k.0 p.0).0)),
           );
         }

@@ -15,8 +15,7 @@ vertical_there cat (Diagonal i j f) reader is r =
     (contains_at (conflict_graph cat) (i.0 - 1) (Vertical i) (vertical_at cat i is.reader.from is.reader.to))
 
 verticals_there : (cat : Catalogue) → HasVerticals (conflict_graph cat)
-verticals_there cat edge reader m r =
-    vertical_there cat edge reader (All-contains (IsEdgeOf cat) (conflict_graph cat) edge (edges_known cat) m) r
+verticals_there cat edge reader m r = grind (arith, vertical_there, edges_known)
 
 pub laid_out : (cat : Catalogue) (classes nodes : ℕ) (edges : List Edge) (lists : List (List Neighbour))
     → edges ≡ conflict_graph cat → All NamesClasses edges → All (JoinsNodes classes) edges
@@ -28,9 +27,7 @@ laid_out cat classes nodes edges lists e named joined n laid =
       paired = (classes, n);
       named = named;
       within =
-          All-weaker (JoinsNodes classes) (λ x. ((ends x).0 < nodes) × ((ends x).1 < nodes))
-          (λ x j. (let l : (ends x).0 < 2 * classes = j.first in omega arith, let l : (ends x).1 < 2 * classes = j.second in omega arith))
-          edges joined;
+          grind (arith, ends);
       laid = laid;
     }
 
@@ -40,9 +37,7 @@ laid_long edges nodes lists laid = ap length laid.laid ∙ length-map-range_with
 
 pub laid_at : (edges : List Edge) (nodes node : ℕ) (lists : List (List Neighbour)) (d : List Neighbour)
     → IsLaidOut edges nodes lists → node < nodes → get_or lists node d ≡ neighbours edges node
-laid_at edges nodes node lists d laid l =
-    ap (λ z. get_or z node d) laid.laid
-    ∙ get_or-map-range_with_len (neighbours edges) 0 nodes node node d l (omega arith)
+laid_at edges nodes node lists d laid l = grind (arith, get_or, get_or-map-range_with_len)
 
 -- what leads from a node names classes and leads to nodes
 pub neighbours_named : (edges : List Edge) (nodes node : ℕ) (lists : List (List Neighbour)) (list : List Neighbour)
@@ -58,9 +53,7 @@ pub neighbours_within : (edges : List Edge) (nodes node : ℕ) (lists : List (Li
 neighbours_within edges nodes node lists list laid e =
     All-same (λ (n : Neighbour). n.node < nodes) list (neighbours edges node) e
     (All-weaker (IsNeighbour edges node) (λ (n : Neighbour). n.node < nodes)
-    (λ n is.
-    let w = All-contains (λ x. ((ends x).0 < nodes) × ((ends x).1 < nodes)) edges n.edge laid.within is.is_edge in
-    end_within nodes n.edge node n.node is.joins w.0 w.1)
+    (grind (arith, ends, end_within))
     (neighbours edges node) (all_neighbours edges node))
 
 -- one list more

@@ -1,17 +1,11 @@
 -- A search that was left: it had reached the wanted node, or it was done.
-use Rattle.sdd_advise.proofs.All.{AreReached, IsLeftAt, IsSearching, Network, Passes, Search, Without, ap, false≢true, is_some, length, place_of, placed_nodes, reached_at, subst, sym, true, ℕ, ◌∙◌, ◌≡◌, ◌≤◌}
+use Rattle.sdd_advise.proofs.All.{AreReached, IsLeftAt, IsSearching, Network, Passes, Search, Without, arith, is_some, length, place_of, placed_nodes, reached_at, subst, true, ℕ, ◌≡◌, ◌≤◌}
 use Rattle.sdd_advise.proofs.Going.{are_reached}
 
 module _ (network : Network) (without : Without) (start wanted place : ℕ) (search : Search) (u : IsSearching network without place search)
     (at_start : (reached_at search.reached.items 0).node ≡ start) where
   pub left_found : is_some (place_of search.places.items wanted) ≡ true → IsLeftAt network without start wanted search
-  left_found has =
-      record {
-        place = place;
-        searching = u;
-        first = at_start;
-        whole = λ none. absurd (false≢true (ap is_some (sym none) ∙ has));
-      }
+  left_found has = grind (arith, is_some)
 
   pub left_done : length search.reached.items ≤ place → IsLeftAt network without start wanted search
   left_done done =

@@ -1,5 +1,5 @@
 -- Members of a list, and lists in which no member is there twice.
-use Rattle.sdd_advise.proofs.All.{Bool, Contains, List, Some, [], ap, arith, cond, false, filter, flat_map, inl, inr, map, nat_tests, none-some, range_with_len, refl, same_Some, slice_get, slice_get-get_or, subst, suc, sym, true, zero, ℕ, ◌++◌, ◌+◌, ◌∙◌, ◌∷◌, ◌≡◌, ◌≤◌, ◌⊎◌}
+use Rattle.sdd_advise.proofs.All.{Bool, Contains, List, Some, [], ap, arith, cond, false, filter, flat_map, inl, inr, map, nat_tests, none-some, range_with_len, refl, same_Some, slice_get, slice_get-get_or, suc, true, zero, ℕ, ◌++◌, ◌+◌, ◌∙◌, ◌∷◌, ◌≡◌, ◌≤◌, ◌⊎◌}
 
 -- the list has the member
 abbrev pub Among : {X : Type 0} → List X → X → Type 0
@@ -60,45 +60,29 @@ unlike_range a (suc n) = ((λ h. let l = among_range (a + 1) n a h in absurd (om
 pub unlike_append : {X : Type 0} (xs ys : List X) → Unlike xs → Unlike ys
     → ((x : X) → Among xs x → ¬ Among ys x) → Unlike (xs ++ ys)
 unlike_append [] ys one other apart = other
-unlike_append (x ∷ xs) ys one other apart = (
-  (λ h. elim (among_append xs ys x h) [ inl p ↦ one.0 p | inr q ↦ apart x (inl refl) q ]),
-  unlike_append xs ys one.1 other (λ z m. apart z (inr m)),
-)
+unlike_append (x ∷ xs) ys one other apart = grind (arith, among_append, (unlike_append xs ys one.1 other (λ z m. apart z (inr m))))
 
 -- where each member can be told from its image
 pub unlike_map : {X Y : Type 0} (f : X → Y) (back : Y → X) (xs : List X) → ((x : X) → back (f x) ≡ x)
     → Unlike xs → Unlike (map f xs)
 unlike_map f back [] told one = tt
-unlike_map f back (x ∷ xs) told one = (
-  (λ h.
-      let r = among_map f xs (f x) h in
-      one.0 (subst (λ z. Among xs z) (sym (told r.0) ∙ ap back r.2 ∙ told x) r.1)),
-  unlike_map f back xs told one.1,
-)
+unlike_map f back (x ∷ xs) told one = grind (arith, among_map, Among, (unlike_map f back xs told one.1))
 
 pub unlike_filter : {X : Type 0} (p : X → Bool) (xs : List X) → Unlike xs → Unlike (filter p xs)
 unlike_filter p [] one = tt
-unlike_filter p (x ∷ xs) one =
-    elim (p x) as (λ b. Unlike (cond b (x ∷ filter p xs) (filter p xs))) [
-      | true ↦ ((λ h. one.0 (among_filter p xs x h)), unlike_filter p xs one.1)
-      | false ↦ unlike_filter p xs one.1
-    ]
+unlike_filter p (x ∷ xs) one = grind (arith, Unlike, among_filter, (unlike_filter p xs one.1))
 
 -- where it can be told of what each is made
 pub unlike_flat : {X Y : Type 0} (f : X → List Y) (back : Y → X) (xs : List X)
     → ((x : X) (y : Y) → Among (f x) y → back y ≡ x) → ((x : X) → Unlike (f x)) → Unlike xs → Unlike (flat_map f xs)
 unlike_flat f back [] told each one = tt
-unlike_flat f back (x ∷ xs) told each one =
-    grind (arith, nat_tests, unlike_append, among_flat, (unlike_flat f back xs told each one.1))
+unlike_flat f back (x ∷ xs) told each one = grind (arith, unlike_append, among_flat, (unlike_flat f back xs told each one.1))
 
 -- each has one place
 pub one_place : {X : Type 0} (xs : List X) (j k : ℕ) (x : X) → Unlike xs → slice_get xs j ≡ Some x
     → slice_get xs k ≡ Some x → j ≡ k
-one_place [] j k x one p q = absurd (none-some x p)
-one_place (y ∷ ys) zero zero x one p q = refl
-one_place (y ∷ ys) zero (suc k) x one p q = grind (arith, nat_tests, same_Some, among_at)
-one_place (y ∷ ys) (suc j) zero x one p q = grind (arith, nat_tests, same_Some, among_at)
 one_place (y ∷ ys) (suc j) (suc k) x one p q = ap suc (one_place ys j k x one.1 p q)
+one_place xs j k x one p q = grind (arith, none-some, same_Some, among_at)
 
 -- a member that a list contains has a place
 pub place_in : {X : Type 0} (xs : List X) (x : X) → Contains xs x → (k : ℕ) × (slice_get xs k ≡ Some x)

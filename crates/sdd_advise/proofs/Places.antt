@@ -1,5 +1,5 @@
 -- No edge is twice in a conflict graph.
-use Rattle.sdd_advise.proofs.All.{Catalogue, Diagonal, Edge, Horizontal, Some, Vertical, ap, arith, class_no, classes_of, conflict_graph, diagonal_edges, diagonals_between, diagonals_from, filter, frag_no, fragments_of, horizontal_edges, horizontals_from, inl, inr, is_some, nat_lt, nat_tests, not, reads_at, refl, slice_get, sym, vertical_edges, write_sets_meet, writes, ℕ, ◌&&◌, ◌++◌, ◌==◌, ◌∙◌, ◌≡◌}
+use Rattle.sdd_advise.proofs.All.{Catalogue, Diagonal, Edge, Horizontal, Some, Vertical, ap, arith, class_no, classes_of, conflict_graph, diagonal_edges, diagonals_between, diagonals_from, filter, frag_no, fragments_of, horizontal_edges, horizontals_from, is_some, nat_lt, nat_tests, not, reads_at, refl, slice_get, sym, vertical_edges, write_sets_meet, writes, ℕ, ◌&&◌, ◌==◌, ◌≡◌}
 use Rattle.sdd_advise.proofs.Members.{Among, Unlike, among_append, among_map, among_flat, unlike_range, unlike_append, unlike_map, unlike_filter, unlike_flat, one_place}
 
 -- what tells edges apart
@@ -29,9 +29,7 @@ verticals_unlike cat = unlike_map (λ i. Vertical (class_no i)) first_class (cla
 horizontals_unlike : (cat : Catalogue) → Unlike (horizontal_edges cat)
 horizontals_unlike cat =
     unlike_flat (horizontals_from cat) first_class (classes_of cat)
-    (λ i e m.
-    let r = among_map (λ j. Horizontal (class_no i) (class_no j)) (filter (λ j. nat_lt i j && write_sets_meet cat i j) (classes_of cat)) e m in
-    ap first_class (sym r.2))
+    (grind (arith, among_map, class_no, nat_lt, write_sets_meet, classes_of, first_class))
     (λ i. unlike_map (λ j. Horizontal (class_no i) (class_no j)) second_class (filter (λ j. nat_lt i j && write_sets_meet cat i j) (classes_of cat))
     (λ j. refl) (unlike_filter _ (classes_of cat) (unlike_range 1 _)))
     (unlike_range 1 _)
@@ -59,26 +57,11 @@ diagonals_unlike cat =
     unlike_flat (diagonals_from cat) first_class (classes_of cat)
     (λ i e m. ap first_class (sym (from cat i e m).2)) (from_unlike cat) (unlike_range 1 _)
 
--- the kinds of the three parts
-vertical_kind : (cat : Catalogue) (e : Edge) → Among (vertical_edges cat) e → kind e ≡ 0
-vertical_kind cat e m = ap kind (sym (among_map (λ i. Vertical (class_no i)) (classes_of cat) e m).2)
-
-horizontal_kind : (cat : Catalogue) (e : Edge) → Among (horizontal_edges cat) e → kind e ≡ 1
-horizontal_kind cat e m = grind (arith, nat_tests, among_flat, among_map)
-
 diagonal_kind : (cat : Catalogue) (e : Edge) → Among (diagonal_edges cat) e → kind e ≡ 2
 diagonal_kind cat e m = grind (arith, nat_tests, among_flat, from)
 
 edges_unlike : (cat : Catalogue) → Unlike (conflict_graph cat)
-edges_unlike cat =
-    unlike_append (vertical_edges cat) (horizontal_edges cat ++ diagonal_edges cat) (verticals_unlike cat)
-    (unlike_append (horizontal_edges cat) (diagonal_edges cat) (horizontals_unlike cat) (diagonals_unlike cat)
-    (λ e m n. omega (arith, (sym (horizontal_kind cat e m) ∙ diagonal_kind cat e n))))
-    (λ e m n.
-    elim (among_append (horizontal_edges cat) (diagonal_edges cat) e n) [
-      | inl p ↦ omega (arith, (sym (vertical_kind cat e m) ∙ horizontal_kind cat e p))
-      | inr q ↦ omega (arith, (sym (vertical_kind cat e m) ∙ diagonal_kind cat e q))
-    ])
+edges_unlike cat = grind (arith, unlike_append, verticals_unlike, horizontals_unlike, diagonals_unlike, nat_tests, among_flat, diagonal_kind, among_append, kind, among_map, class_no, classes_of)
 
 -- each edge has one place
 pub one_place_each : (cat : Catalogue) (j k : ℕ) (e : Edge) → slice_get (conflict_graph cat) j ≡ Some e

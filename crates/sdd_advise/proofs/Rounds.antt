@@ -1,5 +1,5 @@
 -- Cycles by their edges, and by the nodes to which these lead.
-use Rattle.sdd_advise.proofs.All.{All, All-cons, All-contains, All-head, All-nil, All-tail, All-weaker, AllZip, Contains, Differ, Edge, GoesAlong, HasEachOnce, IsCycleFrom, IsSimpleCycle, IsWalk, Joins, List, None, Option, Some, Step, [], ap, append-nil, append_assoc, arith, closed_walks_are_cycles, drop, drop_all, drop_more, ends, get_or, inl, inr, length, map, nodes_along, nodes_of, none-some, option_and_then, option_and_then_some, option_map, other_end, refl, same_Some, slice_get, subst, suc, sym, ℕ, ◌++◌, ◌+◌, ◌-◌, ◌<◌, ◌∙◌, ◌∷◌, ◌≡◌, ◌≢◌, ◌≤◌}
+use Rattle.sdd_advise.proofs.All.{All, All-cons, All-contains, All-head, All-nil, All-tail, All-weaker, AllZip, Contains, Differ, Edge, GoesAlong, HasEachOnce, IsCycleFrom, IsSimpleCycle, IsWalk, Joins, List, None, Some, Step, [], ap, append-nil, append_assoc, arith, closed_walks_are_cycles, drop, drop_all, drop_more, ends, get_or, inl, length, map, nodes_along, nodes_of, none-some, option_and_then, option_and_then_some, option_map, other_end, refl, same_Some, slice_get, subst, suc, sym, ℕ, ◌++◌, ◌+◌, ◌-◌, ◌<◌, ◌∙◌, ◌∷◌, ◌≡◌, ◌≢◌, ◌≤◌}
 use Rattle.sdd_advise.proofs.Beside.{other_end_joined, joined_other_end}
 use Rattle.sdd_advise.proofs.Edges.{joins_at, joins_from, contains_at, mapped}
 use Rattle.sdd_advise.proofs.Members.{place_in}
@@ -15,9 +15,7 @@ last_there a (n ∷ ns) = last_there n ns
 
 -- the last is the last of them, where there are some
 pub last_at : (a n : ℕ) (ns : List ℕ) → slice_get (n ∷ ns) (length (n ∷ ns) - 1) ≡ Some (last_of a (n ∷ ns))
-last_at a n ns =
-    let e : length (n ∷ ns) - 1 ≡ length ns = omega arith in
-    ap (λ z. slice_get (n ∷ ns) z) e ∙ last_there n ns
+last_at a n ns = ap (λ z. slice_get (n ∷ ns) z) (omega arith) ∙ last_there n ns
 
 -- edges of a graph that lead from node to node, as the steps of a walk
 pub record IsWalked (edges : List Edge) (start : ℕ) (cycle : List Edge) (nodes : List ℕ) : Type 0 where
@@ -28,19 +26,16 @@ pub record IsWalked (edges : List Edge) (start : ℕ) (cycle : List Edge) (nodes
 
 pub walked : (edges : List Edge) (start : ℕ) (cycle : List Edge) (nodes : List ℕ) → All (Contains edges) cycle
     → nodes_along start cycle ≡ Some nodes → IsWalked edges start cycle nodes
-walked edges start [] nodes all e =
-    subst (λ z. IsWalked edges start [] z) (same_Some [] nodes e)
-    (record { steps = []; along = tt; walk = refl; met = refl })
+walked edges start [] nodes all e = grind (arith, IsWalked, same_Some)
 walked edges start (x ∷ cycle) nodes all e =
     option_and_then_some (λ (next : ℕ). option_map (λ (ns : List ℕ). next ∷ ns) (nodes_along next cycle)) (other_end x start) nodes e
     (λ next to rest.
     let r = mapped (λ (ns : List ℕ). next ∷ ns) (nodes_along next cycle) nodes rest in
     let w = walked edges next cycle r.0 (All-tail (Contains edges) x cycle all) r.1 in
     let k = place_in edges x (All-head (Contains edges) x cycle all) in
-    let step : Step = record { edge = k.0; to = next } in
     subst (λ z. IsWalked edges start (x ∷ cycle) z) r.2
     (record {
-      steps = step ∷ w.steps;
+      steps = (record { edge = k.0; to = next }) ∷ w.steps;
       along = (k.1, w.along);
       walk = (joins_at edges k.0 x start next k.1 (joined_other_end x start next to), w.walk);
       met = ap (λ z. next ∷ z) w.met;
@@ -53,11 +48,9 @@ along_steps : (edges : List Edge) (start : ℕ) (steps : List Step) (cycle : Lis
 along_steps edges start [] [] to z w = refl
 along_steps edges start (s ∷ steps) (x ∷ cycle) to z w =
     let j = joins_from edges s.edge start s.to w.0 in
-    let same : j.0 ≡ x = same_Some j.0 x (sym j.1 ∙ z.0) in
-    let leads : other_end x start ≡ Some s.to = other_end_joined x start s.to (subst (λ y. Joins y start s.to) same j.2) in
-    let rest = along_steps edges s.to steps cycle to z.1 w.1 in
+    let leads : other_end x start ≡ Some s.to = other_end_joined x start s.to (subst (λ y. Joins y start s.to) (same_Some j.0 x (sym j.1 ∙ z.0)) j.2) in
     ap (option_and_then (λ (next : ℕ). option_map (λ (ns : List ℕ). next ∷ ns) (nodes_along next cycle))) leads
-    ∙ ap (option_map (λ (ns : List ℕ). s.to ∷ ns)) rest
+    ∙ ap (option_map (λ (ns : List ℕ). s.to ∷ ns)) (along_steps edges s.to steps cycle to z.1 w.1)
 along_steps edges start _ _ to z w = absurd z
 
 last_step : (edges : List (ℕ × ℕ)) (start : ℕ) (steps : List Step) (to : ℕ) → IsWalk edges start steps to
@@ -95,15 +88,11 @@ cycle_of_steps : (edges : List Edge) (start : ℕ) (x y : Edge) (rest : List Edg
 cycle_of_steps edges start x y rest nodes [] n z w m d c = absurd z
 cycle_of_steps edges start x y rest nodes (s ∷ []) n z w m d c = absurd z.1
 cycle_of_steps edges start x y rest nodes (s ∷ t ∷ steps) n z w m d c =
-    let back : last_of start nodes ≡ start = closing start s.to (t.to ∷ nodes_of steps) nodes m c in
     record {
       steps = s ∷ t ∷ steps;
       along = z;
       simple =
-          closed_walks_are_cycles (map ends edges) start s t steps
-          (subst (λ q. IsWalk (map ends edges) start (s ∷ t ∷ steps) q) back w)
-          (subst Differ (sym m) d)
-          (λ e same. n (same_Some x y (sym z.0 ∙ ap (λ k. slice_get edges k) same ∙ z.1.0)));
+          grind (arith, closed_walks_are_cycles, ends, same_Some, slice_get, closing start s.to (t.to ∷ nodes_of steps) nodes m c);
     }
 
 pub round_is_cycle : (edges : List Edge) (start : ℕ) (x y : Edge) (rest : List Edge)
@@ -146,8 +135,7 @@ cycle_is_long edges start cycle c = let long = c.simple.long in omega (arith, as
 
 pub end_within : (limit : ℕ) (edge : Edge) (a b : ℕ) → Joins edge a b → (ends edge).0 < limit → (ends edge).1 < limit
     → b < limit
-end_within limit edge a b (inl p) l m = subst (λ z. z < limit) (ap (λ (z : ℕ × ℕ). z.1) p) m
-end_within limit edge a b (inr p) l m = subst (λ z. z < limit) (ap (λ (z : ℕ × ℕ). z.0) p) l
+end_within limit edge a b h5 l m = grind arith
 
 -- the nodes are those of the edges
 pub along_within : (limit start : ℕ) (cycle : List Edge) (nodes : List ℕ)
@@ -163,41 +151,21 @@ along_within limit start (x ∷ cycle) nodes all e =
     let below : next < limit = end_within limit x start next (joined_other_end x start next to) head.0 head.1 in
     subst (λ z. All (λ node. node < limit) z) r.2 (All-cons (λ node. node < limit) next r.0 below tail))
 
--- the loop that walks along the edges: one edge more, none that leads on, and the end
-one_further : (nodes : List ℕ) (next : ℕ) (o : Option (List ℕ))
-    → option_map (λ (ns : List ℕ). nodes ++ ns) (option_map (λ (ns : List ℕ). next ∷ ns) o)
-    ≡ option_map (λ (ns : List ℕ). (nodes ++ next ∷ []) ++ ns) o
-one_further nodes next None = refl
-one_further nodes next (Some ns) = ap (λ z. Some z) (sym (append_assoc nodes (next ∷ []) ns))
-
 pub walk_more : (start : ℕ) (edges : List Edge) (i at next : ℕ) (d : Edge) (nodes longer : List ℕ) → i < length edges
     → nodes_along start edges ≡ option_map (λ ns. nodes ++ ns) (nodes_along at (drop i edges))
     → other_end (get_or edges i d) at ≡ Some next → longer ≡ nodes ++ next ∷ []
     → nodes_along start edges ≡ option_map (λ ns. longer ++ ns) (nodes_along next (drop (i + 1) edges))
-walk_more start edges i at next d nodes longer l e to is =
-    e
-    ∙ ap (λ z. option_map (λ (ns : List ℕ). nodes ++ ns) (nodes_along at z)) (drop_more edges i d l)
-    ∙ ap (λ z. option_map (λ (ns : List ℕ). nodes ++ ns) (option_and_then (λ (x : ℕ). option_map (λ (ns : List ℕ). x ∷ ns) (nodes_along x (drop (i + 1) edges))) z)) to
-    ∙ one_further nodes next (nodes_along next (drop (i + 1) edges))
-    ∙ ap (λ z. option_map (λ (ns : List ℕ). z ++ ns) (nodes_along next (drop (i + 1) edges))) (sym is)
+walk_more start edges i at next d nodes longer l e to is = grind (arith, option_map, drop_more, option_and_then, append_assoc)
 
 pub walk_stops : (start : ℕ) (edges : List Edge) (i at : ℕ) (d : Edge) (nodes : List ℕ) → i < length edges
     → nodes_along start edges ≡ option_map (λ ns. nodes ++ ns) (nodes_along at (drop i edges))
     → other_end (get_or edges i d) at ≡ None → None ≡ nodes_along start edges
-walk_stops start edges i at d nodes l e to =
-    sym (
-    e
-    ∙ ap (λ z. option_map (λ (ns : List ℕ). nodes ++ ns) (nodes_along at z)) (drop_more edges i d l)
-    ∙ ap (λ z. option_map (λ (ns : List ℕ). nodes ++ ns) (option_and_then (λ (x : ℕ). option_map (λ (ns : List ℕ). x ∷ ns) (nodes_along x (drop (i + 1) edges))) z)) to)
+walk_stops start edges i at d nodes l e to = grind (arith, option_map, drop_more, option_and_then)
 
 pub walk_done : (start : ℕ) (edges : List Edge) (i at : ℕ) (nodes : List ℕ) → length edges ≤ i
     → nodes_along start edges ≡ option_map (λ ns. nodes ++ ns) (nodes_along at (drop i edges))
     → Some nodes ≡ nodes_along start edges
-walk_done start edges i at nodes l e =
-    sym (
-    e
-    ∙ ap (λ z. option_map (λ (ns : List ℕ). nodes ++ ns) (nodes_along at z)) (drop_all i edges l)
-    ∙ ap (λ z. Some z) (append-nil nodes))
+walk_done start edges i at nodes l e = grind (arith, option_map, drop_all, append-nil)
 
 -- a list of two edges or more
 split : (cycle : List Edge) → 2 ≤ length cycle → (x : Edge) × (y : Edge) × (rest : List Edge) × (x ∷ y ∷ rest ≡ cycle)
@@ -219,8 +187,7 @@ all_in_graph edges start cycle c = all_along edges c.steps cycle c.along
 -- the edges of a cycle lead on
 pub leads_on : (edges : List Edge) (start : ℕ) (cycle : List Edge) → None ≡ nodes_along start cycle
     → ¬ IsCycleFrom edges start cycle
-leads_on edges start cycle e c =
-    none-some (nodes_of c.steps) (e ∙ along_steps edges start c.steps cycle start c.along c.simple.closed)
+leads_on edges start cycle e c = grind (arith, none-some, along_steps)
 
 -- they form a cycle exactly where the last node is the start and none is there twice
 pub cycle_where_round : (edges : List Edge) → HasEachOnce edges → (start : ℕ) (cycle : List Edge) (nodes : List ℕ) (d e : Edge)

@@ -1,5 +1,5 @@
 -- What an advice shows of its edge, for each protocol.
-use Rattle.sdd_advise.proofs.All.{Advice, ArePaired, AreReached, ClassNo, Contains, Diagonal, Edge, FragNo, Horizontal, IsReadOf, List, NamesClasses, Option, P1, P2, P3, Protocol, ShowsFor, ShowsP1, ShowsP2, ShowsP3, ShowsProtocol, Vertical, arith, both_ways, ends, false, is_some, length, nat_tests, place_of, placed_nodes, subst, sym, true, ℕ, ◌*◌, ◌-◌, ◌<◌, ◌≡◌, ◌≤◌}
+use Rattle.sdd_advise.proofs.All.{Advice, ArePaired, AreReached, ClassNo, Contains, Edge, IsReadOf, List, NamesClasses, Option, P1, P2, P3, Protocol, ShowsFor, ShowsP1, ShowsP2, ShowsP3, Vertical, arith, both_ways, ends, false, is_some, length, nat_tests, place_of, placed_nodes, subst, sym, true, ℕ, ◌<◌, ◌≡◌}
 use Rattle.sdd_advise.proofs.Ascending.{same_ascending, contains_passing, contained_passes}
 
 -- what an advice has to show of an edge of a reader

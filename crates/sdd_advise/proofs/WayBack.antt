@@ -1,5 +1,5 @@
 -- The way by which a search came to a node, from its end.
-use Rattle.sdd_advise.proofs.All.{AllZip, Came, Edge, GoesAlong, Has, IsUnderWay, IsWay, List, MatchOption-at_none, MatchOption-at_some, None, Option, Reached, Some, Step, [], ap, arith, inl, inr, length, nodes_of, place_of, reached_at, reverse, reverse-append, same_Some, subst, sym, ℕ, ◌++◌, ◌<◌, ◌∙◌, ◌∷◌, ◌≡◌}
+use Rattle.sdd_advise.proofs.All.{AllZip, Came, Edge, GoesAlong, Has, IsUnderWay, IsWay, List, MatchOption-at_some, None, Option, Reached, Some, Step, [], ap, arith, inl, inr, length, nodes_of, place_of, reached_at, reverse, reverse-append, same_Some, subst, sym, ℕ, ◌++◌, ◌<◌, ◌∙◌, ◌∷◌, ◌≡◌}
 use Rattle.sdd_advise.proofs.Edges.{joins_at}
 use Rattle.sdd_advise.proofs.Members.{place_in}
 
@@ -26,26 +26,17 @@ module _ (edges : List Edge) (Goes : Edge → Type 0) (nodes place : ℕ) (place
       let k = place_in edges came.edge leads.is_edge in
       let steps : List Step = record { edge = k.0; to = (reached_at reached at).node } ∷ w.back.steps in
       let turned : reverse longer ≡ came.edge ∷ reverse way = ap reverse is ∙ reverse-append way (came.edge ∷ []) in
-      let there = u.there at l in
-      let from_there = u.there came.from (omega arith) in
       let later : (a : ℕ) → Has (nodes_of steps) a → (m : ℕ) × (came.from < m) × (place_of places a ≡ Some m) =
       λ a h. elim h [
-        | inl p ↦ (at, before, ap (λ z. place_of places z) (sym p) ∙ there.1)
-        | inr q ↦ let r = w.later a q in (r.0, let m = r.1 in omega arith, r.2)
+        | inl p ↦ (at, before, ap (λ z. place_of places z) (sym p) ∙ (u.there at l).1)
+        | inr q ↦ let r = w.later a q in (r.0, let m = r.1 in omega (arith, u.there came.from (omega arith)), r.2)
       ] in
       let way_is : IsWay edges Goes (reached_at reached came.from).node last (reverse longer) =
       record {
         steps = steps;
         along = subst (λ z. AllZip (λ step edge. GoesAlong edges step edge × Goes edge) steps z) (sym turned) ((k.1, leads.goes), w.back.along);
         walk = (joins_at edges k.0 came.edge (reached_at reached came.from).node (reached_at reached at).node k.1 leads.joins, w.back.walk);
-        differ = (
-          (λ h.
-              let r = later (reached_at reached came.from).node h in
-              let same : came.from ≡ r.0 = same_Some came.from r.0 (sym from_there.1 ∙ r.2) in
-              let m = r.1 in
-              absurd (omega arith)),
-          w.back.differ,
-        );
+        differ = grind (arith, reached_at, same_Some);
       } in
       record { back = way_is; later = later }
 
@@ -53,7 +44,4 @@ module _ (edges : List Edge) (Goes : Edge → Type 0) (nodes place : ℕ) (place
   pub all_back : (at : ℕ) (way turned : List Edge) → at < length reached → (reached_at reached at).came ≡ None
       → IsWayBack edges Goes places reached last at way → turned ≡ reverse way
       → IsWay edges Goes (reached_at reached 0).node last turned
-  all_back at way turned l e w is =
-      let first : at ≡ 0 = MatchOption-at_none (at ≡ 0) (λ (c : Came). c.from < at) e (u.traced.earlier at l) in
-      subst (λ z. IsWay edges Goes (reached_at reached 0).node last z) (sym is)
-      (subst (λ z. IsWay edges Goes (reached_at reached z).node last (reverse way)) first w.back)
+  all_back at way turned l e w is = grind arith

@@ -12,10 +12,10 @@ pub use Rattle.sdd_control.specs.Report.{note_lines, site_line, site_lines}
 pub use Rattle.sdd_control.specs.Script.{IsSoundScript}
 pub use Rattle.sdd_control.specs.Sends.{all_answered, answered, next_send, next_untold, send, untold, unwritten}
 pub use Rattle.sdd_control.specs.Standing.{finished, heir, knows, last, last_of, leads, stopped, value, value_by}
-pub use Rattle.sdd_control.specs.State.{Adds, NoteFits, TakesAct, Tracks, answered_in, arrival_in, greatest, greatest_of, has_finished, has_heard, has_stopped, has_told, heir_in, is_from_above, knows_in, last_number, last_number_in, last_number_of, may_send, messages_in, next_number_in, next_send_in, note_in, number_after, taken_in, untold_in, value_in}
+pub use Rattle.sdd_control.specs.State.{Adds, NoteFits, TakesAct, Tracks, answered_in, arrival_in, greatest, greatest_of, has_stopped, heir_in, is_from_above, knows_in, last_number, last_number_of, may_send, messages_in, next_number_in, next_send_in, note_in, number_after, taken_in, untold_in, value_in}
 pub use Rattle.sdd_control.specs.Steps.{FitAll, FitsAct, arrival, log_after, log_of, log_with_event, note_of}
 pub use Rattle.sdd_control.specs.Stretches.{count_from, every_from, first_from}
-pub use Rattle.sdd_control.specs.Walk.{at_line, control_script, is_ended, most_bytes, nothing_read, one_line, tail_rules, walk_bytes}
+pub use Rattle.sdd_control.specs.Walk.{at_line, control_script, is_ended, one_line, tail_rules, walk_bytes}
 pub use Rattle.sdd_control.specs.declared.act.Act.{Act}
 pub use Rattle.sdd_control.specs.declared.act.Act.TheVariants.{Deliver, Step as Send, Stop as Halt}
 pub use Rattle.sdd_control.specs.declared.key.Key.{Key}
@@ -31,13 +31,12 @@ pub use Rattle.sdd_control.specs.declared.state.State.{State}
 pub use Rattle.sdd_control.specs.declared.value.Val.{Val}
 pub use Rattle.sdd_control.specs.declared.value.Val.TheVariants.{All, Nought, Unknown}
 pub use Rattle.sdd_script.proofs.lang.catalog.Validity.{not_false}
-pub use Rattle.sdd_script.specs.All.{Kept as Live, Plain, Quoted, Word, cut_lines, is_free, is_sound, known, must, number_of, words_of, ◌>>=◌}
-pub use Rattle.sdd_script.specs.declared.fault.Counts.TheVariants.{Event}
+pub use Rattle.sdd_script.specs.All.{Kept as Live, Word, is_free, is_sound, known, must, number_of, words_of, ◌>>=◌}
 pub use Rattle.sdd_script.specs.declared.fault.WorkError.{WorkError}
 pub use Rattle.sdd_script.specs.declared.fault.WorkFault.{WorkFault}
 pub use Rattle.sdd_script.specs.declared.fault.WorkRule.{WorkRule}
-pub use Rattle.sdd_script.specs.declared.fault.WorkRule.TheVariants.{BadEvent, BadLine, BadNumber, NoEnd, NotUtf8, TooLong, TooMany}
-pub use Rattle.std.proofs.Common.{Bool, Err, IfOk, List, None, Option, Result, Some, T, [], ap, append-nil, append_assoc, arith, cond, drop, eq-eqb, eqb-true, false, inl, inr, le-leb, leb→le, length, length-append, lt-ltb, ltb→lt, map, nat_le, nat_lt, negsuc, not, pos, refl, replicate, slice_index_or as get_or, slice_set as set, subst, suc, sym, true, zero, ℕ, ℤ, ◌&&◌, ◌*◌, ◌++◌, ◌+◌, ◌-◌, ◌<◌, ◌==◌, ◌^◌, ◌||◌, ◌∙◌, ◌∷◌, ◌≡◌, ◌≢◌, ◌≤◌, ◌⊎◌}
+pub use Rattle.sdd_script.specs.declared.fault.WorkRule.TheVariants.{BadLine}
+pub use Rattle.std.proofs.Common.{Bool, Err, IfOk, List, None, Option, Result, Some, T, [], ap, append-nil, append_assoc, arith, cond, drop, eq-eqb, eqb-true, false, inl, inr, le-leb, leb→le, length, length-append, lt-ltb, ltb→lt, map, nat_le, nat_lt, not, refl, replicate, slice_index_or as get_or, slice_set as set, subst, suc, sym, true, zero, ℕ, ℤ, ◌&&◌, ◌*◌, ◌++◌, ◌+◌, ◌-◌, ◌<◌, ◌==◌, ◌^◌, ◌||◌, ◌∙◌, ◌∷◌, ◌≡◌, ◌≢◌, ◌≤◌, ◌⊎◌}
 pub use Rattle.std.proofs.lemmas.Bool.{and_from as and_both, cases_Bool, cases_eq, cases_lt, or_left, or_right}
 pub use Rattle.std.proofs.lemmas.Bool.Decides.{nat_tests}
 pub use Rattle.std.proofs.lemmas.List.{get_or-map, get_or-replicate, length-map, map-set}

@@ -1,5 +1,5 @@
 -- The cases of an event, and what its note says of the log before it.
-use Rattle.sdd_control.proofs.All.{Act, All, Bool, Deliver, Dropped, Finish, FitsAct, GONE, Gone, Halt, Ignored, List, Log, Message, None, Note, Nothing, Nought, OK, Ok, Option, Send, Some, Stop, Tell, Unknown, VALUE, Val, Value, Write, [], all_answered, arrival, cond, false, first_from, heir, is_above, is_finish, leads, link, not, note_of, noted, refl, send, stopped, true, untold, unwritten, value, ℕ, ◌&&◌, ◌+◌, ◌-◌, ◌∷◌, ◌≡◌, ◌≤◌}
+use Rattle.sdd_control.proofs.All.{Act, All, Bool, Deliver, Dropped, Finish, FitsAct, GONE, Gone, Halt, Ignored, List, Log, Message, None, Note, Nothing, Nought, OK, Ok, Option, Send, Some, Stop, Tell, Unknown, VALUE, Val, Value, Write, [], all_answered, arith, arrival, cond, false, first_from, heir, is_above, is_finish, leads, link, nat_tests, not, note_of, noted, send, stopped, true, untold, unwritten, value, ℕ, ◌&&◌, ◌+◌, ◌-◌, ◌∷◌, ◌≡◌, ◌≤◌}
 use Rattle.sdd_control.proofs.Lists.{and_left, and_right, not_true}
 
 -- the event gives the note
@@ -57,7 +57,21 @@ module _ (backups writes : ℕ) (log : Log) where
   case_halt i false e = stops i e
 
   pub case_of : (a : Act) → FitsAct backups a → Case backups writes log a (note_of backups writes log a)
-  case_of (Send i) f = case_sends i (leads log i && not (noted (is_finish i) log)) (first_from (untold log i) (i + 1) (backups - i))
-      (all_answered backups log i) (value log i) (unwritten writes log i) f refl refl refl refl refl
-  case_of (Deliver i j) f = case_delivered i j (stopped log j) (link log i j) (noted (is_above j i) log) refl refl refl
-  case_of (Halt i) f = case_halt i (stopped log i) refl
+  case_of a f = grind (
+    arith,
+    nat_tests,
+    case_sends,
+    leads,
+    noted,
+    is_finish,
+    first_from,
+    untold,
+    all_answered,
+    value,
+    unwritten,
+    case_delivered,
+    stopped,
+    link,
+    is_above,
+    case_halt,
+  )

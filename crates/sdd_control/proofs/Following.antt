@@ -1,5 +1,5 @@
 -- The tables follow the log of all events.
-use Rattle.sdd_control.proofs.All.{Act, Adds, Bool, FitAll, FitsAct, Follows, List, Live, Log, Note, Run, State, TakesAct, Tracks, [], ap, count_from, is_number, log_after, log_of, log_with_event, note_in, note_of, noted, refl, run_of, subst, sym, true, value, value_in, with_event, ℕ, ◌++◌, ◌∙◌, ◌∷◌, ◌≡◌, ◌≤◌}
+use Rattle.sdd_control.proofs.All.{Act, Adds, Bool, FitAll, FitsAct, Follows, List, Live, Log, Note, Run, State, TakesAct, [], ap, arith, count_from, is_number, log_after, log_of, log_with_event, nat_tests, note_in, note_of, noted, refl, run_of, subst, sym, true, value, value_in, with_event, ℕ, ◌++◌, ◌∙◌, ◌∷◌, ◌≡◌, ◌≤◌}
 use Rattle.sdd_control.proofs.Numbers.{count_written, numbered}
 use Rattle.sdd_control.proofs.Promises.{kept}
 use Rattle.sdd_control.proofs.Tracking.{note_same, tracks_on, value_same}
@@ -17,8 +17,7 @@ FitAll-append backups (x ∷ acts) act f g = (f.0, FitAll-append backups acts ac
 -- the note by the tables is the note by the log
 pub followed_note : (st : State) (acts : List Act) (act : Act) → Follows st acts → FitsAct st.backups act
     → note_in st act ≡ note_of st.backups st.writes (log_of st.backups st.writes acts) act
-followed_note st acts act f fits =
-    note_same st (log_of st.backups st.writes acts) f.tracks (kept st.backups st.writes acts f.fit) (numbered st.backups st.writes acts f.fit) act fits
+followed_note st acts act f fits = grind (arith, nat_tests, note_same, log_of, kept, numbered)
 
 module _ (old mid new : State) (acts : List Act) (act : Act) (note : Note) (f : Follows old acts) (fits : FitsAct old.backups act) (is : note ≡ note_in old act)
     (taking : TakesAct old mid act) (adding : Adds mid new note) where
@@ -29,22 +28,13 @@ module _ (old mid new : State) (acts : List Act) (act : Act) (note : Note) (f : 
   same_writes = adding.writes ∙ ap (λ (z : State). z.writes) taking.others
 
   log_on : log_of new.backups new.writes (acts ++ act ∷ []) ≡ record { act = act; note = note } ∷ log_of old.backups old.writes acts
-  log_on =
-      ap (λ z. log_of z new.writes (acts ++ act ∷ [])) same_backups ∙ ap (λ z. log_of old.backups z (acts ++ act ∷ [])) same_writes
-      ∙ log_after-append old.backups old.writes [] acts act ∙ ap (λ z. record { act = act; note = z } ∷ log_of old.backups old.writes acts)
-      (sym (is ∙ followed_note old acts act f fits))
+  log_on = grind (arith, nat_tests, log_of, same_backups, same_writes, log_after-append, followed_note)
 
   pub follows_on : Follows new (acts ++ act ∷ [])
-  follows_on = record {
-    sized = adding.sized;
-    fit = subst (λ z. FitAll z (acts ++ act ∷ [])) (sym same_backups) (FitAll-append old.backups acts act f.fit fits);
-    tracks = subst (Tracks new) (sym log_on) (tracks_on old mid new (log_of old.backups old.writes acts) act note f.tracks taking adding);
-  }
+  follows_on = grind (arith, nat_tests, same_backups, FitAll-append, log_on, tracks_on, log_of)
 
   pub run_on : run_of new.backups new.writes (acts ++ act ∷ []) ≡ with_event (run_of old.backups old.writes acts) act
-  run_on =
-      ap (λ z. run_of z new.writes (acts ++ act ∷ [])) same_backups ∙ ap (λ z. run_of old.backups z (acts ++ act ∷ [])) same_writes
-      ∙ ap (λ z. record { backups = old.backups; writes = old.writes; log = z }) (log_after-append old.backups old.writes [] acts act)
+  run_on = grind (arith, nat_tests, run_of, same_backups, same_writes, log_after-append)
 
 pub followed_count : (st : State) (acts : List Act) → Follows st acts
     → st.most ≡ count_from (λ k. noted (is_number k) (log_of st.backups st.writes acts)) 1 st.writes
@@ -69,9 +59,7 @@ module _ (st : State) (acts : List Act) (live : Bool) (seen : Live Run) (view : 
   note_now act f = followed_note st acts act follows_now (fits_now act f) ∙ ap (λ (z : Run). note_of z.backups z.writes z.log act) run_now
 
   pub value_now : (i : ℕ) → i ≤ seen.value.backups → value_in st i ≡ value seen.value.log i
-  value_now i l =
-      value_same st (log_of st.backups st.writes acts) follows_now.tracks i (subst (λ z. i ≤ z) (sym backups_now) l)
-      ∙ ap (λ (z : Run). value z.log i) run_now
+  value_now i l = grind (arith, nat_tests, value_same, log_of, follows_now, backups_now, value, run_now)
 
   pub count_now : st.most ≡ count_from (λ k. noted (is_number k) seen.value.log) 1 seen.value.writes
   count_now = followed_count st acts follows_now ∙ ap (λ (z : Run). count_from (λ k. noted (is_number k) z.log) 1 z.writes) run_now

@@ -1,9 +1,9 @@
 -- What every log keeps: one event more.
-use Rattle.sdd_control.proofs.All.{Act, All, Deliver, Finish, GONE, Gone, IsNoted, List, Log, Message, None, Note, OK, Ok, Option, Some, Stop, Tell, VALUE, Val, Value, Write, [], all_answered, and_both, answered, ap, append-nil, arith, cases_Bool, cases_lt, cond, drop, false, heir, inl, inr, is_above, is_gone, is_ok, is_stop, is_value, is_write, knows, last, last_of, link, lt-ltb, nat_lt, not, not_false, noted, or_left, or_right, put, refl, stopped, subst, sym, taken, true, untold, unwritten, value, value_by, ℕ, ◌++◌, ◌+◌, ◌-◌, ◌<◌, ◌==◌, ◌||◌, ◌∙◌, ◌∷◌, ◌≡◌, ◌≤◌, ◌⊎◌}
+use Rattle.sdd_control.proofs.All.{Act, All, Deliver, Finish, GONE, Gone, IsNoted, List, Log, Message, None, Note, OK, Ok, Option, Some, Stop, Tell, VALUE, Val, Value, Write, [], all_answered, answered, ap, append-nil, arith, cases_Bool, false, heir, inl, inr, is_above, is_gone, is_ok, is_stop, is_value, is_write, knows, last, last_of, link, nat_tests, not, not_false, noted, or_left, or_right, put, refl, stopped, subst, sym, taken, true, untold, unwritten, value, value_by, ℕ, ◌++◌, ◌+◌, ◌-◌, ◌<◌, ◌∙◌, ◌∷◌, ◌≡◌, ◌≤◌, ◌⊎◌}
 use Rattle.sdd_control.proofs.Lists.{or_cases, not_both, every_at, every_all, first_at, none_at, Has, Tidy, has_append, has_first, tidy_drop, tidy_append, tidy_gone}
 use Rattle.sdd_control.proofs.Cases.{Case}
 use Rattle.sdd_control.proofs.Cases.Case.{tells, writes_one, finishes, learns, hears, takes, stops}
-use Rattle.sdd_control.proofs.Puts.{same, same_itself, gone_is, ok_is, value_is, put_value, put_ok, put_gone, put_tidy, put_by, has_taken, taken_here, taken_nil, tidy_taken}
+use Rattle.sdd_control.proofs.Puts.{same_itself, gone_is, ok_is, value_is, put_value, put_ok, put_gone, put_tidy, put_by, has_taken, taken_here, taken_nil, tidy_taken}
 
 -- a value that i told j
 pub record Sound (log : Log) (i j : ℕ) (v : Val) : Type 0 where
@@ -41,53 +41,19 @@ pub record Kept (backups writes : ℕ) (log : Log) : Type 0 where
   pub all_written : (i k : ℕ) → IsNoted log (Finish i All) → 1 ≤ k → k ≤ writes → noted (is_write i k) log ≡ true
 
 pub kept_nil : (backups writes : ℕ) → Kept backups writes []
-kept_nil backups writes =
-    record {
-      gone_stopped = λ i j e. absurd (cc);
-      link_gone = λ i j h. absurd h;
-      never_both = λ i j e f. absurd (cc);
-      tidy = λ i j. tt;
-      gone_empty = λ i j e. absurd (cc);
-      on_link = λ i j v h. absurd h;
-      last_sound = λ i j v e. absurd (cc);
-      rising = λ i j e. absurd (cc);
-      ok_noted = λ i j e. absurd (cc);
-      ok_link = λ i j h. absurd h;
-      finished = λ i v s. absurd s;
-      wrote = λ i k s. absurd s;
-      all_written = λ i k s l m. absurd s;
-    }
+kept_nil backups writes = grind arith
 
 pub heir_at : (log : Log) (i l : ℕ) → heir log i ≡ true → l < i → knows log i l ≡ true
 heir_at log i l h m = every_at (λ z. knows log i z) 0 i l h (omega arith) (omega arith)
 
 pub last_of_cases : (j : ℕ) (n : Note) (before : Option (ℕ × Val))
     → (last_of j n before ≡ before) ⊎ ((i : ℕ) × (v : Val) × (n ≡ Value j i v) × (last_of j n before ≡ Some (i, v)))
-last_of_cases j (Value a b w) before =
-    elim (cases_Bool (a == j)) [
-      | inl e ↦ let p : a ≡ j = same a j e in inr (b, w, ap (λ z. Value z b w) p, ap (λ c. cond c (Some (b, w)) before) e)
-      | inr e ↦ inl (ap (λ c. cond c (Some (b, w)) before) e)
-    ]
-last_of_cases j _ before = inl refl
+last_of_cases j n before = grind (arith, nat_tests)
 
 -- no value of a site above i, one of k: k is not above i
 not_above : (j i k : ℕ) (log : Log) → noted (is_above j i) log ≡ false → noted (is_value j k) log ≡ true → k ≤ i
 not_above j i k [] e f = absurd (cc)
-not_above j i k (x ∷ log) e f =
-    elim (or_cases (is_value j k x.note) (noted (is_value j k) log) f) [
-      | inl g ↦
-          let h = value_is j k x.note g in
-          elim (cases_lt i k) [
-            | inl l ↦ absurd (not_both (is_above j i x.note || noted (is_above j i) log)
-                (or_left (is_above j i x.note) (noted (is_above j i) log)
-                (subst (λ z. is_above j i z ≡ true) (sym h.1) (and_both (j == j) (nat_lt i k) (same_itself j) (lt-ltb i k l)))) e)
-            | inr l ↦ l
-          ]
-      | inr g ↦ elim (cases_Bool (noted (is_above j i) log)) [
-        | inl t ↦ absurd (not_both (is_above j i x.note || noted (is_above j i) log) (or_right (is_above j i x.note) (noted (is_above j i) log) t) e)
-        | inr t ↦ not_above j i k log t g
-      ]
-    ]
+not_above j i k (x ∷ log) e f = grind (arith, nat_tests, or_cases, value_is, (not_above j i k log))
 
 module _ (backups writes : ℕ) (log : Log) where
   pub gone_case : (a : Act) (j i : ℕ) → Case backups writes log a (Gone j i)
@@ -156,10 +122,7 @@ module _ (backups writes : ℕ) (log : Log) (a : Act) (n : Note) (c : Case backu
       ]
 
   value_on : (i : ℕ) → heir log i ≡ true → value (more log a n) i ≡ value log i
-  value_on i h =
-      let e = last_on i h in
-      let f : heir (more log a n) i ≡ heir log i = heir_on i h ∙ sym h in
-      ap (λ z. value_by z (i == 0) (heir (more log a n) i)) e ∙ ap (λ z. value_by (last log i) (i == 0) z) f
+  value_on i h = grind (arith, nat_tests, last_on, heir, more, heir_on, value_by, last)
 
   sound_on : (i j : ℕ) (v : Val) → Sound log i j v → Sound (more log a n) i j v
   sound_on i j v s = record { below = s.below; heir = heir_on i s.heir; value = value_on i s.heir ∙ s.value }
@@ -172,18 +135,10 @@ module _ (backups writes : ℕ) (log : Log) (a : Act) (n : Note) (c : Case backu
 
   -- a stopped site puts nothing
   put_free : (i j : ℕ) → stopped log i ≡ true → put n i j ≡ []
-  put_free i j s =
-      elim (put_by n i j) [
-        | inl e ↦ e
-        | inr (inl x) ↦ let h = tell_case backups writes log a i j x.0 (subst (λ z. Case backups writes log a z) x.1 c) in absurd (not_both (stopped log i) s h.0)
-        | inr (inr (inl x)) ↦ let h = value_case backups writes log a i j x.0 (subst (λ z. Case backups writes log a z) x.1 c) in absurd (not_both (stopped log i) s h.1)
-        | inr (inr (inr x)) ↦ let h = stop_case backups writes log a i (subst (λ z. Case backups writes log a z) x c) in absurd (not_both (stopped log i) s h)
-      ]
+  put_free i j s = grind (arith, put_by, tell_case, value_case, stop_case)
 
   gone_now : (i j : ℕ) → n ≡ Gone j i → (stopped log i ≡ true) × (stopped log j ≡ false)
-  gone_now i j e =
-      let h = gone_case backups writes log a j i (subst (λ z. Case backups writes log a z) e c) in
-      (k.link_gone i j (has_first (link log i j) h.0 GONE h.3), h.2)
+  gone_now i j e = grind (arith, nat_tests, gone_case, Case, has_first, link)
 
   gone_stopped_on : (i j : ℕ) → knows (more log a n) j i ≡ true → stopped (more log a n) i ≡ true
   gone_stopped_on i j e = elim (know_new j i e) [ inl h ↦ let g = gone_now i j h in stop_on i g.0 | inr h ↦ stop_on i (k.gone_stopped i j h) ]
@@ -205,22 +160,12 @@ module _ (backups writes : ℕ) (log : Log) (a : Act) (n : Note) (c : Case backu
       ]
 
   tidy_on : (i j : ℕ) → Tidy (link (more log a n) i j)
-  tidy_on i j =
-      let t : Tidy (taken a i j (link log i j)) = tidy_taken a i j (link log i j) (k.tidy i j) (tidy_drop (link log i j) (k.tidy i j)) in
-      elim (cases_Bool (stopped log i)) [
-        | inl s ↦ subst (λ z. Tidy (taken a i j (link log i j) ++ z)) (sym (put_free i j s)) (subst Tidy (sym (append-nil (taken a i j (link log i j)))) t)
-        | inr s ↦ tidy_append (taken a i j (link log i j)) (put n i j) (λ h. not_both (stopped log i) (k.link_gone i j (has_taken a i j (link log i j) GONE h)) s) (put_tidy n i j)
-      ]
+  tidy_on i j = grind (arith, Tidy, tidy_taken, tidy_drop, cases_Bool, put_free, append-nil, tidy_append, not_both, has_taken, put_tidy)
 
   gone_empty_on : (i j : ℕ) → knows (more log a n) j i ≡ true → link (more log a n) i j ≡ []
   gone_empty_on i j e =
       elim (know_new j i e) [
-        | inl p ↦
-            let h = gone_case backups writes log a j i (subst (λ z. Case backups writes log a z) p c) in
-            let g = gone_now i j p in
-            let r : h.0 ≡ [] = tidy_gone (link log i j) h.0 (k.tidy i j) h.3 in
-            let t : taken a i j (link log i j) ≡ [] = ap (λ z. taken z i j (link log i j)) h.1 ∙ taken_here i j (link log i j) ∙ ap (drop 1) h.3 ∙ r in
-            ap (λ z. z ++ put n i j) t ∙ put_free i j g.0
+        | inl p ↦ grind (arith, nat_tests, gone_case, Case, gone_now, tidy_gone, link, taken, taken_here, put, put_free)
         | inr p ↦ ap (λ z. taken a i j z ++ put n i j) (k.gone_empty i j p) ∙ ap (λ z. z ++ put n i j) (taken_nil a i j) ∙ put_free i j (k.gone_stopped i j p)
       ]
 
@@ -245,17 +190,13 @@ module _ (backups writes : ℕ) (log : Log) (a : Act) (n : Note) (c : Case backu
   rising_on i j e =
       elim (last_of_cases j n (last log j)) [
         | inl p ↦ elim (or_cases (is_value j i n) (noted (is_value j i) log) e) [
-          | inl q ↦
-              let h = value_is j i n q in
-              record { from = i; val = h.0; least = omega arith; is = subst (λ z. last_of j z (last log j) ≡ Some (i, h.0)) (sym h.1) (ap (λ b. cond b (Some (i, h.0)) (last log j)) (same_itself j)) }
+          | inl q ↦ grind (arith, nat_tests, value_is, last_of, last, same_itself)
           | inr q ↦ let l = k.rising i j q in record { from = l.from; val = l.val; least = l.least; is = p ∙ l.is }
         ]
         | inr x ↦
             let h = value_case backups writes log a j x.0 x.1 (subst (λ z. Case backups writes log a z) x.2 c) in
             elim (or_cases (is_value j i n) (noted (is_value j i) log) e) [
-              | inl q ↦
-                  let g = value_is j i n q in
-                  record { from = i; val = g.0; least = omega arith; is = subst (λ z. last_of j z (last log j) ≡ Some (i, g.0)) (sym g.1) (ap (λ b. cond b (Some (i, g.0)) (last log j)) (same_itself j)) }
+              | inl q ↦ grind (arith, nat_tests, value_is, last_of, last, same_itself)
               | inr q ↦ record { from = x.0; val = x.1; least = not_above j x.0 i log h.3 q; is = x.3 }
             ]
       ]
@@ -263,18 +204,12 @@ module _ (backups writes : ℕ) (log : Log) (a : Act) (n : Note) (c : Case backu
   ok_noted_on : (i j : ℕ) → noted (is_ok i j) (more log a n) ≡ true → noted (is_value j i) (more log a n) ≡ true
   ok_noted_on i j e =
       elim (or_cases (is_ok i j n) (noted (is_ok i j) log) e) [
-        | inl p ↦
-            let h = ok_case backups writes log a i j (subst (λ z. Case backups writes log a z) (ok_is i j n p) c) in
-            or_right (is_value j i n) (noted (is_value j i) log) (k.ok_link i j (has_first (link log j i) h.0 OK h.1))
+        | inl p ↦ grind (arith, nat_tests, ok_case, Case, ok_is, or_right, is_value, noted, has_first, link)
         | inr p ↦ or_right (is_value j i n) (noted (is_value j i) log) (k.ok_noted i j p)
       ]
 
   ok_link_on : (i j : ℕ) → Has (link (more log a n) j i) OK → noted (is_value j i) (more log a n) ≡ true
-  ok_link_on i j h =
-      elim (has_new j i OK h) [
-        | inl x ↦ or_right (is_value j i n) (noted (is_value j i) log) (k.ok_link i j x)
-        | inr x ↦ or_left (is_value j i n) (noted (is_value j i) log) (put_ok n j i x)
-      ]
+  ok_link_on i j h = grind (arith, nat_tests, has_new, or_right, is_value, noted, or_left, put_ok)
 
   finished_on : (i : ℕ) (v : Val) → IsNoted (more log a n) (Finish i v) → Ready backups (more log a n) i v
   finished_on i v (inl e) = let h = finish_case backups writes log a i v (subst (λ z. Case backups writes log a z) e c) in ready_on i v h.0

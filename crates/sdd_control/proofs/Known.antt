@@ -1,11 +1,10 @@
 -- An heir's value is never unknown.
-use Rattle.sdd_control.proofs.All.{Act, Bool, Finish, FitAll, IsNoted, List, Log, NeverUnknown, None, Option, Some, Unknown, Val, ap, arith, false, heir, inl, inr, last, log_of, refl, suc, sym, true, value, value_by, zero, ℕ, ◌<◌, ◌==◌, ◌∙◌, ◌≡◌, ◌≢◌, ◌⊎◌}
+use Rattle.sdd_control.proofs.All.{Act, Bool, Finish, FitAll, IsNoted, List, Log, NeverUnknown, None, Option, Some, Unknown, Val, ap, arith, heir, inl, inr, last, log_of, nat_tests, refl, suc, sym, true, value, value_by, zero, ℕ, ◌<◌, ◌==◌, ◌∙◌, ◌≡◌, ◌≢◌, ◌⊎◌}
 use Rattle.sdd_control.proofs.Kept.{Kept}
 use Rattle.sdd_control.proofs.Promises.{kept}
 
 first_value : (first : Bool) → value_by None first true ≢ Unknown
-first_value true e = absurd (cc)
-first_value false e = absurd (cc)
+first_value first e = grind (arith, nat_tests)
 
 last_or_none : (x : Option (ℕ × Val)) → (x ≡ None) ⊎ ((i : ℕ) × (v : Val) × (x ≡ Some (i, v)))
 last_or_none None = inl refl

@@ -1,9 +1,9 @@
 -- Where nothing is left to do, the lowest site that hasn't stopped has finished.
-use Rattle.sdd_control.proofs.All.{Act, All, Bool, Deliver, FitAll, GONE, Gone, Halt, LeaderEnds, List, Log, Message, NoMessages, NoSends, None, Note, Nothing, OK, Ok, Option, Send, Some, T, VALUE, Val, Value, [], all_answered, and_both, answered, ap, arith, cases_Bool, cond, drop, eqb-true, false, first_from, heir, inl, inr, is_above, is_finish, is_gone, is_ok, is_stop, is_tell, is_value, knows, leads, link, log_after, log_of, ltb→lt, nat_lt, not, note_of, noted, or_left, or_right, put, refl, send, stopped, subst, sym, taken, true, untold, unwritten, value, ℕ, ◌&&◌, ◌+◌, ◌-◌, ◌<◌, ◌==◌, ◌∙◌, ◌∷◌, ◌≡◌, ◌≢◌, ◌≤◌, ◌⊎◌}
+use Rattle.sdd_control.proofs.All.{Act, Bool, Deliver, FitAll, GONE, Gone, LeaderEnds, List, Log, Message, NoMessages, NoSends, None, Note, Nothing, OK, Ok, Option, T, VALUE, Val, Value, [], all_answered, and_both, answered, ap, arith, cases_Bool, cond, drop, eqb-true, false, first_from, heir, inl, inr, is_above, is_finish, is_gone, is_ok, is_stop, is_tell, is_value, knows, leads, link, log_after, log_of, ltb→lt, nat_lt, nat_tests, not, note_of, noted, or_left, or_right, put, refl, send, stopped, subst, sym, taken, true, untold, unwritten, value, ℕ, ◌&&◌, ◌+◌, ◌-◌, ◌<◌, ◌==◌, ◌∙◌, ◌∷◌, ◌≡◌, ◌≢◌, ◌≤◌, ◌⊎◌}
 use Rattle.sdd_control.proofs.Lists.{and_left, and_right, or_cases, not_both, every_all, none_at, Has, has_left, has_right}
 use Rattle.sdd_control.proofs.Cases.{Case, case_of}
 use Rattle.sdd_control.proofs.Cases.Case.{empty, dropped, learns, hears, ignores, takes}
-use Rattle.sdd_control.proofs.Puts.{same, same_itself, stop_is, tell_is, two_same}
+use Rattle.sdd_control.proofs.Puts.{same_itself, stop_is, tell_is, two_same}
 use Rattle.sdd_control.proofs.Kept.{Kept, heir_at, more, kept_nil, kept_on}
 
 -- where a stopped site's GONE is, and where the answer to a Tell is
@@ -25,25 +25,11 @@ pub record Flows (log : Log) : Type 0 where
 
 -- a message stays on its link, or is the first and arrival
 first_or : (i j : ℕ) (xs : List Message) (m : Message) → Has xs m → Has (drop 1 xs) m ⊎ ((rest : List Message) × (xs ≡ m ∷ rest))
-first_or i j [] m h = elim h [ ]
-first_or i j (x ∷ xs) m (inl e) = inr (xs, ap (λ z. z ∷ xs) e)
-first_or i j (x ∷ xs) m (inr h) = inl h
+first_or i j xs m h = grind (arith, nat_tests)
 
 stays : (a : Act) (i j : ℕ) (xs : List Message) (m : Message) → Has xs m
     → Has (taken a i j xs) m ⊎ ((rest : List Message) × (xs ≡ m ∷ rest) × (a ≡ Deliver i j))
-stays (Send b) i j xs m h = inl h
-stays (Halt b) i j xs m h = inl h
-stays (Deliver b d) i j xs m h =
-    elim (cases_Bool ((b == i) && (d == j))) [
-      | inl e ↦
-          let p : b ≡ i = same b i (and_left (b == i) (d == j) e) in
-          let q : d ≡ j = same d j (and_right (b == i) (d == j) e) in
-          elim (first_or i j xs m h) [
-            | inl k ↦ inl (subst (λ c. Has (cond c (drop 1 xs) xs) m) (sym e) k)
-            | inr r ↦ inr (r.0, r.1, cc)
-          ]
-      | inr e ↦ inl (subst (λ c. Has (cond c (drop 1 xs) xs) m) (sym e) h)
-    ]
+stays a i j xs m h = grind (arith, nat_tests, first_or)
 
 module _ (backups writes : ℕ) (log : Log) where
   gone_comes : (i j : ℕ) (n : Note) (rest : List Message) → Case backups writes log (Deliver i j) n
@@ -99,11 +85,7 @@ differ l j n = elim (cases_Bool (l == j)) [ inl e ↦ absurd (n (eqb-true l j e)
 module _ (backups writes : ℕ) (log : Log) (a : Act) (n : Note) (c : Case backups writes log a n) (k : Kept backups writes log) (f : Flows log) where
   keep : (i j : ℕ) (m : Message) → Has (link log i j) m
       → Has (link (more log a n) i j) m ⊎ ((rest : List Message) × (link log i j ≡ m ∷ rest) × Case backups writes log (Deliver i j) n)
-  keep i j m h =
-      elim (stays a i j (link log i j) m h) [
-        | inl x ↦ inl (has_left (taken a i j (link log i j)) (put n i j) m x)
-        | inr x ↦ inr (x.0, x.1, subst (λ z. Case backups writes log z n) x.2 c)
-      ]
+  keep i j m h = grind (arith, nat_tests, stays, link, has_left, taken, put, Case)
 
   stop_more : (i : ℕ) → stopped log i ≡ true → stopped (more log a n) i ≡ true
   stop_more i e = or_right (is_stop i n) (stopped log i) e
@@ -174,36 +156,23 @@ pub flows_after : (backups writes : ℕ) (log : Log) (acts : List Act) → Kept 
     → Flows log → FitAll backups acts → Flows (log_after backups writes log acts)
 flows_after backups writes log [] k g f = g
 flows_after backups writes log (a ∷ acts) k g f =
-    let c : Case backups writes log a (note_of backups writes log a) = case_of backups writes log a f.0 in
-    flows_after backups writes (more log a (note_of backups writes log a)) acts (kept_on backups writes log a (note_of backups writes log a) c k)
-    (flows_on backups writes log a (note_of backups writes log a) c k g) f.1
+    grind (arith, Case, note_of, case_of, more, kept_on, flows_on, (flows_after backups writes (more log a (note_of backups writes log a)) acts))
 
 pub flows : (backups writes : ℕ) (acts : List Act) → FitAll backups acts → Flows (log_of backups writes acts)
-flows backups writes acts f =
-    flows_after backups writes [] acts (kept_nil backups writes) (record { missed = λ l j d e. absurd (cc); awaited = λ i j e. absurd (cc) }) f
+flows backups writes acts f = grind (arith, nat_tests, flows_after, kept_nil)
 
 -- a leader that send nothing has told all, and lacks an answer
 no_send : (i : ℕ) (to : Option ℕ) (all : Bool) (v : Val) (left : Option ℕ) → send i true to all v left ≡ Nothing → (to ≡ None) × (all ≡ false)
-no_send i (Some j) all v left e = absurd (cc)
-no_send i None false v left e = (refl, refl)
-no_send i None true All (Some n) e = absurd (cc)
-no_send i None true _ _ e = absurd (cc)
+no_send i to all v left e = grind arith
 
 told_or_known : (a b : Bool) → (not a && not b) ≡ false → (a ≡ true) ⊎ (b ≡ true)
-told_or_known true b e = inl refl
-told_or_known false true e = inr refl
-told_or_known false false e = absurd (cc)
+told_or_known a b e = grind arith
 
 module _ (backups writes : ℕ) (log : Log) (f : Flows log) (q : NoMessages backups log) (r : NoSends backups writes log) (m : ℕ)
     (in_range : m ≤ backups) (up : stopped log m ≡ false) where
   -- m knows each stopped site gone
   knows_it : (l : ℕ) → l ≤ backups → l ≢ m → stopped log l ≡ true → knows log m l ≡ true
-  knows_it l b d s = by_case (f.missed l m d s)
-    where
-      by_case : Missed log l m → knows log m l ≡ true
-      by_case (on_its_way h) = absurd (subst (λ z. Has z GONE) (q l m b in_range d up) h)
-      by_case (known e) = e
-      by_case (no_one e) = absurd (not_both (stopped log m) e up)
+  knows_it l b d s = grind (arith, q, (f.missed l m d s))
 
   has_answered : (j : ℕ) → j ≤ backups → m < j → noted (is_tell m j) log ≡ true → answered log m j ≡ true
   has_answered j b l t =
@@ -225,8 +194,7 @@ module _ (backups writes : ℕ) (log : Log) (f : Flows log) (q : NoMessages back
         | inl e ↦ e
         | inr e ↦
             let h : heir log m ≡ true = every_all (λ z. knows log m z) 0 m (λ l p r. knows_it l (omega arith) (λ w. omega arith) (low l (omega arith))) in
-            let b : (leads log m && not (noted (is_finish m) log)) ≡ true = and_both (leads log m) (not (noted (is_finish m) log))
-            (and_both (not (stopped log m)) (heir log m) (ap not up) h) (ap not e) in
+            let b : (leads log m && not (noted (is_finish m) log)) ≡ true = grind (arith, nat_tests, and_both, leads, noted, is_finish, stopped, heir) in
             let n : send m true (first_from (untold log m) (m + 1) (backups - m)) (all_answered backups log m) (value log m)
             (unwritten writes log m) ≡ Nothing =
             subst (λ z. send m z (first_from (untold log m) (m + 1) (backups - m)) (all_answered backups log m) (value log m)

@@ -1,5 +1,5 @@
 -- The numbers that a site wrote are those from 1 to its last.
-use Rattle.sdd_control.proofs.All.{Act, Bool, FitAll, List, Log, Note, T, Write, [], ap, arith, cases_Bool, cases_lt, cond, count_from, false, greatest, greatest_of, inl, inr, is_number, is_write, last_number, last_number_of, le-leb, leb→le, log_after, log_of, nat_le, nat_lt, nat_tests, not, not_false, note_of, noted, or_left, or_right, refl, subst, suc, sym, true, zero, ℕ, ◌&&◌, ◌+◌, ◌<◌, ◌==◌, ◌∙◌, ◌∷◌, ◌≡◌, ◌≤◌, ◌⊎◌}
+use Rattle.sdd_control.proofs.All.{Act, Bool, FitAll, List, Log, Note, T, Write, [], arith, cases_Bool, cases_eq, cases_lt, cond, count_from, false, greatest, greatest_of, inl, inr, is_number, is_write, last_number, last_number_of, le-leb, leb→le, log_after, log_of, nat_le, nat_lt, nat_tests, not, not_false, note_of, noted, or_left, or_right, refl, subst, suc, sym, true, zero, ℕ, ◌+◌, ◌<◌, ◌==◌, ◌∙◌, ◌∷◌, ◌≡◌, ◌≤◌, ◌⊎◌}
 use Rattle.sdd_control.proofs.Promises.{number_noted}
 use Rattle.sdd_control.proofs.Cases.{Case, case_of}
 use Rattle.sdd_control.proofs.Kept.{more, write_case}
@@ -15,14 +15,7 @@ pub record Numbered (writes : ℕ) (log : Log) : Type 0 where
 number_cases : (i : ℕ) (n : Note) (before : ℕ)
     → ((last_number_of i n before ≡ before) × ((k : ℕ) → is_write i k n ≡ false))
     ⊎ ((m : ℕ) × (n ≡ Write i m) × (last_number_of i n before ≡ m))
-number_cases i (Write a b) before =
-    elim (cases_Bool (a == i)) [
-      | inl e ↦
-          let p : a ≡ i = same a i e in
-          inr (b, ap (λ z. Write z b) p, ap (λ t. cond t b before) e)
-      | inr e ↦ inl (ap (λ t. cond t b before) e, λ k. ap (λ t. t && (b == k)) e)
-    ]
-number_cases i _ before = inl (refl, λ k. refl)
+number_cases i n before = grind (arith, nat_tests, cases_lt, cases_eq, cases_Bool, same)
 
 write_same : (i k m : ℕ) (n : Note) → n ≡ Write i m → is_write i k n ≡ true → m ≡ k
 write_same i k m n e f = same m k (and_right (i == i) (m == k) (subst (λ z. is_write i k z ≡ true) e f))
@@ -75,19 +68,12 @@ module _ (backups writes : ℕ) (log : Log) (a : Act) (n : Note) (c : Case backu
           | inl x ↦ let y = x.0 in absurd (omega arith)
           | inr x ↦
               let m = next_number i x.0 x.1 in
-              let s = m.0 in
-              let y = x.2 in
-              let q : x.0 ≡ k = omega arith in
-              or_left (is_write i k n) (noted (is_write i k) log) (subst (λ z. is_write i k z ≡ true) (sym (x.1 ∙ ap (Write i) q)) (two_same i k))
+              grind (arith, nat_tests, or_left, is_write, noted, two_same)
         ]
       ]
 
   most_on : (i : ℕ) → last_number (more log a n) i ≤ writes
-  most_on i =
-      elim (number_cases i n (last_number log i)) [
-        | inl x ↦ let y = x.0 in let z = h.most i in omega arith
-        | inr x ↦ let m = next_number i x.0 x.1 in let s = m.1 in let y = x.2 in omega arith
-      ]
+  most_on i = grind (arith, number_cases, next_number, h.most)
 
   pub numbered_on : Numbered writes (more log a n)
   numbered_on = record { within = within_on; wrote = wrote_on; most = most_on }
@@ -106,22 +92,13 @@ pub numbered : (backups writes : ℕ) (acts : List Act) → FitAll backups acts 
 numbered backups writes acts f = numbered_after backups writes [] acts (numbered_nil writes) f
 
 greater : (b before : ℕ) → ((cond (nat_lt before b) b before ≡ b) × (before ≤ b)) ⊎ ((cond (nat_lt before b) b before ≡ before) × (b ≤ before))
-greater b before =
-    elim (cases_lt before b) [
-      | inl l ↦ inl (grind (arith, nat_tests), omega arith)
-      | inr l ↦ inr (grind (arith, nat_tests), l)
-    ]
+greater b before = grind (arith, nat_tests)
 
 -- what a note makes of the greatest number
 greatest_cases : (n : Note) (before : ℕ)
     → (((k : ℕ) → is_number k n ≡ true → k ≤ before) × (greatest_of n before ≡ before))
     ⊎ ((a : ℕ) × (b : ℕ) × (n ≡ Write a b) × (greatest_of n before ≡ b) × (before ≤ b))
-greatest_cases (Write a b) before =
-    elim (greater b before) [
-      | inl h ↦ inr (a, b, refl, h.0, h.1)
-      | inr h ↦ inl (λ k q. let s = same b k q in let l = h.1 in omega arith, h.0)
-    ]
-greatest_cases _ before = inl (λ k q. absurd (cc), refl)
+greatest_cases n before = grind (arith, nat_tests, greater, same)
 
 number_same : (k a b : ℕ) (n : Note) → n ≡ Write a b → is_number k n ≡ true → b ≡ k
 number_same k a b n e q = same b k (subst (λ z. is_number k z ≡ true) e q)
@@ -129,31 +106,12 @@ number_same k a b n e q = same b k (subst (λ z. is_number k z ≡ true) e q)
 -- a number that was written is at most the greatest
 at_most_greatest : (k : ℕ) (log : Log) → noted (is_number k) log ≡ true → k ≤ greatest log
 at_most_greatest k [] e = absurd (cc)
-at_most_greatest k (x ∷ log) e =
-    elim (greatest_cases x.note (greatest log)) [
-      | inl h ↦ let s = h.1 in elim (or_cases (is_number k x.note) (noted (is_number k) log) e) [
-        | inl p ↦ let l = h.0 k p in omega arith
-        | inr p ↦ let l = at_most_greatest k log p in omega arith
-      ]
-      | inr h ↦ let s = h.3 in let m = h.4 in elim (or_cases (is_number k x.note) (noted (is_number k) log) e) [
-        | inl p ↦ let r = number_same k h.0 h.1 x.note h.2 p in omega arith
-        | inr p ↦ let l = at_most_greatest k log p in omega arith
-      ]
-    ]
+at_most_greatest k (x ∷ log) e = grind (arith, greatest_cases, or_cases, number_same, (at_most_greatest k log))
 
 -- the greatest number was written, if there is one
 greatest_by : (log : Log) → 1 ≤ greatest log → (i : ℕ) × (noted (is_write i (greatest log)) log ≡ true)
 greatest_by [] l = absurd (omega arith)
-greatest_by (x ∷ log) l =
-    elim (greatest_cases x.note (greatest log)) [
-      | inl h ↦
-          let s = h.1 in
-          let g = greatest_by log (omega arith) in
-          (g.0, subst (λ z. noted (is_write g.0 z) (x ∷ log) ≡ true) (sym s) (or_right (is_write g.0 (greatest log) x.note) (noted (is_write g.0 (greatest log)) log) g.1))
-      | inr h ↦
-          let w : is_write h.0 h.1 x.note ≡ true = subst (λ z. is_write h.0 h.1 z ≡ true) (sym h.2) (two_same h.0 h.1) in
-          (h.0, subst (λ z. noted (is_write h.0 z) (x ∷ log) ≡ true) (sym h.3) (or_left (is_write h.0 h.1 x.note) (noted (is_write h.0 h.1) log) w))
-    ]
+greatest_by (x ∷ log) l = grind (arith, greatest_cases, two_same, (greatest_by log))
 
 module _ (writes : ℕ) (log : Log) (h : Numbered writes log) where
   -- a number was written exactly where it is one from 1 to the greatest
@@ -179,37 +137,21 @@ module _ (writes : ℕ) (log : Log) (h : Numbered writes log) where
         | inl l ↦
             let g = greatest_by log l in
             let r = h.within g.0 (greatest log) g.1 in
-            let s = r.1 in
-            let m = h.most g.0 in
-            omega arith
+            grind (arith, nat_tests)
         | inr l ↦ omega arith
       ]
 
-above_fails : (g k : ℕ) → g < k → nat_le k g ≡ false
-above_fails g k l = grind (arith, nat_tests)
-
 count_none : (p : ℕ → Bool) (g k n : ℕ) → ((j : ℕ) → k ≤ j → p j ≡ nat_le j g) → g < k → count_from p k n ≡ 0
 count_none p g k zero same l = refl
-count_none p g k (suc n) same l =
-    let f : p k ≡ false = same k (omega arith) ∙ above_fails g k l in
-    ap (λ t. cond t (count_from p (k + 1) n + 1) (count_from p (k + 1) n)) f ∙ count_none p g (k + 1) n (λ j m. same j (omega arith)) (omega arith)
+count_none p g k (suc n) same l = grind (arith, nat_tests, same, (count_none p g (k + 1) n (λ j m. same j (omega arith)) (omega arith)))
 
 count_up_to : (p : ℕ → Bool) (g k n : ℕ) → ((j : ℕ) → k ≤ j → p j ≡ nat_le j g) → k ≤ g + 1 → g < k + n → count_from p k n + k ≡ g + 1
 count_up_to p g k zero same l u = omega arith
 count_up_to p g k (suc n) same l u =
+    let t = same k (omega arith) in
     elim (cases_lt g k) [
-      | inl above ↦
-          let f : p k ≡ false = same k (omega arith) ∙ above_fails g k above in
-          let e : count_from p k (suc n) ≡ count_from p (k + 1) n =
-          ap (λ t. cond t (count_from p (k + 1) n + 1) (count_from p (k + 1) n)) f in
-          let z = count_none p g (k + 1) n (λ j m. same j (omega arith)) (omega arith) in
-          omega arith
-      | inr below ↦
-          let t : p k ≡ true = same k (omega arith) ∙ le-leb k g below in
-          let e : count_from p k (suc n) ≡ count_from p (k + 1) n + 1 =
-          ap (λ t. cond t (count_from p (k + 1) n + 1) (count_from p (k + 1) n)) t in
-          let h = count_up_to p g (k + 1) n (λ j m. same j (omega arith)) (omega arith) (omega arith) in
-          omega arith
+      | inl above ↦ grind (arith, nat_tests, (count_none p g (k + 1) n (λ j m. same j (omega arith)) (omega arith)))
+      | inr below ↦ grind (arith, nat_tests, (count_up_to p g (k + 1) n (λ j m. same j (omega arith)) (omega arith) (omega arith)))
     ]
 
 -- how many numbers were written

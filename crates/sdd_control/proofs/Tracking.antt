@@ -1,5 +1,5 @@
 -- What the tables say is what the log says.
-use Rattle.sdd_control.proofs.All.{Act, Adds, All, Bool, Deliver, FitsAct, GONE, Halt, List, Log, Message, None, Note, NoteFits, Nothing, OK, Option, Send, Some, State, Stop, TakesAct, Tracks, VALUE, Val, [], all_answered, answered, answered_in, ap, arith, arrival, arrival_in, cases_Bool, cases_lt, cond, every_from, false, finished, first_from, greatest_of, has_stopped, heir, heir_in, inl, inr, is_from_above, is_ok, is_tell, is_write, knows, knows_in, last, last_number, leads, lt-ltb, may_send, messages_in, nat_lt, nat_tests, next_number_in, next_send, next_send_in, next_untold, not, note_in, note_of, noted, number_after, refl, send, suc, sym, taken_in, true, untold, untold_in, unwritten, value, value_by, value_in, zero, ℕ, ◌&&◌, ◌+◌, ◌-◌, ◌<◌, ◌==◌, ◌||◌, ◌∙◌, ◌∷◌, ◌≡◌, ◌≤◌}
+use Rattle.sdd_control.proofs.All.{Act, Adds, Bool, Deliver, FitsAct, List, Log, Message, None, Note, NoteFits, Nothing, Option, Some, State, Stop, TakesAct, Tracks, Val, all_answered, answered, answered_in, ap, arith, arrival, arrival_in, cases_Bool, cases_lt, cond, every_from, false, finished, first_from, greatest_of, has_stopped, heir, heir_in, inl, inr, is_from_above, is_ok, is_tell, is_write, knows, knows_in, last, last_number, leads, lt-ltb, may_send, messages_in, nat_lt, nat_tests, next_number_in, next_send, next_send_in, next_untold, not, note_in, note_of, noted, number_after, refl, send, suc, sym, taken_in, true, untold, untold_in, unwritten, value, value_by, value_in, zero, ℕ, ◌&&◌, ◌+◌, ◌-◌, ◌<◌, ◌==◌, ◌||◌, ◌∙◌, ◌∷◌, ◌≡◌, ◌≤◌}
 use Rattle.sdd_control.proofs.Above.{above_is_last}
 use Rattle.sdd_control.proofs.Kept.{Kept}
 use Rattle.sdd_control.proofs.Lists.{first_at}
@@ -7,13 +7,11 @@ use Rattle.sdd_control.proofs.Numbers.{Numbered}
 
 pub every_same : (p q : ℕ → Bool) (k n : ℕ) → ((j : ℕ) → k ≤ j → j < k + n → p j ≡ q j) → every_from p k n ≡ every_from q k n
 every_same p q k zero same = refl
-every_same p q k (suc n) same =
-    cc (same k (omega arith) (omega arith), every_same p q (k + 1) n (λ j l m. same j (omega arith) (omega arith)))
+every_same p q k (suc n) same = grind (arith, (every_same p q (k + 1) n (λ j l m. same j (omega arith) (omega arith))))
 
 pub first_same : (p q : ℕ → Bool) (k n : ℕ) → ((j : ℕ) → k ≤ j → j < k + n → p j ≡ q j) → first_from p k n ≡ first_from q k n
 first_same p q k zero same = refl
-first_same p q k (suc n) same =
-    cc (same k (omega arith) (omega arith), first_same p q (k + 1) n (λ j l m. same j (omega arith) (omega arith)))
+first_same p q k (suc n) same = grind (arith, (first_same p q (k + 1) n (λ j l m. same j (omega arith) (omega arith))))
 
 -- the first number that passes is c + 1
 first_after : (p : ℕ → Bool) (c k n : ℕ) → ((j : ℕ) → k ≤ j → j ≤ c → p j ≡ false) → p (c + 1) ≡ true → k ≤ c + 1
@@ -23,16 +21,8 @@ first_after p c k zero below here l =
     sym (ap (λ t. cond {A = Option ℕ} t (Some (c + 1)) None) f)
 first_after p c k (suc n) below here l =
     elim (cases_lt c k) [
-      | inl above ↦
-          let e : k ≡ c + 1 = omega arith in
-          let t : p k ≡ true = ap p e ∙ here in
-          let f : nat_lt (c + 1) (k + suc n) ≡ true = lt-ltb (c + 1) (k + suc n) (omega arith) in
-          ap (λ b. cond b (Some k) (first_from p (k + 1) n)) t ∙ ap (λ (z : ℕ). Some z) e ∙ sym (ap (λ t. cond {A = Option ℕ} t (Some (c + 1)) None) f)
-      | inr m ↦
-          let e : k + 1 + n ≡ k + suc n = omega arith in
-          ap (λ b. cond b (Some k) (first_from p (k + 1) n)) (below k (omega arith) m)
-          ∙ first_after p c (k + 1) n (λ j u v. below j (omega arith) v) here (omega arith)
-          ∙ ap (λ z. cond {A = Option ℕ} (nat_lt (c + 1) z) (Some (c + 1)) None) e
+      | inl above ↦ grind (arith, nat_tests, nat_lt, lt-ltb, first_from)
+      | inr m ↦ grind (arith, nat_tests, first_from, nat_lt, (first_after p c (k + 1) n (λ j u v. below j (omega arith) v) here (omega arith)))
     ]
 
 above_one : (c writes : ℕ) → nat_lt (c + 1) (1 + writes) ≡ nat_lt c writes
@@ -95,38 +85,40 @@ module _ (st : State) (log : Log) (t : Tracks st log) where
 
   pub note_same : Kept st.backups st.writes log → Numbered st.writes log → (act : Act)
       → FitsAct st.backups act → note_in st act ≡ note_of st.backups st.writes log act
-  note_same k h (Send i) l = next_send_same h i l
-  note_same k h (Deliver i j) f = arrival_same k i j f.0 f.1
-  note_same k h (Halt i) l = ap (λ z. cond z Nothing (Stop i)) (t.stopped i l)
+  note_same k h act l = grind (arith, nat_tests, next_send_same, arrival_same)
 
 -- the sites of a note exist
 send_fits : (backups i : ℕ) (may : Bool) (to : Option ℕ) (all : Bool) (val : Val) (left : Option ℕ)
     → i ≤ backups → ((j : ℕ) → to ≡ Some j → j ≤ backups) → NoteFits backups (send i may to all val left)
-send_fits backups i true (Some j) all val left l m = (l, m j refl)
-send_fits backups i true None true All (Some k) l m = l
-send_fits backups i true None true _ _ l m = l
-send_fits backups i _ _ _ val left l m = tt
+send_fits backups i may to all val left l m = grind (arith, nat_tests)
 
 arrival_fits : (backups : ℕ) (halted : Bool) (messages : List Message) (above : Bool) (i j : ℕ)
     → i ≤ backups → j ≤ backups → NoteFits backups (arrival halted messages above i j)
-arrival_fits backups halted [] above i j l m = tt
-arrival_fits backups true (x ∷ rest) above i j l m = tt
-arrival_fits backups false (GONE ∷ rest) above i j l m = (m, l)
-arrival_fits backups false (OK ∷ rest) above i j l m = (m, l)
-arrival_fits backups false (VALUE v ∷ rest) true i j l m = tt
-arrival_fits backups false (VALUE v ∷ rest) false i j l m = (m, l)
+arrival_fits backups halted messages above i j l m = grind (arith, nat_tests)
 
 halt_fits : (backups i : ℕ) (halted : Bool) → i ≤ backups → NoteFits backups (cond halted Nothing (Stop i))
-halt_fits backups i true l = tt
-halt_fits backups i false l = l
+halt_fits backups i halted l = grind (arith, nat_tests)
 
 pub note_fits : (st : State) (act : Act) → FitsAct st.backups act → NoteFits st.backups (note_in st act)
-note_fits st (Send i) l =
-    send_fits st.backups i (may_send st i) (first_from (untold_in st i) (i + 1) (st.backups - i))
-    (every_from (answered_in st i) (i + 1) (st.backups - i)) (value_in st i) (next_number_in st i) l
-    (λ j e. let f = first_at (untold_in st i) (i + 1) (st.backups - i) j e in let u = f.1 in omega arith)
-note_fits st (Deliver i j) f = arrival_fits st.backups (has_stopped st j) (messages_in st i j) (is_from_above (taken_in st j) i) i j f.0 f.1
-note_fits st (Halt i) l = halt_fits st.backups i (has_stopped st i) l
+note_fits st act l = grind (
+  arith,
+  nat_tests,
+  send_fits,
+  may_send,
+  first_from,
+  untold_in,
+  every_from,
+  answered_in,
+  value_in,
+  next_number_in,
+  first_at,
+  arrival_fits,
+  has_stopped,
+  messages_in,
+  is_from_above,
+  taken_in,
+  halt_fits,
+)
 
 -- the tables follow the log with one event more
 pub tracks_on : (old mid new : State) (log : Log) (act : Act) (note : Note)

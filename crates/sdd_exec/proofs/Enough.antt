@@ -1,5 +1,5 @@
 -- The kept choices stay enough to tell the answer.
-use Rattle.sdd_exec.proofs.All.{Agrees, Answers, AreEnough, AreSound, Choice, Condition, Has, IsAnswered, IsOutside, IsSifted, List, NoRepeats, None, Ref, Row, Some, TellsAnswer, Tie, TooMany, Tuple, [], all_rows, ap, arith, cases_Bool, choices_of_part, distinct, eq-eqb, extended, false, filter_map, inl, inr, is_taken, is_there, joined, key_for, key_of, keyed, length, lt-ltb, map, meets_all, nat_lt, pair_of, pairs_of, passes, picked, placed, product, refl, row_from, selection, slice_index, slice_index_or, subst, sym, ties_of, true, value_at, within, ℕ, ⊎_elim, ◌++◌, ◌+◌, ◌<◌, ◌==◌, ◌∙◌, ◌∷◌, ◌≡◌, ◌≤◌, ◌⊎◌}
+use Rattle.sdd_exec.proofs.All.{Agrees, Answers, AreEnough, AreSound, Choice, Condition, Has, IsAnswered, IsOutside, IsSifted, List, NoRepeats, None, Ref, Row, Some, TellsAnswer, Tie, TooMany, Tuple, [], all_rows, ap, arith, cases_Bool, choices_of_part, distinct, eq-eqb, extended, false, filter_map, inl, inr, is_taken, is_there, joined, key_for, key_of, keyed, length, lt-ltb, map, meets_all, nat_lt, pair_of, pairs_of, passes, picked, placed, product, refl, row_from, selection, slice_index, slice_index_or, subst, sym, ties_of, true, value_at, within, ℕ, ⊎_elim, ◌++◌, ◌+◌, ◌<◌, ◌==◌, ◌∙◌, ◌∷◌, ◌≡◌, ◌⊎◌}
 use Rattle.sdd_exec.proofs.Complete.{place_is_there, passes_all, ties_hold, keys_meet, keys_agree, has_keyed, has_place, placed_at, taken_or_new, same_places}
 use Rattle.sdd_exec.proofs.Distinct.{distinct_same, in_distinct, no_more_rows}
 use Rattle.sdd_exec.proofs.Inside.{place_old, sound_part, sound_joined}
@@ -14,11 +14,7 @@ each_or_many : (room : ℕ) (P Q : Row → Type 0) → ((row : Row) → P row �
 each_or_many room P Q step [] all = inl (λ row has. absurd has)
 each_or_many room P Q step (r ∷ rows) all =
     ⊎_elim
-    (λ (one : Q r).
-    ⊎_elim
-    (λ rest. inl (λ row has. ⊎_elim (λ (same : r ≡ row). subst Q same one) (λ later. rest row later) has))
-    (λ many. inr many)
-    (each_or_many room P Q step rows (λ row has. all row (inr has))))
+    (grind (arith, ⊎_elim, (each_or_many room P Q step rows (λ row has. all row (inr has)))))
     (λ many. inr many)
     (step r (all r (inl refl)))
 
@@ -38,9 +34,6 @@ enough_step rows room P Q step enough =
     (each_or_many room P Q step many.0 many.3))
     enough
 
-one_part : (part p : ℕ) → is_taken (part ∷ []) p ≡ true → part ≡ p
-one_part part p h = ⊎_elim (λ yes. absurd cc) (λ same. same) (taken_or_new [] part p h)
-
 module _ (parts : List (List Row)) (conds : List Condition) (out : List Ref) (room : ℕ) (taken : List ℕ) (kept : List Choice) (part : ℕ)
     (less : part < length parts) (new : is_taken taken part ≡ false) where
   -- a choice agrees with a kept one in the parts that were taken
@@ -48,20 +41,7 @@ module _ (parts : List (List Row)) (conds : List Condition) (out : List Ref) (ro
   Before t = (c : Choice) × Has kept c × Agrees parts taken c t
 
   before_outside : IsOutside parts (part ∷ []) Before
-  before_outside s t same before = (
-    before.0,
-    before.1,
-    λ p within old.
-        let apart : is_taken (part ∷ []) p ≡ false =
-        ⊎_elim
-        (λ (yes : is_taken (part ∷ []) p ≡ true).
-        let is : part ≡ p = one_part part p yes in
-        let never : true ≡ false = sym old ∙ subst (λ (q : ℕ). is_taken taken q ≡ false) is new in
-        absurd cc)
-        (λ (not : is_taken (part ∷ []) p ≡ false). not)
-        (cases_Bool (is_taken (part ∷ []) p)) in
-        before.2 p within old ∙ same p within apart,
-  )
+  before_outside s t same before = grind (arith, ⊎_elim, taken_or_new, cases_Bool)
 
   in_part : (row : Row) → IsAnswered parts conds out taken kept row → Answers parts conds out Before (part ∷ []) (choices_of_part parts conds part) row
   in_part row a =
@@ -70,8 +50,7 @@ module _ (parts : List (List Row)) (conds : List Condition) (out : List Ref) (ro
       let met : meets_all conds (picked parts t) ≡ true = a.2 in
       let rows : List Row = slice_index_or parts part [] in
       let place : ℕ = slice_index t part in
-      let is_row : slice_index_or (picked parts t) part [] ≡ slice_index_or rows place [] = row_of_picked parts t part in
-      let passing : passes part conds (slice_index_or rows place []) ≡ true = rw is_row at (passes_all (picked parts t) part conds met) in
+      let passing : passes part conds (slice_index_or rows place []) ≡ true = rw (row_of_picked parts t part) at (passes_all (picked parts t) part conds met) in
       let in_pairs : Has (keyed part conds [] 0 rows) ([], 0 + place) = has_keyed part conds [] 0 rows place (place_is_there parts t part less there) passing in
       let zero_first : 0 + place ≡ place = omega arith in
       let found : Has (keyed part conds [] 0 rows) ([], place) = rw zero_first at in_pairs in (
@@ -84,7 +63,7 @@ module _ (parts : List (List Row)) (conds : List Condition) (out : List Ref) (ro
           placed (length parts) [] part place,
           Has-map (placed (length parts) [] part) _ place (has_place _ [] place found),
           λ p within yes.
-              let same : part ≡ p = one_part part p yes in
+              let same : part ≡ p = (⊎_elim (λ yes. absurd cc) (λ same. same) (taken_or_new [] part p yes)) in
               subst (λ (q : ℕ). slice_index (placed (length parts) [] part place) q ≡ slice_index t q) same
               (placed_at (length parts) [] part place part less ∙ rw (eq-eqb part part refl) refl),
         ),
@@ -126,8 +105,7 @@ module _ (parts : List (List Row)) (conds : List Condition) (out : List Ref) (ro
           λ p within yes.
               ⊎_elim
               (λ old. place_old parts taken part place c less new p within old ∙ a.4.2 p within old)
-              (λ (same : part ≡ p).
-              subst (λ (q : ℕ). slice_index next q ≡ slice_index t q) same (placed_at (length parts) c part place part less ∙ rw first refl))
+              (grind (arith, slice_index, placed_at))
               (taken_or_new taken part p yes),
         ),
       )
@@ -158,15 +136,7 @@ module _ (parts : List (List Row)) (conds : List Condition) (out : List Ref) (ro
       )
 
 pub enough_start : (parts : List (List Row)) (conds : List Condition) (out : List Ref) (room : ℕ) → AreEnough parts conds out room [] ([] ∷ [])
-enough_start parts conds out room =
-    inl
-    (λ row has.
-    let one = Has-map_from (λ (tuple : Tuple). map (value_at tuple) out) (selection conds (product parts)) row has in
-    let two = Has-filter_from (meets_all conds) (product parts) one.0 one.1 in
-    let t = choice_of parts one.0 two.0 in
-    let met : meets_all conds (picked parts t.0) ≡ true = rw t.2 two.1 in
-    let is_row : map (value_at (picked parts t.0)) out ≡ row = rw t.2 one.2 in
-    (t.0, t.1, met, is_row, tt, ([], inl refl, λ p within yes. absurd cc)))
+enough_start parts conds out room = grind (arith, Has-map_from, Has-filter_from, choice_of)
 
 -- a row that stands when all parts are taken is found, and is one of the answer
 found_at_end : (parts : List (List Row)) (conds : List Condition) (out : List Ref) (taken : List ℕ) (kept : List Choice)
@@ -176,8 +146,7 @@ found_at_end parts conds out taken kept all row a =
     let t : Choice = a.0 in
     let c : Choice = a.5.0 in
     let same = same_places parts c t (λ p within. a.5.2 p within (all p within)) in
-    let there : is_there parts c ≡ true = same.1 ∙ a.1 in
-    let is_row : row_from parts out conds c ≡ Some row = rw (there, same.0, a.2, a.3) refl in
+    let is_row : row_from parts out conds c ≡ Some row = rw ((same.1 ∙ a.1), same.0, a.2, a.3) refl in
     let in_all : Has (selection conds (product parts)) (picked parts t) = Has-filter (meets_all conds) (product parts) (picked parts t)
     (picked_in_product parts t a.1) a.2 in (
       Has-filter_map (row_from parts out conds) kept c row a.5.1 is_row,
@@ -197,10 +166,7 @@ found_is_answer parts conds out kept row has =
 
 no_room_for : (room : ℕ) (rows xs : List Row) → room < length rows → NoRepeats rows → ((row : Row) → Has rows row → Has xs row)
     → within room (distinct xs) ≡ None
-no_room_for room rows xs more once all =
-    let fewer : length rows ≤ length (distinct xs) = no_more_rows rows (distinct xs) once (λ row has. in_distinct xs row (all row has)) in
-    let yes : nat_lt room (length (distinct xs)) ≡ true = lt-ltb _ _ (omega arith) in
-    rw yes refl
+no_room_for room rows xs more once all = grind (arith, no_more_rows, in_distinct, nat_lt, lt-ltb)
 
 -- when all parts are taken, the kept choices tell the answer
 pub tells_answer : (parts : List (List Row)) (conds : List Condition) (out : List Ref) (room : ℕ) (taken : List ℕ) (kept : List Choice)

@@ -1,19 +1,12 @@
 -- Choices that were extended by a row which its ties and its own conditions allow: their rows are there, and meet the conditions inside.
-use Rattle.sdd_exec.proofs.All.{AllInside, AreSound, Bool, Choice, Condition, Const, Has, IsThereIn, List, MeetsInside, None, Option, Ref, Row, Same, Some, Tie, Tuple, [], ap, arith, both, cases_Bool, choices_of_part, column, cond, cons_option, eq-eqb, eqb-true, extended, false, is_taken, joined, key_for, key_of, keyed, length, lists_decide, meets, nat_lt, pair_of, pairs_of, passes, passes_one, picked, placed, places, refl, same_row, slice_index, slice_index_or, subst, suc, sym, tie_between, tie_of, ties_of, true, true≢false, value_at, value_decides, ℕ, ⊎_elim, ◌++◌, ◌+◌, ◌-◌, ◌<◌, ◌==◌, ◌∙◌, ◌∷◌, ◌≡◌}
+use Rattle.sdd_exec.proofs.All.{AllInside, AreSound, Bool, Choice, Condition, Const, Has, IsThereIn, List, MeetsInside, None, Option, Ref, Row, Same, Some, Tie, Tuple, [], ap, arith, both, cases_Bool, choices_of_part, column, cond, cons_option, eq-eqb, eqb-true, extended, false, is_taken, joined, key_for, key_of, keyed, length, lists_decide, meets, nat_lt, pair_of, pairs_of, passes, passes_one, picked, placed, places, refl, same_row, slice_index, slice_index_or, subst, suc, sym, tie_of, ties_of, true, value_at, value_decides, ℕ, ⊎_elim, ◌++◌, ◌+◌, ◌-◌, ◌<◌, ◌==◌, ◌∙◌, ◌∷◌, ◌≡◌}
 use Rattle.sdd_exec.proofs.Complete.{value_agrees, placed_at, taken_or_new}
 use Rattle.sdd_exec.proofs.Members.{Has-map_from, Has-filter_from, Has-filter_map_from, Has-flat_map_from}
 use Rattle.sdd_exec.proofs.Picked.{value_in_picked}
 
 -- a part that was taken isn't one that wasn't
 other_part : (taken : List ℕ) (part p : ℕ) → is_taken taken part ≡ false → is_taken taken p ≡ true → (p == part) ≡ false
-other_part taken part p new old =
-    ⊎_elim
-    (λ (yes : (p == part) ≡ true).
-    let same : p ≡ part = eqb-true _ _ yes in
-    let there : is_taken taken part ≡ true = subst (λ (q : ℕ). is_taken taken q ≡ true) same old in
-    absurd (true≢false (sym there ∙ new)))
-    (λ (other : (p == part) ≡ false). other)
-    (cases_Bool (p == part))
+other_part taken part p new old = grind (arith, ⊎_elim, eqb-true, cases_Bool)
 
 keys_tail : (row : Row) (tuple : Tuple) (o : Option Tie) (ts : List Tie) → key_of (cons_option o ts) row ≡ key_for (cons_option o ts) tuple
     → key_of ts row ≡ key_for ts tuple
@@ -24,14 +17,6 @@ keys_head : (row : Row) (tuple : Tuple) (t : Tie) (o : Option Tie) (ts : List Ti
     → key_of (cons_option o ts) row ≡ key_for (cons_option o ts) tuple → column row t.column ≡ value_at tuple t.to
 keys_head row tuple t None ts same e = absurd cc
 keys_head row tuple t (Some u) ts same e = cc
-
-either_second : (t : Tie) (first second : Option Tie) → first ≡ None → second ≡ Some t → elim first [ None ↦ second | Some tie ↦ Some tie ] ≡ Some t
-either_second t None second e f = f
-either_second t (Some u) second e f = absurd cc
-
-either_none : (first second : Option Tie) → first ≡ None → second ≡ None → ◌≡◌ {A = Option Tie} (elim first [ None ↦ second | Some tie ↦ Some tie ]) None
-either_none None second e f = f
-either_none (Some u) second e f = absurd cc
 
 module _ (parts : List (List Row)) (taken : List ℕ) (part place : ℕ) (c : Choice) (less : part < length parts) (new : is_taken taken part ≡ false) where
   abbrev d : Choice
@@ -52,26 +37,8 @@ module _ (parts : List (List Row)) (taken : List ℕ) (part place : ℕ) (c : Ch
   value_old : (r : Ref) → is_taken taken (r.part - 1) ≡ true → value_at (picked parts d) r ≡ value_at (picked parts c) r
   value_old r old = value_agrees parts d c r (λ within. place_old (r.part - 1) within old)
 
-  value_new : (r : Ref) → part ≡ r.part - 1 → value_at (picked parts d) r ≡ column row r.column
-  value_new r same = value_in_picked parts d r ∙ rw (← same) (ap (λ (p : ℕ). column (slice_index_or (slice_index_or parts part []) p []) r.column) place_new)
-
   there_extended : IsThereIn parts taken c → place < length (slice_index_or parts part []) → IsThereIn parts group d
-  there_extended there here p within among =
-      ⊎_elim
-      (λ old. rw (place_old p within old) (there p within old))
-      (λ (same : part ≡ p). subst (λ (q : ℕ). slice_index d q < length (slice_index_or parts q [])) same (rw place_new here))
-      (taken_or_new taken part p among)
-
-  tie_left : (left right : Ref) → part ≡ left.part - 1 → is_taken taken (right.part - 1) ≡ true
-      → tie_of taken part (Same left right) ≡ Some (record { column = left.column; to = right })
-  tie_left left right same old = let here : (left.part - 1 == part) ≡ true = eq-eqb (left.part - 1) part (sym same) in cc
-
-  tie_right : (left right : Ref) → is_taken taken (left.part - 1) ≡ true → part ≡ right.part - 1
-      → tie_of taken part (Same left right) ≡ Some (record { column = right.column; to = left })
-  tie_right left right old same =
-      let other : (left.part - 1 == part) ≡ false = other_part taken part (left.part - 1) new old in
-      let here : (right.part - 1 == part) ≡ true = eq-eqb (right.part - 1) part (sym same) in
-      either_second _ (tie_between taken part left right) (tie_between taken part right left) (rw other refl) (rw (here, old) refl)
+  there_extended there here p within among = grind (arith, ⊎_elim, place_old, slice_index, d, slice_index_or, place_new, taken_or_new)
 
   same_met : (left right : Ref) → value_at (picked parts d) left ≡ value_at (picked parts d) right → meets (picked parts d) (Same left right) ≡ true
   same_met left right e = (value_decides (value_at (picked parts d) left) (value_at (picked parts d) right)).1 e
@@ -88,22 +55,10 @@ module _ (parts : List (List Row)) (taken : List ℕ) (part place : ℕ) (c : Ch
       (λ (r : part ≡ right.part - 1).
       same_met left right
       (value_old left l
-      ∙ sym (keys_head row (picked parts c) (record { column = right.column; to = left }) _ ts (tie_right left right l r) keys)
-      ∙ sym (value_new right r)))
+      ∙ sym (keys_head row (picked parts c) (record { column = right.column; to = left }) _ ts (grind (arith, other_part, eq-eqb)) keys)
+      ∙ sym (value_in_picked parts d right ∙ rw (← r) (ap (λ (p : ℕ). column (slice_index_or (slice_index_or parts part []) p []) right.column) place_new))))
       (taken_or_new taken part (right.part - 1) also))
-      (λ (l : part ≡ left.part - 1).
-      ⊎_elim
-      (λ (r : is_taken taken (right.part - 1) ≡ true).
-      same_met left right
-      (value_new left l
-      ∙ keys_head row (picked parts c) (record { column = left.column; to = right }) _ ts (tie_left left right l r) keys
-      ∙ sym (value_old right r)))
-      (λ (r : part ≡ right.part - 1).
-      let here : (left.part - 1 == part) ≡ true = eq-eqb (left.part - 1) part (sym l) in
-      let there : (right.part - 1 == part) ≡ true = eq-eqb (right.part - 1) part (sym r) in
-      let equal : column row left.column ≡ column row right.column = (value_decides (column row left.column) (column row right.column)).0 (rw (here, there) at passing) in
-      same_met left right (value_new left l ∙ equal ∙ sym (value_new right r)))
-      (taken_or_new taken part (right.part - 1) also))
+      (grind (arith, ⊎_elim, is_taken, same_met, value_in_picked, d, slice_index_or, place_new, keys_head, row, picked, column, value_old, eq-eqb, value_decides, taken_or_new))
       (taken_or_new taken part (left.part - 1) among)
 
   inside_extended : (conds : List Condition) → AllInside parts taken c conds → passes part conds row ≡ true
@@ -115,9 +70,7 @@ module _ (parts : List (List Row)) (taken : List ℕ) (part place : ℕ) (c : Ch
         λ among.
             ⊎_elim
             (λ old. rw (value_old left old) (inside.0 old))
-            (λ (same : part ≡ left.part - 1).
-            let here : (left.part - 1 == part) ≡ true = eq-eqb (left.part - 1) part (sym same) in
-            rw (value_new left same) (rw here at one))
+            (grind (arith, eq-eqb, value_in_picked, d, column, slice_index_or, place_new))
             (taken_or_new taken part (left.part - 1) among),
         inside_extended conds inside.1 b.1 keys,
       )
@@ -140,12 +93,7 @@ keyed_from part conds ties i (row ∷ rows) key place has =
     let at : i + 1 + r.0 ≡ place = r.2 in
     (suc r.0, omega arith, omega arith, r.3) in
     ⊎_elim
-    (λ (yes : passes part conds row ≡ true).
-    let among : Has ((key_of ties row, i) ∷ keyed part conds ties (i + 1) rows) (key, place) = rw yes at has in
-    ⊎_elim
-    (λ first. let same : i ≡ place = ap (λ (p : Row × ℕ). p.1) first in (0, omega arith, omega arith, yes))
-    later
-    among)
+    (grind (arith, passes, row, key_of, keyed, ⊎_elim))
     (λ (none : passes part conds row ≡ false). later (rw none at has))
     (cases_Bool (passes part conds row))
 
@@ -153,31 +101,12 @@ keyed_from part conds ties i (row ∷ rows) key place has =
 pub choice_of_part : (parts : List (List Row)) (conds : List Condition) (part : ℕ) (d : Choice) → Has (choices_of_part parts conds part) d
     → (place : ℕ) × (placed (length parts) [] part place ≡ d) × (place < length (slice_index_or parts part [])) ×
     (passes part conds (slice_index_or (slice_index_or parts part []) place []) ≡ true)
-choice_of_part parts conds part d has =
-    let rows : List Row = slice_index_or parts part [] in
-    let one = Has-map_from (placed (length parts) [] part) (places (keyed part conds [] 0 rows) []) d has in
-    let two = Has-map_from (λ (p : Row × ℕ). p.1) _ one.0 one.1 in
-    let three = Has-filter_from (λ (p : Row × ℕ). same_row p.0 []) (keyed part conds [] 0 rows) two.0 two.1 in
-    let from = keyed_from part conds [] 0 rows two.0.0 two.0.1 three.0 in
-    let zero_first : 0 + from.0 ≡ from.0 = omega arith in
-    let same : from.0 ≡ one.0 = sym zero_first ∙ from.2 ∙ two.2 in
-    (one.0, one.2, subst (λ (p : ℕ). p < length rows) same from.1, subst (λ (p : ℕ). passes part conds (slice_index_or rows p []) ≡ true) same from.3)
-
-no_tie : (part : ℕ) (from to : Ref) → tie_between [] part from to ≡ None
-no_tie part from to =
-    ⊎_elim (λ (here : (from.part - 1 == part) ≡ true). rw here refl) (λ (other : (from.part - 1 == part) ≡ false). rw other refl) (cases_Bool (from.part - 1 == part))
-
-cons_none : (o : Option Tie) (ts : List Tie) → o ≡ None → ts ≡ [] → cons_option o ts ≡ []
-cons_none None ts e none = none
-cons_none (Some t) ts e none = absurd cc
+choice_of_part parts conds part h4 has = grind (arith, d, slice_index_or, Has-map_from, Has-filter_from, keyed_from)
 
 no_ties : (part : ℕ) (conds : List Condition) → ties_of [] part conds ≡ []
 no_ties part [] = refl
 no_ties part (Const left op value ∷ conds) = no_ties part conds
-no_ties part (Same left right ∷ conds) =
-    cons_none (tie_of [] part (Same left right)) (ties_of [] part conds)
-    (either_none (tie_between [] part left right) (tie_between [] part right left) (no_tie part left right) (no_tie part right left))
-    (no_ties part conds)
+no_ties part (Same left right ∷ conds) = grind (arith, ⊎_elim, cases_Bool, (no_ties part conds))
 
 inside_none : (parts : List (List Row)) (c : Choice) (conds : List Condition) → AllInside parts [] c conds
 inside_none parts c [] = tt
@@ -192,15 +121,13 @@ pub sound_part : (parts : List (List Row)) (conds : List Condition) (part : ℕ)
 sound_part parts conds part less d has =
     let one = choice_of_part parts conds part d has in
     let row : Row = slice_index_or (slice_index_or parts part []) one.0 [] in
-    let keys : key_of (ties_of [] part conds) row ≡ key_for (ties_of [] part conds) (picked parts []) = rw (no_ties part conds) refl in
     subst (λ (e : Choice). IsThereIn parts (part ∷ []) e × AllInside parts (part ∷ []) e conds) one.1 (
       there_extended parts [] part one.0 [] less refl (λ p within yes. absurd cc) one.2,
-      inside_extended parts [] part one.0 [] less refl conds (inside_none parts [] conds) one.3 keys,
+      inside_extended parts [] part one.0 [] less refl conds (inside_none parts [] conds) one.3 (rw (no_ties part conds) refl),
     )
 
 found_pair : (here : Bool) (pair found : Row × ℕ) → cond here (Some pair) None ≡ Some found → (here ≡ true) × (pair ≡ found)
-found_pair true pair found e = (refl, cc)
-found_pair false pair found e = absurd cc
+found_pair here pair found e = grind arith
 
 pub sound_joined : (parts : List (List Row)) (conds : List Condition) (taken : List ℕ) (part : ℕ) (thin kept : List Choice) → part < length parts
     → is_taken taken part ≡ false
@@ -219,14 +146,13 @@ sound_joined parts conds taken part thin kept less new sound only d has =
     let five = Has-filter_map_from (pair_of parts ties part) thin three.0 four.0 in
     let six = found_pair (nat_lt (slice_index five.0 part) (length rows))
     (key_of ties (slice_index_or rows (slice_index five.0 part) []), slice_index five.0 part) three.0 five.2 in
-    let row_key : key_of ties (slice_index_or rows (slice_index five.0 part) []) ≡ three.0.0 = ap (λ (p : Row × ℕ). p.0) six.1 in
     let at_place : slice_index five.0 part ≡ three.0.1 = ap (λ (p : Row × ℕ). p.1) six.1 in
     let seven = choice_of_part parts conds part five.0 (only five.0 five.1) in
     let at : slice_index five.0 part ≡ seven.0 = subst (λ (e : Choice). slice_index e part ≡ seven.0) seven.1 (place_new parts taken part seven.0 [] less new) in
     let place : ℕ = two.0 in
     let same : seven.0 ≡ place = sym at ∙ at_place ∙ three.2 in
     let keys : key_of ties (slice_index_or rows place []) ≡ key_for ties (picked parts c) =
-    subst (λ (p : ℕ). key_of ties (slice_index_or rows p []) ≡ key_for ties (picked parts c)) (at_place ∙ three.2) (row_key ∙ key) in
+    subst (λ (p : ℕ). key_of ties (slice_index_or rows p []) ≡ key_for ties (picked parts c)) (at_place ∙ three.2) ((ap (λ (p : Row × ℕ). p.0) six.1) ∙ key) in
     let before = sound c one.1 in
     subst (λ (e : Choice). IsThereIn parts (taken ++ part ∷ []) e × AllInside parts (taken ++ part ∷ []) e conds) two.2 (
       there_extended parts taken part place c less new before.0 (subst (λ (p : ℕ). p < length rows) same seven.2),

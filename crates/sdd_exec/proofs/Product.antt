@@ -1,5 +1,5 @@
 -- The tuples of a product are the rows of the choices that are there; so a join finds the answer.
-use Rattle.sdd_exec.proofs.All.{Bool, Bor, Choice, Condition, Has, HasAll, List, None, Option, Ref, Row, Some, Tuple, [], ap, both, cases_Bool, cond, distinct, drop, false, filter_map, inl, is_there, le-ltb, length, lt-ltb, ltb-true, map, meets_all, nat_lt, picked, product, projection, refl, row_from, row_of_tuple, rows_lent, selection, slice_index, slice_index_or, take, take_all, true, value_at, within, ℕ, ⊎_elim, ◌<◌, ◌∙◌, ◌∷◌, ◌≡◌, ◌≤◌}
+use Rattle.sdd_exec.proofs.All.{Bool, Bor, Choice, Condition, Has, HasAll, List, None, Option, Ref, Row, Some, Tuple, [], arith, both, cases_Bool, cond, distinct, drop, filter_map, inl, is_there, le-ltb, length, lt-ltb, ltb-true, map, meets_all, nat_lt, picked, product, projection, refl, row_from, row_of_tuple, rows_lent, selection, slice_index, slice_index_or, take, take_all, true, value_at, within, ℕ, ⊎_elim, ◌<◌, ◌∙◌, ◌∷◌, ◌≡◌, ◌≤◌}
 use Rattle.sdd_exec.proofs.Members.{Has-map, Has-map_from, Has-filter, Has-filter_from, Has-flat_map, Has-flat_map_from, Has-filter_map, Has-filter_map_from, Has-get_or, place_of}
 use Rattle.sdd_exec.proofs.Distinct.{distinct_same}
 use Rattle.sdd_exec.proofs.Steps.{part_is_fewer}
@@ -21,12 +21,10 @@ choice_of (rows ∷ parts) u h =
     let two = Has-map_from (λ (tuple : Tuple). row ∷ tuple) (product parts) u one.2 in
     let rest = choice_of parts two.0 two.1 in
     let place = place_of rows row [] one.1 in
-    let there : nat_lt place.0 (length rows) ≡ true = lt-ltb _ _ place.1 in
-    (place.0 ∷ rest.0, rw there rest.1, rw (place.2, rest.2) two.2)
+    (place.0 ∷ rest.0, rw (lt-ltb _ _ place.1) rest.1, rw (place.2, rest.2) two.2)
 
 pub found_row : (there met : Bool) (row x : Row) → cond there (cond met (Some row) None) None ≡ Some x → (there ≡ true) × (met ≡ true) × (row ≡ x)
-found_row true true row x e = (refl, refl, cc)
-found_row _ _ row x e = absurd cc
+found_row there met row x e = grind arith
 
 pub join_is_answer : (parts : List (List Row)) (out : List Ref) (conds : List Condition) (kept : List Choice) → HasAll parts conds kept
     → distinct (filter_map (row_from parts out conds) kept) ≡ distinct (projection out (selection conds (product parts)))
@@ -38,9 +36,7 @@ join_is_answer parts out conds kept all =
     let f = found_row (is_there parts c) (meets_all conds (picked parts c)) (map (value_at (picked parts c)) out) x one.2 in
     let in_all : Has (selection conds (product parts)) (picked parts c) = Has-filter (meets_all conds) (product parts) (picked parts c)
     (picked_in_product parts c f.0) f.1 in
-    let projected : Has (projection out (selection conds (product parts))) (map (value_at (picked parts c)) out) = Has-map
-    (λ (tuple : Tuple). map (value_at tuple) out) _ (picked parts c) in_all in
-    rw f.2 at projected)
+    rw f.2 at (Has-map (λ (tuple : Tuple). map (value_at tuple) out) _ (picked parts c) in_all))
     (λ x h.
     let one = Has-map_from (λ (tuple : Tuple). map (value_at tuple) out) (selection conds (product parts)) x h in
     let two = Has-filter_from (meets_all conds) (product parts) one.0 one.1 in
@@ -59,10 +55,7 @@ no_room f kept i room h = let yes = lt-ltb _ _ (part_is_fewer f kept i room h) i
 pub all_found : {X : Type 0} (f : X → Option Row) (kept : List X) (i room : ℕ) (rows : List Row)
     → length kept ≤ i → rows ≡ distinct (filter_map f (take i kept)) → length rows ≤ room
     → Some rows ≡ within room (distinct (filter_map f kept))
-all_found f kept i room rows h e few =
-    let all : rows ≡ distinct (filter_map f kept) = e ∙ ap (λ xs. distinct (filter_map f xs)) (take_all i kept h) in
-    let no : nat_lt room (length rows) ≡ false = le-ltb _ _ few in
-    rw (← all, no)
+all_found f kept i room rows h e few = grind (arith, filter_map, take_all, nat_lt, le-ltb)
 
 -- the tuples of one part are its rows, one by one
 abbrev pub row_of_lent : List Ref → List Condition → Bor Row → Option Row
@@ -71,12 +64,7 @@ row_of_lent out conds row = row_of_tuple out conds (row.now ∷ [])
 pub one_part : (out : List Ref) (conds : List Condition) (lent : List (Bor Row))
     → filter_map (row_of_lent out conds) lent ≡ projection out (selection conds (product (rows_lent lent ∷ [])))
 one_part out conds [] = refl
-one_part out conds (r ∷ lent) =
-    let rest = one_part out conds lent in
-    ⊎_elim
-    (λ (yes : meets_all conds (r.now ∷ []) ≡ true). rw (yes, rest))
-    (λ (no : meets_all conds (r.now ∷ []) ≡ false). rw (no, rest))
-    (cases_Bool (meets_all conds (r.now ∷ [])))
+one_part out conds (r ∷ lent) = grind (arith, ⊎_elim, cases_Bool, (one_part out conds lent))
 
 pub no_room_of_one : (out : List Ref) (conds : List Condition) (lent : List (Bor Row)) (i room : ℕ)
     → room < length (distinct (filter_map (row_of_lent out conds) (take i lent)))

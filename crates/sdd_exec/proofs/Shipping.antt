@@ -1,5 +1,5 @@
 -- The steps of the loops over a snapshot.
-use Rattle.sdd_exec.proofs.All.{Catalogue, Condition, Database, Equal, Greater, Less, List, Row, Shipped, [], ap, arith, cond, false, filter, filter_map-append, fold, fold-append, insert_entry, int_cmp, key_in, length, map-range_with_len_more, match_ordering, meets_all, nat_cmp, nat_cmp_total, of_relation, parts_for, refl, rows_for, slice_index_or as get_or, take, take_more, tied_itself, true, with_chosen, with_row, ℕ, ℤ, ◌++◌, ◌+◌, ◌<◌, ◌∷◌, ◌≡◌}
+use Rattle.sdd_exec.proofs.All.{Catalogue, Condition, Database, List, Row, Shipped, [], arith, filter, filter_map-append, fold, fold-append, insert_entry, int_cmp, key_in, length, map-range_with_len_more, match_ordering, meets_all, nat_cmp, nat_cmp_total, of_relation, parts_for, refl, rows_for, slice_index_or as get_or, take, take_more, tied_itself, with_chosen, with_row, ℕ, ℤ, ◌++◌, ◌+◌, ◌<◌, ◌∷◌, ◌≡◌}
 
 pub rows_for_more : (snap : Shipped) (number : ℕ) (i : ℕ) (d : ℕ × Row) → i < length snap
     → rows_for (take (i + 1) snap) number ≡ rows_for (take i snap) number ++ rows_for (get_or snap i d ∷ []) number
@@ -9,17 +9,7 @@ rows_for_more snap number i d h = rw (take_more snap i d h, filter_map-append)
 pub put_by_key : (rel : ℕ) (keyed : List (ℤ × Row)) (key : ℤ) (row : Row)
     → of_relation rel (insert_entry int_cmp keyed key row) ≡ with_row (of_relation rel keyed) (rel, key) row
 put_by_key rel [] key row = refl
-put_by_key rel (e ∷ keyed) key row =
-    let rest = put_by_key rel keyed key row in
-    let same : nat_cmp rel rel ≡ Equal = tied_itself nat_cmp_total rel in
-    rw same
-    (elim (int_cmp key e.0) as (λ o. of_relation rel (match_ordering o ((key, row) ∷ e ∷ keyed) ((e.0, row) ∷ keyed) (e ∷ insert_entry int_cmp keyed key row))
-    ≡ match_ordering o (((rel, key), row) ∷ ((rel, e.0), e.1) ∷ of_relation rel keyed) (((rel, e.0), row) ∷ of_relation rel keyed)
-    (((rel, e.0), e.1) ∷ with_row (of_relation rel keyed) (rel, key) row)) [
-      | Less ↦ refl
-      | Equal ↦ refl
-      | Greater ↦ ap (λ es. ((rel, e.0), e.1) ∷ es) rest
-    ])
+put_by_key rel (e ∷ keyed) key row = grind (arith, nat_cmp, tied_itself, nat_cmp_total, int_cmp, match_ordering, insert_entry, (put_by_key rel keyed key row))
 
 pub chosen_more : (cat : Catalogue) (rel : ℕ) (conds : List Condition) (rows : List Row) (i : ℕ) (d : Row) → i < length rows
     → fold (with_chosen cat rel conds) [] (take (i + 1) rows) ≡ with_chosen cat rel conds (fold (with_chosen cat rel conds) [] (take i rows)) (get_or rows i d)
@@ -31,32 +21,17 @@ pub ruleset entry_steps = (put_by_key, chosen_more)
 pub chosen_one_by_one : (cat : Catalogue) (rel : ℕ) (conds : List Condition) (rows : List Row) (db : Database)
     → fold (λ db row. with_row db (rel, key_in cat rel row) row) db (filter (λ row. meets_all conds (row ∷ [])) rows) ≡ fold (with_chosen cat rel conds) db rows
 chosen_one_by_one cat rel conds [] db = refl
-chosen_one_by_one cat rel conds (row ∷ rows) db =
-    let f = λ (db : Database) (row : Row). with_row db (rel, key_in cat rel row) row in
-    let kept : List Row = filter (λ row. meets_all conds (row ∷ [])) rows in
-    let with_it = chosen_one_by_one cat rel conds rows (with_row db (rel, key_in cat rel row) row) in
-    let without = chosen_one_by_one cat rel conds rows db in
-    elim (meets_all conds (row ∷ [])) as
-    (λ b. fold f db (cond b (row ∷ kept) kept) ≡ fold (with_chosen cat rel conds) (cond b (with_row db (rel, key_in cat rel row) row) db) rows) [
-      | true ↦ with_it
-      | false ↦ without
-    ]
+chosen_one_by_one cat rel conds (row ∷ rows) db = grind (arith, (chosen_one_by_one cat rel conds rows (with_row db (rel, key_in cat rel row) row)), (chosen_one_by_one cat rel conds rows db))
 
 pub rows_next : (snap : Shipped) (number i : ℕ) (one : ℕ × Row) (before after : List Row) → i < length snap → one ≡ get_or snap i one
     → after ≡ before ++ rows_for (one ∷ []) number → before ≡ rows_for (take i snap) number
     → after ≡ rows_for (take (i + 1) snap) number
-rows_next snap number i one before after h e g b =
-    let step : rows_for (take (i + 1) snap) number ≡ rows_for (take i snap) number ++ rows_for (one ∷ []) number = rw (← e) at
-    (rows_for_more snap number i one h) in
-    rw (g, b, step)
+rows_next snap number i one before after h e g b = grind (arith, rows_for_more)
 
 pub chosen_next : (cat : Catalogue) (rel : ℕ) (conds : List Condition) (rows : List Row) (i : ℕ) (row : Row) (before after : Database) → i < length rows
     → row ≡ get_or rows i row → after ≡ with_chosen cat rel conds before row
     → before ≡ fold (with_chosen cat rel conds) [] (take i rows) → after ≡ fold (with_chosen cat rel conds) [] (take (i + 1) rows)
-chosen_next cat rel conds rows i row before after h e g b =
-    let step : fold (with_chosen cat rel conds) [] (take (i + 1) rows) ≡ with_chosen cat rel conds
-    (fold (with_chosen cat rel conds) [] (take i rows)) row = rw (← e) at (chosen_more cat rel conds rows i row h) in
-    rw (g, b, step)
+chosen_next cat rel conds rows i row before after h e g b = rw (g, b, (rw (← e) at (chosen_more cat rel conds rows i row h)))
 
 pub parts_next : (snap : Shipped) (before i number : ℕ) (rows : List Row) (done after : List (List Row)) → number ≡ before + i + 1
     → rows ≡ rows_for snap number → after ≡ done ++ rows ∷ [] → done ≡ parts_for snap before i → after ≡ parts_for snap before (i + 1)

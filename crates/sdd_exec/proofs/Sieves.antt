@@ -1,5 +1,5 @@
 -- What a sieve covers.
-use Rattle.sdd_exec.proofs.All.{Bool, Choice, Condition, Has, HasLike, IsCovered, IsSieve, IsSifted, List, Mesh, NoRepeats, Offered, Ref, Row, Sieve, TooMany, [], ap, append-nil, both, cases_Bool, cond, false, flat_map, flat_map-append, found_with, inl, inr, insert_key, is_apart, length, links_of, lists_decide, map, map-append, not, outs_of, picked, placed, refl, row_cmp, same_row, slice_index_or as get_or, subst, sym, take, take_more, true, value_at, value_decides, values_of, ℕ, ⊎_elim, ◌++◌, ◌+◌, ◌-◌, ◌<◌, ◌==◌, ◌∙◌, ◌∷◌, ◌≡◌}
+use Rattle.sdd_exec.proofs.All.{Bool, Choice, Condition, Has, HasLike, IsCovered, IsSieve, IsSifted, List, Mesh, NoRepeats, Offered, Ref, Row, Sieve, TooMany, [], ap, append-nil, arith, both, cases_Bool, cond, false, flat_map, flat_map-append, found_with, inl, insert_key, is_apart, length, links_of, lists_decide, map, map-append, not, outs_of, picked, placed, refl, row_cmp, same_row, slice_index_or as get_or, subst, sym, take, take_more, true, value_at, value_decides, values_of, ℕ, ⊎_elim, ◌++◌, ◌+◌, ◌-◌, ◌<◌, ◌==◌, ◌∙◌, ◌∷◌, ◌≡◌}
 use Rattle.sdd_exec.proofs.Complete.{value_agrees, placed_at}
 use Rattle.sdd_exec.proofs.Distinct.{new_or_old}
 use Rattle.sdd_exec.proofs.Members.{Has-left, Has-right, Has-append, Has-map_from}
@@ -15,11 +15,7 @@ like_still parts links outs kept next l o still like = (like.0, still like.0 lik
 covered_still : (parts : List (List Row)) (links outs : List Ref) (room : ℕ) (kept next : List Choice) (c : Choice)
     → ((d : Choice) → Has kept d → Has next d)
     → IsCovered parts links outs room kept c → IsCovered parts links outs room next c
-covered_still parts links outs room kept next c still covered =
-    ⊎_elim
-    (λ like. inl (like_still parts links outs kept next _ _ still like))
-    (λ many. inr (many_more room _ _ (λ row like. like_still parts links outs kept next _ row still like) many))
-    covered
+covered_still parts links outs room kept next c still covered = grind (arith, ⊎_elim, like_still, many_more)
 
 -- a sieve that has found more than there is room for
 pub full_is_many : (parts : List (List Row)) (mesh : Mesh) (sieve : Sieve) (room : ℕ) (l : Row) → IsSieve parts mesh sieve
@@ -33,45 +29,18 @@ offered_none parts mesh sieve is = record { sieve = is; covered = λ c has. absu
 -- offered some choices, and then others
 pub offered_append : (parts : List (List Row)) (mesh : Mesh) (a b c : Sieve) (xs ys : List Choice) → Offered parts mesh a b xs → Offered parts mesh b c ys
     → Offered parts mesh a c (xs ++ ys)
-offered_append parts mesh a b c xs ys first second =
-    record {
-      sieve = second.sieve;
-      covered =
-          λ d has.
-          ⊎_elim
-          (λ before. covered_still parts _ _ _ _ _ d second.still (first.covered d before))
-          (λ after. second.covered d after)
-          (Has-append xs ys d has);
-      still = λ d has. second.still d (first.still d has);
-      only =
-          λ d has.
-          ⊎_elim
-          (λ old. ⊎_elim (λ older. inl older) (λ x. inr (Has-left xs ys d x)) (first.only d old))
-          (λ y. inr (Has-right xs ys d y))
-          (second.only d has);
-    }
+offered_append parts mesh a b c xs ys first second = grind (arith, ⊎_elim, covered_still, Has-append, Has-left, Has-right)
 
 -- a sieve that is full for choices needn't keep them
 pub offered_full : (parts : List (List Row)) (mesh : Mesh) (sieve : Sieve) (choices : List Choice) (l : Row) → IsSieve parts mesh sieve
     → TooMany mesh.room (HasLike parts mesh.links.items mesh.outs.items sieve.kept.items l)
     → ((c : Choice) → Has choices c → values_of parts mesh.links.items c ≡ l) → Offered parts mesh sieve sieve choices
-offered_full parts mesh sieve choices l is many alike =
-    record {
-      sieve = is;
-      covered =
-          λ c has.
-          inr
-          (subst (λ (k : Row). TooMany mesh.room (HasLike parts mesh.links.items mesh.outs.items sieve.kept.items k)) (sym (alike c has)) many);
-      still = λ c has. has;
-      only = λ c has. inl has;
-    }
+offered_full parts mesh sieve choices l is many alike = grind arith
 
 pub offered_full_one : (parts : List (List Row)) (mesh : Mesh) (sieve : Sieve) (choice : Choice) → IsSieve parts mesh sieve
     → (mesh.room < length (found_with sieve (values_of parts mesh.links.items choice))) × NoRepeats (found_with sieve (values_of parts mesh.links.items choice))
     → Offered parts mesh sieve sieve (choice ∷ [])
-offered_full_one parts mesh sieve choice is full =
-    offered_full parts mesh sieve (choice ∷ []) (values_of parts mesh.links.items choice) is (full_is_many parts mesh sieve mesh.room _ is full)
-    (λ c has. ⊎_elim (λ (same : choice ≡ c). ap (values_of parts mesh.links.items) (sym same)) (λ none. absurd none) has)
+offered_full_one parts mesh sieve choice is full = grind (arith, offered_full, full_is_many, ⊎_elim)
 
 abbrev pub IsFoundWith : Sieve → Sieve → Row → Row → Type 0
 IsFoundWith old new l o = (q : Row) → found_with new q ≡ cond (same_row l q) (insert_key row_cmp (found_with old l) o) (found_with old q)
@@ -89,19 +58,7 @@ module _ (parts : List (List Row)) (mesh : Mesh) (old new : Sieve) (choice : Cho
   -- what was found before, or the new row
   found_by : IsSieve parts mesh old → IsFoundWith old new l o → Like new.kept.items l o → ((c : Choice) → Has old.kept.items c → Has new.kept.items c)
       → IsSieve parts mesh new
-  found_by is found like still k r has =
-      ⊎_elim
-      (λ (yes : same_row l k ≡ true).
-      let same : l ≡ k = (lists_decide value_decides l k).0 yes in
-      let among : Has (insert_key row_cmp (found_with old l) o) r = rw yes at (rw (found k) at has) in
-      ⊎_elim
-      (λ (new_row : o ≡ r). subst (λ (q : Row). Like new.kept.items q r) same (subst (λ (q : Row). Like new.kept.items l q) new_row like))
-      (λ before. subst (λ (q : Row). Like new.kept.items q r) same (like_still parts _ _ old.kept.items new.kept.items l r still (is l r before)))
-      (new_or_old (found_with old l) o r among))
-      (λ (no : same_row l k ≡ false).
-      let before : Has (found_with old k) r = rw no at (rw (found k) at has) in
-      like_still parts _ _ old.kept.items new.kept.items k r still (is k r before))
-      (cases_Bool (same_row l k))
+  found_by is found like still k r has = grind (arith, ⊎_elim, same_row, l, lists_decide, value_decides, insert_key, row_cmp, found_with, o, Like, like_still, new_or_old, cases_Bool)
 
   -- a choice that was kept
   pub offered_kept : IsSieve parts mesh old → IsFoundWith old new l o → new.kept.items ≡ old.kept.items ++ choice ∷ []
@@ -112,9 +69,7 @@ module _ (parts : List (List Row)) (mesh : Mesh) (old new : Sieve) (choice : Cho
       let like : Like new.kept.items l o = (choice, there, refl, refl) in
       record {
         sieve = found_by is found like still;
-        covered = λ c has. ⊎_elim
-            (λ (same : choice ≡ c). subst (λ (d : Choice). IsCovered parts mesh.links.items mesh.outs.items mesh.room new.kept.items d) same (inl like))
-            (λ none. absurd none) has;
+        covered = grind (arith, ⊎_elim);
         still = still;
         only = λ c has. Has-append old.kept.items (choice ∷ []) c (rw kept at has);
       }
@@ -122,21 +77,10 @@ module _ (parts : List (List Row)) (mesh : Mesh) (old new : Sieve) (choice : Cho
   -- a choice beside which one with its row was kept before
   pub offered_again : IsSieve parts mesh old → IsFoundWith old new l o → Has (found_with old l) o → new.kept.items ≡ old.kept.items
       → Offered parts mesh old new (choice ∷ [])
-  offered_again is found there kept =
-      let still : (c : Choice) → Has old.kept.items c → Has new.kept.items c = λ c has. rw kept has in
-      let like : Like new.kept.items l o = like_still parts _ _ old.kept.items new.kept.items l o still (is l o there) in
-      record {
-        sieve = found_by is found like still;
-        covered = λ c has. ⊎_elim
-            (λ (same : choice ≡ c). subst (λ (d : Choice). IsCovered parts mesh.links.items mesh.outs.items mesh.room new.kept.items d) same (inl like))
-            (λ none. absurd none) has;
-        still = still;
-        only = λ c has. inl (rw kept at has);
-      }
+  offered_again is found there kept = grind (arith, Like, l, o, like_still, found_by, ⊎_elim)
 
 pub not_true : (b : Bool) → not b ≡ true → b ≡ false
-not_true true h = absurd cc
-not_true false h = refl
+not_true b h = grind arith
 
 -- the links of a choice with another place of a part of which no link is
 values_apart : (parts : List (List Row)) (columns : List Ref) (choice : Choice) (part place : ℕ) → is_apart part columns ≡ true
@@ -144,11 +88,10 @@ values_apart : (parts : List (List Row)) (columns : List Ref) (choice : Choice) 
 values_apart parts [] choice part place h = refl
 values_apart parts (r ∷ columns) choice part place h =
     let b = both _ _ h in
-    let apart : (r.part - 1 == part) ≡ false = not_true (r.part - 1 == part) b.0 in
     let rest = values_apart parts columns choice part place b.1 in
     let one : value_at (picked parts (placed (length parts) choice part place)) r ≡ value_at (picked parts choice) r =
     value_agrees parts (placed (length parts) choice part place) choice r
-    (λ less. placed_at (length parts) choice part place (r.part - 1) less ∙ rw apart refl) in
+    (λ less. placed_at (length parts) choice part place (r.part - 1) less ∙ rw (not_true (r.part - 1 == part) b.0) refl) in
     cc
 
 pub offered_apart : (parts : List (List Row)) (mesh : Mesh) (sieve : Sieve) (choice : Choice) (part : ℕ) (places : List ℕ) → IsSieve parts mesh sieve
@@ -175,10 +118,9 @@ pub offered_more : {X : Type 0} (parts : List (List Row)) (mesh : Mesh) (a b c :
     → x ≡ get_or xs i x
     → Offered parts mesh a b (flat_map f (take i xs)) → Offered parts mesh b c (f x) → Offered parts mesh a c (flat_map f (take (i + 1) xs))
 offered_more parts mesh a b c f xs i x h e before one =
-    let last : flat_map f (get_or xs i x ∷ []) ≡ f x = append-nil (f (get_or xs i x)) ∙ ap f (sym e) in
     let split : flat_map f (take (i + 1) xs) ≡ flat_map f (take i xs) ++ f x =
     ap (flat_map f) (take_more xs i x h) ∙ flat_map-append f (take i xs) (get_or xs i x ∷ [])
-    ∙ ap (λ (ys : List Choice). flat_map f (take i xs) ++ ys) last in
+    ∙ ap (λ (ys : List Choice). flat_map f (take i xs) ++ ys) (append-nil (f (get_or xs i x)) ∙ ap f (sym e)) in
     subst (Offered parts mesh a c) (sym split) (offered_append parts mesh a b c (flat_map f (take i xs)) (f x) before one)
 
 -- what a sieve keeps that began with nothing

@@ -1,15 +1,6 @@
 -- Sifting the choices of a group loses no row of the answer, or else more rows are left than there is room for.
-use Rattle.sdd_exec.proofs.All.{Agrees, AllAlike, Answers, AreSound, Choice, Condition, Const, Has, IsOutside, IsSifted, List, NoRepeats, None, Option, OutsAlike, Ref, Row, Same, Some, TooMany, Value, [], arith, cases_Bool, cond, cons_option, false, inl, inr, is_taken, is_there, length, link_between, links_of, map, meets_all, outs_of, picked, refl, spliced, subst, sym, true, value_at, values_of, ℕ, ⊎_elim, ◌-◌, ◌<◌, ◌∙◌, ◌∷◌, ◌≡◌, ◌⊎◌}
+use Rattle.sdd_exec.proofs.All.{Agrees, AllAlike, Answers, AreSound, Choice, Condition, Const, Has, IsOutside, IsSifted, List, NoRepeats, Option, OutsAlike, Ref, Row, Same, TooMany, [], arith, cases_Bool, cond, false, inl, inr, is_taken, length, link_between, links_of, map, meets_all, outs_of, picked, refl, spliced, subst, sym, true, value_at, values_of, ℕ, ⊎_elim, ◌-◌, ◌<◌, ◌∙◌, ◌∷◌, ◌≡◌, ◌⊎◌}
 use Rattle.sdd_exec.proofs.Splices.{new_in, new_out, value_in, new_there, meets_new, outs_new, links_on, outs_on}
-
-values_tail : (f g : Ref → Value) (o : Option Ref) (rs : List Ref) → map f (cons_option o rs) ≡ map g (cons_option o rs) → map f rs ≡ map g rs
-values_tail f g None rs e = e
-values_tail f g (Some r) rs e = cc
-
-values_head : (f g : Ref → Value) (r : Ref) (o : Option Ref) (rs : List Ref) → o ≡ Some r → map f (cons_option o rs) ≡ map g (cons_option o rs)
-    → f r ≡ g r
-values_head f g r None rs same e = absurd cc
-values_head f g r (Some q) rs same e = cc
 
 -- choices with one value in each link are alike
 alike_by_values : (parts : List (List Row)) (group : List ℕ) (d c : Choice) (conds : List Condition)
@@ -20,13 +11,7 @@ alike_by_values parts group d c (Same left right ∷ conds) e =
     let f = value_at (picked parts d) in
     let g = value_at (picked parts c) in
     let o : Option Ref = link_between group left right in
-    let rs : List Ref = links_of group conds in (
-      (
-        λ yes not. let is : link_between group left right ≡ Some left = rw (yes, not) refl in values_head f g left o rs is e,
-        λ not yes. let is : link_between group left right ≡ Some right = rw (not, yes) refl in values_head f g right o rs is e,
-      ),
-      alike_by_values parts group d c conds (values_tail f g o rs e),
-    )
+    let rs : List Ref = links_of group conds in (grind (arith, link_between, (alike_by_values parts group d c conds (grind arith))))
 
 outs_by_values : (parts : List (List Row)) (group : List ℕ) (d c : Choice) (out : List Ref)
     → values_of parts (outs_of group out) d ≡ values_of parts (outs_of group out) c → OutsAlike parts group d c out
@@ -35,9 +20,8 @@ outs_by_values parts group d c (r ∷ out) e =
     ⊎_elim
     (λ (yes : is_taken group (r.part - 1) ≡ true).
     let both : values_of parts (r ∷ outs_of group out) d ≡ values_of parts (r ∷ outs_of group out) c = rw yes at e in
-    let first : value_at (picked parts d) r ≡ value_at (picked parts c) r = cc in
     let rest : values_of parts (outs_of group out) d ≡ values_of parts (outs_of group out) c = cc in
-    (λ inside. first, outs_by_values parts group d c out rest))
+    (λ inside. cc, outs_by_values parts group d c out rest))
     (λ (not : is_taken group (r.part - 1) ≡ false).
     let rest : values_of parts (outs_of group out) d ≡ values_of parts (outs_of group out) c = rw not at e in
     (λ inside. absurd (let never : true ≡ false = sym inside ∙ not in cc), outs_by_values parts group d c out rest))
@@ -52,12 +36,7 @@ listed group (r ∷ out) (v ∷ row) = cond (is_taken group (r.part - 1)) (v ∷
 listed_values : (parts : List (List Row)) (group : List ℕ) (t : Choice) (out : List Ref)
     → listed group out (values_of parts out t) ≡ values_of parts (outs_of group out) t
 listed_values parts group t [] = refl
-listed_values parts group t (r ∷ out) =
-    let rest = listed_values parts group t out in
-    ⊎_elim
-    (λ (yes : is_taken group (r.part - 1) ≡ true). rw (yes, rest))
-    (λ (not : is_taken group (r.part - 1) ≡ false). rw (not, rest))
-    (cases_Bool (is_taken group (r.part - 1)))
+listed_values parts group t (r ∷ out) = grind (arith, ⊎_elim, cases_Bool, (listed_values parts group t out))
 
 -- a splice has the listed values of what was put in
 outs_put_in : (parts : List (List Row)) (group : List ℕ) (d t : Choice) (out : List Ref)
@@ -67,8 +46,7 @@ outs_put_in parts group d t (r ∷ out) =
     let rest = outs_put_in parts group d t out in
     ⊎_elim
     (λ (yes : is_taken group (r.part - 1) ≡ true).
-    let one : value_at (picked parts (spliced (length parts) group d t)) r ≡ value_at (picked parts d) r = sym (value_in parts group d t r yes) in
-    rw (yes, one, rest))
+    rw (yes, (sym (value_in parts group d t r yes)), rest))
     (λ (not : is_taken group (r.part - 1) ≡ false). rw (not, rest))
     (cases_Bool (is_taken group (r.part - 1)))
 
@@ -97,7 +75,6 @@ pub sifted_answers : (parts : List (List Row)) (conds : List Condition) (out : L
     → Answers parts conds out Rest group kept row ⊎ TooMany room (Answers parts conds out Rest group kept)
 sifted_answers parts conds out room Rest group choices kept row outside sound sifted a =
     let t : Choice = a.0 in
-    let there : is_there parts t ≡ true = a.1 in
     let met : meets_all conds (picked parts t) ≡ true = a.2 in
     let is_row : map (value_at (picked parts t)) out ≡ row = a.3 in
     let rest : Rest t = a.4 in
@@ -108,7 +85,7 @@ sifted_answers parts conds out room Rest group choices kept row outside sound si
     (values_of parts out (spliced (length parts) group d t)) =
     λ d has links. (
       spliced (length parts) group d t,
-      new_there parts group d t (sound d has).0 there,
+      new_there parts group d t (sound d has).0 a.1,
       meets_new parts group d t conds (sound d has).1 (links_on parts group d c t conds agrees (alike_by_values parts group d c conds links)) met,
       refl,
       outside t (spliced (length parts) group d t) (new_out parts group d t) rest,

@@ -1,5 +1,5 @@
 -- Choices that agree in the linked and listed columns of a group stand for each other.
-use Rattle.sdd_exec.proofs.All.{Agrees, AllAlike, AllInside, Choice, Condition, Const, IsThereIn, LinksAlike, List, MeetsInside, OutsAlike, Ref, Row, Same, [], arith, both, cases_Bool, cond, drop, false, get_or-drop, get_or-map-range_with_len, is_taken, is_there, length, lt-ltb, map, meets, meets_all, nat_lt, picked, refl, slice_index, slice_index_or, spliced, suc, sym, true, value_at, value_decides, ℕ, ⊎_elim, ◌+◌, ◌-◌, ◌<◌, ◌∙◌, ◌∷◌, ◌≡◌}
+use Rattle.sdd_exec.proofs.All.{Agrees, AllAlike, AllInside, Choice, Condition, Const, IsThereIn, LinksAlike, List, MeetsInside, OutsAlike, Ref, Row, Same, [], arith, both, cases_Bool, cond, drop, false, get_or-drop, get_or-map-range_with_len, is_taken, is_there, length, lt-ltb, map, meets, meets_all, nat_lt, picked, refl, slice_index, slice_index_or, spliced, suc, sym, true, value_at, ℕ, ⊎_elim, ◌+◌, ◌-◌, ◌<◌, ◌∙◌, ◌∷◌, ◌≡◌}
 use Rattle.sdd_exec.proofs.Complete.{place_is_there, value_agrees}
 
 -- a choice each of whose places is one of its part is there
@@ -8,9 +8,7 @@ there_by_places : (parts : List (List Row)) (t : Choice) → ((p : ℕ) → p < 
 there_by_places [] t h = refl
 there_by_places (rows ∷ parts) t h =
     let first : nat_lt (slice_index t 0) (length rows) ≡ true = lt-ltb _ _ (h 0 (omega arith)) in
-    let later : (p : ℕ) → p < length parts → slice_index (drop 1 t) p < length (slice_index_or parts p []) =
-    λ p less. let one : 1 + p ≡ suc p = omega arith in rw (get_or-drop 1 t p 0, one) (h (suc p) (omega arith)) in
-    rw first (there_by_places parts (drop 1 t) later)
+    rw first (there_by_places parts (drop 1 t) (λ p less. let one : 1 + p ≡ suc p = omega arith in rw (get_or-drop 1 t p 0, one) (h (suc p) (omega arith))))
 
 pub spliced_at : (n : ℕ) (group : List ℕ) (c t : Choice) (p : ℕ) → p < n
     → slice_index (spliced n group c t) p ≡ cond (is_taken group p) (slice_index c p) (slice_index t p)
@@ -29,9 +27,6 @@ module _ (parts : List (List Row)) (group : List ℕ) (c t : Choice) where
   pub value_in : (r : Ref) → is_taken group (r.part - 1) ≡ true → value_at (picked parts c) r ≡ value_at (picked parts new) r
   value_in r e = value_agrees parts c new r (λ less. new_in (r.part - 1) less e)
 
-  value_out : (r : Ref) → is_taken group (r.part - 1) ≡ false → value_at (picked parts t) r ≡ value_at (picked parts new) r
-  value_out r e = value_agrees parts t new r (λ less. new_out (r.part - 1) less e)
-
   pub new_there : IsThereIn parts group c → is_there parts t ≡ true → is_there parts new ≡ true
   new_there here there =
       there_by_places parts new
@@ -43,50 +38,18 @@ module _ (parts : List (List Row)) (group : List ℕ) (c t : Choice) where
 
   meets_one : (k : Condition) → MeetsInside parts group c k → LinksAlike parts group c t k → meets (picked parts t) k ≡ true
       → meets (picked parts new) k ≡ true
-  meets_one (Const left op value) inside alike h =
-      ⊎_elim
-      (λ (yes : is_taken group (left.part - 1) ≡ true). rw (← value_in left yes) (inside yes))
-      (λ (no : is_taken group (left.part - 1) ≡ false). rw (← value_out left no) h)
-      (cases_Bool (is_taken group (left.part - 1)))
-  meets_one (Same left right) inside alike h =
-      let same : value_at (picked parts t) left ≡ value_at (picked parts t) right = (value_decides _ _).0 h in
-      let by = λ (e : value_at (picked parts new) left ≡ value_at (picked parts new) right).
-      (value_decides (value_at (picked parts new) left) (value_at (picked parts new) right)).1 e in
-      ⊎_elim
-      (λ (yes : is_taken group (left.part - 1) ≡ true).
-      ⊎_elim
-      (λ (also : is_taken group (right.part - 1) ≡ true).
-      by (sym (value_in left yes) ∙ (value_decides (value_at (picked parts c) left) (value_at (picked parts c) right)).0 (inside yes also) ∙ value_in right also))
-      (λ (not : is_taken group (right.part - 1) ≡ false).
-      by (sym (value_in left yes) ∙ alike.0 yes not ∙ same ∙ value_out right not))
-      (cases_Bool (is_taken group (right.part - 1))))
-      (λ (no : is_taken group (left.part - 1) ≡ false).
-      ⊎_elim
-      (λ (yes : is_taken group (right.part - 1) ≡ true).
-      by (sym (value_out left no) ∙ same ∙ sym (alike.1 no yes) ∙ value_in right yes))
-      (λ (not : is_taken group (right.part - 1) ≡ false).
-      by (sym (value_out left no) ∙ same ∙ value_out right not))
-      (cases_Bool (is_taken group (right.part - 1))))
-      (cases_Bool (is_taken group (left.part - 1)))
+  meets_one k inside alike h = grind (arith, ⊎_elim, value_in, value_agrees, new_out, cases_Bool, new)
 
   pub meets_new : (conds : List Condition) → AllInside parts group c conds → AllAlike parts group c t conds → meets_all conds (picked parts t) ≡ true
       → meets_all conds (picked parts new) ≡ true
   meets_new [] inside alike h = refl
   meets_new (k ∷ conds) inside alike h =
       let b = both _ _ h in
-      let one : meets (picked parts new) k ≡ true = meets_one k inside.0 alike.0 b.0 in
-      rw one (meets_new conds inside.1 alike.1 b.1)
+      rw (meets_one k inside.0 alike.0 b.0) (meets_new conds inside.1 alike.1 b.1)
 
   pub outs_new : (out : List Ref) → OutsAlike parts group c t out → map (value_at (picked parts new)) out ≡ map (value_at (picked parts t)) out
   outs_new [] alike = refl
-  outs_new (r ∷ out) alike =
-      let rest = outs_new out alike.1 in
-      let one : value_at (picked parts new) r ≡ value_at (picked parts t) r =
-      ⊎_elim
-      (λ (yes : is_taken group (r.part - 1) ≡ true). sym (value_in r yes) ∙ alike.0 yes)
-      (λ (no : is_taken group (r.part - 1) ≡ false). sym (value_out r no))
-      (cases_Bool (is_taken group (r.part - 1))) in
-      cc
+  outs_new (r ∷ out) alike = grind (arith, new, ⊎_elim, value_in, value_agrees, new_out, cases_Bool, (outs_new out alike.1))
 
 -- what is alike with one choice is alike with each that agrees with it in the group
 pub links_on : (parts : List (List Row)) (group : List ℕ) (d c t : Choice) (conds : List Condition) → Agrees parts group c t
@@ -94,18 +57,9 @@ pub links_on : (parts : List (List Row)) (group : List ℕ) (d c t : Choice) (co
     → AllAlike parts group d t conds
 links_on parts group d c t [] agrees h = tt
 links_on parts group d c t (Const left op value ∷ conds) agrees h = (tt, links_on parts group d c t conds agrees h.1)
-links_on parts group d c t (Same left right ∷ conds) agrees h = (
-  (
-    λ yes no. h.0.0 yes no ∙ value_agrees parts c t left (λ less. agrees (left.part - 1) less yes),
-    λ no yes. h.0.1 no yes ∙ value_agrees parts c t right (λ less. agrees (right.part - 1) less yes),
-  ),
-  links_on parts group d c t conds agrees h.1,
-)
+links_on parts group d c t (Same left right ∷ conds) agrees h = grind (arith, value_agrees, (links_on parts group d c t conds agrees h.1))
 
 pub outs_on : (parts : List (List Row)) (group : List ℕ) (d c t : Choice) (out : List Ref) → Agrees parts group c t → OutsAlike parts group d c out
     → OutsAlike parts group d t out
 outs_on parts group d c t [] agrees h = tt
-outs_on parts group d c t (r ∷ out) agrees h = (
-  λ yes. h.0 yes ∙ value_agrees parts c t r (λ less. agrees (r.part - 1) less yes),
-  outs_on parts group d c t out agrees h.1,
-)
+outs_on parts group d c t (r ∷ out) agrees h = grind (arith, value_agrees, (outs_on parts group d c t out agrees h.1))

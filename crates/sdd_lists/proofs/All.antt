@@ -9,7 +9,7 @@ pub use Rattle.std.proofs.lemmas.Simd.{map-map}
 pub use Rattle.sdd_script.proofs.catalog.NameLemmas.{any_of_find, has_name_of_items, list_any-map}
 pub use Rattle.sdd_script.proofs.catalog.RoundTrip.{parts_back}
 pub use Rattle.sdd_script.proofs.lang.ReadSetDecides.{each_both as all_before}
-pub use Rattle.sdd_script.specs.All.{AreNamed, AreValidLists, CatRule, Catalogue, Class, ClassPart, DuplicateName, FitsTxn, Fragment, FragmentPart, IsFragment, IsFrom1To, IsName, IsNamed, IsSoundCatalogue, IsValid, IsValidClass, IsValidRead, MAX_CLASSES, MAX_READS, Parts, ReadPart, ReadsWhereNoCopy, Text, TooMany, Txn, UnknownName, catalogue_of, class_of, class_part, class_rules, contains, copies_in, copies_of, emptied, eras, extended, faults_at, faults_of_class, found_from, found_in, fragment_at, fragment_named, fragment_names, fragment_part, has_copy, has_name, is_from_1_to, is_kept_at, joined, part_names, parts_of, read_names, read_rules, rel_no, repeats, retired, when, whole, write_rules}
+pub use Rattle.sdd_script.specs.All.{AreNamed, AreValidLists, CatRule, Catalogue, Class, ClassPart, DuplicateName, FitsTxn, Fragment, FragmentPart, IsFragment, IsFrom1To, IsName, IsNamed, IsSoundCatalogue, IsValid, IsValidClass, IsValidRead, MAX_CLASSES, MAX_READS, Parts, ReadPart, Text, TooMany, Txn, UnknownName, catalogue_of, class_of, class_part, class_rules, contains, copies_in, copies_of, emptied, eras, extended, faults_of_class, found_from, found_in, fragment_at, fragment_named, fragment_names, fragment_part, has_name, is_from_1_to, is_kept_at, joined, part_names, parts_of, read_names, read_rules, rel_no, repeats, retired, when, whole, write_rules}
 pub use Rattle.sdd_script.specs.declared.workload.Workload.{Workload}
 pub use Rattle.std.proofs.Common.{All, Bool, List, Option, Some, [], ap, append_assoc, arith, bytes_eq, cond, drop, false, find, length, length-append, map, map-id, nat_le, nat_lt, not, option_map, pos, refl, slice_index_or, subst, suc, sym, take, take-append-drop, true, zero, ℕ, ◌++◌, ◌+◌, ◌<◌, ◌==◌, ◌∙◌, ◌∷◌, ◌≡◌, ◌≤◌}
 pub use Rattle.std.proofs.lemmas.Bool.{or_parts as or_false}

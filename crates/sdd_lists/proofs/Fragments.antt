@@ -1,5 +1,5 @@
 -- The fragments that a class list names, among the parts of the catalogue.
-use Rattle.sdd_lists.proofs.All.{Bool, Catalogue, Fragment, FragmentPart, IsFragment, List, Option, Some, Text, [], any_of_find, ap, arith, bytes_eq, bytes_eq-Decides, cond, contains, copies_in, copies_of, differ_again, false, find, fragment_at, fragment_named, fragment_names, fragment_part, get_or_default, has_copy, has_name, has_name_of_items, is_kept_at, kept_at, length, list_any-map, map, option_map, parts_of, pos, range_with_len, refl, rel_no, slice_index_or, slice_index_or as get_or, some_there, suc, sym, true, ℕ, ◌+◌, ◌<◌, ◌==◌, ◌∙◌, ◌∷◌, ◌≡◌}
+use Rattle.sdd_lists.proofs.All.{Bool, Catalogue, Fragment, FragmentPart, IsFragment, List, Option, Some, Text, [], any_of_find, ap, arith, bytes_eq, bytes_eq-Decides, cond, contains, copies_in, copies_of, differ_again, false, find, fragment_at, fragment_named, fragment_names, fragment_part, get_or_default, has_name, has_name_of_items, is_kept_at, kept_at, length, list_any-map, map, option_map, parts_of, pos, range_with_len, refl, rel_no, slice_index_or, slice_index_or as get_or, some_there, suc, sym, true, ℕ, ◌+◌, ◌<◌, ◌==◌, ◌∙◌, ◌∷◌, ◌≡◌}
 
 -- what is found by numbers is found among the members with these numbers
 found_along : {A : Type 0} (p : A → Bool) (at : ℕ → A) (xs : List A) (a : ℕ) → ((k : ℕ) (d : A) → k < length xs → at (a + k) ≡ get_or xs k d)
@@ -22,20 +22,15 @@ same_found p q (x ∷ xs) same = let here = same x in let more = same_found p q 
 
 made_if : {A B : Type 0} (f : A → B) (b : Bool) (x : A) (o : Option A) (r : Option B) → r ≡ option_map f o
     → cond b (Some (f x)) r ≡ option_map f (cond b (Some x) o)
-made_if f true x o r e = refl
-made_if f false x o r e = e
+made_if f b x o r e = grind arith
 
 -- what is found among made members is made of what is found
 found_made : {A B : Type 0} (p : B → Bool) (f : A → B) (xs : List A) → find p (map f xs) ≡ option_map f (find (λ x. p (f x)) xs)
 found_made p f [] = refl
 found_made p f (x ∷ xs) = made_if f (p (f x)) x (find (λ y. p (f y)) xs) (find p (map f xs)) (found_made p f xs)
 
-either_way_if : (a b : Text) (t : Bool) → bytes_eq a b ≡ t → bytes_eq b a ≡ t
-either_way_if a b true e = let same : a ≡ b = (bytes_eq-Decides a b).0 e in (bytes_eq-Decides b a).1 (sym same)
-either_way_if a b false e = differ_again a b e
-
 either_way : (a b : Text) → bytes_eq a b ≡ bytes_eq b a
-either_way a b = sym (either_way_if a b (bytes_eq a b) refl)
+either_way a b = sym (grind (arith, bytes_eq-Decides, differ_again))
 
 abbrev relations_of : Catalogue → List Text
 relations_of cat = map (λ r. r.name) cat.relations
@@ -71,6 +66,5 @@ pub is_copied : (cat : Catalogue) (name : Text) (dm : ℕ) → IsFragment cat na
 is_copied cat name dm there kept =
     let number = some_there (fragment_named cat name) there.1 in
     let found = part_found cat name ∙ ap (λ (o : Option ℕ). option_map (fragment_part (relations_of cat)) (option_map (fragment_at cat) o)) number.1 in
-    let copied : has_copy cat dm number.0 ≡ true = sym (kept_at cat dm name number.0 number.1) ∙ kept in
     ap (λ o. contains (copies_in o) dm) found
-    ∙ list_any-map (λ n. n == dm) (λ d. d.0) (fragment_at cat number.0).copies ∙ copied
+    ∙ list_any-map (λ n. n == dm) (λ d. d.0) (fragment_at cat number.0).copies ∙ (sym (kept_at cat dm name number.0 number.1) ∙ kept)

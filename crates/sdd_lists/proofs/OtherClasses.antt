@@ -16,23 +16,12 @@ pub record MayFollow (cat : Catalogue) (own : List Class) (lists : List (List Cl
   pub few : length own + length (joined lists) ≤ MAX_CLASSES
 
 pub all_may_follow : (cat : Catalogue) (lists : List (List ClassPart)) → AreValidLists cat lists → MayFollow cat cat.classes lists
-all_may_follow cat lists valid = record {
-  classes = recursion_from_All (IsValidClass cat) (joined lists) valid.classes;
-  names = valid.names;
-  few = valid.few_classes;
-}
+all_may_follow cat lists valid = grind (arith, recursion_from_All)
 
 -- it is so too of classes with the same names
 by_names : (cat : Catalogue) (own other : List Class) (lists : List (List ClassPart)) → names_of other ≡ names_of own
     → MayFollow cat own lists → MayFollow cat other lists
-by_names cat own other lists same may =
-    let as_many : length other ≡ length own = sym (length-map other (λ (c : Class). c.name)) ∙ ap length same
-    ∙ length-map own (λ (c : Class). c.name) in
-    record {
-      classes = may.classes;
-      names = subst (λ (l : List Text). repeats (l ++ part_names (joined lists)) ≡ false) (sym same) may.names;
-      few = omega (arith, may.few, as_many);
-    }
+by_names cat own other lists same may = grind (arith, length-map)
 
 -- classes that are emptied keep their names
 emptied_names : (n : ℕ) (own : List Class) → names_of (map emptied (take n own) ++ drop n own) ≡ names_of own
@@ -51,30 +40,25 @@ part_names_of cat own = map-map (λ (c : ClassPart). c.name) (class_part (map (�
 
 joined_names : (own : List Text) (first : List ClassPart) (lists : List (List ClassPart))
     → own ++ part_names (first ++ joined lists) ≡ (own ++ part_names first) ++ part_names (joined lists)
-joined_names own first lists =
-    ap (λ (l : List Text). own ++ l) (map-append (λ (c : ClassPart). c.name) first (joined lists))
-    ∙ sym (append_assoc own (part_names first) (part_names (joined lists)))
+joined_names own first lists = grind (arith, map-append, append_assoc)
 
 any_in_front : (p : Text → Bool) (xs ys : List Text) → list_any p (xs ++ ys) ≡ false → list_any p xs ≡ false
 any_in_front p [] ys e = refl
 any_in_front p (x ∷ xs) ys e =
     let h = or_false (p x) (list_any p (xs ++ ys)) e in
-    let here = h.0 in
     let more = any_in_front p xs ys h.1 in
-    rw (here, more) refl
+    rw (h.0, more) refl
 
 repeats_in_front : (xs ys : List Text) → repeats (xs ++ ys) ≡ false → repeats xs ≡ false
 repeats_in_front [] ys e = refl
 repeats_in_front (x ∷ xs) ys e =
     let h = if_false (has_name (xs ++ ys) x) (repeats (xs ++ ys)) e in
-    let here : has_name xs x ≡ false = any_in_front (bytes_eq x) xs ys h.0 in
     let more = repeats_in_front xs ys h.1 in
-    rw (here, more) refl
+    rw ((any_in_front (bytes_eq x) xs ys h.0), more) refl
 
 pub none_further : (cat : Catalogue) (own : List Class) (first : List ClassPart) (lists : List (List ClassPart))
     → MayFollow cat own (first ∷ lists) → further_faults (over cat own) first ≡ []
 none_further cat own first lists may =
-    let names : part_names (parts_of (over cat own)).classes ≡ names_of own = part_names_of cat own in
     let as_many : length (parts_of (over cat own)).classes ≡ length own = length-map own _ in
     let once : repeats ((names_of own ++ part_names first) ++ part_names (joined lists)) ≡ false =
     subst (λ (l : List Text). repeats l ≡ false) (joined_names (names_of own) first lists) may.names in
@@ -82,15 +66,8 @@ none_further cat own first lists may =
     repeats_in_front (names_of own ++ part_names first) (part_names (joined lists)) once in
     classes_fine cat (parts_of (over cat own)).classes first
     (all_before (IsValidClass cat) first (joined lists) may.classes).0
-    (subst (λ (l : List Text). repeats (l ++ part_names first) ≡ false) (sym names) fronts)
+    (subst (λ (l : List Text). repeats (l ++ part_names first) ≡ false) (sym (part_names_of cat own)) fronts)
     (omega (arith, may.few, as_many, length-append first (joined lists)))
-
--- and the others may follow it
-added_names : (names : List Text) (own : List Class) (first : List ClassPart)
-    → names_of (own ++ map (class_of names) first) ≡ names_of own ++ part_names first
-added_names names own first =
-    map-append (λ (c : Class). c.name) own (map (class_of names) first)
-    ∙ ap (λ (l : List Text). names_of own ++ l) (map-map (λ (c : Class). c.name) (class_of names) first)
 
 pub others_may : (cat : Catalogue) (names : List Text) (own : List Class) (first : List ClassPart) (lists : List (List ClassPart))
     → MayFollow cat own (first ∷ lists) → MayFollow cat (own ++ map (class_of names) first) lists
@@ -99,8 +76,7 @@ others_may cat names own first lists may =
     length-append own (map (class_of names) first) ∙ ap (λ n. length own + n) (length-map first (class_of names)) in
     record {
       classes = (all_before (IsValidClass cat) first (joined lists) may.classes).1;
-      names = subst (λ (l : List Text). repeats l ≡ false)
-          (joined_names (names_of own) first lists ∙ ap (λ (l : List Text). l ++ part_names (joined lists)) (sym (added_names names own first))) may.names;
+      names = grind (arith, repeats, joined_names, names_of, part_names, joined, map-append, map-map);
       few = omega (arith, may.few, as_many, length-append first (joined lists));
     }
 

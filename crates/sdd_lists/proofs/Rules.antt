@@ -1,5 +1,5 @@
 -- Classes that a workload may declare break no rule behind those before them.
-use Rattle.sdd_lists.proofs.All.{All, AllByRecursion, Bool, CatRule, Catalogue, ClassPart, DuplicateName, IsFragment, IsFrom1To, IsValidClass, IsValidRead, List, MAX_CLASSES, MAX_READS, Parts, ReadPart, ReadsWhereNoCopy, Text, TooMany, UnknownName, [], any_none, ap, apart_before, append_assoc, arith, class_rules, contains, copies_of, false, faults_at, faults_of_class, found_from, found_in, fragment_names, has_name, is_from_1_to, length, length-append, map, map-append, map-id, nat_le, nat_lt, nat_tests, not, part_names, parts_of, read_names, read_rules, recursion_from_All, refl, repeats, subst, sym, true, two_empty, when, write_rules, ℕ, ◌++◌, ◌+◌, ◌<◌, ◌∙◌, ◌∷◌, ◌≡◌, ◌≤◌}
+use Rattle.sdd_lists.proofs.All.{All, AllByRecursion, Bool, CatRule, Catalogue, ClassPart, DuplicateName, IsFragment, IsFrom1To, IsValidClass, IsValidRead, List, MAX_CLASSES, MAX_READS, Parts, ReadPart, Text, TooMany, UnknownName, [], any_none, ap, apart_before, append_assoc, arith, class_rules, false, faults_of_class, found_from, found_in, has_name, is_from_1_to, length, length-append, map, map-append, map-id, nat_le, nat_lt, nat_tests, not, part_names, parts_of, read_names, read_rules, recursion_from_All, refl, repeats, subst, sym, true, two_empty, when, write_rules, ℕ, ◌++◌, ◌+◌, ◌<◌, ◌∙◌, ◌∷◌, ◌≡◌, ◌≤◌}
 use Rattle.sdd_lists.proofs.Fragments.{is_copied, is_named}
 use Rattle.sdd_script.specs.catalog.declared.fault.Part.TheVariants.{Class}
 use Rattle.sdd_script.specs.catalog.declared.fault.Counted.TheVariants as counted
@@ -19,12 +19,7 @@ six_empty : {A : Type 0} (a b c d e f : List A) → a ≡ [] → b ≡ [] → c 
 six_empty a b c d e f no_a no_b no_c no_d no_e no_f = rw (no_a, no_b, no_c, no_d, no_e, no_f) refl
 
 is_within : (most n : ℕ) → IsFrom1To most n → is_from_1_to most n ≡ true
-is_within most n within =
-    let from : 1 ≤ n = within.0 in
-    let to : n ≤ most = within.1 in
-    let a : nat_le 1 n ≡ true = grind (arith, nat_tests) in
-    let b : nat_le n most ≡ true = grind (arith, nat_tests) in
-    rw (a, b) refl
+is_within most n within = grind (arith, nat_le)
 
 -- Nothing is found at members of different names, of which there are few, where nothing is found at one whose name is new.
 none_found : {A B : Type 0} (f : List A → A → List B) (name : A → Text) (P : A → Type 0) (most : ℕ)
@@ -33,8 +28,7 @@ none_found : {A B : Type 0} (f : List A → A → List B) (name : A → Text) (P
     → length before + length xs ≤ most → found_from f before xs ≡ []
 none_found f name P most at before [] all once few = refl
 none_found f name P most at before (x ∷ xs) all once few =
-    let new : has_name (map name before) (name x) ≡ false = any_none _ _ (apart_before (map name before) (name x) (map name xs) once) in
-    let here : f before x ≡ [] = at before x all.0 new (omega (arith, few)) in
+    let here : f before x ≡ [] = at before x all.0 (any_none _ _ (apart_before (map name before) (name x) (map name xs) once)) (omega (arith, few)) in
     let names : map name (before ++ x ∷ []) ++ map name xs ≡ map name before ++ name x ∷ map name xs =
     ap (λ (l : List Text). l ++ map name xs) (map-append name before (x ∷ [])) ∙ append_assoc (map name before) (name x ∷ []) (map name xs) in
     let rest : found_from f (before ++ x ∷ []) xs ≡ [] =
@@ -49,33 +43,18 @@ module _ (cat : Catalogue) where
 
   -- what a class reads
 
-  read_fine : (before : List ReadPart) (r : ReadPart) → IsValidRead cat r
-      → has_name (map (λ (e : ReadPart). e.fragment) before) r.fragment ≡ false → read_rules Own before r ≡ []
-  read_fine before r valid new =
-      four_empty (when (not (has_name (fragment_names Own.fragments) r.fragment)) UnknownName)
-      (when (not (is_from_1_to Own.dms r.at)) UnknownName)
-      (when (has_name (map (λ (e : ReadPart). e.fragment) before) r.fragment) DuplicateName)
-      (when (not (contains (copies_of r.fragment Own.fragments) r.at)) ReadsWhereNoCopy)
-      (kept_so _ UnknownName (is_named cat r.fragment valid.fragment))
-      (kept_so _ UnknownName (is_within cat.dms r.at valid.module_is_there))
-      (kept _ DuplicateName new)
-      (kept_so _ ReadsWhereNoCopy (is_copied cat r.fragment r.at valid.fragment valid.copy))
-
   reads_fine : (reads : List ReadPart) → All (IsValidRead cat) reads → repeats (read_names reads) ≡ false
       → found_in (read_rules Own) reads ≡ []
   reads_fine reads valid once =
       none_found (read_rules Own) (λ (r : ReadPart). r.fragment) (IsValidRead cat) (length reads)
-      (λ before r fine new few. read_fine before r fine new)
+      (λ before r fine new few. (grind (arith, four_empty, Own, kept_so, is_named, is_within, kept, is_copied)))
       [] reads (recursion_from_All (IsValidRead cat) reads valid) once (omega arith)
 
   -- what a class writes
 
   write_fine : (before : List Text) (name : Text) → IsFragment cat name → has_name (map (λ (n : Text). n) before) name ≡ false
       → write_rules Own before name ≡ []
-  write_fine before name there new =
-      two_empty (when (not (has_name (fragment_names Own.fragments) name)) UnknownName) (when (has_name before name) DuplicateName)
-      (kept_so _ UnknownName (is_named cat name there))
-      (kept _ DuplicateName (subst (λ (l : List Text). has_name l name ≡ false) (map-id before) new))
+  write_fine before name there new = grind (arith, two_empty, Own, kept_so, is_named, kept, map-id)
 
   writes_fine : (writes : List Text) → All (IsFragment cat) writes → repeats writes ≡ false
       → found_in (write_rules Own) writes ≡ []
@@ -90,7 +69,6 @@ module _ (cat : Catalogue) where
   class_fine : (before : List ClassPart) (c : ClassPart) → IsValidClass cat c → has_name (part_names before) c.name ≡ false
       → length before < MAX_CLASSES → class_rules Own before c ≡ []
   class_fine before c valid new few =
-      let room : nat_le MAX_CLASSES (length before) ≡ false = grind (arith, nat_tests) in
       let reads : length c.reads ≤ MAX_READS = valid.few_reads in
       let few_reads : nat_lt MAX_READS (length c.reads) ≡ false = grind (arith, nat_tests) in
       six_empty (when (nat_le MAX_CLASSES (length before)) (TooMany counted.Class))
@@ -99,7 +77,7 @@ module _ (cat : Catalogue) where
       (when (nat_lt MAX_READS (length c.reads)) (TooMany counted.Read))
       (found_in (read_rules Own) c.reads)
       (found_in (write_rules Own) c.writes)
-      (kept _ (TooMany counted.Class) room)
+      (kept _ (TooMany counted.Class) (grind (arith, nat_tests)))
       (kept _ DuplicateName new)
       (kept_so _ UnknownName (is_within cat.tms c.tm valid.module_is_there))
       (kept _ (TooMany counted.Read) few_reads)
@@ -110,7 +88,4 @@ module _ (cat : Catalogue) where
   pub classes_fine : (before classes : List ClassPart) → AllByRecursion (IsValidClass cat) classes
       → repeats (part_names before ++ part_names classes) ≡ false → length before + length classes ≤ MAX_CLASSES
       → found_from (faults_of_class Own) before classes ≡ []
-  classes_fine before classes valid once few =
-      none_found (faults_of_class Own) (λ (c : ClassPart). c.name) (IsValidClass cat) MAX_CLASSES
-      (λ earlier c fine new room. ap (faults_at Class (length earlier + 1)) (class_fine earlier c fine new room))
-      before classes valid once few
+  classes_fine before classes valid once few = grind (arith, none_found, Own, class_fine)

@@ -1,5 +1,5 @@
 -- The catalogues that follow each other, one list more.
-use Rattle.sdd_lists.proofs.All.{AreValidLists, Catalogue, Class, ClassPart, Fragment, List, Text, [], ap, append_assoc, class_of, drop, drop_more, eras, extended, further_faults, length, map, numbered, refl, retired, slice_index_or as get_or, subst, sym, whole, with_further, ℕ, ◌++◌, ◌+◌, ◌<◌, ◌∙◌, ◌∷◌, ◌≡◌}
+use Rattle.sdd_lists.proofs.All.{AreValidLists, Catalogue, Class, ClassPart, Fragment, List, Text, [], ap, append_assoc, arith, class_of, drop, drop_more, eras, extended, further_faults, length, map, numbered, retired, slice_index_or as get_or, subst, sym, whole, with_further, ℕ, ◌++◌, ◌+◌, ◌<◌, ◌∙◌, ◌∷◌, ◌≡◌}
 use Rattle.sdd_lists.proofs.OtherClasses.{MayFollow, all_may_follow, none_further, others_may, over, retired_may}
 
 abbrev fragments_of : Catalogue → List Text
@@ -15,8 +15,7 @@ abbrev pub added : Catalogue → Catalogue → List ClassPart → Catalogue
 added cat last first = extended (map (class_of (fragments_of cat)) first) last
 
 pub added_is : (cat last : Catalogue) (first : List ClassPart) → last.fragments ≡ cat.fragments → with_further first last ≡ added cat last first
-added_is cat last first same =
-    ap (λ (fs : List Fragment). extended (map (class_of (map (λ (f : Fragment). f.name) fs)) first) last) same
+added_is cat last first same = grind arith
 
 -- nothing is broken where they may follow
 pub none_broken : (cat last : Catalogue) (first : List ClassPart) (lists : List (List ClassPart))
@@ -28,8 +27,7 @@ none_broken cat last first lists s =
 pub follows_more : (cat last next : Catalogue) (first : List ClassPart) (lists : List (List ClassPart)) → IsExtendedBy cat last (first ∷ lists)
     → next ≡ with_further first last → IsExtendedBy cat next lists
 follows_more cat last next first lists s e =
-    let now : next ≡ added cat last first = e ∙ added_is cat last first (ap (λ (c : Catalogue). c.fragments) s.is) in
-    subst (λ (c : Catalogue). IsExtendedBy cat c lists) (sym now) (record {
+    subst (λ (c : Catalogue). IsExtendedBy cat c lists) (sym (e ∙ added_is cat last first (ap (λ (c : Catalogue). c.fragments) s.is))) (record {
       is = ap (λ (c : Catalogue). extended (map (class_of (fragments_of cat)) first) c) s.is;
       may = others_may cat (fragments_of cat) last.classes first lists s.may;
     })
@@ -48,8 +46,7 @@ followed_by last first = with_further first (retired (length last.classes) last)
 -- before the first list
 
 pub begins : (cat last : Catalogue) (lists : List (List ClassPart)) → last ≡ cat → AreValidLists cat lists → IsExtendedBy cat last lists
-begins cat last lists is valid =
-    subst (λ (c : Catalogue). IsExtendedBy cat c lists) (sym is) (record { is = refl; may = all_may_follow cat lists valid })
+begins cat last lists is valid = grind (arith, IsExtendedBy, all_may_follow)
 
 pub eras_begin : (last cat : Catalogue) (before : List Catalogue) (lists : List (List Class)) → before ≡ [] → last ≡ cat
     → before ++ eras last lists ≡ eras cat lists
@@ -80,16 +77,7 @@ module _ (cat last : Catalogue) (lists : List (List ClassPart)) (i : ℕ) (item 
 
   pub era_more : (next old : Catalogue) (before after total : List Catalogue) → next ≡ followed_by last first → old ≡ last
       → after ≡ before ++ old ∷ [] → before ++ eras last (numbered cat (drop i lists)) ≡ total → after ++ eras next (numbered cat Others) ≡ total
-  era_more next old before after total e is grown so_far =
-      let retired_now : Catalogue = retired (length last.classes) last in
-      let now : next ≡ added cat retired_now first =
-      e ∙ added_is cat retired_now first (ap (λ (c : Catalogue). c.fragments) follows.is) in
-      ap (λ (l : List Catalogue). l ++ eras next (numbered cat Others)) grown
-      ∙ ap (λ (c : Catalogue). (before ++ c ∷ []) ++ eras next (numbered cat Others)) is
-      ∙ append_assoc before (last ∷ []) (eras next (numbered cat Others))
-      ∙ ap (λ (c : Catalogue). before ++ last ∷ eras c (numbered cat Others)) now
-      ∙ ap (λ (l : List (List ClassPart)). before ++ eras last (numbered cat l)) (sym left)
-      ∙ so_far
+  era_more next old before after total e is grown so_far = grind (arith, added, added_is, Others, append_assoc, left)
 
   -- in the whole catalogue
 
@@ -101,8 +89,4 @@ module _ (cat last : Catalogue) (lists : List (List ClassPart)) (i : ℕ) (item 
 
   pub whole_more : (next total : Catalogue) → next ≡ with_further first last
       → whole last (numbered cat (drop i lists)) ≡ total → whole next (numbered cat Others) ≡ total
-  whole_more next total e so_far =
-      let now : next ≡ added cat last first = e ∙ added_is cat last first (ap (λ (c : Catalogue). c.fragments) follows.is) in
-      ap (λ (c : Catalogue). whole c (numbered cat Others)) now
-      ∙ ap (λ (l : List (List ClassPart)). whole last (numbered cat l)) (sym left)
-      ∙ so_far
+  whole_more next total e so_far = grind (arith, added, added_is, Others, left)

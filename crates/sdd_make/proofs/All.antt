@@ -2,16 +2,16 @@
 pub use Rattle.sdd_make.specs.Bank.{bank, bank_is_valid, bank_parts}
 pub use Rattle.sdd_make.specs.Draws.{draw, next, shown}
 pub use Rattle.sdd_make.specs.Files.{eastpay_text, westpay_text}
-pub use Rattle.sdd_make.specs.Statements.{addition, asking, balances, compared, of_account, owners, payment, txn_at, txn_of, txn_of_kind}
+pub use Rattle.sdd_make.specs.Statements.{addition, asking, balances, of_account, owners, payment, txn_at, txn_of, txn_of_kind}
 pub use Rattle.sdd_make.specs.Summary.{is_commit, is_reject, is_wait}
 pub use Rattle.sdd_make.specs.Turns.{account_row, accounts, arrival, deliveries, delivery, drawn_events, drawn_txn, events_of, turn, turns, turns_of, txns_of, workload_of}
 pub use Rattle.sdd_script.proofs.NoLists.{IsNoRedeclare, timely_without}
 pub use Rattle.sdd_script.proofs.SoundStates.{one}
 pub use Rattle.sdd_script.proofs.base.Membership.{Contains-cases, Contains-nil}
 pub use Rattle.sdd_script.proofs.words.Texts.{is_text}
-pub use Rattle.sdd_script.specs.All.{Add, AreDistinct, AreTimely, AreValidLists, AssignsValue, CatFault, Condition, Const, D, Eq, Event, Fault, FitsAssign, FitsCondition, FitsRef, FitsStatement, Ge, HoldsValue, HoldsValues, Int, IsName, IsRelation, IsText, IsValid, IsValidClass, IsValidEvent, IsValidRow, IsValidTxn, IsValue, MAX_TXNS, Parts, RelNo, Settle, Stmt, Submit, T, TellsFirst, Txn, Value, begins_with_letter, dm_no, faults_of, has_name, head_of, is_keyword, is_name, is_name_byte, rel_no, repeats, rows_put_by, spelling, submitted_by, tm_no, txn_no}
+pub use Rattle.sdd_script.specs.All.{Add, AreDistinct, AreTimely, AreValidLists, AssignsValue, CatFault, Condition, Const, D, Eq, Event, Fault, FitsCondition, FitsRef, FitsStatement, Ge, HoldsValue, HoldsValues, Int, IsName, IsRelation, IsText, IsValid, IsValidClass, IsValidEvent, IsValidRow, IsValidTxn, IsValue, MAX_TXNS, Parts, RelNo, Settle, Stmt, Submit, T, TellsFirst, Txn, Value, dm_no, faults_of, has_name, head_of, is_name, is_name_byte, rel_no, repeats, rows_put_by, spelling, submitted_by, tm_no, txn_no}
 pub use Rattle.sdd_script.specs.base.declared.value.Value.TheVariants.{Text}
-pub use Rattle.std.proofs.Common.{All, Bool, Err, IfOk, List, None, Ok, OnOk, Result, Some, [], ap, append-nil, append_assoc, arith, bytes_eq, codes, cond, decimal, false, filter_map, inl, inr, length, length-append, map, nat_le, nat_lt, negsuc, not, pos, refl, rules, subst, suc, sum_by, sym, tests, true, zero, ℕ, ℤ, ◌%◌, ◌&&◌, ◌*◌, ◌++◌, ◌+◌, ◌-◌, ◌/◌, ◌<◌, ◌==◌, ◌^◌, ◌∙◌, ◌∷◌, ◌≡◌, ◌≢◌, ◌≤◌}
+pub use Rattle.std.proofs.Common.{All, Bool, IfOk, List, None, OnOk, Result, [], ap, append-nil, append_assoc, arith, bytes_eq, codes, cond, decimal, false, filter_map, inl, inr, length, length-append, map, nat_le, nat_lt, pos, refl, rules, subst, suc, sum_by, sym, tests, true, zero, ℕ, ℤ, ◌%◌, ◌&&◌, ◌*◌, ◌++◌, ◌+◌, ◌-◌, ◌<◌, ◌==◌, ◌^◌, ◌∙◌, ◌∷◌, ◌≡◌, ◌≤◌}
 pub use Rattle.std.proofs.lemmas.Bool.{and_from as both_are, false_from_ne_true}
 pub use Rattle.std.proofs.lemmas.Bool.Decides.{nat_tests}
 pub use Rattle.std.proofs.lemmas.Fmt.{decimal_by_steps, decimal_injective, length-decimal-le}

@@ -13,9 +13,8 @@ pub account_more : (first i id : ℕ) (row : RelNo × List Value) (old new whole
     → new ++ map account_row (range_with_len (first + (i + 1)) (10 - (i + 1))) ≡ whole
 account_more first i id row old new whole l at is put before =
     let left : 10 - i ≡ suc (10 - (i + 1)) = omega arith in
-    let next : first + (i + 1) ≡ first + i + 1 = omega arith in
     let rest : List (RelNo × List Value) = map account_row (range_with_len (first + i + 1) (10 - (i + 1))) in
-    ap (λ n. new ++ map account_row (range_with_len n (10 - (i + 1)))) next
+    ap (λ n. new ++ map account_row (range_with_len n (10 - (i + 1)))) (omega arith)
     ∙ ap (λ z. z ++ rest) (put ∙ ap (λ r. old ++ r ∷ []) (is ∙ ap account_row at))
     ∙ more old rest (account_row (first + i))
     ∙ sym (ap (λ n. old ++ map account_row (range_with_len (first + i) n)) left)
@@ -30,23 +29,12 @@ pub delivery_more : (count i x y k : ℕ) (e : Event) (old new whole : List Even
 delivery_more count i x y k e old new whole state l drawn after is put before =
     let left : count - i ≡ suc (count - (i + 1)) = omega arith in
     let rest : ℕ → List Event × ℕ = λ s. deliveries (count - (i + 1)) s in
-    let first : new ≡ old ++ delivery (draw 18 x).0 ∷ [] = put ∙ ap (λ d. old ++ d ∷ []) (is ∙ ap delivery drawn) in (
-      ap (λ s. new ++ (rest s).0) after
-          ∙ ap (λ z. z ++ (rest (draw 18 x).1).0) first
-          ∙ more old (rest (draw 18 x).1).0 (delivery (draw 18 x).0)
-          ∙ sym (ap (λ n. old ++ (deliveries n x).0) left)
-          ∙ before.0,
-      ap (λ s. (rest s).1) after ∙ sym (ap (λ n. (deliveries n x).1) left) ∙ before.1,
-    )
+    let first : new ≡ old ++ delivery (draw 18 x).0 ∷ [] = put ∙ ap (λ d. old ++ d ∷ []) (is ∙ ap delivery drawn) in (grind (arith, draw, more, delivery, deliveries))
 
 pub deliveries_end : (count i x : ℕ) (events whole : List Event) (state : ℕ) → count ≤ i
     → (events ++ (deliveries (count - i) x).0 ≡ whole) × ((deliveries (count - i) x).1 ≡ state)
     → (events ≡ whole) × (x ≡ state)
-deliveries_end count i x events whole state past all =
-    let none : count - i ≡ 0 = omega arith in (
-      sym (append-nil events) ∙ sym (ap (λ n. events ++ (deliveries n x).0) none) ∙ all.0,
-      sym (ap (λ n. (deliveries n x).1) none) ∙ all.1,
-    )
+deliveries_end count i x events whole state past all = grind (arith, append-nil)
 
 -- turns
 
@@ -59,24 +47,9 @@ turn_more n i x y txns new_txns all_txns events new_events all_events l after pu
     let left : n - i ≡ suc (n - (i + 1)) = omega arith in
     let s : ℕ = (turn (i + 1) x).1 in
     let rest_txns : ℕ → List Txn = λ z. txns_of (turns (n - (i + 1)) (i + 1 + 1) z).0 in
-    let rest_events : ℕ → List Event = λ z. events_of (turns (n - (i + 1)) (i + 1 + 1) z).0 in (
-      ap (λ z. new_txns ++ rest_txns z) after
-          ∙ ap (λ z. z ++ rest_txns s) put_txn
-          ∙ more txns (rest_txns s) ((turn (i + 1) x).0.txn)
-          ∙ sym (ap (λ m. txns ++ txns_of (turns m (i + 1) x).0) left)
-          ∙ before.0,
-      ap (λ z. new_events ++ rest_events z) after
-          ∙ ap (λ z. z ++ rest_events s) put_events
-          ∙ append_assoc events ((turn (i + 1) x).0.events) (rest_events s)
-          ∙ sym (ap (λ m. events ++ events_of (turns m (i + 1) x).0) left)
-          ∙ before.1,
-    )
+    let rest_events : ℕ → List Event = λ z. events_of (turns (n - (i + 1)) (i + 1 + 1) z).0 in (grind (arith, more, turn, txns_of, turns, append_assoc, events_of))
 
 pub turns_end : (n i x : ℕ) (txns all_txns : List Txn) (events all_events : List Event) → n ≤ i
     → (txns ++ txns_of (turns (n - i) (i + 1) x).0 ≡ all_txns) × (events ++ events_of (turns (n - i) (i + 1) x).0 ≡ all_events)
     → (txns ≡ all_txns) × (events ≡ all_events)
-turns_end n i x txns all_txns events all_events past all =
-    let none : n - i ≡ 0 = omega arith in (
-      sym (append-nil txns) ∙ sym (ap (λ m. txns ++ txns_of (turns m (i + 1) x).0) none) ∙ all.0,
-      sym (append-nil events) ∙ sym (ap (λ m. events ++ events_of (turns m (i + 1) x).0) none) ∙ all.1,
-    )
+turns_end n i x txns all_txns events all_events past all = grind (arith, append-nil)

@@ -1,5 +1,5 @@
 -- The names of the made transactions are names.
-use Rattle.sdd_make.proofs.All.{Bool, IsName, List, [], arith, begins_with_letter, both_are, codes, decimal, decimal_by_steps, false, is_keyword, is_name, is_name_byte, length, length-decimal-le, list_all, nat_le, nat_tests, not, refl, suc, true, ℕ, ◌%◌, ◌&&◌, ◌++◌, ◌+◌, ◌<◌, ◌^◌, ◌∷◌, ◌≡◌, ◌≤◌}
+use Rattle.sdd_make.proofs.All.{Bool, IsName, List, [], arith, both_are, codes, decimal, decimal_by_steps, false, is_name, is_name_byte, length, length-decimal-le, list_all, nat_le, nat_tests, refl, true, ℕ, ◌%◌, ◌&&◌, ◌++◌, ◌+◌, ◌<◌, ◌^◌, ◌∷◌, ◌≡◌, ◌≤◌}
 
 digit_fits : (n : ℕ) → n < 10 → is_name_byte (48 + n) ≡ true
 digit_fits n small = grind (arith, nat_tests)
@@ -21,14 +21,8 @@ digits_fit n small =
     n small
 
 short_fits : (ds : List ℕ) → length ds ≤ 31 → list_all is_name_byte ds ≡ true → is_name (116 ∷ ds) ≡ true
-short_fits ds short all =
-    let le : nat_le (suc (length ds)) 32 ≡ true = grind (arith, nat_tests) in
-    both_are (begins_with_letter (116 ∷ ds) && nat_le (length (116 ∷ ds)) 32 && list_all is_name_byte (116 ∷ ds)) (not (is_keyword (116 ∷ ds)))
-    (both_are (begins_with_letter (116 ∷ ds) && nat_le (length (116 ∷ ds)) 32) (list_all is_name_byte (116 ∷ ds))
-    (both_are (begins_with_letter (116 ∷ ds)) (nat_le (length (116 ∷ ds)) 32) refl le) all)
-    refl
+short_fits ds short all = grind (arith, nat_le, both_are, list_all)
 
 pub number_named : (n : ℕ) → n < 2 ^ 32 → IsName (codes "t" ++ decimal n)
 number_named n small =
-    let short : length (decimal n) ≤ 31 = omega (arith, length-decimal-le 10 n (omega arith) (omega arith) (omega arith)) in
-    short_fits (decimal n) short (digits_fit n (omega arith))
+    short_fits (decimal n) (omega (arith, length-decimal-le 10 n (omega arith) (omega arith) (omega arith))) (digits_fit n (omega arith))

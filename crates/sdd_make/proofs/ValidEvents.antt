@@ -1,5 +1,5 @@
 -- The made events are valid, and each transaction is submitted once.
-use Rattle.sdd_make.proofs.All.{All, All-append, All-cons, All-nil, AreDistinct, D, Event, IsNoRedeclare, IsValidEvent, IsValidTxn, None, Submit, T, [], ap, arith, arrival, bank, deliveries, delivery, dm_no, draw, drawn_events, drawn_txn, events_of, filter_map, filter_map-append, get_or-range_with_len, length, length-append, length-range_with_len, nat_lt, next, range_with_len, refl, rows_put_by, shown, submitted_by, suc, sum_by, sum_by-cons, tm_no, turn, turns, txn_no, txns_of, zero, ℕ, ◌%◌, ◌*◌, ◌++◌, ◌+◌, ◌/◌, ◌<◌, ◌^◌, ◌∙◌, ◌∷◌, ◌≡◌, ◌≤◌}
+use Rattle.sdd_make.proofs.All.{All, All-append, All-cons, All-nil, AreDistinct, D, Event, IsNoRedeclare, IsValidEvent, IsValidTxn, None, Submit, T, [], ap, arith, arrival, bank, deliveries, delivery, dm_no, draw, drawn_events, drawn_txn, events_of, filter_map, filter_map-append, get_or-range_with_len, length, length-append, length-range_with_len, nat_lt, next, range_with_len, refl, rows_put_by, shown, submitted_by, suc, sum_by, sum_by-cons, tm_no, turn, turns, txn_no, txns_of, zero, ℕ, ◌*◌, ◌++◌, ◌+◌, ◌^◌, ◌∙◌, ◌∷◌, ◌≡◌, ◌≤◌}
 use Rattle.sdd_make.proofs.ValidTxns.{choose, txn_valid, puts_none}
 
 -- deliveries
@@ -10,19 +10,9 @@ t_to_d n t d a b e f = (((a, b), (e, f), refl), (omega arith, omega arith))
 d_to_t : (n t d : ℕ) → 1 ≤ t → t ≤ 3 → 1 ≤ d → d ≤ 3 → IsValidEvent bank n (arrival (D (dm_no d)) (T (tm_no t)))
 d_to_t n t d a b e f = (((e, f), (a, b), refl), (omega arith, omega arith))
 
-delivery_valid : (n k : ℕ) → IsValidEvent bank n (delivery k)
-delivery_valid n k =
-    let t : ℕ = (k % 9) / 3 + 1 in
-    let d : ℕ = k % 3 + 1 in
-    choose (IsValidEvent bank n) (nat_lt k 9) (arrival (T (tm_no t)) (D (dm_no d))) (arrival (D (dm_no d)) (T (tm_no t)))
-    (t_to_d n t d (omega arith) (omega arith) (omega arith) (omega arith))
-    (d_to_t n t d (omega arith) (omega arith) (omega arith) (omega arith))
-
 deliveries_valid : (n count x : ℕ) → All (IsValidEvent bank n) (deliveries count x).0
 deliveries_valid n zero x = All-nil (IsValidEvent bank n)
-deliveries_valid n (suc count) x =
-    All-cons (IsValidEvent bank n) (delivery (draw 18 x).0) (deliveries count (draw 18 x).1).0 (delivery_valid n (draw 18 x).0)
-    (deliveries_valid n count (draw 18 x).1)
+deliveries_valid n (suc count) x = grind (arith, choose, nat_lt, t_to_d, d_to_t, (deliveries_valid n count (draw 18 x).1))
 
 deliveries_count : (count x : ℕ) → length (deliveries count x).0 ≡ count
 deliveries_count zero x = refl
@@ -32,10 +22,7 @@ abbrev SubmitsNone : Event → Type 0
 SubmitsNone e = submitted_by e ≡ None
 
 delivery_submits_none : (k : ℕ) → submitted_by (delivery k) ≡ None
-delivery_submits_none k =
-    let t : ℕ = (k % 9) / 3 + 1 in
-    let d : ℕ = k % 3 + 1 in
-    choose SubmitsNone (nat_lt k 9) (arrival (T (tm_no t)) (D (dm_no d))) (arrival (D (dm_no d)) (T (tm_no t))) refl refl
+delivery_submits_none k = grind (arith, choose, SubmitsNone, nat_lt)
 
 deliveries_submit_none : (count x : ℕ) → filter_map submitted_by (deliveries count x).0 ≡ []
 deliveries_submit_none zero x = refl
@@ -43,31 +30,17 @@ deliveries_submit_none (suc count) x = rw (delivery_submits_none (draw 18 x).0) 
 
 -- none is a `redeclare`
 
-delivery_no_redeclare : (k : ℕ) → IsNoRedeclare (delivery k)
-delivery_no_redeclare k =
-    let t : ℕ = (k % 9) / 3 + 1 in
-    let d : ℕ = k % 3 + 1 in
-    choose IsNoRedeclare (nat_lt k 9) (arrival (T (tm_no t)) (D (dm_no d))) (arrival (D (dm_no d)) (T (tm_no t))) refl refl
-
 deliveries_no_redeclare : (count x : ℕ) → All IsNoRedeclare (deliveries count x).0
 deliveries_no_redeclare zero x = All-nil IsNoRedeclare
-deliveries_no_redeclare (suc count) x =
-    All-cons IsNoRedeclare (delivery (draw 18 x).0) (deliveries count (draw 18 x).1).0 (delivery_no_redeclare (draw 18 x).0)
-    (deliveries_no_redeclare count (draw 18 x).1)
+deliveries_no_redeclare (suc count) x = grind (arith, IsNoRedeclare, choose, nat_lt, (deliveries_no_redeclare count (draw 18 x).1))
 
 -- turns
-
-txn_drawn : (i x : ℕ) → i < 2 ^ 32 → IsValidTxn bank (drawn_txn i x).0
-txn_drawn i x small =
-    let b : ℕ = shown 10 (next (next x)) in
-    let c : ℕ = shown 10 (next (next (next x))) in
-    txn_valid i (shown 4 (next x)) b c small (omega arith) (omega arith)
 
 pub txns_valid : (count i x : ℕ) → i + count ≤ 2 ^ 32 → All (IsValidTxn bank) (txns_of (turns count i x).0)
 txns_valid zero i x l = All-nil (IsValidTxn bank)
 txns_valid (suc count) i x l =
     let y : ℕ = (turn i x).1 in
-    All-cons (IsValidTxn bank) (drawn_txn i x).0 (txns_of (turns count (i + 1) y).0) (txn_drawn i x (omega arith)) (txns_valid count (i + 1) y (omega arith))
+    All-cons (IsValidTxn bank) (drawn_txn i x).0 (txns_of (turns count (i + 1) y).0) (grind (arith, txn_valid)) (txns_valid count (i + 1) y (omega arith))
 
 pub txns_count : (count i x : ℕ) → length (txns_of (turns count i x).0) ≡ count
 txns_count zero i x = refl
@@ -77,10 +50,9 @@ pub no_puts : (count i x : ℕ) → sum_by rows_put_by (txns_of (turns count i x
 no_puts zero i x = refl
 no_puts (suc count) i x =
     let y : ℕ = (turn i x).1 in
-    let first = puts_none i (shown 4 (next x)) (shown 10 (next (next x))) (shown 10 (next (next (next x)))) in
     let rest = no_puts count (i + 1) y in
     let both = sum_by-cons rows_put_by (drawn_txn i x).0 (txns_of (turns count (i + 1) y).0) in
-    omega (arith, first, rest, both)
+    omega (arith, (puts_none i (shown 4 (next x)) (shown 10 (next (next x))) (shown 10 (next (next (next x))))), rest, both)
 
 events_drawn : (n i x : ℕ) → 1 ≤ i → i ≤ n → All (IsValidEvent bank n) (drawn_events i x).0
 events_drawn n i x l u =
@@ -94,16 +66,11 @@ events_valid n (suc count) i x l u =
     All-append (IsValidEvent bank n) (drawn_events i y).0 (events_of (turns count (i + 1) (turn i x).1).0)
     (events_drawn n i y l (omega arith)) (events_valid n count (i + 1) (turn i x).1 (omega arith) (omega arith))
 
-drawn_no_redeclare : (i x : ℕ) → All IsNoRedeclare (drawn_events i x).0
-drawn_no_redeclare i x =
-    let y : ℕ = next x in
-    All-cons IsNoRedeclare (Submit (txn_no i)) (deliveries (shown 4 y) y).0 refl (deliveries_no_redeclare (shown 4 y) y)
-
 pub no_redeclare : (count i x : ℕ) → All IsNoRedeclare (events_of (turns count i x).0)
 no_redeclare zero i x = All-nil IsNoRedeclare
 no_redeclare (suc count) i x =
     let y : ℕ = (drawn_txn i x).1 in
-    All-append IsNoRedeclare (drawn_events i y).0 (events_of (turns count (i + 1) (turn i x).1).0) (drawn_no_redeclare i y)
+    All-append IsNoRedeclare (drawn_events i y).0 (events_of (turns count (i + 1) (turn i x).1).0) (grind (arith, IsNoRedeclare, deliveries_no_redeclare))
     (no_redeclare count (i + 1) (turn i x).1)
 
 few_drawn : (i x : ℕ) → length (drawn_events i x).0 ≤ 4
@@ -114,10 +81,9 @@ few_events zero i x = omega arith
 few_events (suc count) i x =
     let y : ℕ = (drawn_txn i x).1 in
     let z : ℕ = (turn i x).1 in
-    let both = length-append (drawn_events i y).0 (events_of (turns count (i + 1) z).0) in
     let first = few_drawn i y in
     let rest = few_events count (i + 1) z in
-    omega (arith, both, first, rest)
+    omega (arith, (length-append (drawn_events i y).0 (events_of (turns count (i + 1) z).0)), first, rest)
 
 -- the numbers of the submitted transactions
 pub submitted : (count i x : ℕ) → filter_map submitted_by (events_of (turns count i x).0) ≡ range_with_len i count
@@ -130,8 +96,4 @@ submitted (suc count) i x =
     ∙ ap (λ ns. i ∷ ns) (submitted count (i + 1) z)
 
 pub numbers_differ : (a n : ℕ) → AreDistinct (range_with_len a n)
-numbers_differ a n i k below within d same =
-    let long = length-range_with_len a n in
-    let first = get_or-range_with_len a n i d (omega (arith, long, within, below)) in
-    let second = get_or-range_with_len a n k d (omega (arith, long, within)) in
-    omega (arith, first, second, same, below)
+numbers_differ a n i k below within d same = grind (arith, length-range_with_len, get_or-range_with_len)

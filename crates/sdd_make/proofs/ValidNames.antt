@@ -1,5 +1,5 @@
 -- The names of the made transactions differ.
-use Rattle.sdd_make.proofs.All.{List, Txn, ap, append_cancel_left, arith, bytes_eq, bytes_eq-Decides, codes, decimal, decimal_injective, false, false_from_ne_true, has_name, map, next, range_with_len, refl, repeats, shown, suc, turn, turns, txns_of, zero, ℕ, ◌++◌, ◌+◌, ◌<◌, ◌^◌, ◌∙◌, ◌∷◌, ◌≡◌, ◌≤◌}
+use Rattle.sdd_make.proofs.All.{List, Txn, ap, append_cancel_left, arith, bytes_eq, bytes_eq-Decides, codes, decimal, decimal_injective, false, false_from_ne_true, has_name, map, range_with_len, refl, repeats, suc, turn, turns, txns_of, zero, ℕ, ◌++◌, ◌+◌, ◌<◌, ◌^◌, ◌∙◌, ◌≡◌, ◌≤◌}
 use Rattle.sdd_make.proofs.ValidTxns.{named_by_number}
 
 abbrev name_of : ℕ → List ℕ
@@ -8,16 +8,10 @@ name_of i = codes "t" ++ decimal i
 -- transactions are named by their numbers
 names_are : (count i x : ℕ) → map (λ (t : Txn). t.name) (txns_of (turns count i x).0) ≡ map name_of (range_with_len i count)
 names_are zero i x = refl
-names_are (suc count) i x =
-    let rest : List (List ℕ) = map (λ (t : Txn). t.name) (txns_of (turns count (i + 1) (turn i x).1).0) in
-    ap (λ name. name ∷ rest) (named_by_number i (shown 4 (next x)) (shown 10 (next (next x))) (shown 10 (next (next (next x)))))
-    ∙ ap (λ names. name_of i ∷ names) (names_are count (i + 1) (turn i x).1)
+names_are (suc count) i x = grind (arith, named_by_number, name_of, (names_are count (i + 1) (turn i x).1))
 
 names_differ : (i k : ℕ) → i < 2 ^ 32 → k < 2 ^ 32 → i < k → bytes_eq (name_of i) (name_of k) ≡ false
-names_differ i k p q l =
-    false_from_ne_true (bytes_eq (name_of i) (name_of k))
-    (λ e. let same : i ≡ k = decimal_injective i k (omega arith) (omega arith) (append_cancel_left (codes "t") (decimal i) (decimal k) ((bytes_eq-Decides (name_of i) (name_of k)).0 e)) in
-    omega (arith, same, l))
+names_differ i k p q l = grind (arith, false_from_ne_true, bytes_eq, name_of, decimal_injective, append_cancel_left, bytes_eq-Decides)
 
 -- none of the numbers above is named so
 none_above : (j a n : ℕ) → j < a → a + n ≤ 2 ^ 32 → has_name (map name_of (range_with_len a n)) (name_of j) ≡ false

@@ -1,12 +1,11 @@
 -- The made rows and transactions are valid.
-use Rattle.sdd_make.proofs.All.{Add, All, All-append, All-cons, All-nil, AssignsValue, Bool, Condition, Const, Eq, FitsAssign, FitsCondition, FitsRef, FitsStatement, Ge, HoldsValue, HoldsValues, Int, IsRelation, IsValidRow, IsValidTxn, IsValue, List, RelNo, Stmt, Text, Txn, [], account_row, accounts, addition, arith, asking, balances, bank, compared, cond, false, is_text, length, mag, map, negsuc, of_account, one, owners, payment, pos, range_with_len, refl, rel_no, rows_put_by, suc, true, txn_at, txn_of, txn_of_kind, zero, ℕ, ℤ, ◌%◌, ◌+◌, ◌<◌, ◌==◌, ◌^◌, ◌∷◌, ◌≡◌, ◌≢◌, ◌≤◌}
+use Rattle.sdd_make.proofs.All.{Add, All, All-append, All-cons, All-nil, AssignsValue, Bool, Condition, Const, Eq, FitsCondition, FitsRef, FitsStatement, Ge, HoldsValue, HoldsValues, Int, IsRelation, IsValidRow, IsValidTxn, IsValue, List, Stmt, Text, Txn, [], account_row, accounts, addition, arith, asking, balances, bank, cond, is_text, length, mag, map, of_account, one, owners, payment, pos, range_with_len, rel_no, rows_put_by, suc, txn_at, txn_of, txn_of_kind, zero, ℕ, ℤ, ◌%◌, ◌+◌, ◌<◌, ◌==◌, ◌^◌, ◌∷◌, ◌≡◌, ◌≤◌}
 use Rattle.sdd_make.proofs.Names.{number_named}
 use Rattle.sdd_make.proofs.Owner.{owner_is_text}
 
 -- of two values that both do
 pub choose : {A : Type 0} (P : A → Type 0) (b : Bool) (x y : A) → P x → P y → P (cond b x y)
-choose P true x y p q = p
-choose P false x y p q = q
+choose P b x y p q = grind arith
 
 two : {A : Type 0} (P : A → Type 0) (x y : A) → P x → P y → All P (x ∷ y ∷ [])
 two P x y p q = All-cons P x (y ∷ []) p (one P y q)
@@ -16,19 +15,10 @@ two P x y p q = All-cons P x (y ∷ []) p (one P y q)
 owner_value : IsValue (Text (111 ∷ []))
 owner_value = is_text (111 ∷ []) owner_is_text.utf8
 
-account_valid : (id : ℕ) → id < 2000 → IsValidRow bank (account_row id)
-account_valid id small =
-    record {
-      fits = ((omega arith, omega arith), refl);
-      values =
-          All-cons IsValue (Int (pos id)) (Text (111 ∷ []) ∷ Int (pos 100) ∷ []) (omega arith)
-          (two IsValue (Text (111 ∷ [])) (Int (pos 100)) owner_value (omega arith));
-    }
-
 accounts_from : (a n : ℕ) → a + n ≤ 2000 → All (IsValidRow bank) (map account_row (range_with_len a n))
 accounts_from a zero l = All-nil (IsValidRow bank)
 accounts_from a (suc n) l =
-    All-cons (IsValidRow bank) (account_row a) (map account_row (range_with_len (a + 1) n)) (account_valid a (omega arith))
+    All-cons (IsValidRow bank) (account_row a) (map account_row (range_with_len (a + 1) n)) (grind (arith, two, owner_value))
     (accounts_from (a + 1) n (omega arith))
 
 pub accounts_valid : All (IsValidRow bank) accounts
@@ -47,28 +37,11 @@ owner_fits = ((omega arith, omega arith), (omega arith, omega arith))
 balance_fits : FitsRef bank (rel_no 1 ∷ []) (of_account 3)
 balance_fits = ((omega arith, omega arith), (omega arith, omega arith))
 
-apart : ◌≢◌ {A = ℕ} 3 1
-apart e = omega (arith, e)
-
-addition_fits : (by : ℤ) (id : ℕ) → FitsStatement bank (addition by id)
-addition_fits by id = (
-  (omega arith, omega arith),
-  (omega arith, omega arith),
-  one (FitsAssign bank 1) (Add 3 by) ((omega arith, omega arith), apart, refl),
-  (omega arith, one (FitsCondition bank (rel_no 1 ∷ [])) (Const (of_account 1) Eq (Int (pos id))) (id_fits, refl)),
-)
-
 addition_values : (by : ℤ) (id : ℕ) → mag by < 2 ^ 63 → id < 2 ^ 63 → HoldsValues (addition by id)
 addition_values by id b i = (one AssignsValue (Add 3 by) b, one HoldsValue (Const (of_account 1) Eq (Int (pos id))) i)
 
 payment_fits : (from to : ℕ) → All (FitsStatement bank) (payment from to)
-payment_fits from to =
-    two (FitsStatement bank) (addition (negsuc 0) from) (addition (pos 1) to) (addition_fits (negsuc 0) from) (addition_fits (pos 1) to)
-
-payment_values : (from to : ℕ) → from < 2000 → to < 2000 → All HoldsValues (payment from to)
-payment_values from to f t =
-    two HoldsValues (addition (negsuc 0) from) (addition (pos 1) to)
-    (addition_values (negsuc 0) from (omega arith) (omega arith)) (addition_values (pos 1) to (omega arith) (omega arith))
+payment_fits from to = grind (arith, two, one, id_fits)
 
 relation_there : IsRelation bank 1
 relation_there = (omega arith, omega arith)
@@ -76,22 +49,7 @@ relation_there = (omega arith, omega arith)
 asking_fits : (first second : ℕ) (conds : List Condition) → FitsRef bank (rel_no 1 ∷ []) (of_account first)
     → FitsRef bank (rel_no 1 ∷ []) (of_account second) → length conds ≤ 16 → All (FitsCondition bank (rel_no 1 ∷ [])) conds
     → All (FitsStatement bank) (asking first second conds)
-asking_fits first second conds f s few fit =
-    one (FitsStatement bank) _ (
-      (omega arith, omega arith),
-      one (λ (rel : RelNo). IsRelation bank rel.0) (rel_no 1) relation_there,
-      (omega arith, omega arith),
-      two (FitsRef bank (rel_no 1 ∷ [])) (of_account first) (of_account second) f s,
-      (few, fit),
-    )
-
-balances_fit : All (FitsStatement bank) balances
-balances_fit = asking_fits 1 3 [] id_fits balance_fits (omega arith) (All-nil (FitsCondition bank (rel_no 1 ∷ [])))
-
-owners_fit : All (FitsStatement bank) owners
-owners_fit =
-    asking_fits 2 3 (compared 3 Ge (pos 50)) owner_fits balance_fits (omega arith)
-    (one (FitsCondition bank (rel_no 1 ∷ [])) (Const (of_account 3) Ge (Int (pos 50))) (balance_fits, refl))
+asking_fits first second conds f s few fit = grind (arith, one, relation_there, two)
 
 balances_values : All HoldsValues balances
 balances_values = one HoldsValues _ (All-nil HoldsValue)
@@ -103,19 +61,14 @@ owners_values = one HoldsValues _ (one HoldsValue (Const (of_account 3) Ge (Int 
 
 at_module : (i tm : ℕ) (statements : List Stmt) → i < 2 ^ 32 → 1 ≤ tm → tm ≤ 3 → length statements ≤ 32
     → All (FitsStatement bank) statements → All HoldsValues statements → IsValidTxn bank (txn_at i tm statements)
-at_module i tm statements small from to few fit values =
-    record {
-      named = number_named i small;
-      fits = record { module_is_there = (from, to); few = few; statements = fit };
-      values = values;
-    }
+at_module i tm statements small from to few fit values = grind (arith, number_named)
 
 paid : (i tm from to : ℕ) → i < 2 ^ 32 → 1 ≤ tm → tm ≤ 3 → from < 2000 → to < 2000 → IsValidTxn bank (txn_at i tm (payment from to))
-paid i tm from to small l u f t = at_module i tm (payment from to) small l u (omega arith) (payment_fits from to) (payment_values from to f t)
+paid i tm from to small l u f t = at_module i tm (payment from to) small l u (omega arith) (payment_fits from to) (grind (arith, two, addition_values))
 
 of_kind : (i kind a b : ℕ) → i < 2 ^ 32 → a < 10 → b < 10 → IsValidTxn bank (txn_of_kind i kind a b)
 of_kind i kind a b small p q =
-    let last = at_module i 3 balances small (omega arith) (omega arith) (omega arith) balances_fit balances_values in
+    let last = at_module i 3 balances small (omega arith) (omega arith) (omega arith) (asking_fits 1 3 [] id_fits balance_fits (omega arith) (All-nil (FitsCondition bank (rel_no 1 ∷ [])))) balances_values in
     let third = choose (IsValidTxn bank) (kind == 2) (txn_at i 3 (payment a (1000 + b))) (txn_at i 3 balances)
     (paid i 3 a (1000 + b) small (omega arith) (omega arith) (omega arith) (omega arith)) last in
     let second = choose (IsValidTxn bank) (kind == 1) (txn_at i 2 (payment (1000 + a) (1000 + b))) _
@@ -125,7 +78,7 @@ of_kind i kind a b small p q =
 pub txn_valid : (i kind a b : ℕ) → i < 2 ^ 32 → a < 10 → b < 10 → IsValidTxn bank (txn_of i kind a b)
 txn_valid i kind a b small p q =
     choose (IsValidTxn bank) (i % 64 == 0) (txn_at i 1 owners) (txn_of_kind i kind a b)
-    (at_module i 1 owners small (omega arith) (omega arith) (omega arith) owners_fit owners_values) (of_kind i kind a b small p q)
+    (at_module i 1 owners small (omega arith) (omega arith) (omega arith) (grind (arith, asking_fits, owner_fits, balance_fits, one)) owners_values) (of_kind i kind a b small p q)
 
 -- no transaction puts a row
 
@@ -133,19 +86,11 @@ abbrev PutsNone : Txn → Type 0
 PutsNone t = rows_put_by t ≡ 0
 
 pub puts_none : (i kind a b : ℕ) → rows_put_by (txn_of i kind a b) ≡ 0
-puts_none i kind a b =
-    let third = choose PutsNone (kind == 2) (txn_at i 3 (payment a (1000 + b))) (txn_at i 3 balances) refl refl in
-    let second = choose PutsNone (kind == 1) (txn_at i 2 (payment (1000 + a) (1000 + b))) _ refl third in
-    let first = choose PutsNone (kind == 0) (txn_at i 1 (payment a b)) _ refl second in
-    choose PutsNone (i % 64 == 0) (txn_at i 1 owners) (txn_of_kind i kind a b) refl first
+puts_none i kind a b = grind (arith, choose, PutsNone)
 
 -- each is named by its number
 abbrev IsNamed : ℕ → Txn → Type 0
 IsNamed i t = t.name ≡ (txn_at i 1 []).name
 
 pub named_by_number : (i kind a b : ℕ) → (txn_of i kind a b).name ≡ (txn_at i 1 []).name
-named_by_number i kind a b =
-    let third = choose (IsNamed i) (kind == 2) (txn_at i 3 (payment a (1000 + b))) (txn_at i 3 balances) refl refl in
-    let second = choose (IsNamed i) (kind == 1) (txn_at i 2 (payment (1000 + a) (1000 + b))) _ refl third in
-    let first = choose (IsNamed i) (kind == 0) (txn_at i 1 (payment a b)) _ refl second in
-    choose (IsNamed i) (i % 64 == 0) (txn_at i 1 owners) (txn_of_kind i kind a b) refl first
+named_by_number i kind a b = grind (arith, choose, IsNamed)

@@ -1,5 +1,5 @@
 -- The made workload is one that the bank allows.
-use Rattle.sdd_make.proofs.All.{All, All-append, All-cons, All-nil, AreDistinct, AreTimely, AreValidLists, IsNoRedeclare, IsValid, IsValidClass, IsValidEvent, MAX_TXNS, Settle, [], append-nil, arith, bank, events_of, filter_map, filter_map-append, length-append, range_with_len, refl, submitted_by, subst, sym, timely_without, turns_of, workload_of, ℕ, ◌++◌, ◌∙◌, ◌∷◌, ◌≡◌, ◌≤◌}
+use Rattle.sdd_make.proofs.All.{All, All-append, All-cons, All-nil, AreDistinct, AreTimely, AreValidLists, IsNoRedeclare, IsValid, IsValidClass, IsValidEvent, MAX_TXNS, Settle, [], append-nil, arith, bank, events_of, filter_map, filter_map-append, length-append, refl, subst, sym, timely_without, turns_of, workload_of, ℕ, ◌++◌, ◌∷◌, ◌≤◌}
 use Rattle.sdd_make.proofs.ValidTxns.{accounts_valid}
 use Rattle.sdd_make.proofs.ValidEvents.{txns_valid, txns_count, no_puts, events_valid, no_redeclare, few_events, submitted, numbers_differ}
 use Rattle.sdd_make.proofs.ValidNames.{no_name_repeats}
@@ -9,10 +9,6 @@ events_of_n : (seed n : ℕ) → All (IsValidEvent bank n) (events_of (turns_of 
 events_of_n seed n =
     All-append (IsValidEvent bank n) (events_of (turns_of seed n)) (Settle ∷ [])
     (events_valid n n 1 seed (omega arith) (omega arith)) (All-cons (IsValidEvent bank n) Settle [] tt (All-nil (IsValidEvent bank n)))
-
-numbers : (seed n : ℕ) → filter_map submitted_by (events_of (turns_of seed n) ++ Settle ∷ []) ≡ range_with_len 1 n
-numbers seed n =
-    filter_map-append submitted_by (events_of (turns_of seed n)) (Settle ∷ []) ∙ append-nil (filter_map submitted_by (events_of (turns_of seed n))) ∙ submitted n 1 seed
 
 -- there are no lists, and no `redeclare`
 
@@ -27,7 +23,6 @@ pub workload_valid : (seed n : ℕ) → n ≤ MAX_TXNS → IsValid bank (workloa
 workload_valid seed n few =
     let small : n ≤ 2048 = few in
     let count = txns_count n 1 seed in
-    let puts = no_puts n 1 seed in
     let events = few_events n 1 seed in
     let settled = length-append (events_of (turns_of seed n)) (Settle ∷ []) in
     record {
@@ -36,9 +31,9 @@ workload_valid seed n few =
       names = no_name_repeats n 1 seed (omega arith);
       lists = no_lists;
       events = subst (λ k. All (IsValidEvent bank k) (events_of (turns_of seed n) ++ Settle ∷ [])) (sym count) (events_of_n seed n);
-      submitted = subst AreDistinct (sym (numbers seed n)) (numbers_differ 1 n);
+      submitted = subst AreDistinct (sym (grind (arith, filter_map-append, append-nil, filter_map, submitted))) (numbers_differ 1 n);
       timely = timely seed n;
-      few_rows = omega (arith, puts);
+      few_rows = omega (arith, (no_puts n 1 seed));
       few_txns = omega (arith, count, small);
       few_events = omega (arith, events, settled, small);
     }

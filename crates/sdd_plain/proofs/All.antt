@@ -4,13 +4,13 @@ pub use Rattle.sdd_lang.proofs.Pushdown.{filter-map, filter_none, filter_same, k
 pub use Rattle.sdd_lang.proofs.ReadSetDecides.{rows_picked}
 pub use Rattle.sdd_lang.proofs.SortedEntries.{each_inserted, each_left, item_cmp_exact}
 pub use Rattle.sdd_lang.proofs.catalog.FragmentOf.{le_true}
-pub use Rattle.sdd_lang.specs.All.{Catalogue, Change, Database, Int, Interval, IsOfKeys, IsWithin, Item, RelNo, Row, Tuple, after_changes, all_keys, allowed_keys, answer, changed_by, chosen, column, common, database_of, distinct, entries_of, fragment_at, holds_some, item_cmp, key_in, may_join, meets_all, product, projection, restrictions_of, rows_lent, rows_of, selection, serial, set_to, with_row, without_row}
+pub use Rattle.sdd_lang.specs.All.{Catalogue, Change, Database, Int, Interval, IsOfKeys, IsWithin, Item, RelNo, Row, after_changes, all_keys, allowed_keys, answer, changed_by, chosen, column, common, database_of, distinct, entries_of, fragment_at, holds_some, item_cmp, key_in, may_join, meets_all, product, projection, restrictions_of, rows_lent, rows_of, selection, serial, set_to, with_row, without_row}
 pub use Rattle.sdd_lang.specs.declared.condition.Condition.{Condition}
 pub use Rattle.sdd_lang.specs.declared.condition.Ref.{Ref}
 pub use Rattle.sdd_plain.specs.Held.{AreHeld, AreKeyed, AreKeysOf, AreNear, HasHeldKey, HasKey, is_within}
 pub use Rattle.sdd_plain.specs.Lent.{as_of}
 pub use Rattle.sdd_plain.specs.Parts.{standing}
-pub use Rattle.std.proofs.Common.{All, Bool, Equal, Greater, Less, List, None, Ordering, SFits as FitsSigned, [], ap, arith, cond, drop, eq-eqb, eqb-true, false, filter, fold, inl, inr, int_cmp, int_le, is_le, is_lt, map, not, pos, refl, rules, slice_index, subst, sym, to_z-of_z, true, w64, ℕ, ℤ, ◌&&◌, ◌++◌, ◌+◌, ◌-◌, ◌<ℤ◌, ◌==◌, ◌∙◌, ◌∷◌, ◌≡◌}
+pub use Rattle.std.proofs.Common.{All, Bool, Equal, List, None, Ordering, SFits as FitsSigned, [], ap, arith, drop, eq-eqb, eqb-true, false, filter, fold, int_cmp, int_le, is_le, is_lt, map, not, pos, refl, rules, slice_index, subst, sym, to_z-of_z, true, w64, ℕ, ℤ, ◌&&◌, ◌++◌, ◌+◌, ◌-◌, ◌==◌, ◌∙◌, ◌∷◌, ◌≡◌}
 pub use Rattle.std.proofs.lemmas.Bool.{and_from as and_both, and_right as and_false, cases_order}
 pub use Rattle.std.proofs.lemmas.Int.{ints}
 pub use Rattle.std.proofs.lemmas.List.Elements.{All-from_recursion, recursion_from_All}
@@ -22,4 +22,4 @@ pub use Rattle.std.specs.Cmp.{int_ranks, nat_cmp_is}
 pub use Rattle.std.specs.List.{AllByRecursion}
 pub use Rattle.std.specs.Map.{keys_of}
 pub use Rattle.std.specs.Map.Iter.{deref_pair}
-pub use Rattle.std.specs.Ordering.{MatchOrdering, ordering_then}
+pub use Rattle.std.specs.Ordering.{ordering_then}

@@ -1,5 +1,5 @@
 -- Rows near a part: among them are all that may stand in it.
-use Rattle.sdd_plain.proofs.All.{All, All-from_recursion, AllByRecursion, AreHeld, AreKeyed, AreKeysOf, AreNear, Bool, Condition, Database, FitsSigned, HasHeldKey, HasKey, Int, Interval, IsOfKeys, IsWithin, Item, List, Row, [], all_keys, allowed_key, allowed_keys, and_both, ap, arith, as_of, chosen, column, common, cond, each_inserted, each_left, eqb-true, false, filter, filter-map, filter_same, int_le, ints, is_at, is_within, item_cmp, item_cmp_exact, keys_of, le_true, map, may_join, meets_all, parts_meet, recursion_from_All, refl, restrictions_of, rows_of, rows_picked, slice_index, subst, sym, true, w64, with_row, within_common, without_row, ℕ, ℤ, ◌&&◌, ◌-◌, ◌==◌, ◌∙◌, ◌∷◌, ◌≡◌}
+use Rattle.sdd_plain.proofs.All.{All, All-from_recursion, AllByRecursion, AreHeld, AreKeyed, AreKeysOf, AreNear, Bool, Condition, Database, FitsSigned, HasHeldKey, HasKey, Int, Interval, IsOfKeys, IsWithin, Item, List, Row, [], all_keys, allowed_key, allowed_keys, and_both, ap, arith, as_of, chosen, column, common, each_inserted, each_left, eqb-true, filter, filter-map, filter_same, int_le, ints, is_at, is_within, item_cmp, item_cmp_exact, keys_of, le_true, map, may_join, meets_all, parts_meet, recursion_from_All, refl, restrictions_of, rows_of, rows_picked, slice_index, subst, sym, true, w64, with_row, within_common, without_row, ℕ, ℤ, ◌&&◌, ◌-◌, ◌==◌, ◌∙◌, ◌∷◌, ◌≡◌}
 use Rattle.sdd_plain.proofs.Chosen.{chosen_of_relation}
 
 abbrev Entry : Type 0
@@ -8,26 +8,14 @@ Entry = Item × Row
 -- two filters are one
 pub filter_filter : {A : Type 0} (p q : A → Bool) (xs : List A) → filter p (filter q xs) ≡ filter (λ x. q x && p x) xs
 filter_filter p q [] = refl
-filter_filter p q (x ∷ xs) =
-    let rest = filter_filter p q xs in
-    elim (q x) as (λ b. filter p (cond b (x ∷ filter q xs) (filter q xs)) ≡ cond (b && p x) (x ∷ filter (λ y. q y && p y) xs) (filter (λ y. q y && p y) xs)) [
-      | true ↦ elim (p x) as
-          (λ b. cond b (x ∷ filter p (filter q xs)) (filter p (filter q xs)) ≡ cond b (x ∷ filter (λ y. q y && p y) xs) (filter (λ y. q y && p y) xs)) [
-            | true ↦ ap (λ ys. x ∷ ys) rest
-            | false ↦ rest
-          ]
-      | false ↦ rest
-    ]
+filter_filter p q (x ∷ xs) = grind (arith, (filter_filter p q xs))
 
 -- a test that follows from another adds nothing to it
 and_follows : (a b : Bool) → (a ≡ true → b ≡ true) → (b && a) ≡ a
-and_follows true b h = let yes : b ≡ true = h refl in rw yes
-and_follows false true h = refl
-and_follows false false h = refl
+and_follows a b h = grind arith
 
 and_between : (a b c : Bool) → (c ≡ true → b ≡ true) → ((a && b) && c) ≡ (a && c)
-and_between true b c h = and_follows c b h
-and_between false b c h = refl
+and_between a b c h = grind (arith, and_follows)
 
 -- keys of 64 bits
 held_within : (k : ℤ) → FitsSigned w64 k → IsWithin k all_keys
@@ -51,8 +39,7 @@ keyed_each columns rel part conds keys (e ∷ db) are keyed held = (
 all_each : (rel part : ℕ) (conds : List Condition) (db : Database) → AllByRecursion HasHeldKey (keys_of db)
     → AllByRecursion (IsNear rel part conds all_keys) db
 all_each rel part conds [] held = tt
-all_each rel part conds (e ∷ db) held =
-    (λ is may. within_common e.0.1 all_keys all_keys (held_within e.0.1 held.0) (held_within e.0.1 held.0), all_each rel part conds db held.1)
+all_each rel part conds (e ∷ db) held = grind (arith, within_common, held_within, (all_each rel part conds db held.1))
 
 -- the keys that a part's restrictions allow on the rows' key column are those near it
 pub keyed_near : (columns : List ℕ) (rel part : ℕ) (conds : List Condition) (keys : Interval) (db : Database) → AreHeld db → All (HasKey columns) db
@@ -94,28 +81,15 @@ within_test k keys h = and_both (int_le keys.0 k) (int_le k keys.1) (le_true key
 abbrev IsTested : ℕ → ℕ → List Condition → Interval → Entry → Type 0
 IsTested rel part conds keys e = e.0.0 ≡ rel → may_join conds part e.1 ≡ true → is_within keys e.0.1 ≡ true
 
-same_test : (rel part : ℕ) (conds : List Condition) (keys : Interval) (e : Entry) → IsTested rel part conds keys e
-    → (((e.0.0 == rel) && is_within keys e.0.1) && may_join conds part e.1) ≡ ((e.0.0 == rel) && may_join conds part e.1)
-same_test rel part conds keys e near =
-    elim (e.0.0 == rel) as (λ b. (e.0.0 == rel) ≡ b → ((b && is_within keys e.0.1) && may_join conds part e.1) ≡ (b && may_join conds part e.1)) [
-      | true ↦ λ is. and_follows (may_join conds part e.1) (is_within keys e.0.1) (near (eqb-true e.0.0 rel is))
-      | false ↦ λ is. refl
-    ] refl
-
 tested_rows : (rel part : ℕ) (conds : List Condition) (keys : Interval) (db : Database) → AllByRecursion (IsTested rel part conds keys) db
     → filter (λ e. ((e.0.0 == rel) && is_within keys e.0.1) && may_join conds part e.1) db ≡ filter (λ e. (e.0.0 == rel) && may_join conds part e.1) db
 tested_rows rel part conds keys [] near = refl
-tested_rows rel part conds keys (e ∷ db) near =
-    let rest = tested_rows rel part conds keys db near.1 in
-    ap (λ b. cond b (e ∷ filter (λ x. ((x.0.0 == rel) && is_within keys x.0.1) && may_join conds part x.1) db)
-    (filter (λ x. ((x.0.0 == rel) && is_within keys x.0.1) && may_join conds part x.1) db)) (same_test rel part conds keys e near.0)
-    ∙ ap (λ es. cond ((e.0.0 == rel) && may_join conds part e.1) (e ∷ es) es) rest
+tested_rows rel part conds keys (e ∷ db) near = grind (arith, and_follows, eqb-true, (tested_rows rel part conds keys db near.1))
 
 each_tested : (rel part : ℕ) (conds : List Condition) (keys : Interval) (db : Database) → AllByRecursion (IsNear rel part conds keys) db
     → AllByRecursion (IsTested rel part conds (common keys all_keys)) db
 each_tested rel part conds keys [] near = tt
-each_tested rel part conds keys (e ∷ db) near =
-    (λ is may. within_test e.0.1 (common keys all_keys) (near.0 is may), each_tested rel part conds keys db near.1)
+each_tested rel part conds keys (e ∷ db) near = grind (arith, within_test, (each_tested rel part conds keys db near.1))
 
 -- among the rows with such keys are all that may stand
 pub near_rows : (rel part : ℕ) (conds : List Condition) (keys : Interval) (db : Database) → AreNear db rel part conds keys
@@ -130,10 +104,7 @@ near_rows rel part conds keys db near =
 pub part_rows : (rel part : ℕ) (conds : List Condition) (db rows : Database)
     → filter (λ e. may_join conds part e.1) rows ≡ filter (λ e. (e.0.0 == rel) && may_join conds part e.1) db
     → filter (may_join conds part) (map (λ e. e.1) rows) ≡ filter (may_join conds part) (rows_of db rel)
-part_rows rel part conds db rows near =
-    filter-map (may_join conds part) (λ (e : Entry). e.1) rows
-    ∙ ap (map (λ (e : Entry). e.1)) near
-    ∙ sym (rows_picked (may_join conds part) rel db)
+part_rows rel part conds db rows near = grind (arith, filter-map, Entry, rows_picked)
 
 meets_may : (conds : List Condition) (e : Entry) → meets_all conds (e.1 ∷ []) ≡ true → may_join conds 1 e.1 ≡ true
 meets_may conds e h = parts_meet conds (e.1 ∷ []) 1 h

@@ -15,16 +15,7 @@ told_more h i e o n l is some =
     ∙ ap (λ p. option_or (told_of (take i h) n) (find (is_of n) (cons_option p []))) some
 
 or_none : {X : Type 0} (o : Option X) → option_or o None ≡ o
-or_none None = refl
-or_none (Some x) = refl
-
-some_stays : {X : Type 0} (o p : Option X) → is_some o ≡ true → option_or o p ≡ o
-some_stays None p e = absurd (cc)
-some_stays (Some x) p e = refl
-
-or_second : {X : Type 0} (o p : Option X) → is_some o ≡ false → option_or o p ≡ p
-or_second None p e = refl
-or_second (Some x) p e = absurd (cc)
+or_none o = grind arith
 
 -- a record that is no Commit
 pub no_commit : (h : List (ℕ × Rec)) (i : ℕ) (e : ℕ × Rec) (made : ℕ → Option Told) → i < length h → e ≡ get_or h i e
@@ -41,10 +32,9 @@ further_commit h i e made t key l is some same has old n =
       | inl y ↦
           let there : is_some before ≡ true =
           ap is_some (sym (old n)) ∙ subst (λ m. is_some (made m) ≡ true) (same ∙ eqb-true t.txn n y) has in
-          old n ∙ sym (told_more h i e (Some t) n l is some ∙ some_stays before (find (is_of n) (t ∷ [])) there)
+          old n ∙ sym (told_more h i e (Some t) n l is some ∙ (grind arith))
       | inr f ↦
-          let other : find (is_of n) (t ∷ []) ≡ None = ap (λ b. cond b (Some t) None) f in
-          old n ∙ sym (told_more h i e (Some t) n l is some ∙ ap (option_or before) other ∙ or_none before)
+          old n ∙ sym (told_more h i e (Some t) n l is some ∙ ap (option_or before) (ap (λ b. cond b (Some t) None) f) ∙ or_none before)
     ]
 
 -- whether a key is another number
@@ -79,9 +69,8 @@ first_commit h i e made new t key l is some same absent updates old n =
       | inl y ↦
           let nothing : is_some before ≡ false =
           ap is_some (sym (old n)) ∙ subst (λ m. is_some (made m) ≡ false) (same ∙ eqb-true t.txn n y) absent in
-          let this : find (is_of n) (t ∷ []) ≡ Some t = ap (λ b. cond b (Some t) None) y in
           now ∙ ap (λ b. cond b (Some t) (made n)) y
-          ∙ sym (told_more h i e (Some t) n l is some ∙ or_second before (find (is_of n) (t ∷ [])) nothing ∙ this)
+          ∙ sym (told_more h i e (Some t) n l is some ∙ (grind arith) ∙ (ap (λ b. cond b (Some t) None) y))
       | inr f ↦
           let other : find (is_of n) (t ∷ []) ≡ None = ap (λ b. cond b (Some t) None) f in
           now ∙ ap (λ b. cond b (Some t) (made n)) f ∙ old n

@@ -7,7 +7,7 @@ pub use Rattle.sdd_lang.proofs.catalog.FragmentOf.{found_one}
 pub use Rattle.sdd_lang.proofs.catalog.NameLemmas.{has_name_of_items, list_any-map}
 pub use Rattle.sdd_lang.proofs.catalog.RoundTrip.{have_numbers}
 pub use Rattle.sdd_lang.proofs.catalog.Validity.{no_faults, unbroken}
-pub use Rattle.sdd_lang.specs.All.{AreNamed, Catalogue, Class, ClassPart, Column, ColumnPart, D, Deliver, DmNo, Down, Event, Fails, FitsAssign, FitsCondition, FitsRef, FitsRow, FitsStatement, Fragment, IsColumn, IsFrom1To, IsName, IsNamed, IsRelation, IsSoundCatalogue, IsWhole, Kind, Lose, MAX_ASSIGNMENTS, MAX_CLASSES, MAX_CONDITIONS, MAX_EVENTS, MAX_OUTPUT_COLUMNS, MAX_PLACE, MAX_READS, MAX_ROWS, MAX_STATEMENTS, MAX_TICKS, MAX_TXNS, MAX_USES, MAX_WORKLOAD_BYTES, Op, ReadPart, Redeclare, RelNo, Relation, RelationPart, Repeat, Resend, Settle, Site, Submit, T, Tick, TmNo, TxnNo, U, Up, Value, along, are_linked, begins_with_letter, class_part, column_part, dm_no, faults_of_class, faults_of_relation, found_from, has_copy, has_name, is_digit, is_keyword, is_letter, is_name, is_name_byte, key_column, kind_at, kind_of, kind_of_ref, known, must, no_relation, numbers_to, parts_of, rel_no, rel_of, relation_at, relation_names, relation_part, relation_rules, repeats, tm_no, txn_no, ◌>>=◌}
+pub use Rattle.sdd_lang.specs.All.{AreNamed, Catalogue, Class, ClassPart, Column, ColumnPart, D, Deliver, DmNo, Down, Event, Fails, FitsAssign, FitsCondition, FitsRef, FitsRow, FitsStatement, Fragment, IsColumn, IsFrom1To, IsName, IsNamed, IsRelation, IsSoundCatalogue, IsWhole, Kind, Lose, MAX_ASSIGNMENTS, MAX_CLASSES, MAX_CONDITIONS, MAX_EVENTS, MAX_OUTPUT_COLUMNS, MAX_PLACE, MAX_READS, MAX_ROWS, MAX_STATEMENTS, MAX_TICKS, MAX_TXNS, MAX_USES, MAX_WORKLOAD_BYTES, Op, ReadPart, Redeclare, RelNo, Relation, RelationPart, Repeat, Resend, Settle, Site, Submit, T, Tick, TmNo, TxnNo, U, Up, Value, along, are_linked, begins_with_letter, class_part, column_part, dm_no, faults_of_class, faults_of_relation, found_from, has_copy, has_name, is_digit, is_keyword, is_name, is_name_byte, key_column, kind_at, kind_of, kind_of_ref, known, must, no_relation, numbers_to, parts_of, rel_no, rel_of, relation_at, relation_names, relation_part, relation_rules, repeats, tm_no, txn_no, ◌>>=◌}
 pub use Rattle.sdd_lang.specs.catalog.declared.parts.Kind.TheVariants.{Int}
 pub use Rattle.sdd_lang.specs.declared.assign.Assign.{Assign}
 pub use Rattle.sdd_lang.specs.declared.assign.Assign.TheVariants.{Add, To}
@@ -23,7 +23,7 @@ pub use Rattle.sdd_script.specs.Few.{few, few_of, few_row, short, shortened}
 pub use Rattle.sdd_script.specs.FirstWords.{class_key_in, event_key_in, inner_keyword, keyword_in, keyword_of, outer_keyword, statement_key_in}
 pub use Rattle.sdd_script.specs.Laws.{ReadsAgain, ReadsSpelling}
 pub use Rattle.sdd_script.specs.LineRules.{closed, done_rules, end_rules, event_rules, is_submitted, keyword_rules, line_rules, one_more_row, row_rules, statement_limits, statement_rules, txn_rules, with_statement, with_submitted, words_rules, written_with}
-pub use Rattle.sdd_script.specs.Naming.{class_names, column_named, columns_of, fragment_named, key_of, kind_of_place, name_of, name_of_class, name_of_relation, relation_if, relation_named, relation_of}
+pub use Rattle.sdd_script.specs.Naming.{class_names, column_named, columns_of, fragment_named, key_of, kind_of_place, name_of, name_of_class, name_of_relation, relation_named, relation_of}
 pub use Rattle.sdd_script.specs.Occurrences.{count_of, data_module_of, dm_of, down_of, event_of, flight_place, from_one, link_of, module_of, number_named, numbered, redeclare_of, resend_of, settle_of, site_in, site_of, submit_of, tick_of, tm_of, txn_named, up_of}
 pub use Rattle.sdd_script.specs.OpenLists.{class_so_far, classes_in, no_classes, reads_in, takes_reads as takes_reads_in, takes_writes as takes_writes_in, with_class, with_read, with_write, writes_in}
 pub use Rattle.sdd_script.specs.Places.{is_ended, open_list, reads_at, takes_classes, takes_events, takes_lists, takes_reads, takes_rows, takes_statements, takes_txns, takes_writes, writes_at}
@@ -34,7 +34,7 @@ pub use Rattle.sdd_script.specs.Spelling.{assign_words, class_bytes, class_lines
 pub use Rattle.sdd_script.specs.Statements.{add_of, addend_of, assign_of, delete_of, listed_column, part_in, put_of, query_of, query_of_parts, statement_of, to_of, update_of}
 pub use Rattle.sdd_script.specs.Valid.{Accepts, AreDistinct, AreTimely, AreValidLists, AssignsValue, HoldsValue, HoldsValues, IsFragment, IsLink, IsSite, IsValid, IsValidClass, IsValidEvent, IsValidRead, IsValidRow, IsValidTxn, IsValue, MayRedeclare, is_kept_at, is_put, read_names, rows_put_by, submitted_by}
 pub use Rattle.sdd_script.specs.Values.{is_of_kind, row_of, value_of, values_of}
-pub use Rattle.sdd_script.specs.Walk.{at_line, nothing_read, one_line, tail_rules, walk, walk_bytes, workload, workload_of_state}
+pub use Rattle.sdd_script.specs.Walk.{at_line, nothing_read, one_line, tail_rules, walk_bytes, workload, workload_of_state}
 pub use Rattle.sdd_script.specs.declared.fault.LineError.{LineError}
 pub use Rattle.sdd_script.specs.declared.fault.WorkError.{WorkError}
 pub use Rattle.sdd_script.specs.declared.fault.WorkFault.{WorkFault}
@@ -71,7 +71,7 @@ pub use Rattle.sdd_words.specs.Whole.{is_whole, whole_digits}
 pub use Rattle.sdd_words.specs.Words.{AllWords, HasNoSpace, IsPlain, IsWord, Plain, Quoted, Word, escaped, escaped_byte, line_bytes, more_bytes, spaced, word_bytes}
 pub use Rattle.sdd_words.specs.declared.form.Comparison.{Comparison}
 pub use Rattle.sdd_words.specs.declared.form.Setting.{Setting}
-pub use Rattle.std.proofs.Common.{All, Bool, Err, IfOk, IfSome, IsAscii, IsUtf8, List, None, Ok, Option, Result, Some, [], add-one, ap, append-nil, append_assoc, arith, bytes_eq, codes, cond, count_by, decimal, drop, drop-cons, drop_at, eq-eqb, eqb-true, false, filter_map, find, flat_map, inl, inr, is_some, le-ltb, leb-false, leb-true, length, length-append, length-take, lt-ltb, ltb-false, ltb-true, map, nat_eq as eqb, nat_le, nat_lt, ne_eqb, negsuc, not, option_map, pos, position, refl, rules, slice_get, slice_index_or as get_or, string_bytes, subst, suc, sum_by, sym, take, take-append-drop, take_all, take_at, true, unwrap_or, zero, ℕ, ℤ, ◌&&◌, ◌++◌, ◌+◌, ◌-◌, ◌<◌, ◌==◌, ◌^◌, ◌||◌, ◌∙◌, ◌∷◌, ◌≡◌, ◌≢◌, ◌≤◌}
+pub use Rattle.std.proofs.Common.{All, Bool, Err, IfOk, IsAscii, IsUtf8, List, None, Ok, Option, Result, Some, [], add-one, ap, append-nil, append_assoc, arith, bytes_eq, codes, cond, count_by, decimal, drop, drop-cons, drop_at, eq-eqb, eqb-true, false, filter_map, find, flat_map, inl, inr, is_some, le-ltb, leb-false, leb-true, length, length-append, length-take, lt-ltb, ltb-false, ltb-true, map, nat_eq as eqb, nat_le, nat_lt, ne_eqb, negsuc, not, option_map, pos, position, refl, rules, slice_get, slice_index_or as get_or, string_bytes, subst, suc, sum_by, sym, take, take-append-drop, take_all, take_at, true, unwrap_or, zero, ℕ, ℤ, ◌&&◌, ◌++◌, ◌+◌, ◌-◌, ◌<◌, ◌==◌, ◌^◌, ◌||◌, ◌∙◌, ◌∷◌, ◌≡◌, ◌≢◌, ◌≤◌}
 pub use Rattle.std.proofs.Math.Seq.{take-append_seam}
 pub use Rattle.std.proofs.lemmas.Bool.{and_from as both_are, cases_Bool, cases_lt, lt-leb, or_parts as or_false}
 pub use Rattle.std.proofs.lemmas.Bool.Decides.{nat_tests}

@@ -1,7 +1,7 @@
 -- Assignments: what is read is spelled and fits, and what is spelled and fits is read.
-use Rattle.sdd_script.proofs.All.{Add, AllByRecursion, Answers, Assign, AssignsValue, BadNumber, Bool, Catalogue, FitsAssign, FitsRef, Found, IsColumn, Kind, List, None, Ok, Option, Plain, Quoted, Ref, RelNo, Result, Setting, Some, To, Word, WorkRule, [], add_of, addend_of, adds_of, along, along_ok, ap, arith, assign_of, assign_words, bind_ok, both_hold, bytes_eq, bytes_eq-Decides, codes, column_of_use, column_word, cond, eq-eqb, eqb, false, is_free, is_of_kind, key_column, key_of, kind_at, kind_of_ref, known_ok, looks_like_column, mag, map, ne_eqb, not, number_again, number_of, number_takes, ok_along, ok_is, option_map, own_column, refl, rel_of, sets_words, setting_of, signed_decimal, subst, sym, to_of, true, value_of, value_word, ℕ, ℤ, ◌&&◌, ◌++◌, ◌+◌, ◌<◌, ◌==◌, ◌^◌, ◌∙◌, ◌∷◌, ◌≡◌, ◌≢◌, ◌≤◌}
+use Rattle.sdd_script.proofs.All.{Add, AllByRecursion, Answers, Assign, AssignsValue, BadNumber, Bool, Catalogue, FitsAssign, FitsRef, Found, IsColumn, Kind, List, None, Ok, Option, Plain, Quoted, Ref, RelNo, Result, Setting, Some, To, Word, WorkRule, [], add_of, addend_of, adds_of, along, along_ok, ap, arith, assign_of, assign_words, bind_ok, both_hold, bytes_eq, bytes_eq-Decides, codes, column_of_use, column_word, cond, eqb, false, is_free, is_of_kind, key_column, key_of, kind_at, known_ok, looks_like_column, mag, map, nat_tests, ne_eqb, not, number_again, number_of, number_takes, ok_along, ok_is, option_map, own_column, refl, sets_words, setting_of, signed_decimal, subst, sym, to_of, true, value_of, value_word, ℕ, ℤ, ◌&&◌, ◌+◌, ◌<◌, ◌==◌, ◌^◌, ◌∙◌, ◌∷◌, ◌≡◌, ◌≢◌}
 use Rattle.sdd_words.specs.Forms.{settings}
-use Rattle.sdd_script.proofs.StepLaws.{must_then, not_true, some_of}
+use Rattle.sdd_script.proofs.StepLaws.{must_then, some_of}
 use Rattle.sdd_script.proofs.ValueLaws.{value_takes, value_again, kind_int, kind_same, key_is}
 use Rattle.sdd_script.proofs.WordLooks.{value_free, number_free}
 use Rattle.sdd_script.proofs.UseLaws.{IsKnown}
@@ -53,18 +53,7 @@ setting_some left right w (Some adds) s p e =
 setting_if : (left op right : Word) (s : Setting) (b : Bool) → (looks_like_column left && is_free right) ≡ b
     → cond b (option_map (λ adds. record { left = left; adds = adds; right = right }) (adds_of op)) None ≡ Some s → IsSetting left op right s
 setting_if left op right s false t e = absurd cc
-setting_if left op right s true t e =
-    let g = both_hold (looks_like_column left) (is_free right) t in
-    let r = setting_some left right op (adds_of op) s refl e in
-    record {
-      left_is = r.0;
-      op_is = r.1;
-      right_is = r.2;
-      looks = (
-        subst (λ (w : Word). looks_like_column w ≡ true) r.0 g.0,
-        subst (λ (w : Word). is_free w ≡ true) r.2 g.1,
-      );
-    }
+setting_if left op right s true t e = let r = setting_some left right op (adds_of op) s refl e in grind (arith, both_hold)
 
 pub record AreSettings (ws : List Word) (ss : List Setting) : Type 0 where
   pub spelled : ws ≡ setted ss
@@ -72,15 +61,12 @@ pub record AreSettings (ws : List Word) (ss : List Setting) : Type 0 where
 
 pub settings_take : (ws : List Word) (ss : List Setting) → settings ws ≡ Some ss → AreSettings ws ss
 unfolding settings
-settings_take [] ss e = subst (λ (l : List Setting). AreSettings [] l) (list_is [] ss e) (record { spelled = refl; looks = tt })
+settings_take [] ss e = rw (← list_is [] ss e) (record { spelled = refl; looks = tt })
 settings_take (left ∷ op ∷ right ∷ more) ss e =
     let j = joined_is (setting_of left op right) (settings more) ss e in
-    let one = setting_if left op right j.head (looks_like_column left && is_free right) refl j.first in
+    let one = setting_if left op right j.head _ refl j.first in
     let rest = settings_take more j.rest j.others in
-    subst (λ (l : List Setting). AreSettings (left ∷ op ∷ right ∷ more) l) j.whole (record {
-      spelled = cc;
-      looks = (one.looks, rest.looks);
-    })
+    rw (← j.whole) (record { spelled = cc; looks = (one.looks, rest.looks) })
 settings_take (a ∷ _) ss e = absurd cc
 
 setting_again : (s : Setting) → LooksSet s → setting_of s.left (Plain (adds_word s.adds)) s.right ≡ Some s
@@ -89,10 +75,7 @@ setting_again s h = grind arith
 pub settings_again : (ss : List Setting) → AllByRecursion LooksSet ss → settings (setted ss) ≡ Some ss
 unfolding settings
 settings_again [] h = refl
-settings_again (s ∷ ss) h =
-    let one = setting_again s h.0 in
-    let more = settings_again ss h.1 in
-    rw (one, more) refl
+settings_again (s ∷ ss) h = grind (arith, setting_again, (settings_again ss h.1))
 
 -- ---- the assignments
 
@@ -110,26 +93,9 @@ record IsOwn (cat : Catalogue) (rel : RelNo) (w : Word) (f : Found) : Type 0 whe
 abbrev made : ℕ → ℕ → Ref
 made part column = record { part = part; column = column }
 
-own_column_of : (cat : Catalogue) (rel : RelNo) (r : Ref) (column : ℕ) → r ≡ own_column column
-    → IsColumn cat (rel_of (rel ∷ []) r.part) r.column → IsColumn cat rel.0 column
-own_column_of cat rel r column e h = subst (λ (x : Ref). IsColumn cat (rel_of (rel ∷ []) x.part) x.column) e h
-
-own_is : (r : Ref) → 1 ≤ r.part → r.part ≤ 1 → r ≡ own_column r.column
-own_is r lo hi = let e : r.part ≡ 1 = omega (arith, lo, hi) in ap (λ (n : ℕ). made n r.column) e
-
 own_takes : (cat : Catalogue) (rel : RelNo) (w : Word) (f : Found) → looks_like_column w ≡ true
     → column_of_use cat (Some rel.0 ∷ []) w ≡ Ok f → IsOwn cat rel w f
-own_takes cat rel w f look e =
-    let r = ref_takes cat (rel ∷ []) w f look e in
-    let own : f.at ≡ own_column f.at.column = own_is f.at r.fits.0.0 r.fits.0.1 in
-    record {
-      spelled = r.spelled ∙ ap (column_word cat (rel ∷ [])) own;
-      column = own_column_of cat rel f.at f.at.column own r.fits.1;
-      kind = sym (ap (λ (x : Ref). kind_of_ref cat (rel ∷ []) x) own) ∙ r.kind;
-    }
-
-not_equal : (a b : ℕ) → eqb a b ≡ false → a ≢ b
-not_equal a b e p = let q : eqb a b ≡ true = eq-eqb a b p in absurd cc
+own_takes cat rel w f look e = let r = ref_takes cat (rel ∷ []) w f look e in grind (arith, IsOwn)
 
 addend_takes : (w : Word) (z : ℤ) → addend_of w ≡ Ok z → (w ≡ Plain (signed_decimal z)) × (mag z < 2 ^ 63)
 addend_takes (Plain bytes) z e =
@@ -146,32 +112,19 @@ assign_if cat rel left op right true f a own other is e =
     let b = must_then _ (is_of_kind (Some f.kind) kinds.Int) _ a e in
     let c = bind_ok (addend_of right) _ a b.1 in
     let n = addend_takes right c.0 c.1 in
-    subst (λ (x : Assign). (left ∷ op ∷ right ∷ [] ≡ assign_words cat rel x) × FitsAssign cat rel.0 x × AssignsValue x)
-    (ok_is (Add f.at.column c.0) a c.2) (
-      cc,
-      (own.column, other, own.kind ∙ sym (kind_int f.kind b.0)),
-      n.1,
-    )
+    rw (← ok_is (Add f.at.column c.0) a c.2) (cc, (own.column, other, own.kind ∙ sym (kind_int f.kind b.0)), n.1)
 assign_if cat rel left op right false f a own other is e =
     let c = bind_ok (value_of (Some f.kind) right) _ a e in
     let v = value_takes f.kind right c.0 c.1 in
-    subst (λ (x : Assign). (left ∷ op ∷ right ∷ [] ≡ assign_words cat rel x) × FitsAssign cat rel.0 x × AssignsValue x)
-    (ok_is (To f.at.column c.0) a c.2) (
-      cc,
-      (own.column, other, v.same ∙ sym own.kind),
-      v.fits,
-    )
+    rw (← ok_is (To f.at.column c.0) a c.2) (cc, (own.column, other, v.same ∙ sym own.kind), v.fits)
 
 pub assign_takes : (cat : Catalogue) (rel : RelNo) (s : Setting) (a : Assign) → LooksSet s → assign_of cat rel.0 s ≡ Ok a → IsAssign cat rel s a
 assign_takes cat rel s a looks e =
     let b = bind_ok (column_of_use cat (Some rel.0 ∷ []) s.left) _ a e in
-    let f : Found = b.0 in
-    let own = own_takes cat rel s.left f looks.0 b.1 in
-    let c = must_then _ (not (f.at.column == key_of cat rel.0)) _ a b.2 in
-    let other : f.at.column ≢ key_column cat rel.0 =
-    λ p. not_equal f.at.column (key_of cat rel.0) (not_true (eqb f.at.column (key_of cat rel.0)) c.0)
-    (p ∙ sym (key_is cat rel.0)) in
-    let r = assign_if cat rel s.left (Plain (adds_word s.adds)) s.right s.adds f a own other refl c.1 in
+    let own = own_takes cat rel s.left b.0 looks.0 b.1 in
+    let c = must_then _ (not (b.0.at.column == key_of cat rel.0)) _ a b.2 in
+    let other : b.0.at.column ≢ key_column cat rel.0 = (grind (arith, nat_tests, key_is)) in
+    let r = assign_if cat rel s.left (Plain (adds_word s.adds)) s.right s.adds b.0 a own other refl c.1 in
     record { spelled = r.0; fits = r.1; value = r.2 }
 
 pub record AreAssigns (cat : Catalogue) (rel : RelNo) (ws : List Word) (sets : List Assign) : Type 0 where
@@ -188,18 +141,13 @@ of_answers cat rel i [] [] looks h = record { spelled = refl; fits = tt; values 
 of_answers cat rel i (s ∷ ss) (a ∷ sets) looks h =
     let one = assign_takes cat rel s a looks.0 h.0 in
     let more = of_answers cat rel (i + 1) ss sets looks.1 h.1 in
-    record {
-      spelled = ap (λ (l : List Word). l ++ setted ss) one.spelled ∙ ap (λ (l : List Word). assign_words cat rel a ++ l) more.spelled;
-      fits = (one.fits, more.fits);
-      values = (one.value, more.values);
-    }
+    grind arith
 of_answers cat rel i _ _ looks h = absurd h
 
 pub assigns_take : (cat : Catalogue) (rel : RelNo) (ws : List Word) (ss : List Setting) (sets : List Assign)
     → settings ws ≡ Some ss → along (reads cat rel.0) 0 ss ≡ Ok sets → AreAssigns cat rel ws sets
 assigns_take cat rel ws ss sets form e =
-    let f = settings_take ws ss form in
-    subst (λ (l : List Word). AreAssigns cat rel l sets) (sym f.spelled) (of_answers cat rel 0 ss sets f.looks (along_ok (reads cat rel.0) 0 ss sets e))
+    let f = settings_take ws ss form in rw f.spelled (of_answers cat rel 0 ss sets f.looks (along_ok (reads cat rel.0) 0 ss sets e))
 
 -- the setting that an assignment is
 abbrev pub setting_for : Catalogue → RelNo → Assign → Setting
@@ -226,23 +174,22 @@ other_column cat rel column other = let e : eqb column (key_of cat rel) ≡ fals
 assign_again : (cat : Catalogue) → IsKnown cat → (rel : RelNo) → AreParts cat (rel ∷ []) → (a : Assign)
     → FitsAssign cat rel.0 a → AssignsValue a → assign_of cat rel.0 (setting_for cat rel a) ≡ Ok a
 assign_again cat k rel h (To column value) fits v =
-    let a = ref_again cat k (rel ∷ []) (own_column column) h (own_fits cat rel column fits.0) in
-    let n = other_column cat rel.0 column fits.1 in
-    let c : value_of (Some (kind_at cat rel.0 column)) (value_word value) ≡ Ok value =
-    subst (λ (x : Kind). value_of (Some x) (value_word value) ≡ Ok value) fits.2 (value_again value v) in
-    rw (a, n, c) refl
+    rw (
+      ref_again cat k (rel ∷ []) (own_column column) h (own_fits cat rel column fits.0),
+      other_column cat rel.0 column fits.1,
+      subst (λ (x : Kind). value_of (Some x) (value_word value) ≡ Ok value) fits.2 (value_again value v),
+    ) refl
 assign_again cat k rel h (Add column by) fits v =
-    let a = ref_again cat k (rel ∷ []) (own_column column) h (own_fits cat rel column fits.0) in
-    let n = other_column cat rel.0 column fits.1 in
-    let s : is_of_kind (Some (kind_at cat rel.0 column)) kinds.Int ≡ true =
-    subst (λ (x : Kind). is_of_kind (Some x) kinds.Int ≡ true) (sym fits.2) (kind_same kinds.Int) in
-    let c = number_again by v in
-    rw (a, n, s, c) refl
+    rw (
+      ref_again cat k (rel ∷ []) (own_column column) h (own_fits cat rel column fits.0),
+      other_column cat rel.0 column fits.1,
+      subst (λ (x : Kind). is_of_kind (Some x) kinds.Int ≡ true) (sym fits.2) (kind_same kinds.Int),
+      number_again by v,
+    ) refl
 
 words_same : (cat : Catalogue) (rel : RelNo) (sets : List Assign) → sets_words cat rel sets ≡ setted (map (setting_for cat rel) sets)
 words_same cat rel [] = refl
-words_same cat rel (To column value ∷ sets) = rw (words_same cat rel sets) refl
-words_same cat rel (Add column by ∷ sets) = rw (words_same cat rel sets) refl
+words_same cat rel (a ∷ sets) = grind (arith, (words_same cat rel sets))
 
 all_look : (cat : Catalogue) → IsKnown cat → (rel : RelNo) → AreParts cat (rel ∷ []) → (sets : List Assign)
     → AllByRecursion (FitsAssign cat rel.0) sets → AllByRecursion AssignsValue sets

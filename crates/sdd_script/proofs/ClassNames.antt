@@ -5,20 +5,14 @@ use Rattle.sdd_lang.specs.All.{Parts}
 
 -- ---- they differ
 
-new_name : (parts : Parts) (before : List ClassPart) (c : ClassPart) → faults_of_class parts before c ≡ [] → has_name (part_names before) c.name ≡ false
-new_name parts before c e = grind arith
-
-names_with : (before : List ClassPart) (c : ClassPart) → part_names (before ++ c ∷ []) ≡ part_names before ++ c.name ∷ []
-names_with before c = map-append (λ (k : ClassPart). k.name) before (c ∷ [])
-
 no_repeats : (parts : Parts) (before xs : List ClassPart) → repeats (part_names before) ≡ false
     → found_from (faults_of_class parts) before xs ≡ [] → repeats (part_names (before ++ xs)) ≡ false
 no_repeats parts before [] r e = subst (λ (l : List ClassPart). repeats (part_names l) ≡ false) (sym (append-nil before)) r
 no_repeats parts before (c ∷ xs) r e =
     let h = both_empty (faults_of_class parts before c) (found_from (faults_of_class parts) (before ++ c ∷ []) xs) e in
-    let other = none_any (bytes_eq c.name) (part_names before) (new_name parts before c h.0) in
+    let other = none_any (bytes_eq c.name) (part_names before) (grind arith) in
     let one : repeats (part_names (before ++ c ∷ [])) ≡ false =
-    subst (λ (l : List (List ℕ)). repeats l ≡ false) (sym (names_with before c))
+    subst (λ (l : List (List ℕ)). repeats l ≡ false) (sym (map-append (λ (k : ClassPart). k.name) before (c ∷ [])))
     (repeats_not (part_names before) c.name r other) in
     subst (λ (l : List ClassPart). repeats (part_names l) ≡ false) (append_assoc before (c ∷ []) xs) (no_repeats parts (before ++ c ∷ []) xs one h.1)
 
@@ -69,13 +63,6 @@ pub classes_or_last : (name : List ℕ) (classes : List ClassPart) (last : List 
     (λ (c : ClassPart). bytes_eq name c.name) last)
 classes_or_last name classes last = list_any-append (named name) classes last
 
-lists_or_open_list : (name : List ℕ) (lists : List (List ClassPart)) (classes : List ClassPart)
-    → list_any (λ (c : ClassPart). bytes_eq name c.name) (joined lists ++ classes) ≡ (list_any
-    (λ (l : List ClassPart). list_any (λ (c : ClassPart). bytes_eq name c.name) l) lists || list_any
-    (λ (c : ClassPart). bytes_eq name c.name) classes)
-lists_or_open_list name lists classes = list_any-append (named name) (joined lists) classes
-    ∙ ap (λ (b : Bool). b || list_any (named name) classes) (any_joined (named name) lists)
-
 pub catalogue_or_lists : (cat : Catalogue) (classes : List ClassPart) (name : List ℕ)
     → has_name (class_names cat ++ part_names classes) name ≡ (has_name (class_names cat) name || list_any (λ (c : ClassPart). bytes_eq name c.name) classes)
 catalogue_or_lists cat classes name = grind (arith, list_any-append, list_any-map)
@@ -96,11 +83,11 @@ in_classes name classes = list_any (λ (c : ClassPart). bytes_eq name c.name) cl
 
 pub declared_in_lists : (name : List ℕ) (lists : List (List ClassPart)) (classes : List ClassPart)
     (b : Bool) → b ≡ in_lists name lists → b ≡ true → b ≡ in_classes name (joined lists ++ classes)
-declared_in_lists name lists classes b e t = either_first b (in_lists name lists) (in_classes name classes) e t ∙ sym (lists_or_open_list name lists classes)
+declared_in_lists name lists classes b e t = either_first b (in_lists name lists) (in_classes name classes) e t ∙ sym (grind (arith, list_any-append, named, list_any, any_joined))
 
 pub declared_in_open_list : (name : List ℕ) (lists : List (List ClassPart)) (classes : List ClassPart)
     (b d : Bool) → b ≡ in_lists name lists → b ≡ false → d ≡ in_classes name classes
     → d ≡ in_classes name (joined lists ++ classes)
 declared_in_open_list name lists classes b d e f g =
     either_second b (in_lists name lists) d (in_classes name classes) e f g
-    ∙ sym (lists_or_open_list name lists classes)
+    ∙ sym (grind (arith, list_any-append, named, list_any, any_joined))

@@ -70,9 +70,7 @@ last_changed cat front cs c d n h same f =
 
 names_more : {A : Type 0} (f : A → List ℕ) (xs : List A) (x : A) → repeats (map f xs) ≡ false
     → has_name (map f xs) (f x) ≡ false → repeats (map f (xs ++ x ∷ [])) ≡ false
-names_more f xs x once other =
-    subst (λ (l : List (List ℕ)). repeats l ≡ false) (sym (map-append f xs (x ∷ [])))
-    (repeats_not (map f xs) (f x) once (none_any (bytes_eq (f x)) (map f xs) other))
+names_more f xs x once other = grind (arith, map-append, repeats_not, none_any, bytes_eq)
 
 read_valid : (cat : Catalogue) (c : ClassPart) (r : ReadPart) → IsValidRead cat r
     → has_name (read_names c.reads) r.fragment ≡ false → length c.reads < MAX_READS → IsValidClass cat c

@@ -1,5 +1,5 @@
 -- Events: what is read is spelled and is there, and what is spelled and is there is read.
-use Rattle.sdd_script.proofs.All.{BadEvent, BadLine, Bool, Catalogue, D, DmNo, Down, Event, HasNoNewline, HasNoSpace, IsAscii-cons, IsAscii-nil, IsFrom1To, IsLink, IsPlain, IsSite, IsUtf8, IsUtf8-append, IsUtf8-from_ascii, List, MAX_PLACE, MAX_TICKS, None, Ok, Option, Plain, Quoted, Redeclare, Resend, Settle, Site, Some, T, Tick, TmNo, U, Up, Word, [], ap, are_linked, arith, bind_ok, both_hold, cond, count_of, count_word, data_module_of, decimal, dm_of, down_of, eqb-true, false, flight_place, from_one, is_free, known_ok, length, link_of, lt-ltb, module_of, must, nat_le, nat_lt, nat_lt as ltb, negsuc, number_again, number_of, number_takes, numbered, ok_is, option_map, pos, redeclare_of, refl, resend_of, settle_of, site_in, site_of, site_word, subst, tick_of, tm_no, tm_of, true, up_of, ℕ, ℤ, ◌&&◌, ◌<◌, ◌==◌, ◌>>=◌, ◌^◌, ◌∙◌, ◌∷◌, ◌≡◌, ◌≢◌}
+use Rattle.sdd_script.proofs.All.{BadEvent, Bool, Catalogue, D, DmNo, Down, Event, HasNoNewline, HasNoSpace, IsAscii-cons, IsAscii-nil, IsFrom1To, IsLink, IsPlain, IsSite, IsUtf8, IsUtf8-append, IsUtf8-from_ascii, List, MAX_PLACE, MAX_TICKS, None, Ok, Option, Plain, Quoted, Redeclare, Resend, Settle, Site, Some, T, Tick, TmNo, U, Up, Word, [], ap, are_linked, arith, bind_ok, both_hold, cond, count_of, count_word, data_module_of, decimal, dm_of, down_of, eqb-true, flight_place, from_one, is_free, known_ok, length, link_of, lt-ltb, module_of, nat_le, nat_lt, negsuc, number_again, number_of, number_takes, numbered, ok_is, pos, redeclare_of, refl, resend_of, settle_of, site_in, site_of, site_word, subst, tick_of, tm_of, true, up_of, ℕ, ℤ, ◌&&◌, ◌<◌, ◌==◌, ◌^◌, ◌∙◌, ◌∷◌, ◌≡◌, ◌≢◌}
 use Rattle.sdd_script.proofs.StepLaws.{must_then, of_le}
 use Rattle.sdd_script.proofs.WordLooks.{IsFine, count_fine, count_free}
 use Rattle.sdd_script.proofs.UseLaws.{IsKnown}
@@ -21,27 +21,13 @@ pub numbered_takes : (most : ℕ) (bytes : List ℕ) (n : ℕ) → numbered most
 numbered_takes most bytes n e = one_takes most bytes n (number_of bytes) refl e
 
 pub numbered_again : (most n : ℕ) → most < 2 ^ 63 → IsFrom1To most n → numbered most (decimal n) ≡ Some n
-numbered_again most n small h =
-    let a : number_of (decimal n) ≡ Some (pos n) = number_again (pos n) (omega (arith, h.1)) in
-    let b : ltb 0 n ≡ true = lt-ltb 0 n (omega (arith, h.0)) in
-    let c = of_le n most h.1 in
-    rw (a, b, c) refl
+numbered_again most n small h = rw (number_again (pos n) (omega (arith, h.1)), lt-ltb 0 n (omega (arith, h.0)), of_le n most h.1) refl
 
 -- ---- sites
 
 pub record IsSiteWord (cat : Catalogue) (w : Word) (site : Site) : Type 0 where
   pub spelled : w ≡ site_word site
   pub there : IsSite cat site
-
-abbrev some_site : Site → Option Site
-some_site s = Some s
-
-site_is : (x y : Site) → some_site x ≡ some_site y → x ≡ y
-site_is x y e = cc
-
-mapped : (f : ℕ → Site) (o : Option ℕ) (site : Site) → option_map f o ≡ Some site → (n : ℕ) × (o ≡ Some n) × (f n ≡ site)
-mapped f None site e = absurd cc
-mapped f (Some n) site e = (n, refl, site_is (f n) site e)
 
 abbrev dm_no : ℕ → DmNo
 dm_no n = record { 0 = n }
@@ -50,52 +36,20 @@ empty_if : (ds : List ℕ) → (length ds == 0) ≡ true → ds ≡ []
 empty_if [] e = refl
 empty_if (c ∷ ds) e = let n : length (c ∷ ds) ≡ 0 = eqb-true (length (c ∷ ds)) 0 e in absurd (omega (arith, n))
 
-site_if : (cat : Catalogue) (c : ℕ) (ds : List ℕ) (site : Site) (u t d : Bool) → (c == 85 && (length ds == 0)) ≡ u → (c == 84) ≡ t
-    → (c == 68) ≡ d
-    → cond u (Some U) (cond t (option_map (λ n. T (tm_no n)) (numbered cat.tms ds))
-    (cond d (option_map (λ n. D (dm_no n)) (numbered cat.dms ds)) None)) ≡ Some site
-    → IsSiteWord cat (Plain (c ∷ ds)) site
-site_if cat c ds site true t d p q r e =
-    let h = both_hold (c == 85) (length ds == 0) p in
-    let a : c ≡ 85 = eqb-true c 85 h.0 in
-    let b : ds ≡ [] = empty_if ds h.1 in
-    subst (λ (s : Site). IsSiteWord cat (Plain (c ∷ ds)) s) (site_is U site e) (record {
-      spelled = ap (λ (x : ℕ). Plain (x ∷ ds)) a ∙ ap (λ (l : List ℕ). Plain (85 ∷ l)) b;
-      there = tt;
-    })
-site_if cat c ds site false true d p q r e =
-    let m = mapped (λ n. T (tm_no n)) (numbered cat.tms ds) site e in
-    let n = numbered_takes cat.tms ds m.0 m.1 in
-    subst (λ (s : Site). IsSiteWord cat (Plain (c ∷ ds)) s) m.2 (record {
-      spelled = ap (λ (x : ℕ). Plain (x ∷ ds)) (eqb-true c 84 q) ∙ ap (λ (l : List ℕ). Plain (84 ∷ l)) n.0;
-      there = n.1;
-    })
-site_if cat c ds site false false true p q r e =
-    let m = mapped (λ n. D (dm_no n)) (numbered cat.dms ds) site e in
-    let n = numbered_takes cat.dms ds m.0 m.1 in
-    subst (λ (s : Site). IsSiteWord cat (Plain (c ∷ ds)) s) m.2 (record {
-      spelled = ap (λ (x : ℕ). Plain (x ∷ ds)) (eqb-true c 68 r) ∙ ap (λ (l : List ℕ). Plain (68 ∷ l)) n.0;
-      there = n.1;
-    })
-site_if cat c ds site false false false p q r e = absurd cc
-
 site_bytes : (cat : Catalogue) (bytes : List ℕ) (site : Site) → site_in cat bytes ≡ Some site → IsSiteWord cat (Plain bytes) site
 site_bytes cat [] site e = absurd cc
-site_bytes cat (c ∷ ds) site e = site_if cat c ds site (c == 85 && (length ds == 0)) (c == 84) (c == 68) refl refl refl e
+site_bytes cat (c ∷ ds) site e = (grind (arith, both_hold, eqb-true, empty_if, IsSiteWord, numbered_takes, dm_no))
 
 pub site_takes : (cat : Catalogue) (w : Word) (site : Site) → site_of cat w ≡ Ok site → IsSiteWord cat w site
 site_takes cat (Plain bytes) site e = site_bytes cat bytes site (known_ok BadEvent (site_in cat bytes) site e)
 site_takes cat (Quoted text) site e = absurd cc
 
 pub site_again : (cat : Catalogue) → IsKnown cat → (site : Site) → IsSite cat site → site_of cat (site_word site) ≡ Ok site
-site_again cat k U h = refl
-site_again cat k (T tm) h = let e = numbered_again cat.tms tm.0 (omega (arith, k.few_tms)) h in rw e refl
-site_again cat k (D dm) h = let e = numbered_again cat.dms dm.0 (omega (arith, k.few_dms)) h in rw e refl
+site_again cat k site h = grind (arith, numbered_again)
 
 module_takes : (cat : Catalogue) (w : Word) (tm : TmNo) (site : Site) → IsSiteWord cat w site
     → module_of site ≡ Ok tm → (w ≡ site_word (T tm)) × IsFrom1To cat.tms tm.0
-module_takes cat w tm (T t) h e = let same = ok_is t tm e in rw (← same) (h.spelled, h.there)
-module_takes cat w tm _ h e = absurd cc
+module_takes cat w tm site h e = grind (arith, ok_is)
 
 pub tm_takes : (cat : Catalogue) (w : Word) (tm : TmNo) → tm_of cat w ≡ Ok tm → (w ≡ site_word (T tm)) × IsFrom1To cat.tms tm.0
 tm_takes cat w tm e =
@@ -107,8 +61,7 @@ tm_again cat k tm h = let e = site_again cat k (T tm) h in rw e refl
 
 data_module_takes : (cat : Catalogue) (w : Word) (dm : DmNo) (site : Site) → IsSiteWord cat w site
     → data_module_of site ≡ Ok dm → (w ≡ site_word (D dm)) × IsFrom1To cat.dms dm.0
-data_module_takes cat w dm (D d) h e = let same = ok_is d dm e in rw (← same) (h.spelled, h.there)
-data_module_takes cat w dm _ h e = absurd cc
+data_module_takes cat w dm site h e = grind (arith, ok_is)
 
 pub dm_takes : (cat : Catalogue) (w : Word) (dm : DmNo) → dm_of cat w ≡ Ok dm → (w ≡ site_word (D dm)) × IsFrom1To cat.dms dm.0
 dm_takes cat w dm e =
@@ -133,11 +86,7 @@ link_takes cat from to l e =
     let c = must_then _ (are_linked a.0 b.0) _ l b.2 in
     let f = site_takes cat from a.0 a.1 in
     let t = site_takes cat to b.0 b.1 in
-    subst (λ (x : Site × Site). IsLinkWords cat from to x) (ok_is (link a.0 b.0) l c.1) (record {
-      from_is = f.spelled;
-      to_is = t.spelled;
-      linked = (f.there, t.there, c.0);
-    })
+    rw (← ok_is (link a.0 b.0) l c.1) (record { from_is = f.spelled; to_is = t.spelled; linked = (f.there, t.there, c.0) })
 
 pub link_again : (cat : Catalogue) → IsKnown cat → (from to : Site) → IsLink cat from to → link_of cat (site_word from) (site_word to) ≡ Ok (from, to)
 link_again cat k from to h = grind (arith, site_again)
@@ -150,14 +99,11 @@ count_again most n small h = let e = numbered_again most n small h in rw e refl
 
 -- ---- what the words look like
 
-literal : (c : ℕ) → c < 128 → IsUtf8 (c ∷ [])
-literal c lt = IsUtf8-from_ascii (c ∷ []) (IsAscii-cons c [] lt IsAscii-nil)
-
 lettered : (c : ℕ) (bytes : List ℕ) → c < 128 → c ≢ 10 → c ≢ 32 → c ≢ 34 → HasNoSpace bytes → HasNoNewline bytes → IsUtf8 bytes
     → IsFine (Plain (c ∷ bytes))
 lettered c bytes lt newline space quote s l u = record {
   word = (quote, space, s);
-  utf8 = IsUtf8-append (c ∷ []) bytes (literal c lt) u;
+  utf8 = IsUtf8-append (c ∷ []) bytes (IsUtf8-from_ascii (c ∷ []) (IsAscii-cons c [] lt IsAscii-nil)) u;
   sound = refl;
   line = (newline, l);
 }
@@ -201,8 +147,7 @@ place_takes cat (from ∷ to ∷ place ∷ []) p h =
     let c = bind_ok (count_of MAX_PLACE place) _ p b.2 in
     let l = link_takes cat from to b.0 b.1 in
     let n = count_takes MAX_PLACE place c.0 c.1 in
-    subst (λ (x : Site × Site × ℕ). IsPlaced cat (from ∷ to ∷ place ∷ []) x) (ok_is (flight b.0.0 b.0.1 c.0) p c.2)
-    (record { linked = l.linked; placed = n.1; spelled = cc })
+    rw (← ok_is (flight b.0.0 b.0.1 c.0) p c.2) (record { linked = l.linked; placed = n.1; spelled = cc })
 place_takes cat _ p h = absurd cc
 
 pub place_again : (cat : Catalogue) → IsKnown cat → (from to : Site) (place : ℕ) → IsLink cat from to
@@ -222,13 +167,7 @@ resend_takes cat (from ∷ to ∷ []) e h =
     let a = must_then _ (is_free from && is_free to) _ e h in
     let b = bind_ok (link_of cat from to) _ e a.1 in
     let l = link_takes cat from to b.0 b.1 in
-    record {
-      from = b.0.0;
-      to = b.0.1;
-      linked = l.linked;
-      spelled = cc;
-      is = ok_is (Resend b.0.0 b.0.1) e b.2;
-    }
+    record { from = b.0.0; to = b.0.1; linked = l.linked; spelled = cc; is = ok_is (Resend b.0.0 b.0.1) e b.2 }
 resend_takes cat _ e h = absurd cc
 
 pub resend_again : (cat : Catalogue) → IsKnown cat → (from to : Site) → IsLink cat from to
@@ -250,14 +189,7 @@ tick_takes cat (tm ∷ n ∷ []) e h =
     let c = bind_ok (count_of MAX_TICKS n) _ e b.2 in
     let t = tm_takes cat tm b.0 b.1 in
     let m = count_takes MAX_TICKS n c.0 c.1 in
-    record {
-      tm = b.0;
-      n = c.0;
-      there = t.1;
-      counted = m.1;
-      spelled = cc;
-      is = ok_is (Tick b.0 c.0) e c.2;
-    }
+    record { tm = b.0; n = c.0; there = t.1; counted = m.1; spelled = cc; is = ok_is (Tick b.0 c.0) e c.2 }
 tick_takes cat _ e h = absurd cc
 
 pub tick_again : (cat : Catalogue) → IsKnown cat → (tm : TmNo) (n : ℕ) → IsFrom1To cat.tms tm.0
@@ -277,24 +209,14 @@ pub record IsTurn (turn : DmNo → Event) (cat : Catalogue) (words : List Word) 
   pub spelled : words ≡ site_word (D dm) ∷ []
   pub is : turn dm ≡ e
 
-turn_takes : (turn : DmNo → Event) (cat : Catalogue) (dm : Word) (e : Event)
-    → (must BadLine (is_free dm) >>= λ _. dm_of cat dm >>= λ d. Ok (turn d)) ≡ Ok e → IsTurn turn cat (dm ∷ []) e
-turn_takes turn cat dm e h =
-    let a = must_then _ (is_free dm) _ e h in
-    let b = bind_ok (dm_of cat dm) _ e a.1 in
-    let t = dm_takes cat dm b.0 b.1 in
-    record { dm = b.0; there = t.1; spelled = ap (λ (w : Word). w ∷ []) t.0; is = ok_is (turn b.0) e b.2 }
-
 pub down_takes : (cat : Catalogue) (words : List Word) (e : Event) → down_of cat words ≡ Ok e → IsTurn Down cat words e
-down_takes cat (dm ∷ []) e h = turn_takes Down cat dm e h
-down_takes cat _ e h = absurd cc
+down_takes cat words e h = grind (arith, must_then, bind_ok, dm_takes, ok_is)
 
 pub down_again : (cat : Catalogue) → IsKnown cat → (dm : DmNo) → IsFrom1To cat.dms dm.0 → down_of cat (site_word (D dm) ∷ []) ≡ Ok (Down dm)
 down_again cat k dm h = let a = dm_again cat k dm h in rw a refl
 
 pub up_takes : (cat : Catalogue) (words : List Word) (e : Event) → up_of cat words ≡ Ok e → IsTurn Up cat words e
-up_takes cat (dm ∷ []) e h = turn_takes Up cat dm e h
-up_takes cat _ e h = absurd cc
+up_takes cat words e h = grind (arith, must_then, bind_ok, dm_takes, ok_is)
 
 pub up_again : (cat : Catalogue) → IsKnown cat → (dm : DmNo) → IsFrom1To cat.dms dm.0 → up_of cat (site_word (D dm) ∷ []) ≡ Ok (Up dm)
 up_again cat k dm h = let a = dm_again cat k dm h in rw a refl

@@ -1,5 +1,5 @@
 -- Every relation has so few columns that each has a number.
-use Rattle.sdd_script.proofs.All.{Catalogue, IsSoundCatalogue, Option, Relation, RelationPart, Some, [], ap, arith, column_part, columns_of, get_or, get_or-map, get_or_from_slice_get, have_numbers, length, length-map, map, no_relation, option_map_or, parts_of, refl, relation_if, relation_part, slice_get, slice_get_within, subst, ℕ, ◌-◌, ◌<◌, ◌^◌, ◌∙◌, ◌≡◌}
+use Rattle.sdd_script.proofs.All.{Catalogue, IsSoundCatalogue, Relation, RelationPart, Some, ap, arith, column_part, columns_of, get_or, get_or-map, get_or_from_slice_get, have_numbers, length, length-map, map, no_relation, parts_of, relation_part, slice_get, slice_get_within, subst, ℕ, ◌-◌, ◌<◌, ◌^◌, ◌∙◌, ◌≡◌}
 
 few_of : (cat : Catalogue) → IsSoundCatalogue cat → (k : ℕ) (r : Relation) → slice_get cat.relations k ≡ Some r → length r.columns < 2 ^ 32 - 1
 few_of cat sound k r e =
@@ -13,9 +13,5 @@ few_of cat sound k r e =
     let there : length (relation_part r).columns < 2 ^ 32 - 1 = subst (λ (p : RelationPart). length p.columns < 2 ^ 32 - 1) at few in
     omega arith
 
-few_if : (cat : Catalogue) → IsSoundCatalogue cat → (k : ℕ) (o : Option Relation) → slice_get cat.relations k ≡ o
-    → length (option_map_or (λ (r : Relation). r.columns) o []) < 2 ^ 32 - 1
-few_if cat sound k h e = grind (arith, few_of)
-
 pub few_columns : (cat : Catalogue) (rel : ℕ) → IsSoundCatalogue cat → length (columns_of cat rel) < 2 ^ 32 - 1
-few_columns cat rel sound = few_if cat sound (rel - 1) (relation_if cat rel) refl
+few_columns cat rel sound = (grind (arith, few_of))

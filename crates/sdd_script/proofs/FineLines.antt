@@ -60,8 +60,7 @@ conditions_fine : (cat : Catalogue) → IsKnown cat → (rels : List RelNo) → 
     → IsFine (Plain key) → (ds : List Condition) → AllByRecursion (FitsCondition cat rels) ds
     → AllByRecursion HoldsValue ds → AreFine (conditions_words key cat rels ds)
 conditions_fine cat k rels p key f [] fits v = tt
-conditions_fine cat k rels p key f (Const left op value ∷ ds) fits v =
-    grind (arith, column_word_is, op_fine, value_fine, conditions_fine cat k rels p (codes "and") (simple_fine (codes "and") refl) ds fits.1 v.1)
+conditions_fine cat k rels p key f (Const left op value ∷ ds) fits v = grind (arith, column_word_is, op_fine, value_fine, simple_fine, (conditions_fine cat k rels p (codes "and") (simple_fine (codes "and") refl) ds fits.1 v.1))
 conditions_fine cat k rels p key f (Same left right ∷ ds) fits v = (
   f,
   (
@@ -113,14 +112,10 @@ statement_fine cat k (Put rel row) h v = (keyword_fine (keys.Statement skeys.Put
 statement_fine cat k (Query out rels conds) h v =
     let q = query_fits cat out rels conds h v in (
       keyword_fine (keys.Statement skeys.Query),
-      fine-append (map (column_word cat rels) out)
-          (Plain (codes "from") ∷ (map (relation_word cat) rels ++ where_words cat rels conds))
-          (columns_fine cat k rels q.parts out q.columns) (
-            simple_fine (codes "from") refl,
-            fine-append (map (relation_word cat) rels)
-                (where_words cat rels conds) (relations_fine cat k rels q.relations)
-                (where_fine cat k rels q.parts conds q.conds_fit q.conds_hold),
-          ),
+      fine-append (map (column_word cat rels) out) _ (columns_fine cat k rels q.parts out q.columns) (
+        simple_fine (codes "from") refl,
+        fine-append (map (relation_word cat) rels) _ (relations_fine cat k rels q.relations) (where_fine cat k rels q.parts conds q.conds_fit q.conds_hold),
+      ),
     )
 statement_fine cat k (Update rel sets conds) h v =
     let u = update_fits cat rel sets conds h v in (
@@ -129,8 +124,7 @@ statement_fine cat k (Update rel sets conds) h v =
         name_fine (name_of_relation cat rel.0) (k.relation_name rel.0 u.relation),
         (
           simple_fine (codes "set") refl,
-          fine-append (sets_words cat rel sets) (where_words cat (rel ∷ []) conds)
-              (sets_fine cat k rel u.parts sets u.sets_fit u.sets_hold)
+          fine-append (sets_words cat rel sets) _ (sets_fine cat k rel u.parts sets u.sets_fit u.sets_hold)
               (where_fine cat k (rel ∷ []) u.parts conds u.conds_fit u.conds_hold),
         ),
       ),
@@ -140,8 +134,7 @@ statement_fine cat k (Delete rel conds) h v = (
   (
     name_fine (name_of_relation cat rel.0) (k.relation_name rel.0 h.0),
     where_fine cat k (rel ∷ []) (one_part cat rel h.0) conds
-        (recursion_from_All (FitsCondition cat (rel ∷ [])) conds h.1.1)
-        (recursion_from_All HoldsValue conds v),
+        (recursion_from_All (FitsCondition cat (rel ∷ [])) conds h.1.1) (recursion_from_All HoldsValue conds v),
   ),
 )
 

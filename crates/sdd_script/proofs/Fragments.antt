@@ -1,5 +1,5 @@
 -- Fragments by their names: what is read is there, and what is there is read.
-use Rattle.sdd_script.proofs.All.{Bool, Catalogue, IsFragment, List, None, Ok, Option, Plain, Quoted, Result, Some, UnknownName, Word, WorkRule, ap, cond, false, fragment_named, fragment_of, has_copy, is_kept_at, is_some, known, name_in, ok_is, option_map_or, refl, subst, true, ℕ, ◌>>=◌, ◌∙◌, ◌≡◌}
+use Rattle.sdd_script.proofs.All.{Catalogue, IsFragment, List, Ok, Option, Plain, Quoted, Some, Word, ap, arith, false, fragment_named, fragment_of, has_copy, is_kept_at, is_some, name_in, ok_is, option_map_or, subst, true, ℕ, ◌≡◌}
 use Rattle.sdd_script.proofs.StepLaws.{known_then}
 use Rattle.sdd_script.proofs.SoundStates.{named_takes}
 
@@ -27,8 +27,7 @@ fragment_takes cat (Plain bytes) f e =
     })
 
 pub some_there : {A : Type 0} (o : Option A) → is_some o ≡ true → (x : A) × (o ≡ Some x)
-some_there None e = absurd cc
-some_there (Some x) e = (x, refl)
+some_there o e = grind arith
 
 pub record IsReadFragment (cat : Catalogue) (name : List ℕ) : Type 0 where
   pub number : ℕ
@@ -36,17 +35,7 @@ pub record IsReadFragment (cat : Catalogue) (name : List ℕ) : Type 0 where
   pub read : fragment_of cat (Plain name) ≡ Ok (name, number)
 
 pub fragment_again : (cat : Catalogue) (name : List ℕ) → IsFragment cat name → IsReadFragment cat name
-fragment_again cat name h =
-    let s = some_there (fragment_named cat name) h.1 in
-    let a : name_in name ≡ Some name = ap (λ (b : Bool). cond b (Some name) None) h.0 in
-    let frag : Option (List ℕ) → Result (List ℕ × ℕ) WorkRule =
-    λ (o : Option (List ℕ)). known UnknownName o >>= λ n. known UnknownName (fragment_named cat n) >>=
-    λ f. Ok (named n f) in
-    record {
-      number = s.0;
-      named = s.1;
-      read = ap frag a ∙ ap (λ (o : Option ℕ). known UnknownName o >>= λ f. Ok (named name f)) s.1;
-    }
+fragment_again cat name h = grind (arith, some_there, named)
 
 -- a copy of the fragment with the name is one of the fragment with its number
 pub kept_at : (cat : Catalogue) (dm : ℕ) (name : List ℕ) (frag : ℕ) → fragment_named cat name ≡ Some frag

@@ -42,10 +42,6 @@ relation_found cat s rel h =
 
 -- ---- columns
 
-columns_differ : (before : List RelationPart) (r : RelationPart) → relation_rules before r ≡ []
-    → repeats (map (λ (c : ColumnPart). c.name) r.columns) ≡ false
-columns_differ before r e = let a = both_empty _ _ e in let b = both_empty _ _ a.0 in unbroken _ _ b.1
-
 abbrev names_of : List Column → List (List ℕ)
 names_of columns = map (λ (c : Column). c.name) columns
 
@@ -59,7 +55,7 @@ differ cat s rel h =
     (rel - 1) no_part lt) in
     let at : repeats (map (λ (c : ColumnPart). c.name)
     (get_or parts.relations (rel - 1) no_part).columns) ≡ false =
-    columns_differ (take (rel - 1) parts.relations) (get_or parts.relations (rel - 1) no_part) rules in
+    (let a = both_empty _ _ rules in let b = both_empty _ _ a.0 in unbroken _ _ b.1) in
     let same : map (λ (c : ColumnPart). c.name) (get_or parts.relations (rel - 1) no_part).columns ≡ names_of (relation_at cat rel).columns =
     ap (λ (r : RelationPart). map (λ (c : ColumnPart). c.name) r.columns) (part_at cat rel h)
     ∙ map-map (λ (c : ColumnPart). c.name) column_part (relation_at cat rel).columns in
@@ -97,9 +93,6 @@ column_found cat s rel column h k =
 
 -- ---- names
 
-relation_named_so : (cat : Catalogue) → AreNamed cat → (rel : ℕ) → IsRelation cat rel → IsNamed (relation_at cat rel)
-relation_named_so cat n rel h = All-get_or IsNamed cat.relations (rel - 1) no_relation (omega (arith, h.0, h.1)) n.relations
-
 column_named_so : (cat : Catalogue) → AreNamed cat → (rel column : ℕ) → IsRelation cat rel
     → IsColumn cat rel column → is_name (name_of_column (columns_of cat rel) column) ≡ true
 column_named_so cat n rel column h k =
@@ -107,7 +100,7 @@ column_named_so cat n rel column h k =
     let lt : column - 1 < length columns = omega (arith, k.0, k.1) in
     let named : is_name (get_or columns (column - 1) no_column).name ≡ true =
     All-get_or (λ (c : Column). IsName c.name) columns (column - 1) no_column lt
-    (relation_named_so cat n rel h).columns in
+    (All-get_or IsNamed cat.relations (rel - 1) no_relation (omega (arith, h.0, h.1)) n.relations).columns in
     let same : name_of_column (columns_of cat rel) column ≡ (get_or columns (column - 1) no_column).name =
     ap (λ (l : List Column). name_of_column l column) (columns_are cat rel)
     ∙ column_name_is columns column k.0 k.1 ∙ get_or-map (λ (c : Column). c.name) columns
@@ -121,7 +114,7 @@ pub known : (cat : Catalogue) → IsSoundCatalogue cat → IsWhole cat → AreNa
 known cat s w n = record {
   relation = relation_found cat s;
   column = column_found cat s;
-  relation_name = λ rel h. subst (λ (l : List ℕ). is_name l ≡ true) (sym (name_is cat rel)) (relation_named_so cat n rel h).name;
+  relation_name = λ rel h. subst (λ (l : List ℕ). is_name l ≡ true) (sym (name_is cat rel)) (All-get_or IsNamed cat.relations (rel - 1) no_relation (omega (arith, h.0, h.1)) n.relations).name;
   column_name = column_named_so cat n;
   some_column = some_columns cat w;
   few_tms = w.few_tms;

@@ -1,5 +1,5 @@
 -- A line and its words, and its first word.
-use Rattle.sdd_script.proofs.All.{AllByRecursion, AllWords, Bool, Catalogue, ClassKey, EventKey, HasNoNewline, IsAscii-cons, IsAscii-nil, IsUtf8, IsUtf8-append, IsUtf8-from_ascii, Keyword, List, None, Ok, Option, Plain, Some, State, StatementKey, Word, [], ap, arith, both_are, bytes_eq, bytes_eq-Decides, class_key_in, codes, cond, event_key_in, inner_keyword, is_sound, is_utf8, is_utf8-from_IsUtf8, keyword_in, keyword_of, keyword_rules, line_bytes, list_all, more_bytes, outer_keyword, refl, rules, scan_again, scan_spelled, statement_key_in, true, word_bytes, words_of, words_rules, ℕ, ◌++◌, ◌∙◌, ◌∷◌, ◌≡◌}
+use Rattle.sdd_script.proofs.All.{AllByRecursion, AllWords, Catalogue, ClassKey, EventKey, HasNoNewline, IsAscii-cons, IsAscii-nil, IsUtf8, IsUtf8-append, IsUtf8-from_ascii, Keyword, List, None, Ok, Option, Plain, Some, State, StatementKey, Word, [], ap, arith, both_are, bytes_eq-Decides, class_key_in, codes, event_key_in, inner_keyword, is_sound, is_utf8, is_utf8-from_IsUtf8, keyword_in, keyword_of, keyword_rules, line_bytes, list_all, more_bytes, outer_keyword, refl, rules, scan_again, scan_spelled, statement_key_in, true, word_bytes, words_of, words_rules, ℕ, ◌++◌, ◌∙◌, ◌∷◌, ◌≡◌}
 use Rattle.sdd_script.specs.LineRules.{line_rules}
 use Rattle.sdd_script.proofs.StepLaws.{must_then, known_then, some_is}
 use Rattle.sdd_script.proofs.WordLooks.{IsFine, no_newline-append}
@@ -23,9 +23,6 @@ line_takes cat st to line e =
     let c = must_then _ (list_all is_sound b.0) _ to b.2 in
     record { words = b.0; spelled = scan_spelled line b.0 b.1; rules = c.1 }
 
-space : IsUtf8 (32 ∷ [])
-space = IsUtf8-from_ascii (32 ∷ []) (IsAscii-cons 32 [] (omega arith) IsAscii-nil)
-
 all_words : (ws : List Word) → AllByRecursion IsFine ws → AllWords ws
 all_words [] h = tt
 all_words (w ∷ ws) h = (h.0.word, all_words ws h.1)
@@ -37,7 +34,7 @@ all_sound (w ∷ ws) h = both_are (is_sound w) (list_all is_sound ws) h.0.sound 
 more_utf8 : (ws : List Word) → AllByRecursion IsFine ws → IsUtf8 (more_bytes ws)
 more_utf8 [] h = IsUtf8-from_ascii [] IsAscii-nil
 more_utf8 (w ∷ ws) h =
-    IsUtf8-append (32 ∷ []) (word_bytes w ++ more_bytes ws) space (IsUtf8-append (word_bytes w) (more_bytes ws) h.0.utf8 (more_utf8 ws h.1))
+    IsUtf8-append (32 ∷ []) (word_bytes w ++ more_bytes ws) (IsUtf8-from_ascii (32 ∷ []) (IsAscii-cons 32 [] (omega arith) IsAscii-nil)) (IsUtf8-append (word_bytes w) (more_bytes ws) h.0.utf8 (more_utf8 ws h.1))
 
 more_line : (ws : List Word) → AllByRecursion IsFine ws → HasNoNewline (more_bytes ws)
 more_line [] h = tt
@@ -50,11 +47,8 @@ pub line_again : (cat : Catalogue) (st : State) (w : Word) (ws : List Word) → 
     → line_rules cat st (line_bytes (w ∷ ws)) ≡ words_rules cat st (w ∷ ws)
 unfolding line_rules
 line_again cat st w ws h =
-    let line : List ℕ = line_bytes (w ∷ ws) in
-    let u : is_utf8 line ≡ true = is_utf8-from_IsUtf8 line (IsUtf8-append (word_bytes w) (more_bytes ws) h.0.utf8 (more_utf8 ws h.1)) in
-    let s : words_of line ≡ Some (w ∷ ws) = scan_again (w ∷ ws) (h.0.word, all_words ws h.1) in
-    let a : list_all is_sound (w ∷ ws) ≡ true = all_sound (w ∷ ws) h in
-    rw (u, s, a) refl
+    let u = is_utf8-from_IsUtf8 (line_bytes (w ∷ ws)) (IsUtf8-append (word_bytes w) (more_bytes ws) h.0.utf8 (more_utf8 ws h.1)) in
+    rw (u, scan_again (w ∷ ws) (h.0.word, all_words ws h.1), all_sound (w ∷ ws) h) refl
 
 -- ---- keywords
 
@@ -93,36 +87,14 @@ keyword_bytes (keys.Class key) = class_key_bytes key
 keyword_bytes (keys.Event key) = event_key_bytes key
 keyword_bytes keys.End = codes "end"
 
-choice : {K : Type 0} (f : K → List ℕ) (bytes : List ℕ) (o key : K) (rest : Option K) (b : Bool)
-    → bytes_eq bytes (f o) ≡ b → cond b (Some o) rest ≡ Some key → (rest ≡ Some key → bytes ≡ f key) → bytes ≡ f key
-choice f bytes o key rest b e is later = grind (arith, bytes_eq-Decides)
-
 statement_key_is : (bytes : List ℕ) (key : StatementKey) → statement_key_in bytes ≡ Some key → bytes ≡ statement_key_bytes key
-statement_key_is bytes key e =
-    choice statement_key_bytes bytes Put key _ (bytes_eq bytes (codes "put")) refl e (λ e.
-    choice statement_key_bytes bytes Query key _ (bytes_eq bytes (codes "query")) refl e (λ e.
-    choice statement_key_bytes bytes Update key _ (bytes_eq bytes (codes "update")) refl e (λ e.
-    choice statement_key_bytes bytes Delete key None (bytes_eq bytes (codes "delete")) refl e (λ e. absurd cc))))
+statement_key_is bytes key e = grind (arith, bytes_eq-Decides, statement_key_bytes)
 
 class_key_is : (bytes : List ℕ) (key : ClassKey) → class_key_in bytes ≡ Some key → bytes ≡ class_key_bytes key
-class_key_is bytes key e =
-    choice class_key_bytes bytes class_keys.List key _ (bytes_eq bytes (codes "list")) refl e (λ e.
-    choice class_key_bytes bytes class_keys.Class key _ (bytes_eq bytes (codes "class")) refl e (λ e.
-    choice class_key_bytes bytes class_keys.Reads key _ (bytes_eq bytes (codes "reads")) refl e (λ e.
-    choice class_key_bytes bytes class_keys.Writes key None (bytes_eq bytes (codes "writes")) refl e (λ e. absurd cc))))
+class_key_is bytes key e = grind (arith, bytes_eq-Decides, class_key_bytes)
 
 event_key_is : (bytes : List ℕ) (key : EventKey) → event_key_in bytes ≡ Some key → bytes ≡ event_key_bytes key
-event_key_is bytes key e =
-    choice event_key_bytes bytes Submit key _ (bytes_eq bytes (codes "submit")) refl e (λ e.
-    choice event_key_bytes bytes Deliver key _ (bytes_eq bytes (codes "deliver")) refl e (λ e.
-    choice event_key_bytes bytes Lose key _ (bytes_eq bytes (codes "lose")) refl e (λ e.
-    choice event_key_bytes bytes Repeat key _ (bytes_eq bytes (codes "repeat")) refl e (λ e.
-    choice event_key_bytes bytes Resend key _ (bytes_eq bytes (codes "resend")) refl e (λ e.
-    choice event_key_bytes bytes Tick key _ (bytes_eq bytes (codes "tick")) refl e (λ e.
-    choice event_key_bytes bytes Settle key _ (bytes_eq bytes (codes "settle")) refl e (λ e.
-    choice event_key_bytes bytes Redeclare key _ (bytes_eq bytes (codes "redeclare")) refl e (λ e.
-    choice event_key_bytes bytes Down key _ (bytes_eq bytes (codes "down")) refl e (λ e.
-    choice event_key_bytes bytes Up key None (bytes_eq bytes (codes "up")) refl e (λ e. absurd cc))))))))))
+event_key_is bytes key e = grind (arith, bytes_eq-Decides, event_key_bytes)
 
 outer_is : (bytes : List ℕ) (key : Keyword) (o : Option ClassKey) (p : Option EventKey)
     → class_key_in bytes ≡ o → event_key_in bytes ≡ p → outer_keyword o p ≡ Some key → bytes ≡ keyword_bytes key
@@ -137,12 +109,7 @@ inner_is bytes key (Some s) a e = statement_key_is bytes s a ∙ ap keyword_byte
 inner_is bytes key None a e = outer_is bytes key (class_key_in bytes) (event_key_in bytes) refl refl e
 
 keyword_bytes_are : (bytes : List ℕ) (key : Keyword) → keyword_in bytes ≡ Some key → bytes ≡ keyword_bytes key
-keyword_bytes_are bytes key e =
-    choice keyword_bytes bytes keys.Row key _ (bytes_eq bytes (codes "row")) refl e (λ e.
-    choice keyword_bytes bytes keys.Txn key _ (bytes_eq bytes (codes "txn")) refl e (λ e.
-    choice keyword_bytes bytes keys.Done key _ (bytes_eq bytes (codes "done")) refl e (λ e.
-    choice keyword_bytes bytes keys.End key (inner_keyword (statement_key_in bytes) (outer_of bytes))
-    (bytes_eq bytes (codes "end")) refl e (λ e. inner_is bytes key (statement_key_in bytes) refl e))))
+keyword_bytes_are bytes key e = grind (arith, bytes_eq-Decides, inner_is)
 
 pub keyword_takes : (w : Word) (key : Keyword) → keyword_of w ≡ Some key → w ≡ Plain (keyword_bytes key)
 keyword_takes w key e = grind (arith, keyword_bytes_are)

@@ -1,5 +1,5 @@
 -- The spelling of class lists that the catalogue allows is read as these lists.
-use Rattle.sdd_script.proofs.All.{AllByRecursion, AreValidLists, Catalogue, ClassPart, D, DmNo, IsFragment, IsValidClass, IsValidRead, List, MAX_CLASSES, MAX_LISTS, MAX_READS, OpenList, Place, Plain, ReadPart, Some, State, T, TmNo, [], all_front, ap, append-nil, append_assoc, arith, both_are, bytes_eq, class_lines, class_names, class_words, classes_in, dm_no, done_words, false, flat_map, has_copy, has_name, is_ended, is_free, joined, length, length-append, line_bytes, list_lines, list_words, lt-ltb, map, map-append, nat_lt as ltb, no_classes, not, part_names, read_names, reads_words, recursion_from_All, refl, repeats, site_word, subst, sym, takes_lists, tm_no, true, writes_words, ℕ, ◌&&◌, ◌++◌, ◌+◌, ◌<◌, ◌∙◌, ◌∷◌, ◌≡◌, ◌≤◌}
+use Rattle.sdd_script.proofs.All.{AllByRecursion, AreValidLists, Catalogue, ClassPart, D, DmNo, IsFragment, IsValidClass, IsValidRead, List, MAX_CLASSES, MAX_LISTS, MAX_READS, OpenList, Place, Plain, ReadPart, Some, State, T, TmNo, [], all_front, ap, append-nil, append_assoc, arith, both_are, bytes_eq, class_lines, class_names, class_words, classes_in, dm_no, done_words, false, flat_map, has_copy, has_name, is_ended, is_free, joined, length, length-append, line_bytes, list_lines, list_words, lt-ltb, map, map-append, no_classes, not, part_names, read_names, reads_words, recursion_from_All, refl, repeats, site_word, subst, sym, takes_lists, tm_no, true, writes_words, ℕ, ◌&&◌, ◌++◌, ◌+◌, ◌<◌, ◌∙◌, ◌∷◌, ◌≡◌, ◌≤◌}
 use Rattle.sdd_script.proofs.WordLooks.{name_free}
 use Rattle.sdd_script.proofs.UseLaws.{IsKnown}
 use Rattle.sdd_script.proofs.EventLaws.{dm_again, tm_again, site_free}
@@ -36,21 +36,13 @@ reads_step : (cat : Catalogue) → IsKnown cat → (st : State) (done : List (Li
     → IsStep cat (at st (places.Listing (behind cs c reads [])) done n)
     (at st (places.Listing (behind cs c (reads ++ r ∷ []) [])) done n) (line_bytes (reads_words r))
 reads_step cat k st done n cs c reads r h other room =
-    let from : State = at st (places.Listing (behind cs c reads [])) done n in
-    let to : State = at st (places.Listing (behind cs c (reads ++ r ∷ []) [])) done n in
     let f = fragment_again cat r.fragment h.fragment in
     let dm : DmNo = dm_no r.at in
-    let a : (is_free (Plain r.fragment) && is_free (site_word (D dm))) ≡ true =
-    both_are (is_free (Plain r.fragment)) (is_free (site_word (D dm))) (name_free r.fragment h.fragment.0)
-    (site_free (D dm)) in
-    let d = dm_again cat k dm h.module_is_there in
+    let a : (is_free (Plain r.fragment) && is_free (site_word (D dm))) ≡ true = both_are _ _ (name_free r.fragment h.fragment.0) (site_free (D dm)) in
     let copy : has_copy cat r.at f.number ≡ true = sym (kept_at cat r.at r.fragment f.number f.named) ∙ h.copy in
-    let may : (not (has_name (read_names reads) r.fragment) && has_copy cat r.at f.number) ≡ true =
-    both_are (not (has_name (read_names reads) r.fragment)) (has_copy cat r.at f.number)
-    (ap not other) copy in
-    let few : ltb (length reads) MAX_READS ≡ true = lt-ltb (length reads) MAX_READS room in
-    line_step cat from to (keys.Class class_keys.Reads) (Plain r.fragment ∷ site_word (D dm) ∷ []) refl (reads_fine cat k r h)
-    (rw (a, f.read, d, may, few) refl)
+    let may : (not (has_name (read_names reads) r.fragment) && has_copy cat r.at f.number) ≡ true = both_are _ _ (ap not other) copy in
+    line_step cat _ _ (keys.Class class_keys.Reads) (Plain r.fragment ∷ site_word (D dm) ∷ []) refl (reads_fine cat k r h)
+    (rw (a, f.read, dm_again cat k dm h.module_is_there, may, lt-ltb (length reads) MAX_READS room) refl)
 
 reads_chain : (cat : Catalogue) → IsKnown cat → (st : State) (done : List (List ClassPart)) (n : ℕ)
     (cs : List ClassPart) (c : ClassPart) (rs reads : List ReadPart) → AllByRecursion (IsValidRead cat) rs
@@ -59,17 +51,11 @@ reads_chain : (cat : Catalogue) → IsKnown cat → (st : State) (done : List (L
     (at st (places.Listing (behind cs c (reads ++ rs) [])) done n)
 reads_chain cat k st done n cs c [] reads h once few = rw append-nil refl
 reads_chain cat k st done n cs c (r ∷ rs) reads h once few =
-    let mid : State = at st (places.Listing (behind cs c (reads ++ r ∷ []) [])) done n in
-    let joins : (reads ++ r ∷ []) ++ rs ≡ reads ++ r ∷ rs = append_assoc reads (r ∷ []) rs in
-    let len : length (reads ++ r ∷ []) ≡ length reads + 1 = length-append reads (r ∷ []) in
-    let other = apart (read_names reads) r.fragment (read_names rs)
-    (subst (λ (l : List (List ℕ)). repeats l ≡ false) (read_names-append reads (r ∷ rs)) once) in
-    let more = reads_chain cat k st done n cs c rs (reads ++ r ∷ []) h.1
-    (subst (λ (l : List ReadPart). repeats (read_names l) ≡ false) (sym joins) once)
-    (omega (arith, few, len)) in (
-      mid,
+    let joins = append_assoc reads (r ∷ []) rs in
+    let other = apart (read_names reads) r.fragment (read_names rs) (rw (read_names-append reads (r ∷ rs)) at once) in (
+      _,
       reads_step cat k st done n cs c reads r h.0 other (omega (arith, few)),
-      subst (λ (l : List ReadPart). Chain cat mid (map line_bytes (map reads_words rs)) (at st (places.Listing (behind cs c l [])) done n)) joins more,
+      rw joins at (reads_chain cat k st done n cs c rs (reads ++ r ∷ []) h.1 (rw joins once) (omega (arith, few, length-append reads (r ∷ [])))),
     )
 
 -- ---- writes
@@ -79,11 +65,7 @@ writes_step : (cat : Catalogue) (st : State) (done : List (List ClassPart)) (n :
     → has_name writes w ≡ false → IsStep cat (at st (places.Listing (behind cs c reads writes)) done n)
     (at st (places.Listing (behind cs c reads (writes ++ w ∷ []))) done n) (line_bytes (writes_words w))
 writes_step cat st done n cs c reads writes w h other =
-    let from : State = at st (places.Listing (behind cs c reads writes)) done n in
-    let to : State = at st (places.Listing (behind cs c reads (writes ++ w ∷ []))) done n in
-    let f = fragment_again cat w h in
-    line_step cat from to (keys.Class class_keys.Writes) (Plain w ∷ []) refl (writes_fine cat w h)
-    (let free = name_free w h.0 in rw (free, f.read, other) refl)
+    line_step cat _ _ (keys.Class class_keys.Writes) (Plain w ∷ []) refl (writes_fine cat w h) (rw (name_free w h.0, (fragment_again cat w h).read, other) refl)
 
 writes_chain : (cat : Catalogue) (st : State) (done : List (List ClassPart)) (n : ℕ) (cs : List ClassPart)
     (c : ClassPart) (reads : List ReadPart) (ws writes : List (List ℕ)) → AllByRecursion (IsFragment cat) ws
@@ -92,13 +74,9 @@ writes_chain : (cat : Catalogue) (st : State) (done : List (List ClassPart)) (n 
     n)
 writes_chain cat st done n cs c reads [] writes h once = rw append-nil refl
 writes_chain cat st done n cs c reads (w ∷ ws) writes h once =
-    let mid : State = at st (places.Listing (behind cs c reads (writes ++ w ∷ []))) done n in
     let joins : (writes ++ w ∷ []) ++ ws ≡ writes ++ w ∷ ws = append_assoc writes (w ∷ []) ws in
-    let more = writes_chain cat st done n cs c reads ws (writes ++ w ∷ []) h.1 (subst (λ (l : List (List ℕ)). repeats l ≡ false) (sym joins) once) in (
-      mid,
-      writes_step cat st done n cs c reads writes w h.0 (apart writes w ws once),
-      subst (λ (l : List (List ℕ)). Chain cat mid (map line_bytes (map writes_words ws)) (at st (places.Listing (behind cs c reads l)) done n)) joins more,
-    )
+    let more = writes_chain cat st done n cs c reads ws (writes ++ w ∷ []) h.1 (subst (λ (l : List (List ℕ)). repeats l ≡ false) (sym joins) once) in
+    (_, writes_step cat st done n cs c reads writes w h.0 (apart writes w ws once), rw joins at more)
 
 -- ---- a class
 
@@ -107,18 +85,11 @@ class_step : (cat : Catalogue) → IsKnown cat → (st : State) (done : List (Li
     → has_name (class_names cat ++ part_names (joined done ++ classes_in l)) c.name ≡ false → n < MAX_CLASSES
     → IsStep cat (at st (places.Listing l) done n) (at st (places.Listing (behind (classes_in l) c [] [])) done (n + 1)) (line_bytes (class_words c))
 class_step cat k st done n l c h other room =
-    let from : State = at st (places.Listing l) done n in
     let tm : TmNo = tm_no c.tm in
-    let to : State = at st (places.Listing (behind (classes_in l) c [] [])) done (n + 1) in
-    let a : (is_free (Plain c.name) && is_free (site_word (T tm))) ≡ true =
-    both_are (is_free (Plain c.name)) (is_free (site_word (T tm))) (name_free c.name h.named)
-    (site_free (T tm)) in
-    let d = tm_again cat k tm h.module_is_there in
-    let f = lt-ltb n MAX_CLASSES room in
+    let a : (is_free (Plain c.name) && is_free (site_word (T tm))) ≡ true = both_are _ _ (name_free c.name h.named) (site_free (T tm)) in
     let named = h.named in
-    line_step cat from to (keys.Class class_keys.Class) (Plain c.name ∷ site_word (T tm) ∷ []) refl
-    (class_fine cat k c named h.module_is_there)
-    (rw (a, named, d, other, f) refl)
+    line_step cat _ _ (keys.Class class_keys.Class) (Plain c.name ∷ site_word (T tm) ∷ []) refl (class_fine cat k c named h.module_is_there)
+    (rw (a, named, tm_again cat k tm h.module_is_there, other, lt-ltb n MAX_CLASSES room) refl)
 
 class_chain : (cat : Catalogue) → IsKnown cat → (st : State) (done : List (List ClassPart)) (n : ℕ)
     (l : OpenList) (c : ClassPart) → IsValidClass cat c
@@ -153,23 +124,14 @@ Differ cat classes = repeats (class_names cat ++ part_names classes) ≡ false
 
 new_name : (cat : Catalogue) (front : List ClassPart) (c : ClassPart) (cs : List ClassPart)
     → Differ cat (front ++ c ∷ cs) → has_name (class_names cat ++ part_names front) c.name ≡ false
-new_name cat front c cs once = apart (class_names cat ++ part_names front) c.name (part_names cs)
-    (subst (λ (l : List (List ℕ)). repeats l ≡ false) (names_parted cat front c cs) once)
-
-count_same : (st : State) (p : Place) (done : List (List ClassPart)) (n m : ℕ) → n ≡ m → at st p done n ≡ at st p done m
-count_same st p done n m e = ap (at st p done) e
+new_name cat front c cs once = grind (arith, apart, names_parted)
 
 -- rest: the classes of later lists
 classes_chain : (cat : Catalogue) → IsKnown cat → (st : State) (done : List (List ClassPart))
     (rest cs : List ClassPart) (n : ℕ) (l : OpenList) → AllByRecursion (IsValidClass cat) cs
     → Differ cat ((joined done ++ classes_in l) ++ (cs ++ rest)) → n + length cs ≤ MAX_CLASSES
     → AreClasses cat st done n l cs
-classes_chain cat k st done rest [] n l h once few =
-    record {
-      last = l;
-      whole = sym (append-nil (classes_in l));
-      chain = count_same st (places.Listing l) done n (n + 0) (omega arith);
-    }
+classes_chain cat k st done rest [] n l h once few = grind (arith, append-nil)
 classes_chain cat k st done rest (c ∷ cs) n l h once few =
     let front : List ClassPart = joined done ++ classes_in l in
     let new : OpenList = behind (classes_in l) c c.reads c.writes in
@@ -183,8 +145,7 @@ classes_chain cat k st done rest (c ∷ cs) n l h once few =
     let mid : State = at st (places.Listing new) done (n + 1) in
     let to : State = at st (places.Listing more.last) done (n + length (c ∷ cs)) in
     let same : at st (places.Listing more.last) done (n + 1 + length cs) ≡ to =
-    count_same st (places.Listing more.last) done (n + 1 + length cs) (n + length (c ∷ cs))
-    (omega arith) in
+    (ap (at st (places.Listing more.last) done) (omega arith)) in
     let others : Chain cat mid (map line_bytes (flat_map class_lines cs)) to =
     subst (λ (x : State). Chain cat mid (map line_bytes (flat_map class_lines cs)) x) same more.chain in
     let both : Chain cat from (map line_bytes (class_lines c) ++ map line_bytes (flat_map class_lines cs))
@@ -205,17 +166,13 @@ list_step : (cat : Catalogue) (st : State) (p : Place) (done : List (List ClassP
     → takes_lists p ≡ true → length done < MAX_LISTS → IsStep cat (at st p done n)
     (at st (places.Listing no_classes) done n) (line_bytes list_words)
 list_step cat st p done n t room =
-    let to : State = at st (places.Listing no_classes) done n in
-    let few : ltb (length done) MAX_LISTS ≡ true = lt-ltb (length done) MAX_LISTS room in
-    line_step cat (at st p done n) to (keys.Class class_keys.List) [] (open_still p t) (keyword_fine (keys.Class class_keys.List), tt) (
-    rw (t, few) refl)
+    line_step cat _ _ (keys.Class class_keys.List) [] (open_still p t) (keyword_fine (keys.Class class_keys.List), tt)
+    (rw (t, lt-ltb (length done) MAX_LISTS room) refl)
 
 listed_step : (cat : Catalogue) (st : State) (l : OpenList) (done : List (List ClassPart)) (n : ℕ)
     → IsStep cat (at st (places.Listing l) done n) (at st places.Declared (done ++ classes_in l ∷ []) n)
     (line_bytes done_words)
-listed_step cat st l done n = line_step cat (at st (places.Listing l) done n)
-    (at st places.Declared (done ++ classes_in l ∷ []) n) keys.Done [] refl (keyword_fine keys.Done, tt)
-    refl
+listed_step cat st l done n = line_step cat _ _ keys.Done [] refl (keyword_fine keys.Done, tt) refl
 
 list_chain : (cat : Catalogue) → IsKnown cat → (st : State) (p : Place) (done : List (List ClassPart))
     (rest cs : List ClassPart) (n : ℕ) → takes_lists p ≡ true → length done < MAX_LISTS
@@ -255,12 +212,7 @@ lists_chain : (cat : Catalogue) → IsKnown cat → (st : State) (ls : List (Lis
     (joined ls) → Differ cat (joined done ++ joined ls) → length done + length ls ≤ MAX_LISTS
     → n + length (joined ls) ≤ MAX_CLASSES
     → AreListed cat st (at st p done n) (map line_bytes (flat_map list_lines ls)) (done ++ ls)
-lists_chain cat k st [] p done n t h once few room = record {
-  place = p;
-  classes = n;
-  goes_on = t;
-  chain = ap (λ (l : List (List ClassPart)). at st p l n) (sym (append-nil done));
-}
+lists_chain cat k st [] p done n t h once few room = grind (arith, append-nil)
 lists_chain cat k st (cs ∷ ls) p done n t h once few room =
     let valid = all_front (IsValidClass cat) cs (joined ls) h in
     let size : length (cs ++ joined ls) ≡ length cs + length (joined ls) = length-append cs (joined ls) in

@@ -36,19 +36,13 @@ pub class_more : (l : OpenList) (name : List ℕ) (tm : TmNo) → AddsLine l (wi
     (class_words (class_so_far (record { name = name; tm = tm; reads = []; writes = [] })))
 class_more l name tm = flat_map-append class_lines (classes_in l) (class_so_far (record { name = name; tm = tm; reads = []; writes = [] }) ∷ [])
 
--- the last class has one line more
-last_more : (cs : List ClassPart) (c new : ClassPart) (w : List Word) → class_lines new ≡ class_lines c ++ w ∷ []
-    → flat_map class_lines (cs ++ new ∷ []) ≡ flat_map class_lines (cs ++ c ∷ []) ++ w ∷ []
-last_more cs c new w e = simp (flat_map-append, e, append-nil, append_assoc)
-
 none_written : (writes : List (List ℕ)) → (length writes == 0) ≡ true → writes ≡ []
 none_written [] e = refl
 none_written (w ∷ writes) e = let n : length (w ∷ writes) ≡ 0 = eqb-true (length (w ∷ writes)) 0 e in absurd (omega (arith, n))
 
 read_lines : (h : List Word) (reads : List ReadPart) (r : ReadPart) (writes : List (List ℕ)) → writes ≡ []
     → h ∷ (map reads_words (reads ++ r ∷ []) ++ map writes_words writes) ≡ (h ∷ (map reads_words reads ++ map writes_words writes)) ++ reads_words r ∷ []
-read_lines h reads r [] none = simp (append-nil, map-append)
-read_lines h reads r (w ∷ writes) none = absurd cc
+read_lines h reads r writes none = grind (arith, append-nil, map-append)
 
 last_read : (cs : List ClassPart) (last : Option OpenClass) (r : ReadPart)
     → takes_reads (record { classes = cs; last = last }) ≡ true → AddsLine (record {
@@ -56,9 +50,7 @@ last_read : (cs : List ClassPart) (last : Option OpenClass) (r : ReadPart)
       last = last;
     }) (with_read (record { classes = cs; last = last }) r) (reads_words r)
 last_read cs None r t = absurd cc
-last_read cs (Some c) r t = last_more cs (class_so_far c)
-    (class_so_far (record c { reads = c.reads ++ r ∷ [] })) (reads_words r)
-    (read_lines (class_words (class_so_far c)) c.reads r c.writes (none_written c.writes t))
+last_read cs (Some c) r t = (simp (flat_map-append, (read_lines (class_words (class_so_far c)) c.reads r c.writes (none_written c.writes t)), append-nil, append_assoc))
 
 pub read_more : (l : OpenList) (r : ReadPart) → takes_reads l ≡ true → AddsLine l (with_read l r) (reads_words r)
 read_more l r t = last_read l.classes l.last r t
@@ -74,9 +66,7 @@ last_write : (cs : List ClassPart) (last : Option OpenClass) (f : List ℕ)
       last = last;
     }) (with_write (record { classes = cs; last = last }) f) (writes_words f)
 last_write cs None f t = absurd cc
-last_write cs (Some c) f t = last_more cs (class_so_far c)
-    (class_so_far (record c { writes = c.writes ++ f ∷ [] })) (writes_words f)
-    (write_lines (class_words (class_so_far c)) (map reads_words c.reads) c.writes f)
+last_write cs (Some c) f t = (simp (flat_map-append, (write_lines (class_words (class_so_far c)) (map reads_words c.reads) c.writes f), append-nil, append_assoc))
 
 pub write_more : (l : OpenList) (f : List ℕ) → takes_writes l ≡ true → AddsLine l (with_write l f) (writes_words f)
 write_more l f t = last_write l.classes l.last f t

@@ -1,23 +1,12 @@
 -- Conditions and assignments that were written, one more.
-use Rattle.sdd_script.proofs.All.{Assign, Catalogue, Condition, List, Plain, RelNo, add-one, ap, append-nil, append_assoc, assign_words, codes, condition_words, conditions_words, drop, drop-cons, drop_all, get_or, item_written, items_written, length, more_bytes, more_bytes-append, refl, sets_words, spaced, sym, ℕ, ◌++◌, ◌+◌, ◌<◌, ◌∙◌, ◌∷◌, ◌≡◌, ◌≤◌}
+use Rattle.sdd_script.proofs.All.{Assign, Catalogue, Condition, List, Plain, RelNo, add-one, append-nil, append_assoc, arith, assign_words, codes, condition_words, conditions_words, drop, drop-cons, drop_all, get_or, item_written, items_written, length, more_bytes, more_bytes-append, sets_words, spaced, ℕ, ◌++◌, ◌+◌, ◌<◌, ◌≡◌, ◌≤◌}
 
 pub condition_more : (key : List ℕ) (cat : Catalogue) (rels : List RelNo) (conds : List Condition)
     (c : Condition) (out total : List ℕ) (i : ℕ) → i < length conds → c ≡ get_or conds i c
     → out ++ more_bytes (conditions_words key cat rels (drop i conds)) ≡ total
     → (out ++ (spaced (Plain key) ++ more_bytes (condition_words cat rels c))) ++ more_bytes
     (conditions_words (codes "and") cat rels (drop (i + 1) conds)) ≡ total
-condition_more key cat rels conds c out total i lt is e =
-    let d : drop i conds ≡ c ∷ drop (i + 1) conds = rw (drop-cons conds i c, ← is, add-one) refl in
-    let rest : List ℕ = more_bytes (conditions_words (codes "and") cat rels (drop (i + 1) conds)) in
-    let one : more_bytes (conditions_words key cat rels (c ∷ drop (i + 1) conds)) ≡ spaced (Plain key) ++
-    (more_bytes (condition_words cat rels c) ++ rest) =
-    ap (λ (l : List ℕ). spaced (Plain key) ++ l) (more_bytes-append (condition_words cat rels c)
-    (conditions_words (codes "and") cat rels (drop (i + 1) conds))) in
-    append_assoc out (spaced (Plain key) ++ more_bytes (condition_words cat rels c)) rest
-    ∙ ap (λ (l : List ℕ). out ++ l) (append_assoc (spaced (Plain key))
-    (more_bytes (condition_words cat rels c)) rest ∙ sym one
-    ∙ ap (λ l. more_bytes (conditions_words key cat rels l)) (sym d))
-    ∙ e
+condition_more key cat rels conds c out total i lt is e = grind (arith, drop-cons, add-one, more_bytes-append, append_assoc)
 
 pub conditions_written : (key : List ℕ) (cat : Catalogue) (rels : List RelNo) (conds : List Condition) (out total : List ℕ) (i : ℕ) → length conds ≤ i
     → out ++ more_bytes (conditions_words key cat rels (drop i conds)) ≡ total → out ≡ total
@@ -28,14 +17,7 @@ pub assign_more : (cat : Catalogue) (rel : RelNo) (sets : List Assign) (a : Assi
     → out ++ more_bytes (sets_words cat rel (drop i sets)) ≡ total
     → (out ++ more_bytes (assign_words cat rel a)) ++ more_bytes
     (sets_words cat rel (drop (i + 1) sets)) ≡ total
-assign_more cat rel sets a out total i lt is e =
-    let d : drop i sets ≡ a ∷ drop (i + 1) sets = rw (drop-cons sets i a, ← is, add-one) refl in
-    let one : more_bytes (sets_words cat rel (a ∷ drop (i + 1) sets)) ≡ more_bytes
-    (assign_words cat rel a) ++ more_bytes (sets_words cat rel (drop (i + 1) sets)) =
-    more_bytes-append (assign_words cat rel a) (sets_words cat rel (drop (i + 1) sets)) in
-    append_assoc out (more_bytes (assign_words cat rel a)) (more_bytes (sets_words cat rel (drop (i + 1) sets)))
-    ∙ ap (λ (l : List ℕ). out ++ l) (sym one ∙ ap (λ l. more_bytes (sets_words cat rel l)) (sym d))
-    ∙ e
+assign_more cat rel sets a out total i lt is e = grind (arith, drop-cons, add-one, more_bytes-append, append_assoc)
 
 pub assigns_written : (cat : Catalogue) (rel : RelNo) (sets : List Assign) (out total : List ℕ) (i : ℕ) → length sets ≤ i
     → out ++ more_bytes (sets_words cat rel (drop i sets)) ≡ total → out ≡ total

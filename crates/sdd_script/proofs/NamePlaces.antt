@@ -1,5 +1,5 @@
 -- Lists in which no item stands twice: names, and numbers.
-use Rattle.sdd_script.proofs.All.{AreDistinct, Bool, List, None, Some, [], ap, arith, bytes_eq, bytes_eq-Decides, cases_lt, cond, eq-eqb, eqb, false, get_or, get_or as slice_index_or, get_or-append_right, get_or_append_left, has_name, inl, inr, is_some, length, length-append, list_any, ltb-false, nat_lt as ltb, ne_eqb, not, or_false, position, position_or_len, refl, repeats, subst, suc, sym, true, zero, ℕ, ◌++◌, ◌+◌, ◌-◌, ◌<◌, ◌==◌, ◌∙◌, ◌∷◌, ◌≡◌, ◌≢◌, ◌≤◌}
+use Rattle.sdd_script.proofs.All.{AreDistinct, Bool, List, Some, [], ap, arith, bytes_eq, bytes_eq-Decides, cases_lt, cond, eq-eqb, eqb, false, get_or, get_or as slice_index_or, get_or-append_right, get_or_append_left, has_name, is_some, length, length-append, list_any, ltb-false, ne_eqb, not, or_false, position, position_or_len, refl, repeats, subst, suc, sym, true, zero, ℕ, ◌++◌, ◌+◌, ◌-◌, ◌<◌, ◌==◌, ◌∙◌, ◌∷◌, ◌≡◌, ◌≢◌, ◌≤◌}
 use Rattle.sdd_script.proofs.WordCuts.{NonePasses, position_again, no_position}
 
 pub if_false : (a b : Bool) → cond a true b ≡ false → (a ≡ false) × (b ≡ false)
@@ -15,9 +15,6 @@ pub any_none : {A : Type 0} (p : A → Bool) (xs : List A) → NonePasses p xs �
 any_none p [] h = refl
 any_none p (x ∷ xs) h = let a = h.0 in let b = any_none p xs h.1 in rw (a, b) refl
 
-within_if : (b : Bool) (k : ℕ) → is_some (cond b (Some k) None) ≡ false → b ≡ false
-within_if b k e = grind arith
-
 none_if : (b : Bool) (n m : ℕ) → suc n ≤ cond (not b) (1 + m) 0 → (b ≡ false) × (n ≤ m)
 none_if b n m h = grind arith
 
@@ -26,18 +23,15 @@ past_none p [] h = tt
 past_none p (x ∷ xs) h = let r = none_if (p x) (length xs) (position_or_len p xs) h in (r.0, past_none p xs r.1)
 
 pub none_found : {A : Type 0} (p : A → Bool) (xs : List A) → is_some (position p xs) ≡ false → NonePasses p xs
-none_found p xs e = past_none p xs (ltb-false (position_or_len p xs) (length xs) (within_if (ltb (position_or_len p xs) (length xs)) (position_or_len p xs) e))
+none_found p xs e = past_none p xs (ltb-false (position_or_len p xs) (length xs) (grind arith))
 
 pub found_none : {A : Type 0} (p : A → Bool) (xs : List A) → NonePasses p xs → is_some (position p xs) ≡ false
 found_none p xs h = let e = no_position p xs h in rw e refl
 
 -- ---- names
 
-turned_if : (a b : List ℕ) (x y : Bool) → bytes_eq a b ≡ x → bytes_eq b a ≡ y → x ≡ y
-turned_if a b x y p q = grind (arith, bytes_eq-Decides)
-
 pub turned : (a b : List ℕ) → bytes_eq a b ≡ bytes_eq b a
-turned a b = turned_if a b (bytes_eq a b) (bytes_eq b a) refl refl
+turned a b = (grind (arith, bytes_eq-Decides))
 
 pub differ_again : (a b : List ℕ) → bytes_eq a b ≡ false → bytes_eq b a ≡ false
 differ_again a b e = turned b a ∙ e
@@ -100,18 +94,7 @@ all_differ [] x h = tt
 all_differ (n ∷ ns) x h = (ne_eqb n x (h 0 (omega arith)), all_differ ns x (λ i lt. h (suc i) (omega arith)))
 
 pub distinct_more : (ns : List ℕ) (x : ℕ) → AreDistinct ns → NonePasses (λ n. n == x) ns → AreDistinct (ns ++ x ∷ [])
-distinct_more ns x h other i k less within d =
-    elim (cases_lt k (length ns)) as (λ o. slice_index_or (ns ++ x ∷ []) i d ≡ slice_index_or (ns ++ x ∷ []) k d → ⊥) [
-      | inl lt ↦ λ e. h i k less lt d (sym (get_or_append_left ns (x ∷ []) d i (omega arith)) ∙ e ∙ get_or_append_left ns (x ∷ []) d k lt)
-      | inr le ↦ λ e.
-          let len : length (ns ++ x ∷ []) ≡ length ns + 1 = omega (arith, length-append ns (x ∷ [])) in
-          let at : k ≡ length ns = omega (arith, len, within) in
-          let last : get_or (ns ++ x ∷ []) k d ≡ x = get_or-append_right ns (x ∷ []) (length ns) k d refl le
-          ∙ ap (λ (n : ℕ). get_or (x ∷ []) n d) (zero_of k (length ns) at) in
-          let first : get_or (ns ++ x ∷ []) i d ≡ get_or ns i d = get_or_append_left ns (x ∷ []) d i (omega (arith, at, less)) in
-          let differs : get_or ns i d ≢ x = not_at ns x i d other (omega (arith, at, less)) in
-          differs (sym first ∙ e ∙ last)
-    ]
+distinct_more ns x h other i k less within d = grind (arith, cases_lt, slice_index_or, get_or_append_left, length-append, get_or, get_or-append_right, zero_of, not_at)
 
 pub apart_from : (ns : List ℕ) (x : ℕ) (rest : List ℕ) → AreDistinct (ns ++ x ∷ rest) → NonePasses (λ n. n == x) ns
 apart_from ns x rest h = all_differ ns x (λ i lt e.

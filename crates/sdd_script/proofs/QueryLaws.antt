@@ -1,5 +1,5 @@
 -- Statements: what is read is spelled and fits, and what is spelled and fits is read.
-use Rattle.sdd_script.proofs.All.{All-from_recursion, AllByRecursion, Answers, Assign, Bool, Catalogue, Comparison, Condition, Delete, FitsCondition, FitsRef, FitsStatement, HoldsValue, HoldsValues, IsRelation, IsValue, List, Ok, Option, Parts, Plain, Put, Query, Ref, RelNo, Result, Some, Stmt, Update, Value, Word, WorkRule, [], along, along_ok, ap, append-nil, are_free, arith, bind_ok, both_are, both_hold, codes, column_of_use, column_word, comparisons, conditions_form, conditions_of, cut_at, false, from_key, is_free, is_key, kind_of_ref, length, list_all, listed_column, look_like_columns, looks_like_column, map, not_empty, ok_along, ok_is, part_in, put_of, query_of, query_of_parts, recursion_from_All, refl, rel_no, relation_of, relation_word, row_of, row_words, statement_limits, statement_words, subst, sym, true, up_to, where_words, ℕ, ◌&&◌, ◌++◌, ◌+◌, ◌<◌, ◌>>=◌, ◌∙◌, ◌∷◌, ◌≡◌, ◌≤◌}
+use Rattle.sdd_script.proofs.All.{All-from_recursion, AllByRecursion, Answers, Assign, Bool, Catalogue, Comparison, Condition, Delete, FitsCondition, FitsRef, FitsStatement, HoldsValue, HoldsValues, IsRelation, IsValue, List, Ok, Parts, Plain, Put, Query, Ref, RelNo, Result, Some, Stmt, Update, Value, Word, WorkRule, [], along, along_ok, ap, append-nil, are_free, arith, bind_ok, both_are, both_hold, codes, column_of_use, column_word, comparisons, conditions_form, conditions_of, cut_at, false, from_key, is_free, is_key, kind_of_ref, length, list_all, listed_column, look_like_columns, looks_like_column, map, not_empty, ok_along, ok_is, part_in, put_of, query_of, query_of_parts, recursion_from_All, refl, rel_no, relation_of, relation_word, row_of, row_words, statement_limits, statement_words, subst, sym, true, up_to, where_words, ℕ, ◌&&◌, ◌++◌, ◌+◌, ◌<◌, ◌>>=◌, ◌∙◌, ◌∷◌, ◌≡◌, ◌≤◌}
 use Rattle.sdd_script.specs.Statements.{query_over, parts_of}
 use Rattle.sdd_script.proofs.StepLaws.{must_then, known_then, of_le}
 use Rattle.sdd_script.proofs.WordLooks.{name_free}
@@ -72,9 +72,6 @@ by_words : (cat : Catalogue) (columns rels : List Word) (cs : List Comparison) �
 unfolding query_over
 by_words cat columns rels cs = simp parts_named
 
-two_parts : (a b : Option ℕ) (xs ys : Parts) → a ≡ b → xs ≡ ys → a ∷ xs ≡ b ∷ ys
-two_parts a b xs ys p q = cc
-
 part_again : (cat : Catalogue) (r : RelNo) → relation_of cat (relation_word cat r) ≡ Some r.0 → part_of cat (relation_word cat r) ≡ Ok r
 part_again cat r e = rw e refl
 
@@ -96,11 +93,8 @@ parts_take cat i (w ∷ words) (r ∷ rels) h =
     let a = known_then _ (relation_of cat w) _ r h.0 in
     let t = relation_takes cat w a.0 a.1 in
     let same : rel_no a.0 ≡ r = ok_is (rel_no a.0) r a.2 in
-    let more = parts_take cat (i + 1) words rels h.1 in (
-      cc,
-      two_parts (relation_of cat w) (Some r.0) (parts_of cat words) (parts_for rels) (a.1 ∙ ap (λ (x : RelNo). Some x.0) same) more.1,
-      (subst (λ (x : RelNo). IsRelation cat x.0) same t.there, more.2),
-    )
+    let more = parts_take cat (i + 1) words rels h.1 in
+    grind arith
 parts_take cat i _ _ h = absurd h
 
 parts_again : (cat : Catalogue) → IsKnown cat → (rels : List RelNo)
@@ -113,9 +107,7 @@ parts_are : (cat : Catalogue) → IsKnown cat → (rels : List RelNo)
     → AllByRecursion (λ (r : RelNo). IsRelation cat r.0) rels
     → parts_of cat (map (relation_word cat) rels) ≡ parts_for rels
 parts_are cat k [] h = refl
-parts_are cat k (r ∷ rels) h = two_parts (relation_of cat (relation_word cat r)) (Some r.0)
-    (parts_of cat (map (relation_word cat) rels)) (parts_for rels) (relation_again cat k r.0 h.0)
-    (parts_are cat k rels h.1)
+parts_are cat k (r ∷ rels) h = cc (relation_again cat k r.0 h.0, parts_are cat k rels h.1)
 
 columns_take : (cat : Catalogue) (rels : List RelNo) (i : ℕ) (words : List Word) (out : List Ref)
     → list_all looks_like_column words ≡ true → Answers (λ i w. listed_column cat (parts_for rels) w) i
@@ -126,10 +118,8 @@ columns_take cat rels i (w ∷ words) (r ∷ out) l h =
     let a = bind_ok (column_of_use cat (parts_for rels) w) _ r h.0 in
     let t = ref_takes cat rels w a.0 look.0 a.1 in
     let same : a.0.at ≡ r = ok_is a.0.at r a.2 in
-    let more = columns_take cat rels (i + 1) words out look.1 h.1 in (
-      cc,
-      (subst (λ (x : Ref). FitsRef cat rels x) same t.fits, more.1),
-    )
+    let more = columns_take cat rels (i + 1) words out look.1 h.1 in
+    (cc, (rw same at t.fits, more.1))
 columns_take cat rels i _ _ l h = absurd h
 
 columns_again : (cat : Catalogue) → IsKnown cat → (rels : List RelNo) → AreParts cat rels
@@ -204,16 +194,12 @@ query_parts_take cat columns rels rest cs s look free form e =
 pub query_takes : (cat : Catalogue) (words : List Word) (s : Stmt) → query_of cat words ≡ Ok s → IsStatement cat (codes "query") words s
 query_takes cat words s e =
     let a = known_then _ (cut_at (codes "from") words) _ s e in
-    let rels : List Word = up_to (codes "where") a.0.1 in
-    let rest : List Word = from_key (codes "where") a.0.1 in
-    let b = must_then _ (look_like_columns a.0.0 && are_free rels) _ s a.2 in
-    let c = known_then _ (conditions_form rest) _ s b.1 in
-    let t = both_hold (look_like_columns a.0.0) (are_free rels) b.0 in
-    let whole : words ≡ a.0.0 ++ Plain (codes "from") ∷ (rels ++ rest) =
-    cut_takes (codes "from") words a.0.0 a.0.1 a.1
-    ∙ ap (λ (l : List Word). a.0.0 ++ Plain (codes "from") ∷ l)
-    (sym (joined_again (is_key (codes "where")) a.0.1)) in
-    subst (λ (l : List Word). IsStatement cat (codes "query") l s) (sym whole) (query_parts_take cat a.0.0 rels rest c.0 s t.0 t.1 c.1 c.2)
+    let b = must_then _ (look_like_columns a.0.0 && are_free (up_to (codes "where") a.0.1)) _ s a.2 in
+    let c = known_then _ (conditions_form (from_key (codes "where") a.0.1)) _ s b.1 in
+    let t = both_hold (look_like_columns a.0.0) (are_free (up_to (codes "where") a.0.1)) b.0 in
+    let whole = cut_takes (codes "from") words a.0.0 a.0.1 a.1 in
+    let q = query_parts_take cat a.0.0 (up_to (codes "where") a.0.1) (from_key (codes "where") a.0.1) c.0 s t.0 t.1 c.1 c.2 in
+    grind (arith, joined_again)
 
 -- where a query fits
 pub record FitsQuery (cat : Catalogue) (out : List Ref) (rels : List RelNo) (conds : List Condition) : Type 0 where
@@ -227,32 +213,16 @@ pub record FitsQuery (cat : Catalogue) (out : List Ref) (rels : List RelNo) (con
 
 pub query_fits : (cat : Catalogue) (out : List Ref) (rels : List RelNo) (conds : List Condition)
     → FitsStatement cat (Query out rels conds) → HoldsValues (Query out rels conds) → FitsQuery cat out rels conds
-query_fits cat out rels conds h v = record {
-  parts = record { there = h.1; few = h.0.1 };
-  relations = recursion_from_All (λ (r : RelNo). IsRelation cat r.0) rels h.1;
-  some_rels = h.0.0;
-  some_out = h.2.0;
-  columns = recursion_from_All (FitsRef cat rels) out h.3;
-  conds_fit = recursion_from_All (FitsCondition cat rels) conds h.4.1;
-  conds_hold = recursion_from_All HoldsValue conds v;
-}
+query_fits cat out rels conds h v = grind (arith, recursion_from_All)
 
 query_parts_again : (cat : Catalogue) → IsKnown cat → (out : List Ref) (rels : List RelNo) (conds : List Condition) → FitsQuery cat out rels conds
     → query_of_parts cat (map (column_word cat rels) out) (map (relation_word cat) rels) (map (comparison_for cat rels) conds) ≡ Ok (Query out rels conds)
 query_parts_again cat k out rels conds h =
     let p = parts_are cat k rels h.relations in
-    let a : along (λ i w. listed_column cat (parts_for rels) w) 0 (map (column_word cat rels) out) ≡ Ok
-    out = ok_along (λ i w. listed_column cat (parts_for rels) w) 0 (map (column_word cat rels) out) out
-    (columns_again cat k rels h.parts 0 out h.columns) in
-    let b : along (λ i w. part_of cat w) 0 (map (relation_word cat) rels) ≡ Ok rels =
-    ok_along (λ i w. part_of cat w) 0 (map (relation_word cat) rels) rels
-    (parts_again cat k rels h.relations 0) in
+    let a = ok_along (λ i w. listed_column cat (parts_for rels) w) 0 (map (column_word cat rels) out) out (columns_again cat k rels h.parts 0 out h.columns) in
+    let b = ok_along (λ i w. part_of cat w) 0 (map (relation_word cat) rels) rels (parts_again cat k rels h.relations 0) in
     let c = conditions_again cat k rels h.parts conds h.conds_fit h.conds_hold in
-    by_words cat (map (column_word cat rels) out) (map (relation_word cat) rels) (map (comparison_for cat rels) conds)
-    ∙ ap (λ (q : Parts). along (λ i w. listed_column cat q w) 0 (map (column_word cat rels) out) >>=
-    λ o. along (λ i w. part_of cat w) 0 (map (relation_word cat) rels) >>=
-    λ found. conditions_of cat q (map (comparison_for cat rels) conds) >>= λ cs. Ok (Query o found cs)) p
-    ∙ rw (a, b, c) refl
+    rw (by_words cat (map (column_word cat rels) out) (map (relation_word cat) rels) (map (comparison_for cat rels) conds), p, a, b, c) refl
 
 all_free_names : (cat : Catalogue) → IsKnown cat → (rels : List RelNo)
     → AllByRecursion (λ (r : RelNo). IsRelation cat r.0) rels → list_all is_free (map (relation_word cat) rels) ≡ true
@@ -271,21 +241,16 @@ pub query_again : (cat : Catalogue) → IsKnown cat → (out : List Ref) (rels :
 query_again cat k out rels conds h =
     let cols : List Word = map (column_word cat rels) out in
     let names : List Word = map (relation_word cat) rels in
-    let rest : List Word = where_words cat rels conds in
     let looks = columns_look cat k rels h.parts out h.columns in
     let frees = all_free_names cat k rels h.relations in
-    let a : cut_at (codes "from") (cols ++ Plain (codes "from") ∷ (names ++ rest)) ≡ Some
-    (cols, names ++ rest) = cut_again (codes "from") cols (names ++ rest)
-    (frees_no_key (codes "from") cols refl looks.1) in
-    let none : NonePasses (is_key (codes "where")) names = frees_no_key (codes "where") names refl frees in
-    let b : up_to (codes "where") (names ++ rest) ≡ names = before_where cat rels names conds none in
-    let c : from_key (codes "where") (names ++ rest) ≡ rest = from_where cat rels names conds none in
-    let d : (look_like_columns cols && are_free names) ≡ true =
-    both_are (look_like_columns cols) (are_free names)
-    (both_are (not_empty cols) (list_all looks_like_column cols)
-    (not_empty_again (column_word cat rels) out h.some_out) looks.0)
-    (both_are (not_empty names) (list_all is_free names)
-    (not_empty_again (relation_word cat) rels h.some_rels) frees) in
-    let f : conditions_form rest ≡ Some (map (comparison_for cat rels) conds) = form_again cat k rels h.parts
-    (codes "where") conds h.conds_fit h.conds_hold in
-    rw (a, b, c, d, f) (query_parts_again cat k out rels conds h)
+    let none = frees_no_key (codes "where") names refl frees in
+    let d : (look_like_columns cols && are_free names) ≡ true = both_are (look_like_columns cols) (are_free names)
+    (both_are (not_empty cols) _ (not_empty_again (column_word cat rels) out h.some_out) looks.0)
+    (both_are (not_empty names) _ (not_empty_again (relation_word cat) rels h.some_rels) frees) in
+    rw (
+      cut_again (codes "from") cols (names ++ where_words cat rels conds) (frees_no_key (codes "from") cols refl looks.1),
+      before_where cat rels names conds none,
+      from_where cat rels names conds none,
+      d,
+      form_again cat k rels h.parts (codes "where") conds h.conds_fit h.conds_hold,
+    ) (query_parts_again cat k out rels conds h)

@@ -1,5 +1,5 @@
 -- What is read is a workload that the catalogue allows, and the file is its spelling.
-use Rattle.sdd_script.proofs.All.{Accepts, All-from_recursion, BadLine, Bool, Catalogue, Deliver, Down, Err, Event, EventKey, FitsStatement, HoldsValues, IsFrom1To, IsLink, IsSoundCatalogue, IsValid, IsValidClass, IsValidEvent, IsWhole, Keyword, List, Lose, MAX_PLACE, MAX_WORKLOAD_BYTES, None, Ok, Option, Place, Plain, Quoted, Redeclare, Repeat, Resend, Result, Settle, Site, Some, State, StatementKey, Stmt, Submit, Tick, Txn, TxnNo, Up, Word, WorkFault, WorkRule, Workload, [], all_classes, ap, append-nil, append_assoc, arith, at_line, bind_ok, bytes_eq, bytes_eq-Decides, class_names, classes_in, codes, cond, count_word, cut_lines, cut_takes, ended, event_of, event_words, false, flat_map, flight_place, get_or, is_ended, is_free, is_utf8, joined, keyword_rules, length, length-map, line_bytes, line_rules, lines_of, ltb-false, map, name_in, name_of_txn, nat_lt, nothing_read, number_named, ok_is, one_line, open_list, option_map, option_map_or, position, position-Some, refl, repeats, rules, site_word, slice_get, slice_get-map, spelled_lines, spelling, statement_of, submit_of, subst, sym, tail_rules, takes_events, true, txn_named, txn_no, unwrap_or, unwrap_or-slice_get, walk_bytes, workload, workload_of_state, ℕ, ◌++◌, ◌+◌, ◌-◌, ◌<◌, ◌>>=◌, ◌∙◌, ◌∷◌, ◌≡◌}
+use Rattle.sdd_script.proofs.All.{Accepts, BadLine, Bool, Catalogue, Deliver, Down, Err, Event, EventKey, IsFrom1To, IsLink, IsSoundCatalogue, IsValidEvent, IsWhole, Keyword, List, Lose, MAX_PLACE, MAX_WORKLOAD_BYTES, Ok, Option, Place, Plain, Quoted, Redeclare, Repeat, Resend, Result, Settle, Site, Some, State, StatementKey, Stmt, Submit, Tick, Txn, TxnNo, Up, Word, WorkFault, WorkRule, Workload, [], ap, append-nil, append_assoc, arith, at_line, bind_ok, bytes_eq, bytes_eq-Decides, codes, cond, count_word, cut_lines, cut_takes, ended, event_of, event_words, false, flat_map, flight_place, get_or, is_ended, is_free, is_utf8, keyword_rules, length, length-map, line_bytes, line_rules, lines_of, ltb-false, map, name_in, name_of_txn, nat_lt, nothing_read, number_named, ok_is, one_line, option_map, option_map_or, position, position-Some, refl, rules, site_word, slice_get, slice_get-map, spelled_lines, spelling, statement_of, submit_of, subst, sym, tail_rules, takes_events, true, txn_named, txn_no, unwrap_or, unwrap_or-slice_get, walk_bytes, workload, workload_of_state, ℕ, ◌++◌, ◌+◌, ◌-◌, ◌<◌, ◌>>=◌, ◌∙◌, ◌∷◌, ◌≡◌}
 use Rattle.sdd_script.specs.Walk.{walk}
 use Rattle.sdd_script.proofs.StepLaws.{must_then, known_then, some_is}
 use Rattle.sdd_script.proofs.QueryLaws.{IsStatement, put_takes, query_takes}
@@ -35,8 +35,7 @@ record IsSubmit (names : List (List ℕ)) (words : List Word) (e : Event) : Type
   is : Submit (txn_no (place + 1)) ≡ e
 
 numbered_at : (o : Option ℕ) (n : ℕ) → option_map (λ place. place + 1) o ≡ Some n → (place : ℕ) × (o ≡ Some place) × (place + 1 ≡ n)
-numbered_at None n e = absurd cc
-numbered_at (Some place) n e = (place, refl, some_is (place + 1) n e)
+numbered_at o n e = grind (arith, some_is)
 
 named_submit : (names : List (List ℕ)) (w : Word) (txn : TxnNo) → txn_named names w ≡ Ok txn → (place : ℕ)
     × (place < length names) × (w ≡ Plain (get_or names place [])) × (txn_no (place + 1) ≡ txn)
@@ -63,24 +62,17 @@ submit_is : (cat : Catalogue) (st : State) (words : List Word) (e : Event) → S
     → IsEvent cat st (codes "submit") words e
 submit_is cat st words e s t h =
     let r = submit_takes st.names words e h in
-    let names : st.names ≡ names_of st.txns = s.names ∙ ap (λ (l : List (List ℕ)). names_of st.txns ++ l)
-    (no_open st.place t) ∙ append-nil (names_of st.txns) in
-    let len : length st.names ≡ length st.txns = ap (λ (l : List (List ℕ)). length l) names ∙ length-map st.txns (λ (t : Txn). t.name) in
+    let names : st.names ≡ names_of st.txns = s.names ∙ ap (λ (l : List (List ℕ)). names_of st.txns ++ l) (no_open st.place t) ∙ append-nil
+    (names_of st.txns) in
+    let len : length st.names ≡ length st.txns = rw names (length-map st.txns (λ (t : Txn). t.name)) in
     let back : r.place + 1 - 1 ≡ r.place = omega arith in
-    let name : name_of_txn st.txns (r.place + 1) ≡ get_or st.names r.place [] =
-    name_at_number st.txns (r.place + 1) ∙ ap (λ (i : ℕ). get_or (names_of st.txns) i []) back
-    ∙ ap (λ (l : List (List ℕ)). get_or l r.place []) (sym names) in
-    subst (λ (x : Event). IsEvent cat st (codes "submit") words x) r.is (record {
-      spelled = ap (λ (l : List Word). Plain (codes "submit") ∷ l) r.spelled
-          ∙ ap (λ (l : List ℕ). Plain (codes "submit") ∷ Plain l ∷ []) (sym name);
-      valid = (omega arith, omega (arith, r.within, len));
-    })
+    let name : name_of_txn st.txns (r.place + 1) ≡ get_or st.names r.place [] = grind (arith, name_at_number) in
+    rw (← r.is) (record { spelled = cc; valid = (omega arith, omega (arith, r.within, len)) })
 
 -- an event whose words are spelled so
 is_event : (cat : Catalogue) (st : State) (key : List ℕ) (words ws : List Word) (x e : Event) → x ≡ e → words ≡ ws
     → Plain key ∷ ws ≡ event_words st.txns x → IsValidEvent cat (length st.txns) x → IsEvent cat st key words e
-is_event cat st key words ws x e is spelled whole valid = subst (λ (y : Event). IsEvent cat st key words y) is
-    (record { spelled = ap (λ (l : List Word). Plain key ∷ l) spelled ∙ whole; valid = valid })
+is_event cat st key words ws x e is spelled whole valid = grind (arith, IsEvent)
 
 -- an event of one form with two others
 flight_is : (make : Site → Site → ℕ → Event) (cat : Catalogue) (st : State) (key : List ℕ) (words : List Word) (e : Event)
@@ -88,11 +80,7 @@ flight_is : (make : Site → Site → ℕ → Event) (cat : Catalogue) (st : Sta
     ≡ event_words st.txns (make from to n))
     → ((from to : Site) (n : ℕ) → IsLink cat from to → IsFrom1To MAX_PLACE n → IsValidEvent cat (length st.txns) (make from to n))
     → (flight_place cat words >>= λ (p : Site × Site × ℕ). Ok (make p.0 p.1 p.2)) ≡ Ok e → IsEvent cat st key words e
-flight_is make cat st key words e whole valid h =
-    let b = bind_ok (flight_place cat words) _ e h in
-    let r = place_takes cat words b.0 b.1 in
-    is_event cat st key words _ (make b.0.0 b.0.1 b.0.2) e (ok_is (make b.0.0 b.0.1 b.0.2) e b.2) r.spelled
-    (whole b.0.0 b.0.1 b.0.2) (valid b.0.0 b.0.1 b.0.2 r.linked r.placed)
+flight_is make cat st key words e whole valid h = grind (arith, bind_ok, place_takes, is_event, ok_is)
 
 event_is : (key : EventKey) (cat : Catalogue) (st : State) (words : List Word) (e : Event) → Sound cat st
     → takes_events st.place ≡ true
@@ -109,8 +97,7 @@ event_is ekeys.Resend cat st words e s t h =
 event_is ekeys.Tick cat st words e s t h =
     let r = tick_takes cat words e h in
     is_event cat st (codes "tick") words _ (Tick r.tm r.n) e r.is r.spelled refl (r.there, r.counted)
-event_is ekeys.Settle cat st words e s t h =
-    let r = settle_takes words e h in is_event cat st (codes "settle") words [] Settle e r.1 r.0 refl tt
+event_is ekeys.Settle cat st words e s t h = grind (arith, settle_takes, is_event)
 event_is ekeys.Redeclare cat st words e s t h =
     let r = redeclare_takes words e h in is_event cat st (codes "redeclare") words [] Redeclare e r.1 r.0 refl tt
 event_is ekeys.Down cat st words e s t h =
@@ -153,13 +140,7 @@ line_leads : (cat : Catalogue) (st to : State) (line : List ℕ) → Sound cat s
 line_leads cat st to line s e =
     let l = line_takes cat st to line e in
     let k = words_take cat st to l.words l.rules in
-    record {
-      words = l.words;
-      spelled = l.spelled;
-      leads =
-          subst (λ (ws : List Word). Leads cat st to ws) (sym k.whole)
-          (keyword_leads cat st to k.key k.words s k.rules);
-    }
+    record { words = l.words; spelled = l.spelled; leads = rw k.whole (keyword_leads cat st to k.key k.words s k.rules) }
 
 one_if : (cat : Catalogue) (st to : State) (line : List ℕ) (b : Bool) → cond b (Err BadLine) (line_rules cat st line) ≡ Ok to
     → line_rules cat st line ≡ Ok to
@@ -171,12 +152,6 @@ at_ok : (n : ℕ) (r : Result State WorkRule) (f : State → Result State WorkFa
     → at_line n r f ≡ Ok to → (st : State) × (r ≡ Ok st) × (f st ≡ Ok to)
 at_ok n r f to e = grind arith
 
-abbrev read_state : State → Result State WorkFault
-read_state st = Ok st
-
-same_state : (x y : State) → read_state x ≡ read_state y → x ≡ y
-same_state x y e = cc
-
 record IsEnd (st to : State) (tail : List ℕ) : Type 0 where
   nothing : tail ≡ []
   is : st ≡ to
@@ -185,12 +160,8 @@ record IsEnd (st to : State) (tail : List ℕ) : Type 0 where
 ended_if : (st to : State) (b : Bool) (rule : WorkRule) → cond b (Ok st) (Err rule) ≡ Ok to → (b ≡ true) × (st ≡ to)
 ended_if st to b rule e = grind arith
 
-never_if : (a b : Bool) (to : State) (x y z : WorkRule) → cond a (Err x) (cond b (Err y) (Err z)) ≡ Ok to → ⊥
-never_if a b to x y z e = grind arith
-
 tail_takes : (st to : State) (tail : List ℕ) → tail_rules st tail ≡ Ok to → IsEnd st to tail
-tail_takes st to [] e = let h = ended_if st to (is_ended st.place) _ e in record { nothing = refl; is = h.1; ended = h.0 }
-tail_takes st to (c ∷ cs) e = absurd (never_if (is_ended st.place) (is_utf8 (c ∷ cs)) to _ _ _ e)
+tail_takes st to tail e = grind (arith, ended_if, is_utf8)
 
 record IsFile (cat : Catalogue) (st to : State) (lines : List (List ℕ)) (tail : List ℕ) : Type 0 where
   words : List (List Word)
@@ -203,58 +174,16 @@ record IsFile (cat : Catalogue) (st to : State) (lines : List (List ℕ)) (tail 
 walk_takes : (cat : Catalogue) (n : ℕ) (st to : State) (lines : List (List ℕ)) (tail : List ℕ)
     → Sound cat st → walk cat n st lines tail ≡ Ok to → IsFile cat st to lines tail
 unfolding walk
-walk_takes cat n st to [] tail s e =
-    let a = at_ok n (tail_rules st tail) (λ s. Ok s) to e in
-    let t = tail_takes st a.0 tail a.1 in
-    let same : st ≡ to = t.is ∙ same_state a.0 to a.2 in
-    subst (λ (x : State). IsFile cat st x [] tail) same (record {
-      words = [];
-      spelled = refl;
-      nothing = t.nothing;
-      sound = s;
-      so = sym (append-nil (so_far cat st));
-      ended = t.ended;
-    })
+walk_takes cat n st to [] tail s e = grind (arith, at_ok, tail_takes, IsFile, append-nil, so_far)
 walk_takes cat n st to (line ∷ lines) tail s e =
     let a = at_ok n (one_line cat st line) (λ s. walk cat (n + 1) s lines tail) to e in
     let r = line_leads cat st a.0 line s (one_if cat st a.0 line (is_ended st.place) a.1) in
     let more = walk_takes cat (n + 1) a.0 to lines tail r.leads.sound a.2 in
-    record {
-      words = r.words ∷ more.words;
-      spelled = cc;
-      nothing = more.nothing;
-      sound = more.sound;
-      so = more.so ∙ ap (λ (l : List (List Word)). l ++ more.words) r.leads.lines ∙ append_assoc (so_far cat st) (r.words ∷ []) more.words;
-      ended = more.ended;
-    }
+    let so : so_far cat to ≡ so_far cat st ++ r.words ∷ more.words = grind (arith, append_assoc) in
+    record { words = r.words ∷ more.words; spelled = cc; nothing = more.nothing; sound = more.sound; so = so; ended = more.ended }
 
 nothing_sound : (cat : Catalogue) → IsSoundCatalogue cat → IsWhole cat → Sound cat (nothing_read cat)
-nothing_sound cat sound whole = record {
-  rows = All-from_recursion _ [] tt;
-  txns = All-from_recursion _ [] tt;
-  statements = All-from_recursion (FitsStatement cat) [] tt;
-  values = All-from_recursion HoldsValues [] tt;
-  few_statements = omega arith;
-  header = tt;
-  names = refl;
-  differ = refl;
-  declares = record {
-    valid = All-from_recursion (IsValidClass cat) [] tt;
-    names = subst (λ (l : List (List ℕ)). repeats l ≡ false) (sym (append-nil (class_names cat))) (class_names_differ cat sound);
-    counted = omega arith;
-    few = whole.few_classes;
-  };
-  few_lists = omega arith;
-  timely = none_timely cat.dms 0;
-  events = All-from_recursion (IsValidEvent cat 0) [] tt;
-  submitted = refl;
-  once = λ i k less within d e. omega arith;
-  written = refl;
-  few_rows = omega arith;
-  few_txns = omega arith;
-  few_events = omega arith;
-  order = (refl, refl, refl, refl);
-}
+nothing_sound cat sound whole = grind (arith, append-nil, class_names_differ, none_timely)
 
 -- ---- the workload
 
@@ -263,13 +192,6 @@ made st = record { rows = st.rows; txns = st.txns; lists = st.lists; events = st
 
 ended_place : (place : Place) → is_ended place ≡ true → place ≡ places.Ended
 ended_place place e = grind arith
-
-sound_valid : (cat : Catalogue) (st : State) → Sound cat st → st.place ≡ places.Ended → IsValid cat (made st)
-sound_valid cat st s p =
-    let names : st.names ≡ names_of st.txns = s.names ∙ ap (λ (x : Place). names_of st.txns ++ open_name x) p ∙ append-nil (names_of st.txns) in
-    let len : length st.names ≡ length st.txns = ap (λ (l : List (List ℕ)). length l) names ∙ length-map st.txns (λ (t : Txn). t.name) in
-    let all : all_classes st ≡ joined st.lists = ap (λ (x : Place). joined st.lists ++ classes_in (open_list x)) p ∙ append-nil (joined st.lists) in
-    grind arith
 
 finished_ok : (r : Result State WorkFault) (w : Workload) → workload_of_state r ≡ Ok w → (st : State) × (r ≡ Ok st) × (made st ≡ w)
 finished_ok r w e = grind arith
@@ -284,8 +206,7 @@ small_if bytes w fault r b e = grind arith
 -- lines joined are lines with their newlines
 pub lines_spelled : (lines : List (List Word)) → spelled_lines (map line_bytes lines) ≡ flat_map ended lines
 lines_spelled [] = refl
-lines_spelled (l ∷ lines) = ap (λ (t : List ℕ). line_bytes l ++ 10 ∷ t) (lines_spelled lines)
-    ∙ sym (append_assoc (line_bytes l) (10 ∷ []) (flat_map ended lines))
+lines_spelled (l ∷ lines) = grind (arith, append_assoc, flat_map, (lines_spelled lines))
 
 -- a file that gives a workload spells it
 pub reads_spelling : (cat : Catalogue) → IsSoundCatalogue cat → IsWhole cat → (bytes : List ℕ) (w : Workload) → workload cat bytes ≡ Ok w
@@ -306,6 +227,6 @@ reads_spelling cat sound whole bytes w e =
     ∙ lines_spelled (lines_of cat (made st)) in
     subst (λ (x : Workload). Accepts cat bytes x) b.2 (record {
       small = ltb-false MAX_WORKLOAD_BYTES (length bytes) a.0;
-      valid = sound_valid cat st f.sound place;
+      valid = (grind (arith, names_of, open_name, append-nil, length-map));
       spelled = spelled;
     })

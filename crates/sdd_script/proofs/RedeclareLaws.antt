@@ -15,10 +15,7 @@ none_passes p a (suc n) e k lo hi =
 
 passes_none : (p : ℕ → Bool) (a n : ℕ) → ((k : ℕ) → a ≤ k → k < a + n → p k ≡ false) → list_any p (range_with_len a n) ≡ false
 passes_none p a zero h = refl
-passes_none p a (suc n) h =
-    let here : p a ≡ false = h a (omega arith) (omega arith) in
-    let later : list_any p (range_with_len (a + 1) n) ≡ false = passes_none p (a + 1) n (λ k lo hi. h k (omega (arith, lo)) (omega (arith, hi))) in
-    rw (here, later) refl
+passes_none p a (suc n) h = grind (arith, list_any, range_with_len, (passes_none p (a + 1) n (λ k lo hi. h k (omega (arith, lo)) (omega (arith, hi)))))
 
 -- ---- a line
 
@@ -51,10 +48,6 @@ pub item_at : {A : Type 0} (xs : List A) (x : A) (rest : List A) → slice_get (
 item_at [] x rest = refl
 item_at (z ∷ xs) x rest = item_at xs x rest
 
-redeclare_may : (dms lists : ℕ) (events : List Event) (e : Event) → may_follow dms lists events e ≡ true → e ≡ Redeclare
-    → MayRedeclare dms lists events
-redeclare_may dms lists events e m is = may_redeclare_takes dms lists events (subst (λ (x : Event). may_follow dms lists events x ≡ true) is m)
-
 -- an event that may follow keeps all of them timely
 pub timely_more : (dms lists : ℕ) (events : List Event) (e : Event) → AreTimely dms lists events
     → may_follow dms lists events e ≡ true → AreTimely dms lists (events ++ e ∷ [])
@@ -64,7 +57,7 @@ timely_more dms lists events e h may i is =
       | inr le ↦
           let at = at_end events e i Redeclare is le in
           let front : take i (events ++ e ∷ []) ≡ events = ap (λ (n : ℕ). take n (events ++ e ∷ [])) at.0 ∙ take-append_seam events (e ∷ []) in
-          subst (MayRedeclare dms lists) (sym front) (redeclare_may dms lists events e may at.1)
+          subst (MayRedeclare dms lists) (sym front) (may_redeclare_takes dms lists events (subst (λ (x : Event). may_follow dms lists events x ≡ true) at.1 may))
     ]
 
 -- and where all are timely, each may follow those before it

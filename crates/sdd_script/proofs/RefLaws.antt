@@ -1,5 +1,5 @@
 -- Columns of a statement's relations: what is read is spelled and is there, and what is spelled and is there is read.
-use Rattle.sdd_script.proofs.All.{All, All-get_or, Catalogue, FitsRef, Found, IsColumn, IsFrom1To, IsRelation, Kind, List, Ok, Op, Option, Parts, Plain, Quoted, Ref, RelNo, Some, Word, ap, arith, behind_point, both_hold, column_of_use, column_word, columns_of, decimal, has_point, is_free, is_name, is_point, kind_of_place, kind_of_ref, length, length-map, looks_like_column, map, name_of_column, names_column, none_after, option_map, position, refl, rel_of, slice_get, slice_get-get_or, slice_get-map, slice_get_within, spells_column, subst, sym, true, ℕ, ◌++◌, ◌-◌, ◌<◌, ◌^◌, ◌∙◌, ◌∷◌, ◌≡◌, ◌≤◌}
+use Rattle.sdd_script.proofs.All.{All, All-get_or, Catalogue, FitsRef, Found, IsFrom1To, IsRelation, List, Ok, Op, Parts, Ref, RelNo, Some, Word, arith, both_hold, column_of_use, column_word, columns_of, is_free, is_name, kind_of_ref, length, length-map, looks_like_column, map, name_of_column, names_column, none_after, option_map, rel_of, slice_get, slice_get-get_or, slice_get-map, slice_get_within, true, ℕ, ◌-◌, ◌<◌, ◌^◌, ◌≡◌, ◌≤◌}
 use Rattle.sdd_script.proofs.StepLaws.{some_is}
 use Rattle.sdd_script.proofs.ValueLaws.{columns_are}
 use Rattle.sdd_script.proofs.WordCuts.{no_point}
@@ -15,42 +15,23 @@ abbrev pub AreRelations : Catalogue → List RelNo → Type 0
 AreRelations cat rels = All (λ (r : RelNo). IsRelation cat r.0) rels
 
 pub there_part : (rels : List RelNo) (part : ℕ) → part - 1 < length rels → slice_get (parts_for rels) (part - 1) ≡ Some (Some (rel_of rels part))
-there_part rels part lt = slice_get-map (λ (r : RelNo). Some r.0) rels (part - 1)
-    ∙ ap (option_map (λ (r : RelNo). Some r.0)) (slice_get-get_or rels (part - 1) (record { 0 = 0 }) lt)
+there_part rels part lt = grind (arith, slice_get-map, option_map, slice_get-get_or)
 
 pub part_there : (rels : List RelNo) (part rel : ℕ) → slice_get (parts_for rels) (part - 1) ≡ Some (Some rel)
     → (part - 1 < length rels) × (rel ≡ rel_of rels part)
-part_there rels part rel e =
-    let lt : part - 1 < length rels =
-    omega (arith, slice_get_within (parts_for rels) (part - 1) (Some rel) e, length-map rels (λ (r : RelNo). Some r.0)) in
-    let at = there_part rels part lt in
-    (lt, cc)
+part_there rels part rel e = grind (arith, slice_get_within, parts_for, length-map, there_part)
 
 pub record IsRef (cat : Catalogue) (rels : List RelNo) (w : Word) (f : Found) : Type 0 where
   pub fits : FitsRef cat rels f.at
   pub kind : kind_of_ref cat rels f.at ≡ f.kind
   pub spelled : w ≡ column_word cat rels f.at
 
-abbrev kind_of_place_of : Catalogue → ℕ → ℕ → Option Kind
-kind_of_place_of cat rel column = kind_of_place (columns_of cat rel) (column - 1)
-
 pub ref_takes : (cat : Catalogue) (rels : List RelNo) (w : Word) (f : Found) → looks_like_column w ≡ true
     → column_of_use cat (parts_for rels) w ≡ Ok f → IsRef cat rels w f
 ref_takes cat rels w f look e =
     let u = use_of_takes cat (parts_for rels) w f look e in
     let p = part_there rels f.at.part u.rel u.there in
-    let to : f.at.part ≤ length rels = omega (arith, p.0, u.some) in
-    let same : u.rel ≡ rel_of rels f.at.part = p.1 in
-    let len : length (columns_of cat u.rel) ≡ length (columns_of cat (rel_of rels f.at.part)) = ap (λ (r : ℕ). length (columns_of cat r)) same in
-    let column : IsColumn cat (rel_of rels f.at.part) f.at.column =
-    subst (λ l. IsFrom1To (length l) f.at.column) (columns_are cat (rel_of rels f.at.part))
-    (u.column_from, omega (arith, u.column_to, len)) in
-    let k = kind_is cat (rel_of rels f.at.part) f.at.column column in
-    record {
-      fits = ((u.some, to), column);
-      kind = some_is (kind_of_ref cat rels f.at) f.kind (sym k ∙ ap (λ (r : ℕ). kind_of_place_of cat r f.at.column) (sym same) ∙ u.kind);
-      spelled = u.spelled ∙ ap (λ (r : ℕ). Plain (decimal f.at.part ++ 46 ∷ name_of_column (columns_of cat r) f.at.column)) same;
-    }
+    grind (arith, columns_are, kind_is, some_is)
 
 -- a statement has few relations, each of which is there
 pub record AreParts (cat : Catalogue) (rels : List RelNo) : Type 0 where
@@ -66,14 +47,7 @@ pub ref_again : (cat : Catalogue) → IsKnown cat → (rels : List RelNo) (r : R
       at = r;
       kind = kind_of_ref cat rels r;
     })
-ref_again cat k rels r h fits =
-    use_again cat k (parts_for rels) (rel_of rels r.part) r (record {
-      some = fits.0.0;
-      small = omega (arith, fits.0.1, h.few);
-      there = there_part rels r.part (omega (arith, fits.0.0, fits.0.1));
-      relation = part_is_there cat rels r.part h fits.0;
-      column = fits.1;
-    })
+ref_again cat k rels r h fits = grind (arith, use_again, parts_for, there_part, part_is_there)
 
 pub record IsColumnWord (w : Word) : Type 0 where
   pub fine : IsFine w
@@ -96,17 +70,9 @@ column_word_is cat k rels r h fits =
 
 -- a word that names a column behind `=` looks like one
 
-one_point : (bytes : List ℕ) (o : Option ℕ) → position is_point bytes ≡ o → is_name (behind_point bytes) ≡ true → has_point bytes ≡ true
-one_point bytes o p e = grind (arith, none_after)
-
-spelled_looks : (bytes : List ℕ) → spells_column bytes ≡ true → looks_like_column (Plain bytes) ≡ true
-spelled_looks bytes e = grind (arith, both_hold, one_point, no_point, no_points)
-
 pub record IsNaming (op : Op) (w : Word) : Type 0 where
   pub equals : op ≡ ops.Eq
   pub looks : looks_like_column w ≡ true
 
 pub naming : (op : Op) (w : Word) → names_column op w ≡ true → IsNaming op w
-naming ops.Eq (Plain bytes) e = record { equals = refl; looks = spelled_looks bytes e }
-naming ops.Eq (Quoted text) e = absurd cc
-naming _ w e = absurd cc
+naming op w e = grind (arith, both_hold, none_after, no_point, no_points)

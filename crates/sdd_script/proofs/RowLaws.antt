@@ -53,10 +53,7 @@ some_words (v ∷ row) h = refl
 
 pub row_free : (cat : Catalogue) → IsKnown cat → (rel : RelNo) (row : List Value) → FitsRowOf cat rel row
     → (is_free (relation_word cat rel) && are_free (map value_word row)) ≡ true
-row_free cat k rel row h =
-    let same : map kind_of row ≡ kinds_of (columns_of cat rel.0) = h.1 ∙ ap kinds_of (sym (columns_are cat rel.0)) in
-    let len : length row ≡ length (columns_of cat rel.0) = omega (arith, values_length (columns_of cat rel.0) row same h.2, length-map row value_word) in
-    grind (arith, name_free, some_words, all_free)
+row_free cat k rel row h = grind (arith, kinds_of, columns_are, values_length, length-map, name_free, some_words, all_free)
 
 values_fine : (row : List Value) → AllByRecursion IsValue row → AllByRecursion IsFine (map value_word row)
 values_fine [] h = tt

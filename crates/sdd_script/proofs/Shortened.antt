@@ -1,83 +1,51 @@
 -- A statement of which no more is kept than tells that it is too long breaks the same limits.
-use Rattle.sdd_script.proofs.All.{Assign, BadLine, Bool, Condition, Delete, Err, Fails, IfSome, LineError, List, MAX_ASSIGNMENTS, MAX_CONDITIONS, MAX_OUTPUT_COLUMNS, MAX_STATEMENTS, MAX_USES, None, Ok, Option, Put, Query, Ref, RelNo, Result, Some, State, Stmt, TooMany, Update, WorkRule, [], ap, arith, cases_Bool, false, few, inl, inr, known, leb-false, leb-true, length, length-take, lt-leb, must, nat_le, nat_lt, ok_is, refl, rule_in, short, shortened, statement_rules, sym, take, take_all, takes_statements, true, with_statement, ℕ, ◌++◌, ◌+◌, ◌<◌, ◌>>=◌, ◌∙◌, ◌∷◌, ◌≡◌, ◌≤◌}
+use Rattle.sdd_script.proofs.All.{Assign, Bool, Condition, Delete, Fails, LineError, List, MAX_ASSIGNMENTS, MAX_CONDITIONS, MAX_OUTPUT_COLUMNS, MAX_STATEMENTS, MAX_USES, Ok, Option, Put, Query, Ref, RelNo, Result, Some, State, Stmt, TooMany, Update, WorkRule, [], arith, cases_Bool, few, known, leb-false, leb-true, length, length-take, lt-leb, must, nat_le, nat_lt, ok_is, refl, rule_in, short, shortened, statement_rules, take, take_all, true, with_statement, ℕ, ◌++◌, ◌+◌, ◌>>=◌, ◌∷◌, ◌≡◌, ◌≤◌}
 use Rattle.sdd_script.specs.declared.fault.Counts.TheVariants as counts
 
 -- ---- what was read in part is read of the short statement
 
-given : {A : Type 0} (most : ℕ) (read : Result (List A) WorkRule) (kept : List A) → few most read ≡ Ok kept
-    → (xs : List A) × (read ≡ Ok xs) × (take (most + 1) xs ≡ kept)
-given most (Ok xs) kept e = (xs, refl, ok_is {F = WorkRule} (take (most + 1) xs) kept e)
-given most (Err rule) kept e = absurd cc
-
 pub fails_at : {A : Type 0} (err : LineError) (read : Result A WorkRule) (f : A → Result Stmt WorkRule) → Fails rule_in err read
     → Fails rule_in err (short (read >>= f))
-fails_at err read f h =
-    elim (rule_in err) as (λ o. IfSome o (λ fault. read ≡ Err fault)
-    → IfSome o (λ fault. short (read >>= f) ≡ Err fault)) [ None ↦ λ h. tt | Some fault ↦ λ h. rw h refl ] h
-
-failed : {A : Type 0} (most : ℕ) (read : Result (List A) WorkRule) (rule : WorkRule) → few most read ≡ Err rule → read ≡ Err rule
-failed most (Ok xs) rule e = absurd cc
-failed most (Err own) rule e = let same : own ≡ rule = cc in ap (λ r. Err r) same
-
-exact : {A : Type 0} (most : ℕ) (err : LineError) (read : Result (List A) WorkRule) → Fails rule_in err (few most read) → Fails rule_in err read
-exact most err read h =
-    elim (rule_in err) as (λ o. IfSome o (λ fault. few most read ≡ Err fault)
-    → IfSome o (λ fault. read ≡ Err fault)) [ None ↦ λ h. tt | Some fault ↦ λ h. failed most read fault h ] h
+fails_at err read f h = grind arith
 
 pub fails_short : {A : Type 0} (most : ℕ) (err : LineError) (read : Result (List A) WorkRule) (f : List A → Result Stmt WorkRule)
     → Fails rule_in err (few most read) → Fails rule_in err (short (read >>= f))
-fails_short most err read f h = fails_at err read f (exact most err read h)
+fails_short most err read f h = fails_at err read f (grind (arith))
 
 pub fails_second : {A B : Type 0} (m n : ℕ) (err : LineError) (read : Result (List A) WorkRule) (kept : List A) (second : Result (List B) WorkRule)
     (f : List A → List B → Result Stmt WorkRule) → few m read ≡ Ok kept → Fails rule_in err (few n second)
     → Fails rule_in err (short (read >>= (λ x. second >>= f x)))
-fails_second m n err read kept second f e h =
-    let a = given m read kept e in
-    rw a.1 (fails_short n err second (f a.0) h)
+fails_second m n err read kept second f e h = grind (arith, ok_is, fails_short)
 
 pub fails_third : {A B C : Type 0} (m n k : ℕ) (err : LineError) (read : Result (List A) WorkRule) (kept : List A) (second : Result (List B)
     WorkRule) (more : List B)
     (third : Result (List C) WorkRule) (f : List A → List B → List C → Result Stmt WorkRule) → few m read ≡ Ok kept → few n second ≡ Ok more
     → Fails rule_in err (few k third) → Fails rule_in err (short (read >>= (λ x. second >>= (λ y. third >>= f x y))))
-fails_third m n k err read kept second more third f e g h =
-    let a = given m read kept e in
-    let b = given n second more g in
-    rw (a.1, b.1) (fails_short k err third (f a.0 b.0) h)
+fails_third m n k err read kept second more third f e g h = grind (arith, ok_is, fails_short)
 
 pub query_short : (read : Result (List Ref) WorkRule) (second : Result (List RelNo) WorkRule) (third : Result (List Condition) WorkRule)
     (out : List Ref) (rels : List RelNo) (conds : List Condition)
     → few MAX_OUTPUT_COLUMNS read ≡ Ok out → few MAX_USES second ≡ Ok rels → few MAX_CONDITIONS third ≡ Ok conds
     → short (read >>= (λ out. second >>= (λ rels. third >>= (λ conds. Ok (Query out rels conds))))) ≡ Ok (Query out rels conds)
-query_short (Ok a) (Ok b) (Ok c) out rels conds e g h = cc
-query_short _ _ _ out rels conds e g h = absurd cc
+query_short read second third out rels conds e g h = grind arith
 
 pub update_short : (rel : RelNo) (read : Result (List Assign) WorkRule) (second : Result (List Condition) WorkRule) (sets : List Assign) (conds :
     List Condition)
     → few MAX_ASSIGNMENTS read ≡ Ok sets → few MAX_CONDITIONS second ≡ Ok conds
     → short (read >>= (λ sets. second >>= (λ conds. Ok (Update rel sets conds)))) ≡ Ok (Update rel sets conds)
-update_short rel (Ok a) (Ok b) sets conds e g = cc
-update_short rel _ _ sets conds e g = absurd cc
+update_short rel read second sets conds e g = grind arith
 
 pub delete_short : (rel : RelNo) (read : Result (List Condition) WorkRule) (conds : List Condition) → few MAX_CONDITIONS read ≡ Ok conds
     → short (read >>= (λ conds. Ok (Delete rel conds))) ≡ Ok (Delete rel conds)
-delete_short rel (Err rule) conds e = absurd cc
-delete_short rel (Ok a) conds e = cc
+delete_short rel read conds e = grind arith
 
 -- ---- the same limits are broken
 
 whole : {A : Type 0} (most : ℕ) (xs : List A) → nat_le (length xs) most ≡ true → take (most + 1) xs ≡ xs
 whole most xs within = let le : length xs ≤ most = leb-true (length xs) most within in take_all (most + 1) xs (omega arith)
 
-too_many : {A : Type 0} (most : ℕ) (xs : List A) → nat_le (length xs) most ≡ false → nat_le (length (take (most + 1) xs)) most ≡ false
-too_many most xs above =
-    let lt : most < length xs = leb-false (length xs) most above in
-    lt-leb (length (take (most + 1) xs)) most (omega (arith, length-take (most + 1) xs))
-
 same_test : {A : Type 0} (most : ℕ) (xs : List A) → nat_le (length (take (most + 1) xs)) most ≡ nat_le (length xs) most
-same_test most xs = elim (cases_Bool (nat_le (length xs) most)) [
-  | inl within ↦ ap (λ l. nat_le (length l) most) (whole most xs within)
-  | inr above ↦ too_many most xs above ∙ sym above
-]
+same_test most xs = grind (arith, cases_Bool, nat_le, whole, leb-false, lt-leb, length-take)
 
 -- the tests of a statement's lists
 abbrev tested : Bool → Bool → Bool → Bool → Result (Unit {0}) WorkRule
@@ -102,16 +70,10 @@ abbrev passed : Result (Unit {0}) WorkRule
 passed = Ok tt
 
 all_passed : (a b c d : Bool) → tested a b c d ≡ passed → (b ≡ true) × (c ≡ true) × (d ≡ true)
-all_passed true true true true e = (refl, refl, refl)
-all_passed _ _ _ _ e = absurd cc
+all_passed a b c d e = grind arith
 
 update_passed : (a b c : Bool) → tested_update a b c ≡ passed → (b ≡ true) × (c ≡ true)
-update_passed true true true e = (refl, refl)
-update_passed _ _ _ e = absurd cc
-
-delete_passed : (a b : Bool) → tested_delete a b ≡ passed → b ≡ true
-delete_passed true true e = refl
-delete_passed _ _ e = absurd cc
+update_passed a b c e = grind arith
 
 abbrev outcome : State → Option ℕ → Result (Unit {0}) WorkRule → Stmt → Result State WorkRule
 outcome st written limits statement = do
@@ -121,8 +83,7 @@ outcome st written limits statement = do
 
 by_limits : (st : State) (written : Option ℕ) (limits : Result (Unit {0}) WorkRule) (s t : Stmt) → (limits ≡ passed → s ≡ t)
     → outcome st written limits s ≡ outcome st written limits t
-by_limits st (Some written) (Ok tt) s t same = ap (outcome st (Some written) passed) (same refl)
-by_limits st _ _ s t same = refl
+by_limits st written limits s t same = grind (arith, outcome, passed)
 
 same_statement : (st : State) (s : Stmt) → with_statement st (shortened s) ≡ with_statement st s
 same_statement st (Put rel row) = refl
@@ -145,13 +106,8 @@ same_statement st (Delete rel conds) =
     let room = nat_lt (length st.statements) MAX_STATEMENTS in
     let limits = tested_delete room (nat_le (length conds) MAX_CONDITIONS) in
     simp same_test (by_limits st (Some st.written) limits (shortened (Delete rel conds)) (Delete rel conds) (λ e.
-    rw (whole MAX_CONDITIONS conds (delete_passed room (nat_le (length conds) MAX_CONDITIONS) e)) refl))
-
-same_by : (takes : Bool) (st : State) (read : Result Stmt WorkRule)
-    → (must BadLine takes >>= (λ _. short read >>= with_statement st)) ≡ (must BadLine takes >>= (λ _. read >>= with_statement st))
-same_by true st (Ok statement) = same_statement st statement
-same_by _ st _ = refl
+    rw (whole MAX_CONDITIONS conds (grind arith)) refl))
 
 -- a statement that is shortened breaks the rules that it breaks whole
 pub same_rules : (st : State) (read : Result Stmt WorkRule) → statement_rules st (short read) ≡ statement_rules st read
-same_rules st read = same_by (takes_statements st.place) st read
+same_rules st read = (grind (arith, same_statement))

@@ -1,5 +1,5 @@
 -- The lines that a state stands for, and how each kind of line adds itself to them.
-use Rattle.sdd_script.proofs.All.{Catalogue, ClassPart, Event, Header, List, Place, RelNo, State, Stmt, Txn, Value, Word, Workload, [], append-nil, append_assoc, class_lines, classes_in, done_words, end_words, event_words, flat_map, flat_map-append, header_words, lines_of, list_lines, list_words, map, map-append, start_words, statement_words, takes_events, takes_rows, takes_statements, takes_txns, true, txn_lines, ◌++◌, ◌∷◌, ◌≡◌}
+use Rattle.sdd_script.proofs.All.{Catalogue, ClassPart, Event, Header, List, Place, RelNo, State, Stmt, Txn, Value, Word, Workload, [], append-nil, append_assoc, arith, class_lines, classes_in, done_words, end_words, event_words, flat_map, flat_map-append, header_words, lines_of, list_lines, list_words, map, map-append, start_words, statement_words, takes_events, takes_rows, takes_statements, takes_txns, true, txn_lines, ◌++◌, ◌∷◌, ◌≡◌}
 use Rattle.sdd_script.specs.declared.place.Place.TheVariants as places
 
 -- the open transaction
@@ -42,26 +42,16 @@ pub row_more : (cat : Catalogue) (rows : List (RelNo × List Value)) (r : RelNo 
     (txns : List Txn) (lists : List (List ClassPart)) (place : Place) (statements : List Stmt)
     (events : List Event) → takes_rows place ≡ true → InOrder place txns lists statements events
     → lines_at cat (rows ++ r ∷ []) txns lists place statements events ≡ lines_at cat rows txns lists place statements events ++ start_words cat r ∷ []
-row_more cat rows r txns lists places.Rows statements events t o = rw (o.0, o.1, o.3) (simp (append-nil, map-append))
-row_more cat rows r txns lists _ statements events t o = absurd cc
+row_more cat rows r txns lists place statements events t o = grind (arith, append-nil, map-append)
 
 -- a transaction opens, or a class list
-
-header_in : (cat : Catalogue) (rows : List (RelNo × List Value)) (txns : List Txn)
-    (lists : List (List ClassPart)) (statements : List Stmt) (events : List Event) (header : Header)
-    → statements ≡ [] → events ≡ []
-    → lines_at cat rows txns lists (places.Inside header) statements events ≡ lines_at cat rows txns lists
-    places.Between statements events ++ header_words header.name header.tm ∷ []
-header_in cat rows txns lists statements events header p q = rw (p, q) (simp append-nil)
 
 pub header_more : (cat : Catalogue) (rows : List (RelNo × List Value)) (txns : List Txn)
     (lists : List (List ClassPart)) (place : Place) (statements : List Stmt) (events : List Event)
     (header : Header) → takes_txns place ≡ true → InOrder place txns lists statements events
     → lines_at cat rows txns lists (places.Inside header) statements events ≡ lines_at cat rows txns lists
     place statements events ++ header_words header.name header.tm ∷ []
-header_more cat rows txns lists places.Rows statements events header t o = header_in cat rows txns lists statements events header o.2 o.3
-header_more cat rows txns lists places.Between statements events header t o = header_in cat rows txns lists statements events header o.1 o.2
-header_more cat rows txns lists _ statements events header t o = absurd cc
+header_more cat rows txns lists place statements events header t o = grind (arith, append-nil)
 
 -- a statement
 
@@ -69,9 +59,7 @@ pub statement_more : (cat : Catalogue) (rows : List (RelNo × List Value)) (txns
     (lists : List (List ClassPart)) (place : Place) (statements : List Stmt) (s : Stmt)
     (events : List Event) → takes_statements place ≡ true → InOrder place txns lists statements events
     → lines_at cat rows txns lists place (statements ++ s ∷ []) events ≡ lines_at cat rows txns lists place statements events ++ statement_words cat s ∷ []
-statement_more cat rows txns lists (places.Inside header) statements s events t o =
-    rw o.1 (simp (map-append, append-nil, append_assoc))
-statement_more cat rows txns lists _ statements s events t o = absurd cc
+statement_more cat rows txns lists place statements s events t o = grind (arith, map-append, append-nil, append_assoc)
 
 -- a transaction ends
 
@@ -88,10 +76,7 @@ pub event_more : (cat : Catalogue) (rows : List (RelNo × List Value)) (txns : L
     (lists : List (List ClassPart)) (place : Place) (statements : List Stmt) (events : List Event)
     (e : Event) → takes_events place ≡ true
     → lines_at cat rows txns lists places.Events statements (events ++ e ∷ []) ≡ lines_at cat rows txns lists place statements events ++ event_words txns e ∷ []
-event_more cat rows txns lists (places.Inside header) statements events e t = absurd cc
-event_more cat rows txns lists (places.Listing list) statements events e t = absurd cc
-event_more cat rows txns lists places.Ended statements events e t = absurd cc
-event_more cat rows txns lists _ statements events e t = simp (map-append, append-nil, append_assoc)
+event_more cat rows txns lists place statements events e t = grind (arith, map-append, append-nil, append_assoc)
 
 -- the end
 
@@ -99,10 +84,7 @@ pub end_more : (cat : Catalogue) (rows : List (RelNo × List Value)) (txns : Lis
     (lists : List (List ClassPart)) (place : Place) (statements : List Stmt) (events : List Event)
     → takes_events place ≡ true
     → lines_at cat rows txns lists places.Ended statements events ≡ lines_at cat rows txns lists place statements events ++ end_words ∷ []
-end_more cat rows txns lists (places.Inside header) statements events t = absurd cc
-end_more cat rows txns lists (places.Listing list) statements events t = absurd cc
-end_more cat rows txns lists places.Ended statements events t = absurd cc
-end_more cat rows txns lists _ statements events t = simp append-nil
+end_more cat rows txns lists place statements events t = grind (arith, append-nil)
 
 -- at the end these are the lines of the workload
 pub lines_at_end : (cat : Catalogue) (w : Workload) (statements : List Stmt)

@@ -1,11 +1,11 @@
 -- An event, and the end, keep what holds in every state, and add themselves to the lines before.
-use Rattle.sdd_script.proofs.All.{AreDistinct, Bool, Catalogue, ClassPart, Event, IsValidEvent, List, MAX_EVENTS, Ok, OpenList, Place, Plain, Result, State, Stmt, Submit, Txn, TxnNo, Word, WorkRule, [], ap, append-nil, arith, bind_ok, classes_in, codes, end_rules, end_words, event_rules, event_words, false, filter_map, filter_map-append, is_submitted, joined, length, list_any-map, ltb-true, map, map-append, may_follow, nat_lt, no_classes, not, ok_is, open_list, submitted_by, subst, sym, takes_events, true, with_submitted, ℕ, ◌++◌, ◌<◌, ◌==◌, ◌∙◌, ◌∷◌, ◌≡◌}
+use Rattle.sdd_script.proofs.All.{AreDistinct, Bool, Catalogue, ClassPart, Event, IsValidEvent, List, MAX_EVENTS, Ok, Place, Plain, Result, State, Stmt, Submit, Txn, TxnNo, Word, WorkRule, [], ap, append-nil, arith, bind_ok, classes_in, codes, end_rules, end_words, event_rules, event_words, false, filter_map, filter_map-append, is_submitted, joined, length, list_any-map, ltb-true, map, map-append, may_follow, nat_lt, no_classes, not, ok_is, open_list, submitted_by, subst, sym, takes_events, true, with_submitted, ℕ, ◌++◌, ◌<◌, ◌==◌, ◌∙◌, ◌∷◌, ◌≡◌}
 use Rattle.sdd_script.proofs.StepLaws.{must_then, not_true}
 use Rattle.sdd_script.proofs.WordCuts.{NonePasses}
 use Rattle.sdd_script.proofs.NamePlaces.{none_any, distinct_more}
 use Rattle.sdd_script.proofs.RedeclareLaws.{timely_more}
 use Rattle.sdd_script.proofs.SoFar.{so_far, InOrder, event_more, end_more}
-use Rattle.sdd_script.proofs.SoundStates.{Sound, Declares, Leads, names_of, open_name, all_more, one_longer}
+use Rattle.sdd_script.proofs.SoundStates.{Sound, Declares, Leads, open_name, all_more, one_longer}
 use Rattle.sdd_script.specs.declared.fault.Counts.TheVariants as counts
 use Rattle.sdd_script.specs.declared.place.Place.TheVariants as places
 
@@ -32,12 +32,6 @@ none_open place t = grind arith
 abbrev numbers : List TxnNo → List ℕ
 numbers txns = map (λ (t : TxnNo). t.0) txns
 
-submitted_more : (submitted : List TxnNo) (events : List Event) (e : Event)
-    → numbers submitted ≡ filter_map submitted_by events
-    → numbers (with_submitted submitted e) ≡ filter_map submitted_by (events ++ e ∷ [])
-submitted_more submitted events (Submit txn) h = simp (map-append, h, filter_map-append)
-submitted_more submitted events e h = simp (h, append-nil, filter_map-append)
-
 same_distinct : (ns ms : List ℕ) → AreDistinct ns → ns ≡ ms → AreDistinct ms
 same_distinct ns ms h e = subst AreDistinct e h
 
@@ -58,27 +52,14 @@ event_sound : (cat : Catalogue) (st : State) (e : Event) → Sound cat st → ta
     → IsValidEvent cat (length st.txns) e → is_submitted st.submitted e ≡ false
     → may_follow cat.dms (length st.lists) st.events e ≡ true → length st.events < MAX_EVENTS
     → Sound cat (with_occurrence st e)
-event_sound cat st e s t valid other may room = record {
-  rows = s.rows;
-  txns = s.txns;
-  statements = s.statements;
-  values = s.values;
-  few_statements = s.few_statements;
-  header = tt;
-  names = s.names ∙ ap (λ (l : List (List ℕ)). names_of st.txns ++ l) (no_open st.place t);
-  differ = s.differ;
-  declares = subst (λ (l : OpenList). Declares cat (joined st.lists ++ classes_in l) st.classes) (none_open st.place t) s.declares;
-  few_lists = omega (arith, s.few_lists);
-  timely = timely_more cat.dms (length st.lists) st.events e s.timely may;
-  events = all_more (IsValidEvent cat (length st.txns)) st.events e s.events valid;
-  submitted = submitted_more st.submitted st.events e s.submitted;
-  once = once_more st.submitted st.events e s.submitted s.once other;
-  written = s.written;
-  few_rows = s.few_rows;
-  few_txns = s.few_txns;
-  few_events = omega (arith, room, one_longer st.events e);
-  order = no_statements st.place st.txns st.lists st.statements st.events t s.order;
-}
+event_sound cat st e s t valid other may room =
+    let d : Declares cat (joined st.lists ++ classes_in no_classes) st.classes = rw (none_open st.place t) at s.declares in
+    let m = timely_more cat.dms (length st.lists) st.events e s.timely may in
+    let a = all_more (IsValidEvent cat (length st.txns)) st.events e s.events valid in
+    let o = once_more st.submitted st.events e s.submitted s.once other in
+    let n = one_longer st.events e in
+    let x = no_statements st.place st.txns st.lists st.statements st.events t s.order in
+    grind (arith, no_open, map-append, filter_map-append, append-nil)
 
 pub event_leads : (cat : Catalogue) (st to : State) (key : List ℕ) (words : List Word)
     (reading : Result Event WorkRule) → Sound cat st → (takes_events st.place ≡ true → (e : Event)

@@ -1,5 +1,5 @@
 -- The lines of class lists keep what holds in every state, and add themselves to the lines before.
-use Rattle.sdd_script.proofs.All.{AreTimely, Bool, Catalogue, ClassPart, DmNo, Event, IsValidRead, List, MAX_CLASSES, MAX_LISTS, MAX_READS, None, Ok, OpenList, Place, Plain, ReadPart, Some, State, Stmt, Txn, Word, [], ap, append-nil, arith, bind_ok, both_hold, class_rules, class_so_far, class_words, classes_in, closed, codes, cond, dm_of, done_rules, done_words, fragment_of, has_copy, has_name, is_free, is_taken, joined, length, list_rules, list_words, ltb-true, name_of, nat_lt, no_classes, not, ok_is, one_more_class, open_list, read_names, reads_at, reads_rules, reads_words, refl, subst, sym, takes_classes, takes_lists, takes_reads, takes_reads_in, takes_writes, takes_writes_in, tm_of, true, with_class, with_read, with_write, writes_at, writes_rules, writes_words, ℕ, ◌&&◌, ◌++◌, ◌+◌, ◌<◌, ◌∙◌, ◌∷◌, ◌≡◌, ◌≤◌}
+use Rattle.sdd_script.proofs.All.{Bool, Catalogue, ClassPart, DmNo, Event, IsValidRead, List, MAX_CLASSES, MAX_LISTS, MAX_READS, None, Ok, OpenList, Place, Plain, ReadPart, Some, State, Stmt, Txn, Word, [], ap, append-nil, arith, bind_ok, both_hold, class_rules, classes_in, closed, codes, cond, dm_of, done_rules, done_words, fragment_of, has_copy, has_name, is_free, is_taken, joined, length, list_rules, ltb-true, name_of, nat_lt, no_classes, not, ok_is, one_more_class, open_list, read_names, reads_at, reads_rules, reads_words, refl, sym, takes_classes, takes_lists, takes_reads, takes_reads_in, takes_writes, takes_writes_in, tm_of, true, with_class, with_read, with_write, writes_at, writes_rules, writes_words, ℕ, ◌&&◌, ◌++◌, ◌+◌, ◌<◌, ◌∙◌, ◌∷◌, ◌≡◌, ◌≤◌}
 use Rattle.sdd_script.proofs.StepLaws.{must_then, known_then, not_true}
 use Rattle.sdd_script.proofs.EventLaws.{dm_takes, tm_takes}
 use Rattle.sdd_script.proofs.Fragments.{fragment_takes, kept_at}
@@ -26,27 +26,7 @@ record IsMoved (cat : Catalogue) (st : State) (p : Place) (lists : List (List Cl
 
 moved : (cat : Catalogue) (st : State) (p : Place) (lists : List (List ClassPart)) (n : ℕ) → Sound cat st
     → open_name st.place ≡ [] → st.events ≡ [] → IsMoved cat st p lists n → Sound cat (with_lists st p lists n)
-moved cat st p lists n s unnamed none o = record {
-  rows = s.rows;
-  txns = s.txns;
-  statements = s.statements;
-  values = s.values;
-  few_statements = s.few_statements;
-  header = o.header;
-  names = s.names ∙ ap (λ (l : List (List ℕ)). names_of st.txns ++ l) (unnamed ∙ sym o.unnamed);
-  differ = s.differ;
-  declares = o.declares;
-  few_lists = o.few_lists;
-  timely = subst (AreTimely cat.dms (length lists)) (sym none) (none_timely cat.dms (length lists));
-  events = s.events;
-  submitted = s.submitted;
-  once = s.once;
-  written = s.written;
-  few_rows = s.few_rows;
-  few_txns = s.few_txns;
-  few_events = s.few_events;
-  order = o.order;
-}
+moved cat st p lists n s unnamed none o = grind (arith, names_of, none_timely)
 
 -- ---- a list begins
 
@@ -59,13 +39,7 @@ record IsOutside (place : Place) (ss : List Stmt) (events : List Event) : Type 0
 outside : (place : Place) (txns : List Txn) (lists : List (List ClassPart)) (ss : List Stmt)
     (events : List Event) → takes_lists place ≡ true → InOrder place txns lists ss events
     → IsOutside place ss events
-outside places.Rows txns lists ss events t o = record { unnamed = refl; none = refl; no_statements = o.2; no_events = o.3 }
-outside places.Between txns lists ss events t o = record { unnamed = refl; none = refl; no_statements = o.1; no_events = o.2 }
-outside places.Declared txns lists ss events t o = record { unnamed = refl; none = refl; no_statements = o.0; no_events = o.1 }
-outside _ txns lists ss events t o = absurd cc
-
-abbrev begun : State → State
-begun st = record st { place = places.Listing no_classes }
+outside place txns lists ss events t o = grind arith
 
 pub list_leads : (cat : Catalogue) (st to : State) (words : List Word) → Sound cat st
     → list_rules st words ≡ Ok to → Leads cat st to (Plain (codes "list") ∷ words)
@@ -74,16 +48,15 @@ list_leads cat st to [] s e =
     let b = must_then _ (nat_lt (length st.lists) MAX_LISTS) _ to a.1 in
     let o = outside st.place st.txns st.lists st.statements st.events a.0 s.order in
     let room : length st.lists < MAX_LISTS = ltb-true (length st.lists) MAX_LISTS b.0 in
-    subst (λ (x : State). Leads cat st x list_words) (ok_is (begun st) to b.1) (record {
-      sound = moved cat st (places.Listing no_classes) st.lists st.classes s o.unnamed o.no_events (record {
-        header = tt;
-        unnamed = refl;
-        declares = subst (λ (l : OpenList). Declares cat (joined st.lists ++ classes_in l) st.classes) o.none s.declares;
-        few_lists = omega (arith, room);
-        order = (o.no_statements, o.no_events);
-      });
-      lines = list_more cat st.rows st.txns st.lists st.place st.statements st.events a.0 s.order;
-    })
+    let d : Declares cat (joined st.lists ++ classes_in no_classes) st.classes = rw o.none at s.declares in
+    let m = moved cat st (places.Listing no_classes) st.lists st.classes s o.unnamed o.no_events (record {
+      header = tt;
+      unnamed = refl;
+      declares = d;
+      few_lists = omega (arith, room);
+      order = (o.no_statements, o.no_events);
+    }) in
+    grind (arith, ok_is, list_more)
 list_leads cat st to (w ∷ words) s e = absurd cc
 
 -- ---- a line inside a list
@@ -95,16 +68,11 @@ inside_leads : (cat : Catalogue) (st : State) (new : OpenList) (n : ℕ) (w : Li
     → Within st.place → Declares cat (joined st.lists ++ classes_in new) n → AddsLine (open_list st.place) new w
     → Leads cat st (with_lists st (places.Listing new) st.lists n) w
 inside_leads cat st new n w s within d adds =
-    let o : (st.statements ≡ []) × (st.events ≡ []) = subst (λ (p : Place). InOrder p st.txns st.lists st.statements st.events) within s.order in
-    let few : length st.lists + 1 ≤ MAX_LISTS = subst (λ (p : Place). length st.lists + lists_open p ≤ MAX_LISTS) within s.few_lists in
+    let o : (st.statements ≡ []) × (st.events ≡ []) = rw within at s.order in
+    let few : length st.lists + 1 ≤ MAX_LISTS = rw within at s.few_lists in
     record {
-      sound = moved cat st (places.Listing new) st.lists n s (ap open_name within) o.1 (record {
-        header = tt;
-        unnamed = refl;
-        declares = d;
-        few_lists = few;
-        order = o;
-      });
+      sound = moved cat st (places.Listing new) st.lists n s (ap open_name within) o.1
+          (record { header = tt; unnamed = refl; declares = d; few_lists = few; order = o });
       lines =
           listing_more cat st.rows st.txns st.lists (open_list st.place) new w st.statements st.events adds o.1
           ∙ ap (λ (p : Place). lines_at cat st.rows st.txns st.lists p st.statements st.events ++ w ∷ []) (sym within);
@@ -132,11 +100,7 @@ class_leads cat st to (word ∷ tm ∷ []) s e =
     let w = name_of_takes word b.0 b.1 in
     let t = tm_takes cat tm c.0 c.1 in
     let l : OpenList = open_list st.place in
-    let spelled : Plain (codes "class") ∷ word ∷ tm ∷ [] ≡ class_words
-    (class_so_far (record { name = b.0; tm = c.0; reads = []; writes = [] })) = cc in
-    let leads = inside_leads cat st (with_class l b.0 c.0) (st.classes + 1)
-    (class_words (class_so_far (record { name = b.0; tm = c.0; reads = []; writes = [] }))) s
-    (in_list st.place place)
+    let leads = inside_leads cat st (with_class l b.0 c.0) (st.classes + 1) _ s (in_list st.place place)
     (class_declared cat st.lists l st.classes b.0 c.0 s.declares w.1 t.1 (not_true (is_taken cat st b.0) d.0) n.1) (class_more l b.0 c.0) in
     grind arith
 class_leads cat st to _ s e = absurd cc
@@ -148,9 +112,6 @@ reads_within place t = grind arith
 
 abbrev read_at : List ℕ → DmNo → ReadPart
 read_at name dm = record { fragment = name; at = dm.0 }
-
-abbrev reading : State → List ℕ → DmNo → State
-reading st name dm = record st { place = places.Listing (with_read (open_list st.place) (read_at name dm)) }
 
 abbrev may_read : Catalogue → State → List ℕ × ℕ → DmNo → Bool
 may_read cat st f dm = not (has_name (read_names (reads_at st.place)) f.0) && has_copy cat dm.0 f.1
@@ -209,13 +170,12 @@ listed st l = record st { place = places.Declared; lists = st.lists ++ classes_i
 list_closed : (cat : Catalogue) (st to : State) (l : OpenList) → Sound cat (at_place st (places.Listing l))
     → closed (places.Listing l) st ≡ Ok to → Leads cat (at_place st (places.Listing l)) to done_words
 list_closed cat st to l s e =
-    let joins : joined (st.lists ++ classes_in l ∷ []) ++ [] ≡ joined st.lists ++ classes_in l =
-    append-nil (joined (st.lists ++ classes_in l ∷ [])) ∙ joined_more st.lists (classes_in l) in
-    subst (λ (x : State). Leads cat (at_place st (places.Listing l)) x done_words) (ok_is (listed st l) to e) (record {
+    let joins : joined (st.lists ++ classes_in l ∷ []) ++ [] ≡ joined st.lists ++ classes_in l = append-nil _ ∙ joined_more st.lists (classes_in l) in
+    rw (← ok_is (listed st l) to e) (record {
       sound = moved cat (at_place st (places.Listing l)) places.Declared (st.lists ++ classes_in l ∷ []) st.classes s refl s.order.1 (record {
         header = tt;
         unnamed = refl;
-        declares = subst (λ (cs : List ClassPart). Declares cat cs st.classes) (sym joins) s.declares;
+        declares = rw joins s.declares;
         few_lists = omega (arith, s.few_lists, one_longer st.lists (classes_in l));
         order = s.order;
       });

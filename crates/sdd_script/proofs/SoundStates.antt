@@ -1,7 +1,6 @@
 -- What holds in every state, and that each line of rows and transactions keeps it and adds itself to the lines before.
-use Rattle.sdd_script.proofs.All.{All, All-append, All-from_recursion, AreDistinct, AreTimely, Bool, Catalogue, ClassPart, Event, FitsStatement, Header, HoldsValues, IsFrom1To, IsName, IsValidClass, IsValidEvent, IsValidRow, IsValidTxn, IsValue, List, MAX_CLASSES, MAX_EVENTS, MAX_LISTS, MAX_ROWS, MAX_TXNS, None, Ok, OpenList, Place, Plain, Quoted, RelNo, Result, Some, State, Stmt, TmNo, Txn, TxnNo, UnknownName, Value, Word, WorkRule, [], all_classes, ap, append-nil, are_free, arith, bind_ok, both_hold, bytes_eq, class_names, classes_in, closed, codes, cond, done_words, false, filter_map, header_words, is_free, is_name, is_put, is_some, joined, known_ok, length, length-append, ltb-true, map, map-append, name_in, name_of, nat_lt, no_classes, not, ok_is, one_more_row, open_list, part_names, position, refl, repeats, row_of, row_rules, rows_put_by, start_words, statement_limits, statement_rules, submitted_by, subst, sum_by, sum_by-append, sym, takes_rows, takes_statements, takes_txns, tm_of, true, txn_rules, written_with, ℕ, ◌&&◌, ◌++◌, ◌+◌, ◌<◌, ◌∙◌, ◌∷◌, ◌≡◌, ◌≤◌}
+use Rattle.sdd_script.proofs.All.{All, All-append, All-from_recursion, AreDistinct, AreTimely, Bool, Catalogue, ClassPart, Event, FitsStatement, Header, HoldsValues, IsFrom1To, IsName, IsValidClass, IsValidEvent, IsValidRow, IsValidTxn, IsValue, List, MAX_CLASSES, MAX_EVENTS, MAX_LISTS, MAX_ROWS, MAX_TXNS, None, Ok, Place, Plain, Quoted, RelNo, Result, Some, State, Stmt, TmNo, Txn, TxnNo, UnknownName, Value, Word, WorkRule, [], all_classes, ap, append-nil, are_free, arith, bind_ok, both_hold, bytes_eq, class_names, closed, codes, cond, done_words, false, filter_map, header_words, is_free, is_name, is_put, is_some, known_ok, length, length-append, map, map-append, name_in, name_of, nat_lt, no_classes, not, ok_is, one_more_row, open_list, part_names, position, refl, repeats, row_of, row_rules, rows_put_by, start_words, statement_limits, statement_rules, submitted_by, subst, sum_by, sum_by-append, sym, takes_rows, takes_statements, takes_txns, tm_of, true, txn_rules, written_with, ℕ, ◌&&◌, ◌++◌, ◌+◌, ◌<◌, ◌∙◌, ◌∷◌, ◌≡◌, ◌≤◌}
 use Rattle.sdd_script.proofs.StepLaws.{must_then, not_true, some_is, known_then}
-use Rattle.sdd_script.proofs.WordCuts.{NonePasses}
 use Rattle.sdd_script.proofs.RowLaws.{row_takes}
 use Rattle.sdd_script.proofs.QueryLaws.{IsStatement, limits_before}
 use Rattle.sdd_script.proofs.EventLaws.{tm_takes}
@@ -88,27 +87,7 @@ one_more_is written n b t e = grind arith
 
 row_sound : (cat : Catalogue) (st : State) (r : RelNo × List Value) → Sound cat st → IsValidRow cat r → st.written < MAX_ROWS
     → Sound cat (with_row st r)
-row_sound cat st r s v room = record {
-  rows = all_more (IsValidRow cat) st.rows r s.rows v;
-  txns = s.txns;
-  statements = s.statements;
-  values = s.values;
-  few_statements = s.few_statements;
-  header = s.header;
-  names = s.names;
-  differ = s.differ;
-  declares = s.declares;
-  few_lists = s.few_lists;
-  timely = s.timely;
-  events = s.events;
-  submitted = s.submitted;
-  once = s.once;
-  written = omega (arith, s.written, one_longer st.rows r);
-  few_rows = omega (arith, room);
-  few_txns = s.few_txns;
-  few_events = s.few_events;
-  order = s.order;
-}
+row_sound cat st r s v room = grind (arith, (all_more (IsValidRow cat) st.rows r s.rows v), (one_longer st.rows r))
 
 pub row_leads : (cat : Catalogue) (st to : State) (words : List Word) → Sound cat st
     → row_rules cat st words ≡ Ok to → Leads cat st to (Plain (codes "row") ∷ words)
@@ -137,42 +116,10 @@ with_header st h = record st { place = places.Inside h; names = st.names ++ h.na
 closed_name : (place : Place) → takes_txns place ≡ true → open_name place ≡ []
 closed_name place t = grind arith
 
-no_more : (place : Place) (txns : List Txn) (lists : List (List ClassPart)) (ss : List Stmt)
-    (events : List Event) → takes_txns place ≡ true → InOrder place txns lists ss events → (lists ≡ [])
-    × (events ≡ [])
-no_more place txns lists ss events t o = grind arith
-
 -- outside of lists none is open
 
 pub none_open : (place : Place) → takes_txns place ≡ true → open_list place ≡ no_classes
 none_open place t = grind arith
-
-header_sound : (cat : Catalogue) (st : State) (h : Header) → Sound cat st → takes_txns st.place ≡ true
-    → IsName h.name → IsFrom1To cat.tms h.tm.0 → NonePasses (bytes_eq h.name) st.names
-    → length st.names < MAX_TXNS → Sound cat (with_header st h)
-header_sound cat st h s t named tm other room = record {
-  rows = s.rows;
-  txns = s.txns;
-  statements = s.statements;
-  values = s.values;
-  few_statements = s.few_statements;
-  header = (named, tm);
-  names = ap (λ (l : List (List ℕ)). l ++ h.name ∷ []) (s.names
-      ∙ ap (λ (l : List (List ℕ)). names_of st.txns ++ l) (closed_name st.place t)
-      ∙ append-nil (names_of st.txns));
-  differ = repeats_not st.names h.name s.differ other;
-  declares = subst (λ (l : OpenList). Declares cat (joined st.lists ++ classes_in l) st.classes) (none_open st.place t) s.declares;
-  few_lists = omega (arith, s.few_lists);
-  timely = s.timely;
-  events = s.events;
-  submitted = s.submitted;
-  once = s.once;
-  written = s.written;
-  few_rows = s.few_rows;
-  few_txns = omega (arith, room, one_longer st.names h.name);
-  few_events = s.few_events;
-  order = no_more st.place st.txns st.lists st.statements st.events t s.order;
-}
 
 pub named_takes : (bytes name : List ℕ) → name_in bytes ≡ Some name → (is_name name ≡ true) × (bytes ≡ name)
 named_takes bytes name e = let h = name_if bytes name (is_name bytes) e in (subst (λ (l : List ℕ). is_name l ≡ true) h.1 h.0, h.1)
@@ -199,7 +146,7 @@ txn_leads cat st to (word ∷ tm ∷ []) s e =
     let other = none_found (bytes_eq b.0) st.names (not_true (is_some (position (bytes_eq b.0) st.names)) d.0) in
     let spelled : Plain (codes "txn") ∷ word ∷ tm ∷ [] ≡ header_words h.name h.tm = cc in
     subst (λ (x : State). Leads cat st x (Plain (codes "txn") ∷ word ∷ tm ∷ [])) (ok_is (with_header st h) to f.1) (record {
-      sound = header_sound cat st h s place n.1 t.1 other (ltb-true (length st.names) MAX_TXNS f.0);
+      sound = (grind (arith, names_of, closed_name, append-nil, repeats_not, Declares, none_open, one_longer));
       lines = header_more cat st.rows st.txns st.lists st.place st.statements st.events h place s.order
           ∙ ap (λ (l : List Word). so_far cat st ++ l ∷ []) (sym spelled);
     })
@@ -215,43 +162,25 @@ with_one_at st q n = record st { statements = st.statements ++ q ∷ []; written
 
 written_is : (written n : ℕ) (q : Stmt) → written ≤ MAX_ROWS → written_with written q ≡ Some n
     → (written + rows_put q ≡ n) × (written + rows_put q ≤ MAX_ROWS)
-written_is written n (statements.Put rel row) few e = let h = one_more_is written n (nat_lt written MAX_ROWS) refl e in (h.0, omega (arith, h.1))
-written_is written n _ few e = let h = some_is written n e in (omega (arith, h), omega (arith, few))
+written_is written n q few e = grind (arith, one_more_is, nat_lt, some_is)
 
 statement_order : (place : Place) (txns : List Txn) (lists : List (List ClassPart)) (ss other : List Stmt)
     (events : List Event) → takes_statements place ≡ true → InOrder place txns lists ss events
     → InOrder place txns lists other events
 statement_order place txns lists ss other events t o = grind arith
 
-sum_more : (w r t q x all : ℕ) → w ≡ r + t + q → all ≡ q + (0 + x) → w + x ≡ r + t + all
-sum_more w r t q x all e f = omega (arith, e, f)
-
 statement_sound : (cat : Catalogue) (st : State) (q : Stmt) → Sound cat st
     → takes_statements st.place ≡ true → FitsStatement cat q → HoldsValues q → length st.statements < 32
     → st.written + rows_put q ≤ MAX_ROWS → Sound cat (with_one st q)
-statement_sound cat st q s t fits hold few room = record {
-  rows = s.rows;
-  txns = s.txns;
-  statements = all_more (FitsStatement cat) st.statements q s.statements fits;
-  values = all_more HoldsValues st.statements q s.values hold;
-  few_statements = omega (arith, few, one_longer st.statements q);
-  header = s.header;
-  names = s.names;
-  differ = s.differ;
-  declares = s.declares;
-  few_lists = s.few_lists;
-  timely = s.timely;
-  events = s.events;
-  submitted = s.submitted;
-  once = s.once;
-  written = sum_more st.written (length st.rows) (sum_by rows_put_by st.txns)
-      (sum_by rows_put st.statements) (rows_put q) (sum_by rows_put (st.statements ++ q ∷ [])) s.written
-      (sum_by-append rows_put st.statements (q ∷ []));
-  few_rows = room;
-  few_txns = s.few_txns;
-  few_events = s.few_events;
-  order = statement_order st.place st.txns st.lists st.statements (st.statements ++ q ∷ []) st.events t s.order;
-}
+statement_sound cat st q s t fits hold few room =
+    grind (
+      arith,
+      (all_more (FitsStatement cat) st.statements q s.statements fits),
+      (all_more HoldsValues st.statements q s.values hold),
+      (one_longer st.statements q),
+      (sum_by-append rows_put st.statements (q ∷ [])),
+      statement_order,
+    )
 
 pub statement_leads : (cat : Catalogue) (st to : State) (key : List ℕ) (words : List Word)
     (reading : Result Stmt WorkRule) → Sound cat st
@@ -279,40 +208,16 @@ with_done st h = record st { place = places.Between; txns = st.txns ++ txn_with 
 abbrev pub at_place : State → Place → State
 at_place st p = record st { place = p }
 
-sum_closed : (w r t q all : ℕ) → w ≡ r + t + q → all ≡ t + (0 + q) → w ≡ r + all + 0
-sum_closed w r t q all e f = omega (arith, e, f)
-
 done_sound : (cat : Catalogue) (st : State) (h : Header) → Sound cat (at_place st (places.Inside h)) → Sound cat (with_done st h)
-done_sound cat st h s = record {
-  rows = s.rows;
-  txns = all_more (IsValidTxn cat) st.txns (txn_with h st.statements) s.txns (record {
-    named = s.header.0;
-    fits = record { module_is_there = s.header.1; few = s.few_statements; statements = s.statements };
-    values = s.values;
-  });
-  statements = All-from_recursion (FitsStatement cat) [] tt;
-  values = All-from_recursion HoldsValues [] tt;
-  few_statements = omega arith;
-  header = tt;
-  names = s.names ∙ sym (map-append (λ (t : Txn). t.name) st.txns (txn_with h st.statements ∷ []))
-      ∙ sym (append-nil (names_of (st.txns ++ txn_with h st.statements ∷ [])));
-  differ = s.differ;
-  declares = s.declares;
-  few_lists = s.few_lists;
-  timely = s.timely;
-  events = subst (λ (es : List Event). All
-      (IsValidEvent cat (length (st.txns ++ txn_with h st.statements ∷ []))) es) (sym s.order.1)
-      (All-from_recursion (IsValidEvent cat (length (st.txns ++ txn_with h st.statements ∷ []))) [] tt);
-  submitted = s.submitted;
-  once = s.once;
-  written = sum_closed st.written (length st.rows) (sum_by rows_put_by st.txns)
-      (sum_by rows_put st.statements) (sum_by rows_put_by (st.txns ++ txn_with h st.statements ∷ []))
-      s.written (sum_by-append rows_put_by st.txns (txn_with h st.statements ∷ []));
-  few_rows = s.few_rows;
-  few_txns = s.few_txns;
-  few_events = s.few_events;
-  order = (s.order.0, refl, s.order.1);
-}
+done_sound cat st h s = grind (
+  arith,
+  (all_more (IsValidTxn cat) st.txns (txn_with h st.statements) s.txns),
+  map-append,
+  append-nil,
+  names_of,
+  All-from_recursion,
+  (sum_by-append rows_put_by st.txns (txn_with h st.statements ∷ [])),
+)
 
 pub txn_closed : (cat : Catalogue) (st to : State) (h : Header) → Sound cat (at_place st (places.Inside h))
     → closed (places.Inside h) st ≡ Ok to → Leads cat (at_place st (places.Inside h)) to done_words

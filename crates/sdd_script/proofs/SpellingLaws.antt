@@ -1,5 +1,5 @@
 -- The spelling of a workload that the catalogue allows is read as the workload.
-use Rattle.sdd_script.proofs.All.{AllByRecursion, AreLines, BadLine, Bool, Catalogue, ClassPart, Err, Event, FitsStatement, HasNoNewline, Header, HoldsValues, IsValidRow, IsValidTxn, IsValue, Keyword, List, MAX_ROWS, MAX_TXNS, None, Ok, Place, Plain, RelNo, Result, Some, State, StatementKey, Stmt, T, Txn, TxnNo, UnknownName, Value, Word, WorkRule, [], ap, append-nil, append_assoc, arith, at_line, both_are, bytes_eq, cond, done_words, drop, false, flat_map, header_words, is_ended, is_free, is_some, keyword_rules, known, length, length-append, line_bytes, line_rules, lt-ltb, map, map-append, name_of, nat_lt as ltb, not, one_line, position, recursion_from_All, refl, repeats, row_words, rows_put_by, site_word, start_words, statement_of, statement_rules, statement_words, subst, sum_by, sum_by-cons, sym, tail_rules, takes_txns, true, txn_lines, ℕ, ◌&&◌, ◌++◌, ◌+◌, ◌<◌, ◌∙◌, ◌∷◌, ◌≡◌, ◌≤◌}
+use Rattle.sdd_script.proofs.All.{AllByRecursion, AreLines, BadLine, Bool, Catalogue, ClassPart, Err, Event, FitsStatement, HasNoNewline, Header, HoldsValues, IsValidRow, IsValidTxn, IsValue, Keyword, List, MAX_ROWS, MAX_TXNS, Ok, Place, Plain, RelNo, Result, State, StatementKey, Stmt, T, Txn, TxnNo, Value, Word, WorkRule, [], ap, append-nil, append_assoc, arith, bytes_eq, cond, done_words, drop, false, flat_map, header_words, is_ended, keyword_rules, length, length-append, line_bytes, line_rules, lt-ltb, map, map-append, one_line, recursion_from_All, refl, repeats, row_words, rows_put_by, site_word, start_words, statement_of, statement_rules, statement_words, subst, sum_by, sum_by-cons, sym, tail_rules, takes_txns, true, txn_lines, ℕ, ◌++◌, ◌+◌, ◌<◌, ◌∙◌, ◌∷◌, ◌≡◌, ◌≤◌}
 use Rattle.sdd_script.specs.Walk.{walk}
 use Rattle.sdd_script.proofs.WordCuts.{NonePasses}
 use Rattle.sdd_script.proofs.WordLooks.{name_free}
@@ -40,12 +40,8 @@ chain_lines cat st to (line ∷ lines) h = (h.1.line_is, chain_lines cat h.0 to 
 pub chain_walk : (cat : Catalogue) (n : ℕ) (st to : State) (lines : List (List ℕ)) → Chain cat st lines to
     → tail_rules to [] ≡ Ok to → walk cat n st lines [] ≡ Ok to
 unfolding walk
-chain_walk cat n st to [] h e = let k : tail_rules st [] ≡ Ok to =
-    subst (λ (x : State). tail_rules x [] ≡ Ok to) (sym h) e in ap (λ (r : Result State WorkRule).
-    at_line n r (λ s. Ok s)) k
-chain_walk cat n st to (line ∷ lines) h e =
-    ap (λ (r : Result State WorkRule). at_line n r (λ s. walk cat (n + 1) s lines [])) h.1.read
-    ∙ chain_walk cat (n + 1) h.0 to lines h.2 e
+chain_walk cat n st to [] h e = grind arith
+chain_walk cat n st to (line ∷ lines) h e = grind (arith, (chain_walk cat (n + 1) h.0 to lines h.2 e))
 
 -- a line, by its keyword
 pub line_step : (cat : Catalogue) (st to : State) (key : Keyword) (words : List Word)
@@ -88,28 +84,18 @@ row_step : (cat : Catalogue) → IsKnown cat → (rows : List (RelNo × List Val
     → IsStep cat (of_rows cat rows written) (of_rows cat (rows ++ r ∷ []) (written + 1)) (line_bytes (start_words cat r))
 row_step cat k rows written r h room =
     let f : FitsRowOf cat r.0 r.1 = (h.fits.0, h.fits.1, recursion_from_All IsValue r.1 h.values) in
-    let a = row_free cat k r.0 r.1 f in
-    let b = row_again cat k r.0 r.1 f in
-    let c = lt-ltb written MAX_ROWS room in
-    line_step cat (of_rows cat rows written) (of_rows cat (rows ++ r ∷ []) (written + 1)) keys.Row (row_words cat r.0 r.1)
-    refl (start_fine cat k r h) (rw (a, b, c) refl)
-
-rows_same : (cat : Catalogue) (rows rows2 : List (RelNo × List Value)) (n m : ℕ) → rows ≡ rows2 → n ≡ m
-    → of_rows cat rows n ≡ of_rows cat rows2 m
-rows_same cat rows rows2 n m p q = cc
+    line_step cat _ _ keys.Row (row_words cat r.0 r.1) refl (start_fine cat k r h)
+    (rw (row_free cat k r.0 r.1 f, row_again cat k r.0 r.1 f, lt-ltb written MAX_ROWS room) refl)
 
 pub rows_chain : (cat : Catalogue) → IsKnown cat → (rs rows : List (RelNo × List Value)) (written : ℕ)
     → AllByRecursion (IsValidRow cat) rs → written + length rs ≤ MAX_ROWS
     → Chain cat (of_rows cat rows written) (map line_bytes (map (start_words cat) rs)) (of_rows cat (rows ++ rs) (written + length rs))
-rows_chain cat k [] rows written h few = rows_same cat rows (rows ++ []) written (written + 0) (sym (append-nil rows)) (omega arith)
-rows_chain cat k (r ∷ rs) rows written h few =
-    let n : written + 1 + length rs ≡ written + length (r ∷ rs) = omega arith in (
-      of_rows cat (rows ++ r ∷ []) (written + 1),
-      row_step cat k rows written r h.0 (omega (arith, few)),
-      subst (λ (x : State). Chain cat (of_rows cat (rows ++ r ∷ []) (written + 1)) (map line_bytes (map (start_words cat) rs)) x)
-          (rows_same cat ((rows ++ r ∷ []) ++ rs) (rows ++ r ∷ rs) (written + 1 + length rs) (written + length (r ∷ rs)) (append_assoc rows (r ∷ []) rs) n)
-          (rows_chain cat k rs (rows ++ r ∷ []) (written + 1) h.1 (omega (arith, n))),
-    )
+rows_chain cat k [] rows written h few = grind (arith, append-nil)
+rows_chain cat k (r ∷ rs) rows written h few = (
+  of_rows cat (rows ++ r ∷ []) (written + 1),
+  row_step cat k rows written r h.0 (omega (arith, few)),
+  (grind (arith, append_assoc, (rows_chain cat k rs (rows ++ r ∷ []) (written + 1) h.1))),
+)
 
 -- ---- statements
 
@@ -139,8 +125,7 @@ words_of_statement cat q = grind arith
 statement_again : (cat : Catalogue) → IsKnown cat → (q : Stmt) → FitsStatement cat q → HoldsValues q
     → statement_of (statement_key q) cat (behind_key cat q) ≡ Ok q
 statement_again cat k (statements.Put rel row) fits hold = put_again cat k rel row (row_of_statement cat rel row fits hold)
-statement_again cat k (statements.Query out rels conds) fits hold =
-    query_again cat k out rels conds (query_fits cat out rels conds fits hold)
+statement_again cat k (statements.Query out rels conds) fits hold = grind (arith, query_again, query_fits)
 statement_again cat k (statements.Update rel sets conds) fits hold =
     update_again cat k rel sets conds (update_fits cat rel sets conds fits hold)
 statement_again cat k (statements.Delete rel conds) fits hold = delete_again cat k rel conds fits hold
@@ -161,11 +146,6 @@ statement_step cat k h rows written names txns ss q fits hold few room =
     (statement_rules_again cat h rows written names txns ss q (statement_of (statement_key q) cat (behind_key cat q))
     (statement_again cat k q fits hold) fits few room))
 
-inside_same : (cat : Catalogue) (h : Header) (rows : List (RelNo × List Value)) (n m : ℕ)
-    (names : List (List ℕ)) (txns : List Txn) (ss ts : List Stmt) → n ≡ m → ss ≡ ts
-    → inside cat h rows n names txns ss ≡ inside cat h rows m names txns ts
-inside_same cat h rows n m names txns ss ts p q = cc
-
 statements_chain : (cat : Catalogue) → IsKnown cat → (h : Header) (rows : List (RelNo × List Value))
     (names : List (List ℕ)) (txns : List Txn) (qs ss : List Stmt) (written : ℕ)
     → AllByRecursion (FitsStatement cat) qs → AllByRecursion HoldsValues qs → length ss + length qs ≤ 32
@@ -174,18 +154,11 @@ statements_chain : (cat : Catalogue) → IsKnown cat → (h : Header) (rows : Li
     (inside cat h rows (written + sum_by rows_put qs) names txns (ss ++ qs))
 statements_chain cat k h rows names txns [] ss written fits hold few room = grind (arith, append-nil)
 statements_chain cat k h rows names txns (q ∷ qs) ss written fits hold few room =
-    let sum : sum_by rows_put (q ∷ qs) ≡ rows_put q + sum_by rows_put qs = sum_by-cons rows_put q qs in
-    let len : length (ss ++ q ∷ []) ≡ length ss + 1 = length-append ss (q ∷ []) in
-    let n : written + rows_put q + sum_by rows_put qs ≡ written + sum_by rows_put (q ∷ qs) = omega (arith, sum) in (
-      inside cat h rows (written + rows_put q) names txns (ss ++ q ∷ []),
-      statement_step cat k h rows written names txns ss q fits.0 hold.0 (omega (arith, few)) (omega (arith, room, sum)),
-      subst (λ (x : State). Chain cat (inside cat h rows (written + rows_put q) names txns (ss ++ q ∷ [])) (map line_bytes (map (statement_words cat) qs)) x)
-          (inside_same cat h rows (written + rows_put q + sum_by rows_put qs)
-          (written + sum_by rows_put (q ∷ qs)) names txns ((ss ++ q ∷ []) ++ qs) (ss ++ q ∷ qs) n
-          (append_assoc ss (q ∷ []) qs))
-          (statements_chain cat k h rows names txns qs (ss ++ q ∷ []) (written + rows_put q) fits.1 hold.1
-          (omega (arith, len)) (omega (arith, room, n))),
-    )
+    let sum = sum_by-cons rows_put q qs in
+    let n : written + rows_put q + sum_by rows_put qs ≡ written + sum_by rows_put (q ∷ qs) = omega (arith, sum) in
+    let more = statements_chain cat k h rows names txns qs (ss ++ q ∷ []) (written + rows_put q) fits.1 hold.1
+    (omega (arith, length-append ss (q ∷ []))) (omega (arith, room, n)) in
+    (_, statement_step cat k h rows written names txns ss q fits.0 hold.0 (omega (arith, few)) (omega (arith, room, sum)), rw (append_assoc, n) at more)
 
 -- ---- transactions
 
@@ -204,26 +177,13 @@ header_step : (cat : Catalogue) → IsKnown cat → (place : Place) (rows : List
     → IsStep cat (outside cat place rows written names txns) (inside cat (header_for t) rows written
     (names ++ t.name ∷ []) txns []) (line_bytes (header_words t.name t.tm))
 header_step cat k place rows written names txns t at h other room =
-    let st : State = outside cat place rows written names txns in
-    let to : State = inside cat (header_for t) rows written (names ++ t.name ∷ []) txns [] in
-    let a : (takes_txns place && (is_free (Plain t.name) && is_free (site_word (T t.tm)))) ≡ true =
-    both_are (takes_txns place) (is_free (Plain t.name) && is_free (site_word (T t.tm))) at
-    (both_are (is_free (Plain t.name)) (is_free (site_word (T t.tm))) (name_free t.name h.named)
-    (site_free (T t.tm))) in
-    let n : name_of (Plain t.name) ≡ Ok t.name = ap (λ (b : Bool). known UnknownName (cond b (Some t.name) None)) h.named in
-    let m = tm_again cat k t.tm h.fits.module_is_there in
-    let d : not (is_some (position (bytes_eq t.name) names)) ≡ true = ap not (found_none (bytes_eq t.name) names other) in
-    let c : ltb (length names) MAX_TXNS ≡ true = lt-ltb (length names) MAX_TXNS room in
-    line_step cat st to keys.Txn (Plain t.name ∷ site_word (T t.tm) ∷ []) (going_on place at) (header_fine cat k t h)
-    (rw (a, n, m, d, c) refl)
+    line_step cat _ _ keys.Txn (Plain t.name ∷ site_word (T t.tm) ∷ []) (going_on place at) (header_fine cat k t h)
+    (grind (arith, name_free, site_free, tm_again, found_none, lt-ltb))
 
 done_step : (cat : Catalogue) (h : Header) (rows : List (RelNo × List Value)) (written : ℕ) (names : List (List ℕ)) (txns : List Txn) (ss : List Stmt)
     → IsStep cat (inside cat h rows written names txns ss) (outside cat places.Between rows written names
     (txns ++ record { name = h.name; tm = h.tm; statements = ss } ∷ [])) (line_bytes done_words)
-done_step cat h rows written names txns ss =
-    line_step cat (inside cat h rows written names txns ss) (outside cat places.Between rows written names
-    (txns ++ record { name = h.name; tm = h.tm; statements = ss } ∷ [])) keys.Done [] refl
-    (keyword_fine keys.Done, tt) refl
+done_step cat h rows written names txns ss = line_step cat _ _ keys.Done [] refl (keyword_fine keys.Done, tt) refl
 
 txn_chain : (cat : Catalogue) → IsKnown cat → (place : Place) (rows : List (RelNo × List Value))
     (written : ℕ) (names : List (List ℕ)) (txns : List Txn) (t : Txn) → takes_txns place ≡ true
@@ -267,12 +227,7 @@ pub txns_chain : (cat : Catalogue) → IsKnown cat → (rows : List (RelNo × Li
     → length names + length ts ≤ MAX_TXNS → written + sum_by rows_put_by ts ≤ MAX_ROWS
     → AreRead cat (outside cat place rows written names txns) (map line_bytes (flat_map (txn_lines cat) ts))
     rows (written + sum_by rows_put_by ts) (names ++ names_of ts) (txns ++ ts)
-txns_chain cat k rows [] place written names txns at h differ room few = record {
-  place = place;
-  goes_on = at;
-  chain = outside_same cat place rows written (written + 0) names (names ++ []) txns (txns ++ [])
-      (omega arith) (sym (append-nil names)) (sym (append-nil txns));
-}
+txns_chain cat k rows [] place written names txns at h differ room few = grind (arith, outside_same, append-nil)
 txns_chain cat k rows (t ∷ ts) place written names txns at h differ room few =
     let sum : sum_by rows_put_by (t ∷ ts) ≡ rows_put_by t + sum_by rows_put_by ts = sum_by-cons rows_put_by t ts in
     let len : length (names ++ t.name ∷ []) ≡ length names + 1 = length-append names (t.name ∷ []) in

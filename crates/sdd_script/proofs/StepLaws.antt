@@ -1,17 +1,15 @@
 -- What a step that broke no rule says, and what a list of them does.
-use Rattle.sdd_script.proofs.All.{Bool, None, Ok, Option, Result, Some, WorkRule, arith, false, known, must, nat_le, nat_tests, not, refl, true, ℕ, ◌>>=◌, ◌≡◌, ◌≤◌}
+use Rattle.sdd_script.proofs.All.{Bool, Ok, Option, Result, Some, WorkRule, arith, false, known, must, nat_le, nat_tests, not, true, ℕ, ◌>>=◌, ◌≡◌, ◌≤◌}
 
 -- a test that holds, and then what follows
 pub must_then : {B : Type 0} (rule : WorkRule) (b : Bool) (f : Unit {0} → Result B WorkRule) (y : B) → (must rule b >>= f) ≡ Ok y
     → (b ≡ true) × (f tt ≡ Ok y)
-must_then rule true f y e = (refl, e)
-must_then rule false f y e = absurd cc
+must_then rule b f y e = grind arith
 
 -- a value that is there, and then what follows
 pub known_then : {A B : Type 0} (rule : WorkRule) (o : Option A) (f : A → Result B WorkRule) (y : B)
     → (known rule o >>= f) ≡ Ok y → (x : A) × (o ≡ Some x) × (f x ≡ Ok y)
-known_then rule None f y e = absurd cc
-known_then rule (Some x) f y e = (x, refl, e)
+known_then rule o f y e = grind arith
 
 -- ---- equal parts make equal wholes
 
@@ -24,8 +22,7 @@ some_is x y e = cc
 -- ---- tests
 
 pub not_true : (b : Bool) → not b ≡ true → b ≡ false
-not_true true e = absurd cc
-not_true false e = refl
+not_true b e = grind arith
 
 pub le_of : (a b : ℕ) → nat_le a b ≡ true → a ≤ b
 le_of a b e = grind (arith, nat_tests)

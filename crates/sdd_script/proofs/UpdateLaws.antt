@@ -1,5 +1,5 @@
 -- Updates and deletes: what is read is spelled and fits, and what is spelled and fits is read.
-use Rattle.sdd_script.proofs.All.{Add, All-from_recursion, AllByRecursion, Assign, AssignsValue, Catalogue, Comparison, Condition, Delete, FitsAssign, FitsCondition, FitsStatement, HoldsValue, HoldsValues, IsRelation, List, Ok, Plain, RelNo, Setting, Some, Stmt, To, Update, Word, [], along, arith, assign_of, bind_ok, both_are, both_hold, codes, column_word, comparisons, conditions_form, conditions_of, delete_of, from_key, is_free, is_key, length, map, name_of_relation, not_empty, ok_is, own_column, recursion_from_All, refl, rel_no, relation_of, relation_word, sets_words, settings, signed_decimal, subst, sym, true, up_to, update_of, value_word, where_words, ◌&&◌, ◌++◌, ◌∷◌, ◌≡◌, ◌≤◌}
+use Rattle.sdd_script.proofs.All.{Add, All-from_recursion, AllByRecursion, Assign, AssignsValue, Catalogue, Comparison, Condition, Delete, FitsAssign, FitsCondition, FitsStatement, HoldsValue, HoldsValues, IsRelation, List, Ok, Plain, RelNo, Setting, Some, Stmt, To, Update, Word, [], along, arith, assign_of, bind_ok, both_hold, codes, column_word, comparisons, conditions_form, conditions_of, delete_of, from_key, is_free, is_key, length, map, name_of_relation, not_empty, ok_is, own_column, recursion_from_All, refl, rel_no, relation_of, relation_word, sets_words, settings, signed_decimal, subst, true, up_to, update_of, value_word, where_words, ◌&&◌, ◌++◌, ◌∷◌, ◌≡◌, ◌≤◌}
 use Rattle.sdd_script.specs.Statements.{update_of_parts}
 use Rattle.sdd_script.proofs.StepLaws.{must_then, known_then}
 use Rattle.sdd_script.proofs.WordLooks.{name_free, value_free, number_free}
@@ -60,10 +60,8 @@ update_takes cat (name ∷ key ∷ words) s e =
     let b = must_then _ (is_free name && not_empty sets) _ s a.1 in
     let c = known_then _ (settings sets) _ s b.1 in
     let d = known_then _ (conditions_form rest) _ s c.2 in
-    let t = both_hold (is_free name) (not_empty sets) b.0 in
-    let whole : name ∷ key ∷ words ≡ name ∷ Plain (codes "set") ∷ (sets ++ rest) =
-    cc (key_is_that (codes "set") key a.0, joined_again (is_key (codes "where")) words) in
-    subst (λ (l : List Word). IsStatement cat (codes "update") l s) (sym whole) (update_parts_take cat name sets rest c.0 d.0 s t.1 c.1 d.1 d.2)
+    let u = update_parts_take cat name sets rest c.0 d.0 s (both_hold (is_free name) (not_empty sets) b.0).1 c.1 d.1 d.2 in
+    grind (arith, key_is_that, joined_again)
 update_takes cat _ s e = absurd cc
 
 pub record FitsUpdate (cat : Catalogue) (rel : RelNo) (sets : List Assign) (conds : List Condition) : Type 0 where
@@ -80,24 +78,17 @@ one_part cat rel h = record { there = All-from_recursion (λ (r : RelNo). IsRela
 
 pub update_fits : (cat : Catalogue) (rel : RelNo) (sets : List Assign) (conds : List Condition)
     → FitsStatement cat (Update rel sets conds) → HoldsValues (Update rel sets conds) → FitsUpdate cat rel sets conds
-update_fits cat rel sets conds h v = record {
-  parts = one_part cat rel h.0;
-  relation = h.0;
-  some_sets = h.1.0;
-  sets_fit = recursion_from_All (FitsAssign cat rel.0) sets h.2;
-  sets_hold = recursion_from_All AssignsValue sets v.0;
-  conds_fit = recursion_from_All (FitsCondition cat (rel ∷ [])) conds h.3.1;
-  conds_hold = recursion_from_All HoldsValue conds v.1;
-}
+update_fits cat rel sets conds h v = grind (arith, one_part, recursion_from_All)
 
 update_parts_again : (cat : Catalogue) → IsKnown cat → (rel : RelNo) (sets : List Assign) (conds : List Condition) → FitsUpdate cat rel sets conds
     → update_of_parts cat (relation_word cat rel) (map (setting_for cat rel) sets) (map (comparison_for cat (rel ∷ [])) conds) ≡ Ok (Update rel sets conds)
 unfolding update_of_parts
 update_parts_again cat k rel sets conds h =
-    let a = relation_again cat k rel.0 h.relation in
-    let b = assigns_again cat k rel h.parts sets h.sets_fit h.sets_hold in
-    let c = conditions_again cat k (rel ∷ []) h.parts conds h.conds_fit h.conds_hold in
-    rw (a, b, c) refl
+    rw (
+      relation_again cat k rel.0 h.relation,
+      assigns_again cat k rel h.parts sets h.sets_fit h.sets_hold,
+      conditions_again cat k (rel ∷ []) h.parts conds h.conds_fit h.conds_hold,
+    ) refl
 
 sets_not_where : (cat : Catalogue) → IsKnown cat → (rel : RelNo) → AreParts cat (rel ∷ [])
     → (sets : List Assign) → AllByRecursion (FitsAssign cat rel.0) sets → AllByRecursion AssignsValue sets
@@ -130,19 +121,16 @@ sets_not_where cat k rel p (Add column by ∷ sets) h v =
 pub update_again : (cat : Catalogue) → IsKnown cat → (rel : RelNo) (sets : List Assign) (conds : List Condition) → FitsUpdate cat rel sets conds
     → update_of cat (relation_word cat rel ∷ Plain (codes "set") ∷ (sets_words cat rel sets ++ where_words cat (rel ∷ []) conds)) ≡ Ok (Update rel sets conds)
 update_again cat k rel sets conds h =
-    let name : Word = relation_word cat rel in
-    let front : List Word = sets_words cat rel sets in
-    let rest : List Word = where_words cat (rel ∷ []) conds in
     let none = sets_not_where cat k rel h.parts sets h.sets_fit h.sets_hold in
-    let b : up_to (codes "where") (front ++ rest) ≡ front = before_where cat (rel ∷ []) front conds none in
-    let c : from_key (codes "where") (front ++ rest) ≡ rest = from_where cat (rel ∷ []) front conds none in
-    let d : (is_free name && not_empty front) ≡ true =
-    both_are (is_free name) (not_empty front) (name_free (name_of_relation cat rel.0)
-    (k.relation_name rel.0 h.relation)) (some_sets_words cat rel sets h.some_sets) in
-    let s : settings front ≡ Some (map (setting_for cat rel) sets) = assigning.form_again cat k rel h.parts sets h.sets_fit h.sets_hold in
-    let f : conditions_form rest ≡ Some (map (comparison_for cat (rel ∷ [])) conds) =
-    form_again cat k (rel ∷ []) h.parts (codes "where") conds h.conds_fit h.conds_hold in
-    rw (b, c, d, s, f) (update_parts_again cat k rel sets conds h)
+    let front : List Word = sets_words cat rel sets in
+    rw (
+      before_where cat (rel ∷ []) front conds none,
+      from_where cat (rel ∷ []) front conds none,
+      name_free (name_of_relation cat rel.0) (k.relation_name rel.0 h.relation),
+      some_sets_words cat rel sets h.some_sets,
+      assigning.form_again cat k rel h.parts sets h.sets_fit h.sets_hold,
+      form_again cat k (rel ∷ []) h.parts (codes "where") conds h.conds_fit h.conds_hold,
+    ) (update_parts_again cat k rel sets conds h)
 
 -- ---- delete
 
@@ -152,14 +140,13 @@ delete_takes cat (name ∷ rest) s e =
     let a = must_then _ (is_free name) _ s e in
     let b = known_then _ (conditions_form rest) _ s a.1 in
     let c = known_then _ (relation_of cat name) _ s b.2 in
-    let rel : RelNo = rel_no c.0 in
     let d = bind_ok (conditions_of cat (Some c.0 ∷ []) b.0) _ s c.2 in
     let t = relation_takes cat name c.0 c.1 in
-    let f = conditions_take cat (rel ∷ []) (codes "where") rest b.0 d.0 b.1 d.1 in
-    subst (λ (x : Stmt). IsStatement cat (codes "delete") (name ∷ rest) x) (ok_is (Delete rel d.0) s d.2) (record {
+    let f = conditions_take cat (rel_no c.0 ∷ []) (codes "where") rest b.0 d.0 b.1 d.1 in
+    rw (← ok_is (Delete (rel_no c.0) d.0) s d.2) (record {
       spelled = cc;
       values = All-from_recursion HoldsValue d.0 f.values;
-      fits = λ before u lim. (t.there, (delete_limits before rel d.0 u lim, All-from_recursion (FitsCondition cat (rel ∷ [])) d.0 f.fits));
+      fits = λ before u lim. (t.there, (delete_limits before (rel_no c.0) d.0 u lim, All-from_recursion (FitsCondition cat (rel_no c.0 ∷ [])) d.0 f.fits));
     })
 
 pub delete_again : (cat : Catalogue) → IsKnown cat → (rel : RelNo) (conds : List Condition)
@@ -169,9 +156,9 @@ delete_again cat k rel conds h v =
     let p = one_part cat rel h.0 in
     let fits = recursion_from_All (FitsCondition cat (rel ∷ [])) conds h.1.1 in
     let hold = recursion_from_All HoldsValue conds v in
-    let rest : List Word = where_words cat (rel ∷ []) conds in
-    let a = name_free (name_of_relation cat rel.0) (k.relation_name rel.0 h.0) in
-    let b : conditions_form rest ≡ Some (map (comparison_for cat (rel ∷ [])) conds) = form_again cat k (rel ∷ []) p (codes "where") conds fits hold in
-    let c = relation_again cat k rel.0 h.0 in
-    let d = conditions_again cat k (rel ∷ []) p conds fits hold in
-    rw (a, b, c, d) refl
+    rw (
+      name_free (name_of_relation cat rel.0) (k.relation_name rel.0 h.0),
+      form_again cat k (rel ∷ []) p (codes "where") conds fits hold,
+      relation_again cat k rel.0 h.0,
+      conditions_again cat k (rel ∷ []) p conds fits hold,
+    ) refl

@@ -1,5 +1,5 @@
 -- Relations and columns of uses: what is read is spelled and is there, and what is spelled and is there is read.
-use Rattle.sdd_script.proofs.All.{Bool, Catalogue, Column, Found, Int, IsColumn, IsRelation, List, None, Ok, Option, Parts, Plain, Quoted, Ref, Some, Word, [], ap, arith, before_point, behind_point, both_hold, bytes_eq, bytes_eq-Decides, column_in, column_named, column_of_use, columns_of, cond, decimal, false, find, get_or, is_name, is_whole, kind_at, kind_of_place, length, looks_like_column, name_of_column, name_of_relation, number_again, number_of, number_takes, ok_is, option_map_or, pos, position-Some, range_with_len, refl, rel_no, relation_named, relation_of, relation_word, signed_decimal, slice_get, slice_get-get_or, subst, suc, sym, true, use_at, use_numbered, zero, ℕ, ℤ, ◌++◌, ◌+◌, ◌-◌, ◌<◌, ◌^◌, ◌∙◌, ◌∷◌, ◌≡◌, ◌≤◌}
+use Rattle.sdd_script.proofs.All.{Bool, Catalogue, Column, Found, IsColumn, IsRelation, List, None, Ok, Option, Parts, Plain, Quoted, Ref, Some, Word, [], ap, arith, before_point, behind_point, both_hold, bytes_eq, bytes_eq-Decides, column_in, column_named, column_of_use, columns_of, cond, decimal, find, get_or, is_name, is_whole, kind_at, kind_of_place, length, looks_like_column, name_of_column, name_of_relation, number_again, number_of, number_takes, ok_is, option_map_or, pos, position-Some, range_with_len, refl, rel_no, relation_named, relation_of, relation_word, signed_decimal, slice_get, slice_get-get_or, subst, suc, sym, true, use_at, use_numbered, zero, ℕ, ℤ, ◌++◌, ◌+◌, ◌-◌, ◌<◌, ◌^◌, ◌∙◌, ◌∷◌, ◌≡◌, ◌≤◌}
 use Rattle.sdd_script.proofs.StepLaws.{must_then, known_then, some_is}
 use Rattle.sdd_script.proofs.ValueLaws.{columns_are}
 use Rattle.sdd_script.proofs.WordCuts.{point_cut}
@@ -26,12 +26,7 @@ pub record IsFound (p : ℕ → Bool) (a n found : ℕ) : Type 0 where
 found_step : (p : ℕ → Bool) (a n found : ℕ) (b : Bool) → p a ≡ b
     → (find p (range_with_len (a + 1) n) ≡ Some found → IsFound p (a + 1) n found)
     → cond b (Some a) (find p (range_with_len (a + 1) n)) ≡ Some found → IsFound p a (suc n) found
-found_step p a n found true e ih h = let same = some_is a found h in record {
-  passes = subst (λ (x : ℕ). p x ≡ true) same e;
-  from = omega (arith, same);
-  to = omega (arith, same);
-}
-found_step p a n found false e ih h = let r = ih h in record { passes = r.passes; from = omega (arith, r.from); to = omega (arith, r.to) }
+found_step p a n found b e ih h = grind (arith, some_is)
 
 found_in_range : (p : ℕ → Bool) (a n found : ℕ) → find p (range_with_len a n) ≡ Some found → IsFound p a n found
 found_in_range p a zero found e = absurd cc
@@ -42,11 +37,7 @@ pub record IsSomeRelation (cat : Catalogue) (w : Word) (rel : ℕ) : Type 0 wher
   pub there : IsRelation cat rel
 
 pub relation_takes : (cat : Catalogue) (w : Word) (rel : ℕ) → relation_of cat w ≡ Some rel → IsSomeRelation cat w rel
-relation_takes cat (Quoted text) rel e = absurd cc
-relation_takes cat (Plain name) rel e =
-    let f = found_in_range (λ r. bytes_eq (name_of_relation cat r) name) 1 (length cat.relations) rel e in
-    let same : name_of_relation cat rel ≡ name = (bytes_eq-Decides (name_of_relation cat rel) name).0 f.passes in
-    record { spelled = ap (λ (l : List ℕ). Plain l) (sym same); there = (f.from, omega (arith, f.to)) }
+relation_takes cat w rel e = grind (arith, found_in_range, bytes_eq, bytes_eq-Decides)
 
 pub relation_again : (cat : Catalogue) → IsKnown cat → (rel : ℕ) → IsRelation cat rel → relation_of cat (relation_word cat (rel_no rel)) ≡ Some rel
 relation_again cat h rel r = h.relation rel r
@@ -64,9 +55,6 @@ name_at : (columns : List Column) (i : ℕ) (d : Column) → i < length columns
     → option_map_or (λ (c : Column). c.name) (slice_get columns i) [] ≡ (get_or columns i d).name
 name_at columns i d lt = let e = slice_get-get_or columns i d lt in rw e refl
 
-kind_at_place : (columns : List Column) (i : ℕ) (d : Column) → i < length columns → kind_of_place columns i ≡ Some (get_or columns i d).kind
-kind_at_place columns i d lt = let e = slice_get-get_or columns i d lt in rw e refl
-
 pub column_takes : (columns : List Column) (part : ℕ) (name : List ℕ) (f : Found) → column_in columns part name ≡ Ok f
     → IsColumnAt columns part name f
 column_takes columns part name f e =
@@ -74,17 +62,9 @@ column_takes columns part name f e =
     let b = known_then _ (kind_of_place columns a.0) _ f a.2 in
     let d : Column = record { name = []; kind = b.0 } in
     let p = position-Some (λ (c : Column). bytes_eq c.name name) columns a.0 d a.1 in
-    let n : a.0 + 1 - 1 ≡ a.0 = omega arith in
-    let made : Found = record { at = record { part = part; column = a.0 + 1 }; kind = b.0 } in
-    let same : made ≡ f = ok_is made f b.2 in
-    subst (λ (g : Found). IsColumnAt columns part name g) same (record {
-      place = a.0;
-      within = p.0;
-      at = refl;
-      named = ap (λ (i : ℕ). option_map_or (λ (c : Column). c.name) (slice_get columns i) []) n
-          ∙ name_at columns a.0 d p.0 ∙ (bytes_eq-Decides (get_or columns a.0 d).name name).0 p.1;
-      kind = b.1;
-    })
+    let n = name_at columns a.0 d p.0 in
+    let s = (bytes_eq-Decides (get_or columns a.0 d).name name).0 p.1 in
+    grind (arith, ok_is)
 
 -- ---- columns of uses
 
@@ -156,10 +136,7 @@ use_at_again parts part rel some small there = grind arith
 
 pub kind_is : (cat : Catalogue) (rel column : ℕ) → IsColumn cat rel column
     → kind_of_place (columns_of cat rel) (column - 1) ≡ Some (kind_at cat rel column)
-kind_is cat rel column h =
-    let lt : column - 1 < length (columns_of cat rel) = rw (columns_are cat rel) (omega (arith, h.0, h.1)) in
-    let d : Column = record { name = []; kind = Int } in
-    kind_at_place (columns_of cat rel) (column - 1) d lt ∙ ap (λ (l : List Column). Some (get_or l (column - 1) d).kind) (columns_are cat rel)
+kind_is cat rel column h = grind (arith, columns_are, slice_get-get_or, get_or)
 
 pub use_again : (cat : Catalogue) → IsKnown cat → (parts : Parts) (rel : ℕ) (r : Ref) → HasUse cat parts rel r
     → column_of_use cat parts (Plain (decimal r.part ++ 46 ∷ name_of_column
@@ -167,12 +144,14 @@ pub use_again : (cat : Catalogue) → IsKnown cat → (parts : Parts) (rel : ℕ
 use_again cat k parts rel r h =
     let name : List ℕ = name_of_column (columns_of cat rel) r.column in
     let lt : r.part < 2 ^ 63 = omega (arith, h.small) in
-    let a = before_is r.part name lt in
-    let b = behind_is r.part name lt in
-    let w = decimal_is_whole r.part lt in
-    let n : number_of (decimal r.part) ≡ Some (pos r.part) = number_again (pos r.part) lt in
-    let u = use_at_again parts r.part rel h.some h.small h.there in
-    let c = k.column rel r.column h.relation h.column in
-    let t = kind_is cat rel r.column h.column in
     let again : r.column - 1 + 1 ≡ r.column = omega (arith, h.column.0) in
-    rw (a, w, n, u, b, c, t, again) refl
+    rw (
+      before_is r.part name lt,
+      decimal_is_whole r.part lt,
+      number_again (pos r.part) lt,
+      use_at_again parts r.part rel h.some h.small h.there,
+      behind_is r.part name lt,
+      k.column rel r.column h.relation h.column,
+      kind_is cat rel r.column h.column,
+      again,
+    ) refl

@@ -1,16 +1,13 @@
 -- Values: what is read is spelled and fits, and what is spelled and fits is read.
-use Rattle.sdd_script.proofs.All.{AllByRecursion, Answers, Bool, Catalogue, Column, IsValue, Kind, List, None, Ok, Option, Plain, Quoted, Relation, Result, Some, Value, Word, WorkRule, [], add-one, along_ok, ap, arith, columns_of, cond, get_or, is_of_kind, is_text, key_column, key_of, kind_of, kind_of_place, length, map, name_of_relation, number_again, number_of, number_takes, ok_along, ok_is, option_map_or, refl, relation_at, slice_get, subst, suc, sym, text_in, true, unwrap_or, unwrap_or-slice_get, value_of, value_word, values_of, ℕ, ◌+◌, ◌-◌, ◌∙◌, ◌∷◌, ◌≡◌}
+use Rattle.sdd_script.proofs.All.{AllByRecursion, Answers, Bool, Catalogue, Column, IsValue, Kind, List, None, Ok, Plain, Quoted, Relation, Result, Some, Value, Word, WorkRule, [], add-one, along_ok, ap, arith, columns_of, cond, get_or, is_of_kind, is_text, key_column, key_of, kind_of, kind_of_place, length, map, name_of_relation, number_again, number_of, number_takes, ok_along, ok_is, option_map_or, refl, relation_at, slice_get, subst, suc, text_in, true, unwrap_or-slice_get, value_of, value_word, values_of, ℕ, ◌+◌, ◌-◌, ◌∙◌, ◌∷◌, ◌≡◌}
 use Rattle.sdd_script.proofs.StepLaws.{must_then, known_then}
 use Rattle.sdd_lang.specs.base.declared.value.Value.TheVariants as values
 use Rattle.sdd_lang.specs.catalog.declared.parts.Kind.TheVariants as kinds
 
 -- ---- the two spellings of a relation's parts
 
-at_or : {A B : Type 0} (f : A → B) (o : Option A) (d : A) → option_map_or f o (f d) ≡ f (unwrap_or o d)
-at_or f o d = grind arith
-
 pub part_at : {A B : Type 0} (f : A → B) (xs : List A) (i : ℕ) (d : A) → option_map_or f (slice_get xs i) (f d) ≡ f (get_or xs i d)
-part_at f xs i d = at_or f (slice_get xs i) d ∙ ap f (unwrap_or-slice_get xs i d)
+part_at f xs i d = (grind arith) ∙ ap f (unwrap_or-slice_get xs i d)
 
 pub columns_are : (cat : Catalogue) (rel : ℕ) → columns_of cat rel ≡ (relation_at cat rel).columns
 columns_are cat rel = part_at (λ (r : Relation). r.columns) cat.relations (rel - 1) (record { name = []; columns = []; key = 0 })
@@ -52,15 +49,7 @@ value_takes k (Plain bytes) v e =
     let n = number_takes bytes a.0 a.1 in
     let b = must_then _ (is_of_kind (Some k) kinds.Int) _ v a.2 in
     rw (← ok_is (values.Int a.0) v b.1) (record { spelled = ap (λ (l : List ℕ). Plain l) n.0; same = kind_int k b.0; fits = n.1 })
-value_takes k (Quoted text) v e =
-    let a = known_then _ (text_in text) _ v e in
-    let t = text_takes text a.0 a.1 in
-    let b = must_then _ (is_of_kind (Some k) kinds.Text) _ v a.2 in
-    rw (← ok_is (values.Text a.0) v b.1) (record {
-      spelled = ap (λ (l : List ℕ). Quoted l) t.1;
-      same = kind_text k b.0;
-      fits = (subst (λ (l : List ℕ). is_text l ≡ true) t.1 t.0);
-    })
+value_takes k (Quoted text) v e = grind (arith, known_then, text_takes, must_then, ok_is, kind_text)
 
 pub value_again : (v : Value) → IsValue v → value_of (Some (kind_of v)) (value_word v) ≡ Ok v
 value_again v h = grind (arith, number_again)
@@ -73,15 +62,13 @@ at_columns columns i w = value_of (kind_of_place columns i) w
 shifted : (c : Column) (cs : List Column) (i : ℕ) (ws : List Word) (vs : List Value)
     → Answers (at_columns (c ∷ cs)) (i + 1) ws vs → Answers (at_columns cs) i ws vs
 shifted c cs i [] [] h = tt
-shifted c cs i (w ∷ ws) (v ∷ vs) h =
-    (subst (λ (n : ℕ). at_columns (c ∷ cs) n w ≡ Ok v) (add-one i) h.0, shifted c cs (i + 1) ws vs h.1)
+shifted c cs i (w ∷ ws) (v ∷ vs) h = grind (arith, at_columns, add-one, (shifted c cs (i + 1) ws vs h.1))
 shifted c cs i _ _ h = absurd h
 
 back : (c : Column) (cs : List Column) (i : ℕ) (ws : List Word) (vs : List Value)
     → Answers (at_columns cs) i ws vs → Answers (at_columns (c ∷ cs)) (i + 1) ws vs
 back c cs i [] [] h = tt
-back c cs i (w ∷ ws) (v ∷ vs) h =
-    (subst (λ (n : ℕ). at_columns (c ∷ cs) n w ≡ Ok v) (sym (add-one i)) h.0, back c cs (i + 1) ws vs h.1)
+back c cs i (w ∷ ws) (v ∷ vs) h = grind (arith, at_columns, add-one, (back c cs (i + 1) ws vs h.1))
 back c cs i _ _ h = absurd h
 
 abbrev pub kinds_of : List Column → List Kind

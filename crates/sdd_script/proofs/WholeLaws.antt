@@ -1,5 +1,5 @@
 -- The whole file: the spelling of a workload that the catalogue allows is read as the workload.
-use Rattle.sdd_script.proofs.All.{All, All-get_or, AllByRecursion, AreDistinct, AreTimely, Catalogue, ClassPart, Deliver, Down, Event, IsFrom1To, IsValid, IsValidEvent, IsValidRow, IsValidTxn, List, Lose, MAX_EVENTS, MAX_WORKLOAD_BYTES, Ok, Place, Plain, RelNo, Repeat, Resend, Result, Some, State, Submit, Tick, Txn, TxnNo, Up, Value, Word, WorkRule, Workload, [], ap, append-nil, append_assoc, arith, bytes_eq, cut_again, cut_lines, end_words, event_of, event_rules, event_words, false, filter_map, flat_map, get_or, get_or-map, is_ended, is_name, is_submitted, le-ltb, length, length-append, length-map, line_bytes, lines_of, list_any, list_any-map, list_lines, lt-ltb, map, map-append, may_follow, name_of_txn, nat_lt, nat_lt as ltb, nothing_read, position, recursion_from_All, refl, repeats, rows_put_by, spelling, start_words, submit_of, submitted_by, subst, sum_by, sym, takes_events, takes_lists, takes_txns, true, txn_lines, txn_no, walk, with_submitted, workload, ℕ, ◌++◌, ◌+◌, ◌-◌, ◌<◌, ◌==◌, ◌∙◌, ◌∷◌, ◌≡◌, ◌≤◌}
+use Rattle.sdd_script.proofs.All.{All, All-get_or, AllByRecursion, AreDistinct, AreTimely, Catalogue, ClassPart, Event, IsFrom1To, IsValid, IsValidEvent, IsValidRow, IsValidTxn, List, MAX_EVENTS, MAX_WORKLOAD_BYTES, Ok, Place, Plain, RelNo, Result, State, Submit, Txn, TxnNo, Value, Word, WorkRule, Workload, [], ap, append-nil, append_assoc, arith, cut_again, cut_lines, end_words, event_of, event_rules, event_words, false, filter_map, flat_map, get_or-map, is_ended, is_name, is_submitted, le-ltb, length, length-append, length-map, line_bytes, lines_of, list_any, list_any-map, list_lines, lt-ltb, map, map-append, may_follow, name_of_txn, nothing_read, recursion_from_All, refl, repeats, rows_put_by, spelling, start_words, submit_of, submitted_by, subst, sum_by, sym, takes_events, takes_lists, takes_txns, true, txn_lines, with_submitted, workload, ℕ, ◌++◌, ◌+◌, ◌-◌, ◌<◌, ◌==◌, ◌∙◌, ◌∷◌, ◌≡◌, ◌≤◌}
 use Rattle.sdd_script.proofs.WordLooks.{name_fine, name_free}
 use Rattle.sdd_script.proofs.UseLaws.{IsKnown}
 use Rattle.sdd_script.proofs.EventLaws.{place_again, resend_again, tick_again, down_again, up_again}
@@ -31,30 +31,18 @@ pub submitted_name : (cat : Catalogue) (txns : List Txn) (txn : ℕ) → All (Is
     → IsFrom1To (length txns) txn → is_name (name_of_txn txns txn) ≡ true
 submitted_name cat txns txn valid h =
     let lt : txn - 1 < length txns = omega (arith, h.0, h.1) in
-    let named : is_name (get_or txns (txn - 1) no_txn).name ≡ true = (All-get_or (IsValidTxn cat) txns (txn - 1) no_txn lt valid).named in
-    let same : name_of_txn txns txn ≡ (get_or txns (txn - 1) no_txn).name =
-    name_at_number txns txn ∙ get_or-map (λ (t : Txn). t.name) txns (txn - 1) no_txn [] lt in
-    subst (λ (l : List ℕ). is_name l ≡ true) (sym same) named
-
-number_again : (n : ℕ) → 1 ≤ n → n - 1 + 1 ≡ n
-number_again n h = omega (arith, h)
-
-abbrev number_of : ℕ → TxnNo
-number_of n = record { 0 = n }
+    let named = (All-get_or (IsValidTxn cat) txns (txn - 1) no_txn lt valid).named in
+    rw (name_at_number, get_or-map (λ (t : Txn). t.name) txns (txn - 1) no_txn [] lt) named
 
 submit_again : (cat : Catalogue) (txns : List Txn) (txn : TxnNo) → All (IsValidTxn cat) txns
     → repeats (names_of txns) ≡ false → IsFrom1To (length txns) txn.0 → submit_of (names_of txns)
     (Plain (name_of_txn txns txn.0) ∷ []) ≡ Ok (Submit txn)
 submit_again cat txns txn valid differ h =
-    let name : List ℕ = name_of_txn txns txn.0 in
     let named = submitted_name cat txns txn.0 valid h in
     let lt : txn.0 - 1 < length (names_of txns) = omega (arith, h.0, h.1, length-map txns (λ (t : Txn). t.name)) in
-    let free = name_free name named in
-    let p : position (bytes_eq name) (names_of txns) ≡ Some (txn.0 - 1) =
-    ap (λ (l : List ℕ). position (bytes_eq l) (names_of txns)) (name_at_number txns txn.0)
-    ∙ place_of_name (names_of txns) (txn.0 - 1) differ lt in
-    let is : txn_no (txn.0 - 1 + 1) ≡ txn = ap (λ (n : ℕ). number_of n) (number_again txn.0 h.0) in
-    rw (free, named, p) (ap (λ (t : TxnNo). Ok (Submit t)) is)
+    let p = place_of_name (names_of txns) (txn.0 - 1) differ lt in
+    let n : txn.0 - 1 + 1 ≡ txn.0 = omega (arith, h.0) in
+    grind (arith, name_free, name_at_number)
 
 names_one : (cat : Catalogue) (txns : List Txn) (e : Event) → All (IsValidTxn cat) txns → IsValidEvent cat (length txns) e → NamesOne txns e
 names_one cat txns (Submit txn) valid h = name_fine (name_of_txn txns txn.0) (submitted_name cat txns txn.0 valid h)
@@ -95,22 +83,13 @@ event_rules_again : (cat : Catalogue) (place : Place) (rows : List (RelNo × Lis
     → event_rules cat (scheduled place rows written txns lists classes submitted events) reading ≡ Ok
     (scheduled places.Events rows written txns lists classes (with_submitted submitted e)
     (events ++ e ∷ []))
-event_rules_again cat place rows written txns lists classes submitted events e reading r h =
-    let c : ltb (length events) MAX_EVENTS ≡ true = lt-ltb (length events) MAX_EVENTS h.room in
-    rw (h.takes, r, h.new, h.may, c) refl
+event_rules_again cat place rows written txns lists classes submitted events e reading r h = grind (arith, lt-ltb)
 
 event_again : (cat : Catalogue) → IsKnown cat → (txns : List Txn) (e : Event) → All (IsValidTxn cat) txns
     → repeats (names_of txns) ≡ false → IsValidEvent cat (length txns) e
     → event_of (event_key e) cat (names_of txns) (behind_key txns e) ≡ Ok e
 event_again cat k txns (Submit txn) valid differ h = submit_again cat txns txn valid differ h
-event_again cat k txns (Deliver from to n) valid differ h = let a = place_again cat k from to n h.0 h.1 in rw a refl
-event_again cat k txns (Lose from to n) valid differ h = let a = place_again cat k from to n h.0 h.1 in rw a refl
-event_again cat k txns (Repeat from to n) valid differ h = let a = place_again cat k from to n h.0 h.1 in rw a refl
-event_again cat k txns (Resend from to) valid differ h = resend_again cat k from to h
-event_again cat k txns (Tick tm n) valid differ h = tick_again cat k tm n h.0 h.1
-event_again cat k txns (Down dm) valid differ h = down_again cat k dm h
-event_again cat k txns (Up dm) valid differ h = up_again cat k dm h
-event_again cat k txns _ valid differ h = refl
+event_again cat k txns _ valid differ h = grind (arith, place_again, resend_again, tick_again, down_again, up_again)
 
 event_step : (cat : Catalogue) → IsKnown cat → (place : Place) (rows : List (RelNo × List Value))
     (written : ℕ) (txns : List Txn) (lists : List (List ClassPart)) (classes : ℕ) (submitted : List TxnNo)
@@ -145,68 +124,33 @@ events_chain : (cat : Catalogue) → IsKnown cat → (rows : List (RelNo × List
     → length events + length es ≤ MAX_EVENTS → AreTimely cat.dms (length lists) (events ++ es)
     → AreEvents cat (scheduled place rows written txns lists classes submitted events)
     (map line_bytes (map (event_words txns) es)) rows written txns lists classes (events ++ es)
-events_chain cat k rows written txns lists classes valid differ [] place submitted events t h d few y =
-    record {
-      place = place;
-      submitted = submitted;
-      takes = t;
-      chain = ap (scheduled place rows written txns lists classes submitted) (sym (append-nil events));
-    }
+events_chain cat k rows written txns lists classes valid differ [] place submitted events t h d few y = grind (arith, scheduled, append-nil)
 events_chain cat k rows written txns lists classes valid differ (e ∷ es) place submitted events t h d few y =
     let f = fresh submitted e es d in
-    let len : length (events ++ e ∷ []) ≡ length events + 1 = length-append events (e ∷ []) in
     let one = event_step cat k place rows written txns lists classes submitted events e valid differ h.0
-    (record {
-      takes = t;
-      new = f.new;
-      may = timely_may cat.dms (length lists) events e es y;
-      room = omega (arith, few);
-    }) in
+    (record { takes = t; new = f.new; may = timely_may cat.dms (length lists) events e es y; room = omega (arith, few) }) in
     let joined_on : (events ++ e ∷ []) ++ es ≡ events ++ e ∷ es = append_assoc events (e ∷ []) es in
     let more = events_chain cat k rows written txns lists classes valid differ es places.Events
-    (with_submitted submitted e) (events ++ e ∷ []) refl h.1 f.distinct (omega (arith, len))
-    (subst (AreTimely cat.dms (length lists)) (sym joined_on) y) in
-    let mid : State = scheduled places.Events rows written txns lists classes (with_submitted submitted e) (events ++ e ∷ []) in
-    record {
-      place = more.place;
-      submitted = more.submitted;
-      takes = more.takes;
-      chain = (
-        mid,
-        one,
-        subst (λ (l : List Event). Chain cat mid
-            (map line_bytes (map (event_words txns) es))
-            (scheduled more.place rows written txns lists classes more.submitted l)) joined_on more.chain,
-      );
-    }
+    (with_submitted submitted e) (events ++ e ∷ []) refl h.1 f.distinct (omega (arith, length-append events (e ∷ []))) (rw joined_on y) in
+    record { place = more.place; submitted = more.submitted; takes = more.takes; chain = (_, one, rw joined_on at more.chain) }
 
 -- ---- the whole
 
 lists_from : (place : Place) → takes_txns place ≡ true → takes_lists place ≡ true
 lists_from place t = grind arith
 
-events_from : (place : Place) → takes_lists place ≡ true → takes_events place ≡ true
-events_from place t = grind arith
-
 end_step : (cat : Catalogue) (place : Place) (rows : List (RelNo × List Value)) (written : ℕ)
     (txns : List Txn) (lists : List (List ClassPart)) (classes : ℕ) (submitted : List TxnNo)
     (events : List Event) → takes_events place ≡ true
     → IsStep cat (scheduled place rows written txns lists classes submitted events)
     (scheduled places.Ended rows written txns lists classes submitted events) (line_bytes end_words)
-end_step cat place rows written txns lists classes submitted events t =
-    line_step cat (scheduled place rows written txns lists classes submitted events)
-    (scheduled places.Ended rows written txns lists classes submitted events) keys.End [] (still place t)
-    (keyword_fine keys.End, tt)
-    (rw t refl)
+end_step cat place rows written txns lists classes submitted events t = line_step cat _ _ keys.End [] (still place t) (keyword_fine keys.End, tt) (rw t refl)
 
 record IsWhole (cat : Catalogue) (w : Workload) : Type 0 where
   written : ℕ
   classes : ℕ
   submitted : List TxnNo
   chain : Chain cat (nothing_read cat) (map line_bytes (lines_of cat w)) (scheduled places.Ended w.rows written w.txns w.lists classes submitted w.events)
-
-five_mapped : {A B : Type 0} (f : A → B) (a b c d e : List A) → map f (a ++ b ++ c ++ d ++ e) ≡ map f a ++ map f b ++ map f c ++ map f d ++ map f e
-five_mapped f a b c d e = simp map-append
 
 whole_chain : (cat : Catalogue) → IsKnown cat → (w : Workload) → IsValid cat w → IsWhole cat w
 whole_chain cat k w v =
@@ -217,42 +161,22 @@ whole_chain cat k w v =
     let written : ℕ = length w.rows + sum_by rows_put_by w.txns in
     let zero_more : 0 + length w.rows ≡ length w.rows = omega arith in
     let rows = rows_chain cat k w.rows [] 0 (recursion_from_All (IsValidRow cat) w.rows v.rows) (omega (arith, v.few_rows, zero_more)) in
-    let rows_are : Chain cat (nothing_read cat) rs (of_rows cat w.rows (length w.rows)) =
-    subst (λ (n : ℕ). Chain cat (nothing_read cat) rs (of_rows cat w.rows n)) zero_more rows in
+    let rows_are : Chain cat (nothing_read cat) rs (of_rows cat w.rows (length w.rows)) = rw zero_more at rows in
     let txns = txns_chain cat k w.rows w.txns places.Rows (length w.rows) [] [] refl
     (recursion_from_All (IsValidTxn cat) w.txns v.txns) v.names (omega (arith, v.few_txns)) v.few_rows in
-    let after_rows : State = of_rows cat w.rows (length w.rows) in
     let after_txns : State = scheduled txns.place w.rows written w.txns [] (length cat.classes) [] [] in
     let lists = lists_read cat k after_txns w.lists (lists_from txns.place txns.goes_on) v.lists in
     let n : ℕ = lists.classes in
-    let after_lists : State = scheduled lists.place w.rows written w.txns w.lists n [] [] in
     let events = events_chain cat k w.rows written w.txns w.lists n v.txns v.names w.events lists.place []
-    [] (events_from lists.place lists.goes_on)
-    (recursion_from_All (IsValidEvent cat (length w.txns)) w.events v.events) v.submitted
+    [] (grind arith) (recursion_from_All (IsValidEvent cat (length w.txns)) w.events v.events) v.submitted
     (omega (arith, v.few_events)) v.timely in
-    let after_events : State = scheduled events.place w.rows written w.txns w.lists n events.submitted w.events in
     let last : State = scheduled places.Ended w.rows written w.txns w.lists n events.submitted w.events in
-    let ended : Chain cat after_events (line_bytes end_words ∷ []) last = (
-      last,
-      end_step cat events.place w.rows written w.txns w.lists n events.submitted w.events events.takes,
-      refl,
-    ) in
-    let two : Chain cat (nothing_read cat) (rs ++ ts) after_txns = chain-append cat (nothing_read cat) after_rows after_txns rs ts rows_are txns.chain in
-    let three : Chain cat (nothing_read cat) (rs ++ ts ++ ls) after_lists =
-    chain-append cat (nothing_read cat) after_txns after_lists (rs ++ ts) ls two lists.chain in
-    let four : Chain cat (nothing_read cat) (rs ++ ts ++ ls ++ es) after_events =
-    chain-append cat (nothing_read cat) after_lists after_events (rs ++ ts ++ ls) es three events.chain in
-    let five : Chain cat (nothing_read cat) (rs ++ ts ++ ls ++ es ++ line_bytes end_words ∷ []) last =
-    chain-append cat (nothing_read cat) after_events last (rs ++ ts ++ ls ++ es)
-    (line_bytes end_words ∷ []) four ended in
-    record {
-      written = written;
-      classes = n;
-      submitted = events.submitted;
-      chain = subst (λ (l : List (List ℕ)). Chain cat (nothing_read cat) l last)
-          (sym (five_mapped line_bytes (map (start_words cat) w.rows) (flat_map (txn_lines cat) w.txns)
-          (flat_map list_lines w.lists) (map (event_words w.txns) w.events) (end_words ∷ []))) five;
-    }
+    let two = chain-append cat (nothing_read cat) _ _ rs ts rows_are txns.chain in
+    let three = chain-append cat (nothing_read cat) _ _ (rs ++ ts) ls two lists.chain in
+    let four = chain-append cat (nothing_read cat) _ _ (rs ++ ts ++ ls) es three events.chain in
+    let five = chain-append cat (nothing_read cat) _ last (rs ++ ts ++ ls ++ es) (line_bytes end_words ∷ []) four
+    (last, end_step cat events.place w.rows written w.txns w.lists n events.submitted w.events events.takes, refl) in
+    record { written = written; classes = n; submitted = events.submitted; chain = simp map-append five }
 
 -- the spelling of a workload that is allowed is read as the workload
 pub read_again : (cat : Catalogue) → IsKnown cat → (w : Workload) → IsValid cat w
@@ -260,9 +184,7 @@ pub read_again : (cat : Catalogue) → IsKnown cat → (w : Workload) → IsVali
 read_again cat k w v small =
     let c = whole_chain cat k w v in
     let lines : List (List ℕ) = map line_bytes (lines_of cat w) in
-    let last : State = scheduled places.Ended w.rows c.written w.txns w.lists c.classes c.submitted w.events in
-    let a : nat_lt MAX_WORKLOAD_BYTES (length (spelling cat w)) ≡ false = le-ltb MAX_WORKLOAD_BYTES (length (spelling cat w)) small in
     let b : cut_lines (spelling cat w) ≡ (lines, []) = ap cut_lines (sym (lines_spelled (lines_of cat w)))
-    ∙ cut_again lines (chain_lines cat (nothing_read cat) last lines c.chain) in
-    let d : walk cat 1 (nothing_read cat) lines [] ≡ Ok last = chain_walk cat 1 (nothing_read cat) last lines c.chain refl in
-    grind arith
+    ∙ cut_again lines (chain_lines cat (nothing_read cat) _ lines c.chain) in
+    let d = chain_walk cat 1 (nothing_read cat) _ lines c.chain refl in
+    grind (arith, le-ltb)

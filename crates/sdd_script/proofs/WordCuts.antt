@@ -1,5 +1,5 @@
 -- A list cut at the first item that passes, both ways.
-use Rattle.sdd_script.proofs.All.{Bool, List, None, Option, Plain, Quoted, Some, Word, [], add-one, after_first, ap, append_assoc, arith, before_first, before_point, behind_point, bytes_eq-Decides, cond, cut_at, drop, drop-cons, drop_all, drop_at, eqb-true, false, get_or, has_point, is_key, is_point, is_some, length, length-append, nat_lt as ltb, option_map, place_if, position, position-Some, position_or_len, refl, sym, take, take-append-drop, take_all, take_at, true, ℕ, ◌++◌, ◌+◌, ◌<◌, ◌∙◌, ◌∷◌, ◌≡◌}
+use Rattle.sdd_script.proofs.All.{Bool, List, None, Option, Plain, Quoted, Some, Word, [], add-one, after_first, ap, append_assoc, arith, before_first, before_point, behind_point, bytes_eq-Decides, cut_at, drop, drop-cons, drop_all, drop_at, eqb-true, false, get_or, has_point, is_key, is_point, is_some, length, length-append, nat_lt as ltb, place_if, position, position-Some, position_or_len, refl, sym, take, take-append-drop, take_all, take_at, true, ℕ, ◌++◌, ◌+◌, ◌<◌, ◌∙◌, ◌∷◌, ◌≡◌}
 
 abbrev pub NonePasses : {A : Type 0} → (A → Bool) → List A → Type 0
 NonePasses p [] = Unit {0}
@@ -63,15 +63,8 @@ key_cut key ws k e =
     let is : get_or ws k d ≡ Plain key = key_is_that key (get_or ws k d) p.1 in
     sym (take-append-drop k ws) ∙ ap (λ l. take k ws ++ l) (rw (drop-cons ws k d, is, add-one) refl)
 
-abbrev cut_there : List Word → ℕ → List Word × List Word
-cut_there ws k = (take k ws, drop (k + 1) ws)
-
-cut_if : (key : List ℕ) (ws before behind : List Word) (o : Option ℕ) → position (is_key key) ws ≡ o
-    → option_map (cut_there ws) o ≡ Some (before, behind) → ws ≡ before ++ Plain key ∷ behind
-cut_if key ws before behind o p e = grind (arith, key_cut)
-
 pub cut_takes : (key : List ℕ) (ws before behind : List Word) → cut_at key ws ≡ Some (before, behind) → ws ≡ before ++ Plain key ∷ behind
-cut_takes key ws before behind e = cut_if key ws before behind (position (is_key key) ws) refl e
+cut_takes key ws before behind e = (grind (arith, key_cut))
 
 pub cut_again : (key : List ℕ) (before behind : List Word) → NonePasses (is_key key) before
     → cut_at key (before ++ Plain key ∷ behind) ≡ Some (before, behind)
@@ -90,9 +83,6 @@ cut_again key before behind h =
 pub no_point : (bytes : List ℕ) → NonePasses is_point bytes → has_point bytes ≡ false
 no_point bytes h = let e = no_position is_point bytes h in rw e refl
 
-place_is : (n len k : ℕ) → cond (ltb n len) (Some n) None ≡ Some k → n ≡ k
-place_is n len k e = place_if (ltb n len) n k e
-
 point_if : (bytes : List ℕ) (o : Option ℕ) → position is_point bytes ≡ o → is_some o ≡ true
     → bytes ≡ before_point bytes ++ 46 ∷ behind_point bytes
 point_if bytes None p e = absurd cc
@@ -102,7 +92,7 @@ point_if bytes (Some k) p e =
     let lt : k < length bytes = at.0 in
     let whole : bytes ≡ take k bytes ++ 46 ∷ drop (k + 1) bytes = sym (take-append-drop k bytes)
     ∙ ap (λ l. take k bytes ++ l) (rw (drop-cons bytes k 0, is, add-one) refl) in
-    let place : position_or_len is_point bytes ≡ k = place_is (position_or_len is_point bytes) (length bytes) k p in
+    let place : position_or_len is_point bytes ≡ k = (place_if (ltb (position_or_len is_point bytes) (length bytes)) (position_or_len is_point bytes) k p) in
     rw place whole
 
 pub point_cut : (bytes : List ℕ) → has_point bytes ≡ true → bytes ≡ before_point bytes ++ 46 ∷ behind_point bytes

@@ -1,5 +1,5 @@
 -- What the words of a spelling look like: each is a word, a text, holds no newline, and is no keyword where it could be mistaken for one.
-use Rattle.sdd_script.proofs.All.{AllDigits, Bool, HasNoNewline, HasNoSpace, IsAscii-signed, IsPlain, IsUtf8, IsUtf8-append, IsUtf8-escaped, IsUtf8-from_ascii, IsUtf8-from_is_utf8, IsValue, IsWord, List, Op, Plain, Quoted, Value, Word, [], after_first, ap, append-nil, arith, before_point, begins_with_letter, behind_point, both_are, both_hold, decimal, decimal_digit, decimal_is_IsNumeral, digit_from_value, drop_all, eqb, escaped, escaped_byte, false, first_decimal, get_or, has_newline, has_point, is_digit, is_free, is_keyword, is_letter, is_name, is_name_byte, is_point, is_sound, is_text, is_utf8, is_whole, length, list_all, looks_like_column, mag, name_is_utf8, names_column, nat_le, ne_eqb, negsuc, not, number_plain, or_false as or_parts, pos, position_or_len, refl, signed_decimal, spells_column, subst, suc, true, value_word, whole_digits, word_bytes, zero, ℕ, ℤ, ◌&&◌, ◌++◌, ◌+◌, ◌<◌, ◌^◌, ◌∷◌, ◌≡◌, ◌≢◌, ◌≤◌}
+use Rattle.sdd_script.proofs.All.{AllDigits, Bool, HasNoNewline, HasNoSpace, IsAscii-signed, IsPlain, IsUtf8, IsUtf8-append, IsUtf8-escaped, IsUtf8-from_ascii, IsUtf8-from_is_utf8, IsValue, IsWord, List, Op, Plain, Quoted, Value, Word, [], ap, append-nil, arith, before_point, begins_with_letter, behind_point, both_are, both_hold, decimal, decimal_digit, decimal_is_IsNumeral, digit_from_value, drop_all, eqb, escaped, escaped_byte, false, first_decimal, get_or, has_newline, is_digit, is_free, is_keyword, is_name, is_name_byte, is_point, is_sound, is_text, is_utf8, is_whole, length, list_all, looks_like_column, mag, name_is_utf8, names_column, nat_le, ne_eqb, negsuc, not, number_plain, or_false as or_parts, pos, position_or_len, refl, signed_decimal, spells_column, suc, true, value_word, whole_digits, word_bytes, ℕ, ℤ, ◌&&◌, ◌++◌, ◌+◌, ◌<◌, ◌^◌, ◌∷◌, ◌≡◌, ◌≢◌, ◌≤◌}
 use Rattle.sdd_script.proofs.StepLaws.{not_true, of_le as le_is}
 use Rattle.sdd_script.proofs.WordCuts.{NonePasses, none_at, before_again, after_again, position_again, no_point}
 use Rattle.sdd_lang.specs.base.declared.restriction.Op.TheVariants as ops
@@ -49,52 +49,23 @@ pub record IsNamed (bytes : List ℕ) : Type 0 where
   pub no_key : is_keyword bytes ≡ false
 
 pub name_parts : (bs : List ℕ) → is_name bs ≡ true → IsNamed bs
-name_parts bs e =
-    let all = both_hold (begins_with_letter bs && nat_le (length bs) 32 && list_all is_name_byte bs) (not (is_keyword bs)) e in
-    let front = both_hold (begins_with_letter bs && nat_le (length bs) 32) (list_all is_name_byte bs) all.0 in
-    record { letter = (both_hold (begins_with_letter bs) (nat_le (length bs) 32) front.0).0; bytes_are = front.1; no_key = not_true (is_keyword bs) all.1 }
-
-plain_name : (bs : List ℕ) → begins_with_letter bs ≡ true → list_all is_name_byte bs ≡ true → IsPlain bs
-plain_name bs l e = grind (arith, no_spaces)
+name_parts bs e = grind (arith, both_hold, nat_le, list_all, not_true)
 
 pub name_fine : (bs : List ℕ) → is_name bs ≡ true → IsFine (Plain bs)
-name_fine bs e = let n = name_parts bs e in record {
-  word = plain_name bs n.letter n.bytes_are;
-  utf8 = name_is_utf8 bs e;
-  sound = refl;
-  line = no_newlines is_name_byte bs refl n.bytes_are;
-}
+name_fine bs e = grind (arith, name_parts, no_spaces, name_is_utf8, no_newlines)
 
 -- ---- words that are free
 
--- a word is known to be free by its first byte
-free_first : (c : ℕ) (cs : List ℕ) → eqb c 102 ≡ false → eqb c 119 ≡ false → eqb c 97 ≡ false
-    → eqb c 115 ≡ false → eqb c 43 ≡ false → eqb c 61 ≡ false → eqb c 33 ≡ false → eqb c 60 ≡ false → eqb c 62 ≡ false
-    → is_free (Plain (c ∷ cs)) ≡ true
-free_first c cs f w a s p e n l g = rw (f, w, a, s, p, e, n, l, g) refl
-
--- or by its first byte and as no keyword
-free_if : (c : ℕ) (cs : List ℕ) → is_keyword (c ∷ cs) ≡ false → eqb c 43 ≡ false → eqb c 61 ≡ false → eqb c 33 ≡ false
-    → eqb c 60 ≡ false → eqb c 62 ≡ false
-    → is_free (Plain (c ∷ cs)) ≡ true
-free_if c cs k p e n l g = grind arith
-
 name_free_if : (bs : List ℕ) → begins_with_letter bs ≡ true → is_keyword bs ≡ false → is_free (Plain bs) ≡ true
 name_free_if [] l k = absurd cc
-name_free_if (c ∷ cs) l k = free_if c cs k (ne_eqb c 43 (not_it is_letter c 43 refl l))
-    (ne_eqb c 61 (not_it is_letter c 61 refl l)) (ne_eqb c 33 (not_it is_letter c 33 refl l))
-    (ne_eqb c 60 (not_it is_letter c 60 refl l)) (ne_eqb c 62 (not_it is_letter c 62 refl l))
+name_free_if (c ∷ cs) l k = (grind arith)
 
 pub name_free : (bs : List ℕ) → is_name bs ≡ true → is_free (Plain bs) ≡ true
 name_free bs e = let n = name_parts bs e in name_free_if bs n.letter n.no_key
 
 free_digit : (c : ℕ) (cs : List ℕ) → is_digit c ≡ true → is_free (Plain (c ∷ cs)) ≡ true
 free_digit c cs d =
-    free_first c cs (ne_eqb c 102 (not_it is_digit c 102 refl d))
-    (ne_eqb c 119 (not_it is_digit c 119 refl d)) (ne_eqb c 97 (not_it is_digit c 97 refl d))
-    (ne_eqb c 115 (not_it is_digit c 115 refl d)) (ne_eqb c 43 (not_it is_digit c 43 refl d))
-    (ne_eqb c 61 (not_it is_digit c 61 refl d)) (ne_eqb c 33 (not_it is_digit c 33 refl d))
-    (ne_eqb c 60 (not_it is_digit c 60 refl d)) (ne_eqb c 62 (not_it is_digit c 62 refl d))
+    (rw ((ne_eqb c 102 (not_it is_digit c 102 refl d)), (ne_eqb c 119 (not_it is_digit c 119 refl d)), (ne_eqb c 97 (not_it is_digit c 97 refl d)), (ne_eqb c 115 (not_it is_digit c 115 refl d)), (ne_eqb c 43 (not_it is_digit c 43 refl d)), (ne_eqb c 61 (not_it is_digit c 61 refl d)), (ne_eqb c 33 (not_it is_digit c 33 refl d)), (ne_eqb c 60 (not_it is_digit c 60 refl d)), (ne_eqb c 62 (not_it is_digit c 62 refl d))) refl)
 
 -- ---- numbers
 
@@ -103,8 +74,7 @@ within c lo hi = both_are (nat_le 48 c) (nat_le c 57) (le_is 48 c lo) (le_is c 5
 
 all_digits : (ds : List ℕ) → AllDigits 10 ds → list_all is_digit ds ≡ true
 all_digits [] h = refl
-all_digits (c ∷ ds) h = let r = digit_from_value c (omega (arith, h.0)) in both_are (is_digit c)
-    (list_all is_digit ds) (within c (omega (arith, r.0)) (omega (arith, r.1))) (all_digits ds h.1)
+all_digits (c ∷ ds) h = grind (arith, digit_from_value, both_are, list_all, within, (all_digits ds h.1))
 
 digits_free : (ds rest : List ℕ) → 0 < length ds → list_all is_digit ds ≡ true → is_free (Plain (ds ++ rest)) ≡ true
 digits_free [] rest some e = absurd (omega arith)
@@ -141,8 +111,7 @@ number_fine z lt = record {
 }
 
 pub number_free : (z : ℤ) → mag z < 2 ^ 63 → is_free (Plain (signed_decimal z)) ≡ true
-number_free (pos n) lt = let d = decimal_parts n lt in subst (λ (l : List ℕ). is_free (Plain l) ≡ true)
-    (append-nil (decimal n)) (digits_free (decimal n) [] d.some d.digits)
+number_free (pos n) lt = let d = decimal_parts n lt in rw append-nil at (digits_free (decimal n) [] d.some d.digits)
 number_free (negsuc n) lt = refl
 
 pub count_fine : (n : ℕ) → n < 2 ^ 63 → IsFine (Plain (decimal n))
@@ -157,15 +126,11 @@ quote : IsUtf8 (34 ∷ [])
 unfolding lib.Utf8.encode
 quote = (34 ∷ [], (refl, refl))
 
-escaped_line : (c : ℕ) (x y : Bool) → eqb c 34 ≡ x → eqb c 92 ≡ y → c ≢ 10 → HasNoNewline (escaped_byte c)
-escaped_line c x y p q n = grind arith
-
 escaped_no_newline : (text : List ℕ) → has_newline text ≡ false → HasNoNewline (escaped text)
 escaped_no_newline [] e = tt
 escaped_no_newline (c ∷ cs) e =
     let h = or_parts (eqb c 10) (has_newline cs) e in
-    no_newline-append (escaped_byte c) (escaped cs) (escaped_line c (eqb c 34) (eqb c 92) refl refl
-    (λ p. let q : eqb 10 10 ≡ false = subst (λ (b : ℕ). eqb b 10 ≡ false) p h.0 in absurd cc))
+    no_newline-append (escaped_byte c) (escaped cs) (grind arith)
     (escaped_no_newline cs h.1)
 
 pub text_fine : (text : List ℕ) → is_text text ≡ true → IsFine (Quoted text)
@@ -174,14 +139,10 @@ text_fine text e =
     let front = both_hold (nat_le (length text) 255) (not (has_newline text)) all.0 in
     record {
       word = tt;
-      utf8 = IsUtf8-append (34 ∷ []) (escaped text ++ 34 ∷ []) quote (IsUtf8-append (escaped text) (34 ∷ [])
-          (IsUtf8-escaped text (IsUtf8-from_is_utf8 text all.1)) quote);
+      utf8 = IsUtf8-append (34 ∷ []) (escaped text ++ 34 ∷ []) quote
+          (IsUtf8-append (escaped text) (34 ∷ []) (IsUtf8-escaped text (IsUtf8-from_is_utf8 text all.1)) quote);
       sound = e;
-      line = (
-        (λ p. omega arith),
-        no_newline-append (escaped text) (34 ∷ [])
-            (escaped_no_newline text (not_true (has_newline text) front.1)) ((λ p. omega arith), tt),
-      );
+      line = grind (arith, no_newline-append, escaped_no_newline, not_true);
     }
 
 pub value_fine : (v : Value) → IsValue v → IsFine (value_word v)
@@ -191,18 +152,8 @@ value_fine (values.Text text) h = text_fine text h
 pub value_free : (v : Value) → IsValue v → is_free (value_word v) ≡ true
 value_free v h = grind (arith, number_free)
 
-and_false : (b : Bool) → (b && false) ≡ false
-and_false b = grind arith
-
-none_behind : {A : Type 0} (p : A → Bool) (xs : List A) → NonePasses p xs → after_first p xs ≡ []
-none_behind p xs h = drop_all (position_or_len p xs + 1) xs (omega (arith, none_at p xs h))
-
--- a value is never taken for a column
-no_column : (bytes : List ℕ) → NonePasses is_point bytes → spells_column bytes ≡ false
-no_column bytes h = grind (arith, none_behind)
-
 pub value_names_no_column : (op : Op) (v : Value) → IsValue v → names_column op (value_word v) ≡ false
-value_names_no_column op v h = grind (arith, no_column, signed_no_point)
+value_names_no_column op v h = grind (arith, drop_all, position_or_len, none_at, signed_no_point)
 
 -- ---- columns of uses
 
@@ -239,19 +190,17 @@ behind_is n name lt =
 
 pub column_looks : (n : ℕ) (name : List ℕ) → n < 2 ^ 63 → is_name name ≡ true → looks_like_column (Plain (decimal n ++ 46 ∷ name)) ≡ true
 column_looks n name lt e =
-    let p = position_again is_point (decimal n) 46 name (no_points is_digit (decimal n) refl (decimal_parts n lt).digits) refl in
-    let a : has_point (decimal n ++ 46 ∷ name) ≡ true = rw p refl in
-    let b = behind_is n name lt in
-    let c : has_point (behind_point (decimal n ++ 46 ∷ name)) ≡ false =
-    rw b (no_point name (no_points is_name_byte name refl (name_parts name e).bytes_are)) in
-    rw (a, c) refl
+    rw (
+      position_again is_point (decimal n) 46 name (no_points is_digit (decimal n) refl (decimal_parts n lt).digits) refl,
+      behind_is n name lt,
+      no_point name (no_points is_name_byte name refl (name_parts name e).bytes_are),
+    ) refl
 
 whole_if : (ds : List ℕ) → 0 < length ds → list_all is_digit ds ≡ true → 48 < get_or ds 0 0 → whole_digits ds ≡ true
 whole_if ds some h first = grind arith
 
 pub decimal_whole : (n : ℕ) → n < 2 ^ 63 → whole_digits (decimal n) ≡ true
-decimal_whole zero lt = rw (decimal_digit 0 (omega arith)) refl
-decimal_whole (suc n) lt = let d = decimal_parts (suc n) lt in whole_if (decimal (suc n)) d.some d.digits (first_decimal (suc n) (omega arith) (omega arith))
+decimal_whole n lt = grind (arith, decimal_digit, decimal_parts, whole_if, first_decimal)
 
 digits_whole : (ds : List ℕ) → list_all is_digit ds ≡ true → whole_digits ds ≡ true → is_whole ds ≡ true
 digits_whole ds d e = grind arith

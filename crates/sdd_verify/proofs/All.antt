@@ -11,7 +11,7 @@ pub use Rattle.sdd_script.proofs.base.ReadingLaws.{Answers, along_ok, bind_ok, f
 pub use Rattle.sdd_script.proofs.words.Numbers.{both}
 pub use Rattle.sdd_script.proofs.words.Points.{past, place_at, place_here, place_on}
 pub use Rattle.sdd_script.proofs.words.Spelled.{cut_takes, first_line as line_behind}
-pub use Rattle.sdd_script.specs.All.{AreDistinct, AreLines, Catalogue, Database, Event, Fails, FitsStart, FitsTxn, HasNoNewline, HasNoSpace, IsFrom1To, IsName, IsValid, IsValidEvent, IsValidRow, IsValidTxn, Kept, MAX_EVENTS, MAX_NAME_BYTES, Overflow, Redeclare, RelNo, Reply, Rows, Submit, Txn, TxnNo, Value, after_changes, along, begins_with_letter, cut_lines, database_of, effect, is_keyword, is_name_byte, known, must, onto, or_else, repeats, spelled_lines, tail_of, txn_no, ◌>>=◌}
+pub use Rattle.sdd_script.specs.All.{AreDistinct, AreLines, Catalogue, Database, Event, Fails, FitsStart, FitsTxn, HasNoNewline, HasNoSpace, IsFrom1To, IsName, IsValid, IsValidEvent, IsValidRow, IsValidTxn, Kept, MAX_EVENTS, Overflow, RelNo, Reply, Rows, Submit, Txn, TxnNo, Value, after_changes, along, begins_with_letter, cut_lines, database_of, effect, is_keyword, is_name_byte, known, must, onto, or_else, repeats, spelled_lines, tail_of, txn_no, ◌>>=◌}
 pub use Rattle.sdd_script.specs.base.declared.reply.Reply.TheVariants.{TooMany}
 pub use Rattle.sdd_script.specs.declared.workload.Workload.{Workload}
 pub use Rattle.sdd_verify.specs.Classes.{class_if, class_of, classes_from, classes_submitted, era_at, redeclared}
@@ -28,7 +28,7 @@ pub use Rattle.sdd_verify.specs.declared.limits.TheConstants.{MAX_REPORT_BYTES}
 pub use Rattle.sdd_verify.specs.declared.verdict.Verdict.TheVariants.{Yes}
 pub use Rattle.std.proofs.Common.{All, Bool, Bor, Equal, Err, Greater, IsTrue, Less, List, MatchOption, None, Ok, Option, Result, Some, [], ap, append-nil, append_assoc, arith, bytes_eq, codes, cond, decimal, drop, eq-eqb, eqb-true, false, filter_map, flat_map, inl, inr, is_eq, is_some, le-leb, leb-true, length, length-append, length-take-le, lt-ltb, ltb-true, map, nat_cmp, nat_eq as eqb, nat_le, nat_lt, ne_eqb, not, position, refl, rules, slice_get, slice_index_or as get_or, subst, suc, sym, take, take-append-drop, take_all, true, zero, ℕ, ◌&&◌, ◌++◌, ◌+◌, ◌-◌, ◌<◌, ◌==◌, ◌||◌, ◌∙◌, ◌∷◌, ◌≡◌, ◌≢◌, ◌≤◌, ◌⊎◌}
 pub use Rattle.std.proofs.lemmas.Bool.{cases_Bool, cases_eq}
-pub use Rattle.std.proofs.lemmas.Bool.Decides.{Decides-eqb}
+pub use Rattle.std.proofs.lemmas.Bool.Decides.{nat_tests}
 pub use Rattle.std.proofs.lemmas.List.{drop_all, drop_more, length-map, map-append, take_more}
 pub use Rattle.std.proofs.lemmas.List.Elements.{All-cons, All-head, All-nil, All-tail, filter_map-append}
 pub use Rattle.std.proofs.lemmas.List.Folds.{flat_map-map, list_all-append}

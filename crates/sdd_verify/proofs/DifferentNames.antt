@@ -1,5 +1,5 @@
 -- The names of the transactions that a valid workload submits differ.
-use Rattle.sdd_verify.proofs.All.{All, All-cons, All-head, All-nil, All-tail, AreDistinct, Catalogue, Event, IsValid, IsValidEvent, List, MatchOption, None, Option, Some, Submit, Txn, Workload, [], ap, arith, bytes_eq, false, filter_map, get_or, length, map, place_of_name, position, refl, repeats, slice_get, submitted, submitted_by, suc, sym, zero, ℕ, ◌-◌, ◌<◌, ◌∙◌, ◌∷◌, ◌≡◌, ◌≢◌, ◌≤◌}
+use Rattle.sdd_verify.proofs.All.{All, All-head, All-nil, All-tail, AreDistinct, Catalogue, Event, IsValid, IsValidEvent, List, MatchOption, None, Option, Some, Txn, Workload, [], ap, arith, at, bytes_eq, false, filter_map, get_or, length, map, nat_tests, place_of_name, position, refl, repeats, slice_get, submitted, submitted_by, suc, sym, zero, ℕ, ◌-◌, ◌<◌, ◌∙◌, ◌∷◌, ◌≡◌, ◌≢◌, ◌≤◌}
 use Rattle.sdd_verify.proofs.NamesTold.{AllDiffer}
 use Rattle.sdd_script.specs.Valid as scripts
 
@@ -16,10 +16,7 @@ record NameAt (txns : List Txn) (i : ℕ) (name : List ℕ) : Type 0 where
 name_at : (txns : List Txn) (i : ℕ) (t : Txn) → slice_get txns i ≡ Some t → NameAt txns i t.name
 name_at [] i t e = absurd cc
 name_at (txn ∷ txns) zero t e = record { is = ap (λ (u : Txn). u.name) (some_is txn t e); within = omega arith }
-name_at (txn ∷ txns) (suc i) t e =
-    let more = name_at txns i t e in
-    let within = more.within in
-    record { is = more.is; within = omega (arith, within) }
+name_at (txn ∷ txns) (suc i) t e = grind (arith, (name_at txns i t e))
 
 -- transactions of one name stand at one place
 one_place : (txns : List Txn) (i k : ℕ) (t u : Txn) → repeats (names_of txns) ≡ false
@@ -42,9 +39,6 @@ not_among : (x : ℕ) (ns : List ℕ) → ((k : ℕ) → k < length ns → get_o
 not_among x [] h = tt
 not_among x (n ∷ ns) h = (h 0 (omega arith), not_among x ns (λ k lt. h (suc k) (omega arith)))
 
-first_apart : (x : ℕ) (ns : List ℕ) → AreDistinct (x ∷ ns) → NotAmong x ns
-first_apart x ns h = not_among x ns (λ k lt e. h 0 (suc k) (omega arith) (omega arith) 0 (sym e))
-
 others_apart : (x : ℕ) (ns : List ℕ) → AreDistinct (x ∷ ns) → AreDistinct ns
 others_apart x ns h i k less within d e = h (suc i) (suc k) (omega arith) (omega arith) d e
 
@@ -53,8 +47,7 @@ abbrev Submits : List Txn → Option ℕ → Option Txn → Type 0
 Submits txns number text = MatchOption number (text ≡ None) (λ n. (text ≡ slice_get txns (n - 1)) × (1 ≤ n))
 
 submits : (cat : Catalogue) (count : ℕ) (txns : List Txn) (e : Event) → IsValidEvent cat count e → Submits txns (scripts.submitted_by e) (submitted_by txns e)
-submits cat count txns (Submit number) v = (refl, v.0)
-submits cat count txns _ v = refl
+submits cat count txns e v = grind (arith, nat_tests)
 
 module _ (cat : Catalogue) (count : ℕ) (txns : List Txn) (none : repeats (names_of txns) ≡ false) where
   abbrev Other : Txn → Txn → Type 0
@@ -63,21 +56,12 @@ module _ (cat : Catalogue) (count : ℕ) (txns : List Txn) (none : repeats (name
   abbrev IsFine : Event → Type 0
   IsFine e = IsValidEvent cat count e
 
-  differs : (x m : ℕ) (t u : Txn) → slice_get txns (x - 1) ≡ Some t → 1 ≤ x → slice_get txns (m - 1) ≡ Some u → 1 ≤ m → m ≢ x → Other t u
-  differs x m t u e least f more apart same =
-      let places : m - 1 ≡ x - 1 = one_place txns (m - 1) (x - 1) u t none f e same in
-      apart (omega (arith, places, least, more))
-
   others_by : (x : ℕ) (t : Txn) (e : Event) (events : List Event) (number : Option ℕ) (text : Option Txn) → slice_get txns (x - 1) ≡ Some t → 1 ≤ x
       → scripts.submitted_by e ≡ number → submitted_by txns e ≡ text → Submits txns number text
       → (NotAmong x (filter_map scripts.submitted_by events) → All (Other t) (filter_map (submitted_by txns) events))
       → NotAmong x (filter_map scripts.submitted_by (e ∷ events)) → All (Other t) (filter_map (submitted_by txns) (e ∷ events))
   others_by x t e events None None is least a b h later apart = let there = rw a at apart in rw b (later there)
-  others_by x t e events None (Some u) is least a b h later apart = absurd cc
-  others_by x t e events (Some m) None is least a b h later apart = let there = rw a at apart in rw b (later there.1)
-  others_by x t e events (Some m) (Some u) is least a b h later apart =
-      let there = rw a at apart in
-      rw b (All-cons (Other t) u (filter_map (submitted_by txns) events) (differs x m t u is least (sym h.0) h.1 there.0) (later there.1))
+  others_by x t e events number text is least a b h later apart = grind (arith, Other, filter_map, submitted_by, nat_tests, one_place)
 
   others_differ : (x : ℕ) (t : Txn) (events : List Event) → slice_get txns (x - 1) ≡ Some t → 1 ≤ x → All IsFine events
       → NotAmong x (filter_map scripts.submitted_by events) → All (Other t) (filter_map (submitted_by txns) events)
@@ -97,7 +81,11 @@ module _ (cat : Catalogue) (count : ℕ) (txns : List Txn) (none : repeats (name
   all_by e events (Some m) (Some u) a b h fine later apart =
       let there = rw a at apart in
       let numbers : List ℕ = filter_map scripts.submitted_by events in
-      rw b (others_differ m u events (sym h.0) h.1 fine (first_apart m numbers there), later (others_apart m numbers there))
+      rw b (
+        others_differ m u events (sym h.0) h.1 fine (not_among m numbers (λ k lt e. there 0 (suc k) (omega arith) (omega arith) 0 (sym e))),
+        later
+            (others_apart m numbers there),
+      )
 
   all_differ : (events : List Event) → All IsFine events → AreDistinct (filter_map scripts.submitted_by events)
       → AllDiffer (filter_map (submitted_by txns) events)

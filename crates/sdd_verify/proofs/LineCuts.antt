@@ -1,23 +1,15 @@
 -- The lines of texts that stand one behind the other.
-use Rattle.sdd_verify.proofs.All.{AreLines, Bool, List, [], ap, append-nil, append_assoc, cond, cut_takes, eqb, false, line_behind, lines_of, onto, refl, spelled_lines, sym, true, ℕ, ◌++◌, ◌∙◌, ◌∷◌, ◌≡◌, ◌≢◌}
+use Rattle.sdd_verify.proofs.All.{AreLines, Bool, List, [], ap, append-nil, append_assoc, arith, cond, cut_takes, eqb, line_behind, lines_of, nat_tests, onto, refl, spelled_lines, sym, ℕ, ◌++◌, ◌∙◌, ◌∷◌, ◌≡◌}
 use Rattle.sdd_script.specs.words.Lines.{cut_lines}
 
 -- lines that are ended, and what stands behind them
 pub lines_behind : (lines : List (List ℕ)) (rest : List ℕ) → AreLines lines
     → cut_lines (spelled_lines lines ++ rest) ≡ (lines ++ (cut_lines rest).0, (cut_lines rest).1)
 lines_behind [] rest h = refl
-lines_behind (line ∷ lines) rest h =
-    let more = lines_behind lines rest h.1 in
-    ap cut_lines (append_assoc line (10 ∷ spelled_lines lines) rest) ∙ line_behind line (spelled_lines lines ++ rest) h.0 ∙ rw more refl
-
--- the first line gets a byte more
-onto_lines : (c : ℕ) (cut : List (List ℕ) × List ℕ) → c ≢ 10 → AreLines cut.0 → AreLines (onto c cut).0
-onto_lines c ([], rest) other h = tt
-onto_lines c ((line ∷ lines), rest) other h = ((other, h.0), h.1)
+lines_behind (line ∷ lines) rest h = grind (arith, cut_lines, append_assoc, spelled_lines, line_behind, (lines_behind lines rest h.1))
 
 lines_by : (c : ℕ) (cut : List (List ℕ) × List ℕ) (b : Bool) → eqb c 10 ≡ b → AreLines cut.0 → AreLines (cond b ([] ∷ cut.0, cut.1) (onto c cut)).0
-lines_by c cut true e h = (tt, h)
-lines_by c cut false e h = onto_lines c cut (λ is. let t : eqb c 10 ≡ true = rw is refl in absurd cc) h
+lines_by c cut b e h = grind (arith, nat_tests)
 
 -- what is cut at newlines are lines
 pub cut_are_lines : (bytes : List ℕ) → AreLines (cut_lines bytes).0
@@ -54,8 +46,7 @@ record Ends (cut : List (List ℕ) × List ℕ) (rest : List ℕ) : Type 0 where
   is : cut ≡ (line ∷ lines, rest)
 
 ends_by : (c : ℕ) (cut : List (List ℕ) × List ℕ) (rest : List ℕ) (b : Bool) → Ends cut rest → Ends (cond b ([] ∷ cut.0, cut.1) (onto c cut)) rest
-ends_by c cut rest true h = let is = h.is in record { line = []; lines = h.line ∷ h.lines; is = rw is refl }
-ends_by c cut rest false h = let is = h.is in record { line = c ∷ h.line; lines = h.lines; is = rw is refl }
+ends_by c cut rest b h = grind (arith, nat_tests)
 
 ends : (text rest : List ℕ) → Ends (cut_lines (text ++ 10 ∷ rest)) (cut_lines rest).1
 unfolding cut_lines

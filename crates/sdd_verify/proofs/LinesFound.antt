@@ -1,5 +1,5 @@
 -- What rules that are kept tell of the lines of a report, and the other way round.
-use Rattle.sdd_verify.proofs.All.{All, All-cons, All-head, All-nil, All-tail, AreLines, Bool, Err, List, Numbered, Ok, [], ap, append_assoc, arith, bytes_eq, bytes_eq-Decides, cond, ends_replies, false, is_order_line, length, not_true, ok_is, order_line_in, passed, refl, spelled_lines, subst, sym, tells_reply, true, ℕ, ◌++◌, ◌+◌, ◌∙◌, ◌∷◌, ◌≡◌}
+use Rattle.sdd_verify.proofs.All.{All, All-cons, All-head, All-tail, AreLines, Bool, Err, List, Numbered, Ok, [], ap, append_assoc, arith, at, bytes_eq, bytes_eq-Decides, cond, ends_replies, false, is_order_line, length, nat_tests, not_true, ok_is, order_line_in, passed, refl, spelled_lines, tells_reply, true, ℕ, ◌++◌, ◌+◌, ◌∷◌, ◌≡◌}
 
 abbrev pub IsOther : List ℕ → Type 0
 IsOther line = is_order_line line ≡ false
@@ -14,10 +14,7 @@ pub record FirstOrder (number : ℕ) (lines : List (List ℕ)) (at : ℕ × List
 first_by : (number : ℕ) (line : List ℕ) (lines : List (List ℕ)) (at : ℕ × List ℕ × Numbered) (b : Bool) → is_order_line line ≡ b
     → (order_line_in (number + 1) lines ≡ Ok at → FirstOrder (number + 1) lines at)
     → cond b (Ok (number, line, (number + 1, lines))) (order_line_in (number + 1) lines) ≡ Ok at → FirstOrder number (line ∷ lines) at
-first_by number line lines at true e later h =
-    let here : ℕ × List ℕ × Numbered = (number, line, (number + 1, lines)) in
-    let same : here ≡ at = ok_is {F = ℕ} here at h in
-    subst (FirstOrder number (line ∷ lines)) same (record { before = []; others = All-nil IsOther; is = e; whole = refl })
+first_by number line lines at true e later h = grind (arith, nat_tests, ok_is, FirstOrder, IsOther)
 first_by number line lines at false e later h =
     let f = later h in
     record { before = line ∷ f.before; others = All-cons IsOther line f.before e f.others; is = f.is; whole = ap (λ (l : List (List ℕ)). line ∷ l) f.whole }
@@ -32,37 +29,23 @@ pub order_again : (number : ℕ) (before : List (List ℕ)) (line : List ℕ) (l
 order_again number [] line lines others is = let none : number + 0 ≡ number = omega arith in rw (is, none) refl
 order_again number (first ∷ before) line lines others is =
     let other = All-head IsOther first before others in
-    let more = order_again (number + 1) before line lines (All-tail IsOther first before others) is in
-    let count : number + 1 + length before ≡ number + length (first ∷ before) = omega arith in
-    rw (other, more, count) refl
+    grind (arith, nat_tests, IsOther, (order_again (number + 1) before line lines (All-tail IsOther first before others) is))
 
 -- lines that have come stand there, and then the rest
 
 passed_by : (number : ℕ) (line : List ℕ) (more : List (List ℕ)) (told : List ℕ) (lines : List (List ℕ)) (rest : Numbered) (b : Bool) → bytes_eq told line ≡ b
     → (passed (number + 1) more lines ≡ Ok rest → lines ≡ more ++ rest.1)
     → cond b (passed (number + 1) more lines) (Err number) ≡ Ok rest → told ∷ lines ≡ (line ∷ more) ++ rest.1
-passed_by number line more told lines rest true e later h =
-    let same : told ≡ line = (bytes_eq-Decides told line).0 e in
-    let behind = later h in
-    rw (same, behind) refl
-passed_by number line more told lines rest false e later h = absurd cc
+passed_by number line more told lines rest b e later h = grind (arith, nat_tests, bytes_eq-Decides)
 
 pub passed_is : (number : ℕ) (expected lines : List (List ℕ)) (rest : Numbered) → passed number expected lines ≡ Ok rest → lines ≡ expected ++ rest.1
-passed_is number [] lines rest h =
-    let here : Numbered = (number, lines) in
-    let same : here ≡ rest = ok_is {F = ℕ} here rest h in
-    ap (λ (r : Numbered). r.1) same
-passed_is number (line ∷ more) [] rest h = absurd cc
 passed_is number (line ∷ more) (told ∷ lines) rest h =
     passed_by number line more told lines rest (bytes_eq told line) refl (λ later. passed_is (number + 1) more lines rest later) h
+passed_is number expected lines rest h = grind (arith, ok_is)
 
 pub passed_again : (number : ℕ) (expected lines : List (List ℕ)) → passed number expected (expected ++ lines) ≡ Ok (number + length expected, lines)
 passed_again number [] lines = let none : number + 0 ≡ number = omega arith in rw none refl
-passed_again number (line ∷ expected) lines =
-    let same : bytes_eq line line ≡ true = (bytes_eq-Decides line line).1 refl in
-    let more = passed_again (number + 1) expected lines in
-    let count : number + 1 + length expected ≡ number + length (line ∷ expected) = omega arith in
-    rw (same, more, count) refl
+passed_again number (line ∷ expected) lines = grind (arith, bytes_eq, bytes_eq-Decides, (passed_again (number + 1) expected lines))
 
 -- a line of no reply
 pub record Follows (lines : List (List ℕ)) : Type 0 where
@@ -72,8 +55,7 @@ pub record Follows (lines : List (List ℕ)) : Type 0 where
   pub other : tells_reply next ≡ false
 
 pub follows : (lines : List (List ℕ)) → ends_replies lines ≡ true → Follows lines
-follows [] h = absurd cc
-follows (line ∷ lines) h = record { next = line; more = lines; whole = refl; other = not_true (tells_reply line) h }
+follows lines h = grind (arith, nat_tests, not_true, tells_reply)
 
 -- lines of which some stand before others
 
@@ -87,7 +69,4 @@ rest_lines (line ∷ front) rest h = rest_lines front rest h.1
 
 pub spelled_apart : (front rest : List (List ℕ)) (tail : List ℕ) → spelled_lines (front ++ rest) ++ tail ≡ spelled_lines front ++ (spelled_lines rest ++ tail)
 spelled_apart [] rest tail = refl
-spelled_apart (line ∷ front) rest tail =
-    let more = spelled_apart front rest tail in
-    append_assoc line (10 ∷ spelled_lines (front ++ rest)) tail ∙ ap (λ (l : List ℕ). line ++ 10 ∷ l) more
-    ∙ sym (append_assoc line (10 ∷ spelled_lines front) (spelled_lines rest ++ tail))
+spelled_apart (line ∷ front) rest tail = grind (arith, append_assoc, spelled_lines, (spelled_apart front rest tail))

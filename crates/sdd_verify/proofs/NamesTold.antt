@@ -1,5 +1,5 @@
 -- Names of transactions, and the numbers that they tell.
-use Rattle.sdd_verify.proofs.All.{All, All-cons, All-head, All-nil, All-tail, Answers, Bool, IsFrom1To, List, Ok, Some, Txn, TxnNo, [], along, along_ok, ap, arith, bytes_eq, bytes_eq-Decides, cases_Bool, cond, false, inl, inr, known, known_ok, length, map, named, named_from, ok_along, refl, slice_get, suc, sym, true, txn_name, txn_no, zero, ℕ, ◌+◌, ◌-◌, ◌<◌, ◌∙◌, ◌∷◌, ◌≡◌, ◌≢◌, ◌≤◌}
+use Rattle.sdd_verify.proofs.All.{All, All-cons, All-head, All-nil, All-tail, Answers, Bool, IsFrom1To, List, Ok, Some, Txn, TxnNo, [], along, along_ok, ap, arith, bytes_eq, bytes_eq-Decides, cases_Bool, cond, false, inl, inr, known, known_ok, length, map, named, named_from, nat_tests, ok_along, refl, slice_get, suc, sym, true, txn_name, txn_no, zero, ℕ, ◌+◌, ◌-◌, ◌<◌, ◌∷◌, ◌≡◌, ◌≢◌, ◌≤◌}
 use Rattle.sdd_verify.proofs.Submissions.{found_member, some_is}
 
 -- a number that a name tells is that of a transaction of this name
@@ -35,8 +35,7 @@ tells_by first txn txns name number false e later h =
 
 tells_from : (first : ℕ) (txns : List Txn) (name : List ℕ) (number : TxnNo) → named_from first txns name ≡ Some number → TellsFrom first txns name number
 tells_from first [] name number h = absurd cc
-tells_from first (txn ∷ txns) name number h =
-    tells_by first txn txns name number (bytes_eq txn.name name) refl (λ later. tells_from (first + 1) txns name number later) h
+tells_from first (txn ∷ txns) name number h = grind (arith, tells_by, bytes_eq, (tells_from (first + 1) txns name number))
 
 pub named_tells : (txns : List Txn) (name : List ℕ) (number : TxnNo) → named txns name ≡ Some number → Tells txns name number
 named_tells txns name number h =
@@ -59,18 +58,13 @@ AllDiffer (txn ∷ txns) = All (λ (u : Txn). u.name ≢ txn.name) txns × AllDi
 -- a name tells the number of its transaction
 again_from : (first : ℕ) (txns : List Txn) (place : ℕ) (t : Txn) → AllDiffer txns
     → slice_get txns place ≡ Some t → named_from first txns t.name ≡ Some (txn_no (first + place))
-again_from first [] place t apart there = absurd cc
-again_from first (txn ∷ txns) zero t apart there =
-    let is : txn ≡ t = some_is txn t there in
-    let same : bytes_eq txn.name t.name ≡ true = (bytes_eq-Decides txn.name t.name).1 (ap (λ (u : Txn). u.name) is) in
-    let none : first + 0 ≡ first = omega arith in
-    rw (same, none) refl
 again_from first (txn ∷ txns) (suc place) t apart there =
     let other : t.name ≢ txn.name = found_member (λ (u : Txn). u.name ≢ txn.name) txns place t apart.0 there in
     let differs : bytes_eq txn.name t.name ≡ false = differ txn.name t.name (λ e. other (sym e)) in
     let more = again_from (first + 1) txns place t apart.1 there in
     let count : first + 1 + place ≡ first + suc place = omega arith in
     rw (differs, more, count) refl
+again_from first txns place t apart there = grind (arith, some_is, bytes_eq, bytes_eq-Decides)
 
 pub member_at : (txns : List Txn) (place : ℕ) → place < length txns → (t : Txn) × (slice_get txns place ≡ Some t)
 member_at [] place lt = absurd (omega arith)
@@ -82,10 +76,7 @@ named_again txns number apart there =
     let from = there.0 in
     let within = there.1 in
     let member = member_at txns (number.0 - 1) (omega (arith, from, within)) in
-    let is = member.1 in
-    let name_is : txn_name txns number.0 ≡ member.0.name = rw is refl in
-    let count : 1 + (number.0 - 1) ≡ number.0 = omega (arith, from) in
-    ap (named txns) name_is ∙ again_from 1 txns (number.0 - 1) member.0 apart is ∙ ap (λ (k : ℕ). Some (txn_no k)) count
+    grind (arith, nat_tests, txn_name, named, again_from, txn_no)
 
 -- the numbers that names tell, and names that tell numbers
 

@@ -1,5 +1,5 @@
 -- The words of an order line.
-use Rattle.sdd_verify.proofs.All.{All, All-cons, All-nil, Bool, Decides-eqb, HasNoSpace, List, [], ap, append-nil, bytes_eq, bytes_eq-Decides, codes, drop, eqb, false, flat_map, inl, inr, is_order_line, join_with_byte, join_with_byte-slice_split, names_on, ne_eqb, refl, rules, slice_split_at, slice_split_none, starts_is, sym, tail_of, true, words_of, ℕ, ◌++◌, ◌||◌, ◌∙◌, ◌∷◌, ◌≡◌, ◌⊎◌}
+use Rattle.sdd_verify.proofs.All.{All, All-cons, All-nil, HasNoSpace, List, [], ap, append-nil, arith, bytes_eq, bytes_eq-Decides, codes, eqb, false, flat_map, is_order_line, join_with_byte, join_with_byte-slice_split, names_on, nat_tests, ne_eqb, refl, rules, slice_split_at, slice_split_none, starts_is, sym, tail_of, true, words_of, ℕ, ◌++◌, ◌∙◌, ◌∷◌, ◌≡◌}
 
 -- words, each behind a space
 abbrev pub behind_spaces : List (List ℕ) → List ℕ
@@ -16,9 +16,7 @@ HaveNoSpace (name ∷ names) = HasNoSpace name × HaveNoSpace names
 -- words that are put behind spaces are cut again
 pub words_again : (word : List ℕ) (names : List (List ℕ)) → HasNoSpace word → HaveNoSpace names → words_of (word ++ behind_spaces names) ≡ word ∷ names
 words_again word [] h hs = ap words_of (append-nil word) ∙ slice_split_none (λ c. eqb c 32) word (no_space word h)
-words_again word (name ∷ names) h hs =
-    slice_split_at (λ c. eqb c 32) word 32 (name ++ behind_spaces names) (no_space word h) refl
-    ∙ ap (λ (l : List (List ℕ)). word ∷ l) (words_again name names hs.0 hs.1)
+words_again word (name ∷ names) h hs = grind (arith, slice_split_at, behind_spaces, no_space, (words_again name names hs.0 hs.1))
 
 -- so the names of an order line are read again
 pub names_again : (names : List (List ℕ)) → HaveNoSpace names → names_on (codes "order" ++ behind_spaces names) ≡ names
@@ -40,17 +38,6 @@ cut_joined line word names e =
     let is : names_on line ≡ names = ap tail_of e in
     sym (join_with_byte-slice_split 32 line) ∙ ap (join_with_byte 32) e ∙ joined word names ∙ ap (λ (l : List (List ℕ)). word ++ behind_spaces l) (sym is)
 
-either : (a b : Bool) → (a || b) ≡ true → (a ≡ true) ⊎ (b ≡ true)
-either true b e = inl refl
-either false b e = inr e
-
 -- an order line is the word `order` and its names behind spaces
 pub order_line_is : (line : List ℕ) → is_order_line line ≡ true → line ≡ codes "order" ++ behind_spaces (names_on line)
-order_line_is line e =
-    elim (either (bytes_eq line (codes "order")) _ e) [
-      | inl same ↦ let is : line ≡ codes "order" = (bytes_eq-Decides line (codes "order")).0 same in cut_joined line (codes "order") [] (rw is refl)
-      | inr begins ↦
-          let rest : List ℕ = drop 6 line in
-          let is : line ≡ codes "order " ++ rest = (starts_is Decides-eqb line (codes "order ") _ refl).0 begins in
-          cut_joined line (codes "order") (words_of rest) (ap words_of is)
-    ]
+order_line_is line e = grind (arith, nat_tests, bytes_eq, bytes_eq-Decides, cut_joined, starts_is, words_of)

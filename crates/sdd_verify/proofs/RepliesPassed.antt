@@ -1,17 +1,15 @@
 -- The replies of transactions that have to come, one after the other.
-use Rattle.sdd_verify.proofs.All.{Bor, Catalogue, Database, Fails, Flaw, List, Numbered, Ok, Overflow, Reply, Result, Rows, TooMany, Txn, Value, [], after_changes, ap, append_assoc, codes, decimal, drop, drop_all, drop_more, effect, fails_bind, flat_map, get_or, length, line_in, lines_of, map, passed, queries_from, query_lines, replies, replies_on, reply_lines, row_line, subst, sym, value_bytes, ℕ, ◌++◌, ◌+◌, ◌<◌, ◌>>=◌, ◌∙◌, ◌∷◌, ◌≡◌, ◌≤◌}
+use Rattle.sdd_verify.proofs.All.{Bor, Catalogue, Database, Fails, Flaw, List, Numbered, Ok, Overflow, Reply, Result, Rows, TooMany, Txn, Value, [], after_changes, ap, append_assoc, arith, codes, decimal, drop, drop_all, drop_more, effect, fails_bind, flat_map, get_or, length, line_in, lines_of, map, nat_tests, passed, past, queries_from, query_lines, replies, replies_on, reply_lines, row_line, subst, value_bytes, ℕ, ◌++◌, ◌+◌, ◌<◌, ◌>>=◌, ◌∙◌, ◌∷◌, ◌≡◌, ◌≤◌}
 use Rattle.sdd_script.specs.words.Lines.{cut_lines}
 use Rattle.sdd_verify.proofs.LineCuts.{IsWhole, whole_append, whole_behind, whole_empty, whole_ended}
 use Rattle.sdd_verify.proofs.LinesPassed.{after_lines}
 
 -- all that is printed of replies ends its lines
 
-row_whole : (row : List Value) → IsWhole (row_line row)
-row_whole row = whole_ended (codes "row" ++ flat_map (λ v. 32 ∷ value_bytes v) row) [] whole_empty
-
 rows_whole : (rows : List (List Value)) → IsWhole (flat_map row_line rows)
 rows_whole [] = whole_empty
-rows_whole (row ∷ rows) = whole_append (row_line row) (flat_map row_line rows) (row_whole row) (rows_whole rows)
+rows_whole (row ∷ rows) =
+    whole_append (row_line row) (flat_map row_line rows) (whole_ended (codes "row" ++ flat_map (λ v. 32 ∷ value_bytes v) row) [] whole_empty) (rows_whole rows)
 
 query_whole : (number : ℕ) (rows : List (List Value)) → IsWhole (query_lines number rows)
 query_whole number rows =
@@ -48,48 +46,23 @@ first_reply number name reply others lines =
 -- the transactions that are left, the first of them apart
 module _ (cat : Catalogue) (db : Database) (txns : List (Bor Txn)) (i : ℕ) (t : Bor Txn) (reply : Reply) (number : ℕ) (lines : List (List ℕ))
     (within : i < length txns) (there : t ≡ get_or txns i t) (replied : reply ≡ (effect cat db t.now).reply) where
-  apart : passed number (lines_of (replies_on cat db (map (λ u. u.now) (drop i txns)))) lines
-      ≡ (passed number (lines_of (reply_lines t.now.name reply)) lines
-      >>= λ rest. passed rest.0
-      (lines_of (replies_on cat (after_changes cat db (effect cat db t.now).changes) (map (λ u. u.now) (drop (i + 1) txns)))) rest.1)
-  apart =
-      let next : Database = after_changes cat db (effect cat db t.now).changes in
-      let others : List Txn = map (λ (u : Bor Txn). u.now) (drop (i + 1) txns) in
-      let first : drop i txns ≡ t ∷ drop (i + 1) txns = drop_more txns i t within ∙ ap (λ (u : Bor Txn). u ∷ drop (i + 1) txns) (sym there) in
-      ap (λ (us : List (Bor Txn)). passed number (lines_of (replies_on cat db (map (λ u. u.now) us))) lines) first
-      ∙ ap (λ (r : Reply). passed number (lines_of (reply_lines t.now.name r ++ replies_on cat next others)) lines) (sym replied)
-      ∙ first_reply number t.now.name reply (replies_on cat next others) lines
-
   -- where the first reply is there, the others have to come behind it
   pub goes_on : (name : List ℕ) (now : Database) (rest : Numbered) (total : Result Numbered ℕ)
       → name ≡ t.now.name → now ≡ after_changes cat db (effect cat db t.now).changes → passed number (lines_of (reply_lines name reply)) lines ≡ Ok rest
       → passed number (lines_of (replies_on cat db (map (λ u. u.now) (drop i txns)))) lines ≡ total
       → passed rest.0 (lines_of (replies_on cat now (map (λ u. u.now) (drop (i + 1) txns)))) rest.1 ≡ total
   goes_on name now rest total same is passes so_far =
-      let here : passed number (lines_of (reply_lines t.now.name reply)) lines ≡ Ok rest =
-      ap (λ (n : List ℕ). passed number (lines_of (reply_lines n reply)) lines) (sym same) ∙ passes in
-      let next : Database = after_changes cat db (effect cat db t.now).changes in
-      ap (λ (d : Database). passed rest.0 (lines_of (replies_on cat d (map (λ u. u.now) (drop (i + 1) txns)))) rest.1) is
-      ∙ sym (apart ∙ ap (λ (r : Result Numbered ℕ). r >>=
-      λ more. passed more.0 (lines_of (replies_on cat next (map (λ u. u.now) (drop (i + 1) txns))))
-      more.1) here) ∙ so_far
+      grind (arith, nat_tests, passed, lines_of, reply_lines, after_changes, effect, replies_on, drop_more, first_reply)
 
   -- where it isn't, its fault is that of all
   pub fails : (e : Flaw) (name : List ℕ) (total : Result Numbered ℕ) → name ≡ t.now.name
       → Fails line_in e (passed number (lines_of (reply_lines name reply)) lines)
       → passed number (lines_of (replies_on cat db (map (λ u. u.now) (drop i txns)))) lines ≡ total → Fails line_in e total
   fails e name total same breaks so_far =
-      let P : Result Numbered ℕ → Type 0 = λ r. Fails line_in e r in
-      let next : Database = after_changes cat db (effect cat db t.now).changes in
-      let more : Numbered → Result Numbered ℕ = λ rest. passed rest.0 (lines_of (replies_on cat next (map (λ u. u.now) (drop (i + 1) txns)))) rest.1 in
-      let here : Fails line_in e (passed number (lines_of (reply_lines t.now.name reply)) lines) =
-      subst (λ (n : List ℕ). Fails line_in e (passed number (lines_of (reply_lines n reply)) lines)) same
-      breaks in
-      subst P (sym apart ∙ so_far) (fails_bind line_in e (passed number (lines_of (reply_lines t.now.name reply)) lines) more here)
+      grind (arith, nat_tests, line_in, after_changes, effect, passed, lines_of, replies_on, reply_lines, drop_more, first_reply, fails_bind)
 
 -- where no transaction is left, nothing has to come
 pub none_left : (cat : Catalogue) (db : Database) (txns : List (Bor Txn)) (i number : ℕ) (lines : List (List ℕ)) (total : Result Numbered ℕ) → length txns ≤ i
     → passed number (lines_of (replies_on cat db (map (λ u. u.now) (drop i txns)))) lines ≡ total → total ≡ Ok (number, lines)
 unfolding cut_lines
-none_left cat db txns i number lines total past so_far =
-    sym so_far ∙ ap (λ (us : List (Bor Txn)). passed number (lines_of (replies_on cat db (map (λ u. u.now) us))) lines) (drop_all i txns past)
+none_left cat db txns i number lines total past so_far = grind (arith, nat_tests, passed, lines_of, replies_on, drop_all)

@@ -1,5 +1,5 @@
 -- The transactions that are submitted, event by event, and those that an order names.
-use Rattle.sdd_verify.proofs.All.{All, All-cons, All-head, All-nil, All-tail, Bor, Catalogue, Event, FitsStart, FitsTxn, IsValid, IsValidRow, IsValidTxn, List, MAX_EVENTS, None, Option, RelNo, Some, Submit, Txn, TxnNo, Value, Workload, [], arith, filter_map, filter_map-append, get_or, length, length-map, map, refl, slice_get, submitted, submitted_by, subst, suc, sym, take, take_more, texts_of, txn_of, zero, ℕ, ◌++◌, ◌+◌, ◌-◌, ◌<◌, ◌∷◌, ◌≡◌, ◌≤◌}
+use Rattle.sdd_verify.proofs.All.{All, All-cons, All-head, All-nil, All-tail, Bor, Catalogue, Event, FitsStart, FitsTxn, IsValid, IsValidRow, IsValidTxn, List, MAX_EVENTS, Option, RelNo, Some, Submit, Txn, TxnNo, Value, Workload, [], arith, filter_map, filter_map-append, get_or, length, length-map, map, nat_tests, refl, slice_get, submitted, submitted_by, subst, suc, take, take_more, texts_of, txn_of, zero, ℕ, ◌++◌, ◌+◌, ◌-◌, ◌<◌, ◌∷◌, ◌≡◌, ◌≤◌}
 
 -- what a list gives that goes on by one member
 pub filter_map_more : {A B : Type 0} (f : A → Option B) (xs : List A) (i : ℕ) (d : A) → i < length xs
@@ -20,8 +20,7 @@ texts_more txns order i d within = filter_map_more (txn_of txns) order i d withi
 -- no more are given than there are members
 given_length : {A B : Type 0} (f : A → Option B) (x : A) (xs : List A) (o : Option B) → f x ≡ o
     → length (filter_map f xs) ≤ length xs → length (filter_map f (x ∷ xs)) ≤ length (x ∷ xs)
-given_length f x xs None e h = rw e (omega (arith, h))
-given_length f x xs (Some y) e h = rw e (omega (arith, h))
+given_length f x xs o e h = grind (arith, nat_tests)
 
 filter_map_length : {A B : Type 0} (f : A → Option B) (xs : List A) → length (filter_map f xs) ≤ length xs
 filter_map_length f [] = omega arith
@@ -31,10 +30,7 @@ pub few_submitted : (work : Workload) → length work.events ≤ MAX_EVENTS → 
 few_submitted work few = let most = filter_map_length (submitted_by work.txns) work.events in omega (arith, few, most)
 
 pub few_lent : (work : Workload) (txns : List (Bor Txn)) → length work.events ≤ MAX_EVENTS → map (λ t. t.now) txns ≡ submitted work → length txns ≤ MAX_EVENTS
-few_lent work txns few is =
-    let all = few_submitted work few in
-    let same : length txns ≡ length (submitted work) = rw (← is) (sym (length-map txns (λ (t : Bor Txn). t.now))) in
-    omega (arith, all, same)
+few_lent work txns few is = grind (arith, nat_tests, few_submitted, submitted, length-map)
 
 pub some_is : {A : Type 0} (x y : A) → Some x ≡ Some y → x ≡ y
 some_is x y e = cc
@@ -49,8 +45,7 @@ found_member P (y ∷ xs) (suc i) x all is = found_member P xs i x (All-tail P y
 
 given_more : {A B : Type 0} (f : A → Option B) (P : B → Type 0) (x : A) (xs : List A) (o : Option B)
     → f x ≡ o → ((y : B) → o ≡ Some y → P y) → All P (filter_map f xs) → All P (filter_map f (x ∷ xs))
-given_more f P x xs None e each h = rw e h
-given_more f P x xs (Some y) e each h = rw e (All-cons P y (filter_map f xs) (each y refl) h)
+given_more f P x xs o e each h = grind (arith, nat_tests, filter_map)
 
 all_given : {A B : Type 0} (f : A → Option B) (P : B → Type 0) (xs : List A) → ((x : A) (y : B) → f x ≡ Some y → P y) → All P (filter_map f xs)
 all_given f P [] each = All-nil P

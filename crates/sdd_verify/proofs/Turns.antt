@@ -1,10 +1,6 @@
 -- Orders in which each transaction may stand behind those before it, one transaction more.
-use Rattle.sdd_verify.proofs.All.{Bool, Equal, Greater, Less, List, None, Option, Some, TxnNo, [], allows, ap, append-nil, append_assoc, arith, both, cases_Bool, cases_eq, class_of, cond, drop, eq-eqb, eqb-true, false, get_or, inl, inr, is_at, is_eq, is_in_turn, length, list_all, list_all-append, lt-ltb, ltb-true, may_follow, nat_cmp, nat_cmp_is, nat_lt, ne_eqb, not, or_else, refl, subst, suc, sym, take, take-append-drop, take_more, true, zero, ℕ, ◌&&◌, ◌++◌, ◌+◌, ◌<◌, ◌==◌, ◌||◌, ◌∙◌, ◌∷◌, ◌≡◌, ◌⊎◌}
+use Rattle.sdd_verify.proofs.All.{Bool, Equal, Greater, Less, List, None, Option, Some, TxnNo, [], allows, ap, append-nil, append_assoc, arith, both, cases_Bool, cases_eq, class_of, cond, drop, eq-eqb, eqb-true, false, get_or, inl, inr, is_at, is_eq, is_in_turn, length, list_all, list_all-append, lt-ltb, ltb-true, may_follow, nat_cmp, nat_cmp_is, nat_lt, nat_tests, ne_eqb, not, or_else, refl, subst, suc, sym, take, take-append-drop, take_more, true, zero, ℕ, ◌&&◌, ◌++◌, ◌+◌, ◌<◌, ◌==◌, ◌||◌, ◌∙◌, ◌∷◌, ◌≡◌, ◌⊎◌}
 use Rattle.sdd_verify.proofs.DifferentNames.{some_is}
-
-and_true : (a : Bool) → (a && true) ≡ a
-and_true true = refl
-and_true false = refl
 
 -- whether a key is another number
 pub is_at_number : (k n : ℕ) → is_at (nat_cmp k) n ≡ (k == n)
@@ -23,9 +19,6 @@ is_at_number k n =
     less_or_greater (suc m) zero d = inr (omega arith)
     less_or_greater (suc m) (suc n) d = elim (less_or_greater m n (λ e. d (ap suc e))) [ inl l ↦ inl (omega arith) | inr l ↦ inr (omega arith) ]
 
-same_number : (m n : TxnNo) → m.0 ≡ n.0 → m ≡ n
-same_number m n e = ap (λ (k : ℕ). let t : TxnNo = record { 0 = k } in t) e
-
 module _ (classes : List ℕ) where
   abbrev Class : TxnNo → ℕ
   Class n = class_of classes n
@@ -33,15 +26,7 @@ module _ (classes : List ℕ) where
   -- that it is another one need not be asked
   follows_by_class : (m n : TxnNo) (same class less : Bool) → (m.0 == n.0) ≡ same → (Class m == Class n) ≡ class → nat_lt m.0 n.0 ≡ less
       → (not same && (not class || less)) ≡ (not class || less)
-  follows_by_class m n true true true e f g = let is = eqb-true m.0 n.0 e in let lt : m.0 < n.0 = ltb-true m.0 n.0 g in absurd (omega arith)
-  follows_by_class m n true false less e f g =
-      let is = same_number m n (eqb-true m.0 n.0 e) in
-      let one : (Class m == Class n) ≡ true = eq-eqb (Class m) (Class n) (ap Class is) in
-      absurd cc
-  follows_by_class m n _ _ _ e f g = refl
-
-  by_class : (m n : TxnNo) → may_follow classes m n ≡ (not (Class m == Class n) || nat_lt m.0 n.0)
-  by_class m n = follows_by_class m n (m.0 == n.0) (Class m == Class n) (nat_lt m.0 n.0) refl refl refl
+  follows_by_class m n same class less e f g = grind (arith, nat_tests, eqb-true, ltb-true, Class, eq-eqb)
 
   -- the last of a class
   abbrev pub last_of : ℕ → List TxnNo → Option ℕ
@@ -50,19 +35,12 @@ module _ (classes : List ℕ) where
 
   -- one more at the end
 
-  or_again : (a b d : Option ℕ) → or_else (or_else a b) d ≡ or_else a (or_else b d)
-  or_again None b d = refl
-  or_again (Some x) b d = refl
-
   or_none : (a : Option ℕ) → or_else a None ≡ a
-  or_none None = refl
-  or_none (Some x) = refl
+  or_none a = grind (arith, nat_tests)
 
   pub last_more : (c : ℕ) (order : List TxnNo) (n : TxnNo) → last_of c (order ++ n ∷ []) ≡ or_else (cond (Class n == c) (Some n.0) None) (last_of c order)
   last_more c [] n = sym (or_none (cond (Class n == c) (Some n.0) None))
-  last_more c (m ∷ order) n =
-      let more = last_more c order n in
-      rw more (or_again (cond (Class n == c) (Some n.0) None) (last_of c order) (cond (Class m == c) (Some m.0) None))
+  last_more c (m ∷ order) n = grind (arith, nat_tests, Class, last_of, (last_more c order n))
 
   pub turn_more : (order : List TxnNo) (n : TxnNo)
       → is_in_turn classes (order ++ n ∷ []) ≡ (is_in_turn classes order && list_all
@@ -84,56 +62,29 @@ module _ (classes : List ℕ) where
 
   last_by : (c p : ℕ) (m n : TxnNo) (class : Bool) (rest : Option ℕ) → (Class n == c) ≡ class → may_follow classes m n ≡ true → Class m ≡ c
       → (rest ≡ Some p → m.0 < p) → or_else rest (cond class (Some n.0) None) ≡ Some p → m.0 < p
-  last_by c p m n class (Some q) e f is above g = above g
-  last_by c p m n false None e f is above g = absurd cc
-  last_by c p m n true None e f is above g =
-      let here : n.0 ≡ p = some_is n.0 p g in
-      let one : (Class m == Class n) ≡ true = eq-eqb (Class m) (Class n) (is ∙ sym (eqb-true (Class n) c e)) in
-      let lt : nat_lt m.0 n.0 ≡ true = rw one at (sym (by_class m n) ∙ f) in
-      subst (λ (k : ℕ). m.0 < k) here (ltb-true m.0 n.0 lt)
+  last_by c p m n class rest e f is above g = grind (arith, nat_tests, some_is, Class, eq-eqb, eqb-true, nat_lt, follows_by_class, ltb-true)
 
   last_above : (c p : ℕ) (m : TxnNo) (order : List TxnNo) → list_all (may_follow classes m) order ≡ true → Class m ≡ c → last_of c order ≡ Some p → m.0 < p
   last_above c p m [] h is e = absurd cc
-  last_above c p m (n ∷ order) h is e =
-      let parts = both (may_follow classes m n) (list_all (may_follow classes m) order) h in
-      last_by c p m n (Class n == c) (last_of c order) refl parts.0 is (λ there. last_above c p m order parts.1 is there) e
+  last_above c p m (n ∷ order) h is e = grind (arith, both, may_follow, list_all, last_by, Class, last_of, (last_above c p m order))
 
   -- so it alone is to be compared
 
   compared : (c : ℕ) (m n : TxnNo) (class less : Bool) (rest : Option ℕ) → Class n ≡ c → (Class m == c) ≡ class → nat_lt m.0 n.0 ≡ less
       → ((p : ℕ) → rest ≡ Some p → class ≡ true → m.0 < p) → ((not class || less) && allows rest n.0) ≡ allows (or_else rest (cond class (Some m.0) None)) n.0
-  compared c m n false less (Some q) is e f above = refl
-  compared c m n true false (Some q) is e f above =
-      let lt = above q refl refl in
-      elim (cases_Bool (nat_lt q n.0)) [
-        | inl y ↦ let past : q < n.0 = ltb-true q n.0 y in let less : nat_lt m.0 n.0 ≡ true = lt-ltb m.0 n.0 (omega arith) in absurd cc
-        | inr far ↦ sym far
-      ]
-  compared c m n true less None is e f above = and_true less ∙ sym f
-  compared c m n _ _ _ is e f above = refl
+  compared c m n class less rest is e f above = grind (arith, cases_Bool, nat_lt, ltb-true, lt-ltb, nat_tests)
 
   pub followed : (order : List TxnNo) (n : TxnNo) → is_in_turn classes order ≡ true
       → list_all (λ m. may_follow classes m n) order ≡ allows (last_of (Class n) order) n.0
   followed [] n h = refl
   followed (m ∷ order) n h =
-      let parts = both (list_all (may_follow classes m) order) (is_in_turn classes order) h in
-      let more = followed order n parts.1 in
-      let here = by_class m n in
-      rw (here, more) (compared (Class n) m n (Class m == Class n) (nat_lt m.0 n.0) (last_of (Class n) order) refl refl refl
-      (λ p there class. last_above (Class n) p m order parts.0 (eqb-true (Class m) (Class n) class) there))
+      grind (arith, both, list_all, may_follow, is_in_turn, follows_by_class, compared, Class, nat_lt, last_of, last_above, eqb-true, (followed order n))
 
   -- an order that isn't in turn from the front isn't
 
-  and_false : (a b : Bool) → a ≡ false → (a && b) ≡ false
-  and_false a b e = rw e refl
-
   pub never_in_turn : (order rest : List TxnNo) → is_in_turn classes order ≡ false → is_in_turn classes (order ++ rest) ≡ false
   never_in_turn order [] h = rw append-nil h
-  never_in_turn order (n ∷ rest) h =
-      let more : is_in_turn classes (order ++ n ∷ []) ≡ false =
-      turn_more order n ∙ and_false (is_in_turn classes order) (list_all (λ m. may_follow classes m n) order) h in
-      let all : (order ++ n ∷ []) ++ rest ≡ order ++ n ∷ rest = append_assoc order (n ∷ []) rest in
-      subst (λ (l : List TxnNo). is_in_turn classes l ≡ false) all (never_in_turn (order ++ n ∷ []) rest more)
+  never_in_turn order (n ∷ rest) h = grind (arith, is_in_turn, turn_more, list_all, may_follow, append_assoc, (never_in_turn (order ++ n ∷ []) rest))
 
   -- one step of the loop
 
@@ -146,8 +97,7 @@ module _ (classes : List ℕ) where
       → is_in_turn classes (take (i + 1) order) ≡ allows (kept (Class (get_or order i d))) (get_or order i d).0
   turn_at order i d kept lt so_far last =
       let n : TxnNo = get_or order i d in
-      let one : list_all (λ m. may_follow classes m n) (take i order) ≡ allows (kept (Class n)) n.0 =
-      followed (take i order) n so_far ∙ ap (λ (o : Option ℕ). allows o n.0) (sym (last (Class n))) in
+      let one : list_all (λ m. may_follow classes m n) (take i order) ≡ allows (kept (Class n)) n.0 = grind (arith, nat_tests, followed, allows, Class) in
       ap (is_in_turn classes) (take_more order i d lt) ∙ turn_more (take i order) n ∙ rw (so_far, one) refl
 
   -- one that may not stand there
@@ -156,21 +106,14 @@ module _ (classes : List ℕ) where
       → allows (kept class) (get_or order i d).0 ≡ false → is_in_turn classes order ≡ false
   stops order i d class kept lt is so_far last refused =
       let n : TxnNo = get_or order i d in
-      let turn : is_in_turn classes (take (i + 1) order) ≡ false = turn_at order i d kept lt so_far last
-      ∙ ap (λ (c : ℕ). allows (kept c) n.0) (sym is) ∙ refused in
+      let turn : is_in_turn classes (take (i + 1) order) ≡ false = grind (arith, nat_tests, turn_at, allows) in
       subst (λ (l : List TxnNo). is_in_turn classes l ≡ false) (take-append-drop (i + 1) order) (never_in_turn (take (i + 1) order) (drop (i + 1) order) turn)
 
   -- one that may stand there
   pub goes_on : (order : List TxnNo) (i : ℕ) (d : TxnNo) (class : ℕ) (kept : ℕ → Option ℕ) → i < length order → class ≡ Class (get_or order i d)
       → is_in_turn classes (take i order) ≡ true → AreLast kept (take i order)
       → allows (kept class) (get_or order i d).0 ≡ true → is_in_turn classes (take (i + 1) order) ≡ true
-  goes_on order i d class kept lt is so_far last allowed =
-      turn_at order i d kept lt so_far last ∙ ap (λ (c : ℕ). allows (kept c) (get_or order i d).0) (sym is) ∙ allowed
-
-  last_now : (class c : ℕ) (n : TxnNo) (b : Bool) (rest : Option ℕ) → (class == c) ≡ b → class ≡ Class n
-      → cond b (Some n.0) rest ≡ or_else (cond (Class n == c) (Some n.0) None) rest
-  last_now class c n true rest e is = let here : (Class n == c) ≡ true = rw (← is) e in rw here refl
-  last_now class c n false rest e is = let here : (Class n == c) ≡ false = rw (← is) e in rw here refl
+  goes_on order i d class kept lt is so_far last allowed = grind (arith, nat_tests, turn_at, allows, get_or)
 
   -- and it is the last of its class
   pub last_at : (order : List TxnNo) (i : ℕ) (d : TxnNo) (class : ℕ) (kept new : ℕ → Option ℕ) → i < length order → class ≡ Class (get_or order i d)
@@ -179,4 +122,4 @@ module _ (classes : List ℕ) where
       let n : TxnNo = get_or order i d in
       let before : Option ℕ = last_of c (take i order) in
       updates c ∙ ap (λ (b : Bool). cond b (Some n.0) (kept c)) (is_at_number class c) ∙ ap (λ (o : Option ℕ). cond (class == c) (Some n.0) o) (last c)
-      ∙ last_now class c n (class == c) before refl is ∙ sym (ap (last_of c) (take_more order i d lt) ∙ last_more c (take i order) n)
+      ∙ (grind (arith, nat_tests, Class)) ∙ sym (ap (last_of c) (take_more order i d lt) ∙ last_more c (take i order) n)

@@ -1,5 +1,5 @@
 -- A report is judged to be sound exactly where it is verified.
-use Rattle.sdd_verify.proofs.All.{All, All-head, All-tail, AreLines, Bool, Catalogue, Err, HasNoNewline, HasNoSpace, IsInTurn, IsName, IsValid, IsValidTxn, IsVerified, List, MAX_NAME_BYTES, MAX_REPORT_BYTES, Numbered, Ok, Result, Txn, TxnNo, Workload, Yes, [], along, ap, append_assoc, arith, begins_with_letter, bind_ok, both, classes_submitted, codes, cond, cut_lines, cut_takes, ends_replies, false, flat_map-map, is_in_turn, is_keyword, is_name_byte, is_order_line, judged, known, le-leb, leb-true, length, line_behind, lines_of, list_all, map, must, must_ok, named, names_on, nat_le, no_newline-append, not, numbered_lines, ok_is, order_line, order_line_in, order_told, passed, refl, rules, serial_replies, spelled_lines, submitted, subst, sym, tells_reply, texts_of, true, verdict, verdict_of, ℕ, ◌&&◌, ◌++◌, ◌+◌, ◌-◌, ◌>>=◌, ◌∙◌, ◌∷◌, ◌≡◌, ◌≢◌, ◌≤◌}
+use Rattle.sdd_verify.proofs.All.{All, All-head, All-tail, AreLines, Bool, Catalogue, Err, HasNoNewline, HasNoSpace, IsInTurn, IsName, IsValid, IsValidTxn, IsVerified, List, MAX_REPORT_BYTES, Numbered, Ok, Result, Txn, TxnNo, Workload, Yes, [], along, ap, append_assoc, arith, begins_with_letter, bind_ok, both, classes_submitted, codes, cond, cut_lines, cut_takes, ends_replies, false, flat_map-map, is_in_turn, is_keyword, is_name_byte, is_order_line, judged, known, le-leb, leb-true, length, line_behind, lines_of, list_all, map, must, must_ok, named, names_on, nat_le, nat_tests, no_newline-append, numbered_lines, ok_is, order_line, order_line_in, order_told, passed, refl, rules, serial_replies, spelled_lines, submitted, subst, sym, tells_reply, texts_of, true, verdict, verdict_of, ℕ, ◌++◌, ◌+◌, ◌-◌, ◌>>=◌, ◌∙◌, ◌∷◌, ◌≡◌, ◌≢◌, ◌≤◌}
 use Rattle.sdd_verify.proofs.DifferentNames.{submitted_differ}
 use Rattle.sdd_verify.proofs.InTurn.{in_turn, in_turn_again}
 use Rattle.sdd_verify.proofs.LineCuts.{IsWhole, cut_are_lines, lines_behind, whole_behind, whole_is}
@@ -15,13 +15,7 @@ words_in txns order = codes "order" ++ behind_spaces (map (name_in txns) order)
 
 -- which the line of the order spells, and ends
 line_is : (txns : List Txn) (order : List TxnNo) (rest : List ℕ) → order_line txns order ++ rest ≡ words_in txns order ++ 10 ∷ rest
-line_is txns order rest =
-    let words : List ℕ = behind_spaces (map (name_in txns) order) in
-    let same : order_line txns order ≡ codes "order" ++ (words ++ 10 ∷ []) = simp flat_map-map in
-    ap (λ (l : List ℕ). l ++ rest) same
-    ∙ append_assoc (codes "order") (words ++ 10 ∷ []) rest
-    ∙ ap (λ (w : List ℕ). codes "order" ++ w) (append_assoc words (10 ∷ []) rest)
-    ∙ sym (append_assoc (codes "order") words (10 ∷ rest))
+line_is txns order rest = grind (arith, nat_tests, behind_spaces, name_in, order_line, flat_map-map, append_assoc)
 
 -- names hold no space and no newline
 
@@ -30,15 +24,10 @@ not_it c k other e same = let q : is_name_byte c ≡ is_name_byte k = ap is_name
 
 bytes_fine : (bytes : List ℕ) → list_all is_name_byte bytes ≡ true → HasNoSpace bytes × HasNoNewline bytes
 bytes_fine [] e = (tt, tt)
-bytes_fine (c ∷ bytes) e =
-    let h = both (is_name_byte c) (list_all is_name_byte bytes) e in
-    let more = bytes_fine bytes h.1 in
-    ((not_it c 32 refl h.0, more.0), (not_it c 10 refl h.0, more.1))
+bytes_fine (c ∷ bytes) e = grind (arith, both, is_name_byte, list_all, not_it, (bytes_fine bytes))
 
 named_bytes : (name : List ℕ) → IsName name → list_all is_name_byte name ≡ true
-named_bytes name h =
-    let front : Bool = begins_with_letter name && nat_le (length name) MAX_NAME_BYTES in
-    (both front (list_all is_name_byte name) (both (front && list_all is_name_byte name) (not (is_keyword name)) h).0).1
+named_bytes name h = grind (arith, nat_tests, begins_with_letter, nat_le, both, list_all, is_name_byte, is_keyword)
 
 pub name_line : (name : List ℕ) → IsName name → HasNoNewline name
 name_line name h = (bytes_fine name (named_bytes name h)).1
@@ -62,8 +51,7 @@ begun_if b report = cond b (Ok (1, lines_of report)) (Err 0)
 
 begun_by : (report : List ℕ) (whole : Numbered) (b : Bool) → nat_le (length report) MAX_REPORT_BYTES ≡ b → begun_if b report ≡ Ok whole
     → (length report ≤ MAX_REPORT_BYTES) × (whole ≡ (1, lines_of report))
-begun_by report whole true e h = let all : Numbered = (1, lines_of report) in (leb-true (length report) MAX_REPORT_BYTES e, sym (ok_is {F = ℕ} all whole h))
-begun_by report whole false e h = absurd cc
+begun_by report whole b e h = grind (arith, nat_tests, lines_of, leb-true, ok_is)
 
 begun_is : (report : List ℕ) (whole : Numbered) → numbered_lines report ≡ Ok whole → (length report ≤ MAX_REPORT_BYTES) × (whole ≡ (1, lines_of report))
 begun_is report whole h = begun_by report whole (nat_le (length report) MAX_REPORT_BYTES) refl h
@@ -111,10 +99,7 @@ module _ (cat : Catalogue) (work : Workload) (report : List ℕ) where
       let b = bind_ok (must number (is_in_turn Classes a.0)) (λ _. Ok a.0) order a.2 in
       let same : a.0 ≡ order = ok_is {F = ℕ} a.0 order b.2 in
       let told = all_told number texts 0 (names_on line) a.0 a.1 in
-      let turn = must_ok number (is_in_turn Classes a.0) b.0 b.1 in
-      let words : line ≡ words_in texts a.0 = order_line_is line is ∙ ap (λ (l : List (List ℕ)). codes "order" ++ behind_spaces l) told.0 in
-      let P : List TxnNo → Type 0 = λ o. (line ≡ words_in texts o) × All (IsThere texts) o × (is_in_turn Classes o ≡ true) in
-      subst P same (words, told.1, turn)
+      grind (arith, nat_tests, must_ok, is_in_turn, Classes, words_in, texts, order_line_is, behind_spaces, IsThere)
 
   sound : (u : Unit {0}) → judged cat work report ≡ Ok u → Sound cat work report
   sound u h =
@@ -126,20 +111,7 @@ module _ (cat : Catalogue) (work : Workload) (report : List ℕ) where
       let first = first_order a.0.0 a.0.1 b.0 b.1 in
       let told = told_by b.0.0 b.0.1 c.0 first.is c.1 in
       let next = follows d.0.1 (must_ok d.0.0 (ends_replies d.0.1) u d.2) in
-      record {
-        small = whole.0;
-        order = c.0;
-        there = told.1;
-        turn = told.2;
-        before = first.before;
-        others = first.others;
-        next = next.next;
-        other = next.other;
-        more = next.more;
-        lines_are = lines_parted a.0.1 (lines_of report) first.before b.0.1 (words_in texts c.0) b.0.2.1
-            (lines_of (serial_replies cat work c.0)) d.0.1 next.next next.more
-            (ap (λ (w : Numbered). w.1) whole.1) first.whole told.0 (passed_is b.0.2.0 (lines_of (serial_replies cat work c.0)) b.0.2.1 d.0 d.1) next.whole;
-      }
+      grind (arith, nat_tests, lines_parted, lines_of, words_in, texts, serial_replies, passed_is)
 
   -- and so the report is verified
   verified_by : Sound cat work report → IsVerified cat work report
@@ -153,12 +125,9 @@ module _ (cat : Catalogue) (work : Workload) (report : List ℕ) where
       let behind : AreLines (lines_of answers ++ s.next ∷ s.more) = (rest_lines s.before (line ∷ (lines_of answers ++ s.next ∷ s.more)) lines).1 in
       let next : List ℕ = s.next ++ 10 ∷ ended in
       let spelled : spelled_lines (lines_of answers ++ s.next ∷ s.more) ++ tail ≡ answers ++ next =
-      spelled_apart (lines_of answers) (s.next ∷ s.more) tail
-      ∙ ap (λ (l : List ℕ). l ++ (spelled_lines (s.next ∷ s.more) ++ tail)) (sym (whole_is answers whole))
-      ∙ ap (λ (l : List ℕ). answers ++ l) (append_assoc s.next (10 ∷ spelled_lines s.more) tail) in
+      grind (arith, nat_tests, spelled_apart, lines_of, spelled_lines, whole_is, append_assoc) in
       let of_order : spelled_lines (line ∷ (lines_of answers ++ s.next ∷ s.more)) ++ tail ≡ order_line texts s.order ++ (answers ++ next) =
-      append_assoc line (10 ∷ spelled_lines (lines_of answers ++ s.next ∷ s.more)) tail
-      ∙ ap (λ (l : List ℕ). line ++ 10 ∷ l) spelled ∙ sym (line_is texts s.order (answers ++ next)) in
+      grind (arith, nat_tests, append_assoc, spelled_lines, lines_of, line_is, texts) in
       record {
         small = s.small;
         order = s.order;
@@ -176,8 +145,7 @@ module _ (cat : Catalogue) (work : Workload) (report : List ℕ) where
       }
 
   judged_yes : (r : Result (Unit {0}) ℕ) → verdict_of r ≡ Yes → (u : Unit {0}) × (r ≡ Ok u)
-  judged_yes (Ok u) h = (u, refl)
-  judged_yes (Err number) h = absurd cc
+  judged_yes r h = grind (arith, nat_tests)
 
   pub yes_verified : verdict cat work report ≡ Yes → IsVerified cat work report
   yes_verified h = let j = judged_yes (judged cat work report) h in verified_by (sound j.0 j.1)
@@ -206,20 +174,28 @@ module _ (cat : Catalogue) (work : Workload) (report : List ℕ) where
       ap lines_of v.text_is ∙ ap First (lines_behind v.before (order_line texts v.order ++ (answers ++ next)) v.before_lines)
       ∙ ap (λ (l : List (List ℕ)). v.before ++ l)
       (ap lines_of (line_is texts v.order (answers ++ next)) ∙ ap First (line_behind words (answers ++ next) line)
-      ∙ ap (λ (l : List (List ℕ)). words ∷ l) (ap First (whole_behind answers next whole)
-      ∙ ap (λ (l : List (List ℕ)). lines_of answers ++ l) (ap First (line_behind v.next v.rest v.next_line))))
+      ∙ ap (λ (l : List (List ℕ)). words ∷ l) (grind (arith, nat_tests, whole_behind, lines_of, line_behind)))
 
   order_told_again : (number : ℕ) (order : List TxnNo) → IsValid cat work → All (IsThere texts) order
       → IsInTurn Classes order → HaveNoSpace (map (name_in texts) order) → order_told texts Classes number (words_in texts order) ≡ Ok order
-  order_told_again number order valid there turn fine =
-      let words : List (List ℕ) = map (name_in texts) order in
-      let Rest : Result (List TxnNo) ℕ → Result (List TxnNo) ℕ = λ r. r >>= λ found. must number (is_in_turn Classes found) >>= λ _. Ok found in
-      let are : names_on (words_in texts order) ≡ words = names_again words fine in
-      let told : along (λ _ name. known number (named texts name)) 0 words ≡ Ok order =
-      told_again number texts 0 order (submitted_differ cat work valid) there in
-      let turned : is_in_turn Classes order ≡ true = in_turn_again Classes order turn in
-      ap (λ (l : List (List ℕ)). Rest (along (λ _ name. known number (named texts name)) 0 l)) are ∙ ap Rest told
-      ∙ ap (λ (b : Bool). must number b >>= λ _. Ok order) turned
+  order_told_again number order valid there turn fine = grind (
+    arith,
+    nat_tests,
+    name_in,
+    texts,
+    must,
+    is_in_turn,
+    Classes,
+    names_on,
+    words_in,
+    names_again,
+    along,
+    known,
+    named,
+    told_again,
+    submitted_differ,
+    in_turn_again,
+  )
 
   judged_again : IsValid cat work → IsVerified cat work report → judged cat work report ≡ Ok tt
   judged_again valid v =
@@ -232,15 +208,23 @@ module _ (cat : Catalogue) (work : Workload) (report : List ℕ) where
       let lines = lines_again v (line_fine v.order names_are.1) in
       let found : order_line_in 1 (v.before ++ words ∷ behind) ≡ Ok (number, words, (number + 1, behind)) =
       order_again 1 v.before words behind v.before_order (is_order_line_again (map (name_in texts) v.order)) in
-      let told : order_told texts Classes number words ≡ Ok v.order = order_told_again number v.order valid v.are_submitted v.in_turn names_are.0 in
-      let came : passed (number + 1) (lines_of answers) behind ≡ Ok (number + 1 + length (lines_of answers), v.next ∷ lines_of v.rest) =
-      passed_again (number + 1) (lines_of answers) (v.next ∷ lines_of v.rest) in
-      let other = v.next_other in
-      let last : must (number + 1 + length (lines_of answers)) (ends_replies (v.next ∷ lines_of v.rest)) ≡ Ok tt = rw other refl in
-      ap (λ (r : Result Numbered ℕ). r >>= After1) all ∙ ap (λ (l : List (List ℕ)). order_line_in 1 l >>= After2) lines
-      ∙ ap (λ (r : Result (ℕ × List ℕ × Numbered) ℕ). r >>= After2) found
-      ∙ ap (λ (r : Result (List TxnNo) ℕ). r >>= λ order. After3 order (number + 1) behind) told
-      ∙ ap (λ (r : Result Numbered ℕ). r >>= λ rest. must rest.0 (ends_replies rest.1)) came ∙ last
+      grind (
+        arith,
+        nat_tests,
+        order_told,
+        texts,
+        Classes,
+        order_told_again,
+        passed,
+        lines_of,
+        passed_again,
+        must,
+        ends_replies,
+        After1,
+        order_line_in,
+        After2,
+        After3,
+      )
 
   pub verified_yes : IsValid cat work → IsVerified cat work report → verdict cat work report ≡ Yes
   verified_yes valid v = ap verdict_of (judged_again valid v)

@@ -1,4 +1,4 @@
-use Rattle.sdd_script.proofs.All.{Fails, Ok, along, ap, arith, few, kind_of_place, length, refl, rule_in, sym, value_of, ◌∙◌, ◌≡◌}
+use Rattle.sdd_script.proofs.All.{Fails, Ok, along, ap, arith, few, kind_of_place, length, rule_in, sym, value_of, ◌∙◌, ◌≡◌}
 use Rattle.sdd_script.proofs.FewRead.{ends_few, goes_few, kept_and_left, steady_kind}
 use Rattle.sdd_script.proofs.values.read_values.Goals as goal
 

@@ -1,5 +1,5 @@
 use Rattle.sdd_verify.proofs.All.{List, Result, TxnNo, along, arith, err_from_is_err_and, known, named, words_behind, ℕ}
-use Rattle.sdd_verify.proofs.WordsCut.{name_fails, name_read, names_read}
+use Rattle.sdd_verify.proofs.WordsCut.{name_fails, name_read}
 use Rattle.sdd_verify.proofs.order.numbers_in.Goals as goal
 
 pub names-preserved : goal.names-preserved
