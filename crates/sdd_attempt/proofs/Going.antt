@@ -1,5 +1,5 @@
 -- The moves of an exchange: which comes next, and that what is counted only grows.
-use Rattle.sdd_attempt.proofs.All.{All-tail, AreSmall, Asking, Bool, ClassNo, Exchange, IsSmallQuery, List, Move, None, Option, Phase, Reduction, Some, Step, Ts, Value, Values, [], after_hand, answered, ap, arith, counts_for, drop, fetches, get_or, goes_on, if◌then◌else◌, lacking, length, move_at, move_of, next_move, option_map, phase_ends, reduces, subst, sym, true, with_values, without, ℕ, ◌&&◌, ◌++◌, ◌+◌, ◌<◌, ◌==◌, ◌∙◌, ◌∷◌, ◌≡◌, ◌≤◌}
+use Rattle.sdd_attempt.proofs.All.{All-tail, AreSmall, Asking, Bool, ClassNo, Exchange, IsSmallQuery, List, Move, None, Option, Phase, Reduction, Some, Step, Ts, Value, Values, [], after_hand, answered, ap, arith, counts_for, drop, fetches, get_or, goes_on, if◌then◌else◌, lacking, length, move_at, move_of, nat_tests, next_move, option_map, phase_ends, reduces, subst, sym, true, with_values, without, ℕ, ◌&&◌, ◌++◌, ◌+◌, ◌<◌, ◌==◌, ◌∙◌, ◌∷◌, ◌≡◌, ◌≤◌}
 
 no_move : {A B : Type 0} (f : A → B) (o : Option A) → None ≡ option_map f o → o ≡ None
 no_move f o e = grind arith
@@ -47,8 +47,7 @@ pub past_first : (ts c : ℕ) (x z : Exchange) (q : Asking) (counts : List ℕ) 
     → rest ≡ drop 1 x.left → none_done ≡ [] → goes_on ts c (record x { left = rest; done = none_done }) rest none_done ≡ goes_on ts c z z.left z.done
 past_first ts c x z q counts steps none_done rest next same some first e f none asked g h =
     let asks : None ≡ option_map (move_at q.before) (next_move q.conds (counts_for x.counts q) x.done) =
-    sym (ap (option_map move_of) none) ∙ asked ∙ ap (λ ns. option_map (move_at q.before) (next_move q.conds ns steps)) e
-    ∙ ap (λ ds. option_map (move_at q.before) (next_move q.conds (counts_for x.counts q) ds)) f in
+    grind (arith, nat_tests, option_map, move_of, move_at, next_move, counts_for) in
     ap (λ l. goes_on ts c (record x { left = l; done = none_done }) l none_done) g
     ∙ ap (λ ds. goes_on ts c (record x { left = drop 1 x.left; done = ds }) (drop 1 x.left) ds) h
     ∙ goes_past ts c x q (drop 1 x.left) x.done (no_move (move_at q.before) (next_move q.conds (counts_for x.counts q) x.done) asks)
@@ -64,9 +63,8 @@ to_first ts c x z q counts steps more one next same some first e f has asked g =
     ∙ ap (λ ds. option_map (move_at q.before) (next_move q.conds (counts_for x.counts q) ds)) f in
     let m = a_move (move_at q.before) (next_move q.conds (counts_for x.counts q) x.done) (move_of one) asks in
     let left : x.left ≡ q ∷ drop 1 x.left = first_of x.left q some first in
-    let step : one.step ≡ m.0.step = ap (λ n. n.step) m.2 in
     ap (λ l. fetches ts c (move_of one) (record x { left = l; done = more })) left
-    ∙ ap (λ l. fetches ts c (move_of one) (record x { left = q ∷ drop 1 x.left; done = l })) (g ∙ ap (λ s. x.done ++ s ∷ []) step)
+    ∙ ap (λ l. fetches ts c (move_of one) (record x { left = q ∷ drop 1 x.left; done = l })) (g ∙ ap (λ s. x.done ++ s ∷ []) (ap (λ n. n.step) m.2))
     ∙ ap (λ n. fetches ts c n (record x { left = q ∷ drop 1 x.left; done = x.done ++ m.0.step ∷ [] })) m.2
     ∙ goes_to ts c x q (drop 1 x.left) x.done m.0 m.1 ∙ ap (λ l. goes_on ts c x l x.done) (sym left) ∙ ap (λ y. goes_on ts c y y.left y.done) same
 
@@ -92,7 +90,6 @@ answered_grows ts c d x = lacking_grows ts c x (without x.lacks d)
 pub values_fit : (ts c d u n : ℕ) (t : Ts) (k : ClassNo) (vs : List Value) (x : Exchange) (b : Bool) → b ≡ ((t.0 == ts) && (k.0 == c)) → b ≡ true
     → (after_hand ts c d (Values t k u vs) x).values < n → x.values + length vs < n
 values_fit ts c d u n t k vs x b e f room =
-    let own : ((t.0 == ts) && (k.0 == c)) ≡ true = sym e ∙ f in
     let y : Exchange = record x { union = with_values x.union vs; values = x.values + length vs } in
-    let fits : (answered ts c d y).values < n = subst (λ (z : Bool). (if z then answered ts c d y else x).values < n) own room in
+    let fits : (answered ts c d y).values < n = subst (λ (z : Bool). (if z then answered ts c d y else x).values < n) (sym e ∙ f) room in
     omega (arith, answered_grows ts c d y, fits)

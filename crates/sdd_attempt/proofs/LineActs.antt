@@ -1,7 +1,8 @@
 -- What the acts of an attempt leave of its line: what may start, what is left to do, and which rows serve.
-use Rattle.sdd_attempt.proofs.All.{Act, AllByRecursion, AllUpTo, Attempt, Bases, Catalogue, IsAsking, IsAskingAt, IsLineOf, IsOfHead, IsServed, IsUpTo, IsWaiting, List, Log, Msg, None, Nothing, Option, Queued, Read, Rec, Records, Sends, ServesAt, Setting, Site, Some, [], active, active_sent, and_from, ap, arith, asks_rows, contains, eq-eqb, false, false≢true, filter, handed, is_over, is_read, length, line_step, map, not, queue, refl, send_due, sent, starts_left, submits, subst, suc, sym, tried, true, work_of, ℕ, ◌<◌, ◌==◌, ◌∙◌, ◌∷◌, ◌≡◌, ◌≤◌}
+use Rattle.sdd_attempt.proofs.All.{Act, AllByRecursion, AllUpTo, Attempt, Bases, Catalogue, IsAsking, IsAskingAt, IsLineOf, IsOfHead, IsServed, IsUpTo, IsWaiting, List, Log, Msg, None, Nothing, Option, Queued, Read, Rec, Records, Sends, ServesAt, Setting, Site, Some, [], active, active_sent, and_from, arith, asks_rows, contains, eq-eqb, false, false≢true, filter, handed, is_over, is_read, length, line_step, map, not, queue, refl, send_due, sent, starts_left, submits, subst, suc, sym, tried, true, work_of, ℕ, ◌<◌, ◌==◌, ◌∙◌, ◌∷◌, ◌≡◌, ◌≤◌}
 use Rattle.sdd_attempt.proofs.QuestionsOfAttempt.{NoReads}
 use Rattle.sdd_attempt.proofs.Waiting.{fewer_committed}
+use Rattle.sdd_attempt.proofs.Uses.{same_length}
 
 pub some_is : {A : Type 0} {x y : A} → Some x ≡ Some y → x ≡ y
 some_is e = cc
@@ -15,11 +16,7 @@ starts_sent c m o queue = grind arith
 -- a Start
 pub starts_started : (n : ℕ) (a : Attempt) (q : Queued) (rest : List Queued)
     → suc (starts_left (Some a) (map (tried n) (q ∷ rest))) ≡ starts_left None (q ∷ rest)
-starts_started n a q rest = let same = length_tried n rest in omega arith
-  where
-    length_tried : (n : ℕ) (qs : List Queued) → length (map (tried n) qs) ≡ length qs
-    length_tried n [] = refl
-    length_tried n (q ∷ qs) = ap suc (length_tried n qs)
+starts_started n a q rest = omega (arith, same_length (tried n) rest)
 
 -- a Commit
 pub starts_committed : (a : Attempt) (queue : List Queued) → IsOfHead queue (Some a)

@@ -1,5 +1,5 @@
 -- One module more, among some that ascend.
-use Rattle.sdd_attempt.proofs.All.{Bool, DmNo, List, None, Option, Some, [], ap, arith, cond, false, get_or, insert, insert_key, later, map, nat_cmp, nat_lt, nat_tests, not, option_map, position, position_from-zero, refl, suc, sym, true, ℕ, ◌++◌, ◌==◌, ◌∙◌, ◌∷◌, ◌≡◌}
+use Rattle.sdd_attempt.proofs.All.{Bool, DmNo, List, None, Some, [], ap, arith, cond, false, get_or, insert, insert_key, later, map, nat_cmp, nat_lt, nat_tests, not, option_map, position, position_from-zero, refl, suc, sym, true, ℕ, ◌++◌, ◌==◌, ◌∙◌, ◌∷◌, ◌≡◌}
 
 abbrev number : DmNo → ℕ
 number n = n.0
@@ -17,31 +17,20 @@ first_of_more p x xs = position_from-zero p (x ∷ xs) ∙ ap (cond (p x) (Some 
 
 -- where all are lower, it is put behind them
 
-behind_first : (x d : DmNo) (xs : List DmNo) (t : Bool) → nat_lt x.0 d.0 ≡ t → cond (not t) (Some 0) (option_map suc (position (reaches d.0) xs)) ≡ None
-    → (position (reaches d.0) xs ≡ None → insert_key nat_cmp (map number xs) d.0 ≡ map number (xs ++ d ∷ []))
-    → insert_key nat_cmp (map number (x ∷ xs)) d.0 ≡ map number ((x ∷ xs) ++ d ∷ [])
-behind_first x d xs t m e h = grind arith
-
 pub put_behind : (xs : List DmNo) (d : DmNo) → position (λ n. not (nat_lt n.0 d.0)) xs ≡ None
     → insert_key nat_cmp (map (λ n. n.0) xs) d.0 ≡ map (λ n. n.0) (xs ++ d ∷ [])
 put_behind [] d e = refl
-put_behind (x ∷ xs) d e = behind_first x d xs (nat_lt x.0 d.0) refl (sym (first_of_more (reaches d.0) x xs) ∙ e) (put_behind xs d)
+put_behind (x ∷ xs) d e = grind (arith, nat_tests, first_of_more, put_behind xs d)
 
 -- else at the first place that isn't lower, unless it stands there
 
 abbrev put_at : DmNo → List DmNo → ℕ → DmNo → List DmNo
 put_at z xs i d = cond ((get_or xs i z).0 == d.0) xs (insert xs i d)
 
-at_or_further : (z x d : DmNo) (xs : List DmNo) (i : ℕ) (t : Bool) (o : Option ℕ) → nat_lt x.0 d.0 ≡ t → cond (not t) (Some 0) (option_map suc o) ≡ Some i
-    → ((j : ℕ) → o ≡ Some j → insert_key nat_cmp (map number xs) d.0 ≡ map number (put_at z xs j d))
-    → insert_key nat_cmp (map number (x ∷ xs)) d.0 ≡ map number (put_at z (x ∷ xs) i d)
-at_or_further z x d xs i t o m e h = grind arith
-
 among : (z : DmNo) (xs : List DmNo) (d : DmNo) (i : ℕ) → position (reaches d.0) xs ≡ Some i
     → insert_key nat_cmp (map number xs) d.0 ≡ map number (put_at z xs i d)
 among z [] d i e = cc
-among z (x ∷ xs) d i e =
-    at_or_further z x d xs i (nat_lt x.0 d.0) (position (reaches d.0) xs) refl (sym (first_of_more (reaches d.0) x xs) ∙ e) (λ j f. among z xs d j f)
+among z (x ∷ xs) d i e = grind (arith, nat_tests, first_of_more, among z xs d)
 
 differs : (n k : ℕ) → (n ≡ k → ⊥) → (n == k) ≡ false
 differs n k e = grind (arith, nat_tests)

@@ -1,33 +1,20 @@
 -- What an attempt asks, and what has answered it, after each entry of the log; and a READY comes only while it is awaited.
-use Rattle.sdd_attempt.proofs.All.{AllByRecursion, AllUpTo, AnswersRead, Attempt, Awaits, AwaitsAt, Bases, Bool, D, DmNo, Exchange, FitsAnswer, FitsRows, IsAsking, IsAskingAt, IsModuleOf, List, Log, Msg, None, Option, Phase, Queued, Read, ReadsWent, Ready, Reduced, Rows, Setting, Site, Some, T, U, Values, [], active, active_handed, active_sent, after_hand, after_send, and_from, and_parts, answered, asks_rows, at_site, awaits_ready, begins, cases_eq, cond, cond-true, contains, counted, dm_no, eq-eqb, eqb-true, false, false≢true, fetches_use, filter_map, first_phase, handed, if◌then◌else◌, inl, inr, is_read, is_reading, is_shipping, is_verdict, lacking, length, list_any, map, module_read, modules_in, or_cases, or_left, or_right, reduces_use, refl, rejects, same_site, sent, started, subst, sym, true, with_values, without, ℕ, ◌&&◌, ◌++◌, ◌+◌, ◌<◌, ◌==◌, ◌∙◌, ◌∷◌, ◌≡◌}
+use Rattle.sdd_attempt.proofs.All.{AllByRecursion, AllUpTo, AnswersRead, Attempt, Awaits, AwaitsAt, Bases, Bool, D, DmNo, Exchange, FitsAnswer, FitsRows, IsAsking, IsAskingAt, IsModuleOf, List, Log, Msg, None, Option, Phase, Queued, ReadsWent, Ready, Reduced, Rows, Setting, Site, Some, Values, [], active, active_handed, active_sent, after_hand, after_send, and_from, and_parts, answered, arith, asks_rows, at_site, awaits_ready, begins, cond, cond-true, contains, counted, dm_no, eq-eqb, eqb-true, false, false≢true, fetches_use, filter_map, first_phase, handed, if◌then◌else◌, is_read, is_reading, is_shipping, is_verdict, length, list_any, map, modules_in, nat_tests, or_right, reduces_use, refl, sent, started, subst, sym, true, with_values, ℕ, ◌&&◌, ◌++◌, ◌+◌, ◌<◌, ◌==◌, ◌∙◌, ◌∷◌, ◌≡◌}
 use Rattle.sdd_attempt.proofs.Phases.{with_counts, with_union, with_rows, modules_stay, AllAsk, asks_stay, others_awaited, fetching_not_reading, reducing_not_reading, shipping_not_reading}
 use Rattle.sdd_attempt.proofs.Stamps.{no_read}
 
 -- a READY is awaited
 
-module_went : (modules : List ℕ) (to : Site) (d : DmNo) → same_site to (D d) ≡ true → IsModuleOf modules to → contains modules d.0 ≡ true
-module_went modules (D e) d same h = subst (λ n. contains modules n ≡ true) (eqb-true e.0 d.0 same) h
-module_went modules _ d same h = absurd h
-
 -- to a module to which a READ went
 went : (ts c : ℕ) (modules : List ℕ) (d : DmNo) (ms : List (Site × Msg)) → ReadsWent ts c modules ms
     → list_any (at_site (D d) (is_read ts c)) ms ≡ true
     → contains modules d.0 ≡ true
-went ts c modules d [] h e = absurd (false≢true e)
-went ts c modules d (m ∷ ms) h e =
-    elim (or_cases (at_site (D d) (is_read ts c) m) (list_any (at_site (D d) (is_read ts c)) ms) e) [
-      | inl here ↦ let p = and_parts (same_site m.0 (D d)) (is_read ts c m.1) here in module_went modules m.0 d p.0 (h.0 p.1)
-      | inr there ↦ went ts c modules d ms h.1 there
-    ]
+went ts c modules d [] h e = cc
+went ts c modules d (m ∷ ms) h e = grind (arith, nat_tests, at_site, went ts c modules d ms h.1)
 
 pub ready_awaited : (log : Log) (c : ℕ) (a : Attempt) (d : DmNo) → IsAsking c (sent log) (handed log) a → AnswersRead log (D d) a.ts c
     → awaits_ready a.exchange d.0 ≡ true
-ready_awaited log c a d h f =
-    let there : contains (modules_in a.exchange) d.0 ≡ true = went a.ts c (modules_in a.exchange) d (sent log) h.reads f.asked in
-    elim (awaits_ready a.exchange d.0) as (λ b. awaits_ready a.exchange d.0 ≡ b → b ≡ true) [
-      | true ↦ λ e. refl
-      | false ↦ λ e. absurd (false≢true (sym f.first ∙ h.answered d.0 there e))
-    ] refl
+ready_awaited log c a d h f = grind (arith, went)
 
 -- what is handed
 
@@ -37,18 +24,13 @@ AllAnswered ts c handed x = (e : ℕ) → contains (modules_in x) e ≡ true →
     (at_site (D (dm_no e)) (is_verdict ts c)) handed ≡ true
 
 by_now : (ts c : ℕ) (h : Site × Msg) (handed : List (Site × Msg)) (x : Exchange) → AllAnswered ts c handed x → AllAnswered ts c (h ∷ handed) x
-by_now ts c h handed x all e there w =
-    or_right (at_site (D (dm_no e)) (is_verdict ts c) h) (list_any (at_site (D (dm_no e)) (is_verdict ts c)) handed) (all e there w)
+by_now ts c h h4 x all e there w = grind (arith, or_right, list_any)
 
 -- an answer in a later phase: no READY was awaited
 later_answered : (ts c d : ℕ) (h : Site × Msg) (handed : List (Site × Msg)) (b : Bool) (x y : Exchange)
     → (cond b (answered ts c d y) x).modules ≡ x.modules
     → (b ≡ true → is_reading x.phase ≡ false) → AllAnswered ts c handed x → AllAnswered ts c (h ∷ handed) (cond b (answered ts c d y) x)
-later_answered ts c d h handed true x y same phase all e there w =
-    let before : contains (modules_in x) e ≡ true = subst (λ (ms : List (ℕ × List ℕ)). contains (map (λ m. m.0) ms) e ≡ true) same there in
-    let not_awaited : awaits_ready x e ≡ false = rw (phase refl) refl in
-    by_now ts c h handed x all e before not_awaited
-later_answered ts c d h handed false x y same phase all e there w = by_now ts c h handed x all e there w
+later_answered ts c d h handed b x y same phase all e there w = grind (arith, awaits_ready, modules_in, cond)
 
 -- a READY: the others are awaited as before
 ready_answered : (ts c d : ℕ) (h : Site × Msg) (handed : List (Site × Msg)) (b : Bool) (x y : Exchange)
@@ -56,19 +38,7 @@ ready_answered : (ts c d : ℕ) (h : Site × Msg) (handed : List (Site × Msg)) 
     → y.phase ≡ x.phase → y.lacks ≡ x.lacks
     → (b ≡ true → at_site (D (dm_no d)) (is_verdict ts c) h ≡ true) → AllAnswered ts c handed x → AllAnswered ts c
     (h ∷ handed) (cond b (answered ts c d y) x)
-ready_answered ts c d h handed true x y same phase lacks verdict all e there w =
-    let before : contains (modules_in x) e ≡ true = subst (λ (ms : List (ℕ × List ℕ)). contains (map (λ m. m.0) ms) e ≡ true) same there in
-    let now : awaits_ready (lacking ts c y (without x.lacks d)) e ≡ false = subst (λ ls. awaits_ready (lacking ts c y (without ls d)) e ≡ false) lacks w in
-    elim (cases_eq e d) [
-      | inl own ↦ or_left (at_site (D (dm_no e)) (is_verdict ts c) h) (list_any (at_site (D (dm_no e)) (is_verdict ts c)) handed)
-          (subst (λ n. at_site (D (dm_no n)) (is_verdict ts c) h ≡ true) (sym own) (verdict refl))
-      | inr apart ↦
-          elim (awaits_ready x e) as (λ r. awaits_ready x e ≡ r → list_any (at_site (D (dm_no e)) (is_verdict ts c)) (h ∷ handed) ≡ true) [
-            | true ↦ λ q. absurd (false≢true (sym now ∙ others_awaited ts c d e x y phase apart q))
-            | false ↦ λ q. by_now ts c h handed x all e before q
-          ] refl
-    ]
-ready_answered ts c d h handed false x y same phase lacks verdict all e there w = by_now ts c h handed x all e there w
+ready_answered ts c d h handed b x y same phase lacks verdict all e there w = grind (arith, nat_tests, others_awaited, by_now)
 
 -- what fits class k fits the attempt of class c, where they are the same
 pub of_class : (s : Setting) (log : Log) (f : Phase → Bool) (from : Site) (ts k c : ℕ) (a : Attempt) → AwaitsAt f (active s k log) from ts → k ≡ c
@@ -77,8 +47,7 @@ of_class s log f from ts k c a h same is = subst (λ o. AwaitsAt f o from ts) is
 
 pub of_rows : (s : Setting) (bases : Bases) (log : Log) (from : Site) (ts : ℕ) (o : Option Attempt) (rows : List (ℕ × _)) → FitsRows s bases o from ts rows
     → AwaitsAt is_shipping o from ts
-of_rows s bases log from ts None rows h = absurd h
-of_rows s bases log from ts (Some a) rows h = h.awaited
+of_rows s bases log from ts o rows h = grind arith
 
 verdict_of : (d ts t c k : ℕ) → ((t == ts) && (k == c)) ≡ true → ((d == d) && ((t == ts) && (k == c))) ≡ true
 verdict_of d ts t c k h = and_from (d == d) ((t == ts) && (k == c)) (eq-eqb d d refl) h
@@ -100,41 +69,22 @@ answers_now s bases log c d (Reduced t k u n) a is f all =
     (with_counts a.exchange (counted d.0 ((u, n) ∷ []) a.exchange.counts)) (modules_stay a.ts c d.0 (Reduced t k u n) a.exchange)
     (λ e. reducing_not_reading u a.exchange.phase
     (of_class s log (reduces_use u) (D d) t.0 k.0 c a f (eqb-true k.0 c (and_parts (t.0 == a.ts) (k.0 == c) e).1) is).phase) all
-answers_now s bases log c d (Rows t k rows) a is f all =
-    later_answered a.ts c d.0 (D d, Rows t k rows) (handed log) ((t.0 == a.ts) && (k.0 == c)) a.exchange
-    (with_rows a.exchange (a.exchange.found ++ rows) (a.exchange.rows + length rows)) (modules_stay a.ts c d.0 (Rows t k rows) a.exchange)
-    (λ e. shipping_not_reading a.exchange.phase
-    (of_class s log is_shipping (D d) t.0 k.0 c a (of_rows s bases log (D d) t.0 (active s k.0 log) rows f)
-    (eqb-true k.0 c (and_parts (t.0 == a.ts) (k.0 == c) e).1) is).phase) all
+answers_now s bases log c d (Rows t k rows) a is f all = grind (arith, nat_tests, later_answered, handed, with_rows, modules_stay, shipping_not_reading, of_class, is_shipping, of_rows, active, eqb-true, and_parts)
 answers_now s bases log c d m a is f all = by_now a.ts c (D d, m) (handed log) a.exchange all
 
 asking_now : (s : Setting) (bases : Bases) (log : Log) (c : ℕ) (d : DmNo) (m : Msg) (a : Attempt)
     → active s c log ≡ Some a → FitsAnswer s bases log (D d) m
     → IsAsking c (sent log) (handed log) a → (b : Bool)
     → IsAskingAt c (sent log) ((D d, m) ∷ handed log) (if b then None else Some (record a { exchange = after_hand a.ts c d.0 m a.exchange }))
-asking_now s bases log c d m a is f h true = tt
-asking_now s bases log c d m a is f h false = record {
-  asks = asks_stay a.ts c d.0 m a.exchange h.asks;
-  reads = subst (λ (ms : List (ℕ × List ℕ)). ReadsWent a.ts c (map (λ n. n.0) ms) (sent log)) (sym (modules_stay a.ts c d.0 m a.exchange)) h.reads;
-  answered = answers_now s bases log c d m a is f h.answered;
-}
+asking_now s bases log c d m a is f h b = grind (arith, asks_stay, modules_stay, answers_now)
 
 asking_still : (c : ℕ) (sent handed : List (Site × Msg)) (h : Site × Msg) (o : Option Attempt)
     → IsAskingAt c sent handed o → IsAskingAt c sent (h ∷ handed) o
-asking_still c sent handed h None k = tt
-asking_still c sent handed h (Some a) k = record { asks = k.asks; reads = k.reads; answered = by_now a.ts c h handed a.exchange k.answered }
-
-asking_from : (s : Setting) (bases : Bases) (log : Log) (c : ℕ) (from : Site) (m : Msg) (o : Option Attempt) → active s c log ≡ o
-    → FitsAnswer s bases log from m → IsAskingAt c (sent log) (handed log) o → IsAskingAt c (sent log)
-    ((from, m) ∷ handed log) (active_handed c from m o)
-asking_from s bases log c (D d) m (Some a) is f h = asking_now s bases log c d m a is f h (rejects m a.ts c)
-asking_from s bases log c (D d) m None is f h = tt
-asking_from s bases log c U m o is f h = asking_still c (sent log) (handed log) (U, m) o h
-asking_from s bases log c (T t) m o is f h = asking_still c (sent log) (handed log) (T t, m) o h
+asking_still c h2 h3 h o k = grind (arith, by_now)
 
 pub asking_handed : (s : Setting) (bases : Bases) (log : Log) (c : ℕ) (from : Site) (m : Msg) → FitsAnswer s bases log from m
     → IsAskingAt c (sent log) (handed log) (active s c log) → IsAskingAt c (sent log) ((from, m) ∷ handed log) (active_handed c from m (active s c log))
-asking_handed s bases log c from m f h = asking_from s bases log c from m (active s c log) refl f h
+asking_handed s bases log c from m f h = grind (arith, asking_now, asking_still)
 
 -- what is sent
 
@@ -148,14 +98,12 @@ reads_more ts c modules [] sent none h = h
 reads_more ts c modules (m ∷ ms) sent none h = (λ e. absurd (false≢true (sym none.0 ∙ e)), reads_more ts c modules ms sent none.1 h)
 
 asks_no_read : (ts c r k : ℕ) (m : Msg) → asks_rows ts c m ≡ true → is_read r k m ≡ false
-asks_no_read ts c r k (Read t class txn attempt conds uses) e = absurd (false≢true e)
-asks_no_read ts c r k _ e = refl
+asks_no_read ts c r k m e = grind arith
 
 pub asking_sends : (c : ℕ) (ms sent handed : List (Site × Msg)) (o : Option Attempt) → ((ts : ℕ) → NoReads ts c ms) → IsAskingAt c sent handed o
     → IsAskingAt c (ms ++ sent) handed o
 asking_sends c ms sent handed None none h = tt
-asking_sends c ms sent handed (Some a) none h =
-    record { asks = h.asks; reads = reads_more a.ts c (modules_in a.exchange) ms sent (none a.ts) h.reads; answered = h.answered }
+asking_sends c ms sent handed (Some a) none h = grind (arith, nat_tests, reads_more, modules_in, sent, answered)
 
 pub asking_sent : (c : ℕ) (sent handed : List (Site × Msg)) (a : Attempt) (to : Site) (m : ℕ × Msg) (ms : List (ℕ × Msg)) → a.exchange.to_send ≡ m ∷ ms
     → IsAsking c sent handed a → IsAskingAt c ((to, m.1) ∷ sent) handed (active_sent c m.1 (Some a))
@@ -191,14 +139,8 @@ reads_to ts c ds (m ∷ sends) h = (λ e. subst (IsModuleOf ds) (sym h.0.1) h.0.
 
 all_awaited : (ms : List (ℕ × List ℕ)) (e : ℕ) → contains (map (λ m. m.0) ms) e ≡ true
     → (is_reading (first_phase ms) && contains (map (λ m. m.0) ms) e) ≡ true
-all_awaited [] e h = absurd (false≢true h)
-all_awaited (m ∷ ms) e h = h
+all_awaited ms e h = grind arith
 
 pub asking_started : (t ts c : ℕ) (q : Queued) (sends sent handed : List (Site × Msg)) → t < ts → AllUpTo t sent
     → AreReads sends (modules_in (begins q.text sends)) → IsAskingAt c (sends ++ sent) handed (started ts sends (Some q))
-asking_started t ts c q sends sent handed l early reads = record {
-  asks = tt;
-  reads = reads_both ts c (modules_in (begins q.text sends)) sends sent (reads_to ts c (modules_in (begins q.text sends)) sends reads)
-      (early_reads t ts c (modules_in (begins q.text sends)) sent l early);
-  answered = λ e there w. absurd (false≢true (sym w ∙ all_awaited (filter_map module_read sends) e there));
-}
+asking_started t ts c q sends h6 h7 l early reads = grind (arith, reads_both, reads_to, early_reads, all_awaited, filter_map)

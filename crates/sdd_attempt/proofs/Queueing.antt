@@ -1,5 +1,5 @@
 -- The line of a class after each step: what it keeps, and that it is what the act makes of it.
-use Rattle.sdd_attempt.proofs.All.{All-append, All-cons, All-head, All-nil, All-tail, AllByRecursion, AreAwaitedFrom, AreDistinct, Attempt, Bases, Bool, CarriesFew, Catalogue, FitsTxn, IsAwaited, IsLine, IsRunning, IsWhole, List, Msg, None, Option, Queued, Running, RunsFirst, Site, Some, Ticking, [], active_handed, active_of, after_send, ap, arith, ascending, attempt_of, begins, bound_of, commit_next, cond, contains, drop, false, filter, fragments_in, get_or, handed_by, if◌then◌else◌, length, line_done, line_of, map, map-append, modules_of, nat_tests, neither, not, read_to, refl, rules, send_next, sends_of_act, slice_set, start_act, start_next, subst, suc, sym, tail_of, ticked, timestamp, tried, true, uses_of, ℕ, ◌++◌, ◌<◌, ◌==◌, ◌∙◌, ◌∷◌, ◌≡◌}
+use Rattle.sdd_attempt.proofs.All.{All-append, All-cons, All-head, All-nil, All-tail, AllByRecursion, AreAwaitedFrom, AreDistinct, Attempt, Bases, Bool, CarriesFew, Catalogue, FitsTxn, IsAwaited, IsLine, IsRunning, IsWhole, List, Msg, None, Option, Queued, Running, RunsFirst, Site, Some, Ticking, [], active_handed, active_of, after_send, ap, arith, ascending, attempt_of, begins, bound_of, clock, commit_next, cond, contains, drop, false, filter, fragments_in, get_or, handed_by, if◌then◌else◌, length, line_done, line_of, map, map-append, modules_of, nat_tests, not, queue, read_to, refl, rules, send_next, sends_of_act, slice_set, start_act, start_next, subst, suc, sym, tail_of, ticked, timestamp, tried, true, uses_of, ℕ, ◌++◌, ◌<◌, ◌==◌, ◌∙◌, ◌∷◌, ◌≡◌}
 use Rattle.sdd_attempt.proofs.Phases.{asks_stay}
 use Rattle.sdd_attempt.proofs.Uses.{few_modules, same_length, small_text}
 use Rattle.sdd_attempt.proofs.Room.{begins_room, handed_room, sent_room}
@@ -19,29 +19,21 @@ other_way m n e = grind (arith, nat_tests)
 
 contains_more : (ns : List ℕ) (n m : ℕ) → contains ns m ≡ false → (n == m) ≡ false → contains (ns ++ n ∷ []) m ≡ false
 contains_more [] n m e f = rw f refl
-contains_more (x ∷ ns) n m e f =
-    let parts = neither (x == m) (contains ns m) e in
-    rw parts.0 (contains_more ns n m parts.1 f)
+contains_more (x ∷ ns) n m e f = grind (arith, contains, (contains_more ns n m))
 
 distinct_more : (ns : List ℕ) (n : ℕ) → AreDistinct ns → contains ns n ≡ false → AreDistinct (ns ++ n ∷ [])
 distinct_more [] n all e = (refl, tt)
-distinct_more (x ∷ ns) n all e =
-    let parts = neither (x == n) (contains ns n) e in
-    (contains_more ns n x all.0 (other_way x n parts.0), distinct_more ns n all.1 parts.1)
+distinct_more (x ∷ ns) n all e = grind (arith, contains, contains_more, other_way, (distinct_more ns n all.1))
 
 -- of the others none is touched
 
 untouched : (n : ℕ) (qs : List Queued) → contains (map number_of qs) n ≡ false → map (tried n) qs ≡ qs
 untouched n [] e = refl
-untouched n (q ∷ qs) e =
-    let parts = neither (q.number == n) (contains (map number_of qs) n) e in
-    rw (parts.0, untouched n qs parts.1) refl
+untouched n (q ∷ qs) e = grind (arith, contains, number_of, (untouched n qs))
 
 pub all_kept : (n : ℕ) (qs : List Queued) → contains (map number_of qs) n ≡ false → filter (λ q. not (q.number == n)) qs ≡ qs
 all_kept n [] e = refl
-all_kept n (q ∷ qs) e =
-    let parts = neither (q.number == n) (contains (map number_of qs) n) e in
-    rw (parts.0, all_kept n qs parts.1) refl
+all_kept n (q ∷ qs) e = grind (arith, contains, number_of, (all_kept n qs))
 
 -- submit
 
@@ -112,22 +104,10 @@ start_of cat c table clock q = record { ts = timestamp (ticked clock 1); exchang
 abbrev pub one_try : Queued → Queued
 one_try q = record q { tries = suc q.tries }
 
-begun_by : (cat : Catalogue) (c : ℕ) (table : List line.Entry) (clock : Ticking) (q : Queued) (queue : List Queued) (own mine : Bool) → own ≡ true → mine ≡ true
-    → map (tried q.number) queue ≡ queue → line_of cat c (one_try q ∷ queue) (Some (start_of cat c table clock q))
-    ≡ record {
-      catalogue = cat;
-      class = c;
-      queue = if own then cond mine (one_try q) q ∷ map (tried q.number) queue else q ∷ queue;
-      active = if own then Some
-          (record { txn = q.number; attempt = suc q.tries; ts = timestamp (ticked clock 1); text = q.text; exchange = begins q.text (sends_of_act (start_act cat table c clock q)) }) else None;
-    }
-begun_by cat c table clock q queue own mine e f same = grind arith
-
 pub begun_view : (cat : Catalogue) (c : ℕ) (table : List line.Entry) (clock : Ticking) (q : Queued) (queue : List Queued)
     → AreDistinct (map number_of (q ∷ queue))
     → line_of cat c (one_try q ∷ queue) (Some (start_of cat c table clock q)) ≡ line_done (start_next table clock (line_of cat c (q ∷ queue) None)) (line_of cat c (q ∷ queue) None)
-begun_view cat c table clock q queue distinct =
-    begun_by cat c table clock q queue (c == c) (q.number == q.number) (itself c) (itself q.number) (untouched q.number queue distinct.0)
+begun_view cat c table clock q queue distinct = grind (arith, nat_tests, untouched, itself)
 
 pub begun_line : (cat : Catalogue) (c : ℕ) (table : List line.Entry) (clock : Ticking) (q : Queued) (queue : List Queued) → IsWhole cat
     → IsLine cat c (q ∷ queue) None → IsLine cat c (one_try q ∷ queue) (Some (start_of cat c table clock q))
@@ -188,8 +168,7 @@ pub begun_seen : (cat : Catalogue) (c : ℕ) (table : List line.Entry) (clock : 
 begun_seen cat c table clock queue q new before r line some first e f idle = grind (arith, begun_view)
 
 pub ended_at : (cat : Catalogue) (c : ℕ) (queue rest : List Queued) (r : Option Running) → IsLine cat c queue r → rest ≡ drop 1 queue → IsLine cat c rest None
-ended_at cat c [] rest r line e =
-    subst (λ qs. IsLine cat c qs None) (sym e) (record { class = line.class; distinct = line.distinct; fits = line.fits; runs = tt })
+ended_at cat c [] rest r line e = grind (arith, nat_tests)
 ended_at cat c (q ∷ queue) rest r line e = subst (λ qs. IsLine cat c qs None) (sym e) (ended_line cat c q queue r line)
 
 pub ended_seen : (cat : Catalogue) (c : ℕ) (queue rest : List Queued) (r : Running) (bases : Bases) → IsLine cat c queue (Some r) → rest ≡ drop 1 queue

@@ -1,8 +1,9 @@
 -- An exchange has room from its beginning to its end.
-use Rattle.sdd_attempt.proofs.All.{All, All-append, All-head, All-nil, All-tail, AreAwaited, AreSmall, Asking, Bool, CarriesFew, Exchange, Fetching, HasRoom, HasUnion, IsSmallQuery, IsSmallStatement, IsSmallText, List, Move, Msg, None, Option, Ordering, Over, Phase, Row, Shipping, Site, Some, Step, Stmt, Txn, Value, [], after_hand, after_send, answered, arith, asking_of, askings, begins, cond, contains, counted, counts_for, false, fetches, fetches_from, few_undone, fewer_left, first_phase, for_move, for_phase, for_reduce, goes_on, if◌then◌else◌, insert_key, is_fetching, lacking, length, length-append, match_ordering, most_values, move_at, moves_left, mul-le, mul-le-mul_right, next_move, not, phase_ends, reduces, refl, subst, suc, suc-mul, sym, true, uses_in, value_cmp, with_use, with_values, without, ℕ, ◌&&◌, ◌*◌, ◌++◌, ◌+◌, ◌<◌, ◌==◌, ◌^◌, ◌||◌, ◌∷◌, ◌≡◌, ◌≤◌}
-use Rattle.sdd_attempt.proofs.Going.{goes_by, goes_split}
-use Rattle.sdd_attempt.proofs.Lists.{few_filtered, few_picked}
+use Rattle.sdd_attempt.proofs.All.{All, All-head, All-nil, All-tail, AreAwaited, AreSmall, Asking, Bool, CarriesFew, Exchange, Fetching, HasRoom, HasUnion, IsSmallQuery, IsSmallStatement, IsSmallText, List, Move, Msg, None, Option, Over, Phase, Row, Shipping, Site, Some, Step, Stmt, Txn, Value, [], after_hand, after_send, answered, arith, asking_of, askings, begins, cond, contains, counted, counts_for, fetches, fetches_from, few_undone, fewer_left, first_phase, for_move, for_phase, for_reduce, goes_on, if◌then◌else◌, insert_key, is_fetching, lacking, length, length-append, most_values, move_at, moves_left, mul-le, mul-le-mul_right, nat_tests, next_move, not, phase_ends, reduces, refl, subst, suc-mul, true, uses_in, value_cmp, with_use, with_values, without, ℕ, ◌&&◌, ◌*◌, ◌++◌, ◌+◌, ◌<◌, ◌==◌, ◌^◌, ◌∷◌, ◌≡◌, ◌≤◌}
+use Rattle.sdd_attempt.proofs.Going.{goes_by}
+use Rattle.sdd_attempt.proofs.Lists.{few_filtered, few_picked, inserted_few}
 use Rattle.sdd_module.specs.wire.declared.msg.Msg.TheVariants as msgs
+use Rattle.sdd_attempt.proofs.Phases.{own}
 
 -- lengths
 
@@ -14,23 +15,11 @@ few_without ns d = few_filtered (λ n. not (n == d)) ns
 
 fewer_without : (ns : List ℕ) (d : ℕ) → contains ns d ≡ true → length (without ns d) < length ns
 fewer_without [] d e = cc
-fewer_without (n ∷ ns) d e =
-    elim (n == d) as (λ t. (t || contains ns d) ≡ true → length (if not t then n ∷ without ns d else without ns d) < suc (length ns)) [
-      | true ↦ λ f. omega (arith, few_without ns d)
-      | false ↦ λ f. omega (arith, fewer_without ns d f)
-    ] e
-
-put_by : (o : Ordering) (v x : Value) (xs ys : List Value) → length ys ≤ suc (length xs)
-    → length (match_ordering o (v ∷ x ∷ xs) (x ∷ xs) (x ∷ ys)) ≤ suc (suc (length xs))
-put_by o v x xs ys h = grind arith
-
-inserted_few : (vs : List Value) (v : Value) → length (insert_key value_cmp vs v) ≤ suc (length vs)
-inserted_few [] v = omega arith
-inserted_few (x ∷ xs) v = put_by (value_cmp v x) v x xs (insert_key value_cmp xs v) (inserted_few xs v)
+fewer_without (n ∷ ns) d e = grind (arith, contains, without, few_without, (fewer_without ns d))
 
 few_united : (us vs : List Value) → length (with_values us vs) ≤ length us + length vs
 few_united us [] = omega arith
-few_united us (v ∷ vs) = omega (arith, few_united (insert_key value_cmp us v) vs, inserted_few us v)
+few_united us (v ∷ vs) = omega (arith, few_united (insert_key value_cmp us v) vs, inserted_few value_cmp us v)
 
 -- REDUCE
 
@@ -42,10 +31,7 @@ pub record CanReduce (x : Exchange) : Type 0 where
   pub rows : x.rows ≡ length x.found
 
 reduces_room : (ts c : ℕ) (m : Move) (x : Exchange) → CanReduce x → HasRoom (reduces ts c m x)
-reduces_room ts c m x can =
-    let sent : length x.union * length (with_use x m.target.part) ≤ for_reduce (length x.modules) =
-    mul-le (length x.union) (length (with_use x m.target.part)) (most_values (length x.modules)) (length x.modules) can.union (few_with_use x m.target.part) in
-    record { small = can.small; values = omega (arith, sent, can.values); union = tt; rows = can.rows }
+reduces_room ts c m x can = grind (arith, mul-le, few_with_use)
 
 -- FETCH
 
@@ -74,29 +60,22 @@ by_room : (ts c : ℕ) (x : Exchange) (q : Asking) (rest : List Asking) (steps :
     → HasRoom (goes_on ts c x rest []) → HasRoom (goes_by ts c x q rest steps o)
 by_room ts c x q rest steps None small rows values e other = other
 by_room ts c x q rest steps (Some m) small rows values e other =
-    let fewer = fewer_left q.conds (counts_for x.counts q) steps m e in
-    fetches_room ts c (move_at q.before m) (record x { left = q ∷ rest; done = steps ++ m.step ∷ [] }) (record {
-      small = small;
-      values = omega (arith, values, fewer_moves (moves_left (q ∷ rest) (steps ++ m.step ∷ [])) (moves_left (q ∷ rest) steps) (for_move (length x.modules)) (omega (arith, fewer)));
-      rows = rows;
-    })
+    fetches_room ts c (move_at q.before m) (record x { left = q ∷ rest; done = steps ++ m.step ∷ [] })
+    (record { small = small; values = grind (arith, fewer_left, fewer_moves); rows = rows })
 
 goes_room : (ts c : ℕ) (x : Exchange) (qs : List Asking) (steps : List Step) → AreSmall qs → x.rows ≡ length x.found
     → x.values + moves_left qs steps * for_move (length x.modules) < 2 ^ 128 → HasRoom (goes_on ts c x qs steps)
 goes_room ts c x [] steps small rows values = record { small = small; values = omega (arith, values); union = tt; rows = rows }
 goes_room ts c x (q ∷ rest) steps small rows values =
-    let fewer = mul-le-mul_right (for_move (length x.modules)) (rest_fewer q rest steps) in
-    subst HasRoom (sym (goes_split ts c x q rest steps))
-    (by_room ts c x q rest steps (next_move q.conds (counts_for x.counts q) steps) small rows values refl
-    (goes_room ts c x rest [] (All-tail IsSmallQuery q rest small) rows (omega (arith, values, fewer))))
+    by_room ts c x q rest steps (next_move q.conds (counts_for x.counts q) steps) small rows values refl
+    (goes_room ts c x rest [] (All-tail IsSmallQuery q rest small) rows (grind (arith, mul-le-mul_right, rest_fewer)))
 
 -- the end of a phase
 ends_room : (ts c : ℕ) (x : Exchange) (p : Phase) → x.phase ≡ p → HasRoom x → HasRoom (phase_ends ts c x p)
 ends_room ts c x (Fetching m) e room =
     let values : x.values + for_phase (length x.lacks) (length x.modules) (Fetching m) + moves_left x.left x.done * for_move (length x.modules) < 2 ^ 128 =
     subst (λ p. x.values + for_phase (length x.lacks) (length x.modules) p + moves_left x.left x.done * for_move (length x.modules) < 2 ^ 128) e room.values in
-    let union : HasUnion (length x.union) (length x.lacks) (length x.modules) (Fetching m) = subst
-    (HasUnion (length x.union) (length x.lacks) (length x.modules)) e room.union in
+    let union : HasUnion (length x.union) (length x.lacks) (length x.modules) (Fetching m) = grind (arith, nat_tests) in
     reduces_room ts c m x (record { small = room.small; values = omega (arith, values); union = omega (arith, union); rows = room.rows })
 ends_room ts c x Shipping e room = record { small = room.small; values = omega (arith, room.values); union = tt; rows = room.rows }
 ends_room ts c x Over e room = room
@@ -115,15 +94,7 @@ union_fewer : (union few lacks modules : ℕ) (p : Phase) → few ≤ lacks → 
 union_fewer union few lacks modules p le h = grind arith
 
 answered_room : (ts c d : ℕ) (x : Exchange) → HasRoom x → HasRoom (answered ts c d x)
-answered_room ts c d x room =
-    let few = few_without x.lacks d in
-    lacking_room ts c x (without x.lacks d)
-    (record {
-      small = room.small;
-      values = omega (arith, room.values, phase_fewer (length (without x.lacks d)) (length x.lacks) (length x.modules) x.phase few);
-      union = union_fewer (length x.union) (length (without x.lacks d)) (length x.lacks) (length x.modules) x.phase few room.union;
-      rows = room.rows;
-    })
+answered_room ts c d x room = grind (arith, few_without, lacking_room, phase_fewer, union_fewer)
 
 -- the values that come have the room of the answer that lacked
 values_by : (values few lacks modules : ℕ) (p : Phase) → is_fetching p ≡ true → few < lacks → values < 2 ^ 64
@@ -136,23 +107,12 @@ united_by union all values few lacks modules p e less small le h = grind arith
 
 values_room : (ts c d : ℕ) (vs : List Value) (x : Exchange) → HasRoom x → is_fetching x.phase ≡ true → contains x.lacks d ≡ true → length vs < 2 ^ 64
     → HasRoom (answered ts c d (record x { union = with_values x.union vs; values = x.values + length vs }))
-values_room ts c d vs x room fetching lacks few =
-    let ds : List ℕ = without x.lacks d in
-    let less = fewer_without x.lacks d lacks in
-    lacking_room ts c (record x { union = with_values x.union vs; values = x.values + length vs }) ds
-    (record {
-      small = room.small;
-      values = omega (arith, room.values, values_by (length vs) (length ds) (length x.lacks) (length x.modules) x.phase fetching less few);
-      union = united_by (length x.union) (length (with_values x.union vs)) (length vs) (length ds) (length x.lacks) (length x.modules) x.phase fetching less few
-          (few_united x.union vs) room.union;
-      rows = room.rows;
-    })
+values_room ts c d vs x room fetching lacks few = grind (arith, fewer_without, lacking_room, values_by, united_by, few_united)
 
 rows_room : (ts c d : ℕ) (rows : List (ℕ × Row)) (x : Exchange) → HasRoom x
     → HasRoom (answered ts c d (record x { found = x.found ++ rows; rows = x.rows + length rows }))
 rows_room ts c d rows x room =
-    answered_room ts c d (record x { found = x.found ++ rows; rows = x.rows + length rows })
-    (record { small = room.small; values = room.values; union = room.union; rows = omega (arith, room.rows, length-append x.found rows) })
+    answered_room ts c d _ (record { small = room.small; values = room.values; union = room.union; rows = omega (arith, room.rows, length-append x.found rows) })
 
 counts_room : (ts c d : ℕ) (counts : List ((ℕ × ℕ) × ℕ)) (x : Exchange) → HasRoom x → HasRoom (answered ts c d (record x { counts = counts }))
 counts_room ts c d counts x room =
@@ -164,8 +124,7 @@ where_own : (own : Bool) (x y : Exchange) → HasRoom x → (own ≡ true → Ha
 where_own own x y room h = grind arith
 
 pub handed_room : (ts c d : ℕ) (m : Msg) (x : Exchange) → HasRoom x → AreAwaited ts c d m x → CarriesFew m → HasRoom (after_hand ts c d m x)
-handed_room ts c d (msgs.Ready t k counts) x room awaited few =
-    where_own ((t.0 == ts) && (k.0 == c)) x _ room (λ own. counts_room ts c d (counted d counts x.counts) x room)
+handed_room ts c d (msgs.Ready t k counts) x room awaited few = grind (arith, nat_tests, where_own, counts_room, counted)
 handed_room ts c d (msgs.Values t k u vs) x room awaited few =
     where_own ((t.0 == ts) && (k.0 == c)) x _ room (λ own. values_room ts c d vs x room (awaited own).0 (awaited own).1 few)
 handed_room ts c d (msgs.Reduced t k u n) x room awaited few =
@@ -186,9 +145,7 @@ askings_small before [] few all = All-nil IsSmallQuery
 askings_small before (s ∷ rest) few all =
     let small : IsSmallStatement s = All-head IsSmallStatement s rest all in
     let uses = few_uses s small in
-    All-append IsSmallQuery (asking_of before s) (askings (before + uses_in s) rest)
-    (asking_small before s (omega (arith, few, uses)) (omega (arith, few)) small)
-    (askings_small (before + uses_in s) rest (omega (arith, few, uses)) (All-tail IsSmallStatement s rest all))
+    grind (arith, nat_tests, asking_of, askings, uses_in, asking_small, (askings_small (before + uses_in s) rest (omega (arith, few, uses)) (All-tail IsSmallStatement s rest all)))
 
 first_moves : (before : ℕ) (s : Stmt) (rest : List Asking) → IsSmallStatement s → moves_left (asking_of before s ++ rest) [] ≤ 32 + moves_left rest []
 first_moves before s rest small = grind (arith, few_undone)

@@ -1,5 +1,5 @@
 -- An attempt that may commit has rows that serve its database: only the last ROWS makes it so, or it has no module.
-use Rattle.sdd_attempt.proofs.All.{AnswersRead, Attempt, Bases, Bool, Catalogue, D, Database, DmNo, Exchange, FitsAnswer, FitsRows, FitsRowsOf, IsAsking, IsAskingAt, IsServed, List, Log, Msg, None, Option, Over, Phase, Ready, Reduced, Row, Rows, Serves, ServesIfLast, Setting, Shipping, Site, Some, Txn, Values, [], active, active_handed, after_hand, and_parts, answered, cond, counted, eqb-true, false, false≢true, fetches_use, handed, if◌then◌else◌, is_over, is_reading, is_shipping, lacking, length, phase_ends, reduces_use, refl, rejects, sent, subst, sym, true, with_values, without, ℕ, ◌&&◌, ◌++◌, ◌+◌, ◌==◌, ◌∙◌, ◌∷◌, ◌≡◌}
+use Rattle.sdd_attempt.proofs.All.{AnswersRead, Attempt, Bases, Bool, Catalogue, D, Database, DmNo, Exchange, FitsAnswer, FitsRows, FitsRowsOf, IsAsking, IsAskingAt, IsServed, List, Log, Msg, Phase, Ready, Reduced, Row, Rows, Serves, ServesIfLast, Setting, Site, Some, Txn, Values, [], active, active_handed, after_hand, and_parts, answered, arith, cond, counted, eqb-true, false, fetches_use, handed, is_over, is_reading, is_shipping, lacking, length, nat_tests, reduces_use, sent, subst, true, with_values, without, ℕ, ◌&&◌, ◌++◌, ◌+◌, ◌==◌, ◌∷◌, ◌≡◌}
 use Rattle.sdd_attempt.proofs.Phases.{with_counts, with_union, with_rows, ready_not_over, values_not_over, reduced_not_over}
 use Rattle.sdd_attempt.proofs.QuestionsOfAttempt.{ready_awaited, of_class}
 
@@ -10,34 +10,22 @@ ServesOver cat txn db x = is_over x.phase ≡ true → Serves cat txn x.found db
 -- an answer of a phase before the last
 not_over : (cat : Catalogue) (txn : Txn) (db : Database) (b : Bool) (x y : Exchange) → (b ≡ true → is_over y.phase ≡ false) → ServesOver cat txn db x
     → ServesOver cat txn db (cond b y x)
-not_over cat txn db true x y never h over = absurd (false≢true (sym (never refl) ∙ over))
-not_over cat txn db false x y never h over = h over
-
--- the rows of a module
-shipping_ends : (cat : Catalogue) (txn : Txn) (db : Database) (ts c : ℕ) (y : Exchange) (p : Phase) → is_shipping p ≡ true → Serves cat txn y.found db
-    → ServesOver cat txn db (phase_ends ts c y p)
-shipping_ends cat txn db ts c y Shipping e h over = h
-shipping_ends cat txn db ts c y _ e h over = absurd (false≢true e)
+not_over cat txn db b x y never h over = grind arith
 
 shipping_not_over : (p : Phase) → is_shipping p ≡ true → is_over p ≡ false
-shipping_not_over Over e = absurd (false≢true e)
-shipping_not_over _ e = refl
+shipping_not_over p e = grind arith
 
 last_rows : (s : Setting) (bases : Bases) (a : Attempt) (rows : List (ℕ × Row)) (c : ℕ) (y : Exchange) → y.found ≡ a.exchange.found ++ rows
     → is_shipping y.phase ≡ true → (ds : List ℕ) → ServesIfLast s bases a rows ds → ServesOver s.catalogue a.text (bases a.ts) (lacking a.ts c y ds)
-last_rows s bases a rows c y found e [] h =
-    shipping_ends s.catalogue a.text (bases a.ts) a.ts c (record y { lacks = [] }) y.phase e (subst (λ f. Serves s.catalogue a.text f (bases a.ts)) (sym found) h)
-last_rows s bases a rows c y found e (d ∷ ds) h = λ over. absurd (false≢true (sym (shipping_not_over y.phase e) ∙ over))
+last_rows s bases a rows c y found e ds h = grind arith
 
 if_serves : (cat : Catalogue) (txn : Txn) (db : Database) (b : Bool) (x y : Exchange) → (b ≡ true → ServesOver cat txn db y) → ServesOver cat txn db x
     → ServesOver cat txn db (cond b y x)
-if_serves cat txn db true x y h k = h refl
-if_serves cat txn db false x y h k = k
+if_serves cat txn db b x y h k = grind arith
 
 rows_of_class : (s : Setting) (bases : Bases) (log : Log) (from : Site) (ts k c : ℕ) (a : Attempt) (rows : List (ℕ × Row))
     → FitsRows s bases (active s k log) from ts rows → k ≡ c → active s c log ≡ Some a → FitsRowsOf s bases a from ts rows
-rows_of_class s bases log from ts k c a rows h same is =
-    subst (λ o. FitsRows s bases o from ts rows) is (subst (λ n. FitsRows s bases (active s n log) from ts rows) same h)
+rows_of_class s bases log from ts k c a rows h same is = grind arith
 
 read_of_class : (log : Log) (from : Site) (t k ts c : ℕ) → AnswersRead log from t k → t ≡ ts → k ≡ c → AnswersRead log from ts c
 read_of_class log from t k ts c h e f = subst (λ n. AnswersRead log from ts n) f (subst (λ n. AnswersRead log from n k) e h)
@@ -65,28 +53,10 @@ served_now s bases log c d (Reduced t k u n) a is f asks h =
     not_over s.catalogue a.text (bases a.ts) ((t.0 == a.ts) && (k.0 == c)) a.exchange (answered a.ts c d.0 y)
     (λ e. reduced_not_over a.ts c u y (without y.lacks d.0)
     (of_class s log (reduces_use u) (D d) t.0 k.0 c a f (eqb-true k.0 c (and_parts (t.0 == a.ts) (k.0 == c) e).1) is).phase) h
-served_now s bases log c d (Rows t k rows) a is f asks h =
-    let y : Exchange = with_rows a.exchange (a.exchange.found ++ rows) (a.exchange.rows + length rows) in
-    if_serves s.catalogue a.text (bases a.ts) ((t.0 == a.ts) && (k.0 == c)) a.exchange (answered a.ts c d.0 y)
-    (λ e.
-    let fits = rows_of_class s bases log (D d) t.0 k.0 c a rows f (eqb-true k.0 c (and_parts (t.0 == a.ts) (k.0 == c) e).1) is in
-    last_rows s bases a rows c y refl fits.awaited.phase (without y.lacks d.0) fits.served) h
+served_now s bases log c d (Rows t k rows) a is f asks h = grind (arith, nat_tests, with_rows, if_serves, answered, rows_of_class, eqb-true, and_parts, last_rows, without)
 served_now s bases log c d m a is f asks h = h
-
-served_if : (s : Setting) (bases : Bases) (a : Attempt) (x : Exchange) → ServesOver s.catalogue a.text (bases a.ts) x → (b : Bool)
-    → IsServed s.catalogue bases (if b then None else Some (record a { exchange = x }))
-served_if s bases a x h true = tt
-served_if s bases a x h false = h
-
-served_from : (s : Setting) (bases : Bases) (log : Log) (c : ℕ) (from : Site) (m : Msg) (o : Option Attempt) → active s c log ≡ o
-    → FitsAnswer s bases log from m → IsAskingAt c (sent log) (handed log) o
-    → IsServed s.catalogue bases o → IsServed s.catalogue bases (active_handed c from m o)
-served_from s bases log c (D d) m (Some a) is f asks h =
-    served_if s bases a (after_hand a.ts c d.0 m a.exchange) (served_now s bases log c d m a is f asks h) (rejects m a.ts c)
-served_from s bases log c (D d) m None is f asks h = tt
-served_from s bases log c _ m o is f asks h = h
 
 pub served_handed : (s : Setting) (bases : Bases) (log : Log) (c : ℕ) (from : Site) (m : Msg) → FitsAnswer s bases log from m
     → IsAskingAt c (sent log) (handed log) (active s c log)
     → IsServed s.catalogue bases (active s c log) → IsServed s.catalogue bases (active_handed c from m (active s c log))
-served_handed s bases log c from m f asks h = served_from s bases log c from m (active s c log) refl f asks h
+served_handed s bases log c from m f asks h = grind (arith, served_now)

@@ -1,16 +1,11 @@
 -- Numbers of uses and conditions stay small.
-use Rattle.sdd_attempt.proofs.All.{All, All-cons, All-filter, All-head, All-nil, All-tail, Asking, Bool, Condition, Const, FitsMove, IsSmallQuery, Join, JoinsWithin, List, Move, None, Option, Same, Some, Step, [], better, cond, false, fewest, filter, flat_map, if◌then◌else◌, is_candidate, joins_from, moves, moves_by, nat_lt, next_move, refl, rows_at, subst, true, ℕ, ◌+◌, ◌==◌, ◌∷◌, ◌≡◌, ◌≤◌}
+use Rattle.sdd_attempt.proofs.All.{All, All-filter, All-head, All-nil, All-tail, Asking, Bool, Condition, Const, FitsMove, IsSmallQuery, Join, JoinsWithin, List, Move, Option, Same, Some, Step, [], arith, better, fewest, filter, flat_map, if◌then◌else◌, is_candidate, joins_from, moves, moves_by, nat_lt, next_move, ℕ, ◌+◌, ◌==◌, ◌∷◌, ◌≡◌, ◌≤◌}
 use Rattle.sdd_attempt.proofs.LineActs.{some_is}
 
 -- the move that is chosen is one of them
 pub chosen_by : (P : Move → Type 0) (counts : List ℕ) (x : Move) (o : Option Move) (m : Move) → P x → ((y : Move) → o ≡ Some y → P y)
     → better counts x o ≡ Some m → P m
-chosen_by P counts x None m p h e = subst P (some_is e) p
-chosen_by P counts x (Some y) m p h e =
-    elim (nat_lt (rows_at counts y.source.part) (rows_at counts x.source.part)) as (λ t. cond t (Some y) (Some x) ≡ Some m → P m) [
-      | true ↦ λ f. subst P (some_is f) (h y refl)
-      | false ↦ λ f. subst P (some_is f) p
-    ] e
+chosen_by P counts x o m p h e = grind (arith, some_is, nat_lt)
 
 fewest_keeps : (P : Move → Type 0) (counts : List ℕ) (ms : List Move) (m : Move) → All P ms → fewest counts ms ≡ Some m → P m
 fewest_keeps P counts [] m all e = cc
@@ -20,12 +15,7 @@ fewest_keeps P counts (x ∷ ms) m all e =
 -- moves between columns whose uses have room
 fit_by : (before : ℕ) (same : Bool) (j : Join) (rest : List Join) → before + j.left.part ≤ 192 → before + j.right.part ≤ 192
     → All (FitsMove before) (flat_map moves_by rest) → All (FitsMove before) (flat_map moves_by (if same then rest else j ∷ rest))
-fit_by before true j rest l r all = all
-fit_by before false j rest l r all =
-    let to_left : Move = record { step = record { cond = j.number; left = true }; source = j.right; target = j.left } in
-    let to_right : Move = record { step = record { cond = j.number; left = false }; source = j.left; target = j.right } in
-    All-cons (FitsMove before) to_left (to_right ∷ flat_map moves_by rest) (record { source = r; target = l })
-    (All-cons (FitsMove before) to_right (flat_map moves_by rest) (record { source = l; target = r }) all)
+fit_by before same j rest l r all = grind (arith, flat_map)
 
 fit_moves : (before k : ℕ) (conds : List Condition) → All (JoinsWithin before 192) conds → All (FitsMove before) (flat_map moves_by (joins_from k conds))
 fit_moves before k [] all = All-nil (FitsMove before)

@@ -1,8 +1,9 @@
 -- The line of a class after each entry of the log of a site.
-use Rattle.sdd_attempt.proofs.All.{Act, AllByRecursion, AllUpTo, AreStamped, Attempt, Bases, Catalogue, Change, D, Did, Era, FitsAnswer, FitsTxn, Handed, IsAsking, IsAskingAt, IsLineOf, IsOfHead, List, Log, Msg, None, Option, Queued, Rec, Records, Redeclared, Sends, Setting, Site, Some, Submits, Ticked, Ticking, Txn, Use, [], active, active_after, active_sent, and_right, ap, arith, ascending, asks_rows, bound_of, clock, commit_act, cond, cond-true, contains, current_era, dm_no, effect, eq-eqb, false, filter_map, first_send, fragments_in, handed, head_of, is_for, is_read, is_some, list_all, map, module_read, modules_of, ne_eqb, numbers_to, or_left, or_right, queue, queue_after, read_set, read_to, reads_at, refl, send_due, sends_of_act, sent, start_act, started, submits, subst, sym, ticked, timestamp, tried, true, uses_of, write_to, ℕ, ◌&&◌, ◌++◌, ◌<◌, ◌==◌, ◌^◌, ◌∙◌, ◌∷◌, ◌≡◌, ◌≢◌}
+use Rattle.sdd_attempt.proofs.All.{Act, AllByRecursion, AllUpTo, AreStamped, Attempt, Bases, Catalogue, Change, D, Did, Era, FitsAnswer, FitsTxn, Handed, IsAsking, IsAskingAt, IsLineOf, IsOfHead, List, Log, Msg, None, Option, Queued, Rec, Records, Redeclared, Sends, Setting, Site, Some, Submits, Ticked, Ticking, Txn, Use, [], active, active_after, active_sent, and_right, ap, arith, ascending, asks_rows, bound_of, clock, commit_act, cond, cond-true, contains, current_era, dm_no, effect, eq-eqb, false, filter_map, first_send, fragments_in, handed, head_of, is_for, is_read, is_some, list_all, map, module_read, modules_of, nat_tests, ne_eqb, numbers_to, or_left, or_right, queue, queue_after, read_set, read_to, reads_at, refl, send_due, sends_of_act, sent, start_act, started, submits, subst, sym, ticked, timestamp, tried, true, uses_of, write_to, ℕ, ◌&&◌, ◌++◌, ◌<◌, ◌==◌, ◌^◌, ◌∙◌, ◌∷◌, ◌≡◌, ◌≢◌}
 use Rattle.sdd_attempt.proofs.QuestionsOfAttempt.{NoReads, AreReads, asking_handed, asking_sends, asking_sent, asking_started}
 use Rattle.sdd_attempt.proofs.Waiting.{queue_did, queue_submitted, head_handed, head_submitted, head_sent, head_started}
 use Rattle.sdd_module.specs.protocol.declared.entry.Entry as line
+use Rattle.sdd_attempt.proofs.Phases.{own}
 
 -- what is handed, given, or passes
 
@@ -56,8 +57,7 @@ active_apart c k r sends qs o h = grind arith
 
 pub line_elsewhere : (s : Setting) (c k : ℕ) (log : Log) (r : Rec) (sends : List (Site × Msg)) → k ≢ c → ((ts : ℕ) → NoReads ts c sends) → IsLineOf s c log
     → IsLineOf s c (Did (Records k r sends) ∷ log)
-line_elsewhere s c k log r sends apart none h =
-    grind (arith, queue_apart, active, active_apart, submits, sent, handed, asking_sends)
+line_elsewhere s c k log r sends apart none h = grind (arith, queue_apart, active_apart, asking_sends)
 
 -- the next message of the exchange
 
@@ -81,13 +81,12 @@ line_requests : (s : Setting) (c : ℕ) (log : Log) (act : Act) (o : Option Atte
 line_requests s c log act o a is here e h =
     let p = send_is a.exchange.to_send act e in
     let m = p.0 in
-    let own : IsAsking c (sent log) (handed log) a = subst (IsAskingAt c (sent log) (handed log)) (is ∙ here) h.asking in
     rw p.3
     (record {
       in_queue = h.in_queue;
       of_head = head_sent c (queue s c log) m.1 (active s c log) h.of_head;
       asking = subst (λ x. IsAskingAt c ((D (dm_no m.0), m.1) ∷ sent log) (handed log) (active_sent c m.1 x)) (sym (is ∙ here))
-          (asking_sent c (sent log) (handed log) a (D (dm_no m.0)) m p.1 p.2 own);
+          (asking_sent c (sent log) (handed log) a (D (dm_no m.0)) m p.1 p.2 (subst (IsAskingAt c (sent log) (handed log)) (is ∙ here) h.asking));
     })
 
 pub line_sent : (s : Setting) (c : ℕ) (log : Log) (act : Act) (a : Attempt) → active s c log ≡ Some a → send_due a.exchange ≡ Some act → IsLineOf s c log
@@ -182,14 +181,10 @@ line_started s table c log q rest is stamped h =
     let act : Act = start_act s.catalogue table c (clock s.site log) q in
     let own : ℕ = timestamp (ticked (clock s.site log) 1) in
     let begun : Option Attempt = started own (sends_of_act act) (Some q) in
-    let now : active_after c act (queue s c log) (active s c log) ≡ begun = own_class c (started own (sends_of_act act) (head_of (queue s c log)))
-    (active s c log) ∙ ap (λ qs. started own (sends_of_act act) (head_of qs)) is in
-    let tried_on : queue_after c act (queue s c log) ≡ map (tried q.number) (q ∷ rest) = own_class c (map (tried q.number) (queue s c log)) (queue s c log)
-    ∙ ap (map (tried q.number)) is in
+    let now : active_after c act (queue s c log) (active s c log) ≡ begun = grind (arith, nat_tests, own_class, started, sends_of_act, head_of, queue, active) in
+    let tried_on : queue_after c act (queue s c log) ≡ map (tried q.number) (q ∷ rest) = grind (arith, nat_tests, own_class, tried, queue) in
     record {
       in_queue = queue_did s.catalogue c (submits log) act (queue s c log) h.in_queue;
-      of_head = subst (λ qs. IsOfHead qs (active_after c act (queue s c log) (active s c log))) (sym tried_on)
-          (subst (IsOfHead (map (tried q.number) (q ∷ rest))) (sym now) (head_started own (sends_of_act act) q rest));
-      asking = subst (IsAskingAt c (sends_of_act act ++ sent log) (handed log)) (sym now)
-          (start_asking s.catalogue table c (clock s.site log) q (sent log) (handed log) stamped);
+      of_head = grind (arith, nat_tests, active_after, queue, active, tried, head_started, sends_of_act);
+      asking = grind (arith, nat_tests, sends_of_act, sent, handed, start_asking, clock);
     }

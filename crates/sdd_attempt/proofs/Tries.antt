@@ -1,5 +1,5 @@
 -- Each try of a transaction was a Start, which took a tick of the clock.
-use Rattle.sdd_attempt.proofs.All.{All-filter, All-map, All-nil, All-push, All-weaker, AreTried, Bool, Commit, Did, Handed, List, Log, Msg, Queued, Rec, Records, Redeclared, Sends, Setting, Site, Start, Submits, Ticked, [], arith, clock, cond, current_era, false, filter, is_for, map, not, queue, queue_after, suc, ticked_by, tried, true, ℕ, ◌++◌, ◌+◌, ◌==◌, ◌∷◌, ◌≤◌}
+use Rattle.sdd_attempt.proofs.All.{All-filter, All-map, All-nil, All-push, All-weaker, AreTried, Bool, Commit, Did, Handed, List, Log, Msg, Queued, Rec, Records, Redeclared, Sends, Setting, Site, Start, Submits, Ticked, [], arith, clock, cond, current_era, false, filter, is_for, map, nat_tests, not, queue, queue_after, suc, ticked_by, tried, true, ℕ, ◌++◌, ◌+◌, ◌==◌, ◌∷◌, ◌≤◌}
 use Rattle.sdd_attempt.proofs.Stamps.{no_sooner}
 
 pub tried_later : (n m : ℕ) (qs : List Queued) → AreTried n qs → n ≤ m → AreTried m qs
@@ -36,8 +36,7 @@ kept c k _ sends s log h = h
 
 pub tries_told : (s : Setting) (c : ℕ) (log : Log) → AreTried (clock s.site log).ticks (queue s c log)
 tries_told s c [] = All-nil (λ (q : Queued). q.tries ≤ 0)
-tries_told s c (Handed from m ∷ log) =
-    tried_later (clock s.site log).ticks (clock s.site (Handed from m ∷ log)).ticks (queue s c log) (tries_told s c log) (no_sooner s.site (Handed from m) log).0
+tries_told s c (Handed from m ∷ log) = grind (arith, nat_tests, tried_later, clock, queue, no_sooner, (tries_told s c log))
 tries_told s c (Ticked n ∷ log) =
     tried_later (clock s.site log).ticks (clock s.site (Ticked n ∷ log)).ticks (queue s c log) (tries_told s c log) (no_sooner s.site (Ticked n) log).0
 tries_told s c (Redeclared era t ∷ log) =

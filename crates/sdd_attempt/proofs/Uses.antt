@@ -1,6 +1,6 @@
 -- The uses of a transaction and their fragments: each is there, and they are few.
-use Rattle.sdd_attempt.proofs.All.{All, All-append, All-cons, All-from_recursion, All-head, All-nil, All-tail, All-weaker, AllByRecursion, AreThere, Bool, Catalogue, Condition, Delete, FitsStatement, FitsTxn, FragNo, IsClassOf, IsSmallStatement, IsSmallText, IsThere, IsWhole, List, Ordering, Put, Query, RelNo, Restriction, Stmt, Txn, Update, Use, [], ap, arith, ascending, conditions, conditions_at, false, filter_map, flat_map-append, fold, frag_no, fragments_for, fragments_in, fragments_there, if◌then◌else◌, insert_key, length, length-append, length-range_with_len, map, match_ordering, modules_of, nat_cmp, nat_tests, numbers_to, part_uses, reads_at, refl, restrictions_of, statement_uses, suc, uses_from, uses_of, ℕ, ◌*◌, ◌+◌, ◌==◌, ◌∷◌, ◌≡◌, ◌≤◌}
-use Rattle.sdd_attempt.proofs.Lists.{few_filtered, few_picked}
+use Rattle.sdd_attempt.proofs.All.{All, All-append, All-cons, All-from_recursion, All-head, All-nil, All-tail, AllByRecursion, AreThere, Bool, Catalogue, Condition, Delete, FitsStatement, FitsTxn, FragNo, IsClassOf, IsSmallStatement, IsSmallText, IsThere, IsWhole, List, Put, Query, RelNo, Restriction, Stmt, Txn, Update, Use, [], ap, arith, ascending, conditions, conditions_at, false, filter_map, flat_map-append, fold, frag_no, fragments_for, fragments_in, fragments_there, if◌then◌else◌, insert_key, length, length-append, length-range_with_len, map, modules_of, nat_cmp, nat_tests, numbers_to, part_uses, reads_at, refl, restrictions_of, statement_uses, suc, uses_from, uses_of, ℕ, ◌*◌, ◌+◌, ◌==◌, ◌∷◌, ◌≡◌, ◌≤◌}
+use Rattle.sdd_attempt.proofs.Lists.{few_filtered, few_picked, inserted_few}
 use Rattle.sdd_module.specs.protocol.declared.entry.Entry as line
 
 -- each is there
@@ -98,17 +98,9 @@ few_in_statements cat before (s ∷ rest) small all =
       length-append (fragments_in here) (fragments_in more),
     )
 
-put_few : (o : Ordering) (k x : ℕ) (xs ys : List ℕ) → length ys ≤ suc (length xs)
-    → length (match_ordering o (k ∷ x ∷ xs) (x ∷ xs) (x ∷ ys)) ≤ suc (suc (length xs))
-put_few o k x xs ys h = grind arith
-
-inserted_few : (ks : List ℕ) (k : ℕ) → length (insert_key nat_cmp ks k) ≤ suc (length ks)
-inserted_few [] k = omega arith
-inserted_few (x ∷ xs) k = put_few (nat_cmp k x) k x xs (insert_key nat_cmp xs k) (inserted_few xs k)
-
 all_few : (ks ns : List ℕ) → length (fold (λ ks k. insert_key nat_cmp ks k) ks ns) ≤ length ks + length ns
 all_few ks [] = omega arith
-all_few ks (n ∷ ns) = omega (arith, all_few (insert_key nat_cmp ks n) ns, inserted_few ks n)
+all_few ks (n ∷ ns) = omega (arith, all_few (insert_key nat_cmp ks n) ns, inserted_few nat_cmp ks n)
 
 few_modules_by : (cat : Catalogue) (c : ℕ) (undeclared : Bool) (frags : List ℕ) → cat.dms ≤ 16 → length frags ≤ 65536
     → length (if undeclared then numbers_to cat.dms else ascending (filter_map (reads_at cat c) frags)) ≤ 65536
@@ -120,8 +112,7 @@ small_statement : (cat : Catalogue) (s : Stmt) → FitsStatement cat s → IsSma
 small_statement cat s fits = grind arith
 
 pub small_text : (cat : Catalogue) (txn : Txn) → FitsTxn cat txn → IsSmallText txn
-small_text cat txn fits =
-    record { few = fits.few; statements = All-weaker (FitsStatement cat) IsSmallStatement (small_statement cat) txn.statements fits.statements }
+small_text cat txn fits = grind (arith, small_statement)
 
 pub few_modules : (cat : Catalogue) (c : ℕ) (txn : Txn) → IsWhole cat → IsSmallText txn
     → length (modules_of cat c (ascending (fragments_in (uses_of cat txn)))) ≤ 65536

@@ -1,6 +1,6 @@
 -- The queue of a class after each entry of the log: its transactions stay different ones that fit, and the active
 -- attempt is of the first of them.
-use Rattle.sdd_attempt.proofs.All.{Act, AllByRecursion, Attempt, Bool, Catalogue, Differ, FitsTxn, IsOfHead, IsQueue, IsWaiting, List, Msg, Option, Queued, Rec, Records, Site, Some, Txn, [], active_handed, active_sent, all_kept, ap, arith, cond, contains, eq-eqb, eqb-true, false, filter, head_of, is_for, is_some, length, list_all, map, not, or_right, queue_after, read_set, reads_at, refl, started, submitted, subst, suc, sym, tried, true, zero, ℕ, ◌++◌, ◌<◌, ◌==◌, ◌^◌, ◌∙◌, ◌∷◌, ◌≡◌, ◌≢◌, ◌≤◌}
+use Rattle.sdd_attempt.proofs.All.{Act, AllByRecursion, Attempt, Bool, Catalogue, Differ, FitsTxn, IsOfHead, IsQueue, IsWaiting, List, Msg, Option, Queued, Rec, Records, Site, Some, Txn, [], active_handed, active_sent, all_kept, ap, arith, cond, contains, eq-eqb, eqb-true, false, filter, head_of, is_for, is_some, length, list_all, map, nat_tests, not, or_right, queue_after, read_set, reads_at, refl, started, submitted, subst, suc, sym, tried, true, zero, ℕ, ◌++◌, ◌<◌, ◌==◌, ◌^◌, ◌∙◌, ◌∷◌, ◌≡◌, ◌≢◌, ◌≤◌}
 
 -- a try changes no number and no text
 
@@ -47,8 +47,7 @@ queue_did cat c given act qs h = grind (arith, record_queue)
 waits_still : (cat : Catalogue) (c n : ℕ) (given : List ℕ) (qs : List Queued) → AllByRecursion (IsWaiting cat c given) qs
     → AllByRecursion (IsWaiting cat c (n ∷ given)) qs
 waits_still cat c n given [] h = tt
-waits_still cat c n given (q ∷ qs) h =
-    (record { is_given = or_right (n == q.number) (contains given q.number) h.0.is_given; small = h.0.small; fitting = h.0.fitting; covered = h.0.covered }, waits_still cat c n given qs h.1)
+waits_still cat c n given (q ∷ qs) h = grind (arith, nat_tests, or_right, contains, (waits_still cat c n given qs h.1))
 
 all_push : {A : Type 0} (P : A → Type 0) (xs : List A) (x : A) → AllByRecursion P xs → P x → AllByRecursion P (xs ++ x ∷ [])
 all_push P [] x h k = (k, tt)
@@ -62,8 +61,7 @@ differ_push cat c given (q ∷ qs) r all fresh h = grind (arith, all_push, diffe
 pub queue_submitted : (cat : Catalogue) (c : ℕ) (given : List ℕ) (here : Catalogue) (n : ℕ) (txn : Txn) (qs : List Queued) → contains given n ≡ false
     → n < 2 ^ 32 → FitsTxn cat txn → (is_for c here txn ≡ true → list_all (λ f. is_some (reads_at cat c f)) (read_set cat txn) ≡ true) → IsQueue cat c given qs
     → IsQueue cat c (n ∷ given) (submitted c here n txn qs)
-queue_submitted cat c given here n txn qs fresh small fits covered h =
-    grind (arith, waits_still, cond, differ_push, all_push, eq-eqb)
+queue_submitted cat c given here n txn qs fresh small fits covered h = grind (arith, waits_still, differ_push, all_push, eq-eqb)
 
 -- the head
 
@@ -107,8 +105,7 @@ one_lost n (q ∷ qs) h =
     elim (q.number == n) as (λ b. (q.number == n) ≡ b → suc (length qs) ≤ suc (length (cond (not b) (q ∷ others n qs) (others n qs)))) [
       | true ↦ λ e.
           let all : others n qs ≡ qs = all_apart n qs (subst (λ k. AllByRecursion (λ (r : Queued). r.number ≢ k) qs) (eqb-true q.number n e) h.0) in
-          let same : length (others n qs) ≡ length qs = ap length all in
-          omega arith
+          omega (arith, ap length all)
       | false ↦ λ e. let rest = one_lost n qs h.1 in omega arith
     ] refl
 
@@ -120,10 +117,7 @@ below_others n (q ∷ qs) h = grind (arith, below_others n qs h.1)
 pub few_numbers : (n : ℕ) (qs : List Queued) → Differ qs → AllByRecursion (λ q. q.number < n) qs → length qs ≤ n
 few_numbers zero [] h low = omega arith
 few_numbers zero (q ∷ qs) h low = let none : q.number < 0 = low.0 in absurd (omega arith)
-few_numbers (suc n) qs h low =
-    let rest = few_numbers n (others n qs) (kept_differ (λ q. not (q.number == n)) qs h) (below_others n qs low) in
-    let one = one_lost n qs h in
-    omega arith
+few_numbers (suc n) qs h low = grind (arith, nat_tests, others, kept_differ, below_others, one_lost, (few_numbers n (others n qs) (kept_differ (λ q. not (q.number == n)) qs h) (below_others n qs low)))
 
 smalls : (cat : Catalogue) (c : ℕ) (given : List ℕ) (qs : List Queued) → AllByRecursion (IsWaiting cat c given) qs → AllByRecursion (λ q. q.number < 2 ^ 32) qs
 smalls cat c given [] h = tt

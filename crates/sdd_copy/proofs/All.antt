@@ -3,7 +3,7 @@ pub use Rattle.sdd_copy.specs.Ascending.{ascend}
 pub use Rattle.sdd_copy.specs.Contents.{Dated, contents, keys_in, latest, newer, of_fragment, row_left, rows_left}
 pub use Rattle.sdd_copy.specs.Copies.{AreHere, Held, IsLive, Represent, changed_at, held_in, is_here, items_at, or_none, rows_at, with_change}
 pub use Rattle.sdd_copy.specs.Frozen.{CopyRows, Frozen, all_rows, chosen, frozen_for, is_among, or_nothing, reduced, rows_for, rows_of, with_keyed}
-pub use Rattle.sdd_copy.specs.Items.{Items, dated, entries_in, initial, initial_row, is_newer, items_of, row_at, row_in, row_of_item, rows_in, written}
+pub use Rattle.sdd_copy.specs.Items.{Items, dated, entries_in, initial, is_newer, items_of, row_at, row_in, row_of_item, rows_in, written}
 pub use Rattle.sdd_copy.specs.Keyed.{AreHeld, AreKeyed, HasHeldKey, HasKey, IsNear, is_within, one_at, rows_meeting}
 pub use Rattle.sdd_copy.specs.Known.{is_known, known_use}
 pub use Rattle.sdd_copy.specs.Sets.{AreSame, DatesDiffer}
@@ -14,7 +14,7 @@ pub use Rattle.sdd_lang.proofs.base.Membership.{Contains-cases, Contains-here, C
 pub use Rattle.sdd_lang.proofs.catalog.FragmentOf.{le_true}
 pub use Rattle.sdd_lang.proofs.catalog.RoundTrip.{each_more as each_weaker}
 pub use Rattle.sdd_lang.specs.All.{Change, FragNo, Int, Interval, IsOfKeys, IsWithin, Kept, Restriction, Use, Value, all_keys, allowed_keys, column, common, first_some, frag_no, holds_some, meets, value_cmp, value_cmp_total, with_values}
-pub use Rattle.std.proofs.Common.{All, Bool, Contains, Equal, Err, Greater, IfSome, Less, List, None, Ok, OnErr, OnOk, Option, Ordering, Result, SFits as FitsSigned, Some, [], ap, append-nil, append_assoc, arith, cond, drop, eq-eqb, eqb-true, false, filter, filter_map, flat_map, fold, if◌then◌else◌, inl, inr, int_cmp, int_le, int_lt, is_eq, is_le, is_lt, is_some, le-ltb, length, lt-ltb, map, nat_lt, not, option_copied, option_map, pos, refl, rules, slice_index_or, slice_set, subst, suc, sym, take, take_all, to_z-of_z, true, w64, zero, ℕ, ℤ, ◌&&◌, ◌++◌, ◌+◌, ◌<ℤ◌, ◌<◌, ◌==◌, ◌||◌, ◌∙◌, ◌∷◌, ◌≡◌, ◌≤ℤ◌, ◌≤◌}
+pub use Rattle.std.proofs.Common.{All, Bool, Contains, Equal, Greater, IfSome, Less, List, None, OnErr, OnOk, Option, Ordering, Result, SFits as FitsSigned, Some, [], ap, append-nil, append_assoc, arith, cond, drop, eq-eqb, eqb-true, false, filter, filter_map, flat_map, fold, if◌then◌else◌, inl, inr, int_cmp, int_le, int_lt, is_eq, is_le, is_lt, is_some, le-ltb, length, lt-ltb, map, nat_lt, not, option_copied, option_map, pos, refl, rules, slice_index_or, slice_set, subst, suc, sym, take, take_all, to_z-of_z, true, w64, zero, ℕ, ℤ, ◌&&◌, ◌++◌, ◌+◌, ◌<ℤ◌, ◌<◌, ◌==◌, ◌||◌, ◌∙◌, ◌∷◌, ◌≡◌, ◌≤ℤ◌, ◌≤◌}
 pub use Rattle.std.proofs.lemmas.Bool.{and_from as and_both}
 pub use Rattle.std.proofs.lemmas.Bool.Decides.{nat_tests}
 pub use Rattle.std.proofs.lemmas.Cmp.{int_cmp_total}
@@ -35,4 +35,4 @@ pub use Rattle.std.specs.List.{AllByRecursion, list_all}
 pub use Rattle.std.specs.List.Sorted.{IsStrictlySortedBy}
 pub use Rattle.std.specs.Map.{keys_of, lookup, set_value}
 pub use Rattle.std.specs.Map.Iter.{deref_pair}
-pub use Rattle.std.specs.Ordering.{MatchOrdering, match_ordering, ordering_reverse}
+pub use Rattle.std.specs.Ordering.{match_ordering, ordering_reverse}

@@ -22,8 +22,7 @@ of_key key items = filter (λ (e : Item). is_key key e.0) items
 
 none_behind : (key : ℤ) (items : Items) → AllByRecursion (λ k. int_cmp key k ≡ Less) (keys_of items) → of_key key items ≡ []
 none_behind key [] all = refl
-none_behind key (e ∷ items) all =
-    rw (key_before key e.0 (int_ranked key e.0 Less (sym all.0))) (none_behind key items all.1)
+none_behind key (e ∷ items) all = grind (arith, key_before, int_ranked, (none_behind key items all.1))
 
 abbrev found : ℤ → Items → Option (ℕ × Option (List Value))
 found key items = lookup (is_at (int_cmp key)) items

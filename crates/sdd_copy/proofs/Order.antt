@@ -1,5 +1,5 @@
 -- The contents of changes are told by which changes there are, not by their order.
-use Rattle.sdd_copy.proofs.All.{AreSame, Bool, Change, Contains, Contains-cases, Contains-here, Contains-later, Contains-nil, Dated, DatesDiffer, Equal, Greater, Items, Less, List, None, Option, Some, Value, [], ap, arith, cond, contents, entries_in, false, if◌then◌else◌, inl, inr, int_cmp, is_at, is_eq, items_of, latest, lookup, nat_lt, nat_tests, newer, of_fragment, refl, subst, sym, true, ℕ, ℤ, ◌==◌, ◌∙◌, ◌∷◌, ◌≡◌}
+use Rattle.sdd_copy.proofs.All.{AreSame, Bool, Change, Contains, Contains-cases, Contains-here, Contains-later, Contains-nil, Dated, DatesDiffer, Equal, Greater, Items, Less, List, None, Option, Some, Value, [], ap, arith, cond, contents, entries_in, false, if◌then◌else◌, inl, inr, int_cmp, is_at, is_eq, items_of, latest, lookup, nat_lt, nat_tests, newer, of_fragment, refl, sym, true, ℕ, ℤ, ◌==◌, ◌∙◌, ◌∷◌, ◌≡◌}
 use Rattle.sdd_copy.proofs.Contents.{Above, Ascends, Keeps, same_key, flipped, is_own, eq_is, above_none, above_all, items_keep, shown, items_tell}
 
 -- the change x is one of key, and none of key in xs has a greater date
@@ -16,17 +16,11 @@ abbrev pub Answers : ℤ → Dated → Option (ℕ × Change) → Type 0
 Answers key xs None = NoneOf key xs
 Answers key xs (Some x) = IsLatest key xs x
 
-own_key : (a b : ℤ) → a ≡ b → is_eq (int_cmp a b) ≡ true
-own_key a b e = rw e (is_own b)
-
 not_before : (n : ℕ) → nat_lt n n ≡ false
 not_before n = grind (arith, nat_tests)
 
 less_than_latest : (a b c : ℕ) → nat_lt a b ≡ false → nat_lt b c ≡ false → nat_lt a c ≡ false
 less_than_latest a b c e f = grind (arith, nat_tests)
-
-less_asym : (a b : ℕ) → nat_lt a b ≡ true → nat_lt b a ≡ false
-less_asym a b e = grind (arith, nat_tests)
 
 -- a change of another key in front
 other_front : (key : ℤ) (x : ℕ × Change) (xs : Dated) (o : Option (ℕ × Change)) → (x.1.key ≡ key → ⊥) → Answers key xs o
@@ -35,34 +29,12 @@ other_front key x xs None other h = λ y in_it own. elim (Contains-cases x xs y 
   | inl e ↦ other (ap (λ z. z.1.key) (sym e) ∙ own)
   | inr later ↦ h y later own
 ]
-other_front key x xs (Some z) other h = record {
-  among = Contains-later x xs z h.among;
-  own = h.own;
-  last = λ y in_it own. elim (Contains-cases x xs y in_it) as (λ s. nat_lt z.0 y.0 ≡ false) [
-    | inl e ↦ absurd (other (ap (λ z. z.1.key) (sym e) ∙ own))
-    | inr later ↦ h.last y later own
-  ];
-}
+other_front key x xs (Some z) other h = grind (arith, Contains-later, Contains-cases, nat_lt)
 
 -- a change of this key in front: the newer of the two
 later_one : (key : ℤ) (x z : ℕ × Change) (xs : Dated) (b : Bool) → nat_lt x.0 z.0 ≡ b → x.1.key ≡ key → IsLatest key xs z
     → Answers key (x ∷ xs) (cond b (Some z) (Some x))
-later_one key x z xs true e own h = record {
-  among = Contains-later x xs z h.among;
-  own = h.own;
-  last = λ y in_it is. elim (Contains-cases x xs y in_it) as (λ s. nat_lt z.0 y.0 ≡ false) [
-    | inl same ↦ rw same (less_asym x.0 z.0 e)
-    | inr later ↦ h.last y later is
-  ];
-}
-later_one key x z xs false e own h = record {
-  among = Contains-here x xs;
-  own = own;
-  last = λ y in_it is. elim (Contains-cases x xs y in_it) as (λ s. nat_lt x.0 y.0 ≡ false) [
-    | inl same ↦ rw same (not_before x.0)
-    | inr later ↦ less_than_latest x.0 z.0 y.0 e (h.last y later is)
-  ];
-}
+later_one key x z xs b e own h = grind (arith, Contains-later, Contains-cases, nat_lt, nat_tests, Contains-here, not_before, less_than_latest)
 
 own_front : (key : ℤ) (x : ℕ × Change) (xs : Dated) (o : Option (ℕ × Change)) → x.1.key ≡ key → Answers key xs o
     → Answers key (x ∷ xs) (newer x o)
@@ -78,8 +50,7 @@ own_front key x xs (Some z) own h = later_one key x z xs (nat_lt x.0 z.0) refl o
 
 front : (key : ℤ) (x : ℕ × Change) (xs : Dated) (b : Bool) → is_eq (int_cmp x.1.key key) ≡ b → Answers key xs (latest key xs)
     → Answers key (x ∷ xs) (if b then newer x (latest key xs) else latest key xs)
-front key x xs true e h = own_front key x xs (latest key xs) (same_key x.1.key key (eq_is (int_cmp x.1.key key) e)) h
-front key x xs false e h = other_front key x xs (latest key xs) (λ own. let t = own_key x.1.key key own in absurd cc) h
+front key x xs b e h = grind (arith, own_front, same_key, eq_is, int_cmp, other_front, is_own)
 
 pub latest_answers : (key : ℤ) (xs : Dated) → Answers key xs (latest key xs)
 latest_answers key [] = λ y in_it own. Contains-nil y in_it
@@ -97,11 +68,7 @@ one_answer key xs ys None None d s g h = refl
 one_answer key xs ys None (Some y) d s g h = absurd (g y ((s y).1 h.among) h.own)
 one_answer key xs ys (Some x) None d s g h = absurd (h x ((s x).0 g.among) g.own)
 one_answer key xs ys (Some x) (Some y) d s g h =
-    let dates : x.0 ≡ y.0 = not_either x.0 y.0 (g.last y ((s y).1 h.among) h.own) (h.last x ((s x).0 g.among) g.own) in
-    ap Some (d x y g.among ((s y).1 h.among) (g.own ∙ sym h.own) dates)
-
-same_latest : (key : ℤ) (xs ys : Dated) → Differ xs → AreSame xs ys → latest key xs ≡ latest key ys
-same_latest key xs ys d s = one_answer key xs ys (latest key xs) (latest key ys) d s (latest_answers key xs) (latest_answers key ys)
+    ap Some (d x y g.among ((s y).1 h.among) (g.own ∙ sym h.own) (not_either x.0 y.0 (g.last y ((s y).1 h.among) h.own) (h.last x ((s x).0 g.among) g.own)))
 
 -- ascending items are told by what they hold at each key
 abbrev Held : ℤ → Items → Option (ℕ × Option (List Value))
@@ -114,18 +81,11 @@ at_first : (e : Item) (es : Items) → Held e.0 (e ∷ es) ≡ Some e.1
 at_first e es = rw (is_own e.0) refl
 
 first_missing : (e : Item) (es fs : Items) → Above e.0 fs → Held e.0 (e ∷ es) ≡ Held e.0 fs → ⊥
-first_missing e es fs a h =
-    let there : Held e.0 (e ∷ es) ≡ Some e.1 = at_first e es in
-    let none : Held e.0 fs ≡ None = above_none e.0 fs a in cc
+first_missing e es fs a h = grind (arith, Held, at_first, above_none)
 
 rest_same : (k : ℤ) (e f : Item) (es fs : Items) (b : Bool) → is_eq (int_cmp k e.0) ≡ b → e.0 ≡ f.0 → Above e.0 es → Above f.0 fs
     → cond b (Some e.1) (Held k es) ≡ cond b (Some f.1) (Held k fs) → Held k es ≡ Held k fs
-rest_same k e f es fs true own same a c h =
-    let at : k ≡ e.0 = same_key k e.0 (eq_is (int_cmp k e.0) own) in
-    let left : Held k es ≡ None = ap (λ j. Held j es) at ∙ above_none e.0 es a in
-    let right : Held k fs ≡ None = ap (λ j. Held j fs) (at ∙ same) ∙ above_none f.0 fs c in
-    left ∙ sym right
-rest_same k e f es fs false own same a c h = h
+rest_same k e f es fs b own same a c h = grind (arith, same_key, eq_is, int_cmp, Held, above_none)
 
 split_same : (k : ℤ) (e f : Item) (es fs : Items) → e.0 ≡ f.0 → Held k (e ∷ es) ≡ Held k (f ∷ fs)
     → cond (is_eq (int_cmp k e.0)) (Some e.1) (Held k es) ≡ cond (is_eq (int_cmp k e.0)) (Some f.1) (Held k fs)
@@ -158,29 +118,15 @@ same_items (e ∷ es) (f ∷ fs) s t h =
     joined : (e f : Item) (es fs : Items) → e ≡ f → es ≡ fs → e ∷ es ≡ f ∷ fs
     joined e f es fs p q = rw (p, q) refl
 
-items_same : (xs ys : Dated) → Differ xs → AreSame xs ys → items_of xs ≡ items_of ys
-items_same xs ys d s =
-    let g : Keeps xs (items_of xs) = items_keep xs in
-    let h : Keeps ys (items_of ys) = items_keep ys in
-    same_items (items_of xs) (items_of ys) g.ascends h.ascends (λ k. sym (g.rows_are k) ∙ ap shown (same_latest k xs ys d s) ∙ h.rows_are k)
-
 -- members of a part
 part_more : (x y : ℕ × Change) (b : Bool) (f : ℕ) (xs : Dated) → (x.1.frag.0 == f) ≡ b
     → Contains (cond b (x ∷ of_fragment f xs) (of_fragment f xs)) y → (Contains (of_fragment f xs) y → Contains xs y × ((y.1.frag.0 == f) ≡ true))
     → Contains (x ∷ xs) y × ((y.1.frag.0 == f) ≡ true)
-part_more x y true f xs e h g = elim (Contains-cases x (of_fragment f xs) y h) as (λ s. Contains (x ∷ xs) y × ((y.1.frag.0 == f) ≡ true)) [
-  | inl same ↦ rw same (Contains-here x xs, e)
-  | inr later ↦ (Contains-later x xs y (g later).0, (g later).1)
-]
-part_more x y false f xs e h g = (Contains-later x xs y (g h).0, (g h).1)
+part_more x y b f xs e h g = grind (arith, Contains-cases, Contains-here, Contains-later)
 
 of_part : (f : ℕ) (xs : Dated) (y : ℕ × Change) → Contains (of_fragment f xs) y → Contains xs y × ((y.1.frag.0 == f) ≡ true)
 of_part f [] y h = absurd (Contains-nil y h)
 of_part f (x ∷ xs) y h = part_more x y (x.1.frag.0 == f) f xs refl h (of_part f xs y)
-
-part_here : (x : ℕ × Change) (b : Bool) (f : ℕ) (xs : Dated) → b ≡ true → Contains (cond b (x ∷ of_fragment f xs) (of_fragment f xs)) x
-part_here x true f xs e = Contains-here x (of_fragment f xs)
-part_here x false f xs e = absurd cc
 
 part_later : (x y : ℕ × Change) (b : Bool) (f : ℕ) (xs : Dated) → Contains (of_fragment f xs) y
     → Contains (cond b (x ∷ of_fragment f xs) (of_fragment f xs)) y
@@ -190,8 +136,7 @@ part_later x y false f xs h = h
 in_part : (f : ℕ) (xs : Dated) (y : ℕ × Change) → Contains xs y → (y.1.frag.0 == f) ≡ true → Contains (of_fragment f xs) y
 in_part f [] y h e = absurd (Contains-nil y h)
 in_part f (x ∷ xs) y h e = elim (Contains-cases x xs y h) as (λ s. Contains (of_fragment f (x ∷ xs)) y) [
-  | inl same ↦ subst (λ z. Contains (of_fragment f (x ∷ xs)) z) (sym same)
-      (part_here x (x.1.frag.0 == f) f xs (ap (λ z. z.1.frag.0 == f) (sym same) ∙ e))
+  | inl same ↦ grind (arith, of_fragment, Contains-here)
   | inr later ↦ part_later x y (x.1.frag.0 == f) f xs (in_part f xs y later e)
 ]
 
@@ -204,7 +149,7 @@ same_items_left f xs ys d s =
     (one_number x.1.frag.0 y.1.frag.0 f (of_part f xs x a).1 (of_part f xs y b).1) in
     let same : AreSame (of_fragment f xs) (of_fragment f ys) = λ x.
     (λ a. in_part f ys x ((s x).0 (of_part f xs x a).0) (of_part f xs x a).1, λ a. in_part f xs x ((s x).1 (of_part f ys x a).0) (of_part f ys x a).1) in
-    items_same (of_fragment f xs) (of_fragment f ys) own same
+    (grind (arith, Keeps, items_keep, same_items, shown, one_answer, latest, latest_answers))
 
 pub order_tells_nothing : (f : ℕ) (xs ys : Dated) → DatesDiffer xs → AreSame xs ys → contents f xs ≡ contents f ys
 order_tells_nothing f xs ys d s = sym (items_tell f xs) ∙ ap entries_in (same_items_left f xs ys d s) ∙ items_tell f ys

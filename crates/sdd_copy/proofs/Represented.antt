@@ -1,5 +1,5 @@
 -- Copies represent the changes that were applied to them.
-use Rattle.sdd_copy.proofs.All.{All, All-from_recursion, AllByRecursion, AreSame, Bool, Change, Dated, DatesDiffer, Held, IsLive, Items, Kept, List, None, Option, Represent, Some, [], ap, append-nil, append_assoc, arith, changed_at, cond, eq-eqb, eqb-true, false, filter-append, fold, fold-append, held_in, is_here, is_some, items_at, items_of, length, length-map, map, of_fragment, option_map, or_none, refl, slice_index_or, slice_set, subst, suc, sym, true, with_change, written, zero, ℕ, ◌++◌, ◌==◌, ◌∙◌, ◌∷◌, ◌≡◌, ◌≤◌}
+use Rattle.sdd_copy.proofs.All.{All, All-from_recursion, AllByRecursion, AreSame, Bool, Change, Dated, DatesDiffer, Held, IsLive, Items, Kept, List, None, Option, Represent, [], ap, append-nil, append_assoc, arith, changed_at, cond, eq-eqb, eqb-true, false, filter-append, fold, fold-append, held_in, is_here, is_some, items_at, items_of, length, length-map, map, of_fragment, option_map, or_none, refl, slice_index_or, slice_set, subst, suc, sym, true, with_change, written, zero, ℕ, ◌++◌, ◌==◌, ◌∙◌, ◌∷◌, ◌≡◌, ◌≤◌}
 use Rattle.sdd_copy.proofs.Order.{same_items_left}
 
 -- copies without items
@@ -11,8 +11,7 @@ abbrev without_items : List (Option ℕ) → Held
 without_items keys = map (option_map no_items) keys
 
 none_in : (key : Option ℕ) → or_none (option_map no_items key) ≡ []
-none_in None = refl
-none_in (Some k) = refl
+none_in key = grind arith
 
 none_at : (keys : List (Option ℕ)) (f : ℕ) → items_at (without_items keys) f ≡ []
 none_at [] f = refl
@@ -23,8 +22,7 @@ represent_empty : (keys : List (Option ℕ)) → Represent (without_items keys) 
 represent_empty keys f here = none_at keys f
 
 here_in : (key : Option ℕ) → is_some (option_map no_items key) ≡ is_some key
-here_in None = refl
-here_in (Some k) = refl
+here_in key = grind arith
 
 here_empty : (keys : List (Option ℕ)) (f : ℕ) → is_here (without_items keys) f ≡ is_some (slice_index_or keys f None)
 here_empty [] f = refl
@@ -36,20 +34,15 @@ here_empty (key ∷ keys) (suc f) = here_empty keys f
 abbrev pub made : Option ℕ → Option (Kept Items)
 made key = option_map (λ k. record { live = true; value = [] }) key
 
-live_in : (key : Option ℕ) → IsLive (made key)
-live_in None = tt
-live_in (Some k) = refl
-
 live_each : (keys : List (Option ℕ)) → AllByRecursion IsLive (map made keys)
 live_each [] = tt
-live_each (key ∷ keys) = (live_in key, live_each keys)
+live_each (key ∷ keys) = ((grind arith), live_each keys)
 
 pub live_made : (keys : List (Option ℕ)) → All IsLive (map made keys)
 live_made keys = All-from_recursion IsLive (map made keys) (live_each keys)
 
 made_in : (key : Option ℕ) → option_map (λ k. k.value) (made key) ≡ option_map no_items key
-made_in None = refl
-made_in (Some k) = refl
+made_in key = grind arith
 
 held_made : (keys : List (Option ℕ)) → held_in (map made keys) ≡ map (option_map (λ key. [])) keys
 held_made [] = refl
@@ -87,9 +80,7 @@ map_changed show change (z ∷ xs) (suc place) x y at put = ap (λ l. show z ∷
 
 pub held_past : (copies : List (Option (Kept Items))) (x : ℕ × Change) → length copies ≤ x.1.frag.0
     → held_in copies ≡ with_change (held_in copies) x
-held_past copies x past =
-    let same : length (held_in copies) ≡ length copies = length-map _ _ in
-    sym (changed_past x.1.frag.0 (option_map (λ items. written items x)) (held_in copies) (omega (arith, same, past)))
+held_past copies x past = grind (arith, length-map, changed_past, option_map)
 
 -- the copy of one fragment is changed
 
@@ -113,21 +104,11 @@ not_equal a b e same = let t : (a == b) ≡ true = eq-eqb a b same in cc
 abbrev rule : ℕ × Change → Items → Items
 rule x items = written items x
 
--- the items of one fragment, one change more
-changed_own : (x : ℕ × Change) (old : Option Items) (items : Items) → (is_some old ≡ true → or_none old ≡ items)
-    → is_some (option_map (rule x) old) ≡ true → or_none (option_map (rule x) old) ≡ written items x
-changed_own x None items h here = cc
-changed_own x (Some kept) items h here = ap (λ k. written k x) (h refl)
-
 still_here : (x : ℕ × Change) (old : Option Items) → is_some (option_map (rule x) old) ≡ is_some old
-still_here x None = refl
-still_here x (Some kept) = refl
+still_here x old = grind arith
 
 abbrev of_more : ℕ → Bool → Dated → ℕ × Change → Dated
 of_more f own xs x = of_fragment f xs ++ cond own (x ∷ []) []
-
-of_one_more : (f : ℕ) (xs : Dated) (x : ℕ × Change) → of_fragment f (xs ++ x ∷ []) ≡ of_more f (x.1.frag.0 == f) xs x
-of_one_more f xs x = filter-append (λ y. y.1.frag.0 == f) xs (x ∷ [])
 
 one_more : (copies : Held) (xs : Dated) (x : ℕ × Change) (f : ℕ) (own : Bool) → (x.1.frag.0 == f) ≡ own
     → (is_here copies f ≡ true → items_at copies f ≡ items_of (of_fragment f xs))
@@ -136,7 +117,7 @@ one_more copies xs x f true own h here =
     let at : slice_index_or (with_change copies x) f None ≡ option_map (rule x) (slice_index_or copies f None) =
     ap (λ n. slice_index_or (changed_at n (option_map (rule x)) copies) f None) (eqb-true x.1.frag.0 f own) ∙ item_at (rule x) copies f in
     ap or_none at
-    ∙ changed_own x (slice_index_or copies f None) (items_of (of_fragment f xs)) h (sym (ap is_some at) ∙ here)
+    ∙ (grind arith)
     ∙ sym (fold-append written [] (of_fragment f xs) (x ∷ []))
 one_more copies xs x f false other h here =
     let at : slice_index_or (with_change copies x) f None ≡ slice_index_or copies f None =
@@ -147,7 +128,7 @@ one_more copies xs x f false other h here =
 
 pub represent_more : (copies : Held) (xs : Dated) (x : ℕ × Change) → Represent copies xs
     → Represent (with_change copies x) (xs ++ x ∷ [])
-represent_more copies xs x h f here = one_more copies xs x f (x.1.frag.0 == f) refl (h f) here ∙ ap items_of (sym (of_one_more f xs x))
+represent_more copies xs x h f here = one_more copies xs x f (x.1.frag.0 == f) refl (h f) here ∙ ap items_of (sym (filter-append (λ y. y.1.frag.0 == f) xs (x ∷ [])))
 
 here_by : (copies : Held) (x : ℕ × Change) (f : ℕ) (own : Bool) → (x.1.frag.0 == f) ≡ own
     → is_here (with_change copies x) f ≡ is_here copies f
@@ -164,9 +145,7 @@ here_more copies x f = here_by copies x f (x.1.frag.0 == f) refl
 
 pub represent_all : (ys : Dated) (copies : Held) (xs : Dated) → Represent copies xs → Represent (fold with_change copies ys) (xs ++ ys)
 represent_all [] copies xs h = subst (Represent copies) (sym (append-nil xs)) h
-represent_all (y ∷ ys) copies xs h =
-    subst (Represent (fold with_change (with_change copies y) ys)) (append_assoc xs (y ∷ []) ys)
-    (represent_all ys (with_change copies y) (xs ++ y ∷ []) (represent_more copies xs y h))
+represent_all (y ∷ ys) copies xs h = grind (arith, append_assoc, represent_more, (represent_all ys (with_change copies y) (xs ++ y ∷ []) (represent_more copies xs y h)))
 
 pub here_all : (ys : Dated) (copies : Held) (f : ℕ) → is_here (fold with_change copies ys) f ≡ is_here copies f
 here_all [] copies f = refl

@@ -1,5 +1,5 @@
 -- Rows whose keys ascend are the entries of a map as they stand.
-use Rattle.sdd_copy.proofs.All.{AllByRecursion, Bool, Equal, Greater, Less, List, MatchOrdering, None, Some, Value, [], ap, append-nil, append_assoc, arith, ascend, first_so, fold, int_cmp, int_lt, int_ranks, ints, map, refl, second_so, sym, true, with_keyed, ℤ, ◌++◌, ◌<ℤ◌, ◌∙◌, ◌∷◌, ◌≡◌, ◌≤ℤ◌}
+use Rattle.sdd_copy.proofs.All.{AllByRecursion, Bool, List, None, Some, Value, [], ap, append-nil, append_assoc, arith, ascend, first_so, fold, int_cmp, int_lt, int_ranks, ints, map, refl, second_so, sym, true, with_keyed, ℤ, ◌++◌, ◌∙◌, ◌∷◌, ◌≡◌, ◌≤ℤ◌}
 
 abbrev Keyed : Type 0
 Keyed = ℤ × List Value
@@ -7,20 +7,11 @@ Keyed = ℤ × List Value
 abbrev UpTo : ℤ → List Keyed → Type 0
 UpTo k rows = AllByRecursion (λ (e : Keyed). e.0 ≤ℤ k) rows
 
-greater : (a b c : ℤ) → a ≤ℤ b → int_lt b c ≡ true → int_cmp c a ≡ Greater
-greater a b c ab bc =
-    elim (int_cmp c a) as (λ r. MatchOrdering r (c <ℤ a) (c ≡ a) (a <ℤ c) → r ≡ Greater) [
-      | Less ↦ λ h. absurd (grind (arith, ints))
-      | Equal ↦ λ h. absurd (grind (arith, ints))
-      | Greater ↦ λ h. refl
-    ] (int_ranks c a)
-
 -- a row behind all others is put at the end
 put_last : (k : ℤ) (rows : List Keyed) (row : Keyed) → UpTo k rows → int_lt k row.0 ≡ true
     → with_keyed rows row ≡ rows ++ row ∷ []
 put_last k [] row up_to after = refl
-put_last k (e ∷ rows) row up_to after =
-    rw (greater e.0 k row.0 up_to.0 after) (ap (λ l. e ∷ l) (put_last k rows row up_to.1 after))
+put_last k (e ∷ rows) row up_to after = grind (arith, int_cmp, int_ranks, (put_last k rows row up_to.1 after))
 
 up_to_last : (k : ℤ) (rows : List Keyed) (row : Keyed) → UpTo k rows → int_lt k row.0 ≡ true
     → UpTo row.0 (rows ++ row ∷ [])
@@ -46,6 +37,4 @@ ascending_stay (row ∷ rows) h = put_behind (row ∷ []) row rows (grind (arith
 pub found_ascending : (rows : List (List Value)) (found slice whole : List Keyed) (test : Bool)
     → slice ≡ found → test ≡ ascend None slice → test ≡ true → found ≡ whole
     → rows ≡ map (λ e. e.1) found → rows ≡ map (λ e. e.1) (fold with_keyed [] whole)
-found_ascending rows found slice whole test lent is so all rows_are =
-    let stay : fold with_keyed [] found ≡ found = ascending_stay found (ap (ascend None) (sym lent) ∙ sym is ∙ so) in
-    rows_are ∙ ap (map (λ e. e.1)) (sym stay ∙ ap (fold with_keyed []) all)
+found_ascending rows found slice whole test lent is so all rows_are = grind (arith, ascending_stay)

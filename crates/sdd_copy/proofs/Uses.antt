@@ -1,27 +1,18 @@
 -- The rows of uses: frozen from copies that represent changes, and reduced one use after the other.
-use Rattle.sdd_copy.proofs.All.{All, AllByRecursion, AreHere, Bool, CopyRows, Dated, FragNo, Frozen, Held, List, None, Represent, Restriction, Some, Use, Value, [], ap, arith, chosen, column, cond, contents, drop, entries_in, eq-eqb, false, filter, filter_same, first_some, flat_map, fold, frozen_for, is_among, is_here, is_known, known_use, length, map, map_over_more, recursion_from_All, reduced, refl, rows_at, rows_for, slice_index_or, slice_set, suc, sym, take, take_all, true, with_keyed, with_values, zero, ℕ, ℤ, ◌++◌, ◌+◌, ◌<◌, ◌==◌, ◌∙◌, ◌∷◌, ◌≡◌, ◌≤◌}
+use Rattle.sdd_copy.proofs.All.{All, AllByRecursion, AreHere, Bool, CopyRows, Dated, FragNo, Frozen, Held, List, None, Represent, Restriction, Some, Use, Value, [], ap, arith, chosen, column, cond, contents, drop, entries_in, eq-eqb, filter, filter_same, first_some, flat_map, fold, frozen_for, is_among, is_here, is_known, known_use, length, map, map_over_more, recursion_from_All, reduced, refl, rows_at, rows_for, slice_index_or, slice_set, suc, take, take_all, true, with_keyed, with_values, zero, ℕ, ℤ, ◌++◌, ◌+◌, ◌<◌, ◌==◌, ◌∙◌, ◌∷◌, ◌≡◌, ◌≤◌}
 use Rattle.sdd_copy.proofs.Contents.{items_tell}
 use Rattle.sdd_copy.proofs.Members.{known_among}
 
 -- copies that represent changes give the contents of these
 
-rows_told : (copies : Held) (xs : Dated) (f : ℕ) → Represent copies xs → is_here copies f ≡ true → rows_at copies f ≡ contents f xs
-rows_told copies xs f represent here = ap entries_in (represent f here) ∙ items_tell f xs
-
 frags_told : (copies : Held) (xs : Dated) (restrictions : List Restriction) (frags : List FragNo)
     → Represent copies xs → AllByRecursion (λ f. is_here copies f.0 ≡ true) frags
     → flat_map (λ f. chosen restrictions (rows_at copies f.0)) frags ≡ flat_map (λ f. chosen restrictions (contents f.0 xs)) frags
 frags_told copies xs restrictions [] represent here = refl
-frags_told copies xs restrictions (f ∷ frags) represent here =
-    rw (rows_told copies xs f.0 represent here.0, frags_told copies xs restrictions frags represent here.1) refl
+frags_told copies xs restrictions (f ∷ frags) represent here = grind (arith, entries_in, items_tell, (frags_told copies xs restrictions frags represent here.1))
 
 abbrev rows_in_order : List (ℤ × List Value) → List (List Value)
 rows_in_order rows = map (λ e. e.1) (fold with_keyed [] rows)
-
-use_told : (copies : Held) (xs : Dated) (u : Use) → Represent copies xs → AreHere copies u
-    → rows_for (rows_at copies) u ≡ rows_for (λ f. contents f xs) u
-use_told copies xs u represent here =
-    ap rows_in_order (frags_told copies xs u.restrictions u.frags represent (recursion_from_All (λ f. is_here copies f.0 ≡ true) u.frags here))
 
 abbrev numbered : ℕ → List (List Value) → ℕ × List (List Value)
 numbered n rows = (n, rows)
@@ -32,7 +23,7 @@ held_for copies u = (u.number, rows_for copies u)
 uses_told : (copies : Held) (xs : Dated) (uses : List Use) → Represent copies xs → AllByRecursion (AreHere copies) uses
     → map (held_for (rows_at copies)) uses ≡ map (held_for (λ f. contents f xs)) uses
 uses_told copies xs [] represent here = refl
-uses_told copies xs (u ∷ uses) represent here = rw (ap (numbered u.number) (use_told copies xs u represent here.0), uses_told copies xs uses represent here.1) refl
+uses_told copies xs (u ∷ uses) represent here = rw (ap (numbered u.number) (ap rows_in_order (frags_told copies xs u.restrictions u.frags represent (recursion_from_All (λ f. is_here copies f.0 ≡ true) u.frags here.0))), uses_told copies xs uses represent here.1) refl
 
 abbrev pub with_uses : ℕ → List (ℕ × List (List Value)) → Frozen
 with_uses ts uses = record { ts = ts; uses = uses }
@@ -40,12 +31,7 @@ with_uses ts uses = record { ts = ts; uses = uses }
 pub frozen_told : (copies : Held) (xs : Dated) (ts : ℕ) (uses : List Use) (frozen : List (ℕ × List (List Value))) (i : ℕ)
     → frozen ≡ map (held_for (rows_at copies)) (take i uses) → length uses ≤ i
     → Represent copies xs → All (AreHere copies) uses → with_uses ts frozen ≡ frozen_for (λ f. contents f xs) ts uses
-frozen_told copies xs ts uses frozen i so_far end represent here =
-    ap (with_uses ts) (
-    so_far
-    ∙ ap (map (held_for (rows_at copies))) (take_all i uses end)
-    ∙ uses_told copies xs uses represent (recursion_from_All (AreHere copies) uses here)
-    )
+frozen_told copies xs ts uses frozen i so_far end represent here = grind (arith, with_uses, held_for, take_all, uses_told, recursion_from_All)
 
 -- the first use with a number
 
@@ -53,10 +39,7 @@ pub first_at : (number i : ℕ) (es : List (ℕ × List (List Value))) (e : ℕ 
     → e ≡ slice_index_or es i e → e.0 ≡ number
     → first_some (λ x. cond (x.0 == number) (Some x.1) None) (drop i es) ≡ Some e.1
 first_at number i [] e within at own = absurd (omega arith)
-first_at number zero (x ∷ es) e within at own =
-    let same : x ≡ e = sym at in
-    let is : (x.0 == number) ≡ true = eq-eqb x.0 number (ap (λ y. y.0) same ∙ own) in
-    rw is (ap (λ y. Some y.1) same)
+first_at number zero (x ∷ es) e within at own = grind (arith, eq-eqb)
 first_at number (suc i) (x ∷ es) e within at own = first_at number i es e (omega arith) at own
 
 -- a use is reduced
@@ -70,16 +53,10 @@ rows_known col values rows = filter (λ row. is_known (with_values [] values) (c
 abbrev rows_among : ℕ → List Value → List (List Value) → List (List Value)
 rows_among col values rows = filter (λ row. is_among values (column row col)) rows
 
-same_rows : (col : ℕ) (values : List Value) (rows : List (List Value)) → rows_known col values rows ≡ rows_among col values rows
-same_rows col values rows =
-    filter_same (λ row. is_known (with_values [] values) (column row col)) (λ row. is_among values (column row col))
-    (λ row. known_among values (column row col)) rows
-
 same_use : (number col : ℕ) (values : List Value) (own : Bool) (n : ℕ) (rows : List (List Value))
     → cond own (numbered n (rows_known col values rows)) (numbered n rows)
     ≡ cond own (numbered n (rows_among col values rows)) (numbered n rows)
-same_use number col values true n rows = ap (numbered n) (same_rows col values rows)
-same_use number col values false n rows = refl
+same_use number col values own n rows = grind (arith, numbered, filter_same, known_among)
 
 uses_known : (number col : ℕ) (values : List Value) (es : List (ℕ × List (List Value)))
     → map (known_use number col (with_values [] values)) es ≡ map (reduced_use number col values) es

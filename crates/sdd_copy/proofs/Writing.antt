@@ -1,5 +1,5 @@
 -- An item that is written over one with its key.
-use Rattle.sdd_copy.proofs.All.{AllByRecursion, AreHeld, AreKeyed, Bool, Equal, Err, FitsSigned, Greater, HasKey, IsStrictlySortedBy, IsTotalOrder, Items, Less, List, Ok, OnErr, OnOk, Option, Ordering, Result, Some, Value, [], ap, cond, each_weaker, false, insert_entry, int_cmp, int_cmp_total, is_at, is_eq, is_newer, keys_of, le-ltb, lookup, lt-ltb, match_ordering, refl, set_value, set_value_same, sorted_head, sorted_tail, true, w64, ℕ, ℤ, ◌<◌, ◌∙◌, ◌∷◌, ◌≡◌, ◌≤◌}
+use Rattle.sdd_copy.proofs.All.{AllByRecursion, AreHeld, AreKeyed, Bool, Equal, FitsSigned, Greater, HasKey, IsStrictlySortedBy, IsTotalOrder, Items, Less, List, OnErr, OnOk, Option, Ordering, Result, Some, Value, [], ap, arith, cond, each_weaker, insert_entry, int_cmp, int_cmp_total, is_at, is_eq, is_newer, keys_of, le-ltb, lookup, lt-ltb, match_ordering, refl, set_value, set_value_same, sorted_head, sorted_tail, true, w64, ℕ, ℤ, ◌<◌, ◌∙◌, ◌∷◌, ◌≡◌, ◌≤◌}
 use Rattle.sdd_copy.proofs.Ranges.{held_put, keyed_put}
 
 -- a key below all of some entries is none of theirs
@@ -27,33 +27,26 @@ pub written_newer : (items new : Items) (k : ℤ) (item kept : ℕ × Option (Li
     → lookup (is_at (int_cmp k)) items ≡ Some kept → kept.0 < item.0 → new ≡ set_value (is_at (int_cmp k)) items item
     → new ≡ cond (is_newer item.0 (lookup (is_at (int_cmp k)) items)) (insert_entry int_cmp items k item) items
 written_newer items new k item kept sorted there less made =
-    let newer : is_newer item.0 (lookup (is_at (int_cmp k)) items) ≡ true = ap (is_newer item.0) there ∙ lt-ltb kept.0 item.0 less in
-    rw newer (made ∙ set_is_put int_cmp int_cmp_total items k item kept sorted there)
+    rw (ap (is_newer item.0) there ∙ lt-ltb kept.0 item.0 less) (made ∙ set_is_put int_cmp int_cmp_total items k item kept sorted there)
 
 pub written_older : (items new : Items) (k : ℤ) (item kept : ℕ × Option (List Value)) → lookup (is_at (int_cmp k)) items ≡ Some kept → item.0 ≤ kept.0
     → new ≡ set_value (is_at (int_cmp k)) items kept
     → new ≡ cond (is_newer item.0 (lookup (is_at (int_cmp k)) items)) (insert_entry int_cmp items k item) items
-written_older items new k item kept there least made =
-    let older : is_newer item.0 (lookup (is_at (int_cmp k)) items) ≡ false = ap (is_newer item.0) there ∙ le-ltb kept.0 item.0 least in
-    rw older (made ∙ set_value_same (is_at (int_cmp k)) items kept there)
+written_older items new k item kept there least made = grind (arith, is_at, int_cmp, le-ltb, set_value_same)
 
 -- what items keep where one is written, by whether it is newer
 
 pub held_written : (newer : Bool) (items : Items) (k : ℤ) (item : ℕ × Option (List Value)) → AreHeld items → FitsSigned w64 k
     → AreHeld (cond newer (insert_entry int_cmp items k item) items)
-held_written true items k item held fits = held_put items k item held fits
-held_written false items k item held fits = held
+held_written newer items k item held fits = grind (arith, held_put)
 
 pub keyed_written : (newer told now : Bool) (key : ℕ) (items : Items) (k : ℤ) (item : ℕ × Option (List Value)) → AreKeyed told key items
     → (now ≡ true → (told ≡ true) × HasKey key (k, item)) → AreKeyed now key (cond newer (insert_entry int_cmp items k item) items)
-keyed_written true told now key items k item keyed h = keyed_put told now key items k item keyed h
-keyed_written false told now key items k item keyed h = λ is. let both = h is in keyed both.0
+keyed_written newer told now key items k item keyed h = grind (arith, keyed_put)
 
 -- also where memory ran out
 pub kept_after : {E : Type 0} (result : Result (Unit {0}) E) (newer told now : Bool) (key : ℕ) (items new : Items) (k : ℤ) (item : ℕ × Option (List Value))
     → OnOk result (new ≡ cond newer (insert_entry int_cmp items k item) items) → OnErr result (new ≡ items)
     → AreHeld items × AreKeyed told key items → FitsSigned w64 k → (now ≡ true → (told ≡ true) × HasKey key (k, item))
     → AreHeld new × AreKeyed now key new
-kept_after (Ok u) newer told now key items new k item ok err before fits h =
-    rw ok (held_written newer items k item before.0 fits, keyed_written newer told now key items k item before.1 h)
-kept_after (Err e) newer told now key items new k item ok err before fits h = rw err (before.0, λ is. let both = h is in before.1 both.0)
+kept_after result newer told now key items new k item ok err before fits h = grind (arith, held_written, keyed_written)

@@ -8,15 +8,15 @@ pub use Rattle.sdd_copy.specs.Frozen.{Frozen, counts_of, frozen_for, values_in}
 pub use Rattle.sdd_copy.specs.Items.{Items}
 pub use Rattle.sdd_copy.specs.Sets.{AreSame, DatesDiffer}
 pub use Rattle.sdd_dm.specs.Copies.{all_held, applied, changes_in, classes_of, dated, first_row, first_rows, frozen, frozen_at, frozen_handed, given_up, is_answer, is_apply, reduced_at, rows_held}
-pub use Rattle.sdd_dm.specs.Due.{IsDue, act_by, act_where, answer_of, answer_to, ask_for, by_head, by_open, done_for, due, head_due, head_step, holds_back, is_at_least, is_held, is_met, judge, judged, last_write_for, next, open_due, or_zero, spoils, step_on}
+pub use Rattle.sdd_dm.specs.Due.{IsDue, act_by, act_where, answer_of, answer_to, ask_for, by_head, by_open, done_for, due, head_due, head_step, is_at_least, is_met, judge, judged, next, open_due, spoils}
 pub use Rattle.sdd_dm.specs.Fits.{Ascend, IsHere, fits, with_time, write_time_of, write_times}
-pub use Rattle.sdd_dm.specs.Heads.{first_step, head_at, holds_in, is_held_in, is_met_in, judge_in, judged_in, last_write_in, of_class, spoiler, spoils_in, step_at, step_by, unmet, waits_at}
-pub use Rattle.sdd_dm.specs.Opens.{Open, is_asked_of, opens, opens_acted}
-pub use Rattle.sdd_dm.specs.Pipes.{is_processing, is_wait, pipe, pipe_acted, waits}
+pub use Rattle.sdd_dm.specs.Heads.{first_step, head_at, holds_in, is_met_in, judge_in, judged_in, of_class, spoiler, spoils_in, step_at, step_by, unmet, waits_at}
+pub use Rattle.sdd_dm.specs.Opens.{Open, is_asked_of, opens}
+pub use Rattle.sdd_dm.specs.Pipes.{is_processing, is_wait, pipe, waits}
 pub use Rattle.sdd_dm.specs.Ranks.{IsLowest, rank_of_act}
 pub use Rattle.sdd_dm.specs.Represents.{EachHanded, HasCopies, Represents, Shows, ShowsClass, Worked, all_dated, written}
 pub use Rattle.sdd_dm.specs.Starts.{lent, own_rows, with_own}
-pub use Rattle.sdd_dm.specs.State.{State, act_in, class_piped, frozen_now, frozen_of, head_taken, notes_after, notes_handed, state_after, state_by, state_handed, state_told, stepped, steps_in, steps_left, with_out}
+pub use Rattle.sdd_dm.specs.State.{State, act_in, class_piped, frozen_now, frozen_of, head_taken, notes_after, notes_handed, state_after, state_handed, stepped, steps_in, steps_left, with_out}
 pub use Rattle.sdd_dm.specs.Views.{ClassView, Home, View, after, at_class, class_after, class_view, dated_in, home_of, source_of, view_of}
 pub use Rattle.sdd_dm.specs.Waiting.{IsAwaited, conds_of, first_unmet, waiting_in}
 pub use Rattle.sdd_dm.specs.declared.step.Step.{Step}
@@ -27,11 +27,11 @@ pub use Rattle.sdd_module.proofs.Making.{made_nothing, made_one}
 pub use Rattle.sdd_module.proofs.base.Membership.{Contains-cases, Contains-here, Contains-later, Contains-nil}
 pub use Rattle.sdd_module.proofs.lang.KeyRanges.{fragment_holds, key_in_range}
 pub use Rattle.sdd_module.proofs.lang.SortedEntries.{inserted_sorted, item_cmp_exact, item_cmp_total, sorted_nil}
-pub use Rattle.sdd_module.specs.All.{Act, Answer, Apply, Arrive, Bases, Catalogue, Change, ClassNo, Cond, D, Database, Did, DmNo, Does, Done, Entry, Fetch, FragNo, Handed, IsDatabase, IsEntry, IsSoundCatalogue, Item, Kept, Log, Msg, Notes, Null, Pass, Reached, Read, Ready, Rec, Records, Reduce, Reduced, RelNo, Row, Rows, Sends, Setting, Ship, Site, T, Ts, TxnNo, U, Use, Value, Values, Write, contains, database_of, first_some, fragment_at, fragment_of, goes_through, hands, has_copy, head_of, item_cmp, key_in, nothing_noted, or_else, tail_of, time_at, with_act, with_row, with_sends}
+pub use Rattle.sdd_module.specs.All.{Act, Answer, Apply, Arrive, Bases, Catalogue, Change, ClassNo, Cond, D, Database, Did, DmNo, Does, Done, Entry, Fetch, FragNo, Handed, IsDatabase, IsEntry, IsSoundCatalogue, Item, Kept, Log, Msg, Notes, Null, Pass, Reached, Read, Ready, Rec, Records, Reduce, Reduced, RelNo, Row, Rows, Sends, Setting, Ship, Site, T, Ts, TxnNo, U, Use, Value, Values, Write, contains, database_of, first_some, fragment_at, fragment_of, goes_through, hands, has_copy, head_of, item_cmp, key_in, nothing_noted, or_else, with_row, with_sends}
 pub use Rattle.sdd_pipe.proofs.Digests.{is_empty_digest, is_put, is_taken, last_write_is, passed_is}
 pub use Rattle.sdd_pipe.proofs.Updates.{length-update, set_is_update, update_past}
 pub use Rattle.sdd_pipe.specs.Digest.{Digest, IsDigest, empty_digest, put_digest, take_digest}
-pub use Rattle.sdd_pipe.specs.Pipe.{Pipe, empty_pipe, head, head_processed, one_or_none, put}
+pub use Rattle.sdd_pipe.specs.Pipe.{empty_pipe, head}
 pub use Rattle.sdd_pipe.specs.Pipes.{pipe_at, update}
 pub use Rattle.std.proofs.Common.{All, Bool, Bor, Contains, Equal, Greater, IsTrue, Less, List, None, OnOk, Option, Ordering, Result, SFits as FitsSigned, Some, [], ap, append-nil, append_assoc, arith, cond, drop, false, filter, find, flat_map, fold, if◌then◌else◌, inl, inr, int_cmp, is_eq, is_some, length, map, nat_cmp, not, option_map, refl, replicate, rules, slice_get, slice_index_or, subst, suc, sym, take, take_all, to_z-of_z, true, w64, zero, ℕ, ℤ, ◌&&◌, ◌++◌, ◌+◌, ◌-◌, ◌<◌, ◌==◌, ◌||◌, ◌∙◌, ◌∷◌, ◌≡◌, ◌≢◌, ◌≤◌, ◌⊎◌}
 pub use Rattle.std.proofs.lemmas.Bool.Decides.{nat_tests}

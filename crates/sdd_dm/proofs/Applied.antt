@@ -1,5 +1,5 @@
 -- A WRITE that is applied: its changes stand among those of its class, wherever they came in time.
-use Rattle.sdd_dm.proofs.All.{AreSame, Bool, Change, Contains, Contains-append_cases, Contains-append_left, Contains-append_right, Contains-cases, Contains-here, Contains-later, Contains-nil, Dated, DatesDiffer, Did, EachHanded, Handed, List, Log, Msg, None, Option, Rec, Records, Setting, Site, Some, [], all_dated, applied, arith, changes_in, classes_of, dated, false, first_rows, flat_map, head, if◌then◌else◌, inl, inr, is_apply, length, pipe, range_with_len, refl, subst, suc, sym, true, written, zero, ℕ, ◌&&◌, ◌++◌, ◌+◌, ◌<◌, ◌==◌, ◌∷◌, ◌≡◌, ◌≤◌, ◌⊎◌}
+use Rattle.sdd_dm.proofs.All.{AreSame, Bool, Change, Contains, Contains-append_cases, Contains-append_left, Contains-append_right, Contains-cases, Contains-here, Contains-later, Contains-nil, Dated, DatesDiffer, Did, EachHanded, Handed, List, Log, Msg, None, Option, Rec, Records, Setting, Site, Some, [], all_dated, applied, arith, changes_in, classes_of, dated, false, first_rows, flat_map, head, if◌then◌else◌, inl, inr, is_apply, length, nat_tests, pipe, range_with_len, refl, subst, suc, sym, true, written, zero, ℕ, ◌&&◌, ◌++◌, ◌+◌, ◌<◌, ◌==◌, ◌∷◌, ◌≡◌, ◌≤◌, ◌⊎◌}
 use Rattle.sdd_dm.proofs.ByClass.{same_number, number_is}
 use Rattle.sdd_dm.proofs.Handed.{head_handed}
 
@@ -8,19 +8,11 @@ use Rattle.sdd_dm.proofs.Handed.{head_handed}
 in_range : (a n k : ℕ) → k < n → Contains (range_with_len a n) (a + k)
 in_range a zero k l = absurd (omega arith)
 in_range a (suc n) zero l = grind arith
-in_range a (suc n) (suc k) l =
-    let e : (a + 1) + k ≡ a + suc k = omega arith in
-    Contains-later a (range_with_len (a + 1) n) (a + suc k) (subst (Contains (range_with_len (a + 1) n)) e (in_range (a + 1) n k (omega arith)))
-
-is_class : (s : Setting) (c : ℕ) → c ≤ length s.catalogue.classes → Contains (classes_of s) c
-is_class s c l = let e : 0 + c ≡ c = omega arith in subst (Contains (classes_of s)) e (in_range 0 (suc (length s.catalogue.classes)) c (omega arith))
+in_range a (suc n) (suc k) l = grind (arith, nat_tests, Contains-later, range_with_len, (in_range (a + 1) n k (omega arith)))
 
 flat_in : {A B : Type 0} (f : A → List B) (xs : List A) (k : A) (x : B) → Contains xs k → Contains (f k) x → Contains (flat_map f xs) x
 flat_in f [] k x h g = absurd (Contains-nil k h)
-flat_in f (y ∷ xs) k x h g = elim (Contains-cases y xs k h) as (λ _. Contains (f y ++ flat_map f xs) x) [
-  | inl e ↦ Contains-append_left (f y) (flat_map f xs) x (subst (λ z. Contains (f z) x) e g)
-  | inr later ↦ Contains-append_right (f y) (flat_map f xs) x (flat_in f xs k x later g)
-]
+flat_in f (y ∷ xs) k x h g = grind (arith, Contains-cases, Contains-append_left, Contains-append_right, flat_in f xs k x)
 
 flat_from : {A B : Type 0} (f : A → List B) (xs : List A) (x : B) → Contains (flat_map f xs) x → (k : A) × Contains xs k × Contains (f k) x
 flat_from f [] x h = absurd (Contains-nil x h)
@@ -84,10 +76,6 @@ applied_differ s log c d =
 
 -- an Apply adds the changes of the head of its pipe
 
-own_applied : (c : ℕ) (r : Rec) (sends : List (Site × Msg)) (log : Log) → is_apply r ≡ true
-    → applied c (Did (Records c r sends) ∷ log) ≡ applied c log ++ changes_in (head (pipe c log))
-own_applied c r sends log e = rw (same_number c c refl, e) refl
-
 pub acted_more : (b : Bool) (xs ys : Dated) (x : ℕ × Change) → Contains xs x → Contains (if b then xs ++ ys else xs) x
 acted_more true xs ys x h = Contains-append_left xs ys x h
 acted_more false xs ys x h = h
@@ -109,17 +97,14 @@ more_dated s log c r sends x l e h =
       ]
       | inr new ↦
           Contains-append_right (first_rows s) all x
-          (flat_in (λ k. applied k after) (classes_of s) c x (is_class s c l)
-          (subst (λ xs. Contains xs x) (sym (own_applied c r sends log e)) (Contains-append_right (applied c log) (changes_in (head (pipe c log))) x new)))
+          (flat_in (λ k. applied k after) (classes_of s) c x (let e : 0 + c ≡ c = omega arith in subst (Contains (classes_of s)) e (in_range 0 (suc (length s.catalogue.classes)) c (omega arith)))
+          (subst (λ xs. Contains xs x) (sym (rw (same_number c c refl, e) refl)) (Contains-append_right (applied c log) (changes_in (head (pipe c log))) x new)))
     ]
 
 acted_from : (b : Bool) (xs ys : Dated) (x : ℕ × Change) → Contains (if b then xs ++ ys else xs) x → Contains xs x ⊎ ((b ≡ true) × Contains ys x)
 acted_from false xs ys x h = inl h
 acted_from true xs ys x h =
     elim (Contains-append_cases xs ys x h) as (λ _. Contains xs x ⊎ ((true ≡ true) × Contains ys x)) [ inl i ↦ inl i | inr i ↦ inr (refl, i) ]
-
-first_is_true : (a b : Bool) → (a && b) ≡ true → a ≡ true
-first_is_true a b e = grind arith
 
 no_more_dated : (s : Setting) (log : Log) (c : ℕ) (r : Rec) (sends : List (Site × Msg)) (x : ℕ × Change)
     → Contains (dated s (Did (Records c r sends) ∷ log)) x → Contains (dated s log ++ changes_in (head (pipe c log))) x
@@ -135,7 +120,7 @@ no_more_dated s log c r sends x h =
             | inl i ↦ Contains-append_left (dated s log) new x
                 (Contains-append_right (first_rows s) old x (flat_in (λ k. applied k log) (classes_of s) p.0 x p.1 i))
             | inr i ↦
-                let same : c ≡ p.0 = number_is c p.0 (first_is_true (c == p.0) (is_apply r) i.0) in
+                let same : c ≡ p.0 = number_is c p.0 (grind arith) in
                 Contains-append_right (dated s log) new x (subst (λ k. Contains (changes_in (head (pipe k log))) x) (sym same) i.1)
           ]
     ]

@@ -1,17 +1,12 @@
 -- What a module tells of its READs that wait.
-use Rattle.sdd_dm.proofs.All.{Bool, Cond, IsAwaited, Kept, List, Log, Msg, None, Option, Represents, Setting, Shows, Some, State, Step, [], ap, arith, conds_of, false, find, first_some, first_step, first_unmet, head_at, if◌then◌else◌, length, list_all, not, of_class, or_else, range_with_len, refl, step_at, step_by, suc, sym, true, waiting_in, waits, zero, ℕ, ◌&&◌, ◌+◌, ◌<◌, ◌∙◌, ◌∷◌, ◌≡◌, ◌≤◌}
+use Rattle.sdd_dm.proofs.All.{Bool, Cond, IsAwaited, Kept, List, Log, None, Option, Represents, Setting, Shows, Some, State, Step, [], ap, arith, conds_of, false, find, first_some, first_step, first_unmet, head_at, if◌then◌else◌, length, list_all, not, of_class, or_else, range_with_len, refl, step_at, step_by, suc, sym, true, waiting_in, waits, zero, ℕ, ◌&&◌, ◌+◌, ◌<◌, ◌∙◌, ◌∷◌, ◌≡◌, ◌≤◌}
 use Rattle.sdd_dm.proofs.Shown.{met_is}
 
 -- where none of a range is there, each isn't
 each_none : {B : Type 0} (f : ℕ → Option B) (a n c : ℕ) → first_some f (range_with_len a n) ≡ None → c < n → f (a + c) ≡ None
 each_none f a zero c e l = absurd (omega arith)
 each_none f a (suc n) zero e l = grind arith
-each_none f a (suc n) (suc c) e l =
-    let z : a + suc c ≡ (a + 1) + c = omega arith in
-    elim (f a) as (λ o. f a ≡ o → or_else o (first_some f (range_with_len (a + 1) n)) ≡ None → f (a + suc c) ≡ None) [
-      | None ↦ λ p q. ap f z ∙ each_none f (a + 1) n c q (omega arith)
-      | Some x ↦ λ p q. absurd cc
-    ] refl e
+each_none f a (suc n) (suc c) e l = grind (arith, or_else, first_some, range_with_len, (each_none f (a + 1) n c))
 
 no_step_of : (c : ℕ) (o : Option Step) → of_class c o ≡ None → o ≡ None
 no_step_of c o e = grind arith
@@ -33,22 +28,15 @@ some_lacks f (d ∷ conds) e =
       | false ↦ λ p q. (d, rw p refl)
     ] refl e
 
-lacks_by : (st : State) (c t : ℕ) (o : Option Msg) (conds : List Cond) → step_by st.pipes st.waits c true o ≡ None → conds_of t o ≡ Some conds
-    → (d : Cond) × (first_unmet st.pipes (Some conds) ≡ Some d)
-lacks_by st c t o conds e f = grind (arith, some_lacks)
-
 lacks_in : (st : State) (c t : ℕ) (b : Bool) (conds : List Cond) → step_by st.pipes st.waits c b (head_at st.pipes c) ≡ None
     → (if b then conds_of t (head_at st.pipes c) else None) ≡ Some conds
     → (d : Cond) × (first_unmet st.pipes (Some conds) ≡ Some d)
-lacks_in st c t b conds e f = grind (arith, lacks_by)
-
-found_same : (f g : Cond → Bool) (conds : List Cond) → ((d : Cond) → f d ≡ g d) → find f conds ≡ find g conds
-found_same f g conds h = grind arith
+lacks_in st c t b conds e f = grind (arith, some_lacks)
 
 awaited_by : (s : Setting) (st : State) (log : Log) (c t : ℕ) (o : Option (List Cond)) → Shows s st log → c ≤ length s.catalogue.classes
     → first_step st.pipes st.waits ≡ None
     → waiting_in st.pipes st.waits c t ≡ o → IsAwaited s log c t (first_unmet st.pipes o)
-awaited_by s st log c t o shows l quiet e = grind (arith, lacks_in, waits, quiet_at, found_same, met_is)
+awaited_by s st log c t o shows l quiet e = grind (arith, lacks_in, waits, quiet_at, met_is)
 
 pub awaited_is : (k : Kept State) (s : Setting) (log : Log) (c t : ℕ) (answer : Option Cond) → Represents k s log → c ≤ length s.catalogue.classes
     → answer ≡ first_unmet k.value.pipes (waiting_in k.value.pipes k.value.waits c t) → IsAwaited s log c t answer

@@ -1,5 +1,5 @@
 -- Lists by class: what stands at a class of a list that is made over a range, and of one of which an element was changed.
-use Rattle.sdd_dm.proofs.All.{Bool, List, None, Option, Some, [], ap, arith, false, filter, first_some, length, list_all, list_any, map, nat_tests, or_else, range_with_len, refl, slice_index_or, subst, suc, sym, true, update, zero, ℕ, ◌+◌, ◌<◌, ◌==◌, ◌||◌, ◌∙◌, ◌∷◌, ◌≡◌, ◌≢◌, ◌≤◌}
+use Rattle.sdd_dm.proofs.All.{Bool, List, None, Option, Some, [], ap, arith, false, filter, first_some, length, list_all, list_any, map, nat_tests, or_else, range_with_len, refl, slice_index_or, suc, sym, true, update, zero, ℕ, ◌+◌, ◌<◌, ◌==◌, ◌||◌, ◌∙◌, ◌∷◌, ◌≡◌, ◌≢◌, ◌≤◌}
 
 -- an element of a changed list
 
@@ -85,19 +85,13 @@ pub only_at : {B : Type 0} (f : ℕ → Option B) (a n k : ℕ) (x : B) → k < 
     → first_some f (range_with_len a n) ≡ Some x
 only_at f a zero k x l e o = absurd (omega arith)
 only_at f a (suc n) zero x l e o = grind arith
-only_at f a (suc n) (suc k) x l e o =
-    let p : a + suc k ≡ (a + 1) + k = omega arith in
-    rw (o a (λ q. omega arith)) (only_at f (a + 1) n k x (omega arith) (subst (λ j. f j ≡ Some x) p e) (λ c q. o c (λ r. q (r ∙ p))))
+only_at f a (suc n) (suc k) x l e o = grind (arith, (only_at f (a + 1) n k x (omega arith)))
 
 -- what is found first stands at one class
 pub found_first : {B : Type 0} (f : ℕ → Option B) (P : B → Type 0) (a n : ℕ) (x : B) → ((c : ℕ) → c < a + n → f c ≡ Some x → P x)
     → first_some f (range_with_len a n) ≡ Some x → P x
 found_first f P a zero x h e = cc
-found_first f P a (suc n) x h e =
-    elim (f a) as (λ o. f a ≡ o → or_else o (first_some f (range_with_len (a + 1) n)) ≡ Some x → P x) [
-      | None ↦ λ _ q. found_first f P (a + 1) n x (λ c l. h c (omega arith)) q
-      | Some y ↦ λ p q. h a (omega arith) (p ∙ q)
-    ] refl e
+found_first f P a (suc n) x h e = grind (arith, or_else, first_some, range_with_len, (found_first f P (a + 1) n x (λ c l. h c (omega arith))))
 
 -- one number up to another, or past it
 pub split : (P : Type 0) (c n : ℕ) → (c ≤ n → P) → (n < c → P) → P
@@ -117,14 +111,8 @@ only_class f n k x l e o =
 -- a test that one class passes
 any_at : (f : ℕ → Bool) (a n k : ℕ) → k < n → f (a + k) ≡ true → list_any f (range_with_len a n) ≡ true
 any_at f a zero k l e = absurd (omega arith)
-any_at f a (suc n) zero l e = let z : a + 0 ≡ a = omega arith in let here : f a ≡ true = ap f (sym z) ∙ e in rw here refl
-any_at f a (suc n) (suc k) l e =
-    let z : (a + 1) + k ≡ a + suc k = omega arith in
-    or_true (f a) (list_any f (range_with_len (a + 1) n)) (any_at f (a + 1) n k (omega arith) (ap f z ∙ e))
-  where
-    or_true : (b c : Bool) → c ≡ true → (b || c) ≡ true
-    or_true true c e = refl
-    or_true false c e = e
+any_at f a (suc n) zero l e = grind arith
+any_at f a (suc n) (suc k) l e = grind (arith, any_at f (a + 1) n k)
 
 pub any_class : (f : ℕ → Bool) (n k : ℕ) → k < n → f k ≡ true → list_any f (range_with_len 0 n) ≡ true
 any_class f n k l e = let z : 0 + k ≡ k = omega arith in any_at f 0 n k l (ap f z ∙ e)

@@ -1,22 +1,16 @@
 -- The changes of a WRITE that is handed: no two of them change one item, and no other change has its time.
-use Rattle.sdd_dm.proofs.All.{AllByRecursion, Bool, Change, Contains, Contains-append_cases, Contains-append_left, Contains-append_right, Contains-cases, Contains-here, Contains-later, Contains-nil, Dated, DatesDiffer, Equal, Handed, IsDistinct, IsDistinct-head, IsDistinct-tail, Item, List, Log, Msg, Setting, Some, Write, [], all_dated, ap, arith, changes_in, contains, database_of, false, first_row, first_rows, inl, inr, int_cmp, is_eq, is_own, item_cmp, map, nat_cmp, nat_tests, ordering_then, refl, subst, sym, true, with_time, write_time_of, write_times, written, ℕ, ℤ, ◌++◌, ◌<◌, ◌∙◌, ◌∷◌, ◌≡◌}
+use Rattle.sdd_dm.proofs.All.{AllByRecursion, Bool, Change, Contains, Contains-append_cases, Contains-append_left, Contains-append_right, Contains-cases, Contains-here, Contains-later, Contains-nil, Dated, DatesDiffer, Equal, Handed, IsDistinct, IsDistinct-head, IsDistinct-tail, Item, List, Log, Msg, Setting, Some, Write, [], all_dated, ap, arith, changes_in, contains, database_of, false, first_row, first_rows, inl, inr, int_cmp, is_eq, is_own, item_cmp, map, nat_cmp, nat_tests, ordering_then, refl, sym, true, with_time, write_time_of, write_times, written, ℕ, ℤ, ◌++◌, ◌<◌, ◌∙◌, ◌∷◌, ◌≡◌}
 use Rattle.sdd_dm.proofs.ByClass.{same_number}
 
 -- members of a list that a function makes
 
 pub from_map : {A B : Type 0} (f : A → B) (xs : List A) (y : B) → Contains (map f xs) y → (x : A) × Contains xs x × (y ≡ f x)
 from_map f [] y h = absurd (Contains-nil y h)
-from_map {A = A} f (x ∷ xs) y h = elim (Contains-cases (f x) (map f xs) y h) as (λ _. (z : A) × Contains (x ∷ xs) z × (y ≡ f z)) [
-  | inl e ↦ (x, Contains-here x xs, e)
-  | inr later ↦ let r = from_map f xs y later in (r.0, Contains-later x xs r.0 r.1, r.2)
-]
+from_map {A = A} f (x ∷ xs) y h = grind (arith, Contains-cases, Contains-here, Contains-later, (from_map f xs y))
 
 pub each_map : {A B : Type 0} (P : B → Type 0) (f : A → B) (xs : List A) (x : A) → AllByRecursion P (map f xs) → Contains xs x → P (f x)
 each_map P f [] x h i = absurd (Contains-nil x i)
-each_map P f (y ∷ xs) x h i = elim (Contains-cases y xs x i) as (λ _. P (f x)) [
-  | inl e ↦ subst (λ z. P (f z)) (sym e) h.0
-  | inr later ↦ each_map P f xs x h.1 later
-]
+each_map P f (y ∷ xs) x h i = grind (arith, Contains-cases, (each_map P f xs x h.1))
 
 -- the changes of a WRITE are of different items
 
@@ -32,27 +26,20 @@ own_item f k = let e : nat_cmp f f ≡ Equal = grind (arith, nat_tests) in rw e 
 one_item : (x y : Change) → x.frag.0 ≡ y.frag.0 → x.key ≡ y.key → is_one (item x) (item y) ≡ true
 one_item x y e f = rw (e, f) (own_item y.frag.0 y.key)
 
-not_later : (x y : Change) (xs : List Change) → AllByRecursion (λ i. is_one (item x) i ≡ false) (map item xs) → Contains xs y → x.frag.0 ≡ y.frag.0
-    → x.key ≡ y.key → ⊥
-not_later x y xs apart i e f =
-    let no = each_map (λ j. is_one (item x) j ≡ false) item xs y apart i in
-    let yes = one_item x y e f in absurd cc
-
 pub one_change : (xs : List Change) (x y : Change) → IsDistinct is_one (map item xs) → Contains xs x → Contains xs y → x.frag.0 ≡ y.frag.0
     → x.key ≡ y.key
     → x ≡ y
 one_change [] x y d i j e f = absurd (Contains-nil x i)
 one_change (z ∷ xs) x y d i j e f =
     let apart = IsDistinct-head is_one (item z) (map item xs) d in
-    let rest = IsDistinct-tail is_one (item z) (map item xs) d in
     elim (Contains-cases z xs x i) as (λ _. x ≡ y) [
       | inl a ↦ elim (Contains-cases z xs y j) as (λ _. x ≡ y) [
         | inl b ↦ a ∙ sym b
-        | inr b ↦ absurd (not_later z y xs apart b (ap (λ w. w.frag.0) (sym a) ∙ e) (ap (λ w. w.key) (sym a) ∙ f))
+        | inr b ↦ absurd (let yes = one_item z y (ap (λ w. w.frag.0) (sym a) ∙ e) (ap (λ w. w.key) (sym a) ∙ f) in absurd cc (each_map (λ j. is_one (item z) j ≡ false) item xs y apart b))
       ]
       | inr a ↦ elim (Contains-cases z xs y j) as (λ _. x ≡ y) [
-        | inl b ↦ absurd (not_later z x xs apart a (ap (λ w. w.frag.0) (sym b) ∙ sym e) (ap (λ w. w.key) (sym b) ∙ sym f))
-        | inr b ↦ one_change xs x y rest a b e f
+        | inl b ↦ absurd (let yes = one_item z x (ap (λ w. w.frag.0) (sym b) ∙ sym e) (ap (λ w. w.key) (sym b) ∙ sym f) in absurd cc (each_map (λ j. is_one (item z) j ≡ false) item xs x apart a))
+        | inr b ↦ one_change xs x y (IsDistinct-tail is_one (item z) (map item xs) d) a b e f
       ]
     ]
 
@@ -61,8 +48,7 @@ one_change (z ∷ xs) x y d i j e f =
 written_time : (m : Msg) (times : List ℕ) (x : ℕ × Change) → Contains (changes_in (Some m)) x
     → contains (with_time (write_time_of m) times) x.0 ≡ true
 written_time (Write ts class txn changes) times x h =
-    let r = from_map (λ c. (ts.0, c)) changes x h in
-    let e : ts.0 ≡ x.0 = ap (λ y. y.0) (sym r.2) in
+    let e : ts.0 ≡ x.0 = ap (λ y. y.0) (sym (from_map (λ c. (ts.0, c)) changes x h).2) in
     rw (same_number ts.0 x.0 e) refl
 written_time _ times x h = absurd (Contains-nil x h)
 
@@ -80,16 +66,13 @@ written_times (_ ∷ log) x h = written_times log x h
 
 -- of the changes of a new WRITE and all before, two of one item have two times
 
-first_time : (s : Setting) (x : ℕ × Change) → Contains (first_rows s) x → x.0 ≡ 0
-first_time s x h = let r = from_map (first_row s.catalogue) (database_of s.catalogue s.rows) x h in ap (λ y. y.0) r.2
-
 abbrev new_dated : ℕ → List Change → Dated
 new_dated t changes = map (λ c. (t, c)) changes
 
 not_before : (s : Setting) (log : Log) (t : ℕ) (x : ℕ × Change) → 0 < t → contains (write_times log) t ≡ false → Contains (all_dated s log) x
     → x.0 ≡ t → ⊥
 not_before s log t x above fresh h e = elim (Contains-append_cases (first_rows s) (written log) x h) as (λ _. ⊥) [
-  | inl i ↦ let z = first_time s x i in absurd (omega arith)
+  | inl i ↦ let z = (let r = from_map (first_row s.catalogue) (database_of s.catalogue s.rows) x i in ap (λ y. y.0) r.2) in absurd (omega arith)
   | inr i ↦ let yes = ap (contains (write_times log)) (sym e) ∙ written_times log x i in absurd cc
 ]
 
@@ -103,9 +86,6 @@ both_new t changes x y d i j e f =
     let same : p.0 ≡ q.0 = one_change changes p.0 q.0 d p.1 q.1 (ap (λ c. c.frag.0) (sym xp) ∙ e ∙ ap (λ c. c.frag.0) yq)
     (ap (λ c. c.key) (sym xp) ∙ f ∙ ap (λ c. c.key) yq) in
     p.2 ∙ ap (λ c. (t, c)) same ∙ sym q.2
-
-new_time : (t : ℕ) (changes : List Change) (x : ℕ × Change) → Contains (new_dated t changes) x → x.0 ≡ t
-new_time t changes x h = let r = from_map (λ c. (t, c)) changes x h in ap (λ y. y.0) r.2
 
 -- a new one or an old one
 where_dated : (s : Setting) (log : Log) (news : Dated) (x : ℕ × Change) (P : Type 0) → (Contains news x → P) → (Contains (all_dated s log) x → P)
@@ -125,8 +105,8 @@ new_differ s log t changes above fresh d old = λ x y i j e f time.
     where_dated s log (new_dated t changes) x (x ≡ y)
     (λ a. where_dated s log (new_dated t changes) y (x ≡ y)
     (λ b. both_new t changes x y d a b e f)
-    (λ b. absurd (not_before s log t y above fresh b (sym time ∙ new_time t changes x a))) j)
+    (λ b. absurd (not_before s log t y above fresh b (sym time ∙ (let r = from_map (λ c. (t, c)) changes x a in ap (λ y. y.0) r.2)))) j)
     (λ a. where_dated s log (new_dated t changes) y (x ≡ y)
-    (λ b. absurd (not_before s log t x above fresh a (time ∙ new_time t changes y b)))
+    (λ b. absurd (not_before s log t x above fresh a (time ∙ (let r = from_map (λ c. (t, c)) changes y b in ap (λ y. y.0) r.2))))
     (λ b. old x y a b e f time) j)
     i

@@ -1,5 +1,5 @@
 -- A module to which nothing was handed represents the empty log.
-use Rattle.sdd_dm.proofs.All.{All-contains, AllByRecursion, Catalogue, Contains, Contains-cases, Contains-nil, D, Database, DatesDiffer, DmNo, IsDatabase, IsDigest, IsDistinct, IsDistinct-from_sorted, IsDistinct-head, IsDistinct-tail, IsEntry, IsSoundCatalogue, IsTrue, Item, List, None, RelNo, Represent, Row, Setting, Shows, State, [], ap, append-nil, arith, classes_of, database_of, dated, empty_digest, empty_pipe, eq_by_cmp, false, first_row, first_rows, first_step, flat_map, fragment_at, fragment_holds, fragment_of, has_copy, home_of, inl, inr, is_empty_digest, is_here, item_cmp, key_in_range, keys_of, length, length-replicate, map, of_class, refl, replicate, slice_index_or, step_at, subst, suc, sym, true, ℕ, ◌++◌, ◌+◌, ◌∙◌, ◌∷◌, ◌≡◌}
+use Rattle.sdd_dm.proofs.All.{All-contains, Catalogue, Contains, Contains-cases, Contains-nil, D, Database, DatesDiffer, DmNo, IsDatabase, IsDistinct, IsDistinct-from_sorted, IsDistinct-head, IsDistinct-tail, IsEntry, IsSoundCatalogue, IsTrue, Item, List, None, RelNo, Represent, Row, Setting, Shows, State, [], ap, append-nil, arith, classes_of, database_of, dated, empty_digest, empty_pipe, eq_by_cmp, false, first_row, first_rows, first_step, flat_map, fragment_at, fragment_holds, fragment_of, frozen, has_copy, home_of, inl, inr, is_empty_digest, is_here, item_cmp, key_in_range, keys_of, length, length-replicate, map, nat_tests, refl, replicate, slice_index_or, subst, suc, sym, true, waits, ℕ, ◌++◌, ◌+◌, ◌∙◌, ◌∷◌, ◌≡◌}
 use Rattle.sdd_dm.proofs.ByClass.{first_none}
 use Rattle.sdd_dm.proofs.Dates.{from_map, each_map, own_item}
 
@@ -17,50 +17,36 @@ flat_none (x ∷ xs) = flat_none xs
 same_item : (x y : Item) → x ≡ y → eq_by_cmp item_cmp x y ≡ true
 same_item x y e = rw e (own_item y.0 y.1)
 
-not_later : (e f : Item × Row) (db : Database) → AllByRecursion (λ i. eq_by_cmp item_cmp e.0 i ≡ false) (keys_of db) → Contains db f → e.0 ≡ f.0
-    → ⊥
-not_later e f db apart i same =
-    let no = each_map (λ j. eq_by_cmp item_cmp e.0 j ≡ false) (λ x. x.0) db f apart i in
-    let yes = same_item e.0 f.0 same in absurd cc
-
 one_entry : (db : Database) (x y : Item × Row) → IsDistinct (eq_by_cmp item_cmp) (keys_of db) → Contains db x → Contains db y → x.0 ≡ y.0 → x ≡ y
 one_entry [] x y d i j e = absurd (Contains-nil x i)
 one_entry (z ∷ db) x y d i j e =
     let apart = IsDistinct-head (eq_by_cmp item_cmp) z.0 (keys_of db) d in
-    let rest = IsDistinct-tail (eq_by_cmp item_cmp) z.0 (keys_of db) d in
     elim (Contains-cases z db x i) as (λ _. x ≡ y) [
       | inl a ↦ elim (Contains-cases z db y j) as (λ _. x ≡ y) [
         | inl b ↦ a ∙ sym b
-        | inr b ↦ absurd (not_later z y db apart b (ap (λ w. w.0) (sym a) ∙ e))
+        | inr b ↦ absurd (let yes = same_item z.0 y.0 (ap (λ w. w.0) (sym a) ∙ e) in absurd cc (each_map (λ j. eq_by_cmp item_cmp z.0 j ≡ false) (λ x. x.0) db y apart b))
       ]
       | inr a ↦ elim (Contains-cases z db y j) as (λ _. x ≡ y) [
-        | inl b ↦ absurd (not_later z x db apart a (ap (λ w. w.0) (sym b) ∙ sym e))
-        | inr b ↦ one_entry db x y rest a b e
+        | inl b ↦ absurd (let yes = same_item z.0 x.0 (ap (λ w. w.0) (sym b) ∙ sym e) in absurd cc (each_map (λ j. eq_by_cmp item_cmp z.0 j ≡ false) (λ x. x.0) db x apart a))
+        | inr b ↦ one_entry db x y (IsDistinct-tail (eq_by_cmp item_cmp) z.0 (keys_of db) d) a b e
       ]
     ]
 
 -- the rows with which a module begins are of different items
-
-row_rel : (cat : Catalogue) (e : Item × Row) → IsSoundCatalogue cat → IsEntry cat e → (fragment_at cat (fragment_of cat e.0.0 e.0.1)).rel.0 ≡ e.0.0
-row_rel cat e sound entry = (fragment_holds cat sound e.0.0 e.0.1 entry.relation.0 entry.relation.1 (key_in_range e.0.1 entry.key_held)).there.rel_is
 
 first_differ : (cat : Catalogue) (db : Database) → IsSoundCatalogue cat → IsDatabase cat db → DatesDiffer (map (first_row cat) db)
 first_differ cat db sound is = λ x y i j frag key time.
     let p = from_map (first_row cat) db x i in
     let q = from_map (first_row cat) db y j in
     let f : fragment_of cat p.0.0.0 p.0.0.1 ≡ fragment_of cat q.0.0.0 q.0.0.1 = ap (λ c. c.1.frag.0) (sym p.2) ∙ frag ∙ ap (λ c. c.1.frag.0) q.2 in
-    let k : p.0.0.1 ≡ q.0.0.1 = ap (λ c. c.1.key) (sym p.2) ∙ key ∙ ap (λ c. c.1.key) q.2 in
     let rel : p.0.0.0 ≡ q.0.0.0 =
-    sym (row_rel cat p.0 sound (All-contains (IsEntry cat) db p.0 is.entries p.1)) ∙ ap (λ n. (fragment_at cat n).rel.0) f
-    ∙ row_rel cat q.0 sound (All-contains (IsEntry cat) db q.0 is.entries q.1) in
-    let item : p.0.0 ≡ q.0.0 = ap (λ r. (r, p.0.0.1)) rel ∙ ap (λ n. (q.0.0.0, n)) k in
+    sym ((fragment_holds cat sound p.0.0.0 p.0.0.1 (All-contains (IsEntry cat) db p.0 is.entries p.1).relation.0 (All-contains (IsEntry cat) db p.0 is.entries p.1).relation.1 (key_in_range p.0.0.1 (All-contains (IsEntry cat) db p.0 is.entries p.1).key_held)).there.rel_is) ∙ ap (λ n. (fragment_at cat n).rel.0) f
+    ∙ ((fragment_holds cat sound q.0.0.0 q.0.0.1 (All-contains (IsEntry cat) db q.0 is.entries q.1).relation.0 (All-contains (IsEntry cat) db q.0 is.entries q.1).relation.1 (key_in_range q.0.0.1 (All-contains (IsEntry cat) db q.0 is.entries q.1).key_held)).there.rel_is) in
+    let item : p.0.0 ≡ q.0.0 = ap (λ r. (r, p.0.0.1)) rel ∙ ap (λ n. (q.0.0.0, n)) (ap (λ c. c.1.key) (sym p.2) ∙ key ∙ ap (λ c. c.1.key) q.2) in
     let same : p.0 ≡ q.0 = one_entry db p.0 q.0 (IsDistinct-from_sorted item_cmp (keys_of db) is.ascends) p.1 q.1 item in
     p.2 ∙ ap (first_row cat) same ∙ sym q.2
 
 -- nothing is in the pipes
-
-no_step : (n m c : ℕ) → of_class c (step_at (replicate n empty_digest) (replicate m false) c) ≡ None
-no_step n m c = grind (arith, at_replicate)
 
 abbrev setting_of : Catalogue → DmNo → List (RelNo × Row) → Setting
 setting_of cat dm rows = record { catalogue = cat; site = D dm; rows = rows }
@@ -79,11 +65,7 @@ first_shown cat dm rows n st sound is many home pipes waits frozen pipes_live li
       pipes = ap length pipes ∙ length-replicate n empty_digest ∙ many ∙ omega arith;
       waits = ap length waits ∙ length-replicate n false ∙ many ∙ omega arith;
       frozen = ap length frozen ∙ length-replicate n None ∙ many ∙ omega arith;
-      classes = λ c l. record {
-        pipe = subst (λ d. IsDigest d empty_pipe) (sym (ap (λ ps. slice_index_or ps c empty_digest) pipes ∙ at_replicate n c empty_digest)) is_empty_digest;
-        waits = ap (λ ws. slice_index_or ws c false) waits ∙ at_replicate n c false;
-        frozen = ap (λ fs. slice_index_or fs c None) frozen ∙ at_replicate n c None;
-      };
+      classes = grind (arith, nat_tests, empty_pipe, slice_index_or, empty_digest, at_replicate, is_empty_digest);
       answered = refl;
       pipes_live = pipes_live;
       live = live;
@@ -94,4 +76,4 @@ first_shown cat dm rows n st sound is many home pipes waits frozen pipes_live li
     }
 
 pub first_quiet : (st : State) (n : ℕ) → st.pipes ≡ replicate n empty_digest → st.waits ≡ replicate n false → first_step st.pipes st.waits ≡ None
-first_quiet st n pipes waits = grind (arith, first_none, no_step)
+first_quiet st n pipes waits = grind (arith, first_none, at_replicate)

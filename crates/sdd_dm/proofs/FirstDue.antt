@@ -1,13 +1,9 @@
 -- What the first head may do is what is due next, where nothing is left to answer.
-use Rattle.sdd_dm.proofs.All.{Act, Bool, ClassNo, Digest, Home, List, Log, Msg, None, Option, Setting, Shows, Some, State, Step, View, [], act_by, act_where, ap, arith, class_view, classes_of, due, first_some, first_step, head, head_at, head_due, length, of_class, opens, or_else, pipe, range_with_len, refl, step_at, step_by, subst, suc, sym, view_of, zero, ℕ, ◌+◌, ◌<◌, ◌∙◌, ◌≡◌, ◌≤◌}
+use Rattle.sdd_dm.proofs.All.{Act, Bool, ClassNo, Digest, Home, List, Log, Msg, None, Option, Setting, Shows, Some, State, Step, act_by, act_where, ap, arith, class_view, due, first_some, first_step, head, head_at, head_due, length, nat_tests, of_class, or_else, pipe, range_with_len, refl, step_at, step_by, suc, sym, view_of, zero, ℕ, ◌+◌, ◌<◌, ◌∙◌, ◌≡◌, ◌≤◌}
 use Rattle.sdd_dm.proofs.ByClass.{first_map, first_none, first_range, found_first}
 use Rattle.sdd_dm.proofs.Shown.{step_is, head_shown}
 
 -- where nothing is left to answer, the heads are next
-
-heads_next : (h : Home) (s : Setting) (log : Log) → opens log ≡ []
-    → due h (view_of s log) ≡ first_some (λ c. head_due h (view_of s log) (class_view s log c)) (classes_of s)
-heads_next h s log e = grind (arith, first_none, first_map)
 
 -- the act of the head that may do something
 
@@ -15,18 +11,10 @@ abbrev pub act_of : Home → Setting → Log → Option (ClassNo × Step) → Op
 act_of h s log None = None
 act_of h s log (Some p) = act_where h (view_of s log) p.0.0 (head (pipe p.0.0 log)) (Some p.1)
 
-head_act : (h : Home) (s : Setting) (st : State) (log : Log) (c : ℕ) → Shows s st log → c ≤ length s.catalogue.classes
-    → head_due h (view_of s log) (class_view s log c) ≡ act_of h s log (of_class c (step_at st.pipes st.waits c))
-head_act h s st log c shows l = grind (arith, step_is)
-
 -- a head that may do something is there
 head_there : (pipes : List Digest) (flags : List Bool) (c : ℕ) (w : Bool) (o : Option Msg) (step : Step) → step_by pipes flags c w o ≡ Some step
     → (m : Msg) × (o ≡ Some m)
 head_there pipes flags c w o step e = grind arith
-
-acts_there : (h : Home) (v : View) (c : ℕ) (o : Option Msg) (m : Msg) (step : Step) → o ≡ Some m
-    → act_where h v c o (Some step) ≡ Some (act_by h v c m step)
-acts_there h v c o m step e = rw e refl
 
 abbrev IsThere : Home → Setting → Log → Option (ClassNo × Step) → Type 0
 IsThere h s log None = Unit {0}
@@ -39,26 +27,20 @@ there h s st log c shows l =
       | None ↦ λ e. tt
       | Some step ↦ λ e.
           let m = head_there st.pipes st.waits c _ (head_at st.pipes c) step e in
-          (act_by h (view_of s log) c m.0 step, acts_there h (view_of s log) c (head (pipe c log)) m.0 step (sym (head_shown s st log c shows l) ∙ m.1))
+          (act_by h (view_of s log) c m.0 step, (rw (sym (head_shown s st log c shows l) ∙ m.1) refl))
     ] refl
 
 -- the act of the first is the first act
 first_act : (h : Home) (s : Setting) (log : Log) (f : ℕ → Option (ClassNo × Step)) (a n : ℕ) → ((c : ℕ) → c < a + n → IsThere h s log (f c))
     → first_some (λ c. act_of h s log (f c)) (range_with_len a n) ≡ act_of h s log (first_some f (range_with_len a n))
 first_act h s log f a zero all = refl
-first_act h s log f a (suc n) all =
-    elim (f a) as (λ o. f a ≡ o → IsThere h s log o
-    → or_else (act_of h s log o) (first_some (λ c. act_of h s log (f c)) (range_with_len (a + 1) n)) ≡ act_of h s log
-    (or_else o (first_some f (range_with_len (a + 1) n)))) [
-      | None ↦ λ e t. first_act h s log f (a + 1) n (λ c l. all c (omega arith))
-      | Some p ↦ λ e t. rw t.1 refl
-    ] refl (all a (omega arith))
+first_act h s log f a (suc n) all = grind (arith, nat_tests, IsThere, or_else, act_of, first_some, range_with_len, (first_act h s log f (a + 1) n (λ c l. all c (omega arith))))
 
 pub due_is : (h : Home) (s : Setting) (st : State) (log : Log) → Shows s st log → due h (view_of s log) ≡ act_of h s log (first_step st.pipes st.waits)
 due_is h s st log shows =
-    heads_next h s log shows.answered
+    (grind (arith, first_none, first_map))
     ∙ first_range (λ c. head_due h (view_of s log) (class_view s log c)) (λ c. act_of h s log (of_class c (step_at st.pipes st.waits c))) 0
-    (suc (length s.catalogue.classes)) (λ c l. head_act h s st log c shows (omega arith))
+    (suc (length s.catalogue.classes)) (λ c l. (grind (arith, step_is)))
     ∙ first_act h s log (λ c. of_class c (step_at st.pipes st.waits c)) 0 (suc (length s.catalogue.classes)) (λ c l. there h s st log c shows (omega arith))
     ∙ ap (λ n. act_of h s log (first_some (λ c. of_class c (step_at st.pipes st.waits c)) (range_with_len 0 n))) (sym shows.pipes)
 
@@ -70,19 +52,10 @@ pub record IsFirst (st : State) (p : ClassNo × Step) : Type 0 where
   pub msg : Msg
   pub head : head_at st.pipes p.0.0 ≡ Some msg
 
-first_by : (st : State) (c : ℕ) (o : Option Step) (p : ClassNo × Step) → c < length st.pipes → step_at st.pipes st.waits c ≡ o
-    → of_class c o ≡ Some p
-    → IsFirst st p
-first_by st c None p l q e = absurd cc
-first_by st c (Some step) p l q e =
-    let same : (record { 0 = c }, step) ≡ p = cc in
-    let m = head_there st.pipes st.waits c _ (head_at st.pipes c) step q in
-    subst (IsFirst st) same (record { known = l; step = q; msg = m.0; head = m.1 })
-
 pub first_is : (st : State) (p : ClassNo × Step) → first_step st.pipes st.waits ≡ Some p → IsFirst st p
 first_is st p e =
     found_first (λ c. of_class c (step_at st.pipes st.waits c)) (IsFirst st) 0 (length st.pipes) p
-    (λ c l q. first_by st c (step_at st.pipes st.waits c) p (omega arith) refl q) e
+    (λ c l q. (grind (arith, head_there, IsFirst))) e
 
 -- what is due, where a head may do something
 pub next_act : (h : Home) (s : Setting) (st : State) (log : Log) (p : ClassNo × Step) → Shows s st log → first_step st.pipes st.waits ≡ Some p
@@ -90,4 +63,4 @@ pub next_act : (h : Home) (s : Setting) (st : State) (log : Log) (p : ClassNo ×
 next_act h s st log p shows e f =
     let few : p.0.0 ≤ length s.catalogue.classes = omega (arith, f.known, shows.pipes) in
     due_is h s st log shows ∙ ap (act_of h s log) e
-    ∙ acts_there h (view_of s log) p.0.0 (head (pipe p.0.0 log)) f.msg p.1 (sym (head_shown s st log p.0.0 shows few) ∙ f.head)
+    ∙ (rw (sym (head_shown s st log p.0.0 shows few) ∙ f.head) refl)

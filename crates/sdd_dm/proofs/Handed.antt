@@ -1,5 +1,5 @@
 -- What stands in a pipe was handed.
-use Rattle.sdd_dm.proofs.All.{Bool, EachHanded, Handed, List, Log, Msg, Some, [], goes_through, head, head_of, if◌then◌else◌, pipe, rules, subst, sym, ℕ, ◌++◌, ◌∷◌, ◌≡◌}
+use Rattle.sdd_dm.proofs.All.{EachHanded, List, Log, Msg, Some, [], head, head_of, pipe, rules, subst, sym, ℕ, ◌++◌, ◌∷◌, ◌≡◌}
 use Rattle.sdd_dm.proofs.Prefix.{all_handed, all_there}
 
 -- P holds of each of some messages
@@ -15,13 +15,9 @@ every_later : (P : Msg → Type 0) (ms more : List Msg) → Every P (ms ++ more)
 every_later P [] more e = e
 every_later P (m ∷ ms) more e = every_later P ms more e.1
 
-handed_by : (P : Msg → Type 0) (b : Bool) (m : Msg) (ms : List Msg) → P m → Every P ms → Every P (if b then ms ++ m ∷ [] else ms)
-handed_by P b m ms p e = search (rules, every_append)
-
 every_handed : (P : Msg → Type 0) (c : ℕ) (log : Log) → EachHanded P log → Every P (all_handed c log)
 every_handed P c [] e = tt
-every_handed P c (Handed from m ∷ log) e = handed_by P (goes_through c m) m (all_handed c log) e.0 (every_handed P c log e.1)
-every_handed P c (_ ∷ log) e = every_handed P c log e
+every_handed P c (x ∷ log) e = search (rules, every_append, every_handed P c log)
 
 every_head : (P : Msg → Type 0) (ms : List Msg) (m : Msg) → Every P ms → head_of ms ≡ Some m → P m
 every_head P ms m e h = search rules

@@ -1,5 +1,5 @@
 -- Of conditions that ascend by class the first that spoils a READ is that of the lowest class.
-use Rattle.sdd_dm.proofs.All.{Ascend, Bool, ClassNo, Cond, List, Refuses, Some, Ts, View, [], ap, arith, false, filter, head_of, is_met, judge, judged, last_write_for, map, not, or_zero, refl, slice_get, spoils, subst, suc, sym, time_at, true, zero, ℕ, ◌<◌, ◌∙◌, ◌∷◌, ◌≡◌, ◌≤◌}
+use Rattle.sdd_dm.proofs.All.{Ascend, Bool, ClassNo, Cond, List, Refuses, Some, Ts, View, [], ap, arith, false, filter, head_of, is_met, judge, judged, map, not, refl, slice_get, spoils, subst, suc, true, zero, ℕ, ◌<◌, ◌∙◌, ◌∷◌, ◌≡◌, ◌≤◌}
 
 abbrev classes_in : List Cond → List ℕ
 classes_in conds = map (λ (d : Cond). d.class.0) conds
@@ -21,8 +21,7 @@ first_is_lowest : (p : Cond → Bool) (conds : List Cond) (n : ℕ) (e : Cond) �
 first_is_lowest p [] n e h there so = cc
 first_is_lowest p (x ∷ conds) zero e h there so =
     let q : x ≡ e = cc in
-    let s : p x ≡ true = ap p q ∙ so in
-    record { first = x; is = rw s refl; low = subst (λ (y : Cond). x.class.0 ≤ y.class.0) q (omega arith) }
+    record { first = x; is = rw (ap p q ∙ so) refl; low = subst (λ (y : Cond). x.class.0 ≤ y.class.0) q (omega arith) }
 first_is_lowest p (x ∷ conds) (suc n) e h there so =
     let below = first_below x conds n e h there in
     let i = first_is_lowest p conds n e h.1 there so in
@@ -31,12 +30,9 @@ first_is_lowest p (x ∷ conds) (suc n) e h there so =
       | false ↦ λ s. record { first = i.first; is = rw s i.is; low = i.low }
     ] refl
 
-named : (d : Cond) (w : Ts) (by : ClassNo) (write : Ts) → Refuses d.class w ≡ Refuses by write → d.class ≡ by
-named d w by write e = cc
-
 pub lowest_is_named : (view : View) (conds : List Cond) (by : ClassNo) (write : Ts) (place : ℕ) (spoiler : Cond) → Ascend (map (λ d. d.class.0) conds)
     → judge view conds ≡ Refuses by write → slice_get conds place ≡ Some spoiler → spoils view spoiler ≡ true → by.0 ≤ spoiler.class.0
 lowest_is_named view conds by write place spoiler h refused there so =
     let i = first_is_lowest (spoils view) conds place spoiler h there so in
     let is = ap (judged view (filter (λ d. not (is_met view d)) conds)) i.is in
-    subst (λ (c : ClassNo). c.0 ≤ spoiler.class.0) (named i.first (time_at (or_zero (last_write_for view i.first))) by write (sym is ∙ refused)) i.low
+    subst (λ (c : ClassNo). c.0 ≤ spoiler.class.0) (cc) i.low

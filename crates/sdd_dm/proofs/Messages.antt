@@ -1,13 +1,10 @@
 -- A message is handed: it goes to its pipe, or it is answered at once.
-use Rattle.sdd_dm.proofs.All.{Act, Arrive, Bool, ClassNo, ClassView, Cond, DatesDiffer, Did, Handed, HasCopies, Home, IsDigest, List, Log, Msg, None, Open, Read, Rec, Records, Represent, Setting, Shows, ShowsClass, Site, Some, State, Ts, TxnNo, Use, View, Worked, [], all_dated, answer_of, answer_to, ap, arith, class_view, classes_of, due, empty_digest, false, filter, first_some, frozen, goes_through, hands, head_due, head_of, home_of, if◌then◌else◌, is_answer, is_asked_of, is_processing, is_put, is_wait, length, length-update, made_one, next, notes_handed, nothing_noted, open_due, opens, opens_acted, or_else, pipe, pipe_at, put_digest, refl, state_handed, subst, suc, sym, true, update, view_of, waits, ℕ, ◌&&◌, ◌++◌, ◌==◌, ◌∙◌, ◌∷◌, ◌≡◌, ◌≤◌}
+use Rattle.sdd_dm.proofs.All.{Act, Arrive, ClassNo, Cond, DatesDiffer, Did, Handed, HasCopies, Home, List, Log, Msg, Open, Read, Rec, Records, Represent, Setting, Shows, ShowsClass, Site, Some, State, Ts, TxnNo, Use, View, Worked, [], all_dated, answer_of, answer_to, ap, arith, class_view, classes_of, due, empty_digest, false, first_some, frozen, goes_through, hands, head_due, head_of, home_of, is_answer, is_asked_of, is_processing, is_put, is_wait, length, length-update, made_one, nat_tests, next, notes_handed, nothing_noted, open_due, opens, or_else, pipe, pipe_at, put_digest, refl, state_handed, subst, suc, sym, update, view_of, waits, ℕ, ◌++◌, ◌==◌, ◌∙◌, ◌∷◌, ◌≡◌, ◌≤◌}
 use Rattle.sdd_dm.proofs.ByClass.{at_own, at_other, same_number, other_number, by_class, first_map, only_class}
 use Rattle.sdd_dm.proofs.Applied.{dated_kept}
+use Rattle.sdd_dm.proofs.Scans.{from}
 
 -- what answers the one open message is due next
-
-asked_by : (h : Home) (k : ClassView) (o : Open) (b : Bool) → is_asked_of k.class o ≡ b
-    → answer_of h k (head_of (filter (is_asked_of k.class) (o ∷ []))) ≡ (if b then answer_to h k o o.msg else None)
-asked_by h k o b e = grind arith
 
 pub is_answered : (h : Home) (s : Setting) (log : Log) (o : Open) (c : ℕ) (a : Act) → opens log ≡ o ∷ []
     → ((k : ℕ) → is_asked_of k o ≡ (c == k))
@@ -15,14 +12,11 @@ pub is_answered : (h : Home) (s : Setting) (log : Log) (o : Open) (c : ℕ) (a :
     → answer_to h (class_view s log c) o o.msg ≡ Some a → due h (view_of s log) ≡ Some a
 is_answered h s log o c a e asked l f =
     let v : View = view_of s log in
-    let own : open_due h v (class_view s log c) ≡ Some a =
-    ap (λ os. answer_of h (class_view s log c) (head_of (filter (is_asked_of c) os))) e
-    ∙ asked_by h (class_view s log c) o true (asked c ∙ same_number c c refl) ∙ f in
+    let own : open_due h v (class_view s log c) ≡ Some a = grind (arith, nat_tests, answer_of, class_view, head_of, is_asked_of, same_number) in
     let first : first_some (open_due h v) v.classes ≡ Some a =
     first_map (open_due h v) (class_view s log) (classes_of s)
     ∙ only_class (λ k. open_due h v (class_view s log k)) (suc (length s.catalogue.classes)) c a (omega arith) own
-    (λ k q. ap (λ os. answer_of h (class_view s log k) (head_of (filter (is_asked_of k) os))) e
-    ∙ asked_by h (class_view s log k) o false (asked k ∙ other_number c k q)) in
+    (grind (arith, nat_tests, answer_of, class_view, head_of, is_asked_of, other_number)) in
     ap (λ x. or_else x (first_some (head_due h v) v.classes)) first
 
 -- a message for the pipe of class c
@@ -31,16 +25,7 @@ handed_class : (s : Setting) (st : State) (log : Log) (from : Site) (m : Msg) (c
     → k ≤ length s.catalogue.classes
     → ((j : ℕ) → goes_through j m ≡ (c == j)) → frozen s k (Handed from m ∷ log) ≡ frozen s k log
     → ShowsClass s (record st { pipes = update c (put_digest m) st.pipes }) (Handed from m ∷ log) k
-handed_class s st log from m c k shows l n through kept = record {
-  pipe = by_class (λ j. j ≤ length s.catalogue.classes → IsDigest (pipe_at (update c (put_digest m) st.pipes) j) (pipe j (Handed from m ∷ log))) c k
-      (λ p. subst (λ d. IsDigest d (pipe c (Handed from m ∷ log))) (sym (at_own (put_digest m) st.pipes c empty_digest (omega (arith, shows.pipes))))
-      (rw (through c, same_number c c refl) (is_put m (pipe_at st.pipes c) (pipe c log) (shows.classes c l).pipe)))
-      (λ q p. subst (λ d. IsDigest d (pipe k (Handed from m ∷ log))) (sym (at_other (put_digest m) st.pipes c k empty_digest q))
-      (rw (through k, other_number c k q) (shows.classes k p).pipe))
-      n;
-  waits = (shows.classes k n).waits;
-  frozen = (shows.classes k n).frozen ∙ sym kept;
-}
+handed_class s st log from m c k shows l n through kept = grind (arith, nat_tests, pipe, by_class, pipe_at, update, put_digest, at_own, empty_digest, same_number, is_put, at_other, other_number, waits, frozen)
 
 -- a WRITE or NULL comes: nothing is to be answered
 pub put_shown : (s : Setting) (st : State) (log : Log) (from : Site) (m : Msg) (c : ℕ) → Shows s st log → c ≤ length s.catalogue.classes
@@ -65,18 +50,9 @@ put_shown s st log from m c shows l through kept same_opens dates read = record 
 
 -- a READ comes, and arrives
 
-and_false : {A : Type 0} (b c : Bool) (x y : A) → c ≡ false → (if b && c then x else y) ≡ y
-and_false b c x y e = grind arith
-
 arrived_class : (s : Setting) (st : State) (log : Log) (c k : ℕ) (r : Rec) → is_processing r ≡ false → is_wait r ≡ false → is_answer r ≡ false
     → ShowsClass s st log k → ShowsClass s st (Did (Records c r []) ∷ log) k
 arrived_class s st log c k r e f g h = grind arith
-
-read_closed : (n : ℕ) (from : Site) (c : ℕ) (ts : Ts) (class : ClassNo) (txn : TxnNo) (attempt : ℕ) (conds : List Cond) (uses : List Use) (dm : _)
-    (os : List Open)
-    → os ≡ record { hand = n; from = from; msg = Read ts class txn attempt conds uses } ∷ []
-    → opens_acted (Records c (Arrive txn attempt dm) []) os ≡ []
-read_closed n from c ts class txn attempt conds uses dm os e = grind arith
 
 pub opened : (log : Log) (from : Site) (m : Msg) → opens log ≡ []
     → opens log ++ record { hand = suc (hands log); from = from; msg = m } ∷ [] ≡ record { hand = suc (hands log); from = from; msg = m } ∷ []
@@ -100,7 +76,7 @@ read_worked from st ts class txn attempt conds uses s bases log shows fit =
       waits = shows.waits;
       frozen = shows.frozen;
       classes = λ k n. arrived_class s new after c k r refl refl refl (handed_class s st log from m c k shows l n (λ j. refl) refl);
-      answered = read_closed (suc (hands log)) from c ts class txn attempt conds uses st.home.dm (opens after) there;
+      answered = (grind arith);
       pipes_live = shows.pipes_live;
       live = shows.live;
       copies = subst (Represent st.copies.value) (sym (dated_kept s after c r [] refl)) shows.copies;

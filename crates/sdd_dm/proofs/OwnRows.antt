@@ -1,5 +1,5 @@
 -- The rows with which a module begins: those of the fragments of which it has copies.
-use Rattle.sdd_dm.proofs.All.{All, All-filter, AllByRecursion, Bool, Bor, Catalogue, CmpEqualImpliesEq, Database, Equal, Greater, Held, IsEntry, IsStrictlySortedBy, IsTotalOrder, Item, Less, List, Ordering, RelNo, Row, Value, [], ap, cond, database_of, false, filter, first_row, fold, fragment_of, here_more, insert_entry, inserted_sorted, is_here, item_cmp, item_cmp_exact, item_cmp_total, key_in, keys_of, lent, map, match_ordering, own_rows, refl, rules, sorted_head, sorted_nil, sorted_tail, subst, sym, true, with_change, with_own, with_row, ℕ, ℤ, ◌∙◌, ◌∷◌, ◌≡◌}
+use Rattle.sdd_dm.proofs.All.{All, All-filter, AllByRecursion, Bool, Bor, Catalogue, CmpEqualImpliesEq, Database, Equal, Greater, Held, IsEntry, IsStrictlySortedBy, IsTotalOrder, Item, Less, List, Ordering, RelNo, Row, Value, [], ap, arith, cond, database_of, false, filter, first_row, fold, fragment_of, here_more, insert_entry, inserted_sorted, is_here, item_cmp, item_cmp_exact, item_cmp_total, key_in, keys_of, lent, map, match_ordering, nat_tests, own_rows, refl, rules, sorted_head, sorted_nil, sorted_tail, subst, sym, true, with_change, with_own, with_row, ℕ, ℤ, ◌∙◌, ◌∷◌, ◌≡◌}
 use Rattle.sdd_dm.proofs.Beginning.{lent_put, not_written, put_row}
 use Rattle.sdd_dm.specs.Starts.{is_own}
 
@@ -37,20 +37,8 @@ put_in_kept {K} {X} R total exact p (e ∷ es) k v sorted own =
     → filter q (match_ordering o ((k, v) ∷ e ∷ es) ((e.0, v) ∷ es) (e ∷ insert_entry R es k v)) ≡ insert_entry R (filter q (e ∷ es)) k v) [
       | Less ↦ λ h. ap (λ b. cond b ((k, v) ∷ filter q (e ∷ es)) (filter q (e ∷ es))) own
           ∙ sym (goes_first R (filter q (e ∷ es)) k v (below_all R total q e es k h (sorted_head R e.0 (keys_of es) sorted)))
-      | Equal ↦ λ h.
-          let here : p e.0 ≡ true = sym (ap p (exact k e.0 h)) ∙ own in
-          ap (λ b. cond b ((e.0, v) ∷ filter q es) (filter q es)) here
-          ∙ sym (ap (λ b. insert_entry R (cond b (e ∷ filter q es) (filter q es)) k v) here
-          ∙ ap (λ o. match_ordering o ((k, v) ∷ e ∷ filter q es) ((e.0, v) ∷ filter q es) (e ∷ insert_entry R (filter q es) k v)) h)
-      | Greater ↦ λ h.
-          let more : filter q (insert_entry R es k v) ≡ insert_entry R (filter q es) k v =
-          put_in_kept R total exact p es k v (sorted_tail R e.0 (keys_of es) sorted) own in
-          elim (p e.0) as (λ b. cond b (e ∷ filter q (insert_entry R es k v)) (filter q (insert_entry R es k v))
-          ≡ insert_entry R (cond b (e ∷ filter q es) (filter q es)) k v) [
-            | true ↦ ap (λ l. e ∷ l) more
-                ∙ sym (ap (λ o. match_ordering o ((k, v) ∷ e ∷ filter q es) ((e.0, v) ∷ filter q es) (e ∷ insert_entry R (filter q es) k v)) h)
-            | false ↦ more
-          ]
+      | Equal ↦ grind (arith, nat_tests, insert_entry, match_ordering)
+      | Greater ↦ grind (arith, nat_tests, insert_entry, sorted_tail, keys_of, match_ordering, (put_in_kept R total exact p es k v (sorted_tail R e.0 (keys_of es) sorted) own))
     ] refl
 
 pub put_in_left : {K X : Type 0} (R : K → K → Ordering) → CmpEqualImpliesEq R → (p : K → Bool)

@@ -1,5 +1,5 @@
 -- Scans of a range from the front.
-use Rattle.sdd_dm.proofs.All.{Bool, List, None, Option, Some, [], ap, arith, false, first_some, list_any, or_else, range_with_len, refl, suc, sym, true, ℕ, ◌+◌, ◌-◌, ◌<◌, ◌||◌, ◌∙◌, ◌∷◌, ◌≡◌, ◌≤◌}
+use Rattle.sdd_dm.proofs.All.{Bool, List, None, Option, Some, ap, arith, false, first_some, list_any, or_else, range_with_len, refl, suc, sym, true, ℕ, ◌+◌, ◌-◌, ◌<◌, ◌||◌, ◌∙◌, ◌∷◌, ◌≡◌, ◌≤◌}
 
 -- what is left of the range up to n
 abbrev pub from : ℕ → ℕ → List ℕ
@@ -7,9 +7,6 @@ from i n = range_with_len i (n - i)
 
 from_more : (i n : ℕ) → i < n → from i n ≡ i ∷ from (i + 1) n
 from_more i n h = let e : n - i ≡ suc (n - (i + 1)) = omega arith in rw e refl
-
-from_end : (i n : ℕ) → n ≤ i → from i n ≡ []
-from_end i n h = let e : n - i ≡ 0 = omega arith in ap (range_with_len i) e
 
 pub first_not : {B : Type 0} (f : ℕ → Option B) (i n : ℕ) (all : Option B) → i < n → f i ≡ None → first_some f (from i n) ≡ all
     → first_some f (from (i + 1) n) ≡ all
@@ -20,7 +17,7 @@ pub first_here : {B : Type 0} (f : ℕ → Option B) (i n : ℕ) (all : Option B
 first_here f i n all b h e g = sym g ∙ ap (first_some f) (from_more i n h) ∙ ap (λ o. or_else o (first_some f (from (i + 1) n))) e
 
 pub first_end : {B : Type 0} (f : ℕ → Option B) (i n : ℕ) (all : Option B) → n ≤ i → first_some f (from i n) ≡ all → all ≡ None
-first_end f i n all h g = sym g ∙ ap (first_some f) (from_end i n h)
+first_end f i n all h g = sym g ∙ ap (first_some f) (let e : n - i ≡ 0 = omega arith in ap (range_with_len i) e)
 
 pub any_not : (f : ℕ → Bool) (i n : ℕ) (all : Bool) → i < n → f i ≡ false → list_any f (from i n) ≡ all → list_any f (from (i + 1) n) ≡ all
 any_not f i n all h e g = sym (ap (list_any f) (from_more i n h) ∙ ap (λ b. b || list_any f (from (i + 1) n)) e) ∙ g
@@ -29,4 +26,4 @@ pub any_here : (f : ℕ → Bool) (i n : ℕ) (all : Bool) → i < n → f i ≡
 any_here f i n all h e g = sym g ∙ ap (list_any f) (from_more i n h) ∙ ap (λ b. b || list_any f (from (i + 1) n)) e
 
 pub any_end : (f : ℕ → Bool) (i n : ℕ) (all : Bool) → n ≤ i → list_any f (from i n) ≡ all → all ≡ false
-any_end f i n all h g = sym g ∙ ap (list_any f) (from_end i n h)
+any_end f i n all h g = sym g ∙ ap (list_any f) (let e : n - i ≡ 0 = omega arith in ap (range_with_len i) e)

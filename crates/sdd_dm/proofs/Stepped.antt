@@ -1,43 +1,18 @@
 -- The state after a step of a head shows the log with the act of that head.
-use Rattle.sdd_dm.proofs.All.{All, AreHere, AreSame, Bool, ClassNo, Cond, Dated, DatesDiffer, Did, Frozen, HasCopies, Held, IsHere, IsTrue, Kept, List, Log, Msg, None, Option, Read, Rec, Records, Represent, Setting, Shows, ShowsClass, Site, Some, State, Ts, TxnNo, Use, ap, arith, changes_in, contents, dated, false, fold, frozen, frozen_at, frozen_for, frozen_now, frozen_of, frozen_told, head, head_processed, head_taken, held_for, here_all, if◌then◌else◌, is_answer, is_apply, is_here, is_processing, is_taken, is_wait, length, length-update, map, opens, pipe, refl, represent_all, represent_same, rows_at, subst, sym, take_all, take_digest, true, update, waits, with_change, ℕ, ◌&&◌, ◌++◌, ◌==◌, ◌∙◌, ◌∷◌, ◌≡◌, ◌≢◌, ◌≤◌}
+use Rattle.sdd_dm.proofs.All.{All, AreHere, AreSame, ClassNo, Cond, Dated, DatesDiffer, Did, Frozen, HasCopies, Held, IsHere, IsTrue, Kept, List, Log, Msg, Option, Read, Rec, Records, Represent, Setting, Shows, ShowsClass, Site, Some, State, Ts, TxnNo, Use, ap, arith, changes_in, contents, dated, false, fold, frozen, frozen_at, frozen_for, frozen_now, frozen_of, frozen_told, head, head_taken, held_for, here_all, is_answer, is_apply, is_here, is_processing, is_taken, is_wait, length, length-update, map, nat_tests, opens, pipe, refl, represent_all, represent_same, rows_at, subst, sym, take_all, take_digest, true, update, waits, with_change, ℕ, ◌++◌, ◌∙◌, ◌∷◌, ◌≡◌, ◌≤◌}
 use Rattle.sdd_dm.proofs.ByClass.{at_own, at_other, same_number, other_number, by_class}
 use Rattle.sdd_dm.proofs.Handed.{head_handed}
 use Rattle.sdd_dm.proofs.Applied.{applied_differ, same_dated, dated_kept}
 
 -- what a record changes of its class, and of another
 
-pipe_own : (c : ℕ) (r : Rec) (sends : List (Site × Msg)) (log : Log) → is_processing r ≡ true
-    → pipe c (Did (Records c r sends) ∷ log) ≡ head_processed (pipe c log)
-pipe_own c r sends log e = rw (same_number c c refl, e) refl
-
-pipe_kept : (c : ℕ) (r : Rec) (sends : List (Site × Msg)) (log : Log) → is_processing r ≡ false
-    → pipe c (Did (Records c r sends) ∷ log) ≡ pipe c log
-pipe_kept c r sends log e = rw (same_number c c refl, e) refl
-
-pipe_other : (k c : ℕ) (r : Rec) (sends : List (Site × Msg)) (log : Log) → c ≢ k → pipe c (Did (Records k r sends) ∷ log) ≡ pipe c log
-pipe_other k c r sends log h = rw (other_number k c h) refl
-
 pub waits_own : (c : ℕ) (r : Rec) (sends : List (Site × Msg)) (log : Log) → is_processing r ≡ true
     → waits c (Did (Records c r sends) ∷ log) ≡ false
 waits_own c r sends log e = rw (same_number c c refl, e) refl
 
-waits_other : (k c : ℕ) (r : Rec) (sends : List (Site × Msg)) (log : Log) → c ≢ k → waits c (Did (Records k r sends) ∷ log) ≡ waits c log
-waits_other k c r sends log h = rw (other_number k c h) refl
-
-frozen_by : (b c : Bool) (x y : Option Frozen) → c ≡ false → (if b && c then x else y) ≡ y
-frozen_by b c x y e = grind arith
-
 frozen_kept : (s : Setting) (k c : ℕ) (r : Rec) (sends : List (Site × Msg)) (log : Log) → is_answer r ≡ false
     → frozen s c (Did (Records k r sends) ∷ log) ≡ frozen s c log
-frozen_kept s k c r sends log e = frozen_by (k == c) (is_answer r) (frozen_at (dated s log) (head (pipe c log))) (frozen s c log) e
-
-frozen_own : (s : Setting) (c : ℕ) (r : Rec) (sends : List (Site × Msg)) (log : Log) → is_answer r ≡ true
-    → frozen s c (Did (Records c r sends) ∷ log) ≡ frozen_at (dated s log) (head (pipe c log))
-frozen_own s c r sends log e = rw (same_number c c refl, e) refl
-
-frozen_other : (s : Setting) (k c : ℕ) (r : Rec) (sends : List (Site × Msg)) (log : Log) → c ≢ k
-    → frozen s c (Did (Records k r sends) ∷ log) ≡ frozen s c log
-frozen_other s k c r sends log h = rw (other_number k c h) refl
+frozen_kept s k c r sends log e = (grind arith)
 
 -- the head is processed
 
@@ -50,12 +25,6 @@ taken c copies rows st = record {
   copies = copies;
   frozen = rows;
 }
-
-taken_class : (s : Setting) (st : State) (log : Log) (c k : ℕ) (r : Rec) (sends : List (Site × Msg)) (copies : Kept Held) (rows : List (Option Frozen))
-    → Shows s st log → c ≤ length s.catalogue.classes → k ≤ length s.catalogue.classes → is_processing r ≡ true
-    → frozen_of rows k ≡ frozen s k (Did (Records c r sends) ∷ log) → ShowsClass s (taken c copies rows st) (Did (Records c r sends) ∷ log) k
-taken_class s st log c k r sends copies rows shows l m e f =
-    grind (arith, by_class, pipe_own, at_own, is_taken, pipe_other, at_other, waits, waits_own)
 
 -- A record that processes the head of class c. The copies and the held rows are as the log gives them.
 taken_shown : (s : Setting) (st : State) (log : Log) (c : ℕ) (r : Rec) (sends : List (Site × Msg)) (copies : Kept Held) (rows : List (Option Frozen))
@@ -70,7 +39,7 @@ taken_shown s st log c r sends copies rows shows l e same_opens live represent h
   pipes = length-update c take_digest st.pipes ∙ shows.pipes;
   waits = length-update c (λ w. false) st.waits ∙ shows.waits;
   frozen = many ∙ shows.frozen;
-  classes = λ k m. taken_class s st log c k r sends copies rows shows l m e (held k m);
+  classes = λ k m. (grind (arith, by_class, same_number, at_own, is_taken, other_number, at_other, waits_own));
   answered = same_opens ∙ shows.answered;
   pipes_live = shows.pipes_live;
   live = live;
@@ -131,10 +100,7 @@ pub answered_shown : (s : Setting) (st : State) (log : Log) (c : ℕ) (r : Rec) 
 answered_shown s st log c r sends f shows l e g h same_opens is =
     taken_shown s st log c r sends st.copies (update c (λ old. Some f) st.frozen) shows l e same_opens shows.live
     (subst (Represent st.copies.value) (sym (dated_kept s log c r sends g)) shows.copies) (λ f. refl) (length-update c (λ old. Some f) st.frozen)
-    (λ k m. by_class (λ j. j ≤ length s.catalogue.classes → frozen_of (update c (λ old. Some f) st.frozen) j ≡ frozen s j (Did (Records c r sends) ∷ log)) c k
-    (λ p. at_own (λ old. Some f) st.frozen c None (omega (arith, shows.frozen)) ∙ sym (frozen_own s c r sends log h ∙ is))
-    (λ q p. at_other (λ old. Some f) st.frozen c k None q ∙ (shows.classes k p).frozen ∙ sym (frozen_other s c k r sends log q))
-    m)
+    (grind (arith, nat_tests, by_class, frozen_of, update, frozen, at_own, same_number, at_other, other_number))
 
 -- a READ begins to wait
 
@@ -142,8 +108,7 @@ waiting_class : (s : Setting) (st : State) (log : Log) (c k : ℕ) (r : Rec) (se
     → c ≤ length s.catalogue.classes
     → k ≤ length s.catalogue.classes → is_processing r ≡ false → is_wait r ≡ true → is_answer r ≡ false
     → ShowsClass s (record st { waits = update c (λ w. true) st.waits }) (Did (Records c r sends) ∷ log) k
-waiting_class s st log c k r sends shows l m e f g =
-    grind (arith, by_class, pipe_kept, pipe_other, waits, at_own, at_other, waits_other, frozen_kept)
+waiting_class s st log c k r sends shows l m e f g = grind (arith, by_class, same_number, other_number, at_own, at_other, frozen_kept)
 
 pub waiting_shown : (s : Setting) (st : State) (log : Log) (c : ℕ) (r : Rec) (sends : List (Site × Msg)) → Shows s st log
     → c ≤ length s.catalogue.classes

@@ -1,5 +1,5 @@
 -- Each step of a head is the act that is due next, and the state after it shows the log with that act.
-use Rattle.sdd_dm.proofs.All.{Answer, Apply, Bases, Bool, ClassNo, Did, Done, Log, Msg, Notes, Null, Option, Pass, Processes, Reached, Read, Ready, Records, Refuses, Setting, Shows, Site, Some, State, Step, Waits, Worked, Write, [], act_by, act_in, ap, arith, changes_in, counts_of, dated, dated_in, done_for, false, first_step, frozen_at, frozen_now, head, head_at, home_of, length, next, notes_after, pipe, reached_more, refl, rules, source_of, state_after, step_by, stepped, subst, sym, true, view_of, waits_at, with_act, ℕ, ◌∙◌, ◌∷◌, ◌≡◌, ◌≤◌}
+use Rattle.sdd_dm.proofs.All.{Answer, Apply, Bases, Bool, ClassNo, Did, Done, Log, Msg, Notes, Null, Pass, Processes, Reached, Read, Ready, Records, Refuses, Setting, Shows, Site, Some, State, Step, Waits, Worked, Write, [], act_by, act_in, ap, arith, changes_in, counts_of, dated, done_for, false, first_step, frozen_at, frozen_now, head, head_at, home_of, length, next, notes_after, pipe, reached_more, refl, rules, source_of, state_after, step_by, stepped, subst, sym, true, view_of, waits_at, ℕ, ◌∙◌, ◌∷◌, ◌≡◌, ◌≤◌}
 use Rattle.sdd_dm.proofs.ViewSteps.{dated_is}
 use Rattle.sdd_dm.proofs.Shown.{head_shown}
 use Rattle.sdd_dm.proofs.FirstDue.{IsFirst, first_is, next_act}
@@ -14,9 +14,7 @@ act_is s st log c (Null class time) step shows e = ap (λ h. Records c (Pass cla
 act_is s st log c (Write ts class txn changes) step shows e = ap (λ h. Records c (Apply txn class h.dm ts) (done_for c (Done ts))) (sym shows.home)
 act_is s st log c (Read ts class txn attempt conds uses) Processes shows e =
     let m : Msg = Read ts class txn attempt conds uses in
-    let rows : frozen_at (dated_in (view_of s log)) (Some m) ≡ Some (frozen_now st ts.0 uses) =
-    ap (λ xs. frozen_at xs (Some m)) (dated_is s log) ∙ ap Some (sym (frozen_is s st log c ts class txn attempt conds uses shows e)) in
-    grind arith
+    grind (arith, ap (λ xs. frozen_at xs (Some m)) (dated_is s log) ∙ ap Some (sym (frozen_is s st log c ts class txn attempt conds uses shows e)))
 act_is s st log c (Read ts class txn attempt conds uses) (Refuses by write) shows e = cc
 act_is s st log c (Read ts class txn attempt conds uses) (Waits ds) shows e = cc
 act_is s st log c m step shows e = refl
@@ -40,13 +38,6 @@ step_shown s st log c false m step shows l e f = absurd cc
 
 -- one turn of the loop
 
-after_is : (st : State) (c : ℕ) (o : Option Msg) (m : Msg) (step : Step) → o ≡ Some m → state_after st c o step ≡ stepped st c m step
-after_is st c o m step e = rw e refl
-
-notes_are : (st : State) (c : ℕ) (o : Option Msg) (m : Msg) (step : Step) (n : Notes) → o ≡ Some m
-    → notes_after st c o step n ≡ with_act (act_in st c m step) n
-notes_are st c o m step n e = rw e refl
-
 one_step : (s : Setting) (bases : Bases) (st new : State) (p : ClassNo × Step) (log : Log) → first_step st.pipes st.waits ≡ Some p → (f : IsFirst st p)
     → new ≡ stepped st p.0.0 f.msg p.1
     → Shows s st log → (next s bases log ≡ Some (act_in st p.0.0 f.msg p.1)) × Shows s new (Did (act_in st p.0.0 f.msg p.1) ∷ log)
@@ -67,8 +58,8 @@ step_reached : (s : Setting) (bases : Bases) (start : Log) (st new : State) (p :
 step_reached s bases start st new p old notes more r e is note =
     let f = first_is st p e in
     reached_more (Shows s) (next s bases) ◌∷◌ start st new (act_in st p.0.0 f.msg p.1) old notes more r
-    (λ log shows. one_step s bases st new p log e f (is ∙ after_is st p.0.0 (head_at st.pipes p.0.0) f.msg p.1 f.head) shows)
-    (note ∙ notes_are st p.0.0 (head_at st.pipes p.0.0) f.msg p.1 notes f.head)
+    (λ log shows. one_step s bases st new p log e f (is ∙ (rw f.head refl)) shows)
+    (note ∙ (rw f.head refl))
 
 pub works_on : (from : Site) (m : Msg) (old st new : State) (p : ClassNo × Step) (notes more : Notes) → Worked from m old st notes
     → first_step st.pipes st.waits ≡ Some p → new ≡ state_after st p.0.0 (head_at st.pipes p.0.0) p.1

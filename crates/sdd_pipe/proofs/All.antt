@@ -8,11 +8,10 @@ pub use Rattle.sdd_pipe.specs.Pipes.{pipe_at, update}
 pub use Rattle.sdd_wire.specs.Piped.{time_of}
 pub use Rattle.sdd_wire.specs.declared.msg.Msg.{Msg}
 pub use Rattle.sdd_wire.specs.declared.msg.Msg.TheVariants.{Write}
-pub use Rattle.std.proofs.Common.{Bool, Equal, Greater, Less, List, None, Option, Some, [], ap, append-nil, arith, cond, drop, false, filter_map, fold, if◌then◌else◌, is_eq, is_some, length, map, nat_cmp, nat_le, refl, replicate, rules, slice_index_or, slice_set, subst, suc, sym, true, zero, ℕ, ◌&&◌, ◌++◌, ◌==◌, ◌||◌, ◌∙◌, ◌∷◌, ◌≡◌, ◌≤◌}
+pub use Rattle.std.proofs.Common.{Bool, Equal, Greater, List, None, Option, Some, [], ap, append-nil, arith, cond, drop, false, filter_map, fold, if◌then◌else◌, is_eq, is_some, length, map, nat_cmp, nat_le, refl, replicate, rules, slice_index_or, slice_set, subst, suc, sym, true, zero, ℕ, ◌&&◌, ◌++◌, ◌==◌, ◌||◌, ◌∙◌, ◌∷◌, ◌≡◌, ◌≤◌}
 pub use Rattle.std.proofs.lemmas.Bool.Decides.{nat_tests}
 pub use Rattle.std.proofs.lemmas.List.{map-append}
 pub use Rattle.std.proofs.lemmas.List.Folds.{list_any-append}
 pub use Rattle.std.proofs.lemmas.List.Sums.{fold-append}
 pub use Rattle.std.specs.BTreeMap.{insert_entry}
 pub use Rattle.std.specs.List.{list_any}
-pub use Rattle.std.specs.Ordering.{match_ordering}

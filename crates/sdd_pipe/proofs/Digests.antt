@@ -1,5 +1,5 @@
 -- What is kept of a pipe answers what conditions ask of it, and follows it.
-use Rattle.sdd_pipe.proofs.All.{Bool, Change, Digest, FragNo, HaveRoom, IsDigest, List, Msg, None, Option, Pipe, Some, Write, Writes, [], ap, append-nil, arith, changes_of, cond, empty_digest, empty_pipe, false, filter_map, fold, fold-append, greatest, has_passed, head_processed, is_by, last_in, last_write, list_any, list_any-append, map, map-append, nat_le, nat_tests, passed, put, put_digest, raised, refl, subst, sym, take_digest, time_of, touches, true, with_write, write_in, write_time, ℕ, ◌&&◌, ◌++◌, ◌==◌, ◌||◌, ◌∙◌, ◌∷◌, ◌≡◌}
+use Rattle.sdd_pipe.proofs.All.{Bool, Change, Digest, FragNo, IsDigest, List, Msg, None, Option, Pipe, Some, Write, Writes, [], ap, append-nil, arith, changes_of, cond, empty_digest, empty_pipe, false, filter_map, fold, fold-append, greatest, has_passed, head_processed, is_by, last_in, last_write, list_any, list_any-append, map, map-append, nat_le, nat_tests, passed, put, put_digest, raised, refl, subst, sym, take_digest, time_of, touches, true, with_write, write_in, write_time, ℕ, ◌&&◌, ◌++◌, ◌==◌, ◌||◌, ◌∙◌, ◌∷◌, ◌≡◌}
 use Rattle.sdd_pipe.proofs.Entries.{by_raised, write_with_room, room_stays, writes_stay, have_room_stays, have_room_append, room_made, write_raised, or_swap}
 
 -- an option is told by the numbers that it reaches
@@ -30,15 +30,13 @@ reached g t [] o = sym (or_false (is_by t o))
 reached g t (x ∷ xs) o =
     elim (g x) as (λ p. g x ≡ p → is_by t (fold raised o (filter_map g (x ∷ xs))) ≡ (is_by t o || (is_by t p || list_any (λ y. is_by t (g y)) xs))) [
       | None ↦ λ e. rw e (reached g t xs o)
-      | Some u ↦ λ e. rw e (reached g t xs (raised o u) ∙ ap (λ b. b || list_any (λ y. is_by t (g y)) xs) (by_raised t u o)
-          ∙ or_assoc (is_by t o) (nat_le t u) (list_any (λ y. is_by t (g y)) xs))
+      | Some u ↦ grind (arith, raised, list_any, is_by, by_raised, or_assoc, nat_le, (reached g t xs (raised o u)))
     ] refl
 
 reached_map : {A : Type 0} (g : A → ℕ) (t : ℕ) (xs : List A) (o : Option ℕ) → is_by t (fold raised o (map g xs))
     ≡ (is_by t o || list_any (λ x. nat_le t (g x)) xs)
 reached_map g t [] o = sym (or_false (is_by t o))
-reached_map g t (x ∷ xs) o = reached_map g t xs (raised o (g x)) ∙ ap (λ b. b || list_any (λ y. nat_le t (g y)) xs) (by_raised t (g x) o)
-    ∙ or_assoc (is_by t o) (nat_le t (g x)) (list_any (λ y. nat_le t (g y)) xs)
+reached_map g t (x ∷ xs) o = grind (arith, list_any, nat_le, by_raised, or_assoc, (reached_map g t xs (raised o (g x))))
 
 -- two tests in either order
 
@@ -93,13 +91,8 @@ each_time t frags _ = any_none frags
 
 -- what conditions ask
 
-passed_from : (d : Digest) (p : Pipe) (t : ℕ) (rest : List Msg) → d.unprocessed ≡ rest → p.unprocessed ≡ rest → d.latest
-    ≡ greatest (map time_of p.processed) → has_passed d t ≡ passed p t
-passed_from d p t [] e f g = rw (e, f, g) (reached_map time_of t p.processed None)
-passed_from d p t (m ∷ rest) e f g = rw (e, f) refl
-
 pub passed_is : (d : Digest) (p : Pipe) → IsDigest d p → (t : ℕ) → has_passed d t ≡ passed p t
-passed_is d p i t = passed_from d p t p.unprocessed i.unprocessed refl i.latest
+passed_is d p i t = (grind (arith, reached_map))
 
 last_reached : (t : ℕ) (frags : List FragNo) (p : Pipe) → is_by t (last_write frags p) ≡ list_any (λ m. is_by t (write_time frags m)) p.processed
 last_reached t frags p = reached (write_time frags) t p.processed None
@@ -126,17 +119,7 @@ one_write t f m = grind (arith, nat_tests)
 
 write_taken : (m : Msg) (d : Digest) (p : Pipe) (rest : List Msg) → IsDigest d p → p.unprocessed ≡ m ∷ rest → (f : FragNo)
     → write_in (fold (with_write (time_of m)) d.writes (changes_of m)) f ≡ greatest (filter_map (write_time (f ∷ [])) (p.processed ++ m ∷ []))
-write_taken m d p rest i e f =
-    let room : HaveRoom d.writes (m ∷ rest) = subst (HaveRoom d.writes) e i.room in
-    told (write_in (fold (with_write (time_of m)) d.writes (changes_of m)) f) (greatest (filter_map (write_time (f ∷ [])) (p.processed ++ m ∷ []))) (λ t.
-    write_raised t (time_of m) (changes_of m) d.writes f room.0
-    ∙ ap (λ b. b || is_by t (write_in d.writes f)) (one_write t f m)
-    ∙ ap (λ o. is_by t (write_time (f ∷ []) m) || is_by t o) (i.writes f)
-    ∙ ap (λ b. is_by t (write_time (f ∷ []) m) || b) (last_reached t (f ∷ []) p)
-    ∙ or_swap (is_by t (write_time (f ∷ []) m)) (list_any (λ n. is_by t (write_time (f ∷ []) n)) p.processed)
-    ∙ ap (λ b. list_any (λ n. is_by t (write_time (f ∷ []) n)) p.processed || b) (sym (or_false (is_by t (write_time (f ∷ []) m))))
-    ∙ sym (list_any-append (λ n. is_by t (write_time (f ∷ []) n)) p.processed (m ∷ []))
-    ∙ sym (reached (write_time (f ∷ [])) t (p.processed ++ m ∷ []) None))
+write_taken m d p rest i e f = grind (arith, told, filter_map, write_raised, one_write, last_reached, or_swap, list_any, or_false, list_any-append, reached)
 
 latest_taken : (m : Msg) (ms : List Msg) → raised (greatest (map time_of ms)) (time_of m) ≡ greatest (map time_of (ms ++ m ∷ []))
 latest_taken m ms = rw (map-append time_of ms (m ∷ []), fold-append raised None (map time_of ms) (time_of m ∷ [])) refl

@@ -1,5 +1,5 @@
 -- What is kept by fragment: room for an entry, and an entry that is raised.
-use Rattle.sdd_pipe.proofs.All.{Bool, Change, Equal, FragNo, Greater, HasRoom, HaveRoom, List, Msg, None, Option, Some, Writes, [], ap, arith, changes_of, entry_of, false, fold, if◌then◌else◌, insert_entry, is_by, is_eq, is_some, list_any, nat_cmp, nat_le, nat_tests, or_none, raised, raised_entry, refl, true, with_room, with_write, write_in, ℕ, ◌&&◌, ◌++◌, ◌==◌, ◌||◌, ◌∙◌, ◌∷◌, ◌≡◌}
+use Rattle.sdd_pipe.proofs.All.{Bool, Change, Equal, FragNo, Greater, HasRoom, HaveRoom, List, Msg, None, Option, Some, Writes, [], arith, changes_of, entry_of, false, fold, if◌then◌else◌, insert_entry, is_by, is_eq, is_some, list_any, nat_cmp, nat_le, nat_tests, or_none, raised, raised_entry, refl, true, with_room, with_write, write_in, ℕ, ◌&&◌, ◌++◌, ◌==◌, ◌||◌, ◌∷◌, ◌≡◌}
 
 -- an entry is put in
 
@@ -18,15 +18,9 @@ entry_put (e ∷ writes) f g v = grind (arith, nat_tests, (entry_put writes f g 
 
 -- room
 
-room_by : (writes : Writes) (f g : ℕ) (o : Option (Option ℕ)) → entry_of f writes ≡ o
-    → entry_of g (if is_some o then writes else insert_entry nat_cmp writes f None)
-    ≡ (if is_some o then entry_of g writes else (if f == g then Some None else entry_of g writes))
-room_by writes f g None e = entry_put writes f g None
-room_by writes f g (Some t) e = refl
-
 entry_room : (writes : Writes) (x : Change) (g : ℕ) → entry_of g (with_room writes x)
     ≡ (if is_some (entry_of x.frag.0 writes) then entry_of g writes else (if x.frag.0 == g then Some None else entry_of g writes))
-entry_room writes x g = room_by writes x.frag.0 g (entry_of x.frag.0 writes) refl
+entry_room writes x g = (grind (arith, entry_put))
 
 write_room_by : (writes : Writes) (f g : ℕ) (o : Option (Option ℕ)) → entry_of f writes ≡ o
     → or_none (if is_some o then entry_of g writes else (if f == g then Some None else entry_of g writes)) ≡ or_none (entry_of g writes)
@@ -35,9 +29,7 @@ write_room_by writes f g o e = grind (arith, nat_tests)
 -- room tells of no write
 pub write_with_room : (changes : List Change) (writes : Writes) (f : FragNo) → write_in (fold with_room writes changes) f ≡ write_in writes f
 write_with_room [] writes f = refl
-write_with_room (x ∷ changes) writes f =
-    write_with_room changes (with_room writes x) f ∙ ap or_none (entry_room writes x f.0)
-    ∙ write_room_by writes x.frag.0 f.0 (entry_of x.frag.0 writes) refl
+write_with_room (x ∷ changes) writes f = grind (arith, entry_room, write_room_by, (write_with_room changes (with_room writes x) f))
 
 -- entries that are there stay
 
@@ -47,22 +39,16 @@ Stay old new = (f : ℕ) → is_some (entry_of f old) ≡ true → is_some (entr
 put_stays : (writes : Writes) (f : ℕ) (v : Option ℕ) → Stay writes (insert_entry nat_cmp writes f v)
 put_stays writes f v g h = grind (arith, nat_tests, entry_put)
 
-room_stays_by : (writes : Writes) (f : ℕ) (b : Bool) → Stay writes (if b then writes else insert_entry nat_cmp writes f None)
-room_stays_by writes f true g h = h
-room_stays_by writes f false g h = put_stays writes f None g h
-
 pub room_stays : (changes : List Change) (writes : Writes) → Stay writes (fold with_room writes changes)
 room_stays [] writes g h = h
-room_stays (x ∷ changes) writes g h = room_stays changes (with_room writes x) g (room_stays_by writes x.frag.0 (is_some (entry_of x.frag.0 writes)) g h)
+room_stays (x ∷ changes) writes g h = room_stays changes (with_room writes x) g (grind (arith, put_stays))
 
 write_stays_by : (writes : Writes) (f time : ℕ) (o : Option (Option ℕ)) → Stay writes (raised_entry f time writes o)
-write_stays_by writes f time None g h = h
-write_stays_by writes f time (Some t) g h = put_stays writes f (raised t time) g h
+write_stays_by writes f time o g h = grind (arith, put_stays)
 
 pub writes_stay : (time : ℕ) (changes : List Change) (writes : Writes) → Stay writes (fold (with_write time) writes changes)
 writes_stay time [] writes g h = h
-writes_stay time (x ∷ changes) writes g h =
-    writes_stay time changes (with_write time writes x) g (write_stays_by writes x.frag.0 time (entry_of x.frag.0 writes) g h)
+writes_stay time (x ∷ changes) writes g h = grind (arith, write_stays_by, (writes_stay time changes (with_write time writes x) g (write_stays_by writes x.frag.0 time (entry_of x.frag.0 writes) g h)))
 
 pub has_room_stays : (changes : List Change) (old new : Writes) → Stay old new → HasRoom old changes → HasRoom new changes
 has_room_stays [] old new s h = tt
@@ -76,15 +62,9 @@ pub have_room_append : (messages more : List Msg) (writes : Writes) → HaveRoom
 have_room_append [] more writes h g = g
 have_room_append (m ∷ messages) more writes h g = (h.0, have_room_append messages more writes h.1 g)
 
-room_made_by : (writes : Writes) (f : ℕ) (o : Option (Option ℕ)) → entry_of f writes ≡ o
-    → is_some (entry_of f (if is_some o then writes else insert_entry nat_cmp writes f None)) ≡ true
-room_made_by writes f None e = ap is_some (entry_put writes f f None) ∙ (let own : (f == f) ≡ true = grind (arith, nat_tests) in rw own refl)
-room_made_by writes f (Some t) e = ap is_some e
-
 pub room_made : (changes : List Change) (writes : Writes) → HasRoom (fold with_room writes changes) changes
 room_made [] writes = tt
-room_made (x ∷ changes) writes =
-    (room_stays changes (with_room writes x) x.frag.0 (room_made_by writes x.frag.0 (entry_of x.frag.0 writes) refl), room_made changes (with_room writes x))
+room_made (x ∷ changes) writes = grind (arith, room_stays, is_some, entry_put, (room_made changes (with_room writes x)))
 
 -- entries are raised
 
@@ -99,11 +79,6 @@ raised_entry_by : (writes : Writes) (t time f g : ℕ) (latest : Option ℕ) (o 
     ≡ o → is_by t (or_none (if f == g then Some (raised latest time) else o)) ≡ (((f == g) && nat_le t time) || is_by t (or_none o))
 raised_entry_by writes t time f g latest o e h = grind (arith, nat_tests)
 
-one_raised : (writes : Writes) (t time f g : ℕ) (o : Option (Option ℕ)) → entry_of f writes ≡ o → is_some o ≡ true
-    → is_by t (or_none (entry_of g (raised_entry f time writes o))) ≡ (((f == g) && nat_le t time) || is_by t (or_none (entry_of g writes)))
-one_raised writes t time f g None e h = cc
-one_raised writes t time f g (Some latest) e h = grind (arith, nat_tests, entry_put, raised_entry_by)
-
 any_or : (a b c d : Bool) → ((a && c) || ((b && c) || d)) ≡ (((b || a) && c) || d)
 any_or a b c d = grind (arith, nat_tests)
 
@@ -111,8 +86,4 @@ any_or a b c d = grind (arith, nat_tests)
 pub write_raised : (t time : ℕ) (changes : List Change) (writes : Writes) (g : FragNo) → HasRoom writes changes
     → is_by t (write_in (fold (with_write time) writes changes) g) ≡ ((list_any (λ x. x.frag.0 == g.0) changes && nat_le t time) || is_by t (write_in writes g))
 write_raised t time [] writes g h = refl
-write_raised t time (x ∷ changes) writes g h =
-    write_raised t time changes (with_write time writes x) g
-    (has_room_stays changes writes (with_write time writes x) (write_stays_by writes x.frag.0 time (entry_of x.frag.0 writes)) h.1)
-    ∙ ap (λ b. (list_any (λ x. x.frag.0 == g.0) changes && nat_le t time) || b) (one_raised writes t time x.frag.0 g.0 (entry_of x.frag.0 writes) refl h.0)
-    ∙ any_or (list_any (λ x. x.frag.0 == g.0) changes) (x.frag.0 == g.0) (nat_le t time) (is_by t (write_in writes g))
+write_raised t time (x ∷ changes) writes g h = grind (arith, has_room_stays, write_stays_by, list_any, nat_le, entry_put, raised_entry_by, any_or, (write_raised t time changes (with_write time writes x) g (has_room_stays changes writes (with_write time writes x) (write_stays_by writes x.frag.0 time (entry_of x.frag.0 writes)) h.1)))

@@ -1,5 +1,5 @@
 -- A class that has a step makes the act that is due, and the module keeps what follows from the log.
-use Rattle.sdd_tm.proofs.All.{Act, AllByRecursion, AllUpTo, Answer, Attempt, Bases, Bool, ClassState, Commit, D, Did, InTurn, IsAmid, IsCalm, IsLineOf, IsOfHead, IsRequest, IsServed, IsSoundLog, IsWaiting, List, Log, Msg, NoReads, None, Notes, Null, Option, Queued, Send, Sends, Setting, Some, Start, State, Step, Ticking, ToCommit, ToSend, act_of, active, active_after, active_apart, all_starts, all_up_of, answer_time, answer_to, ap, arith, asking_of, asks, asks_apart, asks_done, asks_of, begins, can_answer, class_no, class_of, class_step, class_view, clock, commit_act, commit_next, commit_no_reads, commits, current_era, dm_no, false, false≢true, filter, find, handed, hands, has_to_send, head_of, holds, holds_acted, is_empty, is_none, line_after, line_apart, line_committed, line_elsewhere, line_sent, line_started, line_step, list_any, map, next, no_read_asked, not, on_hold, option_map, own_record, queue, queue_after, record_in, refl, request_of, runs, send_due, send_next, sends_of_act, sent, served_sent, slice_get, slice_set, stamped_did, start_act, start_due, start_is_up, start_next, start_no_reads, started, starts_committed, starts_left, starts_sent, starts_started, state_done, state_of, submits, subst, suc, sym, ticked, ticked_by, time_at, timestamp, tried, true, view_of, with_act, with_due_act, ℕ, ◌&&◌, ◌+◌, ◌<◌, ◌==◌, ◌^◌, ◌∙◌, ◌∷◌, ◌≡◌, ◌≢◌, ◌≤◌}
+use Rattle.sdd_tm.proofs.All.{Act, AllByRecursion, AllUpTo, Answer, Attempt, Bases, Bool, ClassState, Commit, D, Did, InTurn, IsAmid, IsCalm, IsLineOf, IsOfHead, IsRequest, IsServed, IsSoundLog, IsWaiting, List, Log, Msg, NoReads, None, Notes, Null, Option, Queued, Send, Sends, Setting, Some, Start, State, Step, Ticking, ToCommit, ToSend, act_of, active, active_after, active_apart, all_starts, all_up_of, answer_time, answer_to, ap, arith, asking_of, asks, asks_apart, asks_done, asks_of, begins, can_answer, class_no, class_of, class_step, class_view, clock, commit_act, commit_next, commit_no_reads, commits, current_era, dm_no, false, filter, find, handed, hands, has_to_send, head_of, holds, is_empty, is_none, line_after, line_apart, line_committed, line_elsewhere, line_sent, line_started, line_step, list_any, map, next, no_read_asked, not, on_hold, option_map, own_record, queue, queue_after, record_in, refl, request_of, runs, send_due, send_next, sends_of_act, sent, served_sent, slice_get, slice_set, stamped_did, start_act, start_due, start_is_up, start_next, start_no_reads, started, starts_committed, starts_left, starts_sent, starts_started, state_done, state_of, submits, subst, sym, ticked, ticked_by, time_at, timestamp, tried, true, view_of, with_act, with_due_act, ℕ, ◌&&◌, ◌+◌, ◌<◌, ◌==◌, ◌^◌, ◌∙◌, ◌∷◌, ◌≡◌, ◌≢◌, ◌≤◌}
 use Rattle.sdd_tm.proofs.Lists.{get_map, of_map}
 use Rattle.sdd_tm.proofs.ClassNumbers.{runs_apart, runs_class}
 use Rattle.sdd_tm.proofs.OpenAsks.{open_did, first_answered}
@@ -34,12 +34,6 @@ done_is bases place k step state act e = rw e refl
 
 -- the room that is left
 
-room_after : (state : State) (place : ℕ) (k new : ClassState) (clock : Ticking)
-    → slice_get state.classes place ≡ Some k → state.clock.ticks + all_starts state.classes + 1 < 2 ^ 57
-    → clock.ticks + starts_left new.line.active new.line.queue ≤ state.clock.ticks + starts_left k.line.active k.line.queue
-    → clock.ticks + all_starts (slice_set state.classes place new) + 1 < 2 ^ 57
-room_after state place k new clock e room l = let sum = starts_set state.classes place k new e in omega arith
-
 -- IsAmid after an act, by its parts
 amid_after : (s : Setting) (bases : Bases) (log : Log) (place c : ℕ) (step : Step) (act made : Act)
     → IsAmid s bases (state_of s log) log → slice_get (runs s) place ≡ Some c
@@ -60,8 +54,7 @@ amid_after s bases log place c step act made amid e makes after sound served les
       databases = amid.databases;
       served = served;
       room = subst (λ (st : State). st.clock.ticks + all_starts st.classes + 1 < 2 ^ 57) is
-          (room_after (state_of s log) place k (class_made step made k) (ticked_by made (clock s.site log))
-          (get_map (class_of s log) (runs s) place c e) amid.room less);
+          (let sum = starts_set (state_of s log).classes place k (class_made step made k) (get_map (class_of s log) (runs s) place c e) in omega arith);
     }
 
 -- a message of an exchange
@@ -74,13 +67,11 @@ sends_sound s log place c a act sound e is send request =
     (asks_apart a.ts c d request.msg request.asks (runs_apart s place i c d e f (λ q. apart (sym q)))) (sound.lines i d f)) in
     let up : (t : ℕ) → AllUpTo t (sends_of_act act) =
     λ t. rw request.act_is (no_read_asked t a.ts c request.msg request.asks, tt) in
-    let same : holds_acted act (holds log) ≡ holds log =
-    rw request.act_is (no_held a.ts c (D (dm_no request.to)) request.msg (holds log) request.asks) in
     record {
       lines = each_class s (λ d. IsLineOf s d (Did act ∷ log)) place c e (line_sent s c log act a is send (sound.lines place c e)) others;
       stamped = stamped_did s log act sound.stamped (up _);
       unanswered = open_did log act sound.unanswered;
-      turns = subst InTurn (sym same) sound.turns;
+      turns = subst InTurn (sym (rw request.act_is (no_held a.ts c (D (dm_no request.to)) request.msg (holds log) request.asks))) sound.turns;
     }
 
 makes_send : (s : Setting) (bases : Bases) (log : Log) (place end c : ℕ) → IsAmid s bases (state_of s log) log
@@ -90,14 +81,13 @@ makes_send s bases log place end c amid calm e h =
     let r = has_to_send (active s c log) h in
     let request = request_of c (sent log) (handed log) r.attempt r.act (asking_of s log c r.attempt (amid.sound.lines place c e) r.active) r.send in
     let made_by : send_next (active s c log) ≡ Some r.act = ap send_next r.active ∙ r.send in
-    let ticks : ticked_by r.act (clock s.site log) ≡ clock s.site log = rw request.act_is refl in
     let after = after_request s log place c r.attempt r.act e request in
     record {
       act = r.act;
       is_due = attempt_is_due s bases log place end calm c r.act e (r.due s.catalogue bases c);
       notes = λ n. ap (λ o. with_due_act o n) made_by;
       amid = amid_after s bases log place c Send r.act r.act amid e made_by
-          (after ∙ ap (λ k. with_class place k (class_made Send r.act (class_of s log c)) (state_of s log)) (sym ticks))
+          (after ∙ ap (λ k. with_class place k (class_made Send r.act (class_of s log c)) (state_of s log)) (sym (rw request.act_is refl)))
           (sends_sound s log place c r.attempt r.act amid.sound e r.active r.send request)
           (λ i d f. rw request.act_is (served_sent s.catalogue bases d request.msg (active s d log) (amid.served i d f)))
           (rw request.act_is (let same = starts_sent c request.msg (active s c log) (queue s c log) in omega arith));
@@ -139,11 +129,7 @@ makes_commit s bases log place end c amid calm e h =
             unanswered = open_did log act amid.sound.unanswered;
             turns = amid.sound.turns;
           })
-          (each_class s (λ d. IsServed s.catalogue bases (active s d (Did act ∷ log))) place c e
-          (subst (IsServed s.catalogue bases) (sym none) tt)
-          (λ i d f apart. subst (IsServed s.catalogue bases)
-          (sym (active_apart d c (record_in act) (sends_of_act act) (queue s d log) (active s d log)
-          (runs_apart s place i c d e f (λ q. apart (sym q))))) (amid.served i d f))) (omega arith);
+          (grind (arith, each_class, active, active_apart, record_in, sends_of_act, queue, runs_apart)) (omega arith);
     }
 
 -- a NULL
@@ -184,8 +170,7 @@ pub record MayStart (on : Bool) (o : Option Attempt) (qs : List Queued) : Type 0
   pub queue_is : qs ≡ first ∷ rest
 
 pub may_start : (on : Bool) (o : Option Attempt) (qs : List Queued) → (not on && (is_none o && not (is_empty qs))) ≡ true → MayStart on o qs
-may_start false None (q ∷ rest) e = record { first = q; rest = rest; off = refl; idle = refl; queue_is = refl }
-may_start _ _ _ e = absurd (false≢true e)
+may_start on o qs e = grind arith
 
 makes_start : (s : Setting) (bases : Bases) (log : Log) (place end c : ℕ) → IsAmid s bases (state_of s log) log
     → IsCalm place end (state_of s log) → slice_get (runs s) place ≡ Some c → line_step (active s c log) ≡ None
@@ -210,13 +195,7 @@ makes_start s bases log place end c amid calm e h cannot q rest off idle is =
     let after : starts_left (active_after c act (queue s c log) (active s c log))
     (queue_after c act (queue s c log)) ≡ starts_left (started own (sends_of_act act) (Some q))
     (map (tried q.number) (q ∷ rest)) = rw (begun, left) refl in
-    let fewer = starts_started q.number (record {
-      txn = q.number;
-      attempt = suc q.tries;
-      ts = own;
-      text = q.text;
-      exchange = begins q.text (sends_of_act act);
-    }) q rest in
+    let fewer = starts_started q.number (grind (arith, begins, sends_of_act)) q rest in
     record {
       act = act;
       is_due = start_is_due s bases log place end calm c act e h cannot off due;
@@ -248,20 +227,9 @@ makes_step : (s : Setting) (bases : Bases) (log : Log) (place end c : ℕ) (step
 makes_step s bases log place end c Send amid calm e (sends h) = makes_send s bases log place end c amid calm e h
 makes_step s bases log place end c Commit amid calm e (commits_now h) = makes_commit s bases log place end c amid calm e h
 makes_step s bases log place end c Answer amid calm e (answers h can) = makes_answer s bases log place end c amid calm e h can
-makes_step s bases log place end c Start amid calm e (starts h cannot may) =
-    let w = may_start (on_hold (view_of s log)) (active s c log) (queue s c log) may in
-    makes_start s bases log place end c amid calm e h cannot w.first w.rest w.off w.idle w.queue_is
+makes_step s bases log place end c Start amid calm e (starts h cannot may) = grind (arith, may_start, makes_start)
 
 pub makes : (s : Setting) (bases : Bases) (state : State) (log : Log) (place end : ℕ) (k : ClassState) (step : Step)
     → IsAmid s bases state log → IsCalm place end state → slice_get state.classes place ≡ Some k
     → class_step state.on_hold k ≡ Some step → Makes s bases log place k step state
-makes s bases state log place end k step amid calm here steps =
-    let is : state_of s log ≡ state = amid.state_is in
-    let r = of_map (class_of s log) (runs s) place k (subst (λ (st : State). slice_get st.classes place ≡ Some k) (sym is) here) in
-    let whole : class_step (on_hold (view_of s log)) (class_of s log r.0) ≡ Some step =
-    subst (λ x. class_step (on_hold (view_of s log)) x ≡ Some step) (sym r.2)
-    (subst (λ (st : State). class_step st.on_hold k ≡ Some step) (sym is) steps) in
-    let m = makes_step s bases log place end r.0 step (subst (λ st. IsAmid s bases st log) (sym is) amid)
-    (subst (IsCalm place end) (sym is) calm) r.1 (step_is (on_hold (view_of s log)) (class_of s log r.0) step
-    whole) in
-    subst (λ x. Makes s bases log place x step state) r.2 (subst (λ st. Makes s bases log place (class_of s log r.0) step st) is m)
+makes s bases state log place end k step amid calm here steps = grind (arith, of_map, slice_get, makes_step, step_is, Makes)

@@ -1,5 +1,5 @@
 -- What the module keeps of the log after each act: that of one class changes, as its step says.
-use Rattle.sdd_tm.proofs.All.{Act, Asked, Attempt, ClassState, D, Did, Held, HoldCounts, IsApart, IsRequest, List, Log, Msg, None, Null, Option, Question, Queued, Rec, Records, Sends, Setting, Site, Some, State, Ticking, [], active, active_after, active_apart, active_sent, ap, asks, asks_acted, asks_apart, asks_of, asks_rows, can_answer, class_no, class_of, class_view, clock, dm_no, false, filter, holds, holds_acted, line_after, not, queue, queue_after, queue_apart, refl, rules, runs, sent_apart, slice_get, slice_set, state_of, sym, ticked_by, time_at, true, view_of, without_first, ℕ, ◌∙◌, ◌∷◌, ◌≡◌, ◌≢◌}
+use Rattle.sdd_tm.proofs.All.{Act, Asked, Attempt, ClassState, D, Did, HoldCounts, IsApart, IsRequest, List, Log, Msg, None, Null, Option, Question, Queued, Rec, Records, Sends, Setting, Site, Some, State, Ticking, [], active, active_after, active_apart, active_sent, ap, arith, asks, asks_acted, asks_apart, asks_of, asks_rows, can_answer, class_no, class_of, class_view, clock, dm_no, false, filter, holds, holds_acted, line_after, not, queue, queue_after, queue_apart, refl, rules, runs, sent_apart, slice_get, slice_set, state_of, sym, ticked_by, time_at, true, view_of, without_first, ℕ, ◌∙◌, ◌∷◌, ◌≡◌, ◌≢◌}
 use Rattle.sdd_tm.proofs.Lists.{map_is_set}
 use Rattle.sdd_tm.proofs.ClassNumbers.{runs_apart}
 use Rattle.sdd_tm.proofs.OpenAsks.{IsFirst}
@@ -32,8 +32,7 @@ all_there [] = refl
 all_there (q ∷ qs) = ap (λ rest. q ∷ rest) (all_there qs)
 
 pub no_held : (ts c : ℕ) (to : Site) (m : Msg) (h : HoldCounts) → asks_rows ts c m ≡ true → holds_acted (Sends to m None) h ≡ h
-no_held ts c to (Held t) h e = absurd cc
-no_held ts c to _ h e = refl
+no_held ts c to m h e = grind arith
 
 -- the next message of an exchange
 
@@ -44,10 +43,6 @@ request_others s log ts place c to m e asks_for i d f apart =
     (sent_apart d m (active s d log) (asks_apart ts c d m asks_for (runs_apart s place i c d e f (λ q. apart (sym q)))))
     (ap (asks_of d) (all_there (asks log)))
 
-request_own : (s : Setting) (log : Log) (c : ℕ) (to : Site) (m : Msg)
-    → class_of s (Did (Sends to m None) ∷ log) c ≡ record { line = line_after (Sends to m None) (class_of s log c).line; asks = asks_of c (asks log) }
-request_own s log c to m = ap (λ qs. class_by s c (queue s c log) (active_sent c m (active s c log)) (asks_of c qs)) (all_there (asks log))
-
 pub after_request : (s : Setting) (log : Log) (place c : ℕ) (a : Attempt) (act : Act) → slice_get (runs s) place ≡ Some c → IsRequest c a act
     → state_of s (Did act ∷ log) ≡ with_class place (clock s.site log)
     (record { line = line_after act (class_of s log c).line; asks = asks_of c (asks log) }) (state_of s log)
@@ -56,16 +51,13 @@ after_request s log place c a act e is =
     rw is.act_is
     (state_did s log (Sends to is.msg None) place c e (no_held a.ts c to is.msg (holds log) is.asks)
     (request_others s log a.ts place c to is.msg e is.asks)
-    ∙ ap (λ k. with_class place (clock s.site log) k (state_of s log)) (request_own s log c to is.msg))
+    ∙ ap (λ k. with_class place (clock s.site log) k (state_of s log)) (ap (λ qs. class_by s c (queue s c log) (active_sent c is.msg (active s c log)) (asks_of c qs)) (all_there (asks log))))
 
 -- a record
 
 records_others : (s : Setting) (log : Log) (place c : ℕ) (r : Rec) (sends : List (Site × Msg))
     → slice_get (runs s) place ≡ Some c → OthersStay s log (Records c r sends) place
-records_others s log place c r sends e i d f apart =
-    let other : c ≢ d = runs_apart s place i c d e f (λ q. apart (sym q)) in
-    class_stays s log (Records c r sends) d (queue_apart d c r sends (queue s d log) other)
-    (active_apart d c r sends (queue s d log) (active s d log) other) refl
+records_others s log place c r sends e i d f apart = grind (arith, runs_apart, class_stays, queue_apart, active_apart)
 
 pub after_record : (s : Setting) (log : Log) (place c : ℕ) (r : Rec) (sends : List (Site × Msg))
     → slice_get (runs s) place ≡ Some c → state_of s (Did (Records c r sends) ∷ log)
@@ -90,7 +82,6 @@ after_null s log place c e first time =
     let m : Msg = Null (class_no c) (time_at time) in
     let act : Act = Sends first.question.from m (Some first.question.hand) in
     state_did s log act place c e refl
-    (λ i d f apart. class_stays s log act d refl (sent_apart d m (active s d log) (null_apart c d time))
-    (first.others d (runs_apart s place i c d e f (λ q. apart (sym q)))))
+    (grind (arith, class_stays, sent_apart, active, null_apart, runs_apart))
     ∙ ap (λ qs. with_class place (clock s.site log) (class_by s c (queue s c log) (active_sent c m (active s c log))
     qs) (state_of s log)) first.gone

@@ -1,5 +1,5 @@
 -- What a call of a transaction module does, of every log for which the module stands.
-use Rattle.sdd_tm.proofs.All.{AreSettled, Bases, Catalogue, ClassState, Does, DoesMore, Entry, Era, FitsSubmit, FitsTxn, Handed, IsAmid, IsCalm, IsEraOf, IsKept, IsLineOf, IsTrue, IsWhole, Kept, List, Log, Msg, None, Notes, Places, Rec, Redeclared, RelNo, Represents, Row, Setting, Site, Some, State, Submit, Submits, T, Ticked, TmNo, Txn, TxnNo, Works, [], after_held, all_noted, ap, arith, bound_of, class_for, class_given, class_handed, class_step, classes_of, clock, current_era, does_from, false, first_class, first_state, fits, held_of, length, length-map, line_redeclared, line_ticked, map, next, nothing_noted, one_place, place_of, pushed, records_of, refl, rules, slice_get, stamped_still, state_given, state_handed, state_of, subst, suc, sym, ticked, touched, with_due_act, zero, ℕ, ◌<◌, ◌^◌, ◌∙◌, ◌∷◌, ◌≡◌}
+use Rattle.sdd_tm.proofs.All.{AreSettled, Bases, Catalogue, ClassState, Does, DoesMore, Era, FitsSubmit, FitsTxn, Handed, IsAmid, IsCalm, IsEraOf, IsKept, IsLineOf, IsTrue, IsWhole, Kept, List, Log, Msg, None, Notes, Places, Rec, Redeclared, RelNo, Represents, Row, Setting, Site, Some, State, Submit, Submits, T, Ticked, TmNo, Txn, TxnNo, Works, [], after_held, all_noted, ap, arith, bound_of, class_for, class_given, class_handed, class_step, classes_of, clock, current_era, does_from, false, first_class, first_state, fits, held_of, length, length-map, line_redeclared, line_ticked, map, next, nothing_noted, one_place, place_of, pushed, records_of, refl, rules, slice_get, stamped_still, state_given, state_handed, state_of, subst, suc, sym, ticked, touched, with_due_act, zero, ℕ, ◌<◌, ◌^◌, ◌∙◌, ◌∷◌, ◌≡◌}
 use Rattle.sdd_tm.proofs.Lists.{some_is}
 use Rattle.sdd_tm.proofs.Handing.{amid_handed}
 use Rattle.sdd_tm.proofs.Taking.{few_kept, apart_kept, fits_now}
@@ -35,11 +35,6 @@ call_does taken new old notes all s bases start live c amid =
     does_from (λ l. l) (next s bases) (λ e l. e ∷ l) (λ e log. refl) start start r.view old all refl r.made
     (nothing_due s bases new.value r.view r.shown.state_is settled none) (Represents new s) (λ log e. subst (Represents new s) (sym e) represents)
 
-amid_of_state : (s : Setting) (bases : Bases) (log : Log) (f : State → State) (old : State) (taken : State)
-    (e : Entry) → state_of s log ≡ old → taken ≡ f old → IsAmid s bases (f (state_of s log)) (e ∷ log)
-    → IsAmid s bases taken (e ∷ log)
-amid_of_state s bases log f old taken e is t amid = subst (λ st. IsAmid s bases st (e ∷ log)) (ap f is ∙ sym t) amid
-
 -- a message
 
 kept_of : (k : Kept State) (s : Setting) (log : Log) → Represents k s log → IsKept s log k.value
@@ -59,8 +54,7 @@ calm_for k s log from m taken places st t e = rw (t, e) (calm_handed k.value fro
 pub amid_for : (k : Kept State) (s : Setting) (bases : Bases) (log : Log) (from : Site) (m : Msg) (taken : State)
     → Represents k s log → fits s bases log from m → taken ≡ state_handed from m k.value → IsAmid s bases taken (Handed from m ∷ log)
 amid_for k s bases log from m taken st fit t =
-    amid_of_state s bases log (state_handed from m) k.value taken (Handed from m) st.state_is t
-    (amid_handed s bases log from m st.setting st.sound (subst AreSettled (sym st.state_is) st.settled) fit)
+    (subst (λ st. IsAmid s bases st ((Handed from m) ∷ log)) (ap (state_handed from m) st.state_is ∙ sym t) (amid_handed s bases log from m st.setting st.sound (subst AreSettled (sym st.state_is) st.settled) fit))
 
 pub take_does : (from : Site) (m : Msg) (old new : Kept State) (taken : State) (notes all : Notes)
     (records : List Rec) (sends : List (Site × Msg)) → IsTrue new.live → taken ≡ state_handed from m old.value
@@ -109,9 +103,8 @@ pub amid_after : (k : Kept State) (s : Setting) (bases : Bases) (log : Log) (n :
 amid_after k s bases log n txn taken small st fit t =
     let here : (current_era s log) ≡ k.value.era = ap (λ (x : State). x.era) st.state_is in
     let given = λ (x : State). state_given (class_for (current_era s log).catalogue txn) n txn x in
-    amid_of_state s bases log given k.value taken (Submits n txn) st.state_is (t
-    ∙ ap (λ (x : Era). state_given (class_for x.catalogue txn) n txn k.value) (sym here))
-    (amid_given s bases log n txn small st.setting st.sound (subst AreSettled (sym st.state_is) st.settled) fit)
+    (subst (λ st. IsAmid s bases st ((Submits n txn) ∷ log)) (ap given st.state_is ∙ sym (t
+    ∙ ap (λ (x : Era). state_given (class_for x.catalogue txn) n txn k.value) (sym here))) (amid_given s bases log n txn small st.setting st.sound (subst AreSettled (sym st.state_is) st.settled) fit))
 
 pub submit_does : (n : TxnNo) (txn : Txn) (old new : Kept State) (taken : State) (notes all : Notes)
     (records : List Rec) (sends : List (Site × Msg)) → n.0 < 2 ^ 32 → IsTrue new.live

@@ -13,11 +13,7 @@ lower low mid high (x ∷ xs) l h = let m : mid ≤ x = h.0 in (omega arith, h.1
 
 range_climbs : (a n high : ℕ) → a + n ≤ high → Climb a high (range_with_len a n)
 range_climbs a zero high l = tt
-range_climbs a (suc n) high l = (
-  omega arith,
-  omega arith,
-  lower (suc a) (a + 1) high (range_with_len (a + 1) n) (omega arith) (range_climbs (a + 1) n high (omega arith)),
-)
+range_climbs a (suc n) high l = grind (arith, lower, range_with_len, (range_climbs (a + 1) n high (omega arith)))
 
 kept_climbs : (p : ℕ → Bool) (low high : ℕ) (xs : List ℕ) → Climb low high xs → Climb low high (filter p xs)
 kept_climbs p low high [] h = tt
@@ -35,14 +31,11 @@ climb_apart low high (z ∷ xs) zero (suc j) x y h e f apart = grind (arith, at_
 climb_apart low high (z ∷ xs) (suc i) zero x y h e f apart = grind (arith, at_climb)
 climb_apart low high (z ∷ xs) (suc i) (suc j) x y h e f apart = climb_apart (suc z) high xs i j x y h.2 e f (λ q. apart (ap suc q))
 
-runs_climb : (s : Setting) → Climb 1 (suc (length s.catalogue.classes)) (runs s)
-runs_climb s = grind (arith, kept_climbs, range_climbs)
-
 -- a class at another place has another number
 pub runs_apart : (s : Setting) (i j c d : ℕ) → slice_get (runs s) i ≡ Some c → slice_get (runs s) j ≡ Some d → i ≢ j → c ≢ d
-runs_apart s i j c d e f apart = climb_apart 1 (suc (length s.catalogue.classes)) (runs s) i j c d (runs_climb s) e f apart
+runs_apart s i j c d e f apart = climb_apart 1 (suc (length s.catalogue.classes)) (runs s) i j c d (grind (arith, kept_climbs, range_climbs)) e f apart
 
 -- it is the number of a class
 pub runs_class : (s : Setting) (i c : ℕ) → slice_get (runs s) i ≡ Some c → (1 ≤ c) × (c ≤ length s.catalogue.classes)
-runs_class s i c e = let r = at_climb 1 (suc (length s.catalogue.classes)) (runs s) i c (runs_climb s) e in
+runs_class s i c e = let r = at_climb 1 (suc (length s.catalogue.classes)) (runs s) i c (grind (arith, kept_climbs, range_climbs)) e in
     let b : c < suc (length s.catalogue.classes) = r.1 in (r.0, omega arith)

@@ -1,5 +1,5 @@
 -- The place of a class by its number.
-use Rattle.sdd_tm.proofs.All.{AreApart, Bool, ClassState, List, Log, None, Setting, Some, [], ap, arith, class_of, cond, eqb-false, eqb-true, false, map, place_of, position_from, position_from-zero, refl, runs, slice_get, slice_set, state_of, subst, suc, sym, true, zero, ℕ, ◌+◌, ◌==◌, ◌∙◌, ◌∷◌, ◌≡◌, ◌≢◌}
+use Rattle.sdd_tm.proofs.All.{AreApart, Bool, ClassState, List, Log, None, Setting, Some, [], ap, arith, cond, eqb-false, eqb-true, false, map, place_of, position_from, position_from-zero, refl, slice_get, slice_set, state_of, subst, suc, sym, true, zero, ℕ, ◌+◌, ◌==◌, ◌∙◌, ◌∷◌, ◌≡◌, ◌≢◌}
 use Rattle.sdd_tm.proofs.Lists.{some_is, of_map, map_is_set, map_same}
 use Rattle.sdd_tm.proofs.ClassNumbers.{runs_apart}
 
@@ -36,9 +36,7 @@ somewhere_from p n place (x ∷ xs) e =
 -- a class
 
 pub nowhere : (classes : List ClassState) (c : ℕ) → place_of classes c ≡ None → (i : ℕ) (k : ClassState) → slice_get classes i ≡ Some k → k.line.class ≢ c
-nowhere classes c e i k f =
-    eqb-false k.line.class c (nowhere_from (λ (k : ClassState). k.line.class == c) 0 classes
-    (sym (position_from-zero (λ (k : ClassState). k.line.class == c) classes) ∙ e) i k f)
+nowhere classes c e i k f = grind (arith, eqb-false, nowhere_from, position_from-zero)
 
 pub record IsPlaceOf (classes : List ClassState) (c place : ℕ) : Type 0 where
   pub class : ClassState
@@ -71,7 +69,4 @@ named_alone f classes c place k new apart others here is e =
 
 -- the classes that are kept of a log
 pub classes_apart : (s : Setting) (log : Log) → AreApart (state_of s log).classes
-classes_apart s log i j x y e f apart =
-    let a = of_map (class_of s log) (runs s) i x e in
-    let b = of_map (class_of s log) (runs s) j y f in
-    λ same. runs_apart s i j a.0 b.0 a.1 b.1 apart (ap (λ (k : ClassState). k.line.class) a.2 ∙ same ∙ sym (ap (λ (k : ClassState). k.line.class) b.2))
+classes_apart s log i j x y e f apart = grind (arith, of_map, runs_apart)

@@ -1,32 +1,19 @@
 -- What is due by a log, where at most one class has a step of its own: that class's step.
-use Rattle.sdd_tm.proofs.All.{Act, Answer, Attempt, Bases, Bool, Catalogue, ClassState, ClassView, Commit, IsCalm, LineStep, List, Log, None, Option, Queued, Send, Setting, Some, Start, Step, ToCommit, ToSend, View, active, asks, asks_of, attempt_due, can_answer, class_of, class_step, class_view, exchange_due, false, first_some, head_of, held_due, if◌then◌else◌, is_empty, is_none, line_step, list_any, next, none_due, not, null_due, of_line, on_hold, or_else, own_step, queue, refl, rules, runs, slice_get, start_due, start_of, start_step, state_of, subst, true, view_of, ℕ, ◌&&◌, ◌∙◌, ◌∷◌, ◌≡◌, ◌≢◌}
+use Rattle.sdd_tm.proofs.All.{Act, Answer, Bases, Bool, Catalogue, ClassState, ClassView, Commit, IsCalm, LineStep, Log, None, Option, Send, Setting, Some, Start, Step, ToCommit, ToSend, View, active, arith, asks, asks_of, attempt_due, can_answer, class_of, class_step, class_view, exchange_due, false, first_some, held_due, if◌then◌else◌, is_empty, is_none, line_step, list_any, next, none_due, not, null_due, of_line, on_hold, or_else, own_step, queue, refl, rules, runs, slice_get, start_due, start_step, state_of, subst, true, view_of, ℕ, ◌&&◌, ◌∙◌, ◌≡◌, ◌≢◌}
 use Rattle.sdd_tm.proofs.Lists.{some_is, get_map, of_map, none_first, only_first, first_at}
 use Rattle.sdd_tm.proofs.OpenAsks.{none_answered}
 
 -- a step of a class
 
-no_answer_if : (b : Bool) → (if b then Some Answer else None) ≡ None → b ≡ false
-no_answer_if true e = absurd cc
-no_answer_if false e = refl
-
-own_parts : (l : Option LineStep) (b : Bool) → or_else (of_line l) (if b then Some Answer else None) ≡ None → (l ≡ None) × (b ≡ false)
-own_parts None b e = (refl, no_answer_if b e)
-own_parts (Some ToSend) b e = absurd cc
-own_parts (Some ToCommit) b e = absurd cc
-
 -- a class without a step of its own: its attempt does nothing, and no ASK can be answered
 pub own_none : (k : ClassState) → own_step k ≡ None → (line_step k.line.active ≡ None) × (list_any (can_answer k.line.active) k.asks ≡ false)
-own_none k e = own_parts (line_step k.line.active) (list_any (can_answer k.line.active) k.asks) e
+own_none k e = (grind (arith))
 
 pub class_none : (on : Bool) (k : ClassState) → own_step k ≡ None → start_step on k ≡ None → class_step on k ≡ None
 class_none on k e f = rw (e, f) refl
 
-or_parts : {A : Type 0} (x y : Option A) → or_else x y ≡ None → (x ≡ None) × (y ≡ None)
-or_parts None y e = (refl, e)
-or_parts (Some a) y e = absurd cc
-
 pub none_parts : (on : Bool) (k : ClassState) → class_step on k ≡ None → (own_step k ≡ None) × (start_step on k ≡ None)
-none_parts on k e = or_parts (own_step k) (start_step on k) e
+none_parts on k e = (grind arith)
 
 pub data IsStep (on : Bool) (k : ClassState) : Step → Type 0 where
   sends : line_step k.line.active ≡ Some ToSend → IsStep on k Send
@@ -64,16 +51,10 @@ module _ (s : Setting) (bases : Bases) (log : Log) where
   null_none c e = none_answered v (class_view s log c) (asks log) e
 
   start_none_if : (b w : Bool) (o : Option Act) → (if not b && w then Some Start else None) ≡ None → (if not b && w then o else None) ≡ None
-  start_none_if false true o e = absurd cc
-  start_none_if _ _ o e = refl
-
-  start_of_none : (c : ℕ) (b : Bool) (a : Option Attempt) (qs : List Queued) → (if not b && (is_none a && not (is_empty qs)) then Some Start else None) ≡ None
-      → (if not b && is_none a then start_of cat v c (head_of qs) else None) ≡ None
-  start_of_none c false None (q ∷ qs) e = absurd cc
-  start_of_none c _ _ _ e = refl
+  start_none_if b w o e = grind arith
 
   pub start_none : (c : ℕ) → start_step (on_hold v) (class_of s log c) ≡ None → start_due cat v (class_view s log c) ≡ None
-  start_none c e = start_of_none c (on_hold v) (active s c log) (queue s c log) e
+  start_none c e = (grind arith)
 
   module _ (place end : ℕ) (calm : IsCalm place end (state_of s log)) where
     others_own : (i c : ℕ) → slice_get (runs s) i ≡ Some c → i ≢ place
@@ -84,8 +65,7 @@ module _ (s : Setting) (bases : Bases) (log : Log) where
     only_exchange : (c : ℕ) → slice_get (runs s) place ≡ Some c → first_some (exchange_due cat bases) v.classes ≡ attempt_due cat bases c (active s c log)
     only_exchange c e =
         only_first (exchange_due cat bases) v.classes place (class_view s log c) (get_map (class_view s log) (runs s) place c e)
-        (λ i k g apart. let r = of_map (class_view s log) (runs s) i k g in
-        subst (λ (x : ClassView). exchange_due cat bases x ≡ None) r.2 (none_due cat bases r.0 (active s r.0 log) (others_own i r.0 r.1 apart).0))
+        (grind (arith, of_map, class_view, runs, exchange_due, cat, none_due, active, others_own))
 
     only_null : (c : ℕ) → slice_get (runs s) place ≡ Some c → first_some (null_due v) v.classes ≡ null_due v (class_view s log c)
     only_null c e =
@@ -102,18 +82,14 @@ module _ (s : Setting) (bases : Bases) (log : Log) where
     pub null_is_due : (c : ℕ) (act : Act) → slice_get (runs s) place ≡ Some c → line_step (active s c log) ≡ None
         → null_due v (class_view s log c) ≡ Some act → next s bases log ≡ Some act
     null_is_due c act e f g =
-        let first : first_some (exchange_due cat bases) v.classes ≡ None =
-        only_exchange c e ∙ none_due cat bases c (active s c log) f in
         let second : first_some (null_due v) v.classes ≡ Some act = only_null c e ∙ g in
-        rw (first, second) refl
+        rw ((only_exchange c e ∙ none_due cat bases c (active s c log) f), second) refl
 
     -- a Start
     pub start_is_due : (c : ℕ) (act : Act) → slice_get (runs s) place ≡ Some c → line_step (active s c log) ≡ None
         → list_any (can_answer (active s c log)) (asks_of c (asks log)) ≡ false
         → on_hold v ≡ false → start_due cat v (class_view s log c) ≡ Some act → next s bases log ≡ Some act
     start_is_due c act e f g off h =
-        let first : first_some (exchange_due cat bases) v.classes ≡ None =
-        only_exchange c e ∙ none_due cat bases c (active s c log) f in
         let second : first_some (null_due v) v.classes ≡ None = only_null c e ∙ null_none c g in
         let third : held_due v ≡ None = rw off refl in
         let fourth : first_some (start_due cat v) v.classes ≡ Some act =
@@ -122,7 +98,7 @@ module _ (s : Setting) (bases : Bases) (log : Log) where
         subst (λ (x : ClassView). start_due cat v x ≡ None) r.2
         (start_none r.0 (calm.before i (class_of s log r.0) (get_map (class_of s log) (runs s) i r.0 r.1)
         less))) in
-        rw (first, second, third, fourth) refl
+        rw ((only_exchange c e ∙ none_due cat bases c (active s c log) f), second, third, fourth) refl
 
   -- no class has a step: only a HELD can be due
   pub held_is_due : ((i : ℕ) (k : ClassState) → slice_get (state_of s log).classes i ≡ Some k → class_step (on_hold v) k ≡ None) → next s bases log ≡ held_due v

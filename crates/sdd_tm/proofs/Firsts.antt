@@ -1,5 +1,5 @@
 -- The first member that passes, by its place.
-use Rattle.sdd_tm.proofs.All.{Bool, IfSome, IsSome, List, None, OnSome, Option, Some, [], ap, arith, cond, false, false≢true, find, length, position, position_from, position_from-zero, refl, remove, slice_index_or as get_or, subst, suc, sym, true, without_first, ℕ, ◌+◌, ◌<◌, ◌∙◌, ◌∷◌, ◌≡◌}
+use Rattle.sdd_tm.proofs.All.{Bool, IfSome, IsSome, List, None, OnSome, Option, Some, [], ap, arith, cond, false, find, length, position, position_from, position_from-zero, refl, remove, slice_index_or as get_or, subst, suc, sym, true, without_first, ℕ, ◌+◌, ◌<◌, ◌∙◌, ◌∷◌, ◌≡◌}
 use Rattle.sdd_tm.proofs.Lists.{some_is}
 
 pub record IsNowhere {A : Type 0} (p : A → Bool) (xs : List A) : Type 0 where
@@ -31,9 +31,7 @@ first_from : {A : Type 0} (p : A → Bool) (n place : ℕ) (xs : List A) → pos
 first_from p n place [] e = absurd cc
 first_from p n place (x ∷ xs) e =
     elim (p x) as (λ b. p x ≡ b → cond b (Some n) (position_from p (n + 1) xs) ≡ Some place → IsFirstFrom p n place (x ∷ xs)) [
-      | true ↦ λ g h.
-          let same : n ≡ place = some_is h in
-          record { at = 0; place_is = omega arith; first = record { within = omega arith; found = λ d. rw g refl; left = rw g refl } }
+      | true ↦ grind (arith, some_is)
       | false ↦ λ g h.
           let r = first_from p (n + 1) place xs h in
           let is : place ≡ n + 1 + r.at = r.place_is in
@@ -48,16 +46,13 @@ first_from p n place (x ∷ xs) e =
 pub is_first_at : {A : Type 0} (p : A → Bool) (xs : List A) (place : ℕ) → position p xs ≡ Some place → IsFirstAt p xs place
 is_first_at p xs place e =
     let r = first_from p 0 place xs (sym (position_from-zero p xs) ∙ e) in
-    let at : r.at ≡ place = let is : place ≡ 0 + r.at = r.place_is in omega arith in
-    subst (IsFirstAt p xs) at r.first
+    subst (IsFirstAt p xs) (let is : place ≡ 0 + r.at = r.place_is in omega arith) r.first
 
 -- what is removed there
 pub removed_found : {A : Type 0} (p : A → Bool) (xs : List A) (place : ℕ) (r : Option A) → IsFirstAt p xs place
     → IsSome r → IfSome r (λ y. y ≡ get_or xs place y) → r ≡ find p xs
-removed_found p xs place None first there value = absurd (false≢true there)
-removed_found p xs place (Some y) first there value = ap Some value ∙ sym (first.found y)
+removed_found p xs place r first there value = grind arith
 
 pub removed_left : {A : Type 0} (p : A → Bool) (xs ys : List A) (place : ℕ) (r : Option A) → IsFirstAt p xs place
     → IsSome r → OnSome r (ys ≡ remove xs place) → ys ≡ without_first p xs
-removed_left p xs ys place None first there items = absurd (false≢true there)
-removed_left p xs ys place (Some y) first there items = items ∙ first.left
+removed_left p xs ys place r first there items = grind arith

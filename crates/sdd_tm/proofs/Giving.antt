@@ -28,20 +28,16 @@ all_more : (p q : ℕ → Bool) (xs : List ℕ) → ((x : ℕ) → p x ≡ true 
 all_more p q [] h e = refl
 all_more p q (x ∷ xs) h e = let both = and_parts (p x) (list_all p xs) e in rw (h x both.0, all_more p q xs h both.1) refl
 
-is_of_class : (c k : ℕ) → 1 ≤ c → (c == 0 || k == c) ≡ true → k ≡ c
-is_of_class c k low e = eqb-true k c (subst (λ b. (b || k == c) ≡ true) (ne_eqb c 0 (λ q. absurd (omega arith))) e)
-
 pub class_covers : (s : Setting) (log : Log) (txn : Txn) (c : ℕ) → IsSettingOf s log → 1 ≤ c
     → is_for c (current_era s log).catalogue txn ≡ true → list_all (λ f. is_some (reads_at s.catalogue c f))
     (read_set s.catalogue txn) ≡ true
 class_covers s log txn c setting low e =
     let era : Catalogue = (current_era s log).catalogue in
-    let is : class_for era txn ≡ c = is_of_class c (class_for era txn) low e in
-    let here = eras.covered era txn c (sym is) low in
+    let is : class_for era txn ≡ c = (eqb-true (class_for era txn) c (subst (λ b. (b || (class_for era txn) == c) ≡ true) (ne_eqb c 0 (λ q. absurd (omega arith))) e)) in
     let same : read_set era txn ≡ read_set s.catalogue txn = grind (arith, uses_in_era) in
     subst (λ fs. list_all (λ f. is_some (reads_at s.catalogue c f)) fs ≡ true) same
     (all_more (λ f. is_some (reads_at era c f)) (λ f. is_some (reads_at s.catalogue c f)) (read_set era txn)
-    (λ f r. ap is_some (sym (read_in_era s.catalogue era setting.era c f here.class r)) ∙ r) (covered era txn c low is))
+    (λ f r. ap is_some (sym (read_in_era s.catalogue era setting.era c f (eras.covered era txn c (sym is) low).class r)) ∙ r) (covered era txn c low is))
 
 -- what is kept of the log
 

@@ -1,5 +1,5 @@
 -- A message that is handed: the module keeps what follows from the log, and only what the message touches may have a step.
-use Rattle.sdd_tm.proofs.All.{AreSettled, Ask, Asked, Attempt, Bases, ClassNo, ClassState, Exchange, FitsAnswer, Handed, HoldCounts, InTurn, IsAmid, IsAwaited, IsSettingOf, IsSoundLog, List, Log, MAX_CLASSES, Msg, None, Option, Question, Ready, Reduced, Reject, Rows, Setting, Site, Some, State, Values, [], active, active_handed, after_hand, all_starts, and_right, ap, arith, ask_handed, asked, asks, asks_handed, asks_of, class_at, class_handed, class_named, class_of, clock, cond, false, fits, fits_kind, hands, hold_handed, holds, holds_handed, if◌then◌else◌, length, length_range, line_handed, line_step, map, map_map, nat_lt, ne_eqb, number_of, numbers_to, on_hold, owed_handed, pushed_by, refl, rejects, resting, runs, served_handed, shorter, slice_get, stamped_still, state_handed, state_of, subst, suc, sym, true, view_of, ℕ, ◌&&◌, ◌++◌, ◌+◌, ◌<◌, ◌==◌, ◌^◌, ◌∙◌, ◌∷◌, ◌≡◌, ◌≢◌, ◌≤◌}
+use Rattle.sdd_tm.proofs.All.{AreSettled, Ask, Asked, Attempt, Bases, ClassNo, ClassState, Exchange, FitsAnswer, Handed, HoldCounts, InTurn, IsAmid, IsAwaited, IsSettingOf, IsSoundLog, List, Log, Msg, None, Option, Question, Ready, Reduced, Reject, Rows, Setting, Site, Some, State, Values, [], active, active_handed, after_hand, all_starts, and_right, ap, arith, ask_handed, asked, asks, asks_of, class_handed, class_named, class_of, clock, cond, false, fits, fits_kind, hands, hold_handed, holds, holds_handed, if◌then◌else◌, length, length_range, line_handed, line_step, map, map_map, nat_lt, ne_eqb, on_hold, owed_handed, pushed_by, refl, rejects, resting, runs, served_handed, shorter, slice_get, stamped_still, state_handed, state_of, subst, suc, sym, true, view_of, ℕ, ◌&&◌, ◌++◌, ◌+◌, ◌<◌, ◌==◌, ◌^◌, ◌∙◌, ◌∷◌, ◌≡◌, ◌≢◌, ◌≤◌}
 use Rattle.sdd_tm.proofs.Lists.{get_map, map_same}
 use Rattle.sdd_tm.proofs.OpenAsks.{open_handed}
 use Rattle.sdd_tm.proofs.Dues.{own_none, none_parts}
@@ -40,12 +40,6 @@ push_if : (qs : List Question) (q : Question) (c : ℕ) → asks_of c (qs ++ q �
 push_if [] q c = elim (q.class == c) as (λ b. map asked (cond b (q ∷ []) []) ≡ (if b then asked q ∷ [] else [])) [ true ↦ refl | false ↦ refl ]
 push_if (x ∷ qs) q c = grind (arith, push_if qs q c)
 
-asks_kept : (n c : ℕ) (from : Site) (m : Msg) (qs : List Question) → asks_of c (asks_handed n from m qs) ≡ ask_handed c from m (asks_of c qs)
-asks_kept n c from m qs = grind (arith, push_if)
-
-class_kept : (s : Setting) (log : Log) (from : Site) (m : Msg) (c : ℕ) → class_of s (Handed from m ∷ log) c ≡ class_handed from m (class_of s log c)
-class_kept s log from m c = ap (λ qs. record (class_handed from m (class_of s log c)) { asks = qs }) (asks_kept (suc (hands log)) c from m (asks log))
-
 hold_kept : (n : ℕ) (m : Msg) (h : HoldCounts) → InTurn h
     → nat_lt (holds_handed n m h).releases (holds_handed n m h).holds ≡ hold_handed m (nat_lt h.releases h.holds)
 hold_kept n m h turns = grind arith
@@ -59,7 +53,7 @@ pub state_kept : (s : Setting) (log : Log) (from : Site) (m : Msg) → InTurn (h
 state_kept s log from m turns =
     let classes : map (class_of s (Handed from m ∷ log)) (runs s) ≡ map (class_handed from m) (map (class_of s log) (runs s)) =
     map_same (class_of s (Handed from m ∷ log)) (λ c. class_handed from m (class_of s log c)) (runs s)
-    (λ i c e. class_kept s log from m c) ∙ sym (map_map (class_handed from m) (class_of s log) (runs s)) in
+    (λ i c e. (ap (λ qs. record (class_handed from m (class_of s log c)) { asks = qs }) (grind (arith, push_if)))) ∙ sym (map_map (class_handed from m) (class_of s log) (runs s)) in
     rw (classes, hold_kept (suc (hands log)) m (holds log) turns, owed_kept (suc (hands log)) m (holds log) turns) refl
 
 -- what holds of the log
@@ -67,17 +61,13 @@ state_kept s log from m turns =
 pub answer_fits : (s : Setting) (bases : Bases) (log : Log) (from : Site) (m : Msg) → fits_kind s bases log from m → FitsAnswer s bases log from m
 answer_fits s bases log from m f = grind arith
 
-turns_kept : (s : Setting) (bases : Bases) (log : Log) (from : Site) (m : Msg) → fits_kind s bases log from m
-    → InTurn (holds log) → InTurn (holds (Handed from m ∷ log))
-turns_kept s bases log from m f turns = grind arith
-
 pub sound_handed : (s : Setting) (bases : Bases) (log : Log) (from : Site) (m : Msg) → fits_kind s bases log from m
     → IsSoundLog s log → IsSoundLog s (Handed from m ∷ log)
 sound_handed s bases log from m f sound = record {
   lines = λ i c e. line_handed s bases c log from m (answer_fits s bases log from m f) (sound.lines i c e);
   stamped = stamped_still s log (Handed from m) refl sound.stamped;
   unanswered = open_handed log from m sound.unanswered;
-  turns = turns_kept s bases log from m f sound.turns;
+  turns = (grind arith);
 }
 
 pub settled_of : (s : Setting) (log : Log) → AreSettled (state_of s log) → (i c : ℕ) → slice_get (runs s) i ≡ Some c → line_step (active s c log) ≡ None
@@ -91,11 +81,7 @@ pub early : (s : Setting) (bases : Bases) (log : Log) (from : Site) (m : Msg) �
 early s bases log from m f = grind arith
 
 pub few_runs : (s : Setting) (log : Log) → IsSettingOf s log → length (runs s) ≤ 64
-few_runs s log setting =
-    let few : length s.catalogue.classes ≤ MAX_CLASSES = setting.whole.few_classes in
-    let all = shorter (λ c. (class_at s.catalogue c).tm.0 == number_of s.site) (numbers_to (length s.catalogue.classes)) in
-    let n = length_range 1 (length s.catalogue.classes) in
-    omega arith
+few_runs s log setting = grind (arith, shorter, length_range)
 
 pub has_room : (s : Setting) (log : Log) → IsSettingOf s log → IsSoundLog s log → (clock s.site log).ticks < 2 ^ 56
     → (clock s.site log).ticks + all_starts (state_of s log).classes + 1 < 2 ^ 57

@@ -1,5 +1,5 @@
 -- HELD: on hold, once no class is active, it is what is due, and once.
-use Rattle.sdd_tm.proofs.All.{Act, AllByRecursion, AreSettled, Bases, Bool, Did, Held, IsAmid, IsApart, List, Log, Msg, None, Notes, Option, Question, Sends, Setting, Some, State, Ticking, U, [], active, after_held, after_held_act, and_parts, ap, arith, asks, asks_acted, asks_of, bound_of, class_of, class_view, clock, false, held_due, held_of, holds, if◌then◌else◌, is_idle, is_none, le-ltb, line_apart, list_all, ltb-true, map, nat_lt, ne_eqb, next, on_hold, queue, refl, runs, sent_apart, served_sent, stamped_did, state_of, subst, suc, sym, time_at, true, view_of, with_act, with_due_act, ℕ, ◌&&◌, ◌<◌, ◌==◌, ◌∙◌, ◌∷◌, ◌≡◌, ◌≢◌}
+use Rattle.sdd_tm.proofs.All.{Act, AllByRecursion, AreSettled, Bases, Bool, Did, Held, IsAmid, List, Log, Msg, None, Notes, Question, Sends, Setting, Some, State, Ticking, U, [], active, after_held, and_parts, ap, arith, asks, asks_acted, asks_of, bound_of, class_of, class_view, clock, false, held_due, held_of, holds, if◌then◌else◌, is_idle, is_none, le-ltb, line_apart, list_all, ltb-true, map, nat_lt, ne_eqb, next, on_hold, queue, refl, runs, sent_apart, served_sent, stamped_did, state_of, suc, sym, time_at, true, view_of, with_act, with_due_act, ℕ, ◌&&◌, ◌<◌, ◌==◌, ◌∙◌, ◌∷◌, ◌≡◌, ◌≢◌}
 use Rattle.sdd_tm.proofs.Lists.{map_same}
 use Rattle.sdd_tm.proofs.OpenAsks.{without_hand, open_did}
 use Rattle.sdd_tm.proofs.Dues.{held_is_due}
@@ -15,9 +15,6 @@ asks_stay : (n : ℕ) (qs : List Question) → AllByRecursion (λ q. q.hand ≢ 
 asks_stay n [] h = refl
 asks_stay n (q ∷ qs) h = let apart : (n == q.hand) ≡ false = ne_eqb n q.hand (λ e. h.0 (sym e)) in rw apart (ap (λ rest. q ∷ rest) (asks_stay n qs h.1))
 
-held_apart : (c t : ℕ) → IsApart c (Held (time_at t))
-held_apart c t = record { reads = λ ts. refl; asks = λ ts. refl }
-
 -- the HELD of a log
 abbrev held_act : Setting → Log → Act
 held_act s log = Sends U (Held (time_at (bound_of (clock s.site log)))) (Some (holds log).last)
@@ -29,7 +26,7 @@ class_stays s log c apart =
     ap (λ a. record {
       line = record { catalogue = s.catalogue; class = c; queue = queue s c log; active = a };
       asks = asks_of c (asks_acted (held_act s log) (asks log));
-    }) (sent_apart c (Held (time_at t)) (active s c log) (held_apart c t))
+    }) (sent_apart c (Held (time_at t)) (active s c log) (record { reads = λ ts. refl; asks = λ ts. refl }))
     ∙ ap (λ qs. record (class_of s log c) { asks = asks_of c qs }) (asks_stay (holds log).last (asks log) apart)
 
 -- once it is sent
@@ -56,7 +53,7 @@ told_amid s bases log amid h =
     record {
       setting = record { valid = amid.setting.valid; whole = amid.setting.whole; era = amid.setting.era };
       sound = record {
-        lines = λ i c e. line_apart s c log U m (Some (holds log).last) (held_apart c t) (amid.sound.lines i c e);
+        lines = λ i c e. line_apart s c log U m (Some (holds log).last) (record { reads = λ ts. refl; asks = λ ts. refl }) (amid.sound.lines i c e);
         stamped = stamped_did s log act amid.sound.stamped (tt, tt);
         unanswered = open_did log act amid.sound.unanswered;
         turns = record { released = omega arith; answered = omega arith; one = one };
@@ -102,26 +99,17 @@ pub tells : (s : Setting) (bases : Bases) (state : State) (log : Log) (act : Act
     → AreSettled state → held_of state ≡ Some act → Tells s bases log state act
 tells s bases state log act amid settled e = grind (arith, tells_of)
 
-nothing_of : (s : Setting) (bases : Bases) (log : Log) → AreSettled (state_of s log) → held_of (state_of s log) ≡ None → next s bases log ≡ None
-nothing_of s bases log settled e = grind (arith, held_is_due, held_same, is_idle, holds)
-
 pub nothing_due : (s : Setting) (bases : Bases) (state : State) (log : Log) → state_of s log ≡ state
     → AreSettled state → held_of state ≡ None → next s bases log ≡ None
-nothing_due s bases state log is settled e = nothing_of s bases log (subst AreSettled (sym is) settled) (subst (λ (st : State). held_of st ≡ None) (sym is) e)
+nothing_due s bases state log is settled e = (grind (arith, held_is_due, held_same, is_idle, holds))
 
 -- and then it isn't due again
 
-told_off : (state : State) (o : Option Act) → held_of state ≡ o → held_of (after_held_act state o) ≡ None
-told_off state o e = grind arith
-
 pub told_once : (state : State) → held_of (after_held state) ≡ None
-told_once state = told_off state (held_of state) refl
-
-told_settled_by : (state : State) (o : Option Act) → AreSettled state → AreSettled (after_held_act state o)
-told_settled_by state o settled = grind arith
+told_once state = (grind arith)
 
 pub told_settled : (state : State) → AreSettled state → AreSettled (after_held state)
-told_settled state settled = told_settled_by state (held_of state) settled
+told_settled state settled = (grind arith)
 
 -- a tick makes none due
 pub held_ticked : (state : State) (clock : Ticking) → held_of state ≡ None → held_of (record state { clock = clock }) ≡ None

@@ -45,8 +45,7 @@ pub only_first : {A B : Type 0} (f : A → Option B) (xs : List A) (k : ℕ) (x 
     → ((i : ℕ) (y : A) → slice_get xs i ≡ Some y → i ≢ k → f y ≡ None) → first_some f xs ≡ f x
 only_first f [] k x e h = absurd cc
 only_first f (y ∷ xs) zero x e h =
-    let rest : first_some f xs ≡ None = none_first f xs (λ i z g. h (suc i) z g (λ q. absurd (omega arith))) in
-    or_none (f y) (first_some f xs) rest ∙ ap f (some_is e)
+    or_none (f y) (first_some f xs) (none_first f xs (λ i z g. h (suc i) z g (λ q. absurd (omega arith)))) ∙ ap f (some_is e)
 only_first f (y ∷ xs) (suc k) x e h =
     let here : f y ≡ None = h 0 y refl (λ q. absurd (omega arith)) in
     rw here (only_first f xs k x e (λ i z g q. h (suc i) z g (λ r. q (omega arith))))
@@ -56,9 +55,7 @@ pub first_at : {A B : Type 0} (f : A → Option B) (xs : List A) (k : ℕ) (x : 
     → f x ≡ Some b → ((i : ℕ) (y : A) → slice_get xs i ≡ Some y → i < k → f y ≡ None) → first_some f xs ≡ Some b
 first_at f [] k x b e g h = absurd cc
 first_at f (y ∷ xs) zero x b e g h = let here : f y ≡ Some b = ap f (some_is e) ∙ g in rw here refl
-first_at f (y ∷ xs) (suc k) x b e g h =
-    let here : f y ≡ None = h 0 y refl (omega arith) in
-    rw here (first_at f xs k x b e g (λ i z q l. h (suc i) z q (omega arith)))
+first_at f (y ∷ xs) (suc k) x b e g h = rw (h 0 y refl (omega arith)) (first_at f xs k x b e g (λ i z q l. h (suc i) z q (omega arith)))
 
 -- a member changes alone
 
@@ -69,9 +66,7 @@ map_same f g (x ∷ xs) h = rw (h 0 x refl, map_same f g xs (λ i y e. h (suc i)
 pub map_is_set : {A B : Type 0} (f g : A → B) (xs : List A) (k : ℕ) (x : A) (new : B) → slice_get xs k ≡ Some x
     → f x ≡ new → ((i : ℕ) (y : A) → slice_get xs i ≡ Some y → i ≢ k → f y ≡ g y) → map f xs ≡ slice_set (map g xs) k new
 map_is_set f g [] k x new e is h = absurd cc
-map_is_set f g (y ∷ xs) zero x new e is h =
-    let here : f y ≡ new = ap f (some_is e) ∙ is in
-    rw (here, map_same f g xs (λ i z q. h (suc i) z q (λ r. absurd (omega arith)))) refl
+map_is_set f g (y ∷ xs) zero x new e is h = rw ((ap f (some_is e) ∙ is), map_same f g xs (λ i z q. h (suc i) z q (λ r. absurd (omega arith)))) refl
 map_is_set f g (y ∷ xs) (suc k) x new e is h =
     rw (h 0 y refl (λ q. absurd (omega arith)), map_is_set f g xs k x new e is (λ i z q r. h (suc i) z q (λ t. r (omega arith)))) refl
 

@@ -1,5 +1,5 @@
 -- An attempt that reads at no module needs no rows: no row of a database meets the restrictions of one of its uses.
-use Rattle.sdd_tm.proofs.All.{AllByRecursion, AreEnough, AreEnoughAlong, Bases, Catalogue, Condition, Database, Delete, FitsCondition, FitsStatement, FitsTxn, FragNo, Has, Has-filter_map_from, Has-flat_map_from, Has-map_from, IsDatabase, IsEntry, IsRelation, IsServed, IsSoundCatalogue, IsWaiting, Item, List, Msg, Put, Query, Queued, RelNo, Row, Serves, Site, Some, Stmt, Ticking, Tuple, Txn, Update, Use, [], all_parts, arith, ascending, ascending_back, contains, each_has, false≢true, filter_map, first_phase, fragment_of, fragments_for, fragments_in, is_over, is_some, length, length-statement_uses, lies_in_use, list_all, map, meets_restrictions, module_read, modules_of, ne_eqb, part_of, parts_meet, product, read_set, reads_at, recursion_from_All, refl, rel_of, restrictions_of, rows_of, sends_of_act, start_act, start_modules, started, statement_uses, subst, sym, ticked, timestamp, true, uses_from, uses_in, uses_of, ℕ, ◌++◌, ◌+◌, ◌==◌, ◌∙◌, ◌∷◌, ◌≡◌, ◌≤◌}
+use Rattle.sdd_tm.proofs.All.{AllByRecursion, AreEnough, AreEnoughAlong, Bases, Catalogue, Condition, Database, Delete, FitsCondition, FitsStatement, FitsTxn, FragNo, Has, Has-filter_map_from, Has-flat_map_from, Has-map_from, IsDatabase, IsEntry, IsRelation, IsServed, IsSoundCatalogue, IsWaiting, Item, List, Put, Query, Queued, RelNo, Row, Serves, Some, Stmt, Ticking, Tuple, Txn, Update, Use, [], all_parts, arith, ascending, ascending_back, contains, each_has, false≢true, filter_map, fragment_of, fragments_for, fragments_in, is_some, length, length-statement_uses, lies_in_use, list_all, map, meets_restrictions, modules_of, ne_eqb, part_of, parts_meet, product, read_set, reads_at, recursion_from_All, refl, rel_of, restrictions_of, rows_of, sends_of_act, start_act, start_modules, started, statement_uses, subst, sym, ticked, timestamp, true, uses_from, uses_in, uses_of, ℕ, ◌++◌, ◌+◌, ◌==◌, ◌∙◌, ◌∷◌, ◌≡◌, ◌≤◌}
 use Rattle.sdd_attempt.specs.protocol.declared.entry.Entry as line
 
 -- no row of the database
@@ -32,8 +32,7 @@ enough cat sound db is before (Put rel row) fits none = tt
 enough cat sound db is before (Query out [] conds) fits none = omega arith
 enough cat sound db is before (Query out (rel ∷ rels) conds) fits none = λ tuple h met part within.
     let row = first_of_product (rows_of db rel.0) (map (λ (r : RelNo). rows_of db r.0) rels) tuple h in
-    let there = recursion_from_All (λ (r : RelNo). IsRelation cat r.0) (rel ∷ rels) fits.1 in
-    absurd (no_row cat sound db is (rel ∷ rels) 1 conds rel.0 refl there.0
+    absurd (no_row cat sound db is (rel ∷ rels) 1 conds rel.0 refl (recursion_from_All (λ (r : RelNo). IsRelation cat r.0) (rel ∷ rels) fits.1).0
     (recursion_from_All (FitsCondition cat (rel ∷ rels)) conds fits.4.1) none.0 (part_of tuple 1) row (parts_meet conds tuple 1 met))
 enough cat sound db is before (Update rel sets conds) fits none = λ row of.
     absurd (no_row cat sound db is (rel ∷ []) 1 conds rel.0 refl fits.0
@@ -84,15 +83,11 @@ no_modules cat c txn low covered e = grind (arith, ne_eqb, ascending, read_set, 
 
 -- so an attempt that begins is served, where it may commit at once
 
-over_without : (ms : List (ℕ × List ℕ)) → is_over (first_phase ms) ≡ true → map (λ (m : ℕ × List ℕ). m.0) ms ≡ []
-over_without ms e = grind arith
-
 pub start_served : (cat : Catalogue) (table : List line.Entry) (bases : Bases) (c : ℕ) (given : List ℕ)
     (k : Ticking) (q : Queued) → IsSoundCatalogue cat → ((ts : ℕ) → IsDatabase cat (bases ts)) → 1 ≤ c
     → IsWaiting cat c given q → IsServed cat bases (started (timestamp (ticked k 1)) (sends_of_act (start_act cat table c k q)) (Some q))
 start_served cat table bases c given k q sound databases low waiting = λ over.
-    let sends : List (Site × Msg) = sends_of_act (start_act cat table c k q) in
     let none : modules_of cat c (ascending (fragments_in (uses_of cat q.text))) ≡ [] =
-    sym (start_modules cat table c k q) ∙ over_without (filter_map module_read sends) over in
+    sym (start_modules cat table c k q) ∙ (grind arith) in
     nothing_serves cat sound q.text waiting.fitting (bases (timestamp (ticked k 1)))
     (databases (timestamp (ticked k 1))) (no_modules cat c q.text low waiting.covered none)

@@ -13,12 +13,7 @@ rise_higher low high top (q ∷ qs) l h = (h.0, rise_higher q.hand high top qs l
 
 rise_kept : (p : Question → Bool) (low high : ℕ) (qs : List Question) → Rise low high qs → Rise low high (filter p qs)
 rise_kept p low high [] h = h
-rise_kept p low high (q ∷ qs) h =
-    let m : low < q.hand = h.0 in
-    elim (p q) as (λ b. Rise low high (cond b (q ∷ filter p qs) (filter p qs))) [
-      | true ↦ (h.0, rise_kept p q.hand high qs h.1)
-      | false ↦ rise_lower low q.hand high (filter p qs) (omega arith) (rise_kept p q.hand high qs h.1)
-    ]
+rise_kept p low high (q ∷ qs) h = grind (arith, rise_lower, (rise_kept p q.hand high qs h.1))
 
 rise_pushed : (low high : ℕ) (qs : List Question) (q : Question) → q.hand ≡ suc high → Rise low high qs → Rise low (suc high) (qs ++ q ∷ [])
 rise_pushed low high [] q is h = (omega arith, omega arith)
@@ -77,10 +72,7 @@ without_hand n qs = filter (λ q. not (n == q.hand)) qs
 
 all_later : (n low high : ℕ) (qs : List Question) → n ≤ low → Rise low high qs → without_hand n qs ≡ qs
 all_later n low high [] l h = refl
-all_later n low high (q ∷ qs) l h =
-    let m : low < q.hand = h.0 in
-    let apart : (n == q.hand) ≡ false = ne_eqb n q.hand (λ e. absurd (omega arith)) in
-    rw apart (ap (λ rest. q ∷ rest) (all_later n q.hand high qs (omega arith) h.1))
+all_later n low high (q ∷ qs) l h = grind (arith, ne_eqb, (all_later n q.hand high qs (omega arith) h.1))
 
 not_yet : (v : View) (a : Option Attempt) (q : Question) → can_answer a (asked q) ≡ false → null_at q (null_time v a q.time) ≡ None
 not_yet v a q e = grind arith
@@ -97,8 +89,7 @@ none_answered v k (q ∷ qs) h =
     → or_else (if b then null_at q (null_time v k.active q.time) else None) (first_some (null_to v k) qs) ≡ None) [
       | true ↦ λ g.
           let p = or_parts (can_answer k.active (asked q)) (list_any (can_answer k.active) (asks_of k.class qs)) g in
-          let here : null_at q (null_time v k.active q.time) ≡ None = not_yet v k.active q p.0 in
-          rw here (none_answered v k qs p.1)
+          rw (not_yet v k.active q p.0) (none_answered v k qs p.1)
       | false ↦ λ g. none_answered v k qs g
     ] h
 
@@ -158,11 +149,10 @@ skips v k low high q qs h none not_yet first =
 first_here : (v : View) (k : ClassView) (low high : ℕ) (q : Question) (qs : List Question) → Rise low high (q ∷ qs)
     → (q.class == k.class) ≡ true → can_answer k.active (asked q) ≡ true → IsFirst v k low (q ∷ qs)
 first_here v k low high q qs h own yes_now =
-    let same : q.class ≡ k.class = eqb-true q.class k.class own in
     let gone : without_hand q.hand (q ∷ qs) ≡ qs = grind (arith, all_later) in
     let here : asks_of k.class (q ∷ qs) ≡ asked q ∷ asks_of k.class qs = cc in
     let to : null_to v k q ≡ Some (Sends q.from (Null (class_no k.class) (time_at (answer_time v.clock k.active)))
-    (Some q.hand)) = rw own (answered_now v k q same yes_now) in
+    (Some q.hand)) = rw own (answered_now v k q (eqb-true q.class k.class own) yes_now) in
     record {
       question = q;
       due = ap (λ o. or_else o (first_some (null_to v k) qs)) to;
@@ -171,10 +161,6 @@ first_here v k low high q qs h own yes_now =
       gone = cc;
       others = λ c apart. grind (arith, ne_eqb, gone, asked, cond);
     }
-
-skips_none : (v : View) (k : ClassView) (q : Question) (b : Bool) → (q.class == k.class) ≡ b
-    → (b ≡ true → can_answer k.active (asked q) ≡ false) → null_to v k q ≡ None
-skips_none v k q b e f = grind arith
 
 pub first_answered : (v : View) (k : ClassView) (low high : ℕ) (qs : List Question) → Rise low high qs
     → list_any (can_answer k.active) (asks_of k.class qs) ≡ true → IsFirst v k low qs
@@ -188,7 +174,7 @@ first_answered v k low high (q ∷ qs) h e =
           elim (can_answer k.active (asked q)) as (λ b. can_answer k.active (asked q) ≡ b
           → (b || list_any (can_answer k.active) (asks_of k.class qs)) ≡ true → IsFirst v k low (q ∷ qs)) [
             | true ↦ λ yes_now f. first_here v k low high q qs h own yes_now
-            | false ↦ λ not_now f. skips v k low high q qs h (skips_none v k q true own (λ r. not_now)) (λ r. not_now) (first_answered v k q.hand high qs h.1 f)
+            | false ↦ λ not_now f. skips v k low high q qs h (grind arith) (λ r. not_now) (first_answered v k q.hand high qs h.1 f)
           ] refl g
       | false ↦ λ other g. grind (arith, first_answered v k q.hand high qs h.1 g)
     ] refl e

@@ -16,8 +16,7 @@ pub few_starts : (s : Setting) (log : Log) (classes : List ℕ) → ((place c : 
     → IsLineOf s c log) → all_starts (map (class_of s log) classes) ≤ 2 ^ 32 * length classes
 few_starts s log [] h = omega arith
 few_starts s log (c ∷ classes) h =
-    let own : IsLineOf s c log = h 0 c refl in
-    let few = few_waiting s.catalogue c (submits log) (queue s c log) own.in_queue in
+    let few = few_waiting s.catalogue c (submits log) (queue s c log) (h 0 c refl).in_queue in
     let left = left_is_few (active s c log) (queue s c log) in
     let rest = few_starts s log classes (λ place d e. h (suc place) d e) in
     omega arith

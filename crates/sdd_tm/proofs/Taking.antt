@@ -65,9 +65,6 @@ given_nowhere st c n txn e = ap (λ cs. record st { classes = cs }) (sym (named_
 abbrev with_given : ℕ → Txn → ClassState → ClassState
 with_given n txn k = record k { line = record k.line { queue = k.line.queue ++ record { number = n; text = txn; tries = 0 } ∷ [] } }
 
-given_own : (c n : ℕ) (txn : Txn) (k : ClassState) → k.line.class ≡ c → class_given c n txn k ≡ with_given n txn k
-given_own c n txn k e = rw (eq-eqb k.line.class c e) refl
-
 pub given_somewhere : (st : State) (c n : ℕ) (txn : Txn) (place : ℕ) (run new : ClassState)
     → Some place ≡ place_of st.classes c → AreApart st.classes → run ≡ slice_index_or st.classes place run
     → new ≡ with_given n txn run → record st { classes = slice_set st.classes place new } ≡ state_given c n txn st
@@ -75,7 +72,7 @@ given_somewhere st c n txn place run new e apart lent is =
     let at = somewhere st.classes c place (sym e) in
     let same : run ≡ at.class = lent_is st.classes place at.class run at.there lent in
     ap (λ cs. record st { classes = cs }) (named_alone (class_given c n txn) st.classes c place at.class new apart
-    (given_other c n txn) at.there at.is (given_own c n txn at.class at.is ∙ ap (with_given n txn) (sym same) ∙ sym is))
+    (given_other c n txn) at.there at.is ((rw (eq-eqb at.class.line.class c at.is) refl) ∙ ap (with_given n txn) (sym same) ∙ sym is))
 
 -- it fits the class that is lent, and is new there
 

@@ -25,9 +25,7 @@ calm_one old new f c settled apart is hold others None e =
 calm_one old new f c settled apart is hold others (Some p) e =
     let at = somewhere old.classes c p e in
     calm_kept old new p (p + 1) settled (omega arith)
-    (λ j x g h. kept_by f old.classes j x
-    (λ y k. others y (λ q. apart j p y at.class k at.there (λ same. absurd (let l : p + 1 ≤ p = h same in omega arith)) (q ∙ sym at.is)))
-    (subst (λ cs. slice_get cs j ≡ Some x) is g)) (λ j x g. (λ l. rw hold (starts_none old settled j x g), λ l. rw hold (starts_none old settled j x g)))
+    (grind (arith, kept_by, slice_get)) (λ j x g. (λ l. rw hold (starts_none old settled j x g), λ l. rw hold (starts_none old settled j x g)))
 
 -- a message
 
@@ -37,24 +35,20 @@ hold_stays m d on_hold e = grind arith
 pub unnamed : (from : Site) (m : Msg) (k : ClassState) → class_named m ≡ None → class_handed from m k ≡ k
 unnamed from m k e = handed_other from m k (λ d f. absurd cc)
 
-none_changed : (old : State) (from : Site) (m : Msg) → class_named m ≡ None → (j : ℕ) (x : ClassState)
-    → slice_get (state_handed from m old).classes j ≡ Some x → slice_get old.classes j ≡ Some x
-none_changed old from m e j x g = kept_by (class_handed from m) old.classes j x (λ y k. unnamed from m y e) g
-
 calm_same : (old : State) (from : Site) (m : Msg) → AreSettled old → class_named m ≡ None
     → hold_handed m old.on_hold ≡ old.on_hold → IsCalm 0 0 (state_handed from m old)
 calm_same old from m settled e hold =
-    calm_kept old (state_handed from m old) 0 0 settled (omega arith) (λ j x g h. none_changed old from m e j x g)
+    calm_kept old (state_handed from m old) 0 0 settled (omega arith) (λ j x g h. (kept_by (class_handed from m) old.classes j x (λ y k. unnamed from m y e) g))
     (λ j x g. (λ l. rw hold (starts_none old settled j x g), λ l. rw hold (starts_none old settled j x g)))
 
 calm_rest : (old : State) (from : Site) (m : Msg) → AreSettled old → class_named m ≡ None
     → IsCalm (all_places (length old.classes) m).from (all_places (length old.classes) m).end
     (state_handed from m old)
 calm_rest old from (Release ts) settled e =
-    calm_kept old (state_handed from (Release ts) old) 0 (length old.classes) settled (omega arith) (λ j x g h. none_changed old from (Release ts) e j x g)
+    calm_kept old (state_handed from (Release ts) old) 0 (length old.classes) settled (omega arith) (λ j x g h. (kept_by (class_handed from (Release ts)) old.classes j x (λ y k. unnamed from (Release ts) y e) g))
     (λ j x g. (λ l. absurd (omega arith), λ l. absurd (let w = get_within old.classes j x g in omega arith)))
 calm_rest old from Hold settled e =
-    calm_kept old (state_handed from Hold old) 0 0 settled (omega arith) (λ j x g h. none_changed old from Hold e j x g) (λ j x g. (λ l. refl, λ l. refl))
+    calm_kept old (state_handed from Hold old) 0 0 settled (omega arith) (λ j x g h. (kept_by (class_handed from Hold) old.classes j x (λ y k. unnamed from Hold y e) g)) (λ j x g. (λ l. refl, λ l. refl))
 calm_rest old from m settled e = calm_same old from m settled e refl
 
 pub calm_handed : (old : State) (from : Site) (m : Msg) → AreSettled old → AreApart old.classes
@@ -80,11 +74,8 @@ calm_given old c n txn settled apart = grind (arith, calm_one)
 
 -- the places are there
 
-one_within : (classes : List ClassState) (c : ℕ) (o : Option ℕ) → place_of classes c ≡ o → (one_place o).end ≤ length classes
-one_within classes c o e = grind arith
-
 pub place_within : (classes : List ClassState) (c : ℕ) → (one_place (place_of classes c)).end ≤ length classes
-place_within classes c = one_within classes c (place_of classes c) refl
+place_within classes c = (grind arith)
 
 pub touched_within : (classes : List ClassState) (m : Msg) → (touched classes m).end ≤ length classes
 touched_within classes m = grind arith

@@ -101,7 +101,5 @@ work_falls s bases state log place k step amid here steps =
     (step_is (on_hold (view_of s log)) (class_of s log r.0) step whole) in
     let on_class : work_in (class_done bases state.era.table state.clock step k) < work_in k =
     subst (λ x. work_in (class_done bases state.era.table state.clock step x) < work_in x) r.2
-    (subst (λ (st : State). work_in
-    (class_done bases st.era.table st.clock step (class_of s log r.0)) < work_in (class_of s log r.0)) is
-    falls) in
+    (grind (arith, work_in, class_done, class_of)) in
     work_set state.classes place k (class_done bases state.era.table state.clock step k) here on_class

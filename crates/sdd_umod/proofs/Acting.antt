@@ -1,5 +1,5 @@
 -- The module's next step is the act that is due, and then it keeps what follows from the log.
-use Rattle.sdd_umod.proofs.All.{Act, AllUpTo, AreStarted, Attempt, Bases, Bool, Commit, Did, Hold, IsAmid, IsOfHead, IsServed, IsSoundLog, IsWhole, List, Log, Msg, NoReads, None, Notes, Option, Queued, Release, Send, Sends, Setting, Site, Some, Start, State, Step, T, Ticking, TmCounts, ToCommit, ToSend, [], act_of, active, active_after, active_sent, after_send, all_up_of, ap, arith, ascending, asking_of, asks_rows, begins, clock, commit_act, commit_next, commit_no_reads, commits, counts, eqb-true, false, false≢true, filter, filter_map, find, first_phase, fragments_in, handed, has_to_send, head_is_untried, head_of, hold_step, if◌then◌else◌, is_free, is_kept_on_hold, is_over, last_served, line_apart, line_committed, line_of, line_sent, line_started, line_step, ltb-true, map, may_start, module_read, modules_of, next, no_read_asked, not, numbers_to, option_map, queue, queue_after, range_with_len, refl, release_step, request_of, running, send_next, sends_of_act, sent, served_sent, stamped_did, start_act, start_is_up, start_modules, start_next, start_step, started, starts_committed, starts_left, starts_sent, starts_started, state_done, state_of, step_of, subst, suc, sym, ticked, time_at, timestamp, tm_of, tried, true, uses_of, with_act, with_due_act, zero, ℕ, ◌&&◌, ◌+◌, ◌<◌, ◌==◌, ◌^◌, ◌∙◌, ◌∷◌, ◌≡◌, ◌≤◌}
+use Rattle.sdd_umod.proofs.All.{Act, AllUpTo, AreStarted, Attempt, Bases, Bool, Commit, Did, Hold, IsAmid, IsOfHead, IsServed, IsSoundLog, List, Log, Msg, NoReads, None, Notes, Option, Queued, Release, Send, Sends, Setting, Some, Start, State, Step, T, Ticking, TmCounts, ToCommit, ToSend, [], act_of, active, active_after, active_sent, after, all_up_of, ap, arith, asking_of, begins, clock, commit_act, commit_next, commit_no_reads, commits, counts, eqb-true, filter, find, handed, has_to_send, head_is_untried, head_of, hold_step, is_free, is_kept_on_hold, last_served, line_apart, line_committed, line_of, line_sent, line_started, line_step, ltb-true, map, next, no_read_asked, not, numbers_to, option_map, queue, queue_after, refl, release_step, request_of, running, send_next, sends_of_act, sent, served_sent, stamped_did, start_act, start_is_up, start_modules, start_next, start_step, started, starts_committed, starts_left, starts_sent, starts_started, state_done, state_of, step_of, subst, suc, sym, ticked, time_at, timestamp, tm_of, tried, true, with_act, with_due_act, ℕ, ◌&&◌, ◌+◌, ◌<◌, ◌==◌, ◌∙◌, ◌∷◌, ◌≡◌, ◌≤◌}
 use Rattle.sdd_umod.proofs.Lists.{found_in_map}
 use Rattle.sdd_umod.proofs.Dues.{IsStep, sends, commits_now, releases, starts, holds, step_is, attempt_is_due, release_is_due, start_comes, hold_comes}
 use Rattle.sdd_umod.proofs.AfterActs.{after_request, after_commit, after_start, after_release, after_hold, release_apart, hold_apart}
@@ -20,25 +20,11 @@ amid_after : (s : Setting) (bases : Bases) (log : Log) (step : Step) (act : Act)
     → (clock s.site (Did act ∷ log)).ticks + starts_left (active s 0 (Did act ∷ log)) (queue s 0 (Did act ∷ log))
     ≤ (clock s.site log).ticks + starts_left (active s 0 log) (queue s 0 log)
     → IsAmid s bases (state_done bases step (state_of s log)) (Did act ∷ log)
-amid_after s bases log step act amid sound after served less =
-    let room = amid.room in
-    let now : (state_of s (Did act ∷ log)).clock.ticks + starts_left (state_of s (Did act ∷ log)).line.active
-    (state_of s (Did act ∷ log)).line.queue + 1 < 2 ^ 57 = omega arith in
-    record {
-      setting = record { valid = amid.setting.valid; whole = amid.setting.whole };
-      sound = sound;
-      state_is = after;
-      databases = amid.databases;
-      served = served;
-      room = subst (λ (st : State). st.clock.ticks + starts_left st.line.active st.line.queue + 1 < 2 ^ 57) after now;
-    }
+amid_after s bases log step act amid sound after served less = grind arith
 
 -- a message leaves an attempt under way
 running_sent : (c : ℕ) (m : Msg) (o : Option Attempt) → running (active_sent c m o) ≡ running o
-running_sent c m None = refl
-running_sent c m (Some a) =
-    elim (asks_rows a.ts c m)
-    as (λ b. running (if b then Some (record a { exchange = after_send a.exchange }) else Some a) ≡ 1) [ true ↦ refl | false ↦ refl ]
+running_sent c m o = grind arith
 
 started_sent : (s : Setting) (log : Log) (m : Msg) → AreStarted s log
     → (last_served s log).commits + running (active_sent 0 m (active s 0 log)) ≤ (clock s.site log).ticks
@@ -157,26 +143,9 @@ makes_hold s bases log k amid none no_release no_start found e =
 
 -- the first of a queue that has never started
 pub first_of : (qs : List Queued) (b : Bool) → (head_is_untried qs && b) ≡ true → (q : Queued) × (rest : List Queued) × (qs ≡ q ∷ rest)
-first_of [] b e = absurd (false≢true e)
-first_of (q ∷ rest) b e = (q, rest, refl)
+first_of qs b e = grind arith
 
 -- it reads at each data module, so it can't commit at once
-
-over_without : (ms : List (ℕ × List ℕ)) → is_over (first_phase ms) ≡ true → map (λ (m : ℕ × List ℕ). m.0) ms ≡ []
-over_without [] e = refl
-over_without (m ∷ ms) e = absurd (false≢true e)
-
-some_numbers : (a n : ℕ) → 1 ≤ n → range_with_len a n ≡ [] → ⊥
-some_numbers a zero some e = absurd (omega arith)
-some_numbers a (suc n) some e = absurd cc
-
-start_served : (s : Setting) (bases : Bases) (k : Ticking) (q : Queued) → IsWhole s.catalogue
-    → IsServed s.catalogue bases (started (timestamp (ticked k 1)) (sends_of_act (start_act s.catalogue [] 0 k q)) (Some q))
-start_served s bases k q whole = λ over.
-    let sends : List (Site × Msg) = sends_of_act (start_act s.catalogue [] 0 k q) in
-    let none : modules_of s.catalogue 0 (ascending (fragments_in (uses_of s.catalogue q.text))) ≡ [] =
-    sym (start_modules s.catalogue [] 0 k q) ∙ over_without (filter_map module_read sends) over in
-    absurd (some_numbers 1 s.catalogue.dms whole.some_dm none)
 
 makes_start : (s : Setting) (bases : Bases) (log : Log) (q : Queued) (rest : List Queued) → IsAmid s bases (state_of s log) log
     → line_step (active s 0 log) ≡ None → release_step (state_of s log) ≡ None → start_step (state_of s log) ≡ Some Start
@@ -211,14 +180,11 @@ makes_start s bases log q rest amid none no_release starting idle is =
             stamped = stamped_did s log act amid.sound.stamped (start_is_up s.catalogue [] 0 k q);
             turns = λ t. amid.sound.turns t;
             started = record { few = omega arith };
-          }) (after_start s bases log q made_by) (subst (IsServed s.catalogue bases) (sym begun) (start_served s bases k q amid.setting.whole))
+          }) (after_start s bases log q made_by) (subst (IsServed s.catalogue bases) (sym begun) (λ over. grind (arith, start_modules)))
           (omega arith);
     }
 
 -- a step
-
-start_step_is : (state : State) → may_start state ≡ true → start_step state ≡ Some Start
-start_step_is state e = rw e refl
 
 makes_step : (s : Setting) (bases : Bases) (log : Log) (step : Step) → IsAmid s bases (state_of s log) log
     → IsStep (state_of s log) step → (step ≡ Start → active s 0 log ≡ None) → Makes s bases log step (state_of s log)
@@ -227,7 +193,7 @@ makes_step s bases log Commit amid (commits_now h) idle = makes_commit s bases l
 makes_step s bases log (Release tm) amid (releases k none found e) idle = makes_release s bases log k amid none found e
 makes_step s bases log Start amid (starts none r may) idle =
     let w = first_of (queue s 0 log) _ may in
-    makes_start s bases log w.0 w.1 amid none r (start_step_is (state_of s log) may) (idle refl) w.2
+    makes_start s bases log w.0 w.1 amid none r (rw may refl) (idle refl) w.2
 makes_step s bases log (Hold tm) amid (holds k none r t found some e) idle = makes_hold s bases log k amid none r t found e
 
 pub makes : (s : Setting) (bases : Bases) (state : State) (log : Log) (step : Step) → IsAmid s bases state log

@@ -1,23 +1,17 @@
 -- What the module keeps of the log after each act is what its step leaves.
-use Rattle.sdd_umod.proofs.All.{Act, Attempt, Bases, Commit, D, Did, Hold, IsApart, IsRequest, List, Log, None, Option, Queued, Release, Send, Sends, Setting, Some, Start, State, T, TmCounts, TmNo, [], active, ap, clock, clock_done, commit_act, commit_next, committed, counted, counts, dm_no, line_done, line_of, map, map_twice, numbers_to, refl, send_next, sent_apart, start_act, start_next, state_done, state_of, sym, time_at, ts_of, ℕ, ◌∙◌, ◌∷◌, ◌≡◌}
+use Rattle.sdd_umod.proofs.All.{Act, Attempt, Bases, Commit, Did, Hold, IsApart, IsRequest, Log, None, Queued, Release, Send, Sends, Setting, Some, Start, T, TmNo, [], active, ap, arith, clock, clock_done, commit_act, commit_next, line_done, line_of, map_twice, refl, send_next, sent_apart, start_act, start_next, state_done, state_of, sym, time_at, ℕ, ◌∷◌, ◌≡◌}
 use Rattle.sdd_attempt.specs.wire.declared.msg.Msg.TheVariants as messages
 use Rattle.sdd_umod.specs.declared.tm_count.Sign.TheVariants as signs
 
 -- the next message of the exchange
 pub after_request : (s : Setting) (bases : Bases) (log : Log) (a : Attempt) (act : Act) → IsRequest 0 a act
     → send_next (active s 0 log) ≡ Some act → state_of s (Did act ∷ log) ≡ state_done bases Send (state_of s log)
-after_request s bases log a act is e =
-    by act (send_next (active s 0 log)) is.act_is e
-  where
-    by : (act : Act) (o : Option Act) → act ≡ Sends (D (dm_no is.to)) is.msg None → o ≡ Some act
-        → state_of s (Did act ∷ log) ≡ record (state_of s log) { line = line_done o (line_of s log) }
-    by act o f e = rw (e, f) refl
+after_request s bases log a act is e = grind (arith, is.act_is)
 
 -- a Commit
 pub after_commit : (s : Setting) (bases : Bases) (log : Log) (a : Attempt) → commit_next bases (line_of s log) ≡ Some (commit_act s.catalogue bases 0 a)
     → state_of s (Did (commit_act s.catalogue bases 0 a) ∷ log) ≡ state_done bases Commit (state_of s log)
-after_commit s bases log a e =
-    sym (ap (λ o. record (state_of s log) { line = line_done o (line_of s log); served = committed (ts_of (active s 0 log)) (state_of s log).served }) e)
+after_commit s bases log a e = grind arith
 
 -- a Start
 pub after_start : (s : Setting) (bases : Bases) (log : Log) (q : Queued)
@@ -33,23 +27,10 @@ release_apart ts = record { reads = λ t. refl; asks = λ t. refl }
 pub hold_apart : IsApart 0 messages.Hold
 hold_apart = record { reads = λ t. refl; asks = λ t. refl }
 
-abbrev with_parts : State → Option Attempt → List TmCounts → State
-with_parts state o ks = record state { line = record state.line { active = o }; counts = ks }
-
 pub after_release : (s : Setting) (bases : Bases) (log : Log) (tm : TmNo) (ts : ℕ)
     → state_of s (Did (Sends (T tm) (messages.Release (time_at ts)) None) ∷ log) ≡ state_done bases (Release tm) (state_of s log)
-after_release s bases log tm ts =
-    let ns : List ℕ = numbers_to s.catalogue.tms in
-    let act : Act = Sends (T tm) (messages.Release (time_at ts)) None in
-    ap (λ o. with_parts (state_of s log) o (map (λ t. counts t (Did act ∷ log)) ns))
-    (sent_apart 0 (messages.Release (time_at ts)) (active s 0 log) (release_apart ts)) ∙ ap (with_parts (state_of s log) (active s 0 log))
-    (map_twice (λ t. counts t log) (λ t. counts t (Did act ∷ log)) (counted signs.Release tm.0) ns (λ t. refl))
+after_release s bases log tm ts = grind (arith, sent_apart, release_apart, map_twice)
 
 pub after_hold : (s : Setting) (bases : Bases) (log : Log) (tm : TmNo)
     → state_of s (Did (Sends (T tm) messages.Hold None) ∷ log) ≡ state_done bases (Hold tm) (state_of s log)
-after_hold s bases log tm =
-    let ns : List ℕ = numbers_to s.catalogue.tms in
-    let act : Act = Sends (T tm) messages.Hold None in
-    ap (λ o. with_parts (state_of s log) o (map (λ t. counts t (Did act ∷ log)) ns)) (sent_apart 0 messages.Hold (active s 0 log) hold_apart)
-    ∙ ap (with_parts (state_of s log) (active s 0 log))
-    (map_twice (λ t. counts t log) (λ t. counts t (Did act ∷ log)) (counted signs.Hold tm.0) ns (λ t. refl))
+after_hold s bases log tm = grind (arith, sent_apart, hold_apart, map_twice)

@@ -1,5 +1,5 @@
 -- What a call of the module does, of every log for which the module stands.
-use Rattle.sdd_umod.proofs.All.{Bases, Bool, Catalogue, Does, DoesMore, FitsSubmit, Handed, IsAmid, IsKept, IsTrue, IsWhole, Kept, List, Log, Msg, None, Notes, Option, Rec, RelNo, Release, Represents, Row, Setting, Site, Some, State, Submit, Submits, TmCounts, Txn, TxnNo, U, Works, [], all_noted, ap, arith, does_from, find, first_state, fits, if◌then◌else◌, is_kept_on_hold, map, next, no_counts, nothing_noted, numbers_to, option_map, or_else, records_of, refl, state_given, state_handed, state_of, step_of, subst, sym, tm_of, true, ℕ, ◌<◌, ◌==◌, ◌^◌, ◌∙◌, ◌∷◌, ◌≡◌}
+use Rattle.sdd_umod.proofs.All.{Bases, Bool, Catalogue, Does, DoesMore, FitsSubmit, Handed, IsAmid, IsKept, IsTrue, IsWhole, Kept, List, Log, Msg, None, Notes, Option, Rec, Release, Represents, Setting, Site, State, Submit, Submits, TmCounts, Txn, TxnNo, U, Works, [], all_noted, ap, arith, does_from, find, first_state, fits, if◌then◌else◌, is_kept_on_hold, map, next, no_counts, nothing_noted, numbers_to, option_map, or_else, records_of, refl, state_given, state_handed, state_of, step_of, subst, sym, tm_of, ℕ, ◌<◌, ◌==◌, ◌^◌, ◌∙◌, ◌∷◌, ◌≡◌}
 use Rattle.sdd_umod.proofs.Handing.{amid_handed}
 use Rattle.sdd_umod.proofs.Giving.{amid_given}
 use Rattle.sdd_umod.proofs.Dues.{nothing_due}
@@ -22,16 +22,11 @@ call_does taken new old all s bases start live works settled amid =
 pub kept_of : (k : Kept State) (s : Setting) (log : Log) → Represents k s log → IsKept s log k.value
 kept_of k s log st = record { setting = st.setting; sound = st.sound; state_is = st.state_is }
 
-settled_of : (k : Kept State) (s : Setting) (log : Log) → Represents k s log → step_of (state_of s log) ≡ None
-settled_of k s log st = subst (λ x. step_of x ≡ None) (sym st.state_is) st.settled
-
 -- a message
 
 pub amid_for : (k : Kept State) (s : Setting) (bases : Bases) (log : Log) (from : Site) (m : Msg) (taken : State)
     → Represents k s log → fits s bases log from m → taken ≡ state_handed from m k.value → IsAmid s bases taken (Handed from m ∷ log)
-amid_for k s bases log from m taken st fit t =
-    subst (λ x. IsAmid s bases x (Handed from m ∷ log)) (ap (state_handed from m) st.state_is ∙ sym t)
-    (amid_handed s bases log from m st.setting st.sound (settled_of k s log st) fit)
+amid_for k s bases log from m taken st fit t = grind (arith, amid_handed, step_of)
 
 pub take_does : (from : Site) (m : Msg) (old new : Kept State) (taken : State) (all : Notes)
     (records : List Rec) (sends : List (Site × Msg)) → IsTrue new.live → taken ≡ state_handed from m old.value
@@ -51,7 +46,7 @@ pub amid_after : (k : Kept State) (s : Setting) (bases : Bases) (log : Log) (n :
     → n < 2 ^ 32 → Represents k s log → FitsSubmit s bases log n txn → taken ≡ state_given n txn k.value → IsAmid s bases taken (Submits n txn ∷ log)
 amid_after k s bases log n txn taken small st fit t =
     subst (λ x. IsAmid s bases x (Submits n txn ∷ log)) (ap (state_given n txn) st.state_is ∙ sym t)
-    (amid_given s bases log n txn small st.setting st.sound (settled_of k s log st) fit)
+    (amid_given s bases log n txn small st.setting st.sound (subst (λ x. step_of x ≡ None) (sym st.state_is) st.settled) fit)
 
 pub submit_does : (n : TxnNo) (txn : Txn) (old new : Kept State) (taken : State) (all : Notes)
     (records : List Rec) (sends : List (Site × Msg)) → n.0 < 2 ^ 32 → IsTrue new.live
@@ -73,28 +68,12 @@ none_on_hold [] = refl
 none_on_hold (n ∷ ns) = none_on_hold ns
 
 release_none : (b : Bool) (o : Option TmCounts) → o ≡ None → or_else (if b then option_map Release (option_map tm_of o) else None) None ≡ None
-release_none true (Some k) e = absurd cc
-release_none _ _ e = refl
-
-first_settled : (cat : Catalogue) → step_of (first_state cat) ≡ None
-first_settled cat = release_none (0 == cat.dms) (find (is_kept_on_hold 0) (map no_counts (numbers_to cat.tms))) (none_on_hold (numbers_to cat.tms))
-
-abbrev setting_of : Catalogue → List (RelNo × Row) → Setting
-setting_of cat rows = record { catalogue = cat; site = U; rows = rows }
-
-first_at : (cat : Catalogue) (rows : List (RelNo × Row)) → state_of (setting_of cat rows) [] ≡ first_state cat
-first_at cat rows = refl
-
-first_is : (s : Setting) (cat : Catalogue) → s.catalogue ≡ cat → s.site ≡ U → state_of s [] ≡ first_state cat
-first_is s cat e f =
-    let is : s ≡ setting_of cat s.rows =
-    ap (λ x. record s { catalogue = x }) e ∙ ap (λ x. record { catalogue = cat; site = x; rows = s.rows }) f in
-    ap (λ x. state_of x []) is ∙ first_at cat s.rows
+release_none b o e = grind arith
 
 pub new_represents : (k : Kept State) (cat : Catalogue) → IsTrue k.live → k.value ≡ first_state cat → catalogues.IsSoundCatalogue cat → IsWhole cat
     → (s : Setting) → s.catalogue ≡ cat → s.site ≡ U → Represents k s []
 new_represents k cat live is valid whole s e f =
-    let state : state_of s [] ≡ k.value = first_is s cat e f ∙ sym is in
+    let state : state_of s [] ≡ k.value = (grind arith) ∙ sym is in
     record {
       live = live;
       setting = record { valid = rw e valid; whole = rw e whole };
@@ -105,5 +84,5 @@ new_represents k cat live is valid whole s e f =
         started = record { few = omega arith };
       };
       state_is = state;
-      settled = rw is (first_settled cat);
+      settled = rw is (release_none (0 == cat.dms) (find (is_kept_on_hold 0) (map no_counts (numbers_to cat.tms))) (none_on_hold (numbers_to cat.tms)));
     }

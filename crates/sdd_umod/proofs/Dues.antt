@@ -1,6 +1,6 @@
 -- What is due by a log is what the module does next by what it keeps of it.
-use Rattle.sdd_umod.proofs.All.{Act, Bases, Bool, Catalogue, Commit, Hold, IsWhole, LineStep, List, Log, None, Option, Queued, Release, Send, Sends, Setting, Some, Start, State, Step, T, TmCounts, ToCommit, ToSend, View, [], act_of, active, ap, arith, as_counted, attempt_due, false, find, first_some, head_is_untried, head_of, hold_due, hold_step, if◌then◌else◌, is_applied, is_empty, is_free, is_kept_on_hold, line_step, list_all, may_start, nat_tests, next, none_due, of_line, option_map, queue, refl, release_due, release_step, start_act, start_due, start_step, state_of, step_of, subst, sym, time_at, tm_no, tm_of, true, view_of, ℕ, ◌&&◌, ◌==◌, ◌∙◌, ◌∷◌, ◌≡◌, ◌≤◌}
-use Rattle.sdd_umod.proofs.Lists.{some_is, or_by, or_nothing, first_found, first_found_if}
+use Rattle.sdd_umod.proofs.All.{Act, Bases, Bool, Catalogue, Commit, Hold, IsWhole, LineStep, List, Log, None, Option, Queued, Release, Send, Sends, Setting, Some, Start, State, Step, T, TmCounts, ToCommit, ToSend, View, [], act_of, active, ap, arith, attempt_due, false, find, first_some, head_is_untried, head_of, hold_due, hold_step, if◌then◌else◌, is_applied, is_empty, is_free, is_kept_on_hold, line_step, list_all, may_start, nat_tests, next, none_due, of_line, option_map, queue, refl, release_due, release_step, start_act, start_due, start_step, state_of, step_of, subst, sym, time_at, tm_no, tm_of, true, view_of, ◌&&◌, ◌==◌, ◌∙◌, ◌∷◌, ◌≡◌, ◌≤◌}
+use Rattle.sdd_umod.proofs.Lists.{or_nothing, first_found, first_found_if}
 use Rattle.sdd_attempt.specs.wire.declared.msg.Msg.TheVariants as messages
 use Rattle.sdd_umod.specs.Due as table
 
@@ -16,47 +16,18 @@ pub data IsStep (state : State) : Step → Type 0 where
   holds : (k : TmCounts) → line_step state.line.active ≡ None → release_step state ≡ None → start_step state ≡ None
       → find is_free state.counts ≡ Some k → is_empty state.line.queue ≡ false → hold_step state ≡ Some (Hold (tm_of k)) → IsStep state (Hold (tm_of k))
 
-line_is : (state : State) (step : Step) (l : Option LineStep) → line_step state.line.active ≡ l → of_line l ≡ Some step → IsStep state step
-line_is state step None e f = absurd cc
-line_is state step (Some ToSend) e f = subst (IsStep state) (some_is f) (sends e)
-line_is state step (Some ToCommit) e f = subst (IsStep state) (some_is f) (commits_now e)
-
 pub line_none : (l : Option LineStep) → of_line l ≡ None → l ≡ None
-line_none None e = refl
-line_none (Some ToSend) e = absurd cc
-line_none (Some ToCommit) e = absurd cc
-
-release_is : (state : State) (step : Step) (b : Bool) (o : Option TmCounts) → line_step state.line.active ≡ None
-    → is_applied state.line.catalogue.dms state.served ≡ b → find (is_kept_on_hold state.served.commits) state.counts ≡ o
-    → release_step state ≡ Some step → (if b then option_map Release (option_map tm_of o) else None) ≡ Some step → IsStep state step
-release_is state step true (Some k) none e f g h = subst (IsStep state) (some_is h) (releases k none f (g ∙ sym h))
-release_is state step _ _ none e f g h = absurd cc
-
-start_is : (state : State) (step : Step) (b : Bool) → line_step state.line.active ≡ None → release_step state ≡ None
-    → may_start state ≡ b → (if b then Some Start else None) ≡ Some step → IsStep state step
-start_is state step true none r e f = subst (IsStep state) (some_is f) (starts none r e)
-start_is state step false none r e f = absurd cc
+line_none l e = grind arith
 
 hold_is : (state : State) (step : Step) (b : Bool) (o : Option TmCounts) → line_step state.line.active ≡ None → release_step state ≡ None
     → start_step state ≡ None → is_empty state.line.queue ≡ b → find is_free state.counts ≡ o → hold_step state ≡ Some step
     → (if b then None else option_map Hold (option_map tm_of o)) ≡ Some step → IsStep state step
-hold_is state step false (Some k) none r s e f g h = subst (IsStep state) (some_is h) (holds k none r s f e (g ∙ sym h))
-hold_is state step _ _ none r s e f g h = absurd cc
+hold_is state step b o none r s e f g h = grind (arith, holds)
 
 pub step_is : (state : State) (step : Step) → step_of state ≡ Some step → IsStep state step
-step_is state step e =
-    or_by (IsStep state step) (of_line (line_step state.line.active)) _ step e (line_is state step (line_step state.line.active) refl)
-    (λ l f. or_by (IsStep state step) (release_step state) _ step f
-    (λ g. release_is state step (is_applied state.line.catalogue.dms state.served)
-    (find (is_kept_on_hold state.served.commits) state.counts) (line_none _ l) refl refl g g)
-    (λ r g. or_by (IsStep state step) (start_step state) _ step g
-    (start_is state step (may_start state) (line_none _ l) r refl)
-    (λ s h. hold_is state step (is_empty state.line.queue) (find is_free state.counts) (line_none _ l) r s refl refl h h)))
+step_is state step e = grind (arith, sends, commits_now, releases, line_none, starts, hold_is)
 
 -- the ranks of a log
-
-counted_same : (n m : ℕ) → m ≤ 16 → (as_counted n == m) ≡ (n == m)
-counted_same n m few = grind (arith, nat_tests)
 
 module _ (s : Setting) (bases : Bases) (log : Log) where
   abbrev cat : Catalogue
@@ -87,7 +58,7 @@ module _ (s : Setting) (bases : Bases) (log : Log) where
   pub releases_are : IsWhole cat → first_some (release_due cat v) v.counts ≡ made (release_step st)
   releases_are whole =
       let few : cat.dms ≤ 16 = whole.few_dms in
-      let same : (v.served.dones == cat.dms) ≡ is_applied cat.dms st.served = sym (counted_same v.served.dones cat.dms few) in
+      let same : (v.served.dones == cat.dms) ≡ is_applied cat.dms st.served = sym (grind (arith, nat_tests)) in
       first_found_if (is_kept_on_hold v.served.commits) (v.served.dones == cat.dms) release_to v.counts
       ∙ ap (λ b. if b then option_map release_to (find (is_kept_on_hold v.served.commits) v.counts) else None) same
       ∙ made_if (is_applied cat.dms st.served) (find (is_kept_on_hold v.served.commits) v.counts)
@@ -133,38 +104,18 @@ module _ (s : Setting) (bases : Bases) (log : Log) where
 
   pub release_is_due : (step : Step) (act : Act) → IsWhole cat → line_step (active s 0 log) ≡ None → release_step st ≡ Some step
       → act_of bases st step ≡ Some act → next s bases log ≡ Some act
-  release_is_due step act whole none e f =
-      let first : attempt_due cat bases 0 (active s 0 log) ≡ None = none_due cat bases 0 (active s 0 log) none in
-      let second : first_some (release_due cat v) v.counts ≡ Some act = releases_are whole ∙ ap made e ∙ f in
-      rw (first, second) refl
+  release_is_due step act whole none e f = grind (arith, none_due, releases_are)
 
   pub start_comes : (act : Act) → IsWhole cat → line_step (active s 0 log) ≡ None → release_step st ≡ None → start_step st ≡ Some Start
       → act_of bases st Start ≡ Some act → next s bases log ≡ Some act
-  start_comes act whole none r e f =
-      let first : attempt_due cat bases 0 (active s 0 log) ≡ None = none_due cat bases 0 (active s 0 log) none in
-      let second : first_some (release_due cat v) v.counts ≡ None = releases_are whole ∙ ap made r in
-      let third : start_due cat v ≡ Some act = start_is_due ∙ ap made e ∙ f in
-      rw (first, second, third) refl
+  start_comes act whole none r e f = grind (arith, none_due, releases_are, start_is_due)
 
   pub hold_comes : (step : Step) (act : Act) → IsWhole cat → line_step (active s 0 log) ≡ None → release_step st ≡ None
       → start_step st ≡ None → hold_step st ≡ Some step → act_of bases st step ≡ Some act → next s bases log ≡ Some act
-  hold_comes step act whole none r t e f =
-      let first : attempt_due cat bases 0 (active s 0 log) ≡ None = none_due cat bases 0 (active s 0 log) none in
-      let second : first_some (release_due cat v) v.counts ≡ None = releases_are whole ∙ ap made r in
-      let third : start_due cat v ≡ None = start_is_due ∙ ap made t in
-      let fourth : first_some (hold_due v) v.counts ≡ Some act = holds_are ∙ ap made e ∙ f in
-      rw (first, second, third, fourth) refl
+  hold_comes step act whole none r t e f = grind (arith, none_due, releases_are, start_is_due, holds_are)
 
   nothing_comes : IsWhole cat → step_of st ≡ None → next s bases log ≡ None
-  nothing_comes whole e =
-      let a = or_nothing (of_line (line_step (active s 0 log))) _ e in
-      let b = or_nothing (release_step st) _ a.1 in
-      let c = or_nothing (start_step st) (hold_step st) b.1 in
-      let first : attempt_due cat bases 0 (active s 0 log) ≡ None = none_due cat bases 0 (active s 0 log) (line_none _ a.0) in
-      let second : first_some (release_due cat v) v.counts ≡ None = releases_are whole ∙ ap made b.0 in
-      let third : start_due cat v ≡ None = start_is_due ∙ ap made c.0 in
-      let fourth : first_some (hold_due v) v.counts ≡ None = holds_are ∙ ap made c.1 in
-      rw (first, second, third, fourth) refl
+  nothing_comes whole e = grind (arith, or_nothing, none_due, line_none, releases_are, start_is_due, holds_are)
 
 pub nothing_due : (s : Setting) (bases : Bases) (state : State) (log : Log) → IsWhole s.catalogue → state_of s log ≡ state
     → step_of state ≡ None → next s bases log ≡ None

@@ -1,10 +1,7 @@
 -- A transaction that is given to the module goes to the end of its queue.
-use Rattle.sdd_umod.proofs.All.{Bases, FitsSubmit, FitsTxn, IsAmid, IsKept, IsSetting, IsSoundLog, Log, None, Queued, Setting, State, Submits, Txn, active, contains, false, line_submitted, map, new_in_queue, refl, resting, stamped_still, state_given, state_of, step_of, subst, ℕ, ◌<◌, ◌^◌, ◌∷◌, ◌≡◌}
+use Rattle.sdd_umod.proofs.All.{Bases, FitsSubmit, FitsTxn, IsAmid, IsKept, IsSetting, IsSoundLog, Log, None, Queued, Setting, State, Submits, Txn, active, arith, contains, false, line_submitted, map, new_in_queue, refl, resting, stamped_still, state_given, state_of, step_of, ℕ, ◌<◌, ◌^◌, ◌∷◌, ◌≡◌}
 use Rattle.sdd_umod.proofs.Everywhere.{reads_all}
 use Rattle.sdd_umod.proofs.Handing.{has_room, settled_line}
-
-state_given_kept : (s : Setting) (log : Log) (n : ℕ) (txn : Txn) → state_of s (Submits n txn ∷ log) ≡ state_given n txn (state_of s log)
-state_given_kept s log n txn = refl
 
 sound_given : (s : Setting) (bases : Bases) (log : Log) (n : ℕ) (txn : Txn) → n < 2 ^ 32 → IsSetting s
     → FitsSubmit s bases log n txn → IsSoundLog s log → IsSoundLog s (Submits n txn ∷ log)
@@ -22,7 +19,7 @@ amid_given s bases log n txn small setting sound settled f =
     record {
       setting = setting;
       sound = now;
-      state_is = state_given_kept s log n txn;
+      state_is = (refl);
       databases = f.site.databases;
       served = resting s.catalogue bases (active s 0 log) (settled_line (state_of s log) settled);
       room = has_room s (Submits n txn ∷ log) now f.site.time;
@@ -31,7 +28,4 @@ amid_given s bases log n txn small setting sound settled f =
 -- it fits the line, and is new there
 pub fits_kept : (s : Setting) (bases : Bases) (log : Log) (state : State) (n : ℕ) (txn : Txn) → IsKept s log state → FitsSubmit s bases log n txn
     → FitsTxn state.line.catalogue txn × (contains (map (λ (q : Queued). q.number) state.line.queue) n ≡ false)
-fits_kept s bases log state n txn kept f = (
-  subst (λ (st : State). FitsTxn st.line.catalogue txn) kept.state_is f.fitting,
-  subst (λ (st : State). contains (map (λ (q : Queued). q.number) st.line.queue) n ≡ false) kept.state_is (new_in_queue s log 0 n kept.sound.line f.fresh),
-)
+fits_kept s bases log state n txn kept f = grind (arith, new_in_queue)

@@ -1,9 +1,8 @@
 -- A message that is handed: the module keeps what follows from the log, and nothing else of it changes.
-use Rattle.sdd_umod.proofs.All.{Ask, Attempt, AwaitsAt, Bases, Bool, D, Done, FitsAnswer, Handed, HaveRoom, Held, InTurn, IsAmid, IsAwaited, IsEarly, IsKept, IsSetting, IsSoundLog, Line, List, Log, Msg, None, Option, Phase, Ready, Reduced, Reject, Rows, Served, Setting, Site, Some, State, T, Ticking, TmCounts, U, Values, active, active_handed, after_hand, ap, arith, as_counted, clock, clock_after_message, counted, counts, counts_after_message, counts_handed, false, fetches_use, few_waiting, fits, fits_kind, if◌then◌else◌, last_served, left_is_few, line_handed, line_of, line_step, map, map_twice, no_sooner_hand, numbers_to, of_line, pushed_by, queue, refl, rejects, resting, running, served_after_message, served_handed, served_now, stamped_still, starts_left, state_handed, state_of, step_of, submits, subst, suc, sym, true, ℕ, ◌+◌, ◌<◌, ◌==◌, ◌^◌, ◌∙◌, ◌∷◌, ◌≡◌, ◌≤◌}
+use Rattle.sdd_umod.proofs.All.{Attempt, AwaitsAt, Bases, Bool, Handed, HaveRoom, InTurn, IsAmid, IsAwaited, IsEarly, IsKept, IsSetting, IsSoundLog, Line, List, Log, Msg, None, Option, Phase, Served, Setting, Site, State, Ticking, TmCounts, Values, active, active_handed, ap, arith, clock, clock_after_message, counts, fetches_use, few_waiting, fits, fits_kind, last_served, left_is_few, line_handed, line_of, line_step, map, map_twice, no_sooner_hand, numbers_to, of_line, pushed_by, queue, refl, resting, running, served_after_message, served_handed, served_now, stamped_still, started, starts_left, state_handed, state_of, step_of, submits, subst, ℕ, ◌+◌, ◌<◌, ◌^◌, ◌∙◌, ◌∷◌, ◌≡◌, ◌≤◌}
 use Rattle.sdd_umod.proofs.Lists.{or_nothing, get_map_of}
 use Rattle.sdd_umod.proofs.Dues.{line_none}
 use Rattle.sdd_umod.proofs.Turns.{tm_told, turn_held}
-use Rattle.sdd_attempt.specs.All.{Release}
 use Rattle.sdd_umod.specs.State.{served_of}
 use Rattle.sdd_umod.specs.declared.tm_count.Sign.TheVariants as signs
 
@@ -11,33 +10,7 @@ use Rattle.sdd_umod.specs.declared.tm_count.Sign.TheVariants as signs
 
 pub clock_kept : (s : Setting) (bases : Bases) (log : Log) (from : Site) (m : Msg) → fits_kind s bases log from m
     → (k : Ticking) → pushed_by m k ≡ clock_after_message m k
-clock_kept s bases log from (Ask class time) f k = absurd f
-clock_kept s bases log from (Reject ts class by write) f k = absurd f
-clock_kept s bases log from (Release ts) f k = absurd f
-clock_kept s bases log from _ f k = refl
-
-one_more : (n : ℕ) → as_counted (suc n) ≡ as_counted (as_counted n + 1)
-one_more n = omega arith
-
-served_kept : (m : Msg) (v : Served) → served_of (served_now m v) ≡ served_after_message m (served_of v)
-served_kept (Done t) v =
-    elim (t.0 == v.ts) as (λ b. served_of (if b then record v { dones = suc v.dones } else v)
-    ≡ (if b then record (served_of v) { dones = as_counted (as_counted v.dones + 1) } else served_of v)) [
-      | true ↦ ap (λ n. record v { dones = n }) (one_more v.dones)
-      | false ↦ refl
-    ]
-served_kept _ v = refl
-
-counts_kept : (s : Setting) (log : Log) (from : Site) (m : Msg)
-    → map (λ t. counts t (Handed from m ∷ log)) (numbers_to s.catalogue.tms)
-    ≡ counts_after_message from m (map (λ t. counts t log) (numbers_to s.catalogue.tms))
-counts_kept s log (T n) (Held time) =
-    map_twice (λ t. counts t log) (λ t. counts t (Handed (T n) (Held time) ∷ log)) (counted signs.Held n.0) (numbers_to s.catalogue.tms) (λ t. refl)
-counts_kept s log U (Held time) = refl
-counts_kept s log (D n) (Held time) = refl
-counts_kept s log (T n) _ = refl
-counts_kept s log U _ = refl
-counts_kept s log (D n) _ = refl
+clock_kept s bases log from m f k = grind arith
 
 abbrev made : Line → Ticking → Served → List TmCounts → State
 made line clock served counts = record { line = line; clock = clock; served = served; counts = counts }
@@ -49,55 +22,27 @@ state_kept s bases log from m f =
     ap (λ k. made line k (served_of (last_served s (Handed from m ∷ log))) (map (λ t. counts t (Handed from m ∷ log)) (numbers_to s.catalogue.tms)))
     (clock_kept s bases log from m f (clock s.site log))
     ∙ ap (λ v. made line (clock_after_message m (clock s.site log)) v (map (λ t. counts t (Handed from m ∷ log)) (numbers_to s.catalogue.tms)))
-    (served_kept m (last_served s log)) ∙ ap (made line (clock_after_message m (clock s.site log)) (served_after_message m (served_of (last_served s log))))
-    (counts_kept s log from m)
+    (grind (arith)) ∙ ap (made line (clock_after_message m (clock s.site log)) (served_after_message m (served_of (last_served s log))))
+    (grind (arith, map_twice))
 
 -- what holds of the log
 
-answer_fits : (s : Setting) (bases : Bases) (log : Log) (from : Site) (m : Msg) → fits_kind s bases log from m → FitsAnswer s bases log from m
-answer_fits s bases log from (Ready ts class counts) f = f.answers
-answer_fits s bases log from (Reject ts class by write) f = absurd f
-answer_fits s bases log from (Values ts class u values) f = f
-answer_fits s bases log from (Reduced ts class u n) f = f
-answer_fits s bases log from (Rows ts class rows) f = f
-answer_fits s bases log from _ f = tt
-
 pub commits_same : (m : Msg) (v : Served) → (served_now m v).commits ≡ v.commits
-commits_same (Done t) v = elim (t.0 == v.ts) as (λ b. (if b then record v { dones = suc v.dones } else v).commits ≡ v.commits) [ true ↦ refl | false ↦ refl ]
-commits_same _ v = refl
-
-turn_told : (s : Setting) (bases : Bases) (log : Log) (from : Site) (m : Msg) (n t : ℕ) → fits_kind s bases log from m
-    → InTurn n (counts t log) → InTurn n (counts_handed from m (counts t log))
-turn_told s bases log (T tm) (Held time) n t f turn =
-    turn_held n tm.0 (counts t log) turn (λ e. subst (λ k. (counts k log).helds < (counts k log).holds) (e ∙ tm_told t log) f.awaited)
-turn_told s bases log U (Held time) n t f turn = turn
-turn_told s bases log (D d) (Held time) n t f turn = turn
-turn_told s bases log (T tm) _ n t f turn = turn
-turn_told s bases log U _ n t f turn = turn
-turn_told s bases log (D d) _ n t f turn = turn
-
-running_if : (b : Bool) (o : Option Attempt) → running (if b then None else o) ≤ running o
-running_if true o = omega arith
-running_if false o = omega arith
+commits_same m v = grind arith
 
 running_handed : (from : Site) (m : Msg) (o : Option Attempt) → running (active_handed 0 from m o) ≤ running o
-running_handed (D d) m (Some a) = running_if (rejects m a.ts 0) (Some (record a { exchange = after_hand a.ts 0 d.0 m a.exchange }))
-running_handed _ m _ = omega arith
+running_handed from m o = grind arith
 
 pub sound_handed : (s : Setting) (bases : Bases) (log : Log) (from : Site) (m : Msg) → fits_kind s bases log from m
     → IsSoundLog s log → IsSoundLog s (Handed from m ∷ log)
-sound_handed s bases log from m f sound =
-    let few = sound.started.few in
-    let fewer = running_handed from m (active s 0 log) in
-    let later = (no_sooner_hand m (clock s.site log)).0 in
-    let same = commits_same m (last_served s log) in
-    record {
-      line = line_handed s bases 0 log from m (answer_fits s bases log from m f) sound.line;
-      stamped = stamped_still s log (Handed from m) refl sound.stamped;
-      turns = λ t. subst (λ n. InTurn n (counts_handed from m (counts t log))) (sym same)
-          (turn_told s bases log from m (last_served s log).commits t f (sound.turns t));
-      started = record { few = omega arith };
-    }
+sound_handed s bases log from m f sound = record {
+  line = line_handed s bases 0 log from m (grind arith) sound.line;
+  stamped = stamped_still s log (Handed from m) refl sound.stamped;
+  turns = λ t. rw (commits_same m (last_served s log)) (grind (arith, turn_held, tm_told));
+  started = record {
+    few = omega (arith, sound.started.few, running_handed from m (active s 0 log), (no_sooner_hand m (clock s.site log)).0, commits_same m (last_served s log));
+  };
+}
 
 -- between calls the attempt does nothing by itself
 pub settled_line : (state : State) → step_of state ≡ None → line_step state.line.active ≡ None
@@ -105,27 +50,13 @@ settled_line state e = line_none _ (or_nothing (of_line (line_step state.line.ac
 
 -- the clock
 
-early : (s : Setting) (bases : Bases) (log : Log) (from : Site) (m : Msg) → fits s bases log from m → (pushed_by m (clock s.site log)).ticks < 2 ^ 56
-early s bases log (T tm) (Held time) f = let t = f.0.time in let l = f.1.early in omega arith
-early s bases log U (Held time) f = absurd f.1
-early s bases log (D d) (Held time) f = absurd f.1
-early s bases log from (Ask class time) f = absurd f.1
-early s bases log from (Reject ts class by write) f = absurd f.1
-early s bases log from (Release ts) f = absurd f.1
-early s bases log from _ f = f.0.time
-
 pub early_push : (s : Setting) (bases : Bases) (log : Log) (from : Site) (m : Msg) → fits s bases log from m → IsEarly m
-early_push s bases log (T tm) (Held time) f = let l = f.1.early in omega arith
-early_push s bases log U (Held time) f = absurd f.1
-early_push s bases log (D d) (Held time) f = absurd f.1
-early_push s bases log from _ f = tt
+early_push s bases log from m f = grind arith
 
 pub has_room : (s : Setting) (log : Log) → IsSoundLog s log → (clock s.site log).ticks < 2 ^ 56
     → (clock s.site log).ticks + starts_left (active s 0 log) (queue s 0 log) + 1 < 2 ^ 57
 has_room s log sound low =
-    let few = few_waiting s.catalogue 0 (submits log) (queue s 0 log) sound.line.in_queue in
-    let left = left_is_few (active s 0 log) (queue s 0 log) in
-    omega arith
+    omega (arith, few_waiting s.catalogue 0 (submits log) (queue s 0 log) sound.line.in_queue, left_is_few (active s 0 log) (queue s 0 log))
 
 -- the counts have room
 
@@ -154,10 +85,10 @@ amid_handed s bases log from m setting sound settled f =
       sound = now;
       state_is = is;
       databases = f.0.databases;
-      served = served_handed s bases log 0 from m (answer_fits s bases log from m f.1) sound.line.asking
+      served = served_handed s bases log 0 from m (grind arith) sound.line.asking
           (resting s.catalogue bases (active s 0 log) (settled_line (state_of s log) settled));
       room = subst (λ (st : State). st.clock.ticks + starts_left st.line.active st.line.queue + 1 < 2 ^ 57) is
-          (has_room s (Handed from m ∷ log) now (early s bases log from m f));
+          (has_room s (Handed from m ∷ log) now (grind arith));
     }
 
 -- an answer is one that the attempt awaits

@@ -1,6 +1,6 @@
 -- Each step leaves the module less to do.
-use Rattle.sdd_umod.proofs.All.{Act, Attempt, Bases, Bool, Commit, Hold, InTurn, IsAmid, IsOfHead, List, Log, None, Option, Queued, Release, Send, Setting, Some, Start, State, Step, Ticking, TmCounts, ToCommit, ToSend, [], active, active_after, active_sent, all_signs, ap, arith, asking_of, begins, clock, commit_act, commit_next, commits, cond, counted, counts, eq-eqb, eqb-true, false, fewer_committed, filter, find, handed, has_to_send, head_of, if◌then◌else◌, is_free, is_kept_on_hold, last_served, length, line_of, line_step, ltb-true, map, not, numbers_to, option_map, queue, queue_after, refl, request_of, send_next, sends_of_act, sent, signs_left, start_act, start_next, started, starts_committed, starts_started, state_done, state_of, step_of, subst, suc, sym, ticked, timestamp, tried, true, work, work_of, work_sent, ℕ, ◌+◌, ◌<◌, ◌==◌, ◌∙◌, ◌∷◌, ◌≡◌, ◌≤◌}
-use Rattle.sdd_umod.proofs.Lists.{some_is, found_in_map}
+use Rattle.sdd_umod.proofs.All.{Act, Attempt, Bases, Bool, Commit, Hold, InTurn, IsAmid, IsOfHead, List, Log, None, Option, Queued, Release, Send, Setting, Some, Start, State, Step, Ticking, TmCounts, ToCommit, ToSend, [], active, active_after, all_signs, ap, arith, asking_of, begins, clock, commit_act, commit_next, commits, counted, counts, eq-eqb, eqb-true, fewer_committed, filter, find, handed, has_to_send, head_of, is_free, is_kept_on_hold, last_served, length, line_of, line_step, ltb-true, map, not, numbers_to, option_map, queue, queue_after, refl, request_of, sends_of_act, sent, signs_left, start_act, start_next, started, starts_committed, starts_started, state_done, state_of, step_of, subst, suc, ticked, timestamp, tried, true, work, work_of, work_sent, ℕ, ◌+◌, ◌<◌, ◌==◌, ◌∷◌, ◌≡◌, ◌≤◌}
+use Rattle.sdd_umod.proofs.Lists.{found_in_map}
 use Rattle.sdd_umod.proofs.Dues.{IsStep, sends, commits_now, releases, starts, holds, step_is}
 use Rattle.sdd_umod.proofs.Acting.{first_of}
 use Rattle.sdd_umod.specs.declared.tm_count.Sign.TheVariants as signs
@@ -13,18 +13,10 @@ fewer_signs n m [] l = omega arith
 fewer_signs n m (k ∷ ks) l = let rest = fewer_signs n m ks l in omega arith
 
 released_no_more : (txns n : ℕ) (k : TmCounts) → signs_left txns (counted signs.Release n k) ≤ signs_left txns k
-released_no_more txns n k =
-    elim (n == k.tm) as (λ b. signs_left txns (if b then record k { releases = suc k.releases } else k) ≤ signs_left txns k) [
-      | true ↦ omega arith
-      | false ↦ omega arith
-    ]
+released_no_more txns n k = grind arith
 
 held_no_more : (txns n : ℕ) (k : TmCounts) → signs_left txns (counted signs.Hold n k) ≤ signs_left txns k
-held_no_more txns n k =
-    elim (n == k.tm) as (λ b. signs_left txns (if b then record k { holds = suc k.holds } else k) ≤ signs_left txns k) [
-      | true ↦ omega arith
-      | false ↦ omega arith
-    ]
+held_no_more txns n k = grind arith
 
 no_more : (txns : ℕ) (f : TmCounts → TmCounts) (ks : List TmCounts) → ((k : TmCounts) → signs_left txns (f k) ≤ signs_left txns k)
     → all_signs txns (map f ks) ≤ all_signs txns ks
@@ -36,20 +28,10 @@ fewer_where : (txns : ℕ) (f : TmCounts → TmCounts) (p : TmCounts → Bool) (
     → ((x : TmCounts) → signs_left txns (f x) ≤ signs_left txns x) → find p ks ≡ Some k
     → signs_left txns (f k) < signs_left txns k → all_signs txns (map f ks) < all_signs txns ks
 fewer_where txns f p [] k h e l = absurd cc
-fewer_where txns f p (x ∷ ks) k h e l =
-    elim (p x) as (λ b. cond b (Some x) (find p ks) ≡ Some k → signs_left txns (f x) + all_signs txns (map f ks) < signs_left txns x + all_signs txns ks) [
-      | true ↦ λ g.
-          let here : signs_left txns (f x) < signs_left txns x =
-          subst (λ (y : TmCounts). signs_left txns (f y) < signs_left txns y) (sym (some_is g)) l in
-          let rest = no_more txns f ks h in omega arith
-      | false ↦ λ g. let here = h x in let rest = fewer_where txns f p ks k h g l in omega arith
-    ] e
+fewer_where txns f p (x ∷ ks) k h e l = grind (arith, no_more, fewer_where txns f p ks k)
 
 released_fewer : (txns : ℕ) (k : TmCounts) → k.releases < txns → signs_left txns (counted signs.Release k.tm k) < signs_left txns k
 released_fewer txns k l = let own : (k.tm == k.tm) ≡ true = eq-eqb k.tm k.tm refl in rw own (omega arith)
-
-held_fewer : (txns : ℕ) (k : TmCounts) → k.holds ≤ txns → signs_left txns (counted signs.Hold k.tm k) < signs_left txns k
-held_fewer txns k l = let own : (k.tm == k.tm) ≡ true = eq-eqb k.tm k.tm refl in rw own (omega arith)
 
 -- the steps
 
@@ -61,13 +43,7 @@ send_falls : (s : Setting) (bases : Bases) (log : Log) → IsAmid s bases (state
 send_falls s bases log amid h =
     let r = has_to_send (active s 0 log) h in
     let request = request_of 0 (sent log) (handed log) r.attempt r.act (asking_of s log 0 r.attempt amid.sound.line r.active) r.send in
-    let to_do : send_next (active s 0 log) ≡ Some r.act = ap send_next r.active ∙ r.send in
-    let less = work_sent 0 request.msg r.attempt r.act (queue s 0 log) request.asks r.send in
-    let now : work_of (active_sent 0 request.msg (active s 0 log)) (queue s 0 log) ≡ work_of (active_sent 0 request.msg (Some r.attempt)) (queue s 0 log) =
-    ap (λ o. work_of (active_sent 0 request.msg o) (queue s 0 log)) r.active in
-    let before : work_of (active s 0 log) (queue s 0 log) ≡ work_of (Some r.attempt) (queue s 0 log) =
-    ap (λ o. work_of o (queue s 0 log)) r.active in
-    rw (to_do, request.act_is) (omega arith)
+    grind (arith, r.active, request.act_is, request.asks, r.send, work_sent)
 
 commit_falls : (s : Setting) (bases : Bases) (log : Log) → IsAmid s bases (state_of s log) log
     → line_step (active s 0 log) ≡ Some ToCommit → work (state_done bases Commit (state_of s log)) < work (state_of s log)
@@ -118,10 +94,12 @@ release_falls s bases log k e =
     let n : ℕ = (last_served s log).commits in
     let txns : ℕ = n + length (queue s 0 log) in
     let r = found_in_map (λ t. counts t log) (is_kept_on_hold n) (numbers_to s.catalogue.tms) k e in
-    let low : k.releases < n = ltb-true k.releases n r.2 in
-    let less = fewer_where txns (counted signs.Release k.tm) (is_kept_on_hold n) (state_of s log).counts k
-    (released_no_more txns k.tm) e (released_fewer txns k (omega arith)) in
-    omega arith
+    omega (
+      arith,
+      ltb-true k.releases n r.2,
+      fewer_where txns (counted signs.Release k.tm) (is_kept_on_hold n) (state_of s log).counts k
+          (released_no_more txns k.tm) e (released_fewer txns k (omega (arith, ltb-true k.releases n r.2))),
+    )
 
 hold_falls : (s : Setting) (bases : Bases) (log : Log) (k : TmCounts) → IsAmid s bases (state_of s log) log → find is_free (state_of s log).counts ≡ Some k
     → work (state_done bases (Hold (record { 0 = k.tm })) (state_of s log)) < work (state_of s log)
@@ -132,7 +110,7 @@ hold_falls s bases log k amid e =
     let free : k.releases ≡ k.holds = eqb-true k.releases k.holds r.2 in
     let turn : InTurn n k = subst (InTurn n) r.1 (amid.sound.turns r.0) in
     let low = turn.committed in
-    let less = fewer_where txns (counted signs.Hold k.tm) is_free (state_of s log).counts k (held_no_more txns k.tm) e (held_fewer txns k (omega arith)) in
+    let less = fewer_where txns (counted signs.Hold k.tm) is_free (state_of s log).counts k (held_no_more txns k.tm) e (let own : (k.tm == k.tm) ≡ true = eq-eqb k.tm k.tm refl in rw own (omega arith)) in
     omega arith
 
 step_falls : (s : Setting) (bases : Bases) (log : Log) (step : Step) → IsAmid s bases (state_of s log) log
@@ -145,9 +123,4 @@ step_falls s bases log (Hold tm) amid (holds k none r t found some e) idle = hol
 
 pub work_falls : (s : Setting) (bases : Bases) (state : State) (log : Log) (step : Step) → IsAmid s bases state log
     → step_of state ≡ Some step → (step ≡ Start → state.line.active ≡ None) → work (state_done bases step state) < work state
-work_falls s bases state log step amid steps idle =
-    let is : state_of s log ≡ state = amid.state_is in
-    subst (λ st. work (state_done bases step st) < work st) is
-    (step_falls s bases log step (subst (λ st. IsAmid s bases st log) (sym is) amid)
-    (step_is (state_of s log) step (subst (λ st. step_of st ≡ Some step) (sym is) steps))
-    (subst (λ (st : State). step ≡ Start → st.line.active ≡ None) (sym is) idle))
+work_falls s bases state log step amid steps idle = grind (arith, step_falls, step_is)
