@@ -36,7 +36,7 @@ pub use Rattle.sdd_protocol.specs.Entries.{entry_by, protocol_by}
 pub use Rattle.sdd_protocol.specs.Protocols.{IsTable, diagonal_protocol, protocol_in, same_protocol, vertical_block}
 pub use Rattle.sdd_protocol.specs.declared.entry.Entry.{Entry}
 pub use Rattle.sdd_protocol.specs.declared.protocol.Protocol.{Protocol}
-pub use Rattle.sdd_protocol.specs.declared.protocol.Protocol.TheVariants.{P1, P2, P3}
+pub use Rattle.sdd_protocol.specs.declared.protocol.Protocol.TheVariants.{P2, P3}
 pub use Rattle.std.proofs.Common.{Bool, Contains, List, None, Option, Some, [], ap, arith, cond, eq-eqb, eqb-true, false, filter, filter_map, inl, inr, is_some, length, length-append, length-set, lt-ltb, map, nat_eq as eqb, nat_lt, ne_eqb, not, option_map, refl, replicate, rules, slice_get, slice_index, slice_index_or as get_or, slice_set as set, subst, suc, sym, take_all, true, zero, ℕ, ◌&&◌, ◌*◌, ◌++◌, ◌+◌, ◌-◌, ◌<◌, ◌==◌, ◌||◌, ◌↔◌, ◌∙◌, ◌∷◌, ◌≡◌, ◌≢◌, ◌≤◌, ◌⊎◌}
 pub use Rattle.std.proofs.lemmas.Bool.{and_from, and_parts, cases_Bool, cases_eq, cases_lt}
 pub use Rattle.std.proofs.lemmas.List.{get_or-map, get_or_append_left, get_or_push, length-map, length-replicate, length_push}
@@ -47,3 +47,4 @@ pub use Rattle.std.proofs.lemmas.Map.Steps.{length-le_from_distinct_below}
 pub use Rattle.std.proofs.lemmas.Option.{same_Some, slice_get-get_or, slice_get-map, slice_get_within}
 pub use Rattle.std.specs.List.{AllByRecursion, cons_option, list_any, range_with_len}
 pub use Rattle.std.specs.Option.{option_eq, option_or}
+pub use Rattle.std.proofs.lemmas.Bool.Decides.{nat_tests}

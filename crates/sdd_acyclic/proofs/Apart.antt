@@ -17,7 +17,6 @@ module _ {K : Type 0} (D : Deeds K) (starts : Starts D) (applies : Applies D) (e
   never_back x y l (by_unseen n f r w unseen) =
       let d = D.dm (D.class y.no) f in
       let answer = starts.answered y f r in
-      let started = starts.answer_after y d answer.place answer.answered in
       let touches : Touches D x.no d = record { fragment = f; changes = w; copy = starts.copied y f r } in
       let applied = apart.applies x y d l touches in
       let before = applied.before in

@@ -58,9 +58,7 @@ module _ {T : Type 0} (S : System T) where
         | inr r ↦ elim (comes_by_or_not x m x r r p) [
           | inl b ↦
               let round = path_join (Precedes S) b.here b.last x b.first b.here b.after b.before in
-              let l = above h b.here b.here (b.last ++ x ∷ b.first) b.here b.class
-              (omega arith) round in
-              absurd (omega arith)
+              absurd (omega (arith, above h b.here b.here (b.last ++ x ∷ b.first) b.here b.class (omega arith) round))
           | inr l ↦ o (record { txn = x; class = r }) l.0 l.1
         ]
       ]

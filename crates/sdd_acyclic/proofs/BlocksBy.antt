@@ -1,5 +1,5 @@
 -- Block numbers of a graph, where it is decided which of its edges are linked.
-use Rattle.sdd_acyclic.proofs.All.{AreBlocks, AreNumbered, IsNumberingAt, Linked, List, OnACycle, Some, [], all_numbered, arith, cases_eq, cases_lt, get_or, get_or_append_left, get_or_push, inl, inr, last, length, length-replicate, length-set, length_push, linked_back, linked_first, linked_on, linked_second, no_numbers_yet, number_given, number_made, refl, replicate, set, slice_get, slice_get-get_or, slice_get_within, subst, suc, sym, zero, ℕ, ◌++◌, ◌+◌, ◌<◌, ◌∙◌, ◌∷◌, ◌≡◌, ◌≢◌, ◌≤◌, ◌⊎◌}
+use Rattle.sdd_acyclic.proofs.All.{AreBlocks, AreNumbered, IsNumberingAt, Linked, List, OnACycle, Some, [], all_numbered, arith, cases_eq, cases_lt, get_or, get_or_append_left, get_or_push, inl, inr, last, length, length-replicate, length-set, length_push, linked_back, linked_first, linked_on, linked_second, nat_tests, no_numbers_yet, number_given, number_made, refl, replicate, set, slice_get, slice_get-get_or, slice_get_within, subst, suc, sym, zero, ℕ, ◌++◌, ◌+◌, ◌<◌, ◌∙◌, ◌∷◌, ◌≡◌, ◌≢◌, ◌≤◌, ◌⊎◌}
 
 abbrev pub Decided : Type 0 → Type 0
 Decided A = A ⊎ (A → ⊥)
@@ -18,16 +18,7 @@ items_below P (suc n) h =
     record {
       items = rest.items ++ x.0 ∷ [];
       one_each = length_push rest.items x.0 ∙ (let l = rest.one_each in omega arith);
-      each = λ k l.
-          elim (cases_lt k n) [
-            | inl m ↦
-                subst (P k) (sym (get_or_append_left rest.items (x.0 ∷ []) 0 k (omega (arith, rest.one_each))))
-                (rest.each k m)
-            | inr m ↦
-                let e : n ≡ k = omega arith in
-                subst (λ z. P z (get_or (rest.items ++ x.0 ∷ []) z 0)) e
-                (subst (P n) (sym (get_or_push rest.items x.0 0 n rest.one_each)) x.1)
-          ];
+      each = grind (arith, nat_tests, cases_lt, get_or_append_left, get_or, get_or_push);
     }
 
 module _ (edges : List (ℕ × ℕ)) where
@@ -44,11 +35,7 @@ module _ (edges : List (ℕ × ℕ)) where
         | inl r ↦ let l = r.1 in inl (r.0, omega arith, r.2)
         | inr none ↦ elim (d n (omega arith)) [
           | inl here ↦ inl (n, omega arith, record { linked = here; first = none })
-          | inr not_here ↦ inr (λ j l h.
-              elim (cases_lt j n) [
-                | inl m ↦ none j m h
-                | inr m ↦ let e : j ≡ n = omega arith in not_here (subst (λ z. Linked edges z k) e h)
-              ])
+          | inr not_here ↦ grind (arith, nat_tests, cases_lt)
         ]
       ]
 
@@ -69,31 +56,17 @@ module _ (edges : List (ℕ × ℕ)) where
   mark_bound k x e = grind arith
 
   mark_on : (k x : ℕ) → IsMark k x → x ≢ 0 → OnACycle edges k
-  mark_on k x (off e n) z = absurd (z e)
-  mark_on k x (on j e l f) z = linked_second edges j k f.linked
+  mark_on k x h3 z = grind (arith, nat_tests, linked_second)
 
   mark_off : (k x : ℕ) → IsMark k x → x ≡ 0 → OnACycle edges k → ⊥
   mark_off k x e z c = grind arith
 
   -- equal marks other than 0 are those of linked edges
   marks_link : (j k x y : ℕ) → IsMark j x → IsMark k y → x ≢ 0 → x ≡ y → Linked edges j k
-  marks_link j k x y (off e n) q z s = absurd (z e)
-  marks_link j k x y (on i e l f) (off d n) z s = absurd (omega arith)
-  marks_link j k x y (on i e l f) (on m d h g) z s =
-      let same : m ≡ i = omega arith in
-      linked_on edges j i k (linked_back edges i j f.linked) (subst (λ w. Linked edges w k) same g.linked)
+  marks_link j k x y h5 q z s = grind (arith, nat_tests, linked_on, linked_back)
 
   linked_marks : (j k x y : ℕ) → IsMark j x → IsMark k y → Linked edges j k → x ≡ y
-  linked_marks j k x y (off e n) q h = absurd (n (linked_first edges j k h))
-  linked_marks j k x y (on i e l f) (off d n) h = absurd (n (linked_second edges j k h))
-  linked_marks j k x y (on i e l f) (on m d b g) h =
-      elim (cases_lt i m) [
-        | inl s ↦ absurd (g.first i s (linked_on edges i j k f.linked h))
-        | inr s ↦ elim (cases_lt m i) [
-          | inl t ↦ absurd (f.first m t (linked_on edges m k j g.linked (linked_back edges j k h)))
-          | inr t ↦ omega arith
-        ]
-      ]
+  linked_marks j k x y h5 q h = grind (arith, nat_tests, cases_lt, cases_eq, linked_first, linked_second, linked_on, linked_back)
 
   module _ (marks : ItemsBelow IsMark (length edges)) where
     mark_is : (k : ℕ) → k < length edges → IsMark k (get_or marks.items k 0)
@@ -128,17 +101,18 @@ module _ (edges : List (ℕ × ℕ)) where
         let before = some_numbers count (omega arith) in
         let mark = get_or marks.items count 0 in
         let next : suc count ≡ count + 1 = omega arith in
+        let keep : (mark ≢ 0 → get_or before.given mark 0 ≢ 0) → SomeNumbers (suc count) =
+        λ h. record {
+          given = before.given;
+          numbers = before.numbers ++ get_or before.given mark 0 ∷ [];
+          last = before.last;
+          are =
+              subst (λ c. IsNumberingAt marks.items before.given (before.numbers ++ get_or before.given mark 0 ∷ []) before.last c) (sym next)
+              (number_given marks.items before.given before.numbers before.last count before.are h);
+          room = before.room;
+        } in
         elim (cases_eq mark 0) [
-          | inl z ↦
-              record {
-                given = before.given;
-                numbers = before.numbers ++ get_or before.given mark 0 ∷ [];
-                last = before.last;
-                are =
-                    subst (λ c. IsNumberingAt marks.items before.given (before.numbers ++ get_or before.given mark 0 ∷ []) before.last c) (sym next)
-                    (number_given marks.items before.given before.numbers before.last count before.are (λ n. absurd (n z)));
-                room = before.room;
-              }
+          | inl z ↦ keep (λ n. absurd (n z))
           | inr n ↦ elim (cases_eq (get_or before.given mark 0) 0) [
             | inl fresh ↦
                 record {
@@ -151,16 +125,7 @@ module _ (edges : List (ℕ × ℕ)) where
                       (let b = mark_bound count mark (mark_is count (omega arith)) in omega (arith, before.room)));
                   room = length-set before.given mark (before.last + 1) ∙ before.room;
                 }
-            | inr known ↦
-                record {
-                  given = before.given;
-                  numbers = before.numbers ++ get_or before.given mark 0 ∷ [];
-                  last = before.last;
-                  are =
-                      subst (λ c. IsNumberingAt marks.items before.given (before.numbers ++ get_or before.given mark 0 ∷ []) before.last c) (sym next)
-                      (number_given marks.items before.given before.numbers before.last count before.are (λ z. known));
-                  room = before.room;
-                }
+            | inr known ↦ keep (λ z. known)
           ]
         ]
 
@@ -179,9 +144,7 @@ module _ (edges : List (ℕ × ℕ)) where
       blocks_are =
           record {
             one_each = numbered.one_each ∙ marks.one_each;
-            none = λ k e.
-                mark_off k (get_or marks.items k 0) (mark_is k (within k 0 e))
-                ((numbered.none k 0 (get_or marks.items k 0) e (mark_at k 0 e)).0 refl);
+            none = grind (arith, nat_tests, mark_off, get_or, mark_is, within, mark_at);
             some = λ k b e.
                 mark_on k (get_or marks.items k 0) (mark_is k (within k (suc b) e))
                 (not_zero k (suc b) e (λ z. absurd (omega arith)));

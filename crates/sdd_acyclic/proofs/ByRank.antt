@@ -12,9 +12,8 @@ module _ {T : Type 0} (R : T → T → Type 0) (rank : T → ℕ) (rises : (x y 
       (record { item = x; is = e }) l (record { item = y; is = f })
   stays n x [] y e f p = ([], p)
   stays n x (z ∷ m) y e f p =
-      let one = rises x z p.0 in
       let rest = rises_along z m y p.1 in
-      let g : rank z ≡ n = omega arith in
+      let g : rank z ≡ n = omega (arith, rises x z p.0) in
       let r = stays n z m y g f p.1 in
       (record { item = z; is = g } ∷ r.0, (p.0, r.1))
 

@@ -1,5 +1,5 @@
 -- From a closed path of precedence to a tour of crossings; no tour of two crossings goes both ways along one edge.
-use Rattle.sdd_acyclic.proofs.All.{Below, Bool, Covers, Edge, Facts, IsDiagonal, IsHorizontal, IsPath, List, Precedes, System, [], ap, arith, by_class, by_seen, by_unseen, by_writes, cases_eq, false, inl, inr, refl, subst, sym, true, ℕ, ◌<◌, ◌∙◌, ◌∷◌, ◌≡◌, ◌≢◌, ◌≤◌, ◌⊎◌}
+use Rattle.sdd_acyclic.proofs.All.{Below, Bool, Covers, Edge, Facts, IsDiagonal, IsHorizontal, IsPath, List, Precedes, System, [], arith, by_class, by_seen, by_unseen, by_writes, cases_eq, false, inl, inr, refl, sym, true, ℕ, ◌<◌, ◌∙◌, ◌∷◌, ◌≡◌, ◌≢◌, ◌⊎◌}
 use Rattle.sdd_acyclic.proofs.Tours.{Crosses, Crossing, Run, below_on, run_on}
 use Rattle.sdd_acyclic.proofs.Tours.Crosses.{write_write, read_write, write_read}
 
@@ -36,10 +36,6 @@ not_both : (graph : List Edge) (k i j a b f : ℕ) → IsHorizontal graph k i j 
 not_both graph k i j a b f e q = grind arith
 
 module _ {T : Type 0} (S : System T) (facts : Facts S) where
-  -- different transactions of which the second is not later
-  earlier : (x y : T) → S.name x ≢ S.name y → S.ts y ≤ S.ts x → S.ts y < S.ts x
-  earlier x y n l = grind arith
-
   -- within a class what precedes is earlier
   one_class : (x y : T) → Precedes S x y → S.class x ≡ S.class y → S.ts x < S.ts y
   one_class x y h e = grind arith
@@ -54,30 +50,14 @@ module _ {T : Type 0} (S : System T) (facts : Facts S) where
     both_ways : (x y x' y' : T) (k : ℕ) (a b a' b' : Bool) → S.class x ≢ S.class y → Below S y x'
         → Below S y' x → Crosses S graph x y k a b → ¬ Crosses S graph x' y' k a' b'
     both_ways x y x' y' k _ _ _ _ d p q (write_write l e) (write_write m g) = omega arith
-    both_ways x y x' y' k _ _ _ _ d p q (write_write l e) (read_write f' r' w' u' g) =
-        not_both graph k (S.class x) (S.class y) (S.class x') (S.class y') f' e g
-    both_ways x y x' y' k _ _ _ _ d p q (write_write l e) (write_read f' w' r' s' g) =
-        not_both graph k (S.class x) (S.class y) (S.class y') (S.class x') f' e g
-    both_ways x y x' y' k _ _ _ _ d p q (read_write f r w u e) (write_write m g) =
-        not_both graph k (S.class x') (S.class y') (S.class x) (S.class y) f g e
-    both_ways x y x' y' k _ _ _ _ d p q (read_write f r w u e) (read_write f' r' w' u' g) =
-        d ((same_diagonal graph k (S.class x) (S.class y) f (S.class x') (S.class y') f' e g).0
-        ∙ sym p.class)
-    both_ways x y x' y' k _ _ _ _ d p q (read_write f r w u e) (write_read f' w' r' s' g) =
-        let o : f' ≡ f = (same_diagonal graph k (S.class y') (S.class x') f' (S.class x)
-        (S.class y) f g e).2 in
-        u (clash y x' y' x f p q w (subst (λ z. S.Reads y' z) o r') r
-        (subst (λ z. S.Seen x' (S.dm (S.class y') z) y') o s'))
-    both_ways x y x' y' k _ _ _ _ d p q (write_read f w r s e) (write_write m g) =
-        not_both graph k (S.class x') (S.class y') (S.class y) (S.class x) f g e
-    both_ways x y x' y' k _ _ _ _ d p q (write_read f w r s e) (read_write f' r' w' u' g) =
-        let o : f ≡ f' = (same_diagonal graph k (S.class y) (S.class x) f (S.class x')
-        (S.class y') f' e g).2 in
-        u' (clash y' x y x' f' q p w' (subst (λ z. S.Reads y z) o r) r'
-        (subst (λ z. S.Seen x (S.dm (S.class y) z) y) o s))
-    both_ways x y x' y' k _ _ _ _ d p q (write_read f w r s e) (write_read f' w' r' s' g) =
-        d ((same_diagonal graph k (S.class y) (S.class x) f (S.class y') (S.class x') f' e g).1
-        ∙ sym p.class)
+    both_ways x y x' y' k _ _ _ _ d p q (write_write l e) (read_write f' r' w' u' g) = grind (arith, not_both)
+    both_ways x y x' y' k _ _ _ _ d p q (write_write l e) (write_read f' w' r' s' g) = grind (arith, not_both)
+    both_ways x y x' y' k _ _ _ _ d p q (read_write f r w u e) (write_write m g) = grind (arith, not_both)
+    both_ways x y x' y' k _ _ _ _ d p q (read_write f r w u e) (read_write f' r' w' u' g) = grind (arith, same_diagonal)
+    both_ways x y x' y' k _ _ _ _ d p q (read_write f r w u e) (write_read f' w' r' s' g) = grind (arith, same_diagonal, clash)
+    both_ways x y x' y' k _ _ _ _ d p q (write_read f w r s e) (write_write m g) = grind (arith, not_both)
+    both_ways x y x' y' k _ _ _ _ d p q (write_read f w r s e) (read_write f' r' w' u' g) = grind (arith, same_diagonal, clash)
+    both_ways x y x' y' k _ _ _ _ d p q (write_read f w r s e) (write_read f' w' r' s' g) = grind (arith, same_diagonal)
 
     -- two crossings that close a tour go along different edges
     pub two_edges : (k l : Crossing S graph) → Run S graph k (l ∷ []) k.from → k.edge ≢ l.edge
@@ -85,53 +65,26 @@ module _ {T : Type 0} (S : System T) (facts : Facts S) where
 
     module _ (covers : Covers S graph) where
       same : (x y : T) → x ≡ y → Below S x y
-      same x y e = record {
-        class = ap (λ z. S.class z) e;
-        time = let t : S.ts x ≡ S.ts y = ap (λ z. S.ts z) e in omega arith;
-      }
+      same x y e = grind arith
 
-      over : (k : Crossing S graph) → CrossesOver S graph k.from k.to
-      over k = record { crossing = k; leaves = same k.from k.from refl; comes = same k.to k.to refl }
+      over : (x y : T) → S.name x ≢ S.name y → S.class x ≢ S.class y → (k : ℕ) (a b : Bool) → Crosses S graph x y k a b
+          → CrossesOver S graph x y
+      over x y n d k a b c =
+          let crossing : Crossing S graph = record { from = x; to = y; other = n; apart = d; edge = k; out = a; into = b; crosses = c } in
+          record { crossing = crossing; leaves = same x x refl; comes = same y y refl }
 
       -- between classes there is a crossing
       crossing : (x y : T) → Precedes S x y → S.class x ≢ S.class y → CrossesOver S graph x y
       crossing x y (by_class n c l) d = absurd (d c)
       crossing x y (by_writes n f a b l) d =
           let h = covers.horizontal x y f d a b in
-          over (record {
-            from = x;
-            to = y;
-            other = n;
-            apart = d;
-            edge = h.0;
-            out = false;
-            into = false;
-            crosses = write_write l h.1;
-          })
+          over x y n d h.0 false false (write_write l h.1)
       crossing x y (by_unseen n f a b u) d =
           let h = covers.diagonal x y f d a b in
-          over (record {
-            from = x;
-            to = y;
-            other = n;
-            apart = d;
-            edge = h.0;
-            out = true;
-            into = false;
-            crosses = read_write f a b u h.1;
-          })
+          over x y n d h.0 true false (read_write f a b u h.1)
       crossing x y (by_seen n f a b s) d =
           let h = covers.diagonal y x f (λ e. d (sym e)) b a in
-          over (record {
-            from = x;
-            to = y;
-            other = n;
-            apart = d;
-            edge = h.0;
-            out = false;
-            into = true;
-            crosses = write_read f a b s h.1;
-          })
+          over x y n d h.0 false true (write_read f a b s h.1)
 
       -- each step stays in a class or crosses over
       step : (x y : T) → Precedes S x y → Earlier S x y ⊎ CrossesOver S graph x y

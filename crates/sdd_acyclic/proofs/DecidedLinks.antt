@@ -1,5 +1,5 @@
 -- Which edges of a graph are linked can be decided, so every graph has block numbers.
-use Rattle.sdd_acyclic.proofs.All.{AllByRecursion, AreBlocks, Differ, Has, IsDistinct-cons, IsSimpleCycle, IsWalk, Joins, Linked, List, Option, ShareACycle, Some, Step, [], ap, arith, cases_Bool, cases_eq, cases_lt, edges_of, eqb, eqb-true, false, inl, inr, last, length, length-le_from_distinct_below, list_any, more, ne_eqb, refl, rules, slice_get, slice_get_within, subst, suc, sym, true, zero, ℕ, ◌+◌, ◌<◌, ◌∷◌, ◌≡◌, ◌≤◌, ◌⊎◌}
+use Rattle.sdd_acyclic.proofs.All.{AllByRecursion, AreBlocks, Differ, Has, IsDistinct-cons, IsSimpleCycle, IsWalk, Joins, Linked, List, Option, ShareACycle, Some, Step, [], ap, arith, cases_Bool, cases_eq, cases_lt, edges_of, eqb, eqb-true, false, inl, inr, last, length, length-le_from_distinct_below, list_any, more, nat_tests, ne_eqb, refl, rules, slice_get, slice_get_within, subst, suc, sym, true, zero, ℕ, ◌+◌, ◌<◌, ◌∷◌, ◌≡◌, ◌⊎◌}
 use Rattle.std.specs.List.{IsDistinct}
 use Rattle.sdd_acyclic.proofs.BlocksBy.{Decided, blocks_by}
 
@@ -24,12 +24,7 @@ some_below (suc n) P d = elim (some_below n P d) [
   | inl p ↦ (let less = p.1 in inl (p.0, omega (arith, less), p.2))
   | inr none ↦ elim (d n) [
     | inl here ↦ inl (n, omega arith, here)
-    | inr not_here ↦ inr (λ p.
-        (let less = p.1 in
-        elim (cases_lt p.0 n) [
-          | inl below ↦ none (p.0, below, p.2)
-          | inr above ↦ (let e : p.0 ≡ n = omega (arith, less, above) in not_here (subst P e p.2))
-        ]))
+    | inr not_here ↦ grind (arith, nat_tests, cases_lt)
   ]
 ]
 
@@ -109,10 +104,7 @@ distinct (x ∷ xs) h = IsDistinct-cons eqb x xs (not_there x xs h.0) (distinct 
 
 edge_small : (n t : ℕ) (steps : List Step) → AreSmall n t steps → (q : ℕ) → list_any (eqb q) (edges_of steps) ≡ true → q < n
 edge_small n t [] small q e = absurd cc
-edge_small n t (s ∷ steps) small q e = elim (cases_Bool (eqb q s.edge)) [
-  | inl same ↦ subst (λ x. x < n) (sym (eqb-true q s.edge same)) small.0.0
-  | inr other ↦ edge_small n t steps small.1 q (rw other at e)
-]
+edge_small n t (s ∷ steps) small q e = grind (arith, cases_Bool, same, eqb-true, (edge_small n t steps small.1 q))
 
 module _ (edges : List (ℕ × ℕ)) where
   record AreWithin (k a b : ℕ) : Type 0 where
@@ -130,19 +122,13 @@ module _ (edges : List (ℕ × ℕ)) where
   walk from to [] = same from to
   walk from to (s ∷ steps) = both (joins s.edge from s.to) (walk s.to to steps)
 
-  two_or_more : (n : ℕ) → Decided (2 ≤ n)
-  two_or_more n = elim (cases_lt n 2) [ inl less ↦ inr (λ far. absurd (omega (arith, less, far))) | inr far ↦ inl (omega (arith, far)) ]
-
   cycle : (start : ℕ) (steps : List Step) → Decided (IsSimpleCycle edges start steps)
   cycle start steps = grind (arith, walk, differ)
 
   -- the steps of a walk are small
 
   joins_small : (k a b : ℕ) → Joins edges k a b → AreWithin k a b
-  joins_small k a b (inl e) =
-      let ends = ends_below edges k a b e in record { edge = slice_get_within edges k (a, b) e; from = ends.0; to = ends.1 }
-  joins_small k a b (inr e) =
-      let ends = ends_below edges k b a e in record { edge = slice_get_within edges k (b, a) e; from = ends.1; to = ends.0 }
+  joins_small k a b h4 = grind (arith, nat_tests, ends_below, slice_get_within)
 
   walk_small : (from to : ℕ) (steps : List Step) → IsWalk edges from steps to → AreSmall (length edges) (top edges) steps
   walk_small from to [] w = tt
@@ -157,8 +143,7 @@ module _ (edges : List (ℕ × ℕ)) where
   few_steps start steps c =
       let few = length-le_from_distinct_below (edges_of steps) (length edges) (distinct (edges_of steps) c.edges_differ)
       (edge_small (length edges) (top edges) steps (walk_small start start steps c.closed)) in
-      let long = as_many steps in
-      omega (arith, few, long)
+      omega (arith, few, (as_many steps))
 
   -- so whether two edges share a simple cycle is decided
 
@@ -173,11 +158,7 @@ module _ (edges : List (ℕ × ℕ)) where
       (λ count. some_steps (length edges) (top edges) count (Shares j k start)
       (λ steps. both (cycle start steps) (both (has (edges_of steps) j) (has (edges_of steps) k))))) in
       elim some [
-        | inl p ↦
-            (let q = p.2 in
-            let r = q.2 in
-            let s = r.3 in
-            inl (record { start = p.0; steps = r.0; cycle = s.0; first = s.1.0; second = s.1.1 }))
+        | inl p ↦ grind (arith, nat_tests, cycle)
         | inr none ↦ inr (λ c. none (
           c.start,
           start_small c.start c.steps c.cycle,

@@ -1,5 +1,5 @@
 -- The facts of committed transactions, from the laws of their places.
-use Rattle.sdd_acyclic.proofs.All.{Applies, Below, Deeds, Facts, HasBarriers, IsHigh, IsLow, IsSeen, Precedes, Starts, Touches, Txn, ZeroAlone, ap, arith, cases_eq, cases_lt, inl, inr, rules, subst, sym, system, ℕ, ◌<◌, ◌∙◌, ◌≡◌, ◌≢◌, ◌≤◌, ◌⊎◌}
+use Rattle.sdd_acyclic.proofs.All.{Applies, Below, Deeds, Facts, HasBarriers, IsHigh, IsLow, IsSeen, Precedes, Starts, Touches, Txn, ZeroAlone, ap, arith, cases_eq, cases_lt, inl, inr, nat_tests, rules, subst, sym, system, ℕ, ◌<◌, ◌∙◌, ◌≡◌, ◌≢◌, ◌≤◌, ◌⊎◌}
 
 module _ {K : Type 0} (D : Deeds K) (starts : Starts D) (applies : Applies D) where
   -- of two of one class with different times the earlier is committed before the later starts
@@ -10,11 +10,7 @@ module _ {K : Type 0} (D : Deeds K) (starts : Starts D) (applies : Applies D) wh
         | inr s ↦ elim (cases_eq (D.submit x.no) (D.submit y.no)) [
           | inl e ↦ let t : D.ts x.no ≡ D.ts y.no = ap (λ z. D.ts z)
               (starts.same x y (starts.one_submit x y e)) in absurd (omega arith)
-          | inr n ↦
-              let back : D.commit y.no < D.start x.no = starts.in_turn y x (sym c) (omega arith) in
-              let rise : D.ts y.no ≤ D.ts x.no =
-              starts.times_rise y x (sym c) (let s = starts.starts_first y in omega arith) in
-              absurd (omega arith)
+          | inr n ↦ grind (arith, nat_tests)
         ]
       ]
 
@@ -45,17 +41,7 @@ module _ {K : Type 0} (D : Deeds K) (starts : Starts D) (applies : Applies D) wh
   writers_below x x' y f b w r s =
       elim (equal x x' b.time) [
         | inl l ↦
-            let h = applies.in_order x x' (D.dm (D.class y.no) f) s.applied.place b.class l
-            (touches x y f w r) s.applied.applied in
-            record {
-              answer = s.answer;
-              answered = s.answered;
-              applied = record {
-                place = h.place;
-                applied = h.applied;
-                before = let l = s.applied.before in let m = h.before in omega arith;
-              };
-            }
+            grind (arith, nat_tests, applies.in_order x x' (D.dm (D.class y.no) f) s.applied.place b.class l (touches x y f w r) s.applied.applied)
         | inr e ↦ subst (λ z. IsSeen D z (D.dm (D.class y.no) f) y.no) (sym e) s
       ]
 
@@ -72,22 +58,6 @@ module _ {K : Type 0} (D : Deeds K) (starts : Starts D) (applies : Applies D) wh
   bounds_rise x y c l t = grind (arith, equal)
 
   module _ (zero : ZeroAlone D) where
-    -- x, not above u, is u or stands wholly before it; y, not below u, is u or stands wholly behind it
-    low : (u x : Txn D) → D.class u.no ≡ 0 → D.ts x.no ≤ D.ts u.no → (x.no ≡ u.no) ⊎ IsLow D x.no u.no
-    low u x c l = grind arith
-
-    high : (u y : Txn D) → D.class u.no ≡ 0 → D.ts u.no ≤ D.ts y.no → (u.no ≡ y.no) ⊎ IsHigh D y.no u.no
-    high u y c l = grind arith
-
-    -- the first of them is committed not later than u
-    low_commit : (u x : Txn D) → (x.no ≡ u.no) ⊎ IsLow D x.no u.no → D.commit x.no ≤ D.commit u.no
-    low_commit u x e = grind arith
-
-    -- the second is applied behind that
-    high_apply : (u y : Txn D) (d f p : ℕ) → D.HasCopy d f → (u.no ≡ y.no) ⊎ IsHigh D y.no u.no
-        → D.Applied y.no d p → D.commit u.no < p
-    high_apply u y d f p c e a = search rules
-
     -- and sees the first where this changes what it reads
     high_sees : (u x y : Txn D) (f : ℕ) → D.class u.no ≡ 0 → D.name y.no ≢ D.name x.no
         → D.Reads y.no f → D.Changes x.no f → (x.no ≡ u.no) ⊎ IsLow D x.no u.no
@@ -99,7 +69,6 @@ module _ {K : Type 0} (D : Deeds K) (starts : Starts D) (applies : Applies D) wh
         let d = D.dm (D.class y.no) f in
         let copy = starts.copied y f r in
         let a = starts.answered y f r in
-        let s = starts.answer_after y d a.place a.answered in
         let own = h.applies d f copy in
         let after = applies.apply_after u d own.place own.applied in
         let mid = zero.everywhere u d f c copy in

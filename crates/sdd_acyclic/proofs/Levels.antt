@@ -1,5 +1,5 @@
 -- Along the walk of a tour whose edges lie in one block a level rises.
-use Rattle.sdd_acyclic.proofs.All.{Below, Bool, Edge, Facts, Has, List, Step, System, Waits, [], arith, cond, edges_of, false, inr, rules, slice_index, sym, true, ℕ, ◌*◌, ◌+◌, ◌-◌, ◌<◌, ◌==◌, ◌∷◌, ◌≡◌, ◌≢◌, ◌≤◌}
+use Rattle.sdd_acyclic.proofs.All.{Below, Bool, Edge, Facts, Has, List, Step, System, Waits, [], arith, cond, edges_of, false, inr, nat_tests, rules, slice_index, sym, true, ℕ, ◌*◌, ◌+◌, ◌-◌, ◌<◌, ◌==◌, ◌∷◌, ◌≡◌, ◌≢◌}
 use Rattle.sdd_acyclic.proofs.Tours.{Crosses, Crossing, Run}
 use Rattle.sdd_acyclic.proofs.Tours.Crosses.{write_write, read_write, write_read}
 use Rattle.sdd_acyclic.proofs.Walks.{turn, stretch, walk}
@@ -25,9 +25,6 @@ unseen b t s p n h = grind arith
 seen : (b : Bool) (t s p : ℕ) → s < cond b t p → 2 * s + 1 < cond b (2 * t + 1) (2 * p)
 seen b t s p h = grind arith
 
-within : (b : Bool) (s t p q : ℕ) → s ≤ t → p ≤ q → cond b (2 * s + 1) (2 * p) ≤ cond b (2 * t + 1) (2 * q)
-within b s t p q h g = grind arith
-
 module _ {T : Type 0} (S : System T) (graph : List Edge) (blocks : List ℕ) (facts : Facts S)
     (waits : Waits S graph blocks) where
   -- a crossing rises
@@ -42,11 +39,6 @@ module _ {T : Type 0} (S : System T) (graph : List Edge) (blocks : List ℕ) (fa
   crossing_rises x y k _ _ (write_read f w r s e) o d z =
       seen (slice_index blocks (S.class y - 1) == slice_index blocks k) (S.ts y) (S.ts x) (S.p2 y)
       ((waits.split x y f k (λ t. d (sym t)) r w e z).0 s)
-
-  -- within a class the level does not fall, from one node to another where the vertical edge lies in the block
-  turn_rises : (n : ℕ) (x y : T) (a b : Bool) (rest : List Step) → Below S x y
-      → LieIn blocks n (turn (S.class y) a b rest) → level S blocks n x a ≤ level S blocks n y b
-  turn_rises n x y a b rest h g = grind arith
 
   stretch_rises : (n : ℕ) (k l : Crossing S graph) (rest : List Step) → n ≢ 0 → Below S k.to l.from
       → LieIn blocks n (stretch S graph k l rest) → level S blocks n k.from k.out < level S blocks n l.from l.out
@@ -64,6 +56,4 @@ module _ {T : Type 0} (S : System T) (graph : List Edge) (blocks : List ℕ) (fa
   walk_rises n k (a ∷ w) l z r h =
       let first : level S blocks n k.from k.out < level S blocks n a.from a.out =
       stretch_rises n k a (walk S graph a w l) z r.0 h in
-      let rest : level S blocks n a.from a.out < level S blocks n l.from l.out =
-      walk_rises n a w l z r.1 (stretch_rest n k a (walk S graph a w l) h) in
-      omega arith
+      grind (arith, nat_tests, level, stretch_rest, walk, (walk_rises n a w l z r.1 (stretch_rest n k a (walk S graph a w l) h)))

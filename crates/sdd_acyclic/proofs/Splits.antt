@@ -1,5 +1,5 @@
 -- What a reader sees of the writers of a block: those below its time.
-use Rattle.sdd_acyclic.proofs.All.{Bool, Catalogue, ClassNo, Cond, Contains, Contains-filter_map, Contains-map, Diagonal, Edge, Entry, FitsSystem, FragNo, Horizontal, IsClassOf, IsDiagonal, IsTable, List, Meets, None, Option, P1, P2, P3, Protocol, Some, System, Vertical, Waits, [], all_at, and_from, and_parts, ap, arith, asked_by, asked_in, asked_on, blocks_of, cases_Bool, class_no, cond, cond_for, cond_of, condition_on, conflict_graph, cons_option, contains, diagonal_edges, diagonal_protocol, ends, eq-eqb, eqb-true, false, filter_map, first_block-vertical, frag_no, get_or, get_or-map, horizontal_edges, inl, inr, is_asked, is_read_at, length, length-append, length-map, length-map-range_with_len, list_any, map, numbers_to, one_protocol, option_eq, option_map, option_or, passes_member, protocol_in, refl, same_Some, same_protocol, slice_get, slice_get-get_or, slice_get-map, slice_get_within, slice_index, subst, suc, sym, time_in, true, vertical_block, vertical_block-lists, vertical_edges, zero, ℕ, ◌&&◌, ◌++◌, ◌+◌, ◌-◌, ◌<◌, ◌==◌, ◌||◌, ◌↔◌, ◌∙◌, ◌∷◌, ◌≡◌, ◌≢◌, ◌≤◌}
+use Rattle.sdd_acyclic.proofs.All.{Bool, Catalogue, ClassNo, Cond, Contains, Contains-filter_map, Contains-map, Diagonal, Edge, Entry, FitsSystem, FragNo, IsClassOf, IsDiagonal, IsTable, List, Meets, None, Option, P2, P3, Protocol, Some, System, Waits, [], all_at, and_from, and_parts, ap, arith, asked_by, asked_in, asked_on, blocks_of, cases_Bool, class_no, cond, cond_for, cond_of, condition_on, conflict_graph, cons_option, contains, diagonal_protocol, eq-eqb, eqb-true, false, filter_map, first_block-vertical, frag_no, get_or, get_or-map, is_asked, is_read_at, length, length-append, length-map, length-map-range_with_len, list_any, map, nat_tests, numbers_to, one_protocol, option_eq, option_map, option_or, passes_member, protocol_in, refl, same_Some, same_protocol, slice_get, slice_get-get_or, slice_get-map, slice_get_within, slice_index, subst, suc, sym, time_in, true, vertical_block, vertical_block-lists, zero, ℕ, ◌-◌, ◌<◌, ◌==◌, ◌||◌, ◌↔◌, ◌∙◌, ◌∷◌, ◌≡◌, ◌≢◌, ◌≤◌}
 use Rattle.sdd_acyclic.proofs.Covers.{class_is}
 use Rattle.sdd_protocol.proofs.Tables.{edges_of}
 
@@ -16,37 +16,18 @@ pub record IsBetween (i j : ℕ) (e : Edge) : Type 0 where
 asked_here : (protocol : Protocol) (test : ℕ → Bool) (i j f : ℕ) (x : Entry)
     → x.edge ≡ Diagonal (class_no i) (class_no j) (frag_no f) → same_protocol x.protocol protocol ≡ true
     → test f ≡ true → asked_in protocol test i j x ≡ Some (frag_no f)
-asked_here protocol test i j f x e p t =
-    ap (λ b. cond b (asked_on test i j x.edge) None) p
-    ∙ ap (asked_on test i j) e
-    ∙ ap (λ b. cond b (Some (frag_no f)) None)
-    (and_from (i == i) ((j == j) && test f) (eq-eqb i i refl) (and_from (j == j) (test f) (eq-eqb j j refl) t))
+asked_here protocol test i j f x e p t = grind (arith, and_from, eq-eqb)
 
 -- an entry that isn't one asks for nothing
 not_asked_on : (test : ℕ → Bool) (i j : ℕ) (e : Edge) → (IsBetween i j e → ⊥) → asked_on test i j e ≡ None
-not_asked_on test i j (Vertical c) n = refl
-not_asked_on test i j (Horizontal c d) n = refl
-not_asked_on test i j (Diagonal a b f) n =
-    elim (cases_Bool ((a.0 == i) && ((b.0 == j) && test f.0))) [
-      | inl t ↦
-          let one = and_parts (a.0 == i) ((b.0 == j) && test f.0) t in
-          let two = and_parts (b.0 == j) (test f.0) one.1 in
-          absurd (n (record { reader = a; writer = b; fragment = f; is = refl; reads = eqb-true a.0 i one.0; writes = eqb-true b.0 j two.0 }))
-      | inr u ↦ ap (λ z. cond z (Some f) None) u
-    ]
+not_asked_on test i j e n = grind (arith, cases_Bool, and_parts, eqb-true)
 
 is_third : (protocol : Protocol) → same_protocol protocol P3 ≡ true → protocol ≡ P3
 is_third protocol e = grind arith
 
 not_asked_here : (test : ℕ → Bool) (i j : ℕ) (x : Entry) → (IsBetween i j x.edge → x.protocol ≡ P3 → ⊥)
     → asked_in P3 test i j x ≡ None
-not_asked_here test i j x n =
-    elim (cases_Bool (same_protocol x.protocol P3)) [
-      | inl t ↦
-          ap (λ b. cond b (asked_on test i j x.edge) None) t
-          ∙ not_asked_on test i j x.edge (λ b. n b (is_third x.protocol t))
-      | inr f ↦ ap (λ b. cond b (asked_on test i j x.edge) None) f
-    ]
+not_asked_here test i j x n = grind (arith, cases_Bool, not_asked_on, is_third)
 
 filter_map_none : {X Y : Type 0} (f : X → Option Y) (xs : List X)
     → ((k : ℕ) (x : X) → slice_get xs k ≡ Some x → f x ≡ None) → filter_map f xs ≡ []
@@ -90,27 +71,11 @@ module _ (era : Catalogue) (entries : List Entry) (table : IsTable era entries) 
   -- the entry at the place of an edge
   entry_at : (k : ℕ) (e : Edge) → slice_get (conflict_graph era) k ≡ Some e
       → (x : Entry) × (slice_get entries k ≡ Some x) × (x.edge ≡ e) × (slice_index (blocks_of entries) k ≡ x.block)
-  entry_at k e h =
-      let first : Entry = record { edge = e; block = 0; protocol = P1 } in
-      let edge : slice_get (edges_of entries) k ≡ Some e = ap (λ z. slice_get z k) table.edges ∙ h in
-      let within = slice_get_within (edges_of entries) k e edge in
-      let l : k < length entries = omega (arith, length-map entries (λ (z : Entry). z.edge)) in
-      let there : slice_get entries k ≡ Some (get_or entries k first) = slice_get-get_or entries k first l in
-      let same : Some (get_or entries k first).edge ≡ Some e =
-      sym (slice_get-map (λ (z : Entry). z.edge) entries k ∙ ap (λ o. option_map (λ (z : Entry). z.edge) o) there) ∙ edge in
-      (get_or entries k first, there, same_Some (get_or entries k first).edge e same, get_or-map (λ (z : Entry). z.block) entries k first 0 l)
+  entry_at k e h = grind (arith, slice_get, edges_of, slice_get_within, length-map, get_or, slice_get-get_or, slice_get-map, option_map, same_Some, get_or-map)
 
   -- the block of a vertical edge stands at the place of its class
   vertical_is : (i : ℕ) → IsClassOf era i → vertical_block entries i ≡ slice_index (blocks_of entries) (i - 1)
-  vertical_is i c =
-      let rest = horizontal_edges era ++ diagonal_edges era in
-      let from = c.from in
-      let to = c.to in
-      let many : length era.classes ≤ length (conflict_graph era) =
-      omega (arith, length-append (vertical_edges era) rest, length-map-range_with_len (λ z. Vertical (class_no z)) 1 (length era.classes)) in
-      let long : length (blocks_of entries) ≡ length (conflict_graph era) =
-      table.blocks.one_each ∙ length-map (conflict_graph era) ends in
-      grind (arith, vertical_block-lists, first_block-vertical)
+  vertical_is i c = grind (arith, length-append, length-map-range_with_len, blocks_of, length-map, vertical_block-lists, first_block-vertical)
 
   -- the entry of a diagonal in a block has P3 where the edge of its reader's nodes lies in the block, else P2
   pub record IsDiagonalEntry (i j f k : ℕ) : Type 0 where
@@ -139,23 +104,13 @@ module _ (era : Catalogue) (entries : List Entry) (table : IsTable era entries) 
       → Contains (asked_by protocol test entries i j) (frag_no f)
   in_asked i j f k test protocol d p t =
       let l = slice_get_within entries k d.entry d.there in
-      let here : get_or entries k d.entry ≡ d.entry =
-      same_Some (get_or entries k d.entry) d.entry (sym (slice_get-get_or entries k d.entry l) ∙ d.there) in
-      Contains-filter_map (asked_in protocol test i j) entries d.entry (frag_no f) (k, l, here)
+      Contains-filter_map (asked_in protocol test i j) entries d.entry (frag_no f) (k, l, (grind (arith, nat_tests, same_Some, get_or, slice_get-get_or)))
       (asked_here protocol test i j f d.entry d.edge p t)
 
   -- all diagonals between two classes have one protocol: where one has P2, none asks by P3
   none_by_third : (i j f k : ℕ) (test : ℕ → Bool) (d : IsDiagonalEntry i j f k) → d.entry.protocol ≡ P2
       → asked_by P3 test entries i j ≡ []
-  none_by_third i j f k test d p =
-      filter_map_none (asked_in P3 test i j) entries (λ n x there.
-      not_asked_here test i j x (λ b third.
-      let edge : x.edge ≡ Diagonal (class_no i) (class_no j) b.fragment =
-      b.is ∙ ap (λ w. Diagonal (class_no w) b.writer b.fragment) b.reads ∙ ap (λ w. Diagonal (class_no i) (class_no w) b.fragment) b.writes in
-      let alike : d.entry.protocol ≡ x.protocol =
-      one_protocol era entries table k n d.entry x (class_no i) (class_no j) (frag_no f) b.fragment d.there there d.edge edge in
-      let wrong : P2 ≡ P3 = sym p ∙ alike ∙ third in
-      cc))
+  none_by_third i j f k test d p = grind (arith, filter_map_none, not_asked_here, one_protocol)
 
   -- the condition of a reader on the writers of a class with which it shares a diagonal in a block
   condition_there : (i j f k own p2 : ℕ) (test : ℕ → Bool) → IsClassOf era i → IsDiagonal (conflict_graph era) k i j f
@@ -174,19 +129,16 @@ module _ (era : Catalogue) (entries : List Entry) (table : IsTable era entries) 
             (ap (λ o. option_or o (cond_for j p2 seconds)) (cond_there j own thirds (frag_no f) m)) m
         | false ↦ λ p.
             let m = in_asked i j f k test P2 d (ap (λ w. same_protocol w P2) p) t in
-            let none : thirds ≡ [] = none_by_third i j f k test d p in
             asks_for whole j p2 seconds f
-            (ap (λ l. option_or (cond_for j own l) (cond_for j p2 seconds)) none ∙ cond_there j p2 seconds (frag_no f) m) m
+            (ap (λ l. option_or (cond_for j own l) (cond_for j p2 seconds)) (none_by_third i j f k test d p) ∙ cond_there j p2 seconds (frag_no f) m) m
       ] d.protocol
 
   module _ (cat : Catalogue) {T : Type 0} (S : System T) (fits : FitsSystem era S) (frags : T → List FragNo) (meets : Meets cat entries S frags) where
     asked_of : (y : T) (f : ℕ) → S.Reads y f → is_asked cat (S.class y) (S.dm (S.class y) f) (frags y) f ≡ true
     asked_of y f r =
         let d = S.dm (S.class y) f in
-        let here : is_read_at cat (S.class y) d f ≡ true =
-        ap (λ o. option_eq ◌==◌ o (Some d)) (meets.dm y f r) ∙ eq-eqb d d refl in
         and_from (list_any (λ g. g.0 == f) (frags y)) (is_read_at cat (S.class y) d f)
-        (any_of_map (λ n. n == f) (λ (g : FragNo). g.0) (frags y) ∙ meets.reads y f r) here
+        (any_of_map (λ n. n == f) (λ (g : FragNo). g.0) (frags y) ∙ meets.reads y f r) (grind (arith, nat_tests, option_eq, eq-eqb))
 
     split : (x y : T) (f k : ℕ) → S.class y ≢ S.class x → S.Reads y f → S.Changes x f
         → IsDiagonal (conflict_graph era) k (S.class y) (S.class x) f → slice_index (blocks_of entries) k ≢ 0
@@ -199,8 +151,7 @@ module _ (era : Catalogue) (entries : List Entry) (table : IsTable era entries) 
         let member =
         Contains-filter_map (condition_on test entries i (S.ts y) (S.p2 y)) (numbers_to (length cat.classes)) (S.class x)
         c.condition (class_is cat (S.class x) (meets.class x)) c.is in
-        let met = meets.met x y f f c.condition r member c.class_is w c.named (meets.copies y f r) in
-        subst (λ t. S.Seen x d y ↔ (S.ts x < t)) c.time_is met
+        subst (λ t. S.Seen x d y ↔ (S.ts x < t)) c.time_is (meets.met x y f f c.condition r member c.class_is w c.named (meets.copies y f r))
 
     pub waits : ((x y : T) → S.class x ≡ S.class y → S.ts x ≤ S.ts y → S.p2 x ≤ S.p2 y)
         → Waits S (conflict_graph era) (blocks_of entries)

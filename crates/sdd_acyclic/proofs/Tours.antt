@@ -62,11 +62,7 @@ module _ {T : Type 0} (S : System T) where
 
   -- of two of one class one is not later
   pub below_or : (x y : T) → S.class x ≡ S.class y → Below S x y ⊎ Below S y x
-  below_or x y e =
-      elim (cases_lt (S.ts x) (S.ts y)) [
-        | inl l ↦ inl (record { class = e; time = omega arith })
-        | inr l ↦ inr (record { class = omega arith; time = l })
-      ]
+  below_or x y e = grind (arith, cases_lt)
 
   module _ (graph : List Edge) where
     pub run_on : (k : Crossing S graph) (w : List (Crossing S graph)) (y z : T) → Run S graph k w y
@@ -165,11 +161,7 @@ module _ {T : Type 0} (S : System T) where
         → ¬ Differ (classes S graph (k ∷ w)))
         → (n : ℕ) (k : Crossing S graph) (w : List (Crossing S graph)) → length w < n → ¬ Run S graph k w k.from
     tour_below h zero k w l r = absurd (omega arith)
-    tour_below h (suc n) k w l r = elim
-        (one_shorter k w r) [
-          | inl d ↦ h k w r d
-          | inr t ↦ tour_below h n t.start t.rest (omega arith) t.closes
-        ]
+    tour_below h (suc n) k w l r = grind (arith, one_shorter, (tour_below h n))
 
     pub no_tour : ((k : Crossing S graph) (w : List (Crossing S graph)) → Run S graph k w k.from
         → ¬ Differ (classes S graph (k ∷ w)))

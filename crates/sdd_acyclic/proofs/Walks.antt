@@ -1,5 +1,5 @@
 -- The walk of a tour in the conflict graph.
-use Rattle.sdd_acyclic.proofs.All.{Below, Bool, Covers, Differ, Edge, Has, IsSimpleCycle, IsWalk, Joins, List, Some, Step, System, [], ap, arith, closed_walks_are_cycles, ends, false, inl, inr, map, nodes_of, option_map, read_node, refl, slice_get, slice_get-map, subst, sym, true, write_node, ℕ, ◌-◌, ◌∙◌, ◌∷◌, ◌≡◌, ◌≢◌, ◌≤◌}
+use Rattle.sdd_acyclic.proofs.All.{Below, Bool, Covers, Differ, Edge, Has, IsSimpleCycle, IsWalk, Joins, List, Some, Step, System, [], ap, arith, closed_walks_are_cycles, ends, false, inl, inr, map, nat_tests, nodes_of, option_map, read_node, refl, slice_get, slice_get-map, sym, true, write_node, ℕ, ◌-◌, ◌∙◌, ◌∷◌, ◌≡◌, ◌≢◌, ◌≤◌}
 use Rattle.sdd_acyclic.proofs.Tours.{Crosses, Crossing, Run, classes}
 
 -- the graph, as pairs of nodes
@@ -10,9 +10,6 @@ pairs graph = map ends graph
 abbrev pub node : ℕ → Bool → ℕ
 node c true = read_node c
 node c false = write_node c
-
-one_class : (c d : ℕ) (x y : Bool) → 1 ≤ c → 1 ≤ d → node c x ≡ node d y → c ≡ d
-one_class c d x y p q e = grind arith
 
 -- within a class from one of its nodes to the other, where they differ
 abbrev pub turn : ℕ → Bool → Bool → List Step → List Step
@@ -92,9 +89,7 @@ module _ {T : Type 0} (S : System T) (graph : List Edge) where
         (l : Crossing S graph) → 1 ≤ c → (¬ Has (classes S graph w) c) → c ≢ S.class l.from
         → Avoids c (walk k w l)
     walk_avoids c k [] l p h n = stretch_avoids c k l [] p n (λ z m. m)
-    walk_avoids c k (a ∷ w) l p h n =
-        stretch_avoids c k a (walk a w l) p (λ e. h (inl (sym e)))
-        (walk_avoids c a w l p (λ m. h (inr m)) n)
+    walk_avoids c k (a ∷ w) l p h n = grind (arith, nat_tests, stretch_avoids, walk, (walk_avoids c a w l p (λ m. h (inr m)) n))
 
     stretch_differs : (k l : Crossing S graph) (rest : List Step) → Avoids (S.class l.from) rest
         → Differ (nodes_of rest) → Differ (nodes_of (stretch k l rest))
@@ -105,8 +100,7 @@ module _ {T : Type 0} (S : System T) (graph : List Edge) where
         → Differ (classes S graph w) → (¬ Has (classes S graph w) (S.class l.from)) → Differ (nodes_of (walk k w l))
     walk_differs k [] l d n = stretch_differs k l [] (λ z m. m) tt
     walk_differs k (a ∷ w) l d n =
-        stretch_differs k a (walk a w l) (walk_avoids (S.class a.from) a w l
-        (covers.declared a.from) d.0 (λ e. n (inl e))) (walk_differs a w l d.1 (λ m. n (inr m)))
+        stretch_differs k a (walk a w l) (grind (arith, nat_tests, walk_avoids)) (walk_differs a w l d.1 (λ m. n (inr m)))
 
     walk_some : (k : Crossing S graph) (w : List (Crossing S graph)) (l : Crossing S graph)
         → (s : Step) × (rest : List Step) × (walk k w l ≡ s ∷ rest)
@@ -135,12 +129,10 @@ module _ {T : Type 0} (S : System T) (graph : List Edge) where
         (turn (S.class k.from) l.into k.out [])
         (is_walk k (l ∷ []) k r) (walk_differs k (l ∷ []) k d.1 d.0) (λ e. n l refl)
     cycle_of_tour k (l ∷ m ∷ w) r d n =
-        let q = walk_some m w k in
         closed_turn (pairs graph) (node (S.class k.from) k.out)
         (record { edge = k.edge; to = node (S.class l.from) k.into })
         (S.class l.from) k.into l.out
         (record { edge = l.edge; to = node (S.class m.from) l.into })
         (turn (S.class m.from) l.into m.out (walk m w k))
         (is_walk k (l ∷ m ∷ w) k r) (walk_differs k (l ∷ m ∷ w) k d.1 d.0)
-        (λ e. absurd (turn_some (S.class m.from) l.into m.out q.0 q.1
-        (subst (λ z. turn (S.class m.from) l.into m.out z ≡ []) q.2 e)))
+        (grind (arith, walk_some m w k, nat_tests, turn_some, turn))

@@ -1,5 +1,5 @@
 -- Tests that tell that a history keeps the law of Applies.
-use Rattle.sdd_history_examples.proofs.All.{AppliedBefore, Apply, Attempt, Bool, Catalogue, Change, Committed, Contains, GoesTo, History, IsAnswered, IsApplied, IsCommitted, IsEarlier, IsOfCommit, IsRecordAt, KeepsApplies, Touches, and_from, and_parts, ap, applied_before, by_change, by_no_class, changes_member, class_no, committed, dm_no, eq-eqb, eqb-true, from_committed, has_copy, inl, inr, is_applied, is_from_1_to, le-leb, list_all, list_any, lt-ltb, ltb-true, member_passes, nat_le, nat_lt, or_cases, or_left, or_right, passes_member, refl, time_at, true, txn_no, ℕ, ◌&&◌, ◌<◌, ◌==◌, ◌||◌, ◌∙◌, ◌≡◌}
+use Rattle.sdd_history_examples.proofs.All.{AppliedBefore, Apply, Attempt, Bool, Catalogue, Change, Committed, Contains, GoesTo, History, IsAnswered, IsApplied, IsCommitted, IsEarlier, IsOfCommit, IsRecordAt, KeepsApplies, Touches, and_from, and_parts, ap, applied_before, arith, changes_member, class_no, committed, dm_no, eq-eqb, eqb-true, from_committed, has_copy, is_applied, is_from_1_to, le-leb, list_all, list_any, lt-ltb, ltb-true, member_passes, nat_le, nat_lt, or_cases, or_left, or_right, passes_member, refl, time_at, true, txn_no, ℕ, ◌&&◌, ◌<◌, ◌==◌, ◌||◌, ◌∙◌, ◌≡◌}
 use Rattle.sdd_history_examples.proofs.Each.{if_so, so, each, all_pairs, each_pair}
 use Rattle.sdd_history_examples.proofs.Fitting.{from_1_to}
 use Rattle.sdd_history_examples.proofs.Listed.{AnswerAt, ApplyAt, answers, in_answers, applies, in_applies}
@@ -61,23 +61,8 @@ touches_is cat x d t =
     let m = member_passes (λ (c : Change). c.frag.0 == t.fragment) x.changes t.changed in
     passes_member (λ (c : Change). has_copy cat d c.frag.0) x.changes m.0 m.1 (ap (has_copy cat d) (eqb-true m.0.frag.0 t.fragment m.2) ∙ t.copied)
 
-goes_to : (cat : Catalogue) (t : Committed) (d : ℕ) → goes cat t d ≡ true → GoesTo cat t d
-goes_to cat t d e =
-    elim (or_cases (touches cat t d) ((t.start.class == 0) && is_from_1_to cat.dms d) e) [
-      | inl u ↦
-          let c = member_passes (λ (c : Change). has_copy cat d c.frag.0) t.changes u in
-          by_change (record { fragment = c.0.frag.0; changed = changes_member t c.0 c.1; copied = c.2 })
-      | inr u ↦
-          let both = and_parts (t.start.class == 0) (is_from_1_to cat.dms d) u in
-          by_no_class (eqb-true t.start.class 0 both.0) (from_1_to cat.dms d both.1)
-    ]
-
 pub goes_is : (cat : Catalogue) (t : Committed) (d : ℕ) → GoesTo cat t d → goes cat t d ≡ true
-goes_is cat t d (by_change c) = or_left (touches cat t d) ((t.start.class == 0) && is_from_1_to cat.dms d) (touches_is cat t d c)
-goes_is cat t d (by_no_class z m) =
-    or_right (touches cat t d) ((t.start.class == 0) && is_from_1_to cat.dms d)
-    (and_from (t.start.class == 0) (is_from_1_to cat.dms d) (eq-eqb t.start.class 0 z)
-    (and_from (nat_le 1 d) (nat_le d cat.dms) (le-leb 1 d m.0) (le-leb d cat.dms m.1)))
+goes_is cat t d h4 = grind (arith, or_left, touches, touches_is, or_right, and_from, eq-eqb, nat_le, le-leb)
 
 -- an Answer is of its attempt
 pub own_answer : (a : Attempt) (d k : ℕ) → is_answer_of a (record { txn = a.txn; number = a.number; dm = d; place = k }) ≡ true
@@ -110,7 +95,7 @@ module _ (cat : Catalogue) (h : History) (there : (t : Committed) → IsCommitte
           class_is = eqb-true t.start.class class two.0;
           ts_is = eqb-true t.start.ts ts three.0;
           before = ltb-true t.place k four.0;
-          goes = goes_to cat t d four.1;
+          goes = (grind (arith, or_cases, touches, member_passes, changes_member, and_parts, eqb-true, from_1_to));
         }
 
     one_apply : (n d j k : ℕ) → IsApplied h n d j → IsApplied h n d k → j ≡ k

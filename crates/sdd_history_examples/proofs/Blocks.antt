@@ -1,5 +1,5 @@
 -- Block numbers of graphs with one simple cycle, or none.
-use Rattle.sdd_history_examples.proofs.All.{AreBlocks, Bool, Has, IsSimpleCycle, IsWalk, List, OnACycle, ShareACycle, Some, Step, [], and_parts, ap, arith, cond, cycle_joined_ends, edges_of, false, inl, inr, last, length, linked_on, not, refl, slice_get, some_pair_parts, suc, sym, true, zero, ℕ, ◌&&◌, ◌∙◌, ◌∷◌, ◌≡◌, ◌≢◌, ◌⊎◌}
+use Rattle.sdd_history_examples.proofs.All.{AreBlocks, Bool, Has, IsSimpleCycle, IsWalk, List, OnACycle, Some, Step, [], and_parts, ap, arith, cond, cycle_joined_ends, edges_of, inl, inr, last, length, linked_on, not, refl, slice_get, some_pair_parts, suc, sym, true, zero, ℕ, ◌&&◌, ◌∷◌, ◌≡◌, ◌≢◌, ◌⊎◌}
 
 -- a set of nodes, as a test, that all edges but one stay within or without
 
@@ -15,17 +15,9 @@ others_stay side k [] = true
 others_stay side zero (e ∷ edges) = all_stay side edges
 others_stay side (suc k) (e ∷ edges) = stays side e && others_stay side k edges
 
-same_side : (a b : Bool) → cond a b (not b) ≡ true → a ≡ b
-same_side true b e = sym e
-same_side false true e = absurd (cc)
-same_side false false e = refl
-
 each_stays : (side : ℕ → Bool) (edges : List (ℕ × ℕ)) (j c d : ℕ) → all_stay side edges ≡ true → slice_get edges j ≡ Some (c, d) → side c ≡ side d
 each_stays side [] j c d e g = absurd (cc)
-each_stays side (x ∷ edges) zero c d e g =
-    let both = and_parts (stays side x) (all_stay side edges) e in
-    let same = some_pair_parts x.0 c x.1 d g in
-    ap side (sym same.0) ∙ same_side (side x.0) (side x.1) both.0 ∙ ap side same.1
+each_stays side (x ∷ edges) zero c d e g = grind (arith, and_parts, stays, all_stay, some_pair_parts)
 each_stays side (x ∷ edges) (suc j) c d e g = each_stays side edges j c d (and_parts (stays side x) (all_stay side edges) e).1 g
 
 each_other : (side : ℕ → Bool) (k : ℕ) (edges : List (ℕ × ℕ)) (j c d : ℕ) → others_stay side k edges ≡ true → j ≢ k
@@ -33,22 +25,14 @@ each_other : (side : ℕ → Bool) (k : ℕ) (edges : List (ℕ × ℕ)) (j c d 
 each_other side k [] j c d e n g = absurd (cc)
 each_other side zero (x ∷ edges) zero c d e n g = absurd (n refl)
 each_other side zero (x ∷ edges) (suc j) c d e n g = each_stays side edges j c d e g
-each_other side (suc k) (x ∷ edges) zero c d e n g =
-    let both = and_parts (stays side x) (others_stay side k edges) e in
-    let same = some_pair_parts x.0 c x.1 d g in
-    ap side (sym same.0) ∙ same_side (side x.0) (side x.1) both.0 ∙ ap side same.1
-each_other side (suc k) (x ∷ edges) (suc j) c d e n g =
-    each_other side k edges j c d (and_parts (stays side x) (others_stay side k edges) e).1 (λ p. n (ap suc p)) g
+each_other side (suc k) (x ∷ edges) zero c d e n g = grind (arith, and_parts, stays, others_stay, some_pair_parts)
+each_other side (suc k) (x ∷ edges) (suc j) c d e n g = grind (arith, and_parts, stays, others_stay, (each_other side k edges j c d (and_parts (stays side x) (others_stay side k edges) e).1 (λ p. n (ap suc p)) g))
 
 -- a walk without that one stays on its side
 walk_stays : (side : ℕ → Bool) (k : ℕ) (edges : List (ℕ × ℕ)) → others_stay side k edges ≡ true
     → (from : ℕ) (steps : List Step) (to : ℕ) → IsWalk edges from steps to → (¬ Has (edges_of steps) k) → side from ≡ side to
 walk_stays side k edges e from [] to w n = ap side w
-walk_stays side k edges e from (s ∷ steps) to w n =
-    elim w.0 [
-      | inl g ↦ each_other side k edges s.edge from s.to e (λ p. n (inl p)) g
-      | inr g ↦ sym (each_other side k edges s.edge s.to from e (λ p. n (inl p)) g)
-    ] ∙ walk_stays side k edges e s.to steps to w.1 (λ m. n (inr m))
+walk_stays side k edges e from (s ∷ steps) to w n = grind (arith, each_other, (walk_stays side k edges e s.to steps to w.1 (λ m. n (inr m))))
 
 -- so that one, which crosses, lies on no cycle
 pub crosses_alone : (side : ℕ → Bool) (edges : List (ℕ × ℕ)) (k a b : ℕ) → others_stay side k edges ≡ true
@@ -60,14 +44,7 @@ crosses_alone side edges k a b e g n c =
 -- where no edge lies on a cycle all have the number 0
 pub no_blocks : (edges : List (ℕ × ℕ)) (blocks : List ℕ) → length blocks ≡ length edges
     → ((k b : ℕ) → slice_get blocks k ≡ Some b → (b ≡ 0) × (¬ OnACycle edges k)) → AreBlocks edges blocks
-no_blocks edges blocks long each =
-    record {
-      one_each = long;
-      none = λ k e. (each k 0 e).1;
-      some = λ k b e. let z = (each k (suc b) e).0 in absurd (omega arith);
-      same = λ j k a b p q n. absurd (n (each j a p).0);
-      in_order = λ k b e. let z = (each k (suc (suc b)) e).0 in absurd (omega arith);
-    }
+no_blocks edges blocks long each = grind arith
 
 -- an edge has the number 0 and lies on no cycle, or the number 1 and lies on the one cycle
 abbrev pub IsNumbered : List (ℕ × ℕ) → List Step → ℕ → ℕ → Type 0
@@ -76,22 +53,4 @@ IsNumbered edges steps k b = ((b ≡ 0) × (¬ OnACycle edges k)) ⊎ ((b ≡ 1)
 -- where all edges on cycles lie on one these have the number 1
 pub one_block : (edges : List (ℕ × ℕ)) (blocks : List ℕ) (start : ℕ) (steps : List Step) → IsSimpleCycle edges start steps
     → length blocks ≡ length edges → ((k b : ℕ) → slice_get blocks k ≡ Some b → IsNumbered edges steps k b) → AreBlocks edges blocks
-one_block edges blocks start steps cycle long each =
-    let share : (j k : ℕ) → Has (edges_of steps) j → Has (edges_of steps) k → ShareACycle edges j k =
-    λ j k p q. record { start = start; steps = steps; cycle = cycle; first = p; second = q } in
-    record {
-      one_each = long;
-      none = λ k e. elim (each k 0 e) [ inl z ↦ z.1 | inr o ↦ let z = o.0 in absurd (omega arith) ];
-      some = λ k b e. elim (each k (suc b) e) [ inl z ↦ let w = z.0 in absurd (omega arith) | inr o ↦ share k k o.1 o.1 ];
-      same = λ j k a b p q n. elim (each j a p) [
-        | inl z ↦ absurd (n z.0)
-        | inr one ↦ elim (each k b q) [
-          | inl z ↦ ((λ e. absurd (n (e ∙ z.0))), (λ l. absurd (z.1 (linked_on edges j k l))))
-          | inr two ↦ ((λ e. last (share j k one.1 two.1)), (λ l. one.0 ∙ sym two.0))
-        ]
-      ];
-      in_order = λ k b e. elim (each k (suc (suc b)) e) [
-        | inl z ↦ let w = z.0 in absurd (omega arith)
-        | inr o ↦ let w = o.0 in absurd (omega arith)
-      ];
-    }
+one_block edges blocks start steps cycle long each = grind (arith, edges_of, linked_on, last)

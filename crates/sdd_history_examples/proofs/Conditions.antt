@@ -1,5 +1,5 @@
 -- A test that tells that a history keeps the law of read conditions, by the protocol table of its catalogue.
-use Rattle.sdd_history_examples.proofs.All.{AllByRecursion, Attempt, Bool, Catalogue, Change, Committed, Cond, Contains, Entry, Eras, FragNo, History, IsCommitted, IsConditionOf, IsTable, KeepsConditions, List, TouchesOne, and_from, ap, applied_before, attempts, before_applied, catalogue_at, committed, conditions_of, contains, each_has, eq-eqb, eqb-true, event_at, has_copy, in_attempts, is_applied, list_any, lt-ltb, ltb-true, map, member_passes, nat_lt, one_table, passes_member, refl, subst, sym, true, ℕ, ◌&&◌, ◌==◌, ◌∙◌, ◌≡◌}
+use Rattle.sdd_history_examples.proofs.All.{AllByRecursion, Attempt, Bool, Catalogue, Change, Committed, Cond, Contains, Entry, Eras, FragNo, History, IsCommitted, IsConditionOf, IsTable, KeepsConditions, List, TouchesOne, and_from, applied_before, arith, attempts, before_applied, catalogue_at, committed, conditions_of, contains, each_has, eq-eqb, eqb-true, event_at, has_copy, in_attempts, is_applied, list_any, lt-ltb, ltb-true, map, member_passes, nat_lt, one_table, passes_member, refl, true, ℕ, ◌&&◌, ◌==◌, ◌≡◌}
 use Rattle.sdd_history_examples.proofs.Each.{same, same_is, if_so, so, all_pairs, each_pair}
 use Rattle.sdd_history_examples.proofs.Listed.{AnswerAt, answers, in_answers}
 
@@ -27,17 +27,14 @@ HasTable cat eras h table a = IsTable (catalogue_at cat eras (event_at h a.place
 -- its conditions are those by that table
 by_table : (cat : Catalogue) (eras : Eras) (h : History) (table : ℕ → List Entry) (a : Attempt) (d : ℕ) (c : Cond) → HasTable cat eras h table a
     → IsConditionOf cat eras h a d c → Contains (conditions_of cat (table (event_at h a.place)) a d) c
-by_table cat eras h table a d c is of =
-    let at = event_at h a.place in
-    subst (λ (t : List Entry). Contains (conditions_of cat t a d) c) (one_table (catalogue_at cat eras at) of.table (table at) of.table_is is) of.there
+by_table cat eras h table a d c is of = grind (arith, one_table)
 
 touches_is : (cat : Catalogue) (x : Committed) (d : ℕ) (frags : List FragNo) → TouchesOne cat x d frags → touches_one cat x d frags ≡ true
 touches_is cat x d frags t =
     let m = member_passes (λ (c : Change). c.frag.0 == t.fragment) x.changes t.changed in
     let f : m.0.frag.0 ≡ t.fragment = eqb-true m.0.frag.0 t.fragment m.2 in
     passes_member (λ (c : Change). has_copy cat d c.frag.0 && contains (map (λ (f : FragNo). f.0) frags) c.frag.0) x.changes m.0 m.1
-    (and_from (has_copy cat d m.0.frag.0) (contains (map (λ (f : FragNo). f.0) frags) m.0.frag.0)
-    (ap (has_copy cat d) f ∙ t.copied) (ap (contains (map (λ (f : FragNo). f.0) frags)) f ∙ t.named))
+    (grind (arith, and_from, has_copy, contains))
 
 module _ (cat : Catalogue) (eras : Eras) (table : ℕ → List Entry) (h : History) (is : AllByRecursion (HasTable cat eras h table) (attempts h))
     (there : (t : Committed) → IsCommitted h t → Contains (committed h) t) (pass : conditions_met cat table h ≡ true)
@@ -56,8 +53,5 @@ module _ (cat : Catalogue) (eras : Eras) (table : ℕ → List Entry) (h : Histo
               let equal = same (is_applied h d k x.start.txn) (nat_lt x.start.ts c.time.0) in
               let one = so (x.start.class == c.class.0) (if_so (touches_one cat x d c.frags) equal) split (eq-eqb x.start.class c.class.0 class) in
               let two = so (touches_one cat x d c.frags) equal one (touches_is cat x d c.frags t) in
-              let both : is_applied h d k x.start.txn ≡ nat_lt x.start.ts c.time.0 = same_is (is_applied h d k x.start.txn) (nat_lt x.start.ts c.time.0) two in (
-                (λ b. ltb-true x.start.ts c.time.0 (sym both ∙ before_applied h x.start.txn d k b)),
-                (λ l. applied_before h x.start.txn d k (both ∙ lt-ltb x.start.ts c.time.0 l)),
-              );
+              let both : is_applied h d k x.start.txn ≡ nat_lt x.start.ts c.time.0 = same_is (is_applied h d k x.start.txn) (nat_lt x.start.ts c.time.0) two in (grind (arith, ltb-true, before_applied, applied_before, lt-ltb));
         }

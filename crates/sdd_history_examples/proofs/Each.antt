@@ -1,5 +1,5 @@
 -- Tests of the members of lists, and what they tell.
-use Rattle.sdd_history_examples.proofs.All.{Bool, Contains, Contains-cases, Contains-nil, Contains-range, List, [], and_parts, ap, arith, at_member, cond, contains, each_passes, false, inl, inr, list_all, not, numbers_to, refl, sym, true, ℕ, ◌∙◌, ◌∷◌, ◌≡◌, ◌≤◌}
+use Rattle.sdd_history_examples.proofs.All.{Bool, Contains, Contains-cases, Contains-nil, Contains-range, List, [], and_parts, ap, arith, at_member, cond, contains, each_passes, false, inl, inr, list_all, not, numbers_to, true, ℕ, ◌∙◌, ◌∷◌, ◌≡◌, ◌≤◌}
 
 -- a test that counts only where another passes
 abbrev pub if_so : Bool → Bool → Bool
@@ -7,17 +7,14 @@ if_so true b = b
 if_so false b = true
 
 pub so : (a b : Bool) → if_so a b ≡ true → a ≡ true → b ≡ true
-so true b e t = e
-so false b e t = absurd (cc)
+so a b e t = grind arith
 
 -- whether two tests tell the same
 abbrev pub same : Bool → Bool → Bool
 same a b = cond a b (not b)
 
 pub same_is : (a b : Bool) → same a b ≡ true → a ≡ b
-same_is true b e = sym e
-same_is false true e = absurd (cc)
-same_is false false e = refl
+same_is a b e = grind arith
 
 -- where all pass, each does
 pub each : {A : Type 0} (p : A → Bool) (xs : List A) (x : A) → list_all p xs ≡ true → Contains xs x → p x ≡ true

@@ -1,5 +1,5 @@
 -- A test that tells that what one class list submits is done before the next is in force.
-use Rattle.sdd_history_examples.proofs.All.{Attempt, Bool, Catalogue, Change, Committed, Contains, DmNo, Eras, GoesTo, History, IsAttempt, IsCommitted, IsOfEarlierEra, KeepsEras, and_from, and_parts, ap, applied_before, attempts, by_change, by_no_class, committed, eq-eqb, eqb-true, eras_begun, event_at, fragment_at, has_copy, in_attempts, is_applied, list_all, lt-ltb, ltb-true, member_passes, nat_lt, numbers_to, refl, subst, true, ℕ, ◌&&◌, ◌<◌, ◌==◌, ◌∙◌, ◌≡◌}
+use Rattle.sdd_history_examples.proofs.All.{Attempt, Bool, Catalogue, Change, Committed, Contains, DmNo, Eras, GoesTo, History, IsAttempt, IsCommitted, IsOfEarlierEra, KeepsEras, and_from, and_parts, ap, applied_before, arith, attempts, by_change, by_no_class, committed, eq-eqb, eqb-true, eras_begun, event_at, fragment_at, has_copy, in_attempts, is_applied, list_all, lt-ltb, ltb-true, member_passes, nat_lt, numbers_to, refl, subst, true, ℕ, ◌&&◌, ◌<◌, ◌==◌, ◌∙◌, ◌≡◌}
 use Rattle.sdd_history_examples.proofs.Each.{if_so, so, each, all_pairs, each_pair, each_to}
 use Rattle.sdd_history_examples.proofs.Listed.{submits, in_submits}
 
@@ -35,10 +35,9 @@ applied_everywhere : (cat : Catalogue) (h : History) (x : Committed) (k d : ℕ)
 applied_everywhere cat h x k d e (by_change t) =
     let both = and_parts (list_all (copies_applied cat h x k) x.changes) (if_so (x.start.class == 0) (list_all (λ d. is_applied h d k x.start.txn) (numbers_to cat.dms))) e in
     let m = member_passes (λ (c : Change). c.frag.0 == t.fragment) x.changes t.changed in
-    let all = each (copies_applied cat h x k) x.changes m.0 both.0 m.1 in
     let copied : has_copy cat d m.0.frag.0 ≡ true = ap (has_copy cat d) (eqb-true m.0.frag.0 t.fragment m.2) ∙ t.copied in
     let c = member_passes (λ (z : DmNo). z.0 == d) (fragment_at cat m.0.frag.0).copies copied in
-    let there = each (λ (z : DmNo). is_applied h z.0 k x.start.txn) (fragment_at cat m.0.frag.0).copies c.0 all c.1 in
+    let there = each (λ (z : DmNo). is_applied h z.0 k x.start.txn) (fragment_at cat m.0.frag.0).copies c.0 (each (copies_applied cat h x k) x.changes m.0 both.0 m.1) c.1 in
     subst (λ n. is_applied h n k x.start.txn ≡ true) (eqb-true c.0.0 d c.2) there
 applied_everywhere cat h x k d e (by_no_class z m) =
     let test : ℕ → Bool = λ d. is_applied h d k x.start.txn in
@@ -58,8 +57,7 @@ module _ (cat : Catalogue) (eras : Eras) (h : History) (there : (t : Committed) 
       (nat_lt x.start.ts y.start.ts && list_all (is_done cat h x y) (attempts h))) (submits h) (submits h) p q t
       (in_submits h x.start.txn e.first_place e.first_submitted) (in_submits h y.start.txn e.second_place e.second_submitted) in
       so (is_earlier eras h x y p q) last u
-      (and_from (x.start.txn == x.start.txn) ((y.start.txn == y.start.txn) && nat_lt n m) (eq-eqb x.start.txn x.start.txn refl)
-      (and_from (y.start.txn == y.start.txn) (nat_lt n m) (eq-eqb y.start.txn y.start.txn refl) (lt-ltb n m e.earlier)))
+      (grind (arith, and_from, nat_lt, eq-eqb, lt-ltb))
 
   done : (x y : Committed) (a : Attempt) → IsOfEarlierEra eras h x y → IsAttempt h a → a.txn ≡ y.start.txn → (x.place < a.place) × (all_applied cat h x a.place ≡ true)
   done x y a e p is =

@@ -1,5 +1,5 @@
 -- Tests that tell that what the laws speak of fits together.
-use Rattle.sdd_history_examples.proofs.All.{All, All-from_recursion, AllByRecursion, Answer, Apply, AreEras, AreFragments, Arrive, Bool, Catalogue, Change, ChangeExists, Commit, Cond, CondExists, Eras, ExistsIn, FitTogether, FitsStart, FitsTxn, FragNo, History, IsEraOf, List, NamesOneOf, Nothing, Pass, Rec, Reject, RelNo, Row, Some, Start, Submit, Txn, Use, UseExists, Wait, [], and_parts, era_of_itself, is_from_1_to, leb-true, length, list_all, nat_le, one_era, refl, same_Some, slice_get, subst, suc, true, zero, ℕ, ◌&&◌, ◌<◌, ◌∷◌, ◌≡◌, ◌≤◌}
+use Rattle.sdd_history_examples.proofs.All.{All, All-from_recursion, AllByRecursion, Answer, Apply, AreEras, AreFragments, Arrive, Bool, Catalogue, Change, ChangeExists, Commit, Cond, CondExists, Eras, ExistsIn, FitTogether, FitsStart, FitsTxn, FragNo, History, IsEraOf, List, NamesOneOf, Nothing, Pass, Rec, Reject, RelNo, Row, Some, Start, Submit, Txn, Use, UseExists, Wait, [], and_parts, arith, era_of_itself, is_from_1_to, leb-true, length, list_all, nat_le, one_era, refl, same_Some, slice_get, subst, suc, true, zero, ℕ, ◌&&◌, ◌<◌, ◌∷◌, ◌≡◌, ◌≤◌}
 use Rattle.sdd_laws.specs.All.{IsFrom1To}
 
 -- what a test tells of each member
@@ -29,17 +29,13 @@ module _ (cat : Catalogue) where
   is_use u = is_from_1_to (length cat.relations) u.rel.0 && are_fragments u.frags
 
   use_exists : (u : Use) → is_use u ≡ true → UseExists cat u
-  use_exists u e =
-      let both = and_parts (is_from_1_to (length cat.relations) u.rel.0) (are_fragments u.frags) e in
-      (from_1_to (length cat.relations) u.rel.0 both.0, frags_exist u.frags both.1)
+  use_exists u e = grind (arith, and_parts, are_fragments, from_1_to, frags_exist)
 
   abbrev is_cond : Cond → Bool
   is_cond c = nat_le c.class.0 (length cat.classes) && are_fragments c.frags
 
   cond_exists : (c : Cond) → is_cond c ≡ true → CondExists cat c
-  cond_exists c e =
-      let both = and_parts (nat_le c.class.0 (length cat.classes)) (are_fragments c.frags) e in
-      (leb-true c.class.0 (length cat.classes) both.0, frags_exist c.frags both.1)
+  cond_exists c e = grind (arith, and_parts, nat_le, are_fragments, leb-true, frags_exist)
 
   abbrev is_change : Change → Bool
   is_change c = is_from_1_to (length cat.fragments) c.frag.0
@@ -57,9 +53,7 @@ module _ (cat : Catalogue) where
   exists_in Nothing = true
 
   module_and_class : (d c : ℕ) → (is_from_1_to cat.dms d && nat_le c (length cat.classes)) ≡ true → IsFrom1To cat.dms d × (c ≤ length cat.classes)
-  module_and_class d c e =
-      let both = and_parts (is_from_1_to cat.dms d) (nat_le c (length cat.classes)) e in
-      (from_1_to cat.dms d both.0, leb-true c (length cat.classes) both.1)
+  module_and_class d c e = grind (arith, and_parts, nat_le, from_1_to, leb-true)
 
   pub exists : (r : Rec) → exists_in r ≡ true → ExistsIn cat r
   exists (Start txn attempt class ts p2 uses) e =
@@ -87,17 +81,6 @@ names_one_of count (Commit txn attempt reply changes values rows) = is_from_1_to
 names_one_of count (Apply txn class dm ts) = is_from_1_to count txn.0
 names_one_of count (Pass class dm time) = true
 names_one_of count Nothing = true
-
-names : (count : ℕ) (r : Rec) → names_one_of count r ≡ true → NamesOneOf count r
-names count (Submit txn) e = from_1_to count txn.0 e
-names count (Start txn attempt class ts p2 uses) e = from_1_to count txn.0 e
-names count (Arrive txn attempt dm) e = from_1_to count txn.0 e
-names count (Wait txn attempt dm conds) e = from_1_to count txn.0 e
-names count (Answer txn attempt dm) e = from_1_to count txn.0 e
-names count (Reject txn attempt dm class ts) e = from_1_to count txn.0 e
-names count (Commit txn attempt reply changes values rows) e = from_1_to count txn.0 e
-names count (Apply txn class dm ts) e = from_1_to count txn.0 e
-names count _ e = tt
 
 -- one catalogue from the beginning
 
@@ -128,5 +111,5 @@ fit_together cat eras rows txns h pass =
       txns_fit = All-from_recursion (FitsTxn cat) txns pass.txns_fit;
       numbers_exist = all_by (λ (e : ℕ × Rec). ExistsIn cat e.1) (λ e. exists_in cat e.1) (λ e t. exists cat e.1 t) h pass.numbers_exist;
       txns_exist = all_by (λ (e : ℕ × Rec). NamesOneOf (length txns) e.1) (λ e. names_one_of (length txns) e.1)
-          (λ e t. names (length txns) e.1 t) h pass.txns_exist;
+          (λ e t. (grind (arith, from_1_to))) h pass.txns_exist;
     }

@@ -1,5 +1,5 @@
 -- The Submits, Commits, Answers and Applies of a history, as lists.
-use Rattle.sdd_history_examples.proofs.All.{Answer, Apply, Attempt, Bool, Commit, Committed, CommittedBefore, Contains, Contains-filter_map, HasCommit, History, IsRecordAt, IsSubmitted, List, None, Option, Rec, Some, StartedBefore, Submit, and_parts, at_place, attempts, class_no, commit_of, committed, dm_no, eqb-true, filter_map, from_attempts, from_committed, list_any, ltb-true, member_passes, nat_lt, placed, refl, subst, time_at, true, txn_no, ℕ, ◌&&◌, ◌==◌, ◌≡◌}
+use Rattle.sdd_history_examples.proofs.All.{Answer, Apply, Bool, Commit, Committed, CommittedBefore, Contains, Contains-filter_map, HasCommit, History, IsRecordAt, IsSubmitted, List, None, Option, Rec, Some, StartedBefore, Submit, and_parts, arith, at_place, attempts, class_no, commit_of, committed, dm_no, eqb-true, filter_map, from_attempts, from_committed, list_any, ltb-true, member_passes, nat_lt, placed, refl, subst, time_at, true, txn_no, ℕ, ◌&&◌, ◌==◌, ◌≡◌}
 
 -- a transaction and the place of its Submit
 abbrev submit_of : ℕ × Rec → Option (ℕ × ℕ)
@@ -77,17 +77,7 @@ abbrev pub is_started : History → ℕ → ℕ → ℕ → Bool
 is_started h n number k = list_any (λ a. (a.txn == n) && ((a.number == number) && nat_lt a.place k)) (attempts h)
 
 pub started_before : (h : History) (n number k : ℕ) → is_started h n number k ≡ true → StartedBefore h n number k
-started_before h n number k e =
-    let r = member_passes (λ (a : Attempt). (a.txn == n) && ((a.number == number) && nat_lt a.place k)) (attempts h) e in
-    let one = and_parts (r.0.txn == n) ((r.0.number == number) && nat_lt r.0.place k) r.2 in
-    let two = and_parts (r.0.number == number) (nat_lt r.0.place k) one.1 in
-    record {
-      attempt = r.0;
-      started = from_attempts h r.0 r.1;
-      txn_is = eqb-true r.0.txn n one.0;
-      number_is = eqb-true r.0.number number two.0;
-      before = ltb-true r.0.place k two.1;
-    }
+started_before h n number k e = grind (arith, member_passes, nat_lt, and_parts, from_attempts, eqb-true, ltb-true)
 
 abbrev pub is_committed : History → ℕ → ℕ → Bool
 is_committed h n k = list_any (λ t. (t.start.txn == n) && nat_lt t.place k) (committed h)

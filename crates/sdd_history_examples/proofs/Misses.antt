@@ -1,6 +1,6 @@
 -- Neither of two transactions waits for the other, and each is answered before the other's put is applied: all laws but that
 -- of read conditions are kept, and each precedes the other.
-use Rattle.sdd_history_examples.proofs.All.{BreaksConditions, Committed, Cond, Contains-here, Ge, IsCommitted, KeepsConditions, Le, Rows, Some, [], before_applied, class_no, crossing, false≢true, frag_no, given_to, high_keys, lit<, lit≤, low_keys, misses_both, one_era, put, put_row, refl, table_of_crossing, time_at, two_of_both, values_by, ◌∷◌}
+use Rattle.sdd_history_examples.proofs.All.{BreaksConditions, Committed, Cond, Contains-here, Ge, IsCommitted, KeepsConditions, Le, Rows, Some, [], arith, before_applied, class_no, crossing, false≢true, frag_no, given_to, high_keys, lit<, low_keys, misses_both, one_era, put, put_row, refl, table_of_crossing, time_at, two_of_both, values_by, ◌∷◌}
 use Rattle.sdd_history_examples.proofs.Answers.{PassAnswers}
 use Rattle.sdd_history_examples.proofs.Applies.{PassApplies}
 use Rattle.sdd_history_examples.proofs.Fitting.{PassFit, are_eras}
@@ -15,10 +15,7 @@ fits =
     record {
       are_eras = are_eras crossing;
       rows_fit = tt;
-      txns_fit = (
-        two_fit 1 crossing.classes 1 (lit≤ tt, lit≤ tt) (values_by Le 9) (put_row 11 1) (values_fit 1 crossing.classes Le 9) (put_fits 1 crossing.classes 11 1),
-        (two_fit 1 crossing.classes 2 (lit≤ tt, lit≤ tt) (values_by Ge 10) (put_row 1 1) (values_fit 1 crossing.classes Ge 10) (put_fits 1 crossing.classes 1 1), tt),
-      );
+      txns_fit = grind (arith, two_fit, crossing, values_by, put_row, values_fit, put_fits);
       numbers_exist = refl;
       txns_exist = refl;
     }
@@ -89,8 +86,7 @@ not_split laws =
     laws.met second.start 1 4 condition first second_is.started refl
     (record { table = table_of_crossing; table_is = is_crossing; there = Contains-here condition [] }) first_is refl
     (record { fragment = 2; changed = refl; copied = refl; named = refl }) in
-    let seen = before_applied misses_both 1 1 4 (split.1 (lit< tt)) in
-    false≢true seen
+    false≢true (before_applied misses_both 1 1 4 (split.1 (lit< tt)))
 
 pub misses_both_breaks : BreaksConditions crossing (one_era crossing) [] two_of_both misses_both
 misses_both_breaks =
@@ -101,8 +97,5 @@ misses_both_breaks =
           (no_rejections crossing (one_era crossing) misses_both refl);
       broken = not_split;
       cycle = λ none.
-          none first (second ∷ []) (
-            record { first = first_is; second = second_is; precedes = refl },
-            record { first = second_is; second = first_is; precedes = refl },
-          );
+          none first (second ∷ []) (grind (arith, first, first_is, second, second_is));
     }

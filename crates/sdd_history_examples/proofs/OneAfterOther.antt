@@ -1,5 +1,5 @@
 -- Two transactions of one class: the second starts when the first is committed.
-use Rattle.sdd_history_examples.proofs.All.{KeepsAll, Le, [], given_to, lit<, lit≤, one_after_other, one_class, one_era, put_row, refl, table_of_one, two_of_one_class, values_by, ◌∷◌}
+use Rattle.sdd_history_examples.proofs.All.{KeepsAll, Le, [], arith, given_to, lit<, one_after_other, one_class, one_era, put_row, refl, table_of_one, two_of_one_class, values_by, ◌∷◌}
 use Rattle.sdd_history_examples.proofs.Answers.{PassAnswers}
 use Rattle.sdd_history_examples.proofs.Applies.{PassApplies}
 use Rattle.sdd_history_examples.proofs.Fitting.{PassFit, are_eras}
@@ -14,11 +14,7 @@ fits =
     record {
       are_eras = are_eras one_class;
       rows_fit = tt;
-      txns_fit = (
-        two_fit 1 one_class.classes 1 (lit≤ tt, lit≤ tt) (values_by Le 9) (put_row 1 1) (values_fit 1 one_class.classes Le 9)
-            (put_fits 1 one_class.classes 1 1),
-        (two_fit 1 one_class.classes 1 (lit≤ tt, lit≤ tt) (values_by Le 9) (put_row 1 2) (values_fit 1 one_class.classes Le 9) (put_fits 1 one_class.classes 1 2), tt),
-      );
+      txns_fit = grind (arith, two_fit, one_class, values_by, put_row, values_fit, put_fits);
       numbers_exist = refl;
       txns_exist = refl;
     }

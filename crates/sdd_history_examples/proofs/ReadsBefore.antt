@@ -1,5 +1,5 @@
 -- A put and a query that is answered before the put comes to its module.
-use Rattle.sdd_history_examples.proofs.All.{KeepsAll, Le, [], bridge, given_to, lit<, lit≤, one_era, put_and_query, put_row, reads_before, refl, table_of_bridge, values_by, ◌∷◌}
+use Rattle.sdd_history_examples.proofs.All.{KeepsAll, Le, [], arith, bridge, given_to, lit<, one_era, put_and_query, put_row, reads_before, refl, table_of_bridge, values_by, ◌∷◌}
 use Rattle.sdd_history_examples.proofs.Answers.{PassAnswers}
 use Rattle.sdd_history_examples.proofs.Applies.{PassApplies}
 use Rattle.sdd_history_examples.proofs.Fitting.{PassFit, are_eras}
@@ -14,10 +14,7 @@ fits =
     record {
       are_eras = are_eras bridge;
       rows_fit = tt;
-      txns_fit = (
-        one_fits 1 bridge.classes 1 (lit≤ tt, lit≤ tt) (put_row 1 7) (put_fits 1 bridge.classes 1 7),
-        (one_fits 1 bridge.classes 2 (lit≤ tt, lit≤ tt) (values_by Le 9) (values_fit 1 bridge.classes Le 9), tt),
-      );
+      txns_fit = grind (arith, one_fits, bridge, put_row, put_fits, values_by, values_fit);
       numbers_exist = refl;
       txns_exist = refl;
     }

@@ -1,5 +1,5 @@
 -- A transaction that no class covers runs between two of one class.
-use Rattle.sdd_history_examples.proofs.All.{KeepsAll, Le, [], given_to, lit<, lit≤, one_era, one_writer, put_row, refl, runs_alone, table_of_one, undeclared_between, values_by, ◌∷◌}
+use Rattle.sdd_history_examples.proofs.All.{KeepsAll, Le, [], arith, given_to, lit<, one_era, one_writer, put_row, refl, runs_alone, table_of_one, undeclared_between, values_by, ◌∷◌}
 use Rattle.sdd_history_examples.proofs.Answers.{PassAnswers}
 use Rattle.sdd_history_examples.proofs.Applies.{PassApplies}
 use Rattle.sdd_history_examples.proofs.Fitting.{PassFit, are_eras}
@@ -14,14 +14,7 @@ fits =
     record {
       are_eras = are_eras one_writer;
       rows_fit = tt;
-      txns_fit = (
-        one_fits 1 one_writer.classes 1 (lit≤ tt, lit≤ tt) (put_row 1 5) (put_fits 1 one_writer.classes 1 5),
-        (
-          two_fit 1 one_writer.classes 2 (lit≤ tt, lit≤ tt) (values_by Le 9) (put_row 11 5) (values_fit 1 one_writer.classes Le 9)
-              (put_fits 1 one_writer.classes 11 5),
-          (one_fits 1 one_writer.classes 1 (lit≤ tt, lit≤ tt) (put_row 1 6) (put_fits 1 one_writer.classes 1 6), tt),
-        ),
-      );
+      txns_fit = grind (arith, one_fits, one_writer, put_row, put_fits, two_fit, values_by, values_fit);
       numbers_exist = refl;
       txns_exist = refl;
     }

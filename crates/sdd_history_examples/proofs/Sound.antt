@@ -1,5 +1,5 @@
 -- The worked catalogues are valid.
-use Rattle.sdd_history_examples.proofs.All.{All-from_recursion, AreSound, Catalogue, IsSoundCatalogue, both_classes, bridge, crossing, further_classes, one_class, one_era, one_reader, one_writer, refl, two_eras, ℕ}
+use Rattle.sdd_history_examples.proofs.All.{All-from_recursion, AreSound, Catalogue, IsSoundCatalogue, arith, both_classes, bridge, crossing, further_classes, one_class, one_era, one_reader, one_writer, refl, two_eras, ℕ}
 use Rattle.sdd_laws.specs.catalog.Rules.{faults_of}
 
 -- one class list
@@ -50,5 +50,4 @@ pub sound_one_writer : AreSound one_writer (one_era one_writer)
 sound_one_writer = one_sound one_writer one_writer_is
 
 pub sound_both_classes : AreSound both_classes two_eras
-sound_both_classes =
-    record { whole = both_classes_are; each = All-from_recursion (λ (e : ℕ × Catalogue). IsSoundCatalogue e.1) two_eras (one_class_is, (further_classes_are, tt)) }
+sound_both_classes = grind (arith, both_classes_are, one_class_is, further_classes_are)

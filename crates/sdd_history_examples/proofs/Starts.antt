@@ -1,5 +1,5 @@
 -- Tests that tell that a history keeps the law of Starts.
-use Rattle.sdd_history_examples.proofs.All.{AllByRecursion, Attempt, Bool, Catalogue, Committed, CommittedBefore, Contains, Eras, HasCommit, History, IsAttempt, IsBound, IsCommitted, IsOfSubmit, IsSubmitted, KeepsStarts, List, Option, Some, Ts, Txn, and_parts, ap, arith, attempts, cases_lt, catalogue_at, class_for, committed, each_has, eq-eqb, eqb-true, event_at, false≢true, in_attempts, in_committed, inl, inr, is_some, list_all, lt-ltb, ltb-true, nat_lt, not, not-true, one_start, option_map, p2_time, refl, starts_before, subst, suc, sym, true, txn_at, unwrap_or, ℕ, ◌%◌, ◌&&◌, ◌<◌, ◌==◌, ◌∙◌, ◌≡◌, ◌≤◌}
+use Rattle.sdd_history_examples.proofs.All.{AllByRecursion, Attempt, Bool, Catalogue, Committed, CommittedBefore, Contains, Eras, HasCommit, History, IsAttempt, IsBound, IsCommitted, IsOfSubmit, IsSubmitted, KeepsStarts, List, Option, Some, Ts, Txn, and_parts, ap, arith, attempts, cases_lt, catalogue_at, class_for, committed, each_has, eq-eqb, eqb-true, event_at, in_attempts, in_committed, is_some, list_all, lt-ltb, ltb-true, nat_lt, not, not-true, one_start, option_map, p2_time, refl, starts_before, subst, suc, true, txn_at, unwrap_or, ℕ, ◌%◌, ◌&&◌, ◌<◌, ◌==◌, ◌∙◌, ◌≡◌, ◌≤◌}
 use Rattle.sdd_history_examples.proofs.Each.{same, same_is, if_so, so, each, all_pairs, each_pair}
 use Rattle.sdd_history_examples.proofs.Listed.{CommitAt, submits, in_submits, commits, in_commits, is_committed, committed_before}
 
@@ -39,11 +39,7 @@ pub record PassStarts (cat : Catalogue) (eras : Eras) (txns : List Txn) (h : His
   pub bound : list_all (is_bound (attempts h)) (attempts h) ≡ true
 
 not_below : (m n : ℕ) → not (nat_lt m n) ≡ true → n ≤ m
-not_below m n e =
-    elim (cases_lt m n) [
-      | inl l ↦ absurd (false≢true (sym (not-true (nat_lt m n) e) ∙ lt-ltb m n l))
-      | inr g ↦ omega arith
-    ]
+not_below m n e = grind (arith, cases_lt, not-true, nat_lt, lt-ltb)
 
 module _ (cat : Catalogue) (eras : Eras) (txns : List Txn) (h : History) (pass : PassStarts cat eras txns h) where
   numbered : (a : Attempt) → IsAttempt h a → a.number ≡ suc (starts_before h a.txn a.place)

@@ -1,5 +1,5 @@
 -- A query that comes after a later put is rejected, and starts again with a greater timestamp.
-use Rattle.sdd_history_examples.proofs.All.{Attempt, Committed, Cond, Contains-here, IsAgain, KeepsAll, KeepsRejections, Le, Rows, Some, Ts, [], arith, attempts, class_no, crossing, each_has, frag_no, given_to, in_attempts, lit<, lit≤, low_keys, one_era, put, put_row, query_and_put, refl, same_Some, starts_again, subst, table_of_crossing, time_at, values_by, ◌<◌, ◌∷◌, ◌≡◌}
+use Rattle.sdd_history_examples.proofs.All.{Attempt, Committed, Cond, Contains-here, IsAgain, KeepsAll, Le, Rows, Some, Ts, [], arith, class_no, crossing, each_has, frag_no, given_to, in_attempts, lit<, lit≤, low_keys, one_era, put, put_row, query_and_put, refl, same_Some, starts_again, subst, table_of_crossing, time_at, values_by, ◌<◌, ◌∷◌, ◌≡◌}
 use Rattle.sdd_history_examples.proofs.Answers.{PassAnswers}
 use Rattle.sdd_history_examples.proofs.Applies.{PassApplies}
 use Rattle.sdd_history_examples.proofs.Fitting.{PassFit, are_eras}
@@ -14,10 +14,7 @@ fits =
     record {
       are_eras = are_eras crossing;
       rows_fit = tt;
-      txns_fit = (
-        one_fits 1 crossing.classes 1 (lit≤ tt, lit≤ tt) (values_by Le 9) (values_fit 1 crossing.classes Le 9),
-        (one_fits 1 crossing.classes 2 (lit≤ tt, lit≤ tt) (put_row 1 1) (put_fits 1 crossing.classes 1 1), tt),
-      );
+      txns_fit = grind (arith, one_fits, crossing, values_by, values_fit, put_row, put_fits);
       numbers_exist = refl;
       txns_exist = refl;
     }
@@ -105,16 +102,8 @@ starts_since =
       below_bound = below;
     }
 
-rejections : KeepsRejections crossing (one_era crossing) starts_again
-rejections =
-    record {
-      again = λ a p.
-          each_has (λ a. 1 < a.number → IsAgain crossing (one_era crossing) starts_again a) (attempts starts_again) a
-          ((λ l. absurd (omega (arith, l))), ((λ l. absurd (omega (arith, l))), ((λ l. starts_since), tt))) (in_attempts starts_again a p);
-    }
-
 pub starts_again_keeps : KeepsAll crossing (one_era crossing) [] query_and_put starts_again
 starts_again_keeps =
     keeps_all crossing (one_era crossing) [] query_and_put starts_again
     (record { sound = sound_crossing; fit = fits; starts = starts; answers = answers; applies = applies; alone = refl; lists = record { apart = refl; one_era = refl } })
-    (λ event. table_of_crossing) (is_crossing, (is_crossing, (is_crossing, tt))) refl rejections
+    (λ event. table_of_crossing) (is_crossing, (is_crossing, (is_crossing, tt))) refl (grind (arith, again, each_has, starts_since, in_attempts))

@@ -1,5 +1,5 @@
 -- A query of two modules, which waits at both for the puts that are up to its time.
-use Rattle.sdd_history_examples.proofs.All.{KeepsAll, [], all_rows, given_to, lit<, lit≤, one_era, one_reader, put_row, refl, rows_of_two, table_of_one_reader, two_puts_and_query, waits_at_two, ◌∷◌}
+use Rattle.sdd_history_examples.proofs.All.{KeepsAll, [], all_rows, arith, given_to, lit<, one_era, one_reader, put_row, refl, rows_of_two, table_of_one_reader, two_puts_and_query, waits_at_two, ◌∷◌}
 use Rattle.sdd_history_examples.proofs.Answers.{PassAnswers}
 use Rattle.sdd_history_examples.proofs.Applies.{PassApplies}
 use Rattle.sdd_history_examples.proofs.Fitting.{PassFit, are_eras}
@@ -14,10 +14,7 @@ fits =
     record {
       are_eras = are_eras one_reader;
       rows_fit = (row_fits 2 one_reader.classes 1 0, (row_fits 2 one_reader.classes 11 0, tt));
-      txns_fit = (
-        two_fit 2 one_reader.classes 1 (lit≤ tt, lit≤ tt) (put_row 1 7) (put_row 11 7) (put_fits 2 one_reader.classes 1 7) (put_fits 2 one_reader.classes 11 7),
-        (one_fits 2 one_reader.classes 2 (lit≤ tt, lit≤ tt) all_rows (all_fit 2 one_reader.classes), tt),
-      );
+      txns_fit = grind (arith, two_fit, one_reader, put_row, put_fits, one_fits, all_rows, all_fit);
       numbers_exist = refl;
       txns_exist = refl;
     }

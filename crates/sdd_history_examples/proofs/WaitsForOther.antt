@@ -1,5 +1,5 @@
 -- Each of two transactions reads what the other writes, and the second waits for the first.
-use Rattle.sdd_history_examples.proofs.All.{Ge, KeepsAll, Le, [], crossing, given_to, lit<, lit≤, one_era, put_row, refl, table_of_crossing, two_of_both, values_by, waits_for_other, ◌∷◌}
+use Rattle.sdd_history_examples.proofs.All.{Ge, KeepsAll, Le, [], arith, crossing, given_to, lit<, one_era, put_row, refl, table_of_crossing, two_of_both, values_by, waits_for_other, ◌∷◌}
 use Rattle.sdd_history_examples.proofs.Answers.{PassAnswers}
 use Rattle.sdd_history_examples.proofs.Applies.{PassApplies}
 use Rattle.sdd_history_examples.proofs.Fitting.{PassFit, are_eras}
@@ -14,10 +14,7 @@ fits =
     record {
       are_eras = are_eras crossing;
       rows_fit = tt;
-      txns_fit = (
-        two_fit 1 crossing.classes 1 (lit≤ tt, lit≤ tt) (values_by Le 9) (put_row 11 1) (values_fit 1 crossing.classes Le 9) (put_fits 1 crossing.classes 11 1),
-        (two_fit 1 crossing.classes 2 (lit≤ tt, lit≤ tt) (values_by Ge 10) (put_row 1 1) (values_fit 1 crossing.classes Ge 10) (put_fits 1 crossing.classes 1 1), tt),
-      );
+      txns_fit = grind (arith, two_fit, crossing, values_by, put_row, values_fit, put_fits);
       numbers_exist = refl;
       txns_exist = refl;
     }

@@ -1,9 +1,6 @@
 -- The tables of the worked catalogues.
-use Rattle.sdd_history_examples.proofs.All.{All-from_recursion, Entry, IsSimpleCycle, IsTable, List, OnACycle, Some, Step, [], bridge, crossing, eq-eqb, false, false≢true, further_classes, inl, inr, lit≤, nat_lt, one_class, one_reader, one_writer, protocol_in, refl, same_Some, slice_get, suc, sym, table_of_bridge, table_of_crossing, table_of_one, table_of_one_reader, table_of_two, true, zero, ℕ, ◌==◌, ◌∙◌, ◌∷◌, ◌≡◌, ◌≢◌}
+use Rattle.sdd_history_examples.proofs.All.{All-from_recursion, Entry, IsTable, List, OnACycle, Some, Step, [], arith, bridge, crossing, eq-eqb, false, false≢true, further_classes, inl, inr, nat_lt, one_class, one_reader, one_writer, protocol_in, refl, same_Some, slice_get, suc, sym, table_of_bridge, table_of_crossing, table_of_one, table_of_one_reader, table_of_two, true, zero, ℕ, ◌==◌, ◌∷◌, ◌≡◌, ◌≢◌}
 use Rattle.sdd_history_examples.proofs.Blocks.{crosses_alone, no_blocks, IsNumbered, one_block}
-
-differ : (a b : ℕ) → (a == b) ≡ false → a ≢ b
-differ a b f e = false≢true (sym f ∙ eq-eqb a b e)
 
 true_false : true ≢ false
 true_false e = false≢true (sym e)
@@ -35,15 +32,6 @@ doubled = (0, 1) ∷ (2, 3) ∷ (2, 1) ∷ (2, 1) ∷ []
 abbrev there_and_back : List Step
 there_and_back = record { edge = 2; to = 1 } ∷ record { edge = 3; to = 2 } ∷ []
 
-doubled_cycle : IsSimpleCycle doubled 2 there_and_back
-doubled_cycle =
-    record {
-      closed = (inl refl, (inr refl, refl));
-      long = lit≤ tt;
-      edges_differ = ((λ h. elim h [ inl e ↦ differ 3 2 refl e | inr x ↦ x ]), ((λ h. h), tt));
-      nodes_differ = ((λ h. elim h [ inl e ↦ differ 2 1 refl e | inr x ↦ x ]), ((λ h. h), tt));
-    }
-
 doubled_number : (k b : ℕ) → slice_get (0 ∷ 0 ∷ 1 ∷ 1 ∷ []) k ≡ Some b → IsNumbered doubled there_and_back k b
 doubled_number zero b e = inl (sym (same_Some 0 b e), crosses_alone (λ n. n == 0) doubled 0 0 1 refl refl true_false)
 doubled_number (suc zero) b e = inl (sym (same_Some 0 b e), crosses_alone (λ n. nat_lt n 3) doubled 1 2 3 refl refl true_false)
@@ -55,10 +43,9 @@ pub is_one_reader : IsTable one_reader table_of_one_reader
 is_one_reader =
     record {
       edges = refl;
-      blocks = one_block doubled (0 ∷ 0 ∷ 1 ∷ 1 ∷ []) 2 there_and_back doubled_cycle refl doubled_number;
+      blocks = one_block doubled (0 ∷ 0 ∷ 1 ∷ 1 ∷ []) 2 there_and_back (grind (arith, eq-eqb)) refl doubled_number;
       protocols =
-          All-from_recursion (λ (e : Entry). e.protocol ≡ protocol_in table_of_one_reader e.edge e.block) table_of_one_reader
-          (refl, (refl, (refl, (refl, tt))));
+          grind (arith, protocol_in, table_of_one_reader);
     }
 
 -- A square.
@@ -69,42 +56,16 @@ square = (0, 1) ∷ (2, 3) ∷ (0, 3) ∷ (2, 1) ∷ []
 abbrev around : List Step
 around = record { edge = 0; to = 1 } ∷ record { edge = 3; to = 2 } ∷ record { edge = 1; to = 3 } ∷ record { edge = 2; to = 0 } ∷ []
 
-square_cycle : IsSimpleCycle square 0 around
-square_cycle =
-    record {
-      closed = (inl refl, (inr refl, (inl refl, (inr refl, refl))));
-      long = lit≤ tt;
-      edges_differ = (
-        (λ h. elim h [ inl e ↦ differ 3 0 refl e | inr (inl e) ↦ differ 1 0 refl e | inr (inr (inl e)) ↦ differ 2 0 refl e | inr (inr (inr x)) ↦ x ]),
-        (
-          (λ h. elim h [ inl e ↦ differ 1 3 refl e | inr (inl e) ↦ differ 2 3 refl e | inr (inr x) ↦ x ]),
-          ((λ h. elim h [ inl e ↦ differ 2 1 refl e | inr x ↦ x ]), ((λ h. h), tt)),
-        ),
-      );
-      nodes_differ = (
-        (λ h. elim h [ inl e ↦ differ 2 1 refl e | inr (inl e) ↦ differ 3 1 refl e | inr (inr (inl e)) ↦ differ 0 1 refl e | inr (inr (inr x)) ↦ x ]),
-        (
-          (λ h. elim h [ inl e ↦ differ 3 2 refl e | inr (inl e) ↦ differ 0 2 refl e | inr (inr x) ↦ x ]),
-          ((λ h. elim h [ inl e ↦ differ 0 3 refl e | inr x ↦ x ]), ((λ h. h), tt)),
-        ),
-      );
-    }
-
 square_number : (k b : ℕ) → slice_get (1 ∷ 1 ∷ 1 ∷ 1 ∷ []) k ≡ Some b → IsNumbered square around k b
-square_number zero b e = inr (sym (same_Some 1 b e), inl refl)
-square_number (suc zero) b e = inr (sym (same_Some 1 b e), inr (inr (inl refl)))
-square_number (suc (suc zero)) b e = inr (sym (same_Some 1 b e), inr (inr (inr (inl refl))))
-square_number (suc (suc (suc zero))) b e = inr (sym (same_Some 1 b e), inr (inl refl))
-square_number (suc (suc (suc (suc k)))) b e = absurd (cc)
+square_number k b e = grind (arith, same_Some)
 
 pub is_crossing : IsTable crossing table_of_crossing
 is_crossing =
     record {
       edges = refl;
-      blocks = one_block square (1 ∷ 1 ∷ 1 ∷ 1 ∷ []) 0 around square_cycle refl square_number;
+      blocks = one_block square (1 ∷ 1 ∷ 1 ∷ 1 ∷ []) 0 around (grind (arith, eq-eqb)) refl square_number;
       protocols =
-          All-from_recursion (λ (e : Entry). e.protocol ≡ protocol_in table_of_crossing e.edge e.block) table_of_crossing
-          (refl, (refl, (refl, (refl, tt))));
+          grind (arith, protocol_in, table_of_crossing);
     }
 
 -- One edge.
@@ -117,20 +78,10 @@ edge_number zero b e = (sym (same_Some 0 b e), crosses_alone (λ n. n == 0) edge
 edge_number (suc k) b e = absurd (cc)
 
 pub is_one_class : IsTable one_class table_of_one
-is_one_class =
-    record {
-      edges = refl;
-      blocks = no_blocks edge (0 ∷ []) refl edge_number;
-      protocols = All-from_recursion (λ (e : Entry). e.protocol ≡ protocol_in table_of_one e.edge e.block) table_of_one (refl, tt);
-    }
+is_one_class = grind (arith, no_blocks, edge, edge_number)
 
 pub is_one_writer : IsTable one_writer table_of_one
-is_one_writer =
-    record {
-      edges = refl;
-      blocks = no_blocks edge (0 ∷ []) refl edge_number;
-      protocols = All-from_recursion (λ (e : Entry). e.protocol ≡ protocol_in table_of_one e.edge e.block) table_of_one (refl, tt);
-    }
+is_one_writer = grind (arith, no_blocks, edge, edge_number)
 
 -- Two edges that don't meet.
 
@@ -143,9 +94,4 @@ apart_number (suc zero) b e = (sym (same_Some 0 b e), crosses_alone (λ n. n == 
 apart_number (suc (suc k)) b e = absurd (cc)
 
 pub is_further_classes : IsTable further_classes table_of_two
-is_further_classes =
-    record {
-      edges = refl;
-      blocks = no_blocks apart (0 ∷ 0 ∷ []) refl apart_number;
-      protocols = All-from_recursion (λ (e : Entry). e.protocol ≡ protocol_in table_of_two e.edge e.block) table_of_two (refl, (refl, tt));
-    }
+is_further_classes = grind (arith, no_blocks, apart, apart_number)

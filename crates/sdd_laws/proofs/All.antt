@@ -18,7 +18,7 @@ pub use Rattle.sdd_eras.specs.EraOf.{IsEraOf}
 pub use Rattle.sdd_graph.specs.Graph.{classes_of, fragments_of}
 pub use Rattle.sdd_history.specs.Records.{History}
 pub use Rattle.sdd_history.specs.declared.record.Rec.{Rec}
-pub use Rattle.sdd_history.specs.declared.record.Rec.TheVariants.{Answer, Apply, Commit, Start, Submit}
+pub use Rattle.sdd_history.specs.declared.record.Rec.TheVariants.{Answer, Apply, Commit, Start}
 pub use Rattle.sdd_lang.proofs.EffectChanges.{change_is, effect_once, effect_placed, entry_placed, lie_in_write_set}
 pub use Rattle.sdd_lang.proofs.ReadSetDecides.{ascending_back, read_set_decides}
 pub use Rattle.sdd_lang.proofs.Sets.{All-ascending, IsThere, read_set_there}
@@ -26,12 +26,12 @@ pub use Rattle.sdd_lang.proofs.SortedEntries.{filtered_sorted, inserted_sorted, 
 pub use Rattle.sdd_lang.proofs.StatementSets.{numbers_back}
 pub use Rattle.sdd_lang.proofs.StaysDatabase.{no_database, stays_database, with_row_stays}
 pub use Rattle.sdd_lang.proofs.base.Membership.{Contains-cases, Contains-here, Contains-later, Contains-nil}
-pub use Rattle.sdd_lang.proofs.catalog.Found.{each_unfound, empty_of_map}
+pub use Rattle.sdd_lang.proofs.catalog.Found.{each_unfound}
 pub use Rattle.sdd_lang.proofs.catalog.Members.{IsIn, at_in}
 pub use Rattle.sdd_lang.proofs.catalog.RoundTrip.{each_more}
 pub use Rattle.sdd_lang.proofs.catalog.Sound.{at_number, each_image, served_read, sound_fragments}
 pub use Rattle.sdd_lang.proofs.catalog.Validity.{no_faults}
-pub use Rattle.sdd_lang.specs.All.{Catalogue, Change, Cond, Database, DmNo, FitsStatement, FitsTxn, FragNo, Fragment, FragmentPart, HasRow, IsChange, IsDatabase, IsEntry, IsSoundCatalogue, Item, Parts, PutsHeld, RelNo, Row, Ts, TxnNo, accounts, after_changes, ascending, changed_by, class_for, class_no, contains, database_of, dm_no, effect, frag_no, fragment_at, fragment_from, fragment_of, fragment_rules, fragments_in, get_all, has_copy, item_cmp, item_of, lowest_copy, numbers_to, parts_of, read_set, reads_at, rel, relation_names, rows_in_fragment, serial, set_to, time_at, tm_no, two, txn, txn_no, uses_of, write_set}
+pub use Rattle.sdd_lang.specs.All.{Catalogue, Change, Cond, Database, DmNo, FitsTxn, FragNo, Fragment, FragmentPart, HasRow, IsChange, IsDatabase, IsEntry, IsSoundCatalogue, Item, Parts, PutsHeld, RelNo, Row, Ts, TxnNo, accounts, after_changes, ascending, changed_by, class_no, contains, database_of, dm_no, effect, frag_no, fragment_at, fragment_from, fragment_of, fragments_in, get_all, has_copy, item_cmp, item_of, lowest_copy, numbers_to, parts_of, read_set, reads_at, rel, relation_names, rows_in_fragment, serial, set_to, time_at, tm_no, two, txn, txn_no, uses_of, write_set}
 pub use Rattle.sdd_lang.specs.declared.effect.Effect.{Effect}
 pub use Rattle.sdd_lang.specs.declared.statement.Stmt.{Stmt}
 pub use Rattle.sdd_lang.specs.declared.statement.Stmt.TheVariants.{Put}
@@ -40,7 +40,7 @@ pub use Rattle.sdd_laws.specs.Agreeing.{AgreeOnFragment}
 pub use Rattle.sdd_laws.specs.Answers.{KeepsAnswers}
 pub use Rattle.sdd_laws.specs.Applies.{IsEarlier, KeepsApplies}
 pub use Rattle.sdd_laws.specs.Committed.{Writers, all_dated, changes_of, copy_of, counts, entries_of, first_row, puts, taken}
-pub use Rattle.sdd_laws.specs.Conditions.{IsConditionOf, KeepsConditions, conditions_of}
+pub use Rattle.sdd_laws.specs.Conditions.{KeepsConditions, conditions_of}
 pub use Rattle.sdd_laws.specs.Copied.{AreAppliedAlike}
 pub use Rattle.sdd_laws.specs.Deeds.{AppliedBefore, Asks, IsAnswered, IsApplied, IsSubmitted, Touches, TouchesOne, txn_at}
 pub use Rattle.sdd_laws.specs.Deeds.Asks.{by_no_class as at_each, by_use}
@@ -77,15 +77,14 @@ pub use Rattle.sdd_protocol.proofs.Tables.{all_at}
 pub use Rattle.sdd_protocol.specs.Conditions.{asked_by, cond_for, cond_of, condition_on, conditions, is_asked, undeclared_conditions}
 pub use Rattle.sdd_protocol.specs.Protocols.{IsTable}
 pub use Rattle.sdd_protocol.specs.declared.entry.Entry.{Entry}
-pub use Rattle.sdd_protocol.specs.declared.protocol.Protocol.TheVariants.{P2, P3}
-pub use Rattle.std.proofs.Common.{All, Bool, Contains, Less, List, None, Option, Ordering, Some, [], ap, arith, cond, eq-eqb, eqb-true, false, filter, filter_map, find, flat_map, fold, inl, inr, int_cmp, is_eq, is_some, length, lit≤, ltb-true, map, nat_eq as eqb, nat_lt, ne_eqb, not, option_map, pos, refl, rules, slice_get, slice_index_or, subst, suc, sym, take, true, unwrap_or, zero, ℕ, ℤ, ◌&&◌, ◌*◌, ◌++◌, ◌+◌, ◌-◌, ◌<◌, ◌==◌, ◌||◌, ◌↔◌, ◌∙◌, ◌∷◌, ◌≡◌, ◌≢◌, ◌≤◌, ◌⊎◌}
+pub use Rattle.std.proofs.Common.{All, Bool, Contains, Less, List, None, Option, Ordering, Some, [], ap, arith, cond, eq-eqb, eqb-true, false, filter, filter_map, find, flat_map, fold, inl, inr, int_cmp, is_eq, is_some, length, ltb-true, map, nat_eq as eqb, nat_lt, ne_eqb, not, option_map, pos, refl, rules, slice_index_or, subst, suc, sym, take, true, unwrap_or, zero, ℕ, ℤ, ◌&&◌, ◌*◌, ◌++◌, ◌+◌, ◌-◌, ◌<◌, ◌==◌, ◌||◌, ◌↔◌, ◌∙◌, ◌∷◌, ◌≡◌, ◌≢◌, ◌≤◌, ◌⊎◌}
 pub use Rattle.std.proofs.lemmas.Bool.{and_from as and_of, and_parts, cases_Bool, cases_lt, eqb-false, false≢true, not-true, or_left, or_right}
 pub use Rattle.std.proofs.lemmas.Bool.Decides.{Decides-eqb, nat_tests}
 pub use Rattle.std.proofs.lemmas.Cmp.{eq_by_cmp_equiv, int_cmp_total, tied_itself}
 pub use Rattle.std.proofs.lemmas.List.{length-map}
 pub use Rattle.std.proofs.lemmas.List.Elements.{All-contains, All-from_recursion, All-nil, Contains-append_cases, Contains-append_left, Contains-append_right, recursion_from_All}
 pub use Rattle.std.proofs.lemmas.Map.{lookup-remove_entry}
-pub use Rattle.std.proofs.lemmas.Map.Keys.{IsDistinct-from_sorted, sorted_head, sorted_tail}
+pub use Rattle.std.proofs.lemmas.Map.Keys.{IsDistinct-cons, IsDistinct-from_sorted, sorted_head, sorted_tail}
 pub use Rattle.std.proofs.lemmas.Map.Lookups.{CmpEqualImpliesEq, exact_signed}
 pub use Rattle.std.proofs.lemmas.Map.Made.{length-le_from_is_member}
 pub use Rattle.std.proofs.lemmas.Map.Views.{Contains-from_lookup, lookup-from_Contains, tells_apart}

@@ -17,18 +17,14 @@ passes_before p (x ∷ h) (suc k) e =
       | inl t ↦ record { place = 0; rec = x.1; is_recorded = refl; passes = t; before = omega arith }
       | inr t ↦
           let r = passes_before p h k t in
-          let l = r.before in
-          record { place = suc r.place; rec = r.rec; is_recorded = r.is_recorded; passes = r.passes; before = omega arith }
+          record { place = suc r.place; rec = r.rec; is_recorded = r.is_recorded; passes = r.passes; before = omega (arith, r.before) }
     ]
 passes_before p _ _ e = absurd (cc)
 
 before_passes : (p : Rec → Bool) (h : History) (k j : ℕ) (r : Rec) → IsRecordAt h j r → p r ≡ true → j < k
     → list_any (λ e. p e.1) (take k h) ≡ true
-before_passes p [] k j r s t l = absurd (cc)
-before_passes p (x ∷ h) zero j r s t l = absurd (omega arith)
-before_passes p (x ∷ h) (suc k) zero r s t l = cc
-before_passes p (x ∷ h) (suc k) (suc j) r s t l =
-    or_right (p x.1) (list_any (λ e. p e.1) (take k h)) (before_passes p h k j r s t (omega arith))
+before_passes p (x ∷ h) (suc k) (suc j) r s t l = grind (arith, or_right, list_any, (before_passes p h k j r s t (omega arith)))
+before_passes p h k j r s t l = grind arith
 
 pub applied_before : (h : History) (n d k : ℕ) → is_applied h d k n ≡ true → AppliedBefore h n d k
 applied_before h n d k e =
@@ -41,13 +37,6 @@ before_applied h n d k a =
     before_passes (is_apply n d) h k a.place _ a.applied.is_recorded (apply_passes n d a.applied.class a.applied.ts)
     a.before
 
--- tests that follow from one another are the same
-same_test : (a b : Bool) → (a ≡ true → b ≡ true) → (b ≡ true → a ≡ true) → a ≡ b
-same_test a b f g = grind arith
-
 pub applied_alike : (h : History) (n a j b k : ℕ) → AppliedBefore h n a j ↔ AppliedBefore h n b k
     → is_applied h a j n ≡ is_applied h b k n
-applied_alike h n a j b k alike =
-    same_test (is_applied h a j n) (is_applied h b k n)
-    (λ e. before_applied h n b k (alike.0 (applied_before h n a j e)))
-    (λ e. before_applied h n a j (alike.1 (applied_before h n b k e)))
+applied_alike h n a j b k alike = grind (arith, before_applied, applied_before)

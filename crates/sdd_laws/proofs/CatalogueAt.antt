@@ -9,7 +9,5 @@ begun_few (e ∷ eras) event = grind (arith, begun_few eras event)
 pub era_is : (cat : Catalogue) (eras : Eras) → AreEras cat eras → (event : ℕ) → IsEraOf cat (catalogue_at cat eras event)
 era_is cat eras are event =
     let k = eras_begun eras event - 1 in
-    let some = slice_get_within eras 0 (0, are.first.0) are.first.1 in
-    let few = begun_few eras event in
-    let within : k < length eras = omega arith in
+    let within : k < length eras = omega (arith, begun_few eras event, slice_get_within eras 0 (0, are.first.0) are.first.1) in
     are.each k (get_or eras k (0, cat)) (slice_get-get_or eras k (0, cat) within)

@@ -1,5 +1,5 @@
 -- The entries that a copy gives a database: they ascend, each comes from a dated change, and lies in the fragment.
-use Rattle.sdd_laws.proofs.All.{AllByRecursion, ArePlaced, Catalogue, Change, Contains, Dated, Decides-eqb, IsStrictlySortedBy, Item, Less, List, Row, Some, [], ap, contents, entries_of, fragment_at, fragment_of, int_cmp, item_cmp, item_of, keys_of, map, rules, sorted_head, sorted_nil, sorted_tail, sym, ℕ, ℤ, ◌==◌, ◌∙◌, ◌∷◌, ◌≡◌}
+use Rattle.sdd_laws.proofs.All.{AllByRecursion, ArePlaced, Catalogue, Change, Contains, Dated, IsStrictlySortedBy, Item, Less, List, Row, Some, [], ap, arith, contents, entries_of, fragment_at, fragment_of, int_cmp, item_cmp, keys_of, map, nat_tests, rules, sorted_head, sorted_nil, sorted_tail, sym, ℕ, ℤ, ◌==◌, ◌∙◌, ◌∷◌, ◌≡◌}
 use Rattle.sdd_laws.proofs.Latest.{contents_ascend, contents_left}
 use Rattle.sdd_laws.proofs.LookUps.{sorted_cons}
 use Rattle.sdd_laws.proofs.Members.{Contains-from_map, Contains-from_filter}
@@ -39,15 +39,11 @@ held_by cat f xs e h =
     let d : ℤ × Row = m.0 in
     let l = contents_left f xs d.0 d.1 m.1 in
     let k = Contains-from_filter (λ (x : ℕ × Change). x.1.frag.0 == f) xs l.0 l.1.among in
-    let key : ◌≡◌ {A = Item} ((fragment_at cat f).rel.0, (l.0).1.key) e.0 =
-    ap (λ k. ((fragment_at cat f).rel.0, k)) l.1.own ∙ ap (λ (z : Item × Row). z.0) (sym m.2) in
-    (l.0, record { there = k.0; frag = (Decides-eqb (l.0).1.frag.0 f).0 k.1; item = key; row = l.2 ∙ ap (λ (z : Item × Row). Some z.1) (sym m.2) })
+    grind (arith, nat_tests, fragment_at)
 
 -- so it lies in the fragment
 pub lies_there : (cat : Catalogue) (f : ℕ) (xs : Dated) (e : Item × Row) → ArePlaced cat xs
     → Contains (entries_of cat f (contents f xs)) e → fragment_of cat e.0.0 e.0.1 ≡ f
 lies_there cat f xs e placed h =
     let g = held_by cat f xs e h in
-    let item : item_of cat (g.0).1 ≡ e.0 =
-    ap (λ n. ((fragment_at cat n).rel.0, (g.0).1.key)) g.1.frag ∙ g.1.item in
-    sym (fragment_is cat xs e.0 g.0 placed g.1.there item) ∙ g.1.frag
+    sym (fragment_is cat xs e.0 g.0 placed g.1.there (ap (λ n. ((fragment_at cat n).rel.0, (g.0).1.key)) g.1.frag ∙ g.1.item)) ∙ g.1.frag

@@ -29,8 +29,6 @@ pub any_order : {T : Type 0} (cat : Catalogue) → IsSoundCatalogue cat → (fir
     applied f
 any_order {T} cat sound first w commits applied f xs is writers same =
     let txns : List T = filter applied commits in
-    let within : (t : T) → Contains txns t → Contains commits t =
-    λ t h. (Contains-from_filter applied commits t h).0 in
     sym
     (order_tells_nothing f (all_dated cat first w txns) xs
-    (dates_differ cat first w sound is commits writers txns within) same)
+    (dates_differ cat first w sound is commits writers txns (λ t h. (Contains-from_filter applied commits t h).0)) same)

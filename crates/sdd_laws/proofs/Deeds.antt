@@ -1,5 +1,5 @@
 -- What the laws say of a history, as the deeds of its committed transactions.
-use Rattle.sdd_laws.proofs.All.{AppliedBefore, Applies, AreEras, Asks, Attempt, Catalogue, Committed, Deeds, Eras, ErasApart, History, IsAnswered, IsApplied, IsAttempt, IsCommitted, IsEarlier, IsModule, IsOfEarlierEra, IsSoundCatalogue, IsSubmitted, KeepsAnswers, KeepsApplies, KeepsEras, KeepsStarts, KeepsUndeclared, List, Option, RelNo, Row, Some, Starts, Touches, Ts, Txn as Text, ZeroAlone, ap, arith, at_each, by_change, by_no_class, by_use, cases_lt, changes, commit_of, eras_begun, event_at, has_copy, inl, inr, is_some, module_of, ne_eqb, not, one_of_txn, one_submitted, option_map, p2_time, reads, refl, same_start, subst, sym, true, unwrap_or, ℕ, ◌<◌, ◌==◌, ◌∙◌, ◌≡◌, ◌≤◌}
+use Rattle.sdd_laws.proofs.All.{AppliedBefore, Applies, AreEras, Asks, Attempt, Catalogue, Committed, Deeds, Eras, ErasApart, History, IsAnswered, IsApplied, IsAttempt, IsCommitted, IsEarlier, IsModule, IsOfEarlierEra, IsSoundCatalogue, IsSubmitted, KeepsAnswers, KeepsApplies, KeepsEras, KeepsStarts, KeepsUndeclared, List, Option, RelNo, Row, Some, Starts, Touches, Ts, Txn as Text, ZeroAlone, ap, arith, at_each, by_change, by_no_class, by_use, cases_lt, changes, commit_of, eras_begun, event_at, has_copy, inl, inr, is_some, module_of, nat_tests, ne_eqb, not, one_of_txn, one_submitted, option_map, p2_time, reads, refl, same_start, sym, true, unwrap_or, ℕ, ◌<◌, ◌==◌, ◌∙◌, ◌≡◌, ◌≤◌}
 use Rattle.sdd_laws.proofs.NumberedStarts.{one_start}
 use Rattle.sdd_laws.proofs.Reading.{reads_there}
 use Rattle.sdd_acyclic.specs.Deeds.{Txn}
@@ -46,30 +46,20 @@ module _ (cat : Catalogue) (sound : IsSoundCatalogue cat) (eras : Eras) (are : A
     same : (x y : Txn (deeds cat h)) → x.no.txn.start.txn ≡ y.no.txn.start.txn → x.no ≡ y.no
     same x y e =
         let txn : x.no.txn ≡ y.no.txn = same_txn x.no.txn y.no.txn x.is.committed y.is.committed e in
-        let submit : x.no.submit ≡ y.no.submit =
-        starting.one_submit y.no.txn.start.txn x.no.submit y.no.submit (subst (λ n. IsSubmitted h n x.no.submit) e x.is.submitted) y.is.submitted in
-        λ i. record { txn = txn i; submit = submit i }
-
-    -- the Start of an attempt stands before what stands behind some Start of its number
-    start_before : (a b : Attempt) (k : ℕ) → IsAttempt h a → IsAttempt h b → a.txn ≡ b.txn → a.number ≡ b.number → a.place < k → b.place < k
-    start_before a b k p q t n l = let e = one_start h starting.numbered a b p q t n in omega arith
+        grind (arith, nat_tests)
 
     pub starts_first : (t : Committed) → IsCommitted h t → t.start.place < t.place
     starts_first t p =
         let s = answering.commit_after t.start.txn t.start.number t.place (commit_of h t p) in
-        start_before s.attempt t.start t.place s.started p.started s.txn_is s.number_is s.before
+        (let e = one_start h starting.numbered s.attempt t.start s.started p.started s.txn_is s.number_is in omega arith)
 
     pub answer_after : (a : Attempt) (d k : ℕ) → IsAttempt h a → IsAnswered h a d k → a.place < k
-    answer_after a d k p q =
-        let s = answering.answer_after a.txn a.number d k q in
-        start_before s.attempt a k s.started p s.txn_is s.number_is s.before
+    answer_after a d k p q = grind (arith, one_start)
 
     pub apply_after : (t : Committed) (d k : ℕ) → IsCommitted h t → IsApplied h t.start.txn d k → t.place < k
     apply_after t d k p q =
         let s = applying.of_commit t.start.txn q.class d q.ts k q.is_recorded in
-        let e : s.committed.place ≡ t.place = ap (λ (z : Committed). z.place) (same_txn s.committed t s.is_committed p s.txn_is) in
-        let l = s.before in
-        omega arith
+        omega (arith, ap (λ (z : Committed). z.place) (same_txn s.committed t s.is_committed p s.txn_is))
 
     times_rise : (a b : Attempt) → IsAttempt h a → IsAttempt h b → a.class ≡ b.class → a.place ≤ b.place → a.ts ≤ b.ts
     times_rise a b p q c l = grind arith
@@ -81,13 +71,9 @@ module _ (cat : Catalogue) (sound : IsSoundCatalogue cat) (eras : Eras) (are : A
               let declared : not (b.class == 0) ≡ true = ap not (ne_eqb b.class 0 (λ z. absurd (omega arith))) in
               let own = p2_is b.p2 (starting.bound_there b q ∙ declared) in
               let bound = (starting.bound b own.0 q own.1).above a p c m in
-              let time : p2_time b ≡ own.0.0 = ap (λ o. unwrap_or (option_map (λ (t : Ts). t.0) o) 0) own.1 in
-              let low = bound.1 in
-              omega arith
+              grind (arith, nat_tests, p2_time, unwrap_or, option_map)
           | inr m ↦
-              let e : p2_time a ≡ p2_time b =
-              ap (λ o. unwrap_or (option_map (λ (t : Ts). t.0) o) 0) (same_start h a b p q (omega arith)).p2 in
-              omega arith
+              grind (arith, p2_time, unwrap_or, option_map, same_start)
         ]
 
     -- one starts when those that were submitted before it in its class are committed
@@ -95,14 +81,13 @@ module _ (cat : Catalogue) (sound : IsSoundCatalogue cat) (eras : Eras) (are : A
     in_turn x y c l =
         let first = x.no.txn.start in
         let s = starting.submitted first x.is.committed.started in
-        let at : s.place ≡ x.no.submit = starting.one_submit first.txn s.place x.no.submit s.submitted x.is.submitted in
         let before =
         starting.after_earlier y.no.txn.start first.txn s.place y.no.submit s.txn y.is.committed.started y.is.submitted s.submitted
-        (omega arith) s.txn_is (sym s.class_is ∙ c) in
+        (omega (arith, starting.one_submit first.txn s.place x.no.submit s.submitted x.is.submitted)) s.txn_is (sym s.class_is ∙ c) in
         let e : before.place ≡ x.no.txn.place =
         starting.one_commit first.txn before.number first.number before.place x.no.txn.place before.commit (commit_of h x.no.txn x.is.committed) in
         let m = before.before in
-        omega arith
+        omega (arith, starting.one_submit first.txn s.place x.no.submit s.submitted x.is.submitted)
 
     answered_there : (x : Txn (deeds cat h)) (d : ℕ) → Asks cat x.no.txn.start d → core.AnsweredBefore (deeds cat h) x.no d x.no.txn.place
     answered_there x d a =
@@ -113,13 +98,8 @@ module _ (cat : Catalogue) (sound : IsSoundCatalogue cat) (eras : Eras) (are : A
     are_starts =
         record {
           same = same;
-          one_time = λ x y e.
-              let a = x.no.txn.start in
-              let b = y.no.txn.start in
-              (same_start h a b x.is.committed.started y.is.committed.started (starting.one_time a b x.is.committed.started y.is.committed.started e)).txn;
-          one_submit = λ x y e.
-              one_submitted h x.no.txn.start.txn y.no.txn.start.txn x.no.submit x.is.submitted
-              (subst (λ k. IsSubmitted h y.no.txn.start.txn k) (sym e) y.is.submitted);
+          one_time = grind (arith, same_start);
+          one_submit = grind (arith, nat_tests, one_submitted);
           times_rise = λ x y. times_rise x.no.txn.start y.no.txn.start x.is.committed.started y.is.committed.started;
           bounds_rise = λ x y. bounds_rise x.no.txn.start y.no.txn.start x.is.committed.started y.is.committed.started;
           in_turn = in_turn;
@@ -147,8 +127,7 @@ module _ (cat : Catalogue) (sound : IsSoundCatalogue cat) (eras : Eras) (are : A
     are_applies =
         record {
           apply_after = λ x d p. apply_after x.no.txn d p x.is.committed;
-          in_order = λ x y d p c l t a.
-              applied x.no d p (applying.none_left_out x.no.txn y.no.txn d p (is_earlier x y c l) (touches x.no d t) a);
+          in_order = grind (arith, applied, is_earlier, touches);
           after_earlier = λ x y d p c l t a.
               applied x.no d p (applying.has_earlier x.no.txn y.no.txn d p (is_earlier x y c l) (touches x.no d t) a);
           before_later = λ x y d p q c l a b.
@@ -164,10 +143,7 @@ module _ (cat : Catalogue) (sound : IsSoundCatalogue cat) (eras : Eras) (are : A
             | inl l ↦ inl (record {
               time = l.time;
               commits = l.committed;
-              applies = λ d f p e a. applied t.no d p (l.applied d p (elim e [
-                | inl k ↦ by_change (touches t.no d k)
-                | inr k ↦ by_no_class k.0 k.1.1
-              ]) a);
+              applies = λ d f p e a. applied t.no d p (grind (arith, by_change, touches, by_no_class));
             })
             | inr g ↦ inr (record { time = g.time; applies = λ d f k. applied u.no d t.no.txn.start.place (g.applied d k.1) })
           ];
@@ -180,16 +156,7 @@ module _ (cat : Catalogue) (sound : IsSoundCatalogue cat) (eras : Eras) (are : A
     era_of x = eras_begun eras (event_at h x.submit)
 
     of_earlier_era : (x y : Txn (deeds cat h)) → era_of x.no < era_of y.no → IsOfEarlierEra eras h x.no.txn y.no.txn
-    of_earlier_era x y l =
-        record {
-          first = x.is.committed;
-          second = y.is.committed;
-          first_place = x.no.submit;
-          second_place = y.no.submit;
-          first_submitted = x.is.submitted;
-          second_submitted = y.is.submitted;
-          earlier = l;
-        }
+    of_earlier_era x y l = grind arith
 
     pub are_apart : KeepsEras cat eras h → ErasApart (deeds cat h) era_of
     are_apart kept =

@@ -1,5 +1,5 @@
 -- A transaction starts again only since another one was committed: each Start but the first has a writer of its own.
-use Rattle.sdd_laws.proofs.All.{AllByRecursion, AreFew, Attempt, Bool, Catalogue, Commit, Committed, Eras, History, IsAgain, IsAttempt, IsCommitted, IsRecordAt, KeepsRejections, KeepsStarts, List, Rec, Some, Start, Submit, Ts, Txn, [], ap, arith, cases_Bool, cases_lt, catalogue_at, class_for, commits_of_others, cond, each_more, eq-eqb, eqb, eqb-true, event_at, false, filter, inl, inr, is_commit_of_other, is_start_of, length, length-le_from_is_member, list_any, nat_eq_equiv, ne_eqb, not, or_left, or_right, refl, same_Some, same_commit, same_start, starts_before, starts_of, subst, suc, sym, take, true, txn_at, txn_no, zero, ℕ, ◌+◌, ◌<◌, ◌||◌, ◌∙◌, ◌∷◌, ◌≡◌, ◌≢◌, ◌≤◌}
+use Rattle.sdd_laws.proofs.All.{AllByRecursion, AreFew, Attempt, Bool, Catalogue, Commit, Committed, Eras, History, IsAgain, IsAttempt, IsCommitted, IsDistinct-cons, IsRecordAt, KeepsRejections, KeepsStarts, List, Rec, Some, Start, Ts, Txn, [], ap, arith, cases_Bool, cases_lt, commits_of_others, cond, each_more, eq-eqb, eqb, eqb-true, false, filter, inl, inr, is_commit_of_other, is_start_of, length, length-le_from_is_member, list_any, nat_eq_equiv, nat_tests, ne_eqb, not, or_left, or_right, refl, same_Some, same_commit, same_start, starts_before, starts_of, subst, suc, sym, take, true, txn_no, zero, ℕ, ◌+◌, ◌<◌, ◌||◌, ◌∙◌, ◌∷◌, ◌≡◌, ◌≢◌, ◌≤◌}
 use Rattle.std.specs.List.{IsDistinct}
 use Rattle.sdd_laws.proofs.NumberedStarts.{one_start, start_counts}
 use Rattle.sdd_laws.proofs.Times.{condition_time}
@@ -13,29 +13,14 @@ places_of test k (e ∷ h) = cond (test e.1) (k ∷ places_of test (suc k) h) (p
 as_many : (test : Rec → Bool) (k : ℕ) (h : History) → length (places_of test k h) ≡ length (filter (λ e. test e.1) h)
 unfolding places_of
 as_many test k [] = refl
-as_many test k (e ∷ h) =
-    elim (test e.1) as (λ b. length (cond b (k ∷ places_of test (suc k) h) (places_of test (suc k) h)) ≡ length
-    (cond b (e ∷ filter (λ d. test d.1) h) (filter (λ d. test d.1) h))) [
-      | true ↦ ap suc (as_many test (suc k) h)
-      | false ↦ as_many test (suc k) h
-    ]
+as_many test k (e ∷ h) = grind (arith, places_of, (as_many test (suc k) h))
 
 place_there : (test : Rec → Bool) (k : ℕ) (h : History) (j : ℕ) (r : Rec) → IsRecordAt h j r → test r ≡ true
     → list_any (eqb (k + j)) (places_of test k h) ≡ true
 unfolding places_of
 place_there test k [] j r s t = absurd (cc)
-place_there test k (e ∷ h) zero r s t =
-    let same : k + 0 ≡ k = omega arith in
-    ap (λ b. list_any (eqb (k + 0)) (cond b (k ∷ places_of test (suc k) h) (places_of test (suc k) h))) (ap test (same_Some e.1 r s) ∙ t)
-    ∙ or_left (eqb (k + 0) k) (list_any (eqb (k + 0)) (places_of test (suc k) h)) (eq-eqb (k + 0) k same)
-place_there test k (e ∷ h) (suc j) r s t =
-    let same : suc k + j ≡ k + suc j = omega arith in
-    let rest : list_any (eqb (k + suc j)) (places_of test (suc k) h) ≡ true =
-    subst (λ m. list_any (eqb m) (places_of test (suc k) h) ≡ true) same (place_there test (suc k) h j r s t) in
-    elim (test e.1) as (λ b. list_any (eqb (k + suc j)) (cond b (k ∷ places_of test (suc k) h) (places_of test (suc k) h)) ≡ true) [
-      | true ↦ or_right (eqb (k + suc j) k) (list_any (eqb (k + suc j)) (places_of test (suc k) h)) rest
-      | false ↦ rest
-    ]
+place_there test k (e ∷ h) zero r s t = grind (arith, list_any, places_of, same_Some, or_left, eq-eqb)
+place_there test k (e ∷ h) (suc j) r s t = grind (arith, list_any, places_of, or_right, (place_there test (suc k) h j r s t))
 
 -- the last of the records that pass
 pub record LastPassing (test : Rec → Bool) (h : History) (n : ℕ) : Type 0 where
@@ -58,8 +43,7 @@ last_passing test (x ∷ h) n e =
               rec = r.rec;
               is_recorded = r.is_recorded;
               passes = r.passes;
-              before = ap (λ b. length (cond b (x ∷ filter (λ d. test d.1) (take r.place h)) (filter (λ d. test d.1) (take r.place h)))) t
-                  ∙ ap suc r.before;
+              before = grind arith;
             }
       ] refl
       | false ↦ λ t l.
@@ -88,39 +72,10 @@ no_places : IsDistinct eqb []
 unfolding IsDistinct
 no_places = tt
 
-one_place_more : (k : ℕ) (ks : List ℕ) → AllByRecursion (λ q. eqb k q ≡ false) ks → IsDistinct eqb ks → IsDistinct eqb (k ∷ ks)
-unfolding IsDistinct
-one_place_more k ks apart d = (apart, d)
-
 module _ (cat : Catalogue) (eras : Eras) (txns : List Txn) (h : History) (starting : KeepsStarts cat eras txns h) (rejecting : KeepsRejections cat eras h) where
   -- the attempts of a transaction have one class
   one_class : (a b : Attempt) → IsAttempt h a → IsAttempt h b → a.txn ≡ b.txn → a.class ≡ b.class
-  one_class a b p q e =
-      let s = starting.submitted a p in
-      let t = starting.submitted b q in
-      let at : s.place ≡ t.place =
-      starting.one_submit b.txn s.place t.place (subst (λ n. IsRecordAt h s.place (Submit (txn_no n))) e s.submitted) t.submitted in
-      let text : s.txn ≡ t.txn = same_Some s.txn t.txn (sym s.txn_is ∙ ap (txn_at txns) e ∙ t.txn_is) in
-      s.class_is
-      ∙ ap (λ k. class_for (catalogue_at cat eras (event_at h k)) s.txn) at
-      ∙ ap (class_for (catalogue_at cat eras (event_at h t.place))) text
-      ∙ sym t.class_is
-
-  -- a later attempt has a greater timestamp
-  later_time : (a b : Attempt) → IsAttempt h a → IsAttempt h b → a.txn ≡ b.txn → a.number ≤ b.number → a.ts ≤ b.ts
-  later_time a b p q e l =
-      elim (cases_lt b.place a.place) [
-        | inl m ↦
-            let c = start_counts h b a.place q m in
-            let one = starting.numbered a p in
-            let two = starting.numbered b q in
-            let same : starts_before h b.txn a.place ≡ starts_before h a.txn a.place = ap (λ n. starts_before h n a.place) (sym e) in
-            absurd (omega arith)
-        | inr m ↦ elim (cases_lt a.place b.place) [
-          | inl k ↦ let r = starting.rise a b p q (one_class a b p q e) k in omega arith
-          | inr k ↦ let t = (same_start h a b p q (omega arith)).ts in omega arith
-        ]
-      ]
+  one_class a b p q e = grind (arith, same_Some)
 
   -- the place of the Commit of a transaction other than that of the attempt, with a timestamp below the attempt's times
   pub record IsWriterOf (a : Attempt) (place : ℕ) : Type 0 where
@@ -145,12 +100,7 @@ module _ (cat : Catalogue) (eras : Eras) (txns : List Txn) (h : History) (starti
         txn = g.writer;
         committed = g.committed;
         at = refl;
-        other = λ e.
-            let last = starting.by_last g.writer a g.committed p (sym e) in
-            let time = later_time a g.writer.start p g.committed.started (sym e) last in
-            let below = g.below in
-            let same = g.writer_time in
-            absurd (omega arith);
+        other = grind (arith, cases_lt, start_counts, one_class, same_start);
         below = let l = g.below in let same = g.writer_time in omega arith;
         below_bound = λ p2 e. let l = g.below_bound p2 e in let same = g.writer_time in omega arith;
       }
@@ -158,37 +108,23 @@ module _ (cat : Catalogue) (eras : Eras) (txns : List Txn) (h : History) (starti
   -- an earlier writer is below the writer
   below_writer : (a : Attempt) (g : IsAgain cat eras h a) (q : ℕ) (w : IsWriterOf g.earlier q) → w.txn.start.ts < g.writer.start.ts
   below_writer a g q w =
-      let late = g.late in
-      let same = g.writer_time in
       elim (condition_time cat g.condition.table g.earlier g.dm g.cond g.condition.there (starting.bound_there g.earlier g.started)) [
-        | inl e ↦ let l = w.below in omega arith
+        | inl e ↦ let l = w.below in omega (arith, g.late)
         | inr e ↦ let l = w.below_bound e.0 e.1 in let f = e.2 in omega arith
       ]
 
   later_writer : (a : Attempt) (g : IsAgain cat eras h a) (q : ℕ) → IsWriterOf g.earlier q → IsWriterOf a q
   later_writer a g q w =
       let m = below_writer a g q w in
-      let same = g.writer_time in
-      record {
-        txn = w.txn;
-        committed = w.committed;
-        at = w.at;
-        other = λ e. w.other (e ∙ sym g.txn_is);
-        below = let l = g.below in omega arith;
-        below_bound = λ p2 e. let l = g.below_bound p2 e in omega arith;
-      }
+      grind (arith, nat_tests)
 
   -- two Commits at one place have one timestamp
   one_time_at : (t u : Committed) → IsCommitted h t → IsCommitted h u → t.place ≡ u.place → t.start.ts ≡ u.start.ts
-  one_time_at t u p q e =
-      let same = same_commit h t u p q e in
-      let at = one_start h starting.numbered t.start u.start p.started q.started same.txn same.number in
-      (same_start h t.start u.start p.started q.started at).ts
+  one_time_at t u p q e = grind (arith, same_commit, one_start, same_start)
 
   apart_from : (a : Attempt) (g : IsAgain cat eras h a) (q : ℕ) → IsWriterOf g.earlier q → eqb g.writer.place q ≡ false
   apart_from a g q w =
-      let m = below_writer a g q w in
-      ne_eqb g.writer.place q (λ e. let t = one_time_at w.txn g.writer w.committed g.committed (w.at ∙ sym e) in absurd (omega arith))
+      ne_eqb g.writer.place q (λ e. let t = one_time_at w.txn g.writer w.committed g.committed (w.at ∙ sym e) in absurd (omega (arith, below_writer a g q w)))
 
   one_writer_more : (a : Attempt) → IsAttempt h a → (g : IsAgain cat eras h a) (n : ℕ) → Writers g.earlier n → Writers a (suc n)
   one_writer_more a p g n rest =
@@ -196,7 +132,7 @@ module _ (cat : Catalogue) (eras : Eras) (txns : List Txn) (h : History) (starti
         places = g.writer.place ∷ rest.places;
         many = let m = rest.many in omega arith;
         differ =
-            one_place_more g.writer.place rest.places
+            IsDistinct-cons eqb g.writer.place rest.places
             (each_more (IsWriterOf g.earlier) (λ q. eqb g.writer.place q ≡ false) (apart_from a g) rest.places rest.each) rest.differ;
         each = (writer_of a p g, each_more (IsWriterOf g.earlier) (IsWriterOf a) (later_writer a g) rest.places rest.each);
       }
@@ -205,7 +141,6 @@ module _ (cat : Catalogue) (eras : Eras) (txns : List Txn) (h : History) (starti
   writers zero a p e = record { places = []; many = refl; differ = no_places; each = tt }
   writers (suc n) a p e =
       let g = rejecting.again a p (omega arith) in
-      let number = g.number_is in
       one_writer_more a p g n (writers n g.earlier g.started (omega arith))
 
   -- they are among the Commits of other transactions
@@ -213,8 +148,7 @@ module _ (cat : Catalogue) (eras : Eras) (txns : List Txn) (h : History) (starti
   counted_place a q w =
       let t = w.txn in
       let r : Rec = Commit (txn_no t.start.txn) t.start.number t.reply t.changes t.values t.rows in
-      let from_0 : 0 + t.place ≡ q = omega (arith, w.at) in
-      subst (λ k. list_any (eqb k) (places_of (is_commit_of_other a.txn) 0 h) ≡ true) from_0
+      subst (λ k. list_any (eqb k) (places_of (is_commit_of_other a.txn) 0 h) ≡ true) (omega (arith, w.at))
       (place_there (is_commit_of_other a.txn) 0 h t.place r w.committed.committed (ap not (ne_eqb t.start.txn a.txn w.other)))
 
   counted : (a : Attempt) (places : List ℕ) → AllByRecursion (IsWriterOf a) places → (q : ℕ) → list_any (eqb q) places ≡ true
@@ -231,12 +165,9 @@ module _ (cat : Catalogue) (eras : Eras) (txns : List Txn) (h : History) (starti
       let l = last_passing (is_start_of n) h m e in
       let at = attempt_at h n l.place l.rec l.is_recorded l.passes in
       let a = at.0 in
-      let number : a.number ≡ suc m =
-      starting.numbered a at.1 ∙ ap suc (ap (λ z. starts_before h z a.place) at.2 ∙ ap (λ z. starts_before h n z) at.3 ∙ l.before) in
-      let w = writers m a at.1 number in
+      let w = writers m a at.1 (starting.numbered a at.1 ∙ ap suc (ap (λ z. starts_before h z a.place) at.2 ∙ ap (λ z. starts_before h n z) at.3 ∙ l.before)) in
       let fits = length-le_from_is_member nat_eq_equiv w.places (places_of (is_commit_of_other a.txn) 0 h) w.differ (counted a w.places w.each) in
-      let same : commits_of_others h a.txn ≡ commits_of_others h n = ap (commits_of_others h) at.2 in
-      omega (arith, fits, w.many, as_many (is_commit_of_other a.txn) 0 h)
+      omega (arith, ap (commits_of_others h) at.2, fits, w.many, as_many (is_commit_of_other a.txn) 0 h)
 
   pub are_few : AreFew h
   are_few n =

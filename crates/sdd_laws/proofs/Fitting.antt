@@ -1,16 +1,16 @@
 -- The transactions of an era fit its catalogue, and meet the read conditions of its table.
-use Rattle.sdd_laws.proofs.All.{All, All-contains, AllByRecursion, AppliedBefore, AreEras, Attempt, Catalogue, Change, ChangeExists, Commit, Committed, Cond, Contains, Declared, Effect, Entry, Eras, ExistsIn, FitsTxn as TextFits, FragNo, Fragment, History, IsAnswered, IsCommitted, IsConditionOf, IsCovered, IsDatabase, IsEraOf, IsFragment, IsFragmentOf, IsOfSubmit, IsRecordAt, IsSeen, IsSoundCatalogue, IsTable, KeepsAnswers, KeepsApplies, KeepsConditions, KeepsEras, KeepsStarts, List, Meets, NumbersExist, Rec, RelNo, Row, Some, TouchesOne, Txn as Text, [], all_at, ap, arith, ascending, ascending_back, at_member, base_of, catalogue_at, changes, conditions, contains, declared, eq-eqb, eqb-true, eras_begun, event_at, frag_no, fragments_in, has_copy, is_some, length, lie_in_write_set, map, member_passes, module_of, numbers_back, of_era, or_left, or_right, p2_time, reads, reads_at, refl, slice_get, slice_index_or, subst, sym, true, txn_no, write_set, write_set_in_era, ℕ, ◌-◌, ◌<◌, ◌==◌, ◌↔◌, ◌∙◌, ◌∷◌, ◌≡◌}
+use Rattle.sdd_laws.proofs.All.{All, All-contains, AllByRecursion, AppliedBefore, AreEras, Attempt, Catalogue, Change, ChangeExists, Commit, Committed, Cond, Contains, Declared, Effect, Entry, Eras, ExistsIn, FitsTxn as TextFits, FragNo, History, IsAnswered, IsCommitted, IsCovered, IsDatabase, IsEraOf, IsFragment, IsFragmentOf, IsOfSubmit, IsRecordAt, IsSeen, IsSoundCatalogue, IsTable, KeepsAnswers, KeepsApplies, KeepsConditions, KeepsEras, KeepsStarts, List, Meets, NumbersExist, Rec, RelNo, Row, TouchesOne, Txn as Text, [], all_at, ap, arith, ascending, ascending_back, at_member, base_of, catalogue_at, changes, conditions, contains, declared, eq-eqb, eqb-true, eras_begun, event_at, frag_no, fragments_in, has_copy, is_some, lie_in_write_set, map, member_passes, module_of, numbers_back, of_era, or_left, or_right, p2_time, reads, reads_at, slice_index_or, subst, sym, true, txn_no, write_set, write_set_in_era, ℕ, ◌-◌, ◌<◌, ◌==◌, ◌↔◌, ◌∙◌, ◌∷◌, ◌≡◌}
 use Rattle.sdd_laws.proofs.Deeds.{Placed, deeds, are_starts}
 use Rattle.sdd_laws.proofs.CatalogueAt.{era_is}
-use Rattle.sdd_laws.proofs.Reading.{IsReadAt, class_covers, read_at_event, reads_there}
+use Rattle.sdd_laws.proofs.Reading.{class_covers, read_at_event, reads_there}
 use Rattle.sdd_acyclic.specs.Fits.{FitsSystem}
+use Rattle.sdd_order.proofs.EachLink as numbers
 
 -- a number of a list is there when they ascend
 pub each_here : (xs zs : List ℕ) → ((n : ℕ) → contains xs n ≡ true → contains zs n ≡ true)
     → AllByRecursion (λ n. contains zs n ≡ true) xs
 each_here [] zs h = tt
-each_here (x ∷ xs) zs h =
-    (h x (or_left (x == x) (contains xs x) (eq-eqb x x refl)), each_here xs zs (λ n c. h n (or_right (x == n) (contains xs n) c)))
+each_here (x ∷ xs) zs h = grind (arith, or_left, eq-eqb, or_right, (each_here xs zs (λ n c. h n (or_right (x == n) (contains xs n) c))))
 
 pub in_ascending : (xs : List ℕ) (n : ℕ) → contains xs n ≡ true → contains (ascending xs) n ≡ true
 in_ascending xs n c =
@@ -21,14 +21,8 @@ in_ascending xs n c =
 abbrev pub frags_of : Placed → List FragNo
 frags_of x = map frag_no (ascending (fragments_in x.txn.start.uses))
 
--- a record at a place is that of an entry
-recorded_entry : (h : History) (k : ℕ) (r : Rec) → IsRecordAt h k r → (e : ℕ × Rec) × (slice_get h k ≡ Some e) × (e.1 ≡ r)
-recorded_entry h k r s = grind arith
-
 pub exists_at : (cat : Catalogue) (h : History) → NumbersExist cat h → (k : ℕ) (r : Rec) → IsRecordAt h k r → ExistsIn cat r
-exists_at cat h exist k r s =
-    let e = recorded_entry h k r s in
-    subst (ExistsIn cat) e.2 (all_at (λ (x : ℕ × Rec). ExistsIn cat x.1) h k e.0 exist e.1)
+exists_at = numbers.exists_at
 
 module _ (cat : Catalogue) (sound : IsSoundCatalogue cat) (eras : Eras) (are : AreEras cat eras) (rows : List (RelNo × Row)) (txns : List Text) (h : History)
     (exist : NumbersExist cat h) (fit : All (TextFits cat) txns)
@@ -75,31 +69,22 @@ module _ (cat : Catalogue) (sound : IsSoundCatalogue cat) (eras : Eras) (are : A
       same_catalogue_at : (x : Member) → catalogue_at cat eras (event_at h (submit_of x).place) ≡ catalogue_of n
       same_catalogue_at x = grind arith
 
-      started_in_catalogue : (x : Member) → catalogue_at cat eras (event_at h (start_of x).place) ≡ catalogue_of n
-      started_in_catalogue x = grind arith
-
       covered_there : (x : Member) → IsCovered (catalogue_of n) (submit_of x).txn (start_of x).class
       covered_there x =
           subst (λ c. IsCovered c (submit_of x).txn (start_of x).class) (same_catalogue_at x)
           (class_covers cat sound eras are txns h starting (start_of x) (submit_of x) x.class)
 
-      read_there : (x : Member) (f : ℕ) → reads (start_of x) f ≡ true → IsReadAt cat (start_of x).class f
-      read_there x f r = reads_there cat sound eras are txns h starting (start_of x) f x.txn.item.is.committed.started r
-
       is_era : (x : Member) → IsEraOf cat (catalogue_of n)
       is_era x = subst (IsEraOf cat) (same_catalogue_at x) (era_is cat eras are (event_at h (submit_of x).place))
 
       in_era : (x : Member) (f : ℕ) → IsFragment cat f → IsFragmentOf (catalogue_of n) f
-      in_era x f there =
-          let same : length (catalogue_of n).fragments ≡ length cat.fragments = ap (λ (z : List Fragment). length z) (is_era x).fragments in
-          let to = there.1 in
-          record { from = there.0; to = omega arith }
+      in_era x f there = grind (arith, catalogue_of, is_era)
 
       pub fits : FitsSystem (catalogue_of n) (declared (of_era (deeds cat h) (λ p. eras_begun eras (event_at h p.submit)) n))
       fits =
           record {
             class = λ x. (covered_there x).class;
-            fragment_read = λ x f r. in_era x f (read_there x f r).fragment;
+            fragment_read = λ x f r. in_era x f (reads_there cat sound eras are txns h starting (start_of x) f x.txn.item.is.committed.started r).fragment;
             fragment_changed = λ x f c. in_era x f (changed_there x.txn.item.no.txn x.txn.item.is.committed f c);
             reads = λ x f r.
                 subst (λ k. is_some (reads_at k (start_of x).class f) ≡ true) (same_catalogue_at x)
@@ -112,11 +97,6 @@ module _ (cat : Catalogue) (sound : IsSoundCatalogue cat) (eras : Eras) (are : A
           }
 
       module _ (table : List Entry) (is_table : IsTable (catalogue_of n) table) where
-        condition_is : (y : Member) (d : ℕ) (c : Cond)
-            → Contains (conditions cat table (start_of y).class d (frags_of y.txn.item.no) (start_of y).ts (p2_time (start_of y))) c
-            → IsConditionOf cat eras h (start_of y) d c
-        condition_is y d c m = grind arith
-
         met : (x y : Member) (f g : ℕ) (c : Cond) → reads (start_of y) f ≡ true
             → Contains (conditions cat table (start_of y).class (module_of cat (start_of y).class f) (frags_of y.txn.item.no) (start_of y).ts (p2_time (start_of y))) c
             → c.class.0 ≡ (start_of x).class → changes x.txn.item.no.txn g ≡ true → contains (map (λ (z : FragNo). z.0) c.frags) g ≡ true
@@ -128,7 +108,7 @@ module _ (cat : Catalogue) (sound : IsSoundCatalogue cat) (eras : Eras) (are : A
             let t = x.txn.item.no.txn in
             let touches : TouchesOne cat t d c.frags = record { fragment = g; changed = w; copied = copied; named = named } in
             let split : (k : ℕ) → IsAnswered h a d k → AppliedBefore h t.start.txn d k ↔ (t.start.ts < c.time.0) =
-            λ k q. meeting.met a d k c t y.txn.item.is.committed.started q (condition_is y d c m) x.txn.item.is.committed (sym e) touches in (
+            λ k q. meeting.met a d k c t y.txn.item.is.committed.started q (grind arith) x.txn.item.is.committed (sym e) touches in (
               (λ s. (split s.answer s.answered).0 (record { place = s.applied.place; applied = s.applied.applied; before = s.applied.before })),
               λ l.
                   let at = (are_starts cat sound eras are rows txns h starting answering applying).answered y.txn.item f r in
@@ -151,7 +131,7 @@ module _ (cat : Catalogue) (sound : IsSoundCatalogue cat) (eras : Eras) (are : A
               reads = λ x f r.
                   let all = ascending (fragments_in (start_of x).uses) in
                   ap (λ z. contains z f) (numbers_back all) ∙ in_ascending (fragments_in (start_of x).uses) f r;
-              dm = λ x f r. (read_there x f r).read;
-              copies = λ x f r. (read_there x f r).copy;
+              dm = λ x f r. (reads_there cat sound eras are txns h starting (start_of x) f x.txn.item.is.committed.started r).read;
+              copies = λ x f r. (reads_there cat sound eras are txns h starting (start_of x) f x.txn.item.is.committed.started r).copy;
               met = met;
             }

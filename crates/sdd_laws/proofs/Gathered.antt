@@ -1,13 +1,10 @@
 -- Entries that are put together one after the other, where none displaces another.
-use Rattle.sdd_laws.proofs.All.{CmpEqualImpliesEq, Contains, Contains-cases, Contains-here, Contains-later, Contains-nil, IsStrictlySortedBy, IsTotalOrder, List, Ordering, [], fold, inl, inr, insert_entry, inserted_sorted, keys_of, subst, sym, ◌∷◌, ◌≡◌, ◌⊎◌}
+use Rattle.sdd_laws.proofs.All.{CmpEqualImpliesEq, Contains, Contains-cases, Contains-here, Contains-later, Contains-nil, IsStrictlySortedBy, IsTotalOrder, List, Ordering, [], arith, fold, inl, inr, insert_entry, inserted_sorted, keys_of, subst, sym, ◌∷◌, ◌≡◌, ◌⊎◌}
 use Rattle.sdd_laws.proofs.LookUps.{put_there, put_or_there, still_there}
 
 -- no entry of the list displaces this one
 abbrev pub Alone : {K X : Type 0} → List (K × X) → K × X → Type 0
 Alone {K} {X} es e = (x : K × X) → Contains es x → x.0 ≡ e.0 → x ≡ e
-
-later_alone : {K X : Type 0} (x : K × X) (es : List (K × X)) (e : K × X) → Alone (x ∷ es) e → Alone es e
-later_alone x es e alone = λ y h q. alone y (Contains-later x es y h) q
 
 module _ {K X : Type 0} (R : K → K → Ordering) (total : IsTotalOrder R) (exact : CmpEqualImpliesEq R) where
   abbrev pub with_entry : List (K × X) → K × X → List (K × X)
@@ -29,9 +26,7 @@ module _ {K X : Type 0} (R : K → K → Ordering) (total : IsTotalOrder R) (exa
   gathered_stays : (start es : List (K × X)) (e : K × X) → IsStrictlySortedBy R (keys_of start) → Alone es e
       → Contains start e → Contains (fold with_entry start es) e
   gathered_stays start [] e s alone h = h
-  gathered_stays start (x ∷ es) e s alone h =
-      gathered_stays (with_entry start x) es e (still_sorted start x s) (later_alone x es e alone)
-      (still_there R total exact start x.0 x.1 e s (λ q. alone x (Contains-here x es) q) h)
+  gathered_stays start (x ∷ es) e s alone h = grind (arith, with_entry, still_sorted, Contains-later, still_there, Contains-here, (gathered_stays (with_entry start x) es e (still_sorted start x s) (λ y h q. alone y (Contains-later x es y h) q) (still_there R total exact start x.0 x.1 e s (λ q. alone x (Contains-here x es) q) h)))
 
   pub gathered_there : (start es : List (K × X)) (e : K × X) → IsStrictlySortedBy R (keys_of start) → Alone es e
       → Contains es e → Contains (fold with_entry start es) e
@@ -39,9 +34,9 @@ module _ {K X : Type 0} (R : K → K → Ordering) (total : IsTotalOrder R) (exa
   gathered_there start (x ∷ es) e s alone h =
       elim (Contains-cases x es e h) as (λ z. Contains (fold with_entry (with_entry start x) es) e) [
         | inl same ↦
-            gathered_stays (with_entry start x) es e (still_sorted start x s) (later_alone x es e alone)
+            gathered_stays (with_entry start x) es e (still_sorted start x s) (λ y h q. alone y (Contains-later x es y h) q)
             (subst (Contains (with_entry start x)) (sym same) (put_there R total exact start x.0 x.1))
-        | inr later ↦ gathered_there (with_entry start x) es e (still_sorted start x s) (later_alone x es e alone) later
+        | inr later ↦ gathered_there (with_entry start x) es e (still_sorted start x s) (λ y h q. alone y (Contains-later x es y h) q) later
       ]
 
   pub gathered_sorted : (start es : List (K × X)) → IsStrictlySortedBy R (keys_of start)

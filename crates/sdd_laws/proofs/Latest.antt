@@ -26,8 +26,7 @@ kept_ascend (e ∷ es) h = grind (arith, kept_above, kept_ascend es h.1)
 pub contents_ascend : (f : ℕ) (xs : Dated) → IsStrictlySortedBy int_cmp (keys_of (contents f xs))
 contents_ascend f xs =
     subst (λ es. IsStrictlySortedBy int_cmp (keys_of es)) (items_tell f xs)
-    (ascending_sorted (entries_in (items_of (of_fragment f xs)))
-    (kept_ascend (items_of (of_fragment f xs)) (items_keep (of_fragment f xs)).ascends))
+    (grind (arith, ascending_sorted, entries_in, items_of, of_fragment, kept_ascend, items_keep))
 
 -- which rows they are
 
@@ -56,8 +55,7 @@ contents_left f xs k row h =
     at_entry int_cmp int_cmp_total exact_signed (items_of mine) e.0 e.1
     (ascending_sorted (items_of mine) keep.ascends) found.1 in
     let x = shown_row (latest e.0 mine) e.1 row (keep.rows_are e.0 ∙ there) is.1 in
-    let answer : IsLatest e.0 mine x.0 = subst (Answers e.0 mine) x.1 (latest_answers e.0 mine) in
-    (x.0, subst (λ j. IsLatest j mine x.0) is.0 answer, x.2)
+    (x.0, subst (λ j. IsLatest j mine x.0) is.0 (subst (Answers e.0 mine) x.1 (latest_answers e.0 mine)), x.2)
 
 -- and the latest change of a key leaves its row there, where changes of one date leave one row
 pub left_there : (f : ℕ) (xs : Dated) (k : ℤ) (row : Row) (x : ℕ × Change) → Contains (of_fragment f xs) x

@@ -1,5 +1,5 @@
 -- What stands at a key of entries, once one more is put in or one is taken out; and which entries there are.
-use Rattle.sdd_laws.proofs.All.{AllByRecursion, Bool, CmpEqualImpliesEq, Contains, Contains-from_lookup, IsDistinct-from_sorted, IsTotalOrder, Less, List, None, Option, Ordering, Some, [], ap, cond, eq_by_cmp_equiv, false, inl, inr, insert_entry, inserted_sorted, is_at, is_eq, keys_of, lookup, lookup-from_Contains, lookup-remove_entry, refl, remove_entry, rules, same_entries, subst, sym, tells_apart, tied_itself, true, ◌∙◌, ◌∷◌, ◌≡◌, ◌⊎◌}
+use Rattle.sdd_laws.proofs.All.{AllByRecursion, Bool, CmpEqualImpliesEq, Contains, Contains-from_lookup, IsDistinct-from_sorted, IsTotalOrder, Less, List, None, Option, Ordering, Some, [], ap, arith, cond, eq_by_cmp_equiv, false, inl, inr, insert_entry, inserted_sorted, is_at, is_eq, keys_of, lookup, lookup-from_Contains, lookup-remove_entry, refl, remove_entry, rules, same_entries, subst, sym, tells_apart, tied_itself, true, ◌∙◌, ◌∷◌, ◌≡◌, ◌⊎◌}
 use Rattle.std.specs.List.Sorted.{IsStrictlySortedBy}
 use Rattle.sdd_laws.proofs.Members.{is_in, contained}
 
@@ -15,8 +15,7 @@ module _ {K : Type 0} (R : K → K → Ordering) (total : IsTotalOrder R) (exact
       elim (is_at (R k) q) as (λ b. is_at (R k) q ≡ b → (k ≡ q) ⊎ (k ≡ q → ⊥)) [
         | true ↦ λ e. inl (same_key k q e)
         | false ↦
-            λ e.
-            inr (λ same. let own : is_at (R k) q ≡ true = subst (λ z. is_at (R k) z ≡ true) same (own_key k) in cc)
+            grind (arith, is_at, own_key)
       ] refl
 
   pub test_own : (k q : K) → k ≡ q → is_at (R k) q ≡ true
@@ -87,9 +86,8 @@ module _ {K X : Type 0} (R : K → K → Ordering) (total : IsTotalOrder R) (exa
       elim (key_or_not R total exact k e.0) [
         | inl own ↦ subst (Contains (insert_entry R es k v)) (same own) (put_there es k v)
         | inr other ↦
-            let test : is_at (R e.0) k ≡ false = test_other R total exact e.0 k (λ z. other (sym z)) in
             entry_at (insert_entry R es k v) e.0 e.1
-            (put_in es k v e.0 ∙ ap (λ b. cond b (Some v) (at e.0 es)) test ∙ at_entry es e.0 e.1 sorted h)
+            (put_in es k v e.0 ∙ ap (λ b. cond b (Some v) (at e.0 es)) (test_other R total exact e.0 k (λ z. other (sym z))) ∙ at_entry es e.0 e.1 sorted h)
       ]
 
   -- entries in order are the same where they have the same members

@@ -7,9 +7,7 @@ counts_rise : (test : Rec → Bool) (p q : ℕ) (h : History) (r : Rec) → p < 
 counts_rise test p zero h r l s t = absurd (omega arith)
 counts_rise test p (suc q) [] r l s t = absurd (cc)
 counts_rise test zero (suc q) (e ∷ h) r l s t = grind arith
-counts_rise test (suc p) (suc q) (e ∷ h) r l s t =
-    let rest = counts_rise test p q h r (omega arith) s t in
-    grind arith
+counts_rise test (suc p) (suc q) (e ∷ h) r l s t = grind (arith, (counts_rise test p q h r (omega arith) s t))
 
 pub start_counts : (h : History) (a : Attempt) (q : ℕ) → IsAttempt h a → a.place < q
     → starts_before h a.txn a.place < starts_before h a.txn q

@@ -1,5 +1,5 @@
 -- A serial order of a history agrees with what its transactions did.
-use Rattle.sdd_laws.proofs.All.{All, AreEras, Catalogue, Change, Committed, Contains, Contains-cases, Contains-here, Contains-later, Contains-nil, Eras, FitsTxn, History, IsCommitted, IsSerial, IsSoundCatalogue, KeepsAnswers, KeepsApplies, KeepsStarts, List, MayComeFirst, PutsHeld, Reads, RelNo, Row, Txn, TxnNo, [], and_of, ap, arith, both_write, cases_Bool, changes, committed, eqb-true, false, fragments_in, from_committed, in_committed, inl, inr, is_earlier, is_overwritten, is_read_by, list_any, member_passes, misses, module_of, nat_lt, nat_tests, not, passes_member, precedes, reads_write, subst, sym, true, txn_no, was_seen, writes_read, ℕ, ◌&&◌, ◌==◌, ◌||◌, ◌∙◌, ◌∷◌, ◌≡◌, ◌≢◌}
+use Rattle.sdd_laws.proofs.All.{All, AreEras, Catalogue, Change, Committed, Contains, Contains-cases, Contains-here, Contains-later, Contains-nil, Eras, FitsTxn, History, IsCommitted, IsSerial, IsSoundCatalogue, KeepsAnswers, KeepsApplies, KeepsStarts, List, MayComeFirst, PutsHeld, Reads, RelNo, Row, Txn, TxnNo, [], and_of, ap, arith, both_write, cases_Bool, changes, committed, eqb-true, false, fragments_in, from_committed, in_committed, inl, inr, is_overwritten, is_read_by, list_any, member_passes, misses, module_of, nat_lt, nat_tests, not, passes_member, precedes, reads_write, subst, sym, true, txn_no, was_seen, writes_read, ℕ, ◌&&◌, ◌==◌, ◌∙◌, ◌∷◌, ◌≡◌, ◌≢◌}
 use Rattle.sdd_laws.proofs.NumberedStarts.{one_start}
 use Rattle.sdd_laws.proofs.Deeds.{same_txn}
 use Rattle.sdd_laws.proofs.Precedes.{changes_member}
@@ -10,9 +10,6 @@ use Rattle.sdd_laws.specs.Order as agreeing
 -- two different ones, of which the second doesn't precede the first
 
 module _ (cat : Catalogue) (h : History) (x y : Committed) (other : y.start.txn ≢ x.start.txn) (behind : precedes cat h y x ≡ false) where
-  no_kind : ((is_earlier y x || is_overwritten y x) || (misses cat h y x || is_read_by cat h y x)) ≡ true → ⊥
-  no_kind e = grind arith
-
   not_overwritten : is_overwritten y x ≡ true → ⊥
   not_overwritten e = grind arith
 

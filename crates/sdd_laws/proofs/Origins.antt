@@ -1,11 +1,8 @@
 -- Where the dated changes of copies come from; and so that each names its item's fragment, and those of one item with
 -- one date leave one row.
-use Rattle.sdd_laws.proofs.All.{ArePlaced, AreWriters, Catalogue, Change, Contains, Contains-append_cases, Contains-append_left, Contains-append_right, Database, DatesDiffer, IsDatabase, IsPlaced, IsSoundCatalogue, Item, LeaveOneRow, List, Row, Some, Writers, all_dated, ap, arith, changes_of, dated, entry_placed, first_row, fragment_at, fragment_of, inl, inr, item_cmp, item_cmp_exact, item_cmp_total, item_of, map, subst, sym, ℕ, ◌∙◌, ◌≡◌}
+use Rattle.sdd_laws.proofs.All.{ArePlaced, AreWriters, Catalogue, Change, Contains, Contains-append_cases, Contains-append_left, Contains-append_right, Database, DatesDiffer, IsDatabase, IsPlaced, IsSoundCatalogue, Item, LeaveOneRow, List, Row, Writers, all_dated, ap, arith, changes_of, dated, entry_placed, first_row, fragment_at, fragment_of, inl, inr, item_cmp, item_cmp_exact, item_cmp_total, item_of, map, subst, sym, ℕ, ◌∙◌, ◌≡◌}
 use Rattle.sdd_laws.proofs.LookUps.{one_entry}
 use Rattle.sdd_laws.proofs.Members.{Contains-map, Contains-from_map, Contains-flat_map, Contains-from_flat_map}
-
-item_is : (cat : Catalogue) (c d : Change) → c.frag.0 ≡ d.frag.0 → c.key ≡ d.key → item_of cat c ≡ item_of cat d
-item_is cat c d f k = ap (λ n. ((fragment_at cat n).rel.0, c.key)) f ∙ ap (λ i. ((fragment_at cat d.frag.0).rel.0, i)) k
 
 -- an entry of a database lies in a fragment of its relation
 pub entry_lies : (cat : Catalogue) → IsSoundCatalogue cat → (db : Database) → IsDatabase cat db → (e : Item × Row)
@@ -53,62 +50,35 @@ module _ {T : Type 0} (cat : Catalogue) (first : Database) (w : Writers T) where
       all_placed x h =
           elim (origin txns x h) [
             | initial e there same ↦
-                subst (λ (z : ℕ × Change). IsPlaced cat z.1) (sym same)
-                (ap (λ (i : Item). fragment_of cat i.0 i.1) (first_item e there))
+                grind (arith, fragment_of, first_item)
             | made t there c k same ↦
                 subst (λ (z : ℕ × Change). IsPlaced cat z.1) (sym same) (writers.placed t (within t there) c k)
           ]
 
-      one_row : (x y : ℕ × Change) → Origin txns x → Origin txns y → item_of cat x.1 ≡ item_of cat y.1 → x.0 ≡ y.0
-          → x.1.row ≡ y.1.row
-      one_row x y (initial d h p) (initial e k q) i t =
+      -- two of one item and one date are one
+      one_origin : (x y : ℕ × Change) → Origin txns x → Origin txns y → item_of cat x.1 ≡ item_of cat y.1 → x.0 ≡ y.0 → x ≡ y
+      one_origin x y (initial d h p) (initial e k q) i t =
           let at : d.0 ≡ e.0 =
           sym (first_item d h) ∙ ap (λ (z : ℕ × Change). item_of cat z.1) (sym p) ∙ i
           ∙ ap (λ (z : ℕ × Change). item_of cat z.1) q ∙ first_item e k in
           let rows : d.1 ≡ e.1 =
           one_entry item_cmp item_cmp_total item_cmp_exact first e.0 d.1 e.1 is.ascends
           (subst (λ j. Contains first (j, d.1)) at h) k in
-          ap (λ (z : ℕ × Change). z.1.row) p ∙ ap (λ z. Some z) rows ∙ ap (λ (z : ℕ × Change). z.1.row) (sym q)
-      one_row x y (initial d h p) (made u k c m q) i t = grind arith
-      one_row x y (made u k c m q) (initial d h p) i t = grind arith
-      one_row x y (made u h c m p) (made v k d n q) i t =
+          p ∙ ap (first_row cat) (ap (λ j. (j, d.1)) at ∙ ap (λ r. (e.0, r)) rows) ∙ sym q
+      one_origin x y (initial d h p) (made u k c m q) i t = grind arith
+      one_origin x y (made u k c m q) (initial d h p) i t = grind arith
+      one_origin x y (made u h c m p) (made v k d n q) i t =
           let times : w.ts u ≡ w.ts v = ap (λ (z : ℕ × Change). z.0) (sym p) ∙ t ∙ ap (λ (z : ℕ × Change). z.0) q in
           let items : item_of cat c ≡ item_of cat d =
           ap (λ (z : ℕ × Change). item_of cat z.1) (sym p) ∙ i ∙ ap (λ (z : ℕ × Change). item_of cat z.1) q in
           let same : c ≡ d =
-          writers.once v (within v k) c d
-          (subst (λ z. Contains z c) (writers.one_time u v (within u h) (within v k) times) m) n items in
-          grind arith
-
-      pub all_leave_one_row : LeaveOneRow cat (all_dated cat first w txns)
-      all_leave_one_row x y h k i t = one_row x y (origin txns x h) (origin txns y k) i t
-
-      -- two different ones of one item have different dates
-      one_change : (x y : ℕ × Change) → Origin txns x → Origin txns y → x.1.frag.0 ≡ y.1.frag.0 → x.1.key ≡ y.1.key
-          → x.0 ≡ y.0 → x ≡ y
-      one_change x y (initial d h p) (initial e k q) f i t =
-          let items : item_of cat x.1 ≡ item_of cat y.1 = item_is cat x.1 y.1 f i in
-          let at : d.0 ≡ e.0 =
-          sym (first_item d h) ∙ ap (λ (z : ℕ × Change). item_of cat z.1) (sym p) ∙ items
-          ∙ ap (λ (z : ℕ × Change). item_of cat z.1) q ∙ first_item e k in
-          let rows : d.1 ≡ e.1 =
-          one_entry item_cmp item_cmp_total item_cmp_exact first e.0 d.1 e.1 is.ascends
-          (subst (λ j. Contains first (j, d.1)) at h) k in
-          let same : d ≡ e = ap (λ j. (j, d.1)) at ∙ ap (λ r. (e.0, r)) rows in
-          p ∙ ap (first_row cat) same ∙ sym q
-      one_change x y (initial d h p) (made u k c m q) f i t = grind arith
-      one_change x y (made u k c m q) (initial d h p) f i t = grind arith
-      one_change x y (made u h c m p) (made v k d n q) f i t =
-          let times : w.ts u ≡ w.ts v = ap (λ (z : ℕ × Change). z.0) (sym p) ∙ t ∙ ap (λ (z : ℕ × Change). z.0) q in
-          let frags : c.frag.0 ≡ d.frag.0 =
-          ap (λ (z : ℕ × Change). z.1.frag.0) (sym p) ∙ f ∙ ap (λ (z : ℕ × Change). z.1.frag.0) q in
-          let keys : c.key ≡ d.key =
-          ap (λ (z : ℕ × Change). z.1.key) (sym p) ∙ i ∙ ap (λ (z : ℕ × Change). z.1.key) q in
-          let same : c ≡ d =
-          writers.once v (within v k) c d
-          (subst (λ z. Contains z c) (writers.one_time u v (within u h) (within v k) times) m) n
-          (item_is cat c d frags keys) in
+          writers.once v (within v k) c d (subst (λ z. Contains z c) (writers.one_time u v (within u h) (within v k) times) m) n items in
           p ∙ ap (λ z. (z, c)) times ∙ ap (λ z. (w.ts v, z)) same ∙ sym q
 
+      pub all_leave_one_row : LeaveOneRow cat (all_dated cat first w txns)
+      all_leave_one_row x y h k i t = ap (λ (z : ℕ × Change). z.1.row) (one_origin x y (origin txns x h) (origin txns y k) i t)
+
       pub dates_differ : DatesDiffer (all_dated cat first w txns)
-      dates_differ x y h k f i t = one_change x y (origin txns x h) (origin txns y k) f i t
+      dates_differ x y h k f i t =
+          one_origin x y (origin txns x h) (origin txns y k)
+          (ap (λ n. ((fragment_at cat n).rel.0, x.1.key)) f ∙ ap (λ i. ((fragment_at cat y.1.frag.0).rel.0, i)) i) t

@@ -1,5 +1,5 @@
 -- What precedes by the test precedes by the deeds, so that a cycle of the one is one of the other.
-use Rattle.sdd_laws.proofs.All.{Apply, Attempt, Catalogue, Change, Committed, Contains, HasNoCycle, History, IsApplied, IsCommitted, IsOrderly, IsPath, IsRecordAt, IsSeen, IsSubmitted, List, Precedes, Rec, [], and_parts, by_class, by_seen, by_unseen, by_writes, changes, comes_from, dm_no, eq-eqb, eqb-false, eqb-true, false≢true, fragments_in, in_turn, inl, inr, is_answer, is_answered, is_apply, is_earlier, is_overwritten, is_read_by, list_any, ltb-true, member_passes, misses, module_of, nat_lt, not, not-true, or_cases, passes_member, precedes, reads, refl, rules, subst, sym, system, true, txn_no, was_seen, ℕ, ◌&&◌, ◌==◌, ◌||◌, ◌∙◌, ◌∷◌, ◌≡◌, ◌≢◌}
+use Rattle.sdd_laws.proofs.All.{Apply, Attempt, Catalogue, Change, Committed, Contains, HasNoCycle, History, IsApplied, IsCommitted, IsOrderly, IsPath, IsRecordAt, IsSeen, IsSubmitted, List, Precedes, Rec, [], and_parts, arith, by_class, by_seen, by_unseen, by_writes, changes, comes_from, dm_no, eq-eqb, eqb-false, eqb-true, false≢true, fragments_in, in_turn, inl, inr, is_answer, is_answered, is_apply, is_earlier, is_overwritten, is_read_by, list_any, ltb-true, member_passes, misses, module_of, nat_lt, nat_tests, not, not-true, or_cases, passes_member, precedes, reads, refl, rules, subst, sym, system, true, txn_no, was_seen, ℕ, ◌&&◌, ◌==◌, ◌||◌, ◌∙◌, ◌∷◌, ◌≡◌, ◌≢◌}
 use Rattle.sdd_laws.proofs.Deeds.{Placed, deeds}
 use Rattle.sdd_acyclic.specs.Deeds.{Txn}
 use Rattle.sdd_acyclic.specs.System as core
@@ -7,13 +7,12 @@ use Rattle.sdd_acyclic.specs.System as core
 pub is_applied : (h : History) (n d k : ℕ) (r : Rec) → IsRecordAt h k r → is_apply n d r ≡ true → IsApplied h n d k
 is_applied h n d k (Apply txn class dm ts) s t =
     let both = and_parts (txn.0 == n) (dm.0 == d) t in
-    let one : txn.0 ≡ n = eqb-true txn.0 n both.0 in
     let two : dm.0 ≡ d = eqb-true dm.0 d both.1 in
     record {
       class = class.0;
       ts = ts.0;
       is_recorded =
-          subst (λ m. IsRecordAt h k (Apply (txn_no m) class (dm_no d) ts)) one
+          subst (λ m. IsRecordAt h k (Apply (txn_no m) class (dm_no d) ts)) (eqb-true txn.0 n both.0)
           (subst (λ m. IsRecordAt h k (Apply txn class (dm_no m) ts)) two s);
     }
 is_applied h n d k _ s t = absurd (cc)
@@ -31,15 +30,7 @@ module _ (cat : Catalogue) (h : History) where
       let p = is_apply x.txn.start.txn d in
       let q = is_answer y.txn.start.txn y.txn.start.number d in
       let t = in_turn p q h e in
-      record {
-        answer = t.second.place;
-        answered = is_answered h y.txn.start.txn y.txn.start.number d t.second.place t.second.rec t.second.is_recorded t.second.passes;
-        applied = record {
-          place = t.first.place;
-          applied = is_applied h x.txn.start.txn d t.first.place t.first.rec t.first.is_recorded t.first.passes;
-          before = t.before;
-        };
-      }
+      grind (arith, nat_tests, is_answered, is_applied)
 
   pub is_seen : (x y : Placed) (d : ℕ) → IsSeen (deeds cat h) x d y → was_seen h x.txn d y.txn ≡ true
   is_seen x y d s = search (rules, comes_from)
@@ -53,8 +44,7 @@ module _ (cat : Catalogue) (h : History) where
       elim (or_cases (is_earlier t u || is_overwritten t u) (misses cat h t u || is_read_by cat h t u) both.1) [
         | inl a ↦ elim (or_cases (is_earlier t u) (is_overwritten t u) a) [
           | inl b ↦
-              let parts = and_parts (t.start.class == u.start.class) (nat_lt t.start.ts u.start.ts) b in
-              by_class other (eqb-true t.start.class u.start.class parts.0) (ltb-true t.start.ts u.start.ts parts.1)
+              grind (arith, and_parts, nat_lt, by_class, eqb-true, ltb-true)
           | inr b ↦
               let parts = and_parts (list_any (λ (c : Change). changes u c.frag.0) t.changes) (nat_lt t.start.ts u.start.ts) b in
               let m = member_passes (λ (c : Change). changes u c.frag.0) t.changes parts.0 in

@@ -1,5 +1,5 @@
 -- Where attempts read: at modules that have copies of what they read.
-use Rattle.sdd_laws.proofs.All.{AreEras, Attempt, Catalogue, Eras, History, IsAttempt, IsClass, IsCovered, IsFragment, IsModule, IsOfSubmit, IsSoundCatalogue, IsThere, KeepsStarts, List, Option, Some, Txn, ap, arith, ascending_back, at_member, cases_lt, catalogue_at, contains, covered, event_at, fragments_in, has_copy, inl, inr, is_some, module_of, read_in_era, read_set, read_set_there, reads, reads_at, recursion_from_All, served_read, subst, sym, true, unwrap_or, uses_in_era, uses_of, ℕ, ◌∙◌, ◌≡◌, ◌≤◌}
+use Rattle.sdd_laws.proofs.All.{AreEras, Attempt, Catalogue, Eras, History, IsAttempt, IsClass, IsCovered, IsFragment, IsModule, IsOfSubmit, IsSoundCatalogue, IsThere, KeepsStarts, List, Option, Some, Txn, ap, arith, ascending_back, at_member, cases_lt, catalogue_at, contains, covered, event_at, fragments_in, has_copy, inl, inr, is_some, module_of, nat_tests, read_in_era, read_set, read_set_there, reads, reads_at, recursion_from_All, served_read, sym, true, unwrap_or, uses_in_era, uses_of, ℕ, ◌∙◌, ◌≡◌, ◌≤◌}
 use Rattle.sdd_laws.proofs.Copied.{some_copy}
 use Rattle.sdd_laws.proofs.CatalogueAt.{era_is}
 
@@ -23,9 +23,7 @@ module _ (cat : Catalogue) (sound : IsSoundCatalogue cat) where
 
   -- class 0 reads every fragment
   read_by_none : (f : ℕ) → IsFragment cat f → IsReadAt cat 0 f
-  read_by_none f there =
-      let d = some_copy cat sound f there.0 there.1 in
-      served 0 f (omega arith) there (ap is_some d.1)
+  read_by_none f there = served 0 f (omega arith) there (ap is_some (some_copy cat sound f there.0 there.1).1)
 
   module _ (eras : Eras) (are : AreEras cat eras) (txns : List Txn) (h : History) (starts : KeepsStarts cat eras txns h) where
     -- the catalogue in force when an attempt's transaction was submitted
@@ -46,8 +44,7 @@ module _ (cat : Catalogue) (sound : IsSoundCatalogue cat) where
     pub read_at_event : (a : Attempt) (s : IsOfSubmit cat eras txns h a) (f : ℕ) → 1 ≤ a.class → reads a f ≡ true
         → is_some (reads_at (catalogue_of_event a s) a.class f) ≡ true
     read_at_event a s f l r =
-        let era = catalogue_of_event a s in
-        let uses = uses_in_era cat era (era_is cat eras are (event_at h s.place)) s.txn in
+        let uses = uses_in_era cat (catalogue_of_event a s) (era_is cat eras are (event_at h s.place)) s.txn in
         (class_covers a s l).reads f (ap (λ u. contains (fragments_in u) f) (uses ∙ sym s.uses_are) ∙ r)
 
     pub reads_there : (a : Attempt) (f : ℕ) → IsAttempt h a → reads a f ≡ true → IsReadAt cat a.class f
@@ -60,11 +57,7 @@ module _ (cat : Catalogue) (sound : IsSoundCatalogue cat) where
               let is_era = era_is cat eras are (event_at h s.place) in
               let class = (class_covers a s l).class in
               let in_era = read_at_event a s f l r in
-              let same = read_in_era cat era is_era a.class f class in_era in
-              let few = is_era.classes in
-              let to = class.to in
-              served a.class f (omega arith) there (ap is_some (sym same) ∙ in_era)
+              grind (arith, nat_tests, read_in_era, served, is_some)
           | inr l ↦
-              let none : 0 ≡ a.class = omega arith in
-              subst (λ c. IsReadAt cat c f) none (read_by_none f there)
+              grind (arith, IsReadAt, read_by_none)
         ]

@@ -31,6 +31,10 @@ none_later q x h one t =
       | inr f ↦ f
     ]
 
+and_none : (b : Bool) → ((b && false) || false) ≡ false
+and_none true = refl
+and_none false = refl
+
 none_before : (p q : Rec → Bool) (h : History) → list_any (λ e. q e.1) h ≡ false → comes_before p q h ≡ false
 none_before p q [] f = refl
 none_before p q (x ∷ h) f =
@@ -41,10 +45,6 @@ none_before p q (x ∷ h) f =
           ∙ ap (λ b. (p x.1 && false) || b) (none_before p q h g)
           ∙ and_none (p x.1)
     ]
-  where
-    and_none : (b : Bool) → ((b && false) || false) ≡ false
-    and_none true = refl
-    and_none false = refl
 
 later_one : (q : Rec → Bool) (x : ℕ × Rec) (h : History) → OneAtMost q (x ∷ h) → OneAtMost q h
 later_one q x h one j k r s a b t u = let e = one (suc j) (suc k) r s a b t u in omega arith
@@ -66,10 +66,6 @@ before_the_one p q (x ∷ h) one some =
           ∙ sym (ap (λ b. (p x.1 && b) || comes_before p q h) there ∙ and_all (p x.1) (comes_before p q h))
     ] refl
   where
-    and_none : (b : Bool) → ((b && false) || false) ≡ false
-    and_none true = refl
-    and_none false = refl
-
     and_all : (b c : Bool) → ((b && true) || c) ≡ (b || c)
     and_all true c = refl
     and_all false c = refl

@@ -1,5 +1,5 @@
 -- The serial run along an order: each transaction gives the result of its Commit, and what is left has the values.
-use Rattle.sdd_laws.proofs.All.{All-from_recursion, AreRecorded, Catalogue, ChangesOf, Contains, Contains-cases, Contains-here, Contains-later, Contains-nil, Database, Effect, GivesResults, HasValues, IsAlong, IsDatabase, IsOrder, IsReplayed, IsSoundCatalogue, Ledger, List, MayComeFirst, ReadWrite, Reads, WriteRead, [], after_changes, ap, effect, false≢true, filter, gathered, inl, inr, map, not, read_set, read_set_decides, reads_write, refl, rows_in_fragment, rules, serial, stays_database, subst, sym, true, writers, writes_read, ℕ, ◌∙◌, ◌∷◌, ◌≡◌, ◌⊎◌}
+use Rattle.sdd_laws.proofs.All.{All-from_recursion, AreRecorded, Catalogue, ChangesOf, Contains, Contains-cases, Contains-here, Contains-later, Contains-nil, Database, Effect, GivesResults, HasValues, IsAlong, IsDatabase, IsOrder, IsReplayed, IsSoundCatalogue, Ledger, List, MayComeFirst, ReadWrite, Reads, WriteRead, [], after_changes, ap, arith, effect, false≢true, filter, gathered, inl, inr, map, nat_tests, not, read_set, read_set_decides, reads_write, refl, rows_in_fragment, rules, serial, stays_database, subst, sym, true, writers, writes_read, ℕ, ◌∙◌, ◌∷◌, ◌≡◌, ◌⊎◌}
 use Rattle.sdd_laws.proofs.Members.{all_have, Contains-filter, Contains-from_filter}
 use Rattle.sdd_laws.proofs.Origins.{origin, from_origin, more_origins}
 use Rattle.sdd_laws.proofs.Values.{same_value}
@@ -37,15 +37,9 @@ module _ {T : Type 0} (cat : Catalogue) (sound : IsSoundCatalogue cat) (first : 
           | inl d ↦ inl (Contains-later x done z d)
           | inr r ↦ elim (Contains-cases x rest z r) [ inl e ↦ inl (subst (Contains (x ∷ done)) (sym e) (Contains-here x done)) | inr k ↦ inr k ]
         ];
-        of_done =
-            λ z h.
-            elim (Contains-cases x done z h) as (λ s. Contains commits z)
-            [ inl e ↦ subst (Contains commits) (sym e) (st.of_rest x (Contains-here x rest)) | inr k ↦ st.of_done z k ];
+        of_done = grind (arith, nat_tests, Contains-cases, Contains-here);
         of_rest = λ z h. st.of_rest z (Contains-later x rest z h);
-        before = λ z y h k. elim (Contains-cases x done z h) as (λ s. MayComeFirst cat L z y) [
-          | inl e ↦ subst (λ w. MayComeFirst cat L w y) (sym e) (st.along.0 y k)
-          | inr d ↦ st.before z y d (Contains-later x rest y k)
-        ];
+        before = grind (arith, Contains-cases, Contains-later);
         along = st.along.1;
       }
 
@@ -71,16 +65,12 @@ module _ {T : Type 0} (cat : Catalogue) (sound : IsSoundCatalogue cat) (first : 
         | inl d ↦ d
         | inr r ↦ elim (Contains-cases x rest t r) as (λ _. Contains done t) [
           | inl here ↦
-              absurd
-              (false≢true
-              (sym (told.not_itself x (st.of_rest x (Contains-here x rest)) f reads)
-              ∙ subst (λ z. L.saw x f z ≡ true) here k.1))
+              grind (arith, Contains-here)
           | inr behind ↦
               let unseen : not (L.saw x (c.0).frag.0 t) ≡ true =
               st.along.0 t behind (ReadWrite (L.saw x (c.0).frag.0 t))
               (reads_write c.0 c.1 (subst (λ g. Reads cat L x g) (sym c.2) reads)) in
-              let saw : L.saw x (c.0).frag.0 t ≡ true = subst (λ g. L.saw x g t ≡ true) (sym c.2) k.1 in
-              absurd (false≢true (subst (λ b. not b ≡ true) saw unseen))
+              absurd (false≢true (subst (λ b. not b ≡ true) (subst (λ g. L.saw x g t ≡ true) (sym c.2) k.1) unseen))
         ]
       ]
 
@@ -149,8 +139,7 @@ module _ {T : Type 0} (cat : Catalogue) (sound : IsSoundCatalogue cat) (first : 
       } in
       let whole = run_from order [] first begin (at_start cat sound first first_is L) in
       let serial_is = serial_gives cat L order first whole.0 in
-      let left : HasValues cat first L commits (run cat first L order).1 =
-      subst (HasValues cat first L commits) (sym (ap (λ z. z.1) serial_is)) whole.1 in
+      let left : HasValues cat first L commits (run cat first L order).1 = grind (arith, nat_tests) in
       record {
         gives = whole.0;
         replies = ap (λ z. z.0) serial_is;

@@ -1,5 +1,5 @@
 -- A copy is told by which of the transactions that change its fragment are applied.
-use Rattle.sdd_laws.proofs.All.{Bool, Catalogue, Change, Contains, Contains-here, Contains-later, Database, Dated, Decides-eqb, List, Writers, [], ap, cases_Bool, changes_of, cond, copy_of, counts, dated, false, filter, first_row, inl, inr, map, of_fragment, refl, rows_left, rules, sym, taken, true, ℕ, ◌&&◌, ◌++◌, ◌==◌, ◌∙◌, ◌∷◌, ◌≡◌}
+use Rattle.sdd_laws.proofs.All.{Bool, Catalogue, Change, Contains, Contains-here, Contains-later, Database, Dated, Decides-eqb, List, Writers, [], ap, arith, cases_Bool, changes_of, cond, copy_of, counts, dated, false, filter, first_row, inl, inr, map, of_fragment, refl, rows_left, rules, sym, taken, true, ℕ, ◌&&◌, ◌++◌, ◌==◌, ◌∙◌, ◌∷◌, ◌≡◌}
 
 pub of_joined : (f : ℕ) (xs ys : Dated) → of_fragment f (xs ++ ys) ≡ of_fragment f xs ++ of_fragment f ys
 of_joined f [] ys = refl
@@ -15,15 +15,10 @@ of_others f [] = refl
 of_others f (c ∷ cs) = of_others f cs
 
 module _ {T : Type 0} (w : Writers T) (f : ℕ) where
-  one_taken : (b : Bool) (x : T) (rest : List T)
-      → of_fragment f (changes_of w (cond b (x ∷ rest) rest)) ≡ dated (w.ts x) (filter (counts b f) (w.changes x)) ++
-      of_fragment f (changes_of w rest)
-  one_taken b x rest = search (rules, of_joined, of_applied, of_others)
-
   all_taken : (commits : List T) (applied : T → Bool)
       → of_fragment f (changes_of w (filter applied commits)) ≡ taken w commits applied f
   all_taken [] applied = refl
-  all_taken (x ∷ commits) applied = search (rules, one_taken, all_taken commits applied)
+  all_taken (x ∷ commits) applied = search (rules, of_joined, of_applied, of_others, all_taken commits applied)
 
   same_counted : (a b : Bool) (cs : List Change) → ((c : Change) → Contains cs c → c.frag.0 ≡ f → a ≡ b)
       → filter (counts a f) cs ≡ filter (counts b f) cs
@@ -39,10 +34,7 @@ module _ {T : Type 0} (w : Writers T) (f : ℕ) where
       ∙ ap (λ z. cond (counts b f c) (c ∷ z) z) rest
     where
       neither : (a b : Bool) → (a && false) ≡ (b && false)
-      neither true true = refl
-      neither true false = refl
-      neither false true = refl
-      neither false false = refl
+      neither a b = grind arith
 
   same_taken : (commits : List T) (a b : T → Bool)
       → ((x : T) → Contains commits x → (c : Change) → Contains (w.changes x) c → c.frag.0 ≡ f → a x ≡ b x)

@@ -1,5 +1,5 @@
 -- The databases of the snapshots are databases, and have in each fragment that is read what its copy has.
-use Rattle.sdd_laws.proofs.All.{All-contains, AreRecorded, AreWriters, Catalogue, Change, Contains, Contains-here, Contains-later, Database, Dated, Effect, HasRow, IsChange, IsDatabase, IsEntry, IsPlaced, IsSoundCatalogue, Item, Ledger, List, Reads, Row, Some, [], all_dated, ap, arith, change_is, contents, effect_once, effect_placed, entries_of, entry_placed, filter, fold, fragment_at, fragment_of, gathered, item_of, no_database, refl, rows_in_fragment, snapshot, subst, suc, sym, true, with_item, with_row_stays, writers, zero, ℕ, ℤ, ◌<◌, ◌∙◌, ◌∷◌, ◌≡◌}
+use Rattle.sdd_laws.proofs.All.{All-contains, AreRecorded, AreWriters, Catalogue, Change, Contains, Contains-here, Contains-later, Database, Dated, Effect, HasRow, IsChange, IsDatabase, IsEntry, IsPlaced, IsSoundCatalogue, Item, Ledger, List, Reads, Row, Some, [], all_dated, ap, arith, change_is, contents, effect_once, effect_placed, entries_of, entry_placed, filter, fold, fragment_at, fragment_of, gathered, item_of, nat_tests, no_database, refl, rows_in_fragment, snapshot, subst, suc, sym, true, with_item, with_row_stays, writers, zero, ℕ, ℤ, ◌<◌, ◌∙◌, ◌∷◌, ◌≡◌}
 use Rattle.sdd_laws.proofs.CopyEntries.{IsHeldBy, held_by, lies_there, entries_ascend}
 use Rattle.sdd_laws.proofs.Together.{has_copy}
 use Rattle.sdd_laws.proofs.Members.{is_in, Contains-from_filter}
@@ -12,9 +12,7 @@ use Rattle.sdd_laws.specs.Ledger.{changes}
 gathered_is : (cat : Catalogue) (db : Database) (es : List (Item × Row)) → IsDatabase cat db
     → ((e : Item × Row) → Contains es e → IsEntry cat e) → IsDatabase cat (fold with_item db es)
 gathered_is cat db [] is all = is
-gathered_is cat db (x ∷ es) is all =
-    gathered_is cat (with_item db x) es (with_row_stays cat db x.0 x.1 is (all x (Contains-here x es)))
-    (λ e h. all e (Contains-later x es e h))
+gathered_is cat db (x ∷ es) is all = grind (arith, with_row_stays, Contains-here, Contains-later, (gathered_is cat (with_item db x) es (with_row_stays cat db x.0 x.1 is (all x (Contains-here x es))) (λ e h. all e (Contains-later x es e h))))
 
 entry_with : (cat : Catalogue) (rel : ℕ) (key : ℤ) (row : Row) (e : Item × Row) → (rel, key) ≡ e.0 → row ≡ e.1
     → IsEntry cat ((rel, key), row) → IsEntry cat e
@@ -80,9 +78,7 @@ module _ {T : Type 0} (cat : Catalogue) (sound : IsSoundCatalogue cat) (first : 
   bases_below zero x there l = absurd (omega arith)
   bases_below (suc n) x there l =
       base_from x there
-      (λ t f in_it r s.
-      changes_from t in_it
-      (bases_below n t in_it (let m = told.earlier x t there in_it f r s in omega (arith, m, l))))
+      (λ t f in_it r s. grind (arith, nat_tests, changes_from, (bases_below n t in_it (let m = told.earlier x t there in_it f r s in omega (arith, m, l)))))
 
   pub bases_are : (x : T) → Contains commits x → IsDatabase cat (base x)
   bases_are x there = bases_below (suc (told.place x)) x there (omega arith)

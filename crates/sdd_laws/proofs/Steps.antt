@@ -1,5 +1,5 @@
 -- The values of the items before the first transaction, and with one more.
-use Rattle.sdd_laws.proofs.All.{AreWriters, Catalogue, Change, Contains, Contains-cases, Contains-here, Contains-later, Contains-nil, Database, HasValues, IsDatabase, IsSoundCatalogue, IsValue, Item, Ledger, List, MayComeFirst, None, Option, Row, Some, Writes, [], after_changes, all_dated, ap, arith, both_write, first_row, fragment_of, inl, inr, item_cmp, item_cmp_exact, item_cmp_total, item_of, nat_lt, nat_tests, refl, row_at, rules, subst, sym, time_at, true, untouched, writers, written, ℕ, ◌<◌, ◌∙◌, ◌∷◌, ◌≡◌, ◌≤◌, ◌⊎◌}
+use Rattle.sdd_laws.proofs.All.{AreWriters, Catalogue, Change, Contains, Contains-cases, Contains-here, Contains-later, Contains-nil, Database, HasValues, IsDatabase, IsSoundCatalogue, IsValue, Item, Ledger, List, MayComeFirst, None, Option, Row, Some, Writes, [], after_changes, all_dated, ap, arith, both_write, first_row, fragment_of, inl, inr, item_cmp, item_cmp_exact, item_cmp_total, item_of, nat_tests, refl, row_at, rules, subst, sym, time_at, untouched, writers, written, ℕ, ◌<◌, ◌∙◌, ◌∷◌, ◌≡◌, ◌≤◌, ◌⊎◌}
 use Rattle.sdd_laws.proofs.LookUps.{entry_at, at_entry}
 use Rattle.sdd_laws.proofs.Origins.{Origin, origin, from_origin, first_item, more_origins}
 use Rattle.sdd_laws.proofs.Origins.Origin.{initial, made}
@@ -11,10 +11,7 @@ use Rattle.sdd_laws.specs.Ledger.{changes}
 pub written_in_order : {T : Type 0} (cat : Catalogue) (L : Ledger T) (x y : T) (c d : Change)
     → MayComeFirst cat L x y → Contains (changes L x) c → Contains (changes L y) d → c.frag.0 ≡ d.frag.0
     → L.ts x < L.ts y
-written_in_order cat L x y c d may h k e =
-    let less : nat_lt (L.ts x) (L.ts y) ≡ true =
-    may (Writes (time_at (L.ts x)) (time_at (L.ts y))) (both_write c d h k e) in
-    grind (arith, nat_tests)
+written_in_order cat L x y c d may h k e = grind (arith, nat_tests, may (Writes (time_at (L.ts x)) (time_at (L.ts y))) (both_write c d h k e))
 
 module _ {T : Type 0} (cat : Catalogue) (sound : IsSoundCatalogue cat) (first : Database) (is : IsDatabase cat first) (L : Ledger T) where
   abbrev all_of : List T → List (ℕ × Change)
@@ -79,9 +76,7 @@ module _ {T : Type 0} (cat : Catalogue) (sound : IsSoundCatalogue cat) (first : 
         → Contains (all_of done) y → y.0 < L.ts x
     earlier y c k o h =
         elim (origin cat first (writers L) done y h) [
-          | initial e there same ↦
-              let l = ok.time x x_there in
-              let zero_is : y.0 ≡ 0 = ap (λ (z : ℕ × Change). z.0) same in omega (arith, l)
+          | initial e there same ↦ grind (arith, nat_tests, x_there)
           | made t there d m same ↦
               let items : item_of cat d ≡ item_of cat c = ap (λ (z : ℕ × Change). item_of cat z.1) (sym same) ∙ o in
               let frags : d.frag.0 ≡ c.frag.0 =

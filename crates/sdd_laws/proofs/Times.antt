@@ -1,9 +1,5 @@
 -- The times of read conditions.
-use Rattle.sdd_laws.proofs.All.{Attempt, Catalogue, Cond, Contains, Contains-from_filter_map, Contains-from_map, Entry, FragNo, List, Option, P2, P3, Some, Ts, ap, ascending, asked_by, classes_of, cond, cond_for, cond_of, condition_on, conditions, conditions_of, false, frag_no, fragments_in, fragments_of, inl, inr, is_asked, is_some, map, not, option_map, option_or, p2_time, rules, true, undeclared_conditions, unwrap_or, ℕ, ◌==◌, ◌∙◌, ◌≡◌, ◌⊎◌}
-
--- the time of a condition for fragments
-time_of : (j t : ℕ) (frags : List FragNo) (c : Cond) → cond_for j t frags ≡ Some c → c.time.0 ≡ t
-time_of j t frags c e = search rules
+use Rattle.sdd_laws.proofs.All.{Attempt, Catalogue, Cond, Contains, Contains-from_filter_map, Contains-from_map, Entry, FragNo, List, Option, Some, Ts, ap, arith, ascending, asked_by, classes_of, cond, cond_for, cond_of, condition_on, conditions, conditions_of, false, frag_no, fragments_in, fragments_of, inl, is_asked, is_some, map, nat_tests, not, option_map, option_or, p2_time, rules, true, undeclared_conditions, unwrap_or, ℕ, ◌==◌, ◌≡◌, ◌⊎◌}
 
 -- it is one of two times
 one_of_two : (j own p2 : ℕ) (thirds seconds : List FragNo) (c : Cond)
@@ -24,14 +20,8 @@ condition_time cat table a d c =
     (conditions cat table a.class d frags a.ts (p2_time a))) c → is_some a.p2 ≡ not b → (c.time.0 ≡ a.ts) ⊎
     ((t : Ts) × (a.p2 ≡ Some t) × (c.time.0 ≡ t.0))) [
       | true ↦ λ m e.
-          let of = Contains-from_map (λ k. cond_of k a.ts (map frag_no (fragments_of cat))) (classes_of cat) c m in
-          inl (ap (λ (z : Cond). z.time.0) of.2)
+          inl (ap (λ (z : Cond). z.time.0) (Contains-from_map (λ k. cond_of k a.ts (map frag_no (fragments_of cat))) (classes_of cat) c m).2)
       | false ↦ λ m e.
           let of = Contains-from_filter_map (condition_on (is_asked cat a.class d frags) table a.class a.ts (p2_time a)) (classes_of cat) c m in
-          let test = is_asked cat a.class d frags in
-          let p2 = p2_there a.p2 e in
-          elim (one_of_two of.0 a.ts (p2_time a) (asked_by P3 test table a.class of.0) (asked_by P2 test table a.class of.0) c of.2) [
-            | inl t ↦ inl t
-            | inr t ↦ inr (p2.0, p2.1, t ∙ p2.2)
-          ]
+          grind (arith, nat_tests, is_asked, p2_there, one_of_two, p2_time, asked_by)
     ]

@@ -52,9 +52,7 @@ latest_is cat xs f k x placed holder l =
       newest =
           λ y there e.
           not_before x y
-          (l.last y
-          (mine_in f xs y there (fragment_is cat xs ((fragment_at cat f).rel.0, k) y placed there e ∙ holder))
-          (ap (λ (i : Item). i.1) e));
+          (grind (arith, mine_in, fragment_is, fragment_at));
     }
 
 -- what a copy holds is the value of the item, which lies in its fragment
@@ -65,9 +63,7 @@ contents_value cat xs f k row placed h =
     let l = contents_left f xs k row h in
     let x : ℕ × Change = l.0 in
     let here = in_mine f xs x l.1.among in
-    let holder : fragment_of cat (fragment_at cat f).rel.0 k ≡ f =
-    sym (fragment_is cat xs ((fragment_at cat f).rel.0, k) x placed here.0 (item_at cat x f k here.1 l.1.own))
-    ∙ here.1 in
+    let holder : fragment_of cat (fragment_at cat f).rel.0 k ≡ f = grind (arith, nat_tests, fragment_is, fragment_at, item_at) in
     (written x (latest_is cat xs f k x placed holder l.1) l.2, holder)
 
 -- and each value is held by the copy of its fragment

@@ -1,5 +1,5 @@
 -- Two transactions that meet the theorem's conditions: one puts a row, and the other, which saw it, asks for all rows.
-use Rattle.sdd_laws.proofs.All.{All-from_recursion, AreRecorded, Bool, Contains, Contains-cases, Contains-here, Contains-nil, FitsStatement, IsOrder, Item, Ledger, List, MayComeFirst, Meeting, Put, PutsHeld, ReadWrite, Reads, Row, Some, Stmt, Txn, [], accounts, arith, cond, effect, false, false≢true, frag_no, gathered, get_all, inl, inr, lit≤, may_come_first, not, not_itself, pos, reads_write, refl, rel, snapshot, true, two, txn, ℕ, ◌&&◌, ◌<◌, ◌∷◌, ◌≡◌, ◌≤◌}
+use Rattle.sdd_laws.proofs.All.{All-from_recursion, AreRecorded, Bool, Contains-cases, Contains-here, Contains-nil, IsOrder, Item, Ledger, List, MayComeFirst, Meeting, Put, PutsHeld, ReadWrite, Reads, Row, Some, Stmt, Txn, [], accounts, arith, cond, effect, false, false≢true, frag_no, gathered, get_all, inl, inr, may_come_first, not, not_itself, pos, reads_write, refl, rel, true, two, txn, ℕ, ◌&&◌, ◌<◌, ◌∷◌, ◌≡◌, ◌≤◌}
 use Rattle.sdd_laws.specs.Order.{Meets}
 
 abbrev put_five : Stmt
@@ -27,12 +27,6 @@ pair =
 abbrev commits : List Bool
 commits = false ∷ true ∷ []
 
-statement_fits : (x : Bool) → FitsStatement accounts (cond x get_all put_five)
-statement_fits x = grind arith
-
-held : (x : Bool) → PutsHeld (cond x get_all put_five)
-held x = grind arith
-
 time : (x : Bool) → 1 ≤ pair.ts x
 time x = grind arith
 
@@ -46,33 +40,19 @@ earlier x y e = grind arith
 read_first : (f : ℕ) → Reads accounts pair true f → f ≡ 1
 read_first f r = elim (Contains-cases 1 [] f r) [ inl e ↦ e | inr none ↦ absurd (Contains-nil f none) ]
 
-each_piece : (x : Bool) (f : ℕ) (e : Item × Row) → Reads accounts pair x f
-    → Contains (snapshot accounts [] pair commits x f) e → Contains (pieces x) e
-each_piece x f e r h = grind arith
-
-of_piece : (x : Bool) (e : Item × Row) → Contains (pieces x) e
-    → (f : ℕ) × Reads accounts pair x f × Contains (snapshot accounts [] pair commits x f) e
-of_piece x e h = grind arith
-
 pub recorded : AreRecorded accounts [] pair commits
 recorded =
     record {
       fits =
-          λ x there.
-          record {
-            module_is_there = (lit≤ tt, lit≤ tt);
-            few = lit≤ tt;
-            statements =
-                All-from_recursion (FitsStatement accounts) (cond x get_all put_five ∷ []) (statement_fits x, tt);
-          };
-      puts_held = λ x there. All-from_recursion PutsHeld (cond x get_all put_five ∷ []) (held x, tt);
+          grind (arith, accounts, get_all, put_five);
+      puts_held = λ x there. All-from_recursion PutsHeld (cond x get_all put_five ∷ []) ((grind arith), tt);
       time = λ x there. time x;
       one_time = λ x y a b e. one_time x y e;
       not_itself = λ x there f r. not_itself x;
       place = λ x. cond x 1 0;
       earlier = λ x y a b f r e. earlier x y e;
       pieces = pieces;
-      are_pieces = record { each = λ x there f e r h. each_piece x f e r h; of = λ x there e h. of_piece x e h };
+      are_pieces = record { each = λ x there f e r h. (grind arith); of = λ x there e h. (grind arith) };
       effect_is = λ x there. refl;
     }
 

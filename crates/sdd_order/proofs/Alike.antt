@@ -1,5 +1,5 @@
 -- When two ways of taking take the same.
-use Rattle.sdd_order.proofs.All.{Bool, Contains, Contains-here, Contains-later, IsPath, List, None, Option, Some, [], ap, arith, cases_eq, cond, earlier, earliest, eq-eqb, false, filter, inl, inr, is_ready, list_any, map, ne_eqb, not, option_map, refl, subst, suc, sym, taken, true, without, zero, ℕ, ◌<◌, ◌==◌, ◌||◌, ◌∙◌, ◌∷◌, ◌≡◌, ◌≤◌, ◌⊎◌}
+use Rattle.sdd_order.proofs.All.{Bool, Contains, Contains-here, Contains-later, IsPath, List, None, Option, Some, [], ap, arith, cases_eq, cases_lt, cond, earlier, earliest, eq-eqb, false, filter, inl, inr, is_ready, list_any, map, ne_eqb, not, option_map, refl, subst, suc, sym, taken, true, without, zero, ℕ, ◌<◌, ◌==◌, ◌||◌, ◌∙◌, ◌∷◌, ◌≡◌, ◌≤◌}
 use Rattle.sdd_order.proofs.Taken.{IsNext, next_is, is_next, Differ, differ_without, without_is, in_without}
 
 -- what is taken first, and the rest
@@ -83,23 +83,13 @@ module _ {A B : Type 0} (f : A → B) (before : B → B → Bool) (time : B → 
   filter-map p [] = refl
   filter-map p (x ∷ xs) = grind (arith, filter-map p xs)
 
-  filter_same : {X : Type 0} (p q : X → Bool) (xs : List X) → ((x : X) → p x ≡ q x) → filter p xs ≡ filter q xs
-  filter_same p q xs h = grind arith
-
   any-map : (p : B → Bool) (xs : List A) → list_any p (map f xs) ≡ list_any (λ x. p (f x)) xs
   any-map p [] = refl
   any-map p (x ∷ xs) = ap (λ b. p (f x) || b) (any-map p xs)
 
-  earlier-map : (x : A) (o : Option A) → earlier time (f x) (option_map f o) ≡ option_map f (earlier time_as x o)
-  earlier-map x o = grind arith
-
   earliest-map : (xs : List A) → earliest time (map f xs) ≡ option_map f (earliest time_as xs)
   earliest-map [] = refl
-  earliest-map (x ∷ xs) = ap (earlier time (f x)) (earliest-map xs) ∙ earlier-map x (earliest time_as xs)
-
-  first-map : (left : List A) → earliest time (filter (is_ready before (map f left)) (map f left))
-      ≡ option_map f (earliest time_as (filter (is_ready before_as left) left))
-  first-map left = grind (arith, filter-map, any-map, earliest-map)
+  earliest-map (x ∷ xs) = ap (earlier time (f x)) (earliest-map xs) ∙ (grind arith)
 
   after-map : (n : ℕ) (left : List A) → ((l : List A) → taken before time n (map f l) ≡ map f (taken before_as time_as n l)) → (o : Option A)
       → after before time n (map f left) (option_map f o) ≡ map f (after before_as time_as n left o)
@@ -108,7 +98,7 @@ module _ {A B : Type 0} (f : A → B) (before : B → B → Bool) (time : B → 
   pub taken-map : (n : ℕ) (left : List A) → taken before time n (map f left) ≡ map f (taken before_as time_as n left)
   taken-map zero left = refl
   taken-map (suc n) left =
-      ap (after before time n (map f left)) (first-map left)
+      ap (after before time n (map f left)) (grind (arith, filter-map, any-map, earliest-map))
       ∙ after-map n left (taken-map n) (earliest time_as (filter (is_ready before_as left) left))
 
 -- Links between numbers that a relation follows from: along them the same is taken as along the relation.
@@ -128,32 +118,17 @@ module _ (all : List ℕ) (link before : ℕ → ℕ → Bool) (time : ℕ → �
 
   same_time : (i j : ℕ) → Contains all i → Contains all j → time i ≡ time j → i ≡ j
   same_time i j m n e =
-      elim (cases_eq i j) [
-        | inl same ↦ same
-        | inr d ↦ elim (below i j d) [
-          | inl l ↦ let t = rises i j m n l in absurd (omega arith)
-          | inr l ↦ let t = rises j i n m l in absurd (omega arith)
-        ]
+      elim (cases_lt i j) [
+        | inl l ↦ let t = rises i j m n l in absurd (omega arith)
+        | inr g ↦ elim (cases_lt j i) [ inl l ↦ (let t = rises j i n m l in absurd (omega arith)) | inr f ↦ omega arith ]
       ]
-    where
-      below : (i j : ℕ) → (i ≡ j → ⊥) → (i < j) ⊎ (j < i)
-      below zero zero d = absurd (d refl)
-      below zero (suc j) d = inl (omega arith)
-      below (suc i) zero d = inr (omega arith)
-      below (suc i) (suc j) d = elim (below i j (λ e. d (ap suc e))) [ inl l ↦ inl (omega arith) | inr l ↦ inr (omega arith) ]
 
   time_keeps : (i j : ℕ) → Contains all i → Contains all j → i ≤ j → time i ≤ time j
   time_keeps i j m n l =
-      elim (cases_eq i j) [
-        | inl e ↦ let same : time i ≡ time j = ap time e in omega arith
-        | inr d ↦ let t = rises i j m n (strictly i j d l) in omega arith
+      elim (cases_lt i j) [
+        | inl k ↦ let t = rises i j m n k in omega arith
+        | inr g ↦ let e : i ≡ j = omega arith in let same : time i ≡ time j = ap time e in omega arith
       ]
-    where
-      strictly : (i j : ℕ) → (i ≡ j → ⊥) → i ≤ j → i < j
-      strictly zero zero d l = absurd (d refl)
-      strictly zero (suc j) d l = omega arith
-      strictly (suc i) zero d l = absurd (omega arith)
-      strictly (suc i) (suc j) d l = let r = strictly i j (λ e. d (ap suc e)) (omega arith) in omega arith
 
   time_tells : (i j : ℕ) → Contains all i → Contains all j → time i ≤ time j → i ≤ j
   time_tells i j m n l = grind arith
@@ -180,21 +155,18 @@ module _ (all : List ℕ) (link before : ℕ → ℕ → Bool) (time : ℕ → �
       let end = last_step left r k path.0 i d path.1 in
       not_both (link end.0 i) end.2 (h end.0 end.1))
 
-  ready_back : (i k : ℕ) → before k i ≡ false → link k i ≡ false
-  ready_back i k f = is_true (link k i) (λ t. not_both (before k i) (link_before k i t) f)
-
   next_forth : (left : List ℕ) → Rest left → (i : ℕ) → IsNext (λ j. j) link left i → IsNext time before left i
   next_forth left r i next = record {
     member = next.member;
     ready = ready_forth left r i next.member next.ready;
     least = λ j c h.
-        time_keeps i j (r.within i next.member) (r.within j c) (next.least j c (λ k d. ready_back j k (h k d)));
+        time_keeps i j (r.within i next.member) (r.within j c) (next.least j c (λ k d. (is_true (link k j) (λ t. not_both (before k j) (link_before k j t) (h k d)))));
   }
 
   next_back : (left : List ℕ) → Rest left → (i : ℕ) → IsNext time before left i → IsNext (λ j. j) link left i
   next_back left r i next = record {
     member = next.member;
-    ready = λ k d. ready_back i k (next.ready k d);
+    ready = λ k d. (is_true (link k i) (λ t. not_both (before k i) (link_before k i t) (next.ready k d)));
     least = λ j c h. time_tells i j (r.within i next.member) (r.within j c) (next.least j c (ready_forth left r j c h));
   }
 
@@ -229,14 +201,8 @@ module _ (all : List ℕ) (link before : ℕ → ℕ → Bool) (time : ℕ → �
   taken_by_links n left within closed =
       taken_alike link before (λ i. i) time AreRest
       (λ l m a i j c d e. e)
-      (λ l m a i j c d e.
-      let r = a.rest in
-      let into : (k : ℕ) → Contains m k → Contains all k = λ k f. r.within k (subst (λ z. Contains z k) (sym a.same) f) in
-      same_time i j (into i c) (into j d) e)
+      (grind (arith, same_time))
       (λ l m a i next. subst (λ z. IsNext time before z i) a.same (next_forth l a.rest i next))
       (λ l m a i next. next_back l a.rest i (subst (λ z. IsNext time before z i) (sym a.same) next))
-      (λ l m a i next. record {
-        same = same_without l a.rest i next.member ∙ ap (without time i) a.same;
-        rest = rest_without l a.rest i next;
-      })
+      (grind (arith, same_without, without, rest_without))
       n left left (record { same = refl; rest = record { within = within; closed = closed } })

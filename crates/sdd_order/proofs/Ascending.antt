@@ -23,8 +23,7 @@ pub insert_is : (ks : List ℕ) (k y : ℕ) → Contains (insert_key nat_cmp ks 
 insert_is [] k y m = elim (Contains-cases k [] y m) [ inl e ↦ inl e | inr n ↦ absurd (Contains-nil y n) ]
 insert_is (x ∷ xs) k y m =
     elim (compared k x) [
-      | inl l ↦ Contains-cases k (x ∷ xs) y
-          (subst (λ o. Contains (match_ordering o (k ∷ x ∷ xs) (x ∷ xs) (x ∷ insert_key nat_cmp xs k)) y) (less_is k x l) m)
+      | inl l ↦ grind (arith, Contains-cases, match_ordering, insert_key, nat_cmp, less_is)
       | inr (inl e) ↦ inr (subst (λ o. Contains (match_ordering o (k ∷ x ∷ xs) (x ∷ xs) (x ∷ insert_key nat_cmp xs k)) y) (equal_is k x e) m)
       | inr (inr g) ↦
           elim (Contains-cases x (insert_key nat_cmp xs k) y
@@ -43,8 +42,7 @@ insert_has (x ∷ xs) k y m =
           subst (λ o. Contains (match_ordering o (k ∷ x ∷ xs) (x ∷ xs) (x ∷ insert_key nat_cmp xs k)) y) (sym (less_is k x l))
           (elim m [ inl e ↦ subst (Contains (k ∷ x ∷ xs)) (sym e) (Contains-here k (x ∷ xs)) | inr h ↦ Contains-later k (x ∷ xs) y h ])
       | inr (inl e) ↦
-          subst (λ o. Contains (match_ordering o (k ∷ x ∷ xs) (x ∷ xs) (x ∷ insert_key nat_cmp xs k)) y) (sym (equal_is k x e))
-          (elim m [ inl f ↦ subst (Contains (x ∷ xs)) (sym (f ∙ e)) (Contains-here x xs) | inr h ↦ h ])
+          grind (arith, match_ordering, insert_key, nat_cmp, equal_is, Contains-here)
       | inr (inr g) ↦
           subst (λ o. Contains (match_ordering o (k ∷ x ∷ xs) (x ∷ xs) (x ∷ insert_key nat_cmp xs k)) y) (sym (greater_is k x g))
           (elim m [

@@ -58,12 +58,8 @@ in_turn p q (x ∷ h) e =
 
 pub comes_from : (p q : Rec → Bool) (h : History) (j k : ℕ) (r s : Rec) → IsRecordAt h j r → IsRecordAt h k s → j < k
     → p r ≡ true → q s ≡ true → comes_before p q h ≡ true
-comes_from p q [] j k r s a b l t u = absurd (cc)
-comes_from p q (x ∷ h) zero zero r s a b l t u = absurd (omega arith)
-comes_from p q (x ∷ h) zero (suc k) r s a b l t u = grind (arith, any_from)
-comes_from p q (x ∷ h) (suc j) zero r s a b l t u = absurd (omega arith)
-comes_from p q (x ∷ h) (suc j) (suc k) r s a b l t u =
-    or_right (p x.1 && list_any (λ d. q d.1) h) (comes_before p q h) (comes_from p q h j k r s a b (omega arith) t u)
+comes_from p q (x ∷ h) (suc j) (suc k) r s a b l t u = grind (arith, or_right, list_any, (comes_from p q h j k r s a b (omega arith) t u))
+comes_from p q h j k r s a b l t u = grind (arith, any_from)
 
 -- what is an Apply, and an Answer
 

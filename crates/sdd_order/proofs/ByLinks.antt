@@ -2,17 +2,13 @@
 use Rattle.sdd_order.proofs.All.{All, AreMarks, Catalogue, Committed, Contains, Contains-here, Contains-later, History, IsClass, IsOrderable, IsPath, Links, List, Marks, Some, UseExists, [], ap, arith, committed, cons_option, eq-eqb, get_or, get_or-map-range_with_len, get_or_default, has_link, in_order, length, length-map-range_with_len, links, map, nodes, numbers_at, option_map, order_of, precedes, refl, rules, same_Some, same_lists, serial_order, slice_get, slice_get-get_or, slice_get_within, sym, taken, true, txn_no, ℕ, ◌<◌, ◌∙◌, ◌∷◌, ◌≡◌}
 use Rattle.sdd_order.proofs.Alike.{taken_by_members, taken-map, taken_by_links}
 use Rattle.sdd_order.proofs.Ascending.{from_range}
-use Rattle.sdd_order.proofs.Members.{All-members, Contains-range, member_passes, passes_member}
+use Rattle.sdd_order.proofs.Members.{All-members, Contains-range, member_passes, passes_member, place_of}
 use Rattle.sdd_order.proofs.Paths.{path_as}
 use Rattle.sdd_order.proofs.Taken.{taken_is}
 use Rattle.sdd_order.proofs.EachLink.{class_exists, uses_exist, link_precedes}
 use Rattle.sdd_order.proofs.EachPrecedence.{precedence_linked}
 use Rattle.sdd_order.proofs.Implied.{AreInOrder}
 use Rattle.sdd_order.proofs.Serial.{differ}
-
--- the test and the links
-from_link : (some : Links) (i j : ℕ) → has_link some i j ≡ true → Contains some (i, j)
-from_link some i j e = grind (arith, member_passes)
 
 is_link : (some : Links) (i j : ℕ) → Contains some (i, j) → has_link some i j ≡ true
 is_link some i j c = search (rules, passes_member, eq-eqb)
@@ -24,12 +20,9 @@ module _ (cat : Catalogue) (h : History) (o : IsOrderable cat h) (marks : Marks)
   all_exist =
       All-members (λ t. IsClass cat t.start.class × All (UseExists cat) t.start.uses) txns
       (λ t c.
-      let is = place_of t c in
+      let is = place_of txns t c in
       let committed = ordered.committed is.0 t is.1 in
       (class_exists cat h o.numbers_exist t committed, uses_exist cat h o.numbers_exist t committed))
-    where
-      place_of : (t : Committed) → Contains txns t → (k : ℕ) × (slice_get txns k ≡ Some t)
-      place_of t c = (c.0, slice_get-get_or txns c.0 t c.1 ∙ ap (λ u. Some u) c.2)
 
   pub ends_within : All (λ l. (l.0 < length txns) × (l.1 < length txns)) (links cat marks txns)
   ends_within =
@@ -52,31 +45,25 @@ module _ (cat : Catalogue) (h : History) (o : IsOrderable cat h) (marks : Marks)
     all_at =
         let long = length-map-range_with_len at 0 (length txns) in
         same_lists (map at (nodes (length txns))) txns long
-        (λ i e l.
-        let below : i < length txns = omega (arith, l, long) in
-        get_or-map-range_with_len at 0 (length txns) i i e below (omega arith) ∙ get_or_default txns i d e below)
+        (grind (arith, get_or-map-range_with_len, get_or_default))
 
     link_before : (i j : ℕ) → has_link (links cat marks txns) i j ≡ true → precedes cat h (at i) (at j) ≡ true
     link_before i j e =
-        let p = link_precedes cat h o marks are txns ordered (i, j) (from_link (links cat marks txns) i j e) in
+        let p = link_precedes cat h o marks are txns ordered (i, j) (grind (arith, member_passes)) in
         let first : p.first ≡ at i = same_Some p.first (at i) (sym p.first_is ∙ at_is i (slice_get_within txns i p.first p.first_is)) in
         let second : p.second ≡ at j = same_Some p.second (at j) (sym p.second_is ∙ at_is j (slice_get_within txns j p.second p.second_is)) in
         ap (λ t. precedes cat h t (at j)) (sym first) ∙ ap (precedes cat h p.first) (sym second) ∙ p.precedes
 
     link_to : (i j : ℕ) → has_link (links cat marks txns) i j ≡ true → Contains (nodes (length txns)) j
     link_to i j e =
-        let p = link_precedes cat h o marks are txns ordered (i, j) (from_link (links cat marks txns) i j e) in
+        let p = link_precedes cat h o marks are txns ordered (i, j) (grind (arith, member_passes)) in
         let l = slice_get_within txns j p.second p.second_is in
         Contains-range 0 (length txns) j (omega arith) (omega arith)
 
     linked : (i j : ℕ) → Contains (nodes (length txns)) i → Contains (nodes (length txns)) j → precedes cat h (at i) (at j) ≡ true
         → (m : List ℕ) × IsPath (λ k l. has_link (links cat marks txns) k l ≡ true) i m j
     linked i j c e p =
-        let path = precedence_linked cat h o marks are txns ordered i j (at i) (at j) (at_is i (within i c)) (at_is j (within j e)) p in (
-          path.0,
-          path_as (λ a b. Contains (links cat marks txns) (a, b)) (λ a b. has_link (links cat marks txns) a b ≡ true)
-              (λ a b. is_link (links cat marks txns) a b) i path.0 j path.1,
-        )
+        let path = precedence_linked cat h o marks are txns ordered i j (at i) (at j) (at_is i (within i c)) (at_is j (within j e)) p in (grind (arith, path_as, links, has_link, is_link))
 
     rises : (i j : ℕ) → Contains (nodes (length txns)) i → Contains (nodes (length txns)) j → i < j → (at i).start.ts < (at j).start.ts
     rises i j c e l = ordered.rise i j (at i) (at j) (at_is i (within i c)) (at_is j (within j e)) l
@@ -101,9 +88,7 @@ module _ (cat : Catalogue) (h : History) (o : IsOrderable cat h) (marks : Marks)
         numbers_are (order_of (links cat marks txns) (length txns))
         (λ i c. within i (taken_is (λ k. k) (has_link (links cat marks txns)) (length txns) (nodes (length txns)) i c))
         ∙ ap (map (λ (t : Committed). txn_no t.start.txn))
-        (ap (map at) nodes_taken
-        ∙ sym (taken-map at (precedes cat h) (λ t. t.start.ts) (length txns) (nodes (length txns)))
-        ∙ ap (taken (precedes cat h) (λ t. t.start.ts) (length txns)) all_at)
+        (grind (arith, nodes_taken, taken-map, precedes, nodes, taken, all_at))
 
   module _ (long : length txns ≡ length (committed h)) (forth : (t : Committed) → Contains (committed h) t → Contains txns t)
       (back : (t : Committed) → Contains txns t → Contains (committed h) t) where
@@ -111,9 +96,6 @@ module _ (cat : Catalogue) (h : History) (o : IsOrderable cat h) (marks : Marks)
     in_committed =
         ap (λ n. taken (precedes cat h) (λ t. t.start.ts) n txns) long
         ∙ sym (taken_by_members (precedes cat h) (λ t. t.start.ts) (length (committed h)) (committed h) txns (differ cat h o) forth back)
-
-    nothing : txns ≡ [] → numbers_at txns (order_of (links cat marks txns) (length txns)) ≡ serial_order cat h
-    nothing none = grind arith
 
     pub order_found : numbers_at txns (order_of (links cat marks txns) (length txns)) ≡ serial_order cat h
     order_found = grind (arith, in_txns, in_committed)

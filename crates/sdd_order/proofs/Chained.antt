@@ -1,5 +1,5 @@
 -- Links along a list whose numbers rise: between which numbers there are paths of them.
-use Rattle.sdd_order.proofs.All.{Contains, Contains-cases, Contains-here, Contains-later, Contains-nil, IsPath, Links, List, None, Some, [], ap, arith, cases_eq, chain_after, chains, cond, eq-eqb, eqb-true, false, filter, group, groups, inl, inr, map, ne_eqb, range_with_len, refl, subst, suc, sym, true, zero, ℕ, ◌<◌, ◌==◌, ◌∷◌, ◌≡◌, ◌≤◌}
+use Rattle.sdd_order.proofs.All.{Contains, Contains-cases, Contains-here, Contains-later, Contains-nil, IsPath, Links, List, None, Some, [], arith, cases_eq, cases_lt, chain_after, chains, cond, eq-eqb, eqb-true, false, filter, group, groups, inl, inr, map, ne_eqb, range_with_len, refl, subst, sym, true, ℕ, ◌<◌, ◌==◌, ◌∷◌, ◌≡◌, ◌≤◌}
 use Rattle.sdd_order.proofs.Paths.{path_as}
 use Rattle.sdd_order.proofs.Members.{Contains-flat_map, Contains-from_flat_map, Contains-map, Contains-from_map, Contains-filter, Contains-from_filter, Contains-range}
 
@@ -39,17 +39,11 @@ chain_is m (n ∷ xs) r l c =
                 subst (InChain (m ∷ n ∷ xs)) (sym e) (record {
                   first = Contains-here m (n ∷ xs);
                   second = Contains-later m (n ∷ xs) n (Contains-here n xs);
-                  below = strictly m n d most;
+                  below = elim (cases_lt m n) [ inl u ↦ u | inr g ↦ absurd (d (omega arith)) ];
                 })
             | inr k ↦ later (chain_is n xs r.1 l k)
           ]
     ]
-  where
-    strictly : (a b : ℕ) → (a ≡ b → ⊥) → a ≤ b → a < b
-    strictly zero zero d l = absurd (d refl)
-    strictly zero (suc b) d l = omega arith
-    strictly (suc a) zero d l = absurd (omega arith)
-    strictly (suc a) (suc b) d l = let s = strictly a b (λ e. d (ap suc e)) (omega arith) in omega arith
 
 pub chained : (xs : List ℕ) → Rises xs → (l : ℕ × ℕ) → Contains (chain_after None xs) l → InChain xs l
 chained [] r l c = absurd (Contains-nil l c)
@@ -75,18 +69,12 @@ from_first m (n ∷ xs) r j c l =
                   | inl s ↦ ([], subst (λ z. Contains ((m, n) ∷ links) (m, z)) (sym s) (Contains-here (m, n) links))
                   | inr t ↦
                       let most = r.1.0 j k in
-                      let rest = from_first n xs r.1 j k (strictly n j (λ e. t (sym e)) most) in
+                      let rest = from_first n xs r.1 j k (elim (cases_lt n j) [ inl u ↦ u | inr g ↦ absurd (t (omega arith)) ]) in
                       let more = linked_by links ((m, n) ∷ links) (λ z w. Contains-later (m, n) links z w) n j rest in
                       (n ∷ more.0, (Contains-here (m, n) links, more.1))
                 ]
           ])
     ]
-  where
-    strictly : (a b : ℕ) → (a ≡ b → ⊥) → a ≤ b → a < b
-    strictly zero zero d l = absurd (d refl)
-    strictly zero (suc b) d l = omega arith
-    strictly (suc a) zero d l = absurd (omega arith)
-    strictly (suc a) (suc b) d l = let s = strictly a b (λ e. d (ap suc e)) (omega arith) in omega arith
 
 chain_more : (m n : ℕ) (xs : List ℕ) (l : ℕ × ℕ) → Contains (chain_after (Some n) xs) l → Contains (chain_after (Some m) (n ∷ xs)) l
 chain_more m n xs l c =

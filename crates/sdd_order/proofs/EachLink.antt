@@ -1,5 +1,5 @@
 -- Each link that is found is a precedence.
-use Rattle.sdd_order.proofs.All.{All, All-contains, All-head, All-tail, AreMarks, Bool, Catalogue, ChangeExists, Committed, Contains, Contains-append_cases, Contains-cases, Contains-get_or, Contains-nil, ExistsIn, FragNo, History, IsClass, IsCommitted, IsFragment, IsOrderable, IsRecordAt, List, Marks, NumbersExist, Rec, Some, Use, UseExists, [], arith, by_class, by_fragment, chains, changes, cond, end_of, enumerate_from, eqb-true, false, flat_map, fragment_links, fragments_in, get_or as slice_index_or, group, groups, has_seen, inl, inr, length, links, links_at, ltb-true, map, module_of, nat_lt, read_links, refl, same_Some, slice_get, subst, suc, sym, true, was_seen, zero, ℕ, ◌++◌, ◌+◌, ◌-◌, ◌<◌, ◌==◌, ◌∙◌, ◌∷◌, ◌≡◌, ◌⊎◌}
+use Rattle.sdd_order.proofs.All.{All, All-contains, All-head, All-tail, AreMarks, Catalogue, ChangeExists, Committed, Contains, Contains-append_cases, Contains-cases, Contains-get_or, Contains-nil, ExistsIn, FragNo, History, IsClass, IsCommitted, IsFragment, IsOrderable, IsRecordAt, List, Marks, NumbersExist, Rec, Some, Use, UseExists, [], arith, by_class, by_fragment, chains, changes, cond, end_of, enumerate_from, eqb-true, false, flat_map, fragment_links, fragments_in, get_or as slice_index_or, group, groups, has_seen, inl, inr, length, links, links_at, ltb-true, map, module_of, nat_lt, read_links, refl, same_Some, slice_get, subst, suc, sym, true, was_seen, zero, ℕ, ◌++◌, ◌+◌, ◌-◌, ◌<◌, ◌==◌, ◌∙◌, ◌∷◌, ◌≡◌, ◌⊎◌}
 use Rattle.sdd_order.proofs.Chained.{from_group, chains_are}
 use Rattle.sdd_order.proofs.Grouped.{group_at}
 use Rattle.sdd_order.proofs.Members.{Contains-from_flat_map, Contains-from_map, member_passes}
@@ -38,18 +38,7 @@ pub record AtEnd (writers : List ℕ) (reader k : ℕ) (l : ℕ × ℕ) : Type 0
   pub which : ((0 < k) × (l ≡ (slice_index_or writers (k - 1) 0, reader))) ⊎ ((k < length writers) × (l ≡ (reader, slice_index_or writers k 0)))
 
 at_end : (writers : List ℕ) (reader k : ℕ) (l : ℕ × ℕ) → Contains (links_at writers reader k) l → AtEnd writers reader k l
-at_end writers reader k l c =
-    let before : List (ℕ × ℕ) = cond (nat_lt 0 k) ((slice_index_or writers (k - 1) 0, reader) ∷ []) [] in
-    let after : List (ℕ × ℕ) = cond (nat_lt k (length writers)) ((reader, slice_index_or writers k 0) ∷ []) [] in
-    elim (Contains-append_cases before after l c) [
-      | inl m ↦ let r = only (nat_lt 0 k) (slice_index_or writers (k - 1) 0, reader) l m in record { which = inl (ltb-true 0 k r.0, r.1) }
-      | inr m ↦ let r = only (nat_lt k (length writers))
-          (reader, slice_index_or writers k 0) l m in record { which = inr (ltb-true k (length writers) r.0, r.1) }
-    ]
-  where
-    only : (b : Bool) (x l : ℕ × ℕ) → Contains (cond b (x ∷ []) []) l → (b ≡ true) × (l ≡ x)
-    only true x l c = (refl, elim (Contains-cases x [] l c) [ inl e ↦ e | inr n ↦ absurd (Contains-nil l n) ])
-    only false x l c = absurd (Contains-nil l c)
+at_end writers reader k l c = grind (arith, nat_lt, slice_index_or, ltb-true, Contains-cases, Contains-nil)
 
 module _ (cat : Catalogue) (h : History) (o : IsOrderable cat h) (marks : Marks) (are : AreMarks h marks) (txns : List Committed)
     (ordered : AreInOrder h txns) where

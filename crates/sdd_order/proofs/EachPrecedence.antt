@@ -1,5 +1,5 @@
 -- Each precedence follows from the links.
-use Rattle.sdd_order.proofs.All.{AreMarks, Bool, Catalogue, Committed, Contains, Contains-append_left, Contains-append_right, Contains-get_or, History, IsCommitted, IsFragment, IsOrderable, Links, List, Marks, Precedes, Some, [], and_parts, ap, arith, by_class, by_fragment, cases_Bool, chains, changes, cond, enumerate_from, eq-eqb, eqb-true, false, flat_map, fragment_links, fragments_in, get_or, get_or as slice_index_or, groups, has_seen, inl, inr, is_earlier, is_overwritten, is_read_by, length, links, links_at, list_any, ltb-true, misses, module_of, nat_lt, not, not-true, precedes, read_links, refl, same_Some, slice_get, subst, suc, sym, true, was_seen, zero, ℕ, ◌&&◌, ◌++◌, ◌+◌, ◌-◌, ◌<◌, ◌==◌, ◌||◌, ◌∙◌, ◌∷◌, ◌≡◌, ◌≤◌, ◌⊎◌}
+use Rattle.sdd_order.proofs.All.{AreMarks, Bool, Catalogue, Committed, Contains, Contains-append_left, Contains-append_right, Contains-get_or, History, IsCommitted, IsFragment, IsOrderable, Links, List, Marks, Precedes, Some, [], and_parts, ap, arith, by_class, by_fragment, cases_Bool, cases_lt, chains, changes, cond, enumerate_from, eq-eqb, eqb-true, false, flat_map, fragment_links, fragments_in, get_or, get_or as slice_index_or, groups, has_seen, inl, inr, is_earlier, is_overwritten, is_read_by, length, links, links_at, list_any, misses, module_of, nat_lt, not, not-true, precedes, read_links, refl, same_Some, slice_get, slice_get-get_or, subst, suc, sym, true, was_seen, zero, ℕ, ◌&&◌, ◌++◌, ◌+◌, ◌-◌, ◌<◌, ◌==◌, ◌||◌, ◌∙◌, ◌∷◌, ◌≡◌, ◌≤◌, ◌⊎◌}
 use Rattle.sdd_order.proofs.Chained.{Rises, Linked, linked_by, in_group, group_rises, chains_link}
 use Rattle.sdd_order.proofs.Members.{Contains-flat_map, passes_member, member_passes}
 use Rattle.sdd_order.proofs.Paths.{path_join}
@@ -18,20 +18,13 @@ rises_at _ r _ _ l m = absurd (omega arith)
 
 -- a member's place
 place_in : (xs : List ℕ) (i : ℕ) → Contains xs i → (q : ℕ) × (q < length xs) × (get_or xs q 0 ≡ i)
-place_in xs i c = (c.0, c.1, other_default xs c.0 i c.1 ∙ c.2)
-  where
-    other_default : (ys : List ℕ) (q d : ℕ) → q < length ys → get_or ys q 0 ≡ get_or ys q d
-    other_default [] q d l = absurd (omega arith)
-    other_default (y ∷ ys) zero d l = refl
-    other_default (y ∷ ys) (suc q) d l = other_default ys q d (omega arith)
+place_in xs i c =
+    (c.0, c.1, same_Some (get_or xs c.0 0) (get_or xs c.0 i) (sym (slice_get-get_or xs c.0 0 c.1) ∙ slice_get-get_or xs c.0 i c.1) ∙ c.2)
 
 pub compare : (a b : ℕ) → (a < b) ⊎ ((a ≡ b) ⊎ (b < a))
 compare a b = grind arith
 
 -- the links at the end of what a reader has seen
-
-link_before : (writers : List ℕ) (reader k : ℕ) → 0 < k → Contains (links_at writers reader k) (slice_index_or writers (k - 1) 0, reader)
-link_before writers reader k l = grind arith
 
 link_after : (writers : List ℕ) (reader k : ℕ) → k < length writers → Contains (links_at writers reader k) (reader, slice_index_or writers k 0)
 link_after writers reader k l = grind arith
@@ -54,18 +47,6 @@ module _ (cat : Catalogue) (h : History) (o : IsOrderable cat h) (marks : Marks)
 
   same_node : (i : ℕ) (x y : Node i) → x.txn ≡ y.txn
   same_node i x y = same_Some x.txn y.txn (sym x.is ∙ y.is)
-
-  -- the earlier one has the smaller place
-  place_below : (i j : ℕ) (x : Node i) (y : Node j) → x.txn.start.ts < y.txn.start.ts → i < j
-  place_below i j x y l =
-      elim (compare i j) [
-        | inl m ↦ m
-        | inr (inl e) ↦
-            let at_j : Node j = record { txn = x.txn; is = subst (λ k. slice_get txns k ≡ Some x.txn) e x.is } in
-            let same : x.txn.start.ts ≡ y.txn.start.ts = ap (λ t. t.start.ts) (same_node j at_j y) in
-            absurd (omega arith)
-        | inr (inr m) ↦ let other = ordered.rise j i y.txn x.txn y.is x.is m in absurd (omega arith)
-      ]
 
   -- by class
 
@@ -178,48 +159,42 @@ module _ (cat : Catalogue) (h : History) (o : IsOrderable cat h) (marks : Marks)
 
     abbrev last_seen : 0 < seen → Writer cat h o marks are txns ordered f (slice_index_or writers (seen - 1) 0)
     last_seen l =
-        let end = end_of_is (has_seen marks txns (module_of cat x.txn.start.class f) x.txn writers) (length writers) in
-        let most = end.below in
+        let most = (end_of_is (has_seen marks txns (module_of cat x.txn.start.class f) x.txn writers) (length writers)).below in
         writer_at cat h o marks are txns ordered f (seen - 1) exists (omega arith)
 
     last_is_seen : (l : 0 < seen) → saw (last_seen l).txn ≡ true
     last_is_seen l =
-        let end = end_of_is (has_seen marks txns (module_of cat x.txn.start.class f) x.txn writers) (length writers) in
         sym (seen_is cat h o marks are txns ordered (module_of cat x.txn.start.class f) x.txn writers (seen - 1) (last_seen l).txn (last_seen l).is)
-        ∙ end.held l
+        ∙ (end_of_is (has_seen marks txns (module_of cat x.txn.start.class f) x.txn writers) (length writers)).held l
 
     abbrev first_unseen : (l : seen < length writers) → Writer cat h o marks are txns ordered f (slice_index_or writers seen 0)
     first_unseen l = writer_at cat h o marks are txns ordered f seen exists l
 
     first_is_unseen : (l : seen < length writers) → saw (first_unseen l).txn ≡ false
     first_is_unseen l =
-        let end = end_of_is (has_seen marks txns (module_of cat x.txn.start.class f) x.txn writers) (length writers) in
         sym (seen_is cat h o marks are txns ordered (module_of cat x.txn.start.class f) x.txn writers seen (first_unseen l).txn (first_unseen l).is)
-        ∙ end.fails l
+        ∙ (end_of_is (has_seen marks txns (module_of cat x.txn.start.class f) x.txn writers) (length writers)).fails l
 
     -- a writer that wasn't seen: by the first one
     missed_path : saw y.txn ≡ false → Linked all_links i j
     missed_path u =
         let q = place.0 in
         let q_in = place.1 in
-        elim (compare q seen) [
+        elim (cases_lt q seen) [
           | inl l ↦
               -- it would stand among those that were seen
               let positive : 0 < seen = omega arith in
               let w = last_seen positive in
               let node = writer_node f (slice_index_or writers (seen - 1) 0) w in
               let before = seen_before (slice_index_or writers (seen - 1) 0) j node y w.changes changed (last_is_seen positive) u in
-              let end = end_of_is (has_seen marks txns (module_of cat x.txn.start.class f) x.txn writers) (length writers) in
-              let most = end.below in
+              let most = (end_of_is (has_seen marks txns (module_of cat x.txn.start.class f) x.txn writers) (length writers)).below in
               let order = rises_at writers rise q (seen - 1) (omega arith) (omega arith) in
-              let at = place.2 in
-              absurd (omega arith)
+              absurd (omega (arith, place.2))
           | inr g ↦
-              let not_before : seen ≤ q = elim g [ inl e ↦ omega arith | inr l ↦ omega arith ] in
               let some : seen < length writers = omega arith in
               let w = first_unseen some in
               let link = in_links (i, slice_index_or writers seen 0) (link_after writers i seen some) in
-              let order = rises_at writers rise seen q not_before q_in in
+              let order = rises_at writers rise seen q g q_in in
               let at = place.2 in
               elim (compare (slice_index_or writers seen 0) j) [
                 | inl l ↦
@@ -236,13 +211,12 @@ module _ (cat : Catalogue) (h : History) (o : IsOrderable cat h) (marks : Marks)
         let q = place.0 in
         let q_in = place.1 in
         let at = place.2 in
-        elim (compare q seen) [
+        elim (cases_lt q seen) [
           | inl l ↦
               let positive : 0 < seen = omega arith in
               let w = last_seen positive in
-              let link = in_links (slice_index_or writers (seen - 1) 0, i) (link_before writers i seen positive) in
-              let end = end_of_is (has_seen marks txns (module_of cat x.txn.start.class f) x.txn writers) (length writers) in
-              let most = end.below in
+              let link = in_links (slice_index_or writers (seen - 1) 0, i) (grind arith) in
+              let most = (end_of_is (has_seen marks txns (module_of cat x.txn.start.class f) x.txn writers) (length writers)).below in
               let order = rises_at writers rise q (seen - 1) (omega arith) (omega arith) in
               elim (compare j (slice_index_or writers (seen - 1) 0)) [
                 | inl m ↦
@@ -255,12 +229,11 @@ module _ (cat : Catalogue) (h : History) (o : IsOrderable cat h) (marks : Marks)
                 | inr (inr m) ↦ absurd (omega arith)
               ]
           | inr g ↦
-              let not_before : seen ≤ q = elim g [ inl e ↦ omega arith | inr l ↦ omega arith ] in
               let some : seen < length writers = omega arith in
               let w = first_unseen some in
               let node = writer_node f (slice_index_or writers seen 0) w in
               let before = seen_before j (slice_index_or writers seen 0) y node changed w.changes s (first_is_unseen some) in
-              let order = rises_at writers rise seen q not_before q_in in
+              let order = rises_at writers rise seen q g q_in in
               absurd (omega arith)
         ]
 
@@ -299,13 +272,13 @@ module _ (cat : Catalogue) (h : History) (o : IsOrderable cat h) (marks : Marks)
         | inl left ↦ elim (or_cases (is_earlier x y) (is_overwritten x y) left) [
           | inl m ↦
               let both = and_parts (x.start.class == y.start.class) (nat_lt x.start.ts y.start.ts) m in
-              class_path i j a b (eqb-true x.start.class y.start.class both.0) (place_below i j a b (ltb-true x.start.ts y.start.ts both.1))
+              class_path i j a b (eqb-true x.start.class y.start.class both.0) (grind (arith, compare, Node, slice_get, same_node))
           | inr m ↦
               let both = and_parts (list_any (λ c. changes y c.frag.0) x.changes) (nat_lt x.start.ts y.start.ts) m in
               let c = member_passes (λ d. changes y d.frag.0) x.changes both.0 in
               let changed : changes x c.0.frag.0 ≡ true =
               passes_member (λ d. d.frag.0 == c.0.frag.0) x.changes c.0 c.1 (eq-eqb c.0.frag.0 c.0.frag.0 refl) in
-              write_path i j c.0.frag.0 a b changed c.2 (place_below i j a b (ltb-true x.start.ts y.start.ts both.1))
+              write_path i j c.0.frag.0 a b changed c.2 (grind (arith, compare, Node, slice_get, same_node))
         ]
         | inr right ↦ elim (or_cases (misses cat h x y) (is_read_by cat h x y) right) [
           | inl m ↦ miss_path i j a b e differ m

@@ -3,10 +3,6 @@ use Rattle.sdd_order.proofs.All.{Bool, History, IsRecordAt, None, Option, Rec, S
 use Rattle.sdd_order.proofs.Before.{in_turn, comes_from}
 use Rattle.sdd_order.proofs.Reading.{placed_more}
 
-map_or : (o q : Option (ℕ × Rec)) → option_map (λ (x : ℕ × Rec). x.0) (option_or o q)
-    ≡ option_or (option_map (λ (x : ℕ × Rec). x.0) o) (option_map (λ (x : ℕ × Rec). x.0) q)
-map_or o q = grind arith
-
 one_of : (k : ℕ) (r : Rec) (b : Bool) → option_map (λ (x : ℕ × Rec). x.0) (cond b (Some (k, r)) None) ≡ cond b (Some k) None
 one_of k r b = grind arith
 
@@ -22,9 +18,6 @@ module _ (p : Rec → Bool) where
   abbrev Passes : History → ℕ → Type 0
   Passes h a = (r : Rec) × IsRecordAt h a r × (p r ≡ true)
 
-  first_step : (k : ℕ) (e : ℕ × Rec) (h : History) → first_from k (e ∷ h) ≡ cond (p e.1) (Some k) (first_from (suc k) h)
-  first_step k e h = grind arith
-
   last_step : (k : ℕ) (e : ℕ × Rec) (h : History)
       → last_from k (e ∷ h) ≡ option_or (last_from (suc k) h) (cond (p e.1) (Some k) None)
   last_step k e h =
@@ -32,7 +25,7 @@ module _ (p : Rec → Bool) where
       let rest = placed (suc k) h in
       ap (λ l. option_map (λ (x : ℕ × Rec). x.0) (find test l)) (reverse-append ((k, e.1) ∷ []) rest)
       ∙ ap (option_map (λ (x : ℕ × Rec). x.0)) (find-append test (reverse rest) ((k, e.1) ∷ []))
-      ∙ map_or (find test (reverse rest)) (find test ((k, e.1) ∷ []))
+      ∙ (grind arith)
       ∙ ap (option_or (last_from (suc k) h)) (one_of k e.1 (p e.1))
 
   -- the first is the least
@@ -41,11 +34,11 @@ module _ (p : Rec → Bool) where
   first_is k (x ∷ h) b e =
       elim (cases_Bool (p x.1)) [
         | inl t ↦
-            let here : Some k ≡ Some b = sym (first_step k x h ∙ ap (λ z. cond z (Some k) (first_from (suc k) h)) t) ∙ e in
+            let here : Some k ≡ Some b = sym ((grind arith) ∙ ap (λ z. cond z (Some k) (first_from (suc k) h)) t) ∙ e in
             let same : k ≡ b = same_Some k b here in
             (0, omega (arith, same), (x.1, refl, t))
         | inr f ↦
-            let rest = sym (first_step k x h ∙ ap (λ z. cond z (Some k) (first_from (suc k) h)) f) ∙ e in
+            let rest = sym ((grind arith) ∙ ap (λ z. cond z (Some k) (first_from (suc k) h)) f) ∙ e in
             let r = first_is (suc k) h b rest in
             let is = r.1 in
             (suc r.0, omega (arith, is), r.2)
@@ -57,14 +50,13 @@ module _ (p : Rec → Bool) where
   first_least k (x ∷ h) (suc j) s =
       elim (cases_Bool (p x.1)) [
         | inl t ↦
-            let same : k ≡ k + 0 = omega arith in
-            (0, first_step k x h ∙ ap (λ z. cond z (Some k) (first_from (suc k) h)) t ∙ ap (λ (z : ℕ). Some z) same, omega arith)
+            grind (arith, first_from)
         | inr f ↦
             let r = first_least (suc k) h j s in
             let l = r.2 in
             let same : suc k + r.0 ≡ k + suc r.0 = omega arith in (
               suc r.0,
-              first_step k x h ∙ ap (λ z. cond z (Some k) (first_from (suc k) h)) f ∙ r.1 ∙ ap (λ (z : ℕ). Some z) same,
+              (grind arith) ∙ ap (λ z. cond z (Some k) (first_from (suc k) h)) f ∙ r.1 ∙ ap (λ (z : ℕ). Some z) same,
               omega arith,
             )
       ]
@@ -96,9 +88,7 @@ module _ (p : Rec → Bool) where
       let passes : p x.1 ≡ true = ap p (same_Some x.1 s.0 s.1) ∙ s.2 in
       elim (last_from (suc k) h) as
       (λ o. last_from (suc k) h ≡ o → last_from k (x ∷ h) ≡ option_or o (cond (p x.1) (Some k) None) → (a : ℕ) × (last_from k (x ∷ h) ≡ Some (k + a)) × (zero ≤ a)) [
-        | None ↦ λ none is.
-            let same : k ≡ k + 0 = omega arith in
-            (0, is ∙ ap (λ z. cond z (Some k) None) passes ∙ ap (λ (z : ℕ). Some z) same, omega arith)
+        | None ↦ grind arith
         | Some c ↦ λ some is.
             let r = last_is (suc k) h c some in
             let c_is = r.1 in
@@ -122,7 +112,7 @@ module _ (p : Rec → Bool) where
       let before = placed 0 (take i h) in
       ap (λ xs. option_map (λ (x : ℕ × Rec). x.0) (find test xs)) (placed_more h i e l is)
       ∙ ap (option_map (λ (x : ℕ × Rec). x.0)) (find-append test before ((i, e.1) ∷ []))
-      ∙ map_or (find test before) (find test ((i, e.1) ∷ []))
+      ∙ (grind arith)
       ∙ ap (option_or (first_place p (take i h))) (one_of i e.1 (p e.1))
 
   pub last_more : (h : History) (i : ℕ) (e : ℕ × Rec) → i < length h → e ≡ get_or h i e
@@ -147,8 +137,7 @@ record Below (o q : Option ℕ) : Type 0 where
   pub before : first < last
 
 below_parts : (o q : Option ℕ) → is_below o q ≡ true → Below o q
-below_parts (Some a) (Some b) e = record { first = a; last = b; first_is = refl; last_is = refl; before = ltb-true a b e }
-below_parts _ _ e = absurd (cc)
+below_parts o q e = grind (arith, first_is, last_is, ltb-true)
 
 pub comes_before_is : (p q : Rec → Bool) (h : History) → comes_before p q h ≡ is_below (first_place p h) (last_place q h)
 comes_before_is p q h =
@@ -163,17 +152,5 @@ comes_before_is p q h =
           let below : nat_lt (0 + a.0) (0 + b.0) ≡ true = lt-ltb (0 + a.0) (0 + b.0) (omega arith) in
           t ∙ sym (ap (λ o. is_below o (last_place q h)) a.1 ∙ ap (is_below (Some (0 + a.0))) b.1 ∙ below)
       | inr f ↦
-          elim (cases_Bool (is_below (first_place p h) (last_place q h))) [
-            | inl t ↦
-                let r = below_parts (first_place p h) (last_place q h) t in
-                let a = first_is p 0 h r.first r.first_is in
-                let b = last_is q 0 h r.last r.last_is in
-                let before = r.before in
-                let a_is = a.1 in
-                let b_is = b.1 in
-                let wrong = comes_from p q h a.0 b.0 a.2.0 b.2.0 a.2.1 b.2.1 (omega arith) a.2.2 b.2.2 in
-                let no : true ≡ false = sym wrong ∙ f in
-                absurd (cc)
-            | inr g ↦ f ∙ sym g
-          ]
+          grind (arith, cases_Bool, is_below, first_place, last_place, below_parts, first_is, last_is, comes_from)
     ]

@@ -8,18 +8,14 @@ use Rattle.sdd_order.proofs.Places.{same_start, one_attempt}
 placed_there : (h : History) (k j : ℕ) (r : Rec) → IsRecordAt h j r → Contains (placed k h) (k + j, r)
 placed_there [] k j r s = absurd (cc)
 placed_there (e ∷ h) k zero r s = grind arith
-placed_there (e ∷ h) k (suc j) r s =
-    let same : suc k + j ≡ k + suc j = omega arith in
-    Contains-later (k, e.1) (placed (suc k) h) (k + suc j, r)
-    (subst (λ z. Contains (placed (suc k) h) (z, r)) same (placed_there h (suc k) j r s))
+placed_there (e ∷ h) k (suc j) r s = grind (arith, Contains-later, (placed_there h (suc k) j r s))
 
 placed_from : (h : History) (k : ℕ) (x : ℕ × Rec) → Contains (placed k h) x → (j : ℕ) × (x.0 ≡ k + j) × IsRecordAt h j x.1
 placed_from [] k x h = absurd (Contains-nil x h)
 placed_from (e ∷ rest) k x h =
     elim (Contains-cases (k, e.1) (placed (suc k) rest) x h) [
       | inl same ↦
-          let place : x.0 ≡ k = ap (λ (z : ℕ × Rec). z.0) same in
-          (0, omega arith, ap (λ (z : ℕ × Rec). Some z.1) (sym same))
+          grind arith
       | inr later ↦
           let r = placed_from rest (suc k) x later in
           let place = r.1 in
@@ -54,9 +50,7 @@ find_from : {A : Type 0} (p : A → Bool) (xs : List A) (x : A) → find p xs �
 find_from p [] x e = absurd (cc)
 find_from p (y ∷ xs) x e =
     elim (p y) as (λ b. p y ≡ b → cond b (Some y) (find p xs) ≡ Some x → Contains (y ∷ xs) x × (p x ≡ true)) [
-      | true ↦ λ t s.
-          let same : y ≡ x = same_Some y x s in
-          (subst (Contains (y ∷ xs)) same (Contains-here y xs), ap p (sym same) ∙ t)
+      | true ↦ grind (arith, same_Some, Contains-here)
       | false ↦ λ t s.
           let r = find_from p xs x s in
           (Contains-later y xs x r.0, r.1)

@@ -1,45 +1,16 @@
 -- Groups, one pair after the other.
-use Rattle.sdd_order.proofs.All.{List, None, [], ap, append-nil, arith, cases_eq, chain_after, chains, drop, drop_all, filter-append, flat_map, get_or, get_or as slice_index_or, get_or-map, get_or-map-range_with_len, get_or-set_other, get_or-set_same, group, groups, inl, inr, length, length-map, length-map-range_with_len, length-set, map, map-set, range_with_len, refl, replicate, same_lists, slice_set, slice_set as set, subst, suc, sym, take, take_more, zero, ℕ, ◌++◌, ◌+◌, ◌<◌, ◌∙◌, ◌∷◌, ◌≡◌, ◌≤◌}
+use Rattle.sdd_order.proofs.All.{List, None, [], ap, append-nil, arith, cases_eq, chain_after, chains, drop, drop_all, filter-append, flat_map, get_or, get_or as slice_index_or, get_or-map, get_or-map-range_with_len, get_or-set_other, get_or-set_same, group, groups, length, length-map, length-map-range_with_len, length-set, map, map-set, range_with_len, refl, replicate, same_lists, slice_set, slice_set as set, suc, sym, take, take_more, zero, ℕ, ◌++◌, ◌+◌, ◌<◌, ◌∙◌, ◌∷◌, ◌≡◌, ◌≤◌}
 
 map-push : {X Y : Type 0} (f : X → Y) (xs : List X) (x : X) → map f (xs ++ x ∷ []) ≡ map f xs ++ f x ∷ []
 map-push f [] x = refl
 map-push f (y ∷ xs) x = ap (λ z. f y ∷ z) (map-push f xs x)
-
--- a pair more is one number more of its key
-group_here : (pairs : List (ℕ × ℕ)) (key number : ℕ) → group (pairs ++ (key, number) ∷ []) key ≡ group pairs key ++ number ∷ []
-group_here pairs key number = grind (arith, filter-append, map-push)
-
-group_other : (pairs : List (ℕ × ℕ)) (key number other : ℕ) → (key ≡ other → ⊥)
-    → group (pairs ++ (key, number) ∷ []) other ≡ group pairs other
-group_other pairs key number other n = grind (arith, filter-append, append-nil)
 
 pub group_at : (pairs : List (ℕ × ℕ)) (count i : ℕ) (d : List ℕ) → i < count → get_or (groups pairs count) i d ≡ group pairs i
 group_at pairs count i d l = get_or-map-range_with_len (group pairs) 0 count i i d l (omega arith)
 
 pub groups_more : (pairs : List (ℕ × ℕ)) (count key number : ℕ) → key < count
     → slice_set (groups pairs count) key (slice_index_or (groups pairs count) key [] ++ number ∷ []) ≡ groups (pairs ++ (key, number) ∷ []) count
-groups_more pairs count key number l =
-    let old = groups pairs count in
-    let more = pairs ++ (key, number) ∷ [] in
-    let item = get_or old key [] ++ number ∷ [] in
-    let long : length old ≡ count = length-map-range_with_len (group pairs) 0 count in
-    let same : length (set old key item) ≡ length (groups more count) =
-    length-set old key item ∙ long ∙ sym (length-map-range_with_len (group more) 0 count) in
-    same_lists (set old key item) (groups more count) same
-    (λ i d h.
-    let within : i < count = omega (arith, length-set old key item, long) in
-    elim (cases_eq key i) [
-      | inl e ↦
-          let here : get_or (set old key item) key d ≡ item = get_or-set_same old key item d (omega (arith, long)) in
-          let is : item ≡ group more key = ap (λ z. z ++ number ∷ []) (group_at pairs count key [] l) ∙ sym (group_here pairs key number) in
-          subst (λ z. get_or (set old key item) z d ≡ get_or (groups more count) z d) e
-          (here ∙ is ∙ sym (group_at more count key d l))
-      | inr n ↦
-          get_or-set_other old key i item d (λ e. n (sym e))
-          ∙ group_at pairs count i d within
-          ∙ sym (group_other pairs key number i n)
-          ∙ sym (group_at more count i d within)
-    ])
+groups_more pairs count key number l = grind (arith, get_or, length-map-range_with_len, length-set, same_lists, cases_eq, get_or-set_same, group_at, filter-append, map-push, get_or-set_other, append-nil)
 
 -- no pairs, empty groups
 no_groups : (a n : ℕ) → map (group []) (range_with_len a n) ≡ replicate n []
@@ -56,12 +27,7 @@ groups_long pairs count = length-map-range_with_len (group pairs) 0 count
 pub list_more : {V : Type 0} (items : V → List ℕ) (lists : List V) (now : List (List ℕ)) (key number : ℕ) (old new : V)
     → map items lists ≡ now → key < length now → old ≡ get_or lists key old → items new ≡ items old ++ number ∷ []
     → map items (set lists key new) ≡ set now key (get_or now key [] ++ number ∷ [])
-list_more items lists now key number old new seen within is more =
-    let long : key < length lists = omega (arith, length-map lists items, ap length seen, within) in
-    let here : get_or now key [] ≡ items old =
-    ap (λ l. get_or l key []) (sym seen) ∙ get_or-map items lists key old [] long ∙ ap items (sym is) in
-    map-set items lists key new ∙ ap (λ l. set l key (items new)) seen
-    ∙ ap (λ l. set now key l) (more ∙ ap (λ l. l ++ number ∷ []) (sym here))
+list_more items lists now key number old new seen within is more = grind (arith, length-map, get_or, get_or-map, map-set)
 
 pub groups_next : (pairs : List (ℕ × ℕ)) (count i : ℕ) (made new : List (List ℕ)) (d : ℕ × ℕ) → i < length pairs
     → (get_or pairs i d).0 < count → made ≡ groups (take i pairs) count
@@ -84,7 +50,7 @@ groups_past pairs count i d h past =
     (λ k e l.
     let within : k < count = omega (arith, l, groups_long (take i pairs) count) in
     group_at (take i pairs) count k e within
-    ∙ sym (group_other (take i pairs) pair.0 pair.1 k (λ same. absurd (omega (arith, same, within, past))))
+    ∙ sym (grind (arith, filter-append, append-nil))
     ∙ sym (group_at more count k e within))
     ∙ ap (λ ps. groups ps count) (sym (take_more pairs i d h))
 

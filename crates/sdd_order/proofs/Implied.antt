@@ -1,5 +1,5 @@
 -- Each link is a precedence.
-use Rattle.sdd_order.proofs.All.{AreMarks, Bool, Catalogue, Committed, Contains, History, IsCommitted, IsOrderable, List, Marks, None, Some, and_from, ap, arith, changes, eqb-true, false, fragments_in, get_or as slice_index_or, has_seen, is_earlier, is_overwritten, is_read_by, list_any, lt-ltb, misses, module_of, nat_lt, not, precedes, rules, sees, slice_get, sym, true, was_seen, ℕ, ◌&&◌, ◌-◌, ◌<◌, ◌==◌, ◌||◌, ◌∙◌, ◌≡◌, ◌≢◌}
+use Rattle.sdd_order.proofs.All.{AreMarks, Bool, Catalogue, Committed, Contains, History, IsCommitted, IsOrderable, List, Marks, None, Some, and_from, ap, arith, changes, eqb-true, false, fragments_in, get_or as slice_index_or, has_seen, is_earlier, is_overwritten, is_read_by, list_any, lt-ltb, misses, module_of, nat_lt, not, precedes, rules, sees, slice_get, sym, true, was_seen, ℕ, ◌&&◌, ◌-◌, ◌<◌, ◌==◌, ◌∙◌, ◌≡◌, ◌≢◌}
 use Rattle.sdd_order.proofs.Members.{passes_member, member_passes}
 use Rattle.sdd_order.proofs.Firsts.{comes_before_is}
 use Rattle.sdd_order.proofs.Serial.{one_txn}
@@ -25,10 +25,6 @@ module _ (cat : Catalogue) (h : History) where
   misses_it x y f c b s =
       passes_member (λ g. changes y g && not (was_seen h y (module_of cat x.start.class g) x)) (fragments_in x.start.uses) f c
       (and_from (changes y f) (not (was_seen h y (module_of cat x.start.class f) x)) b (ap not s))
-
-  by_kind : (x y : Committed) → x.start.txn ≢ y.start.txn
-      → ((is_earlier x y || is_overwritten x y) || (misses cat h x y || is_read_by cat h x y)) ≡ true → precedes cat h x y ≡ true
-  by_kind x y d e = grind arith
 
   module _ (x y : Committed) (d : x.start.txn ≢ y.start.txn) where
     pub by_class_order : is_earlier x y ≡ true → precedes cat h x y ≡ true

@@ -1,5 +1,5 @@
 -- The committed transactions, sorted by their timestamps.
-use Rattle.sdd_order.proofs.All.{All-contains, All-contains_itself, All-permutation, AllByRecursion, Attempt, Bool, Catalogue, Committed, Contains, Contains-cases, Contains-here, Contains-later, Contains-nil, History, IsCommitted, IsDistinct-IsPermutation, IsDistinct-cons, IsDistinct-head, IsDistinct-tail, IsNonDecreasingBy, IsOrderable, IsPermutation, IsPermutation-sym, List, None, Rec, Some, [], ap, arith, attempts, cases_eq, committed, committed_of, cons_option, eq-eqb, false, filter_map, get_or, inl, inr, length, ne_eqb, placed, refl, same_Some, slice_get, subst, suc, sym, true, zero, ℕ, ◌<◌, ◌==◌, ◌∙◌, ◌∷◌, ◌≡◌, ◌≤◌}
+use Rattle.sdd_order.proofs.All.{All-contains, All-contains_itself, All-permutation, AllByRecursion, Attempt, Bool, Catalogue, Committed, Contains, Contains-cases, Contains-here, Contains-later, Contains-nil, History, IsCommitted, IsDistinct-IsPermutation, IsDistinct-cons, IsDistinct-head, IsDistinct-tail, IsNonDecreasingBy, IsOrderable, IsPermutation, IsPermutation-sym, List, None, Rec, Some, [], ap, arith, attempts, cases_eq, cases_lt, committed, committed_of, cons_option, eq-eqb, false, filter_map, get_or, inl, inr, length, ne_eqb, placed, refl, same_Some, slice_get, slice_get-get_or, slice_get_within, subst, suc, sym, true, zero, ℕ, ◌<◌, ◌==◌, ◌∙◌, ◌∷◌, ◌≡◌, ◌≤◌}
 use Rattle.std.specs.List.{IsDistinct}
 use Rattle.sdd_order.proofs.Found.{from_committed}
 use Rattle.sdd_order.proofs.Implied.{AreInOrder}
@@ -18,6 +18,13 @@ every P (x ∷ xs) h = (h x (Contains-here x xs), every P xs (λ y m. h y (Conta
 pub each : {X : Type 0} (P : X → Type 0) (xs : List X) → AllByRecursion P xs → (x : X) → Contains xs x → P x
 each P [] a x m = absurd (Contains-nil x m)
 each P (y ∷ xs) a x m = elim (Contains-cases y xs x m) [ inl e ↦ subst P (sym e) a.0 | inr k ↦ each P xs a.1 x k ]
+
+place_is : {X : Type 0} (ys : List X) (k : ℕ) (w : X) → slice_get ys k ≡ Some w → (k < length ys) × ((d : X) → get_or ys k d ≡ w)
+place_is ys k w e =
+    let l = slice_get_within ys k w e in (l, λ d. same_Some (get_or ys k d) w (sym (slice_get-get_or ys k d l) ∙ e))
+
+at_place : {X : Type 0} (ys : List X) (k : ℕ) (w : X) → slice_get ys k ≡ Some w → Contains ys w
+at_place ys k w e = let p = place_is ys k w e in (k, p.0, p.1 w)
 
 -- a committed transaction has the place of its Commit
 committed_place : (starts : List Attempt) (k : ℕ) (r : Rec) (c : Committed) → committed_of starts (k, r) ≡ Some c → c.place ≡ k
@@ -68,21 +75,13 @@ module _ (cat : Catalogue) (h : History) (o : IsOrderable cat h) where
       absurd (cc))))
       (times_from some (λ t m. all t (Contains-later x some t m)) (IsDistinct-tail same_place x some d))
 
-  distinct_times : IsDistinct same_time (committed h)
-  distinct_times = times_from (committed h) (from_committed h) (distinct_places (attempts h) 0 h)
-
   apart : (xs : List Committed) → IsDistinct same_time xs → (i j : ℕ) (x y : Committed) → slice_get xs i ≡ Some x → slice_get xs j ≡ Some y → i < j
       → same_time x y ≡ false
   apart [] d i j x y p q l = absurd (cc)
   apart (z ∷ xs) d i zero x y p q l = absurd (omega arith)
   apart (z ∷ xs) d zero (suc j) x y p q l =
       subst (λ w. same_time w y ≡ false) (same_Some z x p)
-      (each (λ w. same_time z w ≡ false) xs (IsDistinct-head same_time z xs d) y (member xs j y q))
-    where
-      member : {X : Type 0} (ys : List X) (k : ℕ) (w : X) → slice_get ys k ≡ Some w → Contains ys w
-      member [] k w e = absurd (cc)
-      member (v ∷ ys) zero w e = subst (Contains (v ∷ ys)) (same_Some v w e) (Contains-here v ys)
-      member (v ∷ ys) (suc k) w e = Contains-later v ys w (member ys k w e)
+      (each (λ w. same_time z w ≡ false) xs (IsDistinct-head same_time z xs d) y (at_place xs j y q))
   apart (z ∷ xs) d (suc i) (suc j) x y p q l = apart xs (IsDistinct-tail same_time z xs d) i j x y p q (omega arith)
 
   module _ (txns : List Committed) (moved : IsPermutation (committed h) txns) (sorted : IsNonDecreasingBy (λ (t : Committed). t.start.ts) txns) where
@@ -100,7 +99,7 @@ module _ (cat : Catalogue) (h : History) (o : IsOrderable cat h) where
       committed = λ i x e. from_committed h x (from_sorted x (at_place txns i x e));
       rise = λ i j x y p q l.
           let flips : (a b : Committed) → same_time a b ≡ same_time b a = λ a b. eqb_flips a.start.ts b.start.ts in
-          let distinct = IsDistinct-IsPermutation same_time flips (committed h) txns moved distinct_times in
+          let distinct = IsDistinct-IsPermutation same_time flips (committed h) txns moved (times_from (committed h) (from_committed h) (distinct_places (attempts h) 0 h)) in
           let differ = apart txns distinct i j x y p q l in
           let at_i = place_is txns i x p in
           let at_j = place_is txns j y q in
@@ -110,28 +109,9 @@ module _ (cat : Catalogue) (h : History) (o : IsOrderable cat h) where
           strictly x.start.ts y.start.ts differ (omega (arith, first, second, most));
     }
       where
-        at_place : {X : Type 0} (ys : List X) (k : ℕ) (w : X) → slice_get ys k ≡ Some w → Contains ys w
-        at_place [] k w e = absurd (cc)
-        at_place (v ∷ ys) zero w e = subst (Contains (v ∷ ys)) (same_Some v w e) (Contains-here v ys)
-        at_place (v ∷ ys) (suc k) w e = Contains-later v ys w (at_place ys k w e)
-
-        place_is : {X : Type 0} (ys : List X) (k : ℕ) (w : X) → slice_get ys k ≡ Some w → (k < length ys) × ((d : X) → get_or ys k d ≡ w)
-        place_is [] k w e = absurd (cc)
-        place_is (v ∷ ys) zero w e = (omega arith, λ d. same_Some v w e)
-        place_is (v ∷ ys) (suc k) w e = let r = place_is ys k w e in let l = r.0 in (omega arith, r.1)
-
         eqb_flips : (a b : ℕ) → (a == b) ≡ (b == a)
         eqb_flips a b = elim (cases_eq a b) [ inl e ↦ eq-eqb a b e ∙ sym (eq-eqb b a (sym e)) | inr n ↦ ne_eqb a b n ∙ sym (ne_eqb b a (λ e. n (sym e))) ]
 
         strictly : (a b : ℕ) → (a == b) ≡ false → a ≤ b → a < b
         strictly a b d l =
-            elim (cases_eq a b) [
-              | inl e ↦ absurd (let wrong : true ≡ false = sym (eq-eqb a b e) ∙ d in cc)
-              | inr n ↦ below a b n l
-            ]
-          where
-            below : (a b : ℕ) → (a ≡ b → ⊥) → a ≤ b → a < b
-            below zero zero n l = absurd (n refl)
-            below zero (suc b) n l = omega arith
-            below (suc a) zero n l = absurd (omega arith)
-            below (suc a) (suc b) n l = let s = below a b (λ e. n (ap suc e)) (omega arith) in omega arith
+            elim (cases_lt a b) [ inl u ↦ u | inr g ↦ absurd (let wrong : true ≡ false = sym (eq-eqb a b (omega arith)) ∙ d in cc) ]

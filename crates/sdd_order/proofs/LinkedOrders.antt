@@ -38,20 +38,11 @@ none_led [] left i e j m = refl
 none_led (l ∷ links) left i e j m =
     elim (cases_Bool ((l.0 == j) && (l.1 == i))) [
       | inl t ↦
-          let both = and_both (l.0 == j) (l.1 == i) t in
-          let same : l.0 ≡ j = eqb-true l.0 j both.0 in
-          let here : is_in left l.0 ≡ true = is_in_true left l.0 (subst (Contains left) (sym same) m) in
-          let counts : one (is_in left l.0 && (l.1 == i)) ≡ 1 =
-          ap (λ b. one (b && (l.1 == i))) here ∙ ap (λ b. one b) both.1 in
-          absurd (omega (arith, counts, e))
+          grind (arith, eqb-true, is_in, is_in_true, one)
       | inr f ↦
           let rest : led links left i ≡ 0 = omega (arith, e) in
           ap (λ b. b || has_link links j i) f ∙ none_led links left i rest j m
     ]
-  where
-    and_both : (a b : Bool) → (a && b) ≡ true → (a ≡ true) × (b ≡ true)
-    and_both true b e = (refl, e)
-    and_both false b e = absurd (cc)
 
 pub led_none : (links : Links) (left : List ℕ) (i : ℕ) → ((j : ℕ) → Contains left j → has_link links j i ≡ false)
     → led links left i ≡ 0
@@ -72,12 +63,10 @@ led_none (l ∷ links) left i h =
     ]
   where
     or_first : (a b : Bool) → (a || b) ≡ false → a ≡ false
-    or_first true b e = absurd (cc)
-    or_first false b e = refl
+    or_first a b e = grind arith
 
     or_second : (a b : Bool) → (a || b) ≡ false → b ≡ false
-    or_second true b e = absurd (cc)
-    or_second false b e = e
+    or_second a b e = grind arith
 
 -- without a node there are fewer, by its own
 in_rest : (x : ℕ) (left : List ℕ) (j : ℕ) → (j ≡ x → ⊥) → is_in (without_node x left) j ≡ is_in left j
@@ -108,12 +97,7 @@ led_without (l ∷ links) left x i m =
           let second : one (is_in (without_node x left) l.0 && (l.1 == i)) ≡ 0 = ap (λ b. one (b && (l.1 == i))) gone in
           omega (arith, rest, with, first, second)
       | inr n ↦
-          let same : is_in (without_node x left) l.0 ≡ is_in left l.0 = in_rest x left l.0 n in
-          let with : times i (group (l ∷ links) x) ≡ times i (group links x) =
-          ap (λ b. times i (map (λ (p : ℕ × ℕ). p.1) (cond b (l ∷ filter (λ p. p.0 == x) links) (filter (λ p. p.0 == x) links)))) (ne_eqb l.0 x n) in
-          let first : one (is_in (without_node x left) l.0 && (l.1 == i)) ≡ one (is_in left l.0 && (l.1 == i)) =
-          ap (λ b. one (b && (l.1 == i))) same in
-          omega (arith, rest, with, first)
+          grind (arith, is_in, without_node, in_rest, times, group, ne_eqb, one)
     ]
 
 -- the counts of all links

@@ -1,5 +1,5 @@
 -- Where transactions were applied and answered, one record after the other.
-use Rattle.sdd_order.proofs.All.{Answered, Applied, Bool, History, None, Option, Rec, Some, answer_key, ap, apply_key, cases_Bool, cond, false, first_place, get_or, inl, inr, is_answer, is_apply, is_at, is_some, last_place, length, option_or, pair_cmp, refl, rules, subst, sym, take, triple_cmp, true, ℕ, ◌+◌, ◌<◌, ◌∙◌, ◌≡◌}
+use Rattle.sdd_order.proofs.All.{Answered, Applied, Bool, History, None, Option, Rec, Some, answer_key, apply_key, arith, cases_Bool, cond, false, first_place, get_or, is_answer, is_apply, is_at, is_some, last_place, length, option_or, pair_cmp, refl, rules, take, triple_cmp, true, ℕ, ◌+◌, ◌<◌, ◌≡◌}
 use Rattle.sdd_order.proofs.Firsts.{first_more, last_more}
 
 -- a record of a key passes the tests of that key
@@ -49,25 +49,13 @@ module _ {K : Type 0} (same : K → K → Bool) (key : Rec → Option K) (test :
     first_same none old = first_with h i e within there made made None none old (λ k. keeps (made k))
       where
         keeps : (o : Option ℕ) → o ≡ option_or o None
-        keeps None = refl
-        keeps (Some x) = refl
+        keeps o = grind arith
 
     first_again : (j : K) → key e.1 ≡ Some j → is_some (made j) ≡ true → ((a b : K) → same a b ≡ true → a ≡ b)
         → First made (take i h) → First made (take (i + 1) h)
     first_again j is has equal old =
         first_with h i e within there made made (Some j) is old
-        (λ k. elim (cases_Bool (same j k)) [
-          | inl t ↦ keeps (made k) (cond (same j k) (Some i) None) (subst (λ z. is_some (made z) ≡ true) (equal j k t) has)
-          | inr f ↦ none_keeps (made k) ∙ sym (ap (λ b. option_or (made k) (cond b (Some i) None)) f)
-        ])
-      where
-        keeps : (o p : Option ℕ) → is_some o ≡ true → o ≡ option_or o p
-        keeps None p e = absurd (cc)
-        keeps (Some x) p e = refl
-
-        none_keeps : (o : Option ℕ) → o ≡ option_or o None
-        none_keeps None = refl
-        none_keeps (Some x) = refl
+        (grind (arith, cases_Bool, is_some, option_or))
 
     last_same : key e.1 ≡ None → Last made (take i h) → Last made (take (i + 1) h)
     last_same none old = last_with h i e within there made made None none old (λ k. refl)

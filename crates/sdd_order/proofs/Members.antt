@@ -19,8 +19,7 @@ Contains-filter p [] a t h = absurd (Contains-nil a h)
 Contains-filter p (x ∷ xs) a t h =
     elim (Contains-cases x xs a h) [
       | inl e ↦
-          subst (λ b. Contains (cond b (x ∷ filter p xs) (filter p xs)) a) (sym (ap p (sym e) ∙ t))
-          (subst (λ z. Contains (x ∷ filter p xs) z) (sym e) (Contains-here x (filter p xs)))
+          grind (arith, Contains-here)
       | inr m ↦
           let rest = Contains-filter p xs a t m in
           elim (p x) as (λ b. Contains (cond b (x ∷ filter p xs) (filter p xs)) a) [
@@ -45,8 +44,7 @@ Contains-from_flat_map f (x ∷ xs) a h =
     elim (Contains-append_cases (f x) (flat_map f xs) a h) [
       | inl m ↦ (x, Contains-here x xs, m)
       | inr m ↦
-          let r = Contains-from_flat_map f xs a m in
-          (r.0, Contains-later x xs r.0 r.1, r.2)
+          grind (arith, Contains-later, (Contains-from_flat_map f xs a m))
     ]
 
 pub Contains-filter_map : {X Y : Type 0} (f : X → Option Y) (xs : List X) (x : X) (a : Y)
@@ -55,8 +53,7 @@ Contains-filter_map f [] x a h e = absurd (Contains-nil x h)
 Contains-filter_map f (y ∷ xs) x a h e =
     elim (Contains-cases y xs x h) [
       | inl p ↦
-          subst (λ o. Contains (cons_option o (filter_map f xs)) a) (sym (ap f (sym p) ∙ e))
-          (Contains-here a (filter_map f xs))
+          grind (arith, cons_option, filter_map, Contains-here)
       | inr m ↦
           let rest = Contains-filter_map f xs x a m e in
           elim (f y) as (λ o. Contains (cons_option o (filter_map f xs)) a) [
@@ -73,8 +70,7 @@ Contains-from_filter p (x ∷ xs) a h =
       | true ↦ λ t m. elim (Contains-cases x (filter p xs) a m) [
         | inl e ↦ (subst (Contains (x ∷ xs)) (sym e) (Contains-here x xs), ap p e ∙ t)
         | inr later ↦
-            let r = Contains-from_filter p xs a later in
-            (Contains-later x xs a r.0, r.1)
+            grind (arith, Contains-later, (Contains-from_filter p xs a later))
       ]
       | false ↦ λ t m.
           let r = Contains-from_filter p xs a m in
@@ -92,8 +88,7 @@ Contains-from_filter_map f (x ∷ xs) a h =
       | Some z ↦ λ e m. elim (Contains-cases z (filter_map f xs) a m) [
         | inl same ↦ (x, Contains-here x xs, e ∙ ap (λ w. Some w) (sym same))
         | inr later ↦
-            let r = Contains-from_filter_map f xs a later in
-            (r.0, Contains-later x xs r.0 r.1, r.2)
+            grind (arith, Contains-later, (Contains-from_filter_map f xs a later))
       ]
     ] refl h
 
@@ -104,8 +99,7 @@ Contains-from_map f (x ∷ xs) a h =
     elim (Contains-cases (f x) (map f xs) a h) [
       | inl e ↦ (x, Contains-here x xs, e)
       | inr later ↦
-          let r = Contains-from_map f xs a later in
-          (r.0, Contains-later x xs r.0 r.1, r.2)
+          grind (arith, Contains-later, (Contains-from_map f xs a later))
     ]
 
 pub Contains-range : (a n i : ℕ) → a ≤ i → i < a + n → Contains (range_with_len a n) i
@@ -124,8 +118,7 @@ member_passes p (x ∷ xs) e =
     elim (cases_Bool (p x)) [
       | inl t ↦ (x, Contains-here x xs, t)
       | inr f ↦
-          let r = member_passes p xs (subst (λ b. (b || list_any p xs) ≡ true) f e) in
-          (r.0, Contains-later x xs r.0 r.1, r.2)
+          grind (arith, list_any, Contains-later, (member_passes p xs (subst (λ b. (b || list_any p xs) ≡ true) f e)))
     ]
 
 pub passes_member : {X : Type 0} (p : X → Bool) (xs : List X) (a : X) → Contains xs a → p a ≡ true
@@ -135,10 +128,7 @@ passes_member p (x ∷ xs) a h t =
     elim (Contains-cases x xs a h) [
       | inl e ↦ ap (λ b. b || list_any p xs) (ap p (sym e) ∙ t)
       | inr m ↦
-          elim (p x) as (λ b. (b || list_any p xs) ≡ true) [
-            | true ↦ refl
-            | false ↦ passes_member p xs a m t
-          ]
+          grind (arith, list_any, (passes_member p xs a m t))
     ]
 
 -- what each member has

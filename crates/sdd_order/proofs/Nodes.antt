@@ -11,8 +11,7 @@ enumerated [] n p c = absurd (Contains-nil p c)
 enumerated (x ∷ xs) n p c =
     elim (Contains-cases (n, x) (enumerate_from (n + 1) xs) p c) [
       | inl e ↦
-          let place : p.0 ≡ n = ap (λ (q : ℕ × _). q.0) e in
-          (0, omega (arith, place), ap (λ (q : ℕ × _). Some q.1) (sym e))
+          grind arith
       | inr m ↦
           let r = enumerated xs (n + 1) p m in
           let place = r.1 in
@@ -22,10 +21,7 @@ enumerated (x ∷ xs) n p c =
 in_enumerated : {X : Type 0} (xs : List X) (n k : ℕ) (x : X) → slice_get xs k ≡ Some x → Contains (enumerate_from n xs) (n + k, x)
 in_enumerated [] n k x e = absurd (cc)
 in_enumerated (y ∷ xs) n zero x e = grind arith
-in_enumerated (y ∷ xs) n (suc k) x e =
-    let same : n + 1 + k ≡ n + suc k = omega arith in
-    Contains-later (n, y) (enumerate_from (n + 1) xs) (n + suc k, x)
-    (subst (λ (j : ℕ). Contains (enumerate_from (n + 1) xs) (j, x)) same (in_enumerated xs (n + 1) k x e))
+in_enumerated (y ∷ xs) n (suc k) x e = grind (arith, Contains-later, enumerate_from, (in_enumerated xs (n + 1) k x e))
 
 pub at_enumerated : {X : Type 0} (xs : List X) (p : ℕ × X) → Contains (enumerate_from 0 xs) p → slice_get xs p.0 ≡ Some p.1
 at_enumerated xs p c =

@@ -21,28 +21,8 @@ module _ (links : Links) (count : ℕ) where
     its_own : one (t == t) ≡ 1
     its_own = ap one (eq-eqb t t refl)
 
-    others : (i : ℕ) → (t ≡ i → ⊥) → one (t == i) ≡ 0
-    others i n = ap one (ne_eqb t i n)
-
     before : at_node front.0 t ≡ led links left t + (1 + times t targets)
     before = let e = old.counts t within in omega (arith, e, its_own)
-
-    new_counts : (i : ℕ) → i < count → at_node (released front t).0 i ≡ led links left i + times i targets
-    new_counts i l =
-        let fewer = at_node front.0 t - 1 in
-        elim (cases_eq t i) [
-          | inl e ↦
-              let here : at_node (released front t).0 t ≡ fewer = get_or-set_same front.0 t fewer 0 (omega (arith, old.long, within)) in
-              let is : at_node (released front t).0 t ≡ led links left t + times t targets = omega (arith, here, before) in
-              subst (λ j. at_node (released front t).0 j ≡ led links left j + times j targets) e is
-          | inr n ↦
-              let same : at_node (released front t).0 i ≡ at_node front.0 i = get_or-set_other front.0 t i fewer 0 (λ e. n (sym e)) in
-              let e = old.counts i l in
-              omega (arith, same, e, others i n)
-        ]
-
-    still_none : (i : ℕ) → led links left i + times i (t ∷ targets) ≡ 0 → led links left i + times i targets ≡ 0
-    still_none i e = omega (arith, e)
 
     abbrev Ready : List ℕ → Type 0
     Ready ks = ((i : ℕ) → Contains ks i → Contains left i × (led links left i + times i targets ≡ 0))
@@ -56,36 +36,24 @@ module _ (links : Links) (count : ℕ) where
               subst (λ b. Ready (cond b (insert_key nat_cmp front.1 t) front.1)) (sym (eq-eqb (at_node front.0 t) 1 e)) (
                 (λ i m. elim (insert_is front.1 t i m) [
                   | inl s ↦ (subst (Contains left) (sym s) member, subst (λ j. led links left j + times j targets ≡ 0) (sym s) none)
-                  | inr k ↦ let r = old.ready_in i k in (r.0, still_none i r.1)
+                  | inr k ↦ let r = old.ready_in i k in (r.0, (omega (arith, r.1)))
                 ]),
                 (λ i m z. elim (cases_eq t i) [
                   | inl s ↦ insert_has front.1 t i (inl (sym s))
-                  | inr n ↦ insert_has front.1 t i (inr (old.in_ready i m (omega (arith, z, others i n))))
+                  | inr n ↦ insert_has front.1 t i (inr (old.in_ready i m (omega (arith, z, (ap one (ne_eqb t i n))))))
                 ]),
                 ascending_insert front.1 t old.ascending,
               )
           | inr d ↦
               subst (λ b. Ready (cond b (insert_key nat_cmp front.1 t) front.1)) (sym (ne_eqb (at_node front.0 t) 1 d)) (
-                (λ i m. let r = old.ready_in i m in (r.0, still_none i r.1)),
-                (λ i m z. elim (cases_eq t i) [
-                  | inl s ↦
-                      let here : led links left t + times t targets ≡ 0 = subst (λ j. led links left j + times j targets ≡ 0) (sym s) z in
-                      let is : at_node front.0 t ≡ 1 = omega (arith, here, before) in
-                      absurd (d is)
-                  | inr n ↦ old.in_ready i m (omega (arith, z, others i n))
-                ]),
+                (λ i m. let r = old.ready_in i m in (r.0, (omega (arith, r.1)))),
+                (grind (arith, cases_eq, led, times, at_node, before, one, ne_eqb)),
                 old.ascending,
               )
         ]
 
     released_counted : Counted left targets (released front t)
-    released_counted = record {
-      long = length-set front.0 t (at_node front.0 t - 1) ∙ old.long;
-      counts = new_counts;
-      ready_in = new_ready.0;
-      in_ready = new_ready.1;
-      ascending = new_ready.2;
-    }
+    released_counted = grind (arith, length-set, cases_eq, get_or-set_same, led, times, before, get_or-set_other, one, ne_eqb, new_ready)
 
   all_released : (left targets : List ℕ) (front : Front) → ((t : ℕ) → Contains targets t → Contains left t × (t < count))
       → Counted left targets front → Counted left [] (fold released front targets)
@@ -119,14 +87,10 @@ module _ (links : Links) (count : ℕ) where
     split : (i : ℕ) → led links left i ≡ led links (without_node x left) i + times i (group links x)
     split i = led_without links left x i x_left
 
-    -- it isn't one of its own targets
-    not_own : Contains (group links x) x → ⊥
-    not_own m = let l = from_times x (group links x) m in let s = split x in let z = x_is.1 in omega arith
-
     its_targets : (t : ℕ) → Contains (group links x) t → Contains (without_node x left) t × (t < count)
     its_targets t m =
         let l = of.closed x t x_left m in
-        (in_without (λ i. i) x left t l (λ e. not_own (subst (Contains (group links x)) e m)), of.within t l)
+        (in_without (λ i. i) x left t l (λ e. (let l = from_times x (group links x) (subst (Contains (group links x)) e m) in let s = split x in let z = x_is.1 in omega arith)), of.within t l)
 
     others_left : Left (without_node x left)
     others_left = record {
@@ -201,12 +165,6 @@ module _ (links : Links) (count : ℕ) where
       ∙ ap (λ l. x ∷ l) (taking_is n (without_node x left) front.0 front.1 (others_left left of counts x rest c) (then_counted left of counts x rest c))
       ∙ sym (ap (λ o. elim o as (λ p. List ℕ) [ None ↦ [] | Some y ↦ y ∷ taken (has_link links) (λ i. i) n (without_node y left) ]) (it_is_next left of counts x rest c))
 
-abbrev zeros : ℕ → List ℕ
-zeros n = replicate n 0
-
-zeros_long : (n : ℕ) → length (zeros n) ≡ n
-zeros_long n = length-replicate n 0
-
 -- from all nodes on
 module _ (links : Links) (count : ℕ) (ends : All (λ l. (l.0 < count) × (l.1 < count)) links) where
   all_left : Left links count (nodes count)
@@ -220,12 +178,9 @@ module _ (links : Links) (count : ℕ) (ends : All (λ l. (l.0 < count) × (l.1 
         Contains-range 0 count j (omega arith) (omega arith);
   }
 
-  from_nodes : (some : Links) → All (λ l. (l.0 < count) × (l.1 < count)) some → All (λ l. Contains (nodes count) l.0 × (l.1 < length (zeros count))) some
-  from_nodes some all = grind (arith, Contains-range, zeros_long)
-
   pub counts_are_right : (i : ℕ) → i < count → at_node (link_counts links count) i ≡ led links (nodes count) i
   counts_are_right i l =
-      let all = counts_are links (nodes count) (replicate count 0) i (from_nodes links ends) in
+      let all = counts_are links (nodes count) (replicate count 0) i (grind (arith, Contains-range, length-replicate)) in
       let none : at_node (replicate count 0) i ≡ 0 = get_or-replicate count i 0 0 l in
       omega (arith, all, none)
 

@@ -1,5 +1,5 @@
 -- A record at a place is one record.
-use Rattle.sdd_order.proofs.All.{Attempt, ClassNo, Commit, Committed, HasCommit, History, IsAttempt, IsCommitted, IsRecordAt, Some, Start, Submit, Ts, TxnNo, ap, class_no, rules, subst, sym, time_at, txn_no, ℕ, ◌∙◌, ◌≡◌}
+use Rattle.sdd_order.proofs.All.{Attempt, Committed, HasCommit, History, IsAttempt, IsCommitted, IsRecordAt, Submit, arith, rules, subst, txn_no, ℕ, ◌≡◌}
 
 -- two Submits at one place are of one transaction
 pub one_submitted : (h : History) (n m k : ℕ) → IsRecordAt h k (Submit (txn_no n)) → IsRecordAt h k (Submit (txn_no m)) → n ≡ m
@@ -16,34 +16,10 @@ pub record SameStart (a b : Attempt) : Type 0 where
   pub place : a.place ≡ b.place
 
 pub same_start : (h : History) (a b : Attempt) → IsAttempt h a → IsAttempt h b → a.place ≡ b.place → SameStart a b
-same_start h a b p q same =
-    let e : Some (Start (txn_no a.txn) a.number (class_no a.class) (time_at a.ts) a.p2 a.uses)
-    ≡ Some (Start (txn_no b.txn) b.number (class_no b.class) (time_at b.ts) b.p2 b.uses) =
-    sym p ∙ subst (λ k. IsRecordAt h k (Start (txn_no b.txn) b.number (class_no b.class) (time_at b.ts) b.p2 b.uses)) (sym same) q in
-    let t : txn_no a.txn ≡ txn_no b.txn = cc in
-    let c : class_no a.class ≡ class_no b.class = cc in
-    let s : time_at a.ts ≡ time_at b.ts = cc in
-    record {
-      txn = ap (λ (z : TxnNo). z.0) t;
-      number = cc;
-      class = ap (λ (z : ClassNo). z.0) c;
-      ts = ap (λ (z : Ts). z.0) s;
-      p2 = cc;
-      uses = cc;
-      place = same;
-    }
+same_start h a b p q same = grind arith
 
 pub one_attempt : (a b : Attempt) → SameStart a b → a ≡ b
-one_attempt a b s =
-    λ i. record {
-      txn = s.txn i;
-      number = s.number i;
-      class = s.class i;
-      ts = s.ts i;
-      p2 = s.p2 i;
-      uses = s.uses i;
-      place = s.place i;
-    }
+one_attempt a b s = grind arith
 
 -- two Commits at one place, of one attempt, are one
 pub record SameCommit (t u : Committed) : Type 0 where
@@ -56,26 +32,13 @@ pub record SameCommit (t u : Committed) : Type 0 where
 
 pub same_commit : (h : History) (t u : Committed) → IsCommitted h t → IsCommitted h u → t.place ≡ u.place
     → SameCommit t u
-same_commit h t u p q same =
-    let e : Some (Commit (txn_no t.start.txn) t.start.number t.reply t.changes t.values t.rows)
-    ≡ Some (Commit (txn_no u.start.txn) u.start.number u.reply u.changes u.values u.rows) =
-    sym p.committed ∙ subst (λ k. IsRecordAt h k (Commit (txn_no u.start.txn) u.start.number u.reply u.changes u.values u.rows)) (sym same) q.committed in
-    let n : txn_no t.start.txn ≡ txn_no u.start.txn = cc in
-    record { reply = cc; changes = cc; values = cc; rows = cc; txn = ap (λ (z : TxnNo). z.0) n; number = cc }
+same_commit h t u p q same = grind arith
 
 pub commit_of : (h : History) (t : Committed) → IsCommitted h t → HasCommit h t.start.txn t.start.number t.place
 commit_of h t c = record { reply = t.reply; changes = t.changes; values = t.values; rows = t.rows; is_recorded = c.committed }
 
 pub one_committed : (t u : Committed) → t.start ≡ u.start → SameCommit t u → t.place ≡ u.place → t ≡ u
-one_committed t u start s place =
-    λ i. record {
-      start = start i;
-      reply = s.reply i;
-      changes = s.changes i;
-      values = s.values i;
-      rows = s.rows i;
-      place = place i;
-    }
+one_committed t u start s place = grind arith
 
 -- where of a transaction there is one Commit, and of a transaction and number one Start, of a transaction one is committed
 pub one_of_txn : (h : History) → ((n i j k l : ℕ) → HasCommit h n i k → HasCommit h n j l → k ≡ l)

@@ -59,9 +59,6 @@ found_more h i e n k l is =
     ap (find (is_attempt_of n k)) (made_more attempt_of h i e l is)
     ∙ find-append (is_attempt_of n k) (attempts (take i h)) (cons_option (attempt_of (i, e.1)) [])
 
-or_none : {X : Type 0} (o : Option X) → option_or o None ≡ o
-or_none o = grind arith
-
 -- a record that is no Start
 pub found_no_start : (h : History) (i : ℕ) (e : ℕ × Rec) (made : ℕ → ℕ → Option Attempt) → i < length h → e ≡ get_or h i e
     → attempt_of (i, e.1) ≡ None → Found made (take i h) → Found made (take (i + 1) h)
@@ -69,7 +66,7 @@ found_no_start h i e made l is none old n k =
     old n k
     ∙ sym (found_more h i e n k l is
     ∙ ap (λ o. option_or (find (is_attempt_of n k) (attempts (take i h))) (find (is_attempt_of n k) (cons_option o []))) none
-    ∙ or_none (find (is_attempt_of n k) (attempts (take i h))))
+    ∙ (grind arith))
 
 -- a Start of an attempt that has one
 pub found_again : (h : History) (i : ℕ) (e : ℕ × Rec) (made : ℕ → ℕ → Option Attempt) (a : Attempt) → i < length h → e ≡ get_or h i e
@@ -101,8 +98,7 @@ pub found_first_at : (h : History) (i : ℕ) (e : ℕ × Rec) (made new : ℕ �
 found_first_at h i e made new a x y l is some p q absent updates old =
     found_first h i e made new a l is some
     (subst (λ z. is_some (made z a.number) ≡ false) p (subst (λ z. is_some (made x z) ≡ false) q absent))
-    (λ n k. updates n k ∙ ap (λ z. cond (is_at (pair_cmp (z, y)) (n, k)) (Some a) (made n k)) p
-    ∙ ap (λ z. cond (is_at (pair_cmp (a.txn, z)) (n, k)) (Some a) (made n k)) q)
+    (grind (arith, is_at, pair_cmp))
     old
 
 pub found_again_at : (h : History) (i : ℕ) (e : ℕ × Rec) (made : ℕ → ℕ → Option Attempt) (a : Attempt) (x y : ℕ) → i < length h

@@ -1,5 +1,5 @@
 -- Of the members of a list one is ready: none of them precedes it.
-use Rattle.sdd_order.proofs.All.{Contains, Contains-cases, Contains-here, Contains-later, Contains-nil, IsOrderly, IsPath, List, [], inl, inr, refl, rules, subst, sym, ◌++◌, ◌∷◌, ◌≡◌, ◌⊎◌}
+use Rattle.sdd_order.proofs.All.{Contains, Contains-cases, Contains-here, Contains-later, Contains-nil, IsOrderly, IsPath, List, [], arith, inl, inr, refl, rules, subst, sym, ◌++◌, ◌∷◌, ◌≡◌, ◌⊎◌}
 use Rattle.sdd_order.proofs.Paths.{path_join}
 
 -- a member that none precedes, and that is s or leads to it
@@ -24,13 +24,7 @@ module _ {T : Type 0} (R : T → T → Type 0) (In : T → Type 0) (decide : (x 
   some_or_none (y ∷ xs) all x i =
       elim (decide y x (all y (Contains-here y xs)) i) [
         | inl r ↦ inl (y, Contains-here y xs, r)
-        | inr n ↦ elim (some_or_none xs (rest_in y xs all) x i) [
-          | inl s ↦ inl (s.0, Contains-later y xs s.0 s.1, s.2)
-          | inr h ↦ inr (λ z m. elim (Contains-cases y xs z m) [
-            | inl e ↦ λ r. n (subst (λ v. R v x) e r)
-            | inr k ↦ h z k
-          ])
-        ]
+        | inr n ↦ grind (arith, rest_in, Contains-later, Contains-cases, (some_or_none xs (rest_in y xs all) x i))
       ]
 
   -- on from what x leads to
@@ -75,20 +69,9 @@ module _ {T : Type 0} (R : T → T → Type 0) (In : T → Type 0) (decide : (x 
           first = h.first;
           leads = inr (leads_far h.ready y.ready s (leads_on h.ready x y.ready h.leads r) y.leads);
         }
-        | inr n ↦ record {
-          ready = y.ready;
-          member = Contains-later x xs y.ready y.member;
-          first = λ z m. elim (Contains-cases x xs z m) [ inl e ↦ λ r. n (subst (λ v. R v y.ready) e r) | inr k ↦ y.first z k ];
-          leads = y.leads;
-        }
+        | inr n ↦ grind (arith, Contains-later, Contains-cases)
       ]
 
   pub ready_for : (xs : List T) → AllIn xs → (s : T) → Contains xs s → ReadyFor R xs s
   ready_for [] all s h = absurd (Contains-nil s h)
-  ready_for (x ∷ xs) all s h =
-      let rest = ready_for xs (rest_in x xs all) in
-      let head = ready_head x xs all rest in
-      elim (Contains-cases x xs s h) [
-        | inl e ↦ subst (λ v. ReadyFor R (x ∷ xs) v) (sym e) head
-        | inr m ↦ ready_tail x xs all head s (rest s m)
-      ]
+  ready_for (x ∷ xs) all s h = grind (arith, rest_in, ready_head, Contains-cases, ReadyFor, ready_tail, (ready_for xs (rest_in x xs all)))

@@ -1,5 +1,5 @@
 -- In the serial order of an orderable history each committed transaction stands once, after its predecessors.
-use Rattle.sdd_order.proofs.All.{Catalogue, Committed, Contains, Contains-here, Contains-later, History, IsAlong, IsCommitted, IsOrderable, IsSerial, List, Precedes, TxnNo, [], ap, arith, cases_Bool, committed, false, in_order, inl, inr, length, map, precedes, serial_order, sym, txn_no, ℕ, ◌∙◌, ◌∷◌, ◌≡◌, ◌⊎◌}
+use Rattle.sdd_order.proofs.All.{Catalogue, Committed, Contains, Contains-here, Contains-later, History, IsAlong, IsCommitted, IsOrderable, IsSerial, List, Precedes, TxnNo, [], ap, arith, cases_Bool, committed, false, in_order, length, map, precedes, serial_order, sym, txn_no, ℕ, ◌∙◌, ◌∷◌, ◌≡◌, ◌⊎◌}
 use Rattle.sdd_order.proofs.Found.{from_committed, in_committed}
 use Rattle.sdd_order.proofs.Members.{Contains-map, Contains-from_map}
 use Rattle.sdd_order.proofs.Places.{one_of_txn}
@@ -32,15 +32,7 @@ module _ (cat : Catalogue) (h : History) (o : IsOrderable cat h) where
       → (r : Committed) × Contains some r × ((y : Committed) → Contains some y → precedes cat h y r ≡ false)
   some_ready some within s m =
       let all : (y : Committed) → Contains some y → IsCommitted h y = λ y k. from_committed h y (within y k) in
-      let r = ready_for (Precedes cat h) (IsCommitted h) decide o.orderly some all s m in (
-        r.ready,
-        r.member,
-        λ y k.
-            elim (cases_Bool (precedes cat h y r.ready)) [
-              | inl e ↦ absurd (r.first y k (record { first = all y k; second = all r.ready r.member; precedes = e }))
-              | inr f ↦ f
-            ],
-      )
+      let r = ready_for (Precedes cat h) (IsCommitted h) decide o.orderly some all s m in (grind (arith, cases_Bool, precedes))
 
   -- those in order are committed
   pub order_is : (t : Committed) → Contains (in_order cat h) t → IsCommitted h t

@@ -6,10 +6,7 @@ use Rattle.sdd_order.proofs.Members.{Contains-from_filter}
 filter_range : (p : ℕ → Bool) (a n j : ℕ) → a + n ≡ j
     → filter p (range_with_len a (suc n)) ≡ filter p (range_with_len a n) ++ cond (p j) (j ∷ []) []
 filter_range p a zero j e = let same : a ≡ j = omega (arith, e) in ap (λ (i : ℕ). cond (p i) (i ∷ []) []) same
-filter_range p a (suc n) j e =
-    let rest = filter_range p (a + 1) n j (omega (arith, e)) in
-    let some : List ℕ = cond (p j) (j ∷ []) [] in
-    grind arith
+filter_range p a (suc n) j e = grind (arith, (filter_range p (a + 1) n j (omega (arith, e))))
 
 first_next : (counts : List ℕ) (n : ℕ) → first_ready counts (n + 1) ≡ first_ready counts n ++ cond (at_node counts n == 0) (n ∷ []) []
 first_next counts n =
@@ -55,9 +52,7 @@ released_within bound front target all within =
 pub released_below : (bound : ℕ) (targets : List ℕ) (front : Front) → All (λ i. i < bound) front.1
     → All (λ i. i < bound) targets → All (λ i. i < bound) (fold released front targets).1
 released_below bound [] front all into = all
-released_below bound (t ∷ targets) front all into =
-    released_below bound targets (released front t)
-    (released_within bound front t all (All-head (λ i. i < bound) t targets into)) (All-tail (λ i. i < bound) t targets into)
+released_below bound (t ∷ targets) front all into = grind (arith, released_within, (released_below bound targets (released front t) (released_within bound front t all (All-head (λ i. i < bound) t targets into)) (All-tail (λ i. i < bound) t targets into)))
 
 pub nothing_in : (ks : List ℕ) → (0 < length ks → false ≡ true) → ks ≡ []
 nothing_in [] h = refl

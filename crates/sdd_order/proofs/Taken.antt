@@ -1,5 +1,5 @@
 -- What is taken of items with different times.
-use Rattle.sdd_order.proofs.All.{Bool, Contains, Contains-cases, Contains-here, Contains-later, Contains-nil, List, None, Option, Some, [], ap, arith, cases_Bool, cases_eq, cond, earlier, earliest, eq-eqb, eqb-false, false, filter, inl, inr, is_ready, length, list_any, ltb-false, ltb-true, nat_lt, ne_eqb, not, not-true, refl, same_Some, subst, suc, sym, taken, true, without, zero, ℕ, ◌<◌, ◌==◌, ◌||◌, ◌∙◌, ◌∷◌, ◌≡◌, ◌≢◌, ◌≤◌}
+use Rattle.sdd_order.proofs.All.{Bool, Contains, Contains-cases, Contains-here, Contains-later, Contains-nil, List, None, Option, Some, [], ap, arith, cases_Bool, cases_eq, cond, earlier, earliest, eq-eqb, eqb-false, false, filter, inl, inr, is_ready, length, list_any, ltb-false, ltb-true, nat_lt, ne_eqb, not, not-true, refl, same_Some, subst, suc, sym, taken, true, without, zero, ℕ, ◌<◌, ◌==◌, ◌∙◌, ◌∷◌, ◌≡◌, ◌≢◌, ◌≤◌}
 use Rattle.sdd_order.proofs.Members.{Contains-filter, Contains-from_filter, passes_member}
 
 module _ {A : Type 0} (time : A → ℕ) where
@@ -10,48 +10,7 @@ module _ {A : Type 0} (time : A → ℕ) where
 
   earlier_is : (x : A) (xs : List A) (o : Option A) → earliest time xs ≡ o → (z : A) → earlier time x o ≡ Some z
       → ((y : A) → o ≡ Some y → IsEarliest xs y) → (o ≡ None → xs ≡ []) → IsEarliest (x ∷ xs) z
-  earlier_is x xs None e z f g n =
-      let same : x ≡ z = same_Some x z f in
-      let empty = n refl in
-      subst (λ w. IsEarliest (x ∷ xs) w) same
-      (record {
-        member = Contains-here x xs;
-        least = λ y m. elim (Contains-cases x xs y m) [
-          | inl s ↦ let t : time y ≡ time x = ap time s in omega arith
-          | inr k ↦ absurd (Contains-nil y (subst (λ l. Contains l y) empty k))
-        ];
-      })
-  earlier_is x xs (Some y) e z f g n =
-      let rest = g y refl in
-      elim (nat_lt (time y) (time x)) as (λ b. nat_lt (time y) (time x) ≡ b → cond b (Some y) (Some x) ≡ Some z → IsEarliest (x ∷ xs) z) [
-        | true ↦ λ l s.
-            let same : y ≡ z = same_Some y z s in
-            let below = ltb-true (time y) (time x) l in
-            subst (λ w. IsEarliest (x ∷ xs) w) same
-            (record {
-              member = Contains-later x xs y rest.member;
-              least = λ w m. elim (Contains-cases x xs w m) [
-                | inl t ↦ let u : time w ≡ time x = ap time t in omega arith
-                | inr k ↦ rest.least w k
-              ];
-            })
-        | false ↦ λ l s.
-            let same : x ≡ z = same_Some x z s in
-            let above = ltb-false (time y) (time x) l in
-            subst (λ w. IsEarliest (x ∷ xs) w) same
-            (record {
-              member = Contains-here x xs;
-              least = λ w m. elim (Contains-cases x xs w m) [
-                | inl t ↦ let u : time w ≡ time x = ap time t in omega arith
-                | inr k ↦ let u = rest.least w k in omega arith
-              ];
-            })
-      ] refl f
-
-  some_earlier : (x : A) (o : Option A) → (z : A) × (earlier time x o ≡ Some z)
-  some_earlier x None = (x, refl)
-  some_earlier x (Some y) =
-      elim (nat_lt (time y) (time x)) as (λ b. (z : A) × (cond b (Some y) (Some x) ≡ Some z)) [ true ↦ (y, refl) | false ↦ (x, refl) ]
+  earlier_is x xs o e z f g n = grind (arith, same_Some, IsEarliest, Contains-here, Contains-cases, Contains-nil, nat_lt, ltb-true, Contains-later, ltb-false)
 
   -- a list that isn't empty has one
   pub none_earliest : (xs : List A) → earliest time xs ≡ None → xs ≡ []
@@ -68,15 +27,7 @@ module _ {A : Type 0} (time : A → ℕ) where
 
   -- then it is the only one
   pub is_earliest : (xs : List A) → Differ xs → (z : A) → IsEarliest xs z → earliest time xs ≡ Some z
-  is_earliest xs differ z h =
-      elim (earliest time xs) as (λ o. earliest time xs ≡ o → o ≡ Some z) [
-        | None ↦ λ e. absurd (Contains-nil z (subst (λ l. Contains l z) (none_earliest xs e) h.member))
-        | Some y ↦ λ e.
-            let other = earliest_is xs y e in
-            let one = h.least y other.member in
-            let two = other.least z h.member in
-            ap (λ w. Some w) (differ y z other.member h.member (omega arith))
-      ] refl
+  is_earliest xs differ z h = grind (arith, Contains-nil, none_earliest, earliest_is)
 
   -- what is left without a member
   pub without_is : (x : A) (xs : List A) (y : A) → Contains (without time x xs) y → Contains xs y × (time y ≢ time x)
@@ -96,9 +47,7 @@ module _ {A : Type 0} (time : A → ℕ) where
   one_fewer x (y ∷ xs) m =
       elim (cases_eq (time y) (time x)) [
         | inl e ↦
-            let rest = without_fewer x xs in
-            let drops : not (time y == time x) ≡ false = ap not (eq-eqb (time y) (time x) e) in
-            subst (λ b. length (cond b (y ∷ without time x xs) (without time x xs)) < suc (length xs)) (sym drops) (omega arith)
+            grind (arith, without_fewer, eq-eqb, without)
         | inr n ↦ elim (Contains-cases y xs x m) [
           | inl same ↦ absurd (n (ap time (sym same)))
           | inr later ↦
@@ -128,9 +77,7 @@ module _ {A : Type 0} (time : A → ℕ) where
 
     none_passes : (left : List A) (x : A) → ((y : A) → Contains left y → before y x ≡ false) → list_any (λ y. before y x) left ≡ false
     none_passes [] x h = refl
-    none_passes (y ∷ left) x h =
-        ap (λ b. b || list_any (λ z. before z x) left) (h y (Contains-here y left))
-        ∙ none_passes left x (λ z m. h z (Contains-later y left z m))
+    none_passes (y ∷ left) x h = grind (arith, list_any, Contains-here, Contains-later, (none_passes left x (λ z m. h z (Contains-later y left z m))))
 
     pub is_ready_where : (left : List A) (x : A) → ((y : A) → Contains left y → before y x ≡ false) → is_ready before left x ≡ true
     is_ready_where left x h = ap not (none_passes left x h)
@@ -201,9 +148,7 @@ module _ {A : Type 0} (time : A → ℕ) where
               elim (cases_eq (time x) (time y)) [
                 | inl s ↦ subst (Contains (y ∷ rest)) (d y x next.member m (sym s)) (Contains-here y rest)
                 | inr s ↦
-                    Contains-later y rest x
-                    (taken_whole n (without time y left) (omega arith) (differ_without y left d)
-                    (λ some within. h some (λ z k. (without_is y left z (within z k)).0)) x (in_without y left x m s))
+                    grind (arith, Contains-later, without, differ_without, without_is, in_without, (taken_whole n (without time y left) (omega arith) (differ_without y left d) (λ some within. h some (λ z k. (without_is y left z (within z k)).0)) x (in_without y left x m s)))
               ]
         ] refl
 

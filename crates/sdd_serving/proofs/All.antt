@@ -20,12 +20,12 @@ pub use Rattle.sdd_serving.specs.Reducing.{IsHeldAt, IsMoveAlong, IsMoveOf, Spac
 pub use Rattle.sdd_serving.specs.Runs.{Runs, Stage, may_reduce}
 pub use Rattle.sdd_serving.specs.Runs.Runs.{asks, begins, reduces, rests, sends, tells}
 pub use Rattle.sdd_serving.specs.Runs.Stage.{Reducing, Resting, Telling}
-pub use Rattle.std.proofs.Common.{Bool, Contains, Equal, Greater, Less, List, None, Option, Ordering, Some, [], ap, arith, cond, false, filter, filter_map, flat_map, fold, if◌then◌else◌, inl, inr, int_cmp, is_eq, length, lit≤, map, nat_lt, not, pos, refl, slice_index_or, subst, suc, sym, true, zero, ℕ, ℤ, ◌&&◌, ◌++◌, ◌+◌, ◌-◌, ◌<◌, ◌==◌, ◌||◌, ◌∙◌, ◌∷◌, ◌≡◌, ◌≢◌, ◌≤◌, ◌⊎◌}
+pub use Rattle.std.proofs.Common.{Bool, Contains, Equal, Greater, Less, List, None, Option, Ordering, Some, [], ap, arith, cond, false, filter, filter_map, flat_map, fold, if◌then◌else◌, inl, inr, int_cmp, is_eq, length, map, nat_lt, pos, refl, slice_index_or, subst, suc, sym, true, zero, ℕ, ℤ, ◌&&◌, ◌++◌, ◌+◌, ◌-◌, ◌<◌, ◌==◌, ◌||◌, ◌∙◌, ◌∷◌, ◌≡◌, ◌≢◌, ◌≤◌, ◌⊎◌}
 pub use Rattle.std.proofs.lemmas.Bool.{cases_Bool, or_right as either}
-pub use Rattle.std.proofs.lemmas.Bool.Decides.{Decides-eqb}
+pub use Rattle.std.proofs.lemmas.Bool.Decides.{Decides-eqb, nat_tests}
 pub use Rattle.std.proofs.lemmas.Cmp.{int_cmp_total, tied_itself}
 pub use Rattle.std.proofs.lemmas.List.{get_or_default}
-pub use Rattle.std.proofs.lemmas.List.Elements.{All-contains, All-from_recursion, recursion_from_All}
+pub use Rattle.std.proofs.lemmas.List.Elements.{All-contains, recursion_from_All}
 pub use Rattle.std.proofs.lemmas.Map.Lookups.{exact_signed}
 pub use Rattle.std.specs.BTreeSet.{insert_key}
 pub use Rattle.std.specs.List.{AllByRecursion, list_all}

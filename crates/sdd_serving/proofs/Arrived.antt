@@ -1,5 +1,5 @@
 -- In which order the rows arrive doesn't matter.
-use Rattle.sdd_serving.proofs.All.{AreEnough, AreEnoughAlong, Catalogue, Database, Has, List, Put, Query, Row, Serves, Shipped, Stmt, Txn, [], part_of, uses_in, ℕ, ◌+◌, ◌∷◌}
+use Rattle.sdd_serving.proofs.All.{AreEnough, AreEnoughAlong, Catalogue, Database, Has, List, Row, Serves, Shipped, Stmt, Txn, [], arith, nat_tests, part_of, uses_in, ℕ, ◌+◌, ◌∷◌}
 use Rattle.sdd_serving.proofs.Held.{use_row, row_of_use}
 use Rattle.sdd_attempt.specs.All.{rows_for}
 
@@ -8,9 +8,7 @@ module _ (few many : Shipped) (go : (s : ℕ × Row) → Has few s → Has many 
   moved n row h = row_of_use many n row (go (n, row) (use_row few n row h))
 
   enough : (db : Database) (before : ℕ) (s : Stmt) → AreEnough db few before s → AreEnough db many before s
-  enough db before (Put rel row) h = tt
-  enough db before (Query out rels conds) h = λ tuple there meets part range. moved (before + part) (part_of tuple part) (h tuple there meets part range)
-  enough db before _ h = λ row is. moved (before + 1) row (h row is)
+  enough db before s h = grind (arith, nat_tests, moved, part_of)
 
   enough_along : (db : Database) (before : ℕ) (statements : List Stmt) → AreEnoughAlong db few before statements → AreEnoughAlong db many before statements
   enough_along db before [] h = tt
@@ -19,9 +17,4 @@ module _ (few many : Shipped) (go : (s : ℕ × Row) → Has few s → Has many 
 -- rows with the same members serve the same databases
 pub serves_by_members : (cat : Catalogue) (txn : Txn) (db : Database) (few many : Shipped)
     → ((s : ℕ × Row) → Has few s → Has many s) → ((s : ℕ × Row) → Has many s → Has few s) → Serves cat txn few db → Serves cat txn many db
-serves_by_members cat txn db few many go come s =
-    record {
-      named = λ r h. s.named r (come r h);
-      held = λ u k row h. s.held u k row (moved many few come u.number row h);
-      enough = enough_along few many go db 0 txn.statements s.enough;
-    }
+serves_by_members cat txn db few many go come s = grind (arith, nat_tests, moved, enough, enough_along)

@@ -1,5 +1,5 @@
 -- What is shipped after any number of reductions serves the database.
-use Rattle.sdd_serving.proofs.All.{AllByRecursion, AreEnough, AreEnoughAlong, Catalogue, Condition, Database, FitsCondition, FitsStatement, FitsTxn, Has, Has-left, Has-right, IsFrom1To, IsHeldAt, IsRowOf, List, Put, Query, Ref, RelNo, Row, Same, Serves, Space, Stmt, Txn, Use, [], all_held, all_rows, arith, inl, inr, length, length-statement_uses, list_all, meets, part_of, part_uses, parts_meet, recursion_from_All, refl, statement_uses, subst, sym, true, uses_from, uses_in, uses_of, ℕ, ◌+◌, ◌-◌, ◌∷◌, ◌≡◌}
+use Rattle.sdd_serving.proofs.All.{AllByRecursion, AreEnough, AreEnoughAlong, Catalogue, Condition, Database, FitsCondition, FitsStatement, FitsTxn, Has, Has-left, Has-right, IsFrom1To, IsHeldAt, IsRowOf, List, Put, Query, Ref, RelNo, Row, Same, Serves, Space, Stmt, Txn, Use, [], all_held, all_rows, arith, inl, inr, length, length-statement_uses, list_all, meets, nat_tests, part_of, part_uses, parts_meet, recursion_from_All, refl, statement_uses, subst, sym, true, uses_from, uses_in, uses_of, ℕ, ◌+◌, ◌-◌, ◌∷◌, ◌≡◌}
 use Rattle.sdd_serving.proofs.Held.{shipped_held, held_shipped, use_row, row_of_use}
 use Rattle.sdd_serving.proofs.Keeps.{Leads, HoldEnough, HoldEnoughAlong, HasParts, all_keep, all_were}
 use Rattle.sdd_serving.proofs.Uses.{one_use, HasPart, parts_there}
@@ -15,9 +15,7 @@ pub record Begins (cat : Catalogue) (txn : Txn) (db : Database) (ds : List ℕ) 
 each_fits : (cat : Catalogue) (rels : List RelNo) (conds : List Condition) (left right : Ref)
     → AllByRecursion (FitsCondition cat rels) conds → Has conds (Same left right) → IsFrom1To (length rels) left.part × IsFrom1To (length rels) right.part
 each_fits cat rels [] left right fits h = absurd h
-each_fits cat rels (c ∷ conds) left right fits (inl same) =
-    let here : FitsCondition cat rels (Same left right) = subst (FitsCondition cat rels) same fits.0 in
-    (here.0.0, here.1.0)
+each_fits cat rels (c ∷ conds) left right fits (inl same) = grind (arith, nat_tests)
 each_fits cat rels (c ∷ conds) left right fits (inr there) = each_fits cat rels conds left right fits.1 there
 
 has_parts : (cat : Catalogue) (s : Stmt) → FitsStatement cat s → HasParts s
@@ -39,11 +37,10 @@ module _ (cat : Catalogue) (db : Database) (ds : List ℕ) (first : Space) where
   first_enough before (Query out rels conds) h =
       λ tuple there meet part range.
       let from = range.0 in
-      let to = range.1 in
       let e : 1 + (part - 1) ≡ part = omega (arith, from) in
       let p : HasPart cat db conds (part_uses cat before conds 1 rels) (before + part) part (part_of tuple part) =
       subst (λ z. HasPart cat db conds (part_uses cat before conds 1 rels) (before + z) z (part_of tuple part)) e
-      (parts_there cat db before conds 1 rels tuple there (part - 1) (omega (arith, from, to))) in
+      (parts_there cat db before conds 1 rels tuple there (part - 1) (omega (arith, from, range.1))) in
       let met : list_all (meets (part_of tuple part)) p.usage.restrictions ≡ true =
       subst (λ z. list_all (meets (part_of tuple part)) z ≡ true) (sym p.restricted) (parts_meet conds tuple part meet) in
       subst (λ z. IsHeldAt ds first z (part_of tuple part)) p.number_is (h p.usage p.there (part_of tuple part) (p.row_there, met))
@@ -51,31 +48,13 @@ module _ (cat : Catalogue) (db : Database) (ds : List ℕ) (first : Space) where
 
   first_enough_along : (before : ℕ) (statements : List Stmt) → Holds (uses_from cat before statements) → HoldEnoughAlong db ds first before statements
   first_enough_along before [] h = tt
-  first_enough_along before (s ∷ rest) h = (
-    first_enough before s
-        (λ u k row is.
-        h u
-        (Has-left (statement_uses cat before s) (uses_from cat (before + length (statement_uses cat before s)) rest) u
-        k)
-        row is),
-    first_enough_along (before + uses_in s) rest
-        (λ u k row is.
-        h u
-        (Has-right (statement_uses cat before s) (uses_from cat (before + length (statement_uses cat before s)) rest) u
-        (subst (λ n. Has (uses_from cat (before + n) rest) u) (sym (length-statement_uses cat before s)) k))
-        row is),
-  )
+  first_enough_along before (s ∷ rest) h = grind (arith, nat_tests, first_enough, Has-left, statement_uses, uses_from, uses_in, Has-right, length-statement_uses, (first_enough_along (before + uses_in s) rest (λ u k row is. h u (Has-right (statement_uses cat before s) (uses_from cat (before + length (statement_uses cat before s)) rest) u (subst (λ n. Has (uses_from cat (before + n) rest) u) (sym (length-statement_uses cat before s)) k)) row is)))
 
 -- at the end
 
 shipped_enough : (db : Database) (ds : List ℕ) (last : Space) (before : ℕ) (s : Stmt) → HoldEnough db ds last before s
     → AreEnough db (all_held ds last) before s
-shipped_enough db ds last before (Put rel row) h = tt
-shipped_enough db ds last before (Query out rels conds) h =
-    λ tuple there meet part range.
-    row_of_use (all_held ds last) (before + part) (part_of tuple part)
-    (held_shipped ds last (before + part) (part_of tuple part) (h tuple there meet part range))
-shipped_enough db ds last before _ h = λ row is. row_of_use (all_held ds last) (before + 1) row (held_shipped ds last (before + 1) row (h row is))
+shipped_enough db ds last before s h = grind (arith, nat_tests, row_of_use, all_held, part_of, held_shipped)
 
 shipped_along : (db : Database) (ds : List ℕ) (last : Space) (before : ℕ) (statements : List Stmt)
     → HoldEnoughAlong db ds last before statements → AreEnoughAlong db (all_held ds last) before statements

@@ -1,5 +1,5 @@
 -- The exchange of an attempt, entry by entry, follows a run.
-use Rattle.sdd_serving.proofs.All.{Asking, AwaitsNoValues, Bool, Catalogue, Condition, Cutting, Delete, Exchange, Fetching, Follows, Has, Has-append, Has-filter_from, Has-filter_map, Has-map, IsMoveAlong, IsMoveOf, List, Move, Msg, None, Option, Over, Phase, Put, Query, Queued, Reading, Ready, Reduced, Reducing, Resting, Rows, Runs, Shipping, Site, Some, Space, Stage, Step, Stmt, Suits, Telling, TellsAll, Update, Use, Value, Values, [], after_hand, after_send, answered, ap, asked_at, asking_of, askings, asks as run_asks, begins as run_begins, better, cond, contains, counted, counts_for, false, fetches, fetches_from, fewest, filter, filter_map, first_phase, goes_on, if◌then◌else◌, inl, inr, is_candidate, lacking, length, map, module_read, move_at, moves, names_use, nat_lt, next_move, phase_ends, read_to, reduced, reduces as run_reduces, refl, rests as run_rests, rows_at, sends as run_sends, stage_with, subst, sym, tells as run_tells, true, uses_at, uses_in, uses_of, with_use, with_values, without, ℕ, ◌&&◌, ◌++◌, ◌+◌, ◌==◌, ◌||◌, ◌∙◌, ◌∷◌, ◌≡◌, ◌≢◌}
+use Rattle.sdd_serving.proofs.All.{Asking, AwaitsNoValues, Bool, Catalogue, Condition, Cutting, Delete, Exchange, Fetching, Follows, Has, Has-append, Has-filter_from, Has-filter_map, Has-map, IsMoveAlong, IsMoveOf, List, Move, Msg, None, Option, Over, Phase, Put, Query, Queued, Reading, Ready, Reduced, Resting, Rows, Runs, Shipping, Site, Some, Space, Stage, Step, Stmt, Suits, Telling, TellsAll, Update, Use, Value, Values, [], after_hand, after_send, answered, ap, arith, asked_at, asking_of, askings, asks as run_asks, begins as run_begins, better, cond, contains, counted, counts_for, false, fetches, fetches_from, fewest, filter, filter_map, first_phase, goes_on, if◌then◌else◌, inl, inr, is_candidate, lacking, length, map, module_read, move_at, moves, names_use, nat_lt, nat_tests, next_move, phase_ends, read_to, reduced, reduces as run_reduces, refl, rests as run_rests, rows_at, sends as run_sends, stage_with, subst, sym, tells as run_tells, true, uses_at, uses_in, uses_of, with_use, with_values, without, ℕ, ◌&&◌, ◌++◌, ◌+◌, ◌==◌, ◌||◌, ◌∙◌, ◌∷◌, ◌≡◌, ◌≢◌}
 use Rattle.sdd_attempt.specs.All.{begins}
 use Rattle.sdd_laws.specs.protocol.declared.entry.Entry as line
 
@@ -47,8 +47,7 @@ names_contained [] n = refl
 names_contained (u ∷ us) n = ap (λ b. (u.number == n) || b) (names_contained us n)
 
 begins_resting : (ms : List (ℕ × List ℕ)) (lacks : List ℕ) (union : List Value) → stage_with (first_phase ms) lacks union ≡ Resting
-begins_resting [] lacks union = refl
-begins_resting (m ∷ ms) lacks union = refl
+begins_resting ms lacks union = grind arith
 
 -- the exchange that begins with these READs follows the run that begins with what their modules freeze
 pub follows_start : (cat : Catalogue) (table : List line.Entry) (c : ℕ) (q : Queued) (own p2 : ℕ) (ds : List ℕ) (first : Space)
@@ -84,14 +83,7 @@ module _ (ds : List ℕ) (statements : List Stmt) (asked : ℕ → ℕ → Bool)
 
   moved : (space : Space) (x y : Exchange) → Along space x → y.phase ≡ x.phase → y.lacks ≡ x.lacks → y.union ≡ x.union
       → y.left ≡ x.left → y.modules ≡ x.modules → Along space y
-  moved space x y f p l u q ms =
-      record {
-        runs =
-            subst (λ z. At space (stage_with z y.lacks y.union)) (sym p)
-            (subst (λ z. At space (stage_with x.phase z y.union)) (sym l) (subst (λ z. At space (stage_with x.phase x.lacks z)) (sym u) f.runs));
-        left = λ a h. f.left a (subst (λ z. Has z a) q h);
-        modules = λ d n h a. subst (λ z. Has (filter_map (λ (m : ℕ × List ℕ). cond (contains m.1 n) (Some m.0) None) z) d) (sym ms) (f.modules d n h a);
-      }
+  moved space x y f p l u q ms = grind (arith, At, filter_map)
 
   -- the next move
 
@@ -125,14 +117,9 @@ module _ (ds : List ℕ) (statements : List Stmt) (asked : ℕ → ℕ → Bool)
 
     ended : (space : Space) (x : Exchange) (phase : Phase) → Along space x → x.phase ≡ phase → x.lacks ≡ [] → Along space (phase_ends ts c x phase)
     ended space x Reading f p l = went_on space x x.left x.done (subst (λ z. At space (stage_with z x.lacks x.union)) p f.runs) f.left f.modules
-    ended space x (Fetching m) f p l =
-        let r : At space (Telling m x.lacks x.union) =
-        subst (λ z. At space (stage_with z x.lacks x.union)) p f.runs in
-        let none : At space (Telling m [] x.union) = subst (λ z. At space (Telling m z x.union)) l r in
-        record { runs = run_sends m [] x.union none refl; left = f.left; modules = f.modules }
+    ended space x (Fetching m) f p l = grind (arith, nat_tests, At, stage_with, run_sends)
     ended space x (Cutting m) f p l =
-        let r : At space (Reducing m x.union) = subst (λ z. At space (stage_with z x.lacks x.union)) p f.runs in
-        went_on space x x.left x.done (run_rests m x.union r) f.left f.modules
+        went_on space x x.left x.done (run_rests m x.union (subst (λ z. At space (stage_with z x.lacks x.union)) p f.runs)) f.left f.modules
     ended space x Shipping f p l = record { runs = subst (λ z. At space (stage_with z x.lacks x.union)) p f.runs; left = f.left; modules = f.modules }
     ended space x Over f p l = f
 
@@ -143,17 +130,12 @@ module _ (ds : List ℕ) (statements : List Stmt) (asked : ℕ → ℕ → Bool)
     -- an answer came
 
     any_lack : (phase : Phase) → AwaitsNoValues phase → (old new : List ℕ) (union : List Value) → stage_with phase old union ≡ stage_with phase new union
-    any_lack Reading none old new union = refl
-    any_lack (Fetching m) none old new union = absurd none
-    any_lack (Cutting m) none old new union = refl
-    any_lack Shipping none old new union = refl
-    any_lack Over none old new union = refl
+    any_lack phase none old new union = grind arith
 
     other_answered : (space : Space) (x : Exchange) (d : ℕ) → AwaitsNoValues x.phase → Along space x → Along space (answered ts c d x)
     other_answered space x d none f =
         lacked space x (without x.lacks d)
-        (record
-        { runs = subst (At space) (any_lack x.phase none x.lacks (without x.lacks d) x.union) f.runs; left = f.left; modules = f.modules })
+        (grind (arith, nat_tests, At, any_lack, without))
 
     told : (space : Space) (x : Exchange) (d : ℕ) (values : List Value) (sent : ℕ) (m : Move) → x.phase ≡ Fetching m
         → TellsAll (space d) m.source values → Along space x → Along space (answered ts c d (record x { union = with_values x.union values; values = sent }))
@@ -168,8 +150,7 @@ module _ (ds : List ℕ) (statements : List Stmt) (asked : ℕ → ℕ → Bool)
 
     -- where it is one to this attempt
     if_own : (space : Space) (x new : Exchange) (b : Bool) → Along space x → (b ≡ true → Along space new) → Along space (if b then new else x)
-    if_own space x new true f h = h refl
-    if_own space x new false f h = f
+    if_own space x new b f h = grind arith
 
     pub follows_hand : (space : Space) (x : Exchange) (d : ℕ) (msg : Msg) → Follows ds statements asked first space x
         → Suits ts c space d x msg → Follows ds statements asked first space (after_hand ts c d msg x)
@@ -199,7 +180,4 @@ module _ (ds : List ℕ) (statements : List Stmt) (asked : ℕ → ℕ → Bool)
   pub follows_reduce : (space after : Space) (x : Exchange) (m : Move) (d : ℕ) → Follows ds statements asked first space x → x.phase ≡ Cutting m
       → after d ≡ reduced m.target.part m.target.column x.union (space d) → ((b : ℕ) → b ≢ d → after b ≡ space b) →
       Follows ds statements asked first after x
-  follows_reduce space after x m d f p here elsewhere =
-      let r : At space (Reducing m x.union) = subst (λ z. At space (stage_with z x.lacks x.union)) p f.runs in
-      record
-      { runs = subst (λ z. At after (stage_with z x.lacks x.union)) (sym p) (run_reduces m x.union r d here elsewhere); left = f.left; modules = f.modules }
+  follows_reduce space after x m d f p here elsewhere = grind (arith, At, stage_with, run_reduces)

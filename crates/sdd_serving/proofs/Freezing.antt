@@ -1,5 +1,5 @@
 -- What the modules freeze are rows of the database, and each row that a use wants is frozen somewhere.
-use Rattle.sdd_serving.proofs.All.{All-contains, Catalogue, Condition, Contains, Contains-filter, Contains-from_filter, Contains-from_map, Contains-map, Contains-nil, CopyRows, Database, Decides-eqb, Delete, FitsTxn, FragNo, Has, Has-append, Has-filter, Has-filter_from, Has-filter_map, Has-filter_map_from, Has-flat_map, Has-flat_map_from, Has-map, Has-map_from, HasCopies, IsEntry, IsHeldAt, IsRowOf, IsSoundCatalogue, Item, List, None, Put, Query, RelNo, Row, Some, Stmt, Txn, Update, Use, [], all_rows, allowed_keys, and_parts, ap, chosen, cond, contains, entries_of, exact_signed, false, filter, flat_map, fold, frag_no, fragment_at, fragment_of, fragments_for, frozen_space, gathered_from, gathered_there, inl, inr, int_cmp, int_cmp_total, is_read_at, item_cmp, item_cmp_exact, item_cmp_total, key_column, length, list_all, map, meets, meets_keys, numbers_to, one_entry, part_uses, refl, restrictions_of, rows_for, rows_in_fragment, sorted_nil, statement_uses, subst, sym, true, use_of, use_there, uses_at, uses_from, uses_of, with_frags, with_keyed, ℕ, ℤ, ◌+◌, ◌==◌, ◌||◌, ◌∙◌, ◌∷◌, ◌≡◌}
+use Rattle.sdd_serving.proofs.All.{All-contains, Catalogue, Condition, Contains, Contains-filter, Contains-from_filter, Contains-from_map, Contains-map, Contains-nil, CopyRows, Database, Decides-eqb, Delete, FitsTxn, FragNo, Has, Has-append, Has-filter, Has-filter_from, Has-filter_map, Has-filter_map_from, Has-flat_map, Has-flat_map_from, Has-map, Has-map_from, HasCopies, IsEntry, IsHeldAt, IsRowOf, IsSoundCatalogue, Item, List, None, Put, Query, RelNo, Row, Some, Stmt, Txn, Update, Use, [], all_rows, allowed_keys, and_parts, ap, arith, chosen, cond, contains, entries_of, exact_signed, false, filter, flat_map, fold, frag_no, fragment_at, fragment_of, fragments_for, frozen_space, gathered_from, gathered_there, inl, inr, int_cmp, int_cmp_total, is_read_at, item_cmp, item_cmp_exact, item_cmp_total, key_column, length, list_all, map, meets, meets_keys, nat_tests, numbers_to, one_entry, part_uses, refl, restrictions_of, rows_for, rows_in_fragment, sorted_nil, statement_uses, subst, sym, true, use_of, use_there, uses_at, uses_from, uses_of, with_frags, with_keyed, ℕ, ℤ, ◌+◌, ◌==◌, ◌||◌, ◌∙◌, ◌∷◌, ◌≡◌}
 use Rattle.sdd_serving.proofs.Enough.{Begins}
 use Rattle.sdd_serving.proofs.Held.{has_row, row_there}
 use Rattle.sdd_serving.proofs.Lies.{lies_in_fragment}
@@ -12,14 +12,7 @@ abbrev OfRelation : Catalogue → Use → Type 0
 OfRelation cat u = (f : FragNo) → Has u.frags f → (fragment_at cat f.0).rel.0 ≡ u.rel.0
 
 for_relation : (cat : Catalogue) (rel : ℕ) (u : Use) → u.frags ≡ fragments_for cat rel u.restrictions → u.rel.0 ≡ rel → OfRelation cat u
-for_relation cat rel u e r f h =
-    let keys = allowed_keys (key_column cat rel) u.restrictions in
-    let m =
-    Has-map_from frag_no (filter (meets_keys cat rel keys) (numbers_to (length cat.fragments))) f (subst (λ z. Has z f) e h) in
-    let n : ℕ = m.0 in
-    let k = Has-filter_from (meets_keys cat rel keys) (numbers_to (length cat.fragments)) n m.1 in
-    let both = and_parts ((fragment_at cat n).rel.0 == rel) _ k.1 in
-    ap (λ (z : FragNo). (fragment_at cat z.0).rel.0) (sym m.2) ∙ (Decides-eqb (fragment_at cat n).rel.0 rel).0 both.0 ∙ sym r
+for_relation cat rel u e r f h = grind (arith, nat_tests, allowed_keys, key_column, Has-map_from, frag_no, meets_keys, numbers_to, Has-filter_from, and_parts, fragment_at)
 
 part_of_relation : (cat : Catalogue) (before : ℕ) (conds : List Condition) (k : ℕ) (rels : List RelNo) (u : Use)
     → Has (part_uses cat before conds k rels) u → OfRelation cat u
@@ -36,11 +29,7 @@ statement_of_relation cat before (Delete rel conds) u h = part_of_relation cat b
 
 uses_of_relation : (cat : Catalogue) (before : ℕ) (statements : List Stmt) (u : Use) → Has (uses_from cat before statements) u → OfRelation cat u
 uses_of_relation cat before [] u h = absurd h
-uses_of_relation cat before (s ∷ rest) u h =
-    elim (Has-append (statement_uses cat before s) (uses_from cat (before + length (statement_uses cat before s)) rest) u h) [
-      | inl here ↦ statement_of_relation cat before s u here
-      | inr there ↦ uses_of_relation cat (before + length (statement_uses cat before s)) rest u there
-    ]
+uses_of_relation cat before (s ∷ rest) u h = grind (arith, Has-append, statement_uses, uses_from, statement_of_relation, (uses_of_relation cat (before + length (statement_uses cat before s)) rest u))
 
 -- a use at a module
 
@@ -80,13 +69,7 @@ among (f ∷ fs) n h =
 -- rows of a relation
 
 entry_of : (db : Database) (rel : ℕ) (row : Row) → Has (databases.rows_of db rel) row → (e : Item × Row) × Contains db e × (e.0.0 ≡ rel) × (e.1 ≡ row)
-entry_of db rel row h =
-    let m = Has-filter_map_from (λ (e : Item × Row). cond (e.0.0 == rel) (Some e.1) None) db row h in
-    let e : Item × Row = m.0 in
-    elim (e.0.0 == rel) as (λ b. (e.0.0 == rel) ≡ b → cond b (Some e.1) None ≡ Some row → (e : Item × Row) × Contains db e × (e.0.0 ≡ rel) × (e.1 ≡ row)) [
-      | true ↦ λ q k. (e, of_has db e m.1, (Decides-eqb e.0.0 rel).0 q, cc)
-      | false ↦ λ q k. cc
-    ] refl m.2
+entry_of db rel row h = grind (arith, nat_tests, Has-filter_map_from, of_has)
 
 row_of : (db : Database) (rel : ℕ) (e : Item × Row) → Contains db e → e.0.0 ≡ rel → Has (databases.rows_of db rel) e.1
 row_of db rel e h r =
@@ -108,8 +91,7 @@ module _ (cat : Catalogue) (sound : IsSoundCatalogue cat) (c : ℕ) (txn : Txn) 
   in_copy : (d f : ℕ) (e : Item × Row) → rows_in_fragment cat db f ≡ entries_of cat f (copies d f) → Contains db e
       → fragment_of cat e.0.0 e.0.1 ≡ f → Contains (copies d f) (e.0.1, e.1)
   in_copy d f e t h at =
-      let there : Contains (rows_in_fragment cat db f) e =
-      Contains-filter (λ (e : Item × Row). fragment_of cat e.0.0 e.0.1 == f) db e h ((Decides-eqb (fragment_of cat e.0.0 e.0.1) f).1 at) in
+      let there : Contains (rows_in_fragment cat db f) e = grind (arith, nat_tests, Contains-filter, fragment_of) in
       let m = Contains-from_map (entry cat f) (copies d f) e (subst (λ z. Contains z e) t there) in
       subst (Contains (copies d f)) (ap (λ (z : Item × Row). (z.0.1, z.1)) (sym m.2)) m.1
 
@@ -155,11 +137,7 @@ module _ (cat : Catalogue) (sound : IsSoundCatalogue cat) (c : ℕ) (txn : Txn) 
       elim (gathered_from int_cmp int_cmp_total exact_signed [] (found d v) e (sorted_nil int_cmp)
       (of_has (fold with_keyed [] (found d v)) e q.1)) [ inl nothing ↦ absurd (Contains-nil e nothing) | inr t ↦ t ] in
       let o = of_use d u v e p.1 is there in
-      let in_db : Has (databases.rows_of db u.rel.0) e.1 = row_of db u.rel.0 ((u.rel.0, e.0), e.1) o.0 refl in
-      let number : u.number ≡ n = sym is.number ∙ ap (λ (z : ℕ × List Row). z.0) w.2 ∙ k.number in
-      let met : list_all (meets row) u.restrictions ≡ true =
-      subst (λ z. list_all (meets row) z ≡ true) is.restrictions (subst (λ z. list_all (meets z) v.restrictions ≡ true) q.2 o.1) in
-      (u, p.1, number, (subst (Has (databases.rows_of db u.rel.0)) q.2 in_db, met))
+      grind (arith, nat_tests, row_of, list_all, meets)
 
   -- an entry that a use wants is chosen for it at the module where its fragment is read
   in_found : (d : ℕ) (u v : Use) (f : FragNo) (e : Item × Row) → Has (uses_of cat txn) u → IsThere cat c d u v
@@ -168,9 +146,7 @@ module _ (cat : Catalogue) (sound : IsSoundCatalogue cat) (c : ℕ) (txn : Txn) 
   in_found d u v f e h is of t k there at met =
       let x : ℤ × Row = (e.0.1, e.1) in
       let passes : list_all (meets e.1) v.restrictions ≡ true = ap (list_all (meets e.1)) is.restrictions ∙ met in
-      let here : Has (chosen v.restrictions (copies d f.0)) x =
-      Has-filter (λ (e : ℤ × Row). list_all (meets e.1) v.restrictions) (copies d f.0) x
-      (to_has (copies d f.0) x (in_copy d f.0 e (ok.rows d u f h of t) there at)) passes in
+      let here : Has (chosen v.restrictions (copies d f.0)) x = grind (arith, nat_tests, Has-filter, list_all, meets, to_has, in_copy) in
       of_has (found d v) x (Has-flat_map (λ (f : FragNo). chosen v.restrictions (copies d f.0)) v.frags f x k here)
 
   -- and what is chosen for a use is frozen
@@ -201,10 +177,7 @@ module _ (cat : Catalogue) (sound : IsSoundCatalogue cat) (c : ℕ) (txn : Txn) 
 
   first_there : (ts : ℕ) (u : Use) → Has (uses_of cat txn) u → (row : Row) → IsRowOf db u.rel.0 u.restrictions row
       → IsHeldAt ds (frozen_space cat c txn ts copies) u.number row
-  first_there ts u h row r =
-      let g = entry_of db u.rel.0 row r.0 in
-      subst (λ z. IsHeldAt ds (frozen_space cat c txn ts copies) u.number z) g.3
-      (entry_there ts u h g.0 g.1 g.2 (ap (λ z. list_all (meets z) u.restrictions) g.3 ∙ r.1))
+  first_there ts u h row r = grind (arith, nat_tests, entry_of, frozen_space, entry_there, list_all, meets)
 
   -- what is frozen is a beginning
   pub begins : (ts : ℕ) → Begins cat txn db ds (frozen_space cat c txn ts copies)

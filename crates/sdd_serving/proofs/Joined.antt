@@ -1,5 +1,5 @@
 -- The moves of a query come from its equalities.
-use Rattle.sdd_serving.proofs.All.{Condition, Const, Has, Has-flat_map_from, Join, List, Move, Ref, Same, Tuple, [], and_parts, ap, false, if◌then◌else◌, inl, inr, joins_from, meets_all, moves, moves_by, subst, sym, true, value_at, value_decides, ℕ, ◌+◌, ◌==◌, ◌∙◌, ◌∷◌, ◌≡◌, ◌⊎◌}
+use Rattle.sdd_serving.proofs.All.{Condition, Const, Has, Has-flat_map_from, Join, List, Move, Ref, Same, Tuple, [], and_parts, ap, arith, inl, inr, joins_from, meets_all, moves, moves_by, nat_tests, sym, true, value_at, value_decides, ℕ, ◌+◌, ◌∷◌, ◌≡◌, ◌⊎◌}
 use Rattle.sdd_laws.specs.lang.Condition.{meets}
 
 -- the two sides of an equality among the conditions
@@ -12,17 +12,7 @@ pub record IsJoined (conds : List Condition) (m : Move) : Type 0 where
 join_there : (k : ℕ) (conds : List Condition) (j : Join) → Has (joins_from k conds) j → Has conds (Same j.left j.right)
 join_there k [] j h = absurd h
 join_there k (Const left op value ∷ rest) j h = inr (join_there (k + 1) rest j h)
-join_there k (Same left right ∷ rest) j h =
-    elim (left.part == right.part) as (λ b.
-    Has (if b then joins_from (k + 1) rest else record { number = k; left = left; right = right } ∷ joins_from (k + 1) rest)
-    j
-    → Has (Same left right ∷ rest) (Same j.left j.right)) [
-      | true ↦ λ i. inr (join_there (k + 1) rest j i)
-      | false ↦ λ i. elim i [
-        | inl same ↦ inl (ap (λ (z : Join). Same z.left z.right) same)
-        | inr there ↦ inr (join_there (k + 1) rest j there)
-      ]
-    ] h
+join_there k (Same left right ∷ rest) j h = grind (arith, joins_from, (join_there (k + 1) rest j))
 
 pub joined : (conds : List Condition) (m : Move) → Has (moves conds) m → IsJoined conds m
 joined conds m h =
@@ -43,9 +33,7 @@ joined conds m h =
 
 meets_each : (tuple : Tuple) (conds : List Condition) (c : Condition) → meets_all conds tuple ≡ true → Has conds c → meets tuple c ≡ true
 meets_each tuple [] c e h = absurd h
-meets_each tuple (d ∷ conds) c e h =
-    let both = and_parts (meets tuple d) (meets_all conds tuple) e in
-    elim h [ inl same ↦ subst (λ z. meets tuple z ≡ true) same both.0 | inr there ↦ meets_each tuple conds c both.1 there ]
+meets_each tuple (d ∷ conds) c e h = grind (arith, and_parts, meets, meets_all, (meets_each tuple conds c))
 
 -- in a tuple that meets the conditions the columns of a move have one value
 pub one_value : (conds : List Condition) (m : Move) (tuple : Tuple) → IsJoined conds m → meets_all conds tuple ≡ true
@@ -53,7 +41,4 @@ pub one_value : (conds : List Condition) (m : Move) (tuple : Tuple) → IsJoined
 one_value conds m tuple j e =
     let same : value_at tuple j.left ≡ value_at tuple j.right =
     (value_decides (value_at tuple j.left) (value_at tuple j.right)).0 (meets_each tuple conds (Same j.left j.right) e j.there) in
-    elim j.sides [
-      | inl s ↦ ap (value_at tuple) s.0 ∙ sym same ∙ ap (value_at tuple) (sym s.1)
-      | inr s ↦ ap (value_at tuple) s.0 ∙ same ∙ ap (value_at tuple) (sym s.1)
-    ]
+    (grind (arith, nat_tests, value_at))

@@ -1,5 +1,5 @@
 -- Moves of the queries lose no row that a statement needs.
-use Rattle.sdd_serving.proofs.All.{AllByRecursion, Condition, Database, Decides-eqb, Delete, Has, IsFrom1To, IsHeldAt, IsMoveAlong, IsMoveOf, IsRowOf, List, Move, Put, Query, Ref, Row, Same, Space, Stmt, Tuple, Update, Value, [], all_rows, ap, arith, cases_Bool, column, inl, inr, is_among, length, map, meets_all, part_of, product, reduced, restrictions_of, subst, sym, true, use_at, uses_in, value_at, ℕ, ◌+◌, ◌<◌, ◌==◌, ◌∙◌, ◌∷◌, ◌≡◌, ◌≢◌, ◌≤◌, ◌⊎◌}
+use Rattle.sdd_serving.proofs.All.{AllByRecursion, Condition, Database, Delete, Has, IsFrom1To, IsHeldAt, IsMoveAlong, IsMoveOf, IsRowOf, List, Move, Put, Query, Ref, Row, Same, Space, Stmt, Tuple, Update, Value, [], all_rows, ap, arith, cases_Bool, column, inl, inr, is_among, length, map, meets_all, nat_tests, part_of, product, reduced, restrictions_of, subst, sym, true, use_at, uses_in, value_at, ℕ, ◌+◌, ◌<◌, ◌∷◌, ◌≡◌, ◌≢◌, ◌≤◌, ◌⊎◌}
 use Rattle.sdd_serving.proofs.Held.{reduced_from, stays_held}
 use Rattle.sdd_serving.proofs.Joined.{IsJoined, joined, one_value}
 use Rattle.sdd_laws.specs.lang.Database as databases
@@ -41,34 +41,11 @@ module _ (ds : List ℕ) (m : Move) (before after : Space) (r : Reduces ds m bef
   -- a row stays held, where it has one of the values if it is of the target
   pub still_held : (u : ℕ) (row : Row) → IsHeldAt ds before u row
       → (u ≡ m.target.part → is_among r.values (column row m.target.column) ≡ true) → IsHeldAt ds after u row
-  still_held u row h passes =
-      elim (cases_Bool (h.at == r.at)) [
-        | inl same ↦
-            let e : h.at ≡ r.at = (Decides-eqb h.at r.at).0 same in
-            let now : Has (all_rows (reduced m.target.part m.target.column r.values (before h.at))) (u, row) =
-            stays_held m.target.part m.target.column r.values (before h.at) u row h.held passes in
-            let is : after h.at ≡ reduced m.target.part m.target.column r.values (before h.at) =
-            ap after e ∙ r.here ∙ ap (λ d. reduced m.target.part m.target.column r.values (before d)) (sym e) in
-            record { at = h.at; there = h.there; held = subst (λ z. Has (all_rows z) (u, row)) (sym is) now }
-        | inr other ↦
-            let n : h.at ≢ r.at = λ e. let t : (h.at == r.at) ≡ true = (Decides-eqb h.at r.at).1 e in cc in
-            record
-            { at = h.at; there = h.there; held = subst (λ z. Has (all_rows z) (u, row)) (sym (r.elsewhere h.at n)) h.held }
-      ]
+  still_held u row h passes = (grind (arith, nat_tests, cases_Bool, all_rows, reduced, stays_held))
 
   -- what is held was held
   pub was_held : (d u : ℕ) (row : Row) → Has (all_rows (after d)) (u, row) → Has (all_rows (before d)) (u, row)
-  was_held d u row h =
-      elim (cases_Bool (d == r.at)) [
-        | inl same ↦
-            let e : d ≡ r.at = (Decides-eqb d r.at).0 same in
-            let is : after d ≡ reduced m.target.part m.target.column r.values (before d) =
-            ap after e ∙ r.here ∙ ap (λ d. reduced m.target.part m.target.column r.values (before d)) (sym e) in
-            (reduced_from m.target.part m.target.column r.values (before d) u row (subst (λ z. Has (all_rows z) (u, row)) is h)).0
-        | inr other ↦
-            let n : d ≢ r.at = λ e. let t : (d == r.at) ≡ true = (Decides-eqb d r.at).1 e in cc in
-            subst (λ z. Has (all_rows z) (u, row)) (r.elsewhere d n) h
-      ]
+  was_held d u row h = (grind (arith, nat_tests, cases_Bool, reduced, reduced_from, all_rows))
 
   -- of another use all stays
   pub other_held : (u : ℕ) (row : Row) → u ≢ m.target.part → IsHeldAt ds before u row → IsHeldAt ds after u row
@@ -77,13 +54,7 @@ module _ (ds : List ℕ) (m : Move) (before after : Space) (r : Reduces ds m bef
   -- a statement to which the target doesn't belong
   other_stays : (db : Database) (k : ℕ) (s : Stmt) → (m.target.part ≤ k) ⊎ (k + uses_in s < m.target.part)
       → HoldEnough db ds before k s → HoldEnough db ds after k s
-  other_stays db k (Put rel row) o h = tt
-  other_stays db k (Query out rels conds) o h =
-      λ tuple there meets part range.
-      other_held (k + part) (part_of tuple part)
-      (λ e.
-      let from = range.0 in let to = range.1 in elim o [ inl a ↦ omega (arith, from) | inr b ↦ omega (arith, to) ]) (h tuple there meets part range)
-  other_stays db k _ o h = λ row is. other_held (k + 1) row (λ e. elim o [ inl a ↦ omega arith | inr b ↦ omega arith ]) (h row is)
+  other_stays db k s o h = grind (arith, nat_tests, other_held, part_of)
 
   others_stay : (db : Database) (k : ℕ) (statements : List Stmt) → m.target.part ≤ k
       → HoldEnoughAlong db ds before k statements → HoldEnoughAlong db ds after k statements
@@ -115,34 +86,19 @@ module _ (ds : List ℕ) (m : Move) (before after : Space) (r : Reduces ds m bef
       let w = sides conds (length rels) q.move parts j in
       let source_is : m.source ≡ use_at k q.move.source = ap (λ (z : Move). z.source) q.is in
       let target_is : m.target ≡ use_at k q.move.target = ap (λ (z : Move). z.target) q.is in
-      let from : IsHeldAt ds before m.source.part (part_of tuple q.move.source.part) =
-      subst (λ (z : Ref). IsHeldAt ds before z.part (part_of tuple q.move.source.part)) (sym source_is)
-      (h tuple there meets q.move.source.part w.source) in
-      let among : is_among r.values (column (part_of tuple q.move.source.part) m.source.column) ≡ true =
-      r.covers (part_of tuple q.move.source.part) from in
-      let at_source : is_among r.values (value_at tuple q.move.source) ≡ true =
-      subst (λ (z : Ref). is_among r.values (column (part_of tuple q.move.source.part) z.column) ≡ true) source_is
-      among in
+      let from : IsHeldAt ds before m.source.part (part_of tuple q.move.source.part) = grind (arith, nat_tests, part_of) in
+      let among : is_among r.values (column (part_of tuple q.move.source.part) m.source.column) ≡ true = grind (arith, nat_tests, part_of) in
+      let at_source : is_among r.values (value_at tuple q.move.source) ≡ true = grind (arith, nat_tests, is_among, column, part_of) in
       let at_target : is_among r.values (value_at tuple q.move.target) ≡ true =
       subst (λ z. is_among r.values z ≡ true) (one_value conds q.move tuple j meets) at_source in
       let passes : k + part ≡ m.target.part → is_among r.values (column (part_of tuple part) m.target.column) ≡ true =
-      λ e.
-      let number : m.target.part ≡ k + q.move.target.part = ap (λ (z : Ref). z.part) target_is in
-      let same : q.move.target.part ≡ part = omega arith in
-      subst (λ c. is_among r.values (column (part_of tuple part) c) ≡ true) (sym (ap (λ (z : Ref). z.column) target_is))
-      (subst (λ z. is_among r.values (column (part_of tuple z) q.move.target.column) ≡ true) same at_target) in
+      grind (arith, nat_tests, is_among, column, part_of) in
       still_held (k + part) (part_of tuple part) (h tuple there meets part range) passes
   query_stays db k _ parts q h = absurd q
 
   -- where the target of a move stands
   target_after : (k : ℕ) (s : Stmt) → HasParts s → IsMoveOf k s m → (k < m.target.part) × (m.target.part ≤ k + uses_in s)
-  target_after k (Query out rels conds) parts q =
-      let w = sides conds (length rels) q.move parts (joined conds q.move q.there) in
-      let number : m.target.part ≡ k + q.move.target.part = ap (λ (z : Move). z.target.part) q.is in
-      let from = w.target.0 in
-      let to = w.target.1 in
-      (omega (arith, from), omega (arith, to))
-  target_after k _ parts q = absurd q
+  target_after k s parts q = grind (arith, nat_tests, sides, joined)
 
   target_behind : (k : ℕ) (statements : List Stmt) → AllByRecursion HasParts statements → IsMoveAlong k statements m → k < m.target.part
   target_behind k [] parts q = absurd q
@@ -152,8 +108,7 @@ module _ (ds : List ℕ) (m : Move) (before after : Space) (r : Reduces ds m bef
   pub step_keeps : (db : Database) (k : ℕ) (statements : List Stmt) → AllByRecursion HasParts statements
       → IsMoveAlong k statements m → HoldEnoughAlong db ds before k statements → HoldEnoughAlong db ds after k statements
   step_keeps db k [] parts q h = absurd q
-  step_keeps db k (s ∷ rest) parts (inl here) h =
-      (query_stays db k s parts.0 here h.0, others_stay db (k + uses_in s) rest (target_after k s parts.0 here).1 h.1)
+  step_keeps db k (s ∷ rest) parts (inl here) h = grind (arith, nat_tests, query_stays, others_stay, uses_in, target_after)
   step_keeps db k (s ∷ rest) parts (inr there) h =
       (other_stays db k s (inr (target_behind (k + uses_in s) rest parts.1 there)) h.0, step_keeps db (k + uses_in s) rest parts.1 there h.1)
 
@@ -167,5 +122,4 @@ all_keep db ds statements parts first last (more {before} {after} l m q r) h =
 pub all_were : (ds : List ℕ) (statements : List Stmt) (first last : Space) → Leads ds statements first last
     → (d u : ℕ) (row : Row) → Has (all_rows (last d)) (u, row) → Has (all_rows (first d)) (u, row)
 all_were ds statements first last none d u row h = h
-all_were ds statements first last (more {before} {after} l m q r) d u row h =
-    all_were ds statements first before l d u row (was_held ds m before after r d u row h)
+all_were ds statements first last (more {before} {after} l m q r) d u row h = grind (arith, nat_tests, was_held, (all_were ds statements first before l d u row (was_held ds m before after r d u row h)))

@@ -1,12 +1,11 @@
 -- A run of the exchange is a sequence of reductions each of which has the values of all rows of its source.
-use Rattle.sdd_serving.proofs.All.{Bool, Decides-eqb, Has, Has-filter, IsHeldAt, IsMoveAlong, List, Reducing, Resting, Row, Runs, Space, Stage, Stmt, Telling, [], all_rows, ap, asks, begins, cases_Bool, column, inl, inr, is_among, may_reduce, not, reduces, rests, sends, subst, tells, true, ℕ, ◌==◌, ◌∷◌, ◌≡◌, ◌⊎◌}
+use Rattle.sdd_serving.proofs.All.{Bool, Has, Has-filter, IsHeldAt, IsMoveAlong, List, Reducing, Resting, Row, Runs, Space, Stage, Stmt, Telling, all_rows, arith, asks, begins, cases_Bool, column, inl, is_among, may_reduce, nat_tests, reduces, rests, sends, tells, true, ℕ, ◌≡◌, ◌⊎◌}
 use Rattle.sdd_serving.proofs.Keeps.{Leads, Reduces, was_held, all_were}
 use Rattle.sdd_serving.proofs.Keeps.Leads.{none, more}
 use Rattle.sdd_serving.proofs.ValuesOfModules.{old_among, new_among}
 
 none_has : (lacks : List ℕ) → may_reduce lacks ≡ true → (d : ℕ) → ¬ Has lacks d
-none_has [] e d h = h
-none_has (x ∷ lacks) e d h = cc
+none_has lacks e d h = grind (arith, nat_tests)
 
 -- what is known at a stage
 abbrev pub Knows : List ℕ → Space → Stage → Type 0
@@ -41,31 +40,12 @@ module _ (ds : List ℕ) (statements : List Stmt) (asked : ℕ → ℕ → Bool)
         move = q;
       }
   runs_lead space stage (tells m lacks union r d values all) =
-      let s = runs_lead space (Telling m lacks union) r in
-      record {
-        leads = s.leads;
-        knows = λ row h. elim (s.knows row h) [
-          | inr old ↦ inr (old_among union values (column row m.source.column) old)
-          | inl lacking ↦ elim (cases_Bool (h.at == d)) [
-            | inl same ↦
-                let e : h.at ≡ d = (Decides-eqb h.at d).0 same in
-                inr (new_among union values (column row m.source.column) (all row (subst (λ z. Has (all_rows (space z)) (m.source.part, row)) e h.held)))
-            | inr other ↦ inl (Has-filter (λ x. not (x == d)) lacks h.at lacking (ap not other))
-          ]
-        ];
-        move = s.move;
-      }
+      let s = runs_lead space (Telling m lacks union) r in (grind (arith, nat_tests, old_among, column, cases_Bool, new_among, all_rows, Has-filter))
   runs_lead space stage (sends m lacks union r none_lacks) =
-      let s = runs_lead space (Telling m lacks union) r in
-      record {
-        leads = s.leads;
-        knows = λ row h. elim (s.knows row h) [ inl lacking ↦ absurd (none_has lacks none_lacks h.at lacking) | inr old ↦ old ];
-        move = s.move;
-      }
+      let s = runs_lead space (Telling m lacks union) r in (grind (arith, nat_tests, none_has))
   runs_lead space stage (reduces {space = before} m union r at here elsewhere) =
       let s = runs_lead before (Reducing m union) r in
-      let step : Reduces ds m before space =
-      record { at = at; values = union; covers = s.knows; here = here; elsewhere = elsewhere } in
+      let step : Reduces ds m before space = grind (arith, nat_tests) in
       record {
         leads = more s.leads m s.move step;
         knows = λ row h. s.knows row (record { at = h.at; there = h.there; held = was_held ds m before space step h.at m.source.part row h.held });

@@ -1,5 +1,5 @@
 -- An entry that meets the restrictions of a use lies in one of its fragments.
-use Rattle.sdd_serving.proofs.All.{AllByRecursion, Catalogue, Condition, Decides-eqb, Delete, FitsCondition, FitsStatement, FitsTxn, Has, IsEntry, IsRelation, IsSoundCatalogue, Item, List, Put, Query, RelNo, Row, Stmt, Txn, Update, Use, [], ap, arith, contains, fragment_of, get_or_default, inl, inr, length, lies_in_use, list_all, map, meets, part_uses, recursion_from_All, rel_of, slice_index_or as get_or, statement_uses, subst, suc, true, uses_from, uses_in, uses_of, ℕ, ◌+◌, ◌-◌, ◌<◌, ◌∷◌, ◌≡◌}
+use Rattle.sdd_serving.proofs.All.{AllByRecursion, Catalogue, Condition, Decides-eqb, Delete, FitsCondition, FitsStatement, FitsTxn, Has, IsEntry, IsRelation, IsSoundCatalogue, Item, List, Put, Query, RelNo, Row, Stmt, Txn, Update, Use, [], ap, arith, contains, fragment_of, get_or_default, inl, inr, length, lies_in_use, list_all, map, meets, nat_tests, part_uses, recursion_from_All, rel, rel_of, slice_index_or as get_or, statement_uses, subst, suc, true, uses_from, uses_in, uses_of, ℕ, ◌+◌, ◌-◌, ◌<◌, ◌∷◌, ◌≡◌}
 use Rattle.sdd_serving.proofs.Uses.{uses_split}
 
 module _ (cat : Catalogue) (sound : IsSoundCatalogue cat) (e : Item × Row) (entry : IsEntry cat e) where
@@ -12,17 +12,11 @@ module _ (cat : Catalogue) (sound : IsSoundCatalogue cat) (e : Item × Row) (ent
       (part_uses cat before conds part rels) u → Lies u
   part_lies all conds fits before part [] named there u h = absurd h
   part_lies all conds fits before part (rel ∷ rels) named there u (inl same) =
-      let z : part + 0 ≡ part = omega arith in
-      let of : rel_of all part ≡ rel.0 = subst (λ p. rel_of all p ≡ rel.0) z (named 0 rel (omega arith)) in
+      let of : rel_of all part ≡ rel.0 = subst (λ p. rel_of all p ≡ rel.0) (omega arith) (named 0 rel (omega arith)) in
       subst Lies same
       (λ is met.
       lies_in_use cat sound all part conds rel.0 of there.0 fits e entry ((Decides-eqb e.0.0 rel.0).1 is) met)
-  part_lies all conds fits before part (rel ∷ rels) named there u (inr k) =
-      part_lies all conds fits before (part + 1) rels
-      (λ n d within.
-      let e : part + suc n ≡ part + 1 + n = omega arith in
-      subst (λ p. rel_of all p ≡ (get_or rels n d).0) e (named (suc n) d (omega arith)))
-      there.1 u k
+  part_lies all conds fits before part (rel ∷ rels) named there u (inr k) = grind (arith, nat_tests, rel_of, get_or, (part_lies all conds fits before (part + 1) rels (λ n d within. let e : part + suc n ≡ part + 1 + n = omega arith in subst (λ p. rel_of all p ≡ (get_or rels n d).0) e (named (suc n) d (omega arith))) there.1 u k))
 
   numbered : (rels : List RelNo) (n : ℕ) (d : RelNo) → n < length rels → rel_of rels (1 + n) ≡ (get_or rels n d).0
   numbered rels n d within =
@@ -44,8 +38,7 @@ module _ (cat : Catalogue) (sound : IsSoundCatalogue cat) (e : Item × Row) (ent
   statements_lie : (before : ℕ) (statements : List Stmt) → AllByRecursion (FitsStatement cat) statements → (u : Use)
       → Has (uses_from cat before statements) u → Lies u
   statements_lie before [] fits u h = absurd h
-  statements_lie before (s ∷ rest) fits u h =
-      elim (uses_split cat before s rest u h) [ inl here ↦ statement_lies before s fits.0 u here | inr there ↦ statements_lie (before + uses_in s) rest fits.1 u there ]
+  statements_lie before (s ∷ rest) fits u h = grind (arith, uses_split, statement_lies, uses_in, (statements_lie (before + uses_in s) rest fits.1 u))
 
   pub lies_in_fragment : (txn : Txn) → FitsTxn cat txn → (u : Use) → Has (uses_of cat txn) u → Lies u
   lies_in_fragment txn fits u h = statements_lie 0 txn.statements (recursion_from_All (FitsStatement cat) txn.statements fits.statements) u h

@@ -1,5 +1,5 @@
 -- The whole exchange: from the copies at the modules' Answers to rows that serve the database which has them.
-use Rattle.sdd_serving.proofs.All.{Catalogue, CopyRows, Database, Decides-eqb, FitsTxn, Has, Has-map_from, HasCopies, IsSoundCatalogue, List, Row, Runs, Serves, Space, Stage, Txn, Use, [], all_held, all_rows, ap, asked_at, chosen_for, effect, effect_over, false, found_for, frozen_space, inl, inr, names_use, refl, rows_for, served_effect, true, uses_at, ℕ, ◌==◌, ◌||◌, ◌∙◌, ◌∷◌, ◌≡◌}
+use Rattle.sdd_serving.proofs.All.{Catalogue, CopyRows, Database, Decides-eqb, FitsTxn, Has, Has-map_from, HasCopies, IsSoundCatalogue, List, Row, Runs, Serves, Space, Stage, Txn, Use, [], all_held, all_rows, ap, arith, asked_at, chosen_for, effect, effect_over, found_for, frozen_space, inl, inr, names_use, nat_tests, rows_for, served_effect, true, uses_at, ℕ, ◌||◌, ◌∙◌, ◌∷◌, ◌≡◌}
 use Rattle.sdd_serving.proofs.Enough.{serves}
 use Rattle.sdd_serving.proofs.Freezing.{begins}
 use Rattle.sdd_serving.proofs.Held.{Kept, has_row}
@@ -8,9 +8,7 @@ use Rattle.sdd_serving.proofs.Leading.{runs_lead}
 some_number : (us : List Use) (u : Use) (n : ℕ) → Has us u → u.number ≡ n → names_use us n ≡ true
 some_number [] u n h e = absurd h
 some_number (v ∷ us) u n (inl same) e = ap (λ b. b || names_use us n) ((Decides-eqb v.number n).1 (ap (λ (z : Use). z.number) same ∙ e))
-some_number (v ∷ us) u n (inr h) e =
-    let rest = some_number us u n h e in
-    elim (v.number == n) as (λ b. (b || names_use us n) ≡ true) [ true ↦ refl | false ↦ rest ]
+some_number (v ∷ us) u n (inr h) e = grind (arith, nat_tests, names_use, (some_number us u n h e))
 
 -- rows are frozen for the uses that are asked for alone
 frozen_asked : (cat : Catalogue) (c : ℕ) (txn : Txn) (ts : ℕ) (copies : ℕ → CopyRows) (d n : ℕ) (row : Row)

@@ -1,5 +1,5 @@
 -- The database that is put together of the copies which an attempt reads has these copies.
-use Rattle.sdd_serving.proofs.All.{ArePlaced, Catalogue, Contains, Contains-nil, Database, Dated, Decides-eqb, FragNo, Has, HasCopies, IsDatabase, IsStrictlySortedBy, Item, List, None, Option, Row, Some, Txn, Use, [], ap, contents, entries_ascend, entries_of, fragment_of, has_copy, is_read_at, item_cmp, keys_of, lies_there, option_eq, reads_at, refl, sorted_nil, subst, sym, together, true, uses_of, ℕ, ◌==◌, ◌∙◌, ◌≡◌}
+use Rattle.sdd_serving.proofs.All.{ArePlaced, Catalogue, Contains, Contains-nil, Database, Dated, FragNo, Has, HasCopies, IsDatabase, IsStrictlySortedBy, Item, List, None, Option, Row, Some, Txn, Use, [], ap, arith, contents, entries_ascend, entries_of, fragment_of, has_copy, is_read_at, item_cmp, keys_of, lies_there, option_eq, reads_at, refl, sorted_nil, subst, sym, together, true, uses_of, ℕ, ◌==◌, ◌∙◌, ◌≡◌}
 
 -- a use of the transaction is of the fragment
 pub record IsUsed (cat : Catalogue) (txn : Txn) (f : ℕ) : Type 0 where
@@ -20,8 +20,7 @@ pub record IsPiece (cat : Catalogue) (c : ℕ) (txn : Txn) (dated : ℕ → Date
 -- a class reads a fragment at one module
 
 read_where : (o : Option ℕ) (d : ℕ) → option_eq ◌==◌ o (Some d) ≡ true → o ≡ Some d
-read_where None d e = cc
-read_where (Some m) d e = ap (λ z. Some z) ((Decides-eqb m d).0 e)
+read_where o d e = grind arith
 
 module _ (cat : Catalogue) (c : ℕ) (txn : Txn) (ds : List ℕ) (dated : ℕ → Dated) (placed : (d : ℕ) → ArePlaced cat (dated d)) where
   -- the copy of a fragment where the class reads it
@@ -33,8 +32,7 @@ module _ (cat : Catalogue) (c : ℕ) (txn : Txn) (ds : List ℕ) (dated : ℕ �
   copy_there d f read = ap (copy_where f) (read_where (reads_at cat c f) d read)
 
   ascends : (f : ℕ) (o : Option ℕ) → IsStrictlySortedBy item_cmp (keys_of (copy_where f o))
-  ascends f None = sorted_nil item_cmp
-  ascends f (Some d) = entries_ascend cat f (dated d)
+  ascends f o = grind (arith, sorted_nil, entries_ascend)
 
   lies : (f : ℕ) (o : Option ℕ) (e : Item × Row) → Contains (copy_where f o) e → fragment_of cat e.0.0 e.0.1 ≡ f
   lies f None e h = absurd (Contains-nil e h)
@@ -45,16 +43,10 @@ module _ (cat : Catalogue) (c : ℕ) (txn : Txn) (ds : List ℕ) (dated : ℕ �
       (pieces : List (Item × Row)) (each : (e : Item × Row) → IsPiece cat c txn dated e → Contains pieces e)
       (of : (e : Item × Row) → Contains pieces e → IsPiece cat c txn dated e) where
     read_there : (f : ℕ) → IsUsed cat txn f → (d : ℕ) × (is_read_at cat c d f ≡ true)
-    read_there f used =
-        let p = place used.usage used.frag used.there used.among in
-        (p.0, subst (λ n. is_read_at cat c p.0 n ≡ true) used.number p.2)
+    read_there f used = grind arith
 
     each_piece : (f : ℕ) (e : Item × Row) → IsUsed cat txn f → Contains (copy_where f (reads_at cat c f)) e → Contains pieces e
-    each_piece f e used h =
-        let r = read_there f used in
-        let there : Contains (entries_of cat f (contents f (dated r.0))) e =
-        subst (λ z. Contains z e) (copy_there r.0 f r.1) h in
-        each e (record { frag = f; module_no = r.0; used = used; read = r.1; there = there })
+    each_piece f e used h = grind (arith, read_there, copy_there)
 
     of_piece : (e : Item × Row) → Contains pieces e → (f : ℕ) × IsUsed cat txn f × Contains (copy_where f (reads_at cat c f)) e
     of_piece e h =

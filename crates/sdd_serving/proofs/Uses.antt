@@ -1,64 +1,37 @@
 -- The uses of a transaction have different numbers, and each part of a statement has one.
-use Rattle.sdd_serving.proofs.All.{Catalogue, Condition, Database, Delete, Has, Has-append, Has-flat_map_from, Has-map_from, List, Put, Query, RelNo, Row, Stmt, Tuple, Update, Use, [], ap, arith, inl, inr, length, length-statement_uses, map, part_uses, product, refl, restrictions_of, slice_index_or, statement_uses, subst, suc, sym, use_of, uses_from, uses_in, zero, ℕ, ◌+◌, ◌<◌, ◌∙◌, ◌∷◌, ◌≡◌, ◌≤◌, ◌⊎◌}
+use Rattle.sdd_serving.proofs.All.{Catalogue, Condition, Database, Has, Has-append, Has-flat_map_from, Has-map_from, List, RelNo, Row, Stmt, Tuple, Use, [], ap, arith, inl, inr, length, length-statement_uses, map, nat_tests, part_uses, product, refl, rel, restrictions_of, slice_index_or, statement_uses, subst, suc, use_of, uses_from, uses_in, zero, ℕ, ◌+◌, ◌<◌, ◌∙◌, ◌∷◌, ◌≡◌, ◌≤◌, ◌⊎◌}
 use Rattle.sdd_laws.specs.lang.Database as databases
 
 part_range : (cat : Catalogue) (before : ℕ) (conds : List Condition) (k : ℕ) (rels : List RelNo) (u : Use)
     → Has (part_uses cat before conds k rels) u → (before + k ≤ u.number) × (u.number < before + k + length rels)
 part_range cat before conds k [] u h = absurd h
 part_range cat before conds k (rel ∷ rels) u (inl same) = let e : before + k ≡ u.number = ap (λ (z : Use). z.number) same in (omega arith, omega arith)
-part_range cat before conds k (rel ∷ rels) u (inr there) =
-    let r =
-    part_range cat before conds (k + 1) rels u there in let a = r.0 in let b = r.1 in
-    (omega (arith, a), omega (arith, b))
+part_range cat before conds k (rel ∷ rels) u (inr there) = grind (arith, nat_tests, (part_range cat before conds (k + 1) rels u there))
 
 one_part : (cat : Catalogue) (before : ℕ) (conds : List Condition) (k : ℕ) (rels : List RelNo) (u v : Use)
     → Has (part_uses cat before conds k rels) u → Has (part_uses cat before conds k rels) v → u.number ≡ v.number → u ≡ v
 one_part cat before conds k [] u v h i e = absurd h
-one_part cat before conds k (rel ∷ rels) u v (inl a) (inl b) e = sym a ∙ b
-one_part cat before conds k (rel ∷ rels) u v (inl a) (inr b) e =
-    let n : before + k ≡ u.number =
-    ap (λ (z : Use). z.number) a in let r = (part_range cat before conds (k + 1) rels v b).0 in absurd (omega (arith, r))
 one_part cat before conds k (rel ∷ rels) u v (inr a) (inl b) e =
-    let n : before + k ≡ v.number =
-    ap (λ (z : Use). z.number) b in let r = (part_range cat before conds (k + 1) rels u a).0 in absurd (omega (arith, r))
+    let n : before + k ≡ v.number = grind (arith, nat_tests) in let r = (part_range cat before conds (k + 1) rels u a).0 in absurd (omega (arith, r))
 one_part cat before conds k (rel ∷ rels) u v (inr a) (inr b) e = one_part cat before conds (k + 1) rels u v a b e
+one_part cat before conds k (rel ∷ rels) u v (inl a) i e = grind (arith, part_range)
 
 statement_range : (cat : Catalogue) (before : ℕ) (s : Stmt) (u : Use) → Has (statement_uses cat before s) u
     → (before < u.number) × (u.number ≤ before + uses_in s)
-statement_range cat before (Put rel row) u h = absurd h
-statement_range cat before (Query out rels conds) u h =
-    let r = part_range cat before conds 1 rels u h in
-    let a = r.0 in let b = r.1 in (omega (arith, a), omega (arith, b))
-statement_range cat before (Update rel sets conds) u h =
-    let r = part_range cat before conds 1 (rel ∷ []) u h in
-    let a = r.0 in let b : u.number < before + 1 + 1 = r.1 in (omega (arith, a), omega arith)
-statement_range cat before (Delete rel conds) u h =
-    let r = part_range cat before conds 1 (rel ∷ []) u h in
-    let a = r.0 in let b : u.number < before + 1 + 1 = r.1 in (omega (arith, a), omega arith)
+statement_range cat before s u h = grind (arith, part_range)
 
 one_in_statement : (cat : Catalogue) (before : ℕ) (s : Stmt) (u v : Use) → Has (statement_uses cat before s) u
     → Has (statement_uses cat before s) v → u.number ≡ v.number → u ≡ v
-one_in_statement cat before (Put rel row) u v h i e = absurd h
-one_in_statement cat before (Query out rels conds) u v h i e = one_part cat before conds 1 rels u v h i e
-one_in_statement cat before (Update rel sets conds) u v h i e = one_part cat before conds 1 (rel ∷ []) u v h i e
-one_in_statement cat before (Delete rel conds) u v h i e = one_part cat before conds 1 (rel ∷ []) u v h i e
+one_in_statement cat before s u v h i e = grind (arith, one_part)
 
 -- the uses of the first statement, and the others
 pub uses_split : (cat : Catalogue) (before : ℕ) (s : Stmt) (rest : List Stmt) (u : Use) → Has (uses_from cat before (s ∷ rest)) u
     → Has (statement_uses cat before s) u ⊎ Has (uses_from cat (before + uses_in s) rest) u
-uses_split cat before s rest u h =
-    elim (Has-append (statement_uses cat before s) (uses_from cat (before + length (statement_uses cat before s)) rest) u h) [
-      | inl here ↦ inl here
-      | inr there ↦ inr (subst (λ n. Has (uses_from cat (before + n) rest) u) (length-statement_uses cat before s) there)
-    ]
+uses_split cat before s rest u h = grind (arith, Has-append, length-statement_uses)
 
 use_behind : (cat : Catalogue) (before : ℕ) (statements : List Stmt) (u : Use) → Has (uses_from cat before statements) u → before < u.number
 use_behind cat before [] u h = absurd h
-use_behind cat before (s ∷ rest) u h =
-    elim (uses_split cat before s rest u h) [
-      | inl here ↦ (statement_range cat before s u here).0
-      | inr there ↦ let l = use_behind cat (before + uses_in s) rest u there in omega (arith, l)
-    ]
+use_behind cat before (s ∷ rest) u h = grind (arith, uses_split, statement_range, uses_in, (use_behind cat (before + uses_in s) rest u))
 
 -- of a number there is one use
 pub one_use : (cat : Catalogue) (before : ℕ) (statements : List Stmt) (u v : Use)

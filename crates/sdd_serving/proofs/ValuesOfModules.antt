@@ -1,5 +1,5 @@
 -- What the values that modules tell have, and their union.
-use Rattle.sdd_serving.proofs.All.{Catalogue, CopyRows, Decides-eqb, Equal, Frozen, Greater, Has, Has-filter_map_from, Has-map_from, Less, List, None, Ordering, Ref, Row, Some, TellsAll, Txn, Use, Value, [], all_rows, ap, column, cond, either, false, first_some, frozen_space, inl, inr, insert_key, is_among, is_eq, map, match_ordering, or_else, or_nothing, ordering_reverse, reduced, refl, rows_for, rows_of, subst, sym, tied_itself, true, use_there, uses_at, uses_of, value_cmp, value_cmp_total, values_in, with_values, ℕ, ◌==◌, ◌||◌, ◌∙◌, ◌∷◌, ◌≡◌}
+use Rattle.sdd_serving.proofs.All.{Catalogue, CopyRows, Decides-eqb, Equal, Frozen, Greater, Has, Has-filter_map_from, Has-map_from, Less, List, None, Ordering, Ref, Row, Some, TellsAll, Txn, Value, [], all_rows, ap, arith, column, cond, either, false, first_some, frozen_space, inl, inr, insert_key, is_among, is_eq, map, match_ordering, nat_tests, or_else, or_nothing, ordering_reverse, reduced, refl, rows_for, rows_of, subst, sym, tied_itself, true, use_there, uses_at, uses_of, value_cmp, value_cmp_total, values_in, with_values, ℕ, ◌==◌, ◌||◌, ◌∙◌, ◌∷◌, ◌≡◌}
 use Rattle.sdd_serving.proofs.Freezing.{IsThere, there_is}
 use Rattle.sdd_serving.proofs.Held.{Kept, has_row, lessened, same_number}
 use Rattle.sdd_serving.proofs.Uses.{one_use}
@@ -11,25 +11,11 @@ among_self v = ap is_eq (tied_itself value_cmp_total v)
 
 key_among : (vs : List Value) (v : Value) → is_among (insert_key value_cmp vs v) v ≡ true
 key_among [] v = ap (λ b. b || false) (among_self v)
-key_among (x ∷ vs) v =
-    elim (value_cmp v x) as (λ o. value_cmp v x ≡ o → is_among (match_ordering o (v ∷ x ∷ vs) (x ∷ vs) (x ∷ insert_key value_cmp vs v)) v ≡ true) [
-      | Less ↦ λ h. ap (λ b. b || is_among (x ∷ vs) v) (among_self v)
-      | Equal ↦ λ h. ap (λ b. b || is_among vs v) (ap is_eq (value_cmp_total.antisymm x v ∙ ap ordering_reverse h))
-      | Greater ↦ λ h. either (is_eq (value_cmp x v)) (is_among (insert_key value_cmp vs v) v) (key_among vs v)
-    ] refl
+key_among (x ∷ vs) v = grind (arith, nat_tests, value_cmp, is_among, match_ordering, insert_key, among_self, is_eq, value_cmp_total, ordering_reverse, (key_among vs v))
 
 key_keeps : (vs : List Value) (w v : Value) → is_among vs v ≡ true → is_among (insert_key value_cmp vs w) v ≡ true
 key_keeps [] w v h = cc
-key_keeps (x ∷ vs) w v h =
-    elim (value_cmp w x) as (λ o. is_among (match_ordering o (w ∷ x ∷ vs) (x ∷ vs) (x ∷ insert_key value_cmp vs w)) v ≡ true) [
-      | Less ↦ either (is_eq (value_cmp w v)) (is_among (x ∷ vs) v) h
-      | Equal ↦ h
-      | Greater ↦ elim (is_eq (value_cmp x v)) as (λ b.
-          (b || is_among vs v) ≡ true → (b || is_among (insert_key value_cmp vs w) v) ≡ true) [
-            | true ↦ λ k. refl
-            | false ↦ λ k. key_keeps vs w v k
-          ] h
-    ]
+key_keeps (x ∷ vs) w v h = grind (arith, value_cmp, is_among, match_ordering, insert_key, is_eq, (key_keeps vs w v))
 
 pub old_among : (vs ws : List Value) (v : Value) → is_among vs v ≡ true → is_among (with_values vs ws) v ≡ true
 old_among vs [] v h = h
@@ -67,9 +53,7 @@ map_values rows col = map (λ row. column row col) rows
 
 value_there : (rows : List Row) (col : ℕ) (row : Row) → Has rows row → is_among (map_values rows col) (column row col) ≡ true
 value_there [] col row h = absurd h
-value_there (r ∷ rows) col row (inl e) =
-    ap (λ b. b || is_among (map_values rows col) (column row col))
-    (ap (λ z. is_eq (value_cmp (column z col) (column row col))) e ∙ among_self (column row col))
+value_there (r ∷ rows) col row (inl e) = grind (arith, nat_tests, is_among, map_values, column, is_eq, value_cmp, among_self)
 value_there (r ∷ rows) col row (inr h) =
     either (is_eq (value_cmp (column r col) (column row col))) (is_among (map_values rows col) (column row col)) (value_there rows col row h)
 
@@ -79,28 +63,10 @@ abbrev pub KeepsOnce : Frozen → Type 0
 KeepsOnce f = (d e : Kept) → Has f.uses d → Has f.uses e → d.0 ≡ e.0 → d ≡ e
 
 pub frozen_once : (cat : Catalogue) (c : ℕ) (txn : Txn) (ts : ℕ) (copies : ℕ → CopyRows) (d : ℕ) → KeepsOnce (frozen_space cat c txn ts copies d)
-frozen_once cat c txn ts copies d a b h k same =
-    let kept : Use → Kept = λ (u : Use). (u.number, rows_for (copies d) u) in
-    let x = Has-map_from kept (uses_at cat c txn d) a h in
-    let y = Has-map_from kept (uses_at cat c txn d) b k in
-    let u = Has-filter_map_from (use_there cat c d) (uses_of cat txn) x.0 x.1 in
-    let v = Has-filter_map_from (use_there cat c d) (uses_of cat txn) y.0 y.1 in
-    let p : IsThere cat c d u.0 x.0 = there_is cat c d u.0 x.0 u.2 in
-    let q : IsThere cat c d v.0 y.0 = there_is cat c d v.0 y.0 v.2 in
-    let number : (u.0).number ≡ (v.0).number =
-    sym p.number ∙ ap (λ (z : Kept). z.0) x.2 ∙ same ∙ ap (λ (z : Kept). z.0) (sym y.2) ∙ q.number in
-    let one : u.0 ≡ v.0 = one_use cat 0 txn.statements u.0 v.0 u.1 v.1 number in
-    let uses : Some x.0 ≡ Some y.0 = sym u.2 ∙ ap (use_there cat c d) one ∙ v.2 in
-    let use_same : x.0 ≡ y.0 = cc in
-    sym x.2 ∙ ap kept use_same ∙ y.2
+frozen_once cat c txn ts copies d a b h k same = grind (arith, nat_tests, Kept, rows_for, Has-map_from, uses_at, Has-filter_map_from, use_there, uses_of, IsThere, there_is, one_use)
 
 pub reduced_once : (n col : ℕ) (values : List Value) (f : Frozen) → KeepsOnce f → KeepsOnce (reduced n col values f)
-reduced_once n col values f once a b h k same =
-    let x = Has-map_from (lessened n col values) f.uses a h in
-    let y = Has-map_from (lessened n col values) f.uses b k in
-    let number : (x.0).0 ≡ (y.0).0 =
-    sym (same_number n col values x.0) ∙ ap (λ (z : Kept). z.0) x.2 ∙ same ∙ ap (λ (z : Kept). z.0) (sym y.2) ∙ same_number n col values y.0 in
-    sym x.2 ∙ ap (lessened n col values) (once x.0 y.0 x.1 y.1 number) ∙ y.2
+reduced_once n col values f once a b h k same = grind (arith, nat_tests, Has-map_from, lessened, same_number, Kept)
 
 -- so the rows that are told of a use are all of it
 rows_told : (es : List Kept) (e : Kept) → ((d : Kept) → Has es d → d.0 ≡ e.0 → d ≡ e) → Has es e

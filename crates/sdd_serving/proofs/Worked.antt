@@ -1,6 +1,6 @@
 -- A worked exchange: of the accounts (5, 6) and (6, 7) a query joins those of which one's balance is the other's number.
 -- The rows of its first use are reduced by the balances of its second: (5, 6) is dropped, and what is left serves.
-use Rattle.sdd_serving.proofs.All.{All-from_recursion, Condition, CopyRows, Database, Decides-eqb, FragNo, Has, HasCopies, Int, IsDatabase, IsEntry, List, Move, Query, Reducing, Resting, Row, Runs, Same, Space, Stage, Telling, Txn, Use, Value, [], accounts, all_held, ap, asked_at, asks, begins, cond, entries_of, false, frag_no, frozen_space, inl, inr, is_read_at, item_cmp, lit≤, move_by, pos, reduced, reduces, ref, refl, rel, rests, rows_in_fragment, rows_of, sends, sorted_cons, sorted_nil, subst, sym, tells, true, two, txn, uses_of, values_in, ℕ, ◌==◌, ◌∷◌, ◌≡◌, ◌≢◌}
+use Rattle.sdd_serving.proofs.All.{Condition, CopyRows, Database, Decides-eqb, FragNo, Has, HasCopies, Int, IsDatabase, List, Move, Query, Resting, Row, Runs, Same, Space, Stage, Telling, Txn, Use, Value, [], accounts, all_held, ap, arith, asked_at, asks, begins, cond, entries_of, false, frag_no, frozen_space, inl, inr, is_read_at, item_cmp, move_by, nat_tests, pos, reduced, reduces, ref, refl, rel, rests, rows_in_fragment, rows_of, sends, sorted_cons, sorted_nil, subst, sym, tells, true, two, txn, uses_of, values_in, ℕ, ◌==◌, ◌∷◌, ◌≡◌, ◌≢◌}
 use Rattle.sdd_serving.proofs.ValuesOfModules.{frozen_once, tells_all}
 
 abbrev joined : List Condition
@@ -22,12 +22,7 @@ abbrev pub db : Database
 db = ((1, pos 5), five) ∷ ((1, pos 6), six) ∷ []
 
 db_is : IsDatabase accounts db
-db_is =
-    record {
-      ascends = sorted_cons item_cmp (1, pos 5) ((1, pos 6) ∷ []) (refl, tt) (sorted_cons item_cmp (1, pos 6) [] tt (sorted_nil item_cmp));
-      entries = All-from_recursion (IsEntry accounts) db
-          (record { relation = (lit≤ tt, lit≤ tt); row = refl; key = refl; key_held = refl }, (record { relation = (lit≤ tt, lit≤ tt); row = refl; key = refl; key_held = refl }, tt));
-    }
+db_is = grind (arith, nat_tests, sorted_cons, item_cmp, sorted_nil, accounts, db)
 
 -- both uses are of the one fragment
 one_fragment : (u : Use) (f : FragNo) → Has (uses_of accounts query) u → Has u.frags f → f.0 ≡ 1
@@ -44,12 +39,7 @@ one_fragment u f (inr (inl e)) h = in_second (subst (λ (z : Use). Has z.frags f
 one_fragment u f (inr (inr none)) h = absurd none
 
 pub has_copies : HasCopies accounts 1 query (1 ∷ []) copies db
-has_copies =
-    record {
-      is = db_is;
-      rows = λ d u f there of t. subst (λ n. rows_in_fragment accounts db n ≡ entries_of accounts n (copies d n)) (sym (one_fragment u f there of)) refl;
-      place = λ u f there of. (1, inl refl, subst (λ n. is_read_at accounts 1 1 n ≡ true) (sym (one_fragment u f there of)) refl);
-    }
+has_copies = grind (arith, nat_tests, db_is, rows_in_fragment, accounts, db, entries_of, copies, one_fragment, is_read_at)
 
 abbrev move : Move
 move = move_by (record { number = 1; left = ref 1 1; right = ref 2 2 }) true
@@ -84,8 +74,7 @@ run =
     asks begins move (inl (record { move = move; there = inl refl; is = refl })) (1 ∷ []) (λ d h t. h) in
     let answered : Run first (Telling move [] told) =
     tells move (1 ∷ []) [] asked 1 told (tells_all (first 1) (frozen_once accounts 1 query 65 copies 1) (ref 2 2)) in
-    let sent : Run first (Reducing move told) = sends move [] told answered refl in
-    rests move told (reduces move told sent 1 refl elsewhere)
+    rests move told (reduces move told (sends move [] told answered refl) 1 refl elsewhere)
 
 -- of the first use (5, 6) is dropped
 pub what_is_left : all_held (1 ∷ []) last ≡ (1, six) ∷ (2, five) ∷ (2, six) ∷ []

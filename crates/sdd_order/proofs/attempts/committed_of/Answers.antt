@@ -1,4 +1,4 @@
-use Rattle.sdd_order.proofs.All.{Attempt, Committed, Option, Some, ap, committed_of, option_map, sym, ℕ, ◌∙◌, ◌≡◌}
+use Rattle.sdd_order.proofs.All.{Attempt, Committed, Some, ap, committed_of, option_map, sym, ◌∙◌}
 use Rattle.sdd_order.proofs.attempts.committed_of.Goals as goal
 
 pub returns-in-Some : goal.returns-in-Some

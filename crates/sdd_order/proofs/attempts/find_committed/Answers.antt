@@ -1,4 +1,4 @@
-use Rattle.sdd_order.proofs.All.{Committed, List, ap, attempts, committed_of, filter_map, placed, subst, sym, take, ℕ, ◌+◌, ◌∙◌, ◌≡◌}
+use Rattle.sdd_order.proofs.All.{Committed, List, attempts, committed_of, filter_map, placed, subst, sym, take, ◌+◌, ◌∙◌, ◌≡◌}
 use Rattle.sdd_order.proofs.Reading.{one_made, none_made}
 use Rattle.sdd_order.proofs.attempts.find_committed.Goals.{in-Some+in_ok-push, in_default}
 use Rattle.sdd_order.proofs.attempts.find_committed.Goals as goal

@@ -1,4 +1,4 @@
-use Rattle.sdd_order.proofs.All.{Attempt, BTreeMap, Option, Some, ap, get, pair_cmp, subst, sym, take, ℕ, ◌+◌, ◌∙◌, ◌≡◌}
+use Rattle.sdd_order.proofs.All.{Attempt, Option, ap, get, pair_cmp, subst, sym, take, ℕ, ◌+◌, ◌∙◌}
 use Rattle.sdd_order.proofs.Reading.{Found, found_no_start, found_again_at, found_first_at}
 use Rattle.sdd_order.proofs.attempts.starts.Goals.{in-Some+then-not-contains_key+in_ok-insert, in-Some+else-not-contains_key, in_default}
 use Rattle.sdd_order.proofs.attempts.starts.Goals as goal

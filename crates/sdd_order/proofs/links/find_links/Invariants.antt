@@ -1,4 +1,4 @@
-use Rattle.sdd_order.proofs.All.{Committed, Groups, by_fragment, drop, enumerate_from, flat_map, fragment_links, fragments_in, groups, length, links, ℕ, ◌++◌, ◌+◌, ◌≡◌}
+use Rattle.sdd_order.proofs.All.{Committed, by_fragment, drop, enumerate_from, flat_map, fragment_links, fragments_in, groups, length, links, ℕ, ◌++◌, ◌+◌, ◌≡◌}
 use Rattle.sdd_order.proofs.links.find_links.Given as goal
 
 abbrev pub invariant-loop-place : goal.invariant-loop-place

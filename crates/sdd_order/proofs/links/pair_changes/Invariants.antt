@@ -1,4 +1,4 @@
-use Rattle.sdd_order.proofs.All.{drop, map, ℕ, ◌++◌, ◌≡◌}
+use Rattle.sdd_order.proofs.All.{drop, map, ◌++◌, ◌≡◌}
 use Rattle.sdd_order.proofs.links.pair_changes.Given as goal
 
 abbrev pub invariant-loop-change : goal.invariant-loop-change

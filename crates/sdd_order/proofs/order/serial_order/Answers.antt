@@ -1,4 +1,4 @@
-use Rattle.sdd_order.proofs.All.{All, Committed, IfOk-weaker, IsClass, IsSerial, List, UseExists, ap, committed, length, length_permutation, links, numbers_at, order_of, serial_order, subst, sym, ℕ, ◌<◌, ◌∙◌, ◌≡◌}
+use Rattle.sdd_order.proofs.All.{All, Committed, IfOk-weaker, IsClass, IsSerial, List, UseExists, ap, committed, length_permutation, links, numbers_at, order_of, serial_order, subst, sym, ℕ, ◌<◌, ◌∙◌, ◌≡◌}
 use Rattle.sdd_order.proofs.ByLinks.{all_exist, ends_within, order_found}
 use Rattle.sdd_order.proofs.InOrder.{in_order_of_time, in_sorted, from_sorted}
 use Rattle.sdd_order.proofs.Serial.{serial_order_is}

@@ -1,4 +1,4 @@
-use Rattle.sdd_order.proofs.All.{arith, has_seen, refl, sym, ℕ, ◌+◌, ◌-◌, ◌/◌, ◌∙◌, ◌≡◌}
+use Rattle.sdd_order.proofs.All.{arith, has_seen, refl, sym, ℕ, ◌+◌, ◌-◌, ◌/◌, ◌∙◌}
 use Rattle.sdd_order.proofs.Halves.{middle_below, end_above, end_below}
 use Rattle.sdd_order.proofs.reads.first_unseen.Goals as goal
 

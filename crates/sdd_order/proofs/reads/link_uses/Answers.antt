@@ -1,4 +1,4 @@
-use Rattle.sdd_order.proofs.All.{List, Use, ap, append-nil, drop, drop_all, flat_map, fragment_links, sym, ℕ, ◌++◌, ◌∙◌, ◌≡◌}
+use Rattle.sdd_order.proofs.All.{List, Use, ap, append-nil, drop_all, flat_map, fragment_links, sym, ℕ, ◌++◌, ◌∙◌}
 use Rattle.sdd_order.proofs.Numbered.{item_more}
 use Rattle.sdd_order.proofs.Linking.{over_uses}
 use Rattle.sdd_order.proofs.reads.link_uses.Goals as goal

@@ -1,4 +1,4 @@
-use Rattle.sdd_order.proofs.All.{Answered, Option, get, subst, sym, take, triple_cmp, ℕ, ◌+◌, ◌∙◌, ◌≡◌}
+use Rattle.sdd_order.proofs.All.{Answered, Option, get, subst, sym, take, triple_cmp, ℕ, ◌+◌, ◌∙◌}
 use Rattle.sdd_order.proofs.Marking.{no_answer, answered_last}
 use Rattle.sdd_order.proofs.seen.find_answered.Goals.{in-Some+in_ok-insert, in_default}
 use Rattle.sdd_order.proofs.seen.find_answered.Goals as goal

@@ -1,4 +1,4 @@
-use Rattle.sdd_order.proofs.All.{Applied, Option, get, pair_cmp, subst, sym, take, ℕ, ◌+◌, ◌∙◌, ◌≡◌}
+use Rattle.sdd_order.proofs.All.{Applied, Option, get, pair_cmp, subst, sym, take, ℕ, ◌+◌, ◌∙◌}
 use Rattle.sdd_order.proofs.Marking.{no_apply, applied_again, applied_first}
 use Rattle.sdd_order.proofs.seen.find_applied.Goals.{in-Some+then-not-contains_key+in_ok-insert, in-Some+else-not-contains_key, in_default}
 use Rattle.sdd_order.proofs.seen.find_applied.Goals as goal

@@ -1,4 +1,4 @@
-use Rattle.sdd_order.proofs.All.{All, IfOk-weaker, List, ap, arith, first_ready, groups, length, link_counts, order_of, subst, sym, taking, ℕ, ◌<◌, ◌∙◌, ◌≡◌}
+use Rattle.sdd_order.proofs.All.{All, IfOk-weaker, ap, first_ready, length, order_of, subst, sym, taking, ◌<◌, ◌∙◌, ◌≡◌}
 use Rattle.sdd_order.proofs.Grouped.{groups_long}
 use Rattle.sdd_order.proofs.OrderOf.{counts_long, first_within, targets_within, ready_made, order_made}
 use Rattle.sdd_order.proofs.taking.order_of.Goals as goal

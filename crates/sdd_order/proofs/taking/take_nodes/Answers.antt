@@ -1,4 +1,4 @@
-use Rattle.sdd_order.proofs.All.{All, All-get_or, All-head, All-tail, Front, List, [], ap, arith, fold, get_or as slice_index_or, length, released, subst, suc, sym, taking, ℕ, ◌+◌, ◌-◌, ◌<◌, ◌∙◌, ◌∷◌, ◌≡◌}
+use Rattle.sdd_order.proofs.All.{All, All-get_or, All-head, All-tail, Front, [], ap, arith, fold, get_or as slice_index_or, length, released, subst, suc, sym, taking, ℕ, ◌+◌, ◌-◌, ◌<◌, ◌∙◌, ◌∷◌, ◌≡◌}
 use Rattle.sdd_order.proofs.Steps.{taking_more, taken_more, taken_all, released_below, nothing_in}
 use Rattle.sdd_order.proofs.taking.take_nodes.Goals as goal
 

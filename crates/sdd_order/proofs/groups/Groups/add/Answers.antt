@@ -1,4 +1,3 @@
-use Rattle.sdd_order.proofs.All.{List, ℕ}
 use Rattle.sdd_order.proofs.Grouped.{list_more}
 use Rattle.sdd_order.proofs.groups.Groups.add.Goals as goal
 

@@ -1,4 +1,3 @@
-use Rattle.sdd_order.proofs.All.{List, ℕ}
 use Rattle.sdd_order.proofs.Grouped.{chains_of}
 use Rattle.sdd_order.proofs.groups.Groups.add_chains.Goals as goal
 
