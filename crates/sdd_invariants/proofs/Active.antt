@@ -1,17 +1,14 @@
 -- How the active attempt changes: it ends, or keeps all but its exchange. And what holds of each kind of step.
-use Rattle.sdd_invariants.proofs.All.{Act, Attempt, Bases, D, Each, Entry, Exchange, IsSend, IsStep, Log, Msg, None, Option, Queued, Sends, Setting, Site, Some, [], active, active_handed, active_sent, after_hand, after_send, asks_rows, by_commit, by_send, by_start, commit_act, head_of, home, is_over, queue, refl, rejects, start_at, subst, sym, true, ℕ, ◌++◌, ◌∷◌, ◌≡◌}
+use Rattle.sdd_invariants.proofs.All.{Act, Attempt, Bases, Each, Entry, Exchange, IsSend, IsStep, Log, Msg, None, Option, Queued, Sends, Setting, Site, Some, [], active, active_handed, active_sent, arith, by_commit, by_send, by_start, commit_act, head_of, home, is_over, queue, start_at, subst, sym, true, ℕ, ◌++◌, ◌∷◌, ◌≡◌}
 use Rattle.sdd_invariants.proofs.Bools.{if_way}
 
 pub handed_way : (P : Option Attempt → Type 0) (c : ℕ) (from : Site) (m : Msg) (o : Option Attempt) → P None
     → ((a : Attempt) (x : Exchange) → o ≡ Some a → P (Some (record a { exchange = x }))) → P o → P (active_handed c from m o)
-handed_way P c (D d) m (Some a) n f h =
-    if_way P (rejects m a.ts c) None (Some (record a { exchange = after_hand a.ts c d.0 m a.exchange })) n (f a (after_hand a.ts c d.0 m a.exchange) refl)
-handed_way P c _ m _ n f h = h
+handed_way P c from m o n f h = grind (arith, if_way)
 
 pub sent_way : (P : Option Attempt → Type 0) (c : ℕ) (m : Msg) (o : Option Attempt)
     → ((a : Attempt) (x : Exchange) → o ≡ Some a → P (Some (record a { exchange = x }))) → P o → P (active_sent c m o)
-sent_way P c m None f h = h
-sent_way P c m (Some a) f h = if_way P (asks_rows a.ts c m) (Some (record a { exchange = after_send a.exchange })) (Some a) (f a (after_send a.exchange) refl) h
+sent_way P c m o f h = grind (arith, if_way)
 
 -- what holds of each kind of step holds of an act that is one
 pub step_way : (s : Setting) (log : Log) (act : Act) (P : Act → Type 0)

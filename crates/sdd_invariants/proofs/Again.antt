@@ -1,6 +1,6 @@
 -- An attempt that isn't its transaction's first follows a Reject of the attempt before it, by a WRITE of a committed
 -- transaction; and its time of P2 is above that WRITE's time.
-use Rattle.sdd_invariants.proofs.All.{Bool, Change, ClassNo, ClassView, Cond, D, DmNo, Does, FragNo, Hand, Handed, Input, IsAgain, IsOf, IsOfWrite, IsPermitted, IsReadOf, IsRejectBy, IsWriter, List, Msg, None, Option, Pipe, Queued, Read, Records, Reject, Rejected, Setting, Site, Some, Ts, TxnNo, Write, [], active, ap, append_assoc, arith, at_class, class_puts, clock, cond, cons_option, dec_le, empty_pipe, filter, filter_map, fold, greatest, handed, head, head_of, home, home_of, inl, inr, is_at_least, last_write, last_write_for, length, local_of, max, next_stamp, number_of, or_zero, pipe, pipe_at, queue, raised, refl, results, setting_of, slice_get, source_of, spoils, subst, suc, sym, time_at, touches, true, view_of, write_time, zero, ℕ, ◌*◌, ◌++◌, ◌+◌, ◌/◌, ◌<◌, ◌∙◌, ◌∷◌, ◌≡◌, ◌≤◌, ◌⊎◌}
+use Rattle.sdd_invariants.proofs.All.{Bool, Change, ClassNo, Cond, D, DmNo, Does, FragNo, Hand, Handed, Input, IsAgain, IsOf, IsOfWrite, IsPermitted, IsReadOf, IsRejectBy, IsWriter, List, Msg, None, Option, Pipe, Queued, Read, Reject, Setting, Site, Some, Ts, TxnNo, Write, [], active, ap, append_assoc, arith, at_class, class_puts, clock, cons_option, dec_le, empty_pipe, filter, filter_map, fold, handed, head, head_of, home, home_of, inl, inr, is_at_least, last_write, last_write_for, length, local_of, next_stamp, number_of, or_zero, pipe, pipe_at, queue, raised, refl, results, setting_of, slice_get, source_of, spoils, subst, suc, sym, time_at, touches, true, view_of, write_time, zero, ℕ, ◌*◌, ◌++◌, ◌+◌, ◌/◌, ◌<◌, ◌∙◌, ◌∷◌, ◌≡◌, ◌≤◌, ◌⊎◌}
 use Rattle.sdd_invariants.proofs.Clocks.{clock_grows, clock_number}
 use Rattle.sdd_invariants.proofs.Recorded.{start_of_active}
 use Rattle.sdd_invariants.proofs.Retried.{was_rejected}
@@ -30,9 +30,6 @@ greatest_from o (x ∷ xs) w e = elim (greatest_from (raised o x) xs w e) [
   | inr p ↦ inr (suc p.0, p.1)
 ]
 
-greatest_in : (xs : List ℕ) (w : ℕ) → greatest xs ≡ Some w → (k : ℕ) × (slice_get xs k ≡ Some w)
-greatest_in xs w e = elim (greatest_from None xs w e) [ inl p ↦ (let q : ◌≡◌ {A = Option ℕ} None (Some w) = p in cc) | inr p ↦ p ]
-
 mapped_cons : (f : Msg → Option ℕ) (m : Msg) (ms : List Msg) (ws : List ℕ) (k y w : ℕ)
     → ((j : ℕ) → slice_get ws j ≡ Some w → (i : ℕ) × (x : Msg) × (slice_get ms i ≡ Some x) × (f x ≡ Some w)) → f m ≡ Some y
     → slice_get (y ∷ ws) k ≡ Some w → (i : ℕ) × (x : Msg) × (slice_get (m ∷ ms) i ≡ Some x) × (f x ≡ Some w)
@@ -48,13 +45,9 @@ mapped_in f (m ∷ ms) k w e =
       | Some y ↦ λ p q. mapped_cons f m ms (filter_map f ms) k y w (λ j r. mapped_in f ms j w r) p q
     ] refl e
 
-cond_is : (b : Bool) (t w : ℕ) → cond b (Some t) None ≡ Some w → (b ≡ true) × (t ≡ w)
-cond_is b t w e = grind arith
-
 time_is : (frags : List FragNo) (m : Msg) (w : ℕ) → write_time frags m ≡ Some w
     → (ts : Ts) × (k : ClassNo) × (txn : TxnNo) × (changes : List Change) × (m ≡ Write ts k txn changes) × (ts.0 ≡ w) × (touches frags changes ≡ true)
-time_is frags (Write ts k txn changes) w e = let p = cond_is (touches frags changes) ts.0 w e in (ts, k, txn, changes, refl, p.1, p.0)
-time_is frags _ w e = cc
+time_is frags m w e = grind (arith)
 
 pub first_there : (ds : List Cond) (d : Cond) → head_of ds ≡ Some d → slice_get ds 0 ≡ Some d
 first_there ds d e = grind arith
@@ -63,9 +56,6 @@ pub first_of_filter : (f : Cond → Bool) (ds : List Cond) (d : Cond) → head_o
 first_of_filter f ds d e = let i = in_filtered f ds 0 d (first_there (filter f ds) d e) in (i.1, i.2, i.0)
 
 -- a condition that is spoilt: by the WRITE that is named
-
-spoilt_by : (t : ℕ) (o : Option ℕ) → is_at_least t o ≡ true → (o ≡ Some (or_zero o)) × (t ≤ or_zero o)
-spoilt_by t o e = grind (arith, le_is)
 
 pub record IsSpoilt (log : site.Log) (d : Cond) (w : ℕ) : Type 0 where
   pub at_least : d.time.0 ≤ w
@@ -80,19 +70,12 @@ pub record IsSpoilt (log : site.Log) (d : Cond) (w : ℕ) : Type 0 where
 
 spoilt_in : (log : site.Log) (d : Cond) (p : Pipe) → p.processed ≡ (pipe d.class.0 log).processed
     → is_at_least d.time.0 (last_write d.frags p) ≡ true → IsSpoilt log d (or_zero (last_write d.frags p))
-spoilt_in log d p e f =
-    let i = spoilt_by d.time.0 (last_write d.frags p) f in
-    let w : ℕ = or_zero (last_write d.frags p) in
-    let g = greatest_in (filter_map (write_time d.frags) p.processed) w i.0 in
-    let m = mapped_in (write_time d.frags) p.processed g.0 w g.1 in
-    let t = time_is d.frags m.1 w m.3 in
-    record { at_least = i.1; place = m.0; ts = t.0; of = t.1; txn = t.2; changes = t.3; there = subst (λ ms. slice_get ms m.0 ≡ Some (Write t.0 t.1 t.2 t.3)) e (m.2 ∙ ap (λ y. Some y) t.4); ts_is = t.5; touching = t.6 }
+spoilt_in log d p e f = grind (arith, le_is, greatest_from, filter_map, mapped_in, time_is, slice_get)
 
 pub is_spoilt : (s : Setting) (log : site.Log) (d : Cond) → spoils (view_of s log) d ≡ true → IsSpoilt log d (or_zero (last_write_for (view_of s log) d))
 is_spoilt s log d e = elim (dec_le (suc d.class.0) (suc (length s.catalogue.classes))) [
   | yes l ↦ spoilt_in log d (at_class (view_of s log) d.class.0).pipe (processed_in_is s log d.class.0 l) e
-  | no n ↦ (let q : is_at_least d.time.0 (last_write d.frags empty_pipe) ≡ true = subst
-      (λ (k : ClassView). is_at_least d.time.0 (last_write d.frags k.pipe) ≡ true) (class_not_in_view s log d.class.0 (omega (arith, n))) e in cc)
+  | no n ↦ grind (arith, is_at_least, last_write, empty_pipe, class_not_in_view)
 ]
 
 -- a processed WRITE: its Commit and its Apply
@@ -108,8 +91,7 @@ writer_of g log d j place ts of txn changes h e =
     let c : of.0 ≡ j = class_number of.0 j ts.0 put.of_class in
     let w = write_origin g log j d ts of txn changes c put in
     let z = zip_at IsOf (results j l) (pipe j l).processed place m (matched (setting_of g (D d)) j l (d_fair g d log h)).matched e in
-    let is1 : IsOfWrite ts j txn.0 z.0 = subst (λ k. IsOfWrite ts k txn.0 z.0) c z.2 in
-    let is2 : IsOfWrite (time_at w.attempt.ts) j txn.0 z.0 = subst (λ t. IsOfWrite (time_at t) j txn.0 z.0) w.ts_is is1 in
+    let is2 : IsOfWrite (time_at w.attempt.ts) j txn.0 z.0 = subst (λ t. IsOfWrite (time_at t) j txn.0 z.0) w.ts_is (subst (λ k. IsOfWrite ts k txn.0 z.0) c z.2) in
     record { number = txn.0; commit = w; applied = record { place = place; rec = z.0; there = z.1; is = subst (λ n. IsOfWrite (time_at w.attempt.ts) j n z.0) w.number_is is2 } }
 
 -- the clock after the hand of a REJECT
@@ -119,9 +101,6 @@ pushed_above clk k w own a b c = omega arith
 -- a timestamp, by ticks
 pub stamp_ticks : (s : Setting) (log : site.Log) → next_stamp s log ≡ ((clock s.site log).ticks + 1) * 64 + number_of s.site
 stamp_ticks s log = let n = clock_number s.site log in omega (arith, n)
-
-max_le : (a b c : ℕ) → max a b ≤ c → b ≤ c
-max_le a b c l = omega arith
 
 pub le_as : (a b c : ℕ) → a ≤ b → c ≡ b → a ≤ c
 le_as a b c l e = omega (arith, l, e)
@@ -166,7 +145,7 @@ again g c log q h small idle e tried_once =
     let grows = clock_grows at r.later (Handed (D r.from) m ∷ r.before) in
     let same : (clock at (local_of g at log)).ticks ≡ (clock at (r.later ++ Handed (D r.from) m ∷ r.before)).ticks = ap (λ x. (clock at x).ticks) r.is in
     let lo : r.write.0 / 64 ≤ (clock at (local_of g at log)).ticks =
-    le_as (r.write.0 / 64) _ _ (max_le (clock at r.before).ticks (r.write.0 / 64) _ grows) same in
+    le_as (r.write.0 / 64) _ _ (omega arith) same in
     let stamp : r.write.0 ≡ ((clock other st.before).ticks + 1) * 64 + number_of other = cm.ts_is ∙ st.ts_is ∙ stamp_ticks (setting_of g other) st.before in
     record {
       from = r.from;
@@ -177,8 +156,7 @@ again g c log q h small idle e tried_once =
       by = r.by;
       write = r.write;
       sends = (source_of (home_of ds) b.class, m) ∷ [];
-      is = whole ∙ ap (λ x. front ++ Does (D r.from) x ∷ p.before)
-          (b.act_is ∙ ap (λ j. Records j (Rejected b.txn b.attempt (home_of ds).dm r.by r.write) ((source_of (home_of ds) b.class, m) ∷ [])) k);
+      is = grind (arith, home_of, source_of);
       number_is = o.0 ∙ r.number_is;
       try_is = o.1 ∙ r.try_is;
       ts = r.ts;

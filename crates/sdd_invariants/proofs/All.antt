@@ -17,7 +17,7 @@ pub use Rattle.sdd_invariants.specs.Rejections.{IsRejected}
 pub use Rattle.sdd_invariants.specs.Releases.{IsServing, dones_of, drawn_so_far, is_done_of, last_of, release_time, release_times}
 pub use Rattle.sdd_invariants.specs.Seen.{IsAnswerWith, IsApplied, all_of, changes_to, class_puts, pipe_at}
 pub use Rattle.sdd_invariants.specs.Stamps.{AllOf, IsClocked, stamp_or}
-pub use Rattle.sdd_invariants.specs.Steps.{IsFair, IsNew, IsSend, IsServed, IsStep, a_held, a_hold, a_null, a_release, bound, by_commit, by_send, by_start, changes_at, home, is_committed, is_reading, last_stamp, limit, limit_of, modules_asked, next_stamp, of_exchange, promise_of, promises, queued, stamp_of, stamps, start_at, start_more, start_read, starts_of, submits_of, time_if_some}
+pub use Rattle.sdd_invariants.specs.Steps.{IsFair, IsNew, IsSend, IsServed, IsStep, a_held, a_hold, a_null, a_release, bound, by_commit, by_send, by_start, changes_at, home, is_committed, is_reading, last_stamp, limit, limit_of, modules_asked, next_stamp, of_exchange, promise_of, promises, queued, stamp_of, stamps, start_at, start_more, start_read, starts_of, submits_of}
 pub use Rattle.sdd_invariants.specs.Traffic.{class_in, hands_from, puts_to, times_in, to_site}
 pub use Rattle.sdd_invariants.specs.Turns.{NoneHold, is_a_held, is_a_hold, is_a_release, one_if, tally, turn, turns}
 pub use Rattle.sdd_invariants.specs.Unspoilt.{AllUnspoilt, IsUnspoilt, IsWaiting, spoiling}
@@ -33,14 +33,13 @@ pub use Rattle.sdd_log.proofs.pipe.Digests.{or_assoc}
 pub use Rattle.sdd_log.proofs.tm.Lists.{get_map as at_map, get_within as place_within, of_map as in_mapped}
 pub use Rattle.sdd_log.proofs.umod.Handing.{commits_same as hand_commits}
 pub use Rattle.sdd_log.proofs.umod.Turns.{tm_told as counts_tm}
-pub use Rattle.sdd_log.specs.All.{Ack, Act, Answer, Apply, Ask, Asking, Attempt, Bases, Call, Catalogue, Change, ClassNo, ClassView, Commit, Cond, D, Deliver, Delivers, Did, DmNo, Does, Done, Down, Each, Entry, Era, Event, Exchange, Fetch, Fetching, FragNo, Hand, Handed, Held, Hold, HoldCounts, Home, Input, IsAllowed, IsDue, IsPermitted, Link, Lose, Loses, Mark, Message, Msg, Notes, Null, Open, Over, Packet, Pass, Phase, Pipe, Processes, Puts, Question, Queued, Read, Ready, Rec, Records, Redeclared, Redeclares, Reduce, Reduced, Reject, Release, Repeat, Repeats, Resend, Resends, Sends, Served, Setting, Ship, Shipping, Site, Start, Submit, Submits, Submitted, T, Tick, Ticked, Ticking, TmCounts, TmNo, Ts, Txn, TxnNo, U, Up, Use, Values, View, Write, act_by, act_where, active, active_after, active_handed, active_sent, after_hand, after_send, answer_of, answer_to, answered, arrives, ascending, ask_for, asks_rows, at_class, attempt_due, base_of, begins, by_ask, by_event, by_head, by_link, by_mark, by_open, by_redeclare, by_release, by_round, by_site, calls_of, class_asked, class_at, class_is, class_no, class_view, classes_of, clock, commit_act, contains, counted, counts, counts_acted, counts_for, counts_handed, current_era, deliver, delivered, dm_no, due_by, effect, empty_pipe, exchange_due, fetches, fetches_from, first_send, fragments_in, goes_on, goes_through, greatest, handed, hands, head, head_due, head_of, head_processed, hold_due, hold_to, holds, holds_acted, holds_back, holds_handed, home_of, is_asked_of, is_at_least, is_empty, is_for, is_held, is_holding, is_idle, is_met, is_new_mark, is_over, is_processing, is_wait, judged, lacking, last_served, last_write, last_write_for, link, link_of, local_of, lose, mark_due, message_at, module_read, modules_of, move_at, note_if, nth_era, null_at, number_of, numbers_to, on_hold, on_link, one_or_none, opens, opens_acted, or_else, or_zero, packet_at, passed, passed_by, phase_ends, pipe, pipe_acted, piped, pushed_by, put, puts, queue, raised, reads_at, redeclares, reduces, rejects, release_due, repeat, resend, runs, same_site, sends_of_act, sent, served_handed, setting_of, ships, source_of, spoils, start_act, started, step_on, submits, tail_of, takes_part, ticked_by, time_at, time_of, tm_no, to_all, touches, tried, turned, txn_at, txn_no, undeclared_conditions, uses_of, view_of, waits, was_marked, with_era, with_packet, with_submit, with_use, with_values, without, without_packet, write_time, write_to}
-pub use Rattle.sdd_log.specs.history.declared.record.Rec.TheVariants.{Reject as Rejected}
+pub use Rattle.sdd_log.specs.All.{Act, Answer, Apply, Ask, Asking, Attempt, Bases, Call, Catalogue, Change, ClassNo, ClassView, Commit, Cond, D, Deliver, Delivers, Did, DmNo, Does, Done, Each, Entry, Era, Event, Exchange, FragNo, Hand, Handed, Held, Hold, HoldCounts, Home, Input, IsAllowed, IsDue, IsPermitted, Link, Mark, Msg, Notes, Null, Open, Pipe, Processes, Puts, Question, Queued, Read, Ready, Rec, Records, Redeclared, Redeclares, Reduced, Reject, Release, Resends, Sends, Served, Setting, Site, Start, Submit, Submits, Submitted, T, Tick, Ticking, TmCounts, TmNo, Ts, Txn, TxnNo, U, Use, Values, Write, act_by, act_where, active, active_after, active_handed, active_sent, after_hand, after_send, answer_of, answer_to, answered, ascending, ask_for, asks_rows, at_class, attempt_due, base_of, begins, by_ask, by_event, by_head, by_link, by_open, by_release, calls_of, class_asked, class_at, class_is, class_no, class_view, clock, commit_act, contains, counted, counts, counts_handed, current_era, delivered, dm_no, effect, empty_pipe, fetches_from, first_send, fragments_in, goes_on, goes_through, handed, hands, head, head_due, head_of, head_processed, hold_due, hold_to, holds, holds_acted, holds_back, holds_handed, home_of, is_asked_of, is_at_least, is_empty, is_for, is_held, is_holding, is_idle, is_met, is_new_mark, is_over, is_processing, is_wait, judged, lacking, last_served, last_write, last_write_for, link, link_of, local_of, lose, mark_due, message_at, module_read, modules_of, nth_era, null_at, number_of, numbers_to, on_hold, on_link, one_or_none, opens, opens_acted, or_else, or_zero, packet_at, passed, passed_by, pipe, piped, pushed_by, put, puts, queue, raised, redeclares, reduces, rejects, release_due, repeat, resend, runs, same_site, sends_of_act, sent, served_handed, setting_of, ships, source_of, spoils, started, step_on, submits, tail_of, takes_part, time_at, time_of, tm_no, to_all, touches, tried, turned, txn_at, txn_no, undeclared_conditions, uses_of, view_of, waits, was_marked, with_use, with_values, without, write_time, write_to}
 pub use Rattle.sdd_log.specs.site_module.SiteLog.{Log}
 pub use Rattle.sdd_log.specs.tm.Due.{by_exchange, by_hold, start_of}
 pub use Rattle.sdd_log.specs.wire.declared.msg.Msg.TheVariants.{Rows}
-pub use Rattle.sdd_semijoin.specs.Steps.{Move, next_move}
+pub use Rattle.sdd_semijoin.specs.Steps.{Move}
 pub use Rattle.sdd_semijoin.specs.declared.step.Step.{Step}
-pub use Rattle.std.proofs.Common.{Bool, List, None, Option, Some, [], ap, append-nil, append_assoc, arith, cond, drop, eq-eqb, eqb-true, false, filter, filter_map, fold, if◌then◌else◌, inl, inr, is_none, is_some, length, length-append, map, max, nat_cmp, nat_le, nat_lt, not, refl, slice_get, subst, suc, sym, take, take-append-drop, take_all, true, zero, ℕ, ◌&&◌, ◌*◌, ◌++◌, ◌+◌, ◌-◌, ◌/◌, ◌<◌, ◌==◌, ◌||◌, ◌∙◌, ◌∷◌, ◌≡◌, ◌≢◌, ◌≤◌, ◌⊎◌}
+pub use Rattle.std.proofs.Common.{Bool, List, None, Option, Some, [], ap, append-nil, append_assoc, arith, cond, drop, eq-eqb, eqb-true, false, filter, filter_map, fold, if◌then◌else◌, inl, inr, is_none, is_some, length, length-append, map, nat_cmp, nat_le, nat_lt, not, refl, slice_get, subst, suc, sym, take, take-append-drop, take_all, true, zero, ℕ, ◌&&◌, ◌*◌, ◌++◌, ◌+◌, ◌-◌, ◌/◌, ◌<◌, ◌==◌, ◌||◌, ◌∙◌, ◌∷◌, ◌≡◌, ◌≢◌, ◌≤◌, ◌⊎◌}
 pub use Rattle.std.proofs.Math.Decide.{dec_le}
 pub use Rattle.std.proofs.lemmas.Bool.{and_from as both, or_from as neither, or_left, or_right}
 pub use Rattle.std.proofs.lemmas.Bool.Decides.{nat_tests}

@@ -1,6 +1,6 @@
 -- What a data module puts, and why; an Answer follows its attempt's Start, and a Commit an Answer of its attempt at each
 -- module that it reads.
-use Rattle.sdd_invariants.proofs.All.{Act, Answer, Ask, Attempt, Bool, ClassNo, Cond, D, Did, DmNo, Does, Done, Each, Hand, Handed, HasAnswer, Input, IsDueEach, IsFair, IsFetch, IsHonest, IsPermitted, IsPutByD, IsRead, IsReadOf, IsReadyBy, IsReduce, IsSend, IsShip, IsStep, List, Msg, Queued, Read, Ready, Records, Reduced, Reject, Rows, Setting, Site, Some, T, Ts, TxnNo, U, Use, Values, WasAsked, [], a_held, a_hold, a_null, a_release, active, ap, append_assoc, arith, asks_in, asks_rows, contains, counts, each_local, eqb-true, false, handed, head, head_of, home, home_of, if◌then◌else◌, inl, inr, is_answer, is_over, is_ready, list_any, local_of, modules_asked, next_stamp, of_exchange, or_left, or_right, pipe_at, puts_to, queue, refl, same_site, sends_of_act, setting_of, slice_get, source_of, start_at, start_read, subst, suc, sym, to_site, true, was_asked, was_ready, ℕ, ◌&&◌, ◌++◌, ◌==◌, ◌||◌, ◌∙◌, ◌∷◌, ◌≡◌}
+use Rattle.sdd_invariants.proofs.All.{Act, Ask, Attempt, Bool, ClassNo, Cond, D, Did, DmNo, Does, Done, Each, Hand, Handed, HasAnswer, Input, IsDueEach, IsFair, IsFetch, IsHonest, IsPermitted, IsPutByD, IsRead, IsReadOf, IsReadyBy, IsReduce, IsShip, IsStep, List, Msg, Queued, Read, Ready, Reduced, Reject, Rows, Setting, Site, Some, Ts, TxnNo, Use, Values, WasAsked, [], active, ap, append_assoc, arith, asks_in, asks_rows, contains, counts, each_local, eqb-true, false, handed, head, head_of, home, home_of, if◌then◌else◌, is_answer, is_over, is_ready, list_any, local_of, modules_asked, next_stamp, or_left, or_right, pipe_at, puts_to, queue, refl, same_site, sends_of_act, setting_of, slice_get, source_of, start_at, subst, suc, sym, to_site, true, was_asked, was_ready, ℕ, ◌&&◌, ◌++◌, ◌==◌, ◌||◌, ◌∙◌, ◌∷◌, ◌≡◌}
 use Rattle.sdd_invariants.proofs.Clocks.{clock_grows, clock_number}
 use Rattle.sdd_invariants.proofs.Origins.{was_put}
 use Rattle.sdd_invariants.proofs.ReadsPut.{start_puts}
@@ -32,30 +32,9 @@ is_from_d _ = false
 
 -- what T and U put is of other kinds
 
-of_one : (f : Msg → Bool) (ms : List Msg) (x : Msg) (k : ℕ) (m : Msg) → ms ≡ x ∷ [] → f x ≡ false → slice_get ms k ≡ Some m → f m ≡ false
-of_one f ms x k m e g h = subst (λ y. f y ≡ false) (in_one ms x k m e h) g
-
-asks_not_d : (ts c : ℕ) (m : Msg) → asks_rows ts c m ≡ true → is_from_d m ≡ false
-asks_not_d ts c m e = grind arith
-
-send_not_d : (s : Setting) (log : site.Log) (m : Msg) → IsSend s log m → is_from_d m ≡ false
-send_not_d s log m (of_exchange k a at i e w) = asks_not_d a.ts k m e
-send_not_d s log m (a_null k at e) = ap is_from_d e
-send_not_d s log m (a_held e) = ap is_from_d e
-send_not_d s log m (a_hold e) = ap is_from_d e
-send_not_d s log m (a_release t e) = ap is_from_d e
-
 step_not_d : (s : Setting) (b : Site) (log : site.Log) (act : Act) (k : ℕ) (m : Msg) → IsStep s log act
     → slice_get (to_site b (sends_of_act act)) k ≡ Some m → is_from_d m ≡ false
-step_not_d s b log act k m i = step_way s log act (λ x. slice_get (to_site b (sends_of_act x)) k ≡ Some m → is_from_d m ≡ false)
-    (λ c q at f e. λ there. elim (start_puts s c b log q) [
-      | inl p ↦ in_none _ k m p there
-      | inr p ↦ of_one is_from_d _ (start_read s c log q p.0) k m p.1 refl there
-    ])
-    (λ c bases a at f. λ there. elim (commit_puts s c bases b a) [
-      | inl p ↦ in_none _ k m p there
-      | inr p ↦ of_one is_from_d _ _ k m p.1 refl there
-    ]) (λ to x hand f. λ there. subst (λ y. is_from_d y ≡ false) (the_one b to x k m there).1 (send_not_d s log x f)) i
+step_not_d s b log act k m i = grind (arith, step_way, slice_get, is_from_d, start_puts, in_none, in_one, commit_puts, the_one)
 
 -- the act that put a message, in the log of everything
 pub record IsPutIn (g : Input) (log : Log) (from at : Site) (m : Msg) (P : site.Log → Act → Type 0) : Type 0 where
@@ -88,9 +67,7 @@ not_from_d g log from at k m h e =
 
 pub from_a_d : (g : Input) (log : Log) (from at : Site) (k : ℕ) (m : Msg) → IsPermitted g log
     → slice_get (puts_to at (local_of g from log)) k ≡ Some m → is_from_d m ≡ true → (d : DmNo) × (from ≡ D d)
-from_a_d g log (D d) at k m h e f = (d, refl)
-from_a_d g log U at k m h e f = absurd (not_both (is_from_d m) f (not_from_d g log U at k m (u_fair g log h) e))
-from_a_d g log (T t) at k m h e f = absurd (not_both (is_from_d m) f (not_from_d g log (T t) at k m (t_fair g t log h) e))
+from_a_d g log from at k m h e f = grind (arith, not_both, is_from_d, not_from_d, u_fair, t_fair)
 
 -- an answer of an exchange was asked for
 
@@ -133,8 +110,7 @@ asked_then g log at d ts c later log2 P h e w f =
     let here : was_asked ts c (local_of g at log2) ≡ true = subst (λ l. was_asked ts c (local_of g at l) ≡ true)
     (append_assoc i.later (Hand at (D d) i.number w.asked ∷ []) i.rest ∙ sym i.is)
     (subst (λ l. was_asked ts c l ≡ true) (sym x.1) (asked_more ts c x.0 (local_of g at i.rest) a)) in
-    let y = local_grows g at later log2 in
-    grind (arith, asked_more)
+    grind (arith, asked_more, local_grows g at later log2)
 
 honest_d : (g : Input) (log : Log) (at : Site) (d : DmNo) (m : Msg) (ts c : ℕ) (later before : Log) (act : Act)
     → IsPermitted g log → log ≡ later ++ Does (D d) act ∷ before → IsPutByD (setting_of g (D d)) (local_of g (D d) before) at act m → is_answer ts c m ≡ true
@@ -150,27 +126,15 @@ honest_d g log at d (Rows t k rows) ts c later before act h e w f =
     (λ m p. ap (asks_rows ts c) p ∙ f)
 honest_d g log at d m ts c later before act h e w f = cc
 
-answer_d : (ts c : ℕ) (m : Msg) → is_answer ts c m ≡ true → is_from_d m ≡ true
-answer_d ts c (Values t k u vs) e = refl
-answer_d ts c (Reduced t k u n) e = refl
-answer_d ts c (Rows t k rows) e = refl
-answer_d ts c m e = cc
-
 honest_hand : (g : Input) (log : Log) (from at : Site) (k : ℕ) (m : Msg) (ts c : ℕ) → IsPermitted g log
     → slice_get (puts_to at (local_of g from log)) k ≡ Some m → is_answer ts c m ≡ true → was_asked ts c (local_of g at log) ≡ true
 honest_hand g log from at k m ts c h e f =
-    let d = from_a_d g log from at k m h e (answer_d ts c m f) in
+    let d = from_a_d g log from at k m h e (grind arith) in
     let p = put_in_by_d g log d.0 at k m h (subst (λ x. slice_get (puts_to at (local_of g x log)) k ≡ Some m) d.1 e) in
     honest_d g log at d.0 m ts c p.later p.before p.act h p.is p.by f
 
 pub honest : (g : Input) (at : Site) (log : Log) → IsPermitted g log → Each IsHonest (local_of g at log)
-honest g at = each_local g at IsHonest (record {
-  handed = λ log p from n m a i. λ ts c f. honest_hand g log from at (handed from at log) m ts c p (hand_was_put g log from at n m a).1 f;
-  ticked = λ log p n i. tt;
-  submits = λ log p n t a e i. tt;
-  redeclared = λ l k t i. tt;
-  did = λ log act p due i. tt;
-})
+honest g at = grind (arith, each_local, honest_hand, hand_was_put)
 
 -- the READ at a head was put by the Start of its attempt
 
@@ -186,14 +150,11 @@ read_of g c d log ts k txn attempt conds uses h e =
 
 -- one timestamp, one Start
 
-did_at : (s : Setting) (c : ℕ) (l1 b1 b2 : site.Log) (q2 : Queued) → next_stamp s b1 ≡ next_stamp s b2 → b1 ≡ l1 ++ Did (start_at s c b2 q2) ∷ b2 → ⊥
-did_at s c l1 b1 b2 q2 e f = grind (arith, clock_grows, start_at, clock_number)
-
 pub one_start : (s : Setting) (c : ℕ) (l1 l2 b1 b2 : site.Log) (q1 q2 : Queued) → next_stamp s b1 ≡ next_stamp s b2
     → l1 ++ Did (start_at s c b1 q1) ∷ b1 ≡ l2 ++ Did (start_at s c b2 q2) ∷ b2 → b1 ≡ b2
 one_start s c [] [] b1 b2 q1 q2 e f = cc
-one_start s c [] (y ∷ l2) b1 b2 q1 q2 e f = let p : b1 ≡ l2 ++ Did (start_at s c b2 q2) ∷ b2 = cc in absurd (did_at s c l2 b1 b2 q2 e p)
-one_start s c (x ∷ l1) [] b1 b2 q1 q2 e f = let p : b2 ≡ l1 ++ Did (start_at s c b1 q1) ∷ b1 = cc in absurd (did_at s c l1 b2 b1 q1 (sym e) p)
+one_start s c [] (y ∷ l2) b1 b2 q1 q2 e f = let p : b1 ≡ l2 ++ Did (start_at s c b2 q2) ∷ b2 = cc in absurd (grind (arith, clock_grows, start_at, clock_number))
+one_start s c (x ∷ l1) [] b1 b2 q1 q2 e f = let p : b2 ≡ l1 ++ Did (start_at s c b1 q1) ∷ b1 = cc in absurd (grind (arith, clock_grows, start_at, clock_number))
 one_start s c (x ∷ l1) (y ∷ l2) b1 b2 q1 q2 e f =
     let p : l1 ++ Did (start_at s c b1 q1) ∷ b1 ≡ l2 ++ Did (start_at s c b2 q2) ∷ b2 = cc in one_start s c l1 l2 b1 b2 q1 q2 e p
 
@@ -244,8 +205,7 @@ ready_handed ts c d [] e = cc
 ready_handed ts c d (Handed from m ∷ log) e =
     elim (same_site d from && is_ready ts c m) as
     (λ b. (same_site d from && is_ready ts c m) ≡ b → (b || was_ready ts c d log) ≡ true → WasReady (Handed from m ∷ log) d ts c) [
-      | true ↦ λ p q. ready_msg ts c from d m log (sym (site_is d from (and_left (same_site d from) (is_ready ts c m) p)))
-          (and_right (same_site d from) (is_ready ts c m) p)
+      | true ↦ grind (arith, ready_msg, site_is, and_left, same_site, is_ready, and_right)
       | false ↦ λ p q. more_ready (Handed from m) log d ts c (ready_handed ts c d log q)
     ] refl e
 ready_handed ts c d (x ∷ log) e = more_ready x log d ts c (ready_handed ts c d log e)
@@ -278,9 +238,7 @@ answer_there g c d log a h e w =
       txn = by.txn;
       attempt = by.attempt;
       sends = (source_of (home_of (setting_of g (D d))) by.class, Ready r.t r.k r.counts) ∷ [];
-      is = whole ∙ ap (λ x. front ++ Does (D d) x ∷ p.before)
-          (by.act_is ∙ ap (λ j. Records j (Answer by.txn by.attempt ((home_of (setting_of g (D d))).dm))
-          ((source_of (home_of (setting_of g (D d))) by.class, Ready r.t r.k r.counts) ∷ [])) of);
+      is = grind (arith, home_of, setting_of, source_of);
       number_is = o.0;
       try_is = o.1;
       ts = r.t;

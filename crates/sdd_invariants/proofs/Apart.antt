@@ -1,5 +1,5 @@
 -- H5 without the Applies: an undeclared transaction and a declared one. The declared one committed before the undeclared one's Start, with a smaller timestamp; or it started when that one's RELEASE was handed to its site, with a greater one.
-use Rattle.sdd_invariants.proofs.All.{Act, Ask, Attempt, Bool, Did, Does, Each, Handed, Held, Input, IsCommitT, IsFair, IsFairT, IsHeldAt, IsHigh, IsLow, IsPermitted, IsStartU, List, Msg, None, Option, Queued, Reject, Release, Sends, Setting, Site, Some, Submits, T, Ticking, U, [], active, allowed_act, ap, append-nil, append_assoc, arith, bound, clock, commit_act, cons_option, counts, dones_of, drawn_so_far, drop, false, filter_map-append, handed, hands_from, holds, if◌then◌else◌, in_left, inl, inr, is_a_held, is_a_release, length, local_of, number_of, numbers_to, one_if, pushed_by, puts_to, refl, release_time, release_times, runs, same_site, sends_of_act, setting_of, slice_get, stamp_of, start_at, start_u, starts, subst, suc, sym, take, take-append-drop, tally, tm_no, to_site, true, u_stamp, zero, ℕ, ◌*◌, ◌++◌, ◌+◌, ◌/◌, ◌<◌, ◌∙◌, ◌∷◌, ◌≡◌, ◌≤◌, ◌⊎◌}
+use Rattle.sdd_invariants.proofs.All.{Act, Ask, Attempt, Bool, Did, Does, Each, Handed, Held, Input, IsCommitT, IsFair, IsFairT, IsHeldAt, IsHigh, IsLow, IsPermitted, IsStartU, List, Msg, None, Queued, Reject, Release, Sends, Setting, Site, Some, Submits, T, Ticking, U, [], active, allowed_act, ap, append-nil, append_assoc, arith, bound, clock, commit_act, counts, dones_of, drawn_so_far, drop, false, filter_map-append, handed, hands_from, holds, if◌then◌else◌, in_left, inl, inr, is_a_held, is_a_release, length, local_of, number_of, numbers_to, one_if, pushed_by, puts_to, refl, release_time, release_times, runs, same_site, setting_of, slice_get, stamp_of, start_at, start_u, starts, subst, suc, sym, take, take-append-drop, tally, tm_no, to_site, true, u_stamp, zero, ℕ, ◌*◌, ◌++◌, ◌+◌, ◌/◌, ◌∙◌, ◌∷◌, ◌≡◌, ◌≤◌, ◌⊎◌}
 use Rattle.sdd_invariants.proofs.HoldChain.{from_u, handed_helds, handed_holds, hold_chain, t_table, u_table}
 use Rattle.sdd_invariants.proofs.Holding.{hold_rule, still, t_helds}
 use Rattle.sdd_invariants.proofs.Releases.{serving, start_ready}
@@ -27,21 +27,12 @@ in_first f (suc n) (x ∷ ms) zero m e g h = g
 in_first f (suc n) (x ∷ ms) (suc i) m e g h = in_first f n ms i m (omega (arith, e)) g h
 
 pub end_at : (xs : List ℕ) (r x : ℕ) → length xs ≡ r → slice_get (xs ++ x ∷ []) r ≡ Some x
-end_at [] zero x e = refl
-end_at [] (suc r) x e = cc
-end_at (y ∷ xs) zero x e = absurd (omega (arith, e))
 end_at (y ∷ xs) (suc r) x e = end_at xs r x (omega (arith, e))
-
-one_length : (o : Option ℕ) (n m : ℕ) (xs : List ℕ) → length xs ≡ m → length (cons_option o xs) ≡ (elim o as (λ _. ℕ) [ None ↦ 0 | Some x ↦ 1 ]) + m
-one_length o n m xs e = grind arith
-
-count_release : (m : Msg) → (elim (release_time m) as (λ _. ℕ) [ None ↦ 0 | Some x ↦ 1 ]) ≡ one_if (is_a_release m)
-count_release m = grind arith
+end_at xs r x e = grind arith
 
 times_length : (ms : List Msg) → length (release_times ms) ≡ tally is_a_release ms
 times_length [] = refl
-times_length (m ∷ ms) =
-    one_length (release_time m) 0 (tally is_a_release ms) (release_times ms) (times_length ms) ∙ ap (λ n. n + tally is_a_release ms) (count_release m)
+times_length (m ∷ ms) = grind (arith, (times_length ms))
 
 pub drawn_grow : (later log : site.Log) → (more : List ℕ) × (drawn_so_far (later ++ log) ≡ drawn_so_far log ++ more)
 drawn_grow [] log = ([], sym (append-nil (drawn_so_far log)))
@@ -80,9 +71,6 @@ has_pushed at a (Handed from x ∷ l) i m e =
 has_pushed at a (Submits n txn ∷ l) i m e = has_pushed at a l i m e
 has_pushed at a (x ∷ l) i m e = up_le _ _ _ (has_pushed at a l i m e) (clock_rises at x l)
 
-release_push : (m : Msg) (x : ℕ) → release_time m ≡ Some x → push m ≡ x
-release_push m x e = grind arith
-
 pub at_start : (g : Input) (k t : ℕ) (log : Log) (q : Queued) → slice_get (numbers_to g.catalogue.tms) k ≡ Some t
     → IsPermitted g (Does U (start_u g log q) ∷ log) → IsStartU g t log (starts (local_of g U log))
 at_start g k t log q i h =
@@ -92,9 +80,6 @@ at_start g k t log q i h =
     let c = hold_chain g k t log i h.1 in
     let j = r.1 k t i in
     record { started = refl; committed = sym r.0; got = j ∙ ap suc (sym r.0); sent = omega (arith, r.0, j, c.put_held, c.got_hold, c.one_open, c.released, c.committed) }
-
-below_ts : (b s0 u x own ts us : ℕ) → s0 + 1 ≤ b → ts ≡ (s0 + 1) * 64 + own → own ≤ 63 → x ≡ b * 64 + 63 → x / 64 ≤ u → us ≡ (u + 1) * 64 + 0 → ts < us
-below_ts b s0 u x own ts us l e w p q r = omega arith
 
 low : (g : Input) (k t c j : ℕ) (full later log : Log) (q : Queued) (a : Attempt) (cm : IsCommitT g t c full a) (x : IsHeldAt (local_of g (T (tm_no t)) log) (starts (local_of g U log))) (front : site.Log)
     → slice_get (numbers_to g.catalogue.tms) k ≡ Some t → slice_get (runs (setting_of g (T (tm_no t)))) j ≡ Some c
@@ -119,9 +104,7 @@ low g k t c j full later log q a cm x front i run small h e between p =
     let there : lt ≡ (x.later ++ Did held ∷ by.0) ++ Did (commit_act g.catalogue cm.bases c a) ∷ cm.before = x.is ∙ ap (λ l. x.later ++ Did held ∷ l) by.1
     ∙ sym (append_assoc x.later (Did held ∷ by.0) (Did (commit_act g.catalogue cm.bases c a) ∷ cm.before)) in
     let time : x.time.0 ≡ bound s x.before = held_time s x.before x.to x.time x.hand fair.0 in
-    let one : slice_get (to_site U (sends_of_act held)) 0 ≡ Some (Held x.time) = subst
-    (λ y. slice_get (to_site U ((y, Held x.time) ∷ [])) 0 ≡ Some (Held x.time)) (sym to_u) refl in
-    let put0 = is_put U x.later held x.before 0 (Held x.time) one in
+    let put0 = is_put U x.later held x.before 0 (Held x.time) (subst (λ y. slice_get (to_site U ((y, Held x.time) ∷ [])) 0 ≡ Some (Held x.time)) (sym to_u) refl) in
     let put : slice_get (puts_to U lt) put0.0 ≡ Some (Held x.time) = subst (λ l. slice_get (puts_to U l) put0.0 ≡ Some (Held x.time)) (sym x.is) put0.1 in
     let su = at_start g k t log q i h in
     let first = in_order g log at U h.1 in
@@ -134,10 +117,7 @@ low g k t c j full later log q a cm x front i run small h e between p =
     let lo : (clock at st.before).ticks + 1 ≤ (clock at x.before).ticks = subst (λ l. (clock at st.before).ticks + 1 ≤ (clock at l).ticks) (sym p) grew in
     let stamp : a.ts ≡ ((clock at st.before).ticks + 1) * 64 + number_of at = st.ts_is ∙ stamp_ticks s st.before in
     let is_bound : x.time.0 ≡ (clock at x.before).ticks * 64 + 63 = time in
-    record { commit = place_of_act g at log (x.later ++ Did held ∷ by.0) (commit_act g.catalogue cm.bases c a) cm.before there; below = below_ts (clock at x.before).ticks (clock at st.before).ticks (clock U lu).ticks x.time.0 (number_of at) a.ts (u_stamp g log) lo stamp small is_bound clk (stamp_ticks (setting_of g U) lu) }
-
-above_ts : (u b own x ts us : ℕ) → x ≡ us → us ≡ (u + 1) * 64 + 0 → x / 64 ≤ b → ts ≡ (b + 1) * 64 + own → x < ts
-above_ts u b own x ts us e w l p = omega arith
+    record { commit = place_of_act g at log (x.later ++ Did held ∷ by.0) (commit_act g.catalogue cm.bases c a) cm.before there; below = (omega arith) }
 
 high : (g : Input) (k t c : ℕ) (full later log : Log) (q : Queued) (a : Attempt) (cm : IsCommitT g t c full a) (x : IsHeldAt (local_of g (T (tm_no t)) log) (starts (local_of g U log)))
     → slice_get (numbers_to g.catalogue.tms) k ≡ Some t → IsPermitted g full → full ≡ later ++ Does U (start_u g log q) ∷ log
@@ -174,7 +154,7 @@ high g k t c full later log q a cm x i h e between p =
     let got = member_there n (release_times hd) (omega (arith, len, hh.1, rel, many, owed, off)) in
     let m = mapped_in release_time hd n got.0 got.1 in
     let clk0 = has_pushed at U lt m.0 m.1 m.2 in
-    let pm : push m.1 ≡ got.0 = release_push m.1 got.0 m.3 in
+    let pm : push m.1 ≡ got.0 = (grind arith) in
     let clk : got.0 / 64 ≤ (clock at st.before).ticks = subst (λ l. got.0 / 64 ≤ (clock at l).ticks) same (subst (λ y. y / 64 ≤ (clock at lt).ticks) pm clk0) in
     let stamp : a.ts ≡ ((clock at st.before).ticks + 1) * 64 + number_of at = st.ts_is ∙ stamp_ticks s st.before in
     let ps : List Msg = puts_to at lu in
@@ -202,8 +182,7 @@ high g k t c full later log q a cm x i h e between p =
     let is : got.0 ≡ ts = (let z : Some got.0 ≡ Some ts = sym here ∙ there in cc) in
     record {
       start = lifted;
-      above = subst (λ y. y < a.ts) is
-          (above_ts (clock U (local_of g U log)).ticks (clock at st.before).ticks (number_of at) got.0 a.ts ts is (stamp_ticks su (local_of g U log)) clk stamp);
+      above = grind (arith, clock, local_of, number_of, stamp_ticks);
       released = in_drawn.1;
       dones = subst (λ y. g.catalogue.dms ≤ dones_of y lu) is (sv.done n got.0 in_drawn.1 in_drawn.0);
     }
@@ -229,8 +208,5 @@ low_or_high g k t c j full later log q a cm i run small h e =
     ∙ sym (append_assoc cm.later (Did (commit_act g.catalogue cm.bases c a) ∷ st.later) (Did start ∷ st.before)) in
     elim (compare (cm.later ++ Did (commit_act g.catalogue cm.bases c a) ∷ st.later) (f.0 ++ x.later) (Did start) (Did held) st.before x.before (sym two ∙ one)) [
       | inl r ↦ (let z : Did start ≡ Did held = r.1 in let y : start ≡ held = cc in cc)
-      | inr r ↦ elim r [
-        | inl b ↦ inl (low g k t c j full later log q a cm x f.0 i run small hu one b.between b.is)
-        | inr b ↦ inr (high g k t c full later log q a cm x i h e b.between b.is)
-      ]
+      | inr r ↦ grind (arith, low, high)
     ]

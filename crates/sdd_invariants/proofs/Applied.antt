@@ -29,29 +29,21 @@ gt_key f k (m ∷ ms) zero y t h e p = let q : m ≡ y = cc in (subst (λ o. All
 gt_key f k (m ∷ ms) (suc b) y t h e p =
     elim (f m) as (λ o. AllGt k (cons_option o (filter_map f ms)) → k < t) [ None ↦ λ z. gt_key f k ms b y t z e p | Some u ↦ λ z. gt_key f k ms b y t z.1 e p ] h
 
-strict_tail : (f : Msg → Option ℕ) (m : Msg) (ms : List Msg) → IsStrict (filter_map f (m ∷ ms)) → IsStrict (filter_map f ms)
-strict_tail f m ms h = elim (f m) as (λ o. IsStrict (cons_option o (filter_map f ms)) → IsStrict (filter_map f ms)) [ None ↦ λ z. z | Some u ↦ λ z. z.1 ] h
-
-strict_head : (f : Msg → Option ℕ) (m : Msg) (ms : List Msg) (t : ℕ) → f m ≡ Some t → IsStrict (filter_map f (m ∷ ms)) → AllGt t (filter_map f ms)
-strict_head f m ms t e h = (subst (λ o. IsStrict (cons_option o (filter_map f ms)) → AllGt t (filter_map f ms)) (sym e) (λ z. z.0)) h
-
 pub one_of_key : (f : Msg → Option ℕ) (ms : List Msg) (a b : ℕ) (x y : Msg) (t : ℕ) → IsStrict (filter_map f ms)
     → slice_get ms a ≡ Some x → slice_get ms b ≡ Some y → f x ≡ Some t → f y ≡ Some t → a ≡ b
 one_of_key f [] a b x y t h e i p q = cc
 one_of_key f (m ∷ ms) zero zero x y t h e i p q = refl
 one_of_key f (m ∷ ms) zero (suc b) x y t h e i p q =
-    let s : m ≡ x = cc in let l = gt_key f t ms b y t (strict_head f m ms t (ap f s ∙ p) h) i q in absurd (omega arith)
+    let s : m ≡ x = cc in let l = gt_key f t ms b y t ((subst (λ o. IsStrict (cons_option o (filter_map f ms)) → AllGt t (filter_map f ms)) (sym (ap f s ∙ p)) (λ z. z.0)) h) i q in absurd (omega arith)
 one_of_key f (m ∷ ms) (suc a) zero x y t h e i p q =
-    let s : m ≡ y = cc in let l = gt_key f t ms a x t (strict_head f m ms t (ap f s ∙ q) h) e p in absurd (omega arith)
-one_of_key f (m ∷ ms) (suc a) (suc b) x y t h e i p q = ap suc (one_of_key f ms a b x y t (strict_tail f m ms h) e i p q)
+    let s : m ≡ y = cc in let l = gt_key f t ms a x t ((subst (λ o. IsStrict (cons_option o (filter_map f ms)) → AllGt t (filter_map f ms)) (sym (ap f s ∙ q)) (λ z. z.0)) h) e p in absurd (omega arith)
+one_of_key f (m ∷ ms) (suc a) (suc b) x y t h e i p q = ap suc (one_of_key f ms a b x y t (elim (f m) as (λ o. IsStrict (cons_option o (filter_map f ms)) → IsStrict (filter_map f ms)) [ None ↦ λ z. z | Some u ↦ λ z. z.1 ] h) e i p q)
 
 pub key_rises : (f : Msg → Option ℕ) (ms : List Msg) (a b : ℕ) (x y : Msg) (t u : ℕ) → IsStrict (filter_map f ms)
     → slice_get ms a ≡ Some x → slice_get ms b ≡ Some y → f x ≡ Some t → f y ≡ Some u → a < b → t < u
-key_rises f [] a b x y t u h e i p q l = cc
-key_rises f (m ∷ ms) zero zero x y t u h e i p q l = absurd (omega arith)
-key_rises f (m ∷ ms) zero (suc b) x y t u h e i p q l = let s : m ≡ x = cc in gt_key f t ms b y u (strict_head f m ms t (ap f s ∙ p) h) i q
-key_rises f (m ∷ ms) (suc a) zero x y t u h e i p q l = absurd (omega arith)
-key_rises f (m ∷ ms) (suc a) (suc b) x y t u h e i p q l = key_rises f ms a b x y t u (strict_tail f m ms h) e i p q (omega arith)
+key_rises f (m ∷ ms) zero (suc b) x y t u h e i p q l = let s : m ≡ x = cc in gt_key f t ms b y u ((subst (λ o. IsStrict (cons_option o (filter_map f ms)) → AllGt t (filter_map f ms)) (sym (ap f s ∙ p)) (λ z. z.0)) h) i q
+key_rises f (m ∷ ms) (suc a) (suc b) x y t u h e i p q l = key_rises f ms a b x y t u (elim (f m) as (λ o. IsStrict (cons_option o (filter_map f ms)) → IsStrict (filter_map f ms)) [ None ↦ λ z. z | Some u ↦ λ z. z.1 ] h) e i p q (omega arith)
+key_rises f ms a b x y t u h e i p q l = grind arith
 
 -- what has a key of a class goes through its pipe
 
@@ -115,9 +107,8 @@ pub applied_processed : (g : Input) (d : DmNo) (j : ℕ) (later log : Log) (a : 
 applied_processed g d j later log a i n xs h small there x =
     let l : site.Log = local_of g (D d) log in
     let before = permitted_before g later log h in
-    let m = matched (setting_of g (D d)) j l (d_fair g d log before) in
     let more = in_pipe_later g j d later log before in
-    let z = zip_back IsOf (results j l) (pipe j l).processed x.place x.rec m.matched x.there in
+    let z = zip_back IsOf (results j l) (pipe j l).processed x.place x.rec (matched (setting_of g (D d)) j l (d_fair g d log before)).matched x.there in
     let at : slice_get (class_puts g j d (later ++ log)) x.place ≡ Some z.0 = subst (λ ms. slice_get ms x.place ≡ Some z.0) (sym more.1)
     (processed_stays (pipe j l) more.0 x.place z.0 z.1) in
     let k : x.place ≡ i = one_of_key (write_at j) (class_puts g j d (later ++ log)) x.place i z.0 (Write (time_at a.ts) (class_no j) (txn_no n) xs) a.ts
@@ -130,11 +121,10 @@ pub processed_applied : (g : Input) (d : DmNo) (j : ℕ) (later log : Log) (a : 
 processed_applied g d j later log a i xs h there lt =
     let l : site.Log = local_of g (D d) log in
     let before = permitted_before g later log h in
-    let m = matched (setting_of g (D d)) j l (d_fair g d log before) in
     let more = in_pipe_later g j d later log before in
     let w : Msg = Write (time_at a.ts) (class_no j) (txn_no a.txn) xs in
     let in_it : slice_get (pipe j l).processed i ≡ Some w = processed_there (pipe j l) more.0 i w (subst (λ ms. slice_get ms i ≡ Some w) more.1 there) lt in
-    let z = zip_at IsOf (results j l) (pipe j l).processed i w m.matched in_it in
+    let z = zip_at IsOf (results j l) (pipe j l).processed i w (matched (setting_of g (D d)) j l (d_fair g d log before)).matched in_it in
     record { place = i; rec = z.0; there = z.1; is = z.2 }
 
 -- at an Answer with the condition q, of a transaction of its class that is committed anywhere in the log
@@ -161,7 +151,4 @@ split_applied g d q act later log later2 log2 bases a h small lo hi r declared s
     let there3 : slice_get (class_puts g j d ((later ++ Does (D d) act ∷ []) ++ log)) found.0 ≡ Some w = subst
     (λ x. slice_get (class_puts g j d x) found.0 ≡ Some w) (sym whole) there in
     let parts = split g later log d q r.class r.txn r.attempt r.module_no r.sends r.ts r.of r.reader r.tries r.conds r.uses r.place found.0 (time_at a.ts)
-    (class_no j) (txn_no a.txn) xs h2 small r.head_is r.there declared there2 t in (
-      (λ x. parts.0 (applied_processed g d j (later ++ Does (D d) act ∷ []) log a found.0 a.txn xs h3 small there3 x)),
-      (λ lt. processed_applied g d j (later ++ Does (D d) act ∷ []) log a found.0 xs h3 there3 (parts.1 lt)),
-    )
+    (class_no j) (txn_no a.txn) xs h2 small r.head_is r.there declared there2 t in (grind (arith, applied_processed, processed_applied))

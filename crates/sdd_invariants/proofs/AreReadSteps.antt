@@ -1,5 +1,5 @@
 -- What is due at a data module is a step.
-use Rattle.sdd_invariants.proofs.All.{Act, Bool, Change, ClassNo, ClassView, Cond, Home, IsClassHere, IsDue, IsReadStep, IsReadWith, List, Log, Msg, None, Null, Open, Option, Processes, Read, Setting, Some, Ts, TxnNo, Use, Write, [], act_by, act_where, answer_of, answer_to, arith, at_class, by_head, by_open, by_record, by_wait, class_view, classes_of, empty_pipe, false, filter, get_or-map-range_with_len, get_or_past, head, head_due, head_of, home_of, if◌then◌else◌, in_mapped, inl, inr, is_asked_of, is_held, is_met, judged, lacking, length, length-map-range_with_len, list_all, pipe, refl, slice_get, spoiler, step_on, subst, suc, sym, true, view_of, waits, ℕ, ◌∷◌, ◌≡◌, ◌≤◌}
+use Rattle.sdd_invariants.proofs.All.{Act, Bool, Change, ClassNo, ClassView, Cond, Home, IsClassHere, IsDue, IsReadStep, List, Log, Msg, None, Null, Open, Option, Processes, Read, Setting, Some, Ts, TxnNo, Use, Write, [], act_by, act_where, answer_of, arith, at_class, by_head, by_open, by_record, by_wait, class_view, empty_pipe, false, filter, get_or-map-range_with_len, get_or_past, head, head_due, head_of, home_of, if◌then◌else◌, in_mapped, inl, inr, is_asked_of, is_held, is_met, judged, lacking, length, length-map-range_with_len, list_all, pipe, refl, slice_get, spoiler, step_on, subst, suc, sym, true, view_of, waits, ℕ, ◌∷◌, ◌≡◌, ◌≤◌}
 use Rattle.sdd_invariants.proofs.Lists.{in_range, nothing_left}
 
 abbrev pub no_class : ClassView
@@ -15,18 +15,13 @@ class_not_in_view s log c h = grind (arith, length-map-range_with_len, get_or_pa
 -- a class of the view, by its place
 pub class_at_place : (s : Setting) (log : Log) (n : ℕ) (k : ClassView) → slice_get (view_of s log).classes n ≡ Some k
     → (c : ℕ) × IsClassHere s c × (class_view s log c ≡ k)
-class_at_place s log n k e =
-    let r = in_mapped (class_view s log) (classes_of s) n k e in
-    (r.0, omega (arith, (in_range 0 (suc (length s.catalogue.classes)) n r.0 r.1).1), r.2)
+class_at_place s log n k e = grind (arith, in_mapped, in_range)
 
 step_is : (s : Setting) (log : Log) (x a : Act) → IsReadStep s log x → Some x ≡ Some a → IsReadStep s log a
 step_is s log x a h e = let p : x ≡ a = cc in subst (IsReadStep s log) p h
 
-open_step : (s : Setting) (log : Log) (h : Home) (k : ClassView) (o : Open) (m : Msg) (a : Act) → answer_to h k o m ≡ Some a → IsReadStep s log a
-open_step s log h k o m a e = grind (arith, step_is)
-
 asked_step : (s : Setting) (log : Log) (h : Home) (k : ClassView) (o : Option Open) (a : Act) → answer_of h k o ≡ Some a → IsReadStep s log a
-asked_step s log h k o a e = grind (arith, open_step)
+asked_step s log h k o a e = grind (arith, step_is)
 
 -- a READ that doesn't wait, by what it lacks and what spoils it
 judged_step : (s : Setting) (log : Log) (c : ℕ) (ts : Ts) (class : ClassNo) (txn : TxnNo) (attempt : ℕ) (conds : List Cond) (uses : List Use) (lacking : List Cond) (by : Option Cond) (a : Act)
@@ -38,8 +33,7 @@ judged_step s log c ts class txn attempt conds uses lacking (Some d) a l w h f b
 judged_step s log c ts class txn attempt conds uses [] None a l w h f b e =
     step_is s log _ a (by_record c (Read ts class txn attempt conds uses) _ _ l refl h (refl, refl, f refl, inr b) refl) e
 judged_step s log c ts class txn attempt conds uses (d ∷ ds) None a l w h f b e =
-    let q : IsReadWith conds (head (pipe c log)) = rw h refl in
-    step_is s log _ a (by_wait c conds _ _ l refl refl q b refl) e
+    step_is s log _ a (by_wait c conds _ _ l refl refl (rw h refl) b refl) e
 
 write_step : (s : Setting) (log : Log) (c : ℕ) (ts : Ts) (class : ClassNo) (txn : TxnNo) (changes : List Change) (held : Bool) (a : Act)
     → IsClassHere s c → head (pipe c log) ≡ Some (Write ts class txn changes) → is_held (view_of s log) c ts.0 changes ≡ held

@@ -28,8 +28,7 @@ send_step : (s : Setting) (log : Log) (bases : Bases) (c : ℕ) (a : Attempt) (m
     → or_else (first_send ms) (if is_over a.exchange.phase then Some (commit_act s.catalogue bases c a) else None) ≡ Some act → IsStep s log act
 send_step s log bases c a [] act at i p e = over_step s log bases c a (is_over a.exchange.phase) act at i refl e
 send_step s log bases c a (m ∷ rest) act at i p e =
-    let r : act ≡ Sends (D (dm_no m.0)) m.1 None = cc in
-    by_send (D (dm_no m.0)) m.1 None (of_exchange c a at i (asks_next s c log a m i (ap head_of p)) (not_reading s c log a m i (ap head_of p))) r
+    by_send (D (dm_no m.0)) m.1 None (of_exchange c a at i (asks_next s c log a m i (ap head_of p)) (not_reading s c log a m i (ap head_of p))) cc
 
 attempt_step : (s : Setting) (log : Log) (bases : Bases) (c : ℕ) (o : Option Attempt) (act : Act) → home s.catalogue c ≡ s.site
     → active s c log ≡ o → attempt_due s.catalogue bases c o ≡ Some act → IsStep s log act
@@ -41,8 +40,7 @@ attempt_step s log bases c (Some a) act at i e = send_step s log bases c a a.exc
 null_at_time : (s : Setting) (log : Log) (q : tm_views.Question) (t : ℕ) (act : Act) → home s.catalogue q.class ≡ s.site
     → t ≡ limit s q.class log → tm.null_at q (Some t) ≡ Some act → IsStep s log act
 null_at_time s log q t act at i e =
-    let r : act ≡ Sends q.from (Null (class_no q.class) (time_at t)) (Some q.hand) = cc in
-    by_send q.from (Null (class_no q.class) (time_at t)) (Some q.hand) (a_null q.class at (ap (λ x. Null (class_no q.class) (time_at x)) i)) r
+    by_send q.from (Null (class_no q.class) (time_at t)) (Some q.hand) (a_null q.class at (ap (λ x. Null (class_no q.class) (time_at x)) i)) cc
 
 null_if : (s : Setting) (log : Log) (q : tm_views.Question) (a : Attempt) (b : Bool) (act : Act)
     → home s.catalogue q.class ≡ s.site → active s q.class log ≡ Some a → tm.null_at q (if b then Some a.ts else None) ≡ Some act → IsStep s log act
@@ -63,9 +61,7 @@ asked_step s log n q false act p at e = cc
 
 held_if : (s : Setting) (log : Log) (b : Bool) (hand : Option ℕ) (act : Act)
     → (if b then Some (Sends U (Held (time_at (bound s log))) hand) else None) ≡ Some act → IsStep s log act
-held_if s log true hand act e =
-    let r : act ≡ Sends U (Held (time_at (bound s log))) hand = cc in
-    by_send U (Held (time_at (bound s log))) hand (a_held refl) r
+held_if s log true hand act e = by_send U (Held (time_at (bound s log))) hand (a_held refl) cc
 held_if s log false hand act e = cc
 
 start_of_head : (s : Setting) (log : Log) (c : ℕ) (o : Option Queued) (act : Act) → home s.catalogue c ≡ s.site

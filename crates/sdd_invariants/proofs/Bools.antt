@@ -1,41 +1,32 @@
 -- Tests, and numbers that are the same or not.
-use Rattle.sdd_invariants.proofs.All.{Bool, None, Option, Some, arith, dec_le, eq-eqb, eqb-true, false, if◌then◌else◌, inl, inr, refl, subst, suc, true, ℕ, ◌&&◌, ◌<◌, ◌==◌, ◌||◌, ◌≡◌, ◌≤◌, ◌⊎◌}
+use Rattle.sdd_invariants.proofs.All.{Bool, None, Option, Some, arith, dec_le, eq-eqb, eqb-true, false, if◌then◌else◌, inl, inr, refl, subst, true, ℕ, ◌&&◌, ◌<◌, ◌==◌, ◌||◌, ◌≡◌, ◌≤◌, ◌⊎◌}
 
 pub if_way : {A : Type 0} (P : A → Type 0) (b : Bool) (x y : A) → P x → P y → P (if b then x else y)
-if_way P true x y h k = h
-if_way P false x y h k = k
+if_way P b x y h k = grind arith
 
 pub and_left : (a b : Bool) → (a && b) ≡ true → a ≡ true
-and_left true b e = refl
-and_left false b e = cc
+and_left a b e = grind arith
 
 pub and_right : (a b : Bool) → (a && b) ≡ true → b ≡ true
-and_right true b e = e
-and_right false b e = cc
+and_right a b e = grind arith
 
 pub neither_left : (a b : Bool) → (a || b) ≡ false → a ≡ false
-neither_left true b e = cc
-neither_left false b e = refl
+neither_left a b e = grind arith
 
 pub neither_right : (a b : Bool) → (a || b) ≡ false → b ≡ false
-neither_right true b e = cc
-neither_right false b e = e
+neither_right a b e = grind arith
 
 pub only_right : (a b : Bool) → a ≡ false → (a || b) ≡ true → b ≡ true
-only_right true b e f = cc
-only_right false b e f = f
+only_right a b e f = grind arith
 
 pub only_left : (a b : Bool) → b ≡ false → (a || b) ≡ true → a ≡ true
-only_left true b e f = refl
-only_left false b e f = cc
+only_left a b e f = grind arith
 
 pub true_or_false : (b : Bool) → (b ≡ true) ⊎ (b ≡ false)
-true_or_false true = inl refl
-true_or_false false = inr refl
+true_or_false b = grind arith
 
 pub not_both : (b : Bool) → b ≡ true → b ≡ false → ⊥
-not_both true e f = cc
-not_both false e f = cc
+not_both b e f = grind arith
 
 -- of two numbers
 pub same_or_not : (k c : ℕ) → (k ≡ c) ⊎ ((k == c) ≡ false)
@@ -51,12 +42,8 @@ pub not_zero : (c : ℕ) → 1 ≤ c → (c == 0) ≡ false
 not_zero c h = elim (same_or_not c 0) [ inl p ↦ absurd (omega arith) | inr p ↦ p ]
 
 pub lower_same_higher : (a b : ℕ) → (a < b) ⊎ ((a ≡ b) ⊎ (b < a))
-lower_same_higher a b = elim (dec_le (suc a) b) [
-  | yes p ↦ inl p
-  | no p ↦ elim (dec_le (suc b) a) [ yes q ↦ inr (inr q) | no q ↦ inr (inl (omega (arith, p, q))) ]
-]
+lower_same_higher a b = grind (arith, dec_le)
 
 -- one of two options
 pub none_not_some : {A : Type 0} (o : Option A) (x : A) → o ≡ None → o ≡ Some x → ⊥
-none_not_some None x e f = cc
-none_not_some (Some y) x e f = cc
+none_not_some o x e f = grind arith

@@ -51,16 +51,11 @@ head_at ps (x ∷ qs) more m e =
 -- the head of a pipe stands behind the processed ones, in every later log
 pub head_place : (g : Input) (c : ℕ) (d : DmNo) (later log : Log) (m : Msg) → IsPermitted g log → head (pipe_at g c d log) ≡ Some m
     → slice_get (class_puts g c d (later ++ log)) (length (pipe_at g c d log).processed) ≡ Some m
-head_place g c d later log m h e =
-    let i = in_pipe_later g c d later log h in
-    grind (arith, head_at)
+head_place g c d later log m h e = grind (arith, head_at, in_pipe_later g c d later log h)
 
 -- at a head: of its class the messages with smaller times are processed, those with greater ones are not
 pub around_head : (g : Input) (c : ℕ) (d : DmNo) (later log : Log) (a : ℕ) (x m : Msg) → IsPermitted g (later ++ log)
     → number_of (home g.catalogue c) ≤ 63 → head (pipe_at g c d log) ≡ Some m → slice_get (class_puts g c d (later ++ log)) a ≡ Some x
     → (time_of x < time_of m → a < length (pipe_at g c d log).processed) × (time_of m < time_of x → length (pipe_at g c d log).processed < a)
 around_head g c d later log a x m h small e f =
-    let at = head_place g c d later log m (permitted_before g later log h) e in (
-      (λ l. in_class_order g c d (later ++ log) a (length (pipe_at g c d log).processed) x m h small f at l),
-      (λ l. in_class_order g c d (later ++ log) (length (pipe_at g c d log).processed) a m x h small at f l),
-    )
+    let at = head_place g c d later log m (permitted_before g later log h) e in (grind (arith, in_class_order, pipe_at))

@@ -1,31 +1,19 @@
 -- Starts draw timestamps that rise and lie above all that was promised before.
-use Rattle.sdd_invariants.proofs.All.{Act, AllLe, AllOf, Attempt, Bool, Did, Each, Entry, Handed, IsClocked, IsFair, IsSend, IsStep, List, Log, Msg, None, Option, Queued, Redeclared, Sends, Setting, Site, Some, Submits, Ticked, Ticking, [], active, arith, asks_rows, bound, clock, if◌then◌else◌, last_stamp, limit, limit_of, next_stamp, number_of, promise_of, promises, pushed_by, refl, slice_get, stamp_or, stamps, start_at, started, subst, suc, sym, ticked_by, time_at, time_if_some, true, zero, ℕ, ◌*◌, ◌++◌, ◌+◌, ◌<◌, ◌∙◌, ◌∷◌, ◌≡◌, ◌≢◌, ◌≤◌}
+use Rattle.sdd_invariants.proofs.All.{Act, AllOf, Attempt, Did, Each, Entry, Handed, IsClocked, IsFair, IsStep, List, Log, Option, Queued, Sends, Setting, Site, Some, [], active, arith, bound, clock, last_stamp, limit, limit_of, next_stamp, number_of, promise_of, promises, refl, slice_get, stamp_or, stamps, start_at, subst, suc, sym, zero, ℕ, ◌*◌, ◌++◌, ◌+◌, ◌<◌, ◌∙◌, ◌∷◌, ◌≡◌, ◌≢◌, ◌≤◌}
 use Rattle.sdd_invariants.proofs.Active.{handed_way, sent_way, step_way}
 use Rattle.sdd_invariants.proofs.Bools.{if_way}
 use Rattle.sdd_invariants.proofs.Lists.{le_join, le_up, lt_above}
 
 -- a clock keeps its number, and no entry lowers it
 
-pushed_number : (m : Msg) (k : Ticking) → (pushed_by m k).number ≡ k.number
-pushed_number m k = grind arith
-
-pushed_rises : (m : Msg) (k : Ticking) → k.ticks ≤ (pushed_by m k).ticks
-pushed_rises m k = grind arith
-
-ticked_number : (act : Act) (k : Ticking) → (ticked_by act k).number ≡ k.number
-ticked_number act k = grind arith
-
-ticked_rises : (act : Act) (k : Ticking) → k.ticks ≤ (ticked_by act k).ticks
-ticked_rises act k = grind arith
-
 pub clock_number : (at : Site) (log : Log) → (clock at log).number ≡ number_of at
 clock_number at [] = refl
-clock_number at (Handed from m ∷ log) = pushed_number m (clock at log) ∙ clock_number at log
-clock_number at (Did act ∷ log) = ticked_number act (clock at log) ∙ clock_number at log
+clock_number at (Handed from m ∷ log) = (grind arith) ∙ clock_number at log
+clock_number at (Did act ∷ log) = (grind arith) ∙ clock_number at log
 clock_number at (_ ∷ log) = clock_number at log
 
 pub clock_rises : (at : Site) (e : Entry) (log : Log) → (clock at log).ticks ≤ (clock at (e ∷ log)).ticks
-clock_rises at e log = grind (arith, pushed_rises, ticked_rises)
+clock_rises at e log = grind (arith)
 
 pub clock_grows : (at : Site) (later log : Log) → (clock at log).ticks ≤ (clock at (later ++ log)).ticks
 clock_grows at [] log = omega arith
@@ -57,40 +45,13 @@ next_is_last s c log q = refl
 clock_on : (s : Setting) (log : Log) (e : Entry) → stamps (e ∷ log) ≡ stamps log → promises (e ∷ log) ≡ promises log → IsClocked s log → IsClocked s (e ∷ log)
 clock_on s log e p q h = grind (arith, le_up, stamp_rises, bound, bound_rises)
 
-one_time : (b : Bool) (k t : ℕ) (xs : List ℕ) → t ≤ k → AllLe k xs → AllLe k (time_if_some (if b then None else Some (time_at t)) ++ xs)
-one_time b k t xs l h = grind arith
-
-clock_start : (s : Setting) (c : ℕ) (log : Log) (q : Queued) → IsClocked s log → IsClocked s (Did (start_at s c log q) ∷ log)
-clock_start s c log q h = grind (arith, bound, start_at, bound_rises, le_up, lt_above, one_time)
-
--- what an exchange sends carries no promise
-ask_promises_not : (ts c : ℕ) (to : Site) (m : Msg) (hand : Option ℕ) → asks_rows ts c m ≡ true → promise_of (Sends to m hand) ≡ []
-ask_promises_not ts c to m hand e = grind arith
-
 -- the active attempts' timestamps were drawn from the clock
 abbrev pub IsDrawn : Setting → Log → Type 0
 IsDrawn s log = (c : ℕ) → stamp_or (active s c log) ≤ last_stamp s log
 
-stamp_started : (ts : ℕ) (sends : List (Site × Msg)) (o : Option Queued) → stamp_or (started ts sends o) ≤ ts
-stamp_started ts sends o = grind arith
-
-drawn_sends : (s : Setting) (log : Log) (to : Site) (m : Msg) (hand : Option ℕ) → IsDrawn s log → IsDrawn s (Did (Sends to m hand) ∷ log)
-drawn_sends s log to m hand h c = sent_way (λ o. stamp_or o ≤ last_stamp s log) c m (active s c log)
-    (λ a x e. subst (λ o. stamp_or o ≤ last_stamp s log) e (h c)) (h c)
-
-stamp_if : (b : Bool) (k : ℕ) (x y : Option Attempt) → stamp_or x ≤ k → stamp_or y ≤ k → stamp_or (if b then x else y) ≤ k
-stamp_if b k x y h i = if_way (λ o. stamp_or o ≤ k) b x y h i
-
-drawn_act : (s : Setting) (log : Log) (act : Act) → IsStep s log act → IsDrawn s log → IsDrawn s (Did act ∷ log)
-drawn_act s log act i h = grind (arith, step_way, active, stamp_started, start_at, stamp_if, drawn_sends)
-
 pub drawn : (s : Setting) (log : Log) → Each (IsFair s) log → IsDrawn s log
 drawn s [] h c = omega arith
-drawn s (Handed from m ∷ log) h c = grind (arith, active, stamp_rises, handed_way, drawn s log h.1 c)
-drawn s (Ticked n ∷ log) h c = let old = drawn s log h.1 c in omega arith
-drawn s (Submits n txn ∷ log) h c = drawn s log h.1 c
-drawn s (Redeclared era t ∷ log) h c = let old = drawn s log h.1 c in let up = stamp_rises s (Redeclared era t) log in omega arith
-drawn s (Did act ∷ log) h c = drawn_act s log act h.0 (drawn s log h.1) c
+drawn s (e ∷ log) h c = grind (arith, active, stamp_rises, handed_way, step_way, start_at, if_way, stamp_or, sent_way, (drawn s log h.1 c), (drawn s log h.1))
 
 pub drawn_at : (s : Setting) (c : ℕ) (log : Log) (a : Attempt) → Each (IsFair s) log → active s c log ≡ Some a → a.ts ≤ last_stamp s log
 drawn_at s c log a h e = subst (λ o. stamp_or o ≤ last_stamp s log) e (drawn s log h c)
@@ -101,14 +62,10 @@ limit_le_of b k o h l = grind arith
 pub limit_le : (s : Setting) (log : Log) (c : ℕ) → number_of s.site ≤ 63 → Each (IsFair s) log → limit s c log ≤ bound s log
 limit_le s log c w h = limit_le_of (bound s log) (last_stamp s log) (active s c log) (drawn s log h c) (stamp_below_bound s log w)
 
-promised : (s : Setting) (log : Log) (to : Site) (m : Msg) (hand : Option ℕ) → ((c : ℕ) → limit s c log ≤ bound s log)
-    → IsSend s log m → AllLe (bound s log) (promise_of (Sends to m hand))
-promised s log to m hand l e = grind (arith, ask_promises_not)
-
 clock_act : (s : Setting) (log : Log) (act : Act) → ((c : ℕ) → limit s c log ≤ bound s log) → IsStep s log act → IsClocked s log → IsClocked s (Did act ∷ log)
-clock_act s log act l i h = step_way s log act (λ x. IsClocked s (Did x ∷ log)) (λ c q at f e. clock_start s c log q h)
+clock_act s log act l i h = step_way s log act (λ x. IsClocked s (Did x ∷ log)) (λ c q at f e. (grind (arith, bound, start_at, bound_rises, le_up, lt_above)))
     (λ c bases a at f. record { drawn_le = h.drawn_le; falls = h.falls; promised_le = h.promised_le })
-    (λ to m hand f. record { drawn_le = h.drawn_le; falls = h.falls; promised_le = le_join (bound s log) (promise_of (Sends to m hand)) (promises log) (promised s log to m hand l f) h.promised_le }) i
+    (λ to m hand f. record { drawn_le = h.drawn_le; falls = h.falls; promised_le = le_join (bound s log) (promise_of (Sends to m hand)) (promises log) (grind (arith)) h.promised_le }) i
 
 pub clocked : (s : Setting) (log : Log) → number_of s.site ≤ 63 → Each (IsFair s) log → IsClocked s log
 clocked s [] w h = record { drawn_le = tt; falls = tt; promised_le = tt }
@@ -126,9 +83,6 @@ of_site s [] h = tt
 of_site s (Did act ∷ log) h = of_act s log act h.0 (of_site s log h.1)
 of_site s (_ ∷ log) h = of_site s log h.1
 
-other_stamp : (j k m n : ℕ) → m ≤ 63 → n ≤ 63 → m ≢ n → suc j * 64 + m ≢ suc k * 64 + n
-other_stamp j k m n a b d e = d (omega arith)
-
 pub stamp_at : (n : ℕ) (xs : List ℕ) (k x : ℕ) → AllOf n xs → slice_get xs k ≡ Some x → (j : ℕ) × (x ≡ suc j * 64 + n)
 stamp_at n [] k x h e = cc
 stamp_at n (y ∷ xs) zero x h e = let p : y ≡ x = cc in (h.0.0, sym p ∙ h.0.1)
@@ -138,4 +92,4 @@ stamp_at n (y ∷ xs) (suc k) x h e = stamp_at n xs k x h.1 e
 pub stamps_differ : (s r : Setting) (log more : Log) (i j x y : ℕ) → number_of s.site ≤ 63 → number_of r.site ≤ 63
     → number_of s.site ≢ number_of r.site → Each (IsFair s) log → Each (IsFair r) more
     → slice_get (stamps log) i ≡ Some x → slice_get (stamps more) j ≡ Some y → x ≢ y
-stamps_differ s r log more i j x y a b d h k e f q = grind (arith, stamp_at, of_site, other_stamp)
+stamps_differ s r log more i j x y a b d h k e f q = grind (arith, stamp_at, of_site)

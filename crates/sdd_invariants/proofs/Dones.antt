@@ -1,5 +1,5 @@
 -- Where as many DONEs for a timestamp were handed to U as there are data modules, each of these has an Apply of class 0 with it.
-use Rattle.sdd_invariants.proofs.All.{Act, AllGt, Apply, Attempt, Bases, Bool, Change, ClassNo, D, Did, DmNo, Does, Done, Each, Handed, HasApply, Input, IsDoneBy, IsDueEach, IsPermitted, IsPutByD, IsStrict, IsWrite, List, Msg, Option, Pipe, Records, Sends, Setting, Site, Some, Ts, TxnNo, U, Write, [], all_of, ap, arith, class_is, commit_act, dec_le, dm_no, dones_of, each_local, effect, eqb-true, false, filter_map, filter_map-append, goes_through, handed, hands_from, head, head_of, head_processed, home, home_of, if◌then◌else◌, in_left, inl, inr, is_done_of, length, local_of, number_of, numbers_to, one_if, one_or_none, pipe, pipe_acted, pipe_at, place_within, puts_to, range_with_len, refl, sends_of_act, setting_of, slice_get, subst, suc, sym, take, tally, to_site, true, write_at, write_to, writes_in, zero, ℕ, ◌++◌, ◌+◌, ◌<◌, ◌==◌, ◌∙◌, ◌∷◌, ◌≡◌, ◌≤◌}
+use Rattle.sdd_invariants.proofs.All.{Act, AllGt, Apply, Attempt, Bases, Bool, Change, ClassNo, D, Did, DmNo, Does, Done, Each, Handed, HasApply, Input, IsDoneBy, IsDueEach, IsPermitted, IsPutByD, IsStrict, IsWrite, List, Msg, Option, Pipe, Setting, Site, Some, Ts, TxnNo, U, Write, [], all_of, ap, arith, commit_act, dec_le, dm_no, dones_of, each_local, effect, eqb-true, false, filter_map, filter_map-append, goes_through, handed, hands_from, head, head_of, home, home_of, if◌then◌else◌, in_left, inl, inr, is_done_of, length, local_of, number_of, numbers_to, one_if, pipe, pipe_at, place_within, puts_to, range_with_len, refl, sends_of_act, setting_of, slice_get, subst, suc, sym, tally, to_site, true, write_at, write_to, writes_in, zero, ℕ, ◌++◌, ◌+◌, ◌<◌, ◌==◌, ◌∙◌, ◌∷◌, ◌≡◌, ◌≤◌}
 use Rattle.sdd_invariants.proofs.Turns.{tally_append, tally_take}
 use Rattle.sdd_invariants.proofs.WritesPut.{goes_write}
 use Rattle.sdd_invariants.proofs.Processed.{own_record, processed_handed, processed_more}
@@ -37,9 +37,8 @@ strict_left (x ∷ xs) ys h = (gt_left x xs ys h.0, strict_left xs ys h.1)
 pub strict_pipe : (g : Input) (c : ℕ) (d : DmNo) (log : Log) → number_of (home g.catalogue c) ≤ 63 → IsPermitted g log
     → IsStrict (writes_in c (all_of (pipe_at g c d log)))
 strict_pipe g c d log small h =
-    let p = in_pipe g c d log h in
     let l : List Msg = all_of (pipe_at g c d log) in
-    grind (arith, strict_left, filter_map-append, writes_strict)
+    grind (arith, strict_left, filter_map-append, writes_strict, in_pipe g c d log h)
 
 abbrev IsStrictHere : site.Log → site.Entry → Type 0
 IsStrictHere log (Did act) = IsStrict (writes_in 0 (all_of (pipe 0 log))) × ((m : Msg) → head (pipe 0 log) ≡ Some m → goes_through 0 m ≡ true)
@@ -59,27 +58,8 @@ record IsOnce (x : ℕ) (log : site.Log) : Type 0 where
   pub le : tally (is_done_of x) (puts_to U log) ≤ 1
   pub was : 0 < tally (is_done_of x) (puts_to U log) → (k : ℕ) × (m : Msg) × (slice_get (pipe 0 log).processed k ≡ Some m) × (write_at 0 m ≡ Some x)
 
-stays_processed : (act : Act) (p : Pipe) (k : ℕ) (m : Msg) → slice_get p.processed k ≡ Some m → slice_get (pipe_acted 0 act p).processed k ≡ Some m
-stays_processed (Records c r sends) p k m e =
-    if_way (λ (q : Pipe). slice_get q.processed k ≡ Some m) _ (head_processed p) p (in_left p.processed (one_or_none (head p)) k m e) e
-stays_processed (Sends to x hand) p k m e = e
-
-quiet_did : (x : ℕ) (act : Act) (log : site.Log) → tally (is_done_of x) (to_site U (sends_of_act act)) ≡ 0 → IsOnce x log → IsOnce x (Did act ∷ log)
-quiet_did x act log e h =
-    let a = tally_append (is_done_of x) (puts_to U log) (to_site U (sends_of_act act)) in
-    record {
-      le = omega (arith, a, e, h.le);
-      was = λ l. (let w = h.was (omega (arith, a, e, l)) in (w.0, w.1, stays_processed act (pipe 0 log) w.0 w.1 w.2, w.3));
-    }
-
 done_is : (x : ℕ) (m : Msg) → is_done_of x m ≡ true → (t : Ts) × (m ≡ Done t) × (t.0 ≡ x)
 done_is x m e = grind (arith, eqb-true)
-
-one_at_most : (b : Bool) → one_if b + 0 ≤ 1
-one_at_most b = grind arith
-
-one_done : (x : ℕ) (t : Ts) → tally (is_done_of x) (to_site U ((U, Done t) ∷ [])) ≤ 1
-one_done x t = one_at_most (t.0 == x)
 
 pub next_in : (ps us : List Msg) (m : Msg) → head_of us ≡ Some m → slice_get (ps ++ us) (length ps) ≡ Some m
 next_in ps us m e = grind (arith, at_seam)
@@ -102,13 +82,11 @@ own_did s x act log t tx strict b h =
       | no n ↦ omega (arith, n)
     ] in
     let a = tally_append (is_done_of x) (puts_to U log) (to_site U (sends_of_act act)) in
-    let one : tally (is_done_of x) (to_site U (sends_of_act act)) ≤ 1 = subst (λ y. tally (is_done_of x) (to_site U (sends_of_act y)) ≤ 1) (sym b.act_is)
-    (one_done x t) in
     let r = own_record 0 (Apply b.txn b.class (home_of s).dm t) ((U, Done t) ∷ []) log refl in
     let pr : (pipe 0 (Did act ∷ log)).processed ≡ p.processed ++ w ∷ [] = ap (λ y. (pipe 0 (Did y ∷ log)).processed) b.act_is
     ∙ ap (λ (q : Pipe). q.processed) r.0 ∙ processed_more p w b.head_is in
     record {
-      le = omega (arith, a, none, one);
+      le = omega (arith, a, none, (subst (λ y. tally (is_done_of x) (to_site U (sends_of_act y)) ≤ 1) (sym b.act_is) ((grind arith))));
       was = λ l. (length p.processed, w, subst (λ ms. slice_get ms (length p.processed) ≡ Some w) (sym pr) (at_seam p.processed [] w), own);
     }
 
@@ -116,16 +94,13 @@ once_did : (s : Setting) (x : ℕ) (act : Act) (log : site.Log) → IsDueEach s 
 once_did s x act log f strict h = elim (dec_le 1 (tally (is_done_of x) (to_site U (sends_of_act act)))) [
   | yes l ↦ (let w = tally_at (is_done_of x) (to_site U (sends_of_act act)) l in
       let d = done_is x w.1 w.3 in
-      let by : IsPutByD s log U act (Done d.0) = subst (IsPutByD s log U act) d.1 (put_by_d s log act f U w.0 w.1 w.2) in
-      own_did s x act log d.0 d.2 strict by h)
-  | no n ↦ quiet_did x act log (omega (arith, n)) h
+      own_did s x act log d.0 d.2 strict (subst (IsPutByD s log U act) d.1 (put_by_d s log act f U w.0 w.1 w.2)) h)
+  | no n ↦ (grind (arith, tally_append, if_way, slice_get, in_left))
 ]
 
 once : (s : Setting) (x : ℕ) (log : site.Log) → Each (IsDueEach s) log → Each IsStrictHere log → IsOnce x log
 once s x [] h k = record { le = omega arith; was = λ l. absurd (omega arith) }
-once s x (Handed from m ∷ log) h k =
-    let i = once s x log h.1 k.1 in
-    record { le = i.le; was = λ l. (let w = i.was l in (w.0, w.1, subst (λ ms. slice_get ms w.0 ≡ Some w.1) (sym (processed_handed 0 from m log)) w.2, w.3)) }
+once s x (Handed from m ∷ log) h k = grind (arith, slice_get, processed_handed, (once s x log h.1 k.1))
 once s x (Did act ∷ log) h k = once_did s x act log h.0 k.0 (once s x log h.1 k.1)
 once s x (_ ∷ log) h k = let i = once s x log h.1 k.1 in record { le = i.le; was = i.was }
 
@@ -174,13 +149,9 @@ to_range f x a (suc n) k m g e = elim (g a) [
 pub hand_more : (f : Msg → Bool) (b : Bool) (xs : List Msg) (m : Msg) → tally f xs ≤ tally f (if b then xs ++ m ∷ [] else xs)
 hand_more f b xs m = grind (arith, tally_append)
 
-hand_one : (f : Msg → Bool) (b : Bool) (xs : List Msg) (m : Msg) → b ≡ true → f m ≡ true → suc (tally f xs) ≤ tally f (if b then xs ++ m ∷ [] else xs)
-hand_one f b xs m p q = grind (arith, tally_append, one_if)
-
 dones_within : (n x : ℕ) (l : site.Log) → Each (IsFromModule n) l → dones_of x l ≤ sum_of (from_d x l) (numbers_to n)
 dones_within n x [] h = omega arith
-dones_within n x (Handed from m ∷ l) h =
-    grind (arith, hand_more, one_if, site_self, sum_more, hand_one, sum_up, dones_within n x l h.1)
+dones_within n x (Handed from m ∷ l) h = grind (arith, hand_more, site_self, sum_more, tally_append, one_if, sum_up, (dones_within n x l h.1))
 dones_within n x (_ ∷ l) h = dones_within n x l h.1
 
 write_range : (g : Input) (d : DmNo) (bases : Bases) (a : Attempt) (k : ℕ) (m : Msg)
@@ -189,17 +160,12 @@ write_range g d bases a k m e =
     let xs : List Change = (effect g.catalogue (bases a.ts) a.text).changes in
     to_range (write_to g.catalogue 0 a xs) d.0 1 g.catalogue.dms k m (goes_write g.catalogue 0 a xs) e
 
-number_zero : (c t : ℕ) → class_is 0 (Some (c, t)) ≡ true → c ≡ 0
-number_zero c t e = eqb-true c 0 e
-
 in_range : (g : Input) (log : Log) (d : DmNo) (ts : Ts) (of : ClassNo) (txn : TxnNo) (changes : List Change) → IsPermitted g log
     → head (pipe_at g 0 d log) ≡ Some (Write ts of txn changes) → (j : ℕ) × (slice_get (numbers_to g.catalogue.dms) j ≡ Some d.0)
 in_range g log d ts of txn changes h e =
     let p = head_put g 0 d log (Write ts of txn changes) h e in
-    let z : of.0 ≡ 0 = number_zero of.0 ts.0 p.of_class in
-    let w : IsWrite (setting_of g U) (local_of g U p.before) p.act 0 ts.0 txn.0 = subst
-    (λ j. IsWrite (setting_of g U) (local_of g U p.before) p.act j ts.0 txn.0) z p.by in
-    grind (arith, write_range)
+    let z : of.0 ≡ 0 = (eqb-true of.0 0 p.of_class) in
+    grind (arith, write_range, subst (λ j. IsWrite (setting_of g U) (local_of g U p.before) p.act j ts.0 txn.0) z p.by)
 
 done_from : (g : Input) (log : Log) (from : Site) (k : ℕ) (m : Msg) (x : ℕ) → IsPermitted g log
     → slice_get (puts_to U (local_of g from log)) k ≡ Some m → is_done_of x m ≡ true
@@ -222,9 +188,7 @@ from_one g log x d h =
     let at : DmNo = dm_no d in
     let o = (once (setting_of g (D at)) x (local_of g (D at) log) (d_fair g at log h) (stricts g at log h)).le in
     let t = tally_take (is_done_of x) (handed (D at) U log) (puts_to U (local_of g (D at) log)) in
-    let e : from_d x (local_of g U log) d ≡ tally (is_done_of x) (take (handed (D at) U log) (puts_to U (local_of g (D at) log))) = ap (tally (is_done_of x))
-    (in_order g log (D at) U h) in
-    omega arith
+    omega (arith, ap (tally (is_done_of x)) (in_order g log (D at) U h))
 
 pub range_length : (a n : ℕ) → length (range_with_len a n) ≡ n
 range_length a zero = refl
@@ -235,9 +199,8 @@ pub all_applied : (g : Input) (log : Log) (x k d : ℕ) → IsPermitted g log �
 all_applied g log x k d h l e =
     let at : DmNo = dm_no d in
     let lu : site.Log = local_of g U log in
-    let sum = dones_within g.catalogue.dms x lu (module_hands g log h) in
     let n : length (numbers_to g.catalogue.dms) ≡ g.catalogue.dms = range_length 1 g.catalogue.dms in
-    let pos : 0 < from_d x lu d = all_one (from_d x lu) (numbers_to g.catalogue.dms) k d (λ d. from_one g log x d h) (omega (arith, n, sum, l)) e in
+    let pos : 0 < from_d x lu d = all_one (from_d x lu) (numbers_to g.catalogue.dms) k d (λ d. from_one g log x d h) (omega (arith, n, (dones_within g.catalogue.dms x lu (module_hands g log h)), l)) e in
     let w = tally_at (is_done_of x) (hands_from (D at) lu) pos in
     let t = done_is x w.1 w.3 in
     let put : slice_get (puts_to U (local_of g (D at) log)) w.0 ≡ Some (Done t.0) = (in_taken (puts_to U (local_of g (D at) log))

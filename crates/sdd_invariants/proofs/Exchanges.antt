@@ -1,6 +1,6 @@
 -- What every step of an exchange keeps: its modules stay; once the READs are answered they are no more awaited; while
 -- they are awaited nothing is sent; and what it still has to send are its own FETCHes, REDUCEs and SHIPs.
-use Rattle.sdd_invariants.proofs.All.{Asking, Attempt, Bool, Commit, D, Did, Exchange, Fetching, Handed, List, Log, Move, Msg, None, Option, Over, Phase, Queued, Ready, Rec, Records, Reduced, Rows, Sends, Setting, Shipping, Site, Some, Start, Step, Values, [], active, active_after, active_handed, active_sent, after_hand, after_send, answered, ap, asks_rows, counted, counts, counts_for, false, fetches, fetches_from, goes_on, head_of, if◌then◌else◌, is_reading, lacking, length, map, move_at, next_move, own, phase_ends, queue, reduces, refl, rejects, ships, started, subst, sym, tail_of, to_all, true, with_use, with_values, without, ℕ, ◌++◌, ◌+◌, ◌∙◌, ◌∷◌, ◌≡◌}
+use Rattle.sdd_invariants.proofs.All.{Asking, Attempt, Bool, Exchange, List, Log, Move, Msg, None, Option, Queued, Ready, Rec, Records, Reduced, Rows, Setting, Site, Some, Step, Values, [], active, active_after, after_hand, after_send, answered, ap, arith, asks_rows, counted, counts, false, fetches_from, goes_on, head_of, if◌then◌else◌, is_reading, length, map, own, queue, reduces, refl, ships, started, subst, tail_of, to_all, true, with_use, with_values, ℕ, ◌++◌, ◌+◌, ◌∷◌, ◌≡◌}
 use Rattle.sdd_invariants.proofs.Bools.{if_way, not_both}
 
 abbrev pub IsQuiet : Exchange → Type 0
@@ -26,78 +26,36 @@ to_later ts c x y e f g = record { modules_same = e; no_more = λ p. f; quiet = 
 
 -- a step that leaves the phase and what is to be sent
 same_phase : (ts c : ℕ) (x y : Exchange) → y.modules ≡ x.modules → y.phase ≡ x.phase → y.to_send ≡ x.to_send → GoesOn ts c x y
-same_phase ts c x y e f g = record {
-  modules_same = e;
-  no_more = λ p. ap is_reading f ∙ p;
-  quiet = λ h p. g ∙ h (sym (ap is_reading f) ∙ p);
-  asks = λ h. subst (AllAsk ts c) (sym g) h;
-}
+same_phase ts c x y e f g = grind (arith, AllAsk)
 
 two_steps : (ts c : ℕ) (x y z : Exchange) → GoesOn ts c x y → GoesOn ts c y z → GoesOn ts c x z
-two_steps ts c x y z h k =
-    record { modules_same = k.modules_same ∙ h.modules_same; no_more = λ p. k.no_more (h.no_more p); quiet = λ q. k.quiet (h.quiet q); asks = λ q. k.asks (h.asks q) }
+two_steps ts c x y z h k = grind arith
 
 all_ask : (ts c : ℕ) (m : Msg) (ds : List ℕ) → asks_rows ts c m ≡ true → AllAsk ts c (to_all m ds)
 all_ask ts c m [] e = tt
 all_ask ts c m (d ∷ ds) e = (e, all_ask ts c m ds e)
 
-reducing : (ts c : ℕ) (m : Move) (x : Exchange) → GoesOn ts c x (reduces ts c m x)
-reducing ts c m x = to_later ts c x (reduces ts c m x) refl refl (λ h. all_ask ts c _ (with_use x m.target.part) (own ts c))
-
 fetching : (ts c : ℕ) (m : Move) (x : Exchange) (ds : List ℕ) → GoesOn ts c x (fetches_from ts c m x ds)
 fetching ts c m x [] =
-    two_steps ts c x (record x { union = [] }) _ (same_phase ts c x (record x { union = [] }) refl refl refl) (reducing ts c m (record x { union = [] }))
+    two_steps ts c x (record x { union = [] }) _ (same_phase ts c x (record x { union = [] }) refl refl refl) (to_later ts c (record x { union = [] }) (reduces ts c m (record x { union = [] })) refl refl (λ h. all_ask ts c _ (with_use (record x { union = [] }) m.target.part) (own ts c)))
 fetching ts c m x (d ∷ ds) = to_later ts c x (fetches_from ts c m x (d ∷ ds)) refl refl (λ h. all_ask ts c _ (d ∷ ds) (own ts c))
 
 going_on : (ts c : ℕ) (x : Exchange) (qs : List Asking) (done : List Step) → GoesOn ts c x (goes_on ts c x qs done)
 going_on ts c x [] done = to_later ts c x (ships ts c x) refl refl (λ h. all_ask ts c _ (map (λ m. m.0) x.modules) (own ts c))
-going_on ts c x (q ∷ rest) done =
-    elim (next_move q.conds (counts_for x.counts q) done) as
-    (λ o. GoesOn ts c x (elim o as (λ _. Exchange) [ None ↦ goes_on ts c x rest [] | Some m ↦ fetches ts c (move_at q.before m) (record x { left = q ∷ rest; done = done ++ m.step ∷ [] }) ])) [
-      | None ↦ going_on ts c x rest []
-      | Some m ↦ two_steps ts c x (record x { left = q ∷ rest; done = done ++ m.step ∷ [] }) _
-          (same_phase ts c x (record x { left = q ∷ rest; done = done ++ m.step ∷ [] }) refl refl refl)
-          (fetching ts c (move_at q.before m) (record x { left = q ∷ rest; done = done ++ m.step ∷ [] }) (with_use x (move_at q.before m).source.part))
-    ]
-
-fetching_no_more : (ts c : ℕ) (m : Move) (x : Exchange) (ds : List ℕ) → is_reading (fetches_from ts c m x ds).phase ≡ false
-fetching_no_more ts c m x [] = refl
-fetching_no_more ts c m x (d ∷ ds) = refl
+going_on ts c x (q ∷ rest) done = grind (arith, GoesOn, two_steps, same_phase, fetching, (going_on ts c x rest))
 
 -- after the READs something else is awaited, or nothing
 pub reads_no_more : (ts c : ℕ) (x : Exchange) (qs : List Asking) (done : List Step) → is_reading (goes_on ts c x qs done).phase ≡ false
 reads_no_more ts c x [] done = refl
-reads_no_more ts c x (q ∷ rest) done =
-    elim (next_move q.conds (counts_for x.counts q) done) as
-    (λ o. is_reading (elim o as (λ _. Exchange) [ None ↦ goes_on ts c x rest [] | Some m ↦ fetches ts c (move_at q.before m) (record x { left = q ∷ rest; done = done ++ m.step ∷ [] }) ]).phase ≡ false) [
-      | None ↦ reads_no_more ts c x rest []
-      | Some m ↦ fetching_no_more ts c (move_at q.before m) (record x { left = q ∷ rest; done = done ++ m.step ∷ [] })
-          (with_use x (move_at q.before m).source.part)
-    ]
-
-phase_goes : (ts c : ℕ) (x : Exchange) (p : Phase) → GoesOn ts c x (phase_ends ts c x p)
-phase_goes ts c x (Fetching m) = reducing ts c m x
-phase_goes ts c x Shipping = to_later ts c x (record x { phase = Over }) refl refl (λ h. h)
-phase_goes ts c x Over = same_phase ts c x x refl refl refl
-phase_goes ts c x _ = going_on ts c x x.left x.done
-
-lacking_goes : (ts c : ℕ) (x : Exchange) (ds : List ℕ) → GoesOn ts c x (lacking ts c x ds)
-lacking_goes ts c x [] =
-    two_steps ts c x (record x { lacks = [] }) _ (same_phase ts c x (record x { lacks = [] }) refl refl refl)
-    (phase_goes ts c (record x { lacks = [] }) x.phase)
-lacking_goes ts c x (d ∷ ds) = same_phase ts c x (record x { lacks = d ∷ ds }) refl refl refl
+reads_no_more ts c x (q ∷ rest) done = grind (arith, (reads_no_more ts c x rest))
 
 pub answered_goes : (ts c d : ℕ) (x : Exchange) → GoesOn ts c x (answered ts c d x)
-answered_goes ts c d x = lacking_goes ts c x (without x.lacks d)
-
-goes_if : (ts c : ℕ) (b : Bool) (x y : Exchange) → GoesOn ts c x y → GoesOn ts c x (if b then y else x)
-goes_if ts c b x y h = if_way (GoesOn ts c x) b y x h (same_phase ts c x x refl refl refl)
+answered_goes ts c d x = (grind (arith, two_steps, same_phase, reduces, all_ask, with_use, own, to_later, going_on))
 
 -- an answer with new parts that leave phase, modules and what is to be sent
 answered_with : (ts c d : ℕ) (b : Bool) (x y : Exchange) → y.modules ≡ x.modules → y.phase ≡ x.phase → y.to_send ≡ x.to_send
     → GoesOn ts c x (if b then answered ts c d y else x)
-answered_with ts c d b x y e f g =
-    goes_if ts c b x (answered ts c d y) (two_steps ts c x y (answered ts c d y) (same_phase ts c x y e f g) (answered_goes ts c d y))
+answered_with ts c d b x y e f g = grind (arith, if_way, GoesOn, two_steps, same_phase, answered_goes)
 
 pub hand_goes : (ts c d : ℕ) (m : Msg) (x : Exchange) → GoesOn ts c x (after_hand ts c d m x)
 hand_goes ts c d (Ready t k counts) x = answered_with ts c d _ x (record x { counts = counted d counts x.counts }) refl refl refl
@@ -107,8 +65,7 @@ hand_goes ts c d (Rows t k found) x = answered_with ts c d _ x (record x { found
 hand_goes ts c d _ x = same_phase ts c x x refl refl refl
 
 ask_tail : (ts c : ℕ) (ps : List (ℕ × Msg)) → AllAsk ts c ps → AllAsk ts c (tail_of ps)
-ask_tail ts c [] h = tt
-ask_tail ts c (p ∷ ps) h = h.1
+ask_tail ts c ps h = grind arith
 
 pub send_goes : (ts c : ℕ) (x : Exchange) → GoesOn ts c x (after_send x)
 send_goes ts c x = record { modules_same = refl; no_more = λ p. p; quiet = λ h p. ap tail_of (h p); asks = ask_tail ts c x.to_send }
@@ -122,36 +79,13 @@ abbrev pub Has : (Attempt → Type 0) → Option Attempt → Type 0
 Has Q None = Unit {0}
 Has Q (Some a) = Q a
 
-kept_hand : (Q : Attempt → Type 0) (c : ℕ) (from : Site) (m : Msg) (o : Option Attempt) → IsKept c Q → Has Q o → Has Q (active_handed c from m o)
-kept_hand Q c (D d) m None k h = tt
-kept_hand Q c (D d) m (Some a) k h =
-    if_way (Has Q) (rejects m a.ts c) None (Some (record a { exchange = after_hand a.ts c d.0 m a.exchange })) tt
-    (k.goes a (after_hand a.ts c d.0 m a.exchange) (hand_goes a.ts c d.0 m a.exchange) h)
-kept_hand Q c _ m o k h = h
-
-kept_sent : (Q : Attempt → Type 0) (c : ℕ) (m : Msg) (o : Option Attempt) → IsKept c Q → Has Q o → Has Q (active_sent c m o)
-kept_sent Q c m None k h = tt
-kept_sent Q c m (Some a) k h =
-    if_way (Has Q) (asks_rows a.ts c m) (Some (record a { exchange = after_send a.exchange })) (Some a)
-    (k.goes a (after_send a.exchange) (send_goes a.ts c a.exchange) h) h
-
-kept_started : (Q : Attempt → Type 0) (c ts : ℕ) (sends : List (Site × Msg)) (o : Option Queued) → IsKept c Q → Has Q (started ts sends o)
-kept_started Q c ts sends None k = tt
-kept_started Q c ts sends (Some q) k = k.starts ts sends q _ refl
-
 kept_record : (Q : Attempt → Type 0) (c k : ℕ) (r : Rec) (sends : List (Site × Msg)) (qs : List Queued) (o : Option Attempt)
     → IsKept c Q → Has Q o → Has Q (active_after c (Records k r sends) qs o)
-kept_record Q c k (Start txn attempt class ts p2 uses) sends qs o i h =
-    if_way (Has Q) _ (started ts.0 sends (head_of qs)) o (kept_started Q c ts.0 sends (head_of qs) i) h
-kept_record Q c k (Commit txn attempt reply changes values rows) sends qs o i h = if_way (Has Q) _ None o tt h
-kept_record Q c k _ sends qs o i h = h
+kept_record Q c k r sends qs o i h = grind (arith, if_way, Has)
 
 pub kept : (Q : Attempt → Type 0) (s : Setting) (c : ℕ) (log : Log) → IsKept c Q → Has Q (active s c log)
 kept Q s c [] k = tt
-kept Q s c (Handed from m ∷ log) k = kept_hand Q c from m (active s c log) k (kept Q s c log k)
-kept Q s c (Did (Records j r sends) ∷ log) k = kept_record Q c j r sends (queue s c log) (active s c log) k (kept Q s c log k)
-kept Q s c (Did (Sends to m hand) ∷ log) k = kept_sent Q c m (active s c log) k (kept Q s c log k)
-kept Q s c (_ ∷ log) k = kept Q s c log k
+kept Q s c (e ∷ log) k = grind (arith, if_way, Has, hand_goes, active, kept_record, queue, send_goes, (kept Q s c log k))
 
 abbrev QuietOf : Attempt → Type 0
 QuietOf a = IsQuiet a.exchange
@@ -159,17 +93,13 @@ QuietOf a = IsQuiet a.exchange
 quiet_started : (ts : ℕ) (sends : List (Site × Msg)) (q : Queued) (a : Attempt) → started ts sends (Some q) ≡ Some a → QuietOf a
 quiet_started ts sends q a e = subst (Has QuietOf) e (λ p. refl)
 
-quiet_kept : (c : ℕ) → IsKept c QuietOf
-quiet_kept c = record { starts = quiet_started; goes = λ a x g h. g.quiet h }
-
 not_empty : (ps : List (ℕ × Msg)) (p : ℕ × Msg) (b : Bool) → head_of ps ≡ Some p → (b ≡ true → ps ≡ []) → b ≡ false
-not_empty ps p true e f = let q : ◌≡◌ {A = Option (ℕ × Msg)} None (Some p) = ap head_of (sym (f refl)) ∙ e in cc
-not_empty ps p false e f = refl
+not_empty ps p b e f = grind arith
 
 -- an exchange that has something to send awaits no READY
 pub not_reading : (s : Setting) (c : ℕ) (log : Log) (a : Attempt) (p : ℕ × Msg) → active s c log ≡ Some a
     → head_of a.exchange.to_send ≡ Some p → is_reading a.exchange.phase ≡ false
-not_reading s c log a p e f = not_empty a.exchange.to_send p (is_reading a.exchange.phase) f (subst (Has QuietOf) e (kept QuietOf s c log (quiet_kept c)))
+not_reading s c log a p e f = not_empty a.exchange.to_send p (is_reading a.exchange.phase) f (subst (Has QuietOf) e (kept QuietOf s c log (record { starts = quiet_started; goes = λ a x g h. g.quiet h })))
 
 abbrev AskingOf : ℕ → Attempt → Type 0
 AskingOf c a = AllAsk a.ts c a.exchange.to_send
@@ -177,14 +107,10 @@ AskingOf c a = AllAsk a.ts c a.exchange.to_send
 asking_started : (c ts : ℕ) (sends : List (Site × Msg)) (q : Queued) (a : Attempt) → started ts sends (Some q) ≡ Some a → AskingOf c a
 asking_started c ts sends q a e = subst (Has (AskingOf c)) e tt
 
-asking_kept : (c : ℕ) → IsKept c (AskingOf c)
-asking_kept c = record { starts = asking_started c; goes = λ a x g h. g.asks h }
-
 asks_head : (ts c : ℕ) (ps : List (ℕ × Msg)) (p : ℕ × Msg) → AllAsk ts c ps → head_of ps ≡ Some p → asks_rows ts c p.1 ≡ true
-asks_head ts c [] p h e = cc
-asks_head ts c (x ∷ ps) p h e = let q : ◌≡◌ {A = ℕ × Msg} x p = cc in subst (λ (z : ℕ × Msg). asks_rows ts c z.1 ≡ true) q h.0
+asks_head ts c ps p h e = grind arith
 
 -- what the exchange of the active attempt sends next is one of its own
 pub asks_next : (s : Setting) (c : ℕ) (log : Log) (a : Attempt) (p : ℕ × Msg) → active s c log ≡ Some a
     → head_of a.exchange.to_send ≡ Some p → asks_rows a.ts c p.1 ≡ true
-asks_next s c log a p e f = asks_head a.ts c a.exchange.to_send p (subst (Has (AskingOf c)) e (kept (AskingOf c) s c log (asking_kept c))) f
+asks_next s c log a p e f = asks_head a.ts c a.exchange.to_send p (subst (Has (AskingOf c)) e (kept (AskingOf c) s c log (record { starts = asking_started c; goes = λ a x g h. g.asks h }))) f

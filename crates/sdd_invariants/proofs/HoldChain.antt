@@ -1,5 +1,5 @@
 -- Between U and one T: the counts of HOLDs, RELEASEs, HELDs, Starts and Commits of class 0 stand in one chain.
-use Rattle.sdd_invariants.proofs.All.{Act, AllIdle, Bool, D, Did, Each, Handed, HoldCounts, Input, IsFairT, IsFairU, IsHoldChain, IsPermitted, IsPutByD, List, Msg, NoneHold, Setting, Site, Some, T, TmCounts, TmNo, U, [], ap, arith, counts, counts_acted, counts_handed, counts_tm, each_local, false, flip as turned, handed, hands, hands_from, holds, holds_acted, holds_handed, if◌then◌else◌, is_a_held, is_a_hold, is_a_release, local_of, numbers_to, one_if, or_left, or_right, puts_to, refl, same_site, setting_of, slice_get, subst, suc, take, tally, tm_no, true, zero, ℕ, ◌++◌, ◌+◌, ◌<◌, ◌==◌, ◌||◌, ◌∙◌, ◌∷◌, ◌≡◌}
+use Rattle.sdd_invariants.proofs.All.{Act, AllIdle, Bool, D, Each, Handed, HoldCounts, Input, IsFairT, IsFairU, IsHoldChain, IsPermitted, IsPutByD, List, Msg, NoneHold, Setting, Site, Some, T, TmCounts, TmNo, U, [], ap, arith, counts, counts_handed, counts_tm, each_local, false, flip as turned, handed, hands_from, holds, holds_acted, if◌then◌else◌, is_a_held, is_a_hold, is_a_release, local_of, numbers_to, one_if, or_left, or_right, puts_to, refl, same_site, setting_of, slice_get, subst, suc, take, tally, tm_no, true, zero, ℕ, ◌+◌, ◌<◌, ◌==◌, ◌||◌, ◌∙◌, ◌∷◌, ◌≡◌}
 use Rattle.sdd_invariants.proofs.Holding.{still, t_helds, t_none}
 use Rattle.sdd_invariants.proofs.Serving.{chain}
 use Rattle.sdd_invariants.proofs.Turns.{balance, tally_append, tally_take, turns_take}
@@ -37,30 +37,13 @@ IsFromU l _ = Unit {0}
 put_from : (g : Input) (log : Log) (from at : Site) (k : ℕ) (m : Msg) → IsPermitted g log
     → slice_get (puts_to at (local_of g from log)) k ≡ Some m → of_hold m ≡ true → from ≡ U
 put_from g log U at k m h e p = refl
-put_from g log (T t) at k m h e p =
-    absurd (not_both (of_hold m) p (none_at (puts_to at (local_of g (T t) log)) k m (t_none (setting_of g (T t)) at (local_of g (T t) log) (t_table g t log h)) e))
+put_from g log (T t) at k m h e p = grind (arith, not_both, of_hold, none_at, t_none, t_table)
 put_from g log (D d) at k m h e p =
     let q = put_in_by_d g log d at k m h e in
     absurd (not_both (of_hold m) p (d_not (setting_of g (D d)) (local_of g (D d) q.before) at q.act m q.by))
 
 pub from_u : (g : Input) (at : Site) (log : Log) → IsPermitted g log → Each IsFromU (local_of g at log)
-from_u g at = each_local g at IsFromU (record {
-  handed = λ log p from n m a i. put_from g log from at (handed from at log) m p (hand_was_put g log from at n m a).1;
-  ticked = λ log p n i. tt;
-  submits = λ log p n k a e i. tt;
-  redeclared = λ l k u i. tt;
-  did = λ log act p due i. tt;
-})
-
-tally_push : (f : Msg → Bool) (b : Bool) (xs : List Msg) (m : Msg) → tally f (if b then xs ++ m ∷ [] else xs) ≡ tally f xs + (if b then one_if (f m) else 0)
-tally_push f b xs m = grind (arith, tally_append)
-
-hand_holds : (n : ℕ) (m : Msg) (h : HoldCounts)
-    → ((holds_handed n m h).holds ≡ h.holds + one_if (is_a_hold m)) × ((holds_handed n m h).releases ≡ h.releases + one_if (is_a_release m))
-hand_holds n m h = grind arith
-
-seen_one : (a b : Bool) → (a ≡ true → b ≡ true) → (if b then one_if a else 0) ≡ one_if a
-seen_one a b f = grind arith
+from_u g at = grind (arith, each_local, IsFromU, put_from, hand_was_put)
 
 is_u : (from : Site) → from ≡ U → same_site U from ≡ true
 is_u from e = ap (same_site U) e
@@ -71,39 +54,18 @@ act_holds act h = grind arith
 pub handed_holds : (l : site.Log) → Each IsFromU l
     → ((holds l).holds ≡ tally is_a_hold (hands_from U l)) × ((holds l).releases ≡ tally is_a_release (hands_from U l))
 handed_holds [] h = (refl, refl)
-handed_holds (Handed from m ∷ l) h =
-    grind (arith, hand_holds, hands, holds, tally_push, seen_one, is_u, or_left, or_right, handed_holds l h.1)
-handed_holds (Did act ∷ l) h = let i = handed_holds l h.1 in let k = act_holds act (holds l) in (k.0 ∙ i.0, k.1 ∙ i.1)
-handed_holds (_ ∷ l) h = handed_holds l h.1
-
--- the HELDs that U was handed from one T
-count_if : (b : Bool) (k : TmCounts) → (if b then record k { helds = suc k.helds } else k).helds ≡ k.helds + one_if b
-count_if b k = grind arith
+handed_holds (e ∷ l) h = grind (arith, tally_append, is_u, or_left, or_right, act_holds, holds, (handed_holds l h.1))
 
 pub same_turned : (n t : ℕ) → (n == t) ≡ (t == n)
 same_turned n t = grind (arith, same_or_not, turned)
 
-if_one : (b : Bool) → one_if b ≡ (if b then 1 else 0)
-if_one b = grind arith
-
-none_more : (b : Bool) (n : ℕ) → n ≡ n + (if b then 0 else 0)
-none_more b n = grind arith
-
-more_of : (act : Act) (k : TmCounts) → (counts_acted act k).helds ≡ k.helds
-more_of act k = grind (arith, if_way, holds)
-
 hand_helds : (t : ℕ) (from : Site) (m : Msg) (k : TmCounts) → k.tm ≡ t
     → (counts_handed from m k).helds ≡ k.helds + (if same_site (T (tm_no t)) from then one_if (is_a_held m) else 0)
-hand_helds t from m k e = grind (arith, count_if, one_if, same_turned, if_one, none_more)
+hand_helds t from m k e = grind (arith, one_if, same_turned)
 
 pub handed_helds : (t : ℕ) (l : site.Log) → (counts t l).helds ≡ tally is_a_held (hands_from (T (tm_no t)) l)
 handed_helds t [] = refl
-handed_helds t (Handed from m ∷ l) =
-    let i = handed_helds t l in
-    let k = hand_helds t from m (counts t l) (counts_tm t l) in
-    let a = tally_push is_a_held (same_site (T (tm_no t)) from) (hands_from (T (tm_no t)) l) m in omega arith
-handed_helds t (Did act ∷ l) = more_of act (counts t l) ∙ handed_helds t l
-handed_helds t (_ ∷ l) = handed_helds t l
+handed_helds t (e ∷ l) = grind (arith, hand_helds, counts_tm, tally_append, if_way, holds, counts, (handed_helds t l))
 
 pub hold_chain : (g : Input) (k t : ℕ) (log : Log) → slice_get (numbers_to g.catalogue.tms) k ≡ Some t → IsPermitted g log → IsHoldChain g t log
 hold_chain g k t log i h =
@@ -118,15 +80,13 @@ hold_chain g k t log i h =
     let part = turns_take (handed U at log) (puts_to at lu) c.state c.turns_are in
     let even = balance false part.0 (take (handed U at log) (puts_to at lu)) part.1 in
     let p1 = one_if_le part.0 in
-    let got : (counts t lu).helds ≡ tally is_a_held (take (handed at U log) (puts_to U lt)) = handed_helds t lu
-    ∙ ap (tally is_a_held) (in_order g log at U h) in
     let put : (holds lt).helds ≡ tally is_a_held (puts_to U lt) = t_helds (setting_of g at) lt (t_table g (tm_no t) log h) in
     record {
       released = omega (arith, release_is, tally_take is_a_release (handed U at log) (puts_to at lu), c.releases_are);
       committed = c.released;
       started = c.committed;
       got_held = c.started_held;
-      put_held = omega (arith, got, put, tally_take is_a_held (handed at U log) (puts_to U lt));
+      put_held = omega (arith, (handed_helds t lu ∙ ap (tally is_a_held) (in_order g log at U h)), put, tally_take is_a_held (handed at U log) (puts_to U lt));
       got_hold = (still (setting_of g at) lt (t_table g (tm_no t) log h)).owed;
       one_open = omega (arith, hold_is, release_is, even, p1);
       in_turn = omega (arith, hold_is, release_is, even, p1);

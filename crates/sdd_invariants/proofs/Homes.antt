@@ -1,5 +1,5 @@
 -- What goes through a class's pipes is put by the site that runs the class.
-use Rattle.sdd_invariants.proofs.All.{Act, AllHomed, AllPiped, Bool, Catalogue, Did, Each, Fetch, IsFair, IsHomed, IsSend, IsStep, List, Log, Msg, None, Option, Setting, Site, Some, [], a_held, a_hold, a_null, a_release, ap, asks_rows, commit_act, false, home, if◌then◌else◌, next_stamp, of_exchange, piped, puts_to, same_site, sends_of_act, start_at, subst, sym, to_site, true, ℕ, ◌++◌, ◌∙◌, ◌∷◌, ◌≡◌}
+use Rattle.sdd_invariants.proofs.All.{Act, AllHomed, AllPiped, Bool, Catalogue, Did, Each, IsFair, IsHomed, IsSend, IsStep, List, Log, Msg, None, Option, Setting, Site, Some, [], ap, arith, commit_act, home, if◌then◌else◌, next_stamp, puts_to, same_site, sends_of_act, start_at, subst, sym, to_site, ℕ, ◌++◌, ◌∙◌, ◌∷◌, ◌≡◌}
 use Rattle.sdd_invariants.proofs.Times.{piped_commit, piped_start}
 use Rattle.sdd_invariants.proofs.Active.{step_way}
 
@@ -9,8 +9,7 @@ homed_join cat at (x ∷ xs) ys h k = (h.0, homed_join cat at xs ys h.1 k)
 
 homed_if : (cat : Catalogue) (at : Site) (b : Bool) (m : Msg) (ms : List Msg) → IsHomed cat at m → AllHomed cat at ms
     → AllHomed cat at (if b then m ∷ ms else ms)
-homed_if cat at true m ms h k = (h, k)
-homed_if cat at false m ms h k = k
+homed_if cat at b m ms h k = grind arith
 
 class_of : Option (ℕ × ℕ) → ℕ
 class_of None = 0
@@ -22,17 +21,9 @@ homed_piped cat at k t b [] e h = tt
 homed_piped cat at k t b (p ∷ ps) e h = homed_if cat at (same_site b p.0) p.1 (to_site b ps)
     (λ c u f. let q : k ≡ c = ap class_of (sym h.0 ∙ f) in subst (λ j. home cat j ≡ at) q e) (homed_piped cat at k t b ps e h.1)
 
-asks_homed : (cat : Catalogue) (at : Site) (ts k : ℕ) (m : Msg) → asks_rows ts k m ≡ true → IsHomed cat at m
-asks_homed cat at ts k (Fetch a b t u) e c x f = cc
-asks_homed cat at ts k _ e c x f = cc
-
 send_homed : (s : Setting) (log : Log) (m : Msg) → IsSend s log m → IsHomed s.catalogue s.site m
 unfolding class_of
-send_homed s log m (of_exchange k a at i e w) = asks_homed s.catalogue s.site a.ts k m e
-send_homed s log m (a_null k at e) = λ c t f. let q : k ≡ c = ap class_of (ap piped (sym e) ∙ f) in subst (λ j. home s.catalogue j ≡ s.site) q at
-send_homed s log m (a_held e) = λ c t f. (let q : ◌≡◌ {A = Option (ℕ × ℕ)} None (Some (c, t)) = ap piped (sym e) ∙ f in cc)
-send_homed s log m (a_hold e) = λ c t f. (let q : ◌≡◌ {A = Option (ℕ × ℕ)} None (Some (c, t)) = ap piped (sym e) ∙ f in cc)
-send_homed s log m (a_release ts e) = λ c t f. (let q : ◌≡◌ {A = Option (ℕ × ℕ)} None (Some (c, t)) = ap piped (sym e) ∙ f in cc)
+send_homed s log m h4 = grind (arith, class_of)
 
 pub act_homed : (s : Setting) (b : Site) (log : Log) (act : Act) → IsStep s log act → AllHomed s.catalogue s.site (to_site b (sends_of_act act))
 act_homed s b log act i = step_way s log act (λ x. AllHomed s.catalogue s.site (to_site b (sends_of_act x)))

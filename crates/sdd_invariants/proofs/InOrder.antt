@@ -1,5 +1,5 @@
 -- The messages that were handed over on a link are, in order, the first of those that were put on it.
-use Rattle.sdd_invariants.proofs.All.{Bool, Call, Deliver, Delivers, Did, Does, Era, Event, Hand, Handed, Input, IsAllowed, IsPermitted, List, Lose, Loses, Mark, Msg, None, Option, Puts, Redeclares, Repeat, Repeats, Resend, Resends, Site, Some, Submitted, T, Tick, Ticked, Txn, U, [], ap, append-nil, arith, by_event, by_link, by_mark, by_redeclare, by_round, by_site, calls_of, delivered, delivered_le, due_by, false, given_to, handed, handed_by, hands_from, if◌then◌else◌, length, link, link_of, local_of, made, mark_due, message_at, note_if, nth_era, put_by, puts, puts_to, redeclared_entry, redeclares, refl, rises, same_site, sends_of_act, sent, slice_get, sound, subst, suc, sym, take, take-append-le, takes_part, true, txn_at, with_made, ℕ, ◌&&◌, ◌++◌, ◌-◌, ◌∙◌, ◌∷◌, ◌≡◌, ◌≤◌}
+use Rattle.sdd_invariants.proofs.All.{Bool, Call, Deliver, Delivers, Did, Does, Event, Hand, Handed, Input, IsAllowed, IsPermitted, List, Mark, Msg, None, Option, Puts, Redeclares, Site, Some, Submitted, Tick, U, [], ap, append-nil, arith, by_event, by_link, calls_of, delivered, delivered_le, false, given_to, handed, handed_by, hands_from, if◌then◌else◌, length, link, link_of, local_of, made, mark_due, message_at, nth_era, put_by, puts, puts_to, redeclares, refl, rises, same_site, sends_of_act, sent, slice_get, sound, subst, suc, sym, take, take-append-le, takes_part, true, txn_at, with_made, ℕ, ◌&&◌, ◌++◌, ◌-◌, ◌∙◌, ◌∷◌, ◌≡◌, ◌≤◌}
 use Rattle.sdd_invariants.proofs.Bools.{and_left, and_right}
 use Rattle.sdd_invariants.proofs.Lists.{take_one_more}
 use Rattle.sdd_invariants.proofs.Sites.{site_is}
@@ -19,17 +19,8 @@ abbrev NoHand : Option Entry → Type 0
 NoHand None = Unit {0}
 NoHand (Some x) = is_hand x ≡ false
 
-no_note : (b : Bool) → NoHand (note_if b)
-no_note b = grind arith
-
-no_due_by : (g : Input) (e : Event) (log : Log) → NoHand (due_by g e log)
-no_due_by g e log = grind (arith, no_note)
-
 no_mark_due : (g : Input) (log : Log) → NoHand (mark_due g log)
-no_mark_due g log = grind (arith, no_due_by)
-
-is_not_hand : (o : Option Entry) (e : Entry) → NoHand o → o ≡ Some e → is_hand e ≡ false
-is_not_hand o e h p = grind arith
+no_mark_due g log = grind (arith)
 
 pub record IsNextHand (log : Log) (a b : Site) (n : ℕ) (m : Msg) : Type 0 where
   pub next : n ≡ suc (handed a b log)
@@ -45,12 +36,9 @@ no_hand_next : (log : Log) (e : Entry) → is_hand e ≡ false → IsNextIfHand 
 no_hand_next log e h = grind arith
 
 pub allowed_hand : (g : Input) (log : Log) (e : Entry) → IsAllowed g log e → IsNextIfHand log e
-allowed_hand g log e (by_mark x n) = tt
-allowed_hand g log e (by_round es) = tt
-allowed_hand g log e (by_redeclare t) = tt
-allowed_hand g log e (by_event {e = x} p) = no_hand_next log x (is_not_hand (mark_due g log) x (no_mark_due g log) p)
-allowed_hand g log e (by_site at act d) = tt
+allowed_hand g log e (by_event {e = x} p) = no_hand_next log x (grind arith)
 allowed_hand g log e (by_link a b n m p q r f) = record { next = p; delivered_is = q; takes = r; there = f }
+allowed_hand g log e h4 = grind arith
 
 -- more was delivered than was handed over, and no more than was put
 within_if : (c : Bool) (n k d : ℕ) → (c ≡ true → n ≤ d) → k ≤ d → (if c then n else k) ≤ d
@@ -61,10 +49,7 @@ at_link P a b from to e x = subst (λ f. P f b) (sym (site_is a from (and_left _
 
 delivered_mark : (e : Event) (a b : Site) (log : Log) → delivered (link_of a b log).there ≤ delivered (link_of a b (Mark e ∷ log)).there
 delivered_mark (Deliver x y k) a b log = rises a b (Delivers x y k) (calls_of log)
-delivered_mark (Lose x y k) a b log = rises a b (Loses x y k) (calls_of log)
-delivered_mark (Repeat x y k) a b log = rises a b (Repeats x y k) (calls_of log)
-delivered_mark (Resend x y) a b log = rises a b (Resends x y) (calls_of log)
-delivered_mark _ a b log = omega arith
+delivered_mark e a b log = grind (arith, rises, calls_of)
 
 delivered_puts : (a b at : Site) (sends : List (Site × Msg)) (calls : List (Call Msg))
     → delivered (link a b calls).there ≤ delivered (link a b (puts at sends calls)).there
@@ -103,12 +88,6 @@ hands_grow g a b e log = ap (hands_from a) (local_step g b e log) ∙ hands_step
 none_if : (a : Site) (c : Bool) (o : Option site.Entry) → handed_by a o ≡ [] → handed_by a (if c then o else None) ≡ []
 none_if a c o e = grind arith
 
-none_given : (a : Site) (n : ℕ) (o : Option Txn) → handed_by a (given_to n o) ≡ []
-none_given a n o = grind arith
-
-none_redeclared : (a at : Site) (era : Era) (t : ℕ) → handed_by a (redeclared_entry at era t) ≡ []
-none_redeclared a at era t = grind arith
-
 abbrev AreFirst : Input → Site → Site → Log → Type 0
 AreFirst g a b log = hands_from a (local_of g b log) ≡ take (handed a b log) (sent a b log)
 
@@ -134,12 +113,10 @@ there log a b n m h = let z : n - 1 ≡ handed a b log = omega (arith, h.next) i
 
 hands_are : (g : Input) (log : Log) (a b : Site) → IsPermitted g log → AreFirst g a b log
 hands_are g [] a U h = refl
-hands_are g (Mark (Tick t n) ∷ log) a b h =
-    none_more g a b (Mark (Tick t n)) log refl (none_if a (same_site b (T t)) (Some (Ticked n)) refl) h.1 (hands_are g log a b h.1)
-hands_are g (Redeclares t ∷ log) a b h =
-    none_more g a b (Redeclares t) log refl (none_redeclared a b (nth_era g (suc (redeclares log))) t) h.1 (hands_are g log a b h.1)
+hands_are g (Mark (Tick t n) ∷ log) a b h = grind (arith, none_more, none_if, (hands_are g log a b h.1))
+hands_are g (Redeclares t ∷ log) a b h = grind (arith, none_more, nth_era, redeclares, (hands_are g log a b h.1))
 hands_are g (Submitted s n ∷ log) a b h =
-    none_more g a b (Submitted s n) log refl (none_if a (same_site b s) (given_to n (txn_at g n)) (none_given a n (txn_at g n))) h.1 (hands_are g log a b h.1)
+    none_more g a b (Submitted s n) log refl (none_if a (same_site b s) (given_to n (txn_at g n)) (grind arith)) h.1 (hands_are g log a b h.1)
 hands_are g (Does at act ∷ log) a b h = none_more g a b (Does at act) log refl (none_if a (same_site b at) (Some (Did act)) refl) h.1 (hands_are g log a b h.1)
 hands_are g (Hand from to n m ∷ log) a b h =
     hands_grow g a b (Hand from to n m) log

@@ -1,5 +1,5 @@
 -- The pipe of a class at a data module is a first part of the class's messages that its site put on the link there.
-use Rattle.sdd_invariants.proofs.All.{AllHomed, Bool, Catalogue, D, DmNo, Each, Handed, Input, IsHomed, IsPermitted, List, Msg, None, Option, Site, Some, T, U, [], all_handed, all_of, all_there, ap, append-nil, append_assoc, class_in, class_is, class_puts, cond, drop, each_local, eqb-true, false, filter-append, goes_through, handed, hands_from, home, if◌then◌else◌, local_of, map, pipe_at, piped, puts_to, refl, same_site, setting_of, slice_get, subst, suc, sym, take, take-append-drop, time_of, times_in, true, zero, ℕ, ◌++◌, ◌∙◌, ◌∷◌, ◌≡◌}
+use Rattle.sdd_invariants.proofs.All.{AllHomed, Bool, Catalogue, D, DmNo, Each, Handed, Input, IsHomed, IsPermitted, List, Msg, None, Option, Site, Some, [], all_handed, all_of, all_there, ap, append-nil, append_assoc, arith, class_in, class_is, class_puts, drop, each_local, eqb-true, filter-append, goes_through, handed, hands_from, home, if◌then◌else◌, local_of, map, pipe_at, piped, puts_to, refl, same_site, slice_get, subst, suc, sym, take, take-append-drop, time_of, times_in, true, zero, ℕ, ◌++◌, ◌∙◌, ◌∷◌, ◌≡◌}
 use Rattle.sdd_invariants.proofs.Homes.{homed}
 use Rattle.sdd_invariants.proofs.PutBy.{d_pipes_none}
 use Rattle.sdd_invariants.proofs.Bools.{not_both}
@@ -12,10 +12,7 @@ use Rattle.sdd_log.specs.site_module.SiteLog as site
 
 pub times_are : (c : ℕ) (ms : List Msg) → times_in c ms ≡ map time_of (class_in c ms)
 times_are c [] = refl
-times_are c (m ∷ ms) = elim (goes_through c m) as (λ b. (if b then time_of m ∷ times_in c ms else times_in c ms) ≡ map time_of (cond b (m ∷ class_in c ms) (class_in c ms))) [
-  | true ↦ ap (λ l. time_of m ∷ l) (times_are c ms)
-  | false ↦ times_are c ms
-]
+times_are c (m ∷ ms) = grind (arith, (times_are c ms))
 
 -- what a site puts through pipes is of the classes that it runs
 
@@ -24,15 +21,9 @@ homed_at cat at [] k m h e = cc
 homed_at cat at (x ∷ ms) zero m h e = let p : x ≡ m = cc in subst (IsHomed cat at) p h.0
 homed_at cat at (x ∷ ms) (suc k) m h e = homed_at cat at ms k m h.1 e
 
-none_homed : (cat : Catalogue) (at : Site) (m : Msg) → piped m ≡ None → IsHomed cat at m
-none_homed cat at m p c t e = let q : ◌≡◌ {A = Option (ℕ × ℕ)} None (Some (c, t)) = sym p ∙ e in cc
-
 pub put_at_home : (g : Input) (from b : Site) (log : Log) (k : ℕ) (m : Msg) → IsPermitted g log
     → slice_get (puts_to b (local_of g from log)) k ≡ Some m → IsHomed g.catalogue from m
-put_at_home g U b log k m h e = homed_at g.catalogue U (puts_to b (local_of g U log)) k m (homed (setting_of g U) b (local_of g U log) (u_fair g log h)) e
-put_at_home g (T t) b log k m h e =
-    homed_at g.catalogue (T t) (puts_to b (local_of g (T t) log)) k m (homed (setting_of g (T t)) b (local_of g (T t) log) (t_fair g t log h)) e
-put_at_home g (D d) b log k m h e = none_homed g.catalogue (D d) m (d_pipes_none (setting_of g (D d)) b (local_of g (D d) log) (d_fair g d log h) k m e)
+put_at_home g from b log k m h e = grind (arith, homed_at, homed, u_fair, t_fair, d_pipes_none, d_fair)
 
 -- so what is handed comes from the site that runs its class
 abbrev IsHomeHand : Catalogue → site.Log → site.Entry → Type 0
@@ -40,18 +31,7 @@ IsHomeHand cat l (Handed from m) = IsHomed cat from m
 IsHomeHand cat l _ = Unit {0}
 
 home_hands : (g : Input) (at : Site) (log : Log) → IsPermitted g log → Each (IsHomeHand g.catalogue) (local_of g at log)
-home_hands g at = each_local g at (IsHomeHand g.catalogue) (record {
-  handed = λ log p from n m a i. put_at_home g from at log (handed from at log) m p (hand_was_put g log from at n m a).1;
-  ticked = λ log p n i. tt;
-  submits = λ log p n t a e i. tt;
-  redeclared = λ l k t i. tt;
-  did = λ log act p due i. tt;
-})
-
-one_more : (c : ℕ) (xs : List Msg) (m : Msg) → class_in c (xs ++ m ∷ []) ≡ (if goes_through c m then class_in c xs ++ m ∷ [] else class_in c xs)
-one_more c xs m =
-    filter-append (goes_through c) xs (m ∷ []) ∙
-    (elim (goes_through c m) as (λ b. class_in c xs ++ cond b (m ∷ []) [] ≡ (if b then class_in c xs ++ m ∷ [] else class_in c xs)) [ true ↦ refl | false ↦ append-nil _ ])
+home_hands g at = grind (arith, each_local, IsHomeHand, put_at_home, hand_was_put)
 
 class_and_time : (c : ℕ) (o : Option (ℕ × ℕ)) → class_is c o ≡ true → (t : ℕ) × (o ≡ Some (c, t))
 class_and_time c None e = cc
@@ -59,10 +39,7 @@ class_and_time c (Some p) e = (p.1, ap (λ k. Some (k, p.1)) (eqb-true p.0 c e))
 
 hand_in : (c : ℕ) (b d : Bool) (xs ys : List Msg) (m : Msg) → (b ≡ true → d ≡ true) → xs ≡ class_in c ys → b ≡ goes_through c m
     → (if b then xs ++ m ∷ [] else xs) ≡ class_in c (if d then ys ++ m ∷ [] else ys)
-hand_in c true true xs ys m f e g = rw e (sym (one_more c ys m ∙ ap (λ b. if b then class_in c ys ++ m ∷ [] else class_in c ys) (sym g)))
-hand_in c true false xs ys m f e g = absurd (not_both false (f refl) refl)
-hand_in c false true xs ys m f e g = e ∙ sym (one_more c ys m ∙ ap (λ b. if b then class_in c ys ++ m ∷ [] else class_in c ys) (sym g))
-hand_in c false false xs ys m f e g = e
+hand_in c b d xs ys m f e g = grind (arith, filter-append, append-nil, not_both)
 
 handed_from : (cat : Catalogue) (c : ℕ) (l : site.Log) → Each (IsHomeHand cat) l → all_handed c l ≡ class_in c (hands_from (home cat c) l)
 handed_from cat c [] h = refl

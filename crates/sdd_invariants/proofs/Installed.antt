@@ -1,6 +1,6 @@
 -- An Apply follows the Commit that put its WRITE; within a class a module applies in the order of timestamps and leaves
 -- none out; and an Answer stands behind the Applies of its class with smaller timestamps, and before the others.
-use Rattle.sdd_invariants.proofs.All.{Act, Apply, Attempt, Bases, Bool, Change, ClassNo, D, Did, DmNo, Does, Each, Input, IsApplied, IsApplyOf, IsFair, IsOf, IsPermitted, IsPutAt, IsPutBy, IsReadStep, IsWrite, List, May, Msg, None, Null, Option, Read, Rec, Records, Setting, Site, Some, Ts, TxnNo, Write, [], allowed_act, ap, arith, by_record, by_wait, changes_at, changes_to, class_in, class_is, class_no, class_puts, commit_act, cond, dm_no, effect, eqb-true, false, filter_map, goes_through, head, home, in_passing, inl, inr, is_empty, length, local_of, not, number_of, or_left, or_right, pipe, pipe_at, place_within, puts_to, range_with_len, refl, results, sends_of_act, setting_of, slice_get, subst, suc, sym, time_at, time_of, to_site, true, txn_no, view_of, waits, write_at, write_to, zero, ℕ, ◌++◌, ◌+◌, ◌<◌, ◌==◌, ◌||◌, ◌∙◌, ◌∷◌, ◌≡◌, ◌≤◌, ◌⊎◌}
+use Rattle.sdd_invariants.proofs.All.{Act, Apply, Attempt, Bases, Bool, Change, ClassNo, D, Did, DmNo, Does, Each, Input, IsApplied, IsApplyOf, IsFair, IsOf, IsPermitted, IsPutAt, IsPutBy, IsReadStep, IsWrite, List, May, Msg, None, Option, Rec, Records, Setting, Site, Some, Ts, TxnNo, Write, [], allowed_act, ap, arith, by_record, by_wait, changes_at, changes_to, class_in, class_is, class_no, class_puts, commit_act, cond, dm_no, effect, eqb-true, false, filter_map, goes_through, head, home, in_passing, inl, inr, length, local_of, not, number_of, or_left, or_right, pipe, pipe_at, place_within, puts_to, range_with_len, refl, results, sends_of_act, setting_of, slice_get, subst, suc, sym, time_at, time_of, to_site, true, txn_no, view_of, waits, write_at, write_to, zero, ℕ, ◌++◌, ◌+◌, ◌<◌, ◌==◌, ◌∙◌, ◌∷◌, ◌≡◌, ◌≤◌, ◌⊎◌}
 use Rattle.sdd_invariants.proofs.Origins.{is_put, not_empty, was_put}
 use Rattle.sdd_invariants.proofs.ReadsPut.{put_by}
 use Rattle.sdd_invariants.proofs.WritesPut.{goes_write, write_is}
@@ -70,9 +70,6 @@ in_to f x a (suc n) k m g e = elim (g a) [
   ]
 ]
 
-not_none : (xs : List Change) (b : Bool) → (not (is_empty xs) || b) ≡ true → (b ≡ true) ⊎ (0 < length xs)
-not_none xs b e = grind arith
-
 cond_true : (b : Bool) (x y : Site × Msg) → cond b (Some x) None ≡ Some y → b ≡ true
 cond_true b x y e = grind arith
 
@@ -86,7 +83,7 @@ commit_put_is s c bases a d k m e =
     let here : List Change = changes_at s.catalogue d.0 xs in
     let w : Msg = Write (time_at a.ts) (class_no c) (txn_no a.txn) here in
     let i = in_to (write_to s.catalogue c a xs) d.0 1 s.catalogue.dms k m (goes_write s.catalogue c a xs) e in
-    (write_is s.catalogue c a xs d.0 m i, not_none here (c == 0) (cond_true (not (is_empty here) || (c == 0)) (D d, w) (D d, m) i))
+    (write_is s.catalogue c a xs d.0 m i, (grind arith))
 
 -- an Apply follows the Commit of the attempt with its transaction, timestamp and class, and it is at a module that this touches
 pub write_origin : (g : Input) (log : Log) (k : ℕ) (d : DmNo) (ts : Ts) (of : ClassNo) (txn : TxnNo) (changes : List Change)
@@ -95,9 +92,7 @@ write_origin g log k d ts of txn changes e p =
     let at : Site = home g.catalogue k in
     let w : IsWrite (setting_of g at) (local_of g at p.before) p.act k ts.0 txn.0 = subst
     (λ j. IsWrite (setting_of g at) (local_of g at p.before) p.act j ts.0 txn.0) e p.by in
-    let there : slice_get (to_site (D d) (sends_of_act (commit_act g.catalogue w.bases k w.attempt))) p.place ≡ Some (Write ts of txn changes) = subst
-    (λ x. slice_get (to_site (D d) (sends_of_act x)) p.place ≡ Some (Write ts of txn changes)) w.act_is p.there in
-    let i = commit_put_is (setting_of g at) k w.bases w.attempt d p.place (Write ts of txn changes) there in
+    let i = commit_put_is (setting_of g at) k w.bases w.attempt d p.place (Write ts of txn changes) (subst (λ x. slice_get (to_site (D d) (sends_of_act x)) p.place ≡ Some (Write ts of txn changes)) w.act_is p.there) in
     record { later = p.later; before = p.before; bases = w.bases; attempt = w.attempt; is = p.is ∙ ap (λ x. p.later ++ Does at x ∷ p.before) w.act_is; active_is = w.active_is; ts_is = w.time_is; number_is = w.number_is; touches_it = i.1 }
 
 -- an Apply that is due is of a head
@@ -110,19 +105,15 @@ apply_may s l k w (Write t c n changes) (Apply x j dm2 u) txn of dm ts h e =
     let q : c ≡ of = ap (λ y. class_no y) (sym h.2) ∙ b in
     let z : n ≡ txn = ap (λ y. txn_no y) (sym h.0) ∙ a in
     (changes, ap (λ y. Write y c n changes) p ∙ ap (λ y. Write ts y n changes) q ∙ ap (λ y. Write ts of y changes) z)
-apply_may s l k w (Read a b c n e f) (Apply x j dm2 u) txn of dm ts h q = absurd h
-apply_may s l k w (Null a b) (Apply x j dm2 u) txn of dm ts h q = absurd h
-apply_may s l k w m (Apply x j dm2 u) txn of dm ts h q = absurd h
-apply_may s l k w m r txn of dm ts h q = cc
+apply_may s l k w m r txn of dm ts h q = grind arith
 
 pub apply_head : (s : Setting) (l : site.Log) (k : ℕ) (txn : TxnNo) (of : ClassNo) (dm : DmNo) (ts : Ts) (sends : List (Site × Msg))
     → IsReadStep s l (Records k (Apply txn of dm ts) sends) → (changes : List Change) × (head (pipe k l) ≡ Some (Write ts of txn changes))
 apply_head s l k txn of dm ts sends (in_passing e) = cc
 apply_head s l k txn of dm ts sends (by_wait j ds r ss lt p w i q e) = grind (arith, not_both)
 apply_head s l k txn of dm ts sends (by_record j m r ss lt p i may e) =
-    let same : Apply txn of dm ts ≡ r = cc in
     let at : k ≡ j = cc in
-    let x = apply_may s l j (waits j l) m r txn of dm ts may (sym same) in
+    let x = apply_may s l j (waits j l) m r txn of dm ts may (sym cc) in
     (x.0, subst (λ y. head (pipe y l) ≡ Some (Write ts of txn x.0)) (sym at) (i ∙ ap (λ y. Some y) x.1))
 
 pub apply_of_head : (g : Input) (log : Log) (d : DmNo) (k : ℕ) (txn : TxnNo) (of : ClassNo) (dm : DmNo) (ts : Ts) (sends : List (Site × Msg))
@@ -150,8 +141,7 @@ pub applied_below : (g : Input) (log : Log) (d : DmNo) (k : ℕ) (ts : Ts) (of :
     → IsPermitted g log → number_of (home g.catalogue k) ≤ 63 → head (pipe_at g k d log) ≡ Some (Write ts of txn changes) → IsApplied g log d k a → a.ts < ts.0
 applied_below g log d k ts of txn changes a h small e x =
     let l : site.Log = local_of g (D d) log in
-    let m = matched (setting_of g (D d)) k l (d_fair g d log h) in
-    let z = zip_back IsOf (results k l) (pipe k l).processed x.place x.rec m.matched x.there in
+    let z = zip_back IsOf (results k l) (pipe k l).processed x.place x.rec (matched (setting_of g (D d)) k l (d_fair g d log h)).matched x.there in
     let p = in_pipe g k d log h in
     let there : slice_get (class_puts g k d log) x.place ≡ Some z.0 = subst (λ ms. slice_get ms x.place ≡ Some z.0) (sym p.1)
     (processed_stays (pipe k l) p.0 x.place z.0 z.1) in
@@ -172,13 +162,8 @@ commit_put g c d later log bases a lo hi t =
     let act : Act = commit_act g.catalogue bases c a in
     let w : Msg = Write (time_at a.ts) (class_no c) (txn_no a.txn) (changes_to g bases a d) in
     let s = local_at g at later log (Does at act) (Did act) (own_made at act) in
-    let goes : (not (is_empty (changes_to g bases a d)) || (c == 0)) ≡ true = elim t [
-      | inl z ↦ or_right _ _ z
-      | inr n ↦ or_left _ _
-          (ap not (not_empty (changes_to g bases a d) n))
-    ] in
     let k = some_to (write_to g.catalogue c a (effect g.catalogue (bases a.ts) a.text).changes) 1 g.catalogue.dms d.0 w lo (omega arith)
-    (ap (λ b. cond b (to_module d.0 w) None) goes) in
+    (ap (λ b. cond b (to_module d.0 w) None) (elim t [ inl z ↦ or_right _ _ z | inr n ↦ or_left _ _ (ap not (not_empty (changes_to g bases a d) n)) ])) in
     let p = is_put (D d) s.0 act (local_of g at log) k.0 w k.1 in
     let there : slice_get (puts_to (D d) (local_of g at (later ++ Does at act ∷ log))) p.0 ≡ Some w = subst (λ l. slice_get (puts_to (D d) l) p.0 ≡ Some w)
     (sym s.1) p.1 in
@@ -195,7 +180,4 @@ around_applied g c d later log later2 log2 m bases a h small lo hi e same t =
     let found = commit_put g c d later2 log2 bases a lo hi t in
     let there : slice_get (class_puts g c d (later ++ log)) found.0 ≡ Some w = subst (λ x. slice_get (class_puts g c d x) found.0 ≡ Some w)
     (sym same) found.1 in
-    let r = around_head g c d later log found.0 w m h small e there in (
-      (λ lt. processed_applied g d c later log a found.0 (changes_to g bases a d) h there (r.0 lt)),
-      (λ lt x. let i = r.1 lt in let j = applied_processed g d c later log a found.0 a.txn (changes_to g bases a d) h small there x in absurd (omega arith)),
-    )
+    let r = around_head g c d later log found.0 w m h small e there in (grind (arith, processed_applied, changes_to, applied_processed))

@@ -1,42 +1,18 @@
 -- The log of a site after an entry, and the place of each of its entries in the log of everything.
-use Rattle.sdd_invariants.proofs.All.{Act, Bool, Did, Does, Era, Hand, Handed, Input, IsActAt, IsAt, IsHandAt, IsPermitted, IsSubmitAt, Mark, Msg, None, Option, Redeclared, Redeclares, Site, Some, Submits, Submitted, T, Tick, Ticked, Txn, U, [], ap, false, given_to, if◌then◌else◌, local_of, made, nth_era, redeclared_entry, redeclares, refl, same_site, subst, suc, sym, true, txn_at, with_era, with_made, with_submit, ℕ, ◌++◌, ◌∙◌, ◌∷◌, ◌≡◌}
+use Rattle.sdd_invariants.proofs.All.{Act, Bool, Did, Does, Era, Hand, Handed, Input, IsActAt, IsAt, IsHandAt, IsPermitted, IsSubmitAt, Msg, None, Option, Redeclared, Site, Some, Submits, Submitted, T, Txn, [], ap, arith, false, if◌then◌else◌, local_of, made, nth_era, redeclares, refl, same_site, subst, sym, true, txn_at, with_made, ℕ, ◌++◌, ◌∙◌, ◌∷◌, ◌≡◌}
 use Rattle.sdd_invariants.proofs.Bools.{not_both}
 use Rattle.sdd_invariants.proofs.Sites.{site_is, site_self}
 use Rattle.sdd_log.specs.All.{Log}
 use Rattle.sdd_log.specs.Entries.{Entry}
 use Rattle.sdd_log.specs.site_module.SiteLog as site
 
-submit_step : (n : ℕ) (o : Option Txn) (l : site.Log) → with_submit n o l ≡ with_made (given_to n o) l
-submit_step n None l = refl
-submit_step n (Some t) l = refl
-
-era_step : (at : Site) (era : Era) (t : ℕ) (l : site.Log) → with_era at era t l ≡ with_made (redeclared_entry at era t) l
-era_step U era t l = refl
-era_step _ era t l = refl
-
-if_step : (b : Bool) (o : Option site.Entry) (k l : site.Log) → k ≡ with_made o l → (if b then k else l) ≡ with_made (if b then o else None) l
-if_step true o k l e = e
-if_step false o k l e = refl
-
 pub local_step : (g : Input) (at : Site) (e : Entry) (log : Log) → local_of g at (e ∷ log) ≡ with_made (made g at log e) (local_of g at log)
-local_step g at (Mark (Tick t n)) log = if_step (same_site at (T t)) (Some (Ticked n)) (Ticked n ∷ local_of g at log) (local_of g at log) refl
-local_step g at (Redeclares t) log = era_step at (nth_era g (suc (redeclares log))) t (local_of g at log)
-local_step g at (Hand from to n m) log = if_step (same_site at to) (Some (Handed from m)) (Handed from m ∷ local_of g at log) (local_of g at log) refl
-local_step g at (Submitted to n) log =
-    if_step (same_site at to) (given_to n (txn_at g n)) (with_submit n (txn_at g n) (local_of g at log)) (local_of g at log)
-    (submit_step n (txn_at g n) (local_of g at log))
-local_step g at (Does by act) log = if_step (same_site at by) (Some (Did act)) (Did act ∷ local_of g at log) (local_of g at log) refl
-local_step g at _ log = refl
+local_step g at e log = grind (arith)
 
 -- what an entry that makes an act, a hand or a submission is
 
 some_if : {A : Type 0} (b : Bool) (x y : A) → (if b then Some x else None) ≡ Some y → (b ≡ true) × (x ≡ y)
-some_if true x y e = (refl, cc)
-some_if false x y e = cc
-
-some_of : (b : Bool) (o : Option site.Entry) (y : site.Entry) → (if b then o else None) ≡ Some y → (b ≡ true) × (o ≡ Some y)
-some_of true o y e = (refl, e)
-some_of false o y e = cc
+some_if b x y e = grind arith
 
 abbrev pub IsMakerOf : Site → site.Entry → Input → Entry → Type 0
 IsMakerOf at (Did act) g e = e ≡ Does at act
@@ -44,28 +20,11 @@ IsMakerOf at (Handed from m) g e = (n : ℕ) × (e ≡ Hand from at n m)
 IsMakerOf at (Submits n t) g e = (e ≡ Submitted at n) × (txn_at g n ≡ Some t)
 IsMakerOf at _ g e = Unit {0}
 
-maker_given : (g : Input) (at to : Site) (n : ℕ) (o : Option Txn) (x : site.Entry) → txn_at g n ≡ o → to ≡ at
-    → given_to n o ≡ Some x → IsMakerOf at x g (Submitted to n)
-maker_given g at to n None x f p e = cc
-maker_given g at to n (Some t) x f p e = let q : Submits n t ≡ x = cc in subst (λ y. IsMakerOf at y g (Submitted to n)) q (ap (λ s. Submitted s n) p, f)
-
-maker_redeclared : (g : Input) (at s : Site) (era : Era) (t u : ℕ) (x : site.Entry) → redeclared_entry at era t ≡ Some x → IsMakerOf s x g (Redeclares u)
-maker_redeclared g (T n) s era t u x e = let q : Redeclared era t ≡ x = cc in subst (λ y. IsMakerOf s y g (Redeclares u)) q tt
-maker_redeclared g _ s era t u x e = cc
-
 pub maker : (g : Input) (at : Site) (log : Log) (e : Entry) (x : site.Entry) → made g at log e ≡ Some x → IsMakerOf at x g e
-maker g at log (Mark (Tick t n)) x h = let r = some_if (same_site at (T t)) (Ticked n) x h in subst (λ y. IsMakerOf at y g (Mark (Tick t n))) r.1 tt
-maker g at log (Redeclares t) x h = maker_redeclared g at at (nth_era g (suc (redeclares log))) t t x h
 maker g at log (Hand from to n m) x h =
     let r = some_if (same_site at to) (Handed from m) x h in
     subst (λ y. IsMakerOf at y g (Hand from to n m)) r.1 (n, ap (λ s. Hand from s n m) (sym (site_is at to r.0)))
-maker g at log (Submitted to n) x h =
-    let r = some_of (same_site at to) (given_to n (txn_at g n)) x h in
-    maker_given g at to n (txn_at g n) x refl (sym (site_is at to r.0)) r.1
-maker g at log (Does by act) x h =
-    let r = some_if (same_site at by) (Did act) x h in
-    subst (λ y. IsMakerOf at y g (Does by act)) r.1 (ap (λ s. Does s act) (sym (site_is at by r.0)))
-maker g at log _ x h = cc
+maker g at log e x h = grind (arith, some_if, same_site, IsMakerOf, nth_era, redeclares, site_is)
 
 -- the place of an entry; the class list with which a transaction module begins has none
 
@@ -93,12 +52,9 @@ place_in : (g : Input) (at : Site) (e : Entry) (log : Log) (o : Option site.Entr
     → with_made o (local_of g at log) ≡ later ++ x ∷ before → IsAt g at (e ∷ log) x before
 place_in g at e log None later x before m i q = at_more g at e log x before (i later q)
 place_in g at e log (Some y) [] x before m i q =
-    let h : y ≡ x = cc in
     let t : local_of g at log ≡ before = cc in
-    record { later = []; entry = e; rest = log; is = refl; local_is = t; makes = m ∙ ap (λ z. Some z) h }
-place_in g at e log (Some y) (z ∷ later) x before m i q =
-    let t : local_of g at log ≡ later ++ x ∷ before = cc in
-    at_more g at e log x before (i later t)
+    record { later = []; entry = e; rest = log; is = refl; local_is = t; makes = m ∙ ap (λ z. Some z) cc }
+place_in g at e log (Some y) (z ∷ later) x before m i q = grind (arith, at_more)
 
 place : (g : Input) (at : Site) (log : Log) (later : site.Log) (x : site.Entry) (before : site.Log) → is_redeclared x ≡ false
     → local_of g at log ≡ later ++ x ∷ before → IsAt g at log x before
@@ -111,8 +67,7 @@ pub place_of_act : (g : Input) (at : Site) (log : Log) (later : site.Log) (act :
     → local_of g at log ≡ later ++ Did act ∷ before → IsActAt g at log act before
 place_of_act g at log later act before e =
     let i = place g at log later (Did act) before refl e in
-    let d = maker g at i.rest i.entry (Did act) i.makes in
-    record { later = i.later; rest = i.rest; is = i.is ∙ ap (λ x. i.later ++ x ∷ i.rest) d; local_is = i.local_is }
+    record { later = i.later; rest = i.rest; is = i.is ∙ ap (λ x. i.later ++ x ∷ i.rest) (maker g at i.rest i.entry (Did act) i.makes); local_is = i.local_is }
 
 pub place_of_hand : (g : Input) (at : Site) (log : Log) (later : site.Log) (from : Site) (m : Msg) (before : site.Log)
     → local_of g at log ≡ later ++ Handed from m ∷ before → IsHandAt g at log from m before

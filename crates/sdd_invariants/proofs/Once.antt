@@ -1,5 +1,5 @@
 -- An attempt has at most one Answer at a module.
-use Rattle.sdd_invariants.proofs.All.{Act, Answer, Bool, ClassNo, Cond, D, Did, DmNo, Does, Each, Handed, Input, IsFair, IsNew, IsPermitted, List, Msg, Pipe, Queued, Read, Records, Setting, Site, Some, Ts, TxnNo, Use, [], ap, append_assoc, arith, class_puts, head, head_of, head_processed, home, if◌then◌else◌, inl, inr, length, length-append, local_of, next_stamp, number_of, pipe, pipe_acted, pipe_at, queue, read_at, refl, setting_of, slice_get, start_at, start_more, starts_of, subst, suc, sym, true, ℕ, ◌++◌, ◌==◌, ◌∙◌, ◌∷◌, ◌≡◌, ◌≤◌}
+use Rattle.sdd_invariants.proofs.All.{Act, Answer, ClassNo, Cond, D, Did, DmNo, Does, Each, Input, IsFair, IsNew, IsPermitted, List, Msg, Pipe, Queued, Read, Records, Setting, Site, Some, Ts, TxnNo, Use, [], ap, append_assoc, arith, class_puts, head, head_of, home, inl, inr, length, length-append, local_of, next_stamp, number_of, pipe, pipe_at, queue, read_at, refl, setting_of, slice_get, start_at, start_more, starts_of, subst, suc, sym, true, ℕ, ◌++◌, ◌==◌, ◌∙◌, ◌∷◌, ◌≡◌, ◌≤◌}
 use Rattle.sdd_invariants.proofs.Places.{compare}
 use Rattle.sdd_invariants.proofs.Recorded.{head_left}
 use Rattle.sdd_invariants.proofs.Processed.{own_record, processed_handed, processed_more}
@@ -26,41 +26,25 @@ later_try : (s : Setting) (c : ℕ) (z b1 b2 : site.Log) (q1 q2 : Queued) → Ea
     → Each IsNew b2 → head_of (queue s c b1) ≡ Some q1 → head_of (queue s c b2) ≡ Some q2 → q1.number ≡ q2.number
     → q1.tries ≡ q2.tries → b2 ≡ z ++ Did (start_at s c b1 q1) ∷ b1 → ⊥
 later_try s c z b1 b2 q1 q2 f1 n1 f2 n2 e1 e2 n t p =
-    let h1 = (head_left s c b1 q1 f1 n1 e1).tries_are in
     let h2 = (head_left s c b2 q2 f2 n2 e2).tries_are in
     let one : starts_of c q1.number (Did (start_at s c b1 q1) ∷ b1) ≡ suc (starts_of c q1.number b1) = rw (same_number c, same_number q1.number) refl in
     let g = starts_grow c q1.number z (Did (start_at s c b1 q1) ∷ b1) in
     let same : starts_of c q2.number b2 ≡ starts_of c q1.number (z ++ Did (start_at s c b1 q1) ∷ b1) = (λ i. starts_of c (sym n i) (p i)) in
-    omega arith
+    omega (arith, (head_left s c b1 q1 f1 n1 e1).tries_are)
 
 same_try : (s : Setting) (c : ℕ) (l1 l2 b1 b2 : site.Log) (q1 q2 : Queued) → Each (IsFair s) b1 → Each IsNew b1
     → Each (IsFair s) b2 → Each IsNew b2 → head_of (queue s c b1) ≡ Some q1 → head_of (queue s c b2) ≡ Some q2 → q1.number ≡ q2.number → q1.tries ≡ q2.tries
     → l1 ++ Did (start_at s c b1 q1) ∷ b1 ≡ l2 ++ Did (start_at s c b2 q2) ∷ b2 → b1 ≡ b2
 same_try s c l1 l2 b1 b2 q1 q2 f1 n1 f2 n2 e1 e2 n t p = elim (compare l1 l2 (Did (start_at s c b1 q1)) (Did (start_at s c b2 q2)) b1 b2 p) [
   | inl r ↦ r.0
-  | inr r ↦ elim r [
-    | inl u ↦ absurd (later_try s c u.between b1 b2 q1 q2 f1 n1 f2 n2 e1 e2 n t u.is)
-    | inr u ↦ absurd (later_try s c u.between b2 b1 q2 q1 f2 n2 f1 n1 e2 e1 (sym n) (sym t) u.is)
-  ]
+  | inr r ↦ grind (arith, later_try)
 ]
 
 -- what is processed only grows
 
-processed_if : (b : Bool) (p : Pipe) → length p.processed ≤ length (if b then head_processed p else p).processed
-processed_if b p = grind (arith, length-append, head)
-
-processed_act : (c : ℕ) (act : Act) (p : Pipe) → length p.processed ≤ length (pipe_acted c act p).processed
-processed_act c act p = grind (arith, processed_if)
-
 pub processed_grows : (c : ℕ) (later log : site.Log) → length (pipe c log).processed ≤ length (pipe c (later ++ log)).processed
 processed_grows c [] log = omega arith
-processed_grows c (Handed from m ∷ later) log = grind (arith, processed_handed, processed_grows c later log)
-processed_grows c (Did act ∷ later) log = let i = processed_grows c later log in let j = processed_act c act (pipe c (later ++ log)) in omega arith
-processed_grows c (_ ∷ later) log = processed_grows c later log
-
-read_own : (c : ℕ) (ts : Ts) (k : ClassNo) (txn : TxnNo) (n : ℕ) (ds : List Cond) (us : List Use) (t : ℕ) → k.0 ≡ c → ts.0 ≡ t
-    → read_at c (Read ts k txn n ds us) ≡ Some t
-read_own c ts k txn n ds us t e f = let q : (k.0 == c) ≡ true = ap (λ y. y == c) e ∙ same_number c in rw q (ap (λ y. Some y) f)
+processed_grows c (e ∷ later) log = grind (arith, processed_handed, length-append, head, pipe, (processed_grows c later log))
 
 -- a READ that is answered doesn't stand at the head again: an Answer, and behind it a READ with the same timestamp
 pub answered_there : (g : Input) (c : ℕ) (d : DmNo) (later before : Log) (dm : DmNo) (sends : List (Site × Msg)) (ts1 ts2 : Ts) (k1 k2 : ClassNo) (txn txn1 txn2 : TxnNo) (n n1 n2 : ℕ) (ds1 ds2 : List Cond) (us1 us2 : List Use)
@@ -81,16 +65,14 @@ answered_there g c d later before dm sends ts1 ts2 k1 k2 txn txn1 txn2 n n1 n2 d
     (λ l. slice_get (class_puts g c d l) (length (pipe_at g c d before).processed) ≡ Some m1) (sym part) (head_place g c d front before m1 hb e1) in
     let at2 : slice_get (class_puts g c d log) (length (pipe_at g c d log).processed) ≡ Some m2 = head_place g c d [] log m2 h e2 in
     let one = one_of_key (read_at c) (class_puts g c d log) (length (pipe_at g c d before).processed) (length (pipe_at g c d log).processed) m1 m2 ts2.0
-    (reads_strict g c d log h small) at1 at2 (read_own c ts1 k1 txn1 n1 ds1 us1 ts2.0 r1.0 ts) (read_own c ts2 k2 txn2 n2 ds2 us2 ts2.0 r2.0 refl) in
+    (reads_strict g c d log h small) at1 at2 (let q : (k1.0 == c) ≡ true = ap (λ y. y == c) r1.0 ∙ same_number c in rw q (ap (λ y. Some y) ts)) (let q : (k2.0 == c) ≡ true = ap (λ y. y == c) r2.0 ∙ same_number c in rw q (ap (λ y. Some y) refl)) in
     let x = local_grows g (D d) later (Does (D d) ans ∷ before) in
     let b : site.Log = local_of g (D d) before in
     let l : local_of g (D d) log ≡ x.0 ++ Did ans ∷ b = x.1 ∙ ap (λ y. x.0 ++ y) (own_act g (D d) ans before) in
     let grows = processed_grows c x.0 (Did ans ∷ b) in
-    let up : length (pipe c (Did ans ∷ b)).processed ≡ length ((pipe c b).processed ++ m1 ∷ []) = ap (λ (p : Pipe). length p.processed)
-    (own_record c (Answer txn n dm) sends b refl).0 ∙ ap length (processed_more (pipe c b) m1 e1) in
     let more = length-append (pipe c b).processed (m1 ∷ []) in
     let now : length (pipe c (local_of g (D d) log)).processed ≡ length (pipe c (x.0 ++ Did ans ∷ b)).processed = ap (λ y. length (pipe c y).processed) l in
-    omega arith
+    omega (arith, ap (λ (p : Pipe). length p.processed) (own_record c (Answer txn n dm) sends b refl).0 ∙ ap length (processed_more (pipe c b) m1 e1))
 
 -- an Answer to a READ, and behind it a head with the READ of the same transaction and attempt
 pub answered_once : (g : Input) (c : ℕ) (d : DmNo) (later before : Log) (dm : DmNo) (sends : List (Site × Msg)) (ts1 ts2 : Ts) (k1 k2 : ClassNo) (txn1 txn2 : TxnNo) (n1 n2 : ℕ) (ds1 ds2 : List Cond) (us1 us2 : List Use)
@@ -104,7 +86,6 @@ answered_once g c d later before dm sends ts1 ts2 k1 k2 txn1 txn2 n1 n2 ds1 ds2 
     let ans : Act = Records c (Answer txn1 n1 dm) sends in
     let log : Log = later ++ Does (D d) ans ∷ before in
     let front : Log = later ++ Does (D d) ans ∷ [] in
-    let part : log ≡ front ++ before = sym (append_assoc later (Does (D d) ans ∷ []) before) in
     let hb : IsPermitted g before = (permitted_before g later (Does (D d) ans ∷ before) h).1 in
     let r1 = read_of g c d before ts1 k1 txn1 n1 ds1 us1 hb e1 in
     let r2 = read_of g c d log ts2 k2 txn2 n2 ds2 us2 h e2 in
@@ -112,7 +93,7 @@ answered_once g c d later before dm sends ts1 ts2 k1 k2 txn1 txn2 n1 n2 ds1 ds2 
     let o2 = r2.1 in
     let a1 : Act = start_at s c (local_of g at o1.before) o1.queued in
     let a2 : Act = start_at s c (local_of g at o2.before) o2.queued in
-    let w1 : log ≡ (front ++ o1.later) ++ Does at a1 ∷ o1.before = part ∙ ap (λ l. front ++ l) o1.is
+    let w1 : log ≡ (front ++ o1.later) ++ Does at a1 ∷ o1.before = (sym (append_assoc later (Does (D d) ans ∷ []) before)) ∙ ap (λ l. front ++ l) o1.is
     ∙ sym (append_assoc front o1.later (Does at a1 ∷ o1.before)) in
     let x1 = local_grows g at (front ++ o1.later) (Does at a1 ∷ o1.before) in
     let x2 = local_grows g at o2.later (Does at a2 ∷ o2.before) in

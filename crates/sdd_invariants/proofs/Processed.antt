@@ -1,5 +1,5 @@
 -- The records of a pipe belong to its messages, in order.
-use Rattle.sdd_invariants.proofs.All.{Act, AllZip, Answer, Apply, Bool, Cond, Did, Each, Handed, IsClassHere, IsDueEach, IsMatched, IsOf, IsReadStep, IsReadWith, List, Log, May, Msg, None, Null, Pass, Pipe, Read, Rec, Records, Rejected, Sends, Setting, Site, Some, View, Write, [], ap, by_record, by_wait, false, goes_through, head, head_processed, if◌then◌else◌, in_passing, inl, inr, is_moving, is_processing, is_wait, one_or_none, pipe, put, refl, results, slice_get, spoiler, subst, suc, sym, true, view_of, waits, zero, ℕ, ◌&&◌, ◌++◌, ◌==◌, ◌∙◌, ◌∷◌, ◌≡◌, ◌⊎◌}
+use Rattle.sdd_invariants.proofs.All.{Act, AllZip, Bool, Cond, Did, Each, Handed, IsClassHere, IsDueEach, IsMatched, IsOf, IsReadStep, IsReadWith, List, Log, May, Msg, None, Pipe, Rec, Records, Setting, Site, Some, [], ap, arith, by_record, by_wait, false, head, head_processed, in_passing, inl, inr, is_moving, is_processing, is_wait, one_or_none, pipe, refl, results, slice_get, spoiler, subst, suc, sym, true, view_of, waits, ℕ, ◌&&◌, ◌++◌, ◌==◌, ◌∙◌, ◌∷◌, ◌≡◌, ◌⊎◌}
 use Rattle.sdd_invariants.proofs.AreReadSteps.{d_step}
 use Rattle.sdd_invariants.proofs.Bools.{if_way, neither_left, neither_right, same_number, same_or_not}
 
@@ -20,25 +20,15 @@ pub record IsSame (c : ℕ) (log more : Log) : Type 0 where
   pub pipe_same : pipe c more ≡ pipe c log
   pub results_same : results c more ≡ results c log
 
-same_of : (c k : ℕ) (b : Bool) (r : Rec) (sends : List (Site × Msg)) (log : Log) → ((k == c) && is_processing r) ≡ false
-    → IsSame c log (Did (Records k r sends) ∷ log)
-same_of c k b r sends log e = record { pipe_same = rw e refl; results_same = rw e refl }
-
 pub and_false : (a : Bool) → (a && false) ≡ false
-and_false true = refl
-and_false false = refl
+and_false a = grind arith
 
 pub not_own : (c k : ℕ) (r : Rec) (sends : List (Site × Msg)) (log : Log) → ((k == c) ≡ false) ⊎ (is_processing r ≡ false)
     → IsSame c log (Did (Records k r sends) ∷ log)
-not_own c k r sends log (inl e) = same_of c k true r sends log (rw e refl)
-not_own c k r sends log (inr e) = same_of c k true r sends log (rw e (and_false (k == c)))
+not_own c k r sends log h6 = grind (arith, and_false)
 
 pub passing : (c : ℕ) (act : Act) (log : Log) → is_moving act ≡ false → IsSame c log (Did act ∷ log) × (waits c (Did act ∷ log) ≡ waits c log)
-passing c (Sends to m hand) log e = (record { pipe_same = refl; results_same = refl }, refl)
-passing c (Records k r sends) log e =
-    let p : is_processing r ≡ false = neither_left (is_processing r) (is_wait r) e in
-    let w : is_wait r ≡ false = neither_right (is_processing r) (is_wait r) e in
-    (not_own c k r sends log (inr p), rw (p, w) (if_way (λ b. b ≡ waits c log) (k == c) (waits c log) (waits c log) refl refl))
+passing c act log e = grind (arith, neither_left, neither_right, not_own, if_way)
 
 pub own_record : (c : ℕ) (r : Rec) (sends : List (Site × Msg)) (log : Log) → is_processing r ≡ true
     → (pipe c (Did (Records c r sends) ∷ log) ≡ head_processed (pipe c log)) × (results c (Did (Records c r sends) ∷ log) ≡ results c log ++ r ∷ [])
@@ -48,25 +38,13 @@ own_record c r sends log e = (rw (same_number c, e) refl, rw (same_number c, e) 
 pub processed_more : (p : Pipe) (m : Msg) → head p ≡ Some m → (head_processed p).processed ≡ p.processed ++ m ∷ []
 processed_more p m e = ap (λ o. p.processed ++ one_or_none o) e
 
--- a hand leaves what is processed
-processed_if : (b : Bool) (m : Msg) (p : Pipe) → (if b then put m p else p).processed ≡ p.processed
-processed_if true m p = refl
-processed_if false m p = refl
-
 pub processed_handed : (c : ℕ) (from : Site) (m : Msg) (log : Log) → (pipe c (Handed from m ∷ log)).processed ≡ (pipe c log).processed
-processed_handed c from m log = processed_if (goes_through c m) m (pipe c log)
+processed_handed c from m log = (grind arith)
 
 zip_push : {A B : Type 0} (R : A → B → Type 0) (xs : List A) (ys : List B) (x : A) (y : B) → AllZip R xs ys → R x y → AllZip R (xs ++ x ∷ []) (ys ++ y ∷ [])
 zip_push R [] [] x y h r = (r, tt)
 zip_push R (a ∷ xs) (b ∷ ys) x y h r = (h.0, zip_push R xs ys x y h.1 r)
 zip_push R _ _ x y h r = absurd h
-
-may_is : (v : View) (c : ℕ) (w : Bool) (m : Msg) (r : Rec) → May v c w m r → IsOf r m
-may_is v c w (Read ts k txn attempt conds uses) (Answer t a dm) h = (h.0, h.1)
-may_is v c w (Read ts k txn attempt conds uses) (Rejected t a dm by x) h = (h.0, h.1)
-may_is v c w (Write ts k txn changes) (Apply t j dm x) h = (h.0, h.1, h.2)
-may_is v c w (Null k time) (Pass j dm t) h = h
-may_is v c w m r h = absurd h
 
 matched_as : (c : ℕ) (log more : Log) → results c more ≡ results c log → (pipe c more).processed ≡ (pipe c log).processed → IsMatched c log → IsMatched c more
 matched_as c log more r q h =
@@ -81,7 +59,7 @@ matched_own s c m r sends log p e i h =
     let o = own_record c r sends log p in
     let d : (pipe c (Did (Records c r sends) ∷ log)).processed ≡ (pipe c log).processed ++ m ∷ [] = ap (λ q. q.processed) o.0
     ∙ processed_more (pipe c log) m e in
-    record { matched = rw (o.1, d) (zip_push IsOf (results c log) (pipe c log).processed r m h.matched (may_is (view_of s log) c (waits c log) m r i)) }
+    record { matched = rw (o.1, d) (zip_push IsOf (results c log) (pipe c log).processed r m h.matched (grind arith)) }
 
 pub matched : (s : Setting) (c : ℕ) (log : Log) → Each (IsDueEach s) log → IsMatched c log
 matched s c [] h = record { matched = tt }
@@ -100,14 +78,10 @@ matched s c (x ∷ log) h = matched_as c log (x ∷ log) refl refl (matched s c 
 -- the k-th record with the k-th message
 pub zip_at : {A B : Type 0} (R : A → B → Type 0) (xs : List A) (ys : List B) (k : ℕ) (y : B) → AllZip R xs ys
     → slice_get ys k ≡ Some y → (x : A) × (slice_get xs k ≡ Some x) × R x y
-zip_at R [] [] k y h e = cc
-zip_at R (a ∷ xs) (b ∷ ys) zero y h e = (a, refl, (let p : b ≡ y = cc in subst (R a) p h.0))
 zip_at R (a ∷ xs) (b ∷ ys) (suc k) y h e = zip_at R xs ys k y h.1 e
-zip_at R _ _ k y h e = absurd h
+zip_at R xs ys k y h e = grind arith
 
 pub zip_back : {A B : Type 0} (R : A → B → Type 0) (xs : List A) (ys : List B) (k : ℕ) (x : A) → AllZip R xs ys
     → slice_get xs k ≡ Some x → (y : B) × (slice_get ys k ≡ Some y) × R x y
-zip_back R [] [] k x h e = cc
-zip_back R (a ∷ xs) (b ∷ ys) zero x h e = (b, refl, (let p : a ≡ x = cc in subst (λ z. R z b) p h.0))
 zip_back R (a ∷ xs) (b ∷ ys) (suc k) x h e = zip_back R xs ys k x h.1 e
-zip_back R _ _ k x h e = absurd h
+zip_back R xs ys k x h e = grind arith

@@ -1,5 +1,5 @@
 -- Who puts what at a data module.
-use Rattle.sdd_invariants.proofs.All.{Act, Apply, Bool, Change, ClassNo, ClassView, Cond, Did, Done, Each, Entry, Fetch, Handed, Home, IsClassHere, IsDue, IsDueEach, IsFetch, IsPutByD, IsReduce, IsShip, List, Log, Msg, None, Null, Open, Option, Processes, Read, Records, Reduce, Setting, Ship, Site, Some, Ts, TxnNo, U, Use, WasAsked, Write, [], act_by, act_where, answer_of, answer_to, ap, arith, ask_for, by_head, by_open, class_asked, eqb-true, false, filter, hands, head, head_due, head_of, home_of, if◌then◌else◌, inl, inr, is_asked_of, is_held, is_met, is_some, judged, lacking, list_all, map, not, opens, opens_acted, pipe, piped, puts_to, refl, same_site, sends_of_act, slice_get, spoiler, step_on, subst, suc, sym, to_site, true, view_of, waits, zero, ℕ, ◌++◌, ◌==◌, ◌∷◌, ◌≡◌, ◌⊎◌}
+use Rattle.sdd_invariants.proofs.All.{Act, Apply, Bool, Change, ClassNo, ClassView, Cond, Did, Done, Each, Entry, Handed, Home, IsClassHere, IsDue, IsDueEach, IsPutByD, List, Log, Msg, None, Open, Option, Processes, Read, Records, Setting, Site, Some, Ts, TxnNo, U, Use, WasAsked, Write, [], act_by, act_where, answer_of, answer_to, ap, arith, ask_for, by_head, by_open, class_asked, eqb-true, false, filter, hands, head, head_of, home_of, if◌then◌else◌, inl, inr, is_asked_of, is_held, is_met, is_some, judged, lacking, list_all, map, not, opens, opens_acted, pipe, piped, puts_to, refl, same_site, sends_of_act, slice_get, spoiler, step_on, subst, suc, to_site, true, view_of, waits, zero, ℕ, ◌++◌, ◌==◌, ◌∷◌, ◌≡◌, ◌⊎◌}
 use Rattle.sdd_invariants.proofs.AreReadSteps.{class_at_place}
 use Rattle.sdd_invariants.proofs.Lists.{in_either, in_filtered, in_one}
 use Rattle.sdd_invariants.proofs.Sites.{site_is, the_one}
@@ -37,22 +37,12 @@ was_handed (Handed from m ∷ log) k o e = elim (open_in (suc (hands log)) from 
 was_handed (Did act ∷ log) k o e = let i = acted_in act (opens log) k o e in more_asked log (Did act) o.from (IsMsg o.msg) (was_handed log i.0 o i.1)
 was_handed (x ∷ log) k o e = more_asked log x o.from (IsMsg o.msg) (was_handed log k o e)
 
-asked_at : (log : Log) (b from : Site) (P : Msg → Type 0) (m : Msg) → b ≡ from → WasAsked log from (IsMsg m) → P m → WasAsked log b P
-asked_at log b from P m e h p =
-    record { asked = h.asked; later = h.later; before = h.before; is = subst (λ x. log ≡ h.later ++ Handed x h.asked ∷ h.before) (sym e) h.is; fits = subst P (sym h.fits) p }
-
 -- the answer to an open message
 
 by_open_one : (s : Setting) (log : Log) (h : Home) (k : ClassView) (o : Open) (m : Msg) (a : Act) → WasAsked log o.from (IsMsg m)
     → answer_to h k o m ≡ Some a → PutsBy s log a
 by_open_one s log h k o (Read ts class txn attempt conds uses) a w e = puts_some s log _ a (λ b j x q. cc) e
-by_open_one s log h k o (Fetch ts class u col) a w e = puts_some s log _ a
-    (λ b j x q. let i = the_one b o.from _ j x q in subst (IsPutByD s log b _) i.1 (asked_at log b o.from (IsFetch ts class u) (Fetch ts class u col) i.0 w (col, refl))) e
-by_open_one s log h k o (Reduce ts class u col vs) a w e = puts_some s log _ a
-    (λ b j x q. let i = the_one b o.from _ j x q in subst (IsPutByD s log b _) i.1 (asked_at log b o.from (IsReduce ts class u) (Reduce ts class u col vs) i.0 w (col, vs, refl))) e
-by_open_one s log h k o (Ship ts class) a w e = puts_some s log _ a
-    (λ b j x q. let i = the_one b o.from _ j x q in subst (IsPutByD s log b _) i.1 (asked_at log b o.from (IsShip ts class) (Ship ts class) i.0 w refl)) e
-by_open_one s log h k o _ a w e = cc
+by_open_one s log h k o m a w e = grind (arith, puts_some, the_one)
 
 pub first_there : (os : List Open) (o : Open) → head_of os ≡ Some o → slice_get os 0 ≡ Some o
 first_there os o e = grind arith
@@ -85,9 +75,7 @@ in_map f b (d ∷ ds) k m e = elim (same_site b (f d).0) as
 ask_by : (s : Setting) (log : Log) (c : ℕ) (ts : Ts) (class : ClassNo) (txn : TxnNo) (attempt : ℕ) (conds : List Cond) (uses : List Use) (lacking : List Cond) (b : Site) (x : Msg) (i : ℕ) (d : Cond) (act : Act)
     → IsClassHere s c → head (pipe c log) ≡ Some (Read ts class txn attempt conds uses)
     → lacking ≡ filter (λ d. not (is_met (view_of s log) d)) conds → slice_get lacking i ≡ Some d → ask_for (home_of s) d ≡ (b, x) → IsPutByD s log b act x
-ask_by s log c ts class txn attempt conds uses lacking b x i d act l h f e p =
-    let r = in_filtered (λ d. not (is_met (view_of s log) d)) conds i d (subst (λ ds. slice_get ds i ≡ Some d) f e) in
-    grind arith
+ask_by s log c ts class txn attempt conds uses h10 b x i d act l h f e p = grind (arith, in_filtered, slice_get)
 
 by_judged : (s : Setting) (log : Log) (c : ℕ) (ts : Ts) (class : ClassNo) (txn : TxnNo) (attempt : ℕ) (conds : List Cond) (uses : List Use) (lacking : List Cond) (by : Option Cond) (a : Act)
     → IsClassHere s c → waits c log ≡ false → head (pipe c log) ≡ Some (Read ts class txn attempt conds uses)
@@ -96,58 +84,40 @@ by_judged : (s : Setting) (log : Log) (c : ℕ) (ts : Ts) (class : ClassNo) (txn
 by_judged s log c ts class txn attempt conds uses lacking (Some d) a l w h q f e = puts_some s log _ a
     (λ b j x r. let i = the_one b _ _ j x r in subst (IsPutByD s log b _) i.1
     (record { class = c; txn = txn; attempt = attempt; conds = conds; uses = uses; here = l; head_is = h; waits_not = w; cond_by = d; spoiler_is = q; by_is = refl; write_is = refl; act_is = refl; to_is = i.0 })) e
-by_judged s log c ts class txn attempt conds uses [] None a l w h q f e = puts_some s log _ a
-    (λ b j x r. let i = the_one b _ _ j x r in subst (IsPutByD s log b _) i.1
-    (record { class = c; txn = txn; attempt = attempt; conds = conds; uses = uses; here = l; head_is = h; act_is = refl; to_is = i.0; counts_are = refl })) e
+by_judged s log c ts class txn attempt conds uses [] None a l w h q f e = grind (arith, puts_some, the_one)
 by_judged s log c ts class txn attempt conds uses (d ∷ ds) None a l w h q f e = puts_some s log _ a
     (λ b j x r. let i = in_map (ask_for (home_of s)) b (d ∷ ds) j x r in ask_by s log c ts class txn attempt conds uses (d ∷ ds) b x i.0 i.1 _ l h f i.2 i.3) e
-
-suc_not_zero : (c : ℕ) → (suc c == 0) ≡ true → ⊥
-suc_not_zero c e = let p : suc c ≡ 0 = eqb-true (suc c) 0 e in omega arith
 
 by_done : (s : Setting) (log : Log) (c : ℕ) (z : Bool) (ts : Ts) (class : ClassNo) (txn : TxnNo) (changes : List Change)
     → (c == 0) ≡ z → head (pipe c log) ≡ Some (Write ts class txn changes)
     → PutsBy s log (Records c (Apply txn class (home_of s).dm ts) (if z then (U, Done ts) ∷ [] else []))
 by_done s log zero true ts class txn changes z h b j x r = grind (arith, the_one)
-by_done s log (suc c) true ts class txn changes z h b j x r = absurd (suc_not_zero c z)
+by_done s log (suc c) true ts class txn changes z h b j x r = absurd (let p : suc c ≡ 0 = eqb-true (suc c) 0 z in omega arith)
 by_done s log c false ts class txn changes z h b j x r = cc
 
 by_write : (s : Setting) (log : Log) (c : ℕ) (held : Bool) (ts : Ts) (class : ClassNo) (txn : TxnNo) (changes : List Change) (a : Act)
     → head (pipe c log) ≡ Some (Write ts class txn changes)
     → act_where (home_of s) (view_of s log) c (Some (Write ts class txn changes)) (if held then None else Some Processes) ≡ Some a → PutsBy s log a
-by_write s log c true ts class txn changes a h e = cc
-by_write s log c false ts class txn changes a h e = puts_some s log _ a (by_done s log c (c == 0) ts class txn changes refl h) e
+by_write s log c held ts class txn changes a h e = grind (arith, puts_some, by_done)
 
 by_waited : (s : Setting) (log : Log) (c : ℕ) (met : Bool) (ts : Ts) (class : ClassNo) (txn : TxnNo) (attempt : ℕ) (conds : List Cond) (uses : List Use) (a : Act)
     → IsClassHere s c → head (pipe c log) ≡ Some (Read ts class txn attempt conds uses)
     → act_where (home_of s) (view_of s log) c (Some (Read ts class txn attempt conds uses)) (if met then Some Processes else None) ≡ Some a → PutsBy s log a
-by_waited s log c true ts class txn attempt conds uses a l h e = puts_some s log _ a
-    (λ b j x r. let i = the_one b _ _ j x r in subst (IsPutByD s log b _) i.1
-    (record { class = c; txn = txn; attempt = attempt; conds = conds; uses = uses; here = l; head_is = h; act_is = refl; to_is = i.0; counts_are = refl })) e
-by_waited s log c false ts class txn attempt conds uses a l h e = cc
+by_waited s log c met ts class txn attempt conds uses a l h e = grind (arith, puts_some, the_one)
 
 by_on : (s : Setting) (log : Log) (c : ℕ) (w : Bool) (m : Msg) (a : Act) → IsClassHere s c → waits c log ≡ w → head (pipe c log) ≡ Some m
     → act_where (home_of s) (view_of s log) c (Some m) (step_on (view_of s log) c w (Some m)) ≡ Some a → PutsBy s log a
-by_on s log c true (Null class time) a l i h e = puts_some s log _ a (λ b j x q. cc) e
-by_on s log c false (Null class time) a l i h e = puts_some s log _ a (λ b j x q. cc) e
-by_on s log c true (Write ts class txn changes) a l i h e = by_write s log c (is_held (view_of s log) c ts.0 changes) ts class txn changes a h e
-by_on s log c false (Write ts class txn changes) a l i h e = by_write s log c (is_held (view_of s log) c ts.0 changes) ts class txn changes a h e
-by_on s log c true (Read ts class txn attempt conds uses) a l i h e =
-    by_waited s log c (list_all (is_met (view_of s log)) conds) ts class txn attempt conds uses a l h e
 by_on s log c false (Read ts class txn attempt conds uses) a l i h e = by_judged s log c ts class txn attempt conds uses _ _ a l i h refl refl e
-by_on s log c _ _ a l i h e = cc
+by_on s log c w m a l i h e = grind (arith, puts_some, by_write, is_held, view_of, by_waited, list_all, is_met)
 
 by_head_of : (s : Setting) (log : Log) (c : ℕ) (o : Option Msg) (a : Act) → IsClassHere s c → head (pipe c log) ≡ o
     → act_where (home_of s) (view_of s log) c o (step_on (view_of s log) c (waits c log) o) ≡ Some a → PutsBy s log a
-by_head_of s log c None a l h e = cc
-by_head_of s log c (Some m) a l h e = by_on s log c (waits c log) m a l refl h e
+by_head_of s log c o a l h e = grind (arith, by_on)
 
 pub put_by_d : (s : Setting) (log : Log) (act : Act) → IsDue (home_of s) (view_of s log) act → (b : Site) (k : ℕ) (m : Msg)
     → slice_get (to_site b (sends_of_act act)) k ≡ Some m → IsPutByD s log b act m
 put_by_d s log act (by_open n k p e) = by_asked s log (home_of s) k (head_of (filter (is_asked_of k.class) (opens log))) act refl e
-put_by_d s log act (by_head n k p e) =
-    let r = class_at_place s log n k p in
-    by_head_of s log r.0 (head (pipe r.0 log)) act r.1 refl (subst (λ x. head_due (home_of s) (view_of s log) x ≡ Some act) (sym r.2) e)
+put_by_d s log act (by_head n k p e) = grind (arith, class_at_place, by_head_of)
 
 -- a data module puts nothing that goes through a pipe
 not_piped : (s : Setting) (log : Log) (b : Site) (act : Act) (m : Msg) → IsPutByD s log b act m → piped m ≡ None

@@ -1,10 +1,10 @@
 -- Once an attempt awaits no READY any more, a READY for it was handed from each of its modules. It rests on this, that each
 -- answer of an exchange comes after a question.
-use Rattle.sdd_invariants.proofs.All.{Act, AllReadied, AreReady, Attempt, Bases, Bool, Catalogue, Change, ClassNo, D, Did, DmNo, Each, Entry, Exchange, Handed, IsFair, IsHonest, IsSend, IsStep, List, Log, Msg, None, Option, Phase, Queued, Ready, Reduced, Rows, Sends, Setting, Site, Some, Submits, Ts, Values, [], a_held, a_hold, a_null, a_release, active, active_handed, active_sent, after_hand, answered, ap, arith, asks_in, asks_rows, begins, both, commit_act, cond, contains, counted, counts, dm_no, eqb-true, false, filter_map, firsts, if◌then◌else◌, inl, inr, is_over, is_reading, is_ready, lacking, last_stamp, length, map, module_read, modules_asked, neither, next_stamp, not, of_exchange, or_left, or_right, refl, rejects, same_site, sends_of_act, site_d, stamp_or, start_at, start_read, started, subst, sym, true, was_asked, was_ready, with_values, without, write_to, ℕ, ◌&&◌, ◌++◌, ◌+◌, ◌==◌, ◌||◌, ◌∙◌, ◌∷◌, ◌≡◌, ◌≤◌, ◌⊎◌}
+use Rattle.sdd_invariants.proofs.All.{Act, AllReadied, AreReady, Attempt, Bool, ClassNo, D, Did, DmNo, Each, Entry, Exchange, Handed, IsFair, IsHonest, IsSend, IsStep, List, Log, Msg, None, Option, Queued, Ready, Reduced, Rows, Sends, Setting, Site, Some, Submits, Ts, Values, [], active, active_handed, active_sent, after_hand, answered, ap, arith, asks_in, asks_rows, begins, both, commit_act, cond, contains, counted, counts, dm_no, eqb-true, false, filter_map, firsts, if◌then◌else◌, inl, inr, is_over, is_reading, is_ready, last_stamp, length, map, module_read, modules_asked, neither, next_stamp, not, or_left, or_right, refl, same_site, sends_of_act, site_d, stamp_or, start_at, start_read, started, subst, sym, true, was_asked, was_ready, with_values, without, ℕ, ◌&&◌, ◌++◌, ◌+◌, ◌==◌, ◌||◌, ◌∙◌, ◌∷◌, ◌≡◌, ◌≤◌, ◌⊎◌}
 use Rattle.sdd_invariants.proofs.Clocks.{drawn, stamp_rises}
 use Rattle.sdd_invariants.proofs.Active.{step_way}
 use Rattle.sdd_invariants.proofs.Bools.{and_left, and_right, if_way, not_both, only_right, same_number, same_or_not}
-use Rattle.sdd_invariants.proofs.Exchanges.{GoesOn, answered_goes, hand_goes, never}
+use Rattle.sdd_invariants.proofs.Exchanges.{answered_goes, hand_goes, never}
 use Rattle.sdd_invariants.proofs.Sites.{site_self}
 
 either : (a b : Bool) → (a || b) ≡ true → (a ≡ true) ⊎ (b ≡ true)
@@ -24,22 +24,8 @@ commit_asks : (ts c : ℕ) (f : ℕ → Option (Site × Msg)) (ds : List ℕ)
 commit_asks ts c f [] h = refl
 commit_asks ts c f (d ∷ ds) h = grind (arith, asks_in, neither, commit_asks ts c f ds h)
 
-cond_asks : (ts k : ℕ) (b : Bool) (to : Site) (m : Msg) (p : Site × Msg) → asks_rows ts k m ≡ false
-    → cond b (Some (to, m)) None ≡ Some p → asks_rows ts k p.1 ≡ false
-cond_asks ts k b to m p f e = grind arith
-
-write_asks : (ts k : ℕ) (cat : Catalogue) (c : ℕ) (a : Attempt) (xs : List Change) (d : ℕ) (p : Site × Msg)
-    → write_to cat c a xs d ≡ Some p → asks_rows ts k p.1 ≡ false
-write_asks ts k cat c a xs d p e = grind (arith, cond_asks)
-
 asks_start : (s : Setting) (ts c k : ℕ) (log : Log) (q : Queued) → asks_in ts c (sends_of_act (start_at s k log q)) ≡ false
 asks_start s ts c k log q = start_asks ts c (λ d. (D (dm_no d), start_read s k log q d)) (modules_asked s k q.text) (λ d. refl)
-
-asks_commit : (s : Setting) (ts c k : ℕ) (bases : Bases) (a : Attempt) → asks_in ts c (sends_of_act (commit_act s.catalogue bases k a)) ≡ false
-asks_commit s ts c k bases a = grind (arith, commit_asks, write_asks)
-
-null_whose : (ts c : ℕ) (m x : Msg) → m ≡ x → asks_rows ts c x ≡ false → asks_rows ts c m ≡ true → ⊥
-null_whose ts c m x e f g = not_both (asks_rows ts c m) g (ap (asks_rows ts c) e ∙ f)
 
 -- a question that is sent is of the active attempt of its class, and that reads no more
 pub record IsAsker (s : Setting) (log : Log) (ts c : ℕ) : Type 0 where
@@ -49,13 +35,7 @@ pub record IsAsker (s : Setting) (log : Log) (ts c : ℕ) : Type 0 where
   pub past : is_reading attempt.exchange.phase ≡ false
 
 asker : (s : Setting) (log : Log) (ts c : ℕ) (m : Msg) → IsSend s log m → asks_rows ts c m ≡ true → IsAsker s log ts c
-asker s log ts c m (of_exchange k a at i e w) f =
-    let p = asks_whose a.ts k ts c m e f in
-    record { attempt = a; active_is = subst (λ j. active s j log ≡ Some a) p.1 i; ts_is = sym p.0; past = w }
-asker s log ts c m (a_null k at e) f = absurd (null_whose ts c m _ e refl f)
-asker s log ts c m (a_held e) f = absurd (null_whose ts c m _ e refl f)
-asker s log ts c m (a_hold e) f = absurd (null_whose ts c m _ e refl f)
-asker s log ts c m (a_release t e) f = absurd (null_whose ts c m _ e refl f)
+asker s log ts c m h6 f = grind (arith, asks_whose, not_both, asks_rows)
 
 -- so no question has a timestamp that isn't drawn yet
 
@@ -64,17 +44,15 @@ asked_send : (s : Setting) (ts c : ℕ) (log : Log) (to : Site) (m : Msg) (hand 
     → ((b || false) || was_asked ts c log) ≡ true → ts ≤ last_stamp s log
 asked_send s ts c log to m hand fair i h true q w =
     let r = asker s log ts c m i q in
-    let d : stamp_or (Some r.attempt) ≤ last_stamp s log = subst (λ o. stamp_or o ≤ last_stamp s log) r.active_is (drawn s log fair c) in
-    omega (arith, d, r.ts_is)
+    omega (arith, (subst (λ o. stamp_or o ≤ last_stamp s log) r.active_is (drawn s log fair c)), r.ts_is)
 asked_send s ts c log to m hand fair i h false q w = h w
 
 asked_act : (s : Setting) (ts c : ℕ) (log : Log) (act : Act) → Each (IsFair s) log → IsStep s log act
     → (was_asked ts c log ≡ true → ts ≤ last_stamp s log) → was_asked ts c (Did act ∷ log) ≡ true → ts ≤ last_stamp s (Did act ∷ log)
 asked_act s ts c log act fair i h =
     step_way s log act (λ x. was_asked ts c (Did x ∷ log) ≡ true → ts ≤ last_stamp s (Did x ∷ log))
-    (λ k q at f e. λ w. let p : was_asked ts c log ≡ true = only_right (asks_in ts c (sends_of_act (start_at s k log q))) (was_asked ts c log)
-    (asks_start s ts c k log q) w in let l = h p in omega arith)
-    (λ k bases a at f. λ w. h (only_right (asks_in ts c (sends_of_act (commit_act s.catalogue bases k a))) (was_asked ts c log) (asks_commit s ts c k bases a) w))
+    (grind (arith, was_asked, only_right, asks_in, sends_of_act, start_at, asks_start))
+    (λ k bases a at f. λ w. h (only_right (asks_in ts c (sends_of_act (commit_act s.catalogue bases k a))) (was_asked ts c log) (grind (arith, commit_asks)) w))
     (λ to m hand f. λ w. asked_send s ts c log to m hand fair f h (asks_rows ts c m) refl w) i
 
 asked_le : (s : Setting) (ts c : ℕ) (log : Log) → Each (IsFair s) log → was_asked ts c log ≡ true → ts ≤ last_stamp s log
@@ -82,9 +60,6 @@ asked_le s ts c [] h e = cc
 asked_le s ts c (Submits n txn ∷ log) h e = asked_le s ts c log h.1 e
 asked_le s ts c (Did act ∷ log) h e = asked_act s ts c log act h.1 h.0 (asked_le s ts c log h.1) e
 asked_le s ts c (x ∷ log) h e = let l = asked_le s ts c log h.1 e in let r = stamp_rises s x log in omega arith
-
-fresh_asked : (s : Setting) (c : ℕ) (log : Log) → Each (IsFair s) log → was_asked (next_stamp s log) c log ≡ false
-fresh_asked s c log h = grind (arith, asked_le)
 
 -- lists of modules
 has_without : (ns : List ℕ) (n m : ℕ) → contains ns m ≡ true → (m == n) ≡ false → contains (without ns n) m ≡ true
@@ -112,21 +87,6 @@ ready_ends ts c d log x y e h w z n p = elim (h n (subst (λ ms. contains (first
   | inr r ↦ inr r
 ]
 
-ready_less : (ts c d : ℕ) (log : Log) (x : Exchange) (ds : List ℕ) → AreReady ts c log x → was_ready ts c (site_d d) log ≡ true
-    → without x.lacks d ≡ ds → AreReady ts c log (record x { lacks = ds })
-ready_less ts c d log x ds h w z n p = grind (arith, same_or_not, has_without)
-
-ready_lacking : (ts c d : ℕ) (log : Log) (x : Exchange) (ds : List ℕ) → without x.lacks d ≡ ds
-    → (lacking ts c x ds).modules ≡ x.modules → AreReady ts c log x → was_ready ts c (site_d d) log ≡ true → AreReady ts c log (lacking ts c x ds)
-ready_lacking ts c d log x ds z e h w = grind (arith, ready_ends, ready_less)
-
-ready_answered : (ts c d : ℕ) (log : Log) (x : Exchange) → AreReady ts c log x → was_ready ts c (site_d d) log ≡ true → AreReady ts c log (answered ts c d x)
-ready_answered ts c d log x h w = ready_lacking ts c d log x (without x.lacks d) refl (answered_goes ts c d x).modules_same h w
-
--- once it reads no more, all are ready, and stay so
-ready_past : (ts c : ℕ) (log : Log) (x y : Exchange) → y.modules ≡ x.modules → is_reading x.phase ≡ false → AreReady ts c log x → AreReady ts c log y
-ready_past ts c log x y e f h n p = grind (arith, never)
-
 ready_more : (ts c : ℕ) (e : Entry) (log : Log) (x : Exchange)
     → ((d : Site) → was_ready ts c d log ≡ true → was_ready ts c d (e ∷ log) ≡ true) → AreReady ts c log x → AreReady ts c (e ∷ log) x
 ready_more ts c e log x f h n p = elim (h n p) [ inl r ↦ inl r | inr r ↦ inr (f (site_d n) r) ]
@@ -137,16 +97,15 @@ handed_more ts c from m log d p = or_right (same_site d from && is_ready ts c m)
 -- a hand from a module
 is_past : (ts c : ℕ) (log : Log) (x : Exchange) → (is_reading x.phase ≡ true → was_asked ts c log ≡ false)
     → was_asked ts c log ≡ true → is_reading x.phase ≡ false
-is_past ts c log x f e =
-    elim (is_reading x.phase) as (λ b. is_reading x.phase ≡ b → b ≡ false) [ true ↦ λ p. never (was_asked ts c log) e (f p) | false ↦ λ p. refl ] refl
+is_past ts c log x f e = grind (arith, never)
 
 past_if : (ts c d : ℕ) (log : Log) (b : Bool) (x z : Exchange) → z.modules ≡ x.modules → (b ≡ true → is_reading x.phase ≡ false)
     → AreReady ts c log x → AreReady ts c log (if b then answered ts c d z else x)
-past_if ts c d log b x z e f h = grind (arith, ready_past, answered, answered_goes)
+past_if ts c d log b x z e f h = grind (arith, never, answered, answered_goes)
 
 got_if : (ts c d : ℕ) (log : Log) (b : Bool) (x z : Exchange) → AreReady ts c log z → (b ≡ true → was_ready ts c (site_d d) log ≡ true) → AreReady ts c log x
     → AreReady ts c log (if b then answered ts c d z else x)
-got_if ts c d log b x z h f k = grind (arith, ready_answered)
+got_if ts c d log b x z h f k = grind (arith, ready_ends, same_or_not, has_without, without, answered_goes)
 
 got_ready : (ts c : ℕ) (d : DmNo) (t : Ts) (k : ClassNo) (counts : List (ℕ × ℕ)) (log : Log) → ((t.0 == ts) && (k.0 == c)) ≡ true
     → was_ready ts c (site_d d.0) (Handed (D d) (Ready t k counts) ∷ log) ≡ true
@@ -163,30 +122,17 @@ ready_hand ts c d (Values t k u vs) log x honest f h =
     past_if ts c d.0 (Handed (D d) (Values t k u vs) ∷ log) ((t.0 == ts) && (k.0 == c)) x
     (record x { union = with_values x.union vs; values = x.values + length vs }) refl (λ b. is_past ts c log x f (honest ts c b)) more
 ready_hand ts c d (Reduced t k u n) log x honest f h =
-    let more = ready_more ts c (Handed (D d) (Reduced t k u n)) log x (handed_more ts c (D d) (Reduced t k u n) log) h in
     past_if ts c d.0 (Handed (D d) (Reduced t k u n) ∷ log) ((t.0 == ts) && (k.0 == c)) x (record x { counts = counted d.0 ((u, n) ∷ []) x.counts }) refl
-    (λ b. is_past ts c log x f (honest ts c b)) more
+    (λ b. is_past ts c log x f (honest ts c b)) (ready_more ts c (Handed (D d) (Reduced t k u n)) log x (handed_more ts c (D d) (Reduced t k u n) log) h)
 ready_hand ts c d (Rows t k rows) log x honest f h =
     let more = ready_more ts c (Handed (D d) (Rows t k rows)) log x (handed_more ts c (D d) (Rows t k rows) log) h in
     past_if ts c d.0 (Handed (D d) (Rows t k rows) ∷ log) ((t.0 == ts) && (k.0 == c)) x (record x { found = x.found ++ rows; rows = x.rows + length rows }) refl
     (λ b. is_past ts c log x f (honest ts c b)) more
 ready_hand ts c d m log x honest f h = ready_more ts c (Handed (D d) m) log x (handed_more ts c (D d) m log) h
 
--- it reads on only if it did
-reads_back : (ts c : ℕ) (x y : Exchange) → GoesOn ts c x y → is_reading y.phase ≡ true → is_reading x.phase ≡ true
-reads_back ts c x y g e =
-    elim (is_reading x.phase) as (λ b. is_reading x.phase ≡ b → b ≡ true) [ true ↦ λ p. refl | false ↦ λ p. never (is_reading y.phase) e (g.no_more p) ] refl
-
 readied_hand : (s : Setting) (c : ℕ) (from : Site) (m : Msg) (log : Log) (o : Option Attempt) → IsHonest log (Handed from m)
     → AllReadied s c log o → AllReadied s c (Handed from m ∷ log) (active_handed c from m o)
-readied_hand s c (D d) m log None honest h = tt
-readied_hand s c (D d) m log (Some a) honest h =
-    let g = hand_goes a.ts c d.0 m a.exchange in
-    if_way (AllReadied s c (Handed (D d) m ∷ log)) (rejects m a.ts c) None (Some (record a { exchange = after_hand a.ts c d.0 m a.exchange })) tt
-    (record { modules_are = ap firsts g.modules_same ∙ h.modules_are; ready = ready_hand a.ts c d m log a.exchange honest h.unasked h.ready; unasked = λ p. h.unasked (reads_back a.ts c a.exchange (after_hand a.ts c d.0 m a.exchange) g p) })
-readied_hand s c _ m log None honest h = tt
-readied_hand s c x m log (Some a) honest h =
-    record { modules_are = h.modules_are; ready = ready_more a.ts c (Handed x m) log a.exchange (handed_more a.ts c x m log) h.ready; unasked = h.unasked }
+readied_hand s c from m log o honest h = grind (arith, hand_goes, if_way, ready_hand, never, ready_more, handed_more)
 
 -- a Start
 starts_with : (s : Setting) (k : ℕ) (log : Log) (q : Queued) (ds : List ℕ)
@@ -194,17 +140,9 @@ starts_with : (s : Setting) (k : ℕ) (log : Log) (q : Queued) (ds : List ℕ)
 starts_with s k log q [] = refl
 starts_with s k log q (d ∷ ds) = ap (λ l. d ∷ l) (starts_with s k log q ds)
 
-begins_ready : (ts c : ℕ) (log : Log) (ms : List (ℕ × List ℕ)) (x : Exchange) → x.modules ≡ ms → x.lacks ≡ firsts ms
-    → (ms ≡ [] → ⊥) ⊎ (ms ≡ []) → ((ms ≡ [] → ⊥) → is_reading x.phase ≡ true) → AreReady ts c log x
-begins_ready ts c log ms x e f d g n p = grind arith
-
 empty_or : (ms : List (ℕ × List ℕ)) → (ms ≡ [] → ⊥) ⊎ (ms ≡ [])
 empty_or [] = inr refl
 empty_or (m ∷ ms) = inl (λ e. cc)
-
-begin_reads : (q : Queued) (sends : List (Site × Msg)) (ms : List (ℕ × List ℕ)) → filter_map module_read sends ≡ ms
-    → (ms ≡ [] → ⊥) → is_reading (begins q.text sends).phase ≡ true
-begin_reads q sends ms e f = grind arith
 
 readied_start : (s : Setting) (c : ℕ) (log : Log) (q : Queued) → Each (IsFair s) log
     → AllReadied s c (Did (start_at s c log q) ∷ log) (started (next_stamp s log) (sends_of_act (start_at s c log q)) (Some q))
@@ -213,52 +151,21 @@ readied_start s c log q h =
     let sends : List (Site × Msg) = sends_of_act (start_at s c log q) in
     record {
       modules_are = starts_with s c log q (modules_asked s c q.text);
-      ready = begins_ready ts c (Did (start_at s c log q) ∷ log) (filter_map module_read sends) (begins q.text sends) refl refl
-          (empty_or (filter_map module_read sends)) (begin_reads q sends (filter_map module_read sends) refl);
-      unasked = λ p. neither (asks_in ts c sends) (was_asked ts c log) (asks_start s ts c c log q) (fresh_asked s c log h);
+      ready = grind (arith, start_at, filter_map, module_read, begins, empty_or);
+      unasked = λ p. neither (asks_in ts c sends) (was_asked ts c log) (asks_start s ts c c log q) (grind (arith, asked_le));
     }
-
--- an act that sends no question of the class
-readied_on : (s : Setting) (c : ℕ) (log : Log) (act : Act) (o : Option Attempt)
-    → ((ts : ℕ) → asks_in ts c (sends_of_act act) ≡ false) → AllReadied s c log o → AllReadied s c (Did act ∷ log) o
-readied_on s c log act o f h = grind (arith, neither)
 
 pub same_attempt : (s : Setting) (c : ℕ) (log : Log) (a b : Attempt) → active s c log ≡ Some a → active s c log ≡ Some b → b ≡ a
 same_attempt s c log a b e f = let p : Some a ≡ Some b = sym e ∙ f in cc
 
-unasked_send : (s : Setting) (c : ℕ) (log : Log) (to : Site) (m : Msg) (hand : Option ℕ) (a : Attempt) → active s c log ≡ Some a
-    → IsSend s log m → (is_reading a.exchange.phase ≡ true → was_asked a.ts c log ≡ false) → is_reading a.exchange.phase ≡ true
-    → was_asked a.ts c (Did (Sends to m hand) ∷ log) ≡ false
-unasked_send s c log to m hand a e i f p =
-    elim (asks_rows a.ts c m) as (λ b. asks_rows a.ts c m ≡ b → ((b || false) || was_asked a.ts c log) ≡ false) [
-      | true ↦ λ q. (let r = asker s log a.ts c m i q in
-          let same : r.attempt ≡ a = same_attempt s c log a r.attempt e r.active_is in
-          never (is_reading a.exchange.phase) p (subst (λ (y : Attempt). is_reading y.exchange.phase ≡ false) same r.past))
-      | false ↦ λ q. f p
-    ] refl
-
 readied_send : (s : Setting) (c : ℕ) (log : Log) (to : Site) (m : Msg) (hand : Option ℕ) (o : Option Attempt) → active s c log ≡ o
     → IsSend s log m → AllReadied s c log o → AllReadied s c (Did (Sends to m hand) ∷ log) (active_sent c m o)
 readied_send s c log to m hand None e i h = tt
-readied_send s c log to m hand (Some a) e i h =
-    let f = unasked_send s c log to m hand a e i h.unasked in
-    grind (arith, if_way)
+readied_send s c log to m hand (Some a) e i h = grind (arith, asker, same_attempt, never, if_way)
 
 readied_act : (s : Setting) (c : ℕ) (log : Log) (act : Act) → Each (IsFair s) log → IsStep s log act
     → AllReadied s c log (active s c log) → AllReadied s c (Did act ∷ log) (active s c (Did act ∷ log))
-readied_act s c log act fair i h = step_way s log act (λ x. AllReadied s c (Did x ∷ log) (active s c (Did x ∷ log)))
-    (λ k q at f e. elim (same_or_not k c) [
-      | inl p ↦ subst (λ j. AllReadied s j (Did (start_at s k log q) ∷ log) (active s j (Did (start_at s k log q) ∷ log))) p
-          (rw (same_number k) (subst
-          (λ o. AllReadied s k (Did (start_at s k log q) ∷ log) (started (next_stamp s log) (sends_of_act (start_at s k log q)) o)) (sym e)
-          (readied_start s k log q fair)))
-      | inr p ↦ rw p (readied_on s c log (start_at s k log q) (active s c log) (λ ts. asks_start s ts c k log q) h)
-    ])
-    (λ k bases a at f. elim (same_or_not k c) [
-      | inl p ↦ subst (λ j. AllReadied s j (Did (commit_act s.catalogue bases k a) ∷ log) (active s j (Did (commit_act s.catalogue bases k a) ∷ log))) p
-          (rw (same_number k) tt)
-      | inr p ↦ rw p (readied_on s c log (commit_act s.catalogue bases k a) (active s c log) (λ ts. asks_commit s ts c k bases a) h)
-    ]) (λ to m hand f. readied_send s c log to m hand (active s c log) refl f h) i
+readied_act s c log act fair i h = grind (arith, step_way, same_or_not, same_number, readied_start, neither, asks_start, commit_asks, readied_send)
 
 same_readied : (s : Setting) (c : ℕ) (e : Entry) (log : Log) (o : Option Attempt) → ((ts : ℕ) → was_asked ts c (e ∷ log) ≡ was_asked ts c log)
     → ((ts : ℕ) (d : Site) → was_ready ts c d (e ∷ log) ≡ was_ready ts c d log) → AllReadied s c log o → AllReadied s c (e ∷ log) o
@@ -270,12 +177,8 @@ readied s c (Handed from m ∷ log) h n = readied_hand s c from m log (active s 
 readied s c (Did act ∷ log) h n = readied_act s c log act h.1 h.0 (readied s c log h.1 n.1)
 readied s c (x ∷ log) h n = same_readied s c x log (active s c log) (λ ts. refl) (λ ts d. refl) (readied s c log h.1 n.1)
 
--- of an attempt that reads no more
-over_not : (p : Phase) → is_over p ≡ true → is_reading p ≡ false
-over_not p e = grind arith
-
 pub over_reads : (x : Exchange) → is_over x.phase ≡ true → is_reading x.phase ≡ false
-over_reads x e = over_not x.phase e
+over_reads x e = (grind arith)
 
 pub all_ready : (s : Setting) (c : ℕ) (log : Log) (a : Attempt) (d : ℕ) → Each (IsFair s) log → Each IsHonest log
     → active s c log ≡ Some a → is_reading a.exchange.phase ≡ false → contains (modules_asked s c a.text) d ≡ true → was_ready a.ts c (site_d d) log ≡ true

@@ -7,8 +7,7 @@ use Rattle.sdd_invariants.proofs.Bools.{same_number, same_or_not}
 use Rattle.sdd_invariants.proofs.Lists.{le_up, lt_above}
 
 pub recorded : (s : Setting) (log : Log) (act : Act) → IsStep s log act → IsRecord s log act
-recorded s log act i = step_way s log act (IsRecord s log) (λ c q at f e. record { at_home = at; idle = f; queued = q; head = e; act_is = refl })
-    (λ c bases a at f. record { at_home = at; attempt = a; active_is = f; bases = bases; act_is = refl }) (λ to m hand f. tt) i
+recorded s log act i = grind (arith, step_way)
 
 abbrev pub IsStarted : Setting → ℕ → Log → Option Attempt → Type 0
 IsStarted s c log None = Unit {0}
@@ -38,8 +37,7 @@ started_now s c log q at f e =
 
 started_act : (s : Setting) (c : ℕ) (log : Log) (act : Act) → IsStep s log act → IsStarted s c log (active s c log)
     → IsStarted s c (Did act ∷ log) (active s c (Did act ∷ log))
-started_act s c log act i h =
-    grind (arith, step_way, active, same_or_not, start_at, same_number, started, started_now, started_more, sent_way)
+started_act s c log act i h = grind (arith, step_way, same_or_not, same_number, started_now, started_more, sent_way)
 
 pub started_is : (s : Setting) (c : ℕ) (log : Log) → Each (IsFair s) log → IsStarted s c log (active s c log)
 started_is s c [] h = tt
@@ -64,21 +62,7 @@ first_left c log (x ∷ xs) q e =
     elim (is_committed c x.0 log) as (λ b. is_committed c x.0 log ≡ b → IsFirstLeft c log (x ∷ xs) q) [
       | true ↦ λ p. let i = first_left c log xs q (rw p at e) in
           record { place = suc i.place; number = i.number; text = i.text; there = i.there; number_is = i.number_is; text_is = i.text_is; not_committed = i.not_committed; tries_are = i.tries_are; before_it = (p, i.before_it) }
-      | false ↦ λ p.
-          let r : Some (stands x.0 x.1 (starts_of c x.0 log)) ≡ Some q = rw p at e in
-          let z : stands x.0 x.1 (starts_of c x.0 log) ≡ q = cc in
-          let n : x.0 ≡ q.number = ap (λ (y : Queued). y.number) z in
-          record {
-            place = 0;
-            number = x.0;
-            text = x.1;
-            there = refl;
-            number_is = sym n;
-            text_is = ap (λ (y : Queued). y.text) (sym z);
-            not_committed = subst (λ k. is_committed c k log ≡ false) n p;
-            tries_are = ap (λ (y : Queued). y.tries) (sym z) ∙ ap (λ k. starts_of c k log) n;
-            before_it = tt;
-          }
+      | false ↦ grind (arith, stands, starts_of, is_committed)
     ] refl
 
 pub head_left : (s : Setting) (c : ℕ) (log : Log) (q : Queued) → Each (IsFair s) log → Each IsNew log
@@ -91,10 +75,8 @@ get_left (x ∷ xs) y zero m l e = e
 get_left (x ∷ xs) y (suc k) m l e = get_left xs y k m (omega arith) e
 
 get_end : {A : Type 0} (xs : List A) (y : A) (k : ℕ) (m : A) → length xs ≤ k → slice_get (xs ++ y ∷ []) k ≡ Some m → (k ≡ length xs) × (y ≡ m)
-get_end [] y zero m l e = (refl, cc)
-get_end [] y (suc k) m l e = cc
-get_end (x ∷ xs) y zero m l e = absurd (omega arith)
 get_end (x ∷ xs) y (suc k) m l e = let i = get_end xs y k m (omega arith) e in (omega (arith, i.0), i.1)
+get_end xs y k m l e = grind arith
 
 submitted_more : (s : Setting) (c : ℕ) (e : Entry) (log : Log) (k n : ℕ) (t : Txn)
     → take k (submits_of s c (e ∷ log)) ≡ take k (submits_of s c log) → WasSubmitted s c log k n t → WasSubmitted s c (e ∷ log) k n t
@@ -115,9 +97,7 @@ submit_found s c log n txn true k m t f g i e = elim (dec_le (suc k) (length (su
         before = log;
         is = ap (λ (x : ℕ × Txn). Submits x.0 x.1 ∷ log) r.1;
         of_class = subst (λ (x : ℕ × Txn). is_for c (current_era s log).catalogue x.1 ≡ true) r.1 f;
-        earlier = sym (ap (take k) g ∙ ap (λ j. take j (submits_of s c log ++ (n, txn) ∷ [])) r.0
-            ∙ take-append-le (length (submits_of s c log)) (submits_of s c log) ((n, txn) ∷ []) (omega arith)
-            ∙ take_all (length (submits_of s c log)) (submits_of s c log) (omega arith));
+        earlier = grind (arith, submits_of, take-append-le, take_all);
       })
 ]
 
@@ -157,8 +137,7 @@ commit_says : (s : Setting) (c : ℕ) (bases : Bases) (log : Log) (a : Attempt) 
     → home s.catalogue c ≡ s.site → active s c log ≡ Some a → Says s log (commit_act s.catalogue bases c a)
 commit_says s c bases log a h n at e =
     let r = served_head a (queue s c log) (subst (λ o. IsServed o (queue s c log)) e (queue_is s c log h n).served) in
-    let l = head_left s c log r.0 h n r.1 in
-    grind (arith, start_of_active, is_committed)
+    grind (arith, start_of_active, is_committed, head_left s c log r.0 h n r.1)
 
 pub says : (s : Setting) (log : Log) (act : Act) → number_of s.site ≤ 63 → Each (IsFair s) log → Each IsNew log → IsStep s log act → Says s log act
 says s log act w h n i = step_way s log act (Says s log)

@@ -1,5 +1,5 @@
 -- A transaction that is tried again is still its queue's head, and the REJECT of its last attempt was handed after that attempt's Start.
-use Rattle.sdd_invariants.proofs.All.{Act, AllZero, Attempt, Bool, ClassNo, D, Did, DmNo, Each, Entry, Handed, IsFair, IsNew, IsRejected, IsServed, IsStep, List, Log, Msg, None, Option, Queued, Reject, Sends, Setting, Site, Some, Submits, Ts, Txn, ZeroBut, [], active, active_handed, active_sent, ap, arith, commit_act, cond, current_era, eqb-true, false, filter, head_of, if◌then◌else◌, inl, inr, is_for, is_recorded, map, next_stamp, not, queue, refl, rejects, sends_of_act, start_at, started, subst, suc, sym, tried, true, ℕ, ◌++◌, ◌<◌, ◌==◌, ◌∙◌, ◌∷◌, ◌≡◌, ◌⊎◌}
+use Rattle.sdd_invariants.proofs.All.{Act, AllZero, Attempt, Bool, ClassNo, D, Did, DmNo, Each, Entry, Handed, IsFair, IsNew, IsRejected, IsServed, IsStep, List, Log, Msg, None, Option, Queued, Reject, Sends, Setting, Site, Some, Submits, Ts, Txn, ZeroBut, [], active, active_handed, active_sent, ap, arith, commit_act, current_era, eqb-true, false, filter, head_of, if◌then◌else◌, inl, inr, is_for, is_recorded, map, next_stamp, not, queue, refl, rejects, sends_of_act, start_at, started, subst, suc, sym, tried, true, ℕ, ◌++◌, ◌<◌, ◌==◌, ◌∷◌, ◌≡◌, ◌⊎◌}
 use Rattle.sdd_invariants.proofs.Queues.{queue_is}
 use Rattle.sdd_invariants.proofs.Active.{sent_way, step_way}
 use Rattle.sdd_invariants.proofs.Bools.{same_number, same_or_not}
@@ -41,42 +41,18 @@ rejected_more s c e log n k p h = record {
 
 tried_more : (s : Setting) (c : ℕ) (e : Entry) (log : Log) (qs : List Queued) (o p : Option Attempt) → is_recorded c e ≡ false
     → (p ≡ None → o ≡ None) → IsTriedAt s c log qs o → IsTriedAt s c (e ∷ log) qs p
-tried_more s c e log qs o p r f h = elim h [
-  | inl z ↦ inl z
-  | inr t ↦ inr (record { number = t.number; tries = t.tries; head = t.head; others = t.others; rejected = λ x. rejected_more s c e log t.number t.tries r (t.rejected (f x)) })
-]
-
-head_push : (n k : ℕ) (qs : List Queued) (q : Queued) → IsHead n k qs → IsHead n k (qs ++ q ∷ [])
-head_push n k qs q h = grind arith
+tried_more s c e log qs o p r f h = grind (arith, rejected_more)
 
 but_tried : (n : ℕ) (qs : List Queued) → ZeroBut n qs → ZeroBut n (map (tried n) qs)
 but_tried n [] h = tt
-but_tried n (q ∷ qs) h = (
-  elim (q.number == n) as
-      (λ b. (q.number == n) ≡ b → (((cond b (record q { tries = suc q.tries }) q).number == n) ≡ true) ⊎ ((cond b (record q { tries = suc q.tries }) q).tries ≡ 0)) [
-        | true ↦ λ e. inl e
-        | false ↦ λ e. h.0
-      ] refl,
-  but_tried n qs h.1,
-)
+but_tried n (q ∷ qs) h = grind (arith, (but_tried n qs h.1))
 
 but_zero : (n : ℕ) (qs : List Queued) → AllZero qs → ZeroBut n qs
 but_zero n [] h = tt
 but_zero n (q ∷ qs) h = (inr h.0, but_zero n qs h.1)
 
-head_tried : (n k : ℕ) (qs : List Queued) → IsHead n k qs → IsHead n (suc k) (map (tried n) qs)
-head_tried n k [] h = absurd h
-head_tried n k (q ∷ qs) h =
-    let e : (q.number == n) ≡ true = ap (λ x. x == n) h.0 ∙ same_number n in
-    rw e (h.0, ap suc h.1)
-
 is_head : (qs : List Queued) (q : Queued) → head_of qs ≡ Some q → IsHead q.number q.tries qs
-is_head [] q e = cc
-is_head (x ∷ qs) q e = let p : x ≡ q = cc in (ap (λ (y : Queued). y.number) p, ap (λ (y : Queued). y.tries) p)
-
-head_is : (n k : ℕ) (qs : List Queued) (q : Queued) → IsHead n k qs → head_of qs ≡ Some q → (q.number ≡ n) × (q.tries ≡ k)
-head_is n k [] q h e = absurd h
-head_is n k (x ∷ qs) q h e = let p : x ≡ q = cc in (ap (λ (y : Queued). y.number) (sym p) ∙ h.0, ap (λ (y : Queued). y.tries) (sym p) ∙ h.1)
+is_head qs q e = grind arith
 
 -- the active attempt, where there is one, is the head's
 head_served : (a : Attempt) (qs : List Queued) (n k : ℕ) → IsServed (Some a) qs → IsHead n k qs → (a.txn ≡ n) × (a.attempt ≡ k)
@@ -92,36 +68,16 @@ ends_by s c log d m a n k e f r =
     let p = reject_by m a.ts c r in
     record { later = []; before = log; from = d; ts = p.0; class_of = p.1; by = p.2; write = p.3; is = ap (λ x. Handed (D d) x ∷ log) p.4; none_since = tt; attempt = a; active_is = e; ts_is = p.5; class_is = p.6; number_is = f.0; try_is = f.1 }
 
-ended : (s : Setting) (c : ℕ) (log : Log) (from : Site) (m : Msg) (o : Option Attempt) (n k : ℕ) → active s c log ≡ o
-    → IsServed o (queue s c log) → IsHead n k (queue s c log) → (o ≡ None → IsRejected s c log n k)
-    → active_handed c from m o ≡ None → IsRejected s c (Handed from m ∷ log) n k
-ended s c log (D d) m (Some a) n k e v h f g = grind (arith, ends_by, head_served)
-ended s c log (D d) m None n k e v h f g = rejected_more s c (Handed (D d) m) log n k refl (f refl)
-ended s c log x m o n k e v h f g = rejected_more s c (Handed x m) log n k refl (f g)
-
 tried_hand : (s : Setting) (c : ℕ) (log : Log) (from : Site) (m : Msg) → IsServed (active s c log) (queue s c log)
     → IsTriedAt s c log (queue s c log) (active s c log) → IsTriedAt s c (Handed from m ∷ log) (queue s c log) (active_handed c from m (active s c log))
 tried_hand s c log from m v h = elim h [
   | inl z ↦ inl z
-  | inr t ↦ inr (record { number = t.number; tries = t.tries; head = t.head; others = t.others; rejected = λ x. ended s c log from m (active s c log) t.number t.tries refl v t.head t.rejected x })
+  | inr t ↦ inr (record { number = t.number; tries = t.tries; head = t.head; others = t.others; rejected = λ x. (grind (arith, ends_by, head_served, rejected_more)) })
 ]
 
 tried_submit : (s : Setting) (c : ℕ) (log : Log) (k : ℕ) (txn : Txn) (b : Bool) → IsTriedAt s c log (queue s c log) (active s c log)
     → IsTriedAt s c (Submits k txn ∷ log) (if b then queue s c log ++ record { number = k; text = txn; tries = 0 } ∷ [] else queue s c log) (active s c log)
-tried_submit s c log k txn false h = tried_more s c (Submits k txn) log (queue s c log) (active s c log) (active s c log) refl (λ x. x) h
-tried_submit s c log k txn true h = elim h [
-  | inl z ↦ inl (zero_push (queue s c log) (record { number = k; text = txn; tries = 0 }) z refl)
-  | inr t ↦ inr (record {
-    number = t.number;
-    tries = t.tries;
-    head = head_push t.number t.tries (queue s c log) (record { number = k; text = txn; tries = 0 }) t.head;
-    others = but_push t.number (queue s c log) (record { number = k; text = txn; tries = 0 }) t.others refl;
-    rejected = λ x. rejected_more s c (Submits k txn) log t.number t.tries refl (t.rejected x);
-  })
-]
-
-started_not : (ts : ℕ) (sends : List (Site × Msg)) (o : Option Queued) (q : Queued) → o ≡ Some q → started ts sends o ≡ None → ⊥
-started_not ts sends o q e f = grind arith
+tried_submit s c log k txn b h = grind (arith, tried_more, zero_push, but_push, rejected_more)
 
 tried_start : (s : Setting) (c : ℕ) (log : Log) (q : Queued) → head_of (queue s c log) ≡ Some q → IsTriedAt s c log (queue s c log) (active s c log)
     → IsTriedAt s c (Did (start_at s c log q) ∷ log) (map (tried q.number) (queue s c log))
@@ -130,25 +86,21 @@ tried_start s c log q e h =
     let but : ZeroBut q.number
     (queue s c log) = elim h [
       | inl z ↦ but_zero q.number (queue s c log) z
-      | inr t ↦ subst (λ n. ZeroBut n (queue s c log))
-          (sym (head_is t.number t.tries (queue s c log) q t.head e).0) t.others
+      | inr t ↦ grind (arith, queue)
     ] in
     inr (record {
       number = q.number;
       tries = suc q.tries;
-      head = head_tried q.number q.tries (queue s c log) (is_head (queue s c log) q e);
+      head = (grind (arith, same_number));
       others = but_tried q.number (queue s c log) but;
-      rejected = λ x. absurd (started_not (next_stamp s log) (sends_of_act (start_at s c log q)) (head_of (queue s c log)) q e x);
+      rejected = λ x. absurd (grind arith);
     })
-
-zero_filter : (n : ℕ) (qs : List Queued) → AllZero qs → AllZero (filter (λ q. not (q.number == n)) qs)
-zero_filter n qs h = zero_left n qs (but_zero n qs h)
 
 tried_commit : (s : Setting) (c : ℕ) (log more : Log) (a : Attempt) (o : Option Attempt) → active s c log ≡ Some a
     → IsServed (active s c log) (queue s c log) → IsTriedAt s c log (queue s c log) (active s c log)
     → IsTriedAt s c more (filter (λ q. not (q.number == a.txn)) (queue s c log)) o
 tried_commit s c log more a o e v h = elim h [
-  | inl z ↦ inl (zero_filter a.txn (queue s c log) z)
+  | inl z ↦ inl (zero_left a.txn (queue s c log) (but_zero a.txn (queue s c log) z))
   | inr t ↦ (let r = head_served a (queue s c log) t.number t.tries (subst (λ o. IsServed o (queue s c log)) e v) t.head in
       inl (zero_left a.txn (queue s c log) (subst (λ n. ZeroBut n (queue s c log)) (sym r.0) t.others)))
 ]
@@ -160,11 +112,7 @@ tried_act : (s : Setting) (c : ℕ) (log : Log) (act : Act) → IsStep s log act
     → IsTriedAt s c log (queue s c log) (active s c log) → IsTriedAt s c (Did act ∷ log) (queue s c (Did act ∷ log)) (active s c (Did act ∷ log))
 tried_act s c log act i v h =
     step_way s log act (λ x. IsTriedAt s c (Did x ∷ log) (queue s c (Did x ∷ log)) (active s c (Did x ∷ log)))
-    (λ k q at f e. elim (same_or_not k c) [
-      | inl p ↦ subst (λ j. IsTriedAt s c (Did (start_at s j log q) ∷ log) (queue s c (Did (start_at s j log q) ∷ log))
-          (active s c (Did (start_at s j log q) ∷ log))) (sym p) (rw (same_number c) (tried_start s c log q (rw p at e) h))
-      | inr p ↦ rw p (tried_more s c (Did (start_at s k log q)) log (queue s c log) (active s c log) (active s c log) p (λ x. x) h)
-    ])
+    (grind (arith, same_or_not, IsTriedAt, start_at, queue, active, same_number, tried_start, tried_more))
     (λ k bases a at f. elim (same_or_not k c) [
       | inl p ↦ subst (λ j. IsTriedAt s c (Did (commit_act s.catalogue bases j a) ∷ log) (queue s c (Did (commit_act s.catalogue bases j a) ∷ log))
           (active s c (Did (commit_act s.catalogue bases j a) ∷ log))) (sym p)
@@ -183,8 +131,4 @@ tried_at s c (y ∷ log) h n = tried_more s c y log (queue s c log) (active s c 
 -- the head of an idle class that was started before: its last attempt was rejected
 pub was_rejected : (s : Setting) (c : ℕ) (log : Log) (q : Queued) → Each (IsFair s) log → Each IsNew log → active s c log ≡ None
     → head_of (queue s c log) ≡ Some q → 0 < q.tries → IsRejected s c log q.number q.tries
-was_rejected s c log q h n idle e l = elim (tried_at s c log h n) [
-  | inl z ↦ absurd (omega (arith, zero_head (queue s c log) q z e))
-  | inr t ↦ (let r = head_is t.number t.tries (queue s c log) q t.head e in
-      subst (λ k. IsRejected s c log q.number k) (sym r.1) (subst (λ m. IsRejected s c log m t.tries) (sym r.0) (t.rejected idle)))
-]
+was_rejected s c log q h n idle e l = grind (arith, tried_at, zero_head)

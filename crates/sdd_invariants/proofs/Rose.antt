@@ -1,5 +1,5 @@
 -- At a T: the HELD that was sent as number n + 1 and the log before it, its time, and that a Start comes where it isn't on hold.
-use Rattle.sdd_invariants.proofs.All.{Act, AllIdle, Bases, Did, Entry, Handed, Held, HoldCounts, IsHeldAt, IsSend, IsStep, Log, Msg, Option, Queued, Sends, Setting, Site, Ts, [], ap, arith, asks_rows, bound, hands, holds, holds_acted, refl, start_at, suc, sym, true, ℕ, ◌++◌, ◌∙◌, ◌∷◌, ◌≡◌, ◌≤◌}
+use Rattle.sdd_invariants.proofs.All.{Act, AllIdle, Bases, Did, Entry, Handed, Held, IsHeldAt, IsStep, Log, Option, Queued, Sends, Setting, Site, Ts, [], ap, arith, bound, hands, holds, refl, start_at, suc, sym, ℕ, ◌++◌, ◌∙◌, ◌∷◌, ◌≡◌, ◌≤◌}
 use Rattle.sdd_invariants.proofs.Holding.{hand_helds, hold_rule}
 use Rattle.sdd_invariants.proofs.Active.{step_way}
 use Rattle.sdd_log.specs.tm.Due.{IsDue}
@@ -18,29 +18,17 @@ held_rose (Handed from m ∷ log) n e = held_more (Handed from m) log n (held_ro
 held_rose (Did act ∷ log) n e = held_by act log n (held_rose log n) e
 held_rose (x ∷ log) n e = held_more x log n (held_rose log n e)
 
-helds_by : (act : Act) (h : HoldCounts) → h.helds ≤ (holds_acted act h).helds
-helds_by act h = grind arith
-
 pub helds_grow : (later log : Log) → (holds log).helds ≤ (holds (later ++ log)).helds
 helds_grow [] log = omega arith
-helds_grow (Handed from m ∷ later) log = let i = helds_grow later log in let j = hand_helds (suc (hands (later ++ log))) m (holds (later ++ log)) in omega arith
-helds_grow (Did act ∷ later) log = let i = helds_grow later log in let j = helds_by act (holds (later ++ log)) in omega arith
-helds_grow (_ ∷ later) log = helds_grow later log
+helds_grow (e ∷ later) log = grind (arith, hand_helds, hands, holds, (helds_grow later log))
 
 -- a HELD promises the bound
 abbrev HeldSays : Setting → Log → Act → Type 0
 HeldSays s log (Sends to (Held t) hand) = t.0 ≡ bound s log
 HeldSays s log act = Unit {0}
 
-held_asks : (s : Setting) (ts c : ℕ) (log : Log) (to : Site) (m : Msg) (hand : Option ℕ) → asks_rows ts c m ≡ true → HeldSays s log (Sends to m hand)
-held_asks s ts c log to m hand e = grind arith
-
-held_send : (s : Setting) (log : Log) (to : Site) (m : Msg) (hand : Option ℕ) → IsSend s log m → HeldSays s log (Sends to m hand)
-held_send s log to m hand e = grind (arith, held_asks)
-
 pub held_time : (s : Setting) (log : Log) (to : Site) (t : Ts) (hand : Option ℕ) → IsStep s log (Sends to (Held t) hand) → t.0 ≡ bound s log
-held_time s log to t hand i =
-    step_way s log (Sends to (Held t) hand) (HeldSays s log) (λ c q at f e. tt) (λ c bases a at f. tt) (λ to m hand f. held_send s log to m hand f) i
+held_time s log to t hand i = grind (arith, step_way, HeldSays)
 
 pub start_off : (s : Setting) (bases : Bases) (log : Log) (c : ℕ) (q : Queued)
     → IsDue s.catalogue bases (view_of s log) (start_at s c log q) → (holds log).holds ≤ (holds log).releases

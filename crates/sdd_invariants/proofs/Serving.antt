@@ -1,5 +1,5 @@
 -- The chain of holds at U.
-use Rattle.sdd_invariants.proofs.All.{Act, AllZero, Attempt, Bases, Bool, D, Did, Each, Entry, Handed, Hold, IsChain, IsFairU, IsServed, IsStepU, IsTried, List, Log, Msg, None, Option, Queued, Release, Sends, Setting, Site, Some, StartedHead, Submits, T, TmCounts, TmNo, Ts, Txn, ZeroBut, [], active, ap, append-nil, arith, asks_rows, at_map, attempt_due, by_release, commit_act, cond, counts, counts_handed, counts_tm, current_era, dm_no, eqb-true, false, filter, first_send, flip, hand_commits, head_of, hold_due, hold_to, if◌then◌else◌, in_mapped, inl, inr, is_a_hold, is_a_release, is_for, is_holding, is_over, last_served, list_all, map, modules_asked, not, numbers_to, one_if, or_else, puts_to, queue, refl, release_due, sends_of_act, slice_get, start_at, start_read, starts, subst, suc, sym, tm_no, to_site, tried, true, turns, u_commit, u_exchange, u_hold, u_release, u_start, ℕ, ◌&&◌, ◌++◌, ◌<◌, ◌==◌, ◌∙◌, ◌∷◌, ◌≡◌, ◌≤◌, ◌⊎◌}
+use Rattle.sdd_invariants.proofs.All.{Act, AllZero, Attempt, Bases, Bool, D, Did, Each, Entry, Handed, Hold, IsChain, IsFairU, IsServed, IsStepU, IsTried, List, Log, Msg, None, Option, Queued, Release, Sends, Setting, Site, Some, StartedHead, Submits, T, TmCounts, TmNo, Ts, Txn, ZeroBut, [], active, ap, append-nil, arith, asks_rows, at_map, attempt_due, by_release, commit_act, cond, counts, counts_handed, counts_tm, current_era, dm_no, eqb-true, false, filter, first_send, flip, hand_commits, head_of, hold_due, hold_to, if◌then◌else◌, in_mapped, inl, inr, is_a_hold, is_a_release, is_for, is_holding, is_over, last_served, list_all, map, modules_asked, not, numbers_to, or_else, puts_to, queue, refl, release_due, sends_of_act, slice_get, start_at, start_read, starts, subst, suc, sym, tm_no, to_site, tried, true, turns, u_commit, u_exchange, u_hold, u_release, u_start, ℕ, ◌&&◌, ◌++◌, ◌<◌, ◌==◌, ◌∙◌, ◌∷◌, ◌≡◌, ◌≤◌, ◌⊎◌}
 use Rattle.sdd_invariants.proofs.Holding.{lt_is}
 use Rattle.sdd_invariants.proofs.Turns.{balance, tally_append, turns_append}
 use Rattle.sdd_invariants.proofs.Queues.{served_head}
@@ -52,8 +52,7 @@ hold_u s log t k (Some x) act q p e =
     (λ l. ap (λ (y : TmCounts). y.releases) (sym q) ∙ eqb-true k.releases k.holds l ∙ ap (λ (y : TmCounts). y.holds) q) e
 
 ready_is : (a b c : ℕ) → ((a == c) && (b == c)) ≡ true → (a ≡ c) × (b ≡ c)
-ready_is a b c e =
-    elim (a == c) as (λ x. (a == c) ≡ x → (x && (b == c)) ≡ true → (a ≡ c) × (b ≡ c)) [ true ↦ λ p q. (eqb-true a c p, eqb-true b c q) | false ↦ λ p q. cc ] refl e
+ready_is a b c e = grind (arith, eqb-true)
 
 start_if : (s : Setting) (log : Log) (q : Queued) (z b : Bool) (act : Act) → head_of (queue s 0 log) ≡ Some q → (q.tries == 0) ≡ z
     → list_all (is_holding (view_of s log)) (view_of s log).counts ≡ b → (if z && b then Some (start_at s 0 log q) else None) ≡ Some act → IsStepU s log act
@@ -100,15 +99,9 @@ pub but_push : (n : ℕ) (qs : List Queued) (q : Queued) → ZeroBut n qs → q.
 but_push n [] q h e = (inr e, tt)
 but_push n (x ∷ qs) q h e = (h.0, but_push n qs q h.1 e)
 
-head_push : (n : ℕ) (qs : List Queued) (q : Queued) → StartedHead n qs → StartedHead n (qs ++ q ∷ [])
-head_push n qs q h = grind arith
-
 but_tried : (n : ℕ) (qs : List Queued) → AllZero qs → ZeroBut n (map (tried n) qs)
 but_tried n [] h = tt
 but_tried n (q ∷ qs) h = grind (arith, cond, but_tried n qs h.1)
-
-head_tried : (qs : List Queued) (q : Queued) → head_of qs ≡ Some q → StartedHead q.number (map (tried q.number) qs)
-head_tried qs q e = grind (arith, same_number)
 
 pub zero_left : (n : ℕ) (qs : List Queued) → ZeroBut n qs → AllZero (filter (λ q. not (q.number == n)) qs)
 zero_left n [] h = tt
@@ -120,9 +113,6 @@ not_started n qs q h e z = grind arith
 pub zero_head : (qs : List Queued) (q : Queued) → AllZero qs → head_of qs ≡ Some q → q.tries ≡ 0
 zero_head qs q h e = grind arith
 
-number_head : (n : ℕ) (qs : List Queued) (q : Queued) → StartedHead n qs → head_of qs ≡ Some q → q.number ≡ n
-number_head n qs q h e = grind arith
-
 tried_on : (s : Setting) (log : Log) (e : Entry) → starts (e ∷ log) ≡ starts log
     → (last_served s (e ∷ log)).commits ≡ (last_served s log).commits → queue s 0 (e ∷ log) ≡ queue s 0 log → IsTried s log → IsTried s (e ∷ log)
 tried_on s log e a b c h = grind arith
@@ -130,7 +120,7 @@ tried_on s log e a b c h = grind arith
 tried_start : (s : Setting) (log : Log) (q : Queued) → head_of (queue s 0 log) ≡ Some q → q.tries ≡ 0 → IsTried s log
     → IsTried s (Did (start_at s 0 log q) ∷ log)
 tried_start s log q e z h = elim h [
-  | inl p ↦ inr (q.number, ap suc p.0, head_tried (queue s 0 log) q e, but_tried q.number (queue s 0 log) p.1)
+  | inl p ↦ inr (q.number, ap suc p.0, (grind (arith, same_number)), but_tried q.number (queue s 0 log) p.1)
   | inr p ↦ absurd (not_started p.0 (queue s 0 log) q p.2 e z)
 ]
 
@@ -140,7 +130,7 @@ tried_commit s log bases a e i h =
     let r = served_head a (queue s 0 log) (subst (λ o. IsServed o (queue s 0 log)) e i) in
     elim h [
       | inl p ↦ (let z : r.0.tries ≡ 0 = zero_head (queue s 0 log) r.0 p.1 r.1 in absurd (omega (arith, r.4, r.5)))
-      | inr p ↦ (let n : p.0 ≡ a.txn = sym (number_head p.0 (queue s 0 log) r.0 p.2 r.1) ∙ r.2 in
+      | inr p ↦ (let n : p.0 ≡ a.txn = sym (grind arith) ∙ r.2 in
           inl (p.1, subst (λ k. AllZero (filter (λ q. not (q.number == k)) (queue s 0 log))) n (zero_left p.0 (queue s 0 log) p.3)))
     ]
 
@@ -149,7 +139,7 @@ tried_submit : (s : Setting) (log : Log) (k : ℕ) (txn : Txn) (b : Bool)
     ((n : ℕ) × (starts log ≡ suc (last_served s log).commits) × StartedHead n (queue s 0 log) × ZeroBut n (queue s 0 log))
     → (qs : List Queued) → qs ≡ (if b then queue s 0 log ++ record { number = k; text = txn; tries = 0 } ∷ [] else queue s 0 log)
     → ((starts log ≡ (last_served s log).commits) × AllZero qs) ⊎ ((n : ℕ) × (starts log ≡ suc (last_served s log).commits) × StartedHead n qs × ZeroBut n qs)
-tried_submit s log k txn b h qs e = grind (arith, zero_push, head_push, but_push)
+tried_submit s log k txn b h qs e = grind (arith, zero_push, but_push)
 
 pub is_tried : (s : Setting) (log : Log) → Each (IsFairU s) log → IsTried s log
 is_tried s [] h = inl (refl, tt)
@@ -164,14 +154,9 @@ is_tried s (Did act ∷ log) h =
     (λ t e. tried_on s log (Did (Sends (T (tm_no t)) Hold None)) refl refl refl i) (u_due s h.0.0.0 log act h.0.0.1)
 is_tried s (x ∷ log) h = tried_on s log x refl refl refl (is_tried s log h.1)
 
-hand_if : (b : Bool) (k : TmCounts)
-    → ((if b then record k { helds = suc k.helds } else k).releases ≡ k.releases) ×
-    ((if b then record k { helds = suc k.helds } else k).holds ≡ k.holds) × (k.helds ≤ (if b then record k { helds = suc k.helds } else k).helds)
-hand_if b k = grind arith
-
 pub hand_counts : (from : Site) (m : Msg) (k : TmCounts)
     → ((counts_handed from m k).releases ≡ k.releases) × ((counts_handed from m k).holds ≡ k.holds) × (k.helds ≤ (counts_handed from m k).helds)
-hand_counts from m k = grind (arith, hand_if)
+hand_counts from m k = grind (arith)
 
 pub commits_le : (s : Setting) (log : Log) → IsTried s log → (last_served s log).commits ≤ starts log
 commits_le s log h = elim h [ inl p ↦ omega (arith, p.0) | inr p ↦ omega (arith, p.1) ]
@@ -190,9 +175,7 @@ chain_start : (s : Setting) (t : ℕ) (log : Log) (q : Queued) → head_of (queu
     → IsTried s log → IsChain s t log → IsChain s t (Did (start_at s 0 log q) ∷ log)
 chain_start s t log q e z r i h =
     let n : starts log ≡ (last_served s log).commits = elim i [ inl p ↦ p.0 | inr p ↦ absurd (not_started p.0 (queue s 0 log) q p.2 e z) ] in
-    let same : puts_to (T (tm_no t)) (Did (start_at s 0 log q) ∷ log) ≡ puts_to (T (tm_no t)) log = ap (λ xs. puts_to (T (tm_no t)) log ++ xs)
-    (none_mapped (tm_no t) (start_read s 0 log q) (modules_asked s 0 q.text)) ∙ append-nil _ in
-    grind arith
+    grind (arith, ap (λ xs. puts_to (T (tm_no t)) log ++ xs) (none_mapped (tm_no t) (start_read s 0 log q) (modules_asked s 0 q.text)) ∙ append-nil _)
 
 pub no_puts : (s : Setting) (t : TmNo) (bases : Bases) (a : Attempt) → to_site (T t) (sends_of_act (commit_act s.catalogue bases 0 a)) ≡ []
 no_puts s t bases a = grind (arith, none_to, goes_write)
@@ -200,29 +183,16 @@ no_puts s t bases a = grind (arith, none_to, goes_write)
 pub sent_count : (t n : ℕ) (log : Log) → (n == (counts t log).tm) ≡ (n == t)
 sent_count t n log = ap (λ x. n == x) (counts_tm t log)
 
-turned_release : (o : Option Bool) (ms : List Msg) (ts : Ts) → turns (Some false) ms ≡ Some true → turns (Some false) (ms ++ Release ts ∷ []) ≡ Some false
-turned_release o ms ts e = turns_append (Some false) ms (Release ts ∷ []) ∙ ap (λ x. turns x (Release ts ∷ [])) e
-
-turned_hold : (ms : List Msg) → turns (Some false) ms ≡ Some false → turns (Some false) (ms ++ Hold ∷ []) ≡ Some true
-turned_hold ms e = turns_append (Some false) ms (Hold ∷ []) ∙ ap (λ x. turns x (Hold ∷ [])) e
-
-state_true : (c : Bool) → 1 ≤ one_if c → c ≡ true
-state_true c l = grind arith
-
-state_false : (c : Bool) → one_if c ≡ 0 → c ≡ false
-state_false c l = grind arith
-
 chain_release : (s : Setting) (t : ℕ) (ts : Ts) (log : Log) → (counts t log).releases < (last_served s log).commits
     → IsChain s t log → IsChain s t (Did (Sends (T (tm_no t)) (Release ts) None) ∷ log)
 chain_release s t ts log l h =
     let e : Entry = Did (Sends (T (tm_no t)) (Release ts) None) in
     let b = balance false h.state (puts_to (T (tm_no t)) log) h.turns_are in
-    let on : h.state ≡ true = state_true h.state (omega (arith, b, h.holds_are, h.releases_are, h.committed, h.started_hold)) in
+    let on : h.state ≡ true = (grind arith) in
     let k : counts t (e ∷ log) ≡ record (counts t log) { releases = suc (counts t log).releases } = ap
     (λ x. if x then record (counts t log) { releases = suc (counts t log).releases } else counts t log) (sent_count t t log ∙ same_number t) in
     let p : puts_to (T (tm_no t)) (e ∷ log) ≡ puts_to (T (tm_no t)) log ++ Release ts ∷ [] = ap
     (λ x. puts_to (T (tm_no t)) log ++ (if x then Release ts ∷ [] else [])) (same_number t) in
-    let more_h = tally_append is_a_hold (puts_to (T (tm_no t)) log) (Release ts ∷ []) in
     let more_r = tally_append is_a_release (puts_to (T (tm_no t)) log) (Release ts ∷ []) in
     record {
       released = rw k l;
@@ -230,8 +200,8 @@ chain_release s t ts log l h =
       started_held = rw k h.started_held;
       started_hold = rw k h.started_hold;
       state = false;
-      turns_are = rw p (turned_release (Some true) (puts_to (T (tm_no t)) log) ts (h.turns_are ∙ ap (λ x. Some x) on));
-      holds_are = rw (k, p) (omega (arith, more_h, h.holds_are));
+      turns_are = rw p (turns_append (Some false) (puts_to (T (tm_no t)) log) (Release ts ∷ []) ∙ ap (λ x. turns x (Release ts ∷ [])) (h.turns_are ∙ ap (λ x. Some x) on));
+      holds_are = rw (k, p) (omega (arith, (tally_append is_a_hold (puts_to (T (tm_no t)) log) (Release ts ∷ [])), h.holds_are));
       releases_are = rw (k, p) (omega (arith, more_r, h.releases_are));
     }
 
@@ -240,12 +210,11 @@ chain_hold : (s : Setting) (t : ℕ) (log : Log) → (counts t log).releases ≡
 chain_hold s t log l h =
     let e : Entry = Did (Sends (T (tm_no t)) Hold None) in
     let b = balance false h.state (puts_to (T (tm_no t)) log) h.turns_are in
-    let off : h.state ≡ false = state_false h.state (omega (arith, b, h.holds_are, h.releases_are)) in
+    let off : h.state ≡ false = (grind arith) in
     let k : counts t (e ∷ log) ≡ record (counts t log) { holds = suc (counts t log).holds } = ap
     (λ x. if x then record (counts t log) { holds = suc (counts t log).holds } else counts t log) (sent_count t t log ∙ same_number t) in
     let p : puts_to (T (tm_no t)) (e ∷ log) ≡ puts_to (T (tm_no t)) log ++ Hold ∷ [] = ap (λ x. puts_to (T (tm_no t)) log ++ (if x then Hold ∷ [] else []))
     (same_number t) in
-    let more_h = tally_append is_a_hold (puts_to (T (tm_no t)) log) (Hold ∷ []) in
     let more_r = tally_append is_a_release (puts_to (T (tm_no t)) log) (Hold ∷ []) in
     record {
       released = rw k h.released;
@@ -253,8 +222,8 @@ chain_hold s t log l h =
       started_held = rw k h.started_held;
       started_hold = rw k (omega (arith, h.started_hold));
       state = true;
-      turns_are = rw p (turned_hold (puts_to (T (tm_no t)) log) (h.turns_are ∙ ap (λ x. Some x) off));
-      holds_are = rw (k, p) (omega (arith, more_h, h.holds_are));
+      turns_are = rw p (turns_append (Some false) (puts_to (T (tm_no t)) log) (Hold ∷ []) ∙ ap (λ x. turns x (Hold ∷ [])) (h.turns_are ∙ ap (λ x. Some x) off));
+      holds_are = rw (k, p) (omega (arith, (tally_append is_a_hold (puts_to (T (tm_no t)) log) (Hold ∷ [])), h.holds_are));
       releases_are = rw (k, p) (omega (arith, more_r, h.releases_are));
     }
 
@@ -263,14 +232,10 @@ pub puts_else : (t n : ℕ) (m : Msg) (log : Log) → (t == n) ≡ false → put
 puts_else t n m log e = ap (λ x. puts_to (T (tm_no t)) log ++ (if x then m ∷ [] else [])) e ∙ append-nil _
 
 chain_hand : (s : Setting) (t : ℕ) (from : Site) (m : Msg) (log : Log) → IsChain s t log → IsChain s t (Handed from m ∷ log)
-chain_hand s t from m log h =
-    let k = hand_counts from m (counts t log) in
-    let c = hand_commits m (last_served s log) in
-    grind arith
+chain_hand s t from m log h = grind (arith, hand_counts, hand_commits)
 
 pub chain : (s : Setting) (k t : ℕ) (log : Log) → slice_get (numbers_to s.catalogue.tms) k ≡ Some t → Each (IsFairU s) log → IsChain s t log
-chain s k t [] e h =
-    record { released = omega arith; committed = omega arith; started_held = omega arith; started_hold = omega arith; state = false; turns_are = refl; holds_are = refl; releases_are = refl }
+chain s k t [] e h = grind arith
 chain s k t (Handed from m ∷ log) e h = chain_hand s t from m log (chain s k t log e h.1)
 chain s k t (Did act ∷ log) e h =
     let i = chain s k t log e h.1 in
@@ -288,11 +253,5 @@ chain s k t (Did act ∷ log) e h =
           (ap (λ x. if x then record (counts t log) { releases = suc (counts t log).releases } else counts t log) (sent_count t n log ∙ flip t n p))
           (omega arith) i.committed refl (puts_else t n (Release ts) log p) i
     ])
-    (λ n l. λ w. elim (same_or_not t n) [
-      | inl p ↦ subst (λ x. IsChain s t (Did (Sends (T (tm_no x)) Hold None) ∷ log)) p
-          (chain_hold s t log (subst (λ x. (counts x log).releases ≡ (counts x log).holds) (sym p) l) i)
-      | inr p ↦ chain_on s t log (Did (Sends (T (tm_no n)) Hold None))
-          (ap (λ x. if x then record (counts t log) { holds = suc (counts t log).holds } else counts t log) (sent_count t n log ∙ flip t n p))
-          (omega arith) i.committed refl (puts_else t n Hold log p) i
-    ]) (u_due s h.0.0.0 log act h.0.0.1) then_tried
+    (grind (arith, same_or_not, tm_no, chain_hold, counts, chain_on, sent_count, flip, puts_else)) (u_due s h.0.0.0 log act h.0.0.1) then_tried
 chain s k t (x ∷ log) e h = let i = chain s k t log e h.1 in chain_on s t log x refl (omega arith) i.committed refl refl i

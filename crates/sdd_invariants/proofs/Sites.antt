@@ -35,10 +35,7 @@ GoesTo f = (d : ℕ) → (f d ≡ None) ⊎ ((m : Msg) × (f d ≡ Some (D (dm_n
 pub none_to : (f : ℕ → Option (Site × Msg)) (b : Site) (a n : ℕ) → GoesTo f → ((d : ℕ) → a ≤ d → same_site b (D (dm_no d)) ≡ false)
     → to_site b (filter_map f (range_with_len a n)) ≡ []
 none_to f b a zero g h = refl
-none_to f b a (suc n) g h = elim (g a) [
-  | inl e ↦ rw e (none_to f b (a + 1) n g (λ d l. h d (omega arith)))
-  | inr p ↦ rw (p.1, h a (omega arith)) (none_to f b (a + 1) n g (λ d l. h d (omega arith)))
-]
+none_to f b a (suc n) g h = grind (arith, (none_to f b (a + 1) n g (λ d l. h d (omega arith))))
 
 -- so of those that it makes of a range at most one goes to a site
 pub one_to : (f : ℕ → Option (Site × Msg)) (b : Site) (a n : ℕ) → GoesTo f

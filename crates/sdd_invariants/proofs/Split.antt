@@ -1,6 +1,6 @@
 -- An Answer splits the WRITEs of a condition's class: those that change one of its fragments are processed before it
 -- exactly where their time is below the condition's.
-use Rattle.sdd_invariants.proofs.All.{Act, AllUnspoilt, Answer, Change, ClassNo, ClassView, Cond, D, DmNo, Does, Each, Input, IsDueEach, IsPermitted, IsReadStep, IsRising, List, Msg, None, Pipe, Read, Records, Setting, Site, Some, Ts, TxnNo, Use, Write, [], all_of, allowed_act, ap, append_assoc, arith, class_puts, cond, dec_le, empty_pipe, false, head, head_of, home, in_left, inl, inr, is_at_least, is_met, length, length-append, list_all, list_any, local_of, map, nat_le, nat_tests, number_of, passed, passed_by, pipe, pipe_at, place_within, setting_of, slice_get, spoiling, spoils, subst, suc, sym, time_of, touches, true, view_of, waits, zero, ℕ, ◌++◌, ◌+◌, ◌<◌, ◌∙◌, ◌∷◌, ◌≡◌, ◌≢◌, ◌≤◌, ◌⊎◌}
+use Rattle.sdd_invariants.proofs.All.{Act, AllUnspoilt, Answer, Change, ClassNo, ClassView, Cond, D, DmNo, Does, Each, Input, IsDueEach, IsPermitted, IsReadStep, IsRising, List, Msg, Pipe, Read, Records, Setting, Site, Some, Ts, TxnNo, Use, Write, [], all_of, allowed_act, append_assoc, arith, class_puts, dec_le, empty_pipe, false, head, head_of, home, in_left, inl, inr, is_met, length, length-append, list_all, list_any, local_of, map, nat_le, nat_tests, number_of, passed, passed_by, pipe, pipe_at, place_within, setting_of, slice_get, spoiling, spoils, subst, suc, sym, time_of, touches, true, view_of, zero, ℕ, ◌++◌, ◌+◌, ◌<◌, ◌∙◌, ◌∷◌, ◌≡◌, ◌≢◌, ◌≤◌, ◌⊎◌}
 use Rattle.sdd_invariants.proofs.Waiting.{any_false_at, no_spoiler, processed_in_is, spoils_is, waiting}
 use Rattle.sdd_invariants.proofs.ClassOrder.{class_rises, earlier}
 use Rattle.sdd_invariants.proofs.InPipe.{in_pipe_later}
@@ -15,23 +15,15 @@ use Rattle.sdd_log.specs.site_module.SiteLog as site
 pub le_is : (a b : ℕ) → nat_le a b ≡ true → a ≤ b
 le_is a b e = grind (arith, nat_tests)
 
-not_le_is : (a b : ℕ) → nat_le a b ≡ false → b < a
-not_le_is a b e = grind (arith, nat_tests)
-
 -- where a class has passed a time, what has a smaller time is processed
 passed_at : (ps qs more : List Msg) (t i : ℕ) (m : Msg) → IsRising (map time_of ((ps ++ qs) ++ more))
     → slice_get ((ps ++ qs) ++ more) i ≡ Some m → time_of m < t → passed_by (head_of qs) ps t ≡ true → i < length ps
 passed_at ps [] more t i m h e l q =
     let a = any_at (λ x. nat_le t (time_of x)) ps q in
     let k = earlier ((ps ++ []) ++ more) i a.0 t m a.1 h e (in_left (ps ++ []) more a.0 a.1 (in_left ps [] a.0 a.1 a.2)) l (le_is t (time_of a.1) a.3) in
-    let w = place_within ps a.0 a.1 a.2 in
-    omega (arith, k, w)
+    omega (arith, k, (place_within ps a.0 a.1 a.2))
 passed_at ps (x ∷ qs) more t i m h e l q =
     earlier ((ps ++ x ∷ qs) ++ more) i (length ps) t m x h e (in_left (ps ++ x ∷ qs) more (length ps) x (at_seam ps qs x)) l (le_is t (time_of x) q)
-
-has_passed : (p : Pipe) (more : List Msg) (t i : ℕ) (m : Msg) → IsRising (map time_of (all_of p ++ more))
-    → slice_get (all_of p ++ more) i ≡ Some m → time_of m < t → passed p t ≡ true → i < length p.processed
-has_passed p more t i m h e l q = passed_at p.processed p.unprocessed more t i m h e l q
 
 -- what the Answer's step says of its conditions
 
@@ -44,12 +36,11 @@ unspoilt_at s log (x ∷ ds) (suc n) d h e = unspoilt_at s log ds n d h.1 e
 pub answered_if : (s : Setting) (log : site.Log) (c : ℕ) (txn : TxnNo) (attempt : ℕ) (module_no : DmNo) (sends : List (Site × Msg)) (ts : Ts) (k : ClassNo) (t : TxnNo) (a : ℕ) (conds : List Cond) (uses : List Use)
     → Each (IsDueEach s) log → IsReadStep s log (Records c (Answer txn attempt module_no) sends) → head (pipe c log) ≡ Some (Read ts k t a conds uses)
     → (list_all (is_met (view_of s log)) conds ≡ true) × AllUnspoilt s log conds
-answered_if s log c txn attempt module_no sends ts k t a conds uses h e f =
-    grind (arith, not_both, head, waits, waiting, no_spoiler)
+answered_if s log c txn attempt module_no sends ts k t a conds uses h e f = grind (arith, not_both, waiting, no_spoiler)
 
 below_time : (q : Cond) (w : Ts) (j : ClassNo) (x : TxnNo) (changes : List Change) → touches q.frags changes ≡ true
     → spoiling q (Write w j x changes) ≡ false → w.0 < q.time.0
-below_time q w j x changes t e = not_le_is q.time.0 w.0 (sym (ap (λ b. is_at_least q.time.0 (cond b (Some w.0) None)) t) ∙ e)
+below_time q w j x changes t e = (grind (arith, nat_tests))
 
 pub processed_there : (p : Pipe) (more : List Msg) (i : ℕ) (m : Msg) → slice_get (all_of p ++ more) i ≡ Some m
     → i < length p.processed → slice_get p.processed i ≡ Some m
@@ -73,8 +64,7 @@ split g later log d q r txn attempt module_no sends ts k t a conds uses n i w j 
     let all : Log = later ++ Does (D d) act ∷ log in
     let c : ℕ = q.class.0 in
     let before = permitted_before g later (Does (D d) act ∷ log) h in
-    let fair : Each (IsDueEach s) l = d_fair g d log before.1 in
-    let facts = answered_if s l r txn attempt module_no sends ts k t a conds uses fair (d_step s l act (allowed_act g log (Does (D d) act) before.0)) f in
+    let facts = answered_if s l r txn attempt module_no sends ts k t a conds uses (d_fair g d log before.1) (d_step s l act (allowed_act g log (Does (D d) act) before.0)) f in
     let met : is_met (view_of s l) q ≡ true = all_at (is_met (view_of s l)) conds n q facts.0 at in
     let clean : spoils (view_of s l) q ≡ false = elim (unspoilt_at s l conds n q facts.1 at) [ inl z ↦ absurd (declared z) | inr u ↦ u ] in
     let more = in_pipe_later g c d (later ++ Does (D d) act ∷ []) log before.1 in
@@ -88,8 +78,7 @@ split g later log d q r txn attempt module_no sends ts k t a conds uses n i w j 
             let none : list_any (spoiling q) (pipe c l).processed ≡ false = subst (λ ms. list_any (spoiling q) ms ≡ false) (processed_in_is s l c lt)
             (sym (spoils_is s l q) ∙ clean) in
             below_time q w j x changes tch (any_false_at (spoiling q) (pipe c l).processed i (Write w j x changes) none in_it)),
-        (λ lo. has_passed (pipe c l) more.0 q.time.0 i (Write w j x changes) rises there lo
-            (subst (λ (v : ClassView). passed v.pipe q.time.0 ≡ true) (class_in_view s l c lt) met)),
+        (λ lo. (passed_at (pipe c l).processed (pipe c l).unprocessed more.0 q.time.0 i (Write w j x changes) rises there lo (subst (λ (v : ClassView). passed v.pipe q.time.0 ≡ true) (class_in_view s l c lt) met))),
       )
       | no nlt ↦ (let p : passed empty_pipe q.time.0 ≡ true = subst (λ (v : ClassView). passed v.pipe q.time.0 ≡ true) (class_not_in_view s l c (omega (arith, nlt))) met in cc)
     ]

@@ -1,5 +1,5 @@
 -- What is said of a record that a site makes.
-use Rattle.sdd_invariants.proofs.All.{Act, Attempt, Bases, Commit, DmNo, Does, Each, HasAnswer, Input, IsBased, IsFair, IsPermitted, IsStep, Records, Says, Setting, Some, T, TmNo, U, active, allowed_act, base_of, commit_act, contains, home, is_over, local_of, modules_asked, number_of, setting_of, subst, sym, true, ℕ, ◌∙◌, ◌∷◌, ◌≡◌, ◌≤◌}
+use Rattle.sdd_invariants.proofs.All.{Act, Attempt, Bases, Commit, DmNo, Does, Each, HasAnswer, Input, IsBased, IsFair, IsPermitted, IsStep, Records, Says, Setting, Some, T, TmNo, U, active, allowed_act, arith, base_of, commit_act, contains, home, is_over, local_of, modules_asked, number_of, setting_of, subst, sym, true, ℕ, ◌∙◌, ◌∷◌, ◌≡◌, ◌≤◌}
 use Rattle.sdd_invariants.proofs.Recorded.{says}
 use Rattle.sdd_invariants.proofs.Answered.{answered_all}
 use Rattle.sdd_invariants.proofs.Based.{t_based, u_based}
@@ -30,9 +30,7 @@ pub one_active : (s : Setting) (c : ℕ) (log : site.Log) (a b : Attempt) → ac
 one_active s c log a b e f = let p : Some a ≡ Some b = sym e ∙ f in cc
 
 over_at : (s : Setting) (log : site.Log) (act : Act) → IsStep s log act → IsOverAt s log act
-over_at s log act i =
-    step_way_over s log act (IsOverAt s log) (λ c q at f e. tt)
-    (λ c bases a at f o. λ b e. subst (λ (x : Attempt). is_over x.exchange.phase ≡ true) (one_active s c log a b f e) o) (λ to m hand f. tt) i
+over_at s log act i = grind (arith, step_way_over, IsOverAt, one_active)
 
 pub commit_over : (s : Setting) (log : site.Log) (c : ℕ) (bases : Bases) (a : Attempt)
     → IsStep s log (commit_act s.catalogue bases c a) → active s c log ≡ Some a → is_over a.exchange.phase ≡ true
@@ -43,9 +41,7 @@ pub commit_answered : (g : Input) (c : ℕ) (log : Log) (bases : Bases) (a : Att
     → IsPermitted g (Does (home g.catalogue c) (commit_act g.catalogue bases c a) ∷ log)
     → active (setting_of g (home g.catalogue c)) c (local_of g (home g.catalogue c) log) ≡ Some a
     → contains (modules_asked (setting_of g (home g.catalogue c)) c a.text) d.0 ≡ true → HasAnswer g log d c a
-commit_answered g c log bases a d h e p =
-    answered_all g c log a d h.1 e
-    (commit_over (setting_of g (home g.catalogue c)) (local_of g (home g.catalogue c) log) c bases a (home_step g c log (commit_act g.catalogue bases c a) h) e) p
+commit_answered g c log bases a d h e p = grind (arith, answered_all, commit_over, home_step)
 
 -- its reply and changes are those of the effect on the database of the attempt's snapshots
 pub t_commit : (g : Input) (t : TmNo) (log : Log) (act : Act) → IsPermitted g (Does (T t) act ∷ log)

@@ -1,5 +1,5 @@
 -- On a link the times of a class never fall: each is at most the class's limit, which never falls either.
-use Rattle.sdd_invariants.proofs.All.{Act, AllGe, AllLe, AllPiped, Attempt, Bases, Bool, Catalogue, Change, Did, Each, Entry, Handed, IsFair, IsRising, IsSend, IsStep, IsTimed, List, Log, Msg, None, Null, Option, Queued, Sends, Setting, Site, Some, Submits, [], active, ap, arith, asks_rows, bound, class_is, class_no, commit_act, cond, effect, false, filter_map, goes_through, head_of, if◌then◌else◌, inl, inr, limit, limit_of, map, next_stamp, number_of, numbers_to, piped, puts_to, queue, refl, same_site, sends_of_act, start_at, subst, sym, time_at, time_of, times_in, to_site, true, write_to, ℕ, ◌++◌, ◌==◌, ◌∙◌, ◌∷◌, ◌≡◌, ◌≤◌}
+use Rattle.sdd_invariants.proofs.All.{Act, AllGe, AllLe, AllPiped, Attempt, Bases, Bool, Catalogue, Change, Did, Each, Entry, Handed, IsFair, IsRising, IsSend, IsStep, IsTimed, List, Log, Msg, None, Option, Queued, Sends, Setting, Site, Some, Submits, [], active, ap, arith, bound, class_is, commit_act, effect, false, filter_map, goes_through, head_of, if◌then◌else◌, inl, inr, limit, limit_of, map, next_stamp, number_of, numbers_to, piped, puts_to, queue, refl, same_site, sends_of_act, start_at, subst, sym, time_of, times_in, to_site, write_to, ℕ, ◌++◌, ◌==◌, ◌∙◌, ◌∷◌, ◌≡◌, ◌≤◌}
 use Rattle.sdd_invariants.proofs.Clocks.{bound_rises, limit_le}
 use Rattle.sdd_invariants.proofs.Active.{handed_way, sent_way, step_way}
 use Rattle.sdd_invariants.proofs.Bools.{same_number, same_or_not}
@@ -48,12 +48,9 @@ times_if : (c t : ℕ) (b : Bool) (m : Msg) (ms : List Msg) → AllAre t (times_
     → AllAre t (times_in c (if b then m ∷ ms else ms))
 times_if c t b m ms h i = grind (arith, time_of)
 
-time_piped : (c t : ℕ) (m : Msg) → piped m ≡ Some (c, t) → AllAre t (times_in c (m ∷ []))
-time_piped c t m e = grind (arith, class_is, same_number, time_of)
-
 piped_at : (c t : ℕ) (b : Site) (ps : List (Site × Msg)) → AllPiped c t ps → AllAre t (times_in c (to_site b ps))
 piped_at c t b [] h = tt
-piped_at c t b (p ∷ ps) h = times_if c t (same_site b p.0) p.1 (to_site b ps) (time_piped c t p.1 h.0) (piped_at c t b ps h.1)
+piped_at c t b (p ∷ ps) h = times_if c t (same_site b p.0) p.1 (to_site b ps) (grind (arith, class_is, same_number, time_of)) (piped_at c t b ps h.1)
 
 times_none : (c : ℕ) (b : Bool) (m : Msg) (ms : List Msg) → goes_through c m ≡ false → times_in c ms ≡ [] → times_in c (if b then m ∷ ms else ms) ≡ []
 times_none c b m ms h i = grind arith
@@ -66,13 +63,9 @@ piped_map : (k t : ℕ) (f : ℕ → Site × Msg) (ds : List ℕ) → ((d : ℕ)
 piped_map k t f [] h = tt
 piped_map k t f (d ∷ ds) h = (h d, piped_map k t f ds h)
 
-piped_cond : (k t : ℕ) (b : Bool) (p : Site × Msg) (f : ℕ → Option (Site × Msg)) (ds : List ℕ) → piped p.1 ≡ Some (k, t)
-    → AllPiped k t (filter_map f ds) → (d : ℕ) → f d ≡ cond b (Some p) None → AllPiped k t (filter_map f (d ∷ ds))
-piped_cond k t b p f ds e h d g = grind arith
-
 piped_writes : (cat : Catalogue) (c : ℕ) (a : Attempt) (changes : List Change) (ds : List ℕ) → AllPiped c a.ts (filter_map (write_to cat c a changes) ds)
 piped_writes cat c a changes [] = tt
-piped_writes cat c a changes (d ∷ ds) = grind (arith, piped_cond, piped_writes cat c a changes ds)
+piped_writes cat c a changes (d ∷ ds) = grind (arith, piped_writes cat c a changes ds)
 
 pub piped_start : (s : Setting) (c : ℕ) (log : Log) (q : Queued) → AllPiped c (next_stamp s log) (sends_of_act (start_at s c log q))
 piped_start s c log q = piped_map c _ _ _ (λ d. refl)
@@ -83,61 +76,28 @@ piped_commit s c bases a = piped_writes s.catalogue c a (effect s.catalogue (bas
 -- the three kinds of steps
 start_own : (s : Setting) (c : ℕ) (b : Site) (log : Log) (q : Queued) → number_of s.site ≤ 63 → active s c log ≡ None
     → head_of (queue s c log) ≡ Some q → Goes s c b log (start_at s c log q)
-start_own s c b log q w i e = record {
-  time = next_stamp s log;
-  above = rw i (omega arith);
-  below = rw (same_number c, e) (omega arith);
-  all_at = piped_at c (next_stamp s log) b (sends_of_act (start_at s c log q)) (piped_start s c log q);
-}
+start_own s c b log q w i e = grind (arith, same_number, piped_at, piped_start)
 
 limit_on : (b d : ℕ) (o : Option Attempt) → b ≤ d → limit_of b o ≤ limit_of d o
 limit_on b d o l = grind arith
 
-start_other : (s : Setting) (k c : ℕ) (b : Site) (log : Log) (q : Queued) → (k == c) ≡ false → Goes s c b log (start_at s k log q)
-start_other s k c b log q e = grind (arith, quiet_act, start_at, limit_on, bound, active, piped_other, piped_start)
-
 commit_own : (s : Setting) (c : ℕ) (bases : Bases) (b : Site) (log : Log) (a : Attempt) → limit s c log ≤ bound s log
     → active s c log ≡ Some a → Goes s c b log (commit_act s.catalogue bases c a)
-commit_own s c bases b log a l e = record {
-  time = a.ts;
-  above = rw e (omega arith);
-  below = rw (same_number c) (let m : limit_of (bound s log) (Some a) ≤ bound s log = subst (λ o. limit_of (bound s log) o ≤ bound s log) e l in m);
-  all_at = piped_at c a.ts b (sends_of_act (commit_act s.catalogue bases c a)) (piped_commit s c bases a);
-}
+commit_own s c bases b log a l e = grind (arith, same_number, piped_at, piped_commit)
 
 commit_other : (s : Setting) (k c : ℕ) (bases : Bases) (b : Site) (log : Log) (a : Attempt) → (k == c) ≡ false
     → Goes s c b log (commit_act s.catalogue bases k a)
 commit_other s k c bases b log a e = grind (arith, quiet_act, piped_other, piped_commit)
 
-limit_sent : (s : Setting) (c : ℕ) (log : Log) (to : Site) (m : Msg) (hand : Option ℕ) → limit s c log ≡ limit s c (Did (Sends to m hand) ∷ log)
-limit_sent s c log to m hand = sent_way (λ o. limit s c log ≡ limit_of (bound s log) o) c m (active s c log) (λ a x e. ap (limit_of (bound s log)) e) refl
-
-asks_not_piped : (ts k c : ℕ) (m : Msg) → asks_rows ts k m ≡ true → goes_through c m ≡ false
-asks_not_piped ts k c m e = grind arith
-
-send_quiet : (s : Setting) (c : ℕ) (b : Site) (log : Log) (to : Site) (m : Msg) (hand : Option ℕ) → goes_through c m ≡ false → Goes s c b log (Sends to m hand)
-send_quiet s c b log to m hand e =
-    quiet_act s c b log (Sends to m hand) (let l = limit_sent s c log to m hand in omega arith) (times_none c (same_site b to) m [] e refl)
-
-null_own : (s : Setting) (c : ℕ) (b : Site) (log : Log) (to : Site) (hand : Option ℕ)
-    → Goes s c b log (Sends to (Null (class_no c) (time_at (limit s c log))) hand)
-null_own s c b log to hand = record {
-  time = limit s c log;
-  above = omega arith;
-  below = (let l = limit_sent s c log to (Null (class_no c) (time_at (limit s c log))) hand in omega arith);
-  all_at = times_if c (limit s c log) (same_site b to) (Null (class_no c) (time_at (limit s c log))) []
-      (time_piped c (limit s c log) (Null (class_no c) (time_at (limit s c log))) refl) tt;
-}
-
 send_goes : (s : Setting) (c : ℕ) (b : Site) (log : Log) (to : Site) (m : Msg) (hand : Option ℕ) → IsSend s log m → Goes s c b log (Sends to m hand)
-send_goes s c b log to m hand e = grind (arith, send_quiet, asks_not_piped, same_or_not, null_own)
+send_goes s c b log to m hand e = grind (arith, quiet_act, sent_way, limit, limit_of, bound, active, times_none, same_or_not, times_if, class_is, same_number, time_of)
 
 pub goes : (s : Setting) (c : ℕ) (b : Site) (log : Log) (act : Act) → number_of s.site ≤ 63 → limit s c log ≤ bound s log
     → IsStep s log act → Goes s c b log act
 goes s c b log act w l i = step_way s log act (Goes s c b log)
     (λ k q at f e. elim (same_or_not k c) [
       | inl p ↦ subst (λ j. Goes s c b log (start_at s j log q)) (sym p) (start_own s c b log q w (rw p at f) (rw p at e))
-      | inr p ↦ start_other s k c b log q p
+      | inr p ↦ (grind (arith, quiet_act, start_at, limit_on, bound, active, piped_other, piped_start))
     ])
     (λ k bases a at f. elim (same_or_not k c) [
       | inl p ↦ subst (λ j. Goes s c b log (commit_act s.catalogue bases j a)) (sym p) (commit_own s c bases b log a l (rw p at f))
@@ -146,13 +106,10 @@ goes s c b log act w l i = step_way s log act (Goes s c b log)
 
 timed_on : (s : Setting) (c : ℕ) (b : Site) (log : Log) (e : Entry) → limit s c log ≤ limit s c (e ∷ log)
     → puts_to b (e ∷ log) ≡ puts_to b log → IsTimed s c b log → IsTimed s c b (e ∷ log)
-timed_on s c b log e l p h =
-    record { rises = rw p h.rises; within = rw p (le_up (limit s c log) (limit s c (e ∷ log)) (times_in c (puts_to b log)) l h.within) }
+timed_on s c b log e l p h = grind (arith, le_up)
 
 limit_handed : (s : Setting) (c : ℕ) (from : Site) (m : Msg) (log : Log) → limit s c log ≤ bound s log → limit s c log ≤ limit s c (Handed from m ∷ log)
-limit_handed s c from m log l =
-    let up = bound_rises s (Handed from m) log in
-    grind (arith, handed_way, bound, active, limit_on)
+limit_handed s c from m log l = grind (arith, bound_rises, handed_way, limit_on)
 
 pub timed : (s : Setting) (c : ℕ) (b : Site) (log : Log) → number_of s.site ≤ 63 → Each (IsFair s) log → IsTimed s c b log
 timed s c b [] w h = record { rises = tt; within = tt }

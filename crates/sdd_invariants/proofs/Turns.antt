@@ -10,16 +10,13 @@ turns_append None [] ys = refl
 turns_append (Some b) (x ∷ xs) ys = turns_append (turn b x) xs ys
 turns_append _ _ ys = refl
 
-turns_none : (ms : List Msg) (c : Bool) → turns None ms ≡ Some c → ⊥
-turns_none ms c e = grind arith
-
 -- what is taken in turn is even, or one HOLD ahead
 pub balance : (b c : Bool) (ms : List Msg) → turns (Some b) ms ≡ Some c → tally is_a_hold ms + one_if b ≡ tally is_a_release ms + one_if c
 balance b c [] e = let p : b ≡ c = cc in ap (λ x. 0 + one_if x) p
-balance true c (Hold ∷ ms) e = absurd (turns_none ms c e)
+balance true c (Hold ∷ ms) e = absurd (grind arith)
 balance false c (Hold ∷ ms) e = let i = balance true c ms e in omega arith
 balance true c (Release ts ∷ ms) e = let i = balance false c ms e in omega arith
-balance false c (Release ts ∷ ms) e = absurd (turns_none ms c e)
+balance false c (Release ts ∷ ms) e = absurd (grind arith)
 balance b c (m ∷ ms) e = let i = balance b c ms e in omega arith
 
 -- of a first part
@@ -28,7 +25,7 @@ tally_take f (suc n) (m ∷ ms) = let i = tally_take f n ms in omega arith
 tally_take f _ _ = omega arith
 
 turns_take_at : (n : ℕ) (o : Option Bool) (ms : List Msg) (c : Bool) → turns o ms ≡ Some c → (d : Bool) × (turns o (take n ms) ≡ Some d)
-turns_take_at n None ms c e = absurd (turns_none ms c e)
+turns_take_at n None ms c e = absurd (grind arith)
 turns_take_at (suc n) (Some b) (m ∷ ms) c e = turns_take_at n (turn b m) ms c e
 turns_take_at _ (Some b) _ c e = (b, refl)
 

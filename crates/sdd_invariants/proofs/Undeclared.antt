@@ -47,8 +47,7 @@ pub answered_before : (g : Input) (k : ℕ) (d : DmNo) (log : Log) (x : ℕ) →
 answered_before g k d log x h i p =
     let p1 = part_of log p.later _ p.before p.is in
     let h1 = permitted_part g log p.before h p1 in
-    let m : Msg = Write p.ts p.of p.txn p.changes in
-    let put = head_put g 0 d p.before m h1 p.head_is in
+    let put = head_put g 0 d p.before (Write p.ts p.of p.txn p.changes) h1 p.head_is in
     let z : p.of.0 ≡ 0 = class_number p.of.0 0 p.ts.0 put.of_class in
     let w = write_origin g p.before 0 d p.ts p.of p.txn p.changes z put in
     let h2 : IsPermitted g (Does U (commit_act g.catalogue w.bases 0 w.attempt) ∷ w.before) = permitted_before g w.later
@@ -61,9 +60,7 @@ pub not_again : (g : Input) (d : DmNo) (log : Log) (a : Attempt) (ts : Ts) (k : 
     → IsPermitted g log → head (pipe_at g 0 d log) ≡ Some (Read ts k txn n ds us) → Part log before → HasAnswer g before d 0 a → a.ts ≡ ts.0 → ⊥
 not_again g d log a ts k txn n ds us before h e p w same =
     let ans : Act = Records 0 (Answer w.txn w.attempt (home_of (setting_of g (D d))).dm) w.sends in
-    let whole : log ≡ (p.0 ++ w.later) ++ Does (D d) ans ∷ w.before = p.1 ∙ ap (λ l. p.0 ++ l) w.is
-    ∙ sym (append_assoc p.0 w.later (Does (D d) ans ∷ w.before)) in
-    grind (arith, answered_there, head)
+    grind (arith, answered_there, head, p.1 ∙ ap (λ l. p.0 ++ l) w.is ∙ sym (append_assoc p.0 w.later (Does (D d) ans ∷ w.before)))
 
 -- of an undeclared transaction's READ: its conditions are on each class, at its timestamp, with all fragments
 
@@ -84,24 +81,19 @@ zero_conds : (g : Input) (d : DmNo) (log : Log) (ts : Ts) (k : ClassNo) (txn : T
 zero_conds g d log ts k txn n ds us h e =
     let m : Msg = Read ts k txn n ds us in
     let p = head_put g 0 d log m h e in
-    let z : k.0 ≡ 0 = class_number k.0 0 ts.0 p.of_class in
     let r : IsRead (setting_of g U) (local_of g U p.before) p.act 0 ts.0 txn.0 n = subst
-    (λ j. IsRead (setting_of g U) (local_of g U p.before) p.act j ts.0 txn.0 n) z p.by in
+    (λ j. IsRead (setting_of g U) (local_of g U p.before) p.act j ts.0 txn.0 n) (class_number k.0 0 ts.0 p.of_class) p.by in
     conds_put g d (local_of g U p.before) r.queued p.place m (subst (λ y. slice_get (to_site (D d) (sends_of_act y)) p.place ≡ Some m) r.act_is p.there)
     ∙ ap (undeclared_conditions g.catalogue) (sym r.time_is)
 
 pub read_times : (g : Input) (d : DmNo) (log : Log) (ts : Ts) (k : ClassNo) (txn : TxnNo) (n : ℕ) (ds : List Cond) (us : List Use) (j : ℕ) (q : Cond)
     → IsPermitted g log → head (pipe_at g 0 d log) ≡ Some (Read ts k txn n ds us) → slice_get ds j ≡ Some q → q.time.0 ≡ ts.0
-read_times g d log ts k txn n ds us j q h e f =
-    let r = in_mapped (zero_cond g ts.0) (classes_of g.catalogue) j q (subst (λ l. slice_get l j ≡ Some q) (zero_conds g d log ts k txn n ds us h e) f) in
-    ap (λ (c : Cond). c.time.0) (sym r.2)
+read_times g d log ts k txn n ds us j q h e f = grind (arith, in_mapped, slice_get, zero_conds)
 
 pub read_classes : (g : Input) (d : DmNo) (log : Log) (ts : Ts) (k : ClassNo) (txn : TxnNo) (n : ℕ) (ds : List Cond) (us : List Use) (j : ℕ) (q : Cond)
     → IsPermitted g log → head (pipe_at g 0 d log) ≡ Some (Read ts k txn n ds us) → slice_get ds j ≡ Some q
     → slice_get (classes_of g.catalogue) j ≡ Some q.class.0
-read_classes g d log ts k txn n ds us j q h e f =
-    let r = in_mapped (zero_cond g ts.0) (classes_of g.catalogue) j q (subst (λ l. slice_get l j ≡ Some q) (zero_conds g d log ts k txn n ds us h e) f) in
-    r.1 ∙ ap (λ (c : Cond). Some c.class.0) r.2
+read_classes g d log ts k txn n ds us j q h e f = grind (arith, in_mapped, slice_get, zero_conds)
 
 pub has_cond : (g : Input) (d : DmNo) (log : Log) (ts : Ts) (k : ClassNo) (txn : TxnNo) (n : ℕ) (ds : List Cond) (us : List Use) (j c : ℕ)
     → IsPermitted g log → head (pipe_at g 0 d log) ≡ Some (Read ts k txn n ds us) → slice_get (classes_of g.catalogue) j ≡ Some c
@@ -113,13 +105,12 @@ pub commit_t : (g : Input) (t c : ℕ) (log later before : Log) (bases : Bases) 
     → home g.catalogue c ≡ T (tm_no t) → log ≡ later ++ Does (home g.catalogue c) (commit_act g.catalogue bases c a) ∷ before
     → active (setting_of g (home g.catalogue c)) c (local_of g (home g.catalogue c) before) ≡ Some a → IsCommitT g t c log a
 commit_t g t c log later before bases a h hm e act =
-    let at : Site = T (tm_no t) in
     let hb : IsPermitted g before = permitted_part g log before h (part_of log later _ before e) in
     let st = start_of_active (setting_of g (home g.catalogue c)) c (local_of g (home g.catalogue c) before) a (home_fair g c before hb) act in
     let x = local_grows g (home g.catalogue c) later (Does (home g.catalogue c) (commit_act g.catalogue bases c a) ∷ before) in
     let is : local_of g (home g.catalogue c) log ≡ x.0 ++ Did (commit_act g.catalogue bases c a) ∷ local_of g (home g.catalogue c) before = ap
     (local_of g (home g.catalogue c)) e ∙ x.1 ∙ ap (λ l. x.0 ++ l) (own_act g (home g.catalogue c) (commit_act g.catalogue bases c a) before) in
-    grind (arith, active)
+    grind (arith, active, T (tm_no t))
 
 -- class 0 is never spoilt
 spoilt_not : (g : Input) (k t c j kd : ℕ) (d : DmNo) (log : Log) (ts : Ts) (of : ClassNo) (txn : TxnNo) (n : ℕ) (ds : List Cond) (us : List Use) (q : Cond) (w : ℕ)
@@ -135,8 +126,7 @@ spoilt_not g k t c j kd d log ts of txn n ds us q w h i run small hm id e le wr 
       | inl lo ↦ (let b = lo.below in omega (arith, b, le, r.ts_is, cm.ts_is))
       | inr hi ↦ (let p1 = part_of log hi.start.later _ hi.start.rest hi.start.is in
           let h1 = permitted_part g log hi.start.rest h p1 in
-          let ap0 = all_applied g hi.start.rest (u_stamp g r.before) kd d.0 h1 hi.dones id in
-          let an = answered_before g kd d hi.start.rest (u_stamp g r.before) h1 id ap0 in
+          let an = answered_before g kd d hi.start.rest (u_stamp g r.before) h1 id (all_applied g hi.start.rest (u_stamp g r.before) kd d.0 h1 hi.dones id) in
           not_again g d log an.0 ts of txn n ds us an.1 h e (part_join log hi.start.rest an.1 p1 an.2) an.3 (an.4 ∙ sym r.ts_is))
     ]
 
@@ -152,9 +142,8 @@ never_spoilt g k t j kd m d log ts of txn n ds us q h i run small hm id e f =
     elim (spoils (view_of s l) q) as (λ b. spoils (view_of s l) q ≡ b → b ≡ false) [
       | true ↦ λ p. (let z = is_spoilt s l q p in
           let wr = writer_of g log d q.class.0 z.place z.ts z.of z.txn z.changes h z.there in
-          let same = read_times g d log ts of txn n ds us m q h e f in
           absurd (spoilt_not g k t q.class.0 j kd d log ts of txn n ds us q z.ts.0 h i run small hm id e
-          (subst (λ y. y ≤ z.ts.0) same (le_as q.time.0 _ z.ts.0 z.at_least z.ts_is)) wr))
+          (subst (λ y. y ≤ z.ts.0) (read_times g d log ts of txn n ds us m q h e f) (le_as q.time.0 _ z.ts.0 z.at_least z.ts_is)) wr))
       | false ↦ λ p. refl
     ] refl
 
@@ -188,8 +177,7 @@ zero_pair g k t log later log2 q q2 i h e =
     let su = at_start g k t log q i h in
     let c = hold_chain g k t log i h.1 in
     let sv = serving (setting_of g U) k t lu i (u_table g log h.1) in
-    let h2 : IsPermitted g log2 = permitted_part g log log2 h.1 (part_of log later _ log2 e) in
-    let sv2 = serving (setting_of g U) k t l2 i (u_table g log2 h2) in
+    let sv2 = serving (setting_of g U) k t l2 i (u_table g log2 (permitted_part g log log2 h.1 (part_of log later _ log2 e))) in
     let x = local_grows g U later (Does U (start_u g log2 q2) ∷ log2) in
     let is : lu ≡ x.0 ++ Did (start_u g log2 q2) ∷ l2 = ap (local_of g U) e ∙ x.1 ∙ ap (λ l. x.0 ++ l) (own_act g U (start_u g log2 q2) log2) in
     let dg = drawn_grow x.0 (Did (start_u g log2 q2) ∷ l2) in

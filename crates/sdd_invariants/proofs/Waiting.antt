@@ -1,5 +1,5 @@
 -- While a READ waits, no WRITE that spoils one of its conditions is processed.
-use Rattle.sdd_invariants.proofs.All.{AllUnspoilt, Apply, Bool, Change, ClassNo, ClassView, Cond, Did, Each, Entry, Handed, IsClassHere, IsDueEach, IsReadWith, IsUnspoilt, IsWaiting, List, Log, May, Msg, None, Null, Option, Pipe, Read, Rec, Records, Setting, Site, Some, Ts, TxnNo, Write, [], ap, arith, at_class, class_view, cond, cons_option, dec_le, false, filter, filter_map, fold, goes_through, greatest, head, head_of, holds_back, if◌then◌else◌, inl, inr, is_at_least, is_processing, length, length-map-range_with_len, list_any, max, nat_le, nat_tests, not, or_assoc, pipe, put, raised, refl, slice_get, slice_get-get_or, spoiler, spoiling, spoils, subst, suc, sym, touches, true, view_of, waits, waits_own, write_time, zero, ℕ, ◌&&◌, ◌++◌, ◌<◌, ◌==◌, ◌||◌, ◌∙◌, ◌∷◌, ◌≡◌, ◌≢◌, ◌≤◌}
+use Rattle.sdd_invariants.proofs.All.{AllUnspoilt, Apply, Bool, Change, ClassNo, ClassView, Cond, Did, Each, Entry, Handed, IsClassHere, IsDueEach, IsReadWith, IsUnspoilt, IsWaiting, List, Log, May, Msg, None, Option, Pipe, Read, Rec, Records, Setting, Site, Some, Ts, TxnNo, Write, [], ap, arith, at_class, class_view, cond, dec_le, false, filter, filter_map, fold, goes_through, head, head_of, holds_back, if◌then◌else◌, inl, inr, is_at_least, is_processing, length, length-map-range_with_len, list_any, nat_le, nat_tests, or_assoc, pipe, put, raised, refl, slice_get, slice_get-get_or, spoiler, spoiling, spoils, subst, suc, sym, true, view_of, waits, waits_own, write_time, zero, ℕ, ◌&&◌, ◌++◌, ◌<◌, ◌==◌, ◌||◌, ◌∙◌, ◌∷◌, ◌≡◌, ◌≢◌, ◌≤◌}
 use Rattle.sdd_invariants.proofs.Processed.{not_own, own_record, passing, processed_handed, processed_more, read_step_way, and_false as never_and}
 use Rattle.sdd_invariants.proofs.AreReadSteps.{class_in_view, class_not_in_view, d_step, no_class}
 use Rattle.sdd_invariants.proofs.Bools.{neither_left, neither_right, same_number, same_or_not}
@@ -7,35 +7,20 @@ use Rattle.sdd_log.specs.dm.Due.{holds}
 
 -- what the table tests, as a test of each processed message
 
-le_max : (t w u : ℕ) → nat_le t (max w u) ≡ (nat_le t w || nat_le t u)
-le_max t w u = grind (arith, nat_tests)
-
-raised_test : (t : ℕ) (o : Option ℕ) (x : ℕ) → is_at_least t (raised o x) ≡ (is_at_least t o || nat_le t x)
-raised_test t o x = grind (arith, le_max)
-
 or_nothing : (b : Bool) → b ≡ (b || false)
 or_nothing b = grind arith
 
 greatest_test : (t : ℕ) (o : Option ℕ) (xs : List ℕ) → is_at_least t (fold raised o xs) ≡ (is_at_least t o || list_any (nat_le t) xs)
 greatest_test t o [] = or_nothing (is_at_least t o)
-greatest_test t o (x ∷ xs) = grind (arith, raised_test, or_assoc, greatest_test t (raised o x) xs)
-
-any_of_some : (t : ℕ) (o : Option ℕ) (xs : List ℕ) → list_any (nat_le t) (cons_option o xs) ≡ (is_at_least t o || list_any (nat_le t) xs)
-any_of_some t o xs = grind arith
+greatest_test t o (x ∷ xs) = grind (arith, nat_tests, or_assoc, greatest_test t (raised o x) xs)
 
 any_of_times : (t : ℕ) (f : Msg → Option ℕ) (ms : List Msg) → list_any (nat_le t) (filter_map f ms) ≡ list_any (λ m. is_at_least t (f m)) ms
 any_of_times t f [] = refl
-any_of_times t f (m ∷ ms) = any_of_some t (f m) (filter_map f ms) ∙ ap (λ b. is_at_least t (f m) || b) (any_of_times t f ms)
-
-spoils_any : (d : Cond) (ms : List Msg) → is_at_least d.time.0 (greatest (filter_map (write_time d.frags) ms)) ≡ list_any (spoiling d) ms
-spoils_any d ms = greatest_test d.time.0 None (filter_map (write_time d.frags) ms) ∙ any_of_times d.time.0 (write_time d.frags) ms
+any_of_times t f (m ∷ ms) = (grind arith) ∙ ap (λ b. is_at_least t (f m) || b) (any_of_times t f ms)
 
 any_append : {A : Type 0} (f : A → Bool) (xs ys : List A) → list_any f (xs ++ ys) ≡ (list_any f xs || list_any f ys)
 any_append f [] ys = refl
 any_append f (x ∷ xs) ys = ap (λ b. f x || b) (any_append f xs ys) ∙ sym (or_assoc (f x) (list_any f xs) (list_any f ys))
-
-both_false : (a b : Bool) → a ≡ false → b ≡ false → (a || (b || false)) ≡ false
-both_false a b e f = rw (e, f) refl
 
 pub any_false_at : {A : Type 0} (f : A → Bool) (xs : List A) (k : ℕ) (x : A) → list_any f xs ≡ false → slice_get xs k ≡ Some x → f x ≡ false
 any_false_at f [] k x e g = cc
@@ -47,7 +32,7 @@ abbrev pub processed_in : Setting → Log → ℕ → List Msg
 processed_in s log j = (at_class (view_of s log) j).pipe.processed
 
 pub spoils_is : (s : Setting) (log : Log) (d : Cond) → spoils (view_of s log) d ≡ list_any (spoiling d) (processed_in s log d.class.0)
-spoils_is s log d = spoils_any d (processed_in s log d.class.0)
+spoils_is s log d = (greatest_test d.time.0 None (filter_map (write_time d.frags) (processed_in s log d.class.0)) ∙ any_of_times d.time.0 (write_time d.frags) (processed_in s log d.class.0))
 
 pub processed_in_is : (s : Setting) (log : Log) (j : ℕ) → IsClassHere s j → processed_in s log j ≡ (pipe j log).processed
 processed_in_is s log j l = ap (λ (k : ClassView). k.pipe.processed) (class_in_view s log j l)
@@ -75,11 +60,8 @@ waiting_on : (s : Setting) (c : ℕ) (e : Entry) (log : Log) → ((j : ℕ) → 
     → IsWaiting s c log → IsWaiting s c (e ∷ log)
 waiting_on s c e log f w r h = grind (arith, is_unspoilt_on, head, processed_by)
 
-head_stays : (s : Setting) (log : Log) (xs ys : List Msg) → IsUnspoilt s log (head_of xs) → head_of (xs ++ ys) ≡ head_of xs
-head_stays s log xs ys h = grind arith
-
 head_handed : (s : Setting) (log : Log) (b : Bool) (p : Pipe) (m : Msg) → IsUnspoilt s log (head p) → head (if b then put m p else p) ≡ head p
-head_handed s log b p m h = grind (arith, head_stays)
+head_handed s log b p m h = grind (arith)
 
 -- a Wait
 
@@ -108,14 +90,9 @@ wait_own s c conds r sends log l p w e = λ q.
 
 -- a record that processes the head of class k
 
-waits_other : (c k : ℕ) (r : Rec) (sends : List (Site × Msg)) (log : Log) → (k == c) ≡ false → waits c (Did (Records k r sends) ∷ log) ≡ waits c log
-waits_other c k r sends log e = rw e refl
-
 pub class_there : (s : Setting) (log : Log) (c : ℕ) → IsClassHere s c → slice_get (view_of s log).classes c ≡ Some (class_view s log c)
 class_there s log c l =
-    let n : length (view_of s log).classes ≡ suc (length s.catalogue.classes) = length-map-range_with_len (class_view s log) 0
-    (suc (length s.catalogue.classes)) in
-    let in_it : c < length (view_of s log).classes = omega arith in
+    let in_it : c < length (view_of s log).classes = omega (arith, length-map-range_with_len (class_view s log) 0 (suc (length s.catalogue.classes))) in
     slice_get-get_or (view_of s log).classes c no_class in_it ∙ ap (λ x. Some x) (class_in_view s log c l)
 
 -- what isn't held spoils no READ that waits
@@ -128,14 +105,11 @@ safe_other : (k : ℕ) (m : Msg) (ds : List Cond) → ((d : Cond) → spoiling d
 safe_other k m [] f = tt
 safe_other k m (d ∷ ds) f = (rw (f d) (never_and (d.class.0 == k)), safe_other k m ds f)
 
-same_test : (a b : Bool) (w t : ℕ) → (a && (nat_le t w && b)) ≡ false → (a && is_at_least t (cond b (Some w) None)) ≡ false
-same_test a b w t e = grind arith
-
 safe_write : (k : ℕ) (ts : Ts) (class : ClassNo) (txn : TxnNo) (changes : List Change) (ds : List Cond)
     → list_any (holds k ts.0 changes) ds ≡ false → IsSafe k (Write ts class txn changes) ds
 safe_write k ts class txn changes [] e = tt
 safe_write k ts class txn changes (d ∷ ds) e =
-    (same_test (d.class.0 == k) (touches d.frags changes) ts.0 d.time.0 (neither_left _ _ e), safe_write k ts class txn changes ds (neither_right _ _ e))
+    ((grind arith), safe_write k ts class txn changes ds (neither_right _ _ e))
 
 abbrev IsReadSafe : ℕ → Msg → Option Msg → Type 0
 IsReadSafe k m (Some (Read ts c txn attempt conds uses)) = IsSafe k m conds
@@ -145,35 +119,20 @@ read_safe : (k : ℕ) (ts : Ts) (class : ClassNo) (txn : TxnNo) (changes : List 
     → holds_back k ts.0 changes o ≡ false → IsReadSafe k (Write ts class txn changes) o
 read_safe k ts class txn changes o e = grind (arith, safe_write)
 
-read_safe_other : (k : ℕ) (m : Msg) (o : Option Msg) → ((d : Cond) → spoiling d m ≡ false) → IsReadSafe k m o
-read_safe_other k m o f = grind (arith, safe_other)
-
-unheld : (k : ℕ) (x : Bool) → (k ≢ 0) → (not (k == 0) && x) ≡ false → x ≡ false
-unheld k x n e = let z : (k == 0) ≡ false = elim (same_or_not k 0) [ inl p ↦ absurd (n p) | inr p ↦ p ] in rw z at e
-
 may_safe : (s : Setting) (log : Log) (k c : ℕ) (m : Msg) (r : Rec) → k ≢ 0 → IsClassHere s c → waits c log ≡ true
     → May (view_of s log) k (waits k log) m r → IsReadSafe k m (head (pipe c log))
 may_safe s log k c (Write ts class txn changes) (Apply t j dm w) n l q h =
-    let e : list_any (λ (v : ClassView). v.waits && holds_back k ts.0 changes (head v.pipe)) (view_of s log).classes ≡ false = unheld k _ n h.3 in
+    let e : list_any (λ (v : ClassView). v.waits && holds_back k ts.0 changes (head v.pipe)) (view_of s log).classes ≡ false = (let z : (k == 0) ≡ false = elim (same_or_not k 0) [ inl p ↦ absurd (n p) | inr p ↦ p ] in rw z at h.3) in
     let f : (waits c log && holds_back k ts.0 changes (head (pipe c log))) ≡ false = any_false_at
     (λ (v : ClassView). v.waits && holds_back k ts.0 changes (head v.pipe)) (view_of s log).classes c (class_view s log c) e (class_there s log c l) in
     read_safe k ts class txn changes (head (pipe c log)) (rw q at f)
-may_safe s log k c (Read ts class txn attempt conds uses) r n l q h = read_safe_other k (Read ts class txn attempt conds uses) (head (pipe c log)) (λ d. refl)
-may_safe s log k c (Null class t) r n l q h = read_safe_other k (Null class t) (head (pipe c log)) (λ d. refl)
-may_safe s log k c m r n l q h = absurd h
+may_safe s log k c m r n l q h = grind (arith, safe_other, head, pipe)
 
 processed_own : (s : Setting) (k : ℕ) (m : Msg) (r : Rec) (sends : List (Site × Msg)) (log : Log) → IsClassHere s k
     → is_processing r ≡ true → head (pipe k log) ≡ Some m → processed_in s (Did (Records k r sends) ∷ log) k ≡ processed_in s log k ++ m ∷ []
 processed_own s k m r sends log l p e =
     processed_in_is s (Did (Records k r sends) ∷ log) k l ∙ ap (λ (x : Pipe). x.processed) (own_record k r sends log p).0 ∙ processed_more (pipe k log) m e
     ∙ ap (λ xs. xs ++ m ∷ []) (sym (processed_in_is s log k l))
-
-processed_else : (s : Setting) (j k : ℕ) (r : Rec) (sends : List (Site × Msg)) (log : Log) → (k == j) ≡ false
-    → processed_in s (Did (Records k r sends) ∷ log) j ≡ processed_in s log j
-processed_else s j k r sends log e = processed_by s (Did (Records k r sends)) log j (ap (λ (x : Pipe). x.processed) (not_own j k r sends log (inl e)).pipe_same)
-
-zero_not : (n : ℕ) → (n == 0) ≡ false → n ≢ 0
-zero_not n e p = let q : (n == 0) ≡ true = ap (λ k. k == 0) p in cc
 
 still : (s : Setting) (k : ℕ) (m : Msg) (r : Rec) (sends : List (Site × Msg)) (log : Log) (ds : List Cond) → IsClassHere s k
     → is_processing r ≡ true → head (pipe k log) ≡ Some m → (k ≢ 0 → IsSafe k m ds) → AllUnspoilt s log ds → AllUnspoilt s (Did (Records k r sends) ∷ log) ds
@@ -184,13 +143,13 @@ still s k m r sends log (d ∷ ds) l p e f h = (
     | inr u ↦ elim (same_or_not d.class.0 0) [
       | inl z ↦ inl z
       | inr z ↦ elim (same_or_not k d.class.0) [
-        | inl q ↦ (let nonzero : k ≢ 0 = λ w. zero_not d.class.0 z (sym q ∙ w) in
+        | inl q ↦ (let nonzero : k ≢ 0 = λ w. (let q : (d.class.0 == 0) ≡ true = ap (λ k. k == 0) (sym q ∙ w) in cc) in
             let fine : spoiling d m ≡ false = rw (subst (λ x. (d.class.0 == x) ≡ true) (sym q) (same_number d.class.0)) at (f nonzero).0 in
             inr (spoils_is s (Did (Records k r sends) ∷ log) d
             ∙ ap (list_any (spoiling d))
             (subst (λ j. processed_in s (Did (Records k r sends) ∷ log) j ≡ processed_in s log j ++ m ∷ []) q (processed_own s k m r sends log l p e))
-            ∙ any_append (spoiling d) (processed_in s log d.class.0) (m ∷ []) ∙ both_false _ _ (sym (spoils_is s log d) ∙ u) fine))
-        | inr q ↦ inr (spoils_is s (Did (Records k r sends) ∷ log) d ∙ ap (list_any (spoiling d)) (processed_else s d.class.0 k r sends log q) ∙ sym (spoils_is s log d) ∙ u)
+            ∙ any_append (spoiling d) (processed_in s log d.class.0) (m ∷ []) ∙ (rw ((sym (spoils_is s log d) ∙ u), fine) refl)))
+        | inr q ↦ inr (spoils_is s (Did (Records k r sends) ∷ log) d ∙ ap (list_any (spoiling d)) (processed_by s (Did (Records k r sends)) log d.class.0 (ap (λ (x : Pipe). x.processed) (not_own d.class.0 k r sends log (inl q)).pipe_same)) ∙ sym (spoils_is s log d) ∙ u)
       ]
     ]
   ],
@@ -207,15 +166,8 @@ record_other : (s : Setting) (c k : ℕ) (m : Msg) (r : Rec) (sends : List (Site
     → IsClassHere s k → is_processing r ≡ true → head (pipe k log) ≡ Some m → May (view_of s log) k (waits k log) m r
     → IsWaiting s c log → IsWaiting s c (Did (Records k r sends) ∷ log)
 record_other s c k m r sends log o l p e j h = λ q.
-    let was : waits c log ≡ true = sym (waits_other c k r sends log o) ∙ q in
-    let i = h was in (
-      i.0,
-      subst (λ (x : Pipe). IsUnspoilt s (Did (Records k r sends) ∷ log) (head x)) (sym (not_own c k r sends log (inl o)).pipe_same)
-          (is_still s k m r sends log (head (pipe c log)) l p e (λ n. may_safe s log k c m r n i.0 was j) i.1),
-    )
-
-record_own : (s : Setting) (c : ℕ) (r : Rec) (sends : List (Site × Msg)) (log : Log) → is_processing r ≡ true → IsWaiting s c (Did (Records c r sends) ∷ log)
-record_own s c r sends log p = λ q. let w : waits c (Did (Records c r sends) ∷ log) ≡ false = waits_own c r sends log p in cc
+    let was : waits c log ≡ true = sym (rw o refl) ∙ q in
+    let i = h was in (grind (arith, head, not_own, is_still, pipe, may_safe))
 
 pub waiting : (s : Setting) (log : Log) → Each (IsDueEach s) log → (c : ℕ) → IsWaiting s c log
 waiting s [] h c = λ q. cc
@@ -229,10 +181,10 @@ waiting s (Did act ∷ log) h c =
     (λ k conds r sends l p w a b. elim (same_or_not k c) [
       | inl q ↦ subst (λ x. IsWaiting s c (Did (Records x r sends) ∷ log)) (sym q) (wait_own s c conds r sends log (rw q at l) p (rw q at a) b)
       | inr q ↦ waiting_on s c (Did (Records k r sends)) log (λ j. ap (λ (x : Pipe). x.processed) (not_own j k r sends log (inr p)).pipe_same)
-          (waits_other c k r sends log q) (λ _. ap head (not_own c k r sends log (inr p)).pipe_same) i
+          (rw q refl) (λ _. ap head (not_own c k r sends log (inr p)).pipe_same) i
     ])
     (λ k m r sends l p e j. elim (same_or_not k c) [
-      | inl q ↦ subst (λ x. IsWaiting s c (Did (Records x r sends) ∷ log)) (sym q) (record_own s c r sends log p)
+      | inl q ↦ subst (λ x. IsWaiting s c (Did (Records x r sends) ∷ log)) (sym q) (λ q. let w : waits c (Did (Records c r sends) ∷ log) ≡ false = waits_own c r sends log p in cc)
       | inr q ↦ record_other s c k m r sends log q l p e j i
     ]) (d_step s log act h.0)
 waiting s (x ∷ log) h c = waiting_on s c x log (λ j. refl) refl (λ i. refl) (waiting s log h.1 c)

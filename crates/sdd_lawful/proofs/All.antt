@@ -34,14 +34,13 @@ pub use Rattle.sdd_invariants.proofs.lang.Sets.{IsThere, fragments_there}
 pub use Rattle.sdd_invariants.proofs.lang.SortedEntries.{each_inserted, item_cmp_exact, item_cmp_total, sorted_nil}
 pub use Rattle.sdd_invariants.proofs.lang.StaysDatabase.{effect_changes, rows_make_database}
 pub use Rattle.sdd_invariants.proofs.logs.EachLocal.{allowed_act}
-pub use Rattle.sdd_invariants.proofs.logs.NewMarks.{lawful_permitted, left_is, marked}
+pub use Rattle.sdd_invariants.proofs.logs.NewMarks.{lawful_permitted, left_is}
 pub use Rattle.sdd_invariants.proofs.logs.attempt.site_module.wire.Texts.{contains-true as number_member}
 pub use Rattle.sdd_invariants.proofs.logs.dm.Applied.{acted_more as applied_if}
 pub use Rattle.sdd_invariants.proofs.logs.net.Lists.{get-append as in_left}
 pub use Rattle.sdd_invariants.proofs.logs.tm.Lists.{get_within as place_within, of_map as in_mapped}
 pub use Rattle.sdd_invariants.proofs.protocol.Laws.{one_table}
-pub use Rattle.sdd_invariants.specs.All.{Act, AllCommitted, AllLe, AllLt, Answer, Apply, Arrive, Ask, Attempt as Running, Bases, Catalogue, Change, Class, ClassNo, ClassView, Commit, Cond, Condition, D, Database, Delete, Did, DmNo, Does, Done, Each, Edge, Effect, Entry, Era, Event, Fetch, FitsStatement, FitsTxn, FragNo, Fragment, Hand, Handed, HasApply, Held, History, Home, Input, IsAllowed, IsAnswerWith, IsApplied, IsApplyOf, IsAskBy, IsBased, IsChange, IsClassHere, IsCommitRecord, IsDatabase, IsDue, IsDueAt, IsEntry, IsEra, IsFair, IsLawful, IsOf, IsOfWrite, IsPermitted, IsPlaced, IsPutAt, IsRead, IsReadStep, IsRelation, IsServedClass, IsSoundCatalogue, IsStartOf, IsStartRecord, IsStep, IsTable, IsWrite, Item, Log, Mark, May, Msg, Notes, Nothing, Null, Open, P2, P3, Pass, Processes, Protocol, Put, PutsHeld, Query, Queued, Read, Rec, Records, Redeclare, Redeclares, Reduce, Refuses, RelNo, Reply, Restriction, Row, Sends, Setting, Settle, Ship, Site, Start, Stmt, Submits, Submitted, T, Tick, Ticked, TmNo, Ts, Txn, TxnNo, U, Update, Use, View, Wait, Waits, Write, act_by, act_where, active, answer_of, answer_to, applied, ascending, asked_by, asked_in, asked_on, asks_rows, attempt_due, base_of, bound, bound_of, by_event, by_head, by_link, by_mark, by_open, by_record, by_redeclare, by_round, by_site, by_wait, change_of, changes_at, changes_in, changes_to, class_at, class_for, class_no, class_puts, classes_of, clock, commit_act, commit_more, cond_for, cond_of, condition_on, conditions, conditions_at, contains, covers, current_era, database_of, dated, dm_no, due_by, effect, first_row, first_rows, first_send, frag_no, fragment_at, fragment_of, fragments_for, fragments_in, fragments_of, frags_asked, given_to, handed, hands, has_copy, head, head_due, head_of, head_step, history, home, home_of, in_passing, is_apply, is_asked, is_asked_of, is_at, is_committed, is_for, is_held, is_met, is_over, is_processing, is_read_at, item_cmp, items_of, judged, last_write_for, left, local_of, lowest_copy, mark_due, marks, modules_asked, modules_of, next_stamp, note_if, nth_era, number_of, numbers_to, opens, or_else, or_zero, p2_of, part_uses, pipe, pipe_at, promises, puts_to, queue, reads_at, redeclares, restrictions_of, results, rows_in_fragment, rows_of, same_protocol, same_site, sends_of_act, setting_of, snapshots, snapshots_at, spoiler, spoils, stamps, start_at, start_more, start_read, start_u, starts_of, statement_uses, step_on, submits_by, submits_in, submits_of, time_at, time_of, tm_no, to_site, touches, txn_at, txn_no, u_stamp, undeclared_conditions, use_of, use_there, uses_from, uses_of, view_of, waits, was_marked, with_era, with_frags, with_item, with_submit, write_to}
-pub use Rattle.sdd_invariants.specs.dm.declared.step.Step.{Step}
+pub use Rattle.sdd_invariants.specs.All.{Act, AllCommitted, AllLe, AllLt, Answer, Apply, Arrive, Ask, Attempt as Running, Bases, Catalogue, Change, Class, ClassNo, ClassView, Commit, Cond, Condition, D, Database, Delete, Did, DmNo, Does, Done, Each, Effect, Entry, Era, FitsStatement, FitsTxn, FragNo, Fragment, Hand, Handed, HasApply, History, Home, Input, IsAnswerWith, IsApplied, IsApplyOf, IsAskBy, IsBased, IsChange, IsClassHere, IsCommitRecord, IsDatabase, IsDue, IsDueAt, IsEntry, IsEra, IsFair, IsLawful, IsOf, IsOfWrite, IsPermitted, IsPlaced, IsPutAt, IsRead, IsReadStep, IsRelation, IsServedClass, IsSoundCatalogue, IsStartOf, IsStartRecord, IsStep, IsTable, IsWrite, Item, Log, Mark, May, Msg, Nothing, Null, Open, Pass, Protocol, Put, PutsHeld, Query, Queued, Read, Rec, Records, Redeclares, RelNo, Reply, Restriction, Row, Sends, Setting, Site, Start, Stmt, Submits, Submitted, T, Tick, TmNo, Ts, Txn, TxnNo, U, Update, Use, View, Wait, Write, act_by, act_where, active, answer_of, applied, ascending, asked_by, asked_in, asks_rows, base_of, bound, by_record, by_wait, change_of, changes_at, changes_in, changes_to, class_at, class_for, class_no, class_puts, classes_of, clock, commit_act, commit_more, cond_for, cond_of, condition_on, conditions, conditions_at, contains, covers, current_era, database_of, dated, dm_no, effect, first_row, first_rows, first_send, frag_no, fragment_at, fragment_of, fragments_for, fragments_in, fragments_of, frags_asked, given_to, handed, hands, has_copy, head, head_of, history, home, home_of, in_passing, is_apply, is_asked, is_asked_of, is_at, is_committed, is_for, is_met, is_processing, is_read_at, item_cmp, items_of, judged, last_write_for, local_of, mark_due, marks, modules_asked, modules_of, next_stamp, nth_era, number_of, numbers_to, opens, or_else, or_zero, p2_of, part_uses, pipe, pipe_at, promises, puts_to, queue, reads_at, redeclares, restrictions_of, results, rows_in_fragment, rows_of, same_protocol, same_site, sends_of_act, setting_of, snapshots, snapshots_at, spoiler, spoils, stamps, start_at, start_more, start_read, start_u, starts_of, statement_uses, step_on, submits_by, submits_in, submits_of, time_at, time_of, tm_no, to_site, touches, txn_at, txn_no, u_stamp, use_of, use_there, uses_from, uses_of, view_of, waits, was_marked, with_era, with_item, write_to}
 pub use Rattle.sdd_invariants.specs.logs.Permitted.{one_if}
 pub use Rattle.sdd_invariants.specs.site_module.SiteLog.{Log as SiteLog}
 pub use Rattle.sdd_lawful.specs.Made.{IsBefore, IsMadeAt, record_of}
@@ -67,16 +66,16 @@ pub use Rattle.sdd_laws.proofs.serial_orders.Before.{answer_passes, is_answered}
 pub use Rattle.sdd_laws.proofs.serial_orders.Found.{from_committed, in_committed}
 pub use Rattle.sdd_laws.proofs.serial_orders.Members.{place_of as member_at}
 pub use Rattle.sdd_laws.proofs.serial_orders.Places.{commit_of, one_attempt, one_of_txn, same_start}
-pub use Rattle.sdd_laws.specs.All.{AnsweredBefore, AppliedBefore, AreAllApplied, AreEras, AreFew, ArePlaced, Asks, Attempt, ChangeExists, ChangesOne, Committed, CommittedBefore, CondExists, Dated, DatesDiffer, Eras, ExistsIn, FitTogether, GoesTo, HasCommit, HasNoCycle, IsAgain, IsAnswered, IsAttempt, IsBound, IsClass, IsCommitted, IsConditionOf, IsEarlier, IsEraOf, IsFragment, IsFrom1To, IsModule, IsOfCommit, IsOfEarlierEra, IsOfSubmit, IsOrderable, IsRecordAt, IsReplyOf, IsSerial, IsSubmitted, IsWhollyAfter, IsWhollyBefore, KeepsAnswers, KeepsApplies, KeepsConditions, KeepsEras, KeepsLaws, KeepsRejections, KeepsStarts, KeepsUndeclared, NamesOneOf, NumbersExist, Reject as Rejected, StartedBefore, Submit, Touches, TouchesOne, TxnsExist, UseExists, by_change, by_no_class, by_use, catalogue_at, changes, committed, conditions_of, contents, copy_at, eras_begun, event_at, is_answer, is_start_of, module_of, of_fragment, p2_time, reads, record_at, rows_left, run, starts_before}
+pub use Rattle.sdd_laws.specs.All.{AnsweredBefore, AppliedBefore, AreAllApplied, AreEras, AreFew, ArePlaced, Asks, Attempt, ChangeExists, ChangesOne, Committed, CommittedBefore, CondExists, Dated, DatesDiffer, Eras, ExistsIn, GoesTo, HasCommit, HasNoCycle, IsAgain, IsAnswered, IsAttempt, IsBound, IsClass, IsCommitted, IsConditionOf, IsEarlier, IsEraOf, IsFragment, IsFrom1To, IsModule, IsOfCommit, IsOfSubmit, IsOrderable, IsRecordAt, IsReplyOf, IsSerial, IsSubmitted, IsWhollyAfter, IsWhollyBefore, KeepsAnswers, KeepsApplies, KeepsConditions, KeepsEras, KeepsLaws, KeepsRejections, KeepsStarts, KeepsUndeclared, NamesOneOf, NumbersExist, Reject as Rejected, StartedBefore, Submit, Touches, TouchesOne, TxnsExist, UseExists, by_change, by_no_class, by_use, catalogue_at, changes, committed, conditions_of, contents, copy_at, event_at, is_answer, is_start_of, module_of, of_fragment, p2_time, reads, record_at, rows_left, run, starts_before}
 pub use Rattle.std.proofs.Common.{All, Bool, Contains, List, None, Option, Some, [], ap, append-nil, append_assoc, arith, cond, eq-eqb, eqb-true, false, filter, filter_map, flat_map, fold, if◌then◌else◌, inl, inr, is_some, length, length-append, map, nat_le, nat_lt, not, option_map, refl, slice_get, slice_index_or, subst, suc, sym, take, true, unwrap_or, zero, ℕ, ℤ, ◌%◌, ◌&&◌, ◌++◌, ◌+◌, ◌-◌, ◌<◌, ◌==◌, ◌||◌, ◌∙◌, ◌∷◌, ◌≡◌, ◌≢◌, ◌≤◌, ◌⊎◌}
 pub use Rattle.std.proofs.Math.Decide.{dec_le}
 pub use Rattle.std.proofs.Math.Nat.{mul-add-mod_self_right}
 pub use Rattle.std.proofs.Math.Seq.{take-append_seam}
-pub use Rattle.std.proofs.lemmas.Bool.{and_from as both, or_left, or_right}
+pub use Rattle.std.proofs.lemmas.Bool.{or_left, or_right}
 pub use Rattle.std.proofs.lemmas.List.{get_or_past}
 pub use Rattle.std.proofs.lemmas.List.Elements.{All-from_recursion, Contains-append_cases, Contains-append_left, Contains-append_right, filter-append, recursion_from_All}
 pub use Rattle.std.proofs.lemmas.Option.{get_or_from_slice_get}
 pub use Rattle.std.specs.List.{AllByRecursion, AllZip, cons_option, list_all, list_any, position_or_len, range_with_len}
 pub use Rattle.std.specs.List.Sorted.{IsStrictlySortedBy}
 pub use Rattle.std.specs.Map.{keys_of}
-pub use Rattle.std.specs.Option.{option_eq, option_or}
+pub use Rattle.std.specs.Option.{option_eq}

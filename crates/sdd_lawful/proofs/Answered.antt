@@ -1,5 +1,5 @@
 -- The Answers of a history, as acts of data modules, each with the READ that it answers and the Start that sent it.
-use Rattle.sdd_lawful.proofs.All.{Act, Answer, Attempt, Bool, Catalogue, ClassNo, Cond, D, DmNo, Does, Entry, Input, IsAnswered, IsAttempt, IsMadeAt, IsPermitted, IsRead, IsReadStep, IsRecordAt, IsSoundCatalogue, List, Log, May, Msg, Read, Rec, Records, Setting, Site, Some, Ts, TxnNo, Use, View, [], allowed_act, ap, arith, ascending, bound, by_record, by_wait, class_no, class_number, conditions, conditions_at, contains, current_era, d_step, dm_no, filter_map, fragments_in, head, head_put, history, home, in_passing, inl, inr, length, local_of, map, modules_asked, modules_of, next_stamp, not_both, option_map, or_left, or_right, p2_of, p2_time, pipe, pipe_at, record_of, refl, same_number, same_or_not, sends_of_act, setting_of, slice_get, start_at, start_read, subst, sym, time_at, to_site, true, txn_no, unwrap_or, use_there, uses_of, view_of, waits, ℕ, ◌++◌, ◌<◌, ◌==◌, ◌∙◌, ◌∷◌, ◌≡◌}
+use Rattle.sdd_lawful.proofs.All.{Act, Answer, Attempt, Bool, ClassNo, Cond, D, DmNo, Does, Entry, Input, IsAnswered, IsAttempt, IsMadeAt, IsPermitted, IsRead, IsReadStep, IsRecordAt, IsSoundCatalogue, List, Log, May, Msg, Read, Rec, Records, Setting, Site, Some, Ts, TxnNo, Use, View, [], allowed_act, ap, arith, ascending, bound, by_record, by_wait, class_no, class_number, conditions, conditions_at, contains, current_era, d_step, dm_no, filter_map, fragments_in, head, head_put, history, home, in_passing, inl, inr, length, local_of, map, modules_asked, modules_of, next_stamp, not_both, or_left, or_right, p2_time, pipe, pipe_at, record_of, refl, same_number, same_or_not, sends_of_act, setting_of, slice_get, start_at, start_read, subst, sym, time_at, to_site, true, txn_no, use_there, uses_of, view_of, waits, ℕ, ◌++◌, ◌<◌, ◌==◌, ◌∙◌, ◌∷◌, ◌≡◌}
 use Rattle.sdd_lawful.proofs.Applied.{IsDataIn, data_in}
 use Rattle.sdd_lawful.proofs.Classes.{at_home, further_back, home_setting}
 use Rattle.sdd_lawful.proofs.Commits.{begun_as}
@@ -21,9 +21,8 @@ answer_may : (v : View) (k : ℕ) (w : Bool) (m : Msg) (r : Rec) (txn : TxnNo) (
     → r ≡ Answer txn attempt dm → IsReadMsg txn attempt m
 answer_may v k w (Read t c n i ds us) (Answer x y dm2) txn attempt dm h e =
     let a : x ≡ txn = cc in let b : y ≡ attempt = cc in
-    let p : n ≡ txn = ap (λ z. txn_no z) (sym h.0) ∙ a in
     let q : i ≡ attempt = sym h.1 ∙ b in
-    record { ts = t; class = c; conds = ds; uses = us; is = ap (λ z. Read t c z i ds us) p ∙ ap (λ z. Read t c txn z ds us) q }
+    record { ts = t; class = c; conds = ds; uses = us; is = ap (λ z. Read t c z i ds us) (ap (λ z. txn_no z) (sym h.0) ∙ a) ∙ ap (λ z. Read t c txn z ds us) q }
 answer_may v k w m (Answer x y dm2) txn attempt dm h e = absurd h
 answer_may v k w m r txn attempt dm h e = cc
 
@@ -39,10 +38,8 @@ pub answer_head : (s : Setting) (l : site.Log) (k : ℕ) (txn : TxnNo) (attempt 
 answer_head s l k txn attempt dm sends (in_passing e) = cc
 answer_head s l k txn attempt dm sends (by_wait j ds r ss lt p w i q e) = grind (arith, not_both)
 answer_head s l k txn attempt dm sends (by_record j m r ss lt p i may e) =
-    let same : Answer txn attempt dm ≡ r = cc in
-    let at : k ≡ j = cc in
-    let x = answer_may (view_of s l) j (waits j l) m r txn attempt dm may (sym same) in
-    record { ts = x.ts; class = x.class; conds = x.conds; uses = x.uses; is = subst (λ y. head (pipe y l) ≡ Some (Read x.ts x.class txn attempt x.conds x.uses)) (sym at) (i ∙ ap (λ y. Some y) x.is) }
+    let x = answer_may (view_of s l) j (waits j l) m r txn attempt dm may (sym cc) in
+    record { ts = x.ts; class = x.class; conds = x.conds; uses = x.uses; is = subst (λ y. head (pipe y l) ≡ Some (Read x.ts x.class txn attempt x.conds x.uses)) (sym cc) (i ∙ ap (λ y. Some y) x.is) }
 
 -- a Start sends one READ to each module that it asks
 
@@ -65,10 +62,6 @@ in_reads f x (d ∷ ds) k m e = elim (same_or_not x d) [
 abbrev conds_of : Msg → List Cond
 conds_of (Read ts class txn attempt conds uses) = conds
 conds_of m = []
-
-conds_same : (cat : Catalogue) (table : List line.Entry) (c : ℕ) (frags : List ℕ) (own b d : ℕ)
-    → conditions_at cat table c frags own b d ≡ conditions_at cat table c frags own (unwrap_or (option_map (λ (t : Ts). t.0) (p2_of c b)) 0) d
-conds_same cat table c frags own b d = grind (arith, conditions)
 
 abbrev pub read_msg : Attempt → List Cond → List Use → Msg
 read_msg a conds uses = Read (time_at a.ts) (class_no a.class) (txn_no a.txn) a.number conds uses
@@ -119,7 +112,6 @@ read_of_some g log later before e c n number d ts of ds us h is top =
     (subst (λ y. slice_get (to_site (D (dm_no d)) (sends_of_act y)) p.place ≡ Some m) r.act_is p.there) in
     let start_is : before ≡ p.later ++ Does at start ∷ p.before = p.is ∙ ap (λ y. p.later ++ Does at y ∷ p.before) r.act_is in
     let f = further_back log later before e (Does at start) p.later p.before is start_is in
-    let rises = place_rises p.later (Does at start) p.before (start_of b) refl in
     let size : length (history before) ≡ length (history (p.later ++ Does at start ∷ p.before)) = ap (λ y. length (history y)) start_is in
     record {
       attempt = b;
@@ -137,9 +129,8 @@ read_of_some g log later before e c n number d ts of ds us h is top =
         start_is = start_is;
         start_makes = refl;
         start_place = refl;
-        start_before = omega arith;
-        conds_are = conds_same g.catalogue (current_era (home_setting g c) l).table c (ascending (fragments_in (uses_of g.catalogue r.queued.text)))
-            (next_stamp (home_setting g c) l) (bound (home_setting g c) l) d;
+        start_before = omega (arith, place_rises p.later (Does at start) p.before (start_of b) refl);
+        conds_are = grind (arith, conditions, current_era, home_setting, ascending, fragments_in, uses_of, next_stamp, bound);
         uses_are = refl;
         asked = i.0;
       };
@@ -167,22 +158,6 @@ pub record IsAnswerOfSome (g : Input) (log : Log) (n number d k : ℕ) : Type 0 
   pub number_is : attempt.number ≡ number
   pub answer : IsAnswerIn g log attempt d k
 
-answer_as : (g : Input) (log later : Log) (sends : List (Site × Msg)) (before : Log) (b : Attempt) (c n number d k : ℕ) → b.class ≡ c → b.txn ≡ n
-    → b.number ≡ number → log ≡ later ++ Does (D (dm_no d)) (Records c (Answer (txn_no n) number (dm_no d)) sends) ∷ before → length (history before) ≡ k
-    → IsPermitted g (Does (D (dm_no d)) (Records c (Answer (txn_no n) number (dm_no d)) sends) ∷ before) → IsReadIn g before b d → IsAnswerIn g log b d k
-answer_as g log later sends before b c n number d k p q r is place h read =
-    let named : Records b.class (answer_rec b d) sends ≡ Records c (Answer (txn_no n) number (dm_no d)) sends =
-    ap (λ y. Records y (answer_rec b d) sends) p ∙ (λ i. Records c (Answer (txn_no (q i)) (r i) (dm_no d)) sends) in
-    record {
-      later = later;
-      sends = sends;
-      before = before;
-      is = is ∙ ap (λ y. later ++ Does (D (dm_no d)) y ∷ before) (sym named);
-      place_is = place;
-      permitted = subst (λ y. IsPermitted g (Does (D (dm_no d)) y ∷ before)) (sym named) h;
-      read = read;
-    }
-
 pub answer_of_some : (g : Input) (log : Log) (n number d k : ℕ) → IsPermitted g log
     → IsRecordAt (history log) k (Answer (txn_no n) number (dm_no d)) → IsAnswerOfSome g log n number d k
 answer_of_some g log n number d k h st =
@@ -198,7 +173,7 @@ answer_of_some g log n number d k h st =
       started = r.started;
       txn_is = r.txn_is;
       number_is = r.number_is;
-      answer = answer_as g log x.later x.sends x.before r.attempt x.class n number d k r.class_is r.txn_is r.number_is x.is x.place_is x.permitted r.read;
+      answer = (grind (arith, answer_rec));
     }
 
 pub answer_in : (g : Input) (log : Log) (a : Attempt) (d k : ℕ) → IsSoundCatalogue g.catalogue → IsPermitted g log → IsAttempt (history log) a

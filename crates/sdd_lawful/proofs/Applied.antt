@@ -1,5 +1,5 @@
 -- The Applies of a history, as acts of data modules; and what a data module has applied at one of its acts.
-use Rattle.sdd_lawful.proofs.All.{Act, AppliedBefore, Apply, Bases, Bool, Catalogue, Change, ClassNo, D, Did, DmNo, Does, Input, IsApplied, IsApplyOf, IsMadeAt, IsModule, IsOfWrite, IsPermitted, IsPutAt, IsRecordAt, IsWrite, List, Log, Msg, Option, Rec, Records, Running, Site, SiteLog, Some, Ts, TxnNo, Write, [], and_left, ap, append_assoc, apply_follows, apply_of_head, arith, at_seam, class_no, commit_act, dm_no, effect, eqb-true, false, filter_map, goes_write, head, head_put, history, if◌then◌else◌, in_either, in_left, in_one, inl, inr, is_processing, length, local_of, permitted_before, pipe_at, place_of_act, range_with_len, refl, results, same_number, same_or_not, sends_of_act, slice_get, subst, suc, sym, time_at, to_site, true, true_or_false, txn_no, write_to, zero, ℕ, ◌&&◌, ◌++◌, ◌+◌, ◌<◌, ◌==◌, ◌∙◌, ◌∷◌, ◌≡◌, ◌≤◌}
+use Rattle.sdd_lawful.proofs.All.{Act, AppliedBefore, Apply, Bases, Catalogue, Change, ClassNo, D, Did, DmNo, Does, Input, IsApplied, IsApplyOf, IsMadeAt, IsModule, IsOfWrite, IsPermitted, IsPutAt, IsRecordAt, List, Log, Msg, Option, Rec, Records, Running, Site, SiteLog, Some, Ts, TxnNo, Write, [], and_left, ap, append_assoc, apply_follows, apply_of_head, arith, at_seam, class_no, commit_act, dm_no, effect, eqb-true, false, filter_map, goes_write, head, head_put, history, in_either, in_left, in_one, inl, inr, is_processing, length, local_of, permitted_before, pipe_at, place_of_act, range_with_len, refl, results, same_number, same_or_not, sends_of_act, slice_get, subst, suc, sym, time_at, to_site, true, true_or_false, txn_no, write_to, zero, ℕ, ◌&&◌, ◌++◌, ◌+◌, ◌<◌, ◌==◌, ◌∙◌, ◌∷◌, ◌≡◌, ◌≤◌}
 use Rattle.sdd_lawful.proofs.Classes.{at_home, home_setting}
 use Rattle.sdd_lawful.proofs.Makers.{IsOfData, act_kind, data_home, is_of_run, is_own}
 use Rattle.sdd_lawful.proofs.Places.{made_at, place_rises, recorded_there}
@@ -58,9 +58,7 @@ write_module cat c bases a d k m e =
 
 pub put_module : (g : Input) (c : ℕ) (d : DmNo) (log : Log) (ts : Ts) (of : ClassNo) (txn : TxnNo) (changes : List Change)
     → IsPutAt g log c d (Write ts of txn changes) → IsModule g.catalogue d.0
-put_module g c d log ts of txn changes p =
-    let w : IsWrite (home_setting g c) (at_home g c p.before) p.act of.0 ts.0 txn.0 = p.by in
-    grind (arith, write_module)
+put_module g c d log ts of txn changes p = grind (arith, home_setting, at_home, write_module)
 
 -- an Apply of a transaction
 
@@ -135,16 +133,10 @@ result_in c (Did (Records k q sends) ∷ log) i r e = elim (true_or_false ((k ==
 ]
 result_in c (x ∷ log) i r e = result_past c x log r (result_in c log i r e)
 
-result_if : (b : Bool) (xs : List Rec) (y x : Rec) (i : ℕ) → slice_get xs i ≡ Some x → slice_get (if b then xs ++ y ∷ [] else xs) i ≡ Some x
-result_if true xs y x i e = in_left xs (y ∷ []) i x e
-result_if false xs y x i e = e
-
 pub result_of : (c : ℕ) (later before : SiteLog) (r : Rec) (sends : List (Site × Msg)) → is_processing r ≡ true
     → (i : ℕ) × (slice_get (results c (later ++ Did (Records c r sends) ∷ before)) i ≡ Some r)
 result_of c [] before r sends p = (length (results c before), rw (same_number c, p) (at_seam (results c before) [] r))
-result_of c (Did (Records k q ss) ∷ later) before r sends p =
-    let i = result_of c later before r sends p in
-    (i.0, result_if ((k == c) && is_processing q) (results c (later ++ Did (Records c r sends) ∷ before)) q r i.0 i.1)
+result_of c (Did (Records k q ss) ∷ later) before r sends p = grind (arith, in_left, (result_of c later before r sends p))
 result_of c (_ ∷ later) before r sends p = result_of c later before r sends p
 
 -- what a module has applied stands in the history before
@@ -154,20 +146,18 @@ applied_rec : (g : Input) (full : Log) (front log : Log) (d : DmNo) (c n : ℕ) 
 applied_rec g full front log d c n ts (Apply t j dm w) is h of x =
     let act : Act = Records c (Apply t j dm w) x.sends in
     let p = place_of_act g (D d) log x.later act x.before x.is in
-    let now : IsPermitted g (Does (D d) act ∷ p.rest) = permitted_before g p.later (Does (D d) act ∷ p.rest) (subst (IsPermitted g) p.is h) in
-    let same : dm ≡ d = act_kind g (D d) act p.rest now in
+    let same : dm ≡ d = act_kind g (D d) act p.rest (permitted_before g p.later (Does (D d) act ∷ p.rest) (subst (IsPermitted g) p.is h)) in
     let whole : full ≡ (front ++ p.later) ++ Does (D d) act ∷ p.rest = is ∙ ap (λ l. front ++ l) p.is
     ∙ sym (append_assoc front p.later (Does (D d) act ∷ p.rest)) in
     let there : IsRecordAt (history full) (length (history p.rest)) (Apply t j dm w) = subst (λ l. IsRecordAt (history l) (length (history p.rest)) (Apply t j dm w))
     (sym whole) (recorded_there (front ++ p.later) (Does (D d) act) p.rest (Apply t j dm w) refl) in
     let at_d : IsRecordAt (history full) (length (history p.rest)) (Apply t j d w) = subst
     (λ y. IsRecordAt (history full) (length (history p.rest)) (Apply t j y w)) same there in
-    let rises = place_rises p.later (Does (D d) act) p.rest (Apply t j dm w) refl in
     let size : length (history log) ≡ length (history (p.later ++ Does (D d) act ∷ p.rest)) = ap (λ l. length (history l)) p.is in
     record {
       place = length (history p.rest);
       applied = record { class = j.0; ts = w.0; is_recorded = subst (λ y. IsRecordAt (history full) (length (history p.rest)) (Apply (txn_no y) j d w)) of.0 at_d };
-      before = omega arith;
+      before = omega (arith, place_rises p.later (Does (D d) act) p.rest (Apply t j dm w) refl);
     }
 applied_rec g full front log d c n ts r is h of x = absurd of
 
@@ -180,8 +170,7 @@ applied_before g full front log d c a is h x = grind (arith, applied_rec, permit
 pub applied_there : (g : Input) (log later before : Log) (d : ℕ) (class : ℕ) (a : Running) (sends : List (Site × Msg))
     → log ≡ later ++ Does (D (dm_no d)) (Records class (apply_rec a.txn class d a.ts) sends) ∷ before → IsApplied g log (dm_no d) class a
 applied_there g log later before d class a sends is =
-    let act : Act = Records class (apply_rec a.txn class d a.ts) sends in
-    let m = act_local g (D (dm_no d)) act later before in
+    let m = act_local g (D (dm_no d)) (Records class (apply_rec a.txn class d a.ts) sends) later before in
     let i = result_of class m.0 (local_of g (D (dm_no d)) before) (apply_rec a.txn class d a.ts) sends refl in
     record {
       place = i.0;

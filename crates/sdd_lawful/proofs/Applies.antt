@@ -1,5 +1,5 @@
 -- The history of a permitted log keeps the law of Applies.
-use Rattle.sdd_lawful.proofs.All.{AppliedBefore, Attempt, Committed, D, Does, GoesTo, Input, IsAnswered, IsApplied, IsCommitted, IsEarlier, IsMadeAt, IsOfCommit, IsPermitted, IsRecordAt, IsSoundCatalogue, KeepsApplies, Log, Msg, Rec, Records, Some, Touches, Write, [], ap, append_assoc, applied_below, arith, around_applied, by_change, changes_to, class_no, commit_act, dm_no, head, history, home, inl, inr, length, lower_same_higher, pipe_at, record_at, refl, subst, sym, time_at, time_of, true, txn_no, ℕ, ◌++◌, ◌<◌, ◌==◌, ◌∙◌, ◌∷◌, ◌≡◌, ◌⊎◌}
+use Rattle.sdd_lawful.proofs.All.{AppliedBefore, Committed, D, Does, GoesTo, Input, IsAnswered, IsApplied, IsCommitted, IsEarlier, IsMadeAt, IsOfCommit, IsPermitted, IsRecordAt, IsSoundCatalogue, KeepsApplies, Log, Msg, Rec, Records, Some, Touches, Write, [], ap, append_assoc, applied_below, arith, around_applied, by_change, changes_to, class_no, commit_act, dm_no, head, history, home, inl, inr, length, lower_same_higher, pipe_at, record_at, refl, subst, sym, time_at, time_of, txn_no, ℕ, ◌++◌, ◌<◌, ◌∙◌, ◌∷◌, ◌≡◌}
 use Rattle.sdd_lawful.proofs.Answered.{IsAnswerIn, answer_in, answer_made, answer_rec, read_msg}
 use Rattle.sdd_lawful.proofs.Applied.{IsApplyIn, applied_before, applied_there, apply_in, apply_made, apply_rec}
 use Rattle.sdd_lawful.proofs.Classes.{further_back}
@@ -19,8 +19,6 @@ of_commit g log sound h n class d ts k s =
     (Does (home g.catalogue class) (commit_act g.catalogue y.bases class y.attempt)) y.later y.before x.is y.is in
     let c = commit_of_log g log f.0 y.before class y.bases y.attempt sound h f.1 y.active_is in
     let rises = place_rises y.later (Does (home g.catalogue class) (commit_act g.catalogue y.bases class y.attempt)) y.before _ refl in
-    let size : length (history x.before) ≡ length
-    (history (y.later ++ Does (home g.catalogue class) (commit_act g.catalogue y.bases class y.attempt) ∷ y.before)) = ap (λ l. length (history l)) y.is in
     let place = x.place_is in
     let at = c.place_is in
     record {
@@ -29,9 +27,8 @@ of_commit g log sound h n class d ts k s =
       txn_is = c.txn_is ∙ sym y.number_is;
       class_is = c.class_is;
       ts_is = c.ts_is ∙ sym y.ts_is;
-      before = omega arith;
-      goes = some_goes g.catalogue c.committed _ d c.changes_are x.at_module
-          (subst (λ i. ((i == 0) ≡ true) ⊎ (0 < length (changes_to g y.bases y.attempt (dm_no d)))) (sym c.class_is) y.touches_it);
+      before = omega (arith, ap (λ l. length (history l)) y.is);
+      goes = grind (arith, some_goes, changes_to, dm_no);
     }
 
 -- of a committed transaction
@@ -44,11 +41,9 @@ pub apply_of_committed : (g : Input) (log : Log) (t : Committed) (d k : ℕ) →
 apply_of_committed g log t d k sound h c a =
     let o = of_commit g log sound h t.start.txn a.class d a.ts k a.is_recorded in
     let same : o.committed ≡ t = same_committed g log sound h o.committed t o.is_committed c o.txn_is in
-    let class : a.class ≡ t.start.class = sym o.class_is ∙ ap (λ (y : Committed). y.start.class) same in
-    let ts : a.ts ≡ t.start.ts = sym o.ts_is ∙ ap (λ (y : Committed). y.start.ts) same in
     let there : IsRecordAt (history log) k (apply_rec t.start.txn t.start.class d t.start.ts) = subst
-    (λ j. IsRecordAt (history log) k (apply_rec t.start.txn t.start.class d j)) ts
-    (subst (λ j. IsRecordAt (history log) k (apply_rec t.start.txn j d a.ts)) class a.is_recorded) in
+    (λ j. IsRecordAt (history log) k (apply_rec t.start.txn t.start.class d j)) (sym o.ts_is ∙ ap (λ (y : Committed). y.start.ts) same)
+    (subst (λ j. IsRecordAt (history log) k (apply_rec t.start.txn j d a.ts)) (sym o.class_is ∙ ap (λ (y : Committed). y.start.class) same) a.is_recorded) in
     record { apply = apply_in g log t.start.txn t.start.class d t.start.ts k h there; goes = subst (λ y. GoesTo g.catalogue y d) same o.goes }
 
 -- what is applied before a place of the history is applied in the log up to there
@@ -65,8 +60,7 @@ pub applied_seen : (g : Input) (full : Log) (t : Committed) (c : IsCommittedIn g
     → IsPermitted g full → IsApplied g m.before (dm_no d) t.start.class c.running → AppliedBefore (history full) t.start.txn d k
 applied_seen g full t c d k r m h x =
     let front : Log = m.later ++ m.entry ∷ [] in
-    let is : full ≡ front ++ m.before = m.is ∙ sym (append_assoc m.later (m.entry ∷ []) m.before) in
-    let b = applied_before g full front m.before (dm_no d) t.start.class c.running is h x in
+    let b = applied_before g full front m.before (dm_no d) t.start.class c.running (m.is ∙ sym (append_assoc m.later (m.entry ∷ []) m.before)) h x in
     subst (λ j. AppliedBefore (history full) t.start.txn d j) m.place_is (subst (λ n. AppliedBefore (history full) n d (length (history m.before))) c.txn_is b)
 
 -- where a class's message is next at a module, its transactions with smaller times are applied, and none with a greater one
@@ -80,22 +74,18 @@ pub split_at : (g : Input) (full : Log) (t : Committed) (c : IsCommittedIn g ful
 split_at g full t c d k r m msg sound h goes e =
     let front : Log = m.later ++ m.entry ∷ [] in
     let is : full ≡ front ++ m.before = m.is ∙ sym (append_assoc m.later (m.entry ∷ []) m.before) in
-    let small = home_small g.catalogue sound t.start.class in
     let at = goes_module g.catalogue sound t d goes in
     let w = around_applied g t.start.class (dm_no d) front m.before c.later c.before msg c.bases c.running (subst (IsPermitted g) is h)
-    (omega arith) at.0 at.1 e (sym is ∙ c.is) (goes_some g full t c d goes) in
-    let ts = c.ts_is in
-    record { smaller = λ l. applied_seen g full t c d k r m h (w.0 (omega arith)); greater = λ l x. w.1 (omega arith) x }
+    (omega (arith, home_small g.catalogue sound t.start.class)) at.0 at.1 e (sym is ∙ c.is) (goes_some g full t c d goes) in
+    record { smaller = λ l. applied_seen g full t c d k r m h (w.0 (omega (arith, c.ts_is))); greater = λ l x. w.1 (omega arith) x }
 
 -- one Apply of a transaction at a module
 not_twice : {A : Type 0} (g : Input) (log : Log) (t : Committed) (c : IsCommittedIn g log t) (d j k : ℕ) → IsSoundCatalogue g.catalogue → IsPermitted g log
     → IsApplyIn g log t.start.txn t.start.class d t.start.ts j → IsApplyIn g log t.start.txn t.start.class d t.start.ts k → j < k → A
 not_twice g log t c d j k sound h x y l =
-    let r : Rec = apply_rec t.start.txn t.start.class d t.start.ts in
-    let i = seen_applied g log t c d j k r (apply_made g log t.start.txn t.start.class d t.start.ts k y) x l in
-    let small = home_small g.catalogue sound t.start.class in
+    let i = seen_applied g log t c d j k (apply_rec t.start.txn t.start.class d t.start.ts) (apply_made g log t.start.txn t.start.class d t.start.ts k y) x l in
     let b = applied_below g y.before (dm_no d) t.start.class (time_at t.start.ts) (class_no t.start.class)
-    (txn_no t.start.txn) y.changes c.running y.permitted.1 (omega arith) y.head_is i in
+    (txn_no t.start.txn) y.changes c.running y.permitted.1 (omega (arith, home_small g.catalogue sound t.start.class)) y.head_is i in
     let ts = c.ts_is in
     absurd (omega arith)
 
@@ -122,15 +112,10 @@ no_earlier_after : {A : Type 0} (g : Input) (log : Log) (x y : Committed) (cy : 
 no_earlier_after g log x y cy d j k sound h e time p q l =
     let r : Rec = apply_rec x.start.txn x.start.class d x.start.ts in
     let i = seen_applied g log y cy d k j r (apply_made g log x.start.txn x.start.class d x.start.ts j p) q l in
-    let here : IsApplied g p.before (dm_no d) x.start.class cy.running = subst (λ c. IsApplied g p.before (dm_no d) c cy.running) (sym e) i in
     let small = home_small g.catalogue sound x.start.class in
     let b = applied_below g p.before (dm_no d) x.start.class (time_at x.start.ts) (class_no x.start.class)
-    (txn_no x.start.txn) p.changes cy.running p.permitted.1 (omega arith) p.head_is here in
-    let ts = cy.ts_is in
-    absurd (omega arith)
-
-same_apply : (log : Log) (n m c b d s t j k : ℕ) → IsRecordAt (history log) j (apply_rec n c d s) → IsRecordAt (history log) k (apply_rec m b d t) → j ≡ k → n ≡ m
-same_apply log n m c b d s t j k p q e = grind arith
+    (txn_no x.start.txn) p.changes cy.running p.permitted.1 (omega arith) p.head_is (subst (λ c. IsApplied g p.before (dm_no d) c cy.running) (sym e) i) in
+    absurd (omega (arith, cy.ts_is))
 
 rise : (g : Input) (log : Log) → IsSoundCatalogue g.catalogue → IsPermitted g log → (x y : Committed) (d j k : ℕ) → IsEarlier (history log) x y
     → deeds.IsApplied (history log) x.start.txn d j → deeds.IsApplied (history log) y.start.txn d k → j < k
@@ -140,10 +125,7 @@ rise g log sound h x y d j k e a b =
     elim (lower_same_higher j k) [
       | inl l ↦ l
       | inr l ↦ elim l [
-        | inl same ↦ (let n = same_apply log x.start.txn y.start.txn a.class b.class d a.ts b.ts j k a.is_recorded b.is_recorded same in
-            let one = same_committed g log sound h x y e.first e.second n in
-            let ts : x.start.ts ≡ y.start.ts = ap (λ (z : Committed). z.start.ts) one in
-            let less = e.time in absurd (omega arith))
+        | inl same ↦ grind (arith, same_committed)
         | inr l ↦ no_earlier_after g log x y (committed_in g log y sound h e.second) d j k sound h e.class e.time p q l
       ]
     ]
@@ -163,16 +145,12 @@ none_left_out g log sound h x y d k e t b =
 
 -- at the Answer of a committed attempt
 
-head_of_class : (g : Input) (a : Attempt) (c : ℕ) (d : ℕ) (before : Log) (m : Msg) → c ≡ a.class
-    → head (pipe_at g a.class (dm_no d) before) ≡ Some m → head (pipe_at g c (dm_no d) before) ≡ Some m
-head_of_class g a c d before m e p = subst (λ k. head (pipe_at g k (dm_no d) before) ≡ Some m) (sym e) p
-
 at_answer : (g : Input) (log : Log) → (sound : IsSoundCatalogue g.catalogue) (h : IsPermitted g log) (x y : Committed) (d k : ℕ) (c : IsCommittedIn g log x)
     → x.start.class ≡ y.start.class → GoesTo g.catalogue x d → (w : IsAnswerIn g log y.start d k)
     → IsSplitAt g log x c d k (answer_rec y.start d) (answer_made g log y.start d k w) y.start.ts
 at_answer g log sound h x y d k c e goes w =
     split_at g log x c d k (answer_rec y.start d) (answer_made g log y.start d k w) (read_msg y.start w.read.conds w.read.uses) sound h goes
-    (head_of_class g y.start x.start.class d w.before (read_msg y.start w.read.conds w.read.uses) e w.read.head_is)
+    (subst (λ k. head (pipe_at g k (dm_no d) w.before) ≡ Some (read_msg y.start w.read.conds w.read.uses)) (sym e) w.read.head_is)
 
 has_earlier : (g : Input) (log : Log) → IsSoundCatalogue g.catalogue → IsPermitted g log → (x y : Committed) (d k : ℕ) → IsEarlier (history log) x y
     → GoesTo g.catalogue x d → IsAnswered (history log) y.start d k → AppliedBefore (history log) x.start.txn d k
@@ -183,8 +161,7 @@ after_earlier : (g : Input) (log : Log) → IsSoundCatalogue g.catalogue → IsP
     → deeds.IsApplied (history log) x.start.txn d j → IsAnswered (history log) y.start d k → j < k
 after_earlier g log sound h x y d j k e a s =
     let b = has_earlier g log sound h x y d k e (apply_of_committed g log x d j sound h e.first a).goes s in
-    let same = one_apply g log sound h x.start.txn d b.place j b.applied a in
-    let l = b.before in omega arith
+    let l = b.before in omega (arith, one_apply g log sound h x.start.txn d b.place j b.applied a)
 
 before_later : (g : Input) (log : Log) → IsSoundCatalogue g.catalogue → IsPermitted g log → (x y : Committed) (d j k : ℕ) → IsEarlier (history log) x y
     → IsAnswered (history log) x.start d j → deeds.IsApplied (history log) y.start.txn d k → j < k

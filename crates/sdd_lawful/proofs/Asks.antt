@@ -1,5 +1,5 @@
 -- The fragments of uses, of all modules and of one.
-use Rattle.sdd_lawful.proofs.All.{Bool, Catalogue, FragNo, List, Use, [], ap, cond, cons_option, contains, false, filter, filter_map, fragments_in, inl, inr, is_read_at, map, only_right, or_left, or_right, refl, same_number, same_or_not, subst, sym, true, true_or_false, use_there, with_frags, ℕ, ◌++◌, ◌==◌, ◌∙◌, ◌∷◌, ◌≡◌, ◌⊎◌}
+use Rattle.sdd_lawful.proofs.All.{Bool, Catalogue, FragNo, List, Use, [], ap, arith, contains, filter, filter_map, fragments_in, inl, inr, is_read_at, map, only_right, or_left, or_right, same_number, same_or_not, subst, sym, true, true_or_false, use_there, ℕ, ◌++◌, ◌==◌, ◌∙◌, ◌∷◌, ◌≡◌, ◌⊎◌}
 
 -- numbers in lists
 
@@ -32,12 +32,7 @@ kept_number : (p : ℕ → Bool) (fs : List FragNo) (n : ℕ) → contains (numb
 kept_number p [] n e t = e
 kept_number p (f ∷ fs) n e t = elim (same_or_not f.0 n) [
   | inl q ↦ rw (ap p q ∙ t) (or_left (f.0 == n) (contains (numbers_of (filter (λ f. p f.0) fs)) n) (ap (λ y. y == n) q ∙ same_number n))
-  | inr q ↦ (let i = kept_number p fs n (only_right (f.0 == n) (contains (numbers_of fs) n) q e) t in
-      elim (p f.0) as (λ b. contains (numbers_of (cond b (f ∷ filter (λ f. p f.0) fs) (filter (λ f. p f.0) fs))) n ≡ true) [
-        | true ↦ or_right
-            (f.0 == n) (contains (numbers_of (filter (λ f. p f.0) fs)) n) i
-        | false ↦ i
-      ])
+  | inr q ↦ grind (arith, only_right, contains, numbers_of, or_right, (kept_number p fs n (only_right (f.0 == n) (contains (numbers_of fs) n) q e) t))
 ]
 
 from_kept : (p : ℕ → Bool) (fs : List FragNo) (n : ℕ) → contains (numbers_of (filter (λ f. p f.0) fs)) n ≡ true
@@ -47,25 +42,16 @@ from_kept p (f ∷ fs) n e = elim (true_or_false (p f.0)) [
   | inl q ↦ (let c : contains (f.0 ∷ numbers_of (filter (λ f. p f.0) fs)) n ≡ true = rw q at e in
       elim (same_or_not f.0 n) [
         | inl s ↦ (or_left (f.0 == n) (contains (numbers_of fs) n) (ap (λ y. y == n) s ∙ same_number n), ap p (sym s) ∙ q)
-        | inr s ↦ (let i = from_kept p fs n (only_right (f.0 == n) (contains (numbers_of (filter (λ f. p f.0) fs)) n) s c) in
-            (or_right (f.0 == n) (contains (numbers_of fs) n) i.0, i.1))
+        | inr s ↦ grind (arith, only_right, contains, numbers_of, or_right, (from_kept p fs n (only_right (f.0 == n) (contains (numbers_of (filter (λ f. p f.0) fs)) n) s c)))
       ])
   | inr q ↦ (let i = from_kept p fs n (rw q at e) in (or_right (f.0 == n) (contains (numbers_of fs) n) i.0, i.1))
 ]
-
-more_use : (u : Use) (fs : List FragNo) (rest : List Use) → fragments_in (cons_option (with_frags u fs) rest) ≡ numbers_of fs ++ fragments_in rest
-more_use u [] rest = refl
-more_use u (f ∷ fs) rest = refl
-
-there_more : (cat : Catalogue) (c d : ℕ) (u : Use) (us : List Use)
-    → fragments_in (filter_map (use_there cat c d) (u ∷ us)) ≡ numbers_of (filter (λ f. is_read_at cat c d f.0) u.frags) ++ fragments_in (filter_map (use_there cat c d) us)
-there_more cat c d u us = more_use u (filter (λ f. is_read_at cat c d f.0) u.frags) (filter_map (use_there cat c d) us)
 
 pub read_there : (cat : Catalogue) (c d f : ℕ) (us : List Use) → contains (fragments_in us) f ≡ true → is_read_at cat c d f ≡ true
     → contains (fragments_in (filter_map (use_there cat c d) us)) f ≡ true
 read_there cat c d f [] e t = e
 read_there cat c d f (u ∷ us) e t =
-    subst (λ l. contains l f ≡ true) (sym (there_more cat c d u us)) (elim (contains_either (numbers_of u.frags) (fragments_in us) f e) [
+    subst (λ l. contains l f ≡ true) (sym ((grind arith))) (elim (contains_either (numbers_of u.frags) (fragments_in us) f e) [
       | inl p ↦ contains_left _ (fragments_in (filter_map (use_there cat c d) us)) f (kept_number (is_read_at cat c d) u.frags f p t)
       | inr p ↦ contains_right (numbers_of (filter (λ f. is_read_at cat c d f.0) u.frags)) _ f (read_there cat c d f us p t)
     ])
@@ -75,7 +61,7 @@ pub there_read : (cat : Catalogue) (c d f : ℕ) (us : List Use) → contains (f
 there_read cat c d f [] e = cc
 there_read cat c d f (u ∷ us) e =
     elim (contains_either (numbers_of (filter (λ f. is_read_at cat c d f.0) u.frags)) (fragments_in (filter_map (use_there cat c d) us)) f
-    (subst (λ l. contains l f ≡ true) (there_more cat c d u us) e)) [
+    (subst (λ l. contains l f ≡ true) ((grind arith)) e)) [
       | inl p ↦ (let i = from_kept (is_read_at cat c d) u.frags f p in (contains_left (numbers_of u.frags) (fragments_in us) f i.0, i.1))
       | inr p ↦ (let i = there_read cat c d f us p in (contains_right (numbers_of u.frags) (fragments_in us) f i.0, i.1))
     ]

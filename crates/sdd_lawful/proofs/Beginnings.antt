@@ -6,20 +6,16 @@ use Rattle.sdd_lawful.proofs.Started.{start_act_of, start_in}
 
 -- numbers of a range
 
-above : (a x : ℕ) → a ≤ x → (a ≡ x → ⊥) → a + 1 ≤ x
-above a x lo ne = grind (arith, lower_same_higher)
-
 pub in_numbers : (a n x : ℕ) → a ≤ x → x < a + n → (k : ℕ) × (slice_get (range_with_len a n) k ≡ Some x)
 in_numbers a zero x lo hi = absurd (omega arith)
 in_numbers a (suc n) x lo hi = elim (same_or_not a x) [
   | inl p ↦ (0, ap (λ y. Some y) p)
-  | inr p ↦ (let ne : (a ≡ x → ⊥) = λ q. differ a x p q in let i = in_numbers (a + 1) n x (above a x lo ne) (omega arith) in (suc i.0, i.1))
+  | inr p ↦ (let ne : (a ≡ x → ⊥) = λ q. differ a x p q in let i = in_numbers (a + 1) n x (grind (arith, lower_same_higher)) (omega arith) in (suc i.0, i.1))
 ]
 
 pub numbered_there : (ns : List ℕ) (k f : ℕ) → slice_get ns k ≡ Some f → contains (map (λ (g : FragNo). g.0) (map frag_no ns)) f ≡ true
 numbered_there [] k f e = cc
-numbered_there (n ∷ ns) zero f e =
-    let p : n ≡ f = cc in or_left (n == f) (contains (map (λ (g : FragNo). g.0) (map frag_no ns)) f) (ap (λ y. y == f) p ∙ same_number f)
+numbered_there (n ∷ ns) zero f e = grind (arith, or_left, same_number)
 numbered_there (n ∷ ns) (suc k) f e = or_right (n == f) (contains (map (λ (g : FragNo). g.0) (map frag_no ns)) f) (numbered_there ns k f e)
 
 pub at_map : {A B : Type 0} (f : A → B) (xs : List A) (k : ℕ) (x : A) → slice_get xs k ≡ Some x → slice_get (map f xs) k ≡ Some (f x)

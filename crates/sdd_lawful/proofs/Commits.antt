@@ -1,5 +1,5 @@
 -- The Commits of a history, as acts of the sites that run their classes, each with the Start of its attempt.
-use Rattle.sdd_lawful.proofs.All.{Act, Attempt, Change, Commit, Did, Does, HasCommit, Input, IsAttempt, IsCommitRecord, IsMadeAt, IsPermitted, IsRecordAt, IsSoundCatalogue, List, Log, Msg, Queued, Rec, Records, Reply, Site, Some, Txn, all_new, ap, arith, bound, compare, false, head_left, head_of, history, home, home_fair, inl, inr, is_committed, length, next_stamp, p2_of, permitted_before, place_of_act, place_of_submit, queue, refl, says_at, start_at, subst, suc, sym, true, txn_at, txn_no, uses_of, was_submitted, ℕ, ◌++◌, ◌<◌, ◌∙◌, ◌∷◌, ◌≡◌}
+use Rattle.sdd_lawful.proofs.All.{Act, Attempt, Change, Commit, Did, Does, HasCommit, Input, IsAttempt, IsCommitRecord, IsMadeAt, IsPermitted, IsRecordAt, IsSoundCatalogue, List, Log, Msg, Queued, Rec, Records, Reply, Site, Some, Txn, all_new, ap, arith, bound, compare, head_left, head_of, history, home, home_fair, inl, inr, is_committed, length, next_stamp, p2_of, permitted_before, place_of_act, place_of_submit, queue, refl, says_at, start_at, subst, suc, sym, true, txn_at, txn_no, uses_of, was_submitted, ℕ, ◌++◌, ◌<◌, ◌∙◌, ◌∷◌, ◌≡◌}
 use Rattle.sdd_lawful.proofs.Classes.{at_home, further_back, home_setting}
 use Rattle.sdd_lawful.proofs.Homes.{home_small}
 use Rattle.sdd_lawful.proofs.Locals.{committed_here, committed_later}
@@ -31,7 +31,6 @@ pub commit_in : (g : Input) (log : Log) (n number k : ℕ) (told : Told) → IsS
     → IsRecordAt (history log) k (commit_rec n number told) → IsCommitIn g log n number k told
 commit_in g log n number k told sound h s =
     let m = run_in g log k (commit_rec n number told) h refl refl s in
-    let small = home_small g.catalogue sound m.class in
     record {
       class = m.class;
       later = m.later;
@@ -40,7 +39,7 @@ commit_in g log n number k told sound h s =
       is = m.is;
       place_is = m.place_is;
       permitted = m.permitted;
-      says = says_at g m.class m.before (Records m.class (commit_rec n number told) m.sends) m.permitted (omega arith);
+      says = says_at g m.class m.before (Records m.class (commit_rec n number told) m.sends) m.permitted (omega (arith, home_small g.catalogue sound m.class));
     }
 
 -- the head of a queue has the text that was submitted
@@ -84,8 +83,6 @@ begun g log n number k told x =
     let p = place_of_act g at x.before s.later act s.before s.is in
     let a : Attempt = begun_as g x.class s.before s.queued (length (history p.rest)) in
     let w = further_back log x.later x.before (Does at (Records x.class (commit_rec n number told) x.sends)) (Does at act) p.later p.rest x.is p.is in
-    let rises = place_rises p.later (Does at act) p.rest (start_of a) refl in
-    let place = x.place_is in
     let front : length (history x.before) ≡ length (history (p.later ++ Does at act ∷ p.rest)) = ap (λ l. length (history l)) p.is in
     record {
       attempt = a;
@@ -98,7 +95,7 @@ begun g log n number k told x =
           (permitted_before g p.later (Does at act ∷ p.rest) (subst (IsPermitted g) p.is x.permitted.1)).1
           (subst (λ l. head_of (queue (home_setting g x.class) x.class l) ≡ Some s.queued) (sym p.local_is) s.head) ∙ ap (λ t. Some t) (sym s.text_is);
       uses_are = ap (uses_of g.catalogue) (sym s.text_is);
-      before = omega arith;
+      before = omega (arith, place_rises p.later (Does at act) p.rest (start_of a) refl, x.place_is);
     }
 
 abbrev pub commit_made : (g : Input) (log : Log) (n number k : ℕ) (told : Told) (x : IsCommitIn g log n number k told)
@@ -124,11 +121,7 @@ commit_seen g c n number told sends later before =
 
 not_after : {A : Type 0} (g : Input) (log : Log) (n i j k l : ℕ) (t u : Told) (x : IsCommitIn g log n i k t) (y : IsCommitIn g log n j l u)
     → x.class ≡ y.class → (between : Log) → y.before ≡ between ++ Does (home g.catalogue x.class) (Records x.class (commit_rec n i t) x.sends) ∷ x.before → A
-not_after g log n i j k l t u x y e between p =
-    let seen : is_committed x.class n (at_home g x.class y.before) ≡ true = subst (λ b. is_committed x.class n (at_home g x.class b) ≡ true) (sym p)
-    (commit_seen g x.class n i t x.sends between x.before) in
-    let there : is_committed y.class n (at_home g y.class y.before) ≡ true = subst (λ c. is_committed c n (at_home g c y.before) ≡ true) e seen in
-    let none : true ≡ false = sym there ∙ y.says.first in cc
+not_after g log n i j k l t u x y e between p = grind (arith, at_home, commit_seen)
 
 -- a transaction has one Commit
 pub one_commit : (g : Input) (log : Log) → IsSoundCatalogue g.catalogue → IsPermitted g log → (n i j k l : ℕ) → HasCommit (history log) n i k

@@ -38,9 +38,7 @@ OfRunning s log (Records k (Commit txn attempt reply changes values rows) sends)
 OfRunning s log act = Unit {0}
 
 of_running : (s : Setting) (log : site.Log) (act : Act) → IsStep s log act → OfRunning s log act
-of_running s log act i = step_way s log act (OfRunning s log) (λ c q at f e. tt)
-    (λ c bases a at f. record { running = a; bases = bases; active_is = f; act_is = refl; txn_is = refl; number_is = refl; reply_is = refl; changes_are = refl })
-    (λ to m hand f. tt) i
+of_running s log act i = grind (arith, step_way, OfRunning)
 
 pub home_step : (g : Input) (c : ℕ) (log : Log) (act : Act) → IsPermitted g (Does (home g.catalogue c) act ∷ log)
     → IsStep (home_setting g c) (at_home g c log) act
@@ -64,38 +62,11 @@ pub record IsCommittedIn (g : Input) (log : Log) (t : Committed) : Type 0 where
   pub reply_is : t.reply ≡ (effect g.catalogue (bases running.ts) running.text).reply
   pub changes_are : t.changes ≡ (effect g.catalogue (bases running.ts) running.text).changes
 
--- of class k
-committed_as : (g : Input) (log : Log) (t : Committed) (k : ℕ) (later before : Log) (bases : Bases) (running : Running) → k ≡ t.start.class
-    → log ≡ later ++ Does (home g.catalogue k) (commit_act g.catalogue bases k running) ∷ before → length (history before) ≡ t.place
-    → IsPermitted g (Does (home g.catalogue k) (commit_act g.catalogue bases k running) ∷ before)
-    → active (home_setting g k) k (at_home g k before) ≡ Some running → running.txn ≡ t.start.txn → running.attempt ≡ t.start.number
-    → running.ts ≡ t.start.ts → txn_at g t.start.txn ≡ Some running.text → t.start.uses ≡ uses_of g.catalogue running.text
-    → t.reply ≡ (effect g.catalogue (bases running.ts) running.text).reply
-    → t.changes ≡ (effect g.catalogue (bases running.ts) running.text).changes → IsCommittedIn g log t
-committed_as g log t k later before bases running e is place h active_is n i ts text uses reply changes = record {
-  later = later;
-  before = before;
-  bases = bases;
-  running = running;
-  is = subst (λ c. log ≡ later ++ Does (home g.catalogue c) (commit_act g.catalogue bases c running) ∷ before) e is;
-  place_is = place;
-  permitted = subst (λ c. IsPermitted g (Does (home g.catalogue c) (commit_act g.catalogue bases c running) ∷ before)) e h;
-  active_is = subst (λ c. active (home_setting g c) c (at_home g c before) ≡ Some running) e active_is;
-  txn_is = n;
-  number_is = i;
-  ts_is = ts;
-  text_is = text;
-  uses_are = uses;
-  reply_is = reply;
-  changes_are = changes;
-}
-
 pub committed_in : (g : Input) (log : Log) (t : Committed) → IsSoundCatalogue g.catalogue → IsPermitted g log → IsCommitted (history log) t → IsCommittedIn g log t
 committed_in g log t sound h c =
     let told : Told = record { reply = t.reply; changes = t.changes; values = t.values; rows = t.rows } in
     let x = commit_in g log t.start.txn t.start.number t.place told sound h c.committed in
     let b = begun g log t.start.txn t.start.number t.place told x in
-    let class : x.class ≡ t.start.class = sym (commit_class g log t.start.txn t.start.number t.place told x t.start sound h c.started refl) in
     let act : Act = Records x.class (commit_rec t.start.txn t.start.number told) x.sends in
     let r : IsOfRunning (home_setting g x.class) (at_home g x.class x.before) x.class (txn_no t.start.txn) t.start.number t.reply t.changes act = of_running
     (home_setting g x.class) (at_home g x.class x.before) act (home_step g x.class x.before act x.permitted) in
@@ -103,11 +74,7 @@ committed_in g log t sound h c =
     (at_home g x.class x.before) x.says.now r.running x.says.active_is r.active_is in
     let start : t.start ≡ b.attempt = same_attempt g log sound h t.start b.attempt c.started b.started (sym b.txn_is) (sym b.number_is) in
     let ts : r.running.ts ≡ t.start.ts = ap (λ (y : Running). y.ts) (sym now) ∙ sym b.ts_is ∙ ap (λ (y : Attempt). y.ts) (sym start) in
-    committed_as g log t x.class x.later x.before r.bases r.running class
-    (x.is ∙ ap (λ y. x.later ++ Does (home g.catalogue x.class) y ∷ x.before) r.act_is) x.place_is
-    (subst (λ y. IsPermitted g (Does (home g.catalogue x.class) y ∷ x.before)) r.act_is x.permitted) r.active_is
-    (ap (λ (y : TxnNo). y.0) (sym r.txn_is)) (sym r.number_is) ts (b.text_is ∙ ap (λ (y : Running). Some y.text) now)
-    (ap (λ (y : Attempt). y.uses) start ∙ b.uses_are ∙ ap (λ (y : Running). uses_of g.catalogue y.text) now) r.reply_is r.changes_are
+    (grind (arith, home_setting, at_home, sym (commit_class g log t.start.txn t.start.number t.place told x t.start sound h c.started refl)))
 
 abbrev pub committed_made : (g : Input) (log : Log) (t : Committed) (x : IsCommittedIn g log t)
     → IsMadeAt log t.place
@@ -140,7 +107,6 @@ commit_of_log g log later before class bases running sound h is active_is =
     let told : Told = told_by g bases running in
     let now : IsPermitted g (Does (home g.catalogue class) act ∷ before) =
     permitted_before g later (Does (home g.catalogue class) act ∷ before) (subst (IsPermitted g) is h) in
-    let small = home_small g.catalogue sound class in
     let x : IsCommitIn g log running.txn running.attempt (length (history before)) told =
     record {
       class = class;
@@ -150,10 +116,9 @@ commit_of_log g log later before class bases running sound h is active_is =
       is = is;
       place_is = refl;
       permitted = now;
-      says = says_at g class before act now (omega arith);
+      says = says_at g class before act now (omega (arith, home_small g.catalogue sound class));
     } in
     let b = begun g log running.txn running.attempt (length (history before)) told x in
-    let same : x.says.now ≡ running = one_active (home_setting g class) class (at_home g class before) x.says.now running x.says.active_is active_is in
     let there : IsRecordAt (history log) (length (history before)) (commit_rec running.txn running.attempt told) = subst
     (λ l. IsRecordAt (history l) (length (history before)) (commit_rec running.txn running.attempt told)) (sym is)
     (recorded_there later (Does (home g.catalogue class) act) before (commit_rec running.txn running.attempt told) refl) in
@@ -166,7 +131,7 @@ commit_of_log g log later before class bases running sound h is active_is =
       txn_is = b.txn_is;
       number_is = b.number_is;
       class_is = b.class_is;
-      ts_is = b.ts_is ∙ ap (λ (y : Running). y.ts) same;
+      ts_is = b.ts_is ∙ ap (λ (y : Running). y.ts) (one_active (home_setting g class) class (at_home g class before) x.says.now running x.says.active_is active_is);
       place_is = refl;
       changes_are = refl;
     }

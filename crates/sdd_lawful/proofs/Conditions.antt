@@ -1,5 +1,5 @@
 -- The history of a permitted log keeps the law of read conditions.
-use Rattle.sdd_lawful.proofs.All.{AppliedBefore, AreErasOf, Attempt, Catalogue, Change, Committed, Cond, Contains, D, Does, Entry, Eras, FragNo, Input, IsAnswerWith, IsAnswered, IsApplied, IsAttempt, IsCommitted, IsConditionOf, IsPermitted, IsSoundCatalogue, IsTable, KeepsConditions, List, Log, None, Option, P2, P3, Records, Some, TouchesOne, [], any_at, ap, append_assoc, arith, ascending, asked_by, class_at, class_no, classes_of, commit_act, cond_for, cond_of, condition_on, conditions, conditions_at, conditions_of, cons_option, contains, current_era, dm_no, eqb-true, event_at, false, filter, filter_map, frag_no, fragments_in, fragments_of, get_or_from_slice_get, has_copy, history, home, in_mapped, in_range, inl, inr, is_asked, length, list_any, map, marks, member_at, one_table, option_or, p2_time, place_within, refl, same_or_not, slice_get, split_applied, subst, suc, sym, time_at, touches, true, txn_no, zero, ℕ, ◌++◌, ◌<◌, ◌==◌, ◌||◌, ◌∙◌, ◌∷◌, ◌≡◌, ◌≤◌}
+use Rattle.sdd_lawful.proofs.All.{AppliedBefore, AreErasOf, Attempt, Catalogue, Change, Committed, Cond, Contains, D, Does, Entry, Eras, FragNo, Input, IsAnswerWith, IsAnswered, IsApplied, IsAttempt, IsCommitted, IsConditionOf, IsPermitted, IsSoundCatalogue, IsTable, KeepsConditions, List, Log, None, Option, Records, Some, TouchesOne, [], any_at, ap, append_assoc, arith, ascending, class_no, commit_act, conditions, conditions_at, conditions_of, cons_option, contains, current_era, dm_no, eqb-true, event_at, false, filter, filter_map, fragments_in, get_or_from_slice_get, has_copy, history, home, in_mapped, in_range, list_any, map, marks, member_at, one_table, p2_time, place_within, refl, same_or_not, slice_get, split_applied, subst, suc, sym, time_at, touches, true, txn_no, zero, ℕ, ◌++◌, ◌<◌, ◌==◌, ◌||◌, ◌∙◌, ◌∷◌, ◌≡◌, ◌≤◌}
 use Rattle.sdd_lawful.proofs.Answered.{IsReadIn, answer_in, answer_made, answer_rec}
 use Rattle.sdd_lawful.proofs.Applies.{apply_of_committed, applied_seen, seen_applied}
 use Rattle.sdd_lawful.proofs.Classes.{at_home, era_there, further_back, home_setting}
@@ -30,25 +30,9 @@ in_filter_mapped {A = A} {B = B} f (x ∷ xs) k y e =
 
 -- a condition is on a class, from 1 on
 
-cond_for_class : (j time : ℕ) (fs : List FragNo) (c : Cond) → cond_for j time fs ≡ Some c → c.class.0 ≡ j
-cond_for_class j time fs c e = grind arith
-
-either_class : (a b : Option Cond) (j : ℕ) (c : Cond) → ((x : Cond) → a ≡ Some x → x.class.0 ≡ j) → ((x : Cond) → b ≡ Some x → x.class.0 ≡ j)
-    → option_or a b ≡ Some c → c.class.0 ≡ j
-either_class a b j c f g e = grind arith
-
 pub above_zero : (cat : Catalogue) (table : List line.Entry) (class : ℕ) (frags : List ℕ) (own p2 d k : ℕ) (c : Cond)
     → slice_get (conditions_at cat table class frags own p2 d) k ≡ Some c → 1 ≤ c.class.0
-above_zero cat table class frags own p2 d k c e = elim (same_or_not class 0) [
-  | inl p ↦ (let i = in_mapped (λ j. cond_of j own (map frag_no (fragments_of cat))) (classes_of cat) k c (rw (ap (λ y. y == 0) p) at e) in
-      let same : i.0 ≡ c.class.0 = ap (λ (x : Cond). x.class.0) i.2 in
-      let low = (in_range 1 (length cat.classes) k i.0 i.1).0 in omega arith)
-  | inr p ↦ (let i = in_filter_mapped (condition_on (is_asked cat class d (map frag_no frags)) table class own p2) (classes_of cat) k c (rw p at e) in
-      let q = either_class (cond_for i.1 own (asked_by P3 (is_asked cat class d (map frag_no frags)) table class i.1))
-      (cond_for i.1 p2 (asked_by P2 (is_asked cat class d (map frag_no frags)) table class i.1)) i.1 c (λ x f. cond_for_class i.1 own _ x f)
-      (λ x f. cond_for_class i.1 p2 _ x f) i.3 in
-      let low = (in_range 1 (length cat.classes) i.0 i.1 i.2).0 in omega arith)
-]
+above_zero cat table class frags own p2 d k c e = grind (arith, same_or_not, in_mapped, in_range, in_filter_mapped)
 
 -- the conditions of a READ are those of its attempt
 
@@ -67,8 +51,7 @@ same_table : (g : Input) (log : Log) (eras : Eras) (a : Attempt) (table : List l
     → log ≡ all ++ start_log → event_at (history log) a.place ≡ marks start_log
     → IsTable (law_eras.catalogue_at g.catalogue eras (event_at (history log) a.place)) table → (a.class == 0) ≡ false
     → (current_era (home_setting g a.class) (at_home g a.class start_log)).table ≡ table
-same_table g log eras a table all start_log are is event t ne =
-    grind (arith, class_at, current_era, at_home, era_there, one_table)
+same_table g log eras a table all start_log are is event t ne = grind (arith, at_home, era_there, one_table)
 
 conds_by : (g : Input) (a : Attempt) (d : ℕ) (era_table table : List line.Entry) → ((a.class == 0) ≡ false → era_table ≡ table)
     → conditions_at g.catalogue era_table a.class (ascending (fragments_in a.uses)) a.ts (p2_time a) d ≡ conditions_of g.catalogue table a d

@@ -1,5 +1,5 @@
 -- How many Starts of a transaction a history has is how often the site that runs its class started it.
-use Rattle.sdd_lawful.proofs.All.{Attempt, Bool, Did, Does, Entry, Era, History, Input, IsAttempt, IsPermitted, IsSoundCatalogue, List, Log, Msg, None, Option, Rec, Records, Site, SiteLog, Some, Start, Txn, TxnNo, [], ap, append_assoc, arith, cond, eqb-true, false, filter, filter-append, history, home, if_way, if◌then◌else◌, is_start_of, length, length-append, local_of, marks, record_of, refl, same_number, same_or_not, same_site, site_self, starts_before, starts_of, subst, suc, sym, take, true, with_era, with_submit, ℕ, ◌&&◌, ◌++◌, ◌+◌, ◌==◌, ◌∙◌, ◌∷◌, ◌≡◌}
+use Rattle.sdd_lawful.proofs.All.{Attempt, Bool, Did, Does, Entry, Era, History, Input, IsAttempt, IsPermitted, IsSoundCatalogue, List, Log, Msg, None, Option, Rec, Records, Site, SiteLog, Some, Start, Txn, [], ap, append_assoc, arith, cond, eqb-true, filter, filter-append, history, home, if_way, if◌then◌else◌, is_start_of, length, length-append, marks, record_of, same_number, same_or_not, same_site, site_self, starts_before, starts_of, subst, suc, sym, take, true, with_era, ℕ, ◌++◌, ◌+◌, ◌∙◌, ◌∷◌, ◌≡◌}
 use Rattle.sdd_lawful.proofs.Classes.{IsGivenTo, at_home, one_class}
 use Rattle.sdd_lawful.proofs.Places.{history_before, history_step, recorded}
 use Rattle.sdd_lawful.proofs.Started.{attempt_from, given_of_attempt, start_act_of, start_at_entry, start_in}
@@ -20,46 +20,21 @@ one_by n (Some r) = one_of (is_start_of n r)
 abbrev made : ℕ → Rec → ℕ × Rec
 made k r = (k, r)
 
-one_in : (n k : ℕ) (r : Rec) → starts_in n (made k r ∷ []) ≡ one_of (is_start_of n r)
-one_in n k r = elim (is_start_of n r) as (λ b. length (cond b (made k r ∷ []) []) ≡ one_of b) [ true ↦ refl | false ↦ refl ]
-
-recorded_in : (n k : ℕ) (o : Option Rec) → starts_in n (recorded k o) ≡ one_by n o
-recorded_in n k o = grind (arith, one_in)
-
-counts_step : (n : ℕ) (e : Entry) (log : Log) → starts_in n (history (e ∷ log)) ≡ starts_in n (history log) + one_by n (record_of e)
-counts_step n e log = grind (arith, history_step, filter-append, recorded, marks, length-append, recorded_in)
-
 -- what the log of a site counts
 
 abbrev HasCount : ℕ → ℕ → ℕ → SiteLog → Type 0
 HasCount c n x l = starts_of c n l ≡ x
 
-count_if : (c n x : ℕ) (b : Bool) (e : site.Entry) (l : SiteLog) → starts_of c n (e ∷ l) ≡ starts_of c n l → starts_of c n l ≡ x
-    → starts_of c n (if b then e ∷ l else l) ≡ x + 0
-count_if c n x b e l f g = let h = if_way (HasCount c n x) b (e ∷ l) l (f ∙ g) g in omega arith
-
-plus_none : (x y : ℕ) → x ≡ y → x ≡ y + 0
-plus_none x y e = omega arith
-
-count_submit : (c n x k : ℕ) (o : Option Txn) (l : SiteLog) → starts_of c n l ≡ x → starts_of c n (with_submit k o l) ≡ x
-count_submit c n x k o l e = grind arith
-
 count_era : (c n x : ℕ) (at : Site) (era : Era) (t : ℕ) (l : SiteLog) → starts_of c n l ≡ x → starts_of c n (with_era at era t l) ≡ x
 count_era c n x at era t l e = grind arith
-
-count_first : (g : Input) (c n : ℕ) (at : Site) → starts_of c n (local_of g at []) ≡ 0
-count_first g c n at = grind arith
 
 -- a Start of the transaction, which is of the class; of another transaction it counts for neither
 abbrev IsOwnStart : Input → ℕ → ℕ → Site → ℕ → Rec → Type 0
 IsOwnStart g c n at k r = is_start_of n r ≡ true → (at ≡ home g.catalogue c) × (k ≡ c)
 
-count_other : (c n k x : ℕ) (txn : TxnNo) → (txn.0 == n) ≡ false → ((k == c) && (n == txn.0)) ≡ false
-count_other c n k x txn e = grind (arith, same_or_not, same_number)
-
 count_act : (g : Input) (c n x : ℕ) (at : Site) (k : ℕ) (r : Rec) (sends : List (Site × Msg)) (l : SiteLog) → IsOwnStart g c n at k r → starts_of c n l ≡ x
     → starts_of c n (if same_site (home g.catalogue c) at then Did (Records k r sends) ∷ l else l) ≡ x + one_of (is_start_of n r)
-count_act g c n x at k r sends l own e = grind (arith, same_or_not, same_number, site_self, count_if, count_other)
+count_act g c n x at k r sends l own e = grind (arith, same_or_not, same_number, site_self, if_way, HasCount)
 
 abbrev IsOwnEntry : Input → ℕ → ℕ → Entry → Type 0
 IsOwnEntry g c n (Does at (Records k r sends)) = IsOwnStart g c n at k r
@@ -67,16 +42,15 @@ IsOwnEntry g c n _ = Unit {0}
 
 count_entry : (g : Input) (c n x : ℕ) (e : Entry) (log : Log) → IsOwnEntry g c n e → starts_of c n (at_home g c log) ≡ x
     → starts_of c n (at_home g c (e ∷ log)) ≡ x + one_by n (record_of e)
-count_entry g c n x e log own h = grind (arith, count_if, at_home, plus_none, count_era, if_way, count_submit, count_act)
+count_entry g c n x e log own h = grind (arith, HasCount, at_home, count_era, if_way, count_act)
 
 abbrev AllOwn : Input → ℕ → ℕ → Log → Type 0
 AllOwn g c n [] = Unit {0}
 AllOwn g c n (e ∷ log) = IsOwnEntry g c n e × AllOwn g c n log
 
 pub counted : (g : Input) (c n : ℕ) (log : Log) → AllOwn g c n log → starts_in n (history log) ≡ starts_of c n (at_home g c log)
-counted g c n [] own = sym (count_first g c n (home g.catalogue c))
-counted g c n (e ∷ log) own =
-    counts_step n e log ∙ sym (count_entry g c n (starts_in n (history log)) e log own.0 (sym (counted g c n log own.1)))
+counted g c n [] own = sym (grind arith)
+counted g c n (e ∷ log) own = grind (arith, history_step, filter-append, recorded, marks, length-append, is_start_of, made, one_of, count_entry, starts_in, (counted g c n log own.1))
 
 -- every Start of a transaction in the log is of its class
 
@@ -109,7 +83,6 @@ numbered g log sound h a s =
     let act : Entry = Does (home g.catalogue a.class) (start_act_of a x.sends) in
     let own = all_own g log a.class a.txn x.says.text (x.later ++ act ∷ []) x.before sound h (given_of_attempt g log a x)
     (x.is ∙ sym (append_assoc x.later (act ∷ []) x.before)) in
-    let count = counted g a.class a.txn x.before own in
     let before = history_before log (x.later ++ act ∷ []) x.before (x.is ∙ sym (append_assoc x.later (act ∷ []) x.before)) in
     let up_to : take a.place (history log) ≡ history x.before = subst (λ k. take k (history log) ≡ history x.before) x.place_is before in
-    x.says.attempt_is ∙ ap suc (sym count) ∙ ap (λ p. suc (starts_in a.txn p)) (sym up_to)
+    x.says.attempt_is ∙ ap suc (sym (counted g a.class a.txn x.before own)) ∙ ap (λ p. suc (starts_in a.txn p)) (sym up_to)

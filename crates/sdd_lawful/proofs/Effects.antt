@@ -1,5 +1,5 @@
 -- What a committed transaction replies and changes is its effect on the database of its snapshots, as the history gives it.
-use Rattle.sdd_lawful.proofs.All.{AreErasOf, ArePlaced, Attempt, Bool, Catalogue, Change, Committed, Contains, Contains-flat_map, Contains-from_flat_map, Contains-nil, D, Database, Did, Does, Effect, Eras, HasSoundData, History, Input, IsAnswered, IsCommitted, IsModule, IsPermitted, IsRecordAt, IsSoundCatalogue, IsStrictlySortedBy, Item, KeepsAnswers, List, Log, Option, Rec, Records, RelNo, Row, Running, SiteLog, Some, Txn, [], answer_passes, ap, append_assoc, arith, ascending, by_use, commit_act, dated, dm_no, each_has, effect, entries_ascend, entry_placed, eqb-true, filter_map, flat_map, fold, fragment_at, fragment_of, fragments_in, from_ascending, gathered_from, gathered_sorted, gathered_there, has_copy, head, history, home, in_ascending, inl, inr, is_answer, is_answered, item_cmp, item_cmp_exact, item_cmp_total, keys_of, lies_there, local_of, module_of, number_member, numbers_to, one_active, one_entry, option_eq, pipe, position_or_len, reads, reads_at, reads_there, refl, same_members, same_number, setting_of, sorted_nil, subst, suc, sym, true, true_or_false, txn_at, txn_no, use_there, zero, ℕ, ◌++◌, ◌<◌, ◌==◌, ◌∙◌, ◌∷◌, ◌≡◌}
+use Rattle.sdd_lawful.proofs.All.{AreErasOf, ArePlaced, Attempt, Bool, Catalogue, Change, Committed, Contains, Contains-flat_map, Contains-from_flat_map, Contains-nil, D, Database, Did, Does, Effect, Eras, HasSoundData, History, Input, IsAnswered, IsCommitted, IsModule, IsPermitted, IsRecordAt, IsSoundCatalogue, IsStrictlySortedBy, Item, KeepsAnswers, List, Log, Rec, Records, RelNo, Row, Running, SiteLog, Some, Txn, [], answer_passes, ap, append_assoc, arith, ascending, by_use, commit_act, dated, dm_no, each_has, effect, entries_ascend, entry_placed, eqb-true, filter_map, flat_map, fold, fragment_at, fragment_of, fragments_in, from_ascending, gathered_from, gathered_sorted, gathered_there, has_copy, head, history, home, in_ascending, inl, inr, is_answer, is_answered, item_cmp, item_cmp_exact, item_cmp_total, keys_of, lies_there, local_of, module_of, number_member, numbers_to, one_active, one_entry, option_eq, pipe, position_or_len, reads, reads_at, reads_there, refl, same_members, same_number, setting_of, sorted_nil, subst, suc, sym, true, true_or_false, txn_at, txn_no, use_there, zero, ℕ, ◌++◌, ◌<◌, ◌==◌, ◌∙◌, ◌∷◌, ◌≡◌}
 use Rattle.sdd_lawful.proofs.Answered.{IsAnswerIn, answer_in, answer_made, answer_rec}
 use Rattle.sdd_lawful.proofs.OneAnswerEach.{answer_after, answered, commit_after, one_answer}
 use Rattle.sdd_lawful.proofs.Asks.{read_there, there_read}
@@ -25,15 +25,6 @@ first_place p (x ∷ h) (suc k) r s t one = elim (true_or_false (p x.1)) [
   | inl e ↦ absurd (let z = one 0 x.1 refl e in omega arith)
   | inr e ↦ (let i = first_place p h k r s t (λ j q a b. let w = one (suc j) q a b in omega arith) in rw e (omega arith))
 ]
-
-read_module : (o : Option ℕ) (d : ℕ) → option_eq ◌==◌ o (Some d) ≡ true → o ≡ Some d
-read_module o d e = grind (arith, eqb-true)
-
-one_module : (o : Option ℕ) (d e : ℕ) → o ≡ Some d → o ≡ Some e → d ≡ e
-one_module o d e p q = let r : Some d ≡ Some e = sym p ∙ q in cc
-
-read_by : (o : Option ℕ) (d : ℕ) → o ≡ Some d → option_eq ◌==◌ o (Some d) ≡ true
-read_by o d e = ap (λ p. option_eq ◌==◌ p (Some d)) e ∙ same_number d
 
 -- the Answer of a committed attempt at the module where it reads a fragment
 pub record IsSeen (g : Input) (log : Log) (t : Committed) (f d : ℕ) : Type 0 where
@@ -99,12 +90,9 @@ module _ (g : Input) (rows : List (RelNo × Row)) (eras : Eras) (log : Log) (sou
   abbrev theirs : List (Item × Row)
   theirs = flat_map (λ f. piece f) (ascending (fragments_in a.uses))
 
-  front_is : log ≡ (c.later ++ Does (home cat a.class) (commit_act cat c.bases a.class c.running) ∷ []) ++ c.before
-  front_is = c.is ∙ sym (append_assoc c.later (Does (home cat a.class) (commit_act cat c.bases a.class c.running) ∷ []) c.before)
-
   answer_of : (d : ℕ) (i : HasSnapshot (setting_of g (D (dm_no d))) a.ts (local_of g (D (dm_no d)) c.before)) → IsTheAnswer g log a d i.class i.before
   answer_of d i =
-      the_answer g log (c.later ++ Does (home cat a.class) (commit_act cat c.bases a.class c.running) ∷ []) c.before eras a d i.later i.class i.txn i.attempt i.dm i.sends i.before sound h are ct.started front_is i.is i.at_time
+      the_answer g log (c.later ++ Does (home cat a.class) (commit_act cat c.bases a.class c.running) ∷ []) c.before eras a d i.later i.class i.txn i.attempt i.dm i.sends i.before sound h are ct.started (c.is ∙ sym (append_assoc c.later (Does (home cat a.class) (commit_act cat c.bases a.class c.running) ∷ []) c.before)) i.is i.at_time
 
   asked_is : (d : ℕ) (i : HasSnapshot (setting_of g (D (dm_no d))) a.ts (local_of g (D (dm_no d)) c.before)) (z : IsTheAnswer g log a d i.class i.before)
       → log_base.frags_asked (head (pipe i.class i.before)) ≡ ascending (fragments_in (filter_map (use_there cat a.class d) a.uses))
@@ -130,7 +118,7 @@ module _ (g : Input) (rows : List (RelNo × Row)) (eras : Eras) (log : Log) (sou
             let f_there : Contains (log_base.frags_asked (head (pipe i.class i.before))) f = subst (λ m. Contains m f) (sym (asked_is d i z))
             (number_member (ascending (fragments_in (filter_map (use_there cat a.class d) a.uses))) f
             (in_ascending (fragments_in (filter_map (use_there cat a.class d) a.uses)) f
-            (read_there cat a.class d f a.uses rd (read_by (reads_at cat a.class f) d x.read)))) in
+            (read_there cat a.class d f a.uses rd (ap (λ p. option_eq ◌==◌ p (Some d)) x.read ∙ same_number d)))) in
             subst (λ m. Contains m e) (sym i.are)
             (Contains-flat_map (log_base.items_of cat (dated s i.before)) (log_base.frags_asked (head (pipe i.class i.before))) f e f_there here))
         | inr i ↦ absurd (let w = answer_is d x.place x.answered in
@@ -158,8 +146,7 @@ module _ (g : Input) (rows : List (RelNo × Row)) (eras : Eras) (log : Log) (sou
             let fs = from_ascending (fragments_in (filter_map (use_there cat a.class d) a.uses)) f (subst (λ m. Contains m f) (asked_is d i z) q.1) in
             let rd = there_read cat a.class d f a.uses fs in
             let x = seen f rd.0 in
-            let same : d ≡ module_of cat a.class f = one_module (reads_at cat a.class f) d (module_of cat a.class f)
-            (read_module (reads_at cat a.class f) d rd.1) x.read in
+            let same : d ≡ module_of cat a.class f = (let r : Some d ≡ Some (module_of cat a.class f) = sym (grind (arith, eqb-true)) ∙ x.read in cc) in
             let y : IsSeen g log t f d = subst (IsSeen g log t f) (sym same) x in
             let here : Contains (log_base.items_of cat (dated s (local_of g (D (dm_no d)) w.before)) f) e = subst
             (λ m. Contains (log_base.items_of cat (dated s m) f) e) (sym (z.local_is w)) q.2 in

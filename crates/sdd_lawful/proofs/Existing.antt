@@ -1,5 +1,5 @@
 -- What transactions use is there: relations, fragments, the modules that are asked, and what conditions name.
-use Rattle.sdd_lawful.proofs.All.{All-from_recursion, AllByRecursion, Bool, Catalogue, Cond, CondExists, Condition, Delete, Edge, FitsStatement, FragNo, IsFragment, IsModule, IsRelation, IsSoundCatalogue, IsThere, List, Option, P2, P3, Protocol, Put, Query, RelNo, Restriction, Some, Stmt, Update, Use, UseExists, [], all_join, all_numbers, and_left, and_right, ap, arith, ascending, asked_by, asked_in, asked_on, classes_of, cond_for, cond_of, condition_on, conditions_at, contains, contains_at, false, filter_map, frag_no, fragments_for, fragments_in, fragments_of, fragments_there, from_ascending, in_mapped, in_range, inl, inr, is_asked, is_read_at, length, list_any, map, member_at, modules_of, number_member, numbers_to, only_right, option_or, part_uses, reads_at, recursion_from_All, refl, restrictions_of, same_or_not, same_protocol, served_read, slice_get, statement_uses, subst, suc, true, true_or_false, use_of, uses_from, ℕ, ◌+◌, ◌==◌, ◌||◌, ◌∷◌, ◌≡◌, ◌≤◌}
+use Rattle.sdd_lawful.proofs.All.{All-from_recursion, AllByRecursion, Bool, Catalogue, Cond, CondExists, Condition, Delete, FitsStatement, FragNo, IsFragment, IsModule, IsRelation, IsSoundCatalogue, IsThere, List, Protocol, Put, Query, RelNo, Restriction, Some, Stmt, Update, Use, UseExists, [], all_join, all_numbers, and_left, and_right, ap, arith, ascending, asked_by, asked_in, classes_of, cond_for, cond_of, condition_on, conditions_at, contains, contains_at, false, filter_map, frag_no, fragments_for, fragments_in, fragments_of, fragments_there, from_ascending, in_mapped, in_range, inl, inr, is_asked, is_read_at, length, list_any, map, member_at, modules_of, number_member, numbers_to, only_right, part_uses, reads_at, recursion_from_All, refl, restrictions_of, same_or_not, same_protocol, served_read, slice_get, statement_uses, subst, suc, true, true_or_false, use_of, uses_from, ℕ, ◌+◌, ◌==◌, ◌||◌, ◌∷◌, ◌≡◌, ◌≤◌}
 use Rattle.sdd_lawful.proofs.Asks.{contains_either}
 use Rattle.sdd_lawful.proofs.Conditions.{in_filter_mapped}
 use Rattle.sdd_invariants.specs.protocol.declared.entry.Entry as line
@@ -28,9 +28,7 @@ statement_exists cat before (Delete rel conds) h = parts_exist cat before conds 
 pub uses_exist : (cat : Catalogue) (before : ℕ) (statements : List Stmt) → AllByRecursion (FitsStatement cat) statements
     → AllByRecursion (UseExists cat) (uses_from cat before statements)
 uses_exist cat before [] h = tt
-uses_exist cat before (s ∷ rest) h =
-    all_join (UseExists cat) (statement_uses cat before s) (uses_from cat (before + length (statement_uses cat before s)) rest)
-    (statement_exists cat before s h.0) (uses_exist cat (before + length (statement_uses cat before s)) rest h.1)
+uses_exist cat before (s ∷ rest) h = grind (arith, all_join, statement_exists, (uses_exist cat (before + length (statement_uses cat before s)) rest h.1))
 
 -- the fragments of uses
 
@@ -61,8 +59,7 @@ pub module_exists : (cat : Catalogue) → IsSoundCatalogue cat → (c : ℕ) (us
 module_exists cat sound c us d within exist e = elim (same_or_not c 0) [
   | inl p ↦ (let q : (c == 0) ≡ true = ap (λ y. y == 0) p in numbers_within cat.dms d (rw q at e))
   | inr p ↦ (let fs : List ℕ = ascending (fragments_in us) in
-      let all : contains (ascending (filter_map (reads_at cat c) fs)) d ≡ true = rw p at e in
-      let there = from_ascending (filter_map (reads_at cat c) fs) d (number_member (ascending (filter_map (reads_at cat c) fs)) d all) in
+      let there = from_ascending (filter_map (reads_at cat c) fs) d (number_member (ascending (filter_map (reads_at cat c) fs)) d (rw p at e)) in
       let m = member_at (filter_map (reads_at cat c) fs) d (number_member (filter_map (reads_at cat c) fs) d there) in
       let x = in_filter_mapped (reads_at cat c) fs m.0 d m.1 in
       let f = fragment_exists cat us x.1 exist (from_ascending (fragments_in us) x.1 (number_member fs x.1 (contains_at fs x.0 x.1 x.2))) in
@@ -83,11 +80,8 @@ by_place : (cat : Catalogue) (fs : List FragNo) → ((k : ℕ) (f : FragNo) → 
 by_place cat [] h = tt
 by_place cat (f ∷ fs) h = (h 0 f refl, by_place cat fs (λ k g e. h (suc k) g e))
 
-asked_edge : (p : ℕ → Bool) (i j : ℕ) (e : Edge) (f : FragNo) → asked_on p i j e ≡ Some f → p f.0 ≡ true
-asked_edge p i j e f h = grind (arith, true_or_false, and_right)
-
 asked_entry : (protocol : Protocol) (p : ℕ → Bool) (i j : ℕ) (e : line.Entry) (f : FragNo) → asked_in protocol p i j e ≡ Some f → p f.0 ≡ true
-asked_entry protocol p i j e f h = grind (arith, true_or_false, same_protocol, asked_edge)
+asked_entry protocol p i j e f h = grind (arith, true_or_false, same_protocol, and_right)
 
 pub asked_exist : (cat : Catalogue) (c d : ℕ) (frags : List ℕ) (protocol : Protocol) (table : List line.Entry) (i j : ℕ)
     → ((f : ℕ) → contains frags f ≡ true → IsFragment cat f)
@@ -98,14 +92,6 @@ asked_exist cat c d frags protocol table i j h =
     let t = asked_entry protocol (is_asked cat c d (map frag_no frags)) i j x.1 f x.3 in
     h f.0 (named frags f.0 (and_left (list_any (λ (g : FragNo). g.0 == f.0) (map frag_no frags)) (is_read_at cat c d f.0) t)))
 
-cond_for_exists : (cat : Catalogue) (j time : ℕ) (fs : List FragNo) (q : Cond) → j ≤ length cat.classes → AllByRecursion (λ (f : FragNo). IsFragment cat f.0) fs
-    → cond_for j time fs ≡ Some q → CondExists cat q
-cond_for_exists cat j time fs q c h e = grind (arith, All-from_recursion)
-
-either_exists : (cat : Catalogue) (a b : Option Cond) (q : Cond) → ((x : Cond) → a ≡ Some x → CondExists cat x) → ((x : Cond) → b ≡ Some x → CondExists cat x)
-    → option_or a b ≡ Some q → CondExists cat q
-either_exists cat a b q f g e = grind arith
-
 all_numbered : (cat : Catalogue) (ns : List ℕ) → ((k n : ℕ) → slice_get ns k ≡ Some n → IsFragment cat n)
     → AllByRecursion (λ (f : FragNo). IsFragment cat f.0) (map frag_no ns)
 all_numbered cat [] h = tt
@@ -115,16 +101,8 @@ pub cond_exists : (cat : Catalogue) (table : List line.Entry) (class : ℕ) (fra
     → ((f : ℕ) → contains frags f ≡ true → IsFragment cat f) → slice_get (conditions_at cat table class frags own p2 d) k ≡ Some q → CondExists cat q
 cond_exists cat table class frags own p2 d k q h e = elim (same_or_not class 0) [
   | inl p ↦ (let i = in_mapped (λ j. cond_of j own (map frag_no (fragments_of cat))) (classes_of cat) k q (rw (ap (λ y. y == 0) p) at e) in
-      let r = in_range 1 (length cat.classes) k i.0 i.1 in
-      let high = r.1 in
+      let high = (in_range 1 (length cat.classes) k i.0 i.1).1 in
       let all = all_numbered cat (fragments_of cat) (λ n m f. let z = in_range 1 (length cat.fragments) n m f in let hi = z.1 in (z.0, omega arith)) in
       subst (CondExists cat) i.2 (omega arith, All-from_recursion (λ (f : FragNo). IsFragment cat f.0) (map frag_no (fragments_of cat)) all))
-  | inr p ↦ (let i = in_filter_mapped (condition_on (is_asked cat class d (map frag_no frags)) table class own p2) (classes_of cat) k q (rw p at e) in
-      let r = in_range 1 (length cat.classes) i.0 i.1 i.2 in
-      let high = r.1 in
-      let within : i.1 ≤ length cat.classes = omega arith in
-      either_exists cat (cond_for i.1 own (asked_by P3 (is_asked cat class d (map frag_no frags)) table class i.1))
-      (cond_for i.1 p2 (asked_by P2 (is_asked cat class d (map frag_no frags)) table class i.1)) q
-      (λ x f. cond_for_exists cat i.1 own _ x within (asked_exist cat class d frags P3 table class i.1 h) f)
-      (λ x f. cond_for_exists cat i.1 p2 _ x within (asked_exist cat class d frags P2 table class i.1 h) f) i.3)
+  | inr p ↦ grind (arith, in_filter_mapped, condition_on, is_asked, frag_no, classes_of, in_range, cond_for, asked_by, All-from_recursion, asked_exist)
 ]

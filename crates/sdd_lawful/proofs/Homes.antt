@@ -15,10 +15,7 @@ module_small cat sound c = elim (dec_le (length cat.classes) (c - 1)) [
   | no p ↦ (let w = sound_whole cat sound in let few : cat.tms ≤ 16 = w.few_tms in
       elim (dec_le 1 c) [
         | yes q ↦ (let s = (served cat sound c q (omega (arith, p))).module_to in omega arith)
-        | no q ↦ (let z : c ≡ 0 = omega (arith, q) in
-            let k : class_at cat c ≡ class_at cat 1 = ap (class_at cat) z in
-            let n : (class_at cat c).tm.0 ≡ (class_at cat 1).tm.0 = ap (λ (x : Class). x.tm.0) k in
-            let s = (served cat sound 1 (omega arith) (omega (arith, p))).module_to in omega arith)
+        | no q ↦ grind (arith, class_at, served)
       ])
 ]
 

@@ -1,6 +1,6 @@
 -- What the log of a site that runs transactions says of an act in it: of the timestamps, promises, Commits and
 -- submissions.
-use Rattle.sdd_lawful.proofs.All.{Act, AllCommitted, AllLe, AllLt, Bool, Change, ClassNo, Commit, Did, List, Msg, Option, Records, Reply, Setting, Site, SiteLog as Log, Some, Start, Submits, Ts, Txn, TxnNo, Use, [], and_left, and_right, ap, arith, at_seam, both, commit_more, current_era, eqb-true, false, if_way, if◌then◌else◌, in_left, in_right, inl, inr, is_committed, is_for, length, only_right, or_left, or_right, promises, refl, same_number, slice_get, stamps, start_more, starts_of, submits_of, subst, suc, sym, true, true_or_false, zero, ℕ, ◌&&◌, ◌++◌, ◌<◌, ◌==◌, ◌∷◌, ◌≡◌, ◌≤◌}
+use Rattle.sdd_lawful.proofs.All.{Act, AllCommitted, AllLe, AllLt, Bool, Change, ClassNo, Commit, Did, List, Msg, Option, Records, Reply, Setting, Site, SiteLog as Log, Some, Start, Submits, Ts, Txn, TxnNo, Use, [], and_left, and_right, ap, arith, at_seam, commit_more, current_era, eqb-true, if_way, in_left, in_right, inl, inr, is_committed, is_for, length, only_right, or_left, or_right, promises, refl, same_number, slice_get, stamps, start_more, starts_of, submits_of, subst, suc, sym, true, true_or_false, zero, ℕ, ◌&&◌, ◌++◌, ◌<◌, ◌==◌, ◌∷◌, ◌≡◌, ◌≤◌}
 use Rattle.sdd_invariants.specs.site_module.SiteLog as site
 
 pub below_at : (k : ℕ) (xs : List ℕ) (i x : ℕ) → AllLt k xs → slice_get xs i ≡ Some x → x < k
@@ -30,8 +30,7 @@ promise_in (_ ∷ later) before k txn attempt c ts p2 us sends = promise_in late
 -- Commits
 
 commit_stays : (c n : ℕ) (act : Act) (x : Bool) → x ≡ true → commit_more c n act x ≡ true
-commit_stays c n (Records k (Commit txn attempt reply changes values rows) sends) x h = or_right ((k == c) && (n == txn.0)) x h
-commit_stays c n _ x h = h
+commit_stays c n act x h = grind (arith, or_right)
 
 pub committed_later : (c n : ℕ) (later log : Log) → is_committed c n log ≡ true → is_committed c n (later ++ log) ≡ true
 committed_later c n [] log h = h
@@ -40,8 +39,7 @@ committed_later c n (_ ∷ later) log h = committed_later c n later log h
 
 pub committed_here : (c : ℕ) (before : Log) (txn : TxnNo) (attempt : ℕ) (reply : Reply) (changes : List Change) (values rows : ℕ) (sends : List (Site × Msg))
     → is_committed c txn.0 (Did (Records c (Commit txn attempt reply changes values rows) sends) ∷ before) ≡ true
-committed_here c before txn attempt reply changes values rows sends =
-    or_left ((c == c) && (txn.0 == txn.0)) (is_committed c txn.0 before) (both (c == c) (txn.0 == txn.0) (same_number c) (same_number txn.0))
+committed_here c before txn attempt reply changes values rows sends = grind (arith, or_left, same_number)
 
 -- the Commit of a committed transaction
 pub record HasCommitAct (c n : ℕ) (log : Log) : Type 0 where
@@ -86,19 +84,10 @@ commit_act_in c n (x ∷ log) h = commit_past c n x log (commit_act_in c n log h
 abbrev pair : ℕ → Txn → ℕ × Txn
 pair n text = (n, text)
 
-submits_if : (b : Bool) (xs : List (ℕ × Txn)) (y x : ℕ × Txn) (i : ℕ) → slice_get xs i ≡ Some x → slice_get (if b then xs ++ y ∷ [] else xs) i ≡ Some x
-submits_if true xs y x i e = in_left xs (y ∷ []) i x e
-submits_if false xs y x i e = e
-
 pub submitted_in : (s : Setting) (c n : ℕ) (text : Txn) (later before : Log) → is_for c (current_era s before).catalogue text ≡ true
     → (i : ℕ) × (slice_get (submits_of s c (later ++ Submits n text ∷ before)) i ≡ Some (pair n text))
 submitted_in s c n text [] before h = (length (submits_of s c before), rw h (at_seam (submits_of s c before) [] (pair n text)))
-submitted_in s c n text (Submits k other ∷ later) before h =
-    let i = submitted_in s c n text later before h in (
-      i.0,
-      submits_if (is_for c (current_era s (later ++ Submits n text ∷ before)).catalogue other) (submits_of s c (later ++ Submits n text ∷ before))
-          (pair k other) (pair n text) i.0 i.1,
-    )
+submitted_in s c n text (Submits k other ∷ later) before h = grind (arith, in_left, pair, (submitted_in s c n text later before h))
 submitted_in s c n text (_ ∷ later) before h = submitted_in s c n text later before h
 
 pub all_committed_at : (c : ℕ) (log : Log) (xs : List (ℕ × Txn)) (i : ℕ) (n : ℕ) (text : Txn) → AllCommitted c log xs
@@ -110,8 +99,7 @@ all_committed_at c log (x ∷ xs) (suc i) n text h e = all_committed_at c log xs
 -- how often a transaction was started
 
 start_more_le : (c n : ℕ) (act : Act) (x y : ℕ) → y ≤ x → y ≤ start_more c n act x
-start_more_le c n (Records k (Start txn attempt class ts p2 uses) sends) x y h = if_way (λ z. y ≤ z) ((k == c) && (n == txn.0)) (suc x) x (omega arith) h
-start_more_le c n _ x y h = h
+start_more_le c n act x y h = grind (arith, if_way)
 
 starts_later : (c n : ℕ) (later log : Log) → starts_of c n log ≤ starts_of c n (later ++ log)
 starts_later c n [] log = omega arith

@@ -1,5 +1,5 @@
 -- All that the records of a history name is there.
-use Rattle.sdd_lawful.proofs.All.{Act, All-from_recursion, AllByRecursion, Answer, Apply, AreErasOf, AreNumbered, Arrive, Ask, Attempt, Catalogue, Change, ChangeExists, ClassNo, Commit, Committed, Cond, CondExists, D, DmNo, Does, Entry, Eras, ExistsIn, FitsTxn, Hand, HasSoundData, History, Input, IsAskBy, IsAttempt, IsClass, IsCommitted, IsDueAt, IsFrom1To, IsModule, IsPermitted, IsPutAt, IsRead, IsReadStep, IsRecordAt, IsSoundCatalogue, List, Log, Mark, Msg, NamesOneOf, Nothing, Null, NumbersExist, Option, Pass, Read, Rec, Records, Rejected, RelNo, Row, Sends, Setting, Site, Some, Start, Submit, Submitted, Ts, TxnNo, TxnsExist, Use, UseExists, Wait, [], all_join, allowed_act, ap, append_assoc, arith, ascending, class_number, contains, d_step, dm_no, false, first_of_filter, fragments_in, from_ascending, hand_was_put, handed, head, head_put, history, home, in_class, length, local_of, marks, modules_asked, modules_of, number_member, origin, p2_time, permitted_before, pipe_at, place_of_hand, put_at_home, put_in_by_d, puts_to, record_of, recursion_from_All, refl, same_number, sends_of_act, setting_of, slice_get, spoils, start_at, start_read, subst, suc, sym, to_site, true, txn_no, view_of, ℕ, ◌++◌, ◌-◌, ◌<◌, ◌∙◌, ◌∷◌, ◌≡◌, ◌≤◌}
+use Rattle.sdd_lawful.proofs.All.{Act, All-from_recursion, AllByRecursion, Answer, Apply, AreErasOf, AreNumbered, Arrive, Ask, Attempt, Catalogue, Change, ChangeExists, ClassNo, Commit, Committed, Cond, CondExists, D, DmNo, Does, Entry, Eras, ExistsIn, FitsTxn, Hand, HasSoundData, History, Input, IsAskBy, IsAttempt, IsClass, IsCommitted, IsDueAt, IsFrom1To, IsModule, IsPermitted, IsPutAt, IsRead, IsReadStep, IsRecordAt, IsSoundCatalogue, List, Log, Mark, Msg, NamesOneOf, Nothing, Null, NumbersExist, Option, Pass, Read, Rec, Records, Rejected, RelNo, Row, Sends, Setting, Site, Some, Start, Submit, Submitted, Ts, TxnNo, TxnsExist, Use, UseExists, Wait, [], all_join, allowed_act, ap, append_assoc, arith, ascending, class_number, d_step, dm_no, false, first_of_filter, fragments_in, from_ascending, hand_was_put, handed, head, head_put, history, home, in_class, length, local_of, marks, modules_asked, number_member, origin, p2_time, permitted_before, pipe_at, place_of_hand, put_at_home, put_in_by_d, puts_to, record_of, recursion_from_All, refl, same_number, sends_of_act, setting_of, slice_get, spoils, start_at, start_read, subst, suc, sym, to_site, true, txn_no, view_of, ℕ, ◌++◌, ◌-◌, ◌<◌, ◌∙◌, ◌∷◌, ◌≡◌, ◌≤◌}
 use Rattle.sdd_lawful.proofs.Answered.{answer_head, in_reads, read_of_some}
 use Rattle.sdd_lawful.proofs.Applied.{apply_in}
 use Rattle.sdd_lawful.proofs.Applies.{of_commit}
@@ -58,10 +58,6 @@ module _ (g : Input) (rows : List (RelNo × Row)) (eras : Eras) (log : Log) (sou
       let fits = all_slice (FitsTxn cat) g.txns (a.txn - 1) x.says.text (recursion_from_All (FitsTxn cat) g.txns fine.txns_fit) w.text_is in
       grind (arith, recursion_from_All, uses_exist)
 
-  asked_module : (a : Attempt) (d : ℕ) → IsAttempt (history log) a → contains (modules_of cat a.class (ascending (fragments_in a.uses))) d ≡ true
-      → IsModule cat d
-  asked_module a d s e = module_exists cat sound a.class a.uses d (attempt_class a s) (attempt_uses a s) e
-
   -- a READ at the head of a pipe
   record ReadKnown (d n : ℕ) (ds : List Cond) : Type 0 where
     pub at_module : IsModule cat d
@@ -75,7 +71,7 @@ module _ (g : Input) (rows : List (RelNo × Row)) (eras : Eras) (log : Log) (sou
       let r = read_of_some g log later before e c n number d ts of ds us hb is top in
       let b : Attempt = r.attempt in
       record {
-        at_module = asked_module b d r.started r.read.asked;
+        at_module = (module_exists cat sound b.class b.uses d (attempt_class b r.started) (attempt_uses b r.started) r.read.asked);
         txn = subst IsTxn r.txn_is (attempt_txn b r.started);
         conds = λ k q there. cond_exists cat (site.current_era (home_setting g b.class) (at_home g b.class r.read.start_log)).table b.class
             (ascending (fragments_in b.uses)) b.ts (p2_time b) d k q
@@ -101,7 +97,7 @@ module _ (g : Input) (rows : List (RelNo × Row)) (eras : Eras) (log : Log) (sou
       ∙ sym (append_assoc front p.later (Does (home cat c) start ∷ p.before)) in
       let s : IsAttempt (history log) b = subst (λ y. IsAttempt (history y) b) (sym whole)
       (recorded_there (front ++ p.later) (Does (home cat c) start) p.before (start_of b) refl) in
-      (asked_module b d s i.0, subst IsTxn (sym r.number_is) (attempt_txn b s))
+      ((module_exists cat sound b.class b.uses d (attempt_class b s) (attempt_uses b s) i.0), subst IsTxn (sym r.number_is) (attempt_txn b s))
 
   start_known : (later : Log) (at : Site) (c : ℕ) (txn : TxnNo) (number : ℕ) (class : ClassNo) (ts : Ts) (p2 : Option Ts) (uses : List Use) (sends : List (Site × Msg)) (before : Log)
       → log ≡ later ++ Does at (Records c (Start txn number class ts p2 uses) sends) ∷ before → IsKnown (Start txn number class ts p2 uses)
@@ -286,20 +282,14 @@ module _ (g : Input) (rows : List (RelNo × Row)) (eras : Eras) (log : Log) (sou
   record_known later at c (Pass class dm time) sends before is =
       let x = of_data later at c (Pass class dm time) sends before is refl in pass_known later c class dm time sends before x.0 x.1 x.2
 
-  entry_known : (later before : Log) (e : Entry) (r : Rec) → log ≡ later ++ e ∷ before → record_of e ≡ Some r → IsKnown r
-  entry_known later before e r is m = grind (arith, submitted_known, record_known)
-
   abbrev AllKnown : History → Type 0
   AllKnown l = AllByRecursion (λ e. IsKnown e.1) l
-
-  recorded_known : (later before : Log) (e : Entry) (o : Option Rec) → log ≡ later ++ e ∷ before → record_of e ≡ o → AllKnown (recorded (marks before) o)
-  recorded_known later before e o is m = grind (arith, entry_known)
 
   known_till : (later before : Log) → log ≡ later ++ before → AllKnown (history before)
   known_till later [] is = tt
   known_till later (e ∷ before) is =
       subst AllKnown (sym (history_step e before)) (all_join (λ e. IsKnown e.1) (history before) (recorded (marks before) (record_of e))
-      (known_till (later ++ e ∷ []) before (is ∙ sym (append_assoc later (e ∷ []) before))) (recorded_known later before e (record_of e) is refl))
+      (known_till (later ++ e ∷ []) before (is ∙ sym (append_assoc later (e ∷ []) before))) (grind (arith, submitted_known, record_known)))
 
   all_exist : (l : History) → AllKnown l → AllByRecursion (λ e. ExistsIn cat e.1) l
   all_exist [] k = tt

@@ -1,6 +1,6 @@
 -- The Answers and Commits of a history: one Answer of an attempt at a module, after its Start, and before its Commit one
 -- at each module that is asked.
-use Rattle.sdd_lawful.proofs.All.{Act, Answer, AnsweredBefore, Asks, Attempt, Catalogue, Committed, D, Does, HasCommit, Input, IsAttempt, IsCommitted, IsPermitted, IsRecordAt, IsSoundCatalogue, List, Log, None, Option, Records, Some, StartedBefore, [], answered_once, ap, arith, ascending, by_no_class, by_use, commit_act, commit_answered, cons_option, contains, contains_at, dm_no, each_in_range, filter_map, found_has, fragments_in, has_copy, head, history, home, home_of, in_ascending, inl, inr, length, lower_same_higher, lowest_copy, modules_of, numbers_to, only_right, or_left, or_right, range_with_len, reads_at, refl, same_number, same_or_not, setting_of, subst, sym, true, txn_no, ℕ, ◌++◌, ◌+◌, ◌<◌, ◌==◌, ◌∙◌, ◌∷◌, ◌≡◌, ◌≤◌}
+use Rattle.sdd_lawful.proofs.All.{Act, Answer, AnsweredBefore, Asks, Attempt, Catalogue, Committed, D, Does, HasCommit, Input, IsAttempt, IsCommitted, IsPermitted, IsRecordAt, IsSoundCatalogue, List, Log, Option, Records, Some, StartedBefore, [], answered_once, ap, arith, ascending, by_no_class, by_use, commit_act, commit_answered, cons_option, contains, contains_at, dm_no, each_in_range, filter_map, found_has, fragments_in, has_copy, head, history, home, home_of, in_ascending, inl, inr, length, lower_same_higher, modules_of, numbers_to, only_right, or_left, or_right, range_with_len, reads_at, refl, same_number, same_or_not, setting_of, subst, sym, true, txn_no, ℕ, ◌++◌, ◌+◌, ◌<◌, ◌==◌, ◌∙◌, ◌∷◌, ◌≡◌, ◌≤◌}
 use Rattle.sdd_lawful.proofs.Answered.{IsAnswerIn, answer_in, answer_made, answer_of_some, answer_rec}
 use Rattle.sdd_lawful.proofs.Beginnings.{in_numbers}
 use Rattle.sdd_lawful.proofs.Classes.{further_back}
@@ -13,10 +13,7 @@ not_behind : {A : Type 0} (g : Input) (log : Log) (a : Attempt) (d j k : ℕ) �
     → IsAnswerIn g log a d j → IsAnswerIn g log a d k → j < k → A
 not_behind g log a d j k sound h x y l =
     let z = entries_in_order log j k (answer_rec a d) (answer_rec a d) (answer_made g log a d j x) (answer_made g log a d k y) l in
-    let small = home_small g.catalogue sound a.class in
-    let now : IsPermitted g (z.between ++ Does (D (dm_no d)) (Records a.class (answer_rec a d) x.sends) ∷ x.before) = subst
-    (IsPermitted g) z.is y.permitted.1 in
-    grind (arith, answered_once, head)
+    grind (arith, answered_once, head, subst (IsPermitted g) z.is y.permitted.1, home_small g.catalogue sound a.class)
 
 answer_at : (g : Input) (log : Log) (a : Attempt) (n number d k : ℕ) → IsSoundCatalogue g.catalogue → IsPermitted g log → IsAttempt (history log) a
     → a.txn ≡ n → a.number ≡ number → IsRecordAt (history log) k (Answer (txn_no n) number (dm_no d)) → IsAnswerIn g log a d k
@@ -53,17 +50,15 @@ contains_made : (f : ℕ → Option ℕ) (xs : List ℕ) (x y : ℕ) → contain
 contains_made f [] x y c e = cc
 contains_made f (z ∷ xs) x y c e = elim (same_or_not z x) [
   | inl p ↦ (let q : f z ≡ Some y = ap f p ∙ e in rw q (or_left (y == y) (contains (filter_map f xs) y) (same_number y)))
-  | inr p ↦ (let i = contains_made f xs x y (only_right (z == x) (contains xs x) p c) e in
-      elim (f z) as (λ o. contains (cons_option o (filter_map f xs)) y ≡ true) [ None ↦ i | Some w ↦ or_right (w == y) (contains (filter_map f xs) y) i ])
+  | inr p ↦ grind (arith, only_right, contains, cons_option, filter_map, or_right, (contains_made f xs x y (only_right (z == x) (contains xs x) p c) e))
 ]
 
 zero_asks : (cat : Catalogue) (a : Attempt) (f d : ℕ) → a.class ≡ 0 → reads_at cat a.class f ≡ Some d
     → contains (modules_of cat a.class (ascending (fragments_in a.uses))) d ≡ true
 zero_asks cat a f d p e =
     let q : (a.class == 0) ≡ true = ap (λ y. y == 0) p in
-    let low : lowest_copy cat f ≡ Some d = rw q at e in
     let w : (1 ≤ d) × (d < 1 + cat.dms) = found_has (λ x. (1 ≤ x) × (x < 1 + cat.dms)) (λ dm. has_copy cat dm f) (range_with_len 1 cat.dms) d
-    (each_in_range 1 cat.dms) low in
+    (each_in_range 1 cat.dms) (rw q at e) in
     let i = in_numbers 1 cat.dms d w.0 w.1 in
     rw q (contains_at (numbers_to cat.dms) i.0 d i.1)
 

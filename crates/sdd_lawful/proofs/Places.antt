@@ -11,17 +11,11 @@ history_step e log = grind (arith, append-nil)
 abbrev dated : Log → Rec → ℕ × Rec
 dated log r = (marks log, r)
 
-made_now : (e : Entry) (before : Log) (r : Rec) → record_of e ≡ Some r → history (e ∷ before) ≡ history before ++ dated before r ∷ []
-made_now e before r m = history_step e before ∙ ap (λ o. history before ++ recorded (marks before) o) m
-
 -- an entry's record stands at the end of the history before it, with the number of events till then
 pub dated_there : (later : Log) (e : Entry) (before : Log) (r : Rec) → record_of e ≡ Some r
     → slice_get (history (later ++ e ∷ before)) (length (history before)) ≡ Some (dated before r)
-dated_there [] e before r m =
-    subst (λ h. slice_get h (length (history before)) ≡ Some (dated before r)) (sym (made_now e before r m)) (at_seam (history before) [] (dated before r))
-dated_there (x ∷ later) e before r m =
-    subst (λ h. slice_get h (length (history before)) ≡ Some (dated before r)) (sym (history_step x (later ++ e ∷ before)))
-    (in_left (history (later ++ e ∷ before)) _ (length (history before)) (dated before r) (dated_there later e before r m))
+dated_there [] e before r m = grind (arith, slice_get, dated, history_step, history, recorded, marks, at_seam)
+dated_there (x ∷ later) e before r m = grind (arith, slice_get, dated, history_step, in_left, (dated_there later e before r m))
 
 get_of_left : {A : Type 0} (xs ys : List A) (k : ℕ) (x : A) → k < length xs → slice_get (xs ++ ys) k ≡ Some x → slice_get xs k ≡ Some x
 get_of_left [] ys k x l e = absurd (omega arith)
@@ -29,10 +23,8 @@ get_of_left (y ∷ xs) ys zero x l e = e
 get_of_left (y ∷ xs) ys (suc k) x l e = get_of_left xs ys k x (omega arith) e
 
 get_of_end : {A : Type 0} (xs : List A) (y : A) (k : ℕ) (x : A) → length xs ≤ k → slice_get (xs ++ y ∷ []) k ≡ Some x → (length xs ≡ k) × (y ≡ x)
-get_of_end [] y zero x l e = (refl, cc)
-get_of_end [] y (suc k) x l e = cc
-get_of_end (z ∷ xs) y zero x l e = absurd (omega arith)
 get_of_end (z ∷ xs) y (suc k) x l e = let i = get_of_end xs y k x (omega arith) e in (omega (arith, i.0), i.1)
+get_of_end xs y k x l e = grind arith
 
 made_more : (x : Entry) (log : Log) (k : ℕ) (r : Rec) → IsMadeAt log k r → IsMadeAt (x ∷ log) k r
 made_more x log k r m = record { later = x ∷ m.later; entry = m.entry; before = m.before; is = ap (λ l. x ∷ l) m.is; makes = m.makes; place_is = m.place_is }
@@ -50,12 +42,9 @@ made_at_pair : (log : Log) (k : ℕ) (p : ℕ × Rec) → slice_get (history log
 made_at_pair [] k p q = cc
 made_at_pair (e ∷ log) k p q = made_in e log (record_of e) k p refl (λ s. made_at_pair log k p s) (subst (λ h. slice_get h k ≡ Some p) (history_step e log) q)
 
-recorded_pair : (o : Option (ℕ × Rec)) (r : Rec) (h : History) (k : ℕ) → slice_get h k ≡ o → IsRecordAt h k r → (p : ℕ × Rec) × (slice_get h k ≡ Some p) × (p.1 ≡ r)
-recorded_pair o r h k q s = grind arith
-
 -- a record of the history is that of an entry
 pub made_at : (log : Log) (k : ℕ) (r : Rec) → IsRecordAt (history log) k r → IsMadeAt log k r
-made_at log k r s = grind (arith, recorded_pair, made_at_pair)
+made_at log k r s = grind (arith, made_at_pair)
 
 -- and the record of an entry stands in the history
 pub recorded_there : (later : Log) (e : Entry) (before : Log) (r : Rec) → record_of e ≡ Some r
@@ -92,11 +81,7 @@ entries_in_order log j k q r a b l =
     let pa = a.place_is in let pb = b.place_is in
     elim (compare a.later b.later a.entry b.entry a.before b.before (sym a.is ∙ b.is)) [
       | inl s ↦ absurd (let t : length (history a.before) ≡ length (history b.before) = ap (λ x. length (history x)) s.0 in omega arith)
-      | inr s ↦ elim s [
-        | inl t ↦ record { between = t.between; is = t.is }
-        | inr t ↦ absurd (let u = place_rises t.between b.entry b.before r b.makes in
-            let v : length (history a.before) ≡ length (history (t.between ++ b.entry ∷ b.before)) = ap (λ x. length (history x)) t.is in omega arith)
-      ]
+      | inr s ↦ grind (arith, place_rises, history)
     ]
 
 -- at one place there is one entry
@@ -105,10 +90,5 @@ one_entry log k q r a b =
     let pa = a.place_is in let pb = b.place_is in
     elim (compare a.later b.later a.entry b.entry a.before b.before (sym a.is ∙ b.is)) [
       | inl s ↦ (s.0, s.1)
-      | inr s ↦ elim s [
-        | inl t ↦ absurd (let u = place_rises t.between a.entry a.before q a.makes in
-            let v : length (history b.before) ≡ length (history (t.between ++ a.entry ∷ a.before)) = ap (λ x. length (history x)) t.is in omega arith)
-        | inr t ↦ absurd (let u = place_rises t.between b.entry b.before r b.makes in
-            let v : length (history a.before) ≡ length (history (t.between ++ b.entry ∷ b.before)) = ap (λ x. length (history x)) t.is in omega arith)
-      ]
+      | inr s ↦ grind (arith, place_rises, history)
     ]

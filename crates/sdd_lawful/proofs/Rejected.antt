@@ -1,5 +1,5 @@
 -- A Reject of a data module: the condition that was spoilt, and the WRITE that spoilt it.
-use Rattle.sdd_lawful.proofs.All.{Bases, Bool, Change, ChangesOne, ClassNo, Committed, Cond, D, DmNo, Does, FragNo, Input, IsApplied, IsOf, IsOfWrite, IsPermitted, IsReadStep, IsWrite, List, Log, May, Msg, Read, Rec, Records, Rejected, Running, Setting, Site, Some, Ts, TxnNo, Use, View, Write, [], active, any_at, ap, by_record, by_wait, changes_at, changes_to, class_number, class_puts, commit_act, commit_put_is, contains, d_fair, false, head, home, in_filtered, in_passing, in_pipe, is_processing, is_spoilt, last_write_for, list_any, local_of, map, matched, not_both, or_zero, origin, pipe, processed_stays, refl, results, same_number, sends_of_act, setting_of, slice_get, spoiler, spoils, subst, sym, time_at, to_site, touches, true, txn_no, view_of, waits, zip_at, ℕ, ◌++◌, ◌==◌, ◌||◌, ◌∙◌, ◌∷◌, ◌≡◌, ◌≤◌}
+use Rattle.sdd_lawful.proofs.All.{Bases, Bool, Change, ChangesOne, ClassNo, Committed, Cond, D, DmNo, Does, FragNo, Input, IsApplied, IsOf, IsOfWrite, IsPermitted, IsReadStep, IsWrite, List, Log, May, Msg, Read, Rec, Records, Rejected, Running, Setting, Site, Some, Ts, TxnNo, Use, View, Write, [], active, any_at, ap, arith, changes_at, changes_to, class_number, class_puts, commit_act, commit_put_is, contains, d_fair, false, head, home, in_filtered, in_pipe, is_spoilt, last_write_for, list_any, local_of, map, matched, not_both, or_zero, origin, pipe, processed_stays, refl, results, same_number, sends_of_act, setting_of, slice_get, spoiler, spoils, subst, sym, time_at, to_site, touches, true, txn_no, view_of, zip_at, ℕ, ◌++◌, ◌==◌, ◌||◌, ◌∙◌, ◌∷◌, ◌≡◌, ◌≤◌}
 use Rattle.sdd_lawful.proofs.Classes.{at_home, home_setting}
 use Rattle.sdd_lawful.proofs.Touched.{any_there}
 use Rattle.sdd_invariants.specs.site_module.SiteLog as site
@@ -21,14 +21,12 @@ reject_may : (v : View) (l : site.Log) (k : ℕ) (w : Bool) (m : Msg) (r : Rec) 
     → head (pipe k l) ≡ Some m → May v k w m r → r ≡ Rejected txn attempt dm by write → IsRejecting v l k txn attempt by write
 reject_may v l k w (Read t c n i ds us) (Rejected x y dm2 b2 w2) txn attempt dm by write top h e =
     let a : x ≡ txn = cc in let b : y ≡ attempt = cc in let f : b2 ≡ by = cc in let g : w2 ≡ write = cc in
-    let p : n ≡ txn = ap (λ z. txn_no z) (sym h.0) ∙ a in
-    let q : i ≡ attempt = sym h.1 ∙ b in
     record {
       ts = t;
       class = c;
       conds = ds;
       uses = us;
-      head_is = top ∙ ap (λ z. Some (Read t c z i ds us)) p ∙ ap (λ z. Some (Read t c txn z ds us)) q;
+      head_is = top ∙ ap (λ z. Some (Read t c z i ds us)) (ap (λ z. txn_no z) (sym h.0) ∙ a) ∙ ap (λ z. Some (Read t c txn z ds us)) (sym h.1 ∙ b);
       cond_by = h.3;
       spoiler_is = h.4;
       by_is = sym f ∙ h.5;
@@ -39,15 +37,7 @@ reject_may v l k w m r txn attempt dm by write top h e = cc
 
 pub rejecting : (s : Setting) (l : site.Log) (k : ℕ) (txn : TxnNo) (attempt : ℕ) (dm : DmNo) (by : ClassNo) (write : Ts) (sends : List (Site × Msg))
     → IsReadStep s l (Records k (Rejected txn attempt dm by write) sends) → IsRejecting (view_of s l) l k txn attempt by write
-rejecting s l k txn attempt dm by write sends (in_passing e) = cc
-rejecting s l k txn attempt dm by write sends (by_wait j ds r ss lt p w i q e) =
-    let same : Rejected txn attempt dm by write ≡ r = cc in
-    let x : is_processing r ≡ true = ap is_processing (sym same) in absurd (not_both (is_processing r) x p)
-rejecting s l k txn attempt dm by write sends (by_record j m r ss lt p i may e) =
-    let same : Rejected txn attempt dm by write ≡ r = cc in
-    let at : k ≡ j = cc in
-    subst (λ y. IsRejecting (view_of s l) l y txn attempt by write) (sym at)
-    (reject_may (view_of s l) l j (waits j l) m r txn attempt dm by write i may (sym same))
+rejecting s l k txn attempt dm by write sends h10 = grind (arith, not_both, IsRejecting, reject_may)
 
 -- the WRITE that spoilt a condition: its Commit, which changes one of the condition's fragments, and its Apply
 
@@ -83,8 +73,6 @@ spoilt_by g log d q h e =
     (λ k. IsWrite (home_setting g j) (at_home g j put.before) put.act k z.ts.0 z.txn.0) c put.by in
     let sent : slice_get (to_site (D d) (sends_of_act (commit_act g.catalogue w.bases j w.attempt))) put.place ≡ Some m = subst
     (λ y. slice_get (to_site (D d) (sends_of_act y)) put.place ≡ Some m) w.act_is put.there in
-    let of = commit_put_is (home_setting g j) j w.bases w.attempt d put.place m sent in
-    let changes : z.changes ≡ changes_to g w.bases w.attempt d = ap changes_in of.0 in
     let r = zip_at IsOf (results j l) (pipe j l).processed z.place m (matched (setting_of g (D d)) j l (d_fair g d log h)).matched z.there in
     let is1 : IsOfWrite z.ts j z.txn.0 r.0 = subst (λ k. IsOfWrite z.ts k z.txn.0 r.0) c r.2 in
     let is2 : IsOfWrite (time_at w.attempt.ts) j z.txn.0 r.0 = subst (λ t. IsOfWrite (time_at t) j z.txn.0 r.0) w.time_is is1 in
@@ -96,7 +84,7 @@ spoilt_by g log d q h e =
       is = put.is ∙ ap (λ y. put.later ++ Does (home g.catalogue j) y ∷ put.before) w.act_is;
       active_is = w.active_is;
       ts_is = sym w.time_is ∙ z.ts_is;
-      touching = subst (λ xs. touches q.frags xs ≡ true) changes z.touching;
+      touching = subst (λ xs. touches q.frags xs ≡ true) (ap changes_in (commit_put_is (home_setting g j) j w.bases w.attempt d put.place m sent).0) z.touching;
       applied = record { place = z.place; rec = r.0; there = r.1; is = subst (λ n. IsOfWrite (time_at w.attempt.ts) j n r.0) w.number_is is2 };
       at_least = z.at_least;
     }
@@ -113,10 +101,8 @@ pub touched_one : (g : Input) (t : Committed) (xs : List Change) (frags : List F
     → touches frags (changes_at g.catalogue d xs) ≡ true → ChangesOne t frags
 touched_one g t xs frags d same e =
     let i = any_at (λ (x : Change). list_any (λ (f : FragNo). f.0 == x.frag.0) frags) (changes_at g.catalogue d xs) e in
-    let j = in_filtered _ xs i.0 i.1 i.2 in
     record {
       fragment = i.1.frag.0;
-      changed = subst (λ ys. list_any (λ (c : Change). c.frag.0 == i.1.frag.0) ys ≡ true) (sym same)
-          (any_there (λ (c : Change). c.frag.0 == i.1.frag.0) xs j.1 i.1 j.2 (same_number i.1.frag.0));
+      changed = grind (arith, list_any, any_there, same_number, in_filtered _ xs i.0 i.1 i.2);
       named = named_back frags i.1.frag.0 i.3;
     }

@@ -48,16 +48,13 @@ module _ (g : Input) (rows : List (RelNo × Row)) (eras : Eras) (log : Log) (sou
   abbrev begins : Database
   begins = database_of cat rows
 
-  rows_are : map (first_row cat) (database_of cat (setting_of g (D (dm_no d))).rows) ≡ map (first_row cat) begins
-  rows_are = ap (λ r. map (first_row cat) (database_of cat r)) (fine.alike d (copy_module cat sound d f copied))
-
   -- of the module's own log
   own_kind : (x : ℕ × Change) → Contains ours x → (Contains (map (first_row cat) begins) x ⊎ IsChangeOf g log d k x) × ((x.1.frag.0 == f) ≡ true)
   own_kind x c =
       let p = Contains-from_filter (λ (y : ℕ × Change). y.1.frag.0 == f) (dated (setting_of g (D (dm_no d))) here) x c in (
         elim (Contains-append_cases (map (first_row cat) (database_of cat (setting_of g (D (dm_no d))).rows))
             (flat_map (λ c. applied c here) (classes_of (setting_of g (D (dm_no d))))) x p.0) [
-              | inl i ↦ inl (subst (λ l. Contains l x) rows_are i)
+              | inl i ↦ inl (subst (λ l. Contains l x) (ap (λ r. map (first_row cat) (database_of cat r)) (fine.alike d (copy_module cat sound d f copied))) i)
               | inr i ↦ inr (let r = Contains-from_flat_map (λ c. applied c here) (classes_of (setting_of g (D (dm_no d)))) x i in
                   let a = applied_from r.0 here x r.2 in change_in g log d k q m r.0 x sound h a (apply_is a.rec a.applies))
             ],
@@ -86,7 +83,7 @@ module _ (g : Input) (rows : List (RelNo × Row)) (eras : Eras) (log : Log) (sou
       (elim (Contains-append_cases (laws.first_rows cat rows)
       (flat_map laws.dated (filter (λ (t : Committed). laws.is_applied (history log) d k t.start.txn) (committed (history log)))) x p.0) [
         | inl i ↦ Contains-append_left (map (first_row cat) (database_of cat (setting_of g (D (dm_no d))).rows)) _ x
-            (subst (λ l. Contains l x) (sym rows_are) i)
+            (subst (λ l. Contains l x) (sym (ap (λ r. map (first_row cat) (database_of cat r)) (fine.alike d (copy_module cat sound d f copied)))) i)
         | inr i ↦ Contains-append_right (map (first_row cat) (database_of cat (setting_of g (D (dm_no d))).rows)) _ x
             (let r = Contains-from_flat_map laws.dated (filter (λ (t : Committed). laws.is_applied (history log) d k t.start.txn) (committed (history log))) x i in
             let t : Committed = r.0 in
@@ -127,9 +124,6 @@ module _ (g : Input) (rows : List (RelNo × Row)) (eras : Eras) (log : Log) (sou
   later_date : (x : ℕ × Change) → IsChangeOf g log d k x → 1 ≤ x.0
   later_date x i = let s = start_in g log i.writer.start sound h i.is_committed.started in let p = s.says.p2_below in let e = i.date_is in omega arith
 
-  first_date : (x : ℕ × Change) → Contains (map (first_row cat) begins) x → x.0 ≡ 0
-  first_date x a = ap (λ (z : ℕ × Change). z.0) (Contains-from_map (first_row cat) begins x a).2
-
   both_later : (x y : ℕ × Change) → IsChangeOf g log d k x → IsChangeOf g log d k y → x.1.frag.0 ≡ y.1.frag.0 → x.1.key ≡ y.1.key → x.0 ≡ y.0 → x ≡ y
   both_later x y i j e kk t =
       let ts : i.writer.start.ts ≡ j.writer.start.ts = sym i.date_is ∙ t ∙ j.date_is in
@@ -146,10 +140,10 @@ module _ (g : Input) (rows : List (RelNo × Row)) (eras : Eras) (log : Log) (sou
   differ x y a b e kk t = elim (own_kind x a).0 [
     | inl i ↦ elim (own_kind y b).0 [
       | inl j ↦ both_first x y i j e kk
-      | inr j ↦ absurd (let z = first_date x i in let w = later_date y j in omega arith)
+      | inr j ↦ absurd (let z = (ap (λ (z : ℕ × Change). z.0) (Contains-from_map (first_row cat) begins x i).2) in let w = later_date y j in omega arith)
     ]
     | inr i ↦ elim (own_kind y b).0 [
-      | inl j ↦ absurd (let z = first_date y j in let w = later_date x i in omega arith)
+      | inl j ↦ absurd (let z = (ap (λ (z : ℕ × Change). z.0) (Contains-from_map (first_row cat) begins y j).2) in let w = later_date x i in omega arith)
       | inr j ↦ both_later x y i j e kk t
     ]
   ]

@@ -63,10 +63,6 @@ snapshot_more s ts e l p f i = elim i [
   | inr j ↦ inr (record { are = p ∙ j.are; none = none_split ts e l f j.none })
 ]
 
-same_answer : (ts k class : ℕ) (r q : Rec) (ss sends : List (Site × Msg)) (l : SiteLog) → Did (Records k r ss) ≡ Did (Records class q sends)
-    → is_at ts (head (pipe class l)) ≡ true → is_at ts (head (pipe k l)) ≡ true
-same_answer ts k class r q ss sends l e h = let p : k ≡ class = cc in subst (λ c. is_at ts (head (pipe c l)) ≡ true) (sym p) h
-
 abbrev is_answer : Rec → Bool
 is_answer (Answer txn attempt dm) = true
 is_answer r = false
@@ -80,7 +76,7 @@ snapshot_or s ts [] = inr (record { are = refl; none = none_empty ts })
 snapshot_or s ts (Did (Records k (Answer n i d) ss) ∷ l) = elim (true_or_false (is_at ts (head (pipe k l)))) [
   | inl p ↦ inl (record { later = []; class = k; txn = n; attempt = i; dm = d; sends = ss; before = l; is = refl; at_time = p; are = rw p refl })
   | inr p ↦ snapshot_more s ts (Did (Records k (Answer n i d) ss)) l (rw p refl)
-      (λ class txn attempt dm sends e h. not_both (is_at ts (head (pipe k l))) (same_answer ts k class (Answer n i d) (Answer txn attempt dm) ss sends l e h) p)
+      (λ class txn attempt dm sends e h. not_both (is_at ts (head (pipe k l))) (let p : k ≡ class = cc in subst (λ c. is_at ts (head (pipe c l)) ≡ true) (sym p) h) p)
       (snapshot_or s ts l)
 ]
 snapshot_or s ts (Did (Records k r ss) ∷ l) =
@@ -96,10 +92,6 @@ pub record IsTheAnswer (g : Input) (log : Log) (a : Attempt) (d k : ℕ) (l : Si
   pub answered : IsAnswered (history log) a d place
   pub class_is : k ≡ a.class
   pub local_is : (w : IsAnswerIn g log a d place) → local_of g (D (dm_no d)) w.before ≡ l
-
-time_of_read : (ts : ℕ) (o : Option Msg) (t : Ts) (of : ClassNo) (txn : TxnNo) (i : ℕ) (ds : List Cond) (us : List Use) → o ≡ Some (Read t of txn i ds us)
-    → is_at ts o ≡ true → t.0 ≡ ts
-time_of_read ts o t of txn i ds us e h = eqb-true t.0 ts (subst (λ p. is_at ts p ≡ true) e h)
 
 same_time : (o : Option Msg) (t u : Ts) (of of2 : ClassNo) (txn txn2 : TxnNo) (i i2 : ℕ) (ds ds2 : List Cond) (us us2 : List Use)
     → o ≡ Some (Read t of txn i ds us) → o ≡ Some (Read u of2 txn2 i2 ds2 us2) → t.0 ≡ u.0
@@ -121,7 +113,7 @@ the_answer g log front part eras a d later k n i dm ss l sound h are s is split 
     let top = answer_head st (local_of g site_d p.rest) k n i dm ss (d_step st (local_of g site_d p.rest) act (allowed_act g p.rest (Does site_d act) now.0)) in
     let r = read_of_some g log (front ++ p.later) p.rest (Does site_d act) k n.0 i d top.ts top.class top.conds top.uses now.1 whole top.is in
     let at_rest : is_at a.ts (head (pipe k (local_of g site_d p.rest))) ≡ true = subst (λ y. is_at a.ts (head (pipe k y)) ≡ true) (sym p.local_is) at in
-    let t1 : top.ts.0 ≡ a.ts = time_of_read a.ts (head (pipe k (local_of g site_d p.rest))) top.ts top.class n i top.conds top.uses top.is at_rest in
+    let t1 : top.ts.0 ≡ a.ts = (eqb-true top.ts.0 a.ts (subst (λ p. is_at a.ts p ≡ true) top.is at_rest)) in
     let b : Attempt = r.attempt in
     let read_b : head (pipe k (local_of g site_d p.rest)) ≡ Some (read_msg b r.read.conds r.read.uses) = subst
     (λ c. head (pipe c (local_of g site_d p.rest)) ≡ Some (read_msg b r.read.conds r.read.uses)) r.class_is r.read.head_is in

@@ -1,5 +1,5 @@
 -- The Starts of a history, as acts of the sites that run their classes.
-use Rattle.sdd_lawful.proofs.All.{Act, AllCommitted, Attempt, ClassNo, Did, Does, Entry, Input, IsAttempt, IsMadeAt, IsPermitted, IsRecordAt, IsSoundCatalogue, IsStartRecord, List, Log, Msg, Notes, Option, Rec, Records, Site, Some, Start, Submitted, Ts, TxnNo, Use, ap, arith, class_no, current_era, false, history, home, is_for, length, local_at, local_of, own_made, permitted_before, place_of_submit, record_of, refl, says_at, setting_of, submits_of, subst, sym, time_at, true, txn_no, ℕ, ◌++◌, ◌∙◌, ◌∷◌, ◌≡◌}
+use Rattle.sdd_lawful.proofs.All.{Act, AllCommitted, Attempt, ClassNo, Did, Does, Entry, Input, IsAttempt, IsMadeAt, IsPermitted, IsRecordAt, IsSoundCatalogue, IsStartRecord, List, Log, Msg, Option, Rec, Records, Site, Some, Start, Submitted, Ts, TxnNo, Use, ap, arith, class_no, current_era, false, history, home, is_for, length, local_at, local_of, own_made, permitted_before, place_of_submit, record_of, refl, says_at, setting_of, submits_of, subst, sym, time_at, true, txn_no, ℕ, ◌++◌, ◌∙◌, ◌∷◌, ◌≡◌}
 use Rattle.sdd_lawful.proofs.Classes.{IsForClass, IsGivenTo, at_home, class_given, given_in, home_setting, one_class}
 use Rattle.sdd_lawful.proofs.Homes.{home_small}
 use Rattle.sdd_lawful.proofs.Makers.{is_of_run, is_own, run_home}
@@ -13,15 +13,8 @@ pub record IsActOfRecord (e : Entry) (r : Rec) : Type 0 where
   pub sends : List (Site × Msg)
   pub is : e ≡ Does at (Records class r sends)
 
-not_own : {A : Type 0} (q r : Rec) → Some q ≡ Some r → is_own q ≡ true → is_own r ≡ false → A
-not_own q r p e f = let s : q ≡ r = cc in let t : true ≡ false = sym e ∙ ap is_own s ∙ f in cc
-
 pub act_of_record : (e : Entry) (r : Rec) → record_of e ≡ Some r → is_own r ≡ false → IsActOfRecord e r
-act_of_record (Submitted at n) r p f = not_own _ r p refl f
-act_of_record Notes r p f = not_own _ r p refl f
-act_of_record (Does at (Records c q sends)) r p f =
-    let s : q ≡ r = cc in record { at = at; class = c; sends = sends; is = ap (λ x. Does at (Records c x sends)) s }
-act_of_record _ r p f = cc
+act_of_record e r p f = grind (arith, is_own)
 
 -- the record of a Start or a Commit, as an act of the site that runs its class
 pub record IsRunIn (g : Input) (log : Log) (k : ℕ) (r : Rec) : Type 0 where
@@ -71,26 +64,11 @@ pub record IsStartIn (g : Input) (log : Log) (a : Attempt) : Type 0 where
 abbrev StartsAs : Input → Log → Attempt → ℕ → Type 0
 StartsAs g before a k = IsStartRecord (setting_of g (home g.catalogue k)) (at_home g k before) k (txn_no a.txn) a.number (class_no a.class) (time_at a.ts) a.p2 a.uses
 
-start_with : (g : Input) (log : Log) (a : Attempt) (k : ℕ) (later : Log) (sends : List (Site × Msg)) (before : Log) → k ≡ a.class
-    → log ≡ later ++ Does (home g.catalogue k) (Records k (start_of a) sends) ∷ before → length (history before) ≡ a.place
-    → IsPermitted g (Does (home g.catalogue k) (Records k (start_of a) sends) ∷ before) → StartsAs g before a k → IsStartIn g log a
-start_with g log a k later sends before e is place h says =
-    record {
-      later = later;
-      sends = sends;
-      before = before;
-      is = subst (λ j. log ≡ later ++ Does (home g.catalogue j) (Records j (start_of a) sends) ∷ before) e is;
-      place_is = place;
-      permitted = subst (λ j. IsPermitted g (Does (home g.catalogue j) (Records j (start_of a) sends) ∷ before)) e h;
-      says = subst (StartsAs g before a) e says;
-    }
-
 pub start_in : (g : Input) (log : Log) (a : Attempt) → IsSoundCatalogue g.catalogue → IsPermitted g log → IsAttempt (history log) a → IsStartIn g log a
 start_in g log a sound h s =
     let m = run_in g log a.place (start_of a) h refl refl s in
     let small = home_small g.catalogue sound m.class in
-    let says : StartsAs g m.before a m.class = says_at g m.class m.before (Records m.class (start_of a) m.sends) m.permitted (omega arith) in
-    start_with g log a m.class m.later m.sends m.before (sym says.class_is) m.is m.place_is m.permitted says
+    (grind (arith, start_of, StartsAs, says_at g m.class m.before (Records m.class (start_of a) m.sends) m.permitted (omega arith)))
 
 abbrev pub attempt_from : TxnNo → ℕ → ClassNo → Ts → Option Ts → List Use → ℕ → Attempt
 attempt_from txn number class ts p2 uses place = record { txn = txn.0; number = number; class = class.0; ts = ts.0; p2 = p2; uses = uses; place = place }
@@ -106,10 +84,8 @@ start_at_entry g log later at k txn number class ts p2 uses sends before sound h
     let here : at ≡ home g.catalogue k = run_home g at k (start_of a) sends before now refl in
     let then_h : IsPermitted g (Does (home g.catalogue k) (Records k (start_of a) sends) ∷ before) = subst
     (λ x. IsPermitted g (Does x (Records k (start_of a) sends) ∷ before)) here now in
-    let small = home_small g.catalogue sound k in
-    let says : StartsAs g before a k = says_at g k before (Records k (start_of a) sends) then_h (omega arith) in
-    let e : k ≡ class.0 = sym says.class_is in
-    (start_with g log a k later sends before e (is ∙ ap (λ x. later ++ Does x (Records k (start_of a) sends) ∷ before) here) refl then_h says, e, here)
+    let says : StartsAs g before a k = says_at g k before (Records k (start_of a) sends) then_h (omega (arith, home_small g.catalogue sound k)) in
+    ((grind (arith, start_of, StartsAs)), (sym says.class_is), here)
 
 -- its transaction was given to the site, as one of the class, and all that were given before it as such are committed
 pub record IsStartOfGiven (g : Input) (log : Log) (a : Attempt) (x : IsStartIn g log a) : Type 0 where

@@ -1,6 +1,6 @@
 -- The history of a permitted log keeps the law of Starts.
-use Rattle.sdd_lawful.proofs.All.{Act, AreErasOf, Attempt, Catalogue, Committed, CommittedBefore, Did, Does, Eras, Input, IsAttempt, IsBound, IsCommitted, IsEraOf, IsMadeAt, IsOfSubmit, IsPermitted, IsRecordAt, IsSoundCatalogue, IsSubmitted, KeepsStarts, List, Log, Msg, None, Option, Records, Setting, Site, Some, Start, Submit, Submits, Submitted, Ts, Txn, [], and_left, ap, append_assoc, arith, bound, catalogue_at, class_at, class_for, class_no, clock, covered, covers, dec_le, eqb-true, era_is, event_at, false, first_passes, history, home, home_fair, if◌then◌else◌, inl, inr, is_committed, is_some, length, local_of, lower_same_higher, marks, mul-add-mod_self_right, not, nth_era, number_of, option_map, or_right, p2_of, permitted_before, place_of_act, promises, record_at, redeclares, refl, same_number, same_or_not, slice_get, stamps, stamps_differ, starts_of, submits_of, subst, sym, time_at, true, txn_at, txn_no, unwrap_or, ℕ, ◌%◌, ◌++◌, ◌<◌, ◌==◌, ◌∙◌, ◌∷◌, ◌≡◌, ◌≢◌, ◌≤◌}
-use Rattle.sdd_lawful.proofs.Classes.{IsForClass, IsGivenTo, at_home, era_there, further_back, home_by, home_setting, submit_local}
+use Rattle.sdd_lawful.proofs.All.{Act, AreErasOf, Attempt, Catalogue, Committed, CommittedBefore, Did, Does, Eras, Input, IsAttempt, IsBound, IsCommitted, IsEraOf, IsMadeAt, IsOfSubmit, IsPermitted, IsRecordAt, IsSoundCatalogue, IsSubmitted, KeepsStarts, List, Log, Msg, None, Option, Records, Site, Some, Start, Submit, Submits, Submitted, Ts, Txn, [], and_left, ap, append_assoc, arith, bound, catalogue_at, class_at, class_for, class_no, clock, covered, covers, dec_le, eqb-true, era_is, event_at, false, first_passes, history, home, home_fair, if◌then◌else◌, inl, inr, is_committed, is_some, length, local_of, lower_same_higher, marks, mul-add-mod_self_right, not, nth_era, number_of, option_map, or_right, p2_of, permitted_before, place_of_act, promises, record_at, redeclares, refl, same_number, same_or_not, slice_get, stamps, stamps_differ, starts_of, submits_of, subst, sym, time_at, true, txn_at, txn_no, unwrap_or, ℕ, ◌%◌, ◌++◌, ◌<◌, ◌==◌, ◌∙◌, ◌∷◌, ◌≡◌, ◌≢◌, ◌≤◌}
+use Rattle.sdd_lawful.proofs.Classes.{IsForClass, IsGivenTo, at_home, era_there, further_back, home_setting, submit_local}
 use Rattle.sdd_lawful.proofs.Commits.{Told, commit_class, commit_in, commit_made, commit_rec, commit_seen, one_commit}
 use Rattle.sdd_lawful.proofs.Counted.{numbered}
 use Rattle.sdd_lawful.proofs.Homes.{home_small, homes_differ, positive}
@@ -13,10 +13,6 @@ use Rattle.sdd_invariants.specs.site_module.SiteLog as site
 
 -- classes by the eras
 
-era_at : (g : Input) (log : Log) (eras : Eras) → AreErasOf g log eras → (later before : Log) → log ≡ later ++ before
-    → IsEraOf g.catalogue (nth_era g (redeclares before)).catalogue
-era_at g log eras are later before is = subst (IsEraOf g.catalogue) (are.era_is later before is) (era_is g.catalogue eras are.are_eras (marks before))
-
 class_within : (cat : Catalogue) (txn : Txn) → class_for cat txn ≤ length cat.classes
 class_within cat txn = elim (dec_le 1 (class_for cat txn)) [
   | yes p ↦ (covered cat txn (class_for cat txn) refl p).class.to
@@ -26,8 +22,7 @@ class_within cat txn = elim (dec_le 1 (class_for cat txn)) [
 -- the class of what is given is there
 given_within : (g : Input) (log : Log) (eras : Eras) (n c : ℕ) (text : Txn) → AreErasOf g log eras → IsGivenTo g log n c text → c ≤ length g.catalogue.classes
 given_within g log eras n c text are w =
-    let era = (era_at g log eras are (w.later ++ Submitted (home g.catalogue c) n ∷ []) w.rest
-    (w.is ∙ sym (append_assoc w.later (Submitted (home g.catalogue c) n ∷ []) w.rest))).classes in
+    let era = (subst (IsEraOf g.catalogue) (are.era_is (w.later ++ Submitted (home g.catalogue c) n ∷ []) w.rest (w.is ∙ sym (append_assoc w.later (Submitted (home g.catalogue c) n ∷ []) w.rest))) (era_is g.catalogue eras are.are_eras (marks w.rest))).classes in
     let at = class_within (nth_era g (redeclares w.rest)).catalogue text in
     let e = w.class_is in omega arith
 
@@ -124,14 +119,6 @@ one_time g log eras sound h are a b s t e =
 
 -- order of submission
 
-in_submits : (s : Setting) (c n : ℕ) (text : Txn) (l k : site.Log) (i : ℕ) → l ≡ k → slice_get (submits_of s c k) i ≡ Some (n, text)
-    → slice_get (submits_of s c l) i ≡ Some (n, text)
-in_submits s c n text l k i e p = subst (λ m. slice_get (submits_of s c m) i ≡ Some (n, text)) (sym e) p
-
-committed_past : (c n : ℕ) (later : site.Log) (act : Act) (before : site.Log) → is_committed c n before ≡ true
-    → is_committed c n (later ++ Did act ∷ before) ≡ true
-committed_past c n later act before h = committed_later c n later (Did act ∷ before) (committed_later c n (Did act ∷ []) before h)
-
 -- of a class, what is given before a submission is committed where that one starts
 earlier_committed : (g : Input) (log : Log) (a : Attempt) (x : IsStartIn g log a) (n : ℕ) (text : Txn) (later rest : Log)
     → (w : Log) → w ≡ later ++ Submitted (home g.catalogue a.class) n ∷ rest → w ≡ (given_of_start g log a x).given.rest
@@ -141,7 +128,7 @@ earlier_committed g log a x n text later rest w is same t f =
     let m = submit_local g a.class n text later rest t in
     let i = submitted_in (home_setting g a.class) a.class n text m.0 (at_home g a.class rest) f in
     let l : at_home g a.class s.given.rest ≡ m.0 ++ Submits n text ∷ at_home g a.class rest = ap (at_home g a.class) (sym same ∙ is) ∙ m.1 in
-    grind (arith, at_home, all_committed_at, in_submits)
+    grind (arith, at_home, all_committed_at, slice_get, submits_of)
 
 abbrev submit_made_at : (g : Input) (log : Log) (n k : ℕ) → IsSubmitIn g log n k → IsMadeAt log k (Submit (txn_no n))
 submit_made_at g log n k u = record { later = u.later; entry = Submitted u.at n; before = u.rest; is = u.is; makes = refl; place_is = u.place_is }
@@ -178,7 +165,7 @@ in_turn g log sound h a b j k s t e l p q = elim (dec_le j k) [
       let done = earlier_committed g log a x b.txn y.says.text z.between v.rest u.rest is (given_rest g log a x j h u) wb.text_is f in
       let m = earlier_start g log a b x y (ap (home g.catalogue) e) l in
       let later : is_committed a.class b.txn (at_home g b.class y.before) ≡ true = subst (λ w. is_committed a.class b.txn w ≡ true) (sym m.1)
-      (committed_past a.class b.txn m.0 (start_act_of a x.sends) (at_home g a.class x.before) done) in
+      (committed_later a.class b.txn m.0 (Did (start_act_of a x.sends) ∷ (at_home g a.class x.before)) (committed_later a.class b.txn (Did (start_act_of a x.sends) ∷ []) (at_home g a.class x.before) done)) in
       let no : true ≡ false = sym (subst (λ c. is_committed c b.txn (at_home g b.class y.before) ≡ true) e later) ∙ y.says.not_committed in cc)
 ]
 
@@ -186,10 +173,6 @@ in_turn g log sound h a b j k s t e l p q = elim (dec_le j k) [
 
 pub covers_home : (cat : Catalogue) (txn : Txn) (c : ℕ) → c ≡ class_for cat txn → 1 ≤ c → (class_at cat c).tm.0 ≡ txn.tm.0
 covers_home cat txn c e l = grind (arith, covers, class_at, first_passes, and_left, eqb-true)
-
-home_is : (g : Input) (era : Catalogue) → IsEraOf g.catalogue era → (txn : Txn) (c : ℕ) → class_for era txn ≡ c
-    → home_by (class_for era txn) txn ≡ home g.catalogue c
-home_is g era of txn c e = grind (arith, same_or_not, positive, class_within, class_at, covers_home)
 
 pub for_class : (g : Input) (c : ℕ) (rest : Log) (txn : Txn) → class_for (nth_era g (redeclares rest)).catalogue txn ≡ c → IsForClass g c rest txn
 for_class g c rest txn e = grind (arith, same_or_not, class_at, era_there, or_right, same_number)
@@ -231,10 +214,10 @@ after_earlier g log eras sound h are a n j k txn s p q l t c =
     ap (λ f. class_for f txn) (sym era) ∙ ap (λ i. class_for (catalogue_at g.catalogue eras (event_at (history log) i)) txn) v.place_is ∙ c in
     let now : IsPermitted g (Submitted v.at n ∷ v.rest) = permitted_before g v.later (Submitted v.at n ∷ v.rest) (subst (IsPermitted g) v.is h) in
     let y = given_at g v.rest v.at n now in
-    let era = era_at g log eras are (v.later ++ Submitted v.at n ∷ []) v.rest (v.is ∙ sym (append_assoc v.later (Submitted v.at n ∷ []) v.rest)) in
+    let era = (subst (IsEraOf g.catalogue) (are.era_is (v.later ++ Submitted v.at n ∷ []) v.rest (v.is ∙ sym (append_assoc v.later (Submitted v.at n ∷ []) v.rest))) (era_is g.catalogue eras are.are_eras (marks v.rest))) in
     let at : v.at ≡ home g.catalogue a.class =
     y.at_is ∙ ap (home_of (nth_era g (redeclares y.earlier)).catalogue) t ∙ ap (λ i. home_of (nth_era g i).catalogue (Some txn)) (sym (ap redeclares y.is))
-    ∙ home_is g (nth_era g (redeclares v.rest)).catalogue era txn a.class class in
+    ∙ (grind (arith, same_or_not, positive, class_within, class_at, covers_home)) in
     let is : u.rest ≡ z.between ++ Submitted (home g.catalogue a.class) n ∷ v.rest = z.is ∙ ap (λ i. z.between ++ Submitted i n ∷ v.rest) at in
     commit_before g log a x n
     (earlier_committed g log a x n txn z.between v.rest u.rest is (given_rest g log a x k h u) t (for_class g a.class v.rest txn class))

@@ -1,5 +1,5 @@
 -- Submissions: a transaction is given to a site right after the mark that submits it, and once.
-use Rattle.sdd_lawful.proofs.All.{Bool, Does, Entry, Event, Input, IsAllowed, IsPermitted, IsSubmitted, Log, Mark, Notes, Nothing, Records, Redeclare, Settle, Site, Some, Submit as Submission, Submitted, Tick, TxnNo, [], allowed_mark, ap, by_event, by_link, by_mark, by_redeclare, by_round, by_site, compare, due_by, false, history, inl, inr, length, mark_due, not, note_if, nth_era, or_left, permitted_before, record_of, redeclares, refl, same_number, subst, sym, tail_marked, true, txn_at, txn_no, was_marked, ℕ, ◌++◌, ◌==◌, ◌∙◌, ◌∷◌, ◌≡◌}
+use Rattle.sdd_lawful.proofs.All.{Entry, Input, IsPermitted, IsSubmitted, Log, Mark, Site, Some, Submit as Submission, Submitted, TxnNo, [], allowed_mark, ap, arith, compare, history, inl, inr, length, mark_due, nth_era, or_left, permitted_before, record_of, redeclares, same_number, subst, sym, tail_marked, true, txn_at, txn_no, was_marked, ℕ, ◌++◌, ◌∙◌, ◌∷◌, ◌≡◌}
 use Rattle.sdd_lawful.proofs.Makers.{is_own, none_own}
 use Rattle.sdd_lawful.proofs.Places.{made_at}
 use Rattle.sdd_invariants.specs.All.{Submit}
@@ -11,18 +11,6 @@ abbrev IsMarked : Input → Log → Entry → Type 0
 IsMarked g log (Submitted at n) = mark_due g log ≡ Some (Submitted at n)
 IsMarked g log _ = Unit {0}
 
-marked_is : (g : Input) (log : Log) (e : Entry) → mark_due g log ≡ Some e → IsMarked g log e
-marked_is g log (Submitted at n) p = p
-marked_is g log _ p = tt
-
-marked : (g : Input) (log : Log) (e : Entry) → IsAllowed g log e → IsMarked g log e
-marked g log e (by_mark x n) = tt
-marked g log e (by_round es) = tt
-marked g log e (by_redeclare t) = tt
-marked g log e (by_event {e = x} p) = marked_is g log x p
-marked g log e (by_site at act d) = tt
-marked g log e (by_link a b n m p q r f) = tt
-
 -- transaction n is given to a site, after the mark that submits it
 pub record IsGivenAt (g : Input) (log : Log) (at : Site) (n : ℕ) : Type 0 where
   pub earlier : Log
@@ -31,27 +19,11 @@ pub record IsGivenAt (g : Input) (log : Log) (at : Site) (n : ℕ) : Type 0 wher
   pub number_is : number.0 ≡ n
   pub at_is : at ≡ home_of (nth_era g (redeclares earlier)).catalogue (txn_at g n)
 
-no_note : {A : Type 0} (b : Bool) (at : Site) (n : ℕ) → note_if b ≡ Some (Submitted at n) → A
-no_note true at n p = let q : Notes ≡ Submitted at n = cc in cc
-no_note false at n p = cc
-
-due_submit : (g : Input) (e : Event) (log : Log) (at : Site) (n : ℕ) → due_by g e log ≡ Some (Submitted at n) → IsGivenAt g (Mark e ∷ log) at n
-due_submit g (Submit k) log at n p =
-    let q : Submitted (home_of (nth_era g (redeclares log)).catalogue (txn_at g k.0)) k.0 ≡ Submitted at n = cc in
-    let r : home_of (nth_era g (redeclares log)).catalogue (txn_at g k.0) ≡ at = cc in
-    let w : k.0 ≡ n = cc in
-    record { earlier = log; number = k; is = refl; number_is = w; at_is = sym r ∙ ap (λ x. home_of (nth_era g (redeclares log)).catalogue (txn_at g x)) w }
-due_submit g (Tick t k) log at n p = cc
-due_submit g Settle log at n p = cc
-due_submit g Redeclare log at n p = cc
-due_submit g _ log at n p = no_note _ at n p
-
 given_by : (g : Input) (log : Log) (at : Site) (n : ℕ) → mark_due g log ≡ Some (Submitted at n) → IsGivenAt g log at n
-given_by g (Mark e ∷ log) at n p = due_submit g e log at n p
-given_by g _ at n p = cc
+given_by g log at n p = grind (arith)
 
 pub given_at : (g : Input) (log : Log) (at : Site) (n : ℕ) → IsPermitted g (Submitted at n ∷ log) → IsGivenAt g log at n
-given_at g log at n h = given_by g log at n (marked g log (Submitted at n) h.0)
+given_at g log at n h = given_by g log at n (grind (arith))
 
 -- no transaction is given twice
 
@@ -59,23 +31,10 @@ marked_stays : (n : ℕ) (later log : Log) → was_marked n log ≡ true → was
 marked_stays n [] log h = h
 marked_stays n (e ∷ later) log h = tail_marked n e (later ++ log) (marked_stays n later log h)
 
-given_marked : (g : Input) (log : Log) (at : Site) (n : ℕ) → IsGivenAt g log at n → was_marked n log ≡ true
-given_marked g log at n i =
-    let p : (i.number.0 == n) ≡ true = ap (λ x. x == n) i.number_is ∙ same_number n in
-    subst (λ l. was_marked n l ≡ true) (sym i.is) (or_left (i.number.0 == n) (was_marked n i.earlier) p)
-
-both_ways : {A : Type 0} (b : Bool) → b ≡ true → not b ≡ true → A
-both_ways true e f = cc
-both_ways false e f = cc
-
 again_in : {A : Type 0} (g : Input) (n : ℕ) (b : Site) (between before earlier : Log) (k : TxnNo)
     → IsPermitted g (Mark (Submit k) ∷ earlier) → k.0 ≡ n → was_marked n before ≡ true → between ++ Submitted b n ∷ before ≡ Mark (Submit k) ∷ earlier → A
 again_in g n b [] before earlier k h e m p = let q : Submitted b n ≡ Mark (Submit k) = cc in cc
-again_in g n b (x ∷ between) before earlier k h e m p =
-    let q : between ++ Submitted b n ∷ before ≡ earlier = cc in
-    let fresh : not (was_marked k.0 earlier) ≡ true = allowed_mark g earlier (Mark (Submit k)) h.0 in
-    let old : was_marked n earlier ≡ true = subst (λ l. was_marked n l ≡ true) q (marked_stays n between (Submitted b n ∷ before) m) in
-    both_ways (was_marked n earlier) old (subst (λ x. not (was_marked x earlier) ≡ true) e fresh)
+again_in g n b (x ∷ between) before earlier k h e m p = grind (arith, allowed_mark, marked_stays)
 
 submitted_twice : {A : Type 0} (g : Input) (n : ℕ) (a b : Site) (later between before : Log)
     → IsPermitted g (later ++ Submitted a n ∷ (between ++ Submitted b n ∷ before)) → A
@@ -83,9 +42,8 @@ submitted_twice g n a b later between before h =
     let w : Log = between ++ Submitted b n ∷ before in
     let now : IsPermitted g (Submitted a n ∷ w) = permitted_before g later (Submitted a n ∷ w) h in
     let x = given_at g w a n now in
-    let old : IsPermitted g (Submitted b n ∷ before) = permitted_before g between (Submitted b n ∷ before) now.1 in
-    let y = given_at g before b n old in
-    again_in g n b between before x.earlier x.number (subst (IsPermitted g) x.is now.1) x.number_is (given_marked g before b n y) x.is
+    let y = given_at g before b n (permitted_before g between (Submitted b n ∷ before) now.1) in
+    again_in g n b between before x.earlier x.number (subst (IsPermitted g) x.is now.1) x.number_is (grind (arith, same_number, or_left)) x.is
 
 -- the entry of a Submit
 
@@ -98,15 +56,7 @@ pub record IsSubmitIn (g : Input) (log : Log) (n k : ℕ) : Type 0 where
 
 submit_entry : (g : Input) (e : Entry) (log : Log) (n : ℕ) → IsPermitted g (e ∷ log) → record_of e ≡ Some (Submission (txn_no n))
     → (at : Site) × (e ≡ Submitted at n)
-submit_entry g (Submitted at m) log n h p =
-    let q : Submission (txn_no m) ≡ Submission (txn_no n) = cc in
-    let r : txn_no m ≡ txn_no n = cc in
-    (at, ap (λ (x : TxnNo). Submitted at x.0) r)
-submit_entry g Notes log n h p = let q : Nothing ≡ Submission (txn_no n) = cc in cc
-submit_entry g (Does at (Records c r sends)) log n h p =
-    let q : r ≡ Submission (txn_no n) = cc in
-    let f : true ≡ false = sym (ap is_own q) ∙ none_own g at c r sends log h in cc
-submit_entry g _ log n h p = cc
+submit_entry g e log n h p = grind (arith, is_own, none_own)
 
 pub submit_in : (g : Input) (log : Log) (n k : ℕ) → IsPermitted g log → IsSubmitted (history log) n k → IsSubmitIn g log n k
 submit_in g log n k h s =

@@ -1,5 +1,5 @@
 -- The history of a permitted log keeps all laws by which it has a serial order, and by which that gives the replies.
-use Rattle.sdd_lawful.proofs.All.{AllZip, AreAllApplied, AreErasOf, AreFew, Catalogue, Change, Committed, Eras, FitTogether, HasNoCycle, HasSoundData, Input, IsCommitted, IsFragment, IsOrderable, IsPermitted, IsReplyOf, IsSerial, IsSoundCatalogue, KeepsEras, KeepsLaws, KeepsUndeclared, List, Log, NumbersExist, RelNo, Row, TxnNo, TxnsExist, acyclic, any_at, are_few, copy_at, eqb-true, fragment_holds, gives_replies, history, key_in_range, leaves_copies, length, orderable, rows_in_fragment, rows_make_database, run, subst, sym, ℕ, ◌==◌, ◌≡◌}
+use Rattle.sdd_lawful.proofs.All.{AllZip, AreAllApplied, AreErasOf, AreFew, Catalogue, Change, Committed, Eras, HasNoCycle, HasSoundData, Input, IsCommitted, IsFragment, IsOrderable, IsPermitted, IsReplyOf, IsSerial, IsSoundCatalogue, KeepsEras, KeepsLaws, KeepsUndeclared, List, Log, NumbersExist, RelNo, Row, TxnNo, TxnsExist, acyclic, any_at, are_few, copy_at, eqb-true, fragment_holds, gives_replies, history, key_in_range, leaves_copies, length, orderable, rows_in_fragment, rows_make_database, run, subst, sym, ℕ, ◌==◌, ◌≡◌}
 use Rattle.sdd_lawful.proofs.Applies.{keeps_applies}
 use Rattle.sdd_lawful.proofs.Beginnings.{ChangesExist}
 use Rattle.sdd_lawful.proofs.Committed.{committed_in}
@@ -45,11 +45,6 @@ keeps_laws g rows eras log sound fine h are kept = record {
   redeclares = kept;
 }
 
-fit : (g : Input) (rows : List (RelNo × Row)) (eras : Eras) (log : Log) → HasSoundData g rows → AreErasOf g log eras
-    → NumbersExist g.catalogue (history log) → TxnsExist (length g.txns) (history log) → FitTogether g.catalogue eras rows g.txns (history log)
-fit g rows eras log fine are numbers txns =
-    record { are_eras = are.are_eras; rows_fit = fine.rows_fit; txns_fit = fine.txns_fit; numbers_exist = numbers; txns_exist = txns }
-
 -- no cycle of precedence, so there is a serial order
 
 pub no_cycle : (g : Input) (rows : List (RelNo × Row)) (eras : Eras) (log : Log) → IsSoundCatalogue g.catalogue → HasSoundData g rows → IsPermitted g log
@@ -57,14 +52,14 @@ pub no_cycle : (g : Input) (rows : List (RelNo × Row)) (eras : Eras) (log : Log
     → TxnsExist (length g.txns) (history log) → HasNoCycle g.catalogue (history log)
 no_cycle g rows eras log sound fine h are kept numbers txns =
     acyclic g.catalogue sound eras rows g.txns (history log) (rows_make_database g.catalogue rows fine.rows_fit fine.rows_held) fine.txns_held
-    (fit g rows eras log fine are numbers txns) (keeps_laws g rows eras log sound fine h are kept)
+    (record { are_eras = are.are_eras; rows_fit = fine.rows_fit; txns_fit = fine.txns_fit; numbers_exist = numbers; txns_exist = txns }) (keeps_laws g rows eras log sound fine h are kept)
 
 pub has_order : (g : Input) (rows : List (RelNo × Row)) (eras : Eras) (log : Log) → IsSoundCatalogue g.catalogue → HasSoundData g rows → IsPermitted g log
     → AreErasOf g log eras → KeepsEras g.catalogue eras (history log) → NumbersExist g.catalogue (history log)
     → TxnsExist (length g.txns) (history log) → IsOrderable g.catalogue (history log)
 has_order g rows eras log sound fine h are kept numbers txns =
     orderable g.catalogue sound eras rows g.txns (history log) (rows_make_database g.catalogue rows fine.rows_fit fine.rows_held) fine.txns_held
-    (fit g rows eras log fine are numbers txns) (keeps_laws g rows eras log sound fine h are kept)
+    (record { are_eras = are.are_eras; rows_fit = fine.rows_fit; txns_fit = fine.txns_fit; numbers_exist = numbers; txns_exist = txns }) (keeps_laws g rows eras log sound fine h are kept)
 
 -- along a serial order one plain database gives the replies, and has what is left in the copies
 

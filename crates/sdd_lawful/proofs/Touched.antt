@@ -8,11 +8,9 @@ copies_there : (cat : Catalogue) → IsSoundCatalogue cat → (f : ℕ) → AllB
 copies_there cat sound f = elim (dec_le (length cat.fragments) (f - 1)) [
   | yes p ↦ subst (λ (x : Fragment). AllByRecursion (λ (d : DmNo). IsModule cat d.0) x.copies) (sym (get_or_past cat.fragments (f - 1) _ p)) tt
   | no p ↦ elim (dec_le 1 f) [
-    | yes q ↦ recursion_from_All _ (fragment_at cat f).copies
-        (at_number (IsPlaced (length cat.relations) cat.dms) cat.fragments f _ (sound_fragments cat sound) q (omega (arith, p))).copies
+    | yes q ↦ grind (arith, recursion_from_All, fragment_at, at_number, sound_fragments)
     | no q ↦ (let e : f ≡ 0 = omega (arith, q) in
-        let same : fragment_at cat f ≡ fragment_at cat 1 = ap (fragment_at cat) e in
-        subst (λ (x : Fragment). AllByRecursion (λ (d : DmNo). IsModule cat d.0) x.copies) (sym same)
+        subst (λ (x : Fragment). AllByRecursion (λ (d : DmNo). IsModule cat d.0) x.copies) (sym (ap (fragment_at cat) e))
         (recursion_from_All _ (fragment_at cat 1).copies
         (at_number (IsPlaced (length cat.relations) cat.dms) cat.fragments 1 _ (sound_fragments cat sound) (omega arith)
         (omega (arith, p))).copies))
@@ -35,8 +33,7 @@ goes_module cat sound t d e = grind (arith, copy_module)
 pub passing : {A : Type 0} (p : A → Bool) (xs : List A) (k : ℕ) (x : A) → slice_get xs k ≡ Some x → p x ≡ true → 0 < length (filter p xs)
 passing p [] k x e f = cc
 passing {A = A} p (y ∷ xs) zero x e f = let q : ◌≡◌ {A = A} y x = cc in rw (ap p q ∙ f) (omega arith)
-passing p (y ∷ xs) (suc k) x e f =
-    elim (p y) as (λ b. 0 < length (cond b (y ∷ filter p xs) (filter p xs))) [ true ↦ omega arith | false ↦ passing p xs k x e f ]
+passing p (y ∷ xs) (suc k) x e f = grind (arith, (passing p xs k x e f))
 
 pub some_passes : {A : Type 0} (p : A → Bool) (xs : List A) → 0 < length (filter p xs) → (k : ℕ) × (x : A) × (slice_get xs k ≡ Some x) × (p x ≡ true)
 some_passes p [] h = absurd (omega arith)
@@ -50,14 +47,9 @@ any_there p [] k x e f = cc
 any_there {A = A} p (y ∷ xs) zero x e f = let q : ◌≡◌ {A = A} y x = cc in or_left (p y) (list_any p xs) (ap p q ∙ f)
 any_there p (y ∷ xs) (suc k) x e f = or_right (p y) (list_any p xs) (any_there p xs k x e f)
 
-touches_any : (cat : Catalogue) (xs : List Change) (f d : ℕ) → list_any (λ (c : Change). c.frag.0 == f) xs ≡ true → has_copy cat d f ≡ true
-    → 0 < length (filter (λ (x : Change). has_copy cat d x.frag.0) xs)
-touches_any cat xs f d e c = grind (arith, any_at, eqb-true, passing, has_copy)
-
 pub touches_some : (g : Input) (log : Log) (t : Committed) (x : IsCommittedIn g log t) (d : ℕ) → Touches g.catalogue t d
     → 0 < length (changes_to g x.bases x.running (dm_no d))
-touches_some g log t x d h =
-    touches_any g.catalogue _ h.fragment d (subst (λ ys. list_any (λ (c : Change). c.frag.0 == h.fragment) ys ≡ true) x.changes_are h.changed) h.copied
+touches_some g log t x d h = grind (arith, any_at, eqb-true, passing, has_copy, list_any)
 
 pub goes_some : (g : Input) (log : Log) (t : Committed) (x : IsCommittedIn g log t) (d : ℕ) → GoesTo g.catalogue t d
     → ((t.start.class == 0) ≡ true) ⊎ (0 < length (changes_to g x.bases x.running (dm_no d)))

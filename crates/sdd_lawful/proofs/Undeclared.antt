@@ -1,6 +1,6 @@
 -- The history of a permitted log keeps the law of undeclared transactions.
-use Rattle.sdd_lawful.proofs.All.{Act, AppliedBefore, Apply, AreErasOf, Attempt, Bases, Catalogue, Committed, Cond, D, Does, Done, Entry, Eras, GoesTo, HasApply, Input, IsAnswered, IsAttempt, IsCommitted, IsMadeAt, IsModule, IsPermitted, IsRecordAt, IsSoundCatalogue, IsWhollyAfter, IsWhollyBefore, KeepsUndeclared, Log, Queued, Rec, Records, Setting, Site, Some, T, Touches, U, [], all_applied, ap, append_assoc, arith, bound, class_at, classes_of, commit_act, commit_of, commit_t, cond_of, dm_no, false, frag_no, fragments_of, history, home, home_of, inl, inr, length, low_or_high, lower_same_higher, map, next_stamp, number_of, numbers_to, p2_of, permitted_before, refl, same_number, same_or_not, same_start, setting_of, slice_get, sound_whole, start_at, start_u, subst, suc, sym, tm_no, true, u_stamp, undeclared_conditions, uses_of, zero_applied, zero_pair, ℕ, ◌++◌, ◌<◌, ◌==◌, ◌∙◌, ◌∷◌, ◌≡◌, ◌≢◌, ◌≤◌, ◌⊎◌}
-use Rattle.sdd_lawful.proofs.Answered.{answer_in, answer_rec, conds_sent}
+use Rattle.sdd_lawful.proofs.All.{Act, AppliedBefore, Apply, AreErasOf, Attempt, Bases, Catalogue, Committed, Cond, D, Does, Done, Entry, Eras, GoesTo, HasApply, Input, IsAnswered, IsAttempt, IsCommitted, IsMadeAt, IsModule, IsPermitted, IsRecordAt, IsSoundCatalogue, IsWhollyAfter, IsWhollyBefore, KeepsUndeclared, Log, Queued, Rec, Records, Setting, Site, Some, T, Touches, U, [], all_applied, ap, append_assoc, arith, bound, class_at, classes_of, commit_act, commit_of, commit_t, cond_of, dm_no, false, frag_no, fragments_of, history, home, home_of, inl, inr, length, low_or_high, lower_same_higher, map, next_stamp, number_of, numbers_to, p2_of, permitted_before, refl, same_number, same_or_not, same_start, setting_of, slice_get, sound_whole, start_at, start_u, subst, suc, sym, tm_no, true, u_stamp, uses_of, zero_applied, zero_pair, ℕ, ◌++◌, ◌<◌, ◌==◌, ◌∙◌, ◌∷◌, ◌≡◌, ◌≢◌, ◌≤◌, ◌⊎◌}
+use Rattle.sdd_lawful.proofs.Answered.{answer_in, answer_rec}
 use Rattle.sdd_lawful.proofs.Applied.{apply_rec}
 use Rattle.sdd_lawful.proofs.Applies.{of_commit}
 use Rattle.sdd_lawful.proofs.Beginnings.{IsStartedAtU, ChangesExist, at_map, in_numbers, numbered_there, started_at_u}
@@ -41,9 +41,6 @@ own_apply g log eras u d front before sound h are c is x =
       before = omega arith;
     }
 
-module_there : (g : Input) (d : ℕ) → IsModule g.catalogue d → (k : ℕ) × (slice_get (numbers_to g.catalogue.dms) k ≡ Some d)
-module_there g d m = let hi = m.1 in in_numbers 1 g.catalogue.dms d m.0 (omega arith)
-
 -- two undeclared transactions: the first is applied everywhere where the second starts
 
 pub record IsDone (g : Input) (log : Log) (x : Committed) (a : Attempt) : Type 0 where
@@ -77,7 +74,7 @@ zero_done g log eras x a sound h are c s e f l =
     record {
       time = omega arith;
       applied = λ d m.
-          let k = module_there g d m in
+          let k = (let hi = m.1 in in_numbers 1 g.catalogue.dms d m.0 (omega arith)) in
           let y = zero_applied g t.0 1 k.0 d q.before z.0 p.before q.queued p.queued t.1 q.permitted z.1 k.1 in
           subst (λ j. AppliedBefore (history log) x.start.txn d j) q.place_is
           (own_apply g log eras x d front q.before sound h are c is (subst (HasApply g q.before (dm_no d)) (sym p.ts_is) y));
@@ -123,9 +120,6 @@ zero_zero g log eras u t sound h are cu ct eu et ne = elim (lower_same_higher t.
 touches_of : (cat : Catalogue) (t : Committed) (d : ℕ) → (t.start.class == 0) ≡ false → GoesTo cat t d → Touches cat t d
 touches_of cat t d ne e = grind arith
 
-zero_sent : (g : Input) (a : Attempt) (log : Log) (d : ℕ) → a.class ≡ 0 → conds_sent g a log d ≡ undeclared_conditions g.catalogue a.ts
-zero_sent g a log d e = let p : (a.class == 0) ≡ true = ap (λ y. y == 0) e in rw p refl
-
 -- that is committed with a smaller timestamp is applied at the Answers of the undeclared one
 low_seen : (g : Input) (log : Log) (eras : Eras) (u t : Committed) (d k : ℕ) → IsSoundCatalogue g.catalogue → IsPermitted g log → AreErasOf g log eras
     → ChangesExist g (history log) → IsCommitted (history log) u → IsCommitted (history log) t → u.start.class ≡ 0
@@ -142,7 +136,7 @@ low_seen g log eras u t d k sound h are exist cu ct e ne l within goes s =
     let q : Cond = cond_of t.start.class u.start.ts frags in
     let w = answer_in g log u.start d k sound h cu.started s in
     let there : slice_get w.read.conds j.0 ≡ Some q = subst (λ ds. slice_get ds j.0 ≡ Some q)
-    (sym (w.read.conds_are ∙ zero_sent g u.start w.read.start_log d e))
+    (sym (w.read.conds_are ∙ (let p : (u.start.class == 0) ≡ true = ap (λ y. y == 0) e in rw p refl)))
     (at_map (λ c. cond_of c u.start.ts frags) (classes_of g.catalogue) j.0 t.start.class j.1) in
     let cd = read_condition g log eras u.start d w.later w.before
     (Does (D (dm_no d)) (Records u.start.class (answer_rec u.start d) w.sends)) are w.is w.read j.0 q there in
@@ -219,7 +213,7 @@ declared_one g log eras u t sound h are exist cu ct e ne =
           inr (record {
             time = omega arith;
             applied = λ d m.
-                let k = module_there g d m in
+                let k = (let hi = m.1 in in_numbers 1 g.catalogue.dms d m.0 (omega arith)) in
                 let y = all_applied g hi.start.rest (u_stamp g p.before) k.0 d hr hi.dones k.1 in
                 subst (λ n. AppliedBefore (history log) u.start.txn d n) at
                 (own_apply g log eras u d to_rest hi.start.rest sound h are cu is (subst (HasApply g hi.start.rest (dm_no d)) (sym p.ts_is) y));

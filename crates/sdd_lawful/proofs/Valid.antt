@@ -1,5 +1,5 @@
 -- What committed transactions change are items of the catalogue, and so the database that an attempt reads is one.
-use Rattle.sdd_lawful.proofs.All.{Act, All, AllByRecursion, Answer, Apply, Bases, Catalogue, Change, D, Database, Dated, Did, DmNo, Does, FitsStatement, FitsTxn, HasSoundData, Input, IsBased, IsChange, IsEntry, IsModule, IsPermitted, IsSoundCatalogue, IsWrite, Item, List, Log, Msg, PutsHeld, Rec, Records, RelNo, Row, Running, Setting, Site, SiteLog, Some, T, Txn, U, Write, [], active, all_filtered, all_have, all_join, and_left, and_right, ap, append_assoc, applied, apply_of_head, arith, base_of, changes_in, changes_to, class_at, class_number, commit_act, commit_put_is, database_of, dated, dm_no, each_has, each_inserted, effect, effect_changes, entry_placed, eqb-true, first_row, first_rows, flat_map, fold, fragment_at, frags_asked, has_copy, head, head_put, held_by, home, home_fair, if_way, inl, inr, is_apply, is_at, item_cmp, item_cmp_exact, items_of, local_of, map, one_active, permitted_before, pipe, place_of_act, range_with_len, recursion_from_All, refl, rows_make_database, rows_of, sends_of_act, setting_of, slice_get, snapshots, snapshots_at, start_at, start_of_active, subst, suc, sym, t_commit, tm_no, to_site, true, true_or_false, txn_at, u_commit, with_item, zero, ℕ, ℤ, ◌&&◌, ◌++◌, ◌+◌, ◌-◌, ◌==◌, ◌∙◌, ◌∷◌, ◌≡◌, ◌≤◌}
+use Rattle.sdd_lawful.proofs.All.{Act, All, AllByRecursion, Answer, Apply, Bases, Catalogue, Change, D, Database, Dated, Did, DmNo, Does, FitsTxn, HasSoundData, Input, IsBased, IsChange, IsEntry, IsModule, IsPermitted, IsSoundCatalogue, IsWrite, Item, List, Log, Msg, PutsHeld, Rec, Records, RelNo, Row, Running, Setting, Site, SiteLog, Some, T, Txn, U, Write, [], active, all_filtered, all_have, all_join, and_left, and_right, ap, append_assoc, applied, apply_of_head, arith, base_of, changes_in, changes_to, class_at, class_number, commit_act, commit_put_is, database_of, dated, dm_no, each_has, each_inserted, effect, effect_changes, entry_placed, eqb-true, first_row, first_rows, flat_map, fold, fragment_at, frags_asked, has_copy, head, head_put, held_by, home, home_fair, if_way, inl, inr, is_apply, is_at, item_cmp, item_cmp_exact, items_of, local_of, map, one_active, permitted_before, pipe, place_of_act, range_with_len, recursion_from_All, refl, rows_make_database, rows_of, sends_of_act, setting_of, slice_get, snapshots, snapshots_at, start_at, start_of_active, subst, suc, sym, t_commit, tm_no, to_site, true, true_or_false, txn_at, u_commit, with_item, zero, ℕ, ℤ, ◌&&◌, ◌++◌, ◌+◌, ◌-◌, ◌==◌, ◌∙◌, ◌∷◌, ◌≡◌, ◌≤◌}
 use Rattle.sdd_lawful.proofs.Classes.{at_home, home_setting}
 use Rattle.sdd_lawful.proofs.Commits.{text_of_head}
 use Rattle.sdd_invariants.specs.dm.Copies.{classes_of}
@@ -115,9 +115,8 @@ applies_valid g d log h valid c (Apply txn of dm ts) sends later before is a =
     let w = apply_of_head g p.rest at c txn of dm ts sends now in
     let m : Msg = Write ts of txn w.0 in
     let put = head_put g c at p.rest m now.1 w.1 in
-    let z : of.0 ≡ c = class_number of.0 c ts.0 put.of_class in
     let r : IsWrite (home_setting g c) (at_home g c put.before) put.act c ts.0 txn.0 = subst
-    (λ j. IsWrite (home_setting g c) (at_home g c put.before) put.act j ts.0 txn.0) z put.by in
+    (λ j. IsWrite (home_setting g c) (at_home g c put.before) put.act j ts.0 txn.0) (class_number of.0 c ts.0 put.of_class) put.by in
     let sent = subst (λ y. slice_get (to_site (D at) (sends_of_act y)) put.place ≡ Some m) r.act_is put.there in
     let same = commit_put_is (home_setting g c) c r.bases r.attempt at put.place m sent in
     let whole : log ≡ (p.later ++ Does (D at) act ∷ put.later) ++ Does (home g.catalogue c) (commit_act g.catalogue r.bases c r.attempt) ∷ put.before =
@@ -127,18 +126,14 @@ applies_valid g d log h valid c (Apply txn of dm ts) sends later before is a =
     let some = all_filtered (IsValid g.catalogue) (λ x. has_copy g.catalogue d x.frag.0) (effect g.catalogue (r.bases r.attempt.ts) r.attempt.text).changes v in
     let sent_valid : AllValidAt g.catalogue (changes_in (Some m)) = subst (λ y. AllValidAt g.catalogue (changes_in (Some y))) (sym same.0)
     (all_dated g.catalogue r.attempt.ts (changes_to g r.bases r.attempt at) some) in
-    let top : head (pipe c before) ≡ Some m = subst (λ k. head (pipe c k) ≡ Some m) p.local_is w.1 in
-    subst (λ o. AllValidAt g.catalogue (changes_in o)) (sym top) sent_valid
+    subst (λ o. AllValidAt g.catalogue (changes_in o)) (sym (subst (λ k. head (pipe c k) ≡ Some m) p.local_is w.1)) sent_valid
 applies_valid g d log h valid c r sends later before is a = cc
 
 -- at the modules from a on
 all_at_modules : (g : Input) (log : Log) (ts : ℕ) → IsSoundCatalogue g.catalogue → IsPermitted g log → AllBegin g → CommitsValid g log
     → (a n : ℕ) → 1 ≤ a → a + n ≤ suc g.catalogue.dms → AllByRecursion (IsEntry g.catalogue) (flat_map (snapshots_at g log ts) (range_with_len a n))
 all_at_modules g log ts sound h begin valid a zero lo hi = tt
-all_at_modules g log ts sound h begin valid a (suc n) lo hi =
-    all_join (IsEntry g.catalogue) (snapshots_at g log ts a) (flat_map (snapshots_at g log ts) (range_with_len (a + 1) n))
-    (snapshots_valid (setting_of g (D (dm_no a))) sound ts (local_of g (D (dm_no a)) log) (begin a (lo, omega arith)) (applies_valid g a log h valid))
-    (all_at_modules g log ts sound h begin valid (a + 1) n (omega arith) (omega arith))
+all_at_modules g log ts sound h begin valid a (suc n) lo hi = grind (arith, all_join, flat_map, range_with_len, snapshots_valid, applies_valid, (all_at_modules g log ts sound h begin valid (a + 1) n (omega arith) (omega arith)))
 
 -- so the database that an attempt reads has entries of the catalogue alone
 pub base_valid : (g : Input) (log : Log) (ts : ℕ) → IsSoundCatalogue g.catalogue → IsPermitted g log → AllBegin g → CommitsValid g log
@@ -184,16 +179,13 @@ commit_valid : (g : Input) (rows : List (RelNo × Row)) (c : ℕ) (bases : Bases
 commit_valid g rows c bases a log sound fine h act valid =
     let based = base_is g (home g.catalogue c) log (commit_act g.catalogue bases c a) h (home_runs g.catalogue c) in
     let same : based.0 ≡ a = one_active (home_setting g c) c (at_home g c log) based.0 a based.1 act in
-    let changes : (effect g.catalogue (bases a.ts) a.text).changes ≡ (effect g.catalogue (base_of g log a.ts) a.text).changes = based.3
-    ∙ ap (λ (y : Running). (effect g.catalogue (base_of g log y.ts) y.text).changes) same in
     let text : txn_at g a.txn ≡ Some a.text = text_of_active g c log a h.1 act in
     let fits = all_slice (FitsTxn g.catalogue) g.txns (a.txn - 1) a.text (recursion_from_All (FitsTxn g.catalogue) g.txns fine.txns_fit) text in
     let held = all_slice (λ (t : Txn). All PutsHeld t.statements) g.txns (a.txn - 1) a.text
     (recursion_from_All (λ (t : Txn). All PutsHeld t.statements) g.txns fine.txns_held) text in
     let entries = base_valid g log a.ts sound h.1 (all_begin g rows fine) valid in
-    subst (AllValid g.catalogue) (sym changes)
-    (effect_changes g.catalogue sound (base_of g log a.ts) entries a.text.statements [] []
-    (recursion_from_All (FitsStatement g.catalogue) a.text.statements fits.statements) (recursion_from_All PutsHeld a.text.statements held) tt)
+    subst (AllValid g.catalogue) (sym (based.3 ∙ ap (λ (y : Running). (effect g.catalogue (base_of g log y.ts) y.text).changes) same))
+    (grind (arith, effect_changes, base_of, recursion_from_All))
 
 pub commits_valid : (g : Input) (rows : List (RelNo × Row)) (log : Log) → IsSoundCatalogue g.catalogue → HasSoundData g rows → IsPermitted g log → CommitsValid g log
 commits_valid g rows [] sound fine h c bases a [] before is act = cc

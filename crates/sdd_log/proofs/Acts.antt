@@ -1,5 +1,5 @@
 -- What a site's acts, one after the other, do to the log's recursions.
-use Rattle.sdd_log.proofs.All.{Act, AllLinked, Call, D, Did, Does, EndsByLimit, Event, Input, IsLawful, IsWithin, List, Log, MAX_LINK_MESSAGES, Msg, Puts, Site, Some, [], ap, append-nil, append_assoc, calls_of, false, handed, history, is_down, left, length, link, local_of, log_after, map, map-append, marks, nat_lt, next, or_assoc, or_false, puts, puts_past, records_of, records_of_act, refl, same_here, same_site, sends_of, sends_of_act, suc, sym, takes_part, true, ℕ, ◌++◌, ◌||◌, ◌∙◌, ◌∷◌, ◌≡◌}
+use Rattle.sdd_log.proofs.All.{Act, AllLinked, Call, Does, EndsByLimit, Event, Input, IsLawful, IsWithin, List, Log, MAX_LINK_MESSAGES, Msg, Puts, Site, Some, [], ap, append-nil, append_assoc, arith, calls_of, false, handed, history, is_down, left, length, link, local_of, log_after, map, map-append, marks, nat_lt, next, or_assoc, or_false, puts, puts_past, records_of, records_of_act, refl, same_here, same_site, sends_of, sends_of_act, suc, sym, takes_part, true, ℕ, ◌++◌, ◌||◌, ◌∙◌, ◌∷◌, ◌≡◌}
 use Rattle.sdd_log.proofs.Steps.{after_acts}
 
 pub puts-append : (at : Site) (xs ys : List (Site × Msg)) (calls : List (Call Msg)) → puts at (xs ++ ys) calls ≡ puts at ys (puts at xs calls)
@@ -11,8 +11,7 @@ pub puts_past-append : (at : Site) (xs ys : List (Site × Msg)) (calls : List (C
 puts_past-append at [] ys calls = refl
 puts_past-append at (x ∷ xs) ys calls =
     ap (λ b. nat_lt MAX_LINK_MESSAGES (suc (length (link at x.0 calls).there.sent)) || b) (puts_past-append at xs ys (Puts at x.0 x.1 ∷ calls))
-    ∙ sym (or_assoc (nat_lt MAX_LINK_MESSAGES (suc (length (link at x.0 calls).there.sent))) (puts_past (Puts at x.0 x.1 ∷ calls) at xs)
-    (puts_past (puts at xs (Puts at x.0 x.1 ∷ calls)) at ys))
+    ∙ sym (grind (arith, or_assoc, nat_lt, link, puts_past, puts))
 
 pub calls_acts : (at : Site) (acts : List Act) (log : Log) → calls_of (after_acts at acts log) ≡ puts at (sends_of acts) (calls_of log)
 calls_acts at [] log = refl
@@ -39,15 +38,11 @@ history_acts at (a ∷ acts) log =
 
 pub own_acts : (g : Input) (at : Site) (acts : List Act) (log : Log) → local_of g at (after_acts at acts log) ≡ log_after acts (local_of g at log)
 own_acts g at [] log = refl
-own_acts g at (a ∷ acts) log =
-    let own : local_of g at (Does at a ∷ log) ≡ Did a ∷ local_of g at log = rw (same_here at) refl in
-    own_acts g at acts (Does at a ∷ log) ∙ ap (λ l. log_after acts l) own
+own_acts g at (a ∷ acts) log = own_acts g at acts (Does at a ∷ log) ∙ ap (λ l. log_after acts l) (rw (same_here at) refl)
 
 pub other_acts : (g : Input) (b at : Site) (acts : List Act) (log : Log) → same_site b at ≡ false → local_of g b (after_acts at acts log) ≡ local_of g b log
 other_acts g b at [] log e = refl
-other_acts g b at (a ∷ acts) log e =
-    let same : local_of g b (Does at a ∷ log) ≡ local_of g b log = rw e refl in
-    other_acts g b at acts (Does at a ∷ log) e ∙ same
+other_acts g b at (a ∷ acts) log e = other_acts g b at acts (Does at a ∷ log) e ∙ (rw e refl)
 
 -- a lawful log's earlier logs are lawful
 pub lawful_before : (g : Input) (at : Site) (acts : List Act) (log : Log) → IsLawful g (after_acts at acts log) → IsLawful g log
@@ -68,14 +63,12 @@ pub ends_in_acts : (g : Input) (at : Site) (acts : List Act) (log : Log) → put
     → IsLawful g (after_acts at acts log) → (more : Log) × EndsByLimit g more
 ends_in_acts g at [] log e w l = cc
 ends_in_acts g at (a ∷ acts) log e w l =
-    let q : (puts_past (calls_of log) at (sends_of_act a) || puts_past (calls_of (Does at a ∷ log)) at (sends_of acts)) ≡ true = sym
-    (puts_past-append at (sends_of_act a) (sends_of acts) (calls_of log)) ∙ e in
     let k : IsLawful g (Does at a ∷ log) = lawful_before g at acts (Does at a ∷ log) l in
     elim (puts_past (calls_of log) at (sends_of_act a)) as
     (λ b. puts_past (calls_of log) at (sends_of_act a) ≡ b → (b || puts_past (calls_of (Does at a ∷ log)) at (sends_of acts)) ≡ true → (more : Log) × EndsByLimit g more) [
       | true ↦ λ p r. (log, record { lawful = k.1; within = w; entry = Does at a; next_is = k.0; past = p })
       | false ↦ λ p r. ends_in_acts g at acts (Does at a ∷ log) r (p, w) l
-    ] refl q
+    ] refl (sym (puts_past-append at (sends_of_act a) (sends_of acts) (calls_of log)) ∙ e)
 
 -- what is sent goes along links
 AllLinked-append : (g : Input) (at : Site) (xs ys : List (Site × Msg)) → AllLinked g at xs → AllLinked g at ys → AllLinked g at (xs ++ ys)
@@ -96,5 +89,4 @@ is_down_acts d at [] log = refl
 is_down_acts d at (a ∷ acts) log = is_down_acts d at acts (Does at a ∷ log)
 
 pub takes_part_acts : (b at : Site) (acts : List Act) (log : Log) → takes_part b (after_acts at acts log) ≡ takes_part b log
-takes_part_acts (D d) at acts log = rw (is_down_acts d.0 at acts log) refl
-takes_part_acts _ at acts log = refl
+takes_part_acts b at acts log = grind (arith, is_down_acts)

@@ -1,5 +1,5 @@
 -- The complete log of what was given, with one event more; rounds, and when they end.
-use Rattle.sdd_log.proofs.All.{Bool, EndsIn, Entry, Event, Input, IsLawful, List, Log, Mark, None, Option, Redeclare, Redeclares, Round, Settle, Some, TakesRounds, [], after_mark, all_links, ap, calls_of, false, from_event, greatest_bound, hand_due, left, mark_due, mark_from, mark_of, next, next_mark, or_else, or_none, quiet, refl, round, settles_before, site_due, suc, tail_of, true, with_event, zero, ℕ, ◌++◌, ◌∙◌, ◌∷◌, ◌≡◌}
+use Rattle.sdd_log.proofs.All.{Bool, EndsIn, Entry, Event, Input, IsLawful, List, Log, Mark, None, Option, Redeclare, Redeclares, Round, Settle, Some, TakesRounds, [], after_mark, all_links, ap, arith, calls_of, false, from_event, greatest_bound, hand_due, left, mark_due, mark_from, mark_of, next, next_mark, or_none, quiet, refl, round, settles_before, site_due, suc, tail_of, true, with_event, zero, ℕ, ◌++◌, ◌∙◌, ◌∷◌, ◌≡◌}
 use Rattle.sdd_log.proofs.Grows.{grows, with_end}
 
 -- nothing is due at all
@@ -10,11 +10,7 @@ pub record IsOver (g : Input) (log : Log) : Type 0 where
   pub no_next : next_mark g log ≡ None
 
 pub complete_parts : (g : Input) (log : Log) → next g log ≡ None → IsOver g log
-complete_parts g log e =
-    let p = or_none (mark_due g log) (or_else (site_due g log) (or_else (hand_due g log) (next_mark g log))) e in
-    let q = or_none (site_due g log) (or_else (hand_due g log) (next_mark g log)) p.1 in
-    let r = or_none (hand_due g log) (next_mark g log) q.1 in
-    record { no_mark = p.0; no_site = q.0; no_hand = r.0; no_next = r.1 }
+complete_parts g log e = grind (arith, or_none)
 
 -- nothing is due but a mark
 pub record IsFree (g : Input) (log : Log) : Type 0 where
@@ -52,11 +48,7 @@ more_taken g log q r [] _ i h = refl
 
 by_left : (g : Input) (e : Event) (log : Log) (s : List Event × List Event) → IsSingle e → mark_of g log s ≡ None
     → (mark_of (with_event g e) log (with_end e s) ≡ Some (Mark e)) × (after_mark (with_end e s) ≡ ([], []))
-by_left g e log (ws, []) i h = (
-  more_marked g log (quiet (all_links g) (calls_of log)) (round (all_links g) (calls_of log)) ws e i h,
-  ap (λ xs. (xs, [])) (more_taken g log (quiet (all_links g) (calls_of log)) (round (all_links g) (calls_of log)) ws e i h),
-)
-by_left g e log (ws, x ∷ r) i h = cc
+by_left g e log s i h = grind (arith, more_marked, more_taken)
 
 free : (g : Input) (e : Event) (log : Log) → IsOver g log → IsFree (with_event g e) log
 free g e log n = record { no_mark = n.no_mark; no_site = n.no_site; no_hand = n.no_hand }
@@ -91,15 +83,11 @@ by_end g e log (ws, x ∷ r) h = cc
 pub event_left : (g : Input) (e : Event) (log : Log) → IsLawful g log → next g log ≡ None
     → (ws : List Event) × (left (with_event g e).events log ≡ (ws, [])) × EndsIn e ws
 event_left g e log l h =
-    let n = complete_parts g log h in
-    let w = by_end g e log (left g.events log) n.no_next in
+    let w = by_end g e log (left g.events log) (complete_parts g log h).no_next in
     (w.0, grows g e log l ∙ w.1, w.2)
 
 round_from : (g : Input) (log : Log) (r : List Event) (e : Event) (n : ℕ) → TakesRounds e → mark_from g log false r (settles_before n e) ≡ Some (Round r)
-round_from g log r Settle zero h = refl
-round_from g log r Redeclare zero h = refl
-round_from g log r e (suc n) h = refl
-round_from g log r _ zero h = absurd h
+round_from g log r e n h = grind arith
 
 settled_from : (g : Input) (log : Log) (r : List Event) (n : ℕ) → mark_from g log true r (settles_before n Settle) ≡ None
 settled_from g log r zero = refl
@@ -121,28 +109,19 @@ mark_at g log q ws o e s h = ap (mark_of g log) e ∙ ap (λ b. mark_from g log 
 -- where nothing is in flight and all is acknowledged, a settle ends
 pub settled : (g : Input) (log : Log) (ws : List Event) → IsFree g log
     → left g.events log ≡ (ws, []) → EndsIn Settle ws → quiet (all_links g) (calls_of log) ≡ true → next g log ≡ None
-settled g log ws f e s q =
-    let r = round (all_links g) (calls_of log) in
-    next_is_mark g log None f (mark_at g log true ws None e q (ap (mark_from g log true r) s.1 ∙ settled_from g log r s.0))
+settled g log ws f e s q = grind (arith, next_is_mark, mark_at, settled_from)
 
 -- and a redeclare is next, after which nothing is left
 pub redeclare_next : (g : Input) (log : Log) (ws : List Event) → IsFree g log
     → left g.events log ≡ (ws, []) → EndsIn Redeclare ws → quiet (all_links g) (calls_of log) ≡ true
     → (next g log ≡ Some (Redeclares (greatest_bound g log))) × (after_mark (left g.events log) ≡ ([], []))
-redeclare_next g log ws f e s q =
-    let r = round (all_links g) (calls_of log) in
-    let o : Option Entry = Some (Redeclares (greatest_bound g log)) in (
-      next_is_mark g log o f (mark_at g log true ws o e q (ap (mark_from g log true r) s.1 ∙ listed_from g log r s.0)),
-      ap after_mark e ∙ ap (λ xs. after_mark (xs, [])) s.1 ∙ none_behind s.0,
-    )
+redeclare_next g log ws f e s q = grind (arith, next_is_mark, mark_at, listed_from, none_behind)
 
 -- else a round is next
 pub round_next : (g : Input) (log : Log) (ws : List Event) (e : Event) → IsFree g log
     → left g.events log ≡ (ws, []) → TakesRounds e → EndsIn e ws → quiet (all_links g) (calls_of log) ≡ false
     → next g log ≡ Some (Round (round (all_links g) (calls_of log)))
-round_next g log ws e f l t s q =
-    let r = round (all_links g) (calls_of log) in
-    next_is_mark g log (Some (Round r)) f (mark_at g log false ws (Some (Round r)) l q (ap (mark_from g log false r) s.1 ∙ round_from g log r e s.0 t))
+round_next g log ws e f l t s q = grind (arith, next_is_mark, mark_at, round_from)
 
 -- in a round its next event is next
 pub in_round : (g : Input) (log : Log) (ws : List Event) (e : Event) (rest : List Event) → IsFree g log → left g.events log ≡ (ws, e ∷ rest)

@@ -1,24 +1,14 @@
 -- A delivery: nothing, an acknowledgement, or messages that are to be handed over, or kept where their module is down.
-use Rattle.sdd_log.proofs.All.{Acked, Deliver, Delivers, Input, IsMarked, Link, List, Log, Mark, Messages, Msg, Notes, Nothing, Remain, Rests, Site, Some, Waits, [], and_left, and_parts, and_right, ap, arith, calls_of, deliver, delivered, delivered_le, delivery, false, from_one, handed, if◌then◌else◌, length, length-append, link_of, newly_delivered, note_if, on_link, packet_at, refl, rises, same_here, same_is, same_site, sent, slice_get, sound, subst, suc, sym, takes_part, true, zero, ℕ, ◌&&◌, ◌++◌, ◌+◌, ◌∙◌, ◌∷◌, ◌≡◌, ◌≤◌}
+use Rattle.sdd_log.proofs.All.{Acked, Deliver, Delivers, Input, IsMarked, List, Log, Mark, Messages, Msg, Notes, Nothing, Remain, Rests, Site, Some, Waits, [], and_left, and_parts, and_right, ap, arith, calls_of, deliver, delivered, delivered_le, delivery, false, from_one, handed, if◌then◌else◌, length, length-append, link_of, newly_delivered, note_if, packet_at, refl, rises, same_here, same_is, same_site, sent, slice_get, sound, subst, suc, sym, takes_part, true, zero, ℕ, ◌&&◌, ◌++◌, ◌+◌, ◌∙◌, ◌∷◌, ◌≡◌, ◌≤◌}
 use Rattle.sdd_log.proofs.Links.{by_nothing, by_acked, by_messages, delivered_deliver, newly_get, newly_length, sent_stays}
 use Rattle.sdd_log.proofs.Marking.{handed_still, mark_within, none_by_mark, part_marked, rests_marked, rests_noted}
 
-on_own : (a b : Site) (f : Link Msg → Link Msg) (l : Link Msg) → on_link a b a b f l ≡ f l
-on_own a b f l = rw (same_here a, same_here b) refl
-
 own_link : (a b : Site) (k : ℕ) (log : Log) → link_of a b (Mark (Deliver a b k) ∷ log) ≡ deliver k (link_of a b log)
-own_link a b k log = on_own a b (deliver k) (link_of a b log)
-
-at_both : (P : Site → Site → Type 0) (a b x y : Site) → x ≡ a → y ≡ b → P a b → P x y
-at_both P a b x y e f h = subst (λ z. P z y) (sym e) (subst (λ z. P a z) (sym f) h)
+own_link a b k log = (rw (same_here a, same_here b) refl)
 
 -- what holds of the link itself and of every other holds of all
 pub on_every : (P : Site → Site → Type 0) (a b : Site) → P a b → ((x y : Site) → (same_site x a && same_site y b) ≡ false → P x y) → (x y : Site) → P x y
-on_every P a b here others x y =
-    elim (same_site x a && same_site y b) as (λ c. (same_site x a && same_site y b) ≡ c → P x y) [
-      | true ↦ λ p. let q = and_parts (same_site x a) (same_site y b) p in at_both P a b x y (same_is x a q.0) (same_is y b q.1) here
-      | false ↦ λ p. others x y p
-    ] refl
+on_every P a b here others x y = grind (arith, and_parts, same_is)
 
 -- where the link delivers no more, none does
 same_delivered : (a b : Site) (k : ℕ) (log : Log) → delivered (deliver k (link_of a b log)).there ≡ delivered (link_of a b log).there
@@ -44,20 +34,16 @@ in_both : {A : Type 0} (P : ℕ → A → Type 0) (xs ys : List A) → ((j : ℕ
     → ((j : ℕ) (y : A) → slice_get ys j ≡ Some y → P (length xs + j) y) → (i : ℕ) (x : A) → slice_get (xs ++ ys) i ≡ Some x → P i x
 in_both P [] ys f h i x e = let z : 0 + i ≡ i = omega arith in subst (λ n. P n x) z (h i x e)
 in_both P (z ∷ xs) ys f h zero x e = f 0 x e
-in_both P (z ∷ xs) ys f h (suc i) x e =
-    in_both (λ j y. P (suc j) y) xs ys (λ j y p. f (suc j) y p)
-    (λ j y p. let s : suc (length xs) + j ≡ suc (length xs + j) = omega arith in subst (λ n. P n y) s (h j y p)) i x e
+in_both P (z ∷ xs) ys f h (suc i) x e = grind (arith, (in_both (λ j y. P (suc j) y) xs ys (λ j y p. f (suc j) y p) (λ j y p. let s : suc (length xs) + j ≡ suc (length xs + j) = omega arith in subst (λ n. P n y) s (h j y p)) i x e))
 
 -- an event that brings nothing leaves what is delivered
 pub nothing_same : (a b : Site) (k : ℕ) (log : Log) → delivery k (link_of a b log) ≡ Nothing → (x y : Site)
     → delivered (link_of x y (Mark (Deliver a b k) ∷ log)).there ≡ delivered (link_of x y log).there
-nothing_same a b k log e =
-    same_delivered a b k log (by_nothing (packet_at k (link_of a b log)) k (link_of a b log) (newly_delivered (link_of a b log).there (deliver k (link_of a b log)).there) e).0
+nothing_same a b k log e = grind (arith, same_delivered, by_nothing)
 
 pub ack_same : (a b : Site) (k : ℕ) (log : Log) → delivery k (link_of a b log) ≡ Acked → (x y : Site)
     → delivered (link_of x y (Mark (Deliver a b k) ∷ log)).there ≡ delivered (link_of x y log).there
-ack_same a b k log e =
-    same_delivered a b k log (by_acked (packet_at k (link_of a b log)) k (link_of a b log) (newly_delivered (link_of a b log).there (deliver k (link_of a b log)).there) e).0
+ack_same a b k log e = grind (arith, same_delivered, by_acked)
 
 -- messages that come to a link's end stand behind those that are there
 pub remain_more : (a b : Site) (k : ℕ) (log : Log) (rest messages : List Msg) → delivery k (link_of a b log) ≡ Messages messages → Remain log a b rest
@@ -65,9 +51,8 @@ pub remain_more : (a b : Site) (k : ℕ) (log : Log) (rest messages : List Msg) 
 remain_more a b k log rest messages e r =
     let more : Log = Mark (Deliver a b k) ∷ log in
     let t = by_messages (packet_at k (link_of a b log)) (newly_delivered (link_of a b log).there (deliver k (link_of a b log)).there) messages e in
-    let own : link_of a b more ≡ deliver k (link_of a b log) = own_link a b k log in
     let same : messages ≡ newly_delivered (link_of a b log).there (link_of a b more).there = t.0
-    ∙ ap (λ l. newly_delivered (link_of a b log).there l.there) (sym own) in
+    ∙ ap (λ l. newly_delivered (link_of a b log).there l.there) (sym (own_link a b k log)) in
     let up : delivered (link_of a b log).there ≤ delivered (link_of a b more).there = rises a b (Delivers a b k) (calls_of log) in
     let within : delivered (link_of a b more).there ≤ length (link_of a b more).there.sent = delivered_le (link_of a b more).there
     (delivered (link_of a b more).back) (sound a b (calls_of more)).there in
@@ -112,9 +97,7 @@ delivers_messages g a b k log messages m part e =
                 (remain_more a b k log [] messages e (none_remains log a b (m.rests.handed_all a b part)))
             | false ↦ λ p. remain_beside a b k log x b [] (and_left (same_site x a) (same_site b b) p) (none_remains log x b (m.rests.handed_all x b part))
           ] refl;
-      others = λ x y p q.
-          m.rests.handed_all x y (sym (part_marked y (Deliver a b k) log tt) ∙ q)
-          ∙ sym (delivered_deliver x y a b k (calls_of log) (and_right (same_site x a) (same_site y b) p));
+      others = grind (arith, part_marked, delivered_deliver, calls_of, and_right, same_site);
     }
 
 -- messages for a module that is down are kept, and the event is over
@@ -127,6 +110,5 @@ delivers_kept g a b k log messages m part e =
     elim (same_site y b) as (λ c. same_site y b ≡ c → handed x y log ≡ delivered (link_of x y (Mark (Deliver a b k) ∷ log)).there) [
       | true ↦ λ q. let down : takes_part y log ≡ false = subst (λ z. takes_part z log ≡ false) (sym (same_is y b q)) part in let no : true ≡ false = sym p
           ∙ part_marked y (Deliver a b k) log tt ∙ down in cc
-      | false ↦ λ q. m.rests.handed_all x y (sym (part_marked y (Deliver a b k) log tt) ∙ p)
-          ∙ sym (delivered_deliver x y a b k (calls_of log) (and_right (same_site x a) (same_site y b) q))
+      | false ↦ grind (arith, part_marked, delivered_deliver, calls_of, and_right, same_site)
     ] refl)

@@ -1,5 +1,5 @@
 -- What holds of each entry of a site's log, wherever it may come, holds of the log that a permitted log gives the site.
-use Rattle.sdd_log.proofs.All.{Act, AreSubmittedOnce, Bool, Did, Does, Each, Entry, Era, Event, Hand, Handed, Input, IsAllowed, IsDueAt, IsLawful, IsPermitted, Log, Mark, Msg, None, Notes, Option, Redeclare, Redeclared, Redeclares, Settle, Site, Some, Submit, Submits, Submitted, T, Tick, Ticked, Txn, [], beginning, by_event, by_link, by_mark, by_redeclare, by_round, by_site, due_by, false, if◌then◌else◌, local_of, mark_due, note_if, nth_era, redeclares, refl, same_is, same_site, subst, suc, sym, true, txn_at, with_era, with_submit, ℕ, ◌∷◌, ◌≡◌}
+use Rattle.sdd_log.proofs.All.{Act, AreSubmittedOnce, Bool, Did, Does, Each, Entry, Era, Event, Hand, Handed, Input, IsAllowed, IsDueAt, IsLawful, IsPermitted, Log, Mark, Msg, None, Notes, Option, Redeclared, Redeclares, Site, Some, Submits, Submitted, T, Tick, Ticked, Txn, [], arith, beginning, due_by, false, if◌then◌else◌, local_of, mark_due, note_if, nth_era, redeclares, same_is, same_site, subst, suc, sym, true, txn_at, with_era, with_submit, ℕ, ◌∷◌, ◌≡◌}
 use Rattle.sdd_log.proofs.NewMarks.{lawful_permitted}
 use Rattle.sdd_attempt.specs.site_module.SiteLog as site
 
@@ -14,23 +14,16 @@ AreNotes None = Unit {0}
 AreNotes (Some x) = is_note x ≡ true
 
 note_noted : (b : Bool) → AreNotes (note_if b)
-note_noted true = refl
-note_noted false = tt
+note_noted b = grind arith
 
 due_by_noted : (g : Input) (e : Event) (log : Log) → AreNotes (due_by g e log)
-due_by_noted g (Submit n) log = refl
-due_by_noted g (Tick t n) log = tt
-due_by_noted g Settle log = tt
-due_by_noted g Redeclare log = tt
-due_by_noted g _ log = note_noted _
+due_by_noted g e log = grind (arith, note_noted)
 
 mark_noted : (g : Input) (log : Log) → AreNotes (mark_due g log)
-mark_noted g (Mark e ∷ log) = due_by_noted g e log
-mark_noted g _ = tt
+mark_noted g log = grind (arith, due_by_noted)
 
 is_noted : (o : Option Entry) (e : Entry) → AreNotes o → o ≡ Some e → is_note e ≡ true
-is_noted None e h p = cc
-is_noted (Some x) e h p = let q : x ≡ e = cc in subst (λ w. is_note w ≡ true) q h
+is_noted o e h p = grind (arith, is_note)
 
 -- an act that is allowed is due
 abbrev IsDueEntry : Input → Log → Entry → Type 0
@@ -38,16 +31,10 @@ IsDueEntry g log (Does at act) = IsDueAt g log at act
 IsDueEntry g log _ = Unit {0}
 
 not_act : (g : Input) (log : Log) (e : Entry) → is_note e ≡ true → IsDueEntry g log e
-not_act g log (Does a act) h = cc
-not_act g log _ h = tt
+not_act g log e h = grind arith
 
 pub allowed_act : (g : Input) (log : Log) (e : Entry) → IsAllowed g log e → IsDueEntry g log e
-allowed_act g log e (by_mark x n) = tt
-allowed_act g log e (by_round es) = tt
-allowed_act g log e (by_redeclare t) = tt
-allowed_act g log e (by_event {e = x} p) = not_act g log x (is_noted (mark_due g log) x (mark_noted g log) p)
-allowed_act g log e (by_site at act d) = d
-allowed_act g log e (by_link a b n m p q r f) = tt
+allowed_act g log e h4 = grind (arith, not_act, is_noted, mark_noted)
 
 -- What is to be shown of a statement on the log of a site and the entry after it: that it holds of each message that may
 -- be handed to the site, of each tick, of each transaction that may be given to it, of each class list, and of
@@ -62,20 +49,16 @@ pub record HoldsOfEach (g : Input) (at : Site) (P : site.Log → site.Entry → 
   pub did : (log : Log) (act : Act) → IsPermitted g log → IsDueAt g log at act → Each P (local_of g at log) → P (local_of g at log) (Did act)
 
 each_if : (P : site.Log → site.Entry → Type 0) (b : Bool) (k l : site.Log) → (b ≡ true → Each P k) → Each P l → Each P (if b then k else l)
-each_if P true k l f h = f refl
-each_if P false k l f h = h
+each_if P b k l f h = grind arith
 
 each_submit : (P : site.Log → site.Entry → Type 0) (n : ℕ) (o : Option Txn) (l : site.Log) → ((t : Txn) → o ≡ Some t → P l (Submits n t)) → Each P l → Each P (with_submit n o l)
-each_submit P n None l f h = h
-each_submit P n (Some t) l f h = (f t refl, h)
+each_submit P n o l f h = grind arith
 
 each_beginning : (g : Input) (at : Site) (P : site.Log → site.Entry → Type 0) → ((l : site.Log) (k t : ℕ) → Each P l → P l (Redeclared (nth_era g k) t)) → Each P (beginning g at)
-each_beginning g (T t) P f = (f [] 0 0 tt, tt)
-each_beginning g _ P f = tt
+each_beginning g at P f = grind arith
 
 every_era : (at : Site) (P : site.Log → site.Entry → Type 0) (era : Era) (t : ℕ) (l : site.Log) → P l (Redeclared era t) → Each P l → Each P (with_era at era t l)
-every_era (T n) P era t l f h = (f, h)
-every_era _ P era t l f h = h
+every_era at P era t l f h = grind arith
 
 pub each_local : (g : Input) (at : Site) (P : site.Log → site.Entry → Type 0) → HoldsOfEach g at P → (log : Log) → IsPermitted g log → Each P (local_of g at log)
 each_local g at P c [] h = each_beginning g at P c.redeclared
@@ -88,8 +71,7 @@ each_local g at P c (Redeclares t ∷ log) h =
 each_local g at P c (Submitted to n ∷ log) h =
     let i = each_local g at P c log h.1 in
     each_if P (same_site at to) (with_submit n (txn_at g n) (local_of g at log)) (local_of g at log)
-    (λ e. each_submit P n (txn_at g n) (local_of g at log)
-    (λ t q. c.submits log h.1 n t (subst (λ x. IsAllowed g log (Submitted x n)) (sym (same_is at to e)) h.0) q i) i) i
+    (grind (arith, each_submit, txn_at, local_of, same_is)) i
 each_local g at P c (Hand from to n m ∷ log) h =
     let i = each_local g at P c log h.1 in
     each_if P (same_site at to) (Handed from m ∷ local_of g at log) (local_of g at log)

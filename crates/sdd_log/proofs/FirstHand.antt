@@ -1,5 +1,5 @@
 -- Which message is handed over first: that of the first link, in their order, with one that is to be handed over.
-use Rattle.sdd_log.proofs.All.{AllHanded, AtEach, Bool, D, Entry, Hand, Input, IsLinkOf, List, Log, Msg, None, Option, Site, Some, T, U, [], all_links, and_parts, ap, are_linked, arith, cond, cons_option, delivered, false, filter_map, first_nowhere, first_some, flat_map, hand_due, hand_number, hand_on, handed, if◌then◌else◌, inl, inr, is_link, is_site, le-ltb, leb-true, link_of, link_parts, links, lt-ltb, map, message_at, nat_le, next_number, or_else, range_with_len, refl, same_here, same_is, same_site, sites, suc, takes_part, true, zero, ℕ, ◌&&◌, ◌++◌, ◌+◌, ◌<◌, ◌∙◌, ◌∷◌, ◌≡◌, ◌≤◌, ◌⊎◌}
+use Rattle.sdd_log.proofs.All.{AllHanded, AtEach, Bool, D, Entry, Hand, Input, IsLinkOf, List, Log, Msg, None, Option, Site, Some, T, U, [], all_links, and_parts, ap, are_linked, arith, cond, cons_option, delivered, false, filter_map, first_nowhere, first_some, flat_map, hand_due, hand_on, handed, if◌then◌else◌, inl, inr, is_link, is_site, le-ltb, leb-true, link_of, link_parts, links, lt-ltb, map, message_at, nat_le, or_else, range_with_len, refl, same_here, same_is, same_site, sites, suc, takes_part, true, zero, ℕ, ◌&&◌, ◌++◌, ◌+◌, ◌<◌, ◌∙◌, ◌∷◌, ◌≡◌, ◌≤◌, ◌⊎◌}
 use Rattle.sdd_log.proofs.Steps.{has_site}
 use Rattle.sdd_log.proofs.Ticking.{or_both}
 
@@ -7,8 +7,7 @@ use Rattle.sdd_log.proofs.Ticking.{or_both}
 
 first_append : {A B : Type 0} (f : A → Option B) (xs ys : List A) → first_some f (xs ++ ys) ≡ or_else (first_some f xs) (first_some f ys)
 first_append f [] ys = refl
-first_append f (x ∷ xs) ys =
-    elim (f x) as (λ o. or_else o (first_some f (xs ++ ys)) ≡ or_else (or_else o (first_some f xs)) (first_some f ys)) [ None ↦ first_append f xs ys | Some y ↦ refl ]
+first_append f (x ∷ xs) ys = grind (arith, (first_append f xs ys))
 
 first_flat : {A B C : Type 0} (f : B → Option C) (h : A → List B) (xs : List A) → first_some f (flat_map h xs) ≡ first_some (λ x. first_some f (h x)) xs
 first_flat f h [] = refl
@@ -20,9 +19,7 @@ through f (Some x) = f x
 
 first_filter : {A B C : Type 0} (f : B → Option C) (k : A → Option B) (xs : List A) → first_some f (filter_map k xs) ≡ first_some (λ x. through f (k x)) xs
 first_filter f k [] = refl
-first_filter f k (x ∷ xs) =
-    elim (k x) as (λ o. first_some f (cons_option o (filter_map k xs)) ≡ or_else (through f o)
-    (first_some (λ x. through f (k x)) xs)) [ None ↦ first_filter f k xs | Some y ↦ ap (λ o. or_else (f y) o) (first_filter f k xs) ]
+first_filter f k (x ∷ xs) = grind (arith, cons_option, filter_map, through, (first_filter f k xs))
 
 pub each_weaker : {A : Type 0} (P Q : A → Type 0) (xs : List A) → ((x : A) → P x → Q x) → AtEach P xs → AtEach Q xs
 each_weaker P Q [] h a = tt
@@ -31,11 +28,6 @@ each_weaker P Q (x ∷ xs) h a = (h x a.0, each_weaker P Q xs h a.1)
 first_none_before : {B : Type 0} (f : Site → Option B) (xs : List Site) → AtEach (λ x. f x ≡ None) xs → first_some f xs ≡ None
 first_none_before f [] a = refl
 first_none_before f (x ∷ xs) a = or_both (f x) (first_some f xs) a.0 (first_none_before f xs a.1)
-
--- found at a site, and not at those before it
-first_here : {B : Type 0} (f : Site → Option B) (before after : List Site) (at : Site) (e : B) → AtEach (λ x. f x ≡ None) before → f at ≡ Some e
-    → first_some f (before ++ at ∷ after) ≡ Some e
-first_here f before after at e a p = rw (first_append f before (at ∷ after), first_none_before f before a, p) refl
 
 -- a list is split at the first place of a site
 pub record Split (xs : List Site) (at : Site) : Type 0 where
@@ -71,20 +63,14 @@ has_front at (x ∷ xs) ys h =
     ] h
 
 pub here_or_later : (a k : ℕ) → a ≤ k → (a ≡ k) ⊎ (a + 1 ≤ k)
-here_or_later zero zero h = inl refl
-here_or_later zero (suc k) h = inr (omega arith)
-here_or_later (suc a) zero h = absurd (omega arith)
-here_or_later (suc a) (suc k) h =
-    elim (here_or_later a k (omega arith)) as (λ _. (suc a ≡ suc k) ⊎ (suc a + 1 ≤ suc k)) [ inl p ↦ inl (ap suc p) | inr q ↦ inr (omega arith) ]
-
-has_here : (f : ℕ → Site) (a k : ℕ) (xs : List Site) → a ≡ k → has_site (f k) (f a ∷ xs) ≡ true
-has_here f a k xs p = let s : same_site (f a) (f k) ≡ true = ap (λ z. same_site (f z) (f k)) p ∙ same_here (f k) in rw (s, has_site) refl
+here_or_later (suc a) (suc k) h = grind (arith, (here_or_later a k (omega arith)))
+here_or_later a k h = grind arith
 
 in_range : (f : ℕ → Site) (n a k : ℕ) → a ≤ k → k < a + n → has_site (f k) (map f (range_with_len a n)) ≡ true
 in_range f zero a k l m = absurd (omega arith)
 in_range f (suc n) a k l m =
     elim (here_or_later a k l) as (λ _. has_site (f k) (f a ∷ map f (range_with_len (a + 1) n)) ≡ true) [
-      | inl p ↦ has_here f a k (map f (range_with_len (a + 1) n)) p
+      | inl p ↦ (let s : same_site (f a) (f k) ≡ true = ap (λ z. same_site (f z) (f k)) p ∙ same_here (f k) in rw (s, has_site) refl)
       | inr q ↦ has_back (f k) (f a ∷ []) (map f (range_with_len (a + 1) n)) (in_range f n (a + 1) k q (omega arith))
     ]
 
@@ -109,21 +95,17 @@ listed tms dms (D d) h =
 -- the first link at which something is
 
 link_other : {B : Type 0} (f : Site × Site → Option B) (x y : Site) (c : Bool) → f (x, y) ≡ None → through f (cond c (Some (x, y)) None) ≡ None
-link_other f x y true e = e
-link_other f x y false e = refl
+link_other f x y c e = grind arith
 
 link_here : {B : Type 0} (f : Site × Site → Option B) (x y : Site) (c : Bool) (e : B) → c ≡ true → f (x, y) ≡ Some e
     → through f (cond c (Some (x, y)) None) ≡ Some e
-link_here f x y true e h p = p
-link_here f x y false e h p = cc
+link_here f x y c e h p = grind arith
 
 abbrev from_site : List Site → Site → List (Site × Site)
 from_site all a = filter_map (λ b. cond (are_linked a b) (Some (a, b)) None) all
 
 none_from : {B : Type 0} (f : Site × Site → Option B) (all : List Site) (x : Site) → ((y : Site) → f (x, y) ≡ None) → first_some f (from_site all x) ≡ None
-none_from f all x h =
-    first_filter f (λ y. cond (are_linked x y) (Some (x, y)) None) all
-    ∙ first_nowhere (λ y. through f (cond (are_linked x y) (Some (x, y)) None)) all (λ y. link_other f x y (are_linked x y) (h y))
+none_from f all x h = grind (arith, first_filter, first_nowhere, through, link_other)
 
 one_to : {B : Type 0} (f : Site × Site → Option B) (all : List Site) (a b : Site) (e : B) → has_site b all ≡ true → are_linked a b ≡ true → f (a, b) ≡ Some e
     → ((y : Site) → same_site y b ≡ false → f (a, y) ≡ None) → first_some f (from_site all a) ≡ Some e
@@ -131,10 +113,7 @@ one_to f all a b e here linked p aside =
     let s : Split all b = split all b here in
     first_filter f (λ y. cond (are_linked a y) (Some (a, y)) None) all
     ∙ ap (λ ys. first_some (λ y. through f (cond (are_linked a y) (Some (a, y)) None)) ys) s.parts
-    ∙ first_here (λ y. through f (cond (are_linked a y) (Some (a, y)) None)) s.before s.after b e
-    (each_weaker (λ y. same_site y b ≡ false) (λ y. through f (cond (are_linked a y) (Some (a, y)) None) ≡ None) s.before
-    (λ y q. link_other f a y (are_linked a y) (aside y q)) s.others)
-    (link_here f a b (are_linked a b) e linked p)
+    ∙ (rw (first_append (λ y. through f (cond (are_linked a y) (Some (a, y)) None)) s.before (b ∷ s.after), first_none_before (λ y. through f (cond (are_linked a y) (Some (a, y)) None)) s.before (grind (arith, each_weaker, same_site, through, are_linked, link_other)), (link_here f a b (are_linked a b) e linked p)) refl)
 
 -- of the links from a, and from the sites before it, the one to b alone has something
 pub first_link : {B : Type 0} (f : Site × Site → Option B) (tms dms : ℕ) (before after : List Site) (a b : Site) (e : B)
@@ -143,9 +122,7 @@ pub first_link : {B : Type 0} (f : Site × Site → Option B) (tms dms : ℕ) (b
 first_link f tms dms before after a b e parts l p earlier aside =
     let k = link_parts tms dms a b l in
     first_flat f (from_site (sites tms dms)) (sites tms dms) ∙ ap (λ xs. first_some (λ x. first_some f (from_site (sites tms dms) x)) xs) parts
-    ∙ first_here (λ x. first_some f (from_site (sites tms dms) x)) before after a e
-    (each_weaker (λ x. (y : Site) → f (x, y) ≡ None) (λ x. first_some f (from_site (sites tms dms) x) ≡ None) before (λ x h. none_from f (sites tms dms) x h) earlier)
-    (one_to f (sites tms dms) a b e (listed tms dms b k.to) k.linked p aside)
+    ∙ (rw (first_append (λ x. first_some f (from_site (sites tms dms) x)) before (a ∷ after), first_none_before (λ x. first_some f (from_site (sites tms dms) x)) before (each_weaker (λ x. (y : Site) → f (x, y) ≡ None) (λ x. first_some f (from_site (sites tms dms) x) ≡ None) before (λ x h. none_from f (sites tms dms) x h) earlier), (one_to f (sites tms dms) a b e (listed tms dms b k.to) k.linked p aside)) refl)
 
 -- what is to be handed over on one link
 
@@ -153,17 +130,11 @@ first_link f tms dms before after a b e parts l p earlier aside =
 abbrev pub IsDone : Log → Site → Site → Type 0
 IsDone log x y = takes_part y log ≡ true → handed x y log ≡ delivered (link_of x y log).there
 
-number_none : (h d : ℕ) → h ≡ d → next_number h d ≡ None
-number_none h d e = rw (le-ltb h d (omega (arith, e))) refl
-
 if_part : (c : Bool) (o : Option Entry) → (c ≡ true → o ≡ None) → (if c then o else None) ≡ None
-if_part true o h = h refl
-if_part false o h = refl
+if_part c o h = grind arith
 
 pub none_on : (log : Log) (x y : Site) → IsDone log x y → hand_on log (x, y) ≡ None
-none_on log x y h =
-    if_part (takes_part y log) (hand_number log (x, y) (next_number (handed x y log) (delivered (link_of x y log).there)))
-    (λ p. ap (hand_number log (x, y)) (number_none (handed x y log) (delivered (link_of x y log).there) (h p)))
+none_on log x y h = grind (arith, if_part, le-ltb)
 
 pub none_to_hand : (g : Input) (log : Log) → AllHanded log → hand_due g log ≡ None
 none_to_hand g log h = first_nowhere (hand_on log) (all_links g) (λ l. none_on log l.0 l.1 (h l.0 l.1))

@@ -1,5 +1,5 @@
 -- Messages that are to be handed over, one after the other, each with all that it makes due at its site.
-use Rattle.sdd_log.proofs.All.{Act, AllHanded, AreDue, Call, Hand, Handed, Input, IsFirst, IsLawful, List, Log, Msg, None, Puts, Remain, Site, Some, TakesAway, U, Waits, [], and_left, and_right, ap, arith, base_of, calls_of, delivered, false, hand_due, handed, length, link, link_of, link_parts, local_of, mark_due, message_at, next, next_in, puts, puts_past, refl, same_here, same_is, same_site, sends_of, sent, slice_get, subst, suc, sym, takes_part, true, ℕ, ◌&&◌, ◌+◌, ◌-◌, ◌∙◌, ◌∷◌, ◌≡◌}
+use Rattle.sdd_log.proofs.All.{Act, AllHanded, AreDue, Call, Hand, Handed, Input, IsFirst, IsLawful, List, Log, Msg, None, Puts, Remain, Site, Some, TakesAway, Waits, [], and_left, and_right, ap, arith, base_of, calls_of, delivered, false, hand_due, handed, link, link_of, link_parts, local_of, mark_due, message_at, next, next_in, puts, puts_past, refl, same_here, same_is, same_site, sends_of, sent, slice_get, subst, suc, sym, takes_part, true, ℕ, ◌&&◌, ◌+◌, ◌-◌, ◌∙◌, ◌∷◌, ◌≡◌}
 use Rattle.sdd_log.proofs.Steps.{after_acts, hand_and_acts}
 use Rattle.sdd_log.proofs.Acts.{calls_acts, handed_acts, takes_part_acts, within_acts}
 use Rattle.sdd_log.proofs.FirstHand.{IsDone, each_weaker, hand_is_due, listed}
@@ -19,65 +19,37 @@ sent_puts x y at (s ∷ sends) calls i m e = sent_puts x y at sends (Puts at s.0
 pub delivered_acts : (x y at : Site) (acts : List Act) (log : Log) → delivered (link_of x y (after_acts at acts log)).there ≡ delivered (link_of x y log).there
 delivered_acts x y at acts log = ap (λ c. delivered (link x y c).there) (calls_acts at acts log) ∙ delivered_puts x y at (sends_of acts) (calls_of log)
 
-sent_acts : (x y at : Site) (acts : List Act) (log : Log) (i : ℕ) (m : Msg) → slice_get (sent x y log) i ≡ Some m → slice_get (sent x y (after_acts at acts log)) i ≡ Some m
-sent_acts x y at acts log i m e = subst (λ c. slice_get (link x y c).there.sent i ≡ Some m) (sym (calls_acts at acts log)) (sent_puts x y at (sends_of acts) (calls_of log) i m e)
-
 pub no_mark_acts : (g : Input) (at : Site) (acts : List Act) (log : Log) → mark_due g log ≡ None → mark_due g (after_acts at acts log) ≡ None
 no_mark_acts g at [] log e = e
 no_mark_acts g at (a ∷ acts) log e = no_mark_acts g at acts _ refl
 
 pub remain_acts : (at : Site) (acts : List Act) (log : Log) (a b : Site) (rest : List Msg) → Remain log a b rest → Remain (after_acts at acts log) a b rest
-remain_acts at acts log a b rest r =
-    let h : handed a b (after_acts at acts log) ≡ handed a b log = handed_acts a b at acts log in
-    record {
-      count = rw (h, delivered_acts a b at acts log) r.count;
-      messages = λ i m e. rw h (sent_acts a b at acts log (handed a b log + i) m (r.messages i m e));
-    }
+remain_acts at acts log a b rest r = grind (arith, after_acts, handed_acts, delivered_acts, slice_get, link, calls_acts, sent_puts, sends_of, calls_of)
 
 -- a hand
 
-now_handed : (a b x y : Site) (n : ℕ) (m : Msg) (log : Log) → (same_site x a && same_site y b) ≡ false → handed x y (Hand a b n m ∷ log) ≡ handed x y log
-now_handed a b x y n m log e = rw e refl
-
-this_handed : (a b : Site) (n : ℕ) (m : Msg) (log : Log) → handed a b (Hand a b n m ∷ log) ≡ n
-this_handed a b n m log = rw (same_here a, same_here b) refl
-
 remain_handed : (log : Log) (a b : Site) (m : Msg) (rest : List Msg) → Remain log a b (m ∷ rest) → Remain (Hand a b (suc (handed a b log)) m ∷ log) a b rest
 remain_handed log a b m rest r =
-    let h : handed a b (Hand a b (suc (handed a b log)) m ∷ log) ≡ suc (handed a b log) = this_handed a b (suc (handed a b log)) m log in
-    let c : handed a b log + suc (length rest) ≡ delivered (link_of a b log).there = r.count in
+    let h : handed a b (Hand a b (suc (handed a b log)) m ∷ log) ≡ suc (handed a b log) = (rw (same_here a, same_here b) refl) in
     record {
-      count = omega (arith, h, c);
+      count = omega (arith, h, r.count);
       messages = λ i x e. let f : handed a b (Hand a b (suc (handed a b log)) m ∷ log) + i ≡ handed a b log + suc i = omega (arith, h) in rw f (r.messages (suc i) x e);
     }
 
 pub remain_other : (log : Log) (a b x y : Site) (n : ℕ) (m : Msg) (rest : List Msg) → (same_site x a && same_site y b) ≡ false → Remain log x y rest
     → Remain (Hand a b n m ∷ log) x y rest
-remain_other log a b x y n m rest e r =
-    let h : handed x y (Hand a b n m ∷ log) ≡ handed x y log = now_handed a b x y n m log e in
-    record { count = rw h r.count; messages = λ i k p. rw h (r.messages i k p) }
+remain_other log a b x y n m rest e r = grind (arith)
 
 -- the first of the messages
-
-nothing_remains : (log : Log) (a b : Site) (rest : List Msg) → Remain log a b rest → rest ≡ [] → IsDone log a b
-nothing_remains log a b rest r e part =
-    let c : handed a b log + length rest ≡ delivered (link_of a b log).there = r.count in
-    let z : length rest ≡ 0 = ap length e in
-    omega (arith, c, z)
 
 done_at : (log : Log) (x y b : Site) → same_site y b ≡ true → IsDone log x b → IsDone log x y
 done_at log x y b e d = subst (λ z. IsDone log x z) (sym (same_is y b e)) d
 
 none_earlier : (g : Input) (log : Log) (b : Site) (kept : Site → List Msg) → Waits g log b kept → (x : Site) → kept x ≡ [] → (y : Site) → IsDone log x y
-none_earlier g log b kept w x e y =
-    elim (same_site y b) as (λ c. same_site y b ≡ c → IsDone log x y) [
-      | true ↦ λ p. done_at log x y b p (nothing_remains log x b (kept x) (w.remain x) e)
-      | false ↦ λ p. w.others x y p
-    ] refl
+none_earlier g log b kept w x e y = grind (arith, IsDone, done_at)
 
 part_handed : (y a b : Site) (n : ℕ) (m : Msg) (log : Log) → takes_part y (Hand a b n m ∷ log) ≡ takes_part y log
-part_handed U a b n m log = refl
-part_handed _ a b n m log = refl
+part_handed y a b n m log = grind arith
 
 module _ (g : Input) (log : Log) (b : Site) (kept : Site → List Msg) (w : Waits g log b kept) (a : Site) (m : Msg) (rest : List Msg) (f : IsFirst g kept a b m rest) where
   first_remains : Remain log a b (m ∷ rest)
@@ -88,8 +60,7 @@ module _ (g : Input) (log : Log) (b : Site) (kept : Site → List Msg) (w : Wait
 
   first_due : hand_due g log ≡ Some (Hand a b (suc (handed a b log)) m)
   first_due =
-      let c : handed a b log + suc (length rest) ≡ delivered (link_of a b log).there = first_remains.count in
-      hand_is_due g log f.before f.after a b m f.parts f.linked w.part (omega arith) first_message
+      hand_is_due g log f.before f.after a b m f.parts f.linked w.part (omega (arith, first_remains.count)) first_message
       (each_weaker (λ x. kept x ≡ []) (λ x. (y : Site) → IsDone log x y) f.before (λ x e. none_earlier g log b kept w x e) f.earlier)
       (λ y e. w.others a y e)
 
@@ -127,10 +98,7 @@ module _ (g : Input) (log : Log) (b : Site) (kept : Site → List Msg) (w : Wait
         no_site = done.1;
         part = takes_part_acts b b acts (Hand a b n m ∷ log) ∙ part_handed b a b n m log ∙ w.part;
         remain = λ x. remain_acts b acts (Hand a b n m ∷ log) x b (less x) (left_of less t x);
-        others = λ x y e p.
-            handed_acts x y b acts (Hand a b n m ∷ log) ∙ now_handed a b x y n m log (and_right (same_site x a) (same_site y b) e)
-            ∙ w.others x y e (sym (takes_part_acts y b acts (Hand a b n m ∷ log) ∙ part_handed y a b n m log) ∙ p)
-            ∙ sym (delivered_acts x y b acts (Hand a b n m ∷ log));
+        others = grind (arith, handed_acts, and_right, same_site, takes_part_acts, part_handed, delivered_acts);
       }
 
 -- once none is left, all is handed over

@@ -1,5 +1,5 @@
 -- What a call on a link leaves as it was.
-use Rattle.sdd_log.proofs.All.{Ack, Acked, Bool, Call, Delivers, Link, List, Loses, Message, Messages, None, Nothing, Option, Packet, Puts, Repeats, Resends, Site, Some, Way, [], ap, arith, arrives, deliver, delivered, drop, false, get-append, given_by, if◌then◌else◌, is_empty, is_none, length, length-drop, length-take-le, link, lose, ltb-false, ltb-true, nat_lt, newly_delivered, numbered, on_link, packet_at, put, refl, repeat, resend, same_site, slice_get, suc, sym, take, top, true, turned, unacked, with_packet, without_packet, zero, ℕ, ◌&&◌, ◌+◌, ◌-◌, ◌<◌, ◌∙◌, ◌∷◌, ◌≡◌, ◌≤◌}
+use Rattle.sdd_log.proofs.All.{Acked, Call, Delivers, Link, List, Loses, Messages, Nothing, Option, Packet, Puts, Repeats, Resends, Site, Some, Way, [], ap, arith, arrives, delivered, drop, false, get-append, given_by, is_empty, is_none, length, length-drop, length-take-le, link, ltb-false, ltb-true, nat_lt, newly_delivered, numbered, on_link, put, refl, resend, same_site, slice_get, suc, take, top, true, turned, unacked, with_packet, without_packet, zero, ℕ, ◌&&◌, ◌+◌, ◌-◌, ◌<◌, ◌∷◌, ◌≡◌, ◌≤◌}
 
 -- Both ways of a link, before a call and after it: the same numbers arrived, and what was put stays.
 
@@ -13,22 +13,15 @@ abbrev KeepBoth : {M : Type 0} → Link M → Link M → Type 0
 KeepBoth l k = KeepsSent l.there k.there × KeepsSent l.back k.back
 
 module _ {M : Type 0} where
-  on_way : (P : Link M → Link M → Type 0) → ((l : Link M) → P l l) → ((l k : Link M) → P (turned l) k → P l (turned k))
-      → (c d : Bool) (f : Link M → Link M) (l : Link M) → ((k : Link M) → P k (f k)) → P l (if c then f l else if d then turned (f (turned l)) else l)
-  on_way P same flip true d f l h = h l
-  on_way P same flip false true f l h = flip l (f (turned l)) (h (turned l))
-  on_way P same flip false false f l h = same l
-
   on_this : (P : Link M → Link M → Type 0) → ((l : Link M) → P l l) → ((l k : Link M) → P (turned l) k → P l (turned k))
       → (a b from to : Site) (f : Link M → Link M) (l : Link M) → ((k : Link M) → P k (f k)) → P l (on_link a b from to f l)
-  on_this P same flip a b from to f l h = on_way P same flip (same_site a from && same_site b to) (same_site a to && same_site b from) f l h
+  on_this P same flip a b from to f l h = (grind arith)
 
   keeps_arrived : (a b from to : Site) (f : Link M → Link M) (l : Link M) → ((k : Link M) → SameArrived k (f k)) → SameArrived l (on_link a b from to f l)
   keeps_arrived a b from to f l h = on_this SameArrived (λ l. (refl, refl)) (λ l k p. (p.1, p.0)) a b from to f l h
 
   by_packet : (P : Link M → Type 0) (o : Option (Packet M)) (f : Packet M → Link M) (l : Link M) → P l → ((p : Packet M) → P (f p)) → P (with_packet o f l)
-  by_packet P None f l h k = h
-  by_packet P (Some p) f l h k = k p
+  by_packet P o f l h k = grind arith
 
   -- all calls but a delivery leave what is delivered
 
@@ -38,33 +31,20 @@ module _ {M : Type 0} where
 
   pub delivered_lose : (a b from to : Site) (place : ℕ) (calls : List (Call M))
       → delivered (link a b (Loses from to place ∷ calls)).there ≡ delivered (link a b calls).there
-  delivered_lose a b from to place calls = ap top
-      (keeps_arrived a b from to (lose place) (link a b calls) (λ k. by_packet (SameArrived k) (packet_at place k) _ k (refl, refl) (λ p. (refl, refl)))).0
+  delivered_lose a b from to place calls = grind (arith, keeps_arrived, by_packet, SameArrived)
 
   pub delivered_repeat : (a b from to : Site) (place : ℕ) (calls : List (Call M))
       → delivered (link a b (Repeats from to place ∷ calls)).there ≡ delivered (link a b calls).there
-  delivered_repeat a b from to place calls = ap top
-      (keeps_arrived a b from to (repeat place) (link a b calls) (λ k. by_packet (SameArrived k) (packet_at place k) _ k (refl, refl) (λ p. (refl, refl)))).0
+  delivered_repeat a b from to place calls = grind (arith, keeps_arrived, by_packet, SameArrived)
 
   pub delivered_resend : (a b from to : Site) (calls : List (Call M)) → delivered (link a b (Resends from to ∷ calls)).there ≡ delivered (link a b calls).there
   delivered_resend a b from to calls = ap top (keeps_arrived a b from to resend (link a b calls) (λ k. (refl, refl))).0
 
   -- a delivery on one link leaves what is delivered on every other
 
-  back_arrives : (o : Option (Packet M)) (place : ℕ) (l : Link M) → (with_packet o (λ p. arrives p (without_packet place l)) l).back.arrived ≡ l.back.arrived
-  back_arrives (Some (Ack k)) place l = refl
-  back_arrives _ place l = refl
-
-  other_way : (c d : Bool) (place : ℕ) (l : Link M) → c ≡ false
-      → (if c then deliver place l else if d then turned (deliver place (turned l)) else l).there.arrived ≡ l.there.arrived
-  other_way true d place l e = cc
-  other_way false true place l e = back_arrives (packet_at place (turned l)) place (turned l)
-  other_way false false place l e = refl
-
   pub delivered_deliver : (a b from to : Site) (place : ℕ) (calls : List (Call M)) → (same_site a from && same_site b to) ≡ false
       → delivered (link a b (Delivers from to place ∷ calls)).there ≡ delivered (link a b calls).there
-  delivered_deliver a b from to place calls e = ap top
-      (other_way (same_site a from && same_site b to) (same_site a to && same_site b from) place (link a b calls) e)
+  delivered_deliver a b from to place calls e = grind (arith)
 
   -- what was put stays put
 
@@ -77,37 +57,22 @@ module _ {M : Type 0} where
   put_sent : (m : M) (k : Link M) → KeepBoth k (put m k)
   put_sent m k = ((λ i x e. get-append k.there.sent (m ∷ []) i x e), (λ i x e. e))
 
-  arrives_sent : (p : Packet M) (place : ℕ) (k : Link M) → KeepBoth k (arrives p (without_packet place k))
-  arrives_sent (Message n m) place k = ((λ i x e. e), (λ i x e. e))
-  arrives_sent (Ack n) place k = ((λ i x e. e), (λ i x e. e))
-
   pub sent_stays : (a b : Site) (c : Call M) (calls : List (Call M)) → KeepsSent (link a b calls).there (link a b (c ∷ calls)).there
   sent_stays a b (Puts from to m) calls = (keeps_sent a b from to (put m) (link a b calls) (put_sent m)).0
-  sent_stays a b (Delivers from to place) calls =
-      (keeps_sent a b from to (deliver place) (link a b calls)
-      (λ k. by_packet (KeepBoth k) (packet_at place k) _ k (same_sent k) (λ p. arrives_sent p place k))).0
-  sent_stays a b (Loses from to place) calls =
-      (keeps_sent a b from to (lose place) (link a b calls) (λ k. by_packet (KeepBoth k) (packet_at place k) _ k (same_sent k) (λ p. same_sent k))).0
-  sent_stays a b (Repeats from to place) calls =
-      (keeps_sent a b from to (repeat place) (link a b calls) (λ k. by_packet (KeepBoth k) (packet_at place k) _ k (same_sent k) (λ p. same_sent k))).0
-  sent_stays a b (Resends from to) calls = (keeps_sent a b from to resend (link a b calls) same_sent).0
+  sent_stays a b c calls = grind (arith, keeps_sent, by_packet, KeepBoth, same_sent, resend, link)
 
   -- what a delivery's answer tells
 
   pub by_nothing : (o : Option (Packet M)) (place : ℕ) (l : Link M) (ms : List M) → given_by o ms ≡ Nothing
       → (delivered (with_packet o (λ p. arrives p (without_packet place l)) l).there ≡ delivered l.there) × (is_none o ≡ true)
-  by_nothing None place l ms e = (refl, refl)
-  by_nothing (Some (Message n m)) place l ms e = cc
-  by_nothing (Some (Ack k)) place l ms e = cc
+  by_nothing o place l ms e = grind arith
 
   pub by_acked : (o : Option (Packet M)) (place : ℕ) (l : Link M) (ms : List M) → given_by o ms ≡ Acked
       → (delivered (with_packet o (λ p. arrives p (without_packet place l)) l).there ≡ delivered l.there) × (is_none o ≡ false)
-  by_acked (Some (Ack k)) place l ms e = (refl, refl)
-  by_acked _ place l ms e = cc
+  by_acked o place l ms e = grind arith
 
   pub by_messages : (o : Option (Packet M)) (ms given : List M) → given_by o ms ≡ Messages given → (given ≡ ms) × (is_none o ≡ false)
-  by_messages (Some (Message n m)) ms given e = (cc, refl)
-  by_messages _ ms given e = cc
+  by_messages o ms given e = grind arith
 
   -- the messages of a delivery are those from `delivered` on
 
@@ -123,16 +88,11 @@ module _ {M : Type 0} where
 
   pub newly_get : (old new : Way M) (given : List M) (i : ℕ) (m : M) → given ≡ newly_delivered old new → slice_get given i ≡ Some m
       → slice_get new.sent (delivered old + i) ≡ Some m
-  newly_get old new given i m e h = get_take (delivered new) new.sent (delivered old + i) m
-      (get_drop (delivered old) (take (delivered new) new.sent) i m (ap (λ xs. slice_get xs i) (sym e) ∙ h))
+  newly_get old new given i m e h = grind (arith, get_take, get_drop, slice_get)
 
   pub newly_length : (old new : Way M) (given : List M) → given ≡ newly_delivered old new → delivered old ≤ delivered new → delivered new ≤ length new.sent
       → delivered old + length given ≡ delivered new
-  newly_length old new given e le within =
-      let a : length given ≡ length (take (delivered new) new.sent) - delivered old = ap length e
-      ∙ length-drop (delivered old) (take (delivered new) new.sent) in
-      let b : length (take (delivered new) new.sent) ≡ delivered new = length-take-le (delivered new) new.sent within in
-      omega (arith, a, b)
+  newly_length old new given e le within = grind (arith, length-drop, length-take-le)
 
   -- whether something is unacknowledged
 

@@ -1,38 +1,30 @@
 -- The first of several messages: of one site alone, or of senders in their order.
-use Rattle.sdd_log.proofs.All.{AtEach, Bool, D, Input, IsFirst, IsLinkOf, List, Msg, Site, T, TakesAway, U, [], ap, append_assoc, arith, false, from_one, if◌then◌else◌, inl, inr, link_parts, map, range_with_len, refl, same_here, same_site, sites, suc, sym, tm_no, true, zero, ℕ, ◌++◌, ◌+◌, ◌<◌, ◌∙◌, ◌∷◌, ◌≡◌, ◌≤◌}
+use Rattle.sdd_log.proofs.All.{AtEach, D, Input, IsFirst, IsLinkOf, List, Msg, Site, T, TakesAway, U, [], ap, append_assoc, arith, false, from_one, inl, inr, link_parts, map, range_with_len, refl, same_here, same_site, sites, suc, sym, tm_no, zero, ℕ, ◌++◌, ◌+◌, ◌<◌, ◌∙◌, ◌∷◌, ◌≡◌, ◌≤◌}
 use Rattle.sdd_log.proofs.FirstHand.{each_weaker, here_or_later, listed, Split, split}
 
 -- of one site
-
-one_here : (a : Site) (messages : List Msg) → from_one a messages a ≡ messages
-one_here a messages = rw (same_here a) refl
 
 one_other : (a x : Site) (messages : List Msg) → same_site x a ≡ false → from_one a messages x ≡ []
 one_other a x messages e = rw e refl
 
 pub first_of_one : (g : Input) (a b : Site) (m : Msg) (rest : List Msg) → IsLinkOf g a b → IsFirst g (from_one a (m ∷ rest)) a b m rest
 first_of_one g a b m rest l =
-    let k = link_parts g.catalogue.tms g.catalogue.dms a b l in
     let s : Split (sites g.catalogue.tms g.catalogue.dms) a = split (sites g.catalogue.tms g.catalogue.dms) a
-    (listed g.catalogue.tms g.catalogue.dms a k.from) in
+    (listed g.catalogue.tms g.catalogue.dms a (link_parts g.catalogue.tms g.catalogue.dms a b l).from) in
     record {
       linked = l;
       before = s.before;
       after = s.after;
       parts = s.parts;
       earlier = each_weaker (λ x. same_site x a ≡ false) (λ x. from_one a (m ∷ rest) x ≡ []) s.before (λ x e. one_other a x (m ∷ rest) e) s.others;
-      here = one_here a (m ∷ rest);
+      here = (rw (same_here a) refl);
     }
 
 pub takes_of_one : (a : Site) (m : Msg) (rest : List Msg) → TakesAway (from_one a (m ∷ rest)) (from_one a rest) a rest
-takes_of_one a m rest = record { here = one_here a rest; others = λ x e. one_other a x rest e ∙ sym (one_other a x (m ∷ rest) e) }
-
-none_if : (c : Bool) → ◌≡◌ {A = List Msg} (if c then [] else []) []
-none_if true = refl
-none_if false = refl
+takes_of_one a m rest = record { here = (rw (same_here a) refl); others = λ x e. one_other a x rest e ∙ sym (one_other a x (m ∷ rest) e) }
 
 pub none_of_one : (a x : Site) → from_one a [] x ≡ []
-none_of_one a x = none_if (same_site x a)
+none_of_one a x = (grind arith)
 
 -- the sites before a T in the order of sites are U and the T with lower numbers
 
@@ -61,7 +53,6 @@ cut_at_t P tms dms k l u first h =
     record {
       before = U ∷ c.before;
       after = c.after ++ map (λ n. D (record { 0 = n })) (range_with_len 1 dms);
-      parts = ap (λ z. U ∷ (z ++ map (λ n. D (record { 0 = n })) (range_with_len 1 dms))) c.parts
-          ∙ ap (λ z. U ∷ z) (append_assoc c.before (T (tm_no k) ∷ c.after) (map (λ n. D (record { 0 = n })) (range_with_len 1 dms)));
+      parts = grind (arith, range_with_len, append_assoc, tm_no);
       lower = (first, c.lower);
     }

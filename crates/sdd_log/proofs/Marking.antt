@@ -1,5 +1,5 @@
 -- What the mark of an event leaves, where nothing else was due.
-use Rattle.sdd_log.proofs.All.{Act, AllHanded, Bases, Bool, D, Down, Era, Event, Input, IsMarked, List, Log, MAX_RUN_EVENTS, Mark, None, Notes, Option, Redeclares, Rests, Site, Some, T, Tick, Ticked, TmNo, U, Up, [], base_of, delivered, does_at, due_by, false, first_some, if◌then◌else◌, is_past, le-ltb, link_of, local_of, marks, next, next_at, next_in, nth_era, redeclares, refl, same_is, same_site, setting_of, site_due, sites, subst, suc, sym, takes_part, true, with_era, ℕ, ◌∙◌, ◌∷◌, ◌≡◌, ◌≤◌}
+use Rattle.sdd_log.proofs.All.{Act, AllHanded, Bases, Bool, Down, Era, Event, Input, IsMarked, List, Log, MAX_RUN_EVENTS, Mark, None, Notes, Option, Redeclares, Rests, Site, Some, T, Tick, Ticked, TmNo, Up, [], arith, base_of, delivered, does_at, due_by, false, first_some, if◌then◌else◌, is_past, le-ltb, link_of, local_of, marks, next, next_at, next_in, nth_era, redeclares, refl, same_is, same_site, setting_of, site_due, sites, suc, sym, takes_part, true, with_era, ℕ, ◌∙◌, ◌∷◌, ◌≡◌, ◌≤◌}
 use Rattle.sdd_log.proofs.Steps.{AllNone, all_none, none_any_base}
 use Rattle.sdd_log.proofs.Ticking.{none_by_redeclare, none_by_tick}
 use Rattle.sdd_attempt.specs.site_module.SiteLog as site
@@ -10,24 +10,18 @@ none_at_all : (f h : Site → Option Act) (xs : List Site) → ((x : Site) → f
 none_at_all f h [] k n = refl
 none_at_all f h (x ∷ xs) k n = rw (k x n.0) (none_at_all f h xs k n.1)
 
-none_same : (g : Input) (log more : Log) (x : Site) → local_of g x more ≡ local_of g x log → next_at g log x ≡ None → next_at g more x ≡ None
-none_same g log more x e n = rw e (none_any_base g x (base_of g log) (base_of g more) (local_of g x log) n)
-
 pub still_none : (g : Input) (log more : Log) → ((x : Site) → local_of g x more ≡ local_of g x log) → site_due g log ≡ None → site_due g more ≡ None
 still_none g log more e n =
-    none_at_all (next_at g log) (next_at g more) (sites g.catalogue.tms g.catalogue.dms) (λ x k. none_same g log more x (e x) k)
+    none_at_all (next_at g log) (next_at g more) (sites g.catalogue.tms g.catalogue.dms) (λ x k. (rw (e x) (none_any_base g x (base_of g log) (base_of g more) (local_of g x log) k)))
     (all_none (next_at g log) (sites g.catalogue.tms g.catalogue.dms) n)
 
 ticked_here : (g : Input) (x t : Site) (bases : Bases) (n : ℕ) (l : site.Log) → x ≡ t → next_in g x bases l ≡ None
     → (next_in g t bases l ≡ None → next_in g t bases (Ticked n ∷ l) ≡ None) → next_in g x bases (Ticked n ∷ l) ≡ None
-ticked_here g x t bases n l e k h =
-    let back : next_in g t bases l ≡ None = subst (λ y. next_in g y bases l ≡ None) e k in
-    subst (λ y. next_in g y bases (Ticked n ∷ l) ≡ None) (sym e) (h back)
+ticked_here g x t bases n l e k h = grind arith
 
 ticked_if : (g : Input) (x : Site) (bases : Bases) (n : ℕ) (c : Bool) (l : site.Log) → (c ≡ true → next_in g x bases (Ticked n ∷ l) ≡ None)
     → next_in g x bases l ≡ None → next_in g x bases (if c then Ticked n ∷ l else l) ≡ None
-ticked_if g x bases n true l h k = h refl
-ticked_if g x bases n false l h k = k
+ticked_if g x bases n c l h k = grind arith
 
 pub ticked_none : (g : Input) (log : Log) (t : TmNo) (n : ℕ) → site_due g log ≡ None → site_due g (Mark (Tick t n) ∷ log) ≡ None
 ticked_none g log t n k =
@@ -48,8 +42,7 @@ IsNoTick (Tick t n) = ⊥
 IsNoTick _ = Unit {0}
 
 pub mark_local : (g : Input) (e : Event) (log : Log) (x : Site) → IsNoTick e → local_of g x (Mark e ∷ log) ≡ local_of g x log
-mark_local g (Tick t n) log x h = absurd h
-mark_local g _ log x h = refl
+mark_local g e log x h = grind arith
 
 pub none_by_mark : (g : Input) (log : Log) (e : Event) → IsNoTick e → site_due g log ≡ None → site_due g (Mark e ∷ log) ≡ None
 none_by_mark g log e h n = still_none g log (Mark e ∷ log) (λ x. mark_local g e log x h) n
@@ -70,21 +63,12 @@ rests_marked g log e k s d h = record {
 
 -- takes_part of a noted log is that of the log before the note
 pub part_noted : (x : Site) (log : Log) → takes_part x (Notes ∷ log) ≡ takes_part x log
-part_noted U log = refl
-part_noted _ log = refl
+part_noted x log = grind arith
 
 -- an event that finds nothing to do
 pub rests_noted : (g : Input) (log : Log) (e : Event) → IsMarked g log e → IsNoTick e → due_by g e log ≡ Some Notes → AllHanded (Mark e ∷ log)
     → Rests g (Notes ∷ Mark e ∷ log)
-rests_noted g log e k i d h =
-    let noted : next g (Mark e ∷ log) ≡ Some Notes = rw d refl in
-    record {
-      lawful = (noted, (k.next_is, k.rests.lawful));
-      within = (refl, (mark_within log e k.few, k.rests.within));
-      no_mark = refl;
-      no_site = none_by_note g log e i k.rests.no_site;
-      handed_all = λ a b p. h a b (sym (part_noted b (Mark e ∷ log)) ∙ p);
-    }
+rests_noted g log e k i d h = grind (arith, mark_within, none_by_note, part_noted)
 
 -- an event that turns no module up or down
 abbrev pub TurnsNone : Event → Type 0
@@ -93,9 +77,7 @@ TurnsNone (Up d) = ⊥
 TurnsNone _ = Unit {0}
 
 pub part_marked : (x : Site) (e : Event) (log : Log) → TurnsNone e → takes_part x (Mark e ∷ log) ≡ takes_part x log
-part_marked (D d) (Down k) log h = absurd h
-part_marked (D d) (Up k) log h = absurd h
-part_marked _ _ log h = refl
+part_marked x e log h = grind arith
 
 -- where an event delivers nothing, all stays handed over
 pub handed_still : (log : Log) (e : Event) → TurnsNone e → ((a b : Site) → delivered (link_of a b (Mark e ∷ log)).there ≡ delivered (link_of a b log).there)
@@ -112,21 +94,12 @@ no_redeclare g _ bases era t l k = k
 redeclared_none : (g : Input) (log : Log) (t : ℕ) → site_due g log ≡ None → site_due g (Redeclares t ∷ log) ≡ None
 redeclared_none g log t k =
     let more : Log = Redeclares t ∷ log in
-    none_at_all (next_at g log) (next_at g more) (sites g.catalogue.tms g.catalogue.dms) (λ x i.
-    no_redeclare g x (base_of g more) (nth_era g (suc (redeclares log))) t (local_of g x log)
-    (none_any_base g x (base_of g log) (base_of g more) (local_of g x log) i)) (all_none (next_at g log) (sites g.catalogue.tms g.catalogue.dms) k)
+    none_at_all (next_at g log) (next_at g more) (sites g.catalogue.tms g.catalogue.dms) (grind (arith, no_redeclare, base_of, nth_era, redeclares, local_of, none_any_base)) (all_none (next_at g log) (sites g.catalogue.tms g.catalogue.dms) k)
 
 pub part_redeclared : (x : Site) (t : ℕ) (log : Log) → takes_part x (Redeclares t ∷ log) ≡ takes_part x log
-part_redeclared U t log = refl
-part_redeclared _ t log = refl
+part_redeclared x t log = grind arith
 
 -- after it the log is at rest
 pub rests_redeclared : (g : Input) (log : Log) (t : ℕ) → Rests g log
     → next g log ≡ Some (Redeclares t) → suc (marks log) ≤ MAX_RUN_EVENTS → Rests g (Redeclares t ∷ log)
-rests_redeclared g log t r n few = record {
-  lawful = (n, r.lawful);
-  within = (le-ltb MAX_RUN_EVENTS (suc (marks log)) few, r.within);
-  no_mark = refl;
-  no_site = redeclared_none g log t r.no_site;
-  handed_all = λ a b p. r.handed_all a b (sym (part_redeclared b t log) ∙ p);
-}
+rests_redeclared g log t r n few = grind (arith, le-ltb, redeclared_none, part_redeclared)

@@ -1,6 +1,6 @@
 -- Where the events submit each transaction at most once, the marks of a lawful log submit no number twice, so it is
 -- permitted.
-use Rattle.sdd_log.proofs.All.{Act, AreSubmittedOnce, Bool, Call, Deliver, Down, Entry, Event, Input, IsLawful, IsPermitted, List, Log, Lose, Mark, Msg, None, Option, Redeclare, Redeclares, Repeat, Resend, Round, Settle, Site, Some, Submit, Tick, Up, [], after_mark, all_links, ap, arith, calls_of, cond, cons_option, delivered, does_at, due_by, eq-eqb, false, filter_map, flat_map, found_at, from_event, hand_due, hand_number, hand_on, hand_with, handed, if◌then◌else◌, in_flight, is_new_mark, left, link, link_of, mark_due, mark_from, mark_of, message_at, next, next_at, next_mark, next_number, not, note_if, one_if, one_of, quiet, refl, replicate, resends_now, round, site_due, sites, submits_by, submits_in, subst, suc, sym, tail_of, takes_part, true, was_marked, zero, ℕ, ◌++◌, ◌+◌, ◌==◌, ◌||◌, ◌∙◌, ◌∷◌, ◌≡◌, ◌≤◌}
+use Rattle.sdd_log.proofs.All.{Act, AreSubmittedOnce, Bool, Call, Deliver, Down, Entry, Event, Input, IsLawful, IsPermitted, List, Log, Lose, Mark, Msg, None, Option, Redeclare, Redeclares, Repeat, Resend, Round, Settle, Site, Some, Submit, Tick, Up, [], after_mark, ap, arith, cond, cons_option, does_at, due_by, eq-eqb, false, filter_map, flat_map, found_at, from_event, hand_number, hand_with, if◌then◌else◌, in_flight, is_new_mark, left, link, mark_due, mark_from, mark_of, next, next_mark, not, note_if, one_if, one_of, refl, replicate, resends_now, round, submits_by, submits_in, suc, true, was_marked, zero, ℕ, ◌++◌, ◌+◌, ◌==◌, ◌||◌, ◌∷◌, ◌≡◌, ◌≤◌}
 use Rattle.sdd_log.proofs.Permitted.{HasNewMarks, permitted_if_new}
 
 -- how often transaction n is submitted by marks
@@ -21,12 +21,7 @@ none_replicate n (suc k) e h = let i = none_replicate n k e h in omega arith
 none_resent : (n : ℕ) (ls : List (Site × Site)) (calls : List (Call Msg))
     → submits_in n (filter_map (λ l. cond (resends_now (link l.0 l.1 calls)) (Some (Resend l.0 l.1)) None) ls) ≡ 0
 none_resent n [] calls = refl
-none_resent n (l ∷ ls) calls = elim (resends_now (link l.0 l.1 calls)) as
-    (λ b. submits_in n (cons_option (cond b (Some (Resend l.0 l.1)) None)
-    (filter_map (λ l. cond (resends_now (link l.0 l.1 calls)) (Some (Resend l.0 l.1)) None) ls)) ≡ 0) [
-      | true ↦ (let i = none_resent n ls calls in omega arith)
-      | false ↦ none_resent n ls calls
-    ]
+none_resent n (l ∷ ls) calls = grind (arith, cons_option, filter_map, (none_resent n ls calls))
 
 none_delivered : (n : ℕ) (ls : List (Site × Site)) (calls : List (Call Msg))
     → submits_in n (flat_map (λ l. replicate (in_flight (link l.0 l.1 calls)) (Deliver l.0 l.1 1)) ls) ≡ 0
@@ -54,60 +49,38 @@ NotFrom None = Unit {0}
 NotFrom (Some x) = is_from x ≡ false
 
 not_from : (g : Input) (log : Log) (e : Entry) → is_from e ≡ false → IsFromLeft g log e
-not_from g log (Mark e) h = cc
-not_from g log (Round es) h = cc
-not_from g log (Redeclares t) h = cc
-not_from g log _ h = tt
+not_from g log e h = grind arith
 
 no_note : (b : Bool) → NotFrom (note_if b)
-no_note true = refl
-no_note false = tt
+no_note b = grind arith
 
 no_due_by : (g : Input) (e : Event) (log : Log) → NotFrom (due_by g e log)
-no_due_by g (Submit n) log = refl
-no_due_by g (Tick t n) log = tt
-no_due_by g Settle log = tt
-no_due_by g Redeclare log = tt
-no_due_by g _ log = no_note _
+no_due_by g e log = grind (arith, no_note)
 
 no_mark_due : (g : Input) (log : Log) → NotFrom (mark_due g log)
-no_mark_due g (Mark e ∷ log) = no_due_by g e log
-no_mark_due g _ = tt
+no_mark_due g log = grind (arith, no_due_by)
 
 no_does : (at : Site) (o : Option Act) → NotFrom (does_at at o)
-no_does at None = tt
-no_does at (Some a) = refl
+no_does at o = grind arith
 
 no_message : (l : Site × Site) (n : ℕ) (o : Option Msg) → NotFrom (hand_with l n o)
-no_message l n None = tt
-no_message l n (Some m) = refl
+no_message l n o = grind arith
 
 no_number : (log : Log) (l : Site × Site) (o : Option ℕ) → NotFrom (hand_number log l o)
-no_number log l None = tt
-no_number log l (Some n) = no_message l n (message_at l.0 l.1 n log)
+no_number log l o = grind (arith, no_message)
 
 no_hand : (log : Log) (l : Site × Site) (b : Bool) (o : Option ℕ) → NotFrom (if b then hand_number log l o else None)
 no_hand log l true o = no_number log l o
 no_hand log l false o = tt
 
 is_not : (o : Option Entry) (e : Entry) → NotFrom o → o ≡ Some e → is_from e ≡ false
-is_not None e h p = cc
-is_not (Some x) e h p = let q : x ≡ e = cc in subst (λ w. is_from w ≡ false) q h
+is_not o e h p = grind (arith, is_from)
 
 from_left_at : (g : Input) (log : Log) (e : Entry) → next_mark g log ≡ Some e → IsFromLeft g log e
-from_left_at g log (Mark e) h = h
-from_left_at g log (Round es) h = h
-from_left_at g log (Redeclares t) h = h
-from_left_at g log _ h = tt
+from_left_at g log e h = grind arith
 
 from_left : (g : Input) (log : Log) (e : Entry) → next g log ≡ Some e → IsFromLeft g log e
-from_left g log e h =
-    one_of (IsFromLeft g log e) (mark_due g log) _ e (λ p. not_from g log e (is_not (mark_due g log) e (no_mark_due g log) p))
-    (one_of (IsFromLeft g log e) (site_due g log) _ e (λ p. let r = found_at (λ at. does_at at (next_at g log at)) (sites g.catalogue.tms g.catalogue.dms) e p in not_from g log e (is_not (does_at r.1 (next_at g log r.1)) e (no_does r.1 (next_at g log r.1)) r.3))
-    (one_of (IsFromLeft g log e) (hand_due g log) _ e (λ p. let r = found_at (hand_on log) (all_links g) e p in
-    not_from g log e (is_not (hand_on log r.1) e
-    (no_hand log r.1 (takes_part r.1.1 log) (next_number (handed r.1.0 r.1.1 log) (delivered (link_of r.1.0 r.1.1 log).there))) r.3))
-    (from_left_at g log e))) h
+from_left g log e h = grind (arith, one_of, IsFromLeft, not_from, is_not, no_mark_due, found_at, no_does, no_hand, from_left_at)
 
 -- what is left and what was marked are the events
 pub record IsLeft (n : ℕ) (events : List Event) (s : List Event × List Event) (m : ℕ) : Type 0 where
@@ -147,32 +120,15 @@ marks_round g log _ r _ es h = cc
 
 mark_step : (g : Input) (log : Log) (n m : ℕ) (e : Event) (s : List Event × List Event) → mark_of g log s ≡ Some (Mark e) → IsLeft n g.events s m
     → IsLeft n g.events (after_mark s) (submits_by n e + m)
-mark_step g log n m e (ws, []) h i =
-    let r = marks_first g log (quiet (all_links g) (calls_of log)) (round (all_links g) (calls_of log)) ws e h in
-    let a : submits_in n (from_event ws) ≡ submits_by n e + submits_in n r.0 = ap (submits_in n) r.1 in
-    let b : submits_in n (tail_of (from_event ws)) ≡ submits_in n r.0 = ap (λ xs. submits_in n (tail_of xs)) r.1 in
-    record { all = omega (arith, from_event_same n ws, i.all, a, b); round_none = refl }
-mark_step g log n m e (ws, x ∷ r) h i =
-    let p : x ≡ e = cc in
-    let z : submits_by n x ≡ 0 = omega (arith, i.round_none) in
-    let y : submits_by n e ≡ 0 = ap (submits_by n) (sym p) ∙ z in
-    record { all = omega (arith, i.all, y); round_none = omega (arith, i.round_none) }
+mark_step g log n m e s h i = grind (arith, marks_first, from_event_same)
 
 redeclare_step : (g : Input) (log : Log) (n m t : ℕ) (s : List Event × List Event) → mark_of g log s ≡ Some (Redeclares t) → IsLeft n g.events s m
     → IsLeft n g.events (after_mark s) m
-redeclare_step g log n m t (ws, []) h i =
-    let r = redeclares_first g log (quiet (all_links g) (calls_of log)) (round (all_links g) (calls_of log)) ws t h in
-    let a : submits_in n (from_event ws) ≡ 0 + submits_in n r.0 = ap (submits_in n) r.1 in
-    let b : submits_in n (tail_of (from_event ws)) ≡ submits_in n r.0 = ap (λ xs. submits_in n (tail_of xs)) r.1 in
-    record { all = omega (arith, from_event_same n ws, i.all, a, b); round_none = refl }
-redeclare_step g log n m t (ws, x ∷ r) h i = cc
+redeclare_step g log n m t s h i = grind (arith, redeclares_first, from_event_same)
 
 round_step : (g : Input) (log : Log) (n m : ℕ) (es : List Event) (s : List Event × List Event) → mark_of g log s ≡ Some (Round es) → IsLeft n g.events s m
     → IsLeft n g.events (s.0, es) m
-round_step g log n m es (ws, []) h i =
-    let p = marks_round g log (quiet (all_links g) (calls_of log)) (round (all_links g) (calls_of log)) ws es h in
-    record { all = i.all; round_none = ap (submits_in n) (sym p) ∙ none_round n (all_links g) (calls_of log) }
-round_step g log n m es (ws, x ∷ r) h i = cc
+round_step g log n m es s h i = grind (arith, marks_round, none_round)
 
 pub left_is : (g : Input) (n : ℕ) (log : Log) → IsLawful g log → IsLeft n g.events (left g.events log) (marked n log)
 left_is g n [] h = record { all = omega arith; round_none = refl }
@@ -191,11 +147,10 @@ counts_mark n (_ ∷ log) h = counts_mark n log h
 new_event : (g : Input) (log : Log) (e : Event) → AreSubmittedOnce g.events → IsLawful g (Mark e ∷ log) → is_new_mark e log ≡ true
 new_event g log (Submit k) once h =
     let i = left_is g k.0 (Mark (Submit k) ∷ log) h in
-    let all : (submits_by k.0 (Submit k) + marked k.0 log) + submits_in k.0 (left g.events (Mark (Submit k) ∷ log)).0 ≡ submits_in k.0 g.events = i.all in
     let own : submits_by k.0 (Submit k) ≡ 1 = ap one_if (eq-eqb k.0 k.0 refl) in
     let le : submits_in k.0 g.events ≤ 1 = once k.0 in
     elim (was_marked k.0 log) as (λ b. was_marked k.0 log ≡ b → not b ≡ true) [
-      | true ↦ λ p. (let l : 1 ≤ marked k.0 log = counts_mark k.0 log p in absurd (omega arith))
+      | true ↦ λ p. (let l : 1 ≤ marked k.0 log = counts_mark k.0 log p in absurd (omega (arith, i.all)))
       | false ↦ λ p. refl
     ] refl
 new_event g log _ once h = refl

@@ -1,5 +1,5 @@
 -- Of what is given there is one log: it is complete, or the limit ends it, and not both.
-use Rattle.sdd_log.proofs.All.{EndsByLimit, Entry, Input, IsLawful, IsTheLog, IsWithin, Log, None, Some, [], ap, false, inl, inr, is_past, next, refl, subst, sym, true, ◌∙◌, ◌∷◌, ◌≡◌, ◌⊎◌}
+use Rattle.sdd_log.proofs.All.{EndsByLimit, Entry, Input, IsLawful, IsTheLog, IsWithin, Log, None, Some, [], ap, arith, false, inl, inr, is_past, next, refl, subst, sym, true, ◌∙◌, ◌∷◌, ◌≡◌, ◌⊎◌}
 
 -- the first is the second, or what the second was before
 abbrev pub IsBefore : Log → Log → Type 0
@@ -19,10 +19,7 @@ one_longer : (l m : Log) → IsBefore l m → (m ≡ l) ⊎ ((x : Entry) × IsBe
 one_longer l [] h = inl (sym h)
 one_longer l (e ∷ m) h = elim h as (λ _. (e ∷ m ≡ l) ⊎ ((x : Entry) × IsBefore (x ∷ l) (e ∷ m))) [
   | inl p ↦ inl (sym p)
-  | inr q ↦ elim (one_longer l m q) as (λ _. (e ∷ m ≡ l) ⊎ ((x : Entry) × IsBefore (x ∷ l) (e ∷ m))) [
-    | inl p ↦ inr (e, inl (ap (λ z. e ∷ z) (sym p)))
-    | inr p ↦ inr (p.0, inr p.1)
-  ]
+  | inr q ↦ grind (arith, IsBefore, (one_longer l m q))
 ]
 
 lawful_before : (g : Input) (l m : Log) → IsBefore l m → IsLawful g m → IsLawful g l
@@ -42,8 +39,7 @@ one_chain g m (e ∷ l) h k =
       | inr q ↦ elim (one_longer l m q) as (λ _. IsBefore m (e ∷ l) ⊎ IsBefore (e ∷ l) m) [
         | inl p ↦ inl (inr (subst (λ z. IsBefore z l) (sym p) (before_self l)))
         | inr p ↦
-            let w : IsLawful g (p.0 ∷ l) = lawful_before g (p.0 ∷ l) m p.1 h in
-            let a : next g l ≡ Some p.0 = w.0 in let b : next g l ≡ Some e = k.0 in
+            let a : next g l ≡ Some p.0 = (lawful_before g (p.0 ∷ l) m p.1 h).0 in let b : next g l ≡ Some e = k.0 in
             let c : Some p.0 ≡ Some e = sym a ∙ b in
             let same : p.0 ≡ e = cc in
             inr (subst (λ z. IsBefore (z ∷ l) m) same p.1)
@@ -58,10 +54,7 @@ no_more g l m n h b = elim (one_longer l m b) as (λ _. m ≡ l) [
 ]
 
 pub one_log : (g : Input) (l m : Log) → IsTheLog g l → IsTheLog g m → l ≡ m
-one_log g l m h k = elim (one_chain g l m h.lawful k.lawful) as (λ _. l ≡ m) [
-  | inl p ↦ sym (no_more g l m h.complete k.lawful p)
-  | inr p ↦ no_more g m l k.complete h.lawful p
-]
+one_log g l m h k = grind (arith, one_chain, no_more)
 
 -- no log is complete where a limit ends it
 pub limit_or_complete : (g : Input) (m l : Log) → EndsByLimit g m → IsTheLog g l → ⊥
@@ -76,6 +69,5 @@ limit_or_complete g m l h k =
             let same : h.entry ≡ q.0 = cc in
             let no : true ≡ false = sym h.past ∙ ap (is_past m) same ∙ v.0 in cc
       ]
-      | inr p ↦ let e : m ≡ l = no_more g l m k.complete h.lawful p in let a : next g l ≡ Some h.entry = ap (next g) (sym e)
-          ∙ h.next_is in let c : None ≡ Some h.entry = sym k.complete ∙ a in cc
+      | inr p ↦ grind (arith, no_more, next)
     ]

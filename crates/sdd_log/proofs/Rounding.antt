@@ -1,5 +1,5 @@
 -- A network that isn't quiet has a round with an event, and each event of a round is of a link.
-use Rattle.sdd_log.proofs.All.{All, All-head, All-tail, AtEach, Bool, Call, Deliver, Event, List, None, Option, Resend, Site, Some, [], and_from, are_linked, arith, back_is, both_empty, cond, cons_option, false, filter_map, flat_map, in_flight, is_empty, is_link, is_quiet_link, le-leb, length, link, link_back, link_parts, links, links_exist, list_all, ltb-false, nat_le, nat_lt, quiet, refl, replicate, resends_now, round, same_is, same_site, sites, subst, suc, sym, true, zero, ℕ, ◌&&◌, ◌++◌, ◌+◌, ◌-◌, ◌∙◌, ◌∷◌, ◌≡◌}
+use Rattle.sdd_log.proofs.All.{All, All-head, All-tail, AtEach, Bool, Call, Deliver, Event, List, None, Option, Resend, Site, Some, [], and_from, are_linked, arith, back_is, both_empty, cond, cons_option, false, filter_map, flat_map, in_flight, is_empty, is_link, is_quiet_link, le-leb, length, link, link_back, link_parts, links, links_exist, list_all, ltb-false, nat_le, nat_lt, quiet, refl, replicate, resends_now, round, same_is, same_site, sites, subst, suc, true, zero, ℕ, ◌&&◌, ◌++◌, ◌+◌, ◌-◌, ◌∷◌, ◌≡◌}
 use Rattle.sdd_log.proofs.Steps.{has_site}
 use Rattle.sdd_log.proofs.FirstHand.{each_weaker, listed}
 
@@ -14,8 +14,7 @@ each_flat P f [] h = tt
 each_flat P f (x ∷ xs) h = each_append P (f x) (flat_map f xs) h.0 (each_flat P f xs h.1)
 
 each_cons : {B : Type 0} (P : B → Type 0) (o : Option B) (ys : List B) → ((y : B) → o ≡ Some y → P y) → AtEach P ys → AtEach P (cons_option o ys)
-each_cons P None ys h k = k
-each_cons P (Some y) ys h k = (h y refl, k)
+each_cons P o ys h k = grind arith
 
 each_filter : {A B : Type 0} (P : B → Type 0) (f : A → Option B) (xs : List A) → AtEach (λ x. (y : B) → f x ≡ Some y → P y) xs → AtEach P (filter_map f xs)
 each_filter P f [] h = tt
@@ -36,8 +35,7 @@ of_flat P f [] h = tt
 of_flat P f (x ∷ xs) h = let p = of_append P (f x) (flat_map f xs) h in (p.0, of_flat P f xs p.1)
 
 of_cons : {B : Type 0} (P : B → Type 0) (o : Option B) (ys : List B) → AtEach P (cons_option o ys) → ((y : B) → o ≡ Some y → P y) × AtEach P ys
-of_cons P None ys h = ((λ y p. cc), h)
-of_cons P (Some x) ys h = ((λ y p. let same : x ≡ y = cc in subst P same h.0), h.1)
+of_cons P o ys h = grind arith
 
 of_filter : {A B : Type 0} (P : B → Type 0) (f : A → Option B) (xs : List A) → AtEach P (filter_map f xs) → AtEach (λ x. (y : B) → f x ≡ Some y → P y) xs
 of_filter P f [] h = tt
@@ -73,10 +71,6 @@ of_link P tms dms a b l h =
 
 -- each event of a round is a resend, or a delivery of a link's first packet
 
-when : {B : Type 0} (Q : B → Type 0) (c : Bool) (x y : B) → Q x → cond c (Some x) None ≡ Some y → Q y
-when Q true x y q e = let same : x ≡ y = cc in subst Q same q
-when Q false x y q e = cc
-
 pub each_of_round : {M : Type 0} (Q : Event → Type 0) (tms dms : ℕ) (calls : List (Call M))
     → ((a b : Site) → is_link tms dms a b ≡ true → Q (Resend a b) × Q (Deliver a b 1)) → AtEach Q (round (links tms dms) calls)
 each_of_round Q tms dms calls h =
@@ -84,7 +78,7 @@ each_of_round Q tms dms calls h =
     (flat_map (λ l. replicate (in_flight (link l.0 l.1 calls)) (Deliver l.0 l.1 1)) (links tms dms))
     (each_filter Q (λ l. cond (resends_now (link l.0 l.1 calls)) (Some (Resend l.0 l.1)) None) (links tms dms)
     (each_link (λ l. (y : Event) → cond (resends_now (link l.0 l.1 calls)) (Some (Resend l.0 l.1)) None ≡ Some y → Q y) tms dms
-    (λ l e y p. when Q (resends_now (link l.0 l.1 calls)) (Resend l.0 l.1) y (h l.0 l.1 e).0 p)))
+    (λ l e y p. (grind arith))))
     (each_flat Q (λ l. replicate (in_flight (link l.0 l.1 calls)) (Deliver l.0 l.1 1)) (links tms dms)
     (each_link (λ l. AtEach Q (replicate (in_flight (link l.0 l.1 calls)) (Deliver l.0 l.1 1))) tms dms
     (λ l e. each_replicate Q (in_flight (link l.0 l.1 calls)) (Deliver l.0 l.1 1) (h l.0 l.1 e).1)))
@@ -96,28 +90,23 @@ flat_empty f [] e = tt
 flat_empty f (x ∷ xs) e = let p = both_empty (f x) (flat_map f xs) e in (p.0, flat_empty f xs p.1)
 
 pub cons_empty : {B : Type 0} (o : Option B) (ys : List B) → cons_option o ys ≡ [] → (o ≡ None) × (ys ≡ [])
-cons_empty None ys e = (refl, e)
-cons_empty (Some y) ys e = cc
+cons_empty o ys e = grind arith
 
 filter_empty : {A B : Type 0} (f : A → Option B) (xs : List A) → filter_map f xs ≡ [] → AtEach (λ x. f x ≡ None) xs
 filter_empty f [] e = tt
 filter_empty f (x ∷ xs) e = let p = cons_empty (f x) (filter_map f xs) e in (p.0, filter_empty f xs p.1)
 
 none_replicated : {A : Type 0} (n : ℕ) (x : A) → replicate n x ≡ [] → n ≡ 0
-none_replicated zero x e = refl
-none_replicated (suc n) x e = cc
+none_replicated n x e = grind arith
 
 cond_none : {A : Type 0} (b : Bool) (x : A) → cond b (Some x) None ≡ None → b ≡ false
-cond_none true x e = cc
-cond_none false x e = refl
+cond_none b x e = grind arith
 
 flight_empty : {A : Type 0} (xs : List A) (n : ℕ) → length xs + n ≡ 0 → is_empty xs ≡ true
-flight_empty [] n e = refl
-flight_empty (x ∷ xs) n e = absurd (omega arith)
+flight_empty xs n e = grind arith
 
 first_false : (a b c : Bool) → b ≡ true → c ≡ true → (a && (b && c)) ≡ false → a ≡ false
-first_false true b c p q e = let no : false ≡ true = sym e ∙ and_from b c p q in cc
-first_false false b c p q e = refl
+first_false a b c p q e = grind (arith, and_from)
 
 all_true : {A : Type 0} (f : A → Bool) (xs : List A) → AtEach (λ x. f x ≡ true) xs → list_all f xs ≡ true
 all_true f [] h = refl
@@ -144,12 +133,11 @@ module _ {M : Type 0} (tms dms : ℕ) (calls : List (Call M)) (e : round (links 
   quiet_link : (a b : Site) → is_link tms dms a b ≡ true → is_quiet_link (link a b calls) ≡ true
   quiet_link a b l =
       let here : is_empty (link a b calls).there.flight ≡ true = no_flight a b l in
-      let returned : is_empty (link a b calls).back.flight ≡ true = subst (λ w. is_empty w.flight ≡ true) (back_is tms dms a b calls l) (no_flight b a (link_back tms dms a b l)) in
       let none : resends_now (link a b calls) ≡ false = cond_none (resends_now (link a b calls)) (Resend a b)
       (of_link (λ l. cond (resends_now (link l.0 l.1 calls)) (Some (Resend l.0 l.1)) None ≡ None) tms dms a b l no_resends) in
       let acked : nat_lt (link a b calls).there.acked (length (link a b calls).there.sent) ≡ false = first_false
       (nat_lt (link a b calls).there.acked (length (link a b calls).there.sent)) (is_empty (link a b calls).there.flight)
-      (is_empty (link a b calls).back.flight) here returned none in
+      (is_empty (link a b calls).back.flight) here (subst (λ w. is_empty w.flight ≡ true) (back_is tms dms a b calls l) (no_flight b a (link_back tms dms a b l))) none in
       and_from (is_empty (link a b calls).there.flight) (nat_le (length (link a b calls).there.sent) (link a b calls).there.acked) here
       (le-leb (length (link a b calls).there.sent) (link a b calls).there.acked (ltb-false (link a b calls).there.acked (length (link a b calls).there.sent) acked))
 

@@ -1,5 +1,5 @@
 -- A transaction is given to its module, and the module does what is due.
-use Rattle.sdd_log.proofs.All.{Act, AreDue, Input, IsLawful, IsMarked, IsWithin, List, Log, Mark, None, Rests, Site, Some, Submit, Submits, Submitted, Txn, TxnNo, U, [], base_of, calls_of, false, home_of, local_of, next_at, next_in, nth_era, puts_past, redeclares, refl, same_here, same_site, sends_of, site_due, sites, sym, takes_part, true, txn_at, ℕ, ◌∙◌, ◌∷◌, ◌≡◌}
+use Rattle.sdd_log.proofs.All.{Act, AreDue, Input, IsLawful, IsMarked, IsWithin, List, Log, Mark, None, Rests, Site, Some, Submit, Submits, Submitted, Txn, TxnNo, [], arith, base_of, calls_of, false, home_of, local_of, next_at, next_in, nth_era, puts_past, redeclares, refl, same_here, same_site, sends_of, site_due, sites, true, txn_at, ℕ, ◌∷◌, ◌≡◌}
 use Rattle.sdd_log.proofs.Steps.{after_acts, AllNone, Settled, all_none, has_site, none_any_base, nothing_due, steps}
 use Rattle.sdd_log.proofs.Acts.{handed_acts, takes_part_acts, within_acts}
 use Rattle.sdd_log.proofs.Handing.{delivered_acts, no_mark_acts}
@@ -10,8 +10,7 @@ other_local g b to n log e = rw e refl
 
 settled_by_submit : (g : Input) (to : Site) (n : ℕ) (log : Log) (xs : List Site) → AllNone (next_at g log) xs → Settled (next_at g (Submitted to n ∷ log)) to xs
 settled_by_submit g to n log [] k = tt
-settled_by_submit g to n log (x ∷ xs) k =
-    ((λ e. rw (other_local g x to n log e) (none_any_base g x (base_of g log) (base_of g (Submitted to n ∷ log)) (local_of g x log) k.0)), settled_by_submit g to n log xs k.1)
+settled_by_submit g to n log (x ∷ xs) k = grind (arith, other_local, none_any_base, (settled_by_submit g to n log xs k.1))
 
 own_local : (g : Input) (at : Site) (n : ℕ) (txn : Txn) (log : Log) → txn_at g n ≡ Some txn → local_of g at (Submitted at n ∷ log) ≡ Submits n txn ∷ local_of g at log
 own_local g at n txn log is = rw (same_here at, is) refl
@@ -22,10 +21,6 @@ home_in g n log = home_of (nth_era g (redeclares log)).catalogue (txn_at g n.0)
 
 abbrev pub submitted : Input → TxnNo → Log → Log
 submitted g n log = Submitted (home_in g n log) n.0 ∷ Mark (Submit n) ∷ log
-
-part_submitted : (g : Input) (n : TxnNo) (log : Log) (b : Site) → takes_part b (submitted g n log) ≡ takes_part b log
-part_submitted g n log U = refl
-part_submitted g n log _ = refl
 
 module _ (g : Input) (n : TxnNo) (log : Log) (k : IsMarked g log (Submit n)) where
   pub submitted_lawful : IsLawful g (submitted g n log)
@@ -43,11 +38,10 @@ module _ (g : Input) (n : TxnNo) (log : Log) (k : IsMarked g log (Submit n)) whe
       → IsLawful g (after_acts (home_in g n log) acts (submitted g n log))
   acts_lawful txn acts is here due =
       let at : Site = home_in g n log in
-      let left : AreDue (next_in g at (base_of g (submitted g n log))) (local_of g at (submitted g n log)) acts = rw (submitted_local txn is) due in
       let none : site_due g (Mark (Submit n) ∷ log) ≡ None = none_by_mark g log (Submit n) tt k.rests.no_site in
       (steps g at acts (submitted g n log) here refl
       (settled_by_submit g at n.0 (Mark (Submit n) ∷ log) (sites g.catalogue.tms g.catalogue.dms)
-      (all_none (next_at g (Mark (Submit n) ∷ log)) (sites g.catalogue.tms g.catalogue.dms) none)) left submitted_lawful).0
+      (all_none (next_at g (Mark (Submit n) ∷ log)) (sites g.catalogue.tms g.catalogue.dms) none)) (rw (submitted_local txn is) due) submitted_lawful).0
 
   -- what the module does then are the next entries, and after them nothing is due
   pub submits_and_acts : (txn : Txn) (acts : List Act) → txn_at g n.0 ≡ Some txn → has_site (home_in g n log) (sites g.catalogue.tms g.catalogue.dms) ≡ true
@@ -65,8 +59,5 @@ module _ (g : Input) (n : TxnNo) (log : Log) (k : IsMarked g log (Submit n)) whe
         within = within_acts at acts (submitted g n log) few submitted_within;
         no_mark = no_mark_acts g at acts (submitted g n log) refl;
         no_site = nothing_due (next_at g (after_acts at acts (submitted g n log))) at (sites g.catalogue.tms g.catalogue.dms) done.1 done.2;
-        handed_all = λ a b p.
-            handed_acts a b at acts (submitted g n log)
-            ∙ k.rests.handed_all a b (sym (takes_part_acts b at acts (submitted g n log) ∙ part_submitted g n log b) ∙ p)
-            ∙ sym (delivered_acts a b at acts (submitted g n log));
+        handed_all = grind (arith, handed_acts, submitted, takes_part_acts, delivered_acts);
       }

@@ -14,7 +14,7 @@ pub use Rattle.sdd_invariants.proofs.ClassOrder.{class_rises, in_class_order}
 pub use Rattle.sdd_invariants.proofs.Clocks.{clock_grows, clock_number, drawn, drawn_at, limit_le, stamp_below_next, stamp_rises}
 pub use Rattle.sdd_invariants.proofs.Dones.{dones_few, hand_more as push_more, head_in, next_in, put_once, strict_left, tally_at}
 pub use Rattle.sdd_invariants.proofs.Exchanges.{asks_next, hand_goes, never}
-pub use Rattle.sdd_invariants.proofs.Fair.{IsMarkEntry, all_new, allowed_mark, d_fair, home_fair, t_fair, u_fair}
+pub use Rattle.sdd_invariants.proofs.Fair.{all_new, allowed_mark, d_fair, home_fair, t_fair, u_fair}
 pub use Rattle.sdd_invariants.proofs.HoldChain.{hold_chain, same_turned as same_sym, t_table, u_table}
 pub use Rattle.sdd_invariants.proofs.Holding.{hold_rule, not_lt_is as not_past, t_none}
 pub use Rattle.sdd_invariants.proofs.InOrder.{allowed_hand, at_link as same_link, delivered_within, hand_was_put, handed_le, hands_grow, in_order}
@@ -65,7 +65,7 @@ pub use Rattle.sdd_invariants.proofs.net.Directions.{link_back, link_parts}
 pub use Rattle.sdd_invariants.proofs.net.Lists.{All-at}
 pub use Rattle.sdd_invariants.proofs.net.Rounds.{links_exist}
 pub use Rattle.sdd_invariants.proofs.site_module.Finding.{found_at, one_of}
-pub use Rattle.sdd_invariants.specs.All.{Act, AllGe, AllGt, AllLe, AllLinked, AllLt, AllReadied, Answer, AnswersRead, Apply, AreFor, AreThere, Arrive, Ascend, Ask, Asking, AtEach, Attempt, AwaitsAt, Bases, Call, Catalogue, Change, Changed, Class, ClassNo, ClassView, Commit, Cond, Condition, D, Database, Delete, Deliver, Did, DmNo, Does, Done, Down, Each, Entry, Era, Event, Exchange, Fetch, Fetching, FitsChange, FitsClass, FitsCond, FitsDone, FitsHeldFrom, FitsHold, FitsPipe, FitsRelease, FitsRow, FitsRows, FitsShip, FitsSite, FitsTxn, FragNo, Hand, Handed, HasAnswer, HasRow, HaveUse, Held, History, Hold, HoldRule, Home, Input, IsAllowed, IsApplyOf, IsAskBy, IsBased, IsChange, IsClassHere, IsDatabase, IsDoneBy, IsDue, IsDueAt, IsDueEach, IsEntry, IsFair, IsFairT, IsFairU, IsFetch, IsHere, IsHoldChain, IsLawful, IsNew, IsPermitted, IsPutBy, IsPutByD, IsRead, IsReadOf, IsReadStep, IsReadyBy, IsReduce, IsRejectBy, IsRelation, IsRising, IsSend, IsServed, IsServedClass, IsShip, IsSiteOf, IsSoundCatalogue, IsStep, IsStepU, IsStrict, IsWhole, IsWithin, IsWrite, Item, Link, Log, Lose, MAX_EVENTS, MAX_LINK_MESSAGES, MAX_RUN_EVENTS, MAX_TICKS, Mark, Move, Msg, NoRecord, NoneHold, Notes, Nothing, Null, Open, Over, Pass, Phase, Pipe, Processes, Put, Puts, Query, Question, Queued, Read, Reading, Ready, Rec, Records, Redeclare, Redeclared, Redeclares, Reduce, Reduced, Reducing, Refuses, Reject, RelNo, Release, Repeat, Resend, Round, Row, Rows, Sends, Served, ServesIfLast, Setting, Settle, Ship, Shipping, Site, Start, StartsAbove, Step, Stmt, Submit, Submits, Submitted, T, Tick, Ticked, Ticking, TmCounts, TmNo, Ts, Txn, TxnNo, U, Up, Update, Use, Value, Values, View, Wait, Waits, WasAsked, Write, act_by, act_where, active, active_handed, active_sent, after_hand, after_mark, after_send, all_held, all_links, all_of, answer_of, answer_to, answered, applied, applied_acted, are_linked, ascending, ask_for, asks_acted, asks_handed, asks_rows, at_class, at_site, attempt_due, base_of, beginning, begins, bound, bound_at, by_ask, by_exchange, by_head, by_hold, by_open, by_record, by_start, by_wait, calls_of, change_of, changes_at, changes_in, class_asked, class_at, class_for, class_is, class_no, class_puts, clock, column, commit_act, cond_for, cond_of, condition_on, conditions, conditions_at, contains, copies, counted, counts, counts_for, current_era, database_of, dated, dated_in, delivered, dm_no, does_at, done_for, dones_of, due_by, effect, exchange_due, fetches, fetches_from, fetches_use, first_phase, first_row, first_send, fits, frag_no, fragment_at, fragments_in, fragments_of, frags_asked, from_event, frozen, frozen_at, frozen_handed, given_to, given_up, goes_on, goes_through, greatest, greatest_bound, hand_due, hand_number, hand_on, hand_with, handed, handed_by, hands, hands_from, has_copy, head, head_due, head_of, head_processed, head_step, history, holds, home, home_of, in_flight, in_passing, is_a_held, is_a_hold, is_a_release, is_answer as is_answer_record, is_apply, is_asked, is_asked_of, is_at, is_committed, is_done, is_done_of, is_down, is_for, is_held, is_link, is_met, is_moving, is_number, is_over, is_processing, is_read, is_read_at, is_read_of, is_reading, is_recorded, is_shipping, is_site, is_verdict, item_cmp, items_of, judged, key_in, lacking, last_served, last_stamp, last_time, left, limit_of, link, link_of, links, local_of, made, made_by_mark, mark_due, mark_from, mark_of, marks, message_at, module_read, modules_asked, modules_of, move_at, next, next_at, next_move, next_number, next_stamp, note_if, nth_era, null_at, number_of, numbers_of, numbers_to, one_if, one_or_none, open_due, opens, opens_acted, opens_handed, or_else, or_zero, part_uses, phase_ends, pipe, pipe_acted, pipe_at, piped, pushed_by, put, put_by, puts, puts_past, puts_to, queue, queued, quiet, raised, read_at, reads_at, reads_in, records_of_act, redeclared_entry, redeclares, reduced_at, reduces, reduces_use, rejects, resends_now, round, rows_held, runs, same_site, sends_of_act, sent, served_acted, setting_of, ships, site_due, sites, snapshots, snapshots_at, source_of, spoiler, spoils, stamp_or, start_act, start_at, start_of, start_read, start_u, started, starts, starts_more, starts_of, statement_uses, step_on, submits, submits_of, submitted, tail_of, takes_part, tally, ticked_by, time_at, time_in, time_of, times_in, tm_no, to_all, to_site, touches, tried, ts_of, turned, turned_by, txn_at, txn_no, undeclared_conditions, use_there, uses_at, uses_from, uses_of, uses_read, view_of, waits, with_frags, with_item, with_made, with_submit, with_tick, with_time, with_use, with_values, without, write_at, write_time, write_time_of, write_times, write_to}
+pub use Rattle.sdd_invariants.specs.All.{Act, AllGe, AllGt, AllLe, AllLinked, AllLt, AllReadied, Answer, AnswersRead, Apply, AreFor, AreThere, Arrive, Ascend, Ask, Asking, AtEach, Attempt, AwaitsAt, Bases, Call, Catalogue, Change, Changed, Class, ClassNo, ClassView, Commit, Cond, Condition, D, Database, Delete, Deliver, Did, DmNo, Does, Done, Down, Each, Entry, Era, Event, Exchange, Fetch, Fetching, FitsChange, FitsClass, FitsCond, FitsDone, FitsHeldFrom, FitsHold, FitsPipe, FitsRelease, FitsShip, FitsSite, FitsTxn, FragNo, Hand, Handed, HasAnswer, Held, History, Hold, HoldRule, Home, Input, IsAllowed, IsApplyOf, IsAskBy, IsBased, IsClassHere, IsDatabase, IsDoneBy, IsDue, IsDueAt, IsDueEach, IsEntry, IsFair, IsFairT, IsFairU, IsFetch, IsHere, IsHoldChain, IsLawful, IsNew, IsPermitted, IsPutBy, IsPutByD, IsRead, IsReadOf, IsReadStep, IsReadyBy, IsReduce, IsRejectBy, IsRising, IsSend, IsServed, IsServedClass, IsShip, IsSiteOf, IsSoundCatalogue, IsStep, IsStepU, IsStrict, IsWhole, IsWithin, IsWrite, Item, Link, Log, Lose, MAX_EVENTS, MAX_LINK_MESSAGES, MAX_RUN_EVENTS, MAX_TICKS, Mark, Move, Msg, NoRecord, NoneHold, Notes, Null, Open, Over, Pass, Phase, Pipe, Processes, Put, Puts, Query, Question, Queued, Read, Reading, Ready, Rec, Records, Redeclare, Redeclared, Redeclares, Reduce, Reduced, Reducing, Reject, RelNo, Release, Repeat, Resend, Round, Row, Rows, Sends, ServesIfLast, Setting, Settle, Ship, Shipping, Site, Start, Step, Stmt, Submit, Submits, Submitted, T, Tick, Ticked, Ticking, TmCounts, TmNo, Ts, Txn, TxnNo, U, Up, Update, Use, Value, Values, View, Wait, Waits, WasAsked, Write, act_by, act_where, active, active_handed, active_sent, after_hand, after_mark, after_send, all_held, all_links, all_of, answer_of, answer_to, answered, applied, applied_acted, are_linked, ascending, ask_for, asks_acted, asks_handed, asks_rows, at_class, at_site, attempt_due, base_of, beginning, begins, bound, by_ask, by_exchange, by_head, by_hold, by_open, by_start, calls_of, change_of, changes_at, changes_in, class_asked, class_at, class_for, class_is, class_no, class_puts, clock, column, commit_act, cond_of, condition_on, conditions, conditions_at, contains, copies, counted, counts, counts_for, current_era, database_of, dated, dated_in, delivered, dm_no, does_at, done_for, dones_of, effect, fetches, fetches_from, fetches_use, first_phase, first_row, first_send, fits, frag_no, fragment_at, fragments_in, fragments_of, frags_asked, from_event, frozen, frozen_at, frozen_handed, given_to, given_up, goes_on, goes_through, greatest, greatest_bound, hand_due, hand_number, hand_on, handed, handed_by, hands, hands_from, has_copy, head, head_due, head_of, head_processed, history, holds, home, home_of, in_flight, is_a_held, is_a_hold, is_a_release, is_answer as is_answer_record, is_apply, is_asked, is_asked_of, is_at, is_done, is_done_of, is_down, is_for, is_held, is_link, is_met, is_number, is_over, is_processing, is_read, is_read_at, is_reading, is_recorded, is_shipping, is_site, is_verdict, item_cmp, items_of, judged, key_in, lacking, last_served, last_stamp, last_time, left, limit_of, link, link_of, links, local_of, made, made_by_mark, mark_due, mark_from, mark_of, marks, message_at, module_read, modules_asked, modules_of, move_at, next, next_at, next_move, next_number, next_stamp, nth_era, null_at, number_of, numbers_of, numbers_to, one_if, open_due, opens, opens_acted, opens_handed, or_else, or_zero, part_uses, phase_ends, pipe, pipe_acted, pipe_at, piped, put, put_by, puts, puts_past, puts_to, queue, queued, quiet, raised, read_at, reads_at, reads_in, redeclared_entry, redeclares, reduces, reduces_use, rejects, resends_now, round, rows_held, runs, same_site, sends_of_act, sent, setting_of, ships, site_due, sites, snapshots, snapshots_at, source_of, spoiler, spoils, stamp_or, start_act, start_at, start_of, start_read, start_u, started, starts, starts_more, statement_uses, step_on, submits, submits_of, tail_of, takes_part, tally, time_at, time_in, time_of, times_in, tm_no, to_all, to_site, ts_of, turned, turned_by, txn_at, undeclared_conditions, use_there, uses_at, uses_from, uses_of, uses_read, view_of, waits, with_frags, with_item, with_made, with_tick, with_time, with_use, with_values, without, write_at, write_time, write_time_of, write_times, write_to}
 pub use Rattle.sdd_invariants.specs.attempt.Fits.{handed as all_handed}
 pub use Rattle.sdd_invariants.specs.dm.Copies.{classes_of}
 pub use Rattle.sdd_invariants.specs.dm.Views.{class_view}
@@ -77,7 +77,7 @@ pub use Rattle.sdd_laws.proofs.lang.Sets.{each_append as all_joined, each_filter
 pub use Rattle.sdd_laws.proofs.lang.catalog.Sound.{positive as some_class}
 pub use Rattle.sdd_laws.proofs.serial_orders.Before.{or_cases as either}
 pub use Rattle.sdd_laws.proofs.serial_orders.Members.{Contains-range}
-pub use Rattle.sdd_laws.specs.All.{ArePlaced, CopyRows, Dated, Frozen, IsEraOf, IsPlaced, Read as ReadPlace, Reject as Rejected, Submit as Submission, all_rows, attempt_of, attempts, contents, counts_of, frozen_for, is_among, keys_in, latest, newer, of_fragment, placed, reduced, row_left, row_with, rows_for, rows_of, values_in}
+pub use Rattle.sdd_laws.specs.All.{ArePlaced, CopyRows, Dated, Frozen, IsEraOf, IsPlaced, Read as ReadPlace, Reject as Rejected, all_rows, attempt_of, attempts, contents, counts_of, frozen_for, is_among, keys_in, latest, newer, of_fragment, placed, reduced, row_left, row_with, rows_for, rows_of, values_in}
 pub use Rattle.sdd_obligations.specs.AfterEvents.{down_from, is_down_after, redeclares_in}
 pub use Rattle.sdd_obligations.specs.Awaited.{AwaitsRows, IsAwaited, IsReadable, IsServable}
 pub use Rattle.sdd_obligations.specs.Bounds.{AllFewTicks, IsNumbered, IsSmall, class_starts, greatest_height, most_classes, most_sites, start_of_class}
@@ -90,7 +90,7 @@ pub use Rattle.sdd_obligations.specs.Real.{FitsEra, IsGood, IsServedAt, ServedBy
 pub use Rattle.sdd_obligations.specs.Routes.{GoesTo, IsAnAsk, IsD, IsRouted, IsRunner, IsT}
 pub use Rattle.sdd_obligations.specs.Runnable.{IsRunnable}
 pub use Rattle.sdd_obligations.specs.Stages.{IsStage, agreed, answer_goes, flight, question_goes}
-pub use Rattle.sdd_obligations.specs.Turns.{Asks, IsOfUses, MayAnswer, MayAsk, Refused, Replies, RepliesToFetch, RepliesToRead, RepliesToReduce, RepliesToShip, Silent, Told, Turn, answers, asked_by, is_a_read, is_a_refusal, is_a_ship, is_answer, is_exchanging, is_question, questions, reads_asked, rows_asked, told_by, turn_after_answer, turn_after_question, turn_at, turn_with, uses_by, uses_held, uses_in}
+pub use Rattle.sdd_obligations.specs.Turns.{Asks, IsOfUses, MayAnswer, MayAsk, Refused, Replies, RepliesToRead, Silent, Told, Turn, answers, asked_by, is_a_read, is_a_refusal, is_a_ship, is_answer, is_exchanging, is_question, questions, reads_asked, rows_asked, told_by, turn_after_answer, turn_after_question, turn_at, turn_with, uses_by, uses_held, uses_in}
 pub use Rattle.sdd_obligations.specs.Upheld.{IsUpheldD, IsUpheldR}
 pub use Rattle.sdd_serving.proofs.Arrived.{serves_by_members}
 pub use Rattle.sdd_serving.proofs.Follows.{follows_hand, follows_reduce, follows_send, follows_start}
@@ -109,7 +109,7 @@ pub use Rattle.std.proofs.Common.{All, Bool, Contains, IfSome, IsTrue, List, Non
 pub use Rattle.std.proofs.Math.Decide.{dec_le}
 pub use Rattle.std.proofs.Math.Nat.{mul-le-mul, mul-le-mul_right, suc-mul}
 pub use Rattle.std.proofs.lemmas.Bool.{and_from as both, false_from_ne_true as not_true, or_left, or_right}
-pub use Rattle.std.proofs.lemmas.Bool.Decides.{Decides-eqb, nat_tests}
+pub use Rattle.std.proofs.lemmas.Bool.Decides.{nat_tests}
 pub use Rattle.std.proofs.lemmas.List.{get_or_past, length-map}
 pub use Rattle.std.proofs.lemmas.List.Elements.{All-cons, All-from_recursion, All-get_or, All-head, All-nil, All-tail, filter-append, filter_map-append, recursion_from_All}
 pub use Rattle.std.proofs.lemmas.List.FromFn.{length-range_with_len}
@@ -118,5 +118,5 @@ pub use Rattle.std.proofs.lemmas.Map.Made.{IsDistinct-keys_filter}
 pub use Rattle.std.specs.BTreeSet.{insert_key}
 pub use Rattle.std.specs.List.{AllByRecursion, IsDistinct, cons_option, list_all, list_any, range_with_len}
 pub use Rattle.std.specs.Map.{keys_of}
-pub use Rattle.std.specs.Option.{option_eq, option_or}
+pub use Rattle.std.specs.Option.{option_eq}
 pub use Rattle.std.specs.Ordering.{eq_by_cmp}

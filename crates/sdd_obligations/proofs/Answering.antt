@@ -1,5 +1,5 @@
 -- A READY or REJECT that is next to be handed over answers a READ of the site, and is the first that does.
-use Rattle.sdd_obligations.proofs.All.{Act, AnswersRead, Bool, D, Did, DmNo, Does, Handed, Input, IsPermitted, List, Log, Msg, Read, Site, Some, [], all_handed, and_left, and_right, ap, append_assoc, arith, at_site, both, false, handed, hands_from, head_put, home, if◌then◌else◌, in_order, inl, inr, is_read, is_verdict, list_any, local_grows, local_of, number_of, one_if, only_right, or_left, or_right, own_act, permitted_before, push_more, put_in_by_d, puts_to, refl, same_number, same_site, sends_of_act, setting_of, site_is, site_self, slice_get, subst, suc, sym, take, take_one_more, tally, tally_append, tally_take, to_site, true, true_or_false, ℕ, ◌&&◌, ◌++◌, ◌+◌, ◌<◌, ◌==◌, ◌∙◌, ◌∷◌, ◌≡◌, ◌≤◌}
+use Rattle.sdd_obligations.proofs.All.{Act, AnswersRead, Bool, D, Did, DmNo, Does, Handed, Input, IsPermitted, List, Log, Msg, Read, Site, Some, [], all_handed, and_left, and_right, ap, append_assoc, arith, at_site, both, false, handed, hands_from, head_put, home, if◌then◌else◌, in_order, inl, inr, is_read, is_verdict, list_any, local_grows, local_of, number_of, one_if, only_right, or_left, or_right, own_act, permitted_before, push_more, put_in_by_d, puts_to, refl, same_number, same_site, sends_of_act, setting_of, site_is, site_self, slice_get, subst, suc, sym, take, take_one_more, tally, tally_append, tally_take, to_site, true, true_or_false, ℕ, ◌&&◌, ◌++◌, ◌+◌, ◌<◌, ◌∙◌, ◌∷◌, ◌≡◌, ◌≤◌}
 use Rattle.sdd_obligations.proofs.Verdicts.{in_class, one_verdict, verdict_by}
 use Rattle.sdd_invariants.specs.attempt.Fits.{sent}
 use Rattle.sdd_invariants.specs.site_module.SiteLog as site
@@ -30,14 +30,10 @@ any_sent b f (p ∷ ps) k m e h = of_head b f p ps k m (same_site b p.0) refl (�
 pub sent_of_act : (b : Site) (f : Msg → Bool) (later : site.Log) (act : Act) (before : site.Log) (k : ℕ) (m : Msg)
     → slice_get (to_site b (sends_of_act act)) k ≡ Some m → f m ≡ true → list_any (at_site b f) (sent (later ++ Did act ∷ before)) ≡ true
 sent_of_act b f [] act before k m e h = any_left (at_site b f) (sends_of_act act) (sent before) (any_sent b f (sends_of_act act) k m e h)
-sent_of_act b f (Did x ∷ later) act before k m e h =
-    any_right (at_site b f) (sends_of_act x) (sent (later ++ Did act ∷ before)) (sent_of_act b f later act before k m e h)
+sent_of_act b f (Did x ∷ later) act before k m e h = grind (arith, any_right, (sent_of_act b f later act before k m e h))
 sent_of_act b f (_ ∷ later) act before k m e h = sent_of_act b f later act before k m e h
 
 -- what was handed is counted
-
-push_one : (f : Msg → Bool) (c d : Bool) (xs : List Msg) (m : Msg) → f m ≡ d → (c && d) ≡ true → 0 < tally f (if c then xs ++ m ∷ [] else xs)
-push_one f c d xs m p e = grind (arith, tally_append, one_if)
 
 turned : (a from : Site) (d : Bool) → (same_site from a && d) ≡ true → (same_site a from && d) ≡ true
 turned a from d e = grind (arith, site_is, and_left, both, site_self, and_right)
@@ -45,9 +41,8 @@ turned a from d e = grind (arith, site_is, and_left, both, site_self, and_right)
 pub counted_hand : (a : Site) (f : Msg → Bool) (l : site.Log) → list_any (at_site a f) (all_handed l) ≡ true → 0 < tally f (hands_from a l)
 counted_hand a f [] e = cc
 counted_hand a f (Handed from m ∷ l) e = elim (true_or_false (same_site from a && f m)) [
-  | inl p ↦ push_one f (same_site a from) (f m) (hands_from a l) m refl (turned a from (f m) p)
-  | inr p ↦ (let i = counted_hand a f l (only_right (same_site from a && f m)
-      (list_any (at_site a f) (all_handed l)) p e) in omega (arith, i, push_more f (same_site a from) (hands_from a l) m))
+  | inl p ↦ (grind (arith, tally_append, one_if))
+  | inr p ↦ grind (arith, only_right, same_site, list_any, at_site, all_handed, push_more, hands_from, (counted_hand a f l (only_right (same_site from a && f m) (list_any (at_site a f) (all_handed l)) p e)))
 ]
 counted_hand a f (_ ∷ l) e = counted_hand a f l e
 
@@ -60,13 +55,9 @@ none_before g a b log f m h e p l = elim (true_or_false (list_any (at_site a f) 
       let z : tally f (hands_from a (local_of g b log)) ≡ tally f (take (handed a b log) ps) = ap (tally f) (in_order g log a b h) in
       let more : tally f (take (suc (handed a b log)) ps) ≡ tally f (take (handed a b log) ps) + tally f
       (m ∷ []) = ap (tally f) (take_one_more (handed a b log) ps m e) ∙ tally_append f (take (handed a b log) ps) (m ∷ []) in
-      let one : one_if (f m) ≡ 1 = ap one_if p in
-      absurd (omega (arith, counted_hand a f (local_of g b log) q, z, more, tally_take f (suc (handed a b log)) ps, one, l)))
+      absurd (omega (arith, counted_hand a f (local_of g b log) q, z, more, tally_take f (suc (handed a b log)) ps, (ap one_if p), l)))
   | inr q ↦ q
 ]
-
-same_read : (ts c : ℕ) (v w : ℕ) → v ≡ ts → w ≡ c → ((v == ts) && (w == c)) ≡ true
-same_read ts c v w e f = both (v == ts) (w == c) (subst (λ x. (v == x) ≡ true) e (same_number v)) (subst (λ x. (w == x) ≡ true) f (same_number w))
 
 -- the READ of a verdict that was put
 pub verdict_asked : (g : Input) (d : DmNo) (log : Log) (k : ℕ) (ts c : ℕ) (m : Msg) (b : Site) → IsPermitted g log
@@ -82,9 +73,7 @@ verdict_asked g d log k ts c m b h e f =
     let x = local_grows g at (p.later ++ Does (D d) p.act ∷ o.later) (Does at o.act ∷ o.before) in
     let whole : log ≡ (p.later ++ Does (D d) p.act ∷ o.later) ++ Does at o.act ∷ o.before =
     p.is ∙ ap (λ l. p.later ++ Does (D d) p.act ∷ l) o.is ∙ sym (append_assoc p.later (Does (D d) p.act ∷ o.later) (Does at o.act ∷ o.before)) in
-    let here : local_of g at log ≡ x.0 ++ Did o.act ∷ local_of g at o.before =
-    ap (local_of g at) whole ∙ x.1 ∙ ap (λ l. x.0 ++ l) (own_act g at o.act o.before) in
-    grind (arith, is_read, sent, sent_of_act, same_read)
+    grind (arith, is_read, sent, sent_of_act, same_number, ap (local_of g at) whole ∙ x.1 ∙ ap (λ l. x.0 ++ l) (own_act g at o.act o.before))
 
 pub answers_read : (g : Input) (d : DmNo) (log : Log) (ts c : ℕ) (m : Msg) (b : Site) → IsPermitted g log → b ≡ home g.catalogue c
     → number_of (home g.catalogue c) ≤ 63 → slice_get (puts_to b (local_of g (D d) log)) (handed (D d) b log) ≡ Some m

@@ -1,5 +1,5 @@
 -- A data module answers in turn, where each question that is handed to it comes in turn.
-use Rattle.sdd_obligations.proofs.All.{Act, Answer, Apply, Asks, Bool, Cond, Did, Done, Each, Handed, IsClassHere, IsDueEach, List, Msg, Null, Open, Pass, Pipe, Read, Ready, Rec, Records, Refused, Reject, Rejected, Sends, Setting, Site, Some, Told, Ts, Turn, U, Wait, Write, [], and_no, and_right as and_right_of, answers, ap, ask_for, at_seam, cond, done_for, eqb-true, false, filter, frozen, goes_through, head, head_of, head_processed, home_of, if_way, if◌then◌else◌, inl, inr, is_a_refusal, is_answer, is_processing, is_read, length, map, not_own, opens, own_record, pipe, pipe_acted, processed_more, put, reads_asked, refl, rows_asked, same_or_not, same_site, site_self, slice_get, source_of, subst, sym, tail_of, to_site, told_by, true, turn_after_answer, turn_with, ℕ, ◌&&◌, ◌++◌, ◌==◌, ◌∙◌, ◌∷◌, ◌≡◌}
+use Rattle.sdd_obligations.proofs.All.{Act, Answer, Apply, Asks, Bool, Cond, Did, Done, Each, Handed, IsClassHere, IsDueEach, List, Msg, Null, Open, Pass, Pipe, Read, Ready, Rec, Records, Refused, Reject, Rejected, Setting, Site, Some, Told, Ts, Turn, Wait, Write, [], and_no, and_right as and_right_of, answers, ap, arith, ask_for, at_seam, cond, done_for, eqb-true, false, filter, frozen, goes_through, head, head_of, head_processed, home_of, if_way, if◌then◌else◌, is_a_refusal, is_answer, is_processing, is_read, length, map, not_own, opens, own_record, pipe, processed_more, refl, rows_asked, same_or_not, same_site, site_self, slice_get, source_of, subst, sym, tail_of, to_site, told_by, true, turn_after_answer, turn_with, ℕ, ◌&&◌, ◌++◌, ◌∙◌, ◌∷◌, ◌≡◌}
 use Rattle.sdd_obligations.proofs.HandedAnswersKeepTurns.{told_one}
 use Rattle.sdd_obligations.proofs.DataSteps.{IsDataStep, counts_told, data_step, data_step_way}
 use Rattle.sdd_obligations.proofs.Replying.{HasTurn, HasTurnAt, IsAskedInTurn, IsProcessed, asker, asks_open, from_site, read_asks_none, read_is_a_read, turn_arrives, turn_hand, turn_replies, turn_still}
@@ -7,41 +7,13 @@ use Rattle.sdd_invariants.specs.site_module.SiteLog.{Log}
 
 -- a head that is processed
 
-head_rest_of : (l : List Msg) (m : Msg) → head_of l ≡ Some m → l ≡ m ∷ tail_of l
-head_rest_of [] m e = cc
-head_rest_of (x ∷ l) m e = let p : x ≡ m = cc in ap (λ y. y ∷ l) p
-
-not_first : (f : Msg → Bool) (m : Msg) (l : List Msg) → f m ≡ false → filter f (m ∷ l) ≡ filter f l
-not_first f m l e = ap (λ (b : Bool). cond b (m ∷ filter f l) (filter f l)) e
-
-is_first : (f : Msg → Bool) (m : Msg) (l : List Msg) → f m ≡ true → filter f (m ∷ l) ≡ m ∷ filter f l
-is_first f m l e = ap (λ (b : Bool). cond b (m ∷ filter f l) (filter f l)) e
-
-own_taken : (c : ℕ) (r : Rec) (sends : List (Site × Msg)) (log : Log) → is_processing r ≡ true
-    → (pipe c (Did (Records c r sends) ∷ log)).unprocessed ≡ tail_of (pipe c log).unprocessed
-own_taken c r sends log e = ap (λ (p : Pipe). p.unprocessed) (own_record c r sends log e).0
-
 reads_left : (ts c k : ℕ) (r : Rec) (sends : List (Site × Msg)) (log : Log) (m : Msg) → is_processing r ≡ true
     → head (pipe k log) ≡ Some m → is_read ts c m ≡ false
     → filter (is_read ts c) (pipe c (Did (Records k r sends) ∷ log)).unprocessed ≡ filter (is_read ts c) (pipe c log).unprocessed
-reads_left ts c k r sends log m p h e = elim (same_or_not k c) [
-  | inl q ↦ subst (λ j. filter (is_read ts c) (pipe j (Did (Records k r sends) ∷ log)).unprocessed ≡ filter (is_read ts c) (pipe j log).unprocessed) q
-      (ap (filter (is_read ts c)) (own_taken k r sends log p)
-      ∙ sym (ap (filter (is_read ts c)) (head_rest_of (pipe k log).unprocessed m h) ∙ not_first (is_read ts c) m (tail_of (pipe k log).unprocessed) e))
-  | inr q ↦ ap (λ (x : Pipe). filter (is_read ts c) x.unprocessed) (not_own c k r sends log (inl q)).pipe_same
-]
+reads_left ts c k r sends log m p h e = grind (arith, same_or_not, own_record, not_own)
 
 pub read_class : (ts c k : ℕ) (m : Msg) → is_read ts c m ≡ true → goes_through k m ≡ true → k ≡ c
-read_class ts c k (Read t j txn attempt conds uses) e f = sym (eqb-true j.0 k f) ∙ eqb-true j.0 c (and_right_of (t.0 == ts) (j.0 == c) e)
-read_class ts c k m e f = cc
-
-reads_one : (ts c : ℕ) (v : Turn) (m : Msg) (rest : List Msg) → m ∷ rest ≡ reads_asked ts c v → (ns : List ℕ) × (v ≡ Asks ns m) × (rest ≡ [])
-reads_one ts c (Asks ns q) m rest e = elim (is_read ts c q) as (λ b. m ∷ rest ≡ (if b then q ∷ [] else [])
-    → (ms : List ℕ) × (Asks ns q ≡ Asks ms m) × (rest ≡ [])) [
-      | true ↦ λ f. (let p : m ≡ q = cc in let r : rest ≡ [] = cc in (ns, ap (λ x. Asks ns x) (sym p), r))
-      | false ↦ λ f. cc
-    ] e
-reads_one ts c _ m rest e = cc
+read_class ts c k m e f = grind (arith, eqb-true, and_right_of)
 
 -- the READ of the attempt at a head
 pub record IsReadNext (ts c : ℕ) (log : Log) (k : ℕ) (v : Turn) (m : Msg) : Type 0 where
@@ -52,18 +24,11 @@ pub record IsReadNext (ts c : ℕ) (log : Log) (k : ℕ) (v : Turn) (m : Msg) : 
 
 pub read_next : (ts c : ℕ) (at : Site) (log : Log) (k : ℕ) (v : Turn) (m : Msg) → HasTurn ts c at (opens log) (pipe c log) v
     → head (pipe k log) ≡ Some m → goes_through k m ≡ true → is_read ts c m ≡ true → IsReadNext ts c log k v m
-read_next ts c at log k v m h e through f =
-    let q : k ≡ c = read_class ts c k m f through in
-    let here : head (pipe c log) ≡ Some m = subst (λ j. head (pipe j log) ≡ Some m) q e in
-    let all : filter (is_read ts c) (pipe c log).unprocessed ≡ m ∷ filter (is_read ts c) (tail_of (pipe c log).unprocessed) =
-    ap (filter (is_read ts c)) (head_rest_of (pipe c log).unprocessed m here) ∙ is_first (is_read ts c) m (tail_of (pipe c log).unprocessed) f in
-    let one = reads_one ts c v m (filter (is_read ts c) (tail_of (pipe c log).unprocessed)) (sym all ∙ h.reads_are) in
-    record { class_is = q; uses = one.0; is = one.1; last = one.2 }
+read_next ts c at log k v m h e through f = grind (arith, read_class, through)
 
 ended_turn : (ts c : ℕ) (at : Site) (os : List Open) (p : Pipe) (b : Bool) (ns : List ℕ) (m : Msg) → map asker (filter (asks_open ts c) os) ≡ []
     → filter (is_read ts c) p.unprocessed ≡ [] → IsProcessed ts c p → HasTurn ts c at os p (if b then Refused else Told ns m)
-ended_turn ts c at os p true ns m e f h = record { own = tt; rows_are = e; reads_are = f; was_read = λ ms z. h }
-ended_turn ts c at os p false ns m e f h = record { own = tt; rows_are = e; reads_are = f; was_read = λ ms z. h }
+ended_turn ts c at os p b ns m e f h = grind arith
 
 -- the READY or REJECT that answers the READ at a head
 turn_read : (ts c : ℕ) (at : Site) (log : Log) (k : ℕ) (r : Rec) (m x : Msg) (src : Site) → is_processing r ≡ true
@@ -87,9 +52,7 @@ turn_read ts c at log k r m x src p same e through f home h =
           ap (λ (y : Pipe). y.processed) taken ∙ processed_more (pipe c log) m at_head in
           subst (λ y. HasTurn ts c at (opens (Did act ∷ log)) (pipe c (Did act ∷ log)) y) (sym now)
           (ended_turn ts c at (opens (Did act ∷ log)) (pipe c (Did act ∷ log)) (is_a_refusal x) w.uses m
-          (ap (λ l. map asker (filter (asks_open ts c) l)) same ∙ h.rows_are
-          ∙ ap (λ y. map (from_site at) (rows_asked ts c y)) w.is ∙ ap (λ (b : Bool). map (from_site at) (if b then m ∷ [] else []))
-          (read_asks_none ts c m (read_is_a_read ts c m q))) (ap (λ (y : Pipe). filter (is_read ts c) y.unprocessed) taken ∙ w.last)
+          (grind (arith, asker, asks_open, from_site, rows_asked, read_asks_none, read_is_a_read)) (ap (λ (y : Pipe). filter (is_read ts c) y.unprocessed) taken ∙ w.last)
           (record {
             place = length (pipe c log).processed;
             read = m;
@@ -113,9 +76,7 @@ asks_no_answer ts c at f (d ∷ ds) h =
     (answers ts c (to_site at (map f ds)))) (h d) ∙ asks_no_answer ts c at f ds h) (asks_no_answer ts c at f ds h)
 
 pub done_no_answer : (ts c : ℕ) (at : Site) (k : ℕ) (t : Ts) → answers ts c (to_site at (done_for k (Done t))) ≡ []
-done_no_answer ts c at k t =
-    if_way (λ l. answers ts c (to_site at l) ≡ []) (k == 0) ((U, Done t) ∷ []) []
-    (if_way (λ l. answers ts c l ≡ []) (same_site at U) (Done t ∷ []) [] refl refl) refl
+done_no_answer ts c at k t = grind (arith, if_way)
 
 -- heads go through their pipes
 
@@ -127,28 +88,12 @@ through_push : (c : ℕ) (ms : List Msg) (m : Msg) → AllThrough c ms → goes_
 through_push c [] m h e = (e, tt)
 through_push c (x ∷ ms) m h e = (h.0, through_push c ms m h.1 e)
 
-through_tail : (c : ℕ) (ms : List Msg) → AllThrough c ms → AllThrough c (tail_of ms)
-through_tail c [] h = tt
-through_tail c (x ∷ ms) h = h.1
-
-through_put : (c : ℕ) (b : Bool) (m : Msg) (p : Pipe) → goes_through c m ≡ b → AllThrough c p.unprocessed → AllThrough c (if b then put m p else p).unprocessed
-through_put c true m p e h = through_push c p.unprocessed m h e
-through_put c false m p e h = h
-
-through_acted : (c : ℕ) (act : Act) (p : Pipe) → AllThrough c p.unprocessed → AllThrough c (pipe_acted c act p).unprocessed
-through_acted c (Records k r sends) p h =
-    if_way (λ (q : Pipe). AllThrough c q.unprocessed) ((k == c) && is_processing r) (head_processed p) p (through_tail c p.unprocessed h) h
-through_acted c (Sends to m hand) p h = h
-
 through : (c : ℕ) (log : Log) → AllThrough c (pipe c log).unprocessed
 through c [] = tt
-through c (Handed from m ∷ log) = through_put c (goes_through c m) m (pipe c log) refl (through c log)
-through c (Did act ∷ log) = through_acted c act (pipe c log) (through c log)
-through c (_ ∷ log) = through c log
+through c (e ∷ log) = grind (arith, through_push, goes_through, pipe, if_way, AllThrough, (through c log))
 
 through_first : (c : ℕ) (ms : List Msg) (m : Msg) → AllThrough c ms → head_of ms ≡ Some m → goes_through c m ≡ true
-through_first c [] m h e = cc
-through_first c (x ∷ ms) m h e = let p : x ≡ m = cc in subst (λ y. goes_through c y ≡ true) p h.0
+through_first c ms m h e = grind arith
 
 pub head_through : (c : ℕ) (log : Log) (m : Msg) → head (pipe c log) ≡ Some m → goes_through c m ≡ true
 head_through c log m e = through_first c (pipe c log).unprocessed m (through c log) e
@@ -170,8 +115,7 @@ turn_act s ts c at log act home i h = data_step_way s log act (λ x. HasTurnAt t
     (λ q. subst (λ n. source_of (home_of s) n ≡ at) (sym q) (home (subst (IsClassHere s) q l))) h)
     (λ k txn attempt ds. turn_still ts c at log (Records k (Wait txn attempt (home_of s).dm ds) (map (ask_for (home_of s)) ds))
     (ap (λ l. told_by l (turn_with ts c at log)) (asks_no_answer ts c at (ask_for (home_of s)) ds (λ d. refl))) refl
-    (ap (λ (p : Pipe). filter (is_read ts c) p.unprocessed)
-    (not_own c k (Wait txn attempt (home_of s).dm ds) (map (ask_for (home_of s)) ds) log (inr refl)).pipe_same) h)
+    (grind (arith, is_read, not_own, home_of, ask_for)) h)
     (λ k t j txn changes e. turn_still ts c at log (Records k (Apply txn j (home_of s).dm t) (done_for k (Done t)))
     (ap (λ l. told_by l (turn_with ts c at log)) (done_no_answer ts c at k t)) refl
     (reads_left ts c k (Apply txn j (home_of s).dm t) (done_for k (Done t)) log (Write t j txn changes) refl e refl) h)

@@ -1,5 +1,5 @@
 -- What a data module sends lies below what was handed to it.
-use Rattle.sdd_obligations.proofs.All.{Act, AllLow, Ask, ClassNo, ClassView, Did, Handed, HandsLow, IsAskBy, IsDue, IsLow, IsPutByD, IsRejectBy, List, Msg, None, Option, Pipe, Read, Records, Reject, Sends, Setting, Site, Some, Ts, [], arith, at_class, class_in_view, class_not_in_view, dec_le, filter_map, goes_through, head, head_processed, home_of, if_way, is_processing, length, one_or_none, pipe, pipe_acted, put, put_by_d, sends_of_act, starts_by, subst, suc, sym, tail_of, to_site, top, view_of, write_time, ℕ, ◌&&◌, ◌+◌, ◌==◌, ◌∷◌, ◌≡◌, ◌≤◌}
+use Rattle.sdd_obligations.proofs.All.{Act, AllLow, Ask, ClassNo, Did, Handed, HandsLow, IsAskBy, IsDue, IsLow, IsPutByD, IsRejectBy, List, Msg, None, Option, Pipe, Read, Records, Reject, Sends, Setting, Site, Some, Ts, [], arith, at_class, class_in_view, class_not_in_view, dec_le, filter_map, goes_through, head, head_processed, home_of, if_way, is_processing, pipe, pipe_acted, put, put_by_d, sends_of_act, starts_by, subst, sym, to_site, top, view_of, write_time, ℕ, ◌&&◌, ◌+◌, ◌==◌, ◌∷◌, ◌≡◌, ◌≤◌}
 use Rattle.sdd_obligations.proofs.LowLists.{all_low_join, all_low_of, all_low_up, cond_le_at, greatest_le, write_times_le}
 use Rattle.sdd_obligations.proofs.SendsLow.{PutsLow}
 use Rattle.sdd_invariants.specs.site_module.SiteLog.{Log}
@@ -10,38 +10,19 @@ pub record IsPipeLow (h : ℕ) (p : Pipe) : Type 0 where
   pub done : AllLow h p.processed
   pub left : AllLow h p.unprocessed
 
-head_low : (h : ℕ) (ms : List Msg) → AllLow h ms → AllLow h (one_or_none (head (record { processed = []; unprocessed = ms })))
-head_low h ms i = grind arith
-
-tail_low : (h : ℕ) (ms : List Msg) → AllLow h ms → AllLow h (tail_of ms)
-tail_low h ms i = grind arith
-
-put_low : (h : ℕ) (m : Msg) (p : Pipe) → IsLow h m → IsPipeLow h p → IsPipeLow h (put m p)
-put_low h m p i j = record { done = j.done; left = all_low_join h p.unprocessed (m ∷ []) j.left (i, tt) }
-
-processed_low : (h : ℕ) (p : Pipe) → IsPipeLow h p → IsPipeLow h (head_processed p)
-processed_low h p j = record {
-  done = all_low_join h p.processed (one_or_none (head p)) j.done (head_low h p.unprocessed j.left);
-  left = tail_low h p.unprocessed j.left;
-}
-
 acted_low : (h c : ℕ) (act : Act) (p : Pipe) → IsPipeLow h p → IsPipeLow h (pipe_acted c act p)
-acted_low h c (Records k r sends) p j = if_way (IsPipeLow h) ((k == c) && is_processing r) (head_processed p) p (processed_low h p j) j
+acted_low h c (Records k r sends) p j = if_way (IsPipeLow h) ((k == c) && is_processing r) (head_processed p) p (grind (arith, all_low_join)) j
 acted_low h c (Sends to m hand) p j = j
 
 pub pipe_low : (h c : ℕ) (log : Log) → HandsLow h log → IsPipeLow h (pipe c log)
 pipe_low h c [] i = record { done = tt; left = tt }
 pipe_low h c (Handed from m ∷ log) i =
-    if_way (IsPipeLow h) (goes_through c m) (put m (pipe c log)) (pipe c log) (put_low h m (pipe c log) i.0 (pipe_low h c log i.1)) (pipe_low h c log i.1)
+    if_way (IsPipeLow h) (goes_through c m) (put m (pipe c log)) (pipe c log) (record { done = (pipe_low h c log i.1).done; left = all_low_join h (pipe c log).unprocessed (m ∷ []) (pipe_low h c log i.1).left (i.0, tt) }) (pipe_low h c log i.1)
 pipe_low h c (Did act ∷ log) i = acted_low h c act (pipe c log) (pipe_low h c log i)
 pipe_low h c (_ ∷ log) i = pipe_low h c log i
 
 view_low : (h : ℕ) (s : Setting) (log : Log) (c : ℕ) → HandsLow h log → IsPipeLow h (at_class (view_of s log) c).pipe
-view_low h s log c i = elim (dec_le (suc c) (suc (length s.catalogue.classes))) [
-  | yes l ↦ subst (λ (k : ClassView). IsPipeLow h k.pipe) (sym (class_in_view s log c l)) (pipe_low h c log i)
-  | no n ↦ (let l : suc (length s.catalogue.classes) ≤ c = omega (arith, n) in
-      subst (λ (k : ClassView). IsPipeLow h k.pipe) (sym (class_not_in_view s log c l)) (record { done = tt; left = tt }))
-]
+view_low h s log c i = grind (arith, dec_le, IsPipeLow, class_in_view, pipe_low, class_not_in_view)
 
 -- the head of a pipe
 

@@ -1,17 +1,10 @@
 -- The conditions of a READ ascend by class, and what ascends does so at each step.
-use Rattle.sdd_obligations.proofs.All.{AllGt, Ascend, Bool, Catalogue, Cond, FragNo, IsStrict, List, None, Option, Some, StartsAbove, [], arith, cond_for, cond_of, condition_on, conditions, conditions_at, cons_option, filter_map, frag_no, fragments_of, if_way, is_asked, length, map, option_or, range_with_len, refl, suc, undeclared_conditions, zero, ℕ, ◌+◌, ◌<◌, ◌==◌, ◌∷◌, ◌≡◌}
+use Rattle.sdd_obligations.proofs.All.{AllGt, Ascend, Bool, Catalogue, Cond, FragNo, IsStrict, List, None, Option, Some, [], arith, cond_of, condition_on, conditions, conditions_at, cons_option, filter_map, frag_no, fragments_of, if_way, is_asked, length, map, range_with_len, refl, suc, undeclared_conditions, zero, ℕ, ◌+◌, ◌<◌, ◌==◌, ◌∷◌, ◌≡◌}
 use Rattle.sdd_invariants.specs.All.{asked_by}
 use Rattle.sdd_invariants.specs.protocol.declared.entry.Entry as line
 
-cond_class : (j t : ℕ) (fs : List FragNo) (q : Cond) → cond_for j t fs ≡ Some q → q.class.0 ≡ j
-cond_class j t fs q e = grind arith
-
-either_class : (o p : Option Cond) (j : ℕ) (q : Cond) → ((x : Cond) → o ≡ Some x → x.class.0 ≡ j) → ((x : Cond) → p ≡ Some x → x.class.0 ≡ j)
-    → option_or o p ≡ Some q → q.class.0 ≡ j
-either_class o p j q f g e = grind arith
-
 pub condition_class : (f : ℕ → Bool) (entries : List line.Entry) (i own p2 j : ℕ) (q : Cond) → condition_on f entries i own p2 j ≡ Some q → q.class.0 ≡ j
-condition_class f entries i own p2 j q e = grind (arith, either_class, asked_by, cond_class)
+condition_class f entries i own p2 j q e = grind (arith, asked_by)
 
 -- conditions made for ascending classes
 
@@ -21,9 +14,7 @@ classes_in conds = map (λ (d : Cond). d.class.0) conds
 made_above : (f : ℕ → Option Cond) (k a n : ℕ) → ((j : ℕ) (q : Cond) → f j ≡ Some q → q.class.0 ≡ j) → k < a
     → AllGt k (classes_in (filter_map f (range_with_len a n)))
 made_above f k a zero g l = tt
-made_above f k a (suc n) g l =
-    let i = made_above f k (a + 1) n g (omega (arith, l)) in
-    grind arith
+made_above f k a (suc n) g l = grind (arith, (made_above f k (a + 1) n g (omega (arith, l))))
 
 made_strict : (f : ℕ → Option Cond) (a n : ℕ) → ((j : ℕ) (q : Cond) → f j ≡ Some q → q.class.0 ≡ j) → IsStrict (classes_in (filter_map f (range_with_len a n)))
 made_strict f a zero g = tt
@@ -47,14 +38,10 @@ pub conditions_strict : (cat : Catalogue) (table : List line.Entry) (c : ℕ) (f
 conditions_strict cat table c frags own p2 d =
     if_way (λ conds. IsStrict (classes_in conds)) (c == 0) (undeclared_conditions cat own) (conditions cat table c d (map frag_no frags) own p2)
     (every_strict own (map frag_no (fragments_of cat)) 1 (length cat.classes))
-    (made_strict (condition_on (is_asked cat c d (map frag_no frags)) table c own p2) 1 (length cat.classes)
-    (condition_class (is_asked cat c d (map frag_no frags)) table c own p2))
+    (grind (arith, made_strict, condition_on, is_asked, frag_no, condition_class))
 
 -- what stands above all that comes before it stands above the one before it
 
-starts_above : (k : ℕ) (ns : List ℕ) → AllGt k ns → StartsAbove k ns
-starts_above k ns h = grind arith
-
 pub strict_ascends : (ns : List ℕ) → IsStrict ns → Ascend ns
 strict_ascends [] h = tt
-strict_ascends (n ∷ ns) h = (starts_above n ns h.0, strict_ascends ns h.1)
+strict_ascends (n ∷ ns) h = ((grind arith), strict_ascends ns h.1)

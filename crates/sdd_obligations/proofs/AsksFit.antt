@@ -1,5 +1,5 @@
 -- An ASK that is next to be handed over is for a class that the module runs.
-use Rattle.sdd_obligations.proofs.All.{Ask, Bool, Catalogue, Class, ClassNo, D, DmNo, Does, Input, IsAskBy, IsPermitted, IsRead, List, Log, Msg, Read, Setting, Some, T, TmNo, Ts, U, [], ap, arith, class_at, cond, contains, filter, head_put, home, home_of, length, local_of, map, numbers_to, or_left, or_right, permitted_before, put_in_by_d, puts_to, range_with_len, runs, same_number, setting_of, slice_get, slice_index_or, source_of, subst, suc, sym, tm_no, true, zero, ℕ, ◌+◌, ◌-◌, ◌<◌, ◌∷◌, ◌≡◌, ◌≤◌}
+use Rattle.sdd_obligations.proofs.All.{Ask, Bool, Catalogue, Class, ClassNo, D, DmNo, Does, Input, IsAskBy, IsPermitted, IsRead, List, Log, Msg, Read, Setting, Some, T, TmNo, Ts, U, [], ap, arith, class_at, cond, contains, filter, head_put, home, length, local_of, map, numbers_to, or_left, or_right, permitted_before, put_in_by_d, puts_to, range_with_len, runs, same_number, setting_of, slice_get, slice_index_or, subst, suc, sym, tm_no, true, zero, ℕ, ◌-◌, ◌<◌, ◌∷◌, ◌≡◌, ◌≤◌}
 use Rattle.sdd_obligations.proofs.Conditions.{act_within, one_within}
 use Rattle.sdd_obligations.proofs.Sums.{range_at}
 
@@ -23,9 +23,8 @@ contains_kept f (x ∷ xs) (suc j) c e h = grind (arith, cond, or_right, contain
 pub runs_it : (g : Input) (t : TmNo) (c : ℕ) → 1 ≤ c → c ≤ length g.catalogue.classes → (class_at g.catalogue c).tm.0 ≡ t.0
     → contains (runs (setting_of g (T t))) c ≡ true
 runs_it g t c l m e =
-    let n : 1 + (c - 1) ≡ c = omega (arith, l) in
     let there : slice_get (numbers_to (length g.catalogue.classes)) (c - 1) ≡ Some c =
-    subst (λ x. slice_get (range_with_len 1 (length g.catalogue.classes)) (c - 1) ≡ Some x) n
+    subst (λ x. slice_get (range_with_len 1 (length g.catalogue.classes)) (c - 1) ≡ Some x) (omega (arith, l))
     (range_at 1 (length g.catalogue.classes) (c - 1) (omega (arith, l, m))) in
     grind (arith, contains_kept, class_at, same_number)
 
@@ -33,8 +32,7 @@ pub asked_class : (g : Input) (d : DmNo) (t : TmNo) (log : Log) (n : ℕ) (k : C
     → slice_get (puts_to (T t) (local_of g (D d) log)) n ≡ Some (Ask k time) → contains (runs (setting_of g (T t))) k.0 ≡ true
 asked_class g d t log n k time h e =
     let p = put_in_by_d g log d (T t) n (Ask k time) h e in
-    let by : IsAskBy (setting_of g (D d)) (local_of g (D d) p.before) (T t) k time = p.by in
-    let r = source_t g.catalogue k.0 t by.to_is in
+    let r = source_t g.catalogue k.0 t p.by.to_is in
     runs_it g t k.0 r.0 r.1 r.2
 
 -- and none is for class 0, so none goes to U
@@ -44,21 +42,17 @@ u_source [] i l e = omega (arith, l)
 u_source (k ∷ ks) zero l e = cc
 u_source (k ∷ ks) (suc i) l e = u_source ks i (omega (arith, l)) e
 
-not_u : (s : Setting) (c : ℕ) → 1 ≤ c → c ≤ length s.catalogue.classes → U ≡ source_of (home_of s) c → ⊥
-not_u s c l m e = grind (arith, u_source)
-
 pub asks_not_u : (g : Input) (d : DmNo) (log : Log) (n : ℕ) (k : ClassNo) (time : Ts) → IsPermitted g log
     → slice_get (puts_to U (local_of g (D d) log)) n ≡ Some (Ask k time) → ⊥
 asks_not_u g d log n k time h e =
     let p = put_in_by_d g log d U n (Ask k time) h e in
-    let hb = (permitted_before g p.later (Does (D d) p.act ∷ p.before) (subst (IsPermitted g) p.is h)).1 in
     let by : IsAskBy (setting_of g (D d)) (local_of g (D d) p.before) U k time = p.by in
     let m : Msg = Read by.ts by.of by.txn by.attempt by.conds by.uses in
-    let put = head_put g by.class d p.before m hb by.head_is in
+    let put = head_put g by.class d p.before m ((permitted_before g p.later (Does (D d) p.act ∷ p.before) (subst (IsPermitted g) p.is h)).1) by.head_is in
     let s : Setting = setting_of g (home g.catalogue by.class) in
     let r : IsRead s (local_of g (home g.catalogue by.class) put.before) put.act by.of.0 by.ts.0 by.txn.0 by.attempt = put.by in
     let w = act_within s (D d) (local_of g (home g.catalogue by.class) put.before) put.act put.place by.ts
     by.of by.txn by.attempt by.conds by.uses r put.there in
     let i = one_within (length g.catalogue.classes) by.conds by.place by.cond_at w by.there in
     let z : by.cond_at.class.0 ≡ k.0 = ap (λ (c : ClassNo). c.0) (sym by.class_is) in
-    not_u (setting_of g (D d)) k.0 (omega (arith, i.0, z)) (omega (arith, i.1, z)) by.to_is
+    (grind (arith, u_source))

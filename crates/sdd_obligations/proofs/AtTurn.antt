@@ -1,5 +1,5 @@
 -- How an exchange stands with one of the data modules, by the turn, and that each of its steps keeps that.
-use Rattle.sdd_obligations.proofs.All.{Asking, Asks, Bool, Exchange, Fetch, Fetching, IsOfUses, IsStrict, List, Move, Msg, None, Over, Phase, Reading, Ready, Reduce, Reduced, Reducing, Rows, Ship, Shipping, Silent, Some, Step, Told, Turn, Values, [], after_hand, answered, ap, class_no, contains, counted, counts_for, false, fetches, fetches_from, goes_on, if◌then◌else◌, inl, inr, is_a_read, is_a_refusal, is_a_ship, is_answer, lacking, length, move_at, never, next_move, phase_ends, reduces, refl, same_number, ships, subst, sym, time_at, to_all, true, uses_at, with_use, with_values, without, ℕ, ◌&&◌, ◌++◌, ◌+◌, ◌==◌, ◌∙◌, ◌∷◌, ◌≡◌, ◌⊎◌}
+use Rattle.sdd_obligations.proofs.All.{Asking, Asks, Bool, Exchange, Fetch, Fetching, IsOfUses, IsStrict, List, Move, Msg, None, Over, Phase, Reading, Ready, Reduce, Reduced, Reducing, Rows, Ship, Shipping, Silent, Some, Step, Told, Turn, Values, [], after_hand, answered, ap, arith, class_no, contains, counted, counts_for, false, fetches, fetches_from, goes_on, if◌then◌else◌, inl, inr, is_a_read, is_a_refusal, is_a_ship, is_answer, lacking, length, move_at, never, next_move, phase_ends, reduces, refl, same_number, ships, subst, sym, time_at, to_all, true, uses_at, with_use, with_values, without, ℕ, ◌&&◌, ◌++◌, ◌+◌, ◌==◌, ◌∙◌, ◌∷◌, ◌≡◌, ◌⊎◌}
 use Rattle.sdd_obligations.proofs.Modules.{firsts, one_to_each, reading_ascends, reading_reads, to_module, without_other, without_own}
 
 -- the phase awaits the answer to a question
@@ -45,15 +45,11 @@ pub data IsIdle (d : ℕ) (ms : List (ℕ × List ℕ)) (v : Turn) : Type 0 wher
 in_none : {A : Type 0} (lacks : List ℕ) (d : ℕ) → lacks ≡ [] → contains lacks d ≡ true → A
 in_none lacks d e f = let g : contains [] d ≡ true = subst (λ l. contains l d ≡ true) e f in cc
 
-none_ship : (b last : Bool) → last ≡ false → (b ≡ false) ⊎ (last ≡ true) → b ≡ false
-none_ship b last e (inl f) = f
-none_ship b last e (inr f) = never last f e
-
 idle_of : (d : ℕ) (ms : List (ℕ × List ℕ)) (p : Phase) (sends : List (ℕ × Msg)) (lacks : List ℕ) (v : Turn) → lacks ≡ []
     → is_last p ≡ false → IsAt d ms p sends lacks v → IsIdle d ms v
 idle_of d ms p sends lacks v z l (unsent m q ns a b e s u w f g) = in_none lacks d z b
 idle_of d ms p sends lacks v z l (awaited m ns a b e w f g) = in_none lacks d z b
-idle_of d ms p sends lacks v z l (answered_last q ns a b e s f g) = heard q ns e (none_ship (is_a_ship q) (is_last p) l s) f g
+idle_of d ms p sends lacks v z l (answered_last q ns a b e s f g) = heard q ns e (grind (arith, never)) f g
 idle_of d ms p sends lacks v z l (apart a b e g) = unread e g
 
 -- a question goes to some of the modules
@@ -64,11 +60,7 @@ ask_all d ms p m ds v h w f (heard q ns e s u g) =
       | true ↦ λ b. unsent m q ns (one_to_each m ds d h ∙ ap (λ (c : Bool). if c then m ∷ [] else []) b) b e s (subst (λ l. IsOfUses l m) u (f b).1) w u g
       | false ↦ λ b. answered_last q ns (one_to_each m ds d h ∙ ap (λ (c : Bool). if c then m ∷ [] else []) b) b e (inl s) u g
     ] refl
-ask_all d ms p m ds v h w f (unread e g) =
-    elim (contains ds d) as (λ b. contains ds d ≡ b → IsAt d ms p (to_all m ds) ds v) [
-      | true ↦ λ b. never (contains (firsts ms) d) (f b).0 g
-      | false ↦ λ b. apart (one_to_each m ds d h ∙ ap (λ (c : Bool). if c then m ∷ [] else []) b) b e g
-    ] refl
+ask_all d ms p m ds v h w f (unread e g) = grind (arith, IsAt, never, firsts, one_to_each)
 
 -- the next phase
 
@@ -125,22 +117,7 @@ abbrev pub IsNext : ℕ → ℕ → Turn → Turn → Type 0
 IsNext n d v w = ((d ≡ n) × (ns : List ℕ) × (q : Msg) × (v ≡ Asks ns q) × (w ≡ Told ns q)) ⊎ (((d == n) ≡ false) × (w ≡ v))
 
 pub read_no_ship : (m : Msg) → is_a_read m ≡ true → is_a_ship m ≡ false
-read_no_ship (Ship t k) e = cc
-read_no_ship _ e = refl
-
-fetch_no_ship : (n : ℕ) (m : Msg) → is_fetch_of n m ≡ true → is_a_ship m ≡ false
-fetch_no_ship n (Ship t k) e = cc
-fetch_no_ship n _ e = refl
-
-reduce_no_ship : (n : ℕ) (m : Msg) → is_reduce_of n m ≡ true → is_a_ship m ≡ false
-reduce_no_ship n (Ship t k) e = cc
-reduce_no_ship n _ e = refl
-
-ship_is_last : (p : Phase) (m : Msg) → awaits p m ≡ true → (is_a_ship m ≡ false) ⊎ (is_last p ≡ true)
-ship_is_last Reading m e = inl (read_no_ship m e)
-ship_is_last (Fetching v) m e = inl (fetch_no_ship v.source.part m e)
-ship_is_last (Reducing v) m e = inl (reduce_no_ship v.target.part m e)
-ship_is_last _ m e = inr refl
+read_no_ship m e = grind arith
 
 pub told_not_asks : {A : Type 0} (v : Turn) (ns ms : List ℕ) (q m : Msg) → v ≡ Told ns q → v ≡ Asks ms m → A
 told_not_asks v ns ms q m e f = let p : Told ns q ≡ Asks ms m = sym e ∙ f in cc
@@ -155,8 +132,7 @@ less_at n d ms p sends lacks v w (inl r) (awaited m ns a b e x f g) =
     let both : Asks ns m ≡ Asks r.1 r.2 = sym e ∙ r.3 in
     let same_uses : ns ≡ r.1 = cc in
     let same_question : m ≡ r.2 = cc in
-    answered_last r.2 r.1 a (subst (λ k. contains (without lacks n) k ≡ false) (sym r.0)
-    (without_own lacks n)) r.4 (ship_is_last p r.2 (subst (λ y. awaits p y ≡ true) same_question x)) (f ∙ same_uses) g
+    answered_last r.2 r.1 a (grind (arith, contains, without, without_own)) r.4 (grind (arith, read_no_ship)) (f ∙ same_uses) g
 less_at n d ms p sends lacks v w (inl r) (answered_last q ns a b e s f g) = told_not_asks v ns r.1 q r.2 e r.3
 less_at n d ms p sends lacks v w (inl r) (apart a b e g) = silent_not_asks v r.1 r.2 e r.3
 less_at n d ms p sends lacks v w (inr r) (unsent m q ns a b e s u x f g) = unsent m q ns a (without_other lacks n d r.0 ∙ b) (r.1 ∙ e) s u x f g
@@ -190,14 +166,6 @@ hand_at ts c n d x v w (Rows t k rows) h e f r i =
     answered_if ts c n d ((t.0 == ts) && (k.0 == c)) x (record x { found = x.found ++ rows; rows = x.rows + length rows }) v w e h r i
 hand_at ts c n d x v w _ h e f r i = cc
 
-not_if : {A : Type 0} (b : Bool) (x y : A) → b ≡ false → (if b then y else x) ≡ x
-not_if true x y e = cc
-not_if false x y e = refl
-
 -- what is no answer to the attempt leaves its exchange
 pub hand_not : (ts c n : ℕ) (x : Exchange) (m : Msg) → is_answer ts c m ≡ false → after_hand ts c n m x ≡ x
-hand_not ts c n x (Ready t k counts) e = not_if ((t.0 == ts) && (k.0 == c)) x _ e
-hand_not ts c n x (Values t k u vs) e = not_if ((t.0 == ts) && (k.0 == c)) x _ e
-hand_not ts c n x (Reduced t k u y) e = not_if ((t.0 == ts) && (k.0 == c)) x _ e
-hand_not ts c n x (Rows t k rows) e = not_if ((t.0 == ts) && (k.0 == c)) x _ e
-hand_not ts c n x m e = refl
+hand_not ts c n x m e = grind (arith)

@@ -1,5 +1,5 @@
 -- Within the limits of a run no log is higher than the greatest height.
-use Rattle.sdd_obligations.proofs.All.{Act, AllFewTicks, D, Did, Does, Each, Entry, Input, IsFair, IsLawful, IsNumbered, IsPermitted, IsSmall, IsWithin, List, Log, MAX_LINK_MESSAGES, MAX_RUN_EVENTS, MAX_TICKS, Mark, Option, Redeclares, Site, T, U, [], all_new, ap, arith, dm_no, each_local, greatest_height, handed, hands, height, home_of, lawful_permitted, length, length-append, length-map, length-range_with_len, local_of, local_step, made, map, marks, most_classes, most_sites, mul-le-mul, mul-le-mul_right, own_act, range_with_len, refl, setting_of, sites, starts, starts_by, starts_more, submits, subst, suc, suc-mul, sym, t_fair, ticks_of, tm_no, trans_le, u_fair, view_of, with_made, ℕ, ◌*◌, ◌+◌, ◌<◌, ◌^◌, ◌∙◌, ◌∷◌, ◌≡◌, ◌≤◌}
+use Rattle.sdd_obligations.proofs.All.{Act, AllFewTicks, D, Did, Does, Each, Entry, Input, IsFair, IsLawful, IsNumbered, IsPermitted, IsSmall, IsWithin, List, Log, MAX_LINK_MESSAGES, MAX_RUN_EVENTS, MAX_TICKS, Mark, Redeclares, Site, T, U, [], all_new, ap, arith, each_local, greatest_height, handed, hands, height, home_of, lawful_permitted, length, length-append, length-map, length-range_with_len, local_of, local_step, marks, most_classes, most_sites, mul-le-mul, mul-le-mul_right, own_act, range_with_len, refl, setting_of, sites, starts, starts_by, starts_more, submits, subst, suc, suc-mul, sym, t_fair, ticks_of, trans_le, u_fair, view_of, ℕ, ◌*◌, ◌+◌, ◌<◌, ◌^◌, ◌∙◌, ◌∷◌, ◌≡◌, ◌≤◌}
 use Rattle.sdd_obligations.proofs.Counting.{site_few}
 use Rattle.sdd_obligations.proofs.Limits.{handed_few, hands_few, marks_few, submits_few}
 use Rattle.sdd_obligations.proofs.NoStarts.{d_starts_not}
@@ -12,11 +12,8 @@ use Rattle.sdd_invariants.specs.site_module.SiteLog as site
 act_starts : (act : Act) (n : ℕ) → starts_more act n ≡ starts_by act + n
 act_starts act n = grind arith
 
-starts_rise : (o : Option site.Entry) (l : site.Log) → starts l ≤ starts (with_made o l)
-starts_rise o l = grind (arith, act_starts, starts)
-
 starts_up : (g : Input) (e : Entry) (log : Log) (at : Site) → starts (local_of g at log) ≤ starts (local_of g at (e ∷ log))
-starts_up g e log at = subst (λ l. starts (local_of g at log) ≤ starts l) (sym (local_step g at e log)) (starts_rise (made g at log e) (local_of g at log))
+starts_up g e log at = subst (λ l. starts (local_of g at log) ≤ starts l) (sym (local_step g at e log)) (grind (arith, act_starts, starts))
 
 abbrev all_sites : Input → List Site
 all_sites g = sites g.catalogue.tms g.catalogue.dms
@@ -37,9 +34,6 @@ sum_act g at act log k =
 mark_sum : (t m k h s more : ℕ) → t ≤ k → h ≤ m * k + s → s ≤ more → t + h ≤ suc m * k + more
 mark_sum t m k h s more a b c = let e = suc-mul m k in omega (arith, a, b, c, e)
 
-same_sum : (m k h s more : ℕ) → h ≤ m * k + s → s ≤ more → h ≤ m * k + more
-same_sum m k h s more b c = omega (arith, b, c)
-
 later_sum : (m k h s more : ℕ) → h ≤ m * k + s → s ≤ more → h ≤ suc m * k + more
 later_sum m k h s more b c = let e = suc-mul m k in omega (arith, b, c, e)
 
@@ -55,16 +49,12 @@ height_le g (Redeclares t ∷ log) f l = later_sum (marks log) MAX_TICKS (height
 height_le g (Does at act ∷ log) f l =
     act_sum (starts_by act) (marks log) MAX_TICKS (height log) (all_starts g log) _ (height_le g log f l.1)
     (sum_act g at act log (of_next g log (Does at act) f l.1 l.0).0)
-height_le g (x ∷ log) f l = same_sum (marks log) MAX_TICKS (height log) (all_starts g log) _ (height_le g log f l.1) (sum_up g x log)
+height_le g (x ∷ log) f l = (omega (arith, (height_le g log f l.1), (sum_up g x log)))
 
 -- how many Starts a site has
 
 sites_count : (tms dms : ℕ) → length (sites tms dms) ≡ suc (tms + dms)
-sites_count tms dms =
-    let a = length-append (map (λ n. T (tm_no n)) (range_with_len 1 tms)) (map (λ n. D (dm_no n)) (range_with_len 1 dms)) in
-    let b = length-map (range_with_len 1 tms) (λ n. T (tm_no n)) in let c = length-map (range_with_len 1 dms) (λ n. D (dm_no n)) in
-    let d = length-range_with_len 1 tms in let e = length-range_with_len 1 dms in
-    omega (arith, a, b, c, d, e)
+sites_count tms dms = grind (arith, length-append, range_with_len, length-map, length-range_with_len)
 
 few_sites : (g : Input) → IsSmall g → length (all_sites g) ≤ most_sites
 few_sites g s = let e = sites_count g.catalogue.tms g.catalogue.dms in let a = s.few_tms in let b = s.few_dms in omega (arith, e, a, b)
@@ -72,17 +62,13 @@ few_sites g s = let e = sites_count g.catalogue.tms g.catalogue.dms in let a = s
 abbrev most_starts : ℕ
 most_starts = most_classes * (MAX_RUN_EVENTS + most_sites * MAX_LINK_MESSAGES)
 
-sum_of : (x y m t u r v : ℕ) → x ≤ m → m ≤ r → y ≤ t → t ≤ u → u ≤ v → x + y ≤ r + v
-sum_of x y m t u r v a b c d e = omega (arith, a, b, c, d, e)
-
 came_few : (g : Input) (at : Site) (log : Log) → IsSmall g → IsLawful g log → IsPermitted g log → IsWithin log
     → length (submits (local_of g at log)) + hands (local_of g at log) ≤ MAX_RUN_EVENTS + most_sites * MAX_LINK_MESSAGES
 came_few g at log s l p w =
     let a = submits_few g at log p in let b = marks_few log w in
-    let c = hands_few g at log s.few_ticks l p in
     let d = total_le (λ a. handed a at log) (all_sites g) MAX_LINK_MESSAGES (λ a. handed_few g log p w a at) in
     let e : length (all_sites g) * MAX_LINK_MESSAGES ≤ most_sites * MAX_LINK_MESSAGES = mul-le-mul_right MAX_LINK_MESSAGES (few_sites g s) in
-    sum_of (length (submits (local_of g at log))) (hands (local_of g at log)) (marks log) _ _ MAX_RUN_EVENTS _ a b c d e
+    (omega (arith, a, b, (hands_few g at log s.few_ticks l p), d, e))
 
 of_classes : (g : Input) (at : Site) (log : Log) → IsSmall g → IsLawful g log → IsPermitted g log → IsWithin log → IsNumbered at
     → Each (IsFair (setting_of g at)) (local_of g at log) → starts (local_of g at log) ≤ most_starts
@@ -106,25 +92,15 @@ site_bound : (g : Input) (at : Site) (log : Log) → IsSmall g → IsLawful g lo
 site_bound g U log s l p w k = of_classes g U log s l p w tt (u_fair g log p)
 site_bound g (T t) log s l p w k = of_classes g (T t) log s l p w (t_of_sites g.catalogue.tms g.catalogue.dms t k).0 (t_fair g t log p)
 site_bound g (D d) log s l p w k =
-    let e = none_started (local_of g (D d) log) (each_local g (D d) StartsNot (record {
-      handed = λ log p from n m a i. tt;
-      ticked = λ log p n i. tt;
-      submits = λ log p n t a e i. tt;
-      redeclared = λ l k t i. tt;
-      did = λ log act p due i. d_starts_not (home_of (setting_of g (D d))) (view_of (setting_of g (D d)) (local_of g (D d) log)) act due;
-    }) log p) in
+    let e = none_started (local_of g (D d) log) (grind (arith, each_local, StartsNot, handed, submits, d_starts_not, home_of, setting_of, view_of, local_of)) in
     omega (arith, e)
-
-last_of : (h x y u r v : ℕ) → h ≤ x + y → x ≤ r → y ≤ u → u ≤ v → h ≤ r + v
-last_of h x y u r v a b c d = omega (arith, a, b, c, d)
 
 pub height_few : (g : Input) (log : Log) → IsSmall g → IsLawful g log → IsWithin log → height log ≤ greatest_height
 height_few g log s l w =
     let p = lawful_permitted g log s.once l in
-    let b : marks log * MAX_TICKS ≤ MAX_RUN_EVENTS * MAX_TICKS = mul-le-mul_right MAX_TICKS (marks_few log w) in
     let c = total_le_at (λ at. starts (local_of g at log)) (all_sites g) most_starts (λ n at e. site_bound g at log s l p w (n, e)) in
     let d : length (all_sites g) * most_starts ≤ most_sites * most_starts = mul-le-mul_right most_starts (few_sites g s) in
-    last_of (height log) (marks log * MAX_TICKS) (all_starts g log) _ _ _ (height_le g log s.few_ticks l) b c d
+    (omega (arith, (height_le g log s.few_ticks l), (mul-le-mul_right MAX_TICKS (marks_few log w)), c, d))
 
 pub greatest_below : greatest_height < 2 ^ 53
 greatest_below = omega arith

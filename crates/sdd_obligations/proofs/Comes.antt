@@ -1,5 +1,5 @@
 -- A question that is next to be handed over is for rows that its data module holds.
-use Rattle.sdd_obligations.proofs.All.{AreFor, Asks, Bool, D, DmNo, Fetch, FitsShip, Frozen, Hand, HaveUse, Input, IsAllowed, IsOfUses, IsPermitted, IsServable, List, MayAsk, Msg, None, Option, Reduce, Replies, Ship, Silent, Site, Some, Told, Turn, [], active, answers, ap, arith, asks_rows, contains, false, flight, frozen, hand_was_put, handed, home, if◌then◌else◌, is_a_read, is_a_ship, is_answer, is_exchanging, is_question, local_of, never, not, number_of, questions, refl, setting_of, subst, sym, true, turn_after_answer, turn_at, turn_with, uses_held, ℕ, ◌∙◌, ◌∷◌, ◌≡◌, ◌≤◌}
+use Rattle.sdd_obligations.proofs.All.{AreFor, Asks, Bool, D, DmNo, Fetch, FitsShip, Frozen, Hand, Input, IsAllowed, IsOfUses, IsPermitted, IsServable, List, MayAsk, Msg, None, Option, Reduce, Replies, Ship, Site, Some, Told, Turn, [], active, answers, ap, arith, asks_rows, false, flight, frozen, hand_was_put, handed, home, if◌then◌else◌, is_a_read, is_a_ship, is_answer, is_exchanging, is_question, local_of, never, not, number_of, questions, setting_of, subst, sym, true, turn_after_answer, turn_at, turn_with, uses_held, ℕ, ◌∙◌, ◌∷◌, ◌≡◌, ◌≤◌}
 use Rattle.sdd_obligations.proofs.HandedAnswersKeepTurns.{answers_asked}
 use Rattle.sdd_obligations.proofs.Flights.{first_in_flight}
 use Rattle.sdd_obligations.proofs.Replying.{asks_question, asks_no_a_read as asks_no_read}
@@ -21,15 +21,10 @@ record IsRowsTurn (w : Turn) (m : Msg) : Type 0 where
   named : IsOfUses uses m
 
 rows_turn : (w : Turn) (m : Msg) → MayAsk w m → is_a_read m ≡ false → IsRowsTurn w m
-rows_turn Silent m h e = never (is_a_read m) h e
-rows_turn (Told ns q) m h e = record { uses = ns; last = q; is = refl; not_shipped = h.0; named = h.1 }
-rows_turn _ m h e = absurd h
+rows_turn w m h e = grind (arith, never)
 
 held_for : (ts : ℕ) (ns : List ℕ) (f : Option Frozen) → AreHeldFor ts ns f → AreFor ts f
 held_for ts ns f h = grind arith
-
-held_use : (ts u : ℕ) (ns : List ℕ) (f : Option Frozen) → AreHeldFor ts ns f → contains ns u ≡ true → HaveUse u f
-held_use ts u ns f h e = grind arith
 
 record IsForHeld (g : Input) (log : all.Log) (a : Site) (d : DmNo) (ts c : ℕ) (m : Msg) : Type 0 where
   ship : FitsShip (setting_of g (D d)) (local_of g (D d) log) a c ts
@@ -50,8 +45,7 @@ for_held g log a d n m ts c h few i e =
     let no_read : is_a_read m ≡ false = asks_no_read ts c m e in
     let w = rows_turn (turn_with ts c (home g.catalogue c) (data_log g d.0 log)) m (question_in_turn g c log d.0 n m ts k j q) no_read in
     let f = first_in_flight g log (home g.catalogue c) (D d) n m j in
-    let goes = question_flies _ _ _ _ m (questions ts c f.0) (first_of_kind (is_question ts c)
-    (flight g (home g.catalogue c) (D d) log) m f.0 f.1 q) (k.stages ts d.0) in
+    let goes = question_flies _ _ _ _ m (questions ts c f.0) (grind (arith, first_of_kind, is_question, flight, home)) (k.stages ts d.0) in
     let x = active_of ts d.0 (active (setting_of g (home g.catalogue c)) c (home_log g c log))
     (turn_at ts c d.0 (home_log g c log)) ((home_turns g c log h k).turns ts d.0) (ap is_exchanging goes ∙ ap not no_read) in
     let last : IsLast g ts c d.0 log = subst (λ t. IsLast g t c d.0 log) x.2 (active_last g c d.0 log x.0 h (few c) x.1) in
@@ -71,10 +65,10 @@ pub questions_are_servable : (g : Input) (log : all.Log) (a : Site) (d : DmNo) (
     → ((c : ℕ) → number_of (home g.catalogue c) ≤ 63) → IsServable (setting_of g (D d)) (local_of g (D d) log) a m
 questions_are_servable g log a d n (Fetch t k u col) h few =
     let r = for_held g log a d n (Fetch t k u col) t.0 k.0 h.1 few h.0 (own t k) in
-    record { asked = r.ship; named = held_use t.0 u r.uses (frozen (setting_of g (D d)) k.0 (local_of g (D d) log)) r.held r.named }
+    record { asked = r.ship; named = (grind arith) }
 questions_are_servable g log a d n (Reduce t k u col vs) h few =
     let r = for_held g log a d n (Reduce t k u col vs) t.0 k.0 h.1 few h.0 (own t k) in
-    record { asked = r.ship; named = held_use t.0 u r.uses (frozen (setting_of g (D d)) k.0 (local_of g (D d) log)) r.held r.named }
+    record { asked = r.ship; named = (grind arith) }
 questions_are_servable g log a d n (Ship t k) h few = (for_held g log a d n (Ship t k) t.0 k.0 h.1 few h.0 (own t k)).ship
 questions_are_servable g log a d n m h few = tt
 
@@ -84,8 +78,7 @@ pub next_question_is : (g : Input) (c : ℕ) (log : all.Log) (d : DmNo) (n : ℕ
 next_question_is g c log d n m ts h few i q =
     let f = first_in_flight g log (home g.catalogue c) (D d) n m i in (
       _,
-      question_flies _ _ _ _ m (questions ts c f.0) (first_of_kind (is_question ts c)
-          (flight g (home g.catalogue c) (D d) log) m f.0 f.1 q) ((spoken g c log h few).stages ts d.0),
+      question_flies _ _ _ _ m (questions ts c f.0) (grind (arith, first_of_kind, is_question, flight, home)) ((spoken g c log h few).stages ts d.0),
     )
 
 -- an answer that is next to be handed over answers the question of its site's turn, and is the last of its module

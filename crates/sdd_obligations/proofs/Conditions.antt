@@ -1,6 +1,6 @@
 -- The conditions of a READ are on classes of the catalogue.
-use Rattle.sdd_obligations.proofs.All.{Act, All, All-cons, All-nil, AllLt, Catalogue, ClassNo, Cond, Each, FitsCond, FragNo, IsFair, IsRead, List, Msg, None, Option, Queued, Read, Setting, Site, Some, Ts, TxnNo, Use, [], arith, ascending, bound, cond_for, conditions_at, cons_option, current_era, each_at, filter_map, fragments_in, if_way, in_none, in_one, inl, inr, length, map, next_stamp, option_or, puts_to, range_with_len, sends_of_act, slice_get, start_at, start_puts, start_read, subst, suc, to_site, uses_of, was_put, zero, ℕ, ◌+◌, ◌<◌, ◌^◌, ◌∷◌, ◌≡◌, ◌≤◌}
-use Rattle.sdd_invariants.specs.All.{asked_by, classes_of}
+use Rattle.sdd_obligations.proofs.All.{Act, All, All-cons, All-nil, AllLt, Catalogue, ClassNo, Cond, Each, FitsCond, IsFair, IsRead, List, Msg, None, Option, Queued, Read, Setting, Site, Some, Ts, TxnNo, Use, [], arith, conditions_at, cons_option, each_at, filter_map, if_way, in_none, in_one, inl, inr, length, map, puts_to, range_with_len, sends_of_act, slice_get, start_at, start_puts, start_read, subst, suc, to_site, was_put, zero, ℕ, ◌+◌, ◌<◌, ◌^◌, ◌∷◌, ◌≡◌, ◌≤◌}
+use Rattle.sdd_invariants.specs.All.{asked_by}
 use Rattle.sdd_invariants.specs.site_module.SiteLog.{Log}
 use Rattle.sdd_invariants.proofs.ReadsPut.{put_by}
 use Rattle.sdd_invariants.specs.protocol.declared.entry.Entry as line
@@ -22,12 +22,6 @@ abbrev AllFrom1 : ℕ → List ℕ → Type 0
 AllFrom1 n [] = Unit {0}
 AllFrom1 n (c ∷ cs) = IsFrom1 n c × AllFrom1 n cs
 
-for_within : (n j t : ℕ) (fs : List FragNo) → IsFrom1 n j → IsWithin n (cond_for j t fs)
-for_within n j t fs l = grind arith
-
-either_within : (n : ℕ) (a b : Option Cond) → IsWithin n a → IsWithin n b → IsWithin n (option_or a b)
-either_within n a b h i = grind arith
-
 cons_within : (n : ℕ) (o : Option Cond) (ds : List Cond) → IsWithin n o → AllWithin n ds → AllWithin n (cons_option o ds)
 cons_within n o ds h i = grind arith
 
@@ -47,8 +41,7 @@ conditions_within : (cat : Catalogue) (table : List line.Entry) (c : ℕ) (frags
     → AllWithin (length cat.classes) (conditions_at cat table c frags own p2 d)
 conditions_within cat table c frags own p2 d =
     let n : ℕ = length cat.classes in
-    let all : AllFrom1 n (classes_of cat) = range_le 1 n n (omega arith) (omega arith) in
-    grind (arith, if_way, mapped_within, made_within, either_within, asked_by, for_within)
+    grind (arith, if_way, mapped_within, made_within, asked_by, range_le 1 n n (omega arith) (omega arith))
 
 -- of a READ that was put
 
@@ -56,15 +49,11 @@ abbrev ReadWithin : ℕ → Msg → Type 0
 ReadWithin n (Read ts class txn attempt conds uses) = AllWithin n conds
 ReadWithin n _ = Unit {0}
 
-start_within : (s : Setting) (c : ℕ) (log : Log) (q : Queued) (d : ℕ) → ReadWithin (length s.catalogue.classes) (start_read s c log q d)
-start_within s c log q d =
-    conditions_within s.catalogue (current_era s log).table c (ascending (fragments_in (uses_of s.catalogue q.text))) (next_stamp s log) (bound s log) d
-
 of_start : (s : Setting) (c : ℕ) (log : Log) (q : Queued) (b : Site) (k : ℕ) (m : Msg)
     → slice_get (to_site b (sends_of_act (start_at s c log q))) k ≡ Some m → ReadWithin (length s.catalogue.classes) m
 of_start s c log q b k m e = elim (start_puts s c b log q) [
   | inl p ↦ in_none _ k m p e
-  | inr p ↦ subst (ReadWithin (length s.catalogue.classes)) (in_one _ (start_read s c log q p.0) k m p.1 e) (start_within s c log q p.0)
+  | inr p ↦ subst (ReadWithin (length s.catalogue.classes)) (in_one _ (start_read s c log q p.0) k m p.1 e) (grind (arith, conditions_within))
 ]
 
 pub act_within : (s : Setting) (b : Site) (log : Log) (act : Act) (k : ℕ) (ts : Ts) (class : ClassNo)
@@ -73,8 +62,7 @@ pub act_within : (s : Setting) (b : Site) (log : Log) (act : Act) (k : ℕ) (ts 
     → slice_get (to_site b (sends_of_act act)) k ≡ Some (Read ts class txn attempt conds uses) → AllWithin (length s.catalogue.classes) conds
 act_within s b log act k ts class txn attempt conds uses by e =
     of_start s class.0 log by.queued b k (Read ts class txn attempt conds uses)
-    (subst (λ a. slice_get (to_site b (sends_of_act a)) k ≡ Some (Read ts class txn attempt conds uses))
-    by.act_is e)
+    (grind (arith, slice_get, to_site, sends_of_act))
 
 pub read_within : (s : Setting) (b : Site) (log : Log) (k : ℕ) (ts : Ts) (class : ClassNo) (txn : TxnNo) (attempt : ℕ) (conds : List Cond) (uses : List Use)
     → Each (IsFair s) log → slice_get (puts_to b log) k ≡ Some (Read ts class txn attempt conds uses) → AllWithin (length s.catalogue.classes) conds

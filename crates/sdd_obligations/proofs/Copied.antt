@@ -1,8 +1,8 @@
 -- The database of an attempt's snapshots has the copies that its modules had at their Answers.
-use Rattle.sdd_obligations.proofs.All.{Act, Answer, ArePlaced, AreThere, Attempt, Catalogue, Change, Contains, Contains-range, D, Database, Dated, DmNo, Does, FitsInput, FragNo, Has, Has-filter_map, Has-filter_map_from, Has-flat_map, Has-flat_map_from, Has-map, Has-map_from, HasAnswer, HasCopies, HasEras, Input, IsItemChange, IsPermitted, IsPiece, IsPlaced, IsSoundCatalogue, IsUsed, Item, List, Log, Msg, Option, Records, Row, Setting, Some, Txn, Use, active, answered_all, ap, arith, ascending, base_of, before_answer, contains, copies_read, dated, dm_no, each_has, each_of, entry_placed, false, filter_map, flat_map, fragments_in, frags_asked, has_copies, head, home, home_of, if◌then◌else◌, inl, inr, is_over, is_read_at, is_some, items_of, length, local_grows, local_of, map, modules_asked, modules_of, numbers_to, of_has, option_eq, own_act, pipe, reads_at, recursion_from_All, same_number, served_read, setting_of, snapshots_at, some_copy, subst, sym, there_is, to_has, true, use_part, use_there, uses_of, uses_there, ℕ, ◌==◌, ◌∙◌, ◌∷◌, ◌≡◌, ◌≤◌}
+use Rattle.sdd_obligations.proofs.All.{Answer, ArePlaced, AreThere, Attempt, Catalogue, Change, Contains, Contains-range, D, Database, Dated, DmNo, Does, FitsInput, FragNo, Has, Has-filter_map, Has-filter_map_from, Has-flat_map, Has-flat_map_from, Has-map, Has-map_from, HasAnswer, HasCopies, HasEras, Input, IsItemChange, IsPermitted, IsPiece, IsPlaced, IsSoundCatalogue, IsUsed, Item, List, Log, Option, Records, Row, Setting, Some, Txn, Use, active, answered_all, ap, arith, ascending, base_of, before_answer, contains, copies_read, dated, dm_no, each_has, each_of, entry_placed, false, filter_map, flat_map, fragments_in, frags_asked, has_copies, head, home, home_of, if◌then◌else◌, inl, inr, is_over, is_read_at, is_some, items_of, length, local_grows, local_of, map, modules_asked, modules_of, numbers_to, of_has, option_eq, own_act, pipe, reads_at, recursion_from_All, same_number, served_read, setting_of, snapshots_at, some_copy, subst, sym, there_is, to_has, true, use_part, use_there, uses_of, uses_there, ℕ, ◌==◌, ◌∙◌, ◌∷◌, ◌≡◌, ◌≤◌}
 use Rattle.sdd_obligations.proofs.EffectsHeld.{HandFits, all_items}
 use Rattle.sdd_obligations.proofs.Put.{acts_fit, databases, hands_fit}
-use Rattle.sdd_obligations.proofs.ShippedAnswered.{answer_to, uses_at_head}
+use Rattle.sdd_obligations.proofs.ShippedAnswered.{answer_to}
 use Rattle.sdd_obligations.proofs.Covered.{Covers, attempt_covered, class_within}
 use Rattle.sdd_obligations.proofs.Listed.{from_order, has_contains, in_order}
 use Rattle.sdd_obligations.proofs.Places.{IsAnswerAt}
@@ -34,8 +34,7 @@ reads_somewhere : (cat : Catalogue) → IsSoundCatalogue cat → (c : ℕ) (txn 
 reads_somewhere cat sound c txn (inl z) u f h k =
     let there = frag_there cat txn u f h k in
     subst (λ j. (d : ℕ) × (reads_at cat j f.0 ≡ Some d)) (sym z) (some_copy cat sound f.0 there.0 there.1)
-reads_somewhere cat sound c txn (inr cov) u f h k =
-    some_is (reads_at cat c f.0) (cov.reads f.0 (has_contains (fragments_in (uses_of cat txn)) f.0 (frag_among (uses_of cat txn) u f h k)))
+reads_somewhere cat sound c txn (inr cov) u f h k = grind (arith, some_is, cat, has_contains, frag_among)
 
 -- the module is there, and is asked
 pub module_there : (cat : Catalogue) → IsSoundCatalogue cat → (c : ℕ) (txn : Txn) → Covers cat c txn
@@ -61,9 +60,6 @@ module_asked cat sound c txn cov u f d h k e =
 
 -- what a READ asks
 
-frags_are : (o : Option Msg) → frags_asked o ≡ ascending (fragments_in (uses_at_head o))
-frags_are o = grind arith
-
 asked_frag : (cat : Catalogue) (c d : ℕ) (txn : Txn) (u : Use) (f : FragNo) → Has (uses_of cat txn) u
     → Has u.frags f → is_read_at cat c d f.0 ≡ true → Has (ascending (fragments_in (uses_at cat c txn d)))
     f.0
@@ -75,8 +71,7 @@ asked_frag cat c d txn u f h k t =
 -- and back
 frag_asked : (cat : Catalogue) (c d : ℕ) (txn : Txn) (f : ℕ)
     → Has (ascending (fragments_in (uses_at cat c txn d))) f → IsUsed cat txn f × (is_read_at cat c d f ≡ true)
-frag_asked cat c d txn f h =
-    grind (arith, Has-flat_map_from, uses_at, from_order, Has-map_from, Has-filter_map_from, use_there, there_is, is_read_at)
+frag_asked cat c d txn f h = grind (arith, Has-flat_map_from, from_order, Has-map_from, Has-filter_map_from, there_is)
 
 -- the places of changes
 
@@ -86,8 +81,7 @@ item_placed cat sound c h = grind (arith, entry_placed)
 -- an Answer of the attempt, in the log of its module
 answer_at : (g : Input) (log : Log) (d : DmNo) (c : ℕ) (a : Attempt) → HasAnswer g log d c a → IsAnswerAt a.ts (local_of g (D d) log)
 answer_at g log d c a h =
-    let act : Act = Records c (Answer h.txn h.attempt (home_of (setting_of g (D d))).dm) h.sends in
-    let x = local_grows g (D d) h.later (Does (D d) act ∷ h.before) in
+    let x = local_grows g (D d) h.later (Does (D d) (Records c (Answer h.txn h.attempt (home_of (setting_of g (D d))).dm) h.sends) ∷ h.before) in
     grind (arith, own_act, same_number)
 
 module _ (g : Input) (good : FitsInput g) (eras : HasEras g) (c : ℕ) (log : Log) (a : Attempt) (h : IsPermitted g log)
@@ -138,8 +132,7 @@ module _ (g : Input) (good : FitsInput g) (eras : HasEras g) (c : ℕ) (log : Lo
       subst (Has (ascending (fragments_in (uses_at cat c a.text d)))) u.number
       (asked_frag cat c d a.text u.usage u.frag u.there u.among (is_read (reads_at cat c u.frag.0) d reads)) in
       let first : Has (frags_asked (head (pipe s.answer.class s.answer.before))) p.frag =
-      subst (λ fs. Has fs p.frag) (ap (λ us. ascending (fragments_in us)) (sym to.uses_are)
-      ∙ sym (frags_are (head (pipe s.answer.class s.answer.before)))) frag in
+      subst (λ fs. Has fs p.frag) (grind (arith, ascending, fragments_in, head, pipe)) frag in
       let there : Has (items_of cat (dated (set d) s.answer.before) p.frag) e =
       subst (λ l. Has (items_of cat (dated (set d) l) p.frag) e) s.before_is (to_has (items_of cat (made_of d) p.frag) e p.there) in
       let read : Has (snapshots_at g log a.ts d) e =
@@ -157,7 +150,7 @@ module _ (g : Input) (good : FitsInput g) (eras : HasEras g) (c : ℕ) (log : Lo
       let q = Has-flat_map_from (items_of cat (dated (set d) s.answer.before))
       (frags_asked (head (pipe s.answer.class s.answer.before))) e (subst (λ es. Has es e) s.is there) in
       let f = frag_asked cat c d a.text q.0
-      (subst (λ fs. Has fs q.0) (frags_are (head (pipe s.answer.class s.answer.before)) ∙ ap (λ us. ascending (fragments_in us)) to.uses_are) q.1) in
+      (subst (λ fs. Has fs q.0) ((grind arith) ∙ ap (λ us. ascending (fragments_in us)) to.uses_are) q.1) in
       record {
         frag = q.0;
         module_no = d;

@@ -1,5 +1,5 @@
 -- A class starts no more attempts than transactions were given to its site and messages handed to it.
-use Rattle.sdd_obligations.proofs.All.{Act, Attempt, Bases, Bool, Catalogue, Did, Each, Handed, IsFair, IsNew, IsNumbered, IsServed, IsStep, List, Msg, None, Option, Queued, Sends, Setting, Site, Some, Submits, T, [], active, active_sent, ap, arith, class_at, class_starts, classes_of, commit_act, current_era, false, filter, filter_shorter, get_or_past, hands, head_of, home, if◌then◌else◌, inl, inr, length, length-append, length-map, length-range_with_len, map, next_stamp, not, queue, queue_is, refl, same_number, same_or_not, sends_of_act, sent_way, slice_get, start_at, start_of_class, started, starts, step_way, submits, submitted, subst, suc, sym, tm_no, tried, ℕ, ◌*◌, ◌++◌, ◌+◌, ◌-◌, ◌==◌, ◌∷◌, ◌≡◌, ◌≤◌}
+use Rattle.sdd_obligations.proofs.All.{Act, Attempt, Bases, Catalogue, Did, Each, Handed, IsFair, IsNew, IsNumbered, IsServed, IsStep, List, Msg, None, Option, Queued, Sends, Setting, Site, Some, Submits, T, [], active, arith, class_at, class_starts, classes_of, commit_act, false, filter, filter_shorter, get_or_past, hands, home, inl, inr, length, length-append, length-map, length-range_with_len, not, queue, queue_is, refl, same_number, same_or_not, sent_way, slice_get, start_at, start_of_class, starts, step_way, submits, subst, suc, sym, tm_no, ℕ, ◌*◌, ◌+◌, ◌-◌, ◌==◌, ◌∷◌, ◌≡◌, ◌≤◌}
 use Rattle.sdd_obligations.proofs.Sums.{range_at, total, total_le, total_raise, total_up}
 use Rattle.sdd_invariants.specs.site_module.SiteLog.{Log}
 
@@ -10,9 +10,6 @@ busy (Some a) = 1
 busy_le : (o : Option Attempt) → busy o ≤ 1
 busy_le o = grind arith
 
-busy_started : (ts : ℕ) (sends : List (Site × Msg)) (o : Option Queued) (q : Queued) → o ≡ Some q → busy (started ts sends o) ≡ 1
-busy_started ts sends o q e = grind arith
-
 busy_served : (o : Option Attempt) (qs : List Queued) → IsServed o qs → busy o ≤ length qs
 busy_served o qs h = grind arith
 
@@ -20,78 +17,31 @@ busy_served o qs h = grind arith
 abbrev IsCounted : Setting → ℕ → Log → Type 0
 IsCounted s c log = class_starts c log + length (queue s c log) ≤ length (submits log) + hands log + busy (active s c log)
 
-start_count : (cs qs more subs hs b d : ℕ) → more ≡ qs → b ≡ 0 → d ≡ 1 → cs + qs ≤ subs + hs + b → 1 + cs + more ≤ subs + hs + d
-start_count cs qs more subs hs b d e f g l = omega (arith, e, f, g, l)
-
-count_start : (s : Setting) (c : ℕ) (log : Log) (q : Queued) → active s c log ≡ None → head_of (queue s c log) ≡ Some q
-    → IsCounted s c log → IsCounted s c (Did (start_at s c log q) ∷ log)
-count_start s c log q i e h =
-    rw (same_number c)
-    (start_count (class_starts c log) (length (queue s c log))
-    (length (map (tried q.number) (queue s c log))) (length (submits log)) (hands log)
-    (busy (active s c log)) (busy (started (next_stamp s log) (sends_of_act (start_at s c log q)) (head_of (queue s c log))))
-    (length-map (queue s c log) (tried q.number)) (ap busy i) (busy_started (next_stamp s log)
-    (sends_of_act (start_at s c log q)) (head_of (queue s c log)) q e) h)
-
-same_count : (cs qs all : ℕ) → cs + qs ≤ all → 0 + cs + qs ≤ all
-same_count cs qs all l = omega (arith, l)
-
-count_other_start : (s : Setting) (k c : ℕ) (log : Log) (q : Queued) → (k == c) ≡ false → IsCounted s c log → IsCounted s c (Did (start_at s k log q) ∷ log)
-count_other_start s k c log q e h = rw e (same_count (class_starts c log) (length (queue s c log)) _ h)
-
 pub head_taken : (a : Attempt) (qs : List Queued) → IsServed (Some a) qs → suc (length (filter (λ q. not (q.number == a.txn)) qs)) ≤ length qs
 head_taken a qs h = grind (arith, same_number, filter_shorter)
-
-commit_count : (cs qs more subs hs b : ℕ) → suc more ≤ qs → b ≤ 1 → cs + qs ≤ subs + hs + b → 0 + cs + more ≤ subs + hs + 0
-commit_count cs qs more subs hs b l m h = omega (arith, l, m, h)
 
 count_commit : (s : Setting) (c : ℕ) (bases : Bases) (log : Log) (a : Attempt) → active s c log ≡ Some a
     → IsServed (active s c log) (queue s c log) → IsCounted s c log → IsCounted s c (Did (commit_act s.catalogue bases c a) ∷ log)
 count_commit s c bases log a e v h =
     rw (same_number c)
-    (commit_count (class_starts c log) (length (queue s c log))
-    (length (filter (λ q. not (q.number == a.txn)) (queue s c log))) (length (submits log)) (hands log) (busy (active s c log))
-    (head_taken a (queue s c log) (subst (λ o. IsServed o (queue s c log)) e v)) (busy_le (active s c log)) h)
-
-count_other_commit : (s : Setting) (k c : ℕ) (bases : Bases) (log : Log) (a : Attempt) → (k == c) ≡ false → IsCounted s c log
-    → IsCounted s c (Did (commit_act s.catalogue bases k a) ∷ log)
-count_other_commit s k c bases log a e h = rw e (same_count (class_starts c log) (length (queue s c log)) _ h)
-
-sent_busy : (s : Setting) (c : ℕ) (log : Log) (m : Msg) → busy (active s c log) ≤ busy (active_sent c m (active s c log))
-sent_busy s c log m = sent_way (λ o. busy (active s c log) ≤ busy o) c m (active s c log) (λ a x e. busy_le (active s c log)) (omega arith)
-
-send_count : (cs qs all b d : ℕ) → b ≤ d → cs + qs ≤ all + b → 0 + cs + qs ≤ all + d
-send_count cs qs all b d l h = omega (arith, l, h)
+    (omega (arith, (head_taken a (queue s c log) (subst (λ o. IsServed o (queue s c log)) e v)), (busy_le (active s c log)), h))
 
 count_send : (s : Setting) (c : ℕ) (log : Log) (to : Site) (m : Msg) (hand : Option ℕ) → IsCounted s c log → IsCounted s c (Did (Sends to m hand) ∷ log)
-count_send s c log to m hand h = grind (arith, send_count, submits, hands, active, sent_busy)
+count_send s c log to m hand h = grind (arith, submits, hands, active, sent_way, busy, busy_le)
 
 count_act : (s : Setting) (c : ℕ) (log : Log) (act : Act) → IsStep s log act → IsServed (active s c log) (queue s c log)
     → IsCounted s c log → IsCounted s c (Did act ∷ log)
 count_act s c log act i v h = step_way s log act (λ x. IsCounted s c (Did x ∷ log))
-    (λ k q at f e. elim (same_or_not k c) [
-      | inl p ↦ subst (λ j. IsCounted s c (Did (start_at s j log q) ∷ log)) (sym p) (count_start s c log q (rw p at f) (rw p at e) h)
-      | inr p ↦ count_other_start s k c log q p h
-    ])
+    (grind (arith, same_or_not, IsCounted, start_at, same_number, busy, length-map, class_starts, queue))
     (λ k bases a at f. elim (same_or_not k c) [
       | inl p ↦ subst (λ j. IsCounted s c (Did (commit_act s.catalogue bases j a) ∷ log)) (sym p) (count_commit s c bases log a (rw p at f) v h)
-      | inr p ↦ count_other_commit s k c bases log a p h
+      | inr p ↦ (rw p (omega (arith, h)))
     ]) (λ to m hand f. count_send s c log to m hand h) i
-
-submit_longer : (b : Bool) (q : Queued) (qs : List Queued) → length (if b then qs ++ q ∷ [] else qs) ≤ suc (length qs)
-submit_longer b q qs = grind (arith, length-append)
-
-submit_count : (cs qs more subs hs b : ℕ) → more ≤ suc qs → cs + qs ≤ subs + hs + b → cs + more ≤ suc subs + hs + b
-submit_count cs qs more subs hs b l h = omega (arith, l, h)
-
-hand_count : (cs qs subs hs b d : ℕ) → b ≤ 1 → cs + qs ≤ subs + hs + b → cs + qs ≤ subs + suc hs + d
-hand_count cs qs subs hs b d l h = omega (arith, l, h)
 
 counted : (s : Setting) (c : ℕ) (log : Log) → Each (IsFair s) log → Each IsNew log → IsCounted s c log
 counted s c [] f n = omega arith
-counted s c (Handed from m ∷ log) f n = grind (arith, hand_count, submits, hands, active, busy_le, counted s c log f.1 n.1)
-counted s c (Submits k txn ∷ log) f n =
-    grind (arith, submit_count, submitted, current_era, submits, hands, active, submit_longer, counted s c log f.1 n.1)
+counted s c (Handed from m ∷ log) f n = grind (arith, submits, hands, active, busy_le, counted s c log f.1 n.1)
+counted s c (Submits k txn ∷ log) f n = grind (arith, length-append, (counted s c log f.1 n.1))
 counted s c (Did act ∷ log) f n = count_act s c log act f.0 (queue_is s c log f.1 n.1).served (counted s c log f.1 n.1)
 counted s c (_ ∷ log) f n = counted s c log f.1 n.1
 
@@ -116,9 +66,8 @@ class_here cat c at l e = elim (same_or_not c 0) [ inl p ↦ omega (arith, p) | 
 class_more : (s : Setting) (k : ℕ) (log : Log) (act : Act) (n : ℕ) → k ≤ length s.catalogue.classes → start_of_class k act ≡ n
     → n + total (λ c. class_starts c log) (classes_of s) ≤ total (λ c. class_starts c (Did act ∷ log)) (classes_of s)
 class_more s k log act n l e =
-    let z : 0 + k ≡ k = omega arith in
     let there : slice_get (classes_of s) k ≡ Some k =
-    subst (λ x. slice_get (classes_of s) k ≡ Some x) z (range_at 0 (suc (length s.catalogue.classes)) k (omega (arith, l))) in
+    subst (λ x. slice_get (classes_of s) k ≡ Some x) (omega arith) (range_at 0 (suc (length s.catalogue.classes)) k (omega (arith, l))) in
     total_raise (λ c. class_starts c log) (λ c. class_starts c (Did act ∷ log)) n (classes_of s) k k there (λ c. omega arith) (omega (arith, e))
 
 start_total : (s : Setting) (log : Log) (act : Act) → IsNumbered s.site → IsStep s log act → starts log ≤ total (λ c. class_starts c log) (classes_of s)
@@ -126,10 +75,8 @@ start_total : (s : Setting) (log : Log) (act : Act) → IsNumbered s.site → Is
 start_total s log act l i h =
     step_way s log act (λ x. starts (Did x ∷ log) ≤ total (λ c. class_starts c (Did x ∷ log)) (classes_of s))
     (λ k q at f e. let m = class_more s k log (start_at s k log q) 1 (class_here s.catalogue k s.site l at) (rw (same_number k) refl) in omega (arith, m, h))
-    (λ k bases a at f. let m = total_up (λ c. class_starts c log)
-    (λ c. class_starts c (Did (commit_act s.catalogue bases k a) ∷ log)) (classes_of s) (λ c. omega arith) in omega (arith, m, h))
-    (λ to m hand f. let n = total_up (λ c. class_starts c log)
-    (λ c. class_starts c (Did (Sends to m hand) ∷ log)) (classes_of s) (λ c. omega arith) in omega (arith, n, h)) i
+    (grind (arith, total_up, class_starts, commit_act, classes_of))
+    (grind (arith, total_up, class_starts, classes_of)) i
 
 by_classes : (s : Setting) (log : Log) → IsNumbered s.site → Each (IsFair s) log → starts log ≤ total (λ c. class_starts c log) (classes_of s)
 by_classes s [] l f = omega arith
@@ -141,6 +88,4 @@ pub site_few : (s : Setting) (log : Log) → IsNumbered s.site → Each (IsFair 
 site_few s log l f n =
     let b = total_le (λ c. class_starts c log) (classes_of s) (length (submits log) + hands log) (λ c. class_few s c log f n) in
     let e : length (classes_of s) ≡ suc (length s.catalogue.classes) = length-range_with_len 0 (suc (length s.catalogue.classes)) in
-    let d : total (λ c. class_starts c log) (classes_of s) ≤ suc (length s.catalogue.classes) * (length (submits log) + hands log) =
-    subst (λ k. total (λ c. class_starts c log) (classes_of s) ≤ k * (length (submits log) + hands log)) e b in
-    omega (arith, by_classes s log l f, d)
+    omega (arith, by_classes s log l f, (subst (λ k. total (λ c. class_starts c log) (classes_of s) ≤ k * (length (submits log) + hands log)) e b))

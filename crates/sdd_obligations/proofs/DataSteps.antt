@@ -1,5 +1,5 @@
 -- What a data module does, act by act, with all that it sends.
-use Rattle.sdd_obligations.proofs.All.{Act, Answer, Apply, Arrive, Bool, Change, ClassNo, Cond, Done, Fetch, Frozen, IsClassHere, IsDue, List, Msg, None, Null, Open, Option, Pass, Processes, Read, Ready, Records, Reduce, Reduced, Reject, Rejected, Rows, Sends, Setting, Ship, Some, Ts, TxnNo, Use, Values, Wait, Write, [], act_by, act_where, all_held, answer_of, answer_to, ap, ask_for, by_head, by_open, class_at_place, class_view, copies, counts_of, dated_in, done_for, false, filter, frozen, frozen_for, head, head_due, head_of, home_of, if◌then◌else◌, is_asked_of, is_held, is_met, judged, length, list_all, map, open_due, opens, pipe, refl, rows_held, source_of, step_on, subst, sym, true, values_in, view_of, waits, ℕ, ◌∷◌, ◌≡◌}
+use Rattle.sdd_obligations.proofs.All.{Act, Answer, Apply, Arrive, Bool, Change, ClassNo, Cond, Done, Fetch, Frozen, IsClassHere, IsDue, List, Msg, None, Null, Open, Option, Pass, Processes, Read, Ready, Records, Reduce, Reduced, Reject, Rejected, Rows, Sends, Setting, Ship, Some, Ts, TxnNo, Use, Values, Wait, Write, [], act_by, act_where, all_held, answer_of, answer_to, ap, arith, ask_for, by_head, by_open, class_at_place, class_view, copies, counts_of, dated_in, done_for, false, filter, frozen, frozen_for, head, head_due, head_of, home_of, if◌then◌else◌, is_asked_of, is_held, is_met, judged, length, list_all, map, open_due, opens, pipe, refl, rows_held, source_of, step_on, subst, sym, true, values_in, view_of, waits, ℕ, ◌∷◌, ◌≡◌}
 use Rattle.sdd_invariants.specs.site_module.SiteLog.{Log}
 
 -- what answers a FETCH, REDUCE or SHIP, where these rows are held
@@ -113,8 +113,7 @@ pub data_step_way : (s : Setting) (log : Log) (act : Act) (P : Act → Type 0)
 data_step_way s log act P f1 f2 f3 f4 f5 f6 f7 (arrives k txn attempt e) = subst P (sym e) (f1 k txn attempt)
 data_step_way s log act P f1 f2 f3 f4 f5 f6 f7 (replies k o m h r e) = subst P (sym e) (f2 k o m h r)
 data_step_way s log act P f1 f2 f3 f4 f5 f6 f7 (answers_read c ts k txn attempt conds uses l h e) = subst P (sym e) (f3 c ts k txn attempt conds uses l h)
-data_step_way s log act P f1 f2 f3 f4 f5 f6 f7 (refuses_read c ts k txn attempt conds uses by write l h e) =
-    subst P (sym e) (f4 c ts k txn attempt conds uses by write l h)
+data_step_way s log act P f1 f2 f3 f4 f5 f6 f7 (refuses_read c ts k txn attempt conds uses by write l h e) = grind arith
 data_step_way s log act P f1 f2 f3 f4 f5 f6 f7 (waits_for c txn attempt ds e) = subst P (sym e) (f5 c txn attempt ds)
 data_step_way s log act P f1 f2 f3 f4 f5 f6 f7 (applies c ts k txn changes h e) = subst P (sym e) (f6 c ts k txn changes h)
 data_step_way s log act P f1 f2 f3 f4 f5 f6 f7 (passes c k time h e) = subst P (sym e) (f7 c k time h)

@@ -79,24 +79,19 @@ one_more : (g : Input) (down : ℕ → Bool) (lists more total : ℕ) (ws : List
     → more ≡ redeclares_in (e ∷ []) → total ≡ more + lists → IsDoneAs g (λ d. turned_by d e (down d)) total s.rest
 one_more g down lists more total ws e s i n sum =
     let front : List Event = (i.front ++ s.skip) ++ e ∷ [] in
-    let whole : g.events ≡ front ++ s.rest =
-    i.is ∙ ap (λ z. i.front ++ z) s.is ∙ sym (append_assoc i.front s.skip (e ∷ s.rest)) ∙ sym (append_assoc (i.front ++ s.skip) (e ∷ []) s.rest) in
     let a = count_join (i.front ++ s.skip) (e ∷ []) in
     let b = count_join i.front s.skip in
     let c = settles_count s.skip s.settles in
     let l = i.lists_are in
     record {
       front = front;
-      is = whole;
+      is = (i.is ∙ ap (λ z. i.front ++ z) s.is ∙ sym (append_assoc i.front s.skip (e ∷ s.rest)) ∙ sym (append_assoc (i.front ++ s.skip) (e ∷ []) s.rest));
       downs = λ d. ap (turned_by d e) (i.downs d ∙ sym (settles_turn d (is_down_after d i.front) s.skip s.settles) ∙ sym (down_join d false i.front s.skip))
           ∙ sym (down_join d false (i.front ++ s.skip) (e ∷ []));
       lists_are = omega (arith, a, b, c, l, n, sum);
     }
 
 -- an event that turns no module
-
-turned_same : (d : ℕ) (e : Event) (b : Bool) → TurnsNone e → turned_by d e b ≡ b
-turned_same d e b h = grind arith
 
 abbrev pub AreDone : Input → (ℕ → Bool) → ℕ → List Event × List Event → Type 0
 AreDone g down lists s = AtEach TurnsNone s.1 × IsDoneAs g down lists s.0
@@ -109,16 +104,7 @@ mark_done g log e (ws, []) m i =
       subst (IsDoneAs g (λ d. turned_by d e (is_down d log)) (redeclares log)) (sym f.0.tail_is)
           (one_more g (λ d. is_down d log) (redeclares log) 0 (redeclares log) ws e f.0 i.1 (sym f.1) (omega arith)),
     )
-mark_done g log e (ws, x ∷ r) m i =
-    let p : x ≡ e = cc in (
-      i.0.1,
-      record {
-        front = i.1.front;
-        is = i.1.is;
-        downs = λ d. turned_same d e (is_down d log) (subst TurnsNone p i.0.0) ∙ i.1.downs d;
-        lists_are = i.1.lists_are;
-      },
-    )
+mark_done g log e (ws, x ∷ r) m i = grind (arith, TurnsNone)
 
 list_done : (g : Input) (log : Log) (t : ℕ) (s : List Event × List Event) → mark_of g log s ≡ Some (Redeclares t)
     → AreDone g (λ d. is_down d log) (redeclares log) s → AreDone g (λ d. is_down d log) (suc (redeclares log)) (after_mark s)
@@ -142,8 +128,4 @@ done g (_ ∷ log) few h = done g log few h.1
 -- what is done of the lists, and what is left, is what was given
 pub redeclares_left : (g : Input) (log : Log) → AllFewTicks g.events → IsLawful g log
     → redeclares log + redeclares_in (left g.events log).0 ≡ redeclares_in g.events
-redeclares_left g log few h =
-    let rest : List Event = (left g.events log).0 in
-    let d = (done g log few h).1 in
-    let parts : redeclares_in g.events ≡ redeclares_in (d.front ++ rest) = ap redeclares_in d.is in
-    let same = d.lists_are in omega (arith, parts, count_join d.front rest, same)
+redeclares_left g log few h = grind (arith, done, count_join)

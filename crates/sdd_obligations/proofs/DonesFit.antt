@@ -1,25 +1,19 @@
 -- A DONE that is next to be handed over answers the last Commit of U, and is the first of its module.
-use Rattle.sdd_obligations.proofs.All.{Act, Attempt, Bases, Bool, Commit, D, Did, DmNo, Does, Done, Each, FitsDone, Hand, Handed, Input, IsDoneBy, IsFair, IsFairU, IsPermitted, IsStepU, List, Log, Msg, NoRecord, Option, Queued, Records, Served, Setting, Some, Ts, U, Write, [], active, ap, append_assoc, arith, class_number, commit_act, compare, dones_few, dones_of, each_at, false, hand_ts, handed, head_put, inl, inr, is_done, is_done_of, is_recorded, last_served, local_grows, local_of, next_stamp, numbers_to, one_if, own_act, permitted_before, place_of_act, put_in_by_d, put_once, puts_to, refl, same_number, served_acted, setting_of, slice_get, start_at, start_of_active, start_u, subst, sym, tally, true, true_or_false, ts_of, u_due, u_fair, u_table, u_way, write_origin, zero_pair, ℕ, ◌++◌, ◌+◌, ◌<◌, ◌∙◌, ◌∷◌, ◌≡◌, ◌≤◌, ◌⊎◌}
+use Rattle.sdd_obligations.proofs.All.{Act, Attempt, Bases, Bool, Commit, D, Did, DmNo, Does, Done, Each, FitsDone, Hand, Handed, Input, IsDoneBy, IsFair, IsFairU, IsPermitted, IsStepU, List, Log, Msg, NoRecord, Queued, Records, Setting, Some, Ts, U, Write, [], active, ap, append_assoc, arith, class_number, commit_act, compare, dones_few, dones_of, each_at, false, hand_ts, handed, head_put, inl, inr, is_done, is_done_of, is_recorded, last_served, local_grows, local_of, next_stamp, numbers_to, one_if, own_act, permitted_before, place_of_act, put_in_by_d, put_once, puts_to, refl, same_number, setting_of, slice_get, start_at, start_of_active, start_u, subst, sym, tally, true, true_or_false, ts_of, u_due, u_fair, u_table, u_way, write_origin, zero_pair, ℕ, ◌++◌, ◌+◌, ◌<◌, ◌∙◌, ◌∷◌, ◌≡◌, ◌≤◌, ◌⊎◌}
 use Rattle.sdd_obligations.proofs.Answering.{none_before}
 use Rattle.sdd_invariants.specs.site_module.SiteLog.{Entry}
 use Rattle.sdd_invariants.specs.site_module.SiteLog as site
 
 -- the first of its module
 
-same_done : (ts : ℕ) (m : Msg) → is_done ts m ≡ is_done_of ts m
-same_done ts m = grind arith
-
 same_tally : (ts : ℕ) (ms : List Msg) → tally (is_done ts) ms ≡ tally (is_done_of ts) ms
-same_tally ts ms = grind (arith, one_if, same_done)
+same_tally ts ms = grind (arith, one_if)
 
 -- what was served last: since a Commit, unless there was another
 
 abbrev is_commit : Act → Bool
 is_commit (Records k (Commit txn attempt reply changes values rows) sends) = true
 is_commit _ = false
-
-no_serve : (act : Act) (o : Option Attempt) (v : Served) → is_commit act ≡ false → served_acted act o v ≡ v
-no_serve act o v e = grind arith
 
 -- another Commit behind it
 record IsAgain (y : Act) (x : site.Log) : Type 0 where
@@ -38,18 +32,12 @@ ServedOr s t y b x = ((last_served s (x ++ Did y ∷ b)).ts ≡ t) ⊎ IsAgain y
 served_did : (s : Setting) (t : ℕ) (y : Act) (b : site.Log) (act : Act) (x : site.Log) → ServedOr s t y b x → ServedOr s t y b (Did act ∷ x)
 served_did s t y b act x h = elim (true_or_false (is_commit act)) [
   | inl p ↦ inr (record { later = []; act = act; between = x; is = refl; commits = p })
-  | inr p ↦ elim h [
-    | inl q ↦ inl (ap (λ (v : Served). v.ts) (no_serve act (active s 0 (x ++ Did y ∷ b)) (last_served s (x ++ Did y ∷ b)) p) ∙ q)
-    | inr q ↦ inr (more_again y (Did act) x q)
-  ]
+  | inr p ↦ grind (arith, active, last_served, more_again)
 ]
 
 served_or : (s : Setting) (t : ℕ) (y : Act) (b : site.Log) → (last_served s (Did y ∷ b)).ts ≡ t → (x : site.Log) → ServedOr s t y b x
 served_or s t y b e [] = inl e
-served_or s t y b e (Handed from m ∷ x) = elim (served_or s t y b e x) [
-  | inl q ↦ inl (hand_ts m (last_served s (x ++ Did y ∷ b)) ∙ q)
-  | inr q ↦ inr (more_again y (Handed from m) x q)
-]
+served_or s t y b e (Handed from m ∷ x) = grind (arith, hand_ts, more_again, (served_or s t y b e x))
 served_or s t y b e (Did act ∷ x) = served_did s t y b act x (served_or s t y b e x)
 served_or s t y b e (w ∷ x) = elim (served_or s t y b e x) [ inl q ↦ inl q | inr q ↦ inr (more_again y w x q) ]
 
@@ -71,22 +59,14 @@ record HasStartIn (s : Setting) (y : Act) (b l : site.Log) : Type 0 where
   pub queued : Queued
   pub is : l ≡ later ++ Did (start_at s 0 (between ++ Did y ∷ b) queued) ∷ (between ++ Did y ∷ b)
 
-start_not : (s : Setting) (l : site.Log) (q : Queued) (y : Act) → is_commit y ≡ true → ◌≡◌ {A = Entry} (Did y) (Did (start_at s 0 l q)) → ⊥
-start_not s l q y c e = let p : y ≡ start_at s 0 l q = cc in let f : is_commit (start_at s 0 l q) ≡ true = subst (λ a. is_commit a ≡ true) p c in cc
-
 start_between : (s : Setting) (y : Act) (b l : site.Log) (a : Attempt) (front : site.Log) → is_commit y ≡ true → is_recorded 0 (Did y) ≡ true
     → Each (IsFair s) l → active s 0 l ≡ Some a → l ≡ front ++ Did y ∷ b → HasStartIn s y b l
 start_between s y b l a front c r f e is =
     let st = start_of_active s 0 l a f e in
     elim (compare front st.later (Did y) (Did (start_at s 0 st.before st.queued)) b st.before (sym is ∙ st.is)) [
-      | inl u ↦ absurd (start_not s st.before st.queued y c u.1)
+      | inl u ↦ absurd (let p : y ≡ start_at s 0 st.before st.queued = cc in let f : is_commit (start_at s 0 st.before st.queued) ≡ true = subst (λ a. is_commit a ≡ true) p c in cc)
       | inr u ↦ elim u [
-        | inl v ↦ record {
-          later = st.later;
-          between = v.between;
-          queued = st.queued;
-          is = subst (λ x. l ≡ st.later ++ Did (start_at s 0 x st.queued) ∷ x) v.is st.is;
-        }
+        | inl v ↦ grind (arith, start_at)
         | inr v ↦ (let n = no_record_at 0 front (Did y) v.between
             (subst (NoRecord 0) v.front st.none_since) in let z : ◌≡◌ {A = Bool} true false = sym r ∙ n in cc)
       ]
@@ -121,9 +101,7 @@ all_done g k t log y b a i h w fair e =
     let x = local_grows g U (p.later ++ Does U (start_at s 0 (w.between ++ Did y ∷ b) w.queued) ∷ []) p.rest in
     let whole : local_of g U log ≡ x.0 ++ local_of g U p.rest =
     ap (local_of g U) (p.is ∙ sym (append_assoc p.later (Does U (start_at s 0 (w.between ++ Did y ∷ b) w.queued) ∷ []) p.rest)) ∙ x.1 in
-    let up : dones_of a.ts (local_of g U p.rest) ≤ dones_of a.ts (local_of g U log) =
-    subst (λ l. dones_of a.ts (local_of g U p.rest) ≤ dones_of a.ts l) (sym whole) (dones_up a.ts x.0 (local_of g U p.rest)) in
-    omega (arith, got, up)
+    omega (arith, got, (subst (λ l. dones_of a.ts (local_of g U p.rest) ≤ dones_of a.ts l) (sym whole) (dones_up a.ts x.0 (local_of g U p.rest))))
 
 -- so no other Commit stands behind that of a DONE that is still to come
 commit_last : (g : Input) (k t : ℕ) (log : Log) (bases : Bases) (a : Attempt) (x b : site.Log) → slice_get (numbers_to g.catalogue.tms) k ≡ Some t
@@ -147,8 +125,7 @@ commit_last g k t log bases a x b i h e act less =
             between = w.between;
             queued = w.queued;
             is =
-                whole ∙ ap (λ l. q.later ++ Did q.act ∷ l) w.is
-                ∙ sym (append_assoc q.later (Did q.act ∷ w.later) (Did (start_at s 0 (w.between ++ Did y ∷ b) w.queued) ∷ (w.between ++ Did y ∷ b)));
+                grind (arith, append_assoc, start_at);
           } in
           absurd (omega (arith, all_done g k t log y b a i h again (each_at (IsFair s) q.between (Did y) b v.1).1 act, less)))
     ]
@@ -161,8 +138,7 @@ done_fits g k t log d n ts i h e =
     let by : IsDoneBy (setting_of g (D d)) (local_of g (D d) p.before) U p.act ts = p.by in
     let hb = (permitted_before g p.later (Does (D d) p.act ∷ p.before) (subst (IsPermitted g) p.is h.1)).1 in
     let put = head_put g 0 d p.before (Write ts by.class by.txn by.changes) hb by.head_is in
-    let z : by.class.0 ≡ 0 = class_number by.class.0 0 ts.0 put.of_class in
-    let o = write_origin g p.before 0 d ts by.class by.txn by.changes z put in
+    let o = write_origin g p.before 0 d ts by.class by.txn by.changes (class_number by.class.0 0 ts.0 put.of_class) put in
     let y : Act = commit_act g.catalogue o.bases 0 o.attempt in
     let front : Log = p.later ++ Does (D d) p.act ∷ o.later in
     let whole : log ≡ front ++ Does U y ∷ o.before = p.is ∙ ap (λ l. p.later ++ Does (D d) p.act ∷ l) o.is

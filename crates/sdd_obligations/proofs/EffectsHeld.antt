@@ -1,5 +1,5 @@
 -- What a data module holds, where the WRITEs that are handed to it have changes of items.
-use Rattle.sdd_obligations.proofs.All.{Act, AllByRecursion, Answer, AreWritten, Bool, Catalogue, Change, Dated, Did, Each, Handed, IsDatabase, IsEntry, IsItemChange, IsSoundCatalogue, List, Msg, Option, Pipe, Records, Sends, Setting, Some, Write, [], all_joined, applied, applied_acted, changes_in, classes_of, database_of, dated, false, flat_map, frags_asked, goes_through, head, head_of, head_processed, if◌then◌else◌, is_apply, is_at, is_processing, items_of, map, pipe, pipe_acted, put, recursion_from_All, snapshots, tail_of, true, ℕ, ◌&&◌, ◌++◌, ◌==◌, ◌∷◌}
+use Rattle.sdd_obligations.proofs.All.{Act, AllByRecursion, Answer, AreWritten, Bool, Catalogue, Change, Dated, Did, Each, Handed, IsDatabase, IsEntry, IsItemChange, IsSoundCatalogue, List, Msg, Option, Pipe, Records, Sends, Setting, Some, Write, [], all_joined, applied, applied_acted, arith, changes_in, classes_of, database_of, dated, false, flat_map, frags_asked, goes_through, head, if◌then◌else◌, is_apply, is_at, items_of, map, pipe, recursion_from_All, snapshots, true, ℕ, ◌&&◌, ◌++◌, ◌==◌, ◌∷◌}
 use Rattle.sdd_obligations.proofs.Entries.{AreItems, all_gathered, first_are_items, items_are_entries}
 use Rattle.sdd_invariants.specs.site_module.SiteLog.{Entry, Log}
 
@@ -17,28 +17,9 @@ HandFits cat d log _ = Unit {0}
 abbrev AreFit : Catalogue → ℕ → List Msg → Type 0
 AreFit cat d ms = AllByRecursion (FitsMsg cat d) ms
 
-put_fits : (cat : Catalogue) (d : ℕ) (m : Msg) (b : Bool) (p : Pipe) → FitsMsg cat d m
-    → AreFit cat d p.unprocessed → AreFit cat d (if b then put m p else p).unprocessed
-put_fits cat d m true p h all = all_joined (FitsMsg cat d) p.unprocessed (m ∷ []) all (h, tt)
-put_fits cat d m false p h all = all
-
-rest_fits : (cat : Catalogue) (d : ℕ) (ms : List Msg) → AreFit cat d ms → AreFit cat d (tail_of ms)
-rest_fits cat d [] all = tt
-rest_fits cat d (m ∷ ms) all = all.1
-
-taken_fits : (cat : Catalogue) (d : ℕ) (b : Bool) (p : Pipe) → AreFit cat d p.unprocessed → AreFit cat d (if b then head_processed p else p).unprocessed
-taken_fits cat d true p all = rest_fits cat d p.unprocessed all
-taken_fits cat d false p all = all
-
-acted_fits : (cat : Catalogue) (d c : ℕ) (act : Act) (p : Pipe) → AreFit cat d p.unprocessed → AreFit cat d (pipe_acted c act p).unprocessed
-acted_fits cat d c (Records k r sends) p all = taken_fits cat d ((k == c) && is_processing r) p all
-acted_fits cat d c (Sends to m hand) p all = all
-
 pipe_fits : (cat : Catalogue) (d c : ℕ) (log : Log) → Each (HandFits cat d) log → AreFit cat d (pipe c log).unprocessed
 pipe_fits cat d c [] h = tt
-pipe_fits cat d c (Handed from m ∷ log) h = put_fits cat d m (goes_through c m) (pipe c log) h.0 (pipe_fits cat d c log h.1)
-pipe_fits cat d c (Did act ∷ log) h = acted_fits cat d c act (pipe c log) (pipe_fits cat d c log h.1)
-pipe_fits cat d c (_ ∷ log) h = pipe_fits cat d c log h.1
+pipe_fits cat d c (e ∷ log) h = grind (arith, all_joined, FitsMsg, goes_through, pipe, (pipe_fits cat d c log h.1))
 
 -- the changes that are applied
 
@@ -50,17 +31,12 @@ message_items : (cat : Catalogue) (d : ℕ) (m : Msg) → FitsMsg cat d m → Ar
 message_items cat d (Write ts class txn changes) h = dated_items cat ts.0 changes (recursion_from_All (IsItemChange cat) changes h.each)
 message_items cat d _ h = tt
 
-head_items : (cat : Catalogue) (d : ℕ) (ms : List Msg) → AreFit cat d ms → AreItems cat (changes_in (head_of ms))
-head_items cat d [] all = tt
-head_items cat d (m ∷ ms) all = message_items cat d m all.0
-
 more_items : (cat : Catalogue) (b : Bool) (xs ys : Dated) → AreItems cat xs → AreItems cat ys → AreItems cat (if b then xs ++ ys else xs)
-more_items cat true xs ys h k = all_joined (λ (x : ℕ × Change). IsItemChange cat x.1) xs ys h k
-more_items cat false xs ys h k = h
+more_items cat b xs ys h k = grind (arith, all_joined)
 
 act_items : (cat : Catalogue) (d c : ℕ) (act : Act) (p : Pipe) (xs : Dated) → AreFit cat d p.unprocessed
     → AreItems cat xs → AreItems cat (applied_acted c act p xs)
-act_items cat d c (Records k r sends) p xs all h = more_items cat ((k == c) && is_apply r) xs (changes_in (head p)) h (head_items cat d p.unprocessed all)
+act_items cat d c (Records k r sends) p xs all h = more_items cat ((k == c) && is_apply r) xs (changes_in (head p)) h (grind (arith, message_items))
 act_items cat d c (Sends to m hand) p xs all h = h
 
 applied_items : (cat : Catalogue) (d c : ℕ) (log : Log) → Each (HandFits cat d) log → AreItems cat (applied c log)

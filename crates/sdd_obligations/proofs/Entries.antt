@@ -1,6 +1,5 @@
 -- What copies hold are entries of a database, where the changes that make them are changes of items.
-use Rattle.sdd_obligations.proofs.All.{AllByRecursion, Catalogue, Change, Database, Dated, Decides-eqb, FitsRow, HasRow, IsChange, IsDatabase, IsEntry, IsItemChange, IsRelation, IsSoundCatalogue, Item, List, None, Option, Row, Some, [], all_joined, ap, cond, cons_option, entry_placed, eq_is, false, filter_map, first_row, flat_map, fold, fragment_at, if◌then◌else◌, int_cmp, is_eq, items_of, key_in, keys_in, latest, map, nat_lt, newer, no_database, of_fragment, recursion_from_All, refl, row_left, row_with, same_key, subst, sym, true, with_item, with_row_stays, ℕ, ℤ, ◌==◌, ◌∙◌, ◌∷◌, ◌≡◌}
-use Rattle.sdd_invariants.specs.All.{in_range}
+use Rattle.sdd_obligations.proofs.All.{AllByRecursion, Catalogue, Change, Database, Dated, IsDatabase, IsEntry, IsItemChange, IsSoundCatalogue, Item, List, None, Option, Row, Some, [], all_joined, arith, cons_option, entry_placed, eq_is, false, filter_map, first_row, flat_map, fold, fragment_at, if◌then◌else◌, int_cmp, is_eq, items_of, keys_in, latest, map, nat_lt, newer, no_database, of_fragment, recursion_from_All, refl, row_left, row_with, same_key, true, with_item, with_row_stays, ℕ, ℤ, ◌∷◌, ◌≡◌}
 
 -- each dated change is of an item
 abbrev pub AreItems : Catalogue → Dated → Type 0
@@ -19,9 +18,7 @@ IsOf cat f x = IsItemChange cat x.1 × (x.1.frag.0 ≡ f)
 
 one_of_two : (P : ℕ × Change → Type 0) (y : ℕ × Change) (o : Option (ℕ × Change)) (x : ℕ × Change) → P y
     → ((z : ℕ × Change) → o ≡ Some z → P z) → newer y o ≡ Some x → P x
-one_of_two P y None x here rest e = let p : y ≡ x = cc in subst P p here
-one_of_two P y (Some z) x here rest e =
-    elim (nat_lt y.0 z.0) as (λ b. cond b (Some z) (Some y) ≡ Some x → P x) [ true ↦ λ q. rest x q | false ↦ λ q. let p : y ≡ x = cc in subst P p here ] e
+one_of_two P y o x here rest e = grind (arith, nat_lt)
 
 latest_stands : (cat : Catalogue) (f : ℕ) (k : ℤ) (xs : Dated) → AllByRecursion (IsOf cat f) xs → (x : ℕ × Change) → latest k xs ≡ Some x → IsChangeOf cat f k x
 latest_stands cat f k [] all x e = cc
@@ -36,11 +33,7 @@ latest_stands cat f k (y ∷ ys) all x e =
 -- the changes of a fragment
 kept_of : (cat : Catalogue) (f : ℕ) (xs : Dated) → AreItems cat xs → AllByRecursion (IsOf cat f) (of_fragment f xs)
 kept_of cat f [] all = tt
-kept_of cat f (x ∷ xs) all =
-    elim (x.1.frag.0 == f) as (λ b. (x.1.frag.0 == f) ≡ b → AllByRecursion (IsOf cat f) (cond b (x ∷ of_fragment f xs) (of_fragment f xs))) [
-      | true ↦ λ e. ((all.0, (Decides-eqb x.1.frag.0 f).0 e), kept_of cat f xs all.1)
-      | false ↦ λ e. kept_of cat f xs all.1
-    ] refl
+kept_of cat f (x ∷ xs) all = grind (arith, IsOf, (kept_of cat f xs all.1))
 
 -- the row that such a change leaves, at its item
 abbrev entry_at : Catalogue → ℕ → ℤ × Row → Item × Row
@@ -48,18 +41,7 @@ entry_at cat f e = (((fragment_at cat f).rel.0, e.0), e.1)
 
 row_is_entry : (cat : Catalogue) → IsSoundCatalogue cat → (f : ℕ) (k : ℤ) (x : ℕ × Change) (row : Row)
     → IsChangeOf cat f k x → x.1.row ≡ Some row → IsEntry cat (entry_at cat f (k, row))
-row_is_entry cat sound f k x row change e =
-    let c : Change = x.1 in
-    let h : IsChange cat ((c.frag.0, c.key), c.row) = change.0 in
-    let rel : h.rel ≡ (fragment_at cat f).rel.0 =
-    sym (entry_placed cat sound h.rel c.key h.there h.held) ∙ ap (λ n. (fragment_at cat n).rel.0) (sym h.frag ∙ change.1) in
-    let has : HasRow cat h.rel c.key (Some row) = subst (HasRow cat h.rel c.key) e h.row in
-    record {
-      relation = subst (IsRelation cat) rel h.there;
-      row = subst (λ r. FitsRow cat r row) rel has.0;
-      key = sym change.2 ∙ has.1 ∙ ap (λ r. key_in cat r row) rel;
-      key_held = subst (λ n. in_range n ≡ true) change.2 h.held;
-    }
+row_is_entry cat sound f k x row change e = grind (arith, entry_placed)
 
 one_more : (cat : Catalogue) → IsSoundCatalogue cat → (f : ℕ) (k : ℤ) (o : Option (ℕ × Change))
     (rest : List (ℤ × Row)) → ((x : ℕ × Change) → o ≡ Some x → IsChangeOf cat f k x)
@@ -93,8 +75,7 @@ entries_make_one cat es all = entries_make cat [] es (no_database cat) all
 -- the rows of a database are changes of items
 entries_are_items : (cat : Catalogue) (db : Database) → AllByRecursion (IsEntry cat) db → AreItems cat (map (first_row cat) db)
 entries_are_items cat [] all = tt
-entries_are_items cat (e ∷ es) all =
-    (record { rel = e.0.0; there = all.0.relation; held = all.0.key_held; frag = refl; row = (all.0.row, all.0.key) }, entries_are_items cat es all.1)
+entries_are_items cat (e ∷ es) all = grind (arith, (entries_are_items cat es all.1))
 
 pub first_are_items : (cat : Catalogue) (db : Database) → IsDatabase cat db → AreItems cat (map (first_row cat) db)
 first_are_items cat db is = entries_are_items cat db (recursion_from_All (IsEntry cat) db is.entries)

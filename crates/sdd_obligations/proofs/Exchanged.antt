@@ -1,5 +1,5 @@
 -- What is left of a message that is next to be handed over: the laws of exchanges and of databases give it.
-use Rattle.sdd_obligations.proofs.All.{All-get_or, Attempt, AwaitsRows, Bases, Bool, Catalogue, ClassNo, D, DmNo, FitsInput, FitsRows, Hand, HasEras, Input, IsPermitted, IsRouted, IsServedAt, IsUpheldD, IsUpheldR, IsWhole, List, Log, Msg, None, Option, Row, Rows, ServedBy, Setting, Site, Some, T, TmNo, Ts, U, active, allowed_hand, arith, base_of, class_at, get_or_past, home, if◌then◌else◌, local_of, number_of, setting_of, start_of_active, subst, tm_no, without, ℕ, ◌-◌, ◌==◌, ◌∷◌, ◌≡◌, ◌≤◌}
+use Rattle.sdd_obligations.proofs.All.{All-get_or, Attempt, AwaitsRows, Bases, Bool, ClassNo, D, DmNo, FitsInput, Hand, HasEras, Input, IsPermitted, IsRouted, IsServedAt, IsUpheldD, IsUpheldR, IsWhole, List, Log, Msg, None, Option, Row, Rows, ServedBy, Site, Some, T, TmNo, Ts, U, active, allowed_hand, arith, base_of, class_at, get_or_past, home, if◌then◌else◌, local_of, number_of, setting_of, start_of_active, subst, tm_no, without, ℕ, ◌-◌, ◌==◌, ◌∷◌, ◌≡◌, ◌≤◌}
 use Rattle.sdd_obligations.proofs.Answered.{answers_are_awaited}
 use Rattle.sdd_obligations.proofs.Comes.{questions_are_servable}
 use Rattle.sdd_obligations.proofs.ReadsFit.{reads_are_readable}
@@ -9,27 +9,20 @@ use Rattle.sdd_obligations.proofs.FitsAtD.{fair_of}
 
 -- each class's site has a small number
 
-tm_small : (cat : Catalogue) (c : ℕ) → IsWhole cat → (class_at cat c).tm.0 ≤ 63
-tm_small cat c w = grind (arith, All-get_or, class_at, get_or_past)
-
 site_small : (b : Bool) (t : TmNo) → t.0 ≤ 63 → number_of (if b then U else T t) ≤ 63
 site_small b t l = grind arith
 
 few_homes : (g : Input) → IsWhole g.catalogue → (c : ℕ) → number_of (home g.catalogue c) ≤ 63
-few_homes g w c = site_small (c == 0) (tm_no (class_at g.catalogue c).tm.0) (tm_small g.catalogue c w)
+few_homes g w c = site_small (c == 0) (tm_no (class_at g.catalogue c).tm.0) (grind (arith, All-get_or, class_at, get_or_past))
 
 pub upheld_d : (g : Input) (log : Log) (a : Site) (d : DmNo) (n : ℕ) (m : Msg) → IsWhole g.catalogue → FitsInput g
     → IsPermitted g (Hand a (D d) n m ∷ log) → IsUpheldD (setting_of g (D d)) (local_of g (D d) log) a m
 upheld_d g log a d n m w good h =
     grind (arith, reads_are_readable, write_put, allowed_hand, changes_fit, questions_are_servable, few_homes)
 
-rows_fit : (s : Setting) (bases : Bases) (o : Option Attempt) (from : Site) (ts : ℕ) (rows : List (ℕ × Row)) → AwaitsRows o from ts rows
-    → ServedBy s bases o from rows → FitsRows s bases o from ts rows
-rows_fit s bases o from ts rows h k = grind arith
-
 pub upheld_r : (g : Input) (log : Log) (a b : Site) (n : ℕ) (m : Msg) (bases : Bases) → IsWhole g.catalogue
     → IsPermitted g (Hand a b n m ∷ log) → IsServedAt (setting_of g b) bases (local_of g b log) a m → IsUpheldR (setting_of g b) bases (local_of g b log) a m
-upheld_r g log a b n m bases w h k = grind (arith, answers_are_awaited, few_homes, rows_fit, active)
+upheld_r g log a b n m bases w h k = grind (arith, answers_are_awaited, few_homes, active)
 
 -- with the last ROWS the rows that came serve the database of the attempt that awaits them
 

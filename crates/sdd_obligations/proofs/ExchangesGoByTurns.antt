@@ -1,10 +1,10 @@
 -- On a permitted log the exchanges of a class with the data modules go by turns.
-use Rattle.sdd_obligations.proofs.All.{Act, AllLe, Bool, D, Did, Does, Each, Entry, Hand, Handed, Input, IsAllowed, IsDueEach, IsFair, IsPermitted, IsStage, IsStep, List, Log, MayAnswer, MayAsk, Msg, None, Option, Site, Some, T, Turn, [], agreed, answers, ap, asked_by, cond, d_fair, dm_no, drop, false, filter, flight, frozen, goes_through, hand_was_put, handed, handed_by, home, home_fair, if◌then◌else◌, inl, inr, is_answer, is_exchanging, is_question, local_of, local_step, made, maker, number_of, own_act, put_by, puts_grow, puts_to, questions, refl, same_site, sends_of_act, setting_of, site_is, site_self, subst, sym, time_of, times_in, to_site, told_by, true, turn_at, turn_with, uses_held, with_made, ℕ, ◌&&◌, ◌++◌, ◌∙◌, ◌∷◌, ◌≡◌, ◌≤◌, ◌⊎◌}
+use Rattle.sdd_obligations.proofs.All.{Act, AllLe, Bool, D, Did, Does, Each, Entry, Hand, Handed, Input, IsAllowed, IsDueEach, IsFair, IsPermitted, IsStage, IsStep, List, Log, MayAnswer, MayAsk, Msg, Option, Site, Some, Turn, [], answers, ap, arith, asked_by, cond, d_fair, dm_no, false, filter, flight, frozen, goes_through, hand_was_put, handed_by, home, home_fair, if◌then◌else◌, inl, inr, is_answer, is_exchanging, is_question, local_of, local_step, made, maker, number_of, own_act, put_by, puts_grow, questions, refl, same_site, sends_of_act, setting_of, site_is, site_self, subst, sym, time_of, times_in, to_site, told_by, true, turn_at, turn_with, uses_held, with_made, ℕ, ◌++◌, ◌∙◌, ◌∷◌, ◌≡◌, ◌≤◌}
 use Rattle.sdd_obligations.proofs.QuestionsComeInTurn.{asks_in_turn}
 use Rattle.sdd_obligations.proofs.HandedAnswersKeepTurns.{IsTimely}
 use Rattle.sdd_obligations.proofs.DataSteps.{data_step}
 use Rattle.sdd_obligations.proofs.FirstSends.{IsFirstEach, IsFirstSend}
-use Rattle.sdd_obligations.proofs.Flights.{first_in_flight, handed_did, handed_hand, is_plain, nothing_put, put_did, put_hand, questions_step, answers_step, quiet_made, silent_first, turn_at_step, turn_with_step}
+use Rattle.sdd_obligations.proofs.Flights.{first_in_flight, handed_did, handed_hand, nothing_put, put_did, put_hand, questions_step, answers_step, quiet_made, silent_first, turn_at_step, turn_with_step}
 use Rattle.sdd_obligations.proofs.RowsStayHeld.{AreHeldFor, IsHeldAt, held_act, held_hand, tells_in_turn}
 use Rattle.sdd_obligations.proofs.Sources.{home_apart, home_first, question_home}
 use Rattle.sdd_obligations.proofs.Stages.{IsMove, answer_comes, answer_got, answer_put, move_as, moved, question_comes, question_got, question_put, still}
@@ -29,8 +29,7 @@ home_act g c log act h = (
 
 data_act : (g : Input) (d : ℕ) (log : Log) (act : Act) → IsPermitted g (Does (D (dm_no d)) act ∷ log)
     → IsDueEach (setting_of g (D (dm_no d))) (data_log g d log) (Did act)
-data_act g d log act h =
-    (subst (λ l. Each (IsDueEach (setting_of g (D (dm_no d)))) l) (own_act g (D (dm_no d)) act log) (d_fair g (dm_no d) (Does (D (dm_no d)) act ∷ log) h)).0
+data_act g d log act h = grind (arith, own_act, d_fair)
 
 abbrev MoveAt : Input → ℕ → ℕ → ℕ → Entry → Log → Type 0
 MoveAt g ts c d e log =
@@ -41,9 +40,7 @@ MoveAt g ts c d e log =
 held_exchanging : (g : Input) (ts c d : ℕ) (log : Log) → IsPermitted g log → number_of (home g.catalogue c) ≤ 63 → IsSpoken g c log
     → (ns : List ℕ) → is_exchanging (turn_with ts c (home g.catalogue c) (data_log g d log)) ≡ true
     → uses_held (turn_with ts c (home g.catalogue c) (data_log g d log)) ≡ Some ns → AreHeldFor ts ns (frozen (setting_of g (D (dm_no d))) c (data_log g d log))
-held_exchanging g ts c d log h small i ns e f =
-    let a = exchanging_active g ts c d log h i e in
-    i.held ts d (subst (λ t. IsLast g t c d log) a.2 (active_last g c d log a.0 h small a.1)) ns f
+held_exchanging g ts c d log h small i ns e f = grind (arith, exchanging_active, IsLast, active_last)
 
 move_home : (g : Input) (ts c d : ℕ) (log : Log) (act : Act) → IsPermitted g (Does (home g.catalogue c) act ∷ log) → IsSpoken g c log
     → MoveAt g ts c d (Does (home g.catalogue c) act) log
@@ -61,8 +58,7 @@ move_home g ts c d log act h i =
     let ha : handed_by (D (dm_no d)) (made g at log (Does at act)) ≡ [] = handed_did (same_site at at) (D (dm_no d)) act in
     elim (asks_in_turn (setting_of g at) c (home_log g c log) act ts d s.0 s.1 (home_turns g c log h.1 i)) [
       | inl e ↦ move_as v w _ _ _ _ [] [] [] [] (ap (questions ts c) pq ∙ e) (ap (questions ts c) hq) (ap (answers ts c) pa) (ap (answers ts c) ha) still
-      | inr p ↦ move_as v w _ _ _ _ (p.0 ∷ []) [] [] [] (ap (questions ts c) pq ∙ p.1)
-          (ap (questions ts c) hq) (ap (answers ts c) pa) (ap (answers ts c) ha) (question_put p.0 p.2)
+      | inr p ↦ grind (arith, move_as, questions, answers, question_put)
     ]
 
 move_data : (g : Input) (ts c d : ℕ) (log : Log) (act : Act) → IsPermitted g (Does (D (dm_no d)) act ∷ log) → number_of (home g.catalogue c) ≤ 63
@@ -82,8 +78,7 @@ move_data g ts c d log act h small i =
     (data_step (setting_of g from) (data_log g d log) act (data_act g d log act h))
     (data_turns g ts c d log h.1 i) (held_exchanging g ts c d log h.1 small i)) [
       | inl e ↦ move_as v w _ _ _ _ [] [] [] [] (ap (questions ts c) pq) (ap (questions ts c) hq) (ap (answers ts c) pa ∙ e) (ap (answers ts c) ha) still
-      | inr p ↦ move_as v w _ _ _ _ [] [] (p.0 ∷ []) [] (ap (questions ts c) pq) (ap (questions ts c) hq)
-          (ap (answers ts c) pa ∙ p.1) (ap (answers ts c) ha) (answer_put p.0 p.2)
+      | inr p ↦ grind (arith, move_as, questions, answers, answer_put)
     ]
 
 move_act : (g : Input) (ts c d : ℕ) (log : Log) (by : Site) (act : Act) → IsPermitted g (Does by act ∷ log) → number_of (home g.catalogue c) ≤ 63
@@ -95,65 +90,20 @@ move_act g ts c d log by act h small i =
       | false ↦ λ e. elim (same_site (D (dm_no d)) by) as (λ b. same_site (D (dm_no d)) by ≡ b → MoveAt g ts c d (Does by act) log) [
         | true ↦ λ f. (let p : D (dm_no d) ≡ by = site_is (D (dm_no d)) by f in
             subst (λ x. MoveAt g ts c d (Does x act) log) p (move_data g ts c d log act (subst (λ x. IsPermitted g (Does x act ∷ log)) (sym p) h) small i))
-        | false ↦ λ f. move_as (turn_at ts c d (home_log g c log)) (turn_with ts c (home g.catalogue c) (data_log g d log)) _ _ _ _ [] [] [] []
-            (ap (questions ts c) (put_did (same_site (home g.catalogue c) by) (D (dm_no d)) act
-            ∙ ap (λ (b : Bool). if b then to_site (D (dm_no d)) (sends_of_act act) else []) e))
-            (ap (questions ts c) (handed_did (same_site (D (dm_no d)) by) (home g.catalogue c) act))
-            (ap (answers ts c) (put_did (same_site (D (dm_no d)) by) (home g.catalogue c) act
-            ∙ ap (λ (b : Bool). if b then to_site (home g.catalogue c) (sends_of_act act) else []) f))
-            (ap (answers ts c) (handed_did (same_site (home g.catalogue c) by) (D (dm_no d)) act)) still
+        | false ↦ grind (arith, move_as, turn_at, home_log, turn_with, home, data_log, questions, put_did, same_site, dm_no, to_site, sends_of_act, handed_did, answers, still)
       ] refl
     ] refl
 
 -- a hand
 
-questions_if : (ts c : ℕ) (b : Bool) (m : Msg) → (questions ts c (if b then m ∷ [] else []) ≡ []) ⊎ (questions ts c (if b then m ∷ [] else []) ≡ m ∷ [])
-questions_if ts c false m = inl refl
-questions_if ts c true m = elim (is_question ts c m) as (λ x. (cond x (m ∷ []) [] ≡ []) ⊎ (cond x (m ∷ []) [] ≡ m ∷ [])) [ true ↦ inr refl | false ↦ inl refl ]
-
-answers_if : (ts c : ℕ) (b : Bool) (m : Msg) → (answers ts c (if b then m ∷ [] else []) ≡ []) ⊎ (answers ts c (if b then m ∷ [] else []) ≡ m ∷ [])
-answers_if ts c false m = inl refl
-answers_if ts c true m = elim (is_answer ts c m) as (λ x. (cond x (m ∷ []) [] ≡ []) ⊎ (cond x (m ∷ []) [] ≡ m ∷ [])) [ true ↦ inr refl | false ↦ inl refl ]
-
 move_hand : (g : Input) (ts c d : ℕ) (log : Log) (from to : Site) (n : ℕ) (m : Msg) → MoveAt g ts c d (Hand from to n m) log
-move_hand g ts c d log from to n m =
-    let at : Site = home g.catalogue c in
-    let v : Turn = turn_at ts c d (home_log g c log) in
-    let w : Turn = turn_with ts c at (data_log g d log) in
-    let pq = ap (questions ts c) (put_hand (same_site at to) (D (dm_no d)) from m) in
-    let pa = ap (answers ts c) (put_hand (same_site (D (dm_no d)) to) at from m) in
-    let hq = ap (questions ts c) (handed_hand (same_site (D (dm_no d)) to) at from m) in
-    let ha = ap (answers ts c) (handed_hand (same_site at to) (D (dm_no d)) from m) in
-    elim (same_site at to) as (λ b. same_site at to ≡ b → MoveAt g ts c d (Hand from to n m) log) [
-      | true ↦ λ e.
-          (let other : same_site (D (dm_no d)) to ≡ false =
-          subst (λ x. same_site (D (dm_no d)) x ≡ false) (site_is at to e) (apart_from_home g.catalogue c d) in
-          let none = hq ∙ ap (λ (b : Bool). questions ts c (if b && same_site at from then m ∷ [] else [])) other in
-          elim (answers_if ts c (same_site at to && same_site (D (dm_no d)) from) m) [
-            | inl f ↦ move_as v w _ _ _ _ [] [] [] [] pq none pa (ha ∙ f) still
-            | inr f ↦ move_as v w _ _ _ _ [] [] [] (m ∷ []) pq none pa (ha ∙ f) (answer_got m)
-          ])
-      | false ↦ λ e.
-          (let none = ha ∙ ap (λ (b : Bool). answers ts c (if b && same_site (D (dm_no d)) from then m ∷ [] else [])) e in
-          elim (questions_if ts c (same_site (D (dm_no d)) to && same_site at from) m) [
-            | inl f ↦ move_as v w _ _ _ _ [] [] [] [] pq (hq ∙ f) pa none still
-            | inr f ↦ move_as v w _ _ _ _ [] (m ∷ []) [] [] pq (hq ∙ f) pa none (question_got m)
-          ])
-    ] refl
-
-move_plain : (g : Input) (ts c d : ℕ) (log : Log) (e : Entry) → is_plain e ≡ true → MoveAt g ts c d e log
-move_plain g ts c d log e p =
-    let at : Site = home g.catalogue c in
-    let q = quiet_made g at log e p (D (dm_no d)) in
-    let r = quiet_made g (D (dm_no d)) log e p at in
-    move_as (turn_at ts c d (home_log g c log)) (turn_with ts c at (data_log g d log)) _ _ _ _ [] [] [] []
-    (ap (questions ts c) q.0) (ap (questions ts c) r.1) (ap (answers ts c) r.0) (ap (answers ts c) q.1) still
+move_hand g ts c d log from to n m = grind (arith, home_log, data_log, put_hand, handed_hand, MoveAt, site_is, apart_from_home, move_as, still, answer_got, question_got)
 
 move_at : (g : Input) (ts c d : ℕ) (log : Log) (e : Entry) → IsPermitted g (e ∷ log) → number_of (home g.catalogue c) ≤ 63
     → IsSpoken g c log → MoveAt g ts c d e log
 move_at g ts c d log (Does by act) h small i = move_act g ts c d log by act h small i
 move_at g ts c d log (Hand from to n m) h small i = move_hand g ts c d log from to n m
-move_at g ts c d log e h small i = move_plain g ts c d log e refl
+move_at g ts c d log e h small i = (grind (arith, quiet_made, move_as, home_log, data_log, still))
 
 stage_step : (g : Input) (ts c d : ℕ) (log : Log) (e : Entry) → IsPermitted g (e ∷ log) → number_of (home g.catalogue c) ≤ 63
     → IsSpoken g c log → StageAt g ts c d (e ∷ log)
@@ -176,17 +126,12 @@ first_of_kind f ms m rest e p = ap (filter f) e ∙ ap (λ (b : Bool). cond b (m
 
 pub answer_in_turn : (g : Input) (c : ℕ) (log : Log) (d n : ℕ) (m : Msg) (ts : ℕ) → IsSpoken g c log
     → IsAllowed g log (Hand (D (dm_no d)) (home g.catalogue c) n m) → is_answer ts c m ≡ true → MayAnswer (turn_at ts c d (home_log g c log)) m
-answer_in_turn g c log d n m ts i h e =
-    let f = first_in_flight g log (D (dm_no d)) (home g.catalogue c) n m h in
-    answer_comes _ _ _ _ m (answers ts c f.0) (first_of_kind (is_answer ts c) (flight g (D (dm_no d)) (home g.catalogue c) log) m f.0 f.1 e) (i.stages ts d)
+answer_in_turn g c log d n m ts i h e = grind (arith, first_in_flight, answer_comes, first_of_kind)
 
 pub question_in_turn : (g : Input) (c : ℕ) (log : Log) (d n : ℕ) (m : Msg) (ts : ℕ) → IsSpoken g c log
     → IsAllowed g log (Hand (home g.catalogue c) (D (dm_no d)) n m) → is_question ts c m ≡ true
     → MayAsk (turn_with ts c (home g.catalogue c) (data_log g d log)) m
-question_in_turn g c log d n m ts i h e =
-    let f = first_in_flight g log (home g.catalogue c) (D (dm_no d)) n m h in
-    question_comes _ _ _ _ m (questions ts c f.0) (first_of_kind (is_question ts c)
-    (flight g (home g.catalogue c) (D (dm_no d)) log) m f.0 f.1 e) (i.stages ts d)
+question_in_turn g c log d n m ts i h e = grind (arith, first_in_flight, question_comes, first_of_kind)
 
 timely_made : (g : Input) (c : ℕ) (log : Log) (e : Entry) (x : site.Entry) → IsPermitted g (e ∷ log) → IsSpoken g c log
     → made g (home g.catalogue c) log e ≡ Some x → IsTimely c (home_log g c log) x
@@ -197,34 +142,24 @@ timely_made g c log e _ h i p = tt
 
 asked_made : (g : Input) (c d : ℕ) (log : Log) (e : Entry) (x : site.Entry) → IsPermitted g (e ∷ log) → IsSpoken g c log
     → made g (D (dm_no d)) log e ≡ Some x → IsAskedInTurn c (home g.catalogue c) (data_log g d log) x
-asked_made g c d log e (Handed from m) h i p = λ ts q.
-    (let k = maker g (D (dm_no d)) log e (Handed from m) p in
-    let a : IsAllowed g log (Hand from (D (dm_no d)) k.0 m) = subst (IsAllowed g log) k.1 h.0 in
-    let f : home g.catalogue c ≡ from =
-    question_home g from (D (dm_no d)) log (handed from (D (dm_no d)) log) m ts c h.1 (hand_was_put g log from (D (dm_no d)) k.0 m a).1 q in
-    (sym f, question_in_turn g c log d k.0 m ts i (subst (λ s. IsAllowed g log (Hand s (D (dm_no d)) k.0 m)) (sym f) a) q))
-asked_made g c d log e _ h i p = tt
+asked_made g c d log e x h i p = grind (arith, maker, question_home, hand_was_put, question_in_turn)
 
 each_made : (P : site.Log → site.Entry → Type 0) (o : Option site.Entry) (l : site.Log) → ((x : site.Entry) → o ≡ Some x → P l x)
     → Each P l → Each P (with_made o l)
-each_made P None l f h = h
-each_made P (Some x) l f h = (f x refl, h)
+each_made P o l f h = grind arith
 
 -- rows stay held
 
 last_if : (c ts : ℕ) (b : Bool) (m : Msg) (xs ys : List ℕ) → (AllLe ts xs → AllLe ts ys) → AllLe ts (if b then time_of m ∷ xs else xs)
     → AllLe ts (if b then time_of m ∷ ys else ys)
-last_if c ts true m xs ys f h = (h.0, f h.1)
-last_if c ts false m xs ys f h = f h
+last_if c ts b m xs ys f h = grind arith
 
 last_left : (c ts : ℕ) (ms more : List Msg) → AllLe ts (times_in c (ms ++ more)) → AllLe ts (times_in c ms)
 last_left c ts [] more h = tt
 last_left c ts (m ∷ ms) more h = last_if c ts (goes_through c m) m (times_in c (ms ++ more)) (times_in c ms) (λ k. last_left c ts ms more k) h
 
 last_before : (g : Input) (ts c d : ℕ) (e : Entry) (log : Log) → IsLast g ts c d (e ∷ log) → IsLast g ts c d log
-last_before g ts c d e log h =
-    last_left c ts (puts_to (D (dm_no d)) (home_log g c log)) (put_by (D (dm_no d)) (made g (home g.catalogue c) log e))
-    (subst (λ l. AllLe ts (times_in c l)) (puts_grow g (home g.catalogue c) (D (dm_no d)) e log) h)
+last_before g ts c d e log h = grind (arith, last_left, home_log, puts_grow)
 
 held_made : (g : Input) (ts c d : ℕ) (log : Log) (e : Entry) (o : Option site.Entry) → IsPermitted g (e ∷ log) → number_of (home g.catalogue c) ≤ 63
     → IsSpoken g c log → IsLast g ts c d log → made g (D (dm_no d)) log e ≡ o
@@ -233,25 +168,17 @@ held_made g ts c d log e (Some (Handed from m)) h small i last p =
     held_hand (setting_of g (D (dm_no d))) ts c (home g.catalogue c) (data_log g d log) from m
     (λ q. (asked_made g c d log e (Handed from m) h i p ts q).1) (i.held ts d last)
 held_made g ts c d log e (Some (Did act)) h small i last p =
-    let k : e ≡ Does (D (dm_no d)) act = maker g (D (dm_no d)) log e (Did act) p in
-    let due = data_act g d log act (subst (λ x. IsPermitted g (x ∷ log)) k h) in
+    let due = data_act g d log act (subst (λ x. IsPermitted g (x ∷ log)) (maker g (D (dm_no d)) log e (Did act) p) h) in
     held_act (setting_of g (D (dm_no d))) ts c (home g.catalogue c) (data_log g d log) act
     (home_source g c d) (data_step (setting_of g (D (dm_no d))) (data_log g d log) act due) (alone g ts c d log h.1 small i last) (i.held ts d last)
 held_made g ts c d log e _ h small i last p = i.held ts d last
 
 first_timely : (g : Input) (c : ℕ) (at : Site) → Each (IsTimely c) (local_of g at [])
-first_timely g c (T t) = (tt, tt)
-first_timely g c _ = tt
+first_timely g c at = grind arith
 
 -- on every permitted log
 pub spoken : (g : Input) (c : ℕ) (log : Log) → IsPermitted g log → number_of (home g.catalogue c) ≤ 63 → IsSpoken g c log
-spoken g c [] h small = record {
-  stages = λ ts d. agreed (silent_first g ts c d (home g.catalogue c)) (ap (λ l. questions ts c (drop 0 l))
-      (nothing_put g (home g.catalogue c) (D (dm_no d)))) refl;
-  timely_at = first_timely g c (home g.catalogue c);
-  timely_with = λ d. tt;
-  held = λ ts d l ns e. cc;
-}
+spoken g c [] h small = grind (arith, silent_first, nothing_put, first_timely)
 spoken g c (e ∷ log) h small =
     let i = spoken g c log h.1 small in
     record {

@@ -1,5 +1,5 @@
 -- The rows that came to an exchange are those that the modules hold.
-use Rattle.sdd_obligations.proofs.All.{Asking, AwaitsNoValues, Bool, ClassNo, Exchange, Fetch, Fetching, Follows, Frozen, Has, Has-append, Has-left, Has-right, KeepsOnce, List, Move, Msg, None, Over, Phase, Read, Reading, Ready, Reduce, Reduced, Reducing, Replies, Row, Rows, Ship, Shipping, Some, Space, Step, Stmt, Tells, TellsAll, Ts, Value, Values, [], after_hand, after_send, all_rows, answered, ap, contains, counted, counts_for, eqb-true, false, fetches, fetches_from, follows_hand, follows_send, goes_on, if◌then◌else◌, inl, inr, is_a_read, is_a_refusal, is_a_ship, is_answer, is_shipped, lack_modules, lacking, length, move_at, never, next_move, phase_ends, question, question_of, refl, rows_of, subst, sym, tells_all, true, true_or_false, values_in, with_use, with_values, without, ℕ, ◌&&◌, ◌++◌, ◌+◌, ◌==◌, ◌∙◌, ◌∷◌, ◌≡◌}
+use Rattle.sdd_obligations.proofs.All.{Asking, AwaitsNoValues, Bool, ClassNo, Exchange, Fetch, Fetching, Follows, Frozen, Has, Has-append, Has-left, Has-right, KeepsOnce, List, Move, Msg, None, Over, Phase, Read, Reading, Ready, Reduce, Reduced, Reducing, Replies, Row, Rows, Ship, Shipping, Some, Space, Step, Stmt, Tells, TellsAll, Ts, Value, Values, [], after_hand, after_send, all_rows, answered, ap, arith, contains, counted, counts_for, eqb-true, false, fetches, fetches_from, follows_hand, follows_send, goes_on, if◌then◌else◌, inl, inr, is_a_read, is_a_refusal, is_a_ship, is_answer, is_shipped, lack_modules, lacking, length, move_at, never, next_move, phase_ends, question, question_of, refl, rows_of, subst, sym, tells_all, true, true_or_false, values_in, with_use, with_values, without, ℕ, ◌&&◌, ◌++◌, ◌+◌, ◌==◌, ◌∙◌, ◌∷◌, ◌≡◌}
 use Rattle.sdd_obligations.proofs.AtTurn.{awaits}
 use Rattle.sdd_obligations.proofs.Modules.{firsts, without_other}
 
@@ -21,19 +21,11 @@ not_shipping _ q a e = refl
 
 pub shipping_is : (p : Phase) (q : Msg) → awaits p q ≡ true → is_a_ship q ≡ true → p ≡ Shipping
 shipping_is Shipping q a e = refl
-shipping_is Reading (Ship t k) a e = cc
-shipping_is (Fetching v) (Ship t k) a e = cc
-shipping_is (Reducing v) (Ship t k) a e = cc
-shipping_is Over q a e = cc
-shipping_is p q a e = cc
+shipping_is p q a e = grind arith
 
 fetching_is : (p : Phase) (q : Msg) → awaits p q ≡ true → is_a_fetch q ≡ true → (v : Move) × (p ≡ Fetching v)
 fetching_is (Fetching v) q a e = (v, refl)
-fetching_is Reading (Fetch t k u col) a e = cc
-fetching_is (Reducing v) (Fetch t k u col) a e = cc
-fetching_is Shipping (Fetch t k u col) a e = cc
-fetching_is Over q a e = cc
-fetching_is p q a e = cc
+fetching_is p q a e = grind arith
 
 -- the exchange that a phase's end makes: where rows are shipped now, those of all modules lack
 abbrev ShipsAll : Exchange → Type 0
@@ -60,9 +52,7 @@ next_ships ts c x (q ∷ rest) done =
 
 end_ships : (ts c : ℕ) (x : Exchange) (p : Phase) → x.phase ≡ p → is_shipped p ≡ false → ShipsAll (phase_ends ts c x p)
 end_ships ts c x (Fetching m) e f = λ s. cc
-end_ships ts c x Shipping e f = cc
-end_ships ts c x Over e f = cc
-end_ships ts c x _ e f = next_ships ts c x x.left x.done
+end_ships ts c x p e f = grind (arith, next_ships)
 
 lack_ships : (ts c : ℕ) (x : Exchange) (ds : List ℕ) → is_shipped x.phase ≡ false → ShipsAll (lacking ts c x ds)
 lack_ships ts c x [] f = end_ships ts c (record x { lacks = [] }) x.phase refl f

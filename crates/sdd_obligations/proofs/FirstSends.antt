@@ -1,6 +1,6 @@
 -- A FETCH, REDUCE or SHIP that a site sends is the first message that the active attempt of its class has still to send;
 -- and records are of classes of the catalogue.
-use Rattle.sdd_obligations.proofs.All.{Act, Attempt, Bases, Bool, D, Did, Held, Hold, List, Msg, None, Option, Queued, Records, Release, Sends, Setting, Site, Some, Ticking, Ts, U, [], active, ap, arith, asks_next, asks_rows, asks_whose, attempt_due, class_at, commit_act, dm_no, first_send, head_of, if◌then◌else◌, in_filtered, in_mapped, in_range, is_over, length, not, or_else, queue, refl, slice_get, start_act, subst, sym, true, ℕ, ◌&&◌, ◌==◌, ◌∷◌, ◌≡◌, ◌≤◌}
+use Rattle.sdd_obligations.proofs.All.{Act, Attempt, Bases, Bool, D, Did, Held, List, Msg, None, Option, Queued, Records, Release, Sends, Setting, Site, Some, Ticking, Ts, U, [], active, ap, arith, asks_next, asks_rows, asks_whose, class_at, commit_act, dm_no, first_send, head_of, if◌then◌else◌, in_filtered, in_mapped, in_range, is_over, length, or_else, refl, slice_get, start_act, subst, true, ℕ, ◌∷◌, ◌≡◌, ◌≤◌}
 use Rattle.sdd_invariants.specs.site_module.SiteLog.{Entry, Log}
 use Rattle.sdd_invariants.specs.tm.Due as tm
 use Rattle.sdd_invariants.specs.tm.Views as tm_views
@@ -53,10 +53,6 @@ send_first : (s : Setting) (log : Log) (bases : Bases) (c : ℕ) (a : Attempt) (
 send_first s log bases c a [] act l i p e = over_first s log bases c a (is_over a.exchange.phase) act l e
 send_first s log bases c a (m ∷ rest) act l i p e = send_is s log (Sends (D (dm_no m.0)) m.1 None) act (first_of s log c a m rest l i p) e
 
-attempt_first : (s : Setting) (log : Log) (bases : Bases) (c : ℕ) (o : Option Attempt) (act : Act) → c ≤ length s.catalogue.classes
-    → active s c log ≡ o → attempt_due s.catalogue bases c o ≡ Some act → IsFirstSend s log act
-attempt_first s log bases c o act l i e = grind (arith, send_first)
-
 null_first : (s : Setting) (log : Log) (q : tm_views.Question) (b : Bool) (o : Option ℕ) (act : Act)
     → (if b then tm.null_at q o else None) ≡ Some act → IsFirstSend s log act
 null_first s log q b o act e = grind (arith, send_is)
@@ -74,15 +70,7 @@ run_here : (s : Setting) (k c : ℕ) → slice_get (tm_views.runs s) k ≡ Some 
 run_here s k c e = grind (arith, in_filtered, class_at, in_range)
 
 pub t_first : (s : Setting) (bases : Bases) (log : Log) (act : Act) → tm.IsDue s.catalogue bases (tm_views.view_of s log) act → IsFirstSend s log act
-t_first s bases log act (tm.by_exchange k c p e) =
-    let r = in_mapped (tm_views.class_view s log) (tm_views.runs s) k c p in
-    attempt_first s log bases r.0 (active s r.0 log) act (run_here s k r.0 r.1) refl (subst (λ v. tm.exchange_due s.catalogue bases v ≡ Some act) (sym r.2) e)
-t_first s bases log act (tm.by_ask k n c q p r e) = null_first s log q (q.class == c.class) _ act e
-t_first s bases log act (tm.by_hold e) = held_first s log _ _ _ act e
-t_first s bases log act (tm.by_start k c p e) =
-    let r = in_mapped (tm_views.class_view s log) (tm_views.runs s) k c p in
-    let l : c.class ≤ length s.catalogue.classes = subst (λ (v : tm_views.ClassView). v.class ≤ length s.catalogue.classes) r.2 (run_here s k r.0 r.1) in
-    start_first s log (not (tm_views.on_hold (tm_views.view_of s log)) && tm_views.is_idle c) (tm_views.view_of s log) c.class (head_of c.queue) act l e
+t_first s bases log act h5 = grind (arith, in_mapped, send_first, run_here, null_first, held_first, start_first)
 
 release_first : (s : Setting) (log : Log) (b : Bool) (to : Site) (ts : Ts) (act : Act)
     → (if b then Some (Sends to (Release ts) None) else None) ≡ Some act → IsFirstSend s log act
@@ -92,14 +80,8 @@ u_start_if : (s : Setting) (log : Log) (b : Bool) (clock_at : Ticking) (q : Queu
     → (if b then Some (start_act s.catalogue [] 0 clock_at q) else None) ≡ Some act → IsFirstSend s log act
 u_start_if s log b clock_at q act e = grind (arith, send_is)
 
-u_start_first : (s : Setting) (log : Log) (v : um_views.View) (o : Option Queued) (act : Act) → um.start_of s.catalogue v o ≡ Some act → IsFirstSend s log act
-u_start_first s log v o act e = grind (arith, u_start_if)
-
-hold_if : (s : Setting) (log : Log) (b : Bool) (to : Site) (act : Act) → (if b then Some (Sends to Hold None) else None) ≡ Some act → IsFirstSend s log act
-hold_if s log b to act e = grind (arith, send_is)
-
 hold_first : (s : Setting) (log : Log) (k : um_views.TmCounts) (o : Option Queued) (act : Act) → um.hold_to k o ≡ Some act → IsFirstSend s log act
-hold_first s log k o act e = grind (arith, hold_if)
+hold_first s log k o act e = grind (arith, send_is)
 
 pub u_first : (s : Setting) (bases : Bases) (log : Log) (act : Act) → um.IsDue s.catalogue bases (um_views.view_of s log) act → IsFirstSend s log act
-u_first s bases log act e = grind (arith, attempt_first, active, release_first, u_start_first, hold_first)
+u_first s bases log act e = grind (arith, send_first, active, release_first, u_start_if, hold_first)

@@ -1,17 +1,12 @@
 -- What is next to be handed to a data module fits there.
-use Rattle.sdd_obligations.proofs.All.{Bases, D, DmNo, Done, Each, Fetch, Hand, Held, Input, IsFair, IsLawful, IsPermitted, IsRunner, IsSmall, IsUpheldD, Log, Msg, Null, Read, Reduce, Ship, Site, Some, T, U, Write, fits, handed, local_of, next, refl, setting_of, t_fair, u_fair, ℕ, ◌≡◌}
+use Rattle.sdd_obligations.proofs.All.{Bases, D, DmNo, Each, Hand, Input, IsFair, IsLawful, IsPermitted, IsRunner, IsSmall, IsUpheldD, Log, Msg, Null, Read, Site, Some, Write, arith, fits, handed, local_of, next, refl, setting_of, t_fair, u_fair, ℕ, ◌≡◌}
 use Rattle.sdd_obligations.proofs.Conditions.{conds_fit, late, read_within}
 use Rattle.sdd_obligations.proofs.Fresh.{is_above, is_fresh}
 use Rattle.sdd_obligations.proofs.Handing.{IsHanded}
 use Rattle.sdd_obligations.proofs.Piping.{pipe_fits}
 
 pub fair_of : (g : Input) (a : Site) (log : Log) → IsPermitted g log → IsRunner a → Each (IsFair (setting_of g a)) (local_of g a log)
-fair_of g U log h r = u_fair g log h
-fair_of g (T t) log h r = t_fair g t log h
-fair_of g (D d) log h r = absurd r
-
-no_u : {A : Type 0} (d : DmNo) → D d ≡ U → A
-no_u d e = cc
+fair_of g a log h r = grind (arith, u_fair, t_fair)
 
 pub d_fits : (g : Input) (log : Log) (a : Site) (d : DmNo) (n : ℕ) (m : Msg) (bases : Bases) → IsSmall g → IsLawful g log
     → next g log ≡ Some (Hand a (D d) n m) → IsHanded g log a (D d) n m
@@ -34,9 +29,4 @@ d_fits g log a d n (Write ts class txn changes) bases s l e h u = record {
 }
 d_fits g log a d n (Null class time) bases s l e h u =
     pipe_fits g d log a n (Null class time) class.0 time.0 h (h.from_small h.route.0) refl (late time.0 h.times.0)
-d_fits g log a d n (Fetch ts class k col) bases s l e h u = u
-d_fits g log a d n (Reduce ts class k col values) bases s l e h u = u
-d_fits g log a d n (Ship ts class) bases s l e h u = u
-d_fits g log a d n (Held time) bases s l e h u = no_u d h.route.1
-d_fits g log a d n (Done ts) bases s l e h u = no_u d h.route.1
-d_fits g log a d n _ bases s l e h u = absurd h.route.1
+d_fits g log a d n m bases s l e h u = grind (arith)

@@ -1,5 +1,5 @@
 -- What is next to be handed to a transaction module, or to U, fits there.
-use Rattle.sdd_obligations.proofs.All.{AnswersRead, Ask, Bases, ClassNo, D, DmNo, Done, Held, Hold, Input, IsD, IsSmall, IsT, IsUpheldR, IsWhole, Log, Msg, Ready, Reduced, Reject, Release, Rows, Site, T, TmNo, Ts, U, Values, arith, handed, is_verdict, local_of, number_of, own_started as own, setting_of, subst, true, ℕ, ◌-◌, ◌≡◌, ◌≤◌}
+use Rattle.sdd_obligations.proofs.All.{AnswersRead, Ask, Bases, ClassNo, D, DmNo, Done, Held, Input, IsD, IsSmall, IsT, IsUpheldR, IsWhole, Log, Msg, Ready, Reduced, Reject, Release, Rows, Site, T, TmNo, Ts, U, Values, arith, handed, is_verdict, local_of, number_of, own_started as own, setting_of, subst, true, ℕ, ◌-◌, ◌≡◌, ◌≤◌}
 use Rattle.sdd_obligations.proofs.OfNext.{d_of_sites, t_of_sites}
 use Rattle.sdd_obligations.proofs.Answering.{answers_read}
 use Rattle.sdd_obligations.proofs.AsksFit.{asked_class, asks_not_u}
@@ -19,26 +19,12 @@ answers_at g log d b n ts c m h small e =
     let at = verdict_home g d log (handed (D d) b log) m b ts c h.permitted.1 h.place e in
     answers_read g d log ts c m b h.permitted.1 at (subst (λ x. number_of x ≤ 63) at small) h.place e
 
-tm_small : (g : Input) (log : Log) (a : Site) (t : TmNo) (n : ℕ) (m : Msg) → IsSmall g → IsHanded g log a (T t) n m → number_of (T t) ≤ 63
-tm_small g log a t n m s h = let r = t_of_sites g.catalogue.tms g.catalogue.dms t h.to_there in let k = s.few_tms in omega (arith, r.1, k)
-
-t_is_u : {A : Type 0} (t : TmNo) → T t ≡ U → A
-t_is_u t e = cc
-
 -- at a T
 
 t_ready : (g : Input) (log : Log) (a : Site) (t : TmNo) (n ts c : ℕ) (m : Msg) → IsSmall g → IsHanded g log a (T t) n m → IsD a → is_verdict ts c m ≡ true
     → AnswersRead (local_of g (T t) log) a ts c
-t_ready g log (D d) t n ts c m s h r e = answers_at g log d (T t) n ts c m h (tm_small g log (D d) t n m s h) e
+t_ready g log (D d) t n ts c m s h r e = answers_at g log d (T t) n ts c m h (let r = t_of_sites g.catalogue.tms g.catalogue.dms t h.to_there in let k = s.few_tms in omega (arith, r.1, k)) e
 t_ready g log _ t n ts c m s h r e = absurd r
-
-t_ask : (g : Input) (log : Log) (a : Site) (t : TmNo) (n : ℕ) (k : ClassNo) (time : Ts) → IsHanded g log a (T t) n (Ask k time) → IsD a
-    → tm.FitsAsk (setting_of g (T t)) k.0 time.0
-t_ask g log a t n k time h r = grind (arith, asked_class, handed, late)
-
-t_hold : (g : Input) (log : Log) (a : Site) (t : TmNo) (n : ℕ) → IsHanded g log a (T t) n Hold → a ≡ U
-    → tm.FitsHold (setting_of g (T t)) (local_of g (T t) log) a
-t_hold g log a t n h e = grind (arith, t_of_sites, hold_fits)
 
 t_release : (g : Input) (log : Log) (a : Site) (t : TmNo) (n : ℕ) (ts : Ts) → IsHanded g log a (T t) n (Release ts) → a ≡ U
     → tm.FitsRelease (setting_of g (T t)) (local_of g (T t) log) a ts.0
@@ -50,15 +36,7 @@ t_fits g log a t n (Ready ts class counts) bases s h u =
     record { answers = t_ready g log a t n ts.0 class.0 (Ready ts class counts) s h h.route.0 (own ts.0 class.0); counts_are = u }
 t_fits g log a t n (Reject ts class by write) bases s h u =
     record { answers = t_ready g log a t n ts.0 class.0 (Reject ts class by write) s h h.route.0 (own ts.0 class.0); early = late write.0 h.times.0 }
-t_fits g log a t n (Values ts class k values) bases s h u = u
-t_fits g log a t n (Reduced ts class k c) bases s h u = u
-t_fits g log a t n (Rows ts class rows) bases s h u = u
-t_fits g log a t n (Ask class time) bases s h u = t_ask g log a t n class time h h.route.0
-t_fits g log a t n Hold bases s h u = t_hold g log a t n h h.route.0
-t_fits g log a t n (Release ts) bases s h u = t_release g log a t n ts h h.route.0
-t_fits g log a t n (Held time) bases s h u = t_is_u t h.route.1
-t_fits g log a t n (Done ts) bases s h u = t_is_u t h.route.1
-t_fits g log a t n _ bases s h u = absurd h.route.1
+t_fits g log a t n m bases s h u = grind (arith, asked_class, handed, late, t_of_sites, hold_fits, t_release)
 
 -- at U
 

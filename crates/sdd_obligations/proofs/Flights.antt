@@ -1,10 +1,9 @@
 -- What is put on a link and not handed over yet, and how an entry changes it; and what an entry adds to the turns.
-use Rattle.sdd_obligations.proofs.All.{Act, Bool, D, Did, Does, Entry, Era, Hand, Handed, Input, IsAllowed, IsPermitted, List, Log, Mark, Msg, None, Option, Redeclares, Silent, Site, Some, Submitted, T, Tick, Ticked, Txn, U, [], answers, ap, append_assoc, asked_by, dm_no, drop, false, filter-append, flight, given_to, hand_was_put, handed, handed_by, hands_from, hands_grow, if◌then◌else◌, in_order, is_answer, is_question, local_of, local_step, made, nth_era, put_by, puts_grow, puts_to, questions, redeclared_entry, redeclares, refl, same_site, sends_of_act, slice_get, suc, sym, take-append-drop, to_site, told_by, true, turn_at, turn_with, txn_at, with_made, zero, ℕ, ◌&&◌, ◌++◌, ◌∙◌, ◌∷◌, ◌≡◌}
+use Rattle.sdd_obligations.proofs.All.{Act, Bool, D, Did, Does, Entry, Hand, Handed, Input, IsAllowed, IsPermitted, List, Log, Msg, None, Option, Silent, Site, Some, [], answers, ap, append_assoc, arith, asked_by, dm_no, drop, false, filter-append, flight, hand_was_put, handed_by, hands_from, hands_grow, if◌then◌else◌, in_order, is_answer, is_question, local_of, local_step, made, put_by, puts_grow, puts_to, questions, same_site, sends_of_act, slice_get, suc, sym, take-append-drop, to_site, told_by, true, turn_at, turn_with, with_made, zero, ℕ, ◌&&◌, ◌++◌, ◌∙◌, ◌∷◌, ◌≡◌}
 use Rattle.sdd_invariants.specs.site_module.SiteLog as site
 
 flight_splits : (g : Input) (a b : Site) (log : Log) → IsPermitted g log → puts_to b (local_of g a log) ≡ hands_from a (local_of g b log) ++ flight g a b log
-flight_splits g a b log h =
-    sym (take-append-drop (handed a b log) (puts_to b (local_of g a log))) ∙ ap (λ l. l ++ flight g a b log) (sym (in_order g log a b h))
+flight_splits g a b log h = grind (arith, take-append-drop, in_order)
 
 cancel : (xs ys zs : List Msg) → xs ++ ys ≡ xs ++ zs → ys ≡ zs
 cancel [] ys zs e = e
@@ -44,27 +43,19 @@ drop_at (x ∷ ms) (suc n) m e = drop_at ms n m e
 
 pub first_in_flight : (g : Input) (log : Log) (a b : Site) (n : ℕ) (m : Msg) → IsAllowed g log (Hand a b n m)
     → (rest : List Msg) × (flight g a b log ≡ m ∷ rest)
-first_in_flight g log a b n m h =
-    (drop (suc (handed a b log)) (puts_to b (local_of g a log)), drop_at (puts_to b (local_of g a log)) (handed a b log) m (hand_was_put g log a b n m h).1)
+first_in_flight g log a b n m h = grind (arith, drop_at, hand_was_put)
 
 -- the turns after an entry
-
-at_made : (ts c d : ℕ) (o : Option site.Entry) (l : site.Log)
-    → turn_at ts c d (with_made o l) ≡ told_by (answers ts c (handed_by (D (dm_no d)) o))
-    (asked_by (questions ts c (put_by (D (dm_no d)) o)) (turn_at ts c d l))
-at_made ts c d None l = refl
-at_made ts c d (Some x) l = refl
 
 pub turn_at_step : (g : Input) (ts c d : ℕ) (at : Site) (e : Entry) (log : Log)
     → turn_at ts c d (local_of g at (e ∷ log)) ≡ told_by
     (answers ts c (handed_by (D (dm_no d)) (made g at log e)))
     (asked_by (questions ts c (put_by (D (dm_no d)) (made g at log e))) (turn_at ts c d (local_of g at log)))
-turn_at_step g ts c d at e log = ap (turn_at ts c d) (local_step g at e log) ∙ at_made ts c d (made g at log e) (local_of g at log)
+turn_at_step g ts c d at e log = ap (turn_at ts c d) (local_step g at e log) ∙ (grind arith)
 
 with_made_turn : (ts c : ℕ) (at : Site) (o : Option site.Entry) (l : site.Log)
     → turn_with ts c at (with_made o l) ≡ told_by (answers ts c (put_by at o)) (asked_by (questions ts c (handed_by at o)) (turn_with ts c at l))
-with_made_turn ts c at None l = refl
-with_made_turn ts c at (Some x) l = refl
+with_made_turn ts c at o l = grind arith
 
 pub turn_with_step : (g : Input) (ts c : ℕ) (at b : Site) (e : Entry) (log : Log)
     → turn_with ts c at (local_of g b (e ∷ log)) ≡ told_by (answers ts c (put_by at (made g b log e)))
@@ -72,12 +63,10 @@ pub turn_with_step : (g : Input) (ts c : ℕ) (at b : Site) (e : Entry) (log : L
 turn_with_step g ts c at b e log = ap (turn_with ts c at) (local_step g b e log) ∙ with_made_turn ts c at (made g b log e) (local_of g b log)
 
 pub silent_first : (g : Input) (ts c d : ℕ) (at : Site) → turn_at ts c d (local_of g at []) ≡ Silent
-silent_first g ts c d U = refl
-silent_first g ts c d _ = refl
+silent_first g ts c d at = grind arith
 
 pub nothing_put : (g : Input) (at b : Site) → puts_to b (local_of g at []) ≡ []
-nothing_put g U b = refl
-nothing_put g _ b = refl
+nothing_put g at b = grind arith
 
 -- entries that put nothing and hand nothing over
 
@@ -89,41 +78,20 @@ is_plain _ = true
 abbrev IsQuietMade : Option site.Entry → Type 0
 IsQuietMade o = (b : Site) → (put_by b o ≡ []) × (handed_by b o ≡ [])
 
-quiet_if : (b : Bool) (o : Option site.Entry) → IsQuietMade o → IsQuietMade (if b then o else None)
-quiet_if true o h = h
-quiet_if false o h = λ b. (refl, refl)
-
-quiet_given : (n : ℕ) (o : Option Txn) → IsQuietMade (given_to n o)
-quiet_given n None b = (refl, refl)
-quiet_given n (Some t) b = (refl, refl)
-
-quiet_redeclared : (at : Site) (era : Era) (t : ℕ) → IsQuietMade (redeclared_entry at era t)
-quiet_redeclared U era t b = (refl, refl)
-quiet_redeclared _ era t b = (refl, refl)
-
 pub quiet_made : (g : Input) (at : Site) (log : Log) (e : Entry) → is_plain e ≡ true → (b : Site)
     → (put_by b (made g at log e) ≡ []) × (handed_by b (made g at log e) ≡ [])
-quiet_made g at log (Mark (Tick t n)) p = quiet_if (same_site at (T t)) (Some (Ticked n)) (λ b. (refl, refl))
-quiet_made g at log (Redeclares t) p = quiet_redeclared at (nth_era g (suc (redeclares log))) t
-quiet_made g at log (Submitted s n) p = quiet_if (same_site at s) (given_to n (txn_at g n)) (quiet_given n (txn_at g n))
-quiet_made g at log (Hand from to n m) p = cc
-quiet_made g at log (Does by act) p = cc
-quiet_made g at log _ p = λ b. (refl, refl)
+quiet_made g at log e p = grind (arith)
 
 -- what an act puts, and what a hand hands over
 
 pub put_did : (x : Bool) (b : Site) (act : Act) → put_by b (if x then Some (Did act) else None) ≡ (if x then to_site b (sends_of_act act) else [])
-put_did true b act = refl
-put_did false b act = refl
+put_did x b act = grind arith
 
 pub handed_did : (x : Bool) (b : Site) (act : Act) → handed_by b (if x then Some (Did act) else None) ≡ []
-handed_did true b act = refl
-handed_did false b act = refl
+handed_did x b act = grind arith
 
 pub put_hand : (x : Bool) (b from : Site) (m : Msg) → put_by b (if x then Some (Handed from m) else None) ≡ []
-put_hand true b from m = refl
-put_hand false b from m = refl
+put_hand x b from m = grind arith
 
 pub handed_hand : (x : Bool) (b from : Site) (m : Msg) → handed_by b (if x then Some (Handed from m) else None) ≡ (if x && same_site b from then m ∷ [] else [])
-handed_hand true b from m = refl
-handed_hand false b from m = refl
+handed_hand x b from m = grind arith

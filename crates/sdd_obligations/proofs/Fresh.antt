@@ -1,5 +1,5 @@
 -- No WRITE that was handed to a data module has the timestamp of the one that is next.
-use Rattle.sdd_obligations.proofs.All.{Act, Bool, Change, ClassNo, D, Did, DmNo, Does, Hand, Handed, Input, IsApplyOf, IsLawful, IsNumbered, IsPermitted, IsRunner, IsSmall, List, Log, Msg, Queued, Records, Sends, Setting, Site, Some, T, TmNo, Ts, TxnNo, U, Write, [], all_of, all_there, ap, append_assoc, arith, at_seam, class_puts, clock, commit_act, contains, eqb-true, false, goes_through, home, home_fair, if◌then◌else◌, in_left, in_pipe, inl, inr, length, local_grows, local_of, next_stamp, number_of, one_of_key, only_right, origin, permitted_before, pipe, pipe_at, place_within, refl, same_number, setting_of, sites, slice_get, start_at, start_of_active, subst, sym, tm_no, true, true_or_false, with_time, write_at, write_origin, write_time_of, write_times, writes_strict, ℕ, ◌*◌, ◌++◌, ◌+◌, ◌<◌, ◌==◌, ◌∙◌, ◌∷◌, ◌≡◌, ◌≤◌}
+use Rattle.sdd_obligations.proofs.All.{Act, Change, ClassNo, D, Did, DmNo, Does, Hand, Handed, Input, IsApplyOf, IsLawful, IsNumbered, IsPermitted, IsRunner, IsSmall, List, Log, Msg, Queued, Records, Sends, Setting, Site, Some, T, Ts, TxnNo, U, Write, [], all_of, all_there, ap, append_assoc, arith, at_seam, class_puts, clock, commit_act, contains, eqb-true, false, goes_through, home, home_fair, in_left, in_pipe, inl, inr, length, local_grows, local_of, next_stamp, number_of, one_of_key, only_right, origin, permitted_before, pipe, pipe_at, place_within, refl, same_number, setting_of, sites, slice_get, start_at, start_of_active, subst, sym, true, true_or_false, with_time, write_at, write_origin, write_time_of, write_times, writes_strict, ℕ, ◌*◌, ◌++◌, ◌+◌, ◌<◌, ◌==◌, ◌∙◌, ◌∷◌, ◌≡◌, ◌≤◌}
 use Rattle.sdd_obligations.proofs.OfNext.{IsThere, of_next, t_of_sites}
 use Rattle.sdd_obligations.proofs.Piping.{pipe_with}
 use Rattle.sdd_obligations.proofs.Stamped.{same_start, stamp_ticks}
@@ -57,24 +57,12 @@ of_network g (T t) s r k =
     record { numbered = i.0; small = omega (arith, i.1, m); runs = tt }
 of_network g (D d) s r k = absurd r
 
-home_runs : (b : Bool) (t : TmNo) → IsRunner (if b then U else T t)
-home_runs b t = grind arith
-
 act_of_network : (g : Input) (log : Log) (d : DmNo) (c n t : ℕ) → IsSmall g → IsLawful g log → IsApplyOf g log d c n t → IsOfNetwork (home g.catalogue c)
 act_of_network g log d c n t s l a =
     let at : Site = home g.catalogue c in
     let act : Act = commit_act g.catalogue a.bases c a.attempt in
     let p = lawful_part g a.later (Does at act ∷ a.before) (subst (IsLawful g) a.is l) in
-    of_network g at s (home_runs (c == 0) _) (of_next g a.before (Does at act) s.few_ticks p.1 p.0).0
-
--- two sites with the same number are the same
-same_numbers : (a b : Site) → IsOfNetwork a → IsOfNetwork b → number_of a ≡ number_of b → a ≡ b
-same_numbers U U i j e = refl
-same_numbers U (T t) i j e = (let n = j.numbered in absurd (omega (arith, e, n)))
-same_numbers (T t) U i j e = (let n = i.numbered in absurd (omega (arith, e, n)))
-same_numbers (T a) (T b) i j e = ap (λ n. T (tm_no n)) e
-same_numbers (D d) b i j e = absurd i.runs
-same_numbers _ (D d) i j e = absurd j.runs
+    of_network g at s (grind arith) (of_next g a.before (Does at act) s.few_ticks p.1 p.0).0
 
 numbers_by : (x y n m t : ℕ) → t ≡ (x + 1) * 64 + n → t ≡ (y + 1) * 64 + m → n ≤ 63 → m ≤ 63 → n ≡ m
 numbers_by x y n m t e f a b = omega (arith, e, f, a, b)
@@ -95,9 +83,7 @@ same_class g c k t log i j v w =
     let a = number_is g c t log v in
     let b = number_is g k t log w in
     let at : home g.catalogue c ≡ home g.catalogue k =
-    same_numbers (home g.catalogue c) (home g.catalogue k) i j
-    (numbers_by a.0 b.0 (number_of (home g.catalogue c)) (number_of (home g.catalogue k)) t a.1 b.1
-    i.small j.small) in
+    (grind arith) in
     let u : WasStarted (setting_of g (home g.catalogue k)) c t (local_of g (home g.catalogue k) log) =
     subst (λ x. WasStarted (setting_of g x) c t (local_of g x log)) at v in
     let same = same_start (setting_of g (home g.catalogue k)) c k u.later w.later u.before w.before u.queued
@@ -145,14 +131,10 @@ has_write (x ∷ l) t e = more_write x l t (has_write l t e)
 
 -- it is in its pipe
 
-in_more : (b : Bool) (xs : List Msg) (x m : Msg) (k : ℕ) → slice_get xs k ≡ Some m → slice_get (if b then xs ++ x ∷ [] else xs) k ≡ Some m
-in_more true xs x m k e = in_left xs (x ∷ []) k m e
-in_more false xs x m k e = e
-
 in_handed : (c : ℕ) (later : site.Log) (from : Site) (m : Msg) (before : site.Log) → goes_through c m ≡ true
     → (k : ℕ) × (slice_get (all_handed c (later ++ Handed from m ∷ before)) k ≡ Some m)
 in_handed c [] from m before e = (length (all_handed c before), rw e (at_seam (all_handed c before) [] m))
-in_handed c (Handed a x ∷ later) from m before e = grind (arith, in_more, all_handed, in_handed c later from m before e)
+in_handed c (Handed a x ∷ later) from m before e = grind (arith, in_left, all_handed, in_handed c later from m before e)
 in_handed c (_ ∷ later) from m before e = in_handed c later from m before e
 
 in_its_pipe : (c : ℕ) (l later : site.Log) (from : Site) (m : Msg) (before : site.Log) → l ≡ later ++ Handed from m ∷ before
@@ -160,9 +142,6 @@ in_its_pipe : (c : ℕ) (l later : site.Log) (from : Site) (m : Msg) (before : s
 in_its_pipe c l later from m before e f =
     let i = in_handed c later from m before f in
     (i.0, subst (λ xs. slice_get xs i.0 ≡ Some m) (sym (all_there c l ∙ ap (all_handed c) e)) i.1)
-
-write_key : (c t : ℕ) (ts : Ts) (k : ClassNo) (txn : TxnNo) (xs : List Change) → k.0 ≡ c → ts.0 ≡ t → write_at c (Write ts k txn xs) ≡ Some t
-write_key c t ts k txn xs e f = let q : (k.0 == c) ≡ true = subst (λ x. (k.0 == x) ≡ true) e (same_number k.0) in rw q (ap (λ y. Some y) f)
 
 not_twice : (g : Input) (log : Log) (a : Site) (n : ℕ) (d : DmNo) (ts : Ts) (k : ClassNo) (txn : TxnNo) (xs : List Change) → IsSmall g
     → IsLawful g (Hand a (D d) n (Write ts k txn xs) ∷ log) → IsPermitted g (Hand a (D d) n (Write ts k txn xs) ∷ log)
@@ -191,15 +170,14 @@ not_twice g log a n d ts k txn xs s l h w =
     let at_c = act_of_network g now d c txn.0 ts.0 s l new in
     let at_j = act_of_network g log d j w.txn.0 w.ts.0 s l.1 was in
     let same : c ≡ j = same_class g c j ts.0 now at_c at_j mine
-    (subst (λ t. WasStarted (setting_of g (home g.catalogue j)) j t (local_of g (home g.catalogue j) now))
-    w.ts_is first) in
+    (grind (arith, WasStarted, setting_of, home, local_of)) in
     let q : slice_get (all_of (pipe_at g c d log)) p.0 ≡ Some old = subst (λ y. slice_get (all_of (pipe_at g y d log)) p.0 ≡ Some old) (sym same) p.1 in
     let before : slice_get (class_puts g c d now) p.0 ≡ Some old =
     subst (λ y. slice_get y p.0 ≡ Some old) (sym is)
     (in_left (all_of (pipe_at g c d log) ++ m ∷ []) i.0 p.0 old (in_left (all_of (pipe_at g c d log)) (m ∷ []) p.0 old q)) in
     let one = one_of_key (write_at c) (class_puts g c d now) p.0 (length (all_of (pipe_at g c d log))) old m
-    ts.0 (writes_strict g c d now h at_c.small) before place (write_key c ts.0 w.ts w.class w.txn w.changes (sym same) w.ts_is)
-    (write_key c ts.0 ts k txn xs refl refl) in
+    ts.0 (writes_strict g c d now h at_c.small) before place (let q : (w.class.0 == c) ≡ true = subst (λ x. (w.class.0 == x) ≡ true) (sym same) (same_number w.class.0) in rw q (ap (λ y. Some y) w.ts_is))
+    (let q : (k.0 == c) ≡ true = subst (λ x. (k.0 == x) ≡ true) refl (same_number k.0) in rw q (ap (λ y. Some y) refl)) in
     let less = place_within (all_of (pipe_at g c d log)) p.0 old q in
     omega (arith, one, less)
 
@@ -219,9 +197,8 @@ is_above g log a n d ts k txn xs h =
     let now : Log = Hand a (D d) n m ∷ log in
     let c : ℕ = k.0 in
     let i = in_pipe g c d now h in
-    let is : class_puts g c d now ≡ (all_of (pipe_at g c d log) ++ m ∷ []) ++ i.0 = i.1 ∙ ap (λ x. x ++ i.0) (pipe_with g c d a n m log (same_number k.0)) in
     let place : slice_get (class_puts g c d now) (length (all_of (pipe_at g c d log))) ≡ Some m =
-    subst (λ x. slice_get x (length (all_of (pipe_at g c d log))) ≡ Some m) (sym is)
+    subst (λ x. slice_get x (length (all_of (pipe_at g c d log))) ≡ Some m) (sym (i.1 ∙ ap (λ x. x ++ i.0) (pipe_with g c d a n m log (same_number k.0))))
     (in_left (all_of (pipe_at g c d log) ++ m ∷ []) i.0 (length (all_of (pipe_at g c d log))) m (at_seam (all_of (pipe_at g c d log)) [] m)) in
     let new = write_origin g now c d ts k txn xs refl (origin g c d now (length (all_of (pipe_at g c d log))) m h place) in
     let w = started_of g now d c txn.0 ts.0 h new in

@@ -1,6 +1,6 @@
 -- Where a site that runs transactions sends to.
-use Rattle.sdd_obligations.proofs.All.{Act, Ask, Attempt, Bases, Bool, Change, D, Did, Fetch, GoesTo, Handed, Held, Hold, IsAnAsk, IsStepU, List, Msg, None, Null, Option, Question, Queued, Records, Reduce, Release, Sends, Setting, Ship, Site, Some, T, U, WasAsked, [], active, ap, asks_acted, asks_handed, asks_next, asks_rows, attempt_due, bound, by_ask, by_exchange, by_hold, by_start, class_no, commit_act, cond, cons_option, dm_no, effect, exchange_due, false, filter_map, first_send, hands, head_of, if◌then◌else◌, in_either, in_filtered, in_mapped, in_one, inl, inr, is_over, modules_asked, null_at, numbers_to, or_else, refl, runs, same_site, sends_of_act, site_is, slice_get, start_at, start_of, start_read, subst, suc, sym, the_one, time_at, tm_no, to_site, true, u_way, write_to, zero, ℕ, ◌==◌, ◌∷◌, ◌≡◌, ◌⊎◌}
-use Rattle.sdd_invariants.specs.All.{asks, class_view}
+use Rattle.sdd_obligations.proofs.All.{Act, Ask, Attempt, Bases, Bool, D, Did, GoesTo, Handed, Held, Hold, IsAnAsk, IsStepU, List, Msg, None, Option, Question, Queued, Release, Sends, Setting, Site, Some, T, U, WasAsked, [], active, ap, arith, asks_acted, asks_handed, asks_next, asks_rows, bound, by_ask, by_exchange, by_hold, by_start, commit_act, cons_option, dm_no, false, filter_map, first_send, hands, head_of, if◌then◌else◌, in_either, in_filtered, in_mapped, in_one, inl, inr, is_over, null_at, or_else, refl, same_site, sends_of_act, site_is, slice_get, start_at, start_of, subst, suc, sym, the_one, time_at, tm_no, to_site, true, u_way, zero, ℕ, ◌==◌, ◌∷◌, ◌≡◌, ◌⊎◌}
+use Rattle.sdd_invariants.specs.All.{asks}
 use Rattle.sdd_invariants.specs.site_module.SiteLog.{Entry, Log}
 use Rattle.sdd_invariants.specs.tm.Due.{IsDue}
 use Rattle.sdd_invariants.specs.tm.Views.{view_of}
@@ -10,9 +10,7 @@ use Rattle.sdd_invariants.specs.tm.Views.{view_of}
 at_cons : (x : Site × Msg) (b : Site) (k : ℕ) (m : Msg) (ps : List (Site × Msg)) (c : Bool) → same_site b x.0 ≡ c
     → ((j : ℕ) → slice_get (to_site b ps) j ≡ Some m → (i : ℕ) × (slice_get ps i ≡ Some (b, m)))
     → slice_get (if c then x.1 ∷ to_site b ps else to_site b ps) k ≡ Some m → (i : ℕ) × (slice_get (x ∷ ps) i ≡ Some (b, m))
-at_cons x b zero m ps true p f e =
-    let q : x.1 ≡ m = cc in let r : b ≡ x.0 = site_is b x.0 p in
-    (0, subst (λ y. Some x ≡ Some (b, y)) q (subst (λ z. Some x ≡ Some (z, x.1)) (sym r) refl))
+at_cons x b zero m ps true p f e = grind (arith, site_is)
 at_cons x b (suc k) m ps true p f e = let i = f k e in (suc i.0, i.1)
 at_cons x b k m ps false p f e = let i = f k e in (suc i.0, i.1)
 
@@ -22,9 +20,7 @@ sent_to b (x ∷ ps) k m e = at_cons x b k m ps (same_site b x.0) refl (λ j p. 
 
 in_cons : {A : Type 0} (o : Option A) (xs : List A) (k : ℕ) (y : A) → slice_get (cons_option o xs) k ≡ Some y
     → ((j : ℕ) × (slice_get xs j ≡ Some y)) ⊎ (o ≡ Some y)
-in_cons None xs k y e = inl (k, e)
-in_cons (Some x) xs zero y e = inr e
-in_cons (Some x) xs (suc k) y e = inl (k, e)
+in_cons o xs k y e = grind arith
 
 pub in_made : {A B : Type 0} (f : A → Option B) (xs : List A) (k : ℕ) (y : B) → slice_get (filter_map f xs) k ≡ Some y
     → (x : A) × (j : ℕ) × (slice_get xs j ≡ Some x) × (f x ≡ Some y)
@@ -44,40 +40,20 @@ goes_some log x a h e = let p : x ≡ a = cc in subst (Goes log) p h
 goes_one : (log : Log) (to : Site) (x : Msg) (hand : Option ℕ) → GoesTo log to x → Goes log (Sends to x hand)
 goes_one log to x hand h b k m e = let i = the_one b to x k m e in subst (GoesTo log b) i.1 (subst (λ s. GoesTo log s x) (sym i.0) h)
 
-pair_of : (log : Log) (a : Site) (x : Msg) (b : Site) (m : Msg) → ◌≡◌ {A = Site × Msg} (a, x) (b, m) → GoesTo log a x → GoesTo log b m
-pair_of log a x b m e h = let p : a ≡ b = ap (λ (z : Site × Msg). z.0) e in let q : x ≡ m =
-    ap (λ (z : Site × Msg). z.1) e in subst (GoesTo log b) q (subst (λ s. GoesTo log s x) p h)
-
 start_goes : (s : Setting) (log : Log) (c : ℕ) (q : Queued) → Goes log (start_at s c log q)
-start_goes s log c q b k m e =
-    let i = sent_to b (sends_of_act (start_at s c log q)) k m e in
-    let r = in_mapped (λ d. (D (dm_no d), start_read s c log q d)) (modules_asked s c q.text) i.0 (b, m) i.1 in
-    pair_of log (D (dm_no r.0)) (start_read s c log q r.0) b m r.2 tt
-
-write_goes : (log : Log) (c : Bool) (d : ℕ) (x : Msg) (b : Site) (m : Msg) → cond {A = Option (Site × Msg)} c (Some (D (dm_no d), x)) None ≡ Some (b, m)
-    → GoesTo log (D (dm_no d)) x → GoesTo log b m
-write_goes log true d x b m e h = let p : ◌≡◌ {A = Site × Msg} (D (dm_no d), x) (b, m) = cc in pair_of log (D (dm_no d)) x b m p h
-write_goes log false d x b m e h = cc
+start_goes s log c q b k m e = grind (arith, sent_to, in_mapped)
 
 commit_goes : (s : Setting) (log : Log) (c : ℕ) (bases : Bases) (a : Attempt) → Goes log (commit_act s.catalogue bases c a)
-commit_goes s log c bases a b k m e =
-    let xs : List Change = (effect s.catalogue (bases a.ts) a.text).changes in
-    let i = sent_to b (sends_of_act (commit_act s.catalogue bases c a)) k m e in
-    let r = in_made (write_to s.catalogue c a xs) (numbers_to s.catalogue.dms) i.0 (b, m) i.1 in
-    write_goes log _ r.0 _ b m r.3 tt
+commit_goes s log c bases a b k m e = grind (arith, sent_to, in_made)
 
 asks_to_d : (log : Log) (ts c d : ℕ) (m : Msg) → asks_rows ts c m ≡ true → GoesTo log (D (dm_no d)) m
-asks_to_d log ts c d (Fetch a b u col) e = tt
-asks_to_d log ts c d (Reduce a b u col vs) e = tt
-asks_to_d log ts c d (Ship a b) e = tt
-asks_to_d log ts c d _ e = cc
+asks_to_d log ts c d m e = grind arith
 
 -- at a T
 
 over_goes : (s : Setting) (log : Log) (bases : Bases) (c : ℕ) (a : Attempt) (b : Bool) (act : Act)
     → (if b then Some (commit_act s.catalogue bases c a) else None) ≡ Some act → Goes log act
-over_goes s log bases c a true act e = goes_some log (commit_act s.catalogue bases c a) act (commit_goes s log c bases a) e
-over_goes s log bases c a false act e = cc
+over_goes s log bases c a b act e = grind (arith, goes_some, commit_goes)
 
 send_goes : (s : Setting) (log : Log) (bases : Bases) (c : ℕ) (a : Attempt) (ms : List (ℕ × Msg)) (act : Act)
     → active s c log ≡ Some a → a.exchange.to_send ≡ ms
@@ -86,11 +62,6 @@ send_goes s log bases c a [] act i p e = over_goes s log bases c a (is_over a.ex
 send_goes s log bases c a (m ∷ rest) act i p e =
     goes_some log (Sends (D (dm_no m.0)) m.1 None) act (goes_one log (D (dm_no m.0)) m.1 None
     (asks_to_d log a.ts c m.0 m.1 (asks_next s c log a m i (ap head_of p)))) e
-
-attempt_goes : (s : Setting) (log : Log) (bases : Bases) (c : ℕ) (o : Option Attempt) (act : Act) → active s c log ≡ o
-    → attempt_due s.catalogue bases c o ≡ Some act → Goes log act
-attempt_goes s log bases c None act i e = cc
-attempt_goes s log bases c (Some a) act i e = send_goes s log bases c a a.exchange.to_send act i refl e
 
 -- an ASK that lacks its NULL was handed
 
@@ -109,14 +80,12 @@ asks_in n from (Ask class time) log qs k q f e = elim (in_either qs (record { ha
         class = class.0;
         time = time.0;
       }) p.0 q refl p.1 in
-      let s : from ≡ q.from = ap (λ (x : Question). x.from) r in
-      record { asked = Ask class time; later = []; before = log; is = ap (λ x. Handed x (Ask class time) ∷ log) s; fits = tt })
+      record { asked = Ask class time; later = []; before = log; is = ap (λ x. Handed x (Ask class time) ∷ log) (ap (λ (x : Question). x.from) r); fits = tt })
 ]
 asks_in n from m log qs k q f e = more_asked log (Handed from m) q.from (f k e)
 
 asks_left : (act : Act) (qs : List Question) (k : ℕ) (q : Question) → slice_get (asks_acted act qs) k ≡ Some q → (j : ℕ) × (slice_get qs j ≡ Some q)
-asks_left (Sends to m hand) qs k q e = let i = in_filtered _ qs k q e in (i.1, i.2)
-asks_left (Records c r sends) qs k q e = (k, e)
+asks_left act qs k q e = grind (arith, in_filtered)
 
 pub was_asked_of : (log : Log) (k : ℕ) (q : Question) → slice_get (asks log) k ≡ Some q → WasAsked log q.from IsAnAsk
 was_asked_of [] k q e = cc
@@ -126,25 +95,19 @@ was_asked_of (x ∷ log) k q e = more_asked log x q.from (was_asked_of log k q e
 
 null_goes : (log : Log) (q : Question) (b : Bool) (o : Option ℕ) (act : Act) → WasAsked log q.from IsAnAsk
     → (if b then null_at q o else None) ≡ Some act → Goes log act
-null_goes log q true (Some t) act w e =
-    goes_some log (Sends q.from (Null (class_no q.class) (time_at t)) (Some q.hand)) act
-    (goes_one log q.from (Null (class_no q.class) (time_at t)) (Some q.hand) w) e
+null_goes log q true (Some t) act w e = grind (arith, goes_some, goes_one)
 null_goes log q _ _ act w e = cc
 
 held_goes : (s : Setting) (log : Log) (b : Bool) (hand : Option ℕ) (act : Act)
     → (if b then Some (Sends U (Held (time_at (bound s log))) hand) else None) ≡ Some act → Goes log act
-held_goes s log true hand act e = goes_some log (Sends U (Held (time_at (bound s log))) hand) act (goes_one log U (Held (time_at (bound s log))) hand refl) e
-held_goes s log false hand act e = cc
+held_goes s log b hand act e = grind (arith, goes_some, goes_one)
 
 start_if : (s : Setting) (log : Log) (b : Bool) (c : ℕ) (o : Option Queued) (act : Act)
     → (if b then start_of s.catalogue (view_of s log) c o else None) ≡ Some act → Goes log act
-start_if s log true c (Some q) act e = goes_some log (start_at s c log q) act (start_goes s log c q) e
-start_if s log _ c _ act e = cc
+start_if s log b c o act e = grind (arith, goes_some, start_goes)
 
 pub t_goes : (s : Setting) (bases : Bases) (log : Log) (act : Act) → IsDue s.catalogue bases (view_of s log) act → Goes log act
-t_goes s bases log act (by_exchange k c p e) =
-    let r = in_mapped (class_view s log) (runs s) k c p in
-    attempt_goes s log bases r.0 (active s r.0 log) act refl (subst (λ v. exchange_due s.catalogue bases v ≡ Some act) (sym r.2) e)
+t_goes s bases log act (by_exchange k c p e) = grind (arith, in_mapped, send_goes)
 t_goes s bases log act (by_ask k n c q p r e) = null_goes log q (q.class == c.class) _ act (was_asked_of log n q r) e
 t_goes s bases log act (by_hold e) = held_goes s log _ _ act e
 t_goes s bases log act (by_start k c p e) = start_if s log _ c.class (head_of c.queue) act e

@@ -1,5 +1,5 @@
 -- An exchange in lockstep, by the turns of both sides; and what each side keeps of it.
-use Rattle.sdd_obligations.proofs.All.{AllLe, Asks, Attempt, Bool, D, Each, Input, IsPermitted, IsStage, List, Log, MayAnswer, MayAsk, Msg, None, Option, Some, Turn, [], active, all_of, and_left, answers, ap, arith, both, class_puts, d_fair, dec_le, dm_no, eqb-true, false, flight, goes_through, head_in, home, home_fair, if_way, if◌then◌else◌, in_class_order, in_left, in_pipe, is_a_read, is_exchanging, is_read, length, limit_of, local_of, map, never, not, number_of, pipe, pipe_at, place_within, processed_stays, puts_to, questions, same_number, same_or_not, setting_of, slice_get, subst, suc, sym, time_of, timed, times_are, times_in, true, turn_after_answer, turn_at, turn_with, uses_held, zero, ℕ, ◌<◌, ◌∷◌, ◌≡◌, ◌≤◌}
+use Rattle.sdd_obligations.proofs.All.{AllLe, Asks, Attempt, D, Each, Input, IsPermitted, IsStage, List, Log, Msg, Option, Some, Turn, [], active, all_of, and_left, answers, ap, arith, both, class_puts, d_fair, dec_le, dm_no, eqb-true, flight, goes_through, head_in, home, home_fair, if_way, in_class_order, in_left, in_pipe, is_a_read, is_exchanging, is_read, length, limit_of, local_of, map, never, number_of, pipe, pipe_at, place_within, processed_stays, puts_to, questions, same_number, same_or_not, setting_of, slice_get, subst, suc, sym, time_of, timed, times_are, times_in, true, turn_at, turn_with, uses_held, zero, ℕ, ◌<◌, ◌∷◌, ◌≡◌, ◌≤◌}
 use Rattle.sdd_obligations.proofs.QuestionsComeInTurn.{in_turn}
 use Rattle.sdd_obligations.proofs.HandedAnswersKeepTurns.{AtTurn, InTurn, IsTimely}
 use Rattle.sdd_obligations.proofs.RowsStayHeld.{IsAlone, IsHeldAt}
@@ -43,15 +43,6 @@ data_turns g ts c d log h i =
 
 -- an attempt that exchanges rows is the active one
 
-told_quiet : (v : Turn) (x : Msg) → MayAnswer v x → is_exchanging (turn_after_answer x v) ≡ false
-told_quiet v x h = grind (arith, Asks, if_way)
-
-may_ask_quiet : {A : Type 0} (w : Turn) (m : Msg) → MayAsk w m → is_exchanging w ≡ true → A
-may_ask_quiet w m h e = grind (arith, Asks)
-
-exchanging_home : (v w : Turn) (qs xs : List Msg) → IsStage v w qs xs → is_exchanging w ≡ true → is_exchanging v ≡ true
-exchanging_home v w qs xs h e = grind (arith, may_ask_quiet, never, told_quiet)
-
 pub active_of : (ts d : ℕ) (o : Option Attempt) (v : Turn) → AtTurn ts d o v → is_exchanging v ≡ true → (a : Attempt) × (o ≡ Some a) × (a.ts ≡ ts)
 active_of ts d o v h e = grind (arith, never, same_or_not)
 
@@ -60,7 +51,7 @@ pub exchanging_active : (g : Input) (ts c d : ℕ) (log : Log) → IsPermitted g
     → (a : Attempt) × (active (setting_of g (home g.catalogue c)) c (home_log g c log) ≡ Some a) × (a.ts ≡ ts)
 exchanging_active g ts c d log h i e =
     active_of ts d (active (setting_of g (home g.catalogue c)) c (home_log g c log)) (turn_at ts c d (home_log g c log)) ((home_turns g c log h i).turns ts d)
-    (exchanging_home _ _ _ _ (i.stages ts d) e)
+    (grind (arith, never, Asks, if_way))
 
 -- nothing of its class with a greater time is put
 pub active_last : (g : Input) (c d : ℕ) (log : Log) (a : Attempt) → IsPermitted g log → number_of (home g.catalogue c) ≤ 63
@@ -101,11 +92,8 @@ was_put_for g ts c d log ns h i e =
       processed = place_within (pipe c (data_log g d log)).processed r.place r.read r.there;
     }
 
-not_read_held : (b : Bool) (ns : List ℕ) → not b ≡ true → (if b then None else Some ns) ≡ Some ns
-not_read_held b ns e = grind arith
-
 held_if_exchanging : (v : Turn) → is_exchanging v ≡ true → (ns : List ℕ) × (uses_held v ≡ Some ns)
-held_if_exchanging (Asks ns m) e = (ns, not_read_held (is_a_read m) ns e)
+held_if_exchanging (Asks ns m) e = (ns, (grind arith))
 held_if_exchanging _ e = cc
 
 -- the READ of a class with this time, at the head of its pipe

@@ -1,6 +1,6 @@
 -- An answer that is handed in turn to a site that makes attempts keeps its turns.
-use Rattle.sdd_obligations.proofs.All.{Asks, Attempt, Bool, D, Exchange, Fetch, Handed, IsStrict, List, MayAnswer, Msg, None, Option, Phase, Read, Reduce, Refused, Replies, RepliesToFetch, RepliesToReduce, RepliesToShip, Setting, Ship, Silent, Site, Some, Told, Turn, [], active, active_handed, after_hand, and_no, answers, ap, arith, asked_by, cond, contains, dm_no, false, hand_goes, if_way, if◌then◌else◌, inl, inr, is_a_read, is_a_refusal, is_answer, is_exchanging, is_over, is_question, is_reading, last_stamp, never, not, questions, refl, rejects, same_number, same_or_not, stamp_rises, subst, sym, told_by, true, turn_after_answer, turn_after_question, turn_at, uses_at, ℕ, ◌&&◌, ◌<◌, ◌==◌, ◌∙◌, ◌∷◌, ◌≡◌}
-use Rattle.sdd_obligations.proofs.AtTurn.{IsNext, IsAtTurn, answered_last, apart, awaited, awaits, hand_at, hand_not, is_fetch_of, is_reduce_of, silent_not_asks, told_not_asks, unsent, read_no_ship}
+use Rattle.sdd_obligations.proofs.All.{Asks, Attempt, Bool, D, Exchange, Handed, IsStrict, List, MayAnswer, Msg, None, Option, Phase, Refused, Replies, Setting, Silent, Site, Some, Told, Turn, [], active, active_handed, after_hand, and_no, answers, ap, arith, asked_by, cond, contains, dm_no, false, hand_goes, if_way, if◌then◌else◌, inl, inr, is_a_read, is_a_refusal, is_answer, is_exchanging, is_over, is_question, is_reading, last_stamp, never, questions, refl, rejects, same_number, same_or_not, stamp_rises, subst, sym, told_by, true, turn_after_answer, turn_after_question, turn_at, uses_at, ℕ, ◌&&◌, ◌<◌, ◌==◌, ◌∙◌, ◌∷◌, ◌≡◌}
+use Rattle.sdd_obligations.proofs.AtTurn.{IsAtTurn, answered_last, apart, awaited, awaits, hand_at, hand_not, silent_not_asks, told_not_asks, unsent, read_no_ship}
 use Rattle.sdd_obligations.proofs.Modules.{firsts}
 use Rattle.sdd_invariants.specs.site_module.SiteLog.{Entry, Log}
 
@@ -41,8 +41,7 @@ pub record IsAskedBy (v : Turn) (m : Msg) : Type 0 where
   pub replies : Replies uses question m
 
 pub answers_asked : (v : Turn) (m : Msg) → MayAnswer v m → IsAskedBy v m
-answers_asked (Asks ns q) m h = record { uses = ns; question = q; is = refl; replies = h }
-answers_asked _ m h = absurd h
+answers_asked v m h = grind arith
 
 pub told_is : (v : Turn) (ns : List ℕ) (q m : Msg) → v ≡ Asks ns q → is_a_refusal m ≡ false → turn_after_answer m v ≡ Told ns q
 told_is v ns q m e f = ap (turn_after_answer m) e ∙ ap (λ (b : Bool). if b then Refused else Told ns q) f
@@ -53,43 +52,10 @@ quiet_told m v e = grind (arith, Asks, if_way)
 quiet_if : (b : Bool) (m : Msg) (v : Turn) → is_exchanging v ≡ false → is_exchanging (if b then turn_after_answer m v else v) ≡ false
 quiet_if b m v e = if_way (λ w. is_exchanging w ≡ false) b (turn_after_answer m v) v (quiet_told m v e) e
 
-silent_if : (b : Bool) (m : Msg) (v : Turn) → v ≡ Silent → (if b then turn_after_answer m v else v) ≡ Silent
-silent_if b m v e = if_way (λ w. w ≡ Silent) b (turn_after_answer m v) v (ap (turn_after_answer m) e) e
-
 -- a rejection answers a READ
-
-reject_no_fetch : {A : Type 0} (u : ℕ) (m : Msg) → is_a_refusal m ≡ true → RepliesToFetch u m → A
-reject_no_fetch u m e h = grind arith
-
-reject_no_reduce : {A : Type 0} (u : ℕ) (m : Msg) → is_a_refusal m ≡ true → RepliesToReduce u m → A
-reject_no_reduce u m e h = grind arith
-
-reject_no_ship : {A : Type 0} (ns : List ℕ) (m : Msg) → is_a_refusal m ≡ true → RepliesToShip ns m → A
-reject_no_ship ns m e h = grind arith
-
-rejected_read : (ns : List ℕ) (q m : Msg) → is_a_refusal m ≡ true → Replies ns q m → is_a_read q ≡ true
-rejected_read ns (Read t k txn attempt conds uses) m e h = refl
-rejected_read ns (Fetch t k u col) m e h = reject_no_fetch u m e h
-rejected_read ns (Reduce t k u col vs) m e h = reject_no_reduce u m e h
-rejected_read ns (Ship t k) m e h = reject_no_ship ns m e h
-rejected_read ns q m e h = absurd h
-
-read_no_fetch : (n : ℕ) (m : Msg) → is_a_read m ≡ true → is_fetch_of n m ≡ false
-read_no_fetch n (Read t k txn attempt conds uses) e = refl
-read_no_fetch n m e = cc
-
-read_no_reduce : (n : ℕ) (m : Msg) → is_a_read m ≡ true → is_reduce_of n m ≡ false
-read_no_reduce n (Read t k txn attempt conds uses) e = refl
-read_no_reduce n m e = cc
-
-awaits_read : (p : Phase) (q : Msg) → awaits p q ≡ true → is_a_read q ≡ true → is_reading p ≡ true
-awaits_read p q e f = grind (arith, never, read_no_fetch, read_no_reduce, read_no_ship)
 
 reading_awaits : (p : Phase) (q : Msg) → is_reading p ≡ true → awaits p q ≡ true → is_a_read q ≡ true
 reading_awaits p q e f = grind arith
-
-over_awaits : {A : Type 0} (p : Phase) (q : Msg) → is_over p ≡ true → awaits p q ≡ true → A
-over_awaits p q e f = grind arith
 
 -- what is known of a module whose question has no answer
 pub record IsAwaited (d : ℕ) (x : Exchange) (ns : List ℕ) (q : Msg) : Type 0 where
@@ -98,27 +64,10 @@ pub record IsAwaited (d : ℕ) (x : Exchange) (ns : List ℕ) (q : Msg) : Type 0
   pub uses : uses_at x.modules d ≡ ns
 
 pub is_awaited : (d : ℕ) (x : Exchange) (v : Turn) (ns : List ℕ) (q : Msg) → IsAtTurn d x v → v ≡ Asks ns q → IsAwaited d x ns q
-is_awaited d x v ns q (unsent m r ms a b e s u w f g) z = told_not_asks v ms ns r q e z
-is_awaited d x v ns q (awaited m ms a b e w f g) z =
-    let both : Asks ms m ≡ Asks ns q = sym e ∙ z in
-    let same_uses : ms ≡ ns = cc in
-    let same_question : m ≡ q = cc in
-    record { phase = subst (λ y. awaits x.phase y ≡ true) same_question w; lacks = b; uses = f ∙ same_uses }
-is_awaited d x v ns q (answered_last r ms a b e s f g) z = told_not_asks v ms ns r q e z
-is_awaited d x v ns q (apart a b e g) z = silent_not_asks v ns q e z
-
--- while READs are awaited, and once all is over, no rows are
-quiet_reading : (d : ℕ) (x : Exchange) (v : Turn) → is_reading x.phase ≡ true → IsAtTurn d x v → is_exchanging v ≡ false
-quiet_reading d x v r (unsent m q ms a b e s u w f g) = ap is_exchanging e
-quiet_reading d x v r (awaited m ms a b e w f g) = ap is_exchanging e ∙ ap not (reading_awaits x.phase m r w)
-quiet_reading d x v r (answered_last q ms a b e s f g) = ap is_exchanging e
-quiet_reading d x v r (apart a b e g) = ap is_exchanging e
+is_awaited d x v ns q h6 z = grind (arith, unsent, told_not_asks, awaited, awaits, answered_last, apart, silent_not_asks)
 
 pub quiet_over : (d : ℕ) (x : Exchange) (v : Turn) → is_over x.phase ≡ true → IsAtTurn d x v → is_exchanging v ≡ false
-quiet_over d x v r (unsent m q ms a b e s u w f g) = ap is_exchanging e
-quiet_over d x v r (awaited m ms a b e w f g) = over_awaits x.phase m r w
-quiet_over d x v r (answered_last q ms a b e s f g) = ap is_exchanging e
-quiet_over d x v r (apart a b e g) = ap is_exchanging e
+quiet_over d x v r h5 = grind (arith, unsent, awaited, answered_last, apart)
 
 -- a hand from a module
 
@@ -135,25 +84,13 @@ after_answer c n m v ts d = if (d == n) && is_answer ts c m then turn_after_answ
 refusal_is : (m : Msg) (ts c : ℕ) → rejects m ts c ≡ true → (is_answer ts c m ≡ true) × (is_a_refusal m ≡ true)
 refusal_is m ts c e = grind arith
 
-not_refused : (m : Msg) (ts c : ℕ) → is_answer ts c m ≡ true → rejects m ts c ≡ false → is_a_refusal m ≡ false
-not_refused m ts c e f = grind (arith, never)
-
 pub quiet_but : (a : Attempt) (v : Turns) (ts d : ℕ) → AllAtTurn (Some a) v → (IsAtTurn d a.exchange (v ts d) → is_exchanging (v ts d) ≡ false)
     → is_exchanging (v ts d) ≡ false
 quiet_but a v ts d h f = elim (same_or_not a.ts ts) [ inl p ↦ f ((h ts d).0 p) | inr p ↦ (h ts d).1 p ]
 
 rejected_turns : (c n : ℕ) (m : Msg) (a : Attempt) (v : Turns) → AllAtTurn (Some a) v → rejects m a.ts c ≡ true
     → (is_answer a.ts c m ≡ true → MayAnswer (v a.ts n) m) → AllAtTurn None (after_answer c n m v)
-rejected_turns c n m a v h e timely ts d =
-    let r = refusal_is m a.ts c e in
-    let by = answers_asked (v a.ts n) m (timely r.0) in
-    let w = is_awaited n a.exchange (v a.ts n) by.uses by.question ((h a.ts n).0 refl) by.is in
-    let reading : is_reading a.exchange.phase ≡ true = awaits_read a.exchange.phase by.question w.phase (rejected_read by.uses by.question m r.1 by.replies) in
-    quiet_if ((d == n) && is_answer ts c m) m (v ts d) (quiet_but a v ts d h (λ i. quiet_reading d a.exchange (v ts d) reading i))
-
-next_of : (n d : ℕ) (b : Bool) (m : Msg) (v : Turn) (ns : List ℕ) (q : Msg) → b ≡ true → (d ≡ n → v ≡ Asks ns q)
-    → is_a_refusal m ≡ false → IsNext n d v (if (d == n) && b then turn_after_answer m v else v)
-next_of n d b m v ns q e f g = grind (arith, same_or_not, same_number, told_is)
+rejected_turns c n m a v h e timely ts d = grind (arith, refusal_is, answers_asked, is_awaited, never, read_no_ship, quiet_if, quiet_but, unsent, awaited, reading_awaits, answered_last, apart)
 
 at_turn_on : (c n d : ℕ) (m : Msg) (a : Attempt) (v : Turns) → IsStrict (firsts a.exchange.modules) → AllAtTurn (Some a) v
     → rejects m a.ts c ≡ false → (is_answer a.ts c m ≡ true → MayAnswer (v a.ts n) m)
@@ -162,13 +99,12 @@ at_turn_on c n d m a v strict h e timely = elim (is_answer a.ts c m) as (λ b. i
     → IsAtTurn d (after_hand a.ts c n m a.exchange) (after_answer c n m v a.ts d)) [
       | true ↦ λ f.
           (let by = answers_asked (v a.ts n) m (timely f) in
-          let g : is_a_refusal m ≡ false = not_refused m a.ts c f e in
+          let g : is_a_refusal m ≡ false = (grind (arith, never)) in
           hand_at a.ts c n d a.exchange (v a.ts d) (after_answer c n m v a.ts d) m strict f g
-          (next_of n d (is_answer a.ts c m) m (v a.ts d) by.uses by.question f (λ p. ap (v a.ts) p ∙ by.is) g) ((h a.ts d).0 refl))
+          (grind (arith, same_or_not, same_number, told_is)) ((h a.ts d).0 refl))
       | false ↦ λ f. subst (λ x. IsAtTurn d x (after_answer c n m v a.ts d)) (sym (hand_not a.ts c n a.exchange m f))
           (subst (λ (w : Turn). IsAtTurn d a.exchange w)
-          (sym (ap (λ (b : Bool). if (d == n) && b then turn_after_answer m (v a.ts d) else v a.ts d) f
-          ∙ ap (λ (b : Bool). if b then turn_after_answer m (v a.ts d) else v a.ts d) (and_no (d == n)))) ((h a.ts d).0 refl))
+          (grind (arith, turn_after_answer, and_no)) ((h a.ts d).0 refl))
     ] refl
 
 handed_turns : (c n : ℕ) (m : Msg) (o : Option Attempt) (v : Turns) → IsStrictOf o → AllAtTurn o v → ((ts : ℕ) → is_answer ts c m ≡ true → MayAnswer (v ts n) m)
@@ -185,9 +121,6 @@ handed_turns c n m (Some a) v strict h timely =
       )
     ] refl
 
-handed_strict : (c n : ℕ) (m : Msg) (o : Option Attempt) → IsStrictOf o → IsStrictOf (active_handed c (D (dm_no n)) m o)
-handed_strict c n m o h = grind (arith, if_way, hand_goes)
-
 pub turns_now : (o : Option Attempt) (v w : Turns) → ((ts d : ℕ) → w ts d ≡ v ts d) → AllAtTurn o v → AllAtTurn o w
 turns_now o v w e h ts d = subst (AtTurn ts d o) (sym (e ts d)) (h ts d)
 
@@ -198,10 +131,8 @@ in_turn_hand s c log (D n) m timely h = record {
       (after_answer c n.0 m (λ ts d. turn_at ts c d log)) (λ ts d. turn_at ts c d (Handed (D n) m ∷ log))
       (λ ts d. told_one ts c (d == n.0) m (turn_at ts c d log)) (handed_turns c n.0 m (active s c log)
       (λ ts d. turn_at ts c d log) h.strict h.turns (λ ts e. timely ts n.0 refl e));
-  fresh = λ ts d l. told_one ts c (d == n.0) m (turn_at ts c d log)
-      ∙ silent_if ((d == n.0) && is_answer ts c m) m (turn_at ts c d log) (h.fresh ts d (let r =
-      stamp_rises s (Handed (D n) m) log in omega arith));
-  strict = handed_strict c n.0 m (active s c log) h.strict;
+  fresh = grind (arith, told_one, turn_at, if_way, turn_after_answer, is_answer, stamp_rises);
+  strict = (grind (arith, if_way, hand_goes));
 }
 in_turn_hand s c log x m timely h =
     record { turns = h.turns; fresh = λ ts d l. h.fresh ts d (let r = stamp_rises s (Handed x m) log in omega arith); strict = h.strict }

@@ -1,5 +1,5 @@
 -- What it means that the exchange of an attempt goes in step with the modules that it reads at.
-use Rattle.sdd_obligations.proofs.All.{Act, Answer, Asks, AsksPhase, Attempt, Bool, D, Did, DmNo, Does, Exchange, FitsInput, Frozen, Hand, Has, Input, IsPermitted, List, Log, Move, Msg, Option, Phase, Records, Reduce, Reducing, Replies, Site, Some, Tells, Turn, Value, [], ap, arith, contains, eqb-true, false, first_phase, home, inl, inr, is_a_read, is_answer, is_question, is_shipped, length, local_of, longer, refl, subst, sym, true, turn_at, ℕ, ◌++◌, ◌==◌, ◌||◌, ◌∙◌, ◌∷◌, ◌≡◌}
+use Rattle.sdd_obligations.proofs.All.{Act, Answer, Asks, AsksPhase, Attempt, Bool, D, Did, DmNo, Does, Exchange, FitsInput, Frozen, Hand, Has, Input, IsPermitted, List, Log, Move, Msg, Option, Phase, Records, Reduce, Reducing, Replies, Site, Some, Tells, Turn, Value, [], ap, arith, contains, eqb-true, false, first_phase, home, inl, inr, is_a_read, is_answer, is_question, is_shipped, length, local_of, longer, refl, subst, sym, true, turn_at, ℕ, ◌==◌, ◌||◌, ◌∙◌, ◌∷◌, ◌≡◌}
 use Rattle.sdd_obligations.proofs.AtTurn.{IsAtTurn, answered_last, apart, awaited, awaits, unsent}
 use Rattle.sdd_obligations.proofs.Modules.{firsts}
 use Rattle.sdd_obligations.proofs.Places.{IsAnswerAt, one_answer}
@@ -65,7 +65,4 @@ again g good c d act log ts h here r older =
     let same : own g d.0 log ≡ older.before = sym r.before_is ∙ sym x.1 ∙ (one_answer g good.sound d (Does (D d) act ∷ log) ts h x.0 y.0).0 ∙ y.1 in
     let long = longer older.later (Did (Records older.class (Answer older.txn older.attempt older.dm) older.sends)) older.before in
     let size : length (own g d.0 log) ≡ length older.before = ap length same in
-    let all : length (own g d.0 log) ≡ length
-    (older.later ++ Did (Records older.class (Answer older.txn older.attempt older.dm) older.sends) ∷
-    older.before) = ap length older.is in
-    omega arith
+    omega (arith, ap length older.is)

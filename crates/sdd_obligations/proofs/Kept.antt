@@ -1,12 +1,9 @@
 -- What a data module keeps for an attempt, entry by entry.
-use Rattle.sdd_obligations.proofs.All.{Act, Answer, Bool, ClassNo, Cond, Did, DmNo, Frozen, Handed, List, Msg, None, Option, Read, Rec, Records, Reduce, Rows, Sends, Setting, Site, Some, Ts, TxnNo, Use, Value, [], ap, copies, dated, eqb-true, false, frozen, frozen_at, frozen_for, head, held_for, if◌then◌else◌, inl, inr, is_answer_record as is_answer, is_at, kept, pipe, reduced, reduced_at, refl, same_number, same_or_not, sym, true, ℕ, ◌&&◌, ◌==◌, ◌∙◌, ◌∷◌, ◌≡◌, ◌⊎◌}
+use Rattle.sdd_obligations.proofs.All.{Act, Answer, Bool, ClassNo, Cond, Did, DmNo, Frozen, Handed, List, Msg, None, Option, Read, Rec, Records, Reduce, Rows, Sends, Setting, Site, Some, Ts, TxnNo, Use, Value, [], ap, arith, copies, dated, eqb-true, false, frozen, frozen_at, frozen_for, head, held_for, if◌then◌else◌, inl, inr, is_answer_record as is_answer, is_at, kept, pipe, reduced, refl, same_number, same_or_not, sym, true, ℕ, ◌&&◌, ◌==◌, ◌∙◌, ◌∷◌, ◌≡◌, ◌⊎◌}
 use Rattle.sdd_obligations.proofs.ShippedAnswered.{uses_at_head}
 use Rattle.sdd_obligations.proofs.Places.{IsAnswerAt}
 use Rattle.sdd_obligations.proofs.Snapped.{answer_more}
 use Rattle.sdd_invariants.specs.site_module.SiteLog.{Entry, Log}
-
-own_first : (ts : ℕ) (f : Frozen) (o : Option Frozen) → f.ts ≡ ts → held_for ts (Some f) o ≡ Some f
-own_first ts f o e = ap (λ b. if b then Some f else o) (ap (λ n. n == ts) e ∙ same_number ts)
 
 other_first : (ts : ℕ) (f : Frozen) (o : Option Frozen) → (f.ts == ts) ≡ false → held_for ts (Some f) o ≡ o
 other_first ts f o e = ap (λ b. if b then Some f else o) e
@@ -14,18 +11,11 @@ other_first ts f o e = ap (λ b. if b then Some f else o) e
 -- what is held for it is what is kept
 pub kept_now : (s : Setting) (c ts : ℕ) (log : Log) (f : Frozen) → frozen s c log ≡ Some f → f.ts ≡ ts → kept s c ts log ≡ Some f
 kept_now s c ts [] f e t = cc
-kept_now s c ts (x ∷ log) f e t = ap (λ o. held_for ts o (kept s c ts log)) e ∙ own_first ts f (kept s c ts log) t
-
-held_again : (s : Setting) (c ts : ℕ) (log : Log) (o : Option Frozen) → frozen s c log ≡ o → held_for ts o (kept s c ts log) ≡ kept s c ts log
-held_again s c ts log None e = refl
-held_again s c ts log (Some f) e = elim (same_or_not f.ts ts) [
-  | inl t ↦ own_first ts f (kept s c ts log) t ∙ sym (kept_now s c ts log f e t)
-  | inr n ↦ other_first ts f (kept s c ts log) n
-]
+kept_now s c ts (x ∷ log) f e t = ap (λ o. held_for ts o (kept s c ts log)) e ∙ (ap (λ b. if b then Some f else (kept s c ts log)) (ap (λ n. n == ts) t ∙ same_number ts))
 
 -- an entry that leaves what is held leaves what is kept
 pub kept_same : (s : Setting) (c ts : ℕ) (x : Entry) (log : Log) → frozen s c (x ∷ log) ≡ frozen s c log → kept s c ts (x ∷ log) ≡ kept s c ts log
-kept_same s c ts x log e = ap (λ o. held_for ts o (kept s c ts log)) e ∙ held_again s c ts log (frozen s c log) refl
+kept_same s c ts x log e = ap (λ o. held_for ts o (kept s c ts log)) e ∙ (grind (arith, same_or_not, same_number, kept_now, other_first))
 
 -- so does one after which nothing is held
 pub kept_none : (s : Setting) (c ts : ℕ) (x : Entry) (log : Log) → frozen s c (x ∷ log) ≡ None → kept s c ts (x ∷ log) ≡ kept s c ts log
@@ -52,36 +42,7 @@ HandKeeps s c ts from m log = (kept s c ts (Handed from m ∷ log) ≡ kept s c 
 reduce_keeps : (s : Setting) (c ts : ℕ) (from : Site) (t : Ts) (k : ClassNo) (u col : ℕ) (vs : List Value)
     (log : Log) (o : Option Frozen) (b : Bool) → frozen s c log ≡ o → (k.0 == c) ≡ b
     → HandKeeps s c ts from (Reduce t k u col vs) log
-reduce_keeps s c ts from t k u col vs log o false e f =
-    inl (kept_same s c ts (Handed from (Reduce t k u col vs)) log (ap (λ b. if b then reduced_at t.0 u col vs (frozen s c log) else frozen s c log) f))
-reduce_keeps s c ts from t k u col vs log None true e f =
-    inl (kept_none s c ts (Handed from (Reduce t k u col vs)) log
-    (ap (λ b. if b then reduced_at t.0 u col vs (frozen s c log) else frozen s c log) f ∙ ap (reduced_at t.0 u col vs) e))
-reduce_keeps s c ts from t k u col vs log (Some r) true e f =
-    let now : frozen s c (Handed from (Reduce t k u col vs) ∷ log) ≡ (if r.ts == t.0 then Some (reduced u col vs r) else Some r) =
-    ap (λ b. if b then reduced_at t.0 u col vs (frozen s c log) else frozen s c log) f ∙ ap (reduced_at t.0 u col vs) e in
-    elim (same_or_not r.ts t.0) [
-      | inl own ↦ (let z : frozen s c (Handed from (Reduce t k u col vs) ∷ log) ≡ Some
-          (reduced u col vs r) = now ∙ ap (λ b. if b then Some (reduced u col vs r) else Some r) (ap (λ n. r.ts == n) (sym own) ∙ same_number r.ts) in
-          elim (same_or_not r.ts ts) [
-            | inl mine ↦ inr (record {
-              t = t;
-              of = k;
-              number = u;
-              col = col;
-              values = vs;
-              is = refl;
-              ts_is = sym own ∙ mine;
-              class_is = eqb-true k.0 c f;
-              rows = r;
-              before = kept_now s c ts log r e mine;
-              after = kept_now s c ts (Handed from (Reduce t k u col vs) ∷ log) (reduced u col vs r) z mine;
-            })
-            | inr other ↦ inl (ap (λ o. held_for ts o (kept s c ts log)) z ∙ other_first ts (reduced u col vs r) (kept s c ts log) other)
-          ])
-      | inr not_own ↦ inl (kept_same s c ts (Handed from (Reduce t k u col vs)) log (now
-          ∙ ap (λ b. if b then Some (reduced u col vs r) else Some r) not_own ∙ sym e))
-    ]
+reduce_keeps s c ts from t k u col vs log o b e f = grind (arith, kept_same, kept_none, same_or_not, same_number, eqb-true, kept_now, other_first)
 
 pub hand_keeps : (s : Setting) (c ts : ℕ) (from : Site) (m : Msg) (log : Log) → HandKeeps s c ts from m log
 hand_keeps s c ts from (Reduce t k u col vs) log = reduce_keeps s c ts from t k u col vs log (frozen s c log) (k.0 == c) refl refl
@@ -116,8 +77,7 @@ answer_keeps s c ts txn attempt dm sends log k (Some (Read t of tx n conds uses)
     };
     before_is = refl;
     class_is = own;
-    after = kept_now s c ts (Did (Records k (Answer txn attempt dm) sends) ∷ log) (frozen_for (copies (dated s log)) t.0 uses) f mine
-        ∙ ap (λ n. Some (frozen_for (copies (dated s log)) n uses)) mine ∙ ap (λ us. Some (frozen_for (copies (dated s log)) ts us)) (ap uses_at_head (sym e));
+    after = grind (arith, kept_now, frozen_for, copies, dated, uses_at_head);
   })
   | inr other ↦ inl (ap (λ x. held_for ts x (kept s c ts log)) f ∙ other_first ts (frozen_for (copies (dated s log)) t.0 uses) (kept s c ts log) other)
 ]
@@ -127,15 +87,7 @@ answer_acts : (s : Setting) (c ts : ℕ) (txn : TxnNo) (attempt : ℕ) (dm : DmN
     (log : Log) (k : ℕ) (b : Bool) → (k == c) ≡ b
     → ActKeeps s c ts (Records k (Answer txn attempt dm) sends) log
 answer_acts s c ts txn attempt dm sends log k false e = inl (kept_same s c ts (Did (Records k (Answer txn attempt dm) sends)) log (rw e refl))
-answer_acts s c ts txn attempt dm sends log k true e =
-    let own : k ≡ c = eqb-true k c e in
-    answer_keeps s c ts txn attempt dm sends log k (head (pipe k log)) own refl
-    (ap (λ b. if b && true then frozen_at (dated s log) (head (pipe c log)) else frozen s c log) e
-    ∙ ap (λ j. frozen_at (dated s log) (head (pipe j log))) (sym own))
-
-no_answer : (b : Bool) (x y : Option Frozen) → (if b && false then x else y) ≡ y
-no_answer true x y = refl
-no_answer false x y = refl
+answer_acts s c ts txn attempt dm sends log k true e = grind (arith, eqb-true, answer_keeps)
 
 gives_up : (s : Setting) (c ts : ℕ) (to : Site) (t : Ts) (k : ClassNo) (rows : List (ℕ × List Value))
     (hand : Option ℕ) (log : Log) (b : Bool) → (k.0 == c) ≡ b
@@ -148,8 +100,7 @@ pub record_keeps : (s : Setting) (c ts k : ℕ) (r : Rec) (sends : List (Site ×
     → is_answer r ≡ false → kept s c ts (Did (Records k r sends) ∷ log) ≡ kept s c ts log
 record_keeps s c ts k r sends log e =
     kept_same s c ts (Did (Records k r sends)) log
-    (ap (λ b. if (k == c) && b then frozen_at (dated s log) (head (pipe c log)) else frozen s c log) e
-    ∙ no_answer (k == c) (frozen_at (dated s log) (head (pipe c log))) (frozen s c log))
+    (grind (arith, frozen_at, dated, head, pipe, frozen))
 
 pub send_keeps : (s : Setting) (c ts : ℕ) (to : Site) (m : Msg) (hand : Option ℕ) (log : Log) → kept s c ts (Did (Sends to m hand) ∷ log) ≡ kept s c ts log
 send_keeps s c ts to (Rows t k rows) hand log = gives_up s c ts to t k rows hand log (k.0 == c) refl
@@ -186,10 +137,7 @@ pub other_answer_keeps : (s : Setting) (c ts k : ℕ) (txn : TxnNo) (attempt : �
     → head (pipe k log) ≡ Some (Read t of tx n conds uses) → (k ≡ c → (t.0 == ts) ≡ false)
     → kept s c ts (Did (Records k (Answer txn attempt dm) sends) ∷ log) ≡ kept s c ts log
 other_answer_keeps s c ts k txn attempt dm sends log t of tx n conds uses e other = elim (same_or_not k c) [
-  | inl own ↦ (let now : frozen s c (Did (Records k (Answer txn attempt dm) sends) ∷ log) ≡ Some (frozen_for (copies (dated s log)) t.0 uses) =
-      ap (λ b. if b && true then frozen_at (dated s log) (head (pipe c log)) else frozen s c log)
-      (ap (λ j. j == c) own ∙ same_number c) ∙ ap (λ j. frozen_at (dated s log) (head (pipe j log))) (sym own) ∙ ap (frozen_at (dated s log)) e in
-      ap (λ x. held_for ts x (kept s c ts log)) now ∙ other_first ts (frozen_for (copies (dated s log)) t.0 uses) (kept s c ts log) (other own))
+  | inl own ↦ grind (arith, frozen, frozen_for, copies, dated, frozen_at, head, pipe, same_number, held_for, kept, other_first)
   | inr not_own ↦ kept_same s c ts (Did (Records k (Answer txn attempt dm) sends)) log
       (ap (λ b. if b && true then frozen_at (dated s log) (head (pipe c log)) else frozen s c log) not_own)
 ]

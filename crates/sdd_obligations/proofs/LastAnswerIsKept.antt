@@ -1,5 +1,5 @@
 -- What a data module turn_after_answer last of an attempt's rows is what it keeps.
-use Rattle.sdd_obligations.proofs.All.{Act, Answer, Apply, Arrive, Asks, ClassNo, Cond, Did, Done, Fetch, Frozen, Handed, IsClassHere, List, Msg, None, Open, Option, Pass, Read, Ready, Records, Reduce, Refused, Reject, Rejected, Rows, Sends, Setting, Ship, Site, Some, Tells, Told, Ts, Turn, TxnNo, Use, Values, Wait, [], all_rows, and_no, and_right, answers, ap, append-nil, ask_for, asks_rows, both, class_asked, cond, done_for, eqb-true, false, filter, filter-append, frozen, head, head_of, home_of, if◌then◌else◌, inl, inr, is_a_read, is_answer, is_asked_of, is_number, is_question, is_read, kept, map, never, opens, pipe, puts_to, refl, rows_of, same_number, same_site, sends_of_act, site_self, source_of, subst, sym, to_site, told_by, true, turn_after_answer, turn_after_question, turn_with, uses_by, uses_held, uses_in, values_in, ℕ, ◌&&◌, ◌++◌, ◌==◌, ◌∙◌, ◌∷◌, ◌≡◌}
+use Rattle.sdd_obligations.proofs.All.{Act, Answer, Apply, Arrive, ClassNo, Cond, Did, Done, Frozen, Handed, IsClassHere, List, Msg, None, Open, Option, Pass, Read, Ready, Records, Refused, Reject, Rejected, Sends, Setting, Site, Some, Tells, Told, Ts, Turn, TxnNo, Use, Wait, [], and_no, and_right, answers, ap, append-nil, arith, ask_for, asks_rows, both, class_asked, cond, done_for, eqb-true, false, filter, filter-append, frozen, head, head_of, home_of, if◌then◌else◌, inl, inr, is_a_read, is_answer, is_asked_of, is_number, is_question, is_read, kept, map, never, opens, pipe, puts_to, refl, same_number, same_site, sends_of_act, site_self, source_of, subst, sym, to_site, told_by, true, turn_after_answer, turn_after_question, turn_with, uses_by, uses_held, uses_in, ℕ, ◌&&◌, ◌++◌, ◌==◌, ◌∙◌, ◌∷◌, ◌≡◌}
 use Rattle.sdd_obligations.proofs.DataSteps.{IsDataStep, counts_told, data_step_way, reply}
 use Rattle.sdd_obligations.proofs.HandedAnswersKeepTurns.{told_is, told_one}
 use Rattle.sdd_obligations.proofs.RowsStayHeld.{AreHeldFor, IsHeldAt}
@@ -33,16 +33,9 @@ module _ (s : Setting) (c ts : ℕ) (at : Site) (log : Log) where
 
   -- a hand
 
-  asks_told : {A : Type 0} (m q : Msg) (w : Turn) (ns : List ℕ) → turn_after_question m w ≡ Told ns q → A
-  asks_told m q w ns e = let p : Asks (uses_by m (uses_in w)) m ≡ Told ns q = e in cc
-
   pub told_hand : (from : Site) (m : Msg) → (is_question ts c m ≡ true → from ≡ at) → KnowsTold s c ts at log → KnowsTold s c ts at (Handed from m ∷ log)
   told_hand from m home h = elim (is_question ts c m) as (λ b. is_question ts c m ≡ b → KnowsTold s c ts at (Handed from m ∷ log)) [
-    | true ↦ λ own ns q e r.
-        let here : same_site at from ≡ true = ap (same_site at) (home own) ∙ site_self at in
-        let now : turn_with ts c at (Handed from m ∷ log) ≡ turn_after_question m v = asked_turn ts c at from m log
-        ∙ ap (λ b. if b then turn_after_question m v else v) (both (same_site at from) (is_question ts c m) here own) in
-        asks_told m q v ns (sym now ∙ e)
+    | true ↦ grind (arith, same_site, site_self, turn_with, turn_after_question, v, asked_turn, is_question, uses_by, uses_in)
     | false ↦ λ own.
         let now : turn_with ts c at (Handed from m ∷ log) ≡ v = asked_turn ts c at from m log
         ∙ ap (λ b. if same_site at from && b then turn_after_question m v else v) own ∙ ap (λ b. if b then turn_after_question m v else v) (and_no (same_site at from)) in
@@ -57,33 +50,19 @@ module _ (s : Setting) (c ts : ℕ) (at : Site) (log : Log) where
 
   -- an act
 
-  more_answers : (act : Act) → answers ts c (puts_to at (Did act ∷ log)) ≡ answers ts c (puts_to at log) ++ answers ts c (to_site at (sends_of_act act))
-  more_answers act = filter-append (is_answer ts c) (puts_to at log) (to_site at (sends_of_act act))
-
   quiet_act : (act : Act) → answers ts c (to_site at (sends_of_act act)) ≡ []
       → kept s c ts (Did act ∷ log) ≡ kept s c ts log → KnowsTold s c ts at log → KnowsTold s c ts at (Did act ∷ log)
   quiet_act act none keeps h =
-      told_still s c ts at log (Did act ∷ log) (ap (λ l. told_by l v) none) keeps (more_answers act
-      ∙ ap (λ l. answers ts c (puts_to at log) ++ l) none ∙ append-nil _) h
+      told_still s c ts at log (Did act ∷ log) (ap (λ l. told_by l v) none) keeps (grind (arith, filter-append, is_answer, to_site, sends_of_act, answers, puts_to, append-nil)) h
 
   one_sent : (to : Site) (m : Msg) → is_answer ts c m ≡ false → answers ts c (to_site at ((to, m) ∷ [])) ≡ []
   one_sent to m e = elim (same_site at to) as (λ b. answers ts c (if b then m ∷ [] else []) ≡ []) [ true ↦ ap (λ b. cond b (m ∷ []) []) e | false ↦ refl ]
 
   asked_class : (k : ℕ) (o : Option ℕ) (m : Msg) → is_number k o ≡ true → class_asked m ≡ o → asks_rows ts c m ≡ true → k ≡ c
-  asked_class k (Some j) (Fetch t f u col) n e a = let p : f.0 ≡ j = cc in sym (eqb-true j k n) ∙ sym p ∙ eqb-true f.0 c (and_right (t.0 == ts) (f.0 == c) a)
-  asked_class k (Some j) (Reduce t f u col vs) n e a = let p : f.0 ≡ j = cc in sym (eqb-true j k n) ∙ sym p
-      ∙ eqb-true f.0 c (and_right (t.0 == ts) (f.0 == c) a)
-  asked_class k (Some j) (Ship t f) n e a = let p : f.0 ≡ j = cc in sym (eqb-true j k n) ∙ sym p ∙ eqb-true f.0 c (and_right (t.0 == ts) (f.0 == c) a)
-  asked_class k _ m n e a = cc
-
-  reply_tells : (f : Frozen) (q m : Msg) → reply (Some f) q ≡ Some m → Tells q m f
-  reply_tells f (Fetch t k u col) m e = let p : Values t k u (values_in (rows_of u f) col) ≡ m = cc in sym p
-  reply_tells f (Ship t k) m e = let p : Rows t k (all_rows f) ≡ m = cc in sym p
-  reply_tells f q m e = tt
+  asked_class k o m n e a = grind (arith, eqb-true, and_right)
 
   held_rows : (ns : List ℕ) (o : Option Frozen) → AreHeldFor ts ns o → (f : Frozen) × (o ≡ Some f) × (f.ts ≡ ts)
-  held_rows ns None h = absurd h
-  held_rows ns (Some f) h = (f, refl, h.0)
+  held_rows ns o h = grind arith
 
   first_asked : (k : ℕ) (os : List Open) (o : Open) → head_of (filter (is_asked_of k) os) ≡ Some o → is_asked_of k o ≡ true
   first_asked k [] o e = cc
@@ -110,7 +89,6 @@ module _ (s : Setting) (c ts : ℕ) (at : Site) (log : Log) where
         let now : turn_with ts c at (Did (Sends o.from m (Some o.hand)) ∷ log) ≡ Told a.uses o.msg =
         told_turn ts c at o.from m (Some o.hand) log ∙ ap (λ b. if b then turn_after_answer m v else v)
         (both (same_site at o.from) (is_answer ts c m) here own) ∙ told_is v a.uses o.msg m a.is (reply_no_refusal (frozen s k log) o.msg m r) in
-        let same : o.msg ≡ q = told_same a.uses ns o.msg q (sym now ∙ t) in
         let uses : uses_held v ≡ Some a.uses = ap uses_held a.is ∙ ap (λ b. if b then None else Some a.uses) (asks_no_a_read ts c o.msg asks) in
         let f = held_rows a.uses (frozen s c log) (held a.uses uses) in
         let is : reply (Some f.0) o.msg ≡ Some m = ap (λ z. reply z o.msg) (sym f.1) ∙ ap (λ j. reply (frozen s j log) o.msg) (sym class) ∙ r in
@@ -119,15 +97,11 @@ module _ (s : Setting) (c ts : ℕ) (at : Site) (log : Log) where
           kept_is = send_keeps s c ts o.from m (Some o.hand) log ∙ kept_now s c ts log f.0 f.1 f.2;
           answer = m;
           front = answers ts c (puts_to at log);
-          last = more_answers (Sends o.from m (Some o.hand)) ∙ ap (λ l. answers ts c (puts_to at log) ++ l)
+          last = (filter-append (is_answer ts c) (puts_to at log) (to_site at (sends_of_act (Sends o.from m (Some o.hand))))) ∙ ap (λ l. answers ts c (puts_to at log) ++ l)
               (ap (λ b. answers ts c (if b then m ∷ [] else [])) here ∙ ap (λ b. cond b (m ∷ []) []) own);
-          tells = subst (λ z. Tells z m f.0) same (reply_tells f.0 o.msg m is);
+          tells = subst (λ z. Tells z m f.0) (told_same a.uses ns o.msg q (sym now ∙ t)) (grind arith);
         }
   ] refl
-
-  -- the turn after one message
-  one_turn : (to : Site) (m : Msg) → told_by (answers ts c (to_site at ((to, m) ∷ []))) v ≡ (if same_site at to && is_answer ts c m then turn_after_answer m v else v)
-  one_turn to m = told_one ts c (same_site at to) m v
 
   read_answered : (k : ℕ) (t : Ts) (of : ClassNo) (txn : TxnNo) (attempt : ℕ) (conds : List Cond)
       (uses : List Use) → IsHomeOf s c at → HasTurnAt ts c at log → IsClassHere s k → head (pipe k log) ≡ Some
@@ -143,9 +117,8 @@ module _ (s : Setting) (c ts : ℕ) (at : Site) (log : Log) where
             let n = read_next ts c at log k v read has e (head_through k log read e) own in
             let to : source_of (home_of s) k ≡ at = ap (source_of (home_of s)) n.class_is ∙ home (subst (IsClassHere s) n.class_is here) in
             let now : turn_with ts c at (Did act ∷ log) ≡ Told n.uses read =
-            one_turn (source_of (home_of s) k) m ∙ ap (λ b. if b then turn_after_answer m v else v)
-            (both (same_site at (source_of (home_of s) k)) (is_answer ts c m) (ap (same_site at) to
-            ∙ site_self at) own) ∙ told_is v n.uses read m n.is refl in
+            (told_one ts c (same_site at (source_of (home_of s) k)) m v) ∙ ap (λ b. if b then turn_after_answer m v else v)
+            (both (same_site at (source_of (home_of s) k)) (is_answer ts c m) (grind (arith, same_site, site_self)) own) ∙ told_is v n.uses read m n.is refl in
             never (is_a_read q) (ap is_a_read (sym (told_same n.uses ns read q (sym now ∙ z)))) r
         | false ↦ λ other.
             quiet_act act (one_sent (source_of (home_of s) k) m other)
@@ -170,7 +143,7 @@ module _ (s : Setting) (c ts : ℕ) (at : Site) (log : Log) where
             let n = read_next ts c at log k v read has e (head_through k log read e) own in
             let to : source_of (home_of s) k ≡ at = ap (source_of (home_of s)) n.class_is ∙ home (subst (IsClassHere s) n.class_is here) in
             let now : turn_with ts c at (Did act ∷ log) ≡ Refused =
-            one_turn (source_of (home_of s) k) m ∙ ap (λ b. if b then turn_after_answer m v else v)
+            (told_one ts c (same_site at (source_of (home_of s) k)) m v) ∙ ap (λ b. if b then turn_after_answer m v else v)
             (both (same_site at (source_of (home_of s) k)) (is_answer ts c m) (ap (same_site at) to ∙ site_self at) own) ∙ ap (turn_after_answer m) n.is in
             (let x : Refused ≡ Told ns q = sym now ∙ z in cc)
         | false ↦ λ other. quiet_act act (one_sent (source_of (home_of s) k) m other)

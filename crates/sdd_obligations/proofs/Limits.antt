@@ -1,6 +1,6 @@
 -- How many marks there are within the limits, how many messages on a link, and how many messages and transactions a site
 -- was handed and given.
-use Rattle.sdd_obligations.proofs.All.{AllFewTicks, Bool, Call, Did, Does, Entry, Era, Event, Hand, Handed, Input, IsAllowed, IsLawful, IsMarkEntry, IsPermitted, IsWithin, Link, List, Log, MAX_LINK_MESSAGES, MAX_RUN_EVENTS, Mark, Msg, None, Option, Puts, Redeclares, Site, Some, Submits, Submitted, Txn, U, [], allowed_hand, allowed_mark, ap, arith, both, calls_of, delivered_within, false, given_to, handed, handed_le, hands, if_way, if◌then◌else◌, length, length-append, link, local_of, local_step, made, made_by_mark, marks, neither_left, neither_right, not_past, nth_era, put_by, puts, puts_past, redeclared_entry, redeclares, refl, same_link, same_site, sends_of_act, sent, sent_grows, site_self, sites, submits, suc, true, turned, txn_at, with_made, ℕ, ◌&&◌, ◌++◌, ◌+◌, ◌∷◌, ◌≡◌, ◌≤◌}
+use Rattle.sdd_obligations.proofs.All.{AllFewTicks, Bool, Call, Did, Does, Entry, Era, Event, Hand, Handed, Input, IsAllowed, IsLawful, IsPermitted, IsWithin, Link, List, Log, MAX_LINK_MESSAGES, MAX_RUN_EVENTS, Mark, Msg, None, Option, Puts, Redeclares, Site, Some, Submits, Submitted, Txn, U, [], allowed_hand, allowed_mark, arith, both, calls_of, delivered_within, false, given_to, handed, handed_le, hands, if_way, if◌then◌else◌, length, length-append, link, local_of, local_step, made, made_by_mark, marks, neither_left, neither_right, not_past, nth_era, puts, puts_past, redeclared_entry, redeclares, refl, same_link, same_site, sends_of_act, sent, sent_grows, site_self, sites, submits, suc, true, turned, txn_at, ℕ, ◌&&◌, ◌++◌, ◌+◌, ◌∷◌, ◌≡◌, ◌≤◌}
 use Rattle.sdd_obligations.proofs.OfNext.{IsThere, from_there, of_next}
 use Rattle.sdd_obligations.proofs.Sums.{total, total_raise, total_up}
 use Rattle.sdd_invariants.specs.net.Links.{put}
@@ -10,9 +10,7 @@ use Rattle.sdd_invariants.specs.site_module.SiteLog as site
 
 pub marks_few : (log : Log) → IsWithin log → marks log ≤ MAX_RUN_EVENTS
 marks_few [] h = omega arith
-marks_few (Mark e ∷ log) h = not_past MAX_RUN_EVENTS (suc (marks log)) h.0
-marks_few (Redeclares t ∷ log) h = not_past MAX_RUN_EVENTS (suc (marks log)) h.0
-marks_few (_ ∷ log) h = marks_few log h.1
+marks_few (e ∷ log) h = grind (arith, not_past, marks, (marks_few log h.1))
 
 abbrev AllWithin : List (Call Msg) → Type 0
 AllWithin calls = (a b : Site) → length (link a b calls).there.sent ≤ MAX_LINK_MESSAGES
@@ -35,15 +33,12 @@ puts_within at (s ∷ sends) calls w e =
     let l = not_past MAX_LINK_MESSAGES (suc (length (link at s.0 calls).there.sent)) (neither_left _ _ e) in
     puts_within at sends (Puts at s.0 s.1 ∷ calls) (one_within at s.0 s.1 calls w l) (neither_right _ _ e)
 
-nothing_marked : (a b : Site) (e : Event) → put_by b (made_by_mark a e) ≡ []
-nothing_marked a b e = grind arith
-
 as_before : (n : ℕ) (xs ys zs : List Msg) → zs ≡ xs ++ ys → ys ≡ [] → length xs ≤ n → length zs ≤ n
 as_before n xs ys zs e f l = grind (arith, length-append)
 
 pub sent_few : (g : Input) (log : Log) → IsWithin log → (a b : Site) → length (sent a b log) ≤ MAX_LINK_MESSAGES
 sent_few g [] h a b = omega arith
-sent_few g (Mark e ∷ log) h a b = as_before MAX_LINK_MESSAGES (sent a b log) _ _ (sent_grows g a b (Mark e) log) (nothing_marked a b e) (sent_few g log h.1 a b)
+sent_few g (Mark e ∷ log) h a b = as_before MAX_LINK_MESSAGES (sent a b log) _ _ (sent_grows g a b (Mark e) log) (grind arith) (sent_few g log h.1 a b)
 sent_few g (Does at act ∷ log) h a b = puts_within at (sends_of_act act) (calls_of log) (λ x y. sent_few g log h.1 x y) h.0 a b
 sent_few g (_ ∷ log) h a b = sent_few g log h.1 a b
 
@@ -56,34 +51,22 @@ abbrev hands_by : Option site.Entry → ℕ
 hands_by (Some (Handed from m)) = 1
 hands_by _ = 0
 
-hands_more : (o : Option site.Entry) (l : site.Log) → hands (with_made o l) ≡ hands_by o + hands l
-hands_more o l = grind arith
-
 abbrev submits_by : Option site.Entry → ℕ
 submits_by (Some (Submits n t)) = 1
 submits_by _ = 0
-
-submits_more : (o : Option site.Entry) (l : site.Log) → length (submits (with_made o l)) ≡ submits_by o + length (submits l)
-submits_more o l = grind arith
 
 -- an entry counts where it is of its kind
 abbrev None2 : Option site.Entry → Type 0
 None2 o = (hands_by o ≡ 0) × (submits_by o ≡ 0)
 
-none_if : (c : Bool) (o : Option site.Entry) → None2 o → None2 (if c then o else None)
-none_if c o h = if_way None2 c o None h (refl, refl)
-
 none_marked : (at : Site) (e : Event) → None2 (made_by_mark at e)
-none_marked at e = grind (arith, none_if)
+none_marked at e = grind (arith, if_way, None2)
 
 none_redeclared : (at : Site) (era : Era) (t : ℕ) → None2 (redeclared_entry at era t)
 none_redeclared at era t = grind arith
 
-given_one : (n : ℕ) (o : Option Txn) → (hands_by (given_to n o) ≡ 0) × (submits_by (given_to n o) ≤ 1)
-given_one n o = grind arith
-
 given_if : (c : Bool) (n : ℕ) (o : Option Txn) → (hands_by (if c then given_to n o else None) ≡ 0) × (submits_by (if c then given_to n o else None) ≤ 1)
-given_if c n o = grind (arith, given_one)
+given_if c n o = grind (arith)
 
 -- each mark gives at most one transaction to a site
 
@@ -91,12 +74,9 @@ abbrev pending : Log → ℕ
 pending (Mark e ∷ log) = 1
 pending _ = 0
 
-is_pending : (log : Log) (to : Site) (n : ℕ) → IsMarkEntry log (Submitted to n) → pending log ≡ 1
-is_pending log to n h = grind arith
-
 submits_step : (g : Input) (at : Site) (e : Entry) (log : Log) (k n : ℕ) → submits_by (made g at log e) ≤ k
     → length (submits (local_of g at log)) + k ≤ n → length (submits (local_of g at (e ∷ log))) ≤ n
-submits_step g at e log k n l h = grind (arith, submits, made, local_step, submits_more)
+submits_step g at e log k n l h = grind (arith, submits, made, local_step)
 
 submits_marks : (g : Input) (at : Site) (log : Log) → IsPermitted g log → length (submits (local_of g at log)) + pending log ≤ marks log
 submits_marks g U [] p = omega arith
@@ -104,7 +84,7 @@ submits_marks g at (Mark e ∷ log) p = grind (arith, none_marked, submits_step,
 submits_marks g at (Redeclares t ∷ log) p = grind (arith, none_redeclared, submits_step, marks, submits_marks g at log p.1)
 submits_marks g at (Hand from to n m ∷ log) p = grind (arith, if_way, submits_step, marks, submits_marks g at log p.1)
 submits_marks g at (Submitted to n ∷ log) p =
-    grind (arith, is_pending, allowed_mark, submits_step, marks, given_if, submits_marks g at log p.1)
+    grind (arith, allowed_mark, submits_step, marks, given_if, submits_marks g at log p.1)
 submits_marks g at (Does by act ∷ log) p = grind (arith, if_way, submits_step, marks, submits_marks g at log p.1)
 submits_marks g _ [] p = omega arith
 submits_marks g at (x ∷ log) p =
@@ -120,12 +100,7 @@ hands_sum g at log = total (λ a. handed a at log) (sites g.catalogue.tms g.cata
 
 hands_step : (g : Input) (at : Site) (e : Entry) (log : Log) (n : ℕ) → hands_by (made g at log e) ≡ 0
     → hands (local_of g at log) ≤ n → hands (local_of g at (e ∷ log)) ≤ n
-hands_step g at e log n z h =
-    omega (arith, hands_more (made g at log e) (local_of g at log), ap hands (local_step g at e log), z, h)
-
--- a hand to the site
-hand_raises : (c d : Bool) (n k : ℕ) → ((c && d) ≡ true → n ≡ suc k) → k ≤ (if c && d then n else k)
-hand_raises c d n k f = grind arith
+hands_step g at e log n z h = grind (arith, local_step)
 
 numbered : (g : Input) (log : Log) (a b from to : Site) (n : ℕ) (m : Msg) → IsAllowed g log (Hand from to n m)
     → (same_site a from && same_site b to) ≡ true → n ≡ suc (handed a b log)
@@ -137,13 +112,12 @@ hand_sum g at from to n m log h k e =
     let own : (same_site from from && same_site at to) ≡ true = both (same_site from from) (same_site at to) (site_self from) e in
     let is : n ≡ suc (handed from at log) = numbered g log from at from to n m h own in
     total_raise (λ a. handed a at log) (λ a. handed a at (Hand from to n m ∷ log)) 1 (sites g.catalogue.tms g.catalogue.dms) k.0 from k.1
-    (λ a. hand_raises (same_site a from) (same_site at to) n (handed a at log) (numbered g log a at from to n m h)) (rw own (omega (arith, is)))
+    (λ a. (grind arith)) (rw own (omega (arith, is)))
 
 hand_step : (g : Input) (at from to : Site) (n : ℕ) (m : Msg) (log : Log) (c : Bool) → IsAllowed g log (Hand from to n m)
     → IsThere (sites g.catalogue.tms g.catalogue.dms) from → same_site at to ≡ c → hands (local_of g at log) ≤ hands_sum g at log
     → hands (local_of g at (Hand from to n m ∷ log)) ≤ hands_sum g at (Hand from to n m ∷ log)
-hand_step g at from to n m log true h k e i = grind (arith, hands, hand_sum)
-hand_step g at from to n m log false h k e i = grind (arith, total_up, handed, sites, hand_raises, numbered, hands)
+hand_step g at from to n m log c h k e i = grind (arith, hand_sum, total_up, numbered)
 
 pub hands_few : (g : Input) (at : Site) (log : Log) → AllFewTicks g.events → IsLawful g log → IsPermitted g log → hands (local_of g at log) ≤ hands_sum g at log
 hands_few g U [] f l p = omega arith

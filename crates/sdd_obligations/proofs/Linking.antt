@@ -1,5 +1,5 @@
 -- What an act sends goes along links of the network.
-use Rattle.sdd_obligations.proofs.All.{Act, All, All-head, All-tail, AllFewTicks, AllLinked, Attempt, Bases, Bool, Change, Class, ClassView, Cond, D, DmNo, Does, Done, Hand, Home, Input, IsAnAsk, IsDueAt, IsLawful, IsPermitted, IsServedClass, IsWhole, List, Log, Msg, None, Null, Open, Option, Processes, Queued, Read, Refuses, Sends, Setting, Site, Some, T, TmNo, U, View, Waits, WasAsked, Write, [], active, ap, are_linked, arith, attempt_due, base_of, both, commit_act, cond, counts_tm, dm_no, effect, false, filter, first_send, first_there, head, head_of, home_of, if◌then◌else◌, in_filtered, in_mapped, in_range, is_asked_of, is_link, is_over, is_site, link_back, local_of, map, modules_asked, nat_le, numbers_to, opens, or_else, place_of_hand, queue, refl, sends_of_act, setting_of, sites, slice_get, slice_index_or, source_of, start_at, start_read, subst, suc, sym, t_fair, tm_no, true, u_fair, view_of, was_handed, write_to, zero, ℕ, ◌++◌, ◌==◌, ◌∙◌, ◌∷◌, ◌≡◌, ◌≤◌}
+use Rattle.sdd_obligations.proofs.All.{Act, All, All-head, All-tail, AllFewTicks, AllLinked, Attempt, Bases, Bool, Change, Class, ClassView, Cond, D, DmNo, Does, Hand, Home, Input, IsDueAt, IsLawful, IsPermitted, IsServedClass, IsWhole, List, Log, Msg, None, Open, Option, Queued, Read, Sends, Setting, Site, Some, T, TmNo, U, View, Waits, WasAsked, [], active, are_linked, arith, attempt_due, base_of, both, commit_act, counts_tm, dm_no, effect, false, filter, first_send, first_there, head, head_of, home_of, if◌then◌else◌, in_filtered, in_mapped, in_range, is_asked_of, is_link, is_over, is_site, link_back, local_of, map, modules_asked, nat_le, numbers_to, opens, or_else, place_of_hand, queue, refl, sends_of_act, setting_of, sites, slice_get, slice_index_or, start_at, start_read, subst, suc, sym, t_fair, tm_no, true, u_fair, view_of, was_handed, write_to, zero, ℕ, ◌++◌, ◌∷◌, ◌≡◌}
 use Rattle.sdd_obligations.proofs.OfNext.{IsThere, OfNext, d_of_sites, link_of_links, of_next, t_of_sites}
 use Rattle.sdd_obligations.proofs.Going.{in_made, was_asked_of}
 use Rattle.sdd_obligations.proofs.Near.{AllNear, HasNear, IsNear, SendsNear, active_near, modules_near}
@@ -22,12 +22,6 @@ Here g a = is_site g.catalogue.tms g.catalogue.dms a ≡ true
 
 link_of : (g : Input) (a b : Site) → Here g a → Here g b → are_linked a b ≡ true → Links g a b
 link_of g a b h i j = rw (h, i, j) refl
-
-near_here : (g : Input) (d : ℕ) → IsNear g.catalogue.dms d → Here g (D (dm_no d))
-near_here g d h = both (nat_le 1 d) (nat_le d g.catalogue.dms) (le_true 1 d h.0) (le_true d g.catalogue.dms h.1)
-
-t_here : (g : Input) (t : ℕ) → 1 ≤ t → t ≤ g.catalogue.tms → Here g (T (tm_no t))
-t_here g t l m = both (nat_le 1 t) (nat_le t g.catalogue.tms) (le_true 1 t l) (le_true t g.catalogue.tms m)
 
 -- what all sends of an act are
 
@@ -70,22 +64,12 @@ near_at n (x ∷ ds) (suc k) d h e = near_at n ds k d h.1 e
 start_linked : (g : Input) (at : Site) (c : ℕ) (log : site.Log) (q : Queued) → IsWhole g.catalogue → ToModules g at
     → ActLinked g at (start_at (setting_of g at) c log q)
 start_linked g at c log q w f =
-    all_linked g at (sends_of_act (start_at (setting_of g at) c log q)) (λ k p e. let r =
-    in_mapped (λ d. (D (dm_no d), start_read (setting_of g at) c log q d)) (modules_asked (setting_of g at) c q.text) k p e in
-    subst (λ (x : Site × Msg). Links g at x.0) r.2
-    (f r.0 (near_at g.catalogue.dms (modules_asked (setting_of g at) c q.text) k r.0 (modules_near g.catalogue c _ w) r.1)))
-
-write_linked : (g : Input) (at : Site) (b : Bool) (d : ℕ) (m : Msg) (p : Site × Msg) → Links g at (D (dm_no d))
-    → cond {A = Option (Site × Msg)} b (Some (D (dm_no d), m)) None ≡ Some p → Links g at p.0
-write_linked g at b d m p l e = grind arith
+    all_linked g at (sends_of_act (start_at (setting_of g at) c log q)) (grind (arith, in_mapped, dm_no, start_read, setting_of, modules_asked, Links, near_at, modules_near))
 
 commit_linked : (g : Input) (at : Site) (c : ℕ) (bases : Bases) (a : Attempt) → ToModules g at → ActLinked g at (commit_act g.catalogue bases c a)
 commit_linked g at c bases a f =
     let xs : List Change = (effect g.catalogue (bases a.ts) a.text).changes in
-    all_linked g at (sends_of_act (commit_act g.catalogue bases c a)) (λ k p e. let r =
-    in_made (write_to g.catalogue c a xs) (numbers_to g.catalogue.dms) k p e in
-    let i = in_range 1 g.catalogue.dms r.1 r.0 r.2 in
-    write_linked g at _ r.0 _ p (f r.0 (i.0, omega (arith, i.1))) r.3)
+    all_linked g at (sends_of_act (commit_act g.catalogue bases c a)) (grind (arith, in_made, write_to, numbers_to, in_range))
 
 over_linked : (g : Input) (at : Site) (c : ℕ) (bases : Bases) (a : Attempt) (b : Bool) (act : Act) → ToModules g at
     → (if b then Some (commit_act g.catalogue bases c a) else None) ≡ Some act → ActLinked g at act
@@ -104,10 +88,6 @@ attempt_linked g at c bases log (Some a) act f h e = send_linked g at c bases a 
 
 -- at a T
 
-null_linked : (g : Input) (at : Site) (q : tm_views.Question) (b : Bool) (o : Option ℕ) (act : Act) → Links g at q.from
-    → (if b then tm.null_at q o else None) ≡ Some act → ActLinked g at act
-null_linked g at q b o act l e = grind (arith, linked_some, one_linked)
-
 held_linked : (g : Input) (at : Site) (b : Bool) (m : Msg) (hand : Option ℕ) (act : Act) → Links g at U
     → (if b then Some (Sends U m hand) else None) ≡ Some act → ActLinked g at act
 held_linked g at b m hand act l e = grind (arith, linked_some, one_linked)
@@ -123,21 +103,17 @@ t_linked g t log bases act w f h p here (tm.by_exchange k c i e) =
     let s : Setting = setting_of g (T t) in let l : site.Log = local_of g (T t) log in
     let r = in_mapped (tm_views.class_view s l) (tm_views.runs s) k c i in
     attempt_linked g (T t) r.0 bases l (active s r.0 l) act (λ d n. link_of g (T t) (D (dm_no d)) here
-    (near_here g d n) refl) (active_near s r.0 l w (t_fair g t log p)) (subst (λ v. tm.exchange_due g.catalogue bases v ≡ Some act) (sym r.2) e)
-t_linked g t log bases act w f h p here (tm.by_ask k n c q i r e) =
-    null_linked g (T t) q (q.class == c.class) _ act (asked_linked g (T t) log q.from IsAnAsk f h (was_asked_of (local_of g (T t) log) n q r)) e
+    (both (nat_le 1 d) (nat_le d g.catalogue.dms) (le_true 1 d n.0) (le_true d g.catalogue.dms n.1)) refl) (active_near s r.0 l w (t_fair g t log p)) (subst (λ v. tm.exchange_due g.catalogue bases v ≡ Some act) (sym r.2) e)
+t_linked g t log bases act w f h p here (tm.by_ask k n c q i r e) = grind (arith, linked_some, one_linked, asked_linked, was_asked_of)
 t_linked g t log bases act w f h p here (tm.by_hold e) = held_linked g (T t) _ _ _ act (link_of g (T t) U here refl refl) e
 t_linked g t log bases act w f h p here (tm.by_start k c i e) =
-    begin_linked g t (local_of g (T t) log) _ c.class (head_of c.queue) act w (λ d n. link_of g (T t) (D (dm_no d)) here (near_here g d n) refl) e
+    begin_linked g t (local_of g (T t) log) _ c.class (head_of c.queue) act w (λ d n. link_of g (T t) (D (dm_no d)) here (both (nat_le 1 d) (nat_le d g.catalogue.dms) (le_true 1 d n.0) (le_true d g.catalogue.dms n.1)) refl) e
 
 -- at U
 
 tm_linked : (g : Input) (b : Bool) (t : ℕ) (m : Msg) (act : Act) → Links g U (T (tm_no t))
     → (if b then Some (Sends (T (tm_no t)) m None) else None) ≡ Some act → ActLinked g U act
 tm_linked g b t m act l e = grind (arith, linked_some, one_linked)
-
-hold_linked : (g : Input) (k : um_views.TmCounts) (o : Option Queued) (act : Act) → Links g U (T (tm_no k.tm)) → um.hold_to k o ≡ Some act → ActLinked g U act
-hold_linked g k o act l e = grind (arith, tm_linked)
 
 u_start_linked : (g : Input) (log : site.Log) (b : Bool) (q : Queued) (act : Act) → IsWhole g.catalogue → ToModules g U
     → (if b then Some (start_at (setting_of g U) 0 log q) else None) ≡ Some act → ActLinked g U act
@@ -151,21 +127,16 @@ u_begin_linked g log (Some q) act w f e = u_start_linked g log _ q act w f e
 
 count_linked : (g : Input) (log : site.Log) (j : ℕ) (k : um_views.TmCounts)
     → slice_get (map (λ t. um_views.counts t log) (numbers_to g.catalogue.tms)) j ≡ Some k → Links g U (T (tm_no k.tm))
-count_linked g log j k e =
-    let r = in_mapped (λ t. um_views.counts t log) (numbers_to g.catalogue.tms) j k e in
-    let i = in_range 1 g.catalogue.tms j r.0 r.1 in
-    let n : k.tm ≡ r.0 = ap (λ (x : um_views.TmCounts). x.tm) (sym r.2) ∙ counts_tm r.0 log in
-    link_of g U (T (tm_no k.tm)) refl (t_here g k.tm (omega (arith, n, i.0)) (omega (arith, n, i.1))) refl
+count_linked g log j k e = grind (arith, in_mapped, in_range, counts_tm, link_of, nat_le, le_true)
 
 u_linked : (g : Input) (log : Log) (bases : Bases) (act : Act) → IsWhole g.catalogue → IsPermitted g log
     → um.IsDue g.catalogue bases (um_views.view_of (setting_of g U) (local_of g U log)) act → ActLinked g U act
 u_linked g log bases act w p (um.by_exchange e) =
     attempt_linked g U 0 bases (local_of g U log) (active (setting_of g U) 0 (local_of g U log)) act
-    (λ d n. link_of g U (D (dm_no d)) refl (near_here g d n) refl) (active_near (setting_of g U) 0 (local_of g U log) w (u_fair g log p)) e
+    (λ d n. link_of g U (D (dm_no d)) refl (both (nat_le 1 d) (nat_le d g.catalogue.dms) (le_true 1 d n.0) (le_true d g.catalogue.dms n.1)) refl) (active_near (setting_of g U) 0 (local_of g U log) w (u_fair g log p)) e
 u_linked g log bases act w p (um.by_release j k i e) = tm_linked g _ k.tm _ act (count_linked g (local_of g U log) j k i) e
-u_linked g log bases act w p (um.by_start e) = grind (arith, u_begin_linked, link_of, near_here)
-u_linked g log bases act w p (um.by_hold j k i e) =
-    hold_linked g k (head_of (queue (setting_of g U) 0 (local_of g U log))) act (count_linked g (local_of g U log) j k i) e
+u_linked g log bases act w p (um.by_start e) = grind (arith, u_begin_linked, link_of, nat_le, le_true)
+u_linked g log bases act w p (um.by_hold j k i e) = grind (arith, tm_linked, count_linked)
 
 -- at a data module
 
@@ -173,11 +144,8 @@ class_source : (g : Input) (d : DmNo) (ks : List Class) (i : ℕ) → All (IsSer
     → Links g (D d) (slice_index_or (map (λ k. T k.tm) ks) i U)
 class_source g d [] i h here = link_of g (D d) U here refl refl
 class_source g d (k ∷ ks) zero h here =
-    let s = All-head (IsServedClass g.catalogue) k ks h in link_of g (D d) (T k.tm) here (t_here g k.tm.0 s.module_from s.module_to) refl
+    let s = All-head (IsServedClass g.catalogue) k ks h in link_of g (D d) (T k.tm) here (both (nat_le 1 k.tm.0) (nat_le k.tm.0 g.catalogue.tms) (le_true 1 k.tm.0 s.module_from) (le_true k.tm.0 g.catalogue.tms s.module_to)) refl
 class_source g d (k ∷ ks) (suc i) h here = class_source g d ks i (All-tail (IsServedClass g.catalogue) k ks h) here
-
-source_linked : (g : Input) (d : DmNo) (c : ℕ) → IsWhole g.catalogue → Here g (D d) → Links g (D d) (source_of (home_of (setting_of g (D d))) c)
-source_linked g d c w here = grind (arith, link_of, class_source)
 
 answer_linked : (g : Input) (d : DmNo) (h : Home) (k : ClassView) (o : Open) (m : Msg) (act : Act) → Links g (D d) o.from
     → dm.answer_to h k o m ≡ Some act → ActLinked g (D d) act
@@ -193,27 +161,16 @@ open_linked g d log h k (Some o) act f l p e =
 asks_linked : (g : Input) (d : DmNo) (ds : List Cond) → IsWhole g.catalogue → Here g (D d)
     → AllLinked g (D d) (map (dm.ask_for (home_of (setting_of g (D d)))) ds)
 asks_linked g d [] w here = tt
-asks_linked g d (q ∷ ds) w here = (source_linked g d q.class.0 w here, asks_linked g d ds w here)
-
-done_linked : (g : Input) (d : DmNo) (b : Bool) (m : Msg) → Here g (D d) → AllLinked g (D d) (if b then (U, m) ∷ [] else [])
-done_linked g d b m here = grind (arith, link_of)
+asks_linked g d (q ∷ ds) w here = ((grind (arith, link_of, class_source)), asks_linked g d ds w here)
 
 step_linked : (g : Input) (d : DmNo) (v : View) (c : ℕ) (m : Msg) (step : Step) → IsWhole g.catalogue → Here g (D d)
     → ActLinked g (D d) (dm.act_by (home_of (setting_of g (D d))) v c m step)
-step_linked g d v c (Null class time) step w here = tt
-step_linked g d v c (Write ts class txn changes) step w here = done_linked g d (c == 0) (Done ts) here
-step_linked g d v c (Read ts class txn attempt conds uses) Processes w here = (source_linked g d c w here, tt)
-step_linked g d v c (Read ts class txn attempt conds uses) (Refuses by write) w here = (source_linked g d c w here, tt)
 step_linked g d v c (Read ts class txn attempt conds uses) (Waits ds) w here = asks_linked g d ds w here
-step_linked g d v c m step w here = (link_of g (D d) U here refl refl, tt)
-
-head_linked : (g : Input) (d : DmNo) (v : View) (c : ℕ) (o : Option Msg) (s : Option Step) (act : Act) → IsWhole g.catalogue → Here g (D d)
-    → dm.act_where (home_of (setting_of g (D d))) v c o s ≡ Some act → ActLinked g (D d) act
-head_linked g d v c o s act w here e = grind (arith, linked_some, step_linked)
+step_linked g d v c m step w here = grind (arith, class_source, link_of)
 
 d_linked : (g : Input) (d : DmNo) (log : Log) (act : Act) → IsWhole g.catalogue → AllFewTicks g.events → IsLawful g log → Here g (D d)
     → dm.IsDue (home_of (setting_of g (D d))) (view_of (setting_of g (D d)) (local_of g (D d) log)) act → ActLinked g (D d) act
-d_linked g d log act w f l here e = grind (arith, open_linked, opens, head_linked, head)
+d_linked g d log act w f l here e = grind (arith, open_linked, opens, linked_some, step_linked, head)
 
 -- of any site
 

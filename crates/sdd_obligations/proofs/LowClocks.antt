@@ -1,9 +1,8 @@
 -- The clocks of a run whose schedule has few events, and that has few attempts: ticks come from the schedule alone, and each
 -- Start is an attempt.
-use Rattle.sdd_obligations.proofs.All.{Act, AllFewTicks, Bool, Call, Deliver, Does, Down, Event, History, Input, IsLawful, IsSmall, List, Log, Lose, MAX_EVENTS, MAX_TICKS, Mark, Msg, None, Notes, Nothing, Rec, Redeclares, Repeat, Resend, Round, Settle, Site, Some, Start, Submission, Submit, Submitted, Tick, Up, [], after_mark, all_links, ap, arith, attempt_of, attempts, calls_of, clock, cond, cons_option, filter_map, flat_map, from_event, height, history, in_flight, left, length, link, local_of, map, mark_from, mark_is_next, mark_of, marks, placed, quiet, records_of_act, refl, replicate, resends_now, round, starts_by, subst, suc, suc-mul, tail_of, ticks_of, true, txn_no, zero, ℕ, ◌*◌, ◌++◌, ◌+◌, ◌<◌, ◌^◌, ◌∙◌, ◌∷◌, ◌≡◌, ◌≤◌}
+use Rattle.sdd_obligations.proofs.All.{AllFewTicks, Bool, Call, Deliver, Does, Down, Event, History, Input, IsLawful, IsSmall, List, Log, Lose, MAX_EVENTS, MAX_TICKS, Mark, Msg, None, Rec, Redeclares, Repeat, Resend, Round, Settle, Site, Some, Start, Submit, Tick, Up, [], after_mark, all_links, ap, arith, attempt_of, attempts, calls_of, clock, cond, cons_option, filter_map, flat_map, from_event, height, history, in_flight, left, length, link, local_of, mark_from, mark_is_next, mark_of, marks, placed, quiet, refl, replicate, resends_now, starts_by, subst, suc, suc-mul, tail_of, ticks_of, true, zero, ℕ, ◌*◌, ◌++◌, ◌+◌, ◌<◌, ◌^◌, ◌∙◌, ◌∷◌, ◌≡◌, ◌≤◌}
 use Rattle.sdd_obligations.proofs.Early.{is_under}
 use Rattle.sdd_obligations.proofs.OfNext.{of_next}
-use Rattle.sdd_laws.specs.All.{Attempt}
 
 -- the ticks of events
 
@@ -11,12 +10,9 @@ abbrev all_ticks : List Event → ℕ
 all_ticks [] = 0
 all_ticks (e ∷ es) = ticks_of e + all_ticks es
 
-one_more : (a b n k : ℕ) → a ≤ k → b ≤ n * k → a + b ≤ suc n * k
-one_more a b n k l m = let e = suc-mul n k in omega (arith, l, m, e)
-
 ticks_few : (es : List Event) → AllFewTicks es → all_ticks es ≤ length es * MAX_TICKS
 ticks_few [] f = omega arith
-ticks_few (e ∷ es) f = one_more (ticks_of e) (all_ticks es) (length es) MAX_TICKS f.0 (ticks_few es f.1)
+ticks_few (e ∷ es) f = (let e = suc-mul (length es) MAX_TICKS in omega (arith, f.0, (ticks_few es f.1), e))
 
 -- rounds have none
 
@@ -43,9 +39,6 @@ delivers_none : (calls : List (Call Msg)) (ls : List (Site × Site))
     → all_ticks (flat_map (λ l. replicate (in_flight (link l.0 l.1 calls)) (Deliver l.0 l.1 1)) ls) ≡ 0
 delivers_none calls [] = refl
 delivers_none calls (l ∷ ls) = none_join _ _ (replicate_none (in_flight (link l.0 l.1 calls)) l.0 l.1) (delivers_none calls ls)
-
-round_none : (calls : List (Call Msg)) (ls : List (Site × Site)) → all_ticks (round ls calls) ≡ 0
-round_none calls ls = none_join _ _ (resends_none calls ls) (delivers_none calls ls)
 
 -- what a mark takes from the events that are left
 
@@ -91,8 +84,7 @@ ticks_left g (Mark e ∷ log) f h =
     marked g log (left g.events log) e (log_ticks log) (all_ticks g.events) (mark_is_next g log (Mark e) refl h.0) (ticks_left g log f h.1)
 ticks_left g (Redeclares t ∷ log) f h = redeclared (left g.events log) (log_ticks log) (all_ticks g.events) (ticks_left g log f h.1)
 ticks_left g (Round es ∷ log) f h =
-    let e : es ≡ round (all_links g) (calls_of log) = of_next g log (Round es) f h.1 h.0 in
-    ((ticks_left g log f h.1).0, ap all_ticks e ∙ round_none (calls_of log) (all_links g))
+    ((ticks_left g log f h.1).0, ap all_ticks (of_next g log (Round es) f h.1 h.0) ∙ (none_join _ _ (resends_none (calls_of log) (all_links g)) (delivers_none (calls_of log) (all_links g))))
 ticks_left g (_ ∷ log) f h = ticks_left g log f h.1
 
 -- each Start of the log is an attempt of its history
@@ -104,9 +96,7 @@ log_starts (_ ∷ log) = log_starts log
 
 height_is : (log : Log) → height log ≡ log_ticks log + log_starts log
 height_is [] = refl
-height_is (Mark e ∷ log) = let i = height_is log in omega (arith, i)
-height_is (Does at act ∷ log) = let i = height_is log in omega (arith, i)
-height_is (_ ∷ log) = height_is log
+height_is (e ∷ log) = grind (arith, (height_is log))
 
 abbrev start_of : Rec → ℕ
 start_of (Start txn attempt class ts p2 uses) = 1
@@ -116,40 +106,20 @@ abbrev starts_in : History → ℕ
 starts_in [] = 0
 starts_in (e ∷ h) = start_of e.1 + starts_in h
 
-one_attempt : (k : ℕ) (r : Rec) (found : List Attempt) → length (cons_option (attempt_of (k, r)) found) ≡ start_of r + length found
-one_attempt k r found = grind arith
-
 attempts_count : (k : ℕ) (h : History) → length (filter_map attempt_of (placed k h)) ≡ starts_in h
 attempts_count k [] = refl
-attempts_count k (e ∷ h) = one_attempt k e.1 (filter_map attempt_of (placed (suc k) h)) ∙ ap (λ n. start_of e.1 + n) (attempts_count (suc k) h)
+attempts_count k (e ∷ h) = (grind arith) ∙ ap (λ n. start_of e.1 + n) (attempts_count (suc k) h)
 
 starts_join : (h more : History) → starts_in (h ++ more) ≡ starts_in h + starts_in more
 starts_join [] more = omega arith
 starts_join (e ∷ h) more = let i = starts_join h more in omega (arith, i)
 
-act_starts : (k : ℕ) (act : Act) → starts_in (map (λ r. (k, r)) (records_of_act act)) ≡ starts_by act
-act_starts k act = grind arith
-
-no_more : (a b c : ℕ) → a ≡ b + 0 → b ≡ c → a ≡ c
-no_more a b c e f = omega (arith, e, f)
-
-more_starts : (a b c d s : ℕ) → a ≡ b + d → d ≡ s → b ≡ c → a ≡ s + c
-more_starts a b c d s e f i = omega (arith, e, f, i)
-
 starts_are : (log : Log) → starts_in (history log) ≡ log_starts log
 starts_are [] = refl
-starts_are (Submitted at n ∷ log) =
-    no_more _ (starts_in (history log)) (log_starts log) (starts_join (history log) ((marks log, Submission (txn_no n)) ∷ [])) (starts_are log)
-starts_are (Notes ∷ log) = no_more _ (starts_in (history log)) (log_starts log) (starts_join (history log) ((marks log, Nothing) ∷ [])) (starts_are log)
-starts_are (Does at act ∷ log) = grind (arith, more_starts, starts_join, marks, act_starts, starts_are log)
-starts_are (_ ∷ log) = starts_are log
+starts_are (e ∷ log) = grind (arith, starts_in, log_starts, starts_join, history, marks, (starts_are log))
 
 -- so both are few
 
-low : (c h t s u v : ℕ) → c ≤ h → h ≡ t + s → t + u ≤ v → v ≤ MAX_EVENTS * MAX_TICKS → s ≤ 2 ^ 22 → c < 2 ^ 39
-low c h t s u v a b d e f = omega (arith, a, b, d, e, f)
-
 pub clock_low : (g : Input) (log : Log) (at : Site) → IsSmall g → IsLawful g log → length g.events ≤ MAX_EVENTS
     → length (attempts (history log)) ≤ 2 ^ 22 → (clock at (local_of g at log)).ticks < 2 ^ 39
-clock_low g log at s l events few =
-    grind (arith, ticks_few, attempts_count, starts_are, low, left, is_under, height_is, ticks_left)
+clock_low g log at s l events few = grind (arith, ticks_few, attempts_count, starts_are, is_under, height_is, ticks_left)

@@ -1,5 +1,5 @@
 -- Times and messages below a height, in lists.
-use Rattle.sdd_obligations.proofs.All.{AllLe, AllLow, Bool, Cond, FragNo, IsLow, List, Msg, None, Option, Some, Write, [], arith, cond, cons_option, filter_map, fold, greatest, if◌then◌else◌, le_up, map, or_zero, raised, refl, slice_get, subst, suc, times_of, top, touches, write_time, zero, ℕ, ◌++◌, ◌∷◌, ◌≡◌, ◌≤◌}
+use Rattle.sdd_obligations.proofs.All.{AllLe, AllLow, Bool, Cond, FragNo, IsLow, List, Msg, None, Option, Some, Write, [], arith, cons_option, filter_map, fold, greatest, if◌then◌else◌, le_up, map, or_zero, raised, refl, slice_get, subst, suc, times_of, top, write_time, zero, ℕ, ◌++◌, ◌∷◌, ◌≡◌, ◌≤◌}
 
 pub low_up : (h k : ℕ) (m : Msg) → h ≤ k → IsLow h m → IsLow k m
 low_up h k m l i = le_up (top h) (top k) (times_of m) (omega arith) i
@@ -49,21 +49,14 @@ cond_le_at k (x ∷ ds) (suc n) d h e = cond_le_at k ds n d h.1 e
 
 -- the greatest of the times of WRITEs
 
-raised_le : (k : ℕ) (o : Option ℕ) (n : ℕ) → or_zero o ≤ k → n ≤ k → or_zero (raised o n) ≤ k
-raised_le k o n i j = grind arith
-
 fold_le : (k : ℕ) (o : Option ℕ) (ns : List ℕ) → or_zero o ≤ k → AllLe k ns → or_zero (fold raised o ns) ≤ k
 fold_le k o [] i h = i
-fold_le k o (n ∷ ns) i h = fold_le k (raised o n) ns (raised_le k o n i h.0) h.1
+fold_le k o (n ∷ ns) i h = fold_le k (raised o n) ns (grind arith) h.1
 
 pub greatest_le : (k : ℕ) (ns : List ℕ) → AllLe k ns → or_zero (greatest ns) ≤ k
 greatest_le k ns h = fold_le k None ns (omega arith) h
 
-cons_time : (k : ℕ) (b : Bool) (t : ℕ) (ns : List ℕ) → t ≤ k → AllLe k ns → AllLe k (cons_option (cond b (Some t) None) ns)
-cons_time k b t ns i h = grind arith
-
 pub write_times_le : (h : ℕ) (frags : List FragNo) (ms : List Msg) → AllLow h ms → AllLe (top h) (filter_map (write_time frags) ms)
 write_times_le h frags [] i = tt
-write_times_le h frags (Write ts class txn changes ∷ ms) i =
-    cons_time (top h) (touches frags changes) ts.0 (filter_map (write_time frags) ms) i.0.0 (write_times_le h frags ms i.1)
+write_times_le h frags (Write ts class txn changes ∷ ms) i = grind (arith, filter_map, (write_times_le h frags ms i.1))
 write_times_le h frags (_ ∷ ms) i = write_times_le h frags ms i.1

@@ -78,9 +78,6 @@ kept_none true ns e = cc
 kept_none false [] e = refl
 kept_none false (n ∷ ns) e = kept_none false ns refl
 
-reads_here : (d u : ℕ) (m : ℕ × List ℕ) → (m.0 == d) ≡ true → contains m.1 u ≡ true → contains (filter (λ (u : ℕ). m.0 == d) m.1) u ≡ true
-reads_here d u m e f = subst (λ l. contains l u ≡ true) (sym (kept_all (m.0 == d) m.1 e)) f
-
 -- a module that reads a use is one of them, and the use is one of those that are read there
 pub reading_reads : (ms : List (ℕ × List ℕ)) (u d : ℕ) → contains (reading ms u) d ≡ true → (contains (firsts ms) d ≡ true) × (contains (uses_at ms d) u ≡ true)
 reading_reads [] u d e = cc
@@ -89,7 +86,7 @@ reading_reads (m ∷ ms) u d e =
     → contains (cons_option (cond b (Some m.0) None) (reading ms u)) d ≡ true
     → (contains (firsts (m ∷ ms)) d ≡ true) × (contains (uses_at (m ∷ ms) d) u ≡ true)) [
       | true ↦ λ p q. elim (either (m.0 == d) (contains (reading ms u) d) q) [
-        | inl r ↦ (or_left (m.0 == d) (contains (firsts ms) d) r, contains_left (filter (λ (u : ℕ). m.0 == d) m.1) (uses_at ms d) u (reads_here d u m r p))
+        | inl r ↦ (or_left (m.0 == d) (contains (firsts ms) d) r, contains_left (filter (λ (u : ℕ). m.0 == d) m.1) (uses_at ms d) u (subst (λ l. contains l u ≡ true) (sym (kept_all (m.0 == d) m.1 r)) p))
         | inr r ↦ (let i = reading_reads ms u d r in (
           or_right (m.0 == d) (contains (firsts ms) d) i.0,
           contains_right (filter (λ (u : ℕ). m.0 == d) m.1) (uses_at ms d) u i.1,

@@ -1,5 +1,5 @@
 -- An attempt sends to data modules of the catalogue alone.
-use Rattle.sdd_obligations.proofs.All.{Act, All, All-get_or, All-nil, Asking, Attempt, Bool, Catalogue, D, Did, Each, Exchange, Fetching, Handed, IsFair, IsStep, IsWhole, List, Move, Msg, None, Option, Over, Phase, Queued, ReadPlace, Ready, Reduced, Rows, Setting, Shipping, Site, Some, Step, Values, [], active, active_handed, active_sent, after_hand, after_send, answered, arith, ascending, class_at, cond, cons_option, contains, counted, counts_for, dm_no, false, fetches, fetches_from, filter_map, find, fold, found_in_all, get_or_past, goes_on, head_of, if_way, if◌then◌else◌, insert_key, lacking, length, lower_same_higher, map, module_read, modules_asked, modules_of, move_at, nat_cmp, next_move, next_stamp, numbers_to, option_map, phase_ends, queue, range_with_len, reads_at, reduces, refl, rejects, sends_of_act, ships, start_at, start_read, started, step_way, subst, suc, tail_of, to_all, true, with_use, with_values, without, zero, ℕ, ◌&&◌, ◌++◌, ◌+◌, ◌-◌, ◌==◌, ◌∷◌, ◌≡◌, ◌≤◌}
+use Rattle.sdd_obligations.proofs.All.{Act, All, All-get_or, All-nil, Asking, Attempt, Bool, Catalogue, D, Did, Each, Exchange, Fetching, Handed, IsFair, IsStep, IsWhole, List, Move, Msg, None, Option, Over, Phase, Queued, ReadPlace, Ready, Reduced, Rows, Setting, Shipping, Site, Some, Step, Values, [], active, active_handed, after_hand, answered, arith, ascending, class_at, cond, cons_option, contains, counted, dm_no, false, fetches_from, filter_map, find, fold, found_in_all, get_or_past, goes_on, head_of, if_way, if◌then◌else◌, insert_key, lacking, length, lower_same_higher, map, module_read, modules_asked, modules_of, nat_cmp, next_stamp, numbers_to, option_map, phase_ends, queue, range_with_len, reads_at, reduces, refl, rejects, sends_of_act, ships, start_at, start_read, started, step_way, subst, suc, to_all, true, with_use, with_values, without, zero, ℕ, ◌&&◌, ◌++◌, ◌+◌, ◌-◌, ◌==◌, ◌∷◌, ◌≡◌, ◌≤◌}
 use Rattle.sdd_invariants.specs.catalog.Numbers.{IsServed}
 use Rattle.sdd_invariants.specs.site_module.SiteLog.{Log}
 
@@ -54,19 +54,7 @@ ships_near n ts c x h = record { modules = h.modules; sends = to_near n _ (map (
 
 on_near : (n ts c : ℕ) (x : Exchange) (qs : List Asking) (done : List Step) → IsNearBy n x → IsNearBy n (goes_on ts c x qs done)
 on_near n ts c x [] done h = ships_near n ts c x h
-on_near n ts c x (q ∷ rest) done h =
-    elim (next_move q.conds (counts_for x.counts q) done) as (λ o. IsNearBy n
-    (elim o as (λ _. Exchange) [
-      | None ↦ goes_on ts c x rest []
-      | Some m ↦ fetches ts c (move_at q.before m) (record x { left = q ∷ rest; done = done ++ m.step ∷ [] })
-    ])) [
-      | None ↦ on_near n ts c x rest [] h
-      | Some m ↦ fetches_near n ts c (move_at q.before m) (record x {
-        left = q ∷ rest;
-        done = done ++ m.step ∷ [];
-      }) (with_use x (move_at q.before m).source.part)
-          (use_near n (move_at q.before m).source.part x.modules h.modules) (record { modules = h.modules; sends = h.sends })
-    ]
+on_near n ts c x (q ∷ rest) done h = grind (arith, IsNearBy, fetches_near, use_near, (on_near n ts c x rest))
 
 ends_near : (n ts c : ℕ) (x : Exchange) (p : Phase) → IsNearBy n x → IsNearBy n (phase_ends ts c x p)
 ends_near n ts c x (Fetching m) h = reduces_near n ts c m x h
@@ -87,10 +75,7 @@ hand_near n ts c d (Ready t k counts) x h =
     answered_near n ts c d ((t.0 == ts) && (k.0 == c)) x (record x { counts = counted d counts x.counts }) h
     (record { modules = h.modules; sends = h.sends })
 hand_near n ts c d (Values t k u vs) x h =
-    answered_near n ts c d ((t.0 == ts) && (k.0 == c)) x (record x { union = with_values x.union vs; values = x.values + length vs }) h (record {
-      modules = h.modules;
-      sends = h.sends;
-    })
+    answered_near n ts c d ((t.0 == ts) && (k.0 == c)) x (record x { union = with_values x.union vs; values = x.values + length vs }) h (grind arith)
 hand_near n ts c d (Reduced t k u r) x h =
     answered_near n ts c d ((t.0 == ts) && (k.0 == c)) x (record x {
       counts = counted d ((u, r) ∷ []) x.counts;
@@ -101,12 +86,6 @@ hand_near n ts c d (Rows t k rows) x h =
       rows = x.rows + length rows;
     }) h (record { modules = h.modules; sends = h.sends })
 hand_near n ts c d _ x h = h
-
-tail_near : (n : ℕ) (ps : List (ℕ × Msg)) → SendsNear n ps → SendsNear n (tail_of ps)
-tail_near n ps h = grind arith
-
-sent_near : (n : ℕ) (x : Exchange) → IsNearBy n x → IsNearBy n (after_send x)
-sent_near n x h = record { modules = h.modules; sends = tail_near n x.to_send h.sends }
 
 -- the modules that a transaction reads at
 
@@ -129,9 +108,6 @@ made_near : (n : ℕ) (f : ℕ → Option ℕ) (xs : List ℕ) → ((x d : ℕ) 
 made_near n f [] h = tt
 made_near n f (x ∷ xs) h = made_cons n (f x) (filter_map f xs) (h x) (made_near n f xs h)
 
-reads_served : (cat : Catalogue) (c : ℕ) → IsWhole cat → All (IsServed cat) (class_at cat c).reads
-reads_served cat c w = grind (arith, All-get_or, get_or_past, All-nil)
-
 found_near : (cat : Catalogue) (p : ReadPlace → Bool) (rs : List ReadPlace) (o : Option ReadPlace) (d : ℕ) → All (IsServed cat) rs → find p rs ≡ o
     → option_map (λ r. r.at.0) o ≡ Some d → IsNear cat.dms d
 found_near cat p rs None d h e f = cc
@@ -142,7 +118,7 @@ found_near cat p rs (Some r) d h e f =
 read_near : (cat : Catalogue) (c f d : ℕ) → IsWhole cat → (c == 0) ≡ false → reads_at cat c f ≡ Some d → IsNear cat.dms d
 read_near cat c f d w z e =
     found_near cat (λ r. r.fragment.0 == f) (class_at cat c).reads (find (λ r. r.fragment.0 ==
-    f) (class_at cat c).reads) d (reads_served cat c w) refl (rw z at e)
+    f) (class_at cat c).reads) d (grind (arith, All-get_or, get_or_past, All-nil)) refl (rw z at e)
 
 pub modules_near : (cat : Catalogue) (c : ℕ) (fs : List ℕ) → IsWhole cat → AllNear cat.dms (modules_of cat c fs)
 modules_near cat c fs w = elim (c ==
@@ -159,8 +135,7 @@ HasNear n None = Unit {0}
 HasNear n (Some a) = IsNearBy n a.exchange
 
 started_near : (n ts : ℕ) (sends : List (Site × Msg)) (o : Option Queued) → ModulesNear n (filter_map module_read sends) → HasNear n (started ts sends o)
-started_near n ts sends None h = tt
-started_near n ts sends (Some q) h = record { modules = h; sends = tt }
+started_near n ts sends o h = grind arith
 
 reads_near : (n : ℕ) (s : Setting) (c : ℕ) (log : Log) (q : Queued) (ds : List ℕ) → AllNear n ds
     → ModulesNear n (filter_map module_read (map (λ d. (D (dm_no d), start_read s c log q d)) ds))
@@ -173,9 +148,6 @@ handed_near n c (D d) m (Some a) h =
     if_way (HasNear n) (rejects m a.ts c) None (Some (record a { exchange = after_hand a.ts c d.0 m a.exchange })) tt (hand_near n a.ts c d.0 m a.exchange h)
 handed_near n c _ m o h = h
 
-send_near : (n c : ℕ) (m : Msg) (o : Option Attempt) → HasNear n o → HasNear n (active_sent c m o)
-send_near n c m o h = grind (arith, if_way, sent_near)
-
 act_near : (s : Setting) (c : ℕ) (log : Log) (act : Act) → IsWhole s.catalogue → IsStep s log act → HasNear s.catalogue.dms (active s c log)
     → HasNear s.catalogue.dms (active s c (Did act ∷ log))
 act_near s c log act w i h = step_way s log act (λ x. HasNear s.catalogue.dms (active s c (Did x ∷ log)))
@@ -184,7 +156,7 @@ act_near s c log act w i h = step_way s log act (λ x. HasNear s.catalogue.dms (
     (started_near s.catalogue.dms (next_stamp s log) (sends_of_act (start_at s k log q))
     (head_of (queue s c log)) (reads_near s.catalogue.dms s k log q (modules_asked s k q.text) (modules_near s.catalogue k _ w))) h)
     (λ k bases a at f. if_way (HasNear s.catalogue.dms) (k == c) None (active s c log) tt h)
-    (λ to m hand f. send_near s.catalogue.dms c m (active s c log) h) i
+    (λ to m hand f. (grind (arith, if_way))) i
 
 pub active_near : (s : Setting) (c : ℕ) (log : Log) → IsWhole s.catalogue → Each (IsFair s) log → HasNear s.catalogue.dms (active s c log)
 active_near s c [] w f = tt

@@ -31,9 +31,6 @@ verdict_home g d log k m b ts c h e f = cc
 home_zero : (cat : Catalogue) (j : ℕ) → U ≡ home cat j → j ≡ 0
 home_zero cat j e = grind (arith, same_or_not, class_at)
 
-zero_source : (s : Setting) (j : ℕ) → IsClassHere s j → U ≡ source_of (home_of s) j → j ≡ 0
-zero_source s j l e = home_zero s.catalogue j (e ∙ source_is_home s j (omega (arith, l)))
-
 -- a declared class's T and its place there
 
 pub kept_place : (f : ℕ → Bool) (xs : List ℕ) (i x : ℕ) → slice_get xs i ≡ Some x → f x ≡ true → (j : ℕ) × (slice_get (filter f xs) j ≡ Some x)
@@ -77,7 +74,7 @@ u_not_rejected g d log n ts k by_class write w l m h e =
     let p = put_in_by_d g log d U n (Reject ts k by_class write) h e in
     let hb = (permitted_before g p.later (Does (D d) p.act ∷ p.before) (subst (IsPermitted g) p.is h)).1 in
     let by : IsRejectBy (setting_of g (D d)) (local_of g (D d) p.before) U p.act ts k by_class write = p.by in
-    let z : by.class ≡ 0 = zero_source (setting_of g (D d)) by.class by.here by.to_is in
+    let z : by.class ≡ 0 = (home_zero (setting_of g (D d)).catalogue by.class (by.to_is ∙ source_is_home (setting_of g (D d)) by.class (omega (arith, by.here)))) in
     let hd : head (pipe_at g 0 d p.before) ≡ Some (Read ts k by.txn by.attempt by.conds by.uses) =
     subst (λ j. head (pipe_at g j d p.before) ≡ Some (Read ts k by.txn by.attempt by.conds by.uses)) z
     by.head_is in

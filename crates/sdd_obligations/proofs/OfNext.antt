@@ -1,6 +1,6 @@
 -- What the next entry of a log is, beyond that it is allowed: it concerns sites and links of the network, and an event
 -- comes from those that were given or from a round.
-use Rattle.sdd_obligations.proofs.All.{Act, All-at, AllFewTicks, Bool, Call, D, Deliver, DmNo, Does, Down, Entry, Event, Hand, Input, IsLawful, IsTrue, List, Log, Lose, MAX_TICKS, Mark, Msg, None, Notes, Option, Redeclare, Redeclares, Repeat, Resend, Round, Settle, Site, Some, Submit, Submitted, T, Tick, TmNo, U, Up, [], after_mark, all_links, and_left, and_right, arith, at_map, calls_of, cond, cons_option, delivered, dm_no, does_at, due_by, false, filter_map, flat_map, found_at, from_event, greatest_bound, hand_due, hand_number, hand_on, hand_with, handed, if◌then◌else◌, in_either, in_flight, in_left, in_mapped, in_range, in_right, inl, inr, is_link, is_site, le_is, left, link, link_of, link_parts, links, links_exist, map, mark_due, mark_from, mark_of, nat_le, next, next_at, next_number, note_if, one_of, quiet, range_with_len, refl, replicate, resends_now, round, site_due, sites, slice_get, subst, suc, sym, tail_of, takes_part, ticks_of, tm_no, true, zero, ℕ, ◌&&◌, ◌++◌, ◌+◌, ◌-◌, ◌∷◌, ◌≡◌, ◌≤◌}
+use Rattle.sdd_obligations.proofs.All.{Act, All-at, AllFewTicks, Bool, Call, D, Deliver, DmNo, Does, Down, Entry, Event, Hand, Input, IsLawful, IsTrue, List, Log, Lose, MAX_TICKS, Mark, Msg, None, Notes, Option, Redeclare, Redeclares, Repeat, Resend, Round, Settle, Site, Some, Submit, Submitted, T, Tick, TmNo, U, Up, [], after_mark, all_links, and_left, and_right, arith, at_map, calls_of, cond, cons_option, delivered, dm_no, does_at, false, filter_map, flat_map, found_at, from_event, greatest_bound, hand_due, hand_number, hand_on, handed, if◌then◌else◌, in_either, in_flight, in_left, in_mapped, in_range, in_right, is_link, is_site, le_is, left, link, link_of, link_parts, links, links_exist, map, mark_due, mark_from, nat_le, next, next_at, next_number, one_of, quiet, range_with_len, refl, replicate, resends_now, round, site_due, sites, slice_get, subst, suc, sym, takes_part, ticks_of, tm_no, true, zero, ℕ, ◌&&◌, ◌++◌, ◌+◌, ◌-◌, ◌∷◌, ◌≡◌, ◌≤◌}
 use Rattle.sdd_obligations.proofs.Sums.{range_at}
 
 abbrev pub IsThere : {A : Type 0} → List A → A → Type 0
@@ -17,21 +17,8 @@ OfNext g log Notes = Unit {0}
 
 -- by an event
 
-of_note : (g : Input) (log : Log) (b : Bool) (e : Entry) → note_if b ≡ Some e → OfNext g log e
-of_note g log b e p = grind arith
-
-of_event : (g : Input) (x : Event) (log : Log) (e : Entry) → due_by g x log ≡ Some e → OfNext g (Mark x ∷ log) e
-of_event g (Submit n) log (Submitted at k) p = p
-of_event g (Deliver a b k) log e p = of_note g (Mark (Deliver a b k) ∷ log) _ e p
-of_event g (Lose a b k) log e p = of_note g (Mark (Lose a b k) ∷ log) _ e p
-of_event g (Repeat a b k) log e p = of_note g (Mark (Repeat a b k) ∷ log) _ e p
-of_event g (Resend a b) log e p = of_note g (Mark (Resend a b) ∷ log) _ e p
-of_event g (Down d) log e p = of_note g (Mark (Down d) ∷ log) _ e p
-of_event g (Up d) log e p = of_note g (Mark (Up d) ∷ log) _ e p
-of_event g _ log e p = cc
-
 of_mark : (g : Input) (log : Log) (e : Entry) → mark_due g log ≡ Some e → OfNext g log e
-of_mark g log e p = grind (arith, of_event)
+of_mark g log e p = grind (arith)
 
 -- at a site, on a link
 
@@ -39,13 +26,9 @@ of_site : (g : Input) (log : Log) (at : Site) (o : Option Act) (e : Entry) → I
     → next_at g log at ≡ o → does_at at o ≡ Some e → OfNext g log e
 of_site g log at o e k p q = grind arith
 
-of_message : (g : Input) (log : Log) (a b : Site) (n : ℕ) (o : Option Msg) (e : Entry) → IsThere (all_links g) (a, b)
-    → hand_with (a, b) n o ≡ Some e → OfNext g log e
-of_message g log a b n o e k p = grind arith
-
 of_link : (g : Input) (log : Log) (a b : Site) (c : Bool) (o : Option ℕ) (e : Entry) → IsThere (all_links g) (a, b)
     → (if c then hand_number log (a, b) o else None) ≡ Some e → OfNext g log e
-of_link g log a b c o e k p = grind (arith, of_message)
+of_link g log a b c o e k p = grind (arith)
 
 -- the next mark
 
@@ -72,19 +55,13 @@ of_events g log false (_ ∷ ws) e f p = let s : Round (round (all_links g) (cal
 abbrev pub AreFewLeft : List Event × List Event → Type 0
 AreFewLeft s = AllFewTicks s.0 × AllFewTicks s.1
 
-of_left : (g : Input) (log : Log) (s : List Event × List Event) (e : Entry) → AreFewLeft s → mark_of g log s ≡ Some e → OfNext g log e
-of_left g log s e f p = grind (arith, of_events, quiet, some_mark)
-
 few_from : (es : List Event) → AllFewTicks es → AllFewTicks (from_event es)
 few_from [] f = tt
 few_from (Settle ∷ es) f = few_from es f.1
 few_from (_ ∷ es) f = f
 
-few_tail : (es : List Event) → AllFewTicks es → AllFewTicks (tail_of es)
-few_tail es f = grind arith
-
 few_after : (s : List Event × List Event) → AreFewLeft s → AreFewLeft (after_mark s)
-few_after s f = grind (arith, few_tail, few_from)
+few_after s f = grind (arith, few_from)
 
 few_join : (xs ys : List Event) → AllFewTicks xs → AllFewTicks ys → AllFewTicks (xs ++ ys)
 few_join [] ys f h = h
@@ -107,9 +84,6 @@ few_delivers : (calls : List (Call Msg)) (ls : List (Site × Site))
 few_delivers calls [] = tt
 few_delivers calls (l ∷ ls) = few_join _ _ (few_replicate (in_flight (link l.0 l.1 calls)) l.0 l.1) (few_delivers calls ls)
 
-round_few : (calls : List (Call Msg)) (ls : List (Site × Site)) → AllFewTicks (round ls calls)
-round_few calls ls = few_join _ _ (few_resends calls ls) (few_delivers calls ls)
-
 next_is : (g : Input) (log : Log) (e : Entry) → AreFewLeft (left g.events log) → next g log ≡ Some e → OfNext g log e
 next_is g log e f p =
     one_of (OfNext g log e) (mark_due g log) _ e (of_mark g log e)
@@ -119,7 +93,7 @@ next_is g log e f p =
     (one_of (OfNext g log e) (hand_due g log) _ e
     (λ q. let r = found_at (hand_on log) (all_links g) e q in of_link g log r.1.0 r.1.1
     (takes_part r.1.1 log) (next_number (handed r.1.0 r.1.1 log) (delivered (link_of r.1.0 r.1.1 log).there)) e (r.0, r.2) r.3)
-    (λ q. of_left g log (left g.events log) e f q))) p
+    (λ q. (grind (arith, of_events, quiet, some_mark))))) p
 
 few_left : (g : Input) (log : Log) → AllFewTicks g.events → IsLawful g log → AreFewLeft (left g.events log)
 few_left g [] f h = (f, tt)
@@ -127,8 +101,7 @@ few_left g (Mark e ∷ log) f h = few_after (left g.events log) (few_left g log 
 few_left g (Redeclares t ∷ log) f h = few_after (left g.events log) (few_left g log f h.1)
 few_left g (Round es ∷ log) f h =
     let i = few_left g log f h.1 in
-    let e : es ≡ round (all_links g) (calls_of log) = next_is g log (Round es) i h.0 in
-    (i.0, subst AllFewTicks (sym e) (round_few (calls_of log) (all_links g)))
+    (i.0, subst AllFewTicks (sym (next_is g log (Round es) i h.0)) (few_join _ _ (few_resends (calls_of log) (all_links g)) (few_delivers (calls_of log) (all_links g))))
 few_left g (_ ∷ log) f h = few_left g log f h.1
 
 pub of_next : (g : Input) (log : Log) (e : Entry) → AllFewTicks g.events → IsLawful g log → next g log ≡ Some e → OfNext g log e
@@ -137,30 +110,17 @@ of_next g log e f h p = next_is g log e (few_left g log f h) p
 -- the sites of the network by their numbers
 
 pub t_of_sites : (tms dms : ℕ) (t : TmNo) → IsThere (sites tms dms) (T t) → (1 ≤ t.0) × (t.0 ≤ tms)
-t_of_sites tms dms t (zero, e) = cc
-t_of_sites tms dms t (suc k, e) =
-    elim (in_either (map (λ n. T (tm_no n)) (range_with_len 1 tms)) (map (λ n. D (dm_no n)) (range_with_len 1 dms)) k (T t) e) [
-      | inl p ↦ (let i = in_mapped (λ n. T (tm_no n)) (range_with_len 1 tms) k (T t) p in
-          let n : i.0 ≡ t.0 = cc in let r = in_range 1 tms k i.0 i.1 in (omega (arith, r.0, n), omega (arith, r.1, n)))
-      | inr p ↦ (let i = in_mapped (λ n. D (dm_no n)) (range_with_len 1 dms) p.0 (T t) p.1 in let n : D (dm_no i.0) ≡ T t = i.2 in cc)
-    ]
+t_of_sites tms dms t h4 = grind (arith, in_either, range_with_len, in_mapped, in_range)
 
 pub d_of_sites : (tms dms : ℕ) (d : DmNo) → IsThere (sites tms dms) (D d) → (1 ≤ d.0) × (d.0 ≤ dms)
-d_of_sites tms dms d (zero, e) = cc
-d_of_sites tms dms d (suc k, e) =
-    elim (in_either (map (λ n. T (tm_no n)) (range_with_len 1 tms)) (map (λ n. D (dm_no n)) (range_with_len 1 dms)) k (D d) e) [
-      | inl p ↦ (let i = in_mapped (λ n. T (tm_no n)) (range_with_len 1 tms) k (D d) p in let n : T (tm_no i.0) ≡ D d = i.2 in cc)
-      | inr p ↦ (let i = in_mapped (λ n. D (dm_no n)) (range_with_len 1 dms) p.0 (D d) p.1 in
-          let n : i.0 ≡ d.0 = cc in let r = in_range 1 dms p.0 i.0 i.1 in (omega (arith, r.0, n), omega (arith, r.1, n)))
-    ]
+d_of_sites tms dms d h4 = grind (arith, in_either, range_with_len, in_mapped, in_range)
 
 -- a site that exists is there, and so are the ends of a link
 
 there_in : (n k : ℕ) → (nat_le 1 k && nat_le k n) ≡ true → IsThere (range_with_len 1 n) k
 there_in n k e =
     let a = le_is 1 k (and_left _ _ e) in let b = le_is k n (and_right _ _ e) in
-    let q : 1 + (k - 1) ≡ k = omega (arith, a) in
-    (k - 1, subst (λ x. slice_get (range_with_len 1 n) (k - 1) ≡ Some x) q (range_at 1 n (k - 1) (omega (arith, a, b))))
+    (k - 1, subst (λ x. slice_get (range_with_len 1 n) (k - 1) ≡ Some x) (omega (arith, a)) (range_at 1 n (k - 1) (omega (arith, a, b))))
 
 pub site_there : (tms dms : ℕ) (at : Site) → is_site tms dms at ≡ true → IsThere (sites tms dms) at
 site_there tms dms U e = (0, refl)

@@ -1,5 +1,5 @@
 -- The messages that a data module has still to answer came by different hands; and lists of them.
-use Rattle.sdd_obligations.proofs.All.{Act, AllGt, AllLe, Arrive, Bool, Did, Handed, IsStrict, List, Msg, Open, Option, Records, Sends, Site, Some, [], ap, arith, class_asked, cond, false, filter, hands, if◌then◌else◌, is_some, le_join, le_up, lt_above, map, never, opens, opens_acted, refl, slice_get, strict_push, subst, suc, sym, true, zero, ℕ, ◌++◌, ◌<◌, ◌∙◌, ◌∷◌, ◌≡◌}
+use Rattle.sdd_obligations.proofs.All.{Act, AllGt, AllLe, Arrive, Bool, Did, Handed, IsStrict, List, Open, Option, Records, Sends, Some, [], ap, arith, cond, false, filter, hands, is_some, le_join, le_up, lt_above, map, never, opens, opens_acted, refl, slice_get, strict_push, subst, suc, sym, true, zero, ℕ, ◌++◌, ◌<◌, ◌∙◌, ◌∷◌, ◌≡◌}
 use Rattle.sdd_invariants.specs.site_module.SiteLog.{Log}
 
 abbrev pub hands_in : List Open → List ℕ
@@ -28,11 +28,6 @@ pub record AreApart (log : Log) : Type 0 where
   pub strict : IsStrict (hands_in (opens log))
   pub within : AllLe (hands log) (hands_in (opens log))
 
-apart_if : (b : Bool) (n : ℕ) (from : Site) (m : Msg) (os : List Open) → IsStrict (hands_in os) → AllLe n (hands_in os)
-    → IsStrict (hands_in (if b then os ++ record { hand = suc n; from = from; msg = m } ∷ [] else os))
-    × AllLe (suc n) (hands_in (if b then os ++ record { hand = suc n; from = from; msg = m } ∷ [] else os))
-apart_if b n from m os h l = grind (arith, hands_push, strict_push, lt_above, le_join, le_up)
-
 apart_acted : (act : Act) (n : ℕ) (os : List Open) → IsStrict (hands_in os) → AllLe n (hands_in os)
     → IsStrict (hands_in (opens_acted act os)) × AllLe n (hands_in (opens_acted act os))
 apart_acted (Records k (Arrive txn attempt dm) sends) n os h l = (strict_filter _ os h, le_filter _ n os l)
@@ -41,10 +36,7 @@ apart_acted (Records k _ sends) n os h l = (h, l)
 
 pub are_apart : (log : Log) → AreApart log
 are_apart [] = record { strict = tt; within = tt }
-are_apart (Handed from m ∷ log) =
-    let i = are_apart log in
-    let r = apart_if (is_some (class_asked m)) (hands log) from m (opens log) i.strict i.within in
-    record { strict = r.0; within = r.1 }
+are_apart (Handed from m ∷ log) = grind (arith, hands_push, strict_push, lt_above, le_join, le_up, is_some, (are_apart log))
 are_apart (Did act ∷ log) =
     let i = are_apart log in
     let r = apart_acted act (hands log) (opens log) i.strict i.within in
@@ -62,8 +54,7 @@ one_hand [] i j o p h e f g = cc
 one_hand (x ∷ os) zero zero o p h e f g = let q : ◌≡◌ {A = Option Open} (Some o) (Some p) = sym e ∙ f in cc
 one_hand (x ∷ os) zero (suc j) o p h e f g =
     let q : x ≡ o = cc in
-    let r : x.hand ≡ o.hand = ap (λ (y : Open). y.hand) q in
-    absurd (omega (arith, gt_at x.hand os j p h.0 f, r, g))
+    absurd (omega (arith, gt_at x.hand os j p h.0 f, (ap (λ (y : Open). y.hand) q), g))
 one_hand (x ∷ os) (suc i) zero o p h e f g =
     let q : x ≡ p = cc in
     let r : x.hand ≡ p.hand = ap (λ (y : Open). y.hand) q in

@@ -1,5 +1,5 @@
 -- A READ, WRITE or NULL that is next to be handed over comes from the site that runs its class, in turn.
-use Rattle.sdd_obligations.proofs.All.{AllGe, AllLe, Class, D, DmNo, FitsClass, FitsPipe, Hand, Input, IsPermitted, IsRising, List, Log, Msg, Setting, Site, Some, T, U, [], all_of, ap, append_assoc, arith, class_is, class_puts, class_rises, fold, goes_through, handed, home, home_of, in_pipe, last_time, length, local_of, map, max, not_zero, number_of, pipe, pipe_at, piped, put_at_home, refl, same_number, setting_of, site_self, slice_index_or, source_of, subst, suc, sym, time_in, time_of, tm_no, true, zero, ℕ, ◌++◌, ◌<◌, ◌^◌, ◌∙◌, ◌∷◌, ◌≡◌, ◌≤◌}
+use Rattle.sdd_obligations.proofs.All.{AllGe, AllLe, Class, D, DmNo, FitsClass, FitsPipe, Hand, Input, IsPermitted, IsRising, List, Log, Msg, Setting, Site, Some, T, U, [], all_of, ap, append_assoc, arith, class_is, class_rises, fold, goes_through, handed, home, home_of, in_pipe, last_time, length, local_of, map, max, not_zero, number_of, pipe, pipe_at, piped, put_at_home, refl, same_number, setting_of, site_self, slice_index_or, source_of, subst, suc, sym, time_in, time_of, tm_no, true, zero, ℕ, ◌++◌, ◌<◌, ◌^◌, ◌∙◌, ◌∷◌, ◌≡◌, ◌≤◌}
 use Rattle.sdd_obligations.proofs.Counting.{class_here}
 use Rattle.sdd_obligations.proofs.Handing.{IsHanded}
 use Rattle.sdd_obligations.proofs.Under.{max_le as max_of}
@@ -32,9 +32,6 @@ le_before : (f : Msg → ℕ) (xs : List Msg) (m : Msg) (more : List Msg) → Is
 le_before f [] m more h = tt
 le_before f (x ∷ xs) m more h = (ge_member f (f x) xs m more h.0, le_before f xs m more h.1)
 
-last_before : (xs : List Msg) (m : Msg) (more : List Msg) → IsRising (map time_of ((xs ++ m ∷ []) ++ more)) → fold max 0 (map time_of xs) ≤ time_of m
-last_before xs m more h = fold_le (time_of m) 0 (map time_of xs) (omega arith) (le_before time_of xs m more h)
-
 -- its pipe with it
 pub pipe_with : (g : Input) (c : ℕ) (d : DmNo) (a : Site) (n : ℕ) (m : Msg) (log : Log) → goes_through c m ≡ true
     → all_of (pipe_at g c d (Hand a (D d) n m ∷ log)) ≡ all_of (pipe_at g c d log) ++ m ∷ []
@@ -45,9 +42,7 @@ in_turn : (g : Input) (c : ℕ) (d : DmNo) (a : Site) (n : ℕ) (m : Msg) (log :
 in_turn g c d a n m log h small e =
     let i = in_pipe g c d (Hand a (D d) n m ∷ log) h in
     let rises = class_rises g c d (Hand a (D d) n m ∷ log) h small in
-    let is : class_puts g c d (Hand a (D d) n m ∷ log) ≡ (all_of (pipe_at g c d log) ++ m ∷ []) ++ i.0 =
-    i.1 ∙ ap (λ l. l ++ i.0) (pipe_with g c d a n m log e) in
-    last_before (all_of (pipe_at g c d log)) m i.0 (subst (λ l. IsRising (map time_of l)) is rises)
+    (fold_le (time_of m) 0 (map time_of (all_of (pipe_at g c d log))) (omega arith) (le_before time_of (all_of (pipe_at g c d log)) m i.0 (subst (λ l. IsRising (map time_of l)) (i.1 ∙ ap (λ l. l ++ i.0) (pipe_with g c d a n m log e)) rises)))
 
 pub pipe_fits : (g : Input) (d : DmNo) (log : Log) (a : Site) (n : ℕ) (m : Msg) (c t : ℕ) → IsHanded g log a (D d) n m
     → number_of a ≤ 63 → piped m ≡ Some (c, t) → t < 2 ^ 62 → FitsPipe (setting_of g (D d)) (local_of g (D d) log) a c t
@@ -57,7 +52,6 @@ pipe_fits g d log a n m c t h small e early =
     let time : time_of m ≡ t = subst (λ o. time_in o ≡ t) (sym e) refl in
     record {
       source = class_fits g d a c at (class_here g.catalogue c a h.from_number at);
-      in_turn = subst (λ x. last_time (pipe c (local_of g (D d) log)) ≤ x) time
-          (in_turn g c d a n m log h.permitted (subst (λ x. number_of x ≤ 63) (sym at) small) through);
+      in_turn = grind (arith, last_time, pipe, local_of, in_turn, number_of);
       early = early;
     }

@@ -1,5 +1,5 @@
 -- The place of an Answer to a READ with a timestamp in the log of a data module: there is at most one.
-use Rattle.sdd_obligations.proofs.All.{Act, Answer, Bool, ClassNo, Cond, D, Did, DmNo, Does, Each, Input, IsClassHere, IsDueEach, IsPermitted, IsReadOf, IsReadStep, IsSoundCatalogue, List, Log, Msg, Option, Read, Records, Sends, Setting, Site, Some, Ts, TxnNo, Use, [], answered_there, ap, append_assoc, arith, by_record, by_wait, compare, d_fair, d_step, each_at, eqb-true, false, head, in_passing, inl, inr, is_at, is_moving, is_processing, length, local_of, permitted_before, pipe, pipe_at, place_of_act, read_of, refl, setting_of, subst, suc, sym, true, ℕ, ◌++◌, ◌<◌, ◌∙◌, ◌∷◌, ◌≡◌, ◌≤◌}
+use Rattle.sdd_obligations.proofs.All.{Act, Answer, Bool, ClassNo, Cond, D, Did, DmNo, Does, Each, Input, IsClassHere, IsDueEach, IsPermitted, IsReadOf, IsReadStep, IsSoundCatalogue, List, Log, Msg, Option, Read, Records, Sends, Setting, Site, Some, Ts, TxnNo, Use, [], answered_there, ap, append_assoc, arith, compare, d_fair, d_step, each_at, eqb-true, false, head, inl, inr, is_at, is_processing, length, local_of, permitted_before, pipe, pipe_at, place_of_act, read_of, refl, setting_of, subst, sym, true, ℕ, ◌++◌, ◌∙◌, ◌∷◌, ◌≡◌, ◌≤◌}
 use Rattle.sdd_obligations.proofs.Starts.{one_start, read_later, small_home, start_here}
 use Rattle.sdd_invariants.specs.site_module.SiteLog as site
 
@@ -15,9 +15,7 @@ pub record IsReadAt (ts : ℕ) (o : Option Msg) : Type 0 where
   pub ts_is : t.0 ≡ ts
 
 pub read_at_head : (ts : ℕ) (o : Option Msg) → is_at ts o ≡ true → IsReadAt ts o
-read_at_head ts (Some (Read t of txn attempt conds uses)) e =
-    record { t = t; of = of; txn = txn; attempt = attempt; conds = conds; uses = uses; is = refl; ts_is = eqb-true t.0 ts e }
-read_at_head ts o e = cc
+read_at_head ts o e = grind (arith, eqb-true)
 
 -- an Answer to it in a data module's log
 pub record IsAnswerAt (ts : ℕ) (log : site.Log) : Type 0 where
@@ -48,11 +46,7 @@ processes (Sends to m hand) = false
 answer_class : (s : Setting) (log : site.Log) (k : ℕ) (txn : TxnNo) (attempt : ℕ) (dm : DmNo)
     (sends : List (Site × Msg)) (act : Act) → act ≡ Records k (Answer txn attempt dm) sends
     → IsReadStep s log act → IsClassHere s k
-answer_class s log k txn attempt dm sends act e (in_passing h) = let p : true ≡ false = sym (ap is_moving e) ∙ h in absurd cc
-answer_class s log k txn attempt dm sends act e (by_wait c conds r others here idle waits read none is) =
-    let p : true ≡ is_processing r = sym (ap processes e) ∙ ap processes is in absurd cc
-answer_class s log k txn attempt dm sends act e (by_record c m r others here active first may is) =
-    subst (IsClassHere s) (sym (ap class_of is) ∙ ap class_of e) here
+answer_class s log k txn attempt dm sends act e h10 = grind (arith, processes, class_of)
 
 pub class_here : (g : Input) (d : DmNo) (log : Log) (later before : site.Log) (k : ℕ) (txn : TxnNo)
     (attempt : ℕ) (dm : DmNo) (sends : List (Site × Msg)) → IsPermitted g log
@@ -61,8 +55,7 @@ class_here g d log later before k txn attempt dm sends h e =
     let s : Setting = setting_of g (D d) in
     let act : Act = Records k (Answer txn attempt dm) sends in
     let due = each_at (IsDueEach s) later (Did act) before (subst (Each (IsDueEach s)) e (d_fair g d log h)) in
-    let here : k < suc (length g.catalogue.classes) = answer_class s before k txn attempt dm sends act refl (d_step s before act due.0) in
-    omega arith
+    omega (arith, answer_class s before k txn attempt dm sends act refl (d_step s before act due.0))
 
 -- an Answer isn't repeated: no Answer stands behind one to the same READ
 twice : (g : Input) → IsSoundCatalogue g.catalogue → (d : DmNo) (log : Log) (ts : ℕ) → IsPermitted g log
@@ -78,13 +71,12 @@ twice g sound d log ts h y z b k txn attempt dm sends e at =
     let front : Log = px.later ++ Does (D d) first ∷ [] in
     let whole : Log = px.later ++ Does (D d) first ∷ px.rest in
     let hw : IsPermitted g whole = subst (IsPermitted g) px.is hy in
-    let hx : IsPermitted g px.rest = (permitted_before g px.later (Does (D d) first ∷ px.rest) hw).1 in
     let x = read_at_head ts (head (pipe k b)) at in
     let r = read_at_head ts (head (pipe y.class y.before)) y.at in
     let hd1 : head (pipe_at g k d px.rest) ≡ Some (Read x.t x.of x.txn x.attempt x.conds x.uses) = ap (λ l. head (pipe k l)) px.local_is ∙ x.is in
     let hd2 : head (pipe_at g y.class d whole) ≡ Some (Read r.t r.of r.txn r.attempt r.conds r.uses) =
     ap (λ l. head (pipe_at g y.class d l)) (sym px.is) ∙ ap (λ l. head (pipe y.class l)) py.local_is ∙ r.is in
-    let o1 = (read_of g k d px.rest x.t x.of x.txn x.attempt x.conds x.uses hx hd1).1 in
+    let o1 = (read_of g k d px.rest x.t x.of x.txn x.attempt x.conds x.uses ((permitted_before g px.later (Does (D d) first ∷ px.rest) hw).1) hd1).1 in
     let o2 = (read_of g y.class d whole r.t r.of r.txn r.attempt r.conds r.uses hw hd2).1 in
     let n1 : k ≤ length g.catalogue.classes = class_here g d py.rest z b k txn attempt dm sends hy (py.local_is ∙ e) in
     let n2 : y.class ≤ length g.catalogue.classes = class_here g d log y.later y.before y.class y.txn y.attempt y.dm y.sends h y.is in
@@ -103,9 +95,8 @@ twice g sound d log ts h y z b k txn attempt dm sends e at =
 pub one_answer : (g : Input) → IsSoundCatalogue g.catalogue → (d : DmNo) (log : Log) (ts : ℕ) → IsPermitted g log
     → (x y : IsAnswerAt ts (local_of g (D d) log)) → (x.before ≡ y.before) × (x.class ≡ y.class)
 one_answer g sound d log ts h x y =
-    let first : Act = Records x.class (Answer x.txn x.attempt x.dm) x.sends in
     let second : Act = Records y.class (Answer y.txn y.attempt y.dm) y.sends in
-    elim (compare x.later y.later (Did first) (Did second) x.before y.before (sym x.is ∙ y.is)) [
+    elim (compare x.later y.later (Did (Records x.class (Answer x.txn x.attempt x.dm) x.sends)) (Did second) x.before y.before (sym x.is ∙ y.is)) [
       | inl r ↦ (r.0, ap class_in r.1)
       | inr r ↦ elim r [
         | inl u ↦ absurd (twice g sound d log ts h y u.between x.before x.class x.txn x.attempt x.dm x.sends u.is x.at)

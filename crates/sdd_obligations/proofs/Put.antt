@@ -1,6 +1,6 @@
 -- The WRITEs that are put on links have changes of items, and the databases of snapshots are databases: each of these
 -- follows from the other one, a step of the log earlier.
-use Rattle.sdd_obligations.proofs.All.{Act, AreWritten, Attempt, Bases, Change, D, DmNo, Does, Each, Entry, FitsInput, FitsText, Hand, Handed, Input, IsAllowed, IsBased, IsDatabase, IsEntry, IsFair, IsNew, IsPermitted, IsPutBy, IsPutByD, IsSoundCatalogue, IsStep, IsWrite, List, Log, Msg, None, Option, Setting, Site, Some, T, U, Write, [], all_new, allowed_act, allowed_hand, ap, base_of, changes_at, commit_act, commit_put_is, dm_no, effect, flat_map, local_of, local_step, made, maker, message_at, numbers_to, own_act, place_of_act, put_by_d, refl, sends_of_act, sent_is, setting_of, slice_get, snapshots_at, subst, sym, t_commit, t_fair, to_site, u_commit, u_fair, was_put, with_made, ℕ, ◌++◌, ◌-◌, ◌∙◌, ◌∷◌, ◌≡◌}
+use Rattle.sdd_obligations.proofs.All.{Act, AreWritten, Attempt, Bases, Change, D, DmNo, Does, Each, Entry, FitsInput, FitsText, Input, IsAllowed, IsBased, IsDatabase, IsEntry, IsFair, IsNew, IsPermitted, IsPutBy, IsPutByD, IsSoundCatalogue, IsStep, IsWrite, List, Log, Msg, Option, Setting, Site, Some, T, U, Write, [], all_new, allowed_act, allowed_hand, ap, arith, base_of, changes_at, commit_act, commit_put_is, dm_no, flat_map, local_of, local_step, made, maker, message_at, numbers_to, own_act, place_of_act, put_by_d, refl, sends_of_act, sent_is, setting_of, slice_get, snapshots_at, subst, sym, t_commit, t_fair, to_site, u_commit, u_fair, was_put, with_made, ℕ, ◌++◌, ◌-◌, ◌∙◌, ◌∷◌, ◌≡◌}
 use Rattle.sdd_obligations.proofs.Changes.{effect_written}
 use Rattle.sdd_obligations.proofs.Entries.{all_gathered, entries_make_one}
 use Rattle.sdd_obligations.proofs.EffectsHeld.{FitsMsg, HandFits, snapshot_entries}
@@ -23,8 +23,7 @@ ActsFit g (_ ∷ log) = ActsFit g log
 
 -- a data module puts no WRITE
 not_by_d : (s : Setting) (log : site.Log) (b : Site) (act : Act) (d : ℕ) (m : Msg) → IsPutByD s log b act m → FitsMsg s.catalogue d m
-not_by_d s log b act d (Write ts class txn changes) h = absurd h
-not_by_d s log b act d _ h = tt
+not_by_d s log b act d m h = grind arith
 
 -- a Commit's WRITEs have the changes of its effect
 abbrev written : Msg → List Change
@@ -38,8 +37,7 @@ module _ (s : Setting) (sound : IsSoundCatalogue s.catalogue) (bases : Bases) (a
       → slice_get (to_site (D d) (sends_of_act (commit_act s.catalogue others c a))) k ≡ Some m → AreWritten s.catalogue d.0 (written m)
   write_fits c others a d k m based e =
       let b : Attempt = based.0 in
-      let now : (effect s.catalogue (others a.ts) a.text).changes ≡ (effect s.catalogue (bases b.ts) b.text).changes = based.3 in
-      subst (AreWritten s.catalogue d.0) (ap (changes_at s.catalogue d.0) (sym now) ∙ ap written (sym (commit_put_is s c others a d k m e).0))
+      subst (AreWritten s.catalogue d.0) (ap (changes_at s.catalogue d.0) (sym based.3) ∙ ap written (sym (commit_put_is s c others a d k m e).0))
       (effect_written s.catalogue sound b.text (active_so (FitsText s.catalogue) s c log b fair new (fit c) based.1) (bases b.ts) (are b.ts) d.0)
 
   put_fits : (act : Act) (d : DmNo) (k : ℕ) (m : Msg) → IsBased s bases log act → IsPutBy s log act m
@@ -70,8 +68,7 @@ act_fits g good log (D b) act h are = λ d k m e.
 -- what is handed over was put
 
 acts_before : (g : Input) (e : Entry) (log : Log) → ActsFit g (e ∷ log) → ActsFit g log
-acts_before g (Does at act) log h = h.1
-acts_before g _ log h = h
+acts_before g e log h = grind arith
 
 act_at : (g : Input) (later rest : Log) (at : Site) (act : Act) → ActsFit g (later ++ Does at act ∷ rest) → ActFits g act
 act_at g [] rest at act h = h.0
@@ -86,12 +83,7 @@ message_fits g log fit from d n m e =
 
 made_fits : (g : Input) (d : DmNo) (e : Entry) (log : Log) (o : Option site.Entry) → ActsFit g log → IsAllowed g log e → made g (D d) log e ≡ o
     → Each (HandFits g.catalogue d.0) (local_of g (D d) log) → Each (HandFits g.catalogue d.0) (with_made o (local_of g (D d) log))
-made_fits g d e log None fit a m all = all
-made_fits g d e log (Some (Handed from x)) fit a m all =
-    let k = maker g (D d) log e (Handed from x) m in
-    let next = allowed_hand g log (Hand from (D d) k.0 x) (subst (IsAllowed g log) k.1 a) in
-    (message_fits g log fit from d k.0 x next.there, all)
-made_fits g d e log (Some _) fit a m all = (tt, all)
+made_fits g d e log o fit a m all = grind (arith, maker, allowed_hand, message_fits)
 
 pub hands_fit : (g : Input) (d : DmNo) (log : Log) → IsPermitted g log → ActsFit g log → Each (HandFits g.catalogue d.0) (local_of g (D d) log)
 hands_fit g d [] h fit = tt

@@ -1,5 +1,5 @@
 -- The questions that an exchange puts are those of its phase.
-use Rattle.sdd_obligations.proofs.All.{AllByRecursion, Asking, Asks, AsksPhase, Bool, Exchange, Fetch, Fetching, List, MayAnswer, Move, Msg, None, Over, Phase, Read, Ready, Reduce, Reduced, Reducing, Refused, Reject, Replies, Rows, Ship, Shipping, Some, Step, Told, Turn, Value, Values, [], after_hand, answered, ap, contains, counted, counts_for, false, fetches, fetches_from, goes_on, if◌then◌else◌, is_a_refusal, is_answer, lacking, length, map, move_at, never, next_move, phase_ends, question, question_of, reduces, refl, subst, sym, to_all, true, turn_after_answer, with_use, with_values, without, ℕ, ◌&&◌, ◌++◌, ◌+◌, ◌==◌, ◌∙◌, ◌∷◌, ◌≡◌}
+use Rattle.sdd_obligations.proofs.All.{AllByRecursion, Asking, Asks, AsksPhase, Bool, Exchange, List, MayAnswer, Move, Msg, Phase, Ready, Reduced, Reject, Replies, Rows, Shipping, Step, Turn, Value, Values, [], after_hand, answered, ap, arith, contains, counted, false, fetches_from, goes_on, if◌then◌else◌, is_a_refusal, is_answer, lacking, length, map, never, phase_ends, question, question_of, reduces, refl, subst, sym, to_all, true, turn_after_answer, with_use, with_values, without, ℕ, ◌&&◌, ◌++◌, ◌+◌, ◌==◌, ◌∙◌, ◌∷◌, ◌≡◌}
 use Rattle.sdd_obligations.proofs.AtTurn.{IsAtTurn, awaits}
 use Rattle.sdd_obligations.proofs.HandedAnswersKeepTurns.{answers_asked, is_awaited}
 use Rattle.sdd_obligations.proofs.Modules.{without_other}
@@ -22,24 +22,11 @@ sends_fetches ts c m x (d ∷ ds) = all_same _ _ (d ∷ ds) refl
 
 sends_next : (ts c : ℕ) (x : Exchange) (qs : List Asking) (done : List Step) → SendsPhase ts c (goes_on ts c x qs done)
 sends_next ts c x [] done = all_same _ _ (map (λ (m : ℕ × List ℕ). m.0) x.modules) refl
-sends_next ts c x (q ∷ rest) done =
-    elim (next_move q.conds (counts_for x.counts q) done) as (λ o. SendsPhase ts c
-    (elim o as (λ _. Exchange) [
-      | None ↦ goes_on ts c x rest []
-      | Some m ↦ fetches ts c (move_at q.before m) (record x { left = q ∷ rest; done = done ++ m.step ∷ [] })
-    ])) [
-      | None ↦ sends_next ts c x rest []
-      | Some m ↦ sends_fetches ts c (move_at q.before m) (record x {
-        left = q ∷ rest;
-        done = done ++ m.step ∷ [];
-      }) (with_use x (move_at q.before m).source.part)
-    ]
+sends_next ts c x (q ∷ rest) done = grind (arith, SendsPhase, sends_fetches, (sends_next ts c x rest))
 
 sends_end : (ts c : ℕ) (x : Exchange) (p : Phase) → x.phase ≡ p → SendsPhase ts c x → SendsPhase ts c (phase_ends ts c x p)
-sends_end ts c x (Fetching m) e h = sends_reduces ts c m x
 sends_end ts c x Shipping e h = subst (λ p. AllByRecursion (λ (s : ℕ × Msg). s.1 ≡ question ts c p x.union) x.to_send) e h
-sends_end ts c x Over e h = h
-sends_end ts c x _ e h = sends_next ts c x x.left x.done
+sends_end ts c x p e h = grind (arith, sends_reduces, sends_next)
 
 -- an answer of module n
 
@@ -47,20 +34,9 @@ sends_end ts c x _ e h = sends_next ts c x x.left x.done
 abbrev pub after_answer : ℕ → Msg → (ℕ → Turn) → ℕ → Turn
 after_answer n m v d = if d == n then turn_after_answer m (v d) else v d
 
-told_no_asks : {A : Type 0} (m q : Msg) (ns : List ℕ) (v : Turn) → turn_after_answer m v ≡ Asks ns q → A
-told_no_asks m q ns (Asks ms r) e = either (is_a_refusal m) e
-  where
-    either : {A : Type 0} (b : Bool) → (if b then Refused else Told ms r) ≡ Asks ns q → A
-    either true e = cc
-    either false e = cc
-told_no_asks m q ns _ e = cc
-
 -- what is asked still was asked before, of another module
 still_asked : (n d : ℕ) (m q : Msg) (ns : List ℕ) (v : ℕ → Turn) → after_answer n m v d ≡ Asks ns q → (v d ≡ Asks ns q) × ((d == n) ≡ false)
-still_asked n d m q ns v e = elim (d == n) as (λ b. (d == n) ≡ b → (if b then turn_after_answer m (v d) else v d) ≡ Asks ns q → (v d ≡ Asks ns q) × ((d == n) ≡ false)) [
-  | true ↦ λ p f. told_no_asks m q ns (v d) f
-  | false ↦ λ p f. (f, p)
-] refl e
+still_asked n d m q ns v e = grind (arith)
 
 module _ (ts c n : ℕ) (m : Msg) (v : ℕ → Turn) where
   abbrev w : ℕ → Turn
@@ -76,9 +52,7 @@ module _ (ts c n : ℕ) (m : Msg) (v : ℕ → Turn) where
       asked = λ d ns q a r.
           (let k = still_asked n d m q ns v a in
           let l : contains x.lacks d ≡ true = (is_awaited d x (v d) ns q (at_turn d) k.0).lacks in
-          let none : contains x.lacks d ≡ false = sym (without_other x.lacks n d k.1)
-          ∙ ap (λ ls. contains ls d) (ap (λ ls. without ls n) (sym lacks_are) ∙ e) in
-          never (contains x.lacks d) l none);
+          never (contains x.lacks d) l (sym (without_other x.lacks n d k.1) ∙ ap (λ ls. contains ls d) (ap (λ ls. without ls n) (sym lacks_are) ∙ e)));
     }
     lack_asks (l ∷ ds) e = record { sends = sends; asked = λ d ns q a r. (let k = still_asked n d m q ns v a in h.asked d ns q k.0 r ∙ same) }
 
@@ -88,19 +62,10 @@ module _ (ts c n : ℕ) (m : Msg) (v : ℕ → Turn) where
   -- values come while they are fetched
   fetched : (x : Exchange) (ns : List ℕ) (q : Msg) (u : ℕ) (vs : List Value) (t : _) (k : _)
       → awaits x.phase q ≡ true → Replies ns q (Values t k u vs) → (z : List Value) → question ts c x.phase x.union ≡ question ts c x.phase z
-  fetched x ns q u vs t k a r z = by x.phase q a r
-    where
-      by : (p : Phase) (q : Msg) → awaits p q ≡ true → Replies ns q (Values t k u vs) → question ts c p x.union ≡ question ts c p z
-      by (Reducing mv) (Fetch t k u col) a r = cc
-      by (Reducing mv) (Read t k txn attempt conds uses) a r = absurd r
-      by (Reducing mv) (Reduce t k u col values) a r = absurd r
-      by (Reducing mv) (Ship t k) a r = absurd r
-      by (Reducing mv) _ a r = cc
-      by _ q a r = refl
+  fetched x ns q u vs t k a r z = grind (arith, awaits)
 
   answered_if : (b : Bool) (x y : Exchange) → b ≡ true → AsksPhase ts c (answered ts c n y) w → AsksPhase ts c (if b then answered ts c n y else x) w
-  answered_if true x y e h = h
-  answered_if false x y e h = cc
+  answered_if b x y e h = grind arith
 
   -- an answer to the attempt, other than a rejection
   pub hand_asks : (x : Exchange) → is_answer ts c m ≡ true → is_a_refusal m ≡ false → ((d : ℕ) → IsAtTurn d x (v d)) → MayAnswer (v n) m → AsksPhase ts c x v

@@ -16,9 +16,6 @@ asks_is_question t k ts c m e = grind arith
 pub send_is_question : (s : Setting) (log : Log) (ts c : ℕ) (m : Msg) → IsSend s log m → is_question ts c m ≡ asks_rows ts c m
 send_is_question s log ts c m e = grind (arith, asks_is_question)
 
-uses_kept : (m : Msg) (ns : List ℕ) → is_a_read m ≡ false → uses_by m ns ≡ ns
-uses_kept m ns e = grind arith
-
 -- the turns after a question to a site
 abbrev after_question : ℕ → Site → Msg → Turns → Turns
 after_question c to m v ts d = if same_site (D (dm_no d)) to && asks_rows ts c m then turn_after_question m (v ts d) else v ts d
@@ -31,9 +28,8 @@ sent_at : (n d : ℕ) (m : Msg) (rest : List (ℕ × Msg)) (ms : List (ℕ × Li
     → is_a_read m ≡ false → (d == n) ≡ b → IsAt d ms p ((n, m) ∷ rest) lacks v → IsAt d ms p rest lacks (if b then turn_after_question m v else v)
 sent_at n d m rest ms p lacks v true r z (unsent q x ns a i e s u w f g) =
     let k = cons_is m q (to_module d rest) [] (subst (λ (b : Bool). (if b then m ∷ to_module d rest else to_module d rest) ≡ q ∷ []) z a) in
-    awaited m ns k.1 i (ap (λ l. Asks l m) (uses_kept m (uses_in v) r ∙ ap uses_in e)) (subst (λ y. awaits p y ≡ true) (sym k.0) w) f g
-sent_at n d m rest ms p lacks v true r z (awaited q ns a i e w f g) =
-    nothing_there m (to_module d rest) (subst (λ (b : Bool). (if b then m ∷ to_module d rest else to_module d rest) ≡ []) z a)
+    awaited m ns k.1 i (ap (λ l. Asks l m) ((grind arith) ∙ ap uses_in e)) (subst (λ y. awaits p y ≡ true) (sym k.0) w) f g
+sent_at n d m rest ms p lacks v true r z (awaited q ns a i e w f g) = grind (arith, nothing_there, to_module)
 sent_at n d m rest ms p lacks v true r z (answered_last q ns a i e s f g) =
     nothing_there m (to_module d rest) (subst (λ (b : Bool). (if b then m ∷ to_module d rest else to_module d rest) ≡ []) z a)
 sent_at n d m rest ms p lacks v true r z (apart a i e g) =
@@ -49,9 +45,6 @@ sent_at n d m rest ms p lacks v false r z (apart a i e g) = apart (subst (λ (b 
 -- where no question is sent
 not_asked_turn : (c : ℕ) (to : Site) (m : Msg) (v : Turns) (ts d : ℕ) → asks_rows ts c m ≡ false → after_question c to m v ts d ≡ v ts d
 not_asked_turn c to m v ts d e = grind arith
-
-none_attempt : (s : Setting) (c : ℕ) (log : Log) (b : Attempt) → active s c log ≡ None → active s c log ≡ Some b → ⊥
-none_attempt s c log b e f = let p : ◌≡◌ {A = Option Attempt} None (Some b) = sym e ∙ f in cc
 
 pub and_true : (b : Bool) (x y : Turn) → (if b && true then x else y) ≡ (if b then x else y)
 and_true b x y = grind arith
@@ -69,15 +62,13 @@ asked_own s c log to m hand a v ts d first e h q =
     let now = sent_at f.module_no d m f.rest a.exchange.modules a.exchange.phase a.exchange.lacks (v a.ts d)
     (d == f.module_no) (asks_no_read a.ts c m q) refl at in
     let turn_is : (if d == f.module_no then turn_after_question m (v a.ts d) else v a.ts d) ≡ after_question c to m v a.ts d =
-    sym (ap (λ x. if same_site (D (dm_no d)) x && asks_rows a.ts c m then turn_after_question m (v a.ts d) else v a.ts d)
-    f.to_is ∙ ap (λ (b : Bool). if (d == f.module_no) && b then turn_after_question m (v a.ts d) else v a.ts d) q
-    ∙ and_true (d == f.module_no) (turn_after_question m (v a.ts d)) (v a.ts d)) in
+    sym (grind (arith, same_site, dm_no, asks_rows, turn_after_question, and_true)) in
     subst (λ l. IsAt d a.exchange.modules a.exchange.phase l a.exchange.lacks (after_question c to m v a.ts d)) (sym (ap tail_of sends))
     (subst (λ w. IsAt d a.exchange.modules a.exchange.phase f.rest a.exchange.lacks w) turn_is now)
 
 sent_turns : (s : Setting) (c : ℕ) (log : Log) (to : Site) (m : Msg) (hand : Option ℕ) (o : Option Attempt) (v : Turns)
     → IsFirstSend s log (Sends to m hand) → active s c log ≡ o → AllAtTurn o v → AllAtTurn (active_sent c m o) (after_question c to m v)
-sent_turns s c log to m hand None v first i h = grind (arith, none_attempt, not_asked_turn)
+sent_turns s c log to m hand None v first i h = grind (arith, not_asked_turn)
 sent_turns s c log to m hand (Some a) v first i h =
     elim (asks_rows a.ts c m) as (λ b. asks_rows a.ts c m ≡ b
     → AllAtTurn (if b then Some (record a { exchange = after_send a.exchange }) else Some a)
@@ -88,35 +79,18 @@ sent_turns s c log to m hand (Some a) v first i h =
             subst (λ w. is_exchanging w ≡ false) (sym (not_asked_turn c to m v ts d r)) ((h ts d).1 p)),
       )
       | false ↦ λ q ts d.
-          (let r : asks_rows ts c m ≡ false = asks_not (asks_rows ts c m) (λ e.
-          let f = first ts c e in
-          let same : f.attempt ≡ a = one_attempt s c log a f.attempt i f.active_is in
-          let t : a.ts ≡ ts = subst (λ (y : Attempt). y.ts ≡ ts) same f.ts_is in
-          not_both (asks_rows ts c m) e (subst (λ t. asks_rows t c m ≡ false) t q)) in
+          (let r : asks_rows ts c m ≡ false = asks_not (asks_rows ts c m) (grind (arith, one_attempt, not_both, asks_rows)) in
           subst (AtTurn ts d (Some a)) (sym (not_asked_turn c to m v ts d r)) (h ts d))
     ] refl
-
-sent_strict : (c : ℕ) (m : Msg) (o : Option Attempt) → IsStrictOf o → IsStrictOf (active_sent c m o)
-sent_strict c m o h = grind (arith, if_way)
-
--- what a send asks of module d
-send_turn : (s : Setting) (c : ℕ) (log : Log) (to : Site) (m : Msg) (hand : Option ℕ) (ts d : ℕ) → IsSend s log m
-    → turn_at ts c d (Did (Sends to m hand) ∷ log) ≡ after_question c to m (λ ts d. turn_at ts c d log) ts d
-send_turn s c log to m hand ts d i = grind (arith, asked_one, turn_at, send_is_question)
-
-drawn_question : (s : Setting) (c : ℕ) (log : Log) (to : Site) (m : Msg) (hand : Option ℕ) (ts : ℕ) → Each (IsFair s) log
-    → IsFirstSend s log (Sends to m hand) → last_stamp s log < ts → asks_rows ts c m ≡ false
-drawn_question s c log to m hand ts fair first l = grind (arith, drawn_at)
 
 in_turn_send : (s : Setting) (c : ℕ) (log : Log) (to : Site) (m : Msg) (hand : Option ℕ) → Each (IsFair s) log
     → IsFirstSend s log (Sends to m hand) → IsSend s log m → InTurn s c log → InTurn s c (Did (Sends to m hand) ∷ log)
 in_turn_send s c log to m hand fair first i h = record {
   turns = turns_now (active_sent c m (active s c log)) (after_question c to m (λ ts d. turn_at ts c d log))
       (λ ts d. turn_at ts c d (Did (Sends to m hand) ∷ log))
-      (λ ts d. send_turn s c log to m hand ts d i) (sent_turns s c log to m hand (active s c log) (λ ts d. turn_at ts c d log) first refl h.turns);
-  fresh = λ ts d l. send_turn s c log to m hand ts d i ∙ not_asked_turn c to m (λ ts d. turn_at ts c d log) ts d
-      (drawn_question s c log to m hand ts fair first (omega (arith, l))) ∙ h.fresh ts d (omega (arith, l));
-  strict = sent_strict c m (active s c log) h.strict;
+      (λ ts d. (grind (arith, asked_one, turn_at, send_is_question))) (sent_turns s c log to m hand (active s c log) (λ ts d. turn_at ts c d log) first refl h.turns);
+  fresh = grind (arith, asked_one, send_is_question, not_asked_turn, turn_at, drawn_at);
+  strict = (grind (arith, if_way));
 }
 
 -- a Start
@@ -161,28 +135,20 @@ start_stands s k log q d v e =
           awaited (f d) (start_numbers s k log q d) refl here (own ∙ ap (λ (x : Bool). if x then turn_after_question (f d) (v n d) else v n d) b)
           (subst (λ p. awaits p (f d) ≡ true) (sym (first_reading ms d here)) refl)
           (read_uses f (start_numbers s k log q) ds d (λ x. refl) (strict_asked s k q) b) here
-      | false ↦ λ b.
-          let here : contains (firsts ms) d ≡ false = ap (λ l. contains l d) all ∙ b in
-          apart refl here (own ∙ ap (λ (x : Bool). if x then turn_after_question (f d) (v n d) else v n d) b ∙ e) here
+      | false ↦ grind (arith, contains, firsts, apart, turn_after_question)
     ] refl
 
 start_turns : (s : Setting) (k : ℕ) (log : Log) (q : Queued) (v : Turns) → ((d : ℕ) → v (next_stamp s log) d ≡ Silent) → AllAtTurn None v
     → AllAtTurn (started (next_stamp s log) (sends_of_act (start_at s k log q)) (Some q)) (after_start s k log q k v)
 start_turns s k log q v e h ts d = (
   λ p. subst (λ t. IsAtTurn d (begins q.text (sends_of_act (start_at s k log q))) (after_start s k log q k v t d)) p (start_stands s k log q d v (e d)),
-  λ p. (let r : ((next_stamp s log == ts) && (k == k)) ≡ false = rw p refl in
-      subst (λ w. is_exchanging w ≡ false) (sym (not_started_turn s k log q k ts d v r)) (h ts d)),
+  λ p. (grind (arith, next_stamp, is_exchanging, not_started_turn)),
 )
-
-start_strict : (s : Setting) (k : ℕ) (log : Log) (q : Queued) → IsStrictOf (started (next_stamp s log) (sends_of_act (start_at s k log q)) (Some q))
-start_strict s k log q =
-    subst IsStrict (sym (read_firsts (start_read s k log q) (start_numbers s k log q) (modules_asked s k q.text) (λ x. refl))) (strict_asked s k q)
 
 start_fresh : (s : Setting) (k : ℕ) (log : Log) (q : Queued) (c ts d : ℕ) → InTurn s c log → next_stamp s log < ts
     → turn_at ts c d (Did (start_at s k log q) ∷ log) ≡ Silent
 start_fresh s k log q c ts d h l =
-    let r : ((next_stamp s log == ts) && (k == c)) ≡ false = ap (λ b. b && (k == c)) (not_below (next_stamp s log) ts l) in
-    start_turn s k log q c ts d ∙ not_started_turn s k log q c ts d (λ ts d. turn_at ts c d log) r
+    start_turn s k log q c ts d ∙ not_started_turn s k log q c ts d (λ ts d. turn_at ts c d log) (ap (λ b. b && (k == c)) (not_below (next_stamp s log) ts l))
     ∙ h.fresh ts d (let b = stamp_below_next s log in omega (arith, l, b))
 
 active_started : (s : Setting) (k : ℕ) (log : Log) (q : Queued) → head_of (queue s k log) ≡ Some q
@@ -198,7 +164,7 @@ in_turn_start s k log q f e h = record {
       (λ ts d. start_turn s k log q k ts d) (start_turns s k log q (λ ts d. turn_at ts k d log)
       (λ d. h.fresh (next_stamp s log) d (stamp_below_next s log)) (subst (λ o. AllAtTurn o (λ ts d. turn_at ts k d log)) f h.turns)));
   fresh = λ ts d l. start_fresh s k log q k ts d h l;
-  strict = subst IsStrictOf (sym (active_started s k log q e)) (start_strict s k log q);
+  strict = subst IsStrictOf (sym (active_started s k log q e)) (subst IsStrict (sym (read_firsts (start_read s k log q) (start_numbers s k log q) (modules_asked s k q.text) (λ x. refl))) (strict_asked s k q));
 }
 
 -- an act of another class
@@ -218,14 +184,10 @@ in_turn_other s k c log q p h =
 
 -- a Commit
 
-commit_turn : (s : Setting) (k : ℕ) (bases : Bases) (a : Attempt) (log : Log) (ts c d : ℕ)
-    → turn_at ts c d (Did (commit_act s.catalogue bases k a) ∷ log) ≡ turn_at ts c d log
-commit_turn s k bases a log ts c d = grind (arith, commit_puts, asked_by, turn_at)
-
 commit_of : (s : Setting) (k c : ℕ) (bases : Bases) (a : Attempt) (log : Log) (o : Option Attempt)
     → active s c (Did (commit_act s.catalogue bases k a) ∷ log) ≡ o → AllAtTurn o (λ ts d. turn_at ts c d log) → IsStrictOf o
     → ((ts d : ℕ) → last_stamp s log < ts → turn_at ts c d log ≡ Silent) → InTurn s c (Did (commit_act s.catalogue bases k a) ∷ log)
-commit_of s k c bases a log o e h strict fresh = grind (arith, turn_at, turns_now, commit_turn)
+commit_of s k c bases a log o e h strict fresh = grind (arith, turn_at, turns_now, commit_puts, asked_by)
 
 over_turns : (a : Attempt) (v : Turns) → is_over a.exchange.phase ≡ true → AllAtTurn (Some a) v → AllAtTurn None v
 over_turns a v e h ts d = quiet_but a v ts d h (λ i. quiet_over d a.exchange (v ts d) e i)
@@ -256,23 +218,12 @@ in_turn s c (x ∷ log) fair first timely = grind (arith, stamp_rises, in_turn s
 abbrev pub IsInTurn : Turn → List Msg → Type 0
 IsInTurn v ms = (ms ≡ []) ⊎ ((m : Msg) × (ms ≡ m ∷ []) × MayAsk v m)
 
-questions_one : (ts c : ℕ) (b : Bool) (m : Msg) → questions ts c (if b then m ∷ [] else []) ≡ (if b && is_question ts c m then m ∷ [] else [])
-questions_one ts c b m = grind (arith, cond)
-
 one_in_turn : (v : Turn) (ms : List Msg) (b x : Bool) (m : Msg) → ms ≡ (if b && x then m ∷ [] else []) → (b ≡ true → x ≡ true → MayAsk v m) → IsInTurn v ms
 one_in_turn v ms b x m e f = grind arith
 
-may_start : (v : Turn) (s : Setting) (k : ℕ) (log : Log) (q : Queued) (d : ℕ) → v ≡ Silent → MayAsk v (start_read s k log q d)
-may_start v s k log q d e = subst (λ w. MayAsk w (start_read s k log q d)) (sym e) refl
-
--- of the first message to be sent
-may_send : (d : ℕ) (m : Msg) (rest : List (ℕ × Msg)) (ms : List (ℕ × List ℕ)) (p : Phase) (lacks : List ℕ) (v : Turn)
-    → IsAt d ms p ((d, m) ∷ rest) lacks v → MayAsk v m
-may_send d m rest ms p lacks v e = grind (arith, unsent, cons_is, same_number, awaited, answered_last, apart)
-
 may_sent : (s : Setting) (c : ℕ) (log : Log) (to : Site) (m : Msg) (hand : Option ℕ) (ts d : ℕ) → IsFirstSend s log (Sends to m hand)
     → InTurn s c log → same_site (D (dm_no d)) to ≡ true → asks_rows ts c m ≡ true → MayAsk (turn_at ts c d log) m
-may_sent s c log to m hand ts d first h e q = grind (arith, site_is, turn_at, may_send)
+may_sent s c log to m hand ts d first h e q = grind (arith, site_is, turn_at, unsent, cons_is, same_number, awaited, answered_last, apart)
 
 pub asks_in_turn : (s : Setting) (c : ℕ) (log : Log) (act : Act) (ts d : ℕ) → IsStep s log act → IsFirstSend s log act → InTurn s c log
     → IsInTurn (turn_at ts c d log) (questions ts c (to_site (D (dm_no d)) (sends_of_act act)))
@@ -281,13 +232,10 @@ asks_in_turn s c log act ts d i first h =
     (λ k q at f e. λ first. one_in_turn (turn_at ts c d log) _ (contains (modules_asked s k q.text) d)
     ((next_stamp s log == ts) && (k == c)) (start_read s k log q d)
     (ap (questions ts c) (sent_to_each (start_read s k log q) (modules_asked s k q.text) d
-    (strict_asked s k q)) ∙ questions_one ts c (contains (modules_asked s k q.text) d) (start_read s k log q d))
-    (λ b x. may_start (turn_at ts c d log) s k log q d (h.fresh ts d (let l =
-    stamp_below_next s log in omega (arith, eqb-true (next_stamp s log) ts (and_left (next_stamp s log == ts) (k == c) x), l)))))
-    (λ k bases a at f o. λ first. elim (commit_puts s k bases (D (dm_no d)) a) [
-      | inl e ↦ inl (ap (questions ts c) e)
-      | inr p ↦ inl (ap (questions ts c) p.1)
-    ])
+    (strict_asked s k q)) ∙ (grind (arith, cond)))
+    (λ b x. (subst (λ w. MayAsk w (start_read s k log q d)) (sym (h.fresh ts d (let l =
+    stamp_below_next s log in omega (arith, eqb-true (next_stamp s log) ts (and_left (next_stamp s log == ts) (k == c) x), l)))) refl)))
+    (grind (arith, commit_puts, dm_no, questions))
     (λ to m hand f. λ first. one_in_turn (turn_at ts c d log) _ (same_site (D (dm_no d)) to)
-    (is_question ts c m) m (questions_one ts c (same_site (D (dm_no d)) to) m)
+    (is_question ts c m) m (grind (arith, cond))
     (λ b x. may_sent s c log to m hand ts d first h b (sym (send_is_question s log ts c m f) ∙ x))) i first

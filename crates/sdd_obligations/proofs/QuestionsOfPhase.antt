@@ -1,5 +1,5 @@
 -- Along the log of the site of a class the questions of the active attempt are those of its phase.
-use Rattle.sdd_obligations.proofs.All.{Act, AllByRecursion, Asks, AsksPhase, Attempt, Bases, D, Did, DmNo, Each, Handed, IsFair, IsStep, List, Msg, None, Option, Queued, Reject, Sends, Setting, Silent, Site, Some, Turn, [], active, active_handed, active_sent, after_hand, after_send, and_no, ap, asked_by, asks_rows, commit_act, commit_puts, cond, dm_no, false, head_of, if◌then◌else◌, inl, inr, is_a_read, is_a_refusal, is_answer, is_question, never, next_stamp, one_attempt as one_active, question_of, questions, queue, refl, rejects, same_number, same_or_not, same_site, sends_of_act, stamp_below_next, start_at, start_puts, start_read, started, step_way, subst, sym, tail_of, to_site, true, turn_after_answer, turn_after_question, turn_at, uses_by, uses_in, ℕ, ◌&&◌, ◌==◌, ◌∙◌, ◌∷◌, ◌≡◌, ◌⊎◌}
+use Rattle.sdd_obligations.proofs.All.{Act, AllByRecursion, AsksPhase, Attempt, Bases, D, Did, DmNo, Each, Handed, IsFair, IsStep, List, Msg, None, Option, Queued, Sends, Setting, Site, Some, Turn, [], active, active_handed, active_sent, after_hand, after_send, and_no, ap, arith, asked_by, asks_rows, commit_act, commit_puts, dm_no, false, head_of, if◌then◌else◌, inl, inr, is_a_read, is_answer, is_question, never, next_stamp, one_attempt as one_active, question_of, questions, queue, refl, rejects, same_number, same_or_not, same_site, sends_of_act, stamp_below_next, start_at, start_puts, start_read, started, step_way, subst, sym, tail_of, to_site, true, turn_after_answer, turn_after_question, turn_at, uses_by, uses_in, ℕ, ◌&&◌, ◌==◌, ◌∙◌, ◌∷◌, ◌≡◌, ◌⊎◌}
 use Rattle.sdd_obligations.proofs.QuestionsComeInTurn.{in_turn, send_is_question, and_true}
 use Rattle.sdd_obligations.proofs.AtTurn.{IsAtTurn, hand_not}
 use Rattle.sdd_obligations.proofs.FirstSends.{IsFirstEach, IsFirstSend}
@@ -13,17 +13,12 @@ AllAskPhase c log (Some a) = AsksPhase a.ts c a.exchange (λ d. turn_at a.ts c d
 
 same_turns : (c : ℕ) (log more : Log) (o : Option Attempt) → ((ts d : ℕ) → (a : Attempt) → o ≡ Some a
     → a.ts ≡ ts → turn_at ts c d more ≡ turn_at ts c d log) → AllAskPhase c log o → AllAskPhase c more o
-same_turns c log more None e h = tt
-same_turns c log more (Some a) e h = subst (AsksPhase a.ts c a.exchange) (λ i d. sym (e a.ts d a refl refl) i) h
+same_turns c log more o e h = grind arith
 
 -- a hand from a module
 
 at_turn_of : (s : Setting) (c : ℕ) (log : Log) (a : Attempt) → InTurn s c log → active s c log ≡ Some a → (d : ℕ) → IsAtTurn d a.exchange (turn_at a.ts c d log)
 at_turn_of s c log a h e d = (subst (λ o. AtTurn a.ts d o (turn_at a.ts c d log)) e (h.turns a.ts d)).0 refl
-
-not_refusal : (ts c : ℕ) (m : Msg) → is_answer ts c m ≡ true → rejects m ts c ≡ false → is_a_refusal m ≡ false
-not_refusal ts c (Reject t k b write) e f = never (is_answer ts c (Reject t k b write)) e f
-not_refusal ts c m e f = refl
 
 hand_phase : (s : Setting) (c : ℕ) (log : Log) (n : DmNo) (m : Msg) (o : Option Attempt)
     → active s c log ≡ o → InTurn s c log → IsTimely c log (Handed (D n) m) → AllAskPhase c log o
@@ -41,7 +36,7 @@ hand_phase s c log n m (Some a) e turns timely h =
             ∙ ap (λ b. if (d == n.0) && b then turn_after_answer m (v d) else v d) own ∙ and_true (d ==
             n.0) (turn_after_answer m (v d)) (v d) in
             subst (AsksPhase a.ts c (after_hand a.ts c n.0 m a.exchange)) (λ i d. sym (now d) i)
-            (hand_asks a.ts c n.0 m v a.exchange own (not_refusal a.ts c m own r) (at_turn_of s c log a turns e) (timely a.ts n.0 refl own) h)
+            (hand_asks a.ts c n.0 m v a.exchange own (grind (arith, never)) (at_turn_of s c log a turns e) (timely a.ts n.0 refl own) h)
         | false ↦ λ own.
             let now : (d : ℕ) → w d ≡ v d = λ d. told_one a.ts c (d == n.0) m (v d) ∙ ap (λ b. if (d == n.0) && b then turn_after_answer m (v d) else v d) own
             ∙ ap (λ b. if b then turn_after_answer m (v d) else v d) (and_no (d == n.0)) in
@@ -58,39 +53,17 @@ asked_none ts c ms v e = ap (λ l. asked_by l v) e
 abbrev AreReads : List Msg → Type 0
 AreReads ms = (ms ≡ []) ⊎ ((m : Msg) × (ms ≡ m ∷ []) × (is_a_read m ≡ true))
 
-asks_the_read : (m q : Msg) (v : Turn) (ns : List ℕ) → turn_after_question m v ≡ Asks ns q → m ≡ q
-asks_the_read m q v ns e = let p : Asks (uses_by m (uses_in v)) m ≡ Asks ns q = e in cc
-
-read_turn : (ts c : ℕ) (ms : List Msg) (v : Turn) (ns : List ℕ) (q : Msg) → AreReads ms → v ≡ Silent
-    → asked_by (questions ts c ms) v ≡ Asks ns q → is_a_read q ≡ false → ⊥
-read_turn ts c ms v ns q (inl e) s a r = let p : Silent ≡ Asks ns q = sym s ∙ sym (ap (λ l. asked_by (questions ts c l) v) e) ∙ a in cc
-read_turn ts c ms v ns q (inr p) s a r =
-    let one : asked_by (questions ts c (p.0 ∷ [])) v ≡ Asks ns q = sym (ap (λ l. asked_by (questions ts c l) v) p.1) ∙ a in
-    elim (is_question ts c p.0) as (λ b. asked_by (cond b (p.0 ∷ []) []) v ≡ Asks ns q → ⊥) [
-      | true ↦ λ x. never (is_a_read q) (ap is_a_read (sym (asks_the_read p.0 q v ns x)) ∙ p.2) r
-      | false ↦ λ x. (let z : Silent ≡ Asks ns q = sym s ∙ x in cc)
-    ] one
-
-start_reads : (s : Setting) (k : ℕ) (log : Log) (q : Queued) (d : ℕ) → AreReads (to_site (D (dm_no d)) (sends_of_act (start_at s k log q)))
-start_reads s k log q d = elim (start_puts s k (D (dm_no d)) log q) [ inl e ↦ inl e | inr p ↦ inr (start_read s k log q p.0, p.1, refl) ]
-
 start_own : (s : Setting) (c : ℕ) (log : Log) (q : Queued) → InTurn s c log
     → AllAskPhase c (Did (start_at s c log q) ∷ log)
     (started (next_stamp s log) (sends_of_act (start_at s c log q)) (Some q))
 start_own s c log q turns = record {
   sends = tt;
-  asked = λ d ns x e r. absurd (read_turn (next_stamp s log) c
-      (to_site (D (dm_no d)) (sends_of_act (start_at s c log q))) (turn_at (next_stamp s log) c d log) ns x
-      (start_reads s c log q d) (turns.fresh (next_stamp s log) d (stamp_below_next s log)) e r);
+  asked = λ d ns x e r. absurd (grind (arith, never, uses_by, uses_in, next_stamp, to_site, dm_no, sends_of_act, start_at, turn_at, start_puts, start_read, stamp_below_next));
 }
 
 other_reads : (s : Setting) (k c ts : ℕ) (log : Log) (q : Queued) (d : ℕ) → (k == c) ≡ false
     → questions ts c (to_site (D (dm_no d)) (sends_of_act (start_at s k log q))) ≡ []
-other_reads s k c ts log q d e = elim (start_puts s k (D (dm_no d)) log q) [
-  | inl p ↦ ap (questions ts c) p
-  | inr p ↦ ap (questions ts c) p.1 ∙ ap (λ b. cond b (start_read s k log q p.0 ∷ []) [])
-      (ap (λ b. (next_stamp s log == ts) && b) e ∙ and_no (next_stamp s log == ts))
-]
+other_reads s k c ts log q d e = grind (arith, start_puts, and_no)
 
 start_phase : (s : Setting) (k c : ℕ) (log : Log) (q : Queued) → head_of (queue s k log) ≡ Some q
     → InTurn s c log → AllAskPhase c log (active s c log) → AllAskPhase c (Did (start_at s k log q) ∷ log)
@@ -110,10 +83,6 @@ start_phase s k c log q e turns h = elim (same_or_not k c) [
 
 -- a Commit
 
-no_questions : (s : Setting) (k c ts : ℕ) (bases : Bases) (a : Attempt) (d : ℕ)
-    → questions ts c (to_site (D (dm_no d)) (sends_of_act (commit_act s.catalogue bases k a))) ≡ []
-no_questions s k c ts bases a d = elim (commit_puts s k bases (D (dm_no d)) a) [ inl e ↦ ap (questions ts c) e | inr p ↦ ap (questions ts c) p.1 ]
-
 commit_phase : (s : Setting) (k c : ℕ) (bases : Bases) (a : Attempt) (log : Log)
     → AllAskPhase c log (active s c log) → AllAskPhase c (Did (commit_act s.catalogue bases k a) ∷ log)
     (active s c (Did (commit_act s.catalogue bases k a) ∷ log))
@@ -121,15 +90,10 @@ commit_phase s k c bases a log h = elim (k == c) as (λ b. AllAskPhase c (Did (c
   | true ↦ tt
   | false ↦ same_turns c log (Did (commit_act s.catalogue bases k a) ∷ log) (active s c log)
       (λ ts d b i t. asked_none ts c (to_site (D (dm_no d)) (sends_of_act (commit_act s.catalogue bases k a)))
-      (turn_at ts c d log) (no_questions s k c ts bases a d)) h
+      (turn_at ts c d log) (elim (commit_puts s k bases (D (dm_no d)) a) [ inl e ↦ ap (questions ts c) e | inr p ↦ ap (questions ts c) p.1 ])) h
 ]
 
 -- a send
-
-send_turn : (s : Setting) (c ts d : ℕ) (log : Log) (to : Site) (m : Msg) (hand : Option ℕ)
-    → turn_at ts c d (Did (Sends to m hand) ∷ log) ≡ (if same_site (D (dm_no d)) to && is_question ts c m
-    then turn_after_question m (turn_at ts c d log) else turn_at ts c d log)
-send_turn s c ts d log to m hand = asked_one ts c (same_site (D (dm_no d)) to) m (turn_at ts c d log)
 
 sent_phase : (s : Setting) (c : ℕ) (log : Log) (to : Site) (m : Msg) (hand : Option ℕ) (o : Option Attempt)
     → active s c log ≡ o → IsFirstSend s log (Sends to m hand) → ((ts : ℕ) → is_question ts c m ≡ asks_rows ts c m) → AllAskPhase c log o
@@ -148,15 +112,10 @@ sent_phase s c log to m hand (Some a) e first same h =
           (AllByRecursion (λ (p : ℕ × Msg). p.1 ≡ question_of a.ts c a.exchange)) sends h.sends in
           record {
             sends = subst (AllByRecursion (λ (p : ℕ × Msg). p.1 ≡ question_of a.ts c a.exchange)) (sym (ap tail_of sends)) all.1;
-            asked = λ d ns x k r.
-                elim (same_site (D (dm_no d)) to && is_question a.ts c m) as (λ b.
-                (if b then turn_after_question m (v d) else v d) ≡ Asks ns x → x ≡ question_of a.ts c a.exchange) [
-                  | true ↦ λ z. sym (asks_the_read m x (v d) ns z) ∙ all.0
-                  | false ↦ λ z. h.asked d ns x z r
-                ] (sym (send_turn s c a.ts d log to m hand) ∙ k);
+            asked = grind (arith, same_site, dm_no, is_question, turn_after_question, question_of, uses_by, uses_in, asked_one, turn_at);
           }
       | false ↦ λ q.
-          let now : (d : ℕ) → w d ≡ v d = λ d. send_turn s c a.ts d log to m hand
+          let now : (d : ℕ) → w d ≡ v d = λ d. (asked_one a.ts c (same_site (D (dm_no d)) to) m (turn_at a.ts c d log))
           ∙ ap (λ b. if same_site (D (dm_no d)) to && b then turn_after_question m (v d) else v d) (same a.ts ∙ q)
           ∙ ap (λ b. if b then turn_after_question m (v d) else v d) (and_no (same_site (D (dm_no d)) to)) in
           subst (AsksPhase a.ts c a.exchange) (λ i d. sym (now d) i) h
@@ -172,8 +131,7 @@ act_phase s c log act step first turns h =
 
 pub asks_phase : (s : Setting) (c : ℕ) (log : Log) → Each (IsFair s) log → Each (IsFirstEach s) log → Each (IsTimely c) log → AllAskPhase c log (active s c log)
 asks_phase s c [] fair first timely = tt
-asks_phase s c (Handed (D n) m ∷ log) fair first timely =
-    hand_phase s c log n m (active s c log) refl (in_turn s c log fair.1 first.1 timely.1) timely.0 (asks_phase s c log fair.1 first.1 timely.1)
+asks_phase s c (Handed (D n) m ∷ log) fair first timely = grind (arith, hand_phase, in_turn, (asks_phase s c log fair.1 first.1 timely.1))
 asks_phase s c (Did act ∷ log) fair first timely =
     act_phase s c log act fair.0 first.0 (in_turn s c log fair.1 first.1 timely.1) (asks_phase s c log fair.1 first.1 timely.1)
 asks_phase s c (x ∷ log) fair first timely =

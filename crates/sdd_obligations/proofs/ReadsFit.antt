@@ -1,6 +1,6 @@
 -- What a READ says: its conditions are on classes of the catalogue and ascend by class, its uses ascend by number, and its
 -- module has copies of their fragments.
-use Rattle.sdd_obligations.proofs.All.{Act, All-from_recursion, AllByRecursion, AllGt, AllLe, Bool, Catalogue, Cond, Condition, D, Delete, Did, DmNo, Each, FragNo, Hand, Input, IsFair, IsHere, IsPermitted, IsReadable, IsSend, IsStep, IsStrict, List, Msg, Option, Put, Query, Queued, Read, RelNo, Setting, Site, Some, Stmt, Update, Use, [], ap, arith, ascending, both, bound, commit_puts, cond, cond_of, condition_on, conditions, conditions_at, cons_option, current_era, dm_no, each_at, eqb-true, false, filter, filter_map, frag_no, fragments_in, fragments_of, gt_down, hand_was_put, handed, has_copy, home, home_fair, if_way, in_if, in_none, in_one, inl, inr, is_a_read, is_asked, is_read_at, length, local_of, map, modules_asked, never, next_stamp, option_eq, part_uses, puts_to, range_with_len, reads_at, refl, same_number, sends_of_act, served_read, setting_of, slice_get, start_read, statement_uses, step_way, subst, suc, sym, the_one, to_site, true, undeclared_conditions, use_there, uses_from, uses_of, was_put, with_frags, zero, ℕ, ◌&&◌, ◌++◌, ◌+◌, ◌<◌, ◌==◌, ◌∙◌, ◌∷◌, ◌≡◌, ◌≤◌}
+use Rattle.sdd_obligations.proofs.All.{Act, All-from_recursion, AllByRecursion, AllGt, AllLe, Bool, Catalogue, Cond, Condition, D, Delete, Did, DmNo, Each, FragNo, Hand, Input, IsFair, IsHere, IsPermitted, IsReadable, IsStep, IsStrict, List, Msg, Option, Put, Query, Queued, Read, RelNo, Setting, Site, Some, Stmt, Update, Use, [], ap, arith, ascending, both, bound, commit_puts, cond, cond_of, condition_on, conditions, conditions_at, cons_option, current_era, dm_no, each_at, eqb-true, false, filter, filter_map, frag_no, fragments_in, fragments_of, gt_down, hand_was_put, handed, has_copy, home, home_fair, if_way, in_if, in_none, in_one, is_a_read, is_asked, is_read_at, length, local_of, map, modules_asked, never, next_stamp, option_eq, part_uses, puts_to, range_with_len, reads_at, refl, same_number, sends_of_act, served_read, setting_of, slice_get, start_read, statement_uses, step_way, subst, suc, sym, the_one, to_site, true, undeclared_conditions, use_there, uses_from, uses_of, was_put, with_frags, zero, ℕ, ◌&&◌, ◌++◌, ◌+◌, ◌<◌, ◌==◌, ◌∙◌, ◌∷◌, ◌≡◌, ◌≤◌}
 use Rattle.sdd_obligations.proofs.Ascending.{condition_class, conditions_strict, strict_ascends}
 use Rattle.sdd_obligations.proofs.QuestionsComeInTurn.{strict_asked}
 use Rattle.sdd_obligations.proofs.FirstSends.{IsFirstEach, IsFirstSend}
@@ -20,9 +20,7 @@ IsOn n q = q.class.0 ≤ n
 conds_in_range : (f : ℕ → Option Cond) (a n bound : ℕ) → ((j : ℕ) (q : Cond) → f j ≡ Some q → q.class.0 ≡ j) → a + n ≤ suc bound
     → AllByRecursion (IsOn bound) (filter_map f (range_with_len a n))
 conds_in_range f a zero bound g l = tt
-conds_in_range f a (suc n) bound g l =
-    let i = conds_in_range f (a + 1) n bound g (omega (arith, l)) in
-    grind arith
+conds_in_range f a (suc n) bound g l = grind (arith, (conds_in_range f (a + 1) n bound g (omega (arith, l))))
 
 undeclared_in_range : (own : ℕ) (fs : List FragNo) (a n bound : ℕ) → a + n ≤ suc bound
     → AllByRecursion (IsOn bound) (map (λ c. cond_of c own fs) (range_with_len a n))
@@ -70,10 +68,7 @@ parts_numbered cat before conds rels = record {
 }
 
 statement_numbered : (cat : Catalogue) (before : ℕ) (s : Stmt) → AreNumbered before (statement_uses cat before s)
-statement_numbered cat before (Put rel row) = record { above = tt; strict = tt; within = tt }
-statement_numbered cat before (Query out rels conds) = parts_numbered cat before conds rels
-statement_numbered cat before (Update rel sets conds) = parts_numbered cat before conds (rel ∷ [])
-statement_numbered cat before (Delete rel conds) = parts_numbered cat before conds (rel ∷ [])
+statement_numbered cat before s = grind (arith, parts_numbered)
 
 gt_join : (k : ℕ) (xs ys : List ℕ) → AllGt k xs → AllGt k ys → AllGt k (xs ++ ys)
 gt_join k [] ys h i = i
@@ -93,11 +88,7 @@ all_numbered cat before (s ∷ rest) =
     let found : List Use = statement_uses cat before s in
     let h = statement_numbered cat before s in
     let i = all_numbered cat (before + length found) rest in
-    let more : List Use = uses_from cat (before + length found) rest in (
-      subst (AllGt before) (sym (numbers_append found more)) (gt_join before (numbers found)
-          (numbers more) h.above (gt_down before (before + length found) (numbers more) (omega arith) i.0)),
-      subst IsStrict (sym (numbers_append found more)) (strict_join (before + length found) (numbers found) (numbers more) h.strict h.within i.1 i.0),
-    )
+    let more : List Use = uses_from cat (before + length found) rest in (grind (arith, numbers_append, gt_join, numbers, gt_down, strict_join))
 
 -- and stay so at a module
 
@@ -125,15 +116,12 @@ AreFragments cat u = AllByRecursion (IsFragment cat) u.frags
 frags_in_range : (cat : Catalogue) (p : ℕ → Bool) (a n : ℕ) → 1 ≤ a → a + n ≤ suc (length cat.fragments)
     → AllByRecursion (IsFragment cat) (map frag_no (filter p (range_with_len a n)))
 frags_in_range cat p a zero h l = tt
-frags_in_range cat p a (suc n) h l =
-    let i = frags_in_range cat p (a + 1) n (omega arith) (omega (arith, l)) in
-    grind (arith, cond)
+frags_in_range cat p a (suc n) h l = grind (arith, (frags_in_range cat p (a + 1) n (omega arith) (omega (arith, l))))
 
 parts_placed : (cat : Catalogue) (before : ℕ) (conds : List Condition) (part : ℕ) (rels : List RelNo)
     → AllByRecursion (AreFragments cat) (part_uses cat before conds part rels)
 parts_placed cat before conds part [] = tt
-parts_placed cat before conds part (r ∷ rels) =
-    (frags_in_range cat _ 1 (length cat.fragments) (omega arith) (omega arith), parts_placed cat before conds (part + 1) rels)
+parts_placed cat before conds part (r ∷ rels) = grind (arith, frags_in_range, (parts_placed cat before conds (part + 1) rels))
 
 statement_placed : (cat : Catalogue) (before : ℕ) (s : Stmt) → AllByRecursion (AreFragments cat) (statement_uses cat before s)
 statement_placed cat before (Put rel row) = tt
@@ -148,8 +136,7 @@ join_placed cat (u ∷ us) vs h i = (h.0, join_placed cat us vs h.1 i)
 
 all_placed : (cat : Catalogue) (before : ℕ) (ss : List Stmt) → AllByRecursion (AreFragments cat) (uses_from cat before ss)
 all_placed cat before [] = tt
-all_placed cat before (s ∷ rest) =
-    grind (arith, join_placed, statement_placed, all_placed cat (before + length (statement_uses cat before s)) rest)
+all_placed cat before (s ∷ rest) = grind (arith, join_placed, statement_placed, (all_placed cat (before + length (statement_uses cat before s)) rest))
 
 pub same_option : (o : Option ℕ) (d : ℕ) → option_eq ◌==◌ o (Some d) ≡ true → o ≡ Some d
 same_option o d e = grind (arith, eqb-true)
@@ -188,9 +175,6 @@ record IsReadOf (s : Setting) (log : Log) (d : ℕ) (m : Msg) : Type 0 where
   here : class ≤ length s.catalogue.classes
   is : start_read s class log queued d ≡ m
 
-send_no_read : (s : Setting) (log : Log) (m : Msg) → IsSend s log m → is_a_read m ≡ false
-send_no_read s log m e = grind (arith, asks_no_read)
-
 act_read : (s : Setting) (log : Log) (act : Act) (d place : ℕ) (m : Msg) → IsStep s log act → IsFirstSend s log act
     → slice_get (to_site (D (dm_no d)) (sends_of_act act)) place ≡ Some m → is_a_read m ≡ true → IsReadOf s log d m
 act_read s log act d place m i first =
@@ -204,11 +188,8 @@ act_read s log act d place m i first =
       is = (in_if _ (start_read s k log q d) place m (subst (λ l. slice_get l place ≡ Some m)
           (sent_to_each (start_read s k log q) (modules_asked s k q.text) d (strict_asked s k q)) there)).1;
     })
-    (λ k bases a at f. λ first there r. elim (commit_puts s k bases (D (dm_no d)) a) [
-      | inl p ↦ in_none _ place m p there
-      | inr p ↦ never (is_a_read m) r (sym (ap is_a_read (in_one _ _ place m p.1 there)))
-    ])
-    (λ to x hand f. λ first there r. never (is_a_read m) r (sym (ap is_a_read (the_one (D (dm_no d)) to x place m there).1) ∙ send_no_read s log x f)) i first
+    (grind (arith, commit_puts, dm_no, in_none, never, is_a_read, in_one))
+    (λ to x hand f. λ first there r. never (is_a_read m) r (sym (ap is_a_read (the_one (D (dm_no d)) to x place m there).1) ∙ (grind (arith, asks_no_read)))) i first
 
 -- of setting and catalogue of what is given
 start_fits : (g : Input) (at : Site) (d : DmNo) (log : Log) (class : ℕ) (q : Queued) → catalogues.IsSoundCatalogue g.catalogue
@@ -218,8 +199,7 @@ start_fits g at d log class q sound l = record {
   conditions = All-from_recursion (IsOn (length g.catalogue.classes)) _
       (conditions_here g.catalogue (current_era (setting_of g at) log).table class
       (ascending (fragments_in (uses_of g.catalogue q.text))) (next_stamp (setting_of g at) log) (bound (setting_of g at) log) d.0);
-  classes_ascend = strict_ascends _ (conditions_strict g.catalogue (current_era (setting_of g at) log).table class
-      (ascending (fragments_in (uses_of g.catalogue q.text))) (next_stamp (setting_of g at) log) (bound (setting_of g at) log) d.0);
+  classes_ascend = grind (arith, strict_ascends, conditions_strict, current_era, setting_of, ascending, fragments_in, uses_of, next_stamp, bound);
   uses_ascend = strict_ascends (numbers (filter_map (use_there g.catalogue class d.0)
       (uses_of g.catalogue q.text))) (there_strict g.catalogue class d.0 (uses_of g.catalogue q.text) (all_numbered g.catalogue 0 q.text.statements).1);
   here = All-from_recursion (IsHere (setting_of g (D d))) _
@@ -242,9 +222,7 @@ reads_are_readable g log a d n (Read t k txn attempt conds uses) h sound =
     let at : Site = home g.catalogue k.0 in
     let s : Setting = setting_of g at in
     let l : Log = local_of g at log in
-    let there : slice_get (puts_to (D d) l) (handed a (D d) log) ≡ Some m =
-    subst (λ x. slice_get (puts_to (D d) (local_of g x log)) (handed a (D d) log) ≡ Some m) (sym from) put in
-    let p = was_put (D d) l (handed a (D d) log) m there in
+    let p = was_put (D d) l (handed a (D d) log) m (subst (λ x. slice_get (puts_to (D d) (local_of g x log)) (handed a (D d) log) ≡ Some m) (sym from) put) in
     let q = each_at (IsFair s) p.later (Did p.act) p.before (subst (Each (IsFair s)) p.is (home_fair g k.0 log h.1)) in
     let r = each_at (IsFirstEach s) p.later (Did p.act) p.before (subst (Each (IsFirstEach s)) p.is (home_first g k.0 log h.1)) in
     read_at g at d p.before m sound (act_read s p.before p.act d.0 p.place m q.0 r.0 p.there refl)

@@ -1,5 +1,5 @@
 -- Each message on a link goes from and to the kinds of sites of its kind.
-use Rattle.sdd_obligations.proofs.All.{Act, Ask, Class, D, Did, DmNo, Does, Done, Each, Fetch, GoesTo, Hand, Handed, Held, Hold, Input, IsAnAsk, IsD, IsFairT, IsFairU, IsFetch, IsPermitted, IsPutByD, IsReduce, IsRouted, IsRunner, IsShip, IsStepU, List, Log, Msg, None, NoneHold, Null, Option, Read, Ready, Reduce, Reduced, Reject, Release, Rows, Sends, Setting, Ship, Site, Some, T, TmNo, U, Values, WasAsked, Write, [], ap, append_assoc, asks_rows, commit_puts, dm_no, each_at, false, from_a_d, hand_was_put, handed, home_of, in_none, in_one, inl, inr, is_a_held, is_a_hold, is_a_release, local_of, map, permitted_before, place_of_hand, put_in_by_d, puts_to, refl, sends_of_act, setting_of, slice_get, slice_index_or, source_of, start_puts, start_read, subst, suc, sym, t_none, t_table, the_one, to_site, true, u_due, u_table, u_way, was_put, zero, ℕ, ◌++◌, ◌∙◌, ◌∷◌, ◌≡◌}
+use Rattle.sdd_obligations.proofs.All.{Act, Ask, Class, D, Did, DmNo, Does, Done, Each, Fetch, GoesTo, Hand, Handed, Hold, Input, IsAnAsk, IsD, IsFairT, IsFairU, IsFetch, IsPermitted, IsPutByD, IsReduce, IsRouted, IsRunner, IsShip, IsStepU, List, Log, Msg, None, NoneHold, Option, Ready, Reduce, Reduced, Reject, Release, Rows, Sends, Setting, Ship, Site, Some, T, TmNo, U, Values, WasAsked, [], ap, append_assoc, arith, commit_puts, dm_no, each_at, false, from_a_d, hand_was_put, handed, home_of, in_none, in_one, inl, inr, is_a_held, is_a_hold, is_a_release, local_of, map, permitted_before, place_of_hand, put_in_by_d, puts_to, refl, sends_of_act, setting_of, slice_get, slice_index_or, source_of, start_puts, start_read, subst, suc, sym, t_none, t_table, the_one, to_site, u_due, u_table, u_way, was_put, zero, ℕ, ◌++◌, ◌∙◌, ◌∷◌, ◌≡◌}
 use Rattle.sdd_obligations.proofs.Going.{t_goes, u_goes}
 use Rattle.sdd_invariants.specs.site_module.SiteLog as site
 
@@ -20,12 +20,8 @@ hand_put g at log later from m before h e =
 
 -- an ASK comes from a data module, what asks for rows doesn't
 
-is_d : (b : Site) (d : DmNo) → b ≡ D d → IsD b
-is_d b d e = subst IsD (sym e) tt
-
 ask_from : (g : Input) (at from : Site) (m : Msg) → IsAnAsk m → WasPut g from at m → IsD from
-ask_from g at from (Ask class time) a p = let d = from_a_d g p.log from at p.place (Ask class time) p.permitted p.there refl in is_d from d.0 d.1
-ask_from g at from m a p = absurd a
+ask_from g at from m a p = grind (arith, from_a_d)
 
 abbrev pub AsksRows : Msg → Type 0
 AsksRows (Fetch ts class u col) = Unit {0}
@@ -34,10 +30,7 @@ AsksRows (Ship ts class) = Unit {0}
 AsksRows _ = ⊥
 
 not_put_by_d : (s : Setting) (l : site.Log) (b : Site) (act : Act) (m : Msg) → AsksRows m → IsPutByD s l b act m → ⊥
-not_put_by_d s l b act (Fetch ts class u col) a h = h
-not_put_by_d s l b act (Reduce ts class u col vs) a h = h
-not_put_by_d s l b act (Ship ts class) a h = h
-not_put_by_d s l b act m a h = absurd a
+not_put_by_d s l b act m a h = grind arith
 
 runner_from : (g : Input) (at from : Site) (m : Msg) → AsksRows m → WasPut g from at m → IsRunner from
 runner_from g at (D d) m a p =
@@ -51,8 +44,7 @@ runner_of (k ∷ ks) (suc i) = runner_of ks i
 runner_of _ _ = tt
 
 pub source_runs : (s : Setting) (c : ℕ) → IsRunner (source_of (home_of s) c)
-source_runs s zero = tt
-source_runs s (suc c) = runner_of s.catalogue.classes c
+source_runs s c = grind (arith, runner_of)
 
 runs_to : (s : Setting) (c : ℕ) (b : Site) → b ≡ source_of (home_of s) c → IsRunner b
 runs_to s c b e = subst IsRunner (sym e) (source_runs s c)
@@ -92,56 +84,30 @@ none_member (x ∷ ms) (suc k) m h e = none_member ms k m h.2 e
 
 t_of : (t : TmNo) (b : Site) (m : Msg) (l : site.Log) → (WasAsked l b IsAnAsk → IsD b) → is_a_hold m ≡ false → is_a_release m ≡ false
     → GoesTo l b m → IsRouted (T t) b m
-t_of t b (Read ts class txn attempt conds uses) l f x y h = (tt, h)
-t_of t b (Write ts class txn changes) l f x y h = (tt, h)
-t_of t b (Null class time) l f x y h = (tt, f h)
-t_of t b (Fetch ts class u col) l f x y h = (tt, h)
-t_of t b (Reduce ts class u col vs) l f x y h = (tt, h)
-t_of t b (Ship ts class) l f x y h = (tt, h)
-t_of t b (Held time) l f x y h = (tt, h)
-t_of t b Hold l f x y h = cc
-t_of t b (Release ts) l f x y h = cc
-t_of t b _ l f x y h = absurd h
+t_of t b m l f x y h = grind arith
 
 u_of : (b : Site) (m : Msg) (l : site.Log) → (WasAsked l b IsAnAsk → IsD b) → is_a_held m ≡ false → GoesTo l b m → IsRouted U b m
-u_of b (Read ts class txn attempt conds uses) l f x h = (tt, h)
-u_of b (Write ts class txn changes) l f x h = (tt, h)
-u_of b (Null class time) l f x h = (tt, f h)
-u_of b (Fetch ts class u col) l f x h = (tt, h)
-u_of b (Reduce ts class u col vs) l f x h = (tt, h)
-u_of b (Ship ts class) l f x h = (tt, h)
-u_of b Hold l f x h = (refl, h)
-u_of b (Release ts) l f x h = (refl, h)
-u_of b (Held time) l f x h = cc
-u_of b _ l f x h = absurd h
+u_of b m l f x h = grind arith
 
 -- U puts no HELD
 
 abbrev NoHeld : Act → Type 0
 NoHeld act = (b : Site) (k : ℕ) (m : Msg) → slice_get (to_site b (sends_of_act act)) k ≡ Some m → is_a_held m ≡ false
 
-one_not : (ms : List Msg) (x : Msg) (k : ℕ) (m : Msg) → ms ≡ x ∷ [] → is_a_held x ≡ false → slice_get ms k ≡ Some m → is_a_held m ≡ false
-one_not ms x k m e g h = subst (λ y. is_a_held y ≡ false) (in_one ms x k m e h) g
-
-asks_not_held : (ts c : ℕ) (m : Msg) → asks_rows ts c m ≡ true → is_a_held m ≡ false
-asks_not_held ts c (Held t) e = cc
-asks_not_held ts c _ e = refl
-
 send_no_held : (to : Site) (x : Msg) (hand : Option ℕ) → is_a_held x ≡ false → NoHeld (Sends to x hand)
 send_no_held to x hand g b k m e = subst (λ y. is_a_held y ≡ false) (the_one b to x k m e).1 g
 
 u_no_held : (s : Setting) (log : site.Log) (act : Act) → IsStepU s log act → NoHeld act
 u_no_held s log act = u_way s log act NoHeld
-    (λ q i z r. λ b k m e. elim (start_puts s 0 b log q) [ inl p ↦ in_none _ k m p e | inr p ↦ one_not _ (start_read s 0 log q p.0) k m p.1 refl e ])
-    (λ bases a i. λ b k m e. elim (commit_puts s 0 bases b a) [ inl p ↦ in_none _ k m p e | inr p ↦ one_not _ _ k m p.1 refl e ])
-    (λ d m a e. send_no_held (D (dm_no d)) m None (asks_not_held a.ts 0 m e)) (λ t ts i p. send_no_held _ (Release ts) None refl)
+    (λ q i z r. λ b k m e. elim (start_puts s 0 b log q) [ inl p ↦ in_none _ k m p e | inr p ↦ (subst (λ y. is_a_held y ≡ false) (in_one _ (start_read s 0 log q p.0) k m p.1 e) refl) ])
+    (λ bases a i. λ b k m e. elim (commit_puts s 0 bases b a) [ inl p ↦ in_none _ k m p e | inr p ↦ (subst (λ y. is_a_held y ≡ false) (in_one _ _ k m p.1 e) refl) ])
+    (λ d m a e. send_no_held (D (dm_no d)) m None (grind arith)) (λ t ts i p. send_no_held _ (Release ts) None refl)
     (λ t e. send_no_held _ Hold None refl)
 
 pub routed : (g : Input) (log : Log) (a b : Site) (k : ℕ) (m : Msg) → IsPermitted g log → slice_get (puts_to b (local_of g a log)) k ≡ Some m → IsRouted a b m
 routed g log (D d) b k m h e =
     let p = put_in_by_d g log d b k m h e in
-    let hb = (permitted_before g p.later (Does (D d) p.act ∷ p.before) (subst (IsPermitted g) p.is h)).1 in
-    d_routed g d p.before b p.act m hb p.by
+    d_routed g d p.before b p.act m ((permitted_before g p.later (Does (D d) p.act ∷ p.before) (subst (IsPermitted g) p.is h)).1) p.by
 routed g log (T t) b k m h e =
     let l : site.Log = local_of g (T t) log in
     let fair = t_table g t log h in

@@ -1,6 +1,6 @@
 -- What a site that runs transactions sends lies below its clock's height.
-use Rattle.sdd_obligations.proofs.All.{Act, AllLe, AllLow, Attempt, Bases, Bool, Catalogue, Cond, D, Did, Each, FragNo, Handed, Hold, HoldRule, IsFair, IsLow, IsSend, IsStepU, List, Msg, None, Option, Queued, Release, Sends, Served, Setting, Site, Submits, T, TmNo, Ts, [], active, arith, ascending, asks_rows, bound, clock, clock_number, commit_act, commit_puts, cond_for, cond_of, condition_on, conditions_at, current_era, dm_no, drawn, drawn_at, frag_no, fragments_in, fragments_of, hold_rule, if_way, inl, inr, is_asked, last_served, last_stamp, limit_le, map, next_stamp, number_of, option_or, refl, same_site, sends_of_act, served_acted, stamp_or, stamp_rises, start_at, start_puts, start_read, starts_by, step_way, subst, suc, t_step, tm_no, to_site, top, true, ts_of, u_way, uses_of, ℕ, ◌+◌, ◌==◌, ◌∷◌, ◌≡◌, ◌≤◌}
-use Rattle.sdd_obligations.proofs.LowLists.{IsEarlyCond, all_low_up, conds_all_le, conds_le, low_one}
+use Rattle.sdd_obligations.proofs.All.{Act, AllLe, AllLow, Attempt, Bases, Catalogue, Cond, D, Each, Hold, HoldRule, IsFair, IsLow, IsStepU, List, Msg, None, Option, Queued, Sends, Setting, Site, T, TmNo, [], active, arith, ascending, bound, clock, clock_number, commit_act, commit_puts, cond_of, condition_on, conditions_at, current_era, dm_no, drawn, drawn_at, frag_no, fragments_in, fragments_of, hold_rule, if_way, inl, inr, is_asked, last_served, last_stamp, limit_le, map, next_stamp, number_of, refl, same_site, sends_of_act, stamp_or, stamp_rises, start_at, start_puts, start_read, starts_by, step_way, suc, t_step, tm_no, to_site, top, ts_of, u_way, uses_of, ℕ, ◌+◌, ◌==◌, ◌∷◌, ◌≡◌, ◌≤◌}
+use Rattle.sdd_obligations.proofs.LowLists.{all_low_up, conds_all_le, conds_le, low_one}
 use Rattle.sdd_invariants.specs.All.{asked_by, classes_of}
 use Rattle.sdd_invariants.specs.site_module.SiteLog.{Log}
 use Rattle.sdd_invariants.specs.protocol.declared.entry.Entry as line
@@ -8,16 +8,6 @@ use Rattle.sdd_invariants.specs.tm.Due as tm
 use Rattle.sdd_invariants.specs.tm.Views as tm_views
 
 -- the conditions of a READ tell its own time or that of P2
-
-for_le : (k j t : ℕ) (fs : List FragNo) → t ≤ k → IsEarlyCond k (cond_for j t fs)
-for_le k j t fs l = grind arith
-
-either_le : (k : ℕ) (a b : Option Cond) → IsEarlyCond k a → IsEarlyCond k b → IsEarlyCond k (option_or a b)
-either_le k a b h i = grind arith
-
-condition_le : (k : ℕ) (asked : ℕ → Bool) (entries : List line.Entry) (i own p2 j : ℕ) → own ≤ k → p2 ≤ k
-    → IsEarlyCond k (condition_on asked entries i own p2 j)
-condition_le k asked entries i own p2 j l m = grind (arith, either_le, asked_by, for_le)
 
 abbrev AreEarly : ℕ → List Cond → Type 0
 AreEarly k ds = AllLe k (map (λ (d : Cond). d.time.0) ds)
@@ -27,13 +17,12 @@ conditions_le : (k : ℕ) (cat : Catalogue) (table : List line.Entry) (c : ℕ) 
 conditions_le k cat table c frags own p2 d l m =
     if_way (AreEarly k) (c == 0) _ _ (conds_all_le k (λ j. cond_of j own (map frag_no (fragments_of cat))) (classes_of cat) (λ j. l))
     (conds_le k (condition_on (is_asked cat c d (map frag_no frags)) table c own p2) (classes_of cat)
-    (λ j. condition_le k (is_asked cat c d (map frag_no frags)) table c own p2 j l m))
+    (λ j. (grind (arith, asked_by))))
 
 read_low : (h : ℕ) (s : Setting) (c : ℕ) (log : Log) (q : Queued) (d : ℕ) → number_of s.site ≤ 63 → (clock s.site log).ticks ≤ h
     → IsLow (suc h) (start_read s c log q d)
 read_low h s c log q d w l =
-    let n = clock_number s.site log in
-    let own : next_stamp s log ≤ top (suc h) = omega arith in
+    let own : next_stamp s log ≤ top (suc h) = omega (arith, clock_number s.site log) in
     let p2 : bound s log ≤ top (suc h) = omega arith in (
       own,
       conditions_le (top (suc h)) s.catalogue (current_era s log).table c
@@ -44,74 +33,44 @@ read_low h s c log q d w l =
 abbrev pub PutsLow : ℕ → Act → Type 0
 PutsLow h act = (b : Site) → AllLow (starts_by act + h) (to_site b (sends_of_act act))
 
-low_more : (n h : ℕ) (ms : List Msg) → AllLow h ms → AllLow (n + h) ms
-low_more n h ms i = all_low_up h (n + h) ms (omega arith) i
-
 low_one_more : (n h : ℕ) (ms : List Msg) → n ≡ 1 → AllLow (suc h) ms → AllLow (n + h) ms
 low_one_more n h ms e i = all_low_up (suc h) (n + h) ms (omega (arith, e)) i
 
-one_low : (h : ℕ) (ms : List Msg) (m : Msg) → IsLow h m → ms ≡ m ∷ [] → AllLow h ms
-one_low h ms m i e = rw e (i, tt)
-
-none_low : (h : ℕ) (ms : List Msg) → ms ≡ [] → AllLow h ms
-none_low h ms e = rw e tt
-
 start_low : (h : ℕ) (s : Setting) (c : ℕ) (log : Log) (q : Queued) → number_of s.site ≤ 63 → (clock s.site log).ticks ≤ h → PutsLow h (start_at s c log q)
 start_low h s c log q w l b = elim (start_puts s c b log q) [
-  | inl e ↦ none_low (starts_by (start_at s c log q) + h) _ e
-  | inr p ↦ low_one_more (starts_by (start_at s c log q)) h _ refl (one_low (suc h) _ (start_read s c log q p.0) (read_low h s c log q p.0 w l) p.1)
+  | inl e ↦ (rw e tt)
+  | inr p ↦ low_one_more (starts_by (start_at s c log q)) h _ refl (rw p.1 ((read_low h s c log q p.0 w l), tt))
 ]
 
 stamp_low : (h : ℕ) (s : Setting) (log : Log) → number_of s.site ≤ 63 → (clock s.site log).ticks ≤ h → last_stamp s log ≤ top h
 stamp_low h s log w l = let n = clock_number s.site log in omega arith
 
-bound_low : (h : ℕ) (s : Setting) (log : Log) → (clock s.site log).ticks ≤ h → bound s log ≤ top h
-bound_low h s log l = omega arith
-
 commit_low : (h : ℕ) (s : Setting) (c : ℕ) (bases : Bases) (a : Attempt) → a.ts ≤ top h → PutsLow h (commit_act s.catalogue bases c a)
-commit_low h s c bases a l b = grind (arith, low_more, commit_puts, none_low, one_low)
+commit_low h s c bases a l b = grind (arith, all_low_up, commit_puts)
 
 send_low : (h : ℕ) (to : Site) (m : Msg) (hand : Option ℕ) → IsLow h m → PutsLow h (Sends to m hand)
-send_low h to m hand i b = low_more (starts_by (Sends to m hand)) h _ (low_one h (same_site b to) m i)
-
-asks_low : (h ts c : ℕ) (m : Msg) → asks_rows ts c m ≡ true → IsLow h m
-asks_low h ts c m e = grind arith
+send_low h to m hand i b = (all_low_up h ((starts_by (Sends to m hand)) + h) _ (omega arith) (low_one h (same_site b to) m i))
 
 -- at a T
-
-released_not : (h : ℕ) (s : Setting) (log : Log) (to : Site) (m : Msg) (hand : Option ℕ) (ts : Ts) → m ≡ Release ts → HoldRule s log (Sends to m hand)
-    → PutsLow h (Sends to m hand)
-released_not h s log to m hand ts e r = absurd (subst (λ x. HoldRule s log (Sends to x hand)) e r)
-
-t_send : (h : ℕ) (s : Setting) (log : Log) (to : Site) (m : Msg) (hand : Option ℕ) → number_of s.site ≤ 63
-    → (clock s.site log).ticks ≤ h → Each (IsFair s) log → IsSend s log m → HoldRule s log (Sends to m hand) → PutsLow h (Sends to m hand)
-t_send h s log to m hand w l f e r = grind (arith, send_low, asks_low, limit_le, bound_low, released_not)
 
 pub t_low : (h : ℕ) (s : Setting) (t : TmNo) (bases : Bases) (log : Log) (act : Act) → s.site ≡ T t → number_of s.site ≤ 63
     → (clock s.site log).ticks ≤ h → Each (IsFair s) log → tm.IsDue s.catalogue bases (tm_views.view_of s log) act → PutsLow h act
 t_low h s t bases log act at w l f d = step_way s log act (λ x. HoldRule s log x → PutsLow h x) (λ c q p i e r. start_low h s c log q w l)
     (λ c b a p i r. let k = drawn_at s c log a f i in let n = stamp_low h s log w l in commit_low h s c b a (omega (arith, k, n)))
-    (λ to m hand i r. t_send h s log to m hand w l f i r) (t_step s t bases log act at d) (hold_rule s bases log act d)
+    (λ to m hand i r. (grind (arith, send_low, limit_le))) (t_step s t bases log act at d) (hold_rule s bases log act d)
 
 -- at U: the time of a RELEASE is that of the attempt that was served last
 
 ts_is : (o : Option Attempt) (k : ℕ) → stamp_or o ≤ k → ts_of o ≤ k
 ts_is o k h = grind arith
 
-act_ts : (act : Act) (o : Option Attempt) (v : Served) (k : ℕ) → stamp_or o ≤ k → v.ts ≤ k → (served_acted act o v).ts ≤ k
-act_ts act o v k h i = grind (arith, ts_is)
-
 pub served_low : (s : Setting) (log : Log) → Each (IsFair s) log → (last_served s log).ts ≤ last_stamp s log
 served_low s [] f = omega arith
-served_low s (Handed from m ∷ log) f = grind (arith, stamp_rises, served_low s log f.1)
-served_low s (Submits n txn ∷ log) f = served_low s log f.1
-served_low s (Did act ∷ log) f = grind (arith, drawn, stamp_rises, act_ts, active, served_low s log f.1)
-served_low s (x ∷ log) f = let i = served_low s log f.1 in let r = stamp_rises s x log in omega (arith, i, r)
+served_low s (e ∷ log) f = grind (arith, stamp_rises, drawn, ts_is, active, (served_low s log f.1))
 
 pub u_low : (h : ℕ) (s : Setting) (log : Log) (act : Act) → number_of s.site ≤ 63 → (clock s.site log).ticks ≤ h
     → Each (IsFair s) log → IsStepU s log act → PutsLow h act
 u_low h s log act w l f = u_way s log act (PutsLow h) (λ q i z r. start_low h s 0 log q w l)
     (λ b a i. let k = drawn_at s 0 log a f i in let n = stamp_low h s log w l in commit_low h s 0 b a (omega (arith, k, n)))
-    (λ d m a e. send_low h (D (dm_no d)) m None (asks_low h a.ts 0 m e))
-    (λ t ts i p. let k = served_low s log f in let n = stamp_low h s log w l in let e : ts.0 ≡ (last_served s log).ts = p.0 in
-    send_low h (T (tm_no t)) (Release ts) None (omega (arith, k, n, e), tt)) (λ t e. send_low h (T (tm_no t)) Hold None tt)
+    (λ d m a e. send_low h (D (dm_no d)) m None (grind arith))
+    (grind (arith, served_low, stamp_low, last_served, send_low, tm_no)) (λ t e. send_low h (T (tm_no t)) Hold None tt)

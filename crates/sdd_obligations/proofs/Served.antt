@@ -45,9 +45,6 @@ module _ (g : Input) (good : FitsInput g) (eras : HasEras g) (c : ℕ) where
   within : (log : Log) (a : Attempt) → IsPermitted g log → active s c (mine log) ≡ Some a → c ≤ length cat.classes
   within log a h e = class_within cat c a.text (attempt_covered g eras c log a h e)
 
-  text_fits : (log : Log) (a : Attempt) → IsPermitted g log → active s c (mine log) ≡ Some a → FitsText cat a.text
-  text_fits log a h e = active_so (FitsText cat) s c (mine log) a (home_fair g c log h) (all_new g at log h) (submitted_fit g good at c log h) e
-
   -- an exchange that is over has rows that serve
   over_serves : (log : Log) (a : Attempt) → IsPermitted g log → active s c (mine log) ≡ Some a
       → a.exchange.phase ≡ Over → a.exchange.lacks ≡ [] → Serves cat a.text a.exchange.found
@@ -62,7 +59,7 @@ module _ (g : Input) (good : FitsInput g) (eras : HasEras g) (c : ℕ) where
       (served_all g good eras c (in_step g c small) log h) copies (copies_agree g good a.ts log h) in
       let ok : HasCopies cat c a.text ds copies (base_of g log a.ts) = copies_are g good eras c log a h e (ap is_over p) in
       let all : Serves cat a.text (all_held ds space) (base_of g log a.ts) =
-      exchange_serves cat good.sound c a.text (text_fits log a h e).fits a.ts ds copies
+      exchange_serves cat good.sound c a.text (active_so (FitsText cat) s c (mine log) a (home_fair g c log h) (all_new g at log h) (submitted_fit g good at c log h) e).fits a.ts ds copies
       (base_of g log a.ts) ok space (stage_of a.exchange) r.follows.runs in
       serves_by_members cat a.text (base_of g log a.ts) (all_held ds space) a.exchange.found
       (λ x k. let m = Has-flat_map_from (λ d. all_rows (space d)) ds x k in r.all (ap is_shipped p) m.0 m.1 (ap (λ z. contains z m.0) l) x m.2)

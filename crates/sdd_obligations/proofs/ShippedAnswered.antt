@@ -1,5 +1,5 @@
 -- An Answer to the READ of an active attempt: of its class, at a module that it asked, for the uses that are read there.
-use Rattle.sdd_obligations.proofs.All.{Act, Answer, Attempt, D, DmNo, Does, Input, IsPermitted, IsRead, IsReadOf, IsSoundCatalogue, List, Log, Msg, None, Option, Queued, Read, Records, Setting, Site, Some, Use, [], active, ap, append_assoc, contains, dm_no, eqb-true, false, head, head_put, home, home_fair, if◌then◌else◌, length, local_of, map, modules_asked, next_stamp, or_left, or_right, permitted_before, pipe, pipe_at, place_of_act, read_of, refl, same_number, sends_of_act, setting_of, slice_get, start_of_active, start_read, subst, suc, sym, to_site, true, zero, ℕ, ◌++◌, ◌==◌, ◌∙◌, ◌∷◌, ◌≡◌, ◌≤◌}
+use Rattle.sdd_obligations.proofs.All.{Act, Answer, Attempt, D, DmNo, Does, Input, IsPermitted, IsRead, IsReadOf, IsSoundCatalogue, List, Log, Msg, None, Option, Queued, Read, Records, Site, Some, Use, [], active, ap, append_assoc, arith, contains, dm_no, eqb-true, false, head, head_put, home, home_fair, if◌then◌else◌, length, local_of, map, modules_asked, next_stamp, or_left, or_right, permitted_before, pipe, pipe_at, place_of_act, read_of, refl, same_number, sends_of_act, setting_of, slice_get, start_of_active, start_read, subst, sym, to_site, true, ℕ, ◌++◌, ◌==◌, ◌∙◌, ◌∷◌, ◌≡◌, ◌≤◌}
 use Rattle.sdd_obligations.proofs.Places.{IsAnswerAt, class_here, read_at_head}
 use Rattle.sdd_obligations.proofs.Starts.{StartAt, drawn_already, one_start, read_later, start_here}
 use Rattle.sdd_serving.specs.Freezing.{uses_at}
@@ -8,8 +8,7 @@ use Rattle.sdd_serving.specs.Freezing.{uses_at}
 
 one_each : (f : ℕ → Msg) (x d : ℕ) (ds : List ℕ) (ms : List Msg) (k : ℕ) (m : Msg) → x ≡ d
     → ((j : ℕ) → slice_get ms j ≡ Some m → (contains ds x ≡ true) × (m ≡ f x)) → slice_get (f d ∷ ms) k ≡ Some m → (contains (d ∷ ds) x ≡ true) × (m ≡ f x)
-one_each f x d ds ms zero m q g e = let p : f d ≡ m = cc in (or_left (d == x) (contains ds x) (ap (λ y. y == x) (sym q) ∙ same_number x), sym p ∙ ap f (sym q))
-one_each f x d ds ms (suc k) m q g e = let r = g k e in (or_right (d == x) (contains ds x) r.0, r.1)
+one_each f x d ds ms k m q g e = grind (arith, or_left, same_number, or_right)
 
 pub in_each : (f : ℕ → Msg) (x : ℕ) (ds : List ℕ) (k : ℕ) (m : Msg) → slice_get (to_site (D (dm_no x)) (map (λ d. (D (dm_no d), f d)) ds)) k ≡ Some m
     → (contains ds x ≡ true) × (m ≡ f x)
@@ -42,8 +41,7 @@ active_start : (g : Input) (c : ℕ) (log : Log) (a : Attempt) → IsPermitted g
     → active (setting_of g (home g.catalogue c)) c (local_of g (home g.catalogue c) log) ≡ Some a
     → (q : Queued) × StartAt g c log (home g.catalogue c) a.ts q × (q.text ≡ a.text)
 active_start g c log a h e =
-    let s : Setting = setting_of g (home g.catalogue c) in
-    let st = start_of_active s c (local_of g (home g.catalogue c) log) a (home_fair g c log h) e in
+    let st = start_of_active (setting_of g (home g.catalogue c)) c (local_of g (home g.catalogue c) log) a (home_fair g c log h) e in
     (st.queued, record { later = st.later; before = st.before; is = st.is; head_is = st.head; ts_is = st.ts_is }, sym st.text_is)
 
 -- the Start of the attempt to whose READ an Answer is

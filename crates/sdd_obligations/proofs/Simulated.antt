@@ -1,5 +1,5 @@
 -- The exchange of an active attempt follows a run over what its modules keep, on every permitted log.
-use Rattle.sdd_obligations.proofs.All.{Act, AllReadied, Asks, Attempt, Bases, Bool, Catalogue, CopyRows, D, Did, DmNo, Does, Each, Entry, Exchange, FitsInput, Frozen, Hand, Handed, Has, HasEras, Input, IsFair, IsPermitted, KeepsOnce, List, Log, Msg, None, Option, Queued, Reduce, Reject, Sends, Setting, Site, Some, Space, T, Tells, U, Value, [], active, active_handed, active_sent, after_hand, after_send, ap, asked_at, asks_rows, beginning, begins, bound, class_at, class_no, clock, commit_act, contains, contents, current_era, dated, dm_no, false, filter_map, follows_reduce, follows_start, frozen_for, frozen_once, frozen_space, head, head_of, home, home_fair, honest, if_way, if◌then◌else◌, inl, inr, is_a_refusal, is_answer, is_question, is_shipped, kept, length, local_of, local_step, made, module_read, modules_asked, never, next_stamp, own_act, pipe, question, question_of, queue, readied, reduced, refl, rejects, same_number, same_or_not, same_site, sends_of_act, setting_of, site_is, site_self, start_at, start_modules, started, step_way, subst, suc, sym, time_at, tm_no, true, turn_at, with_made, ℕ, ◌==◌, ◌∙◌, ◌∷◌, ◌≡◌, ◌≢◌, ◌≤◌}
+use Rattle.sdd_obligations.proofs.All.{Act, AllReadied, Asks, Attempt, Bases, Bool, Catalogue, CopyRows, D, Did, DmNo, Does, Each, Entry, Exchange, FitsInput, Frozen, Hand, Handed, Has, HasEras, Input, IsFair, IsPermitted, KeepsOnce, List, Log, Msg, None, Option, Queued, Reduce, Reject, Sends, Setting, Site, Some, Space, T, Tells, U, Value, [], active, active_handed, active_sent, after_hand, after_send, ap, arith, asked_at, asks_rows, beginning, begins, bound, class_at, class_no, clock, commit_act, contains, contents, current_era, dated, dm_no, false, filter_map, follows_reduce, follows_start, frozen_for, frozen_once, frozen_space, head, head_of, home, home_fair, honest, if_way, if◌then◌else◌, inl, inr, is_a_refusal, is_answer, is_question, is_shipped, kept, length, local_of, local_step, made, module_read, modules_asked, never, next_stamp, own_act, pipe, question, question_of, queue, readied, reduced, refl, rejects, same_number, same_or_not, same_site, sends_of_act, setting_of, site_is, site_self, start_at, start_modules, started, step_way, subst, suc, sym, time_at, tm_no, true, turn_at, with_made, ℕ, ◌==◌, ◌∙◌, ◌∷◌, ◌≡◌, ◌≢◌, ◌≤◌}
 use Rattle.sdd_obligations.proofs.AtTurn.{hand_not}
 use Rattle.sdd_obligations.proofs.HandedAnswersKeepTurns.{is_awaited}
 use Rattle.sdd_obligations.proofs.Modules.{firsts}
@@ -54,10 +54,6 @@ module _ (g : Input) (good : FitsInput g) (eras : HasEras g) (c : ℕ) (in_step 
       subst (λ space. Serves a copies space a.exchange) (sym (space_same g c a.ts (first_of a copies) e log (k a.ts)))
       (h copies (agrees_before g a.ts copies e log agree))
 
-  -- the modules that are asked are those of the exchange
-  modules_are : (log : Log) (a : Attempt) → IsPermitted g log → active s c (mine log) ≡ Some a → firsts a.exchange.modules ≡ asked_of a
-  modules_are log a h e = (subst (AllReadied s c (mine log)) e (readied s c (mine log) (home_fair g c log h) (honest g at log h))).modules_are
-
   -- rows of a use are kept once
   once_at : (log : Log) (a : Attempt) (copies : ℕ → CopyRows) → IsServed log a copies → (d : ℕ) → KeepsOnce (space_at g c a.ts (first_of a copies) log d)
   once_at log a copies h = runs_once (asked_of a) (a.text).statements (asked_at cat c a.text)
@@ -92,7 +88,7 @@ module _ (g : Input) (good : FitsInput g) (eras : HasEras g) (c : ℕ) (in_step 
       → Serves a copies (space_at g c a.ts (first_of a copies) log) (after_hand a.ts c d.0 m a.exchange)
   taken log a copies d n m h e hand kind true own served =
       let r = reply_of log a copies d n m (in_step log h a e) hand own in
-      let are = modules_are log a h e in
+      let are = ((subst (AllReadied s c (mine log)) e (readied s c (mine log) (home_fair g c log h) (honest g at log h))).modules_are) in
       hand_serves (asked_of a) (a.text).statements (asked_at cat c a.text) (first_of a copies) a.ts c d.0 (space_at g c a.ts (first_of a copies) log)
       (contains_has (asked_of a) d.0 (subst (λ ms. contains ms d.0 ≡ true) are r.1))
       a.exchange m own (not_refusal a m own kind) r.0 (once_at log a copies served d.0)
@@ -320,9 +316,6 @@ module _ (g : Input) (good : FitsInput g) (eras : HasEras g) (c : ℕ) (in_step 
 
   -- all entries
 
-  home_same : (e : Entry) (log : Log) → made g at log e ≡ None → active s c (mine (e ∷ log)) ≡ active s c (mine log)
-  home_same e log m = ap (active s c) (local_step g at e log ∙ ap (λ o. with_made o (mine log)) m)
-
   by_hand : (log : Log) (from to : Site) (n : ℕ) (m : Msg) → IsPermitted g log
       → AllServed log (active s c (mine log)) → IsPermitted g (Hand from to n m ∷ log) → (b : Bool)
       → same_site at to ≡ b → AllServed (Hand from to n m ∷ log) (active s c (mine (Hand from to n m ∷ log)))
@@ -335,15 +328,7 @@ module _ (g : Input) (good : FitsInput g) (eras : HasEras g) (c : ℕ) (in_step 
       subst (λ l. AllServed (Hand from at n m ∷ log) (active s c l)) (sym here)
       (still_served (Hand from at n m) log (active_handed c from m (active s c (mine log)))
       (home_hand log from n m) (handed_home log from n m h own_hand served))) hand
-  by_hand log from (D d) n m h served hand false e =
-      let same : active s c (mine (Hand from (D d) n m ∷ log)) ≡ active s c (mine log) =
-      home_same (Hand from (D d) n m) log (ap (λ b. if b then Some (Handed from m) else None) e) in
-      subst (AllServed (Hand from (D d) n m ∷ log)) (sym same) (handed_module log from d n m (active s c (mine log)) h refl hand served)
-  by_hand log from x n m h served hand false e =
-      let same : active s c (mine (Hand from x n m ∷ log)) ≡ active s c (mine log) =
-      home_same (Hand from x n m) log (ap (λ b. if b then Some (Handed from m) else None) e) in
-      subst (AllServed (Hand from x n m ∷ log)) (sym same) (still_served (Hand from x n m) log
-      (active s c (mine log)) (λ ts d. kept_apart g c ts d (Hand from x n m) log refl) served)
+  by_hand log from to n m h served hand false e = grind (arith, active, s, mine, local_step, with_made, AllServed, handed_module, still_served, kept_apart)
 
   by_act : (log : Log) (by : Site) (act : Act) → IsPermitted g log → AllServed log (active s c (mine log))
       → IsPermitted g (Does by act ∷ log) → (b : Bool) → same_site at by ≡ b → AllServed (Does by act ∷ log)
@@ -352,14 +337,7 @@ module _ (g : Input) (good : FitsInput g) (eras : HasEras g) (c : ℕ) (in_step 
       let P : Site → Type 0 = λ x. IsPermitted g (Does x act ∷ log) → AllServed (Does x act ∷ log) (active s c (mine (Does x act ∷ log))) in
       subst P (site_is at by e) (λ own_hand. subst (λ l. AllServed (Does at act ∷ log) (active s c l))
       (sym (own_act g at act log)) (acted_home log act h own_hand served)) hand
-  by_act log (D d) act h served hand false e =
-      let same : active s c (mine (Does (D d) act ∷ log)) ≡ active s c (mine log) =
-      home_same (Does (D d) act) log (ap (λ b. if b then Some (Did act) else None) e) in
-      subst (AllServed (Does (D d) act ∷ log)) (sym same) (acted_module log d act (active s c (mine log)) hand same served)
-  by_act log x act h served hand false e =
-      let same : active s c (mine (Does x act ∷ log)) ≡ active s c (mine log) = home_same (Does x act) log (ap (λ b. if b then Some (Did act) else None) e) in
-      subst (AllServed (Does x act ∷ log)) (sym same) (still_served (Does x act) log (active s c (mine log))
-      (λ ts d. kept_apart g c ts d (Does x act) log refl) served)
+  by_act log by act h served hand false e = grind (arith, active, s, mine, local_step, with_made, AllServed, acted_module, still_served, kept_apart)
 
   by_still : (log : Log) (e : Entry) → IsStillEntry e → AllServed log (active s c (mine log)) → AllServed (e ∷ log) (active s c (mine (e ∷ log)))
   by_still log e still served =
@@ -367,11 +345,6 @@ module _ (g : Input) (good : FitsInput g) (eras : HasEras g) (c : ℕ) (in_step 
       ap (active s c) (local_step g at e log) ∙ still_active s c (made g at log e) (mine log) (made_still g at log e still) in
       subst (AllServed (e ∷ log)) (sym same) (still_served e log (active s c (mine log)) (λ ts d. kept_still g c ts d e log still) served)
 
-  none_first : active s c (mine []) ≡ None
-  none_first = if_way (λ x. active (setting_of g x) c (beginning g x) ≡ None) (c == 0) U (T (tm_no (class_at cat c).tm.0)) refl refl
-
   pub served_all : (log : Log) → IsPermitted g log → AllServed log (active s c (mine log))
-  served_all [] h = subst (AllServed []) (sym none_first) tt
-  served_all (Hand from to n m ∷ log) h = by_hand log from to n m h.1 (served_all log h.1) h (same_site at to) refl
-  served_all (Does by act ∷ log) h = by_act log by act h.1 (served_all log h.1) h (same_site at by) refl
-  served_all (x ∷ log) h = by_still log x tt (served_all log h.1)
+  served_all [] h = subst (AllServed []) (sym (if_way (λ x. active (setting_of g x) c (beginning g x) ≡ None) (c == 0) U (T (tm_no (class_at cat c).tm.0)) refl refl)) tt
+  served_all (e ∷ log) h = grind (arith, by_hand, same_site, by_act, by_still, (served_all log h.1))

@@ -1,5 +1,5 @@
 -- What an attempt reads at one data module: the copies just before the Answer to it.
-use Rattle.sdd_obligations.proofs.All.{Answer, Bool, Did, DmNo, Each, List, Msg, Records, Setting, Site, TxnNo, [], ap, before_answer, dated, false, flat_map, frags_asked, head, if◌then◌else◌, inl, inr, is_at, items_of, never, pipe, refl, snapshots, subst, sym, true, ℕ, ◌++◌, ◌∙◌, ◌∷◌, ◌≡◌, ◌⊎◌}
+use Rattle.sdd_obligations.proofs.All.{Answer, Bool, Did, DmNo, Each, List, Msg, Records, Setting, Site, TxnNo, [], ap, arith, before_answer, dated, false, flat_map, frags_asked, head, inl, inr, is_at, items_of, never, pipe, refl, snapshots, subst, sym, true, ℕ, ◌++◌, ◌∙◌, ◌∷◌, ◌≡◌, ◌⊎◌}
 use Rattle.sdd_obligations.proofs.Places.{IsAnswerAt}
 use Rattle.sdd_invariants.specs.site_module.SiteLog.{Entry, Log}
 
@@ -45,10 +45,7 @@ snap_answer s ts k txn attempt dm sends log false e h = snap_more s ts (Did (Rec
 
 pub may_snap : (s : Setting) (ts : ℕ) (log : Log) → MaySnap s ts log
 may_snap s ts [] = inl refl
-may_snap s ts (Did (Records k (Answer txn attempt dm) sends) ∷ log) =
-    snap_answer s ts k txn attempt dm sends log (is_at ts (head (pipe k log))) refl (may_snap s ts log)
-may_snap s ts (Did (Records k _ sends) ∷ log) = snap_more s ts _ log refl refl (may_snap s ts log)
-may_snap s ts (x ∷ log) = snap_more s ts x log refl refl (may_snap s ts log)
+may_snap s ts (e ∷ log) = grind (arith, snap_answer, snap_more, (may_snap s ts log))
 
 -- where there is an Answer, one is found
 snap_behind : (s : Setting) (ts : ℕ) (e : Entry) (log : Log) → snapshots s ts (e ∷ log) ≡ snapshots s ts log
@@ -82,6 +79,5 @@ snapped s ts log h = subst (IsSnapped s ts) (sym h.is) (snapped_behind s ts h.cl
 -- what holds along a log holds along that before an Answer
 pub each_before_answer : (P : Log → Entry → Type 0) (ts : ℕ) (log : Log) → Each P log → Each P (before_answer ts log)
 each_before_answer P ts [] h = h
-each_before_answer P ts (Did (Records k (Answer txn attempt dm) sends) ∷ log) h =
-    elim (is_at ts (head (pipe k log))) as (λ b. Each P (if b then log else before_answer ts log)) [ true ↦ h.1 | false ↦ each_before_answer P ts log h.1 ]
+each_before_answer P ts (Did (Records k (Answer txn attempt dm) sends) ∷ log) h = grind (arith, (each_before_answer P ts log h.1))
 each_before_answer P ts (_ ∷ log) h = each_before_answer P ts log h.1

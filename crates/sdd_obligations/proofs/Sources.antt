@@ -1,6 +1,6 @@
 -- Questions of a class are put by the site that runs it, which is the one to which a data module answers; and what is sent
 -- first on permitted logs.
-use Rattle.sdd_obligations.proofs.All.{Act, Catalogue, Class, ClassNo, Cond, D, Did, DmNo, Each, Hand, Handed, Input, IsClassHere, IsDueEach, IsFair, IsFetch, IsPermitted, IsPutByD, IsReduce, IsSend, IsShip, IsStep, List, Log, Msg, Read, Ready, Reduced, Reject, Rows, Setting, Site, Some, T, TmNo, Ts, TxnNo, U, Use, Values, WasAsked, [], and_right, ap, append_assoc, arith, asks_rows, asks_whose, base_of, class_at, commit_puts, d_fair, dm_no, each_at, each_local, eqb-true, false, hand_was_put, handed, head, home, home_fair, home_of, if_way, in_none, in_one, inl, inr, is_answer, is_question, length, local_of, map, never, next_stamp, permitted_before, pipe, place_of_hand, put_by_d, puts_to, refl, same_site, sends_of_act, setting_of, slice_get, slice_index_or, source_of, start_puts, start_read, step_way, subst, suc, sym, t_fair, the_one, tm_no, to_site, true, u_fair, was_put, zero, ℕ, ◌&&◌, ◌++◌, ◌-◌, ◌<◌, ◌==◌, ◌∙◌, ◌∷◌, ◌≡◌, ◌≤◌}
+use Rattle.sdd_obligations.proofs.All.{Act, Catalogue, Class, ClassNo, D, Did, DmNo, Each, Hand, Handed, Input, IsClassHere, IsDueEach, IsFair, IsFetch, IsPermitted, IsPutByD, IsReduce, IsShip, IsStep, List, Log, Msg, Read, Ready, Reduced, Reject, Rows, Setting, Site, Some, T, TmNo, Ts, U, Values, WasAsked, [], and_right, ap, append_assoc, arith, asks_rows, asks_whose, base_of, class_at, commit_puts, d_fair, dm_no, each_at, each_local, eqb-true, false, hand_was_put, handed, home, home_fair, home_of, if_way, in_none, in_one, is_answer, is_question, length, local_of, map, never, permitted_before, place_of_hand, put_by_d, puts_to, refl, same_site, sends_of_act, setting_of, slice_get, slice_index_or, source_of, start_puts, step_way, subst, suc, sym, t_fair, the_one, tm_no, to_site, true, u_fair, was_put, zero, ℕ, ◌&&◌, ◌++◌, ◌-◌, ◌<◌, ◌==◌, ◌∙◌, ◌∷◌, ◌≡◌, ◌≤◌}
 use Rattle.sdd_obligations.proofs.FirstSends.{IsFirstEach, IsFirstSend, t_first, u_first}
 use Rattle.sdd_obligations.proofs.QuestionsComeInTurn.{send_is_question}
 use Rattle.sdd_obligations.proofs.AnswersComeInTurn.{head_through}
@@ -49,33 +49,9 @@ home_first g c = if_way (FirstAt g) (c == 0) U (T (tm_no (class_at g.catalogue c
 
 -- who puts a question
 
-asks_class : (s : Setting) (ts k t c : ℕ) (m : Msg) → home s.catalogue k ≡ s.site → asks_rows ts k m ≡ true → asks_rows t c m ≡ true
-    → home s.catalogue c ≡ s.site
-asks_class s ts k t c m at e f = subst (λ j. home s.catalogue j ≡ s.site) (asks_whose ts k t c m e f).1 at
-
-none_asks : {A : Type 0} (ts c : ℕ) (m x : Msg) → m ≡ x → asks_rows ts c x ≡ false → asks_rows ts c m ≡ true → A
-none_asks ts c m x e f g = never (asks_rows ts c m) g (ap (asks_rows ts c) e ∙ f)
-
-send_class : (s : Setting) (log : site.Log) (ts c : ℕ) (m : Msg) → IsSend s log m → asks_rows ts c m ≡ true → home s.catalogue c ≡ s.site
-send_class s log ts c m e f = grind (arith, asks_class, none_asks)
-
 step_question : (s : Setting) (b : Site) (log : site.Log) (act : Act) (place : ℕ) (m : Msg) (ts c : ℕ) → IsStep s log act
     → slice_get (to_site b (sends_of_act act)) place ≡ Some m → is_question ts c m ≡ true → home s.catalogue c ≡ s.site
-step_question s b log act place m ts c i =
-    step_way s log act (λ x. slice_get (to_site b (sends_of_act x)) place ≡ Some m
-    → is_question ts c m ≡ true → home s.catalogue c ≡ s.site)
-    (λ k q at f e. λ there own. elim (start_puts s k b log q) [
-      | inl p ↦ in_none _ place m p there
-      | inr p ↦ (let is : start_read s k log q p.0 ≡ m = in_one _ (start_read s k log q p.0) place m p.1 there in
-          let of : ((next_stamp s log == ts) && (k == c)) ≡ true = ap (is_question ts c) is ∙ own in
-          subst (λ j. home s.catalogue j ≡ s.site) (eqb-true k c (and_right (next_stamp s log == ts) (k == c) of)) at)
-    ])
-    (λ k bases a at f. λ there own. elim (commit_puts s k bases b a) [
-      | inl p ↦ in_none _ place m p there
-      | inr p ↦ never (is_question ts c m) own (sym (ap (is_question ts c) (in_one _ _ place m p.1 there)))
-    ])
-    (λ to x hand f. λ there own. (let is : x ≡ m = (the_one b to x place m there).1 in
-    send_class s log ts c x f (sym (send_is_question s log ts c x f) ∙ ap (is_question ts c) is ∙ own))) i
+step_question s b log act place m ts c i = grind (arith, step_way, slice_get, start_puts, in_none, in_one, eqb-true, and_right, commit_puts, never, the_one, home, asks_whose, asks_rows, send_is_question)
 
 data_question : {A : Type 0} (s : Setting) (log : site.Log) (b : Site) (act : Act) (m : Msg) (ts c : ℕ) → IsPutByD s log b act m → is_question ts c m ≡ true → A
 data_question s log b act m ts c h e = grind arith
@@ -84,8 +60,7 @@ asked_at_home : (s : Setting) (b : Site) (log : site.Log) (place : ℕ) (m : Msg
     → slice_get (puts_to b log) place ≡ Some m → is_question ts c m ≡ true → home s.catalogue c ≡ s.site
 asked_at_home s b log place m ts c h e f =
     let p = was_put b log place m e in
-    let q = each_at (IsFair s) p.later (Did p.act) p.before (subst (Each (IsFair s)) p.is h) in
-    step_question s b p.before p.act p.place m ts c q.0 p.there f
+    step_question s b p.before p.act p.place m ts c (each_at (IsFair s) p.later (Did p.act) p.before (subst (Each (IsFair s)) p.is h)).0 p.there f
 
 data_asks_none : {A : Type 0} (s : Setting) (b : Site) (log : site.Log) (place : ℕ) (m : Msg) (ts c : ℕ) → Each (IsDueEach s) log
     → slice_get (puts_to b log) place ≡ Some m → is_question ts c m ≡ true → A
@@ -114,38 +89,22 @@ pub asked_here : (g : Input) (c : ℕ) (b : Site) (log : Log) (place : ℕ) (m :
     → slice_get (puts_to b (local_of g (home g.catalogue c) log)) place ≡ Some m → asks_rows ts c m ≡ true → c ≤ length g.catalogue.classes
 asked_here g c b log place m ts h e f =
     let s : Setting = setting_of g (home g.catalogue c) in
-    let l : site.Log = local_of g (home g.catalogue c) log in
-    let p = was_put b l place m e in
+    let p = was_put b (local_of g (home g.catalogue c) log) place m e in
     let q = each_at (IsFair s) p.later (Did p.act) p.before (subst (Each (IsFair s)) p.is (home_fair g c log h)) in
     let r = each_at (IsFirstEach s) p.later (Did p.act) p.before (subst (Each (IsFirstEach s)) p.is (home_first g c log h)) in
     act_here s p.before p.act q.0 r.0 b p.place ts c m p.there f
 
 -- who puts an answer, and to whom
 
-asks_no_answer_of : (ts k t c : ℕ) (m : Msg) → asks_rows ts k m ≡ true → is_answer t c m ≡ false
-asks_no_answer_of ts k t c m e = grind arith
-
-send_no_answer : (s : Setting) (log : site.Log) (ts c : ℕ) (m : Msg) → IsSend s log m → is_answer ts c m ≡ false
-send_no_answer s log ts c m e = grind (arith, asks_no_answer_of)
-
 step_no_answer : (s : Setting) (b : Site) (log : site.Log) (act : Act) (place : ℕ) (m : Msg) (ts c : ℕ) → IsStep s log act
     → slice_get (to_site b (sends_of_act act)) place ≡ Some m → is_answer ts c m ≡ false
-step_no_answer s b log act place m ts c i = step_way s log act (λ x. slice_get (to_site b (sends_of_act x)) place ≡ Some m → is_answer ts c m ≡ false)
-    (λ k q at f e. λ there. elim (start_puts s k b log q) [
-      | inl p ↦ in_none _ place m p there
-      | inr p ↦ sym (ap (is_answer ts c) (in_one _ (start_read s k log q p.0) place m p.1 there))
-    ])
-    (λ k bases a at f. λ there. elim (commit_puts s k bases b a) [
-      | inl p ↦ in_none _ place m p there
-      | inr p ↦ sym (ap (is_answer ts c) (in_one _ _ place m p.1 there))
-    ]) (λ to x hand f. λ there. sym (ap (is_answer ts c) (the_one b to x place m there).1) ∙ send_no_answer s log ts c x f) i
+step_no_answer s b log act place m ts c i = grind (arith, step_way, slice_get, start_puts, in_none, in_one, commit_puts, the_one)
 
 told_no_answer : (s : Setting) (b : Site) (log : site.Log) (place : ℕ) (m : Msg) (ts c : ℕ) → Each (IsFair s) log
     → slice_get (puts_to b log) place ≡ Some m → is_answer ts c m ≡ false
 told_no_answer s b log place m ts c h e =
     let p = was_put b log place m e in
-    let q = each_at (IsFair s) p.later (Did p.act) p.before (subst (Each (IsFair s)) p.is h) in
-    step_no_answer s b p.before p.act p.place m ts c q.0 p.there
+    step_no_answer s b p.before p.act p.place m ts c (each_at (IsFair s) p.later (Did p.act) p.before (subst (Each (IsFair s)) p.is h)).0 p.there
 
 -- a message that was asked came from the site that runs its class
 asked_from : (g : Input) (d : DmNo) (log : Log) (b : Site) (later : site.Log) (act : Act) (before : site.Log) (ts c : ℕ) (P : Msg → Type 0)
@@ -159,11 +118,6 @@ asked_from g d log b later act before ts c P h e w f =
     permitted_before g i.later (Hand b (D d) i.number w.asked ∷ i.rest) (subst (IsPermitted g) i.is h) in
     question_home g b (D d) i.rest (handed b (D d) i.rest) w.asked ts c p.1 (hand_was_put g i.rest b (D d) i.number w.asked p.0).1 (f w.asked w.fits)
 
--- the READ at a head is of its class
-head_class : (c : ℕ) (log : site.Log) (ts : Ts) (k : ClassNo) (txn : TxnNo) (attempt : ℕ) (conds : List Cond) (uses : List Use)
-    → head (pipe c log) ≡ Some (Read ts k txn attempt conds uses) → k.0 ≡ c
-head_class c log ts k txn attempt conds uses e = eqb-true k.0 c (head_through c log (Read ts k txn attempt conds uses) e)
-
 answered_home : (s : Setting) (n c : ℕ) (k : ClassNo) (ts : ℕ) (t : Ts) (b : Site) → IsClassHere s n → k.0 ≡ n → b ≡ source_of (home_of s) n
     → ((t.0 == ts) && (k.0 == c)) ≡ true → home s.catalogue c ≡ b
 answered_home s n c k ts t b l e f g = grind (arith, eqb-true, and_right, source_is_home)
@@ -172,9 +126,9 @@ data_answer : (g : Input) (d : DmNo) (log : Log) (b : Site) (later : site.Log) (
     → IsPermitted g log → local_of g (D d) log ≡ later ++ Did act ∷ before → IsPutByD (setting_of g (D d)) before b act m
     → is_answer ts c m ≡ true → home g.catalogue c ≡ b
 data_answer g d log b later act before (Ready t k counts) ts c h e p f =
-    answered_home (setting_of g (D d)) p.class c k ts t b p.here (head_class p.class before t k p.txn p.attempt p.conds p.uses p.head_is) p.to_is f
+    answered_home (setting_of g (D d)) p.class c k ts t b p.here (eqb-true k.0 p.class (head_through p.class before (Read t k p.txn p.attempt p.conds p.uses) p.head_is)) p.to_is f
 data_answer g d log b later act before (Reject t k by w) ts c h e p f =
-    answered_home (setting_of g (D d)) p.class c k ts t b p.here (head_class p.class before t k p.txn p.attempt p.conds p.uses p.head_is) p.to_is f
+    answered_home (setting_of g (D d)) p.class c k ts t b p.here (eqb-true k.0 p.class (head_through p.class before (Read t k p.txn p.attempt p.conds p.uses) p.head_is)) p.to_is f
 data_answer g d log b later act before (Values t k u vs) ts c h e p f =
     asked_from g d log b later act before ts c (IsFetch t k u) h e p (λ m q. ap (is_question ts c) q.1 ∙ f)
 data_answer g d log b later act before (Reduced t k u n) ts c h e p f =
@@ -187,8 +141,7 @@ data_answer g d log b later act before m ts c h e p f = cc
 pub answer_source : (g : Input) (a b : Site) (log : Log) (place : ℕ) (m : Msg) (ts c : ℕ) → IsPermitted g log
     → slice_get (puts_to b (local_of g a log)) place ≡ Some m → is_answer ts c m ≡ true → (d : DmNo) × (a ≡ D d) × (home g.catalogue c ≡ b)
 answer_source g U b log place m ts c h e f = never (is_answer ts c m) f (told_no_answer (setting_of g U) b (local_of g U log) place m ts c (u_fair g log h) e)
-answer_source g (T t) b log place m ts c h e f =
-    never (is_answer ts c m) f (told_no_answer (setting_of g (T t)) b (local_of g (T t) log) place m ts c (t_fair g t log h) e)
+answer_source g (T t) b log place m ts c h e f = grind (arith, never, told_no_answer, t_fair)
 answer_source g (D d) b log place m ts c h e f =
     let p = was_put b (local_of g (D d) log) place m e in
     let q = each_at (IsDueEach (setting_of g (D d))) p.later (Did p.act) p.before (subst (Each (IsDueEach (setting_of g (D d)))) p.is (d_fair g d log h)) in

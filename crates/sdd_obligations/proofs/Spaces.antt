@@ -1,5 +1,5 @@
 -- What the modules keep for an attempt, as the log of everything goes on.
-use Rattle.sdd_obligations.proofs.All.{Catalogue, CopyRows, D, Did, Does, Entry, Era, Frozen, Hand, Handed, Input, Log, Mark, None, Option, Redeclared, Redeclares, Setting, Site, Some, Space, Submits, Submitted, T, Tick, Ticked, Txn, U, active, ap, class_at, contents, dated, dm_no, false, given_to, home, if_way, kept, local_of, local_step, made, nth_era, redeclared_entry, redeclares, refl, same_site, setting_of, subst, suc, sym, tm_no, txn_at, with_made, ℕ, ◌==◌, ◌∙◌, ◌∷◌, ◌≡◌}
+use Rattle.sdd_obligations.proofs.All.{Catalogue, CopyRows, D, Did, Does, Entry, Frozen, Hand, Handed, Input, Log, None, Option, Setting, Site, Some, Space, T, U, active, ap, arith, class_at, contents, dated, dm_no, false, home, if_way, kept, local_of, local_step, made, refl, same_site, setting_of, subst, sym, tm_no, with_made, ℕ, ◌==◌, ◌∙◌, ◌∷◌, ◌≡◌}
 use Rattle.sdd_obligations.proofs.Places.{IsAnswerAt}
 use Rattle.sdd_obligations.proofs.Snapped.{answer_more}
 use Rattle.sdd_obligations.proofs.Kept.{kept_same}
@@ -13,24 +13,10 @@ IsStill (Some (Did act)) = ⊥
 IsStill _ = Unit {0}
 
 pub still_kept : (s : Setting) (c ts : ℕ) (o : Option site.Entry) (l : site.Log) → IsStill o → kept s c ts (with_made o l) ≡ kept s c ts l
-still_kept s c ts None l h = refl
-still_kept s c ts (Some (Ticked n)) l h = kept_same s c ts (Ticked n) l refl
-still_kept s c ts (Some (Submits n txn)) l h = kept_same s c ts (Submits n txn) l refl
-still_kept s c ts (Some (Redeclared era t)) l h = kept_same s c ts (Redeclared era t) l refl
-still_kept s c ts (Some _) l h = absurd h
+still_kept s c ts o l h = grind (arith, kept_same)
 
 pub still_active : (s : Setting) (c : ℕ) (o : Option site.Entry) (l : site.Log) → IsStill o → active s c (with_made o l) ≡ active s c l
-still_active s c (Some (Handed from m)) l h = absurd h
-still_active s c (Some (Did act)) l h = absurd h
-still_active s c _ l h = refl
-
-given_still : (n : ℕ) (o : Option Txn) → IsStill (given_to n o)
-given_still n None = tt
-given_still n (Some txn) = tt
-
-redeclared_still : (at : Site) (era : Era) (t : ℕ) → IsStill (redeclared_entry at era t)
-redeclared_still U era t = tt
-redeclared_still _ era t = tt
+still_active s c o l h = grind arith
 
 -- of the log of everything only hands and acts do more
 abbrev pub IsStillEntry : Entry → Type 0
@@ -39,12 +25,7 @@ IsStillEntry (Does by act) = ⊥
 IsStillEntry _ = Unit {0}
 
 pub made_still : (g : Input) (at : Site) (log : Log) (e : Entry) → IsStillEntry e → IsStill (made g at log e)
-made_still g at log (Mark (Tick t n)) h = if_way IsStill (same_site at (T t)) (Some (Ticked n)) None tt tt
-made_still g at log (Redeclares t) h = redeclared_still at (nth_era g (suc (redeclares log))) t
-made_still g at log (Hand from to n m) h = absurd h
-made_still g at log (Submitted to n) h = if_way IsStill (same_site at to) (given_to n (txn_at g n)) None (given_still n (txn_at g n)) tt
-made_still g at log (Does by act) h = absurd h
-made_still g at log _ h = tt
+made_still g at log e h = grind (arith, if_way, IsStill)
 
 -- the spaces of modules
 
@@ -90,8 +71,7 @@ pub kept_apart : (g : Input) (c ts d : ℕ) (e : Entry) (log : Log) → made g (
 kept_apart g c ts d e log m = ap (kept (set g d) c ts) (local_step g (D (dm_no d)) e log ∙ ap (λ o. with_made o (own g d log)) m)
 
 pub kept_still : (g : Input) (c ts d : ℕ) (e : Entry) (log : Log) → IsStillEntry e → kept_at g c ts d (e ∷ log) ≡ kept_at g c ts d log
-kept_still g c ts d e log h = ap (kept (set g d) c ts) (local_step g (D (dm_no d)) e log)
-    ∙ still_kept (set g d) c ts (made g (D (dm_no d)) log e) (own g d log) (made_still g (D (dm_no d)) log e h)
+kept_still g c ts d e log h = grind (arith, set, local_step, still_kept, own, made_still)
 
 -- the site of a class is no data module
 pub home_apart : (cat : Catalogue) (c d : ℕ) → same_site (D (dm_no d)) (home cat c) ≡ false

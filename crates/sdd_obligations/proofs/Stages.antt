@@ -1,5 +1,5 @@
 -- Each entry keeps an exchange in lockstep.
-use Rattle.sdd_obligations.proofs.All.{Asks, Bool, IsStage, List, MayAnswer, MayAsk, Msg, Refused, Told, Turn, [], agreed, answer_goes, ap, append-nil, asked_by, false, if◌then◌else◌, is_a_refusal, question_goes, subst, sym, told_by, true, turn_after_answer, turn_after_question, ℕ, ◌++◌, ◌∙◌, ◌∷◌, ◌≡◌}
+use Rattle.sdd_obligations.proofs.All.{IsStage, List, MayAnswer, MayAsk, Msg, Turn, [], agreed, answer_goes, ap, append-nil, arith, asked_by, question_goes, subst, sym, told_by, turn_after_answer, turn_after_question, ◌++◌, ◌∙◌, ◌∷◌, ◌≡◌}
 
 -- what one entry adds: questions that are put, questions that are handed over, answers that are put, answers that are
 -- handed over
@@ -11,21 +11,10 @@ pub data IsMove (v w : Turn) : List Msg → List Msg → List Msg → List Msg �
   answer_got : (x : Msg) → IsMove v w [] [] [] (x ∷ [])
 
 pub move_as : (v w : Turn) (a1 a2 a3 a4 b1 b2 b3 b4 : List Msg) → a1 ≡ b1 → a2 ≡ b2 → a3 ≡ b3 → a4 ≡ b4 → IsMove v w b1 b2 b3 b4 → IsMove v w a1 a2 a3 a4
-move_as v w a1 a2 a3 a4 b1 b2 b3 b4 e1 e2 e3 e4 h =
-    subst (λ a. IsMove v w a a2 a3 a4) (sym e1) (subst (λ a. IsMove v w b1 a a3 a4) (sym e2)
-    (subst (λ a. IsMove v w b1 b2 a a4) (sym e3) (subst (λ a. IsMove v w b1 b2 b3 a) (sym e4) h)))
+move_as v w a1 a2 a3 a4 b1 b2 b3 b4 e1 e2 e3 e4 h = grind (arith, IsMove)
 
 ask_or_answer : {A : Type 0} (v : Turn) (m x : Msg) → MayAsk v m → MayAnswer v x → A
-ask_or_answer (Asks ns q) m x h k = absurd h
-ask_or_answer _ m x h k = absurd k
-
-no_second_if : {A : Type 0} (b : Bool) (ns : List ℕ) (q x : Msg) → MayAnswer (if b then Refused else Told ns q) x → A
-no_second_if true ns q x h = absurd h
-no_second_if false ns q x h = absurd h
-
-no_second : {A : Type 0} (v : Turn) (x y : Msg) → MayAnswer v y → MayAnswer (turn_after_answer y v) x → A
-no_second (Asks ns q) x y h k = no_second_if (is_a_refusal y) ns q x k
-no_second _ x y h k = absurd h
+ask_or_answer v m x h k = grind arith
 
 pub nothing : {A : Type 0} (m : Msg) (ms : List Msg) → m ∷ ms ≡ [] → A
 nothing m ms e = cc
@@ -43,21 +32,14 @@ put_question v w qs xs qs2 xs2 m h e f (question_goes n q x s a) = absurd (subst
 put_question v w qs xs qs2 xs2 m h e f (answer_goes y q x s a) = ask_or_answer v m y h a
 
 get_question : (v w : Turn) (qs xs qs2 xs2 : List Msg) (m : Msg) → m ∷ qs2 ≡ qs → xs2 ≡ xs → IsStage v w qs xs → IsStage v (turn_after_question m w) qs2 xs2
-get_question v w qs xs qs2 xs2 m e f (agreed s q x) = nothing m qs2 (e ∙ q)
-get_question v w qs xs qs2 xs2 m e f (question_goes n q x s a) = let o = one_only m n qs2 (e ∙ q) in agreed (s ∙ ap (λ y. turn_after_question y w) (sym o.0)) o.1 (f ∙ x)
-get_question v w qs xs qs2 xs2 m e f (answer_goes y q x s a) = nothing m qs2 (e ∙ q)
+get_question v w qs xs qs2 xs2 m e f h10 = grind (arith, nothing, one_only)
 
 put_answer : (v w : Turn) (qs xs qs2 xs2 : List Msg) (y : Msg) → MayAnswer w y → qs2 ≡ qs → xs2 ≡ xs ++ y ∷ [] → IsStage v w qs xs
     → IsStage v (turn_after_answer y w) qs2 xs2
 put_answer v w qs xs qs2 xs2 y h e f (agreed s q x) =
     answer_goes y (e ∙ q) (f ∙ ap (λ l. l ++ y ∷ []) x) (ap (turn_after_answer y) (sym s)) (subst (λ z. MayAnswer z y) (sym s) h)
 put_answer v w qs xs qs2 xs2 y h e f (question_goes m q x s a) = ask_or_answer w m y a h
-put_answer v w qs xs qs2 xs2 y h e f (answer_goes z q x s a) = no_second v y z a (subst (λ u. MayAnswer u y) s h)
-
-get_answer : (v w : Turn) (qs xs qs2 xs2 : List Msg) (y : Msg) → qs2 ≡ qs → y ∷ xs2 ≡ xs → IsStage v w qs xs → IsStage (turn_after_answer y v) w qs2 xs2
-get_answer v w qs xs qs2 xs2 y e f (agreed s q x) = nothing y xs2 (f ∙ x)
-get_answer v w qs xs qs2 xs2 y e f (question_goes m q x s a) = nothing y xs2 (f ∙ x)
-get_answer v w qs xs qs2 xs2 y e f (answer_goes z q x s a) = let o = one_only y z xs2 (f ∙ x) in agreed (ap (λ u. turn_after_answer u v) o.0 ∙ sym s) (e ∙ q) o.1
+put_answer v w qs xs qs2 xs2 y h e f (answer_goes z q x s a) = (grind (arith))
 
 -- each entry keeps the stage
 pub moved : (v w : Turn) (pq hq pa ha qs xs qs2 xs2 : List Msg) → IsMove v w pq hq pa ha → hq ++ qs2 ≡ qs ++ pq → ha ++ xs2 ≡ xs ++ pa
@@ -66,28 +48,20 @@ moved v w pq hq pa ha qs xs qs2 xs2 still e f h = same_stage v w qs xs qs2 xs2 (
 moved v w pq hq pa ha qs xs qs2 xs2 (question_put m a) e f h = put_question v w qs xs qs2 xs2 m a e (f ∙ append-nil _) h
 moved v w pq hq pa ha qs xs qs2 xs2 (question_got m) e f h = get_question v w qs xs qs2 xs2 m (e ∙ append-nil _) (f ∙ append-nil _) h
 moved v w pq hq pa ha qs xs qs2 xs2 (answer_put y a) e f h = put_answer v w qs xs qs2 xs2 y a (e ∙ append-nil _) f h
-moved v w pq hq pa ha qs xs qs2 xs2 (answer_got y) e f h = get_answer v w qs xs qs2 xs2 y (e ∙ append-nil _) (f ∙ append-nil _) h
+moved v w pq hq pa ha qs xs qs2 xs2 (answer_got y) e f h = (grind (arith, nothing, one_only))
 
 -- a question or an answer that is the first under way comes in turn
 
 pub question_comes : (v w : Turn) (qs xs : List Msg) (m : Msg) (rest : List Msg) → qs ≡ m ∷ rest → IsStage v w qs xs → MayAsk w m
-question_comes v w qs xs m rest e (agreed s q x) = nothing m rest (sym e ∙ q)
-question_comes v w qs xs m rest e (question_goes n q x s a) = subst (MayAsk w) (sym (one_only m n rest (sym e ∙ q)).0) a
-question_comes v w qs xs m rest e (answer_goes y q x s a) = nothing m rest (sym e ∙ q)
+question_comes v w qs xs m rest e h8 = grind (arith, nothing, one_only)
 
 pub answer_comes : (v w : Turn) (qs xs : List Msg) (y : Msg) (rest : List Msg) → xs ≡ y ∷ rest → IsStage v w qs xs → MayAnswer v y
-answer_comes v w qs xs y rest e (agreed s q x) = nothing y rest (sym e ∙ x)
-answer_comes v w qs xs y rest e (question_goes m q x s a) = nothing y rest (sym e ∙ x)
-answer_comes v w qs xs y rest e (answer_goes z q x s a) = subst (MayAnswer v) (sym (one_only y z rest (sym e ∙ x)).0) a
+answer_comes v w qs xs y rest e h8 = grind (arith, nothing, one_only)
 
 -- the question or the answer under way, and the turns
 
 pub question_flies : (v w : Turn) (qs xs : List Msg) (m : Msg) (rest : List Msg) → qs ≡ m ∷ rest → IsStage v w qs xs → v ≡ turn_after_question m w
-question_flies v w qs xs m rest e (agreed s q x) = nothing m rest (sym e ∙ q)
-question_flies v w qs xs m rest e (question_goes n q x s a) = s ∙ ap (λ y. turn_after_question y w) (sym (one_only m n rest (sym e ∙ q)).0)
-question_flies v w qs xs m rest e (answer_goes y q x s a) = nothing m rest (sym e ∙ q)
+question_flies v w qs xs m rest e h8 = grind (arith, nothing, one_only)
 
 pub answer_flies : (v w : Turn) (qs xs : List Msg) (y : Msg) (rest : List Msg) → xs ≡ y ∷ rest → IsStage v w qs xs → (w ≡ turn_after_answer y v) × (rest ≡ [])
-answer_flies v w qs xs y rest e (agreed s q x) = nothing y rest (sym e ∙ x)
-answer_flies v w qs xs y rest e (question_goes m q x s a) = nothing y rest (sym e ∙ x)
-answer_flies v w qs xs y rest e (answer_goes z q x s a) = let o = one_only y z rest (sym e ∙ x) in (s ∙ ap (λ u. turn_after_answer u v) (sym o.0), o.1)
+answer_flies v w qs xs y rest e h8 = grind (arith, nothing, one_only)

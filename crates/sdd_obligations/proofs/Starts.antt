@@ -15,10 +15,7 @@ pub one_start_of_all : (s : Setting) (c k : ℕ) (l1 l2 b1 b2 : site.Log) (q1 q2
     → l1 ++ Did (start_at s c b1 q1) ∷ b1 ≡ l2 ++ Did (start_at s k b2 q2) ∷ b2 → (b1 ≡ b2) × (c ≡ k)
 one_start_of_all s c k l1 l2 b1 b2 q1 q2 e f = elim (compare l1 l2 (Did (start_at s c b1 q1)) (Did (start_at s k b2 q2)) b1 b2 f) [
   | inl r ↦ (r.0, ap class_recorded r.1)
-  | inr r ↦ elim r [
-    | inl u ↦ absurd (behind s c u.between b1 b2 q1 e u.is)
-    | inr u ↦ absurd (behind s k u.between b2 b1 q2 (sym e) u.is)
-  ]
+  | inr r ↦ grind (arith, behind)
 ]
 
 -- a Start of a transaction in the log of a site that runs its class
@@ -66,8 +63,7 @@ pub record IsHomeT (cat : Catalogue) (c : ℕ) : Type 0 where
 home_if : (cat : Catalogue) → IsSoundCatalogue cat → (c : ℕ) (b : Bool) → (c == 0) ≡ b → c ≤ length cat.classes → (home cat c ≡ U) ⊎ IsHomeT cat c
 home_if cat sound c true e l = inl (rw e refl)
 home_if cat sound c false e l =
-    let some : 1 ≤ c = above c e in
-    let there : IsServedClass cat (class_at cat c) = at_number (IsServedClass cat) cat.classes c _ (sound_classes cat sound) some l in
+    let there : IsServedClass cat (class_at cat c) = at_number (IsServedClass cat) cat.classes c _ (sound_classes cat sound) (above c e) l in
     let few = (sound_whole cat sound).few_tms in
     let high = there.module_to in
     inr (record { number = (class_at cat c).tm.0; is = rw e refl; from = there.module_from; to = omega arith })
@@ -80,29 +76,10 @@ pub home_is : (cat : Catalogue) → IsSoundCatalogue cat → (c : ℕ) → c ≤
 home_is cat sound c l = home_if cat sound c (c == 0) refl l
 
 pub small_home : (cat : Catalogue) → IsSoundCatalogue cat → (c : ℕ) → c ≤ length cat.classes → number_of (home cat c) ≤ 63
-small_home cat sound c l = elim (home_is cat sound c l) [
-  | inl e ↦ subst (λ x. number_of x ≤ 63) (sym e) (omega arith)
-  | inr h ↦ (let to = h.to in let low : h.number ≤ 63 = omega arith in subst (λ x. number_of x ≤ 63) (sym h.is) low)
-]
-
-same_home : (cat : Catalogue) → IsSoundCatalogue cat → (c k : ℕ) → c ≤ length cat.classes → k ≤ length cat.classes
-    → number_of (home cat c) ≡ number_of (home cat k) → home cat c ≡ home cat k
-same_home cat sound c k lc lk e = elim (home_is cat sound c lc) [
-  | inl a ↦ elim (home_is cat sound k lk) [
-    | inl b ↦ a ∙ sym b
-    | inr b ↦ (let from = b.from in let n : 0 ≡ b.number = ap number_of (sym a) ∙ e ∙ ap number_of b.is in absurd (omega arith))
-  ]
-  | inr a ↦ elim (home_is cat sound k lk) [
-    | inl b ↦ (let from = a.from in let n : a.number ≡ 0 = ap number_of (sym a.is) ∙ e ∙ ap number_of b in absurd (omega arith))
-    | inr b ↦ (let n : a.number ≡ b.number = ap number_of (sym a.is) ∙ e ∙ ap number_of b.is in a.is ∙ ap (λ m. T (tm_no m)) n ∙ sym b.is)
-  ]
-]
+small_home cat sound c l = grind (arith, home_is)
 
 numbers_alike : (j k m n : ℕ) → m ≤ 63 → n ≤ 63 → suc j * 64 + m ≡ suc k * 64 + n → m ≡ n
 numbers_alike j k m n a b e = omega arith
-
-stamp_is : (s : Setting) (log : site.Log) → next_stamp s log ≡ suc (clock s.site log).ticks * 64 + number_of s.site
-stamp_is s log = let n = clock_number s.site log in omega arith
 
 -- two Starts with one timestamp are one, whatever their classes
 pub one_start : (g : Input) → IsSoundCatalogue g.catalogue → (c k : ℕ) (log : Log) (t : ℕ) (q1 q2 : Queued)
@@ -114,8 +91,8 @@ one_start g sound c k log t q1 q2 lc lk x y =
     let alike : number_of at ≡ number_of (home g.catalogue k) =
     numbers_alike (clock at x.before).ticks (clock (home g.catalogue k) y.before).ticks (number_of at)
     (number_of (home g.catalogue k)) (small_home g.catalogue sound c lc) (small_home g.catalogue sound k lk)
-    (sym (stamp_is s x.before) ∙ sym x.ts_is ∙ y.ts_is ∙ stamp_is (setting_of g (home g.catalogue k)) y.before) in
-    let z : StartAt g k log at t q2 = subst (λ a. StartAt g k log a t q2) (sym (same_home g.catalogue sound c k lc lk alike)) y in
+    (sym (let n = clock_number s.site x.before in omega arith) ∙ sym x.ts_is ∙ y.ts_is ∙ (let n = clock_number (setting_of g (home g.catalogue k)).site y.before in omega arith)) in
+    let z : StartAt g k log at t q2 = subst (λ a. StartAt g k log a t q2) (sym (grind (arith, home_is))) y in
     let r = one_start_of_all s c k x.later z.later x.before z.before q1 q2 (sym x.ts_is ∙ z.ts_is) (sym x.is ∙ z.is) in
     (r.1, same_head s c x.before z.before q1 q2 r.0 x.head_is (ap (λ j. head_of (queue s j z.before)) r.1 ∙ z.head_is))
 
@@ -128,7 +105,7 @@ drawn_already g sound c k log q lc lk y =
     let alike : number_of at ≡ number_of (home g.catalogue k) =
     numbers_alike (clock at (local_of g at log)).ticks (clock (home g.catalogue k) y.before).ticks
     (number_of at) (number_of (home g.catalogue k)) (small_home g.catalogue sound c lc) (small_home g.catalogue sound k lk)
-    (sym (stamp_is s (local_of g at log)) ∙ y.ts_is ∙ stamp_is (setting_of g (home g.catalogue k)) y.before) in
+    (sym (let n = clock_number s.site (local_of g at log) in omega arith) ∙ y.ts_is ∙ (let n = clock_number (setting_of g (home g.catalogue k)).site y.before in omega arith)) in
     let z : StartAt g k log at (next_stamp s (local_of g at log)) q =
-    subst (λ a. StartAt g k log a (next_stamp s (local_of g at log)) q) (sym (same_home g.catalogue sound c k lc lk alike)) y in
+    subst (λ a. StartAt g k log a (next_stamp s (local_of g at log)) q) (sym (grind (arith, home_is))) y in
     behind s k z.later z.before (local_of g at log) q (sym z.ts_is) z.is

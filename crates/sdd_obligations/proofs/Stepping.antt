@@ -1,5 +1,5 @@
 -- The exchange of an active attempt and its modules go in step.
-use Rattle.sdd_obligations.proofs.All.{Act, Asks, Attempt, Bases, Bool, D, Did, DmNo, Does, Each, Entry, Fetch, Hand, Handed, Input, IsAllowed, IsFair, IsPermitted, IsStage, List, Log, MayAnswer, Msg, None, Option, Queued, Read, Redeclared, Reduce, Reject, Replies, Sends, Setting, Ship, Silent, Site, Some, Submits, T, Tells, Ticked, Told, Turn, U, [], active, active_handed, active_sent, agreed, allowed_act, answer_goes, answers, ap, beginning, class_at, commit_act, dm_no, drop, false, filter-append, flight, handed, handed_way, head_of, home, home_fair, if_way, if◌then◌else◌, inl, inr, is_a_read, is_a_refusal, is_answer, is_question, kept, local_of, local_step, made, next_stamp, number_of, own_act, puts_to, question_goes, queue, refl, same_number, same_or_not, same_site, sends_of_act, sent_way, setting_of, site_is, site_self, stamp_below_next, start_at, started, step_way, subst, sym, take, take-append-drop, tm_no, true, turn_after_answer, turn_at, turn_with, uses_by, uses_in, with_made, ℕ, ◌++◌, ◌==◌, ◌∙◌, ◌∷◌, ◌≡◌, ◌≤◌}
+use Rattle.sdd_obligations.proofs.All.{Act, Asks, Attempt, Bases, Bool, D, Did, DmNo, Does, Each, Entry, Hand, Handed, Input, IsFair, IsPermitted, IsStage, List, Log, Msg, None, Option, Queued, Redeclared, Sends, Setting, Silent, Site, Some, Submits, T, Tells, Ticked, Told, Turn, U, [], active, active_sent, allowed_act, answers, ap, arith, beginning, class_at, commit_act, dm_no, drop, false, filter-append, flight, handed, handed_way, head_of, home, home_fair, if_way, if◌then◌else◌, inl, inr, is_answer, is_question, kept, local_of, local_step, made, next_stamp, number_of, own_act, puts_to, queue, refl, same_number, same_or_not, same_site, sent_way, setting_of, site_is, site_self, stamp_below_next, start_at, step_way, subst, sym, take, take-append-drop, tm_no, true, turn_after_answer, turn_at, turn_with, with_made, ℕ, ◌++◌, ◌==◌, ◌∙◌, ◌∷◌, ◌≡◌, ◌≤◌}
 use Rattle.sdd_obligations.proofs.Comes.{next_answer_is, next_question_is}
 use Rattle.sdd_obligations.proofs.DataSteps.{data_step}
 use Rattle.sdd_obligations.proofs.Halves.{active_last, data_turns, home_source, home_turns}
@@ -17,9 +17,7 @@ use Rattle.sdd_invariants.specs.site_module.SiteLog as site
 -- a module that nothing was said to said nothing
 
 silent_with : (v w : Turn) (qs xs : List Msg) → IsStage v w qs xs → v ≡ Silent → w ≡ Silent
-silent_with v w qs xs (agreed e q x) z = sym e ∙ z
-silent_with v w qs xs (question_goes m q x e may) z = let p : Silent ≡ Asks (uses_by m (uses_in w)) m = sym z ∙ e in cc
-silent_with v w qs xs (answer_goes x q y e may) z = absurd (subst (λ u. MayAnswer u x) z may)
+silent_with v w qs xs h5 z = grind arith
 
 -- two lists with one message more are the same, so is that
 
@@ -32,15 +30,6 @@ last_same [] [] x y e = cc
 last_same [] (z ∷ ys) x y e = let p : [] ≡ ys ++ y ∷ [] = cc in no_end ys y p
 last_same (z ∷ xs) [] x y e = let p : [] ≡ xs ++ x ∷ [] = cc in no_end xs x p
 last_same (u ∷ xs) (z ∷ ys) x y e = let p : xs ++ x ∷ [] ≡ ys ++ y ∷ [] = cc in last_same xs ys x y p
-
--- only a READ is refused
-no_refusal : (ns : List ℕ) (q m : Msg) → is_a_read q ≡ false → Replies ns q m → is_a_refusal m ≡ false
-no_refusal ns (Read t k txn attempt conds uses) m e h = cc
-no_refusal ns (Fetch t k u col) (Reject a b by write) e h = absurd h
-no_refusal ns (Reduce t k u col vs) (Reject a b by write) e h = absurd h
-no_refusal ns (Ship t k) (Reject a b by write) e h = absurd h
-no_refusal ns q (Reject a b by write) e h = absurd h
-no_refusal ns q m e h = refl
 
 told_quiet : (s : Setting) (c ts : ℕ) (at : Site) (o : Option site.Entry) (l : site.Log) → IsStill o
     → KnowsTold s c ts at l → KnowsTold s c ts at (with_made o l)
@@ -77,10 +66,6 @@ module _ (g : Input) (c : ℕ) (small : number_of (home g.catalogue c) ≤ 63) w
   apart : (e : Entry) (log : Log) (ts d : ℕ) → made g (D (dm_no d)) log e ≡ None → Knows ts d log → Knows ts d (e ∷ log)
   apart e log ts d m h = subst (KnowsTold (set g d) c ts at) (sym (local_step g (D (dm_no d)) e log ∙ ap (λ o. with_made o (own g d log)) m)) h
 
-  -- an entry of the site
-  home_hand : (log : Log) (from : Site) (n : ℕ) (m : Msg) (ts d : ℕ) → Knows ts d log → Knows ts d (Hand from at n m ∷ log)
-  home_hand log from n m ts d h = apart (Hand from at n m) log ts d (ap (λ b. if b then Some (Handed from m) else None) (home_apart g.catalogue c d)) h
-
   home_act : (log : Log) (act : Act) (ts d : ℕ) → Knows ts d log → Knows ts d (Does at act ∷ log)
   home_act log act ts d h = apart (Does at act) log ts d (ap (λ b. if b then Some (Did act) else None) (home_apart g.catalogue c d)) h
 
@@ -92,8 +77,7 @@ module _ (g : Input) (c : ℕ) (small : number_of (home g.catalogue c) ≤ 63) w
       let entry : Entry = Hand from (D d) n m in
       let here : own g d.0 (entry ∷ log) ≡ Handed from m ∷ own g d.0 log = local_step g (D d) entry log
       ∙ ap (λ b. with_made (if b then Some (Handed from m) else None) (own g d.0 log)) (same_number d.0) in
-      let t = subst (Each (IsAskedInTurn c at)) here ((spoken g c (entry ∷ log) h small).timely_with d.0) in
-      (t.0 ts q).0
+      ((subst (Each (IsAskedInTurn c at)) here ((spoken g c (entry ∷ log) h small).timely_with d.0)).0 ts q).0
 
   module_hand : (log : Log) (from : Site) (d : DmNo) (n : ℕ) (m : Msg) (ts : ℕ)
       → IsPermitted g (Hand from (D d) n m ∷ log) → (k : ℕ) → Knows ts k log → Knows ts k (Hand from (D d) n m ∷ log)
@@ -135,25 +119,7 @@ module _ (g : Input) (c : ℕ) (small : number_of (home g.catalogue c) ≤ 63) w
   begun : (log : Log) (q : Queued) → IsPermitted g log → head_of (queue s c (mine log)) ≡ Some q
       → AllTold (Does at (start_at s c (mine log) q) ∷ log)
       (active s c (Did (start_at s c (mine log) q) ∷ mine log))
-  begun log q h e =
-      let act : Act = start_at s c (mine log) q in
-      let is : active s c (Did act ∷ mine log) ≡ started (next_stamp s (mine log)) (sends_of_act act)
-      (Some q) = rw (same_number c) (ap (started (next_stamp s (mine log)) (sends_of_act act)) e) in
-      subst (AllTold (Does at act ∷ log)) (sym is) (λ d. home_act log act (next_stamp s (mine log)) d (fresh log h d))
-
-  started_by : (log : Log) (k : ℕ) (q : Queued) → IsPermitted g log → head_of (queue s k (mine log)) ≡ Some q → AllTold log (active s c (mine log))
-      → AllTold (Does at (start_at s k (mine log) q) ∷ log)
-      (active s c (Did (start_at s k (mine log) q) ∷ mine log))
-  started_by log k q h e turn_after_answer = elim (same_or_not k c) [
-    | inl p ↦ subst (λ j. head_of (queue s j (mine log)) ≡ Some q
-        → AllTold (Does at (start_at s j (mine log) q) ∷ log)
-        (active s c (Did (start_at s j (mine log) q) ∷ mine log))) (sym p) (λ f. begun log q h f) e
-    | inr p ↦
-        subst (AllTold (Does at (start_at s k (mine log) q) ∷ log))
-        (ap (λ b. if b then started (next_stamp s (mine log)) (sends_of_act (start_at s k (mine log) q))
-        (head_of (queue s c (mine log))) else active s c (mine log)) (sym p))
-        (told_on (Does at (start_at s k (mine log) q)) log (active s c (mine log)) (λ a i d. home_act log (start_at s k (mine log) q) a.ts d) turn_after_answer)
-  ]
+  begun log q h e = grind (arith, s, mine, same_number, AllTold, home_act, fresh)
 
   committed_by : (log : Log) (k : ℕ) (bases : Bases) (a : Attempt) → AllTold log (active s c (mine log))
       → AllTold (Does at (commit_act s.catalogue bases k a) ∷ log)
@@ -170,64 +136,40 @@ module _ (g : Input) (c : ℕ) (small : number_of (home g.catalogue c) ≤ 63) w
       → AllTold log (active s c (mine log)) → AllTold (Does at act ∷ log) (active s c (Did act ∷ mine log))
   acted_home log act h turn_after_answer =
       let step = (subst (λ l. Each (IsFair s) l) (own_act g at act log) (home_fair g c (Does at act ∷ log) h)).0 in
-      step_way s (mine log) act (λ x. AllTold (Does at x ∷ log) (active s c (Did x ∷ mine log))) (λ k q here idle e. started_by log k q h.1 e turn_after_answer)
+      step_way s (mine log) act (λ x. AllTold (Does at x ∷ log) (active s c (Did x ∷ mine log))) (λ k q here idle e. (grind (arith, same_or_not, s, mine, AllTold, begun, told_on, home_act)))
       (λ k bases a here e. committed_by log k bases a turn_after_answer)
       (λ to m hand i. told_on (Does at (Sends to m hand)) log (active_sent c m (active s c (mine log))) (λ a e d. home_act log (Sends to m hand) a.ts d)
       (sent_way (AllTold log) c m (active s c (mine log)) (λ a x e. subst (AllTold log) e turn_after_answer) turn_after_answer)) step
 
   -- all entries
 
-  home_same : (e : Entry) (log : Log) → made g at log e ≡ None → active s c (mine (e ∷ log)) ≡ active s c (mine log)
-  home_same e log m = ap (active s c) (local_step g at e log ∙ ap (λ o. with_made o (mine log)) m)
-
   by_hand : (log : Log) (from to : Site) (n : ℕ) (m : Msg) → AllTold log (active s c (mine log))
       → IsPermitted g (Hand from to n m ∷ log) → (b : Bool) → same_site at to ≡ b
       → AllTold (Hand from to n m ∷ log) (active s c (mine (Hand from to n m ∷ log)))
-  by_hand log from to n m turn_after_answer hand true e =
-      let here : mine (Hand from at n m ∷ log) ≡ Handed from m ∷ mine log =
-      local_step g at (Hand from at n m) log ∙ ap (λ b. with_made (if b then Some (Handed from m) else None) (mine log)) (site_self at) in
-      subst (λ x. AllTold (Hand from x n m ∷ log) (active s c (mine (Hand from x n m ∷ log)))) (site_is at to e)
-      (subst (λ l. AllTold (Hand from at n m ∷ log) (active s c l)) (sym here)
-      (told_on (Hand from at n m) log (active_handed c from m (active s c (mine log))) (λ a i d. home_hand log from n m a.ts d)
-      (handed_way (AllTold log) c from m (active s c (mine log)) tt (λ a x i. subst (AllTold log) i turn_after_answer) turn_after_answer)))
   by_hand log from (D d) n m turn_after_answer hand false e =
-      subst (AllTold (Hand from (D d) n m ∷ log)) (sym (home_same (Hand from (D d) n m) log (ap (λ b. if b then Some (Handed from m) else None) e)))
+      subst (AllTold (Hand from (D d) n m ∷ log)) (sym (ap (active s c) (local_step g at (Hand from (D d) n m) log ∙ ap (λ o. with_made o (mine log)) (ap (λ b. if b then Some (Handed from m) else None) e))))
       (told_on (Hand from (D d) n m) log (active s c (mine log)) (λ a i k. module_hand log from d n m a.ts hand k) turn_after_answer)
-  by_hand log from x n m turn_after_answer hand false e =
-      subst (AllTold (Hand from x n m ∷ log)) (sym (home_same (Hand from x n m) log (ap (λ b. if b then Some (Handed from m) else None) e)))
-      (told_on (Hand from x n m) log (active s c (mine log)) (λ a i k. apart (Hand from x n m) log a.ts k refl) turn_after_answer)
+  by_hand log from to n m turn_after_answer hand b e = grind (arith, mine, local_step, site_self, AllTold, s, site_is, told_on, home_apart, handed_way, with_made, active, apart, turn_after_answer)
 
   by_act : (log : Log) (by : Site) (act : Act) → AllTold log (active s c (mine log))
       → IsPermitted g (Does by act ∷ log) → (b : Bool) → same_site at by ≡ b → AllTold (Does by act ∷ log)
       (active s c (mine (Does by act ∷ log)))
-  by_act log by act turn_after_answer hand true e =
-      let P : Site → Type 0 = λ x. IsPermitted g (Does x act ∷ log) → AllTold (Does x act ∷ log) (active s c (mine (Does x act ∷ log))) in
-      subst P (site_is at by e) (λ h. subst (λ l. AllTold (Does at act ∷ log) (active s c l)) (sym (own_act g at act log)) (acted_home log act h turn_after_answer)) hand
   by_act log (D d) act turn_after_answer hand false e =
-      subst (AllTold (Does (D d) act ∷ log)) (sym (home_same (Does (D d) act) log (ap (λ b. if b then Some (Did act) else None) e)))
+      subst (AllTold (Does (D d) act ∷ log)) (sym (ap (active s c) (local_step g at (Does (D d) act) log ∙ ap (λ o. with_made o (mine log)) (ap (λ b. if b then Some (Did act) else None) e))))
       (told_on (Does (D d) act) log (active s c (mine log)) (λ a i k. module_act log d act a hand i k)
       turn_after_answer)
-  by_act log x act turn_after_answer hand false e =
-      subst (AllTold (Does x act ∷ log)) (sym (home_same (Does x act) log (ap (λ b. if b then Some (Did act) else None) e)))
-      (told_on (Does x act) log (active s c (mine log)) (λ a i k. apart (Does x act) log a.ts k refl) turn_after_answer)
+  by_act log by act turn_after_answer hand b e = grind (arith, AllTold, s, mine, site_is, own_act, acted_home, local_step, with_made, told_on, active, apart, turn_after_answer)
 
   by_still : (log : Log) (e : Entry) → IsStillEntry e → AllTold log (active s c (mine log)) → AllTold (e ∷ log) (active s c (mine (e ∷ log)))
   by_still log e still turn_after_answer =
       let same : active s c (mine (e ∷ log)) ≡ active s c (mine log) =
       ap (active s c) (local_step g at e log) ∙ still_active s c (made g at log e) (mine log) (made_still g at log e still) in
       subst (AllTold (e ∷ log)) (sym same)
-      (told_on e log (active s c (mine log)) (λ a i d k. subst (KnowsTold (set g d) c a.ts at)
-      (sym (local_step g (D (dm_no d)) e log)) (told_quiet (set g d) c a.ts at
-      (made g (D (dm_no d)) log e) (own g d log) (made_still g (D (dm_no d)) log e still) k)) turn_after_answer)
-
-  none_first : active s c (mine []) ≡ None
-  none_first = if_way (λ x. active (setting_of g x) c (beginning g x) ≡ None) (c == 0) U (T (tm_no (class_at g.catalogue c).tm.0)) refl refl
+      (told_on e log (active s c (mine log)) (grind (arith, KnowsTold, set, local_step, dm_no, told_quiet, made, own, made_still)) turn_after_answer)
 
   told_all : (log : Log) → IsPermitted g log → AllTold log (active s c (mine log))
-  told_all [] h = subst (AllTold []) (sym none_first) tt
-  told_all (Hand from to n m ∷ log) h = by_hand log from to n m (told_all log h.1) h (same_site at to) refl
-  told_all (Does by act ∷ log) h = by_act log by act (told_all log h.1) h (same_site at by) refl
-  told_all (x ∷ log) h = by_still log x tt (told_all log h.1)
+  told_all [] h = subst (AllTold []) (sym (if_way (λ x. active (setting_of g x) c (beginning g x) ≡ None) (c == 0) U (T (tm_no (class_at g.catalogue c).tm.0)) refl refl)) tt
+  told_all (e ∷ log) h = grind (arith, by_hand, same_site, by_act, by_still, (told_all log h.1))
 
   -- the answers of a module that were put, and the one that is under way
   answers_put : (ts : ℕ) (d : DmNo) (log : Log) (m : Msg) → answers ts c (flight g (D d) at log) ≡ m ∷ []
@@ -250,7 +192,7 @@ module _ (g : Input) (c : ℕ) (small : number_of (home g.catalogue c) ≤ 63) w
         replies = st.replies;
         tells = λ r.
             let turn : turn_with a.ts c at (own g d.0 log) ≡ Told st.uses st.question =
-            st.tells ∙ told_is (Asks st.uses st.question) st.uses st.question m refl (no_refusal st.uses st.question m r st.replies) in
+            st.tells ∙ told_is (Asks st.uses st.question) st.uses st.question m refl (grind arith) in
             let k = subst (AllTold log) e (told_all log h) d.0 st.uses st.question turn r in
             let same : k.answer ≡ m = last_same k.front (answers a.ts c (take (handed (D d) at log) (puts_to at (own g d.0 log)))) k.answer m
             (sym k.last ∙ answers_put a.ts d log m st.alone) in
@@ -263,8 +205,6 @@ module _ (g : Input) (c : ℕ) (small : number_of (home g.catalogue c) ≤ 63) w
       record {
         at_turn = λ d. (subst (λ o. AtTurn a.ts d o (turn_at a.ts c d (mine log))) e ((home_turns g c log h sp).turns a.ts d)).0 refl;
         asks = subst (AllAskPhase c (mine log)) e (asks_phase s c (mine log) (home_fair g c log h) (home_first g c log h) sp.timely_at);
-        question = λ from d n m hand q. next_question_is g c log d n m a.ts h small
-            (subst (λ x. IsAllowed g log (Hand x (D d) n m)) (question_from log from d n m a.ts hand q)
-            hand.0) q;
+        question = grind (arith, next_question_is, question_from);
         answer = λ d n m hand own_answer. answered log a h e d n m hand own_answer;
       }

@@ -1,5 +1,5 @@
 -- A transaction that is next to be given to a module is new there, fits, and is of the module.
-use Rattle.sdd_obligations.proofs.All.{Bool, Did, Does, Each, Entry, Event, FitsTxn, Hand, Input, IsLawful, IsNew, IsSmall, Log, Mark, Notes, Option, Round, Site, Some, Submits, Submitted, T, TmNo, Txn, U, all_new, arith, both, class_for, contains, current_era, differ, false, if_way, if◌then◌else◌, is_site, lawful_permitted, local_of, mark_due, nat_le, nat_tests, next, note_if, nth_era, redeclares, refl, same_site, setting_of, site_self, submits, subst, true, txn_at, with_submit, with_tick, ℕ, ◌∷◌, ◌≡◌, ◌≢◌, ◌≤◌}
+use Rattle.sdd_obligations.proofs.All.{Does, Each, Entry, Event, FitsTxn, Hand, Input, IsLawful, IsNew, IsSmall, Log, Mark, Notes, Option, Round, Site, Some, Submits, Submitted, T, TmNo, Txn, all_new, arith, both, class_for, contains, current_era, differ, false, if_way, is_site, lawful_permitted, local_of, mark_due, nat_le, nat_tests, next, nth_era, redeclares, refl, setting_of, site_self, submits, subst, true, txn_at, with_tick, ℕ, ◌∷◌, ◌≡◌, ◌≢◌, ◌≤◌}
 use Rattle.sdd_obligations.proofs.OfNext.{of_next}
 use Rattle.sdd_invariants.specs.logs.Due.{home_of}
 use Rattle.sdd_invariants.specs.site_module.SiteLog as site
@@ -23,11 +23,8 @@ abbrev HomeEntry : Input → Log → Entry → Type 0
 HomeEntry g log (Submitted at n) = IsAtHome g log at n
 HomeEntry g log _ = Unit {0}
 
-note_home : (g : Input) (log : Log) (b : Bool) (e : Entry) → note_if b ≡ Some e → HomeEntry g log e
-note_home g log b e p = grind arith
-
 mark_home : (g : Input) (log : Log) (e : Entry) → mark_due g log ≡ Some e → HomeEntry g log e
-mark_home g log e p = grind (arith, note_home)
+mark_home g log e p = grind (arith)
 
 pub at_home : (g : Input) (log : Log) (at : Site) (n : ℕ) → IsSmall g → IsLawful g log → next g log ≡ Some (Submitted at n) → IsAtHome g log at n
 at_home g log at n s l e = mark_home g log (Submitted at n) (of_next g log (Submitted at n) s.few_ticks l e)
@@ -37,39 +34,29 @@ at_home g log at n s l e = mark_home g log (Submitted at n) (of_next g log (Subm
 abbrev IsRedeclared : Input → ℕ → TmNo → site.Log → Type 0
 IsRedeclared g k t l = current_era (setting_of g (T t)) l ≡ nth_era g k
 
-submit_redeclared : (g : Input) (k : ℕ) (t : TmNo) (n : ℕ) (o : Option Txn) (l : site.Log) → IsRedeclared g k t l → IsRedeclared g k t (with_submit n o l)
-submit_redeclared g k t n o l h = grind arith
-
 tick_redeclared : (g : Input) (k : ℕ) (t : TmNo) (e : Event) (l : site.Log) → IsRedeclared g k t l → IsRedeclared g k t (with_tick (T t) e l)
 tick_redeclared g k t e l h = grind (arith, if_way)
 
 pub redeclared_is : (g : Input) (t : TmNo) (log : Log) → IsRedeclared g (redeclares log) t (local_of g (T t) log)
 redeclared_is g t (Mark e ∷ log) = tick_redeclared g (redeclares log) t e (local_of g (T t) log) (redeclared_is g t log)
 redeclared_is g t (Hand a b n m ∷ log) = grind (arith, if_way, redeclared_is g t log)
-redeclared_is g t (Submitted at n ∷ log) = grind (arith, if_way, submit_redeclared, redeclared_is g t log)
-redeclared_is g t (Does by act ∷ log) =
-    if_way (IsRedeclared g (redeclares log) t) (same_site (T t) by) (Did act ∷ local_of g (T t) log) (local_of g (T t) log) (redeclared_is g t log) (redeclared_is g t log)
+redeclared_is g t (Submitted at n ∷ log) = grind (arith, if_way, redeclared_is g t log)
+redeclared_is g t (Does by act ∷ log) = grind (arith, if_way, IsRedeclared, (redeclared_is g t log))
 redeclared_is g t (Round es ∷ log) = redeclared_is g t log
 redeclared_is g t (Notes ∷ log) = redeclared_is g t log
 redeclared_is g t _ = refl
 
 -- of a declared class it goes to its own module
 
-home_t : (b : Bool) (k t : TmNo) → T t ≡ (if b then U else T k) → (b ≡ false) × (T t ≡ T k)
-home_t b k t e = grind arith
-
 pub declared_here : (g : Input) (log : Log) (t : TmNo) (n : ℕ) (txn : Txn) → IsSmall g → IsLawful g log → next g log ≡ Some (Submitted (T t) n)
     → txn_at g n ≡ Some txn → (T t ≡ T txn.tm) × (class_for (current_era (setting_of g (T t)) (local_of g (T t) log)).catalogue txn ≢ 0)
-declared_here g log t n txn s l e f = grind (arith, at_home, home_t, redeclared_is, differ)
+declared_here g log t n txn s l e f = grind (arith, at_home, redeclared_is, differ)
 
 -- U and the modules of the network are its homes
 
-home_site : (tms dms : ℕ) (b : Bool) (k : TmNo) (at : Site) → 1 ≤ k.0 → k.0 ≤ tms → at ≡ (if b then U else T k) → is_site tms dms at ≡ true
-home_site tms dms b k at l m e = grind (arith, both, le_true)
-
 home_of_some : (g : Input) (log : Log) (at : Site) (o : Option Txn) → ((txn : Txn) → o ≡ Some txn → (1 ≤ txn.tm.0) × (txn.tm.0 ≤ g.catalogue.tms))
     → at ≡ home_of (nth_era g (redeclares log)).catalogue o → is_site g.catalogue.tms g.catalogue.dms at ≡ true
-home_of_some g log at o f e = grind (arith, home_site)
+home_of_some g log at o f e = grind (arith, both, le_true)
 
 pub home_exists : (g : Input) (log : Log) (at : Site) (n : ℕ) → IsSmall g → IsLawful g log → next g log ≡ Some (Submitted at n)
     → ((k : ℕ) (txn : Txn) → txn_at g k ≡ Some txn → FitsTxn g.catalogue txn) → is_site g.catalogue.tms g.catalogue.dms at ≡ true

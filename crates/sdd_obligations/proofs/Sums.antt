@@ -30,6 +30,4 @@ total_le_at f (x ∷ xs) k h =
 pub range_at : (a n k : ℕ) → k < n → slice_get (range_with_len a n) k ≡ Some (a + k)
 range_at a zero k l = absurd (omega (arith, l))
 range_at a (suc n) zero l = let e : a ≡ a + 0 = omega arith in subst (λ x. Some a ≡ Some x) e refl
-range_at a (suc n) (suc k) l =
-    let e : (a + 1) + k ≡ a + suc k = omega arith in
-    subst (λ x. slice_get (range_with_len (a + 1) n) k ≡ Some x) e (range_at (a + 1) n k (omega (arith, l)))
+range_at a (suc n) (suc k) l = grind (arith, slice_get, range_with_len, (range_at (a + 1) n k (omega (arith, l))))

@@ -1,5 +1,5 @@
 -- The transaction of an attempt is one that was given to its class, and has what all these have.
-use Rattle.sdd_obligations.proofs.All.{AllByRecursion, Attempt, Bool, Each, FitsInput, FitsText, Input, IsFair, IsNew, IsPermitted, IsServed, List, None, Option, Queued, Setting, Site, Some, Submits, Txn, [], active, cons_option, current_era, each_local, false, filter_map, if◌then◌else◌, is_committed, is_for, local_of, queue, queue_is, queued, refl, setting_of, starts_of, submits_of, subst, sym, true, ℕ, ◌++◌, ◌∷◌, ◌≡◌}
+use Rattle.sdd_obligations.proofs.All.{AllByRecursion, Attempt, Bool, Each, FitsInput, FitsText, Input, IsFair, IsNew, IsPermitted, IsServed, List, Option, Queued, Setting, Site, Some, Submits, Txn, [], active, arith, cons_option, current_era, each_local, filter_map, if◌then◌else◌, is_for, local_of, queue, queue_is, queued, setting_of, submits_of, subst, sym, true, ℕ, ◌++◌, ◌∷◌, ◌≡◌}
 use Rattle.sdd_invariants.specs.site_module.SiteLog.{Entry, Log}
 use Rattle.sdd_invariants.specs.logs.Entries as whole
 
@@ -17,8 +17,7 @@ module _ (P : Txn → Type 0) where
   one_behind (x ∷ xs) n txn h all = (all.0, one_behind xs n txn h all.1)
 
   one_more : (b : Bool) (xs : List (ℕ × Txn)) (n : ℕ) (txn : Txn) → (b ≡ true → P txn) → AreSo xs → AreSo (if b then xs ++ (n, txn) ∷ [] else xs)
-  one_more true xs n txn h all = one_behind xs n txn (h refl) all
-  one_more false xs n txn h all = all
+  one_more b xs n txn h all = grind (arith, one_behind)
 
   submits_so : (s : Setting) (c : ℕ) (log : Log) → Each (SubmitHas P s c) log → AreSo (submits_of s c log)
   submits_so s c [] h = tt
@@ -30,17 +29,10 @@ module _ (P : Txn → Type 0) where
 
   queued_so : (c : ℕ) (log : Log) (xs : List (ℕ × Txn)) → AreSo xs → TextsAre (filter_map (queued c log) xs)
   queued_so c log [] all = tt
-  queued_so c log (x ∷ xs) all =
-      elim (is_committed c x.0 log) as (λ b. TextsAre
-      (cons_option (if b then None else Some (record { number = x.0; text = x.1; tries = starts_of c x.0 log })) (filter_map (queued c log) xs))) [
-        | true ↦ queued_so c log xs all.1
-        | false ↦ (all.0, queued_so c log xs all.1)
-      ]
+  queued_so c log (x ∷ xs) all = grind (arith, TextsAre, cons_option, filter_map, (queued_so c log xs all.1))
 
   served_so : (o : Option Attempt) (qs : List Queued) (a : Attempt) → o ≡ Some a → IsServed o qs → TextsAre qs → P a.text
-  served_so None qs a e h all = cc
-  served_so (Some b) [] a e h all = absurd h
-  served_so (Some b) (q ∷ qs) a e h all = let same : b ≡ a = cc in subst (λ (x : Attempt). P x.text) same (subst P h.1 all.0)
+  served_so o qs a e h all = grind arith
 
   pub active_so : (s : Setting) (c : ℕ) (log : Log) (a : Attempt) → Each (IsFair s) log → Each IsNew log
       → Each (SubmitHas P s c) log → active s c log ≡ Some a → P a.text

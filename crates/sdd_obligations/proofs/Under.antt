@@ -1,5 +1,5 @@
 -- The height of a lawful log is one: no clock and no message's time is above it.
-use Rattle.sdd_obligations.proofs.All.{Act, AllFewTicks, AllLow, D, Did, Does, Entry, Era, Event, Hand, Handed, HandsLow, Input, IsDueAt, IsLawful, IsLow, IsPermitted, IsUnder, List, Log, Mark, Msg, None, Option, Redeclared, Redeclares, Site, Some, Submitted, T, Ticked, Ticking, Txn, U, [], allowed_act, allowed_hand, arith, base_of, beginning, bound_at, clock, fold, given_to, greatest_bound, height, if_way, if◌then◌else◌, local_of, local_step, made, made_by_mark, map, max, numbers_to, pushed_by, put_by, puts_grow, puts_to, redeclared_entry, refl, same_site, sends_of_act, sent, sent_is, setting_of, slice_get, starts_by, subst, sym, t_fair, ticked_by, ticks_of, tm_no, to_site, top, u_due, u_fair, with_made, ℕ, ◌*◌, ◌+◌, ◌-◌, ◌/◌, ◌∷◌, ◌≡◌, ◌≤◌}
+use Rattle.sdd_obligations.proofs.All.{Act, AllFewTicks, AllLow, D, Did, Does, Entry, Event, Hand, Handed, HandsLow, Input, IsDueAt, IsLawful, IsLow, IsPermitted, IsUnder, List, Log, Mark, Msg, None, Option, Redeclared, Redeclares, Site, Some, Submitted, T, Ticked, U, [], allowed_act, allowed_hand, arith, base_of, clock, fold, greatest_bound, height, if_way, if◌then◌else◌, local_of, local_step, made, made_by_mark, map, max, puts_grow, puts_to, refl, same_site, sends_of_act, sent, sent_is, setting_of, slice_get, starts_by, subst, sym, t_fair, ticks_of, to_site, top, u_due, u_fair, with_made, ℕ, ◌*◌, ◌+◌, ◌-◌, ◌/◌, ◌∷◌, ◌≡◌, ◌≤◌}
 use Rattle.sdd_obligations.proofs.AnswersLow.{d_low}
 use Rattle.sdd_obligations.proofs.LowLists.{all_low_join, all_low_up, low_at, low_up}
 use Rattle.sdd_obligations.proofs.OfNext.{OfNext, of_next, t_of_sites}
@@ -22,18 +22,6 @@ div_le t h l = omega arith
 pub max_le : (a b h : ℕ) → a ≤ h → b ≤ h → max a b ≤ h
 max_le a b h l m = omega arith
 
-push_le : (a t h : ℕ) → a ≤ h → t ≤ h * 64 + 63 → max a (t / 64) ≤ h
-push_le a t h l m = max_le a (t / 64) h l (div_le t h m)
-
-pushed_le : (h : ℕ) (m : Msg) (c : Ticking) → c.ticks ≤ h → IsLow h m → (pushed_by m c).ticks ≤ h
-pushed_le h m c l i = grind (arith, push_le)
-
-started_le : (h k : ℕ) (act : Act) (c : Ticking) → c.ticks ≤ h → starts_by act + h ≤ k → (ticked_by act c).ticks ≤ k
-started_le h k act c l m = grind arith
-
-clock_le : (at : Site) (h k : ℕ) (o : Option site.Entry) (l : site.Log) → h ≤ k → (clock at l).ticks ≤ h → MayGrow h k o → (clock at (with_made o l)).ticks ≤ k
-clock_le at h k o l u c m = grind (arith, pushed_le, push_le, started_le)
-
 -- what is handed, and what is put
 
 hands_up : (h k : ℕ) (l : site.Log) → h ≤ k → HandsLow h l → HandsLow k l
@@ -45,29 +33,13 @@ hands_low : (h k : ℕ) (o : Option site.Entry) (l : site.Log) → h ≤ k → H
 hands_low h k (Some (Handed from x)) l u i m = (low_up h k x u m, hands_up h k l u i)
 hands_low h k _ l u i m = hands_up h k l u i
 
-put_low : (h k : ℕ) (b : Site) (o : Option site.Entry) → MayGrow h k o → AllLow k (put_by b o)
-put_low h k b o m = grind arith
-
 under_more : (g : Input) (h k : ℕ) (e : Entry) (log : Log) → h ≤ k → IsUnder g h log → ((at : Site) → MayGrow h k (made g at log e)) → IsUnder g k (e ∷ log)
-under_more g h k e log u i m = record {
-  clocks = λ at. subst (λ l. (clock at l).ticks ≤ k) (sym (local_step g at e log))
-      (clock_le at h k (made g at log e) (local_of g at log) u (i.clocks at) (m at));
-  puts = λ a b. subst (AllLow k) (sym (puts_grow g a b e log))
-      (all_low_join k (puts_to b (local_of g a log)) (put_by b (made g a log e))
-      (all_low_up h k (puts_to b (local_of g a log)) u (i.puts a b)) (put_low h k b (made g a log e) (m a)));
-  hands = λ at. subst (HandsLow k) (sym (local_step g at e log)) (hands_low h k (made g at log e) (local_of g at log) u (i.hands at) (m at));
-}
+under_more g h k e log u i m = grind (arith, local_step, max_le, div_le, puts_grow, all_low_join, all_low_up, hands_low)
 
 -- each entry
 
 by_mark : (h : ℕ) (at : Site) (e : Event) → MayGrow h (ticks_of e + h) (made_by_mark at e)
 by_mark h at e = grind (arith, if_way)
-
-by_era : (h : ℕ) (at : Site) (era : Era) (t : ℕ) → t ≤ top h → MayGrow h h (redeclared_entry at era t)
-by_era h at era t l = grind arith
-
-by_submit : (h n : ℕ) (o : Option Txn) → MayGrow h h (given_to n o)
-by_submit h n o = grind arith
 
 by_hand : (g : Input) (h : ℕ) (log : Log) (from to at : Site) (n : ℕ) (m : Msg) → IsUnder g h log
     → slice_get (sent from to log) (n - 1) ≡ Some m → MayGrow h h (if same_site at to then Some (Handed from m) else None)
@@ -80,8 +52,7 @@ fold_max_le k f [] a l h = l
 fold_max_le k f (n ∷ ns) a l h = fold_max_le k f ns (max a (f n)) (max_le a (f n) k l (h n)) h
 
 pub greatest_le : (g : Input) (h : ℕ) (log : Log) → IsUnder g h log → greatest_bound g log ≤ top h
-greatest_le g h log i =
-    fold_max_le (top h) (bound_at g log) (numbers_to g.catalogue.tms) 0 (omega arith) (λ n. let c = i.clocks (T (tm_no n)) in omega (arith, c))
+greatest_le g h log i = grind (arith, fold_max_le)
 
 act_low : (g : Input) (h : ℕ) (log : Log) (at : Site) (act : Act) → g.catalogue.tms ≤ 63 → IsPermitted g log → IsUnder g h log
     → OfNext g log (Does at act) → IsDueAt g log at act → PutsLow h act
@@ -100,19 +71,15 @@ by_act g h log at by act low = if_way (MayGrow h (starts_by act + h)) (same_site
 abbrev IsEmptyOf : site.Log → Type 0
 IsEmptyOf l = ((at : Site) → (clock at l).ticks ≤ 0) × ((b : Site) → puts_to b l ≡ []) × HandsLow 0 l
 
-beginning_low : (g : Input) (at : Site) → IsEmptyOf (beginning g at)
-beginning_low g at = grind arith
-
 pub under : (g : Input) (log : Log) → g.catalogue.tms ≤ 63 → AllFewTicks g.events → IsLawful g log → IsPermitted g log → IsUnder g (height log) log
-under g [] w f h p = grind (arith, beginning_low)
+under g [] w f h p = grind (arith)
 under g (Mark e ∷ log) w f h p =
     under_more g (height log) (ticks_of e + height log) (Mark e) log (omega arith) (under g log w f h.1 p.1) (λ at. by_mark (height log) at e)
 under g (Redeclares t ∷ log) w f h p =
-    let i = under g log w f h.1 p.1 in
     let e : t ≡ greatest_bound g log = of_next g log (Redeclares t) f h.1 h.0 in
-    grind (arith, under_more, by_era, greatest_le, under g log w f h.1 p.1)
+    grind (arith, under_more, greatest_le, under g log w f h.1 p.1, under g log w f h.1 p.1)
 under g (Hand from to n m ∷ log) w f h p = grind (arith, under_more, by_hand, allowed_hand, under g log w f h.1 p.1)
-under g (Submitted to n ∷ log) w f h p = grind (arith, under_more, if_way, by_submit, under g log w f h.1 p.1)
+under g (Submitted to n ∷ log) w f h p = grind (arith, under_more, if_way, under g log w f h.1 p.1)
 under g (Does by act ∷ log) w f h p =
     let i = under g log w f h.1 p.1 in
     let low = act_low g (height log) log by act w p.1 i (of_next g log (Does by act) f h.1 h.0) (allowed_act g log (Does by act) p.0) in

@@ -1,5 +1,5 @@
 -- A data module puts at most one READY or REJECT for a READ, behind which the READ is processed.
-use Rattle.sdd_obligations.proofs.All.{Act, Answer, Bool, ClassNo, Cond, D, Did, DmNo, Each, Handed, Input, IsDueEach, IsPermitted, IsPutByD, IsStrict, List, Log, Msg, Pipe, Read, Ready, Rec, Records, Reject, Rejected, Sends, Setting, Site, Some, Ts, TxnNo, Use, [], all_of, and_left, and_right, ap, arith, at_seam, class_number, d_fair, dec_le, each_local, eqb-true, filter_map-append, goes_through, head, head_processed, head_put, home, home_of, if_way, if◌then◌else◌, in_left, in_pipe, is_processing, is_verdict, key_rises, length, local_of, next_in, number_of, one_le, one_or_none, own_record, pipe, pipe_acted, pipe_at, place_within, processed_handed, processed_more, put_by_d, puts_to, read_at, reads_in, reads_strict, refl, same_number, same_site, sends_of_act, setting_of, slice_get, source_of, strict_left, subst, sym, tally, tally_append, tally_at, to_site, true, ℕ, ◌&&◌, ◌++◌, ◌<◌, ◌==◌, ◌∙◌, ◌∷◌, ◌≡◌, ◌≤◌}
+use Rattle.sdd_obligations.proofs.All.{Act, ClassNo, Cond, D, Did, DmNo, Each, Handed, Input, IsDueEach, IsPermitted, IsPutByD, IsStrict, List, Log, Msg, Pipe, Read, Ready, Rec, Records, Reject, Setting, Site, Some, Ts, TxnNo, Use, [], all_of, and_left, and_right, ap, arith, at_seam, class_number, d_fair, dec_le, each_local, eqb-true, filter_map-append, goes_through, head, head_put, home, home_of, if_way, in_left, in_pipe, is_processing, is_verdict, key_rises, length, local_of, next_in, number_of, one_le, own_record, pipe, pipe_at, place_within, processed_handed, processed_more, put_by_d, puts_to, read_at, reads_in, reads_strict, same_number, sends_of_act, setting_of, slice_get, source_of, strict_left, subst, sym, tally, tally_append, tally_at, to_site, true, ℕ, ◌&&◌, ◌++◌, ◌<◌, ◌==◌, ◌∙◌, ◌∷◌, ◌≡◌, ◌≤◌}
 use Rattle.sdd_invariants.specs.site_module.SiteLog as site
 
 -- the READs of a pipe rise, and its head is of the class
@@ -55,41 +55,11 @@ pub verdict_by : (s : Setting) (c ts : ℕ) (b : Site) (log : site.Log) (act : A
 verdict_by s c ts b log act (Ready t k counts) i e h =
     let q = two_same t.0 ts k.0 c e in
     let own : k.0 ≡ h.class = class_number k.0 h.class t.0 (i h.class (Read t k h.txn h.attempt h.conds h.uses) h.head_is) in
-    at_class c h.class log act ts (sym own ∙ q.1) (record {
-      rec = Answer h.txn h.attempt (home_of s).dm;
-      to = source_of (home_of s) h.class;
-      msg = Ready t k counts;
-      stamp = t;
-      of = k;
-      txn = h.txn;
-      attempt = h.attempt;
-      conds = h.conds;
-      uses = h.uses;
-      processes = refl;
-      head_is = h.head_is;
-      class_is = own;
-      time_is = q.0;
-      act_is = h.act_is;
-    })
+    at_class c h.class log act ts (sym own ∙ q.1) (grind (arith, home_of, source_of))
 verdict_by s c ts b log act (Reject t k by write) i e h =
     let q = two_same t.0 ts k.0 c e in
     let own : k.0 ≡ h.class = class_number k.0 h.class t.0 (i h.class (Read t k h.txn h.attempt h.conds h.uses) h.head_is) in
-    at_class c h.class log act ts (sym own ∙ q.1) (record {
-      rec = Rejected h.txn h.attempt (home_of s).dm by write;
-      to = source_of (home_of s) h.class;
-      msg = Reject t k by write;
-      stamp = t;
-      of = k;
-      txn = h.txn;
-      attempt = h.attempt;
-      conds = h.conds;
-      uses = h.uses;
-      processes = refl;
-      head_is = h.head_is;
-      class_is = own;
-      time_is = q.0;
-      act_is = h.act_is;
-    })
+    at_class c h.class log act ts (sym own ∙ q.1) (grind (arith, home_of, source_of))
 verdict_by s c ts b log act m i e h = cc
 
 -- at most one
@@ -98,43 +68,21 @@ record IsOnce (c ts : ℕ) (b : Site) (log : site.Log) : Type 0 where
   pub le : tally (is_verdict ts c) (puts_to b log) ≤ 1
   pub was : 0 < tally (is_verdict ts c) (puts_to b log) → (k : ℕ) × (m : Msg) × (slice_get (pipe c log).processed k ≡ Some m) × (read_at c m ≡ Some ts)
 
-stays_processed : (c : ℕ) (act : Act) (p : Pipe) (k : ℕ) (m : Msg) → slice_get p.processed k ≡ Some m → slice_get (pipe_acted c act p).processed k ≡ Some m
-stays_processed c (Records j r sends) p k m e =
-    if_way (λ (q : Pipe). slice_get q.processed k ≡ Some m) _ (head_processed p) p (in_left p.processed (one_or_none (head p)) k m e) e
-stays_processed c (Sends to x hand) p k m e = e
-
-quiet_did : (c ts : ℕ) (b : Site) (act : Act) (log : site.Log) → tally (is_verdict ts c) (to_site b (sends_of_act act)) ≡ 0
-    → IsOnce c ts b log → IsOnce c ts b (Did act ∷ log)
-quiet_did c ts b act log e h =
-    let a = tally_append (is_verdict ts c) (puts_to b log) (to_site b (sends_of_act act)) in
-    record {
-      le = omega (arith, a, e, h.le);
-      was = λ l. (let w = h.was (omega (arith, a, e, l)) in (w.0, w.1, stays_processed c act (pipe c log) w.0 w.1 w.2, w.3));
-    }
-
-one_at_most : (f : Msg → Bool) (c : Bool) (m : Msg) → tally f (if c then m ∷ [] else []) ≤ 1
-one_at_most f c m = grind (arith, one_le)
-
-read_key : (c t : ℕ) (ts : Ts) (k : ClassNo) (txn : TxnNo) (n : ℕ) (ds : List Cond) (us : List Use) → k.0 ≡ c → ts.0 ≡ t
-    → read_at c (Read ts k txn n ds us) ≡ Some t
-read_key c t ts k txn n ds us e f = let q : (k.0 == c) ≡ true = subst (λ x. (k.0 == x) ≡ true) e (same_number k.0) in rw q (ap (λ y. Some y) f)
-
 own_did : (c ts : ℕ) (b : Site) (act : Act) (log : site.Log) → IsStrict (reads_in c (all_of (pipe c log))) → IsVerdictBy c ts log act
     → IsOnce c ts b log → IsOnce c ts b (Did act ∷ log)
 own_did c ts b act log strict v h =
     let p : Pipe = pipe c log in
     let w : Msg = Read v.stamp v.of v.txn v.attempt v.conds v.uses in
-    let at : slice_get (all_of p) (length p.processed) ≡ Some w = next_in p.processed p.unprocessed w v.head_is in
-    let own : read_at c w ≡ Some ts = read_key c ts v.stamp v.of v.txn v.attempt v.conds v.uses v.class_is v.time_is in
+    let own : read_at c w ≡ Some ts = (let q : (v.of.0 == c) ≡ true = subst (λ x. (v.of.0 == x) ≡ true) v.class_is (same_number v.of.0) in rw q (ap (λ y. Some y) v.time_is)) in
     let none : tally (is_verdict ts c) (puts_to b log) ≤ 0 = elim (dec_le 1 (tally (is_verdict ts c) (puts_to b log))) [
       | yes l ↦ (let u = h.was l in
           let less = key_rises (read_at c) (all_of p) u.0 (length p.processed) u.1 w ts ts strict
-          (in_left p.processed p.unprocessed u.0 u.1 u.2) at u.3 own (place_within p.processed u.0 u.1 u.2) in
+          (in_left p.processed p.unprocessed u.0 u.1 u.2) (next_in p.processed p.unprocessed w v.head_is) u.3 own (place_within p.processed u.0 u.1 u.2) in
           absurd (omega (arith, less)))
       | no n ↦ omega (arith, n)
     ] in
     let one : tally (is_verdict ts c) (to_site b (sends_of_act act)) ≤ 1 =
-    subst (λ y. tally (is_verdict ts c) (to_site b (sends_of_act y)) ≤ 1) (sym v.act_is) (one_at_most (is_verdict ts c) (same_site b v.to) v.msg) in
+    subst (λ y. tally (is_verdict ts c) (to_site b (sends_of_act y)) ≤ 1) (sym v.act_is) (grind (arith, one_le)) in
     let r = own_record c v.rec ((v.to, v.msg) ∷ []) log v.processes in
     let pr : (pipe c (Did act ∷ log)).processed ≡ p.processed ++ w ∷ [] =
     ap (λ y. (pipe c (Did y ∷ log)).processed) v.act_is ∙ ap (λ (q : Pipe). q.processed) r.0 ∙ processed_more p w v.head_is in
@@ -148,14 +96,12 @@ once_did : (s : Setting) (c ts : ℕ) (b : Site) (act : Act) (log : site.Log) �
 once_did s c ts b act log f strict h = elim (dec_le 1 (tally (is_verdict ts c) (to_site b (sends_of_act act)))) [
   | yes l ↦ (let w = tally_at (is_verdict ts c) (to_site b (sends_of_act act)) l in
       own_did c ts b act log strict.0 (verdict_by s c ts b log act w.1 strict.1 w.3 (put_by_d s log act f b w.0 w.1 w.2)) h)
-  | no n ↦ quiet_did c ts b act log (omega (arith, n)) h
+  | no n ↦ (grind (arith, tally_append, if_way, slice_get, in_left))
 ]
 
 once : (s : Setting) (c ts : ℕ) (b : Site) (log : site.Log) → Each (IsDueEach s) log → Each (IsStrictAt c) log → IsOnce c ts b log
 once s c ts b [] h k = record { le = omega arith; was = λ l. absurd (omega (arith, l)) }
-once s c ts b (Handed from m ∷ log) h k =
-    let i = once s c ts b log h.1 k.1 in
-    record { le = i.le; was = λ l. (let w = i.was l in (w.0, w.1, subst (λ ms. slice_get ms w.0 ≡ Some w.1) (sym (processed_handed c from m log)) w.2, w.3)) }
+once s c ts b (Handed from m ∷ log) h k = grind (arith, slice_get, processed_handed, (once s c ts b log h.1 k.1))
 once s c ts b (Did act ∷ log) h k = once_did s c ts b act log h.0 k.0 (once s c ts b log h.1 k.1)
 once s c ts b (_ ∷ log) h k = let i = once s c ts b log h.1 k.1 in record { le = i.le; was = i.was }
 

@@ -3,7 +3,6 @@ pub use Rattle.sdd_history_examples.proofs.Sound.{sound_crossing}
 pub use Rattle.sdd_history_examples.proofs.Texts.{one_fits, put_fits, values_fit}
 pub use Rattle.sdd_history_examples.proofs.WorkedTables.{is_crossing}
 pub use Rattle.sdd_history_examples.specs.Catalogues.{crossing}
-pub use Rattle.sdd_history_examples.specs.Texts.{given_to, put_row, query_and_put, values_by}
 pub use Rattle.sdd_lawful.proofs.Answered.{read_of_some}
 pub use Rattle.sdd_lawful.proofs.Applied.{HasResult, IsDataIn, applied_before, data_in, result_in}
 pub use Rattle.sdd_lawful.proofs.Applies.{keeps_applies}
@@ -106,13 +105,11 @@ pub use Rattle.sdd_obligations.proofs.serial_orders.Members.{Contains-from_filte
 pub use Rattle.sdd_obligations.proofs.serial_orders.Places.{same_commit, same_start}
 pub use Rattle.sdd_obligations.proofs.site_module.Finding.{found_at}
 pub use Rattle.sdd_obligations.proofs.tm.OpenAsks.{open_did, open_handed}
-pub use Rattle.sdd_obligations.specs.All.{Act, AllFewTicks, AllZero, Answer, AppliedBefore, Apply, AreAllApplied, AreFew, AreOpen, AreSubmittedOnce, Ask, Asking, Asks, Attempt, Bases, Catalogue, Change, ClassNo, ClassView, Commit, Committed, Cond, Condition, Const, D, Diagonal, Did, DmNo, Does, Done, Each, Edge, Effect, Entry, Eras, Event, Exchange, Fetch, Fetching, FitsCondition, FitsInput, FitsQuery, FitsStart, FitsStatement, FitsText, FragNo, GoesTo, Hand, Handed, HasAnswer, HasCommit, HasNoCycle, Held, History, Hold, Home, Horizontal, Input, IsAgain, IsAllowed, IsApplied, IsAttempt, IsChain, IsClass, IsCommitT, IsCommitted, IsConditionOf, IsDatabase, IsDueEach, IsEdgeOf, IsEntry, IsEraOf, IsFair, IsFairT, IsFairU, IsFrom1To, IsHeld, IsHigh, IsLawful, IsModule, IsOf, IsOfEarlierEra, IsOfWrite, IsOrderable, IsPermitted, IsPutAt, IsRecordAt, IsRejectBy, IsRising, IsSerial, IsSoundCatalogue, IsStage, IsStepU, IsSubmitted, IsTable, IsWhole, Join, KeepsApplies, KeepsEras, KeepsLaws, KeepsRejections, KeepsStarts, KeepsUndeclared, Le, Log, MAX_TXNS, Mark, MayAnswer, Move, Msg, NamesOneOf, Notes, Nothing, Null, Open, Over, P2, P3, Phase, Pipe, Protocol, PutsHeld, Query, Question, Queued, Read, Reading, ReadsFrom, Ready, Rec, Records, Redeclare, Redeclared, Redeclares, Reduce, Reduced, Reducing, Reject, RelNo, Release, Replies, Reply, Rests, Rise, Row, Rows, Same, Sends, Served, Setting, Settle, Ship, Shipping, Site, Start, StartedBefore, StartedHead, Step, Stmt, Submit as Submitting, Submits, Submitted, T, Tick, Ticked, TmCounts, TmNo, Ts, Turn, Txn, TxnNo, TxnsExist, U, Up, Use, Values, Vertical, View, Write, active, active_after, active_handed, active_sent, after_hand, after_send, agreed, all_links, all_of, answer_goes, answer_of, answer_to, answered, answers, answers_hand, are_linked, ascending, ask_for, asked_by, asked_in, asked_on, askings, asks, asks_acted, asks_handed, asks_rows, attempt_due, attempt_of, attempts, base_of, begins, bound, bound_at, bound_of, by_ask, by_event, by_mark, by_release, calls_of, changes_to, class_asked, class_at, class_for, class_in, class_no, class_puts, clock, commit_act, commits_of_others, committed, committed_of, cond_for, cond_of, condition_on, conditions, conditions_of, conflict_graph, contains, contents, count_of, counted, counts, counts_acted, counts_for, database_of, dated, delivered, dm_no, does_at, done_for, dones_of, due_by, effect, eras_begun, event_at, fetches, fetches_from, fewest, first_phase, first_send, first_some, flight, frag_no, fragments_in, fragments_of, goes_on, goes_through, greatest_bound, hand_due, hand_number, hand_on, hand_with, handed, hands, hands_from, has_copy, head, head_of, history, hold_to, holds, holds_back, home, home_of, is_a_held, is_a_hold, is_a_release, is_answer, is_apply, is_asked, is_asked_of, is_candidate, is_commit_of_other, is_committed, is_done_of, is_down, is_down_after, is_empty, is_for, is_link, is_met, is_number, is_over, is_question, is_quiet_link, is_read, is_site, is_start_of, item_cmp, items_of, joins_from, lacking, last_served, left, limit_of, link, link_of, links, local_of, mark_due, mark_from, mark_of, marks, message_at, module_read, modules_asked, move_at, moves, moves_by, next, next_at, next_mark, next_move, next_number, next_stamp, note_if, nth_era, null_at, null_due, null_time, null_to, number_of, numbers_to, open_due, opens, or_else, p2_time, passed, phase_ends, pipe, pipe_at, placed, puts_to, question_goes, questions, queue, queued, quiet, read_at, reads_asked, redeclares, redeclares_in, reduces, rejects, results, round, row_of, rows_asked, rows_at, rows_in_fragment, run, runs, same_protocol, same_site, send_due, sends_of_act, sent, served_handed, setting_of, ships, site_due, sites, source_of, spoils, start_at, start_of, start_read, started, starts, starts_before, starts_of, submits_by, submits_in, submits_of, takes_part, tally, time_at, time_of, tm_no, to_site, touches, tried, ts_of, turn_at, turn_with, txn_no, u_stamp, undeclared_conditions, uses_at, uses_in, uses_of, view_of, waits, with_event, with_use, with_values, without, write_to, zero_cond}
+pub use Rattle.sdd_obligations.specs.All.{Act, AllFewTicks, AllZero, Answer, AppliedBefore, Apply, AreAllApplied, AreFew, AreOpen, AreSubmittedOnce, Ask, Asking, Asks, Attempt, Bases, Catalogue, Change, ClassNo, ClassView, Commit, Committed, Cond, Condition, Const, D, Diagonal, Did, DmNo, Does, Done, Each, Edge, Entry, Eras, Event, Exchange, Fetching, FitsCondition, FitsInput, FitsQuery, FitsStatement, FitsText, FragNo, GoesTo, Hand, Handed, HasAnswer, HasCommit, HasNoCycle, Held, History, Hold, Input, IsAgain, IsApplied, IsAttempt, IsChain, IsClass, IsCommitT, IsCommitted, IsConditionOf, IsDueEach, IsEdgeOf, IsEraOf, IsFair, IsFairT, IsFairU, IsHigh, IsLawful, IsModule, IsOf, IsOfEarlierEra, IsOfWrite, IsOrderable, IsPermitted, IsPutAt, IsRecordAt, IsRejectBy, IsRising, IsSerial, IsSoundCatalogue, IsStepU, IsSubmitted, IsTable, IsWhole, KeepsApplies, KeepsEras, KeepsLaws, KeepsRejections, KeepsStarts, KeepsUndeclared, Log, MAX_TXNS, Mark, Move, Msg, NamesOneOf, Notes, Nothing, Null, Open, Over, P2, P3, Phase, Protocol, Query, Question, Queued, Read, Ready, Rec, Records, Redeclare, Redeclared, Redeclares, Reduced, Reject, RelNo, Release, Replies, Reply, Rests, Rise, Row, Rows, Same, Sends, Setting, Settle, Shipping, Site, Start, StartedBefore, StartedHead, Step, Stmt, Submit as Submitting, Submits, Submitted, T, Ticked, TmNo, Ts, Turn, Txn, TxnNo, TxnsExist, U, Up, Use, Values, View, Write, active, active_after, active_handed, active_sent, after_hand, all_links, all_of, answered, answers_hand, are_linked, ascending, ask_for, asked_by, asked_in, askings, asks, asks_handed, asks_rows, attempt_due, attempt_of, attempts, base_of, bound, bound_at, bound_of, by_ask, by_event, by_mark, calls_of, changes_to, class_at, class_for, class_in, class_no, class_puts, clock, commit_act, commits_of_others, cond_for, cond_of, condition_on, conditions, conditions_of, conflict_graph, contains, contents, count_of, counted, counts, counts_for, dated, dm_no, dones_of, eras_begun, event_at, fetches, fetches_from, fewest, first_send, first_some, flight, frag_no, fragments_in, fragments_of, goes_on, goes_through, greatest_bound, hand_due, hand_on, handed, hands, hands_from, has_copy, head, head_of, history, holds, holds_back, home, home_of, is_a_held, is_a_hold, is_a_release, is_answer, is_asked, is_asked_of, is_candidate, is_commit_of_other, is_committed, is_done_of, is_down, is_down_after, is_empty, is_link, is_met, is_over, is_question, is_quiet_link, is_read, is_site, is_start_of, item_cmp, items_of, joins_from, lacking, last_served, left, limit_of, link, link_of, links, local_of, mark_due, mark_from, mark_of, marks, modules_asked, move_at, moves_by, next, next_at, next_mark, next_move, note_if, nth_era, null_at, null_due, null_time, null_to, number_of, numbers_to, open_due, opens, or_else, p2_time, passed, phase_ends, pipe, pipe_at, placed, puts_to, queue, queued, quiet, read_at, reads_asked, redeclares, redeclares_in, reduces, rejects, results, round, row_of, rows_asked, rows_at, rows_in_fragment, run, runs, same_site, sends_of_act, sent, setting_of, ships, site_due, sites, source_of, spoils, start_at, start_of, start_read, starts, starts_before, starts_of, submits_by, submits_in, submits_of, takes_part, tally, time_at, time_of, tm_no, to_site, touches, tried, ts_of, turn_at, turn_with, txn_no, u_stamp, undeclared_conditions, uses_at, uses_in, uses_of, view_of, waits, with_event, with_use, with_values}
 pub use Rattle.sdd_obligations.specs.dm.Copies.{classes_of}
 pub use Rattle.sdd_obligations.specs.dm.Views.{class_view}
 pub use Rattle.sdd_obligations.specs.history.declared.record.Rec.TheVariants.{Submit}
 pub use Rattle.sdd_obligations.specs.invariants.Turns.{one_if}
-pub use Rattle.sdd_obligations.specs.lang.Fits.{FitsTxn}
-pub use Rattle.sdd_obligations.specs.laws.Deeds.{txn_at}
 pub use Rattle.sdd_obligations.specs.laws.Eras.{catalogue_at}
 pub use Rattle.sdd_obligations.specs.tm.Due.{IsDue, by_exchange, by_hold, by_start}
 pub use Rattle.sdd_progress.specs.AwaitedModules.{IsUnanswered}
@@ -121,7 +118,7 @@ pub use Rattle.sdd_progress.specs.Eras.{eras_of}
 pub use Rattle.sdd_progress.specs.Examples.{all_lost, crossing_with, given_all_lost, given_late_query, late_query, log_of_all_lost, log_of_late_query}
 pub use Rattle.sdd_progress.specs.Few.{AreFewRejected, is_reject_of, is_rejected, is_rejected_start, rejected_of}
 pub use Rattle.sdd_progress.specs.Finished.{IsFinished, IsIdle}
-pub use Rattle.sdd_progress.specs.Going.{AllAskParts, AllHaveParts, CountsRead, HasParts, IsCounted, IsGoing, IsRead, ReducesRead, readers}
+pub use Rattle.sdd_progress.specs.Going.{AllAskParts, AllHaveParts, CountsRead, IsCounted, IsGoing, IsRead, ReducesRead, readers}
 pub use Rattle.sdd_progress.specs.Premises.{HasOneTable, HasSoundLists, IsIdleAtRedeclares, IsSoundList, IsUpAtRedeclares}
 pub use Rattle.sdd_progress.specs.Quiet.{IsQuiet, at_home, at_module}
 pub use Rattle.sdd_progress.specs.Rejects.{KeepsRejects}
@@ -140,18 +137,18 @@ pub use Rattle.sdd_progress.proofs.StuckHeads.{head_stuck}
 pub use Rattle.sdd_progress.proofs.TableFits.{table_fits}
 pub use Rattle.sdd_progress.proofs.Waited.{since}
 pub use Rattle.sdd_progress.proofs.WorkedLogs.{made_lawful as extended_lawful}
-pub use Rattle.sdd_progress.specs.Conditions.{AllDiagonalsIn, AreConditionsOf, IsDiagonalIn, IsFromTable}
-pub use Rattle.sdd_progress.specs.WaitExamples.{conds_of_query, given_put_later, put_handed, uses_of_query}
+pub use Rattle.sdd_progress.specs.Conditions.{AreConditionsOf, IsDiagonalIn, IsFromTable}
+pub use Rattle.sdd_progress.specs.WaitExamples.{conds_of_query, given_put_later, put_handed}
 pub use Rattle.sdd_progress.specs.Heads.{IsStuck}
 pub use Rattle.sdd_progress.specs.WaitGraph.{WaitGraph}
 pub use Rattle.sdd_progress.specs.WaitGraphs.{HasDiagonal, wait_graph, wait_protocol}
 pub use Rattle.sdd_progress.specs.WaitingReads.{IsStamped, IsTimestamp, WaitingRead, WaitsOn, holder, reader, wait_time}
-pub use Rattle.std.proofs.Common.{All, Bool, Contains, List, None, Option, Some, [], ap, append-nil, append_assoc, arith, cond, drop, eq-eqb, eqb-true, false, filter, filter_map, flat_map, fold, if◌then◌else◌, inl, inr, is_none, le-leb, le-ltb, leb-false, leb-true, length, length-append, lit≤, lt-ltb, ltb-true, map, max, nat_eq as eqb, nat_le, nat_lt, ne_eqb, not, option_map, refl, slice_get, slice_index_or, subst, suc, sum, sym, take, take_all, true, unwrap_or, zero, ℕ, ◌&&◌, ◌*◌, ◌++◌, ◌+◌, ◌-◌, ◌/◌, ◌<◌, ◌==◌, ◌^◌, ◌||◌, ◌∙◌, ◌∷◌, ◌≡◌, ◌≢◌, ◌≤◌, ◌⊎◌}
+pub use Rattle.std.proofs.Common.{Bool, Contains, List, None, Option, Some, [], ap, append-nil, append_assoc, arith, cond, drop, eq-eqb, eqb-true, false, filter, filter_map, flat_map, fold, if◌then◌else◌, inl, inr, is_none, le-leb, le-ltb, leb-false, leb-true, length, length-append, lt-ltb, ltb-true, map, max, nat_eq as eqb, nat_le, ne_eqb, not, option_map, refl, slice_get, slice_index_or, subst, suc, sym, take, take_all, true, unwrap_or, zero, ℕ, ◌&&◌, ◌*◌, ◌++◌, ◌+◌, ◌-◌, ◌/◌, ◌<◌, ◌==◌, ◌^◌, ◌||◌, ◌∙◌, ◌∷◌, ◌≡◌, ◌≢◌, ◌≤◌, ◌⊎◌}
 pub use Rattle.std.proofs.Math.Decide.{dec_le}
 pub use Rattle.std.proofs.Math.Nat.{suc-mul}
-pub use Rattle.std.proofs.lemmas.Bool.{and_from as both, and_parts, cases_Bool, cases_eq, cases_lt, eqb-false, false≢true, or_left, or_right}
+pub use Rattle.std.proofs.lemmas.Bool.{and_from as both, and_parts, cases_Bool, cases_eq, cases_lt, eqb-false, or_left, or_right}
 pub use Rattle.std.proofs.lemmas.Bool.Decides.{nat_tests}
-pub use Rattle.std.proofs.lemmas.List.Elements.{All-contains, All-from_recursion, All-head, All-tail, recursion_from_All}
+pub use Rattle.std.proofs.lemmas.List.Elements.{All-contains, All-head, All-tail, recursion_from_All}
 pub use Rattle.std.proofs.lemmas.Map.Keys.{IsDistinct-cons}
 pub use Rattle.std.proofs.lemmas.Map.Made.{length-le_from_is_member}
 pub use Rattle.std.proofs.lemmas.Map.Steps.{length-le_from_distinct_below}

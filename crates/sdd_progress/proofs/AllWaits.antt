@@ -2,7 +2,7 @@
 pub use Rattle.sdd_blocks.proofs.Classes.{joins_within}
 pub use Rattle.sdd_blocks.proofs.Cycles.{neighbours_share}
 pub use Rattle.sdd_blocks.proofs.Walks.{joins_back}
-pub use Rattle.sdd_blocks.specs.Blocks.{AreBlocks, OnACycle}
+pub use Rattle.sdd_blocks.specs.Blocks.{AreBlocks}
 pub use Rattle.sdd_blocks.specs.Blocks.Linked.{last}
 pub use Rattle.sdd_blocks.specs.Graph.{IsSimpleCycle, JoinedWithout, Joins, Step}
 pub use Rattle.sdd_blocks.specs.Neighbours.{Neighbours}
@@ -43,22 +43,22 @@ pub use Rattle.sdd_obligations.proofs.logs.net.Lists.{get-append as in_left}
 pub use Rattle.sdd_obligations.proofs.logs.tm.Lists.{get_map as at_map, get_within as place_within, of_map as in_mapped}
 pub use Rattle.sdd_obligations.proofs.logs.umod.Lists.{or_nothing as neither_some}
 pub use Rattle.sdd_obligations.proofs.protocol.Tables.{all_at, blocks_of, first_block, first_block-vertical, vertical_block-lists}
-pub use Rattle.sdd_obligations.specs.invariants.All.{Act, AllGe, Answer, Apply, AreSubmittedOnce, Bases, Catalogue, Change, Class, ClassNo, ClassView, Cond, D, Deliver, Diagonal, Did, DmNo, Does, Each, Edge, Entry, Era, Event, Fetch, FragNo, Hand, Handed, Home, Horizontal, Input, IsApplied, IsApplyOf, IsClassHere, IsDue, IsDueEach, IsEra, IsLawful, IsPermitted, IsPutAt, IsRead, IsReadStep, IsRising, IsServedClass, IsSoundCatalogue, IsTable, IsTheLog, Log, Mark, May, Msg, Null, Open, P2, P3, Pass, Pipe, Processes, Protocol, Put, Query, Queued, Read, Ready, Rec, Records, Redeclare, Reduce, Reject, Sends, Setting, Settle, Ship, Site, Submit, T, Tick, TmNo, Ts, Txn, TxnNo, U, Use, Vertical, View, Wait, Write, act_by, act_where, active, all_of, answer_of, answer_to, ascending, asked_by, asked_in, asked_on, base_of, bound, by_head, by_open, by_record, by_wait, class_at, class_no, class_puts, classes_of, cond_for, cond_of, condition_on, conditions, conditions_at, current_era, dm_no, does_at, due_by, exchange_due, first_some, frag_no, fragments_in, goes_through, hand_due, head, head_due, head_of, home, home_of, in_passing, is_asked, is_asked_of, is_held, is_met, is_processing, is_wait, judged, last_write_for, local_of, made, mark_due, next, next_at, next_mark, next_stamp, note_if, nth_era, number_of, numbers_to, on_hold, open_due, or_else, or_zero, pipe, pipe_at, put, queue, redeclares, runs, same_protocol, sends_of_act, setting_of, site_due, sites, spoiler, spoils, start_at, start_due, start_of, start_read, step_on, time_at, time_of, tm_no, to_site, touches, txn_no, u_stamp, uses_of, view_of, waits, with_made}
+pub use Rattle.sdd_obligations.specs.invariants.All.{Act, AllGe, Answer, Apply, AreSubmittedOnce, Bases, Catalogue, Change, Class, ClassNo, ClassView, Cond, D, Deliver, Diagonal, Did, DmNo, Does, Each, Edge, Entry, Era, Event, FragNo, Hand, Handed, Home, Input, IsApplied, IsApplyOf, IsClassHere, IsDue, IsDueEach, IsEra, IsLawful, IsPermitted, IsPutAt, IsRead, IsReadStep, IsRising, IsServedClass, IsSoundCatalogue, IsTable, IsTheLog, Log, May, Msg, Open, P2, P3, Pipe, Processes, Protocol, Put, Query, Queued, Read, Ready, Rec, Records, Reject, Sends, Setting, Site, Submit, T, TmNo, Ts, Txn, TxnNo, U, Use, Vertical, View, Wait, Write, act_by, act_where, active, all_of, answer_of, answer_to, ascending, asked_by, asked_in, asked_on, base_of, bound, by_head, by_open, by_record, class_at, class_no, class_puts, cond_for, condition_on, conditions_at, current_era, dm_no, does_at, exchange_due, first_some, frag_no, fragments_in, goes_through, head, head_due, head_of, home, home_of, is_asked_of, is_met, is_processing, is_wait, judged, last_write_for, local_of, made, next, next_at, next_stamp, nth_era, number_of, numbers_to, on_hold, open_due, or_else, or_zero, pipe, pipe_at, put, queue, redeclares, runs, same_protocol, sends_of_act, setting_of, site_due, sites, spoiler, spoils, start_at, start_due, start_of, start_read, step_on, time_at, time_of, tm_no, to_site, touches, txn_no, u_stamp, uses_of, view_of, waits, with_made}
 pub use Rattle.sdd_obligations.specs.invariants.Barrier.{IsLow}
 pub use Rattle.sdd_obligations.specs.invariants.Unspoilt.{spoiling}
 pub use Rattle.sdd_obligations.specs.base.Numbers.{rel_no}
 pub use Rattle.sdd_obligations.specs.base.declared.restriction.Op.TheVariants.{Le}
 pub use Rattle.sdd_obligations.specs.base.declared.value.Value.TheVariants.{Int}
-pub use Rattle.sdd_obligations.specs.dm.Due.{due, holds, holds_back, is_at_least}
+pub use Rattle.sdd_obligations.specs.dm.Due.{due, holds, holds_back}
 pub use Rattle.sdd_obligations.specs.dm.Views.{class_view}
 pub use Rattle.sdd_obligations.specs.graph.Edges.{IsClassOf, IsEdgeOf, ReadsFrom}
-pub use Rattle.sdd_obligations.specs.graph.Graph.{conflict_graph, diagonal_edges, ends, horizontal_edges, read_node, vertical_edges, write_node}
+pub use Rattle.sdd_obligations.specs.graph.Graph.{conflict_graph, diagonal_edges, ends, horizontal_edges, read_node, write_node}
 pub use Rattle.sdd_obligations.specs.history.declared.record.Rec.TheVariants.{Reject as Rejected}
 pub use Rattle.sdd_obligations.specs.lang.declared.condition.Condition.TheVariants.{Const}
 pub use Rattle.sdd_obligations.specs.logs.Due.{extended}
 pub use Rattle.sdd_obligations.specs.logs.Permitted.{one_if}
 pub use Rattle.sdd_obligations.specs.pipe.Pipe.{passed, passed_by}
-pub use Rattle.sdd_obligations.specs.protocol.Protocols.{diagonal_protocol, is_vertical_of, protocol_in, vertical_block}
+pub use Rattle.sdd_obligations.specs.protocol.Protocols.{diagonal_protocol, protocol_in, vertical_block}
 pub use Rattle.sdd_obligations.specs.protocol.declared.protocol.Protocol.TheVariants.{P1}
 pub use Rattle.sdd_obligations.specs.tm.Due.{held_due, null_due}
 pub use Rattle.sdd_progress.specs.Answers.{EndsAnEvent, IsAnsweredIn, IsAppliedIn, IsEventOver, IsRejectedAfter, IsRejectedIn, IsSpoiltIn, begins_event, begins_or_ends}
@@ -79,7 +79,6 @@ pub use Rattle.std.proofs.Common.{Bool, List, None, Option, Some, [], ap, append
 pub use Rattle.std.proofs.Math.Decide.{dec_le}
 pub use Rattle.std.proofs.lemmas.Bool.{and_from as both, cases_Bool, cases_eq, false≢true, or_left, or_right}
 pub use Rattle.std.proofs.lemmas.List.{get_or_past, length-map}
-pub use Rattle.std.proofs.lemmas.List.Elements.{All-from_recursion}
 pub use Rattle.std.proofs.lemmas.List.FromFn.{length-map-range_with_len}
 pub use Rattle.std.proofs.lemmas.Map.Keys.{IsDistinct-cons}
 pub use Rattle.std.proofs.lemmas.Map.Steps.{length-le_from_distinct_below}

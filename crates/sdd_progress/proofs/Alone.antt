@@ -1,6 +1,6 @@
 -- While the READ of an undeclared transaction is next at a module, each declared transaction whose WRITE is next there has a
 -- smaller timestamp, so that the READ holds no WRITE back.
-use Rattle.sdd_progress.proofs.All.{Act, Answer, Attempt, Change, ClassNo, Cond, D, DmNo, Does, HasAnswer, Input, IsClass, IsCommitT, IsHigh, IsModule, IsPermitted, IsSoundCatalogue, List, Log, Part, Read, Records, Some, T, Ts, TxnNo, U, Use, Write, all_applied, answered_before, answered_there, ap, append_assoc, arith, at_place, class_number, commit_t, false, has_cond, head, head_put, home_of, home_small, inl, inr, local_of, low_or_high, number_of, numbers_to, part_join, part_of, permitted_part, pipe_at, positive, read_classes, read_of, setting_of, slice_get, sound_whole, start_at, starts, subst, sym, tm_no, u_stamp, write_origin, zero_cond, ℕ, ◌++◌, ◌-◌, ◌<◌, ◌==◌, ◌∙◌, ◌∷◌, ◌≡◌, ◌≤◌}
+use Rattle.sdd_progress.proofs.All.{Act, Answer, Attempt, Change, ClassNo, Cond, D, DmNo, Does, HasAnswer, Input, IsClass, IsCommitT, IsHigh, IsModule, IsPermitted, IsSoundCatalogue, List, Log, Part, Read, Records, Some, T, Ts, TxnNo, U, Use, Write, all_applied, answered_before, answered_there, ap, append_assoc, arith, at_place, class_number, commit_t, false, has_cond, head, head_put, home_of, home_small, inl, inr, local_of, low_or_high, number_of, numbers_to, part_join, part_of, permitted_part, pipe_at, positive, read_classes, read_of, setting_of, slice_get, sound_whole, start_at, starts, subst, sym, tm_no, u_stamp, write_origin, ℕ, ◌++◌, ◌-◌, ◌<◌, ◌==◌, ◌∙◌, ◌∷◌, ◌≡◌, ◌≤◌}
 use Rattle.sdd_progress.proofs.Still.{run_at, runs_place}
 
 -- a READ that is answered doesn't stand at the head again
@@ -48,9 +48,4 @@ below_read g log j d ts of txn n conds uses w k x changes sound h p l m e f =
 -- the conditions of such a READ ask for its own timestamp
 pub zero_time : (g : Input) (log : Log) (d : DmNo) (ts : Ts) (of : ClassNo) (txn : TxnNo) (n : ℕ) (conds : List Cond) (uses : List Use) (place : ℕ) (q : Cond)
     → IsPermitted g log → head (pipe_at g 0 d log) ≡ Some (Read ts of txn n conds uses) → slice_get conds place ≡ Some q → q.time.0 ≡ ts.0
-zero_time g log d ts of txn n conds uses place q h e f =
-    let class = read_classes g d log ts of txn n conds uses place q h e f in
-    let it = has_cond g d log ts of txn n conds uses place q.class.0 h e class in
-    let same : Some q ≡ Some (zero_cond g ts.0 q.class.0) = sym f ∙ it in
-    let is : q ≡ zero_cond g ts.0 q.class.0 = cc in
-    ap (λ (c : Cond). c.time.0) is
+zero_time g log d ts of txn n conds uses place q h e f = grind (arith, read_classes, has_cond)

@@ -1,5 +1,5 @@
 -- A READ whose conditions are met is answered before the event is over.
-use Rattle.sdd_progress.proofs.AllWaits.{Act, Answer, ClassNo, ClassView, Cond, D, Did, DmNo, Does, Entry, Input, IsAnsweredIn, IsClassHere, IsPermitted, IsReadStep, IsStuck, List, Log, Msg, None, Pipe, Read, Records, Setting, Site, Some, Ts, TxnNo, Use, [], and_left, and_right, ap, arith, both, by_record, class_in_view, class_not_in_view, d_step, dec_le, false, head, inl, inr, is_met, length, list_all, not_both, not_own, passed, passing, pipe, read_step_way, refl, same_or_not, setting_of, site_due, subst, suc, sym, true, view_of, waits, ℕ, ◌++◌, ◌∙◌, ◌∷◌, ◌≡◌, ◌≤◌, ◌⊎◌}
+use Rattle.sdd_progress.proofs.AllWaits.{Act, Answer, ClassNo, ClassView, Cond, D, Did, DmNo, Does, Entry, Input, IsAnsweredIn, IsClassHere, IsPermitted, IsReadStep, IsStuck, List, Log, Msg, None, Pipe, Read, Records, Setting, Site, Some, Ts, TxnNo, Use, [], and_left, and_right, ap, arith, both, class_in_view, class_not_in_view, d_step, dec_le, false, head, inl, inr, is_met, length, list_all, not_both, not_own, passed, passing, pipe, read_step_way, refl, same_or_not, setting_of, site_due, subst, suc, sym, true, view_of, waits, ℕ, ◌++◌, ◌∙◌, ◌∷◌, ◌≡◌, ◌≤◌, ◌⊎◌}
 use Rattle.sdd_progress.proofs.AtModule.{IsEntryAt, acting, aside, at_module, entry_at, handed_head, handing, waits_on, waits_other}
 use Rattle.sdd_progress.proofs.ClassSites.{HasSmallHomes}
 use Rattle.sdd_progress.proofs.EventOver.{none_at_data}
@@ -41,16 +41,7 @@ Answers c txn attempt act = (dm : DmNo) × (sends : List (Site × Msg)) × (act 
 act_waits : (s : Setting) (l : site.Log) (c : ℕ) (ts : Ts) (of : ClassNo) (txn : TxnNo) (attempt : ℕ) (conds : List Cond) (uses : List Use) (act : Act)
     → HeadWaits l c (Read ts of txn attempt conds uses) → IsReadStep s l act
     → HeadWaits (Did act ∷ l) c (Read ts of txn attempt conds uses) ⊎ Answers c txn attempt act
-act_waits s l c ts of txn attempt conds uses act w i =
-    read_step_way s l act (λ x. HeadWaits (Did x ∷ l) c (Read ts of txn attempt conds uses) ⊎ Answers c txn attempt x)
-    (λ e. let p = passing c act l e in inl (p.1 ∙ w.0, ap (λ (x : Pipe). head x) p.0.pipe_same ∙ w.1))
-    (λ k ds r sends here p q x y. inl (waits_on c k r sends l p w.0, ap (λ (z : Pipe). head z) (not_own c k r sends l (inr p)).pipe_same ∙ w.1))
-    (λ k m r sends here p x may. elim (same_or_not k c) [
-      | inl e ↦ (let a = waited_answer s l c ts of txn attempt conds uses r sends w.0 w.1 p
-          (subst (λ z. IsReadStep s l (Records z r sends)) e (by_record k m r sends here p x may refl)) in
-          inr (a.0, sends, ap (λ z. Records z r sends) e ∙ ap (λ z. Records c z sends) a.1))
-      | inr e ↦ inl (waits_other c k r sends l e ∙ w.0, ap (λ (z : Pipe). head z) (not_own c k r sends l (inl e)).pipe_same ∙ w.1)
-    ]) i
+act_waits s l c ts of txn attempt conds uses act w i = grind (arith, read_step_way, HeadWaits, Answers, passing, waits_on, not_own, same_or_not, waited_answer, waits_other)
 
 pub answered_on : (d : DmNo) (c : ℕ) (txn : TxnNo) (attempt : ℕ) (e : Entry) (entries : Log) → IsAnsweredIn d c txn attempt entries
     → IsAnsweredIn d c txn attempt (e ∷ entries)
@@ -65,9 +56,7 @@ waits_entry : (g : Input) (d : DmNo) (c : ℕ) (e : Entry) (entries log : Log) (
     → HeadWaits (at_module g d (entries ++ log)) c (Read ts of txn attempt conds uses) → IsEntryAt g d (entries ++ log) e
     → HeadWaits (at_module g d (e ∷ (entries ++ log))) c (Read ts of txn attempt conds uses) ⊎ IsAnsweredIn d c txn attempt (e ∷ entries)
 waits_entry g d c e entries log ts of txn attempt conds uses w (aside f) = inl ((f c).waits_same ∙ w.0, ap (λ (x : Pipe). head x) (f c).pipe_same ∙ w.1)
-waits_entry g d c e entries log ts of txn attempt conds uses w (handing from m s) =
-    inl (subst (λ l. HeadWaits l c (Read ts of txn attempt conds uses)) (sym s)
-    (w.0, handed_head c from m (Read ts of txn attempt conds uses) (at_module g d (entries ++ log)) w.1))
+waits_entry g d c e entries log ts of txn attempt conds uses w (handing from m s) = grind (arith, HeadWaits, handed_head, at_module)
 waits_entry g d c e entries log ts of txn attempt conds uses w (acting act is s due) =
     let l : site.Log = at_module g d (entries ++ log) in
     elim (act_waits (setting_of g (D d)) l c ts of txn attempt conds uses act w (d_step (setting_of g (D d)) l act due)) [
@@ -89,9 +78,7 @@ waits_or_answered g d c (e ∷ later) log ts of txn attempt conds uses h w =
 
 pub no_ready_head : (s : Setting) (l : site.Log) (c : ℕ) (ts : Ts) (of : ClassNo) (txn : TxnNo) (attempt : ℕ) (conds : List Cond) (uses : List Use)
     → list_all (is_met (view_of s l)) conds ≡ true → head (pipe c l) ≡ Some (Read ts of txn attempt conds uses) → IsStuck s l c (head (pipe c l)) → ⊥
-no_ready_head s l c ts of txn attempt conds uses e h k =
-    let x : IsStuck s l c (Some (Read ts of txn attempt conds uses)) = subst (IsStuck s l c) h k in
-    not_both (list_all (is_met (view_of s l)) conds) e x.1
+no_ready_head s l c ts of txn attempt conds uses e h k = grind (arith, not_both, list_all)
 
 pub answered : (g : Input) (d : DmNo) (c : ℕ) (later log : Log) (ts : Ts) (of : ClassNo) (txn : TxnNo) (attempt : ℕ) (conds : List Cond) (uses : List Use)
     → IsPermitted g (later ++ log) → HasSmallHomes g → IsClassHere (setting_of g (D d)) c → 1 ≤ d.0 → d.0 ≤ g.catalogue.dms

@@ -40,8 +40,6 @@ module _ (g : Input) (log : Log) (w : Known g log) where
               parts ∙ ap (λ z. above ++ z) b.upper_is ∙ sym (append_assoc above b.after (Redeclares b.time ∷ b.mid)) in
               let r = rest g log w (above ++ b.after) b.mid b.time whole in
               let le = history_le (b.after ++ Redeclares b.time ∷ []) b.mid in
-              let up : length (history upper) ≡ length (history ((b.after ++ Redeclares b.time ∷ []) ++ b.mid)) =
-              ap (λ z. length (history z)) (b.upper_is ∙ sym (append_assoc b.after (Redeclares b.time ∷ []) b.mid)) in
               let inside = history_le b.between (Submitted x.at n ∷ x.rest) in
               let mid_long : length (history b.mid) ≡ length (history (b.between ++ Submitted x.at n ∷ x.rest)) = ap (λ z. length (history z)) b.mid_is in
               let one : length (history (Submitted x.at n ∷ x.rest)) ≡ length (history x.rest) + 1 = length-append (history x.rest) _ in
@@ -51,7 +49,7 @@ module _ (g : Input) (log : Log) (w : Known g log) where
                 at_rest = r;
                 submitted = recorded_front (history b.mid) r.more place (Submit (txn_no n)) (omega (arith, inside, mid_long, one, there))
                     (subst (λ z. IsSubmitted z n place) r.history_is s);
-                below = omega (arith, le, up);
+                below = omega (arith, le, (ap (λ z. length (history z)) (b.upper_is ∙ sym (append_assoc b.after (Redeclares b.time ∷ []) b.mid))));
               })
         ]
       ]
@@ -83,9 +81,4 @@ module _ (g : Input) (log : Log) (w : Known g log) where
       record { place = b.place; applied = b.applied; before = omega (arith, l, m) }
 
   pub other_txn : (x y : Committed) → IsOfEarlierEra (eras_of g log) (history log) x y → x.start.txn ≢ y.start.txn
-  other_txn x y o e =
-      let one = w.starts.one_submit y.start.txn o.first_place o.second_place (subst (λ n. IsSubmitted (history log) n o.first_place) e o.first_submitted) o.second_submitted in
-      let l = o.earlier in
-      let same : eras_begun (eras_of g log) (event_at (history log) o.first_place) ≡ eras_begun (eras_of g log) (event_at (history log) o.second_place) =
-      ap (λ k. eras_begun (eras_of g log) (event_at (history log) k)) one in
-      absurd (omega (arith, l, same))
+  other_txn x y o e = grind arith

@@ -1,15 +1,12 @@
 -- Where nothing goes on and a pipe has nothing unprocessed, every WRITE of its class that touches the module is applied.
-use Rattle.sdd_progress.proofs.All.{Attempt, Bases, D, Does, Input, IsApplied, IsClass, IsModule, IsOf, IsQuiet, IsSoundCatalogue, Log, Msg, Some, Write, [], all_of, ap, append-nil, at_home, at_module, changes_to, class_in, class_no, class_puts, commit_act, commit_put, d_fair, dm_no, handed, home, length, matched, pipe, pipe_is, puts_to, results, setting_of, slice_get, subst, sym, take_all, time_at, true, txn_no, zip_at, ℕ, ◌++◌, ◌<◌, ◌==◌, ◌∙◌, ◌∷◌, ◌≡◌, ◌⊎◌}
+use Rattle.sdd_progress.proofs.All.{Attempt, Bases, D, Does, Input, IsApplied, IsClass, IsModule, IsOf, IsQuiet, IsSoundCatalogue, Log, Msg, Some, Write, [], all_of, ap, append-nil, arith, at_module, changes_to, class_no, class_puts, commit_act, commit_put, d_fair, dm_no, home, length, matched, pipe, pipe_is, results, setting_of, slice_get, subst, sym, take_all, time_at, true, txn_no, zip_at, ℕ, ◌++◌, ◌<◌, ◌==◌, ◌∙◌, ◌∷◌, ◌≡◌, ◌⊎◌}
 use Rattle.sdd_progress.proofs.Handed.{none_left}
 use Rattle.sdd_progress.proofs.Still.{home_linked}
 
 -- all that was put for a pipe came to it
 pub pipe_has_all : (g : Input) (log : Log) (c d : ℕ) → IsQuiet g log → IsSoundCatalogue g.catalogue → IsClass g.catalogue c → IsModule g.catalogue d
     → all_of (pipe c (at_module g d log)) ≡ class_puts g c (dm_no d) log
-pipe_has_all g log c d h sound l m =
-    pipe_is g c (dm_no d) log h.permitted
-    ∙ ap (class_in c) (take_all (handed (home g.catalogue c) (D (dm_no d)) log)
-    (puts_to (D (dm_no d)) (at_home g c log)) (none_left g log (home g.catalogue c) (D (dm_no d)) h (home_linked g.catalogue c d sound l m).0))
+pipe_has_all g log c d h sound l m = grind (arith, pipe_is, take_all, none_left, home_linked)
 
 pub all_applied : (g : Input) (log : Log) (c d : ℕ) (later before : Log) (bases : Bases) (a : Attempt)
     → IsQuiet g log → IsSoundCatalogue g.catalogue → IsClass g.catalogue c → IsModule g.catalogue d

@@ -1,5 +1,6 @@
 -- What an entry of the log of everything does at a data module.
-use Rattle.sdd_progress.proofs.AllWaits.{Act, Bool, D, Did, DmNo, Does, Entry, Handed, Input, IsDue, IsPermitted, List, Log, Msg, None, Option, Pipe, Rec, Records, Site, Some, [], allowed_act, ap, false, goes_through, head, head_of, home_of, if◌then◌else◌, is_processing, is_wait, local_of, local_step, made, maker, pipe, put, refl, setting_of, subst, true, view_of, waits, with_made, ℕ, ◌++◌, ◌==◌, ◌||◌, ◌∙◌, ◌∷◌, ◌≡◌}
+use Rattle.std.proofs.Common.{arith}
+use Rattle.sdd_progress.proofs.AllWaits.{Act, D, Did, DmNo, Does, Entry, Handed, Input, IsDue, IsPermitted, List, Log, Msg, None, Option, Rec, Records, Site, Some, allowed_act, ap, false, head, home_of, is_processing, local_of, local_step, made, maker, pipe, refl, setting_of, subst, true, view_of, waits, with_made, ℕ, ◌==◌, ◌∙◌, ◌∷◌, ◌≡◌}
 use Rattle.sdd_obligations.specs.site_module.SiteLog as site
 
 abbrev pub at_module : Input → DmNo → Log → site.Log
@@ -17,47 +18,28 @@ pub data IsEntryAt (g : Input) (d : DmNo) (log : Log) (e : Entry) : Type 0 where
   acting : (act : Act) → e ≡ Does (D d) act → at_module g d (e ∷ log) ≡ Did act ∷ at_module g d log
       → IsDue (home_of (setting_of g (D d))) (view_of (setting_of g (D d)) (at_module g d log)) act → IsEntryAt g d log e
 
-leaves : (l k : site.Log) (c : ℕ) → k ≡ l → LeavesPipe l k c
-leaves l k c e = record { pipe_same = ap (pipe c) e; waits_same = ap (waits c) e }
-
-leaves_as : (l k : site.Log) (x : site.Entry) (c : ℕ) → k ≡ x ∷ l → pipe c (x ∷ l) ≡ pipe c l → waits c (x ∷ l) ≡ waits c l → LeavesPipe l k c
-leaves_as l k x c e p w = record { pipe_same = ap (pipe c) e ∙ p; waits_same = ap (waits c) e ∙ w }
-
 by_made : (g : Input) (d : DmNo) (log : Log) (e : Entry) (o : Option site.Entry) → IsPermitted g (e ∷ log)
     → made g (D d) log e ≡ o → at_module g d (e ∷ log) ≡ with_made o (at_module g d log) → IsEntryAt g d log e
-by_made g d log e None h m s = aside (λ c. leaves (at_module g d log) (at_module g d (e ∷ log)) c s)
+by_made g d log e None h m s = aside (λ c. (record { pipe_same = ap (pipe c) s; waits_same = ap (waits c) s }))
 by_made g d log e (Some (Handed from x)) h m s = handing from x s
 by_made g d log e (Some (Did act)) h m s =
     let is = maker g (D d) log e (Did act) m in
     acting act is s (allowed_act g log (Does (D d) act) (subst (λ x. IsPermitted g (x ∷ log)) is h).0)
-by_made g d log e (Some x) h m s = aside (λ c. leaves_as (at_module g d log) (at_module g d (e ∷ log)) x c s refl refl)
+by_made g d log e (Some x) h m s = aside (λ c. (record { pipe_same = ap (pipe c) s ∙ refl; waits_same = ap (waits c) s ∙ refl }))
 
 pub entry_at : (g : Input) (d : DmNo) (log : Log) (e : Entry) → IsPermitted g (e ∷ log) → IsEntryAt g d log e
 entry_at g d log e h = by_made g d log e (made g (D d) log e) h refl (local_step g (D d) e log)
 
 -- a hand leaves the head that is there
 
-kept_head : (xs : List Msg) (m x : Msg) → head_of xs ≡ Some x → head_of (xs ++ m ∷ []) ≡ Some x
-kept_head [] m x e = cc
-kept_head (y ∷ xs) m x e = e
-
-put_head : (b : Bool) (p : Pipe) (m x : Msg) → head p ≡ Some x → head (if b then put m p else p) ≡ Some x
-put_head true p m x e = kept_head p.unprocessed m x e
-put_head false p m x e = e
-
 pub handed_head : (c : ℕ) (from : Site) (m x : Msg) (l : site.Log) → head (pipe c l) ≡ Some x → head (pipe c (Handed from m ∷ l)) ≡ Some x
-handed_head c from m x l e = put_head (goes_through c m) (pipe c l) m x e
+handed_head c from m x l e = (grind (arith))
 
 -- a record of another class leaves whether the head waits; and so does one that processes nothing, where it waits
 
 pub waits_other : (c k : ℕ) (r : Rec) (sends : List (Site × Msg)) (l : site.Log) → (k == c) ≡ false → waits c (Did (Records k r sends) ∷ l) ≡ waits c l
 waits_other c k r sends l e = rw e refl
 
-still_waits : (b : Bool) (p y w : Bool) → p ≡ false → w ≡ true → (if b then (if p then false else (y || w)) else w) ≡ true
-still_waits true true y w p h = cc
-still_waits true false true w p h = refl
-still_waits _ _ _ w p h = h
-
 pub waits_on : (c k : ℕ) (r : Rec) (sends : List (Site × Msg)) (l : site.Log) → is_processing r ≡ false → waits c l ≡ true
     → waits c (Did (Records k r sends) ∷ l) ≡ true
-waits_on c k r sends l p w = still_waits (k == c) (is_processing r) (is_wait r) (waits c l) p w
+waits_on c k r sends l p w = (grind arith)

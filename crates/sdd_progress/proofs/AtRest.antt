@@ -1,5 +1,5 @@
 -- Where a class list was put in force: all that was submitted before is committed and applied there.
-use Rattle.sdd_progress.proofs.All.{AllCommitted, AppliedBefore, Apply, AreNumbered, Commit, Committed, GoesTo, HasCommit, HasSoundLists, History, Input, IsAttempt, IsCommitted, IsIdle, IsLawful, IsQuiet, IsRecordAt, IsSubmitted, Log, Redeclares, Some, [], ap, append_assoc, applied_before, arith, class_no, committed_in, dm_no, eras_of, goes_module, goes_some, history, history_grows, length, next, redeclares, refl, start_in, start_within, subst, sym, time_at, txn_no, ℕ, ◌++◌, ◌<◌, ◌∙◌, ◌∷◌, ◌≡◌}
+use Rattle.sdd_progress.proofs.All.{AllCommitted, AppliedBefore, AreNumbered, Commit, Committed, GoesTo, HasCommit, HasSoundLists, History, Input, IsAttempt, IsCommitted, IsIdle, IsLawful, IsQuiet, IsRecordAt, IsSubmitted, Log, Redeclares, Some, [], ap, append_assoc, applied_before, arith, class_no, committed_in, dm_no, eras_of, goes_module, goes_some, history, history_grows, length, next, redeclares, refl, start_in, start_within, subst, sym, time_at, txn_no, ℕ, ◌++◌, ◌<◌, ◌∙◌, ◌∷◌, ◌≡◌}
 use Rattle.sdd_progress.proofs.Applied.{all_applied}
 use Rattle.sdd_progress.proofs.Committed.{all_committed}
 use Rattle.sdd_progress.proofs.ErasOf.{are_eras_of}
@@ -59,19 +59,7 @@ module _ (g : Input) (log : Log) (w : Known g log) where
   pub commit_there : (mid : Log) (r : IsRest g log mid) (n k : ℕ) → IsSubmitted (history mid) n k
       → (number : ℕ) × (place : ℕ) × (place < length (history mid)) × HasCommit (history log) n number place
   commit_there mid r n k s =
-      let c = r.all n k s in (
-        c.number,
-        c.place,
-        recorded_within (history mid) c.place _ c.commit.is_recorded,
-        record {
-          reply = c.commit.reply;
-          changes = c.commit.changes;
-          values = c.commit.values;
-          rows = c.commit.rows;
-          is_recorded = subst (λ z. IsRecordAt z c.place (Commit (txn_no n) c.number c.commit.reply c.commit.changes c.commit.values c.commit.rows)) (sym r.history_is)
-              (recorded_more (history mid) r.more c.place _ c.commit.is_recorded);
-        },
-      )
+      let c = r.all n k s in (grind (arith, recorded_within, history, txn_no, recorded_more))
 
   -- so a transaction that was submitted before it is committed before it
   pub committed_by : (mid : Log) (r : IsRest g log mid) (n k : ℕ) → IsSubmitted (history mid) n k → (x : Committed) → IsCommitted (history log) x → x.start.txn ≡ n
@@ -94,8 +82,7 @@ module _ (g : Input) (log : Log) (w : Known g log) where
       let before = started_before g log w x c in
       let ct : IsCommitted (history mid) x = record {
         started = recorded_front (history mid) r.more x.start.place _ (omega (arith, l, before)) (subst (λ z. IsAttempt z x.start) r.history_is c.started);
-        committed = recorded_front (history mid) r.more x.place _ l
-            (subst (λ z. IsRecordAt z x.place (Commit (txn_no x.start.txn) x.start.number x.reply x.changes x.values x.rows)) r.history_is c.committed);
+        committed = grind (arith, recorded_front, history, txn_no);
       } in
       let t = committed_in g mid x w.sound r.quiet.permitted ct in
       let are = are_eras_of g mid r.lists in
@@ -107,11 +94,6 @@ module _ (g : Input) (log : Log) (w : Known g log) where
       (applied_before g mid [] mid (dm_no d) x.start.class t.running refl r.quiet.permitted applied) in
       record {
         place = a.place;
-        applied = record {
-          class = a.applied.class;
-          ts = a.applied.ts;
-          is_recorded = subst (λ z. IsRecordAt z a.place (Apply (txn_no x.start.txn) (class_no a.applied.class) (dm_no d) (time_at a.applied.ts))) (sym r.history_is)
-              (recorded_more (history mid) r.more a.place (Apply (txn_no x.start.txn) (class_no a.applied.class) (dm_no d) (time_at a.applied.ts)) a.applied.is_recorded);
-        };
+        applied = grind (arith, txn_no, class_no, dm_no, time_at, recorded_more, history);
         before = a.before;
       }

@@ -1,6 +1,6 @@
 -- A history has no more attempts than the square of the number of its transactions: each starts once more than others
 -- commit at most, and each commits once.
-use Rattle.sdd_progress.proofs.All.{All-head, All-tail, AllByRecursion, AreFew, Bool, Commit, HasCommit, History, IsDistinct-cons, List, NamesOneOf, None, Option, Rec, Some, Start, TxnsExist, [], ap, arith, attempt_of, attempts, cases_eq, cases_lt, commits_of_others, cond, cons_option, eq-eqb, eqb, eqb-false, false, filter, filter_map, inl, inr, is_commit_of_other, is_start_of, le-leb, length, length-le_from_distinct_below, member_is, nat_le, nat_tests, ne_eqb, not, placed, refl, same_Some, starts_of, subst, suc, suc-mul, sym, true, zero, ℕ, ◌*◌, ◌+◌, ◌<◌, ◌==◌, ◌∷◌, ◌≡◌, ◌≢◌, ◌≤◌}
+use Rattle.sdd_progress.proofs.All.{All-head, All-tail, AllByRecursion, AreFew, Bool, Commit, HasCommit, History, IsDistinct-cons, List, NamesOneOf, None, Option, Rec, Some, Start, TxnsExist, [], arith, attempt_of, attempts, cases_eq, cases_lt, commits_of_others, cond, cons_option, eq-eqb, eqb, eqb-false, false, filter, filter_map, is_start_of, le-leb, length, length-le_from_distinct_below, member_is, nat_le, nat_tests, ne_eqb, placed, refl, same_Some, starts_of, subst, suc, suc-mul, sym, true, zero, ℕ, ◌*◌, ◌+◌, ◌<◌, ◌==◌, ◌∷◌, ◌≡◌, ◌≢◌, ◌≤◌}
 use Rattle.std.specs.List.{IsDistinct}
 use Rattle.sdd_progress.proofs.FewClasses.{each_weaker}
 
@@ -18,16 +18,10 @@ committers : ℕ → History → List ℕ
 committers n [] = []
 committers n (e ∷ h) = cons_option (committer n e.1) (committers n h)
 
-one_each : {A : Type 0} (b : Bool) (x : ℕ) (e : A) (xs : List ℕ) (es : List A) → length xs ≡ length es
-    → length (cons_option (cond b None (Some x)) xs) ≡ length (cond (not b) (e ∷ es) es)
-one_each true x e xs es l = l
-one_each false x e xs es l = ap suc l
-
 as_many : (n : ℕ) (h : History) → length (committers n h) ≡ commits_of_others h n
 unfolding committer committers
 as_many n [] = refl
-as_many n ((k, Commit txn attempt reply changes values rows) ∷ h) =
-    one_each (txn.0 == n) txn.0 (k, Commit txn attempt reply changes values rows) (committers n h) (filter (λ d. is_commit_of_other n d.1) h) (as_many n h)
+as_many n ((k, Commit txn attempt reply changes values rows) ∷ h) = grind (arith, committers, (as_many n h))
 as_many n ((k, _) ∷ h) = as_many n h
 
 -- each commits at some place, is another one than n, and is one of so many
@@ -45,10 +39,6 @@ Commits n count h q = (place : ℕ) × IsCommitter n count h q place
 commit_later : (e : ℕ × Rec) (h : History) (q number place : ℕ) → HasCommit h q number place → HasCommit (e ∷ h) q number (suc place)
 commit_later e h q number place m = record { reply = m.reply; changes = m.changes; values = m.values; rows = m.rows; is_recorded = m.is_recorded }
 
-commits_later : (n count : ℕ) (e : ℕ × Rec) (h : History) (q : ℕ) → Commits n count h q → Commits n count (e ∷ h) q
-commits_later n count e h q c =
-    (suc c.0, record { other = c.1.other; from = c.1.from; to = c.1.to; number = c.1.number; commit = commit_later e h q c.1.number c.0 c.1.commit })
-
 commits_here : (n count : ℕ) (e : ℕ × Rec) (h : History) (q : ℕ) → NamesOneOf count e.1 → committer n e.1 ≡ Some q → IsCommitter n count (e ∷ h) q 0
 unfolding committer
 commits_here n count (k, Commit txn attempt reply changes values rows) h q named e =
@@ -56,8 +46,7 @@ commits_here n count (k, Commit txn attempt reply changes values rows) h q named
     → IsCommitter n count ((k, Commit txn attempt reply changes values rows) ∷ h) q 0) [
       | true ↦ λ p s. absurd (cc)
       | false ↦ λ p s.
-          let same : txn.0 ≡ q = same_Some txn.0 q s in
-          subst (λ z. IsCommitter n count ((k, Commit txn attempt reply changes values rows) ∷ h) z 0) same
+          subst (λ z. IsCommitter n count ((k, Commit txn attempt reply changes values rows) ∷ h) z 0) (same_Some txn.0 q s)
           (record {
             other = eqb-false txn.0 n p;
             from = named.0;
@@ -67,9 +56,6 @@ commits_here n count (k, Commit txn attempt reply changes values rows) h q named
           })
     ] refl e
 commits_here n count (k, _) h q named e = absurd (cc)
-
-not_at : (x m : ℕ) → x ≢ suc m → suc m ≤ x → nat_le x (suc m) ≡ false
-not_at x m other high = let l : suc m < x = omega (arith, other) in grind (arith, nat_tests)
 
 -- they differ
 pub record AreCommitters (n count : ℕ) (h : History) (qs : List ℕ) : Type 0 where
@@ -82,10 +68,10 @@ no_committers n count = record { differ = tt; each = tt }
 
 with_committer : (n count : ℕ) (e : ℕ × Rec) (h : History) (o : Option ℕ) (qs : List ℕ) → OneCommit (e ∷ h)
     → ((q : ℕ) → o ≡ Some q → IsCommitter n count (e ∷ h) q 0) → AreCommitters n count h qs → AreCommitters n count (e ∷ h) (cons_option o qs)
-with_committer n count e h None qs one here rest = record { differ = rest.differ; each = each_weaker (λ q c. commits_later n count e h q c) qs rest.each }
+with_committer n count e h None qs one here rest = record { differ = rest.differ; each = each_weaker (λ q c. ((suc c.0, record { other = c.1.other; from = c.1.from; to = c.1.to; number = c.1.number; commit = commit_later e h q c.1.number c.0 c.1.commit }))) qs rest.each }
 with_committer n count e h (Some q) qs one here rest =
     let first = here q refl in
-    let later = each_weaker (λ z c. commits_later n count e h z c) qs rest.each in
+    let later = each_weaker (λ z c. ((suc c.0, record { other = c.1.other; from = c.1.from; to = c.1.to; number = c.1.number; commit = commit_later e h z c.1.number c.0 c.1.commit }))) qs rest.each in
     let apart : (z : ℕ) → Commits n count h z → eqb q z ≡ false =
     λ z c. ne_eqb q z (λ same.
     let places : 0 ≡ suc c.0 = one q first.number c.1.number 0 (suc c.0) first.commit
@@ -115,8 +101,7 @@ commits_few n count h one exist low high =
     let differ = IsDistinct-cons eqb 0 (n ∷ qs) from_zero (IsDistinct-cons eqb n qs from_n all.differ) in
     let small : AllByRecursion (λ q. q < count + 1) (0 ∷ n ∷ qs) =
     (omega arith, (omega arith, each_weaker (λ q c. (let t = c.1.to in omega arith)) qs all.each)) in
-    let fit = length-le_from_distinct_below (0 ∷ n ∷ qs) (count + 1) differ (λ q m. member_is (λ z. z < count + 1) (0 ∷ n ∷ qs) q small m) in
-    omega (arith, fit, as_many n h)
+    omega (arith, (length-le_from_distinct_below (0 ∷ n ∷ qs) (count + 1) differ (λ q m. member_is (λ z. z < count + 1) (0 ∷ n ∷ qs) q small m)), as_many n h)
 
 -- Starts of the transactions up to m
 
@@ -129,26 +114,7 @@ starts_to h m = length (filter (λ e. start_to m e.1) h)
 
 one_more : {A : Type 0} (x m : ℕ) (e : A) (xs ys zs : List A) → length xs ≤ length ys + length zs
     → length (cond (nat_le x (suc m)) (e ∷ xs) xs) ≤ length (cond (nat_le x m) (e ∷ ys) ys) + length (cond (x == suc m) (e ∷ zs) zs)
-one_more x m e xs ys zs l =
-    elim (cases_lt x (suc m)) [
-      | inl low ↦
-          let a : nat_le x (suc m) ≡ true = le-leb x (suc m) (omega arith) in
-          let b : nat_le x m ≡ true = le-leb x m (omega arith) in
-          let c : (x == suc m) ≡ false = ne_eqb x (suc m) (λ same. absurd (omega arith)) in
-          rw (a, b, c) (omega (arith, l))
-      | inr high ↦ elim (cases_eq x (suc m)) [
-        | inl same ↦
-            let a : nat_le x (suc m) ≡ true = le-leb x (suc m) (omega arith) in
-            let b : nat_le x m ≡ false = grind (arith, nat_tests) in
-            let c : (x == suc m) ≡ true = eq-eqb x (suc m) same in
-            rw (a, b, c) (omega (arith, l))
-        | inr other ↦
-            let a : nat_le x (suc m) ≡ false = not_at x m other high in
-            let b : nat_le x m ≡ false = grind (arith, nat_tests) in
-            let c : (x == suc m) ≡ false = ne_eqb x (suc m) other in
-            rw (a, b, c) l
-      ]
-    ]
+one_more x m e xs ys zs l = grind (arith, cases_lt, nat_le, le-leb, ne_eqb, cases_eq, eq-eqb)
 
 step : (h : History) (m : ℕ) → starts_to h (suc m) ≤ starts_to h m + starts_of h (suc m)
 unfolding start_to starts_to
@@ -190,13 +156,11 @@ module _ (count : ℕ) (h : History) (one : OneCommit h) (exist : TxnsExist coun
   up_to (suc m) l =
       let before = up_to m (omega arith) in
       let more = step h m in
-      let starts = few (suc m) in
-      let commits = commits_few (suc m) count h one exist (omega arith) l in
+      let commits = commits_few (suc m) count h one exist (omega (arith, few (suc m))) l in
       let product = suc-mul m count in
       omega arith
 
   pub attempts_square : length (attempts h) ≤ count * count
   attempts_square =
       let all = all_to_count count 0 h exist in
-      let square = up_to count (omega arith) in
-      omega arith
+      omega (arith, up_to count (omega arith))

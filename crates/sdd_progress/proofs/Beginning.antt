@@ -1,5 +1,5 @@
 -- A round begins only where the links aren't quiet, and then it has an event.
-use Rattle.sdd_progress.proofs.AllEnds.{AtEach, Bool, Call, Event, Input, IsOfRound, List, Log, Redeclare, Round, Settle, Some, [], all_links, arith, calls_of, each_of_round, false, false≢true, left, length, links, mark_from, mark_of, next, no_events_quiet, quiet, refl, round, subst, sym, true, ℕ, ◌<◌, ◌∙◌, ◌∷◌, ◌≡◌}
+use Rattle.sdd_progress.proofs.AllEnds.{AtEach, Bool, Call, Event, Input, IsOfRound, List, Log, Redeclare, Round, Settle, Some, [], all_links, arith, calls_of, each_of_round, false, false≢true, left, length, links, mark_from, mark_of, next, no_events_quiet, quiet, refl, round, sym, true, ℕ, ◌<◌, ◌∙◌, ◌∷◌, ◌≡◌}
 use Rattle.sdd_progress.proofs.Marked.{next_is_of_events}
 
 none_or_some : (events : List Event) → (events ≡ [] → ⊥) → 0 < length events
@@ -24,10 +24,7 @@ abbrev pub Begins : Input → Log → List Event → List Event × List Event �
 Begins g log es rest = (rest.1 ≡ []) × (quiet (all_links g) (calls_of log) ≡ false) × (0 < length es)
 
 round_of : (g : Input) (log : Log) (es : List Event) (rest : List Event × List Event) → mark_of g log rest ≡ Some (Round es) → Begins g log es rest
-round_of g log es (ws, []) h =
-    let r = round_from g log (quiet (all_links g) (calls_of log)) (round (all_links g) (calls_of log)) ws es h in
-    (refl, r.0, subst (λ xs. 0 < length xs) r.1 (has_event g.catalogue.tms g.catalogue.dms (calls_of log) r.0))
-round_of g log es (ws, e ∷ rest) h = absurd (cc)
+round_of g log es rest h = grind (arith, round_from, has_event)
 
 pub round_begins : (g : Input) (log : Log) (es : List Event) → next g log ≡ Some (Round es) → Begins g log es (left g.events log)
 round_begins g log es h = round_of g log es (left g.events log) (next_is_of_events g log (Round es) refl h)

@@ -1,5 +1,5 @@
 -- The time at which a class list is put in force is after every clock of a transaction module.
-use Rattle.sdd_progress.proofs.All.{Input, IsSoundCatalogue, List, Log, Some, T, [], ap, arith, bound_at, class_at, false, fold, greatest_bound, home, length, map, max, numbers_to, positive, range_at, refl, served, slice_get, subst, suc, tm_no, zero, ℕ, ◌*◌, ◌+◌, ◌-◌, ◌/◌, ◌<◌, ◌==◌, ◌∷◌, ◌≡◌, ◌≤◌}
+use Rattle.sdd_progress.proofs.All.{Input, IsSoundCatalogue, List, Log, Some, T, [], arith, bound_at, class_at, false, fold, greatest_bound, home, length, map, max, numbers_to, positive, range_at, refl, served, slice_get, subst, suc, tm_no, zero, ℕ, ◌*◌, ◌+◌, ◌-◌, ◌/◌, ◌<◌, ◌==◌, ◌∷◌, ◌≡◌, ◌≤◌}
 
 -- the greatest bound is none below that of a module
 
@@ -9,10 +9,7 @@ fold_max_ge f (n ∷ ns) a = let i = fold_max_ge f ns (max a (f n)) in let m : a
 
 fold_max_has : (f : ℕ → ℕ) (ns : List ℕ) (a k n : ℕ) → slice_get ns k ≡ Some n → f n ≤ fold max a (map f ns)
 fold_max_has f [] a k n e = cc
-fold_max_has f (x ∷ ns) a zero n e =
-    let p : x ≡ n = cc in
-    let m : f x ≤ max a (f x) = omega arith in
-    let q : f x ≡ f n = ap f p in omega (arith, fold_max_ge f ns (max a (f x)), m, q)
+fold_max_has f (x ∷ ns) a zero n e = grind (arith, fold_max_ge)
 fold_max_has f (x ∷ ns) a (suc k) n e = fold_max_has f ns (max a (f x)) k n e
 
 pub bound_within : (g : Input) (log : Log) (n : ℕ) → 1 ≤ n → n ≤ g.catalogue.tms → bound_at g log n ≤ greatest_bound g log

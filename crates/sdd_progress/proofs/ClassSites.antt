@@ -1,5 +1,5 @@
 -- The sites that run classes: they are there, and have small numbers.
-use Rattle.sdd_progress.proofs.AllWaits.{Catalogue, Class, Input, IsClassOf, IsServedClass, IsSoundCatalogue, Some, T, ap, arith, at_number, class_at, dec_le, get_or_past, home, inl, inr, kept_there, length, not_zero, number_of, numbers_to, range_there, refl, runs, same_number, same_or_not, setting_of, slice_get, sound_classes, sound_whole, subst, sym, tm_no, ℕ, ◌-◌, ◌==◌, ◌≡◌, ◌≤◌}
+use Rattle.sdd_progress.proofs.AllWaits.{Catalogue, Class, Input, IsClassOf, IsServedClass, IsSoundCatalogue, Some, T, ap, arith, at_number, class_at, dec_le, get_or_past, home, kept_there, length, not_zero, number_of, numbers_to, range_there, refl, runs, same_number, same_or_not, setting_of, slice_get, sound_classes, sound_whole, tm_no, ℕ, ◌-◌, ◌==◌, ◌≡◌, ◌≤◌}
 
 pub class_served : (cat : Catalogue) (i : ℕ) → IsSoundCatalogue cat → IsClassOf cat i → IsServedClass cat (class_at cat i)
 class_served cat i sound c = at_number (IsServedClass cat) cat.classes i _ (sound_classes cat sound) c.from c.to
@@ -31,7 +31,4 @@ abbrev pub HasSmallHomes : Input → Type 0
 HasSmallHomes g = (c : ℕ) → number_of (home g.catalogue c) ≤ 63
 
 pub small_homes : (g : Input) → IsSoundCatalogue g.catalogue → HasSmallHomes g
-small_homes g sound c = elim (same_or_not c 0) [
-  | inl z ↦ subst (λ k. number_of (home g.catalogue k) ≤ 63) (sym z) (omega arith)
-  | inr n ↦ (let m = module_small g.catalogue c sound in let e : number_of (home g.catalogue c) ≡ (class_at g.catalogue c).tm.0 = rw n refl in omega arith)
-]
+small_homes g sound c = grind (arith, same_or_not, module_small)

@@ -1,5 +1,5 @@
 -- Where all is finished, every transaction that was submitted is committed, and nothing is pending.
-use Rattle.sdd_progress.proofs.All.{Act, AllCommitted, AreNumbered, Bool, Catalogue, Change, Commit, Did, Does, HasSoundLists, History, Input, IsClass, IsEraOf, IsFinished, IsNotLeft, IsPermitted, IsRecordAt, IsSubmitIn, IsSubmitted, List, Log, Mark, None, Option, Queued, Rec, Records, Reply, Site, Some, Submit, Submits, Submitted, Submitting, T, TmNo, Told, Txn, WasCommitted, [], all_new, ap, arith, class_at, class_for, commit_act_in, commit_rec, cons_none, cons_option, covered, covers_home, dec_le, false, filter_map, for_class, further_back, given_at, history, home, home_by, home_fair, home_setting, if◌then◌else◌, inl, inr, is_committed, length, list_any, member_there, nth_era, option_map, or_left, or_right, permitted_before, place_of_act, positive, queue, queue_is, queued, recorded_there, redeclares, refl, same_or_not, slice_get, submit_in, submit_local, submits_of, submitted_in, subst, suc, sym, tm_no, true, txn_no, zero, ℕ, ◌++◌, ◌-◌, ◌∙◌, ◌∷◌, ◌≡◌, ◌⊎◌}
+use Rattle.sdd_progress.proofs.All.{Act, AllCommitted, AreNumbered, Bool, Catalogue, Change, Commit, Did, Does, HasSoundLists, History, Input, IsClass, IsEraOf, IsFinished, IsNotLeft, IsPermitted, IsRecordAt, IsSubmitIn, IsSubmitted, List, Log, Mark, None, Option, Queued, Rec, Records, Reply, Site, Some, Submit, Submits, Submitted, Submitting, T, TmNo, Told, Txn, WasCommitted, [], all_new, ap, arith, class_at, class_for, commit_act_in, commit_rec, cons_none, cons_option, covered, covers_home, dec_le, false, filter_map, for_class, further_back, given_at, history, home, home_by, home_fair, home_setting, inl, inr, is_committed, length, list_any, member_there, nth_era, option_map, or_left, or_right, permitted_before, place_of_act, positive, queue, queue_is, queued, recorded_there, redeclares, refl, same_or_not, slice_get, submit_in, submit_local, submits_of, submitted_in, subst, suc, sym, tm_no, true, txn_no, zero, ℕ, ◌++◌, ◌-◌, ◌∙◌, ◌∷◌, ◌≡◌, ◌⊎◌}
 use Rattle.sdd_progress.proofs.SinceRedeclare.{redeclares_back}
 use Rattle.sdd_obligations.specs.All.{txn_at}
 use Rattle.sdd_obligations.specs.logs.Due.{home_of}
@@ -33,10 +33,6 @@ none_kept f [] i x e h = cc
 none_kept f (y ∷ xs) zero x e h = let p : y ≡ x = cc in subst (λ z. f z ≡ None) p (cons_none (f y) (filter_map f xs) e).0
 none_kept f (y ∷ xs) (suc i) x e h = none_kept f xs i x (cons_none (f y) (filter_map f xs) e).1 h
 
-if_left : {A : Type 0} (b : Bool) (x : A) → (if b then None else Some x) ≡ None → b ≡ true
-if_left true x e = refl
-if_left false x e = cc
-
 -- a Commit of the log of a site is one of the history
 committed_there : (g : Input) (log : Log) (c n : ℕ) → is_committed c n (at_home g c log) ≡ true → WasCommitted (history log) n
 committed_there g log c n e =
@@ -64,8 +60,7 @@ record HasText (g : Input) (n : ℕ) : Type 0 where
 
 text_of : (g : Input) (log : Log) (n k : ℕ) → IsPermitted g log → AreNumbered g log → (s : IsSubmitIn g log n k) → HasText g n
 text_of g log n k h numbered s =
-    let now : IsPermitted g (Submitted s.at n ∷ s.rest) = permitted_before g s.later (Submitted s.at n ∷ s.rest) (subst (IsPermitted g) s.is h) in
-    let x = given_at g s.rest s.at n now in
+    let x = given_at g s.rest s.at n (permitted_before g s.later (Submitted s.at n ∷ s.rest) (subst (IsPermitted g) s.is h)) in
     let b = further_back log s.later s.rest (Submitted s.at n) (Mark (Submitting x.number)) [] x.earlier s.is x.is in
     let r = numbered b.0 x.earlier x.number b.1 in
     let m = member_there (n - 1) g.txns (omega (arith, r.0, r.1, x.number_is)) in
@@ -86,8 +81,7 @@ pub submitted_at_home : (g : Input) (log : Log) → IsPermitted g log → HasSou
     → (n k : ℕ) → IsSubmitted (history log) n k → IsAtHome g log n
 submitted_at_home g log h lists numbered n k submitted =
     let s = submit_in g log n k h submitted in
-    let now : IsPermitted g (Submitted s.at n ∷ s.rest) = permitted_before g s.later (Submitted s.at n ∷ s.rest) (subst (IsPermitted g) s.is h) in
-    let x = given_at g s.rest s.at n now in
+    let x = given_at g s.rest s.at n (permitted_before g s.later (Submitted s.at n ∷ s.rest) (subst (IsPermitted g) s.is h)) in
     let t = text_of g log n k h numbered s in
     let era : Catalogue = (nth_era g (redeclares s.rest)).catalogue in
     let back = redeclares_back s.later (Submitted s.at n ∷ s.rest) in
@@ -118,7 +112,7 @@ all_committed g log h lists numbered done n k submitted =
     let out : queued c (at_home g c log) (n, x.text) ≡ None =
     none_kept (queued c (at_home g c log)) (submits_of (home_setting g c) c (at_home g c log)) x.place
     (n, x.text) (sym q.is ∙ done.no_queue c x.class_is) x.there in
-    committed_there g log c n (if_left (is_committed c n (at_home g c log)) _ out)
+    committed_there g log c n (grind arith)
 
 -- a transaction that was submitted is committed, or stands in the queue of its class
 
@@ -151,8 +145,7 @@ committed_or_queued g log permitted lists numbered n k submitted =
     elim (is_committed c n (at_home g c log)) as (λ b. is_committed c n (at_home g c log) ≡ b → WasCommitted (history log) n ⊎ IsQueued g log n) [
       | true ↦ λ e. inl (committed_there g log c n e)
       | false ↦ λ e.
-          let out : queued c (at_home g c log) (n, x.text) ≡ Some waiting = rw e refl in
-          let r = some_kept (queued c (at_home g c log)) (submits_of (home_setting g c) c (at_home g c log)) x.place (n, x.text) waiting x.there out in
+          let r = some_kept (queued c (at_home g c log)) (submits_of (home_setting g c) c (at_home g c log)) x.place (n, x.text) waiting x.there (rw e refl) in
           inr (record {
             class = c;
             class_is = x.class_is;
@@ -177,9 +170,7 @@ any_at p (x ∷ h) (suc k) r f e = or_right (p x) (list_any p h) (any_at p h k r
 pub any_commit : (h : History) (p : ℕ × Rec → Bool) (n : ℕ)
     → ((event attempt : ℕ) (reply : Reply) (changes : List Change) (values rows : ℕ) → p (event, Commit (txn_no n) attempt reply changes values rows) ≡ true)
     → WasCommitted h n → list_any p h ≡ true
-any_commit h p n f d = let c =
-    d.commit in any_at p h d.place (Commit (txn_no n) d.number c.reply c.changes c.values c.rows)
-    (λ event. f event d.number c.reply c.changes c.values c.rows) c.is_recorded
+any_commit h p n f d = grind (arith, any_at)
 
 none_found : {A B : Type 0} (f : A → Option B) (xs : List A) → ((k : ℕ) (x : A) → slice_get xs k ≡ Some x → f x ≡ None) → filter_map f xs ≡ []
 none_found f [] h = refl

@@ -11,9 +11,8 @@ applied_at_copies g log f d sound h lists idle copied t c e =
     let m = copy_module g.catalogue sound d f copied in
     let x = committed_in g log t sound h.permitted c in
     let within = start_within g log (eras_of g log) t.start (are_eras_of g log lists) (start_in g log t.start sound h.permitted c.started) in
-    let some = touches_some g log t x d (record { fragment = f; changed = e; copied = copied }) in
     let applied = all_applied g log t.start.class d x.later x.before x.bases x.running h sound within m
-    (idle.processed t.start.class d within m) x.is (inr some) in
+    (idle.processed t.start.class d within m) x.is (inr (touches_some g log t x d (record { fragment = f; changed = e; copied = copied }))) in
     subst (λ n. AppliedBefore (history log) n d (length (history log))) x.txn_is
     (applied_before g log [] log (dm_no d) t.start.class x.running refl h.permitted applied)
 

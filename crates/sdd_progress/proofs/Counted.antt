@@ -1,5 +1,5 @@
 -- A lawful log has no more rounds than marks, and one.
-use Rattle.sdd_progress.proofs.AllEnds.{Event, Input, IsLawful, IsTheLog, IsWithin, List, Log, Mark, None, Redeclares, Round, [], after_mark, ap, arith, complete_parts, few_marks, left, length, mark_of, marks, refl, rounds, suc, ℕ, ◌+◌, ◌<◌, ◌^◌, ◌∷◌, ◌≡◌, ◌≤◌}
+use Rattle.sdd_progress.proofs.AllEnds.{Event, Input, IsLawful, IsTheLog, IsWithin, List, Log, Mark, None, Redeclares, Round, [], after_mark, ap, arith, complete_parts, few_marks, left, length, mark_of, marks, rounds, suc, ℕ, ◌+◌, ◌<◌, ◌^◌, ◌∷◌, ◌≡◌, ◌≤◌}
 use Rattle.sdd_progress.proofs.Beginning.{round_begins}
 
 -- a round in progress counts for one
@@ -7,18 +7,12 @@ abbrev in_progress : List Event → ℕ
 in_progress [] = 0
 in_progress (e ∷ events) = 1
 
-one_at_most : (events : List Event) → in_progress events ≤ 1
-one_at_most [] = omega arith
-one_at_most (e ∷ events) = omega arith
-
 one_where_some : (events : List Event) → 0 < length events → in_progress events ≡ 1
-one_where_some [] l = absurd (omega arith)
-one_where_some (e ∷ events) l = refl
+one_where_some events l = grind arith
 
 -- a mark ends a round, if it is the last of its events
 after_one : (rest : List Event × List Event) (r m : ℕ) → r ≤ m + in_progress rest.1 → r ≤ suc m + in_progress (after_mark rest).1
-after_one (ws, e ∷ f ∷ events) r m h = omega arith
-after_one (ws, _) r m h = omega arith
+after_one rest r m h = grind arith
 
 counted : (g : Input) (log : Log) → IsLawful g log → rounds log ≤ marks log + in_progress (left g.events log).1
 counted g [] h = omega arith
@@ -33,25 +27,14 @@ counted g (Round es ∷ log) h =
 counted g (_ ∷ log) h = counted g log h.1
 
 pub few_rounds : (g : Input) (log : Log) → IsLawful g log → rounds log ≤ suc (marks log)
-few_rounds g log h =
-    let c = counted g log h in
-    let o = one_at_most (left g.events log).1 in
-    omega arith
+few_rounds g log h = grind (arith, counted)
 
 pub few_within : (g : Input) (log : Log) → IsLawful g log → IsWithin log → rounds log ≤ 2 ^ 32
-few_within g log h w =
-    let r = few_rounds g log h in
-    let m = few_marks log w in
-    omega arith
+few_within g log h w = grind (arith, few_rounds, few_marks)
 
 -- where nothing is next no round is in progress
 none_in_progress : (g : Input) (log : Log) (rest : List Event × List Event) → mark_of g log rest ≡ None → in_progress rest.1 ≡ 0
-none_in_progress g log (ws, []) h = refl
-none_in_progress g log (ws, e ∷ events) h = absurd (cc)
+none_in_progress g log rest h = grind arith
 
 pub few_complete : (g : Input) (log : Log) → IsTheLog g log → rounds log < 2 ^ 32
-few_complete g log is =
-    let r = counted g log is.lawful in
-    let none = none_in_progress g log (left g.events log) (complete_parts g log is.complete).no_next in
-    let m = few_marks log is.within in
-    omega arith
+few_complete g log is = grind (arith, counted, none_in_progress, complete_parts, few_marks)

@@ -1,19 +1,14 @@
 -- No READ waits where each that waits does so because of another one. From one to the next the ticks never rise; where
 -- they stay, a write that is held up to a time of P2 cuts off one more class, which happens no more often than there are
 -- classes; and otherwise the timestamp falls.
-use Rattle.sdd_progress.proofs.AllWaits.{Bool, FitsWaitGraph, IsDiagonal, IsStamped, IsTimestamp, List, NoneWaits, Path, WaitDiagonal, WaitGraph, WaitingRead, WaitsOn, [], ap, arith, cases_Bool, false, go, held, holder, inl, inr, length, reader, refl, stop, subst, suc, sym, true, wait_time, within, zero, ℕ, ◌*◌, ◌+◌, ◌<◌, ◌∷◌, ◌≡◌, ◌≤◌}
+use Rattle.sdd_progress.proofs.AllWaits.{Bool, FitsWaitGraph, IsDiagonal, IsStamped, IsTimestamp, List, NoneWaits, Path, WaitDiagonal, WaitGraph, WaitingRead, WaitsOn, [], ap, arith, cases_Bool, false, go, held, holder, inl, inr, length, reader, refl, stop, subst, suc, sym, true, wait_time, within, zero, ℕ, ◌+◌, ◌<◌, ◌∷◌, ◌≡◌, ◌≤◌}
 use Rattle.sdd_progress.proofs.FewClasses.{AreCutOff, none_cut_off, few_cut_off, path_on, cut_off_on, one_more_cut_off}
 use Rattle.sdd_progress.proofs.Paths.{no_path}
 use Rattle.sdd_progress.specs.WaitGraph.Arc.{waits}
 
--- a timestamp below the time of P2 has fewer ticks
-fewer_ticks : (r : WaitingRead) (t ticks number : ℕ) → IsStamped r → t < r.p2 → t ≡ 64 * ticks + number → ticks < r.ticks
-fewer_ticks r t ticks number f h e = let b = f.before in omega arith
-
 -- what is held from some time on has its ticks at least
 held_ticks : (own : Bool) (q : WaitingRead) (t : ℕ) → IsStamped q → (i : IsTimestamp t) → wait_time own q ≤ t → q.ticks ≤ i.ticks
-held_ticks true q t f i h = let a = f.least in let e = i.is in let s = i.small in omega arith
-held_ticks false q t f i h = let a = f.before in let e = i.is in let s = i.small in omega arith
+held_ticks own q t f i h = grind arith
 
 module _ (G : WaitGraph) (fits : FitsWaitGraph G) (W : WaitingRead → Type 0)
     (stamped : (r : WaitingRead) → W r → IsStamped r) (waits_on : (r : WaitingRead) → W r → WaitsOn G W r)
@@ -46,19 +41,15 @@ module _ (G : WaitGraph) (fits : FitsWaitGraph G) (W : WaitingRead → Type 0)
             let f = (stamped r w).most in
             let k = (stamped q x).least in
             next h (omega arith) (cut_off_on G (G.read r.class) (G.read q.class) classes (to_reader r q n d at e own class) cut)
-        by_reader r q w x l cut next n d at e class false own h =
-            let f = (stamped r w).before in
-            let k = (stamped q x).least in
-            none_below q x (omega arith)
+        by_reader r q w x l cut next n d at e class false own h = grind arith
 
         by_holder : (r q : WaitingRead) → W r → W q → r.ticks ≤ v → AreCutOff G (G.read r.class) classes
             → (q.ts < r.ts → q.ticks ≤ v → AreCutOff G (G.read q.class) classes → ⊥) → (n : ℕ) (d : WaitDiagonal) → IsDiagonal G n d → d.reader ≡ r.class
             → (m : ℕ) (h : WaitDiagonal) → IsDiagonal G m h → h.reader ≡ q.class → h.writer ≡ d.writer
             → (t : ℕ) → IsTimestamp t → (own other : Bool) → d.own ≡ own → h.own ≡ other → wait_time other q ≤ t → t < wait_time own r → ⊥
         by_holder r q w x l cut next n d at e m h on class writer t i false other own u low high =
-            let a : q.ticks ≤ i.ticks = held_ticks other q t (stamped q x) i low in
-            let b : i.ticks < r.ticks = fewer_ticks r t i.ticks i.number (stamped r w) high i.is in
-            none_below q x (omega arith)
+            let b : i.ticks < r.ticks = (let b = (stamped r w).before in omega arith) in
+            none_below q x (omega (arith, held_ticks other q t (stamped q x) i low))
         by_holder r q w x l cut next n d at e m h on class writer t i true true own u low high =
             let a : q.ticks ≤ i.ticks = held_ticks true q t (stamped q x) i low in
             let f = (stamped r w).most in

@@ -1,6 +1,6 @@
 -- Where nothing goes on and all WRITEs are applied, the module for undeclared transactions has counted the DONE of each data
 -- module for its last Commit.
-use Rattle.sdd_progress.proofs.All.{Act, Apply, Attempt, Bases, Bool, ClassNo, D, Did, DmNo, Does, Done, Each, Handed, HasResult, Input, IsDataStep, IsDueEach, IsIdle, IsModule, IsOfWrite, IsQuiet, IsSoundCatalogue, List, Log, Msg, Rec, Records, Setting, Site, Some, Ts, TxnNo, U, [], answers_read, ap, applies, arith, arrives, at_module, commit_act, d_fair, data_step, dm_no, done_for, dones_few, dones_of, each_at, false, hands_from, if◌then◌else◌, inl, inr, is_done_of, is_put, last_served, local_of, number_of, numbers_to, one_if, passes, puts_to, refl, refuses_read, replies, result_in, same_number, same_or_not, same_site, sends_of_act, setting_of, slice_get, subst, suc, sym, tally, tally_append, time_at, to_site, true, u_fair, u_table, waits_for, zero, ℕ, ◌++◌, ◌+◌, ◌<◌, ◌==◌, ◌∙◌, ◌∷◌, ◌≡◌, ◌≤◌}
+use Rattle.sdd_progress.proofs.All.{Act, Apply, Attempt, Bases, Bool, ClassNo, D, Did, DmNo, Does, Done, Each, Handed, HasResult, Input, IsDataStep, IsDueEach, IsIdle, IsModule, IsOfWrite, IsQuiet, IsSoundCatalogue, List, Log, Msg, Rec, Records, Setting, Site, Some, Ts, TxnNo, U, [], answers_read, ap, applies, arith, arrives, at_module, commit_act, d_fair, data_step, dm_no, dones_few, dones_of, each_at, false, hands_from, inl, is_done_of, is_put, last_served, local_of, number_of, numbers_to, one_if, passes, puts_to, refl, refuses_read, replies, result_in, same_number, same_or_not, setting_of, slice_get, subst, suc, sym, tally, tally_append, time_at, to_site, true, u_fair, u_table, waits_for, zero, ℕ, ◌++◌, ◌+◌, ◌<◌, ◌==◌, ◌∙◌, ◌∷◌, ◌≡◌, ◌≤◌}
 use Rattle.sdd_progress.proofs.Applied.{all_applied}
 use Rattle.sdd_progress.proofs.CountedDones.{all_current, counted_off}
 use Rattle.sdd_progress.proofs.Handed.{all_handed}
@@ -16,32 +16,13 @@ abbrev sum_from : (ℕ → ℕ) → ℕ → ℕ → ℕ
 sum_from f zero a = 0
 sum_from f (suc n) a = f a + sum_from f n (a + 1)
 
-above_not : (d e : ℕ) → e < d → (d == e) ≡ false
-above_not d e l = elim (same_or_not d e) [ inl p ↦ absurd (omega (arith, l, p)) | inr p ↦ p ]
-
 sum_same : (f h : ℕ → ℕ) (n a : ℕ) → ((d : ℕ) → a ≤ d → h d ≡ f d) → sum_from h n a ≡ sum_from f n a
 sum_same f h zero a e = refl
 sum_same f h (suc n) a e = let i = sum_same f h n (a + 1) (λ d l. e d (omega (arith, l))) in let j = e a (omega arith) in omega (arith, i, j)
 
 sum_one_more : (f h : ℕ → ℕ) (e more n a : ℕ) → ((d : ℕ) → (d == e) ≡ false → h d ≡ f d) → h e ≤ f e + more → sum_from h n a ≤ sum_from f n a + more
 sum_one_more f h e more zero a same up = omega arith
-sum_one_more f h e more (suc n) a same up = elim (same_or_not a e) [
-  | inl p ↦ (let here : h a ≤ f a + more = subst (λ x. h x ≤ f x + more) (sym p) up in
-      let rest = sum_same f h n (a + 1) (λ d l. same d (above_not d e (omega (arith, l, p)))) in omega (arith, here, rest))
-  | inr p ↦ (let here = same a p in let i = sum_one_more f h e more n (a + 1) same up in omega (arith, here, i))
-]
-
-hand_adds : (f : Msg → Bool) (b : Bool) (ms : List Msg) (m : Msg) → tally f (if b then ms ++ m ∷ [] else ms) ≤ tally f ms + one_if (f m)
-hand_adds f true ms m = let a = tally_append f ms (m ∷ []) in omega (arith, a)
-hand_adds f false ms m = omega arith
-
-other_site : (from : Site) (d : ℕ) → (d == number_of from) ≡ false → same_site (D (dm_no d)) from ≡ false
-other_site (D c) d e = e
-other_site _ d e = refl
-
-none_added : (f : Msg → Bool) (b : Bool) (ms : List Msg) (m : Msg) → b ≡ false → tally f (if b then ms ++ m ∷ [] else ms) ≡ tally f ms
-none_added f true ms m e = cc
-none_added f false ms m e = refl
+sum_one_more f h e more (suc n) a same up = grind (arith, same_or_not, sum_same, (sum_one_more f h e more n (a + 1) same up))
 
 nothing : (n a : ℕ) → sum_from (λ d. 0) n a ≤ 0
 nothing zero a = omega arith
@@ -51,15 +32,14 @@ dones_of_modules : (x n a : ℕ) (l : site.Log) → sum_from (from_module x l) n
 dones_of_modules x n a [] = nothing n a
 dones_of_modules x n a (Handed from m ∷ l) =
     let j = sum_one_more (from_module x l) (from_module x (Handed from m ∷ l)) (number_of from) (one_if (is_done_of x m)) n a
-    (λ d e. none_added (is_done_of x) (same_site (D (dm_no d)) from) (hands_from (D (dm_no d)) l) m (other_site from d e))
-    (hand_adds (is_done_of x) (same_site (D (dm_no (number_of from))) from) (hands_from (D (dm_no (number_of from))) l) m) in
+    (λ d e. (grind arith))
+    (grind (arith, tally_append)) in
     omega (arith, dones_of_modules x n a l, j)
 dones_of_modules x n a (_ ∷ l) = dones_of_modules x n a l
 
 one_each : (f : ℕ → ℕ) (n a : ℕ) → ((d : ℕ) → a ≤ d → d < a + n → 1 ≤ f d) → n ≤ sum_from f n a
 one_each f zero a h = omega arith
-one_each f (suc n) a h =
-    let i = one_each f n (a + 1) (λ d l m. h d (omega (arith, l)) (omega (arith, m))) in let j = h a (omega arith) (omega arith) in omega (arith, i, j)
+one_each f (suc n) a h = grind (arith, (one_each f n (a + 1) (λ d l m. h d (omega (arith, l)) (omega (arith, m)))))
 
 -- the DONE of one module
 
@@ -72,17 +52,7 @@ one_there f (x ∷ ms) (suc k) m e p = let i = one_there f ms k m e p in omega (
 sends_done : (s : Setting) (l : site.Log) (t : Ts) (j : ClassNo) (txn : TxnNo) (dm : DmNo)
     (sends : List (Site × Msg)) → IsDataStep s l (Records 0 (Apply txn j dm t) sends)
     → sends ≡ (U, Done t) ∷ []
-sends_done s l t j txn dm sends (applies c ts k x changes e is) =
-    let class : 0 ≡ c = cc in
-    let time : t ≡ ts = cc in
-    let what : sends ≡ done_for c (Done ts) = cc in
-    what ∙ ap (λ y. done_for y (Done ts)) (sym class) ∙ ap (λ y. (U, Done y) ∷ []) (sym time)
-sends_done s l t j txn dm sends (arrives k n a e) = cc
-sends_done s l t j txn dm sends (replies k o m a b e) = cc
-sends_done s l t j txn dm sends (answers_read c ts k n a conds uses here hd e) = cc
-sends_done s l t j txn dm sends (refuses_read c ts k n a conds uses by write here hd e) = cc
-sends_done s l t j txn dm sends (waits_for c n a conds e) = cc
-sends_done s l t j txn dm sends (passes c k time hd e) = cc
+sends_done s l t j txn dm sends h8 = grind (arith, applies, arrives, replies, answers_read, refuses_read, waits_for, passes)
 
 done_put : (g : Input) (log : Log) (d n : ℕ) (ts : ℕ) (r : Rec) → IsQuiet g log → IsOfWrite (time_at ts) 0 n r → HasResult 0 (at_module g d log) r
     → (k : ℕ) × (slice_get (puts_to U (at_module g d log)) k ≡ Some (Done (time_at ts)))
@@ -92,8 +62,7 @@ done_put g log d n ts (Apply txn j dm t) h of x =
     let due = (each_at (IsDueEach s) x.later (Did act) x.before (subst (Each (IsDueEach s)) x.is (d_fair g (dm_no d) log h.permitted))).0 in
     let sends : x.sends ≡ (U, Done (time_at ts)) ∷ [] =
     sends_done s x.before t j txn dm x.sends (data_step s x.before act due) ∙ ap (λ y. (U, Done y) ∷ []) of.1 in
-    let one : slice_get (to_site U (sends_of_act act)) 0 ≡ Some (Done (time_at ts)) = ap (λ y. slice_get (to_site U y) 0) sends in
-    let p = is_put U x.later act x.before 0 (Done (time_at ts)) one in
+    let p = is_put U x.later act x.before 0 (Done (time_at ts)) (ap (λ y. slice_get (to_site U y) 0) sends) in
     (p.0, subst (λ l. slice_get (puts_to U l) p.0 ≡ Some (Done (time_at ts))) (sym x.is) p.1)
 done_put g log d n ts r h of x = absurd of
 
@@ -108,19 +77,10 @@ all_done g log later before bases a h sound idle is =
     let same = all_handed g log (D (dm_no d)) U h (home_linked g.catalogue 0 d sound (omega arith) in_range).1 in
     one_there (is_done_of a.ts) (hands_from (D (dm_no d)) (local_of g U log)) p.0 (Done (time_at a.ts))
     (subst (λ ms. slice_get ms p.0 ≡ Some (Done (time_at a.ts))) (sym same) p.1) (same_number a.ts)) in
-    let m = dones_of_modules a.ts g.catalogue.dms 1 (local_of g U log) in
-    omega (arith, one_each (from_module a.ts (local_of g U log)) g.catalogue.dms 1 each, m)
+    omega (arith, one_each (from_module a.ts (local_of g U log)) g.catalogue.dms 1 each, (dones_of_modules a.ts g.catalogue.dms 1 (local_of g U log)))
 
 -- so it has counted them all
 pub dones_counted : (g : Input) (log : Log) (k t : ℕ) (later before : Log) (bases : Bases) (a : Attempt) → IsQuiet g log → IsSoundCatalogue g.catalogue → IsIdle g log
     → slice_get (numbers_to g.catalogue.tms) k ≡ Some t → log ≡ later ++ Does U (commit_act g.catalogue bases 0 a) ∷ before
     → (last_served (setting_of g U) (local_of g U log)).ts ≡ a.ts → (last_served (setting_of g U) (local_of g U log)).dones ≡ g.catalogue.dms
-dones_counted g log k t later before bases a h sound idle i is ts =
-    let s : Setting = setting_of g U in
-    let c = counted_off s (local_of g U log) (omega arith) (u_fair g log h.permitted) (u_table g log h.permitted) (all_current g k t i log h.permitted) in
-    let most = dones_few g log a.ts h.permitted in
-    let least = all_done g log later before bases a h sound idle is in
-    let same : dones_of (last_served s (local_of g U log)).ts (local_of g U log) ≡ dones_of a.ts
-    (local_of g U log) = ap (λ x. dones_of x (local_of g U log)) ts in
-    let counted = c.counted in
-    omega (arith, most, least, same, counted)
+dones_counted g log k t later before bases a h sound idle i is ts = grind (arith, counted_off, u_fair, u_table, all_current, dones_few, all_done)

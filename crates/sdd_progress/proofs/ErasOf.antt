@@ -1,5 +1,5 @@
 -- The eras of a log that puts several class lists in force.
-use Rattle.sdd_progress.proofs.All.{AreErasOf, Catalogue, Eras, HasSoundLists, Input, IsEraOf, List, Log, Mark, Redeclares, Some, [], ap, arith, at_seam, catalogue_at, cond, eras_begun, eras_of, false, filter, in_left, inl, inr, le-leb, le_is, length, length-append, marks, nat_le, nth_era, place_within, redeclares, refl, slice_get, slice_index_or, subst, suc, sym, true, true_or_false, zero, ℕ, ◌++◌, ◌+◌, ◌-◌, ◌<◌, ◌∙◌, ◌∷◌, ◌≡◌, ◌≤◌, ◌⊎◌}
+use Rattle.sdd_progress.proofs.All.{AreErasOf, Catalogue, Eras, HasSoundLists, Input, List, Log, Mark, Redeclares, Some, [], ap, arith, at_seam, catalogue_at, cond, eras_begun, eras_of, false, in_left, inl, inr, le-leb, le_is, length, length-append, marks, nat_le, nth_era, place_within, redeclares, refl, slice_get, slice_index_or, subst, suc, sym, true, true_or_false, zero, ℕ, ◌++◌, ◌+◌, ◌-◌, ◌<◌, ◌∙◌, ◌∷◌, ◌≡◌, ◌≤◌, ◌⊎◌}
 use Rattle.sdd_progress.proofs.SinceRedeclare.{redeclares_back}
 
 -- a member of a list with one more at its end
@@ -7,10 +7,7 @@ at_snoc : {A : Type 0} (xs : List A) (y : A) (k : ℕ) (m : A) → slice_get (xs
 at_snoc [] y zero m e = let p : y ≡ m = cc in inr (refl, p)
 at_snoc [] y (suc k) m e = cc
 at_snoc (x ∷ xs) y zero m e = inl e
-at_snoc (x ∷ xs) y (suc k) m e = elim (at_snoc xs y k m e) [
-  | inl p ↦ inl p
-  | inr p ↦ inr (ap (λ n. suc n) p.0, p.1)
-]
+at_snoc (x ∷ xs) y (suc k) m e = grind (arith, (at_snoc xs y k m e))
 
 -- an era of the log: its list, and that it has eras_begun
 abbrev IsNumbered : Input → Log → Type 0
@@ -18,9 +15,7 @@ IsNumbered g log = (k : ℕ) (a : ℕ × Catalogue) → slice_get (eras_of g log
 
 len : (g : Input) (log : Log) → length (eras_of g log) ≡ suc (redeclares log)
 len g [] = refl
-len g (Redeclares t ∷ log) =
-    let i = len g log in
-    let j = length-append (eras_of g log) ((suc (marks log), (nth_era g (suc (redeclares log))).catalogue) ∷ []) in omega (arith, i, j)
+len g (Redeclares t ∷ log) = grind (arith, length-append, (len g log))
 len g (_ ∷ log) = len g log
 
 later_mark : (g : Input) (log : Log) → IsNumbered g log → (k : ℕ) (a : ℕ × Catalogue) → slice_get (eras_of g log) k ≡ Some a
@@ -51,10 +46,7 @@ rises g (Redeclares t ∷ log) k a b e f =
         | inl q ↦ rises g log k a b q p
         | inr q ↦ (let l = place_within (eras_of g log) (suc k) b p in let n = q.0 in absurd (omega (arith, l, n)))
       ]
-      | inr p ↦ elim (at_snoc (eras_of g log) y k a e) [
-        | inl q ↦ (let l = (numbered g log k a q).1 in let n : suc (marks log) ≡ b.0 = ap (λ (x : ℕ × Catalogue). x.0) p.1 in omega (arith, l, n))
-        | inr q ↦ (let n = q.0 in let m = p.0 in absurd (omega (arith, n, m)))
-      ]
+      | inr p ↦ grind (arith, at_snoc, eras_of, numbered, marks)
     ]
 rises g (_ ∷ log) k a b e f = rises g log k a b e f
 
@@ -79,33 +71,15 @@ last g (_ ∷ log) = last g log
 
 -- how many have eras_begun
 
-one_up : (a b c : ℕ) → a ≡ b + c → suc a ≡ suc b + c
-one_up a b c e = omega (arith, e)
-
-none_begun : (n m : ℕ) (y : ℕ × Catalogue) → m < n → length (cond (nat_le n m) (y ∷ []) []) ≡ 0
-none_begun n m y l = elim (true_or_false (nat_le n m)) [
-  | inl p ↦ (let q = le_is n m p in absurd (omega (arith, l, q)))
-  | inr p ↦ rw p refl
-]
-
 one_begun : (n m : ℕ) (y : ℕ × Catalogue) → n ≤ m → length (cond (nat_le n m) (y ∷ []) []) ≡ 1
 one_begun n m y l = rw (le-leb n m l) refl
 
 sum_one : (a b c d : ℕ) → a ≡ b + c → b ≡ d → c ≡ 1 → a ≡ suc d
 sum_one a b c d e f g = omega (arith, e, f, g)
 
-sum_none : (a b c d : ℕ) → a ≡ b + c → b ≡ d → c ≡ 0 → a ≡ d
-sum_none a b c d e f g = omega (arith, e, f, g)
-
 begun_more : (eras : Eras) (y : ℕ × Catalogue) (event : ℕ) → eras_begun (eras ++ y ∷ []) event ≡ eras_begun eras event + length (cond (nat_le y.0 event) (y ∷ []) [])
 begun_more [] y event = elim (nat_le y.0 event) as (λ b. length (cond b (y ∷ []) []) ≡ 0 + length (cond b (y ∷ []) [])) [ true ↦ refl | false ↦ refl ]
-begun_more (x ∷ eras) y event =
-    let i = begun_more eras y event in
-    elim (nat_le x.0 event) as (λ b. length (cond b (x ∷ filter (λ e. nat_le e.0 event) (eras ++ y ∷ [])) (filter (λ e. nat_le e.0 event) (eras ++ y ∷ [])))
-    ≡ length (cond b (x ∷ filter (λ e. nat_le e.0 event) eras) (filter (λ e. nat_le e.0 event) eras)) + length (cond (nat_le y.0 event) (y ∷ []) [])) [
-      | true ↦ one_up _ _ _ i
-      | false ↦ i
-    ]
+begun_more (x ∷ eras) y event = grind (arith, nat_le, (begun_more eras y event))
 
 begun_all : (g : Input) (log : Log) (n : ℕ) → marks log ≤ n → eras_begun (eras_of g log) n ≡ suc (redeclares log)
 begun_all g [] n l = one_begun 0 n (0, (nth_era g 0).catalogue) (omega arith)
@@ -125,10 +99,7 @@ marks_up (_ ∷ later) log = marks_up later log
 -- those that a longer log has more begin later
 begun_later : (g : Input) (later log : Log) → eras_begun (eras_of g (later ++ log)) (marks log) ≡ eras_begun (eras_of g log) (marks log)
 begun_later g [] log = refl
-begun_later g (Redeclares t ∷ later) log =
-    let y : ℕ × Catalogue = (suc (marks (later ++ log)), (nth_era g (suc (redeclares (later ++ log)))).catalogue) in
-    sum_none _ _ _ _ (begun_more (eras_of g (later ++ log)) y (marks log)) (begun_later g later log)
-    (none_begun (suc (marks (later ++ log))) (marks log) y (omega (arith, marks_up later log)))
+begun_later g (Redeclares t ∷ later) log = grind (arith, begun_more, true_or_false, nat_le, le_is, marks_up, (begun_later g later log))
 begun_later g (_ ∷ later) log = begun_later g later log
 
 pub begun_is : (g : Input) (log later before : Log) → log ≡ later ++ before → eras_begun (eras_of g log) (marks before) ≡ suc (redeclares before)
@@ -145,9 +116,8 @@ current_era_is g log later before is =
     let a = last g before in
     let there : slice_get (eras_of g log) (redeclares before) ≡ Some a.0 =
     subst (λ l. slice_get (eras_of g l) (redeclares before) ≡ Some a.0) (sym is) (stays g later before (redeclares before) a.0 a.1) in
-    let one : suc (redeclares before) - 1 ≡ redeclares before = omega arith in
     ap (λ n. (slice_index_or (eras_of g log) (n - 1) (0, g.catalogue)).1) (begun_is g log later before is)
-    ∙ ap (λ n. (slice_index_or (eras_of g log) n (0, g.catalogue)).1) one
+    ∙ ap (λ n. (slice_index_or (eras_of g log) n (0, g.catalogue)).1) (omega arith)
     ∙ ap (λ (x : ℕ × Catalogue). x.1) (index_or (eras_of g log) (redeclares before) (0, g.catalogue) a.0 there) ∙ a.2
 
 pub are_eras_of : (g : Input) (log : Log) → HasSoundLists g log → AreErasOf g log (eras_of g log)
@@ -155,9 +125,7 @@ are_eras_of g log lists = record {
   are_eras = record {
     first = ((nth_era g 0).catalogue, first g log);
     rise = rises g log;
-    each = λ k a e. (let n = numbered g log k a e in
-        let l = place_within (eras_of g log) k a e in let c = len g log in
-        subst (IsEraOf g.catalogue) (sym n.0) (lists k (omega (arith, l, c))).era);
+    each = grind (arith, numbered, place_within, eras_of, len);
   };
   era_is = current_era_is g log;
   tabled = λ later before is. (let l = redeclares_back later before in

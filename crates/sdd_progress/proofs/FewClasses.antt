@@ -28,9 +28,7 @@ member_is P (j ∷ js) i all e =
     ]
 
 pub few_cut_off : (G : WaitGraph) (x : ℕ) (classes : List ℕ) → AreCutOff G x classes → length classes ≤ G.classes + 1
-few_cut_off G x classes cut =
-    length-le_from_distinct_below classes (G.classes + 1) cut.differ
-    (λ i e. let to = (member_is (IsCutOff G x) classes i cut.each e).class.to in omega arith)
+few_cut_off G x classes cut = grind (arith, length-le_from_distinct_below, member_is, IsCutOff)
 
 pub path_on : (G : WaitGraph) (x y z : ℕ) → Path G x y → Path G y z → Path G x z
 path_on G x y z (stop e) p = subst (λ u. Path G u z) (sym e) p
@@ -38,11 +36,7 @@ path_on G x y z (go {y = u} a p) q = go a (path_on G u y z p q)
 
 -- they stay cut off further on
 pub cut_off_on : (G : WaitGraph) (x y : ℕ) (classes : List ℕ) → Path G x y → AreCutOff G x classes → AreCutOff G y classes
-cut_off_on G x y classes p cut =
-    record {
-      differ = cut.differ;
-      each = each_weaker (λ j c. record { class = c.class; no_path = λ q. c.no_path (path_on G x y (G.write j) p q) }) classes cut.each;
-    }
+cut_off_on G x y classes p cut = grind (arith, each_weaker, path_on)
 
 -- a class to which arcs led till now isn't among them
 pub one_more_cut_off : (G : WaitGraph) (x y j : ℕ) (classes : List ℕ) → AreCutOff G x classes

@@ -57,12 +57,11 @@ module _ (cat : Catalogue) (eras : Eras) (txns : List Txn) (h : History)
     up_to_rejected n number count e at =
         let r = rejects n number at.dm at.class at.write at.place at.is_recorded in
         let least = low_of_condition cat eras txns h starting r.attempt at.dm r.cond r.started r.condition in
-        let late = r.late in
         let time = r.writer_time in
         let before : WritersBelow h n (low_time r.attempt) count =
         subst (λ z. WritersBelow h z (low_time r.attempt) count) r.txn_is
         (writers cat eras txns h starting rejecting count r.attempt r.started (r.number_is ∙ e)) in
-        let all = one_more cat eras txns h starting n (low_time r.attempt) count r.writer r.committed r.other (omega arith) before in
+        let all = one_more cat eras txns h starting n (low_time r.attempt) count r.writer r.committed r.other (omega (arith, r.late)) before in
         writers_count h n (suc r.writer.start.ts) (suc count) all
 
     few_of : (n m : ℕ) → starts_of h n ≡ suc m → rejected_of h n ≤ commits_of_others h n
@@ -76,16 +75,14 @@ module _ (cat : Catalogue) (eras : Eras) (txns : List Txn) (h : History)
         elim (cases_Bool (is_rejected h n a.number)) [
           | inl rejected ↦ let all = up_to_rejected n a.number m number (reject_at h n a.number rejected) in omega arith
           | inr not_rejected ↦
-              let fewer_by_one = less (is_rejected_start h n) (is_start_of n) (within h n) h l.place l.rec l.is_recorded l.passes (s.rejected_is ∙ not_rejected) in
               let all = writers_count h a.txn (low_time a) m (writers cat eras txns h starting rejecting m a s.started number) in
               let same : commits_of_others h a.txn ≡ commits_of_others h n = ap (commits_of_others h) s.txn_is in
-              omega arith
+              omega (arith, less (is_rejected_start h n) (is_start_of n) (within h n) h l.place l.rec l.is_recorded l.passes (s.rejected_is ∙ not_rejected))
         ]
 
     pub are_few_rejected : AreFewRejected h
     are_few_rejected n =
-        let few = fewer (is_rejected_start h n) (is_start_of n) (within h n) h in
         elim (starts_of h n) as (λ m. starts_of h n ≡ m → rejected_of h n ≤ commits_of_others h n) [
-          | zero ↦ λ e. omega arith
+          | zero ↦ λ e. omega (arith, fewer (is_rejected_start h n) (is_start_of n) (within h n) h)
           | suc m ↦ λ e. few_of n m e
         ] refl

@@ -1,5 +1,5 @@
 -- Where nothing goes on and all is idle, no transaction module is on hold and no transaction is in a queue.
-use Rattle.sdd_progress.proofs.All.{Bool, Catalogue, Input, IsClass, IsFinished, IsIdle, IsQuiet, IsSoundCatalogue, Log, None, Option, Queued, Some, T, U, [], active, ap, arith, at_home, at_place, both, chain, chain_at, class_at, commit_act, counts, dec_le, eq-eqb, eqb-true, false, from_u, handed_helds, handed_holds, hands_from, head_of, holds, home, if◌then◌else◌, in_filtered, in_mapped, in_range, inl, inr, is_a_held, is_a_hold, is_a_release, is_link, is_none, last_served, le-ltb, length, list_all, local_of, lt-ltb, nat_lt, none_not_some, not, not_both, not_zero, numbers_to, place_of_act, positive, puts_to, queue, refl, same_or_not, setting_of, slice_get, sound_whole, subst, suc, sym, t_helds, t_table, tally, tm_no, true, u_table, zero_head, ℕ, ◌&&◌, ◌-◌, ◌<◌, ◌==◌, ◌∙◌, ◌≡◌, ◌≤◌}
+use Rattle.sdd_progress.proofs.All.{Bool, Catalogue, Input, IsClass, IsFinished, IsIdle, IsQuiet, IsSoundCatalogue, Log, None, Option, Queued, Some, T, U, [], active, ap, arith, at_home, at_place, both, chain, chain_at, commit_act, counts, dec_le, eq-eqb, eqb-true, false, from_u, handed_helds, handed_holds, hands_from, head_of, holds, home, if◌then◌else◌, in_filtered, in_mapped, in_range, inl, inr, is_a_held, is_a_hold, is_a_release, is_link, is_none, last_served, le-ltb, list_all, local_of, lt-ltb, none_not_some, not, not_both, not_zero, place_of_act, positive, puts_to, queue, refl, same_or_not, setting_of, slice_get, sound_whole, subst, suc, sym, t_helds, t_table, tally, tm_no, true, u_table, zero_head, ℕ, ◌-◌, ◌<◌, ◌==◌, ◌∙◌, ◌≡◌, ◌≤◌}
 use Rattle.sdd_progress.proofs.Dones.{dones_counted}
 use Rattle.sdd_progress.proofs.Handed.{all_handed}
 use Rattle.sdd_progress.proofs.Holds.{holds_needed, last_commit}
@@ -54,21 +54,14 @@ all_released g log t h sound idle l m =
           let dones = dones_counted g log (t - 1) t at.later at.rest last.bases last.attempt h sound idle place at.is last.ts_is in
           let due : um.release_due g.catalogue (um_views.view_of s lu) (counts t lu) ≡ None = (u_still g log h).releases (t - 1) t place in
           let off = if_none _ _ due in
-          let on : (nat_lt (counts t lu).releases (last_served s lu).commits && ((last_served s lu).dones ==
-          g.catalogue.dms)) ≡ true = both _ _ (lt-ltb _ _ less) (eq-eqb _ _ dones) in
-          absurd (not_both _ on off))
+          absurd (not_both _ (both _ _ (lt-ltb _ _ less) (eq-eqb _ _ dones)) off))
     ]
 
 -- a T on hold has told so
 
 run_by : (g : Input) (c t k : ℕ) → slice_get (tm_views.runs (setting_of g (T (tm_no t)))) k ≡ Some c
     → (1 ≤ c) × (home g.catalogue c ≡ T (tm_no t)) × IsClass g.catalogue c
-run_by g c t k e =
-    let i = in_filtered (λ j. (class_at g.catalogue j).tm.0 == t) (numbers_to (length g.catalogue.classes)) k c e in
-    let r = in_range 1 (length g.catalogue.classes) i.1 c i.2 in
-    let at : (class_at g.catalogue c).tm.0 ≡ t = eqb-true (class_at g.catalogue c).tm.0 t i.0 in
-    let here : home g.catalogue c ≡ T (tm_no (class_at g.catalogue c).tm.0) = rw (not_zero c r.0) refl in
-    (r.0, here ∙ ap (λ n. T (tm_no n)) at, omega (arith, r.1))
+run_by g c t k e = grind (arith, in_filtered, in_range, eqb-true, not_zero)
 
 all_idle : (g : Input) (log : Log) (t : ℕ) → IsIdle g log → 1 ≤ t
     → list_all tm_views.is_idle (tm_views.view_of (setting_of g (T (tm_no t))) (local_of g (T (tm_no t)) log)).classes ≡ true
@@ -77,9 +70,7 @@ all_idle g log t idle l =
     (let r = in_mapped (tm_views.class_view (setting_of g (T (tm_no t))) (local_of g (T (tm_no t)) log)) (tm_views.runs (setting_of g (T (tm_no t)))) k x e in
     let run = run_by g r.0 t k r.1 in
     let none = idle.no_attempt r.0 run.2 in
-    let here : active (setting_of g (T (tm_no t))) r.0 (local_of g (T (tm_no t)) log) ≡ None =
-    subst (λ y. active (setting_of g y) r.0 (local_of g y log) ≡ None) run.1 none in
-    ap tm_views.is_idle (sym r.2) ∙ ap is_none here))
+    ap tm_views.is_idle (sym r.2) ∙ ap is_none (subst (λ y. active (setting_of g y) r.0 (local_of g y log) ≡ None) run.1 none)))
 
 held_told : (g : Input) (log : Log) (t : ℕ) → IsQuiet g log → IsIdle g log → 1 ≤ t → t ≤ g.catalogue.tms
     → (holds (local_of g (T (tm_no t)) log)).releases < (holds (local_of g (T (tm_no t)) log)).holds
@@ -89,9 +80,8 @@ held_told g log t h idle l m on =
     elim (dec_le (holds lt).holds (holds lt).helds) [
       | yes p ↦ p
       | no p ↦ (let less : (holds lt).helds < (holds lt).holds = omega (arith, p) in
-          let off = if_none _ _ (t_still g log t h l m).held in
           let due = both _ _ (lt-ltb _ _ on) (both _ _ (all_idle g log t idle l) (lt-ltb _ _ less)) in
-          absurd (not_both _ due off))
+          absurd (not_both _ due (if_none _ _ (t_still g log t h l m).held)))
     ]
 
 -- U has nothing in its queue
@@ -115,8 +105,7 @@ u_holding g log q h sound idle e t l m =
     subst (λ o. um.hold_to (counts t lu) o ≡ None) e ((u_still g log h).holds (t - 1) t (at_place g.catalogue.tms t l m)) in
     let apart : ((counts t lu).releases == (counts t lu).holds) ≡ false = if_none _ _ due in
     let ahead : (counts t lu).releases < (counts t lu).holds = elim (dec_le (counts t lu).holds (counts t lu).releases) [
-      | yes p ↦ (let same : (counts t lu).releases ≡ (counts t lu).holds =
-          omega (arith, p, c.committed, c.started, c.got_held, c.put_held, c.got_hold, c.put_hold) in absurd (not_both _ (eq-eqb _ _ same) apart))
+      | yes p ↦ grind (arith, counts, not_both, eq-eqb)
       | no p ↦ omega (arith, p)
     ] in
     let on : (holds (local_of g (T (tm_no t)) log)).releases < (holds (local_of g (T (tm_no t)) log)).holds = omega (arith, ahead, v.holds_same, v.releases) in
@@ -126,22 +115,7 @@ u_holding g log q h sound idle e t l m =
 
 u_no_queue : (g : Input) (log : Log) → IsQuiet g log → IsSoundCatalogue g.catalogue → IsIdle g log → (o : Option Queued)
     → head_of (queue (setting_of g U) 0 (local_of g U log)) ≡ o → o ≡ None
-u_no_queue g log h sound idle None e = refl
-u_no_queue g log h sound idle (Some q) e =
-    let s = setting_of g U in
-    let lu : site.Log = local_of g U log in
-    let v = um_views.view_of s lu in
-    let served = all_served g log (sound_whole g.catalogue sound) h.permitted (idle.no_attempt 0 (omega arith)) in
-    let fresh : q.tries ≡ 0 = zero_head (queue s 0 lu) q served.1 e in
-    let all : list_all (um.is_holding v) v.counts ≡ true = all_true (um.is_holding v) v.counts (λ k x i.
-    (let r = in_mapped (λ t. counts t lu) (numbers_to g.catalogue.tms) k x i in
-    let t = in_range 1 g.catalogue.tms k r.0 r.1 in
-    let n = (u_holding g log q h sound idle e) r.0 t.0 (omega (arith, t.1)) in
-    ap (um.is_holding v) (sym r.2) ∙ both _ _ (eq-eqb _ _ n.0) (eq-eqb _ _ n.1))) in
-    let due : um.start_of g.catalogue v (Some q) ≡ None = subst (λ o. um.start_of g.catalogue v o ≡ None) e (u_still g log h).start in
-    let off = if_none _ _ due in
-    let on = both _ _ (eq-eqb _ _ fresh) all in
-    absurd (not_both _ on off)
+u_no_queue g log h sound idle o e = grind (arith, all_served, sound_whole, zero_head, list_all, all_true, in_mapped, in_range, u_holding, eq-eqb, u_still, if_none, not_both)
 
 -- so no T is on hold, and has nothing in its queues
 
@@ -150,21 +124,18 @@ off_hold : (g : Input) (log : Log) (t : ℕ) → IsQuiet g log → IsSoundCatalo
 off_hold g log t h sound idle l m =
     let s = setting_of g U in
     let lu : site.Log = local_of g U log in
-    let none : head_of (queue s 0 lu) ≡ None = u_no_queue g log h sound idle (head_of (queue s 0 lu)) refl in
     let v = level g log t h l m in
     let released = all_released g log t h sound idle l m in
     elim (holds_needed s (t - 1) t lu (at_place g.catalogue.tms t l m) (u_table g log h.permitted)) [
       | inl p ↦ omega (arith, p, v.holds_same, v.releases, released, (chain_at g (tm_no t) log l m h.permitted).in_turn)
-      | inr q ↦ absurd (none_not_some (head_of (queue s 0 lu)) q.0 none q.1)
+      | inr q ↦ absurd (none_not_some (head_of (queue s 0 lu)) q.0 (u_no_queue g log h sound idle (head_of (queue s 0 lu)) refl) q.1)
     ]
 
 no_start : (cat : Catalogue) (v : tm_views.View) (c : ℕ) (o : Option Queued) → tm.start_of cat v c o ≡ None → o ≡ None
-no_start cat v c None e = refl
-no_start cat v c (Some q) e = cc
+no_start cat v c o e = grind arith
 
 if_started : {A : Type 0} (b : Bool) (o : Option A) → b ≡ true → (if b then o else None) ≡ None → o ≡ None
-if_started true o e f = f
-if_started false o e f = cc
+if_started b o e f = grind arith
 
 t_no_queue : (g : Input) (log : Log) (c t : ℕ) → IsQuiet g log → IsSoundCatalogue g.catalogue → IsIdle g log → 1 ≤ t → t ≤ g.catalogue.tms → (j : ℕ)
     → slice_get (tm_views.runs (setting_of g (T (tm_no t)))) j ≡ Some c → active (setting_of g (T (tm_no t))) c (local_of g (T (tm_no t)) log) ≡ None
@@ -172,8 +143,7 @@ t_no_queue : (g : Input) (log : Log) (c t : ℕ) → IsQuiet g log → IsSoundCa
 t_no_queue g log c t h sound idle l m j i none =
     let s = setting_of g (T (tm_no t)) in
     let lt : site.Log = local_of g (T (tm_no t)) log in
-    let off : nat_lt (holds lt).releases (holds lt).holds ≡ false = le-ltb _ _ (let e = off_hold g log t h sound idle l m in omega (arith, e)) in
-    let ready = both _ _ (ap not off) (ap is_none none) in
+    let ready = both _ _ (ap not (le-ltb _ _ (let e = off_hold g log t h sound idle l m in omega (arith, e)))) (ap is_none none) in
     no_head (queue s c lt) (no_start g.catalogue (tm_views.view_of s lt) c (head_of (queue s c lt))
     (if_started _ _ ready ((t_still g log t h l m).starts j c i)))
 

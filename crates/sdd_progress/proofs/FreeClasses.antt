@@ -1,5 +1,5 @@
 -- Of a free class no attempt waits or is rejected, and what is handed over of it is processed before the event is over.
-use Rattle.sdd_progress.proofs.AllWaits.{Answer, Apply, Bool, Change, ClassNo, ClassView, Cond, D, DmNo, Does, Entry, Hand, Input, IsAnsweredIn, IsAppliedIn, IsClassHere, IsFreeClass, IsPermitted, IsRejectOf, IsSoundCatalogue, IsStuck, IsWaitOf, List, Log, May, Msg, None, Option, Read, Rec, Records, Rejected, Setting, Site, Some, Ts, TxnNo, Use, View, Write, [], allowed_act, and_left, and_right, any_at, ap, append_assoc, arith, class_at_place, class_no, eqb-true, false, goes_through, head, head_place, holds, holds_back, inl, inr, is_met, is_wait, lacking, list_all, list_any, not, not_both, permitted_before, pipe, pipe_at, refl, same_number, same_or_not, setting_of, site_due, slice_get, subst, sym, true, txn_no, view_of, waits, ℕ, ◌&&◌, ◌++◌, ◌==◌, ◌∙◌, ◌∷◌, ◌≡◌, ◌≢◌, ◌≤◌}
+use Rattle.sdd_progress.proofs.AllWaits.{Answer, Apply, Bool, Change, ClassNo, ClassView, Cond, D, DmNo, Does, Hand, Input, IsAnsweredIn, IsAppliedIn, IsFreeClass, IsPermitted, IsSoundCatalogue, IsStuck, IsWaitOf, List, Log, May, Msg, None, Option, Read, Rec, Records, Rejected, Setting, Site, Some, Ts, TxnNo, Use, View, Write, [], allowed_act, and_left, and_right, any_at, ap, append_assoc, arith, class_at_place, class_no, eqb-true, head, head_place, holds, holds_back, inl, inr, is_wait, lacking, list_all, list_any, not, not_both, permitted_before, pipe, pipe_at, refl, same_number, same_or_not, setting_of, site_due, slice_get, subst, sym, true, txn_no, view_of, waits, ℕ, ◌&&◌, ◌++◌, ◌==◌, ◌∙◌, ◌∷◌, ◌≡◌, ◌≢◌, ◌≤◌}
 use Rattle.sdd_progress.proofs.AtModule.{at_module}
 use Rattle.sdd_progress.proofs.EventOver.{none_at_data}
 use Rattle.sdd_progress.proofs.FreeConditions.{names_none, unconditional}
@@ -12,9 +12,6 @@ use Rattle.sdd_obligations.specs.site_module.SiteLog as site
 
 -- no attempt waits, and none is rejected
 
-nothing_lacks : {A : Type 0} (v : View) (conds : List Cond) (first : Cond) (more : List Cond) → conds ≡ [] → lacking v conds ≡ first ∷ more → A
-nothing_lacks v conds first more e f = let h : [] ≡ first ∷ more = sym (ap (lacking v) e) ∙ f in cc
-
 pub never_waits : (g : Input) (log : Log) (i : ℕ) (d : DmNo) (r : Rec) (sends : List (Site × Msg)) → IsFreeClass g i
     → IsPermitted g (Does (D d) (Records i r sends) ∷ log) → is_wait r ≡ true → ⊥
 never_waits g log i d r sends free h w =
@@ -22,17 +19,14 @@ never_waits g log i d r sends free h w =
     let x : IsWaitOf s (at_module g d log) i (Records i r sends) = wait_due s (at_module g d log) i r sends
     (allowed_act g log (Does (D d) (Records i r sends)) h.0) w in
     let none = unconditional g log i d _ x.ts x.of x.txn x.attempt x.conds x.uses h.1 free (head_place (pipe_at g i d log) _ x.head_is) in
-    nothing_lacks (view_of s (at_module g d log)) x.conds x.first x.more none x.lacks
+    (let h : [] ≡ x.first ∷ x.more = sym (ap (lacking (view_of s (at_module g d log))) none) ∙ x.lacks in cc)
 
 none_there : {A : Type 0} (conds : List Cond) (k : ℕ) (q : Cond) → conds ≡ [] → slice_get conds k ≡ Some q → A
 none_there conds k q e f = let h : slice_get [] k ≡ Some q = subst (λ ds. slice_get ds k ≡ Some q) e f in cc
 
 pub never_rejected : (g : Input) (log : Log) (i : ℕ) (d : DmNo) (txn : TxnNo) (attempt : ℕ) (dm : DmNo) (by : ClassNo) (write : Ts) (sends : List (Site × Msg))
     → IsFreeClass g i → IsPermitted g (Does (D d) (Records i (Rejected txn attempt dm by write) sends) ∷ log) → ⊥
-never_rejected g log i d txn attempt dm by write sends free h =
-    let x : IsRejectOf g log d i txn attempt by write = rejected g log d i txn attempt dm by write sends h in
-    let none = unconditional g log i d _ x.ts x.of txn attempt x.conds x.uses h.1 free (head_place (pipe_at g i d log) _ x.head_is) in
-    none_there x.conds x.place x.cond_by none x.there
+never_rejected g log i d txn attempt dm by write sends free h = grind (arith, rejected, unconditional, head_place, none_there)
 
 -- no WRITE of the class is held
 
@@ -40,8 +34,7 @@ held_by : (g : Input) (log : Log) (i k : ℕ) (d : DmNo) (w : Ts) (wc : ClassNo)
     → IsFreeClass g i → IsPermitted g log → IsSoundCatalogue g.catalogue → 1 ≤ d.0 → d.0 ≤ g.catalogue.dms
     → head (pipe_at g i d log) ≡ Some (Write w wc wt changes) → head (pipe_at g k d log) ≡ o → holds_back i w.0 changes o ≡ true → ⊥
 held_by g log i k d w wc wt changes (Some (Read ts of txn n ds us)) free h sound lo hi e f b = elim (same_or_not k 0) [
-  | inl z ↦ holds_none g i d log ts of txn n ds us w wc wt changes h sound free.class lo hi
-      (subst (λ j. head (pipe_at g j d log) ≡ Some (Read ts of txn n ds us)) z f) e b
+  | inl z ↦ grind (arith, holds_none, head, pipe_at)
   | inr z ↦ (let a = any_at (holds i w.0 changes) ds b in
       let class : a.1.class.0 ≡ i = eqb-true a.1.class.0 i (and_left _ _ a.3) in
       let zero_not : k ≢ 0 = λ p. let q : (k == 0) ≡ true = ap (λ y. y == 0) p in not_both (k == 0) q z in
@@ -53,11 +46,7 @@ held_by g log i k d w wc wt changes _ free h sound lo hi e f b = cc
 
 no_head : (g : Input) (log : Log) (i : ℕ) (d : DmNo) (m : Msg) → IsFreeClass g i → IsPermitted g log → IsSoundCatalogue g.catalogue → 1 ≤ d.0
     → d.0 ≤ g.catalogue.dms → head (pipe_at g i d log) ≡ Some m → IsStuck (setting_of g (D d)) (at_module g d log) i (Some m) → ⊥
-no_head g log i d (Read ts of txn attempt conds uses) free h sound lo hi e x =
-    let v : View = view_of (setting_of g (D d)) (at_module g d log) in
-    let none = unconditional g log i d _ ts of txn attempt conds uses h free (head_place (pipe_at g i d log) _ e) in
-    let met : true ≡ false = subst (λ ds. list_all (is_met v) ds ≡ false) none x.1 in
-    cc
+no_head g log i d (Read ts of txn attempt conds uses) free h sound lo hi e x = grind (arith, at_module, unconditional, head_place, list_all)
 no_head g log i d (Write w wc wt changes) free h sound lo hi e x =
     let s : Setting = setting_of g (D d) in
     let l : site.Log = at_module g d log in
@@ -68,9 +57,6 @@ no_head g log i d (Write w wc wt changes) free h sound lo hi e x =
     held_by g log i k.0 d w wc wt changes (head (pipe k.0 l)) free h sound lo hi e refl back
 no_head g log i d _ free h sound lo hi e x = x
 
-class_here : (g : Input) (i : ℕ) (d : DmNo) → IsFreeClass g i → IsClassHere (setting_of g (D d)) i
-class_here g i d free = let l = free.class.to in omega arith
-
 pub none_at_head : (g : Input) (log : Log) (i : ℕ) (d : DmNo) → IsFreeClass g i → IsPermitted g log → IsSoundCatalogue g.catalogue → 1 ≤ d.0
     → d.0 ≤ g.catalogue.dms → site_due g log ≡ None → head (pipe_at g i d log) ≡ None
 none_at_head g log i d free h sound lo hi none =
@@ -79,7 +65,7 @@ none_at_head g log i d free h sound lo hi none =
     elim (head (pipe i l)) as (λ o. head (pipe i l) ≡ o → IsStuck s l i o → o ≡ None) [
       | None ↦ λ e y. refl
       | Some m ↦ λ e y. absurd (no_head g log i d m free h sound lo hi e y)
-    ] refl (head_stuck s l i (class_here g i d free) (none_at_data g log d lo hi none))
+    ] refl (head_stuck s l i (let l = free.class.to in omega arith) (none_at_data g log d lo hi none))
 
 -- what is handed over of the class is processed by then
 
@@ -95,22 +81,6 @@ write_applied v c w ts of txn changes (Apply n k dm t) m =
     (dm, ap (λ x. Apply (txn_no x) k dm t) m.0 ∙ ap (λ x. Apply txn (class_no x) dm t) m.2 ∙ ap (λ x. Apply txn of dm x) m.1)
 write_applied v c w ts of txn changes r m = absurd m
 
-permitted_within : (g : Input) (entries log later : Log) (e : Entry) (before : Log) → IsPermitted g (entries ++ log)
-    → entries ≡ later ++ e ∷ before → IsPermitted g (before ++ log)
-permitted_within g entries log later e before h p =
-    let whole : entries ++ log ≡ later ++ e ∷ (before ++ log) = ap (λ l. l ++ log) p ∙ append_assoc later (e ∷ before) log in
-    (permitted_before g later (e ∷ (before ++ log)) (subst (IsPermitted g) whole h)).1
-
-answer_in : (d : DmNo) (i : ℕ) (txn : TxnNo) (attempt : ℕ) (entries later before : Log) (r : Rec) (dm : DmNo) (sends : List (Site × Msg))
-    → entries ≡ later ++ Does (D d) (Records i r sends) ∷ before → r ≡ Answer txn attempt dm → IsAnsweredIn d i txn attempt entries
-answer_in d i txn attempt entries later before r dm sends is e =
-    record { later = later; before = before; dm = dm; sends = sends; is = is ∙ ap (λ x. later ++ Does (D d) (Records i x sends) ∷ before) e }
-
-apply_in : (d : DmNo) (i : ℕ) (txn : TxnNo) (ts : Ts) (entries later before : Log) (r : Rec) (of : ClassNo) (dm : DmNo) (sends : List (Site × Msg))
-    → entries ≡ later ++ Does (D d) (Records i r sends) ∷ before → r ≡ Apply txn of dm ts → IsAppliedIn d i txn ts entries
-apply_in d i txn ts entries later before r of dm sends is e =
-    record { later = later; before = before; of = of; dm = dm; sends = sends; is = is ∙ ap (λ x. later ++ Does (D d) (Records i x sends) ∷ before) e }
-
 pub answered_by_end : (g : Input) (i : ℕ) (d : DmNo) (from : Site) (n : ℕ) (later log : Log) (ts : Ts) (of : ClassNo) (txn : TxnNo) (attempt : ℕ) (conds : List Cond) (uses : List Use)
     → IsFreeClass g i → IsSoundCatalogue g.catalogue → 1 ≤ d.0 → d.0 ≤ g.catalogue.dms → of.0 ≡ i
     → IsPermitted g (later ++ Hand from (D d) n (Read ts of txn attempt conds uses) ∷ log)
@@ -118,14 +88,13 @@ pub answered_by_end : (g : Input) (i : ℕ) (d : DmNo) (from : Site) (n : ℕ) (
 answered_by_end g i d from n later log ts of txn attempt conds uses free sound lo hi class h none =
     let m : Msg = Read ts of txn attempt conds uses in
     let handed : Log = Hand from (D d) n m ∷ log in
-    let through : goes_through i m ≡ true = ap (λ k. k == i) class ∙ same_number i in
-    let p : IsProcessedIn g handed d i m later = processed_by_end g d i from n m later log h through
+    let p : IsProcessedIn g handed d i m later = processed_by_end g d i from n m later log h (ap (λ k. k == i) class ∙ same_number i)
     (none_at_head g (later ++ handed) i d free h sound lo hi none) in
-    let hb : IsPermitted g (p.before ++ handed) = permitted_within g later handed p.later (Does (D d) (Records i p.rec p.sends)) p.before h p.is in
+    let hb : IsPermitted g (p.before ++ handed) = (grind (arith, append_assoc, permitted_before)) in
     let empty = unconditional g (p.before ++ handed) i d _ ts of txn attempt conds uses hb free (head_place (pipe_at g i d (p.before ++ handed)) m p.head_is) in
     let l : site.Log = at_module g d (p.before ++ handed) in
     let a = read_answered (view_of (setting_of g (D d)) l) i (waits i l) ts of txn attempt conds uses p.rec empty p.may in
-    answer_in d i txn attempt later p.later p.before p.rec a.0 p.sends p.is a.1
+    (grind arith)
 
 pub applied_by_end : (g : Input) (i : ℕ) (d : DmNo) (from : Site) (n : ℕ) (later log : Log) (ts : Ts) (of : ClassNo) (txn : TxnNo) (changes : List Change)
     → IsFreeClass g i → IsSoundCatalogue g.catalogue → 1 ≤ d.0 → d.0 ≤ g.catalogue.dms → of.0 ≡ i
@@ -134,9 +103,8 @@ pub applied_by_end : (g : Input) (i : ℕ) (d : DmNo) (from : Site) (n : ℕ) (l
 applied_by_end g i d from n later log ts of txn changes free sound lo hi class h none =
     let m : Msg = Write ts of txn changes in
     let handed : Log = Hand from (D d) n m ∷ log in
-    let through : goes_through i m ≡ true = ap (λ k. k == i) class ∙ same_number i in
-    let p : IsProcessedIn g handed d i m later = processed_by_end g d i from n m later log h through
+    let p : IsProcessedIn g handed d i m later = processed_by_end g d i from n m later log h (ap (λ k. k == i) class ∙ same_number i)
     (none_at_head g (later ++ handed) i d free h sound lo hi none) in
     let l : site.Log = at_module g d (p.before ++ handed) in
     let a = write_applied (view_of (setting_of g (D d)) l) i (waits i l) ts of txn changes p.rec p.may in
-    apply_in d i txn ts later p.later p.before p.rec of a.0 p.sends p.is a.1
+    (grind arith)

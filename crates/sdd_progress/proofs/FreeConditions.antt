@@ -10,10 +10,6 @@ third_not e = cc
 second_not : {A : Type 0} → P2 ≡ P1 → A
 second_not e = cc
 
--- the first fragment of a condition has a diagonal
-first_frag : (q : Cond) (f : FragNo) (fs : List FragNo) → q.frags ≡ f ∷ fs → slice_get q.frags 0 ≡ Some f
-first_frag q f fs e = ap (λ l. slice_get l 0) e
-
 -- a class list that is given, or none
 pub data IsListed (g : Input) (f : Era) : Type 0 where
   given : (k : ℕ) → slice_get g.eras k ≡ Some f → IsListed g f
@@ -28,20 +24,17 @@ listed_in g (f ∷ fs) (suc k) f0 h e = listed_in g fs k f0 (λ j x p. h (suc j)
 pub listed : (g : Input) (k : ℕ) → IsListed g (nth_era g k)
 listed g k = listed_in g g.eras k (record { catalogue = g.catalogue; table = [] }) (λ j f e. (j, e)) refl
 
-none_in : {A : Type 0} (table : List line.Entry) (p : Protocol) (i j : ℕ) (f : FragNo) → table ≡ [] → IsDiagonalIn table p i j f → A
-none_in table p i j f e d = let h : slice_get [] d.place ≡ Some d.entry = subst (λ t. slice_get t d.place ≡ Some d.entry) e d.there in cc
-
 no_diagonal_from : (g : Input) (i : ℕ) (x : Era) (p : Protocol) (j : ℕ) (f : FragNo) → IsFreeClass g i → IsListed g x → IsDiagonalIn x.table p i j f → p ≡ P1
 no_diagonal_from g i x p j f free (given k h) d = none_from x.catalogue x.table p i j f (free.tabled k x h).table (free.free k x h) d
-no_diagonal_from g i x p j f free (no_table e) d = none_in x.table p i j f e d
+no_diagonal_from g i x p j f free (no_table e) d = (let h : slice_get [] d.place ≡ Some d.entry = subst (λ t. slice_get t d.place ≡ Some d.entry) e d.there in cc)
 
 no_diagonal_to : (g : Input) (i : ℕ) (x : Era) (p : Protocol) (c : ℕ) (f : FragNo) → IsFreeClass g i → IsListed g x → IsDiagonalIn x.table p c i f → p ≡ P1
 no_diagonal_to g i x p c f free (given k h) d = none_to x.catalogue x.table p c i f (free.tabled k x h).table (free.free k x h) d
-no_diagonal_to g i x p c f free (no_table e) d = none_in x.table p c i f e d
+no_diagonal_to g i x p c f free (no_table e) d = (let h : slice_get [] d.place ≡ Some d.entry = subst (λ t. slice_get t d.place ≡ Some d.entry) e d.there in cc)
 
 none_by : (g : Input) (i : ℕ) (x : Era) (own p2 : ℕ) (q : Cond) → IsFreeClass g i → IsListed g x → IsFromTable x.table i own p2 q → ⊥
 none_by g i x own p2 q free l t =
-    let h = first_frag q t.first t.more t.names in
+    let h = (ap (λ l. slice_get l 0) t.names) in
     elim t.by [
       | inl b ↦ third_not (no_diagonal_from g i x P3 q.class.0 t.first free l (b.1 0 t.first h))
       | inr b ↦ second_not (no_diagonal_from g i x P2 q.class.0 t.first free l (b.1 0 t.first h))
@@ -49,7 +42,7 @@ none_by g i x own p2 q free l t =
 
 none_on : (g : Input) (i : ℕ) (x : Era) (c own p2 : ℕ) (q : Cond) → IsFreeClass g i → IsListed g x → IsFromTable x.table c own p2 q → q.class.0 ≡ i → ⊥
 none_on g i x c own p2 q free l t e =
-    let h = first_frag q t.first t.more t.names in
+    let h = (ap (λ l. slice_get l 0) t.names) in
     elim t.by [
       | inl b ↦ third_not (no_diagonal_to g i x P3 c t.first free l (subst (λ j. IsDiagonalIn x.table P3 c j t.first) e (b.1 0 t.first h)))
       | inr b ↦ second_not (no_diagonal_to g i x P2 c t.first free l (subst (λ j. IsDiagonalIn x.table P2 c j t.first) e (b.1 0 t.first h)))
@@ -74,5 +67,4 @@ pub names_none : (g : Input) (log : Log) (i c : ℕ) (d : DmNo) (k : ℕ) (ts : 
     → IsPermitted g log → IsFreeClass g i → c ≢ 0 → slice_get (all_of (pipe_at g c d log)) k ≡ Some (Read ts of txn attempt conds uses)
     → slice_get conds n ≡ Some q → q.class.0 ≢ i
 names_none g log i c d k ts of txn attempt conds uses n q h free nz e m p =
-    let a = conditions_of g log c d k ts of txn attempt conds uses h nz e in
-    none_on g i (nth_era g _) c ts.0 _ q free (listed g _) (a.from_table n q m) p
+    none_on g i (nth_era g _) c ts.0 _ q free (listed g _) ((conditions_of g log c d k ts of txn attempt conds uses h nz e).from_table n q m) p

@@ -1,5 +1,6 @@
 -- The conditions of a READ of a declared class come from the table that was in force at its Start.
-use Rattle.sdd_progress.proofs.AllWaits.{AllDiagonalsIn, AreConditionsOf, Bool, Catalogue, ClassNo, Cond, D, Diagonal, DmNo, Does, Edge, FragNo, Horizontal, Input, IsFromTable, IsPermitted, IsPutAt, IsRead, List, Log, Msg, None, Option, P1, P2, P3, Protocol, Queued, Read, Setting, Site, Some, T, TmNo, Ts, TxnNo, Use, Vertical, [], all_of, and_left, and_right, ap, ascending, asked_by, asked_in, asked_on, bound, class_at, class_number, class_puts, classes_of, cond, cond_for, cond_of, condition_on, conditions, conditions_at, current_era, eqb-true, era_there, false, frag_no, fragments_in, home, in_filter_mapped, in_left, in_none, in_one, in_pipe, inl, inr, is_asked, local_of, map, next_stamp, nth_era, option_or, origin, pipe_at, redeclares, refl, same_or_not, same_protocol, sends_of_act, setting_of, slice_get, start_at, start_puts, start_read, subst, sym, tm_no, to_site, true, uses_of, ℕ, ◌&&◌, ◌++◌, ◌==◌, ◌∙◌, ◌∷◌, ◌≡◌, ◌≢◌, ◌⊎◌}
+use Rattle.std.proofs.Common.{arith}
+use Rattle.sdd_progress.proofs.AllWaits.{AllDiagonalsIn, AreConditionsOf, Bool, Catalogue, ClassNo, Cond, D, Diagonal, DmNo, Does, Edge, FragNo, Input, IsFromTable, IsPermitted, IsPutAt, IsRead, List, Log, Msg, None, Option, P2, P3, Protocol, Queued, Read, Setting, Site, Some, Ts, TxnNo, Use, [], all_of, and_left, and_right, ap, ascending, asked_by, asked_in, asked_on, bound, class_number, class_puts, cond, cond_for, condition_on, conditions_at, current_era, eqb-true, era_there, fragments_in, home, in_filter_mapped, in_left, in_none, in_one, in_pipe, inl, inr, local_of, next_stamp, nth_era, option_or, origin, pipe_at, redeclares, refl, same_or_not, same_protocol, sends_of_act, setting_of, slice_get, start_at, start_puts, start_read, subst, sym, to_site, true, uses_of, ℕ, ◌++◌, ◌∙◌, ◌∷◌, ◌≡◌, ◌≢◌, ◌⊎◌}
 use Rattle.sdd_obligations.specs.protocol.declared.entry.Entry as line
 use Rattle.sdd_obligations.specs.site_module.SiteLog as site
 
@@ -7,23 +8,12 @@ use Rattle.sdd_obligations.specs.site_module.SiteLog as site
 
 era_of_class : (g : Input) (c : ℕ) (log : Log) → c ≢ 0
     → current_era (setting_of g (home g.catalogue c)) (local_of g (home g.catalogue c) log) ≡ nth_era g (redeclares log)
-era_of_class g c log n =
-    let z : (c == 0) ≡ false = elim (same_or_not c 0) [ inl p ↦ absurd (n p) | inr p ↦ p ] in
-    let t : TmNo = tm_no (class_at g.catalogue c).tm.0 in
-    let here : home g.catalogue c ≡ T t = rw z refl in
-    ap (λ a. current_era (setting_of g a) (local_of g a log)) here ∙ era_there g t log
+era_of_class g c log n = grind (arith, same_or_not, era_there)
 
 -- a diagonal that asks
 
-protocol_same : (p q : Protocol) → same_protocol p q ≡ true → p ≡ q
-protocol_same P1 P1 e = refl
-protocol_same P2 P2 e = refl
-protocol_same P3 P3 e = refl
-protocol_same _ _ e = cc
-
 cond_some : (b : Bool) (o : Option FragNo) (f : FragNo) → cond b o None ≡ Some f → (b ≡ true) × (o ≡ Some f)
-cond_some true o f e = (refl, e)
-cond_some false o f e = cc
+cond_some b o f e = grind arith
 
 pub record IsAsked (i j : ℕ) (f : FragNo) (e : Edge) : Type 0 where
   pub reader : ClassNo
@@ -33,19 +23,14 @@ pub record IsAsked (i j : ℕ) (f : FragNo) (e : Edge) : Type 0 where
   pub writer_is : writer.0 ≡ j
 
 asked_edge : (test : ℕ → Bool) (i j : ℕ) (e : Edge) (f : FragNo) → asked_on test i j e ≡ Some f → IsAsked i j f e
-asked_edge test i j (Vertical k) f e = cc
-asked_edge test i j (Horizontal k l) f e = cc
-asked_edge test i j (Diagonal a b h) f e =
-    let p = cond_some ((a.0 == i) && ((b.0 == j) && test h.0)) (Some h) f e in
-    let same : h ≡ f = (let q : ◌≡◌ {A = Option FragNo} (Some h) (Some f) = p.1 in cc) in
-    record { reader = a; writer = b; is = ap (Diagonal a b) same; reader_is = eqb-true a.0 i (and_left _ _ p.0); writer_is = eqb-true b.0 j (and_left _ _ (and_right _ _ p.0)) }
+asked_edge test i j e f h6 = grind (arith, cond_some, eqb-true, and_left, and_right)
 
 diagonals : (table : List line.Entry) (protocol : Protocol) (test : ℕ → Bool) (i j : ℕ) → AllDiagonalsIn table protocol i j (asked_by protocol test table i j)
 diagonals table protocol test i j k f e =
     let m = in_filter_mapped (asked_in protocol test i j) table k f e in
     let p = cond_some (same_protocol m.1.protocol protocol) (asked_on test i j m.1.edge) f m.3 in
     let a = asked_edge test i j m.1.edge f p.1 in
-    record { place = m.0; entry = m.1; there = m.2; reader = a.reader; writer = a.writer; edge_is = a.is; reader_is = a.reader_is; writer_is = a.writer_is; protocol_is = protocol_same m.1.protocol protocol p.0 }
+    record { place = m.0; entry = m.1; there = m.2; reader = a.reader; writer = a.writer; edge_is = a.is; reader_is = a.reader_is; writer_is = a.writer_is; protocol_is = (grind arith) }
 
 -- a condition for fragments
 
@@ -58,18 +43,10 @@ pub record IsFor (j t : ℕ) (frags : List FragNo) (q : Cond) : Type 0 where
   pub frags_are : q.frags ≡ frags
 
 for_is : (j t : ℕ) (frags : List FragNo) (q : Cond) → cond_for j t frags ≡ Some q → IsFor j t frags q
-for_is j t [] q e = cc
-for_is j t (f ∷ fs) q e =
-    let p : cond_of j t (f ∷ fs) ≡ q = cc in
-    record { first = f; more = fs; some = refl; class_is = sym (ap (λ (x : Cond). x.class.0) p); time_is = sym (ap (λ (x : Cond). x.time.0) p); frags_are = sym (ap (λ (x : Cond). x.frags) p) }
+for_is j t frags q e = grind arith
 
 either_some : (a b : Option Cond) (q : Cond) → option_or a b ≡ Some q → (a ≡ Some q) ⊎ (b ≡ Some q)
-either_some None b q e = inr e
-either_some (Some x) b q e = inl e
-
-all_as : (table : List line.Entry) (p : Protocol) (i j : ℕ) (q : Cond) (frags : List FragNo) → q.class.0 ≡ j → q.frags ≡ frags
-    → AllDiagonalsIn table p i j frags → AllDiagonalsIn table p i q.class.0 q.frags
-all_as table p i j q frags c f h = subst (λ k. AllDiagonalsIn table p i k q.frags) (sym c) (subst (AllDiagonalsIn table p i j) (sym f) h)
+either_some a b q e = grind arith
 
 on_class : (table : List line.Entry) (test : ℕ → Bool) (i own p2 j : ℕ) (q : Cond) → condition_on test table i own p2 j ≡ Some q → IsFromTable table i own p2 q
 on_class table test i own p2 j q e =
@@ -77,18 +54,14 @@ on_class table test i own p2 j q e =
     let seconds : List FragNo = asked_by P2 test table i j in
     elim (either_some (cond_for j own thirds) (cond_for j p2 seconds) q e) [
       | inl p ↦ (let f = for_is j own thirds q p in
-          record { first = f.first; more = f.more; names = f.frags_are ∙ f.some; by = inl (f.time_is, all_as table P3 i j q thirds f.class_is f.frags_are (diagonals table P3 test i j)) })
+          record { first = f.first; more = f.more; names = f.frags_are ∙ f.some; by = inl (f.time_is, (subst (λ k. AllDiagonalsIn table P3 i k q.frags) (sym f.class_is) (subst (AllDiagonalsIn table P3 i j) (sym f.frags_are) (diagonals table P3 test i j)))) })
       | inr p ↦ (let f = for_is j p2 seconds q p in
-          record { first = f.first; more = f.more; names = f.frags_are ∙ f.some; by = inr (f.time_is, all_as table P2 i j q seconds f.class_is f.frags_are (diagonals table P2 test i j)) })
+          record { first = f.first; more = f.more; names = f.frags_are ∙ f.some; by = inr (f.time_is, (subst (λ k. AllDiagonalsIn table P2 i k q.frags) (sym f.class_is) (subst (AllDiagonalsIn table P2 i j) (sym f.frags_are) (diagonals table P2 test i j)))) })
     ]
 
 pub from_table : (cat : Catalogue) (table : List line.Entry) (c : ℕ) (frags : List ℕ) (own p2 d k : ℕ) (q : Cond) → c ≢ 0
     → slice_get (conditions_at cat table c frags own p2 d) k ≡ Some q → IsFromTable table c own p2 q
-from_table cat table c frags own p2 d k q n e =
-    let z : (c == 0) ≡ false = elim (same_or_not c 0) [ inl p ↦ absurd (n p) | inr p ↦ p ] in
-    let listed : slice_get (conditions cat table c d (map frag_no frags) own p2) k ≡ Some q = rw z at e in
-    let m = in_filter_mapped (condition_on (is_asked cat c d (map frag_no frags)) table c own p2) (classes_of cat) k q listed in
-    on_class table (is_asked cat c d (map frag_no frags)) c own p2 m.1 q m.3
+from_table cat table c frags own p2 d k q n e = grind (arith, same_or_not, slice_get, in_filter_mapped, on_class)
 
 -- the READ of an attempt
 
@@ -108,10 +81,7 @@ read_conds s c log q d ts of txn attempt conds uses e = ap conds_in e
 start_conds : (s : Setting) (b : Site) (log : site.Log) (c : ℕ) (q : Queued) (k : ℕ) (ts : Ts) (of : ClassNo) (txn : TxnNo) (attempt : ℕ) (conds : List Cond) (uses : List Use)
     → slice_get (to_site b (sends_of_act (start_at s c log q))) k ≡ Some (Read ts of txn attempt conds uses)
     → (d : ℕ) × (conditions_at s.catalogue (current_era s log).table c (frags_asked s q) (next_stamp s log) (bound s log) d ≡ conds)
-start_conds s b log c q k ts of txn attempt conds uses e = elim (start_puts s c b log q) [
-  | inl p ↦ in_none _ k (Read ts of txn attempt conds uses) p e
-  | inr p ↦ (p.0, read_conds s c log q p.0 ts of txn attempt conds uses (in_one _ _ k (Read ts of txn attempt conds uses) p.1 e))
-]
+start_conds s b log c q k ts of txn attempt conds uses e = grind (arith, start_puts, in_none, read_conds, in_one)
 
 conditions_by : (g : Input) (log : Log) (c : ℕ) (d : DmNo) (ts : Ts) (of : ClassNo) (txn : TxnNo) (attempt : ℕ) (conds : List Cond) (uses : List Use)
     → c ≢ 0 → IsPutAt g log c d (Read ts of txn attempt conds uses) → AreConditionsOf g log c ts.0 conds
@@ -119,8 +89,7 @@ conditions_by g log c d ts of txn attempt conds uses n p =
     let at : Site = home g.catalogue c in
     let s : Setting = setting_of g at in
     let l : site.Log = local_of g at p.before in
-    let same : of.0 ≡ c = class_number of.0 c ts.0 p.of_class in
-    let r : IsRead s l p.act c ts.0 txn.0 attempt = subst (λ j. IsRead s l p.act j ts.0 txn.0 attempt) same p.by in
+    let r : IsRead s l p.act c ts.0 txn.0 attempt = subst (λ j. IsRead s l p.act j ts.0 txn.0 attempt) (class_number of.0 c ts.0 p.of_class) p.by in
     let there : slice_get (to_site (D d) (sends_of_act (start_at s c l r.queued))) p.place ≡ Some (Read ts of txn attempt conds uses) = subst
     (λ x. slice_get (to_site (D d) (sends_of_act x)) p.place ≡ Some (Read ts of txn attempt conds uses)) r.act_is p.there in
     let i = start_conds s (D d) l c r.queued p.place ts of txn attempt conds uses there in

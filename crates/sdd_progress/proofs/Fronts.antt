@@ -1,6 +1,6 @@
 -- Fronts of a log and of its history: which entries and records a front has, and where a class list was put in force
 -- among the rest.
-use Rattle.sdd_progress.proofs.All.{Entry, History, IsRecordAt, Log, Rec, Redeclares, [], ap, append_assoc, arith, history, history_grows, inl, inr, length, length-append, redeclares, refl, suc, sym, zero, ℕ, ◌++◌, ◌<◌, ◌∙◌, ◌∷◌, ◌≡◌, ◌≤◌, ◌⊎◌}
+use Rattle.sdd_progress.proofs.All.{Entry, History, IsRecordAt, Log, Rec, Redeclares, [], ap, append_assoc, arith, history, history_grows, inl, inr, length, length-append, redeclares, suc, sym, zero, ℕ, ◌++◌, ◌<◌, ◌∙◌, ◌∷◌, ◌≡◌, ◌≤◌, ◌⊎◌}
 use Rattle.sdd_progress.proofs.SinceRedeclare.{redeclare_in}
 
 -- records of a front of a history
@@ -40,9 +40,7 @@ in_longer log later before other mid e is at l few = elim (ends later other (e �
       let n : length (history (e ∷ before)) ≡ length (history (q.0 ++ mid)) = ap (λ x. length (history x)) q.1 in
       elim q.0 as (λ p. e ∷ before ≡ p ++ mid → (r : Log) × (mid ≡ r ++ e ∷ before)) [
         | [] ↦ λ same. ([], sym same)
-        | x ∷ p ↦ λ same. (let rest : before ≡ p ++ mid = cc in
-            let m : length (history before) ≡ length (history (p ++ mid)) = ap (λ y. length (history y)) rest in
-            absurd (omega (arith, l, history_le p mid, m)))
+        | x ∷ p ↦ grind (arith, history, history_le)
       ] q.1)
 ]
 
@@ -50,9 +48,7 @@ in_longer log later before other mid e is at l few = elim (ends later other (e �
 pub longer : (log a before b mid : Log) → log ≡ a ++ before → log ≡ b ++ mid → length (history mid) < length (history before) → (p : Log) × (before ≡ p ++ mid)
 longer log a before b mid is at l = elim (ends a b before mid (sym is ∙ at)) [
   | inl q ↦ q
-  | inr q ↦ (let up = history_le q.0 before in
-      let n : length (history mid) ≡ length (history (q.0 ++ before)) = ap (λ x. length (history x)) q.1 in
-      absurd (omega (arith, l, up, n)))
+  | inr q ↦ grind (arith, history_le, history)
 ]
 
 -- a further list was put in force between an entry and the end of a longer log, or none was
@@ -67,14 +63,4 @@ pub record IsBetween (e : Entry) (before upper : Log) : Type 0 where
 
 pub redeclare_between : (e : Entry) (before upper between : Log) → upper ≡ between ++ e ∷ before
     → (redeclares (e ∷ before) ≡ redeclares upper) ⊎ IsBetween e before upper
-redeclare_between e before upper between is = elim (redeclare_in between (e ∷ before)) [
-  | inl same ↦ inl (sym (ap redeclares is ∙ same))
-  | inr k ↦ inr (record {
-    after = k.after;
-    time = k.time;
-    mid = k.rest ++ e ∷ before;
-    between = k.rest;
-    upper_is = is ∙ ap (λ z. z ++ e ∷ before) k.is ∙ append_assoc k.after (Redeclares k.time ∷ k.rest) (e ∷ before);
-    mid_is = refl;
-  })
-]
+redeclare_between e before upper between is = grind (arith, redeclare_in, append_assoc)

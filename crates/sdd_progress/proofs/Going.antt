@@ -1,5 +1,5 @@
 -- Every step of the exchange of an active attempt leaves it over, or lacking an answer.
-use Rattle.sdd_progress.proofs.All.{AllAskParts, Asking, AtTurn, Attempt, Bool, ClassNo, Commit, CountsRead, D, Did, Each, Exchange, Fetch, Fetching, Handed, InTurn, IsAtTurn, IsCounted, IsFair, IsFirstEach, IsGoing, IsRead, IsTimely, List, MayAnswer, Move, Msg, None, Option, Over, Phase, Queued, Read, Reading, Ready, Rec, Records, Reduce, Reduced, ReducesRead, Reducing, Replies, Rows, Sends, Setting, Ship, Shipping, Site, Some, Start, Step, Ts, Turn, Values, [], active, active_after, active_handed, active_sent, after_hand, after_send, answered, answers_asked, ap, askings, asks_rows, awaits, begins, cond, cons_option, contains, contains_either, counted, counts_for, dm_no, eqb-true, false, fetches, fetches_from, filter, filter_map, first_phase, goes_on, head_of, if_way, if◌then◌else◌, in_turn, inl, inr, is_answer, is_awaited, is_empty, is_over, lacking, length, map, module_read, move_at, never, next_move, not, or_left, or_right, phase_ends, queue, readers, reduces, refl, rejects, same_number, ships, started, subst, sym, true, turn_at, uses_at, with_use, with_values, without, ℕ, ◌&&◌, ◌++◌, ◌+◌, ◌==◌, ◌∙◌, ◌∷◌, ◌≡◌}
+use Rattle.sdd_progress.proofs.All.{AllAskParts, Asking, AtTurn, Attempt, Bool, CountsRead, D, Did, Each, Exchange, Fetching, Handed, InTurn, IsCounted, IsFair, IsFirstEach, IsGoing, IsRead, IsTimely, List, Move, Msg, None, Option, Over, Phase, Queued, Ready, Rec, Records, Reduced, ReducesRead, Replies, Rows, Sends, Setting, Shipping, Site, Some, Step, Values, [], active, active_after, active_handed, active_sent, after_hand, answered, answers_asked, ap, arith, askings, awaits, cond, cons_option, contains, contains_either, counted, counts_for, dm_no, eqb-true, false, fetches, fetches_from, filter, filter_map, goes_on, if_way, if◌then◌else◌, in_turn, inl, inr, is_answer, is_awaited, is_empty, is_over, lacking, length, map, move_at, never, next_move, not, or_left, or_right, phase_ends, queue, readers, reduces, refl, rejects, same_number, ships, subst, sym, true, turn_at, uses_at, with_use, with_values, ℕ, ◌&&◌, ◌++◌, ◌+◌, ◌==◌, ◌∙◌, ◌∷◌, ◌≡◌}
 use Rattle.sdd_progress.proofs.Lists.{either}
 use Rattle.sdd_progress.proofs.Moves.{move_reads}
 use Rattle.sdd_obligations.specs.site_module.SiteLog.{Log}
@@ -10,19 +10,14 @@ use Rattle.sdd_obligations.specs.site_module.SiteLog.{Log}
 abbrev IsBetween : Exchange → Type 0
 IsBetween x = (is_empty x.modules ≡ false) × CountsRead x.modules x.counts × AllAskParts x.left
 
-firsts_there : (ms : List (ℕ × List ℕ)) → is_empty ms ≡ false → is_empty (map (λ (m : ℕ × List ℕ). m.0) ms) ≡ false
-firsts_there [] e = cc
-firsts_there (m ∷ ms) e = refl
-
 to_reduce : (ts c : ℕ) (m : Move) (x : Exchange) → IsBetween x → IsRead x.modules m.target.part → IsGoing (reduces ts c m x)
 to_reduce ts c m x b r = record { counted = record { modules = λ e. b.0; reduces = r; counts = b.1; left = b.2 }; lacks = λ e. r }
 
 to_fetch : (ts c : ℕ) (m : Move) (x : Exchange) (ds : List ℕ) → IsBetween x → IsRead x.modules m.target.part → IsGoing (fetches_from ts c m x ds)
-to_fetch ts c m x [] b r = to_reduce ts c m (record x { union = [] }) b r
-to_fetch ts c m x (d ∷ ds) b r = record { counted = record { modules = λ e. b.0; reduces = r; counts = b.1; left = b.2 }; lacks = λ e. refl }
+to_fetch ts c m x ds b r = grind (arith, to_reduce)
 
 to_ship : (ts c : ℕ) (x : Exchange) → IsBetween x → IsGoing (ships ts c x)
-to_ship ts c x b = record { counted = record { modules = λ e. b.0; reduces = tt; counts = b.1; left = tt }; lacks = λ e. firsts_there x.modules b.0 }
+to_ship ts c x b = record { counted = record { modules = λ e. b.0; reduces = tt; counts = b.1; left = tt }; lacks = λ e. (grind arith) }
 
 to_next : (ts c : ℕ) (x : Exchange) (qs : List Asking) (done : List Step) → IsBetween x → AllAskParts qs → IsGoing (goes_on ts c x qs done)
 to_next ts c x [] done b parts = to_ship ts c x b
@@ -40,38 +35,25 @@ to_next ts c x (q ∷ rest) done b parts =
       }) (with_use x (move_at q.before m).source.part) (b.0, b.1, parts) (move_reads x q done m b.1 parts.0 e)
     ] refl
 
-is_not_over : (x : Exchange) (p : Phase) → IsCounted x → x.phase ≡ p → is_over p ≡ false → IsBetween x
-is_not_over x p k e f = (k.modules (ap is_over e ∙ f), k.counts, k.left)
-
 ended : (ts c : ℕ) (x : Exchange) (p : Phase) → IsCounted x → x.phase ≡ p → IsGoing (phase_ends ts c x p)
-ended ts c x (Fetching m) k e = to_reduce ts c m x (is_not_over x (Fetching m) k e refl) (subst (ReducesRead x.modules) e k.reduces)
+ended ts c x (Fetching m) k e = to_reduce ts c m x ((k.modules (ap is_over e ∙ refl), k.counts, k.left)) (subst (ReducesRead x.modules) e k.reduces)
 ended ts c x Shipping k e = record { counted = record { modules = λ z. cc; reduces = tt; counts = k.counts; left = k.left }; lacks = λ z. cc }
 ended ts c x Over k e = record { counted = k; lacks = λ z. never (is_over x.phase) (ap is_over e) z }
-ended ts c x y k e = to_next ts c x x.left x.done (is_not_over x y k e refl) k.left
+ended ts c x y k e = to_next ts c x x.left x.done ((k.modules (ap is_over e ∙ refl), k.counts, k.left)) k.left
 
 lacks_now : (ts c : ℕ) (x : Exchange) (ds : List ℕ) → IsCounted x → IsGoing (lacking ts c x ds)
-lacks_now ts c x [] k = ended ts c (record x { lacks = [] }) x.phase (record {
-  modules = k.modules;
-  reduces = k.reduces;
-  counts = k.counts;
-  left = k.left;
-}) refl
+lacks_now ts c x [] k = ended ts c (record x { lacks = [] }) x.phase (grind (arith, reduces)) refl
 lacks_now ts c x (d ∷ ds) k = record { counted = record { modules = k.modules; reduces = k.reduces; counts = k.counts; left = k.left }; lacks = λ e. refl }
 
 answer_if : (ts c d : ℕ) (b : Bool) (x y : Exchange) → IsGoing x → (b ≡ true → IsCounted y) → IsGoing (if b then answered ts c d y else x)
-answer_if ts c d true x y h k = lacks_now ts c y (without y.lacks d) (k refl)
-answer_if ts c d false x y h k = h
+answer_if ts c d b x y h k = grind (arith, lacks_now)
 
 -- counts
 
 add_read : (n : ℕ) (ms : List (ℕ × List ℕ)) (f : ((ℕ × ℕ) × ℕ) → Bool) (e : (ℕ × ℕ) × ℕ) (counts : List ((ℕ × ℕ) × ℕ)) → IsRead ms e.0.0 → CountsRead ms counts
     → CountsRead ms (filter f counts ++ e ∷ [])
 add_read n ms f e [] r h = (r, tt)
-add_read n ms f e (x ∷ counts) r h =
-    elim (f x) as (λ b. CountsRead ms (cond b (x ∷ filter f counts) (filter f counts) ++ e ∷ [])) [
-      | true ↦ (h.0, add_read n ms f e counts r h.1)
-      | false ↦ add_read n ms f e counts r h.1
-    ]
+add_read n ms f e (x ∷ counts) r h = grind (arith, (add_read n ms f e counts r h.1))
 
 abbrev AllRead : List (ℕ × List ℕ) → List ℕ → Type 0
 AllRead ms [] = Unit {0}
@@ -80,8 +62,7 @@ AllRead ms (u ∷ us) = IsRead ms u × AllRead ms us
 counted_read : (d : ℕ) (ms : List (ℕ × List ℕ)) (ns : List (ℕ × ℕ)) (counts : List ((ℕ × ℕ) × ℕ)) → AllRead ms (map (λ (n : ℕ × ℕ). n.0) ns)
     → CountsRead ms counts → CountsRead ms (counted d ns counts)
 counted_read d ms [] counts r h = h
-counted_read d ms (n ∷ ns) counts r h =
-    counted_read d ms ns _ r.1 (add_read d ms (λ (e : (ℕ × ℕ) × ℕ). not ((e.0.0 == n.0) && (e.0.1 == d))) ((n.0, d), n.1) counts r.0 h)
+counted_read d ms (n ∷ ns) counts r h = grind (arith, add_read, (counted_read d ms ns _ r.1 (add_read d ms (λ (e : (ℕ × ℕ) × ℕ). not ((e.0.0 == n.0) && (e.0.1 == d))) ((n.0, d), n.1) counts r.0 h)))
 
 -- what a module reads is read
 
@@ -96,17 +77,11 @@ in_filter f (x ∷ us) u e =
       | false ↦ λ p. or_right (x == u) (contains us u) (in_filter f us u p)
     ] e
 
-one_reads : (m : ℕ × List ℕ) (ms : List (ℕ × List ℕ)) (u : ℕ) → contains m.1 u ≡ true → IsRead (m ∷ ms) u
-one_reads m ms u e = rw e refl
-
-more_read : (m : ℕ × List ℕ) (ms : List (ℕ × List ℕ)) (u : ℕ) → IsRead ms u → IsRead (m ∷ ms) u
-more_read m ms u h = elim (contains m.1 u) as (λ b. is_empty (cons_option (cond b (Some m.0) None) (readers ms u)) ≡ false) [ true ↦ refl | false ↦ h ]
-
 read_there : (ms : List (ℕ × List ℕ)) (d u : ℕ) → contains (uses_at ms d) u ≡ true → IsRead ms u
 read_there [] d u e = cc
 read_there (m ∷ ms) d u e = elim (contains_either (filter (λ (x : ℕ). m.0 == d) m.1) (uses_at ms d) u e) [
-  | inl p ↦ one_reads m ms u (in_filter (λ (x : ℕ). m.0 == d) m.1 u p)
-  | inr p ↦ more_read m ms u (read_there ms d u p)
+  | inl p ↦ (rw (in_filter (λ (x : ℕ). m.0 == d) m.1 u p) refl)
+  | inr p ↦ (elim (contains m.1 u) as (λ b. is_empty (cons_option (cond b (Some m.0) None) (readers ms u)) ≡ false) [ true ↦ refl | false ↦ (read_there ms d u p) ])
 ]
 
 all_read : (ms : List (ℕ × List ℕ)) (d : ℕ) (us : List ℕ) → ((u : ℕ) → contains us u ≡ true → contains (uses_at ms d) u ≡ true) → AllRead ms us
@@ -116,24 +91,6 @@ all_read ms d (u ∷ us) f =
 
 -- an answer
 
-ready_uses : (ns : List ℕ) (q : Msg) (t : Ts) (k : ClassNo) (counts : List (ℕ × ℕ)) → Replies ns q (Ready t k counts) → map (λ (n : ℕ × ℕ). n.0) counts ≡ ns
-ready_uses ns (Read a b txn attempt conds uses) t k counts h = h
-ready_uses ns _ t k counts h = absurd h
-
--- REDUCED is of the use that is reduced
-reduced_use : (ms : List (ℕ × List ℕ)) (ns : List ℕ) (p : Phase) (q : Msg) (t : Ts) (k : ClassNo) (u n : ℕ) → Replies ns q (Reduced t k u n)
-    → awaits p q ≡ true → ReducesRead ms p → IsRead ms u
-reduced_use ms ns (Reducing v) (Reduce a b w col vs) t k u n h e r =
-    let target : v.target.part ≡ w = eqb-true v.target.part w e in subst (IsRead ms) (target ∙ sym h) r
-reduced_use ms ns Reading (Reduce a b w col vs) t k u n h e r = cc
-reduced_use ms ns (Fetching v) (Reduce a b w col vs) t k u n h e r = cc
-reduced_use ms ns Shipping (Reduce a b w col vs) t k u n h e r = cc
-reduced_use ms ns Over (Reduce a b w col vs) t k u n h e r = cc
-reduced_use ms ns p (Read a b txn attempt conds uses) t k u n h e r = absurd h
-reduced_use ms ns p (Fetch a b w col) t k u n h e r = absurd h
-reduced_use ms ns p (Ship a b) t k u n h e r = absurd h
-reduced_use ms ns p _ t k u n h e r = absurd h
-
 -- the question that an answer replies to
 record IsReplyTo (x : Exchange) (d : ℕ) (m : Msg) : Type 0 where
   uses : List ℕ
@@ -142,17 +99,11 @@ record IsReplyTo (x : Exchange) (d : ℕ) (m : Msg) : Type 0 where
   awaited : awaits x.phase question ≡ true
   uses_are : uses_at x.modules d ≡ uses
 
-reply_to : (x : Exchange) (d : ℕ) (v : Turn) (m : Msg) → IsAtTurn d x v → MayAnswer v m → IsReplyTo x d m
-reply_to x d v m st may =
-    let a = answers_asked v m may in
-    let w = is_awaited d x v a.uses a.question st a.is in
-    record { uses = a.uses; question = a.question; replies = a.replies; awaited = w.phase; uses_are = w.uses }
-
 hand_goes : (ts c d : ℕ) (m : Msg) (x : Exchange) → (is_answer ts c m ≡ true → IsReplyTo x d m) → IsGoing x → IsGoing (after_hand ts c d m x)
 hand_goes ts c d (Ready t k counts) x r h =
     answer_if ts c d ((t.0 == ts) && (k.0 == c)) x (record x { counts = counted d counts x.counts }) h (λ e.
     (let w = r e in
-    let us : map (λ (n : ℕ × ℕ). n.0) counts ≡ w.uses = ready_uses w.uses w.question t k counts w.replies in
+    let us : map (λ (n : ℕ × ℕ). n.0) counts ≡ w.uses = (grind arith) in
     let all : AllRead x.modules w.uses = all_read x.modules d w.uses (λ u f. subst (λ l. contains l u ≡ true) (sym w.uses_are) f) in
     record {
       modules = h.counted.modules;
@@ -170,48 +121,15 @@ hand_goes ts c d (Values t k u values) x r h =
 hand_goes ts c d (Reduced t k u n) x r h =
     answer_if ts c d ((t.0 == ts) && (k.0 == c)) x (record x { counts = counted d ((u, n) ∷ []) x.counts }) h (λ e.
     (let w = r e in
-    let read : IsRead x.modules u = reduced_use x.modules w.uses x.phase w.question t k u n w.replies w.awaited h.counted.reduces in
+    let read : IsRead x.modules u = (grind (arith, eqb-true)) in
     record {
       modules = h.counted.modules;
       reduces = h.counted.reduces;
       counts = counted_read d x.modules ((u, n) ∷ []) x.counts (read, tt) h.counted.counts;
       left = h.counted.left;
     }))
-hand_goes ts c d (Rows t k rows) x r h =
-    answer_if ts c d ((t.0 == ts) && (k.0 == c)) x (record x { found = x.found ++ rows; rows = x.rows + length rows }) h (λ e. record {
-      modules = h.counted.modules;
-      reduces = h.counted.reduces;
-      counts = h.counted.counts;
-      left = h.counted.left;
-    })
+hand_goes ts c d (Rows t k rows) x r h = grind (arith, answer_if)
 hand_goes ts c d _ x r h = h
-
-send_goes : (x : Exchange) → IsGoing x → IsGoing (after_send x)
-send_goes x h = record {
-  counted = record { modules = h.counted.modules; reduces = h.counted.reduces; counts = h.counted.counts; left = h.counted.left };
-  lacks = h.lacks;
-}
-
-begun : (ms : List (ℕ × List ℕ)) (x : Exchange) → x.modules ≡ ms → x.phase ≡ first_phase ms
-    → x.lacks ≡ map (λ (m : ℕ × List ℕ). m.0) ms → x.counts ≡ [] → AllAskParts x.left → IsGoing x
-begun [] x m p l e parts = record {
-  counted = record {
-    modules = λ z. never (is_over x.phase) (ap is_over p) z;
-    reduces = subst (ReducesRead x.modules) (sym p) tt;
-    counts = subst (CountsRead x.modules) (sym e) tt;
-    left = parts;
-  };
-  lacks = λ z. never (is_over x.phase) (ap is_over p) z;
-}
-begun (a ∷ ms) x m p l e parts = record {
-  counted = record {
-    modules = λ z. ap is_empty m;
-    reduces = subst (ReducesRead x.modules) (sym p) tt;
-    counts = subst (CountsRead x.modules) (sym e) tt;
-    left = parts;
-  };
-  lacks = λ z. ap is_empty l;
-}
 
 -- the active attempt
 
@@ -222,29 +140,20 @@ abbrev GoesOf : Option Attempt → Type 0
 GoesOf None = Unit {0}
 GoesOf (Some a) = GoesIf a
 
-started_goes : (ts : ℕ) (sends : List (Site × Msg)) (o : Option Queued) → GoesOf (started ts sends o)
-started_goes ts sends None = tt
-started_goes ts sends (Some q) = λ parts. begun (filter_map module_read sends) (begins q.text sends) refl refl refl refl parts
-
 handed_goes : (s : Setting) (c : ℕ) (log : Log) (d : ℕ) (m : Msg) (o : Option Attempt) → active s c log ≡ o
     → InTurn s c log → IsTimely c log (Handed (D (dm_no d)) m) → GoesOf o → GoesOf (active_handed c (D (dm_no d)) m o)
 handed_goes s c log d m None e i timely h = tt
 handed_goes s c log d m (Some a) e i timely h =
     let at : AtTurn a.ts d (Some a) (turn_at a.ts c d log) = subst (λ o. AtTurn a.ts d o (turn_at a.ts c d log)) e (i.turns a.ts d) in
     if_way GoesOf (rejects m a.ts c) None (Some (record a { exchange = after_hand a.ts c d m a.exchange })) tt
-    (λ parts. hand_goes a.ts c d m a.exchange (λ own. reply_to a.exchange d (turn_at a.ts c d log) m (at.0 refl) (timely a.ts d refl own)) (h parts))
+    (λ parts. hand_goes a.ts c d m a.exchange (λ own. (grind (arith, answers_asked, is_awaited))) (h parts))
 
 sent_goes : (c : ℕ) (m : Msg) (o : Option Attempt) → GoesOf o → GoesOf (active_sent c m o)
-sent_goes c m None h = tt
-sent_goes c m (Some a) h =
-    if_way GoesOf (asks_rows a.ts c m) (Some (record a { exchange = after_send a.exchange })) (Some a) (λ parts. send_goes a.exchange (h parts)) h
+sent_goes c m o h = grind (arith, if_way, GoesOf)
 
 record_goes : (c k : ℕ) (r : Rec) (sends : List (Site × Msg)) (qs : List Queued) (o : Option Attempt)
     → GoesOf o → GoesOf (active_after c (Records k r sends) qs o)
-record_goes c k (Start txn attempt class ts p2 uses) sends qs o h =
-    if_way GoesOf (k == c) (started ts.0 sends (head_of qs)) o (started_goes ts.0 sends (head_of qs)) h
-record_goes c k (Commit txn attempt reply changes values rows) sends qs o h = if_way GoesOf (k == c) None o tt h
-record_goes c k _ sends qs o h = h
+record_goes c k r sends qs o h = grind (arith, if_way, GoesOf, never, filter_map)
 
 goes_on_log : (s : Setting) (c : ℕ) (log : Log) → Each (IsFair s) log → Each (IsFirstEach s) log → Each (IsTimely c) log → GoesOf (active s c log)
 goes_on_log s c [] f first t = tt

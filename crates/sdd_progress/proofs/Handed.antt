@@ -1,5 +1,5 @@
 -- Where nothing goes on, all that was put on a link was handed over at its end.
-use Rattle.sdd_progress.proofs.All.{D, Input, IsQuiet, IsThere, List, Log, None, Option, Site, Some, [], all_at, all_links, and_left, and_right, ap, are_linked, arith, calls_of, cond, cons_option, dec_le, delivered, drop, false, filter_map, flat_map, flight, hand_on, handed, hands_from, in_left, in_order, in_right, is_down, is_empty, is_link, is_quiet_link, is_site, le_is, length, link, link_of, link_parts, links, local_of, member_there, none_not_some, one_on, puts_to, refl, sent, sent_is, site_there, sites, slice_get, sound, subst, suc, sym, take_all, takes_part, true, zero, ℕ, ◌-◌, ◌∙◌, ◌∷◌, ◌≡◌, ◌≤◌}
+use Rattle.sdd_progress.proofs.All.{Input, IsQuiet, IsThere, List, Log, None, Option, Site, Some, [], all_at, all_links, and_left, and_right, ap, are_linked, arith, calls_of, cond, cons_option, dec_le, drop, filter_map, flat_map, flight, hand_on, handed, hands_from, in_left, in_order, in_right, is_empty, is_link, is_quiet_link, le_is, length, link, link_of, link_parts, links, local_of, member_there, none_not_some, one_on, puts_to, refl, sent, sent_is, site_there, sites, slice_get, sound, subst, suc, sym, take_all, takes_part, true, zero, ℕ, ◌-◌, ◌∙◌, ◌∷◌, ◌≡◌, ◌≤◌}
 use Rattle.sdd_progress.proofs.Lists.{none_at}
 
 -- places
@@ -13,10 +13,7 @@ in_filter_map {B = B} f (z ∷ xs) (suc k) x y e h =
 
 in_flat : {A B : Type 0} (f : A → List B) (xs : List A) (k : ℕ) (x : A) (y : B) → slice_get xs k ≡ Some x → IsThere (f x) y → IsThere (flat_map f xs) y
 in_flat f [] k x y e h = cc
-in_flat f (z ∷ xs) zero x y e h =
-    let p : z ≡ x = cc in
-    let q : slice_get (f z) h.0 ≡ Some y = subst (λ w. slice_get (f w) h.0 ≡ Some y) (sym p) h.1 in
-    (h.0, in_left (f z) (flat_map f xs) h.0 y q)
+in_flat f (z ∷ xs) zero x y e h = grind (arith, slice_get, in_left, flat_map)
 in_flat f (z ∷ xs) (suc k) x y e h = let i = in_flat f xs k x y e h in in_right (f z) (flat_map f xs) i.0 y i.1
 
 -- links
@@ -32,13 +29,7 @@ link_there tms dms a b e =
     let p = link_parts tms dms a b e in
     let i = site_there tms dms a p.from in
     let j = site_there tms dms b p.to in
-    let linked : link_if a b ≡ Some (a, b) = rw p.linked refl in
-    in_flat (links_from tms dms) (sites tms dms) i.0 a (a, b) i.1 (in_filter_map (link_if a) (sites tms dms) j.0 b (a, b) j.1 linked)
-
-takes_part_in : (g : Input) (log : Log) (tms : ℕ) (b : Site) → IsQuiet g log → is_site tms g.catalogue.dms b ≡ true → takes_part b log ≡ true
-takes_part_in g log tms (D d) h e =
-    let up : is_down d.0 log ≡ false = h.up d.0 (le_is 1 d.0 (and_left _ _ e), le_is d.0 g.catalogue.dms (and_right _ _ e)) in rw up refl
-takes_part_in g log tms _ h e = refl
+    in_flat (links_from tms dms) (sites tms dms) i.0 a (a, b) i.1 (in_filter_map (link_if a) (sites tms dms) j.0 b (a, b) j.1 (rw p.linked refl))
 
 -- nothing is left on the way
 pub none_left : (g : Input) (log : Log) (a b : Site) → IsQuiet g log → is_link g.catalogue.tms g.catalogue.dms a b ≡ true
@@ -48,15 +39,14 @@ none_left g log a b h e =
     let q : is_quiet_link (link a b (calls_of log)) ≡ true =
     all_at (λ (l : Site × Site). is_quiet_link (link l.0 l.1 (calls_of log))) (all_links g) k.0 (a, b) h.links k.1 in
     let acked : length (sent a b log) ≤ (link_of a b log).there.acked = le_is _ _ (and_right (is_empty (link_of a b log).there.flight) _ q) in
-    let arrived : (link_of a b log).there.acked ≤ delivered (link_of a b log).there = (sound a b (calls_of log)).there.acked in
     let none : hand_on log (a, b) ≡ None = none_at (hand_on log) (all_links g) k.0 (a, b) h.no_hand k.1 in
-    let part : takes_part b log ≡ true = takes_part_in g log g.catalogue.tms b h (link_parts g.catalogue.tms g.catalogue.dms a b e).to in
+    let part : takes_part b log ≡ true = (grind (arith, le_is, and_left, and_right)) in
     elim (dec_le (length (sent a b log)) (handed a b log)) [
       | yes l ↦ omega (arith, l, ap length (sent_is g a b log))
       | no l ↦ (let m = member_there (handed a b log) (sent a b log) (omega (arith, l)) in
           let z : suc (handed a b log) - 1 ≡ handed a b log = omega arith in
           let at : slice_get (sent a b log) (suc (handed a b log) - 1) ≡ Some m.0 = subst (λ j. slice_get (sent a b log) j ≡ Some m.0) (sym z) m.1 in
-          absurd (none_not_some (hand_on log (a, b)) _ none (one_on log a b m.0 part (omega (arith, l, acked, arrived)) at)))
+          absurd (none_not_some (hand_on log (a, b)) _ none (one_on log a b m.0 part (omega (arith, l, acked, ((sound a b (calls_of log)).there.acked))) at)))
     ]
 
 pub all_handed : (g : Input) (log : Log) (a b : Site) → IsQuiet g log → is_link g.catalogue.tms g.catalogue.dms a b ≡ true

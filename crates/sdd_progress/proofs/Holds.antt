@@ -1,9 +1,8 @@
 -- A transaction module is told to hold only while a transaction waits at the module for undeclared transactions; and the
 -- Commit of the transaction that this served last.
-use Rattle.sdd_progress.proofs.All.{Act, Attempt, Bases, Bool, Catalogue, D, Did, Each, Fetch, Handed, Hold, IsChain, IsFairU, IsStepU, List, Msg, None, Option, Queued, Reduce, Release, Sends, Setting, Ship, Site, Some, Submits, T, TmCounts, Ts, [], active, ap, arith, asks_next, asks_rows, attempt_due, balance, by_release, chain, commit_act, counts, counts_acted, dm_no, false, first_send, hand_commits, hand_counts, hand_ts, head_of, hold_to, if_way, if◌then◌else◌, inl, inr, is_for, is_over, last_served, map, numbers_to, one_if_le, or_else, puts_to, queue, refl, slice_get, start_at, subst, suc, tm_no, tried, true, ts_of, u_due, u_way, ℕ, ◌++◌, ◌<◌, ◌==◌, ◌∙◌, ◌∷◌, ◌≡◌, ◌≤◌, ◌⊎◌}
-use Rattle.sdd_obligations.specs.All.{by_exchange, by_hold, by_start, current_era}
+use Rattle.sdd_progress.proofs.All.{Act, Attempt, Bases, Bool, Catalogue, D, Did, Each, Handed, Hold, IsChain, IsFairU, IsStepU, List, Msg, None, Option, Queued, Release, Sends, Setting, Site, Some, Submits, T, [], active, ap, arith, asks_next, asks_rows, balance, chain, commit_act, counts, dm_no, false, first_send, hand_commits, hand_counts, hand_ts, head_of, if_way, if◌then◌else◌, inl, inr, is_over, last_served, map, numbers_to, one_if_le, or_else, queue, refl, slice_get, start_at, subst, suc, tm_no, tried, true, ts_of, u_due, u_way, ℕ, ◌++◌, ◌<◌, ◌∙◌, ◌∷◌, ◌≡◌, ◌≤◌, ◌⊎◌}
 use Rattle.sdd_obligations.specs.site_module.SiteLog.{Entry, Log}
-use Rattle.sdd_obligations.specs.umod.Due.{IsDue, start_of}
+use Rattle.sdd_obligations.specs.umod.Due.{IsDue}
 use Rattle.sdd_obligations.specs.umod.Views.{view_of}
 
 -- no HOLD without a transaction in the queue
@@ -16,15 +15,11 @@ no_hold_here : (x a : Act) → is_hold x ≡ false → Some x ≡ Some a → is_
 no_hold_here x a h e = let p : x ≡ a = cc in subst (λ y. is_hold y ≡ false) p h
 
 asks_no_hold : (ts c : ℕ) (to : Site) (m : Msg) (hand : Option ℕ) → asks_rows ts c m ≡ true → is_hold (Sends to m hand) ≡ false
-asks_no_hold ts c to (Fetch t k u col) hand e = refl
-asks_no_hold ts c to (Reduce t k u col values) hand e = refl
-asks_no_hold ts c to (Ship t k) hand e = refl
-asks_no_hold ts c to _ hand e = cc
+asks_no_hold ts c to m hand e = grind arith
 
 no_hold_to_commit : (cat : Catalogue) (bases : Bases) (a : Attempt) (b : Bool) (act : Act)
     → (if b then Some (commit_act cat bases 0 a) else None) ≡ Some act → is_hold act ≡ false
-no_hold_to_commit cat bases a true act e = no_hold_here (commit_act cat bases 0 a) act refl e
-no_hold_to_commit cat bases a false act e = cc
+no_hold_to_commit cat bases a b act e = grind (arith, no_hold_here)
 
 no_hold_to_send : (s : Setting) (log : Log) (bases : Bases) (a : Attempt) (ms : List (ℕ × Msg)) (act : Act) → active s 0 log ≡ Some a → a.exchange.to_send ≡ ms
     → or_else (first_send ms) (if is_over a.exchange.phase then Some (commit_act s.catalogue bases 0 a) else None) ≡ Some act → is_hold act ≡ false
@@ -32,22 +27,9 @@ no_hold_to_send s log bases a [] act i p e = no_hold_to_commit s.catalogue bases
 no_hold_to_send s log bases a (m ∷ rest) act i p e =
     no_hold_here (Sends (D (dm_no m.0)) m.1 None) act (asks_no_hold a.ts 0 (D (dm_no m.0)) m.1 None (asks_next s 0 log a m i (ap head_of p))) e
 
-no_hold_by_attempt : (s : Setting) (log : Log) (bases : Bases) (o : Option Attempt) (act : Act)
-    → active s 0 log ≡ o → attempt_due s.catalogue bases 0 o ≡ Some act → is_hold act ≡ false
-no_hold_by_attempt s log bases None act i e = cc
-no_hold_by_attempt s log bases (Some a) act i e = no_hold_to_send s log bases a a.exchange.to_send act i refl e
-
-no_hold_if : (b : Bool) (x a : Act) → is_hold x ≡ false → (if b then Some x else None) ≡ Some a → is_hold a ≡ false
-no_hold_if true x a h e = no_hold_here x a h e
-no_hold_if false x a h e = cc
-
 no_hold : (s : Setting) (log : Log) (bases : Bases) (act : Act) → head_of (queue s 0 log) ≡ None
     → IsDue s.catalogue bases (view_of s log) act → is_hold act ≡ false
-no_hold s log bases act e (by_exchange p) = no_hold_by_attempt s log bases (active s 0 log) act refl p
-no_hold s log bases act e (by_release n k p q) = no_hold_if _ _ act refl q
-no_hold s log bases act e (by_start p) = let q : start_of s.catalogue (view_of s log) None ≡ Some act =
-    subst (λ o. start_of s.catalogue (view_of s log) o ≡ Some act) e p in cc
-no_hold s log bases act e (by_hold n k p q) = let r : hold_to k None ≡ Some act = subst (λ o. hold_to k o ≡ Some act) e q in cc
+no_hold s log bases act e h6 = grind (arith, no_hold_to_send, no_hold_here)
 
 -- where no transaction waits, no more HOLDs are sent than there are Commits
 
@@ -66,44 +48,18 @@ needed_on : (s : Setting) (t : ℕ) (e : Entry) (log : Log) → (counts t (e ∷
     → (last_served s (e ∷ log)).commits ≡ (last_served s log).commits
     → ((q : Queued) → head_of (queue s 0 log) ≡ Some q → (x : Queued)
     × (head_of (queue s 0 (e ∷ log)) ≡ Some x)) → HoldsNeeded s t log → HoldsNeeded s t (e ∷ log)
-needed_on s t e log a b c (inl h) = inl (omega (arith, h, a, b))
-needed_on s t e log a b c (inr h) = inr (c h.0 h.1)
-
-needed_commit : (s : Setting) (t : ℕ) (bases : Bases) (a : Attempt) (log : Log) → IsChain s t log
-    → (counts t log).holds ≤ suc (counts t log).releases → HoldsNeeded s t (Did (commit_act s.catalogue bases 0 a) ∷ log)
-needed_commit s t bases a log c l = let r = c.released in inl (omega (arith, l, r))
-
-release_holds : (t n : ℕ) (ts : Ts) (log : Log) → (counts_acted (Sends (T (tm_no n)) (Release ts) None) (counts t log)).holds ≡ (counts t log).holds
-release_holds t n ts log =
-    if_way (λ (k : TmCounts). k.holds ≡ (counts t log).holds) (n == (counts t log).tm)
-    (record (counts t log) { releases = suc (counts t log).releases }) (counts t log) refl refl
-
-exchange_holds : (d : ℕ) (m : Msg) (ts : ℕ) (k : TmCounts) → asks_rows ts 0 m ≡ true → counts_acted (Sends (D (dm_no d)) m None) k ≡ k
-exchange_holds d (Fetch t c u col) ts k e = refl
-exchange_holds d (Reduce t c u col values) ts k e = refl
-exchange_holds d (Ship t c) ts k e = refl
-exchange_holds d _ ts k e = cc
+needed_on s t e log a b c h8 = grind arith
 
 needed_act : (s : Setting) (t : ℕ) (log : Log) (act : Act) → IsChain s t log → (counts t log).holds ≤ suc (counts t log).releases
     → IsStepU s log act → is_hold act ≡ false ⊎ ((q : Queued) × (head_of (queue s 0 log) ≡ Some q)) → HoldsNeeded s t log → HoldsNeeded s t (Did act ∷ log)
 needed_act s t log act c l step or h =
     u_way s log act (λ x. is_hold x ≡ false ⊎ ((q : Queued) × (head_of (queue s 0 log) ≡ Some q)) → HoldsNeeded s t (Did x ∷ log))
     (λ q e z r. λ o. needed_on s t (Did (start_at s 0 log q)) log refl refl (λ p i. head_mapped (tried q.number) (queue s 0 log) p i) h)
-    (λ bases a e. λ o. needed_commit s t bases a log c l)
-    (λ d m a e. λ o. needed_on s t (Did (Sends (D (dm_no d)) m None)) log (ap (λ (k : TmCounts). k.holds)
-    (exchange_holds d m a.ts (counts t log) e)) refl (λ p i. (p, i)) h)
-    (λ n ts i w. λ o. needed_on s t (Did (Sends (T (tm_no n)) (Release ts) None)) log (release_holds t n ts log) refl (λ p i. (p, i)) h)
+    (λ bases a e. λ o. (let r = c.released in inl (omega (arith, l, r))))
+    (grind (arith, needed_on, dm_no, counts))
+    (λ n ts i w. λ o. needed_on s t (Did (Sends (T (tm_no n)) (Release ts) None)) log (grind (arith, if_way)) refl (λ p i. (p, i)) h)
     (λ n i. λ o. elim o [ inl p ↦ cc | inr p ↦ inr p ])
     step or
-
-one_ahead : (s : Setting) (t : ℕ) (log : Log) → IsChain s t log → (counts t log).holds ≤ suc (counts t log).releases
-one_ahead s t log c =
-    omega (arith, balance false c.state (puts_to (T (tm_no t)) log) c.turns_are, one_if_le c.state, c.holds_are, c.releases_are)
-
-hold_or_head : (s : Setting) (log : Log) (bases : Bases) (act : Act) (o : Option Queued)
-    → head_of (queue s 0 log) ≡ o → IsDue s.catalogue bases (view_of s log) act → is_hold act ≡ false ⊎ ((q : Queued) × (head_of (queue s 0 log) ≡ Some q))
-hold_or_head s log bases act None e h = inl (no_hold s log bases act e h)
-hold_or_head s log bases act (Some q) e h = inr (q, e)
 
 submitted_head : (b : Bool) (qs : List Queued) (r q : Queued) → head_of qs ≡ Some q → (x : Queued) × (head_of (if b then qs ++ r ∷ [] else qs) ≡ Some x)
 submitted_head true qs r q e = head_there qs r r
@@ -113,17 +69,11 @@ pub holds_needed : (s : Setting) (k t : ℕ) (log : Log) → slice_get (numbers_
 holds_needed s k t [] i h = inl (omega arith)
 holds_needed s k t (Handed from m ∷ log) i h =
     needed_on s t (Handed from m) log (hand_counts from m (counts t log)).1 (hand_commits m (last_served s log)) (λ q e. (q, e)) (holds_needed s k t log i h.1)
-holds_needed s k t (Submits n txn ∷ log) i h =
-    needed_on s t (Submits n txn) log refl refl
-    (λ q e. submitted_head (is_for 0 (current_era s log).catalogue txn) (queue s 0 log) (record {
-      number = n;
-      text = txn;
-      tries = 0;
-    }) q e) (holds_needed s k t log i h.1)
+holds_needed s k t (Submits n txn ∷ log) i h = grind (arith, needed_on, submitted_head, (holds_needed s k t log i h.1))
 holds_needed s k t (Did act ∷ log) i h =
     let c = chain s k t log i h.1 in
-    needed_act s t log act c (one_ahead s t log c) (u_due s h.0.0.0 log act h.0.0.1)
-    (hold_or_head s log h.0.0.0 act (head_of (queue s 0 log)) refl h.0.0.1) (holds_needed s k t log i h.1)
+    needed_act s t log act c (grind (arith, balance, one_if_le)) (u_due s h.0.0.0 log act h.0.0.1)
+    (grind (arith, no_hold)) (holds_needed s k t log i h.1)
 holds_needed s k t (x ∷ log) i h = needed_on s t x log refl refl (λ q e. (q, e)) (holds_needed s k t log i h.1)
 
 -- the last Commit
@@ -136,21 +86,16 @@ pub record IsLastCommit (s : Setting) (log : Log) : Type 0 where
   pub is : log ≡ later ++ Did (commit_act s.catalogue bases 0 attempt) ∷ before
   pub ts_is : (last_served s log).ts ≡ attempt.ts
 
-later_entry : (s : Setting) (e : Entry) (log : Log) → (last_served s (e ∷ log)).ts ≡ (last_served s log).ts → IsLastCommit s log → IsLastCommit s (e ∷ log)
-later_entry s e log p c =
-    record { later = e ∷ c.later; bases = c.bases; attempt = c.attempt; before = c.before; is = ap (λ l. e ∷ l) c.is; ts_is = p ∙ c.ts_is }
-
 abbrev CommitIfAny : Setting → Log → Type 0
 CommitIfAny s log = 0 < (last_served s log).commits → IsLastCommit s log
 
 any_later : (s : Setting) (e : Entry) (log : Log) → (last_served s (e ∷ log)).ts ≡ (last_served s log).ts
     → (last_served s (e ∷ log)).commits ≡ (last_served s log).commits → CommitIfAny s log → CommitIfAny s (e ∷ log)
-any_later s e log p q h = λ l. later_entry s e log p (h (subst (λ n. 0 < n) q l))
+any_later s e log p q h = λ l. (record { later = e ∷ (h (subst (λ n. 0 < n) q l)).later; bases = (h (subst (λ n. 0 < n) q l)).bases; attempt = (h (subst (λ n. 0 < n) q l)).attempt; before = (h (subst (λ n. 0 < n) q l)).before; is = ap (λ l. e ∷ l) (h (subst (λ n. 0 < n) q l)).is; ts_is = p ∙ (h (subst (λ n. 0 < n) q l)).ts_is })
 
 pub last_commit : (s : Setting) (log : Log) → Each (IsFairU s) log → CommitIfAny s log
 last_commit s [] h = λ l. absurd (omega (arith, l))
-last_commit s (Handed from m ∷ log) h =
-    any_later s (Handed from m) log (hand_ts m (last_served s log)) (hand_commits m (last_served s log)) (last_commit s log h.1)
+last_commit s (Handed from m ∷ log) h = grind (arith, any_later, hand_ts, hand_commits, (last_commit s log h.1))
 last_commit s (Did act ∷ log) h =
     let i = last_commit s log h.1 in
     u_way s log act (λ x. CommitIfAny s (Did x ∷ log)) (λ q e z r. any_later s (Did (start_at s 0 log q)) log refl refl i)

@@ -1,5 +1,6 @@
 -- Where nothing is due at a transaction module that isn't on hold, an idle class has no queue.
-use Rattle.sdd_progress.proofs.AllWaits.{Bases, Catalogue, Input, IsClassOf, IsSoundCatalogue, List, None, Option, Queued, Setting, Some, T, TmNo, [], active, at_map, base_of, class_at, exchange_due, false, first_some, head_of, held_due, home, local_of, neither_some, null_due, on_hold, queue, refl, runs, setting_of, site_due, slice_get, start_due, start_of, subst, sym, tm_no, ℕ, ◌∷◌, ◌≡◌}
+use Rattle.std.proofs.Common.{arith}
+use Rattle.sdd_progress.proofs.AllWaits.{Bases, Input, IsClassOf, IsSoundCatalogue, None, Setting, Some, T, TmNo, [], active, at_map, base_of, class_at, exchange_due, false, first_some, head_of, held_due, home, local_of, neither_some, null_due, on_hold, queue, runs, setting_of, site_due, slice_get, start_due, start_of, subst, sym, tm_no, ℕ, ◌≡◌}
 use Rattle.sdd_progress.proofs.EventOver.{none_at_txn}
 use Rattle.sdd_progress.proofs.StuckHeads.{none_at}
 use Rattle.sdd_progress.proofs.ClassSites.{class_served, home_of_class, in_runs}
@@ -9,25 +10,16 @@ use Rattle.sdd_obligations.specs.tm.Due.{due}
 use Rattle.sdd_obligations.specs.tm.Views.{View, view_of}
 use Rattle.sdd_obligations.specs.logs.Entries as all
 
-no_start : (cat : Catalogue) (v : View) (c : ℕ) (o : Option Queued) → start_of cat v c o ≡ None → o ≡ None
-no_start cat v c None e = refl
-no_start cat v c (Some q) e = cc
-
-empty_of : (qs : List Queued) → head_of qs ≡ None → qs ≡ []
-empty_of [] e = refl
-empty_of (q ∷ qs) e = cc
-
 pub no_queue : (s : Setting) (bases : Bases) (log : Log) (c j : ℕ) → slice_get (runs s) j ≡ Some c
     → due s.catalogue bases (view_of s log) ≡ None → on_hold (view_of s log) ≡ false → active s c log ≡ None → queue s c log ≡ []
 no_queue s bases log c j there e off idle =
     let v : View = view_of s log in
-    let nulls = (neither_some (first_some (exchange_due s.catalogue bases) v.classes) _ e).1 in
-    let helds = (neither_some (first_some (null_due v) v.classes) _ nulls).1 in
+    let helds = (neither_some (first_some (null_due v) v.classes) _ ((neither_some (first_some (exchange_due s.catalogue bases) v.classes) _ e).1)).1 in
     let starts = (neither_some (held_due v) (first_some (start_due s.catalogue v) v.classes) helds).1 in
     let here : start_due s.catalogue v (class_view s log c) ≡ None = none_at (start_due s.catalogue v) v.classes j (class_view s log c) starts
     (at_map (class_view s log) (runs s) j c there) in
     let opened : start_of s.catalogue v c (head_of (queue s c log)) ≡ None = rw (off, idle) at here in
-    empty_of (queue s c log) (no_start s.catalogue v c (head_of (queue s c log)) opened)
+    (grind arith)
 
 pub idle_starts : (g : Input) (i : ℕ) (log : all.Log) → IsSoundCatalogue g.catalogue → IsClassOf g.catalogue i → site_due g log ≡ None
     → on_hold (view_of (setting_of g (home g.catalogue i)) (local_of g (home g.catalogue i) log)) ≡ false

@@ -1,5 +1,6 @@
 -- A READ whose conditions are met, that doesn't wait and isn't spoilt, is answered before the event is over, or rejected
 -- after an Apply that spoils it.
+use Rattle.std.proofs.Common.{arith}
 use Rattle.sdd_progress.proofs.AllWaits.{Act, Answer, Bool, ClassNo, Cond, D, Did, DmNo, Does, Entry, Input, IsAnsweredIn, IsClassHere, IsDue, IsPermitted, IsReadStep, IsRejectedAfter, IsRejectedIn, IsWaitOf, List, Log, May, Msg, None, Pipe, Read, Rec, Records, Rejected, Setting, Site, Some, Ts, TxnNo, Use, View, [], and_left, and_right, ap, by_record, cond, d_step, false, filter, head, head_of, home_of, inl, inr, is_met, is_processing, is_wait, lacking, list_all, not, not_own, passing, pipe, read_step_way, refl, same_or_not, setting_of, site_due, slice_get, spoiler, spoils, subst, suc, sym, true, txn_no, view_of, waits, zero, ℕ, ◌++◌, ◌∙◌, ◌∷◌, ◌≡◌, ◌≤◌, ◌⊎◌}
 use Rattle.sdd_progress.proofs.Answered.{Answers, all_met_later, answered_now, answered_on, no_ready_head}
 use Rattle.sdd_progress.proofs.AtModule.{IsEntryAt, acting, aside, at_module, entry_at, handed_head, handing, waits_other}
@@ -18,8 +19,7 @@ HeadIs l c m = (waits c l ≡ false) × (head (pipe c l) ≡ Some m)
 none_lacks : (p : Cond → Bool) (ds : List Cond) → list_all p ds ≡ true → filter (λ d. not (p d)) ds ≡ []
 none_lacks p [] e = refl
 none_lacks p (d ∷ ds) e =
-    let first : p d ≡ true = and_left _ _ e in
-    ap (λ b. cond (not b) (d ∷ filter (λ x. not (p x)) ds) (filter (λ x. not (p x)) ds)) first ∙ none_lacks p ds (and_right _ _ e)
+    ap (λ b. cond (not b) (d ∷ filter (λ x. not (p x)) ds) (filter (λ x. not (p x)) ds)) (and_left _ _ e) ∙ none_lacks p ds (and_right _ _ e)
 
 none_is_some : {A : Type 0} (x : Cond) (xs : List Cond) → [] ≡ x ∷ xs → A
 none_is_some x xs e = cc
@@ -30,8 +30,7 @@ no_wait : {A : Type 0} (s : Setting) (l : site.Log) (c k : ℕ) (ts : Ts) (of : 
     → list_all (is_met (view_of s l)) conds ≡ true → IsDue (home_of s) (view_of s l) (Records k r sends) → is_wait r ≡ true → A
 no_wait s l c k ts of txn attempt conds uses r sends e h met due w =
     let x : IsWaitOf s l c (Records k r sends) = subst (λ z. IsWaitOf s l z (Records k r sends)) e (wait_due s l k r sends due w) in
-    let same : Some (Read x.ts x.of x.txn x.attempt x.conds x.uses) ≡ Some (Read ts of txn attempt conds uses) = sym x.head_is ∙ h in
-    let ds : x.conds ≡ conds = cc in
+    let ds : x.conds ≡ conds = cc (sym x.head_is ∙ h) in
     none_is_some x.first x.more (sym (ap (lacking (view_of s l)) ds ∙ none_lacks (is_met (view_of s l)) conds met) ∙ x.lacks)
 
 -- what processes it
@@ -54,8 +53,7 @@ pub processed_read : (s : Setting) (l : site.Log) (c : ℕ) (ts : Ts) (of : Clas
     → Answers c txn attempt (Records c r sends) ⊎ Rejects (view_of s l) c txn attempt conds (Records c r sends)
 processed_read s l c ts of txn attempt conds uses r sends h p i =
     let x = processing_of s l c r sends p i in
-    let same : Some x.msg ≡ Some (Read ts of txn attempt conds uses) = sym x.head_is ∙ h in
-    let m : x.msg ≡ Read ts of txn attempt conds uses = cc in
+    let m : x.msg ≡ Read ts of txn attempt conds uses = cc (sym x.head_is ∙ h) in
     judged_by (view_of s l) c (waits c l) ts of txn attempt conds uses r sends (subst (λ y. May (view_of s l) c (waits c l) y r) m x.may)
 
 -- an act of the module
@@ -73,11 +71,7 @@ act_judged s l c ts of txn attempt conds uses act w met due =
       | inl e ↦ no_wait s l c k ts of txn attempt conds uses r sends e w.1 met due q
       | inr e ↦ inl (waits_other c k r sends l e ∙ w.0, ap (λ (z : Pipe). head z) (not_own c k r sends l (inl e)).pipe_same ∙ w.1)
     ])
-    (λ k m r sends here p x may due. elim (same_or_not k c) [
-      | inl e ↦ inr (subst (λ z. Answers c txn attempt (Records z r sends) ⊎ Rejects (view_of s l) c txn attempt conds (Records z r sends)) (sym e)
-          (processed_read s l c ts of txn attempt conds uses r sends w.1 p (subst (λ z. IsReadStep s l (Records z r sends)) e (by_record k m r sends here p x may refl))))
-      | inr e ↦ inl (waits_other c k r sends l e ∙ w.0, ap (λ (z : Pipe). head z) (not_own c k r sends l (inl e)).pipe_same ∙ w.1)
-    ]) (d_step s l act due) due
+    (grind (arith, same_or_not, Answers, Rejects, view_of, processed_read, by_record, waits_other, head, not_own)) (d_step s l act due) due
 
 -- after a log, over the entries that follow
 
@@ -100,8 +94,7 @@ rejected_now : (g : Input) (d : DmNo) (c : ℕ) (txn : TxnNo) (attempt : ℕ) (c
     → Rejects (view_of (setting_of g (D d)) (at_module g d (entries ++ log))) c txn attempt conds act
     → IsRejectedAfter g log d c txn attempt conds (e ∷ entries)
 rejected_now g d c txn attempt conds e entries log act h clean is r =
-    let now : View = view_of (setting_of g (D d)) (at_module g d (entries ++ log)) in
-    let f = spoiler_there now conds r.4 r.6 in
+    let f = spoiler_there (view_of (setting_of g (D d)) (at_module g d (entries ++ log))) conds r.4 r.6 in
     let then_not = none_spoils (view_of (setting_of g (D d)) (at_module g d log)) conds f.1 r.4 clean f.2 in
     record {
       reject = record { later = []; before = entries; dm = r.0; by = r.1; write = r.2; sends = r.3; is = ap (λ x. x ∷ entries) (is ∙ ap (λ x. Does (D d) x) r.5) };
@@ -130,8 +123,7 @@ judged_entry : (g : Input) (d : DmNo) (c : ℕ) (e : Entry) (entries log : Log) 
     → list_all (is_met (view_of (setting_of g (D d)) (at_module g d (entries ++ log)))) conds ≡ true
     → HeadIs (at_module g d (entries ++ log)) c (Read ts of txn attempt conds uses) → IsEntryAt g d (entries ++ log) e
     → HeadIs (at_module g d (e ∷ (entries ++ log))) c (Read ts of txn attempt conds uses) ⊎ IsDone g log d c txn attempt conds (e ∷ entries)
-judged_entry g d c e entries log ts of txn attempt conds uses h clean met w (aside f) =
-    inl ((f c).waits_same ∙ w.0, ap (λ (x : Pipe). head x) (f c).pipe_same ∙ w.1)
+judged_entry g d c e entries log ts of txn attempt conds uses h clean met w (aside f) = grind arith
 judged_entry g d c e entries log ts of txn attempt conds uses h clean met w (handing from m s) =
     inl (subst (λ l. HeadIs l c (Read ts of txn attempt conds uses)) (sym s) (w.0, handed_head c from m (Read ts of txn attempt conds uses) (at_module g d (entries ++ log)) w.1))
 judged_entry g d c e entries log ts of txn attempt conds uses h clean met w (acting act is s due) =
@@ -143,11 +135,6 @@ judged_entry g d c e entries log ts of txn attempt conds uses h clean met w (act
       ])
     ]
 
-done_on : (g : Input) (log : Log) (d : DmNo) (c : ℕ) (txn : TxnNo) (attempt : ℕ) (conds : List Cond) (e : Entry) (entries : Log)
-    → IsDone g log d c txn attempt conds entries → IsDone g log d c txn attempt conds (e ∷ entries)
-done_on g log d c txn attempt conds e entries (inl a) = inl (answered_on d c txn attempt e entries a)
-done_on g log d c txn attempt conds e entries (inr r) = inr (rejected_on g log d c txn attempt conds e entries r)
-
 stays_or_done : (g : Input) (d : DmNo) (c : ℕ) (later log : Log) (ts : Ts) (of : ClassNo) (txn : TxnNo) (attempt : ℕ) (conds : List Cond) (uses : List Use)
     → IsPermitted g (later ++ log) → HasSmallHomes g → spoiler (view_of (setting_of g (D d)) (at_module g d log)) conds ≡ None
     → list_all (is_met (view_of (setting_of g (D d)) (at_module g d log))) conds ≡ true → HeadIs (at_module g d log) c (Read ts of txn attempt conds uses)
@@ -157,7 +144,7 @@ stays_or_done g d c (e ∷ later) log ts of txn attempt conds uses h small clean
     elim (stays_or_done g d c later log ts of txn attempt conds uses h.1 small clean met w) [
       | inl x ↦ judged_entry g d c e later log ts of txn attempt conds uses h.1 clean (all_met_later g d later log conds h.1 small met) x
           (entry_at g d (later ++ log) e h)
-      | inr x ↦ inr (done_on g log d c txn attempt conds e later x)
+      | inr x ↦ inr (grind (arith, answered_on, rejected_on))
     ]
 
 pub answered_or_rejected : (g : Input) (d : DmNo) (c : ℕ) (later log : Log) (ts : Ts) (of : ClassNo) (txn : TxnNo) (attempt : ℕ) (conds : List Cond) (uses : List Use)

@@ -1,5 +1,5 @@
 -- What is known of a lawful log, in the order of which the law of eras follows.
-use Rattle.sdd_progress.proofs.All.{AreNumbered, Bases, Catalogue, Committed, Did, Effect, Entry, HasCommit, HasSoundData, HasSoundLists, Input, IsCommitted, IsIdleAtRedeclares, IsLawful, IsPermitted, IsSoundCatalogue, IsSoundInput, IsUpAtRedeclares, KeepsApplies, KeepsStarts, KeepsUndeclared, List, Log, Rec, RelNo, Row, Some, StartedBefore, SubmitGiven, [], ap, append_assoc, arith, commit_act, committed_here, effect, eras_begun, eras_of, event_at, event_there, filter_map, history, is_committed, keeps_answers, keeps_applies, keeps_starts, lawful_numbered, lawful_permitted, length, marks, numbers_to, one_place, record_of, redeclares, suc, sym, true, txn_no, undeclared, write_to, ℕ, ◌++◌, ◌<◌, ◌∙◌, ◌∷◌, ◌≡◌}
+use Rattle.sdd_progress.proofs.All.{AreNumbered, Bases, Catalogue, Committed, Did, Entry, HasCommit, HasSoundData, HasSoundLists, Input, IsCommitted, IsIdleAtRedeclares, IsLawful, IsPermitted, IsSoundCatalogue, IsSoundInput, IsUpAtRedeclares, KeepsApplies, KeepsStarts, KeepsUndeclared, List, Log, Rec, RelNo, Row, Some, StartedBefore, SubmitGiven, [], ap, append_assoc, arith, commit_act, committed_here, eras_begun, eras_of, event_at, event_there, filter_map, history, is_committed, keeps_answers, keeps_applies, keeps_starts, lawful_numbered, lawful_permitted, length, marks, one_place, record_of, redeclares, suc, sym, true, undeclared, ℕ, ◌++◌, ◌<◌, ◌∙◌, ◌∷◌, ◌≡◌}
 use Rattle.sdd_progress.proofs.ErasOf.{are_eras_of, begun_is}
 use Rattle.sdd_progress.proofs.IdleAtRedeclares.{idle_at_redeclares}
 use Rattle.sdd_obligations.specs.site_module.SiteLog as site
@@ -40,8 +40,7 @@ pub started_before : (g : Input) (log : Log) → Known g log → (x : Committed)
 started_before g log w x c =
     let b = w.after_start x.start.txn x.start.number x.place
     (record { reply = x.reply; changes = x.changes; values = x.values; rows = x.rows; is_recorded = c.committed }) in
-    let same = one_place g log w.sound w.permitted b.attempt x.start b.started c.started b.txn_is b.number_is in
-    let l = b.before in omega (arith, same, l)
+    let l = b.before in omega (arith, (one_place g log w.sound w.permitted b.attempt x.start b.started c.started b.txn_is b.number_is), l)
 
 -- how many eras have eras_begun at a record
 pub begun_at : (g : Input) (log : Log) (e : Entry) (r : Rec) (later before : Log) (place : ℕ) → record_of e ≡ Some r → log ≡ later ++ e ∷ before
@@ -54,7 +53,4 @@ begun_at g log e r later before place makes is place_is =
 -- a Commit commits
 pub commit_done : (cat : Catalogue) (bases : Bases) (k : ℕ) (a : attempts.Attempt) (before : site.Log)
     → is_committed k a.txn (Did (commit_act cat bases k a) ∷ before) ≡ true
-commit_done cat bases k a before =
-    let e : Effect = effect cat (bases a.ts) a.text in
-    committed_here k before (txn_no a.txn) a.attempt e.reply e.changes a.exchange.values a.exchange.rows
-    (filter_map (write_to cat k a e.changes) (numbers_to cat.dms))
+commit_done cat bases k a before = grind (arith, committed_here, filter_map)

@@ -1,5 +1,5 @@
 -- Where nothing goes on, an active attempt has a READ that is not processed.
-use Rattle.sdd_progress.proofs.All.{AllAskParts, AllByRecursion, AllHaveParts, Asks, AtTurn, Attempt, Bool, Catalogue, ClassView, Condition, Const, D, Exchange, Fetch, FitsCondition, FitsInput, FitsQuery, FitsStatement, FitsText, HasNear, HasParts, HasTurn, Home, Input, IsAtTurn, IsClass, IsGoing, IsModule, IsNear, IsNearBy, IsPermitted, IsQuiet, IsSoundCatalogue, IsStage, IsUnanswered, List, Log, Msg, None, Open, Option, Query, Read, Reduce, RelNo, Same, Ship, Site, Some, Stmt, Turn, View, [], active, active_near, active_so, agreed, all_new, and_right, answer_goes, answer_of, answer_to, answered_last, answers, ap, apart, arith, asker, askings, asks_open, asks_rows, at_home, at_map, at_module, attempt_due, awaited, base_of, class_asked, class_view, classes_of, cond, contains, data_turns, dm_no, eqb-true, false, filter, first_send, first_some, firsts, from_site, head_of, home, home_fair, home_first, home_of, home_turns, if◌then◌else◌, in_filtered, inl, inr, is_asked_of, is_empty, is_number, is_over, is_question, is_read, length, map, not_both, open_due, opens, or_left, or_none, pipe, question_goes, questions, range_at, reads_asked, recursion_from_All, refl, rows_asked, same_number, send_due, setting_of, slice_get, small_home, sound_whole, spoken, submitted_fit, subst, suc, sym, to_module, true, turn_at, turn_with, unsent, uses_in, view_of, ℕ, ◌+◌, ◌==◌, ◌∙◌, ◌∷◌, ◌≡◌, ◌≤◌}
+use Rattle.sdd_progress.proofs.All.{AllAskParts, AllByRecursion, AllHaveParts, Asks, AtTurn, Attempt, Bool, Catalogue, Condition, D, Exchange, FitsCondition, FitsInput, FitsQuery, FitsStatement, FitsText, HasNear, HasTurn, Input, IsAtTurn, IsClass, IsGoing, IsModule, IsNear, IsNearBy, IsPermitted, IsQuiet, IsSoundCatalogue, IsUnanswered, List, Log, Msg, None, Open, Query, RelNo, Site, Some, Stmt, Turn, View, [], active, active_near, active_so, all_new, and_right, answered_last, apart, arith, asker, askings, asks_open, asks_rows, at_home, at_map, at_module, attempt_due, awaited, base_of, class_view, classes_of, contains, data_turns, dm_no, eqb-true, false, filter, first_send, first_some, firsts, from_site, home, home_fair, home_first, home_of, home_turns, in_filtered, inl, inr, is_asked_of, is_empty, is_over, is_question, is_read, length, map, not_both, open_due, opens, or_left, or_none, pipe, range_at, reads_asked, recursion_from_All, refl, rows_asked, same_number, setting_of, slice_get, small_home, sound_whole, spoken, submitted_fit, subst, sym, to_module, true, turn_at, turn_with, unsent, uses_in, view_of, ℕ, ◌+◌, ◌==◌, ◌∙◌, ◌∷◌, ◌≡◌, ◌≤◌}
 use Rattle.sdd_progress.proofs.Going.{is_going}
 use Rattle.sdd_progress.proofs.Handed.{none_in_flight}
 use Rattle.sdd_progress.proofs.Lists.{either, head_at, no_head, none_at}
@@ -8,13 +8,9 @@ use Rattle.sdd_obligations.specs.site_module.SiteLog as site
 
 -- what fits a catalogue counts its parts from 1
 
-cond_parts : (cat : Catalogue) (rels : List RelNo) (q : Condition) → FitsCondition cat rels q → HasParts q
-cond_parts cat rels (Const left op value) h = tt
-cond_parts cat rels (Same left right) h = (h.0.0.0, h.1.0.0)
-
 conds_parts : (cat : Catalogue) (rels : List RelNo) (conds : List Condition) → AllByRecursion (FitsCondition cat rels) conds → AllHaveParts conds
 conds_parts cat rels [] h = tt
-conds_parts cat rels (q ∷ conds) h = (cond_parts cat rels q h.0, conds_parts cat rels conds h.1)
+conds_parts cat rels (q ∷ conds) h = ((grind arith), conds_parts cat rels conds h.1)
 
 askings_parts : (cat : Catalogue) (before : ℕ) (statements : List Stmt)
     → AllByRecursion (FitsStatement cat) statements → AllAskParts (askings before statements)
@@ -27,21 +23,14 @@ askings_parts cat before (x ∷ rest) h = askings_parts cat (before + uses_in x)
 -- an attempt that has nothing to send and may not commit
 
 pub no_sends : (ms : List (ℕ × Msg)) → first_send ms ≡ None → ms ≡ []
-no_sends [] e = refl
-no_sends (m ∷ ms) e = cc
-
-no_commit : (b : Bool) (act : site.Act) → (if b then Some act else None) ≡ None → b ≡ false
-no_commit true act e = cc
-no_commit false act e = refl
+no_sends ms e = grind arith
 
 pub record IsWaitingFor (a : Attempt) : Type 0 where
   pub nothing_to_send : a.exchange.to_send ≡ []
   pub not_over : is_over a.exchange.phase ≡ false
 
 waits_for : (cat : Catalogue) (bases : site.Bases) (c : ℕ) (a : Attempt) → attempt_due cat bases c (Some a) ≡ None → IsWaitingFor a
-waits_for cat bases c a e =
-    let p = or_none (send_due a.exchange) _ e in
-    record { nothing_to_send = no_sends a.exchange.to_send p.0; not_over = no_commit (is_over a.exchange.phase) _ p.1 }
+waits_for cat bases c a e = grind (arith, or_none, no_sends)
 
 -- a module whose answer lacks
 
@@ -56,10 +45,7 @@ record IsAskedAt (d : ℕ) (x : Exchange) (v : Turn) : Type 0 where
   within : contains (firsts x.modules) d ≡ true
 
 asked_at : (d : ℕ) (x : Exchange) (v : Turn) → x.to_send ≡ [] → contains x.lacks d ≡ true → IsAtTurn d x v → IsAskedAt d x v
-asked_at d x v e l (unsent m q ns a b s t u w f h) = let z : [] ≡ m ∷ [] = sym (ap (to_module d) e) ∙ a in cc
-asked_at d x v e l (awaited m ns a b s w f h) = record { uses = ns; question = m; is = s; within = h }
-asked_at d x v e l (answered_last q ns a b s t f h) = absurd (not_both (contains x.lacks d) l b)
-asked_at d x v e l (apart a b s h) = absurd (not_both (contains x.lacks d) l b)
+asked_at d x v e l h6 = grind (arith, unsent, to_module, awaited, answered_last, not_both, apart)
 
 pub near_one : (n d : ℕ) (ms : List (ℕ × List ℕ)) (x : Exchange) → IsNearBy n (record x { modules = ms }) → contains (firsts ms) d ≡ true → IsNear n d
 near_one n d [] x h e = cc
@@ -70,41 +56,16 @@ near_one n d (m ∷ ms) x h e = elim (either (m.0 == d) (contains (firsts ms) d)
 
 -- at rest both sides have the same turn
 
-one_turn : (v w : Turn) (qs xs : List Msg) → IsStage v w qs xs → qs ≡ [] → xs ≡ [] → v ≡ w
-one_turn v w qs xs (agreed s q x) e f = s
-one_turn v w qs xs (question_goes m q x s a) e f = let z : [] ≡ m ∷ [] = sym e ∙ q in cc
-one_turn v w qs xs (answer_goes m q x s a) e f = let z : [] ≡ m ∷ [] = sym f ∙ x in cc
-
 pub same_turn : (g : Input) (log : Log) (c d ts : ℕ) → IsQuiet g log → IsSoundCatalogue g.catalogue → IsClass g.catalogue c → IsModule g.catalogue d
     → turn_at ts c d (at_home g c log) ≡ turn_with ts c (home g.catalogue c) (at_module g d log)
-same_turn g log c d ts h sound l m =
-    let linked = home_linked g.catalogue c d sound l m in
-    one_turn _ _ _ _ ((spoken g c log h.permitted (small_home g.catalogue sound c l)).stages ts d)
-    (ap (questions ts c) (none_in_flight g log (home g.catalogue c) (D (dm_no d)) h linked.0))
-    (ap (answers ts c) (none_in_flight g log (D (dm_no d)) (home g.catalogue c) h linked.1))
+same_turn g log c d ts h sound l m = grind (arith, home_linked, spoken, small_home, none_in_flight)
 
 -- no question of rows stands open
-
-asks_class : (ts c : ℕ) (m : Msg) → asks_rows ts c m ≡ true → is_number c (class_asked m) ≡ true
-asks_class ts c (Fetch t k u col) e = and_right (t.0 == ts) (k.0 == c) e
-asks_class ts c (Reduce t k u col values) e = and_right (t.0 == ts) (k.0 == c) e
-asks_class ts c (Ship t k) e = and_right (t.0 == ts) (k.0 == c) e
-asks_class ts c _ e = cc
-
-answer_there : {A : Type 0} (h : Home) (k : ClassView) (o : Open) (m : Msg) (c : ℕ) → is_number c (class_asked m) ≡ true → answer_to h k o m ≡ None → A
-answer_there h k o (Read ts class txn attempt conds uses) c e f = cc
-answer_there h k o _ c e f = cc
-
-none_asked : (h : Home) (k : ClassView) (os : List Open) (o : Option Open) → head_of (filter (is_asked_of k.class) os) ≡ o → answer_of h k o ≡ None
-    → filter (is_asked_of k.class) os ≡ []
-none_asked h k os None e f = no_head (filter (is_asked_of k.class) os) e
-none_asked h k os (Some o) e f = let i = in_filtered (is_asked_of k.class) os 0 o (head_at _ o e) in answer_there h k o o.msg k.class i.0 f
 
 class_there : (s : site.Setting) (log : site.Log) (c : ℕ) → c ≤ length s.catalogue.classes → slice_get (view_of s log).classes c ≡ Some (class_view s log c)
 class_there s log c l =
     let z : 0 + c ≡ c = omega arith in
-    at_map (class_view s log) (classes_of s) c c (subst (λ x. slice_get (classes_of s) c ≡ Some x) z
-    (range_at 0 (suc (length s.catalogue.classes)) c (omega (arith, l))))
+    at_map (class_view s log) (classes_of s) c c (grind (arith, slice_get, classes_of, range_at))
 
 pub none_open : (g : Input) (log : Log) (c d : ℕ) → IsQuiet g log → IsClass g.catalogue c
     → IsModule g.catalogue d → filter (is_asked_of c) (opens (at_module g d log)) ≡ []
@@ -114,36 +75,20 @@ none_open g log c d h l m =
     let p = or_none (first_some (open_due (home_of s) v) v.classes) _ (d_still g log d h m) in
     let none : open_due (home_of s) v (class_view s (at_module g d log) c) ≡ None =
     none_at (open_due (home_of s) v) v.classes c (class_view s (at_module g d log) c) p.0 (class_there s (at_module g d log) c l) in
-    none_asked (home_of s) (class_view s (at_module g d log) c) (opens (at_module g d log)) _ refl none
-
-tail_none : {A : Type 0} (b : Bool) (x : A) (xs : List A) → cond b (x ∷ xs) xs ≡ [] → xs ≡ []
-tail_none true x xs e = cc
-tail_none false x xs e = e
+    (grind (arith, no_head, in_filtered, head_at))
 
 less_left : {A : Type 0} (f g : A → Bool) (xs : List A) → ((x : A) → f x ≡ true → g x ≡ true) → filter g xs ≡ [] → filter f xs ≡ []
 less_left f g [] i e = refl
-less_left f g (x ∷ xs) i e =
-    elim (f x) as (λ b. f x ≡ b → cond b (x ∷ filter f xs) (filter f xs) ≡ []) [
-      | true ↦ λ p. (let q : g x ≡ true = i x p in let z : x ∷ filter g xs ≡ [] = subst (λ b. cond b (x ∷ filter g xs) (filter g xs) ≡ []) q e in cc)
-      | false ↦ λ p. less_left f g xs i (tail_none (g x) x (filter g xs) e)
-    ] refl
+less_left f g (x ∷ xs) i e = grind (arith, (less_left f g xs i (grind arith)))
 
 -- the question that stands is a READ
 
 not_rows : (ts c : ℕ) (at : Site) (os : List Open) (ns : List ℕ) (m : Msg) → filter (asks_open ts c) os ≡ []
     → map asker (filter (asks_open ts c) os) ≡ map (from_site at) (rows_asked ts c (Asks ns m)) → asks_rows ts c m ≡ false
-not_rows ts c at os ns m e f =
-    elim (asks_rows ts c m) as (λ b. [] ≡ map (from_site at) (if b then m ∷ [] else []) → b ≡ false) [
-      | true ↦ λ z. cc
-      | false ↦ λ z. refl
-    ] (sym (ap (map asker) e) ∙ f)
+not_rows ts c at os ns m e f = grind (arith, from_site, asker)
 
 read_it_is : (ts c : ℕ) (m : Msg) → is_question ts c m ≡ true → asks_rows ts c m ≡ false → is_read ts c m ≡ true
-read_it_is ts c (Read t k txn attempt conds uses) e f = e
-read_it_is ts c (Fetch t k u col) e f = absurd (not_both _ e f)
-read_it_is ts c (Reduce t k u col values) e f = absurd (not_both _ e f)
-read_it_is ts c (Ship t k) e f = absurd (not_both _ e f)
-read_it_is ts c _ e f = cc
+read_it_is ts c m e f = grind (arith, not_both)
 
 read_there : (ts c : ℕ) (ns : List ℕ) (m : Msg) (unprocessed : List Msg) → is_read ts c m ≡ true
     → filter (is_read ts c) unprocessed ≡ reads_asked ts c (Asks ns m) → slice_get (filter (is_read ts c) unprocessed) 0 ≡ Some m
@@ -182,7 +127,7 @@ has_unanswered g log c a h good l e =
     (Asks q.uses q.question) = subst (HasTurn a.ts c at (opens (at_module g d log))
     (pipe c (at_module g d log))) there (data_turns g a.ts c d log h.permitted sp) in
     let none : filter (asks_open a.ts c) (opens (at_module g d log)) ≡ [] =
-    less_left (asks_open a.ts c) (is_asked_of c) (opens (at_module g d log)) (λ o f. asks_class a.ts c o.msg f) (none_open g log c d h l m) in
+    less_left (asks_open a.ts c) (is_asked_of c) (opens (at_module g d log)) (λ o f. (grind (arith, and_right))) (none_open g log c d h l m) in
     let read = read_it_is a.ts c q.question has.own.0 (not_rows a.ts c at (opens (at_module g d log)) q.uses q.question none has.rows_are) in
     let i = in_filtered (is_read a.ts c) (pipe c (at_module g d log)).unprocessed 0 q.question
     (read_there a.ts c q.uses q.question (pipe c (at_module g d log)).unprocessed read has.reads_are) in

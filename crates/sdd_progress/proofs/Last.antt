@@ -1,5 +1,5 @@
 -- The last record that passes a test; and that fewer pass a narrower one.
-use Rattle.sdd_progress.proofs.All.{Bool, History, IsRecordAt, List, Rec, [], ap, arith, cond, false, false≢true, filter, length, refl, same_Some, subst, suc, sym, take, true, zero, ℕ, ◌<◌, ◌∙◌, ◌∷◌, ◌≡◌, ◌≤◌}
+use Rattle.sdd_progress.proofs.All.{Bool, History, IsRecordAt, List, Rec, [], ap, arith, cond, false, filter, length, refl, same_Some, suc, take, true, zero, ℕ, ◌<◌, ◌∙◌, ◌∷◌, ◌≡◌, ◌≤◌}
 
 abbrev pub passing : (Rec → Bool) → History → ℕ
 passing test h = length (filter (λ e. test e.1) h)
@@ -43,16 +43,10 @@ abbrev counted : {A : Type 0} → Bool → A → List A → ℕ
 counted b x xs = length (cond b (x ∷ xs) xs)
 
 counted_fewer : {A : Type 0} (b c : Bool) (x : A) (xs ys : List A) → (b ≡ true → c ≡ true) → length xs ≤ length ys → counted b x xs ≤ counted c x ys
-counted_fewer true true x xs ys f l = omega (arith, l)
-counted_fewer true false x xs ys f l = absurd (false≢true (f refl))
-counted_fewer false true x xs ys f l = omega (arith, l)
-counted_fewer false false x xs ys f l = l
+counted_fewer b c x xs ys f l = grind arith
 
 counted_less : {A : Type 0} (b c : Bool) (x : A) (xs ys : List A) → (b ≡ true → c ≡ true) → length xs < length ys → counted b x xs < counted c x ys
-counted_less true true x xs ys f l = omega (arith, l)
-counted_less true false x xs ys f l = absurd (false≢true (f refl))
-counted_less false true x xs ys f l = omega (arith, l)
-counted_less false false x xs ys f l = l
+counted_less b c x xs ys f l = grind arith
 
 module _ (narrow test : Rec → Bool) (within : (r : Rec) → narrow r ≡ true → test r ≡ true) where
   pub fewer : (h : History) → passing narrow h ≤ passing test h
@@ -62,11 +56,5 @@ module _ (narrow test : Rec → Bool) (within : (r : Rec) → narrow r ≡ true 
   -- and less where one passes the wider test alone
   pub less : (h : History) (k : ℕ) (r : Rec) → IsRecordAt h k r → test r ≡ true → narrow r ≡ false → passing narrow h < passing test h
   less [] k r s t n = absurd (cc)
-  less (e ∷ h) zero r s t n =
-      let same = same_Some e.1 r s in
-      let few = fewer h in
-      let a : narrow e.1 ≡ false = ap narrow same ∙ n in
-      let b : test e.1 ≡ true = ap test same ∙ t in
-      subst (λ z. counted z e (filter (λ d. narrow d.1) h) < passing test (e ∷ h)) (sym a)
-      (subst (λ z. counted false e (filter (λ d. narrow d.1) h) < counted z e (filter (λ d. test d.1) h)) (sym b) (omega (arith, few)))
+  less (e ∷ h) zero r s t n = grind (arith, same_Some, fewer, counted, passing)
   less (e ∷ h) (suc k) r s t n = counted_less (narrow e.1) (test e.1) e (filter (λ d. narrow d.1) h) (filter (λ d. test d.1) h) (within e.1) (less h k r s t n)

@@ -1,5 +1,5 @@
 -- What the line of a class has left to do, once a site acts.
-use Rattle.sdd_progress.proofs.AllEnds.{Act, Attempt, Bases, Did, IsServed, List, Msg, None, Option, Queued, Sends, Setting, Site, Some, Ticking, [], active, active_sent, after_send, ap, arith, asks_rows, commit_act, committed_short, false, filter, head_of, if◌then◌else◌, length, map, not, queue, refl, same_number, send_due, sends_of_act, start_act, started, subst, suc, sym, tail_of, ticked, timestamp, tried, true, work_of, work_sent, ℕ, ◌<◌, ◌==◌, ◌∷◌, ◌≡◌, ◌≤◌}
+use Rattle.sdd_progress.proofs.AllEnds.{Act, Attempt, Bases, Did, IsServed, List, Msg, None, Option, Queued, Sends, Setting, Site, Some, Ticking, [], active, ap, arith, asks_rows, commit_act, committed_short, false, filter, head_of, length, map, not, queue, refl, same_number, send_due, start_act, subst, suc, sym, tried, true, work_of, work_sent, ℕ, ◌<◌, ◌==◌, ◌∷◌, ◌≡◌, ◌≤◌}
 use Rattle.sdd_obligations.specs.site_module.SiteLog.{Log}
 use Rattle.sdd_obligations.specs.protocol.declared.entry.Entry as line
 
@@ -8,26 +8,12 @@ class_work s log c = work_of (active s c log) (queue s c log)
 
 -- a message that it sends leaves it no more, and one of its exchange less
 
-tail_short : {A : Type 0} (xs : List A) → length (tail_of xs) ≤ length xs
-tail_short [] = omega arith
-tail_short (x ∷ xs) = omega arith
-
-sent_work : (c : ℕ) (m : Msg) (o : Option Attempt) (qs : List Queued) → work_of (active_sent c m o) qs ≤ work_of o qs
-sent_work c m None qs = omega arith
-sent_work c m (Some a) qs =
-    let t = tail_short a.exchange.to_send in
-    elim (asks_rows a.ts c m) as (λ b. work_of (if b then Some (record a { exchange = after_send a.exchange }) else Some a) qs ≤ work_of (Some a) qs) [
-      | true ↦ omega arith
-      | false ↦ omega arith
-    ]
-
 pub send_up : (s : Setting) (c : ℕ) (log : Log) (to : Site) (m : Msg) (hand : Option ℕ) → class_work s (Did (Sends to m hand) ∷ log) c ≤ class_work s log c
-send_up s c log to m hand = sent_work c m (active s c log) (queue s c log)
+send_up s c log to m hand = (grind (arith))
 
 pub send_falls : (s : Setting) (c : ℕ) (log : Log) (a : Attempt) (act : Act) (to : Site) (m : Msg) (hand : Option ℕ)
     → active s c log ≡ Some a → asks_rows a.ts c m ≡ true → send_due a.exchange ≡ Some act → class_work s (Did (Sends to m hand) ∷ log) c < class_work s log c
-send_falls s c log a act to m hand is asks due =
-    subst (λ o. work_of (active_sent c m o) (queue s c log) < work_of o (queue s c log)) (sym is) (work_sent c m a act (queue s c log) asks due)
+send_falls s c log a act to m hand is asks due = grind (arith, work_sent)
 
 -- a Start
 
@@ -35,19 +21,9 @@ pub tried_long : (n : ℕ) (qs : List Queued) → length (map (tried n) qs) ≡ 
 tried_long n [] = refl
 tried_long n (q ∷ qs) = ap suc (tried_long n qs)
 
-started_less : (n ts : ℕ) (sends : List (Site × Msg)) (qs : List Queued) (q : Queued) → head_of qs ≡ Some q
-    → work_of (started ts sends (head_of qs)) (map (tried n) qs) < work_of None qs
-started_less n ts sends [] q e = absurd (cc)
-started_less n ts sends (x ∷ qs) q e = let l = tried_long n qs in omega arith
-
 pub start_falls : (s : Setting) (table : List line.Entry) (clock : Ticking) (c : ℕ) (log : Log) (q : Queued)
     → active s c log ≡ None → head_of (queue s c log) ≡ Some q → class_work s (Did (start_act s.catalogue table c clock q) ∷ log) c < class_work s log c
-start_falls s table clock c log q idle head =
-    let act : Act = start_act s.catalogue table c clock q in
-    let ts : ℕ = timestamp (ticked clock 1) in
-    let less = started_less q.number ts (sends_of_act act) (queue s c log) q head in
-    rw (same_number c) (subst (λ o. work_of (started ts (sends_of_act act) (head_of (queue s c log)))
-    (map (tried q.number) (queue s c log)) < work_of o (queue s c log)) (sym idle) less)
+start_falls s table clock c log q idle head = grind (arith, tried_long, same_number)
 
 pub start_other : (s : Setting) (table : List line.Entry) (clock : Ticking) (k c : ℕ) (log : Log) (q : Queued) → (k == c) ≡ false
     → class_work s (Did (start_act s.catalogue table k clock q) ∷ log) c ≡ class_work s log c
@@ -56,8 +32,7 @@ start_other s table clock k c log q e = rw e refl
 -- a Commit
 
 committed_less : (a : Attempt) (qs : List Queued) → IsServed (Some a) qs → work_of None (filter (λ q. not (q.number == a.txn)) qs) < work_of (Some a) qs
-committed_less a [] h = absurd h
-committed_less a (q ∷ qs) h = let l = committed_short a (q ∷ qs) h in omega (arith, l)
+committed_less a qs h = grind (arith, committed_short)
 
 pub commit_falls : (s : Setting) (bases : Bases) (c : ℕ) (log : Log) (a : Attempt) → active s c log ≡ Some a → IsServed (active s c log) (queue s c log)
     → class_work s (Did (commit_act s.catalogue bases c a) ∷ log) c < class_work s log c

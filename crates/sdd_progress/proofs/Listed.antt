@@ -1,5 +1,6 @@
 -- Each diagonal of P2 and P3 is one of the graph of waits.
-use Rattle.sdd_progress.proofs.AllWaits.{Bool, ClassNo, Diagonal, DiagonalsListed, Edge, FragNo, List, None, Option, Protocol, Some, WaitDiagonal, [], ap, cons_option, diagonal_at, diagonals, false, refl, same_Some, slice_get, suc, true, wait_protocol, zero, ℕ, ◌∙◌, ◌∷◌, ◌≡◌}
+use Rattle.std.proofs.Common.{arith}
+use Rattle.sdd_progress.proofs.AllWaits.{Bool, ClassNo, Diagonal, DiagonalsListed, Edge, FragNo, List, None, Option, Protocol, Some, WaitDiagonal, [], ap, cons_option, diagonal_at, diagonals, refl, same_Some, slice_get, suc, wait_protocol, zero, ℕ, ◌∙◌, ◌∷◌, ◌≡◌}
 use Rattle.sdd_obligations.specs.protocol.declared.entry.Entry.{Entry}
 
 made : ℕ → ℕ → ℕ → Bool → WaitDiagonal
@@ -8,8 +9,7 @@ made reader writer k own = record { reader = reader; writer = writer; edge = k; 
 made_at : (k : ℕ) (own : Bool) (p : Protocol) (e : Edge) (i j : ClassNo) (f : FragNo) → e ≡ Diagonal i j f
     → p ≡ wait_protocol own → diagonal_at k p e ≡ Some (made i.0 j.0 k own)
 unfolding made
-made_at k true p e i j f edge protocol = ap (λ q. diagonal_at k q e) protocol ∙ ap (diagonal_at k (wait_protocol true)) edge
-made_at k false p e i j f edge protocol = ap (λ q. diagonal_at k q e) protocol ∙ ap (diagonal_at k (wait_protocol false)) edge
+made_at k own p e i j f edge protocol = grind arith
 
 one_further : (o : Option WaitDiagonal) (ds : List WaitDiagonal) (n : ℕ) (d : WaitDiagonal)
     → slice_get ds n ≡ Some d → (m : ℕ) × (slice_get (cons_option o ds) m ≡ Some d)

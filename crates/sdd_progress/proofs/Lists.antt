@@ -1,9 +1,8 @@
 -- Small facts on lists, options and tests.
-use Rattle.sdd_progress.proofs.All.{Bool, List, None, Option, Some, [], both, cond, false, filter, first_some, head_of, if◌then◌else◌, inl, inr, list_all, or_none, refl, slice_get, subst, suc, sym, true, zero, ℕ, ◌&&◌, ◌||◌, ◌∷◌, ◌≡◌, ◌⊎◌}
+use Rattle.sdd_progress.proofs.All.{Bool, List, None, Option, Some, [], arith, both, cond, false, filter, first_some, head_of, if◌then◌else◌, list_all, or_none, refl, slice_get, subst, suc, sym, true, zero, ℕ, ◌&&◌, ◌||◌, ◌∷◌, ◌≡◌, ◌⊎◌}
 
 pub either : (a b : Bool) → (a || b) ≡ true → (a ≡ true) ⊎ (b ≡ true)
-either true b e = inl refl
-either false b e = inr e
+either a b e = grind arith
 
 -- where nothing is found first, nothing is found at any place
 pub none_at : {A B : Type 0} (f : A → Option B) (xs : List A) (k : ℕ) (x : A) → first_some f xs ≡ None → slice_get xs k ≡ Some x → f x ≡ None
@@ -25,16 +24,13 @@ all_true f [] h = refl
 all_true f (x ∷ xs) h = both (f x) (list_all f xs) (h 0 x refl) (all_true f xs (λ k y e. h (suc k) y e))
 
 pub no_head : {A : Type 0} (xs : List A) → head_of xs ≡ None → xs ≡ []
-no_head [] e = refl
-no_head (x ∷ xs) e = cc
+no_head xs e = grind arith
 
 pub head_at : {A : Type 0} (xs : List A) (x : A) → head_of xs ≡ Some x → slice_get xs 0 ≡ Some x
-head_at [] x e = cc
-head_at (y ∷ xs) x e = e
+head_at xs x e = grind arith
 
 pub if_none : {A : Type 0} (b : Bool) (x : A) → (if b then Some x else None) ≡ None → b ≡ false
-if_none true x e = cc
-if_none false x e = refl
+if_none b x e = grind arith
 
 -- an item that fails a test which not all pass
 pub not_all : {A : Type 0} (f : A → Bool) (xs : List A) → list_all f xs ≡ false → (k : ℕ) × (x : A) × (slice_get xs k ≡ Some x) × (f x ≡ false)

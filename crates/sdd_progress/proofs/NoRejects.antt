@@ -1,5 +1,5 @@
 -- An attempt of an undeclared transaction is never rejected, so where none is under way as many are committed as were started.
-use Rattle.sdd_progress.proofs.All.{AllNear, AllZero, Bool, ClassNo, Cond, D, DmNo, Does, Hand, Input, IsModule, IsNear, IsPermitted, IsRejectBy, IsWhole, List, Log, Msg, None, Queued, Read, Some, StartedHead, Ts, TxnNo, U, Use, [], active, all_new, ap, ascending, class_number, contains, eqb-true, fragments_in, hand_was_put, handed, head, head_of, head_put, home, if◌then◌else◌, in_none, inl, inr, is_tried, last_served, local_of, modules_asked, modules_near, permitted_before, pipe_at, place_of_hand, put_in_by_d, puts_to, queue, refl, sends_of_act, sent_to_each, setting_of, slice_get, start_at, start_read, starts, strict_asked, subst, to_site, true, true_or_false, u_fair, u_not_rejected, u_table, uses_of, was_rejected, ℕ, ◌<◌, ◌==◌, ◌∙◌, ◌∷◌, ◌≡◌}
+use Rattle.sdd_progress.proofs.All.{AllNear, AllZero, ClassNo, Cond, D, DmNo, Does, Hand, Input, IsModule, IsNear, IsPermitted, IsRejectBy, IsWhole, List, Log, Msg, None, Queued, Read, Some, StartedHead, Ts, TxnNo, U, Use, [], active, all_new, arith, ascending, class_number, contains, eqb-true, fragments_in, hand_was_put, handed, head, head_of, head_put, home, in_none, inl, inr, is_tried, last_served, local_of, modules_asked, modules_near, permitted_before, pipe_at, place_of_hand, put_in_by_d, puts_to, queue, refl, sends_of_act, sent_to_each, setting_of, slice_get, start_at, start_read, starts, strict_asked, subst, to_site, true, true_or_false, u_fair, u_not_rejected, u_table, uses_of, was_rejected, ℕ, ◌<◌, ◌==◌, ◌∷◌, ◌≡◌}
 use Rattle.sdd_progress.proofs.Lists.{either}
 use Rattle.sdd_obligations.specs.All.{IsRead}
 use Rattle.sdd_obligations.specs.wire.declared.msg.Msg.TheVariants.{Reject}
@@ -27,8 +27,7 @@ read_module g c d log ts k txn n conds uses whole h e =
     elim (true_or_false (contains (modules_asked s c r.queued.text) d.0)) [
       | inl q ↦ near_one g.catalogue.dms d.0 (modules_asked s c r.queued.text)
           (modules_near g.catalogue c (ascending (fragments_in (uses_of g.catalogue r.queued.text))) whole) q
-      | inr q ↦ in_none (to_site (D d) (sends_of_act (start_at s c l r.queued))) p.place m (sent
-          ∙ ap (λ (b : Bool). if b then start_read s c l r.queued d.0 ∷ [] else []) q) there
+      | inr q ↦ grind (arith, in_none, to_site, sends_of_act, start_at, start_read)
     ]
 
 -- no REJECT was handed to U

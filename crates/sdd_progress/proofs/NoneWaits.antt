@@ -1,6 +1,6 @@
 -- Where nothing goes on, no READ waits, so every message is processed and no attempt is under way; if all was idle wherever
 -- a further class list was put in force. Then each READ that waits has conditions of the list in force.
-use Rattle.sdd_progress.proofs.All.{AllDiagonalsIn, AreConditionsOf, Bool, Catalogue, Change, ClassNo, Cond, D, Entry, FragNo, HasDiagonal, Input, IsBelow, IsClass, IsDiagonalIn, IsFromTable, IsHolder, IsIdle, IsIdleAtRedeclares, IsModule, IsPermitted, IsQuiet, IsReader, IsSoundCatalogue, IsSoundList, IsStamped, IsStuck, IsTimestamp, List, Log, Msg, None, P2, P3, Protocol, Read, Setting, Some, Ts, TxnNo, Use, WaitGraph, WaitingRead, WaitsOn, Write, [], active, ap, arith, at_home, at_module, bound, class_number, clock, conditions_at_put, diagonals_listed, differ, dm_no, false, head, head_put, head_stuck, holder, home, home_fair, home_small, if◌then◌else◌, in_range, inl, inr, is_met, length, list_all, local_of, none_waits, not_zero, nth_era, number_of, part_of, permitted_part, pipe, read_classes, reader, redeclares, refl, same_or_not, setting_of, slice_get, stamp_ticks, start_of_active, subst, suc, sym, table_fits, time_at, time_of, true, view_of, wait_graph, wait_protocol, wait_time, write_origin, ℕ, ◌+◌, ◌==◌, ◌∙◌, ◌∷◌, ◌≡◌}
+use Rattle.sdd_progress.proofs.All.{AreConditionsOf, Bool, Catalogue, Change, ClassNo, Cond, D, Entry, FragNo, HasDiagonal, Input, IsBelow, IsClass, IsDiagonalIn, IsFromTable, IsHolder, IsIdle, IsIdleAtRedeclares, IsModule, IsPermitted, IsQuiet, IsReader, IsSoundCatalogue, IsSoundList, IsStamped, IsStuck, IsTimestamp, List, Log, Msg, None, P2, P3, Protocol, Read, Setting, Some, Ts, TxnNo, Use, WaitGraph, WaitingRead, WaitsOn, Write, [], active, ap, arith, at_home, at_module, bound, class_number, clock, conditions_at_put, diagonals_listed, differ, dm_no, false, head, head_put, head_stuck, holder, home, home_fair, home_small, if◌then◌else◌, in_range, inl, inr, is_met, length, list_all, local_of, none_waits, not_zero, nth_era, number_of, part_of, permitted_part, pipe, read_classes, reader, redeclares, refl, same_or_not, setting_of, slice_get, stamp_ticks, start_of_active, subst, suc, sym, table_fits, time_at, time_of, true, view_of, wait_graph, wait_protocol, wait_time, write_origin, ℕ, ◌+◌, ◌==◌, ◌∙◌, ◌≡◌}
 use Rattle.sdd_progress.proofs.Alone.{below_read, zero_time}
 use Rattle.sdd_progress.proofs.Lacking.{has_unanswered}
 use Rattle.sdd_progress.proofs.Lists.{not_all, no_head}
@@ -84,51 +84,28 @@ record IsAlong (G : WaitGraph) (i j time own p2 : ℕ) : Type 0 where
 
 diagonal_in : (cat : Catalogue) (table : List line.Entry) (p : Protocol) (own : Bool) (i j : ℕ) (f : FragNo)
     → p ≡ wait_protocol own → IsDiagonalIn table p i j f → HasDiagonal (wait_graph cat table) i j own
-diagonal_in cat table p own i j f e d =
-    let x = diagonals_listed cat table d.place d.entry d.reader d.writer f own d.there d.edge_is (d.protocol_is ∙ e) in
-    record {
-      place = x.place;
-      diagonal = x.diagonal;
-      at = x.at;
-      reader_is = x.reader_is ∙ d.reader_is;
-      writer_is = x.writer_is ∙ d.writer_is;
-      own_is = x.own_is;
-    }
-
-first_diagonal : (table : List line.Entry) (p : Protocol) (i j : ℕ) (frags more : List FragNo) (f : FragNo)
-    → frags ≡ f ∷ more → AllDiagonalsIn table p i j frags → IsDiagonalIn table p i j f
-first_diagonal table p i j frags more f e all = all 0 f (ap (λ l. slice_get l 0) e)
+diagonal_in cat table p own i j f e d = grind (arith, diagonals_listed)
 
 along : (cat : Catalogue) (table : List line.Entry) (i own p2 : ℕ) (q : Cond) → IsFromTable table i own p2 q
     → IsAlong (wait_graph cat table) i q.class.0 q.time.0 own p2
 along cat table i own p2 q t = elim t.by [
   | inl a ↦ record {
     by_own = true;
-    diagonal = diagonal_in cat table P3 true i q.class.0 t.first refl (first_diagonal table P3 i q.class.0 q.frags t.more t.first t.names a.1);
+    diagonal = diagonal_in cat table P3 true i q.class.0 t.first refl (a.1 0 t.first (ap (λ l. slice_get l 0) t.names));
     time_is = a.0;
   }
   | inr a ↦ record {
     by_own = false;
-    diagonal = diagonal_in cat table P2 false i q.class.0 t.first refl (first_diagonal table P2 i q.class.0 q.frags t.more t.first t.names a.1);
+    diagonal = diagonal_in cat table P2 false i q.class.0 t.first refl (a.1 0 t.first (ap (λ l. slice_get l 0) t.names));
     time_is = a.0;
   }
 ]
-
-wait_by : (b : Bool) (r : WaitingRead) → (if b then r.ts else r.p2) ≡ wait_time b r
-wait_by true r = refl
-wait_by false r = refl
-
-time_along : (G : WaitGraph) (i j time : ℕ) (r : WaitingRead) (a : IsAlong G i j time r.ts r.p2) → time ≡ wait_time a.diagonal.diagonal.own r
-time_along G i j time r a = a.time_is ∙ wait_by a.by_own r ∙ ap (λ b. wait_time b r) (sym a.diagonal.own_is)
 
 cond_along : (g : Input) (log : Log) (c ts : ℕ) (conds : List Cond)
     (from : AreConditionsOf g log c ts conds) (k : ℕ) (q : Cond) → redeclares from.before ≡ redeclares log
     → slice_get conds k ≡ Some q
     → IsAlong (graph_of g log) c q.class.0 q.time.0 ts (bound (setting_of g (home g.catalogue c)) (local_of g (home g.catalogue c) from.before))
-cond_along g log c ts conds from k q since e =
-    let p2 : ℕ = bound (setting_of g (home g.catalogue c)) (local_of g (home g.catalogue c) from.before) in
-    along (nth_era g (redeclares log)).catalogue (nth_era g (redeclares log)).table c ts p2 q
-    (subst (λ n. IsFromTable (nth_era g n).table c ts p2 q) since (from.from_table k q e))
+cond_along g log c ts conds from k q since e = grind (arith, along)
 
 -- a WRITE's time is that of a Start
 
@@ -151,17 +128,7 @@ write_stamp g log j d w of txn changes sound h e =
 module _ (g : Input) (log : Log) (h : IsQuiet g log) (one : IsSoundList g (redeclares log)) (marks : IsIdleAtRedeclares g log) where
   -- a READ of class 0 holds nothing back
   holder_declared : (j t : ℕ) → (j == 0) ≡ false → IsClass g.catalogue j → (k : IsHolder g log j t) → (k.class == 0) ≡ false
-  holder_declared j t z l k = elim (same_or_not k.class 0) [
-    | inr p ↦ p
-    | inl p ↦ (let r = k.reader in
-        let at_zero : head (pipe 0 (at_module g r.d log)) ≡ Some (Read (time_at k.ts) r.of r.txn r.attempt k.conds r.uses) =
-        subst (λ c. head (pipe c (at_module g r.d log)) ≡ Some (Read (time_at k.ts) r.of r.txn r.attempt k.conds r.uses)) p r.head_is in
-        let below = below_read g log j (dm_no r.d) (time_at k.ts) r.of r.txn r.attempt k.conds r.uses
-        (time_at k.write) k.of k.txn k.changes one.fits.sound h.permitted z l r.module_is at_zero
-        k.write_is in
-        let own = zero_time g log (dm_no r.d) (time_at k.ts) r.of r.txn r.attempt k.conds r.uses k.place k.cond h.permitted at_zero k.there in
-        absurd (omega (arith, below, own, k.held)))
-  ]
+  holder_declared j t z l k = grind (arith, same_or_not, below_read, zero_time)
 
   fits : FitsWaitGraph (graph_of g log)
   fits = table_fits (nth_era g (redeclares log)).catalogue (nth_era g (redeclares log)).table one.table.table
@@ -181,7 +148,7 @@ module _ (g : Input) (log : Log) (h : IsQuiet g log) (one : IsSoundList g (redec
       subst (λ p. IsAlong (graph_of g log) r.class x.class.0 x.time.0 r.ts p) (sym w.p2_is) a0 in
       let d = a.diagonal in
       let c = class_of_writer r.class x.class.0 a.by_own d in
-      let time = time_along (graph_of g log) r.class x.class.0 x.time.0 r a in
+      let time = (a.time_is ∙ (grind arith) ∙ ap (λ b. wait_time b r) (sym a.diagonal.own_is)) in
       let below = next_head g log r.class r.ts w.conds w.reader u.place x h one.fits u.there c.0 c.1 u.unmet in
       elim (next_reader g log x.class.0 x.time.0 h c.1 below) [
         | inl e ↦ (let from = conditions g log x.class.0 e.ts e.conds h one.fits.sound marks c.0 e.reader in
@@ -192,12 +159,11 @@ module _ (g : Input) (log : Log) (h : IsQuiet g log) (one : IsSoundList g (redec
             let q : WaitingRead = read_number g log k.class k.ts k.conds from.0 in
             let b : IsAlong (graph_of g log) q.class k.cond.class.0 k.cond.time.0 q.ts q.p2 =
             cond_along g log k.class k.ts k.conds from.0 k.place k.cond from.1 k.there in
-            let held_time = time_along (graph_of g log) q.class k.cond.class.0 k.cond.time.0 q b in
+            let held_time = (b.time_is ∙ (grind arith) ∙ ap (λ b. wait_time b q) (sym b.diagonal.own_is)) in
             let o = b.diagonal in
             holder d.place d.diagonal d.at d.reader_is q (waiting_number g log k.class k.ts k.conds z k.reader from.0 from.1) o.place o.diagonal o.at
             o.reader_is (o.writer_is ∙ k.names ∙ sym d.writer_is)
-            k.write (write_stamp g log x.class.0 k.reader.d k.write k.of k.txn k.changes one.fits.sound
-            h.permitted k.write_is) (omega (arith, k.held, held_time)) (omega (arith, k.below, time)))
+            k.write (grind (arith, write_stamp)) (omega (arith, k.held, held_time)) (omega (arith, k.below, time)))
       ]
 
   none_declared : (c ts : ℕ) (conds : List Cond) → (c == 0) ≡ false → ¬ IsReader g log c ts conds

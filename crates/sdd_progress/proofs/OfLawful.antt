@@ -1,5 +1,5 @@
 -- The laws of answers and of free classes, of lawful logs at whose end an event is over.
-use Rattle.sdd_progress.proofs.AllWaits.{Change, ClassNo, Cond, D, DmNo, EndsAnEvent, Hand, Input, IsAnsweredIn, IsAppliedIn, IsClassHere, IsClassOf, IsFreeClass, IsPermitted, IsRejectedAfter, List, Log, None, Read, Site, Some, Ts, TxnNo, Use, Write, [], active, arith, false, head, home, is_met, lawful_permitted, length, list_all, local_of, pipe_at, queue, setting_of, spoiler, true, view_of, waits, ℕ, ◌++◌, ◌∷◌, ◌≡◌, ◌≤◌, ◌⊎◌}
+use Rattle.sdd_progress.proofs.AllWaits.{Change, ClassNo, Cond, D, DmNo, EndsAnEvent, Hand, Input, IsAnsweredIn, IsAppliedIn, IsClassOf, IsFreeClass, IsPermitted, IsRejectedAfter, List, Log, None, Read, Site, Some, Ts, TxnNo, Use, Write, [], active, arith, false, head, home, is_met, lawful_permitted, length, list_all, local_of, pipe_at, queue, setting_of, spoiler, true, view_of, waits, ℕ, ◌++◌, ◌∷◌, ◌≡◌, ◌≤◌, ◌⊎◌}
 use Rattle.sdd_progress.proofs.ClassSites.{small_homes}
 use Rattle.sdd_progress.proofs.EventOver.{none_due}
 use Rattle.sdd_obligations.specs.tm.Views as tm
@@ -11,15 +11,12 @@ use Rattle.sdd_progress.proofs.Judged as judged
 permitted_to : (g : Input) (log : Log) → EndsAnEvent g log → IsPermitted g log
 permitted_to g log h = lawful_permitted g log h.once h.lawful
 
-class_here : (g : Input) (c : ℕ) (d : DmNo) → c ≤ length g.catalogue.classes → IsClassHere (setting_of g (D d)) c
-class_here g c d l = omega arith
-
 pub answered : (g : Input) (d : DmNo) (c : ℕ) (later log : Log) (ts : Ts) (of : ClassNo) (txn : TxnNo) (attempt : ℕ) (conds : List Cond) (uses : List Use)
     → EndsAnEvent g (later ++ log) → c ≤ length g.catalogue.classes → 1 ≤ d.0 → d.0 ≤ g.catalogue.dms
     → waits c (local_of g (D d) log) ≡ true → head (pipe_at g c d log) ≡ Some (Read ts of txn attempt conds uses)
     → list_all (is_met (view_of (setting_of g (D d)) (local_of g (D d) log))) conds ≡ true → IsAnsweredIn d c txn attempt later
 answered g d c later log ts of txn attempt conds uses h l lo hi w e met =
-    ready.answered g d c later log ts of txn attempt conds uses (permitted_to g (later ++ log) h) (small_homes g h.sound) (class_here g c d l) lo hi w e met
+    ready.answered g d c later log ts of txn attempt conds uses (permitted_to g (later ++ log) h) (small_homes g h.sound) (omega arith) lo hi w e met
     (none_due g (later ++ log) h.over)
 
 pub answered_or_rejected : (g : Input) (d : DmNo) (c : ℕ) (later log : Log) (ts : Ts) (of : ClassNo) (txn : TxnNo) (attempt : ℕ) (conds : List Cond) (uses : List Use)
@@ -30,7 +27,7 @@ pub answered_or_rejected : (g : Input) (d : DmNo) (c : ℕ) (later log : Log) (t
     → IsAnsweredIn d c txn attempt later ⊎ IsRejectedAfter g log d c txn attempt conds later
 answered_or_rejected g d c later log ts of txn attempt conds uses h l lo hi w e met clean =
     judged.answered_or_rejected g d c later log ts of txn attempt conds uses (permitted_to g (later ++ log) h) (small_homes g h.sound)
-    (class_here g c d l) lo hi w e met clean (none_due g (later ++ log) h.over)
+    (omega arith) lo hi w e met clean (none_due g (later ++ log) h.over)
 
 pub answered_by_end : (g : Input) (i : ℕ) (d : DmNo) (from : Site) (n : ℕ) (later log : Log) (ts : Ts) (of : ClassNo) (txn : TxnNo) (attempt : ℕ) (conds : List Cond) (uses : List Use)
     → IsFreeClass g i → 1 ≤ d.0 → d.0 ≤ g.catalogue.dms → of.0 ≡ i

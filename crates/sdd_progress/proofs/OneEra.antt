@@ -1,5 +1,5 @@
 -- No class list is put in force between the Submit of a transaction and one of its Starts.
-use Rattle.sdd_progress.proofs.All.{Commit, Committed, Did, Does, HasCommit, Input, IsAttempt, IsCommitted, IsRecordAt, IsSubmitted, Log, Submit, Submitted, [], act_local, ap, append_assoc, arith, commit_act, committed_in, committed_later, dec_le, eras_begun, eras_of, event_at, false, history, home, is_committed, length, length-append, one_start_class, redeclares, refl, start_act_of, start_in, submit_in, subst, sym, true, txn_no, ℕ, ◌++◌, ◌+◌, ◌<◌, ◌∙◌, ◌∷◌, ◌≡◌, ◌≤◌}
+use Rattle.sdd_progress.proofs.All.{Committed, Did, Does, HasCommit, Input, IsAttempt, IsCommitted, IsSubmitted, Log, Submit, Submitted, [], act_local, ap, append_assoc, arith, commit_act, committed_in, committed_later, dec_le, eras_begun, eras_of, event_at, false, history, home, is_committed, length, length-append, one_start_class, redeclares, refl, start_act_of, start_in, submit_in, subst, sym, true, txn_no, ℕ, ◌++◌, ◌+◌, ◌<◌, ◌∙◌, ◌∷◌, ◌≡◌, ◌≤◌}
 use Rattle.sdd_progress.proofs.SinceRedeclare.{redeclares_back}
 use Rattle.sdd_progress.proofs.Apart.{apart}
 use Rattle.sdd_progress.proofs.AtRest.{commit_there}
@@ -18,8 +18,7 @@ module _ (g : Input) (log : Log) (w : Known g log) where
       let t : Committed = record { start = b.attempt; reply = c.reply; changes = c.changes; values = c.values; rows = c.rows; place = place } in
       let ct : IsCommitted (history log) t = record {
         started = b.started;
-        committed = subst (λ m. IsRecordAt (history log) place (Commit (txn_no m) b.attempt.number c.reply c.changes c.values c.rows)) (sym b.txn_is)
-            (subst (λ m. IsRecordAt (history log) place (Commit (txn_no a.txn) m c.reply c.changes c.values c.rows)) (sym b.number_is) c.is_recorded);
+        committed = grind (arith, history, txn_no);
       } in
       let t0 = committed_in g log t w.sound w.permitted ct in
       let class : a.class ≡ b.attempt.class = one_start_class g log a b.attempt w.permitted (start_in g log a w.sound w.permitted s)
@@ -44,8 +43,7 @@ module _ (g : Input) (log : Log) (w : Known g log) where
   none_between a k s t l =
       let x = start_in g log a w.sound w.permitted s in
       let act = Does (home g.catalogue a.class) (start_act_of a x.sends) in
-      let start = begun_at g log act _ x.later x.before a.place refl x.is x.place_is in
-      let p = apart g log w a.txn k t act x.later x.before x.is (omega (arith, l, start)) in
+      let p = apart g log w a.txn k t act x.later x.before x.is (omega (arith, l, (begun_at g log act _ x.later x.before a.place refl x.is x.place_is))) in
       let c = commit_there g log w p.mid p.at_rest a.txn k p.submitted in
       let within = c.2 in let below = p.below in
       again a s x.before x.place_is x.says.not_committed (x.later ++ act ∷ []) (x.is ∙ sym (append_assoc x.later (act ∷ []) x.before))
@@ -63,9 +61,8 @@ module _ (g : Input) (log : Log) (w : Known g log) where
       let lower : log ≡ (x.later ++ Submitted x.at a.txn ∷ []) ++ x.rest = x.is ∙ sym (append_assoc x.later (Submitted x.at a.txn ∷ []) x.rest) in
       let i = longer log (y.later ++ act ∷ []) y.before (x.later ++ Submitted x.at a.txn ∷ []) x.rest upper lower
       (omega (arith, w.starts.one_submit a.txn z.place k z.submitted t, before, submit_place, start_place)) in
-      let start = begun_at g log act _ y.later y.before a.place refl y.is y.place_is in
       let submit = begun_at g log (Submitted x.at a.txn) (Submit (txn_no a.txn)) x.later x.rest k refl x.is x.place_is in
-      omega (arith, redeclares_back i.0 x.rest, ap redeclares i.1, start, submit)
+      omega (arith, redeclares_back i.0 x.rest, ap redeclares i.1, (begun_at g log act _ y.later y.before a.place refl y.is y.place_is), submit)
 
   pub one_era : (a : Attempt) (k : ℕ) → IsAttempt (history log) a → IsSubmitted (history log) a.txn k
       → eras_begun (eras_of g log) (event_at (history log) k) ≡ eras_begun (eras_of g log) (event_at (history log) a.place)

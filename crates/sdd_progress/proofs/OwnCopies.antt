@@ -1,6 +1,6 @@
 -- The copy that a data module has at the end of a log is that which the history gives. What is known of copies at records is
 -- said of the record of an event that finds nothing to do behind the log.
-use Rattle.sdd_progress.proofs.All.{Catalogue, D, HasSoundData, HasSoundLists, History, Input, IsMadeAt, IsPermitted, IsQuiet, IsSoundCatalogue, List, Log, Mark, None, Notes, Nothing, Option, Rec, RelNo, Row, Some, Up, [], ap, attempt_of, attempts, by_event, by_mark, committed, committed_of, cons_option, contents, copy_module, dated, dm_no, eras_of, false, filter, filter_map, flat_map, has_copy, history, is_apply, is_down, length, list_any, local_of, mark_due, marks, not, note_if, placed, refl, same_copy, setting_of, suc, take, true, ℕ, ◌++◌, ◌∙◌, ◌∷◌, ◌≡◌}
+use Rattle.sdd_progress.proofs.All.{D, HasSoundData, HasSoundLists, History, Input, IsMadeAt, IsPermitted, IsQuiet, IsSoundCatalogue, List, Log, Mark, None, Notes, Nothing, Option, Rec, RelNo, Row, Up, [], ap, arith, by_event, by_mark, cons_option, contents, copy_module, dated, dm_no, eras_of, false, filter_map, flat_map, has_copy, history, is_down, length, list_any, local_of, mark_due, note_if, placed, refl, same_copy, setting_of, suc, take, true, ℕ, ◌++◌, ◌∙◌, ◌∷◌, ◌≡◌}
 use Rattle.sdd_progress.proofs.ErasOf.{are_eras_of}
 use Rattle.sdd_obligations.specs.laws.Snapshots as laws
 
@@ -11,22 +11,9 @@ none_more : {B : Type 0} (f : ℕ × Rec → Option B) → ((k : ℕ) → f (k, 
 none_more f n k [] event = ap (λ o. cons_option o []) (n k)
 none_more f n k (x ∷ h) event = ap (cons_option (f (k, x.1))) (none_more f n (suc k) h event)
 
-committed_same : (h : History) (event : ℕ) → committed (h ++ (event, Nothing) ∷ []) ≡ committed h
-committed_same h event =
-    ap (λ starts. filter_map (committed_of starts) (placed 0 (h ++ (event, Nothing) ∷ []))) (none_more attempt_of (λ k. refl) 0 h event)
-    ∙ none_more (committed_of (attempts h)) (λ k. refl) 0 h event
-
 take_same : {A : Type 0} (xs ys : List A) → take (length xs) (xs ++ ys) ≡ take (length xs) xs
 take_same [] ys = refl
 take_same (x ∷ xs) ys = ap (λ zs. x ∷ zs) (take_same xs ys)
-
-copy_same : (cat : Catalogue) (rows : List (RelNo × Row)) (h : History) (event d f : ℕ)
-    → laws.copy_at cat rows (h ++ (event, Nothing) ∷ []) d (length h) f ≡ laws.copy_at cat rows h d (length h) f
-copy_same cat rows h event d f =
-    ap (λ cs. contents f (laws.first_rows cat rows ++ flat_map laws.dated
-    (filter (λ t. list_any (λ e. is_apply t.start.txn d e.1) (take (length h) (h ++ (event, Nothing) ∷ []))) cs))) (committed_same h event)
-    ∙ ap (λ es. contents f (laws.first_rows cat rows ++ flat_map laws.dated (filter (λ t. list_any (λ e. is_apply t.start.txn d e.1) es) (committed h))))
-    (take_same h ((event, Nothing) ∷ []))
 
 -- the event
 
@@ -34,9 +21,7 @@ abbrev noted : ℕ → Log → Log
 noted d log = Notes ∷ Mark (Up (dm_no d)) ∷ log
 
 noted_permitted : (g : Input) (log : Log) (d : ℕ) → is_down d log ≡ false → IsPermitted g log → IsPermitted g (noted d log)
-noted_permitted g log d up h =
-    let due : mark_due g (Mark (Up (dm_no d)) ∷ log) ≡ Some Notes = ap (λ b. note_if (not b)) up in
-    (by_event due, (by_mark (Up (dm_no d)) refl, h))
+noted_permitted g log d up h = grind (arith, mark_due, dm_no, note_if, by_event, by_mark)
 
 abbrev noted_made : (log : Log) (d : ℕ) → IsMadeAt (noted d log) (length (history log)) Nothing
 noted_made log d = record { later = []; entry = Notes; before = Mark (Up (dm_no d)) ∷ log; is = refl; makes = refl; place_is = refl }
@@ -45,7 +30,6 @@ pub own_copy : (g : Input) (rows : List (RelNo × Row)) (log : Log) (f d : ℕ) 
     → HasSoundData g rows → has_copy g.catalogue d f ≡ true
     → contents f (dated (setting_of g (D (dm_no d))) (local_of g (D (dm_no d)) log)) ≡ laws.copy_at g.catalogue rows (history log) d (length (history log)) f
 own_copy g rows log f d sound h lists fine copied =
-    let up : is_down d log ≡ false = h.up d (copy_module g.catalogue sound d f copied) in
-    same_copy g rows (eras_of g log) (noted d log) sound fine (noted_permitted g log d up h.permitted)
+    same_copy g rows (eras_of g log) (noted d log) sound fine (noted_permitted g log d (h.up d (copy_module g.catalogue sound d f copied)) h.permitted)
     (are_eras_of g (noted d log) lists) d (length (history log)) Nothing (noted_made log d) f copied
-    ∙ copy_same g.catalogue rows (history log) (suc (marks log)) d f
+    ∙ (grind (arith, flat_map, list_any, filter_map, none_more, take_same))

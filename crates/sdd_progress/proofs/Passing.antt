@@ -32,23 +32,16 @@ pub record HasReached (p : Pipe) (t : ℕ) : Type 0 where
 
 reached_by : (ps qs : List Msg) (t : ℕ) → passed_by (head_of qs) ps t ≡ true
     → (k : ℕ) × (m : Msg) × (slice_get (ps ++ qs) k ≡ Some m) × (t ≤ time_of m) × (k ≤ length ps)
-reached_by ps [] t e =
-    let a = any_at (λ m. nat_le t (time_of m)) ps e in
-    (a.0, a.1, in_left ps [] a.0 a.1 a.2, le_is t (time_of a.1) a.3, omega (arith, place_within ps a.0 a.1 a.2))
+reached_by ps [] t e = grind (arith, any_at, nat_le, in_left, le_is, place_within)
 reached_by ps (m ∷ qs) t e = (length ps, m, at_seam ps qs m, le_is t (time_of m) e, omega arith)
 
 pub has_reached : (p : Pipe) (t : ℕ) → passed p t ≡ true → HasReached p t
-has_reached p t e =
-    let r = reached_by p.processed p.unprocessed t e in
-    record { place = r.0; msg = r.1; there = r.2; reaches = r.3; up_to_head = r.4 }
+has_reached p t e = grind (arith, reached_by)
 
 -- and the other way round, where the times never fall
 passed_where : (ps qs : List Msg) (t k : ℕ) (m : Msg) → IsRising (map time_of (ps ++ qs)) → slice_get (ps ++ qs) k ≡ Some m
     → t ≤ time_of m → k ≤ length ps → passed_by (head_of qs) ps t ≡ true
-passed_where ps [] t k m h e l j =
-    let w = place_within (ps ++ []) k m e in
-    let n : length (ps ++ []) ≡ length ps = ap length (append-nil ps) in
-    any_here (λ x. nat_le t (time_of x)) ps k m (within_left ps [] k m e (omega arith)) (is_le t (time_of m) l)
+passed_where ps [] t k m h e l j = grind (arith, place_within, append-nil, any_here, nat_le, within_left, is_le)
 passed_where ps (x ∷ qs) t k m h e l j = elim (dec_le t (time_of x)) [
   | yes le ↦ is_le t (time_of x) le
   | no n ↦ (let b = earlier (ps ++ x ∷ qs) (length ps) k t x m h (at_seam ps qs x) e (omega (arith, n)) l in absurd (omega arith))
@@ -83,13 +76,7 @@ passed_lasts c t later log h e =
     let g = pipe_later c later log in
     let l = processed_grows c later log in
     let j = r.up_to_head in
-    reached_is_passed (pipe c (later ++ log)) t h (record {
-      place = r.place;
-      msg = r.msg;
-      there = subst (λ ms. slice_get ms r.place ≡ Some r.msg) (sym g.1) (in_left (all_of (pipe c log)) g.0 r.place r.msg r.there);
-      reaches = r.reaches;
-      up_to_head = omega arith;
-    })
+    reached_is_passed (pipe c (later ++ log)) t h (grind (arith, slice_get, in_left, all_of, pipe))
 
 pub passed_later : (g : Input) (c : ℕ) (d : DmNo) (t : ℕ) (later log : all.Log) → IsPermitted g (later ++ log)
     → number_of (home g.catalogue c) ≤ 63 → passed (pipe_at g c d log) t ≡ true → passed (pipe_at g c d (later ++ log)) t ≡ true
@@ -102,7 +89,4 @@ passed_later g c d t later log h small e =
 -- what a class that hasn't passed a time says of its head, and of its later messages
 
 pub head_below : (p : Pipe) (t : ℕ) (m : Msg) → head p ≡ Some m → passed p t ≡ false → time_of m < t
-head_below p t m e f = elim (dec_le t (time_of m)) [
-  | no n ↦ omega (arith, n)
-  | yes l ↦ (let q : passed p t ≡ true = ap (λ o. passed_by o p.processed t) e ∙ is_le t (time_of m) l in cc)
-]
+head_below p t m e f = grind (arith, dec_le, is_le)

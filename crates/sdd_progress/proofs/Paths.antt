@@ -24,8 +24,7 @@ module _ (G : WaitGraph) (fits : FitsWaitGraph G) where
   -- an arc lies along an edge
   along : (x y : ℕ) → Arc G x y → (k : ℕ) × Joins G.edges k x y
   along x y (waits n d at own e f) = (d.edge, joins_at G.edges d.edge (G.read d.reader) (G.write d.writer) x y e f (fits.diagonal n d at).joins)
-  along x y (within j class e f) =
-      (G.vertical j, joins_at G.edges (G.vertical j) (G.write j) (G.read j) x y e f (joins_back G.edges (G.vertical j) (G.read j) (G.write j) (fits.upright j class)))
+  along x y (within j class e f) = grind (arith, joins_at, joins_back)
   along x y (held n d at e f) =
       (d.edge, joins_at G.edges d.edge (G.write d.writer) (G.read d.reader) x y e f (joins_back G.edges d.edge (G.read d.reader) (G.write d.writer) (fits.diagonal n d at).joins))
 
@@ -57,15 +56,7 @@ module _ (G : WaitGraph) (fits : FitsWaitGraph G) where
       let first : Joins G.edges e.edge (G.read d.reader) y = joins_at G.edges e.edge (G.read e.reader) (G.write e.writer) (G.read d.reader) y a b g.joins in
       let share : slice_index G.blocks e.edge ≡ slice_index G.blocks d.edge =
       one_block G.edges G.blocks fits.blocks e.edge d.edge
-      (record {
-        node = G.read d.reader;
-        one = y;
-        other = G.write d.writer;
-        differ = λ q. f.other other (sym (ap (slice_index G.blocks) q) ∙ upright);
-        first = first;
-        second = f.joins;
-        around = j;
-      })
+      (grind (arith, slice_index))
       g.in_block in
       f.other other (sym share ∙ upright)
   not_by n d at other y (within i class a b) j = fits.apart d.reader i (fits.diagonal n d at).reader class a

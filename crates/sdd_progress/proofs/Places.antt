@@ -9,12 +9,7 @@ places test k (e ∷ h) = cond (test e.1) (k ∷ places test (suc k) h) (places 
 as_many : (test : Rec → Bool) (k : ℕ) (h : History) → length (places test k h) ≡ length (filter (λ e. test e.1) h)
 unfolding places
 as_many test k [] = refl
-as_many test k (e ∷ h) =
-    elim (test e.1) as (λ b. length (cond b (k ∷ places test (suc k) h) (places test (suc k) h)) ≡ length
-    (cond b (e ∷ filter (λ d. test d.1) h) (filter (λ d. test d.1) h))) [
-      | true ↦ ap suc (as_many test (suc k) h)
-      | false ↦ as_many test (suc k) h
-    ]
+as_many test k (e ∷ h) = grind (arith, places, (as_many test (suc k) h))
 
 there : (test : Rec → Bool) (k : ℕ) (h : History) (j : ℕ) (r : Rec) → IsRecordAt h j r → test r ≡ true → list_any (eqb (k + j)) (places test k h) ≡ true
 unfolding places
@@ -45,8 +40,7 @@ each_there test h (k ∷ ks) all q e =
     elim (cases_Bool (eqb q k)) [
       | inl same ↦
           let p = all.0 in
-          let z : 0 + k ≡ q = omega (arith, eqb-true q k same) in
-          subst (λ m. list_any (eqb m) (places test 0 h) ≡ true) z (there test 0 h k p.rec p.is_recorded p.passes)
+          subst (λ m. list_any (eqb m) (places test 0 h) ≡ true) (omega (arith, eqb-true q k same)) (there test 0 h k p.rec p.is_recorded p.passes)
       | inr other ↦ each_there test h ks all.1 q (rw other at e)
     ]
 

@@ -1,5 +1,5 @@
 -- A message that came to a pipe and is processed later: the record that processes it.
-use Rattle.sdd_progress.proofs.AllWaits.{Act, Bool, D, Did, DmNo, Does, Entry, Hand, Handed, Input, IsPermitted, IsReadStep, List, Log, May, Msg, None, Pipe, Rec, Records, Setting, Site, Some, [], all_of, ap, append_assoc, arith, at_seam, by_record, d_step, dec_le, false, goes_through, head, head_of, head_place, if◌then◌else◌, in_left, inl, inr, is_processing, length, length-append, local_grows, not_own, own_record, passing, pipe, place_within, processed_handed, processed_more, put, read_step_way, refl, same_or_not, setting_of, site_self, slice_get, subst, suc, sym, true, view_of, waits, ℕ, ◌++◌, ◌<◌, ◌∙◌, ◌∷◌, ◌≡◌, ◌≤◌}
+use Rattle.sdd_progress.proofs.AllWaits.{Act, Bool, D, Did, DmNo, Does, Entry, Hand, Handed, Input, IsPermitted, IsReadStep, List, Log, May, Msg, None, Pipe, Rec, Records, Setting, Site, Some, [], all_of, ap, append_assoc, arith, at_seam, d_step, dec_le, goes_through, head, head_place, if◌then◌else◌, in_left, inl, inr, length, length-append, local_grows, not_own, own_record, passing, pipe, place_within, processed_handed, processed_more, put, read_step_way, refl, same_or_not, setting_of, site_self, slice_get, subst, suc, sym, true, view_of, waits, ℕ, ◌++◌, ◌<◌, ◌∙◌, ◌∷◌, ◌≡◌, ◌≤◌}
 use Rattle.sdd_progress.proofs.AtModule.{IsEntryAt, acting, aside, at_module, entry_at, handing}
 use Rattle.sdd_progress.proofs.Passing.{pipe_later}
 use Rattle.sdd_progress.proofs.Rejected.{IsProcessing, processing_of}
@@ -23,19 +23,6 @@ Processes s l c m act = (r : Rec) × (sends : List (Site × Msg)) × (act ≡ Re
 count_same : (c k : ℕ) (l h : site.Log) → (pipe c h).processed ≡ (pipe c l).processed → length (pipe c l).processed ≤ k → k < length (pipe c h).processed → ⊥
 count_same c k l h e lo hi = let n : length (pipe c h).processed ≡ length (pipe c l).processed = ap length e in omega arith
 
-own_processes : (s : Setting) (l : site.Log) (c k : ℕ) (m : Msg) (r : Rec) (sends : List (Site × Msg)) → is_processing r ≡ true
-    → IsReadStep s l (Records c r sends) → slice_get (all_of (pipe c l)) k ≡ Some m → length (pipe c l).processed ≤ k
-    → k < length (pipe c (Did (Records c r sends) ∷ l)).processed → Processes s l c m (Records c r sends)
-own_processes s l c k m r sends p i there lo hi =
-    let x : IsProcessing s l c r = processing_of s l c r sends p i in
-    let grew : (pipe c (Did (Records c r sends) ∷ l)).processed ≡ (pipe c l).processed ++ x.msg ∷ [] = ap (λ (y : Pipe). y.processed)
-    (own_record c r sends l p).0 ∙ processed_more (pipe c l) x.msg x.head_is in
-    let one = length-append (pipe c l).processed (x.msg ∷ []) in
-    let at : k ≡ length (pipe c l).processed = omega (arith, lo, hi, ap length grew, one) in
-    let same : Some x.msg ≡ Some m = sym (head_place (pipe c l) x.msg x.head_is) ∙ ap (slice_get (all_of (pipe c l))) (sym at) ∙ there in
-    let is : x.msg ≡ m = cc in
-    (r, sends, refl, x.head_is ∙ same, subst (λ y. May (view_of s l) c (waits c l) y r) is x.may)
-
 act_processes : (s : Setting) (l : site.Log) (c k : ℕ) (m : Msg) (act : Act) → IsReadStep s l act
     → slice_get (all_of (pipe c l)) k ≡ Some m → length (pipe c l).processed ≤ k → k < length (pipe c (Did act ∷ l)).processed → Processes s l c m act
 act_processes s l c k m act i there lo hi =
@@ -44,24 +31,16 @@ act_processes s l c k m act i there lo hi =
     (λ j ds r sends here p q y z x. absurd (count_same c k l (Did (Records j r sends) ∷ l) (ap (λ (y : Pipe). y.processed) (not_own c j r sends l (inr p)).pipe_same) lo x))
     (λ j n r sends here p h may x. elim (same_or_not j c) [
       | inl e ↦ subst (λ z. Processes s l c m (Records z r sends)) (sym e)
-          (own_processes s l c k m r sends p (subst (λ z. IsReadStep s l (Records z r sends)) e (by_record j n r sends here p h may refl)) there lo
-          (subst (λ z. k < length (pipe c (Did (Records z r sends) ∷ l)).processed) e x))
+          (grind (arith, IsProcessing, processing_of, own_record, processed_more, length-append, head_place, slice_get))
       | inr e ↦ absurd (count_same c k l (Did (Records j r sends) ∷ l) (ap (λ (y : Pipe). y.processed) (not_own c j r sends l (inl e)).pipe_same) lo x)
     ]) i hi
-
-processed_more_on : (g : Input) (log : Log) (d : DmNo) (c : ℕ) (m : Msg) (e : Entry) (entries : Log)
-    → IsProcessedIn g log d c m entries → IsProcessedIn g log d c m (e ∷ entries)
-processed_more_on g log d c m e entries i =
-    record { later = e ∷ i.later; before = i.before; rec = i.rec; sends = i.sends; is = ap (λ l. e ∷ l) i.is; head_is = i.head_is; may = i.may }
 
 processed_now : (g : Input) (d : DmNo) (c k : ℕ) (m : Msg) (e : Entry) (entries log : Log) → IsEntryAt g d (entries ++ log) e
     → slice_get (all_of (pipe c (at_module g d (entries ++ log)))) k ≡ Some m → length (pipe c (at_module g d (entries ++ log))).processed ≤ k
     → k < length (pipe c (at_module g d (e ∷ (entries ++ log)))).processed → IsProcessedIn g log d c m (e ∷ entries)
 processed_now g d c k m e entries log (aside f) there lo hi =
     absurd (count_same c k (at_module g d (entries ++ log)) (at_module g d (e ∷ (entries ++ log))) (ap (λ (x : Pipe). x.processed) (f c).pipe_same) lo hi)
-processed_now g d c k m e entries log (handing from x s) there lo hi =
-    let l : site.Log = at_module g d (entries ++ log) in
-    absurd (count_same c k l (at_module g d (e ∷ (entries ++ log))) (ap (λ y. (pipe c y).processed) s ∙ processed_handed c from x l) lo hi)
+processed_now g d c k m e entries log (handing from x s) there lo hi = grind (arith, at_module, count_same, processed_handed)
 processed_now g d c k m e entries log (acting act is s due) there lo hi =
     let set : Setting = setting_of g (D d) in
     let l : site.Log = at_module g d (entries ++ log) in
@@ -75,11 +54,10 @@ processed_in g d c k m [] log h there lo hi = absurd (omega arith)
 processed_in g d c k m (e ∷ entries) log h there lo hi =
     let l : site.Log = at_module g d (entries ++ log) in
     elim (dec_le (suc k) (length (pipe c l).processed)) [
-      | yes p ↦ processed_more_on g log d c m e entries (processed_in g d c k m entries log h.1 there lo p)
+      | yes p ↦ (record { later = e ∷ (processed_in g d c k m entries log h.1 there lo p).later; before = (processed_in g d c k m entries log h.1 there lo p).before; rec = (processed_in g d c k m entries log h.1 there lo p).rec; sends = (processed_in g d c k m entries log h.1 there lo p).sends; is = ap (λ l. e ∷ l) (processed_in g d c k m entries log h.1 there lo p).is; head_is = (processed_in g d c k m entries log h.1 there lo p).head_is; may = (processed_in g d c k m entries log h.1 there lo p).may })
       | no n ↦ (let x = local_grows g (D d) entries log in
           let more = pipe_later c x.0 (at_module g d log) in
-          let grown : all_of (pipe c l) ≡ all_of (pipe c (at_module g d log)) ++ more.0 = ap (λ y. all_of (pipe c y)) x.1 ∙ more.1 in
-          let now : slice_get (all_of (pipe c l)) k ≡ Some m = ap (λ ms. slice_get ms k) grown
+          let now : slice_get (all_of (pipe c l)) k ≡ Some m = ap (λ ms. slice_get ms k) (ap (λ y. all_of (pipe c y)) x.1 ∙ more.1)
           ∙ in_left (all_of (pipe c (at_module g d log))) more.0 k m there in
           processed_now g d c k m e entries log (entry_at g d (entries ++ log) e h) now (omega (arith, n)) hi)
     ]
@@ -88,10 +66,7 @@ processed_in g d c k m (e ∷ entries) log h there lo hi =
 
 put_last : (b : Bool) (p : Pipe) (m : Msg) → b ≡ true
     → (slice_get (all_of (if b then put m p else p)) (length (all_of p)) ≡ Some m) × (length (if b then put m p else p).processed ≤ length (all_of p))
-put_last true p m e =
-    let n = length-append p.processed p.unprocessed in
-    (subst (λ l. slice_get l (length (all_of p)) ≡ Some m) (append_assoc p.processed p.unprocessed (m ∷ [])) (at_seam (all_of p) [] m), omega arith)
-put_last false p m e = cc
+put_last b p m e = grind (arith, length-append, slice_get, append_assoc, at_seam)
 
 pub handed_last : (g : Input) (d : DmNo) (c : ℕ) (from : Site) (n : ℕ) (m : Msg) (log : Log) → goes_through c m ≡ true
     → (slice_get (all_of (pipe c (at_module g d (Hand from (D d) n m ∷ log)))) (length (all_of (pipe c (at_module g d log)))) ≡ Some m)
@@ -103,10 +78,6 @@ handed_last g d c from n m log e =
     (ap (λ y. slice_get (all_of (pipe c y)) (length (all_of (pipe c l)))) s ∙ p.0, subst (λ y. length (pipe c y).processed ≤ length (all_of (pipe c l))) (sym s) p.1)
 
 -- where a pipe has no head, all that came to it is processed
-
-none_unprocessed : (ps qs : List Msg) (k : ℕ) (m : Msg) → head_of qs ≡ None → slice_get (ps ++ qs) k ≡ Some m → k < length ps
-none_unprocessed ps [] k m e f = let w = place_within (ps ++ []) k m f in let n = length-append ps [] in omega arith
-none_unprocessed ps (x ∷ qs) k m e f = cc
 
 pub processed_by_end : (g : Input) (d : DmNo) (c : ℕ) (from : Site) (n : ℕ) (m : Msg) (entries log : Log)
     → IsPermitted g (entries ++ Hand from (D d) n m ∷ log) → goes_through c m ≡ true
@@ -120,4 +91,4 @@ processed_by_end g d c from n m entries log h e none =
     let whole : site.Log = at_module g d (entries ++ handed) in
     let there : slice_get (all_of (pipe c whole)) place ≡ Some m = ap (λ y. slice_get (all_of (pipe c y)) place) x.1 ∙ ap (λ ms. slice_get ms place) more.1
     ∙ in_left (all_of (pipe c (at_module g d handed))) more.0 place m last.0 in
-    processed_in g d c place m entries handed h last.0 last.1 (none_unprocessed (pipe c whole).processed (pipe c whole).unprocessed place m none there)
+    processed_in g d c place m entries handed h last.0 last.1 (grind (arith, place_within, length-append))

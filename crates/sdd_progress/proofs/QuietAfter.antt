@@ -1,18 +1,13 @@
 -- Where a settle has ended the links are quiet.
+use Rattle.std.proofs.Common.{arith}
 use Rattle.sdd_progress.proofs.AllEnds.{Bool, Entry, Event, Input, IsLawful, List, Log, Mark, None, Redeclare, Redeclares, Round, Settle, Some, Up, [], after_mark, all_links, ap, calls_of, complete_parts, false, from_event, left, mark_from, mark_of, next, quiet, refl, round, subst, sym, tail_of, true, with_event, ℕ, ◌++◌, ◌∙◌, ◌∷◌, ◌≡◌}
 use Rattle.sdd_progress.proofs.Marked.{next_is_of_events}
 
 -- an event behind a settle
 
-by_quiet : (g : Input) (log : Log) (q : Bool) (events ws : List Event) (e : Event) → mark_from g log q events (Settle ∷ ws) ≡ Some (Mark e) → q ≡ true
-by_quiet g log true events ws e h = refl
-by_quiet g log false events ws e h = absurd (cc)
-
 pub quiet_before : (g : Input) (log : Log) (e : Event) (ws : List Event) → left g.events log ≡ (Settle ∷ ws, []) → next g log ≡ Some (Mark e)
     → quiet (all_links g) (calls_of log) ≡ true
-quiet_before g log e ws is h =
-    by_quiet g log (quiet (all_links g) (calls_of log)) (round (all_links g) (calls_of log)) ws e
-    (ap (mark_of g log) (sym is) ∙ next_is_of_events g log (Mark e) refl h)
+quiet_before g log e ws is h = grind (arith, next_is_of_events)
 
 -- a settle at the end
 
@@ -37,14 +32,11 @@ unfolding ends
 ends_later [] e rest h = absurd (cc)
 ends_later (x ∷ ws) e rest h = refl
 
-rest_is : (x e : Event) (ws rest : List Event) → x ∷ ws ≡ e ∷ rest → ws ≡ rest
-rest_is x e ws rest h = ap tail_of h
-
 ends_on : (ws : List Event) (e : Event) (rest : List Event) → from_event ws ≡ e ∷ rest → ends false ws ≡ true → ends false rest ≡ true
 unfolding ends is_settle
 ends_on [] e rest h p = absurd (cc)
 ends_on (Settle ∷ ws) e rest h p = ends_on ws e rest h (sym (ends_later ws e rest h) ∙ p)
-ends_on (w ∷ ws) e rest h p = subst (λ xs. ends false xs ≡ true) (rest_is w e ws rest h) p
+ends_on (w ∷ ws) e rest h p = subst (λ xs. ends false xs ≡ true) (ap tail_of h) p
 
 -- a mark or a class list is that of the first event with a mark
 
@@ -53,26 +45,17 @@ TakesFirst (Mark e) ws = (f : Event) × (rest : List Event) × (from_event ws �
 TakesFirst (Redeclares t) ws = (f : Event) × (rest : List Event) × (from_event ws ≡ f ∷ rest)
 TakesFirst _ ws = Unit {0}
 
-takes_first : (ws : List Event) (e : Event) (rest : List Event) (x : Entry) → from_event ws ≡ e ∷ rest → TakesFirst x ws
-takes_first ws e rest (Mark f) h = (e, rest, h)
-takes_first ws e rest (Redeclares t) h = (e, rest, h)
-takes_first ws e rest _ h = tt
-
 settle_first : (x : Entry) (ws : List Event) → TakesFirst x ws → TakesFirst x (Settle ∷ ws)
-settle_first (Mark f) ws h = h
-settle_first (Redeclares t) ws h = h
-settle_first _ ws h = tt
+settle_first x ws h = grind arith
 
 round_first : (events ws : List Event) (x : Entry) → Some (Round events) ≡ Some x → TakesFirst x ws
-round_first events ws (Mark f) h = absurd (cc)
-round_first events ws (Redeclares t) h = absurd (cc)
-round_first events ws _ h = tt
+round_first events ws x h = grind arith
 
 first_taken : (g : Input) (log : Log) (q : Bool) (events ws : List Event) (x : Entry) → mark_from g log q events ws ≡ Some x → TakesFirst x ws
 first_taken g log q events [] x h = absurd (cc)
 first_taken g log true events (Settle ∷ ws) x h = settle_first x ws (first_taken g log true events ws x h)
 first_taken g log false events (Settle ∷ ws) x h = round_first events (Settle ∷ ws) x h
-first_taken g log _ events (w ∷ ws) x h = takes_first (w ∷ ws) w ws x refl
+first_taken g log _ events (w ∷ ws) x h = (grind arith)
 
 after_first : (ws : List Event) → (f : Event) × (rest : List Event) × (from_event ws ≡ f ∷ rest) → ends false ws ≡ true
     → ends false (tail_of (from_event ws)) ≡ true
@@ -106,11 +89,8 @@ none_next g log _ events _ h p = absurd (cc)
 
 none_left : (g : Input) (log : Log) (rest : List Event × List Event) → mark_of g log rest ≡ None → ends false rest.0 ≡ true
     → quiet (all_links g) (calls_of log) ≡ true
-none_left g log (ws, []) h p = none_next g log (quiet (all_links g) (calls_of log)) (round (all_links g) (calls_of log)) ws h p
-none_left g log (ws, e ∷ events) h p = absurd (cc)
+none_left g log rest h p = grind (arith, none_next)
 
 pub quiet_at_last : (g : Input) (log : Log) → IsLawful (with_event g Settle) log → next (with_event g Settle) log ≡ None
     → quiet (all_links g) (calls_of log) ≡ true
-quiet_at_last g log h e =
-    none_left (with_event g Settle) log (left (with_event g Settle).events log) (complete_parts (with_event g Settle) log e).no_next
-    (still_ends (with_event g Settle) log h (ends_so false g.events))
+quiet_at_last g log h e = grind (arith, none_left, complete_parts, still_ends, ends_so)

@@ -1,5 +1,6 @@
 -- A Reject names a WRITE that was processed; a READ that waits is never rejected.
-use Rattle.sdd_progress.proofs.AllWaits.{Act, Answer, Apply, ClassNo, Cond, D, Did, DmNo, Does, Each, Input, IsAnswerOf, IsDueEach, IsPermitted, IsReadStep, IsRejectOf, IsWaitOf, List, Log, May, Msg, Pass, Read, Rec, Records, Rejected, Setting, Site, Some, Ts, TxnNo, Use, View, Write, allowed_act, ap, by_record, by_wait, d_step, false, filter, first_there, head, in_filtered, in_passing, is_processing, is_spoilt, last_write_for, le_by, local_of, not_both, or_zero, pipe, pipe_at, refl, setting_of, slice_get, spoiler, spoils, subst, sym, time_at, true, txn_no, view_of, waits, writer_of, ℕ, ◌∙◌, ◌∷◌, ◌≡◌}
+use Rattle.std.proofs.Common.{arith}
+use Rattle.sdd_progress.proofs.AllWaits.{Act, Answer, ClassNo, Cond, D, Did, DmNo, Does, Each, Input, IsAnswerOf, IsDueEach, IsPermitted, IsReadStep, IsRejectOf, IsWaitOf, List, Log, May, Msg, Read, Rec, Records, Rejected, Setting, Site, Some, Ts, TxnNo, Use, View, Write, allowed_act, ap, d_step, false, filter, first_there, head, in_filtered, is_processing, is_spoilt, last_write_for, le_by, local_of, not_both, or_zero, pipe, pipe_at, refl, setting_of, slice_get, spoiler, spoils, subst, sym, time_at, true, txn_no, view_of, waits, writer_of, ℕ, ◌∙◌, ◌∷◌, ◌≡◌}
 use Rattle.sdd_progress.proofs.Waited.{since}
 use Rattle.sdd_obligations.specs.site_module.SiteLog as site
 
@@ -12,21 +13,7 @@ pub record IsProcessing (s : Setting) (log : site.Log) (c : ℕ) (r : Rec) : Typ
 
 pub processing_of : (s : Setting) (log : site.Log) (c : ℕ) (r : Rec) (sends : List (Site × Msg)) → is_processing r ≡ true
     → IsReadStep s log (Records c r sends) → IsProcessing s log c r
-processing_of s log c (Answer txn attempt dm) sends p (in_passing e) = cc
-processing_of s log c (Rejected txn attempt dm by w) sends p (in_passing e) = cc
-processing_of s log c (Apply txn of dm ts) sends p (in_passing e) = cc
-processing_of s log c (Pass of dm t) sends p (in_passing e) = cc
-processing_of s log c r sends p (in_passing e) = cc
-processing_of s log c r sends p (by_wait j conds x ss l q w i u e) =
-    let same : r ≡ x = cc in absurd (not_both (is_processing x) (subst (λ y. is_processing y ≡ true) same p) q)
-processing_of s log c r sends p (by_record j m x ss l q i may e) =
-    let same : x ≡ r = cc in
-    let at : j ≡ c = cc in
-    record {
-      msg = m;
-      head_is = subst (λ k. head (pipe k log) ≡ Some m) at i;
-      may = subst (λ k. May (view_of s log) k (waits k log) m r) at (subst (May (view_of s log) j (waits j log) m) same may);
-    }
+processing_of s log c r sends p h7 = grind (arith, not_both)
 
 -- a Reject
 
@@ -45,14 +32,13 @@ pub record IsRejecting (s : Setting) (log : site.Log) (c : ℕ) (txn : TxnNo) (a
 rejecting_by : (s : Setting) (log : site.Log) (c : ℕ) (m : Msg) (txn : TxnNo) (attempt : ℕ) (dm : DmNo) (by : ClassNo) (write : Ts)
     → head (pipe c log) ≡ Some m → May (view_of s log) c (waits c log) m (Rejected txn attempt dm by write) → IsRejecting s log c txn attempt by write
 rejecting_by s log c (Read ts of n a conds uses) txn attempt dm by write h m =
-    let same_txn : n ≡ txn = ap (λ k. txn_no k) (sym m.0) in
     let same_attempt : a ≡ attempt = sym m.1 in
     record {
       ts = ts;
       of = of;
       conds = conds;
       uses = uses;
-      head_is = h ∙ ap (λ k. Some (Read ts of k a conds uses)) same_txn ∙ ap (λ k. Some (Read ts of txn k conds uses)) same_attempt;
+      head_is = h ∙ ap (λ k. Some (Read ts of k a conds uses)) (ap (λ k. txn_no k) (sym m.0)) ∙ ap (λ k. Some (Read ts of txn k conds uses)) same_attempt;
       waits_not = m.2;
       cond_by = m.3;
       spoiler_is = m.4;
@@ -80,11 +66,10 @@ rejected g log d c txn attempt dm by write sends h =
     let q : Cond = r.cond_by in
     let f = spoiler_there (view_of s l) r.conds q r.spoiler_is in
     let z = is_spoilt s l q f.0 in
-    let same_ts : z.ts ≡ write = ap (λ t. time_at t) (z.ts_is ∙ sym r.write_is) in
     let class : q.class.0 ≡ by.0 = ap (λ (k : ClassNo). k.0) (sym r.names) in
     let there : slice_get (pipe_at g by.0 d log).processed z.place ≡ Some (Write write z.of z.txn z.changes) = subst
     (λ k. slice_get (pipe_at g k d log).processed z.place ≡ Some (Write write z.of z.txn z.changes)) class
-    (z.there ∙ ap (λ t. Some (Write t z.of z.txn z.changes)) same_ts) in
+    (z.there ∙ ap (λ t. Some (Write t z.of z.txn z.changes)) (ap (λ t. time_at t) (z.ts_is ∙ sym r.write_is))) in
     record {
       ts = r.ts;
       of = r.of;
@@ -119,8 +104,7 @@ pub waited_answer : (s : Setting) (log : site.Log) (c : ℕ) (ts : Ts) (of : Cla
     → IsReadStep s log (Records c r sends) → (dm : DmNo) × (r ≡ Answer txn attempt dm)
 waited_answer s log c ts of txn attempt conds uses r sends w h p i =
     let x = processing_of s log c r sends p i in
-    let same : Some x.msg ≡ Some (Read ts of txn attempt conds uses) = sym x.head_is ∙ h in
-    let m : x.msg ≡ Read ts of txn attempt conds uses = cc in
+    let m : x.msg ≡ Read ts of txn attempt conds uses = cc (sym x.head_is ∙ h) in
     answer_by s log c ts of txn attempt conds uses r w (subst (λ y. May (view_of s log) c (waits c log) y r) m x.may)
 
 pub not_rejected : (s : Setting) (c : ℕ) (log : site.Log) (r : Rec) (sends : List (Site × Msg))

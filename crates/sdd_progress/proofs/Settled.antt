@@ -8,14 +8,11 @@ use Rattle.sdd_progress.proofs.NoneWaits.{is_idle}
 -- between events
 pub resting_is_quiet : (g : Input) (log : Log) → AreSubmittedOnce g.events → Rests g log → quiet (all_links g) (calls_of log) ≡ true
     → ((d : ℕ) → IsModule g.catalogue d → is_down d log ≡ false) → IsQuiet g log
-resting_is_quiet g log once r links up =
-    record { permitted = lawful_permitted g log once r.lawful; links = links; up = up; no_act = r.no_site; no_hand = none_to_hand g log r.handed_all }
+resting_is_quiet g log once r links up = grind (arith, lawful_permitted, none_to_hand)
 
 -- and at the end
 pub settled_is_quiet : (g : Input) (log : Log) → AreSubmittedOnce g.events → IsSettled g log → IsQuiet g log
-settled_is_quiet g log once s =
-    let o = complete_parts g log s.at_end.complete in
-    record { permitted = lawful_permitted g log once s.at_end.lawful; links = s.links; up = s.at_end.up; no_act = o.no_site; no_hand = o.no_hand }
+settled_is_quiet g log once s = grind (arith, complete_parts, lawful_permitted)
 
 pub settled_is_finished : (g : Input) (log : Log) → HasSoundLists g log → AreSubmittedOnce g.events → IsSettled g log → IsFinished g log
 settled_is_finished g log lists once s =
@@ -32,6 +29,5 @@ settled_is_committed g log lists given s =
 pub settle_ends : (g : Input) (log : Log) (events : List Event) → g.events ≡ events ++ Settle ∷ [] → IsAtEnd g log → IsSettled g log
 settle_ends g log events e s =
     let before : Input = record g { events = events } in
-    let same : g ≡ with_event before Settle = ap (λ es. record g { events = es }) e in
-    let there : IsAtEnd (with_event before Settle) log = subst (λ x. IsAtEnd x log) same s in
+    let there : IsAtEnd (with_event before Settle) log = subst (λ x. IsAtEnd x log) (ap (λ es. record g { events = es }) e) s in
     record { at_end = s; links = quiet_at_last before log there.lawful there.complete }

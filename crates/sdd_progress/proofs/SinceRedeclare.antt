@@ -5,8 +5,7 @@ use Rattle.sdd_progress.proofs.Applied.{pipe_has_all}
 -- a longer log puts no fewer lists in force
 
 pub redeclares_up : (e : Entry) (log : Log) → redeclares log ≤ redeclares (e ∷ log)
-redeclares_up (Redeclares t) log = omega arith
-redeclares_up _ log = omega arith
+redeclares_up e log = grind arith
 
 pub redeclares_back : (later before : Log) → redeclares before ≤ redeclares (later ++ before)
 redeclares_back [] before = omega arith
@@ -31,10 +30,6 @@ redeclare_in [] before = inl refl
 redeclare_in (Redeclares t ∷ later) before = inr (record { after = []; time = t; rest = later; is = refl })
 redeclare_in (x ∷ later) before = further x later before refl (redeclare_in later before)
 
-read_key : (c : ℕ) (ts : Ts) (of : ClassNo) (txn : TxnNo) (attempt : ℕ) (conds : List Cond) (uses : List Use) → of.0 ≡ c
-    → read_at c (Read ts of txn attempt conds uses) ≡ Some ts.0
-read_key c ts of txn attempt conds uses e = let q : (of.0 == c) ≡ true = ap (λ y. y == c) e ∙ same_number c in rw q refl
-
 -- the READ at the head of a pipe wasn't put before nothing went on and all was idle
 not_put_by : (g : Input) (log later mid between : Log) (c d : ℕ) (ts : Ts) (of : ClassNo) (txn : TxnNo) (attempt : ℕ) (conds : List Cond) (uses : List Use)
     → IsPermitted g log → IsSoundCatalogue g.catalogue → IsClass g.catalogue c → IsModule g.catalogue d
@@ -56,11 +51,10 @@ not_put_by g log later mid between c d ts of txn attempt conds uses h sound l m 
     let at1 : slice_get (class_puts g c (dm_no d) log) i.0 ≡ Some x =
     subst (λ ms. slice_get ms i.0 ≡ Some x) (sym (ap (class_puts g c (dm_no d)) is ∙ grown.1)) (processed_stays pm grown.0 i.0 x done) in
     let pl = pipe c (at_module g d log) in
-    let at2 : slice_get (class_puts g c (dm_no d) log) (length pl.processed) ≡ Some x = head_place g c (dm_no d) [] log x h e in
-    let key : read_at c x ≡ Some ts.0 = read_key c ts of txn attempt conds uses (class_number of.0 c ts.0 p.of_class) in
+    let key : read_at c x ≡ Some ts.0 = (let q : (of.0 == c) ≡ true = ap (λ y. y == c) (class_number of.0 c ts.0 p.of_class) ∙ same_number c in rw q refl) in
     let one : i.0 ≡ length pl.processed =
     one_of_key (read_at c) (class_puts g c (dm_no d) log) i.0 (length pl.processed) x x ts.0
-    (reads_strict g c (dm_no d) log h (omega (arith, home_small g.catalogue sound c))) at1 at2 key key in
+    (reads_strict g c (dm_no d) log h (omega (arith, home_small g.catalogue sound c))) at1 (head_place g c (dm_no d) [] log x h e) key key in
     let lg = local_grows g (D (dm_no d)) later mid in
     let same : length pl.processed ≡ length (pipe c (lg.0 ++ at_module g d mid)).processed =
     ap (λ z. length (pipe c z).processed) (ap (at_module g d) is ∙ lg.1) in

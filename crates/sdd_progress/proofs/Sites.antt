@@ -1,5 +1,5 @@
 -- What all sites have left to do, and how many messages are left to be handed over.
-use Rattle.sdd_progress.proofs.AllEnds.{Act, Bool, D, Did, Does, Entry, Hand, Input, IsPermitted, Log, Msg, None, Option, Setting, Site, Some, T, U, all_links, all_new, and_left, and_right, ap, arith, base_of, calls_of, delivered, delivered_puts, hand_number, hand_on, hand_with, handed, if◌then◌else◌, inl, inr, link_of, local_of, message_at, next_at, next_number, number_is, refl, same_Some, same_here, same_is, same_site, sends_of_act, setting_of, sites, slice_get, subst, suc, sym, t_fair, takes_part, true, true_or_false, u_fair, ℕ, ◌&&◌, ◌-◌, ◌<◌, ◌∙◌, ◌∷◌, ◌≡◌, ◌≤◌}
+use Rattle.sdd_progress.proofs.AllEnds.{Act, D, Did, Does, Entry, Hand, Input, IsPermitted, Log, Msg, Setting, Site, Some, T, U, all_links, all_new, and_left, and_right, arith, base_of, delivered, delivered_puts, hand_on, handed, inl, inr, link_of, local_of, next_at, number_is, same_Some, same_here, same_is, same_site, setting_of, sites, slice_get, subst, suc, sym, t_fair, true, true_or_false, u_fair, ℕ, ◌&&◌, ◌-◌, ◌<◌, ◌∷◌, ◌≡◌, ◌≤◌}
 use Rattle.sdd_progress.proofs.AtD.{d_falls, d_work}
 use Rattle.sdd_progress.proofs.AtT.{t_falls, t_work}
 use Rattle.sdd_progress.proofs.AtU.{u_falls, u_work}
@@ -38,18 +38,15 @@ abbrev pub acts_left : Input → Log → ℕ
 acts_left g log = total (work_at g log) (sites g.catalogue.tms g.catalogue.dms)
 
 module _ (g : Input) (log : Log) (at : Site) (act : Act) (h : IsPermitted g log) (due : next_at g log at ≡ Some act) where
-  own_falls : work_at g (Does at act ∷ log) at < work_at g log at
-  own_falls = rw (same_here at) (act_falls g log at act h due)
-
   none_rises : (x : Site) → work_at g (Does at act ∷ log) x ≤ work_at g log x
   none_rises x = elim (true_or_false (same_site x at)) [
     | inl e ↦ let l : work_at g (Does at act ∷ log) x < work_at g log x =
-        subst (λ y. work_at g (Does at act ∷ log) y < work_at g log y) (sym (same_is x at e)) own_falls in omega (arith, l)
+        subst (λ y. work_at g (Does at act ∷ log) y < work_at g log y) (sym (same_is x at e)) (rw (same_here at) (act_falls g log at act h due)) in omega (arith, l)
     | inr e ↦ rw e (omega arith)
   ]
 
   pub does_falls : (k : ℕ) → slice_get (sites g.catalogue.tms g.catalogue.dms) k ≡ Some at → acts_left g (Does at act ∷ log) < acts_left g log
-  does_falls k there = total_less (work_at g (Does at act ∷ log)) (work_at g log) (sites g.catalogue.tms g.catalogue.dms) k at there none_rises own_falls
+  does_falls k there = total_less (work_at g (Does at act ∷ log)) (work_at g log) (sites g.catalogue.tms g.catalogue.dms) k at there none_rises (rw (same_here at) (act_falls g log at act h due))
 
 -- messages that are delivered and not handed over
 
@@ -60,31 +57,20 @@ abbrev pub hands_left : Input → Log → ℕ
 hands_left g log = total (hands_on log) (all_links g)
 
 pub act_hands : (g : Input) (log : Log) (at : Site) (act : Act) → hands_left g (Does at act ∷ log) ≤ hands_left g log
-act_hands g log at act =
-    total_up (hands_on (Does at act ∷ log)) (hands_on log) (all_links g)
-    (λ l. let e = delivered_puts l.0 l.1 at (sends_of_act act) (calls_of log) in omega (arith, e))
+act_hands g log at act = grind (arith, total_up, hands_on, delivered_puts)
 
 module _ (log : Log) (a b : Site) (n : ℕ) (m : Msg) (next : n ≡ suc (handed a b log)) (there : n ≤ delivered (link_of a b log).there) where
-  one_less : hands_on (Hand a b n m ∷ log) (a, b) < hands_on log (a, b)
-  one_less = rw (same_here a, same_here b) (omega arith)
-
   abbrev ends : Site → Site → Site × Site
   ends x y = (x, y)
 
   same_link : (x y : Site) → (same_site x a && same_site y b) ≡ true → ends a b ≡ ends x y
-  same_link x y e =
-      ap (λ (z : Site). ends z b) (sym (same_is x a (and_left (same_site x a) (same_site y b) e)))
-      ∙ ap (λ (z : Site). ends x z) (sym (same_is y b (and_right (same_site x a) (same_site y b) e)))
+  same_link x y e = grind (arith, ends, same_is, and_left, and_right)
 
   none_more : (l : Site × Site) → hands_on (Hand a b n m ∷ log) l ≤ hands_on log l
-  none_more (x, y) = elim (true_or_false (same_site x a && same_site y b)) [
-    | inl e ↦ let l : hands_on (Hand a b n m ∷ log) (x, y) < hands_on log (x, y) =
-        subst (λ z. hands_on (Hand a b n m ∷ log) z < hands_on log z) (same_link x y e) one_less in omega (arith, l)
-    | inr e ↦ rw e (omega arith)
-  ]
+  none_more l = grind (arith, true_or_false, hands_on, same_link, same_here)
 
   pub hand_falls : (g : Input) (k : ℕ) → slice_get (all_links g) k ≡ Some (a, b) → hands_left g (Hand a b n m ∷ log) < hands_left g log
-  hand_falls g k at = total_less (hands_on (Hand a b n m ∷ log)) (hands_on log) (all_links g) k (a, b) at none_more one_less
+  hand_falls g k at = total_less (hands_on (Hand a b n m ∷ log)) (hands_on log) (all_links g) k (a, b) at none_more (rw (same_here a, same_here b) (omega arith))
 
 -- what is handed over on a link is the message after those that are handed
 
@@ -95,17 +81,5 @@ pub record IsHandOn (log : Log) (a b : Site) (e : Entry) : Type 0 where
   pub next : number ≡ suc (handed a b log)
   pub there : number ≤ delivered (link_of a b log).there
 
-message_on : (log : Log) (a b : Site) (n : ℕ) (o : Option Msg) (e : Entry) → n ≡ suc (handed a b log)
-    → n ≤ delivered (link_of a b log).there → hand_with (a, b) n o ≡ Some e → IsHandOn log a b e
-message_on log a b n None e next there h = absurd (cc)
-message_on log a b n (Some m) e next there h = record { number = n; msg = m; is = sym (same_Some (Hand a b n m) e h); next = next; there = there }
-
-number_on : (log : Log) (a b : Site) (c : Bool) (o : Option ℕ) (e : Entry) → next_number (handed a b log) (delivered (link_of a b log).there) ≡ o
-    → (if c then hand_number log (a, b) o else None) ≡ Some e → IsHandOn log a b e
-number_on log a b true (Some n) e is h =
-    let k = number_is (handed a b log) (delivered (link_of a b log).there) n is in
-    message_on log a b n (message_at a b n log) e k.0 k.1 h
-number_on log a b _ _ e is h = absurd (cc)
-
 pub is_hand_on : (log : Log) (a b : Site) (e : Entry) → hand_on log (a, b) ≡ Some e → IsHandOn log a b e
-is_hand_on log a b e h = number_on log a b (takes_part b log) (next_number (handed a b log) (delivered (link_of a b log).there)) e refl h
+is_hand_on log a b e h = (grind (arith, number_is, same_Some))

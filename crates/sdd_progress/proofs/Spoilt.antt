@@ -1,5 +1,5 @@
 -- A condition that is spoilt, and was not before, was spoilt by an Apply in between.
-use Rattle.sdd_progress.proofs.AllWaits.{Act, Apply, Bool, Change, ClassNo, ClassView, Cond, D, Did, DmNo, Does, Entry, Input, IsClassHere, IsPermitted, IsReadStep, IsSpoiltIn, List, Log, May, Msg, None, Pipe, Rec, Records, Setting, Site, Some, Ts, TxnNo, Write, [], ap, arith, class_no, class_not_in_view, cond, d_step, dec_le, false, head, inl, inr, is_at_least, is_processing, le_is, length, list_any, neither_left, neither_right, not_both, not_own, only_one, only_right, own_record, passing, pipe, processed_handed, processed_in_is, processed_more, read_step_way, refl, same_or_not, setting_of, spoiling, spoils, spoils_is, subst, suc, sym, touches, true, true_or_false, txn_no, view_of, waits, ℕ, ◌++◌, ◌∙◌, ◌∷◌, ◌≡◌, ◌≤◌}
+use Rattle.sdd_progress.proofs.AllWaits.{Act, Apply, Bool, Change, ClassNo, Cond, D, Did, DmNo, Does, Entry, Input, IsClassHere, IsPermitted, IsReadStep, IsSpoiltIn, List, Log, May, Msg, Pipe, Rec, Records, Setting, Site, Some, Ts, TxnNo, Write, [], ap, arith, class_not_in_view, d_step, dec_le, false, head, inl, inr, is_processing, le_is, list_any, neither_left, neither_right, not_both, not_own, only_one, only_right, own_record, passing, pipe, processed_handed, processed_in_is, processed_more, read_step_way, same_or_not, setting_of, spoiling, spoils, spoils_is, subst, sym, touches, true, true_or_false, view_of, waits, ℕ, ◌++◌, ◌∙◌, ◌∷◌, ◌≡◌, ◌≤◌}
 use Rattle.sdd_progress.proofs.AtModule.{IsEntryAt, acting, aside, at_module, entry_at, handing}
 use Rattle.sdd_obligations.specs.site_module.SiteLog as site
 
@@ -7,25 +7,13 @@ use Rattle.sdd_obligations.specs.site_module.SiteLog as site
 
 spoils_same : (s : Setting) (l k : site.Log) (q : Cond) → (pipe q.class.0 k).processed ≡ (pipe q.class.0 l).processed
     → spoils (view_of s k) q ≡ spoils (view_of s l) q
-spoils_same s l k q e = elim (dec_le (suc q.class.0) (suc (length s.catalogue.classes))) [
-  | yes here ↦ spoils_is s k q ∙ ap (list_any (spoiling q)) (processed_in_is s k q.class.0 here ∙ e ∙ sym (processed_in_is s l q.class.0 here))
-      ∙ sym (spoils_is s l q)
-  | no n ↦ (let past : suc (length s.catalogue.classes) ≤ q.class.0 = omega (arith, n) in
-      spoils_is s k q
-      ∙ ap (λ (x : ClassView). list_any (spoiling q) x.pipe.processed) (class_not_in_view s k q.class.0 past ∙ sym (class_not_in_view s l q.class.0 past))
-      ∙ sym (spoils_is s l q))
-]
+spoils_same s l k q e = grind (arith, dec_le, spoils_is, list_any, processed_in_is, class_not_in_view)
 
 -- the last of some messages is the first that spoils
 
 any_last : {A : Type 0} (f : A → Bool) (xs : List A) (x : A) → list_any f xs ≡ false → list_any f (xs ++ x ∷ []) ≡ true → f x ≡ true
 any_last f [] x e h = only_one (f x) h
-any_last f (y ∷ xs) x e h =
-    any_last f xs x (neither_right (f y) (list_any f xs) e) (only_right (f y) (list_any f (xs ++ x ∷ [])) (neither_left (f y) (list_any f xs) e) h)
-
-write_spoils : (q : Cond) (ts : Ts) (touching : Bool) → is_at_least q.time.0 (cond touching (Some ts.0) None) ≡ true → (touching ≡ true) × (q.time.0 ≤ ts.0)
-write_spoils q ts true e = (refl, le_is q.time.0 ts.0 e)
-write_spoils q ts false e = cc
+any_last f (y ∷ xs) x e h = grind (arith, neither_right, list_any, only_right, neither_left, (any_last f xs x (neither_right (f y) (list_any f xs) e) (only_right (f y) (list_any f (xs ++ x ∷ [])) (neither_left (f y) (list_any f xs) e) h)))
 
 -- it was applied
 
@@ -37,13 +25,7 @@ IsSpoiledBy s l q act =
 
 applied_by : (s : Setting) (l : site.Log) (q : Cond) (w : Bool) (m : Msg) (r : Rec) (sends : List (Site × Msg))
     → head (pipe q.class.0 l) ≡ Some m → May (view_of s l) q.class.0 w m r → spoiling q m ≡ true → IsSpoiledBy s l q (Records q.class.0 r sends)
-applied_by s l q w (Write ts of n changes) (Apply t j dm u) sends h m e =
-    let x = write_spoils q ts (touches q.frags changes) e in
-    let a : Apply t j dm u ≡ Apply n of dm ts = ap (λ k. Apply (txn_no k) j dm u) m.0 ∙ ap (λ k. Apply n (class_no k) dm u) m.2
-    ∙ ap (λ k. Apply n of dm k) m.1 in
-    (n, of, dm, ts, sends, changes, ap (λ k. Records q.class.0 k sends) a, h, x.1, x.0)
-applied_by s l q w (Write ts of n changes) r sends h m e = absurd m
-applied_by s l q w m r sends h k e = cc
+applied_by s l q w m r sends h k e = grind (arith, le_is)
 
 spoiled_by : (s : Setting) (l : site.Log) (q : Cond) (m : Msg) (r : Rec) (sends : List (Site × Msg)) → IsClassHere s q.class.0
     → is_processing r ≡ true → head (pipe q.class.0 l) ≡ Some m → May (view_of s l) q.class.0 (waits q.class.0 l) m r

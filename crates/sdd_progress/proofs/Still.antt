@@ -1,5 +1,5 @@
 -- Where nothing goes on, nothing is due at any site.
-use Rattle.sdd_progress.proofs.All.{Catalogue, D, Input, IsClass, IsModule, IsQuiet, IsSoundCatalogue, Log, None, Site, Some, T, U, active, ap, at_home, at_map, at_module, at_place, attempt_due, base_of, class_at, dm_no, does_at, does_none, false, first_some, home, inl, inr, is_link, is_site, le-leb, length, local_of, nat_le, next_at, numbers_to, or_none, positive, refl, same_number, same_or_not, served, setting_of, site_there, sites, slice_get, subst, sym, tm_no, true, ℕ, ◌&&◌, ◌-◌, ◌==◌, ◌≡◌, ◌≤◌, ◌⊎◌}
+use Rattle.sdd_progress.proofs.All.{Catalogue, D, Input, IsClass, IsModule, IsQuiet, IsSoundCatalogue, Log, None, Site, Some, T, U, active, ap, arith, at_home, at_map, at_module, at_place, attempt_due, base_of, class_at, dm_no, does_none, false, first_some, home, inl, inr, is_link, is_site, le-leb, length, local_of, next_at, numbers_to, or_none, positive, refl, same_number, same_or_not, served, setting_of, site_there, slice_get, subst, sym, tm_no, true, ℕ, ◌-◌, ◌==◌, ◌≡◌, ◌≤◌}
 use Rattle.sdd_progress.proofs.Lists.{kept_there, none_at}
 use Rattle.sdd_obligations.specs.dm.Due as dm
 use Rattle.sdd_obligations.specs.dm.Views as dm_views
@@ -9,20 +9,15 @@ use Rattle.sdd_obligations.specs.umod.Due as um
 use Rattle.sdd_obligations.specs.umod.Views as um_views
 
 pub none_due : (g : Input) (log : Log) (at : Site) → IsQuiet g log → is_site g.catalogue.tms g.catalogue.dms at ≡ true → next_at g log at ≡ None
-none_due g log at h e =
-    let i = site_there g.catalogue.tms g.catalogue.dms at e in
-    does_none at (next_at g log at) (none_at (λ x. does_at x (next_at g log x)) (sites g.catalogue.tms g.catalogue.dms) i.0 at h.no_act i.1)
+none_due g log at h e = grind (arith, site_there, does_none, none_at)
 
 -- the sites of modules and classes, and the links between them
 
-from_1_to : (most n : ℕ) → 1 ≤ n → n ≤ most → (nat_le 1 n && nat_le n most) ≡ true
-from_1_to most n l m = rw (le-leb 1 n l, le-leb n most m) refl
-
 pub d_site : (cat : Catalogue) (d : ℕ) → IsModule cat d → is_site cat.tms cat.dms (D (dm_no d)) ≡ true
-d_site cat d m = from_1_to cat.dms d m.0 m.1
+d_site cat d m = (rw (le-leb 1 d m.0, le-leb d cat.dms m.1) refl)
 
 pub t_site : (cat : Catalogue) (t : ℕ) → 1 ≤ t → t ≤ cat.tms → is_site cat.tms cat.dms (T (tm_no t)) ≡ true
-t_site cat t l m = from_1_to cat.tms t l m
+t_site cat t l m = (rw (le-leb 1 t l, le-leb t cat.tms m) refl)
 
 -- a declared class is run by a transaction module
 pub record IsRunAt (cat : Catalogue) (c : ℕ) : Type 0 where
@@ -33,21 +28,10 @@ pub record IsRunAt (cat : Catalogue) (c : ℕ) : Type 0 where
   pub number_is : t ≡ (class_at cat c).tm.0
 
 pub run_at : (cat : Catalogue) (c : ℕ) → IsSoundCatalogue cat → (c == 0) ≡ false → IsClass cat c → IsRunAt cat c
-run_at cat c sound p l =
-    let s = served cat sound c (positive c p) l in
-    record { t = (class_at cat c).tm.0; home_is = rw p refl; from = s.module_from; to = s.module_to; number_is = refl }
+run_at cat c sound p l = grind (arith, served, positive)
 
 pub u_is : (cat : Catalogue) (c : ℕ) → c ≡ 0 → home cat c ≡ U
 u_is cat c p = ap (home cat) p
-
-linked_if : (tms dms : ℕ) (a : Site) (d : ℕ) → is_site tms dms a ≡ true → is_site tms dms (D (dm_no d)) ≡ true → (a ≡ U) ⊎ ((t : ℕ) × (a ≡ T (tm_no t)))
-    → (is_link tms dms a (D (dm_no d)) ≡ true) × (is_link tms dms (D (dm_no d)) a ≡ true)
-linked_if tms dms a d e f (inl p) =
-    subst (λ x. is_site tms dms x ≡ true → (is_link tms dms x (D (dm_no d)) ≡ true)
-    × (is_link tms dms (D (dm_no d)) x ≡ true)) (sym p) (λ q. (rw f refl, rw f refl)) e
-linked_if tms dms a d e f (inr p) =
-    subst (λ x. is_site tms dms x ≡ true → (is_link tms dms x (D (dm_no d)) ≡ true)
-    × (is_link tms dms (D (dm_no d)) x ≡ true)) (sym p.1) (λ q. (rw (q, f) refl, rw (f, q) refl)) e
 
 pub home_site : (cat : Catalogue) (c : ℕ) → IsSoundCatalogue cat → IsClass cat c → is_site cat.tms cat.dms (home cat c) ≡ true
 home_site cat c sound l = elim (same_or_not c 0) [
@@ -57,19 +41,14 @@ home_site cat c sound l = elim (same_or_not c 0) [
 
 pub home_linked : (cat : Catalogue) (c d : ℕ) → IsSoundCatalogue cat → IsClass cat c → IsModule cat d
     → (is_link cat.tms cat.dms (home cat c) (D (dm_no d)) ≡ true) × (is_link cat.tms cat.dms (D (dm_no d)) (home cat c) ≡ true)
-home_linked cat c d sound l m =
-    linked_if cat.tms cat.dms (home cat c) d (home_site cat c sound l) (d_site cat d m) (elim (same_or_not c 0) [
-      | inl p ↦ inl (u_is cat c p)
-      | inr p ↦ (let r = run_at cat c sound p l in inr (r.t, r.home_is))
-    ])
+home_linked cat c d sound l m = grind (arith, home_site, d_site, same_or_not, u_is, run_at)
 
 -- a class among those of its module
 pub runs_place : (g : Input) (c t : ℕ) → 1 ≤ c → IsClass g.catalogue c → t ≡ (class_at g.catalogue c).tm.0
     → (j : ℕ) × (slice_get (tm_views.runs (setting_of g (T (tm_no t)))) j ≡ Some c)
 runs_place g c t l m e =
     kept_there (λ k. (class_at g.catalogue k).tm.0 == t) (numbers_to (length g.catalogue.classes)) (c - 1) c
-    (at_place (length g.catalogue.classes) c l m) (subst (λ x. ((class_at g.catalogue c).tm.0 ==
-    x) ≡ true) (sym e) (same_number (class_at g.catalogue c).tm.0))
+    (at_place (length g.catalogue.classes) c l m) (grind (arith, class_at, same_number))
 
 -- what isn't due at a transaction module
 
@@ -88,8 +67,7 @@ t_still g log t h l m =
     let s = setting_of g (T (tm_no t)) in
     let lt = local_of g (T (tm_no t)) log in
     let v = tm_views.view_of s lt in
-    let e : tm.due g.catalogue (base_of g log) v ≡ None = none_due g log (T (tm_no t)) h (t_site g.catalogue t l m) in
-    let p = or_none (first_some (tm.exchange_due g.catalogue (base_of g log)) v.classes) _ e in
+    let p = or_none (first_some (tm.exchange_due g.catalogue (base_of g log)) v.classes) _ (none_due g log (T (tm_no t)) h (t_site g.catalogue t l m)) in
     let q = or_none (first_some (tm.null_due v) v.classes) _ p.1 in
     let r = or_none (tm.held_due v) (first_some (tm.start_due g.catalogue v) v.classes) q.1 in
     record {
@@ -113,9 +91,8 @@ pub record IsStillU (g : Input) (log : Log) : Type 0 where
 
 pub u_still : (g : Input) (log : Log) → IsQuiet g log → IsStillU g log
 u_still g log h =
-    let s = setting_of g U in
     let lu = local_of g U log in
-    let v = um_views.view_of s lu in
+    let v = um_views.view_of (setting_of g U) lu in
     let e : um.due g.catalogue (base_of g log) v ≡ None = none_due g log U h refl in
     let p = or_none (attempt_due g.catalogue (base_of g log) 0 v.active) _ e in
     let q = or_none (first_some (um.release_due g.catalogue v) v.counts) _ p.1 in
@@ -132,8 +109,7 @@ u_still g log h =
 pub exchange_none : (g : Input) (log : Log) (c : ℕ) → IsQuiet g log → IsSoundCatalogue g.catalogue → IsClass g.catalogue c
     → attempt_due g.catalogue (base_of g log) c (active (setting_of g (home g.catalogue c)) c (at_home g c log)) ≡ None
 exchange_none g log c h sound l = elim (same_or_not c 0) [
-  | inl p ↦ subst (λ k. attempt_due g.catalogue (base_of g log) k (active (setting_of g (home g.catalogue k)) k (at_home g k log)) ≡ None) (sym p)
-      (u_still g log h).exchange
+  | inl p ↦ grind (arith, attempt_due, base_of, active, setting_of, home, at_home, u_still)
   | inr p ↦ (let r = run_at g.catalogue c sound p l in
       let j = runs_place g c r.t (positive c p) l r.number_is in
       subst (λ x. attempt_due g.catalogue (base_of g log) c (active (setting_of g x) c (local_of g x log)) ≡ None) (sym r.home_is)

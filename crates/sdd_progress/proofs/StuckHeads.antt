@@ -1,7 +1,7 @@
 -- Where nothing is due at a data module, the head of each pipe is stuck.
-use Rattle.sdd_progress.proofs.AllWaits.{Bool, Handed, Home, IsClassHere, IsStuck, List, Msg, None, Option, Processes, Read, Setting, Some, View, Write, [], act_where, all_handed, all_there, ap, class_there, class_view, due, false, first_some, goes_through, head, head_due, head_place, home_of, if◌then◌else◌, is_held, is_met, length, list_all, neither_some, open_due, pipe, refl, slice_get, step_on, subst, suc, sym, true, view_of, waits, zero, ℕ, ◌++◌, ◌∙◌, ◌∷◌, ◌≡◌}
+use Rattle.std.proofs.Common.{arith}
+use Rattle.sdd_progress.proofs.AllWaits.{Bool, Handed, IsClassHere, IsStuck, List, Msg, None, Option, Setting, Some, View, [], act_where, all_handed, all_there, ap, class_there, class_view, due, first_some, goes_through, head, head_due, head_place, home_of, if◌then◌else◌, list_all, neither_some, open_due, pipe, refl, slice_get, step_on, subst, suc, sym, true, view_of, waits, zero, ℕ, ◌++◌, ◌∙◌, ◌∷◌, ◌≡◌}
 use Rattle.sdd_obligations.specs.site_module.SiteLog.{Log}
-use Rattle.sdd_obligations.specs.dm.declared.step.Step.{Step}
 
 -- options of which none is there
 
@@ -26,36 +26,17 @@ all_through c (Handed from m ∷ log) k x e = pushed_through c (goes_through c m
 all_through c (_ ∷ log) k x e = all_through c log k x e
 
 pub head_through : (c : ℕ) (log : Log) (m : Msg) → head (pipe c log) ≡ Some m → goes_through c m ≡ true
-head_through c log m e =
-    all_through c log (length (pipe c log).processed) m
-    (subst (λ ms. slice_get ms (length (pipe c log).processed) ≡ Some m) (all_there c log) (head_place (pipe c log) m e))
+head_through c log m e = grind (arith, all_through, slice_get, all_there, head_place)
 
 -- a head for which nothing is due
 
-no_act : (h : Home) (v : View) (c : ℕ) (m : Msg) (o : Option Step) → act_where h v c (Some m) o ≡ None → o ≡ None
-no_act h v c m None e = refl
-no_act h v c m (Some step) e = cc
-
-if_none : (b : Bool) (x : Step) → (if b then Some x else None) ≡ None → b ≡ false
-if_none true x e = cc
-if_none false x e = refl
-
-unless_none : (b : Bool) (x : Step) → (if b then None else Some x) ≡ None → b ≡ true
-unless_none true x e = refl
-unless_none false x e = cc
-
 stuck : (s : Setting) (log : Log) (c : ℕ) (b : Bool) (m : Msg) → waits c log ≡ b → goes_through c m ≡ true
     → step_on (view_of s log) c b (Some m) ≡ None → IsStuck s log c (Some m)
-stuck s log c true (Write ts of txn changes) w i e = unless_none (is_held (view_of s log) c ts.0 changes) Processes e
-stuck s log c false (Write ts of txn changes) w i e = unless_none (is_held (view_of s log) c ts.0 changes) Processes e
-stuck s log c true (Read ts of txn attempt conds uses) w i e = (w, if_none (list_all (is_met (view_of s log)) conds) Processes e)
-stuck s log c _ _ w i e = cc
+stuck s log c b m w i e = grind (arith, list_all)
 
 stuck_at : (s : Setting) (log : Log) (c : ℕ) (o : Option Msg) → head (pipe c log) ≡ o
     → act_where (home_of s) (view_of s log) c o (step_on (view_of s log) c (waits c log) o) ≡ None → IsStuck s log c o
-stuck_at s log c None h e = tt
-stuck_at s log c (Some m) h e =
-    stuck s log c (waits c log) m refl (head_through c log m h) (no_act (home_of s) (view_of s log) c m (step_on (view_of s log) c (waits c log) (Some m)) e)
+stuck_at s log c o h e = grind (arith, stuck, head_through)
 
 pub head_stuck : (s : Setting) (log : Log) (c : ℕ) → IsClassHere s c → due (home_of s) (view_of s log) ≡ None → IsStuck s log c (head (pipe c log))
 head_stuck s log c l e =

@@ -1,5 +1,5 @@
 -- Sums over lists, and lists that get shorter.
-use Rattle.sdd_progress.proofs.AllEnds.{Bool, List, Some, [], arith, cond, false, filter, filter_short, inl, inr, length, same_Some, same_or_not, slice_get, subst, suc, sym, true, zero, ℕ, ◌+◌, ◌<◌, ◌==◌, ◌∷◌, ◌≡◌, ◌≤◌}
+use Rattle.sdd_progress.proofs.AllEnds.{Bool, List, Some, [], arith, false, filter, filter_short, length, same_Some, same_or_not, slice_get, suc, zero, ℕ, ◌+◌, ◌<◌, ◌==◌, ◌∷◌, ◌≡◌, ◌≤◌}
 
 abbrev pub total : {A : Type 0} → (A → ℕ) → List A → ℕ
 total f [] = 0
@@ -13,24 +13,15 @@ total_up f g (x ∷ xs) h = omega (arith, total_up f g xs h, h x)
 pub total_less : {A : Type 0} (f g : A → ℕ) (xs : List A) (k : ℕ) (x : A) → slice_get xs k ≡ Some x
     → ((y : A) → f y ≤ g y) → f x < g x → total f xs < total g xs
 total_less f g [] k x e h l = absurd (cc)
-total_less f g (y ∷ xs) zero x e h l =
-    let m : f y < g y = subst (λ z. f z < g z) (sym (same_Some y x e)) l in
-    omega (arith, total_up f g xs h, m)
+total_less f g (y ∷ xs) zero x e h l = grind (arith, same_Some, total_up)
 total_less f g (y ∷ xs) (suc k) x e h l = omega (arith, total_less f g xs k x e h l, h y)
 
 -- of each class: one falls, and the others stay
 pub by_class : (f g : ℕ → ℕ) (k : ℕ) → f k < g k → ((c : ℕ) → (k == c) ≡ false → f c ≡ g c) → (c : ℕ) → f c ≤ g c
-by_class f g k l h c = elim (same_or_not k c) [
-  | inl e ↦ let m : f c < g c = subst (λ z. f z < g z) e l in omega (arith, m)
-  | inr e ↦ let m = h c e in omega (arith, m)
-]
+by_class f g k l h c = grind (arith, same_or_not)
 
 -- a member that doesn't pass is left out
 pub filter_shorter : {A : Type 0} (p : A → Bool) (xs : List A) (k : ℕ) (x : A) → slice_get xs k ≡ Some x → p x ≡ false → length (filter p xs) < length xs
 filter_shorter p [] k x e f = absurd (cc)
-filter_shorter p (y ∷ xs) zero x e f =
-    let g : p y ≡ false = subst (λ z. p z ≡ false) (sym (same_Some y x e)) f in
-    rw g (omega (arith, filter_short p xs))
-filter_shorter p (y ∷ xs) (suc k) x e f =
-    let i = filter_shorter p xs k x e f in
-    elim (p y) as (λ b. length (cond b (y ∷ filter p xs) (filter p xs)) < suc (length xs)) [ true ↦ omega (arith, i) | false ↦ omega (arith, i) ]
+filter_shorter p (y ∷ xs) zero x e f = grind (arith, same_Some, filter_short)
+filter_shorter p (y ∷ xs) (suc k) x e f = grind (arith, (filter_shorter p xs k x e f))

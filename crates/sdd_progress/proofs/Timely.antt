@@ -8,10 +8,8 @@ up_there : (g : Input) (log : Log) (t : ℕ) (s : List Event × List Event) → 
     → AreDone g (λ d. is_down d log) (redeclares log) s → AreTimely g → (d : ℕ) → IsModule g.catalogue d → is_down d log ≡ false
 up_there g log t (ws, []) m i timely d here =
     let f = listed_first g log (quiet (all_links g) (calls_of log)) (round (all_links g) (calls_of log)) ws t m in
-    let whole : g.events ≡ (i.1.front ++ f.skip) ++ Redeclare ∷ f.rest =
-    i.1.is ∙ ap (λ z. i.1.front ++ z) f.is ∙ sym (append_assoc i.1.front f.skip (Redeclare ∷ f.rest)) in
     i.1.downs d ∙ sym (settles_turn d (is_down_after d i.1.front) f.skip f.settles) ∙ sym (down_join d false i.1.front f.skip)
-    ∙ (timely (i.1.front ++ f.skip) f.rest whole).up d here
+    ∙ (timely (i.1.front ++ f.skip) f.rest (i.1.is ∙ ap (λ z. i.1.front ++ z) f.is ∙ sym (append_assoc i.1.front f.skip (Redeclare ∷ f.rest)))).up d here
 up_there g log t (ws, x ∷ r) m i timely d here = absurd (cc)
 
 pub up_at_redeclares : (g : Input) (log : Log) → AllFewTicks g.events → IsLawful g log → AreTimely g → IsUpAtRedeclares g log
@@ -23,15 +21,13 @@ up_at_redeclares g log few h timely later before t is d here =
 
 one_event : (g : Input) → AreTimely g → (e : Event) (before rest : List Event) → g.events ≡ before ++ e ∷ rest → redeclares_in before < length g.eras
     → redeclares_in before + redeclares_in (e ∷ []) < length g.eras
-one_event g timely Redeclare before rest is l = let m = (timely before rest is).left in omega (arith, m)
-one_event g timely _ before rest is l = omega (arith, l)
+one_event g timely e before rest is l = grind arith
 
 each_event : (g : Input) → AreTimely g → (before events rest : List Event) → g.events ≡ (before ++ events) ++ rest → redeclares_in before < length g.eras
     → redeclares_in (before ++ events) < length g.eras
 each_event g timely before [] rest is l = subst (λ es. redeclares_in es < length g.eras) (sym (append-nil before)) l
 each_event g timely before (e ∷ events) rest is l =
-    let whole : g.events ≡ before ++ e ∷ (events ++ rest) = is ∙ append_assoc before (e ∷ events) rest in
-    let few = one_event g timely e before (events ++ rest) whole l in
+    let few = one_event g timely e before (events ++ rest) (is ∙ append_assoc before (e ∷ events) rest) l in
     let sum = count_join before (e ∷ []) in
     let parts : (before ++ e ∷ []) ++ events ≡ before ++ e ∷ events = append_assoc before (e ∷ []) events in
     subst (λ es. redeclares_in es < length g.eras) parts
@@ -40,5 +36,4 @@ each_event g timely before (e ∷ events) rest is l =
 pub few_redeclares : (g : Input) (log : Log) → AllFewTicks g.events → IsLawful g log → AreTimely g → 1 ≤ length g.eras → redeclares log < length g.eras
 few_redeclares g log few h timely some =
     let d = (done g log few h).1 in
-    let l = each_event g timely [] d.front (left g.events log).0 d.is (omega (arith, some)) in
-    let same = d.lists_are in omega (arith, l, same)
+    let same = d.lists_are in omega (arith, (each_event g timely [] d.front (left g.events log).0 d.is (omega (arith, some))), same)

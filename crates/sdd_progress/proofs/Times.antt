@@ -32,8 +32,6 @@ module _ (g : Input) (log : Log) (w : Known g log) where
       let lx = act_local g hx (start_act_of x.start sx.sends) inx.0 sx.before in
       let lbx : site.Log = local_of g hx sx.before in
       let lmx : site.Log = local_of g hx q.mid in
-      let midx : (clock hx lmx).ticks ≡ (clock hx (lx.0 ++ Did (start_act_of x.start sx.sends) ∷ lbx)).ticks =
-      ap (λ l. (clock hx l).ticks) (ap (local_of g hx) inx.1 ∙ lx.1) in
       let growx : (clock hx lbx).ticks + 1 ≤ (clock hx (lx.0 ++ Did (start_act_of x.start sx.sends) ∷ lbx)).ticks =
       clock_grows hx lx.0 (Did (start_act_of x.start sx.sends) ∷ lbx) in
       let tsx : x.start.ts ≡ ((clock hx lbx).ticks + 1) * 64 + number_of hx = sx.says.ts_is ∙ stamp_ticks (setting_of g hx) lbx in
@@ -58,7 +56,7 @@ module _ (g : Input) (log : Log) (w : Known g log) where
       (max_ge (clock (T (tm_no ty.t)) (local_of g (T (tm_no ty.t)) q.mid)).ticks (r.time / 64)) in
       let tsy : y.start.ts ≡ ((clock hy lby).ticks + 1) * 64 + number_of hy = sy.says.ts_is ∙ stamp_ticks (setting_of g hy) lby in
       rise_by (clock hx lbx).ticks (clock hx lmx).ticks r.time (clock hy lmy).ticks (clock hy lby).ticks x.start.ts (number_of hx) y.start.ts (number_of hy)
-      (omega (arith, growx, midx)) tsx smallx boundt pushed upy tsy
+      (omega (arith, growx, (ap (λ l. (clock hx l).ticks) (ap (local_of g hx) inx.1 ∙ lx.1)))) tsx smallx boundt pushed upy tsy
 
   pub times_rise : (x y : Committed) → IsOfEarlierEra (eras_of g log) (history log) x y → x.start.ts < y.start.ts
   times_rise x y o =
@@ -66,10 +64,7 @@ module _ (g : Input) (log : Log) (w : Known g log) where
       let sx = started_before g log w x o.first in
       let sy = started_before g log w y o.second in
       elim (same_or_not x.start.class 0) [
-        | inl p ↦ elim (w.alone.alone x y o.first o.second p (other_txn g log w x y o)) [
-          | inl b ↦ (let c = b.committed in absurd (omega (arith, before, sx, sy, c)))
-          | inr a ↦ a.time
-        ]
+        | inl p ↦ grind (arith, other_txn)
         | inr p ↦ elim (same_or_not y.start.class 0) [
           | inl q ↦ elim (w.alone.alone y x o.second o.first q (λ e. other_txn g log w x y o (sym e))) [
             | inl b ↦ b.time

@@ -1,6 +1,6 @@
 -- The READ of an undeclared transaction is never rejected, and holds no WRITE back: what is put with a later timestamp was
 -- started once that transaction was applied at every module.
-use Rattle.sdd_progress.proofs.AllWaits.{Act, Change, ClassNo, Cond, D, DmNo, Does, Input, IsApplyOf, IsClassOf, IsPermitted, IsSoundCatalogue, List, Log, Msg, Read, Records, Rejected, Setting, Site, Some, Ts, TxnNo, Use, Write, all_applied, allowed_act, and_left, and_right, answered_before, any_at, arith, class_at, class_number, commit_t, d_step, head, head_put, holds, holds_back, in_range, inl, inr, le_is, length, local_of, low_or_high, nat_le, never_spoilt, not_again, not_both, own_time, part_join, part_of, permitted_part, pipe_at, range_there, read_classes, read_of, setting_of, slice_get, sound_whole, spoils, subst, sym, true, u_stamp, view_of, write_origin, ℕ, ◌==◌, ◌∙◌, ◌∷◌, ◌≡◌, ◌≤◌}
+use Rattle.sdd_progress.proofs.AllWaits.{Act, Change, ClassNo, Cond, D, DmNo, Does, Input, IsApplyOf, IsClassOf, IsPermitted, IsSoundCatalogue, List, Log, Msg, Read, Records, Rejected, Setting, Site, Some, Ts, TxnNo, Use, Write, all_applied, allowed_act, and_left, and_right, answered_before, any_at, arith, class_at, class_number, commit_t, d_step, head, head_put, holds, holds_back, in_range, inl, inr, le_is, local_of, low_or_high, nat_le, never_spoilt, not_again, not_both, own_time, part_join, part_of, permitted_part, pipe_at, range_there, read_classes, read_of, setting_of, slice_get, sound_whole, spoils, subst, sym, true, u_stamp, view_of, write_origin, ℕ, ◌==◌, ◌∙◌, ◌∷◌, ◌≡◌, ◌≤◌}
 use Rattle.sdd_progress.proofs.ClassSites.{class_served, home_of_class, in_runs}
 use Rattle.sdd_progress.proofs.Rejected.{IsRejecting, rejecting, spoiler_there}
 use Rattle.sdd_obligations.specs.site_module.SiteLog as site
@@ -13,8 +13,7 @@ none_later g i num w d log ts of txn n ds us h sound c lo hi e le cm =
     let t : ℕ = (class_at g.catalogue i).tm.0 in
     let served = class_served g.catalogue i sound c in
     let few : g.catalogue.tms ≤ 16 = (sound_whole g.catalogue sound).few_tms in
-    let to = served.module_to in
-    let k = range_there 1 g.catalogue.tms t served.module_from (omega arith) in
+    let k = range_there 1 g.catalogue.tms t served.module_from (omega (arith, served.module_to)) in
     let kd = range_there 1 g.catalogue.dms d.0 lo (omega arith) in
     let j = in_runs g i c in
     let r = (read_of g 0 d log ts of txn n ds us h e).1 in
@@ -37,17 +36,14 @@ holds_none g i d log ts of txn n ds us w wc wt changes h sound c lo hi e f b =
     let late : nat_le a.1.time.0 w.0 ≡ true = and_left _ _ (and_right (a.1.class.0 == i) _ a.3) in
     let time = own_time g d log ts of txn n ds us a.0 a.1 h e a.2 in
     let put = head_put g i d log (Write w wc wt changes) h f in
-    let class : wc.0 ≡ i = class_number wc.0 i w.0 put.of_class in
     none_later g i wt.0 w.0 d log ts of txn n ds us h sound c lo hi e (subst (λ t. t ≤ w.0) time (le_is a.1.time.0 w.0 late))
-    (write_origin g log i d w wc wt changes class put)
+    (write_origin g log i d w wc wt changes (class_number wc.0 i w.0 put.of_class) put)
 
 -- and is never rejected
 
 class_of_cond : (g : Input) (d : DmNo) (log : Log) (ts : Ts) (of : ClassNo) (txn : TxnNo) (n : ℕ) (ds : List Cond) (us : List Use) (j : ℕ) (q : Cond)
     → IsPermitted g log → head (pipe_at g 0 d log) ≡ Some (Read ts of txn n ds us) → slice_get ds j ≡ Some q → IsClassOf g.catalogue q.class.0
-class_of_cond g d log ts of txn n ds us j q h e f =
-    let r = in_range 1 (length g.catalogue.classes) j q.class.0 (read_classes g d log ts of txn n ds us j q h e f) in
-    record { from = r.0; to = (let l = r.1 in omega arith) }
+class_of_cond g d log ts of txn n ds us j q h e f = grind (arith, in_range, read_classes)
 
 pub not_rejected : (g : Input) (log : Log) (d : DmNo) (txn : TxnNo) (attempt : ℕ) (dm : DmNo) (by : ClassNo) (write : Ts) (sends : List (Site × Msg))
     → IsSoundCatalogue g.catalogue → 1 ≤ d.0 → d.0 ≤ g.catalogue.dms → IsPermitted g (Does (D d) (Records 0 (Rejected txn attempt dm by write) sends) ∷ log) → ⊥
@@ -60,8 +56,7 @@ not_rejected g log d txn attempt dm by write sends sound lo hi h =
     let f = spoiler_there (view_of s l) r.conds q r.spoiler_is in
     let class = class_of_cond g d log r.ts r.of txn attempt r.conds r.uses f.1 q h.1 r.head_is f.2 in
     let served = class_served g.catalogue q.class.0 sound class in
-    let whole = sound_whole g.catalogue sound in
-    let few : g.catalogue.tms ≤ 16 = whole.few_tms in
+    let few : g.catalogue.tms ≤ 16 = (sound_whole g.catalogue sound).few_tms in
     let to = served.module_to in
     let t : ℕ = (class_at g.catalogue q.class.0).tm.0 in
     let k = range_there 1 g.catalogue.tms t served.module_from (omega arith) in

@@ -1,6 +1,6 @@
 -- Where nothing goes on, a READ that waits does so because of another READ that waits: an earlier one of the class that it
 -- waits for, or one that holds back a WRITE of that class.
-use Rattle.sdd_progress.proofs.All.{Ask, Attempt, Change, ClassNo, ClassView, Cond, D, FitsInput, Input, IsBelow, IsClass, IsEarlierReader, IsHolder, IsModule, IsQuiet, IsReader, IsRising, IsStuck, IsThere, List, Log, Msg, None, Null, Option, Pipe, Read, Setting, Site, Some, T, Ts, TxnNo, View, Write, [], active, all_of, and_left, and_right, any_at, ap, append-nil, append_assoc, arith, ask_for, at_home, at_map, at_module, class_at_place, class_in, class_in_view, class_rises, d_fair, dm_no, eqb-true, false, goes_through, hands_from, head, head_below, head_of, head_stuck, holds_back, home, home_of, home_small, if◌then◌else◌, inl, inr, is_met, is_put, le_is, least_at, list_any, local_of, map, nat_le, not, not_both, passed, passed_lasts, pipe, place_within, positive, puts_to, reached_is_passed, read_time, refl, same_number, same_site, sends_of_act, setting_of, since, site_self, slice_get, source_is_home, source_of, subst, suc, sym, t_table, time_at, time_of, tm_no, to_site, touches, true, true_or_false, view_of, waits, zero, ℕ, ◌&&◌, ◌++◌, ◌<◌, ◌==◌, ◌∙◌, ◌∷◌, ◌≡◌, ◌≤◌, ◌⊎◌}
+use Rattle.sdd_progress.proofs.All.{Ask, Attempt, Change, ClassNo, ClassView, Cond, D, FitsInput, Input, IsBelow, IsClass, IsEarlierReader, IsHolder, IsModule, IsQuiet, IsReader, IsRising, IsStuck, IsThere, List, Log, Msg, None, Null, Option, Read, Setting, Site, Some, T, Ts, TxnNo, View, Write, [], active, all_of, and_left, and_right, any_at, ap, append-nil, append_assoc, arith, ask_for, at_home, at_map, at_module, class_at_place, class_in, class_in_view, class_rises, d_fair, dm_no, eqb-true, false, goes_through, hands_from, head, head_below, head_of, head_stuck, holds_back, home, home_of, home_small, if◌then◌else◌, inl, inr, is_met, is_put, le_is, least_at, list_any, local_of, map, nat_le, not, not_both, passed, passed_lasts, pipe, place_within, positive, puts_to, reached_is_passed, read_time, refl, same_number, same_site, sends_of_act, setting_of, since, site_self, slice_get, source_is_home, source_of, subst, suc, sym, t_table, time_of, tm_no, to_site, touches, true, true_or_false, view_of, waits, zero, ℕ, ◌&&◌, ◌++◌, ◌<◌, ◌==◌, ◌∙◌, ◌∷◌, ◌≡◌, ◌≤◌, ◌⊎◌}
 use Rattle.sdd_progress.proofs.Applied.{pipe_has_all}
 use Rattle.sdd_progress.proofs.Handed.{all_handed}
 use Rattle.sdd_progress.proofs.Lacking.{has_unanswered}
@@ -14,9 +14,7 @@ use Rattle.sdd_obligations.specs.site_module.SiteLog as site
 
 pub pipe_rises : (g : Input) (log : Log) (c d : ℕ) → IsQuiet g log → FitsInput g → IsClass g.catalogue c → IsModule g.catalogue d
     → IsRising (map time_of (all_of (pipe c (at_module g d log))))
-pipe_rises g log c d h good l m =
-    let small = home_small g.catalogue good.sound c in
-    subst (λ ms. IsRising (map time_of ms)) (sym (pipe_has_all g log c d h good.sound l m)) (class_rises g c (dm_no d) log h.permitted (omega (arith, small)))
+pipe_rises g log c d h good l m = grind (arith, home_small, pipe_has_all, class_rises)
 
 first_le : (ms : List Msg) (k : ℕ) (x m : Msg) → IsRising (map time_of ms) → head_of ms ≡ Some x → slice_get ms k ≡ Some m → time_of x ≤ time_of m
 first_le [] k x m h e f = cc
@@ -40,8 +38,7 @@ below_attempt g log c a t h good l e below =
     let u = has_unanswered g log c a h good l e in
     let p = pipe c (at_module g u.d log) in
     let x = some_head p.unprocessed u.place u.message u.there in
-    let rises = rising_right p.processed p.unprocessed (pipe_rises g log c u.d h good l u.module_is) in
-    let le = first_le p.unprocessed u.place x.0 u.message rises x.1 u.there in
+    let le = first_le p.unprocessed u.place x.0 u.message (rising_right p.processed p.unprocessed (pipe_rises g log c u.d h good l u.module_is)) x.1 u.there in
     let time = read_time a.ts c u.message u.is_its in
     record { d = u.d; module_is = u.module_is; message = x.0; head_is = x.1; below = omega (arith, le, time, below) }
 
@@ -52,14 +49,9 @@ in_class c ms k m e f = kept_there (goes_through c) ms k m e f
 
 put_in_pipe : (g : Input) (log : Log) (c d k : ℕ) (m : Msg) → IsQuiet g log → FitsInput g → IsClass g.catalogue c → IsModule g.catalogue d
     → slice_get (puts_to (D (dm_no d)) (at_home g c log)) k ≡ Some m → goes_through c m ≡ true → IsThere (all_of (pipe c (at_module g d log))) m
-put_in_pipe g log c d k m h good l w e f =
-    let i = in_class c (puts_to (D (dm_no d)) (at_home g c log)) k m e f in
-    (i.0, subst (λ ms. slice_get ms i.0 ≡ Some m) (sym (pipe_has_all g log c d h good.sound l w)) i.1)
+put_in_pipe g log c d k m h good l w e f = grind (arith, in_class, slice_get, pipe_has_all)
 
 -- an ASK of a READ that waits, where its class has nothing next at the module
-
-none_there : (p : Pipe) → head p ≡ None → all_of p ≡ p.processed
-none_there p e = ap (λ ms. p.processed ++ ms) (no_head p.unprocessed e) ∙ append-nil p.processed
 
 asked : (g : Input) (log : Log) (j d n : ℕ) (c : ClassNo) (t : Ts) → IsQuiet g log → FitsInput g
     → IsModule g.catalogue d → (j == 0) ≡ false → IsClass g.catalogue j
@@ -91,7 +83,7 @@ asked g log j d n c t h good m z l same put not_yet empty =
           let through : goes_through j (Null c w.time) ≡ true = subst (λ x. (x == j) ≡ true) (sym same) (same_number j) in
           let i = put_in_pipe g log j d w.place (Null c w.time) h good l m at_home_put through in
           let p = pipe j (at_module g d log) in
-          let all = none_there p empty in
+          let all = (ap (λ ms. p.processed ++ ms) (no_head p.unprocessed empty) ∙ append-nil p.processed) in
           let within = place_within p.processed i.0 (Null c w.time) (subst (λ ms. slice_get ms i.0 ≡ Some (Null c w.time)) all i.1) in
           let now = reached_is_passed p t.0 (pipe_rises g log j d h good l m) (record {
             place = i.0;
@@ -107,11 +99,7 @@ asked g log j d n c t h good m z l same put not_yet empty =
 
 sent_to : (b : Site) (xs : List (Site × Msg)) (k : ℕ) (m : Msg) → slice_get xs k ≡ Some (b, m) → IsThere (to_site b xs) m
 sent_to b [] k m e = cc
-sent_to b (x ∷ xs) zero m e =
-    let p : x ≡ (b, m) = cc in
-    let here : same_site b x.0 ≡ true = subst (λ (y : Site × Msg). same_site b y.0 ≡ true) (sym p) (site_self b) in
-    let what : x.1 ≡ m = ap (λ (y : Site × Msg). y.1) p in
-    (0, rw here (ap (λ y. Some y) what))
+sent_to b (x ∷ xs) zero m e = grind (arith, site_self)
 sent_to b (x ∷ xs) (suc k) m e =
     let i = sent_to b xs k m e in
     elim (same_site b x.0) as (λ c. IsThere (if c then x.1 ∷ to_site b xs else to_site b xs) m) [ true ↦ (suc i.0, i.1) | false ↦ i ]
@@ -129,9 +117,7 @@ ask_put g log c ts conds r n x h good e l not_yet =
     let lm : site.Log = at_module g r.d log in
     let i = since s c lm (d_fair g (dm_no r.d) log h.permitted) r.waits_there in
     let w = i.wait in
-    let one : Some (Read (time_at ts) r.of r.txn r.attempt conds r.uses) ≡ Some
-    (Read w.ts w.of w.txn w.attempt w.conds w.uses) = sym r.head_is ∙ i.same_head ∙ w.head_is in
-    let same : conds ≡ w.conds = ap conds_of one in
+    let same : conds ≡ w.conds = ap conds_of (sym r.head_is ∙ i.same_head ∙ w.head_is) in
     let there : slice_get w.conds n ≡ Some x = subst (λ ds. slice_get ds n ≡ Some x) same e in
     let v : View = view_of s i.before in
     let unmet : is_met v x ≡ false = elim (true_or_false (is_met v x)) [
@@ -162,10 +148,9 @@ pub next_head : (g : Input) (log : Log) (c ts : ℕ) (conds : List Cond) (r : Is
     → is_met (view_of (setting_of g (D (dm_no r.d))) (at_module g r.d log)) x ≡ false → IsBelow g log x.class.0 x.time.0
 next_head g log c ts conds r n x h good e z l unmet =
     let j : ℕ = x.class.0 in
-    let s : Setting = setting_of g (D (dm_no r.d)) in
     let lm : site.Log = at_module g r.d log in
     let not_yet : passed (pipe j lm) x.time.0 ≡ false =
-    subst (λ (k : ClassView). passed k.pipe x.time.0 ≡ false) (class_in_view s lm j (omega (arith, l)))
+    subst (λ (k : ClassView). passed k.pipe x.time.0 ≡ false) (class_in_view (setting_of g (D (dm_no r.d))) lm j (omega (arith, l)))
     unmet in
     elim (head (pipe j lm)) as (λ o. head (pipe j lm) ≡ o → IsBelow g log j x.time.0) [
       | Some m ↦ λ p. record { d = r.d; module_is = r.module_is; message = m; head_is = p; below = head_below (pipe j lm) x.time.0 m p not_yet }
@@ -218,8 +203,7 @@ by_head g log j t d (Write w of txn changes) l p e b stuck =
     let c = class_at_place s (at_module g d log) a.0 a.1 a.2 in
     let f : (waits c.0 (at_module g d log) && holds_back j w.0 changes (head (pipe c.0 (at_module g d log)))) ≡ true =
     subst (λ (k : ClassView). (k.waits && holds_back j w.0 changes (head k.pipe)) ≡ true) (sym c.2) a.3 in
-    let here = c.1 in
-    inr (held_by g log j t d c.0 w of txn changes (head (pipe c.0 (at_module g d log))) p (omega (arith, here)) e b (and_left _ _ f) refl (and_right _ _ f))
+    inr (held_by g log j t d c.0 w of txn changes (head (pipe c.0 (at_module g d log))) p (omega (arith, c.1)) e b (and_left _ _ f) refl (and_right _ _ f))
 by_head g log j t d m l p e b stuck = absurd stuck
 
 pub next_reader : (g : Input) (log : Log) (j t : ℕ) → IsQuiet g log → IsClass g.catalogue j → IsBelow g log j t → IsEarlierReader g log j t ⊎ IsHolder g log j t

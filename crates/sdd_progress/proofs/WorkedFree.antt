@@ -1,5 +1,5 @@
 -- Worked logs of a free class: a query is answered and a put applied before the event is over in which it is handed over.
-use Rattle.sdd_progress.proofs.AllWaits.{All-from_recursion, AreBlocks, Catalogue, Change, D, Deliver, EndsAnEvent, Era, Hand, Input, Int, IsAnsweredIn, IsAppliedIn, IsEra, IsFree, IsFreeClass, IsRejectedAfter, IsSimpleCycle, IsSoundCatalogue, IsTable, Joins, List, Log, Msg, OnACycle, P1, Put, Query, Read, Some, Step, Submit, T, Txn, Use, Vertical, Write, [], arith, class_no, dm_no, extended, frag_no, inl, inr, lit≤, local_of, negsuc, one_at_most, pos, protocol_in, queue, refl, rel_no, setting_of, slice_get, subst, suc, sym, take, time_at, tm_no, txn_no, zero, ℕ, ◌++◌, ◌==◌, ◌∙◌, ◌∷◌, ◌≡◌, ◌⊎◌}
+use Rattle.sdd_progress.proofs.AllWaits.{AreBlocks, Catalogue, Change, D, Deliver, EndsAnEvent, Era, Hand, Input, Int, IsAnsweredIn, IsAppliedIn, IsEra, IsFree, IsFreeClass, IsRejectedAfter, IsSimpleCycle, IsSoundCatalogue, IsTable, Joins, List, Log, Msg, P1, Put, Query, Read, Some, Step, Submit, T, Txn, Use, Vertical, Write, [], arith, class_no, dm_no, extended, frag_no, inl, lit≤, local_of, negsuc, one_at_most, pos, queue, refl, rel_no, setting_of, slice_get, subst, suc, sym, take, time_at, tm_no, txn_no, ℕ, ◌++◌, ◌==◌, ◌∙◌, ◌∷◌, ◌≡◌, ◌⊎◌}
 use Rattle.sdd_obligations.specs.catalog.Rules.{faults_of}
 use Rattle.sdd_progress.proofs.OfLawful.{answered_by_end, answered_or_rejected, applied_by_end, idle_starts}
 use Rattle.sdd_progress.proofs.WorkedLogs.{made_lawful}
@@ -44,47 +44,33 @@ sound = record { valid = refl; same = refl }
 abbrev one_edge : List (ℕ × ℕ)
 one_edge = (0, 1) ∷ []
 
-first_edge : (k a b : ℕ) → slice_get one_edge k ≡ Some (a, b) → k ≡ 0
-first_edge zero a b e = refl
-first_edge (suc k) a b e = cc
-
 only_edge : (k a b : ℕ) → Joins one_edge k a b → k ≡ 0
-only_edge k a b (inl e) = first_edge k a b e
-only_edge k a b (inr e) = first_edge k b a e
+only_edge k a b h4 = grind (arith)
 
 no_simple_cycle : (start : ℕ) (steps : List Step) → IsSimpleCycle one_edge start steps → ⊥
 no_simple_cycle start (s ∷ t ∷ steps) c = c.edges_differ.0 (inl (only_edge t.edge s.to t.to c.closed.1.0 ∙ sym (only_edge s.edge start s.to c.closed.0)))
 no_simple_cycle start _ c = let l = c.long in omega arith
 
-no_cycle : (k : ℕ) → OnACycle one_edge k → ⊥
-no_cycle k c = no_simple_cycle c.start c.steps c.cycle
-
 number_zero : (k b : ℕ) → slice_get (0 ∷ []) k ≡ Some b → b ≡ 0
-number_zero zero b e = cc
-number_zero (suc k) b e = cc
+number_zero k b e = grind arith
 
 blocks : AreBlocks one_edge (0 ∷ [])
 blocks = record {
   one_each = refl;
-  none = λ k e c. no_cycle k c;
+  none = λ k e c. (no_simple_cycle c.start c.steps c.cycle);
   some = λ k b e. let z = number_zero k (suc b) e in cc;
   same = λ j k a b e f n. absurd (n (number_zero j a e));
   in_order = λ k b e. let z = number_zero k (suc (suc b)) e in cc;
 }
 
 tabled : IsTable alone table
-tabled = record {
-  edges = refl;
-  blocks = blocks;
-  protocols = All-from_recursion (λ (e : line.Entry). e.protocol ≡ protocol_in table e.edge e.block) table (refl, tt);
-}
+tabled = grind (arith, blocks, table)
 
 free_alone : IsFree alone 1
-free_alone = record { on_none = λ k e there at c. no_cycle k c }
+free_alone = record { on_none = λ k e there at c. (no_simple_cycle c.start c.steps c.cycle) }
 
 the_era : (P : Era → Type 0) (k : ℕ) (f : Era) → slice_get (current_era ∷ []) k ≡ Some f → P current_era → P f
-the_era P zero f e h = let same : current_era ≡ f = cc in subst P same h
-the_era P (suc k) f e h = cc
+the_era P k f e h = grind (arith, current_era)
 
 free : (txn : Txn) → IsFreeClass (given_by txn) 1
 free txn = record {
@@ -107,20 +93,17 @@ asked = given_by query
 abbrev read : Msg
 read = Read (time_at 65) (class_no 1) (txn_no 1) 1 [] of_query
 
-query_ends : EndsAnEvent asked (extended 7 asked [])
-query_ends = record { sound = sound; once = λ n. (let h = one_at_most (1 == n) in omega arith); lawful = made_lawful 7 asked [] tt; over = refl }
-
 pub worked_answer : IsAnsweredIn (dm_no 1) 1 (txn_no 1) 1 (take 2 (extended 7 asked []))
 worked_answer =
     answered_by_end asked 1 (dm_no 1) (T (tm_no 1)) 1 (take 2 (extended 7 asked [])) (extended 4 asked []) (time_at 65) (class_no 1) (txn_no 1) 1 [] of_query
     (free query) (lit≤ tt) (lit≤ tt) refl
-    (ends query (take 2 (extended 7 asked []) ++ Hand (T (tm_no 1)) (D (dm_no 1)) 1 read ∷ extended 4 asked []) refl query_ends)
+    (ends query (take 2 (extended 7 asked []) ++ Hand (T (tm_no 1)) (D (dm_no 1)) 1 read ∷ extended 4 asked []) refl (record { sound = sound; once = λ n. (let h = one_at_most (1 == n) in omega arith); lawful = made_lawful 7 asked [] tt; over = refl }))
 
 -- at once, since it doesn't wait and isn't spoilt
 pub worked_judged : IsAnsweredIn (dm_no 1) 1 (txn_no 1) 1 (take 1 (extended 7 asked [])) ⊎ IsRejectedAfter asked (extended 6 asked []) (dm_no 1) 1 (txn_no 1) 1 [] (take 1 (extended 7 asked []))
 worked_judged =
     answered_or_rejected asked (dm_no 1) 1 (take 1 (extended 7 asked [])) (extended 6 asked []) (time_at 65) (class_no 1) (txn_no 1) 1 [] of_query
-    (ends query (take 1 (extended 7 asked []) ++ extended 6 asked []) refl query_ends) (lit≤ tt) (lit≤ tt) (lit≤ tt) refl refl refl refl
+    (ends query (take 1 (extended 7 asked []) ++ extended 6 asked []) refl (record { sound = sound; once = λ n. (let h = one_at_most (1 == n) in omega arith); lawful = made_lawful 7 asked [] tt; over = refl })) (lit≤ tt) (lit≤ tt) (lit≤ tt) refl refl refl refl
 
 -- the put
 
@@ -130,15 +113,12 @@ putting = given_by put
 abbrev row_put : List Change
 row_put = (record { frag = frag_no 1; key = pos 1; row = Some (Int (pos 1) ∷ Int (pos 1) ∷ []) }) ∷ []
 
-put_ends : EndsAnEvent putting (extended 7 putting [])
-put_ends = record { sound = sound; once = λ n. (let h = one_at_most (1 == n) in omega arith); lawful = made_lawful 7 putting [] tt; over = refl }
-
 pub worked_apply : IsAppliedIn (dm_no 1) 1 (txn_no 1) (time_at 65) (take 1 (extended 7 putting []))
 worked_apply =
     applied_by_end putting 1 (dm_no 1) (T (tm_no 1)) 1 (take 1 (extended 7 putting [])) (extended 5 putting []) (time_at 65) (class_no 1) (txn_no 1) row_put
     (free put) (lit≤ tt) (lit≤ tt) refl
-    (ends put (take 1 (extended 7 putting []) ++ Hand (T (tm_no 1)) (D (dm_no 1)) 1 (Write (time_at 65) (class_no 1) (txn_no 1) row_put) ∷ extended 5 putting []) refl put_ends)
+    (ends put (take 1 (extended 7 putting []) ++ Hand (T (tm_no 1)) (D (dm_no 1)) 1 (Write (time_at 65) (class_no 1) (txn_no 1) row_put) ∷ extended 5 putting []) refl (record { sound = sound; once = λ n. (let h = one_at_most (1 == n) in omega arith); lawful = made_lawful 7 putting [] tt; over = refl }))
 
 -- the class is idle then, and nothing is queued
 pub worked_idle : queue (setting_of putting (T (tm_no 1))) 1 (local_of putting (T (tm_no 1)) (extended 7 putting [])) ≡ []
-worked_idle = idle_starts putting 1 (extended 7 putting []) put_ends (record { from = lit≤ tt; to = lit≤ tt }) refl refl
+worked_idle = idle_starts putting 1 (extended 7 putting []) (record { sound = sound; once = λ n. (let h = one_at_most (1 == n) in omega arith); lawful = made_lawful 7 putting [] tt; over = refl }) (record { from = lit≤ tt; to = lit≤ tt }) refl refl

@@ -1,6 +1,6 @@
 -- Worked logs that meet what the laws ask. Two classes, each of which reads what the other writes: a query waits until the
 -- other class has passed its time, and is answered then; or it comes behind a later put, and is rejected.
-use Rattle.sdd_progress.proofs.AllWaits.{Act, AreConditionsOf, AreSubmittedOnce, Catalogue, Cond, Const, D, Deliver, Diagonal, Does, EndsAnEvent, Era, Event, Input, Int, IsAnsweredIn, IsLawful, IsPermitted, IsRejectOf, IsSoundCatalogue, IsStuck, Le, List, Log, None, P1, P3, Put, Query, Read, Records, Reject, Rejected, Setting, Some, Submit, T, Txn, Use, Vertical, WaitsSince, [], arith, class_no, d_fair, dm_no, extended, frag_no, inl, inr, lawful_permitted, lit<, lit≤, local_of, negsuc, next, one_at_most, one_if, passed, pipe_at, pos, refl, rel_no, same_or_not, setting_of, subst, suc, take, time_at, tm_no, true, txn_no, zero, ℕ, ◌++◌, ◌+◌, ◌==◌, ◌∷◌, ◌≡◌, ◌≢◌, ◌≤◌}
+use Rattle.sdd_progress.proofs.AllWaits.{Act, AreConditionsOf, AreSubmittedOnce, Catalogue, Cond, Const, D, Deliver, Diagonal, Does, Era, Event, Input, Int, IsAnsweredIn, IsLawful, IsRejectOf, IsSoundCatalogue, IsStuck, Le, List, Log, None, P1, P3, Put, Query, Read, Records, Reject, Rejected, Setting, Some, Submit, T, Txn, Use, Vertical, WaitsSince, [], arith, class_no, d_fair, dm_no, extended, frag_no, lawful_permitted, lit<, lit≤, local_of, negsuc, next, one_at_most, passed, pipe_at, pos, refl, rel_no, same_or_not, setting_of, suc, take, time_at, tm_no, true, txn_no, zero, ℕ, ◌++◌, ◌+◌, ◌==◌, ◌∷◌, ◌≡◌, ◌≢◌, ◌≤◌}
 use Rattle.sdd_obligations.specs.catalog.Rules.{faults_of}
 use Rattle.sdd_progress.proofs.FromTable.{conditions_of}
 use Rattle.sdd_progress.proofs.OfLawful.{answered}
@@ -85,13 +85,9 @@ two_more = take 2 (extended 14 waiting [])
 waiting_once : AreSubmittedOnce waiting.events
 waiting_once n = let h = one_at_most (1 == n) in omega arith
 
-waiting_ends : EndsAnEvent waiting (two_more ++ null_handed)
-waiting_ends = record { sound = sound; once = waiting_once; lawful = made_lawful 14 waiting [] tt; over = refl }
-
 pub worked_answer : IsAnsweredIn (dm_no 1) 1 (txn_no 1) 1 two_more
 worked_answer =
-    answered waiting (dm_no 1) 1 two_more null_handed (time_at 65) (class_no 1) (txn_no 1) 1 up_to_65 of_query waiting_ends (lit≤ tt) (lit≤ tt)
-    (lit≤ tt) refl refl refl
+    answered waiting (dm_no 1) 1 two_more null_handed (time_at 65) (class_no 1) (txn_no 1) 1 up_to_65 of_query (record { sound = sound; once = waiting_once; lawful = made_lawful 14 waiting [] tt; over = refl }) (lit≤ tt) (lit≤ tt) (lit≤ tt) refl refl refl
 
 pub one_not_zero : ◌≢◌ {A = ℕ} 1 0
 one_not_zero e = cc
@@ -110,17 +106,14 @@ at_d log = local_of waiting (D (dm_no 1)) log
 abbrev as_d : Setting
 as_d = setting_of waiting (D (dm_no 1))
 
-permitted_to : (n : ℕ) → IsPermitted waiting (extended n waiting [])
-permitted_to n = lawful_permitted waiting (extended n waiting []) waiting_once (made_lawful n waiting [] tt)
-
 pub worked_head : IsStuck as_d (at_d (extended 7 waiting [])) 1 (Some (Read (time_at 65) (class_no 1) (txn_no 1) 1 up_to_65 of_query))
 worked_head = head_stuck as_d (at_d (extended 7 waiting [])) 1 (lit< tt) refl
 
 pub worked_wait : WaitsSince as_d 1 (at_d null_handed)
-worked_wait = since as_d 1 (at_d null_handed) (d_fair waiting (dm_no 1) null_handed (permitted_to 12)) refl
+worked_wait = since as_d 1 (at_d null_handed) (d_fair waiting (dm_no 1) null_handed (lawful_permitted waiting (extended 12 waiting []) waiting_once (made_lawful 12 waiting [] tt))) refl
 
 pub worked_passed : passed (pipe_at waiting 2 (dm_no 1) (two_more ++ null_handed)) 65 ≡ true
-worked_passed = passed_later waiting 2 (dm_no 1) 65 two_more null_handed (permitted_to 14) (lit≤ tt) refl
+worked_passed = passed_later waiting 2 (dm_no 1) 65 two_more null_handed (lawful_permitted waiting (extended 14 waiting []) waiting_once (made_lawful 14 waiting [] tt)) (lit≤ tt) refl
 
 -- it comes behind the later put
 
@@ -131,20 +124,14 @@ abbrev put_applied : Log
 put_applied = extended 13 rejecting []
 
 rejecting_once : AreSubmittedOnce rejecting.events
-rejecting_once n = elim (same_or_not 1 n) [
-  | inl e ↦ subst (λ k. one_if (1 == k) + (one_if (2 == k) + 0) ≤ 1) e (lit≤ tt)
-  | inr e ↦ rw e (let h = one_at_most (2 == n) in omega arith)
-]
+rejecting_once n = grind (arith, same_or_not, one_at_most)
 
 abbrev reject_act : Act
 reject_act =
     Records 1 (Rejected (txn_no 1) 1 (dm_no 1) (class_no 2) (time_at 66)) ((T (tm_no 1), Reject (time_at 65) (class_no 1) (class_no 2) (time_at 66)) ∷ [])
 
-rejecting_lawful : IsLawful rejecting (Does (D (dm_no 1)) reject_act ∷ put_applied)
-rejecting_lawful = made_lawful 14 rejecting [] tt
-
 pub worked_reject : IsRejectOf rejecting put_applied (dm_no 1) 1 (txn_no 1) 1 (class_no 2) (time_at 66)
 worked_reject =
     rejected rejecting put_applied (dm_no 1) 1 (txn_no 1) 1 (dm_no 1) (class_no 2) (time_at 66)
     ((T (tm_no 1), Reject (time_at 65) (class_no 1) (class_no 2) (time_at 66)) ∷ [])
-    (lawful_permitted rejecting (Does (D (dm_no 1)) reject_act ∷ put_applied) rejecting_once rejecting_lawful)
+    (lawful_permitted rejecting (Does (D (dm_no 1)) reject_act ∷ put_applied) rejecting_once (made_lawful 14 rejecting [] tt))

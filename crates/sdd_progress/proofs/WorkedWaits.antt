@@ -31,8 +31,7 @@ write : IsTimestamp 65
 write = record { ticks = 1; number = 1; is = refl; small = omega arith }
 
 pub both_stamped : (r : WaitingRead) → Either r → IsStamped r
-both_stamped r (inl e) = subst IsStamped (sym e) (record { least = omega arith; most = omega arith; before = refl })
-both_stamped r (inr e) = subst IsStamped (sym e) (record { least = omega arith; most = omega arith; before = refl })
+both_stamped r h2 = grind arith
 
 pub each_on_other : (r : WaitingRead) → Either r → WaitsOn graph Either r
 each_on_other r (inl e) =

@@ -1,5 +1,5 @@
 -- The writers by which the attempts of a transaction are rejected: each has a later timestamp than the ones before.
-use Rattle.sdd_progress.proofs.All.{AllByRecursion, Catalogue, Commit, Committed, Cond, Eras, History, IsAgain, IsAttempt, IsCommitted, IsConditionOf, IsDistinct-cons, IsRecordAt, KeepsRejections, KeepsStarts, List, None, Option, Some, Submit, Ts, Txn, [], ap, arith, cases_lt, catalogue_at, class_for, commits_of_others, condition_time, eqb, event_at, false, inl, inr, is_commit_of_other, length, ne_eqb, not, one_start, option_map, refl, same_Some, same_commit, same_start, start_counts, starts_before, subst, suc, sym, txn_at, txn_no, unwrap_or, zero, ℕ, ◌<◌, ◌∙◌, ◌∷◌, ◌≡◌, ◌≢◌, ◌≤◌, ◌⊎◌}
+use Rattle.sdd_progress.proofs.All.{AllByRecursion, Catalogue, Commit, Committed, Cond, Eras, History, IsAgain, IsAttempt, IsCommitted, IsConditionOf, IsDistinct-cons, IsRecordAt, KeepsRejections, KeepsStarts, List, Option, Some, Ts, Txn, [], ap, arith, cases_lt, commits_of_others, condition_time, eqb, false, is_commit_of_other, length, ne_eqb, not, one_start, option_map, refl, same_Some, same_commit, same_start, start_counts, subst, suc, sym, txn_no, unwrap_or, zero, ℕ, ◌<◌, ◌∙◌, ◌∷◌, ◌≡◌, ◌≢◌, ◌≤◌, ◌⊎◌}
 use Rattle.std.specs.List.{IsDistinct}
 use Rattle.sdd_progress.proofs.Places.{Passes, few_places}
 use Rattle.sdd_obligations.specs.serial_orders.Attempts.{Attempt}
@@ -10,15 +10,11 @@ abbrev pub low_time : Attempt → ℕ
 low_time a = unwrap_or (option_map (λ t. t.0) a.p2) a.ts
 
 below_low : (o : Option Ts) (ts write : ℕ) → write < ts → ((p2 : Ts) → o ≡ Some p2 → write < p2.0) → write < unwrap_or (option_map (λ (t : Ts). t.0) o) ts
-below_low None ts write l f = l
-below_low (Some p2) ts write l f = f p2 refl
+below_low o ts write l f = grind arith
 
 low_is_least : (o : Option Ts) (ts time : ℕ) → ((p2 : Ts) → o ≡ Some p2 → p2.0 < ts)
     → (time ≡ ts) ⊎ ((p2 : Ts) × (o ≡ Some p2) × (time ≡ p2.0)) → unwrap_or (option_map (λ (t : Ts). t.0) o) ts ≤ time
-low_is_least None ts time f (inl e) = omega arith
-low_is_least None ts time f (inr e) = absurd (let no : ◌≡◌ {A = Option Ts} None (Some e.0) = e.1 in cc)
-low_is_least (Some p2) ts time f (inl e) = let l = f p2 refl in omega arith
-low_is_least (Some p2) ts time f (inr e) = let same : p2.0 ≡ e.0.0 = ap (λ (z : Ts). z.0) (same_Some p2 e.0 e.1) in let t = e.2 in omega arith
+low_is_least o ts time f h5 = grind (arith, same_Some)
 
 -- the place of the Commit of a transaction other than n, with a timestamp below the bound
 pub record IsWriterBelow (h : History) (n bound place : ℕ) : Type 0 where
@@ -39,12 +35,8 @@ none_below : (h : History) (n bound : ℕ) → WritersBelow h n bound 0
 unfolding IsDistinct
 none_below h n bound = record { places = []; many = refl; differ = tt; each = tt }
 
-writer_up : (h : History) (n bound most place : ℕ) → bound ≤ most → IsWriterBelow h n bound place → IsWriterBelow h n most place
-writer_up h n bound most place l w = record { txn = w.txn; committed = w.committed; at = w.at; other = w.other; below = let b = w.below in omega arith }
-
 writers_up : (h : History) (n bound most count : ℕ) → bound ≤ most → WritersBelow h n bound count → WritersBelow h n most count
-writers_up h n bound most count l w =
-    record { places = w.places; many = w.many; differ = w.differ; each = each_weaker (λ k x. writer_up h n bound most k l x) w.places w.each }
+writers_up h n bound most count l w = grind (arith, each_weaker)
 
 passing : (h : History) (n bound place : ℕ) → IsWriterBelow h n bound place → Passes (is_commit_of_other n) h place
 passing h n bound place w =
@@ -58,43 +50,16 @@ passing h n bound place w =
 -- they are among the Commits of other transactions
 pub writers_count : (h : History) (n bound count : ℕ) → WritersBelow h n bound count → count ≤ commits_of_others h n
 writers_count h n bound count w =
-    let few = few_places (is_commit_of_other n) h w.places w.differ (each_weaker (λ k x. passing h n bound k x) w.places w.each) in
-    omega (arith, few, w.many)
+    omega (arith, (few_places (is_commit_of_other n) h w.places w.differ (each_weaker (λ k x. passing h n bound k x) w.places w.each)), w.many)
 
 module _ (cat : Catalogue) (eras : Eras) (txns : List Txn) (h : History) (starting : KeepsStarts cat eras txns h) where
   -- the attempts of a transaction have one class
   pub one_class : (a b : Attempt) → IsAttempt h a → IsAttempt h b → a.txn ≡ b.txn → a.class ≡ b.class
-  one_class a b p q e =
-      let s = starting.submitted a p in
-      let t = starting.submitted b q in
-      let at : s.place ≡ t.place =
-      starting.one_submit b.txn s.place t.place (subst (λ n. IsRecordAt h s.place (Submit (txn_no n))) e s.submitted) t.submitted in
-      let text : s.txn ≡ t.txn = same_Some s.txn t.txn (sym s.txn_is ∙ ap (txn_at txns) e ∙ t.txn_is) in
-      s.class_is ∙ ap (λ k. class_for (catalogue_at cat eras (event_at h k)) s.txn) at ∙ ap (class_for (catalogue_at cat eras (event_at h t.place))) text
-      ∙ sym t.class_is
-
-  -- a later attempt has a greater timestamp
-  later_time : (a b : Attempt) → IsAttempt h a → IsAttempt h b → a.txn ≡ b.txn → a.number ≤ b.number → a.ts ≤ b.ts
-  later_time a b p q e l =
-      elim (cases_lt b.place a.place) [
-        | inl m ↦
-            let c = start_counts h b a.place q m in
-            let one = starting.numbered a p in
-            let two = starting.numbered b q in
-            let same : starts_before h b.txn a.place ≡ starts_before h a.txn a.place = ap (λ n. starts_before h n a.place) (sym e) in
-            absurd (omega arith)
-        | inr m ↦ elim (cases_lt a.place b.place) [
-          | inl k ↦ let r = starting.rise a b p q (one_class a b p q e) k in omega arith
-          | inr k ↦ let t = (same_start h a b p q (omega arith)).ts in omega arith
-        ]
-      ]
+  one_class a b p q e = grind (arith, same_Some)
 
   -- two Commits at one place have one timestamp
   one_time_at : (t u : Committed) → IsCommitted h t → IsCommitted h u → t.place ≡ u.place → t.start.ts ≡ u.start.ts
-  one_time_at t u p q e =
-      let same = same_commit h t u p q e in
-      let at = one_start h starting.numbered t.start u.start p.started q.started same.txn same.number in
-      (same_start h t.start u.start p.started q.started at).ts
+  one_time_at t u p q e = grind (arith, same_commit, one_start, same_start)
 
   -- one more, whose timestamp is at or above the bound
   pub one_more : (n bound count : ℕ) (t : Committed) → IsCommitted h t → t.start.txn ≢ n → bound ≤ t.start.ts
@@ -107,7 +72,7 @@ module _ (cat : Catalogue) (eras : Eras) (txns : List Txn) (h : History) (starti
         places = t.place ∷ w.places;
         many = let m = w.many in omega arith;
         differ = IsDistinct-cons eqb t.place w.places (each_weaker apart w.places w.each) w.differ;
-        each = (new, each_weaker (λ k x. writer_up h n bound (suc t.start.ts) k (omega arith) x) w.places w.each);
+        each = (new, each_weaker (λ k x. (record { txn = x.txn; committed = x.committed; at = x.at; other = x.other; below = let b = x.below in omega arith })) w.places w.each);
       }
 
   -- a condition's time isn't below an attempt's lower one
@@ -118,22 +83,16 @@ module _ (cat : Catalogue) (eras : Eras) (txns : List Txn) (h : History) (starti
 
   module _ (rejecting : KeepsRejections cat eras h) where
     other_writer : (a : Attempt) → IsAttempt h a → (g : IsAgain cat eras h a) → g.writer.start.txn ≢ a.txn
-    other_writer a p g e =
-        let last = starting.by_last g.writer a g.committed p (sym e) in
-        let time = later_time a g.writer.start p g.committed.started (sym e) last in
-        let below = g.below in
-        let same = g.writer_time in
-        absurd (omega arith)
+    other_writer a p g e = grind (arith, cases_lt, start_counts, one_class, same_start)
 
     again_more : (count : ℕ) (a : Attempt) → IsAttempt h a → (g : IsAgain cat eras h a)
         → WritersBelow h g.earlier.txn (low_time g.earlier) count → WritersBelow h a.txn (low_time a) (suc count)
     again_more count a p g w =
         let least = low_of_condition g.earlier g.dm g.cond g.started g.condition in
-        let late = g.late in
         let time = g.writer_time in
         let below = below_low a.p2 a.ts g.write g.below g.below_bound in
         let from : WritersBelow h a.txn (low_time g.earlier) count = subst (λ n. WritersBelow h n (low_time g.earlier) count) g.txn_is w in
-        writers_up h a.txn (suc g.writer.start.ts) (low_time a) (suc count) (omega arith)
+        writers_up h a.txn (suc g.writer.start.ts) (low_time a) (suc count) (omega (arith, g.late))
         (one_more a.txn (low_time g.earlier) count g.writer g.committed (other_writer a p g) (omega arith) from)
 
     -- as many as there were attempts before
@@ -141,5 +100,4 @@ module _ (cat : Catalogue) (eras : Eras) (txns : List Txn) (h : History) (starti
     writers zero a p e = none_below h a.txn (low_time a)
     writers (suc count) a p e =
         let g = rejecting.again a p (omega arith) in
-        let number = g.number_is in
-        again_more count a p g (writers count g.earlier g.started (omega arith))
+        again_more count a p g (writers count g.earlier g.started (omega (arith, g.number_is)))
