@@ -3,14 +3,13 @@ pub use Rattle.sdd_lists.proofs.WholeSound.{whole_sound}
 pub use Rattle.sdd_lists.specs.InForce.{classes_in, eras_in, whole_in}
 pub use Rattle.sdd_make.specs.Summary.{summary_of, summary_text}
 pub use Rattle.sdd_make.specs.declared.summary.Summary.{Summary}
-pub use Rattle.sdd_obligations.proofs.AtTurn.{IsAtTurn, answered_last, apart, awaited, unsent}
+pub use Rattle.sdd_obligations.proofs.AtTurn.{answered_last, apart, awaited, unsent}
 pub use Rattle.sdd_obligations.proofs.Done.{count_join}
 pub use Rattle.sdd_obligations.proofs.Halves.{home_turns}
 pub use Rattle.sdd_obligations.proofs.HandedAnswersKeepTurns.{AtTurn}
 pub use Rattle.sdd_obligations.proofs.HoldsFit.{chain_at}
 pub use Rattle.sdd_obligations.proofs.Linking.{lawful_part as lawful_end}
 pub use Rattle.sdd_obligations.proofs.LowClocks.{clock_low}
-pub use Rattle.sdd_obligations.proofs.Modules.{firsts}
 pub use Rattle.sdd_obligations.proofs.Near.{HasNear, IsNearBy, active_near}
 pub use Rattle.sdd_obligations.proofs.OfNext.{site_there}
 pub use Rattle.sdd_obligations.proofs.ExchangesGoByTurns.{spoken}
@@ -45,7 +44,7 @@ pub use Rattle.sdd_obligations.proofs.protocol.Laws.{one_table}
 pub use Rattle.sdd_obligations.proofs.serial_orders.Places.{same_start}
 pub use Rattle.sdd_obligations.proofs.serial_orders.Serial.{serial_order_is}
 pub use Rattle.sdd_obligations.specs.AfterEvents.{down_from}
-pub use Rattle.sdd_obligations.specs.All.{Act, AllFewTicks, Answer, Apply, AreAllApplied, AreSubmittedOnce, Arrive, Catalogue, Class, ClassNo, ClassState, Commit, Committed, Cond, Condition, Const, D, Delete, Deliver, DmNo, Does, Down, EndsByLimit, Era, Eras, Event, Exchange, FitsCondition, FitsInput, FitsStart, FitsStatement, FragNo, Hand, HasCommit, History, Input, IsAttempt, IsAwaited, IsClass, IsClassOf, IsCommitted, IsDatabase, IsEra, IsEraOf, IsGood, IsHeld, IsLawful, IsModule, IsOrderable, IsPermitted, IsPossible, IsRecordAt, IsSerial, IsSoundCatalogue, IsSubmitted, IsTable, IsTheLog, KeepsStarts, Kept, Log, Lose, MAX_DMS, MAX_TMS, Mark, Msg, Notes, Nothing, Pass, Put, PutsHeld, Query, Queued, Read, Rec, Records, Redeclare, Redeclares, Reject, RelNo, Repeat, Reply, Resend, Round, Row, Same, Setting, Settle, Site, Standing, Start, Stmt, Submitted, T, Tick, TmCounts, Ts, Turn, Txn, TxnNo, U, Up, Update, Use, Wait, active, after_mark, all_links, are_linked, attempt_due, attempt_of, attempts, base_of, by_event, by_mark, calls_of, class_at, class_no, committed, committed_of, contains, contents, counts, database_of, dated, delivered, dm_no, does_at, due_by, event_at, hand_due, hand_number, hand_on, handed, has_copy, head, head_of, history, home, is_apply, is_empty, is_link, is_over, is_site, last_served, left, link_of, local_of, mark_from, mark_of, marks, next, next_at, next_number, note_if, nth_era, numbers_to, one_if, pipe_at, placed, queue, quiet, redeclares, redeclares_in, round, rows_of, run, runs, send_due, setting_of, site_due, sites, standing_among, standing_in, submits_in, time_at, tm_no, turn_at, txn_at, txn_no, with_event}
+pub use Rattle.sdd_obligations.specs.All.{Act, AllFewTicks, Answer, AreAllApplied, AreSubmittedOnce, Catalogue, Class, ClassNo, ClassState, Commit, Committed, Cond, Condition, D, Deliver, DmNo, Does, Down, EndsByLimit, Era, Eras, Event, FitsCondition, FitsInput, FitsStart, FitsStatement, FragNo, Hand, HasCommit, History, Input, IsAttempt, IsAwaited, IsClass, IsClassOf, IsCommitted, IsDatabase, IsEra, IsEraOf, IsGood, IsHeld, IsLawful, IsModule, IsOrderable, IsPermitted, IsPossible, IsRecordAt, IsSerial, IsSoundCatalogue, IsSubmitted, IsTable, IsTheLog, KeepsStarts, Kept, Log, Lose, MAX_DMS, MAX_TMS, Mark, Msg, Notes, Nothing, PutsHeld, Queued, Read, Rec, Records, Redeclare, Redeclares, Reject, RelNo, Repeat, Reply, Resend, Round, Row, Setting, Settle, Site, Standing, Stmt, Submitted, T, Tick, TmCounts, Ts, Txn, TxnNo, U, Up, Use, Wait, active, after_mark, all_links, are_linked, attempt_due, attempt_of, base_of, by_event, by_mark, calls_of, class_at, class_no, committed, contains, contents, counts, database_of, dated, dm_no, due_by, event_at, hand_due, hand_on, has_copy, head, head_of, history, home, is_apply, is_empty, is_link, is_over, is_site, last_served, left, link_of, local_of, mark_from, mark_of, marks, next, next_at, note_if, nth_era, numbers_to, one_if, pipe_at, placed, queue, quiet, redeclares, redeclares_in, rows_of, run, runs, send_due, setting_of, site_due, standing_among, standing_in, submits_in, time_at, tm_no, turn_at, txn_at, txn_no, with_event}
 pub use Rattle.sdd_obligations.specs.Bounds.{IsSmall}
 pub use Rattle.sdd_obligations.specs.Heights.{ticks_of}
 pub use Rattle.sdd_obligations.specs.Reading.{HasEras}
@@ -57,9 +56,7 @@ pub use Rattle.sdd_obligations.specs.dm.State.{State}
 pub use Rattle.sdd_obligations.specs.dm.Waiting.{waiting_at}
 pub use Rattle.sdd_obligations.specs.history.declared.record.Rec.TheVariants.{Submit}
 pub use Rattle.sdd_obligations.specs.lang.Database.{Item}
-pub use Rattle.sdd_obligations.specs.lang.Fits.{FitsConditions}
 pub use Rattle.sdd_obligations.specs.lang.declared.assign.Assign.{Assign}
-pub use Rattle.sdd_obligations.specs.lang.declared.assign.Assign.TheVariants.{To}
 pub use Rattle.sdd_obligations.specs.laws.Copied.{AreAppliedAlike}
 pub use Rattle.sdd_obligations.specs.laws.Replay.{IsReplyOf}
 pub use Rattle.sdd_obligations.specs.logs.Due.{home_of}
@@ -69,10 +66,9 @@ pub use Rattle.sdd_obligations.specs.protocol.declared.entry.Entry.{Entry}
 pub use Rattle.sdd_obligations.specs.serial_orders.Attempts.{Attempt}
 pub use Rattle.sdd_obligations.specs.serial_orders.Orders.{IsAlong}
 pub use Rattle.sdd_obligations.specs.serial_orders.Places.{record_at}
-pub use Rattle.sdd_obligations.specs.serial_orders.Precedence.{is_earlier, is_overwritten, is_read_by, misses, precedes}
+pub use Rattle.sdd_obligations.specs.serial_orders.Precedence.{precedes}
 pub use Rattle.sdd_obligations.specs.serial_orders.SerialOrder.{serial_order}
 pub use Rattle.sdd_obligations.specs.tm.State.{class_of}
-pub use Rattle.sdd_obligations.specs.umod.Standing.{first_underway, is_awaiting_helds, lacking_site}
 pub use Rattle.sdd_obligations.specs.umod.Steps.{tm_of}
 pub use Rattle.sdd_progress.proofs.AtRest.{commit_there, rest}
 pub use Rattle.sdd_progress.proofs.Committed.{IsQueued, any_commit, committed_or_queued}
@@ -81,7 +77,7 @@ pub use Rattle.sdd_progress.proofs.ErasOf.{are_eras_of, marks_up as marks_later}
 pub use Rattle.sdd_progress.proofs.Fronts.{history_le, recorded_front, redeclare_between}
 pub use Rattle.sdd_progress.proofs.IdleAtRedeclares.{at_redeclare}
 pub use Rattle.sdd_progress.proofs.Known.{Known, known}
-pub use Rattle.sdd_progress.proofs.Lacking.{goes_on, near_one, no_sends}
+pub use Rattle.sdd_progress.proofs.Lacking.{goes_on, near_one}
 pub use Rattle.sdd_progress.proofs.Lists.{all_true, either, if_none, kept_there, none_at}
 pub use Rattle.sdd_progress.proofs.NoRejects.{all_served}
 pub use Rattle.sdd_progress.proofs.OfLogs.{few_in_limit, few_rejected}
@@ -120,11 +116,9 @@ pub use Rattle.sdd_progress.specs.Answers.{EndsAnEvent, IsAnsweredIn, IsEventOve
 pub use Rattle.sdd_progress.specs.Free.{IsFree, IsFreeClass}
 pub use Rattle.sdd_progress.specs.Rejections.{IsRejectOf}
 pub use Rattle.sdd_progress.specs.Waited.{IsWaitOf}
-pub use Rattle.sdd_report.specs.Committed.{Told, is_of, names_of, order_line, reply_of, shipped_of, told_in, told_of}
-pub use Rattle.sdd_report.specs.Copies.{copies_lines}
-pub use Rattle.sdd_report.specs.Names.{txn_name}
-pub use Rattle.sdd_report.specs.Pending.{is_lower, pending_lines, under_way}
-pub use Rattle.sdd_report.specs.Replies.{replies_along, reply_lines}
+pub use Rattle.sdd_report.specs.Committed.{Told, is_of, names_of, order_line, reply_of, told_in, told_of}
+pub use Rattle.sdd_report.specs.Pending.{is_lower}
+pub use Rattle.sdd_report.specs.Replies.{replies_along}
 pub use Rattle.sdd_report.specs.Report.{Report, after_replies, report_text}
 pub use Rattle.sdd_report.specs.Trace.{trace}
 pub use Rattle.sdd_report.specs.declared.copies.CopyTable.{CopyTable}
@@ -143,20 +137,20 @@ pub use Rattle.sdd_run.specs.Worlds.{IsRunOf}
 pub use Rattle.sdd_script.proofs.NamePlaces.{none_found}
 pub use Rattle.sdd_script.proofs.WordCuts.{NonePasses}
 pub use Rattle.sdd_script.proofs.lang.catalog.Validity.{not_false}
-pub use Rattle.sdd_script.specs.All.{Add, AreDistinct, FitsAssign, FitsTxn, HoldsValues, IsFrom1To, IsLink, IsSite, IsValid, IsValidEvent, IsValidRow, IsValidTxn, IsValue, Value, eras, extended, retired, submitted_by, tail_of, whole}
+pub use Rattle.sdd_script.specs.All.{AreDistinct, FitsAssign, FitsTxn, HoldsValues, IsFrom1To, IsLink, IsSite, IsValid, IsValidEvent, IsValidRow, IsValidTxn, IsValue, Value, eras, extended, retired, submitted_by, tail_of, whole}
 pub use Rattle.sdd_script.specs.declared.workload.Workload.{Workload}
 pub use Rattle.sdd_world.proofs.Results.{of_ok}
 pub use Rattle.sdd_world.proofs.Turning.{t_site as within}
 pub use Rattle.sdd_world.specs.AtSites.{standing_at}
 pub use Rattle.sdd_world.specs.Beginnings.{AllBegin, BeginsD, IsBegun, There}
 pub use Rattle.sdd_world.specs.Copies.{rows_left, table_of, tables_at, tables_of}
-pub use Rattle.sdd_world.specs.Pending.{AreAtLastHomes, Homes, IsListed, Telling, commits, last_home, pending_as, pending_at, pending_by, pending_of, reason_of, status_at, submitted_at, unmet, wait_at, wait_for, waits_of, why_of}
+pub use Rattle.sdd_world.specs.Pending.{AreAtLastHomes, Homes, IsListed, Telling, commits, last_home, pending_as, pending_at, pending_by, pending_of, reason_of, submitted_at, unmet, wait_at, waits_of, why_of}
 pub use Rattle.sdd_world.specs.Schedules.{AreAllowed, lists_after, takes_rounds, with_events}
 pub use Rattle.sdd_world.specs.Represents.{EndsBy, Represents}
 pub use Rattle.sdd_world.specs.Standings.{standing_at_t, standing_at_u}
 pub use Rattle.sdd_world.specs.declared.schedule.ClassList.{ClassList}
 pub use Rattle.sdd_world.specs.declared.world.World.{World}
-pub use Rattle.std.proofs.Common.{All, Bool, Contains, Err, IfOk, List, None, Ok, Option, Result, Some, [], ap, append-nil, append_assoc, arith, codes, cond, count_by, drop, eq-eqb, eqb-true, false, filter, filter_map, find, flat_map, fold, if◌then◌else◌, inl, inr, is_none, is_some, le-leb, length, length-append, lt-ltb, map, min, nat_le, nat_lt, ne_eqb, negsuc, not, option_map, pos, position, refl, slice_get, slice_index_or as get_or, subst, suc, sym, take, take_all, true, zero, ℕ, ◌&&◌, ◌++◌, ◌+◌, ◌-◌, ◌<◌, ◌==◌, ◌^◌, ◌||◌, ◌∙◌, ◌∷◌, ◌≡◌, ◌≢◌, ◌≤◌, ◌⊎◌}
+pub use Rattle.std.proofs.Common.{All, Bool, Contains, IfOk, List, None, Option, Result, Some, [], ap, append-nil, append_assoc, arith, cond, count_by, drop, eq-eqb, eqb-true, false, filter, filter_map, find, flat_map, fold, if◌then◌else◌, inl, inr, is_none, is_some, le-leb, length, length-append, lt-ltb, map, min, nat_le, nat_lt, ne_eqb, not, option_map, position, refl, slice_get, slice_index_or as get_or, subst, suc, sym, take, take_all, true, zero, ℕ, ◌&&◌, ◌++◌, ◌+◌, ◌-◌, ◌<◌, ◌==◌, ◌∙◌, ◌∷◌, ◌≡◌, ◌≢◌, ◌≤◌, ◌⊎◌}
 pub use Rattle.std.proofs.Math.Decide.{dec_le}
 pub use Rattle.std.proofs.Math.Seq.{take-append_seam}
 pub use Rattle.std.proofs.lemmas.Bool.{and_from as both, cases_Bool, cases_eq, cases_lt, false≢true, or_left, or_right}

@@ -1,5 +1,5 @@
 -- Where a settle or a redeclare is the last of the events, the links are quiet at the end.
-use Rattle.sdd_run.proofs.All.{Act, Bool, Does, Event, Hand, Input, IsAtRest, IsLawful, List, Log, Mark, None, Notes, Option, Redeclare, Redeclares, Round, Settle, Site, Some, Submitted, Up, [], after_mark, all_links, ap, at_redeclare, base_of, calls_of, complete_parts, delivered, does_at, false, first_none, from_event, hand_due, hand_number, hand_on, handed, if◌then◌else◌, inl, inr, left, link_of, local_of, mark_from, mark_of, next, next_at, next_is_of_events, next_number, no_redeclare, none_any_base, none_left, nth_era, quiet, quiet_at_last, redeclares, refl, round, same_part, site_due, sites, subst, suc, sym, tail_of, true, with_event, ℕ, ◌++◌, ◌∙◌, ◌∷◌, ◌≡◌, ◌⊎◌}
+use Rattle.sdd_run.proofs.All.{Bool, Event, Input, IsAtRest, IsLawful, List, Log, Mark, None, Redeclare, Redeclares, Settle, Some, Up, [], after_mark, all_links, ap, arith, at_redeclare, calls_of, complete_parts, false, first_none, from_event, hand_due, hand_on, inl, inr, left, mark_from, mark_of, next, next_is_of_events, no_redeclare, none_any_base, none_left, quiet, quiet_at_last, refl, same_part, site_due, subst, sym, tail_of, true, with_event, ℕ, ◌++◌, ◌∙◌, ◌∷◌, ◌≡◌, ◌⊎◌}
 use Rattle.sdd_obligations.specs.All.{Entry}
 use Rattle.sdd_obligations.specs.site_module.SiteLog as site
 
@@ -31,8 +31,7 @@ mark_on g log q r (_ ∷ ws) e h p = p
 
 mark_taken : (g : Input) (log : Log) (e : Event) (s : List Event × List Event) → mark_of g log s ≡ Some (Mark e) → ends false s.0 ≡ true
     → ends false (after_mark s).0 ≡ true
-mark_taken g log e (ws, []) h p = mark_on g log (quiet (all_links g) (calls_of log)) (round (all_links g) (calls_of log)) ws e h p
-mark_taken g log e (ws, x ∷ events) h p = p
+mark_taken g log e s h p = grind (arith, mark_on)
 
 -- or is the one that a class list was put in force by
 
@@ -50,32 +49,15 @@ list_on g log _ r _ t h p = absurd (cc)
 
 list_taken : (g : Input) (log : Log) (t : ℕ) (s : List Event × List Event) → mark_of g log s ≡ Some (Redeclares t) → ends false s.0 ≡ true
     → (ends false (after_mark s).0 ≡ true) ⊎ (after_mark s ≡ ([], []))
-list_taken g log t (ws, []) h p =
-    elim (list_on g log (quiet (all_links g) (calls_of log)) (round (all_links g) (calls_of log)) ws t h p) [
-      | inl q ↦ inl q
-      | inr q ↦ inr (ap (λ xs. (xs, [])) q)
-    ]
-list_taken g log t (ws, x ∷ events) h p = absurd (cc)
+list_taken g log t s h p = grind (arith, list_on)
 
 -- behind that nothing is due
 
-not_due : (at : Site) (o p : Option Act) → (o ≡ None → p ≡ None) → does_at at o ≡ None → does_at at p ≡ None
-not_due at None p k e = ap (does_at at) (k refl)
-not_due at (Some act) p k e = absurd (cc)
-
 none_at_site : (g : Input) (t : ℕ) (log : Log) → site_due g log ≡ None → site_due g (Redeclares t ∷ log) ≡ None
-none_at_site g t log =
-    first_none (λ x. does_at x (next_at g log x)) (λ x. does_at x (next_at g (Redeclares t ∷ log) x)) (sites g.catalogue.tms g.catalogue.dms)
-    (λ x. not_due x (next_at g log x) (next_at g (Redeclares t ∷ log) x) (λ i.
-    no_redeclare g x (base_of g (Redeclares t ∷ log)) (nth_era g (suc (redeclares log))) t (local_of g x log)
-    (none_any_base g x (base_of g log) (base_of g (Redeclares t ∷ log)) (local_of g x log) i)))
-
-same_hand : (t : ℕ) (log : Log) (l : Site × Site) → hand_on (Redeclares t ∷ log) l ≡ hand_on log l
-same_hand t log l =
-    ap (λ b. if b then hand_number log l (next_number (handed l.0 l.1 log) (delivered (link_of l.0 l.1 log).there)) else None) (same_part l.1 t log)
+none_at_site g t log = grind (arith, first_none, no_redeclare, none_any_base)
 
 none_to_hand : (g : Input) (t : ℕ) (log : Log) → hand_due g log ≡ None → hand_due g (Redeclares t ∷ log) ≡ None
-none_to_hand g t log = first_none (hand_on log) (hand_on (Redeclares t ∷ log)) (all_links g) (λ l e. same_hand t log l ∙ e)
+none_to_hand g t log = first_none (hand_on log) (hand_on (Redeclares t ∷ log)) (all_links g) (λ l e. (grind (arith, same_part)) ∙ e)
 
 record IsDone (g : Input) (log : Log) : Type 0 where
   time : ℕ
@@ -83,19 +65,11 @@ record IsDone (g : Input) (log : Log) : Type 0 where
   is : log ≡ Redeclares time ∷ before
   none : left g.events log ≡ ([], [])
 
-done_is_over : (g : Input) (t : ℕ) (before : Log) → next g before ≡ Some (Redeclares t) → left g.events (Redeclares t ∷ before) ≡ ([], [])
-    → next g (Redeclares t ∷ before) ≡ None
-done_is_over g t before h e =
-    let m = at_redeclare g before t h in
-    none_left g (Redeclares t ∷ before)
-    (record { no_mark = refl; no_site = none_at_site g t before m.no_site; no_hand = none_to_hand g t before m.no_hand })
-    e
-
 over : (g : Input) (log : Log) (x : Entry) → IsLawful g log → next g log ≡ Some x → IsDone g log → ⊥
 over g log x h n d =
     let lawful : IsLawful g (Redeclares d.time ∷ d.before) = subst (IsLawful g) d.is h in
     let none : next g log ≡ None =
-    ap (next g) d.is ∙ done_is_over g d.time d.before lawful.0 (ap (left g.events) (sym d.is) ∙ d.none) in
+    ap (next g) d.is ∙ (grind (arith, at_redeclare, none_left, none_at_site, none_to_hand)) in
     let wrong : Some x ≡ None = sym n ∙ none in absurd (cc)
 
 -- so the last event is to come, or is done
@@ -105,20 +79,17 @@ IsLast g log = (ends false (left g.events log).0 ≡ true) ⊎ IsDone g log
 
 to_come : (g : Input) (log : Log) (x : Entry) → IsLawful g (x ∷ log) → IsLast g log → ends false (left g.events log).0 ≡ true
 unfolding IsLast
-to_come g log x h (inl p) = p
-to_come g log x h (inr d) = absurd (over g log x h.1 h.0 d)
+to_come g log x h h5 = grind (arith, over)
 
 last_one : (g : Input) (log : Log) (t : ℕ)
     → (ends false (after_mark (left g.events log)).0 ≡ true) ⊎ (after_mark (left g.events log) ≡ ([], [])) → IsLast g (Redeclares t ∷ log)
 unfolding IsLast
-last_one g log t (inl p) = inl p
-last_one g log t (inr p) = inr (record { time = t; before = log; is = refl; none = p })
+last_one g log t h4 = grind arith
 
 is_last : (g : Input) (log : Log) → IsLawful g log → ends false g.events ≡ true → IsLast g log
 unfolding IsLast
 is_last g [] h p = inl p
-is_last g (Mark e ∷ log) h p =
-    inl (mark_taken g log e (left g.events log) (next_is_of_events g log (Mark e) refl h.0) (to_come g log (Mark e) h (is_last g log h.1 p)))
+is_last g (Mark e ∷ log) h p = grind (arith, mark_taken, next_is_of_events, to_come, (is_last g log h.1 p))
 is_last g (Redeclares t ∷ log) h p =
     last_one g log t (list_taken g log t (left g.events log) (next_is_of_events g log (Redeclares t) refl h.0)
     (to_come g log (Redeclares t) h (is_last g log h.1 p)))
@@ -133,19 +104,13 @@ none_next g log q r (Up d ∷ ws) h p = absurd (cc)
 none_next g log _ r _ h p = absurd (cc)
 
 none_to_come : (g : Input) (log : Log) (s : List Event × List Event) → mark_of g log s ≡ None → ends false s.0 ≡ true → ⊥
-none_to_come g log (ws, []) h p = none_next g log (quiet (all_links g) (calls_of log)) (round (all_links g) (calls_of log)) ws h p
-none_to_come g log (ws, x ∷ events) h p = absurd (cc)
+none_to_come g log s h p = grind (arith, none_next)
 
 quiet_where : (g : Input) (log : Log) → IsLawful g log → next g log ≡ None → IsLast g log → quiet (all_links g) (calls_of log) ≡ true
 unfolding IsLast
-quiet_where g log h n (inl p) = absurd (none_to_come g log (left g.events log) (complete_parts g log n).no_next p)
-quiet_where g log h n (inr d) =
-    let lawful : IsLawful g (Redeclares d.time ∷ d.before) = subst (IsLawful g) d.is h in
-    ap (λ l. quiet (all_links g) (calls_of l)) d.is ∙ (at_redeclare g d.before d.time lawful.0).links
+quiet_where g log h n h5 = grind (arith, none_to_come, complete_parts, at_redeclare)
 
 -- an event before which rounds go on is the last
 pub quiet_at_rest : (g : Input) (last : Event) → IsAtRest last → (log : Log) → IsLawful (with_event g last) log → next (with_event g last) log ≡ None
     → quiet (all_links g) (calls_of log) ≡ true
-quiet_at_rest g Settle at log h n = quiet_at_last g log h n
-quiet_at_rest g Redeclare at log h n = quiet_where (with_event g Redeclare) log h n (is_last (with_event g Redeclare) log h (ends_so false g.events))
-quiet_at_rest g _ at log h n = absurd at
+quiet_at_rest g last at log h n = grind (arith, quiet_at_last, quiet_where, is_last, ends_so)

@@ -1,5 +1,5 @@
 -- The class lists of a workload as they are given: each is an era of the whole catalogue, and has its protocol table.
-use Rattle.sdd_run.proofs.All.{AllZip, AllZip-long, AreTables, Catalogue, Class, Entry, Era, HasEras, IsEra, IsEraOf, IsTable, List, Some, Workload, [], ap, arith, cases_lt, classes_in, era_of_itself, era_of_whole, eras, eras_in, eras_with_tables, extended, get_or_past, inl, input_of, inr, length, nth_era, refl, retired, slice_get, slice_get-get_or, subst, suc, sym, whole_in, zero, ℕ, ◌∙◌, ◌∷◌, ◌≡◌, ◌≤◌}
+use Rattle.sdd_run.proofs.All.{AllZip, AllZip-long, AreTables, Catalogue, Class, Entry, Era, HasEras, IsEra, IsEraOf, IsTable, List, Some, Workload, [], ap, arith, cases_lt, classes_in, era_of_itself, era_of_whole, eras, eras_in, eras_with_tables, extended, get_or_past, input_of, length, nth_era, refl, retired, slice_get, slice_get-get_or, suc, whole_in, zero, ℕ, ◌∙◌, ◌∷◌, ◌≡◌, ◌≤◌}
 
 -- as many as catalogues, that is one more than lists
 
@@ -17,9 +17,8 @@ tables_are cat tables work tabled = AllZip-long IsTable (eras_in cat work) table
 
 pub some_table : (cat : Catalogue) (tables : List (List Entry)) (work : Workload) → AreTables cat work tables → 1 ≤ length tables
 some_table cat tables work tabled =
-    let all = tables_are cat tables work tabled in
     let many = eras_are cat (classes_in cat work) in
-    omega (arith, all, many)
+    omega (arith, (tables_are cat tables work tabled), many)
 
 -- the first catalogue in force is the one without the lists
 first_there : (cat : Catalogue) (lists : List (List Class)) → slice_get (eras cat lists) 0 ≡ Some cat
@@ -38,10 +37,7 @@ pub of_list : (cats : List Catalogue) (tables : List (List Entry)) → AllZip Is
     → (k : ℕ) (f : Era) → slice_get (eras_with_tables cats tables) k ≡ Some f → IsOfList cats k f
 of_list [] tables h k f e = cc
 of_list (cat ∷ cats) [] h k f e = absurd h
-of_list (cat ∷ cats) (table ∷ tables) h zero f e =
-    let first : Era = record { catalogue = cat; table = table } in
-    let same : first ≡ f = cc in
-    subst (IsOfList (cat ∷ cats) 0) same (record { there = refl; era = record { table = h.0 } })
+of_list (cat ∷ cats) (table ∷ tables) h zero f e = grind (arith, IsOfList)
 of_list (cat ∷ cats) (table ∷ tables) h (suc k) f e = let i = of_list cats tables h.1 k f e in record { there = i.there; era = i.era }
 
 module _ (cat : Catalogue) (tables : List (List Entry)) (work : Workload) (tabled : AreTables cat work tables) where
@@ -54,17 +50,11 @@ module _ (cat : Catalogue) (tables : List (List Entry)) (work : Workload) (table
 
   pub list_at : (k : ℕ) → k ≤ length (classes_in cat work) → IsOfList (eras_in cat work) k (nth_era (input_of cat tables work) k)
   list_at k l =
-      let all = how_many in
       of_list (eras_in cat work) tables tabled k (nth_era (input_of cat tables work) k)
-      (slice_get-get_or (input_of cat tables work).eras k none (omega (arith, l, all)))
+      (slice_get-get_or (input_of cat tables work).eras k none (omega (arith, l, how_many)))
 
   pub era_at : (k : ℕ) → k ≤ length (classes_in cat work) → IsEraOf (whole_in cat work) (nth_era (input_of cat tables work) k).catalogue
   era_at k l = era_of_whole cat (classes_in cat work) k (nth_era (input_of cat tables work) k).catalogue (list_at k l).there
 
   pub has_eras : HasEras (input_of cat tables work)
-  has_eras k = elim (cases_lt (length (classes_in cat work)) k) [
-    | inl past ↦ (let all = how_many in
-        subst (λ (f : Era). IsEraOf (whole_in cat work) f.catalogue)
-        (sym (get_or_past (input_of cat tables work).eras k none (omega (arith, past, all)))) (era_of_itself (whole_in cat work)))
-    | inr within ↦ era_at k (omega (arith, within))
-  ]
+  has_eras k = grind (arith, cases_lt, how_many, get_or_past, none, era_of_itself, era_at)

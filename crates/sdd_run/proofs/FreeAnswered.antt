@@ -1,5 +1,5 @@
 -- A READ of a free class is answered in the event in which it is handed over.
-use Rattle.sdd_run.proofs.All.{Answer, AreSubmittedOnce, ClassNo, Cond, D, DmNo, Does, EndsAnEvent, Hand, Input, IsAnsweredIn, IsAnsweredWithin, IsEventOver, IsFreeClass, IsLawful, IsPermitted, IsRecordAt, IsSoundCatalogue, IsTheLog, List, Log, Mark, Msg, Read, Rec, Records, Redeclares, Site, Ts, TxnNo, Use, [], act_kind, answered_by_end, ap, append_assoc, arith, begins_event, event_at, event_there, false, history, inl, inr, lawful_end, lawful_permitted, length, marks, marks_later, over_at_end, over_before, permitted_before, recorded_there, refl, subst, sym, true, ℕ, ◌++◌, ◌∙◌, ◌∷◌, ◌≡◌, ◌≤◌, ◌⊎◌}
+use Rattle.sdd_run.proofs.All.{Answer, AreSubmittedOnce, ClassNo, Cond, D, DmNo, Does, EndsAnEvent, Hand, Input, IsAnsweredIn, IsAnsweredWithin, IsEventOver, IsFreeClass, IsLawful, IsPermitted, IsRecordAt, IsSoundCatalogue, IsTheLog, List, Log, Msg, Read, Rec, Records, Site, Ts, TxnNo, Use, [], act_kind, answered_by_end, ap, append_assoc, arith, begins_event, event_at, event_there, false, history, inl, inr, lawful_end, lawful_permitted, length, marks, marks_later, over_at_end, over_before, permitted_before, recorded_there, refl, subst, sym, true, ℕ, ◌++◌, ◌∙◌, ◌∷◌, ◌≡◌, ◌≤◌, ◌⊎◌}
 use Rattle.sdd_obligations.specs.All.{Entry}
 
 -- the entries behind a place, till the event there is over
@@ -11,11 +11,6 @@ record IsTillOver (g : Input) (after rest : Log) : Type 0 where
   pub over : IsEventOver g (within ++ rest)
   pub same : marks (within ++ rest) ≡ marks rest
 
-no_mark : (e : Entry) (log : Log) → begins_event e ≡ false → marks (e ∷ log) ≡ marks log
-no_mark (Mark e) log h = cc
-no_mark (Redeclares t) log h = cc
-no_mark _ log h = refl
-
 till : (g : Input) (after rest : Log) → IsLawful g (after ++ rest) → (marks (after ++ rest) ≡ marks rest) ⊎ IsTillOver g after rest
 till g [] rest h = inl refl
 till g (e ∷ after) rest h =
@@ -24,21 +19,13 @@ till g (e ∷ after) rest h =
           (elim (begins_event e)
           as (λ b. begins_event e ≡ b → (marks (e ∷ (after ++ rest)) ≡ marks rest) ⊎ IsTillOver g (e ∷ after) rest) [
             | true ↦ λ b. inr (record { front = e ∷ []; within = after; is = refl; over = over_before g e (after ++ rest) h b; same = same })
-            | false ↦ λ b. inl (no_mark e (after ++ rest) b ∙ same)
+            | false ↦ λ b. inl ((grind arith) ∙ same)
           ] refl)
       | inr x ↦ inr (record { front = e ∷ x.front; within = x.within; is = ap (λ l. e ∷ l) x.is; over = x.over; same = x.same })
     ]
 
 till_over : (g : Input) (after rest : Log) → IsLawful g (after ++ rest) → IsEventOver g (after ++ rest) → IsTillOver g after rest
-till_over g after rest h over = elim (till g after rest h) [
-  | inl same ↦ record { front = []; within = after; is = refl; over = over; same = same }
-  | inr x ↦ x
-]
-
--- an Answer of a permitted log is one of the module where it stands
-answer_at : (g : Input) (c : ℕ) (d dm : DmNo) (txn : TxnNo) (attempt : ℕ) (sends : List (Site × Msg)) (log : Log)
-    → IsPermitted g (Does (D d) (Records c (Answer txn attempt dm) sends) ∷ log) → dm ≡ d
-answer_at g c d dm txn attempt sends log h = act_kind g (D d) (Records c (Answer txn attempt dm) sends) log h
+till_over g after rest h over = grind (arith, till)
 
 -- where an Answer stands between a hand and the end of its event, it has the number of that event
 answered_there : (g : Input) (log front later before entry_log rest : Log) (c : ℕ) (d dm : DmNo) (txn : TxnNo) (attempt : ℕ) (sends : List (Site × Msg))
@@ -51,12 +38,11 @@ answered_there g log front later before entry_log rest c d dm txn attempt sends 
     let there : log ≡ (front ++ later) ++ entry ∷ (before ++ rest) =
     whole ∙ ap (λ l. front ++ l) all ∙ sym (append_assoc front later (entry ∷ (before ++ rest))) in
     let now : IsPermitted g (entry ∷ (before ++ rest)) = permitted_before g (front ++ later) (entry ∷ (before ++ rest)) (subst (IsPermitted g) there h) in
-    let named : dm ≡ d = answer_at g c d dm txn attempt sends (before ++ rest) now in
-    let low = marks_later before rest in
+    let named : dm ≡ d = (act_kind g (D d) (Records c (Answer txn attempt dm) sends) (before ++ rest) now) in
     let high = marks_later (later ++ entry ∷ []) (before ++ rest) in
     let joined : marks ((later ++ entry ∷ []) ++ (before ++ rest)) ≡ marks rest =
     ap marks (append_assoc later (entry ∷ []) (before ++ rest)) ∙ ap marks (sym all) ∙ same in
-    let event : marks (before ++ rest) ≡ marks rest = omega (arith, low, high, joined) in
+    let event : marks (before ++ rest) ≡ marks rest = omega (arith, (marks_later before rest), high, joined) in
     record {
       place = length (history (before ++ rest));
       answered = subst (λ l. IsRecordAt (history l) (length (history (before ++ rest))) (Answer txn attempt d)) (sym there)

@@ -39,9 +39,8 @@ module _ (g : Input) (log : Log) (eras : Eras) (h : IsPermitted g log) (starting
       let entry : Entry = Does (D (dm_no d)) (Records x.class rec x.sends) in
       let r : IsRejectOf g x.before (dm_no d) x.class (txn_no a.txn) a.number (class_no by) (time_at write) =
       rejected g x.before (dm_no d) x.class (txn_no a.txn) a.number (dm_no d) (class_no by) (time_at write) x.sends x.permitted in
-      let class = of_its_class x.later x.before entry x.class d r.ts r.of r.conds r.uses x.permitted.1 x.is r.head_is in
       never_rejected g x.before x.class (dm_no d) (txn_no a.txn) a.number (dm_no d) (class_no by) (time_at write) x.sends
-      (subst (IsFreeClass g) class free) x.permitted
+      (subst (IsFreeClass g) (of_its_class x.later x.before entry x.class d r.ts r.of r.conds r.uses x.permitted.1 x.is r.head_is) free) x.permitted
 
   pub undisturbed : IsUndisturbed (history log) a
   undisturbed = record { no_wait = λ d k conds. no_wait d k conds; no_reject = λ d k by write. no_reject d k by write }

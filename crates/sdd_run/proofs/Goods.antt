@@ -1,5 +1,5 @@
 -- What is given by a valid workload is what the modules' facts ask for, with each part of its schedule.
-use Rattle.sdd_run.proofs.All.{All, All-at, All-cons, All-head, All-nil, All-tail, All-weaker, AllFewTicks, AreTables, Catalogue, Entry, Event, FitsInput, FitsStart, HoldsValues, IsDatabase, IsGood, IsHeld, IsSoundCatalogue, IsValid, IsValidEvent, IsValidRow, IsValidTxn, IsValue, List, MAX_TICKS, Put, PutsHeld, RelNo, Row, Stmt, Tick, Value, Workload, [], arith, both as and_both, database_of, first_input, get_or as slice_index_or, inl, inr, le-leb, length, map, nat_le, negsuc, no_database, numbers_to, pos, refl, rows_make_database, subst, suc, sym, ticks_of, true, whole_in, zero, ℕ, ◌++◌, ◌-◌, ◌^◌, ◌∷◌, ◌≡◌, ◌≤◌, ◌⊎◌}
+use Rattle.sdd_run.proofs.All.{All, All-at, All-cons, All-head, All-nil, All-tail, All-weaker, AllFewTicks, AreTables, Catalogue, Entry, Event, FitsInput, FitsStart, HoldsValues, IsDatabase, IsGood, IsHeld, IsSoundCatalogue, IsValid, IsValidEvent, IsValidRow, IsValidTxn, IsValue, List, MAX_TICKS, PutsHeld, RelNo, Row, Stmt, Value, Workload, [], arith, both as and_both, database_of, first_input, get_or as slice_index_or, inl, inr, le-leb, length, map, nat_le, no_database, numbers_to, refl, rows_make_database, subst, suc, sym, ticks_of, whole_in, zero, ℕ, ◌++◌, ◌-◌, ◌∷◌, ◌≡◌, ◌≤◌, ◌⊎◌}
 use Rattle.sdd_run.proofs.Allowed.{IsGoodAlong}
 use Rattle.sdd_run.proofs.ErasWithTables.{has_eras}
 use Rattle.sdd_run.proofs.Submissions.{once, once_before}
@@ -8,13 +8,10 @@ use Rattle.sdd_obligations.specs.base.declared.value.Value.TheVariants as values
 
 -- values are numbers of 64 bits, or texts
 pub held : (v : Value) → IsValue v → IsHeld v
-held (values.Int (pos n)) h = le-leb n (2 ^ 63 - 1) (omega (arith, h))
-held (values.Int (negsuc n)) h = and_both (nat_le n (2 ^ 63 - 1)) true (le-leb n (2 ^ 63 - 1) (omega (arith, h))) refl
-held (values.Text t) h = tt
+held v h = grind (arith, le-leb, and_both, nat_le)
 
 pub puts_held : (s : Stmt) → HoldsValues s → PutsHeld s
-puts_held (Put rel row) h = All-weaker IsValue IsHeld held row h
-puts_held _ h = tt
+puts_held s h = grind (arith, held)
 
 -- the rows with which a data module begins: those of the workload, or none where there is no such module
 one_of_all : (r : List (RelNo × Row)) (ds : List ℕ) (k : ℕ) → (slice_index_or (map (λ d. r) ds) k [] ≡ r) ⊎ (slice_index_or (map (λ d. r) ds) k [] ≡ [])
@@ -28,8 +25,7 @@ rows_database cat rows valid =
     (All-weaker (IsValidRow cat) (λ (r : RelNo × Row). All IsHeld r.1) (λ r v. All-weaker IsValue IsHeld held r.1 v.values) rows valid)
 
 one_tick : (cat : Catalogue) (count : ℕ) (e : Event) → IsValidEvent cat count e → ticks_of e ≤ MAX_TICKS
-one_tick cat count (Tick t k) h = h.1.1
-one_tick cat count _ h = omega arith
+one_tick cat count e h = grind arith
 
 pub few_ticks : (cat : Catalogue) (count : ℕ) (es : List Event) → All (IsValidEvent cat count) es → AllFewTicks es
 few_ticks cat count [] h = tt
@@ -48,10 +44,6 @@ front : (cat : Catalogue) (count : ℕ) (xs ys all : List Event) → xs ++ ys �
 front cat count xs ys all e h = fronts cat count xs ys (subst (All (IsValidEvent cat count)) (sym e) h)
 
 module _ (cat : Catalogue) (tables : List (List Entry)) (work : Workload) (sound : IsSoundCatalogue (whole_in cat work)) (valid : IsValid cat work) where
-  -- the rows of the workload make a database
-  rows_fit : IsDatabase (whole_in cat work) (database_of (whole_in cat work) work.rows)
-  rows_fit = rows_database (whole_in cat work) work.rows (rows_valid cat work valid)
-
   pub fits_given : (es : List Event) → FitsInput (record (first_input cat tables work) { events = es })
   fits_given es = record {
     sound = sound;
@@ -60,7 +52,7 @@ module _ (cat : Catalogue) (tables : List (List Entry)) (work : Workload) (sound
         record { fits = v.fits; held = All-weaker HoldsValues PutsHeld puts_held txn.statements v.values });
     rows = λ d.
         elim (one_of_all work.rows (numbers_to cat.dms) (d.0 - 1)) [
-          | inl e ↦ subst (λ r. IsDatabase (whole_in cat work) (database_of (whole_in cat work) r)) (sym e) rows_fit
+          | inl e ↦ subst (λ r. IsDatabase (whole_in cat work) (database_of (whole_in cat work) r)) (sym e) (rows_database (whole_in cat work) work.rows (rows_valid cat work valid))
           | inr e ↦ subst (λ r. IsDatabase (whole_in cat work) (database_of (whole_in cat work) r)) (sym e) (no_database (whole_in cat work))
         ];
   }

@@ -1,16 +1,9 @@
 -- Of two committed transactions of one class the one that was submitted first stands first in a serial order.
-use Rattle.sdd_run.proofs.All.{Catalogue, ComesBefore, Committed, Contains, Contains-cases, Contains-nil, Eras, History, IsAlong, IsCommitted, IsSerial, IsSubmitted, IsSubmittedBefore, KeepsStarts, List, Txn, TxnNo, [], ap, arith, cases_eq, cases_lt, eq-eqb, false≢true, inl, inr, is_earlier, is_overwritten, is_read_by, lt-ltb, misses, nat_lt, ne_eqb, not, precedes, same_start, subst, sym, true, txn_no, ◌&&◌, ◌<◌, ◌||◌, ◌∙◌, ◌∷◌, ◌≡◌, ◌≢◌}
+use Rattle.sdd_run.proofs.All.{Catalogue, ComesBefore, Committed, Contains, Contains-cases, Contains-nil, Eras, History, IsAlong, IsCommitted, IsSerial, IsSubmitted, IsSubmittedBefore, KeepsStarts, List, Txn, TxnNo, [], ap, arith, cases_eq, cases_lt, eq-eqb, false≢true, inl, inr, lt-ltb, nat_lt, ne_eqb, precedes, same_start, subst, sym, true, txn_no, ◌<◌, ◌∙◌, ◌∷◌, ◌≡◌, ◌≢◌}
 
 -- one that precedes another stands before it
 module _ (cat : Catalogue) (h : History) (x y : Committed) (first : IsCommitted h x) (second : IsCommitted h y) (precedes_it : precedes cat h x y ≡ true)
     (other : x.start.txn ≢ y.start.txn) where
-  behind_first : (n : TxnNo) (rest : List TxnNo) → txn_no x.start.txn ≡ n → Contains (n ∷ rest) (txn_no y.start.txn) → Contains rest (txn_no y.start.txn)
-  behind_first n rest same there =
-      elim (Contains-cases n rest (txn_no y.start.txn) there) [
-        | inl e ↦ absurd (other (ap (λ (z : TxnNo). z.0) (same ∙ sym e)))
-        | inr behind ↦ behind
-      ]
-
   -- where both stand behind the first of the order
   later : (n : TxnNo) (rest : List TxnNo) → ComesBefore rest x.start.txn y.start.txn → ComesBefore (n ∷ rest) x.start.txn y.start.txn
   later n rest b = record { front = n ∷ b.front; rest = b.rest; is = ap (λ l. n ∷ l) b.is; behind = b.behind }
@@ -20,22 +13,13 @@ module _ (cat : Catalogue) (h : History) (x y : Committed) (first : IsCommitted 
   stands_before [] along there also = absurd (Contains-nil (txn_no x.start.txn) there)
   stands_before (n ∷ rest) along there also =
       elim (Contains-cases n rest (txn_no x.start.txn) there) [
-        | inl same ↦ record { front = []; rest = rest; is = ap (λ m. m ∷ rest) (sym same); behind = behind_first n rest same also }
+        | inl same ↦ record { front = []; rest = rest; is = ap (λ m. m ∷ rest) (sym same); behind = (grind (arith, Contains-cases, other)) }
         | inr behind ↦
             (elim (Contains-cases n rest (txn_no y.start.txn) also) [
               | inl same ↦ absurd (false≢true (sym (along.0.first y x second first (ap (λ (z : TxnNo). z.0) same) behind) ∙ precedes_it))
               | inr also_behind ↦ later n rest (stands_before rest along.1 behind also_behind)
             ])
       ]
-
--- of two different transactions of one class the one with the smaller timestamp precedes the other
-precedes_later : (cat : Catalogue) (h : History) (x y : Committed) → x.start.txn ≢ y.start.txn → x.start.class ≡ y.start.class → x.start.ts < y.start.ts
-    → precedes cat h x y ≡ true
-precedes_later cat h x y other class time =
-    let earlier : is_earlier x y ≡ true =
-    ap (λ b. b && nat_lt x.start.ts y.start.ts) (eq-eqb x.start.class y.start.class class) ∙ lt-ltb x.start.ts y.start.ts time in
-    ap (λ b. not b && ((is_earlier x y || is_overwritten x y) || (misses cat h x y || is_read_by cat h x y))) (ne_eqb x.start.txn y.start.txn other)
-    ∙ ap (λ b. (b || is_overwritten x y) || (misses cat h x y || is_read_by cat h x y)) earlier
 
 module _ (cat : Catalogue) (eras : Eras) (txns : List Txn) (h : History) (starts : KeepsStarts cat eras txns h) (x y : Committed) (first : IsCommitted h x)
     (second : IsCommitted h y) (class : x.start.class ≡ y.start.class) (submitted : IsSubmittedBefore h x y) where
@@ -48,21 +32,9 @@ module _ (cat : Catalogue) (eras : Eras) (txns : List Txn) (h : History) (starts
       omega (arith, one, before)
 
   starts_first : x.start.place < y.start.place
-  starts_first =
-      elim (cases_lt x.start.place y.start.place) [
-        | inl before ↦ before
-        | inr behind ↦
-            (elim (cases_eq x.start.place y.start.place) [
-              | inl same ↦ absurd (other (same_start h x.start y.start first.started second.started same).txn)
-              | inr differ ↦
-                  absurd (let turned = starts.in_turn y.start x.start submitted.second_place submitted.first_place second.started first.started (sym class)
-                  (omega (arith, behind, differ)) submitted.second submitted.first in
-                  let before = submitted.before in
-                  omega (arith, turned, before))
-            ])
-      ]
+  starts_first = grind (arith, cases_lt, cases_eq, other, same_start)
 
   pub in_turn : (order : List TxnNo) → IsSerial cat h order → ComesBefore order x.start.txn y.start.txn
   in_turn order serial =
       let time = starts.rise x.start y.start first.started second.started class starts_first in
-      stands_before cat h x y first second (precedes_later cat h x y other class time) other order serial.along (serial.whole x first) (serial.whole y second)
+      stands_before cat h x y first second (grind (arith, nat_lt, eq-eqb, lt-ltb, ne_eqb, other)) other order serial.along (serial.whole x first) (serial.whole y second)

@@ -1,6 +1,6 @@
 -- A transaction that is pending when a run ends was submitted under the class list that is in force then: all that
 -- was submitted under an earlier one is committed. So it is looked for at the site of its class by that list.
-use Rattle.sdd_run.proofs.All.{AreAtLastHomes, Bool, Does, Hand, Homes, Input, IsPermitted, IsSubmitted, Known, List, Log, Mark, None, Notes, Option, Rec, Redeclares, Round, Site, Some, Submit, Submitted, Telling, TxnNo, [], ap, append_assoc, arith, commit_there, commits, cons_option, eqb-true, false, filter_map, given_at, history, history_le, home_of, if◌then◌else◌, inl, inr, last_home, length, length-append, list_any, not_both, nth_era, one_submit, option_map, pending_as, pending_at, pending_by, pending_of, permitted_before, reason_of, recorded_front, recorded_there, redeclare_between, redeclares, refl, rest, same_number, slice_get, status_at, submit_in, submitted_at, subst, suc, sym, true, txn_at, txn_no, why_of, ℕ, ◌++◌, ◌+◌, ◌==◌, ◌∙◌, ◌∷◌, ◌≡◌}
+use Rattle.sdd_run.proofs.All.{AreAtLastHomes, Bool, Does, Hand, Homes, Input, IsPermitted, IsSubmitted, Known, List, Log, Mark, None, Notes, Option, Rec, Redeclares, Round, Site, Some, Submit, Submitted, Telling, TxnNo, [], ap, append_assoc, arith, commit_there, commits, cons_option, eqb-true, false, filter_map, given_at, history, history_le, home_of, if◌then◌else◌, inl, inr, last_home, length, length-append, list_any, not_both, nth_era, one_submit, option_map, pending_as, pending_at, pending_by, pending_of, permitted_before, reason_of, recorded_front, recorded_there, redeclare_between, redeclares, refl, rest, same_number, slice_get, submit_in, submitted_at, subst, suc, sym, true, txn_at, txn_no, ℕ, ◌++◌, ◌+◌, ◌==◌, ◌∙◌, ◌∷◌, ◌≡◌}
 use Rattle.sdd_run.proofs.Lossless.{commits_it}
 
 -- the site that a log tells is that of the one place where it submits the transaction
@@ -36,10 +36,9 @@ submitted_there g log later rest at n h is =
     is ∙ ap (λ l. l ++ Submitted at n ∷ rest) e ∙ append_assoc front (Submitted other n ∷ after) (Submitted at n ∷ rest) in
     let there : IsSubmitted (history log) n (length (history between)) =
     subst (λ l. IsSubmitted (history l) n (length (history between))) (sym whole) (recorded_there front (Submitted other n) between (Submit (txn_no n)) refl) in
-    let one = one_submit g log n (length (history between)) (length (history rest)) h there here in
     let up = history_le after (Submitted at n ∷ rest) in
     let more : length (history (Submitted at n ∷ rest)) ≡ length (history rest) + 1 = length-append (history rest) _ in
-    absurd (omega (arith, one, up, more))))
+    absurd (omega (arith, (one_submit g log n (length (history between)) (length (history rest)) h there here), up, more))))
 
 -- what is submitted and not committed was submitted under the last list
 last_home_is : (g : Input) (log : Log) → Known g log → (n k : ℕ) → IsSubmitted (history log) n k
@@ -50,8 +49,7 @@ last_home_is g log w n k submitted unmade =
     let x = given_at g s.rest s.at n now in
     elim (redeclare_between (Submitted s.at n) s.rest log s.later s.is) [
       | inl same ↦
-          (submitted_there g log s.later s.rest s.at n w.permitted s.is ∙ x.at_is
-          ∙ ap (λ i. home_of (nth_era g i).catalogue (txn_at g n)) (sym (ap redeclares x.is) ∙ same))
+          grind (arith, submitted_there, home_of, nth_era, txn_at, redeclares)
       | inr b ↦ (let r = rest g log w b.after b.mid b.time b.upper_is in
           let inside = history_le b.between (Submitted s.at n ∷ s.rest) in
           let mid_long : length (history b.mid) ≡ length (history (b.between ++ Submitted s.at n ∷ s.rest)) = ap (λ l. length (history l)) b.mid_is in
@@ -75,8 +73,7 @@ chosen_alike f g (x ∷ xs) h = ap (λ o. cons_option o (filter_map f xs)) (h 0 
 
 same_if : (tell : Telling) (g : Input) (log : Log) (homes others : Homes) (n : TxnNo) (b : Bool) → (b ≡ false → homes n.0 ≡ others n.0)
     → (if b then None else pending_as n (reason_of tell homes g log n.0)) ≡ (if b then None else pending_as n (reason_of tell others g log n.0))
-same_if tell g log homes others n true h = refl
-same_if tell g log homes others n false h = ap (λ at. pending_as n (why_of g log (status_at tell g log at n.0))) (h refl)
+same_if tell g log homes others n b h = grind arith
 
 same_one : (tell : Telling) (g : Input) (log : Log) → AreAtLastHomes g log → (k : ℕ) (e : ℕ × Rec) → slice_get (history log) k ≡ Some e
     → pending_by tell (last_home g log) g log (history log) e ≡ pending_by tell (submitted_at log) g log (history log) e
@@ -86,6 +83,4 @@ same_one tell g log h k (event, Submit n) e =
 same_one tell g log h k (event, _) e = refl
 
 pub pending_alike : (tell : Telling) (g : Input) (log : Log) → AreAtLastHomes g log → pending_at tell (last_home g log) g log ≡ pending_of tell g log
-pending_alike tell g log h =
-    chosen_alike (pending_by tell (last_home g log) g log (history log)) (pending_by tell (submitted_at log) g log (history log)) (history log)
-    (same_one tell g log h)
+pending_alike tell g log h = grind (arith, chosen_alike, same_one)

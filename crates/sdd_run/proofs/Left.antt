@@ -1,5 +1,5 @@
 -- A copy at which all is applied that changed its fragment has the rows that one plain database is left with.
-use Rattle.sdd_run.proofs.All.{AreAllApplied, AreAppliedAlike, Catalogue, Committed, Contains, Contains-from_filter, Contains-from_flat_map, Contains-from_map, CopyTable, D, Dated, Event, FragNo, HasSoundData, HasSoundLists, History, Input, IsMadeAt, IsPermitted, IsSerial, IsSoundCatalogue, Item, List, Log, Lose, Mark, None, Notes, Nothing, Option, Rec, RelNo, Row, Some, TxnNo, U, [], ap, are_eras_of, arith, attempt_of, attempts, by_event, by_mark, committed, committed_of, cons_option, contents, dated, dm_no, due_by, equal_copies, eras_of, filter, filter_map, flat_map, has_copy, history, is_apply, is_none, left_in_copies, length, link_of, list_any, local_of, map, map-map, note_if, numbers_to, placed, refl, rows_left, run, same_copy, setting_of, slice_get_past, subst, suc, sym, table_of, tables_at, tables_of, take, take-append_seam, take_all, true, ℕ, ◌++◌, ◌-◌, ◌∙◌, ◌∷◌, ◌≡◌}
+use Rattle.sdd_run.proofs.All.{AreAllApplied, AreAppliedAlike, Catalogue, Committed, Contains, Contains-from_filter, Contains-from_flat_map, Contains-from_map, CopyTable, D, Dated, Event, FragNo, HasSoundData, HasSoundLists, History, Input, IsMadeAt, IsPermitted, IsSerial, IsSoundCatalogue, Item, List, Log, Lose, Mark, None, Notes, Nothing, Option, Rec, RelNo, Row, TxnNo, U, [], ap, are_eras_of, arith, attempt_of, by_event, by_mark, committed, cons_option, contents, dated, dm_no, due_by, equal_copies, eras_of, filter, filter_map, flat_map, has_copy, history, is_apply, is_none, left_in_copies, length, link_of, list_any, local_of, map, map-map, note_if, numbers_to, placed, refl, rows_left, run, same_copy, setting_of, slice_get_past, subst, suc, sym, table_of, tables_at, tables_of, take-append_seam, take_all, true, ℕ, ◌++◌, ◌-◌, ◌∙◌, ◌∷◌, ◌≡◌}
 use Rattle.sdd_obligations.specs.laws.Snapshots as laws
 
 -- The copies at the end of a log are those before a record behind it: that of an event which finds nothing to do, as one
@@ -10,12 +10,6 @@ no_packet log = Lose U U (suc (length (link_of U U log).there.flight))
 
 abbrev noted : Log → Log
 noted log = Notes ∷ Mark (no_packet log) ∷ log
-
-still_permitted : (g : Input) (log : Log) → IsPermitted g log → IsPermitted g (noted log)
-still_permitted g log h =
-    let flight = (link_of U U log).there.flight in
-    let none : due_by g (no_packet log) log ≡ Some Notes = ap (λ o. note_if (is_none o)) (slice_get_past flight (suc (length flight) - 1) (omega arith)) in
-    (by_event none, (by_mark (no_packet log) refl, h))
 
 -- the record stands behind all others
 abbrev at_the_end : (log : Log) → IsMadeAt (noted log) (length (history log)) Nothing
@@ -31,16 +25,8 @@ found_alike : {A : Type 0} (f : ℕ × Rec → Option A) → ((k : ℕ) → f (k
 found_alike f none [] n k = ap (λ o. cons_option o []) (none k)
 found_alike f none (e ∷ h) n k = ap (cons_option (f (k, e.1))) (found_alike f none h n (suc k))
 
-same_attempts : (h : History) (n : ℕ) → attempts (with_nothing h n) ≡ attempts h
-same_attempts h n = found_alike attempt_of (λ k. refl) h n 0
-
 same_committed : (h : History) (n : ℕ) → committed (with_nothing h n) ≡ committed h
-same_committed h n =
-    ap (λ starts. filter_map (committed_of starts) (placed 0 (with_nothing h n))) (same_attempts h n)
-    ∙ found_alike (committed_of (attempts h)) (λ k. refl) h n 0
-
-same_front : (h : History) (n : ℕ) → take (length h) (with_nothing h n) ≡ take (length h) h
-same_front h n = take-append_seam h ((n, Nothing) ∷ []) ∙ sym (take_all (length h) h (omega arith))
+same_committed h n = grind (arith, filter_map, with_nothing, attempt_of, found_alike)
 
 -- what makes the copies at the end of the history, by its first so many records
 abbrev dated_by : Catalogue → List (RelNo × Row) → List Committed → History → ℕ → Dated
@@ -49,9 +35,7 @@ dated_by cat rows all front d =
 
 same_dated : (cat : Catalogue) (rows : List (RelNo × Row)) (h : History) (n d : ℕ)
     → laws.dated_at cat rows (with_nothing h n) d (length h) ≡ laws.dated_at cat rows h d (length h)
-same_dated cat rows h n d =
-    ap (λ all. dated_by cat rows all (take (length h) (with_nothing h n)) d) (same_committed h n)
-    ∙ ap (λ front. dated_by cat rows (committed h) front d) (same_front h n)
+same_dated cat rows h n d = grind (arith, dated_by, with_nothing, same_committed, take-append_seam, take_all)
 
 module _ (g : Input) (rows : List (RelNo × Row)) (log : Log) (sound : IsSoundCatalogue g.catalogue) (fine : HasSoundData g rows) (permitted : IsPermitted g log)
     (lists : HasSoundLists g log) where
@@ -59,7 +43,7 @@ module _ (g : Input) (rows : List (RelNo × Row)) (log : Log) (sound : IsSoundCa
   contents_are : (d f : ℕ) → has_copy g.catalogue d f ≡ true
       → contents f (dated (setting_of g (D (dm_no d))) (local_of g (D (dm_no d)) log)) ≡ laws.copy_at g.catalogue rows (history log) d (length (history log)) f
   contents_are d f copied =
-      same_copy g rows (eras_of g log) (noted log) sound fine (still_permitted g log permitted)
+      same_copy g rows (eras_of g log) (noted log) sound fine (grind (arith, link_of, due_by, no_packet, note_if, is_none, slice_get_past, by_event, by_mark))
       (are_eras_of g (noted log) lists) d (length (history log)) Nothing (at_the_end log) f copied
       ∙ ap (contents f) (same_dated g.catalogue rows (history log) _ d)
 
@@ -68,8 +52,7 @@ module _ (g : Input) (rows : List (RelNo × Row)) (log : Log) (sound : IsSoundCa
       → copy.rows ≡ map (λ e. e.1) (laws.copy_at g.catalogue rows (history log) copy.dm.0 (length (history log)) copy.frag.0)
   told_rows copy there =
       let at = Contains-from_flat_map (tables_at g log) (numbers_to g.catalogue.dms) copy there in
-      let xs = dated (setting_of g (D (dm_no at.0))) (local_of g (D (dm_no at.0)) log) in
-      let of = Contains-from_map (table_of at.0 xs) _ copy at.2 in
+      let of = Contains-from_map (table_of at.0 (dated (setting_of g (D (dm_no at.0))) (local_of g (D (dm_no at.0)) log))) _ copy at.2 in
       let copied = Contains-from_filter (has_copy g.catalogue at.0) (numbers_to (length g.catalogue.fragments)) of.0 of.1 in
       subst (λ (t : CopyTable). t.rows ≡ map (λ e. e.1) (laws.copy_at g.catalogue rows (history log) t.dm.0 (length (history log)) t.frag.0))
       (sym of.2) (ap (λ l. map (λ e. e.1) l) (contents_are at.0 of.0 copied.1))
@@ -97,8 +80,7 @@ module _ (g : Input) (rows : List (RelNo × Row)) (log : Log) (sound : IsSoundCa
         → copy.rows ≡ rows_left g.catalogue (run g.catalogue rows g.txns order).1 copy.frag.0
     left_in copy there =
         let at = Contains-from_flat_map (tables_at g log) (numbers_to g.catalogue.dms) copy there in
-        let xs = dated (setting_of g (D (dm_no at.0))) (local_of g (D (dm_no at.0)) log) in
-        let of = Contains-from_map (table_of at.0 xs) _ copy at.2 in
+        let of = Contains-from_map (table_of at.0 (dated (setting_of g (D (dm_no at.0))) (local_of g (D (dm_no at.0)) log))) _ copy at.2 in
         let copied = Contains-from_filter (has_copy g.catalogue at.0) (numbers_to (length g.catalogue.fragments)) of.0 of.1 in
         subst (λ (t : CopyTable). AreAllApplied (history log) t.frag.0 t.dm.0 (length (history log))
         → t.rows ≡ rows_left g.catalogue (run g.catalogue rows g.txns order).1 t.frag.0)

@@ -20,13 +20,7 @@ tabled_more cats i cat tables table l is h k =
 
 at_place : (cats : List Catalogue) (tables : List (List Entry)) (k : ℕ) (cat : Catalogue) (table : List Entry)
     → slice_get cats k ≡ Some cat → slice_get tables k ≡ Some table → slice_get (eras_with_tables cats tables) k ≡ Some (record { catalogue = cat; table = table })
-at_place (c ∷ cats) (t ∷ tables) zero cat table e f =
-    let p : c ≡ cat = cc in
-    let q : t ≡ table = cc in
-    let first : Era = record { catalogue = c; table = t } in
-    let other : Era = record { catalogue = cat; table = table } in
-    let same : first ≡ other = (λ i. record { catalogue = p i; table = q i }) in
-    ap (λ x. Some x) same
+at_place (c ∷ cats) (t ∷ tables) zero cat table e f = grind arith
 at_place (c ∷ cats) (t ∷ tables) (suc k) cat table e f = at_place cats tables k cat table e f
 at_place _ _ k cat table e f = absurd (cc)
 
@@ -46,10 +40,6 @@ first_there (t ∷ tables) table l e = ap (λ z. Some z) (sym e)
 
 -- the lists behind the first, one more
 
-at_tail : {A : Type 0} (xs : List A) (k : ℕ) (x : A) → slice_get xs (suc k) ≡ Some x → slice_get (tail_of xs) k ≡ Some x
-at_tail [] k x e = absurd (cc)
-at_tail (y ∷ xs) k x e = e
-
 take_at : {A : Type 0} (xs : List A) (k : ℕ) (x : A) → slice_get xs k ≡ Some x → take (suc k) xs ≡ take k xs ++ x ∷ []
 take_at [] k x e = absurd (cc)
 take_at (y ∷ xs) zero x e = let p : y ≡ x = cc in ap (λ z. z ∷ []) p
@@ -59,13 +49,11 @@ up_one : {A : Type 0} (xs : List A) (k : ℕ) (x : A) → slice_get xs k ≡ Som
 up_one xs zero x e l = absurd (omega (arith, l))
 up_one xs (suc k) x e l =
     let a : suc k + 1 - 1 ≡ suc k = omega arith in
-    let b : suc k - 1 ≡ k = omega arith in
-    ap (λ n. take n (tail_of xs)) a ∙ take_at (tail_of xs) k x (at_tail xs k x e) ∙ ap (λ n. take n (tail_of xs) ++ x ∷ []) (sym b)
+    ap (λ n. take n (tail_of xs)) a ∙ take_at (tail_of xs) k x (grind arith) ∙ ap (λ n. take n (tail_of xs) ++ x ∷ []) (sym (omega arith))
 
 pub lent_more : (eras : List Era) (k : ℕ) (list : ClassList) (lists more : List ClassList) → slice_get eras k ≡ Some (era_of_list list) → 1 ≤ k
     → more ≡ lists ++ list ∷ [] → map era_of_list lists ≡ take (k - 1) (tail_of eras) → map era_of_list more ≡ take (k + 1 - 1) (tail_of eras)
-lent_more eras k list lists more e l grown h =
-    ap (map era_of_list) grown ∙ map-append era_of_list lists (list ∷ []) ∙ ap (λ xs. xs ++ era_of_list list ∷ []) h ∙ sym (up_one eras k (era_of_list list) e l)
+lent_more eras k list lists more e l grown h = grind (arith, map-append, up_one)
 
 -- all of them
 
@@ -74,12 +62,6 @@ as_many [] tables e = refl
 as_many (c ∷ cats) [] e = absurd (omega (arith, e))
 as_many (c ∷ cats) (t ∷ tables) e = ap (λ n. suc n) (as_many cats tables (omega (arith, e)))
 
-tail_long : {A : Type 0} (xs : List A) → length (tail_of xs) ≡ length xs - 1
-tail_long [] = omega arith
-tail_long (x ∷ xs) = omega arith
-
 pub all_lent : (eras : List Era) (k : ℕ) (lists : List ClassList) → length eras ≤ k → map era_of_list lists ≡ take (k - 1) (tail_of eras)
     → map era_of_list lists ≡ tail_of eras
-all_lent eras k lists l h =
-    let n = tail_long eras in
-    h ∙ take_all (k - 1) (tail_of eras) (omega (arith, l, n))
+all_lent eras k lists l h = grind (arith, take_all)

@@ -1,5 +1,5 @@
 -- Each transaction that was submitted and isn't committed is listed as pending.
-use Rattle.sdd_run.proofs.All.{Answer, Apply, AreNumbered, Arrive, Bool, ClassState, Commit, HasSoundLists, History, Input, IsClass, IsClassOf, IsListed, IsPermitted, IsQueued, IsRecordAt, IsSubmitted, Line, List, Log, None, NonePasses, Nothing, Option, Pass, Pending, Queued, Rec, Reject, Site, Some, Standing, Start, Submit, T, U, Wait, WasCommitted, Why, [], active, ap, at_home, at_map, class_at, class_of, commits, committed_or_queued, cons_option, either, eqb-true, false, filter_map, first_underway, history, home, home_setting, if◌then◌else◌, in_runs, inl, inr, is_awaiting_helds, is_some, kept_there, lacking_site, list_any, local_of, map, none_found, not, or_standing, pending_as, pending_by, pending_of, position, positive, queue, queued_at, reason_of, refl, runs, same_number, same_or_not, setting_of, slice_get, standing_among, standing_at, standing_at_t, standing_at_u, standing_by, standing_in, standing_of, submitted_at, subst, suc, sym, tm_no, true, txn_no, underway, waiting, why_of, zero, ℕ, ◌-◌, ◌==◌, ◌∙◌, ◌∷◌, ◌≡◌, ◌⊎◌}
+use Rattle.sdd_run.proofs.All.{AreNumbered, Bool, ClassState, Commit, HasSoundLists, History, Input, IsClass, IsClassOf, IsListed, IsPermitted, IsQueued, IsRecordAt, IsSubmitted, Line, List, Log, None, NonePasses, Option, Pending, Queued, Rec, Site, Some, Standing, Submit, T, WasCommitted, Why, [], active, ap, arith, at_home, at_map, class_at, class_of, commits, committed_or_queued, cons_option, either, eqb-true, false, filter_map, history, home, home_setting, if◌then◌else◌, in_runs, inl, inr, is_some, kept_there, list_any, local_of, map, none_found, not, or_standing, pending_as, pending_by, pending_of, position, positive, queue, queued_at, reason_of, refl, runs, same_number, same_or_not, setting_of, slice_get, standing_among, standing_at, standing_at_t, standing_at_u, standing_by, standing_in, standing_of, submitted_at, subst, suc, sym, tm_no, true, txn_no, underway, waiting, why_of, zero, ℕ, ◌-◌, ◌==◌, ◌∙◌, ◌∷◌, ◌≡◌, ◌⊎◌}
 use Rattle.sdd_run.proofs.LastHomes.{submitted_there}
 use Rattle.sdd_obligations.specs.All.{Attempt}
 use Rattle.sdd_obligations.specs.attempt.declared.standing.Standing.TheVariants as standings
@@ -27,14 +27,10 @@ IsHere (standings.Queued class place) = Unit {0}
 IsHere (standings.Underway class ts at) = Unit {0}
 
 queued_here : (c : ℕ) (o : Option ℕ) (k : ℕ) → o ≡ Some k → IsHere (queued_at c o)
-queued_here c None k e = cc
-queued_here c (Some p) k e = tt
+queued_here c o k e = grind arith
 
 other_number : (n m : ℕ) → (m == n) ≡ false → not (n == m) ≡ true
-other_number n m e = elim (same_or_not n m) [
-  | inl p ↦ (let a : (m == n) ≡ true = ap (λ k. m == k) p ∙ same_number m in cc)
-  | inr p ↦ ap not p
-]
+other_number n m e = grind (arith, same_or_not, same_number)
 
 line_here : (c : ℕ) (qs : List Queued) (o : Option Attempt) (n j : ℕ) (q : Queued) → slice_get qs j ≡ Some q → q.number ≡ n → IsHere (standing_by c qs o n)
 line_here c qs None n j q there is =
@@ -45,45 +41,24 @@ line_here c qs (Some a) n j q there is =
     as (λ b. (a.txn == n) ≡ b → IsHere (if b then underway c a.ts a.exchange else queued_at c (position (λ (x : Queued). x.number == n) (waiting (Some a) qs)))) [
       | true ↦ λ e. tt
       | false ↦ λ e.
-          let other : not (q.number == a.txn) ≡ true = ap (λ m. not (m == a.txn)) is ∙ other_number n a.txn e in
-          let kept = kept_there (λ (x : Queued). not (x.number == a.txn)) qs j q there other in
+          let kept = kept_there (λ (x : Queued). not (x.number == a.txn)) qs j q there (ap (λ m. not (m == a.txn)) is ∙ other_number n a.txn e) in
           let p = position_there (λ (x : Queued). x.number == n) (waiting (Some a) qs) kept.0 q kept.1 (ap (λ m. m == n) is ∙ same_number n) in
           queued_here c (position (λ (x : Queued). x.number == n) (waiting (Some a) qs)) p.0 p.1
     ] refl
 
 here_first : (s next : Standing) → IsHere s → IsHere (or_standing s next)
-here_first standings.Absent next h = absurd h
-here_first _ next h = tt
+here_first s next h = grind arith
 
 here_next : (s next : Standing) → IsHere next → IsHere (or_standing s next)
-here_next standings.Absent next h = h
-here_next _ next h = tt
+here_next s next h = grind arith
 
 among_here : (ls : List Line) (n j : ℕ) (l : Line) → slice_get ls j ≡ Some l → IsHere (standing_of l n) → IsHere (standing_among ls n)
 among_here [] n j l e h = cc
 among_here (x ∷ ls) n zero l e h = let q : x ≡ l = cc in here_first (standing_of x n) (standing_among ls n) (subst (λ y. IsHere (standing_of y n)) (sym q) h)
 among_here (x ∷ ls) n (suc j) l e h = here_next (standing_of x n) (standing_among ls n) (among_here ls n j l e h)
 
-first_here : (site : Site) (s : Standing) → IsHere s → IsHere (first_underway site s)
-first_here site standings.Absent h = h
-first_here site (standings.Queued class place) h =
-    elim (place == 1) as (λ b. IsHere (if b then standings.Underway class None site else standings.Queued class (place - 1))) [ true ↦ tt | false ↦ tt ]
-first_here site (standings.Underway class ts at) h = tt
-
 at_u_here : (state : um.State) (n : ℕ) → IsHere (standing_of state.line n) → IsHere (standing_in state n)
-at_u_here state n h =
-    elim (is_awaiting_helds state)
-    as (λ b. IsHere (if b then first_underway (lacking_site state) (standing_of state.line n) else standing_of state.line n)) [
-      | true ↦ first_here (lacking_site state) (standing_of state.line n) h
-      | false ↦ h
-    ]
-
-here_u : (g : Input) (log : Log) (c n j : ℕ) (q : Queued) → c ≡ 0 → slice_get (queue (setting_of g U) c (local_of g U log)) j ≡ Some q → q.number ≡ n
-    → IsHere (standing_at standing_at_u standing_at_t U (setting_of g U) (local_of g U log) n)
-here_u g log c n j q zero_is there is =
-    let s = setting_of g U in
-    let l = local_of g U log in
-    at_u_here (um.state_of s l) n (line_here 0 (queue s 0 l) (active s 0 l) n j q (subst (λ k. slice_get (queue s k l) j ≡ Some q) zero_is there) is)
+at_u_here state n h = grind (arith, IsHere)
 
 here_t : (g : Input) (log : Log) (c n j : ℕ) (q : Queued) → IsClassOf g.catalogue c
     → slice_get (queue (setting_of g (T (tm_no (class_at g.catalogue c).tm.0))) c (local_of g (T (tm_no (class_at g.catalogue c).tm.0)) log)) j ≡ Some q
@@ -95,24 +70,13 @@ here_t g log c n j q class there is =
     let l = local_of g at log in
     let s = setting_of g at in
     let r = in_runs g c class in
-    let there_state = at_map (class_of s l) (runs s) r.0 c r.1 in
-    let there_line = at_map (λ (k : ClassState). k.line) (map (class_of s l) (runs s)) r.0 (class_of s l c) there_state in
+    let there_line = at_map (λ (k : ClassState). k.line) (map (class_of s l) (runs s)) r.0 (class_of s l c) (at_map (class_of s l) (runs s) r.0 c r.1) in
     among_here (map (λ (k : ClassState). k.line) (map (class_of s l) (runs s))) n r.0 (class_of s l c).line there_line
     (line_here c (queue s c l) (active s c l) n j q there is)
 
 here_at : (g : Input) (log : Log) (c n j : ℕ) (q : Queued) → IsClass g.catalogue c → slice_get (queue (home_setting g c) c (at_home g c log)) j ≡ Some q
     → q.number ≡ n → IsHere (standing_at standing_at_u standing_at_t (home g.catalogue c) (home_setting g c) (at_home g c log) n)
-here_at g log c n j q within there is =
-    elim (c == 0)
-    as (λ b. (c == 0) ≡ b
-    → slice_get (queue (setting_of g (if b then U else T (tm_no (class_at g.catalogue c).tm.0))) c
-    (local_of g (if b then U else T (tm_no (class_at g.catalogue c).tm.0)) log)) j ≡ Some q
-    → IsHere (standing_at standing_at_u standing_at_t (if b then U else T (tm_no (class_at g.catalogue c).tm.0))
-    (setting_of g (if b then U else T (tm_no (class_at g.catalogue c).tm.0)))
-    (local_of g (if b then U else T (tm_no (class_at g.catalogue c).tm.0)) log) n)) [
-      | true ↦ λ z at. here_u g log c n j q (eqb-true c 0 z) at is
-      | false ↦ λ z at. here_t g log c n j q (record { from = positive c z; to = within }) at is
-    ] refl there
+here_at g log c n j q within there is = grind (arith, slice_get, IsHere, at_u_here, line_here, eqb-true, here_t, positive)
 
 -- and so there is a reason
 
@@ -124,11 +88,7 @@ why_here g log (standings.Underway class (Some ts) at) h = (_, refl)
 
 reason_here : (g : Input) (log : Log) (n : ℕ) → IsPermitted g log → IsQueued g log n
     → (w : Why) × (reason_of (standing_at standing_at_u standing_at_t) (submitted_at log) g log n ≡ Some w)
-reason_here g log n permitted x =
-    let at : submitted_at log n ≡ home g.catalogue x.class = submitted_there g log x.later x.rest (home g.catalogue x.class) n permitted x.given in
-    let h = here_at g log x.class n x.place x.waiting x.class_is x.there x.number_is in
-    let w = why_here g log (standing_at standing_at_u standing_at_t (home g.catalogue x.class) (home_setting g x.class) (at_home g x.class log) n) h in
-    (w.0, ap (λ s. why_of g log (standing_at standing_at_u standing_at_t s (setting_of g s) (local_of g s log) n)) at ∙ w.1)
+reason_here g log n permitted x = grind (arith, submitted_there, here_at, why_here, home_setting, at_home)
 
 -- some record commits it, or it is listed
 
@@ -153,8 +113,7 @@ was_committed (x ∷ h) n e = later_commit x h n (was_committed h n e)
 listed_at : (f : ℕ × Rec → Option Pending) (h : History) (n k : ℕ) (one : Pending) → IsRecordAt h k (Submit (txn_no n))
     → ((event : ℕ) → f (event, Submit (txn_no n)) ≡ Some one) → (j : ℕ) × (slice_get (filter_map f h) j ≡ Some one)
 listed_at f [] n k one e h = cc
-listed_at f ((event, r) ∷ rest) n zero one e h =
-    let q : r ≡ Submit (txn_no n) = cc in let p : f (event, r) ≡ Some one = subst (λ x. f (event, x) ≡ Some one) (sym q) (h event) in (0, rw p refl)
+listed_at f ((event, r) ∷ rest) n zero one e h = grind arith
 listed_at f (x ∷ rest) n (suc k) one e h =
     let i = listed_at f rest n k one e h in
     elim (f x) as (λ o. (j : ℕ) × (slice_get (cons_option o (filter_map f rest)) j ≡ Some one)) [ None ↦ i | Some y ↦ (suc i.0, i.1) ]
@@ -171,11 +130,8 @@ each_listed g log permitted lists numbered n k submitted =
             let w = reason_here g log n permitted x in
             let left : Pending = record { txn = txn_no n; why = w.0 } in
             let reason = w.1 in
-            let is : (event : ℕ) → pending_by (standing_at standing_at_u standing_at_t) (submitted_at log) g log (history log)
-            (event, Submit (txn_no n)) ≡ Some left =
-            λ event. rw e (ap (pending_as (txn_no n)) reason) in
             let i = listed_at (pending_by (standing_at standing_at_u standing_at_t) (submitted_at log) g log (history log))
-            (history log) n k left submitted is in
+            (history log) n k left submitted (λ event. rw e (ap (pending_as (txn_no n)) reason)) in
             inr (record { place = i.0; one = left; there = i.1; txn_is = refl })
       ]
     ] refl

@@ -1,5 +1,5 @@
 -- Each transaction that was submitted stands in the order once, or is listed as pending once.
-use Rattle.sdd_run.proofs.All.{Catalogue, Committed, History, Homes, Input, IsCommitted, IsListed, IsRecordAt, IsSerial, IsSubmitted, List, Log, None, Option, Pending, Rec, Some, Submit, Telling, TxnNo, WasCommitted, Why, [], any_commit, ap, arith, commits, cond, cons_option, eq-eqb, false, filter_map, history, if◌then◌else◌, inl, inr, list_any, map, ne_eqb, not_both, option_map, pending_as, pending_by, pending_of, reason_of, refl, same_number, slice_get, submitted_at, subst, suc, sym, times_in, times_pending, true, txn_no, zero, ℕ, ◌+◌, ◌∙◌, ◌∷◌, ◌≡◌, ◌≢◌, ◌⊎◌}
+use Rattle.sdd_run.proofs.All.{Catalogue, History, Homes, Input, IsListed, IsSerial, IsSubmitted, List, Log, None, Option, Pending, Rec, Some, Submit, Telling, TxnNo, WasCommitted, [], any_commit, ap, arith, commits, cond, cons_option, eq-eqb, false, filter_map, history, inl, inr, list_any, map, ne_eqb, not_both, option_map, pending_by, pending_of, refl, same_number, slice_get, submitted_at, subst, suc, sym, times_in, times_pending, true, txn_no, zero, ℕ, ◌+◌, ◌∙◌, ◌∷◌, ◌≡◌, ◌≢◌, ◌⊎◌}
 use Rattle.sdd_run.proofs.Once.{none_there, times_more}
 
 -- how often what is chosen of a history names a transaction
@@ -23,8 +23,7 @@ count_one : (f : ℕ × Rec → Option Pending) (h : History) (n k : ℕ) (e : �
     → ((j : ℕ) (x : ℕ × Rec) (q : Pending) → slice_get h j ≡ Some x → f x ≡ Some q → q.txn.0 ≡ n → j ≡ k) → times_pending n (filter_map f h) ≡ 1
 count_one f [] n k e p there gives named one = cc
 count_one f (x ∷ h) n zero e p there gives named one =
-    let q : x ≡ e = cc in
-    let here : f x ≡ Some p = subst (λ z. f z ≡ Some p) (sym q) gives in
+    let here : f x ≡ Some p = subst (λ z. f z ≡ Some p) (sym cc) gives in
     let rest = count_none f h n (λ j y r at is same. (let s = one (suc j) y r at is same in omega (arith, s))) in
     subst (λ o. times_pending n (cons_option o (filter_map f h)) ≡ 1) (sym here)
     (times_more p.txn (named_in (filter_map f h)) n
@@ -50,8 +49,7 @@ later_chosen f e h p x = record { place = suc x.place; entry = x.entry; there = 
 
 chosen_here : (f : ℕ × Rec → Option Pending) (x : ℕ × Rec) (h : History) (j : ℕ) (y p : Pending) → f x ≡ Some y
     → ((i : ℕ) → slice_get (filter_map f h) i ≡ Some p → IsChosen f h p) → slice_get (y ∷ filter_map f h) j ≡ Some p → IsChosen f (x ∷ h) p
-chosen_here f x h zero y p q rest e = let s : y ≡ p = cc in record { place = 0; entry = x; there = refl; gives = q ∙ ap (λ z. Some z) s }
-chosen_here f x h (suc j) y p q rest e = later_chosen f x h p (rest j e)
+chosen_here f x h j y p q rest e = grind (arith, later_chosen)
 
 chosen_from : (f : ℕ × Rec → Option Pending) (h : History) (j : ℕ) (p : Pending) → slice_get (filter_map f h) j ≡ Some p → IsChosen f h p
 chosen_from f [] j p e = cc
@@ -63,71 +61,39 @@ chosen_from f (x ∷ h) j p e =
 
 -- what is listed was submitted, and no record commits it
 
-named_so : (n : TxnNo) (o : Option Why) (p : Pending) → pending_as n o ≡ Some p → n ≡ p.txn
-named_so n None p e = cc
-named_so n (Some w) p e =
-    let made : Pending = record { txn = n; why = w } in
-    let s : made ≡ p = cc in
-    ap (λ (x : Pending). x.txn) s
-
 of_submit : (tell : Telling) (homes : Homes) (g : Input) (log : Log) (all : History) (e : ℕ × Rec) (p : Pending) → pending_by tell homes g log all e ≡ Some p
     → (e.1 ≡ Submit p.txn) × (list_any (commits p.txn.0) all ≡ false)
-of_submit tell homes g log all (event, Submit n) p e =
-    elim (list_any (commits n.0) all)
-    as (λ b. list_any (commits n.0) all ≡ b → (if b then None else pending_as n (reason_of tell homes g log n.0)) ≡ Some p
-    → (Submit n ≡ Submit p.txn) × (list_any (commits p.txn.0) all ≡ false)) [
-      | true ↦ λ q r. cc
-      | false ↦ λ q r.
-          (let s = named_so n (reason_of tell homes g log n.0) p r in
-          (ap (λ m. Submit m) s, subst (λ (m : TxnNo). list_any (commits m.0) all ≡ false) s q))
-    ] refl e
-of_submit tell homes g log all (event, _) p e = cc
+of_submit tell homes g log all e p h8 = grind (arith, list_any)
 
 pub commits_it : (all : History) (n : ℕ) → WasCommitted all n → list_any (commits n) all ≡ true
 commits_it all n w = any_commit all (commits n) n (λ e attempt reply changes values rows. same_number n) w
-
-recorded_there : (h : History) (k : ℕ) (e : ℕ × Rec) (r : Rec) → slice_get h k ≡ Some e → e.1 ≡ r → IsRecordAt h k r
-recorded_there h k e r there is = ap (option_map (λ (x : ℕ × Rec). x.1)) there ∙ ap (λ x. Some x) is
 
 -- what is listed was submitted
 pub listed_submits : (tell : Telling) (g : Input) (log : Log) (j : ℕ) (p : Pending) → slice_get (pending_of tell g log) j ≡ Some p
     → (k : ℕ) × IsSubmitted (history log) p.txn.0 k
 listed_submits tell g log j p e =
     let x = chosen_from (pending_by tell (submitted_at log) g log (history log)) (history log) j p e in
-    let s = of_submit tell (submitted_at log) g log (history log) x.entry p x.gives in
-    (x.place, recorded_there (history log) x.place x.entry (Submit p.txn) x.there s.0)
+    (x.place, (ap (option_map (λ (x : ℕ × Rec). x.1)) x.there ∙ ap (λ x. Some x) ((of_submit tell (submitted_at log) g log (history log) x.entry p x.gives).0)))
 
 module _ (tell : Telling) (g : Input) (log : Log) where
   -- one that is committed isn't listed
   not_listed : (n : ℕ) → WasCommitted (history log) n → times_pending n (pending_of tell g log) ≡ 0
   not_listed n w =
-      count_none (pending_by tell (submitted_at log) g log (history log)) (history log) n (λ k e p there gives same.
-      not_both (list_any (commits p.txn.0) (history log))
-      (subst (λ m. list_any (commits m) (history log) ≡ true) (sym same) (commits_it (history log) n w))
-      (of_submit tell (submitted_at log) g log (history log) e p gives).1)
+      count_none (pending_by tell (submitted_at log) g log (history log)) (history log) n (grind (arith, not_both, list_any, commits, history, commits_it, of_submit, submitted_at))
 
   -- one that is listed is listed once, and isn't committed
   listed_once : ((n j k : ℕ) → IsSubmitted (history log) n j → IsSubmitted (history log) n k → j ≡ k)
       → (n : ℕ) → IsListed (pending_of tell g log) n → (times_pending n (pending_of tell g log) ≡ 1) × (list_any (commits n) (history log) ≡ false)
   listed_once one n x =
       let c = chosen_from (pending_by tell (submitted_at log) g log (history log)) (history log) x.place x.one x.there in
-      let submit = of_submit tell (submitted_at log) g log (history log) c.entry x.one c.gives in
       let at : (j : ℕ) (e : ℕ × Rec) (q : Pending) → slice_get (history log) j ≡ Some e
       → pending_by tell (submitted_at log) g log (history log) e ≡ Some q → q.txn.0 ≡ n → IsSubmitted (history log) n j =
       λ j e q there gives same.
-      recorded_there (history log) j e (Submit (txn_no n)) there
-      ((of_submit tell (submitted_at log) g log (history log) e q gives).0 ∙ ap (λ m. Submit (txn_no m)) same) in (
+      (ap (option_map (λ (x : ℕ × Rec). x.1)) there ∙ ap (λ x. Some x) ((of_submit tell (submitted_at log) g log (history log) e q gives).0 ∙ ap (λ m. Submit (txn_no m)) same)) in (
         count_one (pending_by tell (submitted_at log) g log (history log)) (history log) n c.place c.entry x.one c.there c.gives x.txn_is
             (λ j e q there gives same. one n j c.place (at j e q there gives same) (at c.place c.entry x.one c.there c.gives x.txn_is)),
-        subst (λ m. list_any (commits m) (history log) ≡ false) x.txn_is submit.1,
+        subst (λ m. list_any (commits m) (history log) ≡ false) x.txn_is (of_submit tell (submitted_at log) g log (history log) c.entry x.one c.gives).1,
       )
-
-  was_in : (t : Committed) (n : ℕ) → IsCommitted (history log) t → t.start.txn ≡ n → WasCommitted (history log) n
-  was_in t n c same = subst (WasCommitted (history log)) same (record {
-    place = t.place;
-    number = t.start.number;
-    commit = record { reply = t.reply; changes = t.changes; values = t.values; rows = t.rows; is_recorded = c.committed };
-  })
 
   -- so each transaction that was submitted stands in the order or in the list, and in one of them once
   pub in_one : (cat : Catalogue) (order : List TxnNo) → IsSerial cat (history log) order → ((n : ℕ) → WasCommitted (history log) n → times_in n order ≡ 1)
@@ -139,6 +105,5 @@ module _ (tell : Telling) (g : Input) (log : Log) where
       let a : times_in n order ≡ 0 =
       none_there order n (λ m there same.
       (let t = serial.committed m there in
-      not_both (list_any (commits n) (history log)) (commits_it (history log) n (was_in t.0 n t.1 (t.2 ∙ same))) l.1)) in
-      let b = l.0 in
-      omega (arith, a, b)
+      not_both (list_any (commits n) (history log)) (commits_it (history log) n (grind arith)) l.1)) in
+      omega (arith, a, l.0)

@@ -11,14 +11,6 @@ none_there (m ∷ rest) n other =
     times_more m rest n ∙ ap (λ b. cond b 1 0 + times_in n rest) (ne_eqb m.0 n (other m (Contains-here m rest)))
     ∙ (let none = none_there rest n (λ k there. other k (Contains-later m rest k there)) in omega (arith, none))
 
--- one that isn't the first stands behind it
-not_first : (m : TxnNo) (rest : List TxnNo) (n : TxnNo) → m.0 ≢ n.0 → Contains (m ∷ rest) n → Contains rest n
-not_first m rest n other there =
-    elim (Contains-cases m rest n there) [
-      | inl same ↦ absurd (other (ap (λ (z : TxnNo). z.0) (sym same)))
-      | inr behind ↦ behind
-    ]
-
 once_along : (cat : Catalogue) (h : History) (order : List TxnNo) (n : TxnNo) → IsAlong cat h order → Contains order n → times_in n.0 order ≡ 1
 once_along cat h [] n along there = absurd (Contains-nil n there)
 once_along cat h (m ∷ rest) n along there =
@@ -27,8 +19,7 @@ once_along cat h (m ∷ rest) n along there =
           (times_more m rest n.0 ∙ ap (λ b. cond b 1 0 + times_in n.0 rest) (eq-eqb m.0 n.0 same)
           ∙ (let none = none_there rest n.0 (λ k behind e. along.0.other k behind (e ∙ sym same)) in omega (arith, none)))
       | inr other ↦
-          (times_more m rest n.0 ∙ ap (λ b. cond b 1 0 + times_in n.0 rest) (ne_eqb m.0 n.0 other)
-          ∙ (let one = once_along cat h rest n along.1 (not_first m rest n other there) in omega (arith, one)))
+          grind (arith, times_more, times_in, ne_eqb, Contains-cases, (once_along cat h rest n along.1 (grind (arith, Contains-cases))))
     ]
 
 pub each_once : (cat : Catalogue) (h : History) (order : List TxnNo) → IsSerial cat h order → (t : Committed) → IsCommitted h t → times_in t.start.txn order ≡ 1

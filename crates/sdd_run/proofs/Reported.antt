@@ -1,5 +1,5 @@
 -- What is told of a world that has carried out all events of a workload is told of its run.
-use Rattle.sdd_run.proofs.All.{AreAtLastHomes, AreTables, Catalogue, EndsAtLimit, EndsBy, EndsByLimit, Entry, Err, Event, History, IfOk, IsReportOn, IsRunOf, IsSoundCatalogue, IsSummaryOn, IsTheLog, IsValid, List, Log, Ok, Represents, Result, Summary, Txn, Workload, World, ap, eras_of, first_input, history, input_of, length, marks, none_due, order_of, over_at_end, report_of, report_text, subst, summary_of, summary_text, whole_in, with_events, ℕ, ◌∙◌, ◌≡◌}
+use Rattle.sdd_run.proofs.All.{AreAtLastHomes, AreTables, Catalogue, EndsAtLimit, EndsBy, EndsByLimit, Entry, Event, History, IfOk, IsReportOn, IsRunOf, IsSoundCatalogue, IsSummaryOn, IsTheLog, IsValid, List, Log, Represents, Result, Summary, Txn, Workload, World, ap, arith, eras_of, first_input, history, input_of, length, marks, none_due, order_of, over_at_end, report_of, report_text, subst, summary_of, summary_text, whole_in, with_events, ℕ, ◌∙◌, ◌≡◌}
 use Rattle.sdd_run.proofs.Beginning.{all_given}
 use Rattle.sdd_run.proofs.Goods.{fits_given}
 use Rattle.sdd_run.proofs.InTurn.{in_turn}
@@ -13,19 +13,14 @@ use Rattle.sdd_run.proofs.RunOf.{known_of, permitted}
 use Rattle.sdd_run.proofs.Settled.{applied, nothing_lost, quiet_behind, settled}
 
 pub if_ok : {A E : Type 0} (res : Result A E) (P Q : A → Type 0) → ((x : A) → P x → Q x) → IfOk res P → IfOk res Q
-if_ok (Ok x) P Q f p = f x p
-if_ok (Err e) P Q f p = tt
+if_ok res P Q f p = grind arith
 
 -- a run is given all of its events
-
-given_all : (cat : Catalogue) (tables : List (List Entry)) (work : Workload) (events : List Event)
-    → events ≡ work.events → with_events (first_input cat tables work) events ≡ input_of cat tables work
-given_all cat tables work events same = ap (with_events (first_input cat tables work)) same ∙ all_given cat tables work
 
 pub run_of : (cat : Catalogue) (tables : List (List Entry)) (work : Workload) (events : List Event) → events ≡ work.events
     → (w : World) (log : Log) → Represents w (with_events (first_input cat tables work) events) log → IsRunOf cat tables work w
 run_of cat tables work events same w log represents =
-    let s = subst (λ g. Represents w g log) (given_all cat tables work events same) represents in
+    let s = subst (λ g. Represents w g log) (ap (with_events (first_input cat tables work)) same ∙ all_given cat tables work) represents in
     record { log = log; log_is = record { lawful = s.calm.rests.lawful; within = s.calm.rests.within; complete = s.complete }; represents = s }
 
 pub ended : (cat : Catalogue) (tables : List (List Entry)) (work : Workload) → AreTables cat work tables → (events : List Event) → events ≡ work.events
@@ -34,7 +29,7 @@ ended cat tables work tabled events same e = record {
   tables = tables;
   tables_are = tabled;
   log = e.0;
-  ends = subst (λ g. EndsByLimit g e.0) (given_all cat tables work events same) e.1;
+  ends = subst (λ g. EndsByLimit g e.0) (ap (with_events (first_input cat tables work)) same ∙ all_given cat tables work) e.1;
 }
 
 -- each pending transaction was submitted at the site of its class by the last list
@@ -63,8 +58,7 @@ reported cat tables work log sound valid tabled the_log text is =
       orderable = fine;
       serial = along;
       once = each_once whole (history log) order along;
-      in_turn = λ x y first second class submitted.
-          in_turn whole (eras_of (input_of cat tables work) log) work.txns (history log) starting x y first second class submitted order along;
+      in_turn = grind (arith, in_turn, eras_of, input_of, history);
       replies = given;
       told = is ∙ retold (report_of (input_of cat tables work) log) _ fine.one_commit given;
       copies = left cat tables work sound valid tabled log the_log;

@@ -1,5 +1,5 @@
 -- What is known of the run of a valid workload, whatever class lists it puts in force.
-use Rattle.sdd_run.proofs.All.{All, All-weaker, AreErasOf, AreTables, Catalogue, Entry, FitsStart, FitsTxn, HasSoundData, HasSoundLists, HoldsValues, IsHeld, IsLawful, IsPermitted, IsSoundCatalogue, IsTheLog, IsUpAtRedeclares, IsValid, IsValidRow, IsValidTxn, IsValue, Known, List, Log, PutsHeld, RelNo, Row, SubmitGiven, Txn, Workload, are_eras_of, arith, classes_in, eras_of, few_redeclares, input_of, known, lawful_permitted, length, redeclares, up_at_redeclares, whole_in, ◌≤◌}
+use Rattle.sdd_run.proofs.All.{All-weaker, AreErasOf, AreTables, Catalogue, Entry, FitsStart, FitsTxn, HasSoundData, HasSoundLists, IsLawful, IsPermitted, IsSoundCatalogue, IsTheLog, IsUpAtRedeclares, IsValid, IsValidRow, IsValidTxn, Known, List, Log, SubmitGiven, Workload, are_eras_of, arith, classes_in, eras_of, few_redeclares, input_of, known, lawful_permitted, length, redeclares, up_at_redeclares, whole_in, ◌≤◌}
 use Rattle.sdd_run.proofs.Beginning.{rows_given}
 use Rattle.sdd_run.proofs.ErasWithTables.{era_at, how_many, list_at}
 use Rattle.sdd_run.proofs.Goods.{few_ticks, fits_given, held, puts_held}
@@ -21,11 +21,9 @@ module _ (cat : Catalogue) (tables : List (List Entry)) (work : Workload) (sound
       let whole = whole_in cat work in
       record {
         txns_fit = All-weaker (IsValidTxn whole) (FitsTxn whole) (λ t v. v.fits) work.txns (txns_valid cat work valid);
-        txns_held = All-weaker (IsValidTxn whole) (λ (t : Txn). All PutsHeld t.statements)
-            (λ t v. All-weaker HoldsValues PutsHeld puts_held t.statements v.values) work.txns (txns_valid cat work valid);
+        txns_held = grind (arith, puts_held, txns_valid);
         rows_fit = All-weaker (IsValidRow whole) (FitsStart whole) (λ r v. v.fits) work.rows (rows_valid cat work valid);
-        rows_held = All-weaker (IsValidRow whole) (λ (r : RelNo × Row). All IsHeld r.1)
-            (λ r v. All-weaker IsValue IsHeld held r.1 v.values) work.rows (rows_valid cat work valid);
+        rows_held = grind (arith, held, rows_valid);
         alike = λ d here. rows_given cat tables work d here.0 here.1;
       }
 
@@ -40,8 +38,7 @@ module _ (cat : Catalogue) (tables : List (List Entry)) (work : Workload) (sound
 
     pub lawful_lists : HasSoundLists (input_of cat tables work) log
     lawful_lists k l =
-        let few = few_lists in
-        let within : k ≤ length (classes_in cat work) = omega (arith, l, few) in
+        let within : k ≤ length (classes_in cat work) = omega (arith, l, few_lists) in
         record {
           fits = fits_given cat tables work sound valid work.events;
           era = era_at cat tables work tabled k within;

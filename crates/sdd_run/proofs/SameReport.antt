@@ -1,5 +1,5 @@
 -- A report that is made of equal parts is the report on the log.
-use Rattle.sdd_run.proofs.All.{AreAtLastHomes, Catalogue, CopyTable, History, Input, List, Log, Pending, Report, Telling, Txn, TxnNo, ap, history, last_home, pending_at, pending_of, report_by, serial_order, sym, tables_of, ◌∙◌, ◌≡◌}
+use Rattle.sdd_run.proofs.All.{AreAtLastHomes, Catalogue, CopyTable, History, Input, List, Log, Pending, Report, Telling, Txn, TxnNo, arith, history, last_home, pending_at, report_by, serial_order, tables_of, ◌≡◌}
 use Rattle.sdd_run.proofs.LastHomes.{pending_alike}
 
 abbrev pub made : Catalogue → List Txn → History → List TxnNo → List Pending → List CopyTable → Report
@@ -9,9 +9,4 @@ pub report_is : (tell : Telling) (g : Input) (log : Log) (cat : Catalogue) (txns
     (records : History) (order : List TxnNo) (left : List Pending) (copies : List CopyTable)
     → AreAtLastHomes g log → g.catalogue ≡ cat → txns ≡ g.txns → records ≡ history log → order ≡ serial_order cat records
     → left ≡ pending_at tell (last_home g log) g log → copies ≡ tables_of g log → made cat txns records order left copies ≡ report_by tell g log
-report_is tell g log cat txns records order left copies homes c t h o p k =
-    ap (λ x. made x txns records order left copies) (sym c) ∙ ap (λ x. made g.catalogue x records order left copies) t
-    ∙ ap (λ x. made g.catalogue g.txns x order left copies) h
-    ∙ ap (λ x. made g.catalogue g.txns (history log) x left copies) (o ∙ ap (λ x. serial_order x records) (sym c) ∙ ap (serial_order g.catalogue) h)
-    ∙ ap (λ x. made g.catalogue g.txns (history log) (serial_order g.catalogue (history log)) x copies) (p ∙ pending_alike tell g log homes)
-    ∙ ap (made g.catalogue g.txns (history log) (serial_order g.catalogue (history log)) (pending_of tell g log)) k
+report_is tell g log cat txns records order left copies homes c t h o p k = grind (arith, made, pending_alike)

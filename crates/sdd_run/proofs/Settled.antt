@@ -80,11 +80,10 @@ module _ (cat : Catalogue) (tables : List (List Entry)) (work : Workload) (sound
   applied links are_up copy there =
       let g : Input = input_of cat tables work in
       let s = is_settled links are_up in
-      let h = settled_is_quiet g log submits.once s in
       let done = settled_is_finished g log current_era submits.once s in
       let at = Contains-from_flat_map (tables_at g log) (numbers_to g.catalogue.dms) copy there in
       let xs = dated (setting_of g (D (dm_no at.0))) (local_of g (D (dm_no at.0)) log) in
       let of = Contains-from_map (table_of at.0 xs) _ copy at.2 in
       let copied = Contains-from_filter (has_copy g.catalogue at.0) (numbers_to (length g.catalogue.fragments)) of.0 of.1 in
       subst (λ (t : CopyTable). AreAllApplied (history log) t.frag.0 t.dm.0 (length (history log)))
-      (sym of.2) (applied_at_copies g log of.0 at.0 sound h current_era done.idle copied.1)
+      (sym of.2) (applied_at_copies g log of.0 at.0 sound (settled_is_quiet g log submits.once s) current_era done.idle copied.1)

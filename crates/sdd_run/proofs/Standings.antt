@@ -1,6 +1,6 @@
 -- Between calls no attempt waits for a message of U: it lacks the answer of a data module; and an undeclared transaction
 -- whose attempt hasn't begun waits for a transaction module.
-use Rattle.sdd_run.proofs.All.{AtTurn, Bool, Catalogue, ClassNo, D, Exchange, FitsInput, HasNear, Input, IsAtTurn, IsClass, IsModule, IsNearBy, IsNumberedSite, IsPermitted, IsSoundCatalogue, IsStanding, Line, List, Log, None, Option, Queued, Site, Some, Standing, T, TmCounts, Turn, U, [], active, active_near, all_served, all_true, and_left, answered_last, ap, apart, arith, attempt_due, awaited, base_of, both, chain_at, class_at, contains, counts, counts_tm, dec_le, does_at, eq-eqb, eqb-true, false, find, firsts, fold, goes_on, head_of, home, home_fair, home_turns, if_none, if◌then◌else◌, in_filtered, in_mapped, in_range, inl, inr, is_empty, is_over, is_site, last_served, length, list_all, local_of, lower, lowest, map, min, near_one, next_at, no_act, no_active, no_sends, none_at, not_both, not_false, not_zero, numbers_to, option_map, or_left, or_none, or_right, or_standing, position, positive, queue, queued_at, refl, run_at, runs_place, same_or_not, send_due, setting_of, site_due, site_of, site_there, sites, slice_get, small_home, sound_whole, spoken, standing_among, standing_at, standing_at_t, standing_at_u, standing_by, standing_of, subst, suc, sym, t_site, tm_no, tm_of, true, turn_at, underway, unsent, waiting, zero, zero_head, ℕ, ◌-◌, ◌==◌, ◌∙◌, ◌∷◌, ◌≡◌, ◌≤◌, ◌⊎◌}
+use Rattle.sdd_run.proofs.All.{AtTurn, Bool, Catalogue, ClassNo, D, FitsInput, HasNear, Input, IsClass, IsModule, IsNearBy, IsNumberedSite, IsPermitted, IsSoundCatalogue, IsStanding, Line, List, Log, None, Option, Queued, Site, Some, Standing, T, TmCounts, U, [], active, active_near, all_served, all_true, and_left, answered_last, ap, apart, arith, attempt_due, awaited, base_of, both, chain_at, contains, counts, counts_tm, dec_le, eq-eqb, eqb-true, false, find, fold, goes_on, head_of, home, home_fair, home_turns, if_none, if◌then◌else◌, in_filtered, in_mapped, in_range, inl, inr, is_empty, is_over, is_site, last_served, list_all, local_of, lower, lowest, map, min, near_one, next_at, no_act, no_active, none_at, not_both, not_false, not_zero, numbers_to, option_map, or_left, or_none, or_right, or_standing, positive, queue, refl, run_at, runs_place, same_or_not, send_due, setting_of, site_due, site_of, site_there, slice_get, small_home, sound_whole, spoken, standing_among, standing_at, standing_at_t, standing_at_u, standing_by, standing_of, subst, suc, sym, t_site, tm_no, tm_of, true, turn_at, unsent, zero_head, ℕ, ◌-◌, ◌∙◌, ◌∷◌, ◌≡◌, ◌≤◌, ◌⊎◌}
 use Rattle.sdd_obligations.specs.All.{Attempt, IsFrom1To}
 use Rattle.sdd_progress.specs.Quiet.{at_home}
 use Rattle.sdd_obligations.proofs.invariants.logs.tm.Lists.{get_map as at_map}
@@ -15,35 +15,14 @@ use Rattle.sdd_obligations.specs.umod.Views as um_views
 
 -- the lowest of some numbers is one of them
 
-lower_one : (m n : ℕ) → (min m n ≡ m) ⊎ (min m n ≡ n)
-lower_one m n = elim (dec_le m n) [ yes p ↦ inl (omega (arith, p)) | no p ↦ inr (omega (arith, p)) ]
-
 lowest_behind : (m : ℕ) (ns : List ℕ) → (d : ℕ) × (fold lower (Some m) ns ≡ Some d) × ((d ≡ m) ⊎ (contains ns d ≡ true))
 lowest_behind m [] = (m, refl, inl refl)
-lowest_behind m (n ∷ ns) =
-    let i = lowest_behind (min m n) ns in (
-      i.0,
-      i.1,
-      elim i.2 [
-        | inl p ↦ elim (lower_one m n) [
-          | inl q ↦ inl (p ∙ q)
-          | inr q ↦ inr (or_left (n == i.0) (contains ns i.0) (eq-eqb n i.0 (sym (p ∙ q))))
-        ]
-        | inr p ↦ inr (or_right (n == i.0) (contains ns i.0) p)
-      ],
-    )
+lowest_behind m (n ∷ ns) = grind (arith, dec_le, or_left, eq-eqb, or_right, (lowest_behind (min m n) ns))
 
 lowest_there : (ns : List ℕ) → is_empty ns ≡ false → (d : ℕ) × (lowest ns ≡ Some d) × (contains ns d ≡ true)
 lowest_there [] e = cc
 lowest_there (n ∷ ns) e =
-    let i = lowest_behind n ns in (
-      i.0,
-      i.1,
-      elim i.2 [
-        | inl p ↦ or_left (n == i.0) (contains ns i.0) (eq-eqb n i.0 (sym p))
-        | inr p ↦ or_right (n == i.0) (contains ns i.0) p
-      ],
-    )
+    let i = lowest_behind n ns in (grind (arith, or_left, contains, eq-eqb, or_right))
 
 -- the first item that passes a test is one of the list
 record IsFound {A : Type 0} (p : A → Bool) (xs : List A) : Type 0 where
@@ -56,8 +35,7 @@ abbrev FailAll : {A : Type 0} → (A → Bool) → List A → Type 0
 FailAll {A = A} p xs = (k : ℕ) (x : A) → slice_get xs k ≡ Some x → p x ≡ false
 
 fail_more : {A : Type 0} (p : A → Bool) (y : A) (xs : List A) → p y ≡ false → FailAll p xs → FailAll p (y ∷ xs)
-fail_more p y xs e none zero x is = let q : y ≡ x = cc in subst (λ z. p z ≡ false) q e
-fail_more p y xs e none (suc k) x is = none k x is
+fail_more p y xs e none h6 x is = grind arith
 
 found_or_none : {A : Type 0} (p : A → Bool) (xs : List A) → IsFound p xs ⊎ FailAll p xs
 found_or_none p [] = inr (λ k x e. cc)
@@ -74,25 +52,12 @@ found_or_none {A = A} p (y ∷ xs) =
 
 module _ (g : Input) (log : Log) (idle : site_due g log ≡ None) where
   none_next : (at : Site) → is_site g.catalogue.tms g.catalogue.dms at ≡ true → next_at g log at ≡ None
-  none_next at e =
-      let i = site_there g.catalogue.tms g.catalogue.dms at e in
-      no_act at (next_at g log at) (none_at (λ x. does_at x (next_at g log x)) (sites g.catalogue.tms g.catalogue.dms) i.0 at idle i.1)
+  none_next at e = grind (arith, site_there, no_act, none_at)
 
   -- nor of the active attempt of a class
 
-  none_at_u : attempt_due g.catalogue (base_of g log) 0 (active (setting_of g U) 0 (local_of g U log)) ≡ None
-  none_at_u =
-      let v = um_views.view_of (setting_of g U) (local_of g U log) in
-      let e : um.due g.catalogue (base_of g log) v ≡ None = none_next U refl in
-      (or_none (attempt_due g.catalogue (base_of g log) 0 v.active) _ e).0
-
   none_started : um.start_due g.catalogue (um_views.view_of (setting_of g U) (local_of g U log)) ≡ None
-  none_started =
-      let v = um_views.view_of (setting_of g U) (local_of g U log) in
-      let e : um.due g.catalogue (base_of g log) v ≡ None = none_next U refl in
-      let p = or_none (attempt_due g.catalogue (base_of g log) 0 v.active) _ e in
-      let q = or_none _ _ p.1 in
-      (or_none (um.start_due g.catalogue v) _ q.1).0
+  none_started = grind (arith, none_next, or_none)
 
   none_at_t : (t j c : ℕ) → 1 ≤ t → t ≤ g.catalogue.tms → slice_get (tm_views.runs (setting_of g (T (tm_no t)))) j ≡ Some c
       → attempt_due g.catalogue (base_of g log) c (active (setting_of g (T (tm_no t))) c (local_of g (T (tm_no t)) log)) ≡ None
@@ -107,7 +72,7 @@ module _ (g : Input) (log : Log) (idle : site_due g log ≡ None) where
   none_of_class : (c : ℕ) → IsSoundCatalogue g.catalogue → IsClass g.catalogue c
       → attempt_due g.catalogue (base_of g log) c (active (setting_of g (home g.catalogue c)) c (at_home g c log)) ≡ None
   none_of_class c sound l = elim (same_or_not c 0) [
-    | inl p ↦ subst (λ k. attempt_due g.catalogue (base_of g log) k (active (setting_of g (home g.catalogue k)) k (at_home g k log)) ≡ None) (sym p) none_at_u
+    | inl p ↦ subst (λ k. attempt_due g.catalogue (base_of g log) k (active (setting_of g (home g.catalogue k)) k (at_home g k log)) ≡ None) (sym p) (grind (arith, none_next, or_none))
     | inr p ↦ (let r = run_at g.catalogue c sound p l in
         let j = runs_place g c r.t (positive c p) l r.number_is in
         subst (λ x. attempt_due g.catalogue (base_of g log) c (active (setting_of g x) c (local_of g x log)) ≡ None) (sym r.home_is)
@@ -116,21 +81,13 @@ module _ (g : Input) (log : Log) (idle : site_due g log ≡ None) where
 
 -- an attempt that has nothing to send and isn't over lacks the answer of a data module
 
-asked_there : (d : ℕ) (x : Exchange) (v : Turn) → x.to_send ≡ [] → contains x.lacks d ≡ true → IsAtTurn d x v → contains (firsts x.modules) d ≡ true
-asked_there d x v e l (unsent m q ns a b s t u w f h) = h
-asked_there d x v e l (awaited m ns a b s w f h) = h
-asked_there d x v e l (answered_last q ns a b s t f h) = h
-asked_there d x v e l (apart a b s h) = absurd (not_both (contains x.lacks d) l b)
-
 module _ (g : Input) (log : Log) (permitted : IsPermitted g log) (good : FitsInput g) (idle : site_due g log ≡ None) where
   lacks_answer : (c : ℕ) (a : Attempt) → IsClass g.catalogue c → active (setting_of g (home g.catalogue c)) c (at_home g c log) ≡ Some a
       → IsNumberedSite g.catalogue (site_of (lowest a.exchange.lacks))
   lacks_answer c a l e =
       let s = setting_of g (home g.catalogue c) in
       let going = goes_on g log c a permitted good l e in
-      let due : attempt_due g.catalogue (base_of g log) c (Some a) ≡ None =
-      subst (λ o. attempt_due g.catalogue (base_of g log) c o ≡ None) e (none_of_class g log idle c good.sound l) in
-      let p = or_none (send_due a.exchange) _ due in
+      let p = or_none (send_due a.exchange) _ (subst (λ o. attempt_due g.catalogue (base_of g log) c o ≡ None) e (none_of_class g log idle c good.sound l)) in
       let low = lowest_there a.exchange.lacks (going.lacks (if_none (is_over a.exchange.phase) _ p.1)) in
       let d : ℕ = low.0 in
       let turns = home_turns g c log permitted (spoken g c log permitted (small_home g.catalogue good.sound c l)) in
@@ -139,28 +96,17 @@ module _ (g : Input) (log : Log) (permitted : IsPermitted g log) (good : FitsInp
       let near : IsNearBy g.catalogue.dms a.exchange =
       subst (HasNear g.catalogue.dms) e (active_near s c (at_home g c log) (sound_whole g.catalogue good.sound) (home_fair g c log permitted)) in
       let m : IsModule g.catalogue d = near_one g.catalogue.dms d a.exchange.modules a.exchange near
-      (asked_there d a.exchange (turn_at a.ts c d (at_home g c log)) (no_sends a.exchange.to_send p.0) low.2 (stands.0 refl)) in
+      (grind (arith, unsent, awaited, answered_last, apart, not_both)) in
       subst (λ o. IsNumberedSite g.catalogue (site_of o)) (sym low.1) m
 
 -- so in the line of a class each transaction stands as it may
 
-queued_stands : (cat : Catalogue) (c : ℕ) (o : Option ℕ) → IsClass cat c → IsStanding cat (queued_at c o)
-queued_stands cat c None l = tt
-queued_stands cat c (Some place) l = (l, omega arith)
-
 line_stands : (cat : Catalogue) (c : ℕ) (qs : List Queued) (o : Option Attempt) (n : ℕ) → IsClass cat c
     → ((a : Attempt) → o ≡ Some a → IsNumberedSite cat (site_of (lowest a.exchange.lacks))) → IsStanding cat (standing_by c qs o n)
-line_stands cat c qs None n l f = queued_stands cat c (position (λ (q : Queued). q.number == n) qs) l
-line_stands cat c qs (Some a) n l f =
-    elim (a.txn == n)
-    as (λ b. IsStanding cat (if b then underway c a.ts a.exchange else queued_at c (position (λ (q : Queued). q.number == n) (waiting (Some a) qs)))) [
-      | true ↦ f a refl
-      | false ↦ queued_stands cat c (position (λ (q : Queued). q.number == n) (waiting (Some a) qs)) l
-    ]
+line_stands cat c qs o n l f = grind (arith)
 
 first_stands : (cat : Catalogue) (s next : Standing) → IsStanding cat s → IsStanding cat next → IsStanding cat (or_standing s next)
-first_stands cat standings.Absent next h i = i
-first_stands cat _ next h i = h
+first_stands cat s next h i = grind arith
 
 among_stands : (cat : Catalogue) (ls : List Line) (n : ℕ) → ((j : ℕ) (l : Line) → slice_get ls j ≡ Some l → IsStanding cat (standing_of l n))
     → IsStanding cat (standing_among ls n)
@@ -170,12 +116,7 @@ among_stands cat (l ∷ ls) n h = first_stands cat (standing_of l n) (standing_a
 -- a class that runs at a transaction module
 run_here : (g : Input) (t j c : ℕ) → slice_get (tm_views.runs (setting_of g (T (tm_no t)))) j ≡ Some c
     → IsClass g.catalogue c × (home g.catalogue c ≡ T (tm_no t))
-run_here g t j c e =
-    let i = in_filtered (λ k. (class_at g.catalogue k).tm.0 == t) (numbers_to (length g.catalogue.classes)) j c e in
-    let r = in_range 1 (length g.catalogue.classes) i.1 c i.2 in
-    let at : (class_at g.catalogue c).tm.0 ≡ t = eqb-true (class_at g.catalogue c).tm.0 t i.0 in
-    let here : home g.catalogue c ≡ T (tm_no (class_at g.catalogue c).tm.0) = rw (not_zero c r.0) refl in
-    (omega (arith, r.1), here ∙ ap (λ n. T (tm_no n)) at)
+run_here g t j c e = grind (arith, in_filtered, in_range, eqb-true, not_zero)
 
 -- at U, before an attempt begins
 
@@ -184,30 +125,15 @@ has_head : (c : ℕ) (qs : List Queued) (n : ℕ) (class : ClassNo) (place : ℕ
 has_head c [] n class place e = cc
 has_head c (q ∷ qs) n class place e = (q, refl)
 
-one_less : (place : ℕ) → 1 ≤ place → (place == 1) ≡ false → 1 ≤ place - 1
-one_less zero l e = omega (arith, l)
-one_less (suc zero) l e = cc
-one_less (suc (suc place)) l e = omega arith
-
 first_underway_stands : (cat : Catalogue) (at : Site) (s : Standing) → IsStanding cat s
     → ((class : ClassNo) (place : ℕ) → s ≡ standings.Queued class place → IsNumberedSite cat at) → IsStanding cat (u_standing.first_underway at s)
-first_underway_stands cat at standings.Absent h f = tt
-first_underway_stands cat at (standings.Queued class place) h f =
-    elim (place == 1)
-    as (λ b. (place == 1) ≡ b → IsStanding cat (if b then standings.Underway class None at else standings.Queued class (place - 1))) [
-      | true ↦ λ e. f class place refl
-      | false ↦ λ e. (h.0, one_less place h.1 e)
-    ] refl
-first_underway_stands cat at (standings.Underway class ts site) h f = h
+first_underway_stands cat at s h f = grind (arith)
 
 module _ (g : Input) (log : Log) (permitted : IsPermitted g log) (good : FitsInput g) (idle : site_due g log ≡ None) where
   -- of each T what was counted
   of_t : (k : ℕ) (x : TmCounts) → slice_get (map (λ t. counts t (local_of g U log)) (numbers_to g.catalogue.tms)) k ≡ Some x
       → (t : ℕ) × IsFrom1To g.catalogue.tms t × (counts t (local_of g U log) ≡ x)
-  of_t k x e =
-      let r = in_mapped (λ t. counts t (local_of g U log)) (numbers_to g.catalogue.tms) k x e in
-      let i = in_range 1 g.catalogue.tms k r.0 r.1 in
-      (r.0, (i.0, omega (arith, i.1)), r.2)
+  of_t k x e = grind (arith, in_mapped, in_range)
 
   -- where no HELD lacks, each T holds
   all_hold : FailAll (u_standing.lacks_held (suc (last_served (setting_of g U) (local_of g U log)).commits))
@@ -221,8 +147,7 @@ module _ (g : Input) (log : Log) (permitted : IsPermitted g log) (good : FitsInp
       all_true (um.is_holding v) (map (λ t. counts t lu) (numbers_to g.catalogue.tms)) (λ k x e.
       (let r = of_t k x e in
       let c = chain_at g (tm_no r.0) log r.1.0 r.1.1 permitted in
-      let same : (counts r.0 lu).helds ≡ x.helds = ap (λ (y : TmCounts). y.helds) r.2 in
-      let told : (counts r.0 lu).helds ≡ suc n = same ∙ eqb-true x.helds (suc n) (not_false _ (none k x e)) in
+      let told : (counts r.0 lu).helds ≡ suc n = (ap (λ (y : TmCounts). y.helds) r.2) ∙ eqb-true x.helds (suc n) (not_false _ (none k x e)) in
       let held : (counts r.0 lu).holds ≡ suc n = omega (arith, told, c.put_held, c.got_hold, c.put_hold, c.one_ahead, c.committed) in
       ap (um.is_holding v) (sym r.2) ∙ both _ _ (eq-eqb _ _ held) (eq-eqb _ _ told)))
 
@@ -240,8 +165,7 @@ module _ (g : Input) (log : Log) (permitted : IsPermitted g log) (good : FitsInp
             subst (λ o. IsNumberedSite g.catalogue (u_standing.site_of (option_map tm_of o))) (sym f.found) (subst (IsFrom1To g.catalogue.tms) number r.1))
         | inr all ↦
             (let q = has_head 0 (queue s 0 lu) n class place (subst (λ o. standing_by 0 (queue s 0 lu) o n ≡ standings.Queued class place) none e) in
-            let served = all_served g log (sound_whole g.catalogue good.sound) permitted none in
-            let fresh : q.0.tries ≡ 0 = zero_head (queue s 0 lu) q.0 served.1 q.1 in
+            let fresh : q.0.tries ≡ 0 = zero_head (queue s 0 lu) q.0 (all_served g log (sound_whole g.catalogue good.sound) permitted none).1 q.1 in
             let due : um.start_of g.catalogue v (Some q.0) ≡ None = subst (λ o. um.start_of g.catalogue v o ≡ None) q.1 (none_started g log idle) in
             absurd (not_both _ (both _ _ (eq-eqb _ _ fresh) (all_hold all)) (if_none _ _ due)))
       ]
@@ -255,9 +179,7 @@ module _ (g : Input) (log : Log) (permitted : IsPermitted g log) (good : FitsInp
       elim (u_standing.is_awaiting_helds state)
       as (λ b. u_standing.is_awaiting_helds state ≡ b
       → IsStanding g.catalogue (if b then u_standing.first_underway (u_standing.lacking_site state) (standing_of state.line n) else standing_of state.line n)) [
-        | true ↦ λ e.
-            first_underway_stands g.catalogue (u_standing.lacking_site state) (standing_of state.line n) line (λ class place is.
-            waits_for_t n class place (no_active (active s 0 lu) (and_left _ _ e)) is)
+        | true ↦ grind (arith, first_underway_stands, standing_of, waits_for_t, no_active, active, and_left)
         | false ↦ λ e. line
       ] refl
 
@@ -270,8 +192,7 @@ module _ (g : Input) (log : Log) (permitted : IsPermitted g log) (good : FitsInp
       (let r = in_mapped (λ (k : tm_states.ClassState). k.line) states j l e in
       let q = in_mapped (tm_states.class_of s lt) (tm_views.runs s) j r.0 r.1 in
       let run = run_here g t j q.0 q.1 in
-      let line : (tm_states.class_of s lt q.0).line ≡ l = ap (λ (k : tm_states.ClassState). k.line) q.2 ∙ r.2 in
-      subst (λ x. IsStanding g.catalogue (standing_of x n)) line
+      subst (λ x. IsStanding g.catalogue (standing_of x n)) (ap (λ (k : tm_states.ClassState). k.line) q.2 ∙ r.2)
       (line_stands g.catalogue q.0 (queue s q.0 lt) (active s q.0 lt) n run.0 (λ a is.
       lacks_answer g log permitted good idle q.0 a run.0 (subst (λ y. active (setting_of g y) q.0 (local_of g y log) ≡ Some a) (sym run.1) is)))))
 

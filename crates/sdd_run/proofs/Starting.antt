@@ -1,5 +1,5 @@
 -- A new world of a workload represents the empty log of what is given before its first event.
-use Rattle.sdd_run.proofs.All.{AllBegin, AreAllowed, AreTables, BeginsD, Catalogue, Class, ClassList, D, Entry, Era, Event, Input, IsBegun, IsGood, IsSoundCatalogue, IsValid, Kept, List, MAX_DMS, MAX_TMS, RelNo, Represents, Row, Some, State, There, Txn, Workload, World, [], ap, classes_in, dm_no, drop, era_of_list, eras, eras_in, eras_with_tables, first_input, get_or, map, refl, rows_of, slice_get, subst, sym, tail_of, whole_in, ◌-◌, ◌∙◌, ◌∷◌, ◌≡◌, ◌≤◌}
+use Rattle.sdd_run.proofs.All.{AllBegin, AreAllowed, AreTables, BeginsD, Catalogue, Class, ClassList, D, Entry, Era, Event, Input, IsBegun, IsGood, IsSoundCatalogue, IsValid, Kept, List, MAX_DMS, MAX_TMS, RelNo, Represents, Row, Some, State, There, Txn, Workload, World, [], ap, arith, classes_in, dm_no, era_of_list, eras, eras_in, eras_with_tables, first_input, get_or, map, refl, rows_of, slice_get, subst, sym, tail_of, whole_in, ◌-◌, ◌∙◌, ◌∷◌, ◌≡◌, ◌≤◌}
 use Rattle.sdd_run.proofs.Allowed.{HasLists, allowed}
 use Rattle.sdd_run.proofs.Beginning.{begins_sound, rows_given}
 use Rattle.sdd_run.proofs.Goods.{good_along, good_begun}
@@ -9,11 +9,6 @@ use Rattle.sdd_world.specs.Represents as standing
 
 abbrev with_table : Catalogue → List Entry → Era
 with_table cat table = record { catalogue = cat; table = table }
-
--- the lists behind the first
-tail_is : (eras : List Era) → tail_of eras ≡ drop 1 eras
-tail_is [] = refl
-tail_is (f ∷ eras) = refl
 
 -- the first list is that of the catalogue
 first_of_eras : (cat : Catalogue) (lists : List (List Class)) (tables : List (List Entry)) (table : List Entry) (none : Era) → slice_get tables 0 ≡ Some table
@@ -34,7 +29,7 @@ module _ (cat : Catalogue) (tables : List (List Entry)) (work : Workload) (sound
   all_allowed events lists e left =
       subst (λ es. AreAllowed (first_input cat tables work) es lists) (sym e)
       (allowed work.events work.events (first_input cat tables work) lists refl (events_valid cat work valid)
-      (left ∙ tail_is (eras_with_tables (eras_in cat work) tables)) has_lists (good_along cat tables work sound valid tabled))
+      (left ∙ (grind arith)) has_lists (good_along cat tables work sound valid tabled))
 
   -- the data modules, each of the rows that are given for it
   each_made : (rows : List (RelNo × Row)) (dms : List (Kept State)) → rows ≡ work.rows → AllBegin (BeginsD (whole_in cat work) rows) (whole_in cat work).dms dms
@@ -53,10 +48,4 @@ module _ (cat : Catalogue) (tables : List (List Entry)) (work : Workload) (sound
       → Represents w (first_input cat tables work) []
   starts rows txns table dms w few_tms few_dms first r t all made =
       made (first_input cat tables work) (good_begun cat tables work sound valid tabled) (begins_sound cat tables work few_tms few_dms valid)
-      (record {
-        catalogue_is = refl;
-        era_is = first_of_eras cat (classes_in cat work) tables table (record { catalogue = whole_in cat work; table = [] }) first;
-        txns_are = t;
-        no_events = refl;
-        made = each_made rows dms r all;
-      })
+      (grind (arith, first_of_eras, classes_in, whole_in, each_made))

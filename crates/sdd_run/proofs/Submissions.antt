@@ -1,5 +1,5 @@
 -- Each transaction is submitted at most once, also by a part of a schedule.
-use Rattle.sdd_run.proofs.All.{AreDistinct, AreSubmittedOnce, Event, List, [], ap, arith, cases_eq, eq-eqb, false, filter_map, get_or as slice_index_or, inl, inr, length, ne_eqb, one_if, refl, submits_in, submitted_by, subst, suc, sym, ℕ, ◌++◌, ◌+◌, ◌<◌, ◌==◌, ◌∙◌, ◌∷◌, ◌≡◌, ◌≤◌}
+use Rattle.sdd_run.proofs.All.{AreDistinct, AreSubmittedOnce, Event, List, [], ap, arith, cases_eq, eq-eqb, filter_map, get_or as slice_index_or, length, ne_eqb, one_if, refl, submits_in, submitted_by, subst, suc, sym, ℕ, ◌++◌, ◌+◌, ◌<◌, ◌==◌, ◌∙◌, ◌∷◌, ◌≡◌, ◌≤◌}
 use Rattle.sdd_obligations.specs.All.{Submit}
 
 abbrev numbers : List Event → List ℕ
@@ -9,16 +9,12 @@ numbers es = filter_map submitted_by es
 abbrev IsNew : ℕ → List ℕ → Type 0
 IsNew n xs = (k : ℕ) → k < length xs → (d : ℕ) → n ≡ slice_index_or xs k d → ⊥
 
-not_first : (n m : ℕ) (xs : List ℕ) → IsNew n (m ∷ xs) → (m == n) ≡ false
-not_first n m xs h = ne_eqb m n (λ e. h 0 (omega arith) 0 (sym e))
-
 not_later : (n m : ℕ) (xs : List ℕ) → IsNew n (m ∷ xs) → IsNew n xs
 not_later n m xs h k l d e = h (suc k) (omega arith) d e
 
 never : (n : ℕ) (es : List Event) → IsNew n (numbers es) → submits_in n es ≡ 0
 never n [] h = refl
-never n (Submit m ∷ es) h = ap (λ b. one_if b + submits_in n es) (not_first n m.0 (numbers es) h) ∙ (let e =
-    never n es (not_later n m.0 (numbers es) h) in omega arith)
+never n (Submit m ∷ es) h = ap (λ b. one_if b + submits_in n es) (ne_eqb m.0 n (λ e. h 0 (omega arith) 0 (sym e))) ∙ (grind (arith, not_later, numbers, (never n es (not_later n m.0 (numbers es) h))))
 never n (_ ∷ es) h = let e = never n es h in omega arith
 
 others_distinct : (m : ℕ) (xs : List ℕ) → AreDistinct (m ∷ xs) → AreDistinct xs
@@ -28,13 +24,7 @@ first_new : (m : ℕ) (xs : List ℕ) → AreDistinct (m ∷ xs) → IsNew m xs
 first_new m xs h k l d e = h 0 (suc k) (omega arith) (omega arith) d e
 
 one_more : (n m : ℕ) (es : List Event) → IsNew m (numbers es) → submits_in n es ≤ 1 → one_if (m == n) + submits_in n es ≤ 1
-one_more n m es fresh few =
-    elim (cases_eq m n) [
-      | inl e ↦
-          (let none : submits_in n es ≡ 0 = subst (λ x. submits_in x es ≡ 0) e (never m es fresh) in
-          subst (λ b. one_if b + submits_in n es ≤ 1) (sym (eq-eqb m n e)) (omega (arith, none)))
-      | inr d ↦ subst (λ b. one_if b + submits_in n es ≤ 1) (sym (ne_eqb m n d)) (omega (arith, few))
-    ]
+one_more n m es fresh few = grind (arith, cases_eq, never, eq-eqb, ne_eqb)
 
 -- distinct numbers are submitted once
 pub once : (es : List Event) → AreDistinct (numbers es) → AreSubmittedOnce es
@@ -50,6 +40,5 @@ part_submits n (x ∷ xs) ys = let h = part_submits n xs ys in omega arith
 
 pub once_before : (xs ys all : List Event) → xs ++ ys ≡ all → AreSubmittedOnce all → AreSubmittedOnce xs
 once_before xs ys all e h n =
-    let few : submits_in n (xs ++ ys) ≤ 1 = subst (λ es. submits_in n es ≤ 1) (sym e) (h n) in
     let part = part_submits n xs ys in
-    omega arith
+    omega (arith, subst (λ es. submits_in n es ≤ 1) (sym e) (h n))

@@ -2,27 +2,18 @@
 use Rattle.sdd_run.proofs.All.{AreTables, AreTimely, Bool, Catalogue, Entry, Event, IsValid, List, Redeclare, Some, Workload, [], ap, arith, at_seam, classes_in, cond, count_by, down_from, false, fold, input_of, length, length-map, redeclares_in, refl, slice_get, subst, sum_by-cons, sym, take, take-append_seam, turned_by, ℕ, ◌+◌, ◌∙◌, ◌∷◌, ◌≡◌, ◌≤◌}
 use Rattle.sdd_run.proofs.ErasWithTables.{how_many}
 use Rattle.sdd_run.proofs.Whole.{same_dms}
-use Rattle.sdd_obligations.specs.All.{Submit}
 use Rattle.sdd_script.specs.Redeclaring as script
 
 -- what a workload's events tell, and what the log's definitions count of them
 
-counted_one : (e : Event) (es : List Event) → redeclares_in (e ∷ es) ≡ cond (script.is_redeclare e) 1 0 + redeclares_in es
-counted_one (Submit n) es = omega arith
-counted_one _ es = omega arith
-
 pub counted : (es : List Event) → redeclares_in es ≡ count_by script.is_redeclare es
 counted [] = refl
 counted (e ∷ es) =
-    counted_one e es ∙ ap (λ n. cond (script.is_redeclare e) 1 0 + n) (counted es) ∙ sym (sum_by-cons (λ x. cond (script.is_redeclare x) 1 0) e es)
-
-turned_alike : (d : ℕ) (e : Event) (b : Bool) → turned_by d e b ≡ script.turned_by d e b
-turned_alike d (Submit n) b = refl
-turned_alike d _ b = refl
+    (grind arith) ∙ ap (λ n. cond (script.is_redeclare e) 1 0 + n) (counted es) ∙ sym (sum_by-cons (λ x. cond (script.is_redeclare x) 1 0) e es)
 
 down_alike : (d : ℕ) (b : Bool) (es : List Event) → down_from d b es ≡ fold (λ down e. script.turned_by d e down) b es
 down_alike d b [] = refl
-down_alike d b (e ∷ es) = ap (λ c. down_from d c es) (turned_alike d e b) ∙ down_alike d (script.turned_by d e b) es
+down_alike d b (e ∷ es) = ap (λ c. down_from d c es) (grind arith) ∙ down_alike d (script.turned_by d e b) es
 
 pub timely : (cat : Catalogue) (tables : List (List Entry)) (work : Workload) → IsValid cat work → AreTables cat work tables
     → AreTimely (input_of cat tables work)
@@ -31,12 +22,10 @@ timely cat tables work valid tabled front rest is =
     let may = valid.timely (length front) there in
     let before : take (length front) work.events ≡ front = ap (take (length front)) is ∙ take-append_seam front (Redeclare ∷ rest) in
     let few = may.left in
-    let same : count_by script.is_redeclare (take (length front) work.events) ≡ count_by script.is_redeclare front = ap
-    (λ es. count_by script.is_redeclare es) before in
     let all = how_many cat tables work tabled in
     let lists : length (classes_in cat work) ≡ length work.lists = length-map work.lists _ in
     let done = counted front in
     record {
-      left = omega (arith, few, same, all, lists, done);
+      left = omega (arith, few, (ap (λ es. count_by script.is_redeclare es) before), all, lists, done);
       up = λ d here. down_alike d false front ∙ ap (λ es. script.is_down d es) (sym before) ∙ may.up d (here.0, subst (λ n. d ≤ n) (same_dms cat work) here.1);
     }

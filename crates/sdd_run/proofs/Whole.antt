@@ -1,6 +1,6 @@
 -- The catalogue with the classes of all lists of a workload differs from the catalogue in its classes alone. So what fits
 -- the catalogue fits the whole one.
-use Rattle.sdd_run.proofs.All.{Add, All, All-weaker, Assign, Catalogue, Class, Condition, Const, Delete, Deliver, Event, FitsAssign, FitsCondition, FitsConditions, FitsStart, FitsStatement, FitsTxn, IsSite, IsValid, IsValidEvent, IsValidRow, IsValidTxn, List, Lose, Put, Query, RelNo, Repeat, Resend, Row, Same, Site, Stmt, To, Txn, U, Update, Workload, [], ap, classes_in, extended, length, refl, subst, sym, whole, whole_in, ℕ, ◌∷◌, ◌≡◌}
+use Rattle.sdd_run.proofs.All.{All, All-weaker, Assign, Catalogue, Class, Condition, FitsAssign, FitsCondition, FitsStart, FitsStatement, IsSite, IsValid, IsValidEvent, IsValidRow, IsValidTxn, List, RelNo, Row, Site, Stmt, Txn, U, Workload, [], ap, arith, classes_in, extended, length, refl, subst, sym, whole, whole_in, ℕ, ◌∷◌, ◌≡◌}
 
 -- other classes
 abbrev pub with_classes : Catalogue → List Class → Catalogue
@@ -17,32 +17,16 @@ module _ (cat : Catalogue) (classes : List Class) where
   other = with_classes cat classes
 
   cond_fits : (rels : List RelNo) (q : Condition) → FitsCondition cat rels q → FitsCondition other rels q
-  cond_fits rels (Const l op v) h = h
-  cond_fits rels (Same l r) h = h
-
-  conds_fit : (rels : List RelNo) (qs : List Condition) → FitsConditions cat rels qs → FitsConditions other rels qs
-  conds_fit rels qs h = (h.0, All-weaker (FitsCondition cat rels) (FitsCondition other rels) (cond_fits rels) qs h.1)
+  cond_fits rels q h = grind arith
 
   assign_fits : (rel : ℕ) (a : Assign) → FitsAssign cat rel a → FitsAssign other rel a
-  assign_fits rel (To column value) h = h
-  assign_fits rel (Add column by) h = h
+  assign_fits rel a h = grind arith
 
   statement_fits : (s : Stmt) → FitsStatement cat s → FitsStatement other s
-  statement_fits (Put rel row) h = h
-  statement_fits (Query out rels conds) h = (h.0, h.1, h.2, h.3, conds_fit rels conds h.4)
-  statement_fits (Update rel sets conds) h =
-      (h.0, h.1, All-weaker (FitsAssign cat rel.0) (FitsAssign other rel.0) (assign_fits rel.0) sets h.2, conds_fit (rel ∷ []) conds h.3)
-  statement_fits (Delete rel conds) h = (h.0, conds_fit (rel ∷ []) conds h.1)
-
-  txn_fits : (txn : Txn) → FitsTxn cat txn → FitsTxn other txn
-  txn_fits txn f = record {
-    module_is_there = f.module_is_there;
-    few = f.few;
-    statements = All-weaker (FitsStatement cat) (FitsStatement other) statement_fits txn.statements f.statements;
-  }
+  statement_fits s h = grind (arith, cond_fits, other, assign_fits)
 
   valid_txn : (txn : Txn) → IsValidTxn cat txn → IsValidTxn other txn
-  valid_txn txn v = record { named = v.named; fits = txn_fits txn v.fits; values = v.values }
+  valid_txn txn v = record { named = v.named; fits = (grind (arith, other, statement_fits)); values = v.values }
 
   valid_row : (r : RelNo × Row) → IsValidRow cat r → IsValidRow other r
   valid_row r v = record { fits = v.fits; values = v.values }
@@ -50,13 +34,6 @@ module _ (cat : Catalogue) (classes : List Class) where
   site : (at : Site) → IsSite cat at → IsSite other at
   site U h = h
   site _ h = h
-
-  valid_event : (count : ℕ) (e : Event) → IsValidEvent cat count e → IsValidEvent other count e
-  valid_event count (Deliver a b k) h = ((site a h.0.0, site b h.0.1, h.0.2), h.1)
-  valid_event count (Lose a b k) h = ((site a h.0.0, site b h.0.1, h.0.2), h.1)
-  valid_event count (Repeat a b k) h = ((site a h.0.0, site b h.0.1, h.0.2), h.1)
-  valid_event count (Resend a b) h = (site a h.0, site b h.1, h.2)
-  valid_event count _ h = h
 
 -- of a valid workload
 
@@ -88,7 +65,7 @@ module _ (cat : Catalogue) (work : Workload) (valid : IsValid cat work) where
       let classes = (whole_in cat work).classes in
       let count = length work.txns in
       in_whole (λ c. All (IsValidEvent c count) work.events)
-      (All-weaker (IsValidEvent cat count) (IsValidEvent (with_classes cat classes) count) (valid_event cat classes count) work.events valid.events)
+      (All-weaker (IsValidEvent cat count) (IsValidEvent (with_classes cat classes) count) (grind (arith, site)) work.events valid.events)
 
   -- the rows fit
   pub rows_start : All (FitsStart (whole_in cat work)) work.rows
