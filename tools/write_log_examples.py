@@ -5,8 +5,8 @@
     tools/write_log_examples.py --random FIRST COUNT --file FILE [--longest N]
 
 The first form writes the workloads of log_examples.py, each with the equation that the definitions' log has the
-reference's history, number of entries and number of events, and is complete; `rt check` in crates/sdd_log_examples
-computes them. With --check nothing is written: it ends with 1 where a file of FOLDER would be another.
+reference's history, number of entries and number of events, and is complete; `rt fmt` in crates/sdd_log_examples lays
+them out, and `rt check` computes them. With --check nothing is written: it ends with 1 where a file of FOLDER would be another.
 With --random the logs of COUNT random workloads from the seed FIRST on, with losses, repetitions, undeclared
 transactions, reducers, further class lists and modules that are down, are written to one FILE, which is
 for a check by hand and stays out of the repository; logs of more than N entries (220 where it isn't given)
@@ -301,14 +301,38 @@ def worked_logs():
     return {module: "\n".join(parts) for module, parts in modules.items()}
 
 
+def broken(body):
+    """The same text, each line of more than 160 characters broken behind a member of a list or of a record, or before a ×."""
+    parts = []
+    for line in body.split("\n"):
+        indent = " " * (len(line) - len(line.lstrip()) + 4)
+        while len(line) > 160:
+            ends = [found.end() for found in re.finditer(r" ∷(?= )|;(?= )|(?= × )", line[:150]) if found.end() > len(indent)]
+            if not ends:
+                break
+            parts.append(line[: ends[-1]])
+            line = indent + line[ends[-1]:].lstrip()
+        parts.append(line)
+    return "\n".join(parts)
+
+
+def plain(text):
+    """The text without its layout, which `rt fmt` gives to the lines that were broken."""
+    return re.sub(r"[;,](?=[)}])", "", "".join(text.split()))
+
+
+def text_of(about, body):
+    return "-- %s\n" % about + imported(body) + "\n" + broken(body)
+
+
 def write(path, about, body):
     with open(path, "w", encoding="utf-8") as out:
-        out.write("-- %s\n" % about + imported(body) + "\n" + body)
+        out.write(text_of(about, body))
 
 
 def differs(path, about, body):
     with open(path, encoding="utf-8") as there:
-        return there.read() != "-- %s\n" % about + imported(body) + "\n" + body
+        return plain(there.read()) != plain(text_of(about, body))
 
 
 def main():

@@ -15,7 +15,14 @@ catalogue_of_different_rows = record {
       (record { name = []; columns = ((record { name = []; kind = kinds.Int }) ∷ (record { name = []; kind = kinds.Int }) ∷ []); key = 1 }) ∷
       [];
   fragments =
-      (record { name = []; rel = (rel_no 1); least = (negsuc 9223372036854775807); greatest = (pos 9223372036854775807); copies = ((dm_no 1) ∷ (dm_no 2) ∷ (dm_no 3) ∷ []) }) ∷
+      (record {
+        name = [];
+        rel = (rel_no 1);
+        least = (negsuc 9223372036854775807);
+        greatest = (pos 9223372036854775807);
+        copies = ((dm_no 1) ∷
+            (dm_no 2) ∷ (dm_no 3) ∷ []);
+      }) ∷
       [];
   classes =
       (record { name = []; tm = (tm_no 1); reads = ((record { fragment = (frag_no 1); at = (dm_no 1) }) ∷ []); writes = [] }) ∷
@@ -53,13 +60,27 @@ log_of_different_rows = extended 50 given_different_rows []
 
 pub history_of_different_rows :
     history log_of_different_rows ≡
-    (1, Submission (txn_no 1)) ∷
-    (1, Start (txn_no 1) 1 (class_no 1) (time_at 65) (Some (time_at 63)) ((record { number = 1; rel = (rel_no 1); frags = ((frag_no 1) ∷ []); restrictions = [] }) ∷ [])) ∷
+    (1, Submission (txn_no 1)) ∷ (
+      1,
+      Start (txn_no 1) 1 (class_no 1) (time_at 65) (Some (time_at 63)) ((record {
+        number = 1;
+        rel = (rel_no 1);
+        frags = ((frag_no 1) ∷ []);
+        restrictions = [];
+      }) ∷ []),
+    ) ∷
     (2, Arrive (txn_no 1) 1 (dm_no 1)) ∷
     (2, Answer (txn_no 1) 1 (dm_no 1)) ∷
     (8, Commit (txn_no 1) 1 (Rows ((((Int (pos 5)) ∷ []) ∷ []) ∷ [])) [] 0 1) ∷
-    (10, Submission (txn_no 2)) ∷
-    (10, Start (txn_no 2) 1 (class_no 2) (time_at 66) (Some (time_at 63)) ((record { number = 1; rel = (rel_no 1); frags = ((frag_no 1) ∷ []); restrictions = [] }) ∷ [])) ∷
+    (10, Submission (txn_no 2)) ∷ (
+      10,
+      Start (txn_no 2) 1 (class_no 2) (time_at 66) (Some (time_at 63)) ((record {
+        number = 1;
+        rel = (rel_no 1);
+        frags = ((frag_no 1) ∷ []);
+        restrictions = [];
+      }) ∷ []),
+    ) ∷
     (11, Arrive (txn_no 2) 1 (dm_no 3)) ∷
     (11, Answer (txn_no 2) 1 (dm_no 3)) ∷
     (17, Commit (txn_no 2) 1 (Rows ((((Int (pos 6)) ∷ []) ∷ []) ∷ [])) [] 0 1) ∷

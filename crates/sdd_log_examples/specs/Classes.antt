@@ -94,13 +94,21 @@ pub history_of_further_classes :
     (1, Start (txn_no 1) 1 (class_no 1) (time_at 65) (Some (time_at 63)) []) ∷
     (1, Commit (txn_no 1) 1 (Rows []) ((record { frag = (frag_no 1); key = (pos 5); row = (Some ((Int (pos 5)) ∷ (Int (pos 10)) ∷ [])) }) ∷ []) 0 0) ∷
     (2, Apply (txn_no 1) (class_no 1) (dm_no 1) (time_at 65)) ∷
-    (5, Submission (txn_no 2)) ∷
-    (5, Start (txn_no 2) 1 (class_no 2) (time_at 129) (Some (time_at 127)) ((record { number = 1; rel = (rel_no 1); frags = ((frag_no 1) ∷ []); restrictions = [] }) ∷ [])) ∷
+    (5, Submission (txn_no 2)) ∷ (
+      5,
+      Start (txn_no 2) 1 (class_no 2) (time_at 129) (Some (time_at 127)) ((record {
+        number = 1;
+        rel = (rel_no 1);
+        frags = ((frag_no 1) ∷ []);
+        restrictions = [];
+      }) ∷ []),
+    ) ∷
     (6, Arrive (txn_no 2) 1 (dm_no 1)) ∷
     (6, Answer (txn_no 2) 1 (dm_no 1)) ∷
     (12, Commit (txn_no 2) 1 (Rows ((((Int (pos 5)) ∷ []) ∷ []) ∷ [])) [] 0 1) ∷
     []
 history_of_further_classes = refl
 
-pub all_of_further_classes : (next given_further_classes log_of_further_classes ≡ None) × (length log_of_further_classes ≡ 36) × (marks log_of_further_classes ≡ 13)
+pub all_of_further_classes : (next given_further_classes log_of_further_classes ≡ None) × (length log_of_further_classes ≡ 36)
+    × (marks log_of_further_classes ≡ 13)
 all_of_further_classes = (refl, refl, refl)

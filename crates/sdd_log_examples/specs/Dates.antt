@@ -15,7 +15,14 @@ catalogue_of_deleted_and_put = record {
       (record { name = []; columns = ((record { name = []; kind = kinds.Int }) ∷ (record { name = []; kind = kinds.Int }) ∷ []); key = 1 }) ∷
       [];
   fragments =
-      (record { name = []; rel = (rel_no 1); least = (negsuc 9223372036854775807); greatest = (pos 9223372036854775807); copies = ((dm_no 1) ∷ (dm_no 2) ∷ []) }) ∷
+      (record {
+        name = [];
+        rel = (rel_no 1);
+        least = (negsuc 9223372036854775807);
+        greatest = (pos 9223372036854775807);
+        copies = ((dm_no 1) ∷
+            (dm_no 2) ∷ []);
+      }) ∷
       [];
   classes =
       (record { name = []; tm = (tm_no 1); reads = ((record { fragment = (frag_no 1); at = (dm_no 1) }) ∷ []); writes = ((frag_no 1) ∷ []) }) ∷
@@ -70,8 +77,15 @@ pub history_of_deleted_and_put :
     (1, Start (txn_no 1) 1 (class_no 2) (time_at 66) (Some (time_at 63)) []) ∷
     (1, Commit (txn_no 1) 1 (Rows []) ((record { frag = (frag_no 1); key = (pos 1); row = (Some ((Int (pos 1)) ∷ (Int (pos 5)) ∷ [])) }) ∷ []) 0 0) ∷
     (2, Apply (txn_no 1) (class_no 2) (dm_no 1) (time_at 66)) ∷
-    (5, Submission (txn_no 2)) ∷
-    (5, Start (txn_no 2) 1 (class_no 1) (time_at 193) (Some (time_at 191)) ((record { number = 1; rel = (rel_no 1); frags = ((frag_no 1) ∷ []); restrictions = ((record { column = 1; op = Eq; value = (Int (pos 1)) }) ∷ []) }) ∷ [])) ∷
+    (5, Submission (txn_no 2)) ∷ (
+      5,
+      Start (txn_no 2) 1 (class_no 1) (time_at 193) (Some (time_at 191)) ((record {
+        number = 1;
+        rel = (rel_no 1);
+        frags = ((frag_no 1) ∷ []);
+        restrictions = ((record { column = 1; op = Eq; value = (Int (pos 1)) }) ∷ []);
+      }) ∷ []),
+    ) ∷
     (6, Arrive (txn_no 2) 1 (dm_no 1)) ∷
     (6, Wait (txn_no 2) 1 (dm_no 1) ((record { class = (class_no 2); time = (time_at 193); frags = ((frag_no 1) ∷ []) }) ∷ [])) ∷
     (13, Answer (txn_no 2) 1 (dm_no 1)) ∷
@@ -80,10 +94,20 @@ pub history_of_deleted_and_put :
     (21, Apply (txn_no 2) (class_no 1) (dm_no 1) (time_at 193)) ∷
     (25, Apply (txn_no 2) (class_no 1) (dm_no 2) (time_at 193)) ∷
     (25, Apply (txn_no 1) (class_no 2) (dm_no 2) (time_at 66)) ∷
-    (27, Submission (txn_no 3)) ∷
-    (27, Start (txn_no 3) 1 (class_no 3) (time_at 643) (Some (time_at 639)) ((record { number = 1; rel = (rel_no 1); frags = ((frag_no 1) ∷ []); restrictions = [] }) ∷ [])) ∷
-    (28, Arrive (txn_no 3) 1 (dm_no 2)) ∷
-    (28, Wait (txn_no 3) 1 (dm_no 2) ((record { class = (class_no 1); time = (time_at 639); frags = ((frag_no 1) ∷ []) }) ∷ (record { class = (class_no 2); time = (time_at 639); frags = ((frag_no 1) ∷ []) }) ∷ [])) ∷
+    (27, Submission (txn_no 3)) ∷ (
+      27,
+      Start (txn_no 3) 1 (class_no 3) (time_at 643) (Some (time_at 639)) ((record {
+        number = 1;
+        rel = (rel_no 1);
+        frags = ((frag_no 1) ∷ []);
+        restrictions = [];
+      }) ∷ []),
+    ) ∷
+    (28, Arrive (txn_no 3) 1 (dm_no 2)) ∷ (
+      28,
+      Wait (txn_no 3) 1 (dm_no 2) ((record { class = (class_no 1); time = (time_at 639); frags = ((frag_no 1) ∷ []) }) ∷
+          (record { class = (class_no 2); time = (time_at 639); frags = ((frag_no 1) ∷ []) }) ∷ []),
+    ) ∷
     (33, Pass (class_no 1) (dm_no 2) (time_at 639)) ∷
     (35, Pass (class_no 2) (dm_no 2) (time_at 639)) ∷
     (35, Answer (txn_no 3) 1 (dm_no 2)) ∷
@@ -91,5 +115,6 @@ pub history_of_deleted_and_put :
     []
 history_of_deleted_and_put = refl
 
-pub all_of_deleted_and_put : (next given_deleted_and_put log_of_deleted_and_put ≡ None) × (length log_of_deleted_and_put ≡ 105) × (marks log_of_deleted_and_put ≡ 43)
+pub all_of_deleted_and_put : (next given_deleted_and_put log_of_deleted_and_put ≡ None) × (length log_of_deleted_and_put ≡ 105)
+    × (marks log_of_deleted_and_put ≡ 43)
 all_of_deleted_and_put = (refl, refl, refl)

@@ -41,7 +41,12 @@ given_not_rejected = record {
       [];
   rows = ([] ∷ []);
   txns =
-      (record { name = []; tm = (tm_no 1); statements = ((Query ((record { part = 1; column = 2 }) ∷ []) ((rel_no 1) ∷ []) ((Const (record { part = 1; column = 1 }) Le (Int (pos 9))) ∷ [])) ∷ []) }) ∷
+      (record {
+        name = [];
+        tm = (tm_no 1);
+        statements = ((Query ((record { part = 1; column = 2 }) ∷ []) ((rel_no 1) ∷
+            []) ((Const (record { part = 1; column = 1 }) Le (Int (pos 9))) ∷ [])) ∷ []);
+      }) ∷
       (record { name = []; tm = (tm_no 2); statements = ((Put (rel_no 1) ((Int (pos 11)) ∷ (Int (pos 1)) ∷ [])) ∷ []) }) ∷
       [];
   events =
@@ -60,8 +65,15 @@ log_of_not_rejected = extended 23 given_not_rejected []
 
 pub history_of_not_rejected :
     history log_of_not_rejected ≡
-    (1, Submission (txn_no 1)) ∷
-    (1, Start (txn_no 1) 1 (class_no 1) (time_at 65) (Some (time_at 63)) ((record { number = 1; rel = (rel_no 1); frags = ((frag_no 1) ∷ []); restrictions = ((record { column = 1; op = Le; value = (Int (pos 9)) }) ∷ []) }) ∷ [])) ∷
+    (1, Submission (txn_no 1)) ∷ (
+      1,
+      Start (txn_no 1) 1 (class_no 1) (time_at 65) (Some (time_at 63)) ((record {
+        number = 1;
+        rel = (rel_no 1);
+        frags = ((frag_no 1) ∷ []);
+        restrictions = ((record { column = 1; op = Le; value = (Int (pos 9)) }) ∷ []);
+      }) ∷ []),
+    ) ∷
     (2, Submission (txn_no 2)) ∷
     (2, Start (txn_no 2) 1 (class_no 2) (time_at 66) (Some (time_at 63)) []) ∷
     (2, Commit (txn_no 2) 1 (Rows []) ((record { frag = (frag_no 2); key = (pos 11); row = (Some ((Int (pos 11)) ∷ (Int (pos 1)) ∷ [])) }) ∷ []) 0 0) ∷
@@ -89,7 +101,15 @@ catalogue_of_not_held = record {
       (record { name = []; rel = (rel_no 1); least = (pos 10); greatest = (pos 9223372036854775807); copies = ((dm_no 1) ∷ []) }) ∷
       [];
   classes =
-      (record { name = []; tm = (tm_no 1); reads = ((record { fragment = (frag_no 1); at = (dm_no 1) }) ∷ (record { fragment = (frag_no 2); at = (dm_no 1) }) ∷ []); writes = [] }) ∷
+      (record {
+        name = [];
+        tm = (tm_no 1);
+        reads = ((record { fragment = (frag_no 1); at = (dm_no 1) }) ∷ (record {
+          fragment = (frag_no 2);
+          at = (dm_no 1);
+        }) ∷ []);
+        writes = [];
+      }) ∷
       (record { name = []; tm = (tm_no 2); reads = []; writes = ((frag_no 1) ∷ []) }) ∷
       (record { name = []; tm = (tm_no 3); reads = []; writes = ((frag_no 1) ∷ (frag_no 2) ∷ []) }) ∷
       [];
@@ -114,7 +134,12 @@ given_not_held = record {
       [];
   rows = ([] ∷ []);
   txns =
-      (record { name = []; tm = (tm_no 1); statements = ((Query ((record { part = 1; column = 2 }) ∷ []) ((rel_no 1) ∷ []) ((Const (record { part = 1; column = 1 }) Le (Int (pos 9))) ∷ [])) ∷ []) }) ∷
+      (record {
+        name = [];
+        tm = (tm_no 1);
+        statements = ((Query ((record { part = 1; column = 2 }) ∷ []) ((rel_no 1) ∷
+            []) ((Const (record { part = 1; column = 1 }) Le (Int (pos 9))) ∷ [])) ∷ []);
+      }) ∷
       (record { name = []; tm = (tm_no 3); statements = ((Put (rel_no 1) ((Int (pos 11)) ∷ (Int (pos 5)) ∷ [])) ∷ []) }) ∷
       [];
   events =
@@ -134,13 +159,23 @@ log_of_not_held = extended 23 given_not_held []
 
 pub history_of_not_held :
     history log_of_not_held ≡
-    (2, Submission (txn_no 1)) ∷
-    (2, Start (txn_no 1) 1 (class_no 1) (time_at 193) (Some (time_at 191)) ((record { number = 1; rel = (rel_no 1); frags = ((frag_no 1) ∷ []); restrictions = ((record { column = 1; op = Le; value = (Int (pos 9)) }) ∷ []) }) ∷ [])) ∷
+    (2, Submission (txn_no 1)) ∷ (
+      2,
+      Start (txn_no 1) 1 (class_no 1) (time_at 193) (Some (time_at 191)) ((record {
+        number = 1;
+        rel = (rel_no 1);
+        frags = ((frag_no 1) ∷ []);
+        restrictions = ((record { column = 1; op = Le; value = (Int (pos 9)) }) ∷ []);
+      }) ∷ []),
+    ) ∷
     (4, Submission (txn_no 2)) ∷
     (4, Start (txn_no 2) 1 (class_no 3) (time_at 259) (Some (time_at 255)) []) ∷
     (4, Commit (txn_no 2) 1 (Rows []) ((record { frag = (frag_no 2); key = (pos 11); row = (Some ((Int (pos 11)) ∷ (Int (pos 5)) ∷ [])) }) ∷ []) 0 0) ∷
-    (5, Arrive (txn_no 1) 1 (dm_no 1)) ∷
-    (5, Wait (txn_no 1) 1 (dm_no 1) ((record { class = (class_no 2); time = (time_at 191); frags = ((frag_no 1) ∷ []) }) ∷ (record { class = (class_no 3); time = (time_at 191); frags = ((frag_no 1) ∷ []) }) ∷ [])) ∷
+    (5, Arrive (txn_no 1) 1 (dm_no 1)) ∷ (
+      5,
+      Wait (txn_no 1) 1 (dm_no 1) ((record { class = (class_no 2); time = (time_at 191); frags = ((frag_no 1) ∷ []) }) ∷
+          (record { class = (class_no 3); time = (time_at 191); frags = ((frag_no 1) ∷ []) }) ∷ []),
+    ) ∷
     (6, Apply (txn_no 2) (class_no 3) (dm_no 1) (time_at 259)) ∷
     (8, Answer (txn_no 1) 1 (dm_no 1)) ∷
     (8, Pass (class_no 2) (dm_no 1) (time_at 191)) ∷

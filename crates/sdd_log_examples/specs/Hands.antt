@@ -15,7 +15,14 @@ catalogue_of_from_two_senders = record {
       (record { name = []; columns = ((record { name = []; kind = kinds.Int }) ∷ (record { name = []; kind = kinds.Int }) ∷ []); key = 1 }) ∷
       [];
   fragments =
-      (record { name = []; rel = (rel_no 1); least = (negsuc 9223372036854775807); greatest = (pos 9223372036854775807); copies = ((dm_no 1) ∷ (dm_no 2) ∷ []) }) ∷
+      (record {
+        name = [];
+        rel = (rel_no 1);
+        least = (negsuc 9223372036854775807);
+        greatest = (pos 9223372036854775807);
+        copies = ((dm_no 1) ∷
+            (dm_no 2) ∷ []);
+      }) ∷
       [];
   classes =
       (record { name = []; tm = (tm_no 1); reads = []; writes = ((frag_no 1) ∷ []) }) ∷
@@ -67,7 +74,8 @@ pub history_of_from_two_senders :
     []
 history_of_from_two_senders = refl
 
-pub all_of_from_two_senders : (next given_from_two_senders log_of_from_two_senders ≡ None) × (length log_of_from_two_senders ≡ 16) × (marks log_of_from_two_senders ≡ 6)
+pub all_of_from_two_senders : (next given_from_two_senders log_of_from_two_senders ≡ None) × (length log_of_from_two_senders ≡ 16)
+    × (marks log_of_from_two_senders ≡ 6)
 all_of_from_two_senders = (refl, refl, refl)
 
 -- two puts come at once: the first is applied before the second is handed over; an acknowledgement carries the greatest number up to which all came

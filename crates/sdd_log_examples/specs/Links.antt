@@ -36,7 +36,12 @@ given_put_and_query = record {
   rows = ([] ∷ []);
   txns =
       (record { name = []; tm = (tm_no 1); statements = ((Put (rel_no 1) ((Int (pos 5)) ∷ (Int (pos 10)) ∷ [])) ∷ []) }) ∷
-      (record { name = []; tm = (tm_no 1); statements = ((Query ((record { part = 1; column = 1 }) ∷ (record { part = 1; column = 2 }) ∷ []) ((rel_no 1) ∷ []) []) ∷ []) }) ∷
+      (record {
+        name = [];
+        tm = (tm_no 1);
+        statements = ((Query ((record { part = 1; column = 1 }) ∷ (record { part = 1; column = 2 }) ∷
+            []) ((rel_no 1) ∷ []) []) ∷ []);
+      }) ∷
       [];
   events =
       Submit (txn_no 1) ∷
@@ -53,8 +58,15 @@ pub history_of_put_and_query :
     (1, Submission (txn_no 1)) ∷
     (1, Start (txn_no 1) 1 (class_no 1) (time_at 65) (Some (time_at 63)) []) ∷
     (1, Commit (txn_no 1) 1 (Rows []) ((record { frag = (frag_no 1); key = (pos 5); row = (Some ((Int (pos 5)) ∷ (Int (pos 10)) ∷ [])) }) ∷ []) 0 0) ∷
-    (2, Submission (txn_no 2)) ∷
-    (2, Start (txn_no 2) 1 (class_no 1) (time_at 129) (Some (time_at 127)) ((record { number = 1; rel = (rel_no 1); frags = ((frag_no 1) ∷ []); restrictions = [] }) ∷ [])) ∷
+    (2, Submission (txn_no 2)) ∷ (
+      2,
+      Start (txn_no 2) 1 (class_no 1) (time_at 129) (Some (time_at 127)) ((record {
+        number = 1;
+        rel = (rel_no 1);
+        frags = ((frag_no 1) ∷ []);
+        restrictions = [];
+      }) ∷ []),
+    ) ∷
     (3, Apply (txn_no 1) (class_no 1) (dm_no 1) (time_at 65)) ∷
     (4, Arrive (txn_no 2) 1 (dm_no 1)) ∷
     (4, Answer (txn_no 2) 1 (dm_no 1)) ∷
@@ -129,7 +141,8 @@ pub history_of_lost_and_repeated :
     []
 history_of_lost_and_repeated = refl
 
-pub all_of_lost_and_repeated : (next given_lost_and_repeated log_of_lost_and_repeated ≡ None) × (length log_of_lost_and_repeated ≡ 21) × (marks log_of_lost_and_repeated ≡ 10)
+pub all_of_lost_and_repeated : (next given_lost_and_repeated log_of_lost_and_repeated ≡ None) × (length log_of_lost_and_repeated ≡ 21)
+    × (marks log_of_lost_and_repeated ≡ 10)
 all_of_lost_and_repeated = (refl, refl, refl)
 
 -- two puts of one item come to its two copies in different orders
@@ -142,7 +155,14 @@ catalogue_of_two_copies = record {
       (record { name = []; columns = ((record { name = []; kind = kinds.Int }) ∷ (record { name = []; kind = kinds.Int }) ∷ []); key = 1 }) ∷
       [];
   fragments =
-      (record { name = []; rel = (rel_no 1); least = (negsuc 9223372036854775807); greatest = (pos 9223372036854775807); copies = ((dm_no 1) ∷ (dm_no 2) ∷ []) }) ∷
+      (record {
+        name = [];
+        rel = (rel_no 1);
+        least = (negsuc 9223372036854775807);
+        greatest = (pos 9223372036854775807);
+        copies = ((dm_no 1) ∷
+            (dm_no 2) ∷ []);
+      }) ∷
       [];
   classes =
       (record { name = []; tm = (tm_no 1); reads = []; writes = ((frag_no 1) ∷ []) }) ∷

@@ -99,14 +99,25 @@ log_of_conditions_of_a_list = extended 9 given_conditions_of_a_list []
 
 pub history_of_conditions_of_a_list :
     history log_of_conditions_of_a_list ≡
-    (3, Submission (txn_no 2)) ∷
-    (3, Start (txn_no 2) 1 (class_no 2) (time_at 385) (Some (time_at 383)) ((record { number = 1; rel = (rel_no 1); frags = ((frag_no 1) ∷ []); restrictions = [] }) ∷ [])) ∷
-    (4, Arrive (txn_no 2) 1 (dm_no 1)) ∷
-    (4, Wait (txn_no 2) 1 (dm_no 1) ((record { class = (class_no 3); time = (time_at 383); frags = ((frag_no 1) ∷ []) }) ∷ (record { class = (class_no 4); time = (time_at 383); frags = ((frag_no 1) ∷ []) }) ∷ [])) ∷
+    (3, Submission (txn_no 2)) ∷ (
+      3,
+      Start (txn_no 2) 1 (class_no 2) (time_at 385) (Some (time_at 383)) ((record {
+        number = 1;
+        rel = (rel_no 1);
+        frags = ((frag_no 1) ∷ []);
+        restrictions = [];
+      }) ∷ []),
+    ) ∷
+    (4, Arrive (txn_no 2) 1 (dm_no 1)) ∷ (
+      4,
+      Wait (txn_no 2) 1 (dm_no 1) ((record { class = (class_no 3); time = (time_at 383); frags = ((frag_no 1) ∷ []) }) ∷
+          (record { class = (class_no 4); time = (time_at 383); frags = ((frag_no 1) ∷ []) }) ∷ []),
+    ) ∷
     []
 history_of_conditions_of_a_list = refl
 
-pub all_of_conditions_of_a_list : (next given_conditions_of_a_list log_of_conditions_of_a_list ≡ None) × (length log_of_conditions_of_a_list ≡ 9) × (marks log_of_conditions_of_a_list ≡ 4)
+pub all_of_conditions_of_a_list : (next given_conditions_of_a_list log_of_conditions_of_a_list ≡ None) × (length log_of_conditions_of_a_list ≡ 9)
+    × (marks log_of_conditions_of_a_list ≡ 4)
 all_of_conditions_of_a_list = (refl, refl, refl)
 
 -- an undeclared query waits for the classes of all lists
@@ -195,10 +206,14 @@ pub history_of_undeclared_before_a_list :
     history log_of_undeclared_before_a_list ≡
     (1, Submission (txn_no 1)) ∷
     (3, Start (txn_no 1) 1 (class_no 0) (time_at 64) None ((record { number = 1; rel = (rel_no 1); frags = ((frag_no 1) ∷ []); restrictions = [] }) ∷ [])) ∷
-    (4, Arrive (txn_no 1) 1 (dm_no 1)) ∷
-    (4, Wait (txn_no 1) 1 (dm_no 1) ((record { class = (class_no 1); time = (time_at 64); frags = ((frag_no 1) ∷ []) }) ∷ (record { class = (class_no 2); time = (time_at 64); frags = ((frag_no 1) ∷ []) }) ∷ [])) ∷
+    (4, Arrive (txn_no 1) 1 (dm_no 1)) ∷ (
+      4,
+      Wait (txn_no 1) 1 (dm_no 1) ((record { class = (class_no 1); time = (time_at 64); frags = ((frag_no 1) ∷ []) }) ∷
+          (record { class = (class_no 2); time = (time_at 64); frags = ((frag_no 1) ∷ []) }) ∷ []),
+    ) ∷
     []
 history_of_undeclared_before_a_list = refl
 
-pub all_of_undeclared_before_a_list : (next given_undeclared_before_a_list log_of_undeclared_before_a_list ≡ None) × (length log_of_undeclared_before_a_list ≡ 13) × (marks log_of_undeclared_before_a_list ≡ 4)
+pub all_of_undeclared_before_a_list : (next given_undeclared_before_a_list log_of_undeclared_before_a_list ≡ None)
+    × (length log_of_undeclared_before_a_list ≡ 13) × (marks log_of_undeclared_before_a_list ≡ 4)
 all_of_undeclared_before_a_list = (refl, refl, refl)

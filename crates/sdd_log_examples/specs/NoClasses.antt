@@ -69,5 +69,6 @@ pub history_of_released_without_classes :
     []
 history_of_released_without_classes = refl
 
-pub all_of_released_without_classes : (next given_released_without_classes log_of_released_without_classes ≡ None) × (length log_of_released_without_classes ≡ 89) × (marks log_of_released_without_classes ≡ 36)
+pub all_of_released_without_classes : (next given_released_without_classes log_of_released_without_classes ≡ None)
+    × (length log_of_released_without_classes ≡ 89) × (marks log_of_released_without_classes ≡ 36)
 all_of_released_without_classes = (refl, refl, refl)

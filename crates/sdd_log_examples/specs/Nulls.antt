@@ -40,8 +40,18 @@ given_null_before_start = record {
       [];
   rows = ([] ∷ []);
   txns =
-      (record { name = []; tm = (tm_no 1); statements = ((Query ((record { part = 1; column = 2 }) ∷ []) ((rel_no 1) ∷ []) ((Const (record { part = 1; column = 1 }) Le (Int (pos 9))) ∷ [])) ∷ (Put (rel_no 1) ((Int (pos 11)) ∷ (Int (pos 1)) ∷ [])) ∷ []) }) ∷
-      (record { name = []; tm = (tm_no 2); statements = ((Query ((record { part = 1; column = 2 }) ∷ []) ((rel_no 1) ∷ []) ((Const (record { part = 1; column = 1 }) Ge (Int (pos 10))) ∷ [])) ∷ []) }) ∷
+      (record {
+        name = [];
+        tm = (tm_no 1);
+        statements = ((Query ((record { part = 1; column = 2 }) ∷ []) ((rel_no 1) ∷
+            []) ((Const (record { part = 1; column = 1 }) Le (Int (pos 9))) ∷ [])) ∷ (Put (rel_no 1) ((Int (pos 11)) ∷ (Int (pos 1)) ∷ [])) ∷ []);
+      }) ∷
+      (record {
+        name = [];
+        tm = (tm_no 2);
+        statements = ((Query ((record { part = 1; column = 2 }) ∷ []) ((rel_no 1) ∷
+            []) ((Const (record { part = 1; column = 1 }) Ge (Int (pos 10))) ∷ [])) ∷ []);
+      }) ∷
       (record { name = []; tm = (tm_no 1); statements = ((Put (rel_no 1) ((Int (pos 12)) ∷ (Int (pos 1)) ∷ [])) ∷ []) }) ∷
       [];
   events =
@@ -63,11 +73,25 @@ log_of_null_before_start = extended 70 given_null_before_start []
 
 pub history_of_null_before_start :
     history log_of_null_before_start ≡
-    (1, Submission (txn_no 1)) ∷
-    (1, Start (txn_no 1) 1 (class_no 1) (time_at 65) (Some (time_at 63)) ((record { number = 1; rel = (rel_no 1); frags = ((frag_no 1) ∷ []); restrictions = ((record { column = 1; op = Le; value = (Int (pos 9)) }) ∷ []) }) ∷ [])) ∷
+    (1, Submission (txn_no 1)) ∷ (
+      1,
+      Start (txn_no 1) 1 (class_no 1) (time_at 65) (Some (time_at 63)) ((record {
+        number = 1;
+        rel = (rel_no 1);
+        frags = ((frag_no 1) ∷ []);
+        restrictions = ((record { column = 1; op = Le; value = (Int (pos 9)) }) ∷ []);
+      }) ∷ []),
+    ) ∷
     (2, Submission (txn_no 3)) ∷
-    (3, Submission (txn_no 2)) ∷
-    (3, Start (txn_no 2) 1 (class_no 2) (time_at 66) (Some (time_at 63)) ((record { number = 1; rel = (rel_no 1); frags = ((frag_no 2) ∷ []); restrictions = ((record { column = 1; op = Ge; value = (Int (pos 10)) }) ∷ []) }) ∷ [])) ∷
+    (3, Submission (txn_no 2)) ∷ (
+      3,
+      Start (txn_no 2) 1 (class_no 2) (time_at 66) (Some (time_at 63)) ((record {
+        number = 1;
+        rel = (rel_no 1);
+        frags = ((frag_no 2) ∷ []);
+        restrictions = ((record { column = 1; op = Ge; value = (Int (pos 10)) }) ∷ []);
+      }) ∷ []),
+    ) ∷
     (4, Arrive (txn_no 2) 1 (dm_no 1)) ∷
     (4, Wait (txn_no 2) 1 (dm_no 1) ((record { class = (class_no 1); time = (time_at 66); frags = ((frag_no 2) ∷ []) }) ∷ [])) ∷
     (6, Arrive (txn_no 1) 1 (dm_no 1)) ∷
@@ -84,5 +108,6 @@ pub history_of_null_before_start :
     []
 history_of_null_before_start = refl
 
-pub all_of_null_before_start : (next given_null_before_start log_of_null_before_start ≡ None) × (length log_of_null_before_start ≡ 70) × (marks log_of_null_before_start ≡ 28)
+pub all_of_null_before_start : (next given_null_before_start log_of_null_before_start ≡ None) × (length log_of_null_before_start ≡ 70)
+    × (marks log_of_null_before_start ≡ 28)
 all_of_null_before_start = (refl, refl, refl)

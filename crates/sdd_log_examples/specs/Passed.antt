@@ -43,8 +43,18 @@ given_passed_by_a_read = record {
       [];
   rows = ([] ∷ []);
   txns =
-      (record { name = []; tm = (tm_no 2); statements = ((Query ((record { part = 1; column = 2 }) ∷ []) ((rel_no 1) ∷ []) ((Const (record { part = 1; column = 1 }) Ge (Int (pos 10))) ∷ [])) ∷ []) }) ∷
-      (record { name = []; tm = (tm_no 1); statements = ((Query ((record { part = 1; column = 2 }) ∷ []) ((rel_no 1) ∷ []) ((Const (record { part = 1; column = 1 }) Le (Int (pos 9))) ∷ [])) ∷ []) }) ∷
+      (record {
+        name = [];
+        tm = (tm_no 2);
+        statements = ((Query ((record { part = 1; column = 2 }) ∷ []) ((rel_no 1) ∷
+            []) ((Const (record { part = 1; column = 1 }) Ge (Int (pos 10))) ∷ [])) ∷ []);
+      }) ∷
+      (record {
+        name = [];
+        tm = (tm_no 1);
+        statements = ((Query ((record { part = 1; column = 2 }) ∷ []) ((rel_no 1) ∷
+            []) ((Const (record { part = 1; column = 1 }) Le (Int (pos 9))) ∷ [])) ∷ []);
+      }) ∷
       [];
   events =
       Submit (txn_no 1) ∷
@@ -61,12 +71,26 @@ log_of_passed_by_a_read = extended 21 given_passed_by_a_read []
 
 pub history_of_passed_by_a_read :
     history log_of_passed_by_a_read ≡
-    (1, Submission (txn_no 1)) ∷
-    (1, Start (txn_no 1) 1 (class_no 2) (time_at 66) (Some (time_at 63)) ((record { number = 1; rel = (rel_no 1); frags = ((frag_no 2) ∷ []); restrictions = ((record { column = 1; op = Ge; value = (Int (pos 10)) }) ∷ []) }) ∷ [])) ∷
+    (1, Submission (txn_no 1)) ∷ (
+      1,
+      Start (txn_no 1) 1 (class_no 2) (time_at 66) (Some (time_at 63)) ((record {
+        number = 1;
+        rel = (rel_no 1);
+        frags = ((frag_no 2) ∷ []);
+        restrictions = ((record { column = 1; op = Ge; value = (Int (pos 10)) }) ∷ []);
+      }) ∷ []),
+    ) ∷
     (2, Arrive (txn_no 1) 1 (dm_no 1)) ∷
     (2, Answer (txn_no 1) 1 (dm_no 1)) ∷
-    (3, Submission (txn_no 2)) ∷
-    (3, Start (txn_no 2) 1 (class_no 1) (time_at 65) (Some (time_at 63)) ((record { number = 1; rel = (rel_no 1); frags = ((frag_no 1) ∷ []); restrictions = ((record { column = 1; op = Le; value = (Int (pos 9)) }) ∷ []) }) ∷ [])) ∷
+    (3, Submission (txn_no 2)) ∷ (
+      3,
+      Start (txn_no 2) 1 (class_no 1) (time_at 65) (Some (time_at 63)) ((record {
+        number = 1;
+        rel = (rel_no 1);
+        frags = ((frag_no 1) ∷ []);
+        restrictions = ((record { column = 1; op = Le; value = (Int (pos 9)) }) ∷ []);
+      }) ∷ []),
+    ) ∷
     (4, Arrive (txn_no 2) 1 (dm_no 1)) ∷
     (4, Wait (txn_no 2) 1 (dm_no 1) ((record { class = (class_no 3); time = (time_at 63); frags = ((frag_no 1) ∷ []) }) ∷ [])) ∷
     (6, Answer (txn_no 2) 1 (dm_no 1)) ∷
@@ -74,7 +98,8 @@ pub history_of_passed_by_a_read :
     []
 history_of_passed_by_a_read = refl
 
-pub all_of_passed_by_a_read : (next given_passed_by_a_read log_of_passed_by_a_read ≡ None) × (length log_of_passed_by_a_read ≡ 21) × (marks log_of_passed_by_a_read ≡ 6)
+pub all_of_passed_by_a_read : (next given_passed_by_a_read log_of_passed_by_a_read ≡ None) × (length log_of_passed_by_a_read ≡ 21)
+    × (marks log_of_passed_by_a_read ≡ 6)
 all_of_passed_by_a_read = (refl, refl, refl)
 
 -- a query that waits for two classes asks both
@@ -131,10 +156,20 @@ log_of_asks_two = extended 20 given_asks_two []
 
 pub history_of_asks_two :
     history log_of_asks_two ≡
-    (1, Submission (txn_no 1)) ∷
-    (1, Start (txn_no 1) 1 (class_no 1) (time_at 65) (Some (time_at 63)) ((record { number = 1; rel = (rel_no 1); frags = ((frag_no 1) ∷ []); restrictions = [] }) ∷ [])) ∷
-    (2, Arrive (txn_no 1) 1 (dm_no 1)) ∷
-    (2, Wait (txn_no 1) 1 (dm_no 1) ((record { class = (class_no 2); time = (time_at 63); frags = ((frag_no 1) ∷ []) }) ∷ (record { class = (class_no 3); time = (time_at 63); frags = ((frag_no 1) ∷ []) }) ∷ [])) ∷
+    (1, Submission (txn_no 1)) ∷ (
+      1,
+      Start (txn_no 1) 1 (class_no 1) (time_at 65) (Some (time_at 63)) ((record {
+        number = 1;
+        rel = (rel_no 1);
+        frags = ((frag_no 1) ∷ []);
+        restrictions = [];
+      }) ∷ []),
+    ) ∷
+    (2, Arrive (txn_no 1) 1 (dm_no 1)) ∷ (
+      2,
+      Wait (txn_no 1) 1 (dm_no 1) ((record { class = (class_no 2); time = (time_at 63); frags = ((frag_no 1) ∷ []) }) ∷
+          (record { class = (class_no 3); time = (time_at 63); frags = ((frag_no 1) ∷ []) }) ∷ []),
+    ) ∷
     (4, Pass (class_no 2) (dm_no 1) (time_at 63)) ∷
     (6, Answer (txn_no 1) 1 (dm_no 1)) ∷
     (6, Pass (class_no 3) (dm_no 1) (time_at 63)) ∷
@@ -179,8 +214,18 @@ given_asked_while_active = record {
       [];
   rows = ([] ∷ []);
   txns =
-      (record { name = []; tm = (tm_no 1); statements = ((Query ((record { part = 1; column = 2 }) ∷ []) ((rel_no 1) ∷ []) ((Const (record { part = 1; column = 1 }) Le (Int (pos 9))) ∷ [])) ∷ []) }) ∷
-      (record { name = []; tm = (tm_no 2); statements = ((Query ((record { part = 1; column = 2 }) ∷ []) ((rel_no 1) ∷ []) ((Const (record { part = 1; column = 1 }) Ge (Int (pos 10))) ∷ [])) ∷ []) }) ∷
+      (record {
+        name = [];
+        tm = (tm_no 1);
+        statements = ((Query ((record { part = 1; column = 2 }) ∷ []) ((rel_no 1) ∷
+            []) ((Const (record { part = 1; column = 1 }) Le (Int (pos 9))) ∷ [])) ∷ []);
+      }) ∷
+      (record {
+        name = [];
+        tm = (tm_no 2);
+        statements = ((Query ((record { part = 1; column = 2 }) ∷ []) ((rel_no 1) ∷
+            []) ((Const (record { part = 1; column = 1 }) Ge (Int (pos 10))) ∷ [])) ∷ []);
+      }) ∷
       [];
   events =
       Submit (txn_no 1) ∷
@@ -202,10 +247,24 @@ log_of_asked_while_active = extended 37 given_asked_while_active []
 
 pub history_of_asked_while_active :
     history log_of_asked_while_active ≡
-    (1, Submission (txn_no 1)) ∷
-    (1, Start (txn_no 1) 1 (class_no 1) (time_at 65) (Some (time_at 63)) ((record { number = 1; rel = (rel_no 1); frags = ((frag_no 1) ∷ []); restrictions = ((record { column = 1; op = Le; value = (Int (pos 9)) }) ∷ []) }) ∷ [])) ∷
-    (2, Submission (txn_no 2)) ∷
-    (2, Start (txn_no 2) 1 (class_no 2) (time_at 66) (Some (time_at 63)) ((record { number = 1; rel = (rel_no 1); frags = ((frag_no 2) ∷ []); restrictions = ((record { column = 1; op = Ge; value = (Int (pos 10)) }) ∷ []) }) ∷ [])) ∷
+    (1, Submission (txn_no 1)) ∷ (
+      1,
+      Start (txn_no 1) 1 (class_no 1) (time_at 65) (Some (time_at 63)) ((record {
+        number = 1;
+        rel = (rel_no 1);
+        frags = ((frag_no 1) ∷ []);
+        restrictions = ((record { column = 1; op = Le; value = (Int (pos 9)) }) ∷ []);
+      }) ∷ []),
+    ) ∷
+    (2, Submission (txn_no 2)) ∷ (
+      2,
+      Start (txn_no 2) 1 (class_no 2) (time_at 66) (Some (time_at 63)) ((record {
+        number = 1;
+        rel = (rel_no 1);
+        frags = ((frag_no 2) ∷ []);
+        restrictions = ((record { column = 1; op = Ge; value = (Int (pos 10)) }) ∷ []);
+      }) ∷ []),
+    ) ∷
     (3, Arrive (txn_no 1) 1 (dm_no 1)) ∷
     (3, Wait (txn_no 1) 1 (dm_no 1) ((record { class = (class_no 2); time = (time_at 65); frags = ((frag_no 1) ∷ []) }) ∷ [])) ∷
     (5, Arrive (txn_no 2) 1 (dm_no 1)) ∷
@@ -218,5 +277,6 @@ pub history_of_asked_while_active :
     []
 history_of_asked_while_active = refl
 
-pub all_of_asked_while_active : (next given_asked_while_active log_of_asked_while_active ≡ None) × (length log_of_asked_while_active ≡ 37) × (marks log_of_asked_while_active ≡ 11)
+pub all_of_asked_while_active : (next given_asked_while_active log_of_asked_while_active ≡ None) × (length log_of_asked_while_active ≡ 37)
+    × (marks log_of_asked_while_active ≡ 11)
 all_of_asked_while_active = (refl, refl, refl)

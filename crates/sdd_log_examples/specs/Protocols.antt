@@ -40,7 +40,12 @@ given_reads_before = record {
   rows = ([] ∷ []);
   txns =
       (record { name = []; tm = (tm_no 1); statements = ((Put (rel_no 1) ((Int (pos 1)) ∷ (Int (pos 7)) ∷ [])) ∷ []) }) ∷
-      (record { name = []; tm = (tm_no 2); statements = ((Query ((record { part = 1; column = 2 }) ∷ []) ((rel_no 1) ∷ []) ((Const (record { part = 1; column = 1 }) Le (Int (pos 9))) ∷ [])) ∷ []) }) ∷
+      (record {
+        name = [];
+        tm = (tm_no 2);
+        statements = ((Query ((record { part = 1; column = 2 }) ∷ []) ((rel_no 1) ∷
+            []) ((Const (record { part = 1; column = 1 }) Le (Int (pos 9))) ∷ [])) ∷ []);
+      }) ∷
       [];
   events =
       Submit (txn_no 1) ∷
@@ -62,8 +67,15 @@ pub history_of_reads_before :
     (1, Submission (txn_no 1)) ∷
     (1, Start (txn_no 1) 1 (class_no 1) (time_at 65) (Some (time_at 63)) []) ∷
     (1, Commit (txn_no 1) 1 (Rows []) ((record { frag = (frag_no 1); key = (pos 1); row = (Some ((Int (pos 1)) ∷ (Int (pos 7)) ∷ [])) }) ∷ []) 0 0) ∷
-    (3, Submission (txn_no 2)) ∷
-    (3, Start (txn_no 2) 1 (class_no 2) (time_at 386) (Some (time_at 383)) ((record { number = 1; rel = (rel_no 1); frags = ((frag_no 1) ∷ []); restrictions = ((record { column = 1; op = Le; value = (Int (pos 9)) }) ∷ []) }) ∷ [])) ∷
+    (3, Submission (txn_no 2)) ∷ (
+      3,
+      Start (txn_no 2) 1 (class_no 2) (time_at 386) (Some (time_at 383)) ((record {
+        number = 1;
+        rel = (rel_no 1);
+        frags = ((frag_no 1) ∷ []);
+        restrictions = ((record { column = 1; op = Le; value = (Int (pos 9)) }) ∷ []);
+      }) ∷ []),
+    ) ∷
     (4, Arrive (txn_no 2) 1 (dm_no 1)) ∷
     (4, Answer (txn_no 2) 1 (dm_no 1)) ∷
     (7, Commit (txn_no 2) 1 (Rows ([] ∷ [])) [] 0 0) ∷
@@ -89,7 +101,15 @@ catalogue_of_one_time_at_two = record {
       [];
   classes =
       (record { name = []; tm = (tm_no 1); reads = []; writes = ((frag_no 1) ∷ (frag_no 2) ∷ []) }) ∷
-      (record { name = []; tm = (tm_no 2); reads = ((record { fragment = (frag_no 1); at = (dm_no 1) }) ∷ (record { fragment = (frag_no 2); at = (dm_no 2) }) ∷ []); writes = [] }) ∷
+      (record {
+        name = [];
+        tm = (tm_no 2);
+        reads = ((record { fragment = (frag_no 1); at = (dm_no 1) }) ∷ (record {
+          fragment = (frag_no 2);
+          at = (dm_no 2);
+        }) ∷ []);
+        writes = [];
+      }) ∷
       [];
 }
 
@@ -107,10 +127,21 @@ given_one_time_at_two = record {
             [];
       }) ∷
       [];
-  rows = ((((rel_no 1), ((Int (pos 1)) ∷ (Int (pos 0)) ∷ [])) ∷ ((rel_no 1), ((Int (pos 11)) ∷ (Int (pos 0)) ∷ [])) ∷ []) ∷ (((rel_no 1), ((Int (pos 1)) ∷ (Int (pos 0)) ∷ [])) ∷ ((rel_no 1), ((Int (pos 11)) ∷ (Int (pos 0)) ∷ [])) ∷ []) ∷ []);
+  rows = ((((rel_no 1), ((Int (pos 1)) ∷ (Int (pos 0)) ∷ [])) ∷ ((rel_no 1), ((Int (pos 11)) ∷ (Int (pos 0)) ∷ [])) ∷ []) ∷
+      (((rel_no 1), ((Int (pos 1)) ∷ (Int (pos 0)) ∷ [])) ∷ ((rel_no 1), ((Int (pos 11)) ∷ (Int (pos 0)) ∷ [])) ∷ []) ∷ []);
   txns =
-      (record { name = []; tm = (tm_no 1); statements = ((Put (rel_no 1) ((Int (pos 1)) ∷ (Int (pos 7)) ∷ [])) ∷ (Put (rel_no 1) ((Int (pos 11)) ∷ (Int (pos 7)) ∷ [])) ∷ []) }) ∷
-      (record { name = []; tm = (tm_no 2); statements = ((Query ((record { part = 1; column = 1 }) ∷ (record { part = 1; column = 2 }) ∷ []) ((rel_no 1) ∷ []) []) ∷ []) }) ∷
+      (record {
+        name = [];
+        tm = (tm_no 1);
+        statements = ((Put (rel_no 1) ((Int (pos 1)) ∷ (Int (pos 7)) ∷ [])) ∷ (Put (rel_no 1) ((Int (pos 11)) ∷
+            (Int (pos 7)) ∷ [])) ∷ []);
+      }) ∷
+      (record {
+        name = [];
+        tm = (tm_no 2);
+        statements = ((Query ((record { part = 1; column = 1 }) ∷ (record { part = 1; column = 2 }) ∷
+            []) ((rel_no 1) ∷ []) []) ∷ []);
+      }) ∷
       [];
   events =
       Submit (txn_no 1) ∷
@@ -129,10 +160,21 @@ log_of_one_time_at_two = extended 73 given_one_time_at_two []
 pub history_of_one_time_at_two :
     history log_of_one_time_at_two ≡
     (1, Submission (txn_no 1)) ∷
-    (1, Start (txn_no 1) 1 (class_no 1) (time_at 65) (Some (time_at 63)) []) ∷
-    (1, Commit (txn_no 1) 1 (Rows []) ((record { frag = (frag_no 1); key = (pos 1); row = (Some ((Int (pos 1)) ∷ (Int (pos 7)) ∷ [])) }) ∷ (record { frag = (frag_no 2); key = (pos 11); row = (Some ((Int (pos 11)) ∷ (Int (pos 7)) ∷ [])) }) ∷ []) 0 0) ∷
-    (3, Submission (txn_no 2)) ∷
-    (3, Start (txn_no 2) 1 (class_no 2) (time_at 258) (Some (time_at 255)) ((record { number = 1; rel = (rel_no 1); frags = ((frag_no 1) ∷ (frag_no 2) ∷ []); restrictions = [] }) ∷ [])) ∷
+    (1, Start (txn_no 1) 1 (class_no 1) (time_at 65) (Some (time_at 63)) []) ∷ (
+      1,
+      Commit (txn_no 1) 1 (Rows []) ((record { frag = (frag_no 1); key = (pos 1); row = (Some ((Int (pos 1)) ∷ (Int (pos 7)) ∷ [])) }) ∷
+          (record { frag = (frag_no 2); key = (pos 11); row = (Some ((Int (pos 11)) ∷ (Int (pos 7)) ∷ [])) }) ∷ []) 0 0,
+    ) ∷
+    (3, Submission (txn_no 2)) ∷ (
+      3,
+      Start (txn_no 2) 1 (class_no 2) (time_at 258) (Some (time_at 255)) ((record {
+        number = 1;
+        rel = (rel_no 1);
+        frags = ((frag_no 1) ∷
+            (frag_no 2) ∷ []);
+        restrictions = [];
+      }) ∷ []),
+    ) ∷
     (4, Apply (txn_no 1) (class_no 1) (dm_no 1) (time_at 65)) ∷
     (5, Arrive (txn_no 2) 1 (dm_no 1)) ∷
     (5, Wait (txn_no 2) 1 (dm_no 1) ((record { class = (class_no 1); time = (time_at 255); frags = ((frag_no 1) ∷ []) }) ∷ [])) ∷
@@ -147,7 +189,8 @@ pub history_of_one_time_at_two :
     []
 history_of_one_time_at_two = refl
 
-pub all_of_one_time_at_two : (next given_one_time_at_two log_of_one_time_at_two ≡ None) × (length log_of_one_time_at_two ≡ 73) × (marks log_of_one_time_at_two ≡ 31)
+pub all_of_one_time_at_two : (next given_one_time_at_two log_of_one_time_at_two ≡ None) × (length log_of_one_time_at_two ≡ 73)
+    × (marks log_of_one_time_at_two ≡ 31)
 all_of_one_time_at_two = (refl, refl, refl)
 
 -- by P3 a query waits up to its own timestamp
@@ -185,8 +228,18 @@ given_up_to_its_own_time = record {
       [];
   rows = ([] ∷ []);
   txns =
-      (record { name = []; tm = (tm_no 1); statements = ((Query ((record { part = 1; column = 2 }) ∷ []) ((rel_no 1) ∷ []) ((Const (record { part = 1; column = 1 }) Le (Int (pos 9))) ∷ [])) ∷ (Put (rel_no 1) ((Int (pos 11)) ∷ (Int (pos 1)) ∷ [])) ∷ []) }) ∷
-      (record { name = []; tm = (tm_no 2); statements = ((Query ((record { part = 1; column = 2 }) ∷ []) ((rel_no 1) ∷ []) ((Const (record { part = 1; column = 1 }) Ge (Int (pos 10))) ∷ [])) ∷ (Put (rel_no 1) ((Int (pos 1)) ∷ (Int (pos 1)) ∷ [])) ∷ []) }) ∷
+      (record {
+        name = [];
+        tm = (tm_no 1);
+        statements = ((Query ((record { part = 1; column = 2 }) ∷ []) ((rel_no 1) ∷
+            []) ((Const (record { part = 1; column = 1 }) Le (Int (pos 9))) ∷ [])) ∷ (Put (rel_no 1) ((Int (pos 11)) ∷ (Int (pos 1)) ∷ [])) ∷ []);
+      }) ∷
+      (record {
+        name = [];
+        tm = (tm_no 2);
+        statements = ((Query ((record { part = 1; column = 2 }) ∷ []) ((rel_no 1) ∷
+            []) ((Const (record { part = 1; column = 1 }) Ge (Int (pos 10))) ∷ [])) ∷ (Put (rel_no 1) ((Int (pos 1)) ∷ (Int (pos 1)) ∷ [])) ∷ []);
+      }) ∷
       [];
   events =
       Submit (txn_no 1) ∷
@@ -210,10 +263,24 @@ log_of_up_to_its_own_time = extended 42 given_up_to_its_own_time []
 
 pub history_of_up_to_its_own_time :
     history log_of_up_to_its_own_time ≡
-    (1, Submission (txn_no 1)) ∷
-    (1, Start (txn_no 1) 1 (class_no 1) (time_at 65) (Some (time_at 63)) ((record { number = 1; rel = (rel_no 1); frags = ((frag_no 1) ∷ []); restrictions = ((record { column = 1; op = Le; value = (Int (pos 9)) }) ∷ []) }) ∷ [])) ∷
-    (2, Submission (txn_no 2)) ∷
-    (2, Start (txn_no 2) 1 (class_no 2) (time_at 66) (Some (time_at 63)) ((record { number = 1; rel = (rel_no 1); frags = ((frag_no 2) ∷ []); restrictions = ((record { column = 1; op = Ge; value = (Int (pos 10)) }) ∷ []) }) ∷ [])) ∷
+    (1, Submission (txn_no 1)) ∷ (
+      1,
+      Start (txn_no 1) 1 (class_no 1) (time_at 65) (Some (time_at 63)) ((record {
+        number = 1;
+        rel = (rel_no 1);
+        frags = ((frag_no 1) ∷ []);
+        restrictions = ((record { column = 1; op = Le; value = (Int (pos 9)) }) ∷ []);
+      }) ∷ []),
+    ) ∷
+    (2, Submission (txn_no 2)) ∷ (
+      2,
+      Start (txn_no 2) 1 (class_no 2) (time_at 66) (Some (time_at 63)) ((record {
+        number = 1;
+        rel = (rel_no 1);
+        frags = ((frag_no 2) ∷ []);
+        restrictions = ((record { column = 1; op = Ge; value = (Int (pos 10)) }) ∷ []);
+      }) ∷ []),
+    ) ∷
     (3, Arrive (txn_no 2) 1 (dm_no 1)) ∷
     (3, Wait (txn_no 2) 1 (dm_no 1) ((record { class = (class_no 1); time = (time_at 66); frags = ((frag_no 2) ∷ []) }) ∷ [])) ∷
     (5, Arrive (txn_no 1) 1 (dm_no 1)) ∷
@@ -221,10 +288,18 @@ pub history_of_up_to_its_own_time :
     (8, Commit (txn_no 1) 1 (Rows ([] ∷ [])) ((record { frag = (frag_no 2); key = (pos 11); row = (Some ((Int (pos 11)) ∷ (Int (pos 1)) ∷ [])) }) ∷ []) 0 0) ∷
     (9, Apply (txn_no 1) (class_no 1) (dm_no 1) (time_at 65)) ∷
     (10, Pass (class_no 1) (dm_no 1) (time_at 127)) ∷
-    (10, Answer (txn_no 2) 1 (dm_no 1)) ∷
-    (13, Commit (txn_no 2) 1 (Rows ((((Int (pos 1)) ∷ []) ∷ []) ∷ [])) ((record { frag = (frag_no 1); key = (pos 1); row = (Some ((Int (pos 1)) ∷ (Int (pos 1)) ∷ [])) }) ∷ []) 0 1) ∷
+    (10, Answer (txn_no 2) 1 (dm_no 1)) ∷ (
+      13,
+      Commit (txn_no 2) 1 (Rows ((((Int (pos 1)) ∷ []) ∷ []) ∷ [])) ((record {
+        frag = (frag_no 1);
+        key = (pos 1);
+        row = (Some ((Int (pos 1)) ∷
+            (Int (pos 1)) ∷ []));
+      }) ∷ []) 0 1,
+    ) ∷
     []
 history_of_up_to_its_own_time = refl
 
-pub all_of_up_to_its_own_time : (next given_up_to_its_own_time log_of_up_to_its_own_time ≡ None) × (length log_of_up_to_its_own_time ≡ 42) × (marks log_of_up_to_its_own_time ≡ 13)
+pub all_of_up_to_its_own_time : (next given_up_to_its_own_time log_of_up_to_its_own_time ≡ None) × (length log_of_up_to_its_own_time ≡ 42)
+    × (marks log_of_up_to_its_own_time ≡ 13)
 all_of_up_to_its_own_time = (refl, refl, refl)

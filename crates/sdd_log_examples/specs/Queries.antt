@@ -48,8 +48,15 @@ log_of_overflow = extended 25 given_overflow []
 
 pub history_of_overflow :
     history log_of_overflow ≡
-    (1, Submission (txn_no 1)) ∷
-    (1, Start (txn_no 1) 1 (class_no 1) (time_at 65) (Some (time_at 63)) ((record { number = 1; rel = (rel_no 1); frags = ((frag_no 1) ∷ []); restrictions = [] }) ∷ [])) ∷
+    (1, Submission (txn_no 1)) ∷ (
+      1,
+      Start (txn_no 1) 1 (class_no 1) (time_at 65) (Some (time_at 63)) ((record {
+        number = 1;
+        rel = (rel_no 1);
+        frags = ((frag_no 1) ∷ []);
+        restrictions = [];
+      }) ∷ []),
+    ) ∷
     (2, Arrive (txn_no 1) 1 (dm_no 1)) ∷
     (2, Answer (txn_no 1) 1 (dm_no 1)) ∷
     (8, Commit (txn_no 1) 1 Overflow [] 0 1) ∷
@@ -76,7 +83,15 @@ catalogue_of_two_steps = record {
       (record { name = []; rel = (rel_no 3); least = (negsuc 9223372036854775807); greatest = (pos 9223372036854775807); copies = ((dm_no 3) ∷ []) }) ∷
       [];
   classes =
-      (record { name = []; tm = (tm_no 1); reads = ((record { fragment = (frag_no 1); at = (dm_no 1) }) ∷ (record { fragment = (frag_no 2); at = (dm_no 2) }) ∷ (record { fragment = (frag_no 3); at = (dm_no 3) }) ∷ []); writes = [] }) ∷
+      (record {
+        name = [];
+        tm = (tm_no 1);
+        reads = ((record { fragment = (frag_no 1); at = (dm_no 1) }) ∷ (record {
+          fragment = (frag_no 2);
+          at = (dm_no 2);
+        }) ∷ (record { fragment = (frag_no 3); at = (dm_no 3) }) ∷ []);
+        writes = [];
+      }) ∷
       [];
 }
 
@@ -91,9 +106,37 @@ given_two_steps = record {
             [];
       }) ∷
       [];
-  rows = ((((rel_no 1), ((Int (pos 1)) ∷ (Int (pos 1)) ∷ [])) ∷ ((rel_no 1), ((Int (pos 2)) ∷ (Int (pos 2)) ∷ [])) ∷ ((rel_no 1), ((Int (pos 3)) ∷ (Int (pos 3)) ∷ [])) ∷ ((rel_no 1), ((Int (pos 4)) ∷ (Int (pos 4)) ∷ [])) ∷ ((rel_no 2), ((Int (pos 1)) ∷ (Int (pos 1)) ∷ [])) ∷ ((rel_no 2), ((Int (pos 2)) ∷ (Int (pos 2)) ∷ [])) ∷ ((rel_no 3), ((Int (pos 1)) ∷ (Int (pos 0)) ∷ [])) ∷ []) ∷ (((rel_no 1), ((Int (pos 1)) ∷ (Int (pos 1)) ∷ [])) ∷ ((rel_no 1), ((Int (pos 2)) ∷ (Int (pos 2)) ∷ [])) ∷ ((rel_no 1), ((Int (pos 3)) ∷ (Int (pos 3)) ∷ [])) ∷ ((rel_no 1), ((Int (pos 4)) ∷ (Int (pos 4)) ∷ [])) ∷ ((rel_no 2), ((Int (pos 1)) ∷ (Int (pos 1)) ∷ [])) ∷ ((rel_no 2), ((Int (pos 2)) ∷ (Int (pos 2)) ∷ [])) ∷ ((rel_no 3), ((Int (pos 1)) ∷ (Int (pos 0)) ∷ [])) ∷ []) ∷ (((rel_no 1), ((Int (pos 1)) ∷ (Int (pos 1)) ∷ [])) ∷ ((rel_no 1), ((Int (pos 2)) ∷ (Int (pos 2)) ∷ [])) ∷ ((rel_no 1), ((Int (pos 3)) ∷ (Int (pos 3)) ∷ [])) ∷ ((rel_no 1), ((Int (pos 4)) ∷ (Int (pos 4)) ∷ [])) ∷ ((rel_no 2), ((Int (pos 1)) ∷ (Int (pos 1)) ∷ [])) ∷ ((rel_no 2), ((Int (pos 2)) ∷ (Int (pos 2)) ∷ [])) ∷ ((rel_no 3), ((Int (pos 1)) ∷ (Int (pos 0)) ∷ [])) ∷ []) ∷ []);
+  rows = ((((rel_no 1), ((Int (pos 1)) ∷ (Int (pos 1)) ∷ [])) ∷ ((rel_no 1), ((Int (pos 2)) ∷ (Int (pos 2)) ∷ [])) ∷ (
+    (rel_no 1),
+    ((Int (pos 3)) ∷
+        (Int (pos 3)) ∷ []),
+  ) ∷ ((rel_no 1), ((Int (pos 4)) ∷ (Int (pos 4)) ∷ [])) ∷ ((rel_no 2), ((Int (pos 1)) ∷ (Int (pos 1)) ∷ [])) ∷
+      ((rel_no 2), ((Int (pos 2)) ∷ (Int (pos 2)) ∷ [])) ∷ ((rel_no 3), ((Int (pos 1)) ∷ (Int (pos 0)) ∷ [])) ∷ []) ∷ ((
+        (rel_no 1),
+        ((Int (pos 1)) ∷
+            (Int (pos 1)) ∷ []),
+      ) ∷ ((rel_no 1), ((Int (pos 2)) ∷ (Int (pos 2)) ∷ [])) ∷ ((rel_no 1), ((Int (pos 3)) ∷ (Int (pos 3)) ∷ [])) ∷
+      ((rel_no 1), ((Int (pos 4)) ∷ (Int (pos 4)) ∷ [])) ∷ ((rel_no 2), ((Int (pos 1)) ∷ (Int (pos 1)) ∷ [])) ∷ (
+        (rel_no 2),
+        ((Int (pos 2)) ∷
+            (Int (pos 2)) ∷ []),
+      ) ∷ ((rel_no 3), ((Int (pos 1)) ∷ (Int (pos 0)) ∷ [])) ∷ []) ∷ (((rel_no 1), ((Int (pos 1)) ∷ (Int (pos 1)) ∷ [])) ∷
+      ((rel_no 1), ((Int (pos 2)) ∷ (Int (pos 2)) ∷ [])) ∷ ((rel_no 1), ((Int (pos 3)) ∷ (Int (pos 3)) ∷ [])) ∷ (
+        (rel_no 1),
+        ((Int (pos 4)) ∷
+            (Int (pos 4)) ∷ []),
+      ) ∷ ((rel_no 2), ((Int (pos 1)) ∷ (Int (pos 1)) ∷ [])) ∷ ((rel_no 2), ((Int (pos 2)) ∷ (Int (pos 2)) ∷ [])) ∷
+      ((rel_no 3), ((Int (pos 1)) ∷ (Int (pos 0)) ∷ [])) ∷ []) ∷ []);
   txns =
-      (record { name = []; tm = (tm_no 1); statements = ((Query ((record { part = 1; column = 1 }) ∷ (record { part = 2; column = 1 }) ∷ (record { part = 3; column = 1 }) ∷ []) ((rel_no 1) ∷ (rel_no 2) ∷ (rel_no 3) ∷ []) ((Same (record { part = 1; column = 2 }) (record { part = 2; column = 1 })) ∷ (Same (record { part = 2; column = 2 }) (record { part = 3; column = 1 })) ∷ [])) ∷ []) }) ∷
+      (record {
+        name = [];
+        tm = (tm_no 1);
+        statements = ((Query ((record { part = 1; column = 1 }) ∷ (record { part = 2; column = 1 }) ∷
+            (record { part = 3; column = 1 }) ∷ []) ((rel_no 1) ∷ (rel_no 2) ∷ (rel_no 3) ∷ []) ((Same (record {
+              part = 1;
+              column = 2;
+            }) (record { part = 2; column = 1 })) ∷ (Same (record { part = 2; column = 2 }) (record { part = 3; column = 1 })) ∷ [])) ∷ []);
+      }) ∷
       [];
   events =
       Submit (txn_no 1) ∷
@@ -106,8 +149,20 @@ log_of_two_steps = extended 97 given_two_steps []
 
 pub history_of_two_steps :
     history log_of_two_steps ≡
-    (1, Submission (txn_no 1)) ∷
-    (1, Start (txn_no 1) 1 (class_no 1) (time_at 65) (Some (time_at 63)) ((record { number = 1; rel = (rel_no 1); frags = ((frag_no 1) ∷ []); restrictions = [] }) ∷ (record { number = 2; rel = (rel_no 2); frags = ((frag_no 2) ∷ []); restrictions = [] }) ∷ (record { number = 3; rel = (rel_no 3); frags = ((frag_no 3) ∷ []); restrictions = [] }) ∷ [])) ∷
+    (1, Submission (txn_no 1)) ∷ (
+      1,
+      Start (txn_no 1) 1 (class_no 1) (time_at 65) (Some (time_at 63)) ((record {
+        number = 1;
+        rel = (rel_no 1);
+        frags = ((frag_no 1) ∷ []);
+        restrictions = [];
+      }) ∷ (record { number = 2; rel = (rel_no 2); frags = ((frag_no 2) ∷ []); restrictions = [] }) ∷ (record {
+        number = 3;
+        rel = (rel_no 3);
+        frags = ((frag_no 3) ∷ []);
+        restrictions = [];
+      }) ∷ []),
+    ) ∷
     (2, Arrive (txn_no 1) 1 (dm_no 1)) ∷
     (2, Answer (txn_no 1) 1 (dm_no 1)) ∷
     (3, Arrive (txn_no 1) 1 (dm_no 2)) ∷
@@ -151,7 +206,12 @@ given_reads_nothing = record {
       [];
   rows = ([] ∷ []);
   txns =
-      (record { name = []; tm = (tm_no 1); statements = ((Query ((record { part = 1; column = 1 }) ∷ []) ((rel_no 1) ∷ []) ((Const (record { part = 1; column = 1 }) Lt (Int (pos 1))) ∷ (Const (record { part = 1; column = 1 }) Gt (Int (pos 5))) ∷ [])) ∷ []) }) ∷
+      (record {
+        name = [];
+        tm = (tm_no 1);
+        statements = ((Query ((record { part = 1; column = 1 }) ∷ []) ((rel_no 1) ∷
+            []) ((Const (record { part = 1; column = 1 }) Lt (Int (pos 1))) ∷ (Const (record { part = 1; column = 1 }) Gt (Int (pos 5))) ∷ [])) ∷ []);
+      }) ∷
       [];
   events =
       Submit (txn_no 1) ∷
@@ -163,8 +223,15 @@ log_of_reads_nothing = extended 4 given_reads_nothing []
 
 pub history_of_reads_nothing :
     history log_of_reads_nothing ≡
-    (1, Submission (txn_no 1)) ∷
-    (1, Start (txn_no 1) 1 (class_no 1) (time_at 65) (Some (time_at 63)) ((record { number = 1; rel = (rel_no 1); frags = []; restrictions = ((record { column = 1; op = Lt; value = (Int (pos 1)) }) ∷ (record { column = 1; op = Gt; value = (Int (pos 5)) }) ∷ []) }) ∷ [])) ∷
+    (1, Submission (txn_no 1)) ∷ (
+      1,
+      Start (txn_no 1) 1 (class_no 1) (time_at 65) (Some (time_at 63)) ((record {
+        number = 1;
+        rel = (rel_no 1);
+        frags = [];
+        restrictions = ((record { column = 1; op = Lt; value = (Int (pos 1)) }) ∷ (record { column = 1; op = Gt; value = (Int (pos 5)) }) ∷ []);
+      }) ∷ []),
+    ) ∷
     (1, Commit (txn_no 1) 1 (Rows ([] ∷ [])) [] 0 0) ∷
     []
 history_of_reads_nothing = refl

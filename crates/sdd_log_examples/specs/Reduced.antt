@@ -21,7 +21,15 @@ catalogue_of_reduced_at_two = record {
       (record { name = []; rel = (rel_no 2); least = (pos 10); greatest = (pos 9223372036854775807); copies = ((dm_no 3) ∷ []) }) ∷
       [];
   classes =
-      (record { name = []; tm = (tm_no 1); reads = ((record { fragment = (frag_no 1); at = (dm_no 1) }) ∷ (record { fragment = (frag_no 2); at = (dm_no 2) }) ∷ (record { fragment = (frag_no 3); at = (dm_no 3) }) ∷ []); writes = [] }) ∷
+      (record {
+        name = [];
+        tm = (tm_no 1);
+        reads = ((record { fragment = (frag_no 1); at = (dm_no 1) }) ∷ (record {
+          fragment = (frag_no 2);
+          at = (dm_no 2);
+        }) ∷ (record { fragment = (frag_no 3); at = (dm_no 3) }) ∷ []);
+        writes = [];
+      }) ∷
       [];
 }
 
@@ -36,9 +44,24 @@ given_reduced_at_two = record {
             [];
       }) ∷
       [];
-  rows = ((((rel_no 1), ((Int (pos 1)) ∷ (Int (pos 2)) ∷ [])) ∷ ((rel_no 2), ((Int (pos 1)) ∷ (Int (pos 0)) ∷ [])) ∷ ((rel_no 2), ((Int (pos 2)) ∷ (Int (pos 0)) ∷ [])) ∷ ((rel_no 2), ((Int (pos 10)) ∷ (Int (pos 0)) ∷ [])) ∷ []) ∷ (((rel_no 1), ((Int (pos 1)) ∷ (Int (pos 2)) ∷ [])) ∷ ((rel_no 2), ((Int (pos 1)) ∷ (Int (pos 0)) ∷ [])) ∷ ((rel_no 2), ((Int (pos 2)) ∷ (Int (pos 0)) ∷ [])) ∷ ((rel_no 2), ((Int (pos 10)) ∷ (Int (pos 0)) ∷ [])) ∷ []) ∷ (((rel_no 1), ((Int (pos 1)) ∷ (Int (pos 2)) ∷ [])) ∷ ((rel_no 2), ((Int (pos 1)) ∷ (Int (pos 0)) ∷ [])) ∷ ((rel_no 2), ((Int (pos 2)) ∷ (Int (pos 0)) ∷ [])) ∷ ((rel_no 2), ((Int (pos 10)) ∷ (Int (pos 0)) ∷ [])) ∷ []) ∷ []);
+  rows = ((((rel_no 1), ((Int (pos 1)) ∷ (Int (pos 2)) ∷ [])) ∷ ((rel_no 2), ((Int (pos 1)) ∷ (Int (pos 0)) ∷ [])) ∷ (
+    (rel_no 2),
+    ((Int (pos 2)) ∷
+        (Int (pos 0)) ∷ []),
+  ) ∷ ((rel_no 2), ((Int (pos 10)) ∷ (Int (pos 0)) ∷ [])) ∷ []) ∷ (((rel_no 1), ((Int (pos 1)) ∷ (Int (pos 2)) ∷ [])) ∷
+      ((rel_no 2), ((Int (pos 1)) ∷ (Int (pos 0)) ∷ [])) ∷ ((rel_no 2), ((Int (pos 2)) ∷ (Int (pos 0)) ∷ [])) ∷ (
+        (rel_no 2),
+        ((Int (pos 10)) ∷
+            (Int (pos 0)) ∷ []),
+      ) ∷ []) ∷ (((rel_no 1), ((Int (pos 1)) ∷ (Int (pos 2)) ∷ [])) ∷ ((rel_no 2), ((Int (pos 1)) ∷ (Int (pos 0)) ∷ [])) ∷
+      ((rel_no 2), ((Int (pos 2)) ∷ (Int (pos 0)) ∷ [])) ∷ ((rel_no 2), ((Int (pos 10)) ∷ (Int (pos 0)) ∷ [])) ∷ []) ∷ []);
   txns =
-      (record { name = []; tm = (tm_no 1); statements = ((Query ((record { part = 1; column = 1 }) ∷ (record { part = 2; column = 2 }) ∷ []) ((rel_no 1) ∷ (rel_no 2) ∷ []) ((Same (record { part = 1; column = 2 }) (record { part = 2; column = 1 })) ∷ [])) ∷ []) }) ∷
+      (record {
+        name = [];
+        tm = (tm_no 1);
+        statements = ((Query ((record { part = 1; column = 1 }) ∷ (record { part = 2; column = 2 }) ∷
+            []) ((rel_no 1) ∷ (rel_no 2) ∷ []) ((Same (record { part = 1; column = 2 }) (record { part = 2; column = 1 })) ∷ [])) ∷ []);
+      }) ∷
       [];
   events =
       Submit (txn_no 1) ∷
@@ -51,8 +74,15 @@ log_of_reduced_at_two = extended 85 given_reduced_at_two []
 
 pub history_of_reduced_at_two :
     history log_of_reduced_at_two ≡
-    (1, Submission (txn_no 1)) ∷
-    (1, Start (txn_no 1) 1 (class_no 1) (time_at 65) (Some (time_at 63)) ((record { number = 1; rel = (rel_no 1); frags = ((frag_no 1) ∷ []); restrictions = [] }) ∷ (record { number = 2; rel = (rel_no 2); frags = ((frag_no 2) ∷ (frag_no 3) ∷ []); restrictions = [] }) ∷ [])) ∷
+    (1, Submission (txn_no 1)) ∷ (
+      1,
+      Start (txn_no 1) 1 (class_no 1) (time_at 65) (Some (time_at 63)) ((record {
+        number = 1;
+        rel = (rel_no 1);
+        frags = ((frag_no 1) ∷ []);
+        restrictions = [];
+      }) ∷ (record { number = 2; rel = (rel_no 2); frags = ((frag_no 2) ∷ (frag_no 3) ∷ []); restrictions = [] }) ∷ []),
+    ) ∷
     (2, Arrive (txn_no 1) 1 (dm_no 1)) ∷
     (2, Answer (txn_no 1) 1 (dm_no 1)) ∷
     (3, Arrive (txn_no 1) 1 (dm_no 2)) ∷

@@ -68,8 +68,15 @@ log_of_rejected_by_two = extended 38 given_rejected_by_two []
 
 pub history_of_rejected_by_two :
     history log_of_rejected_by_two ≡
-    (1, Submission (txn_no 1)) ∷
-    (1, Start (txn_no 1) 1 (class_no 1) (time_at 65) (Some (time_at 63)) ((record { number = 1; rel = (rel_no 1); frags = ((frag_no 1) ∷ []); restrictions = [] }) ∷ [])) ∷
+    (1, Submission (txn_no 1)) ∷ (
+      1,
+      Start (txn_no 1) 1 (class_no 1) (time_at 65) (Some (time_at 63)) ((record {
+        number = 1;
+        rel = (rel_no 1);
+        frags = ((frag_no 1) ∷ []);
+        restrictions = [];
+      }) ∷ []),
+    ) ∷
     (2, Submission (txn_no 2)) ∷
     (2, Start (txn_no 2) 1 (class_no 2) (time_at 66) (Some (time_at 63)) []) ∷
     (2, Commit (txn_no 2) 1 (Rows []) ((record { frag = (frag_no 1); key = (pos 1); row = (Some ((Int (pos 1)) ∷ (Int (pos 5)) ∷ [])) }) ∷ []) 0 0) ∷
@@ -87,10 +94,18 @@ pub history_of_rejected_by_two :
     (8, Apply (txn_no 4) (class_no 3) (dm_no 1) (time_at 67)) ∷
     (9, Apply (txn_no 5) (class_no 3) (dm_no 1) (time_at 131)) ∷
     (10, Arrive (txn_no 1) 1 (dm_no 1)) ∷
-    (10, Reject (txn_no 1) 1 (dm_no 1) (class_no 2) (time_at 130)) ∷
-    (11, Start (txn_no 1) 2 (class_no 1) (time_at 193) (Some (time_at 191)) ((record { number = 1; rel = (rel_no 1); frags = ((frag_no 1) ∷ []); restrictions = [] }) ∷ [])) ∷
+    (10, Reject (txn_no 1) 1 (dm_no 1) (class_no 2) (time_at 130)) ∷ (
+      11,
+      Start (txn_no 1) 2 (class_no 1) (time_at 193) (Some (time_at 191)) ((record {
+        number = 1;
+        rel = (rel_no 1);
+        frags = ((frag_no 1) ∷ []);
+        restrictions = [];
+      }) ∷ []),
+    ) ∷
     []
 history_of_rejected_by_two = refl
 
-pub all_of_rejected_by_two : (next given_rejected_by_two log_of_rejected_by_two ≡ None) × (length log_of_rejected_by_two ≡ 38) × (marks log_of_rejected_by_two ≡ 11)
+pub all_of_rejected_by_two : (next given_rejected_by_two log_of_rejected_by_two ≡ None) × (length log_of_rejected_by_two ≡ 38)
+    × (marks log_of_rejected_by_two ≡ 11)
 all_of_rejected_by_two = (refl, refl, refl)

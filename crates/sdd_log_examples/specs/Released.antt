@@ -15,7 +15,14 @@ catalogue_of_released = record {
       (record { name = []; columns = ((record { name = []; kind = kinds.Int }) ∷ (record { name = []; kind = kinds.Int }) ∷ []); key = 1 }) ∷
       [];
   fragments =
-      (record { name = []; rel = (rel_no 1); least = (negsuc 9223372036854775807); greatest = (pos 9223372036854775807); copies = ((dm_no 1) ∷ (dm_no 2) ∷ []) }) ∷
+      (record {
+        name = [];
+        rel = (rel_no 1);
+        least = (negsuc 9223372036854775807);
+        greatest = (pos 9223372036854775807);
+        copies = ((dm_no 1) ∷
+            (dm_no 2) ∷ []);
+      }) ∷
       [];
   classes =
       (record { name = []; tm = (tm_no 1); reads = []; writes = ((frag_no 1) ∷ []) }) ∷
@@ -83,8 +90,15 @@ log_of_released = extended 97 given_released []
 
 pub history_of_released :
     history log_of_released ≡
-    (1, Submission (txn_no 2)) ∷
-    (1, Start (txn_no 2) 1 (class_no 2) (time_at 65) (Some (time_at 63)) ((record { number = 1; rel = (rel_no 1); frags = ((frag_no 1) ∷ []); restrictions = [] }) ∷ [])) ∷
+    (1, Submission (txn_no 2)) ∷ (
+      1,
+      Start (txn_no 2) 1 (class_no 2) (time_at 65) (Some (time_at 63)) ((record {
+        number = 1;
+        rel = (rel_no 1);
+        frags = ((frag_no 1) ∷ []);
+        restrictions = [];
+      }) ∷ []),
+    ) ∷
     (2, Submission (txn_no 1)) ∷
     (4, Nothing) ∷
     (5, Arrive (txn_no 2) 1 (dm_no 1)) ∷
@@ -92,13 +106,19 @@ pub history_of_released :
     (8, Commit (txn_no 2) 1 (Rows ([] ∷ [])) [] 0 0) ∷
     (9, Start (txn_no 1) 1 (class_no 0) (time_at 128) None ((record { number = 1; rel = (rel_no 1); frags = ((frag_no 1) ∷ []); restrictions = [] }) ∷ [])) ∷
     (10, Submission (txn_no 3)) ∷
-    (11, Arrive (txn_no 1) 1 (dm_no 1)) ∷
-    (11, Wait (txn_no 1) 1 (dm_no 1) ((record { class = (class_no 1); time = (time_at 128); frags = ((frag_no 1) ∷ []) }) ∷ (record { class = (class_no 2); time = (time_at 128); frags = ((frag_no 1) ∷ []) }) ∷ [])) ∷
+    (11, Arrive (txn_no 1) 1 (dm_no 1)) ∷ (
+      11,
+      Wait (txn_no 1) 1 (dm_no 1) ((record { class = (class_no 1); time = (time_at 128); frags = ((frag_no 1) ∷ []) }) ∷
+          (record { class = (class_no 2); time = (time_at 128); frags = ((frag_no 1) ∷ []) }) ∷ []),
+    ) ∷
     (13, Pass (class_no 1) (dm_no 1) (time_at 191)) ∷
     (15, Answer (txn_no 1) 1 (dm_no 1)) ∷
     (15, Pass (class_no 2) (dm_no 1) (time_at 191)) ∷
-    (16, Arrive (txn_no 1) 1 (dm_no 2)) ∷
-    (16, Wait (txn_no 1) 1 (dm_no 2) ((record { class = (class_no 1); time = (time_at 128); frags = ((frag_no 1) ∷ []) }) ∷ (record { class = (class_no 2); time = (time_at 128); frags = ((frag_no 1) ∷ []) }) ∷ [])) ∷
+    (16, Arrive (txn_no 1) 1 (dm_no 2)) ∷ (
+      16,
+      Wait (txn_no 1) 1 (dm_no 2) ((record { class = (class_no 1); time = (time_at 128); frags = ((frag_no 1) ∷ []) }) ∷
+          (record { class = (class_no 2); time = (time_at 128); frags = ((frag_no 1) ∷ []) }) ∷ []),
+    ) ∷
     (19, Pass (class_no 1) (dm_no 2) (time_at 191)) ∷
     (20, Answer (txn_no 1) 1 (dm_no 2)) ∷
     (20, Pass (class_no 2) (dm_no 2) (time_at 191)) ∷

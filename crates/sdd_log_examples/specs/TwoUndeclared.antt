@@ -15,7 +15,14 @@ catalogue_of_two_undeclared = record {
       (record { name = []; columns = ((record { name = []; kind = kinds.Int }) ∷ (record { name = []; kind = kinds.Int }) ∷ []); key = 1 }) ∷
       [];
   fragments =
-      (record { name = []; rel = (rel_no 1); least = (negsuc 9223372036854775807); greatest = (pos 9223372036854775807); copies = ((dm_no 1) ∷ (dm_no 2) ∷ []) }) ∷
+      (record {
+        name = [];
+        rel = (rel_no 1);
+        least = (negsuc 9223372036854775807);
+        greatest = (pos 9223372036854775807);
+        copies = ((dm_no 1) ∷
+            (dm_no 2) ∷ []);
+      }) ∷
       [];
   classes =
       (record { name = []; tm = (tm_no 1); reads = []; writes = ((frag_no 1) ∷ []) }) ∷

@@ -15,7 +15,14 @@ catalogue_of_undeclared = record {
       (record { name = []; columns = ((record { name = []; kind = kinds.Int }) ∷ (record { name = []; kind = kinds.Int }) ∷ []); key = 1 }) ∷
       [];
   fragments =
-      (record { name = []; rel = (rel_no 1); least = (negsuc 9223372036854775807); greatest = (pos 9223372036854775807); copies = ((dm_no 1) ∷ (dm_no 2) ∷ []) }) ∷
+      (record {
+        name = [];
+        rel = (rel_no 1);
+        least = (negsuc 9223372036854775807);
+        greatest = (pos 9223372036854775807);
+        copies = ((dm_no 1) ∷
+            (dm_no 2) ∷ []);
+      }) ∷
       [];
   classes =
       (record { name = []; tm = (tm_no 1); reads = []; writes = ((frag_no 1) ∷ []) }) ∷
@@ -63,8 +70,11 @@ pub history_of_undeclared :
     (1, Commit (txn_no 1) 1 (Rows []) ((record { frag = (frag_no 1); key = (pos 1); row = (Some ((Int (pos 1)) ∷ (Int (pos 5)) ∷ [])) }) ∷ []) 0 0) ∷
     (2, Submission (txn_no 2)) ∷
     (6, Start (txn_no 2) 1 (class_no 0) (time_at 128) None ((record { number = 1; rel = (rel_no 1); frags = ((frag_no 1) ∷ []); restrictions = [] }) ∷ [])) ∷
-    (7, Arrive (txn_no 2) 1 (dm_no 1)) ∷
-    (7, Wait (txn_no 2) 1 (dm_no 1) ((record { class = (class_no 1); time = (time_at 128); frags = ((frag_no 1) ∷ []) }) ∷ (record { class = (class_no 2); time = (time_at 128); frags = ((frag_no 1) ∷ []) }) ∷ [])) ∷
+    (7, Arrive (txn_no 2) 1 (dm_no 1)) ∷ (
+      7,
+      Wait (txn_no 2) 1 (dm_no 1) ((record { class = (class_no 1); time = (time_at 128); frags = ((frag_no 1) ∷ []) }) ∷
+          (record { class = (class_no 2); time = (time_at 128); frags = ((frag_no 1) ∷ []) }) ∷ []),
+    ) ∷
     (8, Apply (txn_no 1) (class_no 1) (dm_no 1) (time_at 65)) ∷
     []
 history_of_undeclared = refl

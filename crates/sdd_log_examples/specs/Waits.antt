@@ -40,7 +40,12 @@ given_rejected = record {
       [];
   rows = ([] ∷ []);
   txns =
-      (record { name = []; tm = (tm_no 1); statements = ((Query ((record { part = 1; column = 2 }) ∷ []) ((rel_no 1) ∷ []) ((Const (record { part = 1; column = 1 }) Le (Int (pos 9))) ∷ [])) ∷ []) }) ∷
+      (record {
+        name = [];
+        tm = (tm_no 1);
+        statements = ((Query ((record { part = 1; column = 2 }) ∷ []) ((rel_no 1) ∷
+            []) ((Const (record { part = 1; column = 1 }) Le (Int (pos 9))) ∷ [])) ∷ []);
+      }) ∷
       (record { name = []; tm = (tm_no 2); statements = ((Put (rel_no 1) ((Int (pos 1)) ∷ (Int (pos 1)) ∷ [])) ∷ []) }) ∷
       [];
   events =
@@ -59,15 +64,29 @@ log_of_rejected = extended 52 given_rejected []
 
 pub history_of_rejected :
     history log_of_rejected ≡
-    (1, Submission (txn_no 1)) ∷
-    (1, Start (txn_no 1) 1 (class_no 1) (time_at 65) (Some (time_at 63)) ((record { number = 1; rel = (rel_no 1); frags = ((frag_no 1) ∷ []); restrictions = ((record { column = 1; op = Le; value = (Int (pos 9)) }) ∷ []) }) ∷ [])) ∷
+    (1, Submission (txn_no 1)) ∷ (
+      1,
+      Start (txn_no 1) 1 (class_no 1) (time_at 65) (Some (time_at 63)) ((record {
+        number = 1;
+        rel = (rel_no 1);
+        frags = ((frag_no 1) ∷ []);
+        restrictions = ((record { column = 1; op = Le; value = (Int (pos 9)) }) ∷ []);
+      }) ∷ []),
+    ) ∷
     (2, Submission (txn_no 2)) ∷
     (2, Start (txn_no 2) 1 (class_no 2) (time_at 66) (Some (time_at 63)) []) ∷
     (2, Commit (txn_no 2) 1 (Rows []) ((record { frag = (frag_no 1); key = (pos 1); row = (Some ((Int (pos 1)) ∷ (Int (pos 1)) ∷ [])) }) ∷ []) 0 0) ∷
     (3, Apply (txn_no 2) (class_no 2) (dm_no 1) (time_at 66)) ∷
     (4, Arrive (txn_no 1) 1 (dm_no 1)) ∷
-    (4, Reject (txn_no 1) 1 (dm_no 1) (class_no 2) (time_at 66)) ∷
-    (5, Start (txn_no 1) 2 (class_no 1) (time_at 129) (Some (time_at 127)) ((record { number = 1; rel = (rel_no 1); frags = ((frag_no 1) ∷ []); restrictions = ((record { column = 1; op = Le; value = (Int (pos 9)) }) ∷ []) }) ∷ [])) ∷
+    (4, Reject (txn_no 1) 1 (dm_no 1) (class_no 2) (time_at 66)) ∷ (
+      5,
+      Start (txn_no 1) 2 (class_no 1) (time_at 129) (Some (time_at 127)) ((record {
+        number = 1;
+        rel = (rel_no 1);
+        frags = ((frag_no 1) ∷ []);
+        restrictions = ((record { column = 1; op = Le; value = (Int (pos 9)) }) ∷ []);
+      }) ∷ []),
+    ) ∷
     (6, Arrive (txn_no 1) 2 (dm_no 1)) ∷
     (6, Wait (txn_no 1) 2 (dm_no 1) ((record { class = (class_no 2); time = (time_at 129); frags = ((frag_no 1) ∷ []) }) ∷ [])) ∷
     (13, Answer (txn_no 1) 2 (dm_no 1)) ∷
@@ -136,13 +155,23 @@ log_of_waits_for_two = extended 23 given_waits_for_two []
 
 pub history_of_waits_for_two :
     history log_of_waits_for_two ≡
-    (2, Submission (txn_no 1)) ∷
-    (2, Start (txn_no 1) 1 (class_no 1) (time_at 193) (Some (time_at 191)) ((record { number = 1; rel = (rel_no 1); frags = ((frag_no 1) ∷ []); restrictions = [] }) ∷ [])) ∷
+    (2, Submission (txn_no 1)) ∷ (
+      2,
+      Start (txn_no 1) 1 (class_no 1) (time_at 193) (Some (time_at 191)) ((record {
+        number = 1;
+        rel = (rel_no 1);
+        frags = ((frag_no 1) ∷ []);
+        restrictions = [];
+      }) ∷ []),
+    ) ∷
     (4, Submission (txn_no 2)) ∷
     (4, Start (txn_no 2) 1 (class_no 3) (time_at 259) (Some (time_at 255)) []) ∷
     (4, Commit (txn_no 2) 1 (Rows []) ((record { frag = (frag_no 1); key = (pos 1); row = (Some ((Int (pos 1)) ∷ (Int (pos 5)) ∷ [])) }) ∷ []) 0 0) ∷
-    (5, Arrive (txn_no 1) 1 (dm_no 1)) ∷
-    (5, Wait (txn_no 1) 1 (dm_no 1) ((record { class = (class_no 2); time = (time_at 191); frags = ((frag_no 1) ∷ []) }) ∷ (record { class = (class_no 3); time = (time_at 191); frags = ((frag_no 1) ∷ []) }) ∷ [])) ∷
+    (5, Arrive (txn_no 1) 1 (dm_no 1)) ∷ (
+      5,
+      Wait (txn_no 1) 1 (dm_no 1) ((record { class = (class_no 2); time = (time_at 191); frags = ((frag_no 1) ∷ []) }) ∷
+          (record { class = (class_no 3); time = (time_at 191); frags = ((frag_no 1) ∷ []) }) ∷ []),
+    ) ∷
     (8, Answer (txn_no 1) 1 (dm_no 1)) ∷
     (8, Pass (class_no 2) (dm_no 1) (time_at 191)) ∷
     (8, Apply (txn_no 2) (class_no 3) (dm_no 1) (time_at 259)) ∷
@@ -215,14 +244,25 @@ pub history_of_earlier_and_later :
     (2, Submission (txn_no 2)) ∷
     (2, Start (txn_no 2) 1 (class_no 3) (time_at 67) (Some (time_at 63)) []) ∷
     (2, Commit (txn_no 2) 1 (Rows []) ((record { frag = (frag_no 1); key = (pos 1); row = (Some ((Int (pos 1)) ∷ (Int (pos 6)) ∷ [])) }) ∷ []) 0 0) ∷
-    (4, Submission (txn_no 3)) ∷
-    (4, Start (txn_no 3) 1 (class_no 1) (time_at 129) (Some (time_at 127)) ((record { number = 1; rel = (rel_no 1); frags = ((frag_no 1) ∷ []); restrictions = [] }) ∷ [])) ∷
+    (4, Submission (txn_no 3)) ∷ (
+      4,
+      Start (txn_no 3) 1 (class_no 1) (time_at 129) (Some (time_at 127)) ((record {
+        number = 1;
+        rel = (rel_no 1);
+        frags = ((frag_no 1) ∷ []);
+        restrictions = [];
+      }) ∷ []),
+    ) ∷
     (5, Apply (txn_no 2) (class_no 3) (dm_no 1) (time_at 67)) ∷
-    (6, Arrive (txn_no 3) 1 (dm_no 1)) ∷
-    (6, Wait (txn_no 3) 1 (dm_no 1) ((record { class = (class_no 2); time = (time_at 127); frags = ((frag_no 1) ∷ []) }) ∷ (record { class = (class_no 3); time = (time_at 127); frags = ((frag_no 1) ∷ []) }) ∷ [])) ∷
+    (6, Arrive (txn_no 3) 1 (dm_no 1)) ∷ (
+      6,
+      Wait (txn_no 3) 1 (dm_no 1) ((record { class = (class_no 2); time = (time_at 127); frags = ((frag_no 1) ∷ []) }) ∷
+          (record { class = (class_no 3); time = (time_at 127); frags = ((frag_no 1) ∷ []) }) ∷ []),
+    ) ∷
     (7, Apply (txn_no 1) (class_no 2) (dm_no 1) (time_at 66)) ∷
     []
 history_of_earlier_and_later = refl
 
-pub all_of_earlier_and_later : (next given_earlier_and_later log_of_earlier_and_later ≡ None) × (length log_of_earlier_and_later ≡ 22) × (marks log_of_earlier_and_later ≡ 7)
+pub all_of_earlier_and_later : (next given_earlier_and_later log_of_earlier_and_later ≡ None) × (length log_of_earlier_and_later ≡ 22)
+    × (marks log_of_earlier_and_later ≡ 7)
 all_of_earlier_and_later = (refl, refl, refl)
