@@ -106,7 +106,7 @@ fn advice_linked(
     ensures edge { IfOk result (λ advice. advice.edge ≡ edge.now) }
     ensures shown { IfOk result (λ advice. ShowsFor graph.now.edges advice edge.now) }
 {
-    graph.known();
+    graph.law_is_sound();
     advice_by_way(alloc, edge, way)
 }
 
@@ -124,7 +124,7 @@ fn advice_apart(
     ensures edge { IfOk result (λ advice. advice.edge ≡ edge.now) }
     ensures shown { IfOk result (λ advice. ShowsFor graph.now.edges advice edge.now) }
 {
-    graph.known();
+    graph.law_is_sound();
     let (read, write) = ends(edge);
     let around = Search::until(alloc, graph, write, &Without::OneEdge(*edge), read)?;
     match around.place(read) {

@@ -44,7 +44,7 @@ fn shows_protocol(
     ensures { IfOk result (λ answer.
         IsTrue answer ↔ ShowsFor graph.now.edges advice.now advice.now.edge) }
 {
-    graph.known();
+    graph.law_is_sound();
     let (read, write) = ends(&advice.edge);
     let vertical = Edge::Vertical(reader);
     let own = write_node(reader);

@@ -19,7 +19,7 @@ pub(crate) fn is_cycle_from(
 ) -> Result<bool, NoMemory>
     ensures { IfOk result (λ answer. IsTrue answer ↔ IsCycleFrom graph.now.edges start cycle.now) }
 {
-    graph.known();
+    graph.law_is_sound();
     if cycle.len() < 2 {
         return Ok(false);
     }

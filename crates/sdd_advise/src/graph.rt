@@ -35,7 +35,7 @@ impl Graph {
     pub(crate) fn of(alloc: Global, catalogue: &Catalogue) -> Result<Graph, NoMemory>
         ensures { IfOk result (λ graph. graph ≡ network_of catalogue.now) }
     {
-        catalogue.known();
+        catalogue.law_is_sound();
         let edges = conflict_graph(alloc, catalogue)?;
         let nodes = 2 * catalogue.classes();
         let neighbours = all_neighbours(alloc, &edges, nodes)?;
@@ -47,7 +47,7 @@ impl Graph {
     }
 
     /// What is known of every graph. Takes no memory.
-    pub(crate) fn known(&self)
+    pub(crate) fn law_is_sound(&self)
         ensures once { HasEachOnce self.now.edges }
         ensures verticals { HasVerticals self.now.edges }
         ensures paired { ArePaired self.now.nodes }

@@ -43,7 +43,7 @@ impl Pair {
         requires last { IsSoundLast graph.now.edges last }
         ensures { IfOk result (IsPairOf graph.now.edges reader edge.now) }
     {
-        graph.known();
+        graph.law_is_sound();
         let (_, write) = ends(edge);
         if let Some(pair) = last {
             if pair.is_for(reader, write) {

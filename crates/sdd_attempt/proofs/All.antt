@@ -6,7 +6,7 @@ pub use Rattle.sdd_attempt.specs.Counts.{count_in, is_other, numbered}
 pub use Rattle.sdd_attempt.specs.Exchange.{Asking, Exchange, Fetching, Over, Phase, Shipping, after_hand, after_send, answered, asking_of, askings, begins, count_of, counted, counts_for, fetches, fetches_from, first_phase, first_send, goes_on, is_over, lacking, module_read, move_at, phase_ends, reduces, send_due, ships, to_all, with_use, without}
 pub use Rattle.sdd_attempt.specs.Fits.{AnswersRead, Awaits, AwaitsAt, FitsRows, FitsRowsOf, ServesIfLast, at_site, fetches_use, handed, is_read, is_shipping, is_verdict, reduces_use, sent}
 pub use Rattle.sdd_attempt.specs.Lines.{AreAwaitedFrom, AreDistinct, AreTried, IsAwaited, IsLine, IsRunning, Line, Running, RunsFirst, ServesAt, active_of, attempt_of, commit_next, handed_by, line_done, line_of, line_step, send_next, start_next, step_by}
-pub use Rattle.sdd_attempt.specs.Modules.{module_of, reading}
+pub use Rattle.sdd_attempt.specs.Modules.{dm_with_use, module_of}
 pub use Rattle.sdd_attempt.specs.Outbox.{addressed}
 pub use Rattle.sdd_attempt.specs.Phases.{move_of}
 pub use Rattle.sdd_attempt.specs.Queues.{Queued, is_for, queue, queue_after, submitted, tried, txn_of}

@@ -1,5 +1,5 @@
 -- The modules of READs, in both forms.
-use Rattle.sdd_attempt.proofs.All.{Beginning, DmNo, List, Msg, Notes, Site, [], ap, append_assoc, arith, filter_map, filter_map-append, get_or, length, map, map-append, module_of, module_read, option_map, read_to, reading, reads_to, refl, sym, take, take_more, ℕ, ◌++◌, ◌+◌, ◌<◌, ◌∙◌, ◌∷◌, ◌≡◌}
+use Rattle.sdd_attempt.proofs.All.{Beginning, DmNo, List, Msg, Notes, Site, [], ap, append_assoc, arith, dm_with_use, filter_map, filter_map-append, get_or, length, map, map-append, module_of, module_read, option_map, read_to, reads_to, refl, sym, take, take_more, ℕ, ◌++◌, ◌+◌, ◌<◌, ◌∙◌, ◌∷◌, ◌≡◌}
 use Rattle.sdd_attempt.proofs.Lists.{map_both, map-filter_map, map-filter_map_all}
 use Rattle.sdd_attempt.specs.Modules.{numbered, with_use}
 use Rattle.sdd_module.specs.wire.declared.msg.Msg.TheVariants as msgs
@@ -13,7 +13,7 @@ modules_read reads = map-filter_map_all numbered module_of module_read same_modu
 pub all_numbered : (ms : List (DmNo × List ℕ)) → map (λ (n : DmNo). n.0) (map (λ (m : DmNo × List ℕ). m.0) ms) ≡ map (λ (m : ℕ × List ℕ). m.0) (map numbered ms)
 all_numbered ms = map_both (λ (m : DmNo × List ℕ). m.0) (λ (n : DmNo). n.0) numbered (λ (m : ℕ × List ℕ). m.0) (λ m. refl) ms
 
-pub modules_with_use : (ms : List (DmNo × List ℕ)) (u : ℕ) → map (λ n. n.0) (filter_map (reading u) ms) ≡ with_use (map numbered ms) u
+pub modules_with_use : (ms : List (DmNo × List ℕ)) (u : ℕ) → map (λ n. n.0) (filter_map (dm_with_use u) ms) ≡ with_use (map numbered ms) u
 modules_with_use ms u = grind (arith, map-filter_map)
 
 -- the READs to the first modules, and one more

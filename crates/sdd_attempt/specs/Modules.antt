@@ -12,8 +12,8 @@ module_of (D d, Read ts c txn attempt conds uses) = Some (d, map (λ u. u.number
 module_of _ = None
 
 -- the module, where use u is read there
-abbrev pub reading : ℕ → DmNo × List ℕ → Option DmNo
-reading u m = cond (contains m.1 u) (Some m.0) None
+abbrev pub dm_with_use : ℕ → DmNo × List ℕ → Option DmNo
+dm_with_use u m = cond (contains m.1 u) (Some m.0) None
 
 -- the modules that read use u
 abbrev pub with_use : List (ℕ × List ℕ) → ℕ → List ℕ

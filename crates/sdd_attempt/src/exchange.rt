@@ -120,14 +120,14 @@ impl Exchange {
     }
 
     /// The modules whose answer is missing.
-    pub(crate) fn lacking(&self) -> &[DmNo]
+    pub(crate) fn missing_dms(&self) -> &[DmNo]
         ensures { map (λ n. n.0) result.now ≡ self.now.lacks }
     {
         self.lacks.as_slice()
     }
 
     /// Of the modules whose answer is missing, the one with the lowest number.
-    pub(crate) fn lowest_lacking(&self) -> Option<DmNo>
+    pub(crate) fn lowest_missing(&self) -> Option<DmNo>
         ensures { option_map (λ n. n.0) result ≡ lowest self.now.lacks }
     {
         self.lacks.lowest()

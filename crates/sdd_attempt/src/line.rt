@@ -118,7 +118,7 @@ impl<'a> Line<'a> {
     }
 
     /// The transactions in the queue, in order.
-    pub fn queued(&self) -> Result<Vec<TxnNo>, NoMemory>
+    pub fn queued_txns(&self) -> Result<Vec<TxnNo>, NoMemory>
         ensures { IfOk result (λ numbers. numbers.items ≡ map txn_of self.now.queue) }
     {
         numbers_of(self.alloc, &self.queue)
@@ -155,12 +155,12 @@ impl<'a> Line<'a> {
     }
 
     /// The data modules whose answer to the attempt is missing; none where none is under way.
-    pub fn lacking(&self) -> &[DmNo]
+    pub fn missing_dms(&self) -> &[DmNo]
         ensures { map (λ n. n.0) result.now ≡ lacked_by self.now.active }
     {
         match &self.running {
             None => &[],
-            Some(running) => running.exchange.lacking(),
+            Some(running) => running.exchange.missing_dms(),
         }
     }
 
@@ -360,7 +360,7 @@ impl<'a> Line<'a> {
         ensures catalogue { self.new.catalogue ≡ self.old.catalogue }
         ensures class { self.new.class ≡ self.old.class }
     {
-        self.catalogue.known();
+        self.catalogue.law_is_sound();
         match self.queue.front_mut() {
             None => Ok(()),
             Some(queued) => {

@@ -2,7 +2,7 @@ ghost use Rattle.std.specs.Prelude.{◌≡◌, ◌++◌, ◌∷◌, [], filter_m
 ghost use Rattle.sdd_module.specs.All.{is_empty};
 ghost use Rattle.sdd_attempt.specs.Exchange.{module_read, without};
 ghost use Rattle.sdd_attempt.specs.Standings.{lower, lowest};
-ghost use Rattle.sdd_attempt.specs.Modules.{module_of, reading, with_use};
+ghost use Rattle.sdd_attempt.specs.Modules.{dm_with_use, module_of, with_use};
 
 use sdd_module::sdd_base::{DmNo, Listed, NoMemory, Site, Use};
 use sdd_module::sdd_wire::Msg;
@@ -150,19 +150,19 @@ fn all_of(alloc: Global, modules: &[(DmNo, UseNos)]) -> Result<Vec<DmNo>, NoMemo
 
 /// The modules at which the use is read.
 fn reading_at(alloc: Global, modules: &[(DmNo, UseNos)], use_no: u32) -> Result<Vec<DmNo>, NoMemory>
-    ensures { IfOk result (λ dms. dms.items ≡ filter_map (reading use_no) modules.now) }
+    ensures { IfOk result (λ dms. dms.items ≡ filter_map (dm_with_use use_no) modules.now) }
 {
     Ok(
         modules
             .iter()
-            .filter_map(|part| reading(part, use_no))
+            .filter_map(|part| dm_with_use(part, use_no))
             .collect(alloc)?,
     )
 }
 
 /// The module, where the use is read there.
-fn reading(part: &(DmNo, UseNos), use_no: u32) -> Option<DmNo>
-    ensures { result ≡ reading use_no part.now }
+fn dm_with_use(part: &(DmNo, UseNos), use_no: u32) -> Option<DmNo>
+    ensures { result ≡ dm_with_use use_no part.now }
 {
     if part.1.as_slice().contains(&use_no) {
         Some(part.0)

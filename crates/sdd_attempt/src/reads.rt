@@ -16,7 +16,7 @@ use sdd_module::sdd_base::{
 use sdd_module::sdd_catalog::Catalogue;
 use sdd_module::sdd_history::Rec;
 use sdd_module::sdd_lang::{read_set, uses};
-use sdd_module::sdd_protocol::{Table, undeclared};
+use sdd_module::sdd_protocol::{Table, undeclared_conds};
 use sdd_module::sdd_wire::Msg;
 use std::alloc::Global;
 use std::marker::Model;
@@ -175,7 +175,7 @@ impl<'a> Beginning<'a> {
             (ascending (fragments_in self.now.uses)) self.now.own self.now.p2 dm.0) }
     {
         match self.table {
-            None => Ok(Conds::from_vec(undeclared(self.alloc, self.catalogue, self.own)?)),
+            None => Ok(Conds::from_vec(undeclared_conds(self.alloc, self.catalogue, self.own)?)),
             Some(table) => {
                 let frags = self.frags.as_slice();
                 let conds = table.condition(
@@ -218,7 +218,7 @@ fn send_reads_to(
 fn all_modules(alloc: Global, catalogue: &Catalogue) -> Result<Vec<DmNo>, NoMemory>
     ensures { IfOk result (λ dms. map (λ n. n.0) dms.items ≡ numbers_to catalogue.now.dms) }
 {
-    catalogue.known();
+    catalogue.law_is_sound();
     let mut dms = Vec::with_capacity(alloc, catalogue.dms() as usize)?;
     for number in 1..catalogue.dms() + 1 {
         dms.push(DmNo(number as u8))?;

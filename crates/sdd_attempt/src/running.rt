@@ -48,7 +48,7 @@ impl Running {
         ensures { result
             ≡ underway class.0 self.now.ts self.now.exchange }
     {
-        let site = match self.exchange.lowest_lacking() {
+        let site = match self.exchange.lowest_missing() {
             None => Site::U,
             Some(dm) => Site::D(dm),
         };

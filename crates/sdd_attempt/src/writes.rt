@@ -36,7 +36,7 @@ pub(crate) fn send_writes(
               (numbers_to catalogue.now.dms);
         }) }
 {
-    catalogue.known();
+    catalogue.law_is_sound();
     for number in 1..catalogue.dms() + 1 {
         send_write(
             alloc,

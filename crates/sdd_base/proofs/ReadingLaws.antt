@@ -1,5 +1,5 @@
 -- What a reading that came to no fault says, and a reading of each member of a list as a loop makes it.
-use Rattle.sdd_base.proofs.All.{Bool, Err, Fails, List, None, Ok, Option, Result, Some, [], along, ap, append-nil, append_assoc, arith, drop, drop_all, drop_more, get_or, known, length, map, must, nat_tests, refl, subst, sym, true, ℕ, ◌++◌, ◌+◌, ◌<◌, ◌>>=◌, ◌∙◌, ◌∷◌, ◌≡◌, ◌≤◌}
+use Rattle.sdd_base.proofs.All.{Bool, Err, Fails, List, None, Ok, Option, Result, Some, [], along, ap, append-nil, append_assoc, arith, drop, drop_all, drop_more, get_or, length, map, must, nat_tests, refl, require, subst, sym, true, ℕ, ◌++◌, ◌+◌, ◌<◌, ◌>>=◌, ◌∙◌, ◌∷◌, ◌≡◌, ◌≤◌}
 
 abbrev done : {A F : Type 0} → A → Result A F
 done x = Ok x
@@ -11,9 +11,9 @@ ok_is x y e = cc
 pub bind_ok : {A B F : Type 0} (r : Result A F) (f : A → Result B F) (y : B) → (r >>= f) ≡ Ok y → (x : A) × (r ≡ Ok x) × (f x ≡ Ok y)
 bind_ok r f y e = grind (arith, nat_tests)
 
-pub known_ok : {A F : Type 0} (fault : F) (o : Option A) (x : A) → known fault o ≡ Ok x → o ≡ Some x
-known_ok fault None x e = absurd cc
-known_ok {F = F} fault (Some y) x e = ap (λ z. Some z) (ok_is {F = F} y x e)
+pub require_ok : {A F : Type 0} (fault : F) (o : Option A) (x : A) → require fault o ≡ Ok x → o ≡ Some x
+require_ok fault None x e = absurd cc
+require_ok {F = F} fault (Some y) x e = ap (λ z. Some z) (ok_is {F = F} y x e)
 
 pub must_ok : {F : Type 0} (fault : F) (b : Bool) (u : Unit {0}) → must fault b ≡ Ok u → b ≡ true
 must_ok fault b u e = grind (arith, nat_tests)

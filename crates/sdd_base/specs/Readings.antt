@@ -8,9 +8,9 @@ abbrev pub ◌>>=◌ : {A B F : Type 0} → Result A F → (A → Result B F) �
 (Err fault) >>= f = Err fault
 
 -- the fault comes where the value isn't there
-abbrev pub known : {A F : Type 0} → F → Option A → Result A F
-known fault None = Err fault
-known fault (Some x) = Ok x
+abbrev pub require : {A F : Type 0} → F → Option A → Result A F
+require fault None = Err fault
+require fault (Some x) = Ok x
 
 -- the fault comes where the test fails
 abbrev pub must : {F : Type 0} → F → Bool → Result (Unit {0}) F

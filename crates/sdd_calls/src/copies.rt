@@ -4,25 +4,25 @@ use sdd_script::sdd_base::{Change, FragNo, NoMemory, Row, Ts, Value};
 use std::alloc::Global;
 
 pub fn stays_deleted(alloc: Global) -> Result<bool, NoMemory> {
-    let copy = deleted(alloc)?;
+    let copy = delete_row(alloc)?;
     Ok(rows_of(&copy)?.is_empty())
 }
 
 pub fn comes_back(alloc: Global) -> Result<bool, NoMemory> {
-    let copy = written(deleted(alloc)?, 91, Some(row(alloc, 3)?))?;
+    let copy = write_row(delete_row(alloc)?, 91, Some(row(alloc, 3)?))?;
     let (rows, last) = (rows_of(&copy)?, row(alloc, 3)?);
     Ok(rows.as_slice() == [last].as_slice())
 }
 
 /// The row is deleted at 90, and then one is put at 70.
-fn deleted(alloc: Global) -> Result<FragCopy, NoMemory> {
+fn delete_row(alloc: Global) -> Result<FragCopy, NoMemory> {
     let first = [row(alloc, 1)?];
     let copy = FragCopy::new(alloc, &first, 1)?;
-    let copy = written(copy, 90, None)?;
-    written(copy, 70, Some(row(alloc, 2)?))
+    let copy = write_row(copy, 90, None)?;
+    write_row(copy, 70, Some(row(alloc, 2)?))
 }
 
-fn written(copy: FragCopy, ts: u64, row: Option<Row>) -> Result<FragCopy, NoMemory> {
+fn write_row(copy: FragCopy, ts: u64, row: Option<Row>) -> Result<FragCopy, NoMemory> {
     let mut copy = copy;
     let frag = FragNo(1);
     if !copy.live() {

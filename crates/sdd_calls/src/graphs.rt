@@ -8,27 +8,27 @@ use std::alloc::Global;
 /// Two triangles, an edge between them, and one that is there twice.
 pub fn two_blocks(alloc: Global) -> Result<bool, NoMemory> {
     let edges = [(0, 1), (1, 2), (2, 0), (2, 3), (3, 4), (3, 4)];
-    let numbers = checked(alloc, &edges, 5)?;
+    let numbers = check_blocks(alloc, &edges, 5)?;
     Ok(numbers.as_slice() == [1, 1, 1, 0, 2, 2].as_slice())
 }
 
 /// The conflict graph of 64 classes that each read and write one fragment.
 pub fn one_block(alloc: Global) -> Result<bool, NoMemory> {
-    let edges = all_joined(alloc)?;
-    let numbers = checked(alloc, &edges, 128)?;
+    let edges = all_edges(alloc)?;
+    let numbers = check_blocks(alloc, &edges, 128)?;
     Ok(numbers.len() == edges.len() && numbers.iter().all(|number| *number == 1))
 }
 
-fn all_joined(alloc: Global) -> Result<Vec<(u32, u32)>, NoMemory> {
+fn all_edges(alloc: Global) -> Result<Vec<(u32, u32)>, NoMemory> {
     let mut edges = Vec::new(alloc);
     for class in 0..64u32 {
-        edges = joined(edges, class)?;
+        edges = add_edges(edges, class)?;
     }
     Ok(edges)
 }
 
 /// The edges of a class: its own, those to the writes of later classes, and those from its read.
-fn joined(edges: Vec<(u32, u32)>, class: u32) -> Result<Vec<(u32, u32)>, NoMemory> {
+fn add_edges(edges: Vec<(u32, u32)>, class: u32) -> Result<Vec<(u32, u32)>, NoMemory> {
     let mut edges = edges;
     let write = class.saturating_add(64);
     edges.push((class, write))?;
@@ -44,7 +44,7 @@ fn joined(edges: Vec<(u32, u32)>, class: u32) -> Result<Vec<(u32, u32)>, NoMemor
 }
 
 /// The numbers of the blocks, none where the edges are too many or have ends that aren't there.
-fn checked(alloc: Global, edges: &[(u32, u32)], nodes: u32) -> Result<Vec<u32>, NoMemory> {
+fn check_blocks(alloc: Global, edges: &[(u32, u32)], nodes: u32) -> Result<Vec<u32>, NoMemory> {
     if edges.len() > 1 << 20 {
         return Ok(Vec::new(alloc));
     }

@@ -37,8 +37,8 @@ fn tell_all(alloc: Global, out: &mut Vec<u8>) -> Result<(), NoMemory> {
 }
 
 fn tell_values(alloc: Global, out: &mut Vec<u8>) -> Result<(), NoMemory> {
-    tell(out, b"names", names::are_told(alloc)?)?;
-    tell(out, b"texts", names::texts_are_told(alloc)?)?;
+    tell(out, b"names", names::accept_names_only(alloc)?)?;
+    tell(out, b"texts", names::accept_texts_only(alloc)?)?;
     tell(out, b"a sink that always takes", sinks::takes_five(alloc)?)
 }
 

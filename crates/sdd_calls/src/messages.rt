@@ -18,7 +18,7 @@ pub fn is_spelled(alloc: Global) -> Result<bool, NoMemory> {
 
 pub fn is_read(alloc: Global) -> Result<bool, NoMemory> {
     let bytes = encode(alloc, &null())?;
-    match decoded(alloc, bytes.as_slice()) {
+    match decode_message(alloc, bytes.as_slice()) {
         Ok(found) => Ok(found == null()),
         Err(_) => Ok(false),
     }
@@ -26,7 +26,7 @@ pub fn is_read(alloc: Global) -> Result<bool, NoMemory> {
 
 /// The message that the bytes spell, or where they break. No clause says so, so that callers are
 /// proved quickly.
-fn decoded(alloc: Global, bytes: &[u8]) -> Result<Msg, WireFault> {
+fn decode_message(alloc: Global, bytes: &[u8]) -> Result<Msg, WireFault> {
     decode(alloc, bytes)
 }
 
@@ -42,7 +42,7 @@ pub fn break_there(alloc: Global) -> Result<bool, NoMemory> {
 }
 
 fn breaks_at(alloc: Global, bytes: &[u8], place: u64) -> bool {
-    match decoded(alloc, bytes) {
+    match decode_message(alloc, bytes) {
         Ok(_) => false,
         Err(fault) => fault == WireFault::Bad(place),
     }

@@ -3,7 +3,7 @@ use sdd_script::sdd_base::{Name, NoMemory, Text};
 use std::alloc::Global;
 
 /// A word that is a name, one that the formats use, and the longest name and one letter more.
-pub fn are_told(alloc: Global) -> Result<bool, NoMemory> {
+pub fn accept_names_only(alloc: Global) -> Result<bool, NoMemory> {
     let word = is_name(alloc, "acct")?;
     let used = is_name(alloc, "from")?;
     let most = is_name(alloc, letters(alloc, 32)?.as_str())?;
@@ -12,7 +12,7 @@ pub fn are_told(alloc: Global) -> Result<bool, NoMemory> {
 }
 
 /// The longest text and one letter more, and the end of a line.
-pub fn texts_are_told(alloc: Global) -> Result<bool, NoMemory> {
+pub fn accept_texts_only(alloc: Global) -> Result<bool, NoMemory> {
     let most = is_text(alloc, letters(alloc, 255)?.as_str())?;
     let over = is_text(alloc, letters(alloc, 256)?.as_str())?;
     let end = is_text(alloc, "\n")?;

@@ -30,13 +30,13 @@ fn writes_both(alloc: Global, catalogue: &Catalogue, txn: &Txn) -> Result<bool, 
 pub fn are_run(alloc: Global, catalogue: &Catalogue, work: &Workload) -> Result<bool, NoMemory>
     requires { IsValid catalogue.now work.now }
 {
-    let mut plain = started(alloc, catalogue, work)?;
+    let mut plain = start_plain(alloc, catalogue, work)?;
     let replies = plain.run_all(catalogue, work.txns.as_slice())?;
     Ok(replies.as_slice().len() == work.txns.as_slice().len())
 }
 
 #[tactic(auto, using(crate::proofs::Fitting::rows_fit))]
-fn started(alloc: Global, catalogue: &Catalogue, work: &Workload) -> Result<Plain, NoMemory>
+fn start_plain(alloc: Global, catalogue: &Catalogue, work: &Workload) -> Result<Plain, NoMemory>
     requires { IsValid catalogue.now work.now }
     ensures { IfOk result (λ plain. IsTrue plain.live) }
 {

@@ -89,7 +89,7 @@ impl Input {
     fn add_file(&mut self, alloc: Global, names: &str) -> Result<()> {
         let (name, kept) = names.split_once(' ').context("a file without a text")?;
         let text = self.kept_text(kept).context("no such text")?;
-        let file = text.renamed(alloc, name)?;
+        let file = text.copy_as(alloc, name)?;
         self.push_file(file)?;
         self.place = Place::Nowhere;
         Ok(())

@@ -33,7 +33,7 @@ fn tell_each<W: Write>(alloc: Global, case: &Case, out: &mut W) -> Result<()> {
     for number in first(case)..MOST {
         let next = call(alloc, case, nth(case, number))?;
         let last = is_last(case, number, &next);
-        group = Some(joined(group, number, next, out)?);
+        group = Some(add_run(group, number, next, out)?);
         if last {
             return put_group(out, group);
         }
@@ -92,7 +92,7 @@ fn is_last(case: &Case, number: usize, answer: &Answer) -> bool {
 }
 
 /// The group with one run more; where that answers otherwise, the group is written and a new one begins.
-fn joined<W: Write>(
+fn add_run<W: Write>(
     group: Option<Group>,
     number: usize,
     answer: Answer,

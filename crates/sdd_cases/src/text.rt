@@ -21,7 +21,7 @@ impl Text {
     }
 
     /// The same bytes under another name.
-    pub fn renamed(&self, alloc: Global, name: &str) -> Result<Self> {
+    pub fn copy_as(&self, alloc: Global, name: &str) -> Result<Self> {
         Ok(Text {
             name: String::from_str(alloc, name)?,
             bytes: Vec::from_slice(alloc, self.bytes.as_slice())?,
@@ -32,7 +32,7 @@ impl Text {
     pub fn add(&mut self, alloc: Global, line: &str) -> Result<()> {
         let (times, piece) = match line.strip_prefix("*") {
             None => (1, line),
-            Some(rest) => repeated(rest)?,
+            Some(rest) => split_count(rest)?,
         };
         for _ in 0..times {
             self.add_piece(alloc, piece)?;
@@ -74,7 +74,7 @@ fn add_line(bytes: &mut Vec<u8>, line: &str) -> Result<()>
 }
 
 /// The count and the line of `N LINE`.
-fn repeated(rest: &str) -> Result<(u32, &str)> {
+fn split_count(rest: &str) -> Result<(u32, &str)> {
     let (count, piece) = rest.split_once(' ').context("a count without a line")?;
     Ok((count.parse::<u32>()?, piece))
 }

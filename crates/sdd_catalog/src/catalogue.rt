@@ -77,7 +77,7 @@ impl Catalogue {
     /// What holds of every catalogue: it is that of its own parts, which are valid, what its
     /// numbers name is there, and its names are names. Takes no memory.
     #[tactic(auto, using(crate::proofs::Sound::sound_whole))]
-    pub fn known(&self)
+    pub fn law_is_sound(&self)
         ensures sound { IsSoundCatalogue self.now }
         ensures whole { IsWhole self.now }
         ensures named { AreNamed self.now }
@@ -160,7 +160,7 @@ impl Catalogue {
         ensures only { (f : ℕ) → IsOf self.now rel.0 f → HoldsKey self.now f key → f ≡ result.0 }
         ensures number { result.0 ≡ fragment_of self.now rel.0 key }
     {
-        self.known();
+        self.law_is_sound();
         FragNo(number_for(self.ranges_of(rel), key))
     }
 
@@ -214,7 +214,7 @@ impl Catalogue {
         requires to { frag.0 ≤ length self.now.fragments }
         ensures { option_map (λ dm. dm.0) result ≡ lowest_copy self.now frag.0 }
     {
-        self.known();
+        self.law_is_sound();
         match lowest_among(self.fragment(frag).copies.as_slice(), self.dms()) {
             Some(dm) => Some(DmNo(dm as u8)),
             None => None,

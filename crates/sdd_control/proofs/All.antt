@@ -10,7 +10,7 @@ pub use Rattle.sdd_control.specs.Log.{IsNoted, Log, noted}
 pub use Rattle.sdd_control.specs.NoteTests.{is_above, is_finish, is_gone, is_number, is_ok, is_stop, is_tell, is_value, is_write}
 pub use Rattle.sdd_control.specs.Report.{note_lines, site_line, site_lines}
 pub use Rattle.sdd_control.specs.Script.{IsSoundScript}
-pub use Rattle.sdd_control.specs.Sends.{all_answered, answered, next_send, next_untold, send, untold, unwritten}
+pub use Rattle.sdd_control.specs.Sends.{all_answered, answered, next_send, next_untold_site, send, untold, unwritten}
 pub use Rattle.sdd_control.specs.Standing.{finished, heir, knows, last, last_of, leads, stopped, value, value_by}
 pub use Rattle.sdd_control.specs.State.{Adds, NoteFits, TakesAct, Tracks, answered_in, arrival_in, greatest, greatest_of, has_stopped, heir_in, is_from_above, knows_in, last_number, last_number_of, may_send, messages_in, next_number_in, next_send_in, note_in, number_after, taken_in, untold_in, value_in}
 pub use Rattle.sdd_control.specs.Steps.{FitAll, FitsAct, arrival, log_after, log_of, log_with_event, note_of}
@@ -31,7 +31,7 @@ pub use Rattle.sdd_control.specs.declared.state.State.{State}
 pub use Rattle.sdd_control.specs.declared.value.Val.{Val}
 pub use Rattle.sdd_control.specs.declared.value.Val.TheVariants.{All, Nought, Unknown}
 pub use Rattle.sdd_script.proofs.lang.catalog.Validity.{not_false}
-pub use Rattle.sdd_script.specs.All.{Kept as Live, Word, is_free, is_sound, known, must, number_of, words_of, ◌>>=◌}
+pub use Rattle.sdd_script.specs.All.{Kept as Live, Word, is_free, is_sound, must, number_of, require, words_of, ◌>>=◌}
 pub use Rattle.sdd_script.specs.declared.fault.WorkError.{WorkError}
 pub use Rattle.sdd_script.specs.declared.fault.WorkFault.{WorkFault}
 pub use Rattle.sdd_script.specs.declared.fault.WorkRule.{WorkRule}

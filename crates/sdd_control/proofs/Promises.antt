@@ -1,5 +1,5 @@
 -- One value, and all or none.
-use Rattle.sdd_control.proofs.All.{Act, All, AllWritten, FitAll, List, Log, NoneWritten, Note, Nought, OneValue, Val, [], answered, ap, arith, cases_eq, cases_lt, heir, inl, inr, is_number, is_ok, is_write, known, knows, log_after, log_of, nat_tests, note_of, noted, or_left, or_right, suc, sym, true, value, value_by, zero, ℕ, ◌+◌, ◌-◌, ◌<◌, ◌==◌, ◌∙◌, ◌∷◌, ◌≡◌, ◌≤◌}
+use Rattle.sdd_control.proofs.All.{Act, All, AllWritten, FitAll, List, Log, NoneWritten, Note, Nought, OneValue, Val, [], answered, ap, arith, cases_eq, cases_lt, heir, inl, inr, is_number, is_ok, is_write, knows, log_after, log_of, nat_tests, note_of, noted, or_left, or_right, suc, sym, true, value, value_by, zero, ℕ, ◌+◌, ◌-◌, ◌<◌, ◌==◌, ◌∙◌, ◌∷◌, ◌≡◌, ◌≤◌}
 use Rattle.sdd_control.proofs.Lists.{or_cases, every_at, and_right}
 use Rattle.sdd_control.proofs.Cases.{case_of}
 use Rattle.sdd_control.proofs.Kept.{Kept, Ready, kept_nil, kept_on, heir_at, more}

@@ -1,5 +1,5 @@
 -- A script that a file gives is sound.
-use Rattle.sdd_control.proofs.All.{Act, BadLine, Bool, ControlScript, Deliver, Draft, Ended, Err, Events, First, FitAll, FitsAct, Halt as Stop, Head, IfOk, IsSoundScript, Key, List, Option, Result, Send as Step, Some, Stage, Tells, Word, WorkError, WorkFault, WorkRule, [], arith, at_line, cond, control_script, delivery_of, end_of, event_rules, false, head_of, head_rules, is_ended, is_free, is_sound, is_utf8, key_of, key_rules, known, length, length-append, list_all, most_events, must, nat_le, nat_lt, nat_tests, not, number_of, number_within, one_line, site_number, site_of, sound_rules, tail_rules, true, with_act, within, words_of, words_rules, ℕ, ℤ, ◌&&◌, ◌+◌, ◌==◌, ◌>>=◌, ◌^◌, ◌∷◌, ◌≡◌, ◌≤◌}
+use Rattle.sdd_control.proofs.All.{Act, BadLine, Bool, ControlScript, Deliver, Draft, Ended, Err, Events, First, FitAll, FitsAct, Halt as Stop, Head, IfOk, IsSoundScript, Key, List, Option, Result, Send as Step, Some, Stage, Tells, Word, WorkError, WorkFault, WorkRule, [], arith, at_line, cond, control_script, delivery_of, end_of, event_rules, false, head_of, head_rules, is_ended, is_free, is_sound, is_utf8, key_of, key_rules, length, length-append, list_all, most_events, must, nat_le, nat_lt, nat_tests, not, number_of, number_within, one_line, require, site_number, site_of, sound_rules, tail_rules, true, with_act, within, words_of, words_rules, ℕ, ℤ, ◌&&◌, ◌+◌, ◌==◌, ◌>>=◌, ◌^◌, ◌∷◌, ◌≡◌, ◌≤◌}
 use Rattle.sdd_control.specs.LineRules.{line_rules}
 use Rattle.sdd_control.specs.Walk.{walk}
 use Rattle.sdd_control.proofs.Following.{FitAll-append}
@@ -15,8 +15,8 @@ gets_on : {A B F : Type 0} (P : A → Type 0) (Q : B → Type 0) (reading : Resu
     → Gets P reading → ((x : A) → P x → Gets Q (f x)) → Gets Q (reading >>= f)
 gets_on P Q reading f h on = grind (arith, nat_tests)
 
-gets_known : {A F : Type 0} (P : A → Type 0) (rule : F) (o : Option A) → ((x : A) → o ≡ Some x → P x) → Gets P (known rule o)
-gets_known P rule o h = grind (arith, nat_tests)
+gets_require : {A F : Type 0} (P : A → Type 0) (rule : F) (o : Option A) → ((x : A) → o ≡ Some x → P x) → Gets P (require rule o)
+gets_require P rule o h = grind (arith, nat_tests)
 
 gets_must : {F : Type 0} (rule : F) (b : Bool) → Gets (λ _. b ≡ true) (must rule b)
 gets_must rule b = grind (arith, nat_tests)
@@ -41,7 +41,7 @@ within_range : (least most : ℕ) (o : Option ℤ) (n : ℕ) → within least mo
 within_range least most o n e = grind (arith, nat_tests)
 
 number_gets : (least most : ℕ) (word : Word) → Gets (λ n. (least ≤ n) × (n ≤ most)) (number_within least most word)
-number_gets least most word = grind (arith, nat_tests, gets_known, within, number_of, within_range)
+number_gets least most word = grind (arith, nat_tests, gets_require, within, number_of, within_range)
 
 head_gets : (words : List Word) → Gets IsHead (head_of words)
 head_gets words = grind (arith, nat_tests, gets_on, is_free, IsHead, must, number_within, gets_must, number_gets)
@@ -78,12 +78,28 @@ key_gets : (stage : Stage) (key : Key) (draft : Draft) (words : List Word) → d
 key_gets stage key draft words at d = grind (arith, nat_tests, first_gets, event_gets)
 
 words_gets : (draft : Draft) (words : List Word) → IsDraft draft → Gets IsDraft (words_rules draft words)
-words_gets draft words d = grind (arith, nat_tests, gets_on, key_of, IsDraft, known, key_rules, gets_known, key_gets)
+words_gets draft words d = grind (arith, nat_tests, gets_on, key_of, IsDraft, require, key_rules, gets_require, key_gets)
 
 line_gets : (draft : Draft) (line : List ℕ) → IsDraft draft → Gets IsDraft (line_rules draft line)
 unfolding line_rules
 line_gets draft line d =
-    grind (arith, nat_tests, gets_on, is_utf8, IsDraft, must, known, words_of, sound_rules, gets_must, gets_known, list_all, is_sound, words_rules, words_gets)
+    grind (
+      arith,
+      nat_tests,
+      gets_on,
+      is_utf8,
+      IsDraft,
+      must,
+      require,
+      words_of,
+      sound_rules,
+      gets_must,
+      gets_require,
+      list_all,
+      is_sound,
+      words_rules,
+      words_gets,
+    )
 
 one_gets : (draft : Draft) (line : List ℕ) → IsDraft draft → Gets IsDraft (one_line draft line)
 one_gets draft line d =

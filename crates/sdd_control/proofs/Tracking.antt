@@ -1,5 +1,5 @@
 -- What the tables say is what the log says.
-use Rattle.sdd_control.proofs.All.{Act, Adds, Bool, Deliver, FitsAct, List, Log, Message, None, Note, NoteFits, Nothing, Option, Some, State, Stop, TakesAct, Tracks, Val, all_answered, answered, answered_in, ap, arith, arrival, arrival_in, cases_Bool, cases_lt, cond, every_from, false, finished, first_from, greatest_of, has_stopped, heir, heir_in, inl, inr, is_from_above, is_ok, is_tell, is_write, knows, knows_in, last, last_number, leads, lt-ltb, may_send, messages_in, nat_lt, nat_tests, next_number_in, next_send, next_send_in, next_untold, not, note_in, note_of, noted, number_after, refl, send, suc, sym, taken_in, true, untold, untold_in, unwritten, value, value_by, value_in, zero, ℕ, ◌&&◌, ◌+◌, ◌-◌, ◌<◌, ◌==◌, ◌||◌, ◌∙◌, ◌∷◌, ◌≡◌, ◌≤◌}
+use Rattle.sdd_control.proofs.All.{Act, Adds, Bool, Deliver, FitsAct, List, Log, Message, None, Note, NoteFits, Nothing, Option, Some, State, Stop, TakesAct, Tracks, Val, all_answered, answered, answered_in, ap, arith, arrival, arrival_in, cases_Bool, cases_lt, cond, every_from, false, finished, first_from, greatest_of, has_stopped, heir, heir_in, inl, inr, is_from_above, is_ok, is_tell, is_write, knows, knows_in, last, last_number, leads, lt-ltb, may_send, messages_in, nat_lt, nat_tests, next_number_in, next_send, next_send_in, next_untold_site, not, note_in, note_of, noted, number_after, refl, send, suc, sym, taken_in, true, untold, untold_in, unwritten, value, value_by, value_in, zero, ℕ, ◌&&◌, ◌+◌, ◌-◌, ◌<◌, ◌==◌, ◌||◌, ◌∙◌, ◌∷◌, ◌≡◌, ◌≤◌}
 use Rattle.sdd_control.proofs.Above.{above_is_last}
 use Rattle.sdd_control.proofs.Kept.{Kept}
 use Rattle.sdd_control.proofs.Lists.{first_at}
@@ -64,7 +64,7 @@ module _ (st : State) (log : Log) (t : Tracks st log) where
   answered_same : (i j : ℕ) → i ≤ st.backups → j ≤ st.backups → answered_in st i j ≡ answered log i j
   answered_same i j l m = ap (λ z. z || knows_in st i j) (t.heard i j l m) ∙ ap (λ z. noted (is_ok i j) log || z) (t.known i j l m)
 
-  next_untold_same : (i : ℕ) → i ≤ st.backups → first_from (untold_in st i) (i + 1) (st.backups - i) ≡ next_untold st.backups log i
+  next_untold_same : (i : ℕ) → i ≤ st.backups → first_from (untold_in st i) (i + 1) (st.backups - i) ≡ next_untold_site st.backups log i
   next_untold_same i l = first_same (untold_in st i) (untold log i) (i + 1) (st.backups - i) (λ j m u. untold_same i j l (omega arith))
 
   all_answered_same : (i : ℕ) → i ≤ st.backups → every_from (answered_in st i) (i + 1) (st.backups - i) ≡ all_answered st.backups log i

@@ -6,7 +6,7 @@ use Rattle.std.specs.Str.{is_utf8}
 use Rattle.sdd_script.specs.declared.fault.Counts.TheVariants.{Event}
 use Rattle.sdd_script.specs.declared.fault.WorkRule.{WorkRule}
 use Rattle.sdd_script.specs.declared.fault.WorkRule.TheVariants.{BadEvent, BadLine, BadNumber, NotUtf8, TooMany}
-use Rattle.sdd_script.specs.All.{Plain, Quoted, Word, is_free, is_sound, known, must, number_of, words_of, ◌>>=◌}
+use Rattle.sdd_script.specs.All.{Plain, Quoted, Word, is_free, is_sound, must, number_of, require, words_of, ◌>>=◌}
 use Rattle.sdd_control.specs.Keys.{key_of}
 use Rattle.sdd_control.specs.declared.act.Act.{Act}
 use Rattle.sdd_control.specs.declared.act.Act.TheVariants.{Step, Deliver, Stop}
@@ -27,7 +27,7 @@ within least most (Some (pos n)) = if nat_le least n && nat_le n most then Some 
 within least most _ = None
 
 abbrev pub number_within : ℕ → ℕ → Word → Result ℕ WorkRule
-number_within least most (Plain bytes) = known BadNumber (within least most (number_of bytes))
+number_within least most (Plain bytes) = require BadNumber (within least most (number_of bytes))
 number_within least most (Quoted text) = Err BadNumber
 
 -- a site is any number of 32 bits, until it is known whether it exists
@@ -90,7 +90,7 @@ key_rules (Ended head) key draft words = Err BadLine
 abbrev pub words_rules : Draft → List Word → Result Draft WorkRule
 words_rules draft [] = Err BadLine
 words_rules draft (first ∷ words) =
-    known BadLine (key_of first) >>= λ key. key_rules draft.stage key draft words
+    require BadLine (key_of first) >>= λ key. key_rules draft.stage key draft words
 
 -- a text that is too long makes the line bad
 abbrev pub sound_rules : Draft → List Word → Result Draft WorkRule
@@ -100,5 +100,5 @@ sound_rules draft words = must BadLine (list_all is_sound words) >>= λ _. words
 unfoldable pub line_rules : Draft → List ℕ → Result Draft WorkRule
 line_rules draft line =
     must NotUtf8 (is_utf8 line) >>= λ _.
-    known BadLine (words_of line) >>= λ words.
+    require BadLine (words_of line) >>= λ words.
     sound_rules draft words

@@ -14,8 +14,8 @@ abbrev pub untold : Log → ℕ → ℕ → Bool
 untold log i j = not (noted (is_tell i j) log) && not (knows log i j)
 
 -- the lowest site above i that it hasn't told
-abbrev pub next_untold : ℕ → Log → ℕ → Option ℕ
-next_untold backups log i = first_from (untold log i) (i + 1) (backups - i)
+abbrev pub next_untold_site : ℕ → Log → ℕ → Option ℕ
+next_untold_site backups log i = first_from (untold log i) (i + 1) (backups - i)
 
 -- i has heard that j took a value, or knows that j has stopped
 abbrev pub answered : Log → ℕ → ℕ → Bool
@@ -42,5 +42,5 @@ send i true None true Nought left = Finish i Nought
 
 abbrev pub next_send : ℕ → ℕ → Log → ℕ → Note
 next_send backups writes log i =
-    send i (leads log i && not (finished log i)) (next_untold backups log i)
+    send i (leads log i && not (finished log i)) (next_untold_site backups log i)
     (all_answered backups log i) (value log i) (unwritten writes log i)

@@ -1,5 +1,5 @@
 ghost use Rattle.std.specs.Prelude.{◌≡◌, Err, MatchResult, Ok};
-ghost use Rattle.sdd_script.specs.All.{known, must};
+ghost use Rattle.sdd_script.specs.All.{must, require};
 ghost use Rattle.sdd_control.specs.Faults.{GivesLine, told_at};
 ghost use Rattle.sdd_control.specs.declared.fault.LineError.TheVariants.{Broken};
 
@@ -27,19 +27,19 @@ impl From<NoMemory> for LineError {
 }
 
 /// The answer to a line that breaks the rule.
-pub fn broken<T>(rule: WorkRule) -> Result<T, LineError>
+pub fn refuse<T>(rule: WorkRule) -> Result<T, LineError>
     ensures { result ≡ Err (Broken rule) }
 {
     Err(LineError::Broken(rule))
 }
 
 /// The value, or the rule that is broken where it isn't there.
-pub fn known<T>(rule: WorkRule, value: Option<T>) -> Result<T, LineError>
-    ensures { GivesLine (λ x. x) result (known rule value) }
+pub fn require<T>(rule: WorkRule, value: Option<T>) -> Result<T, LineError>
+    ensures { GivesLine (λ x. x) result (require rule value) }
 {
     match value {
         Some(value) => Ok(value),
-        None => broken(rule),
+        None => refuse(rule),
     }
 }
 
@@ -47,7 +47,7 @@ pub fn known<T>(rule: WorkRule, value: Option<T>) -> Result<T, LineError>
 pub fn must(rule: WorkRule, holds: bool) -> Result<(), LineError>
     ensures { GivesLine (λ u. u) result (must rule holds) }
 {
-    if holds { Ok(()) } else { broken(rule) }
+    if holds { Ok(()) } else { refuse(rule) }
 }
 
 /// What a line gave, its fault with the line's number.

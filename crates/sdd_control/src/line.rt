@@ -6,7 +6,7 @@ ghost use Rattle.sdd_control.specs.LineRules.{delivery_of, end_of, event_rules, 
 
 use crate::act::Act;
 use crate::draft::Draft;
-use crate::fault::{LineError, broken, known, must};
+use crate::fault::{LineError, must, refuse, require};
 use crate::key::{Key, key_of};
 use crate::limits::{MAX_BACKUPS, MAX_WRITES};
 use crate::stage::{Head, Stage};
@@ -37,8 +37,8 @@ fn read_number(least: u32, most: u32, word: &Token<'_>) -> Result<u32, LineError
     ensures { GivesLine (λ n. n) result (number_within least most word.now) }
 {
     match word.plain() {
-        Some(bytes) => known(WorkRule::BadNumber, number_in_bytes(least, most, bytes)),
-        None => broken(WorkRule::BadNumber),
+        Some(bytes) => require(WorkRule::BadNumber, number_in_bytes(least, most, bytes)),
+        None => refuse(WorkRule::BadNumber),
     }
 }
 
@@ -61,7 +61,7 @@ fn read_head(words: &mut Tokens<'_>) -> Result<Head, LineError>
             let writes = read_number(1, MAX_WRITES, &writes)?;
             Ok(Head { backups, writes })
         }
-        None => broken(WorkRule::BadLine),
+        None => refuse(WorkRule::BadLine),
     }
 }
 
@@ -75,7 +75,7 @@ fn read_site(backups: u32, words: &mut Tokens<'_>) -> Result<u32, LineError>
             must(WorkRule::BadEvent, site <= backups)?;
             Ok(site)
         }
-        None => broken(WorkRule::BadLine),
+        None => refuse(WorkRule::BadLine),
     }
 }
 
@@ -96,7 +96,7 @@ fn read_delivery(backups: u32, words: &mut Tokens<'_>) -> Result<Act, LineError>
             must(WorkRule::BadEvent, are_linked(backups, from, to))?;
             Ok(Act::Deliver(from, to))
         }
-        None => broken(WorkRule::BadLine),
+        None => refuse(WorkRule::BadLine),
     }
 }
 
@@ -116,7 +116,7 @@ fn read_end(head: Head, draft: &mut Draft, words: &mut Tokens<'_>) -> Result<(),
             draft.set_stage(Stage::Ended(head));
             Ok(())
         }
-        Some(_) => broken(WorkRule::BadLine),
+        Some(_) => refuse(WorkRule::BadLine),
     }
 }
 
@@ -142,7 +142,7 @@ fn read_event_line(
             add_act(draft, Act::Stop(site))
         }
         Key::End => read_end(head, draft, words),
-        Key::Control => broken(WorkRule::BadLine),
+        Key::Control => refuse(WorkRule::BadLine),
     }
 }
 
@@ -155,7 +155,7 @@ fn read_first_line(key: Key, draft: &mut Draft, words: &mut Tokens<'_>) -> Resul
             draft.set_stage(Stage::Events(head));
             Ok(())
         }
-        _ => broken(WorkRule::BadLine),
+        _ => refuse(WorkRule::BadLine),
     }
 }
 
@@ -165,7 +165,7 @@ fn read_key_line(key: Key, draft: &mut Draft, words: &mut Tokens<'_>) -> Result<
     match draft.stage() {
         Stage::First => read_first_line(key, draft, words),
         Stage::Events(head) => read_event_line(key, head, draft, words),
-        Stage::Ended(_) => broken(WorkRule::BadLine),
+        Stage::Ended(_) => refuse(WorkRule::BadLine),
     }
 }
 
@@ -173,9 +173,9 @@ fn read_words(draft: &mut Draft, words: &mut Tokens<'_>) -> Result<(), LineError
     ensures { GivesLine (λ _. draft.new) result (words_rules draft.old words.old) }
 {
     match words.next() {
-        None => broken(WorkRule::BadLine),
+        None => refuse(WorkRule::BadLine),
         Some(first) => {
-            let key = known(WorkRule::BadLine, key_of(&first))?;
+            let key = require(WorkRule::BadLine, key_of(&first))?;
             read_key_line(key, draft, words)
         }
     }
@@ -198,10 +198,10 @@ pub fn read_line(alloc: Global, draft: &mut Draft, line: &[u8]) -> Result<(), Li
     ensures { GivesLine (λ _. draft.new) result (line_rules draft.old line.now) }
 {
     match text_of(line) {
-        None => broken(WorkRule::NotUtf8),
+        None => refuse(WorkRule::NotUtf8),
         Some(_) => match words_of(line) {
             Some(mut words) => read_sound_words(alloc, draft, &mut words),
-            None => broken(WorkRule::BadLine),
+            None => refuse(WorkRule::BadLine),
         },
     }
 }

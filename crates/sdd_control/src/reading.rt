@@ -6,7 +6,7 @@ ghost use Rattle.sdd_control.specs.Faults.{GivesLine, Tells};
 ghost use Rattle.sdd_control.specs.Walk.{control_script, is_ended, nothing_read, one_line, tail_rules, walk_bytes};
 
 use crate::draft::Draft;
-use crate::fault::{LineError, at_line, broken, must};
+use crate::fault::{LineError, at_line, must, refuse};
 use crate::line::read_line;
 use crate::script::ControlScript;
 use crate::stage::Stage;
@@ -31,7 +31,7 @@ fn read_one(alloc: Global, draft: &mut Draft, line: &[u8]) -> Result<(), LineErr
     read_line(alloc, draft, line)
 }
 
-fn unended(tail: &[u8]) -> WorkRule
+fn rule_of_tail(tail: &[u8]) -> WorkRule
     ensures { Err result ≡ tail_rules First [] tail.now }
 {
     match tail {
@@ -54,9 +54,9 @@ fn finish(draft: Draft, tail: &[u8]) -> Result<ControlScript, LineError>
                 writes: head.writes,
                 acts: draft.into_acts(),
             }),
-            _ => broken(WorkRule::BadLine),
+            _ => refuse(WorkRule::BadLine),
         },
-        _ => broken(unended(tail)),
+        _ => refuse(rule_of_tail(tail)),
     }
 }
 

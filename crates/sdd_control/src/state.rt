@@ -178,7 +178,7 @@ impl State {
         }
     }
 
-    fn next_untold(&self, site: u32) -> Option<u32>
+    fn next_untold_site(&self, site: u32) -> Option<u32>
         requires sized { IsSized self.now }
         requires site { site ≤ self.now.backups }
         ensures { result ≡ first_from (untold_in self.now site) (site + 1) (self.now.backups - site) }
@@ -253,7 +253,7 @@ impl State {
         if !self.may_send(site) {
             return Note::Nothing;
         }
-        match self.next_untold(site) {
+        match self.next_untold_site(site) {
             Some(other) => Note::Tell(site, other, self.value(site)),
             None => {
                 if self.has_all_answers(site) {

@@ -121,7 +121,7 @@ impl FragCopy {
     /// Looks at the items whose keys the restrictions on the key column allow, so at one where they
     /// name one key, found in O(log n) for n items; at all where they allow all. Copies the rows
     /// that it gives, and makes room at once for as many as it looks at.
-    pub fn meeting(&self, restrictions: &[Restriction]) -> Result<Vec<(i64, Row)>, NoMemory>
+    pub fn find_meeting(&self, restrictions: &[Restriction]) -> Result<Vec<(i64, Row)>, NoMemory>
         requires { IsTrue self.now.live }
         ensures { IfOk result (λ rows. rows.items ≡ rows_meeting restrictions.now self.now.value) }
     {

@@ -36,7 +36,7 @@ fn found_in(alloc: Global, one: &Use, copies: &Copies) -> Result<Vec<(i64, Row)>
     let mut found = Vec::new(alloc);
     for frag in one.frags.as_slice() {
         if let Some(copy) = copies.at(*frag) {
-            add_all(&mut found, copy.meeting(one.restrictions.as_slice())?)?;
+            add_all(&mut found, copy.find_meeting(one.restrictions.as_slice())?)?;
         }
     }
     Ok(found)

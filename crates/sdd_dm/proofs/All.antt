@@ -16,7 +16,7 @@ pub use Rattle.sdd_dm.specs.Pipes.{is_processing, is_wait, pipe, waits}
 pub use Rattle.sdd_dm.specs.Ranks.{IsLowest, rank_of_act}
 pub use Rattle.sdd_dm.specs.Represents.{EachHanded, HasCopies, Represents, Shows, ShowsClass, Worked, all_dated, written}
 pub use Rattle.sdd_dm.specs.Starts.{lent, own_rows, with_own}
-pub use Rattle.sdd_dm.specs.State.{State, act_in, class_piped, frozen_now, frozen_of, head_taken, notes_after, notes_handed, state_after, state_handed, stepped, steps_in, steps_left, with_out}
+pub use Rattle.sdd_dm.specs.State.{State, act_in, class_of_pipe, frozen_now, frozen_of, head_taken, notes_after, notes_handed, state_after, state_handed, stepped, steps_in, steps_left, with_out}
 pub use Rattle.sdd_dm.specs.Views.{ClassView, Home, View, after, at_class, class_after, class_view, dated_in, home_of, source_of, view_of}
 pub use Rattle.sdd_dm.specs.Waiting.{IsAwaited, conds_of, first_unmet, waiting_in}
 pub use Rattle.sdd_dm.specs.declared.step.Step.{Step}

@@ -1,5 +1,5 @@
 -- A FETCH, REDUCE or SHIP is answered from the held rows; and all messages together.
-use Rattle.sdd_dm.proofs.All.{Act, Bases, ClassNo, DatesDiffer, Did, Fetch, Frozen, Handed, HasCopies, List, Log, Msg, None, Notes, Null, Option, Reached, Read, Reduce, Reduced, Rows, Sends, Setting, Ship, Shows, Site, Some, State, Ts, Value, Values, Worked, Write, [], all_dated, all_held, answer_to, ap, arith, class_piped, class_view, false, fits, frozen, frozen_handed, frozen_of, given_up, goes_through, hands, home_of, is_asked_of, length, length-update, made_nothing, made_one, nat_tests, next, notes_handed, nothing_noted, opens, reduced_at, refl, rows_held, state_handed, suc, sym, update, values_in, with_out, ℕ, ◌<◌, ◌==◌, ◌∷◌, ◌≡◌, ◌≤◌}
+use Rattle.sdd_dm.proofs.All.{Act, Bases, ClassNo, DatesDiffer, Did, Fetch, Frozen, Handed, HasCopies, List, Log, Msg, None, Notes, Null, Option, Reached, Read, Reduce, Reduced, Rows, Sends, Setting, Ship, Shows, Site, Some, State, Ts, Value, Values, Worked, Write, [], all_dated, all_held, answer_to, ap, arith, class_of_pipe, class_view, false, fits, frozen, frozen_handed, frozen_of, given_up, goes_through, hands, home_of, is_asked_of, length, length-update, made_nothing, made_one, nat_tests, next, notes_handed, nothing_noted, opens, reduced_at, refl, rows_held, state_handed, suc, sym, update, values_in, with_out, ℕ, ◌<◌, ◌==◌, ◌∷◌, ◌≡◌, ◌≤◌}
 use Rattle.sdd_dm.proofs.ByClass.{at_own, at_other, same_number}
 use Rattle.sdd_dm.proofs.Dates.{new_differ}
 use Rattle.sdd_dm.proofs.Messages.{is_answered, opened, put_shown, read_worked}
@@ -112,10 +112,10 @@ pub hand_worked : (from : Site) (m : Msg) (st old new : State) (none notes : Not
 hand_worked from m st old new none notes same e f g = rw (e, g, f, ← same) (message_worked from m st)
 
 -- the class of a message for a pipe is there
-class_there : (s : Setting) (bases : Bases) (log : Log) (from : Site) (m : Msg) (c : ℕ) → fits s bases log from m → class_piped m ≡ Some c
+class_there : (s : Setting) (bases : Bases) (log : Log) (from : Site) (m : Msg) (c : ℕ) → fits s bases log from m → class_of_pipe m ≡ Some c
     → c ≤ length s.catalogue.classes
 class_there s bases log from m c fit e = grind arith
 
 pub class_known : (s : Setting) (bases : Bases) (st : State) (log : Log) (from : Site) (m : Msg) → Shows s st log → fits s bases log from m → (c : ℕ)
-    → class_piped m ≡ Some c → c < length st.pipes
+    → class_of_pipe m ≡ Some c → c < length st.pipes
 class_known s bases st log from m shows fit c e = let l = class_there s bases log from m c fit e in omega (arith, shows.pipes, l)

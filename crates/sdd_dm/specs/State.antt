@@ -29,11 +29,11 @@ frozen_of frozen c = slice_index_or frozen c None
 -- a message is handed
 
 -- the class of a READ, WRITE or NULL
-abbrev pub class_piped : Msg → Option ℕ
-class_piped (Read ts class txn attempt conds uses) = Some class.0
-class_piped (Write ts class txn changes) = Some class.0
-class_piped (Null class time) = Some class.0
-class_piped _ = None
+abbrev pub class_of_pipe : Msg → Option ℕ
+class_of_pipe (Read ts class txn attempt conds uses) = Some class.0
+class_of_pipe (Write ts class txn changes) = Some class.0
+class_of_pipe (Null class time) = Some class.0
+class_of_pipe _ = None
 
 -- a READ arrives
 abbrev pub arrived : Msg → State → Notes → Notes
@@ -65,10 +65,10 @@ notes_by (Some c) from m st n = n
 notes_by None from m st n = with_answers from m st n
 
 abbrev pub state_handed : Msg → State → State
-state_handed m st = state_by (class_piped m) m st
+state_handed m st = state_by (class_of_pipe m) m st
 
 abbrev pub notes_handed : Site → Msg → State → Notes → Notes
-notes_handed from m st n = notes_by (class_piped m) from m st (arrived m st n)
+notes_handed from m st n = notes_by (class_of_pipe m) from m st (arrived m st n)
 
 -- the head of class c does a step
 

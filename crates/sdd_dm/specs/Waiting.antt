@@ -31,12 +31,12 @@ waiting_in pipes flags c t = if waits_at flags c then conds_of t (head_at pipes 
 
 -- of the READ of class c that waits, the conditions that aren't met
 
-abbrev pub lacking_of : List Digest → Option Msg → Option (List Cond)
-lacking_of pipes (Some (Read ts class txn attempt conds uses)) = Some (unmet pipes conds)
-lacking_of pipes _ = None
+abbrev pub unmet_of : List Digest → Option Msg → Option (List Cond)
+unmet_of pipes (Some (Read ts class txn attempt conds uses)) = Some (unmet pipes conds)
+unmet_of pipes _ = None
 
-abbrev pub lacking_in : List Digest → List Bool → ℕ → Option (List Cond)
-lacking_in pipes flags c = if waits_at flags c then lacking_of pipes (head_at pipes c) else None
+abbrev pub unmet_in : List Digest → List Bool → ℕ → Option (List Cond)
+unmet_in pipes flags c = if waits_at flags c then unmet_of pipes (head_at pipes c) else None
 
 -- for the WRITE at the head of class c, the classes whose READ waits and must not see it
 

@@ -7,7 +7,7 @@ ghost use Rattle.sdd_dm.specs.Copies.{dated};
 ghost use Rattle.sdd_dm.specs.Due.{next};
 ghost use Rattle.sdd_dm.specs.Fits.{fits};
 ghost use Rattle.sdd_dm.specs.Represents.{Represents};
-ghost use Rattle.sdd_dm.specs.Waiting.{IsAwaited, holders_in, lacking_in};
+ghost use Rattle.sdd_dm.specs.Waiting.{IsAwaited, holders_in, unmet_in};
 ghost use Rattle.sdd_pipe.specs.Digest.{passed_to};
 ghost use Rattle.sdd_pipe.specs.Pipes.{pipe_at};
 
@@ -88,7 +88,7 @@ impl DataModule {
     }
 
     /// How many messages in the pipe of a class aren't processed. O(1), and takes no memory.
-    pub fn unprocessed(&self, class: ClassNo) -> usize
+    pub fn count_unprocessed(&self, class: ClassNo) -> usize
         ensures { result ≡ length (pipe_at self.now.value.pipes class.0).unprocessed }
     {
         self.parts.pipes.len(class)
@@ -104,11 +104,11 @@ impl DataModule {
 
     /// Of the READ of a class, where it waits, the conditions whose classes haven't passed their
     /// times; None exactly where none waits. Costs copies of these.
-    pub fn lacking(&self, class: ClassNo) -> Result<Option<Conds>, NoMemory>
+    pub fn unmet_conds(&self, class: ClassNo) -> Result<Option<Conds>, NoMemory>
         ensures { IfOk result (λ conds. conds
-            ≡ lacking_in self.now.value.pipes self.now.value.waits class.0) }
+            ≡ unmet_in self.now.value.pipes self.now.value.waits class.0) }
     {
-        self.parts.lacking(class)
+        self.parts.unmet_conds(class)
     }
 
     /// For the WRITE at the head of the pipe of a class, the classes whose READ waits and must not
@@ -129,7 +129,7 @@ impl DataModule {
             → class.0 ≤ length setting.catalogue.classes
             → IsAwaited setting log class.0 ts.0 (option_copied result) }
     {
-        self.parts.awaited(class, ts)
+        self.parts.awaited_cond(class, ts)
     }
 }
 

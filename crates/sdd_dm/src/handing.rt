@@ -4,7 +4,7 @@ ghost use Rattle.std.specs.Option.{option_map};
 ghost use Rattle.sdd_copy.specs.Frozen.{values_in};
 ghost use Rattle.sdd_pipe.specs.Pipes.{update};
 ghost use Rattle.sdd_dm.specs.Copies.{rows_held, all_held, reduced_at};
-ghost use Rattle.sdd_dm.specs.State.{State, frozen_of, class_piped, arrived, state_told, with_answers, state_handed, notes_handed};
+ghost use Rattle.sdd_dm.specs.State.{State, frozen_of, class_of_pipe, arrived, state_told, with_answers, state_handed, notes_handed};
 
 use crate::parts::Parts;
 use crate::slots::{put_space, reduce_space};
@@ -18,12 +18,12 @@ impl Parts {
     /// a FETCH, REDUCE or SHIP is answered from the frozen rows.
     pub fn hand(&mut self, from: Site, msg: Msg, draft: &mut Draft) -> Result<(), NoMemory>
         requires pipes_live { IsTrue self.old.pipes_live }
-        requires known { (c : ℕ) → class_piped msg ≡ Some c → c < length self.old.pipes }
+        requires known { (c : ℕ) → class_of_pipe msg ≡ Some c → c < length self.old.pipes }
         ensures state { OnOk result (self.new ≡ state_handed msg self.old) }
         ensures notes { OnOk result (draft.new ≡ notes_handed from msg self.old draft.old) }
     {
         self.record_arrival(&msg, draft)?;
-        match class_piped(&msg) {
+        match class_of_pipe(&msg) {
             Some(class) => self.pipes.put(class, msg),
             None => self.tell(from, msg, draft),
         }
@@ -146,8 +146,8 @@ impl Parts {
 }
 
 /// The class of a READ, WRITE or NULL.
-fn class_piped(msg: &Msg) -> Option<ClassNo>
-    ensures { option_map (λ class. class.0) result ≡ class_piped msg.now }
+fn class_of_pipe(msg: &Msg) -> Option<ClassNo>
+    ensures { option_map (λ class. class.0) result ≡ class_of_pipe msg.now }
 {
     match msg {
         Msg::Read { class, .. } => Some(*class),

@@ -3,7 +3,7 @@ ghost use Rattle.std.specs.Prelude.{◌≡◌, IfOk};
 ghost use Rattle.std.specs.List.{list_all};
 ghost use Rattle.std.specs.Option.{option_copied};
 ghost use Rattle.sdd_dm.specs.Heads.{is_met_in, step_at, first_step};
-ghost use Rattle.sdd_dm.specs.Waiting.{waiting_in, first_unmet, lacking_in};
+ghost use Rattle.sdd_dm.specs.Waiting.{waiting_in, first_unmet, unmet_in};
 
 use crate::conditions::{all_met, first_unmet, judge, lacks_at, place_unmet, unmet};
 use crate::hints::Hints;
@@ -85,13 +85,13 @@ fn may_answer(pipes: &Pipes, hints: &mut Hints, class: ClassNo, conds: &[Cond]) 
 }
 
 /// Of the READ of a class, where it waits, the conditions that aren't met.
-pub fn lacking(
+pub fn unmet_conds(
     alloc: Global,
     pipes: &Pipes,
     waits: &[bool],
     class: ClassNo,
 ) -> Result<Option<Conds>, NoMemory>
-    ensures { IfOk result (λ conds. conds ≡ lacking_in pipes.now.value waits.now class.0) }
+    ensures { IfOk result (λ conds. conds ≡ unmet_in pipes.now.value waits.now class.0) }
 {
     if !waits_at(waits, class) {
         return Ok(None);
@@ -103,7 +103,12 @@ pub fn lacking(
 }
 
 /// Of the READ of a class with this timestamp, where it waits, the first condition that isn't met.
-pub fn awaited<'a>(pipes: &'a Pipes, waits: &[bool], class: ClassNo, ts: Ts) -> Option<&'a Cond>
+pub fn awaited_cond<'a>(
+    pipes: &'a Pipes,
+    waits: &[bool],
+    class: ClassNo,
+    ts: Ts,
+) -> Option<&'a Cond>
     ensures { option_copied result ≡ first_unmet pipes.now.value
         (waiting_in pipes.now.value waits.now class.0 ts.0) }
 {

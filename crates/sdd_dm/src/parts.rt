@@ -5,13 +5,13 @@ ghost use Rattle.std.specs.Option.{option_copied};
 ghost use Rattle.sdd_module.specs.All.{D, FitsStart};
 ghost use Rattle.sdd_dm.specs.Heads.{first_step};
 ghost use Rattle.sdd_dm.specs.Represents.{Shows, Worked};
-ghost use Rattle.sdd_dm.specs.State.{class_piped};
+ghost use Rattle.sdd_dm.specs.State.{class_of_pipe};
 ghost use Rattle.sdd_dm.specs.Views.{source_of};
-ghost use Rattle.sdd_dm.specs.Waiting.{waiting_in, first_unmet, holders_in, lacking_in};
+ghost use Rattle.sdd_dm.specs.Waiting.{waiting_in, first_unmet, holders_in, unmet_in};
 
 use crate::hints::Hints;
 use crate::holding::{ClassNos, holders};
-use crate::judging::{awaited, first_step, lacking};
+use crate::judging::{awaited_cond, first_step, unmet_conds};
 use crate::starting::{first_copies, no_spaces, no_waits, sources};
 use crate::step::Step;
 use sdd_copy::{Copies, Space};
@@ -67,7 +67,7 @@ impl Parts {
             (record { catalogue = catalogue.now; site = D dm; rows = rows.now }) parts []) }
         ensures quiet { IfOk result (λ parts. first_step parts.pipes parts.waits ≡ None) }
     {
-        catalogue.known();
+        catalogue.law_is_sound();
         law_rows_make_database(catalogue, rows);
         let classes = catalogue.classes();
         let sources = sources(alloc, catalogue)?;
@@ -93,7 +93,7 @@ impl Parts {
         requires live { IsTrue self.old.copies.live }
         requires pipes_live { IsTrue self.old.pipes_live }
         requires flags { length self.old.waits ≡ length self.old.pipes }
-        requires known { (c : ℕ) → class_piped msg ≡ Some c → c < length self.old.pipes }
+        requires known { (c : ℕ) → class_of_pipe msg ≡ Some c → c < length self.old.pipes }
         ensures worked { IfOk result (λ draft. Worked from msg self.old self.new draft) }
         ensures quiet { OnOk result (first_step self.new.pipes self.new.waits ≡ None) }
     {
@@ -129,10 +129,10 @@ impl Parts {
     }
 
     /// Of the READ of a class, where it waits, the conditions that aren't met.
-    pub fn lacking(&self, class: ClassNo) -> Result<Option<Conds>, NoMemory>
-        ensures { IfOk result (λ conds. conds ≡ lacking_in self.now.pipes self.now.waits class.0) }
+    pub fn unmet_conds(&self, class: ClassNo) -> Result<Option<Conds>, NoMemory>
+        ensures { IfOk result (λ conds. conds ≡ unmet_in self.now.pipes self.now.waits class.0) }
     {
-        lacking(self.alloc, &self.pipes, self.waits.as_slice(), class)
+        unmet_conds(self.alloc, &self.pipes, self.waits.as_slice(), class)
     }
 
     /// For the WRITE at the head of a class, the classes whose READ holds it back.
@@ -144,10 +144,10 @@ impl Parts {
 
     /// Of the READ of a class with this timestamp, where it waits, the first condition that isn't
     /// met.
-    pub fn awaited(&self, class: ClassNo, ts: Ts) -> Option<&Cond>
+    pub fn awaited_cond(&self, class: ClassNo, ts: Ts) -> Option<&Cond>
         ensures { option_copied result ≡ first_unmet self.now.pipes
             (waiting_in self.now.pipes self.now.waits class.0 ts.0) }
     {
-        awaited(&self.pipes, self.waits.as_slice(), class, ts)
+        awaited_cond(&self.pipes, self.waits.as_slice(), class, ts)
     }
 }

@@ -77,7 +77,7 @@ fn key_columns(alloc: Global, catalogue: &Catalogue, dm: DmNo) -> Result<Vec<Opt
     ensures { IfOk result (λ keys. (f : ℕ) → has_copy catalogue.now dm.0 f ≡ true
         → is_some (slice_index_or keys.items f None) ≡ true) }
 {
-    catalogue.known();
+    catalogue.law_is_sound();
     let mut keys = Vec::with_capacity(alloc, catalogue.fragments() as usize + 1)?;
     for number in 0..catalogue.fragments() + 1 {
         keys.push(key_column(catalogue, dm, number))?;
@@ -89,7 +89,7 @@ fn key_column(catalogue: &Catalogue, dm: DmNo, number: u32) -> Option<u32>
     requires { number ≤ length catalogue.now.fragments }
     ensures { is_some result ≡ has_copy catalogue.now dm.0 number }
 {
-    catalogue.known();
+    catalogue.law_is_sound();
     let frag = FragNo(number.max(1));
     if frag.0 > catalogue.fragments() || !catalogue.has_copy(dm, frag) {
         return None;

@@ -20,7 +20,7 @@ pub fn extend(
     ensures allowed { IfOk result (λ _. further_faults catalogue.now classes.now ≡ []) }
     ensures fault { IfErr result (λ e. TellsFirst e (further_faults catalogue.now classes.now)) }
 {
-    catalogue.known();
+    catalogue.law_is_sound();
     let parts = add_classes(catalogue.parts()?, classes)?;
     Catalogue::build(alloc, &parts)
 }

@@ -16,7 +16,7 @@ pub fn retire(alloc: Global, catalogue: &Catalogue, upto: u32) -> Result<Catalog
     requires { upto ≤ length catalogue.now.classes }
     ensures { IfOk result (λ made. made ≡ retired upto catalogue.now) }
 {
-    catalogue.known();
+    catalogue.law_is_sound();
     let parts = empty_first(alloc, catalogue.parts()?, upto as usize)?;
     build_valid(alloc, &parts)
 }

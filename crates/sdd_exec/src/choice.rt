@@ -62,7 +62,7 @@ fn place_of(choice: &[usize], part: usize, place: usize, p: usize) -> usize
 }
 
 /// The choice for so many parts with another place at one of them.
-pub fn placed(
+pub fn choice_with_place(
     alloc: Global,
     parts: usize,
     choice: &[usize],

@@ -62,7 +62,7 @@ fn add_keyed(
 /// The rows of a part that meet the conditions which name no other part: their places, each with
 /// the row's values in the tied columns.
 #[tactic(auto, using(crate::proofs::Steps::key_steps))]
-fn keyed(
+fn keyed_places(
     alloc: Global,
     rows: &[&Row],
     part: usize,
@@ -97,7 +97,7 @@ fn add_untied(
 
 /// The places of a part's rows where nothing ties it: of those that meet the conditions which name
 /// no other part.
-pub fn untied(
+pub fn untied_places(
     alloc: Global,
     rows: &[&Row],
     part: usize,
@@ -137,7 +137,7 @@ fn add_place(alloc: Global, index: &mut Index, key: Row, place: usize) -> Result
 
 /// The places by their keys, which are moved.
 #[tactic(auto, using(crate::proofs::Steps::grouped_next))]
-pub fn grouped(alloc: Global, keyed: Vec<(Row, usize)>) -> Result<Index, NoMemory>
+pub fn group_by_key(alloc: Global, keyed: Vec<(Row, usize)>) -> Result<Index, NoMemory>
     ensures { IfOk result (λ m. (q : List Value) → option_map_or (λ v. v.items) (hash.get joins.same_row m q) [] ≡ joins.places keyed.items q) }
 {
     let mut index: Index = HashMap::new(alloc);
@@ -169,5 +169,5 @@ pub fn index(
 ) -> Result<Index, NoMemory>
     ensures { IfOk result (λ m. (q : List Value) → option_map_or (λ v. v.items) (hash.get joins.same_row m q) [] ≡ joins.places (joins.keyed part conds.now ties.now 0 (rows_lent rows.now)) q) }
 {
-    grouped(alloc, keyed(alloc, rows, part, conds, ties)?)
+    group_by_key(alloc, keyed_places(alloc, rows, part, conds, ties)?)
 }

@@ -8,9 +8,9 @@ ghost use Rattle.sdd_lang.specs.All.{distinct, product, projection, rows_lent, s
 ghost use Rattle.sdd_exec.specs.Choices as joins;
 ghost use Rattle.sdd_exec.specs.Sifting as sift;
 
-use crate::choice::{Choice, fill, placed};
+use crate::choice::{Choice, choice_with_place, fill};
 use crate::found::Found;
-use crate::index::{Index, index, places_of, untied};
+use crate::index::{Index, index, places_of, untied_places};
 use crate::parts::Parts;
 use crate::sifting::sift;
 use crate::tie::{Tie, key_for, ties};
@@ -72,7 +72,7 @@ fn extend(
 {
     kept.reserve(places.len())?;
     for place in places {
-        kept.push(placed(alloc, parts, choice, part, *place)?)?;
+        kept.push(choice_with_place(alloc, parts, choice, part, *place)?)?;
     }
     Ok(())
 }
@@ -144,7 +144,7 @@ fn take_untied(
     requires { part < length parts.now }
     ensures { IfOk result (λ extended. length extended.items ≤ most → extended.items ≡ flat_map (joins.extended parts.now part [] (joins.keyed part conds.now [] 0 (slice_index_or parts.now part []))) kept.now) }
 {
-    let places = untied(alloc, parts.rows(part), part, conds)?;
+    let places = untied_places(alloc, parts.rows(part), part, conds)?;
     extend_each(alloc, parts.count(), kept, part, &places, most)
 }
 

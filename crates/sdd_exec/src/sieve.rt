@@ -7,7 +7,7 @@ ghost use Rattle.sdd_lang.specs.All.{Value, row_cmp};
 ghost use Rattle.sdd_exec.specs.Choices as joins;
 ghost use Rattle.sdd_exec.specs.Sifting as sift;
 
-use crate::choice::{Choice, placed};
+use crate::choice::{Choice, choice_with_place};
 use crate::found::Found;
 use crate::links::values_of;
 use crate::parts::Parts;
@@ -145,7 +145,7 @@ pub fn offer_each(
     ensures { IfOk result (λ _. sift.Offered parts.now mesh.now sieve.old sieve.new (map (joins.placed (length parts.now) choice.now part) places.now)) }
 {
     for place in places {
-        let next = placed(alloc, parts.count(), choice, part, *place)?;
+        let next = choice_with_place(alloc, parts.count(), choice, part, *place)?;
         offer(alloc, sieve, parts, mesh, next)?;
     }
     Ok(())

@@ -8,7 +8,7 @@ ghost use Rattle.sdd_exec.specs.Sifting as sift;
 ghost use Rattle.sdd_exec.specs.Splicing.{AreSound};
 
 use crate::choice::{Choice, place_at};
-use crate::index::{Index, grouped, places_of, untied};
+use crate::index::{Index, group_by_key, places_of, untied_places};
 use crate::links::{links, outs};
 use crate::order::{best_part, with_part};
 use crate::parts::Parts;
@@ -51,7 +51,7 @@ fn sifted_part(
 {
     let group = with_part(alloc, &[], part)?;
     let mesh = mesh_of(alloc, &group, conds, out, room)?;
-    let places = untied(alloc, parts.rows(part), part, conds)?;
+    let places = untied_places(alloc, parts.rows(part), part, conds)?;
     let mut sieve = no_choices(alloc);
     offer_each(alloc, &mut sieve, parts, &mesh, &[], part, &places)?;
     let Sieve { kept, found: _ } = sieve;
@@ -139,7 +139,7 @@ fn offer_all(
     requires { sift.IsSieve parts.now mesh.now sieve.now }
     ensures { IfOk result (λ _. sift.Offered parts.now mesh.now sieve.old sieve.new (sift.extended_by parts.now part ties.now pairs.items kept.now)) }
 {
-    let index = grouped(alloc, pairs)?;
+    let index = group_by_key(alloc, pairs)?;
     for choice in kept {
         let key = key_for(alloc, ties, parts, choice.as_slice())?;
         let places = places_of(&index, &key);

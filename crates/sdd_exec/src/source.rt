@@ -41,7 +41,7 @@ fn key_of(catalogue: &Catalogue, rel: RelNo, row: &Row) -> i64
 }
 
 /// A copy of a relation's row with its key.
-fn keyed(catalogue: &Catalogue, rel: RelNo, row: &Row) -> Result<Entry, NoMemory>
+fn key_entry(catalogue: &Catalogue, rel: RelNo, row: &Row) -> Result<Entry, NoMemory>
     ensures { IfOk result (λ entry. entry ≡ record { key = key_in catalogue.now rel.0 row.now; row = row.now }) }
 {
     Ok(Entry {
@@ -65,7 +65,7 @@ fn add_entry(
     if !meets_all(conds, &[row]) {
         return Ok(());
     }
-    entries.put(alloc, keyed(catalogue, rel, row)?)
+    entries.put(alloc, key_entry(catalogue, rel, row)?)
 }
 
 /// The rows that meet the conditions, by their keys.
@@ -120,7 +120,7 @@ impl Source for Shipped<'_> {
         join(alloc, &parts, out, conds, room)
     }
 
-    fn matching(
+    fn find_matching(
         &self,
         alloc: Global,
         before: u32,

@@ -35,7 +35,7 @@ fn reads_of(alloc: Global, catalogue: &Catalogue, class: ClassNo) -> Result<List
     requires { IsClassOf catalogue.now class.0 }
     ensures { IfOk result (λ reads. reads ≡ reads_of catalogue.now class.0) }
 {
-    catalogue.known();
+    catalogue.law_is_sound();
     let mut reads = Vec::new(alloc);
     for f in 1..catalogue.fragments() + 1 {
         if catalogue.reads_at(class, FragNo(f)).is_some() {
@@ -54,7 +54,7 @@ fn written_by(
     requires { IsClassOf catalogue.now class.0 }
     ensures { IfOk result (λ written. written ≡ written_by catalogue.now class.0) }
 {
-    catalogue.known();
+    catalogue.law_is_sound();
     let mut written = vec![in alloc; false; catalogue.fragments() as usize]?;
     for frag in catalogue.class(class).writes.as_slice() {
         written[frag.0 as usize - 1] = true;

@@ -23,7 +23,7 @@ pub fn conflict_graph(alloc: Global, catalogue: &Catalogue) -> Result<Vec<Edge>,
     ensures nodes { IfOk result (λ edges. All (JoinsNodes (length catalogue.now.classes)) edges.items) }
     ensures few { IfOk result (λ edges. length edges.items ≤ 2 ^ 20) }
 {
-    catalogue.known();
+    catalogue.law_is_sound();
     let edges = edges_of(alloc, catalogue)?;
     Ok(edges)
 }

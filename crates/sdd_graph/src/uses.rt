@@ -36,7 +36,7 @@ impl<'a> Uses<'a> {
     pub(crate) fn of(alloc: Global, catalogue: &'a Catalogue) -> Result<Uses<'a>, NoMemory>
         ensures { IfOk result (λ uses. uses ≡ catalogue.now) }
     {
-        catalogue.known();
+        catalogue.law_is_sound();
         let mut classes = Vec::new(alloc);
         for i in 1..catalogue.classes() + 1 {
             classes.push(class_uses(alloc, catalogue, ClassNo(i))?)?;
@@ -49,7 +49,7 @@ impl<'a> Uses<'a> {
         ensures count { result ≡ length self.now.classes }
         ensures few { result ≤ MAX_CLASSES }
     {
-        self.catalogue.known();
+        self.catalogue.law_is_sound();
         self.catalogue.classes()
     }
 

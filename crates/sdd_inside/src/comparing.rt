@@ -7,7 +7,7 @@ ghost use Rattle.sdd_inside.specs.declared.moment.Happened.{Happened as Turn};
 
 use crate::delta::{Delta, Found, Handed, InFlight, PipeDelta, Put, QueueDelta};
 use crate::moment::{Happened, LinkMoment, Moment, PipeMoment, QueueMoment};
-use crate::told::parted;
+use crate::told::split_head;
 use sdd_net::Packet;
 use sdd_script::sdd_base::{Event, Listed, NoMemory, Parcel, Site, TxnNo};
 use sdd_wire::Msg;
@@ -29,8 +29,8 @@ fn both<'a, T>(before: &'a [T], after: &'a [T]) -> Option<(&'a T, &'a [T], &'a T
         ((before.now ≡ []) ⊎ (after.now ≡ []))
         (λ p. (before.now ≡ p.0.now ∷ p.1.now) × (after.now ≡ p.2.now ∷ p.3.now)) }
 {
-    match parted(before) {
-        Some((old, olds)) => match parted(after) {
+    match split_head(before) {
+        Some((old, olds)) => match split_head(after) {
             Some((new, news)) => Some((old, olds, new, news)),
             None => None,
         },

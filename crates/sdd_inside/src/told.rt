@@ -50,7 +50,7 @@ fn tell_rest<T: Told>(
 }
 
 /// The first item and the others.
-pub(crate) fn parted<T>(items: &[T]) -> Option<(&T, &[T])>
+pub(crate) fn split_head<T>(items: &[T]) -> Option<(&T, &[T])>
     ensures { MatchOption result (items.now ≡ []) (λ p. items.now ≡ p.0.now ∷ p.1.now) }
 {
     match items {
@@ -67,7 +67,7 @@ fn tell_items<T: Told>(
 ) -> Result<(), NoMemory>
     ensures { OnOk result (text.new.items ≡ text.old.items ++ separated (T.json catalogue.now txns.now) items.now) }
 {
-    match parted(items) {
+    match split_head(items) {
         Some((first, rest)) => {
             first.tell(text, catalogue, txns)?;
             tell_rest(text, rest, catalogue, txns)

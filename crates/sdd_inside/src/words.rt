@@ -8,7 +8,7 @@ ghost use Rattle.sdd_inside.specs.Words.{number_json, time_json, class_json, fra
 
 use crate::escape::{put_escaped, put_escaped_count, put_quoted};
 use crate::names::{class_word, fragment_name, txn_name};
-use crate::told::{Told, parted, tell_pair, tell_triple};
+use crate::told::{Told, split_head, tell_pair, tell_triple};
 use itoa::Buffer;
 use sdd_script::sdd_base::{
     Change, ClassNo, Cond, DmNo, FragNo, NoMemory, Row, Site, Ts, TxnNo, Value,
@@ -172,7 +172,7 @@ fn row_words(alloc: Global, values: &[Value]) -> Result<Vec<u8>, NoMemory>
     ensures { IfOk result (λ words. words.items ≡ line_bytes (map value_word values.now)) }
 {
     let mut words = Vec::new(alloc);
-    match parted(values) {
+    match split_head(values) {
         Some((first, rest)) => put_row_words(&mut words, first, rest)?,
         None => {}
     }

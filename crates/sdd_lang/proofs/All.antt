@@ -35,7 +35,7 @@ pub use Rattle.sdd_lang.specs.Changes.{ArePlaced, ChangesItems, HasRow, IsChange
 pub use Rattle.sdd_lang.specs.Classes.{class_for, covers, fragments_in, read_set, write_set, written_by}
 pub use Rattle.sdd_lang.specs.Condition.{Tuple, meets_all, part_of, value_at}
 pub use Rattle.sdd_lang.specs.Database.{Database, Item, Row, database_of, item_cmp, key_in, rows_of, with_row, without_row}
-pub use Rattle.sdd_lang.specs.Effect.{Changed, change_of, effect, effect_from, failed, rows_in, with_change, with_deletes, with_updates}
+pub use Rattle.sdd_lang.specs.Effect.{Changed, change_of, effect, effect_from, failed_effect, rows_in, with_change, with_deletes, with_updates}
 pub use Rattle.sdd_lang.specs.Fits.{FitsAssign, FitsCondition, FitsRow, FitsStart, FitsStatement, FitsTxn, IsRelation, kind_of, rel_of}
 pub use Rattle.sdd_lang.specs.FragSets.{has, members, put_all}
 pub use Rattle.sdd_lang.specs.Narrowing.{keys_left}

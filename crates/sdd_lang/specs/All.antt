@@ -19,7 +19,7 @@ pub use Rattle.sdd_lang.specs.base.Kept.{Kept}
 pub use Rattle.sdd_lang.specs.base.Name.{IsName, begins_with_letter, is_digit, is_keyword, is_letter, is_name, is_name_byte}
 pub use Rattle.sdd_lang.specs.base.Numbers.{class_no, dm_no, frag_no, rel_no, time_at, tm_no, txn_no}
 pub use Rattle.sdd_lang.specs.base.Order.{admits, column, meets, number_in, row_cmp, value_cmp, with_values}
-pub use Rattle.sdd_lang.specs.base.Readings.{Fails, GivesReading, along, known, must, ◌>>=◌}
+pub use Rattle.sdd_lang.specs.base.Readings.{Fails, GivesReading, along, must, require, ◌>>=◌}
 pub use Rattle.sdd_lang.specs.base.Sites.{are_linked}
 pub use Rattle.sdd_lang.specs.base.ValueOrder.{value_cmp_total, value_decides}
 pub use Rattle.sdd_lang.specs.base.Words.{ascending, contains, first_some, head_of, or_else}

@@ -62,7 +62,7 @@ fn list_fragments(
 ) -> Result<Vec<FragNo>, NoMemory>
     ensures { IfOk result (λ frags. map (λ f. f.0) frags.items ≡ members catalogue.now set.now) }
 {
-    catalogue.known();
+    catalogue.law_is_sound();
     let mut frags = Vec::new(alloc);
     for number in 1..catalogue.fragments() + 1 {
         if set.has(catalogue, FragNo(number)) {
@@ -78,7 +78,7 @@ fn first_covering(catalogue: &Catalogue, txn: &Txn, touched: &Touched) -> ClassN
     requires writes { members catalogue.now touched.now.writes ≡ write_set catalogue.now txn.now }
     ensures { result.0 ≡ class_for catalogue.now txn.now }
 {
-    catalogue.known();
+    catalogue.law_is_sound();
     for class in 1..catalogue.classes() + 1 {
         if covers(catalogue, txn, touched, ClassNo(class)) {
             return ClassNo(class);
@@ -105,7 +105,7 @@ fn reads_all(catalogue: &Catalogue, class: ClassNo, set: &FragSet) -> bool
     requires { class.0 ≤ length catalogue.now.classes }
     ensures { result ≡ list_all (λ f. is_some (reads_at catalogue.now class.0 f)) (members catalogue.now set.now) }
 {
-    catalogue.known();
+    catalogue.law_is_sound();
     for number in 1..catalogue.fragments() + 1 {
         if !reads_where_set(catalogue, class, set, FragNo(number)) {
             return false;
@@ -129,7 +129,7 @@ fn writes_all(catalogue: &Catalogue, class: ClassNo, set: &FragSet) -> bool
     requires { class.0 ≤ length catalogue.now.classes }
     ensures { result ≡ list_all (writes catalogue.now class.0) (members catalogue.now set.now) }
 {
-    catalogue.known();
+    catalogue.law_is_sound();
     for number in 1..catalogue.fragments() + 1 {
         if !writes_where_set(catalogue, class, set, FragNo(number)) {
             return false;

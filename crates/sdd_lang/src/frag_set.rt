@@ -43,7 +43,7 @@ impl FragSet {
         requires to { frag.0 ≤ length catalogue.now.fragments }
         ensures { members catalogue.now self.new ≡ insert_key nat_cmp (members catalogue.now self.old) frag.0 }
     {
-        catalogue.known();
+        catalogue.law_is_sound();
         self.flags[frag.0 as usize] = true;
     }
 
@@ -51,7 +51,7 @@ impl FragSet {
         requires { frag.0 ≤ length catalogue.now.fragments }
         ensures { result ≡ has self.now frag.0 }
     {
-        catalogue.known();
+        catalogue.law_is_sound();
         self.flags[frag.0 as usize]
     }
 }

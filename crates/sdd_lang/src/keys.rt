@@ -37,7 +37,7 @@ impl Keys {
     }
 
     /// The keys that a comparison with the value allows; `!=` allows all.
-    fn compared(op: Op, value: &Value) -> Keys
+    fn from_comparison(op: Op, value: &Value) -> Keys
         ensures { result ≡ keys_for op (number_in value.now) }
     {
         let number = number_of(value);
@@ -195,7 +195,7 @@ fn narrow_keys(key: u32, keys: Keys, column: u32, op: Op, value: &Value) -> Keys
     ensures { result ≡ (if column == key then common keys (keys_for op (number_in value.now)) else keys) }
 {
     if column == key {
-        keys.within(&Keys::compared(op, value))
+        keys.within(&Keys::from_comparison(op, value))
     } else {
         keys
     }

@@ -22,7 +22,7 @@ pub fn law_read_set_decides(catalogue: &Catalogue, txn: &Txn)
     requires { FitsTxn catalogue.now txn.now }
     ensures { ReadSetDecides catalogue.now txn.now }
 {
-    catalogue.known();
+    catalogue.law_is_sound();
 }
 
 /// A transaction leaves a database a database. Costs time in the values of the rows that it puts.
@@ -31,7 +31,7 @@ pub fn law_stays_database(catalogue: &Catalogue, txn: &Txn)
     requires { FitsTxn catalogue.now txn.now }
     ensures { (db : Database) → IsDatabase catalogue.now db → IsDatabase catalogue.now (after_changes catalogue.now db (effect catalogue.now db txn.now).changes) }
 {
-    catalogue.known();
+    catalogue.law_is_sound();
     law_puts_held(txn);
 }
 
@@ -45,7 +45,7 @@ pub fn law_changes(catalogue: &Catalogue, txn: &Txn)
     ensures written { (db : Database) → IsDatabase catalogue.now db → LieIn (write_set catalogue.now txn.now) (effect catalogue.now db txn.now) }
     ensures once { (db : Database) → IsDatabase catalogue.now db → OneAnItem catalogue.now (effect catalogue.now db txn.now) }
 {
-    catalogue.known();
+    catalogue.law_is_sound();
     law_puts_held(txn);
 }
 

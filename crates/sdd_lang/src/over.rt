@@ -1,5 +1,5 @@
 ghost use Rattle.std.specs.Prelude.{◌≡◌, IfOk};
-ghost use Rattle.sdd_lang.specs.Effect.{failed};
+ghost use Rattle.sdd_lang.specs.Effect.{failed_effect};
 ghost use Rattle.sdd_lang.specs.Fits.{FitsTxn};
 ghost use Rattle.sdd_lang.specs.Source.{effect_over};
 
@@ -12,8 +12,8 @@ use sdd_catalog::Catalogue;
 use std::alloc::Global;
 
 /// The effect of a transaction that fails: it changes nothing.
-fn failed(alloc: Global, reply: Reply) -> Effect
-    ensures { result ≡ failed reply }
+fn failed_effect(alloc: Global, reply: Reply) -> Effect
+    ensures { result ≡ failed_effect reply }
 {
     Effect {
         reply,
@@ -41,7 +41,7 @@ pub fn effect_over<S: Source>(
     let mut run = Run::new(alloc);
     'statements: for statement in txn.statements.as_slice() {
         match run.take(alloc, catalogue, source, statement)? {
-            Some(failure) => return Ok(failed(alloc, failure)),
+            Some(failure) => return Ok(failed_effect(alloc, failure)),
             None => {}
         }
     }

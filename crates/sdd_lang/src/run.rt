@@ -106,7 +106,7 @@ impl Run {
         ensures answers { IfOk result (λ _. self.new.answers ≡ self.old.answers) }
         ensures changed { IfOk result (λ fits. cond fits (Some self.new.changed) None ≡ with_updates catalogue.now sets.now self.old.changed (S.chosen source.now self.old.before rel.0 conds.now)) }
     {
-        let entries = source.matching(alloc, self.before, rel, conds)?;
+        let entries = source.find_matching(alloc, self.before, rel, conds)?;
         self.before += 1;
         self.changes
             .update(catalogue, rel, sets, entries.as_slice())
@@ -124,7 +124,7 @@ impl Run {
         requires few { self.old.before + 1 < 2 ^ 32 }
         ensures { OnOk result (self.new ≡ record self.old { before = self.old.before + 1; changed = with_deletes catalogue.now self.old.changed (S.chosen source.now self.old.before rel.0 conds.now) }) }
     {
-        let entries = source.matching(alloc, self.before, rel, conds)?;
+        let entries = source.find_matching(alloc, self.before, rel, conds)?;
         self.before += 1;
         self.changes.delete(catalogue, rel, entries.as_slice())
     }

@@ -42,7 +42,7 @@ pub trait Source {
         ensures { IfOk result (λ rows. rows ≡ within room (found self.now before out.now rels.now conds.now)) };
 
     /// The rows that an update or delete works on, with their keys.
-    fn matching(
+    fn find_matching(
         &self,
         alloc: Global,
         before: u32,

@@ -104,7 +104,7 @@ impl Touched {
         ensures writes { members catalogue.now self.new.writes
             ≡ put_all (members catalogue.now self.old.writes) (filter (meets_keys catalogue.now rel.0 keys.now) (numbers_to (length catalogue.now.fragments))) }
     {
-        catalogue.known();
+        catalogue.law_is_sound();
         for number in 1..catalogue.fragments() + 1 {
             if meets_keys(catalogue, rel, keys, FragNo(number)) {
                 self.add_both(catalogue, FragNo(number));
@@ -154,7 +154,7 @@ fn add_use(catalogue: &Catalogue, rel: RelNo, keys: &Keys, set: &mut FragSet)
     ensures { members catalogue.now set.new
         ≡ put_all (members catalogue.now set.old) (filter (meets_keys catalogue.now rel.0 keys.now) (numbers_to (length catalogue.now.fragments))) }
 {
-    catalogue.known();
+    catalogue.law_is_sound();
     for number in 1..catalogue.fragments() + 1 {
         if meets_keys(catalogue, rel, keys, FragNo(number)) {
             set.add(catalogue, FragNo(number));

@@ -108,7 +108,7 @@ fn fragments_for(
     requires { IsRelation catalogue.now rel.0 }
     ensures { IfOk result (λ frags. frags ≡ fragments_for catalogue.now rel.0 restrictions.now) }
 {
-    catalogue.known();
+    catalogue.law_is_sound();
     let keys = allowed_keys(catalogue.relation(rel).key, restrictions);
     let mut frags = Vec::new(alloc);
     for number in 1..catalogue.fragments() + 1 {

@@ -29,7 +29,7 @@ pub fn law_copy_holds_values<T>(catalogue: &Catalogue)
         ↔ IsValue catalogue.now (all_dated catalogue.now first w (filter applied commits))
         ((fragment_at catalogue.now f).rel.0, key) (Some row) }
 {
-    catalogue.known();
+    catalogue.law_is_sound();
 }
 
 /// In which order, and how often, changes come to a copy makes no difference: it is what the
@@ -40,7 +40,7 @@ pub fn law_any_order<T>(catalogue: &Catalogue)
         → AreSame (all_dated catalogue.now first w (filter applied commits)) xs
         → contents f xs ≡ copy_of catalogue.now first w commits applied f }
 {
-    catalogue.known();
+    catalogue.law_is_sound();
 }
 
 /// A copy takes of the first rows those of its fragment, and of the committed transactions the

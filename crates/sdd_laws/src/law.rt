@@ -33,7 +33,7 @@ pub fn law_acyclic(
     ensures acyclic { HasNoCycle catalogue.now history.now }
     ensures orderable { IsOrderable catalogue.now history.now }
 {
-    catalogue.known();
+    catalogue.law_is_sound();
     law_rows_make_database(catalogue, rows);
     texts_held(txns);
 }

@@ -38,7 +38,7 @@ pub fn law_replay(
         → rows_in_fragment catalogue.now (run catalogue.now rows.now txns.now order.now).1 f
         ≡ items_of catalogue.now f (copy_at catalogue.now rows.now history.now d k f) }
 {
-    catalogue.known();
+    catalogue.law_is_sound();
     law_rows_make_database(catalogue, rows);
     texts_held(txns);
 }

@@ -16,5 +16,5 @@ pub fn law_replay_along<T>(catalogue: &Catalogue)
         → IsDatabase catalogue.now first → AreRecorded catalogue.now first L commits
         → IsOrder catalogue.now L commits order → IsReplayed catalogue.now first L commits order }
 {
-    catalogue.known();
+    catalogue.law_is_sound();
 }

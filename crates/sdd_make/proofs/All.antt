@@ -2,7 +2,7 @@
 pub use Rattle.sdd_make.specs.Bank.{bank, bank_is_valid, bank_parts}
 pub use Rattle.sdd_make.specs.Draws.{draw, next, shown}
 pub use Rattle.sdd_make.specs.Files.{eastpay_text, westpay_text}
-pub use Rattle.sdd_make.specs.Statements.{addition, asking, balances, of_account, owners, payment, txn_at, txn_of, txn_of_kind}
+pub use Rattle.sdd_make.specs.Statements.{account_query, addition, balances, of_account, owners, payment, txn_at, txn_of, txn_of_kind}
 pub use Rattle.sdd_make.specs.Summary.{is_commit, is_reject, is_wait}
 pub use Rattle.sdd_make.specs.Turns.{account_row, accounts, arrival, deliveries, delivery, drawn_events, drawn_txn, events_of, turn, turns, turns_of, txns_of, workload_of}
 pub use Rattle.sdd_script.proofs.NoLists.{IsNoRedeclare, timely_without}

@@ -1,5 +1,5 @@
 -- The made rows and transactions are valid.
-use Rattle.sdd_make.proofs.All.{Add, All, All-append, All-cons, All-nil, AssignsValue, Bool, Condition, Const, Eq, FitsCondition, FitsRef, FitsStatement, Ge, HoldsValue, HoldsValues, Int, IsRelation, IsValidRow, IsValidTxn, IsValue, List, Stmt, Text, Txn, [], account_row, accounts, addition, arith, asking, balances, bank, cond, is_text, length, mag, map, of_account, one, owners, payment, pos, range_with_len, rel_no, rows_put_by, suc, txn_at, txn_of, txn_of_kind, zero, ℕ, ℤ, ◌%◌, ◌+◌, ◌<◌, ◌==◌, ◌^◌, ◌∷◌, ◌≡◌, ◌≤◌}
+use Rattle.sdd_make.proofs.All.{Add, All, All-append, All-cons, All-nil, AssignsValue, Bool, Condition, Const, Eq, FitsCondition, FitsRef, FitsStatement, Ge, HoldsValue, HoldsValues, Int, IsRelation, IsValidRow, IsValidTxn, IsValue, List, Stmt, Text, Txn, [], account_query, account_row, accounts, addition, arith, balances, bank, cond, is_text, length, mag, map, of_account, one, owners, payment, pos, range_with_len, rel_no, rows_put_by, suc, txn_at, txn_of, txn_of_kind, zero, ℕ, ℤ, ◌%◌, ◌+◌, ◌<◌, ◌==◌, ◌^◌, ◌∷◌, ◌≡◌, ◌≤◌}
 use Rattle.sdd_make.proofs.Names.{number_named}
 use Rattle.sdd_make.proofs.Owner.{owner_is_text}
 
@@ -48,7 +48,7 @@ relation_there = (omega arith, omega arith)
 
 asking_fits : (first second : ℕ) (conds : List Condition) → FitsRef bank (rel_no 1 ∷ []) (of_account first)
     → FitsRef bank (rel_no 1 ∷ []) (of_account second) → length conds ≤ 16 → All (FitsCondition bank (rel_no 1 ∷ [])) conds
-    → All (FitsStatement bank) (asking first second conds)
+    → All (FitsStatement bank) (account_query first second conds)
 asking_fits first second conds f s few fit = grind (arith, one, relation_there, two)
 
 balances_values : All HoldsValues balances

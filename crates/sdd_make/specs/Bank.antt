@@ -48,8 +48,8 @@ abbrev pub book : ClassPart
 book = class (codes "book") 3 (read east 3 ∷ read west 3 ∷ []) []
 
 -- payments between the two
-abbrev pub moving : ClassPart
-moving = class (codes "move") 3 (read east 1 ∷ read west 2 ∷ []) (east ∷ west ∷ [])
+abbrev pub transfers : ClassPart
+transfers = class (codes "move") 3 (read east 1 ∷ read west 2 ∷ []) (east ∷ west ∷ [])
 
 -- three modules of each sort, two fragments, four classes
 abbrev pub bank_parts : Parts
@@ -59,7 +59,7 @@ bank_parts =
       dms = 3;
       relations = account ∷ [];
       fragments = fragment east least_key (pos 999) 1 ∷ fragment west (pos 1000) greatest_key 2 ∷ [];
-      classes = eastpay ∷ westpay ∷ book ∷ moving ∷ [];
+      classes = eastpay ∷ westpay ∷ book ∷ transfers ∷ [];
     }
 
 -- no rule of catalogues is broken

@@ -20,16 +20,16 @@ abbrev pub payment : ℕ → ℕ → List Stmt
 payment from to = addition (negsuc 0) from ∷ addition (pos 1) to ∷ []
 
 -- a query for two columns of the accounts
-abbrev pub asking : ℕ → ℕ → List Condition → List Stmt
-asking first second conds = Query (of_account first ∷ of_account second ∷ []) (rel_no 1 ∷ []) conds ∷ []
+abbrev pub account_query : ℕ → ℕ → List Condition → List Stmt
+account_query first second conds = Query (of_account first ∷ of_account second ∷ []) (rel_no 1 ∷ []) conds ∷ []
 
 -- `query 1.id 1.bal from account`
 abbrev pub balances : List Stmt
-balances = asking 1 3 []
+balances = account_query 1 3 []
 
 -- `query 1.owner 1.bal from account where 1.bal >= 50`, which no class covers at T1
 abbrev pub owners : List Stmt
-owners = asking 2 3 (compared 3 Ge (pos 50))
+owners = account_query 2 3 (compared 3 Ge (pos 50))
 
 -- transaction number i, at a module
 abbrev pub txn_at : ℕ → ℕ → List Stmt → Txn

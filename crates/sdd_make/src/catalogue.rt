@@ -1,7 +1,7 @@
 //! The catalogue of the bank.
 ghost use Rattle.std.specs.Prelude.{◌≡◌, ◌∷◌, [], IfOk};
 ghost use Rattle.sdd_script.specs.All.{IsName};
-ghost use Rattle.sdd_make.specs.Bank.{column, account, fragment, read, class, eastpay, westpay, book, moving, bank_parts, bank, east, west};
+ghost use Rattle.sdd_make.specs.Bank.{column, account, fragment, read, class, eastpay, westpay, book, transfers, bank_parts, bank, east, west};
 
 use crate::naming::name;
 use sdd_script::sdd_base::{Name, NoMemory};
@@ -125,8 +125,8 @@ fn book(alloc: Global) -> Result<ClassPart, NoMemory>
 }
 
 /// Payments between the fragments.
-fn moving(alloc: Global) -> Result<ClassPart, NoMemory>
-    ensures { IfOk result (λ c. c ≡ moving) }
+fn transfers(alloc: Global) -> Result<ClassPart, NoMemory>
+    ensures { IfOk result (λ c. c ≡ transfers) }
 {
     let reads = reads(alloc, 1, 2)?;
     let east = name(alloc, "east")?;
@@ -141,8 +141,8 @@ fn classes(alloc: Global) -> Result<ClassParts, NoMemory>
     let eastpay = payments(alloc, "eastpay", "east", 1)?;
     let westpay = payments(alloc, "westpay", "west", 2)?;
     let book = book(alloc)?;
-    let moving = moving(alloc)?;
-    Ok(ClassParts::from_vec(vec![in alloc; eastpay, westpay, book, moving]?))
+    let transfers = transfers(alloc)?;
+    Ok(ClassParts::from_vec(vec![in alloc; eastpay, westpay, book, transfers]?))
 }
 
 fn parts(alloc: Global) -> Result<Parts, NoMemory>

@@ -1,6 +1,6 @@
 //! What the made transactions do.
 ghost use Rattle.std.specs.Prelude.{◌≡◌, ◌<◌, IfOk};
-ghost use Rattle.sdd_make.specs.Statements.{of_account, compared, asking, addition, payment, balances, owners, txn_at, txn_of_kind, txn_of};
+ghost use Rattle.sdd_make.specs.Statements.{of_account, compared, account_query, addition, payment, balances, owners, txn_at, txn_of_kind, txn_of};
 
 use crate::naming::txn_name;
 use sdd_script::sdd_base::{NoMemory, Op, RelNo, TmNo, Value};
@@ -50,8 +50,13 @@ fn payment(alloc: Global, from: u32, to: u32) -> Result<Statements, NoMemory>
 }
 
 /// A query over the accounts.
-fn asking(alloc: Global, first: u32, second: u32, conds: Conditions) -> Result<Statements, NoMemory>
-    ensures { IfOk result (λ s. s ≡ asking first second conds) }
+fn account_query(
+    alloc: Global,
+    first: u32,
+    second: u32,
+    conds: Conditions,
+) -> Result<Statements, NoMemory>
+    ensures { IfOk result (λ s. s ≡ account_query first second conds) }
 {
     let query = Stmt::Query {
         out: Refs::from_vec(vec![in alloc; of_account(first), of_account(second)]?),
@@ -65,14 +70,14 @@ fn asking(alloc: Global, first: u32, second: u32, conds: Conditions) -> Result<S
 fn balances(alloc: Global) -> Result<Statements, NoMemory>
     ensures { IfOk result (λ s. s ≡ balances) }
 {
-    asking(alloc, 1, 3, Conditions::from_vec(Vec::new(alloc)))
+    account_query(alloc, 1, 3, Conditions::from_vec(Vec::new(alloc)))
 }
 
 /// The owners of accounts with a balance.
 fn owners(alloc: Global) -> Result<Statements, NoMemory>
     ensures { IfOk result (λ s. s ≡ owners) }
 {
-    asking(alloc, 2, 3, comparison(alloc, 3, Op::Ge, 50)?)
+    account_query(alloc, 2, 3, comparison(alloc, 3, Op::Ge, 50)?)
 }
 
 /// Transaction number i, at a module.

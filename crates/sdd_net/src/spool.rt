@@ -50,7 +50,7 @@ impl<M: Drop> Spool<M> {
     }
 
     /// How many messages of a sender are kept for the module. TakesMessage no memory, and constant time.
-    pub fn kept(&self, dm: DmNo, from: Site) -> usize
+    pub fn count_kept(&self, dm: DmNo, from: Site) -> usize
         requires first { 1 ≤ dm.0 }
         requires last { dm.0 ≤ length self.now }
         requires sender { IsSender (mailbox_at self.now dm.0) from }

@@ -75,7 +75,7 @@ impl ClassPipe {
         }
     }
 
-    pub fn passed(&self, t: Ts) -> bool
+    pub fn has_passed(&self, t: Ts) -> bool
         ensures { result ≡ has_passed self.now t.0 }
     {
         match self.unprocessed.front() {

@@ -118,7 +118,7 @@ impl Pipes {
         ensures { result ≡ has_passed (pipe_at self.now.value class.0) t.0 }
     {
         match self.pipes.get(class.0 as usize) {
-            Some(pipe) => pipe.passed(t),
+            Some(pipe) => pipe.has_passed(t),
             None => false,
         }
     }

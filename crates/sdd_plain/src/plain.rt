@@ -118,13 +118,13 @@ impl Source for Plain {
         join(alloc, &parts, out, conds, room)
     }
 
-    fn matching(
+    fn find_matching(
         &self,
         alloc: Global,
         _before: u32,
         rel: RelNo,
         conds: &[Condition],
     ) -> Result<Entries, NoMemory> {
-        self.rows.matching(alloc, rel, conds)
+        self.rows.find_matching(alloc, rel, conds)
     }
 }

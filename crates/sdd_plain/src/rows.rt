@@ -123,7 +123,7 @@ impl Rows {
     }
 
     /// The rows of the relation that meet the conditions, with their keys, ascending by key.
-    pub(crate) fn matching(
+    pub(crate) fn find_matching(
         &self,
         alloc: Global,
         rel: RelNo,
@@ -220,7 +220,7 @@ fn relation_of(catalogue: &Catalogue, frag: FragNo) -> u32
 
 /// The key columns of the relations, in their order.
 fn key_columns(alloc: Global, catalogue: &Catalogue) -> Result<Vec<u32>, NoMemory> {
-    catalogue.known();
+    catalogue.law_is_sound();
     let mut columns = Vec::new(alloc);
     for number in 1..catalogue.relations() + 1 {
         columns.push(catalogue.relation(RelNo(number)).key)?;

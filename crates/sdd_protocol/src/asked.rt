@@ -35,7 +35,7 @@ impl Asked {
         requires frags { All (λ f. (1 ≤ f.0) × (f.0 ≤ length catalogue.now.fragments)) frags.now }
         ensures { IfOk result (λ asked. AreMarks (is_asked catalogue.now class.0 dm.0 frags.now) asked) }
     {
-        catalogue.known();
+        catalogue.law_is_sound();
         let mut marks = vec![in alloc; false; catalogue.fragments() as usize + 1]?;
         for frag in frags {
             if is_read_at(catalogue, class, dm, *frag) {

@@ -22,4 +22,4 @@ pub use law::{law_one_protocol, law_one_table};
 pub use making::table;
 pub use protocol::Protocol;
 pub use protocol_table::Table;
-pub use undeclared_attempt::undeclared;
+pub use undeclared_attempt::undeclared_conds;

@@ -21,7 +21,7 @@ use std::alloc::Global;
 pub fn table(alloc: Global, catalogue: &Catalogue) -> Result<Table, NoMemory>
     ensures { IfOk result (λ table. IsTable catalogue.now table) }
 {
-    catalogue.known();
+    catalogue.law_is_sound();
     let edges = conflict_graph(alloc, catalogue)?;
     let numbers = block_numbers(alloc, &edges, catalogue.classes())?;
     let entries = entries(alloc, &edges, &numbers)?;

@@ -97,7 +97,7 @@ impl Table {
         ensures { IfOk result (λ conds.
             conds.items ≡ conditions catalogue.now self.now class.0 dm.0 frags.now own.0 p2.0) }
     {
-        catalogue.known();
+        catalogue.law_is_sound();
         let asked = Asked::of(self.alloc, catalogue, class, dm, frags)?;
         self.conditions(&asked, Attempt { class, own, p2 }, catalogue.classes())
     }

@@ -12,10 +12,14 @@ use std::alloc::Global;
 /// for all fragments, up to the attempt's own timestamp.
 ///
 /// Costs time and memory in the classes times the fragments.
-pub fn undeclared(alloc: Global, catalogue: &Catalogue, own: Ts) -> Result<Vec<Cond>, NoMemory>
+pub fn undeclared_conds(
+    alloc: Global,
+    catalogue: &Catalogue,
+    own: Ts,
+) -> Result<Vec<Cond>, NoMemory>
     ensures { IfOk result (λ conds. conds.items ≡ undeclared_conditions catalogue.now own.0) }
 {
-    catalogue.known();
+    catalogue.law_is_sound();
     let frags = Frags::from_vec(all_fragments(alloc, catalogue)?);
     conditions_on(alloc, catalogue.classes(), own, &frags)
 }
@@ -48,7 +52,7 @@ fn condition_on(class: ClassNo, time: Ts, frags: &Frags) -> Result<Cond, NoMemor
 fn all_fragments(alloc: Global, catalogue: &Catalogue) -> Result<Vec<FragNo>, NoMemory>
     ensures { IfOk result (λ frags. frags.items ≡ map frag_no (fragments_of catalogue.now)) }
 {
-    catalogue.known();
+    catalogue.law_is_sound();
     Ok(
         (1..catalogue.fragments() + 1)
             .map(|frag| FragNo(frag))

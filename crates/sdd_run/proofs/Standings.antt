@@ -153,7 +153,7 @@ module _ (g : Input) (log : Log) (permitted : IsPermitted g log) (good : FitsInp
 
   waits_for_t : (n : ℕ) (class : ClassNo) (place : ℕ) → active (setting_of g U) 0 (local_of g U log) ≡ None
       → standing_by 0 (queue (setting_of g U) 0 (local_of g U log)) (active (setting_of g U) 0 (local_of g U log)) n ≡ standings.Queued class place
-      → IsNumberedSite g.catalogue (u_standing.lacking_site (um_states.state_of (setting_of g U) (local_of g U log)))
+      → IsNumberedSite g.catalogue (u_standing.missing_site (um_states.state_of (setting_of g U) (local_of g U log)))
   waits_for_t n class place none e =
       let s = setting_of g U in
       let lu = local_of g U log in
@@ -178,7 +178,7 @@ module _ (g : Input) (log : Log) (permitted : IsPermitted g log) (good : FitsInp
       let line = line_stands g.catalogue 0 (queue s 0 lu) (active s 0 lu) n (omega arith) (λ a e. lacks_answer g log permitted good idle 0 a (omega arith) e) in
       elim (u_standing.is_awaiting_helds state)
       as (λ b. u_standing.is_awaiting_helds state ≡ b
-      → IsStanding g.catalogue (if b then u_standing.first_underway (u_standing.lacking_site state) (standing_of state.line n) else standing_of state.line n)) [
+      → IsStanding g.catalogue (if b then u_standing.first_underway (u_standing.missing_site state) (standing_of state.line n) else standing_of state.line n)) [
         | true ↦ grind (arith, first_underway_stands, standing_of, waits_for_t, no_active, active, and_left)
         | false ↦ λ e. line
       ] refl

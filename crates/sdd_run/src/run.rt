@@ -30,7 +30,7 @@ pub fn run_report(alloc: Global, catalogue: &Catalogue, work: Workload) -> Resul
     let lists = lists_of(alloc, catalogue, &work)?;
     let tables = tables_of(alloc, lists.eras())?;
     let whole = lists.whole();
-    whole.known();
+    whole.law_is_sound();
     let world = run_to_end(alloc, catalogue, &lists, tables.as_slice(), work)?;
     Ok(report_on(alloc, &world)?)
 }

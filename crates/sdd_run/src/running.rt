@@ -34,7 +34,7 @@ pub fn run_to_end<'a>(
     ensures limit { IsErrOf result WorldEnd.Limit → EndsAtLimit catalogue.now work }
 {
     let whole = lists.whole();
-    whole.known();
+    whole.law_is_sound();
     let further = further(alloc, lists.eras(), tables)?;
     let Workload {
         rows,

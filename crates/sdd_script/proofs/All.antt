@@ -1,13 +1,13 @@
 -- The names of std, of the crates below and of this crate's definitions that its proofs cite. Declares nothing.
 pub use Rattle.sdd_lang.proofs.ReadSetDecides.{each_both as all_front}
-pub use Rattle.sdd_lang.proofs.base.ReadingLaws.{Answers, along_ok, bind_ok, known_ok, ok_along, ok_is}
+pub use Rattle.sdd_lang.proofs.base.ReadingLaws.{Answers, along_ok, bind_ok, ok_along, ok_is, require_ok}
 pub use Rattle.sdd_lang.proofs.catalog.Distinct.{number_of_place}
 pub use Rattle.sdd_lang.proofs.catalog.Found.{both_empty, empty_of_map, unfound_at}
 pub use Rattle.sdd_lang.proofs.catalog.FragmentOf.{found_one}
 pub use Rattle.sdd_lang.proofs.catalog.NameLemmas.{has_name_of_items, list_any-map}
 pub use Rattle.sdd_lang.proofs.catalog.RoundTrip.{have_numbers}
 pub use Rattle.sdd_lang.proofs.catalog.Validity.{no_faults, unbroken}
-pub use Rattle.sdd_lang.specs.All.{AreNamed, Catalogue, Class, ClassPart, Column, ColumnPart, D, Deliver, DmNo, Down, Event, Fails, FitsAssign, FitsCondition, FitsRef, FitsRow, FitsStatement, Fragment, IsColumn, IsFrom1To, IsName, IsNamed, IsRelation, IsSoundCatalogue, IsWhole, Kind, Lose, MAX_ASSIGNMENTS, MAX_CLASSES, MAX_CONDITIONS, MAX_EVENTS, MAX_OUTPUT_COLUMNS, MAX_PLACE, MAX_READS, MAX_ROWS, MAX_STATEMENTS, MAX_TICKS, MAX_TXNS, MAX_USES, MAX_WORKLOAD_BYTES, Op, ReadPart, Redeclare, RelNo, Relation, RelationPart, Repeat, Resend, Settle, Site, Submit, T, Tick, TmNo, TxnNo, U, Up, Value, along, are_linked, begins_with_letter, class_part, column_part, dm_no, faults_of_class, faults_of_relation, found_from, has_copy, has_name, is_digit, is_keyword, is_name, is_name_byte, key_column, kind_at, kind_of, kind_of_ref, known, must, no_relation, numbers_to, parts_of, rel_no, rel_of, relation_at, relation_names, relation_part, relation_rules, repeats, tm_no, txn_no, ◌>>=◌}
+pub use Rattle.sdd_lang.specs.All.{AreNamed, Catalogue, Class, ClassPart, Column, ColumnPart, D, Deliver, DmNo, Down, Event, Fails, FitsAssign, FitsCondition, FitsRef, FitsRow, FitsStatement, Fragment, IsColumn, IsFrom1To, IsName, IsNamed, IsRelation, IsSoundCatalogue, IsWhole, Kind, Lose, MAX_ASSIGNMENTS, MAX_CLASSES, MAX_CONDITIONS, MAX_EVENTS, MAX_OUTPUT_COLUMNS, MAX_PLACE, MAX_READS, MAX_ROWS, MAX_STATEMENTS, MAX_TICKS, MAX_TXNS, MAX_USES, MAX_WORKLOAD_BYTES, Op, ReadPart, Redeclare, RelNo, Relation, RelationPart, Repeat, Resend, Settle, Site, Submit, T, Tick, TmNo, TxnNo, U, Up, Value, along, are_linked, begins_with_letter, class_part, column_part, dm_no, faults_of_class, faults_of_relation, found_from, has_copy, has_name, is_digit, is_keyword, is_name, is_name_byte, key_column, kind_at, kind_of, kind_of_ref, must, no_relation, numbers_to, parts_of, rel_no, rel_of, relation_at, relation_names, relation_part, relation_rules, repeats, require, tm_no, txn_no, ◌>>=◌}
 pub use Rattle.sdd_lang.specs.catalog.declared.parts.Kind.TheVariants.{Int}
 pub use Rattle.sdd_lang.specs.declared.assign.Assign.{Assign}
 pub use Rattle.sdd_lang.specs.declared.assign.Assign.TheVariants.{Add, To}

@@ -1,5 +1,5 @@
 -- Assignments: what is read is spelled and fits, and what is spelled and fits is read.
-use Rattle.sdd_script.proofs.All.{Add, AllByRecursion, Answers, Assign, AssignsValue, BadNumber, Bool, Catalogue, FitsAssign, FitsRef, Found, IsColumn, Kind, List, None, Ok, Option, Plain, Quoted, Ref, RelNo, Result, Setting, Some, To, Word, WorkRule, [], add_of, addend_of, adds_of, along, along_ok, ap, arith, assign_of, assign_words, bind_ok, both_hold, bytes_eq, bytes_eq-Decides, codes, column_of_use, column_word, cond, eqb, false, is_free, is_of_kind, key_column, key_of, kind_at, known_ok, looks_like_column, mag, map, nat_tests, ne_eqb, not, number_again, number_of, number_takes, ok_along, ok_is, option_map, own_column, refl, sets_words, setting_of, signed_decimal, subst, sym, to_of, true, value_of, value_word, ℕ, ℤ, ◌&&◌, ◌+◌, ◌<◌, ◌==◌, ◌^◌, ◌∙◌, ◌∷◌, ◌≡◌, ◌≢◌}
+use Rattle.sdd_script.proofs.All.{Add, AllByRecursion, Answers, Assign, AssignsValue, BadNumber, Bool, Catalogue, FitsAssign, FitsRef, Found, IsColumn, Kind, List, None, Ok, Option, Plain, Quoted, Ref, RelNo, Result, Setting, Some, To, Word, WorkRule, [], add_of, addend_of, adds_of, along, along_ok, ap, arith, assign_of, assign_words, bind_ok, both_hold, bytes_eq, bytes_eq-Decides, codes, column_of_use, column_word, cond, eqb, false, is_free, is_of_kind, key_column, key_of, kind_at, looks_like_column, mag, map, nat_tests, ne_eqb, not, number_again, number_of, number_takes, ok_along, ok_is, option_map, own_column, refl, require_ok, sets_words, setting_of, signed_decimal, subst, sym, to_of, true, value_of, value_word, ℕ, ℤ, ◌&&◌, ◌+◌, ◌<◌, ◌==◌, ◌^◌, ◌∙◌, ◌∷◌, ◌≡◌, ◌≢◌}
 use Rattle.sdd_words.specs.Forms.{settings}
 use Rattle.sdd_script.proofs.StepLaws.{must_then, some_of}
 use Rattle.sdd_script.proofs.ValueLaws.{value_takes, value_again, kind_int, kind_same, key_is}
@@ -99,7 +99,7 @@ own_takes cat rel w f look e = let r = ref_takes cat (rel ∷ []) w f look e in 
 
 addend_takes : (w : Word) (z : ℤ) → addend_of w ≡ Ok z → (w ≡ Plain (signed_decimal z)) × (mag z < 2 ^ 63)
 addend_takes (Plain bytes) z e =
-    let a = known_ok BadNumber (number_of bytes) z e in
+    let a = require_ok BadNumber (number_of bytes) z e in
     let n = number_takes bytes z a in
     (ap (λ (l : List ℕ). Plain l) n.0, n.1)
 addend_takes (Quoted text) z e = absurd cc

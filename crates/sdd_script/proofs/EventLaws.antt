@@ -1,5 +1,5 @@
 -- Events: what is read is spelled and is there, and what is spelled and is there is read.
-use Rattle.sdd_script.proofs.All.{BadEvent, Bool, Catalogue, D, DmNo, Down, Event, HasNoNewline, HasNoSpace, IsAscii-cons, IsAscii-nil, IsFrom1To, IsLink, IsPlain, IsSite, IsUtf8, IsUtf8-append, IsUtf8-from_ascii, List, MAX_PLACE, MAX_TICKS, None, Ok, Option, Plain, Quoted, Redeclare, Resend, Settle, Site, Some, T, Tick, TmNo, U, Up, Word, [], ap, are_linked, arith, bind_ok, both_hold, cond, count_of, count_word, data_module_of, decimal, dm_of, down_of, eqb-true, flight_place, from_one, is_free, known_ok, length, link_of, lt-ltb, module_of, nat_le, nat_lt, negsuc, number_again, number_of, number_takes, numbered, ok_is, pos, redeclare_of, refl, resend_of, settle_of, site_in, site_of, site_word, subst, tick_of, tm_of, true, up_of, ℕ, ℤ, ◌&&◌, ◌<◌, ◌==◌, ◌^◌, ◌∙◌, ◌∷◌, ◌≡◌, ◌≢◌}
+use Rattle.sdd_script.proofs.All.{BadEvent, Bool, Catalogue, D, DmNo, Down, Event, HasNoNewline, HasNoSpace, IsAscii-cons, IsAscii-nil, IsFrom1To, IsLink, IsPlain, IsSite, IsUtf8, IsUtf8-append, IsUtf8-from_ascii, List, MAX_PLACE, MAX_TICKS, None, Ok, Option, Plain, Quoted, Redeclare, Resend, Settle, Site, Some, T, Tick, TmNo, U, Up, Word, [], ap, are_linked, arith, bind_ok, both_hold, cond, count_of, count_word, data_module_of, decimal, dm_of, down_of, eqb-true, flight_place, from_one, is_free, length, link_of, lt-ltb, module_of, nat_le, nat_lt, negsuc, number_again, number_of, number_takes, numbered, ok_is, pos, redeclare_of, refl, require_ok, resend_of, settle_of, site_in, site_of, site_word, subst, tick_of, tm_of, true, up_of, ℕ, ℤ, ◌&&◌, ◌<◌, ◌==◌, ◌^◌, ◌∙◌, ◌∷◌, ◌≡◌, ◌≢◌}
 use Rattle.sdd_script.proofs.StepLaws.{must_then, of_le}
 use Rattle.sdd_script.proofs.WordLooks.{IsFine, count_fine, count_free}
 use Rattle.sdd_script.proofs.UseLaws.{IsKnown}
@@ -41,7 +41,7 @@ site_bytes cat [] site e = absurd cc
 site_bytes cat (c ∷ ds) site e = (grind (arith, both_hold, eqb-true, empty_if, IsSiteWord, numbered_takes, dm_no))
 
 pub site_takes : (cat : Catalogue) (w : Word) (site : Site) → site_of cat w ≡ Ok site → IsSiteWord cat w site
-site_takes cat (Plain bytes) site e = site_bytes cat bytes site (known_ok BadEvent (site_in cat bytes) site e)
+site_takes cat (Plain bytes) site e = site_bytes cat bytes site (require_ok BadEvent (site_in cat bytes) site e)
 site_takes cat (Quoted text) site e = absurd cc
 
 pub site_again : (cat : Catalogue) → IsKnown cat → (site : Site) → IsSite cat site → site_of cat (site_word site) ≡ Ok site

@@ -1,5 +1,5 @@
 -- A statement of which no more is kept than tells that it is too long breaks the same limits.
-use Rattle.sdd_script.proofs.All.{Assign, Bool, Condition, Delete, Fails, LineError, List, MAX_ASSIGNMENTS, MAX_CONDITIONS, MAX_OUTPUT_COLUMNS, MAX_STATEMENTS, MAX_USES, Ok, Option, Put, Query, Ref, RelNo, Result, Some, State, Stmt, TooMany, Update, WorkRule, [], arith, cases_Bool, few, known, leb-false, leb-true, length, length-take, lt-leb, must, nat_le, nat_lt, ok_is, refl, rule_in, short, shortened, statement_rules, take, take_all, true, with_statement, ℕ, ◌++◌, ◌+◌, ◌>>=◌, ◌∷◌, ◌≡◌, ◌≤◌}
+use Rattle.sdd_script.proofs.All.{Assign, Bool, Condition, Delete, Fails, LineError, List, MAX_ASSIGNMENTS, MAX_CONDITIONS, MAX_OUTPUT_COLUMNS, MAX_STATEMENTS, MAX_USES, Ok, Option, Put, Query, Ref, RelNo, Result, Some, State, Stmt, TooMany, Update, WorkRule, [], arith, cases_Bool, few, leb-false, leb-true, length, length-take, lt-leb, must, nat_le, nat_lt, ok_is, refl, require, rule_in, short, shortened, statement_rules, take, take_all, true, with_statement, ℕ, ◌++◌, ◌+◌, ◌>>=◌, ◌∷◌, ◌≡◌, ◌≤◌}
 use Rattle.sdd_script.specs.declared.fault.Counts.TheVariants as counts
 
 -- ---- what was read in part is read of the short statement
@@ -77,7 +77,7 @@ update_passed a b c e = grind arith
 
 abbrev outcome : State → Option ℕ → Result (Unit {0}) WorkRule → Stmt → Result State WorkRule
 outcome st written limits statement = do
-  written ← known (TooMany counts.Row) written
+  written ← require (TooMany counts.Row) written
   _ ← limits
   Ok (record st { statements = st.statements ++ statement ∷ []; written = written })
 

@@ -1,5 +1,5 @@
 -- What holds in every state, and that each line of rows and transactions keeps it and adds itself to the lines before.
-use Rattle.sdd_script.proofs.All.{All, All-append, All-from_recursion, AreDistinct, AreTimely, Bool, Catalogue, ClassPart, Event, FitsStatement, Header, HoldsValues, IsFrom1To, IsName, IsValidClass, IsValidEvent, IsValidRow, IsValidTxn, IsValue, List, MAX_CLASSES, MAX_EVENTS, MAX_LISTS, MAX_ROWS, MAX_TXNS, None, Ok, Place, Plain, Quoted, RelNo, Result, Some, State, Stmt, TmNo, Txn, TxnNo, UnknownName, Value, Word, WorkRule, [], all_classes, ap, append-nil, are_free, arith, bind_ok, both_hold, bytes_eq, class_names, closed, codes, cond, done_words, false, filter_map, header_words, is_free, is_name, is_put, is_some, known_ok, length, length-append, map, map-append, name_in, name_of, nat_lt, no_classes, not, ok_is, one_more_row, open_list, part_names, position, refl, repeats, row_of, row_rules, rows_put_by, start_words, statement_limits, statement_rules, submitted_by, subst, sum_by, sum_by-append, sym, takes_rows, takes_statements, takes_txns, tm_of, true, txn_rules, written_with, ℕ, ◌&&◌, ◌++◌, ◌+◌, ◌<◌, ◌∙◌, ◌∷◌, ◌≡◌, ◌≤◌}
+use Rattle.sdd_script.proofs.All.{All, All-append, All-from_recursion, AreDistinct, AreTimely, Bool, Catalogue, ClassPart, Event, FitsStatement, Header, HoldsValues, IsFrom1To, IsName, IsValidClass, IsValidEvent, IsValidRow, IsValidTxn, IsValue, List, MAX_CLASSES, MAX_EVENTS, MAX_LISTS, MAX_ROWS, MAX_TXNS, None, Ok, Place, Plain, Quoted, RelNo, Result, Some, State, Stmt, TmNo, Txn, TxnNo, UnknownName, Value, Word, WorkRule, [], all_classes, ap, append-nil, are_free, arith, bind_ok, both_hold, bytes_eq, class_names, closed, codes, cond, done_words, false, filter_map, header_words, is_free, is_name, is_put, is_some, length, length-append, map, map-append, name_in, name_of, nat_lt, no_classes, not, ok_is, one_more_row, open_list, part_names, position, refl, repeats, require_ok, row_of, row_rules, rows_put_by, start_words, statement_limits, statement_rules, submitted_by, subst, sum_by, sum_by-append, sym, takes_rows, takes_statements, takes_txns, tm_of, true, txn_rules, written_with, ℕ, ◌&&◌, ◌++◌, ◌+◌, ◌<◌, ◌∙◌, ◌∷◌, ◌≡◌, ◌≤◌}
 use Rattle.sdd_script.proofs.StepLaws.{must_then, not_true, some_is, known_then}
 use Rattle.sdd_script.proofs.RowLaws.{row_takes}
 use Rattle.sdd_script.proofs.QueryLaws.{IsStatement, limits_before}
@@ -125,7 +125,7 @@ pub named_takes : (bytes name : List ℕ) → name_in bytes ≡ Some name → (i
 named_takes bytes name e = let h = name_if bytes name (is_name bytes) e in (subst (λ (l : List ℕ). is_name l ≡ true) h.1 h.0, h.1)
 
 pub name_of_takes : (w : Word) (name : List ℕ) → name_of w ≡ Ok name → (w ≡ Plain name) × (is_name name ≡ true)
-name_of_takes (Plain bytes) name e = let h = named_takes bytes name (known_ok UnknownName (name_in bytes) name e) in (ap (λ (l : List ℕ). Plain l) h.1, h.0)
+name_of_takes (Plain bytes) name e = let h = named_takes bytes name (require_ok UnknownName (name_in bytes) name e) in (ap (λ (l : List ℕ). Plain l) h.1, h.0)
 name_of_takes (Quoted text) name e = absurd cc
 
 abbrev header_of : List ℕ → TmNo → Header

@@ -1,5 +1,5 @@
 -- What a step that broke no rule says, and what a list of them does.
-use Rattle.sdd_script.proofs.All.{Bool, Ok, Option, Result, Some, WorkRule, arith, false, known, must, nat_le, nat_tests, not, true, ℕ, ◌>>=◌, ◌≡◌, ◌≤◌}
+use Rattle.sdd_script.proofs.All.{Bool, Ok, Option, Result, Some, WorkRule, arith, false, must, nat_le, nat_tests, not, require, true, ℕ, ◌>>=◌, ◌≡◌, ◌≤◌}
 
 -- a test that holds, and then what follows
 pub must_then : {B : Type 0} (rule : WorkRule) (b : Bool) (f : Unit {0} → Result B WorkRule) (y : B) → (must rule b >>= f) ≡ Ok y
@@ -8,7 +8,7 @@ must_then rule b f y e = grind arith
 
 -- a value that is there, and then what follows
 pub known_then : {A B : Type 0} (rule : WorkRule) (o : Option A) (f : A → Result B WorkRule) (y : B)
-    → (known rule o >>= f) ≡ Ok y → (x : A) × (o ≡ Some x) × (f x ≡ Ok y)
+    → (require rule o >>= f) ≡ Ok y → (x : A) × (o ≡ Some x) × (f x ≡ Ok y)
 known_then rule o f y e = grind arith
 
 -- ---- equal parts make equal wholes

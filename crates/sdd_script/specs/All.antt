@@ -7,7 +7,7 @@ pub use Rattle.sdd_script.specs.Valid.{AreDistinct, AreTimely, AreValidLists, As
 pub use Rattle.sdd_script.specs.base.Kept.{Kept}
 pub use Rattle.sdd_script.specs.base.Name.{IsName, begins_with_letter, is_keyword, is_name, is_name_byte}
 pub use Rattle.sdd_script.specs.base.Numbers.{dm_no, rel_no, tm_no, txn_no}
-pub use Rattle.sdd_script.specs.base.Readings.{Fails, GivesReading, along, known, must, ◌>>=◌}
+pub use Rattle.sdd_script.specs.base.Readings.{Fails, GivesReading, along, must, require, ◌>>=◌}
 pub use Rattle.sdd_script.specs.base.Text.{IsText}
 pub use Rattle.sdd_script.specs.base.Words.{contains, head_of, or_else, tail_of}
 pub use Rattle.sdd_script.specs.base.declared.event.Event.{Event}

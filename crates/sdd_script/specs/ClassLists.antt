@@ -1,6 +1,6 @@
 -- The rules of the lines of class lists. The line `done` that ends a list has its rules with that which ends a transaction.
 use Rattle.std.specs.Prelude.{ℕ, ◌+◌, nat_lt, ◌&&◌, not, Bool, if◌then◌else◌, Option, Some, None, List, [], ◌∷◌, ◌++◌, map, flat_map, length, Result, Ok, Err}
-use Rattle.sdd_lang.specs.All.{Catalogue, ClassPart, DmNo, MAX_CLASSES, MAX_READS, ReadPart, TmNo, has_copy, has_name, known, must, ◌>>=◌}
+use Rattle.sdd_lang.specs.All.{Catalogue, ClassPart, DmNo, MAX_CLASSES, MAX_READS, ReadPart, TmNo, has_copy, has_name, must, require, ◌>>=◌}
 use Rattle.sdd_words.specs.Keywords.{is_free}
 use Rattle.sdd_words.specs.Names.{name_in}
 use Rattle.sdd_words.specs.Words.{Word, Plain, Quoted}
@@ -50,7 +50,7 @@ one_more_class classes = if nat_lt classes MAX_CLASSES then Some (classes + 1) e
 abbrev pub with_class_of : Catalogue → State → List ℕ → TmNo → Result State WorkRule
 with_class_of cat st name tm = do
   _ ← must BadClass (not (is_taken cat st name))
-  classes ← known (TooMany counts.Class) (one_more_class st.classes)
+  classes ← require (TooMany counts.Class) (one_more_class st.classes)
   Ok (record st { place = places.Listing (with_class (open_list st.place) name tm); classes = classes })
 
 abbrev pub class_rules : Catalogue → State → List Word → Result State WorkRule
@@ -66,8 +66,8 @@ class_rules cat st _ = Err BadLine
 -- a fragment's name and its number
 abbrev pub fragment_of : Catalogue → Word → Result (List ℕ × ℕ) WorkRule
 fragment_of cat (Plain bytes) = do
-  name ← known UnknownName (name_in bytes)
-  frag ← known UnknownName (fragment_named cat name)
+  name ← require UnknownName (name_in bytes)
+  frag ← require UnknownName (fragment_named cat name)
   Ok (name, frag)
 fragment_of cat (Quoted text) = Err UnknownName
 

@@ -1,6 +1,6 @@
 -- Columns of uses, and conditions, by their words.
 use Rattle.std.specs.Prelude.{ℕ, ◌+◌, ◌-◌, ◌^◌, ℤ, pos, negsuc, nat_lt, ◌==◌, ◌||◌, not, List, Option, Some, None, Result, Ok, Err, slice_get, if◌then◌else◌}
-use Rattle.sdd_lang.specs.All.{Catalogue, Column, Op, along, known, must, ◌>>=◌}
+use Rattle.sdd_lang.specs.All.{Catalogue, Column, Op, along, must, require, ◌>>=◌}
 use Rattle.sdd_lang.specs.declared.condition.Condition.{Condition}
 use Rattle.sdd_lang.specs.declared.condition.Condition.TheVariants.{Const, Same}
 use Rattle.sdd_words.specs.Keywords.{before_point, behind_point, names_column}
@@ -35,8 +35,8 @@ use_numbered parts (Some part) = use_at parts part
 -- a column of a use's relation, by its name
 abbrev pub column_in : List Column → ℕ → List ℕ → Result Found WorkRule
 column_in columns part name = do
-  place ← known UnknownName (column_named columns name)
-  kind ← known UnknownName (kind_of_place columns place)
+  place ← require UnknownName (column_named columns name)
+  kind ← require UnknownName (kind_of_place columns place)
   Ok (record { at = record { part = part; column = place + 1 }; kind = kind })
 
 -- the number of the use, which may be past 64 bits, then the use, then the column
@@ -44,7 +44,7 @@ abbrev pub column_of_use : Catalogue → Parts → Word → Result Found WorkRul
 column_of_use cat parts (Quoted text) = Err BadNumber
 column_of_use cat parts (Plain bytes) = do
   _ ← must BadNumber (is_whole (before_point bytes))
-  u ← known UnknownName (use_numbered parts (number_of (before_point bytes)))
+  u ← require UnknownName (use_numbered parts (number_of (before_point bytes)))
   column_in (columns_of cat u.1) u.0 (behind_point bytes)
 
 -- a column that is compared with one of its kind

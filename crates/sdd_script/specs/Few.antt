@@ -1,6 +1,6 @@
 -- Lists of which no more are kept than tell that they are too many.
 use Rattle.std.specs.Prelude.{ℕ, ◌+◌, ◌==◌, List, length, take, Result, Ok, Err}
-use Rattle.sdd_lang.specs.All.{Catalogue, Column, MAX_ASSIGNMENTS, MAX_CONDITIONS, MAX_OUTPUT_COLUMNS, MAX_USES, RelNo, Value, known, must, rel_no, ◌>>=◌}
+use Rattle.sdd_lang.specs.All.{Catalogue, Column, MAX_ASSIGNMENTS, MAX_CONDITIONS, MAX_OUTPUT_COLUMNS, MAX_USES, RelNo, Value, must, rel_no, require, ◌>>=◌}
 use Rattle.sdd_lang.specs.declared.statement.Stmt.{Stmt}
 use Rattle.sdd_lang.specs.declared.statement.Stmt.TheVariants.{Put, Query, Update, Delete}
 use Rattle.sdd_words.specs.Words.{Word}
@@ -34,5 +34,5 @@ few_row columns rel words = do
 
 abbrev pub few_of : Catalogue → Word → List Word → Result (RelNo × List Value) WorkRule
 few_of cat name words = do
-  rel ← known UnknownName (relation_of cat name)
+  rel ← require UnknownName (relation_of cat name)
   few_row (columns_of cat rel) (rel_no rel) words

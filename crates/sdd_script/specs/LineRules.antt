@@ -2,7 +2,7 @@
 use Rattle.std.specs.Prelude.{ℕ, ◌+◌, nat_lt, nat_le, ◌==◌, ◌&&◌, not, List, [], ◌∷◌, ◌++◌, length, Bool, false, Option, Some, None, is_some, Result, Ok, Err, if◌then◌else◌}
 use Rattle.std.specs.List.{position, list_any, list_all}
 use Rattle.std.specs.Str.{bytes_eq, is_utf8}
-use Rattle.sdd_lang.specs.All.{Catalogue, Event, MAX_ASSIGNMENTS, MAX_CONDITIONS, MAX_EVENTS, MAX_OUTPUT_COLUMNS, MAX_ROWS, MAX_STATEMENTS, MAX_TXNS, MAX_USES, RelNo, Submit, TmNo, TxnNo, Value, known, must, ◌>>=◌}
+use Rattle.sdd_lang.specs.All.{Catalogue, Event, MAX_ASSIGNMENTS, MAX_CONDITIONS, MAX_EVENTS, MAX_OUTPUT_COLUMNS, MAX_ROWS, MAX_STATEMENTS, MAX_TXNS, MAX_USES, RelNo, Submit, TmNo, TxnNo, Value, must, require, ◌>>=◌}
 use Rattle.sdd_lang.specs.declared.statement.Stmt.{Stmt}
 use Rattle.sdd_lang.specs.declared.statement.Stmt.TheVariants as statements
 use Rattle.sdd_words.specs.Keywords.{is_free}
@@ -39,7 +39,7 @@ row_rules cat st [] = Err BadLine
 row_rules cat st (name ∷ words) = do
   _ ← must BadLine (takes_rows st.place && (is_free name && are_free words))
   (r : RelNo × List Value) ← row_of cat name words
-  written ← known (TooMany counts.Row) (one_more_row st.written)
+  written ← require (TooMany counts.Row) (one_more_row st.written)
   Ok (record st { rows = st.rows ++ r ∷ []; written = written })
 
 -- transactions
@@ -82,7 +82,7 @@ written_with written statement = Some written
 
 abbrev pub with_statement : State → Stmt → Result State WorkRule
 with_statement st statement = do
-  written ← known (TooMany counts.Row) (written_with st.written statement)
+  written ← require (TooMany counts.Row) (written_with st.written statement)
   _ ← statement_limits (length st.statements) statement
   Ok (record st { statements = st.statements ++ statement ∷ []; written = written })
 
@@ -147,7 +147,7 @@ keyword_rules keys.End cat st words = end_rules st words
 abbrev pub words_rules : Catalogue → State → List Word → Result State WorkRule
 words_rules cat st [] = Err BadLine
 words_rules cat st (first ∷ words) = do
-  keyword ← known BadLine (keyword_of first)
+  keyword ← require BadLine (keyword_of first)
   keyword_rules keyword cat st words
 
 -- a text that is too long makes the line bad
@@ -160,5 +160,5 @@ sound_rules cat st words = do
 unfoldable pub line_rules : Catalogue → State → List ℕ → Result State WorkRule
 line_rules cat st line = do
   _ ← must NotUtf8 (is_utf8 line)
-  words ← known BadLine (words_of line)
+  words ← require BadLine (words_of line)
   sound_rules cat st words

@@ -3,7 +3,7 @@ use Rattle.std.specs.Prelude.{ℕ, ◌-◌, List, [], length, map, find, slice_g
 use Rattle.std.specs.Option.{option_map, option_map_or}
 use Rattle.std.specs.List.{position}
 use Rattle.std.specs.Str.{bytes_eq}
-use Rattle.sdd_lang.specs.All.{Catalogue, Class, Column, Kind, Relation, class_at, fragment_at, known, numbers_to}
+use Rattle.sdd_lang.specs.All.{Catalogue, Class, Column, Kind, Relation, class_at, fragment_at, numbers_to, require}
 use Rattle.sdd_words.specs.Names.{name_in}
 use Rattle.sdd_words.specs.Words.{Word, Plain, Quoted}
 use Rattle.sdd_script.specs.declared.fault.WorkRule.{WorkRule}
@@ -42,7 +42,7 @@ kind_of_place columns place = option_map (λ (c : Column). c.kind) (slice_get co
 
 -- a new name; a text is none
 abbrev pub name_of : Word → Result (List ℕ) WorkRule
-name_of (Plain bytes) = known UnknownName (name_in bytes)
+name_of (Plain bytes) = require UnknownName (name_in bytes)
 name_of (Quoted text) = Err UnknownName
 
 abbrev pub name_of_fragment : Catalogue → ℕ → List ℕ

@@ -3,7 +3,7 @@ use Rattle.std.specs.Prelude.{ℕ, ◌+◌, ℤ, pos, nat_lt, nat_le, ◌==◌, 
 use Rattle.std.specs.Option.{option_map}
 use Rattle.std.specs.List.{position}
 use Rattle.std.specs.Str.{bytes_eq}
-use Rattle.sdd_lang.specs.All.{Catalogue, D, Deliver, DmNo, Down, Event, Lose, MAX_PLACE, MAX_TICKS, Redeclare, Repeat, Resend, Settle, Site, Submit, T, Tick, TmNo, TxnNo, U, Up, are_linked, known, must, tm_no, txn_no, ◌>>=◌}
+use Rattle.sdd_lang.specs.All.{Catalogue, D, Deliver, DmNo, Down, Event, Lose, MAX_PLACE, MAX_TICKS, Redeclare, Repeat, Resend, Settle, Site, Submit, T, Tick, TmNo, TxnNo, U, Up, are_linked, must, require, tm_no, txn_no, ◌>>=◌}
 use Rattle.sdd_words.specs.Keywords.{is_free}
 use Rattle.sdd_words.specs.Names.{name_in}
 use Rattle.sdd_words.specs.Number.{number_of}
@@ -30,7 +30,7 @@ site_in cat (c ∷ digits) =
     if c == 68 then option_map (λ n. D (record { 0 = n })) (numbered cat.dms digits) else None))
 
 abbrev pub site_of : Catalogue → Word → Result Site WorkRule
-site_of cat (Plain bytes) = known BadEvent (site_in cat bytes)
+site_of cat (Plain bytes) = require BadEvent (site_in cat bytes)
 site_of cat (Quoted text) = Err BadEvent
 
 -- a transaction module
@@ -63,7 +63,7 @@ link_of cat from to = do
 
 -- a number from 1 to the most
 abbrev pub count_of : ℕ → Word → Result ℕ WorkRule
-count_of most (Plain bytes) = known BadNumber (numbered most bytes)
+count_of most (Plain bytes) = require BadNumber (numbered most bytes)
 count_of most (Quoted text) = Err BadNumber
 
 -- a link and a place in its flight
@@ -96,8 +96,8 @@ number_named names name = option_map (λ place. place + 1) (position (bytes_eq n
 
 abbrev pub txn_named : List (List ℕ) → Word → Result TxnNo WorkRule
 txn_named names (Plain bytes) = do
-  name ← known UnknownName (name_in bytes)
-  n ← known UnknownName (number_named names name)
+  name ← require UnknownName (name_in bytes)
+  n ← require UnknownName (number_named names name)
   Ok (txn_no n)
 txn_named names (Quoted text) = Err UnknownName
 

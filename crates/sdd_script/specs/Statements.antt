@@ -1,6 +1,6 @@
 -- Statements, by the words after the first word of their lines.
 use Rattle.std.specs.Prelude.{ℕ, ℤ, ◌==◌, ◌&&◌, not, List, [], ◌∷◌, map, codes, Some, Result, Ok, Err, if◌then◌else◌, Option}
-use Rattle.sdd_lang.specs.All.{Catalogue, RelNo, Value, along, known, must, rel_no, ◌>>=◌}
+use Rattle.sdd_lang.specs.All.{Catalogue, RelNo, Value, along, must, rel_no, require, ◌>>=◌}
 use Rattle.sdd_lang.specs.catalog.declared.parts.Kind.TheVariants as kinds
 use Rattle.sdd_lang.specs.declared.assign.Assign.{Assign}
 use Rattle.sdd_lang.specs.declared.assign.Assign.TheVariants.{To, Add}
@@ -38,7 +38,7 @@ listed_column cat parts word = do
 -- the relation of a part, which has to be there
 abbrev pub part_in : Option ℕ → Result RelNo WorkRule
 part_in part = do
-  rel ← known UnknownName part
+  rel ← require UnknownName part
   Ok (rel_no rel)
 
 -- the relations of words by their places
@@ -59,7 +59,7 @@ query_of_parts cat columns rels comparisons = query_over cat (parts_of cat rels)
 abbrev pub query_behind_from : Catalogue → List Word → List Word → List Word → Result Stmt WorkRule
 query_behind_from cat columns rels rest = do
   _ ← must BadLine (look_like_columns columns && are_free rels)
-  comparisons ← known BadLine (conditions_form rest)
+  comparisons ← require BadLine (conditions_form rest)
   query_of_parts cat columns rels comparisons
 
 abbrev pub query_with : Catalogue → List Word → List Word → Result Stmt WorkRule
@@ -68,12 +68,12 @@ query_with cat columns behind = query_behind_from cat columns (up_to (codes "whe
 -- query: columns, `from`, relations, and perhaps conditions
 abbrev pub query_of : Catalogue → List Word → Result Stmt WorkRule
 query_of cat words = do
-  (cut : List Word × List Word) ← known BadLine (cut_at (codes "from") words)
+  (cut : List Word × List Word) ← require BadLine (cut_at (codes "from") words)
   query_with cat cut.0 cut.1
 
 -- the number that is added; a text is of another kind
 abbrev pub addend_of : Word → Result ℤ WorkRule
-addend_of (Plain bytes) = known BadNumber (number_of bytes)
+addend_of (Plain bytes) = require BadNumber (number_of bytes)
 addend_of (Quoted text) = Err WrongKind
 
 -- `+=`: a number; the column holds numbers
@@ -106,18 +106,18 @@ update_over cat rel sets comparisons = do
 -- the relation, the assignments, the conditions
 unfoldable pub update_of_parts : Catalogue → Word → List Setting → List Comparison → Result Stmt WorkRule
 update_of_parts cat name sets comparisons = do
-  rel ← known UnknownName (relation_of cat name)
+  rel ← require UnknownName (relation_of cat name)
   update_over cat rel sets comparisons
 
 abbrev pub update_with : Catalogue → Word → List Setting → List Word → Result Stmt WorkRule
 update_with cat name sets rest = do
-  comparisons ← known BadLine (conditions_form rest)
+  comparisons ← require BadLine (conditions_form rest)
   update_of_parts cat name sets comparisons
 
 abbrev pub update_behind_set : Catalogue → Word → List Word → List Word → Result Stmt WorkRule
 update_behind_set cat name sets rest = do
   _ ← must BadLine (is_free name && not_empty sets)
-  found ← known BadLine (settings sets)
+  found ← require BadLine (settings sets)
   update_with cat name found rest
 
 abbrev pub update_to : Catalogue → Word → List Word → Result Stmt WorkRule
@@ -138,7 +138,7 @@ delete_over cat rel comparisons = do
 -- the relation, the conditions
 abbrev pub delete_of_parts : Catalogue → Word → List Comparison → Result Stmt WorkRule
 delete_of_parts cat name comparisons = do
-  rel ← known UnknownName (relation_of cat name)
+  rel ← require UnknownName (relation_of cat name)
   delete_over cat rel comparisons
 
 -- delete: a relation, and perhaps conditions
@@ -146,7 +146,7 @@ abbrev pub delete_of : Catalogue → List Word → Result Stmt WorkRule
 delete_of cat [] = Err BadLine
 delete_of cat (name ∷ rest) = do
   _ ← must BadLine (is_free name)
-  comparisons ← known BadLine (conditions_form rest)
+  comparisons ← require BadLine (conditions_form rest)
   delete_of_parts cat name comparisons
 
 -- a statement, by its first word and the words after it

@@ -1,6 +1,6 @@
 -- Values and rows, by their words.
 use Rattle.std.specs.Prelude.{List, length, ◌==◌, Bool, true, false, Option, Some, None, Result, Ok}
-use Rattle.sdd_lang.specs.All.{Catalogue, Column, Kind, RelNo, Value, along, known, must, rel_no, ◌>>=◌}
+use Rattle.sdd_lang.specs.All.{Catalogue, Column, Kind, RelNo, Value, along, must, rel_no, require, ◌>>=◌}
 use Rattle.sdd_lang.specs.base.declared.value.Value.TheVariants as values
 use Rattle.sdd_lang.specs.catalog.declared.parts.Kind.TheVariants as kinds
 use Rattle.sdd_words.specs.Number.{number_of}
@@ -20,11 +20,11 @@ is_of_kind (Some _) _ = false
 -- a number, else a text; first by its spelling, then by its kind
 abbrev pub value_of : Option Kind → Word → Result Value WorkRule
 value_of kind (Plain bytes) = do
-  number ← known BadNumber (number_of bytes)
+  number ← require BadNumber (number_of bytes)
   _ ← must WrongKind (is_of_kind kind kinds.Int)
   Ok (values.Int number)
 value_of kind (Quoted bytes) = do
-  text ← known BadLine (text_in bytes)
+  text ← require BadLine (text_in bytes)
   _ ← must WrongKind (is_of_kind kind kinds.Text)
   Ok (values.Text text)
 
@@ -35,7 +35,7 @@ values_of columns words = along (λ i w. value_of (kind_of_place columns i) w) 0
 -- a relation and a row of it: a value for each column
 unfoldable pub row_of : Catalogue → Word → List Word → Result (RelNo × List Value) WorkRule
 row_of cat name words = do
-  rel ← known UnknownName (relation_of cat name)
+  rel ← require UnknownName (relation_of cat name)
   row ← values_of (columns_of cat rel) words
   _ ← must WrongKind (length words == length (columns_of cat rel))
   Ok (rel_no rel, row)

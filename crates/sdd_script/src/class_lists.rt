@@ -9,7 +9,7 @@ ghost use Rattle.sdd_script.specs.OpenLists.{classes_in, last_class};
 ghost use Rattle.sdd_script.specs.Places.{open_list, reads_at};
 ghost use Rattle.sdd_script.specs.Rules.{rule_in};
 
-use crate::fault::{Counts, LineError, WorkRule, broken, known, must};
+use crate::fault::{Counts, LineError, WorkRule, must, refuse, require};
 use crate::keyword::ClassKey;
 use crate::limits::{MAX_LISTS, one_more_class};
 use crate::naming::{fragment_named, has_class, has_copy, name_in_word};
@@ -36,7 +36,7 @@ fn list_line(alloc: Global, state: &mut State, words: &mut Tokens<'_>) -> Result
             state.place = Place::Listing(no_classes(alloc));
             Ok(())
         }
-        Some(_) => broken(WorkRule::BadLine),
+        Some(_) => refuse(WorkRule::BadLine),
     }
 }
 
@@ -106,7 +106,7 @@ fn add_class(
         WorkRule::BadClass,
         !is_taken(catalogue, state, name.as_str().as_bytes()),
     )?;
-    state.classes = known(
+    state.classes = require(
         WorkRule::TooMany(Counts::Class),
         one_more_class(state.classes),
     )?;
@@ -133,15 +133,15 @@ fn class_line(
             let tm = read_tm(catalogue, &tm)?;
             add_class(alloc, catalogue, state, name, tm)
         }
-        None => broken(WorkRule::BadLine),
+        None => refuse(WorkRule::BadLine),
     }
 }
 
 fn fragment_in(alloc: Global, catalogue: &Catalogue, bytes: &[u8]) -> Result<(Name, u32), LineError>
     ensures { GivesReading rule_in (λ f. f) result (fragment_of catalogue.now (Plain bytes.now)) }
 {
-    let name = known(WorkRule::UnknownName, read_name(alloc, bytes)?)?;
-    let number = known(
+    let name = require(WorkRule::UnknownName, read_name(alloc, bytes)?)?;
+    let number = require(
         WorkRule::UnknownName,
         fragment_named(catalogue, name.as_str().as_bytes()),
     )?;
@@ -158,7 +158,7 @@ fn read_fragment(
 {
     match word.plain() {
         Some(bytes) => fragment_in(alloc, catalogue, bytes),
-        None => broken(WorkRule::UnknownName),
+        None => refuse(WorkRule::UnknownName),
     }
 }
 
@@ -242,7 +242,7 @@ fn reads_line(
             let dm = read_dm(catalogue, &dm)?;
             add_read(alloc, catalogue, state, fragment, number, dm)
         }
-        None => broken(WorkRule::BadLine),
+        None => refuse(WorkRule::BadLine),
     }
 }
 
@@ -275,7 +275,7 @@ fn writes_line(
             let (fragment, _) = read_fragment(alloc, catalogue, &word)?;
             add_write(alloc, state, fragment)
         }
-        None => broken(WorkRule::BadLine),
+        None => refuse(WorkRule::BadLine),
     }
 }
 

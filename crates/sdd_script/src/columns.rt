@@ -6,7 +6,7 @@ ghost use Rattle.sdd_script.specs.Few.{few};
 ghost use Rattle.sdd_script.specs.Rules.{rule_in};
 ghost use Rattle.sdd_script.specs.Columns.{use_in, use_at, use_numbered, column_in, column_of_use, same_of, const_of, condition_of, conditions_of};
 
-use crate::fault::{LineError, WorkRule, broken, known, must};
+use crate::fault::{LineError, WorkRule, must, refuse, require};
 use crate::few::keep_few;
 use crate::found::Found;
 use crate::naming::{column_named, columns_of, kind_of_place};
@@ -41,8 +41,8 @@ fn column_in(columns: &[Column], part: u32, name: &[u8]) -> Result<Found, LineEr
     requires { length columns.now < 2 ^ 32 - 1 }
     ensures { GivesReading rule_in (λ f. f) result (column_in columns.now part name.now) }
 {
-    let place = known(WorkRule::UnknownName, column_named(columns, name))?;
-    let kind = known(WorkRule::UnknownName, kind_of_place(columns, place))?;
+    let place = require(WorkRule::UnknownName, column_named(columns, name))?;
+    let kind = require(WorkRule::UnknownName, kind_of_place(columns, place))?;
     let column = place as u32 + 1;
     Ok(Found {
         at: Ref { part, column },
@@ -61,11 +61,11 @@ fn column_of_use_in(
 {
     let (number, name) = parts_at_point(bytes);
     must(WorkRule::BadNumber, is_whole_number(number))?;
-    let (part, rel) = known(
+    let (part, rel) = require(
         WorkRule::UnknownName,
         use_numbered(parts, number_in(number)),
     )?;
-    catalogue.known();
+    catalogue.law_is_sound();
     column_in(columns_of(catalogue, rel), part, name)
 }
 
@@ -79,7 +79,7 @@ pub fn read_column(
 {
     match word.plain() {
         Some(bytes) => column_of_use_in(catalogue, parts, bytes),
-        None => broken(WorkRule::BadNumber),
+        None => refuse(WorkRule::BadNumber),
     }
 }
 

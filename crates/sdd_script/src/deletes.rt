@@ -6,7 +6,7 @@ ghost use Rattle.sdd_script.specs.Rules.{rule_in};
 ghost use Rattle.sdd_script.specs.Statements.{delete_over, delete_of_parts, delete_of};
 
 use crate::columns::read_conditions;
-use crate::fault::{LineError, WorkRule, broken, known, must};
+use crate::fault::{LineError, WorkRule, must, refuse, require};
 use crate::naming::part_of;
 use sdd_lang::Stmt;
 use sdd_lang::sdd_base::{Listed, RelNo};
@@ -38,7 +38,7 @@ fn read_delete_parts(
 ) -> Result<Stmt, LineError>
     ensures { GivesReading rule_in (λ s. s) result (short (delete_of_parts catalogue.now name.now words.old)) }
 {
-    let rel = known(WorkRule::UnknownName, part_of(catalogue, name))?;
+    let rel = require(WorkRule::UnknownName, part_of(catalogue, name))?;
     read_delete_of(alloc, catalogue, rel, words)
 }
 
@@ -51,12 +51,12 @@ pub fn read_delete(
     ensures { GivesReading rule_in (λ s. s) result (short (delete_of catalogue.now words.old)) }
 {
     match words.next() {
-        None => broken(WorkRule::BadLine),
+        None => refuse(WorkRule::BadLine),
         Some(name) => {
             must(WorkRule::BadLine, stands_free(&name))?;
             match read_comparisons(words.copy()) {
                 Some(mut words) => read_delete_parts(alloc, catalogue, &name, &mut words),
-                None => broken(WorkRule::BadLine),
+                None => refuse(WorkRule::BadLine),
             }
         }
     }

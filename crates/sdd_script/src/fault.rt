@@ -1,6 +1,6 @@
 ghost use Rattle.std.specs.Prelude.{◌≡◌, Ok, Err, MatchResult};
 ghost use Rattle.sdd_script.specs.ReadResults.{told_at};
-ghost use Rattle.sdd_lang.specs.All.{GivesReading, known, must};
+ghost use Rattle.sdd_lang.specs.All.{GivesReading, must, require};
 ghost use Rattle.sdd_script.specs.declared.fault.LineError.TheVariants.{Broken};
 ghost use Rattle.sdd_script.specs.Rules.{rule_in};
 
@@ -91,19 +91,19 @@ pub enum LineError {
 }
 
 /// The answer to a line that breaks the rule.
-pub(crate) fn broken<T>(rule: WorkRule) -> Result<T, LineError>
+pub(crate) fn refuse<T>(rule: WorkRule) -> Result<T, LineError>
     ensures { result ≡ Err (Broken rule) }
 {
     Err(LineError::Broken(rule))
 }
 
 /// The value, or the rule that is broken where it isn't there.
-pub(crate) fn known<T>(rule: WorkRule, value: Option<T>) -> Result<T, LineError>
-    ensures { GivesReading rule_in (λ x. x) result (known rule value) }
+pub(crate) fn require<T>(rule: WorkRule, value: Option<T>) -> Result<T, LineError>
+    ensures { GivesReading rule_in (λ x. x) result (require rule value) }
 {
     match value {
         Some(value) => Ok(value),
-        None => broken(rule),
+        None => refuse(rule),
     }
 }
 
@@ -111,7 +111,7 @@ pub(crate) fn known<T>(rule: WorkRule, value: Option<T>) -> Result<T, LineError>
 pub(crate) fn must(rule: WorkRule, holds: bool) -> Result<(), LineError>
     ensures { GivesReading rule_in (λ u. u) result (must rule holds) }
 {
-    if holds { Ok(()) } else { broken(rule) }
+    if holds { Ok(()) } else { refuse(rule) }
 }
 
 /// What a line answered, its fault told at the line's number.

@@ -10,5 +10,5 @@ pub fn law_round_trip(catalogue: &Catalogue)
     ensures again { ReadsAgain catalogue.now }
     ensures spelled { ReadsSpelling catalogue.now }
 {
-    catalogue.known();
+    catalogue.law_is_sound();
 }

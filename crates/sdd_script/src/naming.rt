@@ -6,7 +6,7 @@ ghost use Rattle.sdd_lang.specs.All.{GivesReading, has_copy, has_name, numbers_t
 ghost use Rattle.sdd_script.specs.Rules.{rule_in};
 ghost use Rattle.sdd_script.specs.Naming.{name_of, relation_if, columns_of, key_of, name_of_relation, relation_named, relation_of, column_named, kind_of_place, name_of_fragment, fragment_named, name_of_class, class_names};
 
-use crate::fault::{LineError, WorkRule, broken, known};
+use crate::fault::{LineError, WorkRule, refuse, require};
 use sdd_lang::sdd_base::{ClassNo, DmNo, FragNo, Name, RelNo};
 use sdd_lang::sdd_catalog::{Catalogue, Column, Kind, Relation};
 use sdd_words::{Token, read_name};
@@ -66,7 +66,7 @@ fn relation_named(catalogue: &Catalogue, name: &[u8]) -> Option<u32>
     ensures relation { result ≡ relation_named catalogue.now name.now }
     ensures few { IfSome result (λ rel. rel < 2 ^ 8) }
 {
-    catalogue.known();
+    catalogue.law_is_sound();
     (1..catalogue.relations() + 1).find(|rel| has_name(catalogue, *rel, name))
 }
 
@@ -136,7 +136,7 @@ fn is_fragment_name(catalogue: &Catalogue, frag: u32, name: &[u8]) -> bool
 pub fn fragment_named(catalogue: &Catalogue, name: &[u8]) -> Option<u32>
     ensures { result ≡ fragment_named catalogue.now name.now }
 {
-    catalogue.known();
+    catalogue.law_is_sound();
     (1..catalogue.fragments() + 1).find(|frag| is_fragment_name(catalogue, *frag, name))
 }
 
@@ -169,7 +169,7 @@ fn is_class_name(catalogue: &Catalogue, class: u32, name: &[u8]) -> bool
 fn has_numbered_class(catalogue: &Catalogue, name: &[u8]) -> bool
     ensures { result ≡ list_any (λ class. bytes_eq name.now (name_of_class catalogue.now class)) (numbers_to (length catalogue.now.classes)) }
 {
-    catalogue.known();
+    catalogue.law_is_sound();
     (1..catalogue.classes() + 1).any(|class| is_class_name(catalogue, class, name))
 }
 
@@ -185,7 +185,7 @@ pub fn name_in_word(alloc: Global, word: &Token<'_>) -> Result<Name, LineError>
     ensures { GivesReading rule_in (λ n. n) result (name_of word.now) }
 {
     match word.plain() {
-        Some(bytes) => known(WorkRule::UnknownName, read_name(alloc, bytes)?),
-        None => broken(WorkRule::UnknownName),
+        Some(bytes) => require(WorkRule::UnknownName, read_name(alloc, bytes)?),
+        None => refuse(WorkRule::UnknownName),
     }
 }

@@ -5,7 +5,7 @@ ghost use Rattle.sdd_script.specs.Rules.{rule_in};
 ghost use Rattle.sdd_script.specs.Occurrences.{numbered, site_in, site_of, module_of, tm_of, link_of, count_of, flight_place, deliver_of, lose_of, repeat_of, txn_named, submit_of, resend_of, tick_of, settle_of, redeclare_of, data_module_of, dm_of, down_of, up_of, event_of};
 ghost use Rattle.sdd_words.specs.Words.{Plain};
 
-use crate::fault::{LineError, WorkRule, broken, known, must};
+use crate::fault::{LineError, WorkRule, must, refuse, require};
 use crate::keyword::EventKey;
 use crate::names::Names;
 use sdd_lang::sdd_base::{DmNo, Event, MAX_PLACE, MAX_TICKS, Site, TmNo, TxnNo};
@@ -26,14 +26,14 @@ fn module_number(most: u8, digits: &[u8]) -> Option<u8>
 fn tm_number(catalogue: &Catalogue, digits: &[u8]) -> Option<u8>
     ensures { result ≡ numbered catalogue.now.tms digits.now }
 {
-    catalogue.known();
+    catalogue.law_is_sound();
     module_number(catalogue.tms() as u8, digits)
 }
 
 fn dm_number(catalogue: &Catalogue, digits: &[u8]) -> Option<u8>
     ensures { result ≡ numbered catalogue.now.dms digits.now }
 {
-    catalogue.known();
+    catalogue.law_is_sound();
     module_number(catalogue.dms() as u8, digits)
 }
 
@@ -60,8 +60,8 @@ fn read_site(catalogue: &Catalogue, word: &Token<'_>) -> Result<Site, LineError>
     ensures { GivesReading rule_in (λ s. s) result (site_of catalogue.now word.now) }
 {
     match word.plain() {
-        Some(bytes) => known(WorkRule::BadEvent, site_in(catalogue, bytes)),
-        None => broken(WorkRule::BadEvent),
+        Some(bytes) => require(WorkRule::BadEvent, site_in(catalogue, bytes)),
+        None => refuse(WorkRule::BadEvent),
     }
 }
 
@@ -70,7 +70,7 @@ fn module_of(site: Site) -> Result<TmNo, LineError>
 {
     match site {
         Site::T(tm) => Ok(tm),
-        _ => broken(WorkRule::BadEvent),
+        _ => refuse(WorkRule::BadEvent),
     }
 }
 
@@ -86,7 +86,7 @@ fn data_module_of(site: Site) -> Result<DmNo, LineError>
 {
     match site {
         Site::D(dm) => Ok(dm),
-        _ => broken(WorkRule::BadEvent),
+        _ => refuse(WorkRule::BadEvent),
     }
 }
 
@@ -133,8 +133,8 @@ fn read_count(most: u32, word: &Token<'_>) -> Result<u32, LineError>
     ensures { GivesReading rule_in (λ n. n) result (count_of most word.now) }
 {
     match word.plain() {
-        Some(bytes) => known(WorkRule::BadNumber, count_in(most, bytes)),
-        None => broken(WorkRule::BadNumber),
+        Some(bytes) => require(WorkRule::BadNumber, count_in(most, bytes)),
+        None => refuse(WorkRule::BadNumber),
     }
 }
 
@@ -154,7 +154,7 @@ fn read_flight_place(
             let place = read_count(MAX_PLACE, &place)?;
             Ok((from, to, place))
         }
-        None => broken(WorkRule::BadLine),
+        None => refuse(WorkRule::BadLine),
     }
 }
 
@@ -182,8 +182,8 @@ fn read_repeat(catalogue: &Catalogue, words: &mut Tokens<'_>) -> Result<Event, L
 fn txn_in(alloc: Global, names: &Names, bytes: &[u8]) -> Result<TxnNo, LineError>
     ensures { GivesReading rule_in (λ t. t) result (txn_named names.now (Plain bytes.now)) }
 {
-    let name = known(WorkRule::UnknownName, read_name(alloc, bytes)?)?;
-    let number = known(WorkRule::UnknownName, names.number_of(name.as_str()))?;
+    let name = require(WorkRule::UnknownName, read_name(alloc, bytes)?)?;
+    let number = require(WorkRule::UnknownName, names.number_of(name.as_str()))?;
     Ok(TxnNo(number))
 }
 
@@ -192,7 +192,7 @@ fn read_txn(alloc: Global, names: &Names, word: &Token<'_>) -> Result<TxnNo, Lin
 {
     match word.plain() {
         Some(bytes) => txn_in(alloc, names, bytes),
-        None => broken(WorkRule::UnknownName),
+        None => refuse(WorkRule::UnknownName),
     }
 }
 
@@ -205,7 +205,7 @@ fn read_submit(alloc: Global, names: &Names, words: &mut Tokens<'_>) -> Result<E
             let txn = read_txn(alloc, names, &name)?;
             Ok(Event::Submit(txn))
         }
-        None => broken(WorkRule::BadLine),
+        None => refuse(WorkRule::BadLine),
     }
 }
 
@@ -218,7 +218,7 @@ fn read_resend(catalogue: &Catalogue, words: &mut Tokens<'_>) -> Result<Event, L
             let (from, to) = read_link(catalogue, &from, &to)?;
             Ok(Event::Resend { from, to })
         }
-        None => broken(WorkRule::BadLine),
+        None => refuse(WorkRule::BadLine),
     }
 }
 
@@ -232,7 +232,7 @@ fn read_tick(catalogue: &Catalogue, words: &mut Tokens<'_>) -> Result<Event, Lin
             let n = read_count(MAX_TICKS, &n)?;
             Ok(Event::Tick { tm, n })
         }
-        None => broken(WorkRule::BadLine),
+        None => refuse(WorkRule::BadLine),
     }
 }
 
@@ -241,7 +241,7 @@ fn read_settle(words: &mut Tokens<'_>) -> Result<Event, LineError>
 {
     match words.next() {
         None => Ok(Event::Settle),
-        Some(_) => broken(WorkRule::BadLine),
+        Some(_) => refuse(WorkRule::BadLine),
     }
 }
 
@@ -250,7 +250,7 @@ fn read_redeclare(words: &mut Tokens<'_>) -> Result<Event, LineError>
 {
     match words.next() {
         None => Ok(Event::Redeclare),
-        Some(_) => broken(WorkRule::BadLine),
+        Some(_) => refuse(WorkRule::BadLine),
     }
 }
 
@@ -263,7 +263,7 @@ fn read_down(catalogue: &Catalogue, words: &mut Tokens<'_>) -> Result<Event, Lin
             let dm = read_dm(catalogue, &dm)?;
             Ok(Event::Down(dm))
         }
-        None => broken(WorkRule::BadLine),
+        None => refuse(WorkRule::BadLine),
     }
 }
 
@@ -276,7 +276,7 @@ fn read_up(catalogue: &Catalogue, words: &mut Tokens<'_>) -> Result<Event, LineE
             let dm = read_dm(catalogue, &dm)?;
             Ok(Event::Up(dm))
         }
-        None => broken(WorkRule::BadLine),
+        None => refuse(WorkRule::BadLine),
     }
 }
 

@@ -6,7 +6,7 @@ ghost use Rattle.sdd_script.specs.Rules.{rule_in};
 ghost use Rattle.sdd_script.specs.Statements.{listed_column, part_in, parts_of, query_over, query_of_parts, query_behind_from, query_with, query_of};
 
 use crate::columns::{read_column, read_conditions};
-use crate::fault::{LineError, WorkRule, broken, known, must};
+use crate::fault::{LineError, WorkRule, must, refuse, require};
 use crate::few::keep_few;
 use crate::naming::part_of;
 use sdd_lang::sdd_base::{Listed, MAX_OUTPUT_COLUMNS, MAX_USES, NoMemory, RelNo};
@@ -63,7 +63,7 @@ fn read_listed(
 fn read_part(part: Option<u8>) -> Result<RelNo, LineError>
     ensures { GivesReading rule_in (λ r. r) result (part_in part) }
 {
-    let rel = known(WorkRule::UnknownName, part)?;
+    let rel = require(WorkRule::UnknownName, part)?;
     Ok(RelNo(u32::from(rel)))
 }
 
@@ -131,7 +131,7 @@ fn read_query_behind_from(
     )?;
     match read_comparisons(rest) {
         Some(mut words) => read_query_parts(alloc, catalogue, columns, rels, &mut words),
-        None => broken(WorkRule::BadLine),
+        None => refuse(WorkRule::BadLine),
     }
 }
 
@@ -159,6 +159,6 @@ pub fn read_query(
 {
     match words.cut_at(b"from") {
         Some((mut columns, behind)) => read_query_with(alloc, catalogue, &mut columns, &behind),
-        None => broken(WorkRule::BadLine),
+        None => refuse(WorkRule::BadLine),
     }
 }

@@ -9,7 +9,7 @@ ghost use Rattle.sdd_script.specs.Occurrences.{event_of};
 ghost use Rattle.sdd_script.specs.Statements.{statement_of};
 
 use crate::class_lists::read_class_line;
-use crate::fault::{Counts, LineError, WorkRule, broken, known, must};
+use crate::fault::{Counts, LineError, WorkRule, must, refuse, require};
 use crate::grown::Grown;
 use crate::keyword::{EventKey, Keyword, StatementKey, keyword_of};
 use crate::limits::{check_limits, one_more_row, written_with};
@@ -37,14 +37,14 @@ fn row_line(
     ensures { GivesReading rule_in (λ _. state.new) result (row_rules catalogue.now state.old words.old) }
 {
     match words.next() {
-        None => broken(WorkRule::BadLine),
+        None => refuse(WorkRule::BadLine),
         Some(name) => {
             must(
                 WorkRule::BadLine,
                 state.place.takes_rows() && (stands_free(&name) && are_free(words)),
             )?;
             let row = read_row(alloc, catalogue, &name, words)?;
-            state.written = known(WorkRule::TooMany(Counts::Row), one_more_row(state.written))?;
+            state.written = require(WorkRule::TooMany(Counts::Row), one_more_row(state.written))?;
             state.rows.push(row)?;
             Ok(())
         }
@@ -79,14 +79,14 @@ fn txn_line(
             let tm = read_tm(catalogue, &tm)?;
             open_txn(alloc, state, name, tm)
         }
-        None => broken(WorkRule::BadLine),
+        None => refuse(WorkRule::BadLine),
     }
 }
 
 fn add_statement(state: &mut State, statement: Stmt) -> Result<(), LineError>
     ensures { GivesReading rule_in (λ _. state.new) result (with_statement state.old statement) }
 {
-    let written = known(
+    let written = require(
         WorkRule::TooMany(Counts::Row),
         written_with(state.written, &statement),
     )?;
@@ -144,7 +144,7 @@ fn close(alloc: Global, state: &mut State) -> Result<(), LineError>
             state.lists.push(classes.into_listed())?;
             Ok(())
         }
-        _ => broken(WorkRule::BadLine),
+        _ => refuse(WorkRule::BadLine),
     }
 }
 
@@ -153,7 +153,7 @@ fn done_line(alloc: Global, state: &mut State, words: &mut Tokens<'_>) -> Result
 {
     match words.next() {
         None => close(alloc, state),
-        Some(_) => broken(WorkRule::BadLine),
+        Some(_) => refuse(WorkRule::BadLine),
     }
 }
 
@@ -226,7 +226,7 @@ fn end_line(state: &mut State, words: &mut Tokens<'_>) -> Result<(), LineError>
             state.place = Place::Ended;
             Ok(())
         }
-        Some(_) => broken(WorkRule::BadLine),
+        Some(_) => refuse(WorkRule::BadLine),
     }
 }
 
@@ -259,9 +259,9 @@ fn read_words(
     ensures { GivesReading rule_in (λ _. state.new) result (words_rules catalogue.now state.old words.old) }
 {
     match words.next() {
-        None => broken(WorkRule::BadLine),
+        None => refuse(WorkRule::BadLine),
         Some(first) => {
-            let keyword = known(WorkRule::BadLine, keyword_of(&first))?;
+            let keyword = require(WorkRule::BadLine, keyword_of(&first))?;
             read_keyword_line(alloc, catalogue, state, keyword, words)
         }
     }
@@ -292,6 +292,6 @@ pub fn read_line(
     must(WorkRule::NotUtf8, text_of(line).is_some())?;
     match words_of(line) {
         Some(mut words) => read_sound_words(alloc, catalogue, state, &mut words),
-        None => broken(WorkRule::BadLine),
+        None => refuse(WorkRule::BadLine),
     }
 }

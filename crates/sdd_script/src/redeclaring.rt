@@ -40,7 +40,7 @@ fn is_down(dm: u32, events: &[Event]) -> bool
 fn some_down(catalogue: &Catalogue, events: &[Event]) -> bool
     ensures { result ≡ some_down catalogue.now.dms events.now }
 {
-    catalogue.known();
+    catalogue.law_is_sound();
     (1..catalogue.dms() + 1).any(|dm| is_down(dm, events))
 }
 

@@ -6,7 +6,7 @@ ghost use Rattle.sdd_script.specs.Rules.{rule_in};
 ghost use Rattle.sdd_script.specs.Statements.{put_of, statement_of};
 
 use crate::deletes::read_delete;
-use crate::fault::{LineError, WorkRule, broken, must};
+use crate::fault::{LineError, WorkRule, must, refuse};
 use crate::keyword::StatementKey;
 use crate::queries::read_query;
 use crate::updates::read_update;
@@ -22,7 +22,7 @@ fn read_put(alloc: Global, catalogue: &Catalogue, words: &mut Tokens<'_>) -> Res
     ensures { GivesReading rule_in (λ s. s) result (short (put_of catalogue.now words.old)) }
 {
     match words.next() {
-        None => broken(WorkRule::BadLine),
+        None => refuse(WorkRule::BadLine),
         Some(name) => {
             must(WorkRule::BadLine, stands_free(&name) && are_free(words))?;
             let (rel, row) = read_row(alloc, catalogue, &name, words)?;

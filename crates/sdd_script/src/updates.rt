@@ -6,7 +6,7 @@ ghost use Rattle.sdd_script.specs.Rules.{rule_in};
 ghost use Rattle.sdd_script.specs.Statements.{addend_of, add_of, to_of, assign_of, update_over, update_of_parts, update_with, update_behind_set, update_to, update_of};
 
 use crate::columns::{read_column, read_conditions};
-use crate::fault::{LineError, WorkRule, broken, known, must};
+use crate::fault::{LineError, WorkRule, must, refuse, require};
 use crate::few::keep_few;
 use crate::found::Found;
 use crate::naming::{key_of, part_of};
@@ -24,8 +24,8 @@ fn read_addend(word: &Token<'_>) -> Result<i64, LineError>
     ensures { GivesReading rule_in (λ n. n) result (addend_of word.now) }
 {
     match word.plain() {
-        Some(bytes) => known(WorkRule::BadNumber, number_in(bytes)),
-        None => broken(WorkRule::WrongKind),
+        Some(bytes) => require(WorkRule::BadNumber, number_in(bytes)),
+        None => refuse(WorkRule::WrongKind),
     }
 }
 
@@ -117,7 +117,7 @@ fn read_update_parts(
     ensures { GivesReading rule_in (λ s. s) result
         (short (update_of_parts catalogue.now name.now sets.old words.old)) }
 {
-    let rel = known(WorkRule::UnknownName, part_of(catalogue, name))?;
+    let rel = require(WorkRule::UnknownName, part_of(catalogue, name))?;
     read_update_of(alloc, catalogue, rel, sets, words)
 }
 
@@ -133,7 +133,7 @@ fn read_update_form(
 {
     match read_comparisons(rest) {
         Some(mut words) => read_update_parts(alloc, catalogue, name, sets, &mut words),
-        None => broken(WorkRule::BadLine),
+        None => refuse(WorkRule::BadLine),
     }
 }
 
@@ -150,7 +150,7 @@ fn read_update_behind_set(
     must(WorkRule::BadLine, stands_free(name) && sets.has_words())?;
     match read_settings(sets) {
         Some(mut sets) => read_update_form(alloc, catalogue, name, &mut sets, rest),
-        None => broken(WorkRule::BadLine),
+        None => refuse(WorkRule::BadLine),
     }
 }
 
@@ -180,6 +180,6 @@ pub fn read_update(
             must(WorkRule::BadLine, has_key(b"set", &key))?;
             read_update_to(alloc, catalogue, &name, words)
         }
-        None => broken(WorkRule::BadLine),
+        None => refuse(WorkRule::BadLine),
     }
 }

@@ -8,7 +8,7 @@ ghost use Rattle.sdd_script.specs.Few.{few, few_of, few_row};
 ghost use Rattle.sdd_script.specs.Rules.{rule_in};
 ghost use Rattle.sdd_script.specs.Values.{is_of_kind, value_of, values_of, row_of};
 
-use crate::fault::{LineError, WorkRule, known, must};
+use crate::fault::{LineError, WorkRule, must, require};
 use crate::few::keep_few;
 use crate::naming::{columns_of, kind_of_place, relation_of};
 use sdd_lang::sdd_base::{Listed, NoMemory, RelNo, Row, Text, Value};
@@ -44,13 +44,13 @@ pub fn read_value(alloc: Global, kind: Option<Kind>, word: &Token<'_>) -> Result
 {
     match word.plain() {
         Some(bytes) => {
-            let number = known(WorkRule::BadNumber, number_in(bytes))?;
+            let number = require(WorkRule::BadNumber, number_in(bytes))?;
             must(WorkRule::WrongKind, is_of_kind(kind, Kind::Int))?;
             Ok(Value::Int(number))
         }
         None => {
             let bytes = word.content(alloc)?;
-            let text = known(WorkRule::BadLine, read_text(alloc, bytes.as_slice())?)?;
+            let text = require(WorkRule::BadLine, read_text(alloc, bytes.as_slice())?)?;
             must(WorkRule::WrongKind, is_of_kind(kind, Kind::Text))?;
             Ok(Value::Text(text))
         }
@@ -110,7 +110,7 @@ fn read_few(
 ) -> Result<(RelNo, Row), LineError>
     ensures { GivesReading rule_in (λ r. r) result (few_of catalogue.now name.now words.old) }
 {
-    let rel = known(WorkRule::UnknownName, relation_of(catalogue, name))?;
+    let rel = require(WorkRule::UnknownName, relation_of(catalogue, name))?;
     read_row_of(alloc, columns_of(catalogue, rel), RelNo(rel), words)
 }
 

@@ -6,7 +6,7 @@ ghost use Rattle.sdd_script.specs.ReadResults.{Tells};
 ghost use Rattle.sdd_script.specs.Valid.{Accepts};
 ghost use Rattle.sdd_script.specs.Walk.{one_line, tail_rules, walk_bytes, nothing_read, workload};
 
-use crate::fault::{LineError, WorkError, WorkFault, WorkRule, at_line, broken, must};
+use crate::fault::{LineError, WorkError, WorkFault, WorkRule, at_line, must, refuse};
 use crate::grown::Grown;
 use crate::names::Names;
 use crate::place::Place;
@@ -39,7 +39,7 @@ fn check_tail(state: &State, tail: &[u8]) -> Result<(), LineError>
         _ => {
             must(WorkRule::BadLine, !state.place.is_ended())?;
             must(WorkRule::NotUtf8, text_of(tail).is_some())?;
-            broken(WorkRule::NoEnd)
+            refuse(WorkRule::NoEnd)
         }
     }
 }
@@ -97,7 +97,7 @@ pub fn read_workload(
     ensures exact { Tells result (workload catalogue.now bytes.now) }
     ensures accepted { IfOk result (λ work. Accepts catalogue.now bytes.now work) }
 {
-    catalogue.known();
+    catalogue.law_is_sound();
     read_bytes(alloc, bytes, catalogue)
 }
 

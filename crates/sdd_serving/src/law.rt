@@ -24,7 +24,7 @@ pub fn law_exchange_serves(catalogue: &Catalogue, txn: &Txn)
         (frozen_space catalogue.now c txn.now ts copies) space stage
         → Serves catalogue.now txn.now (all_held ds space) db }
 {
-    catalogue.known();
+    catalogue.law_is_sound();
 }
 
 /// So what the transaction does to that database follows from the rows that are held.
@@ -37,7 +37,7 @@ pub fn law_shipped_effect(catalogue: &Catalogue, txn: &Txn)
         → effect_over catalogue.now (found_for (all_held ds space)) (chosen_for catalogue.now (all_held ds space)) txn.now
         ≡ effect catalogue.now db txn.now }
 {
-    catalogue.known();
+    catalogue.law_is_sound();
 }
 
 /// In which order rows arrive, and how often one does, doesn't matter.

@@ -194,7 +194,7 @@ pub(crate) fn first_classes<'a>(
     ensures { IfOk result (λ runs.
         runs.items ≡ map (first_class catalogue.now) (classes_of catalogue.now tm.0)) }
 {
-    catalogue.known();
+    catalogue.law_is_sound();
     let mut runs = Vec::new(alloc);
     for number in 1..catalogue.classes() + 1 {
         let class = ClassNo(number);

@@ -52,7 +52,7 @@ impl<'a> TxnModule<'a> {
             → Represents new setting
             (Redeclared (record { catalogue = catalogue.now; table = table.now }) 0 ∷ [])) }
     {
-        whole.known();
+        whole.law_is_sound();
         Ok(TxnModule {
             parts: Parts::new(alloc, whole, catalogue, table, tm)?,
             live: true,

@@ -8,13 +8,13 @@ use Rattle.sdd_umod.specs.Views.{TmCounts}
 use Rattle.sdd_umod.specs.State.{State}
 use Rattle.sdd_umod.specs.Steps.{tm_of, turn}
 
--- a T was told to hold for the transaction of this number
-abbrev pub is_told : ℕ → TmCounts → Bool
-is_told n k = k.holds == n
+-- a T was asked to hold for the transaction of this number
+abbrev pub is_asked_to_hold : ℕ → TmCounts → Bool
+is_asked_to_hold n k = k.holds == n
 
 -- the next transaction is being served, from its first HOLD on, and hasn't started yet
 abbrev pub is_awaiting_helds : State → Bool
-is_awaiting_helds state = is_none state.line.active && list_any (is_told (turn state.served)) state.counts
+is_awaiting_helds state = is_none state.line.active && list_any (is_asked_to_hold (turn state.served)) state.counts
 
 -- a T whose HELD for it is missing
 abbrev pub lacks_held : ℕ → TmCounts → Bool
@@ -28,8 +28,8 @@ abbrev pub site_of : Option TmNo → Site
 site_of None = U
 site_of (Some tm) = T tm
 
-abbrev pub lacking_site : State → Site
-lacking_site state = site_of (option_map tm_of (find (lacks_held (turn state.served)) state.counts))
+abbrev pub missing_site : State → Site
+missing_site state = site_of (option_map tm_of (find (lacks_held (turn state.served)) state.counts))
 
 -- the first in the queue is underway, and isn't counted in the places of the others
 abbrev pub first_underway : Site → Standing → Standing
@@ -39,7 +39,7 @@ first_underway site standing = standing
 abbrev pub standing_in : State → ℕ → Standing
 standing_in state n =
     if is_awaiting_helds state
-    then first_underway (lacking_site state) (standing_of state.line n)
+    then first_underway (missing_site state) (standing_of state.line n)
     else standing_of state.line n
 
 -- worked: while the HELD of T1 is missing, the first in the queue is underway, and the second is the first that waits

@@ -6,7 +6,7 @@ ghost use Rattle.sdd_attempt.specs.declared.standing.Standing.TheVariants.{Queue
 ghost use Rattle.sdd_umod.specs.Fits.{fits, FitsSubmit};
 ghost use Rattle.sdd_umod.specs.Handing.{IsEarly, with_counted_message, held_from, state_handed, state_given};
 ghost use Rattle.sdd_umod.specs.Represents.{IsKept, IsAmid};
-ghost use Rattle.sdd_umod.specs.Standing.{first_underway, is_awaiting_helds, lacking_site, unheld_by, standing_in};
+ghost use Rattle.sdd_umod.specs.Standing.{first_underway, is_awaiting_helds, missing_site, unheld_by, standing_in};
 ghost use Rattle.sdd_umod.specs.Steps.{act_of, counted, hold_step, is_kept_on_hold, may_start, release_step, state_done, step_of, turn};
 ghost use Rattle.sdd_umod.specs.Works.{first_state, no_counts, HaveRoom, Works};
 ghost use Rattle.sdd_umod.specs.declared.step.Step.TheVariants.{Commit, Hold, Release, Start};
@@ -15,8 +15,8 @@ ghost use Rattle.sdd_umod.specs.declared.tm_count.Sign.TheVariants as signs;
 use crate::serving::Serving;
 use crate::step::Step;
 use crate::tm_count::{
-    Sign, TmCount, all_hold, all_lacking, any_on_hold, any_told, count, first_free, first_lacking,
-    first_on_hold,
+    Sign, TmCount, all_hold, all_missing, any_asked_to_hold, any_on_hold, count, first_free,
+    first_missing, first_on_hold,
 };
 use sdd_attempt::sdd_base::{ClassNo, Clock, NoMemory, Site, TmNo, Ts, TxnNo};
 use sdd_attempt::sdd_catalog::Catalogue;
@@ -101,11 +101,11 @@ impl<'a> Parts<'a> {
     }
 
     /// The transaction modules whose HELD for the next transaction is missing.
-    pub(crate) fn lacking(&self) -> Result<Vec<TmNo>, NoMemory>
+    pub(crate) fn missing_tms(&self) -> Result<Vec<TmNo>, NoMemory>
         ensures { IfOk result (λ tms. tms.items
             ≡ filter_map (unheld_by (turn self.now.served)) self.now.counts) }
     {
-        all_lacking(self.alloc, self.counts.as_slice(), self.serving.turn())
+        all_missing(self.alloc, self.counts.as_slice(), self.serving.turn())
     }
 
     /// How the module has a transaction.
@@ -124,10 +124,10 @@ impl<'a> Parts<'a> {
 
     /// How it has the transaction at this place, from 1, where the first is being served.
     fn without_first(&self, class: ClassNo, place: u64) -> Standing
-        ensures { result ≡ first_underway (lacking_site self.now) (Queued class place) }
+        ensures { result ≡ first_underway (missing_site self.now) (Queued class place) }
     {
         if place == 1 {
-            return Standing::Underway(class, None, self.lacking_site());
+            return Standing::Underway(class, None, self.missing_site());
         }
         Standing::Queued(class, place.saturating_sub(1))
     }
@@ -136,14 +136,14 @@ impl<'a> Parts<'a> {
     pub(crate) fn is_awaiting_helds(&self) -> bool
         ensures { result ≡ is_awaiting_helds self.now }
     {
-        self.line.is_idle() && any_told(self.counts.as_slice(), self.serving.turn())
+        self.line.is_idle() && any_asked_to_hold(self.counts.as_slice(), self.serving.turn())
     }
 
     /// The first site whose HELD is missing.
-    fn lacking_site(&self) -> Site
-        ensures { result ≡ lacking_site self.now }
+    fn missing_site(&self) -> Site
+        ensures { result ≡ missing_site self.now }
     {
-        match first_lacking(self.counts.as_slice(), self.serving.turn()) {
+        match first_missing(self.counts.as_slice(), self.serving.turn()) {
             None => Site::U,
             Some(tm) => Site::T(tm),
         }
@@ -329,7 +329,7 @@ impl<'a> Parts<'a> {
 fn first_counts(alloc: Global, catalogue: &Catalogue) -> Result<Vec<TmCount>, NoMemory>
     ensures { IfOk result (λ counts. counts.items ≡ map no_counts (numbers_to catalogue.now.tms)) }
 {
-    catalogue.known();
+    catalogue.law_is_sound();
     let mut counts = Vec::new(alloc);
     for tm in 1..catalogue.tms() + 1 {
         counts.push(TmCount::new(TmNo(tm as u8)))?;

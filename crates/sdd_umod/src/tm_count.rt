@@ -1,7 +1,7 @@
 ghost use Rattle.std.specs.Prelude.{◌≡◌, filter_map, find, map, option_map, IfOk};
 ghost use Rattle.std.specs.List.{list_all, list_any};
 ghost use Rattle.sdd_umod.specs.Steps.{counted, is_free, is_holding, is_kept_on_hold, tm_of};
-ghost use Rattle.sdd_umod.specs.Standing.{is_told, lacks_held, unheld_by};
+ghost use Rattle.sdd_umod.specs.Standing.{is_asked_to_hold, lacks_held, unheld_by};
 ghost use Rattle.sdd_umod.specs.Works.{no_counts, HasRoom, HaveRoom};
 
 use sdd_attempt::sdd_base::{NoMemory, TmNo};
@@ -61,9 +61,9 @@ impl TmCount {
         self.releases < commits
     }
 
-    /// Whether it was told to hold for the transaction of this number.
-    pub(crate) fn is_told(&self, turn: u64) -> bool
-        ensures { result ≡ is_told turn self.now }
+    /// Whether it was asked to hold for the transaction of this number.
+    pub(crate) fn is_asked_to_hold(&self, turn: u64) -> bool
+        ensures { result ≡ is_asked_to_hold turn self.now }
     {
         self.holds == turn
     }
@@ -76,7 +76,7 @@ impl TmCount {
     }
 
     /// The transaction module, where its HELD for the transaction of this number is missing.
-    fn lacking(&self, turn: u64) -> Option<TmNo>
+    fn missing_tm(&self, turn: u64) -> Option<TmNo>
         ensures { result ≡ unheld_by turn self.now }
     {
         if self.lacks_held(turn) {
@@ -147,7 +147,7 @@ pub(crate) fn first_free(counts: &[TmCount]) -> Option<TmNo>
 }
 
 /// The first transaction module whose HELD for the transaction of this number is missing.
-pub(crate) fn first_lacking(counts: &[TmCount], turn: u64) -> Option<TmNo>
+pub(crate) fn first_missing(counts: &[TmCount], turn: u64) -> Option<TmNo>
     ensures { result ≡ option_map tm_of (find (lacks_held turn) counts.now) }
 {
     match counts.iter().find(|one| one.lacks_held(turn)) {
@@ -157,7 +157,7 @@ pub(crate) fn first_lacking(counts: &[TmCount], turn: u64) -> Option<TmNo>
 }
 
 /// The transaction modules whose HELD for the transaction of this number is missing.
-pub(crate) fn all_lacking(
+pub(crate) fn all_missing(
     alloc: Global,
     counts: &[TmCount],
     turn: u64,
@@ -167,7 +167,7 @@ pub(crate) fn all_lacking(
     Ok(
         counts
             .iter()
-            .filter_map(|one| one.lacking(turn))
+            .filter_map(|one| one.missing_tm(turn))
             .collect(alloc)?,
     )
 }
@@ -186,9 +186,9 @@ pub(crate) fn any_on_hold(counts: &[TmCount], commits: u64) -> bool
     counts.iter().any(|one| one.is_kept_on_hold(commits))
 }
 
-/// Whether one was told to hold for the transaction of this number.
-pub(crate) fn any_told(counts: &[TmCount], turn: u64) -> bool
-    ensures { result ≡ list_any (is_told turn) counts.now }
+/// Whether one was asked to hold for the transaction of this number.
+pub(crate) fn any_asked_to_hold(counts: &[TmCount], turn: u64) -> bool
+    ensures { result ≡ list_any (is_asked_to_hold turn) counts.now }
 {
-    counts.iter().any(|one| one.is_told(turn))
+    counts.iter().any(|one| one.is_asked_to_hold(turn))
 }

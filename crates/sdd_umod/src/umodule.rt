@@ -42,7 +42,7 @@ impl<'a> UModule<'a> {
         ensures { IfOk result (λ new. (setting : Setting)
             → setting.catalogue ≡ catalogue.now → setting.site ≡ U → Represents new setting []) }
     {
-        catalogue.known();
+        catalogue.law_is_sound();
         Ok(UModule {
             parts: Parts::new(alloc, catalogue)?,
             live: true,
@@ -88,11 +88,11 @@ impl<'a> UModule<'a> {
     }
 
     /// The transaction modules whose HELD for the next transaction is missing.
-    pub fn lacking(&self) -> Result<Vec<TmNo>, NoMemory>
+    pub fn missing_tms(&self) -> Result<Vec<TmNo>, NoMemory>
         ensures { IfOk result (λ tms. tms.items
             ≡ filter_map (unheld_by (turn self.now.value.served)) self.now.value.counts) }
     {
-        self.parts.lacking()
+        self.parts.missing_tms()
     }
 
     /// How the module has a transaction. Costs a look at each transaction that waits and at each

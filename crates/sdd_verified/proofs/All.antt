@@ -32,7 +32,7 @@ pub use Rattle.sdd_obligations.specs.copy.Contents.{Dated, keys_in, latest, newe
 pub use Rattle.sdd_obligations.specs.history.declared.record.Rec.TheVariants.{Submit as Submission}
 pub use Rattle.sdd_obligations.specs.lang.Condition.{Tuple, meets_all, part_of, value_at}
 pub use Rattle.sdd_obligations.specs.lang.Database.{Database, Item, key_in, rows_of, with_row}
-pub use Rattle.sdd_obligations.specs.lang.Effect.{Changed, change_of, effect_from, failed, rows_in, with_change, with_deletes, with_updates}
+pub use Rattle.sdd_obligations.specs.lang.Effect.{Changed, change_of, effect_from, failed_effect, rows_in, with_change, with_deletes, with_updates}
 pub use Rattle.sdd_obligations.specs.lang.Query.{answer, product, projection, selection}
 pub use Rattle.sdd_obligations.specs.lang.Serial.{after_changes, changed_by, item_of, serial, set_to}
 pub use Rattle.sdd_obligations.specs.lang.Update.{added, assigned, assigned_all, chosen, in_range, replaced}

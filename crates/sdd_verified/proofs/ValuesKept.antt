@@ -1,6 +1,6 @@
 -- What holds of all numbers of 64 bits, and of each value of the rows and statements that are given, holds of the values that a plain
 -- database answers, changes and is left with.
-use Rattle.sdd_verified.proofs.All.{Add, AllByRecursion, Assign, Catalogue, Change, Changed, Condition, Database, Delete, Effect, Equal, GivesResults, Greater, Int, Item, Ledger, Less, List, None, Option, Overflow, Put, Query, Ref, RelNo, Reply, Row, Rows, Some, Stmt, Text, To, TooMany, Tuple, Txn, Update, Value, [], added, after_changes, answer, assigned, assigned_all, change_of, changed_by, changes, chosen, column, cond, cons_option, database_of, each_inserted, each_left, effect, effect_from, failed, false, flat_map, fold, fragment_of, if◌then◌else◌, in_range, insert_key, is_at, item_cmp, item_cmp_exact, item_of, kept_hold, key_in, length, map, match_ordering, meets_all, nat_lt, part_of, pos, product, projection, refl, replaced, row_cmp, rows_in, rows_of, selection, serial, set_to, slice_index_or, slice_set, subst, suc, true, value_at, with_change, with_deletes, with_row, with_updates, zero, ℕ, ℤ, ◌&&◌, ◌++◌, ◌+ℤ◌, ◌+◌, ◌-◌, ◌==◌, ◌∷◌, ◌≡◌}
+use Rattle.sdd_verified.proofs.All.{Add, AllByRecursion, Assign, Catalogue, Change, Changed, Condition, Database, Delete, Effect, Equal, GivesResults, Greater, Int, Item, Ledger, Less, List, None, Option, Overflow, Put, Query, Ref, RelNo, Reply, Row, Rows, Some, Stmt, Text, To, TooMany, Tuple, Txn, Update, Value, [], added, after_changes, answer, assigned, assigned_all, change_of, changed_by, changes, chosen, column, cond, cons_option, database_of, each_inserted, each_left, effect, effect_from, failed_effect, false, flat_map, fold, fragment_of, if◌then◌else◌, in_range, insert_key, is_at, item_cmp, item_cmp_exact, item_of, kept_hold, key_in, length, map, match_ordering, meets_all, nat_lt, part_of, pos, product, projection, refl, replaced, row_cmp, rows_in, rows_of, selection, serial, set_to, slice_index_or, slice_set, subst, suc, true, value_at, with_change, with_deletes, with_row, with_updates, zero, ℕ, ℤ, ◌&&◌, ◌++◌, ◌+ℤ◌, ◌+◌, ◌-◌, ◌==◌, ◌∷◌, ◌≡◌}
 
 pub both_hold : {A : Type 0} (P : A → Type 0) (xs ys : List A) → AllByRecursion P xs → AllByRecursion P ys → AllByRecursion P (xs ++ ys)
 both_hold P [] ys h k = k
@@ -189,14 +189,15 @@ module _ (P : Value → Type 0) (ints : (n : ℤ) → in_range n ≡ true → P 
       let found : List Row = answer db out rels conds in
       let next = effect_from_keeps cat db h rest (answers ++ found ∷ []) cs w.1
       (both_hold Hold answers (found ∷ []) a (answer_holds db out rels conds h, tt)) all in
-      elim (nat_lt 4096 (rows_in answers + length found)) as (λ b. Keeps (if b then failed TooMany else effect_from cat db rest (answers ++ found ∷ []) cs)) [
+      elim (nat_lt 4096 (rows_in answers + length found))
+      as (λ b. Keeps (if b then failed_effect TooMany else effect_from cat db rest (answers ++ found ∷ []) cs)) [
         | true ↦ record { reply = tt; changes = tt }
         | false ↦ next
       ]
   effect_from_keeps cat db h (Update rel sets conds ∷ rest) answers cs w a all =
       elim (with_updates cat sets cs (chosen db rel.0 conds))
       as (λ o. with_updates cat sets cs (chosen db rel.0 conds) ≡ o → Keeps
-      (elim o as (λ p. Effect) [ None ↦ failed Overflow | Some next ↦ effect_from cat db rest answers next ])) [
+      (elim o as (λ p. Effect) [ None ↦ failed_effect Overflow | Some next ↦ effect_from cat db rest answers next ])) [
         | None ↦ λ e. record { reply = tt; changes = tt }
         | Some next ↦ λ e.
             effect_from_keeps cat db h rest answers next w.1 a

@@ -14,5 +14,5 @@ pub fn law_verified(catalogue: &Catalogue)
     ensures { (work : Workload) (text : List ℕ) → IsValid catalogue.now work → IsReportOn catalogue.now work text
         → length text ≤ MAX_REPORT_BYTES → verdict catalogue.now work text ≡ Yes }
 {
-    catalogue.known();
+    catalogue.law_is_sound();
 }

@@ -7,11 +7,11 @@ pub use Rattle.sdd_report.specs.Replies.{queries_from, query_lines, reply_lines,
 pub use Rattle.sdd_script.proofs.NamePlaces.{place_of_name}
 pub use Rattle.sdd_script.proofs.StepLaws.{not_true}
 pub use Rattle.sdd_script.proofs.WordLooks.{no_newline-append}
-pub use Rattle.sdd_script.proofs.base.ReadingLaws.{Answers, along_ok, bind_ok, fails_bind, known_ok, must_ok, ok_along, ok_is, with_front}
+pub use Rattle.sdd_script.proofs.base.ReadingLaws.{Answers, along_ok, bind_ok, fails_bind, must_ok, ok_along, ok_is, require_ok, with_front}
 pub use Rattle.sdd_script.proofs.words.Numbers.{both}
 pub use Rattle.sdd_script.proofs.words.Points.{past, place_at, place_here, place_on}
 pub use Rattle.sdd_script.proofs.words.Spelled.{cut_takes, first_line as line_behind}
-pub use Rattle.sdd_script.specs.All.{AreDistinct, AreLines, Catalogue, Database, Event, Fails, FitsStart, FitsTxn, HasNoNewline, HasNoSpace, IsFrom1To, IsName, IsValid, IsValidEvent, IsValidRow, IsValidTxn, Kept, MAX_EVENTS, Overflow, RelNo, Reply, Rows, Submit, Txn, TxnNo, Value, after_changes, along, begins_with_letter, cut_lines, database_of, effect, is_keyword, is_name_byte, known, must, onto, or_else, repeats, spelled_lines, tail_of, txn_no, ◌>>=◌}
+pub use Rattle.sdd_script.specs.All.{AreDistinct, AreLines, Catalogue, Database, Event, Fails, FitsStart, FitsTxn, HasNoNewline, HasNoSpace, IsFrom1To, IsName, IsValid, IsValidEvent, IsValidRow, IsValidTxn, Kept, MAX_EVENTS, Overflow, RelNo, Reply, Rows, Submit, Txn, TxnNo, Value, after_changes, along, begins_with_letter, cut_lines, database_of, effect, is_keyword, is_name_byte, must, onto, or_else, repeats, require, spelled_lines, tail_of, txn_no, ◌>>=◌}
 pub use Rattle.sdd_script.specs.base.declared.reply.Reply.TheVariants.{TooMany}
 pub use Rattle.sdd_script.specs.declared.workload.Workload.{Workload}
 pub use Rattle.sdd_verify.specs.Classes.{class_if, class_of, classes_from, classes_submitted, era_at, redeclared}

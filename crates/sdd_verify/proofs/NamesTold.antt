@@ -1,5 +1,5 @@
 -- Names of transactions, and the numbers that they tell.
-use Rattle.sdd_verify.proofs.All.{All, All-cons, All-head, All-nil, All-tail, Answers, Bool, IsFrom1To, List, Ok, Some, Txn, TxnNo, [], along, along_ok, ap, arith, bytes_eq, bytes_eq-Decides, cases_Bool, cond, false, inl, inr, known, known_ok, length, map, named, named_from, nat_tests, ok_along, refl, slice_get, suc, sym, true, txn_name, txn_no, zero, ℕ, ◌+◌, ◌-◌, ◌<◌, ◌∷◌, ◌≡◌, ◌≢◌, ◌≤◌}
+use Rattle.sdd_verify.proofs.All.{All, All-cons, All-head, All-nil, All-tail, Answers, Bool, IsFrom1To, List, Ok, Some, Txn, TxnNo, [], along, along_ok, ap, arith, bytes_eq, bytes_eq-Decides, cases_Bool, cond, false, inl, inr, length, map, named, named_from, nat_tests, ok_along, refl, require, require_ok, slice_get, suc, sym, true, txn_name, txn_no, zero, ℕ, ◌+◌, ◌-◌, ◌<◌, ◌∷◌, ◌≡◌, ◌≢◌, ◌≤◌}
 use Rattle.sdd_verify.proofs.Submissions.{found_member, some_is}
 
 -- a number that a name tells is that of a transaction of this name
@@ -87,10 +87,10 @@ abbrev pub IsThere : List Txn → TxnNo → Type 0
 IsThere txns number = IsFrom1To (length txns) number.0
 
 answers_told : (line : ℕ) (txns : List Txn) (count : ℕ) (names : List (List ℕ)) (order : List TxnNo)
-    → Answers (λ _ name. known line (named txns name)) count names order → (names ≡ map (name_in txns) order) × All (IsThere txns) order
+    → Answers (λ _ name. require line (named txns name)) count names order → (names ≡ map (name_in txns) order) × All (IsThere txns) order
 answers_told line txns count [] [] h = (refl, All-nil (IsThere txns))
 answers_told line txns count (name ∷ names) (number ∷ order) h =
-    let one = named_tells txns name number (known_ok line (named txns name) number h.0) in
+    let one = named_tells txns name number (require_ok line (named txns name) number h.0) in
     let more = answers_told line txns (count + 1) names order h.1 in
     let here = sym one.name_is in
     let behind = more.0 in
@@ -98,17 +98,17 @@ answers_told line txns count (name ∷ names) (number ∷ order) h =
 answers_told line txns count _ _ h = absurd h
 
 pub all_told : (line : ℕ) (txns : List Txn) (count : ℕ) (names : List (List ℕ)) (order : List TxnNo)
-    → along (λ _ name. known line (named txns name)) count names ≡ Ok order → (names ≡ map (name_in txns) order) × All (IsThere txns) order
-all_told line txns count names order h = answers_told line txns count names order (along_ok (λ _ name. known line (named txns name)) count names order h)
+    → along (λ _ name. require line (named txns name)) count names ≡ Ok order → (names ≡ map (name_in txns) order) × All (IsThere txns) order
+all_told line txns count names order h = answers_told line txns count names order (along_ok (λ _ name. require line (named txns name)) count names order h)
 
 answers_again : (line : ℕ) (txns : List Txn) (count : ℕ) (order : List TxnNo) → AllDiffer txns → All (IsThere txns) order
-    → Answers (λ _ name. known line (named txns name)) count (map (name_in txns) order) order
+    → Answers (λ _ name. require line (named txns name)) count (map (name_in txns) order) order
 answers_again line txns count [] apart there = tt
 answers_again line txns count (number ∷ order) apart there =
     let one = named_again txns number apart (All-head (IsThere txns) number order there) in
-    (ap (known line) one, answers_again line txns (count + 1) order apart (All-tail (IsThere txns) number order there))
+    (ap (require line) one, answers_again line txns (count + 1) order apart (All-tail (IsThere txns) number order there))
 
 pub told_again : (line : ℕ) (txns : List Txn) (count : ℕ) (order : List TxnNo) → AllDiffer txns → All (IsThere txns) order
-    → along (λ _ name. known line (named txns name)) count (map (name_in txns) order) ≡ Ok order
+    → along (λ _ name. require line (named txns name)) count (map (name_in txns) order) ≡ Ok order
 told_again line txns count order apart there =
-    ok_along (λ _ name. known line (named txns name)) count (map (name_in txns) order) order (answers_again line txns count order apart there)
+    ok_along (λ _ name. require line (named txns name)) count (map (name_in txns) order) order (answers_again line txns count order apart there)

@@ -1,5 +1,5 @@
 -- A report is judged to be sound exactly where it is verified.
-use Rattle.sdd_verify.proofs.All.{All, All-head, All-tail, AreLines, Bool, Catalogue, Err, HasNoNewline, HasNoSpace, IsInTurn, IsName, IsValid, IsValidTxn, IsVerified, List, MAX_REPORT_BYTES, Numbered, Ok, Result, Txn, TxnNo, Workload, Yes, [], along, ap, append_assoc, arith, begins_with_letter, bind_ok, both, classes_submitted, codes, cond, cut_lines, cut_takes, ends_replies, false, flat_map-map, is_in_turn, is_keyword, is_name_byte, is_order_line, judged, known, le-leb, leb-true, length, line_behind, lines_of, list_all, map, must, must_ok, named, names_on, nat_le, nat_tests, no_newline-append, numbered_lines, ok_is, order_line, order_line_in, order_told, passed, refl, rules, serial_replies, spelled_lines, submitted, subst, sym, tells_reply, texts_of, true, verdict, verdict_of, ℕ, ◌++◌, ◌+◌, ◌-◌, ◌>>=◌, ◌∙◌, ◌∷◌, ◌≡◌, ◌≢◌, ◌≤◌}
+use Rattle.sdd_verify.proofs.All.{All, All-head, All-tail, AreLines, Bool, Catalogue, Err, HasNoNewline, HasNoSpace, IsInTurn, IsName, IsValid, IsValidTxn, IsVerified, List, MAX_REPORT_BYTES, Numbered, Ok, Result, Txn, TxnNo, Workload, Yes, [], along, ap, append_assoc, arith, begins_with_letter, bind_ok, both, classes_submitted, codes, cond, cut_lines, cut_takes, ends_replies, false, flat_map-map, is_in_turn, is_keyword, is_name_byte, is_order_line, judged, le-leb, leb-true, length, line_behind, lines_of, list_all, map, must, must_ok, named, names_on, nat_le, nat_tests, no_newline-append, numbered_lines, ok_is, order_line, order_line_in, order_told, passed, refl, require, rules, serial_replies, spelled_lines, submitted, subst, sym, tells_reply, texts_of, true, verdict, verdict_of, ℕ, ◌++◌, ◌+◌, ◌-◌, ◌>>=◌, ◌∙◌, ◌∷◌, ◌≡◌, ◌≢◌, ◌≤◌}
 use Rattle.sdd_verify.proofs.DifferentNames.{submitted_differ}
 use Rattle.sdd_verify.proofs.InTurn.{in_turn, in_turn_again}
 use Rattle.sdd_verify.proofs.LineCuts.{IsWhole, cut_are_lines, lines_behind, whole_behind, whole_is}
@@ -94,7 +94,7 @@ module _ (cat : Catalogue) (work : Workload) (report : List ℕ) where
   told_by : (number : ℕ) (line : List ℕ) (order : List TxnNo) → is_order_line line ≡ true → order_told texts Classes number line ≡ Ok order
       → (line ≡ words_in texts order) × All (IsThere texts) order × (is_in_turn Classes order ≡ true)
   told_by number line order is h =
-      let a = bind_ok (along (λ _ name. known number (named texts name)) 0 (names_on line))
+      let a = bind_ok (along (λ _ name. require number (named texts name)) 0 (names_on line))
       (λ found. must number (is_in_turn Classes found) >>= λ _. Ok found) order h in
       let b = bind_ok (must number (is_in_turn Classes a.0)) (λ _. Ok a.0) order a.2 in
       let same : a.0 ≡ order = ok_is {F = ℕ} a.0 order b.2 in
@@ -190,7 +190,7 @@ module _ (cat : Catalogue) (work : Workload) (report : List ℕ) where
     words_in,
     names_again,
     along,
-    known,
+    require,
     named,
     told_again,
     submitted_differ,

@@ -1,7 +1,7 @@
 -- Orders of submitted transactions.
 use Rattle.std.specs.Prelude.{ℕ, nat_lt, ◌==◌, ◌&&◌, ◌||◌, not, Bool, true, List, [], ◌∷◌, Option, Some, None, Result, Ok}
 use Rattle.std.specs.List.{list_all, slice_split}
-use Rattle.sdd_script.specs.All.{Txn, TxnNo, along, known, must, tail_of, ◌>>=◌}
+use Rattle.sdd_script.specs.All.{Txn, TxnNo, along, must, require, tail_of, ◌>>=◌}
 use Rattle.sdd_verify.specs.Classes.{class_of}
 use Rattle.sdd_verify.specs.Submitted.{named}
 
@@ -38,6 +38,6 @@ names_on line = tail_of (words_of line)
 -- that may not stand there
 abbrev pub order_told : List Txn → List ℕ → ℕ → List ℕ → Result (List TxnNo) ℕ
 order_told txns classes number line = do
-  order ← along (λ _ name. known number (named txns name)) 0 (names_on line)
+  order ← along (λ _ name. require number (named txns name)) 0 (names_on line)
   _ ← must number (is_in_turn classes order)
   Ok order

@@ -1,6 +1,6 @@
 //! What ends the judging of a report.
 ghost use Rattle.std.specs.Prelude.{◌≡◌, Err};
-ghost use Rattle.sdd_script.specs.All.{GivesReading, known, must};
+ghost use Rattle.sdd_script.specs.All.{GivesReading, must, require};
 ghost use Rattle.sdd_verify.specs.Flaws.{line_in};
 
 use sdd_script::sdd_base::NoMemory;
@@ -16,8 +16,8 @@ pub enum Flaw {
 }
 
 /// The value, or the line is at fault where it isn't there.
-pub(crate) fn known<T>(line: u32, value: Option<T>) -> Result<T, Flaw>
-    ensures { GivesReading line_in (λ x. x) result (known line value) }
+pub(crate) fn require<T>(line: u32, value: Option<T>) -> Result<T, Flaw>
+    ensures { GivesReading line_in (λ x. x) result (require line value) }
 {
     match value {
         Some(value) => Ok(value),

@@ -2,13 +2,13 @@
 ghost use Rattle.std.specs.Prelude.{◌≡◌, ◌==◌, ◌≤◌, ◌∷◌, length, IfOk};
 ghost use Rattle.std.specs.List.{position};
 ghost use Rattle.std.specs.Option.{option_copied};
-ghost use Rattle.sdd_script.specs.All.{GivesReading, along, known};
+ghost use Rattle.sdd_script.specs.All.{GivesReading, along, require};
 ghost use Rattle.sdd_verify.specs.Classes.{class_of};
 ghost use Rattle.sdd_verify.specs.Flaws.{line_in};
 ghost use Rattle.sdd_verify.specs.Orders.{allows, is_in_turn, names_on, order_told, words_behind, words_of};
 ghost use Rattle.sdd_verify.specs.Submitted.{named};
 
-use crate::flaw::{Flaw, known, must};
+use crate::flaw::{Flaw, must, require};
 use crate::submitted::Submitted;
 use sdd_script::sdd_base::{NoMemory, TxnNo};
 use std::alloc::Global;
@@ -35,9 +35,9 @@ fn cut_word(text: &[u8]) -> (&[u8], &[u8])
 
 /// The number of the transaction of this name, without which the line is at fault.
 fn number_of(alloc: Global, submitted: &Submitted, line: u32, name: &[u8]) -> Result<TxnNo, Flaw>
-    ensures { GivesReading line_in (λ number. number) result (known line (named submitted.now name.now)) }
+    ensures { GivesReading line_in (λ number. number) result (require line (named submitted.now name.now)) }
 {
-    known(line, submitted.named(alloc, name)?)
+    require(line, submitted.find_named(alloc, name)?)
 }
 
 /// The numbers of the transactions whose names stand in this text, each behind a space.
@@ -49,7 +49,7 @@ fn numbers_in(
     names: &[u8],
 ) -> Result<Vec<TxnNo>, Flaw>
     ensures { GivesReading line_in (λ order. order.items) result
-        (along (λ _ name. known line (named submitted.now name)) 0 (words_behind names.now)) }
+        (along (λ _ name. require line (named submitted.now name)) 0 (words_behind names.now)) }
 {
     let mut order = Vec::new(alloc);
     let mut rest = names;
@@ -70,7 +70,7 @@ fn named_on(
     line: &[u8],
 ) -> Result<Vec<TxnNo>, Flaw>
     ensures { GivesReading line_in (λ order. order.items) result
-        (along (λ _ name. known number (named submitted.now name)) 0 (names_on line.now)) }
+        (along (λ _ name. require number (named submitted.now name)) 0 (names_on line.now)) }
 {
     let (_, names) = cut_word(line);
     numbers_in(alloc, submitted, number, names)

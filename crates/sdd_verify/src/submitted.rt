@@ -111,7 +111,7 @@ impl<'a> Submitted<'a> {
 
     /// The number of the transaction of this name, or None exactly where there is none. Costs a
     /// logarithmic step.
-    pub(crate) fn named(&self, alloc: Global, name: &[u8]) -> Result<Option<TxnNo>, NoMemory>
+    pub(crate) fn find_named(&self, alloc: Global, name: &[u8]) -> Result<Option<TxnNo>, NoMemory>
         ensures { IfOk result (λ found. found ≡ named self.now name.now) }
     {
         let _ = &self.txns;

@@ -64,7 +64,7 @@ pub use Rattle.sdd_obligations.specs.dm.Heads.{head_at, holds_in, is_met_in, unm
 pub use Rattle.sdd_obligations.specs.dm.Represents.{Shows}
 pub use Rattle.sdd_obligations.specs.dm.State.{State}
 pub use Rattle.sdd_obligations.specs.dm.Views.{class_view}
-pub use Rattle.sdd_obligations.specs.dm.Waiting.{holder_at, holders_in, holders_of, lacking_in, lacking_of}
+pub use Rattle.sdd_obligations.specs.dm.Waiting.{holder_at, holders_in, holders_of, unmet_in, unmet_of}
 pub use Rattle.sdd_obligations.specs.invariants.Steps.{changes_at}
 pub use Rattle.sdd_obligations.specs.lang.Fits.{FitsTxn}
 pub use Rattle.sdd_obligations.specs.logs.Due.{home_of as site_of}
@@ -109,14 +109,14 @@ pub use Rattle.sdd_run.specs.world.declared.schedule.ClassList.{ClassList}
 pub use Rattle.sdd_run.specs.world.declared.sites.Sites.{Sites}
 pub use Rattle.sdd_run.specs.world.declared.world.World.{World}
 pub use Rattle.sdd_watch.specs.Awaiting.{behind, number_for, purpose_of, purposed, purposed_above, up_to, waiting_on}
-pub use Rattle.sdd_watch.specs.Happens.{applied_by, applied_in, arrived_by, arrived_of, changes_applied, changes_of, committed_by, committed_in, concerns, found_by, happened_at, is_of_item, is_reached, last_event, lost_by, place_in, place_of_first, round_at, round_in, rounds, row_by, row_left, row_told, rows_of, scheduled_at, something_if, states_of, taken, takes_part, unless_in_round, with_row}
+pub use Rattle.sdd_watch.specs.Happens.{applied_by, applied_in, arrived_by, arrived_of, changes_applied, changes_of, committed_by, committed_in, concerns, found_by, happened_at, is_of_item, is_reached, last_event, lost_by, place_in, place_of_first, report_row, round_at, round_in, rounds, row_by, row_left, rows_of, scheduled_at, something_if, states_of, taken, takes_part, unless_in_round, with_row}
 pub use Rattle.sdd_watch.specs.Keeping.{IsLineInOrder, active_of, head_in, question_by, questions_in}
 pub use Rattle.sdd_watch.specs.Looking.{advanced, all_waiting, messages_in, numbers_for, queue_in, queue_of, says, says_one, seen_with}
 pub use Rattle.sdd_watch.specs.Moments.{all_pipes, at_event, came, link_moment, moment_of, number_through, passed_to, pipe_moment, pipes_at_module, queue_moment, queues_at, queues_of, source, time_passed}
-pub use Rattle.sdd_watch.specs.States.{active_told, actives, attempt_told, dm_told, head_by, head_told, phase_by, questions_to, says_applied, state_of, tm_told, unapplied_of}
+pub use Rattle.sdd_watch.specs.States.{active_told, actives, attempt_told, dm_told, head_by, phase_by, questions_to, report_head, says_applied, state_of, tm_told, unapplied_of}
 pub use Rattle.sdd_watch.specs.ScheduleSoFar.{IsTextOf, IsTold, Tells, TellsBetween, TellsRound, TellsSettled}
 pub use Rattle.sdd_watch.specs.Text.{IsInsideOf, change, inside_text, line_of}
-pub use Rattle.sdd_watch.specs.Watching.{AreCommits, AreDones, IsBetween, IsMark, IsOver, IsTellable, IsToTell, IsTurn, Knows, Watches, arrived, arrived_on, doing, foreseen_by, handed_over, is_done_at, is_on, is_taken, left_between, left_of, link_after, link_before, pipe_after, pipe_before, seen_between, taken_at, taking, watched_link, watched_pipe}
+pub use Rattle.sdd_watch.specs.Watching.{AreCommits, AreDones, IsBetween, IsMark, IsOver, IsTellable, IsToTell, IsTurn, Knows, Watches, arrived, arrived_on, foresee_act, foresee_take, foreseen_by, handed_over, is_done_at, is_on, is_taken, left_between, left_of, link_after, link_before, pipe_after, pipe_before, seen_between, taken_at, watched_link, watched_pipe}
 pub use Rattle.sdd_watch.specs.declared.commits.Commits.{Commits}
 pub use Rattle.sdd_watch.specs.declared.dones.Dones.{Dones}
 pub use Rattle.sdd_watch.specs.declared.foreseen.Foreseen.{Foreseen}

@@ -1,5 +1,5 @@
 -- What an event is about to find, and then what it found.
-use Rattle.sdd_watch.proofs.All.{Ack, Bool, Deliver, DmNo, Down, Event, Found, List, Log, Lose, Message, Msg, None, Option, Packet, Repeat, Resend, Site, Some, Taken, Up, [], ap, arrived_by, arrived_of, doing, drop, false, foreseen_by, found_by, is_down, is_empty, is_some, link_of, lost_by, map, not, numbered, option_map, packet_as, packet_at, refl, slice_get, slice_get-map, something_if, suc, sym, taken, taken_at, taking, true, unacked, zero, ℕ, ◌+◌, ◌∙◌, ◌∷◌, ◌≡◌}
+use Rattle.sdd_watch.proofs.All.{Ack, Bool, Deliver, DmNo, Down, Event, Found, List, Log, Lose, Message, Msg, None, Option, Packet, Repeat, Resend, Site, Some, Taken, Up, [], ap, arrived_by, arrived_of, drop, false, foresee_act, foresee_take, foreseen_by, found_by, is_down, is_empty, is_some, link_of, lost_by, map, not, numbered, option_map, packet_as, packet_at, refl, slice_get, slice_get-map, something_if, suc, sym, taken, taken_at, true, unacked, zero, ℕ, ◌+◌, ◌∙◌, ◌∷◌, ◌≡◌}
 use Rattle.sdd_inside.specs.declared.delta.Found.TheVariants as founds
 use Rattle.sdd_watch.specs.declared.foreseen.Foreseen.TheVariants as foreseens
 
@@ -34,11 +34,11 @@ none_unacked f (suc n) k (m ∷ ms) = none_unacked f n (k + 1) ms
 
 -- nothing
 
-nothing_taken : (o : Option (Packet Msg)) (f : Found) → (o ≡ None → f ≡ founds.Nothing) → foreseens.Nothing ≡ taking (taken_at o) → founds.Nothing ≡ f
+nothing_taken : (o : Option (Packet Msg)) (f : Found) → (o ≡ None → f ≡ founds.Nothing) → foreseens.Nothing ≡ foresee_take (taken_at o) → founds.Nothing ≡ f
 nothing_taken None f is e = sym (is refl)
 nothing_taken (Some p) f is e = absurd cc
 
-nothing_done : (b : Bool) → foreseens.Nothing ≡ doing b → founds.Nothing ≡ something_if b
+nothing_done : (b : Bool) → foreseens.Nothing ≡ foresee_act b → founds.Nothing ≡ something_if b
 nothing_done true e = absurd cc
 nothing_done false e = refl
 
@@ -57,11 +57,11 @@ nothing_found _ old new e = absurd cc
 
 -- something that is done
 
-something_taken : (o : Option (Packet Msg)) → foreseens.Something ≡ taking (taken_at o) → ⊥
+something_taken : (o : Option (Packet Msg)) → foreseens.Something ≡ foresee_take (taken_at o) → ⊥
 something_taken None e = cc
 something_taken (Some p) e = cc
 
-something_done : (b : Bool) → foreseens.Something ≡ doing b → founds.Something ≡ something_if b
+something_done : (b : Bool) → foreseens.Something ≡ foresee_act b → founds.Something ≡ something_if b
 something_done true e = refl
 something_done false e = absurd cc
 
@@ -77,7 +77,7 @@ something_found _ old new e = refl
 -- a packet
 
 taken_is : (o : Option (Packet Msg)) (p : Taken) (F : Taken → Found) (f : Found) → ((q : Packet Msg) → o ≡ Some q → f ≡ F (taken q))
-    → foreseens.Takes p ≡ taking (taken_at o) → F p ≡ f
+    → foreseens.Takes p ≡ foresee_take (taken_at o) → F p ≡ f
 taken_is None p F f is e = absurd cc
 taken_is (Some q) p F f is e =
     let same : p ≡ taken q = cc in
@@ -89,7 +89,7 @@ delivery_found a b k p old new e =
     let o : Option (Packet Msg) = packet_at k (link_of a b old) in
     taken_is o p (λ q. arrived_of a b q new) (arrived_by a b o new) (λ q is. ap (λ x. arrived_by a b x new) is) e
 
-not_done : (b : Bool) (p : Taken) → foreseens.Takes p ≡ doing b → ⊥
+not_done : (b : Bool) (p : Taken) → foreseens.Takes p ≡ foresee_act b → ⊥
 not_done true p e = cc
 not_done false p e = cc
 

@@ -1,5 +1,5 @@
 -- The rows of items to which changes were applied, one change after the other.
-use Rattle.sdd_watch.proofs.All.{Apply, Bool, Catalogue, Change, D, Dated, DmNo, FragNo, Fragment, Held, History, Input, IsSiteOf, IsSoundCatalogue, Items, Kept, List, Log, None, Option, Rec, Represent, RowDelta, Some, TxnNo, Value, [], ap, applied_by, applied_in, arith, changes_applied, changes_at, changes_of, copy_module, d_site, false, filter-append, flat_map, flat_map-append, fold, get_or as slice_index_or, get_or_past, has_copy, if◌then◌else◌, is_here, is_of_item, items_at, items_keep, latest, length, list_any, map, map-append, max, of_fragment, pos, refl, rel_no, row_by, row_in, row_left, row_of_item, row_told, shown, sym, true, with_row, ℕ, ℤ, ◌++◌, ◌-◌, ◌<◌, ◌==◌, ◌∙◌, ◌∷◌, ◌≡◌, ◌≤◌}
+use Rattle.sdd_watch.proofs.All.{Apply, Bool, Catalogue, Change, D, Dated, DmNo, FragNo, Fragment, Held, History, Input, IsSiteOf, IsSoundCatalogue, Items, Kept, List, Log, None, Option, Rec, Represent, RowDelta, Some, TxnNo, Value, [], ap, applied_by, applied_in, arith, changes_applied, changes_at, changes_of, copy_module, d_site, false, filter-append, flat_map, flat_map-append, fold, get_or as slice_index_or, get_or_past, has_copy, if◌then◌else◌, is_here, is_of_item, items_at, items_keep, latest, length, list_any, map, map-append, max, of_fragment, pos, refl, rel_no, report_row, row_by, row_in, row_left, row_of_item, shown, sym, true, with_row, ℕ, ℤ, ◌++◌, ◌-◌, ◌<◌, ◌==◌, ◌∙◌, ◌∷◌, ◌≡◌, ◌≤◌}
 use Rattle.sdd_watch.proofs.Folding.{Joins}
 
 -- copies of a fragment
@@ -42,12 +42,12 @@ row_is copies copy frag key row here is read xs represent change f k =
 
 pub row_stays : (g : Input) (log : Log) (rows : List RowDelta) (x : DmNo × Change) (b : Bool) → b ≡ list_any (is_of_item x) rows → b ≡ true
     → rows ≡ with_row g log rows x
-row_stays g log rows x b is e = sym (ap (λ c. if c then rows else rows ++ row_told g log x ∷ []) (sym is ∙ e))
+row_stays g log rows x b is e = sym (ap (λ c. if c then rows else rows ++ report_row g log x ∷ []) (sym is ∙ e))
 
 pub row_added : (g : Input) (log : Log) (rows more : List RowDelta) (x : DmNo × Change) (b : Bool) (row : RowDelta) → b ≡ list_any (is_of_item x) rows
-    → b ≡ false → row ≡ row_told g log x → more ≡ rows ++ row ∷ [] → more ≡ with_row g log rows x
+    → b ≡ false → row ≡ report_row g log x → more ≡ rows ++ row ∷ [] → more ≡ with_row g log rows x
 row_added g log rows more x b row is e told push =
-    push ∙ ap (λ r. rows ++ r ∷ []) told ∙ sym (ap (λ c. if c then rows else rows ++ row_told g log x ∷ []) (sym is ∙ e))
+    push ∙ ap (λ r. rows ++ r ∷ []) told ∙ sym (ap (λ c. if c then rows else rows ++ report_row g log x ∷ []) (sym is ∙ e))
 
 -- what changes give, and records
 

@@ -133,8 +133,8 @@ row_by (Some x) = x.1.row
 abbrev pub row_left : Dated → Change → Option Row
 row_left xs x = row_by (latest x.key (of_fragment x.frag.0 xs))
 
-abbrev pub row_told : Input → Log → DmNo × Change → RowDelta
-row_told g log x =
+abbrev pub report_row : Input → Log → DmNo × Change → RowDelta
+report_row g log x =
     record { dm = x.0; item = record x.1 { row = row_left (dated (setting_of g (D x.0)) (local_of g (D x.0) log)) x.1 } }
 
 -- each item once, where it stands first
@@ -143,7 +143,7 @@ abbrev pub is_of_item : DmNo × Change → RowDelta → Bool
 is_of_item x row = row.dm.0 == x.0.0 && (row.item.frag.0 == x.1.frag.0 && is_eq (int_cmp row.item.key x.1.key))
 
 abbrev pub with_row : Input → Log → List RowDelta → DmNo × Change → List RowDelta
-with_row g log rows x = if list_any (is_of_item x) rows then rows else rows ++ row_told g log x ∷ []
+with_row g log rows x = if list_any (is_of_item x) rows then rows else rows ++ report_row g log x ∷ []
 
 abbrev pub rows_of : Input → Log → Log → List RowDelta
 rows_of g old new = fold (with_row g new) [] (applied g old new)

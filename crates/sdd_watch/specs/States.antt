@@ -7,7 +7,7 @@ use Rattle.sdd_obligations.specs.attempt.Phases.{awaited_in}
 use Rattle.sdd_obligations.specs.attempt.declared.answer.Answer.{Answer}
 use Rattle.sdd_obligations.specs.attempt.declared.answer.Answer.TheVariants as answers
 use Rattle.sdd_obligations.specs.site_module.SiteLog as site
-use Rattle.sdd_obligations.specs.umod.Standing.{is_told, unheld_by}
+use Rattle.sdd_obligations.specs.umod.Standing.{is_asked_to_hold, unheld_by}
 use Rattle.sdd_obligations.specs.umod.Steps.{is_kept_on_hold, turn}
 use Rattle.sdd_inside.specs.declared.standing.Active.{Active}
 use Rattle.sdd_inside.specs.declared.standing.DmState.{DmState}
@@ -88,7 +88,7 @@ stage_by reading holding writing = if reading then stages.Reading else if holdin
 
 abbrev pub stage_at : Setting → site.Log → Stage
 stage_at s log =
-    stage_by (is_some (active s 0 log)) (list_any (is_told (turn (last_served s log))) (all_counts s log))
+    stage_by (is_some (active s 0 log)) (list_any (is_asked_to_hold (turn (last_served s log))) (all_counts s log))
     (list_any (is_kept_on_hold (last_served s log).commits) (all_counts s log))
 
 -- a data module has said that what was committed with this timestamp is applied there
@@ -138,11 +138,11 @@ head_by v c waits (Some (Write ts class txn changes)) =
     Some (heads.Held (class_no c) (map (λ k. class_no k.class) (filter (λ k. k.waits && holds_back c ts.0 changes (head k.pipe)) v.classes)))
 head_by v c waits m = None
 
-abbrev pub head_told : View → ClassView → Option Head
-head_told v k = head_by v k.class k.waits (head k.pipe)
+abbrev pub report_head : View → ClassView → Option Head
+report_head v k = head_by v k.class k.waits (head k.pipe)
 
 abbrev pub dm_told : Setting → site.Log → ℕ → Bool → DmState
-dm_told s log d down = record { dm = dm_no d; is_down = down; heads = filter_map (head_told (view_of s log)) (view_of s log).classes }
+dm_told s log d down = record { dm = dm_no d; is_down = down; heads = filter_map (report_head (view_of s log)) (view_of s log).classes }
 
 -- a site
 

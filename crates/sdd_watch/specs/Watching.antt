@@ -71,20 +71,20 @@ IsTellable g e = IsPossible g e
 abbrev pub taken_at : Option (Packet Msg) → Option Taken
 taken_at packet = option_map taken packet
 
-abbrev pub taking : Option Taken → Foreseen
-taking None = foreseens.Nothing
-taking (Some packet) = foreseens.Takes packet
+abbrev pub foresee_take : Option Taken → Foreseen
+foresee_take None = foreseens.Nothing
+foresee_take (Some packet) = foreseens.Takes packet
 
-abbrev pub doing : Bool → Foreseen
-doing can_do = if can_do then foreseens.Something else foreseens.Nothing
+abbrev pub foresee_act : Bool → Foreseen
+foresee_act can_do = if can_do then foreseens.Something else foreseens.Nothing
 
 abbrev pub foreseen_by : Event → Log → Foreseen
-foreseen_by (Deliver a b k) log = taking (taken_at (packet_at k (link_of a b log)))
-foreseen_by (Lose a b k) log = taking (taken_at (packet_at k (link_of a b log)))
-foreseen_by (Repeat a b k) log = doing (is_some (packet_at k (link_of a b log)))
-foreseen_by (Resend a b) log = doing (not (is_empty (unacked (link_of a b log).there)))
-foreseen_by (Down d) log = doing (not (is_down d.0 log))
-foreseen_by (Up d) log = doing (is_down d.0 log)
+foreseen_by (Deliver a b k) log = foresee_take (taken_at (packet_at k (link_of a b log)))
+foreseen_by (Lose a b k) log = foresee_take (taken_at (packet_at k (link_of a b log)))
+foreseen_by (Repeat a b k) log = foresee_act (is_some (packet_at k (link_of a b log)))
+foreseen_by (Resend a b) log = foresee_act (not (is_empty (unacked (link_of a b log).there)))
+foreseen_by (Down d) log = foresee_act (not (is_down d.0 log))
+foreseen_by (Up d) log = foresee_act (is_down d.0 log)
 foreseen_by _ log = foreseens.Something
 
 -- links

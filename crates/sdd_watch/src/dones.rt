@@ -96,7 +96,7 @@ impl Dones {
     }
 
     /// The data modules, of so many, that didn't say so.
-    pub(crate) fn missing(&self, alloc: Global, ts: Ts, dms: u32) -> Result<Vec<DmNo>, NoMemory>
+    pub(crate) fn missing_dms(&self, alloc: Global, ts: Ts, dms: u32) -> Result<Vec<DmNo>, NoMemory>
         requires { dms ≤ MAX_DMS }
         ensures { IfOk result (λ missing. missing.items
             ≡ map dm_no

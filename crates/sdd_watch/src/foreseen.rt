@@ -4,7 +4,7 @@ ghost use Rattle.sdd_obligations.specs.All.{Input, IsLinkOf, IsPossible, Log, de
 ghost use Rattle.sdd_obligations.specs.net.Links.{unacked};
 ghost use Rattle.sdd_run.specs.world.Represents.{Calm};
 ghost use Rattle.sdd_watch.specs.Happens.{arrived_of, found_by, taken};
-ghost use Rattle.sdd_watch.specs.Watching.{IsTellable, doing, foreseen_by, taken_at, taking};
+ghost use Rattle.sdd_watch.specs.Watching.{IsTellable, foresee_act, foresee_take, foreseen_by, taken_at};
 
 use sdd_inside::{Found, Taken};
 use sdd_obligations::sdd_base::{Event, Site};
@@ -72,8 +72,8 @@ fn acknowledged_upto(world: &World<'_>, from: Site, to: Site) -> u32
     world.mail().direction(to, from).sender.acked_upto()
 }
 
-fn taking(packet: Option<Taken>) -> Foreseen
-    ensures { result ≡ taking packet }
+fn foresee_take(packet: Option<Taken>) -> Foreseen
+    ensures { result ≡ foresee_take packet }
 {
     match packet {
         Some(packet) => Foreseen::Takes(packet),
@@ -81,8 +81,8 @@ fn taking(packet: Option<Taken>) -> Foreseen
     }
 }
 
-fn doing(can_do: bool) -> Foreseen
-    ensures { result ≡ doing can_do }
+fn foresee_act(can_do: bool) -> Foreseen
+    ensures { result ≡ foresee_act can_do }
 {
     if can_do {
         Foreseen::Something
@@ -98,14 +98,14 @@ pub(crate) fn foresee(world: &World<'_>, event: &Event) -> Foreseen
         → result ≡ foreseen_by event.now log }
 {
     match event {
-        Event::Deliver { from, to, place } => taking(packet_at(world, *from, *to, *place)),
-        Event::Lose { from, to, place } => taking(packet_at(world, *from, *to, *place)),
+        Event::Deliver { from, to, place } => foresee_take(packet_at(world, *from, *to, *place)),
+        Event::Lose { from, to, place } => foresee_take(packet_at(world, *from, *to, *place)),
         Event::Repeat { from, to, place } => {
-            doing(packet_at(world, *from, *to, *place).is_some())
+            foresee_act(packet_at(world, *from, *to, *place).is_some())
         }
-        Event::Resend { from, to } => doing(!is_acknowledged(world, *from, *to)),
-        Event::Down(dm) => doing(!world.is_down(*dm)),
-        Event::Up(dm) => doing(world.is_down(*dm)),
+        Event::Resend { from, to } => foresee_act(!is_acknowledged(world, *from, *to)),
+        Event::Down(dm) => foresee_act(!world.is_down(*dm)),
+        Event::Up(dm) => foresee_act(world.is_down(*dm)),
         _ => Foreseen::Something,
     }
 }

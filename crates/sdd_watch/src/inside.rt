@@ -71,7 +71,7 @@ fn first_world<'a>(
     ensures events { IfOk result (λ first. first.events.items ≡ work.events) }
 {
     let whole = lists.whole();
-    whole.known();
+    whole.law_is_sound();
     let Workload {
         rows,
         txns,
@@ -102,7 +102,7 @@ fn text_with_tables<'a>(
     ensures limit { IsErrOf result WorldEnd.Limit → EndsAtLimit catalogue.now work }
 {
     let whole = lists.whole();
-    whole.known();
+    whole.law_is_sound();
     let further = further(alloc, lists.eras(), tables)?;
     let first = first_world(alloc, catalogue, lists, tables, work)?;
     let mut teller = begin(alloc, whole, &first.world)?;

@@ -18,7 +18,7 @@ fn queue(line: &Line<'_>) -> Result<QueueMoment, NoMemory>
 {
     Ok(QueueMoment {
         class: line.class(),
-        queue: Listed::from_vec(line.queued()?),
+        queue: Listed::from_vec(line.queued_txns()?),
     })
 }
 
@@ -50,7 +50,7 @@ pub(crate) fn all_queues(alloc: Global, world: &World<'_>) -> Result<Vec<QueueMo
         → queues.items ≡ queues_of g log) }
 {
     let whole = world.whole();
-    whole.known();
+    whole.law_is_sound();
     let mut queues = Vec::new(alloc);
     queues.push(queue(world.sites().u_module().line())?)?;
     for number in 1..whole.tms() + 1 {

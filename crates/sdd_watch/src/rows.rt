@@ -5,7 +5,7 @@ ghost use Rattle.std.specs.Option.{option_copied};
 ghost use Rattle.sdd_obligations.specs.All.{Change as Item, Input, Log, Represent, has_copy, history, is_here};
 ghost use Rattle.sdd_obligations.specs.copy.Contents.{Dated};
 ghost use Rattle.sdd_run.specs.world.Represents.{Calm};
-ghost use Rattle.sdd_watch.specs.Happens.{applied_by, applied_in, changes_applied, is_of_item, row_left, row_told, rows_of, with_row};
+ghost use Rattle.sdd_watch.specs.Happens.{applied_by, applied_in, changes_applied, is_of_item, report_row, row_left, rows_of, with_row};
 ghost use Rattle.sdd_watch.specs.Watching.{AreCommits, IsBetween};
 
 use crate::commits::Commits;
@@ -70,12 +70,12 @@ fn has_item(rows: &[RowDelta], dm: DmNo, change: &Change) -> bool
 }
 
 /// The row of the item of a change, as a data module's copy has it.
-fn row_told(world: &World<'_>, dm: DmNo, change: &Change) -> Result<RowDelta, NoMemory>
+fn report_row(world: &World<'_>, dm: DmNo, change: &Change) -> Result<RowDelta, NoMemory>
     requires { (g : Input) × (log : Log) × Calm world.now g log
         × (has_copy g.catalogue dm.0 change.now.frag.0 ≡ true) }
     ensures { IfOk result (λ row. (g : Input) (log : Log) → Calm world.now g log
         → has_copy g.catalogue dm.0 change.now.frag.0 ≡ true
-        → row ≡ row_told g log (dm, change.now)) }
+        → row ≡ report_row g log (dm, change.now)) }
 {
     let row = row_in(world.sites().copies(dm), change.frag, &change.key)?;
     Ok(RowDelta {
@@ -104,7 +104,7 @@ fn add_row(
     if has_item(rows.as_slice(), dm, change) {
         return Ok(());
     }
-    rows.push(row_told(world, dm, change)?)?;
+    rows.push(report_row(world, dm, change)?)?;
     Ok(())
 }
 

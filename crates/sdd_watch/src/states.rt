@@ -10,7 +10,7 @@ ghost use Rattle.sdd_obligations.specs.tm.Represents as tm_represents;
 ghost use Rattle.sdd_obligations.specs.umod.Represents as u_represents;
 ghost use Rattle.sdd_run.specs.world.Represents.{Calm};
 ghost use Rattle.sdd_watch.specs.Keeping.{IsLineInOrder, active_in, active_of, head_in, question_by, questions_in};
-ghost use Rattle.sdd_watch.specs.States.{data_sites, dm_told, head_told, lacks_in, phase_by, stage_at, stage_by, state_of, tm_told, u_told, unapplied_last, unapplied_of};
+ghost use Rattle.sdd_watch.specs.States.{data_sites, dm_told, lacks_in, phase_by, report_head, stage_at, stage_by, state_of, tm_told, u_told, unapplied_last, unapplied_of};
 
 use sdd_inside::{Active, DmState, Head, Phase, Question, SiteState, Stage, TmState, UState};
 use sdd_obligations::sdd_attempt::{Answer, Line};
@@ -44,10 +44,10 @@ fn phase_by(answer: Answer) -> Phase
 }
 
 /// The data modules whose answer to the attempt is missing.
-fn lacking<'l>(line: &'l Line<'_>) -> &'l [DmNo]
+fn missing_dms<'l>(line: &'l Line<'_>) -> &'l [DmNo]
     ensures { result.now ≡ map dm_no (lacked_by line.now.active) }
 {
-    line.lacking()
+    line.missing_dms()
 }
 
 /// The attempt of a class that is under way, of the first transaction of its queue.
@@ -56,7 +56,7 @@ fn attempt(alloc: Global, line: &Line<'_>, answer: Answer) -> Result<Active, NoM
     requires awaited { awaited_by line.now.active ≡ Some answer }
     ensures { IfOk result (λ attempt. active_in line.now ≡ Some attempt) }
 {
-    let lacks = DmNo::copy_all(alloc, lacking(line))?;
+    let lacks = DmNo::copy_all(alloc, missing_dms(line))?;
     let txn = line.first().unwrap_or(TxnNo(0));
     let time = line.active_ts().unwrap_or(Ts(0));
     Ok(Active {
@@ -193,7 +193,7 @@ fn stage_at(u_module: &UModule<'_>) -> Stage
 
 /// From which sites an answer is missing, where these data modules haven't said that they applied
 /// what was committed last.
-fn lacking_sites(
+fn missing_sites(
     alloc: Global,
     u_module: &UModule<'_>,
     stage: Stage,
@@ -203,8 +203,8 @@ fn lacking_sites(
         → unapplied.now ≡ unapplied_last s log → sites.items ≡ lacks_in s log stage) }
 {
     match stage {
-        Stage::Reading => data_sites(alloc, lacking(u_module.line())),
-        Stage::Holding => txn_sites(alloc, u_module.lacking()?.as_slice()),
+        Stage::Reading => data_sites(alloc, missing_dms(u_module.line())),
+        Stage::Holding => txn_sites(alloc, u_module.missing_tms()?.as_slice()),
         Stage::Writing => data_sites(alloc, unapplied),
         Stage::Idle => Ok(Vec::new(alloc)),
     }
@@ -216,7 +216,7 @@ fn u_state(alloc: Global, u_module: &UModule<'_>, unapplied: &[DmNo]) -> Result<
         → unapplied.now ≡ unapplied_last s log → state ≡ u_told s log) }
 {
     let stage = stage_at(u_module);
-    let lacks = lacking_sites(alloc, u_module, stage, unapplied)?;
+    let lacks = missing_sites(alloc, u_module, stage, unapplied)?;
     let mut active = Vec::new(alloc);
     add_active(alloc, u_module.line(), &mut active)?;
     Ok(UState {
@@ -242,12 +242,12 @@ fn head_in(class: ClassNo, conds: Option<Conds>, readers: Option<ClassNos>) -> O
 }
 
 /// The head of the pipe of a class, where it can't be processed.
-fn head_told(dm_module: &DataModule, class: ClassNo) -> Result<Option<Head>, NoMemory>
+fn report_head(dm_module: &DataModule, class: ClassNo) -> Result<Option<Head>, NoMemory>
     ensures { IfOk result (λ head. (s : Setting) (log : site.Log) → data_represents.Represents dm_module.now s log
         → class.0 ≤ length s.catalogue.classes
-        → head ≡ head_told (view_of s log) (data_views.class_view s log class.0)) }
+        → head ≡ report_head (view_of s log) (data_views.class_view s log class.0)) }
 {
-    let conds = dm_module.lacking(class)?;
+    let conds = dm_module.unmet_conds(class)?;
     let readers = dm_module.holders(class)?;
     Ok(head_in(class, conds, readers))
 }
@@ -257,9 +257,9 @@ fn add_head(dm_module: &DataModule, class: ClassNo, heads: &mut Vec<Head>) -> Re
     ensures { OnOk result ((s : Setting) (log : site.Log) → data_represents.Represents dm_module.now s log
         → class.0 ≤ length s.catalogue.classes
         → heads.new.items ≡ heads.old.items
-        ++ filter_map (head_told (view_of s log)) (data_views.class_view s log class.0 ∷ [])) }
+        ++ filter_map (report_head (view_of s log)) (data_views.class_view s log class.0 ∷ [])) }
 {
-    match head_told(dm_module, class)? {
+    match report_head(dm_module, class)? {
         None => Ok(()),
         Some(head) => {
             heads.push(head)?;

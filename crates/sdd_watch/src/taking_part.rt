@@ -157,9 +157,9 @@ pub(crate) fn states(
         → states.items ≡ map (state_of g log) busy.now) }
 {
     let whole = world.whole();
-    whole.known();
+    whole.law_is_sound();
     let committed = world.sites().u_module().last_commit();
-    let unapplied = dones.missing(alloc, committed, whole.dms())?;
+    let unapplied = dones.missing_dms(alloc, committed, whole.dms())?;
     let mut states = Vec::new(alloc);
     for at in busy {
         states.push(state(alloc, world, *at, unapplied.as_slice())?)?;

@@ -19,7 +19,7 @@ pub(crate) enum Purpose {
 }
 
 /// For what a message is.
-fn purpose_told(msg: &Msg) -> Option<Purpose>
+fn purpose_of(msg: &Msg) -> Option<Purpose>
     ensures { result ≡ purpose_of msg.now }
 {
     match msg {
@@ -40,7 +40,7 @@ fn purposed_above(sent: u32, packet: &Packet<Msg>) -> Option<(u32, Purpose)>
             if *number <= sent {
                 return None;
             }
-            match purpose_told(msg) {
+            match purpose_of(msg) {
                 Some(purpose) => Some((*number, purpose)),
                 None => None,
             }

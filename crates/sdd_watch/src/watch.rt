@@ -101,7 +101,7 @@ impl Watch {
         ensures { IfOk result (λ watch. (g : Input) → Calm world.now g []
             → catalogue.now ≡ g.catalogue → Watches g [] watch) }
     {
-        catalogue.known();
+        catalogue.law_is_sound();
         let tms = catalogue.tms();
         let dms = catalogue.dms();
         let sites = all_sites(alloc, tms, dms)?;
@@ -163,14 +163,14 @@ impl Watch {
         } = seen;
         let queues = self.queues(world)?;
         let pipes = look_at_pipes(self.alloc, world, arrived.as_slice(), &mut self.pipes)?;
-        let happened = self.happened(world, turn, found, arrived.as_slice())?;
+        let happened = self.describe_event(world, turn, found, arrived.as_slice())?;
         let (before, after) = moments(links, queues, pipes);
         let delta = difference(self.alloc, happened, &before, &after)?;
         Ok(delta)
     }
 
     /// What happened at an event that is carried out, where these messages were handed over.
-    fn happened(
+    fn describe_event(
         &mut self,
         world: &World<'_>,
         turn: Turn,

@@ -190,8 +190,8 @@ impl WatchedLink {
         let left = left_of(taken, self.flying);
         let mail = world.mail();
         let news = mail.packets_behind(self.from, self.to, left)?;
-        let sent = mail.sent(self.from, self.to);
-        let handed = world.handed(self.from, self.to);
+        let sent = mail.count_sent(self.from, self.to);
+        let handed = world.count_handed(self.from, self.to);
         let seen = self.advance(alloc, left, news, sent, handed)?;
         Ok(seen)
     }

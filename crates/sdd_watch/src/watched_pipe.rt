@@ -155,7 +155,7 @@ impl WatchedPipe {
     {
         let sites = world.sites();
         let module = sites.data_module(self.dm);
-        let unprocessed = module.unprocessed(self.class);
+        let unprocessed = module.count_unprocessed(self.class);
         let passed = passed_to(module, self.class);
         let came = numbers_on(alloc, arrived, self.source, Site::D(self.dm), self.class)?;
         let processed = count_processed(self.unprocessed, came.as_slice(), unprocessed)?;
@@ -203,7 +203,7 @@ fn add_pipes(catalogue: &Catalogue, dm: DmNo, pipes: &mut Vec<WatchedPipe>) -> R
     ensures { OnOk result ((g : Input) → catalogue.now ≡ g.catalogue → pipes.new.items
         ≡ pipes.old.items ++ map (watched_pipe g []) (pipes_at_module g dm.0)) }
 {
-    catalogue.known();
+    catalogue.law_is_sound();
     for class in 0..catalogue.classes() + 1 {
         pipes.push(WatchedPipe {
             dm,
@@ -223,7 +223,7 @@ pub(crate) fn first_pipes(
     ensures { IfOk result (λ pipes. (g : Input) → catalogue.now ≡ g.catalogue
         → pipes.items ≡ map (watched_pipe g []) (all_pipes g)) }
 {
-    catalogue.known();
+    catalogue.law_is_sound();
     let mut pipes = Vec::new(alloc);
     for number in 1..catalogue.dms() + 1 {
         add_pipes(catalogue, DmNo(number as u8), &mut pipes)?;

@@ -1,5 +1,5 @@
 ghost use Rattle.std.specs.Prelude.{◌≡◌, IfOk};
-ghost use Rattle.sdd_base.specs.Readings.{GivesReading, known};
+ghost use Rattle.sdd_base.specs.Readings.{GivesReading, require};
 ghost use Rattle.sdd_wire.specs.Spelling.{spelled_text, spelled_value, spelled_op};
 ghost use Rattle.sdd_wire.specs.Fits.{FitsValue, FitsOp};
 ghost use Rattle.sdd_wire.specs.Reading.{text_in, text_at, value_at, op_at, fault_in};
@@ -14,7 +14,7 @@ use std::alloc::Global;
 /// The text, which must be one of a column, or else a fault at its place.
 #[tactic(auto, using(crate::proofs::Texts::text_found, crate::proofs::Texts::no_text))]
 fn column_text(alloc: Global, place: u64, text: &str) -> Result<Text, WireFault>
-    ensures { GivesReading fault_in (λ found. found) result (known place (text_in text.now)) }
+    ensures { GivesReading fault_in (λ found. found) result (require place (text_in text.now)) }
 {
     match Text::new(alloc, text)? {
         Some(found) => Ok(found),
@@ -25,7 +25,7 @@ fn column_text(alloc: Global, place: u64, text: &str) -> Result<Text, WireFault>
 /// The text that the bytes are, in UTF-8, or else a fault at their place.
 #[tactic(auto, using(crate::proofs::Texts::no_utf8))]
 fn text_in(alloc: Global, place: u64, bytes: &[u8]) -> Result<Text, WireFault>
-    ensures { GivesReading fault_in (λ found. found) result (known place (text_in bytes.now)) }
+    ensures { GivesReading fault_in (λ found. found) result (require place (text_in bytes.now)) }
 {
     match std::str::from_utf8(bytes) {
         Ok(text) => column_text(alloc, place, text),

@@ -45,7 +45,7 @@ fn add_byte(text: &mut Vec<u8>, leads_on: bool, byte: u8) -> Result<(), NoMemory
 
 /// The text that stands between quotes.
 #[tactic(auto, using(crate::proofs::TextCuts::byte_read, crate::proofs::TextCuts::all_read))]
-fn unescaped(alloc: Global, spelling: &[u8]) -> Result<Vec<u8>, NoMemory>
+fn unescape(alloc: Global, spelling: &[u8]) -> Result<Vec<u8>, NoMemory>
     ensures { IfOk result (λ text. text.items ≡ unescaped spelling.now) }
 {
     let mut text = Vec::new(alloc);
@@ -71,7 +71,7 @@ impl<'a> Token<'a> {
     }
 
     /// The text between quotes that has this spelling.
-    pub(crate) fn quoted(spelling: &'a [u8]) -> Self
+    pub(crate) fn from_quoted(spelling: &'a [u8]) -> Self
         requires { IsSpelling true spelling.now }
         ensures { result ≡ Quoted (unescaped spelling.now) }
     {
@@ -97,7 +97,7 @@ impl<'a> Token<'a> {
         ensures { IfOk result (λ bytes. bytes.items ≡ content self.now) }
     {
         if self.is_text {
-            unescaped(alloc, self.spelling)
+            unescape(alloc, self.spelling)
         } else {
             Ok(Vec::from_slice(alloc, self.spelling)?)
         }

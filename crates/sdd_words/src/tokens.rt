@@ -63,7 +63,10 @@ fn cut_text<'a>(bytes: &'a [u8]) -> (Token<'a>, &'a [u8])
 {
     let length = quote_place(bytes);
     let (spelling, rest) = bytes.split_at(length);
-    (Token::quoted(spelling), behind_space(behind_space(rest)))
+    (
+        Token::from_quoted(spelling),
+        behind_space(behind_space(rest)),
+    )
 }
 
 /// Where the first space is.

@@ -6,8 +6,8 @@
 //! records, modules and links, the copies (`tables`) and what is pending (`pending`).
 //!
 //! A settle or a redeclare can be carried out event by event too (`begin_rounds`, `next_round`,
-//! `in_round`, `end_redeclare`). What `sites`, `mail`, `is_down` and `handed` tell holds between
-//! any two events, also within a round.
+//! `in_round`, `end_redeclare`). What `sites`, `mail`, `is_down` and `count_handed` tell holds
+//! between any two events, also within a round.
 //!
 //! Below that, `Sites` hands each call to the module of one site and no other; `home` gives
 //! the site of a transaction; `Mail` carries messages as the bytes that spell them.

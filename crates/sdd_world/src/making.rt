@@ -22,7 +22,7 @@ pub fn txn_modules<'a>(
     ensures { IfOk result (λ made.
         AllBegin (BeginsT whole.now catalogue.now table.now) whole.now.tms made.items) }
 {
-    whole.known();
+    whole.law_is_sound();
     let mut made = Vec::new(alloc);
     for number in 1..whole.tms() + 1 {
         made.push(TxnModule::new(alloc, whole, catalogue, table, TmNo(number as u8))?)?;
@@ -40,7 +40,7 @@ pub fn data_modules(
     ensures { IfOk result (λ made.
         AllBegin (BeginsD catalogue.now rows.now) catalogue.now.dms made.items) }
 {
-    catalogue.known();
+    catalogue.law_is_sound();
     let mut made = Vec::new(alloc);
     for number in 1..catalogue.dms() + 1 {
         made.push(DataModule::new(alloc, catalogue, DmNo(number as u8), rows)?)?;

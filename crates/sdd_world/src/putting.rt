@@ -33,7 +33,7 @@ pub fn send_one(net: &mut Mail, at: Site, to: Site, msg: Msg) -> Result<(), Worl
         → Carries net.old tms dms calls → AreLinked tms dms at ((to, msg) ∷ [])
         → puts_past calls at ((to, msg) ∷ []) ≡ true }
 {
-    if net.sent(at, to) == u32::MAX {
+    if net.count_sent(at, to) == u32::MAX {
         return Err(WorldEnd::Limit);
     }
     net.send(at, to, msg)?;

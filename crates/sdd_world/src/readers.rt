@@ -48,7 +48,7 @@ impl<'a> World<'a> {
         ensures { IfOk result (λ world. (g : Input) → IsGood g → IsSoundNetwork g
             → IsBegun g whole.now catalogue.now table.now txns modules.items → Represents world g []) }
     {
-        whole.known();
+        whole.law_is_sound();
         let u = UModule::new(alloc, whole)?;
         let tms = txn_modules(alloc, whole, catalogue, table)?;
         let net = Mail::new(alloc, whole.tms(), whole.dms())?;
@@ -151,7 +151,7 @@ impl<'a> World<'a> {
 
     /// The messages from 1 to this number of a link are handed to the site where it ends. Takes no
     /// memory.
-    pub fn handed(&self, from: Site, to: Site) -> u32
+    pub fn count_handed(&self, from: Site, to: Site) -> u32
         requires { (g : Input) × (log : Log) × IsLinkOf g from to × Calm self.now g log }
         ensures { (g : Input) (log : Log) → IsLinkOf g from to → Calm self.now g log
             → result ≡ handed from to log }
@@ -160,7 +160,9 @@ impl<'a> World<'a> {
         match to {
             Site::U => delivered,
             Site::T(_) => delivered,
-            Site::D(dm) => (delivered as usize).saturating_sub(self.spool.kept(dm, from)) as u32,
+            Site::D(dm) => (delivered as usize).saturating_sub(
+                self.spool.count_kept(dm, from),
+            ) as u32,
         }
     }
 

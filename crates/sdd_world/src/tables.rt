@@ -62,7 +62,7 @@ fn add_copies(
     ensures { OnOk result ((xs : Dated) → Represent copies.now.value xs
         → tables.new.items ≡ tables.old.items ++ tables_in catalogue.now dm.0 xs) }
 {
-    catalogue.known();
+    catalogue.law_is_sound();
     for number in 1..catalogue.fragments() + 1 {
         add_copy(catalogue, copies, dm, FragNo(number), tables)?;
     }
@@ -91,7 +91,7 @@ impl World<'_> {
         ensures { IfOk result (λ tables. (g : Input) (log : Log) → Represents self.now g log
             → tables.items ≡ tables_of g log) }
     {
-        self.whole.known();
+        self.whole.law_is_sound();
         let mut tables = Vec::new(alloc);
         for number in 1..self.whole.dms() + 1 {
             self.add_tables(DmNo(number as u8), &mut tables)?;

@@ -43,7 +43,7 @@ impl World<'_> {
         ensures { IfOk result (λ found. (g : Input) (log : Log) → Represents self.now g log
             → found.items ≡ waits_of g log class.0 ts.0) }
     {
-        self.whole.known();
+        self.whole.law_is_sound();
         let mut found = Vec::new(alloc);
         if class.0 > self.whole.classes() {
             return Ok(found);

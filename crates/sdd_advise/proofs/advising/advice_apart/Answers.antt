@@ -10,7 +10,7 @@ returns-in-None-clause-shown c =
     let none = sym c.place.ensures ∙ c.in-None.is in
     IfOk-weaker c.advice_off_cycles.result (λ advice. advice ≡ advice_of edge P1 [] (placed_nodes places)) (λ advice. ShowsFor edges advice edge)
     (λ advice e.
-    good_off_cycles edges edge c.args.reader c.requires.there c.requires.reader c.known.ensures.named c.ends-read.result
+    good_off_cycles edges edge c.args.reader c.requires.there c.requires.reader c.law_is_sound.ensures.named c.ends-read.result
     places advice c.ends-read.ensures (c.in_ok-around.ensures.whole none) none e)
     c.advice_off_cycles.ensures
 
@@ -35,5 +35,5 @@ returns-clause-shown c =
     (placed.1 ∙ ap (λ z. z.0) c.ends-read.ensures) c.deref.ensures.value in
     IfOk-weaker c.advice_beside.result (λ advice. advice ≡ advice_of edge P2 (edge ∷ way) nodes) (λ advice. ShowsFor edges advice edge)
     (λ advice e.
-    good_beside edges edge c.args.reader c.requires.there c.requires.reader c.known.ensures.named way nodes advice leads c.requires.apart e)
+    good_beside edges edge c.args.reader c.requires.there c.requires.reader c.law_is_sound.ensures.named way nodes advice leads c.requires.apart e)
     c.advice_beside.ensures

@@ -9,6 +9,6 @@ returns-clause-shown c =
     let closed = c.args.way.now in
     IfOk-weaker c.advice_by_way.result (λ advice. advice ≡ advice_of edge P3 (edge ∷ closed) []) (λ advice. ShowsFor edges advice edge)
     (λ advice e.
-    good_linked edges edge c.args.reader c.requires.there c.requires.reader c.known.ensures.named closed advice
-    (c.known.ensures.verticals edge c.args.reader c.requires.there c.requires.reader) c.requires.way e)
+    good_linked edges edge c.args.reader c.requires.there c.requires.reader c.law_is_sound.ensures.named closed advice
+    (c.law_is_sound.ensures.verticals edge c.args.reader c.requires.there c.requires.reader) c.requires.way e)
     c.advice_by_way.ensures

@@ -7,9 +7,9 @@ shows_p2-requires-clause-own c =
     let edge = c.args.advice.now.edge in
     let edges = c.args.graph.now.edges in
     let nodes = c.args.graph.now.nodes in
-    let within = All-contains (λ e. ((ends e).0 < nodes) × ((ends e).1 < nodes)) edges edge c.known.ensures.within c.requires.there in
-    let named = All-contains NamesClasses edges edge c.known.ensures.named c.requires.there in
-    subst (λ z. z < nodes) (sym c.write_node-own.ensures) (own_within edge c.args.reader nodes c.requires.reader named c.known.ensures.paired within.0)
+    let within = All-contains (λ e. ((ends e).0 < nodes) × ((ends e).1 < nodes)) edges edge c.law_is_sound.ensures.within c.requires.there in
+    let named = All-contains NamesClasses edges edge c.law_is_sound.ensures.named c.requires.there in
+    subst (λ z. z < nodes) (sym c.write_node-own.ensures) (own_within edge c.args.reader nodes c.requires.reader named c.law_is_sound.ensures.paired within.0)
 
 pub returns-in-P1 : goal.returns-in-P1
 returns-in-P1 c =

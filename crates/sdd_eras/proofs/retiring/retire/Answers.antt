@@ -10,11 +10,11 @@ pub build_valid-requires : goal.build_valid-requires
 build_valid-requires c =
     let cat = c.args.catalogue.now in
     let emptied = c.in_ok-parts-2.ensures ∙ ap (λ p. with_classes (retired_parts c.args.upto p.classes) p) c.in_ok-parts.ensures in
-    subst IsValid (sym emptied) (retired_valid (parts_of cat) c.args.upto c.known.ensures.sound.valid)
+    subst IsValid (sym emptied) (retired_valid (parts_of cat) c.args.upto c.law_is_sound.ensures.sound.valid)
 
 pub returns : goal.returns
 returns c =
     let cat = c.args.catalogue.now in
     let emptied = c.in_ok-parts-2.ensures ∙ ap (λ p. with_classes (retired_parts c.args.upto p.classes) p) c.in_ok-parts.ensures in
     IfOk-weaker c.build_valid.result _ _
-    (λ built is. is ∙ ap catalogue_of emptied ∙ retired_is cat c.args.upto c.known.ensures.sound) c.build_valid.ensures
+    (λ built is. is ∙ ap catalogue_of emptied ∙ retired_is cat c.args.upto c.law_is_sound.ensures.sound) c.build_valid.ensures

@@ -19,7 +19,7 @@ index_mut-requires c =
     let f : FragNo = get_or items k (frag_no 0) in
     let n : ℕ = length cat.fragments in
     let written : items ≡ (class_at cat class).writes = c.as_slice-frag-items.ensures ∙ ap (λ z. z.writes) c.class.ensures in
-    let within : (1 ≤ f.0) × (f.0 ≤ n) = writes_within cat class _ c.known.ensures.whole c.requires written k (frag_no 0) c.loop-frag-test.true in
+    let within : (1 ≤ f.0) × (f.0 ≤ n) = writes_within cat class _ c.law_is_sound.ensures.whole c.requires written k (frag_no 0) c.loop-frag-test.true in
     let from : 1 ≤ f.0 = within.0 in
     let to : f.0 ≤ n = within.1 in
     let long : length c.loop-frag.written.items ≡ n = ap length c.loop-frag.invariant ∙ length-map-range_with_len (is_among (take k items)) 1 n in
@@ -34,7 +34,7 @@ loop-frag-preserved c =
     let f : FragNo = get_or items k (frag_no 0) in
     let n : ℕ = length cat.fragments in
     let written : items ≡ (class_at cat class).writes = c.as_slice-frag-items.ensures ∙ ap (λ z. z.writes) c.class.ensures in
-    let within : (1 ≤ f.0) × (f.0 ≤ n) = writes_within cat class _ c.known.ensures.whole c.requires written k (frag_no 0) c.loop-frag-test.true in
+    let within : (1 ≤ f.0) × (f.0 ≤ n) = writes_within cat class _ c.law_is_sound.ensures.whole c.requires written k (frag_no 0) c.loop-frag-test.true in
     ap (λ bs. set bs (f.0 - 1) true) c.loop-frag.invariant
     ∙ mark_more (take k items) _ n f (take_more items k (frag_no 0) c.loop-frag-test.true) within.0
 

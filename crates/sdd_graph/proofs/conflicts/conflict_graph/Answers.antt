@@ -7,7 +7,8 @@ pub returns-clause-known : goal.returns-clause-known
 returns-clause-known c = All-same (IsEdgeOf c.args.catalogue.now) _ (conflict_graph c.args.catalogue.now) c.in_ok-edges.ensures (edges_known c.args.catalogue.now)
 
 pub returns-clause-named : goal.returns-clause-named
-returns-clause-named c = All-same NamesClasses _ (conflict_graph c.args.catalogue.now) c.in_ok-edges.ensures (edges_named c.args.catalogue.now c.known.ensures.whole)
+returns-clause-named c =
+    All-same NamesClasses _ (conflict_graph c.args.catalogue.now) c.in_ok-edges.ensures (edges_named c.args.catalogue.now c.law_is_sound.ensures.whole)
 
 pub returns-clause-nodes : goal.returns-clause-nodes
 returns-clause-nodes c =
@@ -15,6 +16,6 @@ returns-clause-nodes c =
 
 pub returns-clause-few : goal.returns-clause-few
 returns-clause-few c =
-    let few : length (conflict_graph c.args.catalogue.now) ≤ 1048576 = few_edges c.args.catalogue.now c.known.ensures.whole in
+    let few : length (conflict_graph c.args.catalogue.now) ≤ 1048576 = few_edges c.args.catalogue.now c.law_is_sound.ensures.whole in
     let same : length c.in_ok-edges.edges.items ≡ length (conflict_graph c.args.catalogue.now) = ap length c.in_ok-edges.ensures in
     omega arith

@@ -18,7 +18,7 @@ report_on-requires c =
     let is = c.whole-whole.ensures ∙ c.in_ok-lists.ensures.whole in
     let tabled = subst (λ ts. AllZip IsTable (eras_in cat c.args.work) ts) (sym c.as_slice.ensures.value)
     (subst (λ cats. AllZip IsTable cats c.in_ok-tables.tables.items) (c.eras.ensures ∙ c.in_ok-lists.ensures.eras) c.in_ok-tables.ensures) in
-    let sound = subst IsSoundCatalogue is c.known.ensures.sound in (
+    let sound = subst IsSoundCatalogue is c.law_is_sound.ensures.sound in (
       input_of cat tables c.args.work,
       r.log,
       orderable cat tables c.args.work sound c.requires.valid tabled r.log r.log_is,
@@ -34,6 +34,6 @@ returns-clause-report c =
     let is = c.whole-whole.ensures ∙ c.in_ok-lists.ensures.whole in
     let tabled = subst (λ ts. AllZip IsTable (eras_in cat c.args.work) ts) (sym c.as_slice.ensures.value)
     (subst (λ cats. AllZip IsTable cats c.in_ok-tables.tables.items) (c.eras.ensures ∙ c.in_ok-lists.ensures.eras) c.in_ok-tables.ensures) in
-    let sound = subst IsSoundCatalogue is c.known.ensures.sound in
+    let sound = subst IsSoundCatalogue is c.law_is_sound.ensures.sound in
     reported cat tables c.args.work r.log sound c.requires.valid tabled r.log_is c.in_ok-report_on.field-0
     (c.in_ok-report_on.ensures given r.log r.represents (last_homes cat tables c.args.work sound c.requires.valid tabled r.log r.log_is))

@@ -10,4 +10,5 @@ told_accepts cat s w bytes (Ok work) t = reads_spelling cat s w bytes work t
 told_accepts cat s w bytes (Err e) t = tt
 
 pub returns-clause-accepted : goal.returns-clause-accepted
-returns-clause-accepted c = told_accepts c.args.catalogue.now c.known.ensures.sound c.known.ensures.whole c.args.bytes.now c.read_bytes.result c.read_bytes.ensures
+returns-clause-accepted c =
+    told_accepts c.args.catalogue.now c.law_is_sound.ensures.sound c.law_is_sound.ensures.whole c.args.bytes.now c.read_bytes.result c.read_bytes.ensures

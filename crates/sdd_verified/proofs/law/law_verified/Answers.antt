@@ -6,5 +6,5 @@ pub returns : goal.returns
 returns c = λ work text valid report small.
     let cat = c.args.catalogue.now in
     verified_yes cat work text valid
-    (verified cat work text (whole_sound cat work c.known.ensures.sound valid) (whole_named cat work c.known.ensures.named valid) valid
+    (verified cat work text (whole_sound cat work c.law_is_sound.ensures.sound valid) (whole_named cat work c.law_is_sound.ensures.named valid) valid
     report small)

@@ -1,4 +1,4 @@
-use Rattle.sdd_watch.proofs.All.{Event, IsPossible, ap, doing, foreseen_by, is_some, link_of, not, packet_at, subst, sym, taking, ◌∙◌}
+use Rattle.sdd_watch.proofs.All.{Event, IsPossible, ap, foresee_act, foresee_take, foreseen_by, is_some, link_of, not, packet_at, subst, sym, ◌∙◌}
 use Rattle.sdd_watch.proofs.FoundBy.{otherwise_done, some_taken}
 use Rattle.sdd_watch.proofs.foreseen.foresee.Goals as goal
 
@@ -29,33 +29,33 @@ is_down-requires-in-Up c = let r = c.requires in (r.0, r.1, subst (IsPossible r.
 pub returns-in-Deliver : goal.returns-in-Deliver
 returns-in-Deliver c = λ g log calm possible.
     let p = subst (IsPossible g) c.in-Deliver.is possible in
-    c.taking.ensures ∙ ap taking (c.packet_at.ensures g log calm p.0) ∙ ap (λ (e : Event). foreseen_by e log) (sym c.in-Deliver.is)
+    c.foresee_take.ensures ∙ ap foresee_take (c.packet_at.ensures g log calm p.0) ∙ ap (λ (e : Event). foreseen_by e log) (sym c.in-Deliver.is)
 
 pub returns-in-Lose : goal.returns-in-Lose
 returns-in-Lose c = λ g log calm possible.
     let p = subst (IsPossible g) c.in-Lose.is possible in
-    c.taking-in-Lose.ensures ∙ ap taking (c.packet_at-in-Lose.ensures g log calm p.0) ∙ ap (λ (e : Event). foreseen_by e log) (sym c.in-Lose.is)
+    c.foresee_take-in-Lose.ensures ∙ ap foresee_take (c.packet_at-in-Lose.ensures g log calm p.0) ∙ ap (λ (e : Event). foreseen_by e log) (sym c.in-Lose.is)
 
 pub returns-in-Repeat : goal.returns-in-Repeat
 returns-in-Repeat c = λ g log calm possible.
     let p = subst (IsPossible g) c.in-Repeat.is possible in
     let there = c.is_some.ensures ∙ ap is_some (c.packet_at-in-Repeat.ensures g log calm p.0) in
-    c.doing.ensures ∙ ap doing (there ∙ some_taken (packet_at c.in-Repeat.place (link_of c.in-Repeat.from c.in-Repeat.to log)))
+    c.foresee_act.ensures ∙ ap foresee_act (there ∙ some_taken (packet_at c.in-Repeat.place (link_of c.in-Repeat.from c.in-Repeat.to log)))
     ∙ ap (λ (e : Event). foreseen_by e log) (sym c.in-Repeat.is)
 
 pub returns-in-Resend : goal.returns-in-Resend
 returns-in-Resend c = λ g log calm possible.
-    c.doing-in-Resend.ensures ∙ ap (λ b. doing (not b)) (c.is_acknowledged.ensures g log calm (subst (IsPossible g) c.in-Resend.is possible))
+    c.foresee_act-in-Resend.ensures ∙ ap (λ b. foresee_act (not b)) (c.is_acknowledged.ensures g log calm (subst (IsPossible g) c.in-Resend.is possible))
     ∙ ap (λ (e : Event). foreseen_by e log) (sym c.in-Resend.is)
 
 pub returns-in-Down : goal.returns-in-Down
 returns-in-Down c = λ g log calm possible.
-    c.doing-in-Down.ensures ∙ ap (λ b. doing (not b)) (c.is_down.ensures g log (subst (IsPossible g) c.in-Down.is possible) calm)
+    c.foresee_act-in-Down.ensures ∙ ap (λ b. foresee_act (not b)) (c.is_down.ensures g log (subst (IsPossible g) c.in-Down.is possible) calm)
     ∙ ap (λ (e : Event). foreseen_by e log) (sym c.in-Down.is)
 
 pub returns-in-Up : goal.returns-in-Up
 returns-in-Up c = λ g log calm possible.
-    c.doing-in-Up.ensures ∙ ap doing (c.is_down-in-Up.ensures g log (subst (IsPossible g) c.in-Up.is possible) calm)
+    c.foresee_act-in-Up.ensures ∙ ap foresee_act (c.is_down-in-Up.ensures g log (subst (IsPossible g) c.in-Up.is possible) calm)
     ∙ ap (λ (e : Event). foreseen_by e log) (sym c.in-Up.is)
 
 pub returns-in_default : goal.returns-in_default

@@ -22,9 +22,9 @@ returns-clause-world c =
     let cat = c.args.catalogue.now in
     let work = c.args.work in
     let is = c.whole-whole.ensures ∙ c.requires.whole in
-    let sound = subst IsSoundCatalogue is c.known.ensures.sound in
-    let few_tms = subst (λ (k : Catalogue). k.tms ≤ MAX_TMS) is (let few = c.known.ensures.whole.few_tms in omega (arith, few)) in
-    let few_dms = subst (λ (k : Catalogue). k.dms ≤ MAX_DMS) is (let few = c.known.ensures.whole.few_dms in omega (arith, few)) in
+    let sound = subst IsSoundCatalogue is c.law_is_sound.ensures.sound in
+    let few_tms = subst (λ (k : Catalogue). k.tms ≤ MAX_TMS) is (let few = c.law_is_sound.ensures.whole.few_tms in omega (arith, few)) in
+    let few_dms = subst (λ (k : Catalogue). k.dms ≤ MAX_DMS) is (let few = c.law_is_sound.ensures.whole.few_dms in omega (arith, few)) in
     let dms = c.in_ok-modules.modules.items in
     let table = c.first_table.result.now in
     let made = subst (λ (k : Catalogue). AllBegin (BeginsD k c.as_slice.result.now) k.dms dms) is c.in_ok-modules.ensures in

@@ -16,9 +16,9 @@ carry_out-requires c =
     let work = c.args.work in
     let tables = c.args.tables.now in
     let is = c.whole-whole.ensures ∙ c.requires.whole in
-    let begins = begins_all cat tables work (subst IsSoundCatalogue is c.known.ensures.sound) c.requires.valid c.requires.tabled c.in_ok-first.first.world
-    c.in_ok-first.first.events.items c.in_ok-further.further.items c.in_ok-teller.teller c.in_ok-first.ensures.world c.in_ok-first.ensures.events
-    (c.in_ok-further.ensures ∙ ap (λ cats. tail_of (eras_with_tables cats tables)) (c.eras.ensures ∙ c.requires.eras))
+    let begins = begins_all cat tables work (subst IsSoundCatalogue is c.law_is_sound.ensures.sound) c.requires.valid c.requires.tabled
+    c.in_ok-first.first.world c.in_ok-first.first.events.items c.in_ok-further.further.items c.in_ok-teller.teller c.in_ok-first.ensures.world
+    c.in_ok-first.ensures.events (c.in_ok-further.ensures ∙ ap (λ cats. tail_of (eras_with_tables cats tables)) (c.eras.ensures ∙ c.requires.eras))
     (c.in_ok-teller.ensures (first_input cat tables work) c.in_ok-first.ensures.world is) in
     (first_input cat tables work, [], begins.told, begins.allowed, begins.few)
 
@@ -28,9 +28,9 @@ returns-clause-text c =
     let work = c.args.work in
     let tables = c.args.tables.now in
     let is = c.whole-whole.ensures ∙ c.requires.whole in
-    let begins = begins_all cat tables work (subst IsSoundCatalogue is c.known.ensures.sound) c.requires.valid c.requires.tabled c.in_ok-first.first.world
-    c.in_ok-first.first.events.items c.in_ok-further.further.items c.in_ok-teller.teller c.in_ok-first.ensures.world c.in_ok-first.ensures.events
-    (c.in_ok-further.ensures ∙ ap (λ cats. tail_of (eras_with_tables cats tables)) (c.eras.ensures ∙ c.requires.eras))
+    let begins = begins_all cat tables work (subst IsSoundCatalogue is c.law_is_sound.ensures.sound) c.requires.valid c.requires.tabled
+    c.in_ok-first.first.world c.in_ok-first.first.events.items c.in_ok-further.further.items c.in_ok-teller.teller c.in_ok-first.ensures.world
+    c.in_ok-first.ensures.events (c.in_ok-further.ensures ∙ ap (λ cats. tail_of (eras_with_tables cats tables)) (c.eras.ensures ∙ c.requires.eras))
     (c.in_ok-teller.ensures (first_input cat tables work) c.in_ok-first.ensures.world is) in
     inside_of cat tables work c.requires.tabled c.in_ok-first.first.events.items c.in_ok-first.ensures.events _
     (c.in_ok-carry_out.ensures.text (first_input cat tables work) [] begins.told begins.allowed)
@@ -41,9 +41,9 @@ returns-in_err-carry_out-clause-limit c = λ err.
     let work = c.args.work in
     let tables = c.args.tables.now in
     let is = c.whole-whole.ensures ∙ c.requires.whole in
-    let begins = begins_all cat tables work (subst IsSoundCatalogue is c.known.ensures.sound) c.requires.valid c.requires.tabled c.in_ok-first.first.world
-    c.in_ok-first.first.events.items c.in_ok-further.further.items c.in_ok-teller.teller c.in_ok-first.ensures.world c.in_ok-first.ensures.events
-    (c.in_ok-further.ensures ∙ ap (λ cats. tail_of (eras_with_tables cats tables)) (c.eras.ensures ∙ c.requires.eras))
+    let begins = begins_all cat tables work (subst IsSoundCatalogue is c.law_is_sound.ensures.sound) c.requires.valid c.requires.tabled
+    c.in_ok-first.first.world c.in_ok-first.first.events.items c.in_ok-further.further.items c.in_ok-teller.teller c.in_ok-first.ensures.world
+    c.in_ok-first.ensures.events (c.in_ok-further.ensures ∙ ap (λ cats. tail_of (eras_with_tables cats tables)) (c.eras.ensures ∙ c.requires.eras))
     (c.in_ok-teller.ensures (first_input cat tables work) c.in_ok-first.ensures.world is) in
     ended cat tables work c.requires.tabled c.in_ok-first.first.events.items c.in_ok-first.ensures.events
     (c.in_err-carry_out.ensures.limit

@@ -9,6 +9,6 @@ returns-then-has_item c = λ g log calm here.
 
 pub returns : goal.returns
 returns c = λ g log calm here.
-    row_added g log c.args.rows.now.items c.push.new.self.items (c.args.dm, c.args.change.now) c.has_item.result c.in_ok-row_told.field-0
+    row_added g log c.args.rows.now.items c.push.new.self.items (c.args.dm, c.args.change.now) c.has_item.result c.in_ok-report_row.field-0
     (c.has_item.ensures ∙ ap (list_any (is_of_item (c.args.dm, c.args.change.now))) c.as_slice.ensures.value) c.if-has_item.false
-    (c.in_ok-row_told.ensures g log calm here) c.in_ok-push.ensures.items
+    (c.in_ok-report_row.ensures g log calm here) c.in_ok-push.ensures.items

@@ -1,4 +1,4 @@
-use Rattle.sdd_watch.proofs.All.{arith, class_view, head_told, length, sym, view_of, ◌∙◌, ◌≡◌, ◌≤◌}
+use Rattle.sdd_watch.proofs.All.{arith, class_view, length, report_head, sym, view_of, ◌∙◌, ◌≡◌, ◌≤◌}
 use Rattle.sdd_watch.proofs.AtD.{told_is}
 use Rattle.sdd_watch.proofs.MadeLists.{picked_more}
 use Rattle.sdd_watch.proofs.states.dm_state.Goals as goal
@@ -6,7 +6,7 @@ use Rattle.sdd_watch.proofs.states.dm_state.Goals as goal
 pub loop-class-preserved : goal.loop-class-preserved
 loop-class-preserved c = λ s log represents.
     let few : c.loop-class.class ≤ length s.catalogue.classes = omega (arith, c.loop-class-test.true, c.pipe_count-class-end.ensures, represents.shows.pipes) in
-    picked_more (head_told (view_of s log)) (class_view s log) c.loop-class.class c.loop-class.heads.items c.add_head.new.heads.items
+    picked_more (report_head (view_of s log)) (class_view s log) c.loop-class.class c.loop-class.heads.items c.add_head.new.heads.items
     (c.loop-class.invariant s log represents) (c.in_ok-add_head.ensures s log represents few)
 
 pub returns : goal.returns

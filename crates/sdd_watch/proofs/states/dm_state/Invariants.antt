@@ -1,5 +1,5 @@
 -- The heads of the classes before the one at hand are told.
-use Rattle.sdd_watch.proofs.All.{Setting, class_view, filter_map, head_told, map, range_with_len, view_of, ◌≡◌}
+use Rattle.sdd_watch.proofs.All.{Setting, class_view, filter_map, map, range_with_len, report_head, view_of, ◌≡◌}
 use Rattle.sdd_obligations.specs.dm.Represents.{Represents}
 use Rattle.sdd_obligations.specs.site_module.SiteLog.{Log}
 use Rattle.sdd_watch.proofs.states.dm_state.Given as goal
@@ -7,4 +7,4 @@ use Rattle.sdd_watch.proofs.states.dm_state.Given as goal
 abbrev pub invariant-loop-class : goal.invariant-loop-class
 invariant-loop-class l =
     (s : Setting) (log : Log) → Represents l.dm_module s log
-    → l.heads.items ≡ filter_map (head_told (view_of s log)) (map (class_view s log) (range_with_len 0 l.class))
+    → l.heads.items ≡ filter_map (report_head (view_of s log)) (map (class_view s log) (range_with_len 0 l.class))

@@ -14,7 +14,7 @@ invariant_of-self-in-Some c =
     let s = c.self.inside in
     begun_at s.catalogue.now s.class.0
     (unwrap_or (option_map (λ t. t.now) c.args.table) []) c.args.clock.now s.queue.items c.in-Some.queued.now c.add_try.new.self s.running c.in_ok-running-in-Some.running
-    c.known.ensures.whole c.self.invariant c.in-Some.ensures.item.3.0 c.in-Some.ensures.value c.add_try.ensures c.in_ok-running-in-Some.ensures.running
+    c.law_is_sound.ensures.whole c.self.invariant c.in-Some.ensures.item.3.0 c.in-Some.ensures.value c.add_try.ensures c.in_ok-running-in-Some.ensures.running
 
 pub returns-in_ok-running-in-Some-clause-line : goal.returns-in_ok-running-in-Some-clause-line
 returns-in_ok-running-in-Some-clause-line c =

@@ -7,7 +7,7 @@ home_with dm sources = record { dm = dm; sources = sources }
 
 pub returns-clause-shows : goal.returns-clause-shows
 returns-clause-shows c =
-    first_shown c.args.catalogue.now c.args.dm c.args.rows.now (c.classes-classes.result + 1) _ c.known.ensures.sound c.law_rows_make_database.ensures
+    first_shown c.args.catalogue.now c.args.dm c.args.rows.now (c.classes-classes.result + 1) _ c.law_is_sound.ensures.sound c.law_rows_make_database.ensures
     (ap (λ n. n + 1) c.classes-classes.ensures) (ap (home_with c.args.dm) c.in_ok-sources.ensures) (ap (λ p. p.value) c.in_ok-pipes.ensures)
     c.in_ok-waits.ensures c.in_ok-spaces.ensures (ap (λ p. p.live) c.in_ok-pipes.ensures)
     c.in_ok-copies.ensures.live c.in_ok-copies.ensures.represent c.in_ok-copies.ensures.here

@@ -7,4 +7,4 @@ pub returns : goal.returns
 returns c =
     let era : Era = record { catalogue = c.args.catalogue.now; table = c.args.table.now } in
     new_represents (record { live = _; value = c.in_ok-new.field-0 }) c.args.whole.now era c.args.tm refl
-    c.in_ok-new.ensures c.known.ensures.sound c.known.ensures.whole c.requires
+    c.in_ok-new.ensures c.law_is_sound.ensures.sound c.law_is_sound.ensures.whole c.requires

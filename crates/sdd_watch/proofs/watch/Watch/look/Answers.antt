@@ -13,8 +13,8 @@ pub look_at_pipes-requires : goal.look_at_pipes-requires
 look_at_pipes-requires c =
     let r = c.requires in (r.0, r.1, r.2, r.3.calm, c.deref_mut-2.ensures.value ∙ ap (λ (w : Watch). w.pipes.items) c.in_ok-queues.ensures.others ∙ r.5.pipes)
 
-pub happened-requires : goal.happened-requires
-happened-requires c =
+pub describe_event-requires : goal.describe_event-requires
+describe_event-requires c =
     let r = c.requires in
     let first : Knows r.0 r.1 c.args.self.now = known r.0 r.1 c.args.self.now r.5 in
     let after_queues : Knows r.0 r.1 c.queues.new.self =
@@ -55,7 +55,7 @@ returns-clause-kept c = λ g old new over at were.
     let first : Knows g old c.args.self.now = known g old c.args.self.now were in
     let after_queues : Knows g old c.queues.new.self =
     subst (Knows g old) (sym c.in_ok-queues.ensures.others) (beside g old c.args.self.now _ refl refl refl refl first) in
-    let last : Knows g new c.happened.new.self =
+    let last : Knows g new c.describe_event.new.self =
     c.in_ok-happened.ensures.kept g old new over (beside g old c.queues.new.self _ refl refl refl refl after_queues) (c.as_slice-2.ensures.value ∙ came) in
     record {
       sites = last.sites;

@@ -9,24 +9,25 @@ data_module-module-requires c =
     (setting_of r.0 (D c.args.self.now.dm), local_of r.0 (D c.args.self.now.dm) r.1, c.sites-sites.ensures r.0 r.1 r.2 (D c.args.self.now.dm) r.3)
 
 read : (c : goal.In_ok-add) (g : Input) (old new : Log) (d n : ℕ) → Calm c.args.world.now g new → IsSiteOf g (D (dm_no d)) → n ≤ length g.catalogue.classes
-    → c.args.self.now ≡ watched_pipe g old (d, n) → IsRead g new d n c.unprocessed-unprocessed.result c.passed_to-passed.result
+    → c.args.self.now ≡ watched_pipe g old (d, n) → IsRead g new d n c.count_unprocessed-unprocessed.result c.passed_to-passed.result
 read c g old new d n calm site few is =
-    read_pipe g old new d n c.args.self.now c.sites-sites.result.now c.data_module-module.result.now c.unprocessed-unprocessed.result c.passed_to-passed.result
-    is (c.sites-sites.ensures g new calm) site few c.data_module-module.ensures c.unprocessed-unprocessed.ensures c.passed_to-passed.ensures
+    read_pipe g old new d n c.args.self.now c.sites-sites.result.now c.data_module-module.result.now c.count_unprocessed-unprocessed.result
+    c.passed_to-passed.result is (c.sites-sites.ensures g new calm) site few c.data_module-module.ensures
+    c.count_unprocessed-unprocessed.ensures c.passed_to-passed.ensures
 
 pub returns-clause-kept : goal.returns-clause-kept
 returns-clause-kept c = λ g old new calm between all d n site few is.
-    pipe_kept g old new d n c.args.self.now _ c.unprocessed-unprocessed.result c.passed_to-passed.result is (read c g old new d n calm site few is) refl
+    pipe_kept g old new d n c.args.self.now _ c.count_unprocessed-unprocessed.result c.passed_to-passed.result is (read c g old new d n calm site few is) refl
 
 pub returns-clause-before : goal.returns-clause-before
 returns-clause-before c = λ g old new calm between all d n site few is.
     c.in_ok-add.ensures.before ∙ ap (λ (m : PipeMoment). c.args.parts.now.before.items ++ m ∷ [])
-    (seen_before g old new d n c.args.self.now c.unprocessed-unprocessed.result c.passed_to-passed.result c.moment-before.result c.new.result.items
+    (seen_before g old new d n c.args.self.now c.count_unprocessed-unprocessed.result c.passed_to-passed.result c.moment-before.result c.new.result.items
     is (read c g old new d n calm site few is) c.new.ensures.items c.moment-before.ensures)
 
 pub returns-clause-after : goal.returns-clause-after
 returns-clause-after c = λ g old new calm between all d n site few is.
-    let left = c.unprocessed-unprocessed.result in
+    let left = c.count_unprocessed-unprocessed.result in
     let counted : c.in_ok-processed.processed ≡ (c.args.self.now.unprocessed + length c.in_ok-came.came.items) - left =
     c.in_ok-processed.ensures ∙ ap (λ (ns : List ℕ). (c.args.self.now.unprocessed + length ns) - left) c.as_slice.ensures.value in
     c.in_ok-add.ensures.after ∙ ap (λ (m : PipeMoment). c.args.parts.now.after.items ++ m ∷ [])

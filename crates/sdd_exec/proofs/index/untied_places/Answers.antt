@@ -1,0 +1,13 @@
+use Rattle.sdd_exec.proofs.All.{rows_lent}
+use Rattle.sdd_exec.proofs.Picked.{lent_at, lent_within}
+use Rattle.sdd_exec.proofs.Steps.{untied_next}
+use Rattle.sdd_exec.proofs.index.untied_places.Goals as goal
+
+pub loop-place-preserved : goal.loop-place-preserved
+loop-place-preserved c =
+    let rows = c.args.rows.now in
+    let i = c.loop-place.place in
+    let row = c.index-rows-place.result in
+    let within = c.loop-place-test.true in
+    untied_next c.args.part c.args.conds.now i (rows_lent rows) row.now c.loop-place.places.items c.add_untied.new.places.items _
+    (lent_within rows i within) (lent_at rows i row within c.index-rows-place.is) c.in_ok-add_untied.ensures c.loop-place.invariant
