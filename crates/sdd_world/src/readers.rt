@@ -160,9 +160,9 @@ impl<'a> World<'a> {
         match to {
             Site::U => delivered,
             Site::T(_) => delivered,
-            Site::D(dm) => (delivered as usize).saturating_sub(
-                self.spool.count_kept(dm, from),
-            ) as u32,
+            Site::D(dm) => {
+                (delivered as usize).saturating_sub(self.spool.count_kept(dm, from)) as u32
+            }
         }
     }
 
