@@ -68,5 +68,5 @@ endings_at_workload names = ToItsEnd names.catalogue ∷ ToItsLimit MAX_WORKLOAD
 -- the files of the call of these words, each read as far as such endings say
 abbrev pub AreEnded : (Names → List Ending) → List (List ℕ) → Option (List ShelfFile) → (ℕ → Type 0) → (ℕ → Type 0)
     → (ℕ → Option Opened) → Type 0
-AreEnded ends words shelved was stands told =
-    MatchOption (names_in words) ⊥ (λ names. FilesRead shelved was stands told (ends names))
+AreEnded ends words shelved was is_open known =
+    MatchOption (names_in words) ⊥ (λ names. FilesRead shelved was is_open known (ends names))

@@ -7,7 +7,7 @@ ghost use Rattle.sdd_inside.specs.declared.moment.Happened.{Happened as Turn};
 
 use crate::delta::{Delta, Found, Handed, InFlight, PipeDelta, Put, QueueDelta};
 use crate::moment::{Happened, LinkMoment, Moment, PipeMoment, QueueMoment};
-use crate::told::parted;
+use crate::to_json::parted;
 use sdd_net::Packet;
 use sdd_script::sdd_base::{Event, Listed, NoMemory, Parcel, Site, TxnNo};
 use sdd_wire::Msg;

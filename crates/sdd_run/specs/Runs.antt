@@ -83,7 +83,7 @@ pub record IsReportOn (cat : Catalogue) (work : Workload) (text : List ℕ) : Ty
   -- One plain database that begins with the workload's rows and runs the transactions in that order gives the replies of their
   -- Commits; and these are the replies in the text, after the trace and the order.
   pub replies : AllZip (IsReplyOf (history log)) (order_of cat work log) (plain_run cat work log).0
-  pub told : text
+  pub text_is : text
       ≡ trace (whole_in cat work) work.txns (history log)
       ++ (order_line work.txns (order_of cat work log)
       ++ (replies_along (names_of work.txns (order_of cat work log)) (plain_run cat work log).0

@@ -28,8 +28,8 @@ put_cut old new h l event found =
 
 -- pipes
 
-abbrev told_pipe : Input → Log → Log → ℕ × ℕ → ℕ → List PipeDelta
-told_pipe g old new p count =
+abbrev reported_pipe : Input → Log → Log → ℕ × ℕ → ℕ → List PipeDelta
+reported_pipe g old new p count =
     if is_empty (drop (length (came g p.0 p.1 old)) (came g p.0 p.1 new)) && count == 0 then [] else
     (record {
       dm = (pipe_moment g new p).dm;
@@ -44,8 +44,8 @@ less_none n = omega arith
 
 -- all of it
 
-abbrev told : Happened → Moment → Moment → List Handed → List Put → List PipeDelta → Delta
-told h before after handed put pipes =
+abbrev reported : Happened → Moment → Moment → List Handed → List Put → List PipeDelta → Delta
+reported h before after handed put pipes =
     record {
       number = h.number;
       scheduled = h.scheduled;
@@ -77,5 +77,5 @@ cut_tells g old new h event found =
     let put = same_changes (put_between h) (link_before old) (link_after old new) (link_moment old) (link_moment new)
     (λ l. put_cut old new h l event found) (all_links g) in
     let pipes = same_changes (pipe_between h) (pipe_before g old new) (pipe_after g old new) (pipe_moment g old) (pipe_moment g new)
-    (λ p. ap (told_pipe g old new p) (less_none (pipe_after g old new p).processed)) (all_pipes g) in
-    (λ i. told h b a (handed i) (put i) (pipes i))
+    (λ p. ap (reported_pipe g old new p) (less_none (pipe_after g old new p).processed)) (all_pipes g) in
+    (λ i. reported h b a (handed i) (put i) (pipes i))

@@ -15,7 +15,7 @@ pub record Tells (g : Input) (log : Log) (t : Teller) : Type 0 where
   pub watches : Watches g log t.watch
 
 -- All that was given is carried out and told; the next event of the schedule has this place.
-pub record IsTold (w : World) (g : Input) (log : Log) (t : Teller) (place : ℕ) : Type 0 where
+pub record IsReported (w : World) (g : Input) (log : Log) (t : Teller) (place : ℕ) : Type 0 where
   pub represents : Represents w g log
   pub tells : Tells g log t
   pub place_is : place ≡ suc (length g.events)

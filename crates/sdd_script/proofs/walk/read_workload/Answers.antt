@@ -3,11 +3,12 @@ use Rattle.sdd_script.proofs.ReadingLaws.{reads_spelling}
 use Rattle.sdd_script.proofs.walk.read_workload.Goals as goal
 
 -- a workload that is told is accepted
-told_accepts : (cat : Catalogue) → IsSoundCatalogue cat → IsWhole cat
+read_is_accepted : (cat : Catalogue) → IsSoundCatalogue cat → IsWhole cat
     → (bytes : List ℕ) (r : Result Workload WorkError) → Tells r (workload cat bytes)
     → IfOk r (λ w. Accepts cat bytes w)
-told_accepts cat s w bytes (Ok work) t = reads_spelling cat s w bytes work t
-told_accepts cat s w bytes (Err e) t = tt
+read_is_accepted cat s w bytes (Ok work) t = reads_spelling cat s w bytes work t
+read_is_accepted cat s w bytes (Err e) t = tt
 
 pub returns-clause-accepted : goal.returns-clause-accepted
-returns-clause-accepted c = told_accepts c.args.catalogue.now c.known.ensures.sound c.known.ensures.whole c.args.bytes.now c.read_bytes.result c.read_bytes.ensures
+returns-clause-accepted c =
+    read_is_accepted c.args.catalogue.now c.known.ensures.sound c.known.ensures.whole c.args.bytes.now c.read_bytes.result c.read_bytes.ensures
