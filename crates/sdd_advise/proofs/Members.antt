@@ -72,7 +72,7 @@ pub unlike_filter : {X : Type 0} (p : X → Bool) (xs : List X) → Unlike xs �
 unlike_filter p [] one = tt
 unlike_filter p (x ∷ xs) one = grind (arith, Unlike, among_filter, (unlike_filter p xs one.1))
 
--- where it can be told of what each is made
+-- where it is known of what each is made
 pub unlike_flat : {X Y : Type 0} (f : X → List Y) (back : Y → X) (xs : List X)
     → ((x : X) (y : Y) → Among (f x) y → back y ≡ x) → ((x : X) → Unlike (f x)) → Unlike xs → Unlike (flat_map f xs)
 unlike_flat f back [] back_is each one = tt

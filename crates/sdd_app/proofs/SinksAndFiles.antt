@@ -1,4 +1,4 @@
--- What is told of a sink and of files, by cases.
+-- What is known of a sink and of files, by cases.
 use Rattle.sdd_app.proofs.All.{IfSome, List, None, Option, ReadsTo, Rose, Some, TakesOrFaults, [], ap, append-nil, append_assoc, arith, cases_lt, drop, flat_map, flat_map-append, inl, inr, length, length-append, refl, slice_index_or, subst, suc, sym, take, take-append-drop, take-append_seam, take_all, take_more, with_end, zero, ℕ, ◌++◌, ◌+◌, ◌-◌, ◌<◌, ◌∙◌, ◌∷◌, ◌≡◌, ◌≤◌}
 
 -- what a sink took grows by nothing, and by one text after another

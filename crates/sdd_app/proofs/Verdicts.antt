@@ -114,7 +114,7 @@ one_plain : (fs : List ShelfFile) (work : List ℕ) (cat : Catalogue) (v w : Ver
     → ComesToPlain fs work cat v → ComesToPlain fs work cat w → status_of v ≡ status_of w
 one_plain fs work cat v w p q = ap status_of (one_verdict (option_map (plain_verdict cat) (workload_named fs cat work)) v w p q)
 
--- no run that is told of is ended by the limit
+-- no run that is reported is ended by the limit
 pub one_of_run : (IsSuch : List ℕ → Type 0) (cat : Catalogue) (work : Workload) → ((text : List ℕ) → IsSuch text → EndsAtLimit cat work → ⊥) → (v w : Verdict)
     → TellsOfRun IsSuch cat work v → TellsOfRun IsSuch cat work w → status_of v ≡ status_of w
 one_of_run S cat work apart (Prints a) (Prints b) p q = refl
@@ -179,7 +179,7 @@ one_of_words fs (Some form) v w p q = one_of_form fs form v w p q
 pub one_status : (fs : List ShelfFile) (ws : List (List ℕ)) (v w : Verdict) → ComesTo fs ws v → ComesTo fs ws w → status_of v ≡ status_of w
 one_status fs ws v w p q = one_of_words fs (form_in ws) v w p q
 
--- a call that printed no text told what it comes to, unless the shelf failed or memory ran out
+-- a call that printed no text reported what it comes to, unless the shelf failed or memory ran out
 pub by_status : (s : Status) (P : Verdict → Type 0) (v : Verdict) → ((w : Verdict) → P w → status_of w ≡ status_of v) → Explains s P → (s ≡ ReadFault → ⊥)
     → (s ≡ status_of v) ⊎ (s ≡ NoMemory)
 by_status Usage P v one e read = inl (one NoForm e)

@@ -25,7 +25,7 @@ names_in words = None
 abbrev pub AreNotTwo : List (List ℕ) → Type 0
 AreNotTwo words = (catalogue workload : List ℕ) → words ≡ catalogue ∷ workload ∷ [] → ⊥
 
--- what happens inside the run of a workload is told
+-- what happens inside the run of a workload is reported
 abbrev pub ComesToInside : Catalogue → Workload → Verdict → Type 0
 ComesToInside cat work verdict = TellsOfRun (IsInsideOf cat work) cat work verdict
 

@@ -131,8 +131,8 @@ pub fn run_sdd1<S: Shelf, O: Sink, E: Sink>(
     ensures silent { result ≢ Status.Done → result ≢ Status.WriteFault → O.taken out.new ≡ O.taken out.old }
     ensures line { TakesOrFaults (E.sure err.old) (E.taken err.old) (E.taken err.new) (E.faults err.old) (E.faults err.new) (line_of result) }
 
-    // What the words and files come to is told, unless memory runs out: where no count rose, and so
-    // over a shelf and a sink that are sure, the shelf of a place for each file that the words name.
+    // What the words and files come to is reported, unless memory runs out: where no count rose, and
+    // so over a shelf and a sink that are sure, the shelf of a place for each file that the words name.
     ensures complete { (fs : List ShelfFile) (text : List ℕ) → IsOver (S.files shelf.old) fs (map string_bytes words.now)
         → ComesTo fs (map string_bytes words.now) (Prints text)
         → (Rose (S.faults shelf.old) (S.faults shelf.new) → ⊥) → (Rose (O.faults out.old) (O.faults out.new) → ⊥)

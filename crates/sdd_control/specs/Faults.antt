@@ -24,7 +24,7 @@ fault_in errors.NoMemory = None
 abbrev pub Tells : {X : Type 0} → Result X WorkError → Result X WorkFault → Type 0
 Tells result reading = GivesBy fault_in (λ x. x) result reading
 
--- what went wrong on a line, told with the line's number
+-- what went wrong on a line, reported with the line's number
 abbrev pub fault_at_line : ℕ → LineError → WorkError
 fault_at_line line (Broken rule) = errors.Fault (record { line = line; rule = rule })
 fault_at_line line NoMemory = errors.NoMemory

@@ -61,7 +61,7 @@ on_links : (tms dms : ℕ) (P : Site × Site → Type 0) → ((l : Site × Site)
     → All P (links tms dms)
 on_links tms dms P f = All-weaker (Exists tms dms) P f (links tms dms) (links_exist tms dms)
 
--- what is told link by link, of the links and of what is kept of each
+-- what is known link by link, of the links and of what is kept of each
 list_all_mapped : {A B : Type 0} (p : B → Bool) (q : A → Bool) (g : A → B) (xs : List A)
     → All (λ x. p (g x) ≡ q x) xs → list_all p (map g xs) ≡ list_all q xs
 list_all_mapped p q g [] h = refl

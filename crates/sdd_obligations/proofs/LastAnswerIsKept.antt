@@ -1,4 +1,4 @@
--- What a data module turn_after_answer last of an attempt's rows is what it keeps.
+-- What a data module answered last of an attempt's rows is what it keeps.
 use Rattle.sdd_obligations.proofs.All.{Act, Answer, Apply, Arrive, ClassNo, Cond, Did, Done, Frozen, Handed, IsClassHere, List, Msg, None, Open, Option, Pass, Read, Ready, Records, Refused, Reject, Rejected, Replied, Sends, Setting, Site, Some, Tells, Ts, Turn, TxnNo, Use, Wait, [], and_no, and_right, answers, ap, append-nil, arith, ask_for, asks_rows, both, class_asked, cond, done_for, eqb-true, false, filter, filter-append, frozen, head, head_of, home_of, if◌then◌else◌, inl, inr, is_a_read, is_answer, is_asked_of, is_number, is_question, is_read, kept, map, never, opens, pipe, puts_to, refl, same_number, same_site, sends_of_act, site_self, source_of, subst, sym, to_site, true, turn_after_answer, turn_after_answers, turn_after_question, turn_with, uses_by, uses_held, uses_in, ℕ, ◌&&◌, ◌++◌, ◌==◌, ◌∙◌, ◌∷◌, ◌≡◌}
 use Rattle.sdd_obligations.proofs.DataSteps.{IsDataStep, data_step_way, ready_counts, reply}
 use Rattle.sdd_obligations.proofs.HandedAnswersKeepTurns.{turn_after_one, turn_is_replied}

@@ -42,7 +42,7 @@ module _ (ts c n : ℕ) (m : Msg) (v : ℕ → Turn) where
   abbrev w : ℕ → Turn
   w d = after_answer n m v d
 
-  -- y is the exchange x with what the answer turn_after_answer
+  -- y is the exchange x with what the answer told it
   module _ (x y : Exchange) (at_turn : (d : ℕ) → IsAtTurn d x (v d)) (lacks_are : y.lacks ≡ x.lacks)
       (same : question_of ts c x ≡ question_of ts c y) (sends : SendsPhase ts c y)
       (h : AsksPhase ts c x v) where

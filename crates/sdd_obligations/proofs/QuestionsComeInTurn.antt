@@ -213,7 +213,7 @@ in_turn s c (Handed from m ∷ log) fair first timely = in_turn_hand s c log fro
 in_turn s c (Did act ∷ log) fair first timely = in_turn_act s c log act fair.1 fair.0 first.0 (in_turn s c log fair.1 first.1 timely.1)
 in_turn s c (x ∷ log) fair first timely = grind (arith, stamp_rises, in_turn s c log fair.1 first.1 timely.1)
 
--- what the site puts is turn_after_question in turn
+-- what the site puts is asked in turn
 
 abbrev pub IsInTurn : Turn → List Msg → Type 0
 IsInTurn v ms = (ms ≡ []) ⊎ ((m : Msg) × (ms ≡ m ∷ []) × MayAsk v m)

@@ -144,7 +144,7 @@ reply_no_refusal f q m e = grind arith
 pub asks_no_a_read : (ts c : ℕ) (m : Msg) → asks_rows ts c m ≡ true → is_a_read m ≡ false
 asks_no_a_read ts c m e = grind arith
 
--- the question that stands, where rows are turn_after_question
+-- the open question, where rows are asked for
 pub record IsAskedRows (ts c : ℕ) (at : Site) (os : List Open) (v : Turn) (o : Open) : Type 0 where
   pub uses : List ℕ
   pub is : v ≡ Asks uses o.msg

@@ -45,7 +45,7 @@ all_named_in ns (u ∷ us) f =
     (row_named ns u.0 u.1 (f u.0 (or_left (u.0 == u.0) (contains (map (λ e. e.0) us) u.0) (same_number u.0))))
     (all_named_in ns us (λ n e. f n (or_right (u.0 == n) (contains (map (λ e. e.0) us) n) e)))
 
--- the counts that are turn_after_answer are of the READ's uses, in order
+-- the counts that are answered are of the READ's uses, in order
 counts_named : (c : CopyRows) (uses : List Use)
     → map (λ (n : ℕ × ℕ). n.0) (map (λ (e : ℕ × List (List Value)). (e.0, length e.1))
     (map (λ (u : Use). (u.number, rows_for c u)) uses)) ≡ map (λ (u : Use). u.number) uses

@@ -43,8 +43,8 @@ abbrev pub is_a_refusal : Msg → Bool
 is_a_refusal (Reject t k by write) = true
 is_a_refusal _ = false
 
--- Whose turn it is. Nothing was turn_after_question; the site turn_after_question, and has no answer; the last question is answered; or the READ is
--- rejected. With a question stand the numbers of the READ's uses.
+-- Whose turn it is. Nothing was asked; the site asked, and has no answer; the last question is answered; or the READ is
+-- rejected. With a question come the numbers of the READ's uses.
 pub data Turn : Type 0 where
   Silent : Turn
   Asks : List ℕ → Msg → Turn
@@ -85,7 +85,7 @@ MayAsk (Replied ns q) m = (is_a_ship q ≡ false) × IsOfUses ns m
 MayAsk Refused m = ⊥
 
 -- The answer that may come next. READY answers a READ with one count for each of its uses, in order; VALUES and REDUCED are
--- of the use that was turn_after_question for; ROWS are of uses of the READ alone.
+-- of the use that was asked for; ROWS are of uses of the READ alone.
 
 abbrev pub RepliesToRead : List ℕ → Msg → Type 0
 RepliesToRead ns (Ready t k counts) = map (λ n. n.0) counts ≡ ns

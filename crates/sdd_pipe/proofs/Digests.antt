@@ -2,7 +2,7 @@
 use Rattle.sdd_pipe.proofs.All.{Bool, Change, Digest, FragNo, IsDigest, List, Msg, None, Option, Pipe, Some, Write, Writes, [], ap, append-nil, arith, changes_of, cond, empty_digest, empty_pipe, false, filter_map, fold, fold-append, greatest, has_passed, head_processed, is_by, last_in, last_write, list_any, list_any-append, map, map-append, nat_le, nat_tests, passed, put, put_digest, raised, refl, subst, sym, take_digest, time_of, touches, true, with_write, write_in, write_time, ℕ, ◌&&◌, ◌++◌, ◌==◌, ◌||◌, ◌∙◌, ◌∷◌, ◌≡◌}
 use Rattle.sdd_pipe.proofs.Entries.{by_raised, write_with_room, room_stays, writes_stay, have_room_stays, have_room_append, room_made, write_raised, or_swap}
 
--- an option is told by the numbers that it reaches
+-- an option is determined by the numbers that it reaches
 
 same_time : (a b : ℕ) → nat_le a a ≡ nat_le a b → nat_le b a ≡ nat_le b b → a ≡ b
 same_time a b e f = grind (arith, nat_tests)

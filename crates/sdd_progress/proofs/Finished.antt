@@ -57,7 +57,7 @@ all_released g log t h sound idle l m =
           absurd (not_both _ (both _ _ (lt-ltb _ _ less) (eq-eqb _ _ dones)) off))
     ]
 
--- a T on hold has told so
+-- a T on hold has sent its HELD
 
 run_by : (g : Input) (c t k : ℕ) → slice_get (tm_views.runs (setting_of g (T (tm_no t)))) k ≡ Some c
     → (1 ≤ c) × (home g.catalogue c ≡ T (tm_no t)) × IsClass g.catalogue c

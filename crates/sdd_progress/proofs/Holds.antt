@@ -1,4 +1,4 @@
--- A transaction module is told to hold only while a transaction waits at the module for undeclared transactions; and the
+-- A transaction module is asked to hold only while a transaction waits at the module for undeclared transactions; and the
 -- Commit of the transaction that this served last.
 use Rattle.sdd_progress.proofs.All.{Act, Attempt, Bases, Bool, Catalogue, D, Did, Each, Handed, Hold, IsChain, IsFairU, IsStepU, List, Msg, None, Option, Queued, Release, Sends, Setting, Site, Some, Submits, T, [], active, ap, arith, asks_next, asks_rows, balance, chain, commit_act, counts, dm_no, false, first_send, hand_commits, hand_counts, hand_ts, head_of, if_way, if◌then◌else◌, inl, inr, is_over, last_served, map, numbers_to, one_if_le, or_else, queue, refl, slice_get, start_at, subst, suc, tm_no, tried, true, ts_of, u_due, u_way, ℕ, ◌++◌, ◌<◌, ◌∙◌, ◌∷◌, ◌≡◌, ◌≤◌, ◌⊎◌}
 use Rattle.sdd_obligations.specs.site_module.SiteLog.{Entry, Log}

@@ -22,7 +22,7 @@ abbrev pub reported_in : Rec → Option ReportedCommit
 reported_in (records.Commit txn attempt reply changes values rows) = Some (record { txn = txn.0; reply = reply; values = values; rows = rows })
 reported_in _ = None
 
--- whether it is told of transaction n
+-- whether it is of transaction n
 abbrev pub is_of : ℕ → ReportedCommit → Bool
 is_of n reported = reported.txn == n
 

@@ -47,7 +47,7 @@ module _ (g : Input) (rows : List (RelNo × Row)) (log : Log) (sound : IsSoundCa
       (are_eras_of g (noted log) lists) d (length (history log)) Nothing (at_the_end log) f copied
       ∙ ap (contents f) (same_dated g.catalogue rows (history log) _ d)
 
-  -- a copy that is told of has what the history gives
+  -- a copy that is reported has what the history gives
   pub copy_rows_are : (copy : CopyTable) → Contains (tables_of g log) copy
       → copy.rows ≡ map (λ e. e.1) (laws.copy_at g.catalogue rows (history log) copy.dm.0 (length (history log)) copy.frag.0)
   copy_rows_are copy there =
@@ -75,7 +75,7 @@ module _ (g : Input) (rows : List (RelNo × Row)) (log : Log) (sound : IsSoundCa
         ∙ sym (ap (map (λ (e : Item × Row). e.1))
         (left_in_copies g rows (eras_of g log) log order sound fine permitted (are_eras_of g log lists) serial f d (length (history log)) all))
 
-    -- each copy that is told of
+    -- each copy that is reported
     pub left_in : (copy : CopyTable) → Contains (tables_of g log) copy → AreAllApplied (history log) copy.frag.0 copy.dm.0 (length (history log))
         → copy.rows ≡ rows_left g.catalogue (run g.catalogue rows g.txns order).1 copy.frag.0
     left_in copy there =

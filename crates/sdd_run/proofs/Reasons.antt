@@ -1,4 +1,4 @@
--- Each pending transaction is told to wait for something that is there, and never for a message of U.
+-- Each pending transaction is reported to wait for something that is there, and never for a message of U.
 use Rattle.sdd_run.proofs.All.{Bool, Catalogue, Contains, Contains-from_filter_map, FitsInput, History, Input, IsModule, IsPermitted, IsReason, IsStanding, List, Log, None, Option, Pending, Rec, Some, Standing, Waiting, Why, [], arith, best_of, cond, cons_option, false, filter_map, history, if◌then◌else◌, in_range, is_lower, list_any, numbers_to, pending_by, pending_of, reason_of, refl, site_due, slice_get, standing_at, standing_at_t, standing_at_u, submitted_at, suc, true, wait_at, waits_of, why_of, ℕ, ◌∷◌, ◌≡◌}
 use Rattle.sdd_run.proofs.Standings.{each_is_standing}
 use Rattle.sdd_obligations.specs.attempt.declared.standing.Standing.TheVariants as standings

@@ -1,4 +1,4 @@
--- What is told of a world that has carried out all events of a workload is told of its run.
+-- What is reported of a world that has carried out all events of a workload is reported of its run.
 use Rattle.sdd_run.proofs.All.{AreAtLastHomes, AreTables, Catalogue, EndsAtLimit, EndsBy, EndsByLimit, Entry, Event, History, IfOk, IsReportOn, IsRunOf, IsSoundCatalogue, IsSummaryOn, IsTheLog, IsValid, List, Log, Represents, Result, Summary, Txn, Workload, World, ap, arith, eras_of, first_input, history, input_of, length, marks, none_due, order_of, over_at_end, report_of, report_text, subst, summary_of, summary_text, whole_in, with_events, ℕ, ◌∙◌, ◌≡◌}
 use Rattle.sdd_run.proofs.Beginning.{all_given}
 use Rattle.sdd_run.proofs.Goods.{fits_given}
@@ -60,7 +60,7 @@ reported cat tables work log sound valid tabled the_log text is =
       once = each_once whole (history log) order along;
       in_turn = grind (arith, in_turn, eras_of, input_of, history);
       replies = given;
-      text_is = is ∙ with_replies_of_order (report_of (input_of cat tables work) log) _ fine.one_commit given;
+      text_has_replies = is ∙ with_replies_of_order (report_of (input_of cat tables work) log) _ fine.one_commit given;
       copies = left cat tables work sound valid tabled log the_log;
       alike = alike cat tables work sound valid tabled log the_log;
       free = free_undisturbed cat tables work sound valid tabled log the_log;

@@ -55,7 +55,7 @@ abbrev reported : Committed → ReportedCommit
 reported t = record { txn = t.start.txn; reply = t.reply; values = t.values; rows = t.rows }
 
 module _ (h : History) (one_commit : (n i j k l : ℕ) → HasCommit h n i k → HasCommit h n j l → k ≡ l) where
-  -- a committed transaction is told of as its Commit tells
+  -- a committed transaction is reported as its Commit tells
   reported_is : (t : Committed) → IsCommitted h t → reported_of h t.start.txn ≡ Some (reported t)
   reported_is t is =
       let own : HasCommit h t.start.txn t.start.number t.place = record {

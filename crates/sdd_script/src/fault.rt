@@ -114,7 +114,7 @@ pub(crate) fn must(rule: WorkRule, holds: bool) -> Result<(), LineError>
     if holds { Ok(()) } else { broken(rule) }
 }
 
-/// What a line answered, its fault told at the line's number.
+/// What a line answered, its fault reported at the line's number.
 pub(crate) fn at_line<T>(line: u32, read: Result<T, LineError>) -> Result<T, WorkError>
     ensures { MatchResult read (λ x. result ≡ Ok x) (λ e. result ≡ Err (fault_at_line line e)) }
 {

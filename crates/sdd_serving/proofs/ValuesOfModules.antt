@@ -68,7 +68,7 @@ frozen_once cat c txn ts copies d a b h k same = grind (arith, nat_tests, Kept, 
 pub reduced_once : (n col : ℕ) (values : List Value) (f : Frozen) → KeepsOnce f → KeepsOnce (reduced n col values f)
 reduced_once n col values f once a b h k same = grind (arith, nat_tests, Has-map_from, lessened, same_number, Kept)
 
--- so the rows that are told of a use are all of it
+-- so the rows that are reported of a use are all of it
 rows_shipped : (es : List Kept) (e : Kept) → ((d : Kept) → Has es d → d.0 ≡ e.0 → d ≡ e) → Has es e
     → or_nothing (first_some (λ (z : Kept). cond (z.0 == e.0) (Some z.1) None) es) ≡ e.1
 rows_shipped [] e once h = absurd h

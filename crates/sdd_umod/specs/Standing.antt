@@ -8,7 +8,7 @@ use Rattle.sdd_umod.specs.Views.{TmCounts}
 use Rattle.sdd_umod.specs.State.{State}
 use Rattle.sdd_umod.specs.Steps.{tm_of, turn}
 
--- a T was told to hold for the transaction of this number
+-- a T was asked to hold for the transaction of this number
 abbrev pub is_told : ℕ → TmCounts → Bool
 is_told n k = k.holds == n
 

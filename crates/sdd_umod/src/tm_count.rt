@@ -61,7 +61,7 @@ impl TmCount {
         self.releases < commits
     }
 
-    /// Whether it was told to hold for the transaction of this number.
+    /// Whether it was asked to hold for the transaction of this number.
     pub(crate) fn is_told(&self, turn: u64) -> bool
         ensures { result ≡ is_told turn self.now }
     {
@@ -186,7 +186,7 @@ pub(crate) fn any_on_hold(counts: &[TmCount], commits: u64) -> bool
     counts.iter().any(|one| one.is_kept_on_hold(commits))
 }
 
-/// Whether one was told to hold for the transaction of this number.
+/// Whether one was asked to hold for the transaction of this number.
 pub(crate) fn any_told(counts: &[TmCount], turn: u64) -> bool
     ensures { result ≡ list_any (is_told turn) counts.now }
 {

@@ -13,7 +13,7 @@ use Rattle.sdd_verified.proofs.ValuesKept.{Hold}
 clean : (v : Value) → IsValue v → IsClean v
 clean v h = (value_fine v h).line
 
--- numbers of 64 bits, and values of workloads, are told as they are
+-- numbers of 64 bits, and values of workloads, are reported as they are
 fits_report : (v : Value) → IsValue v → FitsReport v
 fits_report v h = grind arith
 
@@ -83,7 +83,7 @@ module _ (cat : Catalogue) (work : Workload) (text : List ℕ) (sound : IsSoundC
       (order_line work.txns order) _ (order_spells whole work.txns c f txns_named order) answered in
       let everything = spells_both happened (order_words names ∷ (replies_words names replies ++ (shipped ++ (waiting ++ (kept ++ codes "end" ∷ [])))))
       (trace whole work.txns (history r.log)) _ (trace_spells whole work.txns c f txns_named (history r.log)) ordered in
-      subst (Spells all_lines) (sym r.text_is) everything
+      subst (Spells all_lines) (sym r.text_has_replies) everything
 
   pub lines_are : (cut_lines text).0 ≡ all_lines
   lines_are = ap (λ (l : List ℕ). (cut_lines l).0) spelled.is ∙ ap (λ (cut : List (List ℕ) × List ℕ). cut.0) (cut_again all_lines spelled.are)

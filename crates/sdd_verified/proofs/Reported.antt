@@ -181,7 +181,7 @@ module _ (cat : Catalogue) (work : Workload) (text : List ℕ) (sound : IsSoundC
         next_line = follows.line;
         next_other = follows.other;
         rest = follows.rest;
-        text_is = r.text_is ∙ ap (λ (l : List ℕ). l ++ (line ++ (answers ++ after))) (trace_is whole work.txns named.classes names (history r.log))
+        text_is = r.text_has_replies ∙ ap (λ (l : List ℕ). l ++ (line ++ (answers ++ after))) (trace_is whole work.txns named.classes names (history r.log))
             ∙ ap (λ (l : List ℕ). spelled_lines before ++ (l ++ (answers ++ after))) (sym (moved_line cat work valid order all_submitted))
             ∙ ap (λ (l : List ℕ). spelled_lines before ++ (order_line (submitted work) (map (moved cat work valid) order) ++ (l ++ after))) replied
             ∙ ap (λ (l : List ℕ). spelled_lines before ++ (order_line (submitted work)

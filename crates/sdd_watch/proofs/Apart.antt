@@ -1,4 +1,4 @@
--- No run is told of and ended by the limit; and it has one text.
+-- No run is both reported and ended by the limit; and it has one text.
 use Rattle.sdd_watch.proofs.All.{Catalogue, EndsAtLimit, IsInsideOf, IsTheLog, List, Workload, eras_in, input_of, inside_text, limit_or_complete, one_list_of_tables, one_log, subst, sym, ℕ, ◌∙◌, ◌≡◌}
 
 pub text_or_limit : (cat : Catalogue) (work : Workload) (text : List ℕ) → IsInsideOf cat work text → EndsAtLimit cat work → ⊥

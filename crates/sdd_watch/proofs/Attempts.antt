@@ -1,4 +1,4 @@
--- The attempt of a line, as it is told.
+-- The attempt of a line, as it is reported.
 use Rattle.sdd_watch.proofs.All.{Answer, Attempt, ClassNo, DmNo, IsOfHead, List, None, Option, Queued, Some, Ts, TxnNo, [], ap, awaited_by, awaited_in, class_no, dm_no, head_of, lacked_by, map, option_map, phase_by, refl, reported_active, reported_attempt, time_at, tries_of_first, txn_no, unwrap_or, ℕ, ◌∙◌, ◌∷◌, ◌≡◌}
 use Rattle.sdd_inside.specs.declared.standing.Phase as reported
 

@@ -1,4 +1,4 @@
--- What is told before the first event, and of a whole run.
+-- What is reported before the first event, and of a whole run.
 use Rattle.sdd_watch.proofs.All.{AreAllowed, AreTables, Catalogue, ClassList, CopyTable, Event, Input, IsInsideOf, IsReported, IsSoundCatalogue, IsTextOf, IsValid, List, Represents, Teller, Tells, Txn, Watches, Workload, World, [], all_allowed, all_given, ap, arith, beginning, era_of_list, eras_in, eras_with_tables, first_input, length, map, refl, subst, tables_of, tail_of, whole_in, with_events, ℕ, ◌++◌, ◌<◌, ◌^◌, ◌∙◌, ◌≡◌}
 use Rattle.sdd_watch.proofs.TextSoFar.{text_begins}
 use Rattle.sdd_obligations.specs.protocol.declared.entry.Entry.{Entry}
@@ -15,7 +15,7 @@ begins_report g t empty txns copies cat none same first text watches = record {
   watches = watches;
 }
 
--- Before the first event nothing is told but the first line, and the events of the workload may come, one after the other.
+-- Before the first event nothing is reported but the first line, and the events of the workload may come, one by one.
 pub record BeginsAll (cat : Catalogue) (tables : List (List Entry)) (work : Workload) (w : World) (events : List Event) (lists : List ClassList)
     (t : Teller) : Type 0 where
   pub reported : IsReported w (first_input cat tables work) [] t 1

@@ -1,5 +1,5 @@
--- What an event changed is told by cut moments: of a flight by what stands behind the packets that stayed, and of a pipe by what
--- came and was processed.
+-- What an event changed is reported by cut moments: of a flight by what comes after the packets that stayed, and of a
+-- pipe by what came and was processed.
 use Rattle.sdd_watch.proofs.All.{Bool, Delta, Handed, Happened, Input, List, Log, Moment, Msg, Packet, PipeDelta, Put, Site, [], all_links, all_pipes, ap, arith, came, changes, difference, drop, false, found_by, handed_between, if◌then◌else◌, in_flight, is_empty, is_taken, last_event, left_between, left_of, length, link_after, link_before, link_moment, link_of, map, moment_of, on_link, pipe_after, pipe_before, pipe_between, pipe_moment, put_between, queue_between, queues_of, refl, sent, sym, takes_from, true, ℕ, ◌&&◌, ◌++◌, ◌-◌, ◌==◌, ◌∙◌, ◌∷◌, ◌≡◌}
 use Rattle.sdd_inside.specs.Differences.{left}
 

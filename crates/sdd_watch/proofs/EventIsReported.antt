@@ -1,4 +1,4 @@
--- An event is carried out and told, over plain worlds.
+-- An event is carried out and reported, over plain worlds.
 use Rattle.sdd_watch.proofs.All.{Entry, Event, Foreseen, Input, IsLawful, IsPossible, IsReported, IsTellable, IsToTell, IsTurn, List, Log, Mark, None, Redeclare, Redeclares, Represents, Round, Settle, Some, Teller, Tells, Turn, Watch, Watches, World, [], after_mark, ap, arith, change, foreseen_by, from_event, grows, lawful_grows, left, length, line, mark_of, marks, next, one_more, place_in, refl, rests_given, round_in, rounds, single, subst, suc, sym, tail_of, with_event, ℕ, ◌++◌, ◌∙◌, ◌∷◌, ◌≡◌}
 use Rattle.sdd_watch.proofs.EachEvent.{IsMarkedBetween, event_of, goes_to_end, is_between, last_is, one_more_mark}
 use Rattle.sdd_watch.proofs.GivenMore.{first_from, next_mark_is, one_longer}
@@ -29,7 +29,7 @@ tells_given g f log t l h = record {
   watches = watches_given g f log t.watch h.watches;
 }
 
--- What was told is told of the longer log: its line stands behind the text, and what is kept stands at its end.
+-- What was reported is reported of the longer log: its line is after the text, and what is kept is at its end.
 pub record AddsReport (g : Input) (old new : Log) (t t2 : Teller) : Type 0 where
   pub catalogue : t2.catalogue.now ≡ t.catalogue.now
   pub text : t2.text.items ≡ t.text.items ++ line g.catalogue g.txns (change g old new)
@@ -98,7 +98,7 @@ module _ (w w2 : World) (g : Input) (log more : Log) (e : Event) (s : Represents
   step_over : (left (with_event g e).events log).1 ≡ []
   step_over = ap (λ (x : List Event × List Event). x.1) (grows g e log s.calm.rests.lawful) ∙ none_in_round g log s.complete
 
-  -- it is to be told
+  -- it is to be reported
   pub step_to_tell : (t : Teller) (place : ℕ) (turn : Turn) (finds : Foreseen) → IsReported w g log t place
       → turn.event ≡ e → turn.scheduled ≡ place → turn.round ≡ None → finds ≡ foreseen_by e log
       → IsToTell (with_event g e) log more w2 t.watch turn finds
@@ -115,7 +115,7 @@ module _ (w w2 : World) (g : Input) (log more : Log) (e : Event) (s : Represents
         tellable = subst (IsTellable (with_event g e)) (sym event) (tellable_given g e e p);
       }
 
-  -- and told
+  -- and reported
   pub step_reported : (t t2 : Teller) (place : ℕ) → IsReported w g log t place → AddsReport (with_event g e) log more t t2
       → IsReported w2 (with_event g e) more t2 (suc place)
   step_reported t t2 place h gets = record {

@@ -1,4 +1,4 @@
--- What is kept of one event after the other, and what is told of what happened.
+-- What is kept of one event after the other, and what is reported of what happened.
 use Rattle.sdd_watch.proofs.All.{All, All-append, All-cons, All-filter, All-map, All-nil, AreCommits, AreDones, Arrived, Commits, D, Dones, Event, Found, Happened, History, Input, IsBetween, IsGood, IsOver, IsSiteOf, IsTurn, List, Log, Option, RowDelta, Site, SiteState, T, Turn, U, World, ap, arith, arrived, contains, d_site, dm_no, filter, found_by, happened_at, history, is_done_at, length, link_there, list_any, map, marks, pair_cmp, range_with_len, refl, round_at, rows_of, says, scheduled_at, sites, states_of, subst, suc, sym, t_site, take, takes_part, zero, ℕ, ◌++◌, ◌+◌, ◌<◌, ◌||◌, ◌∙◌, ◌≡◌, ◌≤◌}
 use Rattle.sdd_watch.proofs.Recorded.{first_records}
 use Rattle.sdd_watch.proofs.Said.{said_in_all}

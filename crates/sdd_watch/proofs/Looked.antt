@@ -29,7 +29,7 @@ pub record IsRead (old new : Log) (w : WatchedLink) (taken : Bool) (left : ℕ) 
 pub link_there : (g : Input) (old : Log) (l : Site × Site) (w : WatchedLink) → w ≡ watched_link old l → IsLinkOf g l.0 l.1 → IsLinkOf g w.from w.to
 link_there g old l w is linked = subst (λ (x : WatchedLink). IsLinkOf g x.from x.to) (sym is) linked
 
--- the event and what it found are those that are told
+-- the event and what it found are those that are reported
 pub taken_reported : (old new : Log) (w : WatchedLink) (event : Event) (found : Found) (taken : Bool)
     → event ≡ last_event new → found ≡ found_by event old new → taken ≡ is_taken event found (w.from, w.to)
     → taken ≡ is_taken (last_event new) (found_by (last_event new) old new) (w.from, w.to)

@@ -1,4 +1,4 @@
--- Steps of a schedule that is told.
+-- Steps of a schedule that is reported.
 use Rattle.sdd_watch.proofs.All.{ClassList, EndsBy, Err, Event, IfOk, Input, IsAllowed, IsGood, IsPossible, IsReported, IsTextOf, List, Log, Ok, OnOk, Redeclare, Result, Settle, TakesRounds, Teller, TellsSettled, World, WorldEnd, [], ap, arith, false, subst, suc, sym, takes_rounds, with_event, with_events, ℕ, ◌+◌, ◌∙◌, ◌≡◌}
 use Rattle.sdd_watch.proofs.RoundsAreReported.{settle_reported}
 
@@ -51,7 +51,7 @@ pub place_on : (w : World) (g : Input) (log : Log) (t : Teller) (place next : �
     → IsReported w g log t next
 place_on w g log t place next is h = let same : suc place ≡ next = omega (arith, is) in subst (IsReported w g log t) same h
 
--- all events are told
+-- all events are reported
 pub all_reported : (w : World) (now : Input) (log : Log) (t : Teller) (place : ℕ) (events : List Event) (all : Input) → IsReported w now log t place
     → events ≡ [] → with_events now events ≡ all → IsTextOf all t.text.items
 all_reported w now log t place events all h none is =

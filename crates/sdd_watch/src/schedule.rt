@@ -1,4 +1,4 @@
-//! The events of a schedule, carried out one by one, and each of them told.
+//! The events of a schedule, carried out one by one, and each of them reported.
 ghost use Rattle.std.specs.Prelude.{◌≡◌, ◌+◌, ◌^◌, ◌<◌, ◌≤◌, List, [], ◌∷◌, ℕ, suc, length, IfOk, OnOk, IsErrOf};
 ghost use Rattle.sdd_obligations.specs.All.{Event as Happening, Input, IsGood, IsPossible, IsTheLog, Log, Redeclare, TakesRounds, marks, with_event};
 ghost use Rattle.sdd_run.specs.world.Schedules.{AreAllowed, IsAllowed, lists_after, with_events};

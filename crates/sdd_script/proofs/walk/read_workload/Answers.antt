@@ -2,7 +2,7 @@ use Rattle.sdd_script.proofs.All.{Accepts, Catalogue, Err, IfOk, IsSoundCatalogu
 use Rattle.sdd_script.proofs.ReadingLaws.{reads_spelling}
 use Rattle.sdd_script.proofs.walk.read_workload.Goals as goal
 
--- a workload that is told is accepted
+-- a workload that is returned is accepted
 read_is_accepted : (cat : Catalogue) → IsSoundCatalogue cat → IsWhole cat
     → (bytes : List ℕ) (r : Result Workload WorkError) → Tells r (workload cat bytes)
     → IfOk r (λ w. Accepts cat bytes w)
