@@ -65,18 +65,18 @@ unlike_append (x ∷ xs) ys one other apart = grind (arith, among_append, (unlik
 -- where each member can be told from its image
 pub unlike_map : {X Y : Type 0} (f : X → Y) (back : Y → X) (xs : List X) → ((x : X) → back (f x) ≡ x)
     → Unlike xs → Unlike (map f xs)
-unlike_map f back [] told one = tt
-unlike_map f back (x ∷ xs) told one = grind (arith, among_map, Among, (unlike_map f back xs told one.1))
+unlike_map f back [] back_is one = tt
+unlike_map f back (x ∷ xs) back_is one = grind (arith, among_map, Among, (unlike_map f back xs back_is one.1))
 
 pub unlike_filter : {X : Type 0} (p : X → Bool) (xs : List X) → Unlike xs → Unlike (filter p xs)
 unlike_filter p [] one = tt
 unlike_filter p (x ∷ xs) one = grind (arith, Unlike, among_filter, (unlike_filter p xs one.1))
 
--- where it can be told of what each is made
+-- where it is known of what each is made
 pub unlike_flat : {X Y : Type 0} (f : X → List Y) (back : Y → X) (xs : List X)
     → ((x : X) (y : Y) → Among (f x) y → back y ≡ x) → ((x : X) → Unlike (f x)) → Unlike xs → Unlike (flat_map f xs)
-unlike_flat f back [] told each one = tt
-unlike_flat f back (x ∷ xs) told each one = grind (arith, unlike_append, among_flat, (unlike_flat f back xs told each one.1))
+unlike_flat f back [] back_is each one = tt
+unlike_flat f back (x ∷ xs) back_is each one = grind (arith, unlike_append, among_flat, (unlike_flat f back xs back_is each one.1))
 
 -- each has one place
 pub one_place : {X : Type 0} (xs : List X) (j k : ℕ) (x : X) → Unlike xs → slice_get xs j ≡ Some x

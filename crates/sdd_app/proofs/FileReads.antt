@@ -109,29 +109,29 @@ pub long_reports : (cat : Catalogue) (work : Workload) (a b : List ℕ) → MAX_
 long_reports cat work a b la lb = long_report cat work a la ∙ sym (long_report cat work b lb)
 
 -- a file that was read and has at most as many bytes as the limit was read to its end
-pub read_to_end : (files : Option (List ShelfFile)) (limit : ℕ) (was stands : ℕ → Type 0) (told : ℕ → Option Opened)
-    (name read : List ℕ) (f : ℕ) → HasRead limit files was stands told name read f → length read ≤ limit
-    → IsRead files was stands told (ToItsEnd name) f
-read_to_end files limit was stands told name read f h few =
-    record { fresh = h.fresh; opened = h.opened; ended = of_told (told f) h.named (h.ended few) }
+pub read_to_end : (files : Option (List ShelfFile)) (limit : ℕ) (was is_open : ℕ → Type 0) (known : ℕ → Option Opened)
+    (name read : List ℕ) (f : ℕ) → HasRead limit files was is_open known name read f → length read ≤ limit
+    → IsRead files was is_open known (ToItsEnd name) f
+read_to_end files limit was is_open known name read f h few =
+    record { fresh = h.fresh; opened = h.opened; ended = of_known (known f) h.named (h.ended few) }
   where
-    of_told : (opened : Option Opened) → IfSome opened (λ file. file.name ≡ name)
+    of_known : (opened : Option Opened) → IfSome opened (λ file. file.name ≡ name)
         → IfSome opened (λ file. file.unread ≡ []) → IsReadTo files (ToItsEnd name) opened
-    of_told None named ended = tt
-    of_told (Some file) named ended = (named, ended)
+    of_known None named ended = tt
+    of_known (Some file) named ended = (named, ended)
 
 -- and any other exactly one byte past the limit
-pub read_to_limit : (files : Option (List ShelfFile)) (limit : ℕ) (was stands : ℕ → Type 0) (told : ℕ → Option Opened)
-    (name read : List ℕ) (f : ℕ) → HasRead limit files was stands told name read f
-    → IsRead files was stands told (ToItsLimit limit name) f
-read_to_limit files limit was stands told name read f h =
-    record { fresh = h.fresh; opened = h.opened; ended = of_told (told f) h.named h.rest }
+pub read_to_limit : (files : Option (List ShelfFile)) (limit : ℕ) (was is_open : ℕ → Type 0) (known : ℕ → Option Opened)
+    (name read : List ℕ) (f : ℕ) → HasRead limit files was is_open known name read f
+    → IsRead files was is_open known (ToItsLimit limit name) f
+read_to_limit files limit was is_open known name read f h =
+    record { fresh = h.fresh; opened = h.opened; ended = of_known (known f) h.named h.rest }
   where
-    of_told : (opened : Option Opened) → IfSome opened (λ file. file.name ≡ name)
+    of_known : (opened : Option Opened) → IfSome opened (λ file. file.name ≡ name)
         → IfSome files (λ fs. IfSome (find_file fs name) (λ bytes. IfSome opened (λ file. file.unread ≡ drop (limit + 1) bytes)))
         → IsReadTo files (ToItsLimit limit name) opened
-    of_told None named rest = tt
-    of_told (Some file) named rest = (named, rest)
+    of_known None named rest = tt
+    of_known (Some file) named rest = (named, rest)
 
 -- what follows where a call went well
 pub on_ok_by : {T : Type 0} (r : Result T Status) (P : T → Type 0) (Q : Status → Type 0) (R : Type 0) → MatchResult r P Q → ((v : T) → P v → R) → OnOk r R

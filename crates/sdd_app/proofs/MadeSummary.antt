@@ -4,6 +4,6 @@ use Rattle.sdd_app.specs.declared.status.Status.TheVariants as statuses
 
 pub all_made : {A : Type 0} (seed count : ℕ) → count ≤ MAX_TXNS → (r : Result A Status) (text : A → List ℕ)
     → Answers r text (ComesToSummary bank (workload_of seed count)) → Answers r text (ComesToMade seed count)
-all_made seed count few (Ok made) text told = record { summary = told; all_committed = made_summed seed count (text made) few told }
-all_made seed count few (Err statuses.Usage) text told = told
-all_made seed count few (Err _) text told = told
+all_made seed count few (Ok made) text summed = record { summary = summed; all_committed = made_summed seed count (text made) few summed }
+all_made seed count few (Err statuses.Usage) text summed = summed
+all_made seed count few (Err _) text summed = summed

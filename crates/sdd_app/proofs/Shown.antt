@@ -62,10 +62,10 @@ one_of_words fs (Some n) v w p q =
 one_status : (fs : List ShelfFile) (ws : List (List ℕ)) (v w : Verdict) → ComesTo fs ws v → ComesTo fs ws w → status_of v ≡ status_of w
 one_status fs ws v w p q = one_of_words fs (names_in ws) v w p q
 
--- one that printed no text told what it comes to, unless the shelf failed or memory ran out
-pub told_status : (s : Status) (fs : List ShelfFile) (ws : List (List ℕ)) (v : Verdict) → ComesTo fs ws v
+-- one that printed no text reported what it comes to, unless the shelf failed or memory ran out
+pub answered_status : (s : Status) (fs : List ShelfFile) (ws : List (List ℕ)) (v : Verdict) → ComesTo fs ws v
     → Explains s (ComesTo fs ws) → (s ≡ ReadFault → ⊥) → (s ≡ status_of v) ⊎ (s ≡ NoMemory)
-told_status s fs ws v comes e read = by_status s (ComesTo fs ws) v (λ w p. one_status fs ws w v p comes) e read
+answered_status s fs ws v comes e read = by_status s (ComesTo fs ws) v (λ w p. one_status fs ws w v p comes) e read
 
 -- one that prints isn't refused
 pub prints_or_refuses : (fs : List ShelfFile) (ws : List (List ℕ)) (text : List ℕ) (v : Verdict)

@@ -1,12 +1,12 @@
--- What is told of a sink and of files, by cases.
+-- What is known of a sink and of files, by cases.
 use Rattle.sdd_app.proofs.All.{IfSome, List, None, Option, ReadsTo, Rose, Some, TakesOrFaults, [], ap, append-nil, append_assoc, arith, cases_lt, drop, flat_map, flat_map-append, inl, inr, length, length-append, refl, slice_index_or, subst, suc, sym, take, take-append-drop, take-append_seam, take_all, take_more, with_end, zero, ℕ, ◌++◌, ◌+◌, ◌-◌, ◌<◌, ◌∙◌, ◌∷◌, ◌≡◌, ◌≤◌}
 
 -- what a sink took grows by nothing, and by one text after another
-pub end_nothing : (told : Option (List ℕ)) → told ≡ with_end told []
+pub end_nothing : (known : Option (List ℕ)) → known ≡ with_end known []
 end_nothing None = refl
 end_nothing (Some xs) = ap (λ (l : List ℕ). Some l) (sym (append-nil xs))
 
-pub end_more : (told : Option (List ℕ)) (a b : List ℕ) → with_end (with_end told a) b ≡ with_end told (a ++ b)
+pub end_more : (known : Option (List ℕ)) (a b : List ℕ) → with_end (with_end known a) b ≡ with_end known (a ++ b)
 end_more None a b = refl
 end_more (Some xs) a b = ap (λ (l : List ℕ). Some l) (append_assoc xs a b)
 
@@ -64,11 +64,11 @@ flat_map_at f (x ∷ xs) (suc i) d lt =
           ∙ ap (λ (l : List ℕ). l ++ k.0) (sym (append_assoc (f x) (flat_map f (take i xs)) (f (slice_index_or xs i d)))),
     )
 
-abbrev told_bytes : List ℕ → Option (List ℕ)
-told_bytes bytes = Some bytes
+abbrev known_bytes : List ℕ → Option (List ℕ)
+known_bytes bytes = Some bytes
 
-one_told : (x y : List ℕ) → told_bytes x ≡ told_bytes y → x ≡ y
-one_told x y e = cc
+one_known : (x y : List ℕ) → known_bytes x ≡ known_bytes y → x ≡ y
+one_known x y e = cc
 
 -- a file that fits the limit was read whole
 pub reads_back : (limit : ℕ) (file : Option (List ℕ)) (read bytes : List ℕ) → ReadsTo limit file read → file ≡ Some bytes → length bytes ≤ limit → read ≡ bytes
@@ -77,7 +77,7 @@ reads_back limit file read bytes r e fits =
       | inl past ↦ let p : IfSome (Some bytes) (λ bs. (read ≡ take (limit + 1) bs) × (limit < length bs)) =
           subst (λ (o : Option (List ℕ)). IfSome o (λ bs. (read ≡ take (limit + 1) bs) × (limit < length bs)))
           e (r.past past) in absurd (omega (arith, p.1))
-      | inr within ↦ one_told read bytes (sym (r.whole within) ∙ e)
+      | inr within ↦ one_known read bytes (sym (r.whole within) ∙ e)
     ]
 
 -- one piece more
@@ -97,9 +97,9 @@ pub piece_more : (sure_middle sure_now : ℕ → Type 0) (before middle now room
     → ((left : ℕ) → length piece ≤ left → sure_middle left → sure_now (left - length piece))
     → ((left : ℕ) → length piece ≤ left → sure_middle left → now ≡ middle) → next ≡ front ++ piece → text ≡ (front ++ piece) ++ rest → length text ≤ room
     → sure_middle (room - length front) × (middle ≡ before) → sure_now (room - length next) × (now ≡ before)
-piece_more sure_middle sure_now before middle now room text front piece next rest goes stands e whole fits was =
+piece_more sure_middle sure_now before middle now room text front piece next rest goes is_open e whole fits was =
     let within : length front + length piece ≤ length text = piece_fits text front piece rest whole in
     let long : length next ≡ length front + length piece = ap (λ (l : List ℕ). length l) e ∙ length-append front piece in
     let left : length piece ≤ room - length front = omega (arith, within, fits) in
     let same : (room - length front) - length piece ≡ room - length next = omega (arith, long) in
-    (subst sure_now same (goes (room - length front) left was.0), stands (room - length front) left was.0 ∙ was.1)
+    (subst sure_now same (goes (room - length front) left was.0), is_open (room - length front) left was.0 ∙ was.1)

@@ -102,8 +102,8 @@ surely_so P sure shelved free fs command is e holds =
 
 -- a call comes to one status
 
-one_verdict : (told : Option Verdict) (v w : Verdict) → told ≡ Some v → told ≡ Some w → v ≡ w
-one_verdict told v w p q = cc
+one_verdict : (known : Option Verdict) (v w : Verdict) → known ≡ Some v → known ≡ Some w → v ≡ w
+one_verdict known v w p q = cc
 
 one_listing : (listing : Listing) (cat : Catalogue) (v w : Verdict) → ComesToListing listing cat v → ComesToListing listing cat w → status_of v ≡ status_of w
 one_listing listing cat (Prints a) (Prints b) p q = refl
@@ -114,7 +114,7 @@ one_plain : (fs : List ShelfFile) (work : List ℕ) (cat : Catalogue) (v w : Ver
     → ComesToPlain fs work cat v → ComesToPlain fs work cat w → status_of v ≡ status_of w
 one_plain fs work cat v w p q = ap status_of (one_verdict (option_map (plain_verdict cat) (workload_named fs cat work)) v w p q)
 
--- no run that is told of is ended by the limit
+-- no run that is reported is ended by the limit
 pub one_of_run : (IsSuch : List ℕ → Type 0) (cat : Catalogue) (work : Workload) → ((text : List ℕ) → IsSuch text → EndsAtLimit cat work → ⊥) → (v w : Verdict)
     → TellsOfRun IsSuch cat work v → TellsOfRun IsSuch cat work w → status_of v ≡ status_of w
 one_of_run S cat work apart (Prints a) (Prints b) p q = refl
@@ -132,7 +132,7 @@ one_report cat work v w p q = one_of_run (IsReportOn cat work) cat work (report_
 one_made : (seed count : ℕ) (v w : Verdict) → ComesToMade seed count v → ComesToMade seed count w → status_of v ≡ status_of w
 one_made seed count v w p q =
     one_of_run (IsMadeSummary seed count) bank (workload_of seed count)
-    (λ text told ends. summary_or_limit bank (workload_of seed count) text told.summary ends) v w p q
+    (λ text reported ends. summary_or_limit bank (workload_of seed count) text reported.summary ends) v w p q
 
 pub one_over_work : (reading : Option (Result Workload WorkFault)) (G : Workload → Verdict → Type 0)
     (v w : Verdict) → ((work : Workload) → G work v → G work w → status_of v ≡ status_of w)
@@ -179,7 +179,7 @@ one_of_words fs (Some form) v w p q = one_of_form fs form v w p q
 pub one_status : (fs : List ShelfFile) (ws : List (List ℕ)) (v w : Verdict) → ComesTo fs ws v → ComesTo fs ws w → status_of v ≡ status_of w
 one_status fs ws v w p q = one_of_words fs (form_in ws) v w p q
 
--- a call that printed no text told what it comes to, unless the shelf failed or memory ran out
+-- a call that printed no text reported what it comes to, unless the shelf failed or memory ran out
 pub by_status : (s : Status) (P : Verdict → Type 0) (v : Verdict) → ((w : Verdict) → P w → status_of w ≡ status_of v) → Explains s P → (s ≡ ReadFault → ⊥)
     → (s ≡ status_of v) ⊎ (s ≡ NoMemory)
 by_status Usage P v one e read = inl (one NoForm e)
@@ -190,9 +190,9 @@ by_status NoMemory P v one e read = inr refl
 by_status Limit P v one e read = inl (one PastLimit e)
 by_status _ P v one e read = absurd e
 
-pub told_status : (s : Status) (fs : List ShelfFile) (ws : List (List ℕ)) (v : Verdict) → ComesTo fs ws v
+pub answered_status : (s : Status) (fs : List ShelfFile) (ws : List (List ℕ)) (v : Verdict) → ComesTo fs ws v
     → Explains s (ComesTo fs ws) → (s ≡ ReadFault → ⊥) → (s ≡ status_of v) ⊎ (s ≡ NoMemory)
-told_status s fs ws v comes e read = by_status s (ComesTo fs ws) v (λ w p. one_status fs ws w v p comes) e read
+answered_status s fs ws v comes e read = by_status s (ComesTo fs ws) v (λ w p. one_status fs ws w v p comes) e read
 
 pub done_refuses : (v : Verdict) → IsRefusal v → Done ≡ status_of v → ⊥
 done_refuses (Prints text) r e = r
@@ -274,13 +274,13 @@ files_there fs ws v p = words_there fs (form_in ws) v p
 
 -- two files that were opened one after the other, the first of which was read to its end
 pub two_ended : (files files2 : Option (List ShelfFile)) (was between now : ℕ → Type 0)
-    (told_was told_between told_now : ℕ → Option Opened) (a : List ℕ) (ending : Ending) (f g : ℕ) → files2 ≡ files
-    → IsRead files was between told_between (ToItsEnd a) f → KeepsOpen (λ _. Unit {0}) was between told_was told_between
-    → IsRead files2 between now told_now ending g → KeepsOpen (λ _. Unit {0}) between now told_between told_now
-    → FilesRead files was now told_now (ToItsEnd a ∷ ending ∷ [])
-two_ended files files2 was between now told_was told_between told_now a ending f g same first keep1 read keep2 =
+    (known_was known_between known_now : ℕ → Option Opened) (a : List ℕ) (ending : Ending) (f g : ℕ) → files2 ≡ files
+    → IsRead files was between known_between (ToItsEnd a) f → KeepsOpen (λ _. Unit {0}) was between known_was known_between
+    → IsRead files2 between now known_now ending g → KeepsOpen (λ _. Unit {0}) between now known_between known_now
+    → FilesRead files was now known_now (ToItsEnd a ∷ ending ∷ [])
+two_ended files files2 was between now known_was known_between known_now a ending f g same first keep1 read keep2 =
     let later = keep2 f tt first.opened in
-    let second = subst (λ fs. IsRead fs between now told_now ending g) same read in
+    let second = subst (λ fs. IsRead fs between now known_now ending g) same read in
     record {
       files = f ∷ g ∷ [];
       read = (
@@ -292,16 +292,16 @@ two_ended files files2 was between now told_was told_between told_now a ending f
 
 -- and a third
 pub three_ended : (files files2 files3 : Option (List ShelfFile)) (was second third now : ℕ → Type 0)
-    (told_was told2 told3 told : ℕ → Option Opened) (limit : ℕ) (a_name b_name name : List ℕ) (f g h : ℕ) → files3 ≡ files
-    → IsRead files was second told2 (ToItsEnd a_name) f → KeepsOpen (λ _. Unit {0}) was second told_was told2
-    → IsRead files2 second third told3 (ToItsEnd b_name) g → KeepsOpen (λ _. Unit {0}) second third told2 told3
-    → IsRead files3 third now told (ToItsLimit limit name) h → KeepsOpen (λ _. Unit {0}) third now told3 told
-    → FilesRead files was now told (ToItsEnd a_name ∷ ToItsEnd b_name ∷ ToItsLimit limit name ∷ [])
-three_ended files files2 files3 was second third now told_was told2 told3 told limit a_name b_name name f g h same a keep1 b keep2 c keep3 =
+    (known_was known2 known3 known : ℕ → Option Opened) (limit : ℕ) (a_name b_name name : List ℕ) (f g h : ℕ) → files3 ≡ files
+    → IsRead files was second known2 (ToItsEnd a_name) f → KeepsOpen (λ _. Unit {0}) was second known_was known2
+    → IsRead files2 second third known3 (ToItsEnd b_name) g → KeepsOpen (λ _. Unit {0}) second third known2 known3
+    → IsRead files3 third now known (ToItsLimit limit name) h → KeepsOpen (λ _. Unit {0}) third now known3 known
+    → FilesRead files was now known (ToItsEnd a_name ∷ ToItsEnd b_name ∷ ToItsLimit limit name ∷ [])
+three_ended files files2 files3 was second third now known_was known2 known3 known limit a_name b_name name f g h same a keep1 b keep2 c keep3 =
     let a2 = keep2 f tt a.opened in
     let a3 = keep3 f tt a2.0 in
     let b3 = keep3 g tt b.opened in
-    let c' = subst (λ fs. IsRead fs third now told (ToItsLimit limit name) h) same c in
+    let c' = subst (λ fs. IsRead fs third now known (ToItsLimit limit name) h) same c in
     record {
       files = f ∷ g ∷ h ∷ [];
       read = (
@@ -315,12 +315,12 @@ three_ended files files2 files3 was second third now told_was told2 told3 told l
       );
     }
 
-pub one_ended : (files : Option (List ShelfFile)) (was now : ℕ → Type 0) (told : ℕ → Option Opened) (ending : Ending)
-    (f : ℕ) → IsRead files was now told ending f → FilesRead files was now told (ending ∷ [])
-one_ended files was now told ending f first = record { files = f ∷ []; read = (first, tt, tt) }
+pub one_ended : (files : Option (List ShelfFile)) (was now : ℕ → Type 0) (known : ℕ → Option Opened) (ending : Ending)
+    (f : ℕ) → IsRead files was now known ending f → FilesRead files was now known (ending ∷ [])
+one_ended files was now known ending f first = record { files = f ∷ []; read = (first, tt, tt) }
 
 -- of a command that reads no file
 pub none_read : {T : Type 0} (r : Result T Status) (files : Option (List ShelfFile)) (was now : ℕ → Type 0)
-    (told : ℕ → Option Opened) → OnOk r (FilesRead files was now told [])
-none_read (Ok v) files was now told = record { files = []; read = tt }
-none_read (Err s) files was now told = tt
+    (known : ℕ → Option Opened) → OnOk r (FilesRead files was now known [])
+none_read (Ok v) files was now known = record { files = []; read = tt }
+none_read (Err s) files was now known = tt

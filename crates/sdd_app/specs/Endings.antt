@@ -15,17 +15,17 @@ pub data Ending : Type 0 where
 
 -- by the name that the file was opened by, and what is unread of it, where the shelf tells them
 abbrev pub IsReadTo : Option (List ShelfFile) → Ending → Option Opened → Type 0
-IsReadTo files (ToItsEnd name) told = IfSome told (λ file. (file.name ≡ name) × (file.unread ≡ []))
-IsReadTo files (ToItsLimit limit name) told =
-    IfSome told (λ file. (file.name ≡ name)
+IsReadTo files (ToItsEnd name) known = IfSome known (λ file. (file.name ≡ name) × (file.unread ≡ []))
+IsReadTo files (ToItsLimit limit name) known =
+    IfSome known (λ file. (file.name ≡ name)
     × IfSome files (λ fs. IfSome (find_file fs name) (λ bytes. file.unread ≡ drop (limit + 1) bytes)))
 
 -- the file was opened in this call, and read so far
-pub record IsRead (files : Option (List ShelfFile)) (was stands : ℕ → Type 0) (told : ℕ → Option Opened)
+pub record IsRead (files : Option (List ShelfFile)) (was is_open : ℕ → Type 0) (known : ℕ → Option Opened)
     (ending : Ending) (file : ℕ) : Type 0 where
   pub fresh : was file → ⊥
-  pub opened : stands file
-  pub ended : IsReadTo files ending (told file)
+  pub opened : is_open file
+  pub ended : IsReadTo files ending (known file)
 
 -- a file is none of others
 abbrev pub IsNoneOf : ℕ → List ℕ → Type 0
@@ -34,17 +34,17 @@ IsNoneOf file (other ∷ others) = (file ≡ other → ⊥) × IsNoneOf file oth
 
 -- so many different files, each read as far as its ending says
 abbrev pub AreRead : Option (List ShelfFile) → (ℕ → Type 0) → (ℕ → Type 0) → (ℕ → Option Opened) → List Ending → List ℕ → Type 0
-AreRead shelved was stands told [] [] = Unit {0}
-AreRead shelved was stands told [] (file ∷ files) = ⊥
-AreRead shelved was stands told (ending ∷ endings) [] = ⊥
-AreRead shelved was stands told (ending ∷ endings) (file ∷ files) =
-    IsRead shelved was stands told ending file × IsNoneOf file files × AreRead shelved was stands told endings files
+AreRead shelved was is_open known [] [] = Unit {0}
+AreRead shelved was is_open known [] (file ∷ files) = ⊥
+AreRead shelved was is_open known (ending ∷ endings) [] = ⊥
+AreRead shelved was is_open known (ending ∷ endings) (file ∷ files) =
+    IsRead shelved was is_open known ending file × IsNoneOf file files × AreRead shelved was is_open known endings files
 
 -- there are such files
-pub record FilesRead (shelved : Option (List ShelfFile)) (was stands : ℕ → Type 0) (told : ℕ → Option Opened)
+pub record FilesRead (shelved : Option (List ShelfFile)) (was is_open : ℕ → Type 0) (known : ℕ → Option Opened)
     (endings : List Ending) : Type 0 where
   pub files : List ℕ
-  pub read : AreRead shelved was stands told endings files
+  pub read : AreRead shelved was is_open known endings files
 
 -- how far a command of this form that has printed its text has read its files
 abbrev pub endings_of : Form → List Ending
@@ -82,8 +82,8 @@ endings_at_workload form = []
 -- the files of the call of these words, each read as far as such endings of their form say
 abbrev pub AreEnded : (Form → List Ending) → List (List ℕ) → Option (List ShelfFile) → (ℕ → Type 0) → (ℕ → Type 0)
     → (ℕ → Option Opened) → Type 0
-AreEnded endings words shelved was stands told =
-    MatchOption (form_in words) ⊥ (λ form. FilesRead shelved was stands told (endings form))
+AreEnded endings words shelved was is_open known =
+    MatchOption (form_in words) ⊥ (λ form. FilesRead shelved was is_open known (endings form))
 
 -- a command of this form opens no file
 abbrev pub IsWithoutFiles : Form → Type 0

@@ -25,7 +25,7 @@ names_in words = None
 abbrev pub AreNotTwo : List (List ℕ) → Type 0
 AreNotTwo words = (catalogue workload : List ℕ) → words ≡ catalogue ∷ workload ∷ [] → ⊥
 
--- what happens inside the run of a workload is told
+-- what happens inside the run of a workload is reported
 abbrev pub ComesToInside : Catalogue → Workload → Verdict → Type 0
 ComesToInside cat work verdict = TellsOfRun (IsInsideOf cat work) cat work verdict
 
@@ -68,5 +68,5 @@ endings_at_workload names = ToItsEnd names.catalogue ∷ ToItsLimit MAX_WORKLOAD
 -- the files of the call of these words, each read as far as such endings say
 abbrev pub AreEnded : (Names → List Ending) → List (List ℕ) → Option (List ShelfFile) → (ℕ → Type 0) → (ℕ → Type 0)
     → (ℕ → Option Opened) → Type 0
-AreEnded ends words shelved was stands told =
-    MatchOption (names_in words) ⊥ (λ names. FilesRead shelved was stands told (ends names))
+AreEnded ends words shelved was is_open known =
+    MatchOption (names_in words) ⊥ (λ names. FilesRead shelved was is_open known (ends names))

@@ -39,7 +39,8 @@ pub fn read_named<S: Shelf>(
 
 /// The catalogue that the bytes give.
 fn read_catalogue_bytes(alloc: Global, bytes: &[u8]) -> Result<Catalogue, Status>
-    ensures told { MatchResult result (λ catalogue. catalogue_in bytes.now ≡ Ok catalogue) (λ s. Explains s (BlamesCatalogue (Some (catalogue_in bytes.now)))) }
+    ensures answered { MatchResult result (λ catalogue. catalogue_in bytes.now ≡ Ok catalogue)
+        (λ s. Explains s (BlamesCatalogue (Some (catalogue_in bytes.now)))) }
     ensures errors { IfErr result ComesOfFiles }
     ensures read { IfErr result (λ s. s ≡ Status.ReadFault → ⊥) }
 {
@@ -52,7 +53,7 @@ pub fn accepted_catalogue<S: Shelf>(
     shelf: &mut S,
     name: &str,
 ) -> Result<Catalogue, Status>
-    ensures told { (fs : List ShelfFile) → S.files shelf.old ≡ Some fs → MatchResult result
+    ensures answered { (fs : List ShelfFile) → S.files shelf.old ≡ Some fs → MatchResult result
         (λ catalogue. catalogue_named fs name.now ≡ Some (Ok catalogue)) (λ s. Explains s (BlamesCatalogue (catalogue_named fs name.now))) }
     ensures ended { OnOk result ((file : ℕ) × IsRead (S.files shelf.old) (S.is_open shelf.old) (S.is_open shelf.new) (S.opened shelf.new) (ToItsEnd name.now) file) }
     ensures at_fault { IfErr result (AtFault ((file : ℕ) × IsRead (S.files shelf.old) (S.is_open shelf.old)

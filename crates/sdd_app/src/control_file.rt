@@ -17,7 +17,7 @@ use std::alloc::Global;
 
 /// The script that the bytes give.
 fn read_script_bytes(alloc: Global, bytes: &[u8]) -> Result<ControlScript, Status>
-    ensures told { MatchResult result (λ s. control_script bytes.now ≡ Ok s) (λ s. Explains s (BlamesScript (Some (control_script bytes.now)))) }
+    ensures answered { MatchResult result (λ s. control_script bytes.now ≡ Ok s) (λ s. Explains s (BlamesScript (Some (control_script bytes.now)))) }
     ensures sound { IfOk result IsSoundScript }
     ensures errors { IfErr result ComesOfFiles }
     ensures read { IfErr result (λ s. s ≡ Status.ReadFault → ⊥) }
@@ -31,7 +31,7 @@ fn accepted_script<S: Shelf>(
     shelf: &mut S,
     name: &str,
 ) -> Result<ControlScript, Status>
-    ensures told { (fs : List ShelfFile) → S.files shelf.old ≡ Some fs → MatchResult result
+    ensures answered { (fs : List ShelfFile) → S.files shelf.old ≡ Some fs → MatchResult result
         (λ s. script_named fs name.now ≡ Some (Ok s)) (λ s. Explains s (BlamesScript (script_named fs name.now))) }
     ensures sound { IfOk result IsSoundScript }
     ensures ended { OnOk result ((file : ℕ) × IsRead (S.files shelf.old) (S.is_open shelf.old) (S.is_open shelf.new) (S.opened shelf.new) (ToItsEnd name.now) file) }
@@ -48,7 +48,7 @@ fn accepted_script<S: Shelf>(
 
 /// What `control` answers over the script in the file.
 pub fn control_answer<S: Shelf>(alloc: Global, shelf: &mut S, file: &str) -> Result<Pages, Status>
-    ensures told { (fs : List ShelfFile) → S.files shelf.old ≡ Some fs → Answers result (λ v. v) (ComesToControl fs file.now) }
+    ensures answered { (fs : List ShelfFile) → S.files shelf.old ≡ Some fs → Answers result (λ v. v) (ComesToControl fs file.now) }
     ensures ended { OnOk result (FilesRead (S.files shelf.old) (S.is_open shelf.old) (S.is_open shelf.new) (S.opened shelf.new) (ToItsEnd file.now ∷ [])) }
     ensures at_fault { IfErr result (AtFault ⊥ (FilesRead (S.files shelf.old) (S.is_open shelf.old)
         (S.is_open shelf.new) (S.opened shelf.new) (ToItsLimit MAX_WORKLOAD_BYTES file.now ∷ []))) }

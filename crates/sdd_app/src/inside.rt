@@ -26,7 +26,7 @@ use std::alloc::Global;
 /// The text of what happens inside the run of the workload.
 fn inside_bytes(alloc: Global, catalogue: &Catalogue, work: Workload) -> Result<Vec<u8>, Status>
     requires { IsValid catalogue.now work }
-    ensures told { Answers result (λ v. v.items) (ComesToInside catalogue.now work) }
+    ensures answered { Answers result (λ v. v.items) (ComesToInside catalogue.now work) }
     ensures errors { IfErr result ComesOfFiles }
     ensures no_fault { IfErr result (AtFault ⊥ ⊥) }
     ensures read { IfErr result (λ s. s ≡ Status.ReadFault → ⊥) }
@@ -41,7 +41,7 @@ fn inside_answer<S: Shelf>(
     catalogue: &str,
     workload: &str,
 ) -> Result<Vec<u8>, Status>
-    ensures told { (fs : List ShelfFile) → S.files shelf.old ≡ Some fs
+    ensures answered { (fs : List ShelfFile) → S.files shelf.old ≡ Some fs
         → Answers result (λ v. v.items) (OverCatalogue fs catalogue.now (ComesToText fs workload.now)) }
     ensures ended { OnOk result (FilesRead (S.files shelf.old) (S.is_open shelf.old) (S.is_open shelf.new) (S.opened shelf.new)
         (ToItsEnd catalogue.now ∷ ToItsEnd workload.now ∷ [])) }
@@ -85,7 +85,7 @@ fn pair_of<'a>(words: &'a [String]) -> Option<Pair<'a>>
 
 /// The text for the words, or the status of a call that prints none.
 fn answer<S: Shelf>(alloc: Global, words: &[String], shelf: &mut S) -> Result<Vec<u8>, Status>
-    ensures told { (fs : List ShelfFile) → IsOver (S.files shelf.old) fs (map string_bytes words.now)
+    ensures answered { (fs : List ShelfFile) → IsOver (S.files shelf.old) fs (map string_bytes words.now)
         → Answers result (λ v. v.items) (ComesTo fs (map string_bytes words.now)) }
     ensures ended { OnOk result (AreEnded endings (map string_bytes words.now) (S.files shelf.old)
         (S.is_open shelf.old) (S.is_open shelf.new) (S.opened shelf.new)) }
@@ -155,8 +155,8 @@ pub fn run_inside<S: Shelf, O: Sink, E: Sink>(
     ensures silent { result ≢ Status.Done → result ≢ Status.WriteFault → O.taken out.new ≡ O.taken out.old }
     ensures line { TakesOrFaults (E.sure err.old) (E.taken err.old) (E.taken err.new) (E.faults err.old) (E.faults err.new) (inside_line_of result) }
 
-    // What the words and files come to is told, unless memory runs out: where no count rose, and so
-    // over a shelf and a sink that are sure, the shelf of a place for each of the two files.
+    // What the words and files come to is reported, unless memory runs out: where no count rose, and
+    // so over a shelf and a sink that are sure, the shelf of a place for each of the two files.
     ensures complete { (fs : List ShelfFile) (text : List ℕ) → IsOver (S.files shelf.old) fs (map string_bytes words.now)
         → ComesTo fs (map string_bytes words.now) (Prints text)
         → (Rose (S.faults shelf.old) (S.faults shelf.new) → ⊥) → (Rose (O.faults out.old) (O.faults out.new) → ⊥)

@@ -59,7 +59,7 @@ fn report_answer<S: Shelf>(
     report: &str,
 ) -> Result<Pages, Status>
     requires { IsValid catalogue.now work.now }
-    ensures told { (fs : List ShelfFile) → S.files shelf.old ≡ Some fs
+    ensures answered { (fs : List ShelfFile) → S.files shelf.old ≡ Some fs
         → Answers result (λ v. v) (ComesToVerdict fs report.now catalogue.now work.now) }
     ensures ended { OnOk result ((file : ℕ) × IsRead (S.files shelf.old) (S.is_open shelf.old) (S.is_open shelf.new) (S.opened shelf.new) (ToItsLimit MAX_REPORT_BYTES report.now) file) }
     ensures others { KeepsOpen (λ _. Unit {0}) (S.is_open shelf.old) (S.is_open shelf.new) (S.opened shelf.old) (S.opened shelf.new) }
@@ -86,7 +86,7 @@ pub fn verify_answer<S: Shelf>(
     workload: &str,
     report: &str,
 ) -> Result<Pages, Status>
-    ensures told { (fs : List ShelfFile) → S.files shelf.old ≡ Some fs
+    ensures answered { (fs : List ShelfFile) → S.files shelf.old ≡ Some fs
         → Answers result (λ v. v) (OverCatalogue fs catalogue.now (ComesToVerify fs workload.now report.now)) }
     ensures ended { OnOk result (FilesRead (S.files shelf.old) (S.is_open shelf.old) (S.is_open shelf.new) (S.opened shelf.new)
         (ToItsEnd catalogue.now ∷ ToItsEnd workload.now ∷ ToItsLimit MAX_REPORT_BYTES report.now ∷ [])) }

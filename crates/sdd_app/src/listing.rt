@@ -60,7 +60,7 @@ pub fn listing_answer<S: Shelf>(
     catalogue: &str,
     listing: Listing,
 ) -> Result<Pages, Status>
-    ensures told { (fs : List ShelfFile) → S.files shelf.old ≡ Some fs
+    ensures answered { (fs : List ShelfFile) → S.files shelf.old ≡ Some fs
         → Answers result (λ v. v) (OverCatalogue fs catalogue.now (ComesToListing listing)) }
     ensures ended { OnOk result (FilesRead (S.files shelf.old) (S.is_open shelf.old) (S.is_open shelf.new) (S.opened shelf.new) (ToItsEnd catalogue.now ∷ [])) }
     ensures at_fault { IfErr result (AtFault (FilesRead (S.files shelf.old) (S.is_open shelf.old)

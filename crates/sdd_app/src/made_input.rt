@@ -16,7 +16,7 @@ use std::alloc::Global;
 /// The summary of the run of the workload.
 fn summed_up(alloc: Global, catalogue: &Catalogue, work: Workload) -> Result<Pages, Status>
     requires { IsValid catalogue.now work }
-    ensures told { Answers result (λ v. v) (ComesToSummary catalogue.now work) }
+    ensures answered { Answers result (λ v. v) (ComesToSummary catalogue.now work) }
     ensures errors { IfErr result ComesOfFiles }
     ensures no_fault { IfErr result (AtFault ⊥ ⊥) }
     ensures read { IfErr result (λ s. s ≡ Status.ReadFault → ⊥) }
@@ -28,7 +28,7 @@ fn summed_up(alloc: Global, catalogue: &Catalogue, work: Workload) -> Result<Pag
 /// with so many transactions.
 pub fn make_answer(alloc: Global, seed: u32, count: u32) -> Result<Pages, Status>
     requires { count ≤ MAX_TXNS }
-    ensures told { Answers result (λ v. v) (ComesToMade seed count) }
+    ensures answered { Answers result (λ v. v) (ComesToMade seed count) }
     ensures errors { IfErr result ComesOfFiles }
     ensures no_fault { IfErr result (AtFault ⊥ ⊥) }
     ensures read { IfErr result (λ s. s ≡ Status.ReadFault → ⊥) }

@@ -28,7 +28,7 @@ fn carry_out_command<S: Shelf>(
     shelf: &mut S,
 ) -> Result<Pages, Status>
     requires { IsForm (form_of command) }
-    ensures told { (fs : List ShelfFile) → FormIsOver (S.files shelf.old) fs (form_of command.entry)
+    ensures answered { (fs : List ShelfFile) → FormIsOver (S.files shelf.old) fs (form_of command.entry)
         → Answers result (λ v. v) (FormComesTo fs (form_of command.entry)) }
     ensures ended { OnOk result (FilesRead (S.files shelf.old) (S.is_open shelf.old) (S.is_open shelf.new)
         (S.opened shelf.new) (endings_of (form_of command.entry))) }
@@ -61,7 +61,7 @@ fn carry_out_command<S: Shelf>(
 
 /// The text for the words, or the status of a call that prints none.
 fn answer<S: Shelf>(alloc: Global, words: &[String], shelf: &mut S) -> Result<Pages, Status>
-    ensures told { (fs : List ShelfFile) → IsOver (S.files shelf.old) fs (map string_bytes words.now)
+    ensures answered { (fs : List ShelfFile) → IsOver (S.files shelf.old) fs (map string_bytes words.now)
         → Answers result (λ v. v) (ComesTo fs (map string_bytes words.now)) }
     ensures ended { OnOk result (AreEnded endings_of (map string_bytes words.now) (S.files shelf.old)
         (S.is_open shelf.old) (S.is_open shelf.new) (S.opened shelf.new)) }
@@ -131,8 +131,8 @@ pub fn run_sdd1<S: Shelf, O: Sink, E: Sink>(
     ensures silent { result ≢ Status.Done → result ≢ Status.WriteFault → O.taken out.new ≡ O.taken out.old }
     ensures line { TakesOrFaults (E.sure err.old) (E.taken err.old) (E.taken err.new) (E.faults err.old) (E.faults err.new) (line_of result) }
 
-    // What the words and files come to is told, unless memory runs out: where no count rose, and so
-    // over a shelf and a sink that are sure, the shelf of a place for each file that the words name.
+    // What the words and files come to is reported, unless memory runs out: where no count rose, and
+    // so over a shelf and a sink that are sure, the shelf of a place for each file that the words name.
     ensures complete { (fs : List ShelfFile) (text : List ℕ) → IsOver (S.files shelf.old) fs (map string_bytes words.now)
         → ComesTo fs (map string_bytes words.now) (Prints text)
         → (Rose (S.faults shelf.old) (S.faults shelf.new) → ⊥) → (Rose (O.faults out.old) (O.faults out.new) → ⊥)

@@ -22,7 +22,7 @@ use std::alloc::Global;
 /// The report on the run of the workload.
 fn report_pages_of(alloc: Global, catalogue: &Catalogue, work: Workload) -> Result<Pages, Status>
     requires { IsValid catalogue.now work }
-    ensures told { Answers result (λ v. v) (ComesToReport catalogue.now work) }
+    ensures answered { Answers result (λ v. v) (ComesToReport catalogue.now work) }
     ensures errors { IfErr result ComesOfFiles }
     ensures no_fault { IfErr result (AtFault ⊥ ⊥) }
     ensures read { IfErr result (λ s. s ≡ Status.ReadFault → ⊥) }
@@ -37,7 +37,7 @@ pub fn plain_answer<S: Shelf>(
     catalogue: &str,
     workload: &str,
 ) -> Result<Pages, Status>
-    ensures told { (fs : List ShelfFile) → S.files shelf.old ≡ Some fs
+    ensures answered { (fs : List ShelfFile) → S.files shelf.old ≡ Some fs
         → Answers result (λ v. v) (OverCatalogue fs catalogue.now (ComesToPlain fs workload.now)) }
     ensures ended { OnOk result (FilesRead (S.files shelf.old) (S.is_open shelf.old) (S.is_open shelf.new) (S.opened shelf.new)
         (ToItsEnd catalogue.now ∷ ToItsEnd workload.now ∷ [])) }
@@ -64,7 +64,7 @@ pub fn run_answer<S: Shelf>(
     catalogue: &str,
     workload: &str,
 ) -> Result<Pages, Status>
-    ensures told { (fs : List ShelfFile) → S.files shelf.old ≡ Some fs
+    ensures answered { (fs : List ShelfFile) → S.files shelf.old ≡ Some fs
         → Answers result (λ v. v) (OverCatalogue fs catalogue.now (ComesToRun fs workload.now)) }
     ensures ended { OnOk result (FilesRead (S.files shelf.old) (S.is_open shelf.old) (S.is_open shelf.new) (S.opened shelf.new)
         (ToItsEnd catalogue.now ∷ ToItsEnd workload.now ∷ [])) }

@@ -22,7 +22,7 @@ fn read_workload_bytes(
     bytes: &[u8],
     catalogue: &Catalogue,
 ) -> Result<Workload, Status>
-    ensures told { MatchResult result
+    ensures answered { MatchResult result
         (λ w. workload catalogue.now bytes.now ≡ Ok w) (λ s. Explains s (BlamesWorkload (Some (workload catalogue.now bytes.now)))) }
     ensures valid { IfOk result (λ w. IsValid catalogue.now w) }
     ensures errors { IfErr result ComesOfFiles }
@@ -38,7 +38,7 @@ pub fn accepted_workload<S: Shelf>(
     name: &str,
     catalogue: &Catalogue,
 ) -> Result<Workload, Status>
-    ensures told { (fs : List ShelfFile) → S.files shelf.old ≡ Some fs → MatchResult result
+    ensures answered { (fs : List ShelfFile) → S.files shelf.old ≡ Some fs → MatchResult result
         (λ w. workload_named fs catalogue.now name.now ≡ Some (Ok w))
         (λ s. Explains s (BlamesWorkload (workload_named fs catalogue.now name.now))) }
     ensures valid { IfOk result (λ w. IsValid catalogue.now w) }

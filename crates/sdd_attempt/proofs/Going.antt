@@ -49,7 +49,7 @@ past_first ts c x z q counts steps none_done rest next same some first e f none 
     let asks : None ≡ option_map (move_at q.before) (next_move q.conds (counts_for x.counts q) x.done) =
     grind (arith, nat_tests, option_map, move_of, move_at, next_move, counts_for) in
     ap (λ l. goes_on ts c (record x { left = l; done = none_done }) l none_done) g
-    ∙ ap (λ ds. goes_on ts c (record x { left = drop 1 x.left; done = ds }) (drop 1 x.left) ds) h
+    ∙ ap (λ done_steps. goes_on ts c (record x { left = drop 1 x.left; done = done_steps }) (drop 1 x.left) done_steps) h
     ∙ goes_past ts c x q (drop 1 x.left) x.done (no_move (move_at q.before) (next_move q.conds (counts_for x.counts q) x.done) asks)
     ∙ ap (λ l. goes_on ts c x l x.done) (sym (first_of x.left q some first)) ∙ ap (λ y. goes_on ts c y y.left y.done) same
 
@@ -60,7 +60,7 @@ pub to_first : (ts c : ℕ) (x z : Exchange) (q : Asking) (counts : List ℕ) (s
 to_first ts c x z q counts steps more one next same some first e f has asked g =
     let asks : Some (move_of one) ≡ option_map (move_at q.before) (next_move q.conds (counts_for x.counts q) x.done) =
     sym (ap (option_map move_of) has) ∙ asked ∙ ap (λ ns. option_map (move_at q.before) (next_move q.conds ns steps)) e
-    ∙ ap (λ ds. option_map (move_at q.before) (next_move q.conds (counts_for x.counts q) ds)) f in
+    ∙ ap (λ done_steps. option_map (move_at q.before) (next_move q.conds (counts_for x.counts q) done_steps)) f in
     let m = a_move (move_at q.before) (next_move q.conds (counts_for x.counts q) x.done) (move_of one) asks in
     let left : x.left ≡ q ∷ drop 1 x.left = first_of x.left q some first in
     ap (λ l. fetches ts c (move_of one) (record x { left = l; done = more })) left
@@ -80,8 +80,8 @@ goes_grows ts c x (q ∷ rest) steps = grind (arith, goes_grows ts c x rest [])
 ends_grows : (ts c : ℕ) (x : Exchange) (p : Phase) → x.values ≤ (phase_ends ts c x p).values
 ends_grows ts c x p = grind (arith, reduces_grows, goes_grows)
 
-lacking_grows : (ts c : ℕ) (x : Exchange) (ds : List ℕ) → x.values ≤ (lacking ts c x ds).values
-lacking_grows ts c x ds = grind (arith, ends_grows)
+lacking_grows : (ts c : ℕ) (x : Exchange) (dms : List ℕ) → x.values ≤ (lacking ts c x dms).values
+lacking_grows ts c x dms = grind (arith, ends_grows)
 
 pub answered_grows : (ts c d : ℕ) (x : Exchange) → x.values ≤ (answered ts c d x).values
 answered_grows ts c d x = lacking_grows ts c x (without x.lacks d)

@@ -5,12 +5,12 @@ use Rattle.sdd_attempt.proofs.All.{AllByRecursion, Asking, Exchange, Fetch, List
 -- a property of what comes of an exchange, by the ways in which it goes on
 
 fetches_keep : (P : Exchange → Type 0) (ts c : ℕ) (m : Move) (x : Exchange) → ((y : Exchange) → y.modules ≡ x.modules → P (reduces ts c m y))
-    → ((d : ℕ) (ds : List ℕ) → P (fetches_from ts c m x (d ∷ ds))) → (ds : List ℕ) → P (fetches_from ts c m x ds)
+    → ((d : ℕ) (dms : List ℕ) → P (fetches_from ts c m x (d ∷ dms))) → (dms : List ℕ) → P (fetches_from ts c m x dms)
 fetches_keep P ts c m x reduced asked [] = reduced (record x { union = [] }) refl
-fetches_keep P ts c m x reduced asked (d ∷ ds) = asked d ds
+fetches_keep P ts c m x reduced asked (d ∷ dms) = asked d dms
 
 goes_keep : (P : Exchange → Type 0) (ts c : ℕ) (x : Exchange) → ((m : Move) (y : Exchange) → y.modules ≡ x.modules → P (reduces ts c m y))
-    → ((m : Move) (y : Exchange) (d : ℕ) (ds : List ℕ) → y.modules ≡ x.modules → P (fetches_from ts c m y (d ∷ ds))) → P (ships ts c x)
+    → ((m : Move) (y : Exchange) (d : ℕ) (dms : List ℕ) → y.modules ≡ x.modules → P (fetches_from ts c m y (d ∷ dms))) → P (ships ts c x)
     → (qs : List Asking) (done : List Step) → P (goes_on ts c x qs done)
 goes_keep P ts c x reduced asked shipped [] done = shipped
 goes_keep P ts c x reduced asked shipped (q ∷ rest) done =
@@ -22,7 +22,7 @@ goes_keep P ts c x reduced asked shipped (q ∷ rest) done =
       | Some m ↦
           let y : Exchange = record x { left = q ∷ rest; done = done ++ m.step ∷ [] } in
           let move : Move = move_at q.before m in
-          fetches_keep P ts c move y (λ z e. reduced move z e) (λ d ds. asked move y d ds refl) (with_use y move.source.part)
+          fetches_keep P ts c move y (λ z e. reduced move z e) (λ d dms. asked move y d dms refl) (with_use y move.source.part)
     ]
 
 -- its modules
@@ -34,8 +34,8 @@ goes_modules ts c x (q ∷ rest) done = grind (arith, goes_modules ts c x rest [
 pub ends_modules : (ts c : ℕ) (x : Exchange) (p : Phase) → (phase_ends ts c x p).modules ≡ x.modules
 ends_modules ts c x p = grind (arith, goes_modules)
 
-pub lacking_modules : (ts c : ℕ) (x : Exchange) (ds : List ℕ) → (lacking ts c x ds).modules ≡ x.modules
-lacking_modules ts c x ds = grind (arith, ends_modules)
+pub lacking_modules : (ts c : ℕ) (x : Exchange) (dms : List ℕ) → (lacking ts c x dms).modules ≡ x.modules
+lacking_modules ts c x dms = grind (arith, ends_modules)
 
 -- an exchange with other counts, values or rows
 
@@ -60,28 +60,28 @@ AllAsk ts c ms = AllByRecursion (λ m. asks_rows ts c m.1 ≡ true) ms
 pub own : (ts c : ℕ) → ((ts == ts) && (c == c)) ≡ true
 own ts c = rw (eq-eqb ts ts refl, eq-eqb c c refl) refl
 
-all_ask : (ts c : ℕ) (m : Msg) (ds : List ℕ) → asks_rows ts c m ≡ true → AllAsk ts c (to_all m ds)
+all_ask : (ts c : ℕ) (m : Msg) (dms : List ℕ) → asks_rows ts c m ≡ true → AllAsk ts c (to_all m dms)
 all_ask ts c m [] e = tt
-all_ask ts c m (d ∷ ds) e = (e, all_ask ts c m ds e)
+all_ask ts c m (d ∷ dms) e = (e, all_ask ts c m dms e)
 
 reduces_ask : (ts c : ℕ) (m : Move) (x : Exchange) → AllAsk ts c (reduces ts c m x).to_send
 reduces_ask ts c m x = all_ask ts c (Reduce (time_at ts) (class_no c) m.target.part m.target.column x.union) (with_use x m.target.part) (own ts c)
 
-fetches_ask : (ts c : ℕ) (m : Move) (x : Exchange) (d : ℕ) (ds : List ℕ) → AllAsk ts c (fetches_from ts c m x (d ∷ ds)).to_send
-fetches_ask ts c m x d ds = all_ask ts c (Fetch (time_at ts) (class_no c) m.source.part m.source.column) (d ∷ ds) (own ts c)
+fetches_ask : (ts c : ℕ) (m : Move) (x : Exchange) (d : ℕ) (dms : List ℕ) → AllAsk ts c (fetches_from ts c m x (d ∷ dms)).to_send
+fetches_ask ts c m x d dms = all_ask ts c (Fetch (time_at ts) (class_no c) m.source.part m.source.column) (d ∷ dms) (own ts c)
 
 ships_ask : (ts c : ℕ) (x : Exchange) → AllAsk ts c (ships ts c x).to_send
 ships_ask ts c x = all_ask ts c (Ship (time_at ts) (class_no c)) (map (λ m. m.0) x.modules) (own ts c)
 
 goes_ask : (ts c : ℕ) (x : Exchange) (qs : List Asking) (done : List Step) → AllAsk ts c (goes_on ts c x qs done).to_send
 goes_ask ts c x qs done =
-    goes_keep (λ y. AllAsk ts c y.to_send) ts c x (λ m y e. reduces_ask ts c m y) (λ m y d ds e. fetches_ask ts c m y d ds) (ships_ask ts c x) qs done
+    goes_keep (λ y. AllAsk ts c y.to_send) ts c x (λ m y e. reduces_ask ts c m y) (λ m y d dms e. fetches_ask ts c m y d dms) (ships_ask ts c x) qs done
 
 ends_ask : (ts c : ℕ) (x : Exchange) → AllAsk ts c x.to_send → (p : Phase) → AllAsk ts c (phase_ends ts c x p).to_send
 ends_ask ts c x h p = grind (arith, reduces_ask, goes_ask)
 
-lacking_ask : (ts c : ℕ) (x : Exchange) → AllAsk ts c x.to_send → (ds : List ℕ) → AllAsk ts c (lacking ts c x ds).to_send
-lacking_ask ts c x h ds = grind (arith, ends_ask)
+lacking_ask : (ts c : ℕ) (x : Exchange) → AllAsk ts c x.to_send → (dms : List ℕ) → AllAsk ts c (lacking ts c x dms).to_send
+lacking_ask ts c x h dms = grind (arith, ends_ask)
 
 pub asks_stay : (ts c d : ℕ) (m : Msg) (x : Exchange) → AllAsk ts c x.to_send → AllAsk ts c (after_hand ts c d m x).to_send
 asks_stay ts c d m x h = grind (arith, lacking_ask)
@@ -94,14 +94,14 @@ goes_not_over ts c x (q ∷ rest) done = grind (arith, goes_not_over ts c x rest
 
 -- the answers of phases before the last don't make an exchange over
 
-pub ready_not_over : (ts c : ℕ) (x : Exchange) (ds : List ℕ) → is_reading x.phase ≡ true → is_over (lacking ts c x ds).phase ≡ false
-ready_not_over ts c x ds e = grind (arith, goes_not_over)
+pub ready_not_over : (ts c : ℕ) (x : Exchange) (dms : List ℕ) → is_reading x.phase ≡ true → is_over (lacking ts c x dms).phase ≡ false
+ready_not_over ts c x dms e = grind (arith, goes_not_over)
 
-pub values_not_over : (ts c u : ℕ) (x : Exchange) (ds : List ℕ) → fetches_use u x.phase ≡ true → is_over (lacking ts c x ds).phase ≡ false
-values_not_over ts c u x ds e = grind (arith, goes_not_over)
+pub values_not_over : (ts c u : ℕ) (x : Exchange) (dms : List ℕ) → fetches_use u x.phase ≡ true → is_over (lacking ts c x dms).phase ≡ false
+values_not_over ts c u x dms e = grind (arith, goes_not_over)
 
-pub reduced_not_over : (ts c u : ℕ) (x : Exchange) (ds : List ℕ) → reduces_use u x.phase ≡ true → is_over (lacking ts c x ds).phase ≡ false
-reduced_not_over ts c u x ds e = grind (arith, goes_not_over)
+pub reduced_not_over : (ts c u : ℕ) (x : Exchange) (dms : List ℕ) → reduces_use u x.phase ≡ true → is_over (lacking ts c x dms).phase ≡ false
+reduced_not_over ts c u x dms e = grind (arith, goes_not_over)
 
 -- such an answer comes where no READY is awaited
 
@@ -116,12 +116,13 @@ shipping_not_reading p e = grind arith
 
 -- after the READY of module d that of another module is awaited as before
 
-still_there : (ds : List ℕ) (d e : ℕ) → e ≢ d → contains ds e ≡ true → contains (without ds d) e ≡ true
+still_there : (dms : List ℕ) (d e : ℕ) → e ≢ d → contains dms e ≡ true → contains (without dms d) e ≡ true
 still_there [] d e apart h = h
-still_there (x ∷ ds) d e apart h = grind (arith, contains, without, ne_eqb, eqb-true, (still_there ds d e apart))
+still_there (x ∷ dms) d e apart h = grind (arith, contains, without, ne_eqb, eqb-true, (still_there dms d e apart))
 
-lacking_awaits : (ts c : ℕ) (x : Exchange) (ds : List ℕ) (e : ℕ) → is_reading x.phase ≡ true → contains ds e ≡ true → awaits_ready (lacking ts c x ds) e ≡ true
-lacking_awaits ts c x ds e r h = grind arith
+lacking_awaits : (ts c : ℕ) (x : Exchange) (dms : List ℕ) (e : ℕ) → is_reading x.phase ≡ true → contains dms e ≡ true
+    → awaits_ready (lacking ts c x dms) e ≡ true
+lacking_awaits ts c x dms e r h = grind arith
 
 pub others_awaited : (ts c d e : ℕ) (x y : Exchange) → y.phase ≡ x.phase → e ≢ d → awaits_ready x e ≡ true
     → awaits_ready (lacking ts c y (without x.lacks d)) e ≡ true

@@ -26,10 +26,11 @@ by_first : (c : ℕ) (q : queues.Queued) (rest : List queues.Queued) (r : Runnin
     ≡ at_place c (Some (attempt_of q r)) (cond here (Some 0) (position_from (λ x. x.number == n) 1 rest))
 by_first c q rest r n here mine e same = grind (arith, behind, position_from-zero, later)
 
-pub standing_told : (cat : Catalogue) (c : ℕ) (queue : List queues.Queued) (r : Option Running) (n : ℕ) → IsLine cat c queue r
+pub standing_by_place : (cat : Catalogue) (c : ℕ) (queue : List queues.Queued) (r : Option Running) (n : ℕ) → IsLine cat c queue r
     → standing_by c queue (active_of queue r) n ≡ at_place c (active_of queue r) (position (λ q. q.number == n) queue)
-standing_told cat c [] None n line = refl
-standing_told cat c [] (Some r) n line = absurd line.runs
-standing_told cat c (q ∷ queue) None n line = idle_at c (position (λ x. x.number == n) (q ∷ queue))
-standing_told cat c (q ∷ queue) (Some r) n line = by_first c q queue r n (q.number == n) (q.number == q.number) (itself q.number) (all_kept q.number queue line.distinct.0)
+standing_by_place cat c [] None n line = refl
+standing_by_place cat c [] (Some r) n line = absurd line.runs
+standing_by_place cat c (q ∷ queue) None n line = idle_at c (position (λ x. x.number == n) (q ∷ queue))
+standing_by_place cat c (q ∷ queue) (Some r) n line =
+    by_first c q queue r n (q.number == n) (q.number == q.number) (itself q.number) (all_kept q.number queue line.distinct.0)
     ∙ ap (at_place c (Some (attempt_of q r))) (sym (position_from-zero (λ x. x.number == n) (q ∷ queue)))

@@ -43,7 +43,7 @@ pub put_among : (xs : List DmNo) (d x : DmNo) (i : ℕ) → position (λ n. not 
 put_among xs d x i e at other =
     among x xs d i e ∙ ap (λ t. map number (cond t xs (insert xs i d))) (ap (λ (y : DmNo). y.0 == d.0) (sym at) ∙ differs x.0 d.0 other)
 
-pub stands_among : (xs : List DmNo) (d x : DmNo) (i : ℕ) → position (λ n. not (nat_lt n.0 d.0)) xs ≡ Some i → x ≡ get_or xs i x → x.0 ≡ d.0
+pub is_found_among : (xs : List DmNo) (d x : DmNo) (i : ℕ) → position (λ n. not (nat_lt n.0 d.0)) xs ≡ Some i → x ≡ get_or xs i x → x.0 ≡ d.0
     → insert_key nat_cmp (map (λ n. n.0) xs) d.0 ≡ map (λ n. n.0) xs
-stands_among xs d x i e at same =
+is_found_among xs d x i e at same =
     among x xs d i e ∙ ap (λ t. map number (cond t xs (insert xs i d))) (ap (λ (y : DmNo). y.0 == d.0) (sym at) ∙ agrees x.0 d.0 same)

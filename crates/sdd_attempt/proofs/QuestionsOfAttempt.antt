@@ -131,11 +131,11 @@ reads_both ts c modules (m ∷ ms) ns h k = (h.0, reads_both ts c modules ms ns 
 
 -- READs to modules
 abbrev pub AreReads : List (Site × Msg) → List ℕ → Type 0
-AreReads sends ds = AllByRecursion (λ m. (d : ℕ) × (m.0 ≡ D (dm_no d)) × (contains ds d ≡ true)) sends
+AreReads sends dms = AllByRecursion (λ m. (d : ℕ) × (m.0 ≡ D (dm_no d)) × (contains dms d ≡ true)) sends
 
-reads_to : (ts c : ℕ) (ds : List ℕ) (sends : List (Site × Msg)) → AreReads sends ds → ReadsWent ts c ds sends
-reads_to ts c ds [] h = tt
-reads_to ts c ds (m ∷ sends) h = (λ e. subst (IsModuleOf ds) (sym h.0.1) h.0.2, reads_to ts c ds sends h.1)
+reads_to : (ts c : ℕ) (dms : List ℕ) (sends : List (Site × Msg)) → AreReads sends dms → ReadsWent ts c dms sends
+reads_to ts c dms [] h = tt
+reads_to ts c dms (m ∷ sends) h = (λ e. subst (IsModuleOf dms) (sym h.0.1) h.0.2, reads_to ts c dms sends h.1)
 
 all_awaited : (ms : List (ℕ × List ℕ)) (e : ℕ) → contains (map (λ m. m.0) ms) e ≡ true
     → (is_reading (first_phase ms) && contains (map (λ m. m.0) ms) e) ≡ true

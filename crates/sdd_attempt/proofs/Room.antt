@@ -41,8 +41,8 @@ pub record CanMove (x : Exchange) : Type 0 where
   pub values : x.values + for_move (length x.modules) + moves_left x.left x.done * for_move (length x.modules) < 2 ^ 128
   pub rows : x.rows ≡ length x.found
 
-from_room : (ts c : ℕ) (m : Move) (x : Exchange) (ds : List ℕ) → length ds ≤ length x.modules → CanMove x → HasRoom (fetches_from ts c m x ds)
-from_room ts c m x ds few can = grind arith
+from_room : (ts c : ℕ) (m : Move) (x : Exchange) (dms : List ℕ) → length dms ≤ length x.modules → CanMove x → HasRoom (fetches_from ts c m x dms)
+from_room ts c m x dms few can = grind arith
 
 fetches_room : (ts c : ℕ) (m : Move) (x : Exchange) → CanMove x → HasRoom (fetches ts c m x)
 fetches_room ts c m x can = from_room ts c m x (with_use x m.source.part) (few_with_use x m.source.part) can
@@ -81,8 +81,8 @@ ends_room ts c x Shipping e room = record { small = room.small; values = omega (
 ends_room ts c x Over e room = room
 ends_room ts c x _ e room = goes_room ts c x x.left x.done room.small room.rows (omega (arith, room.values))
 
-lacking_room : (ts c : ℕ) (x : Exchange) (ds : List ℕ) → HasRoom (record x { lacks = ds }) → HasRoom (lacking ts c x ds)
-lacking_room ts c x ds room = grind (arith, ends_room)
+lacking_room : (ts c : ℕ) (x : Exchange) (dms : List ℕ) → HasRoom (record x { lacks = dms }) → HasRoom (lacking ts c x dms)
+lacking_room ts c x dms room = grind (arith, ends_room)
 
 -- answers
 

@@ -16,8 +16,8 @@ shipping_not_over : (p : Phase) → is_shipping p ≡ true → is_over p ≡ fal
 shipping_not_over p e = grind arith
 
 last_rows : (s : Setting) (bases : Bases) (a : Attempt) (rows : List (ℕ × Row)) (c : ℕ) (y : Exchange) → y.found ≡ a.exchange.found ++ rows
-    → is_shipping y.phase ≡ true → (ds : List ℕ) → ServesIfLast s bases a rows ds → ServesOver s.catalogue a.text (bases a.ts) (lacking a.ts c y ds)
-last_rows s bases a rows c y found e ds h = grind arith
+    → is_shipping y.phase ≡ true → (dms : List ℕ) → ServesIfLast s bases a rows dms → ServesOver s.catalogue a.text (bases a.ts) (lacking a.ts c y dms)
+last_rows s bases a rows c y found e dms h = grind arith
 
 if_serves : (cat : Catalogue) (txn : Txn) (db : Database) (b : Bool) (x y : Exchange) → (b ≡ true → ServesOver cat txn db y) → ServesOver cat txn db x
     → ServesOver cat txn db (cond b y x)

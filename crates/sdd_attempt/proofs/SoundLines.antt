@@ -95,10 +95,10 @@ line_sent s c log act a is e h = line_requests s c log act (active s c log) a re
 
 -- the Commit
 
-writes_no_reads : (cat : Catalogue) (c : ℕ) (a : Attempt) (changes : List Change) (ts k : ℕ) (ds : List ℕ)
-    → NoReads ts k (filter_map (write_to cat c a changes) ds)
+writes_no_reads : (cat : Catalogue) (c : ℕ) (a : Attempt) (changes : List Change) (ts k : ℕ) (dms : List ℕ)
+    → NoReads ts k (filter_map (write_to cat c a changes) dms)
 writes_no_reads cat c a changes ts k [] = tt
-writes_no_reads cat c a changes ts k (d ∷ ds) = grind (arith, writes_no_reads cat c a changes ts k ds)
+writes_no_reads cat c a changes ts k (d ∷ dms) = grind (arith, writes_no_reads cat c a changes ts k dms)
 
 pub commit_no_reads : (cat : Catalogue) (bases : Bases) (c : ℕ) (a : Attempt) (ts k : ℕ) → NoReads ts k (sends_of_act (commit_act cat bases c a))
 commit_no_reads cat bases c a ts k = writes_no_reads cat c a (effect cat (bases a.ts) a.text).changes ts k (numbers_to cat.dms)
@@ -121,31 +121,31 @@ line_committed s bases c log a h =
 
 module _ (cat : Catalogue) (table : List line.Entry) (c : ℕ) (q : Queued) (uses : List Use) (own p2 : ℕ) where
   abbrev reads_of : List ℕ → List (Site × Msg)
-  reads_of ds = map (read_to cat table c q uses own p2) ds
+  reads_of dms = map (read_to cat table c q uses own p2) dms
 
-  modules_read : (ds : List ℕ) → map (λ (m : ℕ × List ℕ). m.0) (filter_map module_read (reads_of ds)) ≡ ds
+  modules_read : (dms : List ℕ) → map (λ (m : ℕ × List ℕ). m.0) (filter_map module_read (reads_of dms)) ≡ dms
   modules_read [] = refl
-  modules_read (d ∷ ds) = ap (λ es. d ∷ es) (modules_read ds)
+  modules_read (d ∷ dms) = ap (λ es. d ∷ es) (modules_read dms)
 
-  are_reads : (all ds : List ℕ) → AllByRecursion (λ d. contains all d ≡ true) ds → AreReads (reads_of ds) all
+  are_reads : (all dms : List ℕ) → AllByRecursion (λ d. contains all d ≡ true) dms → AreReads (reads_of dms) all
   are_reads all [] h = tt
-  are_reads all (d ∷ ds) h = ((d, refl, h.0), are_reads all ds h.1)
+  are_reads all (d ∷ dms) h = ((d, refl, h.0), are_reads all dms h.1)
 
-  reads_of_class : (ts k : ℕ) (ds : List ℕ) → c ≢ k → NoReads ts k (reads_of ds)
+  reads_of_class : (ts k : ℕ) (dms : List ℕ) → c ≢ k → NoReads ts k (reads_of dms)
   reads_of_class ts k [] h = tt
-  reads_of_class ts k (d ∷ ds) h = (other_class ts own c k h, reads_of_class ts k ds h)
+  reads_of_class ts k (d ∷ dms) h = (other_class ts own c k h, reads_of_class ts k dms h)
 
-  reads_up : (ds : List ℕ) → AllUpTo own (reads_of ds)
+  reads_up : (dms : List ℕ) → AllUpTo own (reads_of dms)
   reads_up [] = tt
-  reads_up (d ∷ ds) = (omega arith, reads_up ds)
+  reads_up (d ∷ dms) = (omega arith, reads_up dms)
 
-in_more : (x : ℕ) (all ds : List ℕ) → AllByRecursion (λ d. contains all d ≡ true) ds → AllByRecursion (λ d. contains (x ∷ all) d ≡ true) ds
+in_more : (x : ℕ) (all dms : List ℕ) → AllByRecursion (λ d. contains all d ≡ true) dms → AllByRecursion (λ d. contains (x ∷ all) d ≡ true) dms
 in_more x all [] h = tt
-in_more x all (d ∷ ds) h = (or_right (x == d) (contains all d) h.0, in_more x all ds h.1)
+in_more x all (d ∷ dms) h = (or_right (x == d) (contains all d) h.0, in_more x all dms h.1)
 
-each_in : (ds : List ℕ) → AllByRecursion (λ d. contains ds d ≡ true) ds
+each_in : (dms : List ℕ) → AllByRecursion (λ d. contains dms d ≡ true) dms
 each_in [] = tt
-each_in (d ∷ ds) = (or_left (d == d) (contains ds d) (eq-eqb d d refl), in_more d ds ds (each_in ds))
+each_in (d ∷ dms) = (or_left (d == d) (contains dms d) (eq-eqb d d refl), in_more d dms dms (each_in dms))
 
 pub start_no_reads : (cat : Catalogue) (table : List line.Entry) (c : ℕ) (k : Ticking) (q : Queued) (ts other : ℕ) → c ≢ other
     → NoReads ts other (sends_of_act (start_act cat table c k q))
@@ -169,11 +169,11 @@ start_asking : (cat : Catalogue) (table : List line.Entry) (c : ℕ) (k : Tickin
     → IsAskingAt c (sends_of_act (start_act cat table c k q) ++ sent) handed (started (timestamp (ticked k 1)) (sends_of_act (start_act cat table c k q)) (Some q))
 start_asking cat table c k q sent handed early =
     let uses : List Use = uses_of cat q.text in
-    let ds : List ℕ = modules_of cat c (ascending (fragments_in uses)) in
+    let dms : List ℕ = modules_of cat c (ascending (fragments_in uses)) in
     let own : ℕ = timestamp (ticked k 1) in
-    let reads = reads_of cat table c q uses own (bound_of k) ds in
+    let reads = reads_of cat table c q uses own (bound_of k) dms in
     asking_started (timestamp k) own c q reads sent handed (ticks_on k) early
-    (subst (AreReads reads) (sym (modules_read cat table c q uses own (bound_of k) ds)) (are_reads cat table c q uses own (bound_of k) ds ds (each_in ds)))
+    (subst (AreReads reads) (sym (modules_read cat table c q uses own (bound_of k) dms)) (are_reads cat table c q uses own (bound_of k) dms dms (each_in dms)))
 
 pub line_started : (s : Setting) (table : List line.Entry) (c : ℕ) (log : Log) (q : Queued) (rest : List Queued) → queue s c log ≡ q ∷ rest → AreStamped s log
     → IsLineOf s c log → IsLineOf s c (Did (start_act s.catalogue table c (clock s.site log) q) ∷ log)

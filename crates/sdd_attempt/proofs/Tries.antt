@@ -34,16 +34,18 @@ kept c k (Commit txn attempt reply changes values rows) sends s log h =
     (All-filter (λ q. not (q.number == txn.0)) (λ (q : Queued). q.tries ≤ (clock s.site log).ticks) (queue s c log) h) h
 kept c k _ sends s log h = h
 
-pub tries_told : (s : Setting) (c : ℕ) (log : Log) → AreTried (clock s.site log).ticks (queue s c log)
-tries_told s c [] = All-nil (λ (q : Queued). q.tries ≤ 0)
-tries_told s c (Handed from m ∷ log) = grind (arith, nat_tests, tried_later, clock, queue, no_sooner, (tries_told s c log))
-tries_told s c (Ticked n ∷ log) =
-    tried_later (clock s.site log).ticks (clock s.site (Ticked n ∷ log)).ticks (queue s c log) (tries_told s c log) (no_sooner s.site (Ticked n) log).0
-tries_told s c (Redeclared era t ∷ log) =
-    tried_later (clock s.site log).ticks (clock s.site (Redeclared era t ∷ log)).ticks (queue s c log) (tries_told s c log) (no_sooner s.site (Redeclared era t) log).0
-tries_told s c (Submits n txn ∷ log) =
+pub tries_are_kept : (s : Setting) (c : ℕ) (log : Log) → AreTried (clock s.site log).ticks (queue s c log)
+tries_are_kept s c [] = All-nil (λ (q : Queued). q.tries ≤ 0)
+tries_are_kept s c (Handed from m ∷ log) = grind (arith, nat_tests, tried_later, clock, queue, no_sooner, (tries_are_kept s c log))
+tries_are_kept s c (Ticked n ∷ log) =
+    tried_later (clock s.site log).ticks (clock s.site (Ticked n ∷ log)).ticks (queue s c log) (tries_are_kept s c log) (no_sooner s.site (Ticked n) log).0
+tries_are_kept s c (Redeclared era t ∷ log) =
+    tried_later (clock s.site log).ticks (clock s.site (Redeclared era t ∷ log)).ticks (queue s c log) (tries_are_kept s c log)
+    (no_sooner s.site (Redeclared era t) log).0
+tries_are_kept s c (Submits n txn ∷ log) =
     if_tried (clock s.site log).ticks (is_for c (current_era s log).catalogue txn) (queue s c log ++ record { number = n; text = txn; tries = 0 } ∷ [])
     (queue s c log)
-    (All-push (λ (q : Queued). q.tries ≤ (clock s.site log).ticks) (queue s c log) (record { number = n; text = txn; tries = 0 }) (tries_told s c log) (omega arith)) (tries_told s c log)
-tries_told s c (Did (Records k r sends) ∷ log) = kept c k r sends s log (tries_told s c log)
-tries_told s c (Did (Sends to m hand) ∷ log) = tries_told s c log
+    (All-push (λ (q : Queued). q.tries ≤ (clock s.site log).ticks) (queue s c log) (record { number = n; text = txn; tries = 0 }) (tries_are_kept s c log)
+    (omega arith)) (tries_are_kept s c log)
+tries_are_kept s c (Did (Records k r sends) ∷ log) = kept c k r sends s log (tries_are_kept s c log)
+tries_are_kept s c (Did (Sends to m hand) ∷ log) = tries_are_kept s c log

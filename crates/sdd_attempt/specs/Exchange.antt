@@ -63,26 +63,26 @@ abbrev pub with_use : Exchange → ℕ → List ℕ
 with_use x u = filter_map (λ m. cond (contains m.1 u) (Some m.0) None) x.modules
 
 abbrev pub to_all : Msg → List ℕ → List (ℕ × Msg)
-to_all m ds = map (λ d. (d, m)) ds
+to_all m dms = map (λ d. (d, m)) dms
 
 -- REDUCE with the values that came goes to the modules of the target; ts and c are the attempt's timestamp and class
 abbrev pub reduces : ℕ → ℕ → Move → Exchange → Exchange
 reduces ts c m x =
-    let ds : List ℕ = with_use x m.target.part in
+    let dms : List ℕ = with_use x m.target.part in
     record x {
       phase = Reducing m;
-      to_send = to_all (Reduce (time_at ts) (class_no c) m.target.part m.target.column x.union) ds;
-      lacks = ds;
-      values = x.values + length x.union * length ds;
+      to_send = to_all (Reduce (time_at ts) (class_no c) m.target.part m.target.column x.union) dms;
+      lacks = dms;
+      values = x.values + length x.union * length dms;
     }
 
 -- FETCH goes to these modules of the source; where there is none, no value comes
 abbrev pub fetches_from : ℕ → ℕ → Move → Exchange → List ℕ → Exchange
 fetches_from ts c m x [] = reduces ts c m (record x { union = [] })
-fetches_from ts c m x (d ∷ ds) = record x {
+fetches_from ts c m x (d ∷ dms) = record x {
   phase = Fetching m;
-  to_send = to_all (Fetch (time_at ts) (class_no c) m.source.part m.source.column) (d ∷ ds);
-  lacks = d ∷ ds;
+  to_send = to_all (Fetch (time_at ts) (class_no c) m.source.part m.source.column) (d ∷ dms);
+  lacks = d ∷ dms;
   union = [];
 }
 
@@ -92,8 +92,8 @@ fetches ts c m x = fetches_from ts c m x (with_use x m.source.part)
 -- SHIP goes to all modules
 abbrev pub ships : ℕ → ℕ → Exchange → Exchange
 ships ts c x =
-    let ds : List ℕ = map (λ m. m.0) x.modules in
-    record x { phase = Shipping; left = []; done = []; to_send = to_all (Ship (time_at ts) (class_no c)) ds; lacks = ds }
+    let dms : List ℕ = map (λ m. m.0) x.modules in
+    record x { phase = Shipping; left = []; done = []; to_send = to_all (Ship (time_at ts) (class_no c)) dms; lacks = dms }
 
 -- the next move of the first query that has one, where these steps are done for the first; else the rows are shipped
 abbrev pub goes_on : ℕ → ℕ → Exchange → List Asking → List Step → Exchange
@@ -114,7 +114,7 @@ phase_ends ts c x Over = x
 -- the answers of these modules are still missing
 abbrev pub lacking : ℕ → ℕ → Exchange → List ℕ → Exchange
 lacking ts c x [] = phase_ends ts c (record x { lacks = [] }) x.phase
-lacking ts c x (d ∷ ds) = record x { lacks = d ∷ ds }
+lacking ts c x (d ∷ dms) = record x { lacks = d ∷ dms }
 
 -- the answer of module d came
 abbrev pub answered : ℕ → ℕ → ℕ → Exchange → Exchange

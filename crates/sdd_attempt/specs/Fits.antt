@@ -85,7 +85,7 @@ AwaitsAt is_phase (Some a) from ts = Awaits is_phase a from ts
 -- with the last ROWS the rows serve the attempt's database: its effect can be computed from them
 abbrev pub ServesIfLast : Setting → Bases → Attempt → List (ℕ × Row) → List ℕ → Type 0
 ServesIfLast s bases a rows [] = Serves s.catalogue a.text (a.exchange.found ++ rows) (bases a.ts)
-ServesIfLast s bases a rows (d ∷ ds) = Unit {0}
+ServesIfLast s bases a rows (d ∷ dms) = Unit {0}
 
 -- the uses that the attempt reads at module d
 abbrev pub uses_at : List (ℕ × List ℕ) → ℕ → List ℕ

@@ -36,7 +36,7 @@ pub record IsBeginning (cat : Catalogue) (table : Option (List line.Entry)) (c c
 
 -- those to these modules
 abbrev pub reads_to : Beginning → List ℕ → List (Site × Msg)
-reads_to b ds = map (read_to b.catalogue b.table b.class b.queued b.uses b.own b.p2) ds
+reads_to b dms = map (read_to b.catalogue b.table b.class b.queued b.uses b.own b.p2) dms
 
 abbrev pub reads_of : Beginning → List (Site × Msg)
 reads_of b = reads_to b (modules_of b.catalogue b.class (ascending (fragments_in b.uses)))

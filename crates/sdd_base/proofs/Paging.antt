@@ -5,14 +5,14 @@ use Rattle.sdd_base.proofs.All.{List, None, OnErr, Option, Result, Some, [], add
 abbrev pub joined : List (List ℕ) → List ℕ
 joined pages = flat_map (λ page. page) pages
 
-pub with_both : (told : Option (List ℕ)) (xs ys : List ℕ) → with_end (with_end told xs) ys ≡ with_end told (xs ++ ys)
+pub with_both : (known : Option (List ℕ)) (xs ys : List ℕ) → with_end (with_end known xs) ys ≡ with_end known (xs ++ ys)
 with_both None xs ys = refl
 with_both (Some t) xs ys = ap Some (append_assoc t xs ys)
 
 -- a text was taken up to some byte of a piece of it
-pub part_taken : (told : Option (List ℕ)) (before piece after whole : List ℕ) (n : ℕ) → whole ≡ before ++ (piece ++ after)
-    → (m : ℕ) × (with_end (with_end told before) (take n piece) ≡ with_end told (take m whole))
-part_taken told before piece after whole n is =
+pub part_taken : (known : Option (List ℕ)) (before piece after whole : List ℕ) (n : ℕ) → whole ≡ before ++ (piece ++ after)
+    → (m : ℕ) × (with_end (with_end known before) (take n piece) ≡ with_end known (take m whole))
+part_taken known before piece after whole n is =
     let front : List ℕ = before ++ take n piece in
     let cut : (take n piece ++ drop n piece) ++ after ≡ take n piece ++ (drop n piece ++ after) =
     append_assoc (take n piece) (drop n piece) after in
@@ -20,8 +20,8 @@ part_taken told before piece after whole n is =
     is ∙ ap (λ xs. before ++ (xs ++ after)) (sym (take-append-drop n piece)) ∙ ap (λ xs. before ++ xs) cut
     ∙ sym (append_assoc before (take n piece) (drop n piece ++ after)) in (
       length front,
-      with_both told before (take n piece)
-          ∙ ap (with_end told) (sym (ap (take (length front)) parts ∙ take-append_seam front (drop n piece ++ after))),
+      with_both known before (take n piece)
+          ∙ ap (with_end known) (sym (ap (take (length front)) parts ∙ take-append_seam front (drop n piece ++ after))),
     )
 
 -- pages are those before one, this one, and those behind it
@@ -61,44 +61,44 @@ room_left pages i page bytes room within is same =
     omega (arith, more, long, length-append before page)
 
 -- one page more was taken
-pub pages_taken : (told mid now : Option (List ℕ)) (pages : List (List ℕ)) (i : ℕ) (page bytes : List ℕ) → i < length pages
-    → page ≡ get_or pages i page → bytes ≡ page → mid ≡ with_end told (joined (take i pages)) → now ≡ with_end mid bytes
-    → now ≡ with_end told (joined (take (i + 1) pages))
-pages_taken told mid now pages i page bytes within is same before taken =
-    taken ∙ ap (λ (t : Option (List ℕ)). with_end t bytes) before ∙ with_both told (joined (take i pages)) bytes
-    ∙ ap (λ (xs : List ℕ). with_end told (joined (take i pages) ++ xs)) same
-    ∙ ap (with_end told) (sym (page_more pages i page within is))
+pub pages_taken : (known mid now : Option (List ℕ)) (pages : List (List ℕ)) (i : ℕ) (page bytes : List ℕ) → i < length pages
+    → page ≡ get_or pages i page → bytes ≡ page → mid ≡ with_end known (joined (take i pages)) → now ≡ with_end mid bytes
+    → now ≡ with_end known (joined (take (i + 1) pages))
+pages_taken known mid now pages i page bytes within is same before taken =
+    taken ∙ ap (λ (t : Option (List ℕ)). with_end t bytes) before ∙ with_both known (joined (take i pages)) bytes
+    ∙ ap (λ (xs : List ℕ). with_end known (joined (take i pages) ++ xs)) same
+    ∙ ap (with_end known) (sym (page_more pages i page within is))
 
 -- a page was taken up to some byte
-pub front_taken : (told mid now : Option (List ℕ)) (pages : List (List ℕ)) (i : ℕ) (page bytes : List ℕ) → i < length pages
-    → page ≡ get_or pages i page → bytes ≡ page → mid ≡ with_end told (joined (take i pages))
-    → (n : ℕ) × (now ≡ with_end mid (take n bytes)) → (n : ℕ) × (now ≡ with_end told (take n (joined pages)))
-front_taken told mid now pages i page bytes within is same before front =
+pub front_taken : (known mid now : Option (List ℕ)) (pages : List (List ℕ)) (i : ℕ) (page bytes : List ℕ) → i < length pages
+    → page ≡ get_or pages i page → bytes ≡ page → mid ≡ with_end known (joined (take i pages))
+    → (n : ℕ) × (now ≡ with_end mid (take n bytes)) → (n : ℕ) × (now ≡ with_end known (take n (joined pages)))
+front_taken known mid now pages i page bytes within is same before front =
     let n : ℕ = front.0 in
-    let part = part_taken told (joined (take i pages)) page (joined (drop (i + 1) pages)) (joined pages) n (at_page pages i page within is) in (
+    let part = part_taken known (joined (take i pages)) page (joined (drop (i + 1) pages)) (joined pages) n (at_page pages i page within is) in (
       part.0,
       front.1 ∙ ap (λ (t : Option (List ℕ)). with_end t (take n bytes)) before
-          ∙ ap (λ (xs : List ℕ). with_end (with_end told (joined (take i pages))) (take n xs)) same
+          ∙ ap (λ (xs : List ℕ). with_end (with_end known (joined (take i pages))) (take n xs)) same
           ∙ part.1,
     )
 
 -- the first of two parts was taken up to some byte
-pub first_part : (told now : Option (List ℕ)) (first second whole : List ℕ) → first ++ second ≡ whole
-    → (n : ℕ) × (now ≡ with_end told (take n first)) → (n : ℕ) × (now ≡ with_end told (take n whole))
-first_part told now first second whole is front =
+pub first_part : (known now : Option (List ℕ)) (first second whole : List ℕ) → first ++ second ≡ whole
+    → (n : ℕ) × (now ≡ with_end known (take n first)) → (n : ℕ) × (now ≡ with_end known (take n whole))
+first_part known now first second whole is front =
     let cut : List ℕ = take front.0 first in
     let rest : List ℕ = drop front.0 first in
     let parts : whole ≡ cut ++ (rest ++ second) =
     sym is ∙ ap (λ (xs : List ℕ). xs ++ second) (sym (take-append-drop front.0 first)) ∙ append_assoc cut rest second in
-    (length cut, front.1 ∙ ap (with_end told) (sym (ap (take (length cut)) parts ∙ take-append_seam cut (rest ++ second))))
+    (length cut, front.1 ∙ ap (with_end known) (sym (ap (take (length cut)) parts ∙ take-append_seam cut (rest ++ second))))
 
 -- the first was taken, and the second up to some byte
-pub second_part : (told mid now : Option (List ℕ)) (first second whole : List ℕ) → first ++ second ≡ whole
-    → mid ≡ with_end told first → (n : ℕ) × (now ≡ with_end mid (take n second))
-    → (n : ℕ) × (now ≡ with_end told (take n whole))
-second_part told mid now first second whole is taken front =
+pub second_part : (known mid now : Option (List ℕ)) (first second whole : List ℕ) → first ++ second ≡ whole
+    → mid ≡ with_end known first → (n : ℕ) × (now ≡ with_end mid (take n second))
+    → (n : ℕ) × (now ≡ with_end known (take n whole))
+second_part known mid now first second whole is taken front =
     let n : ℕ = front.0 in
-    let part = part_taken told first second [] whole n (sym is ∙ ap (λ (xs : List ℕ). first ++ xs) (sym (append-nil second))) in
+    let part = part_taken known first second [] whole n (sym is ∙ ap (λ (xs : List ℕ). first ++ xs) (sym (append-nil second))) in
     (part.0, front.1 ∙ ap (λ (t : Option (List ℕ)). with_end t (take n second)) taken ∙ part.1)
 
 -- what holds in any case, and what follows, where a call failed

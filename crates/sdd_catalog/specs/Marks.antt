@@ -1,4 +1,4 @@
--- Marks for fragments, by which it is told whether a name stood before.
+-- Marks for fragments, by which it is known whether a name came before.
 use Rattle.std.specs.Prelude.{ℕ, ◌≡◌, Bool, false, List, length, Some, slice_index_or}
 use Rattle.sdd_catalog.specs.Names.{Text, place_of}
 use Rattle.sdd_catalog.specs.Rules.{has_name}

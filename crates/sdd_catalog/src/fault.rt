@@ -11,7 +11,7 @@ pub struct CatFault {
     pub number: usize,
 }
 
-/// The kind of part at which a fault is told.
+/// The kind of part at which a fault is reported.
 #[derive(Clone, Copy, Debug, PartialEq, Eq)]
 pub enum Part {
     Top,

@@ -4,7 +4,8 @@ ghost use Rattle.sdd_catread.specs.Faults.{broken, numbered_location};
 
 use sdd_catalog::{CatError, CatFault, CatRule, Part};
 
-/// Where in a file a fault is told: at the top, or at one of its relations, fragments and classes.
+/// Where in a file a fault is reported: at the top, or at one of its relations, fragments and
+/// classes.
 #[derive(Clone, Copy, Debug, PartialEq, Eq)]
 pub(crate) struct Location {
     pub part: Part,

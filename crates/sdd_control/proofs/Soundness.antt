@@ -122,5 +122,5 @@ script_gets : (bytes : List ℕ) → Gets IsSoundScript (control_script bytes)
 script_gets bytes = grind (arith, walk_gets)
 
 -- what was read is sound
-pub told_sound : (bytes : List ℕ) (r : Result ControlScript WorkError) → Tells r (control_script bytes) → IfOk r IsSoundScript
-told_sound bytes r t = grind (arith, nat_tests, Gets, script_gets)
+pub read_is_sound : (bytes : List ℕ) (r : Result ControlScript WorkError) → Tells r (control_script bytes) → IfOk r IsSoundScript
+read_is_sound bytes r t = grind (arith, nat_tests, Gets, script_gets)

@@ -1,4 +1,4 @@
--- A run of transaction control: its limits, and what has log_with_event in it.
+-- A run of transaction control: its limits, and what has happened in it.
 use Rattle.std.specs.Prelude.{ℕ, true, List}
 use Rattle.sdd_script.specs.All.{Kept}
 use Rattle.sdd_control.specs.Log.{Log, noted}

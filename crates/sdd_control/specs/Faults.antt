@@ -2,7 +2,7 @@
 use Rattle.std.specs.Prelude.{ℕ, Option, Some, None, Result}
 use Rattle.sdd_script.specs.All.{GivesReading as GivesBy}
 use Rattle.sdd_script.specs.declared.fault.WorkError.{WorkError}
-use Rattle.sdd_script.specs.declared.fault.WorkError.TheVariants as told
+use Rattle.sdd_script.specs.declared.fault.WorkError.TheVariants as errors
 use Rattle.sdd_script.specs.declared.fault.WorkFault.{WorkFault}
 use Rattle.sdd_script.specs.declared.fault.WorkRule.{WorkRule}
 use Rattle.sdd_control.specs.declared.fault.LineError.{LineError}
@@ -18,13 +18,13 @@ GivesLine view result reading = GivesBy rule_in view result reading
 
 -- the fault of a file
 abbrev pub fault_in : WorkError → Option WorkFault
-fault_in (told.Fault fault) = Some fault
-fault_in told.NoMemory = None
+fault_in (errors.Fault fault) = Some fault
+fault_in errors.NoMemory = None
 
 abbrev pub Tells : {X : Type 0} → Result X WorkError → Result X WorkFault → Type 0
 Tells result reading = GivesBy fault_in (λ x. x) result reading
 
--- what went wrong on a line, told with the line's number
-abbrev pub told_at : ℕ → LineError → WorkError
-told_at line (Broken rule) = told.Fault (record { line = line; rule = rule })
-told_at line NoMemory = told.NoMemory
+-- what went wrong on a line, reported with the line's number
+abbrev pub fault_at_line : ℕ → LineError → WorkError
+fault_at_line line (Broken rule) = errors.Fault (record { line = line; rule = rule })
+fault_at_line line NoMemory = errors.NoMemory

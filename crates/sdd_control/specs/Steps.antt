@@ -22,7 +22,7 @@ arrival false (OK ∷ rest) above i j = Ok j i
 arrival false (VALUE val ∷ rest) true i j = Ignored j
 arrival false (VALUE val ∷ rest) false i j = Value j i val
 
--- the note of an event, by what log_with_event before it
+-- the note of an event, by what happened before it
 abbrev pub note_of : ℕ → ℕ → Log → Act → Note
 note_of backups writes log (Send i) = next_send backups writes log i
 note_of backups writes log (Deliver i j) =

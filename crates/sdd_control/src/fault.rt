@@ -1,6 +1,6 @@
 ghost use Rattle.std.specs.Prelude.{◌≡◌, Err, MatchResult, Ok};
 ghost use Rattle.sdd_script.specs.All.{must, require};
-ghost use Rattle.sdd_control.specs.Faults.{GivesLine, told_at};
+ghost use Rattle.sdd_control.specs.Faults.{GivesLine, fault_at_line};
 ghost use Rattle.sdd_control.specs.declared.fault.LineError.TheVariants.{Broken};
 
 use sdd_script::sdd_base::NoMemory;
@@ -52,7 +52,7 @@ pub fn must(rule: WorkRule, holds: bool) -> Result<(), LineError>
 
 /// What a line gave, its fault with the line's number.
 pub fn at_line<T>(line: u32, read: Result<T, LineError>) -> Result<T, WorkError>
-    ensures { MatchResult read (λ x. result ≡ Ok x) (λ e. result ≡ Err (told_at line e)) }
+    ensures { MatchResult read (λ x. result ≡ Ok x) (λ e. result ≡ Err (fault_at_line line e)) }
 {
     match read {
         Ok(value) => Ok(value),

@@ -1,7 +1,7 @@
 //! Transaction control: all writes of a transaction or none, though the sender stops between two.
 //!
 //! Site 0 is the committer, and the sites above it are its backups. The lowest site that hasn't
-//! stopped takes the commit to its end. `specs/` defines what stands for each event by the events
+//! stopped takes the commit to its end. `specs/` defines what is noted of each event by the events
 //! before it: how a site stands (`Standing`), the messages on each link (`Links`), what a leader
 //! sends next (`Sends`), and the note of an event (`Steps`).
 //!

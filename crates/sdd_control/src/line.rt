@@ -11,7 +11,7 @@ use crate::key::{Key, key_of};
 use crate::limits::{MAX_BACKUPS, MAX_WRITES};
 use crate::stage::{Head, Stage};
 use sdd_script::sdd_base::MAX_EVENTS;
-use sdd_script::sdd_words::{Token, Tokens, are_sound, number_in, stands_free, text_of, words_of};
+use sdd_script::sdd_words::{Token, Tokens, are_sound, is_free, number_in, text_of, words_of};
 use sdd_script::{Counts, WorkRule};
 use std::alloc::Global;
 
@@ -53,10 +53,7 @@ fn read_head(words: &mut Tokens<'_>) -> Result<Head, LineError>
 {
     match words.only_two() {
         Some((backups, writes)) => {
-            must(
-                WorkRule::BadLine,
-                stands_free(&backups) && stands_free(&writes),
-            )?;
+            must(WorkRule::BadLine, is_free(&backups) && is_free(&writes))?;
             let backups = read_number(1, MAX_BACKUPS, &backups)?;
             let writes = read_number(1, MAX_WRITES, &writes)?;
             Ok(Head { backups, writes })
@@ -70,7 +67,7 @@ fn read_site(backups: u32, words: &mut Tokens<'_>) -> Result<u32, LineError>
 {
     match words.only_one() {
         Some(site) => {
-            must(WorkRule::BadLine, stands_free(&site))?;
+            must(WorkRule::BadLine, is_free(&site))?;
             let site = read_site_number(&site)?;
             must(WorkRule::BadEvent, site <= backups)?;
             Ok(site)
@@ -90,7 +87,7 @@ fn read_delivery(backups: u32, words: &mut Tokens<'_>) -> Result<Act, LineError>
 {
     match words.only_two() {
         Some((from, to)) => {
-            must(WorkRule::BadLine, stands_free(&from) && stands_free(&to))?;
+            must(WorkRule::BadLine, is_free(&from) && is_free(&to))?;
             let from = read_site_number(&from)?;
             let to = read_site_number(&to)?;
             must(WorkRule::BadEvent, are_linked(backups, from, to))?;

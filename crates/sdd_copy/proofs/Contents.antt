@@ -149,5 +149,5 @@ contents_are mine = grind (arith, left_all, shown_all, shown, items_keep, filter
 pub items_tell : (f : ℕ) (xs : Dated) → entries_in (items_of (of_fragment f xs)) ≡ contents f xs
 items_tell f xs = contents_are (of_fragment f xs)
 
-pub rows_told : (es : Items) (xs : Dated) (rows : List (List Value)) → rows ≡ rows_in es → es ≡ items_of xs → rows ≡ map (λ e. e.1) (rows_left xs)
-rows_told es xs rows told is = told ∙ ap rows_in is ∙ ap (map (λ e. e.1)) (contents_are xs)
+pub rows_are_left : (es : Items) (xs : Dated) (rows : List (List Value)) → rows ≡ rows_in es → es ≡ items_of xs → rows ≡ map (λ e. e.1) (rows_left xs)
+rows_are_left es xs rows rows_is is = rows_is ∙ ap rows_in is ∙ ap (map (λ e. e.1)) (contents_are xs)

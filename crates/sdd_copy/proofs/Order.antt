@@ -1,4 +1,4 @@
--- The contents of changes are told by which changes there are, not by their order.
+-- The contents of changes are determined by which changes there are, not by their order.
 use Rattle.sdd_copy.proofs.All.{AreSame, Bool, Change, Contains, Contains-cases, Contains-here, Contains-later, Contains-nil, Dated, DatesDiffer, Equal, Greater, Items, Less, List, None, Option, Some, Value, [], ap, arith, cond, contents, entries_in, false, if◌then◌else◌, inl, inr, int_cmp, is_at, is_eq, items_of, latest, lookup, nat_lt, nat_tests, newer, of_fragment, refl, sym, true, ℕ, ℤ, ◌==◌, ◌∙◌, ◌∷◌, ◌≡◌}
 use Rattle.sdd_copy.proofs.Contents.{Above, Ascends, Keeps, same_key, flipped, is_own, eq_is, above_none, above_all, items_keep, shown, items_tell}
 
@@ -70,7 +70,7 @@ one_answer key xs ys (Some x) None d s g h = absurd (h x ((s x).0 g.among) g.own
 one_answer key xs ys (Some x) (Some y) d s g h =
     ap Some (d x y g.among ((s y).1 h.among) (g.own ∙ sym h.own) (not_either x.0 y.0 (g.last y ((s y).1 h.among) h.own) (h.last x ((s x).0 g.among) g.own)))
 
--- ascending items are told by what they hold at each key
+-- ascending items are determined by what they hold at each key
 abbrev Held : ℤ → Items → Option (ℕ × Option (List Value))
 Held k es = lookup (is_at (int_cmp k)) es
 

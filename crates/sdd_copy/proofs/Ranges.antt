@@ -12,9 +12,9 @@ held_put items k item held fits =
     All-from_recursion HasHeldKey (insert_entry int_cmp items k item)
     (each_inserted int_cmp exact_signed HasHeldKey items k item (recursion_from_All HasHeldKey items held) fits)
 
-pub keyed_put : (told now : Bool) (key : ℕ) (items : Items) (k : ℤ) (item : ℕ × Option (List Value)) → AreKeyed told key items
-    → (now ≡ true → (told ≡ true) × HasKey key (k, item)) → AreKeyed now key (insert_entry int_cmp items k item)
-keyed_put told now key items k item keyed h is =
+pub keyed_put : (is_keyed now : Bool) (key : ℕ) (items : Items) (k : ℤ) (item : ℕ × Option (List Value)) → AreKeyed is_keyed key items
+    → (now ≡ true → (is_keyed ≡ true) × HasKey key (k, item)) → AreKeyed now key (insert_entry int_cmp items k item)
+keyed_put is_keyed now key items k item keyed h is =
     let both = h is in
     All-from_recursion (HasKey key) (insert_entry int_cmp items k item)
     (each_inserted int_cmp exact_signed (HasKey key) items k item (recursion_from_All (HasKey key) items (keyed both.0)) both.1)

@@ -5,11 +5,12 @@ use Rattle.sdd_copy.proofs.Members.{known_among}
 
 -- copies that represent changes give the contents of these
 
-frags_told : (copies : Held) (xs : Dated) (restrictions : List Restriction) (frags : List FragNo)
+frags_are_held : (copies : Held) (xs : Dated) (restrictions : List Restriction) (frags : List FragNo)
     → Represent copies xs → AllByRecursion (λ f. is_here copies f.0 ≡ true) frags
     → flat_map (λ f. chosen restrictions (rows_at copies f.0)) frags ≡ flat_map (λ f. chosen restrictions (contents f.0 xs)) frags
-frags_told copies xs restrictions [] represent here = refl
-frags_told copies xs restrictions (f ∷ frags) represent here = grind (arith, entries_in, items_tell, (frags_told copies xs restrictions frags represent here.1))
+frags_are_held copies xs restrictions [] represent here = refl
+frags_are_held copies xs restrictions (f ∷ frags) represent here =
+    grind (arith, entries_in, items_tell, (frags_are_held copies xs restrictions frags represent here.1))
 
 abbrev rows_in_order : List (ℤ × List Value) → List (List Value)
 rows_in_order rows = map (λ e. e.1) (fold with_keyed [] rows)
@@ -20,18 +21,22 @@ numbered n rows = (n, rows)
 abbrev pub held_for : CopyRows → Use → ℕ × List (List Value)
 held_for copies u = (u.number, rows_for copies u)
 
-uses_told : (copies : Held) (xs : Dated) (uses : List Use) → Represent copies xs → AllByRecursion (AreHere copies) uses
+uses_are_held : (copies : Held) (xs : Dated) (uses : List Use) → Represent copies xs → AllByRecursion (AreHere copies) uses
     → map (held_for (rows_at copies)) uses ≡ map (held_for (λ f. contents f xs)) uses
-uses_told copies xs [] represent here = refl
-uses_told copies xs (u ∷ uses) represent here = rw (ap (numbered u.number) (ap rows_in_order (frags_told copies xs u.restrictions u.frags represent (recursion_from_All (λ f. is_here copies f.0 ≡ true) u.frags here.0))), uses_told copies xs uses represent here.1) refl
+uses_are_held copies xs [] represent here = refl
+uses_are_held copies xs (u ∷ uses) represent here = rw (
+  ap (numbered u.number) (ap rows_in_order (frags_are_held copies xs u.restrictions u.frags represent
+      (recursion_from_All (λ f. is_here copies f.0 ≡ true) u.frags here.0))),
+  uses_are_held copies xs uses represent here.1,
+) refl
 
 abbrev pub with_uses : ℕ → List (ℕ × List (List Value)) → Frozen
 with_uses ts uses = record { ts = ts; uses = uses }
 
-pub frozen_told : (copies : Held) (xs : Dated) (ts : ℕ) (uses : List Use) (frozen : List (ℕ × List (List Value))) (i : ℕ)
+pub frozen_is_held : (copies : Held) (xs : Dated) (ts : ℕ) (uses : List Use) (frozen : List (ℕ × List (List Value))) (i : ℕ)
     → frozen ≡ map (held_for (rows_at copies)) (take i uses) → length uses ≤ i
     → Represent copies xs → All (AreHere copies) uses → with_uses ts frozen ≡ frozen_for (λ f. contents f xs) ts uses
-frozen_told copies xs ts uses frozen i so_far end represent here = grind (arith, with_uses, held_for, take_all, uses_told, recursion_from_All)
+frozen_is_held copies xs ts uses frozen i so_far end represent here = grind (arith, with_uses, held_for, take_all, uses_are_held, recursion_from_All)
 
 -- the first use with a number
 

@@ -40,13 +40,13 @@ pub held_written : (newer : Bool) (items : Items) (k : ℤ) (item : ℕ × Optio
     → AreHeld (cond newer (insert_entry int_cmp items k item) items)
 held_written newer items k item held fits = grind (arith, held_put)
 
-pub keyed_written : (newer told now : Bool) (key : ℕ) (items : Items) (k : ℤ) (item : ℕ × Option (List Value)) → AreKeyed told key items
-    → (now ≡ true → (told ≡ true) × HasKey key (k, item)) → AreKeyed now key (cond newer (insert_entry int_cmp items k item) items)
-keyed_written newer told now key items k item keyed h = grind (arith, keyed_put)
+pub keyed_written : (newer is_keyed now : Bool) (key : ℕ) (items : Items) (k : ℤ) (item : ℕ × Option (List Value)) → AreKeyed is_keyed key items
+    → (now ≡ true → (is_keyed ≡ true) × HasKey key (k, item)) → AreKeyed now key (cond newer (insert_entry int_cmp items k item) items)
+keyed_written newer is_keyed now key items k item keyed h = grind (arith, keyed_put)
 
 -- also where memory ran out
-pub kept_after : {E : Type 0} (result : Result (Unit {0}) E) (newer told now : Bool) (key : ℕ) (items new : Items) (k : ℤ) (item : ℕ × Option (List Value))
+pub kept_after : {E : Type 0} (result : Result (Unit {0}) E) (newer is_keyed now : Bool) (key : ℕ) (items new : Items) (k : ℤ) (item : ℕ × Option (List Value))
     → OnOk result (new ≡ cond newer (insert_entry int_cmp items k item) items) → OnErr result (new ≡ items)
-    → AreHeld items × AreKeyed told key items → FitsSigned w64 k → (now ≡ true → (told ≡ true) × HasKey key (k, item))
+    → AreHeld items × AreKeyed is_keyed key items → FitsSigned w64 k → (now ≡ true → (is_keyed ≡ true) × HasKey key (k, item))
     → AreHeld new × AreKeyed now key new
-kept_after result newer told now key items new k item ok err before fits h = grind (arith, held_written, keyed_written)
+kept_after result newer is_keyed now key items new k item ok err before fits h = grind (arith, held_written, keyed_written)

@@ -60,8 +60,8 @@ pub again : contents 1 ((0, change_to (Some (row_of 1))) ∷ (90, change_to None
 again = refl
 
 -- of two at 90 the first stands
-pub first_stands : contents 1 ((90, change_to (Some (row_of 1))) ∷ (90, change_to (Some (row_of 2))) ∷ []) ≡ (pos 4, row_of 1) ∷ []
-first_stands = refl
+pub first_is_kept : contents 1 ((90, change_to (Some (row_of 1))) ∷ (90, change_to (Some (row_of 2))) ∷ []) ≡ (pos 4, row_of 1) ∷ []
+first_is_kept = refl
 
 -- a change of another fragment doesn't count
 pub other_fragment : contents 2 ((90, change_to (Some (row_of 1))) ∷ []) ≡ []

@@ -58,8 +58,8 @@ row_in items key = row_of_item (lookup (is_at (int_cmp key)) items)
 abbrev pair : ℕ → ℕ → List Value
 pair a b = Int (pos a) ∷ Int (pos b) ∷ []
 
-pub later_stands : rows_left (initial (frag_no 1) 1 (pair 4 1 ∷ pair 4 2 ∷ [])) ≡ (pos 4, pair 4 2) ∷ []
-later_stands = refl
+pub later_is_kept : rows_left (initial (frag_no 1) 1 (pair 4 1 ∷ pair 4 2 ∷ [])) ≡ (pos 4, pair 4 2) ∷ []
+later_is_kept = refl
 
 pub dated_one : rows_in (written (items_of (initial (frag_no 1) 1 (pair 4 1 ∷ []))) (1, record { frag = frag_no 1; key = pos 4; row = Some (pair 4 3) })) ≡ pair 4 3 ∷ []
 dated_one = refl

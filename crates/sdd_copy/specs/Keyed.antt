@@ -16,9 +16,9 @@ AreHeld items = All HasHeldKey items
 abbrev pub HasKey : ℕ → ℤ × (ℕ × Option (List Value)) → Type 0
 HasKey key e = IfSome e.1.1 (λ row. column row key ≡ Int e.0)
 
--- where it is so told, each row has
+-- where it is said so, each row has
 abbrev pub AreKeyed : Bool → ℕ → Items → Type 0
-AreKeyed told key items = told ≡ true → All (HasKey key) items
+AreKeyed is_keyed key items = is_keyed ≡ true → All (HasKey key) items
 
 -- the rows that aren't deleted and meet all restrictions, with their keys, ascending
 abbrev pub rows_meeting : List Restriction → Items → List (ℤ × List Value)

@@ -1,7 +1,7 @@
 -- The names of std, of the crates below and of this crate's definitions that its proofs cite. Declares nothing.
 pub use Rattle.sdd_copy.proofs.Contents.{is_own}
 pub use Rattle.sdd_copy.proofs.Represented.{here_all, here_applied, here_more, represent_all, represent_applied, represent_same}
-pub use Rattle.sdd_copy.proofs.Uses.{frozen_told, held_for}
+pub use Rattle.sdd_copy.proofs.Uses.{frozen_is_held, held_for}
 pub use Rattle.sdd_copy.specs.Contents.{Dated, contents}
 pub use Rattle.sdd_copy.specs.Copies.{AreHere, Held, Represent, changed_at, is_here, rows_at, with_change}
 pub use Rattle.sdd_copy.specs.Frozen.{Frozen, counts_of, frozen_for, values_in}

@@ -43,7 +43,7 @@ one_change (z ∷ xs) x y d i j e f =
       ]
     ]
 
--- the time of a WRITE that was handed before is told
+-- the time of a WRITE that was handed before is known
 
 written_time : (m : Msg) (times : List ℕ) (x : ℕ × Change) → Contains (changes_in (Some m)) x
     → contains (with_time (write_time_of m) times) x.0 ≡ true

@@ -1,5 +1,5 @@
 -- The state after a step of a head shows the log with the act of that head.
-use Rattle.sdd_dm.proofs.All.{All, AreHere, AreSame, ClassNo, Cond, Dated, DatesDiffer, Did, Frozen, HasCopies, Held, IsHere, IsTrue, Kept, List, Log, Msg, Option, Read, Rec, Records, Represent, Setting, Shows, ShowsClass, Site, Some, State, Ts, TxnNo, Use, ap, arith, changes_in, contents, dated, false, fold, frozen, frozen_at, frozen_for, frozen_now, frozen_of, frozen_told, head, head_taken, held_for, here_all, is_answer, is_apply, is_here, is_processing, is_taken, is_wait, length, length-update, map, nat_tests, opens, pipe, refl, represent_all, represent_same, rows_at, subst, sym, take_all, take_digest, true, update, waits, with_change, ℕ, ◌++◌, ◌∙◌, ◌∷◌, ◌≡◌, ◌≤◌}
+use Rattle.sdd_dm.proofs.All.{All, AreHere, AreSame, ClassNo, Cond, Dated, DatesDiffer, Did, Frozen, HasCopies, Held, IsHere, IsTrue, Kept, List, Log, Msg, Option, Read, Rec, Records, Represent, Setting, Shows, ShowsClass, Site, Some, State, Ts, TxnNo, Use, ap, arith, changes_in, contents, dated, false, fold, frozen, frozen_at, frozen_for, frozen_is_held, frozen_now, frozen_of, head, head_taken, held_for, here_all, is_answer, is_apply, is_here, is_processing, is_taken, is_wait, length, length-update, map, nat_tests, opens, pipe, refl, represent_all, represent_same, rows_at, subst, sym, take_all, take_digest, true, update, waits, with_change, ℕ, ◌++◌, ◌∙◌, ◌∷◌, ◌≡◌, ◌≤◌}
 use Rattle.sdd_dm.proofs.ByClass.{at_own, at_other, same_number, other_number, by_class}
 use Rattle.sdd_dm.proofs.Handed.{head_handed}
 use Rattle.sdd_dm.proofs.Applied.{applied_differ, same_dated, dated_kept}
@@ -88,7 +88,7 @@ pub frozen_is : (s : Setting) (st : State) (log : Log) (c : ℕ) (ts : Ts) (clas
     → Shows s st log
     → head (pipe c log) ≡ Some (Read ts class txn attempt conds uses) → frozen_now st ts.0 uses ≡ frozen_for (λ f. contents f (dated s log)) ts.0 uses
 frozen_is s st log c ts class txn attempt conds uses shows e =
-    frozen_told st.copies.value (dated s log) ts.0 uses (map (held_for (rows_at st.copies.value)) uses) (length uses)
+    frozen_is_held st.copies.value (dated s log) ts.0 uses (map (held_for (rows_at st.copies.value)) uses) (length uses)
     (ap (map (held_for (rows_at st.copies.value))) (sym (take_all (length uses) uses (omega arith)))) (omega arith) shows.copies
     (are_here s st log shows uses (head_handed (HasCopies s) c log (Read ts class txn attempt conds uses) shows.reads e))
 

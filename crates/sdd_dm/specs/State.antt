@@ -41,10 +41,10 @@ arrived (Read ts class txn attempt conds uses) st n = record n { recs = n.recs +
 arrived _ st n = n
 
 -- a FETCH, REDUCE or SHIP is answered
-abbrev pub state_told : Msg → State → State
-state_told (Reduce ts class u col values) st = record st { frozen = update class.0 (reduced_at ts.0 u col values) st.frozen }
-state_told (Ship ts class) st = record st { frozen = update class.0 (λ f. None) st.frozen }
-state_told _ st = st
+abbrev pub state_answered : Msg → State → State
+state_answered (Reduce ts class u col values) st = record st { frozen = update class.0 (reduced_at ts.0 u col values) st.frozen }
+state_answered (Ship ts class) st = record st { frozen = update class.0 (λ f. None) st.frozen }
+state_answered _ st = st
 
 abbrev pub with_out : Site → Msg → Notes → Notes
 with_out to m n = record n { out = n.out ++ (to, m) ∷ [] }
@@ -58,7 +58,7 @@ with_answers from _ st n = n
 
 abbrev pub state_by : Option ℕ → Msg → State → State
 state_by (Some c) m st = record st { pipes = update c (put_digest m) st.pipes }
-state_by None m st = state_told m st
+state_by None m st = state_answered m st
 
 abbrev pub notes_by : Option ℕ → Site → Msg → State → Notes → Notes
 notes_by (Some c) from m st n = n

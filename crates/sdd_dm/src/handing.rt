@@ -4,7 +4,7 @@ ghost use Rattle.std.specs.Option.{option_map};
 ghost use Rattle.sdd_copy.specs.Frozen.{values_in};
 ghost use Rattle.sdd_pipe.specs.Pipes.{update};
 ghost use Rattle.sdd_dm.specs.Copies.{rows_held, all_held, reduced_at};
-ghost use Rattle.sdd_dm.specs.State.{State, frozen_of, class_of_pipe, arrived, state_told, with_answers, state_handed, notes_handed};
+ghost use Rattle.sdd_dm.specs.State.{State, frozen_of, class_of_pipe, arrived, state_answered, with_answers, state_handed, notes_handed};
 
 use crate::parts::Parts;
 use crate::slots::{put_space, reduce_space};
@@ -45,7 +45,7 @@ impl Parts {
 
     /// Answers a FETCH, REDUCE or SHIP.
     fn tell(&mut self, from: Site, msg: Msg, draft: &mut Draft) -> Result<(), NoMemory>
-        ensures state { OnOk result (self.new ≡ state_told msg self.old) }
+        ensures state { OnOk result (self.new ≡ state_answered msg self.old) }
         ensures notes { OnOk result (draft.new ≡ with_answers from msg self.old draft.old) }
     {
         match msg {

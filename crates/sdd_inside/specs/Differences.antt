@@ -31,7 +31,7 @@ changes f (x ∷ before) (y ∷ after) = f x y ++ changes f before after
 
 -- packets that were put in flight
 
--- of a message that stood on the link before the number is told
+-- of a message that stood on the link before the number is reported
 abbrev pub in_flight : ℕ → Packet Msg → InFlight
 in_flight sent (packets.Message n message) = if nat_le n sent then Again n else First n message
 in_flight sent (packets.Ack upto) = Ack upto

@@ -1,4 +1,4 @@
--- Packets as JSON. A message is told in full with its first packet, and then by its number.
+-- Packets as JSON. A message is reported in full with its first packet, and then by its number.
 use Rattle.std.specs.Prelude.{ℕ, List, [], ◌++◌, codes, length, map, sum}
 use Rattle.std.specs.Fmt.{decimal}
 use Rattle.sdd_script.specs.base.declared.number.ClassNo.{ClassNo}

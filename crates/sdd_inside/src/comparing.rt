@@ -7,7 +7,7 @@ ghost use Rattle.sdd_inside.specs.declared.moment.Happened.{Happened as Turn};
 
 use crate::delta::{Delta, Found, Handed, InFlight, PipeDelta, Put, QueueDelta};
 use crate::moment::{Happened, LinkMoment, Moment, PipeMoment, QueueMoment};
-use crate::told::split_head;
+use crate::to_json::split_head;
 use sdd_net::Packet;
 use sdd_script::sdd_base::{Event, Listed, NoMemory, Parcel, Site, TxnNo};
 use sdd_wire::Msg;
@@ -15,7 +15,7 @@ use std::alloc::Global;
 
 /// A part of a moment, of which an event may change what a `D` tells.
 trait Part<D>: Sized {
-    /// What is told of the part before and after the event: one change, or none.
+    /// What is reported of the part before and after the event: one change, or none.
     ghost between: { Turn → Self → Self → List D };
 
     /// Adds it to the changes.
@@ -286,7 +286,7 @@ impl Part<PipeDelta> for PipeMoment {
 /// after it, and what it tells of the rest.
 ///
 /// Costs time linear in the numbers of links, queues and pipes, in the queues that changed, and in
-/// what is told, and memory for what is told.
+/// what is reported, and memory for that.
 pub fn difference(
     alloc: Global,
     happened: Happened,

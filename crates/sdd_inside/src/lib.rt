@@ -23,7 +23,7 @@ mod moment;
 mod names;
 mod standing;
 mod standings;
-mod told;
+mod to_json;
 mod words;
 
 pub use comparing::difference;

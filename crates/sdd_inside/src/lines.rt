@@ -9,9 +9,9 @@ ghost use Rattle.sdd_inside.specs.Lines.{taken_json, found_members, round_member
 use crate::delta::{Delta, Found, Handed, PipeDelta, Put, QueueDelta, RowDelta, Taken};
 use crate::events::put_event;
 use crate::messages::put_ack;
-use crate::told::{
-    Told, put_also, put_if, put_name, put_opening, put_positive, tell_also, tell_array, tell_first,
-    tell_further, tell_list, tell_some, tell_triple, tell_two,
+use crate::to_json::{
+    ToJson, put_also, put_if, put_name, put_opening, put_positive, tell_also, tell_array,
+    tell_first, tell_further, tell_list, tell_some, tell_triple, tell_two,
 };
 use sdd_report::CopyTable;
 use sdd_script::sdd_base::{Event, NoMemory};
@@ -85,7 +85,7 @@ fn put_round(text: &mut Vec<u8>, round: Option<u32>) -> Result<(), NoMemory>
     }
 }
 
-impl Told for Handed {
+impl ToJson for Handed {
     ghost json = { handed_json };
 
     fn tell(
@@ -98,7 +98,7 @@ impl Told for Handed {
     }
 }
 
-impl Told for Put {
+impl ToJson for Put {
     ghost json = { put_json };
 
     #[tactic(auto, using(crate::proofs::Members::last_of_three))]
@@ -114,7 +114,7 @@ impl Told for Put {
     }
 }
 
-impl Told for QueueDelta {
+impl ToJson for QueueDelta {
     ghost json = { queue_json };
 
     #[tactic(auto, using(crate::proofs::Members::object_of_two))]
@@ -144,7 +144,7 @@ fn put_moves(
     put_also(text, b"passed", pipe.passed.0)
 }
 
-impl Told for PipeDelta {
+impl ToJson for PipeDelta {
     ghost json = { pipe_json };
 
     #[tactic(auto, using(crate::proofs::Members::object_of_two))]
@@ -161,7 +161,7 @@ impl Told for PipeDelta {
     }
 }
 
-impl Told for RowDelta {
+impl ToJson for RowDelta {
     ghost json = { row_delta_json };
 
     #[tactic(auto, using(crate::proofs::Members::last_of_four))]
@@ -268,7 +268,7 @@ pub fn put_line(
     put(text, b"}\n")
 }
 
-impl Told for CopyTable {
+impl ToJson for CopyTable {
     ghost json = { copy_json };
 
     #[tactic(auto, using(crate::proofs::Members::object_of_two))]

@@ -6,7 +6,7 @@ ghost use Rattle.sdd_inside.specs.Words.{time_json, class_json, txn_json, attemp
 
 use crate::delta::InFlight;
 use crate::escape::put_quoted;
-use crate::told::{Told, put_also, put_name, put_opening, tell_also, tell_list};
+use crate::to_json::{ToJson, put_also, put_name, put_opening, tell_also, tell_list};
 use crate::words::put_attempt;
 use itoa::Buffer;
 use sdd_script::sdd_base::{Changes, ClassNo, Conds, NoMemory, Ts, TxnNo};
@@ -220,7 +220,7 @@ fn put_shipped(
     put_counted(text, b"ROWS", catalogue, txns, class, time, rows)
 }
 
-impl Told for Msg {
+impl ToJson for Msg {
     ghost json = { message_json };
 
     fn tell(
@@ -323,7 +323,7 @@ fn put_message(
     put(text, b"}")
 }
 
-impl Told for InFlight {
+impl ToJson for InFlight {
     ghost json = { packet_json };
 
     fn tell(

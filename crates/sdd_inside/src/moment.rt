@@ -48,7 +48,7 @@ pub struct Moment {
     pub pipes: Listed<PipeMoment>,
 }
 
-/// An event, what it found, and what is told of it whole.
+/// An event, what it found, and what is reported of it whole.
 #[derive(Drop, Debug)]
 pub struct Happened {
     /// Its number, those of a settle counted too.

@@ -7,8 +7,8 @@ ghost use Rattle.sdd_inside.specs.Standings.{phase_word, stage_word, attempt_mem
 use crate::escape::put_quoted;
 use crate::messages::put_attempt_member;
 use crate::standing::{Active, DmState, Head, Phase, Question, SiteState, Stage, TmState, UState};
-use crate::told::{
-    Told, put_also, put_if, put_name, tell_also, tell_first, tell_list, tell_some, tell_triple,
+use crate::to_json::{
+    ToJson, put_also, put_if, put_name, tell_also, tell_first, tell_list, tell_some, tell_triple,
 };
 use sdd_script::sdd_base::{NoMemory, Site};
 use sdd_script::sdd_catalog::Catalogue;
@@ -65,7 +65,7 @@ fn put_active_phase(
     tell_some(text, b"lacks", &active.lacks, catalogue, txns)
 }
 
-impl Told for Active {
+impl ToJson for Active {
     ghost json = { active_json };
 
     #[tactic(auto, using(crate::proofs::Members::object_of_two))]
@@ -82,7 +82,7 @@ impl Told for Active {
     }
 }
 
-impl Told for Question {
+impl ToJson for Question {
     ghost json = { question_json };
 
     fn tell(
@@ -95,7 +95,7 @@ impl Told for Question {
     }
 }
 
-impl Told for Head {
+impl ToJson for Head {
     ghost json = { head_json };
 
     #[tactic(auto, using(crate::proofs::Members::object_put))]
@@ -227,7 +227,7 @@ fn put_dm(
     put(text, b"}")
 }
 
-impl Told for SiteState {
+impl ToJson for SiteState {
     ghost json = { site_state_json };
 
     fn tell(

@@ -8,7 +8,7 @@ ghost use Rattle.sdd_inside.specs.Words.{number_json, time_json, class_json, fra
 
 use crate::escape::{put_escaped, put_escaped_count, put_quoted};
 use crate::names::{class_word, fragment_name, txn_name};
-use crate::told::{Told, split_head, tell_pair, tell_triple};
+use crate::to_json::{ToJson, split_head, tell_pair, tell_triple};
 use itoa::Buffer;
 use sdd_script::sdd_base::{
     Change, ClassNo, Cond, DmNo, FragNo, NoMemory, Row, Site, Ts, TxnNo, Value,
@@ -18,7 +18,7 @@ use sdd_script::sdd_lang::Txn;
 use sdd_script::sdd_words::{put, put_count, put_value, put_values};
 use std::alloc::Global;
 
-impl Told for u32 {
+impl ToJson for u32 {
     ghost json = { number_json };
 
     fn tell(
@@ -31,7 +31,7 @@ impl Told for u32 {
     }
 }
 
-impl Told for Ts {
+impl ToJson for Ts {
     ghost json = { time_json };
 
     fn tell(
@@ -44,7 +44,7 @@ impl Told for Ts {
     }
 }
 
-impl Told for ClassNo {
+impl ToJson for ClassNo {
     ghost json = { class_json };
 
     fn tell(
@@ -57,7 +57,7 @@ impl Told for ClassNo {
     }
 }
 
-impl Told for FragNo {
+impl ToJson for FragNo {
     ghost json = { fragment_json };
 
     fn tell(
@@ -70,7 +70,7 @@ impl Told for FragNo {
     }
 }
 
-impl Told for TxnNo {
+impl ToJson for TxnNo {
     ghost json = { txn_json };
 
     fn tell(
@@ -91,7 +91,7 @@ fn put_module(text: &mut Vec<u8>, number: u8) -> Result<(), NoMemory>
     put(text, b"\"")
 }
 
-impl Told for DmNo {
+impl ToJson for DmNo {
     ghost json = { dm_json };
 
     fn tell(
@@ -105,7 +105,7 @@ impl Told for DmNo {
     }
 }
 
-impl Told for Site {
+impl ToJson for Site {
     ghost json = { site_json };
 
     fn tell(
@@ -145,7 +145,7 @@ pub(crate) fn put_attempt(
     put(text, b"\"")
 }
 
-impl Told for i64 {
+impl ToJson for i64 {
     ghost json = { key_json };
 
     fn tell(
@@ -179,7 +179,7 @@ fn row_words(alloc: Global, values: &[Value]) -> Result<Vec<u8>, NoMemory>
     Ok(words)
 }
 
-impl Told for Row {
+impl ToJson for Row {
     ghost json = { row_json };
 
     fn tell(
@@ -193,7 +193,7 @@ impl Told for Row {
     }
 }
 
-impl Told for Option<Row> {
+impl ToJson for Option<Row> {
     ghost json = { row_or_null_json };
 
     fn tell(
@@ -209,7 +209,7 @@ impl Told for Option<Row> {
     }
 }
 
-impl Told for Cond {
+impl ToJson for Cond {
     ghost json = { cond_json };
 
     fn tell(
@@ -222,7 +222,7 @@ impl Told for Cond {
     }
 }
 
-impl Told for Change {
+impl ToJson for Change {
     ghost json = { change_json };
 
     fn tell(

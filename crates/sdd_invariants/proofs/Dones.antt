@@ -107,25 +107,25 @@ once s x (_ ∷ log) h k = let i = once s x log h.1 k.1 in record { le = i.le; w
 -- sums over the modules
 abbrev sum_of : (ℕ → ℕ) → List ℕ → ℕ
 sum_of f [] = 0
-sum_of f (d ∷ ds) = f d + sum_of f ds
+sum_of f (d ∷ dms) = f d + sum_of f dms
 
-sum_le : (f : ℕ → ℕ) (ds : List ℕ) → ((d : ℕ) → f d ≤ 1) → sum_of f ds ≤ length ds
+sum_le : (f : ℕ → ℕ) (dms : List ℕ) → ((d : ℕ) → f d ≤ 1) → sum_of f dms ≤ length dms
 sum_le f [] h = omega arith
-sum_le f (d ∷ ds) h = let i = sum_le f ds h in let j = h d in omega arith
+sum_le f (d ∷ dms) h = let i = sum_le f dms h in let j = h d in omega arith
 
-all_one : (f : ℕ → ℕ) (ds : List ℕ) (k d : ℕ) → ((d : ℕ) → f d ≤ 1) → length ds ≤ sum_of f ds → slice_get ds k ≡ Some d → 0 < f d
+all_one : (f : ℕ → ℕ) (dms : List ℕ) (k d : ℕ) → ((d : ℕ) → f d ≤ 1) → length dms ≤ sum_of f dms → slice_get dms k ≡ Some d → 0 < f d
 all_one f [] k d h l e = cc
-all_one f (x ∷ ds) zero d h l e = let p : x ≡ d = cc in subst (λ y. 0 < f y) p (let i = sum_le f ds h in omega arith)
-all_one f (x ∷ ds) (suc k) d h l e = let i = h x in all_one f ds k d h (omega (arith, i)) e
+all_one f (x ∷ dms) zero d h l e = let p : x ≡ d = cc in subst (λ y. 0 < f y) p (let i = sum_le f dms h in omega arith)
+all_one f (x ∷ dms) (suc k) d h l e = let i = h x in all_one f dms k d h (omega (arith, i)) e
 
-sum_up : (f g : ℕ → ℕ) (ds : List ℕ) → ((d : ℕ) → f d ≤ g d) → sum_of f ds ≤ sum_of g ds
+sum_up : (f g : ℕ → ℕ) (dms : List ℕ) → ((d : ℕ) → f d ≤ g d) → sum_of f dms ≤ sum_of g dms
 sum_up f g [] h = omega arith
-sum_up f g (d ∷ ds) h = let i = sum_up f g ds h in let j = h d in omega arith
+sum_up f g (d ∷ dms) h = let i = sum_up f g dms h in let j = h d in omega arith
 
-sum_more : (f g : ℕ → ℕ) (ds : List ℕ) (k d : ℕ) → ((d : ℕ) → f d ≤ g d) → suc (f d) ≤ g d → slice_get ds k ≡ Some d → suc (sum_of f ds) ≤ sum_of g ds
+sum_more : (f g : ℕ → ℕ) (dms : List ℕ) (k d : ℕ) → ((d : ℕ) → f d ≤ g d) → suc (f d) ≤ g d → slice_get dms k ≡ Some d → suc (sum_of f dms) ≤ sum_of g dms
 sum_more f g [] k d h l e = cc
-sum_more f g (x ∷ ds) zero d h l e = grind (arith, sum_up)
-sum_more f g (x ∷ ds) (suc k) d h l e = let i = sum_more f g ds k d h l e in let j = h x in omega arith
+sum_more f g (x ∷ dms) zero d h l e = grind (arith, sum_up)
+sum_more f g (x ∷ dms) (suc k) d h l e = let i = sum_more f g dms k d h l e in let j = h x in omega arith
 
 -- each DONE comes from a data module of the catalogue
 abbrev IsFromModule : ℕ → site.Log → site.Entry → Type 0

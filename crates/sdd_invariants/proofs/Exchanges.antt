@@ -31,14 +31,14 @@ same_phase ts c x y e f g = grind (arith, AllAsk)
 two_steps : (ts c : ℕ) (x y z : Exchange) → GoesOn ts c x y → GoesOn ts c y z → GoesOn ts c x z
 two_steps ts c x y z h k = grind arith
 
-all_ask : (ts c : ℕ) (m : Msg) (ds : List ℕ) → asks_rows ts c m ≡ true → AllAsk ts c (to_all m ds)
+all_ask : (ts c : ℕ) (m : Msg) (dms : List ℕ) → asks_rows ts c m ≡ true → AllAsk ts c (to_all m dms)
 all_ask ts c m [] e = tt
-all_ask ts c m (d ∷ ds) e = (e, all_ask ts c m ds e)
+all_ask ts c m (d ∷ dms) e = (e, all_ask ts c m dms e)
 
-fetching : (ts c : ℕ) (m : Move) (x : Exchange) (ds : List ℕ) → GoesOn ts c x (fetches_from ts c m x ds)
+fetching : (ts c : ℕ) (m : Move) (x : Exchange) (dms : List ℕ) → GoesOn ts c x (fetches_from ts c m x dms)
 fetching ts c m x [] =
     two_steps ts c x (record x { union = [] }) _ (same_phase ts c x (record x { union = [] }) refl refl refl) (to_later ts c (record x { union = [] }) (reduces ts c m (record x { union = [] })) refl refl (λ h. all_ask ts c _ (with_use (record x { union = [] }) m.target.part) (own ts c)))
-fetching ts c m x (d ∷ ds) = to_later ts c x (fetches_from ts c m x (d ∷ ds)) refl refl (λ h. all_ask ts c _ (d ∷ ds) (own ts c))
+fetching ts c m x (d ∷ dms) = to_later ts c x (fetches_from ts c m x (d ∷ dms)) refl refl (λ h. all_ask ts c _ (d ∷ dms) (own ts c))
 
 going_on : (ts c : ℕ) (x : Exchange) (qs : List Asking) (done : List Step) → GoesOn ts c x (goes_on ts c x qs done)
 going_on ts c x [] done = to_later ts c x (ships ts c x) refl refl (λ h. all_ask ts c _ (map (λ m. m.0) x.modules) (own ts c))

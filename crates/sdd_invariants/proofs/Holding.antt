@@ -11,9 +11,9 @@ use Rattle.sdd_invariants.proofs.Places.{none_handed, none_sent}
 use Rattle.sdd_log.specs.tm.Due.{IsDue, by_start}
 use Rattle.sdd_log.specs.tm.Views.{class_view, view_of}
 
-quiet_mapped : (f : ℕ → Msg) (ds : List ℕ) → to_site U (map (λ d. (D (dm_no d), f d)) ds) ≡ []
+quiet_mapped : (f : ℕ → Msg) (dms : List ℕ) → to_site U (map (λ d. (D (dm_no d), f d)) dms) ≡ []
 quiet_mapped f [] = refl
-quiet_mapped f (d ∷ ds) = quiet_mapped f ds
+quiet_mapped f (d ∷ dms) = quiet_mapped f dms
 
 quiet_start : (s : Setting) (c : ℕ) (log : Log) (q : Queued) → QuietSends (sends_of_act (start_at s c log q))
 quiet_start s c log q = (

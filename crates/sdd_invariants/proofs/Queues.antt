@@ -35,22 +35,22 @@ head_known c log (x ∷ xs) q h e =
     ] refl
 
 -- a Start of the class
-abbrev stands : ℕ → Txn → ℕ → Queued
-stands n txn t = record { number = n; text = txn; tries = t }
+abbrev queued_as : ℕ → Txn → ℕ → Queued
+queued_as n txn t = record { number = n; text = txn; tries = t }
 
 pub served_head : (a : Attempt) (qs : List Queued) → IsServed (Some a) qs
     → (q : Queued) × (head_of qs ≡ Some q) × (q.number ≡ a.txn) × (q.text ≡ a.text) × (q.tries ≡ a.attempt) × (0 < a.attempt)
 served_head a qs h = grind arith
 
 queue_start : (s : Setting) (c : ℕ) (log : Log) (q : Queued) → head_of (queue s c log) ≡ Some q → IsQueue s c log → IsQueue s c (Did (start_at s c log q) ∷ log)
-queue_start s c log q e h = grind (arith, same_number, head_known, map_each, is_committed, queued, stands, known_more, same_or_not, submits)
+queue_start s c log q e h = grind (arith, same_number, head_known, map_each, is_committed, queued, queued_as, known_more, same_or_not, submits)
 
 queue_submit : (s : Setting) (c : ℕ) (log : Log) (k : ℕ) (txn : Txn) → contains (submits log) k ≡ false → IsQueue s c log → IsQueue s c (Submits k txn ∷ log)
-queue_submit s c log k txn new h = grind (arith, known_more, or_right, same_number, stands, filter_map, filter_map-append, if_way, known_push, neither_right)
+queue_submit s c log k txn new h = grind (arith, known_more, or_right, same_number, queued_as, filter_map, filter_map-append, if_way, known_push, neither_right)
 
 queue_commit : (s : Setting) (c : ℕ) (bases : Bases) (log : Log) (a : Attempt) → active s c log ≡ Some a → IsQueue s c log
     → IsQueue s c (Did (commit_act s.catalogue bases c a) ∷ log)
-queue_commit s c bases log a e h = grind (arith, same_number, served_head, head_known, filter_each, stands, known_more, same_or_not, submits)
+queue_commit s c bases log a e h = grind (arith, same_number, served_head, head_known, filter_each, queued_as, known_more, same_or_not, submits)
 
 -- an entry that leaves the queue as it is
 queue_same : (s : Setting) (c : ℕ) (log : Log) (e : Entry) → queue s c (e ∷ log) ≡ queue s c log

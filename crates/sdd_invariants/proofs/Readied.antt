@@ -15,14 +15,14 @@ pub asks_whose : (t k ts c : ℕ) (m : Msg) → asks_rows t k m ≡ true → ask
 asks_whose t k ts c m e f = grind (arith, eqb-true, and_left, and_right)
 
 -- what a Start and a Commit put is no question
-start_asks : (ts c : ℕ) (f : ℕ → Site × Msg) (ds : List ℕ) → ((d : ℕ) → asks_rows ts c (f d).1 ≡ false) → asks_in ts c (map f ds) ≡ false
+start_asks : (ts c : ℕ) (f : ℕ → Site × Msg) (dms : List ℕ) → ((d : ℕ) → asks_rows ts c (f d).1 ≡ false) → asks_in ts c (map f dms) ≡ false
 start_asks ts c f [] h = refl
-start_asks ts c f (d ∷ ds) h = neither (asks_rows ts c (f d).1) _ (h d) (start_asks ts c f ds h)
+start_asks ts c f (d ∷ dms) h = neither (asks_rows ts c (f d).1) _ (h d) (start_asks ts c f dms h)
 
-commit_asks : (ts c : ℕ) (f : ℕ → Option (Site × Msg)) (ds : List ℕ)
-    → ((d : ℕ) (p : Site × Msg) → f d ≡ Some p → asks_rows ts c p.1 ≡ false) → asks_in ts c (filter_map f ds) ≡ false
+commit_asks : (ts c : ℕ) (f : ℕ → Option (Site × Msg)) (dms : List ℕ)
+    → ((d : ℕ) (p : Site × Msg) → f d ≡ Some p → asks_rows ts c p.1 ≡ false) → asks_in ts c (filter_map f dms) ≡ false
 commit_asks ts c f [] h = refl
-commit_asks ts c f (d ∷ ds) h = grind (arith, asks_in, neither, commit_asks ts c f ds h)
+commit_asks ts c f (d ∷ dms) h = grind (arith, asks_in, neither, commit_asks ts c f dms h)
 
 asks_start : (s : Setting) (ts c k : ℕ) (log : Log) (q : Queued) → asks_in ts c (sends_of_act (start_at s k log q)) ≡ false
 asks_start s ts c k log q = start_asks ts c (λ d. (D (dm_no d), start_read s k log q d)) (modules_asked s k q.text) (λ d. refl)
@@ -135,10 +135,10 @@ readied_hand : (s : Setting) (c : ℕ) (from : Site) (m : Msg) (log : Log) (o : 
 readied_hand s c from m log o honest h = grind (arith, hand_goes, if_way, ready_hand, never, ready_more, handed_more)
 
 -- a Start
-starts_with : (s : Setting) (k : ℕ) (log : Log) (q : Queued) (ds : List ℕ)
-    → firsts (filter_map module_read (map (λ d. (D (dm_no d), start_read s k log q d)) ds)) ≡ ds
+starts_with : (s : Setting) (k : ℕ) (log : Log) (q : Queued) (dms : List ℕ)
+    → firsts (filter_map module_read (map (λ d. (D (dm_no d), start_read s k log q d)) dms)) ≡ dms
 starts_with s k log q [] = refl
-starts_with s k log q (d ∷ ds) = ap (λ l. d ∷ l) (starts_with s k log q ds)
+starts_with s k log q (d ∷ dms) = ap (λ l. d ∷ l) (starts_with s k log q dms)
 
 empty_or : (ms : List (ℕ × List ℕ)) → (ms ≡ [] → ⊥) ⊎ (ms ≡ [])
 empty_or [] = inr refl

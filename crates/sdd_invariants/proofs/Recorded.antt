@@ -50,8 +50,8 @@ pub start_of_active : (s : Setting) (c : ℕ) (log : Log) (a : Attempt) → Each
     → HasStart s c log a.txn a.attempt a.ts a.text
 start_of_active s c log a h e = subst (IsStarted s c log) e (started_is s c log h)
 
-abbrev stands : ℕ → Txn → ℕ → Queued
-stands n txn t = record { number = n; text = txn; tries = t }
+abbrev queued_as : ℕ → Txn → ℕ → Queued
+queued_as n txn t = record { number = n; text = txn; tries = t }
 
 abbrev pair : ℕ → Txn → ℕ × Txn
 pair n t = (n, t)
@@ -62,7 +62,7 @@ first_left c log (x ∷ xs) q e =
     elim (is_committed c x.0 log) as (λ b. is_committed c x.0 log ≡ b → IsFirstLeft c log (x ∷ xs) q) [
       | true ↦ λ p. let i = first_left c log xs q (rw p at e) in
           record { place = suc i.place; number = i.number; text = i.text; there = i.there; number_is = i.number_is; text_is = i.text_is; not_committed = i.not_committed; tries_are = i.tries_are; before_it = (p, i.before_it) }
-      | false ↦ grind (arith, stands, starts_of, is_committed)
+      | false ↦ grind (arith, queued_as, starts_of, is_committed)
     ] refl
 
 pub head_left : (s : Setting) (c : ℕ) (log : Log) (q : Queued) → Each (IsFair s) log → Each IsNew log

@@ -166,9 +166,9 @@ chain_on : (s : Setting) (t : ℕ) (log : Log) (e : Entry) → counts t (e ∷ l
     → starts (e ∷ log) ≡ starts log → puts_to (T (tm_no t)) (e ∷ log) ≡ puts_to (T (tm_no t)) log → IsChain s t log → IsChain s t (e ∷ log)
 chain_on s t log e k c d n p h = grind arith
 
-pub none_mapped : (t : TmNo) (f : ℕ → Msg) (ds : List ℕ) → to_site (T t) (map (λ d. (D (dm_no d), f d)) ds) ≡ []
+pub none_mapped : (t : TmNo) (f : ℕ → Msg) (dms : List ℕ) → to_site (T t) (map (λ d. (D (dm_no d), f d)) dms) ≡ []
 none_mapped t f [] = refl
-none_mapped t f (d ∷ ds) = none_mapped t f ds
+none_mapped t f (d ∷ dms) = none_mapped t f dms
 
 chain_start : (s : Setting) (t : ℕ) (log : Log) (q : Queued) → head_of (queue s 0 log) ≡ Some q → q.tries ≡ 0
     → ((counts t log).holds ≡ suc (last_served s log).commits) × ((counts t log).helds ≡ suc (last_served s log).commits)

@@ -18,15 +18,15 @@ the_one b to x k m e = let i = in_if (same_site b to) x k m e in (site_is b to i
 pub other_module : (b : Site) (a d : ℕ) → same_site b (D (dm_no a)) ≡ true → a < d → same_site b (D (dm_no d)) ≡ false
 other_module b a d e l = grind (arith, same_or_not, eqb-true)
 
-none_of : (f : ℕ → Msg) (b : Site) (a : ℕ) (ds : List ℕ) → same_site b (D (dm_no a)) ≡ true → AllGt a ds → to_site b (map (λ d. (D (dm_no d), f d)) ds) ≡ []
+none_of : (f : ℕ → Msg) (b : Site) (a : ℕ) (dms : List ℕ) → same_site b (D (dm_no a)) ≡ true → AllGt a dms → to_site b (map (λ d. (D (dm_no d), f d)) dms) ≡ []
 none_of f b a [] e h = refl
-none_of f b a (d ∷ ds) e h = rw (other_module b a d e h.0) (none_of f b a ds e h.1)
+none_of f b a (d ∷ dms) e h = rw (other_module b a d e h.0) (none_of f b a dms e h.1)
 
 -- one to each module of an ascending list: to a site at most one
-pub one_of_each : (f : ℕ → Msg) (b : Site) (ds : List ℕ) → IsStrict ds
-    → (to_site b (map (λ d. (D (dm_no d), f d)) ds) ≡ []) ⊎ ((d : ℕ) × (to_site b (map (λ d. (D (dm_no d), f d)) ds) ≡ f d ∷ []))
+pub one_of_each : (f : ℕ → Msg) (b : Site) (dms : List ℕ) → IsStrict dms
+    → (to_site b (map (λ d. (D (dm_no d), f d)) dms) ≡ []) ⊎ ((d : ℕ) × (to_site b (map (λ d. (D (dm_no d), f d)) dms) ≡ f d ∷ []))
 one_of_each f b [] h = inl refl
-one_of_each f b (d ∷ ds) h = grind (arith, none_of, one_of_each f b ds h.1)
+one_of_each f b (d ∷ dms) h = grind (arith, none_of, one_of_each f b dms h.1)
 
 -- to each module at most one
 abbrev pub GoesTo : (ℕ → Option (Site × Msg)) → Type 0

@@ -59,13 +59,13 @@ piped_other : (k c t : ℕ) (b : Site) (ps : List (Site × Msg)) → (k == c) �
 piped_other k c t b [] e h = refl
 piped_other k c t b (p ∷ ps) e h = times_none c (same_site b p.0) p.1 (to_site b ps) (ap (class_is c) h.0 ∙ e) (piped_other k c t b ps e h.1)
 
-piped_map : (k t : ℕ) (f : ℕ → Site × Msg) (ds : List ℕ) → ((d : ℕ) → piped (f d).1 ≡ Some (k, t)) → AllPiped k t (map f ds)
+piped_map : (k t : ℕ) (f : ℕ → Site × Msg) (dms : List ℕ) → ((d : ℕ) → piped (f d).1 ≡ Some (k, t)) → AllPiped k t (map f dms)
 piped_map k t f [] h = tt
-piped_map k t f (d ∷ ds) h = (h d, piped_map k t f ds h)
+piped_map k t f (d ∷ dms) h = (h d, piped_map k t f dms h)
 
-piped_writes : (cat : Catalogue) (c : ℕ) (a : Attempt) (changes : List Change) (ds : List ℕ) → AllPiped c a.ts (filter_map (write_to cat c a changes) ds)
+piped_writes : (cat : Catalogue) (c : ℕ) (a : Attempt) (changes : List Change) (dms : List ℕ) → AllPiped c a.ts (filter_map (write_to cat c a changes) dms)
 piped_writes cat c a changes [] = tt
-piped_writes cat c a changes (d ∷ ds) = grind (arith, piped_writes cat c a changes ds)
+piped_writes cat c a changes (d ∷ dms) = grind (arith, piped_writes cat c a changes dms)
 
 pub piped_start : (s : Setting) (c : ℕ) (log : Log) (q : Queued) → AllPiped c (next_stamp s log) (sends_of_act (start_at s c log q))
 piped_start s c log q = piped_map c _ _ _ (λ d. refl)

@@ -25,9 +25,9 @@ open_le b d o l = grind arith
 no_writes_if : (c : ℕ) (b : Bool) (m : Msg) (ms : List Msg) → write_at c m ≡ None → writes_in c ms ≡ [] → writes_in c (if b then m ∷ ms else ms) ≡ []
 no_writes_if c b m ms e h = grind arith
 
-start_writes : (c : ℕ) (b : Site) (f : ℕ → Site × Msg) (ds : List ℕ) → ((d : ℕ) → write_at c (f d).1 ≡ None) → writes_in c (to_site b (map f ds)) ≡ []
+start_writes : (c : ℕ) (b : Site) (f : ℕ → Site × Msg) (dms : List ℕ) → ((d : ℕ) → write_at c (f d).1 ≡ None) → writes_in c (to_site b (map f dms)) ≡ []
 start_writes c b f [] h = refl
-start_writes c b f (d ∷ ds) h = no_writes_if c (same_site b (f d).0) (f d).1 (to_site b (map f ds)) (h d) (start_writes c b f ds h)
+start_writes c b f (d ∷ dms) h = no_writes_if c (same_site b (f d).0) (f d).1 (to_site b (map f dms)) (h d) (start_writes c b f dms h)
 
 abbrev sent_to : ℕ → Msg → Option (Site × Msg)
 sent_to d m = Some (D (dm_no d), m)

@@ -13,7 +13,7 @@ few_uses cat before s fits = grind (arith, length-part_uses)
 -- what is known of the uses of the first statements
 pub record AreUsesSoFar (cat : Catalogue) (statements : List Stmt) (i : ℕ) (uses : List Use) : Type 0 where
   pub few : length uses ≤ 6 * i
-  pub told : uses ++ uses_from cat (length uses) (drop i statements) ≡ uses_from cat 0 statements
+  pub uses_are : uses ++ uses_from cat (length uses) (drop i statements) ≡ uses_from cat 0 statements
 
 pub uses_more : (cat : Catalogue) (statements : List Stmt) (i : ℕ) (s : Stmt) (xs ys : List Use) → All (FitsStatement cat) statements
     → i < length statements → s ≡ get_or statements i s
@@ -22,7 +22,7 @@ uses_more cat statements i s xs ys fits within is so more =
     let short = few_uses cat (length xs) s (subst (FitsStatement cat) (sym is) (fits i s within)) in
     let long : length ys ≡ length xs + length (statement_uses cat (length xs) s) = ap length more ∙ length-append xs (statement_uses cat (length xs) s) in
     let rest = at_drop_more (uses_from cat (length xs)) statements i s within ∙ ap (λ z. uses_from cat (length xs) (z ∷ drop (i + 1) statements)) (sym is) in
-    record { few = omega (arith, so.few, short); told = rw (long, more, append_assoc xs) (ap (λ zs. xs ++ zs) (sym rest) ∙ so.told) }
+    record { few = omega (arith, so.few, short); uses_are = rw (long, more, append_assoc xs) (ap (λ zs. xs ++ zs) (sym rest) ∙ so.uses_are) }
 
 restrictions_more : (part : ℕ) (conds : List Condition) (i : ℕ) (c : Condition) → i < length conds → c ≡ get_or conds i c
     → length (restrictions_of part (take (i + 1) conds)) ≡ length (restrictions_of part (take i conds)) + length (cons_option (restriction_of part c) [])

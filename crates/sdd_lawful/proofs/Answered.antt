@@ -44,19 +44,19 @@ answer_head s l k txn attempt dm sends (by_record j m r ss lt p i may e) =
 -- a Start sends one READ to each module that it asks
 
 abbrev reads_to : (ℕ → Msg) → List ℕ → List (Site × Msg)
-reads_to f ds = map (λ d. (D (dm_no d), f d)) ds
+reads_to f dms = map (λ d. (D (dm_no d), f d)) dms
 
-read_here : (f : ℕ → Msg) (x d : ℕ) (ds : List ℕ) (k : ℕ) (m : Msg) → x ≡ d
-    → ((j : ℕ) → slice_get (to_site (D (dm_no x)) (reads_to f ds)) j ≡ Some m → (contains ds x ≡ true) × (f x ≡ m))
-    → slice_get (f d ∷ to_site (D (dm_no x)) (reads_to f ds)) k ≡ Some m → (contains (d ∷ ds) x ≡ true) × (f x ≡ m)
-read_here f x d ds k m p i e = grind (arith, or_left, same_number, or_right)
+read_here : (f : ℕ → Msg) (x d : ℕ) (dms : List ℕ) (k : ℕ) (m : Msg) → x ≡ d
+    → ((j : ℕ) → slice_get (to_site (D (dm_no x)) (reads_to f dms)) j ≡ Some m → (contains dms x ≡ true) × (f x ≡ m))
+    → slice_get (f d ∷ to_site (D (dm_no x)) (reads_to f dms)) k ≡ Some m → (contains (d ∷ dms) x ≡ true) × (f x ≡ m)
+read_here f x d dms k m p i e = grind (arith, or_left, same_number, or_right)
 
-pub in_reads : (f : ℕ → Msg) (x : ℕ) (ds : List ℕ) (k : ℕ) (m : Msg) → slice_get (to_site (D (dm_no x)) (reads_to f ds)) k ≡ Some m
-    → (contains ds x ≡ true) × (f x ≡ m)
+pub in_reads : (f : ℕ → Msg) (x : ℕ) (dms : List ℕ) (k : ℕ) (m : Msg) → slice_get (to_site (D (dm_no x)) (reads_to f dms)) k ≡ Some m
+    → (contains dms x ≡ true) × (f x ≡ m)
 in_reads f x [] k m e = cc
-in_reads f x (d ∷ ds) k m e = elim (same_or_not x d) [
-  | inl p ↦ read_here f x d ds k m p (λ j r. in_reads f x ds j m r) (rw (ap (λ y. x == y) (sym p) ∙ same_number x) at e)
-  | inr p ↦ (let i = in_reads f x ds k m (rw p at e) in (or_right (d == x) (contains ds x) i.0, i.1))
+in_reads f x (d ∷ dms) k m e = elim (same_or_not x d) [
+  | inl p ↦ read_here f x d dms k m p (λ j r. in_reads f x dms j m r) (rw (ap (λ y. x == y) (sym p) ∙ same_number x) at e)
+  | inr p ↦ (let i = in_reads f x dms k m (rw p at e) in (or_right (d == x) (contains dms x) i.0, i.1))
 ]
 
 abbrev conds_of : Msg → List Cond

@@ -8,29 +8,29 @@ use Rattle.sdd_lawful.proofs.Started.{act_local, one_start_class, run_in, start_
 use Rattle.sdd_invariants.specs.site_module.SiteLog as site
 
 -- what a Commit tells
-pub record Told : Type 0 where
+pub record CommitContent : Type 0 where
   pub reply : Reply
   pub changes : List Change
   pub values : ℕ
   pub rows : ℕ
 
-abbrev pub commit_rec : ℕ → ℕ → Told → Rec
+abbrev pub commit_rec : ℕ → ℕ → CommitContent → Rec
 commit_rec n number t = Commit (txn_no n) number t.reply t.changes t.values t.rows
 
-pub record IsCommitIn (g : Input) (log : Log) (n number k : ℕ) (told : Told) : Type 0 where
+pub record IsCommitIn (g : Input) (log : Log) (n number k : ℕ) (content : CommitContent) : Type 0 where
   pub class : ℕ
   pub later : Log
   pub sends : List (Site × Msg)
   pub before : Log
-  pub is : log ≡ later ++ Does (home g.catalogue class) (Records class (commit_rec n number told) sends) ∷ before
+  pub is : log ≡ later ++ Does (home g.catalogue class) (Records class (commit_rec n number content) sends) ∷ before
   pub place_is : length (history before) ≡ k
-  pub permitted : IsPermitted g (Does (home g.catalogue class) (Records class (commit_rec n number told) sends) ∷ before)
-  pub says : IsCommitRecord (home_setting g class) (at_home g class before) class (txn_no n) number told.changes
+  pub permitted : IsPermitted g (Does (home g.catalogue class) (Records class (commit_rec n number content) sends) ∷ before)
+  pub says : IsCommitRecord (home_setting g class) (at_home g class before) class (txn_no n) number content.changes
 
-pub commit_in : (g : Input) (log : Log) (n number k : ℕ) (told : Told) → IsSoundCatalogue g.catalogue → IsPermitted g log
-    → IsRecordAt (history log) k (commit_rec n number told) → IsCommitIn g log n number k told
-commit_in g log n number k told sound h s =
-    let m = run_in g log k (commit_rec n number told) h refl refl s in
+pub commit_in : (g : Input) (log : Log) (n number k : ℕ) (content : CommitContent) → IsSoundCatalogue g.catalogue → IsPermitted g log
+    → IsRecordAt (history log) k (commit_rec n number content) → IsCommitIn g log n number k content
+commit_in g log n number k content sound h s =
+    let m = run_in g log k (commit_rec n number content) h refl refl s in
     record {
       class = m.class;
       later = m.later;
@@ -39,7 +39,8 @@ commit_in g log n number k told sound h s =
       is = m.is;
       place_is = m.place_is;
       permitted = m.permitted;
-      says = says_at g m.class m.before (Records m.class (commit_rec n number told) m.sends) m.permitted (omega (arith, home_small g.catalogue sound m.class));
+      says = says_at g m.class m.before (Records m.class (commit_rec n number content) m.sends) m.permitted
+          (omega (arith, home_small g.catalogue sound m.class));
     }
 
 -- the head of a queue has the text that was submitted
@@ -74,15 +75,15 @@ begun_as g c l q place = record {
   place = place;
 }
 
-pub begun : (g : Input) (log : Log) (n number k : ℕ) (told : Told) (x : IsCommitIn g log n number k told)
+pub begun : (g : Input) (log : Log) (n number k : ℕ) (content : CommitContent) (x : IsCommitIn g log n number k content)
     → IsBegun g log n number k x.class x.says.now.ts x.says.now.text
-begun g log n number k told x =
+begun g log n number k content x =
     let at : Site = home g.catalogue x.class in
     let s = x.says.start in
     let act : Act = start_at (home_setting g x.class) x.class s.before s.queued in
     let p = place_of_act g at x.before s.later act s.before s.is in
     let a : Attempt = begun_as g x.class s.before s.queued (length (history p.rest)) in
-    let w = further_back log x.later x.before (Does at (Records x.class (commit_rec n number told) x.sends)) (Does at act) p.later p.rest x.is p.is in
+    let w = further_back log x.later x.before (Does at (Records x.class (commit_rec n number content) x.sends)) (Does at act) p.later p.rest x.is p.is in
     let front : length (history x.before) ≡ length (history (p.later ++ Does at act ∷ p.rest)) = ap (λ l. length (history l)) p.is in
     record {
       attempt = a;
@@ -98,28 +99,36 @@ begun g log n number k told x =
       before = omega (arith, place_rises p.later (Does at act) p.rest (start_of a) refl, x.place_is);
     }
 
-abbrev pub commit_made : (g : Input) (log : Log) (n number k : ℕ) (told : Told) (x : IsCommitIn g log n number k told)
-    → IsMadeAt log k (commit_rec n number told)
-commit_made g log n number k told x =
-    record { later = x.later; entry = Does (home g.catalogue x.class) (Records x.class (commit_rec n number told) x.sends); before = x.before; is = x.is; makes = refl; place_is = x.place_is }
+abbrev pub commit_made : (g : Input) (log : Log) (n number k : ℕ) (content : CommitContent) (x : IsCommitIn g log n number k content)
+    → IsMadeAt log k (commit_rec n number content)
+commit_made g log n number k content x =
+    record {
+      later = x.later;
+      entry = Does (home g.catalogue x.class) (Records x.class (commit_rec n number content) x.sends);
+      before = x.before;
+      is = x.is;
+      makes = refl;
+      place_is = x.place_is;
+    }
 
 -- a transaction's Commit has the class of its Starts
-pub commit_class : (g : Input) (log : Log) (n number k : ℕ) (told : Told) (x : IsCommitIn g log n number k told) (a : Attempt)
+pub commit_class : (g : Input) (log : Log) (n number k : ℕ) (content : CommitContent) (x : IsCommitIn g log n number k content) (a : Attempt)
     → IsSoundCatalogue g.catalogue → IsPermitted g log → IsAttempt (history log) a → a.txn ≡ n → a.class ≡ x.class
-commit_class g log n number k told x a sound h s e =
-    let b = begun g log n number k told x in
+commit_class g log n number k content x a sound h s e =
+    let b = begun g log n number k content x in
     one_start_class g log a b.attempt h (start_in g log a sound h s) (start_in g log b.attempt sound h b.started) (e ∙ sym b.txn_is) ∙ b.class_is
 
 -- at the site of its class it is seen from then on
-pub commit_seen : (g : Input) (c n number : ℕ) (told : Told) (sends : List (Site × Msg)) (later before : Log)
-    → is_committed c n (at_home g c (later ++ Does (home g.catalogue c) (Records c (commit_rec n number told) sends) ∷ before)) ≡ true
-commit_seen g c n number told sends later before =
-    let act : Act = Records c (commit_rec n number told) sends in
+pub commit_seen : (g : Input) (c n number : ℕ) (content : CommitContent) (sends : List (Site × Msg)) (later before : Log)
+    → is_committed c n (at_home g c (later ++ Does (home g.catalogue c) (Records c (commit_rec n number content) sends) ∷ before)) ≡ true
+commit_seen g c n number content sends later before =
+    let act : Act = Records c (commit_rec n number content) sends in
     let m = act_local g (home g.catalogue c) act later before in
     subst (λ l. is_committed c n l ≡ true) (sym m.1)
-    (committed_later c n m.0 (Did act ∷ at_home g c before) (committed_here c (at_home g c before) (txn_no n) number told.reply told.changes told.values told.rows sends))
+    (committed_later c n m.0 (Did act ∷ at_home g c before)
+    (committed_here c (at_home g c before) (txn_no n) number content.reply content.changes content.values content.rows sends))
 
-not_after : {A : Type 0} (g : Input) (log : Log) (n i j k l : ℕ) (t u : Told) (x : IsCommitIn g log n i k t) (y : IsCommitIn g log n j l u)
+not_after : {A : Type 0} (g : Input) (log : Log) (n i j k l : ℕ) (t u : CommitContent) (x : IsCommitIn g log n i k t) (y : IsCommitIn g log n j l u)
     → x.class ≡ y.class → (between : Log) → y.before ≡ between ++ Does (home g.catalogue x.class) (Records x.class (commit_rec n i t) x.sends) ∷ x.before → A
 not_after g log n i j k l t u x y e between p = grind (arith, at_home, commit_seen)
 
@@ -127,8 +136,8 @@ not_after g log n i j k l t u x y e between p = grind (arith, at_home, commit_se
 pub one_commit : (g : Input) (log : Log) → IsSoundCatalogue g.catalogue → IsPermitted g log → (n i j k l : ℕ) → HasCommit (history log) n i k
     → HasCommit (history log) n j l → k ≡ l
 one_commit g log sound h n i j k l p q =
-    let t : Told = record { reply = p.reply; changes = p.changes; values = p.values; rows = p.rows } in
-    let u : Told = record { reply = q.reply; changes = q.changes; values = q.values; rows = q.rows } in
+    let t : CommitContent = record { reply = p.reply; changes = p.changes; values = p.values; rows = p.rows } in
+    let u : CommitContent = record { reply = q.reply; changes = q.changes; values = q.values; rows = q.rows } in
     let x = commit_in g log n i k t sound h p.is_recorded in
     let y = commit_in g log n j l u sound h q.is_recorded in
     let b = begun g log n i k t x in

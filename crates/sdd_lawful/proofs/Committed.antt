@@ -1,7 +1,7 @@
 -- A committed transaction of a history, as the Commit of an active attempt; and what makes one of each.
 use Rattle.sdd_lawful.proofs.All.{Act, Attempt, Bases, Change, Commit, Committed, Does, Each, Effect, Input, IsAttempt, IsCommitted, IsFair, IsMadeAt, IsPermitted, IsRecordAt, IsSoundCatalogue, IsStep, List, Log, Records, Reply, Running, Setting, Some, TxnNo, active, ap, arith, commit_act, effect, history, home, home_fair, length, one_active, one_attempt, one_of_txn, one_start, own_act, permitted_before, refl, same_start, says_at, sends_of_act, step_way, subst, sym, txn_at, txn_no, uses_of, ℕ, ◌++◌, ◌∙◌, ◌∷◌, ◌≡◌}
 use Rattle.sdd_lawful.proofs.Classes.{at_home, home_setting}
-use Rattle.sdd_lawful.proofs.Commits.{IsCommitIn, Told, begun, commit_class, commit_in, commit_rec, one_commit}
+use Rattle.sdd_lawful.proofs.Commits.{CommitContent, IsCommitIn, begun, commit_class, commit_in, commit_rec, one_commit}
 use Rattle.sdd_lawful.proofs.Counted.{numbered}
 use Rattle.sdd_lawful.proofs.Homes.{home_small}
 use Rattle.sdd_lawful.proofs.Places.{recorded_there}
@@ -64,17 +64,17 @@ pub record IsCommittedIn (g : Input) (log : Log) (t : Committed) : Type 0 where
 
 pub committed_in : (g : Input) (log : Log) (t : Committed) → IsSoundCatalogue g.catalogue → IsPermitted g log → IsCommitted (history log) t → IsCommittedIn g log t
 committed_in g log t sound h c =
-    let told : Told = record { reply = t.reply; changes = t.changes; values = t.values; rows = t.rows } in
-    let x = commit_in g log t.start.txn t.start.number t.place told sound h c.committed in
-    let b = begun g log t.start.txn t.start.number t.place told x in
-    let act : Act = Records x.class (commit_rec t.start.txn t.start.number told) x.sends in
+    let content : CommitContent = record { reply = t.reply; changes = t.changes; values = t.values; rows = t.rows } in
+    let x = commit_in g log t.start.txn t.start.number t.place content sound h c.committed in
+    let b = begun g log t.start.txn t.start.number t.place content x in
+    let act : Act = Records x.class (commit_rec t.start.txn t.start.number content) x.sends in
     let r : IsOfRunning (home_setting g x.class) (at_home g x.class x.before) x.class (txn_no t.start.txn) t.start.number t.reply t.changes act = of_running
     (home_setting g x.class) (at_home g x.class x.before) act (home_step g x.class x.before act x.permitted) in
     let now : x.says.now ≡ r.running = one_active (home_setting g x.class) x.class
     (at_home g x.class x.before) x.says.now r.running x.says.active_is r.active_is in
     let start : t.start ≡ b.attempt = same_attempt g log sound h t.start b.attempt c.started b.started (sym b.txn_is) (sym b.number_is) in
     let ts : r.running.ts ≡ t.start.ts = ap (λ (y : Running). y.ts) (sym now) ∙ sym b.ts_is ∙ ap (λ (y : Attempt). y.ts) (sym start) in
-    (grind (arith, home_setting, at_home, sym (commit_class g log t.start.txn t.start.number t.place told x t.start sound h c.started refl)))
+    (grind (arith, home_setting, at_home, sym (commit_class g log t.start.txn t.start.number t.place content x t.start sound h c.started refl)))
 
 abbrev pub committed_made : (g : Input) (log : Log) (t : Committed) (x : IsCommittedIn g log t)
     → IsMadeAt log t.place
@@ -94,8 +94,8 @@ pub record IsCommitOfLog (g : Input) (log : Log) (class : ℕ) (bases : Bases) (
   pub place_is : committed.place ≡ length (history before)
   pub changes_are : committed.changes ≡ (effect g.catalogue (bases running.ts) running.text).changes
 
-abbrev pub told_by : Input → Bases → Running → Told
-told_by g bases a =
+abbrev pub commit_content : Input → Bases → Running → CommitContent
+commit_content g bases a =
     let e : Effect = effect g.catalogue (bases a.ts) a.text in
     record { reply = e.reply; changes = e.changes; values = a.exchange.values; rows = a.exchange.rows }
 
@@ -104,10 +104,10 @@ pub commit_of_log : (g : Input) (log later before : Log) (class : ℕ) (bases : 
     → active (home_setting g class) class (at_home g class before) ≡ Some running → IsCommitOfLog g log class bases running before
 commit_of_log g log later before class bases running sound h is active_is =
     let act : Act = commit_act g.catalogue bases class running in
-    let told : Told = told_by g bases running in
+    let content : CommitContent = commit_content g bases running in
     let now : IsPermitted g (Does (home g.catalogue class) act ∷ before) =
     permitted_before g later (Does (home g.catalogue class) act ∷ before) (subst (IsPermitted g) is h) in
-    let x : IsCommitIn g log running.txn running.attempt (length (history before)) told =
+    let x : IsCommitIn g log running.txn running.attempt (length (history before)) content =
     record {
       class = class;
       later = later;
@@ -118,15 +118,22 @@ commit_of_log g log later before class bases running sound h is active_is =
       permitted = now;
       says = says_at g class before act now (omega (arith, home_small g.catalogue sound class));
     } in
-    let b = begun g log running.txn running.attempt (length (history before)) told x in
-    let there : IsRecordAt (history log) (length (history before)) (commit_rec running.txn running.attempt told) = subst
-    (λ l. IsRecordAt (history l) (length (history before)) (commit_rec running.txn running.attempt told)) (sym is)
-    (recorded_there later (Does (home g.catalogue class) act) before (commit_rec running.txn running.attempt told) refl) in
-    let named : IsRecordAt (history log) (length (history before)) (commit_rec b.attempt.txn b.attempt.number told) = subst
-    (λ n. IsRecordAt (history log) (length (history before)) (commit_rec b.attempt.txn n told)) (sym b.number_is)
-    (subst (λ n. IsRecordAt (history log) (length (history before)) (commit_rec n running.attempt told)) (sym b.txn_is) there) in
+    let b = begun g log running.txn running.attempt (length (history before)) content x in
+    let there : IsRecordAt (history log) (length (history before)) (commit_rec running.txn running.attempt content) = subst
+    (λ l. IsRecordAt (history l) (length (history before)) (commit_rec running.txn running.attempt content)) (sym is)
+    (recorded_there later (Does (home g.catalogue class) act) before (commit_rec running.txn running.attempt content) refl) in
+    let named : IsRecordAt (history log) (length (history before)) (commit_rec b.attempt.txn b.attempt.number content) = subst
+    (λ n. IsRecordAt (history log) (length (history before)) (commit_rec b.attempt.txn n content)) (sym b.number_is)
+    (subst (λ n. IsRecordAt (history log) (length (history before)) (commit_rec n running.attempt content)) (sym b.txn_is) there) in
     record {
-      committed = record { start = b.attempt; reply = told.reply; changes = told.changes; values = told.values; rows = told.rows; place = length (history before) };
+      committed = record {
+        start = b.attempt;
+        reply = content.reply;
+        changes = content.changes;
+        values = content.values;
+        rows = content.rows;
+        place = length (history before);
+      };
       is_committed = record { started = b.started; committed = named };
       txn_is = b.txn_is;
       number_is = b.number_is;

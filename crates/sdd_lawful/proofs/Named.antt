@@ -5,7 +5,7 @@ use Rattle.sdd_lawful.proofs.Applied.{apply_in}
 use Rattle.sdd_lawful.proofs.Applies.{of_commit}
 use Rattle.sdd_lawful.proofs.Classes.{at_home, home_setting}
 use Rattle.sdd_lawful.proofs.Committed.{home_step}
-use Rattle.sdd_lawful.proofs.Commits.{Told, begun, begun_as, commit_in, commit_rec}
+use Rattle.sdd_lawful.proofs.Commits.{CommitContent, begun, begun_as, commit_in, commit_rec}
 use Rattle.sdd_lawful.proofs.Dues.{arrives, home_runs, null_asked, passing, sends_null, waiting}
 use Rattle.sdd_lawful.proofs.Existing.{cond_exists, fragment_exists, module_exists, uses_exist}
 use Rattle.sdd_lawful.proofs.Makers.{IsOfData, data_home, is_of_run, is_own, none_own}
@@ -107,20 +107,21 @@ module _ (g : Input) (rows : List (RelNo × Row)) (eras : Eras) (log : Log) (sou
       (recorded_there later (Does at (Records c (start_of a) sends)) before (start_of a) refl) in
       ((attempt_class a s, All-from_recursion (UseExists cat) uses (attempt_uses a s)), attempt_txn a s)
 
-  commit_known : (later : Log) (at : Site) (c : ℕ) (txn : TxnNo) (number : ℕ) (told : Told) (sends : List (Site × Msg)) (before : Log)
-      → log ≡ later ++ Does at (Records c (commit_rec txn.0 number told) sends) ∷ before → IsKnown (commit_rec txn.0 number told)
-  commit_known later at c txn number told sends before is =
+  commit_known : (later : Log) (at : Site) (c : ℕ) (txn : TxnNo) (number : ℕ) (content : CommitContent) (sends : List (Site × Msg)) (before : Log)
+      → log ≡ later ++ Does at (Records c (commit_rec txn.0 number content) sends) ∷ before → IsKnown (commit_rec txn.0 number content)
+  commit_known later at c txn number content sends before is =
       let k : ℕ = length (history before) in
-      let st : IsRecordAt (history log) k (commit_rec txn.0 number told) = subst (λ y. IsRecordAt (history y) k (commit_rec txn.0 number told)) (sym is)
-      (recorded_there later (Does at (Records c (commit_rec txn.0 number told) sends)) before (commit_rec txn.0 number told) refl) in
-      let b = begun g log txn.0 number k told (commit_in g log txn.0 number k told sound h st) in
-      let t : Committed = record { start = b.attempt; reply = told.reply; changes = told.changes; values = told.values; rows = told.rows; place = k } in
-      let named : IsRecordAt (history log) k (commit_rec b.attempt.txn b.attempt.number told) = subst
-      (λ i. IsRecordAt (history log) k (commit_rec b.attempt.txn i told)) (sym b.number_is)
-      (subst (λ i. IsRecordAt (history log) k (commit_rec i number told)) (sym b.txn_is) st) in
+      let st : IsRecordAt (history log) k (commit_rec txn.0 number content) = subst (λ y. IsRecordAt (history y) k (commit_rec txn.0 number content)) (sym is)
+      (recorded_there later (Does at (Records c (commit_rec txn.0 number content) sends)) before (commit_rec txn.0 number content) refl) in
+      let b = begun g log txn.0 number k content (commit_in g log txn.0 number k content sound h st) in
+      let t : Committed =
+      record { start = b.attempt; reply = content.reply; changes = content.changes; values = content.values; rows = content.rows; place = k } in
+      let named : IsRecordAt (history log) k (commit_rec b.attempt.txn b.attempt.number content) = subst
+      (λ i. IsRecordAt (history log) k (commit_rec b.attempt.txn i content)) (sym b.number_is)
+      (subst (λ i. IsRecordAt (history log) k (commit_rec i number content)) (sym b.txn_is) st) in
       let ct : IsCommitted (history log) t = record { started = b.started; committed = named } in (
-        All-from_recursion (ChangeExists cat) told.changes
-            (each_exists cat sound told.changes (changes_valid g rows log sound fine h t ct)),
+        All-from_recursion (ChangeExists cat) content.changes
+            (each_exists cat sound content.changes (changes_valid g rows log sound fine h t ct)),
         subst IsTxn b.txn_is (attempt_txn b.attempt b.started),
       )
 

@@ -4,7 +4,7 @@ use Rattle.sdd_lawful.proofs.All.{Act, Answer, AnsweredBefore, Asks, Attempt, Ca
 use Rattle.sdd_lawful.proofs.Answered.{IsAnswerIn, answer_in, answer_made, answer_of_some, answer_rec}
 use Rattle.sdd_lawful.proofs.Beginnings.{in_numbers}
 use Rattle.sdd_lawful.proofs.Classes.{further_back}
-use Rattle.sdd_lawful.proofs.Commits.{Told, begun, commit_in}
+use Rattle.sdd_lawful.proofs.Commits.{CommitContent, begun, commit_in}
 use Rattle.sdd_lawful.proofs.Committed.{committed_in}
 use Rattle.sdd_lawful.proofs.Homes.{home_small}
 use Rattle.sdd_lawful.proofs.Places.{entries_in_order, place_rises, recorded_there}
@@ -40,8 +40,8 @@ answer_after g log sound h n number d k s =
 pub commit_after : (g : Input) (log : Log) → IsSoundCatalogue g.catalogue → IsPermitted g log → (n number k : ℕ) → HasCommit (history log) n number k
     → StartedBefore (history log) n number k
 commit_after g log sound h n number k c =
-    let told : Told = record { reply = c.reply; changes = c.changes; values = c.values; rows = c.rows } in
-    let b = begun g log n number k told (commit_in g log n number k told sound h c.is_recorded) in
+    let content : CommitContent = record { reply = c.reply; changes = c.changes; values = c.values; rows = c.rows } in
+    let b = begun g log n number k content (commit_in g log n number k content sound h c.is_recorded) in
     record { attempt = b.attempt; started = b.started; txn_is = b.txn_is; number_is = b.number_is; before = b.before }
 
 -- the modules that are asked

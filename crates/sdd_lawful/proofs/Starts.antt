@@ -1,7 +1,7 @@
 -- The history of a permitted log keeps the law of Starts.
 use Rattle.sdd_lawful.proofs.All.{Act, AreErasOf, Attempt, Catalogue, Committed, CommittedBefore, Did, Does, Eras, Input, IsAttempt, IsBound, IsCommitted, IsEraOf, IsMadeAt, IsOfSubmit, IsPermitted, IsRecordAt, IsSoundCatalogue, IsSubmitted, KeepsStarts, List, Log, Msg, None, Option, Records, Site, Some, Start, Submit, Submits, Submitted, Ts, Txn, [], and_left, ap, append_assoc, arith, bound, catalogue_at, class_at, class_for, class_no, clock, covered, covers, dec_le, eqb-true, era_is, event_at, false, first_passes, history, home, home_fair, if◌then◌else◌, inl, inr, is_committed, is_some, length, local_of, lower_same_higher, marks, mul-add-mod_self_right, not, nth_era, number_of, option_map, or_right, p2_of, permitted_before, place_of_act, promises, record_at, redeclares, refl, same_number, same_or_not, slice_get, stamps, stamps_differ, starts_of, submits_of, subst, sym, time_at, true, txn_at, txn_no, unwrap_or, ℕ, ◌%◌, ◌++◌, ◌<◌, ◌==◌, ◌∙◌, ◌∷◌, ◌≡◌, ◌≢◌, ◌≤◌}
 use Rattle.sdd_lawful.proofs.Classes.{IsForClass, IsGivenTo, at_home, era_there, further_back, home_setting, submit_local}
-use Rattle.sdd_lawful.proofs.Commits.{Told, commit_class, commit_in, commit_made, commit_rec, commit_seen, one_commit}
+use Rattle.sdd_lawful.proofs.Commits.{CommitContent, commit_class, commit_in, commit_made, commit_rec, commit_seen, one_commit}
 use Rattle.sdd_lawful.proofs.Counted.{numbered}
 use Rattle.sdd_lawful.proofs.Homes.{home_small, homes_differ, positive}
 use Rattle.sdd_lawful.proofs.Locals.{all_committed_at, below_at, commit_act_in, committed_later, most_at, promise_in, stamp_in, starts_grow, submitted_in}
@@ -184,7 +184,7 @@ commit_before : (g : Input) (log : Log) (a : Attempt) (x : IsStartIn g log a) (n
 commit_before g log a x n e =
     let at : Site = home g.catalogue a.class in
     let m = commit_act_in a.class n (at_home g a.class x.before) e in
-    let t : Told = record { reply = m.reply; changes = m.changes; values = m.values; rows = m.rows } in
+    let t : CommitContent = record { reply = m.reply; changes = m.changes; values = m.values; rows = m.rows } in
     let act : Act = Records a.class (commit_rec n m.attempt t) m.sends in
     let is : at_home g a.class x.before ≡ m.later ++ Did act ∷ m.before = m.is
     ∙ ap (λ j. m.later ++ Did (Records a.class (commit_rec j m.attempt t) m.sends) ∷ m.before) m.number_is in
@@ -227,13 +227,13 @@ after_earlier g log eras sound h are a n j k txn s p q l t c =
 by_last : (g : Input) (log : Log) → IsSoundCatalogue g.catalogue → IsPermitted g log → (t : Committed) (a : Attempt)
     → IsCommitted (history log) t → IsAttempt (history log) a → a.txn ≡ t.start.txn → a.number ≤ t.start.number
 by_last g log sound h t a c s e =
-    let told : Told = record { reply = t.reply; changes = t.changes; values = t.values; rows = t.rows } in
-    let x = commit_in g log t.start.txn t.start.number t.place told sound h c.committed in
+    let content : CommitContent = record { reply = t.reply; changes = t.changes; values = t.values; rows = t.rows } in
+    let x = commit_in g log t.start.txn t.start.number t.place content sound h c.committed in
     let y = start_in g log a sound h s in
-    let k : a.class ≡ x.class = commit_class g log t.start.txn t.start.number t.place told x a sound h s e in
+    let k : a.class ≡ x.class = commit_class g log t.start.txn t.start.number t.place content x a sound h s e in
     elim (lower_same_higher a.place t.place) [
-      | inl l ↦ (let z = entries_in_order log a.place t.place (start_of a) (commit_rec t.start.txn t.start.number told) (start_made g log a y)
-          (commit_made g log t.start.txn t.start.number t.place told x) l in
+      | inl l ↦ (let z = entries_in_order log a.place t.place (start_of a) (commit_rec t.start.txn t.start.number content) (start_made g log a y)
+          (commit_made g log t.start.txn t.start.number t.place content x) l in
           let m = start_behind g a x.class y.sends z.between y.before x.before (ap (home g.catalogue) k) z.is in
           let grow = starts_grow m.0 (at_home g a.class y.before) a.class (txn_no a.txn) a.number (class_no a.class) (time_at a.ts) a.p2 a.uses y.sends in
           let count : starts_of a.class a.txn (at_home g x.class x.before) ≡ starts_of a.class a.txn
@@ -242,12 +242,13 @@ by_last g log sound h t a c s e =
           ∙ ap (λ n. starts_of x.class n (at_home g x.class x.before)) (sym e) ∙ ap (λ i. starts_of i a.txn (at_home g x.class x.before)) (sym k) in
           let number = y.says.attempt_is in omega arith)
       | inr l ↦ elim l [
-        | inl p ↦ (let q : Some (start_of a) ≡ Some (commit_rec t.start.txn t.start.number told) = sym s ∙ ap (record_at (history log)) p ∙ c.committed in cc)
-        | inr l ↦ (let z = entries_in_order log t.place a.place (commit_rec t.start.txn t.start.number told) (start_of a)
-            (commit_made g log t.start.txn t.start.number t.place told x) (start_made g log a y) l in
+        | inl p ↦ (let q : Some (start_of a) ≡ Some (commit_rec t.start.txn t.start.number content) = sym s ∙ ap (record_at (history log)) p ∙ c.committed in
+            cc)
+        | inr l ↦ (let z = entries_in_order log t.place a.place (commit_rec t.start.txn t.start.number content) (start_of a)
+            (commit_made g log t.start.txn t.start.number t.place content x) (start_made g log a y) l in
             let seen : is_committed x.class t.start.txn (at_home g x.class y.before) ≡ true = subst
             (λ b. is_committed x.class t.start.txn (at_home g x.class b) ≡ true) (sym z.is)
-            (commit_seen g x.class t.start.txn t.start.number told x.sends z.between x.before) in
+            (commit_seen g x.class t.start.txn t.start.number content x.sends z.between x.before) in
             let there : is_committed a.class a.txn (at_home g a.class y.before) ≡ true = subst (λ i. is_committed i a.txn (at_home g i y.before) ≡ true) (sym k)
             (subst (λ n. is_committed x.class n (at_home g x.class y.before) ≡ true) (sym e) seen) in
             let no : true ≡ false = sym there ∙ y.says.not_committed in cc)

@@ -5,8 +5,8 @@ use Rattle.sdd_lawful.proofs.Applied.{apply_rec}
 use Rattle.sdd_lawful.proofs.Applies.{of_commit}
 use Rattle.sdd_lawful.proofs.Beginnings.{IsStartedAtU, ChangesExist, at_map, in_numbers, numbered_there, started_at_u}
 use Rattle.sdd_lawful.proofs.Classes.{at_home, further_back}
-use Rattle.sdd_lawful.proofs.Commits.{Told, begun_as, commit_rec, one_commit}
-use Rattle.sdd_lawful.proofs.Committed.{IsCommittedIn, committed_in, same_committed, told_by}
+use Rattle.sdd_lawful.proofs.Commits.{CommitContent, begun_as, commit_rec, one_commit}
+use Rattle.sdd_lawful.proofs.Committed.{IsCommittedIn, commit_content, committed_in, same_committed}
 use Rattle.sdd_lawful.proofs.Conditions.{met}
 use Rattle.sdd_lawful.proofs.Homes.{positive, served}
 use Rattle.sdd_lawful.proofs.Places.{entries_in_order, place_rises, recorded_there}
@@ -148,15 +148,16 @@ committed_low : (g : Input) (log : Log) (t : Committed) (c : IsCommittedIn g log
     → before ≡ later2 ++ Does at (commit_act g.catalogue bases t.start.class c.running) ∷ rest → t.place < length (history before)
 committed_low g log t c at bases later before later2 rest e sound h ct is p =
     let act : Act = commit_act g.catalogue bases t.start.class c.running in
-    let told : Told = told_by g bases c.running in
+    let content : CommitContent = commit_content g bases c.running in
     let f = further_back log later before e (Does at act) later2 rest is p in
-    let r : Rec = commit_rec c.running.txn c.running.attempt told in
+    let r : Rec = commit_rec c.running.txn c.running.attempt content in
     let there : IsRecordAt (history log) (length (history rest)) r = subst (λ l. IsRecordAt (history l) (length (history rest)) r) (sym f.1)
     (recorded_there f.0 (Does at act) rest r refl) in
-    let named : IsRecordAt (history log) (length (history rest)) (commit_rec t.start.txn c.running.attempt told) = subst
-    (λ n. IsRecordAt (history log) (length (history rest)) (commit_rec n c.running.attempt told)) c.txn_is there in
+    let named : IsRecordAt (history log) (length (history rest)) (commit_rec t.start.txn c.running.attempt content) = subst
+    (λ n. IsRecordAt (history log) (length (history rest)) (commit_rec n c.running.attempt content)) c.txn_is there in
     let same = one_commit g log sound h t.start.txn c.running.attempt t.start.number (length (history rest)) t.place
-    (record { reply = told.reply; changes = told.changes; values = told.values; rows = told.rows; is_recorded = named }) (commit_of (history log) t ct) in
+    (record { reply = content.reply; changes = content.changes; values = content.values; rows = content.rows; is_recorded = named })
+    (commit_of (history log) t ct) in
     let rises = place_rises later2 (Does at act) rest r refl in
     let size : length (history before) ≡ length (history (later2 ++ Does at act ∷ rest)) = ap (λ l. length (history l)) p in
     omega arith

@@ -1,7 +1,7 @@
 -- The catalogue in force is that of an era.
 use Rattle.sdd_laws.proofs.All.{AreEras, Catalogue, Eras, IsEraOf, [], arith, catalogue_at, eras_begun, length, slice_get-get_or, slice_get_within, slice_index_or as get_or, ℕ, ◌-◌, ◌<◌, ◌∷◌, ◌≤◌}
 
--- no more eras have eras_begun than there are
+-- no more eras have begun than there are
 begun_few : (eras : Eras) (event : ℕ) → eras_begun eras event ≤ length eras
 begun_few [] event = omega arith
 begun_few (e ∷ eras) event = grind (arith, begun_few eras event)

@@ -11,34 +11,34 @@ module _ (cat : Catalogue) (sound : IsSoundCatalogue cat) (eras : Eras) (are : A
     (starting : KeepsStarts cat eras txns h) (answering : KeepsAnswers cat rows txns h)
     (applying : KeepsApplies cat h)
   where
-    abbrev told : Ledger Committed
-    told = ledger cat txns h
+    abbrev own_ledger : Ledger Committed
+    own_ledger = ledger cat txns h
 
     -- the texts of an order are those of its transactions
-    text_at : (t : Committed) → IsCommitted h t → txn_at txns t.start.txn ≡ Some (told.txn t)
+    text_at : (t : Committed) → IsCommitted h t → txn_at txns t.start.txn ≡ Some (own_ledger.txn t)
     text_at t c = search rules
 
     texts_are : (order : List TxnNo) (of : OfEach h order)
-        → texts_of txns order ≡ map (λ t. told.txn t) (listed h order of)
+        → texts_of txns order ≡ map (λ t. own_ledger.txn t) (listed h order of)
     texts_are [] of = refl
     texts_are (n ∷ rest) of =
         let t = of n (Contains-here n rest) in
-        let here : txn_at txns n.0 ≡ Some (told.txn t.0) = ap (λ k. txn_at txns k) (sym t.2) ∙ text_at t.0 t.1 in
+        let here : txn_at txns n.0 ≡ Some (own_ledger.txn t.0) = ap (λ k. txn_at txns k) (sym t.2) ∙ text_at t.0 t.1 in
         ap (λ o. cons_option o (texts_of txns rest)) here
-        ∙ ap (λ zs. told.txn t.0 ∷ zs) (texts_are rest (rest_of h n rest of))
+        ∙ ap (λ zs. own_ledger.txn t.0 ∷ zs) (texts_are rest (rest_of h n rest of))
 
     replies_are : (order : List TxnNo) (of : OfEach h order)
-        → AllZip (IsReplyOf h) order (map (λ t. (told.result t).reply) (listed h order of))
+        → AllZip (IsReplyOf h) order (map (λ t. (own_ledger.result t).reply) (listed h order of))
     replies_are [] of = tt
     replies_are (n ∷ rest) of =
         let t = of n (Contains-here n rest) in
         (record { committed = t.0; is_committed = t.1; txn_is = t.2; reply_is = refl }, replies_are rest (rest_of h n rest of))
 
     module _ (first : IsDatabase cat (database_of cat rows)) (order : List TxnNo) (in_turn : IsSerial cat h order) where
-      whole : IsReplayed cat (database_of cat rows) told (committed h) (listed h order in_turn.committed)
+      whole : IsReplayed cat (database_of cat rows) own_ledger (committed h) (listed h order in_turn.committed)
       whole = search (rules, replayed, are_recorded, listed, agrees)
 
-      run_is : run cat rows txns order ≡ serial cat (database_of cat rows) (map (λ t. told.txn t) (listed h order in_turn.committed))
+      run_is : run cat rows txns order ≡ serial cat (database_of cat rows) (map (λ t. own_ledger.txn t) (listed h order in_turn.committed))
       run_is = ap (serial cat (database_of cat rows)) (texts_are order in_turn.committed)
 
       -- each reply of the run is that of the Commit

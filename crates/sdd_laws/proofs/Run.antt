@@ -21,7 +21,7 @@ serial_gives cat L [] db g = refl
 serial_gives cat L (x ∷ rest) db g = search (rules, serial_gives cat L rest (after_changes cat db (changes L x)) g.1)
 
 module _ {T : Type 0} (cat : Catalogue) (sound : IsSoundCatalogue cat) (first : Database) (first_is : IsDatabase cat first)
-    (L : Ledger T) (commits : List T) (told : AreRecorded cat first L commits) where
+    (L : Ledger T) (commits : List T) (recorded : AreRecorded cat first L commits) where
   -- what is known where some are done and the others left
   record Stage (done rest : List T) : Type 0 where
     all : (z : T) → Contains commits z → Contains done z ⊎ Contains rest z
@@ -79,18 +79,18 @@ module _ {T : Type 0} (cat : Catalogue) (sound : IsSoundCatalogue cat) (first : 
       → HasValues cat first L done db → effect cat db (L.txn x) ≡ L.result x
   gives_next done x rest db st has =
       let there : Contains commits x = st.of_rest x (Contains-here x rest) in
-      let base : Database = gathered (told.pieces x) in
+      let base : Database = gathered (recorded.pieces x) in
       let same : (f : ℕ) → Reads cat L x f → rows_in_fragment cat db f ≡ rows_in_fragment cat base f =
       λ f reads.
-      rows_agree cat sound first first_is L commits (are_writers cat sound first first_is L commits told) done
+      rows_agree cat sound first first_is L commits (are_writers cat sound first first_is L commits recorded) done
       (seen x f) db f (λ t h. st.of_done t h) (λ t h. (Contains-from_filter (L.saw x f) commits t h).0)
       has (done_seen done x rest f st reads) (seen_done done x rest f st reads)
-      ∙ sym (snapshot_is cat sound first first_is L commits told x there f reads) in
-      read_set_decides cat sound (L.txn x) (told.fits x there) db base has.is
-      (bases_are cat sound first first_is L commits told x there)
+      ∙ sym (snapshot_is cat sound first first_is L commits recorded x there f reads) in
+      read_set_decides cat sound (L.txn x) (recorded.fits x there) db base has.is
+      (bases_are cat sound first first_is L commits recorded x there)
       (All-from_recursion (λ f. rows_in_fragment cat db f ≡ rows_in_fragment cat base f) (read_set cat (L.txn x))
       (all_have (λ f. rows_in_fragment cat db f ≡ rows_in_fragment cat base f) (read_set cat (L.txn x)) same))
-      ∙ told.effect_is x there
+      ∙ recorded.effect_is x there
 
   all_done : (done : List T) (db : Database) → Stage done [] → HasValues cat first L done db
       → HasValues cat first L commits db
@@ -119,10 +119,10 @@ module _ {T : Type 0} (cat : Catalogue) (sound : IsSoundCatalogue cat) (first : 
       let e : effect cat db (L.txn x) ≡ L.result x = gives_next done x rest db st has in
       let after : IsDatabase cat (after_changes cat db (changes L x)) =
       subst (λ (z : Effect). IsDatabase cat (after_changes cat db z.changes)) e
-      (stays_database cat sound (L.txn x) (told.fits x there) (told.puts_held x there) db has.is) in
+      (stays_database cat sound (L.txn x) (recorded.fits x there) (recorded.puts_held x there) db has.is) in
       let next_st : Stage (x ∷ done) rest = next_stage done x rest st in
       let next =
-      one_more cat sound first first_is L commits (are_writers cat sound first first_is L commits told) done x
+      one_more cat sound first first_is L commits (are_writers cat sound first first_is L commits recorded) done x
       next_st.of_done (λ z h. st.before z x h (Contains-here x rest)) db has after in
       let later = run_from rest (x ∷ done) (after_changes cat db (changes L x)) next_st next in
       ((e, later.0), later.1)
@@ -145,7 +145,7 @@ module _ {T : Type 0} (cat : Catalogue) (sound : IsSoundCatalogue cat) (first : 
         replies = ap (λ z. z.0) serial_is;
         leaves = left;
         copies = λ f applied all.
-            rows_agree cat sound first first_is L commits (are_writers cat sound first first_is L commits told)
+            rows_agree cat sound first first_is L commits (are_writers cat sound first first_is L commits recorded)
             commits (filter applied commits) (run cat first L order).1 f
             (λ t h. h) (λ t h. (Contains-from_filter applied commits t h).0) left
             (λ t h c. Contains-filter applied commits t h (all t h c))

@@ -1,4 +1,4 @@
--- A copy is told by which of the transactions that change its fragment are applied.
+-- A copy is determined by which of the transactions that change its fragment are applied.
 use Rattle.sdd_laws.proofs.All.{Bool, Catalogue, Change, Contains, Contains-here, Contains-later, Database, Dated, Decides-eqb, List, Writers, [], ap, arith, cases_Bool, changes_of, cond, copy_of, counts, dated, false, filter, first_row, inl, inr, map, of_fragment, refl, rows_left, rules, sym, taken, true, ℕ, ◌&&◌, ◌++◌, ◌==◌, ◌∙◌, ◌∷◌, ◌≡◌}
 
 pub of_joined : (f : ℕ) (xs ys : Dated) → of_fragment f (xs ++ ys) ≡ of_fragment f xs ++ of_fragment f ys

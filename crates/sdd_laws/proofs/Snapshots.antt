@@ -19,7 +19,7 @@ entry_with : (cat : Catalogue) (rel : ℕ) (key : ℤ) (row : Row) (e : Item × 
 entry_with cat rel key row e p q h = grind arith
 
 module _ {T : Type 0} (cat : Catalogue) (sound : IsSoundCatalogue cat) (first : Database) (first_is : IsDatabase cat first)
-    (L : Ledger T) (commits : List T) (told : AreRecorded cat first L commits) where
+    (L : Ledger T) (commits : List T) (recorded : AreRecorded cat first L commits) where
   abbrev ChangesAre : T → Type 0
   ChangesAre x = (c : Change) → Contains (changes L x) c → IsChange cat ((c.frag.0, c.key), c.row)
 
@@ -56,7 +56,7 @@ module _ {T : Type 0} (cat : Catalogue) (sound : IsSoundCatalogue cat) (first : 
           (record { relation = k.there; row = has.0; key = has.1; key_held = k.held })
 
   abbrev base : T → Database
-  base x = gathered (told.pieces x)
+  base x = gathered (recorded.pieces x)
 
   abbrev seen : T → ℕ → List T
   seen x f = filter (L.saw x f) commits
@@ -65,8 +65,8 @@ module _ {T : Type 0} (cat : Catalogue) (sound : IsSoundCatalogue cat) (first : 
       → ((t : T) (f : ℕ) → Contains commits t → Reads cat L x f → L.saw x f t ≡ true → ChangesAre t)
       → IsDatabase cat (base x)
   base_from x there are =
-      gathered_is cat [] (told.pieces x) (no_database cat) (λ e h.
-      let g = told.are_pieces.of x there e h in
+      gathered_is cat [] (recorded.pieces x) (no_database cat) (λ e h.
+      let g = recorded.are_pieces.of x there e h in
       copy_entries (seen x g.0)
       (λ t i. let k = Contains-from_filter (L.saw x g.0) commits t i in are t g.0 k.0 g.1 k.1) g.0 e g.2)
 
@@ -74,31 +74,32 @@ module _ {T : Type 0} (cat : Catalogue) (sound : IsSoundCatalogue cat) (first : 
   changes_from x there is = grind (arith, change_is, is_in)
 
   -- by the places of the Commits
-  bases_below : (n : ℕ) (x : T) → Contains commits x → told.place x < n → IsDatabase cat (base x)
+  bases_below : (n : ℕ) (x : T) → Contains commits x → recorded.place x < n → IsDatabase cat (base x)
   bases_below zero x there l = absurd (omega arith)
   bases_below (suc n) x there l =
       base_from x there
-      (λ t f in_it r s. grind (arith, nat_tests, changes_from, (bases_below n t in_it (let m = told.earlier x t there in_it f r s in omega (arith, m, l)))))
+      (λ t f in_it r s. grind (arith, nat_tests, changes_from, (bases_below n t in_it (let m = recorded.earlier x t there in_it f r s in omega (arith, m, l)))))
 
   pub bases_are : (x : T) → Contains commits x → IsDatabase cat (base x)
-  bases_are x there = bases_below (suc (told.place x)) x there (omega arith)
+  bases_are x there = bases_below (suc (recorded.place x)) x there (omega arith)
 
   pub are_writers : AreWriters cat (writers L) commits
   are_writers =
       record {
-        time = told.time;
-        one_time = λ x y a b e. ap (λ (z : Effect). z.changes) (told.one_time x y a b e);
+        time = recorded.time;
+        one_time = λ x y a b e. ap (λ (z : Effect). z.changes) (recorded.one_time x y a b e);
         placed =
             λ x there.
-            subst (λ (e : Effect). (c : Change) → Contains e.changes c → IsPlaced cat c) (told.effect_is x there)
-            (λ c h. effect_placed cat sound (L.txn x) (told.fits x there) (told.puts_held x there) (base x) (bases_are x there) c (is_in _ c h));
+            subst (λ (e : Effect). (c : Change) → Contains e.changes c → IsPlaced cat c) (recorded.effect_is x there)
+            (λ c h. effect_placed cat sound (L.txn x) (recorded.fits x there) (recorded.puts_held x there) (base x) (bases_are x there) c (is_in _ c h));
         once =
             λ x there.
             subst
             (λ (e : Effect).
             (c d : Change) → Contains e.changes c → Contains e.changes d → item_of cat c ≡ item_of cat d → c ≡ d)
-            (told.effect_is x there)
-            (λ c d h k. effect_once cat sound (L.txn x) (told.fits x there) (told.puts_held x there) (base x) (bases_are x there) c d (is_in _ c h) (is_in _ d k));
+            (recorded.effect_is x there)
+            (λ c d h k. effect_once cat sound (L.txn x) (recorded.fits x there) (recorded.puts_held x there) (base x) (bases_are x there) c d (is_in _ c h)
+            (is_in _ d k));
       }
 
   abbrev copy_seen : T → ℕ → Dated
@@ -117,5 +118,5 @@ module _ {T : Type 0} (cat : Catalogue) (sound : IsSoundCatalogue cat) (first : 
   pub snapshot_is : (x : T) → Contains commits x → (f : ℕ) → Reads cat L x f
       → rows_in_fragment cat (base x) f ≡ snapshot cat first L commits x f
   snapshot_is x there f reads =
-      has_copy cat (Reads cat L x) (snapshot cat first L commits x) (told.pieces x) (told.are_pieces.each x there)
-      (told.are_pieces.of x there) (lies_in x) (λ g. entries_ascend cat g (copy_seen x g)) f reads
+      has_copy cat (Reads cat L x) (snapshot cat first L commits x) (recorded.pieces x) (recorded.are_pieces.each x there)
+      (recorded.are_pieces.of x there) (lies_in x) (λ g. entries_ascend cat g (copy_seen x g)) f reads

@@ -7,11 +7,11 @@ use Rattle.sdd_eras.specs.EraOf.{IsEraOf}
 abbrev pub Eras : Type 0
 Eras = List (ℕ × Catalogue)
 
--- how many eras have eras_begun by an event
+-- how many eras have begun by an event
 abbrev pub eras_begun : Eras → ℕ → ℕ
 eras_begun eras event = length (filter (λ e. nat_le e.0 event) eras)
 
--- the catalogue in force at an event: that of the last era that has eras_begun
+-- the catalogue in force at an event: that of the last era that has begun
 abbrev pub catalogue_at : Catalogue → Eras → ℕ → Catalogue
 catalogue_at cat eras event = (slice_index_or eras (eras_begun eras event - 1) (0, cat)).1
 

@@ -72,8 +72,8 @@ module _ (cat last : Catalogue) (lists : List (List ClassPart)) (i : ℕ) (item 
   pub era_allowed : further_faults (retired (length last.classes) last) first ≡ []
   era_allowed = none_broken cat (retired (length last.classes) last) first Others retired_here
 
-  pub era_stands : (next : Catalogue) → next ≡ followed_by last first → IsExtendedBy cat next Others
-  era_stands next e = follows_more cat (retired (length last.classes) last) next first Others retired_here e
+  pub era_follows : (next : Catalogue) → next ≡ followed_by last first → IsExtendedBy cat next Others
+  era_follows next e = follows_more cat (retired (length last.classes) last) next first Others retired_here e
 
   pub era_more : (next old : Catalogue) (before after total : List Catalogue) → next ≡ followed_by last first → old ≡ last
       → after ≡ before ++ old ∷ [] → before ++ eras last (numbered cat (drop i lists)) ≡ total → after ++ eras next (numbered cat Others) ≡ total
@@ -84,8 +84,8 @@ module _ (cat last : Catalogue) (lists : List (List ClassPart)) (i : ℕ) (item 
   pub whole_allowed : further_faults last first ≡ []
   whole_allowed = none_broken cat last first Others follows_here
 
-  pub whole_stands : (next : Catalogue) → next ≡ with_further first last → IsExtendedBy cat next Others
-  whole_stands next e = follows_more cat last next first Others follows_here e
+  pub whole_follows : (next : Catalogue) → next ≡ with_further first last → IsExtendedBy cat next Others
+  whole_follows next e = follows_more cat last next first Others follows_here e
 
   pub whole_more : (next total : Catalogue) → next ≡ with_further first last
       → whole last (numbered cat (drop i lists)) ≡ total → whole next (numbered cat Others) ≡ total

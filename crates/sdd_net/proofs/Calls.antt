@@ -106,9 +106,9 @@ module _ {M : Type 0} where
       (subst (λ k. FitsWay (slice_get new k) (deliver place l).back) f c.fits_back)
       (λ k x y. c.others k (λ z. x (z ∙ e)) (λ z. y (z ∙ f)))
 
-pub unused_stands : (M : Type 0) (tms dms : ℕ) (channels : List (Channel M))
+pub unused_represent : (M : Type 0) (tms dms : ℕ) (channels : List (Channel M))
     → channels ≡ replicate (site_count tms dms * site_count tms dms) unused_channel → ChannelsRepresent tms dms channels []
-unused_stands M tms dms channels e a b exists =
+unused_represent M tms dms channels e a b exists =
     let p = link_parts tms dms a b exists in
     let below : index_of tms dms a b < site_count tms dms * site_count tms dms = mul-add-lt _ _ _ _ (place_below tms dms a p.from)
     (place_below tms dms b p.to) in

@@ -102,11 +102,11 @@ receives n m arrived sent r one is h =
     elim (dec_le n (top arrived)) [ yes p ↦ receives_old n m arrived sent r one p h | no p ↦ receives_new n m arrived sent r (omega (arith, p)) is h ]
 
 -- what is exact of one arrival says what the receiver represents after it
-pub arrival_stands : {M : Type 0} (n : ℕ) (m : M) (old : Receiving M) (new : Kept (Receiving M)) (handed : List M)
+pub arrival_is_exact : {M : Type 0} (n : ℕ) (m : M) (old : Receiving M) (new : Kept (Receiving M)) (handed : List M)
     → 1 ≤ n → new ≡ record { live = true; value = received n m old } → handed ≡ handed_on n m old
     → (arrived : List ℕ) (sent : List M) → slice_get sent (n - 1) ≡ Some m → HasReceived old arrived sent
     → HasReceived new.value (n ∷ arrived) sent × (handed ≡ drop (top arrived) (take (top (n ∷ arrived)) sent))
-arrival_stands n m old new handed one e f arrived sent is h =
+arrival_is_exact n m old new handed one e f arrived sent is h =
     let got : Receives n m arrived sent old = receives n m arrived sent old one is h in
     (subst (λ k. HasReceived k.value (n ∷ arrived) sent) (sym e) got.represents, f ∙ got.handed)
 

@@ -15,12 +15,12 @@ sites_exist tms dms =
     let exists : Site → Type 0 = λ s. is_site tms dms s ≡ true in
     let t : ℕ → Site = λ n. T (record { 0 = n }) in
     let d : ℕ → Site = λ n. D (record { 0 = n }) in
-    let ts : List ℕ = range_with_len 1 tms in
-    let ds : List ℕ = range_with_len 1 dms in
-    All-cons exists U (map t ts ++ map d ds) refl
-    (All-append exists (map t ts) (map d ds)
-    (All-map exists t ts (range_within (λ n. exists (t n)) 1 tms (λ k l m. (rw (le-leb 1 k l, le-leb k tms (omega arith)) refl))))
-    (All-map exists d ds (range_within (λ n. exists (d n)) 1 dms (λ k l m. (rw (le-leb 1 k l, le-leb k dms (omega arith)) refl)))))
+    let all_tms : List ℕ = range_with_len 1 tms in
+    let all_dms : List ℕ = range_with_len 1 dms in
+    All-cons exists U (map t all_tms ++ map d all_dms) refl
+    (All-append exists (map t all_tms) (map d all_dms)
+    (All-map exists t all_tms (range_within (λ n. exists (t n)) 1 tms (λ k l m. (rw (le-leb 1 k l, le-leb k tms (omega arith)) refl))))
+    (All-map exists d all_dms (range_within (λ n. exists (d n)) 1 dms (λ k l m. (rw (le-leb 1 k l, le-leb k dms (omega arith)) refl)))))
 
 abbrev Exists : ℕ → ℕ → Site × Site → Type 0
 Exists tms dms l = IsTrue (is_link tms dms l.0 l.1)
@@ -61,7 +61,7 @@ on_links : (tms dms : ℕ) (P : Site × Site → Type 0) → ((l : Site × Site)
     → All P (links tms dms)
 on_links tms dms P f = All-weaker (Exists tms dms) P f (links tms dms) (links_exist tms dms)
 
--- what is told link by link, of the links and of what is kept of each
+-- what is known link by link, of the links and of what is kept of each
 list_all_mapped : {A B : Type 0} (p : B → Bool) (q : A → Bool) (g : A → B) (xs : List A)
     → All (λ x. p (g x) ≡ q x) xs → list_all p (map g xs) ≡ list_all q xs
 list_all_mapped p q g [] h = refl

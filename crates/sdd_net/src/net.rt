@@ -19,7 +19,7 @@ const ROUND_LEN: usize = 64;
 
 /// The links between the sites of a network.
 ///
-/// Contracts see whether it is live, and say for which calls it stands: whatever list of calls,
+/// Contracts see whether it is live, and say which calls it represents: whatever list of calls,
 /// newest first, it represented before a call, it represents that list with the call put before it.
 /// What a list of calls makes of a link is defined on all that was ever sent and arrived, while the
 /// net keeps only what is unacknowledged, in flight or early. Places in a flight count from 1.

@@ -60,7 +60,7 @@ pub use Rattle.sdd_invariants.proofs.logs.attempt.Queueing.{other_way as not_sam
 pub use Rattle.sdd_invariants.proofs.logs.attempt.Waiting.{shorter as filter_shorter}
 pub use Rattle.sdd_invariants.proofs.logs.net.Lists.{get-append as in_left}
 pub use Rattle.sdd_invariants.proofs.logs.tm.Lists.{get_map as at_map, get_within as place_within, of_map as in_mapped}
-pub use Rattle.sdd_invariants.proofs.logs.umod.Turns.{tm_told as counts_tm}
+pub use Rattle.sdd_invariants.proofs.logs.umod.Turns.{counts_tm}
 pub use Rattle.sdd_invariants.proofs.net.Directions.{link_back, link_parts}
 pub use Rattle.sdd_invariants.proofs.net.Lists.{All-at}
 pub use Rattle.sdd_invariants.proofs.net.Rounds.{links_exist}
@@ -90,7 +90,7 @@ pub use Rattle.sdd_obligations.specs.Real.{FitsEra, IsGood, IsServedAt, ServedBy
 pub use Rattle.sdd_obligations.specs.Routes.{GoesTo, IsAnAsk, IsD, IsRouted, IsRunner, IsT}
 pub use Rattle.sdd_obligations.specs.Runnable.{IsRunnable}
 pub use Rattle.sdd_obligations.specs.Stages.{IsStage, agreed, answer_goes, flight, question_goes}
-pub use Rattle.sdd_obligations.specs.Turns.{Asks, IsOfUses, MayAnswer, MayAsk, Refused, Replies, RepliesToRead, Silent, Told, Turn, answers, asked_by, is_a_read, is_a_refusal, is_a_ship, is_answer, is_exchanging, is_question, questions, reads_asked, rows_asked, told_by, turn_after_answer, turn_after_question, turn_at, turn_with, uses_by, uses_held, uses_in}
+pub use Rattle.sdd_obligations.specs.Turns.{Asks, IsOfUses, MayAnswer, MayAsk, Refused, Replied, Replies, RepliesToRead, Silent, Turn, answers, asked_by, is_a_read, is_a_refusal, is_a_ship, is_answer, is_exchanging, is_question, questions, reads_asked, rows_asked, turn_after_answer, turn_after_answers, turn_after_question, turn_at, turn_with, uses_by, uses_held, uses_in}
 pub use Rattle.sdd_obligations.specs.Upheld.{IsUpheldD, IsUpheldR}
 pub use Rattle.sdd_serving.proofs.Arrived.{serves_by_members}
 pub use Rattle.sdd_serving.proofs.Follows.{follows_hand, follows_reduce, follows_send, follows_start}

@@ -1,7 +1,7 @@
 -- A data module answers in turn, where each question that is handed to it comes in turn.
-use Rattle.sdd_obligations.proofs.All.{Act, Answer, Apply, Asks, Bool, Cond, Did, Done, Each, Handed, IsClassHere, IsDueEach, List, Msg, Null, Open, Pass, Pipe, Read, Ready, Rec, Records, Refused, Reject, Rejected, Setting, Site, Some, Told, Ts, Turn, Wait, Write, [], and_no, and_right as and_right_of, answers, ap, arith, ask_for, at_seam, cond, done_for, eqb-true, false, filter, frozen, goes_through, head, head_of, head_processed, home_of, if_way, if◌then◌else◌, is_a_refusal, is_answer, is_processing, is_read, length, map, not_own, opens, own_record, pipe, processed_more, refl, rows_asked, same_or_not, same_site, site_self, slice_get, source_of, subst, sym, tail_of, to_site, told_by, true, turn_after_answer, turn_with, ℕ, ◌&&◌, ◌++◌, ◌∙◌, ◌∷◌, ◌≡◌}
-use Rattle.sdd_obligations.proofs.HandedAnswersKeepTurns.{told_one}
-use Rattle.sdd_obligations.proofs.DataSteps.{IsDataStep, counts_told, data_step, data_step_way}
+use Rattle.sdd_obligations.proofs.All.{Act, Answer, Apply, Asks, Bool, Cond, Did, Done, Each, Handed, IsClassHere, IsDueEach, List, Msg, Null, Open, Pass, Pipe, Read, Ready, Rec, Records, Refused, Reject, Rejected, Replied, Setting, Site, Some, Ts, Turn, Wait, Write, [], and_no, and_right as and_right_of, answers, ap, arith, ask_for, at_seam, cond, done_for, eqb-true, false, filter, frozen, goes_through, head, head_of, head_processed, home_of, if_way, if◌then◌else◌, is_a_refusal, is_answer, is_processing, is_read, length, map, not_own, opens, own_record, pipe, processed_more, refl, rows_asked, same_or_not, same_site, site_self, slice_get, source_of, subst, sym, tail_of, to_site, true, turn_after_answer, turn_after_answers, turn_with, ℕ, ◌&&◌, ◌++◌, ◌∙◌, ◌∷◌, ◌≡◌}
+use Rattle.sdd_obligations.proofs.HandedAnswersKeepTurns.{turn_after_one}
+use Rattle.sdd_obligations.proofs.DataSteps.{IsDataStep, data_step, data_step_way, ready_counts}
 use Rattle.sdd_obligations.proofs.Replying.{HasTurn, HasTurnAt, IsAskedInTurn, IsProcessed, asker, asks_open, from_site, read_asks_none, read_is_a_read, turn_arrives, turn_hand, turn_replies, turn_still}
 use Rattle.sdd_invariants.specs.site_module.SiteLog.{Log}
 
@@ -27,7 +27,7 @@ pub read_next : (ts c : ℕ) (at : Site) (log : Log) (k : ℕ) (v : Turn) (m : M
 read_next ts c at log k v m h e through f = grind (arith, read_class, through)
 
 ended_turn : (ts c : ℕ) (at : Site) (os : List Open) (p : Pipe) (b : Bool) (ns : List ℕ) (m : Msg) → map asker (filter (asks_open ts c) os) ≡ []
-    → filter (is_read ts c) p.unprocessed ≡ [] → IsProcessed ts c p → HasTurn ts c at os p (if b then Refused else Told ns m)
+    → filter (is_read ts c) p.unprocessed ≡ [] → IsProcessed ts c p → HasTurn ts c at os p (if b then Refused else Replied ns m)
 ended_turn ts c at os p b ns m e f h = grind arith
 
 -- the READY or REJECT that answers the READ at a head
@@ -38,12 +38,12 @@ turn_read ts c at log k r m x src p same e through f home h =
     let v : Turn = turn_with ts c at log in
     let act : Act = Records k r ((src, x) ∷ []) in
     let turn_is : turn_with ts c at (Did act ∷ log) ≡ (if same_site at src && is_read ts c m then turn_after_answer x v else v) =
-    told_one ts c (same_site at src) x v ∙ ap (λ (b : Bool). if same_site at src && b then turn_after_answer x v else v) f in
+    turn_after_one ts c (same_site at src) x v ∙ ap (λ (b : Bool). if same_site at src && b then turn_after_answer x v else v) f in
     elim (is_read ts c m) as (λ b. is_read ts c m ≡ b → HasTurnAt ts c at (Did act ∷ log)) [
       | true ↦ λ q.
           (let w = read_next ts c at log k v m h e through q in
           let here : same_site at src ≡ true = subst (λ s. same_site at s ≡ true) (sym (home w.class_is)) (site_self at) in
-          let now : turn_with ts c at (Did act ∷ log) ≡ (if is_a_refusal x then Refused else Told w.uses m) =
+          let now : turn_with ts c at (Did act ∷ log) ≡ (if is_a_refusal x then Refused else Replied w.uses m) =
           turn_is ∙ (λ i. if here i && q i then turn_after_answer x v else v) ∙ ap (turn_after_answer x) w.is in
           let taken : pipe c (Did act ∷ log) ≡ head_processed (pipe c log) =
           subst (λ j. pipe j (Did act ∷ log) ≡ head_processed (pipe j log)) w.class_is (own_record k r ((src, x) ∷ []) log p).0 in
@@ -107,17 +107,17 @@ turn_act : (s : Setting) (ts c : ℕ) (at : Site) (log : Log) (act : Act) → Is
 turn_act s ts c at log act home i h = data_step_way s log act (λ x. HasTurnAt ts c at (Did x ∷ log))
     (λ k txn attempt. turn_arrives ts c at log k txn attempt (home_of s).dm h) (λ k o m e r. turn_replies ts c at log (frozen s k log) k o m e r h)
     (λ k t j txn attempt conds uses l e. turn_read ts c at log k (Answer txn attempt (home_of s).dm)
-    (Read t j txn attempt conds uses) (Ready t j (counts_told s log t.0 uses)) (source_of (home_of s) k) refl refl e (head_through k log _ e) refl
+    (Read t j txn attempt conds uses) (Ready t j (ready_counts s log t.0 uses)) (source_of (home_of s) k) refl refl e (head_through k log _ e) refl
     (λ q. subst (λ n. source_of (home_of s) n ≡ at) (sym q) (home (subst (IsClassHere s) q l))) h)
     (λ k t j txn attempt conds uses by write l e. turn_read ts c at log k
     (Rejected txn attempt (home_of s).dm by write) (Read t j txn attempt conds uses) (Reject t j by write)
     (source_of (home_of s) k) refl refl e (head_through k log _ e) refl
     (λ q. subst (λ n. source_of (home_of s) n ≡ at) (sym q) (home (subst (IsClassHere s) q l))) h)
     (λ k txn attempt ds. turn_still ts c at log (Records k (Wait txn attempt (home_of s).dm ds) (map (ask_for (home_of s)) ds))
-    (ap (λ l. told_by l (turn_with ts c at log)) (asks_no_answer ts c at (ask_for (home_of s)) ds (λ d. refl))) refl
+    (ap (λ l. turn_after_answers l (turn_with ts c at log)) (asks_no_answer ts c at (ask_for (home_of s)) ds (λ d. refl))) refl
     (grind (arith, is_read, not_own, home_of, ask_for)) h)
     (λ k t j txn changes e. turn_still ts c at log (Records k (Apply txn j (home_of s).dm t) (done_for k (Done t)))
-    (ap (λ l. told_by l (turn_with ts c at log)) (done_no_answer ts c at k t)) refl
+    (ap (λ l. turn_after_answers l (turn_with ts c at log)) (done_no_answer ts c at k t)) refl
     (reads_left ts c k (Apply txn j (home_of s).dm t) (done_for k (Done t)) log (Write t j txn changes) refl e refl) h)
     (λ k j time e. turn_still ts c at log (Records k (Pass j (home_of s).dm time) []) refl refl
     (reads_left ts c k (Pass j (home_of s).dm time) [] log (Null j time) refl e refl) h) i

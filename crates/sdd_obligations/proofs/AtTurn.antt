@@ -1,5 +1,5 @@
 -- How an exchange stands with one of the data modules, by the turn, and that each of its steps keeps that.
-use Rattle.sdd_obligations.proofs.All.{Asking, Asks, Bool, Exchange, Fetch, Fetching, IsOfUses, IsStrict, List, Move, Msg, None, Over, Phase, Reading, Ready, Reduce, Reduced, Reducing, Rows, Ship, Shipping, Silent, Some, Step, Told, Turn, Values, [], after_hand, answered, ap, arith, class_no, contains, counted, counts_for, false, fetches, fetches_from, goes_on, if◌then◌else◌, inl, inr, is_a_read, is_a_refusal, is_a_ship, is_answer, lacking, length, move_at, never, next_move, phase_ends, reduces, refl, same_number, ships, subst, sym, time_at, to_all, true, uses_at, with_use, with_values, without, ℕ, ◌&&◌, ◌++◌, ◌+◌, ◌==◌, ◌∙◌, ◌∷◌, ◌≡◌, ◌⊎◌}
+use Rattle.sdd_obligations.proofs.All.{Asking, Asks, Bool, Exchange, Fetch, Fetching, IsOfUses, IsStrict, List, Move, Msg, None, Over, Phase, Reading, Ready, Reduce, Reduced, Reducing, Replied, Rows, Ship, Shipping, Silent, Some, Step, Turn, Values, [], after_hand, answered, ap, arith, class_no, contains, counted, counts_for, false, fetches, fetches_from, goes_on, if◌then◌else◌, inl, inr, is_a_read, is_a_refusal, is_a_ship, is_answer, lacking, length, move_at, never, next_move, phase_ends, reduces, refl, same_number, ships, subst, sym, time_at, to_all, true, uses_at, with_use, with_values, without, ℕ, ◌&&◌, ◌++◌, ◌+◌, ◌==◌, ◌∙◌, ◌∷◌, ◌≡◌, ◌⊎◌}
 use Rattle.sdd_obligations.proofs.Modules.{firsts, one_to_each, reading_ascends, reading_reads, to_module, without_other, without_own}
 
 -- the phase awaits the answer to a question
@@ -26,11 +26,11 @@ is_last _ = false
 
 -- A question to module d is still to be sent; it is awaited; the last one is answered; or nothing is read there.
 pub data IsAt (d : ℕ) (ms : List (ℕ × List ℕ)) (p : Phase) (sends : List (ℕ × Msg)) (lacks : List ℕ) (v : Turn) : Type 0 where
-  unsent : (m q : Msg) (ns : List ℕ) → to_module d sends ≡ m ∷ [] → contains lacks d ≡ true → v ≡ Told ns q → is_a_ship q ≡ false
+  unsent : (m q : Msg) (ns : List ℕ) → to_module d sends ≡ m ∷ [] → contains lacks d ≡ true → v ≡ Replied ns q → is_a_ship q ≡ false
       → IsOfUses ns m → awaits p m ≡ true → uses_at ms d ≡ ns → contains (firsts ms) d ≡ true → IsAt d ms p sends lacks v
   awaited : (m : Msg) (ns : List ℕ) → to_module d sends ≡ [] → contains lacks d ≡ true → v ≡ Asks ns m → awaits p m ≡ true
       → uses_at ms d ≡ ns → contains (firsts ms) d ≡ true → IsAt d ms p sends lacks v
-  answered_last : (q : Msg) (ns : List ℕ) → to_module d sends ≡ [] → contains lacks d ≡ false → v ≡ Told ns q
+  answered_last : (q : Msg) (ns : List ℕ) → to_module d sends ≡ [] → contains lacks d ≡ false → v ≡ Replied ns q
       → (is_a_ship q ≡ false) ⊎ (is_last p ≡ true) → uses_at ms d ≡ ns → contains (firsts ms) d ≡ true → IsAt d ms p sends lacks v
   apart : to_module d sends ≡ [] → contains lacks d ≡ false → v ≡ Silent → contains (firsts ms) d ≡ false → IsAt d ms p sends lacks v
 
@@ -39,7 +39,7 @@ IsAtTurn d x v = IsAt d x.modules x.phase x.to_send x.lacks v
 
 -- nothing is under way with the module
 pub data IsIdle (d : ℕ) (ms : List (ℕ × List ℕ)) (v : Turn) : Type 0 where
-  heard : (q : Msg) (ns : List ℕ) → v ≡ Told ns q → is_a_ship q ≡ false → uses_at ms d ≡ ns → contains (firsts ms) d ≡ true → IsIdle d ms v
+  heard : (q : Msg) (ns : List ℕ) → v ≡ Replied ns q → is_a_ship q ≡ false → uses_at ms d ≡ ns → contains (firsts ms) d ≡ true → IsIdle d ms v
   unread : v ≡ Silent → contains (firsts ms) d ≡ false → IsIdle d ms v
 
 in_none : {A : Type 0} (lacks : List ℕ) (d : ℕ) → lacks ≡ [] → contains lacks d ≡ true → A
@@ -53,14 +53,14 @@ idle_of d ms p sends lacks v z l (answered_last q ns a b e s f g) = heard q ns e
 idle_of d ms p sends lacks v z l (apart a b e g) = unread e g
 
 -- a question goes to some of the modules
-ask_all : (d : ℕ) (ms : List (ℕ × List ℕ)) (p : Phase) (m : Msg) (ds : List ℕ) (v : Turn) → IsStrict ds → awaits p m ≡ true
-    → (contains ds d ≡ true → (contains (firsts ms) d ≡ true) × IsOfUses (uses_at ms d) m) → IsIdle d ms v → IsAt d ms p (to_all m ds) ds v
-ask_all d ms p m ds v h w f (heard q ns e s u g) =
-    elim (contains ds d) as (λ b. contains ds d ≡ b → IsAt d ms p (to_all m ds) ds v) [
-      | true ↦ λ b. unsent m q ns (one_to_each m ds d h ∙ ap (λ (c : Bool). if c then m ∷ [] else []) b) b e s (subst (λ l. IsOfUses l m) u (f b).1) w u g
-      | false ↦ λ b. answered_last q ns (one_to_each m ds d h ∙ ap (λ (c : Bool). if c then m ∷ [] else []) b) b e (inl s) u g
+ask_all : (d : ℕ) (ms : List (ℕ × List ℕ)) (p : Phase) (m : Msg) (dms : List ℕ) (v : Turn) → IsStrict dms → awaits p m ≡ true
+    → (contains dms d ≡ true → (contains (firsts ms) d ≡ true) × IsOfUses (uses_at ms d) m) → IsIdle d ms v → IsAt d ms p (to_all m dms) dms v
+ask_all d ms p m dms v h w f (heard q ns e s u g) =
+    elim (contains dms d) as (λ b. contains dms d ≡ b → IsAt d ms p (to_all m dms) dms v) [
+      | true ↦ λ b. unsent m q ns (one_to_each m dms d h ∙ ap (λ (c : Bool). if c then m ∷ [] else []) b) b e s (subst (λ l. IsOfUses l m) u (f b).1) w u g
+      | false ↦ λ b. answered_last q ns (one_to_each m dms d h ∙ ap (λ (c : Bool). if c then m ∷ [] else []) b) b e (inl s) u g
     ] refl
-ask_all d ms p m ds v h w f (unread e g) = grind (arith, IsAt, never, firsts, one_to_each)
+ask_all d ms p m dms v h w f (unread e g) = grind (arith, IsAt, never, firsts, one_to_each)
 
 -- the next phase
 
@@ -69,11 +69,11 @@ to_reduce ts c d m x v h i =
     ask_all d x.modules (Reducing m) (Reduce (time_at ts) (class_no c) m.target.part m.target.column x.union) (with_use x m.target.part) v
     (reading_ascends x.modules m.target.part h) (same_number m.target.part) (λ e. reading_reads x.modules m.target.part d e) i
 
-to_fetch_from : (ts c d : ℕ) (m : Move) (x : Exchange) (ds : List ℕ) (v : Turn) → with_use x m.source.part ≡ ds
-    → IsStrict (firsts x.modules) → IsIdle d x.modules v → IsAtTurn d (fetches_from ts c m x ds) v
+to_fetch_from : (ts c d : ℕ) (m : Move) (x : Exchange) (dms : List ℕ) (v : Turn) → with_use x m.source.part ≡ dms
+    → IsStrict (firsts x.modules) → IsIdle d x.modules v → IsAtTurn d (fetches_from ts c m x dms) v
 to_fetch_from ts c d m x [] v e h i = to_reduce ts c d m (record x { union = [] }) v h i
-to_fetch_from ts c d m x (y ∷ ds) v e h i =
-    ask_all d x.modules (Fetching m) (Fetch (time_at ts) (class_no c) m.source.part m.source.column) (y ∷ ds) v
+to_fetch_from ts c d m x (y ∷ dms) v e h i =
+    ask_all d x.modules (Fetching m) (Fetch (time_at ts) (class_no c) m.source.part m.source.column) (y ∷ dms) v
     (subst IsStrict e (reading_ascends x.modules m.source.part h)) (same_number m.source.part)
     (λ b. reading_reads x.modules m.source.part d (subst (λ l. contains l d ≡ true) (sym e) b)) i
 
@@ -114,36 +114,36 @@ ended_at ts c d x y v h z i e = to_next ts c d x x.left x.done v h (idle_of d x.
 
 -- the turn of module d, v before and w after an answer of module n
 abbrev pub IsNext : ℕ → ℕ → Turn → Turn → Type 0
-IsNext n d v w = ((d ≡ n) × (ns : List ℕ) × (q : Msg) × (v ≡ Asks ns q) × (w ≡ Told ns q)) ⊎ (((d == n) ≡ false) × (w ≡ v))
+IsNext n d v w = ((d ≡ n) × (ns : List ℕ) × (q : Msg) × (v ≡ Asks ns q) × (w ≡ Replied ns q)) ⊎ (((d == n) ≡ false) × (w ≡ v))
 
 pub read_no_ship : (m : Msg) → is_a_read m ≡ true → is_a_ship m ≡ false
 read_no_ship m e = grind arith
 
-pub told_not_asks : {A : Type 0} (v : Turn) (ns ms : List ℕ) (q m : Msg) → v ≡ Told ns q → v ≡ Asks ms m → A
-told_not_asks v ns ms q m e f = let p : Told ns q ≡ Asks ms m = sym e ∙ f in cc
+pub replied_not_asks : {A : Type 0} (v : Turn) (ns ms : List ℕ) (q m : Msg) → v ≡ Replied ns q → v ≡ Asks ms m → A
+replied_not_asks v ns ms q m e f = let p : Replied ns q ≡ Asks ms m = sym e ∙ f in cc
 
 pub silent_not_asks : {A : Type 0} (v : Turn) (ms : List ℕ) (m : Msg) → v ≡ Silent → v ≡ Asks ms m → A
 silent_not_asks v ms m e f = let p : Silent ≡ Asks ms m = sym e ∙ f in cc
 
 less_at : (n d : ℕ) (ms : List (ℕ × List ℕ)) (p : Phase) (sends : List (ℕ × Msg)) (lacks : List ℕ) (v w : Turn) → IsNext n d v w
     → IsAt d ms p sends lacks v → IsAt d ms p sends (without lacks n) w
-less_at n d ms p sends lacks v w (inl r) (unsent m q ns a b e s u x f g) = told_not_asks v ns r.1 q r.2 e r.3
+less_at n d ms p sends lacks v w (inl r) (unsent m q ns a b e s u x f g) = replied_not_asks v ns r.1 q r.2 e r.3
 less_at n d ms p sends lacks v w (inl r) (awaited m ns a b e x f g) =
     let both : Asks ns m ≡ Asks r.1 r.2 = sym e ∙ r.3 in
     let same_uses : ns ≡ r.1 = cc in
     let same_question : m ≡ r.2 = cc in
     answered_last r.2 r.1 a (grind (arith, contains, without, without_own)) r.4 (grind (arith, read_no_ship)) (f ∙ same_uses) g
-less_at n d ms p sends lacks v w (inl r) (answered_last q ns a b e s f g) = told_not_asks v ns r.1 q r.2 e r.3
+less_at n d ms p sends lacks v w (inl r) (answered_last q ns a b e s f g) = replied_not_asks v ns r.1 q r.2 e r.3
 less_at n d ms p sends lacks v w (inl r) (apart a b e g) = silent_not_asks v r.1 r.2 e r.3
 less_at n d ms p sends lacks v w (inr r) (unsent m q ns a b e s u x f g) = unsent m q ns a (without_other lacks n d r.0 ∙ b) (r.1 ∙ e) s u x f g
 less_at n d ms p sends lacks v w (inr r) (awaited m ns a b e x f g) = awaited m ns a (without_other lacks n d r.0 ∙ b) (r.1 ∙ e) x f g
 less_at n d ms p sends lacks v w (inr r) (answered_last q ns a b e s f g) = answered_last q ns a (without_other lacks n d r.0 ∙ b) (r.1 ∙ e) s f g
 less_at n d ms p sends lacks v w (inr r) (apart a b e g) = apart a (without_other lacks n d r.0 ∙ b) (r.1 ∙ e) g
 
-lacking_at : (ts c d : ℕ) (x : Exchange) (ds : List ℕ) (w : Turn) → IsStrict (firsts x.modules)
-    → IsAt d x.modules x.phase x.to_send ds w → IsAtTurn d (lacking ts c x ds) w
+lacking_at : (ts c d : ℕ) (x : Exchange) (dms : List ℕ) (w : Turn) → IsStrict (firsts x.modules)
+    → IsAt d x.modules x.phase x.to_send dms w → IsAtTurn d (lacking ts c x dms) w
 lacking_at ts c d x [] w h i = ended_at ts c d (record x { lacks = [] }) x.phase w h refl i refl
-lacking_at ts c d x (y ∷ ds) w h i = i
+lacking_at ts c d x (y ∷ dms) w h i = i
 
 answered_at : (ts c n d : ℕ) (x : Exchange) (v w : Turn) → IsStrict (firsts x.modules) → IsNext n d v w → IsAtTurn d x v → IsAtTurn d (answered ts c n x) w
 answered_at ts c n d x v w h r i = lacking_at ts c d x (without x.lacks n) w h (less_at n d x.modules x.phase x.to_send x.lacks v w r i)

@@ -1,5 +1,5 @@
 -- A question that is next to be handed over is for rows that its data module holds.
-use Rattle.sdd_obligations.proofs.All.{AreFor, Asks, Bool, D, DmNo, Fetch, FitsShip, Frozen, Hand, Input, IsAllowed, IsOfUses, IsPermitted, IsServable, List, MayAsk, Msg, None, Option, Reduce, Replies, Ship, Site, Some, Told, Turn, [], active, answers, ap, arith, asks_rows, false, flight, frozen, hand_was_put, handed, home, if◌then◌else◌, is_a_read, is_a_ship, is_answer, is_exchanging, is_question, local_of, never, not, number_of, questions, setting_of, subst, sym, true, turn_after_answer, turn_at, turn_with, uses_held, ℕ, ◌∙◌, ◌∷◌, ◌≡◌, ◌≤◌}
+use Rattle.sdd_obligations.proofs.All.{AreFor, Asks, Bool, D, DmNo, Fetch, FitsShip, Frozen, Hand, Input, IsAllowed, IsOfUses, IsPermitted, IsServable, List, MayAsk, Msg, None, Option, Reduce, Replied, Replies, Ship, Site, Some, Turn, [], active, answers, ap, arith, asks_rows, false, flight, frozen, hand_was_put, handed, home, if◌then◌else◌, is_a_read, is_a_ship, is_answer, is_exchanging, is_question, local_of, never, not, number_of, questions, setting_of, subst, sym, true, turn_after_answer, turn_at, turn_with, uses_held, ℕ, ◌∙◌, ◌∷◌, ◌≡◌, ◌≤◌}
 use Rattle.sdd_obligations.proofs.HandedAnswersKeepTurns.{answers_asked}
 use Rattle.sdd_obligations.proofs.Flights.{first_in_flight}
 use Rattle.sdd_obligations.proofs.Replying.{asks_question, asks_no_a_read as asks_no_read}
@@ -16,7 +16,7 @@ use Rattle.sdd_invariants.specs.logs.Entries as all
 record IsRowsTurn (w : Turn) (m : Msg) : Type 0 where
   uses : List ℕ
   last : Msg
-  is : w ≡ Told uses last
+  is : w ≡ Replied uses last
   not_shipped : is_a_ship last ≡ false
   named : IsOfUses uses m
 

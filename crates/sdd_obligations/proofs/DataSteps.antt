@@ -10,8 +10,8 @@ reply f (Ship ts class) = Some (Rows ts class (all_held f))
 reply f _ = None
 
 -- the counts that a READY tells
-abbrev pub counts_told : Setting → Log → ℕ → List Use → List (ℕ × ℕ)
-counts_told s log ts uses = counts_of (frozen_for (copies (dated_in (view_of s log))) ts uses)
+abbrev pub ready_counts : Setting → Log → ℕ → List Use → List (ℕ × ℕ)
+ready_counts s log ts uses = counts_of (frozen_for (copies (dated_in (view_of s log))) ts uses)
 
 pub data IsDataStep (s : Setting) (log : Log) (act : Act) : Type 0 where
   arrives : (k : ℕ) (txn : TxnNo) (attempt : ℕ) → act ≡ Records k (Arrive txn attempt (home_of s).dm) [] → IsDataStep s log act
@@ -19,7 +19,7 @@ pub data IsDataStep (s : Setting) (log : Log) (act : Act) : Type 0 where
       → act ≡ Sends o.from m (Some o.hand) → IsDataStep s log act
   answers_read : (c : ℕ) (ts : Ts) (k : ClassNo) (txn : TxnNo) (attempt : ℕ) (conds : List Cond) (uses : List Use) → IsClassHere s c
       → head (pipe c log) ≡ Some (Read ts k txn attempt conds uses)
-      → act ≡ Records c (Answer txn attempt (home_of s).dm) ((source_of (home_of s) c, Ready ts k (counts_told s log ts.0 uses)) ∷ []) → IsDataStep s log act
+      → act ≡ Records c (Answer txn attempt (home_of s).dm) ((source_of (home_of s) c, Ready ts k (ready_counts s log ts.0 uses)) ∷ []) → IsDataStep s log act
   refuses_read : (c : ℕ) (ts : Ts) (k : ClassNo) (txn : TxnNo) (attempt : ℕ) (conds : List Cond) (uses : List Use) (by : ClassNo) (write : Ts)
       → IsClassHere s c → head (pipe c log) ≡ Some (Read ts k txn attempt conds uses)
       → act ≡ Records c (Rejected txn attempt (home_of s).dm by write) ((source_of (home_of s) c, Reject ts k by write) ∷ []) → IsDataStep s log act
@@ -100,7 +100,7 @@ pub data_step_way : (s : Setting) (log : Log) (act : Act) (P : Act → Type 0)
     → ((c : ℕ) (ts : Ts) (k : ClassNo) (txn : TxnNo) (attempt : ℕ) (conds : List Cond) (uses : List Use)
     → IsClassHere s c → head (pipe c log) ≡ Some (Read ts k txn attempt conds uses)
     → P (Records c (Answer txn attempt (home_of s).dm)
-    ((source_of (home_of s) c, Ready ts k (counts_told s log ts.0 uses)) ∷ [])))
+    ((source_of (home_of s) c, Ready ts k (ready_counts s log ts.0 uses)) ∷ [])))
     → ((c : ℕ) (ts : Ts) (k : ClassNo) (txn : TxnNo) (attempt : ℕ) (conds : List Cond) (uses : List Use)
     (by : ClassNo) (write : Ts) → IsClassHere s c → head (pipe c log) ≡ Some
     (Read ts k txn attempt conds uses) → P (Records c (Rejected txn attempt (home_of s).dm by write)

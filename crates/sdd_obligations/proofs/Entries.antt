@@ -20,14 +20,14 @@ one_of_two : (P : ℕ × Change → Type 0) (y : ℕ × Change) (o : Option (ℕ
     → ((z : ℕ × Change) → o ≡ Some z → P z) → newer y o ≡ Some x → P x
 one_of_two P y o x here rest e = grind (arith, nat_lt)
 
-latest_stands : (cat : Catalogue) (f : ℕ) (k : ℤ) (xs : Dated) → AllByRecursion (IsOf cat f) xs → (x : ℕ × Change) → latest k xs ≡ Some x → IsChangeOf cat f k x
-latest_stands cat f k [] all x e = cc
-latest_stands cat f k (y ∷ ys) all x e =
+latest_is_of : (cat : Catalogue) (f : ℕ) (k : ℤ) (xs : Dated) → AllByRecursion (IsOf cat f) xs → (x : ℕ × Change) → latest k xs ≡ Some x → IsChangeOf cat f k x
+latest_is_of cat f k [] all x e = cc
+latest_is_of cat f k (y ∷ ys) all x e =
     elim (is_eq (int_cmp y.1.key k)) as (λ b. is_eq (int_cmp y.1.key k) ≡ b → (if b then newer y (latest k ys) else latest k ys) ≡ Some x → IsChangeOf cat f k x) [
       | true ↦ λ own q.
           let same : y.1.key ≡ k = same_key y.1.key k (eq_is (int_cmp y.1.key k) own) in
-          one_of_two (IsChangeOf cat f k) y (latest k ys) x (all.0.0, all.0.1, same) (λ z p. latest_stands cat f k ys all.1 z p) q
-      | false ↦ λ own q. latest_stands cat f k ys all.1 x q
+          one_of_two (IsChangeOf cat f k) y (latest k ys) x (all.0.0, all.0.1, same) (λ z p. latest_is_of cat f k ys all.1 z p) q
+      | false ↦ λ own q. latest_is_of cat f k ys all.1 x q
     ] refl e
 
 -- the changes of a fragment
@@ -58,7 +58,7 @@ left_entries : (cat : Catalogue) → IsSoundCatalogue cat → (f : ℕ) (ys : Da
     (map (entry_at cat f) (filter_map (λ k. row_left k (latest k ys)) ks))
 left_entries cat sound f ys of [] = tt
 left_entries cat sound f ys of (k ∷ ks) =
-    one_more cat sound f k (latest k ys) (filter_map (λ k. row_left k (latest k ys)) ks) (latest_stands cat f k ys of) (left_entries cat sound f ys of ks)
+    one_more cat sound f k (latest k ys) (filter_map (λ k. row_left k (latest k ys)) ks) (latest_is_of cat f k ys of) (left_entries cat sound f ys of ks)
 
 pub items_are_entries : (cat : Catalogue) → IsSoundCatalogue cat → (xs : Dated) → AreItems cat xs → (f : ℕ) → AllByRecursion (IsEntry cat) (items_of cat xs f)
 items_are_entries cat sound xs all f = left_entries cat sound f (of_fragment f xs) (kept_of cat f xs all) (keys_in (of_fragment f xs))

@@ -1,5 +1,5 @@
 -- On a permitted log the exchanges of a class with the data modules go by turns.
-use Rattle.sdd_obligations.proofs.All.{Act, AllLe, Bool, D, Did, Does, Each, Entry, Hand, Handed, Input, IsAllowed, IsDueEach, IsFair, IsPermitted, IsStage, IsStep, List, Log, MayAnswer, MayAsk, Msg, Option, Site, Some, Turn, [], answers, ap, arith, asked_by, cond, d_fair, dm_no, false, filter, flight, frozen, goes_through, hand_was_put, handed_by, home, home_fair, if◌then◌else◌, inl, inr, is_answer, is_exchanging, is_question, local_of, local_step, made, maker, number_of, own_act, put_by, puts_grow, questions, refl, same_site, sends_of_act, setting_of, site_is, site_self, subst, sym, time_of, times_in, to_site, told_by, true, turn_at, turn_with, uses_held, with_made, ℕ, ◌++◌, ◌∙◌, ◌∷◌, ◌≡◌, ◌≤◌}
+use Rattle.sdd_obligations.proofs.All.{Act, AllLe, Bool, D, Did, Does, Each, Entry, Hand, Handed, Input, IsAllowed, IsDueEach, IsFair, IsPermitted, IsStage, IsStep, List, Log, MayAnswer, MayAsk, Msg, Option, Site, Some, Turn, [], answers, ap, arith, asked_by, cond, d_fair, dm_no, false, filter, flight, frozen, goes_through, hand_was_put, handed_by, home, home_fair, if◌then◌else◌, inl, inr, is_answer, is_exchanging, is_question, local_of, local_step, made, maker, number_of, own_act, put_by, puts_grow, questions, refl, same_site, sends_of_act, setting_of, site_is, site_self, subst, sym, time_of, times_in, to_site, true, turn_after_answers, turn_at, turn_with, uses_held, with_made, ℕ, ◌++◌, ◌∙◌, ◌∷◌, ◌≡◌, ◌≤◌}
 use Rattle.sdd_obligations.proofs.QuestionsComeInTurn.{asks_in_turn}
 use Rattle.sdd_obligations.proofs.HandedAnswersKeepTurns.{IsTimely}
 use Rattle.sdd_obligations.proofs.DataSteps.{data_step}
@@ -115,7 +115,7 @@ stage_step g ts c d log e h small i =
     (move_at g ts c d log e h small i) (questions_step g ts c at m e log h) (answers_step g ts c m at e log h) (i.stages ts d) in
     subst (λ v. IsStage v (turn_with ts c at (data_log g d (e ∷ log))) (questions ts c (flight g at m (e ∷ log))) (answers ts c (flight g m at (e ∷ log))))
     (sym (turn_at_step g ts c d at e log))
-    (subst (λ w. IsStage (told_by (answers ts c (handed_by m (made g at log e)))
+    (subst (λ w. IsStage (turn_after_answers (answers ts c (handed_by m (made g at log e)))
     (asked_by (questions ts c (put_by m (made g at log e))) (turn_at ts c d (home_log g c log)))) w
     (questions ts c (flight g at m (e ∷ log))) (answers ts c (flight g m at (e ∷ log)))) (sym (turn_with_step g ts c at m e log)) now)
 

@@ -1,5 +1,5 @@
 -- What is put on a link and not handed over yet, and how an entry changes it; and what an entry adds to the turns.
-use Rattle.sdd_obligations.proofs.All.{Act, Bool, D, Did, Does, Entry, Hand, Handed, Input, IsAllowed, IsPermitted, List, Log, Msg, None, Option, Silent, Site, Some, [], answers, ap, append_assoc, arith, asked_by, dm_no, drop, false, filter-append, flight, hand_was_put, handed_by, hands_from, hands_grow, if◌then◌else◌, in_order, is_answer, is_question, local_of, local_step, made, put_by, puts_grow, puts_to, questions, same_site, sends_of_act, slice_get, suc, sym, take-append-drop, to_site, told_by, true, turn_at, turn_with, with_made, zero, ℕ, ◌&&◌, ◌++◌, ◌∙◌, ◌∷◌, ◌≡◌}
+use Rattle.sdd_obligations.proofs.All.{Act, Bool, D, Did, Does, Entry, Hand, Handed, Input, IsAllowed, IsPermitted, List, Log, Msg, None, Option, Silent, Site, Some, [], answers, ap, append_assoc, arith, asked_by, dm_no, drop, false, filter-append, flight, hand_was_put, handed_by, hands_from, hands_grow, if◌then◌else◌, in_order, is_answer, is_question, local_of, local_step, made, put_by, puts_grow, puts_to, questions, same_site, sends_of_act, slice_get, suc, sym, take-append-drop, to_site, true, turn_after_answers, turn_at, turn_with, with_made, zero, ℕ, ◌&&◌, ◌++◌, ◌∙◌, ◌∷◌, ◌≡◌}
 use Rattle.sdd_invariants.specs.site_module.SiteLog as site
 
 flight_splits : (g : Input) (a b : Site) (log : Log) → IsPermitted g log → puts_to b (local_of g a log) ≡ hands_from a (local_of g b log) ++ flight g a b log
@@ -48,17 +48,17 @@ first_in_flight g log a b n m h = grind (arith, drop_at, hand_was_put)
 -- the turns after an entry
 
 pub turn_at_step : (g : Input) (ts c d : ℕ) (at : Site) (e : Entry) (log : Log)
-    → turn_at ts c d (local_of g at (e ∷ log)) ≡ told_by
+    → turn_at ts c d (local_of g at (e ∷ log)) ≡ turn_after_answers
     (answers ts c (handed_by (D (dm_no d)) (made g at log e)))
     (asked_by (questions ts c (put_by (D (dm_no d)) (made g at log e))) (turn_at ts c d (local_of g at log)))
 turn_at_step g ts c d at e log = ap (turn_at ts c d) (local_step g at e log) ∙ (grind arith)
 
 with_made_turn : (ts c : ℕ) (at : Site) (o : Option site.Entry) (l : site.Log)
-    → turn_with ts c at (with_made o l) ≡ told_by (answers ts c (put_by at o)) (asked_by (questions ts c (handed_by at o)) (turn_with ts c at l))
+    → turn_with ts c at (with_made o l) ≡ turn_after_answers (answers ts c (put_by at o)) (asked_by (questions ts c (handed_by at o)) (turn_with ts c at l))
 with_made_turn ts c at o l = grind arith
 
 pub turn_with_step : (g : Input) (ts c : ℕ) (at b : Site) (e : Entry) (log : Log)
-    → turn_with ts c at (local_of g b (e ∷ log)) ≡ told_by (answers ts c (put_by at (made g b log e)))
+    → turn_with ts c at (local_of g b (e ∷ log)) ≡ turn_after_answers (answers ts c (put_by at (made g b log e)))
     (asked_by (questions ts c (handed_by at (made g b log e))) (turn_with ts c at (local_of g b log)))
 turn_with_step g ts c at b e log = ap (turn_with ts c at) (local_step g b e log) ∙ with_made_turn ts c at (made g b log e) (local_of g b log)
 

@@ -1,6 +1,6 @@
 -- An answer that is handed in turn to a site that makes attempts keeps its turns.
-use Rattle.sdd_obligations.proofs.All.{Asks, Attempt, Bool, D, Exchange, Handed, IsStrict, List, MayAnswer, Msg, None, Option, Phase, Refused, Replies, Setting, Silent, Site, Some, Told, Turn, [], active, active_handed, after_hand, and_no, answers, ap, arith, asked_by, cond, contains, dm_no, false, hand_goes, if_way, if◌then◌else◌, inl, inr, is_a_read, is_a_refusal, is_answer, is_exchanging, is_over, is_question, is_reading, last_stamp, never, questions, refl, rejects, same_number, same_or_not, stamp_rises, subst, sym, told_by, true, turn_after_answer, turn_after_question, turn_at, uses_at, ℕ, ◌&&◌, ◌<◌, ◌==◌, ◌∙◌, ◌∷◌, ◌≡◌}
-use Rattle.sdd_obligations.proofs.AtTurn.{IsAtTurn, answered_last, apart, awaited, awaits, hand_at, hand_not, silent_not_asks, told_not_asks, unsent, read_no_ship}
+use Rattle.sdd_obligations.proofs.All.{Asks, Attempt, Bool, D, Exchange, Handed, IsStrict, List, MayAnswer, Msg, None, Option, Phase, Refused, Replied, Replies, Setting, Silent, Site, Some, Turn, [], active, active_handed, after_hand, and_no, answers, ap, arith, asked_by, cond, contains, dm_no, false, hand_goes, if_way, if◌then◌else◌, inl, inr, is_a_read, is_a_refusal, is_answer, is_exchanging, is_over, is_question, is_reading, last_stamp, never, questions, refl, rejects, same_number, same_or_not, stamp_rises, subst, sym, true, turn_after_answer, turn_after_answers, turn_after_question, turn_at, uses_at, ℕ, ◌&&◌, ◌<◌, ◌==◌, ◌∙◌, ◌∷◌, ◌≡◌}
+use Rattle.sdd_obligations.proofs.AtTurn.{IsAtTurn, answered_last, apart, awaited, awaits, hand_at, hand_not, silent_not_asks, replied_not_asks, unsent, read_no_ship}
 use Rattle.sdd_obligations.proofs.Modules.{firsts}
 use Rattle.sdd_invariants.specs.site_module.SiteLog.{Entry, Log}
 
@@ -25,9 +25,9 @@ IsTimely c log _ = Unit {0}
 
 -- turns
 
-pub told_one : (ts c : ℕ) (b : Bool) (m : Msg) (v : Turn)
-    → told_by (answers ts c (if b then m ∷ [] else [])) v ≡ (if b && is_answer ts c m then turn_after_answer m v else v)
-told_one ts c b m v = grind (arith, told_by, cond)
+pub turn_after_one : (ts c : ℕ) (b : Bool) (m : Msg) (v : Turn)
+    → turn_after_answers (answers ts c (if b then m ∷ [] else [])) v ≡ (if b && is_answer ts c m then turn_after_answer m v else v)
+turn_after_one ts c b m v = grind (arith, turn_after_answers, cond)
 
 pub asked_one : (ts c : ℕ) (b : Bool) (m : Msg) (v : Turn)
     → asked_by (questions ts c (if b then m ∷ [] else [])) v ≡ (if b && is_question ts c m then turn_after_question m v else v)
@@ -43,14 +43,14 @@ pub record IsAskedBy (v : Turn) (m : Msg) : Type 0 where
 pub answers_asked : (v : Turn) (m : Msg) → MayAnswer v m → IsAskedBy v m
 answers_asked v m h = grind arith
 
-pub told_is : (v : Turn) (ns : List ℕ) (q m : Msg) → v ≡ Asks ns q → is_a_refusal m ≡ false → turn_after_answer m v ≡ Told ns q
-told_is v ns q m e f = ap (turn_after_answer m) e ∙ ap (λ (b : Bool). if b then Refused else Told ns q) f
+pub turn_is_replied : (v : Turn) (ns : List ℕ) (q m : Msg) → v ≡ Asks ns q → is_a_refusal m ≡ false → turn_after_answer m v ≡ Replied ns q
+turn_is_replied v ns q m e f = ap (turn_after_answer m) e ∙ ap (λ (b : Bool). if b then Refused else Replied ns q) f
 
-pub quiet_told : (m : Msg) (v : Turn) → is_exchanging v ≡ false → is_exchanging (turn_after_answer m v) ≡ false
-quiet_told m v e = grind (arith, Asks, if_way)
+pub quiet_after_answer : (m : Msg) (v : Turn) → is_exchanging v ≡ false → is_exchanging (turn_after_answer m v) ≡ false
+quiet_after_answer m v e = grind (arith, Asks, if_way)
 
 quiet_if : (b : Bool) (m : Msg) (v : Turn) → is_exchanging v ≡ false → is_exchanging (if b then turn_after_answer m v else v) ≡ false
-quiet_if b m v e = if_way (λ w. is_exchanging w ≡ false) b (turn_after_answer m v) v (quiet_told m v e) e
+quiet_if b m v e = if_way (λ w. is_exchanging w ≡ false) b (turn_after_answer m v) v (quiet_after_answer m v e) e
 
 -- a rejection answers a READ
 
@@ -64,7 +64,7 @@ pub record IsAwaited (d : ℕ) (x : Exchange) (ns : List ℕ) (q : Msg) : Type 0
   pub uses : uses_at x.modules d ≡ ns
 
 pub is_awaited : (d : ℕ) (x : Exchange) (v : Turn) (ns : List ℕ) (q : Msg) → IsAtTurn d x v → v ≡ Asks ns q → IsAwaited d x ns q
-is_awaited d x v ns q h6 z = grind (arith, unsent, told_not_asks, awaited, awaits, answered_last, apart, silent_not_asks)
+is_awaited d x v ns q h6 z = grind (arith, unsent, replied_not_asks, awaited, awaits, answered_last, apart, silent_not_asks)
 
 pub quiet_over : (d : ℕ) (x : Exchange) (v : Turn) → is_over x.phase ≡ true → IsAtTurn d x v → is_exchanging v ≡ false
 quiet_over d x v r h5 = grind (arith, unsent, awaited, answered_last, apart)
@@ -101,7 +101,7 @@ at_turn_on c n d m a v strict h e timely = elim (is_answer a.ts c m) as (λ b. i
           (let by = answers_asked (v a.ts n) m (timely f) in
           let g : is_a_refusal m ≡ false = (grind (arith, never)) in
           hand_at a.ts c n d a.exchange (v a.ts d) (after_answer c n m v a.ts d) m strict f g
-          (grind (arith, same_or_not, same_number, told_is)) ((h a.ts d).0 refl))
+          (grind (arith, same_or_not, same_number, turn_is_replied)) ((h a.ts d).0 refl))
       | false ↦ λ f. subst (λ x. IsAtTurn d x (after_answer c n m v a.ts d)) (sym (hand_not a.ts c n a.exchange m f))
           (subst (λ (w : Turn). IsAtTurn d a.exchange w)
           (grind (arith, turn_after_answer, and_no)) ((h a.ts d).0 refl))
@@ -129,9 +129,9 @@ pub in_turn_hand : (s : Setting) (c : ℕ) (log : Log) (from : Site) (m : Msg) �
 in_turn_hand s c log (D n) m timely h = record {
   turns = turns_now (active_handed c (D n) m (active s c log))
       (after_answer c n.0 m (λ ts d. turn_at ts c d log)) (λ ts d. turn_at ts c d (Handed (D n) m ∷ log))
-      (λ ts d. told_one ts c (d == n.0) m (turn_at ts c d log)) (handed_turns c n.0 m (active s c log)
+      (λ ts d. turn_after_one ts c (d == n.0) m (turn_at ts c d log)) (handed_turns c n.0 m (active s c log)
       (λ ts d. turn_at ts c d log) h.strict h.turns (λ ts e. timely ts n.0 refl e));
-  fresh = grind (arith, told_one, turn_at, if_way, turn_after_answer, is_answer, stamp_rises);
+  fresh = grind (arith, turn_after_one, turn_at, if_way, turn_after_answer, is_answer, stamp_rises);
   strict = (grind (arith, if_way, hand_goes));
 }
 in_turn_hand s c log x m timely h =

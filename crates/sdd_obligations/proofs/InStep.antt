@@ -52,8 +52,8 @@ use_of (Reduce t k u col vs) = u
 use_of _ = 0
 
 -- an exchange that is over when it begins reads nothing
-pub none_read : {A : Type 0} (ms : List (ℕ × List ℕ)) (ds : List ℕ) (d : ℕ) → firsts ms ≡ ds → is_shipped (first_phase ms) ≡ true → Has ds d → A
-none_read ms ds d e ships k = grind arith
+pub none_read : {A : Type 0} (ms : List (ℕ × List ℕ)) (dms : List ℕ) (d : ℕ) → firsts ms ≡ dms → is_shipped (first_phase ms) ≡ true → Has dms d → A
+none_read ms dms d e ships k = grind arith
 
 -- a READ isn't answered twice at a module
 pub again : (g : Input) → FitsInput g → (c : ℕ) (d : DmNo) (act : Act) (log : Log) (ts : ℕ)

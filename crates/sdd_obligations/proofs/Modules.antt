@@ -32,22 +32,22 @@ abbrev pub to_module : ℕ → List (ℕ × Msg) → List Msg
 to_module d [] = []
 to_module d (p ∷ ps) = if d == p.0 then p.1 ∷ to_module d ps else to_module d ps
 
-none_above : (m : Msg) (d : ℕ) (ds : List ℕ) → AllGt d ds → to_module d (to_all m ds) ≡ []
+none_above : (m : Msg) (d : ℕ) (dms : List ℕ) → AllGt d dms → to_module d (to_all m dms) ≡ []
 none_above m d [] h = refl
-none_above m d (x ∷ ds) h = rw (below_not d x h.0) (none_above m d ds h.1)
+none_above m d (x ∷ dms) h = rw (below_not d x h.0) (none_above m d dms h.1)
 
-pub one_to_each : (m : Msg) (ds : List ℕ) (d : ℕ) → IsStrict ds → to_module d (to_all m ds) ≡ (if contains ds d then m ∷ [] else [])
+pub one_to_each : (m : Msg) (dms : List ℕ) (d : ℕ) → IsStrict dms → to_module d (to_all m dms) ≡ (if contains dms d then m ∷ [] else [])
 one_to_each m [] d h = refl
-one_to_each m (x ∷ ds) d h = grind (arith, same_or_not, same_number, none_above, not_same, one_to_each m ds d h.1)
+one_to_each m (x ∷ dms) d h = grind (arith, same_or_not, same_number, none_above, not_same, one_to_each m dms d h.1)
 
-none_sent_above : (f : ℕ → Msg) (d : ℕ) (ds : List ℕ) → AllGt d ds → to_site (D (dm_no d)) (map (λ d. (D (dm_no d), f d)) ds) ≡ []
+none_sent_above : (f : ℕ → Msg) (d : ℕ) (dms : List ℕ) → AllGt d dms → to_site (D (dm_no d)) (map (λ d. (D (dm_no d), f d)) dms) ≡ []
 none_sent_above f d [] h = refl
-none_sent_above f d (x ∷ ds) h = rw (below_not d x h.0) (none_sent_above f d ds h.1)
+none_sent_above f d (x ∷ dms) h = rw (below_not d x h.0) (none_sent_above f d dms h.1)
 
-pub sent_to_each : (f : ℕ → Msg) (ds : List ℕ) (d : ℕ) → IsStrict ds
-    → to_site (D (dm_no d)) (map (λ d. (D (dm_no d), f d)) ds) ≡ (if contains ds d then f d ∷ [] else [])
+pub sent_to_each : (f : ℕ → Msg) (dms : List ℕ) (d : ℕ) → IsStrict dms
+    → to_site (D (dm_no d)) (map (λ d. (D (dm_no d), f d)) dms) ≡ (if contains dms d then f d ∷ [] else [])
 sent_to_each f [] d h = refl
-sent_to_each f (x ∷ ds) d h = grind (arith, same_or_not, same_number, none_sent_above, not_same, sent_to_each f ds d h.1)
+sent_to_each f (x ∷ dms) d h = grind (arith, same_or_not, same_number, none_sent_above, not_same, sent_to_each f dms d h.1)
 
 -- modules with the numbers of the uses that are read there
 abbrev pub firsts : List (ℕ × List ℕ) → List ℕ
@@ -101,32 +101,33 @@ reading_reads (m ∷ ms) u d e =
 -- what a Start sends to modules
 
 abbrev pub read_modules : (ℕ → Msg) → List ℕ → List (ℕ × List ℕ)
-read_modules f ds = filter_map module_read (map (λ d. (D (dm_no d), f d)) ds)
+read_modules f dms = filter_map module_read (map (λ d. (D (dm_no d), f d)) dms)
 
 abbrev pub TellsUses : (ℕ → Msg) → (ℕ → List ℕ) → Type 0
 TellsUses f nums = (d : ℕ) → module_read (D (dm_no d), f d) ≡ Some (d, nums d)
 
-pub read_firsts : (f : ℕ → Msg) (nums : ℕ → List ℕ) (ds : List ℕ) → TellsUses f nums → firsts (read_modules f ds) ≡ ds
+pub read_firsts : (f : ℕ → Msg) (nums : ℕ → List ℕ) (dms : List ℕ) → TellsUses f nums → firsts (read_modules f dms) ≡ dms
 read_firsts f nums [] g = refl
-read_firsts f nums (d ∷ ds) g = rw (g d) (ap (λ l. d ∷ l) (read_firsts f nums ds g))
+read_firsts f nums (d ∷ dms) g = rw (g d) (ap (λ l. d ∷ l) (read_firsts f nums dms g))
 
-none_read_above : (f : ℕ → Msg) (nums : ℕ → List ℕ) (d : ℕ) (ds : List ℕ) → TellsUses f nums → AllGt d ds → uses_at (read_modules f ds) d ≡ []
+none_read_above : (f : ℕ → Msg) (nums : ℕ → List ℕ) (d : ℕ) (dms : List ℕ) → TellsUses f nums → AllGt d dms → uses_at (read_modules f dms) d ≡ []
 none_read_above f nums d [] g h = refl
-none_read_above f nums d (x ∷ ds) g h =
-    rw (g x) (ap (λ l. l ++ uses_at (read_modules f ds) d) (kept_none (x == d) (nums x) (not_same d x (below_not d x h.0))) ∙ none_read_above f nums d ds g h.1)
+none_read_above f nums d (x ∷ dms) g h =
+    rw (g x) (ap (λ l. l ++ uses_at (read_modules f dms) d) (kept_none (x == d) (nums x) (not_same d x (below_not d x h.0)))
+    ∙ none_read_above f nums d dms g h.1)
 
 append_none : (ns ms : List ℕ) → ms ≡ [] → ns ++ ms ≡ ns
 append_none [] ms e = e
 append_none (n ∷ ns) ms e = ap (λ l. n ∷ l) (append_none ns ms e)
 
-pub read_uses : (f : ℕ → Msg) (nums : ℕ → List ℕ) (ds : List ℕ) (d : ℕ) → TellsUses f nums → IsStrict ds → contains ds d ≡ true
-    → uses_at (read_modules f ds) d ≡ nums d
+pub read_uses : (f : ℕ → Msg) (nums : ℕ → List ℕ) (dms : List ℕ) (d : ℕ) → TellsUses f nums → IsStrict dms → contains dms d ≡ true
+    → uses_at (read_modules f dms) d ≡ nums d
 read_uses f nums [] d g h e = cc
-read_uses f nums (x ∷ ds) d g h e = elim (same_or_not x d) [
+read_uses f nums (x ∷ dms) d g h e = elim (same_or_not x d) [
   | inl p ↦ rw (g x) (subst (λ y. filter (λ (u : ℕ). x == y) (nums x) ++ uses_at
-      (read_modules f ds) y ≡ nums y) p (append_none (filter (λ (u : ℕ). x == x) (nums x))
-      (uses_at (read_modules f ds) x) (none_read_above f nums x ds g h.0) ∙ kept_all (x ==
+      (read_modules f dms) y ≡ nums y) p (append_none (filter (λ (u : ℕ). x == x) (nums x))
+      (uses_at (read_modules f dms) x) (none_read_above f nums x dms g h.0) ∙ kept_all (x ==
       x) (nums x) (same_number x)))
-  | inr p ↦ rw (g x) (ap (λ l. l ++ uses_at (read_modules f ds) d) (kept_none (x == d) (nums x) p)
-      ∙ read_uses f nums ds d g h.1 (subst (λ b. (b || contains ds d) ≡ true) p e))
+  | inr p ↦ rw (g x) (ap (λ l. l ++ uses_at (read_modules f dms) d) (kept_none (x == d) (nums x) p)
+      ∙ read_uses f nums dms d g h.1 (subst (λ b. (b || contains dms d) ≡ true) p e))
 ]

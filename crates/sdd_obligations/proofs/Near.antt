@@ -10,7 +10,7 @@ IsNear n d = (1 ≤ d) × (d ≤ n)
 
 abbrev pub AllNear : ℕ → List ℕ → Type 0
 AllNear n [] = Unit {0}
-AllNear n (d ∷ ds) = IsNear n d × AllNear n ds
+AllNear n (d ∷ dms) = IsNear n d × AllNear n dms
 
 abbrev ModulesNear : ℕ → List (ℕ × List ℕ) → Type 0
 ModulesNear n [] = Unit {0}
@@ -27,12 +27,12 @@ pub record IsNearBy (n : ℕ) (x : Exchange) : Type 0 where
 
 -- steps of an exchange
 
-to_near : (n : ℕ) (m : Msg) (ds : List ℕ) → AllNear n ds → SendsNear n (to_all m ds)
+to_near : (n : ℕ) (m : Msg) (dms : List ℕ) → AllNear n dms → SendsNear n (to_all m dms)
 to_near n m [] h = tt
-to_near n m (d ∷ ds) h = (h.0, to_near n m ds h.1)
+to_near n m (d ∷ dms) h = (h.0, to_near n m dms h.1)
 
-cons_near : (n : ℕ) (b : Bool) (d : ℕ) (ds : List ℕ) → IsNear n d → AllNear n ds → AllNear n (cons_option (cond b (Some d) None) ds)
-cons_near n b d ds h i = grind arith
+cons_near : (n : ℕ) (b : Bool) (d : ℕ) (dms : List ℕ) → IsNear n d → AllNear n dms → AllNear n (cons_option (cond b (Some d) None) dms)
+cons_near n b d dms h i = grind arith
 
 use_near : (n u : ℕ) (ms : List (ℕ × List ℕ)) → ModulesNear n ms → AllNear n (filter_map (λ m. cond (contains m.1 u) (Some m.0) None) ms)
 use_near n u [] h = tt
@@ -45,9 +45,9 @@ firsts_near n (m ∷ ms) h = (h.0, firsts_near n ms h.1)
 reduces_near : (n ts c : ℕ) (m : Move) (x : Exchange) → IsNearBy n x → IsNearBy n (reduces ts c m x)
 reduces_near n ts c m x h = record { modules = h.modules; sends = to_near n _ (with_use x m.target.part) (use_near n m.target.part x.modules h.modules) }
 
-fetches_near : (n ts c : ℕ) (m : Move) (x : Exchange) (ds : List ℕ) → AllNear n ds → IsNearBy n x → IsNearBy n (fetches_from ts c m x ds)
+fetches_near : (n ts c : ℕ) (m : Move) (x : Exchange) (dms : List ℕ) → AllNear n dms → IsNearBy n x → IsNearBy n (fetches_from ts c m x dms)
 fetches_near n ts c m x [] k h = reduces_near n ts c m (record x { union = [] }) (record { modules = h.modules; sends = h.sends })
-fetches_near n ts c m x (d ∷ ds) k h = record { modules = h.modules; sends = to_near n _ (d ∷ ds) k }
+fetches_near n ts c m x (d ∷ dms) k h = record { modules = h.modules; sends = to_near n _ (d ∷ dms) k }
 
 ships_near : (n ts c : ℕ) (x : Exchange) → IsNearBy n x → IsNearBy n (ships ts c x)
 ships_near n ts c x h = record { modules = h.modules; sends = to_near n _ (map (λ (m : ℕ × List ℕ). m.0) x.modules) (firsts_near n x.modules h.modules) }
@@ -62,9 +62,9 @@ ends_near n ts c x Shipping h = record { modules = h.modules; sends = h.sends }
 ends_near n ts c x Over h = h
 ends_near n ts c x _ h = on_near n ts c x x.left x.done h
 
-lacking_near : (n ts c : ℕ) (x : Exchange) (ds : List ℕ) → IsNearBy n x → IsNearBy n (lacking ts c x ds)
+lacking_near : (n ts c : ℕ) (x : Exchange) (dms : List ℕ) → IsNearBy n x → IsNearBy n (lacking ts c x dms)
 lacking_near n ts c x [] h = ends_near n ts c (record x { lacks = [] }) x.phase (record { modules = h.modules; sends = h.sends })
-lacking_near n ts c x (d ∷ ds) h = record { modules = h.modules; sends = h.sends }
+lacking_near n ts c x (d ∷ dms) h = record { modules = h.modules; sends = h.sends }
 
 answered_near : (n ts c d : ℕ) (b : Bool) (x y : Exchange) → IsNearBy n x → IsNearBy n y → IsNearBy n (if b then answered ts c d y else x)
 answered_near n ts c d true x y h k = lacking_near n ts c y (without y.lacks d) k
@@ -93,16 +93,16 @@ insert_near : (n : ℕ) (ks : List ℕ) (k : ℕ) → IsNear n k → AllNear n k
 insert_near n [] k h i = (h, tt)
 insert_near n (x ∷ ks) k h i = grind (arith, lower_same_higher, insert_near n ks k h i.1)
 
-fold_near : (n : ℕ) (ds ks : List ℕ) → AllNear n ds → AllNear n ks → AllNear n (fold (λ ks k. insert_key nat_cmp ks k) ks ds)
+fold_near : (n : ℕ) (dms ks : List ℕ) → AllNear n dms → AllNear n ks → AllNear n (fold (λ ks k. insert_key nat_cmp ks k) ks dms)
 fold_near n [] ks h i = i
-fold_near n (d ∷ ds) ks h i = fold_near n ds (insert_key nat_cmp ks d) h.1 (insert_near n ks d h.0 i)
+fold_near n (d ∷ dms) ks h i = fold_near n dms (insert_key nat_cmp ks d) h.1 (insert_near n ks d h.0 i)
 
 range_near : (a m n : ℕ) → 1 ≤ a → a + m ≤ suc n → AllNear n (range_with_len a m)
 range_near a zero n l k = tt
 range_near a (suc m) n l k = ((l, omega (arith, k)), range_near (a + 1) m n (omega (arith, l)) (omega (arith, k)))
 
-made_cons : (n : ℕ) (o : Option ℕ) (ds : List ℕ) → ((d : ℕ) → o ≡ Some d → IsNear n d) → AllNear n ds → AllNear n (cons_option o ds)
-made_cons n o ds f h = grind arith
+made_cons : (n : ℕ) (o : Option ℕ) (dms : List ℕ) → ((d : ℕ) → o ≡ Some d → IsNear n d) → AllNear n dms → AllNear n (cons_option o dms)
+made_cons n o dms f h = grind arith
 
 made_near : (n : ℕ) (f : ℕ → Option ℕ) (xs : List ℕ) → ((x d : ℕ) → f x ≡ Some d → IsNear n d) → AllNear n (filter_map f xs)
 made_near n f [] h = tt
@@ -137,10 +137,10 @@ HasNear n (Some a) = IsNearBy n a.exchange
 started_near : (n ts : ℕ) (sends : List (Site × Msg)) (o : Option Queued) → ModulesNear n (filter_map module_read sends) → HasNear n (started ts sends o)
 started_near n ts sends o h = grind arith
 
-reads_near : (n : ℕ) (s : Setting) (c : ℕ) (log : Log) (q : Queued) (ds : List ℕ) → AllNear n ds
-    → ModulesNear n (filter_map module_read (map (λ d. (D (dm_no d), start_read s c log q d)) ds))
+reads_near : (n : ℕ) (s : Setting) (c : ℕ) (log : Log) (q : Queued) (dms : List ℕ) → AllNear n dms
+    → ModulesNear n (filter_map module_read (map (λ d. (D (dm_no d), start_read s c log q d)) dms))
 reads_near n s c log q [] h = tt
-reads_near n s c log q (d ∷ ds) h = (h.0, reads_near n s c log q ds h.1)
+reads_near n s c log q (d ∷ dms) h = (h.0, reads_near n s c log q dms h.1)
 
 handed_near : (n c : ℕ) (from : Site) (m : Msg) (o : Option Attempt) → HasNear n o → HasNear n (active_handed c from m o)
 handed_near n c (D d) m None h = tt

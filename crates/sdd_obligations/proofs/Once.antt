@@ -3,8 +3,8 @@ use Rattle.sdd_obligations.proofs.All.{Bool, KeepsOnce, List, Resting, Runs, Spa
 use Rattle.sdd_serving.specs.Runs.Runs.{begins, reduces}
 use Rattle.sdd_serving.specs.Runs.Stage.{Reducing}
 
-module _ (ds : List ℕ) (statements : List Stmt) (asked : ℕ → ℕ → Bool) (first : Space) (once : (d : ℕ) → KeepsOnce (first d)) where
-  pub runs_once : (space : Space) (stage : Stage) → Runs ds statements asked first space stage → (d : ℕ) → KeepsOnce (space d)
+module _ (dms : List ℕ) (statements : List Stmt) (asked : ℕ → ℕ → Bool) (first : Space) (once : (d : ℕ) → KeepsOnce (first d)) where
+  pub runs_once : (space : Space) (stage : Stage) → Runs dms statements asked first space stage → (d : ℕ) → KeepsOnce (space d)
   runs_once space stage begins = once
   runs_once space stage (asks r m q lacks all) = runs_once space Resting r
   runs_once space stage (tells m lacks union r d values all) = runs_once space (Telling m lacks union) r

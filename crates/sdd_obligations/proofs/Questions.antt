@@ -6,9 +6,9 @@ use Rattle.sdd_obligations.proofs.Modules.{without_other}
 
 -- what goes to all modules is one question
 
-all_same : (m q : Msg) (ds : List ℕ) → m ≡ q → AllByRecursion (λ (p : ℕ × Msg). p.1 ≡ q) (to_all m ds)
+all_same : (m q : Msg) (dms : List ℕ) → m ≡ q → AllByRecursion (λ (p : ℕ × Msg). p.1 ≡ q) (to_all m dms)
 all_same m q [] e = tt
-all_same m q (d ∷ ds) e = (e, all_same m q ds e)
+all_same m q (d ∷ dms) e = (e, all_same m q dms e)
 
 abbrev SendsPhase : ℕ → ℕ → Exchange → Type 0
 SendsPhase ts c x = AllByRecursion (λ (p : ℕ × Msg). p.1 ≡ question_of ts c x) x.to_send
@@ -16,9 +16,9 @@ SendsPhase ts c x = AllByRecursion (λ (p : ℕ × Msg). p.1 ≡ question_of ts 
 sends_reduces : (ts c : ℕ) (m : Move) (x : Exchange) → SendsPhase ts c (reduces ts c m x)
 sends_reduces ts c m x = all_same _ _ (with_use x m.target.part) refl
 
-sends_fetches : (ts c : ℕ) (m : Move) (x : Exchange) (ds : List ℕ) → SendsPhase ts c (fetches_from ts c m x ds)
+sends_fetches : (ts c : ℕ) (m : Move) (x : Exchange) (dms : List ℕ) → SendsPhase ts c (fetches_from ts c m x dms)
 sends_fetches ts c m x [] = sends_reduces ts c m (record x { union = [] })
-sends_fetches ts c m x (d ∷ ds) = all_same _ _ (d ∷ ds) refl
+sends_fetches ts c m x (d ∷ dms) = all_same _ _ (d ∷ dms) refl
 
 sends_next : (ts c : ℕ) (x : Exchange) (qs : List Asking) (done : List Step) → SendsPhase ts c (goes_on ts c x qs done)
 sends_next ts c x [] done = all_same _ _ (map (λ (m : ℕ × List ℕ). m.0) x.modules) refl
@@ -42,11 +42,11 @@ module _ (ts c n : ℕ) (m : Msg) (v : ℕ → Turn) where
   abbrev w : ℕ → Turn
   w d = after_answer n m v d
 
-  -- y is the exchange x with what the answer turn_after_answer
+  -- y is the exchange x with what the answer told it
   module _ (x y : Exchange) (at_turn : (d : ℕ) → IsAtTurn d x (v d)) (lacks_are : y.lacks ≡ x.lacks)
       (same : question_of ts c x ≡ question_of ts c y) (sends : SendsPhase ts c y)
       (h : AsksPhase ts c x v) where
-    lack_asks : (ds : List ℕ) → without y.lacks n ≡ ds → AsksPhase ts c (lacking ts c y ds) w
+    lack_asks : (dms : List ℕ) → without y.lacks n ≡ dms → AsksPhase ts c (lacking ts c y dms) w
     lack_asks [] e = record {
       sends = sends_end ts c (record y { lacks = [] }) y.phase refl sends;
       asked = λ d ns q a r.
@@ -54,7 +54,7 @@ module _ (ts c n : ℕ) (m : Msg) (v : ℕ → Turn) where
           let l : contains x.lacks d ≡ true = (is_awaited d x (v d) ns q (at_turn d) k.0).lacks in
           never (contains x.lacks d) l (sym (without_other x.lacks n d k.1) ∙ ap (λ ls. contains ls d) (ap (λ ls. without ls n) (sym lacks_are) ∙ e)));
     }
-    lack_asks (l ∷ ds) e = record { sends = sends; asked = λ d ns q a r. (let k = still_asked n d m q ns v a in h.asked d ns q k.0 r ∙ same) }
+    lack_asks (l ∷ dms) e = record { sends = sends; asked = λ d ns q a r. (let k = still_asked n d m q ns v a in h.asked d ns q k.0 r ∙ same) }
 
     pub answer_asks : AsksPhase ts c (answered ts c n y) w
     answer_asks = lack_asks (without y.lacks n) refl

@@ -118,30 +118,30 @@ first_reading ms d e = grind arith
 abbrev start_numbers : Setting → ℕ → Log → Queued → ℕ → List ℕ
 start_numbers s k log q d = uses_by (start_read s k log q d) []
 
-start_stands : (s : Setting) (k : ℕ) (log : Log) (q : Queued) (d : ℕ) (v : Turns) → v (next_stamp s log) d ≡ Silent
+start_keeps_turn : (s : Setting) (k : ℕ) (log : Log) (q : Queued) (d : ℕ) (v : Turns) → v (next_stamp s log) d ≡ Silent
     → IsAtTurn d (begins q.text (sends_of_act (start_at s k log q))) (after_start s k log q k v (next_stamp s log) d)
-start_stands s k log q d v e =
+start_keeps_turn s k log q d v e =
     let n : ℕ = next_stamp s log in
-    let ds : List ℕ = modules_asked s k q.text in
+    let dms : List ℕ = modules_asked s k q.text in
     let f : ℕ → Msg = start_read s k log q in
-    let ms : List (ℕ × List ℕ) = read_modules f ds in
-    let all : firsts ms ≡ ds = read_firsts f (start_numbers s k log q) ds (λ x. refl) in
-    let own : after_start s k log q k v n d ≡ (if contains ds d then turn_after_question (f d) (v n d) else v n d) =
-    ap (λ (b : Bool). if contains ds d && b then turn_after_question (f d) (v n d) else v n d) (own_started n k)
-    ∙ and_true (contains ds d) (turn_after_question (f d) (v n d)) (v n d) in
-    elim (contains ds d) as (λ b. contains ds d ≡ b → IsAtTurn d (begins q.text (sends_of_act (start_at s k log q))) (after_start s k log q k v n d)) [
+    let ms : List (ℕ × List ℕ) = read_modules f dms in
+    let all : firsts ms ≡ dms = read_firsts f (start_numbers s k log q) dms (λ x. refl) in
+    let own : after_start s k log q k v n d ≡ (if contains dms d then turn_after_question (f d) (v n d) else v n d) =
+    ap (λ (b : Bool). if contains dms d && b then turn_after_question (f d) (v n d) else v n d) (own_started n k)
+    ∙ and_true (contains dms d) (turn_after_question (f d) (v n d)) (v n d) in
+    elim (contains dms d) as (λ b. contains dms d ≡ b → IsAtTurn d (begins q.text (sends_of_act (start_at s k log q))) (after_start s k log q k v n d)) [
       | true ↦ λ b.
           let here : contains (firsts ms) d ≡ true = ap (λ l. contains l d) all ∙ b in
           awaited (f d) (start_numbers s k log q d) refl here (own ∙ ap (λ (x : Bool). if x then turn_after_question (f d) (v n d) else v n d) b)
           (subst (λ p. awaits p (f d) ≡ true) (sym (first_reading ms d here)) refl)
-          (read_uses f (start_numbers s k log q) ds d (λ x. refl) (strict_asked s k q) b) here
+          (read_uses f (start_numbers s k log q) dms d (λ x. refl) (strict_asked s k q) b) here
       | false ↦ grind (arith, contains, firsts, apart, turn_after_question)
     ] refl
 
 start_turns : (s : Setting) (k : ℕ) (log : Log) (q : Queued) (v : Turns) → ((d : ℕ) → v (next_stamp s log) d ≡ Silent) → AllAtTurn None v
     → AllAtTurn (started (next_stamp s log) (sends_of_act (start_at s k log q)) (Some q)) (after_start s k log q k v)
 start_turns s k log q v e h ts d = (
-  λ p. subst (λ t. IsAtTurn d (begins q.text (sends_of_act (start_at s k log q))) (after_start s k log q k v t d)) p (start_stands s k log q d v (e d)),
+  λ p. subst (λ t. IsAtTurn d (begins q.text (sends_of_act (start_at s k log q))) (after_start s k log q k v t d)) p (start_keeps_turn s k log q d v (e d)),
   λ p. (grind (arith, next_stamp, is_exchanging, not_started_turn)),
 )
 
@@ -213,7 +213,7 @@ in_turn s c (Handed from m ∷ log) fair first timely = in_turn_hand s c log fro
 in_turn s c (Did act ∷ log) fair first timely = in_turn_act s c log act fair.1 fair.0 first.0 (in_turn s c log fair.1 first.1 timely.1)
 in_turn s c (x ∷ log) fair first timely = grind (arith, stamp_rises, in_turn s c log fair.1 first.1 timely.1)
 
--- what the site puts is turn_after_question in turn
+-- what the site puts is asked in turn
 
 abbrev pub IsInTurn : Turn → List Msg → Type 0
 IsInTurn v ms = (ms ≡ []) ⊎ ((m : Msg) × (ms ≡ m ∷ []) × MayAsk v m)

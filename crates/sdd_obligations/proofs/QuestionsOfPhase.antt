@@ -3,7 +3,7 @@ use Rattle.sdd_obligations.proofs.All.{Act, AllByRecursion, AsksPhase, Attempt, 
 use Rattle.sdd_obligations.proofs.QuestionsComeInTurn.{in_turn, send_is_question, and_true}
 use Rattle.sdd_obligations.proofs.AtTurn.{IsAtTurn, hand_not}
 use Rattle.sdd_obligations.proofs.FirstSends.{IsFirstEach, IsFirstSend}
-use Rattle.sdd_obligations.proofs.HandedAnswersKeepTurns.{AtTurn, InTurn, IsTimely, asked_one, told_one}
+use Rattle.sdd_obligations.proofs.HandedAnswersKeepTurns.{AtTurn, InTurn, IsTimely, asked_one, turn_after_one}
 use Rattle.sdd_obligations.proofs.Questions.{after_answer, hand_asks}
 use Rattle.sdd_invariants.specs.site_module.SiteLog.{Log}
 
@@ -32,13 +32,14 @@ hand_phase s c log n m (Some a) e turns timely h =
       | true ↦ λ r. tt
       | false ↦ λ r. elim (is_answer a.ts c m) as (λ b. is_answer a.ts c m ≡ b → AsksPhase a.ts c (after_hand a.ts c n.0 m a.exchange) w) [
         | true ↦ λ own.
-            let now : (d : ℕ) → w d ≡ after_answer n.0 m v d = λ d. told_one a.ts c (d == n.0) m (v d)
+            let now : (d : ℕ) → w d ≡ after_answer n.0 m v d = λ d. turn_after_one a.ts c (d == n.0) m (v d)
             ∙ ap (λ b. if (d == n.0) && b then turn_after_answer m (v d) else v d) own ∙ and_true (d ==
             n.0) (turn_after_answer m (v d)) (v d) in
             subst (AsksPhase a.ts c (after_hand a.ts c n.0 m a.exchange)) (λ i d. sym (now d) i)
             (hand_asks a.ts c n.0 m v a.exchange own (grind (arith, never)) (at_turn_of s c log a turns e) (timely a.ts n.0 refl own) h)
         | false ↦ λ own.
-            let now : (d : ℕ) → w d ≡ v d = λ d. told_one a.ts c (d == n.0) m (v d) ∙ ap (λ b. if (d == n.0) && b then turn_after_answer m (v d) else v d) own
+            let now : (d : ℕ) → w d ≡ v d = λ d. turn_after_one a.ts c (d == n.0) m (v d)
+            ∙ ap (λ b. if (d == n.0) && b then turn_after_answer m (v d) else v d) own
             ∙ ap (λ b. if b then turn_after_answer m (v d) else v d) (and_no (d == n.0)) in
             subst (AsksPhase a.ts c (after_hand a.ts c n.0 m a.exchange)) (λ i d. sym (now d) i)
             (subst (λ x. AsksPhase a.ts c x v) (sym (hand_not a.ts c n.0 a.exchange m own)) h)

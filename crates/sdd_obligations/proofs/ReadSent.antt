@@ -2,7 +2,7 @@
 -- handed.
 use Rattle.sdd_obligations.proofs.All.{Act, Asks, Bool, D, Did, Each, Handed, IsFair, List, MayAsk, Msg, Setting, Silent, Site, Some, Turn, [], and_left, and_right, ap, arith, asked_by, at_site, cond, dm_no, false, filter, filter-append, head_of, if_way, in_filtered, inl, inr, is_a_read, is_question, is_read, is_verdict, list_any, map, not_both, not_true, numbers_of, questions, refl, same_site, same_sym, sends_of_act, site_is, slice_get, subst, sym, to_site, true, turn_after_question, turn_at, uses_by, ℕ, ◌++◌, ◌||◌, ◌∙◌, ◌∷◌, ◌≡◌}
 use Rattle.sdd_obligations.proofs.QuestionsComeInTurn.{IsInTurn, asks_in_turn, in_turn}
-use Rattle.sdd_obligations.proofs.HandedAnswersKeepTurns.{IsTimely, told_one}
+use Rattle.sdd_obligations.proofs.HandedAnswersKeepTurns.{IsTimely, turn_after_one}
 use Rattle.sdd_obligations.proofs.FirstSends.{IsFirstEach}
 use Rattle.sdd_obligations.proofs.Opened.{sift_within}
 use Rattle.sdd_obligations.proofs.Replying.{read_question, uses_twice}
@@ -58,7 +58,8 @@ last_act ts c d act log (inr p) h =
 last_hand : (ts c d : ℕ) (from : Site) (m : Msg) (log : Log) → IsTimely c log (Handed from m)
     → IsLastRead d (turn_at ts c d log) (reads_sent ts c d log) (was_answered ts c d log)
     → IsLastRead d (turn_at ts c d (Handed from m ∷ log)) (reads_sent ts c d (Handed from m ∷ log)) (was_answered ts c d (Handed from m ∷ log))
-last_hand ts c d from m log timely h = grind (arith, IsLastRead, reads_sent, was_answered, told_one, if_way, site_is, and_left, and_right, not_true, not_both, site_sym)
+last_hand ts c d from m log timely h =
+    grind (arith, IsLastRead, reads_sent, was_answered, turn_after_one, if_way, site_is, and_left, and_right, not_true, not_both, site_sym)
 
 pub last_read : (s : Setting) (ts c d : ℕ) (log : Log) → Each (IsFair s) log → Each (IsFirstEach s) log → Each (IsTimely c) log
     → IsLastRead d (turn_at ts c d log) (reads_sent ts c d log) (was_answered ts c d log)

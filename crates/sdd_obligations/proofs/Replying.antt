@@ -1,6 +1,6 @@
 -- What a data module has still to answer is what the turns say: a hand, and the answer to a FETCH, REDUCE or SHIP.
-use Rattle.sdd_obligations.proofs.All.{Act, Arrive, Asks, Bool, Did, DmNo, Frozen, Handed, List, MayAsk, Msg, None, Open, Option, Pipe, Records, Sends, Site, Some, Told, Turn, TxnNo, [], and_no, and_right as and_right_of, ap, append-nil, arith, asks_rows, false, filter, filter-append, first_there, goes_through, hands, head_of, if_way, if◌then◌else◌, in_filtered, in_left, inl, inr, is_a_read, is_a_refusal, is_answer, is_asked_of, is_question, is_read, is_some, map, never, not, not_both, not_true, opens, opens_handed, passing, pipe, pipe_acted, processed_handed, put, reads_asked, refl, rows_asked, same_number, same_or_not, same_site, site_self, slice_get, subst, suc, sym, true, turn_after_answer, turn_after_question, turn_with, uses_by, uses_held, uses_in, zero, ℕ, ◌&&◌, ◌++◌, ◌==◌, ◌∙◌, ◌∷◌, ◌≡◌}
-use Rattle.sdd_obligations.proofs.HandedAnswersKeepTurns.{told_is, told_one, asked_one as asked_if}
+use Rattle.sdd_obligations.proofs.All.{Act, Arrive, Asks, Bool, Did, DmNo, Frozen, Handed, List, MayAsk, Msg, None, Open, Option, Pipe, Records, Replied, Sends, Site, Some, Turn, TxnNo, [], and_no, and_right as and_right_of, ap, append-nil, arith, asks_rows, false, filter, filter-append, first_there, goes_through, hands, head_of, if_way, if◌then◌else◌, in_filtered, in_left, inl, inr, is_a_read, is_a_refusal, is_answer, is_asked_of, is_question, is_read, is_some, map, never, not, not_both, not_true, opens, opens_handed, passing, pipe, pipe_acted, processed_handed, put, reads_asked, refl, rows_asked, same_number, same_or_not, same_site, site_self, slice_get, subst, suc, sym, true, turn_after_answer, turn_after_question, turn_with, uses_by, uses_held, uses_in, zero, ℕ, ◌&&◌, ◌++◌, ◌==◌, ◌∙◌, ◌∷◌, ◌≡◌}
+use Rattle.sdd_obligations.proofs.HandedAnswersKeepTurns.{turn_is_replied, turn_after_one, asked_one as asked_if}
 use Rattle.sdd_obligations.proofs.DataSteps.{reply}
 use Rattle.sdd_obligations.proofs.Opened.{are_apart, one_hand, sift_has, sift_swap, sift_within}
 use Rattle.sdd_invariants.specs.site_module.SiteLog.{Entry, Log}
@@ -144,7 +144,7 @@ reply_no_refusal f q m e = grind arith
 pub asks_no_a_read : (ts c : ℕ) (m : Msg) → asks_rows ts c m ≡ true → is_a_read m ≡ false
 asks_no_a_read ts c m e = grind arith
 
--- the question that stands, where rows are turn_after_question
+-- the open question, where rows are asked for
 pub record IsAskedRows (ts c : ℕ) (at : Site) (os : List Open) (v : Turn) (o : Open) : Type 0 where
   pub uses : List ℕ
   pub is : v ≡ Asks uses o.msg
@@ -173,12 +173,12 @@ asked_rows ts c at log v k o h e f =
     let j = sift_has (asks_open ts c) (opens log) i.1 o i.2 f in
     asked_rows_of ts c at (opens log) v j.0 o h.rows_are j.1
 
-pub told_turn : (ts c : ℕ) (at to : Site) (m : Msg) (hand : Option ℕ) (log : Log)
+pub turn_after_hand : (ts c : ℕ) (at to : Site) (m : Msg) (hand : Option ℕ) (log : Log)
     → turn_with ts c at (Did (Sends to m hand) ∷ log) ≡ (if same_site at to && is_answer ts c m then turn_after_answer m (turn_with ts c at log) else turn_with ts c at log)
-told_turn ts c at to m hand log = told_one ts c (same_site at to) m (turn_with ts c at log)
+turn_after_hand ts c at to m hand log = turn_after_one ts c (same_site at to) m (turn_with ts c at log)
 
-pub held_told : (v : Turn) (ns : List ℕ) (q : Msg) → v ≡ Asks ns q → is_a_read q ≡ false → uses_held v ≡ Some ns
-held_told v ns q e f = ap uses_held e ∙ ap (λ (b : Bool). if b then None else Some ns) f
+pub held_asked : (v : Turn) (ns : List ℕ) (q : Msg) → v ≡ Asks ns q → is_a_read q ≡ false → uses_held v ≡ Some ns
+held_asked v ns q e f = ap uses_held e ∙ ap (λ (b : Bool). if b then None else Some ns) f
 
 pub turn_replies : (ts c : ℕ) (at : Site) (log : Log) (f : Option Frozen) (k : ℕ) (o : Open) (m : Msg)
     → head_of (filter (is_asked_of k) (opens log)) ≡ Some o → reply f o.msg ≡ Some m → HasTurnAt ts c at log
@@ -186,15 +186,15 @@ pub turn_replies : (ts c : ℕ) (at : Site) (log : Log) (f : Option Frozen) (k :
 turn_replies ts c at log f k o m e r h =
     let v : Turn = turn_with ts c at log in
     let os : List Open = opens (Did (Sends o.from m (Some o.hand)) ∷ log) in
-    subst (λ w. HasTurn ts c at os (pipe c log) w) (sym (told_turn ts c at o.from m (Some o.hand) log
+    subst (λ w. HasTurn ts c at os (pipe c log) w) (sym (turn_after_hand ts c at o.from m (Some o.hand) log
     ∙ ap (λ (b : Bool). if same_site at o.from && b then turn_after_answer m v else v) (reply_answers ts c f o.msg m r)))
     (elim (asks_rows ts c o.msg) as (λ b. asks_rows ts c o.msg ≡ b → HasTurn ts c at os (pipe c log) (if same_site at o.from && b then turn_after_answer m v else v)) [
       | true ↦ λ q.
           (let w = asked_rows ts c at log v k o h e q in
           let here : same_site at o.from ≡ true = subst (λ s. same_site at s ≡ true) (sym w.from_is) (site_self at) in
-          let now : turn_after_answer m v ≡ Told w.uses o.msg = told_is v w.uses o.msg m w.is (reply_no_refusal f o.msg m r) in
+          let now : turn_after_answer m v ≡ Replied w.uses o.msg = turn_is_replied v w.uses o.msg m w.is (reply_no_refusal f o.msg m r) in
           subst (λ (b : Bool). HasTurn ts c at os (pipe c log) (if b && true then turn_after_answer m v else v)) (sym here)
-          (grind (arith, HasTurn, pipe, asker, sift_swap, asks_open, opens, same_number, reads_asked, held_told, asks_no_a_read)))
+          (grind (arith, HasTurn, pipe, asker, sift_swap, asks_open, opens, same_number, reads_asked, held_asked, asks_no_a_read)))
       | false ↦ λ q.
           (let i = in_filtered (is_asked_of k) (opens log) 0 o (first_there (filter (is_asked_of k) (opens log)) o e) in
           let apart = are_apart log in

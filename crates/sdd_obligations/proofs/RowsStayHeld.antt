@@ -1,9 +1,9 @@
 -- What a data module answers comes in turn, and while an attempt exchanges rows they are held for it.
-use Rattle.sdd_obligations.proofs.All.{Act, Answer, Arrive, Asks, Bool, ClassNo, Cond, CopyRows, Did, Frozen, Handed, IsClassHere, List, MayAnswer, MayAsk, Msg, None, Open, Option, Pass, Read, Ready, Rec, Records, Reject, Rejected, Replies, Rows, Sends, Setting, Ship, Site, Some, Ts, Turn, TxnNo, Use, Value, Wait, [], all_held, and_left, and_no, and_right, answers, ap, arith, ask_for, asks_rows, both, column, contains, copies, dated, dated_in, done_for, eqb-true, false, filter, first_there, flat_map, frozen, frozen_at, frozen_handed, given_up, head, head_of, home_of, if_way, if◌then◌else◌, in_filtered, inl, inr, is_a_read, is_a_ship, is_among, is_answer, is_answer_record, is_asked_of, is_exchanging, is_question, is_read, length, list_any, map, never, not, opens, or_left, or_right, pipe, refl, rows_for, rows_held, same_number, same_or_not, same_site, sends_of_act, site_self, source_of, subst, sym, to_site, told_by, true, turn_after_answer, turn_with, uses_by, uses_held, view_of, ℕ, ◌&&◌, ◌++◌, ◌==◌, ◌||◌, ◌∙◌, ◌∷◌, ◌≡◌, ◌⊎◌}
-use Rattle.sdd_obligations.proofs.HandedAnswersKeepTurns.{told_is, told_one}
-use Rattle.sdd_obligations.proofs.DataSteps.{IsDataStep, counts_told, data_step_way, reply}
+use Rattle.sdd_obligations.proofs.All.{Act, Answer, Arrive, Asks, Bool, ClassNo, Cond, CopyRows, Did, Frozen, Handed, IsClassHere, List, MayAnswer, MayAsk, Msg, None, Open, Option, Pass, Read, Ready, Rec, Records, Reject, Rejected, Replies, Rows, Sends, Setting, Ship, Site, Some, Ts, Turn, TxnNo, Use, Value, Wait, [], all_held, and_left, and_no, and_right, answers, ap, arith, ask_for, asks_rows, both, column, contains, copies, dated, dated_in, done_for, eqb-true, false, filter, first_there, flat_map, frozen, frozen_at, frozen_handed, given_up, head, head_of, home_of, if_way, if◌then◌else◌, in_filtered, inl, inr, is_a_read, is_a_ship, is_among, is_answer, is_answer_record, is_asked_of, is_exchanging, is_question, is_read, length, list_any, map, never, not, opens, or_left, or_right, pipe, refl, rows_for, rows_held, same_number, same_or_not, same_site, sends_of_act, site_self, source_of, subst, sym, to_site, true, turn_after_answer, turn_after_answers, turn_with, uses_by, uses_held, view_of, ℕ, ◌&&◌, ◌++◌, ◌==◌, ◌||◌, ◌∙◌, ◌∷◌, ◌≡◌, ◌⊎◌}
+use Rattle.sdd_obligations.proofs.HandedAnswersKeepTurns.{turn_after_one, turn_is_replied}
+use Rattle.sdd_obligations.proofs.DataSteps.{IsDataStep, data_step_way, ready_counts, reply}
 use Rattle.sdd_obligations.proofs.AnswersComeInTurn.{IsHomeOf, asks_no_answer, done_no_answer, head_through, read_next}
-use Rattle.sdd_obligations.proofs.Replying.{HasTurnAt, IsOwn, asked_rows, asked_turn, asks_no_a_read, reply_answers, told_turn, held_told as held_now}
+use Rattle.sdd_obligations.proofs.Replying.{HasTurnAt, IsOwn, asked_rows, asked_turn, asks_no_a_read, reply_answers, turn_after_hand, held_asked as held_now}
 use Rattle.sdd_invariants.specs.site_module.SiteLog.{Log}
 
 -- rows are held for the attempt, of these uses
@@ -12,15 +12,15 @@ AreHeldFor ts ns None = ⊥
 AreHeldFor ts ns (Some f) = (f.ts ≡ ts) × (map (λ e. e.0) f.uses ≡ ns)
 
 -- messages are none, or one that may come next
-abbrev pub IsToldInTurn : Turn → List Msg → Type 0
-IsToldInTurn v ms = (ms ≡ []) ⊎ ((x : Msg) × (ms ≡ x ∷ []) × MayAnswer v x)
+abbrev pub IsReplyInTurn : Turn → List Msg → Type 0
+IsReplyInTurn v ms = (ms ≡ []) ⊎ ((x : Msg) × (ms ≡ x ∷ []) × MayAnswer v x)
 
 answers_one : (ts c : ℕ) (b : Bool) (m : Msg) → answers ts c (if b then m ∷ [] else []) ≡ (if b && is_answer ts c m then m ∷ [] else [])
 answers_one ts c b m = grind arith
 
-one_told : (v : Turn) (ms : List Msg) (b x : Bool) (m : Msg) → ms ≡ (if b && x then m ∷ [] else [])
-    → (x ≡ true → MayAnswer v m) → IsToldInTurn v ms
-one_told v ms b x m e f = grind arith
+one_reply : (v : Turn) (ms : List Msg) (b x : Bool) (m : Msg) → ms ≡ (if b && x then m ∷ [] else [])
+    → (x ≡ true → MayAnswer v m) → IsReplyInTurn v ms
+one_reply v ms b x m e f = grind arith
 
 -- rows of the uses that are held
 
@@ -45,7 +45,7 @@ all_named_in ns (u ∷ us) f =
     (row_named ns u.0 u.1 (f u.0 (or_left (u.0 == u.0) (contains (map (λ e. e.0) us) u.0) (same_number u.0))))
     (all_named_in ns us (λ n e. f n (or_right (u.0 == n) (contains (map (λ e. e.0) us) n) e)))
 
--- the counts that are turn_after_answer are of the READ's uses, in order
+-- the counts that are answered are of the READ's uses, in order
 counts_named : (c : CopyRows) (uses : List Use)
     → map (λ (n : ℕ × ℕ). n.0) (map (λ (e : ℕ × List (List Value)). (e.0, length e.1))
     (map (λ (u : Use). (u.number, rows_for c u)) uses)) ≡ map (λ (u : Use). u.number) uses
@@ -65,11 +65,11 @@ may_reply ts ns f q m e h = grind (arith, all_named_in)
 pub tells_in_turn : (s : Setting) (ts c : ℕ) (at : Site) (log : Log) (act : Act) → IsHomeOf s c at → IsDataStep s log act → HasTurnAt ts c at log
     → ((ns : List ℕ) → is_exchanging (turn_with ts c at log) ≡ true → uses_held
     (turn_with ts c at log) ≡ Some ns → AreHeldFor ts ns (frozen s c log))
-    → IsToldInTurn (turn_with ts c at log) (answers ts c (to_site at (sends_of_act act)))
+    → IsReplyInTurn (turn_with ts c at log) (answers ts c (to_site at (sends_of_act act)))
 tells_in_turn s ts c at log act home i h held = data_step_way s log act
-    (λ x. IsToldInTurn (turn_with ts c at log) (answers ts c (to_site at (sends_of_act x))))
+    (λ x. IsReplyInTurn (turn_with ts c at log) (answers ts c (to_site at (sends_of_act x))))
     (λ k txn attempt. inl refl)
-    (λ k o m e r. one_told (turn_with ts c at log) _ (same_site at o.from) (is_answer ts c m) m (answers_one ts c (same_site at o.from) m)
+    (λ k o m e r. one_reply (turn_with ts c at log) _ (same_site at o.from) (is_answer ts c m) m (answers_one ts c (same_site at o.from) m)
     (λ x.
     let q : asks_rows ts c o.msg ≡ true = sym (reply_answers ts c (frozen s k log) o.msg m r) ∙ x in
     let w = asked_rows ts c at log (turn_with ts c at log) k o h e q in
@@ -78,14 +78,14 @@ tells_in_turn s ts c at log act home i h held = data_step_way s log act
     let no_read : is_a_read o.msg ≡ false = asks_no_a_read ts c o.msg q in
     subst (λ v. MayAnswer v m) (sym w.is) (may_reply ts w.uses (frozen s k log) o.msg m r
     (grind (arith, AreHeldFor, frozen, is_exchanging, turn_with, held_now)))))
-    (λ k t j txn attempt conds uses l e. one_told (turn_with ts c at log) _
-    (same_site at (source_of (home_of s) k)) (is_answer ts c (Ready t j (counts_told s log t.0 uses))) (Ready t j (counts_told s log t.0 uses))
-    (answers_one ts c (same_site at (source_of (home_of s) k)) (Ready t j (counts_told s log t.0 uses)))
+    (λ k t j txn attempt conds uses l e. one_reply (turn_with ts c at log) _
+    (same_site at (source_of (home_of s) k)) (is_answer ts c (Ready t j (ready_counts s log t.0 uses))) (Ready t j (ready_counts s log t.0 uses))
+    (answers_one ts c (same_site at (source_of (home_of s) k)) (Ready t j (ready_counts s log t.0 uses)))
     (λ x.
     let w = read_next ts c at log k (turn_with ts c at log) (Read t j txn attempt conds uses) h e (head_through k log _ e) x in
-    subst (λ v. MayAnswer v (Ready t j (counts_told s log t.0 uses))) (sym w.is)
+    subst (λ v. MayAnswer v (Ready t j (ready_counts s log t.0 uses))) (sym w.is)
     (counts_named (copies (dated_in (view_of s log))) uses ∙ ((subst (IsOwn ts c) w.is h.own).1))))
-    (λ k t j txn attempt conds uses by write l e. one_told (turn_with ts c at log) _
+    (λ k t j txn attempt conds uses by write l e. one_reply (turn_with ts c at log) _
     (same_site at (source_of (home_of s) k)) (is_answer ts c (Reject t j by write)) (Reject t j by write)
     (answers_one ts c (same_site at (source_of (home_of s) k)) (Reject t j by write))
     (λ x.
@@ -158,7 +158,7 @@ held_replies : (s : Setting) (ts c : ℕ) (at : Site) (log : Log) (k : ℕ) (o :
 held_replies s ts c at log k o m alone e r h ns z =
     let v : Turn = turn_with ts c at log in
     let now : uses_held (if same_site at o.from && is_answer ts c m then turn_after_answer m v else v) ≡ Some ns =
-    ap uses_held (sym (told_turn ts c at o.from m (Some o.hand) log)) ∙ z in
+    ap uses_held (sym (turn_after_hand ts c at o.from m (Some o.hand) log)) ∙ z in
     let before : uses_held v ≡ Some ns =
     elim (same_site at o.from && is_answer ts c m) as (λ b. (same_site at o.from && is_answer ts c m) ≡ b
     → uses_held (if b then turn_after_answer m v else v) ≡ Some ns → uses_held v ≡ Some ns) [
@@ -177,10 +177,10 @@ held_replies s ts c at log k o m alone e r h ns z =
           let q : asks_rows ts c o.msg ≡ true = subst (λ t. asks_rows t c o.msg ≡ true) same y.1 in
           let u = asked_rows ts c at log v k o (alone.has ts) e q in
           let here : same_site at o.from ≡ true = subst (λ x. same_site at x ≡ true) (sym u.from_is) (site_self at) in
-          let told_now : uses_held (turn_after_answer m v) ≡ Some ns =
+          let held_then : uses_held (turn_after_answer m v) ≡ Some ns =
           subst (λ (b : Bool). uses_held (if b then turn_after_answer m v else v) ≡ Some ns)
           (both (same_site at o.from) (is_answer ts c m) here (reply_answers ts c (frozen s k log) o.msg m r ∙ q)) now in
-          absurd (grind (arith, told_is)))
+          absurd (grind (arith, turn_is_replied)))
       | false ↦ grind (arith, AreHeldFor, given_is, frozen)
     ] refl
 
@@ -195,21 +195,21 @@ held_answers : (s : Setting) (ts c : ℕ) (at : Site) (log : Log) (k : ℕ) (t :
     (Read t j txn attempt conds uses) → IsHeldAt s ts c at log
     → IsHeldAt s ts c at (Did
     (Records k (Answer txn attempt (home_of s).dm)
-    ((source_of (home_of s) k, Ready t j (counts_told s log t.0 uses)) ∷ [])) ∷ log)
+    ((source_of (home_of s) k, Ready t j (ready_counts s log t.0 uses)) ∷ [])) ∷ log)
 held_answers s ts c at log k t j txn attempt conds uses home alone l e h ns z =
     let v : Turn = turn_with ts c at log in
     let m : Msg = Read t j txn attempt conds uses in
-    let x : Msg = Ready t j (counts_told s log t.0 uses) in
+    let x : Msg = Ready t j (ready_counts s log t.0 uses) in
     let src : Site = source_of (home_of s) k in
     let act : Act = Records k (Answer txn attempt (home_of s).dm) ((src, x) ∷ []) in
     let now : uses_held (if same_site at src && is_read ts c m then turn_after_answer x v else v) ≡ Some ns =
-    ap uses_held (sym (told_one ts c (same_site at src) x v)) ∙ z in
+    ap uses_held (sym (turn_after_one ts c (same_site at src) x v)) ∙ z in
     elim (is_read ts c m) as (λ b. is_read ts c m ≡ b → AreHeldFor ts ns (frozen s c (Did act ∷ log))) [
       | true ↦ λ q.
           (let w = read_next ts c at log k v m (alone.has ts) e (head_through k log m e) q in
           let there : src ≡ at = subst (λ n. source_of (home_of s) n ≡ at) (sym w.class_is) (home (subst (IsClassHere s) w.class_is l)) in
           let here : same_site at src ≡ true = subst (λ y. same_site at y ≡ true) (sym there) (site_self at) in
-          let told_now : uses_held (turn_after_answer x v) ≡ Some ns =
+          let held_then : uses_held (turn_after_answer x v) ≡ Some ns =
           subst (λ (b : Bool). uses_held (if b then turn_after_answer x v else v) ≡ Some ns) (both (same_site at src) (is_read ts c m) here q) now in
           let same : w.uses ≡ ns = (cc) in
           let own : uses_by m w.uses ≡ w.uses = ((subst (IsOwn ts c) w.is ((alone.has ts).own)).1) in
@@ -240,15 +240,15 @@ held_refuses s ts c at log k t j txn attempt conds uses by write home alone l e 
     let src : Site = source_of (home_of s) k in
     let act : Act = Records k (Rejected txn attempt (home_of s).dm by write) ((src, x) ∷ []) in
     let now : uses_held (if same_site at src && is_read ts c m then turn_after_answer x v else v) ≡ Some ns =
-    ap uses_held (sym (told_one ts c (same_site at src) x v)) ∙ z in
+    ap uses_held (sym (turn_after_one ts c (same_site at src) x v)) ∙ z in
     elim (is_read ts c m) as (λ b. is_read ts c m ≡ b → AreHeldFor ts ns (frozen s c (Did act ∷ log))) [
       | true ↦ λ q.
           (let w = read_next ts c at log k v m (alone.has ts) e (head_through k log m e) q in
           let there : src ≡ at = subst (λ n. source_of (home_of s) n ≡ at) (sym w.class_is) (home (subst (IsClassHere s) w.class_is l)) in
           let here : same_site at src ≡ true = subst (λ y. same_site at y ≡ true) (sym there) (site_self at) in
-          let told_now : uses_held (turn_after_answer x v) ≡ Some ns =
+          let held_then : uses_held (turn_after_answer x v) ≡ Some ns =
           subst (λ (b : Bool). uses_held (if b then turn_after_answer x v else v) ≡ Some ns) (both (same_site at src) (is_read ts c m) here q) now in
-          let none : ◌≡◌ {A = Option (List ℕ)} None (Some ns) = sym (ap (λ y. uses_held (turn_after_answer x y)) w.is) ∙ told_now in cc)
+          let none : ◌≡◌ {A = Option (List ℕ)} None (Some ns) = sym (ap (λ y. uses_held (turn_after_answer x y)) w.is) ∙ held_then in cc)
       | false ↦ grind (arith, uses_held, turn_after_answer, same_site, and_no, AreHeldFor, same_frozen, home_of)
     ] refl
 
@@ -260,7 +260,7 @@ held_act s ts c at log act home i alone h = data_step_way s log act (λ x. IsHel
     (λ k t j txn attempt conds uses l e. held_answers s ts c at log k t j txn attempt conds uses home alone l e h)
     (λ k t j txn attempt conds uses by write l e. held_refuses s ts c at log k t j txn attempt conds uses by write home alone l e h)
     (λ k txn attempt ds. held_still s ts c at log (Records k (Wait txn attempt (home_of s).dm ds) (map (ask_for (home_of s)) ds))
-    (ap (λ l. told_by l (turn_with ts c at log)) (asks_no_answer ts c at (ask_for (home_of s)) ds
+    (ap (λ l. turn_after_answers l (turn_with ts c at log)) (asks_no_answer ts c at (ask_for (home_of s)) ds
     (λ d. refl))) (same_frozen s c k log (Wait txn attempt (home_of s).dm ds) (map (ask_for (home_of s)) ds) refl) h)
-    (grind (arith, held_still, home_of, done_for, told_by, turn_with, done_no_answer, same_frozen))
+    (grind (arith, held_still, home_of, done_for, turn_after_answers, turn_with, done_no_answer, same_frozen))
     (λ k j time e. held_still s ts c at log (Records k (Pass j (home_of s).dm time) []) refl (same_frozen s c k log (Pass j (home_of s).dm time) [] refl) h) i

@@ -50,20 +50,21 @@ module _ (g : Input) (good : FitsInput g) (eras : HasEras g) (c : ℕ) where
       → a.exchange.phase ≡ Over → a.exchange.lacks ≡ [] → Serves cat a.text a.exchange.found
       (base_of g log a.ts)
   over_serves log a h e p l =
-      let ds : List ℕ = modules_asked s c a.text in
+      let dms : List ℕ = modules_asked s c a.text in
       let copies : ℕ → CopyRows = copies_read g log a.ts in
       let first : Space = frozen_space cat c a.text a.ts copies in
       let space : Space = space_at g c a.ts first log in
       let small = small_home cat good.sound c (within log a h e) in
       let r = subst (AllServed g good eras c (in_step g c small) log) e
       (served_all g good eras c (in_step g c small) log h) copies (copies_agree g good a.ts log h) in
-      let ok : HasCopies cat c a.text ds copies (base_of g log a.ts) = copies_are g good eras c log a h e (ap is_over p) in
-      let all : Serves cat a.text (all_held ds space) (base_of g log a.ts) =
-      exchange_serves cat good.sound c a.text (active_so (FitsText cat) s c (mine log) a (home_fair g c log h) (all_new g at log h) (submitted_fit g good at c log h) e).fits a.ts ds copies
+      let ok : HasCopies cat c a.text dms copies (base_of g log a.ts) = copies_are g good eras c log a h e (ap is_over p) in
+      let all : Serves cat a.text (all_held dms space) (base_of g log a.ts) =
+      exchange_serves cat good.sound c a.text
+      (active_so (FitsText cat) s c (mine log) a (home_fair g c log h) (all_new g at log h) (submitted_fit g good at c log h) e).fits a.ts dms copies
       (base_of g log a.ts) ok space (stage_of a.exchange) r.follows.runs in
-      serves_by_members cat a.text (base_of g log a.ts) (all_held ds space) a.exchange.found
-      (λ x k. let m = Has-flat_map_from (λ d. all_rows (space d)) ds x k in r.all (ap is_shipped p) m.0 m.1 (ap (λ z. contains z m.0) l) x m.2)
-      (λ x k. let m = r.of x k in Has-flat_map (λ d. all_rows (space d)) ds m.0 x m.1 m.2) all
+      serves_by_members cat a.text (base_of g log a.ts) (all_held dms space) a.exchange.found
+      (λ x k. let m = Has-flat_map_from (λ d. all_rows (space d)) dms x k in r.all (ap is_shipped p) m.0 m.1 (ap (λ z. contains z m.0) l) x m.2)
+      (λ x k. let m = r.of x k in Has-flat_map (λ d. all_rows (space d)) dms m.0 x m.1 m.2) all
 
   last_serves : (log : Log) (a : Attempt) (d : DmNo) (n : ℕ) (t : Ts) (k : ClassNo) (rows : List (ℕ × Row))
       → IsPermitted g (Hand (D d) at n (Rows t k rows) ∷ log) → active s c (mine log) ≡ Some a → t.0 ≡ a.ts → k.0 ≡ c → without a.exchange.lacks d.0 ≡ []

@@ -6,20 +6,20 @@ use Rattle.sdd_serving.specs.Freezing.{uses_at}
 
 -- of messages that go one to each module, one that goes to a module is its
 
-one_each : (f : ℕ → Msg) (x d : ℕ) (ds : List ℕ) (ms : List Msg) (k : ℕ) (m : Msg) → x ≡ d
-    → ((j : ℕ) → slice_get ms j ≡ Some m → (contains ds x ≡ true) × (m ≡ f x)) → slice_get (f d ∷ ms) k ≡ Some m → (contains (d ∷ ds) x ≡ true) × (m ≡ f x)
-one_each f x d ds ms k m q g e = grind (arith, or_left, same_number, or_right)
+one_each : (f : ℕ → Msg) (x d : ℕ) (dms : List ℕ) (ms : List Msg) (k : ℕ) (m : Msg) → x ≡ d
+    → ((j : ℕ) → slice_get ms j ≡ Some m → (contains dms x ≡ true) × (m ≡ f x)) → slice_get (f d ∷ ms) k ≡ Some m → (contains (d ∷ dms) x ≡ true) × (m ≡ f x)
+one_each f x d dms ms k m q g e = grind (arith, or_left, same_number, or_right)
 
-pub in_each : (f : ℕ → Msg) (x : ℕ) (ds : List ℕ) (k : ℕ) (m : Msg) → slice_get (to_site (D (dm_no x)) (map (λ d. (D (dm_no d), f d)) ds)) k ≡ Some m
-    → (contains ds x ≡ true) × (m ≡ f x)
+pub in_each : (f : ℕ → Msg) (x : ℕ) (dms : List ℕ) (k : ℕ) (m : Msg) → slice_get (to_site (D (dm_no x)) (map (λ d. (D (dm_no d), f d)) dms)) k ≡ Some m
+    → (contains dms x ≡ true) × (m ≡ f x)
 in_each f x [] k m e = cc
-in_each f x (d ∷ ds) k m e =
+in_each f x (d ∷ dms) k m e =
     elim (x == d) as (λ b. (x == d) ≡ b
-    → slice_get (if b then f d ∷ to_site (D (dm_no x)) (map (λ d. (D (dm_no d), f d)) ds) else to_site
-    (D (dm_no x)) (map (λ d. (D (dm_no d), f d)) ds)) k ≡ Some m → (contains (d ∷ ds) x ≡ true)
+    → slice_get (if b then f d ∷ to_site (D (dm_no x)) (map (λ d. (D (dm_no d), f d)) dms) else to_site
+    (D (dm_no x)) (map (λ d. (D (dm_no d), f d)) dms)) k ≡ Some m → (contains (d ∷ dms) x ≡ true)
     × (m ≡ f x)) [
-      | true ↦ λ p q. one_each f x d ds (to_site (D (dm_no x)) (map (λ d. (D (dm_no d), f d)) ds)) k m (eqb-true x d p) (λ j r. in_each f x ds j m r) q
-      | false ↦ λ p q. let r = in_each f x ds k m q in (or_right (d == x) (contains ds x) r.0, r.1)
+      | true ↦ λ p q. one_each f x d dms (to_site (D (dm_no x)) (map (λ d. (D (dm_no d), f d)) dms)) k m (eqb-true x d p) (λ j r. in_each f x dms j m r) q
+      | false ↦ λ p q. let r = in_each f x dms k m q in (or_right (d == x) (contains dms x) r.0, r.1)
     ] refl e
 
 abbrev pub uses_in_read : Msg → List Use

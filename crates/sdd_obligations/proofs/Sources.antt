@@ -100,9 +100,9 @@ step_no_answer : (s : Setting) (b : Site) (log : site.Log) (act : Act) (place : 
     → slice_get (to_site b (sends_of_act act)) place ≡ Some m → is_answer ts c m ≡ false
 step_no_answer s b log act place m ts c i = grind (arith, step_way, slice_get, start_puts, in_none, in_one, commit_puts, the_one)
 
-told_no_answer : (s : Setting) (b : Site) (log : site.Log) (place : ℕ) (m : Msg) (ts c : ℕ) → Each (IsFair s) log
+hands_no_answer : (s : Setting) (b : Site) (log : site.Log) (place : ℕ) (m : Msg) (ts c : ℕ) → Each (IsFair s) log
     → slice_get (puts_to b log) place ≡ Some m → is_answer ts c m ≡ false
-told_no_answer s b log place m ts c h e =
+hands_no_answer s b log place m ts c h e =
     let p = was_put b log place m e in
     step_no_answer s b p.before p.act p.place m ts c (each_at (IsFair s) p.later (Did p.act) p.before (subst (Each (IsFair s)) p.is h)).0 p.there
 
@@ -140,8 +140,8 @@ data_answer g d log b later act before m ts c h e p f = cc
 -- an answer comes from a data module, and goes to the site that runs its class
 pub answer_source : (g : Input) (a b : Site) (log : Log) (place : ℕ) (m : Msg) (ts c : ℕ) → IsPermitted g log
     → slice_get (puts_to b (local_of g a log)) place ≡ Some m → is_answer ts c m ≡ true → (d : DmNo) × (a ≡ D d) × (home g.catalogue c ≡ b)
-answer_source g U b log place m ts c h e f = never (is_answer ts c m) f (told_no_answer (setting_of g U) b (local_of g U log) place m ts c (u_fair g log h) e)
-answer_source g (T t) b log place m ts c h e f = grind (arith, never, told_no_answer, t_fair)
+answer_source g U b log place m ts c h e f = never (is_answer ts c m) f (hands_no_answer (setting_of g U) b (local_of g U log) place m ts c (u_fair g log h) e)
+answer_source g (T t) b log place m ts c h e f = grind (arith, never, hands_no_answer, t_fair)
 answer_source g (D d) b log place m ts c h e f =
     let p = was_put b (local_of g (D d) log) place m e in
     let q = each_at (IsDueEach (setting_of g (D d))) p.later (Did p.act) p.before (subst (Each (IsDueEach (setting_of g (D d)))) p.is (d_fair g d log h)) in

@@ -1,5 +1,5 @@
 -- Each entry keeps an exchange in lockstep.
-use Rattle.sdd_obligations.proofs.All.{IsStage, List, MayAnswer, MayAsk, Msg, Turn, [], agreed, answer_goes, ap, append-nil, arith, asked_by, question_goes, subst, sym, told_by, turn_after_answer, turn_after_question, ◌++◌, ◌∙◌, ◌∷◌, ◌≡◌}
+use Rattle.sdd_obligations.proofs.All.{IsStage, List, MayAnswer, MayAsk, Msg, Turn, [], agreed, answer_goes, ap, append-nil, arith, asked_by, question_goes, subst, sym, turn_after_answer, turn_after_answers, turn_after_question, ◌++◌, ◌∙◌, ◌∷◌, ◌≡◌}
 
 -- what one entry adds: questions that are put, questions that are handed over, answers that are put, answers that are
 -- handed over
@@ -43,7 +43,7 @@ put_answer v w qs xs qs2 xs2 y h e f (answer_goes z q x s a) = (grind (arith))
 
 -- each entry keeps the stage
 pub moved : (v w : Turn) (pq hq pa ha qs xs qs2 xs2 : List Msg) → IsMove v w pq hq pa ha → hq ++ qs2 ≡ qs ++ pq → ha ++ xs2 ≡ xs ++ pa
-    → IsStage v w qs xs → IsStage (told_by ha (asked_by pq v)) (told_by pa (asked_by hq w)) qs2 xs2
+    → IsStage v w qs xs → IsStage (turn_after_answers ha (asked_by pq v)) (turn_after_answers pa (asked_by hq w)) qs2 xs2
 moved v w pq hq pa ha qs xs qs2 xs2 still e f h = same_stage v w qs xs qs2 xs2 (e ∙ append-nil _) (f ∙ append-nil _) h
 moved v w pq hq pa ha qs xs qs2 xs2 (question_put m a) e f h = put_question v w qs xs qs2 xs2 m a e (f ∙ append-nil _) h
 moved v w pq hq pa ha qs xs qs2 xs2 (question_got m) e f h = get_question v w qs xs qs2 xs2 m (e ∙ append-nil _) (f ∙ append-nil _) h

@@ -43,18 +43,18 @@ abbrev pub is_a_refusal : Msg → Bool
 is_a_refusal (Reject t k by write) = true
 is_a_refusal _ = false
 
--- Whose turn it is. Nothing was turn_after_question; the site turn_after_question, and has no answer; the last question is answered; or the READ is
--- rejected. With a question stand the numbers of the READ's uses.
+-- Whose turn it is. Nothing was asked; the site asked, and has no answer; the last question is answered; or the READ is
+-- rejected. With a question come the numbers of the READ's uses.
 pub data Turn : Type 0 where
   Silent : Turn
   Asks : List ℕ → Msg → Turn
-  Told : List ℕ → Msg → Turn
+  Replied : List ℕ → Msg → Turn
   Refused : Turn
 
 abbrev pub uses_in : Turn → List ℕ
 uses_in Silent = []
 uses_in (Asks ns m) = ns
-uses_in (Told ns m) = ns
+uses_in (Replied ns m) = ns
 uses_in Refused = []
 
 abbrev pub uses_by : Msg → List ℕ → List ℕ
@@ -67,7 +67,7 @@ abbrev pub turn_after_question : Msg → Turn → Turn
 turn_after_question m v = Asks (uses_by m (uses_in v)) m
 
 abbrev pub turn_after_answer : Msg → Turn → Turn
-turn_after_answer x (Asks ns m) = if is_a_refusal x then Refused else Told ns m
+turn_after_answer x (Asks ns m) = if is_a_refusal x then Refused else Replied ns m
 turn_after_answer x v = v
 
 -- The question that may come next: first a READ, then FETCHes and REDUCEs of its uses, at last a SHIP.
@@ -81,11 +81,11 @@ IsOfUses ns _ = ⊥
 abbrev pub MayAsk : Turn → Msg → Type 0
 MayAsk Silent m = is_a_read m ≡ true
 MayAsk (Asks ns q) m = ⊥
-MayAsk (Told ns q) m = (is_a_ship q ≡ false) × IsOfUses ns m
+MayAsk (Replied ns q) m = (is_a_ship q ≡ false) × IsOfUses ns m
 MayAsk Refused m = ⊥
 
 -- The answer that may come next. READY answers a READ with one count for each of its uses, in order; VALUES and REDUCED are
--- of the use that was turn_after_question for; ROWS are of uses of the READ alone.
+-- of the use that was asked for; ROWS are of uses of the READ alone.
 
 abbrev pub RepliesToRead : List ℕ → Msg → Type 0
 RepliesToRead ns (Ready t k counts) = map (λ n. n.0) counts ≡ ns
@@ -114,7 +114,7 @@ Replies ns _ x = ⊥
 abbrev pub MayAnswer : Turn → Msg → Type 0
 MayAnswer Silent x = ⊥
 MayAnswer (Asks ns m) x = Replies ns m x
-MayAnswer (Told ns m) x = ⊥
+MayAnswer (Replied ns m) x = ⊥
 MayAnswer Refused x = ⊥
 
 -- the turn once these messages are put
@@ -123,34 +123,34 @@ abbrev pub asked_by : List Msg → Turn → Turn
 asked_by [] v = v
 asked_by (m ∷ ms) v = asked_by ms (turn_after_question m v)
 
-abbrev pub told_by : List Msg → Turn → Turn
-told_by [] v = v
-told_by (x ∷ xs) v = told_by xs (turn_after_answer x v)
+abbrev pub turn_after_answers : List Msg → Turn → Turn
+turn_after_answers [] v = v
+turn_after_answers (x ∷ xs) v = turn_after_answers xs (turn_after_answer x v)
 
 -- By the log of the site that asks: what it puts on its link to data module d, and what is handed to it from there.
 abbrev pub turn_at : ℕ → ℕ → ℕ → Log → Turn
 turn_at ts c d [] = Silent
 turn_at ts c d (e ∷ log) =
-    told_by (answers ts c (handed_by (D (dm_no d)) (Some e))) (asked_by (questions ts c (put_by (D (dm_no d)) (Some e))) (turn_at ts c d log))
+    turn_after_answers (answers ts c (handed_by (D (dm_no d)) (Some e))) (asked_by (questions ts c (put_by (D (dm_no d)) (Some e))) (turn_at ts c d log))
 
 -- By the log of the data module: what is handed to it from site at, and what it puts on its link to there.
 abbrev pub turn_with : ℕ → ℕ → Site → Log → Turn
 turn_with ts c at [] = Silent
 turn_with ts c at (e ∷ log) =
-    told_by (answers ts c (put_by at (Some e))) (asked_by (questions ts c (handed_by at (Some e))) (turn_with ts c at log))
+    turn_after_answers (answers ts c (put_by at (Some e))) (asked_by (questions ts c (handed_by at (Some e))) (turn_with ts c at log))
 
 -- a FETCH, REDUCE or SHIP is put that has no answer
 abbrev pub is_exchanging : Turn → Bool
 is_exchanging Silent = false
 is_exchanging (Asks ns m) = not (is_a_read m)
-is_exchanging (Told ns m) = false
+is_exchanging (Replied ns m) = false
 is_exchanging Refused = false
 
 -- while rows are held for the attempt: the numbers of their uses
 abbrev pub uses_held : Turn → Option (List ℕ)
 uses_held Silent = None
 uses_held (Asks ns m) = if is_a_read m then None else Some ns
-uses_held (Told ns m) = if is_a_ship m then None else Some ns
+uses_held (Replied ns m) = if is_a_ship m then None else Some ns
 uses_held Refused = None
 
 -- the question that a data module has still to answer: of rows, or a READ
@@ -158,11 +158,11 @@ uses_held Refused = None
 abbrev pub rows_asked : ℕ → ℕ → Turn → List Msg
 rows_asked ts c Silent = []
 rows_asked ts c (Asks ns m) = if asks_rows ts c m then m ∷ [] else []
-rows_asked ts c (Told ns m) = []
+rows_asked ts c (Replied ns m) = []
 rows_asked ts c Refused = []
 
 abbrev pub reads_asked : ℕ → ℕ → Turn → List Msg
 reads_asked ts c Silent = []
 reads_asked ts c (Asks ns m) = if is_read ts c m then m ∷ [] else []
-reads_asked ts c (Told ns m) = []
+reads_asked ts c (Replied ns m) = []
 reads_asked ts c Refused = []

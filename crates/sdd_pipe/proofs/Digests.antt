@@ -2,19 +2,19 @@
 use Rattle.sdd_pipe.proofs.All.{Bool, Change, Digest, FragNo, IsDigest, List, Msg, None, Option, Pipe, Some, Write, Writes, [], ap, append-nil, arith, changes_of, cond, empty_digest, empty_pipe, false, filter_map, fold, fold-append, greatest, has_passed, head_processed, is_by, last_in, last_write, list_any, list_any-append, map, map-append, nat_le, nat_tests, passed, put, put_digest, raised, refl, subst, sym, take_digest, time_of, touches, true, with_write, write_in, write_time, ℕ, ◌&&◌, ◌++◌, ◌==◌, ◌||◌, ◌∙◌, ◌∷◌, ◌≡◌}
 use Rattle.sdd_pipe.proofs.Entries.{by_raised, write_with_room, room_stays, writes_stay, have_room_stays, have_room_append, room_made, write_raised, or_swap}
 
--- an option is told by the numbers that it reaches
+-- an option is determined by the numbers that it reaches
 
-told_by : (a b : ℕ) → nat_le a a ≡ nat_le a b → nat_le b a ≡ nat_le b b → a ≡ b
-told_by a b e f = grind (arith, nat_tests)
+same_time : (a b : ℕ) → nat_le a a ≡ nat_le a b → nat_le b a ≡ nat_le b b → a ≡ b
+same_time a b e f = grind (arith, nat_tests)
 
 reaches_own : (a : ℕ) → nat_le a a ≡ true
 reaches_own a = grind (arith, nat_tests)
 
-told : (o p : Option ℕ) → ((t : ℕ) → is_by t o ≡ is_by t p) → o ≡ p
-told None None h = refl
-told None (Some b) h = let e : false ≡ true = h b ∙ reaches_own b in absurd cc
-told (Some a) None h = let e : true ≡ false = sym (reaches_own a) ∙ h a in absurd cc
-told (Some a) (Some b) h = ap Some (told_by a b (h a) (h b))
+same_reach : (o p : Option ℕ) → ((t : ℕ) → is_by t o ≡ is_by t p) → o ≡ p
+same_reach None None h = refl
+same_reach None (Some b) h = let e : false ≡ true = h b ∙ reaches_own b in absurd cc
+same_reach (Some a) None h = let e : true ≡ false = sym (reaches_own a) ∙ h a in absurd cc
+same_reach (Some a) (Some b) h = ap Some (same_time a b (h a) (h b))
 
 pub or_assoc : (a b c : Bool) → ((a || b) || c) ≡ (a || (b || c))
 or_assoc a b c = grind (arith, nat_tests)
@@ -98,7 +98,7 @@ last_reached : (t : ℕ) (frags : List FragNo) (p : Pipe) → is_by t (last_writ
 last_reached t frags p = reached (write_time frags) t p.processed None
 
 pub last_write_is : (d : Digest) (p : Pipe) → IsDigest d p → (frags : List FragNo) → last_in frags d ≡ last_write frags p
-last_write_is d p i frags = told (last_in frags d) (last_write frags p) (λ t.
+last_write_is d p i frags = same_reach (last_in frags d) (last_write frags p) (λ t.
     reached (write_in d.writes) t frags None
     ∙ any_same (λ f. is_by t (write_in d.writes f)) (λ f. list_any (λ m. is_by t (write_time (f ∷ []) m)) p.processed) frags
     (λ f. ap (is_by t) (i.writes f) ∙ last_reached t (f ∷ []) p)
@@ -119,7 +119,8 @@ one_write t f m = grind (arith, nat_tests)
 
 write_taken : (m : Msg) (d : Digest) (p : Pipe) (rest : List Msg) → IsDigest d p → p.unprocessed ≡ m ∷ rest → (f : FragNo)
     → write_in (fold (with_write (time_of m)) d.writes (changes_of m)) f ≡ greatest (filter_map (write_time (f ∷ [])) (p.processed ++ m ∷ []))
-write_taken m d p rest i e f = grind (arith, told, filter_map, write_raised, one_write, last_reached, or_swap, list_any, or_false, list_any-append, reached)
+write_taken m d p rest i e f =
+    grind (arith, same_reach, filter_map, write_raised, one_write, last_reached, or_swap, list_any, or_false, list_any-append, reached)
 
 latest_taken : (m : Msg) (ms : List Msg) → raised (greatest (map time_of ms)) (time_of m) ≡ greatest (map time_of (ms ++ m ∷ []))
 latest_taken m ms = rw (map-append time_of ms (m ∷ []), fold-append raised None (map time_of ms) (time_of m ∷ [])) refl

@@ -31,8 +31,8 @@ keyed_each : (columns : List ℕ) (rel part : ℕ) (conds : List Condition) (key
 keyed_each columns rel part conds keys [] are keyed held = tt
 keyed_each columns rel part conds keys (e ∷ db) are keyed held = (
   λ is may.
-      let stands : column e.1 (slice_index columns (rel - 1)) ≡ Int e.0.1 = subst (λ r. column e.1 (slice_index columns (r - 1)) ≡ Int e.0.1) is keyed.0 in
-      within_common e.0.1 keys all_keys (are e.1 e.0.1 stands (held_within e.0.1 held.0) may) (held_within e.0.1 held.0),
+      let key_is : column e.1 (slice_index columns (rel - 1)) ≡ Int e.0.1 = subst (λ r. column e.1 (slice_index columns (r - 1)) ≡ Int e.0.1) is keyed.0 in
+      within_common e.0.1 keys all_keys (are e.1 e.0.1 key_is (held_within e.0.1 held.0) may) (held_within e.0.1 held.0),
   keyed_each columns rel part conds keys db are keyed.1 held.1,
 )
 
@@ -61,15 +61,16 @@ all_near rel part conds db held =
 
 -- a row that has its key is put, or one is taken away
 
-pub keyed_inserted : (told now : Bool) (columns : List ℕ) (db : Database) (item : Item) (row : Row) → AreKeyed told columns db
-    → (now ≡ true → (told ≡ true) × HasKey columns (item, row)) → AreKeyed now columns (with_row db item row)
-keyed_inserted told now columns db item row keyed h told_now =
-    let both = h told_now in
+pub keyed_inserted : (is_keyed now : Bool) (columns : List ℕ) (db : Database) (item : Item) (row : Row) → AreKeyed is_keyed columns db
+    → (now ≡ true → (is_keyed ≡ true) × HasKey columns (item, row)) → AreKeyed now columns (with_row db item row)
+keyed_inserted is_keyed now columns db item row keyed h is_keyed_now =
+    let both = h is_keyed_now in
     All-from_recursion (HasKey columns) (with_row db item row)
     (each_inserted item_cmp item_cmp_exact (HasKey columns) db item row (recursion_from_All (HasKey columns) db (keyed both.0)) both.1)
 
-pub keyed_left : (told : Bool) (columns : List ℕ) (db : Database) (item : Item) → AreKeyed told columns db → AreKeyed told columns (without_row db item)
-keyed_left told columns db item keyed still =
+pub keyed_left : (is_keyed : Bool) (columns : List ℕ) (db : Database) (item : Item) → AreKeyed is_keyed columns db
+    → AreKeyed is_keyed columns (without_row db item)
+keyed_left is_keyed columns db item keyed still =
     All-from_recursion (HasKey columns) (without_row db item)
     (each_left (is_at (item_cmp item)) (HasKey columns) db (recursion_from_All (HasKey columns) db (keyed still)))
 

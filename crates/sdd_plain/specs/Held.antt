@@ -16,9 +16,9 @@ AreHeld db = All HasHeldKey (keys_of db)
 abbrev pub HasKey : List ℕ → Item × Row → Type 0
 HasKey columns e = column e.1 (slice_index columns (e.0.0 - 1)) ≡ Int e.0.1
 
--- where it is so told, each row has
+-- where it is said so, each row has
 abbrev pub AreKeyed : Bool → List ℕ → Database → Type 0
-AreKeyed told columns db = told ≡ true → All (HasKey columns) db
+AreKeyed is_keyed columns db = is_keyed ≡ true → All (HasKey columns) db
 
 -- among the keys is that of each row that may stand in a part, where rows have their keys in a column
 abbrev pub AreKeysOf : ℕ → List Condition → ℕ → Interval → Type 0

@@ -18,7 +18,7 @@ use std::marker::Model;
 #[derive(Drop)]
 pub(crate) struct Rows {
     rows: BTreeMap<(u32, i64), Row>,
-    /// The key columns of the relations, as they were told at first.
+    /// The key columns of the relations, as they were given at first.
     columns: Vec<u32>,
     /// Whether each row has its key in its relation's column of these. It has, unless a caller goes
     /// on with another catalogue.
@@ -228,7 +228,7 @@ fn key_columns(alloc: Global, catalogue: &Catalogue) -> Result<Vec<u32>, NoMemor
     Ok(columns)
 }
 
-/// The key column of a relation, where these are the relations' key columns; 0 where it isn't told.
+/// The key column of a relation, where these are the relations' key columns; 0 where none is given.
 fn key_column(columns: &[u32], rel: u32) -> u32
     ensures { result ≡ slice_index columns.now (rel - 1) }
 {

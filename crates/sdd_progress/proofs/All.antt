@@ -8,7 +8,7 @@ pub use Rattle.sdd_lawful.proofs.Applied.{HasResult, IsDataIn, applied_before, d
 pub use Rattle.sdd_lawful.proofs.Applies.{keeps_applies}
 pub use Rattle.sdd_lawful.proofs.Asks.{contains_either}
 pub use Rattle.sdd_lawful.proofs.Classes.{further_back, home_by, home_setting, submit_local}
-pub use Rattle.sdd_lawful.proofs.Commits.{Told, commit_rec}
+pub use Rattle.sdd_lawful.proofs.Commits.{CommitContent, commit_rec}
 pub use Rattle.sdd_lawful.proofs.Committed.{commit_of_log, committed_in, one_place}
 pub use Rattle.sdd_lawful.proofs.Effects.{keeps_answers}
 pub use Rattle.sdd_lawful.proofs.Homes.{home_small, positive, served}

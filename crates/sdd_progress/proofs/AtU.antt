@@ -37,14 +37,16 @@ held_less n r h e = grind (arith, eqb-true, ne_eqb)
 -- the sign that goes to one T
 
 module _ (log : Log) (n t : ℕ) (g : TmCounts → TmCounts) (less : signs_left n (g (counts t log)) < signs_left n (counts t log)) where
-  abbrev told : ℕ → TmCounts
-  told u = if t == (counts u log).tm then g (counts u log) else counts u log
+  abbrev counts_then : ℕ → TmCounts
+  counts_then u = if t == (counts u log).tm then g (counts u log) else counts u log
 
-  told_up : (u : ℕ) → signs_left n (told u) ≤ signs_left n (counts u log)
-  told_up u = grind (arith, same_or_not, counts_tm, signs_left, eq-eqb)
+  signs_fewer : (u : ℕ) → signs_left n (counts_then u) ≤ signs_left n (counts u log)
+  signs_fewer u = grind (arith, same_or_not, counts_tm, signs_left, eq-eqb)
 
-  pub one_told : (ts : List ℕ) (k : ℕ) → slice_get ts k ≡ Some t → total (λ u. signs_left n (told u)) ts < total (λ u. signs_left n (counts u log)) ts
-  one_told ts k at = total_less (λ u. signs_left n (told u)) (λ u. signs_left n (counts u log)) ts k t at told_up (grind (arith, eq-eqb, counts_tm))
+  pub one_signs_fewer : (tms : List ℕ) (k : ℕ) → slice_get tms k ≡ Some t
+      → total (λ u. signs_left n (counts_then u)) tms < total (λ u. signs_left n (counts u log)) tms
+  one_signs_fewer tms k at =
+      total_less (λ u. signs_left n (counts_then u)) (λ u. signs_left n (counts u log)) tms k t at signs_fewer (grind (arith, eq-eqb, counts_tm))
 
 module _ (s : Setting) (bases : Bases) (log : Log) (fair : Each (IsFair s) log) (new : Each IsNew log) where
   served : IsServed (active s 0 log) (queue s 0 log)
@@ -81,7 +83,7 @@ module _ (s : Setting) (bases : Bases) (log : Log) (fair : Each (IsFair s) log) 
       subst (λ x. u_work s (Did x ∷ log) < u_work s log) (same_Some (Sends (T (tm_no t)) (Release ts) None) act e)
       (let own = send_up s 0 log (T (tm_no t)) (Release ts) None in
       let less = released_less (txns_in s log) (counts t log).releases (counts t log).holds (omega (arith, (f refl))) in
-      let all = one_told log (txns_in s log) t (λ k. record k { releases = suc k.releases }) less (numbers_to s.catalogue.tms) k at in
+      let all = one_signs_fewer log (txns_in s log) t (λ k. record k { releases = suc k.releases }) less (numbers_to s.catalogue.tms) k at in
       omega (arith, own, all))
   released_falls k t _ _ ts act at f e = absurd (cc)
 
@@ -92,7 +94,7 @@ module _ (s : Setting) (bases : Bases) (log : Log) (fair : Each (IsFair s) log) 
       subst (λ x. u_work s (Did x ∷ log) < u_work s log) (same_Some (Sends (T (tm_no t)) Hold None) act e)
       (let own = send_up s 0 log (T (tm_no t)) Hold None in
       let less = held_less (txns_in s log) (counts t log).releases (counts t log).holds f in
-      omega (arith, own, (one_told log (txns_in s log) t (λ k. record k { holds = suc k.holds }) less (numbers_to s.catalogue.tms) k at)))
+      omega (arith, own, (one_signs_fewer log (txns_in s log) t (λ k. record k { holds = suc k.holds }) less (numbers_to s.catalogue.tms) k at)))
 
   pub u_falls : (act : Act) → IsDue s.catalogue bases (view_of s log) act → u_work s (Did act ∷ log) < u_work s log
   u_falls act (by_exchange e) = exchange_falls (active s 0 log) act refl e

@@ -1,5 +1,5 @@
 -- Where all is finished, every transaction that was submitted is committed, and nothing is pending.
-use Rattle.sdd_progress.proofs.All.{Act, AllCommitted, AreNumbered, Bool, Catalogue, Change, Commit, Did, Does, HasSoundLists, History, Input, IsClass, IsEraOf, IsFinished, IsNotLeft, IsPermitted, IsRecordAt, IsSubmitIn, IsSubmitted, List, Log, Mark, None, Option, Queued, Rec, Records, Reply, Site, Some, Submit, Submits, Submitted, Submitting, T, TmNo, Told, Txn, WasCommitted, [], all_new, ap, arith, class_at, class_for, commit_act_in, commit_rec, cons_none, cons_option, covered, covers_home, dec_le, false, filter_map, for_class, further_back, given_at, history, home, home_by, home_fair, home_setting, inl, inr, is_committed, length, list_any, member_there, nth_era, option_map, or_left, or_right, permitted_before, place_of_act, positive, queue, queue_is, queued, recorded_there, redeclares, refl, same_or_not, slice_get, submit_in, submit_local, submits_of, submitted_in, subst, suc, sym, tm_no, true, txn_no, zero, ℕ, ◌++◌, ◌-◌, ◌∙◌, ◌∷◌, ◌≡◌, ◌⊎◌}
+use Rattle.sdd_progress.proofs.All.{Act, AllCommitted, AreNumbered, Bool, Catalogue, Change, Commit, CommitContent, Did, Does, HasSoundLists, History, Input, IsClass, IsEraOf, IsFinished, IsNotLeft, IsPermitted, IsRecordAt, IsSubmitIn, IsSubmitted, List, Log, Mark, None, Option, Queued, Rec, Records, Reply, Site, Some, Submit, Submits, Submitted, Submitting, T, TmNo, Txn, WasCommitted, [], all_new, ap, arith, class_at, class_for, commit_act_in, commit_rec, cons_none, cons_option, covered, covers_home, dec_le, false, filter_map, for_class, further_back, given_at, history, home, home_by, home_fair, home_setting, inl, inr, is_committed, length, list_any, member_there, nth_era, option_map, or_left, or_right, permitted_before, place_of_act, positive, queue, queue_is, queued, recorded_there, redeclares, refl, same_or_not, slice_get, submit_in, submit_local, submits_of, submitted_in, subst, suc, sym, tm_no, true, txn_no, zero, ℕ, ◌++◌, ◌-◌, ◌∙◌, ◌∷◌, ◌≡◌, ◌⊎◌}
 use Rattle.sdd_progress.proofs.SinceRedeclare.{redeclares_back}
 use Rattle.sdd_obligations.specs.All.{txn_at}
 use Rattle.sdd_obligations.specs.logs.Due.{home_of}
@@ -38,7 +38,7 @@ committed_there : (g : Input) (log : Log) (c n : ℕ) → is_committed c n (at_h
 committed_there g log c n e =
     let at : Site = home g.catalogue c in
     let m = commit_act_in c n (at_home g c log) e in
-    let t : Told = record { reply = m.reply; changes = m.changes; values = m.values; rows = m.rows } in
+    let t : CommitContent = record { reply = m.reply; changes = m.changes; values = m.values; rows = m.rows } in
     let act : Act = Records c (commit_rec n m.attempt t) m.sends in
     let is : at_home g c log ≡ m.later ++ Did act ∷ m.before =
     m.is ∙ ap (λ j. m.later ++ Did (Records c (commit_rec j m.attempt t) m.sends) ∷ m.before) m.number_is

@@ -9,7 +9,7 @@ at_snoc [] y (suc k) m e = cc
 at_snoc (x ∷ xs) y zero m e = inl e
 at_snoc (x ∷ xs) y (suc k) m e = grind (arith, (at_snoc xs y k m e))
 
--- an era of the log: its list, and that it has eras_begun
+-- an era of the log: its list, and that it has begun
 abbrev IsNumbered : Input → Log → Type 0
 IsNumbered g log = (k : ℕ) (a : ℕ × Catalogue) → slice_get (eras_of g log) k ≡ Some a → (a.1 ≡ (nth_era g k).catalogue) × (a.0 ≤ marks log)
 
@@ -69,7 +69,7 @@ last g (Redeclares t ∷ log) =
     (y, ap (slice_get (eras_of g log ++ y ∷ [])) (sym (len g log)) ∙ at_seam (eras_of g log) [] y, refl)
 last g (_ ∷ log) = last g log
 
--- how many have eras_begun
+-- how many have begun
 
 one_begun : (n m : ℕ) (y : ℕ × Catalogue) → n ≤ m → length (cond (nat_le n m) (y ∷ []) []) ≡ 1
 one_begun n m y l = rw (le-leb n m l) refl

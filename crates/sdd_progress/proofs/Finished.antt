@@ -57,7 +57,7 @@ all_released g log t h sound idle l m =
           absurd (not_both _ (both _ _ (lt-ltb _ _ less) (eq-eqb _ _ dones)) off))
     ]
 
--- a T on hold has told so
+-- a T on hold has sent its HELD
 
 run_by : (g : Input) (c t k : ℕ) → slice_get (tm_views.runs (setting_of g (T (tm_no t)))) k ≡ Some c
     → (1 ≤ c) × (home g.catalogue c ≡ T (tm_no t)) × IsClass g.catalogue c
@@ -72,10 +72,10 @@ all_idle g log t idle l =
     let none = idle.no_attempt r.0 run.2 in
     ap tm_views.is_idle (sym r.2) ∙ ap is_none (subst (λ y. active (setting_of g y) r.0 (local_of g y log) ≡ None) run.1 none)))
 
-held_told : (g : Input) (log : Log) (t : ℕ) → IsQuiet g log → IsIdle g log → 1 ≤ t → t ≤ g.catalogue.tms
+held_of_hold : (g : Input) (log : Log) (t : ℕ) → IsQuiet g log → IsIdle g log → 1 ≤ t → t ≤ g.catalogue.tms
     → (holds (local_of g (T (tm_no t)) log)).releases < (holds (local_of g (T (tm_no t)) log)).holds
     → (holds (local_of g (T (tm_no t)) log)).holds ≤ (holds (local_of g (T (tm_no t)) log)).helds
-held_told g log t h idle l m on =
+held_of_hold g log t h idle l m on =
     let lt : site.Log = local_of g (T (tm_no t)) log in
     elim (dec_le (holds lt).holds (holds lt).helds) [
       | yes p ↦ p
@@ -109,9 +109,9 @@ u_holding g log q h sound idle e t l m =
       | no p ↦ omega (arith, p)
     ] in
     let on : (holds (local_of g (T (tm_no t)) log)).releases < (holds (local_of g (T (tm_no t)) log)).holds = omega (arith, ahead, v.holds_same, v.releases) in
-    let told = held_told g log t h idle l m on in
+    let held_sent = held_of_hold g log t h idle l m on in
     let holding : (counts t lu).holds ≡ suc (last_served s lu).commits = omega (arith, ahead, c.one_ahead, released) in
-    (holding, omega (arith, holding, told, c.got_hold, v.helds, v.holds_same))
+    (holding, omega (arith, holding, held_sent, c.got_hold, v.helds, v.holds_same))
 
 u_no_queue : (g : Input) (log : Log) → IsQuiet g log → IsSoundCatalogue g.catalogue → IsIdle g log → (o : Option Queued)
     → head_of (queue (setting_of g U) 0 (local_of g U log)) ≡ o → o ≡ None

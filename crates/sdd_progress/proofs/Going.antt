@@ -13,8 +13,8 @@ IsBetween x = (is_empty x.modules ≡ false) × CountsRead x.modules x.counts ×
 to_reduce : (ts c : ℕ) (m : Move) (x : Exchange) → IsBetween x → IsRead x.modules m.target.part → IsGoing (reduces ts c m x)
 to_reduce ts c m x b r = record { counted = record { modules = λ e. b.0; reduces = r; counts = b.1; left = b.2 }; lacks = λ e. r }
 
-to_fetch : (ts c : ℕ) (m : Move) (x : Exchange) (ds : List ℕ) → IsBetween x → IsRead x.modules m.target.part → IsGoing (fetches_from ts c m x ds)
-to_fetch ts c m x ds b r = grind (arith, to_reduce)
+to_fetch : (ts c : ℕ) (m : Move) (x : Exchange) (dms : List ℕ) → IsBetween x → IsRead x.modules m.target.part → IsGoing (fetches_from ts c m x dms)
+to_fetch ts c m x dms b r = grind (arith, to_reduce)
 
 to_ship : (ts c : ℕ) (x : Exchange) → IsBetween x → IsGoing (ships ts c x)
 to_ship ts c x b = record { counted = record { modules = λ e. b.0; reduces = tt; counts = b.1; left = tt }; lacks = λ e. (grind arith) }
@@ -41,9 +41,9 @@ ended ts c x Shipping k e = record { counted = record { modules = λ z. cc; redu
 ended ts c x Over k e = record { counted = k; lacks = λ z. never (is_over x.phase) (ap is_over e) z }
 ended ts c x y k e = to_next ts c x x.left x.done ((k.modules (ap is_over e ∙ refl), k.counts, k.left)) k.left
 
-lacks_now : (ts c : ℕ) (x : Exchange) (ds : List ℕ) → IsCounted x → IsGoing (lacking ts c x ds)
+lacks_now : (ts c : ℕ) (x : Exchange) (dms : List ℕ) → IsCounted x → IsGoing (lacking ts c x dms)
 lacks_now ts c x [] k = ended ts c (record x { lacks = [] }) x.phase (grind (arith, reduces)) refl
-lacks_now ts c x (d ∷ ds) k = record { counted = record { modules = k.modules; reduces = k.reduces; counts = k.counts; left = k.left }; lacks = λ e. refl }
+lacks_now ts c x (d ∷ dms) k = record { counted = record { modules = k.modules; reduces = k.reduces; counts = k.counts; left = k.left }; lacks = λ e. refl }
 
 answer_if : (ts c d : ℕ) (b : Bool) (x y : Exchange) → IsGoing x → (b ≡ true → IsCounted y) → IsGoing (if b then answered ts c d y else x)
 answer_if ts c d b x y h k = grind (arith, lacks_now)

@@ -42,7 +42,7 @@ started_before g log w x c =
     (record { reply = x.reply; changes = x.changes; values = x.values; rows = x.rows; is_recorded = c.committed }) in
     let l = b.before in omega (arith, (one_place g log w.sound w.permitted b.attempt x.start b.started c.started b.txn_is b.number_is), l)
 
--- how many eras have eras_begun at a record
+-- how many eras have begun at a record
 pub begun_at : (g : Input) (log : Log) (e : Entry) (r : Rec) (later before : Log) (place : ℕ) → record_of e ≡ Some r → log ≡ later ++ e ∷ before
     → length (history before) ≡ place → eras_begun (eras_of g log) (event_at (history log) place) ≡ suc (redeclares before)
 begun_at g log e r later before place makes is place_is =

@@ -34,9 +34,9 @@ waits_for cat bases c a e = grind (arith, or_none, no_sends)
 
 -- a module whose answer lacks
 
-lacking_one : (ds : List ℕ) → is_empty ds ≡ false → (d : ℕ) × (contains ds d ≡ true)
+lacking_one : (dms : List ℕ) → is_empty dms ≡ false → (d : ℕ) × (contains dms d ≡ true)
 lacking_one [] e = cc
-lacking_one (d ∷ ds) e = (d, or_left (d == d) (contains ds d) (same_number d))
+lacking_one (d ∷ dms) e = (d, or_left (d == d) (contains dms d) (same_number d))
 
 record IsAskedAt (d : ℕ) (x : Exchange) (v : Turn) : Type 0 where
   uses : List ℕ

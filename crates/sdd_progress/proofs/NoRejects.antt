@@ -6,11 +6,11 @@ use Rattle.sdd_obligations.specs.wire.declared.msg.Msg.TheVariants.{Reject}
 
 -- a module that has a READ exists
 
-near_one : (n d : ℕ) (ds : List ℕ) → AllNear n ds → contains ds d ≡ true → IsNear n d
+near_one : (n d : ℕ) (dms : List ℕ) → AllNear n dms → contains dms d ≡ true → IsNear n d
 near_one n d [] h e = cc
-near_one n d (x ∷ ds) h e = elim (either (x == d) (contains ds d) e) [
+near_one n d (x ∷ dms) h e = elim (either (x == d) (contains dms d) e) [
   | inl p ↦ subst (IsNear n) (eqb-true x d p) h.0
-  | inr p ↦ near_one n d ds h.1 p
+  | inr p ↦ near_one n d dms h.1 p
 ]
 
 read_module : (g : Input) (c : ℕ) (d : DmNo) (log : Log) (ts : Ts) (k : ClassNo) (txn : TxnNo) (n : ℕ) (conds : List Cond) (uses : List Use)

@@ -15,7 +15,7 @@ is_settle : Event → Bool
 is_settle Settle = true
 is_settle _ = false
 
--- whether the last of the events is a settle, where it is told what holds of none
+-- whether the last of the events is a settle, where it is given what holds of none
 ends : Bool → List Event → Bool
 ends b [] = b
 ends b (e ∷ events) = ends (is_settle e) events

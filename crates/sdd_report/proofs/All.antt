@@ -1,6 +1,6 @@
 -- The names of std, of the crates below and of this crate's definitions that its proofs cite. Declares nothing.
 pub use Rattle.sdd_history.specs.declared.record.Rec.{Rec}
-pub use Rattle.sdd_report.specs.Committed.{Told, is_of, names_of, order_line, reply_of, shipped_of, told_in, told_of}
+pub use Rattle.sdd_report.specs.Committed.{ReportedCommit, is_of, names_of, order_line, reply_of, reported_in, reported_of, shipped_of}
 pub use Rattle.sdd_report.specs.Copies.{copies_lines}
 pub use Rattle.sdd_report.specs.Names.{spaced}
 pub use Rattle.sdd_report.specs.Pending.{is_lower, pending_lines}

@@ -83,8 +83,8 @@ others_text = refl
 abbrev pub at_module : ℕ → ℕ → Waiting
 at_module d time = record { dm = dm_no d; class = class_no 1; time = time_at time }
 
-pub lowest_told : under_way (D (dm_no 1)) (at_module 3 7 ∷ at_module 2 128 ∷ at_module 4 9 ∷ []) ≡ Waits (at_module 2 128)
-lowest_told = refl
+pub lowest_is_printed : under_way (D (dm_no 1)) (at_module 3 7 ∷ at_module 2 128 ∷ at_module 4 9 ∷ []) ≡ Waits (at_module 2 128)
+lowest_is_printed = refl
 
 pub waiting_text
     : pending_line accounts (named (codes "u") ∷ []) (record { txn = txn_no 1; why = Waits (at_module 2 128) }) ≡ codes "pending u waits D2 own 128\n"

@@ -20,7 +20,7 @@ pub record Report : Type 0 where
   pub pending : List Pending
   pub copies : List CopyTable
 
--- what is told of the committed transactions, the pending ones, the copies, and the end
+-- what is reported of the committed transactions, the pending ones, the copies, and the end
 abbrev pub rest_of : Report → List ℕ
 rest_of r =
     committed_lines r.txns r.history r.order

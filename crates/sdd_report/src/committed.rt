@@ -4,7 +4,7 @@ ghost use Rattle.std.specs.BTreeMap.{get};
 ghost use Rattle.std.specs.Ordering.{nat_cmp};
 ghost use Rattle.sdd_report.specs.Committed as definitions;
 ghost use Rattle.sdd_report.specs.Names.{spaced};
-ghost use Rattle.sdd_report.specs.Committed.{told_in, told_of, names_of, order_line, reply_of, numbers_end, shipped_line, shipped_of};
+ghost use Rattle.sdd_report.specs.Committed.{reported_in, reported_of, names_of, order_line, reply_of, numbers_end, shipped_line, shipped_of};
 ghost use Rattle.sdd_report.specs.Replies.{reply_lines};
 
 use crate::names::txn_name;
@@ -19,15 +19,15 @@ use std::marker::Model;
 
 /// What the Commit of a transaction tells.
 #[derive(Drop)]
-pub struct Told<'a> {
+pub struct ReportedCommit<'a> {
     txn: u32,
     reply: &'a PrintedReply,
     values: u128,
     rows: u128,
 }
 
-impl<'a> Model for Told<'a> {
-    ghost Value = { definitions.Told };
+impl<'a> Model for ReportedCommit<'a> {
+    ghost Value = { definitions.ReportedCommit };
 
     ghost view = { λ t. record { txn = t.txn; reply = t.reply.now; values = t.values; rows = t.rows } };
 }
@@ -36,7 +36,7 @@ impl<'a> Model for Told<'a> {
 #[derive(Drop)]
 pub struct Commits<'a> {
     history: &'a [(u32, Rec)],
-    told: BTreeMap<u32, Told<'a>>,
+    reported: BTreeMap<u32, ReportedCommit<'a>>,
 }
 
 impl<'a> Model for Commits<'a> {
@@ -44,17 +44,17 @@ impl<'a> Model for Commits<'a> {
     ghost use Rattle.std.specs.BTreeMap.{get};
     ghost use Rattle.std.specs.Ordering.{nat_cmp};
     ghost use Rattle.sdd_history.specs.declared.record.Rec.{Rec as Record};
-    ghost use Rattle.sdd_report.specs.Committed.{told_of};
+    ghost use Rattle.sdd_report.specs.Committed.{reported_of};
 
     ghost Value = { List (ℕ × Record) };
 
     ghost view = { λ c. c.history.now };
 
-    ghost invariant = { λ c. (n : ℕ) → get nat_cmp c.told n ≡ told_of c.history.now n };
+    ghost invariant = { λ c. (n : ℕ) → get nat_cmp c.reported n ≡ reported_of c.history.now n };
 }
 
-fn told_in<'a>(rec: &'a Rec) -> Option<Told<'a>>
-    ensures { result ≡ told_in rec.now }
+fn reported_in<'a>(rec: &'a Rec) -> Option<ReportedCommit<'a>>
+    ensures { result ≡ reported_in rec.now }
 {
     match rec {
         Rec::Commit {
@@ -63,7 +63,7 @@ fn told_in<'a>(rec: &'a Rec) -> Option<Told<'a>>
             values,
             rows,
             ..
-        } => Some(Told {
+        } => Some(ReportedCommit {
             txn: txn.0,
             reply,
             values: *values,
@@ -77,15 +77,15 @@ fn told_in<'a>(rec: &'a Rec) -> Option<Told<'a>>
 fn first_commits<'a>(
     alloc: Global,
     history: &'a [(u32, Rec)],
-) -> Result<BTreeMap<u32, Told<'a>>, NoMemory>
-    ensures { IfOk result (λ made. (n : ℕ) → get nat_cmp made n ≡ told_of history.now n) }
+) -> Result<BTreeMap<u32, ReportedCommit<'a>>, NoMemory>
+    ensures { IfOk result (λ made. (n : ℕ) → get nat_cmp made n ≡ reported_of history.now n) }
 {
     let mut made = BTreeMap::new(alloc);
     'history: for one in history {
-        if let Some(told) = told_in(&one.1) {
-            let key = told.txn;
+        if let Some(reported) = reported_in(&one.1) {
+            let key = reported.txn;
             if !made.contains_key(&key) {
-                made.insert(key, told)?;
+                made.insert(key, reported)?;
             }
         }
     }
@@ -97,18 +97,18 @@ impl<'a> Commits<'a> {
     pub fn of(alloc: Global, history: &'a [(u32, Rec)]) -> Result<Commits<'a>, NoMemory>
         ensures { IfOk result (λ made. made ≡ history.now) }
     {
-        let told = first_commits(alloc, history)?;
-        Ok(Commits { history, told })
+        let reported = first_commits(alloc, history)?;
+        Ok(Commits { history, reported })
     }
 
     /// What the first Commit of a transaction tells.
-    fn first_commit(&self, txn: TxnNo) -> Option<&Told<'a>>
+    fn first_commit(&self, txn: TxnNo) -> Option<&ReportedCommit<'a>>
         ensures { MatchOption result
-            (told_of self.now txn.0 ≡ None)
-            (λ t. told_of self.now txn.0 ≡ Some t.now) }
+            (reported_of self.now txn.0 ≡ None)
+            (λ t. reported_of self.now txn.0 ≡ Some t.now) }
     {
         let _ = &self.history;
-        self.told.get(&txn.0)
+        self.reported.get(&txn.0)
     }
 }
 
@@ -149,7 +149,7 @@ fn add_reply_of(
     ensures { OnOk result (text.new ≡ text.old ++ reply_of txns.now commits.now txn) }
 {
     match commits.first_commit(txn) {
-        Some(told) => add_reply(text, txn_name(txns, txn), told.reply),
+        Some(reported) => add_reply(text, txn_name(txns, txn), reported.reply),
         None => Ok(()),
     }
 }
@@ -180,12 +180,12 @@ fn put_numbers(text: &mut Vec<u8>, values: u128, rows: u128) -> Result<(), NoMem
     put(text, b"\n")
 }
 
-fn put_shipped(text: &mut Vec<u8>, name: &[u8], told: &Told) -> Result<(), NoMemory>
-    ensures { OnOk result (text.new.items ≡ text.old.items ++ shipped_line name.now told.now) }
+fn put_shipped(text: &mut Vec<u8>, name: &[u8], reported: &ReportedCommit) -> Result<(), NoMemory>
+    ensures { OnOk result (text.new.items ≡ text.old.items ++ shipped_line name.now reported.now) }
 {
     put(text, b"shipped")?;
     put_word(text, name)?;
-    put_numbers(text, told.values, told.rows)
+    put_numbers(text, reported.values, reported.rows)
 }
 
 fn put_shipped_of(
@@ -197,7 +197,7 @@ fn put_shipped_of(
     ensures { OnOk result (text.new.items ≡ text.old.items ++ shipped_of txns.now commits.now txn) }
 {
     match commits.first_commit(txn) {
-        Some(told) => put_shipped(text, txn_name(txns, txn), told),
+        Some(reported) => put_shipped(text, txn_name(txns, txn), reported),
         None => Ok(()),
     }
 }

@@ -29,7 +29,7 @@ pub use Rattle.sdd_obligations.proofs.invariants.logs.Marking.{no_redeclare, par
 pub use Rattle.sdd_obligations.proofs.invariants.logs.Steps.{none_does as no_act}
 pub use Rattle.sdd_obligations.proofs.invariants.logs.tm.Lists.{of_map as in_mapped}
 pub use Rattle.sdd_obligations.proofs.invariants.logs.umod.Lists.{or_nothing as or_none}
-pub use Rattle.sdd_obligations.proofs.invariants.logs.umod.Turns.{tm_told as counts_tm}
+pub use Rattle.sdd_obligations.proofs.invariants.logs.umod.Turns.{counts_tm}
 pub use Rattle.sdd_obligations.proofs.lang.StaysDatabase.{no_database, rows_make_database}
 pub use Rattle.sdd_obligations.proofs.laws.Members.{Contains-from_filter, Contains-from_filter_map, Contains-from_flat_map, Contains-from_map}
 pub use Rattle.sdd_obligations.proofs.laws.SameCopies.{equal_copies}
@@ -116,7 +116,7 @@ pub use Rattle.sdd_progress.specs.Answers.{EndsAnEvent, IsAnsweredIn, IsEventOve
 pub use Rattle.sdd_progress.specs.Free.{IsFree, IsFreeClass}
 pub use Rattle.sdd_progress.specs.Rejections.{IsRejectOf}
 pub use Rattle.sdd_progress.specs.Waited.{IsWaitOf}
-pub use Rattle.sdd_report.specs.Committed.{Told, is_of, names_of, order_line, reply_of, told_in, told_of}
+pub use Rattle.sdd_report.specs.Committed.{ReportedCommit, is_of, names_of, order_line, reply_of, reported_in, reported_of}
 pub use Rattle.sdd_report.specs.Pending.{is_lower}
 pub use Rattle.sdd_report.specs.Replies.{replies_along}
 pub use Rattle.sdd_report.specs.Report.{Report, after_replies, report_text}

@@ -1,4 +1,4 @@
--- No run is told of and ended by the limit.
+-- No run is both reported and ended by the limit.
 use Rattle.sdd_run.proofs.All.{AreTables, Catalogue, EndsAtLimit, Entry, IsReportOn, IsSummaryOn, IsTheLog, List, Log, Workload, eras_in, input_of, limit_or_complete, subst, ℕ}
 use Rattle.sdd_run.proofs.OneReport.{one_list_of_tables}
 

@@ -3,7 +3,7 @@ use Rattle.sdd_run.proofs.All.{Bool, Event, Input, IsAtRest, IsLawful, List, Log
 use Rattle.sdd_obligations.specs.All.{Entry}
 use Rattle.sdd_obligations.specs.site_module.SiteLog as site
 
--- whether the last of the events is a redeclare, where it is told what holds of none
+-- whether the last of the events is a redeclare, where it is given what holds of none
 
 is_redeclare : Event → Bool
 is_redeclare Redeclare = true

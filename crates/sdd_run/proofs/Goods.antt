@@ -14,10 +14,10 @@ pub puts_held : (s : Stmt) → HoldsValues s → PutsHeld s
 puts_held s h = grind (arith, held)
 
 -- the rows with which a data module begins: those of the workload, or none where there is no such module
-one_of_all : (r : List (RelNo × Row)) (ds : List ℕ) (k : ℕ) → (slice_index_or (map (λ d. r) ds) k [] ≡ r) ⊎ (slice_index_or (map (λ d. r) ds) k [] ≡ [])
+one_of_all : (r : List (RelNo × Row)) (dms : List ℕ) (k : ℕ) → (slice_index_or (map (λ d. r) dms) k [] ≡ r) ⊎ (slice_index_or (map (λ d. r) dms) k [] ≡ [])
 one_of_all r [] k = inr refl
-one_of_all r (d ∷ ds) zero = inl refl
-one_of_all r (d ∷ ds) (suc k) = one_of_all r ds k
+one_of_all r (d ∷ dms) zero = inl refl
+one_of_all r (d ∷ dms) (suc k) = one_of_all r dms k
 
 rows_database : (cat : Catalogue) (rows : List (RelNo × Row)) → All (IsValidRow cat) rows → IsDatabase cat (database_of cat rows)
 rows_database cat rows valid =

@@ -8,16 +8,16 @@ module _ (cat : Catalogue) (h : History) (x y : Committed) (first : IsCommitted 
   later : (n : TxnNo) (rest : List TxnNo) → ComesBefore rest x.start.txn y.start.txn → ComesBefore (n ∷ rest) x.start.txn y.start.txn
   later n rest b = record { front = n ∷ b.front; rest = b.rest; is = ap (λ l. n ∷ l) b.is; behind = b.behind }
 
-  stands_before : (order : List TxnNo) → IsAlong cat h order → Contains order (txn_no x.start.txn) → Contains order (txn_no y.start.txn)
+  is_before_in_order : (order : List TxnNo) → IsAlong cat h order → Contains order (txn_no x.start.txn) → Contains order (txn_no y.start.txn)
       → ComesBefore order x.start.txn y.start.txn
-  stands_before [] along there also = absurd (Contains-nil (txn_no x.start.txn) there)
-  stands_before (n ∷ rest) along there also =
+  is_before_in_order [] along there also = absurd (Contains-nil (txn_no x.start.txn) there)
+  is_before_in_order (n ∷ rest) along there also =
       elim (Contains-cases n rest (txn_no x.start.txn) there) [
         | inl same ↦ record { front = []; rest = rest; is = ap (λ m. m ∷ rest) (sym same); behind = (grind (arith, Contains-cases, other)) }
         | inr behind ↦
             (elim (Contains-cases n rest (txn_no y.start.txn) also) [
               | inl same ↦ absurd (false≢true (sym (along.0.first y x second first (ap (λ (z : TxnNo). z.0) same) behind) ∙ precedes_it))
-              | inr also_behind ↦ later n rest (stands_before rest along.1 behind also_behind)
+              | inr also_behind ↦ later n rest (is_before_in_order rest along.1 behind also_behind)
             ])
       ]
 
@@ -37,4 +37,5 @@ module _ (cat : Catalogue) (eras : Eras) (txns : List Txn) (h : History) (starts
   pub in_turn : (order : List TxnNo) → IsSerial cat h order → ComesBefore order x.start.txn y.start.txn
   in_turn order serial =
       let time = starts.rise x.start y.start first.started second.started class starts_first in
-      stands_before cat h x y first second (grind (arith, nat_lt, eq-eqb, lt-ltb, ne_eqb, other)) other order serial.along (serial.whole x first) (serial.whole y second)
+      is_before_in_order cat h x y first second (grind (arith, nat_lt, eq-eqb, lt-ltb, ne_eqb, other)) other order serial.along (serial.whole x first)
+      (serial.whole y second)

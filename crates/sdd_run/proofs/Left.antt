@@ -47,10 +47,10 @@ module _ (g : Input) (rows : List (RelNo × Row)) (log : Log) (sound : IsSoundCa
       (are_eras_of g (noted log) lists) d (length (history log)) Nothing (at_the_end log) f copied
       ∙ ap (contents f) (same_dated g.catalogue rows (history log) _ d)
 
-  -- a copy that is told of has what the history gives
-  pub told_rows : (copy : CopyTable) → Contains (tables_of g log) copy
+  -- a copy that is reported has what the history gives
+  pub copy_rows_are : (copy : CopyTable) → Contains (tables_of g log) copy
       → copy.rows ≡ map (λ e. e.1) (laws.copy_at g.catalogue rows (history log) copy.dm.0 (length (history log)) copy.frag.0)
-  told_rows copy there =
+  copy_rows_are copy there =
       let at = Contains-from_flat_map (tables_at g log) (numbers_to g.catalogue.dms) copy there in
       let of = Contains-from_map (table_of at.0 (dated (setting_of g (D (dm_no at.0))) (local_of g (D (dm_no at.0)) log))) _ copy at.2 in
       let copied = Contains-from_filter (has_copy g.catalogue at.0) (numbers_to (length g.catalogue.fragments)) of.0 of.1 in
@@ -62,8 +62,8 @@ module _ (g : Input) (rows : List (RelNo × Row)) (log : Log) (sound : IsSoundCa
       → AreAppliedAlike (history log) one.frag.0 one.dm.0 (length (history log)) two.dm.0 (length (history log)) → one.rows ≡ two.rows
   alike_in one two here there same alike =
       let h = history log in
-      told_rows one here ∙ ap (λ l. map (λ e. e.1) l) (equal_copies g.catalogue rows h one.frag.0 one.dm.0 (length h) two.dm.0 (length h) alike)
-      ∙ ap (λ (f : FragNo). map (λ e. e.1) (laws.copy_at g.catalogue rows h two.dm.0 (length h) f.0)) same ∙ sym (told_rows two there)
+      copy_rows_are one here ∙ ap (λ l. map (λ e. e.1) l) (equal_copies g.catalogue rows h one.frag.0 one.dm.0 (length h) two.dm.0 (length h) alike)
+      ∙ ap (λ (f : FragNo). map (λ e. e.1) (laws.copy_at g.catalogue rows h two.dm.0 (length h) f.0)) same ∙ sym (copy_rows_are two there)
 
   module _ (order : List TxnNo) (serial : IsSerial g.catalogue (history log) order) where
     left_at : (d f : ℕ) → has_copy g.catalogue d f ≡ true → AreAllApplied (history log) f d (length (history log))
@@ -75,7 +75,7 @@ module _ (g : Input) (rows : List (RelNo × Row)) (log : Log) (sound : IsSoundCa
         ∙ sym (ap (map (λ (e : Item × Row). e.1))
         (left_in_copies g rows (eras_of g log) log order sound fine permitted (are_eras_of g log lists) serial f d (length (history log)) all))
 
-    -- each copy that is told of
+    -- each copy that is reported
     pub left_in : (copy : CopyTable) → Contains (tables_of g log) copy → AreAllApplied (history log) copy.frag.0 copy.dm.0 (length (history log))
         → copy.rows ≡ rows_left g.catalogue (run g.catalogue rows g.txns order).1 copy.frag.0
     left_in copy there =

@@ -20,7 +20,7 @@ pub mod Marked
 pub mod Once
 pub mod Ordered
 pub mod Reported
-pub mod Retold
+pub mod WithRepliesOfOrder
 pub mod NonePending
 pub mod Settled
 pub mod OneReport

@@ -1,6 +1,6 @@
--- Each pending transaction is told to wait for something that is there, and never for a message of U.
+-- Each pending transaction is reported to wait for something that is there, and never for a message of U.
 use Rattle.sdd_run.proofs.All.{Bool, Catalogue, Contains, Contains-from_filter_map, FitsInput, History, Input, IsModule, IsPermitted, IsReason, IsStanding, List, Log, None, Option, Pending, Rec, Some, Standing, Waiting, Why, [], arith, best_of, cond, cons_option, false, filter_map, history, if◌then◌else◌, in_range, is_lower, list_any, numbers_to, pending_by, pending_of, reason_of, refl, site_due, slice_get, standing_at, standing_at_t, standing_at_u, submitted_at, suc, true, wait_at, waits_of, why_of, ℕ, ◌∷◌, ◌≡◌}
-use Rattle.sdd_run.proofs.Standings.{each_stands}
+use Rattle.sdd_run.proofs.Standings.{each_is_standing}
 use Rattle.sdd_obligations.specs.attempt.declared.standing.Standing.TheVariants as standings
 use Rattle.sdd_report.specs.declared.pending.Why.TheVariants as reasons
 
@@ -10,12 +10,12 @@ abbrev AreAtModules : Catalogue → List Waiting → Type 0
 AreAtModules cat [] = Unit {0}
 AreAtModules cat (w ∷ ws) = IsModule cat w.dm.0 × AreAtModules cat ws
 
-found_at_modules : (cat : Catalogue) (f : ℕ → Option Waiting) (ds : List ℕ)
-    → ((k d : ℕ) → slice_get ds k ≡ Some d → (w : Waiting) → f d ≡ Some w → IsModule cat w.dm.0) → AreAtModules cat (filter_map f ds)
+found_at_modules : (cat : Catalogue) (f : ℕ → Option Waiting) (dms : List ℕ)
+    → ((k d : ℕ) → slice_get dms k ≡ Some d → (w : Waiting) → f d ≡ Some w → IsModule cat w.dm.0) → AreAtModules cat (filter_map f dms)
 found_at_modules cat f [] h = tt
-found_at_modules cat f (d ∷ ds) h =
-    let rest = found_at_modules cat f ds (λ k x e. h (suc k) x e) in
-    elim (f d) as (λ o. f d ≡ o → AreAtModules cat (cons_option o (filter_map f ds))) [ None ↦ λ e. rest | Some w ↦ λ e. (h 0 d refl w e, rest) ] refl
+found_at_modules cat f (d ∷ dms) h =
+    let rest = found_at_modules cat f dms (λ k x e. h (suc k) x e) in
+    elim (f d) as (λ o. f d ≡ o → AreAtModules cat (cons_option o (filter_map f dms))) [ None ↦ λ e. rest | Some w ↦ λ e. (h 0 d refl w e, rest) ] refl
 
 waits_at_modules : (g : Input) (log : Log) (c t : ℕ) → AreAtModules g.catalogue (waits_of g log c t)
 waits_at_modules g log c t =
@@ -27,8 +27,8 @@ best_at_module cat w (x ∷ ws) m all = grind (arith, (best_at_module cat (cond 
 
 -- how a transaction stands gives such a reason
 
-reason_stands : (g : Input) (log : Log) (s : Standing) (w : Why) → IsStanding g.catalogue s → why_of g log s ≡ Some w → IsReason g.catalogue w
-reason_stands g log s w h e = grind (arith, best_at_module, waits_at_modules)
+why_is_reason : (g : Input) (log : Log) (s : Standing) (w : Why) → IsStanding g.catalogue s → why_of g log s ≡ Some w → IsReason g.catalogue w
+why_is_reason g log s w h e = grind (arith, best_at_module, waits_at_modules)
 
 -- and what is pending has one
 
@@ -45,4 +45,4 @@ pub reasons_are : (g : Input) (log : Log) → IsPermitted g log → FitsInput g 
 reasons_are g log permitted good idle one there =
     let x = Contains-from_filter_map (pending_by (standing_at standing_at_u standing_at_t) (submitted_at log) g log (history log)) (history log) one there in
     let r = pending_reason g log (history log) x.0 one x.2 in
-    reason_stands g log _ one.why (each_stands g log permitted good idle (submitted_at log r.0) r.0) r.1
+    why_is_reason g log _ one.why (each_is_standing g log permitted good idle (submitted_at log r.0) r.0) r.1

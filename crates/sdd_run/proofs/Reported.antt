@@ -1,4 +1,4 @@
--- What is told of a world that has carried out all events of a workload is told of its run.
+-- What is reported of a world that has carried out all events of a workload is reported of its run.
 use Rattle.sdd_run.proofs.All.{AreAtLastHomes, AreTables, Catalogue, EndsAtLimit, EndsBy, EndsByLimit, Entry, Event, History, IfOk, IsReportOn, IsRunOf, IsSoundCatalogue, IsSummaryOn, IsTheLog, IsValid, List, Log, Represents, Result, Summary, Txn, Workload, World, ap, arith, eras_of, first_input, history, input_of, length, marks, none_due, order_of, over_at_end, report_of, report_text, subst, summary_of, summary_text, whole_in, with_events, ℕ, ◌∙◌, ◌≡◌}
 use Rattle.sdd_run.proofs.Beginning.{all_given}
 use Rattle.sdd_run.proofs.Goods.{fits_given}
@@ -8,9 +8,9 @@ use Rattle.sdd_run.proofs.LowClocks.{low_clocks}
 use Rattle.sdd_run.proofs.Once.{each_once}
 use Rattle.sdd_run.proofs.Ordered.{alike, few, free_undisturbed, left, orderable, replayed, serial, starts}
 use Rattle.sdd_run.proofs.Reasons.{reasons_are}
-use Rattle.sdd_run.proofs.Retold.{retold}
 use Rattle.sdd_run.proofs.RunOf.{known_of, permitted}
 use Rattle.sdd_run.proofs.Settled.{applied, nothing_lost, quiet_behind, settled}
+use Rattle.sdd_run.proofs.WithRepliesOfOrder.{with_replies_of_order}
 
 pub if_ok : {A E : Type 0} (res : Result A E) (P Q : A → Type 0) → ((x : A) → P x → Q x) → IfOk res P → IfOk res Q
 if_ok res P Q f p = grind arith
@@ -60,7 +60,7 @@ reported cat tables work log sound valid tabled the_log text is =
       once = each_once whole (history log) order along;
       in_turn = grind (arith, in_turn, eras_of, input_of, history);
       replies = given;
-      told = is ∙ retold (report_of (input_of cat tables work) log) _ fine.one_commit given;
+      text_has_replies = is ∙ with_replies_of_order (report_of (input_of cat tables work) log) _ fine.one_commit given;
       copies = left cat tables work sound valid tabled log the_log;
       alike = alike cat tables work sound valid tabled log the_log;
       free = free_undisturbed cat tables work sound valid tabled log the_log;
@@ -79,10 +79,10 @@ reported cat tables work log sound valid tabled the_log text is =
 pub summed_up : (cat : Catalogue) (tables : List (List Entry)) (work : Workload) (w : World) → AreTables cat work tables
     → (r : IsRunOf cat tables work w) (text : List ℕ) (counts : Summary) (txns : List Txn) (records : History) (events : ℕ) → text ≡ summary_text counts
     → counts ≡ summary_of (length txns) records events → txns ≡ work.txns → records ≡ history r.log → events ≡ marks r.log → IsSummaryOn cat work text
-summed_up cat tables work w tabled r text counts txns records events told made txns_are records_are events_are = record {
+summed_up cat tables work w tabled r text counts txns records events printed made txns_are records_are events_are = record {
   tables = tables;
   tables_are = tabled;
   log = r.log;
   log_is = r.log_is;
-  text_is = told ∙ ap summary_text (made ∙ (λ i. summary_of (length (txns_are i)) (records_are i) (events_are i)));
+  text_is = printed ∙ ap summary_text (made ∙ (λ i. summary_of (length (txns_are i)) (records_are i) (events_are i)));
 }

@@ -18,9 +18,9 @@ committed_by h n number place c a started txn attempt =
       txn,
     )
 
-stands_once : (cat : Catalogue) (h : History) (order : List TxnNo) → IsOrderable cat h
+is_there_once : (cat : Catalogue) (h : History) (order : List TxnNo) → IsOrderable cat h
     → IsSerial cat h order → (n : ℕ) → WasCommitted h n → times_in n order ≡ 1
-stands_once cat h order fine serial n w =
+is_there_once cat h order fine serial n w =
     let a = fine.started n w.number w.place w.commit in
     let t = committed_by h n w.number w.place w.commit a.0 a.1 a.2 a.3 in
     subst (λ m. times_in m order ≡ 1) t.2 (each_once cat h order serial t.0 t.1)
@@ -57,7 +57,7 @@ module _ (cat : Catalogue) (tables : List (List Entry)) (work : Workload) (sound
       let all = all_committed links are_up in
       record {
         committed = all;
-        in_order = λ n place there. stands_once (whole_in cat work) (history log) (order_of cat work log) fine serial n (all n place there);
+        in_order = λ n place there. is_there_once (whole_in cat work) (history log) (order_of cat work log) fine serial n (all n place there);
         none_pending = none_pending (standing_at standing_at_u standing_at_t) (input_of cat tables work) log all;
       }
 
@@ -72,7 +72,7 @@ module _ (cat : Catalogue) (tables : List (List Entry)) (work : Workload) (sound
       → ((n j k : ℕ) → IsSubmitted (history log) n j → IsSubmitted (history log) n k → j ≡ k) → LosesNothing (report_of (input_of cat tables work) log)
   nothing_lost fine serial one n place there =
       in_one (standing_at standing_at_u standing_at_t) (input_of cat tables work) log (whole_in cat work) (order_of cat work log) serial
-      (λ m w. stands_once (whole_in cat work) (history log) (order_of cat work log) fine serial m w) one n (listed n place there)
+      (λ m w. is_there_once (whole_in cat work) (history log) (order_of cat work log) fine serial m w) one n (listed n place there)
 
   -- at each copy all is applied that changed its fragment
   pub applied : EndsQuiet (input_of cat tables work) log → NoneIsDown (whole_in cat work) log

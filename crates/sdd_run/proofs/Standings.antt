@@ -91,7 +91,7 @@ module _ (g : Input) (log : Log) (permitted : IsPermitted g log) (good : FitsInp
       let low = lowest_there a.exchange.lacks (going.lacks (if_none (is_over a.exchange.phase) _ p.1)) in
       let d : ℕ = low.0 in
       let turns = home_turns g c log permitted (spoken g c log permitted (small_home g.catalogue good.sound c l)) in
-      let stands : AtTurn a.ts d (Some a) (turn_at a.ts c d (at_home g c log)) =
+      let at_turn : AtTurn a.ts d (Some a) (turn_at a.ts c d (at_home g c log)) =
       subst (λ o. AtTurn a.ts d o (turn_at a.ts c d (at_home g c log))) e (turns.turns a.ts d) in
       let near : IsNearBy g.catalogue.dms a.exchange =
       subst (HasNear g.catalogue.dms) e (active_near s c (at_home g c log) (sound_whole g.catalogue good.sound) (home_fair g c log permitted)) in
@@ -101,17 +101,18 @@ module _ (g : Input) (log : Log) (permitted : IsPermitted g log) (good : FitsInp
 
 -- so in the line of a class each transaction stands as it may
 
-line_stands : (cat : Catalogue) (c : ℕ) (qs : List Queued) (o : Option Attempt) (n : ℕ) → IsClass cat c
+line_is_standing : (cat : Catalogue) (c : ℕ) (qs : List Queued) (o : Option Attempt) (n : ℕ) → IsClass cat c
     → ((a : Attempt) → o ≡ Some a → IsNumberedSite cat (site_of (lowest a.exchange.lacks))) → IsStanding cat (standing_by c qs o n)
-line_stands cat c qs o n l f = grind (arith)
+line_is_standing cat c qs o n l f = grind (arith)
 
-first_stands : (cat : Catalogue) (s next : Standing) → IsStanding cat s → IsStanding cat next → IsStanding cat (or_standing s next)
-first_stands cat s next h i = grind arith
+first_is_standing : (cat : Catalogue) (s next : Standing) → IsStanding cat s → IsStanding cat next → IsStanding cat (or_standing s next)
+first_is_standing cat s next h i = grind arith
 
-among_stands : (cat : Catalogue) (ls : List Line) (n : ℕ) → ((j : ℕ) (l : Line) → slice_get ls j ≡ Some l → IsStanding cat (standing_of l n))
+among_is_standing : (cat : Catalogue) (ls : List Line) (n : ℕ) → ((j : ℕ) (l : Line) → slice_get ls j ≡ Some l → IsStanding cat (standing_of l n))
     → IsStanding cat (standing_among ls n)
-among_stands cat [] n h = tt
-among_stands cat (l ∷ ls) n h = first_stands cat (standing_of l n) (standing_among ls n) (h 0 l refl) (among_stands cat ls n (λ j x e. h (suc j) x e))
+among_is_standing cat [] n h = tt
+among_is_standing cat (l ∷ ls) n h =
+    first_is_standing cat (standing_of l n) (standing_among ls n) (h 0 l refl) (among_is_standing cat ls n (λ j x e. h (suc j) x e))
 
 -- a class that runs at a transaction module
 run_here : (g : Input) (t j c : ℕ) → slice_get (tm_views.runs (setting_of g (T (tm_no t)))) j ≡ Some c
@@ -125,9 +126,9 @@ has_head : (c : ℕ) (qs : List Queued) (n : ℕ) (class : ClassNo) (place : ℕ
 has_head c [] n class place e = cc
 has_head c (q ∷ qs) n class place e = (q, refl)
 
-first_underway_stands : (cat : Catalogue) (at : Site) (s : Standing) → IsStanding cat s
+first_underway_is_standing : (cat : Catalogue) (at : Site) (s : Standing) → IsStanding cat s
     → ((class : ClassNo) (place : ℕ) → s ≡ standings.Queued class place → IsNumberedSite cat at) → IsStanding cat (u_standing.first_underway at s)
-first_underway_stands cat at s h f = grind (arith)
+first_underway_is_standing cat at s h f = grind (arith)
 
 module _ (g : Input) (log : Log) (permitted : IsPermitted g log) (good : FitsInput g) (idle : site_due g log ≡ None) where
   -- of each T what was counted
@@ -147,9 +148,9 @@ module _ (g : Input) (log : Log) (permitted : IsPermitted g log) (good : FitsInp
       all_true (um.is_holding v) (map (λ t. counts t lu) (numbers_to g.catalogue.tms)) (λ k x e.
       (let r = of_t k x e in
       let c = chain_at g (tm_no r.0) log r.1.0 r.1.1 permitted in
-      let told : (counts r.0 lu).helds ≡ suc n = (ap (λ (y : TmCounts). y.helds) r.2) ∙ eqb-true x.helds (suc n) (not_false _ (none k x e)) in
-      let held : (counts r.0 lu).holds ≡ suc n = omega (arith, told, c.put_held, c.got_hold, c.put_hold, c.one_ahead, c.committed) in
-      ap (um.is_holding v) (sym r.2) ∙ both _ _ (eq-eqb _ _ held) (eq-eqb _ _ told)))
+      let helds_are : (counts r.0 lu).helds ≡ suc n = (ap (λ (y : TmCounts). y.helds) r.2) ∙ eqb-true x.helds (suc n) (not_false _ (none k x e)) in
+      let held : (counts r.0 lu).holds ≡ suc n = omega (arith, helds_are, c.put_held, c.got_hold, c.put_hold, c.one_ahead, c.committed) in
+      ap (um.is_holding v) (sym r.2) ∙ both _ _ (eq-eqb _ _ held) (eq-eqb _ _ helds_are)))
 
   waits_for_t : (n : ℕ) (class : ClassNo) (place : ℕ) → active (setting_of g U) 0 (local_of g U log) ≡ None
       → standing_by 0 (queue (setting_of g U) 0 (local_of g U log)) (active (setting_of g U) 0 (local_of g U log)) n ≡ standings.Queued class place
@@ -170,34 +171,35 @@ module _ (g : Input) (log : Log) (permitted : IsPermitted g log) (good : FitsInp
             absurd (not_both _ (both _ _ (eq-eqb _ _ fresh) (all_hold all)) (if_none _ _ due)))
       ]
 
-  stands_at_u : (n : ℕ) → IsStanding g.catalogue (standing_at_u (setting_of g U) (local_of g U log) n)
-  stands_at_u n =
+  is_standing_at_u : (n : ℕ) → IsStanding g.catalogue (standing_at_u (setting_of g U) (local_of g U log) n)
+  is_standing_at_u n =
       let s = setting_of g U in
       let lu = local_of g U log in
       let state = um_states.state_of s lu in
-      let line = line_stands g.catalogue 0 (queue s 0 lu) (active s 0 lu) n (omega arith) (λ a e. lacks_answer g log permitted good idle 0 a (omega arith) e) in
+      let line = line_is_standing g.catalogue 0 (queue s 0 lu) (active s 0 lu) n (omega arith)
+      (λ a e. lacks_answer g log permitted good idle 0 a (omega arith) e) in
       elim (u_standing.is_awaiting_helds state)
       as (λ b. u_standing.is_awaiting_helds state ≡ b
       → IsStanding g.catalogue (if b then u_standing.first_underway (u_standing.missing_site state) (standing_of state.line n) else standing_of state.line n)) [
-        | true ↦ grind (arith, first_underway_stands, standing_of, waits_for_t, no_active, active, and_left)
+        | true ↦ grind (arith, first_underway_is_standing, standing_of, waits_for_t, no_active, active, and_left)
         | false ↦ λ e. line
       ] refl
 
-  stands_at_t : (t n : ℕ) → IsStanding g.catalogue (standing_at_t (setting_of g (T (tm_no t))) (local_of g (T (tm_no t)) log) n)
-  stands_at_t t n =
+  is_standing_at_t : (t n : ℕ) → IsStanding g.catalogue (standing_at_t (setting_of g (T (tm_no t))) (local_of g (T (tm_no t)) log) n)
+  is_standing_at_t t n =
       let s = setting_of g (T (tm_no t)) in
       let lt = local_of g (T (tm_no t)) log in
       let states = map (tm_states.class_of s lt) (tm_views.runs s) in
-      among_stands g.catalogue (map (λ (k : tm_states.ClassState). k.line) states) n (λ j l e.
+      among_is_standing g.catalogue (map (λ (k : tm_states.ClassState). k.line) states) n (λ j l e.
       (let r = in_mapped (λ (k : tm_states.ClassState). k.line) states j l e in
       let q = in_mapped (tm_states.class_of s lt) (tm_views.runs s) j r.0 r.1 in
       let run = run_here g t j q.0 q.1 in
       subst (λ x. IsStanding g.catalogue (standing_of x n)) (ap (λ (k : tm_states.ClassState). k.line) q.2 ∙ r.2)
-      (line_stands g.catalogue q.0 (queue s q.0 lt) (active s q.0 lt) n run.0 (λ a is.
+      (line_is_standing g.catalogue q.0 (queue s q.0 lt) (active s q.0 lt) n run.0 (λ a is.
       lacks_answer g log permitted good idle q.0 a run.0 (subst (λ y. active (setting_of g y) q.0 (local_of g y log) ≡ Some a) (sym run.1) is)))))
 
   -- at each site each transaction stands as it may
-  pub each_stands : (at : Site) (n : ℕ) → IsStanding g.catalogue (standing_at standing_at_u standing_at_t at (setting_of g at) (local_of g at log) n)
-  each_stands U n = stands_at_u n
-  each_stands (T t) n = stands_at_t t.0 n
-  each_stands (D d) n = tt
+  pub each_is_standing : (at : Site) (n : ℕ) → IsStanding g.catalogue (standing_at standing_at_u standing_at_t at (setting_of g at) (local_of g at log) n)
+  each_is_standing U n = is_standing_at_u n
+  each_is_standing (T t) n = is_standing_at_t t.0 n
+  each_is_standing (D d) n = tt

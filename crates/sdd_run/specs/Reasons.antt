@@ -1,4 +1,4 @@
--- What a pending transaction may be told to wait for.
+-- What a pending transaction may be reported to wait for.
 use Rattle.std.specs.Prelude.{◌≡◌, ◌≤◌, ◌∷◌, [], Some, refl}
 use Rattle.sdd_obligations.specs.All.{Catalogue, D, IsClass, IsFrom1To, IsModule, Log, Site, Standing, Submit, T, U, class_no, dm_no, extended, local_of, setting_of, time_at, tm_no, txn_no}
 use Rattle.sdd_obligations.specs.attempt.declared.standing.Standing.TheVariants as standings

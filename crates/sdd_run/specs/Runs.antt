@@ -83,7 +83,7 @@ pub record IsReportOn (cat : Catalogue) (work : Workload) (text : List ℕ) : Ty
   -- One plain database that begins with the workload's rows and runs the transactions in that order gives the replies of their
   -- Commits; and these are the replies in the text, after the trace and the order.
   pub replies : AllZip (IsReplyOf (history log)) (order_of cat work log) (plain_run cat work log).0
-  pub told : text
+  pub text_has_replies : text
       ≡ trace (whole_in cat work) work.txns (history log)
       ++ (order_line work.txns (order_of cat work log)
       ++ (replies_along (names_of work.txns (order_of cat work log)) (plain_run cat work log).0
@@ -105,8 +105,8 @@ pub record IsReportOn (cat : Catalogue) (work : Workload) (text : List ℕ) : Ty
   pub low_clocks : HasLowClocks (input_of cat tables work) log
   -- Each transaction that was submitted stands in the order once, or is listed as pending once, and never both.
   pub nothing_lost : LosesNothing (report_of (input_of cat tables work) log)
-  -- Each that is listed as pending is told to wait for its turn in a class, for a class at a data module, or for a message
-  -- of a transaction or data module: never for one of U.
+  -- Each that is listed as pending is reported to wait for its turn in a class, for a class at a data module, or for a
+  -- message of a transaction or data module: never for one of U.
   pub reasons : (one : Pending) → Contains (report_of (input_of cat tables work) log).pending one → IsReason (whole_in cat work) one.why
   -- Where a settle or a redeclare is the last event, the links are quiet at the end. Where they are, and no data module is
   -- down then, each transaction that was submitted is committed, so it stands in the order, and none is pending; and each

@@ -70,8 +70,8 @@ pub lost : LosesNothing (telling [] []) → ⊥
 lost h = false≢true (ap (λ z. z == 1) (h 1 0 refl))
 
 -- and one that lists it as committed and as pending isn't right either
-pub told_twice : LosesNothing (telling (txn_no 1 ∷ []) (waiting ∷ [])) → ⊥
-told_twice h = false≢true (ap (λ z. z == 1) (h 1 0 refl))
+pub reported_twice : LosesNothing (telling (txn_no 1 ∷ []) (waiting ∷ [])) → ⊥
+reported_twice h = false≢true (ap (λ z. z == 1) (h 1 0 refl))
 
 -- where it is submitted once it is listed once
 pub listed_alone : times_in 1 (telling [] (waiting ∷ [])).order + times_pending 1 (telling [] (waiting ∷ [])).pending ≡ 1

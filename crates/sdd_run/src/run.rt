@@ -1,4 +1,4 @@
-//! The run of a workload, and what is told of it.
+//! The run of a workload, and what is reported of it.
 ghost use Rattle.std.specs.Prelude.{IfOk, IsErrOf};
 ghost use Rattle.sdd_script.specs.All.{IsValid};
 ghost use Rattle.sdd_run.specs.Runs.{EndsAtLimit, IsReportOn, IsSummaryOn};

@@ -1,4 +1,4 @@
--- The lines that a state stands for, and how each kind of line adds itself to them.
+-- The lines that a state represents, and how each kind of line adds itself to them.
 use Rattle.sdd_script.proofs.All.{Catalogue, ClassPart, Event, Header, List, Place, RelNo, State, Stmt, Txn, Value, Word, Workload, [], append-nil, append_assoc, arith, class_lines, classes_in, done_words, end_words, event_words, flat_map, flat_map-append, header_words, lines_of, list_lines, list_words, map, map-append, start_words, statement_words, takes_events, takes_rows, takes_statements, takes_txns, true, txn_lines, ◌++◌, ◌∷◌, ◌≡◌}
 use Rattle.sdd_script.specs.declared.place.Place.TheVariants as places
 

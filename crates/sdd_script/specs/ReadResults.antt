@@ -14,6 +14,6 @@ Tells (Err (Fault fault)) reading = reading ≡ Err fault
 Tells (Err NoMemory) reading = Unit {0}
 
 -- what went wrong on a line, with the line's number
-abbrev pub told_at : ℕ → LineError → WorkError
-told_at line (Broken rule) = Fault (record { line = line; rule = rule })
-told_at line errors.NoMemory = NoMemory
+abbrev pub fault_at_line : ℕ → LineError → WorkError
+fault_at_line line (Broken rule) = Fault (record { line = line; rule = rule })
+fault_at_line line errors.NoMemory = NoMemory

@@ -19,7 +19,7 @@ use crate::place::Place;
 use crate::state::State;
 use sdd_lang::sdd_base::{DmNo, MAX_READS, Name, TmNo};
 use sdd_lang::sdd_catalog::{Catalogue, ClassPart, ClassParts, ReadPart};
-use sdd_words::{Token, Tokens, read_name, stands_free};
+use sdd_words::{Token, Tokens, is_free, read_name};
 use std::alloc::Global;
 use std::mem;
 
@@ -127,7 +127,7 @@ fn class_line(
         Some((word, tm)) => {
             must(
                 WorkRule::BadLine,
-                state.place.takes_classes() && (stands_free(&word) && stands_free(&tm)),
+                state.place.takes_classes() && (is_free(&word) && is_free(&tm)),
             )?;
             let name = name_in_word(alloc, &word)?;
             let tm = read_tm(catalogue, &tm)?;
@@ -236,7 +236,7 @@ fn reads_line(
         Some((word, dm)) => {
             must(
                 WorkRule::BadLine,
-                state.place.takes_reads() && (stands_free(&word) && stands_free(&dm)),
+                state.place.takes_reads() && (is_free(&word) && is_free(&dm)),
             )?;
             let (fragment, number) = read_fragment(alloc, catalogue, &word)?;
             let dm = read_dm(catalogue, &dm)?;
@@ -270,7 +270,7 @@ fn writes_line(
         Some(word) => {
             must(
                 WorkRule::BadLine,
-                state.place.takes_writes() && stands_free(&word),
+                state.place.takes_writes() && is_free(&word),
             )?;
             let (fragment, _) = read_fragment(alloc, catalogue, &word)?;
             add_write(alloc, state, fragment)

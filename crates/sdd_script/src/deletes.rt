@@ -11,7 +11,7 @@ use crate::naming::part_of;
 use sdd_lang::Stmt;
 use sdd_lang::sdd_base::{Listed, RelNo};
 use sdd_lang::sdd_catalog::Catalogue;
-use sdd_words::{Comparisons, Token, Tokens, read_comparisons, stands_free};
+use sdd_words::{Comparisons, Token, Tokens, is_free, read_comparisons};
 use std::alloc::Global;
 
 fn read_delete_of(
@@ -53,7 +53,7 @@ pub fn read_delete(
     match words.next() {
         None => refuse(WorkRule::BadLine),
         Some(name) => {
-            must(WorkRule::BadLine, stands_free(&name))?;
+            must(WorkRule::BadLine, is_free(&name))?;
             match read_comparisons(words.copy()) {
                 Some(mut words) => read_delete_parts(alloc, catalogue, &name, &mut words),
                 None => refuse(WorkRule::BadLine),

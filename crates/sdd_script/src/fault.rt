@@ -1,5 +1,5 @@
 ghost use Rattle.std.specs.Prelude.{◌≡◌, Ok, Err, MatchResult};
-ghost use Rattle.sdd_script.specs.ReadResults.{told_at};
+ghost use Rattle.sdd_script.specs.ReadResults.{fault_at_line};
 ghost use Rattle.sdd_lang.specs.All.{GivesReading, must, require};
 ghost use Rattle.sdd_script.specs.declared.fault.LineError.TheVariants.{Broken};
 ghost use Rattle.sdd_script.specs.Rules.{rule_in};
@@ -114,9 +114,9 @@ pub(crate) fn must(rule: WorkRule, holds: bool) -> Result<(), LineError>
     if holds { Ok(()) } else { refuse(rule) }
 }
 
-/// What a line answered, its fault told at the line's number.
+/// What a line answered, its fault reported at the line's number.
 pub(crate) fn at_line<T>(line: u32, read: Result<T, LineError>) -> Result<T, WorkError>
-    ensures { MatchResult read (λ x. result ≡ Ok x) (λ e. result ≡ Err (told_at line e)) }
+    ensures { MatchResult read (λ x. result ≡ Ok x) (λ e. result ≡ Err (fault_at_line line e)) }
 {
     match read {
         Ok(value) => Ok(value),

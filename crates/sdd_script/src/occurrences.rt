@@ -10,7 +10,7 @@ use crate::keyword::EventKey;
 use crate::names::Names;
 use sdd_lang::sdd_base::{DmNo, Event, MAX_PLACE, MAX_TICKS, Site, TmNo, TxnNo};
 use sdd_lang::sdd_catalog::Catalogue;
-use sdd_words::{Token, Tokens, number_in, read_name, stands_free};
+use sdd_words::{Token, Tokens, is_free, number_in, read_name};
 use std::alloc::Global;
 
 /// The number of a module, from 1 to the most.
@@ -148,7 +148,7 @@ fn read_flight_place(
         Some((from, to, place)) => {
             must(
                 WorkRule::BadLine,
-                stands_free(&from) && stands_free(&to) && stands_free(&place),
+                is_free(&from) && is_free(&to) && is_free(&place),
             )?;
             let (from, to) = read_link(catalogue, &from, &to)?;
             let place = read_count(MAX_PLACE, &place)?;
@@ -201,7 +201,7 @@ fn read_submit(alloc: Global, names: &Names, words: &mut Tokens<'_>) -> Result<E
 {
     match words.only_one() {
         Some(name) => {
-            must(WorkRule::BadLine, stands_free(&name))?;
+            must(WorkRule::BadLine, is_free(&name))?;
             let txn = read_txn(alloc, names, &name)?;
             Ok(Event::Submit(txn))
         }
@@ -214,7 +214,7 @@ fn read_resend(catalogue: &Catalogue, words: &mut Tokens<'_>) -> Result<Event, L
 {
     match words.only_two() {
         Some((from, to)) => {
-            must(WorkRule::BadLine, stands_free(&from) && stands_free(&to))?;
+            must(WorkRule::BadLine, is_free(&from) && is_free(&to))?;
             let (from, to) = read_link(catalogue, &from, &to)?;
             Ok(Event::Resend { from, to })
         }
@@ -227,7 +227,7 @@ fn read_tick(catalogue: &Catalogue, words: &mut Tokens<'_>) -> Result<Event, Lin
 {
     match words.only_two() {
         Some((tm, n)) => {
-            must(WorkRule::BadLine, stands_free(&tm) && stands_free(&n))?;
+            must(WorkRule::BadLine, is_free(&tm) && is_free(&n))?;
             let tm = read_tm(catalogue, &tm)?;
             let n = read_count(MAX_TICKS, &n)?;
             Ok(Event::Tick { tm, n })
@@ -259,7 +259,7 @@ fn read_down(catalogue: &Catalogue, words: &mut Tokens<'_>) -> Result<Event, Lin
 {
     match words.only_one() {
         Some(dm) => {
-            must(WorkRule::BadLine, stands_free(&dm))?;
+            must(WorkRule::BadLine, is_free(&dm))?;
             let dm = read_dm(catalogue, &dm)?;
             Ok(Event::Down(dm))
         }
@@ -272,7 +272,7 @@ fn read_up(catalogue: &Catalogue, words: &mut Tokens<'_>) -> Result<Event, LineE
 {
     match words.only_one() {
         Some(dm) => {
-            must(WorkRule::BadLine, stands_free(&dm))?;
+            must(WorkRule::BadLine, is_free(&dm))?;
             let dm = read_dm(catalogue, &dm)?;
             Ok(Event::Up(dm))
         }

@@ -24,7 +24,7 @@ use crate::values::read_row;
 use sdd_lang::sdd_base::{Event, MAX_EVENTS, MAX_TXNS, Name, NoMemory, TmNo, TxnNo};
 use sdd_lang::sdd_catalog::Catalogue;
 use sdd_lang::{Stmt, Txn};
-use sdd_words::{Tokens, are_free, are_sound, stands_free, text_of, words_of};
+use sdd_words::{Tokens, are_free, are_sound, is_free, text_of, words_of};
 use std::alloc::Global;
 use std::mem;
 
@@ -41,7 +41,7 @@ fn row_line(
         Some(name) => {
             must(
                 WorkRule::BadLine,
-                state.place.takes_rows() && (stands_free(&name) && are_free(words)),
+                state.place.takes_rows() && (is_free(&name) && are_free(words)),
             )?;
             let row = read_row(alloc, catalogue, &name, words)?;
             state.written = require(WorkRule::TooMany(Counts::Row), one_more_row(state.written))?;
@@ -73,7 +73,7 @@ fn txn_line(
         Some((word, tm)) => {
             must(
                 WorkRule::BadLine,
-                state.place.takes_txns() && (stands_free(&word) && stands_free(&tm)),
+                state.place.takes_txns() && (is_free(&word) && is_free(&tm)),
             )?;
             let name = name_in_word(alloc, &word)?;
             let tm = read_tm(catalogue, &tm)?;

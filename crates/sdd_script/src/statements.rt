@@ -13,7 +13,7 @@ use crate::updates::read_update;
 use crate::values::read_row;
 use sdd_lang::Stmt;
 use sdd_lang::sdd_catalog::Catalogue;
-use sdd_words::{Tokens, are_free, stands_free};
+use sdd_words::{Tokens, are_free, is_free};
 use std::alloc::Global;
 
 /// A put, by a relation and values.
@@ -24,7 +24,7 @@ fn read_put(alloc: Global, catalogue: &Catalogue, words: &mut Tokens<'_>) -> Res
     match words.next() {
         None => refuse(WorkRule::BadLine),
         Some(name) => {
-            must(WorkRule::BadLine, stands_free(&name) && are_free(words))?;
+            must(WorkRule::BadLine, is_free(&name) && are_free(words))?;
             let (rel, row) = read_row(alloc, catalogue, &name, words)?;
             Ok(Stmt::Put { rel, row })
         }

@@ -15,8 +15,8 @@ use sdd_lang::sdd_base::{Listed, MAX_ASSIGNMENTS, RelNo};
 use sdd_lang::sdd_catalog::{Catalogue, Kind};
 use sdd_lang::{Assign, Stmt};
 use sdd_words::{
-    Comparisons, Setting, Settings, Token, Tokens, has_key, number_in, read_comparisons,
-    read_settings, stands_free,
+    Comparisons, Setting, Settings, Token, Tokens, has_key, is_free, number_in, read_comparisons,
+    read_settings,
 };
 use std::alloc::Global;
 
@@ -147,7 +147,7 @@ fn read_update_behind_set(
     ensures { GivesReading rule_in (λ s. s) result
         (short (update_behind_set catalogue.now name.now sets.entry rest.entry)) }
 {
-    must(WorkRule::BadLine, stands_free(name) && sets.has_words())?;
+    must(WorkRule::BadLine, is_free(name) && sets.has_words())?;
     match read_settings(sets) {
         Some(mut sets) => read_update_form(alloc, catalogue, name, &mut sets, rest),
         None => refuse(WorkRule::BadLine),

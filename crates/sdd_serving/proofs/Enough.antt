@@ -5,10 +5,10 @@ use Rattle.sdd_serving.proofs.Keeps.{Leads, HoldEnough, HoldEnoughAlong, HasPart
 use Rattle.sdd_serving.proofs.Uses.{one_use, HasPart, parts_there}
 
 -- what is held at first: rows of the database for the uses of the transaction, and each row that a use wants somewhere
-pub record Begins (cat : Catalogue) (txn : Txn) (db : Database) (ds : List ℕ) (first : Space) : Type 0 where
+pub record Begins (cat : Catalogue) (txn : Txn) (db : Database) (dms : List ℕ) (first : Space) : Type 0 where
   pub of : (d n : ℕ) (row : Row) → Has (all_rows (first d)) (n, row)
       → (u : Use) × Has (uses_of cat txn) u × (u.number ≡ n) × IsRowOf db u.rel.0 u.restrictions row
-  pub there : (u : Use) → Has (uses_of cat txn) u → (row : Row) → IsRowOf db u.rel.0 u.restrictions row → IsHeldAt ds first u.number row
+  pub there : (u : Use) → Has (uses_of cat txn) u → (row : Row) → IsRowOf db u.rel.0 u.restrictions row → IsHeldAt dms first u.number row
 
 -- parts of a statement that fits
 
@@ -28,11 +28,11 @@ all_have cat (s ∷ rest) fits = (has_parts cat s fits.0, all_have cat rest fits
 
 -- at first
 
-module _ (cat : Catalogue) (db : Database) (ds : List ℕ) (first : Space) where
+module _ (cat : Catalogue) (db : Database) (dms : List ℕ) (first : Space) where
   abbrev Holds : List Use → Type 0
-  Holds uses = (u : Use) → Has uses u → (row : Row) → IsRowOf db u.rel.0 u.restrictions row → IsHeldAt ds first u.number row
+  Holds uses = (u : Use) → Has uses u → (row : Row) → IsRowOf db u.rel.0 u.restrictions row → IsHeldAt dms first u.number row
 
-  first_enough : (before : ℕ) (s : Stmt) → Holds (statement_uses cat before s) → HoldEnough db ds first before s
+  first_enough : (before : ℕ) (s : Stmt) → Holds (statement_uses cat before s) → HoldEnough db dms first before s
   first_enough before (Put rel row) h = tt
   first_enough before (Query out rels conds) h =
       λ tuple there meet part range.
@@ -43,40 +43,40 @@ module _ (cat : Catalogue) (db : Database) (ds : List ℕ) (first : Space) where
       (parts_there cat db before conds 1 rels tuple there (part - 1) (omega (arith, from, range.1))) in
       let met : list_all (meets (part_of tuple part)) p.usage.restrictions ≡ true =
       subst (λ z. list_all (meets (part_of tuple part)) z ≡ true) (sym p.restricted) (parts_meet conds tuple part meet) in
-      subst (λ z. IsHeldAt ds first z (part_of tuple part)) p.number_is (h p.usage p.there (part_of tuple part) (p.row_there, met))
+      subst (λ z. IsHeldAt dms first z (part_of tuple part)) p.number_is (h p.usage p.there (part_of tuple part) (p.row_there, met))
   first_enough before _ h = λ row is. h _ (inl refl) row is
 
-  first_enough_along : (before : ℕ) (statements : List Stmt) → Holds (uses_from cat before statements) → HoldEnoughAlong db ds first before statements
+  first_enough_along : (before : ℕ) (statements : List Stmt) → Holds (uses_from cat before statements) → HoldEnoughAlong db dms first before statements
   first_enough_along before [] h = tt
   first_enough_along before (s ∷ rest) h = grind (arith, nat_tests, first_enough, Has-left, statement_uses, uses_from, uses_in, Has-right, length-statement_uses, (first_enough_along (before + uses_in s) rest (λ u k row is. h u (Has-right (statement_uses cat before s) (uses_from cat (before + length (statement_uses cat before s)) rest) u (subst (λ n. Has (uses_from cat (before + n) rest) u) (sym (length-statement_uses cat before s)) k)) row is)))
 
 -- at the end
 
-shipped_enough : (db : Database) (ds : List ℕ) (last : Space) (before : ℕ) (s : Stmt) → HoldEnough db ds last before s
-    → AreEnough db (all_held ds last) before s
-shipped_enough db ds last before s h = grind (arith, nat_tests, row_of_use, all_held, part_of, held_shipped)
+shipped_enough : (db : Database) (dms : List ℕ) (last : Space) (before : ℕ) (s : Stmt) → HoldEnough db dms last before s
+    → AreEnough db (all_held dms last) before s
+shipped_enough db dms last before s h = grind (arith, nat_tests, row_of_use, all_held, part_of, held_shipped)
 
-shipped_along : (db : Database) (ds : List ℕ) (last : Space) (before : ℕ) (statements : List Stmt)
-    → HoldEnoughAlong db ds last before statements → AreEnoughAlong db (all_held ds last) before statements
-shipped_along db ds last before [] h = tt
-shipped_along db ds last before (s ∷ rest) h = (shipped_enough db ds last before s h.0, shipped_along db ds last (before + uses_in s) rest h.1)
+shipped_along : (db : Database) (dms : List ℕ) (last : Space) (before : ℕ) (statements : List Stmt)
+    → HoldEnoughAlong db dms last before statements → AreEnoughAlong db (all_held dms last) before statements
+shipped_along db dms last before [] h = tt
+shipped_along db dms last before (s ∷ rest) h = (shipped_enough db dms last before s h.0, shipped_along db dms last (before + uses_in s) rest h.1)
 
 -- the rows that are shipped serve the database
-pub serves : (cat : Catalogue) (txn : Txn) (db : Database) (ds : List ℕ) (first last : Space) → FitsTxn cat txn
-    → Begins cat txn db ds first → Leads ds txn.statements first last → Serves cat txn (all_held ds last) db
-serves cat txn db ds first last fits begins leads =
+pub serves : (cat : Catalogue) (txn : Txn) (db : Database) (dms : List ℕ) (first last : Space) → FitsTxn cat txn
+    → Begins cat txn db dms first → Leads dms txn.statements first last → Serves cat txn (all_held dms last) db
+serves cat txn db dms first last fits begins leads =
     record {
       named = λ s h. let o = origin s h in (o.0, o.1, o.2);
       held = λ u there row h.
-          let o = origin (u.number, row) (use_row (all_held ds last) u.number row h) in
+          let o = origin (u.number, row) (use_row (all_held dms last) u.number row h) in
           let same : o.0 ≡ u = one_use cat 0 txn.statements o.0 u o.1 there o.2 in
           subst (λ (z : Use). IsRowOf db z.rel.0 z.restrictions row) same o.3;
-      enough = shipped_along db ds last 0 txn.statements
-          (all_keep db ds txn.statements (all_have cat txn.statements (recursion_from_All (FitsStatement cat) txn.statements fits.statements)) first last leads
-          (first_enough_along cat db ds first 0 txn.statements (λ u k row is. begins.there u k row is)));
+      enough = shipped_along db dms last 0 txn.statements
+          (all_keep db dms txn.statements (all_have cat txn.statements (recursion_from_All (FitsStatement cat) txn.statements fits.statements)) first last leads
+          (first_enough_along cat db dms first 0 txn.statements (λ u k row is. begins.there u k row is)));
     }
   where
-    origin : (s : ℕ × Row) → Has (all_held ds last) s → (u : Use) × Has (uses_of cat txn) u × (u.number ≡ s.0) × IsRowOf db u.rel.0 u.restrictions s.1
+    origin : (s : ℕ × Row) → Has (all_held dms last) s → (u : Use) × Has (uses_of cat txn) u × (u.number ≡ s.0) × IsRowOf db u.rel.0 u.restrictions s.1
     origin s h =
-        let k = shipped_held ds last s h in
-        begins.of k.at s.0 s.1 (all_were ds txn.statements first last leads k.at s.0 s.1 k.held)
+        let k = shipped_held dms last s h in
+        begins.of k.at s.0 s.1 (all_were dms txn.statements first last leads k.at s.0 s.1 k.held)

@@ -50,34 +50,34 @@ begins_resting : (ms : List (ℕ × List ℕ)) (lacks : List ℕ) (union : List 
 begins_resting ms lacks union = grind arith
 
 -- the exchange that begins with these READs follows the run that begins with what their modules freeze
-pub follows_start : (cat : Catalogue) (table : List line.Entry) (c : ℕ) (q : Queued) (own p2 : ℕ) (ds : List ℕ) (first : Space)
-    → Follows ds (q.text).statements (asked_at cat c q.text) first first
-    (begins q.text (map (read_to cat table c q (uses_of cat q.text) own p2) ds))
-follows_start cat table c q own p2 ds first =
+pub follows_start : (cat : Catalogue) (table : List line.Entry) (c : ℕ) (q : Queued) (own p2 : ℕ) (dms : List ℕ) (first : Space)
+    → Follows dms (q.text).statements (asked_at cat c q.text) first first
+    (begins q.text (map (read_to cat table c q (uses_of cat q.text) own p2) dms))
+follows_start cat table c q own p2 dms first =
     record {
       runs =
-          subst (Runs ds (q.text).statements (asked_at cat c q.text) first first)
+          subst (Runs dms (q.text).statements (asked_at cat c q.text) first first)
           (sym (begins_resting (begins q.text sends).modules (begins q.text sends).lacks [])) run_begins;
       left = λ a h. h;
       modules = λ d u there asked.
           Has-filter_map (λ (m : ℕ × List ℕ). cond (contains m.1 u) (Some m.0) None) (filter_map module_read sends) (read_at d) d
           (Has-filter_map module_read sends (read_to cat table c q (uses_of cat q.text) own p2 d) (read_at d)
-          (Has-map (read_to cat table c q (uses_of cat q.text) own p2) ds d there) refl)
+          (Has-map (read_to cat table c q (uses_of cat q.text) own p2) dms d there) refl)
           (ap (λ b. cond b (Some d) None) (sym (names_contained (uses_at cat c q.text d) u) ∙ asked));
     }
   where
     sends : List (Site × Msg)
-    sends = map (read_to cat table c q (uses_of cat q.text) own p2) ds
+    sends = map (read_to cat table c q (uses_of cat q.text) own p2) dms
 
     read_at : ℕ → ℕ × List ℕ
     read_at d = (d, map (λ (u : Use). u.number) (uses_at cat c q.text d))
 
-module _ (ds : List ℕ) (statements : List Stmt) (asked : ℕ → ℕ → Bool) (first : Space) where
+module _ (dms : List ℕ) (statements : List Stmt) (asked : ℕ → ℕ → Bool) (first : Space) where
   abbrev Along : Space → Exchange → Type 0
-  Along space x = Follows ds statements asked first space x
+  Along space x = Follows dms statements asked first space x
 
   abbrev At : Space → Stage → Type 0
-  At space stage = Runs ds statements asked first space stage
+  At space stage = Runs dms statements asked first space stage
 
   -- where what matters is the same
 
@@ -90,15 +90,15 @@ module _ (ds : List ℕ) (statements : List Stmt) (asked : ℕ → ℕ → Bool)
   module _ (ts c : ℕ) where
     asked_next : (space : Space) (x : Exchange) (m : Move) → At space Resting → IsMoveAlong 0 statements m
         → ((q : Asking) → Has x.left q → Has (askings 0 statements) q)
-        → ((d u : ℕ) → Has ds d → asked d u ≡ true → Has (with_use x u) d) → Along space (fetches ts c m x)
+        → ((d u : ℕ) → Has dms d → asked d u ≡ true → Has (with_use x u) d) → Along space (fetches ts c m x)
     asked_next space x m r q left modules = by (with_use x m.source.part) (λ d h a. modules d m.source.part h a)
       where
-        by : (lacks : List ℕ) → ((d : ℕ) → Has ds d → asked d m.source.part ≡ true → Has lacks d) → Along space (fetches_from ts c m x lacks)
+        by : (lacks : List ℕ) → ((d : ℕ) → Has dms d → asked d m.source.part ≡ true → Has lacks d) → Along space (fetches_from ts c m x lacks)
         by [] all = record { runs = run_sends m [] [] (run_asks r m q [] all) refl; left = left; modules = modules }
         by (d ∷ lacks) all = record { runs = run_asks r m q (d ∷ lacks) all; left = left; modules = modules }
 
     went_on : (space : Space) (x : Exchange) (qs : List Asking) (done : List Step) → At space Resting → ((q : Asking) → Has qs q → Has (askings 0 statements) q)
-        → ((d u : ℕ) → Has ds d → asked d u ≡ true → Has (with_use x u) d) → Along space (goes_on ts c x qs done)
+        → ((d u : ℕ) → Has dms d → asked d u ≡ true → Has (with_use x u) d) → Along space (goes_on ts c x qs done)
     went_on space x [] done r left modules = record { runs = r; left = λ q h. absurd h; modules = modules }
     went_on space x (q ∷ qs) done r left modules =
         elim (next_move q.conds (counts_for x.counts q) done) as
@@ -137,9 +137,9 @@ module _ (ds : List ℕ) (statements : List Stmt) (asked : ℕ → ℕ → Bool)
         lacked space x (without x.lacks d)
         (grind (arith, nat_tests, At, any_lack, without))
 
-    told : (space : Space) (x : Exchange) (d : ℕ) (values : List Value) (sent : ℕ) (m : Move) → x.phase ≡ Fetching m
+    values_follow : (space : Space) (x : Exchange) (d : ℕ) (values : List Value) (sent : ℕ) (m : Move) → x.phase ≡ Fetching m
         → TellsAll (space d) m.source values → Along space x → Along space (answered ts c d (record x { union = with_values x.union values; values = sent }))
-    told space x d values sent m is tells f =
+    values_follow space x d values sent m is tells f =
         let r : At space (Telling m x.lacks x.union) =
         subst (λ z. At space (stage_with z x.lacks x.union)) is f.runs in
         lacked space (record x { union = with_values x.union values; values = sent }) (without x.lacks d) (record {
@@ -152,15 +152,15 @@ module _ (ds : List ℕ) (statements : List Stmt) (asked : ℕ → ℕ → Bool)
     if_own : (space : Space) (x new : Exchange) (b : Bool) → Along space x → (b ≡ true → Along space new) → Along space (if b then new else x)
     if_own space x new b f h = grind arith
 
-    pub follows_hand : (space : Space) (x : Exchange) (d : ℕ) (msg : Msg) → Follows ds statements asked first space x
-        → Suits ts c space d x msg → Follows ds statements asked first space (after_hand ts c d msg x)
+    pub follows_hand : (space : Space) (x : Exchange) (d : ℕ) (msg : Msg) → Follows dms statements asked first space x
+        → Suits ts c space d x msg → Follows dms statements asked first space (after_hand ts c d msg x)
     follows_hand space x d (Ready t k counts) f suits =
         if_own space x _ ((t.0 == ts) && (k.0 == c)) f
         (λ own.
         other_answered space (record x { counts = counted d counts x.counts }) d (suits own)
         (moved space x (record x { counts = counted d counts x.counts }) f refl refl refl refl refl))
     follows_hand space x d (Values t k u values) f suits =
-        if_own space x _ ((t.0 == ts) && (k.0 == c)) f (λ own. let s = suits own in told space x d values (x.values + length values) s.0 s.1 s.2 f)
+        if_own space x _ ((t.0 == ts) && (k.0 == c)) f (λ own. let s = suits own in values_follow space x d values (x.values + length values) s.0 s.1 s.2 f)
     follows_hand space x d (Reduced t k u n) f suits =
         if_own space x _ ((t.0 == ts) && (k.0 == c)) f
         (λ own.
@@ -173,11 +173,11 @@ module _ (ds : List ℕ) (statements : List Stmt) (asked : ℕ → ℕ → Bool)
         (moved space x (record x { found = x.found ++ rows; rows = x.rows + length rows }) f refl refl refl refl refl))
     follows_hand space x d _ f suits = f
 
-  pub follows_send : (space : Space) (x : Exchange) → Follows ds statements asked first space x → Follows ds statements asked first space (after_send x)
+  pub follows_send : (space : Space) (x : Exchange) → Follows dms statements asked first space x → Follows dms statements asked first space (after_send x)
   follows_send space x f = moved space x (after_send x) f refl refl refl refl refl
 
   -- a REDUCE that is handed to a module has the values of the move
-  pub follows_reduce : (space after : Space) (x : Exchange) (m : Move) (d : ℕ) → Follows ds statements asked first space x → x.phase ≡ Cutting m
+  pub follows_reduce : (space after : Space) (x : Exchange) (m : Move) (d : ℕ) → Follows dms statements asked first space x → x.phase ≡ Cutting m
       → after d ≡ reduced m.target.part m.target.column x.union (space d) → ((b : ℕ) → b ≢ d → after b ≡ space b) →
-      Follows ds statements asked first after x
+      Follows dms statements asked first after x
   follows_reduce space after x m d f p here elsewhere = grind (arith, At, stage_with, run_reduces)

@@ -79,8 +79,8 @@ row_of db rel e h r =
 abbrev entry : Catalogue → ℕ → ℤ × Row → Item × Row
 entry cat f e = (((fragment_at cat f).rel.0, e.0), e.1)
 
-module _ (cat : Catalogue) (sound : IsSoundCatalogue cat) (c : ℕ) (txn : Txn) (fits : FitsTxn cat txn) (ds : List ℕ)
-    (copies : ℕ → CopyRows) (db : Database) (ok : HasCopies cat c txn ds copies db) where
+module _ (cat : Catalogue) (sound : IsSoundCatalogue cat) (c : ℕ) (txn : Txn) (fits : FitsTxn cat txn) (dms : List ℕ)
+    (copies : ℕ → CopyRows) (db : Database) (ok : HasCopies cat c txn dms copies db) where
   -- a row of a copy is one of the database
   copied : (d f : ℕ) (e : ℤ × Row) → rows_in_fragment cat db f ≡ entries_of cat f (copies d f) → Contains (copies d f) e → Contains db (entry cat f e)
   copied d f e t h =
@@ -164,7 +164,7 @@ module _ (cat : Catalogue) (sound : IsSoundCatalogue cat) (c : ℕ) (txn : Txn) 
       })
 
   entry_there : (ts : ℕ) (u : Use) → Has (uses_of cat txn) u → (e : Item × Row) → Contains db e → e.0.0 ≡ u.rel.0
-      → list_all (meets e.1) u.restrictions ≡ true → IsHeldAt ds (frozen_space cat c txn ts copies) u.number e.1
+      → list_all (meets e.1) u.restrictions ≡ true → IsHeldAt dms (frozen_space cat c txn ts copies) u.number e.1
   entry_there ts u h e there rel met =
       let a =
       among u.frags (fragment_of cat e.0.0 e.0.1)
@@ -176,9 +176,9 @@ module _ (cat : Catalogue) (sound : IsSoundCatalogue cat) (c : ℕ) (txn : Txn) 
       { at = p.0; there = p.1; held = chosen_frozen ts p.0 u w.0 (e.0.1, e.1) h w.1 is (in_found p.0 u w.0 a.0 e h is a.1 p.2 w.2 there (sym a.2) met) }
 
   first_there : (ts : ℕ) (u : Use) → Has (uses_of cat txn) u → (row : Row) → IsRowOf db u.rel.0 u.restrictions row
-      → IsHeldAt ds (frozen_space cat c txn ts copies) u.number row
+      → IsHeldAt dms (frozen_space cat c txn ts copies) u.number row
   first_there ts u h row r = grind (arith, nat_tests, entry_of, frozen_space, entry_there, list_all, meets)
 
   -- what is frozen is a beginning
-  pub begins : (ts : ℕ) → Begins cat txn db ds (frozen_space cat c txn ts copies)
+  pub begins : (ts : ℕ) → Begins cat txn db dms (frozen_space cat c txn ts copies)
   begins ts = record { of = first_of ts; there = first_there ts }

@@ -63,11 +63,11 @@ module _ (n col : ℕ) (values : List Value) where
 
 -- shipped
 
-pub shipped_held : (ds : List ℕ) (space : Space) (s : ℕ × Row) → Has (all_held ds space) s → IsHeldAt ds space s.0 s.1
-shipped_held ds space s h = let m = Has-flat_map_from (λ d. all_rows (space d)) ds s h in record { at = m.0; there = m.1; held = m.2 }
+pub shipped_held : (dms : List ℕ) (space : Space) (s : ℕ × Row) → Has (all_held dms space) s → IsHeldAt dms space s.0 s.1
+shipped_held dms space s h = let m = Has-flat_map_from (λ d. all_rows (space d)) dms s h in record { at = m.0; there = m.1; held = m.2 }
 
-pub held_shipped : (ds : List ℕ) (space : Space) (u : ℕ) (row : Row) → IsHeldAt ds space u row → Has (all_held ds space) (u, row)
-held_shipped ds space u row h = Has-flat_map (λ d. all_rows (space d)) ds h.at (u, row) h.there h.held
+pub held_shipped : (dms : List ℕ) (space : Space) (u : ℕ) (row : Row) → IsHeldAt dms space u row → Has (all_held dms space) (u, row)
+held_shipped dms space u row h = Has-flat_map (λ d. all_rows (space d)) dms h.at (u, row) h.there h.held
 
 pub use_row : (shipped : List (ℕ × Row)) (u : ℕ) (row : Row) → Has (rows_for shipped u) row → Has shipped (u, row)
 use_row shipped u row h = grind (arith, Has-filter_map_from)

@@ -9,11 +9,11 @@ none_has lacks e d h = grind (arith, nat_tests)
 
 -- what is known at a stage
 abbrev pub Knows : List ℕ → Space → Stage → Type 0
-Knows ds space Resting = Unit {0}
-Knows ds space (Telling m lacks union) =
-    (row : Row) → (h : IsHeldAt ds space m.source.part row) → Has lacks h.at ⊎
+Knows dms space Resting = Unit {0}
+Knows dms space (Telling m lacks union) =
+    (row : Row) → (h : IsHeldAt dms space m.source.part row) → Has lacks h.at ⊎
     (is_among union (column row m.source.column) ≡ true)
-Knows ds space (Reducing m union) = (row : Row) → IsHeldAt ds space m.source.part row → is_among union (column row m.source.column) ≡ true
+Knows dms space (Reducing m union) = (row : Row) → IsHeldAt dms space m.source.part row → is_among union (column row m.source.column) ≡ true
 
 -- its move is one of the statements'
 abbrev pub IsOf : List Stmt → Stage → Type 0
@@ -21,14 +21,14 @@ IsOf statements Resting = Unit {0}
 IsOf statements (Telling m lacks union) = IsMoveAlong 0 statements m
 IsOf statements (Reducing m union) = IsMoveAlong 0 statements m
 
-pub record State (ds : List ℕ) (statements : List Stmt) (first space : Space) (stage : Stage) : Type 0 where
-  pub leads : Leads ds statements first space
-  pub knows : Knows ds space stage
+pub record State (dms : List ℕ) (statements : List Stmt) (first space : Space) (stage : Stage) : Type 0 where
+  pub leads : Leads dms statements first space
+  pub knows : Knows dms space stage
   pub move : IsOf statements stage
 
-module _ (ds : List ℕ) (statements : List Stmt) (asked : ℕ → ℕ → Bool) (first : Space)
+module _ (dms : List ℕ) (statements : List Stmt) (asked : ℕ → ℕ → Bool) (first : Space)
     (held_where_asked : (d u : ℕ) (row : Row) → Has (all_rows (first d)) (u, row) → asked d u ≡ true) where
-  pub runs_lead : (space : Space) (stage : Stage) → Runs ds statements asked first space stage → State ds statements first space stage
+  pub runs_lead : (space : Space) (stage : Stage) → Runs dms statements asked first space stage → State dms statements first space stage
   runs_lead space stage begins = record { leads = none; knows = tt; move = tt }
   runs_lead space stage (asks r m q lacks all) =
       let s = runs_lead space Resting r in
@@ -36,7 +36,7 @@ module _ (ds : List ℕ) (statements : List Stmt) (asked : ℕ → ℕ → Bool)
         leads = s.leads;
         knows =
             λ row h.
-            inl (all h.at h.there (held_where_asked h.at m.source.part row (all_were ds statements first space s.leads h.at m.source.part row h.held)));
+            inl (all h.at h.there (held_where_asked h.at m.source.part row (all_were dms statements first space s.leads h.at m.source.part row h.held)));
         move = q;
       }
   runs_lead space stage (tells m lacks union r d values all) =
@@ -45,10 +45,10 @@ module _ (ds : List ℕ) (statements : List Stmt) (asked : ℕ → ℕ → Bool)
       let s = runs_lead space (Telling m lacks union) r in (grind (arith, nat_tests, none_has))
   runs_lead space stage (reduces {space = before} m union r at here elsewhere) =
       let s = runs_lead before (Reducing m union) r in
-      let step : Reduces ds m before space = grind (arith, nat_tests) in
+      let step : Reduces dms m before space = grind (arith, nat_tests) in
       record {
         leads = more s.leads m s.move step;
-        knows = λ row h. s.knows row (record { at = h.at; there = h.there; held = was_held ds m before space step h.at m.source.part row h.held });
+        knows = λ row h. s.knows row (record { at = h.at; there = h.there; held = was_held dms m before space step h.at m.source.part row h.held });
         move = s.move;
       }
   runs_lead space stage (rests m union r) = let s = runs_lead space (Reducing m union) r in record { leads = s.leads; knows = tt; move = tt }

@@ -18,16 +18,17 @@ frozen_asked cat c txn ts copies d n row h =
     let w = Has-map_from (λ (u : Use). (u.number, rows_for (copies d) u)) (uses_at cat c txn d) k.entry k.there in
     some_number (uses_at cat c txn d) w.0 n w.1 (ap (λ (z : Kept). z.0) w.2 ∙ k.number)
 
-module _ (cat : Catalogue) (sound : IsSoundCatalogue cat) (c : ℕ) (txn : Txn) (fits : FitsTxn cat txn) (ts : ℕ) (ds : List ℕ)
-    (copies : ℕ → CopyRows) (db : Database) (ok : HasCopies cat c txn ds copies db)
+module _ (cat : Catalogue) (sound : IsSoundCatalogue cat) (c : ℕ) (txn : Txn) (fits : FitsTxn cat txn) (ts : ℕ) (dms : List ℕ)
+    (copies : ℕ → CopyRows) (db : Database) (ok : HasCopies cat c txn dms copies db)
     (space : Space) (stage : Stage)
-    (runs : Runs ds txn.statements (asked_at cat c txn) (frozen_space cat c txn ts copies) space stage) where
+    (runs : Runs dms txn.statements (asked_at cat c txn) (frozen_space cat c txn ts copies) space stage) where
   -- whatever moves were made, and however far the last one is, the rows that are held serve the database
-  pub exchange_serves : Serves cat txn (all_held ds space) db
+  pub exchange_serves : Serves cat txn (all_held dms space) db
   exchange_serves =
-      serves cat txn db ds (frozen_space cat c txn ts copies) space fits (begins cat sound c txn fits ds copies db ok ts)
-      (runs_lead ds txn.statements (asked_at cat c txn) (frozen_space cat c txn ts copies) (λ d n row h. frozen_asked cat c txn ts copies d n row h) space stage runs).leads
+      serves cat txn db dms (frozen_space cat c txn ts copies) space fits (begins cat sound c txn fits dms copies db ok ts)
+      (runs_lead dms txn.statements (asked_at cat c txn) (frozen_space cat c txn ts copies)
+      (λ d n row h. frozen_asked cat c txn ts copies d n row h) space stage runs).leads
 
   -- so what is computed from them is the effect on it
-  pub shipped_effect : effect_over cat (found_for (all_held ds space)) (chosen_for cat (all_held ds space)) txn ≡ effect cat db txn
-  shipped_effect = served_effect cat txn (all_held ds space) db ok.is exchange_serves
+  pub shipped_effect : effect_over cat (found_for (all_held dms space)) (chosen_for cat (all_held dms space)) txn ≡ effect cat db txn
+  shipped_effect = served_effect cat txn (all_held dms space) db ok.is exchange_serves

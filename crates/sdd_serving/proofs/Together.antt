@@ -22,7 +22,7 @@ pub record IsPiece (cat : Catalogue) (c : ℕ) (txn : Txn) (dated : ℕ → Date
 read_where : (o : Option ℕ) (d : ℕ) → option_eq ◌==◌ o (Some d) ≡ true → o ≡ Some d
 read_where o d e = grind arith
 
-module _ (cat : Catalogue) (c : ℕ) (txn : Txn) (ds : List ℕ) (dated : ℕ → Dated) (placed : (d : ℕ) → ArePlaced cat (dated d)) where
+module _ (cat : Catalogue) (c : ℕ) (txn : Txn) (dms : List ℕ) (dated : ℕ → Dated) (placed : (d : ℕ) → ArePlaced cat (dated d)) where
   -- the copy of a fragment where the class reads it
   abbrev copy_where : ℕ → Option ℕ → Database
   copy_where f None = []
@@ -38,7 +38,7 @@ module _ (cat : Catalogue) (c : ℕ) (txn : Txn) (ds : List ℕ) (dated : ℕ �
   lies f None e h = absurd (Contains-nil e h)
   lies f (Some d) e h = lies_there cat f (dated d) e (placed d) h
 
-  module _ (place : (u : Use) (f : FragNo) → Has (uses_of cat txn) u → Has u.frags f → (d : ℕ) × Has ds d × (is_read_at cat c d f.0 ≡ true))
+  module _ (place : (u : Use) (f : FragNo) → Has (uses_of cat txn) u → Has u.frags f → (d : ℕ) × Has dms d × (is_read_at cat c d f.0 ≡ true))
       -- the pieces are the entries of these copies
       (pieces : List (Item × Row)) (each : (e : Item × Row) → IsPiece cat c txn dated e → Contains pieces e)
       (of : (e : Item × Row) → Contains pieces e → IsPiece cat c txn dated e) where
@@ -53,7 +53,7 @@ module _ (cat : Catalogue) (c : ℕ) (txn : Txn) (ds : List ℕ) (dated : ℕ �
         let p = of e h in
         (p.frag, p.used, subst (λ z. Contains z e) (sym (copy_there p.module_no p.frag p.read)) p.there)
 
-    pub has_copies : IsDatabase cat (together pieces) → HasCopies cat c txn ds (λ d f. contents f (dated d)) (together pieces)
+    pub has_copies : IsDatabase cat (together pieces) → HasCopies cat c txn dms (λ d f. contents f (dated d)) (together pieces)
     has_copies is =
         record {
           is = is;

@@ -68,18 +68,18 @@ frozen_once cat c txn ts copies d a b h k same = grind (arith, nat_tests, Kept, 
 pub reduced_once : (n col : ℕ) (values : List Value) (f : Frozen) → KeepsOnce f → KeepsOnce (reduced n col values f)
 reduced_once n col values f once a b h k same = grind (arith, nat_tests, Has-map_from, lessened, same_number, Kept)
 
--- so the rows that are told of a use are all of it
-rows_told : (es : List Kept) (e : Kept) → ((d : Kept) → Has es d → d.0 ≡ e.0 → d ≡ e) → Has es e
+-- so the rows that are reported of a use are all of it
+rows_shipped : (es : List Kept) (e : Kept) → ((d : Kept) → Has es d → d.0 ≡ e.0 → d ≡ e) → Has es e
     → or_nothing (first_some (λ (z : Kept). cond (z.0 == e.0) (Some z.1) None) es) ≡ e.1
-rows_told [] e once h = absurd h
-rows_told (x ∷ es) e once h =
+rows_shipped [] e once h = absurd h
+rows_shipped (x ∷ es) e once h =
     elim (x.0 == e.0) as (λ b.
     (x.0 == e.0) ≡ b
     → or_nothing (or_else (cond b (Some x.1) None) (first_some (λ (z : Kept). cond (z.0 == e.0) (Some z.1) None) es)) ≡ e.1) [
       | true ↦ λ q. ap (λ (z : Kept). z.1) (once x (inl refl) ((Decides-eqb x.0 e.0).0 q))
       | false ↦ λ q. elim h [
         | inl same ↦ let own : (x.0 == e.0) ≡ true = (Decides-eqb x.0 e.0).1 (ap (λ (z : Kept). z.0) same) in absurd cc
-        | inr later ↦ rows_told es e (λ d k n. once d (inr k) n) later
+        | inr later ↦ rows_shipped es e (λ d k n. once d (inr k) n) later
       ]
     ] refl
 
@@ -88,7 +88,7 @@ pub tells_all : (f : Frozen) → KeepsOnce f → (source : Ref) → TellsAll f s
 tells_all f once source row h =
     let k = has_row f source.part row h in
     let rows : rows_of source.part f ≡ (k.entry).1 =
-    ap (λ n. rows_of n f) (sym k.number) ∙ rows_told f.uses k.entry (λ d there same. once d k.entry there k.there same) k.there in
+    ap (λ n. rows_of n f) (sym k.number) ∙ rows_shipped f.uses k.entry (λ d there same. once d k.entry there k.there same) k.there in
     new_among [] (map_values (rows_of source.part f) source.column) (column row source.column)
     (value_there (rows_of source.part f) source.column row (subst (λ rs. Has rs row) (sym rows) k.has))
 

@@ -48,19 +48,19 @@ abbrev first : Space
 first = frozen_space accounts 1 query 65 copies
 
 -- what the module tells of the second use's balances
-abbrev told : List Value
-told = values_in (rows_of 2 (first 1)) 2
+abbrev sent_values : List Value
+sent_values = values_in (rows_of 2 (first 1)) 2
 
-pub told_is : told ≡ Int (pos 6) ∷ Int (pos 7) ∷ []
-told_is = refl
+pub sent_values_are : sent_values ≡ Int (pos 6) ∷ Int (pos 7) ∷ []
+sent_values_are = refl
 
 abbrev last : Space
-last d = cond (d == 1) (reduced 1 1 told (first 1)) (first d)
+last d = cond (d == 1) (reduced 1 1 sent_values (first 1)) (first d)
 
 elsewhere : (d : ℕ) → d ≢ 1 → last d ≡ first d
 elsewhere d n =
     elim (d == 1) as (λ b.
-    (d == 1) ≡ b → cond b (reduced 1 1 told (first 1)) (first d) ≡ first d) [
+    (d == 1) ≡ b → cond b (reduced 1 1 sent_values (first 1)) (first d) ≡ first d) [
       | true ↦ λ e. absurd (n ((Decides-eqb d 1).0 e))
       | false ↦ λ e. refl
     ] refl
@@ -72,9 +72,9 @@ pub run : Run last Resting
 run =
     let asked : Run first (Telling move (1 ∷ []) []) =
     asks begins move (inl (record { move = move; there = inl refl; is = refl })) (1 ∷ []) (λ d h t. h) in
-    let answered : Run first (Telling move [] told) =
-    tells move (1 ∷ []) [] asked 1 told (tells_all (first 1) (frozen_once accounts 1 query 65 copies 1) (ref 2 2)) in
-    rests move told (reduces move told (sends move [] told answered refl) 1 refl elsewhere)
+    let answered : Run first (Telling move [] sent_values) =
+    tells move (1 ∷ []) [] asked 1 sent_values (tells_all (first 1) (frozen_once accounts 1 query 65 copies 1) (ref 2 2)) in
+    rests move sent_values (reduces move sent_values (sends move [] sent_values answered refl) 1 refl elsewhere)
 
 -- of the first use (5, 6) is dropped
 pub what_is_left : all_held (1 ∷ []) last ≡ (1, six) ∷ (2, five) ∷ (2, six) ∷ []

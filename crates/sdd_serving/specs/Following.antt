@@ -17,11 +17,11 @@ stage_with Over lacks union = Resting
 abbrev pub stage_of : Exchange → Stage
 stage_of x = stage_with x.phase x.lacks x.union
 
-pub record Follows (ds : List ℕ) (statements : List Stmt) (asked : ℕ → ℕ → Bool) (first space : Space) (x : Exchange) : Type 0 where
-  pub runs : Runs ds statements asked first space (stage_of x)
+pub record Follows (dms : List ℕ) (statements : List Stmt) (asked : ℕ → ℕ → Bool) (first space : Space) (x : Exchange) : Type 0 where
+  pub runs : Runs dms statements asked first space (stage_of x)
   -- what may still be reduced are queries of the statements, and each module that was asked for a use is known to read it
   pub left : (q : Asking) → Has x.left q → Has (askings 0 statements) q
-  pub modules : (d u : ℕ) → Has ds d → asked d u ≡ true → Has (with_use x u) d
+  pub modules : (d u : ℕ) → Has dms d → asked d u ≡ true → Has (with_use x u) d
 
 -- no VALUES are awaited
 abbrev pub AwaitsNoValues : Phase → Type 0

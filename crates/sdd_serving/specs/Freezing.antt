@@ -21,10 +21,10 @@ abbrev pub frozen_space : Catalogue → ℕ → Txn → ℕ → (ℕ → CopyRow
 frozen_space cat c txn ts copies d = frozen_for (copies d) ts (uses_at cat c txn d)
 
 -- A database has the copies that an attempt of class c reads at these modules.
-pub record HasCopies (cat : Catalogue) (c : ℕ) (txn : Txn) (ds : List ℕ) (copies : ℕ → CopyRows) (db : Database) : Type 0 where
+pub record HasCopies (cat : Catalogue) (c : ℕ) (txn : Txn) (dms : List ℕ) (copies : ℕ → CopyRows) (db : Database) : Type 0 where
   pub is : IsDatabase cat db
   -- of each fragment of a use it has what the copy has where the class reads it
   pub rows : (d : ℕ) (u : Use) (f : FragNo) → Has (uses_of cat txn) u → Has u.frags f → is_read_at cat c d f.0 ≡ true
       → rows_in_fragment cat db f.0 ≡ entries_of cat f.0 (copies d f.0)
   -- and the class reads it at one of the modules
-  pub place : (u : Use) (f : FragNo) → Has (uses_of cat txn) u → Has u.frags f → (d : ℕ) × Has ds d × (is_read_at cat c d f.0 ≡ true)
+  pub place : (u : Use) (f : FragNo) → Has (uses_of cat txn) u → Has u.frags f → (d : ℕ) × Has dms d × (is_read_at cat c d f.0 ≡ true)

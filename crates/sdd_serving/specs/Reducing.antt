@@ -9,14 +9,14 @@ abbrev pub Space : Type 0
 Space = ℕ → Frozen
 
 -- one of these modules holds the row for use `number` of the transaction
-pub record IsHeldAt (ds : List ℕ) (space : Space) (number : ℕ) (row : Row) : Type 0 where
+pub record IsHeldAt (dms : List ℕ) (space : Space) (number : ℕ) (row : Row) : Type 0 where
   pub at : ℕ
-  pub there : Has ds at
+  pub there : Has dms at
   pub held : Has (all_rows (space at)) (number, row)
 
 -- all rows that these modules hold, with the numbers of their uses, as they ship them
 abbrev pub all_held : List ℕ → Space → Shipped
-all_held ds space = flat_map (λ d. all_rows (space d)) ds
+all_held dms space = flat_map (λ d. all_rows (space d)) dms
 
 -- the values have that of each row which is held for a column's use
 abbrev pub TellsAll : Frozen → Ref → List Value → Type 0

@@ -18,20 +18,20 @@ may_reduce lacks = is_empty lacks
 
 -- A run over these modules leads to what they hold and a stage of the exchange. `asked d u` tells whether module d was
 -- asked for the rows of use u, and `first` what each held at first.
-pub data Runs (ds : List ℕ) (statements : List Stmt) (asked : ℕ → ℕ → Bool) (first : Space) : Space → Stage → Type 0 where
-  begins : Runs ds statements asked first first Resting
+pub data Runs (dms : List ℕ) (statements : List Stmt) (asked : ℕ → ℕ → Bool) (first : Space) : Space → Stage → Type 0 where
+  begins : Runs dms statements asked first first Resting
   -- the values of each module that was asked for the source's rows are missing
-  asks : {space : Space} → Runs ds statements asked first space Resting → (m : Move) → IsMoveAlong 0 statements m
-      → (lacks : List ℕ) → ((d : ℕ) → Has ds d → asked d m.source.part ≡ true → Has lacks d)
-      → Runs ds statements asked first space (Telling m lacks [])
+  asks : {space : Space} → Runs dms statements asked first space Resting → (m : Move) → IsMoveAlong 0 statements m
+      → (lacks : List ℕ) → ((d : ℕ) → Has dms d → asked d m.source.part ≡ true → Has lacks d)
+      → Runs dms statements asked first space (Telling m lacks [])
   -- the values that come of a module have those of all rows that it holds now
-  tells : {space : Space} (m : Move) (lacks : List ℕ) (union : List Value) → Runs ds statements asked first space (Telling m lacks union)
+  tells : {space : Space} (m : Move) (lacks : List ℕ) (union : List Value) → Runs dms statements asked first space (Telling m lacks union)
       → (d : ℕ) (values : List Value) → TellsAll (space d) m.source values
-      → Runs ds statements asked first space (Telling m (without lacks d) (with_values union values))
-  sends : {space : Space} (m : Move) (lacks : List ℕ) (union : List Value) → Runs ds statements asked first space (Telling m lacks union)
-      → may_reduce lacks ≡ true → Runs ds statements asked first space (Reducing m union)
-  reduces : {space after : Space} (m : Move) (union : List Value) → Runs ds statements asked first space (Reducing m union)
+      → Runs dms statements asked first space (Telling m (without lacks d) (with_values union values))
+  sends : {space : Space} (m : Move) (lacks : List ℕ) (union : List Value) → Runs dms statements asked first space (Telling m lacks union)
+      → may_reduce lacks ≡ true → Runs dms statements asked first space (Reducing m union)
+  reduces : {space after : Space} (m : Move) (union : List Value) → Runs dms statements asked first space (Reducing m union)
       → (at : ℕ) → after at ≡ reduced m.target.part m.target.column union (space at) → ((d : ℕ) → d ≢ at → after d ≡ space d)
-      → Runs ds statements asked first after (Reducing m union)
-  rests : {space : Space} (m : Move) (union : List Value) → Runs ds statements asked first space (Reducing m union)
-      → Runs ds statements asked first space Resting
+      → Runs dms statements asked first after (Reducing m union)
+  rests : {space : Space} (m : Move) (union : List Value) → Runs dms statements asked first space (Reducing m union)
+      → Runs dms statements asked first space Resting

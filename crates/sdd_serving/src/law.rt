@@ -18,11 +18,11 @@ use sdd_laws::sdd_lang::Txn;
 /// however far a run of the exchange has come.
 pub fn law_exchange_serves(catalogue: &Catalogue, txn: &Txn)
     requires { FitsTxn catalogue.now txn.now }
-    ensures { (c ts : ℕ) (ds : List ℕ) (copies : ℕ → CopyRows) (db : Database) (space : Space) (stage : Stage)
-        → HasCopies catalogue.now c txn.now ds copies db
-        → Runs ds txn.now.statements (asked_at catalogue.now c txn.now)
+    ensures { (c ts : ℕ) (dms : List ℕ) (copies : ℕ → CopyRows) (db : Database) (space : Space) (stage : Stage)
+        → HasCopies catalogue.now c txn.now dms copies db
+        → Runs dms txn.now.statements (asked_at catalogue.now c txn.now)
         (frozen_space catalogue.now c txn.now ts copies) space stage
-        → Serves catalogue.now txn.now (all_held ds space) db }
+        → Serves catalogue.now txn.now (all_held dms space) db }
 {
     catalogue.law_is_sound();
 }
@@ -30,11 +30,11 @@ pub fn law_exchange_serves(catalogue: &Catalogue, txn: &Txn)
 /// So what the transaction does to that database follows from the rows that are held.
 pub fn law_shipped_effect(catalogue: &Catalogue, txn: &Txn)
     requires { FitsTxn catalogue.now txn.now }
-    ensures { (c ts : ℕ) (ds : List ℕ) (copies : ℕ → CopyRows) (db : Database) (space : Space) (stage : Stage)
-        → HasCopies catalogue.now c txn.now ds copies db
-        → Runs ds txn.now.statements (asked_at catalogue.now c txn.now)
+    ensures { (c ts : ℕ) (dms : List ℕ) (copies : ℕ → CopyRows) (db : Database) (space : Space) (stage : Stage)
+        → HasCopies catalogue.now c txn.now dms copies db
+        → Runs dms txn.now.statements (asked_at catalogue.now c txn.now)
         (frozen_space catalogue.now c txn.now ts copies) space stage
-        → effect_over catalogue.now (found_for (all_held ds space)) (chosen_for catalogue.now (all_held ds space)) txn.now
+        → effect_over catalogue.now (found_for (all_held dms space)) (chosen_for catalogue.now (all_held dms space)) txn.now
         ≡ effect catalogue.now db txn.now }
 {
     catalogue.law_is_sound();
@@ -50,20 +50,20 @@ pub fn law_arrival(catalogue: &Catalogue, txn: &Txn)
 /// The exchange of an attempt follows a run: from its Start on, with each message that is handed to
 /// it and each that it sends, and with each REDUCE that is handed to one of its modules.
 pub fn law_exchange_follows(catalogue: &Catalogue)
-    ensures start { (table : List table_line.Entry) (c : ℕ) (q : Queued) (own p2 : ℕ) (ds : List ℕ) (first : Space)
-        → Follows ds q.text.statements (asked_at catalogue.now c q.text) first first
-        (begins q.text (map (read_to catalogue.now table c q (uses_of catalogue.now q.text) own p2) ds)) }
-    ensures hand { (ds : List ℕ) (statements : List statement.Stmt) (asked : ℕ → ℕ → Bool) (first : Space) (ts c : ℕ)
+    ensures start { (table : List table_line.Entry) (c : ℕ) (q : Queued) (own p2 : ℕ) (dms : List ℕ) (first : Space)
+        → Follows dms q.text.statements (asked_at catalogue.now c q.text) first first
+        (begins q.text (map (read_to catalogue.now table c q (uses_of catalogue.now q.text) own p2) dms)) }
+    ensures hand { (dms : List ℕ) (statements : List statement.Stmt) (asked : ℕ → ℕ → Bool) (first : Space) (ts c : ℕ)
         (space : Space) (x : Exchange) (d : ℕ) (msg : message.Msg)
-        → Follows ds statements asked first space x → Suits ts c space d x msg
-        → Follows ds statements asked first space (after_hand ts c d msg x) }
-    ensures send { (ds : List ℕ) (statements : List statement.Stmt) (asked : ℕ → ℕ → Bool) (first : Space)
+        → Follows dms statements asked first space x → Suits ts c space d x msg
+        → Follows dms statements asked first space (after_hand ts c d msg x) }
+    ensures send { (dms : List ℕ) (statements : List statement.Stmt) (asked : ℕ → ℕ → Bool) (first : Space)
         (space : Space) (x : Exchange)
-        → Follows ds statements asked first space x → Follows ds statements asked first space (after_send x) }
-    ensures reduce { (ds : List ℕ) (statements : List statement.Stmt) (asked : ℕ → ℕ → Bool) (first : Space)
+        → Follows dms statements asked first space x → Follows dms statements asked first space (after_send x) }
+    ensures reduce { (dms : List ℕ) (statements : List statement.Stmt) (asked : ℕ → ℕ → Bool) (first : Space)
         (space after : Space) (x : Exchange) (m : Move) (d : ℕ)
-        → Follows ds statements asked first space x → x.phase ≡ Reducing m
+        → Follows dms statements asked first space x → x.phase ≡ Reducing m
         → after d ≡ reduced m.target.part m.target.column x.union (space d)
         → ((b : ℕ) → b ≢ d → after b ≡ space b)
-        → Follows ds statements asked first after x }
+        → Follows dms statements asked first after x }
 {}

@@ -6,7 +6,7 @@ pub use Rattle.sdd_attempt.proofs.QuestionsOfAttempt.{NoReads}
 pub use Rattle.sdd_attempt.proofs.Served.{served_handed}
 pub use Rattle.sdd_attempt.proofs.SoundLines.{IsApart, IsRequest, active_apart, asks_apart, commit_no_reads, line_apart, line_committed, line_elsewhere, line_handed, line_redeclared, line_sent, line_started, line_submitted, line_ticked, own_class as own_record, queue_apart, request_of, sent_apart, start_is_up, start_modules, start_no_reads}
 pub use Rattle.sdd_attempt.proofs.Stamps.{stamped_did, stamped_still}
-pub use Rattle.sdd_attempt.proofs.Tries.{tries_told}
+pub use Rattle.sdd_attempt.proofs.Tries.{tries_are_kept}
 pub use Rattle.sdd_attempt.proofs.Waiting.{few_waiting}
 pub use Rattle.sdd_attempt.proofs.exec.Members.{Has-filter_map_from, Has-flat_map_from, Has-map_from}
 pub use Rattle.sdd_attempt.proofs.exec.Serving.{each_has}

@@ -5,8 +5,8 @@ use Rattle.sdd_tm.proofs.Handing.{amid_handed}
 use Rattle.sdd_tm.proofs.Taking.{few_kept, apart_kept, fits_now}
 use Rattle.sdd_tm.proofs.Touching.{calm_handed, calm_given}
 use Rattle.sdd_tm.proofs.Giving.{amid_given}
-use Rattle.sdd_tm.proofs.HeldIsSentOnce.{nothing_due, told_once, told_settled, held_ticked}
-use Rattle.sdd_tm.proofs.Ending.{works_told}
+use Rattle.sdd_tm.proofs.HeldIsSentOnce.{nothing_due, held_is_sent_once, settled_after_held, held_ticked}
+use Rattle.sdd_tm.proofs.Ending.{works_with_held}
 use Rattle.sdd_attempt.specs.catalog.Rules as catalogues
 
 -- what a call has done after an entry that it took in
@@ -14,23 +14,23 @@ pub record Called (taken now : State) (old notes new : Notes) : Type 0 where
   pub settled_state : State
   pub works : Works taken settled_state old notes
   pub settled : AreSettled settled_state
-  pub told_is : now ≡ after_held settled_state
+  pub held_is_sent : now ≡ after_held settled_state
   pub noted_is : new ≡ with_due_act (held_of settled_state) notes
 
 called_works : (taken now : State) (old notes new : Notes) → Called taken now old notes new → Works taken now old new
-called_works taken now old notes new c = rw (c.told_is, c.noted_is) (works_told taken c.settled_state old notes c.works c.settled)
+called_works taken now old notes new c = rw (c.held_is_sent, c.noted_is) (works_with_held taken c.settled_state old notes c.works c.settled)
 
 represents_now : (new : Kept State) (s : Setting) (bases : Bases) (log : Log) → IsTrue new.live → AreSettled new.value
     → held_of new.value ≡ None → IsAmid s bases new.value log → Represents new s log
 represents_now new s bases log live settled none amid =
-    record { live = live; setting = amid.setting; sound = amid.sound; state_is = amid.state_is; settled = settled; told = none }
+    record { live = live; setting = amid.setting; sound = amid.sound; state_is = amid.state_is; settled = settled; held_sent = none }
 
 call_does : (taken : State) (new : Kept State) (old notes all : Notes) (s : Setting) (bases : Bases) (start : Log)
     → IsTrue new.live → Called taken new.value old notes all → IsAmid s bases taken start → DoesMore (next s bases) start old all (Represents new s)
 call_does taken new old notes all s bases start live c amid =
     let r = called_works taken new.value old notes all c s bases start amid in
-    let settled : AreSettled new.value = rw c.told_is (told_settled c.settled_state c.settled) in
-    let none : held_of new.value ≡ None = rw c.told_is (told_once c.settled_state) in
+    let settled : AreSettled new.value = rw c.held_is_sent (settled_after_held c.settled_state c.settled) in
+    let none : held_of new.value ≡ None = rw c.held_is_sent (held_is_sent_once c.settled_state) in
     let represents = represents_now new s bases r.view live settled none r.shown in
     does_from (λ l. l) (next s bases) (λ e l. e ∷ l) (λ e log. refl) start start r.view old all refl r.made
     (nothing_due s bases new.value r.view r.shown.state_is settled none) (Represents new s) (λ log e. subst (Represents new s) (sym e) represents)
@@ -136,7 +136,7 @@ tick_represents old new n e s log st =
       };
       state_is = ap (λ (x : State). record x { clock = ticked x.clock n }) st.state_is;
       settled = st.settled;
-      told = held_ticked old.value (ticked old.value.clock n) st.told;
+      held_sent = held_ticked old.value (ticked old.value.clock n) st.held_sent;
     })
 
 -- before the first message
@@ -168,7 +168,7 @@ new_represents k whole era tm live is valid counts of_whole s e f =
       };
       state_is = state;
       settled = rw is (none_yet (classes_of whole tm.0));
-      told = rw is refl;
+      held_sent = rw is refl;
     }
   where
     none_yet : (cs : List ℕ) (i : ℕ) (x : ClassState) → slice_get (map (first_class whole) cs) i ≡ Some x → class_step false x ≡ None
@@ -193,7 +193,7 @@ redeclared_represents old new era t e s log st of_whole =
       };
       state_is = ap (λ (x : State). record x { era = era; clock = pushed x.clock t }) st.state_is;
       settled = st.settled;
-      told = held_ticked old.value (pushed old.value.clock t) st.told;
+      held_sent = held_ticked old.value (pushed old.value.clock t) st.held_sent;
     })
 
 -- the bound of the clock

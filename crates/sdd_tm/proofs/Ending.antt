@@ -42,13 +42,13 @@ works_on before now place end k step after old notes new works calm here steps i
     ))
 
 -- HELD
-works_told_by : (before now : State) (old notes : Notes) (o : Option Act) → Works before now old notes
+works_with_held_act : (before now : State) (old notes : Notes) (o : Option Act) → Works before now old notes
     → AreSettled now → held_of now ≡ o → Works before (after_held_act now o) old (with_due_act o notes)
-works_told_by before now old notes None works settled e = works
-works_told_by before now old notes (Some act) works settled e =
+works_with_held_act before now old notes None works settled e = works
+works_with_held_act before now old notes (Some act) works settled e =
     works_more before now (record now { owes_held = false }) old notes (with_due_act (Some act) notes) works
     (λ s bases log amid. let t = tells s bases now log act amid settled e in (_, t.is_due, t.notes notes, t.amid))
 
-pub works_told : (before now : State) (old notes : Notes) → Works before now old notes → AreSettled now
+pub works_with_held : (before now : State) (old notes : Notes) → Works before now old notes → AreSettled now
     → Works before (after_held now) old (with_due_act (held_of now) notes)
-works_told before now old notes works settled = works_told_by before now old notes (held_of now) works settled refl
+works_with_held before now old notes works settled = works_with_held_act before now old notes (held_of now) works settled refl

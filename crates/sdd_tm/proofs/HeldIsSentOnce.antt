@@ -31,11 +31,11 @@ class_stays s log c apart =
 
 -- once it is sent
 
-told_amid : (s : Setting) (bases : Bases) (log : Log) → IsAmid s bases (state_of s log) log
+amid_after_held : (s : Setting) (bases : Bases) (log : Log) → IsAmid s bases (state_of s log) log
     → (on_hold (view_of s log) && (list_all is_idle (state_of s log).classes && nat_lt (holds log).helds
     (holds log).holds)) ≡ true
     → IsAmid s bases (record (state_of s log) { owes_held = false }) (Did (held_act s log) ∷ log)
-told_amid s bases log amid h =
+amid_after_held s bases log amid h =
     let act : Act = held_act s log in
     let t : ℕ = bound_of (clock s.site log) in
     let m : Msg = Held (time_at t) in
@@ -92,7 +92,7 @@ tells_of s bases log act amid settled e =
       hand = (holds log).last;
       is_due = held_is_due s bases log settled ∙ due;
       notes = λ n. ap (λ a. with_act a n) (sym r.1);
-      amid = told_amid s bases log amid r.0;
+      amid = amid_after_held s bases log amid r.0;
     }
 
 pub tells : (s : Setting) (bases : Bases) (state : State) (log : Log) (act : Act) → IsAmid s bases state log
@@ -105,11 +105,11 @@ nothing_due s bases state log is settled e = (grind (arith, held_is_due, held_sa
 
 -- and then it isn't due again
 
-pub told_once : (state : State) → held_of (after_held state) ≡ None
-told_once state = (grind arith)
+pub held_is_sent_once : (state : State) → held_of (after_held state) ≡ None
+held_is_sent_once state = (grind arith)
 
-pub told_settled : (state : State) → AreSettled state → AreSettled (after_held state)
-told_settled state settled = (grind arith)
+pub settled_after_held : (state : State) → AreSettled state → AreSettled (after_held state)
+settled_after_held state settled = (grind arith)
 
 -- a tick makes none due
 pub held_ticked : (state : State) (clock : Ticking) → held_of state ≡ None → held_of (record state { clock = clock }) ≡ None

@@ -1,5 +1,5 @@
 -- The loop over the classes of a module: what each step asks for, and what it leaves.
-use Rattle.sdd_tm.proofs.All.{Answer, AreTried, Bases, Bool, ClassState, Commit, IsAmid, IsCalm, IsDatabase, IsServed, List, Log, None, Notes, Send, ServesAt, Setting, Some, Start, State, Step, ToCommit, Works, act_of, ap, arith, class_of, class_step, clock, commits, length, line_step, refl, runs, slice_get, slice_set, state_done, step_at, subst, suc, sym, tries_told, with_due_act, work, ℕ, ◌+◌, ◌<◌, ◌∙◌, ◌∷◌, ◌≡◌, ◌≤◌}
+use Rattle.sdd_tm.proofs.All.{Answer, AreTried, Bases, Bool, ClassState, Commit, IsAmid, IsCalm, IsDatabase, IsServed, List, Log, None, Notes, Send, ServesAt, Setting, Some, Start, State, Step, ToCommit, Works, act_of, ap, arith, class_of, class_step, clock, commits, length, line_step, refl, runs, slice_get, slice_set, state_done, step_at, subst, suc, sym, tries_are_kept, with_due_act, work, ℕ, ◌+◌, ◌<◌, ◌∙◌, ◌∷◌, ◌≡◌, ◌≤◌}
 use Rattle.sdd_tm.proofs.Lists.{of_map}
 use Rattle.sdd_tm.proofs.ClassNumbers.{runs_class}
 use Rattle.sdd_tm.proofs.Dues.{IsStep, starts, step_is}
@@ -45,7 +45,7 @@ pub tried_class : (s : Setting) (bases : Bases) (state : State) (log : Log) (pla
 tried_class s bases state log place k amid e =
     let o = of_log s bases state log place k amid e in
     subst (λ (st : State). AreTried st.clock.ticks k.line.queue) amid.state_is
-    (subst (λ (x : ClassState). AreTried (clock s.site log).ticks x.line.queue) o.is (tries_told s o.number log))
+    (subst (λ (x : ClassState). AreTried (clock s.site log).ticks x.line.queue) o.is (tries_are_kept s o.number log))
 
 pub catalogue_class : (s : Setting) (bases : Bases) (state : State) (log : Log) (place : ℕ) (k : ClassState)
     → IsAmid s bases state log → slice_get state.classes place ≡ Some k → s.catalogue ≡ k.line.catalogue

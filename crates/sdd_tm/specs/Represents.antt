@@ -58,7 +58,7 @@ pub record Represents (k : Kept State) (s : Setting) (log : Log) : Type 0 where
   pub sound : IsSoundLog s log
   pub state_is : state_of s log ≡ k.value
   pub settled : AreSettled k.value
-  pub told : held_of k.value ≡ None
+  pub held_sent : held_of k.value ≡ None
 
 -- within a call
 

@@ -5,7 +5,7 @@ pub use Rattle.sdd_attempt.proofs.LineSteps.{commits, has_to_send, none_due}
 pub use Rattle.sdd_attempt.proofs.Served.{served_handed}
 pub use Rattle.sdd_attempt.proofs.SoundLines.{IsApart, IsRequest, commit_no_reads, line_apart, line_committed, line_handed, line_sent, line_started, line_submitted, request_of, sent_apart, start_is_up, start_modules}
 pub use Rattle.sdd_attempt.proofs.Stamps.{no_sooner_hand, stamped_did, stamped_still}
-pub use Rattle.sdd_attempt.proofs.Tries.{tries_told}
+pub use Rattle.sdd_attempt.proofs.Tries.{tries_are_kept}
 pub use Rattle.sdd_attempt.proofs.Waiting.{few_waiting, fewer_committed}
 pub use Rattle.sdd_attempt.proofs.catalog.Found.{both_empty, each_unfound}
 pub use Rattle.sdd_attempt.proofs.catalog.Sound.{at_number, each_image, sound_fragments}

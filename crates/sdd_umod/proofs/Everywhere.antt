@@ -33,7 +33,7 @@ found_of cat f (d ∷ rest) is some within =
     let low : 1 ≤ d.0 = within.0.0 in
     let high : d.0 ≤ cat.dms = within.0.1 in
     found_within (λ dm. has_copy cat dm f) 1 cat.dms d.0 low (omega arith)
-    (ap (λ ds. list_any (λ (x : DmNo). x.0 == d.0) ds) is ∙ or_left (d.0 == d.0) (list_any (λ (x : DmNo). x.0 == d.0) rest) (eq-eqb d.0 d.0 refl))
+    (ap (λ dms. list_any (λ (x : DmNo). x.0 == d.0) dms) is ∙ or_left (d.0 == d.0) (list_any (λ (x : DmNo). x.0 == d.0) rest) (eq-eqb d.0 d.0 refl))
 
 all_somewhere : (cat : Catalogue) (fs : List ℕ) → IsSoundCatalogue cat → AllByRecursion (IsThere cat) fs → list_all (λ f. is_some (reads_at cat 0 f)) fs ≡ true
 all_somewhere cat [] sound all = refl

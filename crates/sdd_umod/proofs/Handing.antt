@@ -2,7 +2,7 @@
 use Rattle.sdd_umod.proofs.All.{Attempt, AwaitsAt, Bases, Bool, Handed, HaveRoom, InTurn, IsAmid, IsAwaited, IsEarly, IsKept, IsSetting, IsSoundLog, Line, List, Log, Msg, None, Option, Phase, Served, Setting, Site, State, Ticking, TmCounts, Values, active, active_handed, ap, arith, clock, clock_after_message, counts, fetches_use, few_waiting, fits, fits_kind, last_served, left_is_few, line_handed, line_of, line_step, map, map_twice, no_sooner_hand, numbers_to, of_line, pushed_by, queue, refl, resting, running, served_after_message, served_handed, served_now, stamped_still, started, starts_left, state_handed, state_of, step_of, submits, subst, ℕ, ◌+◌, ◌<◌, ◌^◌, ◌∙◌, ◌∷◌, ◌≡◌, ◌≤◌}
 use Rattle.sdd_umod.proofs.Lists.{or_nothing, get_map_of}
 use Rattle.sdd_umod.proofs.Dues.{line_none}
-use Rattle.sdd_umod.proofs.Turns.{tm_told, turn_held}
+use Rattle.sdd_umod.proofs.Turns.{counts_tm, turn_held}
 use Rattle.sdd_umod.specs.State.{served_of}
 use Rattle.sdd_umod.specs.declared.tm_count.Sign.TheVariants as signs
 
@@ -38,7 +38,7 @@ pub sound_handed : (s : Setting) (bases : Bases) (log : Log) (from : Site) (m : 
 sound_handed s bases log from m f sound = record {
   line = line_handed s bases 0 log from m (grind arith) sound.line;
   stamped = stamped_still s log (Handed from m) refl sound.stamped;
-  turns = λ t. rw (commits_same m (last_served s log)) (grind (arith, turn_held, tm_told));
+  turns = λ t. rw (commits_same m (last_served s log)) (grind (arith, turn_held, counts_tm));
   started = record {
     few = omega (arith, sound.started.few, running_handed from m (active s 0 log), (no_sooner_hand m (clock s.site log)).0, commits_same m (last_served s log));
   };

@@ -1,5 +1,5 @@
 -- The loop of a call: what each step asks for, and what it leaves.
-use Rattle.sdd_umod.proofs.All.{AreTried, Bases, Commit, Did, HaveRoom, IsAmid, IsDatabase, Log, None, Notes, ServesAt, Setting, Some, Start, State, Step, Works, act_of, after, ap, arith, clock, commits, made_more, made_nothing, next, refl, served_of, state_done, step_of, subst, sym, tries_told, with_act, with_due_act, work, ℕ, ◌+◌, ◌<◌, ◌^◌, ◌∙◌, ◌∷◌, ◌≡◌}
+use Rattle.sdd_umod.proofs.All.{AreTried, Bases, Commit, Did, HaveRoom, IsAmid, IsDatabase, Log, None, Notes, ServesAt, Setting, Some, Start, State, Step, Works, act_of, after, ap, arith, clock, commits, made_more, made_nothing, next, refl, served_of, state_done, step_of, subst, sym, tries_are_kept, with_act, with_due_act, work, ℕ, ◌+◌, ◌<◌, ◌^◌, ◌∙◌, ◌∷◌, ◌≡◌}
 use Rattle.sdd_umod.proofs.Dues.{step_is}
 use Rattle.sdd_umod.proofs.Acting.{makes}
 use Rattle.sdd_umod.proofs.Handing.{counts_room}
@@ -22,7 +22,7 @@ pub of_class : (now : State) → Somewhere now → now.line.class ≡ 0
 of_class now at = sym (ap (λ (st : State). st.line.class) at.amid.state_is)
 
 pub are_tried : (now : State) → Somewhere now → AreTried now.clock.ticks now.line.queue
-are_tried now at = subst (λ (st : State). AreTried st.clock.ticks st.line.queue) at.amid.state_is (tries_told at.setting 0 at.log)
+are_tried now at = subst (λ (st : State). AreTried st.clock.ticks st.line.queue) at.amid.state_is (tries_are_kept at.setting 0 at.log)
 
 pub commits_few : (now : State) → Somewhere now → now.served.commits + 1 < 2 ^ 60
 commits_few now at = grind (arith, at.amid.sound.started.few, at.amid.state_is)

@@ -8,9 +8,9 @@ use Rattle.sdd_umod.specs.declared.tm_count.Sign.TheVariants as signs
 pub tm_handed : (from : Site) (m : Msg) (k : TmCounts) → (counts_handed from m k).tm ≡ k.tm
 tm_handed from m k = grind (arith)
 
-pub tm_told : (t : ℕ) (log : Log) → (counts t log).tm ≡ t
-tm_told t [] = refl
-tm_told t (e ∷ log) = grind (arith, tm_handed, tm_told t log)
+pub counts_tm : (t : ℕ) (log : Log) → (counts t log).tm ≡ t
+counts_tm t [] = refl
+counts_tm t (e ∷ log) = grind (arith, tm_handed, counts_tm t log)
 
 -- one message more, of the T that has so many
 
@@ -29,4 +29,4 @@ turn_commit commits k turn = let low = turn.committed in record { committed = om
 
 -- the counts of a T that is found among all have its number
 pub own_counts : (log : Log) (t u : ℕ) (k : TmCounts) → counts t log ≡ k → k.tm ≡ (counts u log).tm → counts u log ≡ k
-own_counts log t u k is same = ap (λ n. counts n log) (sym (tm_told u log) ∙ sym same ∙ ap (λ (x : TmCounts). x.tm) (sym is) ∙ tm_told t log) ∙ is
+own_counts log t u k is same = ap (λ n. counts n log) (sym (counts_tm u log) ∙ sym same ∙ ap (λ (x : TmCounts). x.tm) (sym is) ∙ counts_tm t log) ∙ is

@@ -1,4 +1,4 @@
--- For which logs the module for undeclared transactions stands, and what holds between the acts of a call.
+-- Which logs the module for undeclared transactions represents, and what holds between the acts of a call.
 use Rattle.std.specs.Prelude.{ℕ, suc, ◌+◌, ◌<◌, ◌≤◌, ◌^◌, ◌≡◌, IsTrue, Option, Some, None}
 use Rattle.sdd_attempt.specs.All.{AreStamped, Attempt, Bases, IsDatabase, IsLineOf, IsServed, IsWhole, Kept, Log, Setting, active, clock, starts_left}
 use Rattle.sdd_attempt.specs.catalog.Rules as catalogues

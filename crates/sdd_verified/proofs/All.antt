@@ -54,11 +54,11 @@ pub use Rattle.sdd_obligations.specs.serial_orders.SerialOrder.{serial_order}
 pub use Rattle.sdd_verified.specs.Lines.{tells_pending}
 pub use Rattle.sdd_verified.specs.Parts.{all_pending_words, all_shipped_words, answers_words, copies_words, copy_words, order_words, outcome_words, pending_words, queries_words, query_words, replies_words, reply_words, row_words, rows_words, shipped_words}
 pub use Rattle.sdd_verified.specs.Summaries.{SettleAll, TellsAllDone, takes_down}
-pub use Rattle.sdd_verified.specs.Tellings.{TellAlike, TellOfTheSame, copies_told, pending_names, pending_numbers}
+pub use Rattle.sdd_verified.specs.Tellings.{TellAlike, TellOfTheSame, pending_names, pending_numbers, reported_copies}
 pub use Rattle.sdd_verify.proofs.DifferentNames.{some_is}
 pub use Rattle.sdd_verify.proofs.LineCuts.{IsWhole, cut_are_lines, whole_empty, whole_ended, whole_is}
 pub use Rattle.sdd_verify.proofs.LinesFound.{IsOther}
-pub use Rattle.sdd_verify.proofs.NamesTold.{IsThere, member_at, name_in}
+pub use Rattle.sdd_verify.proofs.NumbersOfNames.{IsThere, member_at, name_in}
 pub use Rattle.sdd_verify.proofs.OrderWords.{behind_spaces}
 pub use Rattle.sdd_verify.proofs.Submissions.{found_member}
 pub use Rattle.sdd_verify.proofs.VerifiedReports.{name_line, verified_yes}
@@ -70,7 +70,7 @@ pub use Rattle.sdd_verify.specs.Verified.{IsInTurn, IsVerified, at}
 pub use Rattle.sdd_verify.specs.declared.limits.TheConstants.{MAX_REPORT_BYTES}
 pub use Rattle.sdd_watch.proofs.run.ErasWithTables.{list_at as list_at_number}
 pub use Rattle.sdd_watch.proofs.run.Goods.{few_ticks}
-pub use Rattle.sdd_watch.proofs.run.Left.{told_rows}
+pub use Rattle.sdd_watch.proofs.run.Left.{copy_rows_are}
 pub use Rattle.sdd_watch.proofs.run.Lossless.{listed_submits}
 pub use Rattle.sdd_watch.proofs.run.Marked.{named as named_by_events}
 pub use Rattle.sdd_watch.proofs.run.Ordered.{orderable, starts}
@@ -105,7 +105,7 @@ pub use Rattle.sdd_watch.specs.run.make.Turns.{deliveries, delivery, drawn_event
 pub use Rattle.sdd_watch.specs.run.progress.Committed.{AllCommitted}
 pub use Rattle.sdd_watch.specs.run.progress.Eras.{eras_of}
 pub use Rattle.sdd_watch.specs.run.progress.lawful.SoundInput.{AreErasOf, HasSoundData}
-pub use Rattle.sdd_watch.specs.run.report.Committed.{Told, names_of, order_line, shipped_line, shipped_of, told_of}
+pub use Rattle.sdd_watch.specs.run.report.Committed.{ReportedCommit, names_of, order_line, reported_of, shipped_line, shipped_of}
 pub use Rattle.sdd_watch.specs.run.report.Copies.{copies_lines, copy_lines, place_words}
 pub use Rattle.sdd_watch.specs.run.report.Names.{attempt_word, class_time, class_word, fragment_name, module_word, site_word, spaced, txn_name}
 pub use Rattle.sdd_watch.specs.run.report.Pending.{pending_line, pending_lines, why_words}

@@ -1,6 +1,6 @@
 -- What holds of all numbers of 64 bits, and of each value that a workload allows, holds of the values in the replies and in
 -- the copies that a report on its run tells.
-use Rattle.sdd_verified.proofs.All.{Add, All, All-at, All-head, All-tail, AllByRecursion, Assign, AssignsValue, Catalogue, Contains, CopyTable, HoldsValues, Input, Int, IsReportOn, IsSoundCatalogue, IsValid, IsValidRow, IsValidTxn, IsValue, List, None, Option, Put, RelNo, Row, Some, Stmt, To, Txn, TxnNo, Update, Value, Workload, [], cons_option, database_of, eras_are, eras_of, fine, history, in_range, input_of, length, lists, permitted, recursion_from_All, refl, run, serial_order, subst, sym, tables_of, told_rows, true, txn_at, whole_in, ℕ, ℤ, ◌-◌, ◌∷◌, ◌≡◌}
+use Rattle.sdd_verified.proofs.All.{Add, All, All-at, All-head, All-tail, AllByRecursion, Assign, AssignsValue, Catalogue, Contains, CopyTable, HoldsValues, Input, Int, IsReportOn, IsSoundCatalogue, IsValid, IsValidRow, IsValidTxn, IsValue, List, None, Option, Put, RelNo, Row, Some, Stmt, To, Txn, TxnNo, Update, Value, Workload, [], cons_option, copy_rows_are, database_of, eras_are, eras_of, fine, history, in_range, input_of, length, lists, permitted, recursion_from_All, refl, run, serial_order, subst, sym, tables_of, true, txn_at, whole_in, ℕ, ℤ, ◌-◌, ◌∷◌, ◌≡◌}
 use Rattle.sdd_verified.proofs.CleanCopies.{copy_holds}
 use Rattle.sdd_verified.proofs.ValuesKept.{Assigns, Answers, Hold, Holds, Writes, WritesAll, first_holds, serial_answers}
 use Rattle.sdd_obligations.specs.laws.Replay.{texts_of}
@@ -58,7 +58,8 @@ module _ (P : Value → Type 0) (ints : (n : ℤ) → in_range n ≡ true → P 
         let g : Input = input_of cat r.tables work in
         let goods = fine cat r.tables work sound valid r.tables_are in
         let may = permitted cat r.tables work sound valid r.tables_are r.log r.log_is in
-        subst (Hold P ints) (sym (told_rows g work.rows r.log sound goods may (lists cat r.tables work sound valid r.tables_are r.log r.log_is) table there))
+        subst (Hold P ints) (sym
+        (copy_rows_are g work.rows r.log sound goods may (lists cat r.tables work sound valid r.tables_are r.log r.log_is) table there))
         (copy_holds P ints g work.rows (eras_of (input_of cat r.tables work) r.log) r.log sound goods may
         (eras_are cat r.tables work sound valid r.tables_are r.log r.log_is) (serial_order whole (history r.log)) r.serial
         (rows_given cat work.rows valid.rows) writes table.dm.0 (length (history r.log)) table.frag.0)

@@ -47,8 +47,8 @@ unfolding faults_of
 bank_is_sound = record { valid = refl; same = refl }
 
 pub made_summed : (seed n : ℕ) (text : List ℕ) → n ≤ MAX_TXNS → IsSummaryOn bank (workload_of seed n) text → TellsAllDone n text
-made_summed seed n text few told =
+made_summed seed n text few summed =
     let count : length (txns_of (turns_of seed n)) ≡ n = txns_count n 1 seed in
     subst (λ m. TellsAllDone m text) count
     (all_summed bank (workload_of seed n) text (whole_sound bank (workload_of seed n) bank_is_sound (workload_valid seed n few)) (workload_valid seed n few)
-    (subst (λ m. SettleAll m (workload_of seed n).events) (sym count) (made_settles seed n)) told)
+    (subst (λ m. SettleAll m (workload_of seed n).events) (sym count) (made_settles seed n)) summed)

@@ -2,7 +2,7 @@
 use Rattle.sdd_verified.proofs.All.{All, AllByRecursion, AreNamed, Catalogue, CopyTable, HasNoSpace, IsName, IsReportOn, IsSoundCatalogue, IsValid, List, None, Option, Reply, Report, Some, TellAlike, Txn, TxnNo, Workload, [], ap, append_cancel_right, classes_in, codes, copies_words, found_member, history, length, name_fine, names_of, option_map_or, order_of, order_words, plain_spaceless, refl, replies_words, slice_get, sym, txn_name, whole_in, whole_named, whole_over, whole_sound, ℕ, ◌++◌, ◌-◌, ◌∙◌, ◌∷◌, ◌≡◌}
 use Rattle.sdd_verified.proofs.PartsBack.{copies_back, is_pending, is_reply, is_shipped, order_back, parted, pending_back, replies_back, same_first}
 use Rattle.sdd_verified.proofs.PassingLines.{pending_pass, replies_pass, shipped_pass}
-use Rattle.sdd_verified.proofs.ReportParts.{answers_told, behind_pending, behind_replies, behind_shipped, copies_values, happened, is_numbered, kept, lines_are, names, replies, replies_long, shipped, tells, trace_passes, waiting}
+use Rattle.sdd_verified.proofs.ReportParts.{answers_are_given, behind_pending, behind_replies, behind_shipped, copies_values, happened, is_numbered, kept, lines_are, names, replies, replies_long, shipped, tells, trace_passes, waiting}
 use Rattle.sdd_verified.proofs.Reported.{names_of_txns}
 
 -- names
@@ -71,7 +71,7 @@ one_text cat work other text sound named valid fine one two =
     record {
       order = same_names;
       replies = replies_back names1 replies1 replies2 (replies_long cat work text sound1 named1 valid one) long2
-          (answers_told cat work text sound1 named1 valid one) (answers_told cat other text sound2 named2 fine two)
+          (answers_are_given cat work text sound1 named1 valid one) (answers_are_given cat other text sound2 named2 fine two)
           (c.0 ∙ ap (λ (l : List (List ℕ)). replies_words l replies2) (sym same_names));
       pending = pending_back (whole_in cat work) (whole_in cat other) work.txns other.txns
           (spaceless work.txns txns1) (spaceless other.txns txns2) tells1.pending tells2.pending e.0;

@@ -1,5 +1,5 @@
 -- The lines of a report give back what they tell.
-use Rattle.sdd_verified.proofs.All.{AllByRecursion, AllWords, Bool, Catalogue, CopyTable, HasNoSpace, Int, IsPlain, List, Overflow, Pending, Plain, Reply, Row, Rows, Some, Text, TooMany, Txn, Value, [], all_pending_words, answers_words, ap, append_assoc, append_cancel_left, append_cancel_right, arith, codes, cond, copies_told, copies_words, copy_words, decimal, decimal_injective, digit_glyph, digits_onto, false, flat_map, in_range, length, line_bytes, mag, map, more_bytes, order_words, outcome_words, pending_names, pending_words, place_words, queries_words, query_words, refl, replies_words, row_words, rows_words, scan, scan_again, signed_decimal, spaced, subst, suc, sym, true, txn_name, value_bytes, value_word, why_words, word_bytes, zero, ℕ, ℤ, ◌%◌, ◌*◌, ◌++◌, ◌+◌, ◌/◌, ◌==◌, ◌^◌, ◌||◌, ◌∙◌, ◌∷◌, ◌≡◌, ◌≤◌}
+use Rattle.sdd_verified.proofs.All.{AllByRecursion, AllWords, Bool, Catalogue, CopyTable, HasNoSpace, Int, IsPlain, List, Overflow, Pending, Plain, Reply, Row, Rows, Some, Text, TooMany, Txn, Value, [], all_pending_words, answers_words, ap, append_assoc, append_cancel_left, append_cancel_right, arith, codes, cond, copies_words, copy_words, decimal, decimal_injective, digit_glyph, digits_onto, false, flat_map, in_range, length, line_bytes, mag, map, more_bytes, order_words, outcome_words, pending_names, pending_words, place_words, queries_words, query_words, refl, replies_words, reported_copies, row_words, rows_words, scan, scan_again, signed_decimal, spaced, subst, suc, sym, true, txn_name, value_bytes, value_word, why_words, word_bytes, zero, ℕ, ℤ, ◌%◌, ◌*◌, ◌++◌, ◌+◌, ◌/◌, ◌==◌, ◌^◌, ◌||◌, ◌∙◌, ◌∷◌, ◌≡◌, ◌≤◌}
 use Rattle.std.specs.Fmt.{digits}
 use Rattle.sdd_verified.proofs.ReportLines.{decimal_is, glyph_apart}
 use Rattle.sdd_verified.proofs.ValuesKept.{Answers, Hold, Holds}
@@ -93,12 +93,12 @@ no_minus n m e =
     let first = s.0 in let least = d.least in omega (arith, first, least)
 
 -- a number of 64 bits, or a text
-abbrev pub IsTold : Value → Type 0
-IsTold (Int n) = mag n ≤ 2 ^ 63
-IsTold (Text t) = Unit {0}
+abbrev pub FitsReport : Value → Type 0
+FitsReport (Int n) = mag n ≤ 2 ^ 63
+FitsReport (Text t) = Unit {0}
 
-pub ints_told : (n : ℤ) → in_range n ≡ true → IsTold (Int n)
-ints_told n fits = grind arith
+pub ints_fit_report : (n : ℤ) → in_range n ≡ true → FitsReport (Int n)
+ints_fit_report n fits = grind arith
 
 number_back : (a b : ℤ) → mag a ≤ 2 ^ 63 → mag b ≤ 2 ^ 63 → signed_decimal a ≡ signed_decimal b → a ≡ b
 number_back a b h k e = grind (arith, decimal_injective, no_minus)
@@ -106,15 +106,15 @@ number_back a b h k e = grind (arith, decimal_injective, no_minus)
 -- rows give back their values
 
 abbrev pub AreAllValues : List Row → Type 0
-AreAllValues rows = Hold IsTold ints_told rows
+AreAllValues rows = Hold FitsReport ints_fit_report rows
 
 abbrev AreValues : Row → Type 0
-AreValues row = Holds IsTold ints_told row
+AreValues row = Holds FitsReport ints_fit_report row
 
 plain_is : (a b : List ℕ) → Plain a ≡ Plain b → a ≡ b
 plain_is a b e = cc
 
-value_back : (v w : Value) → IsTold v → IsTold w → value_word v ≡ value_word w → v ≡ w
+value_back : (v w : Value) → FitsReport v → FitsReport w → value_word v ≡ value_word w → v ≡ w
 value_back (Int a) (Int b) h k e = ap (λ n. Int n) (number_back a b h k (plain_is (signed_decimal a) (signed_decimal b) e))
 value_back (Text s) (Text t) h k e = cc
 value_back _ _ h k e = cc
@@ -166,7 +166,7 @@ behind_rows rows others xs ys h k f g e = grind (arith, parted, rows_pass, rows_
 -- replies
 
 abbrev pub AreAnswers : Reply → Type 0
-AreAnswers reply = Answers IsTold ints_told reply
+AreAnswers reply = Answers FitsReport ints_fit_report reply
 
 -- a line that begins a reply, or none
 abbrev EndsAnswers : List (List ℕ) → Type 0
@@ -279,7 +279,7 @@ copies_end cat (table ∷ copies) = refl
 
 pub copies_back : (cat : Catalogue) (copies others : List CopyTable) → AllByRecursion (λ (t : CopyTable). AreAllValues t.rows) copies
     → AllByRecursion (λ (t : CopyTable). AreAllValues t.rows) others → copies_words cat copies ≡ copies_words cat others
-    → copies_told cat copies ≡ copies_told cat others
+    → reported_copies cat copies ≡ reported_copies cat others
 copies_back cat [] [] h k e = refl
 copies_back cat (t ∷ copies) (o ∷ others) h k e =
     let s = same_first (copy_words cat t) (copy_words cat o) (rows_words t.rows ++ copies_words cat copies) (rows_words o.rows ++ copies_words cat others) e in
@@ -287,6 +287,6 @@ copies_back cat (t ∷ copies) (o ∷ others) h k e =
     let many : copy_words cat o ≡ place_words cat o.dm.0 o.frag.0 ++ spaced (decimal (length t.rows)) =
     ap (λ rows. place_words cat o.dm.0 o.frag.0 ++ spaced (decimal (length rows))) (sym r.0) in
     let place = append_cancel_right (place_words cat t.dm.0 t.frag.0) (place_words cat o.dm.0 o.frag.0) (spaced (decimal (length t.rows))) (s.0 ∙ many) in
-    ap (λ x. (x, t.rows) ∷ copies_told cat copies) place ∙ ap (λ rows. (place_words cat o.dm.0 o.frag.0, rows) ∷ copies_told cat copies) r.0
+    ap (λ x. (x, t.rows) ∷ reported_copies cat copies) place ∙ ap (λ rows. (place_words cat o.dm.0 o.frag.0, rows) ∷ reported_copies cat copies) r.0
     ∙ ap (λ l. (place_words cat o.dm.0 o.frag.0, o.rows) ∷ l) (copies_back cat copies others h.1 k.1 r.1)
 copies_back cat _ _ h k e = cc

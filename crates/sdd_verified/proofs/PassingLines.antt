@@ -1,5 +1,5 @@
 -- Tests that all lines of a part of a report pass, or that the first of them fails.
-use Rattle.sdd_verified.proofs.All.{Bool, Catalogue, CopyTable, List, None, Option, Overflow, Pending, Rec, Reply, Row, Rows, Some, Told, TooMany, Txn, TxnNo, [], all_pending_words, all_shipped_words, append_assoc, codes, copies_words, copy_words, false, queries_words, query_words, replies_words, rows_words, shipped_words, subst, sym, told_of, true, ℕ, ◌++◌, ◌+◌, ◌∷◌, ◌≡◌}
+use Rattle.sdd_verified.proofs.All.{Bool, Catalogue, CopyTable, List, None, Option, Overflow, Pending, Rec, Reply, ReportedCommit, Row, Rows, Some, TooMany, Txn, TxnNo, [], all_pending_words, all_shipped_words, append_assoc, codes, copies_words, copy_words, false, queries_words, query_words, replies_words, reported_of, rows_words, shipped_words, subst, sym, true, ℕ, ◌++◌, ◌+◌, ◌∷◌, ◌≡◌}
 use Rattle.sdd_verified.proofs.PartsBack.{AllPass, FirstFails}
 
 module _ (p : List ℕ → Bool) where
@@ -30,7 +30,7 @@ module _ (p : List ℕ → Bool) where
 
   -- what was shipped
 
-  shipped_by : ((line : List ℕ) → p (codes "shipped" ++ line) ≡ true) → (txns : List Txn) (n : TxnNo) (o : Option Told) (rest : List (List ℕ))
+  shipped_by : ((line : List ℕ) → p (codes "shipped" ++ line) ≡ true) → (txns : List Txn) (n : TxnNo) (o : Option ReportedCommit) (rest : List (List ℕ))
       → AllPass p rest → AllPass p (shipped_words txns n o ++ rest)
   shipped_by f txns n None rest h = h
   shipped_by f txns n (Some t) rest h = (f _, h)
@@ -38,9 +38,9 @@ module _ (p : List ℕ → Bool) where
   pub shipped_pass : ((line : List ℕ) → p (codes "shipped" ++ line) ≡ true) → (txns : List Txn) (h : List (ℕ × Rec)) (order : List TxnNo)
       → AllPass p (all_shipped_words txns h order)
   shipped_pass f txns h [] = tt
-  shipped_pass f txns h (n ∷ order) = shipped_by f txns n (told_of h n.0) (all_shipped_words txns h order) (shipped_pass f txns h order)
+  shipped_pass f txns h (n ∷ order) = shipped_by f txns n (reported_of h n.0) (all_shipped_words txns h order) (shipped_pass f txns h order)
 
-  first_shipped_by : ((line : List ℕ) → p (codes "shipped" ++ line) ≡ false) → (txns : List Txn) (n : TxnNo) (o : Option Told) (rest : List (List ℕ))
+  first_shipped_by : ((line : List ℕ) → p (codes "shipped" ++ line) ≡ false) → (txns : List Txn) (n : TxnNo) (o : Option ReportedCommit) (rest : List (List ℕ))
       → FirstFails p rest → FirstFails p (shipped_words txns n o ++ rest)
   first_shipped_by f txns n None rest h = h
   first_shipped_by f txns n (Some t) rest h = f _
@@ -48,7 +48,7 @@ module _ (p : List ℕ → Bool) where
   pub first_shipped : ((line : List ℕ) → p (codes "shipped" ++ line) ≡ false) → (txns : List Txn) (h : List (ℕ × Rec)) (order : List TxnNo)
       → FirstFails p (all_shipped_words txns h order)
   first_shipped f txns h [] = tt
-  first_shipped f txns h (n ∷ order) = first_shipped_by f txns n (told_of h n.0) (all_shipped_words txns h order) (first_shipped f txns h order)
+  first_shipped f txns h (n ∷ order) = first_shipped_by f txns n (reported_of h n.0) (all_shipped_words txns h order) (first_shipped f txns h order)
 
   -- the pending transactions
 

@@ -1,5 +1,5 @@
 -- The lines of a report: none of its trace tells an order, and what follows the replies begins with a line of no reply.
-use Rattle.sdd_verified.proofs.All.{All, All-cons, All-nil, AreLines, Catalogue, Class, Cond, CopyTable, HasNoNewline, IsName, IsOther, List, None, Option, Pending, Rec, Some, Told, Ts, Txn, TxnNo, [], append_assoc, arith, attempt_word, class_time, class_word, codes, cond, cond_words, copies_lines, decimal, digit_glyph, digits_onto, false, flat_map, found_member, is_order_line, module_word, name_line, nat_tests, ne_eqb, no_newline-append, of_attempt, of_visit, option_map_or, pending_lines, record_words, refl, rules, shipped_line, shipped_of, slice_get, spaced, spelled_lines, subst, suc, sym, tells_reply, time_word, told_of, trace, true, txn_name, zero, ℕ, ◌%◌, ◌++◌, ◌+◌, ◌-◌, ◌/◌, ◌<◌, ◌==◌, ◌∷◌, ◌≡◌, ◌≢◌, ◌≤◌}
+use Rattle.sdd_verified.proofs.All.{All, All-cons, All-nil, AreLines, Catalogue, Class, Cond, CopyTable, HasNoNewline, IsName, IsOther, List, None, Option, Pending, Rec, ReportedCommit, Some, Ts, Txn, TxnNo, [], append_assoc, arith, attempt_word, class_time, class_word, codes, cond, cond_words, copies_lines, decimal, digit_glyph, digits_onto, false, flat_map, found_member, is_order_line, module_word, name_line, nat_tests, ne_eqb, no_newline-append, of_attempt, of_visit, option_map_or, pending_lines, record_words, refl, reported_of, rules, shipped_line, shipped_of, slice_get, spaced, spelled_lines, subst, suc, sym, tells_reply, time_word, trace, true, txn_name, zero, ℕ, ◌%◌, ◌++◌, ◌+◌, ◌-◌, ◌/◌, ◌<◌, ◌==◌, ◌∷◌, ◌≡◌, ◌≢◌, ◌≤◌}
 use Rattle.std.specs.Fmt.{digits}
 use Rattle.sdd_obligations.specs.history.declared.record.Rec.TheVariants as records
 
@@ -166,8 +166,8 @@ pub record Begins (text : List ℕ) : Type 0 where
 end_begins : Begins (codes "end\n")
 end_begins = record { first = 101; rest = _; is = refl; none = (λ e. omega (arith, e), λ rest. refl) }
 
-shipped_by : (txns : List Txn) (n : TxnNo) (o : Option Told) (rest : List ℕ) → Begins rest
-    → Begins (option_map_or (λ (told : Told). shipped_line (txn_name txns n.0) told) o [] ++ rest)
+shipped_by : (txns : List Txn) (n : TxnNo) (o : Option ReportedCommit) (rest : List ℕ) → Begins rest
+    → Begins (option_map_or (λ (reported : ReportedCommit). shipped_line (txn_name txns n.0) reported) o [] ++ rest)
 shipped_by txns n o rest h = grind arith
 
 all_shipped : (txns : List Txn) (history : List (ℕ × Rec)) (order : List TxnNo) (rest : List ℕ)
@@ -175,7 +175,7 @@ all_shipped : (txns : List Txn) (history : List (ℕ × Rec)) (order : List TxnN
 all_shipped txns history [] rest h = h
 all_shipped txns history (n ∷ order) rest h =
     subst Begins (sym (append_assoc (shipped_of txns history n) (flat_map (shipped_of txns history) order) rest))
-    (shipped_by txns n (told_of history n.0) (flat_map (shipped_of txns history) order ++ rest) (all_shipped txns history order rest h))
+    (shipped_by txns n (reported_of history n.0) (flat_map (shipped_of txns history) order ++ rest) (all_shipped txns history order rest h))
 
 all_pending : (cat : Catalogue) (txns : List Txn) (pending : List Pending) (rest : List ℕ) → Begins rest → Begins (pending_lines cat txns pending ++ rest)
 all_pending cat txns [] rest h = h

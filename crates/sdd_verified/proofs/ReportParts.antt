@@ -1,7 +1,7 @@
 -- A report, by its lines.
 use Rattle.sdd_verified.proofs.All.{All, AllByRecursion, AllZip, AreNamed, Bool, Catalogue, CopyTable, IsName, IsReplyOf, IsReportOn, IsSoundCatalogue, IsValid, IsValue, List, Rec, Reply, Report, Txn, TxnNo, Value, Workload, [], all_by_member, all_pending_words, all_shipped_words, ap, arith, codes, copies_lines, copies_words, copy_words, cut_again, cut_lines, false, history, input_of, length, length-map, lt-ltb, names_of, nat_lt, order_line, order_words, pending_lines, record_words, refl, replies_along, replies_words, report_of, run, serial_order, spaced, subst, suc, sym, trace, true, txn_name, value_fine, whole_in, ℕ, ◌++◌, ◌∙◌, ◌∷◌, ◌≡◌, ◌≤◌}
 use Rattle.sdd_verified.proofs.GivenValues.{answers_given, copied_given}
-use Rattle.sdd_verified.proofs.PartsBack.{AllPass, AreAllValues, AreAnswers, FirstFails, IsTold, fails_on, ints_told, is_pending, is_reply, is_shipped}
+use Rattle.sdd_verified.proofs.PartsBack.{AllPass, AreAllValues, AreAnswers, FirstFails, FitsReport, fails_on, ints_fit_report, is_pending, is_reply, is_shipped}
 use Rattle.sdd_verified.proofs.PassingLines.{first_copy, first_pending, first_shipped}
 use Rattle.sdd_verified.proofs.ReportLines.{decimal_is, lines_in}
 use Rattle.sdd_verified.proofs.Reported.{names_of_txns}
@@ -13,9 +13,9 @@ use Rattle.sdd_verified.proofs.ValuesKept.{Hold}
 clean : (v : Value) → IsValue v → IsClean v
 clean v h = (value_fine v h).line
 
--- numbers of 64 bits, and values of workloads, are told as they are
-told : (v : Value) → IsValue v → IsTold v
-told v h = grind arith
+-- numbers of 64 bits, and values of workloads, are reported as they are
+fits_report : (v : Value) → IsValue v → FitsReport v
+fits_report v h = grind arith
 
 -- a line that begins with a digit
 abbrev pub is_numbered : List ℕ → Bool
@@ -83,7 +83,7 @@ module _ (cat : Catalogue) (work : Workload) (text : List ℕ) (sound : IsSoundC
       (order_line work.txns order) _ (order_spells whole work.txns c f txns_named order) answered in
       let everything = spells_both happened (order_words names ∷ (replies_words names replies ++ (shipped ++ (waiting ++ (kept ++ codes "end" ∷ [])))))
       (trace whole work.txns (history r.log)) _ (trace_spells whole work.txns c f txns_named (history r.log)) ordered in
-      subst (Spells all_lines) (sym r.told) everything
+      subst (Spells all_lines) (sym r.text_has_replies) everything
 
   pub lines_are : (cut_lines text).0 ≡ all_lines
   lines_are = ap (λ (l : List ℕ). (cut_lines l).0) spelled.is ∙ ap (λ (cut : List (List ℕ) × List ℕ). cut.0) (cut_again all_lines spelled.are)
@@ -103,11 +103,12 @@ module _ (cat : Catalogue) (work : Workload) (text : List ℕ) (sound : IsSoundC
   pub replies_long : length names ≡ length replies
   replies_long = length-map order (λ (n : TxnNo). txn_name work.txns n.0) ∙ zip_long (IsReplyOf (history r.log)) order replies r.replies
 
-  pub answers_told : AllByRecursion AreAnswers replies
-  answers_told = answers_given IsTold ints_told told cat work text sound valid r
+  pub answers_are_given : AllByRecursion AreAnswers replies
+  answers_are_given = answers_given FitsReport ints_fit_report fits_report cat work text sound valid r
 
   pub copies_values : AllByRecursion (λ (t : CopyTable). AreAllValues t.rows) tells.copies
-  copies_values = all_by_member (λ (t : CopyTable). AreAllValues t.rows) tells.copies (copied_given IsTold ints_told told cat work text sound valid r)
+  copies_values = all_by_member (λ (t : CopyTable). AreAllValues t.rows) tells.copies
+      (copied_given FitsReport ints_fit_report fits_report cat work text sound valid r)
 
   -- what stands behind the replies is none
 

@@ -147,10 +147,10 @@ module _ (cat : Catalogue) (work : Workload) (text : List ℕ) (sound : IsSoundC
 
   -- the text, part by part
 
-  abbrev told : Report
-  told = report_of given r.log
+  abbrev reported : Report
+  reported = report_of given r.log
 
-  follows : FirstLine (after_replies told)
+  follows : FirstLine (after_replies reported)
   follows = grind (arith, first_line, rest_begins, whole_end)
 
   abbrev Placed : List TxnNo
@@ -168,7 +168,7 @@ module _ (cat : Catalogue) (work : Workload) (text : List ℕ) (sound : IsSoundC
       let before : List (List ℕ) = lines_in whole work.txns named.classes names (history r.log) in
       let line : List ℕ = order_line work.txns order in
       let answers : List ℕ = replies_along (names_of work.txns order) (run whole work.rows work.txns order).0 in
-      let after : List ℕ = after_replies told in
+      let after : List ℕ = after_replies reported in
       record {
         small = small;
         order = map (moved cat work valid) order;
@@ -181,7 +181,7 @@ module _ (cat : Catalogue) (work : Workload) (text : List ℕ) (sound : IsSoundC
         next_line = follows.line;
         next_other = follows.other;
         rest = follows.rest;
-        text_is = r.told ∙ ap (λ (l : List ℕ). l ++ (line ++ (answers ++ after))) (trace_is whole work.txns named.classes names (history r.log))
+        text_is = r.text_has_replies ∙ ap (λ (l : List ℕ). l ++ (line ++ (answers ++ after))) (trace_is whole work.txns named.classes names (history r.log))
             ∙ ap (λ (l : List ℕ). spelled_lines before ++ (l ++ (answers ++ after))) (sym (moved_line cat work valid order all_submitted))
             ∙ ap (λ (l : List ℕ). spelled_lines before ++ (order_line (submitted work) (map (moved cat work valid) order) ++ (l ++ after))) replied
             ∙ ap (λ (l : List ℕ). spelled_lines before ++ (order_line (submitted work)

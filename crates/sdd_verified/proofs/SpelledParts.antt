@@ -1,5 +1,5 @@
 -- The parts of a report's text are their lines.
-use Rattle.sdd_verified.proofs.All.{All, AllByRecursion, AreLines, Catalogue, Class, CopyTable, Fragment, HasNoNewline, IsName, List, None, Option, Overflow, Pending, Rec, Reply, Row, Rows, Some, Told, TooMany, Txn, TxnNo, [], all_pending_words, all_shipped_words, ap, append_assoc, codes, copies_lines, copies_words, copy_lines, copy_words, decimal, flat_map, fragment_name, length, module_word, names_of, no_newline-append, option_map_or, order_line, order_words, pending_line, pending_lines, pending_words, place_words, queries_from, queries_words, query_lines, query_words, refl, replies_along, replies_words, reply_lines, reply_words, row_line, row_words, rows_words, rules, shipped_line, shipped_of, shipped_words, spaced, spelled_lines, subst, told_of, trace, txn_name, value_bytes, why_words, ℕ, ◌++◌, ◌+◌, ◌∙◌, ◌∷◌, ◌≡◌}
+use Rattle.sdd_verified.proofs.All.{All, AllByRecursion, AreLines, Catalogue, Class, CopyTable, Fragment, HasNoNewline, IsName, List, None, Option, Overflow, Pending, Rec, Reply, ReportedCommit, Row, Rows, Some, TooMany, Txn, TxnNo, [], all_pending_words, all_shipped_words, ap, append_assoc, codes, copies_lines, copies_words, copy_lines, copy_words, decimal, flat_map, fragment_name, length, module_word, names_of, no_newline-append, option_map_or, order_line, order_words, pending_line, pending_lines, pending_words, place_words, queries_from, queries_words, query_lines, query_words, refl, replies_along, replies_words, reply_lines, reply_words, reported_of, row_line, row_words, rows_words, rules, shipped_line, shipped_of, shipped_words, spaced, spelled_lines, subst, trace, txn_name, value_bytes, why_words, ℕ, ◌++◌, ◌+◌, ◌∙◌, ◌∷◌, ◌≡◌}
 use Rattle.sdd_verified.proofs.ReportLines.{lines_in, module_line, number_line, spaced_line, trace_is, trace_lines, txn_line}
 use Rattle.sdd_verified.proofs.CleanWords.{IsClean, fragment_line, ints_clean, names_are, spaced_names, values_line, why_line}
 use Rattle.sdd_verified.proofs.ValuesKept.{Answers, Hold, Holds}
@@ -98,16 +98,18 @@ module _ (cat : Catalogue) (txns : List Txn) (classes_named : All (λ (k : Class
   name_line : (n : ℕ) → HasNoNewline (txn_name txns n)
   name_line n = txn_line cat txns classes_named txns_named n
 
-  shipped_spells : (n : TxnNo) (o : Option Told) → Spells (shipped_words txns n o) (option_map_or (λ (told : Told). shipped_line (txn_name txns n.0) told) o [])
+  shipped_spells : (n : TxnNo) (o : Option ReportedCommit)
+      → Spells (shipped_words txns n o) (option_map_or (λ (reported : ReportedCommit). shipped_line (txn_name txns n.0) reported) o [])
   shipped_spells n None = spells_none
-  shipped_spells n (Some told) =
+  shipped_spells n (Some reported) =
       let name : List ℕ = spaced (txn_name txns n.0) in
-      let values : List ℕ = spaced (decimal told.values) in
-      let rows : List ℕ = spaced (decimal told.rows) in
+      let values : List ℕ = spaced (decimal reported.values) in
+      let rows : List ℕ = spaced (decimal reported.rows) in
       let line : List ℕ = codes "shipped" ++ (name ++ (values ++ rows)) in
       let clean : HasNoNewline line = no_newline-append (codes "shipped") (name ++ (values ++ rows)) (search rules)
       (no_newline-append name (values ++ rows) (spaced_line (txn_name txns n.0) (name_line n.0))
-      (no_newline-append values rows (spaced_line (decimal told.values) (number_line told.values)) (spaced_line (decimal told.rows) (number_line told.rows)))) in
+      (no_newline-append values rows (spaced_line (decimal reported.values) (number_line reported.values))
+      (spaced_line (decimal reported.rows) (number_line reported.rows)))) in
       subst (Spells (line ∷ []))
       (append_assoc (codes "shipped") (name ++ (values ++ rows)) (10 ∷ [])
       ∙ ap (λ (l : List ℕ). codes "shipped" ++ l)
@@ -117,8 +119,8 @@ module _ (cat : Catalogue) (txns : List Txn) (classes_named : All (λ (k : Class
       → Spells (all_shipped_words txns history order) (flat_map (shipped_of txns history) order)
   all_shipped_spell history [] = spells_none
   all_shipped_spell history (n ∷ order) =
-      spells_both (shipped_words txns n (told_of history n.0)) (all_shipped_words txns history order)
-      (shipped_of txns history n) (flat_map (shipped_of txns history) order) (shipped_spells n (told_of history n.0)) (all_shipped_spell history order)
+      spells_both (shipped_words txns n (reported_of history n.0)) (all_shipped_words txns history order)
+      (shipped_of txns history n) (flat_map (shipped_of txns history) order) (shipped_spells n (reported_of history n.0)) (all_shipped_spell history order)
 
   -- the pending ones
 

@@ -7,8 +7,8 @@ abbrev pub tells_pending : List ℕ → Bool
 tells_pending line = starts_with nat_eq line (codes "pending ")
 
 -- worked
-pub pending_told : tells_pending (codes "pending pay underway D1") ≡ true
-pending_told = refl
+pub pending_is_pending : tells_pending (codes "pending pay underway D1") ≡ true
+pending_is_pending = refl
 
-pub end_told : tells_pending (codes "end") ≡ false
-end_told = refl
+pub end_is_not_pending : tells_pending (codes "end") ≡ false
+end_is_not_pending = refl

@@ -3,7 +3,7 @@ use Rattle.std.specs.Prelude.{ℕ, ◌+◌, List, [], ◌∷◌, ◌++◌, codes
 use Rattle.std.specs.Fmt.{decimal}
 use Rattle.sdd_obligations.specs.All.{Catalogue, Rec, Reply, Row, Txn, TxnNo}
 use Rattle.sdd_obligations.specs.base.declared.reply.Reply.TheVariants.{Rows, Overflow, TooMany}
-use Rattle.sdd_watch.specs.run.report.Committed.{Told, told_of}
+use Rattle.sdd_watch.specs.run.report.Committed.{ReportedCommit, reported_of}
 use Rattle.sdd_watch.specs.run.report.Copies.{place_words}
 use Rattle.sdd_watch.specs.run.report.Names.{spaced, txn_name}
 use Rattle.sdd_watch.specs.run.report.Pending.{why_words}
@@ -51,12 +51,13 @@ replies_words (name ∷ names) (reply ∷ replies) = reply_words name reply ++ r
 
 -- what was shipped
 
-abbrev pub shipped_words : List Txn → TxnNo → Option Told → List (List ℕ)
+abbrev pub shipped_words : List Txn → TxnNo → Option ReportedCommit → List (List ℕ)
 shipped_words txns n None = []
-shipped_words txns n (Some told) = (codes "shipped" ++ (spaced (txn_name txns n.0) ++ (spaced (decimal told.values) ++ spaced (decimal told.rows)))) ∷ []
+shipped_words txns n (Some reported) =
+    (codes "shipped" ++ (spaced (txn_name txns n.0) ++ (spaced (decimal reported.values) ++ spaced (decimal reported.rows)))) ∷ []
 
 abbrev pub all_shipped_words : List Txn → List (ℕ × Rec) → List TxnNo → List (List ℕ)
-all_shipped_words txns history order = flat_map (λ (n : TxnNo). shipped_words txns n (told_of history n.0)) order
+all_shipped_words txns history order = flat_map (λ (n : TxnNo). shipped_words txns n (reported_of history n.0)) order
 
 -- the pending transactions
 

@@ -18,8 +18,8 @@ abbrev pub pending_numbers : List Pending → List TxnNo
 pending_numbers left = map (λ (p : Pending). p.txn) left
 
 -- the copies, each with the words for its module and its fragment
-abbrev pub copies_told : Catalogue → List CopyTable → List (List ℕ × List Row)
-copies_told cat copies = map (λ (t : CopyTable). (place_words cat t.dm.0 t.frag.0, t.rows)) copies
+abbrev pub reported_copies : Catalogue → List CopyTable → List (List ℕ × List Row)
+reported_copies cat copies = map (λ (t : CopyTable). (place_words cat t.dm.0 t.frag.0, t.rows)) copies
 
 -- two reports say the same: the names of the committed transactions in their order, the replies along it, the names of
 -- the pending ones, and the copies
@@ -29,8 +29,8 @@ pub record TellAlike (cat : Catalogue) (work other : Workload) (text : List ℕ)
       ≡ (plain_run cat other two.log).0
   pub pending : pending_names work.txns (report_of (input_of cat one.tables work) one.log).pending
       ≡ pending_names other.txns (report_of (input_of cat two.tables other) two.log).pending
-  pub copies : copies_told cat (report_of (input_of cat one.tables work) one.log).copies
-      ≡ copies_told cat (report_of (input_of cat two.tables other) two.log).copies
+  pub copies : reported_copies cat (report_of (input_of cat one.tables work) one.log).copies
+      ≡ reported_copies cat (report_of (input_of cat two.tables other) two.log).copies
 
 -- and where they are of the same transactions, these stand in the same order, and the same are pending
 pub record TellOfTheSame (cat : Catalogue) (work other : Workload) (text : List ℕ) (one : IsReportOn cat work text) (two : IsReportOn cat other text) : Type 0 where

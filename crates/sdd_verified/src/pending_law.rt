@@ -13,10 +13,10 @@ ghost use Rattle.sdd_verified.specs.Lines.{tells_pending};
 /// none is, it has no such line.
 pub fn law_pending_lines()
     ensures as_many { (catalogue : Catalogue) (work : Workload) (text : List ℕ) → IsSoundCatalogue catalogue → AreNamed catalogue → IsValid catalogue work
-        → (told : IsReportOn catalogue work text)
-        → count_by tells_pending (lines_of text) ≡ length (report_of (input_of catalogue told.tables work) told.log).pending }
+        → (reported : IsReportOn catalogue work text)
+        → count_by tells_pending (lines_of text) ≡ length (report_of (input_of catalogue reported.tables work) reported.log).pending }
     ensures no_line { (catalogue : Catalogue) (work : Workload) (text : List ℕ) → IsSoundCatalogue catalogue → AreNamed catalogue → IsValid catalogue work
-        → (told : IsReportOn catalogue work text)
-        → (report_of (input_of catalogue told.tables work) told.log).pending ≡ []
+        → (reported : IsReportOn catalogue work text)
+        → (report_of (input_of catalogue reported.tables work) reported.log).pending ≡ []
         → (line : List ℕ) → Contains (lines_of text) line → tells_pending line ≡ false }
 {}

@@ -18,7 +18,7 @@ pub use Rattle.sdd_verify.specs.Classes.{class_if, class_of, classes_from, class
 pub use Rattle.sdd_verify.specs.Flaws.{line_in}
 pub use Rattle.sdd_verify.specs.Lines.{Numbered, ends_replies, is_order_line, lines_of, numbered_lines, order_line_in, passed, tells_reply}
 pub use Rattle.sdd_verify.specs.Numbered.{numbered}
-pub use Rattle.sdd_verify.specs.Orders.{allows, is_in_turn, may_follow, names_on, order_told, words_behind, words_of}
+pub use Rattle.sdd_verify.specs.Orders.{allows, is_in_turn, may_follow, names_on, order_on, words_behind, words_of}
 pub use Rattle.sdd_verify.specs.Replies.{replies, replies_on, serial_replies}
 pub use Rattle.sdd_verify.specs.Submitted.{named, named_from, submitted, submitted_by, texts_of, txn_of}
 pub use Rattle.sdd_verify.specs.Verdict.{judged, verdict, verdict_of}

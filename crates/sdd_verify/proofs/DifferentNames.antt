@@ -1,6 +1,6 @@
 -- The names of the transactions that a valid workload submits differ.
 use Rattle.sdd_verify.proofs.All.{All, All-head, All-nil, All-tail, AreDistinct, Catalogue, Event, IsValid, IsValidEvent, List, MatchOption, None, Option, Some, Txn, Workload, [], ap, arith, at, bytes_eq, false, filter_map, get_or, length, map, nat_tests, place_of_name, position, refl, repeats, slice_get, submitted, submitted_by, suc, sym, zero, ℕ, ◌-◌, ◌<◌, ◌∙◌, ◌∷◌, ◌≡◌, ◌≢◌, ◌≤◌}
-use Rattle.sdd_verify.proofs.NamesTold.{AllDiffer}
+use Rattle.sdd_verify.proofs.NumbersOfNames.{AllDiffer}
 use Rattle.sdd_script.specs.Valid as scripts
 
 pub some_is : {A : Type 0} (x y : A) → Some x ≡ Some y → x ≡ y

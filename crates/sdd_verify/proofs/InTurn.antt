@@ -8,8 +8,8 @@ module _ (classes : List ℕ) where
   tells : (m n : TxnNo) → may_follow classes m n ≡ true → MayFollow m n
   tells m n h = (grind (arith, nat_tests, eq-eqb, ltb-true, class_of))
 
-  told : (m n : TxnNo) → MayFollow m n → may_follow classes m n ≡ true
-  told m n h = (grind (arith, nat_tests, ne_eqb, nat_lt, lt-ltb, eqb-true, class_of))
+  follows : (m n : TxnNo) → MayFollow m n → may_follow classes m n ≡ true
+  follows m n h = (grind (arith, nat_tests, ne_eqb, nat_lt, lt-ltb, eqb-true, class_of))
 
   both : (a b : Bool) → (a && b) ≡ true → (a ≡ true) × (b ≡ true)
   both a b e = grind (arith, nat_tests)
@@ -36,7 +36,7 @@ module _ (classes : List ℕ) where
   all_follow : (m : TxnNo) (order : List TxnNo) → ((k : ℕ) → k < length order → MayFollow m (at order k)) → list_all (may_follow classes m) order ≡ true
   all_follow m [] h = refl
   all_follow m (n ∷ order) h =
-      let first = told m n (h 0 (omega arith)) in
+      let first = follows m n (h 0 (omega arith)) in
       let more = all_follow m order (λ k lt. h (suc k) (omega arith)) in
       rw (first, more) refl
 

@@ -7,7 +7,7 @@ pub mod LineCuts
 pub mod LinesFound
 pub mod LinesPassed
 pub mod NamesFound
-pub mod NamesTold
+pub mod NumbersOfNames
 pub mod OrderWords
 pub mod RepliesPassed
 pub mod Submissions

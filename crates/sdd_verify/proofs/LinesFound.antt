@@ -33,14 +33,14 @@ order_again number (first ∷ before) line lines others is =
 
 -- lines that have come stand there, and then the rest
 
-passed_by : (number : ℕ) (line : List ℕ) (more : List (List ℕ)) (told : List ℕ) (lines : List (List ℕ)) (rest : Numbered) (b : Bool) → bytes_eq told line ≡ b
+passed_by : (number : ℕ) (line : List ℕ) (more : List (List ℕ)) (found : List ℕ) (lines : List (List ℕ)) (rest : Numbered) (b : Bool) → bytes_eq found line ≡ b
     → (passed (number + 1) more lines ≡ Ok rest → lines ≡ more ++ rest.1)
-    → cond b (passed (number + 1) more lines) (Err number) ≡ Ok rest → told ∷ lines ≡ (line ∷ more) ++ rest.1
-passed_by number line more told lines rest b e later h = grind (arith, nat_tests, bytes_eq-Decides)
+    → cond b (passed (number + 1) more lines) (Err number) ≡ Ok rest → found ∷ lines ≡ (line ∷ more) ++ rest.1
+passed_by number line more found lines rest b e later h = grind (arith, nat_tests, bytes_eq-Decides)
 
 pub passed_is : (number : ℕ) (expected lines : List (List ℕ)) (rest : Numbered) → passed number expected lines ≡ Ok rest → lines ≡ expected ++ rest.1
-passed_is number (line ∷ more) (told ∷ lines) rest h =
-    passed_by number line more told lines rest (bytes_eq told line) refl (λ later. passed_is (number + 1) more lines rest later) h
+passed_is number (line ∷ more) (found ∷ lines) rest h =
+    passed_by number line more found lines rest (bytes_eq found line) refl (λ later. passed_is (number + 1) more lines rest later) h
 passed_is number expected lines rest h = grind (arith, ok_is)
 
 pub passed_again : (number : ℕ) (expected lines : List (List ℕ)) → passed number expected (expected ++ lines) ≡ Ok (number + length expected, lines)

@@ -1,10 +1,10 @@
 -- A report is judged to be sound exactly where it is verified.
-use Rattle.sdd_verify.proofs.All.{All, All-head, All-tail, AreLines, Bool, Catalogue, Err, HasNoNewline, HasNoSpace, IsInTurn, IsName, IsValid, IsValidTxn, IsVerified, List, MAX_REPORT_BYTES, Numbered, Ok, Result, Txn, TxnNo, Workload, Yes, [], along, ap, append_assoc, arith, begins_with_letter, bind_ok, both, classes_submitted, codes, cond, cut_lines, cut_takes, ends_replies, false, flat_map-map, is_in_turn, is_keyword, is_name_byte, is_order_line, judged, le-leb, leb-true, length, line_behind, lines_of, list_all, map, must, must_ok, named, names_on, nat_le, nat_tests, no_newline-append, numbered_lines, ok_is, order_line, order_line_in, order_told, passed, refl, require, rules, serial_replies, spelled_lines, submitted, subst, sym, tells_reply, texts_of, true, verdict, verdict_of, ℕ, ◌++◌, ◌+◌, ◌-◌, ◌>>=◌, ◌∙◌, ◌∷◌, ◌≡◌, ◌≢◌, ◌≤◌}
+use Rattle.sdd_verify.proofs.All.{All, All-head, All-tail, AreLines, Bool, Catalogue, Err, HasNoNewline, HasNoSpace, IsInTurn, IsName, IsValid, IsValidTxn, IsVerified, List, MAX_REPORT_BYTES, Numbered, Ok, Result, Txn, TxnNo, Workload, Yes, [], along, ap, append_assoc, arith, begins_with_letter, bind_ok, both, classes_submitted, codes, cond, cut_lines, cut_takes, ends_replies, false, flat_map-map, is_in_turn, is_keyword, is_name_byte, is_order_line, judged, le-leb, leb-true, length, line_behind, lines_of, list_all, map, must, must_ok, named, names_on, nat_le, nat_tests, no_newline-append, numbered_lines, ok_is, order_line, order_line_in, order_on, passed, refl, require, rules, serial_replies, spelled_lines, submitted, subst, sym, tells_reply, texts_of, true, verdict, verdict_of, ℕ, ◌++◌, ◌+◌, ◌-◌, ◌>>=◌, ◌∙◌, ◌∷◌, ◌≡◌, ◌≢◌, ◌≤◌}
 use Rattle.sdd_verify.proofs.DifferentNames.{submitted_differ}
 use Rattle.sdd_verify.proofs.InTurn.{in_turn, in_turn_again}
 use Rattle.sdd_verify.proofs.LineCuts.{IsWhole, cut_are_lines, lines_behind, whole_behind, whole_is}
 use Rattle.sdd_verify.proofs.LinesFound.{IsOther, first_order, follows, front_lines, order_again, passed_again, passed_is, rest_lines, spelled_apart}
-use Rattle.sdd_verify.proofs.NamesTold.{IsThere, all_told, member_at, name_in, told_again}
+use Rattle.sdd_verify.proofs.NumbersOfNames.{IsThere, member_at, name_in, names_are_all, numbers_again}
 use Rattle.sdd_verify.proofs.OrderWords.{HaveNoSpace, behind_spaces, is_order_line_again, names_again, order_line_is}
 use Rattle.sdd_verify.proofs.RepliesPassed.{replies_whole}
 use Rattle.sdd_verify.proofs.Submissions.{found_member, submitted_valid}
@@ -86,19 +86,19 @@ module _ (cat : Catalogue) (work : Workload) (report : List ℕ) where
   After3 order number lines = passed number (lines_of (serial_replies cat work order)) lines >>= (λ rest. must rest.0 (ends_replies rest.1))
 
   abbrev After2 : ℕ × List ℕ × Numbered → Result (Unit {0}) ℕ
-  After2 found = order_told texts Classes found.0 found.1 >>= (λ order. After3 order found.2.0 found.2.1)
+  After2 found = order_on texts Classes found.0 found.1 >>= (λ order. After3 order found.2.0 found.2.1)
 
   abbrev After1 : Numbered → Result (Unit {0}) ℕ
   After1 whole = order_line_in whole.0 whole.1 >>= After2
 
-  told_by : (number : ℕ) (line : List ℕ) (order : List TxnNo) → is_order_line line ≡ true → order_told texts Classes number line ≡ Ok order
+  order_read : (number : ℕ) (line : List ℕ) (order : List TxnNo) → is_order_line line ≡ true → order_on texts Classes number line ≡ Ok order
       → (line ≡ words_in texts order) × All (IsThere texts) order × (is_in_turn Classes order ≡ true)
-  told_by number line order is h =
+  order_read number line order is h =
       let a = bind_ok (along (λ _ name. require number (named texts name)) 0 (names_on line))
       (λ found. must number (is_in_turn Classes found) >>= λ _. Ok found) order h in
       let b = bind_ok (must number (is_in_turn Classes a.0)) (λ _. Ok a.0) order a.2 in
       let same : a.0 ≡ order = ok_is {F = ℕ} a.0 order b.2 in
-      let told = all_told number texts 0 (names_on line) a.0 a.1 in
+      let reported = names_are_all number texts 0 (names_on line) a.0 a.1 in
       grind (arith, nat_tests, must_ok, is_in_turn, Classes, words_in, texts, order_line_is, behind_spaces, IsThere)
 
   sound : (u : Unit {0}) → judged cat work report ≡ Ok u → Sound cat work report
@@ -106,10 +106,10 @@ module _ (cat : Catalogue) (work : Workload) (report : List ℕ) where
       let a = bind_ok (numbered_lines report) After1 u h in
       let whole = begun_is report a.0 a.1 in
       let b = bind_ok (order_line_in a.0.0 a.0.1) After2 u a.2 in
-      let c = bind_ok (order_told texts Classes b.0.0 b.0.1) (λ order. After3 order b.0.2.0 b.0.2.1) u b.2 in
+      let c = bind_ok (order_on texts Classes b.0.0 b.0.1) (λ order. After3 order b.0.2.0 b.0.2.1) u b.2 in
       let d = bind_ok (passed b.0.2.0 (lines_of (serial_replies cat work c.0)) b.0.2.1) (λ rest. must rest.0 (ends_replies rest.1)) u c.2 in
       let first = first_order a.0.0 a.0.1 b.0 b.1 in
-      let told = told_by b.0.0 b.0.1 c.0 first.is c.1 in
+      let reported = order_read b.0.0 b.0.1 c.0 first.is c.1 in
       let next = follows d.0.1 (must_ok d.0.0 (ends_replies d.0.1) u d.2) in
       grind (arith, nat_tests, lines_parted, lines_of, words_in, texts, serial_replies, passed_is)
 
@@ -176,9 +176,9 @@ module _ (cat : Catalogue) (work : Workload) (report : List ℕ) where
       (ap lines_of (line_is texts v.order (answers ++ next)) ∙ ap First (line_behind words (answers ++ next) line)
       ∙ ap (λ (l : List (List ℕ)). words ∷ l) (grind (arith, nat_tests, whole_behind, lines_of, line_behind)))
 
-  order_told_again : (number : ℕ) (order : List TxnNo) → IsValid cat work → All (IsThere texts) order
-      → IsInTurn Classes order → HaveNoSpace (map (name_in texts) order) → order_told texts Classes number (words_in texts order) ≡ Ok order
-  order_told_again number order valid there turn fine = grind (
+  order_on_again : (number : ℕ) (order : List TxnNo) → IsValid cat work → All (IsThere texts) order
+      → IsInTurn Classes order → HaveNoSpace (map (name_in texts) order) → order_on texts Classes number (words_in texts order) ≡ Ok order
+  order_on_again number order valid there turn fine = grind (
     arith,
     nat_tests,
     name_in,
@@ -192,7 +192,7 @@ module _ (cat : Catalogue) (work : Workload) (report : List ℕ) where
     along,
     require,
     named,
-    told_again,
+    numbers_again,
     submitted_differ,
     in_turn_again,
   )
@@ -211,10 +211,10 @@ module _ (cat : Catalogue) (work : Workload) (report : List ℕ) where
       grind (
         arith,
         nat_tests,
-        order_told,
+        order_on,
         texts,
         Classes,
-        order_told_again,
+        order_on_again,
         passed,
         lines_of,
         passed_again,

@@ -26,15 +26,15 @@ abbrev put_and_query : Workload
 put_and_query = record { rows = []; txns = p ∷ q ∷ r ∷ []; lists = []; events = Submit (txn_no 1) ∷ Submit (txn_no 2) ∷ Settle ∷ [] }
 
 -- the verdict on a report of one record, with these lines from the order line on
-abbrev told : List ℕ → Verdict
-told lines = verdict accounts put_and_query (codes "1 submit p\n" ++ lines)
+abbrev verdict_on : List ℕ → Verdict
+verdict_on lines = verdict accounts put_and_query (codes "1 submit p\n" ++ lines)
 
-pub right : told (codes "order p q\nreply p ok\nreply q ok\nquery 1 1\nrow 5 10\nshipped p 0 0\nend\n") ≡ Yes
+pub right : verdict_on (codes "order p q\nreply p ok\nreply q ok\nquery 1 1\nrow 5 10\nshipped p 0 0\nend\n") ≡ Yes
 unfolding cut_lines digits
 right = refl
 
 -- nothing is asked of what the report doesn't name
-pub no_name : told (codes "order\nend\n") ≡ Yes
+pub no_name : verdict_on (codes "order\nend\n") ≡ Yes
 unfolding cut_lines digits
 no_name = refl
 
@@ -42,44 +42,44 @@ pub empty : verdict accounts put_and_query [] ≡ No 1
 unfolding cut_lines digits
 empty = refl
 
-pub no_order : told (codes "ordered p q\n") ≡ No 3
+pub no_order : verdict_on (codes "ordered p q\n") ≡ No 3
 unfolding cut_lines digits
 no_order = refl
 
 -- what stands after the last newline is no line
-pub no_line : told (codes "order") ≡ No 2
+pub no_line : verdict_on (codes "order") ≡ No 2
 unfolding cut_lines digits
 no_line = refl
 
-pub exchanged : told (codes "order q p\nreply q ok\nquery 1 0\nreply p ok\nend\n") ≡ No 2
+pub exchanged : verdict_on (codes "order q p\nreply q ok\nquery 1 0\nreply p ok\nend\n") ≡ No 2
 unfolding cut_lines digits
 exchanged = refl
 
-pub named_twice : told (codes "order p p\nreply p ok\nreply p ok\nend\n") ≡ No 2
+pub named_twice : verdict_on (codes "order p p\nreply p ok\nreply p ok\nend\n") ≡ No 2
 unfolding cut_lines digits
 named_twice = refl
 
-pub not_submitted : told (codes "order p r\nreply p ok\nreply r ok\nend\n") ≡ No 2
+pub not_submitted : verdict_on (codes "order p r\nreply p ok\nreply r ok\nend\n") ≡ No 2
 unfolding cut_lines digits
 not_submitted = refl
 
-pub two_spaces : told (codes "order p  q\n") ≡ No 2
+pub two_spaces : verdict_on (codes "order p  q\n") ≡ No 2
 unfolding cut_lines digits
 two_spaces = refl
 
-pub another_row : told (codes "order p q\nreply p ok\nreply q ok\nquery 1 1\nrow 5 11\nend\n") ≡ No 6
+pub another_row : verdict_on (codes "order p q\nreply p ok\nreply q ok\nquery 1 1\nrow 5 11\nend\n") ≡ No 6
 unfolding cut_lines digits
 another_row = refl
 
-pub no_row : told (codes "order p q\nreply p ok\nreply q ok\nquery 1 1\n") ≡ No 6
+pub no_row : verdict_on (codes "order p q\nreply p ok\nreply q ok\nquery 1 1\n") ≡ No 6
 unfolding cut_lines digits
 no_row = refl
 
-pub further_row : told (codes "order p q\nreply p ok\nreply q ok\nquery 1 1\nrow 5 10\nrow 5 10\nend\n") ≡ No 7
+pub further_row : verdict_on (codes "order p q\nreply p ok\nreply q ok\nquery 1 1\nrow 5 10\nrow 5 10\nend\n") ≡ No 7
 unfolding cut_lines digits
 further_row = refl
 
-pub no_end : told (codes "order p q\nreply p ok\nreply q ok\nquery 1 1\nrow 5 10\n") ≡ No 7
+pub no_end : verdict_on (codes "order p q\nreply p ok\nreply q ok\nquery 1 1\nrow 5 10\n") ≡ No 7
 unfolding cut_lines digits
 no_end = refl
 

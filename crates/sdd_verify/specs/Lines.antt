@@ -38,4 +38,4 @@ ends_replies (line ∷ lines) = not (tells_reply line)
 abbrev pub passed : ℕ → List (List ℕ) → List (List ℕ) → Result Numbered ℕ
 passed number [] lines = Ok (number, lines)
 passed number (line ∷ more) [] = Err number
-passed number (line ∷ more) (told ∷ lines) = if bytes_eq told line then passed (number + 1) more lines else Err number
+passed number (line ∷ more) (found ∷ lines) = if bytes_eq found line then passed (number + 1) more lines else Err number

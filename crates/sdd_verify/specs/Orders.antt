@@ -36,8 +36,8 @@ names_on line = tail_of (words_of line)
 
 -- the order that an order line with this number gives; the line is at fault where it names what isn't submitted, or one
 -- that may not stand there
-abbrev pub order_told : List Txn → List ℕ → ℕ → List ℕ → Result (List TxnNo) ℕ
-order_told txns classes number line = do
+abbrev pub order_on : List Txn → List ℕ → ℕ → List ℕ → Result (List TxnNo) ℕ
+order_on txns classes number line = do
   order ← along (λ _ name. require number (named txns name)) 0 (names_on line)
   _ ← must number (is_in_turn classes order)
   Ok order

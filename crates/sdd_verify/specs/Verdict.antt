@@ -4,7 +4,7 @@ use Rattle.sdd_script.specs.All.{Catalogue, TxnNo, must, ◌>>=◌}
 use Rattle.sdd_script.specs.declared.workload.Workload.{Workload}
 use Rattle.sdd_verify.specs.Classes.{classes_submitted}
 use Rattle.sdd_verify.specs.Lines.{Numbered, ends_replies, lines_of, numbered_lines, order_line_in, passed}
-use Rattle.sdd_verify.specs.Orders.{order_told}
+use Rattle.sdd_verify.specs.Orders.{order_on}
 use Rattle.sdd_verify.specs.Replies.{serial_replies}
 use Rattle.sdd_verify.specs.Submitted.{submitted}
 use Rattle.sdd_verify.specs.declared.verdict.Verdict.{Verdict}
@@ -17,7 +17,7 @@ abbrev pub judged : Catalogue → Workload → List ℕ → Result (Unit {0}) �
 judged cat work report = do
   (whole : Numbered) ← numbered_lines report
   (at : ℕ × List ℕ × Numbered) ← order_line_in whole.0 whole.1
-  (order : List TxnNo) ← order_told (submitted work) (classes_submitted cat work) at.0 at.1
+  (order : List TxnNo) ← order_on (submitted work) (classes_submitted cat work) at.0 at.1
   (rest : Numbered) ← passed at.2.0 (lines_of (serial_replies cat work order)) at.2.1
   must rest.0 (ends_replies rest.1)
 

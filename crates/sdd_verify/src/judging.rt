@@ -7,7 +7,7 @@ ghost use Rattle.sdd_verify.specs.Verdict.{judged, verdict};
 use crate::classes::submitted_classes;
 use crate::flaw::{Flaw, must};
 use crate::lines::Lines;
-use crate::order::told_order;
+use crate::order::read_order;
 use crate::order_line::order_line;
 use crate::replies::pass_replies;
 use crate::submitted::Submitted;
@@ -28,7 +28,7 @@ fn judge(alloc: Global, catalogue: &Catalogue, work: &Workload, report: &[u8]) -
     let submitted = Submitted::of(alloc, work)?;
     let lists = lists_of(alloc, catalogue, work)?;
     let classes = submitted_classes(alloc, catalogue, lists.eras(), work)?;
-    let order = told_order(alloc, &submitted, classes.as_slice(), number, line)?;
+    let order = read_order(alloc, &submitted, classes.as_slice(), number, line)?;
     let texts = submitted.texts(alloc, order.as_slice())?;
     let rest = pass_replies(alloc, catalogue, &work.rows, texts.as_slice(), behind)?;
     must(rest.number, rest.ends_replies())

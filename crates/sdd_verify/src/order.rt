@@ -5,7 +5,7 @@ ghost use Rattle.std.specs.Option.{option_copied};
 ghost use Rattle.sdd_script.specs.All.{GivesReading, along, require};
 ghost use Rattle.sdd_verify.specs.Classes.{class_of};
 ghost use Rattle.sdd_verify.specs.Flaws.{line_in};
-ghost use Rattle.sdd_verify.specs.Orders.{allows, is_in_turn, names_on, order_told, words_behind, words_of};
+ghost use Rattle.sdd_verify.specs.Orders.{allows, is_in_turn, names_on, order_on, words_behind, words_of};
 ghost use Rattle.sdd_verify.specs.Submitted.{named};
 
 use crate::flaw::{Flaw, must, require};
@@ -114,14 +114,14 @@ fn is_in_turn(alloc: Global, classes: &[u32], order: &[TxnNo]) -> Result<bool, N
 }
 
 /// The order that the order line with this number gives.
-pub(crate) fn told_order(
+pub(crate) fn read_order(
     alloc: Global,
     submitted: &Submitted,
     classes: &[u32],
     number: u32,
     line: &[u8],
 ) -> Result<Vec<TxnNo>, Flaw>
-    ensures { GivesReading line_in (λ order. order.items) result (order_told submitted.now classes.now number line.now) }
+    ensures { GivesReading line_in (λ order. order.items) result (order_on submitted.now classes.now number line.now) }
 {
     let order = named_on(alloc, submitted, number, line)?;
     must(number, is_in_turn(alloc, classes, order.as_slice())?)?;

@@ -15,8 +15,8 @@ fn pass_line<'a>(line: &[u8], report: Lines<'a>) -> Result<Lines<'a>, Flaw>
         (passed report.entry.number (line.now ∷ []) (lines_of report.entry.bytes.now)) }
 {
     match report.next() {
-        Some((told, behind)) => {
-            if told == line {
+        Some((found, behind)) => {
+            if found == line {
                 Ok(behind)
             } else {
                 Err(Flaw::Line(report.number))

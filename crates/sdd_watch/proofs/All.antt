@@ -113,8 +113,8 @@ pub use Rattle.sdd_watch.specs.Happens.{applied_by, applied_in, arrived_by, arri
 pub use Rattle.sdd_watch.specs.Keeping.{IsLineInOrder, active_of, head_in, question_by, questions_in}
 pub use Rattle.sdd_watch.specs.Looking.{advanced, all_waiting, messages_in, numbers_for, queue_in, queue_of, says, says_one, seen_with}
 pub use Rattle.sdd_watch.specs.Moments.{all_pipes, at_event, came, link_moment, moment_of, number_through, passed_to, pipe_moment, pipes_at_module, queue_moment, queues_at, queues_of, source, time_passed}
-pub use Rattle.sdd_watch.specs.States.{active_told, actives, attempt_told, dm_told, head_by, phase_by, questions_to, report_head, says_applied, state_of, tm_told, unapplied_of}
-pub use Rattle.sdd_watch.specs.ScheduleSoFar.{IsTextOf, IsTold, Tells, TellsBetween, TellsRound, TellsSettled}
+pub use Rattle.sdd_watch.specs.States.{actives, head_by, phase_by, questions_to, report_head, reported_active, reported_attempt, reported_dm, reported_tm, says_applied, state_of, unapplied_of}
+pub use Rattle.sdd_watch.specs.ScheduleSoFar.{IsReported, IsTextOf, Tells, TellsBetween, TellsRound, TellsSettled}
 pub use Rattle.sdd_watch.specs.Text.{IsInsideOf, change, inside_text, line_of}
 pub use Rattle.sdd_watch.specs.Watching.{AreCommits, AreDones, IsBetween, IsMark, IsOver, IsTellable, IsToTell, IsTurn, Knows, Watches, arrived, arrived_on, foresee_act, foresee_take, foreseen_by, handed_over, is_done_at, is_on, is_taken, left_between, left_of, link_after, link_before, pipe_after, pipe_before, seen_between, taken_at, watched_link, watched_pipe}
 pub use Rattle.sdd_watch.specs.declared.commits.Commits.{Commits}

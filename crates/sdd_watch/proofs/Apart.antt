@@ -1,11 +1,11 @@
--- No run is told of and ended by the limit; and it has one text.
+-- No run is both reported and ended by the limit; and it has one text.
 use Rattle.sdd_watch.proofs.All.{Catalogue, EndsAtLimit, IsInsideOf, IsTheLog, List, Workload, eras_in, input_of, inside_text, limit_or_complete, one_list_of_tables, one_log, subst, sym, ℕ, ◌∙◌, ◌≡◌}
 
 pub text_or_limit : (cat : Catalogue) (work : Workload) (text : List ℕ) → IsInsideOf cat work text → EndsAtLimit cat work → ⊥
-text_or_limit cat work text told limit =
-    let same = one_list_of_tables (eras_in cat work) told.tables limit.tables told.tables_are limit.tables_are in
-    limit_or_complete (input_of cat limit.tables work) limit.log told.log limit.ends
-    (subst (λ t. IsTheLog (input_of cat t work) told.log) same told.log_is)
+text_or_limit cat work text reported limit =
+    let same = one_list_of_tables (eras_in cat work) reported.tables limit.tables reported.tables_are limit.tables_are in
+    limit_or_complete (input_of cat limit.tables work) limit.log reported.log limit.ends
+    (subst (λ t. IsTheLog (input_of cat t work) reported.log) same reported.log_is)
 
 pub one_text : (cat : Catalogue) (work : Workload) (text other : List ℕ) → IsInsideOf cat work text → IsInsideOf cat work other → text ≡ other
 one_text cat work text other r s =

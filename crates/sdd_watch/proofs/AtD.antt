@@ -1,5 +1,5 @@
 -- What a data module keeps tells how it stands.
-use Rattle.sdd_watch.proofs.All.{Bool, Change, ClassNo, ClassView, Cond, DmNo, Head, Kept, List, Msg, None, Option, Read, Setting, Shows, Some, State, Waits, Write, ap, arith, class_no, class_view, dm_told, false, filter, filter_map, filter_same, head, head_at, head_by, head_in, head_shown, holder_at, holders_in, holders_of, holds_back, holds_in, if◌then◌else◌, is_met, is_met_in, length, map, met_is, not, pipe, range_with_len, refl, report_head, suc, true, unmet, unmet_in, unmet_of, view_of, waits, waits_shown, zero, ℕ, ◌&&◌, ◌+◌, ◌<◌, ◌∙◌, ◌∷◌, ◌≡◌, ◌≤◌}
+use Rattle.sdd_watch.proofs.All.{Bool, Change, ClassNo, ClassView, Cond, DmNo, Head, Kept, List, Msg, None, Option, Read, Setting, Shows, Some, State, Waits, Write, ap, arith, class_no, class_view, false, filter, filter_map, filter_same, head, head_at, head_by, head_in, head_shown, holder_at, holders_in, holders_of, holds_back, holds_in, if◌then◌else◌, is_met, is_met_in, length, map, met_is, not, pipe, range_with_len, refl, report_head, reported_dm, suc, true, unmet, unmet_in, unmet_of, view_of, waits, waits_shown, zero, ℕ, ◌&&◌, ◌+◌, ◌<◌, ◌∙◌, ◌∷◌, ◌≡◌, ◌≤◌}
 use Rattle.sdd_obligations.specs.dm.Represents.{Represents}
 use Rattle.sdd_obligations.specs.site_module.SiteLog.{Log}
 use Rattle.sdd_inside.specs.declared.standing.Head.TheVariants.{Held}
@@ -45,10 +45,10 @@ head_is s st log c true (Some (Write ts class txn changes)) h = ap (λ ks. Some 
 head_is s st log c false (Some (Write ts class txn changes)) h = ap (λ ks. Some (Held (class_no c) ks)) (holders_are s st log c ts.0 changes h)
 head_is s st log c _ _ h = refl
 
-pub told_head : (st : State) (s : Setting) (log : Log) (c : ClassNo) (conds : Option (List Cond)) (readers : Option (List ClassNo)) → Shows s st log
+pub head_is_reported : (st : State) (s : Setting) (log : Log) (c : ClassNo) (conds : Option (List Cond)) (readers : Option (List ClassNo)) → Shows s st log
     → c.0 ≤ length s.catalogue.classes → conds ≡ unmet_in st.pipes st.waits c.0 → readers ≡ holders_in st.pipes st.waits c.0
     → head_in c conds readers ≡ report_head (view_of s log) (class_view s log c.0)
-told_head st s log c conds readers shows l e f =
+head_is_reported st s log c conds readers shows l e f =
     ap (λ ds. head_in c ds readers) e ∙ ap (head_in c (unmet_in st.pipes st.waits c.0)) f
     ∙ ap (λ b. head_in c (if b then unmet_of st.pipes (head_at st.pipes c.0) else None) (holders_of st.pipes st.waits c.0 (head_at st.pipes c.0)))
     (waits_shown s st log c.0 shows l)
@@ -56,10 +56,10 @@ told_head st s log c conds readers shows l e f =
     ∙ head_is s st log c.0 (waits c.0 log) (head (pipe c.0 log)) shows
 
 -- all of it
-pub told_is : (k : Kept State) (s : Setting) (log : Log) (d : DmNo) (down : Bool) (heads : List Head) (n : ℕ) → Represents k s log
+pub state_is_reported : (k : Kept State) (s : Setting) (log : Log) (d : DmNo) (down : Bool) (heads : List Head) (n : ℕ) → Represents k s log
     → n ≡ length k.value.pipes → heads ≡ filter_map (report_head (view_of s log)) (map (class_view s log) (range_with_len 0 n))
-    → dm_told s log d.0 down ≡ record { dm = d; is_down = down; heads = heads }
-told_is k s log d down heads n represents e f =
+    → reported_dm s log d.0 down ≡ record { dm = d; is_down = down; heads = heads }
+state_is_reported k s log d down heads n represents e f =
     let all : heads ≡ filter_map (report_head (view_of s log)) (view_of s log).classes =
     f ∙ ap (λ m. filter_map (report_head (view_of s log)) (map (class_view s log) (range_with_len 0 m))) (e ∙ represents.shows.pipes) in
     rw all refl

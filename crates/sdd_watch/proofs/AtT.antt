@@ -1,5 +1,5 @@
 -- What a transaction module keeps tells how it stands.
-use Rattle.sdd_watch.proofs.All.{Active, All, All-from_recursion, AllByRecursion, Bool, ClassState, IsLineInOrder, IsLineOf, Kept, List, Question, Setting, Some, TmNo, [], active_of, actives, ap, arith, asked, asks, bound_of, class_of, clock, filter, filter_map, flat_map, holds, map, map-map, nat_lt, question_by, questions_in, questions_to, refl, runs, slice_get, subst, suc, sym, tm_told, ℕ, ◌*◌, ◌++◌, ◌+◌, ◌/◌, ◌==◌, ◌∙◌, ◌∷◌, ◌≡◌}
+use Rattle.sdd_watch.proofs.All.{Active, All, All-from_recursion, AllByRecursion, Bool, ClassState, IsLineInOrder, IsLineOf, Kept, List, Question, Setting, Some, TmNo, [], active_of, actives, ap, arith, asked, asks, bound_of, class_of, clock, filter, filter_map, flat_map, holds, map, map-map, nat_lt, question_by, questions_in, questions_to, refl, reported_tm, runs, slice_get, subst, suc, sym, ℕ, ◌*◌, ◌++◌, ◌+◌, ◌/◌, ◌==◌, ◌∙◌, ◌∷◌, ◌≡◌}
 use Rattle.sdd_watch.proofs.MadeLists.{picked_map}
 use Rattle.sdd_obligations.specs.All.{state_of}
 use Rattle.sdd_obligations.specs.site_module.SiteLog.{Log}
@@ -29,11 +29,11 @@ asks_of s log (c ∷ cs) =
     let here : questions_in (class_of s log c) ≡ questions_to (asks log) c = map-map (question_by c) asked (filter (λ q. q.class == c) (asks log)) in
     ap (λ l. l ++ flat_map questions_in (map (class_of s log) cs)) here ∙ ap (λ l. questions_to (asks log) c ++ l) (asks_of s log cs)
 
-pub told_is : (k : Kept State) (s : Setting) (log : Log) (t : TmNo) (ticks bound : ℕ) (on owes : Bool) (qs : List Question) (acts : List Active)
+pub state_is_reported : (k : Kept State) (s : Setting) (log : Log) (t : TmNo) (ticks bound : ℕ) (on owes : Bool) (qs : List Question) (acts : List Active)
     → Represents k s log → ticks ≡ bound / 64 → bound ≡ bound_of (clock s.site log) → on ≡ k.value.on_hold → owes ≡ k.value.owes_held
     → qs ≡ flat_map questions_in k.value.classes → acts ≡ filter_map active_of k.value.classes
-    → tm_told s log t.0 ≡ record { tm = t; clock = ticks; on_hold = on; owes_held = owes; asks = qs; active = acts }
-told_is k s log t ticks bound on owes qs acts represents e f g h i j =
+    → reported_tm s log t.0 ≡ record { tm = t; clock = ticks; on_hold = on; owes_held = owes; asks = qs; active = acts }
+state_is_reported k s log t ticks bound on owes qs acts represents e f g h i j =
     let is : state_of s log ≡ k.value = represents.state_is in
     let clk : ticks ≡ (clock s.site log).ticks = ticks_of (clock s.site log).ticks ticks bound e f in
     let hold : on ≡ nat_lt (holds log).releases (holds log).holds = g ∙ ap (λ (v : State). v.on_hold) (sym is) in

@@ -1,5 +1,5 @@
--- What an event changed is told by cut moments: of a flight by what stands behind the packets that stayed, and of a pipe by what
--- came and was processed.
+-- What an event changed is reported by cut moments: of a flight by what comes after the packets that stayed, and of a
+-- pipe by what came and was processed.
 use Rattle.sdd_watch.proofs.All.{Bool, Delta, Handed, Happened, Input, List, Log, Moment, Msg, Packet, PipeDelta, Put, Site, [], all_links, all_pipes, ap, arith, came, changes, difference, drop, false, found_by, handed_between, if◌then◌else◌, in_flight, is_empty, is_taken, last_event, left_between, left_of, length, link_after, link_before, link_moment, link_of, map, moment_of, on_link, pipe_after, pipe_before, pipe_between, pipe_moment, put_between, queue_between, queues_of, refl, sent, sym, takes_from, true, ℕ, ◌&&◌, ◌++◌, ◌-◌, ◌==◌, ◌∙◌, ◌∷◌, ◌≡◌}
 use Rattle.sdd_inside.specs.Differences.{left}
 
@@ -28,8 +28,8 @@ put_cut old new h l event found =
 
 -- pipes
 
-abbrev told_pipe : Input → Log → Log → ℕ × ℕ → ℕ → List PipeDelta
-told_pipe g old new p count =
+abbrev reported_pipe : Input → Log → Log → ℕ × ℕ → ℕ → List PipeDelta
+reported_pipe g old new p count =
     if is_empty (drop (length (came g p.0 p.1 old)) (came g p.0 p.1 new)) && count == 0 then [] else
     (record {
       dm = (pipe_moment g new p).dm;
@@ -44,8 +44,8 @@ less_none n = omega arith
 
 -- all of it
 
-abbrev told : Happened → Moment → Moment → List Handed → List Put → List PipeDelta → Delta
-told h before after handed put pipes =
+abbrev reported : Happened → Moment → Moment → List Handed → List Put → List PipeDelta → Delta
+reported h before after handed put pipes =
     record {
       number = h.number;
       scheduled = h.scheduled;
@@ -77,5 +77,5 @@ cut_tells g old new h event found =
     let put = same_changes (put_between h) (link_before old) (link_after old new) (link_moment old) (link_moment new)
     (λ l. put_cut old new h l event found) (all_links g) in
     let pipes = same_changes (pipe_between h) (pipe_before g old new) (pipe_after g old new) (pipe_moment g old) (pipe_moment g new)
-    (λ p. ap (told_pipe g old new p) (less_none (pipe_after g old new p).processed)) (all_pipes g) in
-    (λ i. told h b a (handed i) (put i) (pipes i))
+    (λ p. ap (reported_pipe g old new p) (less_none (pipe_after g old new p).processed)) (all_pipes g) in
+    (λ i. reported h b a (handed i) (put i) (pipes i))

@@ -11,12 +11,12 @@ cut_difference g old new h before after event found l q p m r s =
     (λ i. difference h (record { links = l i; queues = q i; pipes = p i }) (record { links = m i; queues = r i; pipes = s i }))
     ∙ cut_tells g old new h event found
 
--- with what happened at the event, it is what is told of the event
-pub change_told : (g : Input) (old new : Log) (h : Happened) (before after : Moment) (delta : Delta)
+-- with what happened at the event, it is what is reported of the event
+pub change_reported : (g : Input) (old new : Log) (h : Happened) (before after : Moment) (delta : Delta)
     → delta ≡ difference h before after → h ≡ happened_at g old new
     → before.links ≡ map (link_before old) (all_links g) → before.queues ≡ queues_of g old → before.pipes ≡ map (pipe_before g old new) (all_pipes g)
     → after.links ≡ map (link_after old new) (all_links g) → after.queues ≡ queues_of g new → after.pipes ≡ map (pipe_after g old new) (all_pipes g)
     → delta ≡ change g old new
-change_told g old new h before after delta is happened l q p m r s =
+change_reported g old new h before after delta is happened l q p m r s =
     is ∙ ap (λ x. difference x before after) happened
     ∙ cut_difference g old new (happened_at g old new) before after refl refl l q p m r s

@@ -1,4 +1,4 @@
--- One event more is given: the places in the schedule stay, and so does what is told of the log.
+-- One event more is given: the places in the schedule stay, and so does what is reported of the log.
 use Rattle.sdd_watch.proofs.All.{Bool, Entry, Event, Input, IsLawful, List, Log, Mark, None, Redeclare, Redeclares, Round, Settle, Some, [], all_links, ap, arith, at_event, calls_of, change, difference, false, from_event, greatest_bound, grows, happened_at, left, length, line, line_of, mark_from, mark_is_next, mark_of, marks, moment_of, next, next_mark, place_in, place_of_first, quiet, refl, round, round_at, round_in, rounds, scheduled_at, suc, true, unless_in_round, with_end, with_event, ℕ, ◌++◌, ◌-◌, ◌∙◌, ◌∷◌, ◌≡◌, ◌≤◌}
 use Rattle.sdd_watch.proofs.EachEvent.{MarksNext, event_of, lawful_at, marks_next}
 
@@ -72,7 +72,7 @@ rounds_more g f (_ ∷ log) l = rounds_more g f log l.1
 pub round_more : (g : Input) (f : Event) (log : Log) → IsLawful g log → round_at (with_event g f) log ≡ round_at g log
 round_more g f log l = λ i. round_in (rounds_more g f log l i) (grows g f log l i).1
 
--- what is told of an event stays
+-- what is reported of an event stays
 
 change_more : (g : Input) (f : Event) (old new : Log) → IsLawful g old → MarksNext g old → change (with_event g f) old new ≡ change g old new
 change_more g f old new l n =

@@ -1,4 +1,4 @@
--- What is kept of one event after the other, and what is told of what happened.
+-- What is kept of one event after the other, and what is reported of what happened.
 use Rattle.sdd_watch.proofs.All.{All, All-append, All-cons, All-filter, All-map, All-nil, AreCommits, AreDones, Arrived, Commits, D, Dones, Event, Found, Happened, History, Input, IsBetween, IsGood, IsOver, IsSiteOf, IsTurn, List, Log, Option, RowDelta, Site, SiteState, T, Turn, U, World, ap, arith, arrived, contains, d_site, dm_no, filter, found_by, happened_at, history, is_done_at, length, link_there, list_any, map, marks, pair_cmp, range_with_len, refl, round_at, rows_of, says, scheduled_at, sites, states_of, subst, suc, sym, t_site, take, takes_part, zero, ℕ, ◌++◌, ◌+◌, ◌<◌, ◌||◌, ◌∙◌, ◌≡◌, ◌≤◌}
 use Rattle.sdd_watch.proofs.Recorded.{first_records}
 use Rattle.sdd_watch.proofs.Said.{said_in_all}
@@ -15,14 +15,14 @@ pub sites_there : (g : Input) → All (IsSiteOf g) (sites g.catalogue.tms g.cata
 sites_there g =
     let t : ℕ → Site = λ n. T (record { 0 = n }) in
     let d : ℕ → Site = λ n. D (record { 0 = n }) in
-    let ts : List ℕ = range_with_len 1 g.catalogue.tms in
-    let ds : List ℕ = range_with_len 1 g.catalogue.dms in
-    let all_ts : All (λ n. IsSiteOf g (t n)) ts =
+    let tms : List ℕ = range_with_len 1 g.catalogue.tms in
+    let dms : List ℕ = range_with_len 1 g.catalogue.dms in
+    let all_tms : All (λ n. IsSiteOf g (t n)) tms =
     each_number (λ n. IsSiteOf g (t n)) 1 g.catalogue.tms (λ n low high. t_site g.catalogue n low (omega arith)) in
-    let all_ds : All (λ n. IsSiteOf g (d n)) ds =
+    let all_dms : All (λ n. IsSiteOf g (d n)) dms =
     each_number (λ n. IsSiteOf g (d n)) 1 g.catalogue.dms (λ n low high. d_site g.catalogue n (low, omega arith)) in
-    All-cons (IsSiteOf g) U (map t ts ++ map d ds) refl
-    (All-append (IsSiteOf g) (map t ts) (map d ds) (All-map (IsSiteOf g) t ts all_ts) (All-map (IsSiteOf g) d ds all_ds))
+    All-cons (IsSiteOf g) U (map t tms ++ map d dms) refl
+    (All-append (IsSiteOf g) (map t tms) (map d dms) (All-map (IsSiteOf g) t tms all_tms) (All-map (IsSiteOf g) d dms all_dms))
 
 pub takers_there : (g : Input) (old new : Log) (all busy : List Site) → all ≡ sites g.catalogue.tms g.catalogue.dms → busy ≡ filter (takes_part g old new) all
     → All (IsSiteOf g) busy
@@ -70,6 +70,6 @@ of_parts number scheduled round event found rows sites = record {
 pub happened_is : (g : Input) (old new : Log) (w : World) (turn : Turn) (found : Found) (number : ℕ) (rows : List RowDelta) (states : List SiteState)
     → IsOver g old new w turn.event found → IsTurn g old new turn → number ≡ marks new → rows ≡ rows_of g old new → states ≡ states_of g old new
     → of_parts number turn.scheduled turn.round turn.event found rows states ≡ happened_at g old new
-happened_is g old new w turn found number rows states over at count told represent =
+happened_is g old new w turn found number rows states over at count reported represent =
     (λ i. of_parts (count i) (at.scheduled i) (at.round i) turn.event (over.found_is i) rows states)
-    ∙ (λ i. of_parts (marks new) (scheduled_at g old) (round_at g old) (over.event_is i) (found_by (over.event_is i) old new) (told i) (represent i))
+    ∙ (λ i. of_parts (marks new) (scheduled_at g old) (round_at g old) (over.event_is i) (found_by (over.event_is i) old new) (reported i) (represent i))

@@ -4,14 +4,14 @@ pub mod AtD
 pub mod AtT
 pub mod Attempts
 pub mod Awaited
-mod BegunTold
+mod BeginsReport
 pub mod Between
 pub mod Came
 pub mod Committed
 pub mod Cut
 pub mod CutDifference
 mod EachEvent
-mod EventTold
+mod EventIsReported
 pub mod FirstPlaces
 pub mod Flights
 pub mod Folding
@@ -32,8 +32,8 @@ pub mod PipesVisited
 pub mod Queued
 pub mod Recorded
 mod RoundEntry
-mod RoundsTold
-pub mod RowsTold
+mod RoundsAreReported
+pub mod RowsAreReported
 pub mod Said
 pub mod Saying
 mod Scheduled

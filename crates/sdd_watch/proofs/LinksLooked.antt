@@ -48,15 +48,15 @@ links_more g old new begun links i x next seen before after before2 after2 come 
     let ls : List (Site × Site) = all_links g in
     let p = link_at g old new begun links i x before after come e few s is in
     let linked = place_linked g old new links i x p in
-    let told : seen ≡ seen_between old new p.place = looks p.place linked p.stood in
+    let reported : seen ≡ seen_between old new p.place = looks p.place linked p.stood in
     record {
       links_are = p.changed next (keeps p.place linked p.stood);
       before_are = mapped_last (link_before old) (take i ls) p.place (take (i + 1) ls) before before2 seen.before s.before_are b
-          (ap (λ (y : LinkSeen). y.before) told) p.further;
+          (ap (λ (y : LinkSeen). y.before) reported) p.further;
       after_are = mapped_last (link_after old new) (take i ls) p.place (take (i + 1) ls) after after2 seen.after s.after_are a
-          (ap (λ (y : LinkSeen). y.after) told) p.further;
+          (ap (λ (y : LinkSeen). y.after) reported) p.further;
       come_are = picked_last (arrived_on old new) (take i ls) p.place (take (i + 1) ls) come come2 seen.arrived s.come_are c
-          (ap (λ (y : LinkSeen). y.arrived) told) p.further;
+          (ap (λ (y : LinkSeen). y.arrived) reported) p.further;
     }
 
 -- all are looked at

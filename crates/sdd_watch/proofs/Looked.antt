@@ -29,11 +29,11 @@ pub record IsRead (old new : Log) (w : WatchedLink) (taken : Bool) (left : ℕ) 
 pub link_there : (g : Input) (old : Log) (l : Site × Site) (w : WatchedLink) → w ≡ watched_link old l → IsLinkOf g l.0 l.1 → IsLinkOf g w.from w.to
 link_there g old l w is linked = subst (λ (x : WatchedLink). IsLinkOf g x.from x.to) (sym is) linked
 
--- the event and what it found are those that are told
-pub taken_told : (old new : Log) (w : WatchedLink) (event : Event) (found : Found) (taken : Bool)
+-- the event and what it found are those that are reported
+pub taken_reported : (old new : Log) (w : WatchedLink) (event : Event) (found : Found) (taken : Bool)
     → event ≡ last_event new → found ≡ found_by event old new → taken ≡ is_taken event found (w.from, w.to)
     → taken ≡ is_taken (last_event new) (found_by (last_event new) old new) (w.from, w.to)
-taken_told old new w event found taken e is h =
+taken_reported old new w event found taken e is h =
     h ∙ ap (λ f. is_taken event f (w.from, w.to)) is ∙ ap (λ x. is_taken x (found_by x old new) (w.from, w.to)) e
 
 at_left : (old new : Log) (l : Site × Site) (taken : Bool) (left : ℕ) (news : List (Packet Msg)) (put over : ℕ)

@@ -25,8 +25,8 @@ passed_by_head : (o : Option Msg) (processed : List Msg) → or_zero (passed_wit
 passed_by_head None processed = refl
 passed_by_head (Some m) processed = refl
 
-passed_told : (d : Digest) (p : Pipe) → IsDigest d p → or_zero (digest.passed_to d) ≡ passed_to p
-passed_told d p is =
+passed_reported : (d : Digest) (p : Pipe) → IsDigest d p → or_zero (digest.passed_to d) ≡ passed_to p
+passed_reported d p is =
     (λ i. or_zero (passed_with (head_of (is.unprocessed i)) (is.latest i))) ∙ passed_by_head (head_of p.unprocessed) p.processed
 
 -- what is read of a pipe behind the event
@@ -45,7 +45,7 @@ read_pipe g old new d c w sites k unprocessed passed is all here few lives u p =
     record {
       left = u ∙ ap (λ n. length (pipe_at k.value.pipes n.0).unprocessed) class ∙ ap length i.unprocessed;
       passed_is = p ∙ ap (λ n. time_at (or_zero (digest.passed_to (pipe_at k.value.pipes n.0)))) class
-          ∙ ap time_at (passed_told (pipe_at k.value.pipes c) (pipe c (local_of g (D (dm_no d)) new)) i);
+          ∙ ap time_at (passed_reported (pipe_at k.value.pipes c) (pipe c (local_of g (D (dm_no d)) new)) i);
     }
 
 -- what is kept of it

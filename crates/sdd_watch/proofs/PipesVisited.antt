@@ -74,8 +74,9 @@ at_module g old begun pipes i x e few here same is =
     let p = of_place (watched_pipe g old) (all_pipes g) i x (omega (arith, few, n)) (stood ∙ ap (λ ws. get_or ws i x) e) in
     subst (λ (w : WatchedPipe). IsSiteOf g (D w.dm)) (sym p.2) (pipe_there g i p.0 p.1).site
 
-pub rest_stands : (begun pipes : List WatchedPipe) (i : ℕ) (next : WatchedPipe) → AsTheyStood i begun pipes → AsTheyStood (i + 1) begun (slice_set pipes i next)
-rest_stands begun pipes i next e =
+pub rest_is_kept : (begun pipes : List WatchedPipe) (i : ℕ) (next : WatchedPipe) → AsTheyStood i begun pipes
+    → AsTheyStood (i + 1) begun (slice_set pipes i next)
+rest_is_kept begun pipes i next e =
     drop-set-lt (i + 1) pipes i next (omega arith) ∙ sym (drop-drop 1 i pipes) ∙ ap (drop 1) e ∙ drop-drop 1 i begun
 
 -- what stands at a place, whatever is taken where nothing does

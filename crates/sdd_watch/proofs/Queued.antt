@@ -7,21 +7,21 @@ use Rattle.sdd_obligations.specs.tm.State as tm_state
 use Rattle.sdd_obligations.specs.umod.Represents as um
 use Rattle.sdd_obligations.specs.umod.State as um_state
 
-pub queues_told : (g : Input) (log : Log) (t : TmNo) (k : Kept tm_state.State) → tm.Represents k (setting_of g (T t)) (local_of g (T t) log)
+pub queues_reported : (g : Input) (log : Log) (t : TmNo) (k : Kept tm_state.State) → tm.Represents k (setting_of g (T t)) (local_of g (T t) log)
     → map queue_in k.value.classes ≡ queues_at g log t.0
-queues_told g log t k represents =
+queues_reported g log t k represents =
     let s : Setting = setting_of g (T t) in
     let own : site.Log = local_of g (T t) log in
     ap (λ (v : tm_state.State). map queue_in v.classes) (sym represents.state_is)
     ∙ map-map queue_in (tm_state.class_of s own) (runs s)
 
-queue_told : (g : Input) (log : Log) (k : Kept um_state.State) → um.Represents k (setting_of g U) (local_of g U log)
+queue_reported : (g : Input) (log : Log) (k : Kept um_state.State) → um.Represents k (setting_of g U) (local_of g U log)
     → queue_of k.value.line.class k.value.line.queue ≡ queue_moment g log U 0
-queue_told g log k represents = ap (λ (v : um_state.State). queue_of v.line.class v.line.queue) (sym represents.state_is)
+queue_reported g log k represents = ap (λ (v : um_state.State). queue_of v.line.class v.line.queue) (sym represents.state_is)
 
 pub first_queue : (g : Input) (log : Log) (k : Kept um_state.State) (line : Line) (first : QueueMoment) → first ≡ queue_of line.class line.queue
     → line ≡ k.value.line → um.Represents k (setting_of g U) (local_of g U log) → first ≡ queue_moment g log U 0
-first_queue g log k line first is lent represents = is ∙ ap (λ (l : Line). queue_of l.class l.queue) lent ∙ queue_told g log k represents
+first_queue g log k line first is lent represents = is ∙ ap (λ (l : Line). queue_of l.class l.queue) lent ∙ queue_reported g log k represents
 
 -- the first one, and those of the transaction modules so far
 

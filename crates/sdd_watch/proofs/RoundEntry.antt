@@ -1,4 +1,4 @@
--- Where a round begins nothing changes but what is left of it: what is told of the event before stays.
+-- Where a round begins nothing changes but what is left of it: what is reported of the event before stays.
 use Rattle.sdd_watch.proofs.All.{Deliver, Event, Input, List, Log, Msg, None, Option, Packet, Round, Site, Some, Taken, arrived_by, arrived_of, change, concerns, difference, filter, found_by, happened_at, is_reached, last_event, link_of, map, moment_of, packet_at, refl, sites, state_of, taken, ◌||◌, ◌∷◌, ◌≡◌}
 use Rattle.sdd_inside.specs.declared.delta.Taken.TheVariants.{Ack, Message}
 

@@ -72,7 +72,7 @@ alike : (p q : ℕ → Bool) (k n : ℕ) → ((d : ℕ) → k ≤ d → d < k + 
 alike p q k zero same = refl
 alike p q k (suc n) same =
     ap (λ b. cond b (k ∷ filter p (range_with_len (k + 1) n)) (filter p (range_with_len (k + 1) n))) (same k (omega arith) (omega arith))
-    ∙ ap (λ (ds : List ℕ). cond (q k) (k ∷ ds) ds) (alike p q (k + 1) n (λ d low high. same d (omega arith) (omega arith)))
+    ∙ ap (λ (dms : List ℕ). cond (q k) (k ∷ dms) dms) (alike p q (k + 1) n (λ d low high. same d (omega arith) (omega arith)))
 
 done_link : (g : Input) (d : ℕ) → 1 ≤ d → d ≤ g.catalogue.dms → IsLinkOf g (D (dm_no d)) U
 done_link g d low high = ap (λ b. b && true) (d_site g.catalogue d (low, high))

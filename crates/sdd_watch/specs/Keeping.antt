@@ -8,7 +8,7 @@ use Rattle.sdd_inside.specs.declared.standing.Active.{Active}
 use Rattle.sdd_inside.specs.declared.standing.Head.{Head}
 use Rattle.sdd_inside.specs.declared.standing.Head.TheVariants as heads
 use Rattle.sdd_inside.specs.declared.standing.Question as questions
-use Rattle.sdd_watch.specs.States.{active_told}
+use Rattle.sdd_watch.specs.States.{reported_active}
 
 -- the attempt of a line, which is that of the first transaction in its queue
 
@@ -16,7 +16,7 @@ abbrev pub IsLineInOrder : Line → Type 0
 IsLineInOrder l = IsOfHead l.queue l.active
 
 abbrev pub active_in : Line → Option Active
-active_in l = active_told l.class l.active
+active_in l = reported_active l.class l.active
 
 -- the open ASKs of a class
 

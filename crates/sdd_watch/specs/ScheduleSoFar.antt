@@ -1,4 +1,4 @@
--- What is told so far, while a world carries out a schedule.
+-- What is reported so far, while a world carries out a schedule.
 use Rattle.std.specs.Prelude.{ℕ, suc, ◌≤◌, ◌≡◌, false, List, [], ◌∷◌, length}
 use Rattle.sdd_obligations.specs.All.{Event, Input, IsTheLog, Log, all_links, calls_of, left, marks, quiet}
 use Rattle.sdd_run.specs.world.Represents.{IsSettled, Represents, Rounding, Settling}
@@ -14,8 +14,8 @@ pub record Tells (g : Input) (log : Log) (t : Teller) : Type 0 where
   pub text_is : t.text.items ≡ inside_text g log
   pub watches : Watches g log t.watch
 
--- All that was given is carried out and told; the next event of the schedule has this place.
-pub record IsTold (w : World) (g : Input) (log : Log) (t : Teller) (place : ℕ) : Type 0 where
+-- All that was given is carried out and reported; the next event of the schedule has this place.
+pub record IsReported (w : World) (g : Input) (log : Log) (t : Teller) (place : ℕ) : Type 0 where
   pub represents : Represents w g log
   pub tells : Tells g log t
   pub place_is : place ≡ suc (length g.events)

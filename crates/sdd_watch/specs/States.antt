@@ -13,7 +13,7 @@ use Rattle.sdd_inside.specs.declared.standing.Active.{Active}
 use Rattle.sdd_inside.specs.declared.standing.DmState.{DmState}
 use Rattle.sdd_inside.specs.declared.standing.Head.{Head}
 use Rattle.sdd_inside.specs.declared.standing.Head.TheVariants as heads
-use Rattle.sdd_inside.specs.declared.standing.Phase as told
+use Rattle.sdd_inside.specs.declared.standing.Phase as reported
 use Rattle.sdd_inside.specs.declared.standing.Phase.TheVariants as phases
 use Rattle.sdd_inside.specs.declared.standing.Question as questions
 use Rattle.sdd_inside.specs.declared.standing.SiteState.{SiteState}
@@ -26,18 +26,18 @@ use Rattle.sdd_inside.specs.declared.standing.UState.{UState}
 -- attempts that are under way
 
 -- what one does that awaits such answers
-abbrev pub phase_by : Answer → told.Phase
+abbrev pub phase_by : Answer → reported.Phase
 phase_by answers.Ready = phases.Reading
 phase_by answers.Values = phases.Fetching
 phase_by answers.Reduced = phases.Reducing
 phase_by answers.Rows = phases.Shipping
 
 -- one whose exchange is over awaits nothing: it commits within the event
-abbrev pub phase_told : Phase → Option told.Phase
-phase_told phase = option_map phase_by (awaited_in phase)
+abbrev pub reported_phase : Phase → Option reported.Phase
+reported_phase phase = option_map phase_by (awaited_in phase)
 
-abbrev pub attempt_told : ℕ → Attempt → told.Phase → Active
-attempt_told c a phase =
+abbrev pub reported_attempt : ℕ → Attempt → reported.Phase → Active
+reported_attempt c a phase =
     record {
       class = class_no c;
       txn = txn_no a.txn;
@@ -47,25 +47,25 @@ attempt_told c a phase =
       lacks = map dm_no a.exchange.lacks;
     }
 
-abbrev pub active_told : ℕ → Option Attempt → Option Active
-active_told c None = None
-active_told c (Some a) = option_map (attempt_told c a) (phase_told a.exchange.phase)
+abbrev pub reported_active : ℕ → Option Attempt → Option Active
+reported_active c None = None
+reported_active c (Some a) = option_map (reported_attempt c a) (reported_phase a.exchange.phase)
 
 abbrev pub actives : Setting → site.Log → List ℕ → List Active
-actives s log classes = filter_map (λ c. active_told c (active s c log)) classes
+actives s log classes = filter_map (λ c. reported_active c (active s c log)) classes
 
 -- transaction modules
 
 -- the questions to class c that have no answer, in the order in which they came
 
-abbrev pub question_told : ℕ → Question → questions.Question
-question_told c q = record { class = class_no c; from = q.from; time = time_at q.time }
+abbrev pub reported_question : ℕ → Question → questions.Question
+reported_question c q = record { class = class_no c; from = q.from; time = time_at q.time }
 
 abbrev pub questions_to : List Question → ℕ → List questions.Question
-questions_to qs c = map (question_told c) (filter (λ q. q.class == c) qs)
+questions_to qs c = map (reported_question c) (filter (λ q. q.class == c) qs)
 
-abbrev pub tm_told : Setting → site.Log → ℕ → TmState
-tm_told s log t =
+abbrev pub reported_tm : Setting → site.Log → ℕ → TmState
+reported_tm s log t =
     record {
       tm = tm_no t;
       clock = (clock s.site log).ticks;
@@ -119,8 +119,8 @@ lacks_in s log stages.Holding = unheld s log
 lacks_in s log stages.Writing = data_sites (unapplied_last s log)
 lacks_in s log stages.Idle = []
 
-abbrev pub u_told : Setting → site.Log → UState
-u_told s log =
+abbrev pub reported_u : Setting → site.Log → UState
+reported_u s log =
     record {
       clock = (clock s.site log).ticks;
       stage = stage_at s log;
@@ -141,15 +141,15 @@ head_by v c waits m = None
 abbrev pub report_head : View → ClassView → Option Head
 report_head v k = head_by v k.class k.waits (head k.pipe)
 
-abbrev pub dm_told : Setting → site.Log → ℕ → Bool → DmState
-dm_told s log d down = record { dm = dm_no d; is_down = down; heads = filter_map (report_head (view_of s log)) (view_of s log).classes }
+abbrev pub reported_dm : Setting → site.Log → ℕ → Bool → DmState
+reported_dm s log d down = record { dm = dm_no d; is_down = down; heads = filter_map (report_head (view_of s log)) (view_of s log).classes }
 
 -- a site
 
 abbrev pub state_of : Input → Log → Site → SiteState
-state_of g log U = states.U (u_told (setting_of g U) (local_of g U log))
-state_of g log (T t) = states.T (tm_told (setting_of g (T t)) (local_of g (T t) log) t.0)
-state_of g log (D d) = states.D (dm_told (setting_of g (D d)) (local_of g (D d) log) d.0 (is_down d.0 log))
+state_of g log U = states.U (reported_u (setting_of g U) (local_of g U log))
+state_of g log (T t) = states.T (reported_tm (setting_of g (T t)) (local_of g (T t) log) t.0)
+state_of g log (D d) = states.D (reported_dm (setting_of g (D d)) (local_of g (D d) log) d.0 (is_down d.0 log))
 
 -- the data modules that haven't said that they applied what U committed last
 abbrev pub unapplied_of : Input → Log → List DmNo

@@ -114,8 +114,8 @@ left_between old new l =
     left_of (is_taken (last_event new) (found_by (last_event new) old new) l)
     (length (link_of l.0 l.1 old).there.flight)
 
--- What is told of an event is told by what stands behind that: cut so, a moment of a link has before the event no packets, and
--- behind it those that were put.
+-- What is reported of an event follows from what comes after it: cut so, a moment of a link has before the event no
+-- packets, and behind it those that were put.
 
 abbrev pub link_before : Log → Site × Site → LinkMoment
 link_before old l =

@@ -21,7 +21,7 @@ use sdd_run::sdd_world::{World, WorldEnd, data_modules};
 use sdd_run::{first_table, further, tables_of};
 use std::alloc::Global;
 
-/// What is told before the first event.
+/// What is reported before the first event.
 fn begin<'c>(
     alloc: Global,
     catalogue: &'c Catalogue,

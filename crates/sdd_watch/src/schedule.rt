@@ -1,9 +1,9 @@
-//! The events of a schedule, carried out one by one, and each of them told.
+//! The events of a schedule, carried out one by one, and each of them reported.
 ghost use Rattle.std.specs.Prelude.{◌≡◌, ◌+◌, ◌^◌, ◌<◌, ◌≤◌, List, [], ◌∷◌, ℕ, suc, length, IfOk, OnOk, IsErrOf};
 ghost use Rattle.sdd_obligations.specs.All.{Event as Happening, Input, IsGood, IsPossible, IsTheLog, Log, Redeclare, TakesRounds, marks, with_event};
 ghost use Rattle.sdd_run.specs.world.Schedules.{AreAllowed, IsAllowed, lists_after, with_events};
 ghost use Rattle.sdd_run.specs.world.Represents.{EndsBy};
-ghost use Rattle.sdd_watch.specs.ScheduleSoFar.{IsTextOf, IsTold, TellsBetween, TellsRound, TellsSettled};
+ghost use Rattle.sdd_watch.specs.ScheduleSoFar.{IsReported, IsTextOf, TellsBetween, TellsRound, TellsSettled};
 
 use crate::foreseen::{Foreseen, foresee};
 use crate::teller::Teller;
@@ -20,14 +20,14 @@ fn step<'a>(
     place: u32,
     teller: &mut Teller<'_>,
 ) -> Result<World<'a>, WorldEnd>
-    requires { (g : Input) × (log : Log) × IsTold world g log teller.old place
+    requires { (g : Input) × (log : Log) × IsReported world g log teller.old place
         × IsPossible g event.now × IsGood (with_event g event.now) }
     ensures log { IfOk result (λ next. (g : Input) (log : Log)
-        → IsTold world.entry g log teller.old place → IsPossible g event.now
+        → IsReported world.entry g log teller.old place → IsPossible g event.now
         → IsGood (with_event g event.now)
-        → (more : Log) × IsTold next (with_event g event.now) more teller.new (suc place)) }
+        → (more : Log) × IsReported next (with_event g event.now) more teller.new (suc place)) }
     ensures limit { IsErrOf result WorldEnd.Limit → (g : Input) (log : Log)
-        → IsTold world.entry g log teller.old place → IsPossible g event.now
+        → IsReported world.entry g log teller.old place → IsPossible g event.now
         → IsGood (with_event g event.now) → EndsBy (with_event g event.now) }
 {
     let finds = foresee(&world, event);
@@ -103,13 +103,13 @@ fn rounds<'a>(
     place: u32,
     teller: &mut Teller<'_>,
 ) -> Result<World<'a>, WorldEnd>
-    requires { (g : Input) × (log : Log) × IsTold world g log teller.old place × TakesRounds event
+    requires { (g : Input) × (log : Log) × IsReported world g log teller.old place × TakesRounds event
         × IsGood (with_event g event) }
     ensures log { IfOk result (λ next. (g : Input) (log : Log)
-        → IsTold world.entry g log teller.old place → TakesRounds event → IsGood (with_event g event)
+        → IsReported world.entry g log teller.old place → TakesRounds event → IsGood (with_event g event)
         → TellsSettled next (with_event g event) event teller.new place) }
     ensures limit { IsErrOf result WorldEnd.Limit → (g : Input) (log : Log)
-        → IsTold world.entry g log teller.old place → TakesRounds event → IsGood (with_event g event)
+        → IsReported world.entry g log teller.old place → TakesRounds event → IsGood (with_event g event)
         → EndsBy (with_event g event) }
 {
     let mut now = world.begin_rounds(event)?;
@@ -128,13 +128,13 @@ fn redeclare<'a>(
     lists: &mut VecDeque<ClassList<'a>>,
     teller: &mut Teller<'_>,
 ) -> Result<World<'a>, WorldEnd>
-    requires { (g : Input) × (log : Log) × IsTold world g log teller.old place
+    requires { (g : Input) × (log : Log) × IsReported world g log teller.old place
         × IsAllowed g Redeclare lists.old.items }
     ensures log { IfOk result (λ next. (g : Input) (log : Log)
-        → IsTold world.entry g log teller.old place → IsAllowed g Redeclare lists.old.items
-        → (more : Log) × IsTold next (with_event g Redeclare) more teller.new (suc place)) }
+        → IsReported world.entry g log teller.old place → IsAllowed g Redeclare lists.old.items
+        → (more : Log) × IsReported next (with_event g Redeclare) more teller.new (suc place)) }
     ensures limit { IsErrOf result WorldEnd.Limit → (g : Input) (log : Log)
-        → IsTold world.entry g log teller.old place → IsAllowed g Redeclare lists.old.items
+        → IsReported world.entry g log teller.old place → IsAllowed g Redeclare lists.old.items
         → EndsBy (with_event g Redeclare) }
     ensures others { OnOk result (lists.new.items ≡ lists_after Redeclare lists.old.items) }
 {
@@ -162,13 +162,13 @@ fn carry_out_one<'a>(
     lists: &mut VecDeque<ClassList<'a>>,
     teller: &mut Teller<'_>,
 ) -> Result<World<'a>, WorldEnd>
-    requires { (g : Input) × (log : Log) × IsTold world g log teller.old place
+    requires { (g : Input) × (log : Log) × IsReported world g log teller.old place
         × IsAllowed g event.now lists.old.items }
     ensures log { IfOk result (λ next. (g : Input) (log : Log)
-        → IsTold world.entry g log teller.old place → IsAllowed g event.now lists.old.items
-        → (more : Log) × IsTold next (with_event g event.now) more teller.new (suc place)) }
+        → IsReported world.entry g log teller.old place → IsAllowed g event.now lists.old.items
+        → (more : Log) × IsReported next (with_event g event.now) more teller.new (suc place)) }
     ensures limit { IsErrOf result WorldEnd.Limit → (g : Input) (log : Log)
-        → IsTold world.entry g log teller.old place → IsAllowed g event.now lists.old.items
+        → IsReported world.entry g log teller.old place → IsAllowed g event.now lists.old.items
         → EndsBy (with_event g event.now) }
     ensures others { OnOk result (lists.new.items ≡ lists_after event.now lists.old.items) }
 {
@@ -191,13 +191,13 @@ pub(crate) fn carry_out<'a>(
     lists: Vec<ClassList<'a>>,
     teller: &mut Teller<'_>,
 ) -> Result<(), WorldEnd>
-    requires { (g : Input) × (log : Log) × IsTold world g log teller.old 1
+    requires { (g : Input) × (log : Log) × IsReported world g log teller.old 1
         × AreAllowed g events.items lists.items × (length events.items < 2 ^ 32) }
-    ensures text { OnOk result ((g : Input) (log : Log) → IsTold world.entry g log teller.old 1
+    ensures text { OnOk result ((g : Input) (log : Log) → IsReported world.entry g log teller.old 1
         → AreAllowed g events.items lists.entry.items
         → IsTextOf (with_events g events.items) teller.new.text.items) }
     ensures limit { IsErrOf result WorldEnd.Limit → (g : Input) (log : Log)
-        → IsTold world.entry g log teller.old 1 → AreAllowed g events.items lists.entry.items
+        → IsReported world.entry g log teller.old 1 → AreAllowed g events.items lists.entry.items
         → EndsBy (with_events g events.items) }
 {
     let mut now = world;

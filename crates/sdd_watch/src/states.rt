@@ -10,7 +10,7 @@ ghost use Rattle.sdd_obligations.specs.tm.Represents as tm_represents;
 ghost use Rattle.sdd_obligations.specs.umod.Represents as u_represents;
 ghost use Rattle.sdd_run.specs.world.Represents.{Calm};
 ghost use Rattle.sdd_watch.specs.Keeping.{IsLineInOrder, active_in, active_of, head_in, question_by, questions_in};
-ghost use Rattle.sdd_watch.specs.States.{data_sites, dm_told, lacks_in, phase_by, report_head, stage_at, stage_by, state_of, tm_told, u_told, unapplied_last, unapplied_of};
+ghost use Rattle.sdd_watch.specs.States.{data_sites, lacks_in, phase_by, report_head, reported_dm, reported_tm, reported_u, stage_at, stage_by, state_of, unapplied_last, unapplied_of};
 
 use sdd_inside::{Active, DmState, Head, Phase, Question, SiteState, Stage, TmState, UState};
 use sdd_obligations::sdd_attempt::{Answer, Line};
@@ -137,7 +137,7 @@ fn open_questions(alloc: Global, runs: &[ClassRun<'_>]) -> Result<Vec<Question>,
 fn tm_state(alloc: Global, tm: TmNo, tm_module: &TxnModule<'_>) -> Result<TmState, NoMemory>
     requires { (s : Setting) × (log : site.Log) × tm_represents.Represents tm_module.now s log }
     ensures { IfOk result (λ state. (s : Setting) (log : site.Log) → tm_represents.Represents tm_module.now s log
-        → state ≡ tm_told s log tm.0) }
+        → state ≡ reported_tm s log tm.0) }
 {
     let runs = tm_module.classes();
     let asks = open_questions(alloc, runs)?;
@@ -213,7 +213,7 @@ fn missing_sites(
 fn u_state(alloc: Global, u_module: &UModule<'_>, unapplied: &[DmNo]) -> Result<UState, NoMemory>
     requires { (s : Setting) × (log : site.Log) × u_represents.Represents u_module.now s log }
     ensures { IfOk result (λ state. (s : Setting) (log : site.Log) → u_represents.Represents u_module.now s log
-        → unapplied.now ≡ unapplied_last s log → state ≡ u_told s log) }
+        → unapplied.now ≡ unapplied_last s log → state ≡ reported_u s log) }
 {
     let stage = stage_at(u_module);
     let lacks = missing_sites(alloc, u_module, stage, unapplied)?;
@@ -275,7 +275,7 @@ fn dm_state(
     dm_module: &DataModule,
 ) -> Result<DmState, NoMemory>
     ensures { IfOk result (λ state. (s : Setting) (log : site.Log) → data_represents.Represents dm_module.now s log
-        → state ≡ dm_told s log dm.0 is_down) }
+        → state ≡ reported_dm s log dm.0 is_down) }
 {
     let mut heads = Vec::new(alloc);
     for class in 0..dm_module.pipe_count() {

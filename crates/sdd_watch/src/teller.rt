@@ -12,7 +12,7 @@ use sdd_obligations::sdd_base::NoMemory;
 use sdd_obligations::sdd_catalog::Catalogue;
 use sdd_run::sdd_world::World;
 
-/// What is told so far, and what stood where when that was over.
+/// What is reported so far, and what was where when that was over.
 #[derive(Drop)]
 pub(crate) struct Teller<'c> {
     pub(crate) catalogue: &'c Catalogue,

@@ -9,7 +9,7 @@ use std::alloc::Global;
 use std::collections::VecDeque;
 use std::marker::Model;
 
-/// What a message is for at the site where its link ends, as far as that is told.
+/// What a message is for at the site where its link ends, as far as that is reported.
 #[derive(Clone, Copy)]
 pub(crate) enum Purpose {
     /// It goes through the pipe of a class.

@@ -4,7 +4,7 @@ ghost use Rattle.std.specs.List.{list_all};
 ghost use Rattle.sdd_words.specs.Keywords.{is_free, looks_like_column};
 ghost use Rattle.sdd_words.specs.Forms.{comparison_key, comparisons, comparison_of, conditions_form, joined, not_empty, setting_of, settings, look_like_columns, are_free};
 
-use crate::keyword::{adds, has_key, looks_like_column, operator, stands_free};
+use crate::keyword::{adds, has_key, is_free, looks_like_column, operator};
 use crate::token::Token;
 use crate::tokens::Tokens;
 use sdd_base::Op;
@@ -81,7 +81,7 @@ fn comparison_of<'a>(
 ) -> Option<Comparison<'a>>
     ensures { result ≡ comparison_of key.now first.now left.entry op.now right.entry }
 {
-    if has_key(key, first) && looks_like_column(&left) && stands_free(&right) {
+    if has_key(key, first) && looks_like_column(&left) && is_free(&right) {
         match operator(op) {
             Some(op) => Some(Comparison { left, op, right }),
             None => None,
@@ -158,7 +158,7 @@ impl<'a> Comparisons<'a> {
 fn assignment_of<'a>(left: Token<'a>, op: &Token<'_>, right: Token<'a>) -> Option<Setting<'a>>
     ensures { result ≡ setting_of left.entry op.now right.entry }
 {
-    if looks_like_column(&left) && stands_free(&right) {
+    if looks_like_column(&left) && is_free(&right) {
         match adds(op) {
             Some(adds) => Some(Setting { left, adds, right }),
             None => None,
@@ -240,7 +240,7 @@ fn all_free(words: &mut Tokens<'_>) -> bool
     ensures { result ≡ list_all is_free words.old }
 {
     'words: while let Some(word) = words.next() {
-        if !stands_free(&word) {
+        if !is_free(&word) {
             return false;
         }
     }

@@ -89,7 +89,7 @@ fn is_reserved(bytes: &[u8]) -> bool
 
 /// Whether the word can stand for a name, a number, a site or a value: it is no keyword. Takes no
 /// memory.
-pub fn stands_free(word: &Token<'_>) -> bool
+pub fn is_free(word: &Token<'_>) -> bool
     ensures { result ≡ is_free word.now }
 {
     match word.plain() {

@@ -29,7 +29,7 @@ pub use form::{
     Comparison, Comparisons, Setting, Settings, are_free, look_like_columns, read_comparisons,
     read_settings,
 };
-pub use keyword::{adds, has_key, looks_like_column, names_column, operator, stands_free};
+pub use keyword::{adds, has_key, is_free, looks_like_column, names_column, operator};
 pub use line::next_line;
 pub use naming::read_name;
 pub use number::{number_in, read_count};

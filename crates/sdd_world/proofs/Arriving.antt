@@ -13,8 +13,8 @@ module _ (w now : World) (g : Input) (log : Log) (a b : Site) (k : ℕ) (message
   pub comes_to : (g2 : Input) × (log2 : Log) × IsSiteOf g2 b × Spooled g2 log2 now.spool U
   comes_to = (g, log, site_is, subst (λ z. Spooled g log z U) (sym spool_is) h.marked.spooled)
 
-  pub told : IsSiteOf g b × Spooled g log now.spool U
-  told = (site_is, subst (λ z. Spooled g log z U) (sym spool_is) h.marked.spooled)
+  pub site_and_spool : IsSiteOf g b × Spooled g log now.spool U
+  site_and_spool = (site_is, subst (λ z. Spooled g log z U) (sym spool_is) h.marked.spooled)
 
   -- to a site that takes part
   pub to_hand : takes_part b log ≡ true → Handing now g (Mark (Deliver a b k) ∷ log) b (from_one a messages)

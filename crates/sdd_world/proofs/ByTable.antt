@@ -109,62 +109,62 @@ module _ {A B C : Type 0} (p : Representation A) (q : Representation B) (r : Rep
   abbrev pub AllAt : Site → Representation (A × List B × List C)
   AllAt at m setting log = RepresentsAt p q r m.0 m.1 m.2 at setting log
 
-  at_u : (u u2 : A) (ts : List B) (ds : List C) → Widens p (AllAt U) u u2 (u, ts, ds) (u2, ts, ds)
-  at_u u u2 ts ds = record { narrow = λ setting log x. x; widen = λ setting log more x y. y }
+  at_u : (u u2 : A) (tms : List B) (dms : List C) → Widens p (AllAt U) u u2 (u, tms, dms) (u2, tms, dms)
+  at_u u u2 tms dms = record { narrow = λ setting log x. x; widen = λ setting log more x y. y }
 
-  at_t : (n : TmNo) (u : A) (ts ts2 : List B) (ds : List C)
-      → Widens (At q) (AllAt (T n)) (slice_get ts (n.0 - 1)) (slice_get ts2 (n.0 - 1)) (u, ts, ds) (u, ts2, ds)
-  at_t n u ts ts2 ds = record { narrow = λ setting log x. x.1; widen = λ setting log more x y. (x.0, y) }
+  at_t : (n : TmNo) (u : A) (tms tms2 : List B) (dms : List C)
+      → Widens (At q) (AllAt (T n)) (slice_get tms (n.0 - 1)) (slice_get tms2 (n.0 - 1)) (u, tms, dms) (u, tms2, dms)
+  at_t n u tms tms2 dms = record { narrow = λ setting log x. x.1; widen = λ setting log more x y. (x.0, y) }
 
-  at_d : (n : DmNo) (u : A) (ts : List B) (ds ds2 : List C)
-      → Widens (At r) (AllAt (D n)) (slice_get ds (n.0 - 1)) (slice_get ds2 (n.0 - 1)) (u, ts, ds) (u, ts, ds2)
-  at_d n u ts ds ds2 = record { narrow = λ setting log x. x.1; widen = λ setting log more x y. (x.0, y) }
+  at_d : (n : DmNo) (u : A) (tms : List B) (dms dms2 : List C)
+      → Widens (At r) (AllAt (D n)) (slice_get dms (n.0 - 1)) (slice_get dms2 (n.0 - 1)) (u, tms, dms) (u, tms, dms2)
+  at_d n u tms dms dms2 = record { narrow = λ setting log x. x.1; widen = λ setting log more x y. (x.0, y) }
 
   module _ (fu ft fd : Fitting) (from : Site) (msg : Msg) (res : Result Outcome NoMemory) where
     abbrev pub TakenAt : A × List B × List C → A × List B × List C → Site → Type 0
     TakenAt m m2 at = IfOk res (TakesMsg (AllAt at) (next_of at) (fits_at fu ft fd at) m m2 from msg)
 
-    pub take_u : (next : Table) (u u2 : A) (ts : List B) (ds : List C) (at : Site) → at ≡ U → Agree next um.next
-        → IfOk res (TakesMsg p next fu u u2 from msg) → TakenAt (u, ts, ds) (u2, ts, ds) at
-    take_u next u u2 ts ds at e agree law =
-        subst (TakenAt (u, ts, ds) (u2, ts, ds)) (sym e)
-        (if_ok res (TakesMsg p next fu u u2 from msg) (TakesMsg (AllAt U) um.next fu (u, ts, ds) (u2, ts, ds) from msg)
-        (takes_so p (AllAt U) next um.next agree u u2 (u, ts, ds) (u2, ts, ds) (at_u u u2 ts ds) fu from msg) law)
+    pub take_u : (next : Table) (u u2 : A) (tms : List B) (dms : List C) (at : Site) → at ≡ U → Agree next um.next
+        → IfOk res (TakesMsg p next fu u u2 from msg) → TakenAt (u, tms, dms) (u2, tms, dms) at
+    take_u next u u2 tms dms at e agree law =
+        subst (TakenAt (u, tms, dms) (u2, tms, dms)) (sym e)
+        (if_ok res (TakesMsg p next fu u u2 from msg) (TakesMsg (AllAt U) um.next fu (u, tms, dms) (u2, tms, dms) from msg)
+        (takes_so p (AllAt U) next um.next agree u u2 (u, tms, dms) (u2, tms, dms) (at_u u u2 tms dms) fu from msg) law)
 
-    pub take_t : (next : Table) (u : A) (ts ts2 : List B) (ds : List C) (at : Site) (n : TmNo) → at ≡ T n → Agree next tm.next
-        → IfOk res (TakesMsg (At q) next ft (slice_get ts (n.0 - 1)) (slice_get ts2 (n.0 - 1)) from msg) → TakenAt (u, ts, ds) (u, ts2, ds) at
-    take_t next u ts ts2 ds at n e agree law =
-        let here = slice_get ts (n.0 - 1) in
-        let after = slice_get ts2 (n.0 - 1) in
-        subst (TakenAt (u, ts, ds) (u, ts2, ds)) (sym e)
-        (if_ok res (TakesMsg (At q) next ft here after from msg) (TakesMsg (AllAt (T n)) tm.next ft (u, ts, ds) (u, ts2, ds) from msg)
-        (takes_so (At q) (AllAt (T n)) next tm.next agree here after (u, ts, ds) (u, ts2, ds) (at_t n u ts ts2 ds) ft from msg) law)
+    pub take_t : (next : Table) (u : A) (tms tms2 : List B) (dms : List C) (at : Site) (n : TmNo) → at ≡ T n → Agree next tm.next
+        → IfOk res (TakesMsg (At q) next ft (slice_get tms (n.0 - 1)) (slice_get tms2 (n.0 - 1)) from msg) → TakenAt (u, tms, dms) (u, tms2, dms) at
+    take_t next u tms tms2 dms at n e agree law =
+        let here = slice_get tms (n.0 - 1) in
+        let after = slice_get tms2 (n.0 - 1) in
+        subst (TakenAt (u, tms, dms) (u, tms2, dms)) (sym e)
+        (if_ok res (TakesMsg (At q) next ft here after from msg) (TakesMsg (AllAt (T n)) tm.next ft (u, tms, dms) (u, tms2, dms) from msg)
+        (takes_so (At q) (AllAt (T n)) next tm.next agree here after (u, tms, dms) (u, tms2, dms) (at_t n u tms tms2 dms) ft from msg) law)
 
-    pub take_d : (next : Table) (u : A) (ts : List B) (ds ds2 : List C) (at : Site) (n : DmNo) → at ≡ D n → Agree next dm.next
-        → IfOk res (TakesMsg (At r) next fd (slice_get ds (n.0 - 1)) (slice_get ds2 (n.0 - 1)) from msg) → TakenAt (u, ts, ds) (u, ts, ds2) at
-    take_d next u ts ds ds2 at n e agree law =
-        let here = slice_get ds (n.0 - 1) in
-        let after = slice_get ds2 (n.0 - 1) in
-        subst (TakenAt (u, ts, ds) (u, ts, ds2)) (sym e)
-        (if_ok res (TakesMsg (At r) next fd here after from msg) (TakesMsg (AllAt (D n)) dm.next fd (u, ts, ds) (u, ts, ds2) from msg)
-        (takes_so (At r) (AllAt (D n)) next dm.next agree here after (u, ts, ds) (u, ts, ds2) (at_d n u ts ds ds2) fd from msg) law)
+    pub take_d : (next : Table) (u : A) (tms : List B) (dms dms2 : List C) (at : Site) (n : DmNo) → at ≡ D n → Agree next dm.next
+        → IfOk res (TakesMsg (At r) next fd (slice_get dms (n.0 - 1)) (slice_get dms2 (n.0 - 1)) from msg) → TakenAt (u, tms, dms) (u, tms, dms2) at
+    take_d next u tms dms dms2 at n e agree law =
+        let here = slice_get dms (n.0 - 1) in
+        let after = slice_get dms2 (n.0 - 1) in
+        subst (TakenAt (u, tms, dms) (u, tms, dms2)) (sym e)
+        (if_ok res (TakesMsg (At r) next fd here after from msg) (TakesMsg (AllAt (D n)) dm.next fd (u, tms, dms) (u, tms, dms2) from msg)
+        (takes_so (At r) (AllAt (D n)) next dm.next agree here after (u, tms, dms) (u, tms, dms2) (at_d n u tms dms dms2) fd from msg) law)
 
   module _ (fu ft : FittingSubmit) (n : TxnNo) (txn : Txn) (res : Result Outcome NoMemory) where
     abbrev pub GivenAt : A × List B × List C → A × List B × List C → Site → Type 0
     GivenAt m m2 at = IfOk res (TakesTxn (AllAt at) (next_of at) (fits_submit_at fu ft at) m m2 n txn)
 
-    pub submit_u : (next : Table) (u u2 : A) (ts : List B) (ds : List C) (at : Site) → at ≡ U → Agree next um.next
-        → IfOk res (TakesTxn p next fu u u2 n txn) → GivenAt (u, ts, ds) (u2, ts, ds) at
-    submit_u next u u2 ts ds at e agree law =
-        subst (GivenAt (u, ts, ds) (u2, ts, ds)) (sym e)
-        (if_ok res (TakesTxn p next fu u u2 n txn) (TakesTxn (AllAt U) um.next fu (u, ts, ds) (u2, ts, ds) n txn)
-        (given_so p (AllAt U) next um.next agree u u2 (u, ts, ds) (u2, ts, ds) (at_u u u2 ts ds) fu n txn) law)
+    pub submit_u : (next : Table) (u u2 : A) (tms : List B) (dms : List C) (at : Site) → at ≡ U → Agree next um.next
+        → IfOk res (TakesTxn p next fu u u2 n txn) → GivenAt (u, tms, dms) (u2, tms, dms) at
+    submit_u next u u2 tms dms at e agree law =
+        subst (GivenAt (u, tms, dms) (u2, tms, dms)) (sym e)
+        (if_ok res (TakesTxn p next fu u u2 n txn) (TakesTxn (AllAt U) um.next fu (u, tms, dms) (u2, tms, dms) n txn)
+        (given_so p (AllAt U) next um.next agree u u2 (u, tms, dms) (u2, tms, dms) (at_u u u2 tms dms) fu n txn) law)
 
-    pub submit_t : (next : Table) (u : A) (ts ts2 : List B) (ds : List C) (at : Site) (t : TmNo) → at ≡ T t → Agree next tm.next
-        → IfOk res (TakesTxn (At q) next ft (slice_get ts (t.0 - 1)) (slice_get ts2 (t.0 - 1)) n txn) → GivenAt (u, ts, ds) (u, ts2, ds) at
-    submit_t next u ts ts2 ds at t e agree law =
-        let here = slice_get ts (t.0 - 1) in
-        let after = slice_get ts2 (t.0 - 1) in
-        subst (GivenAt (u, ts, ds) (u, ts2, ds)) (sym e)
-        (if_ok res (TakesTxn (At q) next ft here after n txn) (TakesTxn (AllAt (T t)) tm.next ft (u, ts, ds) (u, ts2, ds) n txn)
-        (given_so (At q) (AllAt (T t)) next tm.next agree here after (u, ts, ds) (u, ts2, ds) (at_t t u ts ts2 ds) ft n txn) law)
+    pub submit_t : (next : Table) (u : A) (tms tms2 : List B) (dms : List C) (at : Site) (t : TmNo) → at ≡ T t → Agree next tm.next
+        → IfOk res (TakesTxn (At q) next ft (slice_get tms (t.0 - 1)) (slice_get tms2 (t.0 - 1)) n txn) → GivenAt (u, tms, dms) (u, tms2, dms) at
+    submit_t next u tms tms2 dms at t e agree law =
+        let here = slice_get tms (t.0 - 1) in
+        let after = slice_get tms2 (t.0 - 1) in
+        subst (GivenAt (u, tms, dms) (u, tms2, dms)) (sym e)
+        (if_ok res (TakesTxn (At q) next ft here after n txn) (TakesTxn (AllAt (T t)) tm.next ft (u, tms, dms) (u, tms2, dms) n txn)
+        (given_so (At q) (AllAt (T t)) next tm.next agree here after (u, tms, dms) (u, tms2, dms) (at_t t u tms tms2 dms) ft n txn) law)

@@ -3,35 +3,35 @@ use Rattle.sdd_app.proofs.Verdicts.{explains_more, blamed_control, reports_contr
 use Rattle.sdd_app.proofs.AtFault.{at_more}
 use Rattle.sdd_app.proofs.control_file.control_answer.Goals as goal
 
-pub returns-in_err-script-clause-told : goal.returns-in_err-script-clause-told
-returns-in_err-script-clause-told g c = λ fs told.
+pub returns-in_err-script-clause-answered : goal.returns-in_err-script-clause-answered
+returns-in_err-script-clause-answered g c = λ fs known.
     let p = err_from_is_err_and c.from_residual.result c.from_residual.ensures.1 in
     let name = c.args.file.now in
     rw (p.1, p.2) (explains_more c.in_err-script.field-0.0 (BlamesScript (script_named fs name))
-    (ComesToControl fs name) (λ v is. blamed_control fs name v is) (c.in_err-script.ensures.told fs told))
+    (ComesToControl fs name) (λ v is. blamed_control fs name v is) (c.in_err-script.ensures.answered fs known))
 
-pub returns-clause-told : goal.returns-clause-told
-returns-clause-told g c = λ fs told.
+pub returns-clause-answered : goal.returns-clause-answered
+returns-clause-answered g c = λ fs known.
     reports_control fs c.args.file.now c.in_ok-script.script c.of.result
-    (c.in_ok-script.ensures.told fs told) (rw (c.of.ensures, c.into_vec.ensures) c.in_ok-text.ensures)
+    (c.in_ok-script.ensures.answered fs known) (rw (c.of.ensures, c.into_vec.ensures) c.in_ok-text.ensures)
 
 pub returns-clause-ended : goal.returns-clause-ended
 returns-clause-ended g c = let e = c.in_ok-script.ensures.ended in one_ended _ _ _ _ _ e.0 e.1
 
 pub returns-in_err-script-clause-surely : goal.returns-in_err-script-clause-surely
-returns-in_err-script-clause-surely g c = λ free fs sure told some.
+returns-in_err-script-clause-surely g c = λ free fs sure known some.
     let p = err_from_is_err_and c.from_residual.result c.from_residual.ensures.1 in
-    let k = c.in_err-script.ensures.surely free fs sure told some in
+    let k = c.in_err-script.ensures.surely free fs sure known some in
     rw (p.1, p.2) (k.0, k.2)
 
 pub returns-in_err-text-clause-surely : goal.returns-in_err-text-clause-surely
-returns-in_err-text-clause-surely g c = λ free fs sure told some.
+returns-in_err-text-clause-surely g c = λ free fs sure known some.
     let p = err_from_is_err_and c.from_residual-in_err-text.result c.from_residual-in_err-text.ensures.1 in
-    let k = c.in_ok-script.ensures.surely free fs sure told some in
+    let k = c.in_ok-script.ensures.surely free fs sure known some in
     rw (p.1, p.2) (λ is. absurd cc, k.2)
 
 pub returns-clause-surely : goal.returns-clause-surely
-returns-clause-surely g c = λ free fs sure told some. let k = c.in_ok-script.ensures.surely free fs sure told some in (tt, k.2)
+returns-clause-surely g c = λ free fs sure known some. let k = c.in_ok-script.ensures.surely free fs sure known some in (tt, k.2)
 
 pub returns-in_err-script-clause-at_fault : goal.returns-in_err-script-clause-at_fault
 returns-in_err-script-clause-at_fault g c =

@@ -4,16 +4,16 @@ use Rattle.sdd_app.proofs.FileReads.{if_err_more, not_usage}
 use Rattle.sdd_app.proofs.Shown.{found_names, names_answer, names_of, no_names}
 use Rattle.sdd_app.proofs.inside.answer.Goals as goal
 
-pub returns-in-None-clause-told : goal.returns-in-None-clause-told
-returns-in-None-clause-told g c = λ fs told. rw (no_names (map string_bytes c.args.words.now) c.in-None.ensures.none) refl
+pub returns-in-None-clause-answered : goal.returns-in-None-clause-answered
+returns-in-None-clause-answered g c = λ fs known. rw (no_names (map string_bytes c.args.words.now) c.in-None.ensures.none) refl
 
-pub returns-in-Some-clause-told : goal.returns-in-Some-clause-told
-returns-in-Some-clause-told g c = λ fs told.
+pub returns-in-Some-clause-answered : goal.returns-in-Some-clause-answered
+returns-in-Some-clause-answered g c = λ fs known.
     let words = map string_bytes c.args.words.now in
     let cat = c.in-Some.pair.catalogue.now in
     let work = c.in-Some.pair.workload.now in
     let is = found_names words cat work c.in-Some.ensures.found in
-    names_answer c.inside_answer.result (λ v. v.items) fs words (names_of cat work) is (c.inside_answer.ensures.told fs (rw is at told))
+    names_answer c.inside_answer.result (λ v. v.items) fs words (names_of cat work) is (c.inside_answer.ensures.answered fs (rw is at known))
 
 pub returns-in-Some-clause-ended : goal.returns-in-Some-clause-ended
 returns-in-Some-clause-ended g c =

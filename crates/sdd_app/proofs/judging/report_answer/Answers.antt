@@ -4,30 +4,30 @@ use Rattle.sdd_app.proofs.Verdicts.{explains_more}
 use Rattle.sdd_app.proofs.AtFault.{silent_at}
 use Rattle.sdd_app.proofs.judging.report_answer.Goals as goal
 
-pub returns-in_err-bytes-clause-told : goal.returns-in_err-bytes-clause-told
-returns-in_err-bytes-clause-told g c = λ fs told.
+pub returns-in_err-bytes-clause-answered : goal.returns-in_err-bytes-clause-answered
+returns-in_err-bytes-clause-answered g c = λ fs known.
     let p = err_from_is_err_and c.from_residual.result c.from_residual.ensures.1 in
     rw (p.1, p.2) (explains_more c.in_err-bytes.field-0.0 (λ _. ⊥)
     (ComesToVerdict fs c.args.report.now c.args.catalogue.now c.args.work.now) (λ v no. absurd no) c.in_err-bytes.ensures.silent)
 
 pub returns-in_err-bytes-clause-surely : goal.returns-in_err-bytes-clause-surely
-returns-in_err-bytes-clause-surely g c = λ free fs sure told some.
+returns-in_err-bytes-clause-surely g c = λ free fs sure known some.
     let p = err_from_is_err_and c.from_residual.result c.from_residual.ensures.1 in
-    let k = c.in_err-bytes.ensures.surely free fs sure told some in
+    let k = c.in_err-bytes.ensures.surely free fs sure known some in
     rw (p.1, p.2) (k.0, k.2)
 
 pub returns-in_err-judge_report-clause-surely : goal.returns-in_err-judge_report-clause-surely
-returns-in_err-judge_report-clause-surely g c = λ free fs sure told some.
+returns-in_err-judge_report-clause-surely g c = λ free fs sure known some.
     let p = err_from_is_err_and c.from_residual-in_err-judge_report.result c.from_residual-in_err-judge_report.ensures.1 in
-    let k = c.in_ok-bytes.ensures.surely free fs sure told some in
+    let k = c.in_ok-bytes.ensures.surely free fs sure known some in
     rw (p.1, p.2) (λ is. absurd cc, k.2)
 
-pub returns-clause-told : goal.returns-clause-told
-returns-clause-told g c = λ fs told.
+pub returns-clause-answered : goal.returns-clause-answered
+returns-clause-answered g c = λ fs known.
     let cat = c.args.catalogue.now in
     let work = c.args.work.now in
     read_gives MAX_REPORT_BYTES (judged_as cat work) (long_reports cat work) (find_file fs c.args.report.now) c.as_slice.result.now
-    (rw c.as_slice.ensures.value (c.in_ok-bytes.ensures.read fs told)) ∙ ap (λ t. Some (Prints t)) (sym (c.of.ensures ∙ c.in_ok-judge_report.ensures))
+    (rw c.as_slice.ensures.value (c.in_ok-bytes.ensures.read fs known)) ∙ ap (λ t. Some (Prints t)) (sym (c.of.ensures ∙ c.in_ok-judge_report.ensures))
 
 pub returns-clause-ended : goal.returns-clause-ended
 returns-clause-ended g c =
@@ -35,7 +35,7 @@ returns-clause-ended g c =
     (e.0, read_to_limit _ MAX_REPORT_BYTES _ _ _ c.args.report.now _ e.0 e.1)
 
 pub returns-clause-surely : goal.returns-clause-surely
-returns-clause-surely g c = λ free fs sure told some. let k = c.in_ok-bytes.ensures.surely free fs sure told some in (tt, k.2)
+returns-clause-surely g c = λ free fs sure known some. let k = c.in_ok-bytes.ensures.surely free fs sure known some in (tt, k.2)
 
 pub returns-in_err-bytes-clause-no_fault : goal.returns-in_err-bytes-clause-no_fault
 returns-in_err-bytes-clause-no_fault g c =

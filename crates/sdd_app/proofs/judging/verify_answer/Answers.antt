@@ -3,16 +3,16 @@ use Rattle.sdd_app.proofs.Verdicts.{explains_more, blamed, goes_on, blamed_verif
 use Rattle.sdd_app.proofs.AtFault.{at_more}
 use Rattle.sdd_app.proofs.judging.verify_answer.Goals as goal
 
-pub returns-in_err-catalogue-clause-told : goal.returns-in_err-catalogue-clause-told
-returns-in_err-catalogue-clause-told g c = λ fs told.
+pub returns-in_err-catalogue-clause-answered : goal.returns-in_err-catalogue-clause-answered
+returns-in_err-catalogue-clause-answered g c = λ fs known.
     let p = err_from_is_err_and c.from_residual.result c.from_residual.ensures.1 in
     let name = c.args.catalogue.now in
     let over = ComesToVerify fs c.args.workload.now c.args.report.now in
     rw (p.1, p.2) (explains_more c.in_err-catalogue.field-0.0 (BlamesCatalogue (catalogue_named fs name))
-    (OverCatalogue fs name over) (λ v is. blamed fs name over v is) (c.in_err-catalogue.ensures.told fs told))
+    (OverCatalogue fs name over) (λ v is. blamed fs name over v is) (c.in_err-catalogue.ensures.answered fs known))
 
-pub returns-in_err-work-clause-told : goal.returns-in_err-work-clause-told
-returns-in_err-work-clause-told g c = λ fs told.
+pub returns-in_err-work-clause-answered : goal.returns-in_err-work-clause-answered
+returns-in_err-work-clause-answered g c = λ fs known.
     let p = err_from_is_err_and c.from_residual-in_err-work.result c.from_residual-in_err-work.ensures.1 in
     let name = c.args.catalogue.now in
     let work = c.args.workload.now in
@@ -20,32 +20,32 @@ returns-in_err-work-clause-told g c = λ fs told.
     let cat = c.in_ok-catalogue.catalogue in
     let over = ComesToVerify fs work report in
     rw (p.1, p.2) (explains_more c.in_err-work.field-0.0 (BlamesWorkload (workload_named fs cat work)) (OverCatalogue fs name over)
-    (λ v is. goes_on fs name over cat v (c.in_ok-catalogue.ensures.told fs told) (blamed_verify fs work report cat v is))
-    (c.in_err-work.ensures.told fs (c.in_ok-catalogue.ensures.files ∙ told)))
+    (λ v is. goes_on fs name over cat v (c.in_ok-catalogue.ensures.answered fs known) (blamed_verify fs work report cat v is))
+    (c.in_err-work.ensures.answered fs (c.in_ok-catalogue.ensures.files ∙ known)))
 
-pub returns-in_err-text-clause-told : goal.returns-in_err-text-clause-told
-returns-in_err-text-clause-told g c = λ fs told.
+pub returns-in_err-text-clause-answered : goal.returns-in_err-text-clause-answered
+returns-in_err-text-clause-answered g c = λ fs known.
     let p = err_from_is_err_and c.from_residual-in_err-text.result c.from_residual-in_err-text.ensures.1 in
     let name = c.args.catalogue.now in
     let work = c.args.workload.now in
     let report = c.args.report.now in
     let cat = c.in_ok-catalogue.catalogue in
     let over = ComesToVerify fs work report in
-    let second = c.in_ok-catalogue.ensures.files ∙ told in
+    let second = c.in_ok-catalogue.ensures.files ∙ known in
     rw (p.1, p.2) (explains_more c.in_err-text.field-0.0 (ComesToVerdict fs report cat c.in_ok-work.work) (OverCatalogue fs name over)
-    (λ v is. goes_on fs name over cat v (c.in_ok-catalogue.ensures.told fs told)
-    (judges_report fs work report cat c.in_ok-work.work v (c.in_ok-work.ensures.told fs second) is))
-    (c.in_err-text.ensures.told fs (c.in_ok-work.ensures.files ∙ second)))
+    (λ v is. goes_on fs name over cat v (c.in_ok-catalogue.ensures.answered fs known)
+    (judges_report fs work report cat c.in_ok-work.work v (c.in_ok-work.ensures.answered fs second) is))
+    (c.in_err-text.ensures.answered fs (c.in_ok-work.ensures.files ∙ second)))
 
-pub returns-clause-told : goal.returns-clause-told
-returns-clause-told g c = λ fs told.
+pub returns-clause-answered : goal.returns-clause-answered
+returns-clause-answered g c = λ fs known.
     let work = c.args.workload.now in
     let report = c.args.report.now in
     let cat = c.in_ok-catalogue.catalogue in
-    let second = c.in_ok-catalogue.ensures.files ∙ told in
-    goes_on fs c.args.catalogue.now (ComesToVerify fs work report) cat (Prints c.in_ok-text.text) (c.in_ok-catalogue.ensures.told fs told)
-    (judges_report fs work report cat c.in_ok-work.work (Prints c.in_ok-text.text) (c.in_ok-work.ensures.told fs second)
-    (c.in_ok-text.ensures.told fs (c.in_ok-work.ensures.files ∙ second)))
+    let second = c.in_ok-catalogue.ensures.files ∙ known in
+    goes_on fs c.args.catalogue.now (ComesToVerify fs work report) cat (Prints c.in_ok-text.text) (c.in_ok-catalogue.ensures.answered fs known)
+    (judges_report fs work report cat c.in_ok-work.work (Prints c.in_ok-text.text) (c.in_ok-work.ensures.answered fs second)
+    (c.in_ok-text.ensures.answered fs (c.in_ok-work.ensures.files ∙ second)))
 
 pub returns-clause-ended : goal.returns-clause-ended
 returns-clause-ended g c =
@@ -57,38 +57,38 @@ returns-clause-ended g c =
     first.ended.1 first.others second.ended.1 second.others third.ended.1 third.others
 
 pub returns-in_err-catalogue-clause-surely : goal.returns-in_err-catalogue-clause-surely
-returns-in_err-catalogue-clause-surely g c = λ free fs sure told has report.
+returns-in_err-catalogue-clause-surely g c = λ free fs sure known has report.
     let p = err_from_is_err_and c.from_residual.result c.from_residual.ensures.1 in
-    let k = c.in_err-catalogue.ensures.surely (free + 1 + 1) fs sure told has.0 in
+    let k = c.in_err-catalogue.ensures.surely (free + 1 + 1) fs sure known has.0 in
     rw (p.1, p.2) (k.0, k.2)
 
 pub returns-in_err-work-clause-surely : goal.returns-in_err-work-clause-surely
-returns-in_err-work-clause-surely g c = λ free fs sure told has report.
+returns-in_err-work-clause-surely g c = λ free fs sure known has report.
     let p = err_from_is_err_and c.from_residual-in_err-work.result c.from_residual-in_err-work.ensures.1 in
-    let first = c.in_ok-catalogue.ensures.surely (free + 1 + 1) fs sure told has.0 in
-    let k = c.in_err-work.ensures.surely (free + 1) fs first.1 (c.in_ok-catalogue.ensures.files ∙ told)
-    (has.1 c.in_ok-catalogue.catalogue (c.in_ok-catalogue.ensures.told fs told) tt) in
+    let first = c.in_ok-catalogue.ensures.surely (free + 1 + 1) fs sure known has.0 in
+    let k = c.in_err-work.ensures.surely (free + 1) fs first.1 (c.in_ok-catalogue.ensures.files ∙ known)
+    (has.1 c.in_ok-catalogue.catalogue (c.in_ok-catalogue.ensures.answered fs known) tt) in
     rw (p.1, p.2) (k.0, k.2 ∙ first.2)
 
 pub returns-in_err-text-clause-surely : goal.returns-in_err-text-clause-surely
-returns-in_err-text-clause-surely g c = λ free fs sure told has report.
+returns-in_err-text-clause-surely g c = λ free fs sure known has report.
     let p = err_from_is_err_and c.from_residual-in_err-text.result c.from_residual-in_err-text.ensures.1 in
-    let cat = c.in_ok-catalogue.ensures.told fs told in
-    let second = c.in_ok-catalogue.ensures.files ∙ told in
-    let first = c.in_ok-catalogue.ensures.surely (free + 1 + 1) fs sure told has.0 in
+    let cat = c.in_ok-catalogue.ensures.answered fs known in
+    let second = c.in_ok-catalogue.ensures.files ∙ known in
+    let first = c.in_ok-catalogue.ensures.surely (free + 1 + 1) fs sure known has.0 in
     let then_work = c.in_ok-work.ensures.surely (free + 1) fs first.1 second (has.1 c.in_ok-catalogue.catalogue cat tt) in
     let k = c.in_err-text.ensures.surely free fs then_work.1 (c.in_ok-work.ensures.files ∙ second)
-    (report c.in_ok-catalogue.catalogue c.in_ok-work.work cat (c.in_ok-work.ensures.told fs second)) in
+    (report c.in_ok-catalogue.catalogue c.in_ok-work.work cat (c.in_ok-work.ensures.answered fs second)) in
     rw (p.1, p.2) (k.0, k.1 ∙ then_work.2 ∙ first.2)
 
 pub returns-clause-surely : goal.returns-clause-surely
-returns-clause-surely g c = λ free fs sure told has report.
-    let cat = c.in_ok-catalogue.ensures.told fs told in
-    let second = c.in_ok-catalogue.ensures.files ∙ told in
-    let first = c.in_ok-catalogue.ensures.surely (free + 1 + 1) fs sure told has.0 in
+returns-clause-surely g c = λ free fs sure known has report.
+    let cat = c.in_ok-catalogue.ensures.answered fs known in
+    let second = c.in_ok-catalogue.ensures.files ∙ known in
+    let first = c.in_ok-catalogue.ensures.surely (free + 1 + 1) fs sure known has.0 in
     let then_work = c.in_ok-work.ensures.surely (free + 1) fs first.1 second (has.1 c.in_ok-catalogue.catalogue cat tt) in
     let k = c.in_ok-text.ensures.surely free fs then_work.1 (c.in_ok-work.ensures.files ∙ second)
-    (report c.in_ok-catalogue.catalogue c.in_ok-work.work cat (c.in_ok-work.ensures.told fs second)) in
+    (report c.in_ok-catalogue.catalogue c.in_ok-work.work cat (c.in_ok-work.ensures.answered fs second)) in
     (tt, k.1 ∙ then_work.2 ∙ first.2)
 
 pub returns-in_err-catalogue-clause-at_fault : goal.returns-in_err-catalogue-clause-at_fault

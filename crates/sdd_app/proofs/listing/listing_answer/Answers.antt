@@ -3,36 +3,36 @@ use Rattle.sdd_app.proofs.Verdicts.{explains_more, blamed, goes_on, one_ended}
 use Rattle.sdd_app.proofs.AtFault.{at_more}
 use Rattle.sdd_app.proofs.listing.listing_answer.Goals as goal
 
-pub returns-in_err-catalogue-clause-told : goal.returns-in_err-catalogue-clause-told
-returns-in_err-catalogue-clause-told g c = λ fs told.
+pub returns-in_err-catalogue-clause-answered : goal.returns-in_err-catalogue-clause-answered
+returns-in_err-catalogue-clause-answered g c = λ fs known.
     let p = err_from_is_err_and c.from_residual.result c.from_residual.ensures.1 in
     let name = c.args.catalogue.now in
     let lists = ComesToListing c.args.listing in
     rw (p.1, p.2) (explains_more c.in_err-catalogue.field-0.0 (BlamesCatalogue (catalogue_named fs name))
-    (OverCatalogue fs name lists) (λ v is. blamed fs name lists v is) (c.in_err-catalogue.ensures.told fs told))
+    (OverCatalogue fs name lists) (λ v is. blamed fs name lists v is) (c.in_err-catalogue.ensures.answered fs known))
 
 pub returns-in_err-catalogue-clause-surely : goal.returns-in_err-catalogue-clause-surely
-returns-in_err-catalogue-clause-surely g c = λ free fs sure told some.
+returns-in_err-catalogue-clause-surely g c = λ free fs sure known some.
     let p = err_from_is_err_and c.from_residual.result c.from_residual.ensures.1 in
-    let k = c.in_err-catalogue.ensures.surely free fs sure told some in
+    let k = c.in_err-catalogue.ensures.surely free fs sure known some in
     rw (p.1, p.2) (k.0, k.2)
 
-pub returns-clause-told : goal.returns-clause-told
-returns-clause-told g c = λ fs told.
+pub returns-clause-answered : goal.returns-clause-answered
+returns-clause-answered g c = λ fs known.
     goes_on fs c.args.catalogue.now (ComesToListing c.args.listing) c.in_ok-catalogue.catalogue
-    (Prints c.of.result) (c.in_ok-catalogue.ensures.told fs told) (rw c.of.ensures c.in_ok-print_listing.ensures)
+    (Prints c.of.result) (c.in_ok-catalogue.ensures.answered fs known) (rw c.of.ensures c.in_ok-print_listing.ensures)
 
 pub returns-clause-ended : goal.returns-clause-ended
 returns-clause-ended g c = let e = c.in_ok-catalogue.ensures.ended in one_ended _ _ _ _ _ e.0 e.1
 
 pub returns-in_err-print_listing-clause-surely : goal.returns-in_err-print_listing-clause-surely
-returns-in_err-print_listing-clause-surely g c = λ free fs sure told some.
+returns-in_err-print_listing-clause-surely g c = λ free fs sure known some.
     let p = err_from_is_err_and c.from_residual-in_err-print_listing.result c.from_residual-in_err-print_listing.ensures.1 in
-    let k = c.in_ok-catalogue.ensures.surely free fs sure told some in
+    let k = c.in_ok-catalogue.ensures.surely free fs sure known some in
     rw (p.1, p.2) (λ is. absurd cc, k.2)
 
 pub returns-clause-surely : goal.returns-clause-surely
-returns-clause-surely g c = λ free fs sure told some. let k = c.in_ok-catalogue.ensures.surely free fs sure told some in (tt, k.2)
+returns-clause-surely g c = λ free fs sure known some. let k = c.in_ok-catalogue.ensures.surely free fs sure known some in (tt, k.2)
 
 pub returns-in_err-catalogue-clause-at_fault : goal.returns-in_err-catalogue-clause-at_fault
 returns-in_err-catalogue-clause-at_fault g c =

@@ -4,16 +4,16 @@ use Rattle.sdd_app.proofs.Forms.{no_form, found_form}
 use Rattle.sdd_app.proofs.Verdicts.{words_answer}
 use Rattle.sdd_app.proofs.run.answer.Goals as goal
 
-pub returns-in-None-clause-told : goal.returns-in-None-clause-told
-returns-in-None-clause-told g c = λ fs told. rw (no_form (map string_bytes c.args.words.now) c.in-None.ensures.none) refl
+pub returns-in-None-clause-answered : goal.returns-in-None-clause-answered
+returns-in-None-clause-answered g c = λ fs known. rw (no_form (map string_bytes c.args.words.now) c.in-None.ensures.none) refl
 
-pub returns-in-Some-clause-told : goal.returns-in-Some-clause-told
-returns-in-Some-clause-told g c = λ fs told.
+pub returns-in-Some-clause-answered : goal.returns-in-Some-clause-answered
+returns-in-Some-clause-answered g c = λ fs known.
     let found = c.in-Some.ensures.found in
     let words = map string_bytes c.args.words.now in
     let form = form_of c.in-Some.command in
     let is = found_form words form found.0 found.1 in
-    words_answer c.carry_out_command.result (λ v. v) fs words form is (c.carry_out_command.ensures.told fs (rw is at told))
+    words_answer c.carry_out_command.result (λ v. v) fs words form is (c.carry_out_command.ensures.answered fs (rw is at known))
 
 pub returns-in-Some-clause-ended : goal.returns-in-Some-clause-ended
 returns-in-Some-clause-ended g c =

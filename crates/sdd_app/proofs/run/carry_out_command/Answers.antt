@@ -10,36 +10,38 @@ two free = omega arith
 three : (free : ℕ) → free + 3 ≡ free + 1 + 1 + 1
 three free = omega arith
 
-pub returns-in-Check-clause-told : goal.returns-in-Check-clause-told
-returns-in-Check-clause-told g c = λ fs. answers_so c.listing_answer.result (λ v. v) _ fs _ _ c.in-Check.is (c.listing_answer.ensures.told fs)
+pub returns-in-Check-clause-answered : goal.returns-in-Check-clause-answered
+returns-in-Check-clause-answered g c = λ fs. answers_so c.listing_answer.result (λ v. v) _ fs _ _ c.in-Check.is (c.listing_answer.ensures.answered fs)
 
-pub returns-in-Graph-clause-told : goal.returns-in-Graph-clause-told
-returns-in-Graph-clause-told g c = λ fs. answers_so c.listing_answer-in-Graph.result (λ v. v) _ fs _ _ c.in-Graph.is (c.listing_answer-in-Graph.ensures.told fs)
+pub returns-in-Graph-clause-answered : goal.returns-in-Graph-clause-answered
+returns-in-Graph-clause-answered g c =
+    λ fs. answers_so c.listing_answer-in-Graph.result (λ v. v) _ fs _ _ c.in-Graph.is (c.listing_answer-in-Graph.ensures.answered fs)
 
-pub returns-in-Table-clause-told : goal.returns-in-Table-clause-told
-returns-in-Table-clause-told g c = λ fs. answers_so c.listing_answer-in-Table.result (λ v. v) _ fs _ _ c.in-Table.is (c.listing_answer-in-Table.ensures.told fs)
+pub returns-in-Table-clause-answered : goal.returns-in-Table-clause-answered
+returns-in-Table-clause-answered g c =
+    λ fs. answers_so c.listing_answer-in-Table.result (λ v. v) _ fs _ _ c.in-Table.is (c.listing_answer-in-Table.ensures.answered fs)
 
-pub returns-in-Run-clause-told : goal.returns-in-Run-clause-told
-returns-in-Run-clause-told g c = λ fs. answers_so c.run_answer.result (λ v. v) _ fs _ _ c.in-Run.is (c.run_answer.ensures.told fs)
+pub returns-in-Run-clause-answered : goal.returns-in-Run-clause-answered
+returns-in-Run-clause-answered g c = λ fs. answers_so c.run_answer.result (λ v. v) _ fs _ _ c.in-Run.is (c.run_answer.ensures.answered fs)
 
-pub returns-in-Plain-clause-told : goal.returns-in-Plain-clause-told
-returns-in-Plain-clause-told g c = λ fs. answers_so c.plain_answer.result (λ v. v) _ fs _ _ c.in-Plain.is (c.plain_answer.ensures.told fs)
+pub returns-in-Plain-clause-answered : goal.returns-in-Plain-clause-answered
+returns-in-Plain-clause-answered g c = λ fs. answers_so c.plain_answer.result (λ v. v) _ fs _ _ c.in-Plain.is (c.plain_answer.ensures.answered fs)
 
-pub returns-in-Control-clause-told : goal.returns-in-Control-clause-told
-returns-in-Control-clause-told g c = λ fs. answers_so c.control_answer.result (λ v. v) _ fs _ _ c.in-Control.is (c.control_answer.ensures.told fs)
+pub returns-in-Control-clause-answered : goal.returns-in-Control-clause-answered
+returns-in-Control-clause-answered g c = λ fs. answers_so c.control_answer.result (λ v. v) _ fs _ _ c.in-Control.is (c.control_answer.ensures.answered fs)
 
-pub returns-in-Verify-clause-told : goal.returns-in-Verify-clause-told
-returns-in-Verify-clause-told g c = λ fs. answers_so c.verify_answer.result (λ v. v) _ fs _ _ c.in-Verify.is (c.verify_answer.ensures.told fs)
+pub returns-in-Verify-clause-answered : goal.returns-in-Verify-clause-answered
+returns-in-Verify-clause-answered g c = λ fs. answers_so c.verify_answer.result (λ v. v) _ fs _ _ c.in-Verify.is (c.verify_answer.ensures.answered fs)
 
-pub returns-in-Advise-clause-told : goal.returns-in-Advise-clause-told
-returns-in-Advise-clause-told g c = λ fs.
-    answers_so c.listing_answer-in-Advise.result (λ v. v) _ fs _ _ c.in-Advise.is (c.listing_answer-in-Advise.ensures.told fs)
+pub returns-in-Advise-clause-answered : goal.returns-in-Advise-clause-answered
+returns-in-Advise-clause-answered g c = λ fs.
+    answers_so c.listing_answer-in-Advise.result (λ v. v) _ fs _ _ c.in-Advise.is (c.listing_answer-in-Advise.ensures.answered fs)
 
 pub make_answer-requires : goal.make_answer-requires
 make_answer-requires g c = (subst (λ command. IsForm (form_of command)) c.in-Make.is c.requires).1
 
-pub returns-in-Make-clause-told : goal.returns-in-Make-clause-told
-returns-in-Make-clause-told g c = λ fs. answers_so c.make_answer.result (λ v. v) _ fs _ _ c.in-Make.is (λ _. c.make_answer.ensures.told)
+pub returns-in-Make-clause-answered : goal.returns-in-Make-clause-answered
+returns-in-Make-clause-answered g c = λ fs. answers_so c.make_answer.result (λ v. v) _ fs _ _ c.in-Make.is (λ _. c.make_answer.ensures.answered)
 
 pub returns-in-Make-clause-ended : goal.returns-in-Make-clause-ended
 returns-in-Make-clause-ended g c = rw c.in-Make.is (none_read c.make_answer.result _ _ _ _)

@@ -1,5 +1,5 @@
 use Rattle.sdd_attempt.proofs.All.{DmNo, ap, map, nat_lt, not, position, sym, ◌∙◌}
-use Rattle.sdd_attempt.proofs.Putting.{put_among, put_behind, stands_among}
+use Rattle.sdd_attempt.proofs.Putting.{is_found_among, put_among, put_behind}
 use Rattle.sdd_attempt.proofs.reads.put_module.Goals as goal
 
 pub returns-in_ok-push-in-None : goal.returns-in_ok-push-in-None
@@ -19,4 +19,4 @@ pub returns-else-index-dm : goal.returns-else-index-dm
 returns-else-index-dm c =
     let d = c.args.dm in
     let place = ap (position (λ (n : DmNo). not (nat_lt n.0 d.0))) (sym c.deref.ensures.value) ∙ sym c.place_of.ensures ∙ c.in-Some.is in
-    sym (stands_among c.args.dms.now.items d c.index.result.now c.in-Some.place place c.index.ensures c.if-index-dm.false)
+    sym (is_found_among c.args.dms.now.items d c.index.result.now c.in-Some.place place c.index.ensures c.if-index-dm.false)

@@ -1,5 +1,5 @@
 use Rattle.sdd_lists.proofs.All.{◌∙◌}
-use Rattle.sdd_lists.proofs.Steps.{begins, era_allowed, era_more, era_stands, eras_begin}
+use Rattle.sdd_lists.proofs.Steps.{begins, era_allowed, era_follows, era_more, eras_begin}
 use Rattle.sdd_lists.proofs.following.eras_of.Goals as goal
 
 pub lists-init : goal.lists-init
@@ -17,7 +17,7 @@ pub lists-preserved : goal.lists-preserved
 lists-preserved c =
     let next = c.replace.ensures.after ∙ c.in_ok-next.ensures in
     record {
-      follows = era_stands c.args.catalogue.now c.lists.last c.args.lists.now c.lists.classes-index c.classes-item.result c.as_slice.result.now
+      follows = era_follows c.args.catalogue.now c.lists.last c.args.lists.now c.lists.classes-index c.classes-item.result c.as_slice.result.now
           c.lists-test.true c.classes-item.is c.as_slice.ensures c.lists.invariant.follows c.replace.new.dest next;
       all = era_more c.args.catalogue.now c.lists.last c.args.lists.now c.lists.classes-index c.classes-item.result c.as_slice.result.now
           c.lists-test.true c.classes-item.is c.as_slice.ensures c.lists.invariant.follows c.replace.new.dest c.replace.result

@@ -4,5 +4,5 @@ use Rattle.sdd_make.proofs.catalogue.bank.Goals as goal
 
 pub unreachable-requires : goal.unreachable-requires
 unreachable-requires c =
-    let told = subst (λ e. TellsFirst e (faults_of c.in_ok-parts.parts)) c.in-Err-Fault.field-0-is c.in-Err-Fault.ensures.fault in
-    no_fault c.in_ok-parts.parts c.in-Err-Fault.field-0-0 c.in_ok-parts.ensures told
+    let reported = subst (λ e. TellsFirst e (faults_of c.in_ok-parts.parts)) c.in-Err-Fault.field-0-is c.in-Err-Fault.ensures.fault in
+    no_fault c.in_ok-parts.parts c.in-Err-Fault.field-0-0 c.in_ok-parts.ensures reported

@@ -2,13 +2,13 @@ use Rattle.sdd_script.proofs.All.{Accepts, Catalogue, Err, IfOk, IsSoundCatalogu
 use Rattle.sdd_script.proofs.ReadingLaws.{reads_spelling}
 use Rattle.sdd_script.proofs.walk.read_workload.Goals as goal
 
--- a workload that is told is accepted
-told_accepts : (cat : Catalogue) → IsSoundCatalogue cat → IsWhole cat
+-- a workload that is returned is accepted
+read_is_accepted : (cat : Catalogue) → IsSoundCatalogue cat → IsWhole cat
     → (bytes : List ℕ) (r : Result Workload WorkError) → Tells r (workload cat bytes)
     → IfOk r (λ w. Accepts cat bytes w)
-told_accepts cat s w bytes (Ok work) t = reads_spelling cat s w bytes work t
-told_accepts cat s w bytes (Err e) t = tt
+read_is_accepted cat s w bytes (Ok work) t = reads_spelling cat s w bytes work t
+read_is_accepted cat s w bytes (Err e) t = tt
 
 pub returns-clause-accepted : goal.returns-clause-accepted
 returns-clause-accepted c =
-    told_accepts c.args.catalogue.now c.law_is_sound.ensures.sound c.law_is_sound.ensures.whole c.args.bytes.now c.read_bytes.result c.read_bytes.ensures
+    read_is_accepted c.args.catalogue.now c.law_is_sound.ensures.sound c.law_is_sound.ensures.whole c.args.bytes.now c.read_bytes.result c.read_bytes.ensures

@@ -3,6 +3,6 @@ use Rattle.sdd_serving.proofs.law.law_exchange_serves.Goals as goal
 
 pub returns : goal.returns
 returns c =
-    λ class ts ds copies db space stage ok runs.
-    exchange_serves c.args.catalogue.now c.law_is_sound.ensures.sound class c.args.txn.now c.requires ts ds copies db ok space
+    λ class ts dms copies db space stage ok runs.
+    exchange_serves c.args.catalogue.now c.law_is_sound.ensures.sound class c.args.txn.now c.requires ts dms copies db ok space
     stage runs

@@ -1,5 +1,5 @@
 use Rattle.sdd_watch.proofs.All.{[], ◌∙◌}
-use Rattle.sdd_watch.proofs.BegunTold.{begins_told}
+use Rattle.sdd_watch.proofs.BeginsReport.{begins_report}
 use Rattle.sdd_watch.proofs.inside.begin.Goals as goal
 
 pub tables-requires : goal.tables-requires
@@ -10,6 +10,6 @@ new-requires c = let r = c.requires in (r.0, r.1.calm)
 
 pub returns : goal.returns
 returns c = λ g represents is.
-    begins_told g _ _ _ _ is c.new-text.ensures.items
+    begins_report g _ _ _ _ is c.new-text.ensures.items
     (c.transactions.ensures g [] represents.calm) (c.as_slice.ensures.value ∙ c.in_ok-copies.ensures g [] represents) c.in_ok-put_beginning.ensures
     (c.in_ok-watch.ensures g represents.calm is)

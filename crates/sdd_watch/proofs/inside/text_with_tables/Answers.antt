@@ -1,5 +1,5 @@
 use Rattle.sdd_watch.proofs.All.{IsSoundCatalogue, [], ap, ended, eras_with_tables, first_input, handed_on, length, subst, sym, tables_are, tail_of, ◌∙◌}
-use Rattle.sdd_watch.proofs.BegunTold.{begins_all, inside_of}
+use Rattle.sdd_watch.proofs.BeginsReport.{begins_all, inside_of}
 use Rattle.sdd_watch.proofs.inside.text_with_tables.Goals as goal
 
 pub further-requires : goal.further-requires
@@ -20,7 +20,7 @@ carry_out-requires c =
     c.in_ok-first.first.world c.in_ok-first.first.events.items c.in_ok-further.further.items c.in_ok-teller.teller c.in_ok-first.ensures.world
     c.in_ok-first.ensures.events (c.in_ok-further.ensures ∙ ap (λ cats. tail_of (eras_with_tables cats tables)) (c.eras.ensures ∙ c.requires.eras))
     (c.in_ok-teller.ensures (first_input cat tables work) c.in_ok-first.ensures.world is) in
-    (first_input cat tables work, [], begins.told, begins.allowed, begins.few)
+    (first_input cat tables work, [], begins.reported, begins.allowed, begins.few)
 
 pub returns-clause-text : goal.returns-clause-text
 returns-clause-text c =
@@ -33,7 +33,7 @@ returns-clause-text c =
     c.in_ok-first.ensures.events (c.in_ok-further.ensures ∙ ap (λ cats. tail_of (eras_with_tables cats tables)) (c.eras.ensures ∙ c.requires.eras))
     (c.in_ok-teller.ensures (first_input cat tables work) c.in_ok-first.ensures.world is) in
     inside_of cat tables work c.requires.tabled c.in_ok-first.first.events.items c.in_ok-first.ensures.events _
-    (c.in_ok-carry_out.ensures.text (first_input cat tables work) [] begins.told begins.allowed)
+    (c.in_ok-carry_out.ensures.text (first_input cat tables work) [] begins.reported begins.allowed)
 
 pub returns-in_err-carry_out-clause-limit : goal.returns-in_err-carry_out-clause-limit
 returns-in_err-carry_out-clause-limit c = λ err.
@@ -48,4 +48,4 @@ returns-in_err-carry_out-clause-limit c = λ err.
     ended cat tables work c.requires.tabled c.in_ok-first.first.events.items c.in_ok-first.ensures.events
     (c.in_err-carry_out.ensures.limit
     (handed_on c.from_residual-in_err-carry_out.result c.in_err-carry_out.field-0.0 c.from_residual-in_err-carry_out.ensures.1 err)
-    (first_input cat tables work) [] begins.told begins.allowed)
+    (first_input cat tables work) [] begins.reported begins.allowed)

@@ -1,5 +1,5 @@
 use Rattle.sdd_watch.proofs.All.{T, ap, local_of, map, queue_in, setting_of, ◌++◌, ◌∙◌}
-use Rattle.sdd_watch.proofs.Queued.{queues_told}
+use Rattle.sdd_watch.proofs.Queued.{queues_reported}
 use Rattle.sdd_watch.proofs.queues.add_queues_at.Goals as goal
 
 pub txn_module-requires : goal.txn_module-requires
@@ -14,4 +14,4 @@ returns c = λ g log calm here.
     let represents = (c.txn_module.ensures (setting_of g at) (local_of g at log) (c.sites.ensures g log calm at here)).represents_log in
     c.in_ok-add_queues.ensures
     ∙ ap (λ qs. c.args.queues.now.items ++ qs)
-    (ap (map queue_in) c.classes.ensures ∙ queues_told g log c.args.tm c.txn_module.result.now represents)
+    (ap (map queue_in) c.classes.ensures ∙ queues_reported g log c.args.tm c.txn_module.result.now represents)

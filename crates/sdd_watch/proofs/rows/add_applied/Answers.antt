@@ -1,5 +1,5 @@
 use Rattle.sdd_watch.proofs.All.{after_ok, history, sym, ◌∙◌}
-use Rattle.sdd_watch.proofs.RowsTold.{none_applied, some_applied}
+use Rattle.sdd_watch.proofs.RowsAreReported.{none_applied, some_applied}
 use Rattle.sdd_watch.proofs.rows.add_applied.Goals as goal
 
 pub returns-in-Some : goal.returns-in-Some

@@ -1,5 +1,5 @@
 use Rattle.sdd_watch.proofs.All.{Catalogue, ap, has_copy, sym, true, ◌∙◌, ◌≡◌}
-use Rattle.sdd_watch.proofs.RowsTold.{one_elsewhere, one_here}
+use Rattle.sdd_watch.proofs.RowsAreReported.{one_elsewhere, one_here}
 use Rattle.sdd_watch.proofs.rows.add_here.Goals as goal
 
 pub add_row-requires : goal.add_row-requires

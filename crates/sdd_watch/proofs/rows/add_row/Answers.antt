@@ -1,5 +1,5 @@
 use Rattle.sdd_watch.proofs.All.{ap, is_of_item, list_any, ◌∙◌}
-use Rattle.sdd_watch.proofs.RowsTold.{row_added, row_stays}
+use Rattle.sdd_watch.proofs.RowsAreReported.{row_added, row_stays}
 use Rattle.sdd_watch.proofs.rows.add_row.Goals as goal
 
 pub returns-then-has_item : goal.returns-then-has_item

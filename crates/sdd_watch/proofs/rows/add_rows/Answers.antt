@@ -1,6 +1,6 @@
 use Rattle.sdd_watch.proofs.All.{changes_applied, fold, refl, with_row}
 use Rattle.sdd_watch.proofs.Folding.{folded_end, folded_more}
-use Rattle.sdd_watch.proofs.RowsTold.{changes_join}
+use Rattle.sdd_watch.proofs.RowsAreReported.{changes_join}
 use Rattle.sdd_watch.proofs.rows.add_rows.Goals as goal
 
 pub loop-change-init : goal.loop-change-init

@@ -1,5 +1,5 @@
 use Rattle.sdd_watch.proofs.All.{arith}
-use Rattle.sdd_watch.proofs.RowsTold.{copy_past, copy_within}
+use Rattle.sdd_watch.proofs.RowsAreReported.{copy_past, copy_within}
 use Rattle.sdd_watch.proofs.rows.has_copy.Goals as goal
 
 pub has_copy-requires : goal.has_copy-requires

@@ -1,5 +1,5 @@
 use Rattle.sdd_watch.proofs.All.{D, FitsSigned, ap, dated, local_of, refl, rules, setting_of, to_z-of_z, w64}
-use Rattle.sdd_watch.proofs.RowsTold.{copy_site}
+use Rattle.sdd_watch.proofs.RowsAreReported.{copy_site}
 use Rattle.sdd_watch.proofs.rows.report_row.Goals as goal
 
 pub copies-requires : goal.copies-requires

@@ -1,4 +1,4 @@
-use Rattle.sdd_watch.proofs.RowsTold.{row_is}
+use Rattle.sdd_watch.proofs.RowsAreReported.{row_is}
 use Rattle.sdd_watch.proofs.rows.row_at.Goals as goal
 
 pub returns : goal.returns

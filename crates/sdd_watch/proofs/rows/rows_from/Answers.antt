@@ -1,6 +1,6 @@
 use Rattle.sdd_watch.proofs.All.{AreCommits, History, [], ap, append-nil, applied_by, drop, flat_map, fold, history, subst, sym, with_row, ◌∙◌}
 use Rattle.sdd_watch.proofs.Folding.{folded_end, folded_more}
-use Rattle.sdd_watch.proofs.RowsTold.{records_join}
+use Rattle.sdd_watch.proofs.RowsAreReported.{records_join}
 use Rattle.sdd_watch.proofs.rows.rows_from.Goals as goal
 
 pub loop-place-init : goal.loop-place-init

@@ -1,5 +1,5 @@
 use Rattle.sdd_watch.proofs.All.{AreAllowed, ap, arith, ends_from, first_allowed, first_one, handed_on, length, no_items, refl, subst, sym, with_event, with_events, with_first, ◌∙◌}
-use Rattle.sdd_watch.proofs.Scheduled.{place_on, told_all}
+use Rattle.sdd_watch.proofs.Scheduled.{all_reported, place_on}
 use Rattle.sdd_watch.proofs.schedule.carry_out.Goals as goal
 
 pub loop-event-init : goal.loop-event-init
@@ -65,5 +65,5 @@ returns-in_err-now-clause-limit c = λ err given log s a.
 pub returns-clause-text : goal.returns-clause-text
 returns-clause-text c = λ given log s a.
     let i = c.loop-event.invariant.so_far given log s a in
-    told_all c.loop-event.now i.0 i.1 c.loop-event.teller _ c.loop-event.left.items (with_events given c.args.events.items) i.2
+    all_reported c.loop-event.now i.0 i.1 c.loop-event.teller _ c.loop-event.left.items (with_events given c.args.events.items) i.2
     (no_items c.loop-event.left.items c.loop-event.left.len c.loop-event.left.ok.0 c.in_default.ensures.cases.0) i.4

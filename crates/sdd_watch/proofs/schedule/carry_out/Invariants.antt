@@ -1,11 +1,11 @@
-use Rattle.sdd_watch.proofs.All.{AreAllowed, Input, IsTold, Log, length, suc, with_events, ◌+◌, ◌≡◌}
+use Rattle.sdd_watch.proofs.All.{AreAllowed, Input, IsReported, Log, length, suc, with_events, ◌+◌, ◌≡◌}
 use Rattle.sdd_watch.proofs.schedule.carry_out.Given as goal
 
 abbrev pub invariant-loop-event : goal.invariant-loop-event
 invariant-loop-event l = record {
-  so_far : (given : Input) (log : Log) → IsTold l.fn.world given log l.fn.teller 1
+  so_far : (given : Input) (log : Log) → IsReported l.fn.world given log l.fn.teller 1
       → AreAllowed given l.fn.events.items l.fn.lists.items
-      → (now : Input) × (more : Log) × IsTold l.now now more l.teller (suc l.place)
+      → (now : Input) × (more : Log) × IsReported l.now now more l.teller (suc l.place)
       × AreAllowed now l.left.items l.further.items × (with_events now l.left.items ≡ with_events given l.fn.events.items);
   count : l.place + length l.left.items ≡ length l.fn.events.items;
 }

@@ -1,5 +1,5 @@
 use Rattle.sdd_watch.proofs.All.{ap, arith, handed_on, refl}
-use Rattle.sdd_watch.proofs.RoundsTold.{marks_one, number_fits, round_to_tell, round_told}
+use Rattle.sdd_watch.proofs.RoundsAreReported.{marks_one, number_fits, round_reported, round_to_tell}
 use Rattle.sdd_watch.proofs.schedule.in_round.Goals as goal
 
 pub foresee-finds-requires : goal.foresee-finds-requires
@@ -35,14 +35,14 @@ pub returns-clause-log : goal.returns-clause-log
 returns-clause-log c = λ g log e rest h.
     let n = c.in_ok-next.ensures.log g log e rest h.rounding in
     let more = c.in_ok-next.ensures.one in
-    let told = round_to_tell c.args.world c.in_ok-next.next g log n.0 e c.args.event rest c.args.teller.now c.args.place c.args.number h n.1 more
+    let reported = round_to_tell c.args.world c.in_ok-next.next g log n.0 e c.args.event rest c.args.teller.now c.args.place c.args.number h n.1 more
     _ _ refl refl refl (c.foresee-finds.ensures g log h.rounding.calm h.rounding.possible.0) in (
       n.0,
-      round_told c.args.world c.in_ok-next.next g log n.0 e c.args.event rest c.args.teller.now c.args.place c.args.number h n.1 more c.tell.new.self
+      round_reported c.args.world c.in_ok-next.next g log n.0 e c.args.event rest c.args.teller.now c.args.place c.args.number h n.1 more c.tell.new.self
           (record {
             catalogue = ap (λ r. r.now) c.tell.ensures.catalogue;
-            text = c.in_ok-tell.ensures.text g log n.0 told h.tells.catalogue_is;
-            watches = c.in_ok-tell.ensures.watch g log n.0 told;
+            text = c.in_ok-tell.ensures.text g log n.0 reported h.tells.catalogue_is;
+            watches = c.in_ok-tell.ensures.watch g log n.0 reported;
           }),
       marks_one c.args.world c.in_ok-next.next g log n.0 e c.args.event rest c.args.teller.now c.args.place c.args.number h n.1 more,
     )

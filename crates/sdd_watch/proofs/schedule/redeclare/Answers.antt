@@ -1,5 +1,5 @@
 use Rattle.sdd_watch.proofs.All.{Redeclare, ap, handed_on, lists_after, next_list, refl, sym, with_event}
-use Rattle.sdd_watch.proofs.RoundsTold.{list_to_tell, list_told}
+use Rattle.sdd_watch.proofs.RoundsAreReported.{list_reported, list_to_tell}
 use Rattle.sdd_watch.proofs.schedule.redeclare.Goals as goal
 
 pub rounds-requires : goal.rounds-requires
@@ -43,12 +43,12 @@ returns-clause-log c = λ g0 log h a.
     let s = c.in_ok-quiet.ensures.log g0 log h tt a.good in
     let next = next_list g0 c.args.lists.now.items c.pop_front.new.self.items c.in-Some.first c.in-Some.ensures.items a in
     let n = c.in_ok-next-in-Some.ensures.log g0 next s.settled in
-    let told = list_to_tell c.in_ok-quiet.quiet c.in_ok-next-in-Some.next g c.rounds.new.teller c.args.place s n.0 n.1 _ refl refl refl in
-    list_told c.in_ok-quiet.quiet c.in_ok-next-in-Some.next g c.rounds.new.teller c.args.place s n.0 n.1 c.tell.new.self
+    let reported = list_to_tell c.in_ok-quiet.quiet c.in_ok-next-in-Some.next g c.rounds.new.teller c.args.place s n.0 n.1 _ refl refl refl in
+    list_reported c.in_ok-quiet.quiet c.in_ok-next-in-Some.next g c.rounds.new.teller c.args.place s n.0 n.1 c.tell.new.self
     (record {
       catalogue = ap (λ r. r.now) c.tell.ensures.catalogue;
-      text = c.in_ok-tell-in-Some.ensures.text g s.settled.more n.0 told s.tells.catalogue_is;
-      watches = c.in_ok-tell-in-Some.ensures.watch g s.settled.more n.0 told;
+      text = c.in_ok-tell-in-Some.ensures.text g s.settled.more n.0 reported s.tells.catalogue_is;
+      watches = c.in_ok-tell-in-Some.ensures.watch g s.settled.more n.0 reported;
     })
 
 pub returns-clause-others : goal.returns-clause-others

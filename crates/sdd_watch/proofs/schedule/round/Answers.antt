@@ -1,5 +1,5 @@
 use Rattle.sdd_watch.proofs.All.{ap, arith, handed_on, length, marks, no_items, sym, ◌+◌}
-use Rattle.sdd_watch.proofs.RoundsTold.{with_left}
+use Rattle.sdd_watch.proofs.RoundsAreReported.{with_left}
 use Rattle.sdd_watch.proofs.schedule.round.Goals as goal
 
 pub loop-event-init : goal.loop-event-init

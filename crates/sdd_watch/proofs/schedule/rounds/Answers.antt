@@ -1,5 +1,5 @@
 use Rattle.sdd_watch.proofs.All.{Round, arith, handed_on, refl, with_event, ◌∷◌}
-use Rattle.sdd_watch.proofs.RoundsTold.{begins, none_of, next_fits, round_begins, round_over, rounds_fall, settles, some_event, some_of}
+use Rattle.sdd_watch.proofs.RoundsAreReported.{begins, none_of, next_fits, round_begins, round_over, rounds_fall, settles, some_event, some_of}
 use Rattle.sdd_watch.proofs.schedule.rounds.Goals as goal
 
 pub begin_rounds-requires : goal.begin_rounds-requires

@@ -1,5 +1,5 @@
 use Rattle.sdd_watch.proofs.All.{ap, handed_on, refl, with_event}
-use Rattle.sdd_watch.proofs.EventTold.{step_to_tell, step_told}
+use Rattle.sdd_watch.proofs.EventIsReported.{step_reported, step_to_tell}
 use Rattle.sdd_watch.proofs.schedule.step.Goals as goal
 
 pub foresee-finds-requires : goal.foresee-finds-requires
@@ -28,13 +28,13 @@ pub returns-clause-log : goal.returns-clause-log
 returns-clause-log c = λ g log h p good.
     let e = c.args.event.now in
     let n = c.in_ok-next.ensures.log g log h.represents p good in
-    let told = step_to_tell c.args.world c.in_ok-next.next g log n.0 e h.represents p n.1 c.args.teller.now c.args.place _ _ h refl refl refl
+    let reported = step_to_tell c.args.world c.in_ok-next.next g log n.0 e h.represents p n.1 c.args.teller.now c.args.place _ _ h refl refl refl
     (c.foresee-finds.ensures g log h.represents.calm p) in (
       n.0,
-      step_told c.args.world c.in_ok-next.next g log n.0 e h.represents p n.1 c.args.teller.now c.tell.new.self c.args.place h
+      step_reported c.args.world c.in_ok-next.next g log n.0 e h.represents p n.1 c.args.teller.now c.tell.new.self c.args.place h
           (record {
             catalogue = ap (λ r. r.now) c.tell.ensures.catalogue;
-            text = c.in_ok-tell.ensures.text (with_event g e) log n.0 told h.tells.catalogue_is;
-            watches = c.in_ok-tell.ensures.watch (with_event g e) log n.0 told;
+            text = c.in_ok-tell.ensures.text (with_event g e) log n.0 reported h.tells.catalogue_is;
+            watches = c.in_ok-tell.ensures.watch (with_event g e) log n.0 reported;
           }),
     )

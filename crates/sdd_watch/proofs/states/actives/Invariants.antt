@@ -1,4 +1,4 @@
--- What is left of the classes is still to be told.
+-- What is left of the classes is still to be reported.
 use Rattle.sdd_watch.proofs.All.{active_of, drop, filter_map, ◌++◌, ◌≡◌}
 use Rattle.sdd_watch.proofs.states.actives.Given as goal
 

@@ -1,5 +1,5 @@
 use Rattle.sdd_watch.proofs.All.{arith, class_view, length, report_head, sym, view_of, ◌∙◌, ◌≡◌, ◌≤◌}
-use Rattle.sdd_watch.proofs.AtD.{told_is}
+use Rattle.sdd_watch.proofs.AtD.{state_is_reported}
 use Rattle.sdd_watch.proofs.MadeLists.{picked_more}
 use Rattle.sdd_watch.proofs.states.dm_state.Goals as goal
 
@@ -14,5 +14,5 @@ returns c = λ s log represents.
     let all : c.loop-class.class ≡ length c.args.dm_module.now.value.pipes =
     omega (arith, c.loop-class-test.false, c.loop-class.auto.class-end, c.pipe_count-class-end.ensures) in
     sym
-    (told_is c.args.dm_module.now s log c.args.dm c.args.is_down c.from_vec.result c.loop-class.class represents all
+    (state_is_reported c.args.dm_module.now s log c.args.dm c.args.is_down c.from_vec.result c.loop-class.class represents all
     (c.from_vec.ensures ∙ c.loop-class.invariant s log represents))

@@ -1,4 +1,4 @@
--- What is left of the classes is still to be told.
+-- What is left of the classes is still to be reported.
 use Rattle.sdd_watch.proofs.All.{drop, flat_map, questions_in, ◌++◌, ◌≡◌}
 use Rattle.sdd_watch.proofs.states.open_questions.Given as goal
 

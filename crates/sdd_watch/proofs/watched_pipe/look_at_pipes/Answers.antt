@@ -1,6 +1,6 @@
 -- One pipe more, and all of them.
 use Rattle.sdd_watch.proofs.All.{U, WatchedPipe, arith, class_no, dm_no, get_or, refl}
-use Rattle.sdd_watch.proofs.PipesVisited.{at_hand, at_module, no_pipes_yet, pipes_more, pipes_over, rest_stands}
+use Rattle.sdd_watch.proofs.PipesVisited.{at_hand, at_module, no_pipes_yet, pipes_more, pipes_over, rest_is_kept}
 use Rattle.sdd_watch.proofs.watched_pipe.look_at_pipes.Goals as goal
 
 pub loop-pipe-init : goal.loop-pipe-init
@@ -31,7 +31,7 @@ loop-pipe-preserved c =
     let t = c.look.new.parts in
     let x : WatchedPipe = get_or c.loop-pipe.pipes c.loop-pipe.pipe-index none_there in
     record {
-      rest = rest_stands c.args.pipes.now c.loop-pipe.pipes c.loop-pipe.pipe-index c.look.new.self c.loop-pipe.invariant.rest;
+      rest = rest_is_kept c.args.pipes.now c.loop-pipe.pipes c.loop-pipe.pipe-index c.look.new.self c.loop-pipe.invariant.rest;
       so_far = λ g old new calm between all e.
           pipes_more g old new c.args.pipes.now c.loop-pipe.pipes c.loop-pipe.pipe-index x c.look.new.self
           s.before.items s.after.items t.before.items t.after.items e c.loop-pipe-test.true (c.loop-pipe.invariant.so_far g old new calm between all e)

@@ -1,7 +1,7 @@
-use Rattle.sdd_copy.proofs.Uses.{frozen_told}
+use Rattle.sdd_copy.proofs.Uses.{frozen_is_held}
 use Rattle.sdd_copy.proofs.space.Space.freeze.Goals as goal
 
 pub returns-clause-contents : goal.returns-clause-contents
 returns-clause-contents c = λ xs.
-    frozen_told c.args.copies.now.value xs c.args.ts.0 c.args.uses.now
+    frozen_is_held c.args.copies.now.value xs c.args.ts.0 c.args.uses.now
     c.loop-one.frozen.items c.loop-one.one-index c.loop-one.invariant c.loop-one-test.false

@@ -1,7 +1,7 @@
 use Rattle.sdd_net.proofs.All.{ap, arith, handed_on, true, ◌∙◌, ◌≤◌}
 use Rattle.sdd_net.proofs.Turns.{received_is}
 use Rattle.sdd_net.proofs.Matching.{if_both}
-use Rattle.sdd_net.proofs.Receives.{arrival_stands, old_arrival, next_arrival}
+use Rattle.sdd_net.proofs.Receives.{arrival_is_exact, old_arrival, next_arrival}
 use Rattle.sdd_net.proofs.receiver.Receiver.arrive.Goals as goal
 
 pub returns-clause-ok : goal.returns-clause-ok
@@ -16,7 +16,7 @@ returns-clause-law g c =
     let none = c.take_next.ensures.none c.in_default.is in
     let i = c.loop-next.invariant in
     let handed = (received_is _ _ _ _ _ _ _ _ c.if-no-self.false c.in_ok-insert.ensures.entries i.handed i.waits i.count none.1).0 in
-    arrival_stands c.args.no c.args.msg c.args.self.now.value
+    arrival_is_exact c.args.no c.args.msg c.args.self.now.value
     (record { live = true; value = record { count = c.loop-next.self-inside.count; early = c.take_next.new.early.entries } }) c.from_vec-2.result c.requires.number
     (returns-clause-ok g c) (c.from_vec-2.ensures ∙ handed ∙ ap (λ v. handed_on c.args.no c.args.msg v.value) c.self.view_is)
 
@@ -25,12 +25,12 @@ returns-then-no-self-clause-law g c =
     let count = ap (λ v. v.value.count) c.self.view_is in
     let old : c.args.no ≤ c.args.self.now.value.count = omega (arith, count, c.if-no-self.true) in
     let same = old_arrival c.args.no c.args.msg c.args.self.now c.requires.live old in
-    arrival_stands c.args.no c.args.msg c.args.self.now.value c.args.self.now c.from_vec.result c.requires.number same.0
+    arrival_is_exact c.args.no c.args.msg c.args.self.now.value c.args.self.now c.from_vec.result c.requires.number same.0
     (c.from_vec.ensures ∙ c.new-handed.ensures.items ∙ same.1)
 
 pub returns-then-is_next-clause-law : goal.returns-then-is_next-clause-law
 returns-then-is_next-clause-law g c =
     let next = next_arrival c.args.no c.args.msg c.args.self.now.value (c.is_next.ensures c.if-is_next.true) in
     if_both c.hand_on.result _ _ _ c.hand_on.ensures.handed c.hand_on.ensures.ok (λ handed h new.
-    arrival_stands c.args.no c.args.msg c.args.self.now.value c.hand_on.new.self handed c.requires.number
+    arrival_is_exact c.args.no c.args.msg c.args.self.now.value c.hand_on.new.self handed c.requires.number
     (new ∙ ap (λ v. record { live = true; value = v }) next.1) (h ∙ next.0))

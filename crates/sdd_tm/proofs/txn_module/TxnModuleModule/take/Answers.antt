@@ -40,6 +40,6 @@ returns-clause-law c =
       settled_state = c.settle.new.self;
       works = works;
       settled = c.in_ok-settle.ensures.settled;
-      told_is = c.in_ok-tell_held.ensures.state;
+      held_is_sent = c.in_ok-tell_held.ensures.state;
       noted_is = c.in_ok-tell_held.ensures.draft;
     }) c.finish.ensures.recs c.finish.ensures.out

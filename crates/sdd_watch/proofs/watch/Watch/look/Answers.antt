@@ -1,5 +1,5 @@
 use Rattle.sdd_watch.proofs.All.{Knows, Moment, Watch, all_links, all_pipes, ap, arith, refl, subst, sym, watched_link, watched_pipe, ◌∙◌}
-use Rattle.sdd_watch.proofs.CutDifference.{change_told}
+use Rattle.sdd_watch.proofs.CutDifference.{change_reported}
 use Rattle.sdd_watch.proofs.KeptBeside.{beside, known, written_back}
 use Rattle.sdd_watch.proofs.watch.Watch.look.Goals as goal
 
@@ -35,7 +35,7 @@ returns-clause-delta c = λ g old new over at were.
     let first : Knows g old c.args.self.now = known g old c.args.self.now were in
     let after_queues : Knows g old c.queues.new.self =
     subst (Knows g old) (sym c.in_ok-queues.ensures.others) (beside g old c.args.self.now _ refl refl refl refl first) in
-    change_told g old new c.in_ok-happened.happened c.moments-before.result.0 c.moments-before.result.1 c.in_ok-delta.delta c.in_ok-delta.ensures
+    change_reported g old new c.in_ok-happened.happened c.moments-before.result.0 c.moments-before.result.1 c.in_ok-delta.delta c.in_ok-delta.ensures
     (c.in_ok-happened.ensures.happened g old new over at (beside g old c.queues.new.self _ refl refl refl refl after_queues)
     (c.as_slice-2.ensures.value ∙ came))
     (ap (λ (m : Moment). m.links) c.moments-before.ensures.before ∙ c.in_ok-seen.ensures.before g old new over links)

@@ -1,6 +1,6 @@
 -- What is read of the link in the world is what the log gives.
 use Rattle.sdd_watch.proofs.All.{Input, IsLinkOf, IsOver, Log, Site, calls_of, watched_link, ◌≡◌}
-use Rattle.sdd_watch.proofs.Looked.{IsRead, link_kept, link_looked, link_there, taken_told}
+use Rattle.sdd_watch.proofs.Looked.{IsRead, link_kept, link_looked, link_there, taken_reported}
 use Rattle.sdd_watch.proofs.watched_link.WatchedLink.look.Goals as goal
 
 pub packets_behind-requires : goal.packets_behind-requires
@@ -23,7 +23,7 @@ read c g old new l over linked w =
     let at : IsLinkOf g c.args.self.now.from c.args.self.now.to = link_there g old l c.args.self.now w linked in
     let net = c.mail-mail.ensures g new over.calm in
     record {
-      taken_is = taken_told old new c.args.self.now c.args.event.now c.args.found.now c.is_taken-taken.result over.event_is over.found_is
+      taken_is = taken_reported old new c.args.self.now c.args.event.now c.args.found.now c.is_taken-taken.result over.event_is over.found_is
           c.is_taken-taken.ensures;
       left_is = c.left_of-left.ensures;
       news_are = c.in_ok-news.ensures g.catalogue.tms g.catalogue.dms (calls_of new) net at;

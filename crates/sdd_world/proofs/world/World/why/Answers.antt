@@ -14,8 +14,8 @@ standing-standing-requires c =
 
 pub returns : goal.returns
 returns c =
-    of_ok c.why_so.result _ _ c.why_so.ensures (λ why told given log s.
+    of_ok c.why_so.result _ _ c.why_so.ensures (λ why reported given log s.
     let at = c.last_home-at.ensures given log s in
     let here = subst (IsSiteOf given) (sym at) (last_home_there given log c.args.number.0 s.calm.parts.sound) in
-    told given log s ∙ ap (why_of given log) (c.standing-standing.ensures given log here s)
+    reported given log s ∙ ap (why_of given log) (c.standing-standing.ensures given log here s)
     ∙ ap (λ z. why_of given log (status_at standing_of given log z c.args.number.0)) at)

@@ -46,8 +46,8 @@ row_stays g log rows x b is e = sym (ap (λ c. if c then rows else rows ++ repor
 
 pub row_added : (g : Input) (log : Log) (rows more : List RowDelta) (x : DmNo × Change) (b : Bool) (row : RowDelta) → b ≡ list_any (is_of_item x) rows
     → b ≡ false → row ≡ report_row g log x → more ≡ rows ++ row ∷ [] → more ≡ with_row g log rows x
-row_added g log rows more x b row is e told push =
-    push ∙ ap (λ r. rows ++ r ∷ []) told ∙ sym (ap (λ c. if c then rows else rows ++ report_row g log x ∷ []) (sym is ∙ e))
+row_added g log rows more x b row is e reported push =
+    push ∙ ap (λ r. rows ++ r ∷ []) reported ∙ sym (ap (λ c. if c then rows else rows ++ report_row g log x ∷ []) (sym is ∙ e))
 
 -- what changes give, and records
 

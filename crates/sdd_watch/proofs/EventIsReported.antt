@@ -1,5 +1,5 @@
--- An event is carried out and told, over plain worlds.
-use Rattle.sdd_watch.proofs.All.{Entry, Event, Foreseen, Input, IsLawful, IsPossible, IsTellable, IsToTell, IsTold, IsTurn, List, Log, Mark, None, Redeclare, Redeclares, Represents, Round, Settle, Some, Teller, Tells, Turn, Watch, Watches, World, [], after_mark, ap, arith, change, foreseen_by, from_event, grows, lawful_grows, left, length, line, mark_of, marks, next, one_more, place_in, refl, rests_given, round_in, rounds, single, subst, suc, sym, tail_of, with_event, ℕ, ◌++◌, ◌∙◌, ◌∷◌, ◌≡◌}
+-- An event is carried out and reported, over plain worlds.
+use Rattle.sdd_watch.proofs.All.{Entry, Event, Foreseen, Input, IsLawful, IsPossible, IsReported, IsTellable, IsToTell, IsTurn, List, Log, Mark, None, Redeclare, Redeclares, Represents, Round, Settle, Some, Teller, Tells, Turn, Watch, Watches, World, [], after_mark, ap, arith, change, foreseen_by, from_event, grows, lawful_grows, left, length, line, mark_of, marks, next, one_more, place_in, refl, rests_given, round_in, rounds, single, subst, suc, sym, tail_of, with_event, ℕ, ◌++◌, ◌∙◌, ◌∷◌, ◌≡◌}
 use Rattle.sdd_watch.proofs.EachEvent.{IsMarkedBetween, event_of, goes_to_end, is_between, last_is, one_more_mark}
 use Rattle.sdd_watch.proofs.GivenMore.{first_from, next_mark_is, one_longer}
 use Rattle.sdd_watch.proofs.InRounds.{no_mark_more, none_in_round}
@@ -29,13 +29,13 @@ tells_given g f log t l h = record {
   watches = watches_given g f log t.watch h.watches;
 }
 
--- What was told is told of the longer log: its line stands behind the text, and what is kept stands at its end.
-pub record GetsTold (g : Input) (old new : Log) (t t2 : Teller) : Type 0 where
+-- What was reported is reported of the longer log: its line is after the text, and what is kept is at its end.
+pub record AddsReport (g : Input) (old new : Log) (t t2 : Teller) : Type 0 where
   pub catalogue : t2.catalogue.now ≡ t.catalogue.now
   pub text : t2.text.items ≡ t.text.items ++ line g.catalogue g.txns (change g old new)
   pub watches : Watches g new t2.watch
 
-pub tells_on : (g : Input) (old new : Log) (e : Event) (t t2 : Teller) → IsMarkedBetween g old new e → Tells g old t → GetsTold g old new t t2
+pub tells_on : (g : Input) (old new : Log) (e : Event) (t t2 : Teller) → IsMarkedBetween g old new e → Tells g old t → AddsReport g old new t t2
     → Tells g new t2
 tells_on g old new e t t2 b h gets = record {
   catalogue_is = gets.catalogue ∙ h.catalogue_is;
@@ -98,8 +98,8 @@ module _ (w w2 : World) (g : Input) (log more : Log) (e : Event) (s : Represents
   step_over : (left (with_event g e).events log).1 ≡ []
   step_over = ap (λ (x : List Event × List Event). x.1) (grows g e log s.calm.rests.lawful) ∙ none_in_round g log s.complete
 
-  -- it is to be told
-  pub step_to_tell : (t : Teller) (place : ℕ) (turn : Turn) (finds : Foreseen) → IsTold w g log t place
+  -- it is to be reported
+  pub step_to_tell : (t : Teller) (place : ℕ) (turn : Turn) (finds : Foreseen) → IsReported w g log t place
       → turn.event ≡ e → turn.scheduled ≡ place → turn.round ≡ None → finds ≡ foreseen_by e log
       → IsToTell (with_event g e) log more w2 t.watch turn finds
   step_to_tell t place turn finds h event scheduled round found =
@@ -115,10 +115,10 @@ module _ (w w2 : World) (g : Input) (log more : Log) (e : Event) (s : Represents
         tellable = subst (IsTellable (with_event g e)) (sym event) (tellable_given g e e p);
       }
 
-  -- and told
-  pub step_told : (t t2 : Teller) (place : ℕ) → IsTold w g log t place → GetsTold (with_event g e) log more t t2
-      → IsTold w2 (with_event g e) more t2 (suc place)
-  step_told t t2 place h gets = record {
+  -- and reported
+  pub step_reported : (t t2 : Teller) (place : ℕ) → IsReported w g log t place → AddsReport (with_event g e) log more t t2
+      → IsReported w2 (with_event g e) more t2 (suc place)
+  step_reported t t2 place h gets = record {
     represents = s2;
     tells = tells_on (with_event g e) log more e t t2 step_marked (tells_given g e log t s.calm.rests.lawful h.tells) gets;
     place_is = ap (λ n. suc n) (h.place_is ∙ sym (one_longer g.events e));

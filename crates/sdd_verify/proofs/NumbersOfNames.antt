@@ -86,20 +86,20 @@ name_in txns number = txn_name txns number.0
 abbrev pub IsThere : List Txn → TxnNo → Type 0
 IsThere txns number = IsFrom1To (length txns) number.0
 
-answers_told : (line : ℕ) (txns : List Txn) (count : ℕ) (names : List (List ℕ)) (order : List TxnNo)
+numbers_named : (line : ℕ) (txns : List Txn) (count : ℕ) (names : List (List ℕ)) (order : List TxnNo)
     → Answers (λ _ name. require line (named txns name)) count names order → (names ≡ map (name_in txns) order) × All (IsThere txns) order
-answers_told line txns count [] [] h = (refl, All-nil (IsThere txns))
-answers_told line txns count (name ∷ names) (number ∷ order) h =
+numbers_named line txns count [] [] h = (refl, All-nil (IsThere txns))
+numbers_named line txns count (name ∷ names) (number ∷ order) h =
     let one = named_tells txns name number (require_ok line (named txns name) number h.0) in
-    let more = answers_told line txns (count + 1) names order h.1 in
+    let more = numbers_named line txns (count + 1) names order h.1 in
     let here = sym one.name_is in
     let behind = more.0 in
     (rw (here, behind) refl, All-cons (IsThere txns) number order one.there more.1)
-answers_told line txns count _ _ h = absurd h
+numbers_named line txns count _ _ h = absurd h
 
-pub all_told : (line : ℕ) (txns : List Txn) (count : ℕ) (names : List (List ℕ)) (order : List TxnNo)
+pub names_are_all : (line : ℕ) (txns : List Txn) (count : ℕ) (names : List (List ℕ)) (order : List TxnNo)
     → along (λ _ name. require line (named txns name)) count names ≡ Ok order → (names ≡ map (name_in txns) order) × All (IsThere txns) order
-all_told line txns count names order h = answers_told line txns count names order (along_ok (λ _ name. require line (named txns name)) count names order h)
+names_are_all line txns count names order h = numbers_named line txns count names order (along_ok (λ _ name. require line (named txns name)) count names order h)
 
 answers_again : (line : ℕ) (txns : List Txn) (count : ℕ) (order : List TxnNo) → AllDiffer txns → All (IsThere txns) order
     → Answers (λ _ name. require line (named txns name)) count (map (name_in txns) order) order
@@ -108,7 +108,7 @@ answers_again line txns count (number ∷ order) apart there =
     let one = named_again txns number apart (All-head (IsThere txns) number order there) in
     (ap (require line) one, answers_again line txns (count + 1) order apart (All-tail (IsThere txns) number order there))
 
-pub told_again : (line : ℕ) (txns : List Txn) (count : ℕ) (order : List TxnNo) → AllDiffer txns → All (IsThere txns) order
+pub numbers_again : (line : ℕ) (txns : List Txn) (count : ℕ) (order : List TxnNo) → AllDiffer txns → All (IsThere txns) order
     → along (λ _ name. require line (named txns name)) count (map (name_in txns) order) ≡ Ok order
-told_again line txns count order apart there =
+numbers_again line txns count order apart there =
     ok_along (λ _ name. require line (named txns name)) count (map (name_in txns) order) order (answers_again line txns count order apart there)

@@ -1,7 +1,7 @@
--- The rounds of a settle or a redeclare, told event by event, over plain worlds.
-use Rattle.sdd_watch.proofs.All.{Event, Foreseen, Input, IsLawful, IsPossible, IsTellable, IsToTell, IsTold, IsTurn, List, Log, Mark, MatchOption, None, Option, Redeclare, Redeclares, Represents, Round, Rounding, Settle, Settling, Some, Something, Teller, TellsBetween, TellsRound, TellsSettled, Turn, World, [], after_mark, all_links, ap, arith, calls_of, events_of, false, few, foreseen_by, free, greatest_bound, left, length, marks, next, place_in, quiet, redeclare_next, refl, round_before, round_ends, round_in, rounds, settled, subst, suc, sym, true, unless_in_round, with_event, ℕ, ◌++◌, ◌+◌, ◌-◌, ◌<◌, ◌^◌, ◌∙◌, ◌∷◌, ◌≡◌, ◌≢◌, ◌≤◌}
+-- The rounds of a settle or a redeclare, reported event by event, over plain worlds.
+use Rattle.sdd_watch.proofs.All.{Event, Foreseen, Input, IsLawful, IsPossible, IsReported, IsTellable, IsToTell, IsTurn, List, Log, Mark, MatchOption, None, Option, Redeclare, Redeclares, Represents, Round, Rounding, Settle, Settling, Some, Something, Teller, TellsBetween, TellsRound, TellsSettled, Turn, World, [], after_mark, all_links, ap, arith, calls_of, events_of, false, few, foreseen_by, free, greatest_bound, left, length, marks, next, place_in, quiet, redeclare_next, refl, round_before, round_ends, round_in, rounds, settled, subst, suc, sym, true, unless_in_round, with_event, ℕ, ◌++◌, ◌+◌, ◌-◌, ◌<◌, ◌^◌, ◌∙◌, ◌∷◌, ◌≡◌, ◌≢◌, ◌≤◌}
 use Rattle.sdd_watch.proofs.EachEvent.{IsMarkedBetween, goes_on, is_between, last_is}
-use Rattle.sdd_watch.proofs.EventTold.{GetsTold, marked_to_end, tells_given, tells_on, tells_round, turn_at_end}
+use Rattle.sdd_watch.proofs.EventIsReported.{AddsReport, marked_to_end, tells_given, tells_on, tells_round, turn_at_end}
 use Rattle.sdd_watch.proofs.GivenMore.{one_longer, rounds_more}
 use Rattle.sdd_watch.proofs.InRounds.{begins_round, left_above, no_rounds_begun, none_left_loud, one_is_left, rounds_stay}
 
@@ -14,7 +14,7 @@ pub none_of : {A : Type 0} (o : Option A) (P : Type 0) (Q : A → Type 0) → Ma
 none_of o P Q h is = subst (λ k. MatchOption k P Q) is h
 
 -- a settle or a redeclare is given
-pub begins : (w w2 : World) (g : Input) (log : Log) (e : Event) (t : Teller) (place : ℕ) → IsTold w g log t place
+pub begins : (w w2 : World) (g : Input) (log : Log) (e : Event) (t : Teller) (place : ℕ) → IsReported w g log t place
     → Settling w2 (with_event g e) log e → TellsBetween w2 (with_event g e) log e t place 0
 begins w w2 g log e t place h s =
     let lawful = h.represents.calm.rests.lawful in
@@ -92,7 +92,7 @@ module _ (w w2 : World) (g : Input) (log more : Log) (e ev : Event) (rest : List
   pub number_fits : number + 1 < 2 ^ 32
   number_fits = omega (arith, few w2 g more r.calm, r.calm.marks_are, h.few, marks_one)
 
-  -- it is to be told
+  -- it is to be reported
   pub round_to_tell : (turn : Turn) (finds : Foreseen) → turn.event ≡ ev → turn.scheduled ≡ place → turn.round ≡ Some (number + 1)
       → finds ≡ foreseen_by ev log → IsToTell g log more w2 t.watch turn finds
   round_to_tell turn finds event scheduled round found = record {
@@ -126,9 +126,9 @@ module _ (w w2 : World) (g : Input) (log more : Log) (e ev : Event) (rest : List
       ∙ ap (λ (s : List Event × List Event). unless_in_round s.1 (rounds g.events log)) left_is
       ∙ h.rounds_are
 
-  -- and told
-  pub round_told : (t2 : Teller) → GetsTold g log more t t2 → TellsRound w2 g more e rest t2 place number
-  round_told t2 gets = record {
+  -- and reported
+  pub round_reported : (t2 : Teller) → AddsReport g log more t t2 → TellsRound w2 g more e rest t2 place number
+  round_reported t2 gets = record {
     rounding = r;
     tells = tells_on g log more ev t t2 marked h.tells gets;
     place_is = h.place_is;
@@ -186,8 +186,8 @@ settles w g log e t place number h still = record {
 }
 
 -- a settle has no mark of its own
-pub settle_told : (w : World) (g : Input) (t : Teller) (place : ℕ) → TellsSettled w g Settle t place → (more : Log) × IsTold w g more t (suc place)
-settle_told w g t place h =
+pub settle_reported : (w : World) (g : Input) (t : Teller) (place : ℕ) → TellsSettled w g Settle t place → (more : Log) × IsReported w g more t (suc place)
+settle_reported w g t place h =
     let s = h.settled.settling in
     let log = h.settled.more in (
       log,
@@ -213,7 +213,7 @@ module _ (w w2 : World) (g : Input) (t : Teller) (place : ℕ) (h : TellsSettled
       marked_to_end g last_log more (Redeclares (greatest_bound g last_log)) Redeclare h.settled.settling.calm.rests.lawful s2.calm.rests.lawful refl
       listed.0 listed.1 s2.complete
 
-  -- it is to be told
+  -- it is to be reported
   pub list_to_tell : (turn : Turn) → turn.event ≡ Redeclare → turn.scheduled ≡ place → turn.round ≡ None
       → IsToTell g last_log more w2 t.watch turn Something
   list_to_tell turn event scheduled round =
@@ -229,9 +229,9 @@ module _ (w w2 : World) (g : Input) (t : Teller) (place : ℕ) (h : TellsSettled
         tellable = subst (IsTellable g) (sym event) tt;
       }
 
-  -- and told
-  pub list_told : (t2 : Teller) → GetsTold g last_log more t t2 → (log : Log) × IsTold w2 g log t2 (suc place)
-  list_told t2 gets = (
+  -- and reported
+  pub list_reported : (t2 : Teller) → AddsReport g last_log more t t2 → (log : Log) × IsReported w2 g log t2 (suc place)
+  list_reported t2 gets = (
     more,
     record {
       represents = s2;

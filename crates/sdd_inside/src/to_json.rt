@@ -10,7 +10,7 @@ use sdd_script::sdd_lang::Txn;
 use sdd_script::sdd_words::{put, put_count};
 
 /// What can stand in a line.
-pub(crate) trait Told: Sized {
+pub(crate) trait ToJson: Sized {
     /// Its JSON, with the names of the catalogue and of the transactions.
     ghost json: { Names → List Named → Self → List ℕ };
 
@@ -20,7 +20,7 @@ pub(crate) trait Told: Sized {
 }
 
 /// Puts a comma and a value.
-pub(crate) fn tell_further<T: Told>(
+pub(crate) fn tell_further<T: ToJson>(
     text: &mut Vec<u8>,
     item: &T,
     catalogue: &Catalogue,
@@ -33,7 +33,7 @@ pub(crate) fn tell_further<T: Told>(
 }
 
 #[tactic(auto, using(crate::proofs::Loops::written))]
-fn tell_rest<T: Told>(
+fn tell_rest<T: ToJson>(
     text: &mut Vec<u8>,
     items: &[T],
     catalogue: &Catalogue,
@@ -59,7 +59,7 @@ pub(crate) fn split_head<T>(items: &[T]) -> Option<(&T, &[T])>
     }
 }
 
-fn tell_items<T: Told>(
+fn tell_items<T: ToJson>(
     text: &mut Vec<u8>,
     items: &[T],
     catalogue: &Catalogue,
@@ -77,7 +77,7 @@ fn tell_items<T: Told>(
 }
 
 /// Puts a list.
-pub(crate) fn tell_array<T: Told>(
+pub(crate) fn tell_array<T: ToJson>(
     text: &mut Vec<u8>,
     items: &[T],
     catalogue: &Catalogue,
@@ -91,7 +91,7 @@ pub(crate) fn tell_array<T: Told>(
 }
 
 /// Puts a list of two values.
-pub(crate) fn tell_pair<A: Told, B: Told>(
+pub(crate) fn tell_pair<A: ToJson, B: ToJson>(
     text: &mut Vec<u8>,
     a: &A,
     b: &B,
@@ -109,7 +109,7 @@ pub(crate) fn tell_pair<A: Told, B: Told>(
 }
 
 /// Puts the first two values of a longer list.
-pub(crate) fn tell_two<A: Told, B: Told>(
+pub(crate) fn tell_two<A: ToJson, B: ToJson>(
     text: &mut Vec<u8>,
     a: &A,
     b: &B,
@@ -129,7 +129,7 @@ pub(crate) fn tell_two<A: Told, B: Told>(
 }
 
 /// Puts a list of three values.
-pub(crate) fn tell_triple<A: Told, B: Told, C: Told>(
+pub(crate) fn tell_triple<A: ToJson, B: ToJson, C: ToJson>(
     text: &mut Vec<u8>,
     a: &A,
     b: &B,
@@ -159,7 +159,7 @@ fn put_first(text: &mut Vec<u8>, name: &[u8]) -> Result<(), NoMemory>
 
 /// Puts the beginning of an object and its first member.
 #[tactic(auto, using(crate::proofs::Members::first_put))]
-pub(crate) fn tell_first<T: Told>(
+pub(crate) fn tell_first<T: ToJson>(
     text: &mut Vec<u8>,
     name: &[u8],
     value: &T,
@@ -195,7 +195,7 @@ pub(crate) fn put_name(text: &mut Vec<u8>, name: &[u8]) -> Result<(), NoMemory>
 
 /// Puts a further member.
 #[tactic(auto, using(crate::proofs::Members::member_put))]
-pub(crate) fn tell_also<T: Told>(
+pub(crate) fn tell_also<T: ToJson>(
     text: &mut Vec<u8>,
     name: &[u8],
     value: &T,
@@ -212,7 +212,7 @@ pub(crate) fn tell_also<T: Told>(
 
 /// Puts a further member that is a list.
 #[tactic(auto, using(crate::proofs::Members::member_put))]
-pub(crate) fn tell_list<T: Told>(
+pub(crate) fn tell_list<T: ToJson>(
     text: &mut Vec<u8>,
     name: &[u8],
     items: &[T],
@@ -229,7 +229,7 @@ pub(crate) fn tell_list<T: Told>(
 
 /// Puts a further member that is a list, and nothing where the list is empty.
 #[tactic(auto, using(crate::proofs::Members::none_put, crate::proofs::Members::some_put))]
-pub(crate) fn tell_some<T: Told>(
+pub(crate) fn tell_some<T: ToJson>(
     text: &mut Vec<u8>,
     name: &[u8],
     items: &Listed<T>,

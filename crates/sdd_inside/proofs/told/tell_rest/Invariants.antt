@@ -1,9 +1,0 @@
-use Rattle.std.proofs.Common.{◌≡◌, ◌++◌, drop, flat_map}
-use Rattle.sdd_inside.specs.Json.{further}
-use Rattle.sdd_inside.proofs.told.tell_rest.Given as goal
-
--- what was written and what is left to write is all of it
-abbrev pub invariant-items : goal.invariant-items
-invariant-items g l =
-    l.text.items ++ flat_map (further (g.T.Told.json l.catalogue l.txns)) (drop l.item-index l.items)
-    ≡ l.fn.text.items ++ flat_map (further (g.T.Told.json l.catalogue l.txns)) l.items
