@@ -9,7 +9,7 @@ pub type Edges = Listed<Edge>;
 pub type Nodes = Listed<u32>;
 
 /// Why the read of a diagonal has its protocol.
-#[derive(Drop, Debug, PartialEq, Eq)]
+#[derive(Drop)]
 pub struct Advice {
     /// The diagonal.
     pub edge: Edge,

@@ -7,7 +7,7 @@ use sdd_verified::sdd_script::{WorkError, WorkFault};
 use sdd_verified::sdd_world::WorldEnd;
 
 /// How a call ended.
-#[derive(Clone, Copy, Debug, PartialEq, Eq)]
+#[derive(Clone, Copy, PartialEq, Eq)]
 pub enum Status {
     /// All of the text was taken.
     Done,

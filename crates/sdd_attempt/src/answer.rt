@@ -1,5 +1,5 @@
 /// What an attempt that is under way awaits from data modules.
-#[derive(Clone, Copy, Debug, PartialEq, Eq)]
+#[derive(Clone, Copy)]
 pub enum Answer {
     /// How many rows there are for its READ.
     Ready,

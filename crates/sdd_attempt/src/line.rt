@@ -110,13 +110,6 @@ impl<'a> Line<'a> {
         }
     }
 
-    /// How many transactions are in the queue. Takes no memory.
-    pub fn queue_len(&self) -> usize
-        ensures { result ≡ length self.now.queue }
-    {
-        self.queue.len()
-    }
-
     /// The transactions in the queue, in order.
     pub fn queued_txns(&self) -> Result<Vec<TxnNo>, NoMemory>
         ensures { IfOk result (λ numbers. numbers.items ≡ map txn_of self.now.queue) }

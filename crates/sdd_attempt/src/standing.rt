@@ -1,7 +1,7 @@
 use sdd_module::sdd_base::{ClassNo, Site, Ts};
 
 /// How a site has a transaction.
-#[derive(Clone, Copy, Debug, PartialEq, Eq)]
+#[derive(Clone, Copy)]
 pub enum Standing {
     /// It isn't in a queue of the site.
     Absent,

@@ -1,5 +1,5 @@
 /// What the active attempt of a line does next by itself.
-#[derive(Clone, Copy, Debug, PartialEq, Eq)]
+#[derive(Clone, Copy)]
 pub enum LineStep {
     /// It sends the next message of its exchange.
     Sends,

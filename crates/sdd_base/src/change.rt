@@ -5,7 +5,7 @@ use crate::parcel::Parcel;
 use crate::value::Row;
 
 /// What a transaction makes of one item, which is a fragment and a key.
-#[derive(Drop, Debug, PartialEq, Eq)]
+#[derive(Drop, PartialEq, Eq)]
 pub struct Change {
     pub frag: FragNo,
     pub key: i64,

@@ -8,7 +8,7 @@ use std::marker::Model;
 /// transaction module, or 0 for U, so no two modules give one timestamp.
 ///
 /// No call takes memory, and each takes constant time.
-#[derive(Drop, Debug)]
+#[derive(Drop)]
 pub struct Clock {
     number: u8,
     ticks: u64,

@@ -6,7 +6,7 @@ use crate::usage::Frags;
 
 /// A read condition: of the writes of the class that change one of the fragments, the reader sees exactly
 /// those that are before the time.
-#[derive(Drop, Debug, PartialEq, Eq)]
+#[derive(Drop, PartialEq, Eq)]
 pub struct Cond {
     pub class: ClassNo,
     pub time: Ts,

@@ -5,7 +5,7 @@ use crate::parcel::Parcel;
 use crate::site::Site;
 
 /// One event of a schedule. Places in a flight are counted from 1.
-#[derive(Clone, Copy, Debug, PartialEq, Eq)]
+#[derive(Clone, Copy)]
 pub enum Event {
     /// A transaction is given to its module.
     Submit(TxnNo),

@@ -5,7 +5,7 @@ use crate::files::CallNos;
 use std::marker::Model;
 
 /// How an object in memory is made to fail: the listed calls do, and a call moves at most so many bytes.
-#[derive(Drop, Debug)]
+#[derive(Drop)]
 pub struct Failures {
     most: usize,
     fails: CallNos,

@@ -15,7 +15,7 @@ use std::marker::Model;
 ///
 /// The small lists of the workspace are aliases of it. Two of them are equal, ordered and hashed by
 /// their items, from the front.
-#[derive(Drop, Debug)]
+#[derive(Drop)]
 pub struct Listed<T> {
     items: Vec<T>,
 }

@@ -10,7 +10,7 @@ use std::marker::Model;
 
 /// A shelf in memory. Its `open_file` fails only for a name that it hasn't or for a fifth file, and
 /// its `read` never fails.
-#[derive(Drop, Debug)]
+#[derive(Drop)]
 pub struct SureShelf {
     files: Files,
     opened: OpenFiles,
@@ -155,7 +155,7 @@ fn copy_from(bytes: &[u8], at: usize, buf: &mut [u8]) -> (usize, usize)
 }
 
 /// A shelf in memory with listed calls that fail and short reads.
-#[derive(Drop, Debug)]
+#[derive(Drop)]
 pub struct MemShelf {
     inner: SureShelf,
     failures: Failures,

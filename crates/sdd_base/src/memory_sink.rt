@@ -11,7 +11,7 @@ use std::alloc::Global;
 use std::marker::Model;
 
 /// A sink in memory, which fails only where no room is left.
-#[derive(Drop, Debug)]
+#[derive(Drop)]
 pub struct SureSink {
     taken: Vec<u8>,
     room: usize,
@@ -93,7 +93,7 @@ impl Sink for SureSink {
 }
 
 /// A sink in memory with listed calls that fail and short writes.
-#[derive(Drop, Debug)]
+#[derive(Drop)]
 pub struct MemSink {
     inner: SureSink,
     failures: Failures,

@@ -20,7 +20,7 @@ use std::marker::Model;
 
 /// A name in the files: 1 to 32 letters a to z and A to Z, digits and `_`, of which the first is a
 /// letter, and none of the keywords `from`, `where`, `and`, `set`. Contracts see its bytes.
-#[derive(Drop, Debug)]
+#[derive(Drop)]
 pub struct Name {
     text: String,
 }

@@ -4,7 +4,7 @@ use std::alloc::{AllocError, AllocFailed};
 ///
 /// A value lent by `&mut` to a call that answers it is not live from then on, and is only dropped.
 /// A value that was given by value is gone.
-#[derive(Clone, Copy, Debug, PartialEq, Eq)]
+#[derive(Clone, Copy)]
 pub struct NoMemory;
 
 impl From<AllocError> for NoMemory {

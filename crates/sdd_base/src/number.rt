@@ -5,7 +5,7 @@ use crate::no_memory::NoMemory;
 use crate::parcel::Parcel;
 
 /// The number of a transaction module, from 1 to 16.
-#[derive(Clone, Copy, Debug, PartialEq, Eq, PartialOrd, Ord, Hash)]
+#[derive(Clone, Copy, PartialEq, Eq)]
 pub struct TmNo(pub u8);
 
 impl Exact for TmNo {
@@ -19,7 +19,7 @@ impl Parcel for TmNo {
 }
 
 /// The number of a data module, from 1 to 16.
-#[derive(Clone, Copy, Debug, PartialEq, Eq, PartialOrd, Ord, Hash)]
+#[derive(Clone, Copy, PartialEq, Eq)]
 pub struct DmNo(pub u8);
 
 impl Exact for DmNo {
@@ -33,7 +33,7 @@ impl Parcel for DmNo {
 }
 
 /// The number of a transaction class, counted from 1. Class 0 stands for undeclared transactions.
-#[derive(Clone, Copy, Debug, PartialEq, Eq, PartialOrd, Ord, Hash)]
+#[derive(Clone, Copy, PartialEq, Eq)]
 pub struct ClassNo(pub u32);
 
 impl Exact for ClassNo {
@@ -47,7 +47,7 @@ impl Parcel for ClassNo {
 }
 
 /// The number of a relation, counted from 1.
-#[derive(Clone, Copy, Debug, PartialEq, Eq, PartialOrd, Ord, Hash)]
+#[derive(Clone, Copy, PartialEq, Eq)]
 pub struct RelNo(pub u32);
 
 impl Exact for RelNo {
@@ -61,7 +61,7 @@ impl Parcel for RelNo {
 }
 
 /// The number of a fragment, counted from 1.
-#[derive(Clone, Copy, Debug, PartialEq, Eq, PartialOrd, Ord, Hash)]
+#[derive(Clone, Copy, PartialEq, Eq)]
 pub struct FragNo(pub u32);
 
 impl Exact for FragNo {
@@ -75,7 +75,7 @@ impl Parcel for FragNo {
 }
 
 /// The number of a transaction, counted from 1.
-#[derive(Clone, Copy, Debug, PartialEq, Eq, PartialOrd, Ord, Hash)]
+#[derive(Clone, Copy, PartialEq, Eq)]
 pub struct TxnNo(pub u32);
 
 impl Exact for TxnNo {
@@ -89,7 +89,7 @@ impl Parcel for TxnNo {
 }
 
 /// A timestamp or another time: `clock * 64 + number of the module`.
-#[derive(Clone, Copy, Debug, PartialEq, Eq, PartialOrd, Ord, Hash)]
+#[derive(Clone, Copy, PartialEq, Eq)]
 pub struct Ts(pub u64);
 
 impl Exact for Ts {

@@ -6,14 +6,14 @@ use std::marker::Model;
 pub const MAX_OPEN_FILES: usize = 4;
 
 /// An opened file: its index among the files, and how many of its bytes were read.
-#[derive(Clone, Copy, Debug, PartialEq, Eq)]
+#[derive(Clone, Copy)]
 pub struct OpenFile {
     pub file: usize,
     pub at: usize,
 }
 
 /// The opened files of a shelf in memory, by their numbers. They take no memory.
-#[derive(Drop, Debug)]
+#[derive(Drop)]
 pub struct OpenFiles {
     slots: [OpenFile; MAX_OPEN_FILES],
     count: usize,

@@ -3,7 +3,7 @@ use crate::parcel::Parcel;
 use crate::value::Answers;
 
 /// What a transaction answers to the user.
-#[derive(Drop, Debug, PartialEq, Eq)]
+#[derive(Drop)]
 pub enum Reply {
     /// The answers of its queries, in order.
     Rows(Answers),

@@ -1,16 +1,16 @@
-ghost use Rattle.std.specs.Prelude.{◌≡◌, ◌≤◌, length};
+ghost use Rattle.std.specs.Prelude.{◌≡◌};
 ghost use Rattle.std.proofs.Common.{rules};
-ghost use Rattle.sdd_base.specs.Order.{admits, meets};
+ghost use Rattle.sdd_base.specs.Order.{admits};
 
 use crate::exact::Exact;
 use crate::listed::Listed;
 use crate::no_memory::NoMemory;
 use crate::parcel::Parcel;
-use crate::value::{Row, Value};
+use crate::value::Value;
 use std::cmp::Ordering;
 
 /// How a column is compared with a value.
-#[derive(Clone, Copy, Debug, PartialEq, Eq)]
+#[derive(Clone, Copy, PartialEq, Eq)]
 pub enum Op {
     /// `=`
     Eq,
@@ -43,7 +43,7 @@ impl Op {
 }
 
 /// A condition of a use that compares one of its columns with a constant of the column's kind.
-#[derive(Drop, Debug, PartialEq, Eq)]
+#[derive(Drop, PartialEq, Eq)]
 pub struct Restriction {
     /// The column, counted from 1.
     pub column: u32,
@@ -53,18 +53,6 @@ pub struct Restriction {
 
 /// The restrictions of a use, in the order of the statement's conditions.
 pub type Restrictions = Listed<Restriction>;
-
-impl Restriction {
-    /// Whether the row meets it. Takes no memory.
-    pub fn is_met_by(&self, row: &Row) -> bool
-        requires first { 1 ≤ self.now.column }
-        requires last { self.now.column ≤ length row.now }
-        ensures { result ≡ meets row.now self.now }
-    {
-        let column = (self.column - 1) as usize;
-        self.op.admits(row.as_slice()[column].cmp(&self.value))
-    }
-}
 
 impl Exact for Op {
     ghost exact = { Prim.search rules };

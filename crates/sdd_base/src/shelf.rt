@@ -3,11 +3,11 @@ ghost use Rattle.sdd_base.specs.Outside.{HasCause, Opened, Opens, KeepsOpen, Rea
 ghost use Rattle.sdd_base.specs.declared.files.ShelfFile.{ShelfFile};
 
 /// A fault of the outside. The count of the object that answers it rose in that call.
-#[derive(Clone, Copy, Debug, PartialEq, Eq)]
+#[derive(Clone, Copy)]
 pub struct Failed;
 
 /// The number that `open_file` gave to a file of one shelf.
-#[derive(Clone, Copy, Debug, PartialEq, Eq)]
+#[derive(Clone, Copy)]
 pub struct FileNo(pub u32);
 
 /// Files to read, by name.

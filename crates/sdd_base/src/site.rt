@@ -6,7 +6,7 @@ use crate::number::{DmNo, TmNo};
 use crate::parcel::Parcel;
 
 /// A site of the network. The order of sites is U, then T by number, then D by number.
-#[derive(Clone, Copy, Debug, PartialEq, Eq, PartialOrd, Ord, Hash)]
+#[derive(Clone, Copy, PartialEq, Eq)]
 pub enum Site {
     /// The module for undeclared transactions.
     U,

@@ -19,7 +19,7 @@ use std::marker::Model;
 
 /// A text of a column: at most 255 bytes of UTF-8, none of them a newline. Contracts see its bytes,
 /// by which texts are ordered.
-#[derive(Drop, Debug)]
+#[derive(Drop)]
 pub struct Text {
     text: String,
 }

@@ -8,7 +8,7 @@ use crate::restriction::Restrictions;
 pub type Frags = Listed<FragNo>;
 
 /// One use of a relation by a transaction: a relation named after `from`, an update or a delete.
-#[derive(Drop, Debug, PartialEq, Eq)]
+#[derive(Drop, PartialEq, Eq)]
 pub struct Use {
     /// Its number, counted from 1 through all statements of the transaction.
     pub number: u32,

@@ -14,7 +14,7 @@ use std::cmp::Ordering;
 use std::hash::{Hash, Hasher};
 
 /// A value of a column. A column holds values of one kind.
-#[derive(Drop, Debug)]
+#[derive(Drop)]
 pub enum Value {
     /// A whole number.
     Int(i64),

@@ -18,7 +18,7 @@ use std::alloc::Global;
 use std::marker::Model;
 
 /// A catalogue, which is that of valid parts, with numbers in place of their names.
-#[derive(Drop, Debug)]
+#[derive(Drop)]
 pub struct Catalogue {
     alloc: Global,
     tms: u32,

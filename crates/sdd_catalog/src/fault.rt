@@ -66,7 +66,7 @@ pub enum Counted {
 }
 
 /// Why there is no catalogue.
-#[derive(Debug, Drop, Error, PartialEq, Eq)]
+#[derive(Debug, Drop, Error)]
 pub enum CatError {
     /// The first fault.
     #[error("the catalogue has a fault")]

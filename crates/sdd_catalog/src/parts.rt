@@ -3,7 +3,7 @@ ghost use Rattle.std.proofs.Common.{rules};
 use sdd_base::{Exact, Listed, Name, NoMemory, Parcel};
 
 /// The parts of a catalogue, as they are written down: they name each other.
-#[derive(Drop, Debug, PartialEq, Eq)]
+#[derive(Drop)]
 pub struct Parts {
     /// How many transaction modules there are.
     pub tms: u32,
@@ -24,7 +24,7 @@ pub type FragmentParts = Listed<FragmentPart>;
 pub type ClassParts = Listed<ClassPart>;
 
 /// A relation.
-#[derive(Drop, Debug, PartialEq, Eq)]
+#[derive(Drop)]
 pub struct RelationPart {
     pub name: Name,
     pub columns: ColumnParts,
@@ -36,14 +36,14 @@ pub struct RelationPart {
 pub type ColumnParts = Listed<ColumnPart>;
 
 /// A column of a relation.
-#[derive(Drop, Debug, PartialEq, Eq)]
+#[derive(Drop)]
 pub struct ColumnPart {
     pub name: Name,
     pub kind: Kind,
 }
 
 /// What the values of a column are.
-#[derive(Clone, Copy, Debug, PartialEq, Eq)]
+#[derive(Clone, Copy, PartialEq, Eq)]
 pub enum Kind {
     /// Whole numbers.
     Int,
@@ -52,7 +52,7 @@ pub enum Kind {
 }
 
 /// A fragment: the rows of a relation whose keys lie in a range, both ends within.
-#[derive(Drop, Debug, PartialEq, Eq)]
+#[derive(Drop)]
 pub struct FragmentPart {
     pub name: Name,
     pub relation: Name,
@@ -66,7 +66,7 @@ pub struct FragmentPart {
 pub type CopyNos = Listed<u32>;
 
 /// A class of transactions.
-#[derive(Drop, Debug, PartialEq, Eq)]
+#[derive(Drop, PartialEq, Eq)]
 pub struct ClassPart {
     pub name: Name,
     /// The transaction module that runs it.
@@ -83,7 +83,7 @@ pub type ReadParts = Listed<ReadPart>;
 pub type Names = Listed<Name>;
 
 /// A fragment that a class reads, and the data module at which it reads it.
-#[derive(Drop, Debug, PartialEq, Eq)]
+#[derive(Drop, PartialEq, Eq)]
 pub struct ReadPart {
     pub fragment: Name,
     pub at: u32,

@@ -4,7 +4,7 @@ use crate::parts::Kind;
 use sdd_base::{DmNo, Exact, FragNo, Frags, Listed, Name, NoMemory, Parcel, RelNo, TmNo};
 
 /// A column of a relation.
-#[derive(Drop, Debug, PartialEq, Eq)]
+#[derive(Drop)]
 pub struct Column {
     pub name: Name,
     pub kind: Kind,
@@ -14,7 +14,7 @@ pub struct Column {
 pub type Columns = Listed<Column>;
 
 /// A relation.
-#[derive(Drop, Debug, PartialEq, Eq)]
+#[derive(Drop)]
 pub struct Relation {
     pub name: Name,
     pub columns: Columns,
@@ -26,7 +26,7 @@ pub struct Relation {
 pub type Relations = Listed<Relation>;
 
 /// A fragment: the rows of a relation whose keys lie in a range, both ends within.
-#[derive(Drop, Debug, PartialEq, Eq)]
+#[derive(Drop)]
 pub struct Fragment {
     pub name: Name,
     /// Its relation.
@@ -43,7 +43,7 @@ pub type Copies = Listed<DmNo>;
 pub type Fragments = Listed<Fragment>;
 
 /// A class of transactions.
-#[derive(Drop, Debug, PartialEq, Eq)]
+#[derive(Drop)]
 pub struct Class {
     pub name: Name,
     /// The transaction module that runs it.
@@ -54,7 +54,7 @@ pub struct Class {
 }
 
 /// A fragment that a class reads, and the data module at which it reads it.
-#[derive(Clone, Copy, Debug, PartialEq, Eq)]
+#[derive(Clone, Copy, PartialEq, Eq)]
 pub struct Read {
     pub fragment: FragNo,
     pub at: DmNo,

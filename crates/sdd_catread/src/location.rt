@@ -6,7 +6,7 @@ use sdd_catalog::{CatError, CatFault, CatRule, Part};
 
 /// Where in a file a fault is reported: at the top, or at one of its relations, fragments and
 /// classes.
-#[derive(Clone, Copy, Debug, PartialEq, Eq)]
+#[derive(Clone, Copy)]
 pub(crate) struct Location {
     pub part: Part,
     /// The number of the relation, fragment or class, from 1, or 0 at the top.

@@ -1,7 +1,7 @@
 use sdd_script::sdd_base::{Listed, NoMemory, Parcel};
 
 /// An event. Site 0 is the committer, and sites from 1 on are its backups.
-#[derive(Clone, Copy, Debug, PartialEq, Eq)]
+#[derive(Clone, Copy)]
 pub enum Act {
     /// The site makes its next send.
     Step(u32),

@@ -15,7 +15,7 @@ use std::marker::Model;
 ///
 /// Contracts see the list of events with their notes, the newest first. Each call takes constant
 /// time or time linear in the sites. The events are kept, some ten bytes each.
-#[derive(Drop, Debug)]
+#[derive(Drop)]
 pub struct Control {
     state: State,
     acts: Vec<Act>,

@@ -7,7 +7,7 @@ use sdd_script::sdd_base::NoMemory;
 use sdd_script::{WorkError, WorkFault, WorkRule};
 
 /// Why a line is not read.
-#[derive(Clone, Copy, Debug, PartialEq, Eq)]
+#[derive(Clone, Copy)]
 pub enum LineError {
     /// The first rule that it breaks.
     Broken(WorkRule),

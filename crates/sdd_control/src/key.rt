@@ -4,7 +4,7 @@ ghost use Rattle.sdd_control.specs.Keys.{key_in, key_of};
 use sdd_script::sdd_words::Token;
 
 /// The first word of a line.
-#[derive(Clone, Copy, Debug, PartialEq, Eq)]
+#[derive(Clone, Copy)]
 pub enum Key {
     Control,
     Step,

@@ -7,7 +7,7 @@ use std::collections::VecDeque;
 use std::marker::Model;
 
 /// The messages on each of some links, by the links' numbers: reliable and in order.
-#[derive(Drop, Debug)]
+#[derive(Drop)]
 pub struct Links {
     queues: Vec<VecDeque<Message>>,
 }

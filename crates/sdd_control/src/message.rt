@@ -1,7 +1,7 @@
 use crate::value::Val;
 
 /// A message from a site to another.
-#[derive(Clone, Copy, Debug, PartialEq, Eq)]
+#[derive(Clone, Copy)]
 pub enum Message {
     /// The value of the sender.
     Value(Val),

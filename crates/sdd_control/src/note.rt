@@ -1,7 +1,7 @@
 use crate::value::Val;
 
 /// What an event did.
-#[derive(Clone, Copy, Debug, PartialEq, Eq)]
+#[derive(Clone, Copy)]
 pub enum Note {
     /// The first site told the second its value.
     Tell(u32, u32, Val),

@@ -1,7 +1,7 @@
 use crate::act::Acts;
 
 /// What a control file gives.
-#[derive(Drop, Debug)]
+#[derive(Drop)]
 pub struct ControlScript {
     /// How many backups there are, from 1 to 8.
     pub backups: u32,

@@ -22,7 +22,7 @@ const SITES: usize = 9;
 const PAIRS: usize = 81;
 
 /// What has happened so far, as far as later notes rest on it. Tables of pairs go by `pair`.
-#[derive(Drop, Debug)]
+#[derive(Drop)]
 pub struct State {
     /// The number of the last backup.
     pub backups: u32,

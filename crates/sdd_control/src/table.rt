@@ -5,7 +5,7 @@ use std::alloc::Global;
 use std::marker::Model;
 
 /// A value at each number below a size.
-#[derive(Drop, Debug)]
+#[derive(Drop)]
 pub struct Table<T> {
     items: Vec<T>,
 }

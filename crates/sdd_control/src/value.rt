@@ -1,5 +1,5 @@
 /// What a site holds of a transaction: whether its writes are made.
-#[derive(Clone, Copy, Debug, PartialEq, Eq)]
+#[derive(Clone, Copy)]
 pub enum Val {
     /// The site doesn't know yet.
     Unknown,

@@ -1,7 +1,7 @@
 use sdd_module::sdd_base::{ClassNo, Conds, Ts};
 
 /// What the first unprocessed message of a pipe may do.
-#[derive(Drop, Debug, PartialEq, Eq)]
+#[derive(Drop)]
 pub enum Step {
     /// It is processed: a NULL passes, a WRITE is applied, a READ is answered.
     Processes,

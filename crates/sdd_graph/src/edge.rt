@@ -3,7 +3,7 @@ ghost use Rattle.std.proofs.Common.{rules};
 use sdd_base::{ClassNo, Exact, FragNo, NoMemory, Parcel};
 
 /// An edge of the conflict graph. Class i has the nodes r_i, its read set, and w_i, its write set.
-#[derive(Clone, Copy, Debug, PartialEq, Eq)]
+#[derive(Clone, Copy, PartialEq, Eq)]
 pub enum Edge {
     /// Between the two nodes of a class.
     Vertical(ClassNo),

@@ -4,7 +4,7 @@ use sdd_script::sdd_base::{Change, ClassNo, DmNo, Event, Listed, Site, Ts, TxnNo
 use sdd_wire::Msg;
 
 /// A packet that was taken off its flight.
-#[derive(Drop, Debug)]
+#[derive(Drop)]
 pub enum Taken {
     /// That of the message with this number on its link.
     Message(u32),
@@ -13,7 +13,7 @@ pub enum Taken {
 }
 
 /// What an event found.
-#[derive(Drop, Debug)]
+#[derive(Drop)]
 pub enum Found {
     /// Nothing that could be done.
     Nothing,
@@ -29,7 +29,7 @@ pub enum Found {
 }
 
 /// The messages from 1 to `upto` of a link were handed to the site where it ends.
-#[derive(Drop, Debug)]
+#[derive(Drop)]
 pub struct Handed {
     pub from: Site,
     pub to: Site,
@@ -37,7 +37,7 @@ pub struct Handed {
 }
 
 /// A packet that was put in flight.
-#[derive(Drop, Debug)]
+#[derive(Drop)]
 pub enum InFlight {
     /// An acknowledgement of the messages from 1 to this number of the link back.
     Ack(u32),
@@ -48,7 +48,7 @@ pub enum InFlight {
 }
 
 /// The packets that were put in flight on a link, in their order.
-#[derive(Drop, Debug)]
+#[derive(Drop)]
 pub struct Put {
     pub from: Site,
     pub to: Site,
@@ -56,7 +56,7 @@ pub struct Put {
 }
 
 /// The transactions that came to the end of the queue of a class, and how many went from its front.
-#[derive(Drop, Debug)]
+#[derive(Drop)]
 pub struct QueueDelta {
     pub class: ClassNo,
     pub came: Listed<TxnNo>,
@@ -65,7 +65,7 @@ pub struct QueueDelta {
 
 /// The messages that came to the pipe of a class at a data module, by their numbers, how many were
 /// processed, and the time up to which the class has passed there.
-#[derive(Drop, Debug)]
+#[derive(Drop)]
 pub struct PipeDelta {
     pub dm: DmNo,
     pub class: ClassNo,
@@ -75,14 +75,14 @@ pub struct PipeDelta {
 }
 
 /// An item to which a change was applied at a data module, with the row that it has there now.
-#[derive(Drop, Debug)]
+#[derive(Drop)]
 pub struct RowDelta {
     pub dm: DmNo,
     pub item: Change,
 }
 
 /// What one event changed.
-#[derive(Drop, Debug)]
+#[derive(Drop)]
 pub struct Delta {
     /// Its number, those of a settle counted too.
     pub number: u32,

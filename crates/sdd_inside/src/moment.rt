@@ -6,7 +6,7 @@ use sdd_script::sdd_base::{ClassNo, DmNo, Event, Listed, Site, Ts, TxnNo};
 use sdd_wire::Msg;
 
 /// A link between two events.
-#[derive(Drop, Debug)]
+#[derive(Drop)]
 pub struct LinkMoment {
     pub from: Site,
     pub to: Site,
@@ -19,7 +19,7 @@ pub struct LinkMoment {
 }
 
 /// The queue of a class between two events. A transaction stands in it once.
-#[derive(Drop, Debug)]
+#[derive(Drop)]
 pub struct QueueMoment {
     pub class: ClassNo,
     /// The first is the one that is served.
@@ -27,7 +27,7 @@ pub struct QueueMoment {
 }
 
 /// The pipe of a class at a data module between two events.
-#[derive(Drop, Debug)]
+#[derive(Drop)]
 pub struct PipeMoment {
     pub dm: DmNo,
     pub class: ClassNo,
@@ -41,7 +41,7 @@ pub struct PipeMoment {
 
 /// The lists that may be long, between two events. Two moments of a run have the same links, queues
 /// and pipes, in the same order.
-#[derive(Drop, Debug)]
+#[derive(Drop)]
 pub struct Moment {
     pub links: Listed<LinkMoment>,
     pub queues: Listed<QueueMoment>,
@@ -49,7 +49,7 @@ pub struct Moment {
 }
 
 /// An event, what it found, and what is reported of it whole.
-#[derive(Drop, Debug)]
+#[derive(Drop)]
 pub struct Happened {
     /// Its number, those of a settle counted too.
     pub number: u32,

@@ -2,7 +2,7 @@
 use sdd_script::sdd_base::{ClassNo, Conds, DmNo, Listed, Site, TmNo, Ts, TxnNo};
 
 /// What an attempt is waiting for from data modules.
-#[derive(Clone, Copy, Debug)]
+#[derive(Clone, Copy)]
 pub enum Phase {
     /// The answers to its READs.
     Reading,
@@ -15,7 +15,7 @@ pub enum Phase {
 }
 
 /// An attempt that is under way.
-#[derive(Drop, Debug)]
+#[derive(Drop)]
 pub struct Active {
     pub class: ClassNo,
     pub txn: TxnNo,
@@ -27,7 +27,7 @@ pub struct Active {
 }
 
 /// The question of a data module whether a class has passed a time, to which there is no answer yet.
-#[derive(Drop, Debug)]
+#[derive(Drop)]
 pub struct Question {
     pub class: ClassNo,
     pub from: Site,
@@ -35,7 +35,7 @@ pub struct Question {
 }
 
 /// How a transaction module stands.
-#[derive(Drop, Debug)]
+#[derive(Drop)]
 pub struct TmState {
     pub tm: TmNo,
     /// The ticks of its clock.
@@ -49,7 +49,7 @@ pub struct TmState {
 }
 
 /// What the module for undeclared transactions is doing.
-#[derive(Clone, Copy, Debug)]
+#[derive(Clone, Copy)]
 pub enum Stage {
     Idle,
     /// It waits until every transaction module holds.
@@ -61,7 +61,7 @@ pub enum Stage {
 }
 
 /// How the module for undeclared transactions stands.
-#[derive(Drop, Debug)]
+#[derive(Drop)]
 pub struct UState {
     /// The ticks of its clock.
     pub clock: u64,
@@ -72,7 +72,7 @@ pub struct UState {
 }
 
 /// A pipe of a data module whose head can't be processed.
-#[derive(Drop, Debug)]
+#[derive(Drop)]
 pub enum Head {
     /// A READ, with its conditions that aren't met.
     Waits {
@@ -87,7 +87,7 @@ pub enum Head {
 }
 
 /// How a data module stands.
-#[derive(Drop, Debug)]
+#[derive(Drop)]
 pub struct DmState {
     pub dm: DmNo,
     pub is_down: bool,
@@ -95,7 +95,7 @@ pub struct DmState {
 }
 
 /// How a site stands.
-#[derive(Drop, Debug)]
+#[derive(Drop)]
 pub enum SiteState {
     U(UState),
     T(TmState),

@@ -1,7 +1,7 @@
 use sdd_base::{Listed, NoMemory, Parcel, Value};
 
 /// What an update does to a column of each row that it replaces. Columns are counted from 1.
-#[derive(Drop, Debug, PartialEq, Eq)]
+#[derive(Drop)]
 pub enum Assign {
     /// `=`: the column gets the value.
     To { column: u32, value: Value },

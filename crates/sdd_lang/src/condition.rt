@@ -1,7 +1,7 @@
 use sdd_base::{Listed, NoMemory, Op, Parcel, Value};
 
 /// A column of a statement's relation.
-#[derive(Clone, Copy, Debug, PartialEq, Eq)]
+#[derive(Clone, Copy)]
 pub struct Ref {
     /// The place of the relation after `from`, counted from 1; 1 in an update or delete.
     pub part: u32,
@@ -13,7 +13,7 @@ pub struct Ref {
 pub type Refs = Listed<Ref>;
 
 /// What rows have to meet.
-#[derive(Drop, Debug, PartialEq, Eq)]
+#[derive(Drop)]
 pub enum Condition {
     /// The column is compared with a constant.
     Const { left: Ref, op: Op, value: Value },

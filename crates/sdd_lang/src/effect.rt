@@ -1,7 +1,7 @@
 use sdd_base::{Changes, NoMemory, Parcel, Reply};
 
 /// What a transaction does to a database: its answer to the user and its changes.
-#[derive(Drop, Debug, PartialEq, Eq)]
+#[derive(Drop)]
 pub struct Effect {
     pub reply: Reply,
     pub changes: Changes,

@@ -11,7 +11,7 @@ use std::marker::Model;
 
 /// The keys from one to another, both within; none where the first is greater. Its ends may lie one
 /// past the least and the greatest key.
-#[derive(Debug, Drop)]
+#[derive(Drop)]
 pub struct Keys {
     from: i128,
     to: i128,

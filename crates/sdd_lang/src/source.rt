@@ -10,7 +10,7 @@ use sdd_base::{Listed, NoMemory, RelNo, Row, RowList};
 use std::alloc::Global;
 
 /// A row with its key.
-#[derive(Drop, Debug, PartialEq, Eq)]
+#[derive(Drop)]
 pub struct Entry {
     pub key: i64,
     pub row: Row,

@@ -3,7 +3,7 @@ use crate::condition::{Conditions, Refs};
 use sdd_base::{Listed, NoMemory, Parcel, RelNo, Row};
 
 /// A statement of a transaction. It works on the database as it was when the transaction began.
-#[derive(Drop, Debug, PartialEq, Eq)]
+#[derive(Drop)]
 pub enum Stmt {
     /// The row stands at its key from then on.
     Put {

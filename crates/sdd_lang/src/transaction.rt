@@ -2,7 +2,7 @@ use crate::statement::Statements;
 use sdd_base::{Name, NoMemory, Parcel, TmNo};
 
 /// A transaction.
-#[derive(Drop, Debug, PartialEq, Eq)]
+#[derive(Drop)]
 pub struct Txn {
     pub name: Name,
     /// The module to which it is given.

@@ -4,7 +4,7 @@ ghost use Rattle.sdd_laws.specs.Order.{may_come_first};
 use sdd_lang::sdd_base::Ts;
 
 /// How two committed transactions meet at a fragment.
-#[derive(Clone, Copy, Debug, PartialEq, Eq)]
+#[derive(Clone, Copy)]
 pub enum Meeting {
     /// Both change it; the timestamps of the first and of the second.
     Writes(Ts, Ts),

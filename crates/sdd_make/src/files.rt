@@ -11,7 +11,7 @@ use sdd_script::write_workload;
 use std::alloc::Global;
 
 /// The files of a made input.
-#[derive(Drop, Debug, PartialEq, Eq)]
+#[derive(Drop)]
 pub struct Made {
     /// The catalogue of the bank.
     pub catalogue: Bytes,

@@ -5,7 +5,7 @@ ghost use Rattle.sdd_make.specs.Draws.{next, draw};
 use std::marker::Model;
 
 /// A generator of numbers, which contracts see as its state.
-#[derive(Drop, Debug)]
+#[derive(Drop)]
 pub struct Random {
     state: u32,
 }

@@ -8,7 +8,7 @@ use sdd_script::sdd_words::{put, put_count};
 use std::alloc::Global;
 
 /// What a run comes to.
-#[derive(Clone, Copy, Debug, PartialEq, Eq)]
+#[derive(Clone, Copy)]
 pub struct Summary {
     /// How many transactions the workload has.
     pub transactions: u32,

@@ -12,7 +12,7 @@ use sdd_base::{MAX_LINK_MESSAGES, NoMemory, Parcel};
 use std::alloc::Global;
 
 /// One direction of a link: its two ends, and what is in flight between them.
-#[derive(Drop, Debug)]
+#[derive(Drop)]
 pub struct Channel<M> {
     pub sender: Sender<M>,
     pub flight: Flight<M>,

@@ -1,7 +1,7 @@
 use crate::packet::Parcels;
 
 /// What a delivery did.
-#[derive(Drop, Debug, PartialEq, Eq)]
+#[derive(Drop)]
 pub enum Delivered<M> {
     /// The place is past the flight's end, and nothing changed.
     Nothing,

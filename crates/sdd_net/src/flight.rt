@@ -15,7 +15,7 @@ use std::marker::Model;
 /// are kept in pieces of 512 packets that were sent one after the other, less those that were taken;
 /// a piece goes, and gives its room back, with the last of its packets, unless it is the last piece:
 /// that one keeps its room, so that a flight which empties often takes no memory anew.
-#[derive(Drop, Debug)]
+#[derive(Drop)]
 pub struct Flight<M> {
     packets: Pieces<Packet<M>>,
     live: bool,

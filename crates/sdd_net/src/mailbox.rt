@@ -8,7 +8,7 @@ use std::collections::VecDeque;
 use std::marker::Model;
 
 /// What is kept for one data module.
-#[derive(Drop, Debug)]
+#[derive(Drop)]
 pub struct Mailbox<M> {
     pub down: bool,
     queues: Vec<VecDeque<M>>,

@@ -26,7 +26,7 @@ const ROUND_LEN: usize = 64;
 ///
 /// To find a link takes constant time; what goes over all links finds each by a place that is kept.
 /// The links that are unused take memory too, some hundred bytes for each pair of sites.
-#[derive(Drop, Debug)]
+#[derive(Drop)]
 pub struct Net<M> {
     tms: u32,
     dms: u32,

@@ -1,7 +1,7 @@
 use sdd_base::{Listed, NoMemory, Parcel};
 
 /// What is in flight on a link.
-#[derive(Drop, Debug, PartialEq, Eq)]
+#[derive(Drop)]
 pub enum Packet<M> {
     /// A message with its number, counted from 1 on its link.
     Message(u32, M),

@@ -16,7 +16,7 @@ const PIECE_LEN: usize = 512;
 /// An item is found by the lengths of the pieces before its own, and taken out within its piece, so
 /// that a long list isn't moved. A piece that is empty goes, but for the last one, which stays for
 /// what is put next; pieces aren't joined.
-#[derive(Drop, Debug)]
+#[derive(Drop)]
 pub struct Pieces<T> {
     pieces: Vec<VecDeque<T>>,
 }

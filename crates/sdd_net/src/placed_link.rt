@@ -6,7 +6,7 @@ use sdd_base::{MAX_DMS, MAX_TMS, NoMemory, Site};
 use std::alloc::Global;
 
 /// A link, and where its channel and the channel back are among all pairs of sites.
-#[derive(Clone, Copy, Debug)]
+#[derive(Clone, Copy)]
 pub struct PlacedLink {
     pub from: Site,
     pub to: Site,

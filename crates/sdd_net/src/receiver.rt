@@ -10,7 +10,7 @@ use std::marker::Model;
 
 /// The receiving end of one direction of a link: it hands on each message once, in the order of the
 /// numbers, and keeps those that come early.
-#[derive(Drop, Debug)]
+#[derive(Drop)]
 pub struct Receiver<M> {
     count: u32,
     early: BTreeMap<u32, M>,

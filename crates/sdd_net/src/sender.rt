@@ -11,7 +11,7 @@ use std::marker::Model;
 
 /// The sending end of one direction of a link: it numbers messages from 1 and keeps each until it is
 /// acknowledged.
-#[derive(Drop, Debug)]
+#[derive(Drop)]
 pub struct Sender<M> {
     acked: u32,
     unacked: VecDeque<M>,

@@ -12,7 +12,7 @@ use std::marker::Model;
 ///
 /// Contracts see a mailbox for each module, by number. The messages of one sender stand in the
 /// order in which they were put.
-#[derive(Drop, Debug)]
+#[derive(Drop)]
 pub struct Spool<M> {
     boxes: Vec<Mailbox<M>>,
 }

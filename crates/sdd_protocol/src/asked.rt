@@ -8,7 +8,7 @@ use std::alloc::Global;
 use std::marker::Model;
 
 /// The fragments that an attempt reads at a data module, as marks by number.
-#[derive(Drop, Debug)]
+#[derive(Drop)]
 pub(crate) struct Asked {
     marks: Vec<bool>,
 }

@@ -9,7 +9,7 @@ use std::alloc::Global;
 use std::marker::Model;
 
 /// For each reader and each writer a range of a list of entries that has the diagonals between them.
-#[derive(Drop, Debug)]
+#[derive(Drop)]
 pub(crate) struct DiagonalIndex {
     width: u32,
     ranges: Vec<(u32, u32)>,

@@ -2,7 +2,7 @@ use crate::protocol::Protocol;
 use sdd_graph::Edge;
 
 /// A line of the protocol table.
-#[derive(Clone, Copy, Debug, PartialEq, Eq)]
+#[derive(Clone, Copy)]
 pub struct Entry {
     pub edge: Edge,
     /// The number of the edge's block, from 1; 0 where the edge is on no simple cycle.

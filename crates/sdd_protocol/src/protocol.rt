@@ -2,7 +2,7 @@ ghost use Rattle.std.specs.Prelude.{◌≡◌};
 ghost use Rattle.sdd_protocol.specs.Protocols.{same_protocol};
 
 /// What a reader does about a writer that may be ahead of it.
-#[derive(Clone, Copy, Debug, PartialEq, Eq)]
+#[derive(Clone, Copy)]
 pub enum Protocol {
     /// Nothing: the reader takes what is there.
     P1,

@@ -20,7 +20,7 @@ use std::alloc::Global;
 use std::marker::Model;
 
 /// A protocol table, which contracts see as the list of its entries.
-#[derive(Drop, Debug)]
+#[derive(Drop)]
 pub struct Table {
     alloc: Global,
     entries: Vec<Entry>,

@@ -11,7 +11,7 @@ use sdd_lang::sdd_catalog::Catalogue;
 use sdd_words::{put, put_rows};
 
 /// The rows of the copy of a fragment at a data module, ascending by key.
-#[derive(Drop, Debug, PartialEq, Eq)]
+#[derive(Drop)]
 pub struct CopyTable {
     pub dm: DmNo,
     pub frag: FragNo,

@@ -12,7 +12,7 @@ use sdd_lang::sdd_catalog::Catalogue;
 use sdd_words::put;
 
 /// A READ that waits at a data module.
-#[derive(Clone, Copy, Debug, PartialEq, Eq)]
+#[derive(Clone, Copy)]
 pub struct Waiting {
     pub dm: DmNo,
     /// The first class of its conditions that hasn't passed there.
@@ -22,7 +22,7 @@ pub struct Waiting {
 }
 
 /// What a transaction that isn't committed is waiting for.
-#[derive(Clone, Copy, Debug, PartialEq, Eq)]
+#[derive(Clone, Copy)]
 pub enum Why {
     /// It isn't served yet: its class, and its place in the queue of the class, counted from 1 without
     /// the transaction that is being served.
@@ -34,7 +34,7 @@ pub enum Why {
 }
 
 /// A transaction that was submitted and isn't committed.
-#[derive(Clone, Copy, Debug, PartialEq, Eq)]
+#[derive(Clone, Copy)]
 pub struct Pending {
     pub txn: TxnNo,
     pub why: Why,

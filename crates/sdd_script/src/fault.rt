@@ -71,7 +71,7 @@ pub enum Counts {
 }
 
 /// Why there is no workload.
-#[derive(Debug, Drop, Error, PartialEq, Eq)]
+#[derive(Debug, Drop, Error)]
 pub enum WorkError {
     /// The first fault.
     #[error("the workload has a fault")]
@@ -82,7 +82,7 @@ pub enum WorkError {
 }
 
 /// Why a line is not read.
-#[derive(Clone, Copy, Debug, PartialEq, Eq)]
+#[derive(Clone, Copy)]
 pub enum LineError {
     /// The first rule that it breaks.
     Broken(WorkRule),

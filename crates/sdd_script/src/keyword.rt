@@ -4,7 +4,7 @@ ghost use Rattle.sdd_script.specs.FirstWords.{statement_key_in, class_key_in, ev
 use sdd_words::Token;
 
 /// The first word of a line.
-#[derive(Clone, Copy, Debug, PartialEq, Eq)]
+#[derive(Clone, Copy)]
 pub enum Keyword {
     Row,
     Txn,
@@ -16,7 +16,7 @@ pub enum Keyword {
 }
 
 /// The first word of a statement's line.
-#[derive(Clone, Copy, Debug, PartialEq, Eq)]
+#[derive(Clone, Copy)]
 pub enum StatementKey {
     Put,
     Query,
@@ -25,7 +25,7 @@ pub enum StatementKey {
 }
 
 /// The first word of a line of a class list.
-#[derive(Clone, Copy, Debug, PartialEq, Eq)]
+#[derive(Clone, Copy)]
 pub enum ClassKey {
     List,
     Class,
@@ -34,7 +34,7 @@ pub enum ClassKey {
 }
 
 /// The first word of an event's line.
-#[derive(Clone, Copy, Debug, PartialEq, Eq)]
+#[derive(Clone, Copy)]
 pub enum EventKey {
     Submit,
     Deliver,

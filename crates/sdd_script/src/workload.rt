@@ -14,7 +14,7 @@ pub type Txns = Listed<Txn>;
 pub type ClassLists = Listed<ClassParts>;
 
 /// What a run works on.
-#[derive(Drop, Debug, PartialEq, Eq)]
+#[derive(Drop)]
 pub struct Workload {
     pub rows: StartRows,
     pub txns: Txns,

@@ -5,7 +5,7 @@ use sdd_lang::Ref;
 use std::marker::Model;
 
 /// A reducer step with its two columns, each of a use of the query.
-#[derive(Drop, Debug)]
+#[derive(Drop)]
 pub struct Move {
     step: Step,
     source: Ref,

@@ -5,7 +5,7 @@ use sdd_lang::sdd_base::Listed;
 
 /// A reducer step of a query, by one of its conditions that is an equality between columns of two
 /// uses.
-#[derive(Clone, Copy, Debug, PartialEq, Eq)]
+#[derive(Clone, Copy)]
 pub struct Step {
     /// The number of the condition in the query, from 1.
     pub cond: u32,

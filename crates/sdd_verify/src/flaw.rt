@@ -7,7 +7,7 @@ use sdd_script::sdd_base::NoMemory;
 use std::alloc::AllocFailed;
 
 /// What ends the judging of a report.
-#[derive(Clone, Copy, Debug, PartialEq, Eq)]
+#[derive(Clone, Copy)]
 pub enum Flaw {
     /// The line with this number is at fault; 0 stands for the whole report.
     Line(u32),

@@ -1,5 +1,5 @@
 /// What a report is judged to be.
-#[derive(Clone, Copy, Debug, PartialEq, Eq)]
+#[derive(Clone, Copy)]
 pub enum Verdict {
     /// The replies are those of one plain database that runs the named transactions in that order.
     Yes,
