@@ -8,31 +8,31 @@ use sdd_words::{put, put_count};
 use std::alloc::Global;
 
 /// Adds how many modules there are of each sort.
-fn put_modules(text: &mut Vec<u8>, tms: u32, dms: u32) -> Result<(), NoMemory>
-    ensures { OnOk result (text.new.items ≡ text.old.items ++ module_counts tms dms) }
+fn put_modules(out: &mut Vec<u8>, tms: u32, dms: u32) -> Result<(), NoMemory>
+    ensures { OnOk result (out.new.items ≡ out.old.items ++ module_counts tms dms) }
 {
-    put(text, b"ok tms ")?;
-    put_count(text, tms as u64)?;
-    put(text, b" dms ")?;
-    put_count(text, dms as u64)
+    put(out, b"ok tms ")?;
+    put_count(out, tms as u64)?;
+    put(out, b" dms ")?;
+    put_count(out, dms as u64)
 }
 
 /// Adds how many relations and fragments there are.
-fn put_parts(text: &mut Vec<u8>, relations: u32, fragments: u32) -> Result<(), NoMemory>
-    ensures { OnOk result (text.new.items ≡ text.old.items ++ part_counts relations fragments) }
+fn put_parts(out: &mut Vec<u8>, relations: u32, fragments: u32) -> Result<(), NoMemory>
+    ensures { OnOk result (out.new.items ≡ out.old.items ++ part_counts relations fragments) }
 {
-    put(text, b" relations ")?;
-    put_count(text, relations as u64)?;
-    put(text, b" fragments ")?;
-    put_count(text, fragments as u64)
+    put(out, b" relations ")?;
+    put_count(out, relations as u64)?;
+    put(out, b" fragments ")?;
+    put_count(out, fragments as u64)
 }
 
-fn put_classes(text: &mut Vec<u8>, classes: u32) -> Result<(), NoMemory>
-    ensures { OnOk result (text.new.items ≡ text.old.items ++ class_count classes) }
+fn put_classes(out: &mut Vec<u8>, classes: u32) -> Result<(), NoMemory>
+    ensures { OnOk result (out.new.items ≡ out.old.items ++ class_count classes) }
 {
-    put(text, b" classes ")?;
-    put_count(text, classes as u64)?;
-    put(text, b"\n")
+    put(out, b" classes ")?;
+    put_count(out, classes as u64)?;
+    put(out, b"\n")
 }
 
 /// How many there are of each.

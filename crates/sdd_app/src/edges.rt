@@ -11,45 +11,45 @@ use sdd_protocol::{Entry, Protocol, Table};
 use sdd_words::{put, put_count};
 use std::alloc::Global;
 
-fn put_class(text: &mut Vec<u8>, catalogue: &Catalogue, class: ClassNo) -> Result<(), NoMemory>
+fn put_class(out: &mut Vec<u8>, catalogue: &Catalogue, class: ClassNo) -> Result<(), NoMemory>
     requires from { 1 ≤ class.0 }
     requires to { class.0 ≤ length catalogue.now.classes }
-    ensures { OnOk result (text.new.items ≡ text.old.items ++ shown.class_name catalogue.now class) }
+    ensures { OnOk result (out.new.items ≡ out.old.items ++ shown.class_name catalogue.now class) }
 {
-    put(text, catalogue.class(class).name.as_str().as_bytes())
+    put(out, catalogue.class(class).name.as_str().as_bytes())
 }
 
-fn put_fragment(text: &mut Vec<u8>, catalogue: &Catalogue, frag: FragNo) -> Result<(), NoMemory>
+fn put_fragment(out: &mut Vec<u8>, catalogue: &Catalogue, frag: FragNo) -> Result<(), NoMemory>
     requires from { 1 ≤ frag.0 }
     requires to { frag.0 ≤ length catalogue.now.fragments }
-    ensures { OnOk result (text.new.items ≡ text.old.items ++ shown.fragment_name catalogue.now frag) }
+    ensures { OnOk result (out.new.items ≡ out.old.items ++ shown.fragment_name catalogue.now frag) }
 {
-    put(text, catalogue.fragment(frag).name.as_str().as_bytes())
+    put(out, catalogue.fragment(frag).name.as_str().as_bytes())
 }
 
 /// The number of a block, `-` for none.
-fn put_block(text: &mut Vec<u8>, block: u32) -> Result<(), NoMemory>
-    ensures { OnOk result (text.new.items ≡ text.old.items ++ shown.block_word block) }
+fn put_block(out: &mut Vec<u8>, block: u32) -> Result<(), NoMemory>
+    ensures { OnOk result (out.new.items ≡ out.old.items ++ shown.block_word block) }
 {
     if block == 0 {
-        put(text, b"-")
+        put(out, b"-")
     } else {
-        put_count(text, u64::from(block))
+        put_count(out, u64::from(block))
     }
 }
 
 /// The end of an edge's line.
-fn put_block_end(text: &mut Vec<u8>, block: u32) -> Result<(), NoMemory>
-    ensures { OnOk result (text.new.items ≡ text.old.items ++ shown.block_end block) }
+fn put_block_end(out: &mut Vec<u8>, block: u32) -> Result<(), NoMemory>
+    ensures { OnOk result (out.new.items ≡ out.old.items ++ shown.block_end block) }
 {
-    put(text, b" block ")?;
-    put_block(text, block)?;
-    put(text, b"\n")
+    put(out, b" block ")?;
+    put_block(out, block)?;
+    put(out, b"\n")
 }
 
 /// The names of two classes.
 fn put_classes(
-    text: &mut Vec<u8>,
+    out: &mut Vec<u8>,
     catalogue: &Catalogue,
     first: ClassNo,
     second: ClassNo,
@@ -58,57 +58,57 @@ fn put_classes(
     requires first_to { first.0 ≤ length catalogue.now.classes }
     requires second_from { 1 ≤ second.0 }
     requires second_to { second.0 ≤ length catalogue.now.classes }
-    ensures { OnOk result (text.new.items ≡ text.old.items ++ shown.two_words (shown.class_name catalogue.now first) (shown.class_name catalogue.now second)) }
+    ensures { OnOk result (out.new.items ≡ out.old.items ++ shown.two_words (shown.class_name catalogue.now first) (shown.class_name catalogue.now second)) }
 {
-    put_class(text, catalogue, first)?;
-    put(text, b" ")?;
-    put_class(text, catalogue, second)
+    put_class(out, catalogue, first)?;
+    put(out, b" ")?;
+    put_class(out, catalogue, second)
 }
 
 /// What an edge is, and what it joins.
-fn put_edge(text: &mut Vec<u8>, catalogue: &Catalogue, edge: &Edge) -> Result<(), NoMemory>
+fn put_edge(out: &mut Vec<u8>, catalogue: &Catalogue, edge: &Edge) -> Result<(), NoMemory>
     requires { IsEdgeOf catalogue.now edge.now }
-    ensures { OnOk result (text.new.items ≡ text.old.items ++ shown.edge_words catalogue.now edge.now) }
+    ensures { OnOk result (out.new.items ≡ out.old.items ++ shown.edge_words catalogue.now edge.now) }
 {
     match edge {
         Edge::Vertical(class) => {
-            put(text, b"vertical ")?;
-            put_class(text, catalogue, *class)
+            put(out, b"vertical ")?;
+            put_class(out, catalogue, *class)
         }
         Edge::Horizontal(first, second) => {
-            put(text, b"horizontal ")?;
-            put_classes(text, catalogue, *first, *second)
+            put(out, b"horizontal ")?;
+            put_classes(out, catalogue, *first, *second)
         }
         Edge::Diagonal(reader, writer, frag) => {
-            put(text, b"diagonal ")?;
-            put_classes(text, catalogue, *reader, *writer)?;
-            put(text, b" ")?;
-            put_fragment(text, catalogue, *frag)
+            put(out, b"diagonal ")?;
+            put_classes(out, catalogue, *reader, *writer)?;
+            put(out, b" ")?;
+            put_fragment(out, catalogue, *frag)
         }
     }
 }
 
-fn put_edge_line(text: &mut Vec<u8>, catalogue: &Catalogue, entry: &Entry) -> Result<(), NoMemory>
+fn put_edge_line(out: &mut Vec<u8>, catalogue: &Catalogue, entry: &Entry) -> Result<(), NoMemory>
     requires { IsEdgeOf catalogue.now entry.now.edge }
-    ensures { OnOk result (text.new.items ≡ text.old.items ++ shown.edge_line catalogue.now entry.now) }
+    ensures { OnOk result (out.new.items ≡ out.old.items ++ shown.edge_line catalogue.now entry.now) }
 {
-    put_edge(text, catalogue, &entry.edge)?;
-    put_block_end(text, entry.block)
+    put_edge(out, catalogue, &entry.edge)?;
+    put_block_end(out, entry.block)
 }
 
-fn put_protocol(text: &mut Vec<u8>, protocol: Protocol) -> Result<(), NoMemory>
-    ensures { OnOk result (text.new.items ≡ text.old.items ++ shown.protocol_word protocol) }
+fn put_protocol(out: &mut Vec<u8>, protocol: Protocol) -> Result<(), NoMemory>
+    ensures { OnOk result (out.new.items ≡ out.old.items ++ shown.protocol_word protocol) }
 {
     match protocol {
-        Protocol::P1 => put(text, b"P1"),
-        Protocol::P2 => put(text, b"P2"),
-        Protocol::P3 => put(text, b"P3"),
+        Protocol::P1 => put(out, b"P1"),
+        Protocol::P2 => put(out, b"P2"),
+        Protocol::P3 => put(out, b"P3"),
     }
 }
 
 /// The number of the module at which the class reads the fragment.
 fn put_module(
-    text: &mut Vec<u8>,
+    out: &mut Vec<u8>,
     catalogue: &Catalogue,
     class: ClassNo,
     frag: FragNo,
@@ -116,17 +116,17 @@ fn put_module(
     requires class { class.0 ≤ length catalogue.now.classes }
     requires from { 1 ≤ frag.0 }
     requires to { frag.0 ≤ length catalogue.now.fragments }
-    ensures { OnOk result (text.new.items ≡ text.old.items ++ shown.module_number catalogue.now class frag) }
+    ensures { OnOk result (out.new.items ≡ out.old.items ++ shown.module_number catalogue.now class frag) }
 {
     match catalogue.reads_at(class, frag) {
-        Some(module) => put_count(text, u64::from(module.0)),
-        None => put_count(text, 0),
+        Some(module) => put_count(out, u64::from(module.0)),
+        None => put_count(out, 0),
     }
 }
 
 /// Which fragment a class reads, and where.
 fn put_read(
-    text: &mut Vec<u8>,
+    out: &mut Vec<u8>,
     catalogue: &Catalogue,
     class: ClassNo,
     frag: FragNo,
@@ -135,76 +135,76 @@ fn put_read(
     requires class_to { class.0 ≤ length catalogue.now.classes }
     requires from { 1 ≤ frag.0 }
     requires to { frag.0 ≤ length catalogue.now.fragments }
-    ensures { OnOk result (text.new.items ≡ text.old.items ++ shown.read_words catalogue.now class frag) }
+    ensures { OnOk result (out.new.items ≡ out.old.items ++ shown.read_words catalogue.now class frag) }
 {
-    put_class(text, catalogue, class)?;
-    put(text, b" reads ")?;
-    put_fragment(text, catalogue, frag)?;
-    put(text, b" at D")?;
-    put_module(text, catalogue, class, frag)
+    put_class(out, catalogue, class)?;
+    put(out, b" reads ")?;
+    put_fragment(out, catalogue, frag)?;
+    put(out, b" at D")?;
+    put_module(out, catalogue, class, frag)
 }
 
 /// Who writes it, and the protocol.
 fn put_writer(
-    text: &mut Vec<u8>,
+    out: &mut Vec<u8>,
     catalogue: &Catalogue,
     class: ClassNo,
     protocol: Protocol,
 ) -> Result<(), NoMemory>
     requires from { 1 ≤ class.0 }
     requires to { class.0 ≤ length catalogue.now.classes }
-    ensures { OnOk result (text.new.items ≡ text.old.items ++ shown.writer_words catalogue.now class protocol) }
+    ensures { OnOk result (out.new.items ≡ out.old.items ++ shown.writer_words catalogue.now class protocol) }
 {
-    put(text, b" writer ")?;
-    put_class(text, catalogue, class)?;
-    put(text, b" ")?;
-    put_protocol(text, protocol)
+    put(out, b" writer ")?;
+    put_class(out, catalogue, class)?;
+    put(out, b" ")?;
+    put_protocol(out, protocol)
 }
 
 /// The line of a diagonal; another edge has none.
 fn put_diagonal_line(
-    text: &mut Vec<u8>,
+    out: &mut Vec<u8>,
     catalogue: &Catalogue,
     entry: &Entry,
 ) -> Result<(), NoMemory>
     requires { IsEdgeOf catalogue.now entry.now.edge }
-    ensures { OnOk result (text.new.items ≡ text.old.items ++ shown.diagonal_line catalogue.now entry.now.protocol entry.now.block entry.now.edge) }
+    ensures { OnOk result (out.new.items ≡ out.old.items ++ shown.diagonal_line catalogue.now entry.now.protocol entry.now.block entry.now.edge) }
 {
     match &entry.edge {
         Edge::Vertical(_) => Ok(()),
         Edge::Horizontal(_, _) => Ok(()),
         Edge::Diagonal(reader, writer, frag) => {
-            put_read(text, catalogue, *reader, *frag)?;
-            put_writer(text, catalogue, *writer, entry.protocol)?;
-            put_block_end(text, entry.block)
+            put_read(out, catalogue, *reader, *frag)?;
+            put_writer(out, catalogue, *writer, entry.protocol)?;
+            put_block_end(out, entry.block)
         }
     }
 }
 
 fn put_edge_lines(
-    text: &mut Vec<u8>,
+    out: &mut Vec<u8>,
     catalogue: &Catalogue,
     entries: &[Entry],
 ) -> Result<(), NoMemory>
     requires { All (λ e. IsEdgeOf catalogue.now e.edge) entries.now }
-    ensures { OnOk result (text.new.items ≡ text.old.items ++ shown.graph_text catalogue.now entries.now) }
+    ensures { OnOk result (out.new.items ≡ out.old.items ++ shown.graph_text catalogue.now entries.now) }
 {
     'entries: for entry in entries {
-        put_edge_line(text, catalogue, entry)?;
+        put_edge_line(out, catalogue, entry)?;
     }
     Ok(())
 }
 
 fn put_diagonal_lines(
-    text: &mut Vec<u8>,
+    out: &mut Vec<u8>,
     catalogue: &Catalogue,
     entries: &[Entry],
 ) -> Result<(), NoMemory>
     requires { All (λ e. IsEdgeOf catalogue.now e.edge) entries.now }
-    ensures { OnOk result (text.new.items ≡ text.old.items ++ shown.table_text catalogue.now entries.now) }
+    ensures { OnOk result (out.new.items ≡ out.old.items ++ shown.table_text catalogue.now entries.now) }
 {
     'entries: for entry in entries {
-        put_diagonal_line(text, catalogue, entry)?;
+        put_diagonal_line(out, catalogue, entry)?;
     }
     Ok(())
 }

@@ -21,15 +21,15 @@ use sdd_verified::sdd_verify::{MAX_REPORT_BYTES, Verdict, verify};
 use sdd_words::{put, put_count};
 use std::alloc::Global;
 
-fn put_verdict(text: &mut Vec<u8>, verdict: Verdict) -> Result<(), NoMemory>
-    ensures { OnOk result (text.new.items ≡ text.old.items ++ verdict_line verdict) }
+fn put_verdict(out: &mut Vec<u8>, verdict: Verdict) -> Result<(), NoMemory>
+    ensures { OnOk result (out.new.items ≡ out.old.items ++ verdict_line verdict) }
 {
     match verdict {
-        Verdict::Yes => put(text, b"yes\n"),
+        Verdict::Yes => put(out, b"yes\n"),
         Verdict::No(line) => {
-            put(text, b"no ")?;
-            put_count(text, u64::from(line))?;
-            put(text, b"\n")
+            put(out, b"no ")?;
+            put_count(out, u64::from(line))?;
+            put(out, b"\n")
         }
     }
 }

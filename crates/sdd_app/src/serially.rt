@@ -55,19 +55,19 @@ fn submitted_txns<'a>(alloc: Global, work: &'a Workload) -> Result<Vec<&'a Txn>,
 }
 
 /// A name, after a space.
-fn put_name(text: &mut Vec<u8>, name: &Name) -> Result<(), NoMemory>
-    ensures { OnOk result (text.new.items ≡ text.old.items ++ spaced name.now) }
+fn put_name(out: &mut Vec<u8>, name: &Name) -> Result<(), NoMemory>
+    ensures { OnOk result (out.new.items ≡ out.old.items ++ spaced name.now) }
 {
-    put(text, b" ")?;
-    put(text, name.as_str().as_bytes())
+    put(out, b" ")?;
+    put(out, name.as_str().as_bytes())
 }
 
-fn put_names(text: &mut Vec<u8>, txns: &[&Txn]) -> Result<(), NoMemory>
-    ensures { OnOk result (text.new.items
-        ≡ text.old.items ++ flat_map spaced (names_of (map (λ t. t.now) txns.now))) }
+fn put_names(out: &mut Vec<u8>, txns: &[&Txn]) -> Result<(), NoMemory>
+    ensures { OnOk result (out.new.items
+        ≡ out.old.items ++ flat_map spaced (names_of (map (λ t. t.now) txns.now))) }
 {
     'txns: for txn in txns {
-        put_name(text, &txn.name)?;
+        put_name(out, &txn.name)?;
     }
     Ok(())
 }
@@ -75,19 +75,19 @@ fn put_names(text: &mut Vec<u8>, txns: &[&Txn]) -> Result<(), NoMemory>
 /// The replies of the transactions, which run one after the other on a database of the rows.
 fn put_replies(
     alloc: Global,
-    text: &mut Vec<u8>,
+    out: &mut Vec<u8>,
     catalogue: &Catalogue,
     rows: &StartRows,
     txns: &[&Txn],
 ) -> Result<(), NoMemory>
     requires rows { All (FitsStart catalogue.now) rows.now }
     requires txns { All (λ t. FitsTxn catalogue.now t.now) txns.now }
-    ensures { OnOk result (text.new.items ≡ text.old.items ++ replies_of catalogue.now (database_of catalogue.now rows.now) (map (λ t. t.now) txns.now)) }
+    ensures { OnOk result (out.new.items ≡ out.old.items ++ replies_of catalogue.now (database_of catalogue.now rows.now) (map (λ t. t.now) txns.now)) }
 {
     let mut plain = Plain::new(alloc, catalogue, rows.as_slice())?;
     'txns: for txn in txns {
         let reply = plain.run(catalogue, txn)?;
-        put_reply(text, txn.name.as_str().as_bytes(), &reply)?;
+        put_reply(out, txn.name.as_str().as_bytes(), &reply)?;
     }
     Ok(())
 }

@@ -65,11 +65,11 @@ impl Text {
 }
 
 /// Adds a line with its end.
-fn add_line(bytes: &mut Vec<u8>, line: &str) -> Result<()>
-    ensures { OnOk result (bytes.new.items ≡ bytes.old.items ++ line.now ++ 10 ∷ []) }
+fn add_line(out: &mut Vec<u8>, line: &str) -> Result<()>
+    ensures { OnOk result (out.new.items ≡ out.old.items ++ line.now ++ 10 ∷ []) }
 {
-    bytes.extend_from_slice(line.as_bytes())?;
-    bytes.push(b'\n')?;
+    out.extend_from_slice(line.as_bytes())?;
+    out.push(b'\n')?;
     Ok(())
 }
 

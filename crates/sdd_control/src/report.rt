@@ -16,91 +16,91 @@ use sdd_script::sdd_base::{Bytes, NoMemory};
 use sdd_script::sdd_words::{put, put_count};
 use std::alloc::Global;
 
-fn put_value(text: &mut Vec<u8>, val: Val) -> Result<(), NoMemory>
-    ensures { OnOk result (text.new.items ≡ text.old.items ++ value_word val) }
+fn put_value(out: &mut Vec<u8>, val: Val) -> Result<(), NoMemory>
+    ensures { OnOk result (out.new.items ≡ out.old.items ++ value_word val) }
 {
     match val {
-        Val::Unknown => put(text, b"unknown"),
-        Val::All => put(text, b"all"),
-        Val::Nought => put(text, b"none"),
+        Val::Unknown => put(out, b"unknown"),
+        Val::All => put(out, b"all"),
+        Val::Nought => put(out, b"none"),
     }
 }
 
-fn put_spaced_value(text: &mut Vec<u8>, val: Val) -> Result<(), NoMemory>
-    ensures { OnOk result (text.new.items ≡ text.old.items ++ 32 ∷ value_word val) }
+fn put_spaced_value(out: &mut Vec<u8>, val: Val) -> Result<(), NoMemory>
+    ensures { OnOk result (out.new.items ≡ out.old.items ++ 32 ∷ value_word val) }
 {
-    put(text, b" ")?;
-    put_value(text, val)
+    put(out, b" ")?;
+    put_value(out, val)
 }
 
-fn put_spaced(text: &mut Vec<u8>, number: u32) -> Result<(), NoMemory>
-    ensures { OnOk result (text.new.items ≡ text.old.items ++ spaced number) }
+fn put_spaced(out: &mut Vec<u8>, number: u32) -> Result<(), NoMemory>
+    ensures { OnOk result (out.new.items ≡ out.old.items ++ spaced number) }
 {
-    put(text, b" ")?;
-    put_count(text, u64::from(number))
+    put(out, b" ")?;
+    put_count(out, u64::from(number))
 }
 
 /// A word and the number of a site.
-fn put_site(text: &mut Vec<u8>, word: &[u8], site: u32) -> Result<(), NoMemory>
-    ensures { OnOk result (text.new.items ≡ text.old.items ++ (word.now ++ spaced site)) }
+fn put_site(out: &mut Vec<u8>, word: &[u8], site: u32) -> Result<(), NoMemory>
+    ensures { OnOk result (out.new.items ≡ out.old.items ++ (word.now ++ spaced site)) }
 {
-    put(text, word)?;
-    put_spaced(text, site)
+    put(out, word)?;
+    put_spaced(out, site)
 }
 
 /// A word and two numbers.
-fn put_two(text: &mut Vec<u8>, word: &[u8], first: u32, second: u32) -> Result<(), NoMemory>
+fn put_two(out: &mut Vec<u8>, word: &[u8], first: u32, second: u32) -> Result<(), NoMemory>
     ensures { OnOk result (
-        text.new.items ≡ text.old.items ++ (word.now ++ spaced first ++ spaced second)) }
+        out.new.items ≡ out.old.items ++ (word.now ++ spaced first ++ spaced second)) }
 {
-    put_site(text, word, first)?;
-    put_spaced(text, second)
+    put_site(out, word, first)?;
+    put_spaced(out, second)
 }
 
-fn put_tell(text: &mut Vec<u8>, from: u32, to: u32, val: Val) -> Result<(), NoMemory>
-    ensures { OnOk result (text.new.items ≡ text.old.items ++ note_words (Telling from to val)) }
+fn put_tell(out: &mut Vec<u8>, from: u32, to: u32, val: Val) -> Result<(), NoMemory>
+    ensures { OnOk result (out.new.items ≡ out.old.items ++ note_words (Telling from to val)) }
 {
-    put_two(text, b"tell", from, to)?;
-    put_spaced_value(text, val)
+    put_two(out, b"tell", from, to)?;
+    put_spaced_value(out, val)
 }
 
-fn put_site_value(text: &mut Vec<u8>, word: &[u8], site: u32, val: Val) -> Result<(), NoMemory>
+fn put_site_value(out: &mut Vec<u8>, word: &[u8], site: u32, val: Val) -> Result<(), NoMemory>
     ensures { OnOk result (
-        text.new.items ≡ text.old.items ++ (word.now ++ spaced site ++ 32 ∷ value_word val)) }
+        out.new.items ≡ out.old.items ++ (word.now ++ spaced site ++ 32 ∷ value_word val)) }
 {
-    put_site(text, word, site)?;
-    put_spaced_value(text, val)
+    put_site(out, word, site)?;
+    put_spaced_value(out, val)
 }
 
-fn put_note(text: &mut Vec<u8>, note: &Note) -> Result<(), NoMemory>
-    ensures { OnOk result (text.new.items ≡ text.old.items ++ note_words note.now) }
+fn put_note(out: &mut Vec<u8>, note: &Note) -> Result<(), NoMemory>
+    ensures { OnOk result (out.new.items ≡ out.old.items ++ note_words note.now) }
 {
     match *note {
-        Note::Tell(from, to, val) => put_tell(text, from, to, val),
-        Note::Write(site, number) => put_two(text, b"write", site, number),
-        Note::Finish(site, val) => put_site_value(text, b"finish", site, val),
-        Note::Nothing => put(text, b"nothing"),
-        Note::Dropped => put(text, b"dropped"),
-        Note::Gone(site, other) => put_two(text, b"gone", site, other),
-        Note::Ok(site, other) => put_two(text, b"ok", site, other),
-        Note::Ignored(site) => put_site(text, b"ignored", site),
-        Note::Value { at, val, .. } => put_site_value(text, b"value", at, val),
-        Note::Stop(site) => put_site(text, b"stop", site),
+        Note::Tell(from, to, val) => put_tell(out, from, to, val),
+        Note::Write(site, number) => put_two(out, b"write", site, number),
+        Note::Finish(site, val) => put_site_value(out, b"finish", site, val),
+        Note::Nothing => put(out, b"nothing"),
+        Note::Dropped => put(out, b"dropped"),
+        Note::Gone(site, other) => put_two(out, b"gone", site, other),
+        Note::Ok(site, other) => put_two(out, b"ok", site, other),
+        Note::Ignored(site) => put_site(out, b"ignored", site),
+        Note::Value { at, val, .. } => put_site_value(out, b"value", at, val),
+        Note::Stop(site) => put_site(out, b"stop", site),
     }
 }
 
-fn put_note_line(text: &mut Vec<u8>, number: u32, note: &Note) -> Result<(), NoMemory>
-    ensures { OnOk result (text.new.items ≡ text.old.items ++ note_line number note.now) }
+fn put_note_line(out: &mut Vec<u8>, number: u32, note: &Note) -> Result<(), NoMemory>
+    ensures { OnOk result (out.new.items ≡ out.old.items ++ note_line number note.now) }
 {
-    put_count(text, u64::from(number))?;
-    put(text, b" ")?;
-    put_note(text, note)?;
-    put(text, b"\n")
+    put_count(out, u64::from(number))?;
+    put(out, b" ")?;
+    put_note(out, note)?;
+    put(out, b"\n")
 }
 
 /// Lets an event happen, and adds the line of its note.
 fn put_event(
-    text: &mut Vec<u8>,
+    out: &mut Vec<u8>,
     number: u32,
     control: &mut Control,
     act: &Act,
@@ -108,84 +108,84 @@ fn put_event(
     requires live { IsTrue control.old.live }
     requires fits { FitsAct control.old.value.backups act.now }
     ensures text { OnOk result (
-        text.new.items
-        ≡ text.old.items ++ note_line number (next_note control.old.value act.now)) }
+        out.new.items
+        ≡ out.old.items ++ note_line number (next_note control.old.value act.now)) }
     ensures control { OnOk result (control.new ≡ live_at (with_event control.old.value act.now)) }
 {
     let note = control.step(act)?;
-    put_note_line(text, number, &note)
+    put_note_line(out, number, &note)
 }
 
-fn put_events(text: &mut Vec<u8>, control: &mut Control, acts: &[Act]) -> Result<(), NoMemory>
+fn put_events(out: &mut Vec<u8>, control: &mut Control, acts: &[Act]) -> Result<(), NoMemory>
     requires live { IsTrue control.old.live }
     requires few { length acts.now ≤ 2 ^ 18 }
     requires fit { FitAll control.old.value.backups acts.now }
     ensures text { OnOk result (
-        text.new.items ≡ text.old.items ++ note_lines 1 control.old.value acts.now) }
+        out.new.items ≡ out.old.items ++ note_lines 1 control.old.value acts.now) }
     ensures control { OnOk result (control.new ≡ live_at (run_after control.old.value acts.now)) }
 {
     let mut rest = acts;
     let mut number = 1;
     'events: while let [act, more @ ..] = rest {
-        put_event(text, number, control, act)?;
+        put_event(out, number, control, act)?;
         number += 1;
         rest = more;
     }
     Ok(())
 }
 
-fn put_status(text: &mut Vec<u8>, control: &Control, site: u32) -> Result<(), NoMemory>
+fn put_status(out: &mut Vec<u8>, control: &Control, site: u32) -> Result<(), NoMemory>
     requires live { IsTrue control.now.live }
     requires site { site ≤ control.now.value.backups }
     ensures { let log = control.now.value.log in
-        OnOk result (text.new.items
-        ≡ text.old.items
+        OnOk result (out.new.items
+        ≡ out.old.items
         ++ status_words (stopped log site) (value log site) (finished log site)) }
 {
     if control.stopped(site) {
-        return put(text, b"stopped");
+        return put(out, b"stopped");
     }
-    put_value(text, control.value(site))?;
+    put_value(out, control.value(site))?;
     if control.finished(site) {
-        return put(text, b" finished");
+        return put(out, b" finished");
     }
     Ok(())
 }
 
-fn put_site_line(text: &mut Vec<u8>, control: &Control, site: u32) -> Result<(), NoMemory>
+fn put_site_line(out: &mut Vec<u8>, control: &Control, site: u32) -> Result<(), NoMemory>
     requires live { IsTrue control.now.live }
     requires site { site ≤ control.now.value.backups }
     ensures { OnOk result (
-        text.new.items ≡ text.old.items ++ site_line control.now.value.log site) }
+        out.new.items ≡ out.old.items ++ site_line control.now.value.log site) }
 {
-    put_site(text, b"site", site)?;
-    put(text, b" ")?;
-    put_status(text, control, site)?;
-    put(text, b"\n")
+    put_site(out, b"site", site)?;
+    put(out, b" ")?;
+    put_status(out, control, site)?;
+    put(out, b"\n")
 }
 
-fn put_site_lines(text: &mut Vec<u8>, control: &Control, backups: u32) -> Result<(), NoMemory>
+fn put_site_lines(out: &mut Vec<u8>, control: &Control, backups: u32) -> Result<(), NoMemory>
     requires live { IsTrue control.now.live }
     requires backups { control.now.value.backups ≡ backups }
     requires few { backups ≤ 8 }
     ensures { OnOk result (
-        text.new.items ≡ text.old.items ++ site_lines control.now.value.log 0 (backups + 1)) }
+        out.new.items ≡ out.old.items ++ site_lines control.now.value.log 0 (backups + 1)) }
 {
     'sites: for site in 0..backups + 1 {
-        put_site_line(text, control, site)?;
+        put_site_line(out, control, site)?;
     }
     Ok(())
 }
 
-fn put_ending(text: &mut Vec<u8>, control: &Control, backups: u32) -> Result<(), NoMemory>
+fn put_ending(out: &mut Vec<u8>, control: &Control, backups: u32) -> Result<(), NoMemory>
     requires live { IsTrue control.now.live }
     requires backups { control.now.value.backups ≡ backups }
     requires few { backups ≤ 8 }
-    ensures { OnOk result (text.new.items ≡ text.old.items ++ ending control.now.value) }
+    ensures { OnOk result (out.new.items ≡ out.old.items ++ ending control.now.value) }
 {
-    put_site_lines(text, control, backups)?;
-    put_site(text, b"writes", control.written())?;
-    put(text, b"\nend\n")
+    put_site_lines(out, control, backups)?;
+    put_site(out, b"writes", control.written())?;
+    put(out, b"\nend\n")
 }
 
 /// The text that a script makes. Costs time and memory linear in its events, each of which takes

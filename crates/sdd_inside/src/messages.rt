@@ -16,54 +16,54 @@ use sdd_script::sdd_words::{put, put_count};
 use sdd_wire::{Msg, UseCounts, UseRows, ValueList};
 
 #[tactic(auto, using(crate::proofs::Members::member_put))]
-fn put_kind(text: &mut Vec<u8>, kind: &[u8]) -> Result<(), NoMemory>
-    ensures { OnOk result (text.new.items ≡ text.old.items ++ of_kind kind.now) }
+fn put_kind(out: &mut Vec<u8>, kind: &[u8]) -> Result<(), NoMemory>
+    ensures { OnOk result (out.new.items ≡ out.old.items ++ of_kind kind.now) }
 {
-    put_name(text, b"kind")?;
-    put_quoted(text, kind)
+    put_name(out, b"kind")?;
+    put_quoted(out, kind)
 }
 
 /// Puts the kind and the time of a message without a class.
-fn put_time(text: &mut Vec<u8>, kind: &[u8], time: Ts) -> Result<(), NoMemory>
-    ensures { OnOk result (text.new.items ≡ text.old.items ++ at_time kind.now time) }
+fn put_time(out: &mut Vec<u8>, kind: &[u8], time: Ts) -> Result<(), NoMemory>
+    ensures { OnOk result (out.new.items ≡ out.old.items ++ at_time kind.now time) }
 {
-    put_kind(text, kind)?;
-    put_also(text, b"time", time.0)
+    put_kind(out, kind)?;
+    put_also(out, b"time", time.0)
 }
 
 /// Puts the kind, the class and the time of a message.
 fn put_class(
-    text: &mut Vec<u8>,
+    out: &mut Vec<u8>,
     kind: &[u8],
     catalogue: &Catalogue,
     txns: &[Txn],
     class: ClassNo,
     time: Ts,
 ) -> Result<(), NoMemory>
-    ensures { OnOk result (text.new.items ≡ text.old.items ++ of_class kind.now catalogue.now txns.now class time) }
+    ensures { OnOk result (out.new.items ≡ out.old.items ++ of_class kind.now catalogue.now txns.now class time) }
 {
-    put_kind(text, kind)?;
-    tell_also(text, b"class", &class, catalogue, txns)?;
-    put_also(text, b"time", time.0)
+    put_kind(out, kind)?;
+    tell_also(out, b"class", &class, catalogue, txns)?;
+    put_also(out, b"time", time.0)
 }
 
 /// Puts an attempt as a member.
 #[tactic(auto, using(crate::proofs::Members::member_put))]
 pub(crate) fn put_attempt_member(
-    text: &mut Vec<u8>,
+    out: &mut Vec<u8>,
     txns: &[Txn],
     txn: TxnNo,
     attempt: u64,
 ) -> Result<(), NoMemory>
-    ensures { OnOk result (text.new.items ≡ text.old.items ++ also (codes "txn") (attempt_json txns.now txn attempt)) }
+    ensures { OnOk result (out.new.items ≡ out.old.items ++ also (codes "txn") (attempt_json txns.now txn attempt)) }
 {
-    put_name(text, b"txn")?;
-    put_attempt(text, txns, txn, attempt)
+    put_name(out, b"txn")?;
+    put_attempt(out, txns, txn, attempt)
 }
 
 /// Puts a READ, with its attempt and its conditions.
 fn put_read(
-    text: &mut Vec<u8>,
+    out: &mut Vec<u8>,
     catalogue: &Catalogue,
     txns: &[Txn],
     class: ClassNo,
@@ -73,20 +73,20 @@ fn put_read(
     conds: &Conds,
 ) -> Result<(), NoMemory>
     ensures { OnOk result (
-        text.new.items
-        ≡ text.old.items
+        out.new.items
+        ≡ out.old.items
         ++ (of_class (codes "READ") catalogue.now txns.now class time
         ++ (also (codes "txn") (attempt_json txns.now txn attempt)
         ++ also (codes "conds") (array (cond_json catalogue.now txns.now) conds.now)))) }
 {
-    put_class(text, b"READ", catalogue, txns, class, time)?;
-    put_attempt_member(text, txns, txn, attempt)?;
-    tell_list(text, b"conds", conds.as_slice(), catalogue, txns)
+    put_class(out, b"READ", catalogue, txns, class, time)?;
+    put_attempt_member(out, txns, txn, attempt)?;
+    tell_list(out, b"conds", conds.as_slice(), catalogue, txns)
 }
 
 /// Puts a WRITE, with its transaction and its changes.
 fn put_write(
-    text: &mut Vec<u8>,
+    out: &mut Vec<u8>,
     catalogue: &Catalogue,
     txns: &[Txn],
     class: ClassNo,
@@ -95,20 +95,20 @@ fn put_write(
     changes: &Changes,
 ) -> Result<(), NoMemory>
     ensures { OnOk result (
-        text.new.items
-        ≡ text.old.items
+        out.new.items
+        ≡ out.old.items
         ++ (of_class (codes "WRITE") catalogue.now txns.now class time
         ++ (also (codes "txn") (txn_json catalogue.now txns.now txn)
         ++ also (codes "changes") (array (change_json catalogue.now txns.now) changes.now)))) }
 {
-    put_class(text, b"WRITE", catalogue, txns, class, time)?;
-    tell_also(text, b"txn", &txn, catalogue, txns)?;
-    tell_list(text, b"changes", changes.as_slice(), catalogue, txns)
+    put_class(out, b"WRITE", catalogue, txns, class, time)?;
+    tell_also(out, b"txn", &txn, catalogue, txns)?;
+    tell_list(out, b"changes", changes.as_slice(), catalogue, txns)
 }
 
 /// Puts a REJECT, with the class and the time of the WRITE for which the READ is rejected.
 fn put_reject(
-    text: &mut Vec<u8>,
+    out: &mut Vec<u8>,
     catalogue: &Catalogue,
     txns: &[Txn],
     class: ClassNo,
@@ -117,15 +117,15 @@ fn put_reject(
     write: Ts,
 ) -> Result<(), NoMemory>
     ensures { OnOk result (
-        text.new.items
-        ≡ text.old.items
+        out.new.items
+        ≡ out.old.items
         ++ (of_class (codes "REJECT") catalogue.now txns.now class time
         ++ (also (codes "by") (class_json catalogue.now txns.now by)
         ++ also (codes "write") (time_json catalogue.now txns.now write)))) }
 {
-    put_class(text, b"REJECT", catalogue, txns, class, time)?;
-    tell_also(text, b"by", &by, catalogue, txns)?;
-    tell_also(text, b"write", &write, catalogue, txns)
+    put_class(out, b"REJECT", catalogue, txns, class, time)?;
+    tell_also(out, b"by", &by, catalogue, txns)?;
+    tell_also(out, b"write", &write, catalogue, txns)
 }
 
 /// The rows of all uses together.
@@ -140,17 +140,17 @@ fn rows_of(counts: &[(u32, u64)]) -> u128
 }
 
 #[tactic(auto, using(crate::proofs::Members::member_put))]
-fn put_rows(text: &mut Vec<u8>, rows: u128) -> Result<(), NoMemory>
-    ensures { OnOk result (text.new.items ≡ text.old.items ++ rows_json rows) }
+fn put_rows(out: &mut Vec<u8>, rows: u128) -> Result<(), NoMemory>
+    ensures { OnOk result (out.new.items ≡ out.old.items ++ rows_json rows) }
 {
     let mut buffer = Buffer::new();
-    put_name(text, b"rows")?;
-    put(text, buffer.format(rows).as_bytes())
+    put_name(out, b"rows")?;
+    put(out, buffer.format(rows).as_bytes())
 }
 
 /// Puts a message that tells how many rows there are.
 fn put_counted(
-    text: &mut Vec<u8>,
+    out: &mut Vec<u8>,
     kind: &[u8],
     catalogue: &Catalogue,
     txns: &[Txn],
@@ -159,17 +159,17 @@ fn put_counted(
     rows: u128,
 ) -> Result<(), NoMemory>
     ensures { OnOk result (
-        text.new.items
-        ≡ text.old.items
+        out.new.items
+        ≡ out.old.items
         ++ (of_class kind.now catalogue.now txns.now class time ++ rows_json rows)) }
 {
-    put_class(text, kind, catalogue, txns, class, time)?;
-    put_rows(text, rows)
+    put_class(out, kind, catalogue, txns, class, time)?;
+    put_rows(out, rows)
 }
 
 /// Puts a message that has values.
 fn put_valued(
-    text: &mut Vec<u8>,
+    out: &mut Vec<u8>,
     kind: &[u8],
     catalogue: &Catalogue,
     txns: &[Txn],
@@ -178,16 +178,16 @@ fn put_valued(
     values: &ValueList,
 ) -> Result<(), NoMemory>
     ensures { OnOk result (
-        text.new.items
-        ≡ text.old.items
+        out.new.items
+        ≡ out.old.items
         ++ (of_class kind.now catalogue.now txns.now class time ++ values_json (length values.now))) }
 {
-    put_class(text, kind, catalogue, txns, class, time)?;
-    put_also(text, b"values", values.as_slice().len() as u64)
+    put_class(out, kind, catalogue, txns, class, time)?;
+    put_also(out, b"values", values.as_slice().len() as u64)
 }
 
 fn put_ready(
-    text: &mut Vec<u8>,
+    out: &mut Vec<u8>,
     catalogue: &Catalogue,
     txns: &[Txn],
     class: ClassNo,
@@ -195,16 +195,16 @@ fn put_ready(
     counts: &UseCounts,
 ) -> Result<(), NoMemory>
     ensures { OnOk result (
-        text.new.items
-        ≡ text.old.items
+        out.new.items
+        ≡ out.old.items
         ++ (of_class (codes "READY") catalogue.now txns.now class time ++ rows_json (rows_of counts.now))) }
 {
     let rows = rows_of(counts.as_slice());
-    put_counted(text, b"READY", catalogue, txns, class, time, rows)
+    put_counted(out, b"READY", catalogue, txns, class, time, rows)
 }
 
 fn put_shipped(
-    text: &mut Vec<u8>,
+    out: &mut Vec<u8>,
     catalogue: &Catalogue,
     txns: &[Txn],
     class: ClassNo,
@@ -212,23 +212,18 @@ fn put_shipped(
     rows: &UseRows,
 ) -> Result<(), NoMemory>
     ensures { OnOk result (
-        text.new.items
-        ≡ text.old.items
+        out.new.items
+        ≡ out.old.items
         ++ (of_class (codes "ROWS") catalogue.now txns.now class time ++ rows_json (length rows.now))) }
 {
     let rows = rows.as_slice().len() as u128;
-    put_counted(text, b"ROWS", catalogue, txns, class, time, rows)
+    put_counted(out, b"ROWS", catalogue, txns, class, time, rows)
 }
 
 impl ToJson for Msg {
     ghost json = { message_json };
 
-    fn tell(
-        &self,
-        text: &mut Vec<u8>,
-        catalogue: &Catalogue,
-        txns: &[Txn],
-    ) -> Result<(), NoMemory> {
+    fn tell(&self, out: &mut Vec<u8>, catalogue: &Catalogue, txns: &[Txn]) -> Result<(), NoMemory> {
         match self {
             Msg::Read {
                 ts,
@@ -237,38 +232,38 @@ impl ToJson for Msg {
                 attempt,
                 conds,
                 ..
-            } => put_read(text, catalogue, txns, *class, *ts, *txn, *attempt, conds),
+            } => put_read(out, catalogue, txns, *class, *ts, *txn, *attempt, conds),
             Msg::Ready { ts, class, counts } => {
-                put_ready(text, catalogue, txns, *class, *ts, counts)
+                put_ready(out, catalogue, txns, *class, *ts, counts)
             }
             Msg::Reject {
                 ts,
                 class,
                 by,
                 write,
-            } => put_reject(text, catalogue, txns, *class, *ts, *by, *write),
+            } => put_reject(out, catalogue, txns, *class, *ts, *by, *write),
             Msg::Fetch { ts, class, .. } => {
-                put_class(text, b"FETCH", catalogue, txns, *class, *ts)
+                put_class(out, b"FETCH", catalogue, txns, *class, *ts)
             }
             Msg::Values {
                 ts,
                 class,
                 values,
                 ..
-            } => put_valued(text, b"VALUES", catalogue, txns, *class, *ts, values),
+            } => put_valued(out, b"VALUES", catalogue, txns, *class, *ts, values),
             Msg::Reduce {
                 ts,
                 class,
                 values,
                 ..
-            } => put_valued(text, b"REDUCE", catalogue, txns, *class, *ts, values),
+            } => put_valued(out, b"REDUCE", catalogue, txns, *class, *ts, values),
             Msg::Reduced {
                 ts,
                 class,
                 count,
                 ..
             } => put_counted(
-                text,
+                out,
                 b"REDUCED",
                 catalogue,
                 txns,
@@ -276,67 +271,62 @@ impl ToJson for Msg {
                 *ts,
                 *count as u128,
             ),
-            Msg::Ship { ts, class } => put_class(text, b"SHIP", catalogue, txns, *class, *ts),
+            Msg::Ship { ts, class } => put_class(out, b"SHIP", catalogue, txns, *class, *ts),
             Msg::Rows { ts, class, rows } => {
-                put_shipped(text, catalogue, txns, *class, *ts, rows)
+                put_shipped(out, catalogue, txns, *class, *ts, rows)
             }
             Msg::Write {
                 ts,
                 class,
                 txn,
                 changes,
-            } => put_write(text, catalogue, txns, *class, *ts, *txn, changes),
-            Msg::Null { class, time } => put_class(text, b"NULL", catalogue, txns, *class, *time),
-            Msg::Ask { class, time } => put_class(text, b"ASK", catalogue, txns, *class, *time),
-            Msg::Hold => put_kind(text, b"HOLD"),
-            Msg::Held { time } => put_time(text, b"HELD", *time),
-            Msg::Done { ts } => put_time(text, b"DONE", *ts),
-            Msg::Release { ts } => put_time(text, b"RELEASE", *ts),
+            } => put_write(out, catalogue, txns, *class, *ts, *txn, changes),
+            Msg::Null { class, time } => put_class(out, b"NULL", catalogue, txns, *class, *time),
+            Msg::Ask { class, time } => put_class(out, b"ASK", catalogue, txns, *class, *time),
+            Msg::Hold => put_kind(out, b"HOLD"),
+            Msg::Held { time } => put_time(out, b"HELD", *time),
+            Msg::Done { ts } => put_time(out, b"DONE", *ts),
+            Msg::Release { ts } => put_time(out, b"RELEASE", *ts),
         }
     }
 }
 
 /// Puts an acknowledgement.
 #[tactic(auto, using(crate::proofs::Members::alone_put))]
-pub(crate) fn put_ack(text: &mut Vec<u8>, upto: u32) -> Result<(), NoMemory>
-    ensures { OnOk result (text.new.items ≡ text.old.items ++ ack_json upto) }
+pub(crate) fn put_ack(out: &mut Vec<u8>, upto: u32) -> Result<(), NoMemory>
+    ensures { OnOk result (out.new.items ≡ out.old.items ++ ack_json upto) }
 {
-    put_opening(text, b"ack", u64::from(upto))?;
-    put(text, b"}")
+    put_opening(out, b"ack", u64::from(upto))?;
+    put(out, b"}")
 }
 
 /// Puts the number of a message and the message.
 #[tactic(auto, using(crate::proofs::Members::object_put))]
 fn put_message(
-    text: &mut Vec<u8>,
+    out: &mut Vec<u8>,
     number: u32,
     message: &Msg,
     catalogue: &Catalogue,
     txns: &[Txn],
 ) -> Result<(), NoMemory>
     ensures { OnOk result (
-        text.new.items
-        ≡ text.old.items ++ packet_json catalogue.now txns.now (InFlight.First number message.now)) }
+        out.new.items
+        ≡ out.old.items ++ packet_json catalogue.now txns.now (InFlight.First number message.now)) }
 {
-    put_opening(text, b"n", u64::from(number))?;
-    message.tell(text, catalogue, txns)?;
-    put(text, b"}")
+    put_opening(out, b"n", u64::from(number))?;
+    message.tell(out, catalogue, txns)?;
+    put(out, b"}")
 }
 
 impl ToJson for InFlight {
     ghost json = { packet_json };
 
-    fn tell(
-        &self,
-        text: &mut Vec<u8>,
-        catalogue: &Catalogue,
-        txns: &[Txn],
-    ) -> Result<(), NoMemory> {
+    fn tell(&self, out: &mut Vec<u8>, catalogue: &Catalogue, txns: &[Txn]) -> Result<(), NoMemory> {
         match self {
-            InFlight::Ack(upto) => put_ack(text, *upto),
-            InFlight::Again(number) => put_count(text, u64::from(*number)),
+            InFlight::Ack(upto) => put_ack(out, *upto),
+            InFlight::Again(number) => put_count(out, u64::from(*number)),
             InFlight::First(number, message) => {
-                put_message(text, *number, message, catalogue, txns)
+                put_message(out, *number, message, catalogue, txns)
             }
         }
     }

@@ -39,59 +39,49 @@ fn stage_word(stage: Stage) -> &'static [u8]
 
 /// Puts a member that is one of a few words.
 #[tactic(auto, using(crate::proofs::Members::member_put))]
-fn put_phase(text: &mut Vec<u8>, word: &[u8]) -> Result<(), NoMemory>
-    ensures { OnOk result (text.new.items ≡ text.old.items ++ also (codes "phase") (quoted word.now)) }
+fn put_phase(out: &mut Vec<u8>, word: &[u8]) -> Result<(), NoMemory>
+    ensures { OnOk result (out.new.items ≡ out.old.items ++ also (codes "phase") (quoted word.now)) }
 {
-    put_name(text, b"phase")?;
-    put_quoted(text, word)
+    put_name(out, b"phase")?;
+    put_quoted(out, word)
 }
 
-fn put_active_attempt(text: &mut Vec<u8>, active: &Active, txns: &[Txn]) -> Result<(), NoMemory>
-    ensures { OnOk result (text.new.items ≡ text.old.items ++ attempt_members txns.now active.now) }
+fn put_active_attempt(out: &mut Vec<u8>, active: &Active, txns: &[Txn]) -> Result<(), NoMemory>
+    ensures { OnOk result (out.new.items ≡ out.old.items ++ attempt_members txns.now active.now) }
 {
-    put_attempt_member(text, txns, active.txn, active.attempt)?;
-    put_also(text, b"time", active.time.0)
+    put_attempt_member(out, txns, active.txn, active.attempt)?;
+    put_also(out, b"time", active.time.0)
 }
 
 fn put_active_phase(
-    text: &mut Vec<u8>,
+    out: &mut Vec<u8>,
     active: &Active,
     catalogue: &Catalogue,
     txns: &[Txn],
 ) -> Result<(), NoMemory>
-    ensures { OnOk result (text.new.items ≡ text.old.items ++ phase_members catalogue.now txns.now active.now) }
+    ensures { OnOk result (out.new.items ≡ out.old.items ++ phase_members catalogue.now txns.now active.now) }
 {
-    put_phase(text, phase_word(active.phase))?;
-    tell_some(text, b"lacks", &active.lacks, catalogue, txns)
+    put_phase(out, phase_word(active.phase))?;
+    tell_some(out, b"lacks", &active.lacks, catalogue, txns)
 }
 
 impl ToJson for Active {
     ghost json = { active_json };
 
     #[tactic(auto, using(crate::proofs::Members::object_of_two))]
-    fn tell(
-        &self,
-        text: &mut Vec<u8>,
-        catalogue: &Catalogue,
-        txns: &[Txn],
-    ) -> Result<(), NoMemory> {
-        tell_first(text, b"class", &self.class, catalogue, txns)?;
-        put_active_attempt(text, self, txns)?;
-        put_active_phase(text, self, catalogue, txns)?;
-        put(text, b"}")
+    fn tell(&self, out: &mut Vec<u8>, catalogue: &Catalogue, txns: &[Txn]) -> Result<(), NoMemory> {
+        tell_first(out, b"class", &self.class, catalogue, txns)?;
+        put_active_attempt(out, self, txns)?;
+        put_active_phase(out, self, catalogue, txns)?;
+        put(out, b"}")
     }
 }
 
 impl ToJson for Question {
     ghost json = { question_json };
 
-    fn tell(
-        &self,
-        text: &mut Vec<u8>,
-        catalogue: &Catalogue,
-        txns: &[Txn],
-    ) -> Result<(), NoMemory> {
-        tell_triple(text, &self.class, &self.from, &self.time, catalogue, txns)
+    fn tell(&self, out: &mut Vec<u8>, catalogue: &Catalogue, txns: &[Txn]) -> Result<(), NoMemory> {
+        tell_triple(out, &self.class, &self.from, &self.time, catalogue, txns)
     }
 }
 
@@ -99,147 +89,137 @@ impl ToJson for Head {
     ghost json = { head_json };
 
     #[tactic(auto, using(crate::proofs::Members::object_put))]
-    fn tell(
-        &self,
-        text: &mut Vec<u8>,
-        catalogue: &Catalogue,
-        txns: &[Txn],
-    ) -> Result<(), NoMemory> {
+    fn tell(&self, out: &mut Vec<u8>, catalogue: &Catalogue, txns: &[Txn]) -> Result<(), NoMemory> {
         match self {
             Head::Waits { class, conds } => {
-                tell_first(text, b"class", class, catalogue, txns)?;
-                tell_list(text, b"waits", conds.as_slice(), catalogue, txns)?;
-                put(text, b"}")
+                tell_first(out, b"class", class, catalogue, txns)?;
+                tell_list(out, b"waits", conds.as_slice(), catalogue, txns)?;
+                put(out, b"}")
             }
             Head::Held { class, readers } => {
-                tell_first(text, b"class", class, catalogue, txns)?;
-                tell_list(text, b"held", readers.as_slice(), catalogue, txns)?;
-                put(text, b"}")
+                tell_first(out, b"class", class, catalogue, txns)?;
+                tell_list(out, b"held", readers.as_slice(), catalogue, txns)?;
+                put(out, b"}")
             }
         }
     }
 }
 
-fn put_tm_flags(text: &mut Vec<u8>, state: &TmState) -> Result<(), NoMemory>
-    ensures { OnOk result (text.new.items ≡ text.old.items ++ tm_flags state.now) }
+fn put_tm_flags(out: &mut Vec<u8>, state: &TmState) -> Result<(), NoMemory>
+    ensures { OnOk result (out.new.items ≡ out.old.items ++ tm_flags state.now) }
 {
-    put_also(text, b"clock", state.clock)?;
-    put_if(text, b"hold", state.on_hold)?;
-    put_if(text, b"owes", state.owes_held)
+    put_also(out, b"clock", state.clock)?;
+    put_if(out, b"hold", state.on_hold)?;
+    put_if(out, b"owes", state.owes_held)
 }
 
 fn put_tm_lists(
-    text: &mut Vec<u8>,
+    out: &mut Vec<u8>,
     state: &TmState,
     catalogue: &Catalogue,
     txns: &[Txn],
 ) -> Result<(), NoMemory>
-    ensures { OnOk result (text.new.items ≡ text.old.items ++ tm_lists catalogue.now txns.now state.now) }
+    ensures { OnOk result (out.new.items ≡ out.old.items ++ tm_lists catalogue.now txns.now state.now) }
 {
-    tell_some(text, b"asks", &state.asks, catalogue, txns)?;
-    tell_some(text, b"active", &state.active, catalogue, txns)
+    tell_some(out, b"asks", &state.asks, catalogue, txns)?;
+    tell_some(out, b"active", &state.active, catalogue, txns)
 }
 
-fn put_u_stage(text: &mut Vec<u8>, state: &UState) -> Result<(), NoMemory>
-    ensures { OnOk result (text.new.items ≡ text.old.items ++ u_stage state.now) }
+fn put_u_stage(out: &mut Vec<u8>, state: &UState) -> Result<(), NoMemory>
+    ensures { OnOk result (out.new.items ≡ out.old.items ++ u_stage state.now) }
 {
-    put_also(text, b"clock", state.clock)?;
-    put_phase(text, stage_word(state.stage))
+    put_also(out, b"clock", state.clock)?;
+    put_phase(out, stage_word(state.stage))
 }
 
 fn put_u_lists(
-    text: &mut Vec<u8>,
+    out: &mut Vec<u8>,
     state: &UState,
     catalogue: &Catalogue,
     txns: &[Txn],
 ) -> Result<(), NoMemory>
-    ensures { OnOk result (text.new.items ≡ text.old.items ++ u_lists catalogue.now txns.now state.now) }
+    ensures { OnOk result (out.new.items ≡ out.old.items ++ u_lists catalogue.now txns.now state.now) }
 {
-    tell_some(text, b"lacks", &state.lacks, catalogue, txns)?;
-    tell_some(text, b"active", &state.active, catalogue, txns)
+    tell_some(out, b"lacks", &state.lacks, catalogue, txns)?;
+    tell_some(out, b"active", &state.active, catalogue, txns)
 }
 
 fn put_dm_members(
-    text: &mut Vec<u8>,
+    out: &mut Vec<u8>,
     state: &DmState,
     catalogue: &Catalogue,
     txns: &[Txn],
 ) -> Result<(), NoMemory>
-    ensures { OnOk result (text.new.items ≡ text.old.items ++ dm_members catalogue.now txns.now state.now) }
+    ensures { OnOk result (out.new.items ≡ out.old.items ++ dm_members catalogue.now txns.now state.now) }
 {
-    put_if(text, b"down", state.is_down)?;
-    tell_some(text, b"heads", &state.heads, catalogue, txns)
+    put_if(out, b"down", state.is_down)?;
+    tell_some(out, b"heads", &state.heads, catalogue, txns)
 }
 
 #[tactic(auto, using(crate::proofs::Members::object_of_two))]
 fn put_u(
-    text: &mut Vec<u8>,
+    out: &mut Vec<u8>,
     state: &UState,
     catalogue: &Catalogue,
     txns: &[Txn],
 ) -> Result<(), NoMemory>
     ensures { OnOk result (
-        text.new.items
-        ≡ text.old.items
+        out.new.items
+        ≡ out.old.items
         ++ standing catalogue.now txns.now sites.U
         (u_stage state.now ++ u_lists catalogue.now txns.now state.now)) }
 {
-    tell_first(text, b"at", &Site::U, catalogue, txns)?;
-    put_u_stage(text, state)?;
-    put_u_lists(text, state, catalogue, txns)?;
-    put(text, b"}")
+    tell_first(out, b"at", &Site::U, catalogue, txns)?;
+    put_u_stage(out, state)?;
+    put_u_lists(out, state, catalogue, txns)?;
+    put(out, b"}")
 }
 
 #[tactic(auto, using(crate::proofs::Members::object_of_two))]
 fn put_tm(
-    text: &mut Vec<u8>,
+    out: &mut Vec<u8>,
     state: &TmState,
     catalogue: &Catalogue,
     txns: &[Txn],
 ) -> Result<(), NoMemory>
     ensures { OnOk result (
-        text.new.items
-        ≡ text.old.items
+        out.new.items
+        ≡ out.old.items
         ++ standing catalogue.now txns.now (sites.T state.now.tm)
         (tm_flags state.now ++ tm_lists catalogue.now txns.now state.now)) }
 {
-    tell_first(text, b"at", &Site::T(state.tm), catalogue, txns)?;
-    put_tm_flags(text, state)?;
-    put_tm_lists(text, state, catalogue, txns)?;
-    put(text, b"}")
+    tell_first(out, b"at", &Site::T(state.tm), catalogue, txns)?;
+    put_tm_flags(out, state)?;
+    put_tm_lists(out, state, catalogue, txns)?;
+    put(out, b"}")
 }
 
 #[tactic(auto, using(crate::proofs::Members::object_put))]
 fn put_dm(
-    text: &mut Vec<u8>,
+    out: &mut Vec<u8>,
     state: &DmState,
     catalogue: &Catalogue,
     txns: &[Txn],
 ) -> Result<(), NoMemory>
     ensures { OnOk result (
-        text.new.items
-        ≡ text.old.items
+        out.new.items
+        ≡ out.old.items
         ++ standing catalogue.now txns.now (sites.D state.now.dm)
         (dm_members catalogue.now txns.now state.now)) }
 {
-    tell_first(text, b"at", &Site::D(state.dm), catalogue, txns)?;
-    put_dm_members(text, state, catalogue, txns)?;
-    put(text, b"}")
+    tell_first(out, b"at", &Site::D(state.dm), catalogue, txns)?;
+    put_dm_members(out, state, catalogue, txns)?;
+    put(out, b"}")
 }
 
 impl ToJson for SiteState {
     ghost json = { site_state_json };
 
-    fn tell(
-        &self,
-        text: &mut Vec<u8>,
-        catalogue: &Catalogue,
-        txns: &[Txn],
-    ) -> Result<(), NoMemory> {
+    fn tell(&self, out: &mut Vec<u8>, catalogue: &Catalogue, txns: &[Txn]) -> Result<(), NoMemory> {
         match self {
-            SiteState::U(state) => put_u(text, state, catalogue, txns),
-            SiteState::T(state) => put_tm(text, state, catalogue, txns),
-            SiteState::D(state) => put_dm(text, state, catalogue, txns),
+            SiteState::U(state) => put_u(out, state, catalogue, txns),
+            SiteState::T(state) => put_tm(out, state, catalogue, txns),
+            SiteState::D(state) => put_dm(out, state, catalogue, txns),
         }
     }
 }

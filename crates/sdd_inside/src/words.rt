@@ -23,11 +23,11 @@ impl ToJson for u32 {
 
     fn tell(
         &self,
-        text: &mut Vec<u8>,
+        out: &mut Vec<u8>,
         _catalogue: &Catalogue,
         _txns: &[Txn],
     ) -> Result<(), NoMemory> {
-        put_count(text, u64::from(*self))
+        put_count(out, u64::from(*self))
     }
 }
 
@@ -36,11 +36,11 @@ impl ToJson for Ts {
 
     fn tell(
         &self,
-        text: &mut Vec<u8>,
+        out: &mut Vec<u8>,
         _catalogue: &Catalogue,
         _txns: &[Txn],
     ) -> Result<(), NoMemory> {
-        put_count(text, self.0)
+        put_count(out, self.0)
     }
 }
 
@@ -49,11 +49,11 @@ impl ToJson for ClassNo {
 
     fn tell(
         &self,
-        text: &mut Vec<u8>,
+        out: &mut Vec<u8>,
         catalogue: &Catalogue,
         _txns: &[Txn],
     ) -> Result<(), NoMemory> {
-        put_quoted(text, class_word(catalogue, *self))
+        put_quoted(out, class_word(catalogue, *self))
     }
 }
 
@@ -62,11 +62,11 @@ impl ToJson for FragNo {
 
     fn tell(
         &self,
-        text: &mut Vec<u8>,
+        out: &mut Vec<u8>,
         catalogue: &Catalogue,
         _txns: &[Txn],
     ) -> Result<(), NoMemory> {
-        put_quoted(text, fragment_name(catalogue, *self))
+        put_quoted(out, fragment_name(catalogue, *self))
     }
 }
 
@@ -75,20 +75,20 @@ impl ToJson for TxnNo {
 
     fn tell(
         &self,
-        text: &mut Vec<u8>,
+        out: &mut Vec<u8>,
         _catalogue: &Catalogue,
         txns: &[Txn],
     ) -> Result<(), NoMemory> {
-        put_quoted(text, txn_name(txns, *self))
+        put_quoted(out, txn_name(txns, *self))
     }
 }
 
 /// Puts the word of a module: a letter and its number.
-fn put_module(text: &mut Vec<u8>, number: u8) -> Result<(), NoMemory>
-    ensures { OnOk result (text.new.items ≡ text.old.items ++ (escaped (decimal number) ++ 34 ∷ [])) }
+fn put_module(out: &mut Vec<u8>, number: u8) -> Result<(), NoMemory>
+    ensures { OnOk result (out.new.items ≡ out.old.items ++ (escaped (decimal number) ++ 34 ∷ [])) }
 {
-    put_escaped_count(text, u64::from(number))?;
-    put(text, b"\"")
+    put_escaped_count(out, u64::from(number))?;
+    put(out, b"\"")
 }
 
 impl ToJson for DmNo {
@@ -96,12 +96,12 @@ impl ToJson for DmNo {
 
     fn tell(
         &self,
-        text: &mut Vec<u8>,
+        out: &mut Vec<u8>,
         _catalogue: &Catalogue,
         _txns: &[Txn],
     ) -> Result<(), NoMemory> {
-        put(text, b"\"D")?;
-        put_module(text, self.0)
+        put(out, b"\"D")?;
+        put_module(out, self.0)
     }
 }
 
@@ -110,19 +110,19 @@ impl ToJson for Site {
 
     fn tell(
         &self,
-        text: &mut Vec<u8>,
+        out: &mut Vec<u8>,
         _catalogue: &Catalogue,
         _txns: &[Txn],
     ) -> Result<(), NoMemory> {
         match self {
-            Site::U => put(text, b"\"U\""),
+            Site::U => put(out, b"\"U\""),
             Site::T(tm) => {
-                put(text, b"\"T")?;
-                put_module(text, tm.0)
+                put(out, b"\"T")?;
+                put_module(out, tm.0)
             }
             Site::D(dm) => {
-                put(text, b"\"D")?;
-                put_module(text, dm.0)
+                put(out, b"\"D")?;
+                put_module(out, dm.0)
             }
         }
     }
@@ -131,18 +131,18 @@ impl ToJson for Site {
 /// Puts an attempt of a transaction.
 #[tactic(auto, using(crate::proofs::Strings::attempt_put))]
 pub(crate) fn put_attempt(
-    text: &mut Vec<u8>,
+    out: &mut Vec<u8>,
     txns: &[Txn],
     txn: TxnNo,
     attempt: u64,
 ) -> Result<(), NoMemory>
-    ensures { OnOk result (text.new.items ≡ text.old.items ++ attempt_json txns.now txn attempt) }
+    ensures { OnOk result (out.new.items ≡ out.old.items ++ attempt_json txns.now txn attempt) }
 {
-    put(text, b"\"")?;
-    put_escaped(text, txn_name(txns, txn))?;
-    put(text, b"#")?;
-    put_escaped_count(text, attempt)?;
-    put(text, b"\"")
+    put(out, b"\"")?;
+    put_escaped(out, txn_name(txns, txn))?;
+    put(out, b"#")?;
+    put_escaped_count(out, attempt)?;
+    put(out, b"\"")
 }
 
 impl ToJson for i64 {
@@ -150,21 +150,21 @@ impl ToJson for i64 {
 
     fn tell(
         &self,
-        text: &mut Vec<u8>,
+        out: &mut Vec<u8>,
         _catalogue: &Catalogue,
         _txns: &[Txn],
     ) -> Result<(), NoMemory> {
         let mut buffer = Buffer::new();
-        put_quoted(text, buffer.format(*self).as_bytes())
+        put_quoted(out, buffer.format(*self).as_bytes())
     }
 }
 
 #[tactic(auto, using(crate::proofs::Strings::values_put))]
-fn put_row_words(text: &mut Vec<u8>, first: &Value, rest: &[Value]) -> Result<(), NoMemory>
-    ensures { OnOk result (text.new.items ≡ text.old.items ++ line_bytes (map value_word (first.now ∷ rest.now))) }
+fn put_row_words(out: &mut Vec<u8>, first: &Value, rest: &[Value]) -> Result<(), NoMemory>
+    ensures { OnOk result (out.new.items ≡ out.old.items ++ line_bytes (map value_word (first.now ∷ rest.now))) }
 {
-    put_value(text, first)?;
-    put_values(text, rest)
+    put_value(out, first)?;
+    put_values(out, rest)
 }
 
 /// The values of a row as a workload spells them.
@@ -184,27 +184,22 @@ impl ToJson for Row {
 
     fn tell(
         &self,
-        text: &mut Vec<u8>,
+        out: &mut Vec<u8>,
         _catalogue: &Catalogue,
         _txns: &[Txn],
     ) -> Result<(), NoMemory> {
-        let words = row_words(*text.allocator(), self.as_slice())?;
-        put_quoted(text, words.as_slice())
+        let words = row_words(*out.allocator(), self.as_slice())?;
+        put_quoted(out, words.as_slice())
     }
 }
 
 impl ToJson for Option<Row> {
     ghost json = { row_or_null_json };
 
-    fn tell(
-        &self,
-        text: &mut Vec<u8>,
-        catalogue: &Catalogue,
-        txns: &[Txn],
-    ) -> Result<(), NoMemory> {
+    fn tell(&self, out: &mut Vec<u8>, catalogue: &Catalogue, txns: &[Txn]) -> Result<(), NoMemory> {
         match self {
-            Some(row) => row.tell(text, catalogue, txns),
-            None => put(text, b"null"),
+            Some(row) => row.tell(out, catalogue, txns),
+            None => put(out, b"null"),
         }
     }
 }
@@ -212,25 +207,15 @@ impl ToJson for Option<Row> {
 impl ToJson for Cond {
     ghost json = { cond_json };
 
-    fn tell(
-        &self,
-        text: &mut Vec<u8>,
-        catalogue: &Catalogue,
-        txns: &[Txn],
-    ) -> Result<(), NoMemory> {
-        tell_pair(text, &self.class, &self.time, catalogue, txns)
+    fn tell(&self, out: &mut Vec<u8>, catalogue: &Catalogue, txns: &[Txn]) -> Result<(), NoMemory> {
+        tell_pair(out, &self.class, &self.time, catalogue, txns)
     }
 }
 
 impl ToJson for Change {
     ghost json = { change_json };
 
-    fn tell(
-        &self,
-        text: &mut Vec<u8>,
-        catalogue: &Catalogue,
-        txns: &[Txn],
-    ) -> Result<(), NoMemory> {
-        tell_triple(text, &self.frag, &self.key, &self.row, catalogue, txns)
+    fn tell(&self, out: &mut Vec<u8>, catalogue: &Catalogue, txns: &[Txn]) -> Result<(), NoMemory> {
+        tell_triple(out, &self.frag, &self.key, &self.row, catalogue, txns)
     }
 }

@@ -18,47 +18,47 @@ pub struct Made {
     pub workload: Bytes,
 }
 
-fn put_parts(text: &mut Vec<u8>) -> Result<(), NoMemory>
-    ensures { OnOk result (text.new.items ≡ text.old.items ++ parts_text) }
+fn put_parts(out: &mut Vec<u8>) -> Result<(), NoMemory>
+    ensures { OnOk result (out.new.items ≡ out.old.items ++ parts_text) }
 {
-    put(text, b"tms = 3\ndms = 3\n")?;
+    put(out, b"tms = 3\ndms = 3\n")?;
     put(
-        text,
+        out,
         b"[[relation]]\nname = \"account\"\ncolumns = [{name = \"id\", kind = \"int\"}, {name = \"owner\", kind = \"text\"}, {name = \"bal\", kind = \"int\"}]\nkey = \"id\"\n",
     )?;
     put(
-        text,
+        out,
         b"[[fragment]]\nname = \"east\"\nrelation = \"account\"\nto = 999\ncopies = [1, 3]\n",
     )?;
     put(
-        text,
+        out,
         b"[[fragment]]\nname = \"west\"\nrelation = \"account\"\nfrom = 1000\ncopies = [2, 3]\n",
     )
 }
 
-fn put_payments(text: &mut Vec<u8>) -> Result<(), NoMemory>
-    ensures { OnOk result (text.new.items ≡ text.old.items ++ payments_text) }
+fn put_payments(out: &mut Vec<u8>) -> Result<(), NoMemory>
+    ensures { OnOk result (out.new.items ≡ out.old.items ++ payments_text) }
 {
     put(
-        text,
+        out,
         b"[[class]]\nname = \"eastpay\"\ntm = 1\nreads = [{fragment = \"east\", at = 1}]\nwrites = [\"east\"]\n",
     )?;
     put(
-        text,
+        out,
         b"[[class]]\nname = \"westpay\"\ntm = 2\nreads = [{fragment = \"west\", at = 2}]\nwrites = [\"west\"]\n",
     )
 }
 
-fn put_classes(text: &mut Vec<u8>) -> Result<(), NoMemory>
-    ensures { OnOk result (text.new.items ≡ text.old.items ++ classes_text) }
+fn put_classes(out: &mut Vec<u8>) -> Result<(), NoMemory>
+    ensures { OnOk result (out.new.items ≡ out.old.items ++ classes_text) }
 {
-    put_payments(text)?;
+    put_payments(out)?;
     put(
-        text,
+        out,
         b"[[class]]\nname = \"book\"\ntm = 3\nreads = [{fragment = \"east\", at = 3}, {fragment = \"west\", at = 3}]\n",
     )?;
     put(
-        text,
+        out,
         b"[[class]]\nname = \"move\"\ntm = 3\nreads = [{fragment = \"east\", at = 1}, {fragment = \"west\", at = 2}]\nwrites = [\"east\", \"west\"]\n",
     )
 }

@@ -72,29 +72,29 @@ pub fn summary_of(transactions: u32, history: &[(u32, Rec)], events: u32) -> Sum
 }
 
 /// A line with a count.
-fn put_line(text: &mut Vec<u8>, word: &[u8], count: u64) -> Result<(), NoMemory>
-    ensures { OnOk result (text.new.items ≡ text.old.items ++ count_line word.now count) }
+fn put_line(out: &mut Vec<u8>, word: &[u8], count: u64) -> Result<(), NoMemory>
+    ensures { OnOk result (out.new.items ≡ out.old.items ++ count_line word.now count) }
 {
-    put(text, word)?;
-    put(text, b" ")?;
-    put_count(text, count)?;
-    put(text, b"\n")
+    put(out, word)?;
+    put(out, b" ")?;
+    put_count(out, count)?;
+    put(out, b"\n")
 }
 
-fn put_first_counts(text: &mut Vec<u8>, summary: &Summary) -> Result<(), NoMemory>
-    ensures { OnOk result (text.new.items ≡ text.old.items ++ first_counts summary.now) }
+fn put_first_counts(out: &mut Vec<u8>, summary: &Summary) -> Result<(), NoMemory>
+    ensures { OnOk result (out.new.items ≡ out.old.items ++ first_counts summary.now) }
 {
-    put_line(text, b"transactions", u64::from(summary.transactions))?;
-    put_line(text, b"committed", summary.committed)?;
-    put_line(text, b"rejections", summary.rejections)
+    put_line(out, b"transactions", u64::from(summary.transactions))?;
+    put_line(out, b"committed", summary.committed)?;
+    put_line(out, b"rejections", summary.rejections)
 }
 
-fn put_last_counts(text: &mut Vec<u8>, summary: &Summary) -> Result<(), NoMemory>
-    ensures { OnOk result (text.new.items ≡ text.old.items ++ last_counts summary.now) }
+fn put_last_counts(out: &mut Vec<u8>, summary: &Summary) -> Result<(), NoMemory>
+    ensures { OnOk result (out.new.items ≡ out.old.items ++ last_counts summary.now) }
 {
-    put_line(text, b"waits", summary.waits)?;
-    put_line(text, b"events", u64::from(summary.events))?;
-    put(text, b"end\n")
+    put_line(out, b"waits", summary.waits)?;
+    put_line(out, b"events", u64::from(summary.events))?;
+    put(out, b"end\n")
 }
 
 /// The text of a summary.

@@ -113,43 +113,43 @@ impl<'a> Commits<'a> {
 }
 
 /// The names of transactions, each after a space.
-fn put_names(text: &mut Vec<u8>, txns: &[Txn], order: &[TxnNo]) -> Result<(), NoMemory>
-    ensures { OnOk result (text.new.items
-        ≡ text.old.items ++ flat_map spaced (names_of txns.now order.now)) }
+fn put_names(out: &mut Vec<u8>, txns: &[Txn], order: &[TxnNo]) -> Result<(), NoMemory>
+    ensures { OnOk result (out.new.items
+        ≡ out.old.items ++ flat_map spaced (names_of txns.now order.now)) }
 {
     'order: for txn in order {
-        put_txn(text, txns, *txn)?;
+        put_txn(out, txns, *txn)?;
     }
     Ok(())
 }
 
 /// The line of the order.
-pub fn put_order(text: &mut Vec<u8>, txns: &[Txn], order: &[TxnNo]) -> Result<(), NoMemory>
-    ensures { OnOk result (text.new.items ≡ text.old.items ++ order_line txns.now order.now) }
+pub fn put_order(out: &mut Vec<u8>, txns: &[Txn], order: &[TxnNo]) -> Result<(), NoMemory>
+    ensures { OnOk result (out.new.items ≡ out.old.items ++ order_line txns.now order.now) }
 {
-    put(text, b"order")?;
-    put_names(text, txns, order)?;
-    put(text, b"\n")
+    put(out, b"order")?;
+    put_names(out, txns, order)?;
+    put(out, b"\n")
 }
 
-fn add_reply(text: &mut Pages, name: &[u8], reply: &PrintedReply) -> Result<(), NoMemory>
-    ensures { OnOk result (text.new ≡ text.old ++ reply_lines name.now reply.now) }
+fn add_reply(out: &mut Pages, name: &[u8], reply: &PrintedReply) -> Result<(), NoMemory>
+    ensures { OnOk result (out.new ≡ out.old ++ reply_lines name.now reply.now) }
 {
-    text.put(b"reply ")?;
-    text.put(name)?;
-    text.share(reply.lines())
+    out.put(b"reply ")?;
+    out.put(name)?;
+    out.share(reply.lines())
 }
 
 fn add_reply_of(
-    text: &mut Pages,
+    out: &mut Pages,
     txns: &[Txn],
     commits: &Commits,
     txn: TxnNo,
 ) -> Result<(), NoMemory>
-    ensures { OnOk result (text.new ≡ text.old ++ reply_of txns.now commits.now txn) }
+    ensures { OnOk result (out.new ≡ out.old ++ reply_of txns.now commits.now txn) }
 {
     match commits.first_commit(txn) {
-        Some(reported) => add_reply(text, txn_name(txns, txn), reported.reply),
+        Some(reported) => add_reply(out, txn_name(txns, txn), reported.reply),
         None => Ok(()),
     }
 }
@@ -157,47 +157,47 @@ fn add_reply_of(
 /// The replies, along the order.
 #[tactic(auto, using(crate::proofs::Lists::written))]
 pub fn add_replies(
-    text: &mut Pages,
+    out: &mut Pages,
     txns: &[Txn],
     commits: &Commits,
     order: &[TxnNo],
 ) -> Result<(), NoMemory>
     ensures { OnOk result (
-        text.new ≡ text.old ++ flat_map (reply_of txns.now commits.now) order.now) }
+        out.new ≡ out.old ++ flat_map (reply_of txns.now commits.now) order.now) }
 {
     'order: for txn in order {
-        add_reply_of(text, txns, commits, *txn)?;
+        add_reply_of(out, txns, commits, *txn)?;
     }
     Ok(())
 }
 
 /// How many values and rows were shipped, and the end of the line.
-fn put_numbers(text: &mut Vec<u8>, values: u128, rows: u128) -> Result<(), NoMemory>
-    ensures { OnOk result (text.new.items ≡ text.old.items ++ numbers_end values rows) }
+fn put_numbers(out: &mut Vec<u8>, values: u128, rows: u128) -> Result<(), NoMemory>
+    ensures { OnOk result (out.new.items ≡ out.old.items ++ numbers_end values rows) }
 {
-    put_large_number(text, values)?;
-    put_large_number(text, rows)?;
-    put(text, b"\n")
+    put_large_number(out, values)?;
+    put_large_number(out, rows)?;
+    put(out, b"\n")
 }
 
-fn put_shipped(text: &mut Vec<u8>, name: &[u8], reported: &ReportedCommit) -> Result<(), NoMemory>
-    ensures { OnOk result (text.new.items ≡ text.old.items ++ shipped_line name.now reported.now) }
+fn put_shipped(out: &mut Vec<u8>, name: &[u8], reported: &ReportedCommit) -> Result<(), NoMemory>
+    ensures { OnOk result (out.new.items ≡ out.old.items ++ shipped_line name.now reported.now) }
 {
-    put(text, b"shipped")?;
-    put_word(text, name)?;
-    put_numbers(text, reported.values, reported.rows)
+    put(out, b"shipped")?;
+    put_word(out, name)?;
+    put_numbers(out, reported.values, reported.rows)
 }
 
 fn put_shipped_of(
-    text: &mut Vec<u8>,
+    out: &mut Vec<u8>,
     txns: &[Txn],
     commits: &Commits,
     txn: TxnNo,
 ) -> Result<(), NoMemory>
-    ensures { OnOk result (text.new.items ≡ text.old.items ++ shipped_of txns.now commits.now txn) }
+    ensures { OnOk result (out.new.items ≡ out.old.items ++ shipped_of txns.now commits.now txn) }
 {
     match commits.first_commit(txn) {
-        Some(reported) => put_shipped(text, txn_name(txns, txn), reported),
+        Some(reported) => put_shipped(out, txn_name(txns, txn), reported),
         None => Ok(()),
     }
 }
@@ -205,15 +205,15 @@ fn put_shipped_of(
 /// What was shipped, along the order.
 #[tactic(auto, using(crate::proofs::Lists::written))]
 pub fn put_all_shipped(
-    text: &mut Vec<u8>,
+    out: &mut Vec<u8>,
     txns: &[Txn],
     commits: &Commits,
     order: &[TxnNo],
 ) -> Result<(), NoMemory>
-    ensures { OnOk result (text.new.items ≡ text.old.items ++ flat_map (shipped_of txns.now commits.now) order.now) }
+    ensures { OnOk result (out.new.items ≡ out.old.items ++ flat_map (shipped_of txns.now commits.now) order.now) }
 {
     'order: for txn in order {
-        put_shipped_of(text, txns, commits, *txn)?;
+        put_shipped_of(out, txns, commits, *txn)?;
     }
     Ok(())
 }

@@ -22,50 +22,50 @@ pub struct CopyTable {
 pub type CopyTables = Listed<CopyTable>;
 
 /// How many rows there are, and the rows.
-fn put_table(text: &mut Vec<u8>, rows: &[Row]) -> Result<(), NoMemory>
+fn put_table(out: &mut Vec<u8>, rows: &[Row]) -> Result<(), NoMemory>
     ensures { OnOk result (
-        text.new.items
-        ≡ text.old.items ++ (spaced (decimal (length rows.now)) ++ (10 ∷ flat_map row_line rows.now))) }
+        out.new.items
+        ≡ out.old.items ++ (spaced (decimal (length rows.now)) ++ (10 ∷ flat_map row_line rows.now))) }
 {
-    put_number(text, rows.len() as u64)?;
-    put(text, b"\n")?;
-    put_rows(text, rows)
+    put_number(out, rows.len() as u64)?;
+    put(out, b"\n")?;
+    put_rows(out, rows)
 }
 
 /// The place of a copy.
 fn put_place(
-    text: &mut Vec<u8>,
+    out: &mut Vec<u8>,
     catalogue: &Catalogue,
     dm: DmNo,
     frag: FragNo,
 ) -> Result<(), NoMemory>
     ensures { OnOk result (
-        text.new.items
-        ≡ text.old.items ++ place_words catalogue.now dm.0 frag.0) }
+        out.new.items
+        ≡ out.old.items ++ place_words catalogue.now dm.0 frag.0) }
 {
-    put(text, b"copy")?;
-    put_module(text, dm)?;
-    put_fragment(text, catalogue, frag)
+    put(out, b"copy")?;
+    put_module(out, dm)?;
+    put_fragment(out, catalogue, frag)
 }
 
-fn put_copy(text: &mut Vec<u8>, catalogue: &Catalogue, table: &CopyTable) -> Result<(), NoMemory>
-    ensures { OnOk result (text.new.items ≡ text.old.items ++ copy_lines catalogue.now table.now) }
+fn put_copy(out: &mut Vec<u8>, catalogue: &Catalogue, table: &CopyTable) -> Result<(), NoMemory>
+    ensures { OnOk result (out.new.items ≡ out.old.items ++ copy_lines catalogue.now table.now) }
 {
-    put_place(text, catalogue, table.dm, table.frag)?;
-    put_table(text, table.rows.as_slice())
+    put_place(out, catalogue, table.dm, table.frag)?;
+    put_table(out, table.rows.as_slice())
 }
 
 /// The lines of copies.
 #[tactic(auto, using(crate::proofs::Lists::written))]
 pub fn put_copies(
-    text: &mut Vec<u8>,
+    out: &mut Vec<u8>,
     catalogue: &Catalogue,
     tables: &[CopyTable],
 ) -> Result<(), NoMemory>
-    ensures { OnOk result (text.new.items ≡ text.old.items ++ copies_lines catalogue.now tables.now) }
+    ensures { OnOk result (out.new.items ≡ out.old.items ++ copies_lines catalogue.now tables.now) }
 {
     'tables: for table in tables {
-        put_copy(text, catalogue, table)?;
+        put_copy(out, catalogue, table)?;
     }
     Ok(())
 }

@@ -72,64 +72,64 @@ pub fn under_way(site: Site, waits: &[Waiting]) -> Why
     }
 }
 
-fn put_waiting(text: &mut Vec<u8>, catalogue: &Catalogue, waiting: Waiting) -> Result<(), NoMemory>
-    ensures { OnOk result (text.new.items ≡ text.old.items ++ why_words catalogue.now (WaitsFor waiting)) }
+fn put_waiting(out: &mut Vec<u8>, catalogue: &Catalogue, waiting: Waiting) -> Result<(), NoMemory>
+    ensures { OnOk result (out.new.items ≡ out.old.items ++ why_words catalogue.now (WaitsFor waiting)) }
 {
-    put(text, b"waits")?;
-    put_module(text, waiting.dm)?;
-    put_class_time(text, catalogue, waiting.class, waiting.time)
+    put(out, b"waits")?;
+    put_module(out, waiting.dm)?;
+    put_class_time(out, catalogue, waiting.class, waiting.time)
 }
 
-fn put_why(text: &mut Vec<u8>, catalogue: &Catalogue, why: Why) -> Result<(), NoMemory>
-    ensures { OnOk result (text.new.items ≡ text.old.items ++ why_words catalogue.now why) }
+fn put_why(out: &mut Vec<u8>, catalogue: &Catalogue, why: Why) -> Result<(), NoMemory>
+    ensures { OnOk result (out.new.items ≡ out.old.items ++ why_words catalogue.now why) }
 {
     match why {
         Why::Queued(class, place) => {
-            put(text, b"queued")?;
-            put_class_number(text, catalogue, class, place)
+            put(out, b"queued")?;
+            put_class_number(out, catalogue, class, place)
         }
-        Why::Waits(waiting) => put_waiting(text, catalogue, waiting),
+        Why::Waits(waiting) => put_waiting(out, catalogue, waiting),
         Why::Underway(site) => {
-            put(text, b"underway")?;
-            put_site(text, site)
+            put(out, b"underway")?;
+            put_site(out, site)
         }
     }
 }
 
 /// What is waited for, after a space, and the end of the line.
-fn put_why_end(text: &mut Vec<u8>, catalogue: &Catalogue, why: Why) -> Result<(), NoMemory>
-    ensures { OnOk result (text.new.items ≡ text.old.items ++ (spaced (why_words catalogue.now why) ++ 10 ∷ [])) }
+fn put_why_end(out: &mut Vec<u8>, catalogue: &Catalogue, why: Why) -> Result<(), NoMemory>
+    ensures { OnOk result (out.new.items ≡ out.old.items ++ (spaced (why_words catalogue.now why) ++ 10 ∷ [])) }
 {
-    put(text, b" ")?;
-    put_why(text, catalogue, why)?;
-    put(text, b"\n")
+    put(out, b" ")?;
+    put_why(out, catalogue, why)?;
+    put(out, b"\n")
 }
 
 fn put_line(
-    text: &mut Vec<u8>,
+    out: &mut Vec<u8>,
     catalogue: &Catalogue,
     txns: &[Txn],
     pending: Pending,
 ) -> Result<(), NoMemory>
-    ensures { OnOk result (text.new.items ≡ text.old.items ++ pending_line catalogue.now txns.now pending) }
+    ensures { OnOk result (out.new.items ≡ out.old.items ++ pending_line catalogue.now txns.now pending) }
 {
-    put(text, b"pending")?;
-    put_txn(text, txns, pending.txn)?;
-    put_why_end(text, catalogue, pending.why)
+    put(out, b"pending")?;
+    put_txn(out, txns, pending.txn)?;
+    put_why_end(out, catalogue, pending.why)
 }
 
 /// The lines of pending transactions.
 #[tactic(auto, using(crate::proofs::Lists::written))]
 pub fn put_pending(
-    text: &mut Vec<u8>,
+    out: &mut Vec<u8>,
     catalogue: &Catalogue,
     txns: &[Txn],
     pending: &[Pending],
 ) -> Result<(), NoMemory>
-    ensures { OnOk result (text.new.items ≡ text.old.items ++ pending_lines catalogue.now txns.now pending.now) }
+    ensures { OnOk result (out.new.items ≡ out.old.items ++ pending_lines catalogue.now txns.now pending.now) }
 {
     'pending: for one in pending {
-        put_line(text, catalogue, txns, *one)?;
+        put_line(out, catalogue, txns, *one)?;
     }
     Ok(())
 }

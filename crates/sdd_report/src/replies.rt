@@ -9,10 +9,10 @@ use sdd_words::{put, put_outcome};
 /// what was written is not to be used.
 ///
 /// Costs time linear in the lines.
-pub fn put_reply(text: &mut Vec<u8>, name: &[u8], reply: &Reply) -> Result<(), NoMemory>
-    ensures { OnOk result (text.new.items ≡ text.old.items ++ reply_lines name.now reply.now) }
+pub fn put_reply(out: &mut Vec<u8>, name: &[u8], reply: &Reply) -> Result<(), NoMemory>
+    ensures { OnOk result (out.new.items ≡ out.old.items ++ reply_lines name.now reply.now) }
 {
-    put(text, b"reply ")?;
-    put(text, name)?;
-    put_outcome(text, reply)
+    put(out, b"reply ")?;
+    put(out, name)?;
+    put_outcome(out, reply)
 }

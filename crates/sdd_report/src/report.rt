@@ -52,35 +52,35 @@ impl<'a> Model for Report<'a> {
 }
 
 /// What stands before the replies: the trace, and the order.
-fn put_front(text: &mut Vec<u8>, report: &Report) -> Result<(), NoMemory>
+fn put_front(out: &mut Vec<u8>, report: &Report) -> Result<(), NoMemory>
     ensures { OnOk result (
-        text.new.items
-        ≡ text.old.items ++ (trace report.now.catalogue report.now.txns report.now.history
+        out.new.items
+        ≡ out.old.items ++ (trace report.now.catalogue report.now.txns report.now.history
         ++ order_line report.now.txns report.now.order)) }
 {
-    put_trace(text, report.catalogue, report.txns, report.history)?;
-    put_order(text, report.txns, report.order)
+    put_trace(out, report.catalogue, report.txns, report.history)?;
+    put_order(out, report.txns, report.order)
 }
 
 /// What follows the replies.
-fn put_end(text: &mut Vec<u8>, report: &Report, commits: &Commits) -> Result<(), NoMemory>
+fn put_end(out: &mut Vec<u8>, report: &Report, commits: &Commits) -> Result<(), NoMemory>
     requires { commits.now ≡ report.now.history }
-    ensures { OnOk result (text.new.items ≡ text.old.items ++ after_replies report.now) }
+    ensures { OnOk result (out.new.items ≡ out.old.items ++ after_replies report.now) }
 {
-    put_all_shipped(text, report.txns, commits, report.order)?;
-    put_pending(text, report.catalogue, report.txns, report.pending)?;
-    put_copies(text, report.catalogue, report.copies)?;
-    put(text, b"end\n")
+    put_all_shipped(out, report.txns, commits, report.order)?;
+    put_pending(out, report.catalogue, report.txns, report.pending)?;
+    put_copies(out, report.catalogue, report.copies)?;
+    put(out, b"end\n")
 }
 
 /// Adds what follows the replies. Where it is short it is copied, so that a short report is one page.
-fn add_end(text: &mut Pages, end: Vec<u8>) -> Result<(), NoMemory>
-    ensures { OnOk result (text.new ≡ text.old ++ end.items) }
+fn add_end(out: &mut Pages, end: Vec<u8>) -> Result<(), NoMemory>
+    ensures { OnOk result (out.new ≡ out.old ++ end.items) }
 {
     if end.len() < MIN_PAGE_BYTES {
-        return text.put(end.as_slice());
+        return out.put(end.as_slice());
     }
-    text.add(end)
+    out.add(end)
 }
 
 /// The text of the report. A number that names nothing has the empty name, and a transaction of the

@@ -5,44 +5,44 @@ ghost use Rattle.sdd_words.specs.Replies.{row_line, query_lines, queries_from, o
 use crate::write::{put, put_count, put_values};
 use sdd_base::{NoMemory, Reply, Row, RowList, Value};
 
-fn put_row(text: &mut Vec<u8>, row: &Row) -> Result<(), NoMemory>
-    ensures { OnOk result (text.new.items ≡ text.old.items ++ row_line row.now) }
+fn put_row(out: &mut Vec<u8>, row: &Row) -> Result<(), NoMemory>
+    ensures { OnOk result (out.new.items ≡ out.old.items ++ row_line row.now) }
 {
-    put(text, b"row")?;
-    put_values(text, row.as_slice())?;
-    text.push(b'\n')?;
+    put(out, b"row")?;
+    put_values(out, row.as_slice())?;
+    out.push(b'\n')?;
     Ok(())
 }
 
 /// Puts the lines of rows. Costs time linear in them.
 #[tactic(auto, using(crate::proofs::Written::item_written, crate::proofs::Written::items_written))]
-pub fn put_rows(text: &mut Vec<u8>, rows: &[Row]) -> Result<(), NoMemory>
-    ensures { OnOk result (text.new.items ≡ text.old.items ++ flat_map row_line rows.now) }
+pub fn put_rows(out: &mut Vec<u8>, rows: &[Row]) -> Result<(), NoMemory>
+    ensures { OnOk result (out.new.items ≡ out.old.items ++ flat_map row_line rows.now) }
 {
     'rows: for row in rows {
-        put_row(text, row)?;
+        put_row(out, row)?;
     }
     Ok(())
 }
 
 /// The answer of the query with this number.
-fn put_query(text: &mut Vec<u8>, number: usize, rows: &RowList) -> Result<(), NoMemory>
-    ensures { OnOk result (text.new.items ≡ text.old.items ++ query_lines number rows.now) }
+fn put_query(out: &mut Vec<u8>, number: usize, rows: &RowList) -> Result<(), NoMemory>
+    ensures { OnOk result (out.new.items ≡ out.old.items ++ query_lines number rows.now) }
 {
-    put(text, b"query ")?;
-    put_count(text, number as u64)?;
-    put(text, b" ")?;
-    put_count(text, rows.as_slice().len() as u64)?;
-    put(text, b"\n")?;
-    put_rows(text, rows.as_slice())
+    put(out, b"query ")?;
+    put_count(out, number as u64)?;
+    put(out, b" ")?;
+    put_count(out, rows.as_slice().len() as u64)?;
+    put(out, b"\n")?;
+    put_rows(out, rows.as_slice())
 }
 
 #[tactic(auto, using(crate::proofs::Queries::queries_go_on, crate::proofs::Queries::queries_end))]
-fn put_queries(text: &mut Vec<u8>, answers: &[RowList]) -> Result<(), NoMemory>
-    ensures { OnOk result (text.new.items ≡ text.old.items ++ queries_from 1 answers.now) }
+fn put_queries(out: &mut Vec<u8>, answers: &[RowList]) -> Result<(), NoMemory>
+    ensures { OnOk result (out.new.items ≡ out.old.items ++ queries_from 1 answers.now) }
 {
     'queries: for (i, rows) in answers.iter().enumerate() {
-        put_query(text, i + 1, rows)?;
+        put_query(out, i + 1, rows)?;
     }
     Ok(())
 }
@@ -98,15 +98,15 @@ pub fn room_for_outcome(reply: &Reply) -> usize {
 }
 
 /// Puts what became of a transaction, from behind its name on. Costs time linear in the lines.
-pub fn put_outcome(text: &mut Vec<u8>, reply: &Reply) -> Result<(), NoMemory>
-    ensures { OnOk result (text.new.items ≡ text.old.items ++ outcome_lines reply.now) }
+pub fn put_outcome(out: &mut Vec<u8>, reply: &Reply) -> Result<(), NoMemory>
+    ensures { OnOk result (out.new.items ≡ out.old.items ++ outcome_lines reply.now) }
 {
     match reply {
         Reply::Rows(answers) => {
-            put(text, b" ok\n")?;
-            put_queries(text, answers.as_slice())
+            put(out, b" ok\n")?;
+            put_queries(out, answers.as_slice())
         }
-        Reply::Overflow => put(text, b" overflow\n"),
-        Reply::TooMany => put(text, b" toomany\n"),
+        Reply::Overflow => put(out, b" overflow\n"),
+        Reply::TooMany => put(out, b" toomany\n"),
     }
 }

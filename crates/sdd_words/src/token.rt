@@ -34,11 +34,11 @@ fn leads_on(is_behind: bool, byte: u8) -> bool
     !is_behind && byte == b'\\'
 }
 
-fn add_byte(text: &mut Vec<u8>, leads_on: bool, byte: u8) -> Result<(), NoMemory>
-    ensures { OnOk result (text.new.items ≡ (if leads_on then text.old.items else text.old.items ++ byte ∷ [])) }
+fn add_byte(out: &mut Vec<u8>, leads_on: bool, byte: u8) -> Result<(), NoMemory>
+    ensures { OnOk result (out.new.items ≡ (if leads_on then out.old.items else out.old.items ++ byte ∷ [])) }
 {
     if !leads_on {
-        text.push(byte)?;
+        out.push(byte)?;
     }
     Ok(())
 }

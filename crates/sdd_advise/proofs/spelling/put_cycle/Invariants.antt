@@ -3,4 +3,4 @@ use Rattle.sdd_advise.proofs.spelling.put_cycle.Given as goal
 
 -- so far the text holds the lines of the edges so far
 abbrev pub invariant-edges : goal.invariant-edges
-invariant-edges l = l.text.items ≡ l.fn.text.items ++ flat_map (cycle_line l.catalogue) (take l.edge-index l.cycle)
+invariant-edges l = l.out.items ≡ l.fn.out.items ++ flat_map (cycle_line l.catalogue) (take l.edge-index l.cycle)

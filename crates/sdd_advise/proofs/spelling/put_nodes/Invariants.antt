@@ -3,4 +3,4 @@ use Rattle.sdd_advise.proofs.spelling.put_nodes.Given as goal
 
 -- so far the text holds the nodes so far
 abbrev pub invariant-nodes : goal.invariant-nodes
-invariant-nodes l = l.text.items ≡ l.fn.text.items ++ flat_map (spaced_node l.catalogue) (take l.node-index l.nodes)
+invariant-nodes l = l.out.items ≡ l.fn.out.items ++ flat_map (spaced_node l.catalogue) (take l.node-index l.nodes)

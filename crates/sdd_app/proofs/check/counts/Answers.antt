@@ -7,6 +7,6 @@ returns c =
     rw (← c.tms.ensures, ← c.dms.ensures, ← c.relations.ensures, ← c.fragments.ensures, ← c.classes.ensures)
     (three_pieces c.new-text.result.items (module_counts c.tms.result c.dms.result)
     (part_counts c.relations.result c.fragments.result) (class_count c.classes.result)
-    c.put_modules.new.text.items c.put_parts.new.text.items c.put_classes.new.text.items
+    c.put_modules.new.out.items c.put_parts.new.out.items c.put_classes.new.out.items
     c.new-text.ensures.items c.in_ok-put_modules.ensures c.in_ok-put_parts.ensures
     c.in_ok-put_classes.ensures)

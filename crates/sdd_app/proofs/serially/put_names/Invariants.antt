@@ -3,4 +3,4 @@ use Rattle.sdd_app.proofs.serially.put_names.Given as goal
 
 -- the names of the transactions so far are written
 abbrev pub invariant-txns : goal.invariant-txns
-invariant-txns l = l.text.items ≡ l.fn.text.items ++ flat_map spaced (names_of (map (λ t. t.now) (take l.txn-index l.txns)))
+invariant-txns l = l.out.items ≡ l.fn.out.items ++ flat_map spaced (names_of (map (λ t. t.now) (take l.txn-index l.txns)))

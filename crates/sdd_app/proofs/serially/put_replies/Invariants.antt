@@ -5,6 +5,6 @@ use Rattle.sdd_app.proofs.serially.put_replies.Given as goal
 abbrev pub invariant-txns : goal.invariant-txns
 invariant-txns l = record {
   live : IsTrue l.plain.live;
-  written : l.text.items ++ replies_of l.catalogue l.plain.value (map (λ t. t.now) (drop l.txn-index l.txns))
-      ≡ l.fn.text.items ++ replies_of l.catalogue (database_of l.catalogue l.rows) (map (λ t. t.now) l.txns);
+  written : l.out.items ++ replies_of l.catalogue l.plain.value (map (λ t. t.now) (drop l.txn-index l.txns))
+      ≡ l.fn.out.items ++ replies_of l.catalogue (database_of l.catalogue l.rows) (map (λ t. t.now) l.txns);
 }

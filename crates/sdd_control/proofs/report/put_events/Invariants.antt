@@ -7,7 +7,7 @@ invariant-events l = record {
   live : l.control.live ≡ true;
   number : l.number + length l.rest ≡ 1 + length l.acts;
   fit : FitAll l.control.value.backups l.rest;
-  text : l.text.items ++ note_lines l.number l.control.value l.rest ≡ l.fn.text.items ++ note_lines 1 l.fn.control.value l.acts;
+  text : l.out.items ++ note_lines l.number l.control.value l.rest ≡ l.fn.out.items ++ note_lines 1 l.fn.control.value l.acts;
   run : run_after l.control.value l.rest ≡ run_after l.fn.control.value l.acts;
 }
 

@@ -3,5 +3,5 @@ use Rattle.sdd_control.proofs.report.put_site_lines.Given as goal
 
 abbrev pub invariant-sites : goal.invariant-sites
 invariant-sites l =
-    l.text.items ++ site_lines l.control.value.log l.site (l.backups + 1 - l.site)
-    ≡ l.initial.text.items ++ site_lines l.control.value.log 0 (l.backups + 1)
+    l.out.items ++ site_lines l.control.value.log l.site (l.backups + 1 - l.site)
+    ≡ l.initial.out.items ++ site_lines l.control.value.log 0 (l.backups + 1)

@@ -4,4 +4,4 @@ use Rattle.sdd_inside.proofs.escape.put_escaped.Given as goal
 
 -- what was written and what is left to write is all of it
 abbrev pub invariant-part : goal.invariant-part
-invariant-part l = l.text.items ++ escaped (drop l.byte-index l.part) ≡ l.fn.text.items ++ escaped l.fn.part
+invariant-part l = l.out.items ++ escaped (drop l.byte-index l.part) ≡ l.fn.out.items ++ escaped l.fn.part

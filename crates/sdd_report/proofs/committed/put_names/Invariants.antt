@@ -3,4 +3,4 @@ use Rattle.sdd_report.proofs.committed.put_names.Given as goal
 
 -- the names so far are written
 abbrev pub invariant-order : goal.invariant-order
-invariant-order l = l.text.items ≡ l.fn.text.items ++ flat_map spaced (names_of l.txns (take l.txn-index l.order))
+invariant-order l = l.out.items ≡ l.fn.out.items ++ flat_map spaced (names_of l.txns (take l.txn-index l.order))

@@ -3,4 +3,4 @@ use Rattle.sdd_report.proofs.copies.put_copies.Given as goal
 
 -- what was written and what is left to write is all of it
 abbrev pub invariant-tables : goal.invariant-tables
-invariant-tables l = l.text.items ++ copies_lines l.catalogue (drop l.table-index l.tables) ≡ l.fn.text.items ++ copies_lines l.catalogue l.tables
+invariant-tables l = l.out.items ++ copies_lines l.catalogue (drop l.table-index l.tables) ≡ l.fn.out.items ++ copies_lines l.catalogue l.tables
