@@ -141,7 +141,7 @@ LOGS = [
      "txn x T1\nquery 1.val from item where 1.id <= 9\ndone\ntxn y T2\nput item 11 1\ndone\nsubmit x\nsubmit y\ndeliver T2 D1 1\n"
      "deliver T1 D1 1\ndeliver D1 T1 2\ndeliver T1 D1 2\ndeliver D1 T1 3\nend\n"),
     ("not_held", "Fragments", "a put of a fragment that isn't asked for isn't held", TWO_OF_TWO, WAITS_FOR_TWO % (" where 1.id <= 9", 11)),
-    ("further_classes", "Classes", "a further class list is put in force", ONE_CLASS,
+    ("second_class_list", "Classes", "a further class list is put in force", ONE_CLASS,
      PUT + "txn u T1\nquery 1.id from acct\ndone\nlist\nclass audit T1\nreads all D1\ndone\nsubmit p\nredeclare\nsubmit u\nsettle\nend\n"),
     ("down_and_up", "Downs", "a data module is down while a put comes, and applies it once it is up", ONE_CLASS, HELD_FOR_DOWN + "up D1\nend\n"),
     ("stays_down", "Downs", "while it is down it applies nothing", ONE_CLASS, HELD_FOR_DOWN + "end\n"),

@@ -246,12 +246,12 @@ def written(name, shows, first, work, apart=None):
     each = [listed("(%s, %s)" % (numbers.rel(r), row(x)) for r, x in rows) for rows in apart or [work.rows] * first.dms]
     txns = [fields(name="[]", tm=number("tm_no", t.tm), statements=listed(map(numbers.statement, t.statements))) for t in work.txns]
     given = ["(record {\n        catalogue = %s;\n        table =\n%s;\n      })" % (n, lines(table(era), 12)) for n, era in zip(names, eras)]
-    text += "\nabbrev pub given_%s : Input\ngiven_%s = record {\n  catalogue = %s;\n  eras =\n%s;\n  rows = %s;\n  txns =\n%s;\n  events =\n%s;\n}\n" % (
+    text += "\nabbrev pub input_of_%s : Input\ninput_of_%s = record {\n  catalogue = %s;\n  eras =\n%s;\n  rows = %s;\n  txns =\n%s;\n  events =\n%s;\n}\n" % (
         name, name, whole_cat, lines(given, 6), listed(each), lines(txns, 6), lines(map(event, work.events), 6))
-    text += "\nabbrev pub log_of_%s : Log\nlog_of_%s = extended %d given_%s []\n" % (name, name, count, name)
+    text += "\nabbrev pub log_of_%s : Log\nlog_of_%s = extended %d input_of_%s []\n" % (name, name, count, name)
     history = lines(["(%d, %s)" % (r.event, numbers.record(r)) for r in world.records], 4)
     text += "\npub history_of_%s :\n    history log_of_%s ≡\n%s\nhistory_of_%s = refl\n" % (name, name, history, name)
-    text += "\npub all_of_%s : (next given_%s log_of_%s ≡ None) × (length log_of_%s ≡ %d) × (marks log_of_%s ≡ %d)\nall_of_%s = (refl, refl, refl)\n" % (
+    text += "\npub all_of_%s : (next input_of_%s log_of_%s ≡ None) × (length log_of_%s ≡ %d) × (marks log_of_%s ≡ %d)\nall_of_%s = (refl, refl, refl)\n" % (
         name, name, name, name, count, name, world.events, name)
     return text, count
 

@@ -1,6 +1,6 @@
 -- The names of std, of the crates below and of this crate's definitions that its proofs cite. Declares nothing.
 pub use Rattle.sdd_eras.specs.EraOf.{HasSets, IsEraOf}
-pub use Rattle.sdd_eras.specs.Further.{further_faults, with_classes, with_further}
+pub use Rattle.sdd_eras.specs.AddedClasses.{faults_of_added_classes, with_added_classes, with_classes}
 pub use Rattle.sdd_eras.specs.Retired.{emptied_part, retired_parts}
 pub use Rattle.sdd_graph.specs.Edges.{IsClassOf}
 pub use Rattle.sdd_lang.proofs.ReadSetDecides.{ascending_back}

@@ -1,5 +1,5 @@
 -- Classes behind those that are there.
-use Rattle.sdd_eras.proofs.All.{Catalogue, ClassPart, IsSoundCatalogue, IsValid, List, Parts, [], ap, append-nil, append_assoc, arith, catalogue_of, faults_of_class, found_from, found_in, further_faults, map-append, map-map, no_faults, parts_of, refl, sym, with_classes, with_further, ◌++◌, ◌∙◌, ◌∷◌, ◌≡◌}
+use Rattle.sdd_eras.proofs.All.{Catalogue, ClassPart, IsSoundCatalogue, IsValid, List, Parts, [], ap, append-nil, append_assoc, arith, catalogue_of, faults_of_added_classes, faults_of_class, found_from, found_in, map-append, map-map, no_faults, parts_of, refl, sym, with_added_classes, with_classes, ◌++◌, ◌∙◌, ◌∷◌, ◌≡◌}
 use Rattle.sdd_lang.specs.catalog.Rules.{faults_of}
 
 -- what is found in two lists joined
@@ -20,7 +20,7 @@ faults_of_classes parts classes valid = grind (arith, no_faults, last_of_five)
 
 -- with further classes they are those of these
 pub further_are_all : (cat : Catalogue) (classes : List ClassPart) → IsSoundCatalogue cat
-    → faults_of (with_classes ((parts_of cat).classes ++ classes) (parts_of cat)) ≡ further_faults cat classes
+    → faults_of (with_classes ((parts_of cat).classes ++ classes) (parts_of cat)) ≡ faults_of_added_classes cat classes
 further_are_all cat classes sound =
     let parts : Parts = parts_of cat in
     faults_of_classes parts (parts.classes ++ classes) sound.valid
@@ -29,5 +29,5 @@ further_are_all cat classes sound =
 
 -- the catalogue of the parts with further classes
 pub extended_is : (cat : Catalogue) (classes : List ClassPart) → IsSoundCatalogue cat
-    → catalogue_of (with_classes ((parts_of cat).classes ++ classes) (parts_of cat)) ≡ with_further classes cat
+    → catalogue_of (with_classes ((parts_of cat).classes ++ classes) (parts_of cat)) ≡ with_added_classes classes cat
 extended_is cat classes sound = grind (arith, map-append, map-map)

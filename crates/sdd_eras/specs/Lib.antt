@@ -1,3 +1,3 @@
+pub mod AddedClasses
 pub mod EraOf
-pub mod Further
 pub mod Retired

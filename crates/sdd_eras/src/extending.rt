@@ -1,6 +1,6 @@
 ghost use Rattle.std.specs.Prelude.{◌≡◌, ◌++◌, [], IfOk, IfErr};
 ghost use Rattle.sdd_lang.specs.All.{TellsFirst};
-ghost use Rattle.sdd_eras.specs.Further.{further_faults, with_further, with_classes};
+ghost use Rattle.sdd_eras.specs.AddedClasses.{faults_of_added_classes, with_added_classes, with_classes};
 
 use crate::copying::with_copies;
 use sdd_lang::sdd_base::{Listed, NoMemory};
@@ -16,9 +16,9 @@ pub fn extend(
     catalogue: &Catalogue,
     classes: &[ClassPart],
 ) -> Result<Catalogue, CatError>
-    ensures value { IfOk result (λ extended. extended ≡ with_further classes.now catalogue.now) }
-    ensures allowed { IfOk result (λ _. further_faults catalogue.now classes.now ≡ []) }
-    ensures fault { IfErr result (λ e. TellsFirst e (further_faults catalogue.now classes.now)) }
+    ensures value { IfOk result (λ extended. extended ≡ with_added_classes classes.now catalogue.now) }
+    ensures allowed { IfOk result (λ _. faults_of_added_classes catalogue.now classes.now ≡ []) }
+    ensures fault { IfErr result (λ e. TellsFirst e (faults_of_added_classes catalogue.now classes.now)) }
 {
     catalogue.law_is_sound();
     let parts = add_classes(catalogue.parts()?, classes)?;

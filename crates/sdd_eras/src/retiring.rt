@@ -1,6 +1,6 @@
 ghost use Rattle.std.specs.Prelude.{◌≡◌, ◌≤◌, length, map, IfOk};
 ghost use Rattle.sdd_lang.specs.All.{IsValid, catalogue_of, retired};
-ghost use Rattle.sdd_eras.specs.Further.{with_classes};
+ghost use Rattle.sdd_eras.specs.AddedClasses.{with_classes};
 ghost use Rattle.sdd_eras.specs.Retired.{emptied_part, retired_parts};
 
 use crate::copying::with_copies;

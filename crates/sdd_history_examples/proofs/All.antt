@@ -4,7 +4,7 @@ pub use Rattle.sdd_blocks.proofs.Linked.{linked_second as linked_on}
 pub use Rattle.sdd_blocks.specs.Blocks.{AreBlocks, OnACycle}
 pub use Rattle.sdd_blocks.specs.Blocks.Linked.{last}
 pub use Rattle.sdd_blocks.specs.Graph.{Has, IsSimpleCycle, IsWalk, Step, edges_of}
-pub use Rattle.sdd_history_examples.specs.Catalogues.{both_classes, bridge, crossing, further_classes, named, one_class, one_era, one_reader, one_writer, two_eras}
+pub use Rattle.sdd_history_examples.specs.Catalogues.{both_classes, bridge, crossing, named, one_class, one_era, one_reader, one_writer, second_class_list, two_eras}
 pub use Rattle.sdd_history_examples.specs.Histories.{one_after_other, redeclares, runs_alone}
 pub use Rattle.sdd_history_examples.specs.Keeping.{AreSound, BreaksConditions, KeepsAll, KeepsOthers}
 pub use Rattle.sdd_history_examples.specs.Tables.{table_of_bridge, table_of_crossing, table_of_one, table_of_one_reader, table_of_two}

@@ -6,13 +6,13 @@ mod Conditions
 mod Each
 mod Eras
 mod Fitting
-mod FurtherClasses
 mod Keeping
 mod Listed
 mod Misses
 mod OneAfterOther
 mod ReadsBefore
 mod RunsAlone
+mod SecondClassList
 pub mod Sound
 mod Starts
 mod StartsAgain

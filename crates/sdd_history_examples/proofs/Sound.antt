@@ -1,5 +1,5 @@
 -- The worked catalogues are valid.
-use Rattle.sdd_history_examples.proofs.All.{All-from_recursion, AreSound, Catalogue, IsSoundCatalogue, arith, both_classes, bridge, crossing, further_classes, one_class, one_era, one_reader, one_writer, refl, two_eras, ℕ}
+use Rattle.sdd_history_examples.proofs.All.{All-from_recursion, AreSound, Catalogue, IsSoundCatalogue, arith, both_classes, bridge, crossing, one_class, one_era, one_reader, one_writer, refl, second_class_list, two_eras, ℕ}
 use Rattle.sdd_laws.specs.catalog.Rules.{faults_of}
 
 -- one class list
@@ -30,9 +30,9 @@ both_classes_are : IsSoundCatalogue both_classes
 unfolding faults_of
 both_classes_are = record { valid = refl; same = refl }
 
-further_classes_are : IsSoundCatalogue further_classes
+second_class_list_is : IsSoundCatalogue second_class_list
 unfolding faults_of
-further_classes_are = record { valid = refl; same = refl }
+second_class_list_is = record { valid = refl; same = refl }
 
 pub sound_bridge : AreSound bridge (one_era bridge)
 sound_bridge = one_sound bridge bridge_is
@@ -50,4 +50,4 @@ pub sound_one_writer : AreSound one_writer (one_era one_writer)
 sound_one_writer = one_sound one_writer one_writer_is
 
 pub sound_both_classes : AreSound both_classes two_eras
-sound_both_classes = grind (arith, both_classes_are, one_class_is, further_classes_are)
+sound_both_classes = grind (arith, both_classes_are, one_class_is, second_class_list_is)

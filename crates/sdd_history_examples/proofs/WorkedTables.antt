@@ -1,5 +1,5 @@
 -- The tables of the worked catalogues.
-use Rattle.sdd_history_examples.proofs.All.{All-from_recursion, Entry, IsTable, List, OnACycle, Some, Step, [], arith, bridge, crossing, eq-eqb, false, false≢true, further_classes, inl, inr, nat_lt, one_class, one_reader, one_writer, protocol_in, refl, same_Some, slice_get, suc, sym, table_of_bridge, table_of_crossing, table_of_one, table_of_one_reader, table_of_two, true, zero, ℕ, ◌==◌, ◌∷◌, ◌≡◌, ◌≢◌}
+use Rattle.sdd_history_examples.proofs.All.{All-from_recursion, Entry, IsTable, List, OnACycle, Some, Step, [], arith, bridge, crossing, eq-eqb, false, false≢true, inl, inr, nat_lt, one_class, one_reader, one_writer, protocol_in, refl, same_Some, second_class_list, slice_get, suc, sym, table_of_bridge, table_of_crossing, table_of_one, table_of_one_reader, table_of_two, true, zero, ℕ, ◌==◌, ◌∷◌, ◌≡◌, ◌≢◌}
 use Rattle.sdd_history_examples.proofs.Blocks.{crosses_alone, no_blocks, IsNumbered, one_block}
 
 true_false : true ≢ false
@@ -93,5 +93,5 @@ apart_number zero b e = (sym (same_Some 0 b e), crosses_alone (λ n. n == 0) apa
 apart_number (suc zero) b e = (sym (same_Some 0 b e), crosses_alone (λ n. n == 2) apart 1 2 3 refl refl true_false)
 apart_number (suc (suc k)) b e = absurd (cc)
 
-pub is_further_classes : IsTable further_classes table_of_two
-is_further_classes = grind (arith, no_blocks, apart, apart_number)
+pub is_second_class_list : IsTable second_class_list table_of_two
+is_second_class_list = grind (arith, no_blocks, apart, apart_number)

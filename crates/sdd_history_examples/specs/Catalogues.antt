@@ -66,9 +66,9 @@ one_writer = named (with_classes 1 (writer [] ∷ []))
 abbrev pub both_classes : Catalogue
 both_classes = named (with_classes 1 (writer low_read ∷ reader ∷ []))
 
-abbrev pub further_classes : Catalogue
-further_classes = named (with_classes 1 (record { name = []; tm = tm_no 1; reads = []; writes = [] } ∷ reader ∷ []))
+abbrev pub second_class_list : Catalogue
+second_class_list = named (with_classes 1 (record { name = []; tm = tm_no 1; reads = []; writes = [] } ∷ reader ∷ []))
 
 -- the second is in force from event 5
 abbrev pub two_eras : Eras
-two_eras = (0, one_class) ∷ (5, further_classes) ∷ []
+two_eras = (0, one_class) ∷ (5, second_class_list) ∷ []

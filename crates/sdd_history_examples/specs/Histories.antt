@@ -1,4 +1,4 @@
--- Further histories.
+-- More histories.
 use Rattle.std.specs.Prelude.{pos, [], ◌∷◌, None, Some}
 use Rattle.sdd_laws.specs.All.{Answer, Apply, Arrive, Commit, History, Int, Pass, Rows, Start, Submit, Wait, class_no, dm_no, frag_no, low_keys, put, time_at, txn_no}
 

@@ -1,7 +1,7 @@
 -- The names of std, of the crates below and of this crate's definitions that its proofs cite. Declares nothing.
 pub use Rattle.sdd_eras.proofs.Extended.{extended_is, further_are_all}
 pub use Rattle.sdd_eras.proofs.Retired.{both_are_empty as two_empty}
-pub use Rattle.sdd_eras.specs.Further.{further_faults, with_classes, with_further}
+pub use Rattle.sdd_eras.specs.AddedClasses.{faults_of_added_classes, with_added_classes, with_classes}
 pub use Rattle.sdd_lists.specs.InForce.{classes_in, numbered, whole_in}
 pub use Rattle.sdd_script.proofs.Fragments.{kept_at, some_there}
 pub use Rattle.sdd_script.proofs.NamePlaces.{any_none, apart_before, differ_again, if_false}

@@ -1,5 +1,5 @@
 -- Catalogues that differ from a given one in their classes alone, with class lists that may still be added.
-use Rattle.sdd_lists.proofs.All.{AllByRecursion, AreValidLists, Bool, Catalogue, Class, ClassPart, FitsTxn, Fragment, IsValidClass, List, MAX_CLASSES, Text, Txn, [], all_before, ap, append_assoc, arith, bytes_eq, class_of, class_part, drop, emptied, eras, false, further_faults, has_name, if_false, joined, length, length-append, length-map, list_any, map, map-append, map-map, or_false, part_names, parts_of, recursion_from_All, refl, repeats, slice_index_or, subst, suc, sym, take, take-append-drop, whole, zero, ℕ, ◌++◌, ◌+◌, ◌∙◌, ◌∷◌, ◌≡◌, ◌≤◌}
+use Rattle.sdd_lists.proofs.All.{AllByRecursion, AreValidLists, Bool, Catalogue, Class, ClassPart, FitsTxn, Fragment, IsValidClass, List, MAX_CLASSES, Text, Txn, [], all_before, ap, append_assoc, arith, bytes_eq, class_of, class_part, drop, emptied, eras, false, faults_of_added_classes, has_name, if_false, joined, length, length-append, length-map, list_any, map, map-append, map-map, or_false, part_names, parts_of, recursion_from_All, refl, repeats, slice_index_or, subst, suc, sym, take, take-append-drop, whole, zero, ℕ, ◌++◌, ◌+◌, ◌∙◌, ◌∷◌, ◌≡◌, ◌≤◌}
 use Rattle.sdd_lists.proofs.Rules.{classes_fine}
 
 -- the catalogue with other classes
@@ -57,7 +57,7 @@ repeats_in_front (x ∷ xs) ys e =
     rw ((any_in_front (bytes_eq x) xs ys h.0), more) refl
 
 pub none_further : (cat : Catalogue) (own : List Class) (first : List ClassPart) (lists : List (List ClassPart))
-    → MayFollow cat own (first ∷ lists) → further_faults (over cat own) first ≡ []
+    → MayFollow cat own (first ∷ lists) → faults_of_added_classes (over cat own) first ≡ []
 none_further cat own first lists may =
     let as_many : length (parts_of (over cat own)).classes ≡ length own = length-map own _ in
     let once : repeats ((names_of own ++ part_names first) ++ part_names (joined lists)) ≡ false =

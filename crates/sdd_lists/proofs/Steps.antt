@@ -1,5 +1,5 @@
 -- The catalogues that follow each other, one list more.
-use Rattle.sdd_lists.proofs.All.{AreValidLists, Catalogue, Class, ClassPart, Fragment, List, Text, [], ap, append_assoc, arith, class_of, drop, drop_more, eras, extended, further_faults, length, map, numbered, retired, slice_index_or as get_or, subst, sym, whole, with_further, ℕ, ◌++◌, ◌+◌, ◌<◌, ◌∙◌, ◌∷◌, ◌≡◌}
+use Rattle.sdd_lists.proofs.All.{AreValidLists, Catalogue, Class, ClassPart, Fragment, List, Text, [], ap, append_assoc, arith, class_of, drop, drop_more, eras, extended, faults_of_added_classes, length, map, numbered, retired, slice_index_or as get_or, subst, sym, whole, with_added_classes, ℕ, ◌++◌, ◌+◌, ◌<◌, ◌∙◌, ◌∷◌, ◌≡◌}
 use Rattle.sdd_lists.proofs.OtherClasses.{MayFollow, all_may_follow, none_further, others_may, over, retired_may}
 
 abbrev fragments_of : Catalogue → List Text
@@ -14,18 +14,18 @@ pub record IsExtendedBy (cat last : Catalogue) (lists : List (List ClassPart)) :
 abbrev pub added : Catalogue → Catalogue → List ClassPart → Catalogue
 added cat last first = extended (map (class_of (fragments_of cat)) first) last
 
-pub added_is : (cat last : Catalogue) (first : List ClassPart) → last.fragments ≡ cat.fragments → with_further first last ≡ added cat last first
+pub added_is : (cat last : Catalogue) (first : List ClassPart) → last.fragments ≡ cat.fragments → with_added_classes first last ≡ added cat last first
 added_is cat last first same = grind arith
 
 -- nothing is broken where they may follow
 pub none_broken : (cat last : Catalogue) (first : List ClassPart) (lists : List (List ClassPart))
-    → IsExtendedBy cat last (first ∷ lists) → further_faults last first ≡ []
+    → IsExtendedBy cat last (first ∷ lists) → faults_of_added_classes last first ≡ []
 none_broken cat last first lists s =
-    subst (λ (c : Catalogue). further_faults c first ≡ []) (sym s.is) (none_further cat last.classes first lists s.may)
+    subst (λ (c : Catalogue). faults_of_added_classes c first ≡ []) (sym s.is) (none_further cat last.classes first lists s.may)
 
 -- with them the others may follow
 pub follows_more : (cat last next : Catalogue) (first : List ClassPart) (lists : List (List ClassPart)) → IsExtendedBy cat last (first ∷ lists)
-    → next ≡ with_further first last → IsExtendedBy cat next lists
+    → next ≡ with_added_classes first last → IsExtendedBy cat next lists
 follows_more cat last next first lists s e =
     subst (λ (c : Catalogue). IsExtendedBy cat c lists) (sym (e ∙ added_is cat last first (ap (λ (c : Catalogue). c.fragments) s.is))) (record {
       is = ap (λ (c : Catalogue). extended (map (class_of (fragments_of cat)) first) c) s.is;
@@ -41,7 +41,7 @@ follows_retired cat last n lists s = record {
 
 -- what is in force behind a catalogue with these classes
 abbrev pub followed_by : Catalogue → List ClassPart → Catalogue
-followed_by last first = with_further first (retired (length last.classes) last)
+followed_by last first = with_added_classes first (retired (length last.classes) last)
 
 -- before the first list
 
@@ -69,7 +69,7 @@ module _ (cat last : Catalogue) (lists : List (List ClassPart)) (i : ℕ) (item 
   retired_here : IsExtendedBy cat (retired (length last.classes) last) (first ∷ Others)
   retired_here = follows_retired cat last (length last.classes) (first ∷ Others) follows_here
 
-  pub era_allowed : further_faults (retired (length last.classes) last) first ≡ []
+  pub era_allowed : faults_of_added_classes (retired (length last.classes) last) first ≡ []
   era_allowed = none_broken cat (retired (length last.classes) last) first Others retired_here
 
   pub era_follows : (next : Catalogue) → next ≡ followed_by last first → IsExtendedBy cat next Others
@@ -81,12 +81,12 @@ module _ (cat last : Catalogue) (lists : List (List ClassPart)) (i : ℕ) (item 
 
   -- in the whole catalogue
 
-  pub whole_allowed : further_faults last first ≡ []
+  pub whole_allowed : faults_of_added_classes last first ≡ []
   whole_allowed = none_broken cat last first Others follows_here
 
-  pub whole_follows : (next : Catalogue) → next ≡ with_further first last → IsExtendedBy cat next Others
+  pub whole_follows : (next : Catalogue) → next ≡ with_added_classes first last → IsExtendedBy cat next Others
   whole_follows next e = follows_more cat last next first Others follows_here e
 
-  pub whole_more : (next total : Catalogue) → next ≡ with_further first last
+  pub whole_more : (next total : Catalogue) → next ≡ with_added_classes first last
       → whole last (numbered cat (drop i lists)) ≡ total → whole next (numbered cat Others) ≡ total
   whole_more next total e so_far = grind (arith, added, added_is, Others, left)

@@ -1,12 +1,12 @@
 -- The catalogue with the classes of all lists of a valid workload is that of its own valid parts, and its names are names.
-use Rattle.sdd_lists.proofs.All.{All, All-from_recursion, AllByRecursion, AreNamed, Catalogue, Class, ClassPart, Fragment, IsName, IsNamed, IsSoundCatalogue, IsValid, IsValidClass, List, Parts, Text, Workload, [], ap, arith, catalogue_of, class_of, classes_in, extended, extended_is, further_are_all, further_faults, joined, map, numbered, parts_back, parts_of, recursion_from_All, refl, subst, sym, whole, whole_in, with_classes, with_further, ◌++◌, ◌∙◌, ◌∷◌, ◌≡◌}
+use Rattle.sdd_lists.proofs.All.{All, All-from_recursion, AllByRecursion, AreNamed, Catalogue, Class, ClassPart, Fragment, IsName, IsNamed, IsSoundCatalogue, IsValid, IsValidClass, List, Parts, Text, Workload, [], ap, arith, catalogue_of, class_of, classes_in, extended, extended_is, faults_of_added_classes, further_are_all, joined, map, numbered, parts_back, parts_of, recursion_from_All, refl, subst, sym, whole, whole_in, with_added_classes, with_classes, ◌++◌, ◌∙◌, ◌∷◌, ◌≡◌}
 use Rattle.sdd_lists.proofs.OtherClasses.{whole_over}
 use Rattle.sdd_lists.proofs.Steps.{IsExtendedBy, added_is, begins, follows_more, none_broken}
 use Rattle.sdd_script.specs.catalog.Rules as rules_of
 
 -- with further classes that break no rule a catalogue is still that of its own valid parts
-extended_sound : (cat : Catalogue) (classes : List ClassPart) → IsSoundCatalogue cat → further_faults cat classes ≡ []
-    → IsSoundCatalogue (with_further classes cat)
+extended_sound : (cat : Catalogue) (classes : List ClassPart) → IsSoundCatalogue cat → faults_of_added_classes cat classes ≡ []
+    → IsSoundCatalogue (with_added_classes classes cat)
 extended_sound cat classes sound none =
     let parts : Parts = with_classes ((parts_of cat).classes ++ classes) (parts_of cat) in
     let valid : rules_of.IsValid parts = further_are_all cat classes sound ∙ none in
@@ -17,7 +17,7 @@ lists_sound : (cat last : Catalogue) (lists : List (List ClassPart)) → IsSound
     → IsSoundCatalogue (whole last (numbered cat lists))
 lists_sound cat last [] sound s = sound
 lists_sound cat last (first ∷ lists) sound s =
-    let next : Catalogue = with_further first last in
+    let next : Catalogue = with_added_classes first last in
     let more = lists_sound cat next lists (extended_sound last first sound (none_broken cat last first lists s))
     (follows_more cat last next first lists s refl) in
     subst (λ (c : Catalogue). IsSoundCatalogue (whole c (numbered cat lists))) (added_is cat last first (ap (λ (c : Catalogue). c.fragments) s.is)) more

@@ -1,7 +1,7 @@
 //! The catalogues that follow each other with each class list.
 ghost use Rattle.std.specs.Prelude.{◌≡◌, [], length, IfOk};
 ghost use Rattle.sdd_script.specs.All.{AreValidLists, eras, retired, whole};
-ghost use Rattle.sdd_eras.specs.Further.{further_faults, with_further};
+ghost use Rattle.sdd_eras.specs.AddedClasses.{faults_of_added_classes, with_added_classes};
 ghost use Rattle.sdd_lists.specs.InForce.{numbered};
 
 use sdd_eras::{extend, retire};
@@ -11,13 +11,13 @@ use std::alloc::Global;
 use std::mem;
 
 /// The catalogue with these classes after its own, where they break no rule there.
-fn with_further(
+fn with_added_classes(
     alloc: Global,
     catalogue: &Catalogue,
     classes: &[ClassPart],
 ) -> Result<Catalogue, NoMemory>
-    requires { further_faults catalogue.now classes.now ≡ [] }
-    ensures { IfOk result (λ all. all ≡ with_further classes.now catalogue.now) }
+    requires { faults_of_added_classes catalogue.now classes.now ≡ [] }
+    ensures { IfOk result (λ all. all ≡ with_added_classes classes.now catalogue.now) }
 {
     match extend(alloc, catalogue, classes) {
         Ok(all) => Ok(all),
@@ -28,11 +28,11 @@ fn with_further(
 
 /// What is in force after a catalogue with these classes: those that it has retire.
 fn next_era(alloc: Global, last: &Catalogue, classes: &[ClassPart]) -> Result<Catalogue, NoMemory>
-    requires { further_faults (retired (length last.now.classes) last.now) classes.now ≡ [] }
-    ensures { IfOk result (λ next. next ≡ with_further classes.now (retired (length last.now.classes) last.now)) }
+    requires { faults_of_added_classes (retired (length last.now.classes) last.now) classes.now ≡ [] }
+    ensures { IfOk result (λ next. next ≡ with_added_classes classes.now (retired (length last.now.classes) last.now)) }
 {
     let retired = retire(alloc, last, last.classes())?;
-    with_further(alloc, &retired, classes)
+    with_added_classes(alloc, &retired, classes)
 }
 
 /// The catalogues in force, one after the other.
@@ -65,7 +65,7 @@ pub(crate) fn whole_of(
 {
     let mut all = catalogue.copy()?;
     'lists: for classes in lists {
-        all = with_further(alloc, &all, classes.as_slice())?;
+        all = with_added_classes(alloc, &all, classes.as_slice())?;
     }
     Ok(all)
 }

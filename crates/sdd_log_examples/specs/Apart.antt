@@ -30,8 +30,8 @@ catalogue_of_different_rows = record {
       [];
 }
 
-abbrev pub given_different_rows : Input
-given_different_rows = record {
+abbrev pub input_of_different_rows : Input
+input_of_different_rows = record {
   catalogue = catalogue_of_different_rows;
   eras =
       (record {
@@ -56,7 +56,7 @@ given_different_rows = record {
 }
 
 abbrev pub log_of_different_rows : Log
-log_of_different_rows = extended 50 given_different_rows []
+log_of_different_rows = extended 50 input_of_different_rows []
 
 pub history_of_different_rows :
     history log_of_different_rows ≡
@@ -87,5 +87,5 @@ pub history_of_different_rows :
     []
 history_of_different_rows = refl
 
-pub all_of_different_rows : (next given_different_rows log_of_different_rows ≡ None) × (length log_of_different_rows ≡ 50) × (marks log_of_different_rows ≡ 18)
+pub all_of_different_rows : (next input_of_different_rows log_of_different_rows ≡ None) × (length log_of_different_rows ≡ 50) × (marks log_of_different_rows ≡ 18)
 all_of_different_rows = (refl, refl, refl)

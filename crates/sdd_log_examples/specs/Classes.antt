@@ -7,8 +7,8 @@ use Rattle.sdd_log.specs.catalog.declared.parts.Kind.TheVariants as kinds
 
 -- a further class list is put in force
 
-abbrev pub catalogue_of_further_classes : Catalogue
-catalogue_of_further_classes = record {
+abbrev pub catalogue_of_second_class_list : Catalogue
+catalogue_of_second_class_list = record {
   tms = 1;
   dms = 1;
   relations =
@@ -23,8 +23,8 @@ catalogue_of_further_classes = record {
       [];
 }
 
-abbrev pub classes_of_further_classes_0 : Catalogue
-classes_of_further_classes_0 = record {
+abbrev pub classes_of_second_class_list_0 : Catalogue
+classes_of_second_class_list_0 = record {
   tms = 1;
   dms = 1;
   relations =
@@ -38,8 +38,8 @@ classes_of_further_classes_0 = record {
       [];
 }
 
-abbrev pub classes_of_further_classes_1 : Catalogue
-classes_of_further_classes_1 = record {
+abbrev pub classes_of_second_class_list_1 : Catalogue
+classes_of_second_class_list_1 = record {
   tms = 1;
   dms = 1;
   relations =
@@ -54,18 +54,18 @@ classes_of_further_classes_1 = record {
       [];
 }
 
-abbrev pub given_further_classes : Input
-given_further_classes = record {
-  catalogue = catalogue_of_further_classes;
+abbrev pub input_of_second_class_list : Input
+input_of_second_class_list = record {
+  catalogue = catalogue_of_second_class_list;
   eras =
       (record {
-        catalogue = classes_of_further_classes_0;
+        catalogue = classes_of_second_class_list_0;
         table =
             (record { edge = (Vertical (class_no 1)); block = 0; protocol = P1 }) ∷
             [];
       }) ∷
       (record {
-        catalogue = classes_of_further_classes_1;
+        catalogue = classes_of_second_class_list_1;
         table =
             (record { edge = (Vertical (class_no 1)); block = 0; protocol = P1 }) ∷
             (record { edge = (Vertical (class_no 2)); block = 0; protocol = P1 }) ∷
@@ -85,11 +85,11 @@ given_further_classes = record {
       [];
 }
 
-abbrev pub log_of_further_classes : Log
-log_of_further_classes = extended 36 given_further_classes []
+abbrev pub log_of_second_class_list : Log
+log_of_second_class_list = extended 36 input_of_second_class_list []
 
-pub history_of_further_classes :
-    history log_of_further_classes ≡
+pub history_of_second_class_list :
+    history log_of_second_class_list ≡
     (1, Submission (txn_no 1)) ∷
     (1, Start (txn_no 1) 1 (class_no 1) (time_at 65) (Some (time_at 63)) []) ∷
     (1, Commit (txn_no 1) 1 (Rows []) ((record { frag = (frag_no 1); key = (pos 5); row = (Some ((Int (pos 5)) ∷ (Int (pos 10)) ∷ [])) }) ∷ []) 0 0) ∷
@@ -107,8 +107,8 @@ pub history_of_further_classes :
     (6, Answer (txn_no 2) 1 (dm_no 1)) ∷
     (12, Commit (txn_no 2) 1 (Rows ((((Int (pos 5)) ∷ []) ∷ []) ∷ [])) [] 0 1) ∷
     []
-history_of_further_classes = refl
+history_of_second_class_list = refl
 
-pub all_of_further_classes : (next given_further_classes log_of_further_classes ≡ None) × (length log_of_further_classes ≡ 36)
-    × (marks log_of_further_classes ≡ 13)
-all_of_further_classes = (refl, refl, refl)
+pub all_of_second_class_list : (next input_of_second_class_list log_of_second_class_list ≡ None) × (length log_of_second_class_list ≡ 36)
+    × (marks log_of_second_class_list ≡ 13)
+all_of_second_class_list = (refl, refl, refl)

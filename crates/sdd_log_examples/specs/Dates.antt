@@ -31,8 +31,8 @@ catalogue_of_deleted_and_put = record {
       [];
 }
 
-abbrev pub given_deleted_and_put : Input
-given_deleted_and_put = record {
+abbrev pub input_of_deleted_and_put : Input
+input_of_deleted_and_put = record {
   catalogue = catalogue_of_deleted_and_put;
   eras =
       (record {
@@ -69,7 +69,7 @@ given_deleted_and_put = record {
 }
 
 abbrev pub log_of_deleted_and_put : Log
-log_of_deleted_and_put = extended 105 given_deleted_and_put []
+log_of_deleted_and_put = extended 105 input_of_deleted_and_put []
 
 pub history_of_deleted_and_put :
     history log_of_deleted_and_put ≡
@@ -115,6 +115,6 @@ pub history_of_deleted_and_put :
     []
 history_of_deleted_and_put = refl
 
-pub all_of_deleted_and_put : (next given_deleted_and_put log_of_deleted_and_put ≡ None) × (length log_of_deleted_and_put ≡ 105)
+pub all_of_deleted_and_put : (next input_of_deleted_and_put log_of_deleted_and_put ≡ None) × (length log_of_deleted_and_put ≡ 105)
     × (marks log_of_deleted_and_put ≡ 43)
 all_of_deleted_and_put = (refl, refl, refl)

@@ -22,8 +22,8 @@ catalogue_of_down_and_up = record {
       [];
 }
 
-abbrev pub given_down_and_up : Input
-given_down_and_up = record {
+abbrev pub input_of_down_and_up : Input
+input_of_down_and_up = record {
   catalogue = catalogue_of_down_and_up;
   eras =
       (record {
@@ -47,7 +47,7 @@ given_down_and_up = record {
 }
 
 abbrev pub log_of_down_and_up : Log
-log_of_down_and_up = extended 10 given_down_and_up []
+log_of_down_and_up = extended 10 input_of_down_and_up []
 
 pub history_of_down_and_up :
     history log_of_down_and_up ≡
@@ -58,7 +58,7 @@ pub history_of_down_and_up :
     []
 history_of_down_and_up = refl
 
-pub all_of_down_and_up : (next given_down_and_up log_of_down_and_up ≡ None) × (length log_of_down_and_up ≡ 10) × (marks log_of_down_and_up ≡ 5)
+pub all_of_down_and_up : (next input_of_down_and_up log_of_down_and_up ≡ None) × (length log_of_down_and_up ≡ 10) × (marks log_of_down_and_up ≡ 5)
 all_of_down_and_up = (refl, refl, refl)
 
 -- while it is down it applies nothing
@@ -78,8 +78,8 @@ catalogue_of_stays_down = record {
       [];
 }
 
-abbrev pub given_stays_down : Input
-given_stays_down = record {
+abbrev pub input_of_stays_down : Input
+input_of_stays_down = record {
   catalogue = catalogue_of_stays_down;
   eras =
       (record {
@@ -102,7 +102,7 @@ given_stays_down = record {
 }
 
 abbrev pub log_of_stays_down : Log
-log_of_stays_down = extended 7 given_stays_down []
+log_of_stays_down = extended 7 input_of_stays_down []
 
 pub history_of_stays_down :
     history log_of_stays_down ≡
@@ -112,7 +112,7 @@ pub history_of_stays_down :
     []
 history_of_stays_down = refl
 
-pub all_of_stays_down : (next given_stays_down log_of_stays_down ≡ None) × (length log_of_stays_down ≡ 7) × (marks log_of_stays_down ≡ 4)
+pub all_of_stays_down : (next input_of_stays_down log_of_stays_down ≡ None) × (length log_of_stays_down ≡ 7) × (marks log_of_stays_down ≡ 4)
 all_of_stays_down = (refl, refl, refl)
 
 -- an `up` where it is up and a `down` where it is down find nothing to do
@@ -132,8 +132,8 @@ catalogue_of_down_twice = record {
       [];
 }
 
-abbrev pub given_down_twice : Input
-given_down_twice = record {
+abbrev pub input_of_down_twice : Input
+input_of_down_twice = record {
   catalogue = catalogue_of_down_twice;
   eras =
       (record {
@@ -154,7 +154,7 @@ given_down_twice = record {
 }
 
 abbrev pub log_of_down_twice : Log
-log_of_down_twice = extended 5 given_down_twice []
+log_of_down_twice = extended 5 input_of_down_twice []
 
 pub history_of_down_twice :
     history log_of_down_twice ≡
@@ -163,5 +163,5 @@ pub history_of_down_twice :
     []
 history_of_down_twice = refl
 
-pub all_of_down_twice : (next given_down_twice log_of_down_twice ≡ None) × (length log_of_down_twice ≡ 5) × (marks log_of_down_twice ≡ 3)
+pub all_of_down_twice : (next input_of_down_twice log_of_down_twice ≡ None) × (length log_of_down_twice ≡ 5) × (marks log_of_down_twice ≡ 3)
 all_of_down_twice = (refl, refl, refl)

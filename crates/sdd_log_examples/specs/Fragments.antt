@@ -24,8 +24,8 @@ catalogue_of_not_rejected = record {
       [];
 }
 
-abbrev pub given_not_rejected : Input
-given_not_rejected = record {
+abbrev pub input_of_not_rejected : Input
+input_of_not_rejected = record {
   catalogue = catalogue_of_not_rejected;
   eras =
       (record {
@@ -61,7 +61,7 @@ given_not_rejected = record {
 }
 
 abbrev pub log_of_not_rejected : Log
-log_of_not_rejected = extended 23 given_not_rejected []
+log_of_not_rejected = extended 23 input_of_not_rejected []
 
 pub history_of_not_rejected :
     history log_of_not_rejected ≡
@@ -84,7 +84,7 @@ pub history_of_not_rejected :
     []
 history_of_not_rejected = refl
 
-pub all_of_not_rejected : (next given_not_rejected log_of_not_rejected ≡ None) × (length log_of_not_rejected ≡ 23) × (marks log_of_not_rejected ≡ 7)
+pub all_of_not_rejected : (next input_of_not_rejected log_of_not_rejected ≡ None) × (length log_of_not_rejected ≡ 23) × (marks log_of_not_rejected ≡ 7)
 all_of_not_rejected = (refl, refl, refl)
 
 -- a put of a fragment that isn't asked for isn't held
@@ -115,8 +115,8 @@ catalogue_of_not_held = record {
       [];
 }
 
-abbrev pub given_not_held : Input
-given_not_held = record {
+abbrev pub input_of_not_held : Input
+input_of_not_held = record {
   catalogue = catalogue_of_not_held;
   eras =
       (record {
@@ -155,7 +155,7 @@ given_not_held = record {
 }
 
 abbrev pub log_of_not_held : Log
-log_of_not_held = extended 23 given_not_held []
+log_of_not_held = extended 23 input_of_not_held []
 
 pub history_of_not_held :
     history log_of_not_held ≡
@@ -182,5 +182,5 @@ pub history_of_not_held :
     []
 history_of_not_held = refl
 
-pub all_of_not_held : (next given_not_held log_of_not_held ≡ None) × (length log_of_not_held ≡ 23) × (marks log_of_not_held ≡ 8)
+pub all_of_not_held : (next input_of_not_held log_of_not_held ≡ None) × (length log_of_not_held ≡ 23) × (marks log_of_not_held ≡ 8)
 all_of_not_held = (refl, refl, refl)

@@ -30,8 +30,8 @@ catalogue_of_from_two_senders = record {
       [];
 }
 
-abbrev pub given_from_two_senders : Input
-given_from_two_senders = record {
+abbrev pub input_of_from_two_senders : Input
+input_of_from_two_senders = record {
   catalogue = catalogue_of_from_two_senders;
   eras =
       (record {
@@ -59,7 +59,7 @@ given_from_two_senders = record {
 }
 
 abbrev pub log_of_from_two_senders : Log
-log_of_from_two_senders = extended 16 given_from_two_senders []
+log_of_from_two_senders = extended 16 input_of_from_two_senders []
 
 pub history_of_from_two_senders :
     history log_of_from_two_senders ≡
@@ -74,7 +74,7 @@ pub history_of_from_two_senders :
     []
 history_of_from_two_senders = refl
 
-pub all_of_from_two_senders : (next given_from_two_senders log_of_from_two_senders ≡ None) × (length log_of_from_two_senders ≡ 16)
+pub all_of_from_two_senders : (next input_of_from_two_senders log_of_from_two_senders ≡ None) × (length log_of_from_two_senders ≡ 16)
     × (marks log_of_from_two_senders ≡ 6)
 all_of_from_two_senders = (refl, refl, refl)
 
@@ -97,8 +97,8 @@ catalogue_of_two_at_once = record {
       [];
 }
 
-abbrev pub given_two_at_once : Input
-given_two_at_once = record {
+abbrev pub input_of_two_at_once : Input
+input_of_two_at_once = record {
   catalogue = catalogue_of_two_at_once;
   eras =
       (record {
@@ -128,7 +128,7 @@ given_two_at_once = record {
 }
 
 abbrev pub log_of_two_at_once : Log
-log_of_two_at_once = extended 20 given_two_at_once []
+log_of_two_at_once = extended 20 input_of_two_at_once []
 
 pub history_of_two_at_once :
     history log_of_two_at_once ≡
@@ -144,5 +144,5 @@ pub history_of_two_at_once :
     []
 history_of_two_at_once = refl
 
-pub all_of_two_at_once : (next given_two_at_once log_of_two_at_once ≡ None) × (length log_of_two_at_once ≡ 20) × (marks log_of_two_at_once ≡ 9)
+pub all_of_two_at_once : (next input_of_two_at_once log_of_two_at_once ≡ None) × (length log_of_two_at_once ≡ 20) × (marks log_of_two_at_once ≡ 9)
 all_of_two_at_once = (refl, refl, refl)

@@ -22,8 +22,8 @@ catalogue_of_put_and_query = record {
       [];
 }
 
-abbrev pub given_put_and_query : Input
-given_put_and_query = record {
+abbrev pub input_of_put_and_query : Input
+input_of_put_and_query = record {
   catalogue = catalogue_of_put_and_query;
   eras =
       (record {
@@ -51,7 +51,7 @@ given_put_and_query = record {
 }
 
 abbrev pub log_of_put_and_query : Log
-log_of_put_and_query = extended 33 given_put_and_query []
+log_of_put_and_query = extended 33 input_of_put_and_query []
 
 pub history_of_put_and_query :
     history log_of_put_and_query ≡
@@ -74,7 +74,7 @@ pub history_of_put_and_query :
     []
 history_of_put_and_query = refl
 
-pub all_of_put_and_query : (next given_put_and_query log_of_put_and_query ≡ None) × (length log_of_put_and_query ≡ 33) × (marks log_of_put_and_query ≡ 12)
+pub all_of_put_and_query : (next input_of_put_and_query log_of_put_and_query ≡ None) × (length log_of_put_and_query ≡ 33) × (marks log_of_put_and_query ≡ 12)
 all_of_put_and_query = (refl, refl, refl)
 
 -- a packet is lost, another one repeated and delivered early; both are resent
@@ -94,8 +94,8 @@ catalogue_of_lost_and_repeated = record {
       [];
 }
 
-abbrev pub given_lost_and_repeated : Input
-given_lost_and_repeated = record {
+abbrev pub input_of_lost_and_repeated : Input
+input_of_lost_and_repeated = record {
   catalogue = catalogue_of_lost_and_repeated;
   eras =
       (record {
@@ -125,7 +125,7 @@ given_lost_and_repeated = record {
 }
 
 abbrev pub log_of_lost_and_repeated : Log
-log_of_lost_and_repeated = extended 21 given_lost_and_repeated []
+log_of_lost_and_repeated = extended 21 input_of_lost_and_repeated []
 
 pub history_of_lost_and_repeated :
     history log_of_lost_and_repeated ≡
@@ -141,7 +141,7 @@ pub history_of_lost_and_repeated :
     []
 history_of_lost_and_repeated = refl
 
-pub all_of_lost_and_repeated : (next given_lost_and_repeated log_of_lost_and_repeated ≡ None) × (length log_of_lost_and_repeated ≡ 21)
+pub all_of_lost_and_repeated : (next input_of_lost_and_repeated log_of_lost_and_repeated ≡ None) × (length log_of_lost_and_repeated ≡ 21)
     × (marks log_of_lost_and_repeated ≡ 10)
 all_of_lost_and_repeated = (refl, refl, refl)
 
@@ -170,8 +170,8 @@ catalogue_of_two_copies = record {
       [];
 }
 
-abbrev pub given_two_copies : Input
-given_two_copies = record {
+abbrev pub input_of_two_copies : Input
+input_of_two_copies = record {
   catalogue = catalogue_of_two_copies;
   eras =
       (record {
@@ -199,7 +199,7 @@ given_two_copies = record {
 }
 
 abbrev pub log_of_two_copies : Log
-log_of_two_copies = extended 20 given_two_copies []
+log_of_two_copies = extended 20 input_of_two_copies []
 
 pub history_of_two_copies :
     history log_of_two_copies ≡
@@ -216,5 +216,5 @@ pub history_of_two_copies :
     []
 history_of_two_copies = refl
 
-pub all_of_two_copies : (next given_two_copies log_of_two_copies ≡ None) × (length log_of_two_copies ≡ 20) × (marks log_of_two_copies ≡ 6)
+pub all_of_two_copies : (next input_of_two_copies log_of_two_copies ≡ None) × (length log_of_two_copies ≡ 20) × (marks log_of_two_copies ≡ 6)
 all_of_two_copies = (refl, refl, refl)

@@ -58,8 +58,8 @@ classes_of_conditions_of_a_list_1 = record {
       [];
 }
 
-abbrev pub given_conditions_of_a_list : Input
-given_conditions_of_a_list = record {
+abbrev pub input_of_conditions_of_a_list : Input
+input_of_conditions_of_a_list = record {
   catalogue = catalogue_of_conditions_of_a_list;
   eras =
       (record {
@@ -95,7 +95,7 @@ given_conditions_of_a_list = record {
 }
 
 abbrev pub log_of_conditions_of_a_list : Log
-log_of_conditions_of_a_list = extended 9 given_conditions_of_a_list []
+log_of_conditions_of_a_list = extended 9 input_of_conditions_of_a_list []
 
 pub history_of_conditions_of_a_list :
     history log_of_conditions_of_a_list ≡
@@ -116,7 +116,7 @@ pub history_of_conditions_of_a_list :
     []
 history_of_conditions_of_a_list = refl
 
-pub all_of_conditions_of_a_list : (next given_conditions_of_a_list log_of_conditions_of_a_list ≡ None) × (length log_of_conditions_of_a_list ≡ 9)
+pub all_of_conditions_of_a_list : (next input_of_conditions_of_a_list log_of_conditions_of_a_list ≡ None) × (length log_of_conditions_of_a_list ≡ 9)
     × (marks log_of_conditions_of_a_list ≡ 4)
 all_of_conditions_of_a_list = (refl, refl, refl)
 
@@ -169,8 +169,8 @@ classes_of_undeclared_before_a_list_1 = record {
       [];
 }
 
-abbrev pub given_undeclared_before_a_list : Input
-given_undeclared_before_a_list = record {
+abbrev pub input_of_undeclared_before_a_list : Input
+input_of_undeclared_before_a_list = record {
   catalogue = catalogue_of_undeclared_before_a_list;
   eras =
       (record {
@@ -200,7 +200,7 @@ given_undeclared_before_a_list = record {
 }
 
 abbrev pub log_of_undeclared_before_a_list : Log
-log_of_undeclared_before_a_list = extended 13 given_undeclared_before_a_list []
+log_of_undeclared_before_a_list = extended 13 input_of_undeclared_before_a_list []
 
 pub history_of_undeclared_before_a_list :
     history log_of_undeclared_before_a_list ≡
@@ -214,6 +214,6 @@ pub history_of_undeclared_before_a_list :
     []
 history_of_undeclared_before_a_list = refl
 
-pub all_of_undeclared_before_a_list : (next given_undeclared_before_a_list log_of_undeclared_before_a_list ≡ None)
+pub all_of_undeclared_before_a_list : (next input_of_undeclared_before_a_list log_of_undeclared_before_a_list ≡ None)
     × (length log_of_undeclared_before_a_list ≡ 13) × (marks log_of_undeclared_before_a_list ≡ 4)
 all_of_undeclared_before_a_list = (refl, refl, refl)

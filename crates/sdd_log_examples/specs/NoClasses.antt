@@ -22,8 +22,8 @@ catalogue_of_released_without_classes = record {
       [];
 }
 
-abbrev pub given_released_without_classes : Input
-given_released_without_classes = record {
+abbrev pub input_of_released_without_classes : Input
+input_of_released_without_classes = record {
   catalogue = catalogue_of_released_without_classes;
   eras =
       (record {
@@ -52,7 +52,7 @@ given_released_without_classes = record {
 }
 
 abbrev pub log_of_released_without_classes : Log
-log_of_released_without_classes = extended 89 given_released_without_classes []
+log_of_released_without_classes = extended 89 input_of_released_without_classes []
 
 pub history_of_released_without_classes :
     history log_of_released_without_classes ≡
@@ -69,6 +69,6 @@ pub history_of_released_without_classes :
     []
 history_of_released_without_classes = refl
 
-pub all_of_released_without_classes : (next given_released_without_classes log_of_released_without_classes ≡ None)
+pub all_of_released_without_classes : (next input_of_released_without_classes log_of_released_without_classes ≡ None)
     × (length log_of_released_without_classes ≡ 89) × (marks log_of_released_without_classes ≡ 36)
 all_of_released_without_classes = (refl, refl, refl)

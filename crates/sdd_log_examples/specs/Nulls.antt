@@ -24,8 +24,8 @@ catalogue_of_null_before_start = record {
       [];
 }
 
-abbrev pub given_null_before_start : Input
-given_null_before_start = record {
+abbrev pub input_of_null_before_start : Input
+input_of_null_before_start = record {
   catalogue = catalogue_of_null_before_start;
   eras =
       (record {
@@ -69,7 +69,7 @@ given_null_before_start = record {
 }
 
 abbrev pub log_of_null_before_start : Log
-log_of_null_before_start = extended 70 given_null_before_start []
+log_of_null_before_start = extended 70 input_of_null_before_start []
 
 pub history_of_null_before_start :
     history log_of_null_before_start ≡
@@ -108,6 +108,6 @@ pub history_of_null_before_start :
     []
 history_of_null_before_start = refl
 
-pub all_of_null_before_start : (next given_null_before_start log_of_null_before_start ≡ None) × (length log_of_null_before_start ≡ 70)
+pub all_of_null_before_start : (next input_of_null_before_start log_of_null_before_start ≡ None) × (length log_of_null_before_start ≡ 70)
     × (marks log_of_null_before_start ≡ 28)
 all_of_null_before_start = (refl, refl, refl)

@@ -25,8 +25,8 @@ catalogue_of_passed_by_a_read = record {
       [];
 }
 
-abbrev pub given_passed_by_a_read : Input
-given_passed_by_a_read = record {
+abbrev pub input_of_passed_by_a_read : Input
+input_of_passed_by_a_read = record {
   catalogue = catalogue_of_passed_by_a_read;
   eras =
       (record {
@@ -67,7 +67,7 @@ given_passed_by_a_read = record {
 }
 
 abbrev pub log_of_passed_by_a_read : Log
-log_of_passed_by_a_read = extended 21 given_passed_by_a_read []
+log_of_passed_by_a_read = extended 21 input_of_passed_by_a_read []
 
 pub history_of_passed_by_a_read :
     history log_of_passed_by_a_read ≡
@@ -98,7 +98,7 @@ pub history_of_passed_by_a_read :
     []
 history_of_passed_by_a_read = refl
 
-pub all_of_passed_by_a_read : (next given_passed_by_a_read log_of_passed_by_a_read ≡ None) × (length log_of_passed_by_a_read ≡ 21)
+pub all_of_passed_by_a_read : (next input_of_passed_by_a_read log_of_passed_by_a_read ≡ None) × (length log_of_passed_by_a_read ≡ 21)
     × (marks log_of_passed_by_a_read ≡ 6)
 all_of_passed_by_a_read = (refl, refl, refl)
 
@@ -121,8 +121,8 @@ catalogue_of_asks_two = record {
       [];
 }
 
-abbrev pub given_asks_two : Input
-given_asks_two = record {
+abbrev pub input_of_asks_two : Input
+input_of_asks_two = record {
   catalogue = catalogue_of_asks_two;
   eras =
       (record {
@@ -152,7 +152,7 @@ given_asks_two = record {
 }
 
 abbrev pub log_of_asks_two : Log
-log_of_asks_two = extended 20 given_asks_two []
+log_of_asks_two = extended 20 input_of_asks_two []
 
 pub history_of_asks_two :
     history log_of_asks_two ≡
@@ -176,7 +176,7 @@ pub history_of_asks_two :
     []
 history_of_asks_two = refl
 
-pub all_of_asks_two : (next given_asks_two log_of_asks_two ≡ None) × (length log_of_asks_two ≡ 20) × (marks log_of_asks_two ≡ 6)
+pub all_of_asks_two : (next input_of_asks_two log_of_asks_two ≡ None) × (length log_of_asks_two ≡ 20) × (marks log_of_asks_two ≡ 6)
 all_of_asks_two = (refl, refl, refl)
 
 -- a class that is asked for an earlier time than its attempt's answers with the attempt's
@@ -198,8 +198,8 @@ catalogue_of_asked_while_active = record {
       [];
 }
 
-abbrev pub given_asked_while_active : Input
-given_asked_while_active = record {
+abbrev pub input_of_asked_while_active : Input
+input_of_asked_while_active = record {
   catalogue = catalogue_of_asked_while_active;
   eras =
       (record {
@@ -243,7 +243,7 @@ given_asked_while_active = record {
 }
 
 abbrev pub log_of_asked_while_active : Log
-log_of_asked_while_active = extended 37 given_asked_while_active []
+log_of_asked_while_active = extended 37 input_of_asked_while_active []
 
 pub history_of_asked_while_active :
     history log_of_asked_while_active ≡
@@ -277,6 +277,6 @@ pub history_of_asked_while_active :
     []
 history_of_asked_while_active = refl
 
-pub all_of_asked_while_active : (next given_asked_while_active log_of_asked_while_active ≡ None) × (length log_of_asked_while_active ≡ 37)
+pub all_of_asked_while_active : (next input_of_asked_while_active log_of_asked_while_active ≡ None) × (length log_of_asked_while_active ≡ 37)
     × (marks log_of_asked_while_active ≡ 11)
 all_of_asked_while_active = (refl, refl, refl)

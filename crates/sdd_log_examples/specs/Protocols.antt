@@ -24,8 +24,8 @@ catalogue_of_reads_before = record {
       [];
 }
 
-abbrev pub given_reads_before : Input
-given_reads_before = record {
+abbrev pub input_of_reads_before : Input
+input_of_reads_before = record {
   catalogue = catalogue_of_reads_before;
   eras =
       (record {
@@ -60,7 +60,7 @@ given_reads_before = record {
 }
 
 abbrev pub log_of_reads_before : Log
-log_of_reads_before = extended 24 given_reads_before []
+log_of_reads_before = extended 24 input_of_reads_before []
 
 pub history_of_reads_before :
     history log_of_reads_before ≡
@@ -83,7 +83,7 @@ pub history_of_reads_before :
     []
 history_of_reads_before = refl
 
-pub all_of_reads_before : (next given_reads_before log_of_reads_before ≡ None) × (length log_of_reads_before ≡ 24) × (marks log_of_reads_before ≡ 8)
+pub all_of_reads_before : (next input_of_reads_before log_of_reads_before ≡ None) × (length log_of_reads_before ≡ 24) × (marks log_of_reads_before ≡ 8)
 all_of_reads_before = (refl, refl, refl)
 
 -- a query asks two modules up to one time, and waits at both
@@ -113,8 +113,8 @@ catalogue_of_one_time_at_two = record {
       [];
 }
 
-abbrev pub given_one_time_at_two : Input
-given_one_time_at_two = record {
+abbrev pub input_of_one_time_at_two : Input
+input_of_one_time_at_two = record {
   catalogue = catalogue_of_one_time_at_two;
   eras =
       (record {
@@ -155,7 +155,7 @@ given_one_time_at_two = record {
 }
 
 abbrev pub log_of_one_time_at_two : Log
-log_of_one_time_at_two = extended 73 given_one_time_at_two []
+log_of_one_time_at_two = extended 73 input_of_one_time_at_two []
 
 pub history_of_one_time_at_two :
     history log_of_one_time_at_two ≡
@@ -189,7 +189,7 @@ pub history_of_one_time_at_two :
     []
 history_of_one_time_at_two = refl
 
-pub all_of_one_time_at_two : (next given_one_time_at_two log_of_one_time_at_two ≡ None) × (length log_of_one_time_at_two ≡ 73)
+pub all_of_one_time_at_two : (next input_of_one_time_at_two log_of_one_time_at_two ≡ None) × (length log_of_one_time_at_two ≡ 73)
     × (marks log_of_one_time_at_two ≡ 31)
 all_of_one_time_at_two = (refl, refl, refl)
 
@@ -212,8 +212,8 @@ catalogue_of_up_to_its_own_time = record {
       [];
 }
 
-abbrev pub given_up_to_its_own_time : Input
-given_up_to_its_own_time = record {
+abbrev pub input_of_up_to_its_own_time : Input
+input_of_up_to_its_own_time = record {
   catalogue = catalogue_of_up_to_its_own_time;
   eras =
       (record {
@@ -259,7 +259,7 @@ given_up_to_its_own_time = record {
 }
 
 abbrev pub log_of_up_to_its_own_time : Log
-log_of_up_to_its_own_time = extended 42 given_up_to_its_own_time []
+log_of_up_to_its_own_time = extended 42 input_of_up_to_its_own_time []
 
 pub history_of_up_to_its_own_time :
     history log_of_up_to_its_own_time ≡
@@ -300,6 +300,6 @@ pub history_of_up_to_its_own_time :
     []
 history_of_up_to_its_own_time = refl
 
-pub all_of_up_to_its_own_time : (next given_up_to_its_own_time log_of_up_to_its_own_time ≡ None) × (length log_of_up_to_its_own_time ≡ 42)
+pub all_of_up_to_its_own_time : (next input_of_up_to_its_own_time log_of_up_to_its_own_time ≡ None) × (length log_of_up_to_its_own_time ≡ 42)
     × (marks log_of_up_to_its_own_time ≡ 13)
 all_of_up_to_its_own_time = (refl, refl, refl)

@@ -22,8 +22,8 @@ catalogue_of_overflow = record {
       [];
 }
 
-abbrev pub given_overflow : Input
-given_overflow = record {
+abbrev pub input_of_overflow : Input
+input_of_overflow = record {
   catalogue = catalogue_of_overflow;
   eras =
       (record {
@@ -44,7 +44,7 @@ given_overflow = record {
 }
 
 abbrev pub log_of_overflow : Log
-log_of_overflow = extended 25 given_overflow []
+log_of_overflow = extended 25 input_of_overflow []
 
 pub history_of_overflow :
     history log_of_overflow ≡
@@ -63,7 +63,7 @@ pub history_of_overflow :
     []
 history_of_overflow = refl
 
-pub all_of_overflow : (next given_overflow log_of_overflow ≡ None) × (length log_of_overflow ≡ 25) × (marks log_of_overflow ≡ 9)
+pub all_of_overflow : (next input_of_overflow log_of_overflow ≡ None) × (length log_of_overflow ≡ 25) × (marks log_of_overflow ≡ 9)
 all_of_overflow = (refl, refl, refl)
 
 -- a query over three modules: two reducer steps, and then its rows
@@ -95,8 +95,8 @@ catalogue_of_two_steps = record {
       [];
 }
 
-abbrev pub given_two_steps : Input
-given_two_steps = record {
+abbrev pub input_of_two_steps : Input
+input_of_two_steps = record {
   catalogue = catalogue_of_two_steps;
   eras =
       (record {
@@ -145,7 +145,7 @@ given_two_steps = record {
 }
 
 abbrev pub log_of_two_steps : Log
-log_of_two_steps = extended 97 given_two_steps []
+log_of_two_steps = extended 97 input_of_two_steps []
 
 pub history_of_two_steps :
     history log_of_two_steps ≡
@@ -173,7 +173,7 @@ pub history_of_two_steps :
     []
 history_of_two_steps = refl
 
-pub all_of_two_steps : (next given_two_steps log_of_two_steps ≡ None) × (length log_of_two_steps ≡ 97) × (marks log_of_two_steps ≡ 41)
+pub all_of_two_steps : (next input_of_two_steps log_of_two_steps ≡ None) × (length log_of_two_steps ≡ 97) × (marks log_of_two_steps ≡ 41)
 all_of_two_steps = (refl, refl, refl)
 
 -- a query that no key can meet reads nothing, and commits at once
@@ -193,8 +193,8 @@ catalogue_of_reads_nothing = record {
       [];
 }
 
-abbrev pub given_reads_nothing : Input
-given_reads_nothing = record {
+abbrev pub input_of_reads_nothing : Input
+input_of_reads_nothing = record {
   catalogue = catalogue_of_reads_nothing;
   eras =
       (record {
@@ -219,7 +219,7 @@ given_reads_nothing = record {
 }
 
 abbrev pub log_of_reads_nothing : Log
-log_of_reads_nothing = extended 4 given_reads_nothing []
+log_of_reads_nothing = extended 4 input_of_reads_nothing []
 
 pub history_of_reads_nothing :
     history log_of_reads_nothing ≡
@@ -236,5 +236,5 @@ pub history_of_reads_nothing :
     []
 history_of_reads_nothing = refl
 
-pub all_of_reads_nothing : (next given_reads_nothing log_of_reads_nothing ≡ None) × (length log_of_reads_nothing ≡ 4) × (marks log_of_reads_nothing ≡ 1)
+pub all_of_reads_nothing : (next input_of_reads_nothing log_of_reads_nothing ≡ None) × (length log_of_reads_nothing ≡ 4) × (marks log_of_reads_nothing ≡ 1)
 all_of_reads_nothing = (refl, refl, refl)

@@ -33,8 +33,8 @@ catalogue_of_reduced_at_two = record {
       [];
 }
 
-abbrev pub given_reduced_at_two : Input
-given_reduced_at_two = record {
+abbrev pub input_of_reduced_at_two : Input
+input_of_reduced_at_two = record {
   catalogue = catalogue_of_reduced_at_two;
   eras =
       (record {
@@ -70,7 +70,7 @@ given_reduced_at_two = record {
 }
 
 abbrev pub log_of_reduced_at_two : Log
-log_of_reduced_at_two = extended 85 given_reduced_at_two []
+log_of_reduced_at_two = extended 85 input_of_reduced_at_two []
 
 pub history_of_reduced_at_two :
     history log_of_reduced_at_two ≡
@@ -93,5 +93,5 @@ pub history_of_reduced_at_two :
     []
 history_of_reduced_at_two = refl
 
-pub all_of_reduced_at_two : (next given_reduced_at_two log_of_reduced_at_two ≡ None) × (length log_of_reduced_at_two ≡ 85) × (marks log_of_reduced_at_two ≡ 37)
+pub all_of_reduced_at_two : (next input_of_reduced_at_two log_of_reduced_at_two ≡ None) × (length log_of_reduced_at_two ≡ 85) × (marks log_of_reduced_at_two ≡ 37)
 all_of_reduced_at_two = (refl, refl, refl)

@@ -24,8 +24,8 @@ catalogue_of_rejected_by_two = record {
       [];
 }
 
-abbrev pub given_rejected_by_two : Input
-given_rejected_by_two = record {
+abbrev pub input_of_rejected_by_two : Input
+input_of_rejected_by_two = record {
   catalogue = catalogue_of_rejected_by_two;
   eras =
       (record {
@@ -64,7 +64,7 @@ given_rejected_by_two = record {
 }
 
 abbrev pub log_of_rejected_by_two : Log
-log_of_rejected_by_two = extended 38 given_rejected_by_two []
+log_of_rejected_by_two = extended 38 input_of_rejected_by_two []
 
 pub history_of_rejected_by_two :
     history log_of_rejected_by_two ≡
@@ -106,6 +106,6 @@ pub history_of_rejected_by_two :
     []
 history_of_rejected_by_two = refl
 
-pub all_of_rejected_by_two : (next given_rejected_by_two log_of_rejected_by_two ≡ None) × (length log_of_rejected_by_two ≡ 38)
+pub all_of_rejected_by_two : (next input_of_rejected_by_two log_of_rejected_by_two ≡ None) × (length log_of_rejected_by_two ≡ 38)
     × (marks log_of_rejected_by_two ≡ 11)
 all_of_rejected_by_two = (refl, refl, refl)

@@ -30,8 +30,8 @@ catalogue_of_released = record {
       [];
 }
 
-abbrev pub given_released : Input
-given_released = record {
+abbrev pub input_of_released : Input
+input_of_released = record {
   catalogue = catalogue_of_released;
   eras =
       (record {
@@ -86,7 +86,7 @@ given_released = record {
 }
 
 abbrev pub log_of_released : Log
-log_of_released = extended 97 given_released []
+log_of_released = extended 97 input_of_released []
 
 pub history_of_released :
     history log_of_released ≡
@@ -131,5 +131,5 @@ pub history_of_released :
     []
 history_of_released = refl
 
-pub all_of_released : (next given_released log_of_released ≡ None) × (length log_of_released ≡ 97) × (marks log_of_released ≡ 32)
+pub all_of_released : (next input_of_released log_of_released ≡ None) × (length log_of_released ≡ 97) × (marks log_of_released ≡ 32)
 all_of_released = (refl, refl, refl)

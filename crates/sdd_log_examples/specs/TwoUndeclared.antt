@@ -29,8 +29,8 @@ catalogue_of_two_undeclared = record {
       [];
 }
 
-abbrev pub given_two_undeclared : Input
-given_two_undeclared = record {
+abbrev pub input_of_two_undeclared : Input
+input_of_two_undeclared = record {
   catalogue = catalogue_of_two_undeclared;
   eras =
       (record {
@@ -55,7 +55,7 @@ given_two_undeclared = record {
 }
 
 abbrev pub log_of_two_undeclared : Log
-log_of_two_undeclared = extended 186 given_two_undeclared []
+log_of_two_undeclared = extended 186 input_of_two_undeclared []
 
 pub history_of_two_undeclared :
     history log_of_two_undeclared ≡
@@ -91,5 +91,5 @@ pub history_of_two_undeclared :
     []
 history_of_two_undeclared = refl
 
-pub all_of_two_undeclared : (next given_two_undeclared log_of_two_undeclared ≡ None) × (length log_of_two_undeclared ≡ 186) × (marks log_of_two_undeclared ≡ 79)
+pub all_of_two_undeclared : (next input_of_two_undeclared log_of_two_undeclared ≡ None) × (length log_of_two_undeclared ≡ 186) × (marks log_of_two_undeclared ≡ 79)
 all_of_two_undeclared = (refl, refl, refl)

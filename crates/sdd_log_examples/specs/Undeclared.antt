@@ -30,8 +30,8 @@ catalogue_of_undeclared = record {
       [];
 }
 
-abbrev pub given_undeclared : Input
-given_undeclared = record {
+abbrev pub input_of_undeclared : Input
+input_of_undeclared = record {
   catalogue = catalogue_of_undeclared;
   eras =
       (record {
@@ -61,7 +61,7 @@ given_undeclared = record {
 }
 
 abbrev pub log_of_undeclared : Log
-log_of_undeclared = extended 26 given_undeclared []
+log_of_undeclared = extended 26 input_of_undeclared []
 
 pub history_of_undeclared :
     history log_of_undeclared ≡
@@ -79,5 +79,5 @@ pub history_of_undeclared :
     []
 history_of_undeclared = refl
 
-pub all_of_undeclared : (next given_undeclared log_of_undeclared ≡ None) × (length log_of_undeclared ≡ 26) × (marks log_of_undeclared ≡ 8)
+pub all_of_undeclared : (next input_of_undeclared log_of_undeclared ≡ None) × (length log_of_undeclared ≡ 26) × (marks log_of_undeclared ≡ 8)
 all_of_undeclared = (refl, refl, refl)

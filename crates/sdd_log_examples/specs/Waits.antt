@@ -24,8 +24,8 @@ catalogue_of_rejected = record {
       [];
 }
 
-abbrev pub given_rejected : Input
-given_rejected = record {
+abbrev pub input_of_rejected : Input
+input_of_rejected = record {
   catalogue = catalogue_of_rejected;
   eras =
       (record {
@@ -60,7 +60,7 @@ given_rejected = record {
 }
 
 abbrev pub log_of_rejected : Log
-log_of_rejected = extended 52 given_rejected []
+log_of_rejected = extended 52 input_of_rejected []
 
 pub history_of_rejected :
     history log_of_rejected ≡
@@ -95,7 +95,7 @@ pub history_of_rejected :
     []
 history_of_rejected = refl
 
-pub all_of_rejected : (next given_rejected log_of_rejected ≡ None) × (length log_of_rejected ≡ 52) × (marks log_of_rejected ≡ 20)
+pub all_of_rejected : (next input_of_rejected log_of_rejected ≡ None) × (length log_of_rejected ≡ 52) × (marks log_of_rejected ≡ 20)
 all_of_rejected = (refl, refl, refl)
 
 -- a query waits for two classes; a put of one of them is held until it is answered
@@ -117,8 +117,8 @@ catalogue_of_waits_for_two = record {
       [];
 }
 
-abbrev pub given_waits_for_two : Input
-given_waits_for_two = record {
+abbrev pub input_of_waits_for_two : Input
+input_of_waits_for_two = record {
   catalogue = catalogue_of_waits_for_two;
   eras =
       (record {
@@ -151,7 +151,7 @@ given_waits_for_two = record {
 }
 
 abbrev pub log_of_waits_for_two : Log
-log_of_waits_for_two = extended 23 given_waits_for_two []
+log_of_waits_for_two = extended 23 input_of_waits_for_two []
 
 pub history_of_waits_for_two :
     history log_of_waits_for_two ≡
@@ -178,7 +178,7 @@ pub history_of_waits_for_two :
     []
 history_of_waits_for_two = refl
 
-pub all_of_waits_for_two : (next given_waits_for_two log_of_waits_for_two ≡ None) × (length log_of_waits_for_two ≡ 23) × (marks log_of_waits_for_two ≡ 8)
+pub all_of_waits_for_two : (next input_of_waits_for_two log_of_waits_for_two ≡ None) × (length log_of_waits_for_two ≡ 23) × (marks log_of_waits_for_two ≡ 8)
 all_of_waits_for_two = (refl, refl, refl)
 
 -- of two puts a waiting query lets the one before its time pass
@@ -200,8 +200,8 @@ catalogue_of_earlier_and_later = record {
       [];
 }
 
-abbrev pub given_earlier_and_later : Input
-given_earlier_and_later = record {
+abbrev pub input_of_earlier_and_later : Input
+input_of_earlier_and_later = record {
   catalogue = catalogue_of_earlier_and_later;
   eras =
       (record {
@@ -234,7 +234,7 @@ given_earlier_and_later = record {
 }
 
 abbrev pub log_of_earlier_and_later : Log
-log_of_earlier_and_later = extended 22 given_earlier_and_later []
+log_of_earlier_and_later = extended 22 input_of_earlier_and_later []
 
 pub history_of_earlier_and_later :
     history log_of_earlier_and_later ≡
@@ -263,6 +263,6 @@ pub history_of_earlier_and_later :
     []
 history_of_earlier_and_later = refl
 
-pub all_of_earlier_and_later : (next given_earlier_and_later log_of_earlier_and_later ≡ None) × (length log_of_earlier_and_later ≡ 22)
+pub all_of_earlier_and_later : (next input_of_earlier_and_later log_of_earlier_and_later ≡ None) × (length log_of_earlier_and_later ≡ 22)
     × (marks log_of_earlier_and_later ≡ 7)
 all_of_earlier_and_later = (refl, refl, refl)

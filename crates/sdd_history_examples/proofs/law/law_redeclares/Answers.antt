@@ -1,5 +1,5 @@
 use Rattle.sdd_history_examples.proofs.All.{refl}
-use Rattle.sdd_history_examples.proofs.FurtherClasses.{redeclares_keeps}
+use Rattle.sdd_history_examples.proofs.SecondClassList.{redeclares_keeps}
 use Rattle.sdd_history_examples.proofs.law.law_redeclares.Goals as goal
 
 pub returns-clause-keeps : goal.returns-clause-keeps

@@ -1,4 +1,4 @@
-use Rattle.sdd_history_examples.proofs.WorkedTables.{is_bridge, is_one_reader, is_crossing, is_further_classes, is_one_class, is_one_writer}
+use Rattle.sdd_history_examples.proofs.WorkedTables.{is_bridge, is_crossing, is_one_class, is_one_reader, is_one_writer, is_second_class_list}
 use Rattle.sdd_history_examples.proofs.tables.law_tables.Goals as goal
 
 pub returns-clause-bridge : goal.returns-clause-bridge
@@ -16,5 +16,5 @@ returns-clause-one_class g = is_one_class
 pub returns-clause-one_writer : goal.returns-clause-one_writer
 returns-clause-one_writer g = is_one_writer
 
-pub returns-clause-further_classes : goal.returns-clause-further_classes
-returns-clause-further_classes g = is_further_classes
+pub returns-clause-second_class_list : goal.returns-clause-second_class_list
+returns-clause-second_class_list g = is_second_class_list

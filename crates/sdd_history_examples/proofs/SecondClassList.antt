@@ -6,7 +6,7 @@ use Rattle.sdd_history_examples.proofs.Keeping.{keeps_all, no_rejections}
 use Rattle.sdd_history_examples.proofs.Sound.{sound_both_classes}
 use Rattle.sdd_history_examples.proofs.Starts.{PassStarts}
 use Rattle.sdd_history_examples.proofs.Texts.{put_fits, values_fit, one_fits}
-use Rattle.sdd_history_examples.proofs.WorkedTables.{is_one_class, is_further_classes}
+use Rattle.sdd_history_examples.proofs.WorkedTables.{is_one_class, is_second_class_list}
 
 -- the class lists are those of one catalogue
 
@@ -58,5 +58,5 @@ pub redeclares_keeps : KeepsAll both_classes two_eras [] put_then_query redeclar
 redeclares_keeps =
     keeps_all both_classes two_eras [] put_then_query redeclares
     (record { sound = sound_both_classes; fit = (grind (arith, are_two, one_fits, put_fits, values_fit)); starts = starts; answers = answers; applies = applies; alone = refl; lists = record { apart = refl; one_era = refl } })
-    (λ event. cond (nat_lt event 5) table_of_one table_of_two) (is_one_class, (is_further_classes, tt)) refl
+    (λ event. cond (nat_lt event 5) table_of_one table_of_two) (is_one_class, (is_second_class_list, tt)) refl
     (no_rejections both_classes two_eras redeclares refl)
