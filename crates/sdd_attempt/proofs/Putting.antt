@@ -8,14 +8,14 @@ number n = n.0
 abbrev reaches : ℕ → DmNo → Bool
 reaches k n = not (nat_lt n.0 k)
 
--- the module behind which the rest stands
+-- the module after which the rest stands
 
 first_of_more : (p : DmNo → Bool) (x : DmNo) (xs : List DmNo) → position p (x ∷ xs) ≡ cond (p x) (Some 0) (option_map suc (position p xs))
 first_of_more p x xs = position_from-zero p (x ∷ xs) ∙ ap (cond (p x) (Some 0)) (later p 0 xs ∙ ap (option_map suc) (sym (position_from-zero p xs)))
 
 -- a comparison by two tests
 
--- where all are lower, it is put behind them
+-- where all are lower, it is put after them
 
 pub put_behind : (xs : List DmNo) (d : DmNo) → position (λ n. not (nat_lt n.0 d.0)) xs ≡ None
     → insert_key nat_cmp (map (λ n. n.0) xs) d.0 ≡ map (λ n. n.0) (xs ++ d ∷ [])

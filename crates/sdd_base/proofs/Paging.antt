@@ -1,4 +1,4 @@
--- What a sink took of pages, one behind the other.
+-- What a sink took of pages, one after the other.
 use Rattle.sdd_base.proofs.All.{List, None, OnErr, Option, Result, Some, [], add-one, ap, append-nil, append_assoc, arith, drop, drop-cons, flat_map, flat_map-append, get_or, length, length-append, nat_tests, refl, sym, take, take-append-drop, take-append_seam, take_more, with_end, ℕ, ◌++◌, ◌+◌, ◌-◌, ◌<◌, ◌∙◌, ◌∷◌, ◌≡◌, ◌≤◌}
 
 -- the bytes of pages
@@ -24,7 +24,7 @@ part_taken known before piece after whole n is =
           ∙ ap (with_end known) (sym (ap (take (length front)) parts ∙ take-append_seam front (drop n piece ++ after))),
     )
 
--- pages are those before one, this one, and those behind it
+-- pages are those before one, this one, and those after it
 pub at_page : (pages : List (List ℕ)) (i : ℕ) (page : List ℕ) → i < length pages → page ≡ get_or pages i page
     → joined pages ≡ joined (take i pages) ++ (page ++ joined (drop (i + 1) pages))
 at_page pages i page within is =
@@ -51,7 +51,7 @@ page_left pages i page bytes room within is same fits =
     let long : length bytes ≡ length page = ap length same in
     omega (arith, all, long, length-append before (page ++ after), length-append page after)
 
--- and behind it for those that follow
+-- and after it for those that follow
 pub room_left : (pages : List (List ℕ)) (i : ℕ) (page bytes : List ℕ) (room : ℕ) → i < length pages → page ≡ get_or pages i page
     → bytes ≡ page → (room - length (joined (take i pages))) - length bytes ≡ room - length (joined (take (i + 1) pages))
 room_left pages i page bytes room within is same =

@@ -12,10 +12,10 @@ use std::alloc::Global;
 use std::marker::Model;
 use std::mem;
 
-/// A page of fewer bytes is copied behind what stands before it, rather than shared.
+/// A page of fewer bytes is copied after what stands before it, rather than shared.
 const MIN_SHARED_BYTES: usize = 4096;
 
-/// A text in pages, one behind the other. Contracts see the whole text. Where memory runs out in a
+/// A text in pages, one after the other. Contracts see the whole text. Where memory runs out in a
 /// call, the text is not to be used.
 #[derive(Drop)]
 pub struct Pages {
@@ -83,7 +83,7 @@ impl Pages {
     }
 }
 
-/// Writes pages, one behind the other. After a fault the sink took the first part of their bytes.
+/// Writes pages, one after the other. After a fault the sink took the first part of their bytes.
 fn write_each<O: Sink>(out: &mut O, pages: &[Page]) -> Result<(), Failed>
     ensures done { OnOk result (
         O.taken out.new ≡ with_end (O.taken out.old) (flat_map (λ page. page) pages.now)) }

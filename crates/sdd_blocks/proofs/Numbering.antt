@@ -24,7 +24,7 @@ module _ (marks given numbers : List ℕ) (last count : ℕ) (s : IsNumberingAt 
   kept : (n k : ℕ) → k < count → get_or (numbers ++ n ∷ []) k 0 ≡ get_or numbers k 0
   kept n k h = get_or_append_left numbers (n ∷ []) 0 k (omega (arith, s.one_each))
 
-  -- the new number stands behind them
+  -- the new number stands after them
   new : (n : ℕ) → get_or (numbers ++ n ∷ []) count 0 ≡ n
   new n = get_or_push numbers n 0 count s.one_each
 
@@ -32,7 +32,7 @@ module _ (marks given numbers : List ℕ) (last count : ℕ) (s : IsNumberingAt 
   reached_kept : (n b : ℕ) → b < last → (j : ℕ) × (j < count) × (get_or (numbers ++ n ∷ []) j 0 ≡ suc b)
   reached_kept n b h = let r = s.reached b h in (r.0, r.1, kept n r.0 r.1 ∙ r.2)
 
-  -- and still stands behind the number before it
+  -- and still stands after the number before it
   in_order_kept : (n k b : ℕ) → k < count → get_or (numbers ++ n ∷ []) k 0 ≡ suc (suc b)
       → (j : ℕ) × (j < k) × (get_or (numbers ++ n ∷ []) j 0 ≡ suc b)
   in_order_kept n k b h e =

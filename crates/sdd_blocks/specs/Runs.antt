@@ -1,4 +1,4 @@
--- Edges with the same ends, one behind the other.
+-- Edges with the same ends, one after the other.
 use Rattle.std.specs.Prelude.{ℕ, ◌≡◌, List, [], ◌∷◌, ◌++◌, replicate, refl}
 use Rattle.sdd_blocks.specs.declared.runs.Run.{Run}
 

@@ -40,7 +40,7 @@ pub const MAX_NODES: u32 = 4_096;
 ///
 /// The cost is `2 * nodes` passes over the edges, of a few steps for each edge (at worst the logarithm
 /// of the number of nodes, on average over a pass), and memory for a few numbers for each edge and node.
-/// In a pass, edges with the same ends that stand one behind the other cost what one does.
+/// In a pass, edges with the same ends that stand one after the other cost what one does.
 pub fn blocks(alloc: Global, edges: &[(u32, u32)], nodes: u32) -> Result<Vec<u32>, NoMemory>
     requires ends { All (λ e. (e.0 < nodes) × (e.1 < nodes)) edges.now }
     requires few_edges { length edges.now ≤ MAX_EDGES }

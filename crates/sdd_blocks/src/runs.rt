@@ -4,7 +4,7 @@ ghost use Rattle.sdd_blocks.specs.Runs.{edges_in};
 use sdd_base::NoMemory;
 use std::alloc::Global;
 
-/// Edges with the same ends, one behind the other.
+/// Edges with the same ends, one after the other.
 #[derive(Clone, Copy)]
 pub(crate) struct Run {
     pub(crate) ends: (u32, u32),

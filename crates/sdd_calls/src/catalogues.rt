@@ -74,7 +74,7 @@ fn is_last(classes: &[ClassPart], class: &ClassPart) -> bool {
     }
 }
 
-/// No class is put behind those that are there by the name of one of them.
+/// No class is put after those that are there by the name of one of them.
 pub fn is_refused(alloc: Global, catalogue: &Catalogue) -> Result<bool, NoMemory> {
     let parts = catalogue.parts()?;
     match extend(alloc, catalogue, parts.classes.as_slice()) {

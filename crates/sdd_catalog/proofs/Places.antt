@@ -44,7 +44,7 @@ no_item_at_place {A} f name xs e =
 pub place_there : (name : Text) (names : List Text) (o : Option ℕ) → o ≡ place_of name names → is_some o ≡ has_name names name
 place_there name names o e = ap is_some e ∙ some_place (bytes_eq name) 0 names
 
--- the places of names from an item on, by those behind it
+-- the places of names from an item on, by those after it
 pub one_place_back : (fragments : List FragmentPart) (i j : ℕ) (f : FragmentPart) (key : List ℕ) (old new : List ℕ → Option ℕ)
     → j ≡ i + 1 → i < length fragments → f ≡ get_or fragments i f → key ≡ f.name
     → ((name : List ℕ) → new name ≡ cond (bytes_eq key name) (Some i) (old name))

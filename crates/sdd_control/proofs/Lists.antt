@@ -45,7 +45,7 @@ abbrev pub Has : List Message → Message → Type 0
 Has [] m = ⊥
 Has (x ∷ xs) m = (x ≡ m) ⊎ Has xs m
 
--- nothing is behind a GONE
+-- nothing is after a GONE
 abbrev pub Tidy : List Message → Type 0
 Tidy [] = Unit {0}
 Tidy (GONE ∷ xs) = xs ≡ []

@@ -38,7 +38,7 @@ items_within from to keys items low high = grind (arith, filter_same, Item, is_b
 pub both_ways : (b : Bool) → (b && not b) ≡ false
 both_ways b = grind arith
 
--- no item lies behind a key and before it
+-- no item lies after a key and before it
 pub items_nowhere : (key : ℤ) (items : Items) → filter (λ e. is_le (int_cmp key e.0) && not (is_le (int_cmp key e.0))) items ≡ []
 items_nowhere key items = grind (arith, filter_none, Item, is_le, int_cmp, both_ways)
 

@@ -7,7 +7,7 @@ Keyed = ℤ × List Value
 abbrev UpTo : ℤ → List Keyed → Type 0
 UpTo k rows = AllByRecursion (λ (e : Keyed). e.0 ≤ℤ k) rows
 
--- a row behind all others is put at the end
+-- a row after all others is put at the end
 put_last : (k : ℤ) (rows : List Keyed) (row : Keyed) → UpTo k rows → int_lt k row.0 ≡ true
     → with_keyed rows row ≡ rows ++ row ∷ []
 put_last k [] row up_to after = refl
@@ -18,7 +18,7 @@ up_to_last : (k : ℤ) (rows : List Keyed) (row : Keyed) → UpTo k rows → int
 up_to_last k [] row up_to after = (grind (arith, ints), tt)
 up_to_last k (e ∷ rows) row up_to after = (grind (arith, ints, up_to.0), up_to_last k rows row up_to.1 after)
 
--- rows that ascend behind others are put at the end, one after the other
+-- rows that ascend after others are put at the end, one after the other
 put_behind : (rows : List Keyed) (last : Keyed) (more : List Keyed) → UpTo last.0 rows → ascend (Some last) more ≡ true
     → fold with_keyed rows more ≡ rows ++ more
 put_behind rows last [] up_to h = sym (append-nil rows)

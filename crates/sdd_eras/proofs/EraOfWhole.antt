@@ -21,13 +21,13 @@ emptied_under ws [] h = tt
 emptied_under [] (c ∷ cs) h = h
 emptied_under (w ∷ ws) (c ∷ cs) h = (record { tm = h.0.tm; sets = inr (refl, refl) }, emptied_under ws cs h.1)
 
--- behind further classes of the whole catalogue
+-- after further classes of the whole catalogue
 more_under : (ws us cs : List Class) → AreUnder ws cs → AreUnder (ws ++ us) cs
 more_under ws us [] h = tt
 more_under [] us (c ∷ cs) h = absurd h
 more_under (w ∷ ws) us (c ∷ cs) h = (h.0, more_under ws us cs h.1)
 
--- with the same classes behind both
+-- with the same classes after both
 both_under : (ws cs us : List Class) → length ws ≡ length cs → AreUnder ws cs → AreUnder (ws ++ us) (cs ++ us)
 both_under [] [] us e h = own us
 both_under (w ∷ ws) [] us e h = absurd (omega (arith, e))

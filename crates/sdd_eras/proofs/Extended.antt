@@ -1,4 +1,4 @@
--- Classes behind those that are there.
+-- Classes after those that are there.
 use Rattle.sdd_eras.proofs.All.{Catalogue, ClassPart, IsSoundCatalogue, IsValid, List, Parts, [], ap, append-nil, append_assoc, arith, catalogue_of, faults_of_added_classes, faults_of_class, found_from, found_in, map-append, map-map, no_faults, parts_of, refl, sym, with_added_classes, with_classes, ◌++◌, ◌∙◌, ◌∷◌, ◌≡◌}
 use Rattle.sdd_lang.specs.catalog.Rules.{faults_of}
 

@@ -17,7 +17,7 @@ rules_behind parts count names c =
     ++ found_in (read_rules parts) c.reads
     ++ found_in (write_rules parts) c.writes
 
--- behind classes of the same names the same rules are broken
+-- after classes of the same names the same rules are broken
 pub same_rules : (parts : Parts) (before earlier : List ClassPart) (c : ClassPart) → names_of before ≡ names_of earlier
     → class_rules parts earlier c ≡ class_rules parts before c
 same_rules parts before earlier c same = grind (arith, length-map, rules_behind, names_of)
@@ -31,7 +31,7 @@ pub emptied_is_fine : (parts : Parts) (before : List ClassPart) (c : ClassPart) 
     → class_rules parts before (emptied_part c) ≡ []
 emptied_is_fine parts before c e = grind (arith, three_of_six, nat_le, names_of)
 
--- a class that is found fine stays so behind classes of the same names
+-- a class that is found fine stays so after classes of the same names
 pub fine_behind : (parts : Parts) (before earlier : List ClassPart) (c : ClassPart) → names_of before ≡ names_of earlier
     → faults_of_class parts before c ≡ [] → class_rules parts earlier c ≡ []
 fine_behind parts before earlier c same e = same_rules parts before earlier c same ∙ empty_of_map _ _ e

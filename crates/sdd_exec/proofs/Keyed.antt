@@ -1,4 +1,4 @@
--- Rows put one by one by their keys: a key above the last goes behind it.
+-- Rows put one by one by their keys: a key above the last goes after it.
 use Rattle.sdd_exec.proofs.All.{AllByRecursion, Entry, Greater, IsStrictlySortedBy, Less, List, Row, Some, [], arith, by_keys, entries_of, fold, fold-append, insert_entry, inserted_sorted, int_cmp, int_cmp_total, keyed_rows, keys_of, length, map-append, nil_from_length, of_relation, ordering_reverse, refl, slice_get, slice_get-get_or, slice_index_or as get_or, sorted_head, sorted_nil, sorted_tail, suc, to_last_key, zero, ℕ, ℤ, ◌++◌, ◌+◌, ◌-◌, ◌∷◌, ◌≡◌}
 
 pub entries_are : (rel : ℕ) (entries : List Entry) → entries_of rel entries ≡ of_relation rel (keyed_rows entries)

@@ -106,7 +106,7 @@ among_more : (frags : List FragNo) (f : FragNo) (x : ℕ)
     → is_among (frags ++ f ∷ []) x ≡ (is_among frags x || (f.0 == x))
 among_more frags f x = grind (arith, nat_tests, list_any-append, or-false)
 
--- a flag set at a fragment's number is that of a list with the fragment behind it
+-- a flag set at a fragment's number is that of a list with the fragment after it
 pub mark_more : (frags more : List FragNo) (n : ℕ) (f : FragNo) → more ≡ frags ++ f ∷ [] → 1 ≤ f.0
     → set (map (is_among frags) (numbers_to n)) (f.0 - 1) true ≡ map (is_among more) (numbers_to n)
 mark_more frags more n f e some = grind (arith, nat_tests, mark_from, map_agree, among_more)

@@ -11,7 +11,7 @@ use std::snapshot::Snapshot;
 /// more than growing.
 const MIN_ROOM: usize = 1024;
 
-/// A reply of which only its lines in a report are kept, as they stand behind the name of the
+/// A reply of which only its lines in a report are kept, as they stand after the name of the
 /// transaction. Contracts see the reply.
 #[derive(Drop)]
 pub struct PrintedReply {

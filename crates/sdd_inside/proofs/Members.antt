@@ -1,4 +1,4 @@
--- Members of objects, put behind what was written.
+-- Members of objects, put after what was written.
 use Rattle.std.proofs.Common.{◌≡◌, ℕ, List, [], ◌∷◌, ◌++◌, length, refl, sym, ap, ◌∙◌, append_assoc, append-nil, arith}
 use Rattle.sdd_inside.specs.Json.{also, array, member, object, triple, unless_empty}
 

@@ -61,7 +61,7 @@ abbrev pub on_link : Site → Site → List InFlight → List Put
 on_link from to [] = []
 on_link from to (p ∷ ps) = record { from = from; to = to; packets = p ∷ ps } ∷ []
 
--- what stands behind the packets that are left
+-- what stands after the packets that are left
 abbrev pub put_between : Happened → LinkMoment → LinkMoment → List Put
 put_between h before after = on_link after.from after.to (map (in_flight before.sent) (drop (left h before) after.flight))
 
@@ -70,7 +70,7 @@ abbrev pub handed_between : Happened → LinkMoment → LinkMoment → List Hand
 handed_between h before after =
     if before.handed == after.handed then [] else record { from = after.from; to = after.to; upto = after.handed } ∷ []
 
--- queues: those before the first of the queue after the event are gone, and behind those that stayed stand those that came
+-- queues: those before the first of the queue after the event are gone, and after those that stayed stand those that came
 
 abbrev pub is_first : List TxnNo → TxnNo → Bool
 is_first [] n = false
@@ -87,7 +87,7 @@ queue_between h before after =
     if is_empty (came before.queue after.queue) && gone before.queue after.queue == 0 then [] else
     (record { class = after.class; came = came before.queue after.queue; gone = gone before.queue after.queue } ∷ [])
 
--- pipes: what came behind what had come, and how much more was processed
+-- pipes: what came after what had come, and how much more was processed
 abbrev pub pipe_between : Happened → PipeMoment → PipeMoment → List PipeDelta
 pipe_between h before after =
     if is_empty (drop (length before.came) after.came) && after.processed - before.processed == 0 then [] else

@@ -9,7 +9,7 @@ hex_digit n = if nat_lt n 10 then 48 + n else 87 + n
 abbrev pub numbered : ℕ → List ℕ
 numbered c = codes "\\u00" ++ (if nat_lt c 16 then 48 ∷ hex_digit c ∷ [] else 49 ∷ hex_digit (c - 16) ∷ [])
 
--- a byte of a string: quotes and backslashes stand behind a backslash, control characters have a letter or a number,
+-- a byte of a string: quotes and backslashes stand after a backslash, control characters have a letter or a number,
 -- and all else stands for itself
 abbrev pub escaped_byte : ℕ → List ℕ
 escaped_byte c =
@@ -28,7 +28,7 @@ escaped text = flat_map escaped_byte text
 abbrev pub quoted : List ℕ → List ℕ
 quoted text = 34 ∷ (escaped text ++ 34 ∷ [])
 
--- what stands behind a comma
+-- what stands after a comma
 abbrev pub further : {A : Type 0} → (A → List ℕ) → A → List ℕ
 further f x = 44 ∷ f x
 
@@ -74,6 +74,6 @@ unless_zero name n = if n == 0 then [] else also name (decimal n)
 abbrev pub object : List ℕ → List ℕ → List ℕ
 object first more = 123 ∷ (first ++ (more ++ 125 ∷ []))
 
--- worked: behind a letter a quote, a backslash, a tab, the character with the number 31, a newline and the one with the number 127
+-- worked: after a letter a quote, a backslash, a tab, the character with the number 31, a newline and the one with the number 127
 pub escapes : quoted (97 ∷ 34 ∷ 92 ∷ 9 ∷ 31 ∷ 10 ∷ 127 ∷ []) ≡ codes "\"a\\\"\\\\\\t\\u001f\\n\u{7f}\""
 escapes = refl

@@ -47,7 +47,7 @@ queue_json cat txns q =
     (member (codes "class") (class_json cat txns q.class))
     (unless_empty (codes "in") (txn_json cat txns) q.came ++ unless_zero (codes "out") q.gone)
 
--- what came to a pipe and what was processed, behind the class
+-- what came to a pipe and what was processed, after the class
 abbrev pub pipe_moves : Catalogue → List Txn → PipeDelta → List ℕ
 pipe_moves cat txns p =
     unless_empty (codes "in") (number_json cat txns) p.came

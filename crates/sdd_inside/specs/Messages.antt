@@ -33,7 +33,7 @@ rows_json n = also (codes "rows") (decimal n)
 abbrev pub values_json : ℕ → List ℕ
 values_json n = also (codes "values") (decimal n)
 
--- the members of a message behind its number
+-- the members of a message after its number
 abbrev pub message_json : Catalogue → List Txn → Msg → List ℕ
 message_json cat txns (messages.Read ts class txn attempt conds uses) =
     of_class (codes "READ") cat txns class ts

@@ -31,7 +31,7 @@ stage_word stages.Holding = codes "holding"
 stage_word stages.Reading = codes "reading"
 stage_word stages.Writing = codes "writing"
 
--- the members of an attempt behind its class: which it is, and what it waits for
+-- the members of an attempt after its class: which it is, and what it waits for
 
 abbrev pub attempt_members : List Txn → Active → List ℕ
 attempt_members txns a = also (codes "txn") (attempt_json txns a.txn a.attempt) ++ also (codes "time") (decimal a.time.0)

@@ -11,7 +11,7 @@ use sdd_script::sdd_base::{Event, NoMemory, Site, TmNo};
 use sdd_script::sdd_lang::Txn;
 use sdd_script::sdd_words::{put, put_count};
 
-/// Puts a word behind a space.
+/// Puts a word after a space.
 fn put_word(out: &mut Vec<u8>, word: &[u8]) -> Result<(), NoMemory>
     ensures { OnOk result (out.new.items ≡ out.old.items ++ spaced (Plain word.now)) }
 {

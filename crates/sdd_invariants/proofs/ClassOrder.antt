@@ -48,7 +48,7 @@ head_at ps (x ∷ qs) more m e =
     let p : x ≡ m = cc in
     in_left (ps ++ x ∷ qs) more (length ps) m (subst (λ y. slice_get (ps ++ x ∷ qs) (length ps) ≡ Some y) p (at_seam ps qs x))
 
--- the head of a pipe stands behind the processed ones, in every later log
+-- the head of a pipe stands after the processed ones, in every later log
 pub head_place : (g : Input) (c : ℕ) (d : DmNo) (later log : Log) (m : Msg) → IsPermitted g log → head (pipe_at g c d log) ≡ Some m
     → slice_get (class_puts g c d (later ++ log)) (length (pipe_at g c d log).processed) ≡ Some m
 head_place g c d later log m h e = grind (arith, head_at, in_pipe_later g c d later log h)

@@ -53,7 +53,7 @@ stricts g d = each_local g (D d) IsStrictHere (record {
   did = λ log act p due i. (strict_pipe g 0 d log (omega arith) p, λ m e. (head_put g 0 d log m p e).of_class);
 })
 
--- at most one DONE with a timestamp, and behind its WRITE
+-- at most one DONE with a timestamp, and after its WRITE
 record IsOnce (x : ℕ) (log : site.Log) : Type 0 where
   pub le : tally (is_done_of x) (puts_to U log) ≤ 1
   pub was : 0 < tally (is_done_of x) (puts_to U log) → (k : ℕ) × (m : Msg) × (slice_get (pipe 0 log).processed k ≡ Some m) × (write_at 0 m ≡ Some x)

@@ -1,5 +1,5 @@
 -- An Apply follows the Commit that put its WRITE; within a class a module applies in the order of timestamps and leaves
--- none out; and an Answer stands behind the Applies of its class with smaller timestamps, and before the others.
+-- none out; and an Answer stands after the Applies of its class with smaller timestamps, and before the others.
 use Rattle.sdd_invariants.proofs.All.{Act, Apply, Attempt, Bases, Bool, Change, ClassNo, D, Did, DmNo, Does, Each, Input, IsApplied, IsApplyOf, IsFair, IsOf, IsPermitted, IsPutAt, IsPutBy, IsReadStep, IsWrite, List, May, Msg, None, Option, Rec, Records, Setting, Site, Some, Ts, TxnNo, Write, [], allowed_act, ap, arith, by_record, by_wait, changes_at, changes_to, class_in, class_is, class_no, class_puts, commit_act, cond, dm_no, effect, eqb-true, false, filter_map, goes_through, head, home, in_passing, inl, inr, length, local_of, not, number_of, or_left, or_right, pipe, pipe_at, place_within, puts_to, range_with_len, refl, results, sends_of_act, setting_of, slice_get, subst, suc, sym, time_at, time_of, to_site, true, txn_no, view_of, waits, write_at, write_to, zero, ℕ, ◌++◌, ◌+◌, ◌<◌, ◌==◌, ◌∙◌, ◌∷◌, ◌≡◌, ◌≤◌, ◌⊎◌}
 use Rattle.sdd_invariants.proofs.Origins.{is_put, not_empty, was_put}
 use Rattle.sdd_invariants.proofs.ReadsPut.{put_by}

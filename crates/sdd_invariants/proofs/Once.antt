@@ -46,7 +46,7 @@ pub processed_grows : (c : ℕ) (later log : site.Log) → length (pipe c log).p
 processed_grows c [] log = omega arith
 processed_grows c (e ∷ later) log = grind (arith, processed_handed, length-append, head, pipe, (processed_grows c later log))
 
--- a READ that is answered doesn't stand at the head again: an Answer, and behind it a READ with the same timestamp
+-- a READ that is answered doesn't stand at the head again: an Answer, and after it a READ with the same timestamp
 pub answered_there : (g : Input) (c : ℕ) (d : DmNo) (later before : Log) (dm : DmNo) (sends : List (Site × Msg)) (ts1 ts2 : Ts) (k1 k2 : ClassNo) (txn txn1 txn2 : TxnNo) (n n1 n2 : ℕ) (ds1 ds2 : List Cond) (us1 us2 : List Use)
     → IsPermitted g (later ++ Does (D d) (Records c (Answer txn n dm) sends) ∷ before) → number_of (home g.catalogue c) ≤ 63
     → head (pipe_at g c d before) ≡ Some (Read ts1 k1 txn1 n1 ds1 us1)
@@ -74,7 +74,7 @@ answered_there g c d later before dm sends ts1 ts2 k1 k2 txn txn1 txn2 n n1 n2 d
     let now : length (pipe c (local_of g (D d) log)).processed ≡ length (pipe c (x.0 ++ Did ans ∷ b)).processed = ap (λ y. length (pipe c y).processed) l in
     omega (arith, ap (λ (p : Pipe). length p.processed) (own_record c (Answer txn n dm) sends b refl).0 ∙ ap length (processed_more (pipe c b) m1 e1))
 
--- an Answer to a READ, and behind it a head with the READ of the same transaction and attempt
+-- an Answer to a READ, and after it a head with the READ of the same transaction and attempt
 pub answered_once : (g : Input) (c : ℕ) (d : DmNo) (later before : Log) (dm : DmNo) (sends : List (Site × Msg)) (ts1 ts2 : Ts) (k1 k2 : ClassNo) (txn1 txn2 : TxnNo) (n1 n2 : ℕ) (ds1 ds2 : List Cond) (us1 us2 : List Use)
     → IsPermitted g (later ++ Does (D d) (Records c (Answer txn1 n1 dm) sends) ∷ before) → number_of (home g.catalogue c) ≤ 63
     → head (pipe_at g c d before) ≡ Some (Read ts1 k1 txn1 n1 ds1 us1)

@@ -4,7 +4,7 @@ use Rattle.sdd_invariants.proofs.All.{Attempt, Entry, List, Log, Msg, NoRecord, 
 abbrev pub AreSame : {A : Type 0} → A → A → List A → List A → Type 0
 AreSame x y b1 b2 = (b1 ≡ b2) × (x ≡ y)
 
--- the place x ∷ b1 is behind y ∷ b2
+-- the place x ∷ b1 is after y ∷ b2
 pub record IsBehind {A : Type 0} (x y : A) (l1 l2 b1 b2 : List A) : Type 0 where
   pub between : List A
   pub is : b2 ≡ between ++ x ∷ b1
@@ -49,7 +49,7 @@ one_front : (z : Log) (y : Entry) (b : Log) → (z ++ y ∷ []) ++ b ≡ z ++ y 
 one_front [] y b = refl
 one_front (x ∷ z) y b = ap (λ l. x ∷ l) (one_front z y b)
 
--- where the class is idle behind the Start of an attempt, that attempt's Commit, if it comes anywhere, stands before
+-- where the class is idle after the Start of an attempt, that attempt's Commit, if it comes anywhere, stands before
 pub committed_by : (s : Setting) (c : ℕ) (l2 l3 later b1 b2 b3 z : Log) (a : Attempt) (start commit y : Entry)
     → l3 ++ commit ∷ b3 ≡ l2 ++ y ∷ b2 → active s c b3 ≡ Some a → b3 ≡ later ++ start ∷ b1 → NoRecord c later
     → b2 ≡ z ++ start ∷ b1 → active s c b2 ≡ None → (w : Log) × (b2 ≡ w ++ commit ∷ b3)

@@ -61,7 +61,7 @@ sent_is g U b [] = refl
 sent_is g a b (e ∷ log) = sent_grows g a b e log ∙ ap (λ xs. xs ++ put_by b (made g a log e)) (sent_is g a b log) ∙ sym (puts_grow g a b e log)
 sent_is g _ b [] = refl
 
--- what was put stays, and more comes behind it
+-- what was put stays, and more comes after it
 pub puts_more : (g : Input) (a b : Site) (later log : Log)
     → (more : List Msg) × (puts_to b (local_of g a (later ++ log)) ≡ puts_to b (local_of g a log) ++ more)
 puts_more g a b [] log = ([], sym (append-nil _))

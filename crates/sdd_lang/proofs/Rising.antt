@@ -1,4 +1,4 @@
--- Changes put one by one: one whose item is above that of the last goes behind it.
+-- Changes put one by one: one whose item is above that of the last goes after it.
 use Rattle.sdd_lang.proofs.All.{AllByRecursion, Change, Changed, Greater, IsStrictlySortedBy, IsTotalOrder, Item, Less, List, Option, Ordering, Row, Some, [], ap, arith, by_item, change_of, changed_item, fold, fold-append, get_or, insert_entry, item_cmp, keys_of, length, length-map, map, map-append, nil_from_length, ordering_reverse, put_each, refl, slice_get, slice_get-get_or, sorted_head, sorted_tail, suc, sym, to_last_item, zero, ℕ, ◌++◌, ◌+◌, ◌-◌, ◌∙◌, ◌∷◌, ◌≡◌}
 use Rattle.sdd_lang.proofs.SortedEntries.{inserted_sorted, item_cmp_total, sorted_nil}
 

@@ -66,7 +66,7 @@ conds_of m = []
 abbrev pub read_msg : Attempt → List Cond → List Use → Msg
 read_msg a conds uses = Read (time_at a.ts) (class_no a.class) (txn_no a.txn) a.number conds uses
 
--- the conditions of an attempt's READ to module d, where its Start stands behind this log
+-- the conditions of an attempt's READ to module d, where its Start stands after this log
 abbrev pub conds_sent : Input → Attempt → Log → ℕ → List Cond
 conds_sent g a log d =
     conditions_at g.catalogue (current_era (home_setting g a.class) (at_home g a.class log)).table a.class (ascending (fragments_in a.uses)) a.ts (p2_time a) d

@@ -49,7 +49,7 @@ text_one o x y e f = let p : Some x ≡ Some y = sym e ∙ f in cc
 pub one_class : (g : Input) (log : Log) (n c d : ℕ) (t u : Txn) → IsPermitted g log → IsGivenTo g log n c t → IsGivenTo g log n d u → c ≡ d
 one_class g log n c d t u h x y = grind (arith, same_submission, text_one)
 
--- of two entries of a log, one behind the other, the one further back
+-- of two entries of a log, one after the other, the one further back
 pub further_back : (log later before : Log) (e f : Entry) (later2 rest : Log) → log ≡ later ++ e ∷ before → before ≡ later2 ++ f ∷ rest
     → (all : Log) × (log ≡ all ++ f ∷ rest)
 further_back log later before e f later2 rest p q = (later ++ e ∷ later2, p ∙ ap (λ l. later ++ e ∷ l) q ∙ sym (append_assoc later (e ∷ later2) (f ∷ rest)))

@@ -1,4 +1,4 @@
--- Classes that a workload may declare break no rule behind those before them.
+-- Classes that a workload may declare break no rule after those before them.
 use Rattle.sdd_lists.proofs.All.{All, AllByRecursion, Bool, CatRule, Catalogue, ClassPart, DuplicateName, IsFragment, IsFrom1To, IsValidClass, IsValidRead, List, MAX_CLASSES, MAX_READS, Parts, ReadPart, Text, TooMany, UnknownName, [], any_none, ap, apart_before, append_assoc, arith, class_rules, false, faults_of_class, found_from, found_in, has_name, is_from_1_to, length, length-append, map, map-append, map-id, nat_le, nat_lt, nat_tests, not, part_names, parts_of, read_names, read_rules, recursion_from_All, refl, repeats, subst, sym, true, two_empty, when, write_rules, ℕ, ◌++◌, ◌+◌, ◌<◌, ◌∙◌, ◌∷◌, ◌≡◌, ◌≤◌}
 use Rattle.sdd_lists.proofs.Fragments.{is_copied, is_named}
 use Rattle.sdd_script.specs.catalog.declared.fault.Part.TheVariants.{Class}
@@ -84,7 +84,7 @@ module _ (cat : Catalogue) where
       (reads_fine c.reads valid.reads valid.reads_once)
       (writes_fine c.writes valid.writes valid.writes_once)
 
-  -- classes behind others break no rule
+  -- classes after others break no rule
   pub classes_fine : (before classes : List ClassPart) → AllByRecursion (IsValidClass cat) classes
       → repeats (part_names before ++ part_names classes) ≡ false → length before + length classes ≤ MAX_CLASSES
       → found_from (faults_of_class Own) before classes ≡ []

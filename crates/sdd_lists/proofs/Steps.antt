@@ -5,12 +5,12 @@ use Rattle.sdd_lists.proofs.OtherClasses.{MayFollow, all_may_follow, none_furthe
 abbrev fragments_of : Catalogue → List Text
 fragments_of cat = map (λ (f : Fragment). f.name) cat.fragments
 
--- a catalogue with other classes, behind which these lists may follow
+-- a catalogue with other classes, after which these lists may follow
 pub record IsExtendedBy (cat last : Catalogue) (lists : List (List ClassPart)) : Type 0 where
   pub is : last ≡ over cat last.classes
   pub may : MayFollow cat last.classes lists
 
--- these classes behind a catalogue's own
+-- these classes after a catalogue's own
 abbrev pub added : Catalogue → Catalogue → List ClassPart → Catalogue
 added cat last first = extended (map (class_of (fragments_of cat)) first) last
 
@@ -39,7 +39,7 @@ follows_retired cat last n lists s = record {
   may = retired_may cat last.classes n lists s.may;
 }
 
--- what is in force behind a catalogue with these classes
+-- what is in force after a catalogue with these classes
 abbrev pub followed_by : Catalogue → List ClassPart → Catalogue
 followed_by last first = with_added_classes first (retired (length last.classes) last)
 

@@ -27,7 +27,7 @@ IsSingle Settle = ⊥
 IsSingle Redeclare = ⊥
 IsSingle _ = Unit {0}
 
--- an event more behind events of which nothing is left
+-- an event more after events of which nothing is left
 more_marked : (g : Input) (log : Log) (q : Bool) (r ws : List Event) (e : Event) → IsSingle e → mark_from g log q r ws ≡ None
     → mark_from (with_event g e) log q r (ws ++ e ∷ []) ≡ Some (Mark e)
 more_marked g log q r [] Settle i h = absurd i

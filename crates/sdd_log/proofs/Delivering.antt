@@ -45,7 +45,7 @@ pub ack_same : (a b : Site) (k : ℕ) (log : Log) → delivery k (link_of a b lo
     → delivered (link_of x y (Mark (Deliver a b k) ∷ log)).there ≡ delivered (link_of x y log).there
 ack_same a b k log e = grind (arith, same_delivered, by_acked)
 
--- messages that come to a link's end stand behind those that are there
+-- messages that come to a link's end stand after those that are there
 pub remain_more : (a b : Site) (k : ℕ) (log : Log) (rest messages : List Msg) → delivery k (link_of a b log) ≡ Messages messages → Remain log a b rest
     → Remain (Mark (Deliver a b k) ∷ log) a b (rest ++ messages)
 remain_more a b k log rest messages e r =

@@ -25,7 +25,7 @@ goes_due view due after law (a ∷ acts) start v w e g none =
     let r = goes_due view due after law acts (Did a ∷ start) (after (Did a) v) w (law (Did a) start ∙ ap (after (Did a)) e) g.1 none in
     record { are_due = (ap due e ∙ g.0, r.are_due); view_is = r.view_is }
 
--- what a call did from the log `start` on: acts that the log has next, and their notes behind those of before
+-- what a call did from the log `start` on: acts that the log has next, and their notes after those of before
 pub record DoesMore (next : Log → Option Act) (start : Log) (old new : Notes) (After : Log → Type 0) : Type 0 where
   pub acts : List Act
   pub recs_are : new.recs ≡ old.recs ++ records_of acts

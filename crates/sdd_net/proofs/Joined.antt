@@ -1,7 +1,7 @@
 -- A list that is joined of pieces: where an item of a piece stands, and what a change of a piece changes.
 use Rattle.sdd_net.proofs.All.{IfSome, IsSome, List, OnErr, OnSome, Option, Result, Some, [], ap, append-nil, append_assoc, arith, drop, flat_map, flat_map-append, get_before, get_or, length, length-append, nat_tests, refl, remove, remove-append_left, remove-append_right, replicate, replicate-append-replicate, slice_get, slice_get_read, slice_set, suc, sym, take, without_at, zero, ℕ, ◌++◌, ◌+◌, ◌-◌, ◌<◌, ◌∙◌, ◌∷◌, ◌≡◌}
 
--- an item stands behind the items before it
+-- an item stands after the items before it
 get_behind : {A : Type 0} (before after : List A) (j : ℕ)
     → slice_get (before ++ after) (length before + j) ≡ slice_get after j
 get_behind [] after j = let same : 0 + j ≡ j = omega arith in rw same refl
@@ -17,7 +17,7 @@ without_between before middle after j l =
     ∙ ap (λ ys. before ++ ys) (remove-append_left middle after j l)
 
 module _ {X A : Type 0} (f : X → List A) where
-  -- the pieces before one, that one, and those behind it
+  -- the pieces before one, that one, and those after it
   split_at : (ps : List X) (i : ℕ) (p : X) → i < length ps → p ≡ get_or ps i p
       → flat_map f ps ≡ flat_map f (take i ps) ++ (f p ++ flat_map f (drop (suc i) ps))
   split_at [] i p l e = absurd (omega arith)
@@ -45,7 +45,7 @@ module _ {X A : Type 0} (f : X → List A) where
       ∙ ap length (take_more ps i p l e)
       ∙ length-append (flat_map f (take i ps)) (f p)
 
-  -- an item of a piece stands behind the items of the pieces before it
+  -- an item of a piece stands after the items of the pieces before it
   pub item_at : (ps : List X) (i j : ℕ) (p : X) → i < length ps → p ≡ get_or ps i p → j < length (f p)
       → slice_get (flat_map f ps) (length (flat_map f (take i ps)) + j) ≡ slice_get (f p) j
   item_at ps i j p l e within =

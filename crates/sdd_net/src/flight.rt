@@ -64,7 +64,7 @@ impl<M: Parcel> Flight<M> {
         self.packets.is_empty()
     }
 
-    /// The packet that stands behind so many, lent; None exactly where there is none.
+    /// The packet that stands after so many, lent; None exactly where there is none.
     ///
     /// Takes no memory, and a step for each piece before the packet's.
     pub fn behind(&self, count: usize) -> Option<&Packet<M>>

@@ -15,7 +15,7 @@ abbrev is_commit : Act → Bool
 is_commit (Records k (Commit txn attempt reply changes values rows) sends) = true
 is_commit _ = false
 
--- another Commit behind it
+-- another Commit after it
 record IsAgain (y : Act) (x : site.Log) : Type 0 where
   pub later : site.Log
   pub act : Act
@@ -103,7 +103,7 @@ all_done g k t log y b a i h w fair e =
     ap (local_of g U) (p.is ∙ sym (append_assoc p.later (Does U (start_at s 0 (w.between ++ Did y ∷ b) w.queued) ∷ []) p.rest)) ∙ x.1 in
     omega (arith, got, (subst (λ l. dones_of a.ts (local_of g U p.rest) ≤ dones_of a.ts l) (sym whole) (dones_up a.ts x.0 (local_of g U p.rest))))
 
--- so no other Commit stands behind that of a DONE that is still to come
+-- so no other Commit stands after that of a DONE that is still to come
 commit_last : (g : Input) (k t : ℕ) (log : Log) (bases : Bases) (a : Attempt) (x b : site.Log) → slice_get (numbers_to g.catalogue.tms) k ≡ Some t
     → IsPermitted g log → local_of g U log ≡ x ++ Did (commit_act g.catalogue bases 0 a) ∷ b → active (setting_of g U) 0 b ≡ Some a
     → dones_of a.ts (local_of g U log) < g.catalogue.dms → (last_served (setting_of g U) (local_of g U log)).ts ≡ a.ts

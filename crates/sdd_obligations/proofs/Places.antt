@@ -57,7 +57,7 @@ class_here g d log later before k txn attempt dm sends h e =
     let due = each_at (IsDueEach s) later (Did act) before (subst (Each (IsDueEach s)) e (d_fair g d log h)) in
     omega (arith, answer_class s before k txn attempt dm sends act refl (d_step s before act due.0))
 
--- an Answer isn't repeated: no Answer stands behind one to the same READ
+-- an Answer isn't repeated: no Answer stands after one to the same READ
 twice : (g : Input) → IsSoundCatalogue g.catalogue → (d : DmNo) (log : Log) (ts : ℕ) → IsPermitted g log
     → (y : IsAnswerAt ts (local_of g (D d) log)) (z b : site.Log) (k : ℕ) (txn : TxnNo) (attempt : ℕ)
     (dm : DmNo) (sends : List (Site × Msg))

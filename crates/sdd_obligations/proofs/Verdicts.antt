@@ -1,4 +1,4 @@
--- A data module puts at most one READY or REJECT for a READ, behind which the READ is processed.
+-- A data module puts at most one READY or REJECT for a READ, after which the READ is processed.
 use Rattle.sdd_obligations.proofs.All.{Act, ClassNo, Cond, D, Did, DmNo, Each, Handed, Input, IsDueEach, IsPermitted, IsPutByD, IsStrict, List, Log, Msg, Pipe, Read, Ready, Rec, Records, Reject, Setting, Site, Some, Ts, TxnNo, Use, [], all_of, and_left, and_right, ap, arith, at_seam, class_number, d_fair, dec_le, each_local, eqb-true, filter_map-append, goes_through, head, head_put, home, home_of, if_way, in_left, in_pipe, is_processing, is_verdict, key_rises, length, local_of, next_in, number_of, one_le, own_record, pipe, pipe_at, place_within, processed_handed, processed_more, put_by_d, puts_to, read_at, reads_in, reads_strict, same_number, sends_of_act, setting_of, slice_get, source_of, strict_left, subst, sym, tally, tally_append, tally_at, to_site, true, ℕ, ◌&&◌, ◌++◌, ◌<◌, ◌==◌, ◌∙◌, ◌∷◌, ◌≡◌, ◌≤◌}
 use Rattle.sdd_invariants.specs.site_module.SiteLog as site
 

@@ -35,7 +35,7 @@ entries_within rel from to keys db low high =
     (grind (arith, int_le))
     db
 
--- no entry lies behind an item and before it
+-- no entry lies after an item and before it
 pub entries_nowhere : (item : Item) (db : Database) → filter (λ e. is_le (item_cmp item e.0) && not (is_le (item_cmp item e.0))) db ≡ []
 entries_nowhere item db = grind (arith, filter_none, is_le)
 

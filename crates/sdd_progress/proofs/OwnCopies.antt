@@ -1,10 +1,10 @@
 -- The copy that a data module has at the end of a log is that which the history gives. What is known of copies at records is
--- said of the record of an event that finds nothing to do behind the log.
+-- said of the record of an event that finds nothing to do after the log.
 use Rattle.sdd_progress.proofs.All.{D, HasSoundData, HasSoundLists, History, Input, IsMadeAt, IsPermitted, IsQuiet, IsSoundCatalogue, List, Log, Mark, None, Notes, Nothing, Option, Rec, RelNo, Row, Up, [], ap, arith, by_event, by_mark, cons_option, contents, copy_module, dated, dm_no, eras_of, false, filter_map, flat_map, has_copy, history, is_down, length, list_any, local_of, mark_due, note_if, placed, refl, same_copy, setting_of, suc, take, true, ℕ, ◌++◌, ◌∙◌, ◌∷◌, ◌≡◌}
 use Rattle.sdd_progress.proofs.ErasOf.{are_eras_of}
 use Rattle.sdd_obligations.specs.laws.Snapshots as laws
 
--- a record of nothing behind a history tells nothing of transactions
+-- a record of nothing after a history tells nothing of transactions
 
 none_more : {B : Type 0} (f : ℕ × Rec → Option B) → ((k : ℕ) → f (k, Nothing) ≡ None) → (k : ℕ) (h : History) (event : ℕ)
     → filter_map f (placed k (h ++ (event, Nothing) ∷ [])) ≡ filter_map f (placed k h)

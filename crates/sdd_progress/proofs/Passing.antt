@@ -3,7 +3,7 @@ use Rattle.sdd_progress.proofs.AllWaits.{AllGe, Bool, D, DmNo, Handed, Input, Is
 use Rattle.sdd_obligations.specs.site_module.SiteLog.{Log}
 use Rattle.sdd_obligations.specs.logs.Entries as all
 
--- the head of a pipe stands behind what is processed
+-- the head of a pipe stands after what is processed
 
 -- the first part of a list of rising times
 

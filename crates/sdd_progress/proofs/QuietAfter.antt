@@ -3,7 +3,7 @@ use Rattle.std.proofs.Common.{arith}
 use Rattle.sdd_progress.proofs.AllEnds.{Bool, Entry, Event, Input, IsLawful, List, Log, Mark, None, Redeclare, Redeclares, Round, Settle, Some, Up, [], after_mark, all_links, ap, calls_of, complete_parts, false, from_event, left, mark_from, mark_of, next, quiet, refl, round, subst, sym, tail_of, true, with_event, ℕ, ◌++◌, ◌∙◌, ◌∷◌, ◌≡◌}
 use Rattle.sdd_progress.proofs.Marked.{next_is_of_events}
 
--- an event behind a settle
+-- an event after a settle
 
 pub quiet_before : (g : Input) (log : Log) (e : Event) (ws : List Event) → left g.events log ≡ (Settle ∷ ws, []) → next g log ≡ Some (Mark e)
     → quiet (all_links g) (calls_of log) ≡ true

@@ -1,5 +1,5 @@
 -- Worked logs that meet what the laws ask. Two classes, each of which reads what the other writes: a query waits until the
--- other class has passed its time, and is answered then; or it comes behind a later put, and is rejected.
+-- other class has passed its time, and is answered then; or it comes after a later put, and is rejected.
 use Rattle.sdd_progress.proofs.AllWaits.{Act, AreConditionsOf, AreSubmittedOnce, Catalogue, Cond, Const, D, Deliver, Diagonal, Does, Era, Event, Input, Int, IsAnsweredIn, IsLawful, IsRejectOf, IsSoundCatalogue, IsStuck, Le, List, Log, None, P1, P3, Put, Query, Read, Records, Reject, Rejected, Setting, Some, Submit, T, Txn, Use, Vertical, WaitsSince, [], arith, class_no, d_fair, dm_no, extended, frag_no, lawful_permitted, lit<, lit≤, local_of, negsuc, next, one_at_most, passed, pipe_at, pos, refl, rel_no, same_or_not, setting_of, suc, take, time_at, tm_no, true, txn_no, zero, ℕ, ◌++◌, ◌+◌, ◌==◌, ◌∷◌, ◌≡◌, ◌≢◌, ◌≤◌}
 use Rattle.sdd_obligations.specs.catalog.Rules.{faults_of}
 use Rattle.sdd_progress.proofs.FromTable.{conditions_of}
@@ -69,7 +69,7 @@ of_query = (record { number = 1; rel = rel_no 1; frags = frag_no 1 ∷ []; restr
 abbrev up_to_65 : List Cond
 up_to_65 = (record { class = class_no 2; time = time_at 65; frags = frag_no 1 ∷ [] }) ∷ []
 
--- it waits; the ASK is delivered, and the NULL behind an acknowledgement
+-- it waits; the ASK is delivered, and the NULL after an acknowledgement
 
 abbrev waiting : Input
 waiting =
@@ -115,7 +115,7 @@ worked_wait = since as_d 1 (at_d null_handed) (d_fair waiting (dm_no 1) null_han
 pub worked_passed : passed (pipe_at waiting 2 (dm_no 1) (two_more ++ null_handed)) 65 ≡ true
 worked_passed = passed_later waiting 2 (dm_no 1) 65 two_more null_handed (lawful_permitted waiting (extended 14 waiting []) waiting_once (made_lawful 14 waiting [] tt)) (lit≤ tt) refl
 
--- it comes behind the later put
+-- it comes after the later put
 
 abbrev rejecting : Input
 rejecting = given_by (Submit (txn_no 1) ∷ Submit (txn_no 2) ∷ Deliver (T (tm_no 2)) (D (dm_no 1)) 1 ∷ Deliver (T (tm_no 1)) (D (dm_no 1)) 1 ∷ [])

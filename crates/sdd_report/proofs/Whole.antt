@@ -1,4 +1,4 @@
--- The parts of a report, one behind the other.
+-- The parts of a report, one after the other.
 use Rattle.sdd_report.proofs.All.{List, Report, after_replies, append_assoc, arith, flat_map, order_line, reply_of, report_text, trace, ℕ, ◌++◌, ◌≡◌}
 
 -- what stands before the replies, the replies, and what follows them

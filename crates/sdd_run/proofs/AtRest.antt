@@ -51,7 +51,7 @@ list_taken : (g : Input) (log : Log) (t : ℕ) (s : List Event × List Event) �
     → (ends false (after_mark s).0 ≡ true) ⊎ (after_mark s ≡ ([], []))
 list_taken g log t s h p = grind (arith, list_on)
 
--- behind that nothing is due
+-- after that nothing is due
 
 none_at_site : (g : Input) (t : ℕ) (log : Log) → site_due g log ≡ None → site_due g (Redeclares t ∷ log) ≡ None
 none_at_site g t log = grind (arith, first_none, no_redeclare, none_any_base)

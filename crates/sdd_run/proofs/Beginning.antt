@@ -3,7 +3,7 @@ use Rattle.sdd_run.proofs.All.{All-at, Catalogue, D, Entry, Event, Input, IsVali
 use Rattle.sdd_run.proofs.Whole.{same_dms, txns_valid}
 use Rattle.sdd_world.specs.Represents.{IsSoundNetwork}
 
--- what is given with the events of a schedule has them behind its own
+-- what is given with the events of a schedule has them after its own
 pub with_events_is : (g : Input) (es : List Event) → with_events g es ≡ record g { events = g.events ++ es }
 with_events_is g [] = ap (λ l. record g { events = l }) (sym (append-nil g.events))
 with_events_is g (e ∷ es) = with_events_is (with_event g e) es ∙ ap (λ l. record g { events = l }) (append_assoc g.events (e ∷ []) es)

@@ -2,7 +2,7 @@
 use Rattle.sdd_run.proofs.All.{Answer, AreSubmittedOnce, ClassNo, Cond, D, DmNo, Does, EndsAnEvent, Hand, Input, IsAnsweredIn, IsAnsweredWithin, IsEventOver, IsFreeClass, IsLawful, IsPermitted, IsRecordAt, IsSoundCatalogue, IsTheLog, List, Log, Msg, Read, Rec, Records, Site, Ts, TxnNo, Use, [], act_kind, answered_by_end, ap, append_assoc, arith, begins_event, event_at, event_there, false, history, inl, inr, lawful_end, lawful_permitted, length, marks, marks_later, over_at_end, over_before, permitted_before, recorded_there, refl, subst, sym, true, ℕ, ◌++◌, ◌∙◌, ◌∷◌, ◌≡◌, ◌≤◌, ◌⊎◌}
 use Rattle.sdd_obligations.specs.All.{Entry}
 
--- the entries behind a place, till the event there is over
+-- the entries after a place, till the event there is over
 
 record IsTillOver (g : Input) (after rest : Log) : Type 0 where
   pub front : Log

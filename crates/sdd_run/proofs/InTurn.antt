@@ -4,7 +4,7 @@ use Rattle.sdd_run.proofs.All.{Catalogue, ComesBefore, Committed, Contains, Cont
 -- one that precedes another stands before it
 module _ (cat : Catalogue) (h : History) (x y : Committed) (first : IsCommitted h x) (second : IsCommitted h y) (precedes_it : precedes cat h x y ≡ true)
     (other : x.start.txn ≢ y.start.txn) where
-  -- where both stand behind the first of the order
+  -- where both stand after the first of the order
   later : (n : TxnNo) (rest : List TxnNo) → ComesBefore rest x.start.txn y.start.txn → ComesBefore (n ∷ rest) x.start.txn y.start.txn
   later n rest b = record { front = n ∷ b.front; rest = b.rest; is = ap (λ l. n ∷ l) b.is; behind = b.behind }
 

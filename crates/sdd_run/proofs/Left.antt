@@ -2,7 +2,7 @@
 use Rattle.sdd_run.proofs.All.{AreAllApplied, AreAppliedAlike, Catalogue, Committed, Contains, Contains-from_filter, Contains-from_flat_map, Contains-from_map, CopyTable, D, Dated, Event, FragNo, HasSoundData, HasSoundLists, History, Input, IsMadeAt, IsPermitted, IsSerial, IsSoundCatalogue, Item, List, Log, Lose, Mark, None, Notes, Nothing, Option, Rec, RelNo, Row, TxnNo, U, [], ap, are_eras_of, arith, attempt_of, by_event, by_mark, committed, cons_option, contents, dated, dm_no, due_by, equal_copies, eras_of, filter, filter_map, flat_map, has_copy, history, is_apply, is_none, left_in_copies, length, link_of, list_any, local_of, map, map-map, note_if, numbers_to, placed, refl, rows_left, run, same_copy, setting_of, slice_get_past, subst, suc, sym, table_of, tables_at, tables_of, take-append_seam, take_all, true, ℕ, ◌++◌, ◌-◌, ◌∙◌, ◌∷◌, ◌≡◌}
 use Rattle.sdd_obligations.specs.laws.Snapshots as laws
 
--- The copies at the end of a log are those before a record behind it: that of an event which finds nothing to do, as one
+-- The copies at the end of a log are those before a record after it: that of an event which finds nothing to do, as one
 -- that loses a packet which isn't there.
 
 abbrev no_packet : Log → Event
@@ -11,7 +11,7 @@ no_packet log = Lose U U (suc (length (link_of U U log).there.flight))
 abbrev noted : Log → Log
 noted log = Notes ∷ Mark (no_packet log) ∷ log
 
--- the record stands behind all others
+-- the record stands after all others
 abbrev at_the_end : (log : Log) → IsMadeAt (noted log) (length (history log)) Nothing
 at_the_end log = record { later = []; entry = Notes; before = Mark (no_packet log) ∷ log; is = refl; makes = refl; place_is = refl }
 

@@ -38,7 +38,7 @@ pub first_there : (tables : List (List Entry)) (table : List Entry) → 0 < leng
 first_there [] table l e = absurd (omega (arith, l))
 first_there (t ∷ tables) table l e = ap (λ z. Some z) (sym e)
 
--- the lists behind the first, one more
+-- the lists after the first, one more
 
 take_at : {A : Type 0} (xs : List A) (k : ℕ) (x : A) → slice_get xs k ≡ Some x → take (suc k) xs ≡ take k xs ++ x ∷ []
 take_at [] k x e = absurd (cc)

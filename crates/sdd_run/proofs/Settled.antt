@@ -39,7 +39,7 @@ module _ (cat : Catalogue) (tables : List (List Entry)) (work : Workload) (sound
   is_settled : EndsQuiet (input_of cat tables work) log → NoneIsDown (whole_in cat work) log → IsSettled (input_of cat tables work) log
   is_settled links are_up = record { at_end = at_end are_up; links = links }
 
-  -- behind a settle or a redeclare the links are quiet
+  -- after a settle or a redeclare the links are quiet
   pub quiet_behind : EndsAtRest work.events → EndsQuiet (input_of cat tables work) log
   quiet_behind ends =
       let g : Input = input_of cat tables work in

@@ -151,7 +151,7 @@ abbrev pub NamesOne : List Txn → Event → Type 0
 NamesOne txns (Submit txn) = IsFine (Plain (name_of_txn txns txn.0))
 NamesOne txns _ = Unit {0}
 
--- an event's first word, and the words behind it
+-- an event's first word, and the words after it
 abbrev pub event_key : Event → EventKey
 event_key (Submit txn) = ekeys.Submit
 event_key (Deliver from to place) = ekeys.Deliver

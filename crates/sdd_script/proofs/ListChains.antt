@@ -17,7 +17,7 @@ use Rattle.sdd_script.specs.declared.place.Place.TheVariants as places
 abbrev pub at : State → Place → List (List ClassPart) → ℕ → State
 at st p lists n = record st { place = p; lists = lists; classes = n }
 
--- inside a list, behind a class of which so much was said
+-- inside a list, after a class of which so much was said
 abbrev behind : List ClassPart → ClassPart → List ReadPart → List (List ℕ) → OpenList
 behind cs c reads writes = record { classes = cs; last = Some (record { name = c.name; tm = tm_no c.tm; reads = reads; writes = writes }) }
 

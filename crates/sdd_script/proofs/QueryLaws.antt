@@ -10,7 +10,7 @@ use Rattle.sdd_script.proofs.RowLaws.{FitsRowOf, row_takes, row_again, row_free}
 use Rattle.sdd_script.proofs.ConditionLaws.{conditions_take, conditions_again, comparison_for, form_again}
 use Rattle.sdd_script.specs.declared.fault.Counts.TheVariants as counts
 
--- a statement that was read of the words behind its keyword
+-- a statement that was read of the words after its keyword
 pub record IsStatement (cat : Catalogue) (key : List ℕ) (words : List Word) (s : Stmt) : Type 0 where
   pub spelled : Plain key ∷ words ≡ statement_words cat s
   pub values : HoldsValues s

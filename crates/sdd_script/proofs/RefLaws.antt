@@ -68,7 +68,7 @@ column_word_is cat k rels r h fits =
       names = column_spelled r.part name lt e;
     }
 
--- a word that names a column behind `=` looks like one
+-- a word that names a column after `=` looks like one
 
 pub record IsNaming (op : Op) (w : Word) : Type 0 where
   pub equals : op ≡ ops.Eq

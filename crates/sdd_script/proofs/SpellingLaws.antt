@@ -108,7 +108,7 @@ statement_rules_again : (cat : Catalogue) (h : Header) (rows : List (RelNo × Li
     → statement_rules (inside cat h rows written names txns ss) reading ≡ Ok (inside cat h rows (written + rows_put q) names txns (ss ++ q ∷ []))
 statement_rules_again cat h rows written names txns ss q reading e fits few room = grind arith
 
--- a statement's first word, and the words behind it
+-- a statement's first word, and the words after it
 abbrev statement_key : Stmt → StatementKey
 statement_key (statements.Put rel row) = skeys.Put
 statement_key (statements.Query out rels conds) = skeys.Query

@@ -59,7 +59,7 @@ first_none a b x h e = grind arith
 before_mark : (g : Input) (log : Log) (e : Event) → next g log ≡ Some (Mark e) → mark_due g log ≡ None
 before_mark g log e h = first_none (mark_due g log) _ (Mark e) (no_mark_due g e log) h
 
--- a transaction is given to its module behind the mark of its `submit`
+-- a transaction is given to its module after the mark of its `submit`
 
 pub record IsGivenIn (log : Log) (n : ℕ) : Type 0 where
   pub later : Log

@@ -54,7 +54,7 @@ module _ (cat : Catalogue) (work : Workload) (valid : IsValid cat work) where
   abbrev pub Classes : List ℕ
   Classes = classes_submitted cat work
 
-  -- of two in the order the one behind is another one, and of one class the one that is submitted later
+  -- of two in the order the one after is another one, and of one class the one that is submitted later
   abbrev pub AreInTurn : List TxnNo → Type 0
   AreInTurn order = (i k : ℕ) → i < k → k < length order
       → ((moved (at order i)).0 ≢ (moved (at order k)).0)

@@ -158,7 +158,7 @@ pub rows_pass : (rows : List Row) → AllPass is_row (rows_words rows)
 rows_pass [] = tt
 rows_pass (row ∷ rows) = (refl, rows_pass rows)
 
--- what stands behind rows, and isn't one
+-- what stands after rows, and isn't one
 behind_rows : (rows others : List Row) (xs ys : List (List ℕ)) → AreAllValues rows → AreAllValues others → FirstFails is_row xs → FirstFails is_row ys
     → rows_words rows ++ xs ≡ rows_words others ++ ys → (rows ≡ others) × (xs ≡ ys)
 behind_rows rows others xs ys h k f g e = grind (arith, parted, rows_pass, rows_back)

@@ -110,7 +110,7 @@ module _ (cat : Catalogue) (work : Workload) (text : List ℕ) (sound : IsSoundC
   copies_values = all_by_member (λ (t : CopyTable). AreAllValues t.rows) tells.copies
       (copied_given FitsReport ints_fit_report fits_report cat work text sound valid r)
 
-  -- what stands behind the replies is none
+  -- what stands after the replies is none
 
   copies_fail : (p : List ℕ → Bool) → ((t : CopyTable) → p (copy_words whole t) ≡ false) → p (codes "end") ≡ false
       → FirstFails p (kept ++ codes "end" ∷ [])

@@ -48,7 +48,7 @@ two_fronts (x ∷ xs) ys (f ∷ fs) ss e =
       | inr p ↦ inr (p.0, rw same (ap (λ (l : List Event). f ∷ l) p.1))
     ]
 
--- where the submission of m comes behind that of n, its mark does too
+-- where the submission of m comes after that of n, its mark does too
 again : (m n : ℕ) (a b : Site) (between rest_m rest_n : Log) (k l : TxnNo) (earlier_m earlier_n : Log)
     → between ++ Submitted b n ∷ rest_n ≡ Mark (Submit k) ∷ earlier_m → rest_n ≡ Mark (Submit l) ∷ earlier_n → 1 ≤ marked m earlier_n → 1 ≤ marked m earlier_m
 again m n a b [] rest_m rest_n k l earlier_m earlier_n e f some = let q : Submitted b n ≡ Mark (Submit k) = cc in absurd cc

@@ -1,8 +1,8 @@
--- The lines of texts that stand one behind the other.
+-- The lines of texts that stand one after the other.
 use Rattle.sdd_verify.proofs.All.{AreLines, Bool, List, [], ap, append-nil, append_assoc, arith, cond, cut_takes, eqb, line_behind, lines_of, nat_tests, onto, refl, spelled_lines, sym, ℕ, ◌++◌, ◌∙◌, ◌∷◌, ◌≡◌}
 use Rattle.sdd_script.specs.words.Lines.{cut_lines}
 
--- lines that are ended, and what stands behind them
+-- lines that are ended, and what stands after them
 pub lines_behind : (lines : List (List ℕ)) (rest : List ℕ) → AreLines lines
     → cut_lines (spelled_lines lines ++ rest) ≡ (lines ++ (cut_lines rest).0, (cut_lines rest).1)
 lines_behind [] rest h = refl
@@ -27,7 +27,7 @@ whole_is text h =
     let lines : List ℕ = spelled_lines (cut_lines text).0 in
     sym (cut_takes text) ∙ ap (λ (l : List ℕ). lines ++ l) h.nothing_behind ∙ append-nil lines
 
--- what stands behind it is cut by itself
+-- what stands after it is cut by itself
 pub whole_behind : (text rest : List ℕ) → IsWhole text → cut_lines (text ++ rest) ≡ (lines_of text ++ (cut_lines rest).0, (cut_lines rest).1)
 whole_behind text rest h = ap (λ (t : List ℕ). cut_lines (t ++ rest)) (whole_is text h) ∙ lines_behind (lines_of text) rest (cut_are_lines text)
 

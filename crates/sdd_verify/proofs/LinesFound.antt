@@ -4,7 +4,7 @@ use Rattle.sdd_verify.proofs.All.{All, All-cons, All-head, All-tail, AreLines, B
 abbrev pub IsOther : List ℕ → Type 0
 IsOther line = is_order_line line ≡ false
 
--- the first order line, behind lines that are none
+-- the first order line, after lines that are none
 pub record FirstOrder (number : ℕ) (lines : List (List ℕ)) (at : ℕ × List ℕ × Numbered) : Type 0 where
   pub before : List (List ℕ)
   pub others : All IsOther before

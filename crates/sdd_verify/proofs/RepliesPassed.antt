@@ -21,7 +21,7 @@ queries_whole number [] = whole_empty
 queries_whole number (rows ∷ answers) =
     whole_append (query_lines number rows) (queries_from (number + 1) answers) (query_whole number rows) (queries_whole (number + 1) answers)
 
--- behind a text that ends no line
+-- after a text that ends no line
 behind_front : (front word rest : List ℕ) → IsWhole rest → IsWhole (front ++ (word ++ 10 ∷ rest))
 behind_front front word rest h = subst IsWhole (append_assoc front word (10 ∷ rest)) (whole_ended (front ++ word) rest h)
 
@@ -46,7 +46,7 @@ first_reply number name reply others lines =
 -- the transactions that are left, the first of them apart
 module _ (cat : Catalogue) (db : Database) (txns : List (Bor Txn)) (i : ℕ) (t : Bor Txn) (reply : Reply) (number : ℕ) (lines : List (List ℕ))
     (within : i < length txns) (there : t ≡ get_or txns i t) (replied : reply ≡ (effect cat db t.now).reply) where
-  -- where the first reply is there, the others have to come behind it
+  -- where the first reply is there, the others have to come after it
   pub goes_on : (name : List ℕ) (now : Database) (rest : Numbered) (total : Result Numbered ℕ)
       → name ≡ t.now.name → now ≡ after_changes cat db (effect cat db t.now).changes → passed number (lines_of (reply_lines name reply)) lines ≡ Ok rest
       → passed number (lines_of (replies_on cat db (map (λ u. u.now) (drop i txns)))) lines ≡ total

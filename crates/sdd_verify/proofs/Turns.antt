@@ -1,4 +1,4 @@
--- Orders in which each transaction may stand behind those before it, one transaction more.
+-- Orders in which each transaction may stand after those before it, one transaction more.
 use Rattle.sdd_verify.proofs.All.{Bool, Equal, Greater, Less, List, None, Option, Some, TxnNo, [], allows, ap, append-nil, append_assoc, arith, both, cases_Bool, cases_eq, class_of, cond, drop, eq-eqb, eqb-true, false, get_or, inl, inr, is_at, is_eq, is_in_turn, length, list_all, list_all-append, lt-ltb, ltb-true, may_follow, nat_cmp, nat_cmp_is, nat_lt, nat_tests, ne_eqb, not, or_else, refl, subst, suc, sym, take, take-append-drop, take_more, true, zero, ℕ, ◌&&◌, ◌++◌, ◌+◌, ◌<◌, ◌==◌, ◌||◌, ◌∙◌, ◌∷◌, ◌≡◌, ◌⊎◌}
 use Rattle.sdd_verify.proofs.DifferentNames.{some_is}
 
@@ -58,7 +58,7 @@ module _ (classes : List ℕ) where
       regroup true false false d = refl
       regroup false b c d = refl
 
-  -- the last of a class was submitted behind all of it before
+  -- the last of a class was submitted after all of it before
 
   last_by : (c p : ℕ) (m n : TxnNo) (class : Bool) (rest : Option ℕ) → (Class n == c) ≡ class → may_follow classes m n ≡ true → Class m ≡ c
       → (rest ≡ Some p → m.0 < p) → or_else rest (cond class (Some n.0) None) ≡ Some p → m.0 < p

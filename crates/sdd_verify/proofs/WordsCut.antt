@@ -1,4 +1,4 @@
--- The first word of a text, and those behind it.
+-- The first word of a text, and those after it.
 use Rattle.sdd_verify.proofs.All.{All, All-nil, Bool, Fails, Flaw, List, None, Ok, Result, Some, [], along, ap, append-nil, append_assoc, arith, cases_Bool, drop, drop_all, eqb, eqb-true, fails_bind, false, inl, inr, length, length-append, line_in, nat_tests, past, place_at, place_here, place_on, position, position_or_len, refl, slice_split_at, slice_split_none, subst, sym, take, take-append-drop, take_all, with_front, words_behind, words_of, ℕ, ◌++◌, ◌+◌, ◌-◌, ◌<◌, ◌>>=◌, ◌∷◌, ◌≡◌, ◌⊎◌}
 use Rattle.sdd_verify.proofs.RepliesPassed.{fails}
 
@@ -19,7 +19,7 @@ none_before (c ∷ cs) = elim (cases_Bool (is_space c)) [
       subst (λ n. All IsNoSpace (take n (c ∷ cs))) (sym (place_on is_space c cs other)) (grind (arith, nat_tests, IsNoSpace, place_of, (none_before cs)))
 ]
 
--- behind the first word nothing stands, or a space
+-- after the first word nothing stands, or a space
 abbrev EndsOrSpace : List ℕ → Type 0
 EndsOrSpace text = (text ≡ []) ⊎ ((rest : List ℕ) × (text ≡ 32 ∷ rest))
 
@@ -45,7 +45,7 @@ cut_nowhere text e = grind (arith, nat_tests, place_of, past, is_space, cut_is, 
 
 -- ---- one name more
 
--- what is left behind the space
+-- what is left after the space
 abbrev left : List ℕ → List ℕ
 left rest = take (length rest - 1) (drop 1 rest)
 

@@ -25,7 +25,7 @@ allows (Some last) number = nat_lt last number
 abbrev pub words_of : List ℕ → List (List ℕ)
 words_of line = slice_split (λ c. c == 32) line
 
--- the words of a text in which each stands behind a space
+-- the words of a text in which each stands after a space
 abbrev pub words_behind : List ℕ → List (List ℕ)
 words_behind [] = []
 words_behind (space ∷ text) = words_of text

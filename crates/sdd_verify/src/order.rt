@@ -40,7 +40,7 @@ fn number_of(alloc: Global, submitted: &Submitted, line: u32, name: &[u8]) -> Re
     require(line, submitted.find_named(alloc, name)?)
 }
 
-/// The numbers of the transactions whose names stand in this text, each behind a space.
+/// The numbers of the transactions whose names stand in this text, each after a space.
 #[tactic(auto, using(crate::proofs::WordsCut::name_read, crate::proofs::WordsCut::name_fails, crate::proofs::WordsCut::names_read, crate::proofs::WordsCut::names_begin))]
 fn numbers_in(
     alloc: Global,

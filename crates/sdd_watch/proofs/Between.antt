@@ -66,7 +66,7 @@ event_grows (Resend a b) old new x y =
     (resend_there l) (same (turned l).back)
 event_grows w old new x y = no_way (takes_one (found_by w old new)) (link_of x y old).there
 
--- and what is put behind its mark
+-- and what is put after its mark
 
 puts_grow : (old : Way Msg) (left : ℕ) (x y at : Site) (sends : List (Site × Msg)) (calls : List (Call Msg))
     → Grows old (link x y calls).there left → Grows old (link x y (puts at sends calls)).there left

@@ -61,7 +61,7 @@ pub record MarksNext (g : Input) (log : Log) : Type 0 where
   pub event_is : event_of entry ≡ Some event
   pub next_is : next g log ≡ Some entry
 
--- behind the log when so many events are over stands the mark of the next event
+-- after the log when so many events are over stands the mark of the next event
 pub marks_next : (g : Input) (n : ℕ) (log : Log) → IsLawful g log → n < marks log → MarksNext g (at_event n log)
 marks_next g n [] h l = absurd (omega (arith, l))
 marks_next g n (x ∷ log) h l =
@@ -155,7 +155,7 @@ is_between g old new e before after b =
       after = after;
     }
 
--- before the mark the log is that when so many events are over, and behind it that when one more is
+-- before the mark the log is that when so many events are over, and after it that when one more is
 pub at_old : (g : Input) (old new : Log) (e : Event) (n : ℕ) → IsMarkedBetween g old new e → n ≤ marks old → at_event n new ≡ at_event n old
 at_old g old new e n b l =
     ap (at_event n) b.parts ∙ at_beyond n b.more b.entry old (omega (arith, l, one_more_mark b.entry e old b.event_is))

@@ -1,5 +1,5 @@
 -- How an event and what it makes due change the way of a link: of the packets in flight all but one that is taken stay, in
--- their order, and behind them stand those that are put, of which those of new messages are numbered on.
+-- their order, and after them stand those that are put, of which those of new messages are numbered on.
 use Rattle.sdd_watch.proofs.All.{Ack, All-at, Bool, IsOf, IsSoundWay, Link, List, Message, None, Option, Packet, Some, Way, [], and_false, ap, append-nil, append_assoc, arith, arrives, deliver, drop, false, filter, filter-append, if◌then◌else◌, is_some, le-ltb, length, lose, lt-ltb, nat_lt, numbered, packet_at, put, refl, repeat, resend, slice_get, subst, suc, sym, true, turned, unacked, with_message, with_packet, without_at, without_packet, zero, ℕ, ◌&&◌, ◌++◌, ◌+◌, ◌-◌, ◌<◌, ◌∙◌, ◌∷◌, ◌≡◌, ◌≤◌}
 
 -- a packet of a message with a number above k
@@ -7,7 +7,7 @@ abbrev pub is_above : {M : Type 0} → ℕ → Packet M → Bool
 is_above k (Message n m) = nat_lt k n
 is_above k (Ack upto) = false
 
--- so many packets stay, and behind them stand others
+-- so many packets stay, and after them stand others
 pub record Grows {M : Type 0} (old new : Way M) (left : ℕ) : Type 0 where
   pub kept : List (Packet M)
   pub added : List (Packet M)

@@ -2,7 +2,7 @@
 use Rattle.sdd_watch.proofs.All.{List, [], ap, drop, drop_all, fold, fold-append, get_or, length, sym, ℕ, ◌++◌, ◌+◌, ◌<◌, ◌∙◌, ◌∷◌, ◌≡◌, ◌≤◌}
 use Rattle.sdd_watch.proofs.Loops.{next}
 
--- what the members of two lists give stands one behind the other
+-- what the members of two lists give stands one after the other
 pub record Joins {A B : Type 0} (give : List A → List B) : Type 0 where
   pub none : give [] ≡ []
   pub both : (xs ys : List A) → give (xs ++ ys) ≡ give xs ++ give ys

@@ -61,7 +61,7 @@ none_of g log (ws, x ∷ r) loud h = cc
 pub none_left_loud : (g : Input) (log : Log) → next g log ≡ None → quiet (all_links g) (calls_of log) ≡ false → left g.events log ≡ ([], [])
 none_left_loud g log n loud = none_of g log (left g.events log) loud (complete_parts g log n).no_next
 
--- no round is in progress behind a complete log
+-- no round is in progress after a complete log
 pub none_in_round : (g : Input) (log : Log) → next g log ≡ None → (left g.events log).1 ≡ []
 none_in_round g log n = of_round (left g.events log) (complete_parts g log n).no_next
   where
@@ -74,7 +74,7 @@ pub one_is_left : (g : Input) (log : Log) (e : Event) → IsLawful g log → nex
     → left (g.events ++ e ∷ []) log ≡ (e ∷ [], [])
 one_is_left g log e l n loud = grows g e log l ∙ ap (with_end e) (none_left_loud g log n loud)
 
--- behind one event more
+-- after one event more
 
 -- the events that are left stay where only one mark stands above a log
 pub left_above : (events : List Event) (m : Log) (x : Entry) (e : Event) (log : Log) → event_of x ≡ Some e
@@ -89,7 +89,7 @@ pub record NoneBegun (now before : ℕ) (left_now left_before : List Event) : Ty
   pub rounds_are : now ≡ before
   pub round_is : left_now ≡ left_before
 
--- or one was, behind the last event of the round before it
+-- or one was, after the last event of the round before it
 pub record OneBegun (left_now left_before : List Event) : Type 0 where
   pub some : left_now ≢ []
   pub none : left_before ≡ []
@@ -112,14 +112,14 @@ rounds_above g (Round es ∷ m) x e log l h k =
     ]
 rounds_above g (_ ∷ m) x e log l h k = rounds_above g m x e log l.1 h k
 
--- where as many events of the round are left as behind the mark, no round was begun
+-- where as many events of the round are left as after the mark, no round was begun
 pub rounds_stay : (g : Input) (m : Log) (x : Entry) (e : Event) (log : Log) → IsLawful g (m ++ x ∷ log) → event_of x ≡ Some e
     → marks (m ++ x ∷ log) ≡ suc (marks log) → (left g.events (m ++ x ∷ log)).1 ≡ (left g.events (x ∷ log)).1
     → rounds g.events (m ++ x ∷ log) ≡ rounds g.events (x ∷ log)
 rounds_stay g m x e log l h k same =
     elim (rounds_above g m x e log l h k) [ inl p ↦ p.rounds_are | inr p ↦ absurd (p.some (same ∙ p.none)) ]
 
--- behind the last event that is left no mark stands
+-- after the last event that is left no mark stands
 pub no_mark_more : (g : Input) (m log : Log) → IsLawful g (m ++ log) → left g.events log ≡ ([], [])
     → (marks (m ++ log) ≡ marks log) × (left g.events (m ++ log) ≡ ([], []))
 no_mark_more g [] log l h = (refl, h)

@@ -16,7 +16,7 @@ sees : (g : Input) (old new : Log) (l : Site × Site) (w : WatchedLink) (seen : 
 sees g old new l w seen put over news good b is packets count given e =
     e ∙ (λ i. seen_with (packets i) (count i) (given i) (is i)) ∙ link_seen g old new l good b
 
--- What is read at one look: of the event whether it took a packet, how many packets are left, what stands behind them, and how
+-- What is read at one look: of the event whether it took a packet, how many packets are left, what stands after them, and how
 -- many messages are put and handed over.
 pub record IsRead (old new : Log) (w : WatchedLink) (taken : Bool) (left : ℕ) (news : List (Packet Msg)) (put over : ℕ) : Type 0 where
   pub taken_is : taken ≡ is_taken (last_event new) (found_by (last_event new) old new) (w.from, w.to)

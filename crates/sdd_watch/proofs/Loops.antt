@@ -26,7 +26,7 @@ pub filtered_end : {A B : Type 0} (f : A → Option B) (xs : List A) (out total 
     → out ++ filter_map f (drop i xs) ≡ total → out ≡ total
 filtered_end f xs out total i past e = sym (append-nil out) ∙ ap (λ l. out ++ filter_map f l) (sym (drop_all i xs past)) ∙ e
 
--- what one more gives behind what the others gave
+-- what one more gives after what the others gave
 pub joined_more : {A B : Type 0} (f : A → List B) (xs : List A) (x : A) (old new : List B)
     → old ≡ flat_map f xs → new ≡ old ++ f x → new ≡ flat_map f (xs ++ x ∷ [])
 joined_more f xs x old new e push = all_links_more f xs x old new e push

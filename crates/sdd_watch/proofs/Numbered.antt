@@ -1,4 +1,4 @@
--- The messages of a link with their numbers: those up to a number, those behind it, and those that are put later.
+-- The messages of a link with their numbers: those up to a number, those after it, and those that are put later.
 use Rattle.sdd_watch.proofs.All.{Ack, List, Message, Msg, None, Option, Packet, Purpose, Some, Way, [], ap, arith, behind, cond, cons_option, drop, drop-append-le, drop-append_seam, drop-drop, drop-take, false, filter, filter_map, filter_map-append, if◌then◌else◌, le-leb, length, lt-leb, nat_lt, numbered, option_map, purpose_of, purposed, purposed_above, refl, suc, sym, take, true, up_to, zero, ℕ, ◌++◌, ◌+◌, ◌-◌, ◌∙◌, ◌∷◌, ◌≡◌, ◌≤◌}
 use Rattle.sdd_watch.proofs.Flights.{Grows, is_above, length_numbered, numbered_join, length_joined as length_of_both}
 

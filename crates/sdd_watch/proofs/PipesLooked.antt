@@ -29,7 +29,7 @@ passed_reported : (d : Digest) (p : Pipe) → IsDigest d p → or_zero (digest.p
 passed_reported d p is =
     (λ i. or_zero (passed_with (head_of (is.unprocessed i)) (is.latest i))) ∙ passed_by_head (head_of p.unprocessed) p.processed
 
--- what is read of a pipe behind the event
+-- what is read of a pipe after the event
 pub record IsRead (g : Input) (new : Log) (d c : ℕ) (unprocessed : ℕ) (passed : Ts) : Type 0 where
   pub left : unprocessed ≡ length (pipe c (local_of g (D (dm_no d)) new)).unprocessed
   pub passed_is : passed ≡ time_at (passed_to (pipe c (local_of g (D (dm_no d)) new)))

@@ -1,4 +1,4 @@
--- The records before an event are the first of those behind it.
+-- The records before an event are the first of those after it.
 use Rattle.sdd_watch.proofs.All.{Does, History, Input, IsBetween, Log, Notes, Submitted, [], ap, append-nil, append_assoc, history, length, refl, sym, take, take-append_seam, ◌++◌, ◌∙◌, ◌∷◌, ◌≡◌}
 use Rattle.sdd_watch.proofs.Between.{joined_more}
 

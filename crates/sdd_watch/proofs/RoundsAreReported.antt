@@ -198,7 +198,7 @@ settle_reported w g t place h =
       },
     )
 
--- a redeclare has one, behind its rounds
+-- a redeclare has one, after its rounds
 module _ (w w2 : World) (g : Input) (t : Teller) (place : ℕ) (h : TellsSettled w g Redeclare t place) (more : Log) (s2 : Represents w2 g more) where
   abbrev last_log : Log
   last_log = h.settled.more

@@ -14,7 +14,7 @@ use Rattle.sdd_watch.specs.declared.watched_link.Arrived.{Arrived}
 use Rattle.sdd_watch.specs.declared.watched_link.LinkSeen.{LinkSeen}
 use Rattle.sdd_watch.specs.declared.watched_link.WatchedLink.{WatchedLink}
 
--- links: behind the packets that stayed these were put, and so many messages are put and handed over in all
+-- links: after the packets that stayed these were put, and so many messages are put and handed over in all
 
 abbrev pub all_waiting : List (Packet Msg) → WatchedLink → List (ℕ × Purpose)
 all_waiting news l = l.waiting ++ filter_map (purposed_above l.sent) news

@@ -30,7 +30,7 @@ pub record TellsBetween (w : World) (g : Input) (log : Log) (e : Event) (t : Tel
   pub alone : quiet (all_links g) (calls_of log) ≡ false → left g.events log ≡ (e ∷ [], [])
   pub rounds_are : quiet (all_links g) (calls_of log) ≡ false → rounds g.events log ≡ number
 
--- within the round behind so many others, of which these events are left
+-- within the round after so many others, of which these events are left
 pub record TellsRound (w : World) (g : Input) (log : Log) (e : Event) (events : List Event) (t : Teller) (place number : ℕ) : Type 0 where
   pub rounding : Rounding w g log e events
   pub tells : Tells g log t

@@ -37,8 +37,8 @@ IsMark (Mark e) = Unit {0}
 IsMark (Redeclares t) = Unit {0}
 IsMark _ = ⊥
 
--- One event lies between two logs: behind the first its mark is next, where a round that begins has its entry before it, and
--- behind the second nothing more of it is due.
+-- One event lies between two logs: after the first its mark is next, where a round that begins has its entry before it, and
+-- after the second nothing more of it is due.
 pub record IsBetween (g : Input) (old new : Log) : Type 0 where
   pub mark : Entry
   pub is_mark : IsMark mark
@@ -54,7 +54,7 @@ pub record IsTurn (g : Input) (old new : Log) (turn : Turn) : Type 0 where
   pub scheduled : turn.scheduled ≡ scheduled_at g old
   pub round : turn.round ≡ round_at g old
 
--- the world is that behind the event, and this is what it found
+-- the world is that after the event, and this is what it found
 pub record IsOver (g : Input) (old new : Log) (w : World) (e : Event) (found : Found) : Type 0 where
   pub between : IsBetween g old new
   pub calm : Calm w g new
@@ -115,7 +115,7 @@ left_between old new l =
     (length (link_of l.0 l.1 old).there.flight)
 
 -- What is reported of an event follows from what comes after it: cut so, a moment of a link has before the event no
--- packets, and behind it those that were put.
+-- packets, and after it those that were put.
 
 abbrev pub link_before : Log → Site × Site → LinkMoment
 link_before old l =
@@ -212,7 +212,7 @@ pub record Watches (g : Input) (log : Log) (w : Watch) : Type 0 where
   pub commits : AreCommits (history log) w.commits
   pub dones : AreDones g log w.dones
 
--- What is needed to tell an event: the watch keeps what stood before it, the world is that behind it, and what it is, where it
+-- What is needed to tell an event: the watch keeps what stood before it, the world is that after it, and what it is, where it
 -- stands and what it found are told.
 pub record IsToTell (g : Input) (old new : Log) (w : World) (watch : Watch) (turn : Turn) (foreseen : Foreseen) : Type 0 where
   pub between : IsBetween g old new

@@ -1,10 +1,10 @@
-//! Parts of a moment, as they were before an event and as they are behind it.
+//! Parts of a moment, as they were before an event and as they are after it.
 ghost use Rattle.std.specs.Prelude.{◌≡◌, ◌++◌, ◌∷◌, [], OnOk};
 
 use sdd_obligations::sdd_base::NoMemory;
 use std::alloc::Global;
 
-/// Parts of a moment, as they were before an event and as they are behind it.
+/// Parts of a moment, as they were before an event and as they are after it.
 #[derive(Drop)]
 pub(crate) struct Both<T> {
     pub(crate) before: Vec<T>,

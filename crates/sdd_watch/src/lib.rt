@@ -4,7 +4,7 @@
 //! one line for each event, or the limit ends that run; there is one such text (`law_one_inside`).
 //!
 //! `Watch` keeps what stood where when the last event was over, by numbers where a list is long; what
-//! an event changed is read from the world behind it. So an event costs what it changes, the queues,
+//! an event changed is read from the world after it. So an event costs what it changes, the queues,
 //! and a look at each link and pipe, however much stands in them.
 #![tactic(auto)]
 

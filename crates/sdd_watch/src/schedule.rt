@@ -71,7 +71,7 @@ fn in_round<'a>(
     Ok(next)
 }
 
-/// Carries out the events of a round behind so many others, and tells each.
+/// Carries out the events of a round after so many others, and tells each.
 fn round<'a>(
     world: World<'a>,
     events: Vec<Event>,

@@ -60,7 +60,7 @@ fn first_links(alloc: Global, links: &[(Site, Site)]) -> Result<Vec<WatchedLink>
     Ok(watched)
 }
 
-/// The moments before and behind an event, of these parts.
+/// The moments before and after an event, of these parts.
 fn moments(
     links: Both<LinkMoment>,
     queues: Both<QueueMoment>,
@@ -121,7 +121,7 @@ impl Watch {
         })
     }
 
-    /// The queues before an event and behind it.
+    /// The queues before an event and after it.
     fn queues(&mut self, world: &World<'_>) -> Result<Both<QueueMoment>, NoMemory>
         requires { (g : Input) × (log : Log) × Calm world.now g log }
         ensures before { IfOk result (λ parts. parts.before ≡ self.old.queues) }

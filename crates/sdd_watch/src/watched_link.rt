@@ -25,7 +25,7 @@ pub(crate) struct Arrived {
     pub(crate) messages: Listed<(u32, Purpose)>,
 }
 
-/// A link before an event and behind it, and what was handed over on it.
+/// A link before an event and after it, and what was handed over on it.
 #[derive(Drop)]
 pub(crate) struct LinkSeen {
     pub(crate) before: LinkMoment,
@@ -141,7 +141,7 @@ impl WatchedLink {
         }))
     }
 
-    /// Takes in that so many packets of the flight stayed and these were put behind them, and how
+    /// Takes in that so many packets of the flight stayed and these were put after them, and how
     /// many messages are put and handed over in all.
     fn advance(
         &mut self,

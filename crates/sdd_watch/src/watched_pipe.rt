@@ -120,7 +120,7 @@ fn passed_to(dm_module: &DataModule, class: ClassNo) -> Ts
 }
 
 /// How many messages were processed, where so many weren't before, these came, and so many aren't
-/// behind the event.
+/// after the event.
 fn count_processed(before: usize, came: &[u32], left: usize) -> Result<u64, NoMemory>
     ensures { IfOk result (λ count. count ≡ (before + length came.now) - left) }
 {

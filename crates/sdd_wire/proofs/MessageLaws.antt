@@ -1,4 +1,4 @@
--- The laws of messages: of the fields behind each tag, and of a tag with its fields.
+-- The laws of messages: of the fields after each tag, and of a tag with its fields.
 use Rattle.sdd_wire.proofs.All.{Ask, Change, ClassNo, Cond, Done, Err, Fetch, FitsList, FitsMsg, FitsPair, FitsRow, FitsU32, FitsU64, Held, Hold, List, Msg, Null, Ok, Read, Reading, Ready, Reduce, Reduced, Reject, Release, Result, Rows, Ship, Some, Source, Ts, TxnNo, Use, Value, Values, Write, [], ap, append-nil, append_assoc, arith, fields_by_tag, if◌then◌else◌, is_empty, length, list_at, nat_tests, number_at, numbered, pair_at, read_as, refl, row_at, source_of, spelled, spelled_list, spelled_pair, spelled_row, spelled_u32, spelled_u64, subst, sym, tail_of, w32, w64, whole, ℕ, ◌++◌, ◌∙◌, ◌∷◌, ◌≡◌}
 use Rattle.sdd_wire.specs.Reading.{read_at, ready_at, reject_at, fetch_at, values_at, reduce_at, reduced_at, ship_at, rows_at, write_at, null_at, ask_at, held_at, done_at, release_at, message_at, message_in}
 use Rattle.sdd_wire.proofs.Laws.{AreBytes, OnlyReads, ReadsBack, IsSpelled, Law, only_then, only_meant, only_next, only_last, only_done, back_next, back_last, back_as}
@@ -13,11 +13,11 @@ rows_law : Law (FitsList (FitsPair FitsU32 FitsRow)) (spelled_list (spelled_pair
     (list_at (pair_at (number_at w32) row_at))
 rows_law = list_law (pair_law u32_law row_law)
 
--- the fields, behind a tag
+-- the fields, after a tag
 abbrev Fields : ℕ → Reading Msg → Type 0
 Fields tag fields = OnlyReads (λ msg more. IsSpelled FitsMsg spelled msg (tag ∷ more)) fields
 
--- what is behind the tag of a message is read back
+-- what is after the tag of a message is read back
 abbrev Back : Reading Msg → Msg → Type 0
 Back fields msg = ReadsBack fields (tail_of (spelled msg)) msg
 

@@ -22,7 +22,7 @@ unfolding scan
 same_some mode a b (c ∷ cs) = some_moved (move_of mode c) mode a b c cs (λ to s t. same_some to s t cs)
 same_some _ a b _ = grind (arith, nat_tests)
 
--- what is left behind the first byte
+-- what is left after the first byte
 abbrev left : List ℕ → List ℕ
 left rest = take (length rest - 1) (drop 1 rest)
 

@@ -64,7 +64,7 @@ Keeps Start text = text ≡ []
 Keeps InPlain text = IsPlain text
 Keeps _ text = Unit {0}
 
--- the bytes, behind what was read before, spell words
+-- the bytes, after what was read before, spell words
 pub record Spells (bytes : List ℕ) (ws : List Word) : Type 0 where
   pub words : AreWords ws
   pub spelled : bytes ≡ line_bytes ws

@@ -14,7 +14,7 @@ unfolding unescaped_from
 text_back [] = refl
 text_back (c ∷ cs) = grind (arith, byte_back, (text_back cs))
 
--- what is left behind the first byte
+-- what is left after the first byte
 abbrev left : List ℕ → List ℕ
 left rest = take (length rest - 1) (drop 1 rest)
 

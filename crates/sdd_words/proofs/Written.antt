@@ -18,7 +18,7 @@ pub flat_map-flat_map : {A B : Type 0} (f : B → List ℕ) (g : A → List B) (
 flat_map-flat_map f g [] = refl
 flat_map-flat_map f g (x ∷ xs) = flat_map-append f (g x) (flat_map g xs) ∙ ap (λ (l : List ℕ). flat_map f (g x) ++ l) (flat_map-flat_map f g xs)
 
--- further words are each a word behind a space
+-- further words are each a word after a space
 pub words_spaced : {A : Type 0} (f : A → Word) (xs : List A) → flat_map (λ x. spaced (f x)) xs ≡ more_bytes (map f xs)
 words_spaced f [] = refl
 words_spaced f (x ∷ xs) = ap (λ (l : List ℕ). spaced (f x) ++ l) (words_spaced f xs)

@@ -8,7 +8,7 @@ abbrev pub leads_on : Bool → ℕ → Bool
 leads_on true c = false
 leads_on false c = c == 92
 
--- what the spelling of a text stands for; the first byte stands behind a backslash or not
+-- what the spelling of a text stands for; the first byte stands after a backslash or not
 unfoldable pub unescaped_from : Bool → List ℕ → List ℕ
 unescaped_from behind [] = []
 unescaped_from behind (c ∷ cs) = if leads_on behind c then unescaped_from true cs else c ∷ unescaped_from false cs
@@ -17,7 +17,7 @@ unescaped_from behind (c ∷ cs) = if leads_on behind c then unescaped_from true
 abbrev pub unescaped : List ℕ → List ℕ
 unescaped spelling = unescaped_from false spelling
 
--- whether the byte after a byte of a text stands behind a backslash, none where the byte is the quote that ends the text
+-- whether the byte after a byte of a text stands after a backslash, none where the byte is the quote that ends the text
 abbrev pub passes_to : Bool → ℕ → Option Bool
 passes_to true c = Some false
 passes_to false c = if c == 34 then None else Some (c == 92)
@@ -26,7 +26,7 @@ abbrev pub one_more : Option Bool → (Bool → ℕ) → ℕ
 one_more None count = 0
 one_more (Some behind) count = 1 + count behind
 
--- how many bytes stand before the quote that ends a text; the first byte stands behind a backslash or not
+-- how many bytes stand before the quote that ends a text; the first byte stands after a backslash or not
 unfoldable pub quote_from : Bool → List ℕ → ℕ
 quote_from behind [] = 0
 quote_from behind (c ∷ cs) = one_more (passes_to behind c) (λ b. quote_from b cs)
@@ -34,7 +34,7 @@ quote_from behind (c ∷ cs) = one_more (passes_to behind c) (λ b. quote_from b
 abbrev pub is_space : ℕ → Bool
 is_space c = c == 32
 
--- what stands behind the space after a word, or nothing
+-- what follows the space after a word, or nothing
 abbrev pub behind_space : List ℕ → List ℕ
 behind_space [] = []
 behind_space (c ∷ cs) = cs

@@ -97,7 +97,7 @@ pub fn room_for_outcome(reply: &Reply) -> usize {
     room
 }
 
-/// Puts what became of a transaction, from behind its name on. Costs time linear in the lines.
+/// Puts what became of a transaction, from after its name on. Costs time linear in the lines.
 pub fn put_outcome(out: &mut Vec<u8>, reply: &Reply) -> Result<(), NoMemory>
     ensures { OnOk result (out.new.items ≡ out.old.items ++ outcome_lines reply.now) }
 {

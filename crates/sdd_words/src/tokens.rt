@@ -27,7 +27,7 @@ impl<'a> Model for Tokens<'a> {
     ghost invariant = { λ t. IsLeft t.bytes.now };
 }
 
-/// What stands behind the space after a word, or nothing.
+/// What follows the space after a word, or nothing.
 fn behind_space(bytes: &[u8]) -> &[u8]
     ensures value { result.now ≡ behind_space bytes.now }
     ensures length { length result.now ≡ length bytes.now - 1 }
@@ -88,7 +88,7 @@ fn space_place(bytes: &[u8]) -> usize
     }
 }
 
-/// Whether the byte after a byte of a text stands behind a backslash, or None exactly where the byte is
+/// Whether the byte after a byte of a text stands after a backslash, or None exactly where the byte is
 /// the quote that ends the text.
 fn passes_to(is_behind: bool, byte: u8) -> Option<bool>
     ensures { result ≡ passes_to is_behind byte }

@@ -119,7 +119,7 @@ all_read flying count place ps all past same before =
     ∙ append-nil (map (packet_as spelled) ps)
     ∙ ap (λ (l : List (Packet Msg)). map (packet_as spelled) l) (sym same)
 
--- what is read behind so many packets of a flight of spellings is what stands behind so many packets of the link
+-- what is read after so many packets of a flight of spellings is what stands after so many packets of the link
 pub opened_behind : (net : Kept (Directions (List ℕ))) (a b : Site) (count : ℕ) (flying : List (Packet (List ℕ))) (r : Result (List (Packet Msg)) NoMemory)
     → ((tms dms : ℕ) (calls : List (Call Msg)) → Carries net tms dms calls → is_link tms dms a b ≡ true
     → flying ≡ map (packet_as spelled) (link a b calls).there.flight)

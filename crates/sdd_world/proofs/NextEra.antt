@@ -55,7 +55,7 @@ one_redeclared m m2 g log era t n f here fits law stay = record {
       (f.others at (λ k e. (let l = later k e in omega (arith, l))) there);
 }
 
--- behind the last number all represent what they are to represent
+-- after the last number all represent what they are to represent
 pub all_redeclared : (m : Sites) (g : Input) (log : Log) (era : Era) (t n : ℕ)
     → n ≡ g.catalogue.tms + 1 → RedeclaredAt m g log era t n → AreRedeclared m g log era t
 all_redeclared m g log era t n e f (T k) here = let r = t_within g k here in f.redeclared_at k.0 r.0 (let high = r.1 in omega (arith, e, high)) here

@@ -33,7 +33,7 @@ fn open_all(alloc: Global, spellings: Parcels<Spelling>) -> Result<Parcels<Msg>,
     Ok(Parcels::from_vec(messages))
 }
 
-/// The packets of a flight behind so many, read from their spellings.
+/// The packets of a flight after so many, read from their spellings.
 pub(crate) fn open_behind(
     alloc: Global,
     flight: &Flight<Spelling>,
