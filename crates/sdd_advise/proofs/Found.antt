@@ -54,7 +54,10 @@ module _ (edges : List Edge) (Goes : Edge → Type 0) (nodes : ℕ) where
       }))
 
   -- one more node is reached, by an edge from one that was reached before
-  module _ (place : ℕ) (places : List (Option ℕ)) (reached : List Reached) (u : IsUnderWay edges Goes nodes place places reached) (v : ℕ) (came : Came) (within : v < nodes) (open_there : place_of places v ≡ None) (before : came.from < length reached) (is_edge : Contains edges came.edge) (goes : Goes came.edge) (joins : Joins came.edge (reached_at reached came.from).node v) where
+  module _ (place : ℕ) (places : List (Option ℕ)) (reached : List Reached)
+      (u : IsUnderWay edges Goes nodes place places reached) (v : ℕ) (came : Came) (within : v < nodes)
+      (open_there : place_of places v ≡ None) (before : came.from < length reached)
+      (is_edge : Contains edges came.edge) (goes : Goes came.edge) (joins : Joins came.edge (reached_at reached came.from).node v) where
     abbrev new_one : Reached
     new_one = record { node = v; came = Some came }
 

@@ -30,7 +30,8 @@ commit_of number tries values rows e = Commit number tries e.reply e.changes val
 abbrev writes_of : Catalogue → ℕ → ℕ → ℕ → Effect → List (Site × Msg)
 writes_of cat c ts number e = filter_map (write_of cat c ts number e.changes) (numbers_to cat.dms)
 
-pub committed_noted : (cat : Catalogue) (bases : Bases) (c : ℕ) (q : Queued) (r : Running) (number : TxnNo) (tries values rows ts : ℕ) (e : Effect) (writes : List (Site × Msg)) (old mid new : Notes)
+pub committed_noted : (cat : Catalogue) (bases : Bases) (c : ℕ) (q : Queued) (r : Running) (number : TxnNo)
+    (tries values rows ts : ℕ) (e : Effect) (writes : List (Site × Msg)) (old mid new : Notes)
     → number ≡ txn_no q.number → tries ≡ q.tries → values ≡ r.exchange.values → rows ≡ r.exchange.rows → ts ≡ r.ts → e ≡ effect cat (bases r.ts) q.text
     → writes ≡ writes_of cat c ts number.0 e
     → mid ≡ record old { out = old.out ++ writes } → new ≡ record mid { recs = mid.recs ++ commit_of number tries values rows e ∷ [] }

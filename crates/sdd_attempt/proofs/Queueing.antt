@@ -154,7 +154,8 @@ ended_view cat c q queue r bases distinct =
 
 -- the same of a queue whose first transaction the code has looked at
 
-pub begun_at : (cat : Catalogue) (c : ℕ) (table : List line.Entry) (clock : Ticking) (queue : List Queued) (q new : Queued) (before : Option Running) (r : Running) → IsWhole cat → IsLine cat c queue before
+pub begun_at : (cat : Catalogue) (c : ℕ) (table : List line.Entry) (clock : Ticking) (queue : List Queued)
+    (q new : Queued) (before : Option Running) (r : Running) → IsWhole cat → IsLine cat c queue before
     → 0 < length queue → q ≡ get_or queue 0 q → new ≡ one_try q → r ≡ start_of cat c table clock q → IsLine cat c (slice_set queue 0 new) (Some r)
 begun_at cat c table clock [] q new before r whole line some first e f = absurd (omega arith)
 begun_at cat c table clock (x ∷ queue) q new before r whole line some first e f =
@@ -162,7 +163,8 @@ begun_at cat c table clock (x ∷ queue) q new before r whole line some first e 
     (subst (λ y. IsLine cat c (y ∷ queue) (Some (start_of cat c table clock x))) (sym (e ∙ ap one_try first))
     (begun_line cat c table clock x queue whole (record { class = line.class; distinct = line.distinct; fits = line.fits; runs = tt })))
 
-pub begun_seen : (cat : Catalogue) (c : ℕ) (table : List line.Entry) (clock : Ticking) (queue : List Queued) (q new : Queued) (before : Option Running) (r : Running) → IsLine cat c queue before
+pub begun_seen : (cat : Catalogue) (c : ℕ) (table : List line.Entry) (clock : Ticking) (queue : List Queued)
+    (q new : Queued) (before : Option Running) (r : Running) → IsLine cat c queue before
     → 0 < length queue → q ≡ get_or queue 0 q → new ≡ one_try q → r ≡ start_of cat c table clock q → active_of queue before ≡ None
     → line_of cat c (slice_set queue 0 new) (Some r) ≡ line_done (start_next table clock (line_of cat c queue before)) (line_of cat c queue before)
 begun_seen cat c table clock queue q new before r line some first e f idle = grind (arith, begun_view)

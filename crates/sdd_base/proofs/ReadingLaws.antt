@@ -59,7 +59,8 @@ at_drop : {V A B F : Type 0} (view : V → A) (f : ℕ → A → Result B F) (xs
 at_drop view f xs i number x lt is = ap (λ l. along f number (map view l)) (drop_more xs i x lt ∙ ap (λ z. z ∷ drop (i + 1) xs) (sym is))
 
 -- a member that is read goes to the front
-pub goes_on : {V A B F : Type 0} (view : V → A) (f : ℕ → A → Result B F) (total : Result (List B) F) (front : List B) (xs : List V) (i number : ℕ) (x : V) (y : B) → i < length xs → x ≡ get_or xs i x → f number (view x) ≡ Ok y
+pub goes_on : {V A B F : Type 0} (view : V → A) (f : ℕ → A → Result B F) (total : Result (List B) F) (front : List B)
+    (xs : List V) (i number : ℕ) (x : V) (y : B) → i < length xs → x ≡ get_or xs i x → f number (view x) ≡ Ok y
     → with_front front (along f number (map view (drop i xs))) ≡ total
     → with_front (front ++ y ∷ []) (along f (number + 1) (map view (drop (i + 1) xs))) ≡ total
 goes_on view f total front xs i number x y lt is h so_far =
@@ -68,7 +69,9 @@ goes_on view f total front xs i number x y lt is h so_far =
     sym (one ∙ regroup front y (along f (number + 1) (map view (drop (i + 1) xs)))) ∙ so_far
 
 -- the fault of a member is that of all
-pub ends : {E V A B F : Type 0} (fault_in : E → Option F) (view : V → A) (f : ℕ → A → Result B F) (total : Result (List B) F) (e : E) (front : List B) (xs : List V) (i number : ℕ) (x : V) → i < length xs → x ≡ get_or xs i x → Fails fault_in e (f number (view x))
+pub ends : {E V A B F : Type 0} (fault_in : E → Option F) (view : V → A) (f : ℕ → A
+    → Result B F) (total : Result (List B) F) (e : E) (front : List B) (xs : List V) (i number : ℕ) (x : V)
+    → i < length xs → x ≡ get_or xs i x → Fails fault_in e (f number (view x))
     → with_front front (along f number (map view (drop i xs))) ≡ total → Fails fault_in e total
 ends {B = B} {F = F} fault_in view f total e front xs i number x lt is h so_far =
     let here = fails_bind fault_in e (f number (view x)) (λ y. along f (number + 1) (map view (drop (i + 1) xs)) >>= (λ ys. Ok (y ∷ ys))) h in

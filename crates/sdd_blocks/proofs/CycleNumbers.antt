@@ -18,7 +18,8 @@ module _ (edges : List (ℕ × ℕ)) (blocks : List ℕ) (are : AreBlocks edges 
 
     -- it isn't 0
     pub not_zero_on_cycle : (k : ℕ) → Has (edges_of steps) k → slice_index blocks k ≢ 0
-    not_zero_on_cycle k h z = are.none k (subst (λ n. slice_get blocks k ≡ Some n) z (number_at k h)) (record { start = start; steps = steps; cycle = cycle; first = h; second = h })
+    not_zero_on_cycle k h z = are.none k (subst (λ n. slice_get blocks k ≡ Some n) z (number_at k h))
+        (record { start = start; steps = steps; cycle = cycle; first = h; second = h })
 
     -- two edges of the cycle have one
     pub same_on_cycle : (j k : ℕ) → Has (edges_of steps) j → Has (edges_of steps) k

@@ -25,12 +25,17 @@ unfolding parts_at
 shape_first = refl
 
 -- the second relation has no name
-second_relation : parts_at (file (array no_items) (array (item (table (member (codes "columns") (array no_items) (member (codes "key") (string (codes "a")) (member (codes "name") (string (codes "r")) no_members)))) (item (table no_members) no_items)))) ≡ Err (broken (numbered_location Relation 2) MissingField)
+second_relation : parts_at (file (array no_items)
+    (array (item (table (member (codes "columns") (array no_items)
+    (member (codes "key") (string (codes "a")) (member (codes "name") (string (codes "r")) no_members))))
+    (item (table no_members) no_items)))) ≡ Err (broken (numbered_location Relation 2) MissingField)
 unfolding parts_at relation_at
 second_relation = refl
 
 -- a fragment without bounds has every key
-no_bounds : fragment_at (numbered_location Fragment 1) (table (member (codes "copies") (array (item (integer (pos 1)) no_items)) (member (codes "name") (string (codes "f")) (member (codes "relation") (string (codes "r")) no_members))))
+no_bounds : fragment_at (numbered_location Fragment 1)
+    (table (member (codes "copies") (array (item (integer (pos 1)) no_items))
+    (member (codes "name") (string (codes "f")) (member (codes "relation") (string (codes "r")) no_members))))
     ≡ Ok (record { name = codes "f"; relation = codes "r"; from = least_key; to = greatest_key; copies = 1 ∷ [] })
 unfolding fragment_at
 no_bounds = refl

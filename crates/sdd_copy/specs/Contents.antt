@@ -56,7 +56,8 @@ pub deleted : contents 1 ((0, change_to (Some (row_of 1))) ∷ (90, change_to No
 deleted = refl
 
 -- and a row at 91 stands again
-pub again : contents 1 ((0, change_to (Some (row_of 1))) ∷ (90, change_to None) ∷ (70, change_to (Some (row_of 2))) ∷ (91, change_to (Some (row_of 3))) ∷ []) ≡ (pos 4, row_of 3) ∷ []
+pub again : contents 1 ((0, change_to (Some (row_of 1))) ∷ (90, change_to None) ∷ (70, change_to (Some (row_of 2)))
+    ∷ (91, change_to (Some (row_of 3))) ∷ []) ≡ (pos 4, row_of 3) ∷ []
 again = refl
 
 -- of two at 90 the first stands

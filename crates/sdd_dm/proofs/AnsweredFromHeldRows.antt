@@ -54,7 +54,8 @@ reduce_worked from st ts class u col values s bases log shows fit =
     let rows : List (Option Frozen) = update class.0 (reduced_at ts.0 u col values) st.frozen in
     let held : frozen_of rows class.0 ≡ frozen s class.0
     (Handed from m ∷ log) = (grind (arith, at_own, at_other)) in
-    asked_reached s bases st log from m (Reduced ts class u (length (rows_held u (frozen_of rows class.0)))) class.0 rows shows (grind (arith, nat_tests, opened, rows_held, hands, length-update, reduced_at, at_own, at_other))
+    asked_reached s bases st log from m (Reduced ts class u (length (rows_held u (frozen_of rows class.0)))) class.0
+    rows shows (grind (arith, nat_tests, opened, rows_held, hands, length-update, reduced_at, at_own, at_other))
 
 -- SHIP
 

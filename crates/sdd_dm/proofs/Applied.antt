@@ -97,7 +97,8 @@ more_dated s log c r sends x l e h =
       ]
       | inr new ↦
           Contains-append_right (first_rows s) all x
-          (flat_in (λ k. applied k after) (classes_of s) c x (let e : 0 + c ≡ c = omega arith in subst (Contains (classes_of s)) e (in_range 0 (suc (length s.catalogue.classes)) c (omega arith)))
+          (flat_in (λ k. applied k after) (classes_of s) c x (let e : 0 + c ≡ c = omega arith in
+          subst (Contains (classes_of s)) e (in_range 0 (suc (length s.catalogue.classes)) c (omega arith)))
           (subst (λ xs. Contains xs x) (sym (rw (same_number c c refl, e) refl)) (Contains-append_right (applied c log) (changes_in (head (pipe c log))) x new)))
     ]
 

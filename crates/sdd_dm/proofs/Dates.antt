@@ -35,10 +35,12 @@ one_change (z ∷ xs) x y d i j e f =
     elim (Contains-cases z xs x i) as (λ _. x ≡ y) [
       | inl a ↦ elim (Contains-cases z xs y j) as (λ _. x ≡ y) [
         | inl b ↦ a ∙ sym b
-        | inr b ↦ absurd (let yes = one_item z y (ap (λ w. w.frag.0) (sym a) ∙ e) (ap (λ w. w.key) (sym a) ∙ f) in absurd cc (each_map (λ j. is_one (item z) j ≡ false) item xs y apart b))
+        | inr b ↦ absurd (let yes = one_item z y (ap (λ w. w.frag.0) (sym a) ∙ e) (ap (λ w. w.key) (sym a) ∙ f) in
+            absurd cc (each_map (λ j. is_one (item z) j ≡ false) item xs y apart b))
       ]
       | inr a ↦ elim (Contains-cases z xs y j) as (λ _. x ≡ y) [
-        | inl b ↦ absurd (let yes = one_item z x (ap (λ w. w.frag.0) (sym b) ∙ sym e) (ap (λ w. w.key) (sym b) ∙ sym f) in absurd cc (each_map (λ j. is_one (item z) j ≡ false) item xs x apart a))
+        | inl b ↦ absurd (let yes = one_item z x (ap (λ w. w.frag.0) (sym b) ∙ sym e) (ap (λ w. w.key) (sym b)
+            ∙ sym f) in absurd cc (each_map (λ j. is_one (item z) j ≡ false) item xs x apart a))
         | inr b ↦ one_change xs x y (IsDistinct-tail is_one (item z) (map item xs) d) a b e f
       ]
     ]

@@ -40,8 +40,13 @@ first_differ cat db sound is = λ x y i j frag key time.
     let q = from_map (first_row cat) db y j in
     let f : fragment_of cat p.0.0.0 p.0.0.1 ≡ fragment_of cat q.0.0.0 q.0.0.1 = ap (λ c. c.1.frag.0) (sym p.2) ∙ frag ∙ ap (λ c. c.1.frag.0) q.2 in
     let rel : p.0.0.0 ≡ q.0.0.0 =
-    sym ((fragment_holds cat sound p.0.0.0 p.0.0.1 (All-contains (IsEntry cat) db p.0 is.entries p.1).relation.0 (All-contains (IsEntry cat) db p.0 is.entries p.1).relation.1 (key_in_range p.0.0.1 (All-contains (IsEntry cat) db p.0 is.entries p.1).key_held)).there.rel_is) ∙ ap (λ n. (fragment_at cat n).rel.0) f
-    ∙ ((fragment_holds cat sound q.0.0.0 q.0.0.1 (All-contains (IsEntry cat) db q.0 is.entries q.1).relation.0 (All-contains (IsEntry cat) db q.0 is.entries q.1).relation.1 (key_in_range q.0.0.1 (All-contains (IsEntry cat) db q.0 is.entries q.1).key_held)).there.rel_is) in
+    sym ((fragment_holds cat sound p.0.0.0 p.0.0.1 (All-contains (IsEntry cat) db p.0 is.entries p.1).relation.0
+    (All-contains (IsEntry cat) db p.0 is.entries p.1).relation.1
+    (key_in_range p.0.0.1 (All-contains (IsEntry cat) db p.0 is.entries p.1).key_held)).there.rel_is)
+    ∙ ap (λ n. (fragment_at cat n).rel.0) f
+    ∙ ((fragment_holds cat sound q.0.0.0 q.0.0.1 (All-contains (IsEntry cat) db q.0 is.entries q.1).relation.0
+    (All-contains (IsEntry cat) db q.0 is.entries q.1).relation.1
+    (key_in_range q.0.0.1 (All-contains (IsEntry cat) db q.0 is.entries q.1).key_held)).there.rel_is) in
     let item : p.0.0 ≡ q.0.0 = ap (λ r. (r, p.0.0.1)) rel ∙ ap (λ n. (q.0.0.0, n)) (ap (λ c. c.1.key) (sym p.2) ∙ key ∙ ap (λ c. c.1.key) q.2) in
     let same : p.0 ≡ q.0 = one_entry db p.0 q.0 (IsDistinct-from_sorted item_cmp (keys_of db) is.ascends) p.1 q.1 item in
     p.2 ∙ ap (first_row cat) same ∙ sym q.2

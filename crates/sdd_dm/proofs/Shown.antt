@@ -40,8 +40,11 @@ judged_by s st log h lacking e = grind (arith, last_write_is, pipe_at, at_class,
 
 judged_is : (s : Setting) (st : State) (log : Log) → Shows s st log → (conds : List Cond) → judge_in st.pipes conds ≡ judge (view_of s log) conds
 judged_is s st log h conds =
-    ap (λ ds. judged_in st.pipes ds (spoiler st.pipes conds)) (filter_same (λ d. not (is_met_in st.pipes d)) (λ d. not (is_met (view_of s log) d)) conds (λ d. ap not (met_is s st log h d)))
-    ∙ ap (judged_in st.pipes (filter (λ d. not (is_met (view_of s log) d)) conds)) (found_of (spoils_in st.pipes) conds ∙ ap head_of (filter_same (spoils_in st.pipes) (spoils (view_of s log)) conds (spoilt_is s st log h)))
+    ap (λ ds. judged_in st.pipes ds (spoiler st.pipes conds))
+    (filter_same (λ d. not (is_met_in st.pipes d)) (λ d. not (is_met (view_of s log) d)) conds (λ d. ap not (met_is s st log h d)))
+    ∙ ap (judged_in st.pipes (filter (λ d. not (is_met (view_of s log) d)) conds))
+    (found_of (spoils_in st.pipes) conds
+    ∙ ap head_of (filter_same (spoils_in st.pipes) (spoils (view_of s log)) conds (spoilt_is s st log h)))
     ∙ judged_by s st log h (filter (λ d. not (is_met (view_of s log) d)) conds) (head_of (filter (spoils (view_of s log)) conds))
 
 -- held WRITEs

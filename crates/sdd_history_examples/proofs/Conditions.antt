@@ -53,5 +53,7 @@ module _ (cat : Catalogue) (eras : Eras) (table : ℕ → List Entry) (h : Histo
               let equal = same (is_applied h d k x.start.txn) (nat_lt x.start.ts c.time.0) in
               let one = so (x.start.class == c.class.0) (if_so (touches_one cat x d c.frags) equal) split (eq-eqb x.start.class c.class.0 class) in
               let two = so (touches_one cat x d c.frags) equal one (touches_is cat x d c.frags t) in
-              let both : is_applied h d k x.start.txn ≡ nat_lt x.start.ts c.time.0 = same_is (is_applied h d k x.start.txn) (nat_lt x.start.ts c.time.0) two in (grind (arith, ltb-true, before_applied, applied_before, lt-ltb));
+              let both : is_applied h d k x.start.txn ≡ nat_lt x.start.ts c.time.0 = same_is
+              (is_applied h d k x.start.txn) (nat_lt x.start.ts c.time.0) two in
+              (grind (arith, ltb-true, before_applied, applied_before, lt-ltb));
         }

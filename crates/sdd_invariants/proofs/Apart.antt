@@ -81,7 +81,8 @@ at_start g k t log q i h =
     let j = r.1 k t i in
     record { started = refl; committed = sym r.0; got = j ∙ ap suc (sym r.0); sent = omega (arith, r.0, j, c.put_held, c.got_hold, c.one_open, c.released, c.committed) }
 
-low : (g : Input) (k t c j : ℕ) (full later log : Log) (q : Queued) (a : Attempt) (cm : IsCommitT g t c full a) (x : IsHeldAt (local_of g (T (tm_no t)) log) (starts (local_of g U log))) (front : site.Log)
+low : (g : Input) (k t c j : ℕ) (full later log : Log) (q : Queued) (a : Attempt) (cm : IsCommitT g t c full a)
+    (x : IsHeldAt (local_of g (T (tm_no t)) log) (starts (local_of g U log))) (front : site.Log)
     → slice_get (numbers_to g.catalogue.tms) k ≡ Some t → slice_get (runs (setting_of g (T (tm_no t)))) j ≡ Some c
     → number_of (T (tm_no t)) ≤ 63 → IsPermitted g (Does U (start_u g log q) ∷ log)
     → local_of g (T (tm_no t)) full ≡ (front ++ x.later) ++ Did (Sends x.to (Held x.time) x.hand) ∷ x.before → (between : site.Log)
@@ -119,7 +120,8 @@ low g k t c j full later log q a cm x front i run small h e between p =
     let is_bound : x.time.0 ≡ (clock at x.before).ticks * 64 + 63 = time in
     record { commit = place_of_act g at log (x.later ++ Did held ∷ by.0) (commit_act g.catalogue cm.bases c a) cm.before there; below = (omega arith) }
 
-high : (g : Input) (k t c : ℕ) (full later log : Log) (q : Queued) (a : Attempt) (cm : IsCommitT g t c full a) (x : IsHeldAt (local_of g (T (tm_no t)) log) (starts (local_of g U log)))
+high : (g : Input) (k t c : ℕ) (full later log : Log) (q : Queued) (a : Attempt) (cm : IsCommitT g t c full a)
+    (x : IsHeldAt (local_of g (T (tm_no t)) log) (starts (local_of g U log)))
     → slice_get (numbers_to g.catalogue.tms) k ≡ Some t → IsPermitted g full → full ≡ later ++ Does U (start_u g log q) ∷ log
     → (between : site.Log) → cm.start.before ≡ between ++ Did (Sends x.to (Held x.time) x.hand) ∷ x.before
     → IsHigh g t c full log a cm (u_stamp g log) (starts (local_of g U log))

@@ -34,15 +34,25 @@ pub one_of_key : (f : Msg → Option ℕ) (ms : List Msg) (a b : ℕ) (x y : Msg
 one_of_key f [] a b x y t h e i p q = cc
 one_of_key f (m ∷ ms) zero zero x y t h e i p q = refl
 one_of_key f (m ∷ ms) zero (suc b) x y t h e i p q =
-    let s : m ≡ x = cc in let l = gt_key f t ms b y t ((subst (λ o. IsStrict (cons_option o (filter_map f ms)) → AllGt t (filter_map f ms)) (sym (ap f s ∙ p)) (λ z. z.0)) h) i q in absurd (omega arith)
+    let s : m ≡ x = cc in let l = gt_key f t ms b y t
+    ((subst (λ o. IsStrict (cons_option o (filter_map f ms)) → AllGt t (filter_map f ms)) (sym (ap f s ∙ p))
+    (λ z. z.0)) h) i q in absurd (omega arith)
 one_of_key f (m ∷ ms) (suc a) zero x y t h e i p q =
-    let s : m ≡ y = cc in let l = gt_key f t ms a x t ((subst (λ o. IsStrict (cons_option o (filter_map f ms)) → AllGt t (filter_map f ms)) (sym (ap f s ∙ q)) (λ z. z.0)) h) e p in absurd (omega arith)
-one_of_key f (m ∷ ms) (suc a) (suc b) x y t h e i p q = ap suc (one_of_key f ms a b x y t (elim (f m) as (λ o. IsStrict (cons_option o (filter_map f ms)) → IsStrict (filter_map f ms)) [ None ↦ λ z. z | Some u ↦ λ z. z.1 ] h) e i p q)
+    let s : m ≡ y = cc in let l = gt_key f t ms a x t
+    ((subst (λ o. IsStrict (cons_option o (filter_map f ms)) → AllGt t (filter_map f ms)) (sym (ap f s ∙ q))
+    (λ z. z.0)) h) e p in absurd (omega arith)
+one_of_key f (m ∷ ms) (suc a) (suc b) x y t h e i p q =
+    ap suc (one_of_key f ms a b x y t (elim (f m) as (λ o. IsStrict (cons_option o (filter_map f ms))
+    → IsStrict (filter_map f ms)) [ None ↦ λ z. z | Some u ↦ λ z. z.1 ] h) e i p q)
 
 pub key_rises : (f : Msg → Option ℕ) (ms : List Msg) (a b : ℕ) (x y : Msg) (t u : ℕ) → IsStrict (filter_map f ms)
     → slice_get ms a ≡ Some x → slice_get ms b ≡ Some y → f x ≡ Some t → f y ≡ Some u → a < b → t < u
-key_rises f (m ∷ ms) zero (suc b) x y t u h e i p q l = let s : m ≡ x = cc in gt_key f t ms b y u ((subst (λ o. IsStrict (cons_option o (filter_map f ms)) → AllGt t (filter_map f ms)) (sym (ap f s ∙ p)) (λ z. z.0)) h) i q
-key_rises f (m ∷ ms) (suc a) (suc b) x y t u h e i p q l = key_rises f ms a b x y t u (elim (f m) as (λ o. IsStrict (cons_option o (filter_map f ms)) → IsStrict (filter_map f ms)) [ None ↦ λ z. z | Some u ↦ λ z. z.1 ] h) e i p q (omega arith)
+key_rises f (m ∷ ms) zero (suc b) x y t u h e i p q l = let s : m ≡ x = cc in
+    gt_key f t ms b y u ((subst (λ o. IsStrict (cons_option o (filter_map f ms)) → AllGt t (filter_map f ms))
+    (sym (ap f s ∙ p)) (λ z. z.0)) h) i q
+key_rises f (m ∷ ms) (suc a) (suc b) x y t u h e i p q l =
+    key_rises f ms a b x y t u (elim (f m) as (λ o. IsStrict (cons_option o (filter_map f ms))
+    → IsStrict (filter_map f ms)) [ None ↦ λ z. z | Some u ↦ λ z. z.1 ] h) e i p q (omega arith)
 key_rises f ms a b x y t u h e i p q l = grind arith
 
 -- what has a key of a class goes through its pipe

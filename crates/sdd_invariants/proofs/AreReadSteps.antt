@@ -24,7 +24,8 @@ asked_step : (s : Setting) (log : Log) (h : Home) (k : ClassView) (o : Option Op
 asked_step s log h k o a e = grind (arith, step_is)
 
 -- a READ that doesn't wait, by what it lacks and what spoils it
-judged_step : (s : Setting) (log : Log) (c : ℕ) (ts : Ts) (class : ClassNo) (txn : TxnNo) (attempt : ℕ) (conds : List Cond) (uses : List Use) (lacking : List Cond) (by : Option Cond) (a : Act)
+judged_step : (s : Setting) (log : Log) (c : ℕ) (ts : Ts) (class : ClassNo) (txn : TxnNo) (attempt : ℕ)
+    (conds : List Cond) (uses : List Use) (lacking : List Cond) (by : Option Cond) (a : Act)
     → IsClassHere s c → waits c log ≡ false → head (pipe c log) ≡ Some (Read ts class txn attempt conds uses)
     → (lacking ≡ [] → list_all (is_met (view_of s log)) conds ≡ true) → spoiler (view_of s log) conds ≡ by
     → Some (act_by (home_of s) (view_of s log) c (Read ts class txn attempt conds uses) (judged (view_of s log) lacking by)) ≡ Some a → IsReadStep s log a

@@ -37,7 +37,9 @@ all_ask ts c m (d ∷ dms) e = (e, all_ask ts c m dms e)
 
 fetching : (ts c : ℕ) (m : Move) (x : Exchange) (dms : List ℕ) → GoesOn ts c x (fetches_from ts c m x dms)
 fetching ts c m x [] =
-    two_steps ts c x (record x { union = [] }) _ (same_phase ts c x (record x { union = [] }) refl refl refl) (to_later ts c (record x { union = [] }) (reduces ts c m (record x { union = [] })) refl refl (λ h. all_ask ts c _ (with_use (record x { union = [] }) m.target.part) (own ts c)))
+    two_steps ts c x (record x { union = [] }) _ (same_phase ts c x (record x { union = [] }) refl refl refl)
+    (to_later ts c (record x { union = [] }) (reduces ts c m (record x { union = [] })) refl refl
+    (λ h. all_ask ts c _ (with_use (record x { union = [] }) m.target.part) (own ts c)))
 fetching ts c m x (d ∷ dms) = to_later ts c x (fetches_from ts c m x (d ∷ dms)) refl refl (λ h. all_ask ts c _ (d ∷ dms) (own ts c))
 
 going_on : (ts c : ℕ) (x : Exchange) (qs : List Asking) (done : List Step) → GoesOn ts c x (goes_on ts c x qs done)
@@ -99,7 +101,8 @@ not_empty ps p b e f = grind arith
 -- an exchange that has something to send awaits no READY
 pub not_reading : (s : Setting) (c : ℕ) (log : Log) (a : Attempt) (p : ℕ × Msg) → active s c log ≡ Some a
     → head_of a.exchange.to_send ≡ Some p → is_reading a.exchange.phase ≡ false
-not_reading s c log a p e f = not_empty a.exchange.to_send p (is_reading a.exchange.phase) f (subst (Has QuietOf) e (kept QuietOf s c log (record { starts = quiet_started; goes = λ a x g h. g.quiet h })))
+not_reading s c log a p e f = not_empty a.exchange.to_send p (is_reading a.exchange.phase) f
+    (subst (Has QuietOf) e (kept QuietOf s c log (record { starts = quiet_started; goes = λ a x g h. g.quiet h })))
 
 abbrev AskingOf : ℕ → Attempt → Type 0
 AskingOf c a = AllAsk a.ts c a.exchange.to_send
@@ -113,4 +116,5 @@ asks_head ts c ps p h e = grind arith
 -- what the exchange of the active attempt sends next is one of its own
 pub asks_next : (s : Setting) (c : ℕ) (log : Log) (a : Attempt) (p : ℕ × Msg) → active s c log ≡ Some a
     → head_of a.exchange.to_send ≡ Some p → asks_rows a.ts c p.1 ≡ true
-asks_next s c log a p e f = asks_head a.ts c a.exchange.to_send p (subst (Has (AskingOf c)) e (kept (AskingOf c) s c log (record { starts = asking_started c; goes = λ a x g h. g.asks h }))) f
+asks_next s c log a p e f = asks_head a.ts c a.exchange.to_send p
+    (subst (Has (AskingOf c)) e (kept (AskingOf c) s c log (record { starts = asking_started c; goes = λ a x g h. g.asks h }))) f

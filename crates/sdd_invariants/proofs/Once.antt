@@ -47,7 +47,8 @@ processed_grows c [] log = omega arith
 processed_grows c (e ∷ later) log = grind (arith, processed_handed, length-append, head, pipe, (processed_grows c later log))
 
 -- a READ that is answered doesn't stand at the head again: an Answer, and after it a READ with the same timestamp
-pub answered_there : (g : Input) (c : ℕ) (d : DmNo) (later before : Log) (dm : DmNo) (sends : List (Site × Msg)) (ts1 ts2 : Ts) (k1 k2 : ClassNo) (txn txn1 txn2 : TxnNo) (n n1 n2 : ℕ) (ds1 ds2 : List Cond) (us1 us2 : List Use)
+pub answered_there : (g : Input) (c : ℕ) (d : DmNo) (later before : Log) (dm : DmNo) (sends : List (Site × Msg))
+    (ts1 ts2 : Ts) (k1 k2 : ClassNo) (txn txn1 txn2 : TxnNo) (n n1 n2 : ℕ) (ds1 ds2 : List Cond) (us1 us2 : List Use)
     → IsPermitted g (later ++ Does (D d) (Records c (Answer txn n dm) sends) ∷ before) → number_of (home g.catalogue c) ≤ 63
     → head (pipe_at g c d before) ≡ Some (Read ts1 k1 txn1 n1 ds1 us1)
     → head (pipe_at g c d (later ++ Does (D d) (Records c (Answer txn n dm) sends) ∷ before)) ≡ Some (Read ts2 k2 txn2 n2 ds2 us2) → ts1.0 ≡ ts2.0 → ⊥
@@ -65,7 +66,9 @@ answered_there g c d later before dm sends ts1 ts2 k1 k2 txn txn1 txn2 n n1 n2 d
     (λ l. slice_get (class_puts g c d l) (length (pipe_at g c d before).processed) ≡ Some m1) (sym part) (head_place g c d front before m1 hb e1) in
     let at2 : slice_get (class_puts g c d log) (length (pipe_at g c d log).processed) ≡ Some m2 = head_place g c d [] log m2 h e2 in
     let one = one_of_key (read_at c) (class_puts g c d log) (length (pipe_at g c d before).processed) (length (pipe_at g c d log).processed) m1 m2 ts2.0
-    (reads_strict g c d log h small) at1 at2 (let q : (k1.0 == c) ≡ true = ap (λ y. y == c) r1.0 ∙ same_number c in rw q (ap (λ y. Some y) ts)) (let q : (k2.0 == c) ≡ true = ap (λ y. y == c) r2.0 ∙ same_number c in rw q (ap (λ y. Some y) refl)) in
+    (reads_strict g c d log h small) at1 at2 (let q : (k1.0 == c) ≡ true = ap (λ y. y == c) r1.0 ∙ same_number c in
+    rw q (ap (λ y. Some y) ts)) (let q : (k2.0 == c) ≡ true = ap (λ y. y == c) r2.0 ∙ same_number c in
+    rw q (ap (λ y. Some y) refl)) in
     let x = local_grows g (D d) later (Does (D d) ans ∷ before) in
     let b : site.Log = local_of g (D d) before in
     let l : local_of g (D d) log ≡ x.0 ++ Did ans ∷ b = x.1 ∙ ap (λ y. x.0 ++ y) (own_act g (D d) ans before) in
@@ -75,7 +78,8 @@ answered_there g c d later before dm sends ts1 ts2 k1 k2 txn txn1 txn2 n n1 n2 d
     omega (arith, ap (λ (p : Pipe). length p.processed) (own_record c (Answer txn n dm) sends b refl).0 ∙ ap length (processed_more (pipe c b) m1 e1))
 
 -- an Answer to a READ, and after it a head with the READ of the same transaction and attempt
-pub answered_once : (g : Input) (c : ℕ) (d : DmNo) (later before : Log) (dm : DmNo) (sends : List (Site × Msg)) (ts1 ts2 : Ts) (k1 k2 : ClassNo) (txn1 txn2 : TxnNo) (n1 n2 : ℕ) (ds1 ds2 : List Cond) (us1 us2 : List Use)
+pub answered_once : (g : Input) (c : ℕ) (d : DmNo) (later before : Log) (dm : DmNo) (sends : List (Site × Msg))
+    (ts1 ts2 : Ts) (k1 k2 : ClassNo) (txn1 txn2 : TxnNo) (n1 n2 : ℕ) (ds1 ds2 : List Cond) (us1 us2 : List Use)
     → IsPermitted g (later ++ Does (D d) (Records c (Answer txn1 n1 dm) sends) ∷ before) → number_of (home g.catalogue c) ≤ 63
     → head (pipe_at g c d before) ≡ Some (Read ts1 k1 txn1 n1 ds1 us1)
     → head (pipe_at g c d (later ++ Does (D d) (Records c (Answer txn1 n1 dm) sends) ∷ before)) ≡ Some (Read ts2 k2 txn2 n2 ds2 us2)

@@ -33,7 +33,8 @@ unspoilt_at s log [] n d h e = cc
 unspoilt_at s log (x ∷ ds) zero d h e = let p : x ≡ d = cc in subst (λ y. (y.class.0 ≡ 0) ⊎ (spoils (view_of s log) y ≡ false)) p h.0
 unspoilt_at s log (x ∷ ds) (suc n) d h e = unspoilt_at s log ds n d h.1 e
 
-pub answered_if : (s : Setting) (log : site.Log) (c : ℕ) (txn : TxnNo) (attempt : ℕ) (module_no : DmNo) (sends : List (Site × Msg)) (ts : Ts) (k : ClassNo) (t : TxnNo) (a : ℕ) (conds : List Cond) (uses : List Use)
+pub answered_if : (s : Setting) (log : site.Log) (c : ℕ) (txn : TxnNo) (attempt : ℕ) (module_no : DmNo)
+    (sends : List (Site × Msg)) (ts : Ts) (k : ClassNo) (t : TxnNo) (a : ℕ) (conds : List Cond) (uses : List Use)
     → Each (IsDueEach s) log → IsReadStep s log (Records c (Answer txn attempt module_no) sends) → head (pipe c log) ≡ Some (Read ts k t a conds uses)
     → (list_all (is_met (view_of s log)) conds ≡ true) × AllUnspoilt s log conds
 answered_if s log c txn attempt module_no sends ts k t a conds uses h e f = grind (arith, not_both, waiting, no_spoiler)
@@ -51,7 +52,9 @@ processed_stays p more i m e = in_left (all_of p) more i m (in_left p.processed 
 
 -- the split
 
-pub split : (g : Input) (later log : Log) (d : DmNo) (q : Cond) (r : ℕ) (txn : TxnNo) (attempt : ℕ) (module_no : DmNo) (sends : List (Site × Msg)) (ts : Ts) (k : ClassNo) (t : TxnNo) (a : ℕ) (conds : List Cond) (uses : List Use) (n : ℕ) (i : ℕ) (w : Ts) (j : ClassNo) (x : TxnNo) (changes : List Change)
+pub split : (g : Input) (later log : Log) (d : DmNo) (q : Cond) (r : ℕ) (txn : TxnNo) (attempt : ℕ) (module_no : DmNo)
+    (sends : List (Site × Msg)) (ts : Ts) (k : ClassNo) (t : TxnNo) (a : ℕ) (conds : List Cond) (uses : List Use)
+    (n : ℕ) (i : ℕ) (w : Ts) (j : ClassNo) (x : TxnNo) (changes : List Change)
     → IsPermitted g (later ++ Does (D d) (Records r (Answer txn attempt module_no) sends) ∷ log) → number_of (home g.catalogue q.class.0) ≤ 63
     → head (pipe_at g r d log) ≡ Some (Read ts k t a conds uses) → slice_get conds n ≡ Some q → q.class.0 ≢ 0
     → slice_get (class_puts g q.class.0 d (later ++ Does (D d) (Records r (Answer txn attempt module_no) sends) ∷ log)) i ≡ Some (Write w j x changes)
@@ -78,7 +81,8 @@ split g later log d q r txn attempt module_no sends ts k t a conds uses n i w j 
             let none : list_any (spoiling q) (pipe c l).processed ≡ false = subst (λ ms. list_any (spoiling q) ms ≡ false) (processed_in_is s l c lt)
             (sym (spoils_is s l q) ∙ clean) in
             below_time q w j x changes tch (any_false_at (spoiling q) (pipe c l).processed i (Write w j x changes) none in_it)),
-        (λ lo. (passed_at (pipe c l).processed (pipe c l).unprocessed more.0 q.time.0 i (Write w j x changes) rises there lo (subst (λ (v : ClassView). passed v.pipe q.time.0 ≡ true) (class_in_view s l c lt) met))),
+        (λ lo. (passed_at (pipe c l).processed (pipe c l).unprocessed more.0 q.time.0 i (Write w j x changes) rises
+            there lo (subst (λ (v : ClassView). passed v.pipe q.time.0 ≡ true) (class_in_view s l c lt) met))),
       )
       | no nlt ↦ (let p : passed empty_pipe q.time.0 ≡ true = subst (λ (v : ClassView). passed v.pipe q.time.0 ≡ true) (class_not_in_view s l c (omega (arith, nlt))) met in cc)
     ]

@@ -32,7 +32,8 @@ abbrev pub processed_in : Setting → Log → ℕ → List Msg
 processed_in s log j = (at_class (view_of s log) j).pipe.processed
 
 pub spoils_is : (s : Setting) (log : Log) (d : Cond) → spoils (view_of s log) d ≡ list_any (spoiling d) (processed_in s log d.class.0)
-spoils_is s log d = (greatest_test d.time.0 None (filter_map (write_time d.frags) (processed_in s log d.class.0)) ∙ any_of_times d.time.0 (write_time d.frags) (processed_in s log d.class.0))
+spoils_is s log d = (greatest_test d.time.0 None (filter_map (write_time d.frags) (processed_in s log d.class.0))
+    ∙ any_of_times d.time.0 (write_time d.frags) (processed_in s log d.class.0))
 
 pub processed_in_is : (s : Setting) (log : Log) (j : ℕ) → IsClassHere s j → processed_in s log j ≡ (pipe j log).processed
 processed_in_is s log j l = ap (λ (k : ClassView). k.pipe.processed) (class_in_view s log j l)
@@ -122,7 +123,8 @@ read_safe k ts class txn changes o e = grind (arith, safe_write)
 may_safe : (s : Setting) (log : Log) (k c : ℕ) (m : Msg) (r : Rec) → k ≢ 0 → IsClassHere s c → waits c log ≡ true
     → May (view_of s log) k (waits k log) m r → IsReadSafe k m (head (pipe c log))
 may_safe s log k c (Write ts class txn changes) (Apply t j dm w) n l q h =
-    let e : list_any (λ (v : ClassView). v.waits && holds_back k ts.0 changes (head v.pipe)) (view_of s log).classes ≡ false = (let z : (k == 0) ≡ false = elim (same_or_not k 0) [ inl p ↦ absurd (n p) | inr p ↦ p ] in rw z at h.3) in
+    let e : list_any (λ (v : ClassView). v.waits && holds_back k ts.0 changes (head v.pipe)) (view_of s log).classes
+    ≡ false = (let z : (k == 0) ≡ false = elim (same_or_not k 0) [ inl p ↦ absurd (n p) | inr p ↦ p ] in rw z at h.3) in
     let f : (waits c log && holds_back k ts.0 changes (head (pipe c log))) ≡ false = any_false_at
     (λ (v : ClassView). v.waits && holds_back k ts.0 changes (head v.pipe)) (view_of s log).classes c (class_view s log c) e (class_there s log c l) in
     read_safe k ts class txn changes (head (pipe c log)) (rw q at f)
@@ -149,7 +151,9 @@ still s k m r sends log (d ∷ ds) l p e f h = (
             ∙ ap (list_any (spoiling d))
             (subst (λ j. processed_in s (Did (Records k r sends) ∷ log) j ≡ processed_in s log j ++ m ∷ []) q (processed_own s k m r sends log l p e))
             ∙ any_append (spoiling d) (processed_in s log d.class.0) (m ∷ []) ∙ (rw ((sym (spoils_is s log d) ∙ u), fine) refl)))
-        | inr q ↦ inr (spoils_is s (Did (Records k r sends) ∷ log) d ∙ ap (list_any (spoiling d)) (processed_by s (Did (Records k r sends)) log d.class.0 (ap (λ (x : Pipe). x.processed) (not_own d.class.0 k r sends log (inl q)).pipe_same)) ∙ sym (spoils_is s log d) ∙ u)
+        | inr q ↦ inr (spoils_is s (Did (Records k r sends) ∷ log) d
+            ∙ ap (list_any (spoiling d)) (processed_by s (Did (Records k r sends)) log d.class.0
+            (ap (λ (x : Pipe). x.processed) (not_own d.class.0 k r sends log (inl q)).pipe_same)) ∙ sym (spoils_is s log d) ∙ u)
       ]
     ]
   ],

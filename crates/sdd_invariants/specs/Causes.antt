@@ -97,5 +97,6 @@ pub record IsAgain (g : Input) (log : Log) (c : ℕ) (q : Queued) : Type 0 where
 -- the Commit has the reply and the changes of the effect on this database of its attempt, and the counts of its exchange
 abbrev pub IsBased : Setting → Bases → site.Log → Act → Type 0
 IsBased s bases log (Records k (Commit txn attempt reply changes values rows) sends) =
-    (a : Attempt) × (active s k log ≡ Some a) × (reply ≡ (effect s.catalogue (bases a.ts) a.text).reply) × (changes ≡ (effect s.catalogue (bases a.ts) a.text).changes) × (values ≡ a.exchange.values) × (rows ≡ a.exchange.rows)
+    (a : Attempt) × (active s k log ≡ Some a) × (reply ≡ (effect s.catalogue (bases a.ts) a.text).reply)
+    × (changes ≡ (effect s.catalogue (bases a.ts) a.text).changes) × (values ≡ a.exchange.values) × (rows ≡ a.exchange.rows)
 IsBased s bases log act = Unit {0}

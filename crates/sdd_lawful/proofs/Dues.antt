@@ -43,7 +43,8 @@ asked l h k (Some o) a p e =
     let w = was_handed l i.1 o i.2 in
     (grind (arith, due_some))
 
-by_judged : (l : Log) (h : Home) (v : View) (c : ℕ) (ts : Ts) (class : ClassNo) (txn : TxnNo) (attempt : ℕ) (conds : List Cond) (uses : List Use) (lacking : List Cond) (by : Option Cond) (a : Act)
+by_judged : (l : Log) (h : Home) (v : View) (c : ℕ) (ts : Ts) (class : ClassNo) (txn : TxnNo) (attempt : ℕ)
+    (conds : List Cond) (uses : List Use) (lacking : List Cond) (by : Option Cond) (a : Act)
     → head (pipe c l) ≡ Some (Read ts class txn attempt conds uses) → lacking ≡ filter (λ d. not (is_met v d)) conds
     → Some (act_by h v c (Read ts class txn attempt conds uses) (judged v lacking by)) ≡ Some a → DueTo l a
 by_judged l h v c ts class txn attempt conds uses lacking (Some d) a top p e = due_some l _ a tt e

@@ -92,7 +92,9 @@ module _ (g : Input) (rows : List (RelNo × Row)) (eras : Eras) (log : Log) (sou
 
   answer_of : (d : ℕ) (i : HasSnapshot (setting_of g (D (dm_no d))) a.ts (local_of g (D (dm_no d)) c.before)) → IsTheAnswer g log a d i.class i.before
   answer_of d i =
-      the_answer g log (c.later ++ Does (home cat a.class) (commit_act cat c.bases a.class c.running) ∷ []) c.before eras a d i.later i.class i.txn i.attempt i.dm i.sends i.before sound h are ct.started (c.is ∙ sym (append_assoc c.later (Does (home cat a.class) (commit_act cat c.bases a.class c.running) ∷ []) c.before)) i.is i.at_time
+      the_answer g log (c.later ++ Does (home cat a.class) (commit_act cat c.bases a.class c.running) ∷ []) c.before
+      eras a d i.later i.class i.txn i.attempt i.dm i.sends i.before sound h are ct.started (c.is
+      ∙ sym (append_assoc c.later (Does (home cat a.class) (commit_act cat c.bases a.class c.running) ∷ []) c.before)) i.is i.at_time
 
   asked_is : (d : ℕ) (i : HasSnapshot (setting_of g (D (dm_no d))) a.ts (local_of g (D (dm_no d)) c.before)) (z : IsTheAnswer g log a d i.class i.before)
       → log_base.frags_asked (head (pipe i.class i.before)) ≡ ascending (fragments_in (filter_map (use_there cat a.class d) a.uses))

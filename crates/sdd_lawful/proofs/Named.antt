@@ -99,7 +99,8 @@ module _ (g : Input) (rows : List (RelNo × Row)) (eras : Eras) (log : Log) (sou
       (recorded_there (front ++ p.later) (Does (home cat c) start) p.before (start_of b) refl) in
       ((module_exists cat sound b.class b.uses d (attempt_class b s) (attempt_uses b s) i.0), subst IsTxn (sym r.number_is) (attempt_txn b s))
 
-  start_known : (later : Log) (at : Site) (c : ℕ) (txn : TxnNo) (number : ℕ) (class : ClassNo) (ts : Ts) (p2 : Option Ts) (uses : List Use) (sends : List (Site × Msg)) (before : Log)
+  start_known : (later : Log) (at : Site) (c : ℕ) (txn : TxnNo) (number : ℕ) (class : ClassNo) (ts : Ts)
+      (p2 : Option Ts) (uses : List Use) (sends : List (Site × Msg)) (before : Log)
       → log ≡ later ++ Does at (Records c (Start txn number class ts p2 uses) sends) ∷ before → IsKnown (Start txn number class ts p2 uses)
   start_known later at c txn number class ts p2 uses sends before is =
       let a : Attempt = attempt_from txn number class ts p2 uses (length (history before)) in

@@ -74,7 +74,8 @@ abbrev pub attempt_from : TxnNo → ℕ → ClassNo → Ts → Option Ts → Lis
 attempt_from txn number class ts p2 uses place = record { txn = txn.0; number = number; class = class.0; ts = ts.0; p2 = p2; uses = uses; place = place }
 
 -- an entry that makes a Start
-pub start_at_entry : (g : Input) (log later : Log) (at : Site) (k : ℕ) (txn : TxnNo) (number : ℕ) (class : ClassNo) (ts : Ts) (p2 : Option Ts) (uses : List Use) (sends : List (Site × Msg)) (before : Log)
+pub start_at_entry : (g : Input) (log later : Log) (at : Site) (k : ℕ) (txn : TxnNo) (number : ℕ) (class : ClassNo)
+    (ts : Ts) (p2 : Option Ts) (uses : List Use) (sends : List (Site × Msg)) (before : Log)
     → IsSoundCatalogue g.catalogue → IsPermitted g log → log ≡ later ++ Does at (Records k (Start txn number class ts p2 uses) sends) ∷ before
     → IsStartIn g log (attempt_from txn number class ts p2 uses (length (history before))) × (k ≡ class.0) × (at ≡ home g.catalogue k)
 start_at_entry g log later at k txn number class ts p2 uses sends before sound h is =

@@ -12,7 +12,8 @@ none_at_all f h (x ∷ xs) k n = rw (k x n.0) (none_at_all f h xs k n.1)
 
 pub still_none : (g : Input) (log more : Log) → ((x : Site) → local_of g x more ≡ local_of g x log) → site_due g log ≡ None → site_due g more ≡ None
 still_none g log more e n =
-    none_at_all (next_at g log) (next_at g more) (sites g.catalogue.tms g.catalogue.dms) (λ x k. (rw (e x) (none_any_base g x (base_of g log) (base_of g more) (local_of g x log) k)))
+    none_at_all (next_at g log) (next_at g more) (sites g.catalogue.tms g.catalogue.dms)
+    (λ x k. (rw (e x) (none_any_base g x (base_of g log) (base_of g more) (local_of g x log) k)))
     (all_none (next_at g log) (sites g.catalogue.tms g.catalogue.dms) n)
 
 ticked_here : (g : Input) (x t : Site) (bases : Bases) (n : ℕ) (l : site.Log) → x ≡ t → next_in g x bases l ≡ None
@@ -94,7 +95,9 @@ no_redeclare g _ bases era t l k = k
 redeclared_none : (g : Input) (log : Log) (t : ℕ) → site_due g log ≡ None → site_due g (Redeclares t ∷ log) ≡ None
 redeclared_none g log t k =
     let more : Log = Redeclares t ∷ log in
-    none_at_all (next_at g log) (next_at g more) (sites g.catalogue.tms g.catalogue.dms) (grind (arith, no_redeclare, base_of, nth_era, redeclares, local_of, none_any_base)) (all_none (next_at g log) (sites g.catalogue.tms g.catalogue.dms) k)
+    none_at_all (next_at g log) (next_at g more) (sites g.catalogue.tms g.catalogue.dms)
+    (grind (arith, no_redeclare, base_of, nth_era, redeclares, local_of, none_any_base))
+    (all_none (next_at g log) (sites g.catalogue.tms g.catalogue.dms) k)
 
 pub part_redeclared : (x : Site) (t : ℕ) (log : Log) → takes_part x (Redeclares t ∷ log) ≡ takes_part x log
 part_redeclared x t log = grind arith

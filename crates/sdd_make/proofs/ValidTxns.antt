@@ -68,7 +68,8 @@ paid i tm from to small l u f t = at_module i tm (payment from to) small l u (om
 
 of_kind : (i kind a b : ℕ) → i < 2 ^ 32 → a < 10 → b < 10 → IsValidTxn bank (txn_of_kind i kind a b)
 of_kind i kind a b small p q =
-    let last = at_module i 3 balances small (omega arith) (omega arith) (omega arith) (asking_fits 1 3 [] id_fits balance_fits (omega arith) (All-nil (FitsCondition bank (rel_no 1 ∷ [])))) balances_values in
+    let last = at_module i 3 balances small (omega arith) (omega arith) (omega arith)
+    (asking_fits 1 3 [] id_fits balance_fits (omega arith) (All-nil (FitsCondition bank (rel_no 1 ∷ [])))) balances_values in
     let third = choose (IsValidTxn bank) (kind == 2) (txn_at i 3 (payment a (1000 + b))) (txn_at i 3 balances)
     (paid i 3 a (1000 + b) small (omega arith) (omega arith) (omega arith) (omega arith)) last in
     let second = choose (IsValidTxn bank) (kind == 1) (txn_at i 2 (payment (1000 + a) (1000 + b))) _

@@ -11,7 +11,8 @@ get_behind (x ∷ before) after j = grind (arith, nat_tests, (get_behind before 
 without_between : {A : Type 0} (before middle after : List A) (j : ℕ) → j < length middle
     → without_at (before ++ (middle ++ after)) (length before + j) ≡ before ++ (remove middle j ++ after)
 without_between before middle after j l =
-    sym (let next : suc (length before + j) ≡ (length before + j) + 1 = omega arith in ap (λ n. take (length before + j) (before ++ (middle ++ after)) ++ drop n (before ++ (middle ++ after))) next)
+    sym (let next : suc (length before + j) ≡ (length before + j) + 1 = omega arith in
+    ap (λ n. take (length before + j) (before ++ (middle ++ after)) ++ drop n (before ++ (middle ++ after))) next)
     ∙ remove-append_right before (middle ++ after) (length before) (length before + j) refl (omega arith)
     ∙ ap (λ k. before ++ remove (middle ++ after) k) (omega arith)
     ∙ ap (λ ys. before ++ ys) (remove-append_left middle after j l)

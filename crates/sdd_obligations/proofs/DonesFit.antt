@@ -64,7 +64,8 @@ start_between : (s : Setting) (y : Act) (b l : site.Log) (a : Attempt) (front : 
 start_between s y b l a front c r f e is =
     let st = start_of_active s 0 l a f e in
     elim (compare front st.later (Did y) (Did (start_at s 0 st.before st.queued)) b st.before (sym is ∙ st.is)) [
-      | inl u ↦ absurd (let p : y ≡ start_at s 0 st.before st.queued = cc in let f : is_commit (start_at s 0 st.before st.queued) ≡ true = subst (λ a. is_commit a ≡ true) p c in cc)
+      | inl u ↦ absurd (let p : y ≡ start_at s 0 st.before st.queued = cc in
+          let f : is_commit (start_at s 0 st.before st.queued) ≡ true = subst (λ a. is_commit a ≡ true) p c in cc)
       | inr u ↦ elim u [
         | inl v ↦ grind (arith, start_at)
         | inr v ↦ (let n = no_record_at 0 front (Did y) v.between

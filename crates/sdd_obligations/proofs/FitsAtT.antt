@@ -23,7 +23,9 @@ answers_at g log d b n ts c m h small e =
 
 t_ready : (g : Input) (log : Log) (a : Site) (t : TmNo) (n ts c : ℕ) (m : Msg) → IsSmall g → IsHanded g log a (T t) n m → IsD a → is_verdict ts c m ≡ true
     → AnswersRead (local_of g (T t) log) a ts c
-t_ready g log (D d) t n ts c m s h r e = answers_at g log d (T t) n ts c m h (let r = t_of_sites g.catalogue.tms g.catalogue.dms t h.to_there in let k = s.few_tms in omega (arith, r.1, k)) e
+t_ready g log (D d) t n ts c m s h r e =
+    answers_at g log d (T t) n ts c m h (let r = t_of_sites g.catalogue.tms g.catalogue.dms t h.to_there in
+    let k = s.few_tms in omega (arith, r.1, k)) e
 t_ready g log _ t n ts c m s h r e = absurd r
 
 t_release : (g : Input) (log : Log) (a : Site) (t : TmNo) (n : ℕ) (ts : Ts) → IsHanded g log a (T t) n (Release ts) → a ≡ U

@@ -176,7 +176,8 @@ not_twice g log a n d ts k txn xs s l h w =
     subst (λ y. slice_get y p.0 ≡ Some old) (sym is)
     (in_left (all_of (pipe_at g c d log) ++ m ∷ []) i.0 p.0 old (in_left (all_of (pipe_at g c d log)) (m ∷ []) p.0 old q)) in
     let one = one_of_key (write_at c) (class_puts g c d now) p.0 (length (all_of (pipe_at g c d log))) old m
-    ts.0 (writes_strict g c d now h at_c.small) before place (let q : (w.class.0 == c) ≡ true = subst (λ x. (w.class.0 == x) ≡ true) (sym same) (same_number w.class.0) in rw q (ap (λ y. Some y) w.ts_is))
+    ts.0 (writes_strict g c d now h at_c.small) before place (let q : (w.class.0 == c) ≡ true =
+    subst (λ x. (w.class.0 == x) ≡ true) (sym same) (same_number w.class.0) in rw q (ap (λ y. Some y) w.ts_is))
     (let q : (k.0 == c) ≡ true = subst (λ x. (k.0 == x) ≡ true) refl (same_number k.0) in rw q (ap (λ y. Some y) refl)) in
     let less = place_within (all_of (pipe_at g c d log)) p.0 old q in
     omega (arith, one, less)

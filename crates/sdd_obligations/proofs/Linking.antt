@@ -103,11 +103,14 @@ t_linked g t log bases act w f h p here (tm.by_exchange k c i e) =
     let s : Setting = setting_of g (T t) in let l : site.Log = local_of g (T t) log in
     let r = in_mapped (tm_views.class_view s l) (tm_views.runs s) k c i in
     attempt_linked g (T t) r.0 bases l (active s r.0 l) act (λ d n. link_of g (T t) (D (dm_no d)) here
-    (both (nat_le 1 d) (nat_le d g.catalogue.dms) (le_true 1 d n.0) (le_true d g.catalogue.dms n.1)) refl) (active_near s r.0 l w (t_fair g t log p)) (subst (λ v. tm.exchange_due g.catalogue bases v ≡ Some act) (sym r.2) e)
+    (both (nat_le 1 d) (nat_le d g.catalogue.dms) (le_true 1 d n.0) (le_true d g.catalogue.dms n.1)) refl)
+    (active_near s r.0 l w (t_fair g t log p)) (subst (λ v. tm.exchange_due g.catalogue bases v ≡ Some act) (sym r.2) e)
 t_linked g t log bases act w f h p here (tm.by_ask k n c q i r e) = grind (arith, linked_some, one_linked, asked_linked, was_asked_of)
 t_linked g t log bases act w f h p here (tm.by_hold e) = held_linked g (T t) _ _ _ act (link_of g (T t) U here refl refl) e
 t_linked g t log bases act w f h p here (tm.by_start k c i e) =
-    begin_linked g t (local_of g (T t) log) _ c.class (head_of c.queue) act w (λ d n. link_of g (T t) (D (dm_no d)) here (both (nat_le 1 d) (nat_le d g.catalogue.dms) (le_true 1 d n.0) (le_true d g.catalogue.dms n.1)) refl) e
+    begin_linked g t (local_of g (T t) log) _ c.class (head_of c.queue) act w
+    (λ d n. link_of g (T t) (D (dm_no d)) here
+    (both (nat_le 1 d) (nat_le d g.catalogue.dms) (le_true 1 d n.0) (le_true d g.catalogue.dms n.1)) refl) e
 
 -- at U
 
@@ -133,7 +136,9 @@ u_linked : (g : Input) (log : Log) (bases : Bases) (act : Act) → IsWhole g.cat
     → um.IsDue g.catalogue bases (um_views.view_of (setting_of g U) (local_of g U log)) act → ActLinked g U act
 u_linked g log bases act w p (um.by_exchange e) =
     attempt_linked g U 0 bases (local_of g U log) (active (setting_of g U) 0 (local_of g U log)) act
-    (λ d n. link_of g U (D (dm_no d)) refl (both (nat_le 1 d) (nat_le d g.catalogue.dms) (le_true 1 d n.0) (le_true d g.catalogue.dms n.1)) refl) (active_near (setting_of g U) 0 (local_of g U log) w (u_fair g log p)) e
+    (λ d n. link_of g U (D (dm_no d)) refl
+    (both (nat_le 1 d) (nat_le d g.catalogue.dms) (le_true 1 d n.0) (le_true d g.catalogue.dms n.1)) refl)
+    (active_near (setting_of g U) 0 (local_of g U log) w (u_fair g log p)) e
 u_linked g log bases act w p (um.by_release j k i e) = tm_linked g _ k.tm _ act (count_linked g (local_of g U log) j k i) e
 u_linked g log bases act w p (um.by_start e) = grind (arith, u_begin_linked, link_of, nat_le, le_true)
 u_linked g log bases act w p (um.by_hold j k i e) = grind (arith, tm_linked, count_linked)
@@ -144,7 +149,9 @@ class_source : (g : Input) (d : DmNo) (ks : List Class) (i : ℕ) → All (IsSer
     → Links g (D d) (slice_index_or (map (λ k. T k.tm) ks) i U)
 class_source g d [] i h here = link_of g (D d) U here refl refl
 class_source g d (k ∷ ks) zero h here =
-    let s = All-head (IsServedClass g.catalogue) k ks h in link_of g (D d) (T k.tm) here (both (nat_le 1 k.tm.0) (nat_le k.tm.0 g.catalogue.tms) (le_true 1 k.tm.0 s.module_from) (le_true k.tm.0 g.catalogue.tms s.module_to)) refl
+    let s = All-head (IsServedClass g.catalogue) k ks h in
+    link_of g (D d) (T k.tm) here (both (nat_le 1 k.tm.0) (nat_le k.tm.0 g.catalogue.tms)
+    (le_true 1 k.tm.0 s.module_from) (le_true k.tm.0 g.catalogue.tms s.module_to)) refl
 class_source g d (k ∷ ks) (suc i) h here = class_source g d ks i (All-tail (IsServedClass g.catalogue) k ks h) here
 
 answer_linked : (g : Input) (d : DmNo) (h : Home) (k : ClassView) (o : Open) (m : Msg) (act : Act) → Links g (D d) o.from

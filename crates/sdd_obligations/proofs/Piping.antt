@@ -42,7 +42,9 @@ in_turn : (g : Input) (c : ℕ) (d : DmNo) (a : Site) (n : ℕ) (m : Msg) (log :
 in_turn g c d a n m log h small e =
     let i = in_pipe g c d (Hand a (D d) n m ∷ log) h in
     let rises = class_rises g c d (Hand a (D d) n m ∷ log) h small in
-    (fold_le (time_of m) 0 (map time_of (all_of (pipe_at g c d log))) (omega arith) (le_before time_of (all_of (pipe_at g c d log)) m i.0 (subst (λ l. IsRising (map time_of l)) (i.1 ∙ ap (λ l. l ++ i.0) (pipe_with g c d a n m log e)) rises)))
+    (fold_le (time_of m) 0 (map time_of (all_of (pipe_at g c d log))) (omega arith)
+    (le_before time_of (all_of (pipe_at g c d log)) m i.0
+    (subst (λ l. IsRising (map time_of l)) (i.1 ∙ ap (λ l. l ++ i.0) (pipe_with g c d a n m log e)) rises)))
 
 pub pipe_fits : (g : Input) (d : DmNo) (log : Log) (a : Site) (n : ℕ) (m : Msg) (c t : ℕ) → IsHanded g log a (D d) n m
     → number_of a ≤ 63 → piped m ≡ Some (c, t) → t < 2 ^ 62 → FitsPipe (setting_of g (D d)) (local_of g (D d) log) a c t

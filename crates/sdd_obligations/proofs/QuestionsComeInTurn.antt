@@ -164,7 +164,9 @@ in_turn_start s k log q f e h = record {
       (λ ts d. start_turn s k log q k ts d) (start_turns s k log q (λ ts d. turn_at ts k d log)
       (λ d. h.fresh (next_stamp s log) d (stamp_below_next s log)) (subst (λ o. AllAtTurn o (λ ts d. turn_at ts k d log)) f h.turns)));
   fresh = λ ts d l. start_fresh s k log q k ts d h l;
-  strict = subst IsStrictOf (sym (active_started s k log q e)) (subst IsStrict (sym (read_firsts (start_read s k log q) (start_numbers s k log q) (modules_asked s k q.text) (λ x. refl))) (strict_asked s k q));
+  strict = subst IsStrictOf (sym (active_started s k log q e))
+      (subst IsStrict (sym (read_firsts (start_read s k log q) (start_numbers s k log q) (modules_asked s k q.text)
+      (λ x. refl))) (strict_asked s k q));
 }
 
 -- an act of another class

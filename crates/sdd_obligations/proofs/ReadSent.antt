@@ -46,12 +46,16 @@ last_act : (ts c d : ℕ) (act : Act) (log : Log) → IsInTurn (turn_at ts c d l
 last_act ts c d act log (inl e) h =
     subst (λ v. IsLastRead d v (reads_sent ts c d (Did act ∷ log)) (was_answered ts c d log)) (sym (ap (λ l. asked_by l (turn_at ts c d log)) e))
     (subst (λ l. IsLastRead d (turn_at ts c d log) l (was_answered ts c d log))
-    (sym ((grind (arith, filter-append, reads_sent, sent_of_kind, to_d, sift_within, read_question)) ∙ ap (λ l. map (to_d d) (filter (is_read ts c) l) ++ reads_sent ts c d log) e)) h)
+    (sym ((grind (arith, filter-append, reads_sent, sent_of_kind, to_d, sift_within, read_question))
+    ∙ ap (λ l. map (to_d d) (filter (is_read ts c) l) ++ reads_sent ts c d log) e)) h)
 last_act ts c d act log (inr p) h =
     subst (λ v. IsLastRead d v (reads_sent ts c d (Did act ∷ log)) (was_answered ts c d log)) (sym (ap (λ l. asked_by l (turn_at ts c d log)) p.1))
-    (subst (λ l. IsLastRead d (turn_after_question p.0 (turn_at ts c d log)) l (was_answered ts c d log)) (sym (grind (arith, filter-append, reads_sent, sent_of_kind, to_d, sift_within, read_question)))
+    (subst (λ l. IsLastRead d (turn_after_question p.0 (turn_at ts c d log)) l (was_answered ts c d log))
+    (sym (grind (arith, filter-append, reads_sent, sent_of_kind, to_d, sift_within, read_question)))
     (last_asked ts c d (turn_at ts c d log) p.0 (questions ts c (to_site (D (dm_no d)) (sends_of_act act)))
-    (reads_sent ts c d log) (was_answered ts c d log) p.1 p.2 ((in_filtered (is_question ts c) (to_site (D (dm_no d)) (sends_of_act act)) 0 p.0 (subst (λ l. slice_get l 0 ≡ Some p.0) (sym p.1) refl)).0) h))
+    (reads_sent ts c d log) (was_answered ts c d log) p.1 p.2
+    ((in_filtered (is_question ts c) (to_site (D (dm_no d)) (sends_of_act act)) 0 p.0
+    (subst (λ l. slice_get l 0 ≡ Some p.0) (sym p.1) refl)).0) h))
 
 -- a hand
 

@@ -223,7 +223,9 @@ held_answers s ts c at log k t j txn attempt conds uses home alone l e h ns z =
           (ap (λ b. same_site at src && b) q ∙ and_no (same_site at src)) now in
           elim (same_or_not k c) [
             | inl p ↦ never (is_read ts c m) (alone.no_read ns before m (subst (λ n. head (pipe n log) ≡ Some m) p e) refl) q
-            | inr p ↦ subst (AreHeldFor ts ns) (sym (ap (λ (b : Bool). if b && is_answer_record (Answer txn attempt (home_of s).dm) then frozen_at (dated s log) (head (pipe c log)) else frozen s c log) p)) (h ns before)
+            | inr p ↦ subst (AreHeldFor ts ns)
+                (sym (ap (λ (b : Bool). if b && is_answer_record (Answer txn attempt (home_of s).dm) then frozen_at
+                (dated s log) (head (pipe c log)) else frozen s c log) p)) (h ns before)
           ])
     ] refl
 

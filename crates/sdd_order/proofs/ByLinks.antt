@@ -63,7 +63,8 @@ module _ (cat : Catalogue) (h : History) (o : IsOrderable cat h) (marks : Marks)
     linked : (i j : ℕ) → Contains (nodes (length txns)) i → Contains (nodes (length txns)) j → precedes cat h (at i) (at j) ≡ true
         → (m : List ℕ) × IsPath (λ k l. has_link (links cat marks txns) k l ≡ true) i m j
     linked i j c e p =
-        let path = precedence_linked cat h o marks are txns ordered i j (at i) (at j) (at_is i (within i c)) (at_is j (within j e)) p in (grind (arith, path_as, links, has_link, is_link))
+        let path = precedence_linked cat h o marks are txns ordered i j (at i) (at j) (at_is i (within i c))
+        (at_is j (within j e)) p in (grind (arith, path_as, links, has_link, is_link))
 
     rises : (i j : ℕ) → Contains (nodes (length txns)) i → Contains (nodes (length txns)) j → i < j → (at i).start.ts < (at j).start.ts
     rises i j c e l = ordered.rise i j (at i) (at j) (at_is i (within i c)) (at_is j (within j e)) l

@@ -63,7 +63,8 @@ module _ (G : WaitGraph) (fits : FitsWaitGraph G) (W : WaitingRead → Type 0)
             λ y. no_path G fits m h on u
             (subst (λ z. Path G (G.read z) (G.write h.writer)) (sym class) (subst (λ z. Path G (G.read q.class) (G.write z)) (sym writer) y)) in
             with_one_more d.writer q x (omega arith)
-            (one_more_cut_off G (G.read r.class) (G.read q.class) d.writer classes cut (out r n d at e own) (to_holder r q n d at e own m h on class writer) (record { class = (fits.diagonal n d at).writer; no_path = away }))
+            (one_more_cut_off G (G.read r.class) (G.read q.class) d.writer classes cut (out r n d at e own)
+            (to_holder r q n d at e own m h on class writer) (record { class = (fits.diagonal n d at).writer; no_path = away }))
 
         by_time : (n : ℕ) (r : WaitingRead) → W r → r.ts < n → r.ticks ≤ v → AreCutOff G (G.read r.class) classes → ⊥
         by_time zero r w l k cut = absurd (omega arith)

@@ -52,16 +52,20 @@ pub late_query_settled : IsSettled given_late_query log_of_late_query
 late_query_settled = settle_ends given_late_query log_of_late_query late_query refl late_query_ends
 
 pub late_query_finished : IsFinished given_late_query log_of_late_query
-late_query_finished = settled_is_finished given_late_query log_of_late_query (one_list given_late_query log_of_late_query (crossing_table given_late_query.events) refl) late_query_submits.once late_query_settled
+late_query_finished = settled_is_finished given_late_query log_of_late_query
+    (one_list given_late_query log_of_late_query (crossing_table given_late_query.events) refl) late_query_submits.once late_query_settled
 
 pub late_query_committed : AllCommitted (history log_of_late_query)
-late_query_committed = settled_is_committed given_late_query log_of_late_query (one_list given_late_query log_of_late_query (crossing_table given_late_query.events) refl) late_query_submits late_query_settled
+late_query_committed = settled_is_committed given_late_query log_of_late_query
+    (one_list given_late_query log_of_late_query (crossing_table given_late_query.events) refl) late_query_submits late_query_settled
 
 pub all_lost_settled : IsSettled given_all_lost log_of_all_lost
 all_lost_settled = settle_ends given_all_lost log_of_all_lost all_lost refl all_lost_ends
 
 pub all_lost_finished : IsFinished given_all_lost log_of_all_lost
-all_lost_finished = settled_is_finished given_all_lost log_of_all_lost (one_list given_all_lost log_of_all_lost (crossing_table given_all_lost.events) refl) all_lost_submits.once all_lost_settled
+all_lost_finished = settled_is_finished given_all_lost log_of_all_lost
+    (one_list given_all_lost log_of_all_lost (crossing_table given_all_lost.events) refl) all_lost_submits.once all_lost_settled
 
 pub all_lost_committed : AllCommitted (history log_of_all_lost)
-all_lost_committed = settled_is_committed given_all_lost log_of_all_lost (one_list given_all_lost log_of_all_lost (crossing_table given_all_lost.events) refl) all_lost_submits all_lost_settled
+all_lost_committed = settled_is_committed given_all_lost log_of_all_lost
+    (one_list given_all_lost log_of_all_lost (crossing_table given_all_lost.events) refl) all_lost_submits all_lost_settled

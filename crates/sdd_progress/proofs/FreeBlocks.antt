@@ -33,7 +33,11 @@ pub none_from : (cat : Catalogue) (table : List line.Entry) (p : Protocol) (i j 
 none_from cat table p i j f t free d =
     let x : line.Entry = d.entry in
     let at : ends_at i (ends x.edge) ≡ true = ap (λ e. ends_at i (ends e)) d.edge_is
-    ∙ (or_left (is_node_of i (ends (Diagonal d.reader d.writer f)).0) (is_node_of i (ends (Diagonal d.reader d.writer f)).1) (or_left ((ends (Diagonal d.reader d.writer f)).0 == read_node i) ((ends (Diagonal d.reader d.writer f)).0 == write_node i) (eq-eqb (ends (Diagonal d.reader d.writer f)).0 (read_node i) (ap read_node d.reader_is)))) in
+    ∙ (or_left (is_node_of i (ends (Diagonal d.reader d.writer f)).0)
+    (is_node_of i (ends (Diagonal d.reader d.writer f)).1)
+    (or_left ((ends (Diagonal d.reader d.writer f)).0 == read_node i)
+    ((ends (Diagonal d.reader d.writer f)).0 == write_node i)
+    (eq-eqb (ends (Diagonal d.reader d.writer f)).0 (read_node i) (ap read_node d.reader_is)))) in
     sym d.protocol_is ∙ protocol_is cat table x d.place d.reader d.writer f t d.there d.edge_is
     ((free_is_in_none cat table i t free).in_none d.place x d.there at)
 
@@ -42,6 +46,10 @@ pub none_to : (cat : Catalogue) (table : List line.Entry) (p : Protocol) (i j : 
 none_to cat table p i j f t free d =
     let x : line.Entry = d.entry in
     let at : ends_at j (ends x.edge) ≡ true = ap (λ e. ends_at j (ends e)) d.edge_is
-    ∙ (or_right (is_node_of j (ends (Diagonal d.reader d.writer f)).0) (is_node_of j (ends (Diagonal d.reader d.writer f)).1) (or_right ((ends (Diagonal d.reader d.writer f)).1 == read_node j) ((ends (Diagonal d.reader d.writer f)).1 == write_node j) (eq-eqb (ends (Diagonal d.reader d.writer f)).1 (write_node j) (ap write_node d.writer_is)))) in
+    ∙ (or_right (is_node_of j (ends (Diagonal d.reader d.writer f)).0)
+    (is_node_of j (ends (Diagonal d.reader d.writer f)).1)
+    (or_right ((ends (Diagonal d.reader d.writer f)).1 == read_node j)
+    ((ends (Diagonal d.reader d.writer f)).1 == write_node j)
+    (eq-eqb (ends (Diagonal d.reader d.writer f)).1 (write_node j) (ap write_node d.writer_is)))) in
     sym d.protocol_is ∙ protocol_is cat table x d.place d.reader d.writer f t d.there d.edge_is
     ((free_is_in_none cat table j t free).in_none d.place x d.there at)

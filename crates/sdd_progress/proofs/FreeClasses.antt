@@ -81,7 +81,8 @@ write_applied v c w ts of txn changes (Apply n k dm t) m =
     (dm, ap (λ x. Apply (txn_no x) k dm t) m.0 ∙ ap (λ x. Apply txn (class_no x) dm t) m.2 ∙ ap (λ x. Apply txn of dm x) m.1)
 write_applied v c w ts of txn changes r m = absurd m
 
-pub answered_by_end : (g : Input) (i : ℕ) (d : DmNo) (from : Site) (n : ℕ) (later log : Log) (ts : Ts) (of : ClassNo) (txn : TxnNo) (attempt : ℕ) (conds : List Cond) (uses : List Use)
+pub answered_by_end : (g : Input) (i : ℕ) (d : DmNo) (from : Site) (n : ℕ) (later log : Log) (ts : Ts) (of : ClassNo)
+    (txn : TxnNo) (attempt : ℕ) (conds : List Cond) (uses : List Use)
     → IsFreeClass g i → IsSoundCatalogue g.catalogue → 1 ≤ d.0 → d.0 ≤ g.catalogue.dms → of.0 ≡ i
     → IsPermitted g (later ++ Hand from (D d) n (Read ts of txn attempt conds uses) ∷ log)
     → site_due g (later ++ Hand from (D d) n (Read ts of txn attempt conds uses) ∷ log) ≡ None → IsAnsweredIn d i txn attempt later

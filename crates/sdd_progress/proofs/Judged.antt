@@ -25,7 +25,8 @@ none_is_some : {A : Type 0} (x : Cond) (xs : List Cond) → [] ≡ x ∷ xs → 
 none_is_some x xs e = cc
 
 -- so no Wait is due
-no_wait : {A : Type 0} (s : Setting) (l : site.Log) (c k : ℕ) (ts : Ts) (of : ClassNo) (txn : TxnNo) (attempt : ℕ) (conds : List Cond) (uses : List Use) (r : Rec) (sends : List (Site × Msg))
+no_wait : {A : Type 0} (s : Setting) (l : site.Log) (c k : ℕ) (ts : Ts) (of : ClassNo) (txn : TxnNo) (attempt : ℕ)
+    (conds : List Cond) (uses : List Use) (r : Rec) (sends : List (Site × Msg))
     → k ≡ c → head (pipe c l) ≡ Some (Read ts of txn attempt conds uses)
     → list_all (is_met (view_of s l)) conds ≡ true → IsDue (home_of s) (view_of s l) (Records k r sends) → is_wait r ≡ true → A
 no_wait s l c k ts of txn attempt conds uses r sends e h met due w =
@@ -48,7 +49,8 @@ judged_by v c w ts of txn attempt conds uses (Rejected n a dm by x) sends m =
     inr (dm, by, x, sends, m.3, ap (λ k. Records c (Rejected (txn_no k) a dm by x) sends) m.0 ∙ ap (λ k. Records c (Rejected txn k dm by x) sends) m.1, m.4, m.5)
 judged_by v c w ts of txn attempt conds uses r sends m = absurd m
 
-pub processed_read : (s : Setting) (l : site.Log) (c : ℕ) (ts : Ts) (of : ClassNo) (txn : TxnNo) (attempt : ℕ) (conds : List Cond) (uses : List Use) (r : Rec) (sends : List (Site × Msg))
+pub processed_read : (s : Setting) (l : site.Log) (c : ℕ) (ts : Ts) (of : ClassNo) (txn : TxnNo) (attempt : ℕ)
+    (conds : List Cond) (uses : List Use) (r : Rec) (sends : List (Site × Msg))
     → head (pipe c l) ≡ Some (Read ts of txn attempt conds uses) → is_processing r ≡ true → IsReadStep s l (Records c r sends)
     → Answers c txn attempt (Records c r sends) ⊎ Rejects (view_of s l) c txn attempt conds (Records c r sends)
 processed_read s l c ts of txn attempt conds uses r sends h p i =

@@ -49,7 +49,8 @@ attempt_waited : Act → ℕ
 attempt_waited (Records k (Wait txn attempt dm conds) sends) = attempt
 attempt_waited _ = 0
 
-pub never_both : (g : Input) (d : DmNo) (c : ℕ) (later before : Log) (txn other : TxnNo) (attempt another : ℕ) (dm dm2 : DmNo) (conds : List Cond) (by : ClassNo) (write : Ts) (sends more : List (Site × Msg))
+pub never_both : (g : Input) (d : DmNo) (c : ℕ) (later before : Log) (txn other : TxnNo) (attempt another : ℕ)
+    (dm dm2 : DmNo) (conds : List Cond) (by : ClassNo) (write : Ts) (sends more : List (Site × Msg))
     → IsPermitted g (Does (D d) (Records c (Rejected other another dm2 by write) more) ∷ (later ++ Does (D d) (Records c (Wait txn attempt dm conds) sends) ∷ before))
     → number_of (home g.catalogue c) ≤ 63 → txn.0 ≡ other.0 → attempt ≡ another → ⊥
 unfolding txn_waited attempt_waited

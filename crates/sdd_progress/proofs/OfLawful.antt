@@ -29,7 +29,8 @@ answered_or_rejected g d c later log ts of txn attempt conds uses h l lo hi w e 
     judged.answered_or_rejected g d c later log ts of txn attempt conds uses (permitted_to g (later ++ log) h) (small_homes g h.sound)
     (omega arith) lo hi w e met clean (none_due g (later ++ log) h.over)
 
-pub answered_by_end : (g : Input) (i : ℕ) (d : DmNo) (from : Site) (n : ℕ) (later log : Log) (ts : Ts) (of : ClassNo) (txn : TxnNo) (attempt : ℕ) (conds : List Cond) (uses : List Use)
+pub answered_by_end : (g : Input) (i : ℕ) (d : DmNo) (from : Site) (n : ℕ) (later log : Log) (ts : Ts) (of : ClassNo)
+    (txn : TxnNo) (attempt : ℕ) (conds : List Cond) (uses : List Use)
     → IsFreeClass g i → 1 ≤ d.0 → d.0 ≤ g.catalogue.dms → of.0 ≡ i
     → EndsAnEvent g (later ++ Hand from (D d) n (Read ts of txn attempt conds uses) ∷ log) → IsAnsweredIn d i txn attempt later
 answered_by_end g i d from n later log ts of txn attempt conds uses f lo hi class h =

@@ -99,7 +99,8 @@ answer_by s log c ts of txn attempt conds uses (Answer n a dm) w m = (dm, ap (λ
 answer_by s log c ts of txn attempt conds uses (Rejected n a dm by x) w m = absurd (not_both (waits c log) w m.2)
 answer_by s log c ts of txn attempt conds uses r w m = absurd m
 
-pub waited_answer : (s : Setting) (log : site.Log) (c : ℕ) (ts : Ts) (of : ClassNo) (txn : TxnNo) (attempt : ℕ) (conds : List Cond) (uses : List Use) (r : Rec) (sends : List (Site × Msg))
+pub waited_answer : (s : Setting) (log : site.Log) (c : ℕ) (ts : Ts) (of : ClassNo) (txn : TxnNo) (attempt : ℕ)
+    (conds : List Cond) (uses : List Use) (r : Rec) (sends : List (Site × Msg))
     → waits c log ≡ true → head (pipe c log) ≡ Some (Read ts of txn attempt conds uses) → is_processing r ≡ true
     → IsReadStep s log (Records c r sends) → (dm : DmNo) × (r ≡ Answer txn attempt dm)
 waited_answer s log c ts of txn attempt conds uses r sends w h p i =

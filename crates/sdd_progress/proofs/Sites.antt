@@ -46,7 +46,8 @@ module _ (g : Input) (log : Log) (at : Site) (act : Act) (h : IsPermitted g log)
   ]
 
   pub does_falls : (k : ℕ) → slice_get (sites g.catalogue.tms g.catalogue.dms) k ≡ Some at → acts_left g (Does at act ∷ log) < acts_left g log
-  does_falls k there = total_less (work_at g (Does at act ∷ log)) (work_at g log) (sites g.catalogue.tms g.catalogue.dms) k at there none_rises (rw (same_here at) (act_falls g log at act h due))
+  does_falls k there = total_less (work_at g (Does at act ∷ log)) (work_at g log)
+      (sites g.catalogue.tms g.catalogue.dms) k at there none_rises (rw (same_here at) (act_falls g log at act h due))
 
 -- messages that are delivered and not handed over
 

@@ -27,7 +27,8 @@ none_later g i num w d log ts of txn n ds us h sound c lo hi e le cm =
           not_again g d log an.0 ts of txn n ds us an.1 h e (part_join log high.start.rest an.1 p1 an.2) an.3 (an.4 ∙ sym r.ts_is))
     ]
 
-pub holds_none : (g : Input) (i : ℕ) (d : DmNo) (log : Log) (ts : Ts) (of : ClassNo) (txn : TxnNo) (n : ℕ) (ds : List Cond) (us : List Use) (w : Ts) (wc : ClassNo) (wt : TxnNo) (changes : List Change)
+pub holds_none : (g : Input) (i : ℕ) (d : DmNo) (log : Log) (ts : Ts) (of : ClassNo) (txn : TxnNo) (n : ℕ)
+    (ds : List Cond) (us : List Use) (w : Ts) (wc : ClassNo) (wt : TxnNo) (changes : List Change)
     → IsPermitted g log → IsSoundCatalogue g.catalogue → IsClassOf g.catalogue i → 1 ≤ d.0 → d.0 ≤ g.catalogue.dms
     → head (pipe_at g 0 d log) ≡ Some (Read ts of txn n ds us) → head (pipe_at g i d log) ≡ Some (Write w wc wt changes)
     → holds_back i w.0 changes (Some (Read ts of txn n ds us)) ≡ true → ⊥

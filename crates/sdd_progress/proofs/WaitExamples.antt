@@ -53,7 +53,9 @@ pub put_is_seen : IsApplied given_put_first (put_first 25) (dm_no 1) 1 put_attem
 put_is_seen =
     (low_applied given_put_first (dm_no 1) 1 0 (take 1 (put_first 27)) (put_first 25) (take 23 (put_first 27)) (put_first 3) (class_no 0)
     (txn_no 2) (txn_no 2) 1 1 (dm_no 1) ((U, Ready (time_at 128) (class_no 0) ((1, 1) ∷ [])) ∷ []) (time_at 128) conds_of_query uses_of_query
-    (base_of given_put_first (put_first 3)) put_attempt (lawful_permitted given_put_first (put_first 27) put_first_once (made_lawful 27 given_put_first [] tt)) (lit≤ tt) (lit≤ tt) (lit≤ tt) one_not_zero refl refl refl refl).1 (lit< tt)
+    (base_of given_put_first (put_first 3)) put_attempt
+    (lawful_permitted given_put_first (put_first 27) put_first_once (made_lawful 27 given_put_first [] tt))
+    (lit≤ tt) (lit≤ tt) (lit≤ tt) one_not_zero refl refl refl refl).1 (lit< tt)
 
 pub query_not_rejected : (sends : List (Site × Msg))
     → IsPermitted given_put_first (Does (D (dm_no 1)) (Records 0 (Rejected (txn_no 2) 1 (dm_no 1) (class_no 1) (time_at 65)) sends) ∷ put_first 25) → ⊥

@@ -52,7 +52,8 @@ module _ (cat : Catalogue) (tables : List (List Entry)) (work : Workload) (sound
         record { fits = v.fits; held = All-weaker HoldsValues PutsHeld puts_held txn.statements v.values });
     rows = λ d.
         elim (one_of_all work.rows (numbers_to cat.dms) (d.0 - 1)) [
-          | inl e ↦ subst (λ r. IsDatabase (whole_in cat work) (database_of (whole_in cat work) r)) (sym e) (rows_database (whole_in cat work) work.rows (rows_valid cat work valid))
+          | inl e ↦ subst (λ r. IsDatabase (whole_in cat work) (database_of (whole_in cat work) r)) (sym e)
+              (rows_database (whole_in cat work) work.rows (rows_valid cat work valid))
           | inr e ↦ subst (λ r. IsDatabase (whole_in cat work) (database_of (whole_in cat work) r)) (sym e) (no_database (whole_in cat work))
         ];
   }

@@ -89,7 +89,9 @@ module _ (tell : Telling) (g : Input) (log : Log) where
       let at : (j : ℕ) (e : ℕ × Rec) (q : Pending) → slice_get (history log) j ≡ Some e
       → pending_by tell (submitted_at log) g log (history log) e ≡ Some q → q.txn.0 ≡ n → IsSubmitted (history log) n j =
       λ j e q there gives same.
-      (ap (option_map (λ (x : ℕ × Rec). x.1)) there ∙ ap (λ x. Some x) ((of_submit tell (submitted_at log) g log (history log) e q gives).0 ∙ ap (λ m. Submit (txn_no m)) same)) in (
+      (ap (option_map (λ (x : ℕ × Rec). x.1)) there
+      ∙ ap (λ x. Some x) ((of_submit tell (submitted_at log) g log (history log) e q gives).0
+      ∙ ap (λ m. Submit (txn_no m)) same)) in (
         count_one (pending_by tell (submitted_at log) g log (history log)) (history log) n c.place c.entry x.one c.there c.gives x.txn_is
             (λ j e q there gives same. one n j c.place (at j e q there gives same) (at c.place c.entry x.one c.there c.gives x.txn_is)),
         subst (λ m. list_any (commits m) (history log) ≡ false) x.txn_is (of_submit tell (submitted_at log) g log (history log) c.entry x.one c.gives).1,

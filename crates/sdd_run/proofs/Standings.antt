@@ -72,7 +72,8 @@ module _ (g : Input) (log : Log) (idle : site_due g log ≡ None) where
   none_of_class : (c : ℕ) → IsSoundCatalogue g.catalogue → IsClass g.catalogue c
       → attempt_due g.catalogue (base_of g log) c (active (setting_of g (home g.catalogue c)) c (at_home g c log)) ≡ None
   none_of_class c sound l = elim (same_or_not c 0) [
-    | inl p ↦ subst (λ k. attempt_due g.catalogue (base_of g log) k (active (setting_of g (home g.catalogue k)) k (at_home g k log)) ≡ None) (sym p) (grind (arith, none_next, or_none))
+    | inl p ↦ subst (λ k. attempt_due g.catalogue (base_of g log) k
+        (active (setting_of g (home g.catalogue k)) k (at_home g k log)) ≡ None) (sym p) (grind (arith, none_next, or_none))
     | inr p ↦ (let r = run_at g.catalogue c sound p l in
         let j = runs_place g c r.t (positive c p) l r.number_is in
         subst (λ x. attempt_due g.catalogue (base_of g log) c (active (setting_of g x) c (local_of g x log)) ≡ None) (sym r.home_is)

@@ -14,7 +14,8 @@ not_later n m xs h k l d e = h (suc k) (omega arith) d e
 
 never : (n : ℕ) (es : List Event) → IsNew n (numbers es) → submits_in n es ≡ 0
 never n [] h = refl
-never n (Submit m ∷ es) h = ap (λ b. one_if b + submits_in n es) (ne_eqb m.0 n (λ e. h 0 (omega arith) 0 (sym e))) ∙ (grind (arith, not_later, numbers, (never n es (not_later n m.0 (numbers es) h))))
+never n (Submit m ∷ es) h = ap (λ b. one_if b + submits_in n es) (ne_eqb m.0 n (λ e. h 0 (omega arith) 0 (sym e)))
+    ∙ (grind (arith, not_later, numbers, (never n es (not_later n m.0 (numbers es) h))))
 never n (_ ∷ es) h = let e = never n es h in omega arith
 
 others_distinct : (m : ℕ) (xs : List ℕ) → AreDistinct (m ∷ xs) → AreDistinct xs

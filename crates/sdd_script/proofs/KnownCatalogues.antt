@@ -114,7 +114,8 @@ pub known : (cat : Catalogue) → IsSoundCatalogue cat → IsWhole cat → AreNa
 known cat s w n = record {
   relation = relation_found cat s;
   column = column_found cat s;
-  relation_name = λ rel h. subst (λ (l : List ℕ). is_name l ≡ true) (sym (name_is cat rel)) (All-get_or IsNamed cat.relations (rel - 1) no_relation (omega (arith, h.0, h.1)) n.relations).name;
+  relation_name = λ rel h. subst (λ (l : List ℕ). is_name l ≡ true) (sym (name_is cat rel))
+      (All-get_or IsNamed cat.relations (rel - 1) no_relation (omega (arith, h.0, h.1)) n.relations).name;
   column_name = column_named_so cat n;
   some_column = some_columns cat w;
   few_tms = w.few_tms;

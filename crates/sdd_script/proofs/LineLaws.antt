@@ -34,7 +34,9 @@ all_sound (w ∷ ws) h = both_are (is_sound w) (list_all is_sound ws) h.0.sound 
 more_utf8 : (ws : List Word) → AllByRecursion IsFine ws → IsUtf8 (more_bytes ws)
 more_utf8 [] h = IsUtf8-from_ascii [] IsAscii-nil
 more_utf8 (w ∷ ws) h =
-    IsUtf8-append (32 ∷ []) (word_bytes w ++ more_bytes ws) (IsUtf8-from_ascii (32 ∷ []) (IsAscii-cons 32 [] (omega arith) IsAscii-nil)) (IsUtf8-append (word_bytes w) (more_bytes ws) h.0.utf8 (more_utf8 ws h.1))
+    IsUtf8-append (32 ∷ []) (word_bytes w
+    ++ more_bytes ws) (IsUtf8-from_ascii (32 ∷ []) (IsAscii-cons 32 [] (omega arith) IsAscii-nil))
+    (IsUtf8-append (word_bytes w) (more_bytes ws) h.0.utf8 (more_utf8 ws h.1))
 
 more_line : (ws : List Word) → AllByRecursion IsFine ws → HasNoNewline (more_bytes ws)
 more_line [] h = tt

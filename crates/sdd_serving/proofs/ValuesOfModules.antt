@@ -63,7 +63,8 @@ abbrev pub KeepsOnce : Frozen → Type 0
 KeepsOnce f = (d e : Kept) → Has f.uses d → Has f.uses e → d.0 ≡ e.0 → d ≡ e
 
 pub frozen_once : (cat : Catalogue) (c : ℕ) (txn : Txn) (ts : ℕ) (copies : ℕ → CopyRows) (d : ℕ) → KeepsOnce (frozen_space cat c txn ts copies d)
-frozen_once cat c txn ts copies d a b h k same = grind (arith, nat_tests, Kept, rows_for, Has-map_from, uses_at, Has-filter_map_from, use_there, uses_of, IsThere, there_is, one_use)
+frozen_once cat c txn ts copies d a b h k same =
+    grind (arith, nat_tests, Kept, rows_for, Has-map_from, uses_at, Has-filter_map_from, use_there, uses_of, IsThere, there_is, one_use)
 
 pub reduced_once : (n col : ℕ) (values : List Value) (f : Frozen) → KeepsOnce f → KeepsOnce (reduced n col values f)
 reduced_once n col values f once a b h k same = grind (arith, nat_tests, Has-map_from, lessened, same_number, Kept)

@@ -51,7 +51,8 @@ after_request s log place c a act e is =
     rw is.act_is
     (state_did s log (Sends to is.msg None) place c e (no_held a.ts c to is.msg (holds log) is.asks)
     (request_others s log a.ts place c to is.msg e is.asks)
-    ∙ ap (λ k. with_class place (clock s.site log) k (state_of s log)) (ap (λ qs. class_by s c (queue s c log) (active_sent c is.msg (active s c log)) (asks_of c qs)) (all_there (asks log))))
+    ∙ ap (λ k. with_class place (clock s.site log) k (state_of s log))
+    (ap (λ qs. class_by s c (queue s c log) (active_sent c is.msg (active s c log)) (asks_of c qs)) (all_there (asks log))))
 
 -- a record
 

@@ -54,7 +54,8 @@ calm_for k s log from m taken places st t e = rw (t, e) (calm_handed k.value fro
 pub amid_for : (k : Kept State) (s : Setting) (bases : Bases) (log : Log) (from : Site) (m : Msg) (taken : State)
     → Represents k s log → fits s bases log from m → taken ≡ state_handed from m k.value → IsAmid s bases taken (Handed from m ∷ log)
 amid_for k s bases log from m taken st fit t =
-    (subst (λ st. IsAmid s bases st ((Handed from m) ∷ log)) (ap (state_handed from m) st.state_is ∙ sym t) (amid_handed s bases log from m st.setting st.sound (subst AreSettled (sym st.state_is) st.settled) fit))
+    (subst (λ st. IsAmid s bases st ((Handed from m) ∷ log)) (ap (state_handed from m) st.state_is
+    ∙ sym t) (amid_handed s bases log from m st.setting st.sound (subst AreSettled (sym st.state_is) st.settled) fit))
 
 pub take_does : (from : Site) (m : Msg) (old new : Kept State) (taken : State) (notes all : Notes)
     (records : List Rec) (sends : List (Site × Msg)) → IsTrue new.live → taken ≡ state_handed from m old.value
@@ -104,7 +105,8 @@ amid_after k s bases log n txn taken small st fit t =
     let here : (current_era s log) ≡ k.value.era = ap (λ (x : State). x.era) st.state_is in
     let given = λ (x : State). state_given (class_for (current_era s log).catalogue txn) n txn x in
     (subst (λ st. IsAmid s bases st ((Submits n txn) ∷ log)) (ap given st.state_is ∙ sym (t
-    ∙ ap (λ (x : Era). state_given (class_for x.catalogue txn) n txn k.value) (sym here))) (amid_given s bases log n txn small st.setting st.sound (subst AreSettled (sym st.state_is) st.settled) fit))
+    ∙ ap (λ (x : Era). state_given (class_for x.catalogue txn) n txn k.value) (sym here)))
+    (amid_given s bases log n txn small st.setting st.sound (subst AreSettled (sym st.state_is) st.settled) fit))
 
 pub submit_does : (n : TxnNo) (txn : Txn) (old new : Kept State) (taken : State) (notes all : Notes)
     (records : List Rec) (sends : List (Site × Msg)) → n.0 < 2 ^ 32 → IsTrue new.live

@@ -53,7 +53,8 @@ pub state_kept : (s : Setting) (log : Log) (from : Site) (m : Msg) → InTurn (h
 state_kept s log from m turns =
     let classes : map (class_of s (Handed from m ∷ log)) (runs s) ≡ map (class_handed from m) (map (class_of s log) (runs s)) =
     map_same (class_of s (Handed from m ∷ log)) (λ c. class_handed from m (class_of s log c)) (runs s)
-    (λ i c e. (ap (λ qs. record (class_handed from m (class_of s log c)) { asks = qs }) (grind (arith, push_if)))) ∙ sym (map_map (class_handed from m) (class_of s log) (runs s)) in
+    (λ i c e. (ap (λ qs. record (class_handed from m (class_of s log c)) { asks = qs }) (grind (arith, push_if))))
+    ∙ sym (map_map (class_handed from m) (class_of s log) (runs s)) in
     rw (classes, hold_kept (suc (hands log)) m (holds log) turns, owed_kept (suc (hands log)) m (holds log) turns) refl
 
 -- what holds of the log

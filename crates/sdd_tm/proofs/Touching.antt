@@ -45,10 +45,12 @@ calm_rest : (old : State) (from : Site) (m : Msg) → AreSettled old → class_n
     → IsCalm (all_places (length old.classes) m).from (all_places (length old.classes) m).end
     (state_handed from m old)
 calm_rest old from (Release ts) settled e =
-    calm_kept old (state_handed from (Release ts) old) 0 (length old.classes) settled (omega arith) (λ j x g h. (kept_by (class_handed from (Release ts)) old.classes j x (λ y k. unnamed from (Release ts) y e) g))
+    calm_kept old (state_handed from (Release ts) old) 0 (length old.classes) settled (omega arith)
+    (λ j x g h. (kept_by (class_handed from (Release ts)) old.classes j x (λ y k. unnamed from (Release ts) y e) g))
     (λ j x g. (λ l. absurd (omega arith), λ l. absurd (let w = get_within old.classes j x g in omega arith)))
 calm_rest old from Hold settled e =
-    calm_kept old (state_handed from Hold old) 0 0 settled (omega arith) (λ j x g h. (kept_by (class_handed from Hold) old.classes j x (λ y k. unnamed from Hold y e) g)) (λ j x g. (λ l. refl, λ l. refl))
+    calm_kept old (state_handed from Hold old) 0 0 settled (omega arith)
+    (λ j x g h. (kept_by (class_handed from Hold) old.classes j x (λ y k. unnamed from Hold y e) g)) (λ j x g. (λ l. refl, λ l. refl))
 calm_rest old from m settled e = calm_same old from m settled e refl
 
 pub calm_handed : (old : State) (from : Site) (m : Msg) → AreSettled old → AreApart old.classes

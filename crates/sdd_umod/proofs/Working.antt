@@ -110,7 +110,8 @@ hold_falls s bases log k amid e =
     let free : k.releases ≡ k.holds = eqb-true k.releases k.holds r.2 in
     let turn : InTurn n k = subst (InTurn n) r.1 (amid.sound.turns r.0) in
     let low = turn.committed in
-    let less = fewer_where txns (counted signs.Hold k.tm) is_free (state_of s log).counts k (held_no_more txns k.tm) e (let own : (k.tm == k.tm) ≡ true = eq-eqb k.tm k.tm refl in rw own (omega arith)) in
+    let less = fewer_where txns (counted signs.Hold k.tm) is_free (state_of s log).counts k (held_no_more txns k.tm) e
+    (let own : (k.tm == k.tm) ≡ true = eq-eqb k.tm k.tm refl in rw own (omega arith)) in
     omega arith
 
 step_falls : (s : Setting) (bases : Bases) (log : Log) (step : Step) → IsAmid s bases (state_of s log) log

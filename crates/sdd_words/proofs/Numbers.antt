@@ -73,7 +73,9 @@ stable b y z e h = grind (arith, nat_tests)
 
 signed_value : (z : ℤ) → mag z < 2 ^ 63 → signed_digits_value 10 (signed_decimal z) ≡ z
 signed_value z lt =
-    stable (int_eq (signed_digits_value 10 (signed_decimal z)) z) (signed_digits_value 10 (signed_decimal z)) z refl (λ other. (let e = parse-signed_decimal {E = Unit {0}} w64 z (signed_decimal z) (Err tt) (fits_small z lt) lt refl (λ p. other (value_if z lt p)) in absurd cc))
+    stable (int_eq (signed_digits_value 10 (signed_decimal z)) z) (signed_digits_value 10 (signed_decimal z)) z refl
+    (λ other. (let e = parse-signed_decimal {E =
+    Unit {0}} w64 z (signed_decimal z) (Err tt) (fits_small z lt) lt refl (λ p. other (value_if z lt p)) in absurd cc))
 
 -- what is spelled is read
 pub number_again : (z : ℤ) → mag z < 2 ^ 63 → number_of (signed_decimal z) ≡ Some z

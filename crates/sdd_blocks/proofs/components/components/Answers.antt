@@ -28,4 +28,5 @@ loop-edge-preserved c =
 pub returns-clause-components : goal.returns-clause-components
 returns-clause-components c =
     IfOk-both_then _ c.into_labels.ensures.below c.into_labels.ensures.labels
-    (λ (found : Vec ℕ Global) p q. (components_done c.args.edges.now c.args.without c.args.nodes _ c.loop-edge.edge-index found.items c.loop-edge.invariant c.loop-edge-test.false p q).1)
+    (λ (found : Vec ℕ Global) p q. (components_done c.args.edges.now c.args.without c.args.nodes _
+    c.loop-edge.edge-index found.items c.loop-edge.invariant c.loop-edge-test.false p q).1)

@@ -11,7 +11,8 @@ offer_choice-requires c = c.loop-choice.invariant.sieve
 pub loop-choice-preserved : goal.loop-choice-preserved
 loop-choice-preserved c =
     offered_more c.args.parts.now c.args.mesh.now c.args.sieve.now c.loop-choice.sieve c.offer_choice.new.sieve
-    (extended c.args.parts.now c.args.part c.args.ties.now c.args.pairs.items) c.args.kept.now c.loop-choice.choice-index c.choice-item.result c.loop-choice-test.true c.choice-item.is
+    (extended c.args.parts.now c.args.part c.args.ties.now c.args.pairs.items) c.args.kept.now
+    c.loop-choice.choice-index c.choice-item.result c.loop-choice-test.true c.choice-item.is
     c.loop-choice.invariant
     (rw (c.as_slice-in-loop-choice.ensures, c.places_of-places.ensures, c.in_ok-key.ensures, c.as_slice.ensures, c.in_ok-index.ensures _) at c.in_ok-offer_choice.ensures)
 

@@ -23,4 +23,5 @@ loop-f-preserved c =
 
 pub returns : goal.returns
 returns c =
-    between_others c.args.uses.now c.args.i c.args.j c.reads-f-items.result.now c.loop-f.f-index _ _ c.if-i-j.false c.reads-f-items.ensures.list c.loop-f-test.false c.loop-f.invariant
+    between_others c.args.uses.now c.args.i c.args.j c.reads-f-items.result.now c.loop-f.f-index _ _ c.if-i-j.false
+    c.reads-f-items.ensures.list c.loop-f-test.false c.loop-f.invariant

@@ -10,4 +10,5 @@ returns-in_err-push_back-clause-err g c =
 
 pub returns-clause-ok : goal.returns-clause-ok
 returns-clause-ok g c =
-    item_more _ c.args.pieces.now.items c.args.at c.index_mut-piece.result.now c.push_back.new.self c.args.item c.requires.last c.index_mut-piece.ensures.value c.in_ok-push_back.ensures.items
+    item_more _ c.args.pieces.now.items c.args.at c.index_mut-piece.result.now c.push_back.new.self c.args.item
+    c.requires.last c.index_mut-piece.ensures.value c.in_ok-push_back.ensures.items

@@ -8,4 +8,5 @@ loop-n-preserved c =
 
 pub loop-n-2-preserved : goal.loop-n-2-preserved
 loop-n-2-preserved c =
-    sites_more {A = Site} (λ n. D (record { 0 = n })) c.loop-n-2.n (c.loop-n-2.n + 1) (U ∷ map (λ n. T (record { 0 = n })) (range_with_len 1 c.args.tms)) _ _ c.loop-n-2.invariant refl c.in_ok-push-2.ensures.items
+    sites_more {A = Site} (λ n. D (record { 0 = n })) c.loop-n-2.n (c.loop-n-2.n + 1)
+    (U ∷ map (λ n. T (record { 0 = n })) (range_with_len 1 c.args.tms)) _ _ c.loop-n-2.invariant refl c.in_ok-push-2.ensures.items

@@ -25,4 +25,5 @@ pub returns-clause-reached : goal.returns-clause-reached
 returns-clause-reached c =
     let done : length c.places.search.reached.items ≤ c.places.place = omega (arith, c.len.ensures, c.places-test.false) in
     subst (λ z. AreReached c.args.graph.now.edges (Passes c.args.without.now) z (placed_nodes c.places.search.places.items)) c.places.invariant.1
-    (are_reached c.args.graph.now.edges (Passes c.args.without.now) c.args.graph.now.nodes c.places.place c.places.search.places.items c.places.search.reached.items c.places.invariant.0 done)
+    (are_reached c.args.graph.now.edges (Passes c.args.without.now) c.args.graph.now.nodes c.places.place
+    c.places.search.places.items c.places.search.reached.items c.places.invariant.0 done)

@@ -11,7 +11,9 @@ put-requires c = rw (length-opened c.self.inside.files c.self.inside.opened c.ar
 read_opened : (c : goal.After-put)
     → Reads c.args.self.now.opened (map (opened_at c.self.inside.files) c.put.new.self) c.args.f.0 c.read_at-n.result.0 c.read_at-n.new.buf
 read_opened c =
-    reads c.self.inside.files c.self.inside.opened c.put.new.self c.at-opened.result c.read_at-n.result.1 c.args.self.now c.self.inside.faults c.args.f.0 c.read_at-n.result.0 c.read_at-n.new.buf c.self.view_is c.at-opened.ensures c.put.ensures
+    reads c.self.inside.files c.self.inside.opened c.put.new.self c.at-opened.result c.read_at-n.result.1
+    c.args.self.now c.self.inside.faults c.args.f.0 c.read_at-n.result.0 c.read_at-n.new.buf c.self.view_is
+    c.at-opened.ensures c.put.ensures
     c.read_at-n.ensures.next (rw (← c.as_slice.ensures) c.read_at-n.ensures.front) (rw (← c.as_slice.ensures) c.read_at-n.ensures.count)
 
 pub returns-clause-gives : goal.returns-clause-gives
