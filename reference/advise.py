@@ -1,7 +1,7 @@
 """Why each read has its protocol: a cycle through the diagonal, and the nodes that lie apart.
 
 P1 shows all nodes that are reached from the writer without the diagonal; P2 a cycle, and all that are reached without
-the reader's node; P3 a cycle that ends with the reader's vertical edge. Of several cycles a shortest one is told.
+the reader's node; P3 a cycle that ends with the reader's vertical edge. Of several cycles a shortest one is reported.
 Definition: docs/FORMATS.md, "What `advise` prints"; crates/sdd_advise/specs/Advices.antt.
 """
 from .graph import conflict_graph, protocol_table, read_words, Edge

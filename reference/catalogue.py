@@ -1,6 +1,6 @@
 """The catalogue: modules, relations, fragments, copies and classes.
 
-A catalogue is accepted where it breaks no rule, and else its first fault is told: first its form, table by
+A catalogue is accepted where it breaks no rule, and else its first fault is reported: first its form, table by
 table, then the rules over all parts. Definition: docs/FORMATS.md, "The catalogue"; crates/sdd_catread/specs
 (`Form`, `Values`) and crates/sdd_catalog/specs/Rules.antt.
 """
@@ -186,7 +186,7 @@ def class_in(table, place):
     return Class(name, tm, reads, [form.name_in(x) for x in form.items("writes", [])])
 
 
-# The rules, each a pair of the rule and the place where it is broken, in the order in which they are told.
+# The rules, each a pair of the rule and the place where it is broken, in the order in which they are reported.
 
 def faults(parts):
     for what, number in (("tm", parts.tms), ("dm", parts.dms)):

@@ -61,7 +61,7 @@ def text_of(words, read):
 
 
 def answer(words, read):
-    """The status, what standard error is told, and what standard output is."""
+    """The status, what is written to standard error, and what standard output is."""
     try:
         return 0, "", text_of(words, read)
     except Fault as fault:
@@ -88,12 +88,12 @@ def main(words, about):
             return 2
         breaking.break_rule(words[1])
         words = words[2:]
-    status, told, text = answer(words, read_file)
+    status, reported, text = answer(words, read_file)
     try:
         sys.stdout.buffer.write(text.encode())
         sys.stdout.flush()
     except OSError:
-        status, told = 7, "write fault\n"
+        status, reported = 7, "write fault\n"
         os.dup2(os.open(os.devnull, os.O_WRONLY), 1)        # or what is left would be written at the end
-    sys.stderr.write(told)
+    sys.stderr.write(reported)
     return status

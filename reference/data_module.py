@@ -169,7 +169,7 @@ class DataModule:
         return self.about("wait", read, conds=tuple(lacking)), asks
 
     def answer(self, pipe, read):
-        """The rows that it reads are frozen, and how many they are is told."""
+        """The rows that it reads are frozen, and how many they are is reported."""
         pipe.process()
         held = {use.number: self.rows_for(use) for use in read.uses}
         counts = tuple((use, len(rows)) for use, rows in held.items())

@@ -22,13 +22,13 @@ def some(**members):
 
 
 class Watch:
-    """A world, and how much of it is told."""
+    """A world, and how much of it is reported."""
 
     def __init__(self, world):
         self.world, self.ways = world, world.links.ways
         self.place = {link: k for k, link in enumerate(self.ways)}
         self.flying = {link: 0 for link in self.ways}
-        self.told = {link: 0 for link in self.ways}         # messages that were told in full
+        self.reported = {link: 0 for link in self.ways}         # messages that were reported in full
         self.handed = {link: 0 for link in self.ways}
         self.queues, self.pipes, self.records = {}, {}, 0
 
@@ -66,12 +66,12 @@ class Watch:
     def took(self, event, found):
         if event.word not in ("deliver", "lose") or found is None:
             return {}
-        told = {"took": self.packet(found)}
+        reported = {"took": self.packet(found)}
         if event.word == "deliver" and isinstance(found, Ack):
-            told["acked"] = self.ways[event.b, event.a].acked
+            reported["acked"] = self.ways[event.b, event.a].acked
         elif event.word == "deliver":
-            told["delivered"] = self.ways[event.a, event.b].delivered
-        return told
+            reported["delivered"] = self.ways[event.a, event.b].delivered
+        return reported
 
     def hands(self, links):
         new = [(a, b) for a, b in links if self.world.handed[a, b] != self.handed[a, b]]
@@ -79,43 +79,43 @@ class Watch:
         return [[str(a), str(b), self.handed[a, b]] for a, b in new]
 
     def puts(self, event, found, links):
-        told = []
+        reported = []
         if event.word in ("deliver", "lose") and found is not None:
             self.flying[event.a, event.b] -= 1
         for link in links:
             new = self.ways[link].flight[self.flying[link]:]
             self.flying[link] += len(new)
             if new:
-                told.append([str(link[0]), str(link[1]), [self.packet(p, link) for p in new]])
-        return told
+                reported.append([str(link[0]), str(link[1]), [self.packet(p, link) for p in new]])
+        return reported
 
     def packet(self, packet, link=None):
         if isinstance(packet, Ack):
             return {"ack": packet.upto}
-        if link is None or packet <= self.told[link]:
+        if link is None or packet <= self.reported[link]:
             return packet
-        self.told[link] = packet
+        self.reported[link] = packet
         return self.message(packet, self.ways[link].sent[packet - 1])
 
     def message(self, n, m):
-        told = {"n": n, "kind": m.kind}
+        reported = {"n": n, "kind": m.kind}
         if m.cls is not None:
-            told["class"] = self.cls(m.cls)
+            reported["class"] = self.cls(m.cls)
         if m.time is not None:
-            told["time"] = m.time
+            reported["time"] = m.time
         if m.kind == "READ":
-            told.update(txn="%s#%d" % (self.name(m.txn), m.attempt), conds=[[self.cls(c.cls), c.time] for c in m.conds])
+            reported.update(txn="%s#%d" % (self.name(m.txn), m.attempt), conds=[[self.cls(c.cls), c.time] for c in m.conds])
         elif m.kind == "WRITE":
-            told.update(txn=self.name(m.txn), changes=[[f, str(key), row_word(row)] for f, key, row in m.changes])
+            reported.update(txn=self.name(m.txn), changes=[[f, str(key), row_word(row)] for f, key, row in m.changes])
         elif m.kind == "REJECT":
-            told.update(by=self.cls(m.by), write=m.write)
+            reported.update(by=self.cls(m.by), write=m.write)
         elif m.kind in ("READY", "REDUCED"):
-            told["rows"] = sum(count for _, count in m.counts)
+            reported["rows"] = sum(count for _, count in m.counts)
         elif m.kind == "ROWS":
-            told["rows"] = len(m.rows)
+            reported["rows"] = len(m.rows)
         elif m.kind in ("VALUES", "REDUCE"):
-            told["values"] = len(m.values)
-        return told
+            reported["values"] = len(m.values)
+        return reported
 
     # What changed at sites.
 
@@ -124,7 +124,7 @@ class Watch:
         return [module.line] if site == U else list(module.lines.values()) if site.kind == "T" else []
 
     def changed_queues(self, busy):
-        told = []
+        reported = []
         for site in busy:
             for line in self.lines_at(site):
                 old = self.queues.get((site, line.cls), [])
@@ -132,11 +132,11 @@ class Watch:
                 self.queues[site, line.cls] = new
                 came, gone = [self.name(n) for n in new if n not in old], [n for n in old if n not in new]
                 if came or gone:
-                    told.append({"class": self.cls(line.cls), **some(**{"in": came, "out": len(gone)})})
-        return told
+                    reported.append({"class": self.cls(line.cls), **some(**{"in": came, "out": len(gone)})})
+        return reported
 
     def changed_pipes(self, busy):
-        told, self.processed = [], {}
+        reported, self.processed = [], {}
         for site in busy:
             for cls, pipe in enumerate(self.world.sites[site].pipes if site.kind == "D" else ()):
                 came, done = self.pipes.get((site, cls), (0, 0))
@@ -145,20 +145,20 @@ class Watch:
                 if (came, done) != self.pipes[site, cls]:
                     sent = self.ways[self.world.sites[site].homes[cls], site].sent
                     new = [1 + next(k for k, m in enumerate(sent) if m is x) for x in pipe.came[came:]]
-                    told.append({"at": str(site), "class": self.cls(cls), **some(**{"in": new, "out": pipe.done - done}),
+                    reported.append({"at": str(site), "class": self.cls(cls), **some(**{"in": new, "out": pipe.done - done}),
                                  "passed": pipe.passed()})
-        return told
+        return reported
 
     def changed_rows(self):
-        told, records = {}, self.world.records[self.records:]
+        reported, records = {}, self.world.records[self.records:]
         self.records = len(self.world.records)
         for r in records:
             if r.kind == "apply":
                 write = next(m for m in self.processed[r.dm, r.cls] if m.txn == r.txn)
                 items = self.world.sites[Site("D", r.dm)].copies
                 for f, key, _ in write.changes:
-                    told["D%d" % r.dm, f, str(key)] = row_word(items[f].items.get(key, (0, None))[1])
-        return [[*item, row] for item, row in told.items()]
+                    reported["D%d" % r.dm, f, str(key)] = row_word(items[f].items.get(key, (0, None))[1])
+        return [[*item, row] for item, row in reported.items()]
 
     # How sites stand.
 
@@ -170,15 +170,15 @@ class Watch:
         module = self.world.sites[site]
         if site.kind == "D":
             return {"at": str(site), **some(down=site in self.world.down, heads=self.heads(module))}
-        told = {"at": str(site), "clock": module.clock.ticks}
+        reported = {"at": str(site), "clock": module.clock.ticks}
         if site == U:
             phase, lacks = self.phase_of(module)
-            told.update(phase=phase, **some(lacks=lacks))
+            reported.update(phase=phase, **some(lacks=lacks))
         else:
             asks = sorted(module.asks, key=lambda q: q[1].cls)
-            told.update(some(hold=module.on_hold, owes=module.helds < module.holds,
+            reported.update(some(hold=module.on_hold, owes=module.helds < module.holds,
                              asks=[[self.cls(m.cls), str(s), m.time] for s, m in asks]))
-        return {**told, **some(active=[self.active(line) for line in self.lines_at(site) if not line.is_idle])}
+        return {**reported, **some(active=[self.active(line) for line in self.lines_at(site) if not line.is_idle])}
 
     def active(self, line):
         first = line.queue[0]
@@ -196,18 +196,18 @@ class Watch:
         return "idle", []
 
     def heads(self, module):
-        told = []
+        reported = []
         for cls, pipe in enumerate(module.pipes):
             if pipe.waits:
                 lacking = [[self.cls(c.cls), c.time] for c in pipe.head.conds if not module.is_met(c)]
-                told.append({"class": self.cls(cls), "waits": lacking})
+                reported.append({"class": self.cls(cls), "waits": lacking})
             elif pipe.head:
-                told.append({"class": self.cls(cls), "held": [self.cls(c) for c in module.held_by(pipe.head)]})
-        return told
+                reported.append({"class": self.cls(cls), "held": [self.cls(c) for c in module.held_by(pipe.head)]})
+        return reported
 
 
-def spelled(told):
-    return json.dumps(told, separators=(",", ":"), ensure_ascii=False) + "\n"
+def spelled(reported):
+    return json.dumps(reported, separators=(",", ":"), ensure_ascii=False) + "\n"
 
 
 def inside_text(cat, work):

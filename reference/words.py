@@ -136,10 +136,10 @@ def value_word(value):
     return '"' + value.replace("\\", "\\\\").replace('"', '\\"') + '"'
 
 
-def read_lines(data, take, is_ended, told="workload"):
+def read_lines(data, take, is_ended, reported="workload"):
     """Gives the lines of a file to `take`, and tells the first fault with the number of its line."""
     if len(data) > MAX_FILE_BYTES:
-        raise Fault(4, "%s: line 0: TooLong" % told)
+        raise Fault(4, "%s: line 0: TooLong" % reported)
     lines = data.split(b"\n")
     for number, line in enumerate(lines, 1):
         try:
@@ -154,7 +154,7 @@ def read_lines(data, take, is_ended, told="workload"):
             must("BadLine", not is_quoted(words[0]))
             take(words[0], words[1:])
         except Broken as broken:
-            raise Fault(4, "%s: line %d: %s" % (told, number, broken.rule)) from None
+            raise Fault(4, "%s: line %d: %s" % (reported, number, broken.rule)) from None
 
 
 def decoded(line):

@@ -1,6 +1,6 @@
 """The workload: initial rows, transactions, class lists, and events, in this order.
 
-The first line at fault is told, with the first rule that it breaks. Definition: docs/FORMATS.md, "The workload";
+The first line at fault is reported, with the first rule that it breaks. Definition: docs/FORMATS.md, "The workload";
 crates/sdd_script/specs/LineRules.antt, ClassLists.antt, Occurrences.antt, Redeclaring.antt, Walk.antt.
 """
 from typing import NamedTuple

@@ -1,4 +1,4 @@
-"""Answers to calls of `sdd1`: a status, what standard error is told, and what standard output is, as bytes.
+"""Answers to calls of `sdd1`: a status, what is written to standard error, and what standard output is, as bytes.
 
 The reference of this repository answers in this process; a program by a command, on files in a folder of its own.
 """
@@ -26,8 +26,8 @@ def reference_answer(words, files):
         if name not in files:
             raise FileNotFoundError(name)
         return files[name]
-    status, told, text = answer(words, read)
-    return status, told.encode(), text.encode()
+    status, reported, text = answer(words, read)
+    return status, reported.encode(), text.encode()
 
 
 class Program:

@@ -66,12 +66,12 @@ class Browser:
         os.write(self.write, json.dumps(asked).encode() + b"\0")
         end, mine = time.monotonic() + seconds, self.count
         while True:
-            told = self.next_message(end)
-            if told.get("id") == mine:
-                if "error" in told:
-                    raise Fault("%s: %s" % (method, told["error"]["message"]))
-                return told["result"]
-            self.seen.append(told)
+            reported = self.next_message(end)
+            if reported.get("id") == mine:
+                if "error" in reported:
+                    raise Fault("%s: %s" % (method, reported["error"]["message"]))
+                return reported["result"]
+            self.seen.append(reported)
 
     def next_message(self, end):
         while b"\0" not in self.rest:
@@ -120,11 +120,11 @@ class Page:
 
     def tell(self, script):
         """The value of an expression in the page."""
-        told = self.ask("Runtime.evaluate", expression=script, returnByValue=True, awaitPromise=True, userGesture=True)
-        if "exceptionDetails" in told:
-            fault = told["exceptionDetails"]
+        reported = self.ask("Runtime.evaluate", expression=script, returnByValue=True, awaitPromise=True, userGesture=True)
+        if "exceptionDetails" in reported:
+            fault = reported["exceptionDetails"]
             raise Fault(fault.get("exception", {}).get("description") or fault["text"])
-        return told["result"].get("value")
+        return reported["result"].get("value")
 
     def wait(self, script, seconds=60):
         end = time.monotonic() + seconds
@@ -135,12 +135,12 @@ class Page:
 
     def faults(self):
         """The exceptions that scripts of the page ran into, and what its policy refused."""
-        told = []
+        reported = []
         for x in self.browser.seen:
             if x.get("sessionId") == self.session and x["method"] == "Runtime.exceptionThrown":
                 details = x["params"]["exceptionDetails"]
-                told.append(details.get("exception", {}).get("description") or details["text"])
-        return told
+                reported.append(details.get("exception", {}).get("description") or details["text"])
+        return reported
 
     def click(self, selector, count=1):
         """A click with the mouse in the middle of an element, which must be seen there."""

@@ -90,14 +90,14 @@ class History:
         read = {(item, x) for t in self.done for item, versions in t.reads for x in versions}
         return self.done + [t for t in self.unknown if not read.isdisjoint(t.appends)]
 
-    def add(self, told, number):
-        name = told.get(":name", "op %s" % told.get(":index", number))
-        if told[":type"] == ":ok":
-            self.done.append(Transaction(name, told[":process"], told[":value"]))
-        elif told[":type"] == ":fail":
-            self.failed.append(Transaction(name, None, told[":value"] or (), ":fail"))
-        elif told[":type"] == ":info":
-            self.unknown.append(Transaction(name, None, told[":value"] or (), ":info"))
+    def add(self, reported, number):
+        name = reported.get(":name", "op %s" % reported.get(":index", number))
+        if reported[":type"] == ":ok":
+            self.done.append(Transaction(name, reported[":process"], reported[":value"]))
+        elif reported[":type"] == ":fail":
+            self.failed.append(Transaction(name, None, reported[":value"] or (), ":fail"))
+        elif reported[":type"] == ":info":
+            self.unknown.append(Transaction(name, None, reported[":value"] or (), ":info"))
 
 
 def read_history(path):
@@ -229,7 +229,7 @@ class Graph:
                 yield mine
 
 
-def told(graph, cycle):
+def cycle_line(graph, cycle):
     names = [graph.transactions[k].name for k in cycle]
     said = names[0]
     for a, b in zip(cycle, cycle[1:] + cycle[:1]):
@@ -245,7 +245,7 @@ def main():
     faults = list(graph.faults)
     cycle = graph.cycle()
     if cycle:
-        faults.append(told(graph, cycle))
+        faults.append(cycle_line(graph, cycle))
     for x in faults:
         print(x)
     if not faults:

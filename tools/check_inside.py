@@ -50,11 +50,11 @@ def check(files, text):
     read = [json.loads(first)]
     reader = Reader(read[0])
     for happened in world.happens():
-        told = spelled(watch.line(happened))[:-1]
+        reported = spelled(watch.line(happened))[:-1]
         if lines and len(read) == len(lines):
             raise Differs("the text ends before event %d" % world.events)
-        same("the line of event %d" % world.events, lines[len(read)] if lines else told, told)
-        read.append(json.loads(told))
+        same("the line of event %d" % world.events, lines[len(read)] if lines else reported, reported)
+        read.append(json.loads(reported))
         reader.apply(read[-1])
         compare(reader, watch)
     if lines and len(read) < len(lines):
@@ -78,9 +78,9 @@ def compare(reader, watch):
             for line in watch.lines_at(site):
                 queue = [watch.name(x.number) for x in line.queue]
                 same(at + "the queue of " + watch.cls(line.cls), reader.queues[watch.cls(line.cls)], queue)
-        told = reader.sites.get(str(site))
-        if told is not None:
-            same(at + "what is told of %s" % str(site), told, watch.site(site))
+        reported = reader.sites.get(str(site))
+        if reported is not None:
+            same(at + "what is reported of %s" % str(site), reported, watch.site(site))
 
 
 def compare_pipes(at, reader, watch, site, module):
@@ -93,7 +93,7 @@ def compare_pipes(at, reader, watch, site, module):
 
 
 def compare_copies(lines, world):
-    """The rows at the end, each told at its last change, are those of the copies."""
+    """The rows at the end, each reported at its last change, are those of the copies."""
     have = {}
     for line in lines[1:]:
         for dm, fragment, key, row in line.get("rows", ()):

@@ -24,8 +24,8 @@ def parser(text):
 class Words(argparse.ArgumentParser):
     """As `argparse` has it; --help prints what the script says at its head."""
 
-    def __init__(self, told):
-        super().__init__(description=told, formatter_class=argparse.RawDescriptionHelpFormatter, usage=argparse.SUPPRESS)
+    def __init__(self, reported):
+        super().__init__(description=reported, formatter_class=argparse.RawDescriptionHelpFormatter, usage=argparse.SUPPRESS)
 
     def error(self, message):
         refuse("%s; --help tells the words" % message)

@@ -28,7 +28,7 @@ OTHERS = {
 
 
 def explain(line, files):
-    """The lines that are told."""
+    """The lines that are reported."""
     found = FORM.fullmatch(line)
     if line in OTHERS or line.startswith("usage:"):
         return [OTHERS.get(line, "These words are none of the forms of a call; docs/FORMATS.md, \"Words\", has all of them.")]

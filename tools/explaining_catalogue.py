@@ -29,16 +29,16 @@ RULES = {
 
 def explain_part(place, rule, path, text):
     meaning, help_ = RULES.get(rule.split(" ")[0], ("a rule that isn't known here", "docs/FORMATS.md has all rules"))
-    told = shown_part(place, path, text)
-    told.append("%s: %s." % (rule, meaning))
+    reported = shown_part(place, path, text)
+    reported.append("%s: %s." % (rule, meaning))
     try:
         parts = tomllib.loads(text.removeprefix("\ufeff"))
     except tomllib.TOMLDecodeError as fault:
-        return told + ["Here: %s." % fault, "What helps: %s." % help_]
+        return reported + ["Here: %s." % fault, "What helps: %s." % help_]
     except RecursionError:
-        return told + ["What helps: arrays in each other, at most 80."]
-    told += ["Here: %s." % x for x in found_in(place, rule, parts)]
-    return told + ["What helps: %s." % help_]
+        return reported + ["What helps: arrays in each other, at most 80."]
+    reported += ["Here: %s." % x for x in found_in(place, rule, parts)]
+    return reported + ["What helps: %s." % help_]
 
 
 def shown_part(place, path, text):

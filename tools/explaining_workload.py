@@ -41,7 +41,7 @@ def explain_line(number, rule, data, catalogue_path):
     lines = data.split(b"\n")
     whole = [x.decode("utf-8", "replace") for x in lines]
     line = whole[number - 1] if 1 <= number <= len(lines) else ""
-    told = ["%5d  %s" % (number, line), "%s: %s." % (rule, meaning)]
+    reported = ["%5d  %s" % (number, line), "%s: %s." % (rule, meaning)]
     catalogue = read_catalogue(catalogue_path) if catalogue_path else None
     causes = []
     if rule == "BadLine":
@@ -56,12 +56,12 @@ def explain_line(number, rule, data, catalogue_path):
         causes = ["the catalogue has T1 to T%d and D1 to D%d" % (catalogue.tms, catalogue.dms)]
     elif rule == "BadNumber":
         causes = bad_number(line)
-    told += ["Here: %s." % x for x in causes]
-    told.append("What helps: %s." % help_)
+    reported += ["Here: %s." % x for x in causes]
+    reported.append("What helps: %s." % help_)
     word = line.split(" ")[0]
     if word in FORMS:
-        told.append("The form: %s" % FORMS[word])
-    return told
+        reported.append("The form: %s" % FORMS[word])
+    return reported
 
 
 def bad_line(line, before):

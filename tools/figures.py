@@ -15,16 +15,16 @@ class Figures:
         self.attempts = self.commits = self.waits = self.values = self.rows = 0
         self.waited, self.queued, self.latencies, self.kinds = [], [], [], set()
 
-    def take(self, told, unit):
-        self.attempts += told.attempts
-        self.waits += len(told.waits)
-        self.waited += [x.events / unit for x in told.waits if x.events is not None]
-        if told.committed is not None:
+    def take(self, reported, unit):
+        self.attempts += reported.attempts
+        self.waits += len(reported.waits)
+        self.waited += [x.events / unit for x in reported.waits if x.events is not None]
+        if reported.committed is not None:
             self.commits += 1
-            self.values += told.values
-            self.rows += told.rows
-            self.latencies.append(told.latency() / unit)
-            self.queued.append((told.started - told.submitted) / unit)
+            self.values += reported.values
+            self.rows += reported.rows
+            self.latencies.append(reported.latency() / unit)
+            self.queued.append((reported.started - reported.submitted) / unit)
 
     def cells(self):
         per = lambda x, of, form: form % (x / of) if of else "-"  # noqa: E731
@@ -47,8 +47,8 @@ def kind_of(name):
     return re.sub(r"_?\d+$", "", name) or name
 
 
-def group_of(name, told, by):
-    return told.cls or "?" if by == "class" else kind_of(name)
+def group_of(name, reported, by):
+    return reported.cls or "?" if by == "class" else kind_of(name)
 
 
 def collect_drains(observed, unit):
@@ -60,12 +60,12 @@ def collect_drains(observed, unit):
 def collect_figures(observed, by, unit):
     """The figures of each group and of all, and how long which group waited for which class."""
     figures, pairs, whole = {}, {}, Figures()
-    for name, told in (x for run in observed for x in run.transactions.items()):
-        group = group_of(name, told, by)
-        figures.setdefault(group, Figures()).take(told, unit)
-        figures[group].kinds.add(kind_of(name) if by == "class" else told.cls or "?")
-        whole.take(told, unit)
-        for wait, awaited in ((x, y) for x in told.waits for y in x.awaited):
+    for name, reported in (x for run in observed for x in run.transactions.items()):
+        group = group_of(name, reported, by)
+        figures.setdefault(group, Figures()).take(reported, unit)
+        figures[group].kinds.add(kind_of(name) if by == "class" else reported.cls or "?")
+        whole.take(reported, unit)
+        for wait, awaited in ((x, y) for x in reported.waits for y in x.awaited):
             pairs.setdefault((group, awaited), []).append(None if wait.events is None else wait.events / unit)
     figures = dict(sorted(figures.items(), key=lambda x: -x[1].waits / max(1, x[1].attempts)))
     figures[ALL] = whole

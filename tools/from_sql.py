@@ -103,8 +103,8 @@ class Translator:
         for values in statement.values:
             if len(values) != len(names):
                 self.fault(statement.line, "%d values for %d columns" % (len(values), len(names)))
-            told = dict(zip(names, values))
-            yield "%s %s" % (table.name, " ".join(self.value(told[x], kind, given) for x, kind in table.columns))
+            reported = dict(zip(names, values))
+            yield "%s %s" % (table.name, " ".join(self.value(reported[x], kind, given) for x, kind in table.columns))
 
     def sums(self, statement, given):
         for column, sign, token in statement.values:
@@ -243,8 +243,8 @@ class Classes:
         for op, least, greatest in bounds if s.kind != "insert" else ():
             low = max(low, least + (op == ">")) if op in ("=", ">", ">=") else low
             high = min(high, greatest - (op == "<")) if op in ("=", "<", "<=") else high
-        told = " (all: %s has no range)" % unbound[0] if unbound and len(table.fragments) > 1 else ""
-        return low, high, told
+        reported = " (all: %s has no range)" % unbound[0] if unbound and len(table.fragments) > 1 else ""
+        return low, high, reported
 
     def modules(self, reads):
         """Where each fragment is read, at few modules."""

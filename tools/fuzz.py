@@ -6,7 +6,7 @@
 For each seed from FROM up to TO, without it, and each kind (all where none is named) a call is drawn: words and files.
 The reference of this repository (reference/) answers it in this process, the program by COMMAND, and so may a third one.
 Kind inside is for a program of its own, which takes a catalogue and a workload; it is left out without --inside.
-An answer is a status, what standard error is told, and what standard output is. Of a call with a difference lines are
+An answer is a status, what is written to standard error, and what standard output is. Of a call with a difference lines are
 taken away as long as there is one; what is left is printed, and with --into its files are kept in FOLDER. It ends with 1
 where there was a difference.
 
@@ -45,7 +45,7 @@ def smaller(call):
             size = size // 2 if size > 8 else size - 1
 
 
-def cut_down(call, programs, told):
+def cut_down(call, programs, reported):
     """The call with lines taken away as long as the answers of this program differ."""
     tries = 0
     while True:
@@ -53,21 +53,21 @@ def cut_down(call, programs, told):
             tries += 1
             found = difference(less, programs)
             if found:
-                call, told = less, found
+                call, reported = less, found
                 break
             if tries > 3000:
-                return call, told
+                return call, reported
         else:
-            return call, told
+            return call, reported
 
 
-def show(seed, kind, call, told):
-    program, wanted, got = told
+def show(seed, kind, call, reported):
+    program, wanted, got = reported
     print("seed %d, kind %s: %s and the reference differ: %s" % (seed, kind, program.name, " ".join(call.words)))
     for name, data in call.files.items():
         print("--- %s\n%s" % (name, data.decode(errors="backslashreplace").rstrip("\n")))
-    for who, (status, told, text) in (("the reference", wanted), (program.name, got)):
-        print("--- %s: status %s %s\n%s" % (who, status, told.decode(errors="replace").strip(), text.decode(errors="replace")), end="")
+    for who, (status, reported, text) in (("the reference", wanted), (program.name, got)):
+        print("--- %s: status %s %s\n%s" % (who, status, reported.decode(errors="replace").strip(), text.decode(errors="replace")), end="")
     sys.stdout.flush()
 
 
@@ -120,11 +120,11 @@ def compare(asked, programs):
         for kind in kinds:
             call = random_calls.KINDS[kind](random.Random("%s %d" % (kind, seed)))
             counts[kind] += 1
-            told = difference(call, programs)
-            if told:
+            reported = difference(call, programs)
+            if reported:
                 differ += 1
-                call, told = cut_down(call, programs, told)
-                show(seed, kind, call, told)
+                call, reported = cut_down(call, programs, reported)
+                show(seed, kind, call, reported)
                 if asked.into:
                     keep(asked.into, seed, kind, call)
     return counts, differ

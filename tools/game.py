@@ -2,7 +2,7 @@
 
 A request is an object with `do`; the answer is an object and an HTTP status. A request that is refused
 changes nothing. Events are judged here by their form alone, so that a line can't bring a second one; names,
-places and statements are judged by the program, whose fault is told with the line of what was asked for.
+places and statements are judged by the program, whose fault is reported with the line of what was asked for.
 """
 import os
 import re
@@ -134,29 +134,29 @@ class Game:
         try:
             self.data = self.run()
         except Refused as fault:
-            told = self.told_of(str(fault), change)
+            reported = self.description_of(str(fault), change)
             self.take_back(change)
-            raise BadInput(told) from None
+            raise BadInput(reported) from None
         except BadInput:
             self.take_back(change)
             raise
         self.done.append(change)
         self.undone.clear()
 
-    def told_of(self, fault, change):
+    def description_of(self, fault, change):
         """The program's line, with the line of what was asked for in place of that of the workload."""
         found = FAULT.fullmatch(fault)
         if not found:
             return "limit: the run would have too many events" if fault == "limit" else fault
         rule, line = found[2], int(found[1])
-        told = "%s (%s)" % (rule, HINTS[rule]) if rule in HINTS else rule
+        reported = "%s (%s)" % (rule, HINTS[rule]) if rule in HINTS else rule
         before = len(self.parts.rows) + sum(map(len, self.parts.transactions))
         if change.transactions and before - len(change.transactions[0]) < line <= before:
             place = line - before + len(change.transactions[0])
-            return "line %d, `%s`: %s" % (place, change.transactions[0][place - 1], told)
+            return "line %d, `%s`: %s" % (place, change.transactions[0][place - 1], reported)
         if change.rows:
-            return told
-        return "`%s`: %s" % (change.put[-1], told) if change.put else fault
+            return reported
+        return "`%s`: %s" % (change.put[-1], reported) if change.put else fault
 
     # Requests.
 

@@ -48,9 +48,9 @@ def matrix_of(names, edges, protocols):
         shapes.append(svg.shape("path", "grid", d=line))
     for (reader, writer), (protocol, block, reads) in cells.items():
         x, y = left + CELL * place[writer], top + CELL * place[reader]
-        told = "%s reads %s, which %s writes: %s, %s" % (
+        reported = "%s reads %s, which %s writes: %s, %s" % (
             reader, ", ".join(reads), writer, protocol, "no block" if block == "-" else "block " + block)
-        shapes.append(svg.shape("rect", "", told, x=x + 1, y=y + 1, width=CELL - 2, height=CELL - 2, fill=colour_of(block)))
+        shapes.append(svg.shape("rect", "", reported, x=x + 1, y=y + 1, width=CELL - 2, height=CELL - 2, fill=colour_of(block)))
         shapes.append(svg.label(x + CELL / 2, y + CELL / 2 + 3.5, protocol, "m", pointer_events="none"))
     width = max(left + size + 20, 480)
     y, more = legend(cells, 14, top + size + 22, width)

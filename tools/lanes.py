@@ -87,8 +87,8 @@ class Trace:
     def class_of(self, txn):
         if (txn, 1) in self.starts:
             return self.starts[txn, 1].cls
-        told = self.pending.get(txn)
-        return told.words[0] if told and told.kind == "queued" else "-"
+        reported = self.pending.get(txn)
+        return reported.words[0] if reported and reported.kind == "queued" else "-"
 
     def held(self, record):
         """Whether changes were held behind a read: it waited for their class, up to a time not above

@@ -43,7 +43,7 @@ def layers_of(text):
     return layers
 
 
-def told_of(crate):
+def description_of(crate):
     """The first sentence of the crate's head comment."""
     for name in ("lib.rt", "main.rt"):
         path = os.path.join(ROOT, "crates", crate, "src", name)
@@ -78,8 +78,8 @@ def picture_of(layers):
         for k, row in enumerate(rows):
             top = y + 28 + k * (ROW + GAP)
             for crate, uses, x, wide in row:
-                told = "%s\nstands on: %s" % (told_of(crate), ", ".join(uses) or "std alone")
-                shapes.append(shape("rect", "crate", told, x=MARGIN + 10 + x, y=top, width=wide, height=ROW, rx=4))
+                reported = "%s\nstands on: %s" % (description_of(crate), ", ".join(uses) or "std alone")
+                shapes.append(shape("rect", "crate", reported, x=MARGIN + 10 + x, y=top, width=wide, height=ROW, rx=4))
                 shapes.append(label(MARGIN + 20 + x, top + 17, crate))
         y += height + GAP
     return whole(WIDTH, y + MARGIN - GAP, STYLE, shapes)

@@ -23,7 +23,7 @@ controls.txt              `NAME | FAULT | LINE / LINE ..`, a file of transaction
 *.cases                   cases as the program reads them; behind a case, lines `expect LINE` have the
                           answer that is written by hand, LINE as the program prints it
 
-A FAULT is what is told, as `line 2: BadNumber`, or `accepted`; the script stops where the reference
+A FAULT is what is reported, as `line 2: BadNumber`, or `accepted`; the script stops where the reference
 tells another. The format that the program reads is described in crates/sdd_cases/src/main.rt.
 """
 import argparse
@@ -119,7 +119,7 @@ def read_cases(path, kept):
 
 
 def made(name, lines, kept, fault=None):
-    """The case of these lines, and what is told of it."""
+    """The case of these lines, and what is reported of it."""
     case = Case(name)
     for line in lines:
         take(case, kept, line)
@@ -209,17 +209,17 @@ class Outside:
         return self.known[key]
 
     def answer(self, case, files, shelf_fails, out_fails):
-        status, told, text = self.reference(case.words, files)
+        status, reported, text = self.reference(case.words, files)
         if shelf_fails:
             if case.number("reads", 0) != 1:
                 sys.exit("%s: what fails is known only where a read gives one byte" % case.name)
             if shelf_fails <= shelf_calls(case.words, files, status):
-                (status, told), text = READ_FAULT, b""
+                (status, reported), text = READ_FAULT, b""
         taken = fed(text, case.number("out-takes", NO_LIMIT), case.number("out-room", ROOM), out_fails)
         if taken != text:
-            status, told = WRITE_FAULT
-        told = fed(told, case.number("err-takes", NO_LIMIT), case.number("err-room", ROOM), case.number("err-fails", 0))
-        return status, told, taken
+            status, reported = WRITE_FAULT
+        reported = fed(reported, case.number("err-takes", NO_LIMIT), case.number("err-room", ROOM), case.number("err-fails", 0))
+        return status, reported, taken
 
 
 def shelf_calls(words, files, status):
@@ -275,9 +275,9 @@ def runs(outside, case):
 
 
 def answer_lines(answer):
-    status, told, text = answer
+    status, reported, text = answer
     lines = ["status %d" % status]
-    for mark, data in (("!", told), ("|", text)):
+    for mark, data in (("!", reported), ("|", text)):
         pieces = data.decode().split("\n")
         lines += [mark + x for x in pieces[:-1]]
         if pieces[-1]:
@@ -305,9 +305,9 @@ def check_fault(case, lines):
     fault = getattr(case, "fault", None)
     if fault is None:
         return
-    told = [x[1:] for x in lines if x.startswith("!")]
-    if told != ([fault] if fault else []):
-        sys.exit("%s: the table has %r, the reference %r" % (case.name, fault, told))
+    reported = [x[1:] for x in lines if x.startswith("!")]
+    if reported != ([fault] if fault else []):
+        sys.exit("%s: the table has %r, the reference %r" % (case.name, fault, reported))
 
 
 def kept_texts():

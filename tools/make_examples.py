@@ -10,7 +10,7 @@ Of the example `sql` catalogue and workload are translated from its script. Of t
 are made too, with the catalogue of the first design (`first.toml`), and with `waits.svg`, in which
 tools/explore.py compares the two.
 
-With --check nothing is written, and each file that would change is told; `graph.svg` is left out then,
+With --check nothing is written, and each file that would change is reported; `graph.svg` is left out then,
 since it depends on the version of `dot` and its fonts, and `waits.svg`, since it takes long. The folder
 examples/broken is that of tools/make_broken.py.
 """
@@ -95,7 +95,7 @@ def same(a, b):
 
 
 def renew(name, program, check):
-    """Makes an example anew, and takes over the files that differ, but where they are only told; how many these are."""
+    """Makes an example anew, and takes over the files that differ, but where they are only reported; how many these are."""
     with tempfile.TemporaryDirectory(prefix="examples-") as folder:
         new = [x for x in make(name, program, folder, check) if not same(os.path.join(folder, x), os.path.join(EXAMPLES, name, x))]
         for file in new:

@@ -80,7 +80,7 @@ def look(line):
 
 
 class Sampler(threading.Thread):
-    """Looks at the processes below one until it is told to stop."""
+    """Looks at the processes below one until it is asked to stop."""
 
     def __init__(self, root):
         super().__init__(daemon=True)
@@ -122,9 +122,9 @@ def text_of(rows, seconds, overall, command, status):
              " has passed isn't proved again: where there was one, its crates are missing below." % (
                  " ".join(command), status, os.cpu_count(), time.strftime("%Y-%m-%d")), "",
              "| | minutes |", "|---|---|", "| from start to end | %.0f |" % (seconds / 60)]
-    told = [("processor time, all", overall), ("of it proofs, with the building of libraries", sums["proof"]),
+    reported = [("processor time, all", overall), ("of it proofs, with the building of libraries", sums["proof"]),
             ("of it edits that must be refused", sums["edits"]), ("of it compiling and running programs", sums["programs"])]
-    lines += ["| %s | %.0f |" % (what, each / 60) for what, each in told]
+    lines += ["| %s | %.0f |" % (what, each / 60) for what, each in reported]
     lines += ["", "Processor minutes of each crate, and the most memory that one process had, in GB:", "",
               "| crate | proof | edits | programs | memory |", "|---|---|---|---|---|"]
     for crate, row in sorted(rows.items(), key=lambda it: -sum(it[1][kind] for kind in KINDS)):

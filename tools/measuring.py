@@ -24,7 +24,7 @@ class Measured(NamedTuple):
     seconds: float
     megabytes: float
     text: str               # a digest of what was printed
-    events: int             # the number of the last event that is told; None where none is
+    events: int             # the number of the last event that is reported; None where none is
     fault: str
 
 
@@ -72,8 +72,8 @@ class Room:
                 number = line.split(b" ", 1)[0]
                 events = int(number) if number.isdigit() else events
         with open(self.errors, encoding="utf-8", errors="replace") as f:
-            told = f.readline().strip()
-        fault = "over %d s" % self.seconds if is_late else (told or "status %d" % status) if status else ""
+            reported = f.readline().strip()
+        fault = "over %d s" % self.seconds if is_late else (reported or "status %d" % status) if status else ""
         return Measured(used.ru_utime + used.ru_stime, used.ru_maxrss / 1024, digest.hexdigest(), events, fault)
 
     def least(self, words, runs):

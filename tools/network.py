@@ -52,9 +52,9 @@ def marks_of(first, lines):
 
 def judge_run(report, lines):
     """Refuses a workload that isn't that of the report."""
-    told = [(x.event, x.txn) for x in report.records if x.kind == "submit"]
+    reported = [(x.event, x.txn) for x in report.records if x.kind == "submit"]
     done = [(x["event"], x["do"].split(" ")[1]) for x in lines if x["do"].startswith("submit ")]
-    if told != done:
+    if reported != done:
         raise BadInput("the workload isn't that of the report: it submits other transactions, or at other events")
 
 
@@ -116,21 +116,21 @@ def add_down(picture, lane, begin, end):
         return
     left, over = picture.columns.x(begin.event), end is not None and end.event <= picture.last
     right = max(left + 8, picture.columns.x(end.event) if over else picture.columns.right)
-    told = begin.line + ("\n" + end.line if end else "")
+    reported = begin.line + ("\n" + end.line if end else "")
     picture.kinds.add("down")
 
     def draw(y):
-        return [svg.shape("rect", "", told, x=left, y=y - 6, width=right - left, height=12, **DOWN), svg.label(left + 4, y + 3.5, "down")]
+        return [svg.shape("rect", "", reported, x=left, y=y - 6, width=right - left, height=12, **DOWN), svg.label(left + 4, y + 3.5, "down")]
     lane.add(NETWORK, Item(left - 1, max(right, left + 34) + 3, draw))
 
 
-def sample(kind, x, y, told=None):
+def sample(kind, x, y, reported=None):
     if kind == "redeclare":
-        return [svg.shape("path", "", told, d="M%s %sv12" % (svg.number(x), svg.number(y - 6)), **LIST)]
+        return [svg.shape("path", "", reported, d="M%s %sv12" % (svg.number(x), svg.number(y - 6)), **LIST)]
     if kind == "down":
-        return [svg.shape("rect", "", told, x=x - 9, y=y - 5, width=18, height=10, **DOWN)]
+        return [svg.shape("rect", "", reported, x=x - 9, y=y - 5, width=18, height=10, **DOWN)]
     if kind == "lose":
         path = "M%s %sl7 7m0 -7l-7 7" % (svg.number(x - 3.5), svg.number(y - 3.5))
-        return [svg.shape("path", "", told, d=path, stroke=LOST, stroke_width="2"),
+        return [svg.shape("path", "", reported, d=path, stroke=LOST, stroke_width="2"),
                 svg.shape("circle", "", cx=x, cy=y, r=5.5, fill="none", stroke=LOST)]
-    return [svg.shape("circle", "", told, cx=x + dx, cy=y, r=3.2, fill="none", stroke="#444", stroke_width="1.4") for dx in (-2, 2.5)]
+    return [svg.shape("circle", "", reported, cx=x + dx, cy=y, r=3.2, fill="none", stroke="#444", stroke_width="1.4") for dx in (-2, 2.5)]

@@ -14,7 +14,7 @@ class Wait(NamedTuple):
     events: int             # None where the run ends before it is answered
 
 
-class Told:
+class Reported:
     """What a report tells of one transaction."""
 
     def __init__(self, submitted):
@@ -26,7 +26,7 @@ class Told:
 
 
 class Observed(NamedTuple):
-    transactions: dict      # name -> Told
+    transactions: dict      # name -> Reported
     events: int             # the number of the last event with a record
     idle: int               # how many events found nothing to do
 
@@ -35,7 +35,7 @@ class Observed(NamedTuple):
 
 
 def observe(text):
-    told, begun, idle, event = {}, {}, 0, "0"
+    reported, begun, idle, event = {}, {}, 0, "0"
     lines = iter(text.split("\n"))
     for line in lines:
         event_word, _, rest = line.partition(" ")
@@ -46,24 +46,24 @@ def observe(text):
         if kind == "nothing":
             idle += 1
         elif kind in TAKEN:
-            TAKEN[kind](told, begun, int(event), rest.split(" "))
+            TAKEN[kind](reported, begun, int(event), rest.split(" "))
     for (name, _, module), (_, awaited) in begun.items():
-        told[name].waits.append(Wait(module, awaited, None))
+        reported[name].waits.append(Wait(module, awaited, None))
     for line in lines:
         if line.startswith("shipped "):
             _, name, values, rows = line.split(" ")
-            told[name].values, told[name].rows = int(values), int(rows)
+            reported[name].values, reported[name].rows = int(values), int(rows)
         elif line.startswith("copy "):
             break
-    return Observed(told, int(event), idle)
+    return Observed(reported, int(event), idle)
 
 
-def take_submit(told, _, event, words):
-    told[words[0]] = Told(event)
+def take_submit(reported, _, event, words):
+    reported[words[0]] = Reported(event)
 
 
-def take_start(told, _, event, words):
-    mine = told[words[0].partition("#")[0]]
+def take_start(reported, _, event, words):
+    mine = reported[words[0].partition("#")[0]]
     mine.cls, mine.attempts = words[1], mine.attempts + 1
     mine.started = event if mine.started is None else mine.started
 
@@ -73,16 +73,16 @@ def take_wait(_, begun, event, words):
     begun[name, attempt, words[1]] = event, tuple(words[2::2])
 
 
-def take_end(told, begun, event, words):
+def take_end(reported, begun, event, words):
     """An answer or a rejection, which ends a wait where there was one."""
     name, _, attempt = words[0].partition("#")
     since = begun.pop((name, attempt, words[1]), None)
     if since is not None:
-        told[name].waits.append(Wait(words[1], since[1], event - since[0]))
+        reported[name].waits.append(Wait(words[1], since[1], event - since[0]))
 
 
-def take_commit(told, _, event, words):
-    told[words[0].partition("#")[0]].committed = event
+def take_commit(reported, _, event, words):
+    reported[words[0].partition("#")[0]].committed = event
 
 
 TAKEN = {"submit": take_submit, "start": take_start, "wait": take_wait, "answer": take_end, "reject": take_end, "commit": take_commit}

@@ -54,8 +54,8 @@ def assembled(title, data, scripts, styles, more=""):
     """The page, and its policy."""
     script = "\n".join(part(x) for x in scripts)
     style = "\n".join(part(x) for x in styles)
-    told = {"TITLE": html.escape(title), "DATA": embedded(data), "SCRIPT": script, "STYLE": style, "POLICY": policy(style, script, more)}
-    return re.sub("@(TITLE|DATA|SCRIPT|STYLE|POLICY)@", lambda found: told[found[1]], part("page.html")) + "\n", told["POLICY"]
+    reported = {"TITLE": html.escape(title), "DATA": embedded(data), "SCRIPT": script, "STYLE": style, "POLICY": policy(style, script, more)}
+    return re.sub("@(TITLE|DATA|SCRIPT|STYLE|POLICY)@", lambda found: reported[found[1]], part("page.html")) + "\n", reported["POLICY"]
 
 
 def name_of(workload):

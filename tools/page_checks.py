@@ -9,31 +9,31 @@ BATCH = 500
 MOST_SHOWN = 6              # packets of a lane
 SHOW = """(() => {
   const texts = (node, what) => [...node.querySelectorAll(what)].map(x => x.textContent);
-  const told = {lanes: {}, pipes: {}, queues: {}, copies: {}, clocks: {}, down: [], cells: {}, more: {}};
-  for (const lane of document.querySelectorAll("#map .lane")) told.lanes[lane.dataset.link] = [texts(lane, ".chip"), texts(lane, ".more")];
+  const reported = {lanes: {}, pipes: {}, queues: {}, copies: {}, clocks: {}, down: [], cells: {}, more: {}};
+  for (const lane of document.querySelectorAll("#map .lane")) reported.lanes[lane.dataset.link] = [texts(lane, ".chip"), texts(lane, ".more")];
   for (const pipe of document.querySelectorAll("#map .pipe")) {
-    told.pipes[pipe.dataset.pipe] = [texts(pipe, ".chip:not(.processed, .rejected)").reverse(), pipe.querySelector(".passed").textContent];
+    reported.pipes[pipe.dataset.pipe] = [texts(pipe, ".chip:not(.processed, .rejected)").reverse(), pipe.querySelector(".passed").textContent];
   }
   for (const row of document.querySelectorAll("#map .class-row")) {
-    told.queues[row.querySelector("b").textContent] = texts(row, ".attempt, .queued");
+    reported.queues[row.querySelector("b").textContent] = texts(row, ".attempt, .queued");
   }
   for (const site of document.querySelectorAll("#map .site")) {
     const clock = /clock ([0-9]+)/.exec(site.textContent);
-    if (clock) told.clocks[site.id.slice(5)] = +clock[1];
-    if (site.classList.contains("down")) told.down.push(site.id.slice(5));
+    if (clock) reported.clocks[site.id.slice(5)] = +clock[1];
+    if (site.classList.contains("down")) reported.down.push(site.id.slice(5));
   }
   for (const copy of document.querySelectorAll("#map .copy")) {
-    told.copies[copy.dataset.copy] = texts(copy, ".row").filter(x => !/^-?[0-9]+ deleted$/.test(x));
-    told.more[copy.dataset.copy] = parseInt(copy.querySelector(".more")?.textContent || "0");
+    reported.copies[copy.dataset.copy] = texts(copy, ".row").filter(x => !/^-?[0-9]+ deleted$/.test(x));
+    reported.more[copy.dataset.copy] = parseInt(copy.querySelector(".more")?.textContent || "0");
   }
-  for (const cell of document.querySelectorAll("#map td[data-cell]")) told.cells[cell.dataset.cell] = [...cell.querySelectorAll(".halves > span")].map(x => x.textContent);
-  told.event = document.getElementById("event").textContent;
-  told.do = document.getElementById("do").textContent;
-  told.order = texts(document, "#order .done");
-  told.faults = view.run.faults;
-  told.odd = (document.body.innerText.match(/.*(undefined|NaN|\\[object|Infinity|nul[l]\\b).*/) || [null])[0];
-  told.wide = document.documentElement.scrollWidth > innerWidth;
-  return told;
+  for (const cell of document.querySelectorAll("#map td[data-cell]")) reported.cells[cell.dataset.cell] = [...cell.querySelectorAll(".halves > span")].map(x => x.textContent);
+  reported.event = document.getElementById("event").textContent;
+  reported.do = document.getElementById("do").textContent;
+  reported.order = texts(document, "#order .done");
+  reported.faults = view.run.faults;
+  reported.odd = (document.body.innerText.match(/.*(undefined|NaN|\\[object|Infinity|nul[l]\\b).*/) || [null])[0];
+  reported.wide = document.documentElement.scrollWidth > innerWidth;
+  return reported;
 })()"""
 FLIGHTS = """Array.from({length: %d}, () => {
   const line = view.run.lines[tried.event];
@@ -140,7 +140,7 @@ class Check:
             same(at + "passed in the pipe " + name, passed, "nothing yet" if time is None else "passed %d" % time)
         for site, clock in shown["clocks"].items():
             same(at + "the clock of " + site, clock, self.reader.sites.get(site, {"clock": 0})["clock"])
-        down = {x for x, told in self.reader.sites.items() if told.get("down")}
+        down = {x for x, reported in self.reader.sites.items() if reported.get("down")}
         if self.is_small:
             same(at + "modules that are down", sorted(shown["down"]), sorted(down))
             waiting = {"%s %s" % place for place, pipe in self.reader.pipes.items() if pipe}

@@ -44,8 +44,8 @@ class Served:
     def events(self):
         return self.page.tell("view.run.data.events")
 
-    def told(self):
-        return self.page.tell("document.getElementById('told').textContent")
+    def reported_text(self):
+        return self.page.tell("document.getElementById('reported').textContent")
 
     def fill(self, selector, text):
         self.page.tell("document.querySelector(%s).select()" % json.dumps(selector))
@@ -157,9 +157,9 @@ def earlier(browser, programs, folder, catalogue, workload):
         before = served.page.tell("view.run.lines.map(x => x.do)")
         served.page.tell("view.go(%d)" % (len(want) + 3))
         served.click("#settle")
-        same("the question", served.told().startswith("The page shows an earlier moment"), True)
+        same("the question", served.reported_text().startswith("The page shows an earlier moment"), True)
         same("the schedule before the question is answered", served.events(), want)
-        served.click("#told button")
+        served.click("#reported button")
         served.page.wait("view.run.data.events.at(-1) === 'settle' && !view.play.isBusy && view.run.data.events.length > %d" % len(want))
         same("the schedule", served.events(), before[:len(want) + 3] + ["settle"])
         same("the run", served.page.tell("view.run.lines.map(x => x.do)"), before)
@@ -175,7 +175,7 @@ def earlier(browser, programs, folder, catalogue, workload):
         served.page.press("Home")
         served.choose("#unsubmitted", "close")
         served.click("#submit")
-        served.click("#told button")
+        served.click("#reported button")
         served.page.wait("view.run.data.events.length === 1 && !view.play.isBusy")
         same("the schedule from the beginning on", served.events(), ["submit close"])
         served.click("#anew")
@@ -184,18 +184,18 @@ def earlier(browser, programs, folder, catalogue, workload):
 
 
 def refusals(browser, programs, folder, catalogue, workload):
-    """What the program refuses is told with the line that was typed, and changes nothing."""
+    """What the program refuses is reported with the line that was typed, and changes nothing."""
     with Served(browser, programs, catalogue, None, folder) as served:
         served.write(["txn t T1", "query 1.number from seat", "put seat 1", "done"])
         served.click("#add-submit")
-        same("what is told", served.told(), "line 3, `put seat 1`: WrongKind (a value of another kind than its column, or another number of values)")
+        same("what is reported", served.reported_text(), "line 3, `put seat 1`: WrongKind (a value of another kind than its column, or another number of values)")
         served.fill("#txn-text", "query 1.number from seats")
         served.click("#add")
-        same("what is told", served.told().startswith("line 2, `query 1.number from seats`: UnknownName"), True)
+        same("what is reported", served.reported_text().startswith("line 2, `query 1.number from seats`: UnknownName"), True)
         same("the workload", served.saved(), "end\n")
         served.fill("#txn-text", "query 1.number from seat")
         served.click("#add-submit")
-        same("what is told of the class", "runs undeclared" in served.told(), True)
+        same("what is reported of the class", "runs undeclared" in served.reported_text(), True)
         served.fill("#site-T1 .tick input", "0")
         served.click("#site-T1 .tick button")
         same("the schedule", served.events(), ["submit t"])
@@ -205,7 +205,7 @@ def refusals(browser, programs, folder, catalogue, workload):
         with other:
             other.page.tell("view.play.token = 'none'; view.play.change({do: 'undo'})")
             other.settle()
-            same("what is told without the token", other.told().startswith("no token"), True)
+            same("what is reported without the token", other.reported_text().startswith("no token"), True)
             same("the schedule", len(other.events()), len(read_parts(text_of(workload)).events))
 
 

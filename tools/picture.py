@@ -9,7 +9,7 @@ there, the changes that were applied, and the times that classes passed. Below s
 CATALOGUE adds the transaction module of each class, and all its classes and modules, in their order;
 without it the lanes are those of which the report speaks. WORKLOAD adds what the network does: packets
 that are lost or repeated, data modules that are down, and the class lists that are put in force,
-with the modules of their classes; the numbers of these events are told by the programs that tools/page.py
+with the modules of their classes; the numbers of these events are reported by the programs that tools/page.py
 takes. Of a long report the first 120 columns are drawn where --from and --to
 name no others. Under the pointer each mark tells its line of the report.
 """
@@ -89,23 +89,23 @@ class Picture:
             return
         colour, x = self.trace.colour(txn), self.columns.x(submit.event)
         until = self.columns.x(start.event) if start and start.event <= self.last else self.columns.right
-        told = submit.line
+        reported = submit.line
         if txn in self.trace.pending and not start:
-            told += "\npending %s %s" % (txn, " ".join(self.trace.pending[txn].words))
+            reported += "\npending %s %s" % (txn, " ".join(self.trace.pending[txn].words))
 
         def mark(y):
-            return [self.triangle(x, y, colour, told), svg.label(x + 7, y - 2, txn)]
+            return [self.triangle(x, y, colour, reported), svg.label(x + 7, y - 2, txn)]
 
         def draw(y):
             path = "M%s %sH%s" % (svg.number(x), svg.number(y), svg.number(until))
-            return [svg.shape("path", "queue", told, d=path, stroke=colour)] + mark(y)
+            return [svg.shape("path", "queue", reported, d=path, stroke=colour)] + mark(y)
         self.kinds.add("submit")
         end = x + 9 + svg.width_of(txn)
         short = Item(x - 5, end, mark) if self.columns.has(submit.event) else None
         lane.add(WAITING, Item(x - 5, max(until, end), draw, short=short))
 
-    def triangle(self, x, y, colour, told=None):
-        return svg.shape("path", "", told, d="M%s %sl-4 -7h8z" % (svg.number(x), svg.number(y + 4)), fill=colour)
+    def triangle(self, x, y, colour, reported=None):
+        return svg.shape("path", "", reported, d="M%s %sl-4 -7h8z" % (svg.number(x), svg.number(y + 4)), fill=colour)
 
     def add_attempt(self, lane, start):
         key = (start.txn, start.attempt)
@@ -121,7 +121,7 @@ class Picture:
         right = self.columns.x(end.event) if over else self.columns.right
         right = max(right - (3 if over and end is again else 0), x + 8)
         inside = svg.width_of(name) + 6 <= right - x
-        told = start.line + ("\n" + end.line if end else "\npending")
+        reported = start.line + ("\n" + end.line if end else "\npending")
         refused = end is not commit and key in self.trace.rejects
         style = "bar no" if refused else "bar"
         at_once = self.columns.has(start.event) and self.trace.submits[start.txn].event == start.event
@@ -129,7 +129,7 @@ class Picture:
         self.kinds |= {"no" if refused else "bar"} | ({"submit"} if at_once else set())
 
         def draw(y):
-            shapes = [self.bar(style, x, right, y, colour, told, open_end=not over)]
+            shapes = [self.bar(style, x, right, y, colour, reported, open_end=not over)]
             if at_once:
                 shapes.append(self.triangle(x, y - 8, colour))
             return shapes + [svg.label(x + 4 if inside else right + 3, y + 3.5, name)]
@@ -138,12 +138,12 @@ class Picture:
             anchors["commit", start.txn] = right
         lane.add(SERVED, Item(x - (4 if at_once else -0.1), right + (0 if inside else 6 + svg.width_of(name)), draw, anchors))
 
-    def bar(self, style, left, right, y, colour, told, open_end=False):
+    def bar(self, style, left, right, y, colour, reported, open_end=False):
         """A bar; what isn't over at the right is open there."""
         if open_end:
             path = "M%s %sH%sV%sH%s" % tuple(svg.number(v) for v in (right, y - 6, left, y + 6, right))
-            return svg.shape("path", style, told, d=path, stroke=colour, fill=colour)
-        return svg.shape("rect", style, told, x=left, y=y - 6, width=right - left, height=12, rx=2, stroke=colour, fill=colour)
+            return svg.shape("path", style, reported, d=path, stroke=colour, fill=colour)
+        return svg.shape("rect", style, reported, x=left, y=y - 6, width=right - left, height=12, rx=2, stroke=colour, fill=colour)
 
     def add_reads(self):
         for x in self.trace.report.records:
@@ -168,26 +168,26 @@ class Picture:
         if wait and svg.width_of(said) > room > 60:
             said = short if svg.width_of(short) <= room else short[:int(room / svg.CHARACTER) - 2] + ".."
         inside = wait and svg.width_of(said) <= room
-        told = "\n".join(v.line for v in (arrive, wait, end) if v)
+        reported = "\n".join(v.line for v in (arrive, wait, end) if v)
         self.kinds |= {v.kind for v in (wait, end) if v}
 
         def draw(y):
-            shapes = [self.bar("wait", x, right, y, colour, told, open_end=not over)] if wait else []
+            shapes = [self.bar("wait", x, right, y, colour, reported, open_end=not over)] if wait else []
             if over:
-                shapes.append(self.end_of_read(end, right, y, colour, told))
+                shapes.append(self.end_of_read(end, right, y, colour, reported))
             elif not wait:
-                shapes.append(svg.shape("circle", "", told, cx=x, cy=y, r=2.5, fill=colour))
+                shapes.append(svg.shape("circle", "", reported, cx=x, cy=y, r=2.5, fill=colour))
             return shapes + [svg.label(x + 4 if inside else right + 7, y + 3.5, said)]
         anchors = {("arrive",) + key: x} if self.columns.has(arrive.event) else {}
         if over:
             anchors[(end.kind,) + key] = right
         self.lanes["module", arrive.site].add(READS, Item(x - 5, right + (6 if inside else 9 + svg.width_of(said)), draw, anchors))
 
-    def end_of_read(self, end, x, y, colour, told):
+    def end_of_read(self, end, x, y, colour, reported):
         if end.kind == "answer":
-            return svg.shape("circle", "", told, cx=x, cy=y, r=4.5, fill=colour)
+            return svg.shape("circle", "", reported, cx=x, cy=y, r=4.5, fill=colour)
         path = "M%s %sl8 8m0 -8l-8 8" % (svg.number(x - 4), svg.number(y - 4))
-        return svg.shape("path", "", told, d=path, stroke=REFUSED, stroke_width="2.2")
+        return svg.shape("path", "", reported, d=path, stroke=REFUSED, stroke_width="2.2")
 
     def add_applies(self):
         for x in self.records:
@@ -246,13 +246,13 @@ class Picture:
         return svg.whole(max(right, LEAST_WIDTH) + 4, y, STYLE, shapes + more)
 
     def axis(self, bottom):
-        shapes, told = [], 0
+        shapes, reported = [], 0
         for event in self.columns.all:
             x, half = self.columns.x(event), svg.width_of(str(event)) * 0.45 + 2
             shapes.append(svg.shape("path", "grid", d="M%s %sV%s" % (svg.number(x), TOP - 4, svg.number(bottom))))
-            if x - half > told:
+            if x - half > reported:
                 shapes.append(svg.label(x, TOP - 8, str(event), "s n"))
-                told = x + half
+                reported = x + half
         return [svg.label(self.left - 12, TOP - 8, "event", "s e")] + shapes
 
     def ways(self):

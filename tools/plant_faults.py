@@ -98,9 +98,9 @@ class Tally:
             text = plant(case, kind, self.rng, self.folder) if self.planted[kind] < self.each else None
             if text is not None:
                 self.planted[kind] += 1
-                told = judge(case, text, self.folder)
-                self.found[kind] += bool(told)
-                self.note("" if told else "not found in %s: %s" % (case.name, kind))
+                reported = judge(case, text, self.folder)
+                self.found[kind] += bool(reported)
+                self.note("" if reported else "not found in %s: %s" % (case.name, kind))
 
     def note(self, text):
         if self.show and text:

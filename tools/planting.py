@@ -42,7 +42,7 @@ def with_other_value(line, rng):
 
 
 def exchange_replies(lines, report, _, rng):
-    """Two transactions that ask for as much are told what the other one is told."""
+    """Two transactions that ask for as much get each other's answers."""
     blocks = reply_blocks(lines)
     pairs = [(a, b) for a in blocks for b in blocks if a < b and report.replies[a] != report.replies[b]
              and len(report.replies[a].queries) == len(report.replies[b].queries) > 0]
@@ -79,7 +79,7 @@ def add_reply_row(lines, _, __, rng):
 
 
 def answer_from_first_rows(lines, report, run, rng):
-    """A transaction is told what the first rows of the workload would answer."""
+    """A transaction is answered as by the first rows of the workload."""
     blocks, found = reply_blocks(lines), []
     first = {}
     for relation in run.catalogue.relations:
@@ -104,7 +104,7 @@ def format_value(value):
 
 
 def change_outcome(lines, _, __, rng):
-    """A transaction that did what it should is told that a sum left the range of numbers."""
+    """A transaction that did what it should is answered that a sum left the range of numbers."""
     blocks = [(a, b) for a, b in reply_blocks(lines).values() if lines[a].endswith(" ok")]
     if not blocks:
         return None

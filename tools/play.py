@@ -104,10 +104,10 @@ class Handler(http.server.BaseHTTPRequestHandler):
             if self.path == "/save":
                 return self.tell(200, self.server.game.text(), "text/plain; charset=utf-8")
             try:
-                told, status = self.server.game.act(json.loads(body))
+                reported, status = self.server.game.act(json.loads(body))
             except (ValueError, RecursionError):
-                told, status = {"refused": "no JSON object"}, 400
-        return self.tell(status, told)
+                reported, status = {"refused": "no JSON object"}, 400
+        return self.tell(status, reported)
 
 
 def main():

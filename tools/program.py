@@ -120,8 +120,8 @@ def read_outcomes(names, text, errors):
 
 def demand_text(outcome, words):
     if outcome.status:
-        told = outcome.error.strip().split("\n")[0] or "it printed nothing"
-        raise BadInput("%s: status %d: %s" % (words[0], outcome.status, told))
+        reported = outcome.error.strip().split("\n")[0] or "it printed nothing"
+        raise BadInput("%s: status %d: %s" % (words[0], outcome.status, reported))
     return outcome.text
 
 

@@ -124,9 +124,9 @@ def page_of(parts, rows):
         lines += ["| crate | lemmas that are taken from it | lines |", "|---|---|---|"]
         for crate in sorted(sizes, key=lambda it: -order.get(it, 0)):
             most = sorted(taken.get(crate, ()), key=lambda key: (-len(antt.reached(parts, [key])), key))[:3]
-            told = ", ".join("`%s` (%s)" % (parts[key].name, parts[key].place.partition("/")[2]) for key in most)
+            reported = ", ".join("`%s` (%s)" % (parts[key].name, parts[key].place.partition("/")[2]) for key in most)
             rest = len(taken.get(crate, ())) - len(most)
-            lines.append("| `%s` | %s%s | %d |" % (crate, told or "its own", " and %d more" % rest if rest else "", sizes[crate]))
+            lines.append("| `%s` | %s%s | %d |" % (crate, reported or "its own", " and %d more" % rest if rest else "", sizes[crate]))
         lines.append("")
     return "\n".join(lines)
 

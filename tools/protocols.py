@@ -6,7 +6,7 @@ import re
 
 from report import BadInput
 
-MOST = 24                   # of more pairs of a reader and a writer these are told
+MOST = 24                   # of more pairs of a reader and a writer these are reported
 NAME = r"([A-Za-z][A-Za-z0-9_]*)"
 READ = re.compile("%s reads %s at (D\\d+) writer %s (P[123]) block (\\d+|-)" % (NAME, NAME, NAME))
 

@@ -134,7 +134,7 @@ def toml_value(rng, depth=0):
 
 
 def toml_call(rng):
-    """A table with a field more; where it is TOML, that is told as a fault of form."""
+    """A table with a field more; where it is TOML, that is reported as a fault of form."""
     lines = ["tms = 1", "dms = 1"]
     for _ in range(rng.choice([1, 1, 1, 2, 3])):
         key = rng.choice(["x", "x", "x", "y", "tms", "relation", "a.b", "a", "'k k'", '"\\u0061"', "é", "-", "1", "a . c", '""',

@@ -9,7 +9,7 @@ FILE is a built program and WORD .. are its words. The call is made once with al
 each N from 1 to the number of its allocations it is made twice more: once the Nth allocation alone is
 refused, and once the Nth and all later ones are. Each of these calls must end with the whole text and
 status 0, or with `no memory` on standard error, nothing on standard output and status 8. A call that
-ends in another way is told, and the script ends with status 1.
+ends in another way is reported, and the script ends with status 1.
 
 The allocations are refused by a small library that is compiled with cc and preloaded (LD_PRELOAD): it
 counts the calls of malloc, calloc and realloc from the start of the process. --step N tries every Nth
@@ -33,7 +33,7 @@ extern void *__libc_calloc(size_t, size_t);
 extern void *__libc_realloc(void *, size_t);
 
 static long made, first = -1, last;
-static int counting, told;
+static int counting, reported;
 
 static long number_in(const char *name, long otherwise) {
     const char *word = getenv(name);
@@ -58,7 +58,7 @@ __attribute__((destructor)) static void tell(void) {
     char digits[24];
     int at = sizeof digits;
     long left = made;
-    if (!counting || told++) return;
+    if (!counting || reported++) return;
     do { digits[--at] = '0' + left % 10; left /= 10; } while (left);
     if (write((int)number_in("COUNT_TO", 2), digits + at, sizeof digits - at) < 0) return;
 }
@@ -102,13 +102,13 @@ def counted(command, library):
     """How many allocations the call makes, and its text."""
     reading, writing = os.pipe()
     try:
-        status, text, told = called(command, library, {"COUNT_TO": str(writing)}, (writing,))
+        status, text, reported = called(command, library, {"COUNT_TO": str(writing)}, (writing,))
     finally:
         os.close(writing)
     with os.fdopen(reading, "rb") as f:
         count = f.read()
     if status:
-        raise BadCall("with all its memory the call ends with status %d: %s" % (status, told.decode(errors="replace").strip()))
+        raise BadCall("with all its memory the call ends with status %d: %s" % (status, reported.decode(errors="replace").strip()))
     if not count:
         raise BadCall("no allocation was counted: the program isn't linked with the system's C library")
     return int(count), text

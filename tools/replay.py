@@ -58,8 +58,8 @@ class Reader:
             raise Contradiction("event %d takes what isn't at that place" % self.event)
         del flight[place - 1]
 
-    def put(self, link, told):
-        for x in told:
+    def put(self, link, reported):
+        for x in reported:
             if isinstance(x, dict) and "n" in x:
                 self.bodies[link + (x["n"],)] = x
                 self.sent[link] = x["n"]
@@ -70,5 +70,5 @@ class Reader:
         """A packet as a page names it."""
         if isinstance(packet, dict):
             return "ack %d" % packet["ack"]
-        told = self.bodies[link + (packet,)]
-        return told["kind"] + (" %d" % told["time"] if "time" in told else "")
+        reported = self.bodies[link + (packet,)]
+        return reported["kind"] + (" %d" % reported["time"] if "time" in reported else "")

@@ -111,13 +111,13 @@ def record_of(place, line):
     found = re.fullmatch(form, words)
     if found is None:
         return None
-    told = dict(zip(names.split(), found.groups()))
-    for name in NUMBERS & told.keys():
-        told[name] = None if told[name] == "-" else int(told[name])
+    reported = dict(zip(names.split(), found.groups()))
+    for name in NUMBERS & reported.keys():
+        reported[name] = None if reported[name] == "-" else int(reported[name])
     if kind == "wait":
-        words = told["waits"].split()
-        told["waits"] = tuple(zip(words[::2], map(int, words[1::2])))
-    return Record(place, int(event), kind, line, **told)
+        words = reported["waits"].split()
+        reported["waits"] = tuple(zip(words[::2], map(int, words[1::2])))
+    return Record(place, int(event), kind, line, **reported)
 
 
 class Lines:
@@ -145,7 +145,7 @@ class Lines:
         for _ in range(count):
             row = row_of(self.take()) if self.head() == "row" else None
             if row is None:
-                self.fault("fewer rows than are told")
+                self.fault("fewer rows than are reported")
             rows.append(row)
         return rows
 

@@ -21,11 +21,11 @@ def main():
     add_program(asked)
     program = Program(asked.parse_args().program)
     catalogues = sorted(glob.glob(os.path.join(CRATE, "data", "*.toml")))
-    told = {command: program.ask_all([command, "{}"], catalogues) for command in COMMANDS}
+    reported = {command: program.ask_all([command, "{}"], catalogues) for command in COMMANDS}
     for k, catalogue in enumerate(catalogues):
         for command in COMMANDS:
             print("$ sdd1 %s %s" % (command, os.path.basename(catalogue)))
-            print(demand_text(told[command][k], [command]), end="")
+            print(demand_text(reported[command][k], [command]), end="")
 
 
 if __name__ == "__main__":

@@ -52,8 +52,8 @@ class Shrinker:
     def asks(self):
         if self.program is None:
             return run_outside(parts_of(self.asked.command), self.paths).returncode == 0
-        told = self.program.ask(["run"] + self.paths)
-        return any(self.asked.keep in line for line in (told.text + told.error).split("\n"))
+        reported = self.program.ask(["run"] + self.paths)
+        return any(self.asked.keep in line for line in (reported.text + reported.error).split("\n"))
 
     def cut_workload(self):
         """Leaves out parts of the workload, large ones first; whether one was."""

@@ -30,12 +30,12 @@ class Token(NamedTuple):
 
 class Parameter(NamedTuple):
     name: str
-    low: int                # its domain; None where none is told
+    low: int                # its domain; None where none is reported
     high: int
 
 
 class Column(NamedTuple):
-    table: str              # or an alias; None where none is told
+    table: str              # or an alias; None where none is reported
     name: str
 
 

@@ -40,9 +40,9 @@ class Programs(NamedTuple):
     def named(self):
         """Which programs these are, in one line."""
         sdd1, inside = named(self.sdd1), named(self.inside)
-        told = "told by %s" % sdd1 if sdd1 == inside else "the report is told by %s, the events by %s" % (sdd1, inside)
+        source = "reported by %s" % sdd1 if sdd1 == inside else "the report is made by %s, the events by %s" % (sdd1, inside)
         why = ": no sdd1_inside is built here or on the path" if inside == REFERENCE_NAME else ""
-        return "%s: %s%s" % (os.path.basename(sys.argv[0]), told, why)
+        return "%s: %s%s" % (os.path.basename(sys.argv[0]), source, why)
 
 
 class Refused(BadInput):
@@ -57,8 +57,8 @@ def output_of(command, seconds):
     except OSError as fault:
         raise BadInput("%s doesn't run: %s" % (command[0], fault.strerror)) from None
     if done.returncode:
-        told = done.stderr.decode(errors="replace").strip().split("\n")[-1]
-        raise Refused(told or "%s ended with status %d" % (os.path.basename(command[0]), done.returncode))
+        fault = done.stderr.decode(errors="replace").strip().split("\n")[-1]
+        raise Refused(fault or "%s ended with status %d" % (os.path.basename(command[0]), done.returncode))
     return done.stdout.decode()
 
 
@@ -119,12 +119,12 @@ def read_text(text):
     if len(lines) - 1 > MOST_EVENTS:
         raise BadInput("the run has %d events; a page shows at most %d" % (len(lines) - 1, MOST_EVENTS))
     try:
-        told = [json.loads(x, parse_int=exact) for x in lines]
-        if told[0]["inside"] != 1 or any(x["event"] != k for k, x in enumerate(told[1:], 1)):
+        shown = [json.loads(x, parse_int=exact) for x in lines]
+        if shown[0]["inside"] != 1 or any(x["event"] != k for k, x in enumerate(shown[1:], 1)):
             raise BadInput("the text of the events isn't in the form that this script reads")
     except (ValueError, KeyError, TypeError):
         raise BadInput("the text of the events isn't in the form that this script reads") from None
-    return told[0], told[1:]
+    return shown[0], shown[1:]
 
 
 class Reported(NamedTuple):

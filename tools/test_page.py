@@ -113,8 +113,8 @@ class Tests:
         self.tried += 1
         begin = time.monotonic()
         try:
-            told = check()
-            print("%s: good%s, %.1f s" % (name, told and ", " + told or "", time.monotonic() - begin), flush=True)
+            reported = check()
+            print("%s: good%s, %.1f s" % (name, reported and ", " + reported or "", time.monotonic() - begin), flush=True)
         except (Wrong, Fault, BadInput) as fault:
             self.bad += 1
             print("%s: WRONG: %s" % (name, fault), flush=True)

@@ -48,9 +48,9 @@ class Tests:
         link.endheaders()
         link.send(body)
         answer = link.getresponse()
-        told = answer.status, answer.read(), dict(answer.getheaders())
+        reported = answer.status, answer.read(), dict(answer.getheaders())
         link.close()
-        return told
+        return reported
 
     def expect(self, name, status, *words, **more):
         have, body, headers = self.answer(*words, **more)
@@ -59,10 +59,10 @@ class Tests:
             fault = "the workload changed"
         if any(x.lower().startswith("access-control") for x in headers):
             fault = "another site may read the answer"
-        self.told(name, fault)
+        self.judge(name, fault)
         return body
 
-    def told(self, name, fault):
+    def judge(self, name, fault):
         self.tried += 1
         self.bad += bool(fault)
         print("%s: %s" % (name, "WRONG: " + fault if fault else "good"))
@@ -115,12 +115,12 @@ class Tests:
             self.post("the event %s" % json.dumps(line), 400, {**EVENT, "line": line})
         for ask in ({"do": "event", "line": "submit nobody", "version": 0}, {"do": "txn", "text": ["txn x T9", "done"], "version": 0},
                     {"do": "row", "text": "row seat 8 \"free\"", "version": 0}, {"do": "redo", "version": 0}):
-            told = json.loads(self.post("refused: %s" % json.dumps(ask), 200, ask))
-            self.told("its line", "" if told.get("refused") else "nothing is told")
+            reported = json.loads(self.post("refused: %s" % json.dumps(ask), 200, ask))
+            self.judge("its line", "" if reported.get("refused") else "nothing is reported")
 
     def page(self):
         body = self.expect("the page", 200, "GET", "/", {"Host": self.host})
-        self.told("the page without the token", "the token stands in it" if self.server.token.encode() in body else "")
+        self.judge("the page without the token", "the token stands in it" if self.server.token.encode() in body else "")
         for path in ("/../etc/passwd", "/workload", "/do", "/save", "/?x", "/%2e%2e/"):
             self.expect("the place " + path, 404, "GET", path, {"Host": self.host})
         self.post("the place /run", 404, LOOK, path="/run")
@@ -138,7 +138,7 @@ class Tests:
             fault = "it answers at another address" if not socket.gethostbyname(socket.gethostname()).startswith("127.") else ""
         except OSError:
             fault = ""
-        self.told("another address of this machine", fault)
+        self.judge("another address of this machine", fault)
 
     def limits(self):
         """A workload that grows too long is refused, and is then as it was."""
@@ -146,8 +146,8 @@ class Tests:
         keep = len(self.server.game.parts.events)
         self.server.game.parts.events.extend(["settle"] * 19000)
         self.text = self.server.game.text()
-        told = json.loads(self.post("too many events", 200, {"do": "back", "keep": keep + 19000, "spelled": put[:1500], "version": 0}))
-        self.told("its line", "" if told.get("refused") == "the workload would be too long" else str(told)[:80])
+        reported = json.loads(self.post("too many events", 200, {"do": "back", "keep": keep + 19000, "spelled": put[:1500], "version": 0}))
+        self.judge("its line", "" if reported.get("refused") == "the workload would be too long" else str(reported)[:80])
 
 
 def main():

@@ -50,7 +50,7 @@ class Committed(NamedTuple):
     time: int
     seen: dict              # fragment -> the numbers of transactions whose changes are seen there
     reads: tuple            # its reads, by the records: pairs of an item and versions
-    told: tuple             # its further reads, by the reply
+    reported: tuple             # its further reads, by the reply
     changes: dict
 
 
@@ -131,14 +131,14 @@ class Run:
     def add(self, commit, seen, changes):
         transaction = self.transaction(commit.txn)
         reply = self.report.replies[commit.txn]
-        told = ()
+        reported = ()
         if self.replies(transaction, seen) != reply:
-            told = self.explained(transaction, seen, reply)
+            reported = self.explained(transaction, seen, reply)
         begin = self.starts[commit.txn, 1].place
         time = self.starts[commit.txn, commit.attempt].time
         self.committed[commit.txn] = Committed(
             transaction.number, commit.txn, self.class_of(commit), begin, commit.place, time, seen,
-            self.listed(transaction, seen), told, changes)
+            self.listed(transaction, seen), reported, changes)
 
     def explained(self, transaction, seen, reply):
         """Reads that give this reply: of what another transaction saw, of the first rows, or of all."""
@@ -161,19 +161,19 @@ class Run:
 
     def copy_reads(self, site, fragment, rows):
         key = self.catalogue.relations[fragment.relation].key
-        told = {}
+        reported = {}
         for row in rows:
-            told.setdefault((fragment.relation, row[key]), []).append(row)
+            reported.setdefault((fragment.relation, row[key]), []).append(row)
         items = [x for x in self.versions if fragment.has(*x)]
-        items += [x for x in told if not fragment.has(*x) or x not in self.versions]
+        items += [x for x in reported if not fragment.has(*x) or x not in self.versions]
         applied = {n for _, n in self.applied.get(site, [])} | {FIRST_ROWS}
         complete = all(v.writer in applied for x in items for v in self.versions.get(x, []))
         made = []
         for item in items:
             shown = [x for x in self.versions.get(item, []) if x.writer in applied]
             right = [shown[-1].row] if shown and shown[-1].row is not None else []
-            if not fragment.has(*item) or told.get(item, []) != right:
-                made += self.wrong_row(item, shown, told.get(item, []))
+            if not fragment.has(*item) or reported.get(item, []) != right:
+                made += self.wrong_row(item, shown, reported.get(item, []))
             elif complete:
                 made.append((item, writers_of(shown)))
         return made
@@ -211,7 +211,7 @@ def history(run, along_order=False):
         place = run.report.order.index(x.name)
         begin, end, process = (place, place, "order") if along_order else (x.begin, x.end, x.process)
         appends = [micro("append", item, x.number) for item in x.changes]
-        both = x.reads + x.told
+        both = x.reads + x.reported
         events.append((begin, "invoke", process, [micro("r", item, None) for item, _ in both] + appends, x.name))
         events.append((end, "ok", process, [micro("r", *read) for read in both] + appends, x.name))
     last = len(run.report.records)

@@ -58,7 +58,7 @@ function laneOf(view, from, site, line) {
 function siteCard(view, site, line, isShort = false) {
   const card = element("div", "site " + site[0]), body = element("div", "body"), head = element("h2", "", site);
   card.id = "site-" + site;
-  if ((line?.sites || []).some(told => told.at === site)) card.classList.add("touched");
+  if ((line?.sites || []).some(reported => reported.at === site)) card.classList.add("touched");
   body.append(head);
   if (site[0] === "D") dataModule(view, site, line, card, head, body);
   else transactionModule(view, site, head, body);
@@ -68,32 +68,32 @@ function siteCard(view, site, line, isShort = false) {
 }
 
 function transactionModule(view, site, head, body) {
-  const told = view.state.site(site), number = +site.slice(1) || 0;
+  const reported = view.state.site(site), number = +site.slice(1) || 0;
   head.append(element("small", "", site === "U" ? "undeclared transactions" : "transaction module"));
-  if (told.hold) {
+  if (reported.hold) {
     const mark = element("span", "state", "ON HOLD");
     mark.title = "An undeclared transaction wants to run: what runs here comes to its end, and nothing new starts.";
     head.append(mark);
   }
-  body.append(element("div", "faint", `clock ${told.clock}; the next start gets ${(told.clock + 1) * 64 + number}`));
+  body.append(element("div", "faint", `clock ${reported.clock}; the next start gets ${(reported.clock + 1) * 64 + number}`));
   const classes = site === "U" ? ["-"] : view.run.classesOf(site, view.state.list);
   for (const cls of view.run.classes) {
     const isBusy = view.state.queue(cls).length && view.run.home.get(cls) === site;
     if (isBusy && !classes.includes(cls)) classes.push(cls);
   }
-  for (const cls of classes) body.append(classRow(view, site, told, cls));
-  for (const [cls, from, time] of told.asks || []) {
+  for (const cls of classes) body.append(classRow(view, site, reported, cls));
+  for (const [cls, from, time] of reported.asks || []) {
     body.append(element("div", "state", `${from} asks: has ${cls} passed ${time}? Not yet.`));
   }
   if (view.play && site !== "U") body.append(view.play.tickControl(site));
 }
 
-function classRow(view, site, told, cls) {
-  const row = element("div", "class-row"), active = (told.active || []).find(x => x.class === cls);
+function classRow(view, site, reported, cls) {
+  const row = element("div", "class-row"), active = (reported.active || []).find(x => x.class === cls);
   const queue = view.state.queue(cls), rest = active ? queue.slice(1) : queue;
   row.append(element("b", "", className(cls)));
   if (active) row.append(element("span", "attempt", `${active.txn} @${active.time}`), element("span", "faint", `${active.phase}; waits for ${(active.lacks || []).join(" ")}`));
-  else if (site === "U" && told.phase !== "idle") row.append(element("span", "faint", `${told.phase}; waits for ${(told.lacks || []).join(" ")}`));
+  else if (site === "U" && reported.phase !== "idle") row.append(element("span", "faint", `${reported.phase}; waits for ${(reported.lacks || []).join(" ")}`));
   else row.append(element("span", "faint", "idle"));
   const key = "queue " + cls, most = view.opened.has(key) ? rest.length : 4;
   rest.slice(0, most).forEach(name => row.append(element("span", "queued", name)));
@@ -102,19 +102,19 @@ function classRow(view, site, told, cls) {
 }
 
 function dataModule(view, site, line, card, head, body) {
-  const told = view.state.site(site);
+  const reported = view.state.site(site);
   head.append(element("small", "", "data module"));
-  if (told.down) {
+  if (reported.down) {
     card.classList.add("down");
     head.append(element("span", "state", "DOWN"));
   }
-  if (view.play) head.append(view.play.downButton(site, told.down));
-  body.append(...pipeRows(view, site, told, line));
+  if (view.play) head.append(view.play.downButton(site, reported.down));
+  body.append(...pipeRows(view, site, reported, line));
   for (const copy of view.run.copiesAt(site)) body.append(copyRows(view, copy));
 }
 
-function pipeRows(view, site, told, line) {
-  const rows = [], quiet = [], heads = told.heads || [];
+function pipeRows(view, site, reported, line) {
+  const rows = [], quiet = [], heads = reported.heads || [];
   const wanted = new Set(heads.flatMap(head => head.waits || []).map(([cls]) => cls));
   const changed = new Set((line?.pipes || []).filter(pipe => pipe.at === site).map(pipe => pipe.class));
   for (const cls of [...view.run.classes, "-"]) {
@@ -153,9 +153,9 @@ function whyWords(head) {
 
 // Without what was processed last, a read that was rejected would leave nothing to look at.
 function processedLast(view, site, link, pipe) {
-  const made = messageChip(view, link, pipe.last), told = view.run.message(link, pipe.last);
+  const made = messageChip(view, link, pipe.last), reported = view.run.message(link, pipe.last);
   const records = view.run.recordsAt.get(pipe.lastAt) || [];
-  const isRejected = records.some(({words}) => words[0] === "reject" && words[1] === told?.txn && words[2] === site);
+  const isRejected = records.some(({words}) => words[0] === "reject" && words[1] === reported?.txn && words[2] === site);
   made.classList.add(isRejected ? "rejected" : "processed");
   made.title = `${isRejected ? "rejected" : "processed last"}, at event ${pipe.lastAt}: ${made.title}`;
   return made;

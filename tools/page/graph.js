@@ -6,8 +6,8 @@ const PROTOCOLS = {P1: "#888888", P2: "#56B4E9", P3: "#D55E00"};
 const BLOCKS = ["#0072B2", "#D55E00", "#009E73", "#CC79A7", "#E69F00", "#56B4E9", "#7a5195", "#8c6d31"];
 
 function tableEdges(run) {
-  return run.data.table.map(told => {
-    const [reader, , fragment, , module, , writer, protocol, , block] = told.split(" ");
+  return run.data.table.map(reported => {
+    const [reader, , fragment, , module, , writer, protocol, , block] = reported.split(" ");
     return {reader, fragment, module, writer, protocol, block};
   });
 }

@@ -25,7 +25,7 @@ function columnsOf(view, line) {
 // Below a matrix stand the cards of the site that is selected, and of those that took part, at most two.
 function cardsBelow(view, line) {
   const below = element("div", "below"), shown = view.selected?.site ? [view.selected.site] : [];
-  const others = [...(line?.sites || []).map(told => told.at), ...(line ? line.do.split(" ").slice(1, 3) : [])];
+  const others = [...(line?.sites || []).map(reported => reported.at), ...(line ? line.do.split(" ").slice(1, 3) : [])];
   for (const site of others) if (view.run.sites().includes(site) && !shown.includes(site)) shown.push(site);
   for (const site of shown.slice(0, 2)) below.append(siteCard(view, site, line, true));
   return below;

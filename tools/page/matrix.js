@@ -23,36 +23,36 @@ function matrixOf(view, line) {
 function siteHead(view, site, line) {
   const head = element("th");
   head.append(button(site, "site-name", () => view.select({site})));
-  if ((line?.sites || []).some(told => told.at === site)) head.classList.add("touched");
+  if ((line?.sites || []).some(reported => reported.at === site)) head.classList.add("touched");
   if (view.selected?.site === site) head.classList.add("selected");
   return head;
 }
 
 function columnHead(view, site, line) {
-  const head = siteHead(view, site, line), told = view.state.site(site);
+  const head = siteHead(view, site, line), reported = view.state.site(site);
   if (site === "U") return head;
   let waiting = 0;
   for (const cls of [...view.run.classes, "-"]) waiting += view.state.pipe(site, cls)?.waiting.length || 0;
-  const heads = (told.heads || []).length;
+  const heads = (reported.heads || []).length;
   head.append(element("div", "small", waiting ? `${waiting} in pipes` : ""));
   if (heads) head.append(element("div", "state", heads + (heads > 1 ? " wait" : " waits")));
-  if (told.down) head.append(element("div", "state", "DOWN"));
+  if (reported.down) head.append(element("div", "state", "DOWN"));
   return head;
 }
 
 function rowHead(view, site, line) {
-  const head = siteHead(view, site, line), told = view.state.site(site);
+  const head = siteHead(view, site, line), reported = view.state.site(site);
   if (site === "U") {
-    head.append(element("span", "small", told.phase));
+    head.append(element("span", "small", reported.phase));
     return head;
   }
   let queued = 0;
   for (const cls of view.run.classes) if (view.run.home.get(cls) === site) queued += view.state.queue(cls).length;
-  const active = (told.active || []).length;
-  const text = `clock ${told.clock}, ${active} run, ${queued - active} wait`;
+  const active = (reported.active || []).length;
+  const text = `clock ${reported.clock}, ${active} run, ${queued - active} wait`;
   head.append(element("span", "small wide", " " + text));
   head.title = text;
-  if (told.hold) head.append(element("b", "state", " HOLD"));
+  if (reported.hold) head.append(element("b", "state", " HOLD"));
   return head;
 }
 

@@ -6,9 +6,9 @@ function labelOf(run, packet) {
 }
 
 function messageLabel(run, link, n) {
-  const told = run.message(link, n);
-  if (!told) return "message " + n;
-  return told.kind + (told.time === undefined ? "" : " " + told.time);
+  const reported = run.message(link, n);
+  if (!reported) return "message " + n;
+  return reported.kind + (reported.time === undefined ? "" : " " + reported.time);
 }
 
 function plural(count, word) { return `${count} ${word}${count === 1 ? "" : "s"}`; }
@@ -32,11 +32,11 @@ function describePacket(run, packet) {
 
 function receivedWords(count) { return count > 1 ? `messages 1 to ${count}` : count ? "message 1" : "no message yet"; }
 
-function conditionWords(run, told, to) {
-  if (!told.conds.length) return `It has no condition: ${to} answers it at once.`;
-  const passed = joined(shortened(told.conds.map(([cls, time]) => `${className(cls)} has passed ${time}`), 3));
-  if (told.class === "-") return `${to} may answer once ${passed}.`;
-  return `${to} may answer once ${passed}, and must reject it if a later change of ${told.conds.length > 1 ? "these classes" : told.conds[0][0]} was applied before.`;
+function conditionWords(run, reported, to) {
+  if (!reported.conds.length) return `It has no condition: ${to} answers it at once.`;
+  const passed = joined(shortened(reported.conds.map(([cls, time]) => `${className(cls)} has passed ${time}`), 3));
+  if (reported.class === "-") return `${to} may answer once ${passed}.`;
+  return `${to} may answer once ${passed}, and must reject it if a later change of ${reported.conds.length > 1 ? "these classes" : reported.conds[0][0]} was applied before.`;
 }
 
 const MESSAGES = {
@@ -59,8 +59,8 @@ const MESSAGES = {
 };
 
 function describeMessage(run, link, n) {
-  const told = run.message(link, n);
-  return told && MESSAGES[told.kind] ? MESSAGES[told.kind](told, link.split(">")[1], run) : "a message that wasn't told";
+  const reported = run.message(link, n);
+  return reported && MESSAGES[reported.kind] ? MESSAGES[reported.kind](reported, link.split(">")[1], run) : "a message that wasn't reported";
 }
 
 function changeWords([fragment, key, row]) {

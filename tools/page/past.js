@@ -34,7 +34,7 @@ function lanesOf(view, packets) {
   const sites = view.run.sites();
   if (view.run.isSmall) return sites;
   const line = view.run.lineAt(view.event), weight = new Map(sites.map(site => [site, 0]));
-  const near = new Set([...(line?.sites || []).map(told => told.at), ...(line ? line.do.split(" ").slice(1, 3) : [])]);
+  const near = new Set([...(line?.sites || []).map(reported => reported.at), ...(line ? line.do.split(" ").slice(1, 3) : [])]);
   for (const {from, to, n} of packets) {
     const isNear = near.has(from) || near.has(to);
     for (const site of [from, to]) weight.set(site, weight.get(site) + (n ? 1 : 0.2) + (isNear ? 1000 : 0));
@@ -84,9 +84,9 @@ function wayOf(scene, packet) {
 function recordMarks(scene) {
   const {view, x, y} = scene, shapes = [];
   for (let event = Math.max(1, scene.first); event <= view.event; event++) {
-    const told = new Map();             // site -> kinds of records that are marked there
+    const reported = new Map();             // site -> kinds of records that are marked there
     for (const {words} of view.run.recordsAt.get(event) || []) {
-      const site = siteOfRecord(view.run, words), kinds = getOrMake(told, site, () => []);
+      const site = siteOfRecord(view.run, words), kinds = getOrMake(reported, site, () => []);
       if (!MARKS.includes(words[0]) || !scene.lanes.includes(site) || kinds.includes(words[0])) continue;
       shapes.push(shape("text", {x: x(event), y: y(site) - 5 - 9 * kinds.length, class: "mark mark-" + words[0]}, words[0]));
       kinds.push(words[0]);

@@ -2,23 +2,23 @@
 
 class Play {
   constructor(view, token) {
-    Object.assign(this, {view, token, version: 0, told: "", isBad: false, question: null, form: null, isBusy: false});
+    Object.assign(this, {view, token, version: 0, reported: "", isBad: false, question: null, form: null, isBusy: false});
     this.keys = {
       d: () => this.actOnSelected("deliver"), l: () => this.actOnSelected("lose"), r: () => this.actOnSelected("repeat"),
       s: () => this.event("settle"), u: () => this.change({do: "undo"}), y: () => this.change({do: "redo"}),
     };
   }
 
-  // The answer of the server, or null where it refuses; what it refuses is told in the page.
+  // The answer of the server, or null where it refuses; what it refuses is reported in the page.
   async ask(request) {
     this.isBusy = true;
     try {
       const headers = {"Content-Type": "application/json", "X-Token": this.token};
       const answer = await fetch("/do", {method: "POST", headers, body: JSON.stringify({...request, version: this.version, since: this.view.run.count})});
-      const told = await answer.json();
+      const reported = await answer.json();
       if (answer.status === 409) await this.look();
-      if (told.refused) this.say(told.refused, true);
-      return told.refused ? null : told;
+      if (reported.refused) this.say(reported.refused, true);
+      return reported.refused ? null : reported;
     } catch (fault) {
       this.say("The server doesn't answer. Is play.py still running?", true);
       return null;
@@ -28,37 +28,37 @@ class Play {
   }
 
   async look() {
-    const told = await this.ask({do: "look", all: true});
-    if (told) this.take(told);
-    return told;
+    const reported = await this.ask({do: "look", all: true});
+    if (reported) this.take(reported);
+    return reported;
   }
 
   // A change, after which the page shows the first new event of a settle, or the event that was made.
   async change(request) {
     if (this.isBusy) return null;
-    const before = this.view.event, told = await this.ask(request);
-    if (!told) return null;
-    this.told = "";
-    this.take(told);
+    const before = this.view.event, reported = await this.ask(request);
+    if (!reported) return null;
+    this.reported = "";
+    this.take(reported);
     const count = this.view.run.count, isSettle = request.line === "settle" || request.line === "redeclare";
     if (request.do === "event") this.view.go(isSettle ? Math.min(before + 1, count) : count);
     else this.view.go(request.do === "txn" && !request.submit ? Math.min(before, count) : count);
-    return told;
+    return reported;
   }
 
-  take(told) {
+  take(reported) {
     const data = this.view.run.data;
-    this.version = told.version;
-    this.canUndo = told.undo;
-    this.canRedo = told.redo;
+    this.version = reported.version;
+    this.canUndo = reported.undo;
+    this.canRedo = reported.redo;
     this.view.opened.clear();
     this.view.selected = this.view.selected?.site || this.view.selected?.cell ? this.view.selected : null;
-    this.view.load({...data, ...told.run, lines: data.lines.slice(0, told.since).concat(told.run.lines)});
+    this.view.load({...data, ...reported.run, lines: data.lines.slice(0, reported.since).concat(reported.run.lines)});
     drawLegend(this.view);
   }
 
   say(text, isBad) {
-    this.told = text;
+    this.reported = text;
     this.isBad = isBad;
     this.view.draw();
   }
@@ -106,18 +106,18 @@ class Play {
     const box = byId("controls");
     box.hidden = false;
     if (this.form && box.contains(this.form)) {
-      byId("told").replaceWith(this.toldLine());
+      byId("reported").replaceWith(this.reportedLine());
       return byId("tools").replaceWith(this.tools());
     }
     box.textContent = "";
-    box.append(this.tools(), this.toldLine());
+    box.append(this.tools(), this.reportedLine());
     if (this.form) box.append(this.form);
     return null;
   }
 
-  toldLine() {
-    const line = element("div", this.isBad ? "bad" : "", this.question ? this.question.text : this.told);
-    line.id = "told";
+  reportedLine() {
+    const line = element("div", this.isBad ? "bad" : "", this.question ? this.question.text : this.reported);
+    line.id = "reported";
     if (!this.question) return line;
     const no = () => { this.question = null; this.view.draw(); };
     line.append(" ", button("go on from here", "", this.question.yes), " ", button("cancel", "", no));

@@ -43,19 +43,19 @@ class Run {
     for (const line of this.lines) {
       this.firstPacket.push(this.packets.length);
       for (const [from, to, put] of line.put || []) {
-        for (const told of put) this.packets.push(this.packetOf(from, to, told, line.event));
+        for (const reported of put) this.packets.push(this.packetOf(from, to, reported, line.event));
       }
     }
     this.firstPacket.push(this.packets.length);
   }
 
-  packetOf(from, to, told, event) {
+  packetOf(from, to, reported, event) {
     const link = from + ">" + to, packet = {id: this.packets.length, link, from, to, put: event, taken: 0, lost: false, again: false};
-    if (typeof told === "number") return Object.assign(packet, {n: told, again: true});
-    if (told.n === undefined) return Object.assign(packet, {n: 0, ack: told.ack});
-    getOrMake(this.messages, link, () => new Map()).set(told.n, told);
-    if (told.kind === "READ") this.reads.set(told.txn + " " + to, {...told, from, to});
-    return Object.assign(packet, {n: told.n});
+    if (typeof reported === "number") return Object.assign(packet, {n: reported, again: true});
+    if (reported.n === undefined) return Object.assign(packet, {n: 0, ack: reported.ack});
+    getOrMake(this.messages, link, () => new Map()).set(reported.n, reported);
+    if (reported.kind === "READ") this.reads.set(reported.txn + " " + to, {...reported, from, to});
+    return Object.assign(packet, {n: reported.n});
   }
 
   message(link, n) { return this.messages.get(link)?.get(n); }
@@ -67,8 +67,8 @@ class Run {
     this.recordsAt = new Map();
     this.commits = new Map();           // transaction -> the event of its commit
     this.attempts = new Map();          // "sell#1" -> the class in which it started
-    for (const told of this.data.records) {
-      const [event, ...words] = told.split(" "), record = {event: +event, text: told, words};
+    for (const reported of this.data.records) {
+      const [event, ...words] = reported.split(" "), record = {event: +event, text: reported, words};
       this.records.push(record);
       getOrMake(this.recordsAt, record.event, () => []).push(record);
       if (words[0] === "start") this.attempts.set(words[1], words[2]);

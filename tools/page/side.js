@@ -32,15 +32,15 @@ function drawSelection(view) {
   const packet = view.run.packets[chosen.packet], link = view.state.links.get(chosen.link);
   box.append(element("h3", "", packet ? "packet" : "message"));
   box.append(element("p", "", packet ? describePacket(view.run, packet) : describeMessage(view.run, chosen.link, chosen.n)));
-  const told = chosen.n ? view.run.message(chosen.link, chosen.n) : null;
-  if (told?.txn) box.append(...transactionText(view, told.txn.split("#")[0]));
+  const reported = chosen.n ? view.run.message(chosen.link, chosen.n) : null;
+  if (reported?.txn) box.append(...transactionText(view, reported.txn.split("#")[0]));
   if (packet && eventLine(view.state, "deliver", chosen.packet)) box.append(eventsOf(view, chosen.packet));
   if (link) box.append(element("p", "faint", `${chosen.link.replace(">", " to ")}: ${link.sent} sent, ${link.delivered} received, ${link.sent - link.acked} unacknowledged`));
 }
 
 function transactionText(view, name) {
-  const told = view.run.transactions.get(name);
-  return told ? [element("pre", "", [`txn ${name} ${told.at}`, ...told.lines, "done"].join("\n"))] : [];
+  const reported = view.run.transactions.get(name);
+  return reported ? [element("pre", "", [`txn ${name} ${reported.at}`, ...reported.lines, "done"].join("\n"))] : [];
 }
 
 // The lines that a schedule would have for this packet; buttons where the page is served.

@@ -1,5 +1,5 @@
 // The state at an event, and a line of the text applied to it. This is all that a reader of the text has to know:
-// lists are told by what is taken off and what is put behind, and what a site has is told anew.
+// lists are reported by what is taken off and what is put behind, and what a site has is reported anew.
 
 class State {
   constructor(run) {
@@ -7,7 +7,7 @@ class State {
     this.links = new Map();             // "T1>D1" -> {flight, sent, acked, delivered, early, handed}
     this.queues = new Map();            // class -> transactions
     this.pipes = new Map();             // "D1 class" -> {waiting, passed, last, lastAt}
-    this.sites = new Map();             // site -> what was told of it last
+    this.sites = new Map();             // site -> what was reported of it last
     this.handedNow = new Map();         // link -> how many messages were handed over in this event
   }
 
@@ -43,13 +43,13 @@ class State {
     if (line.acked !== undefined) this.link(to + ">" + from).acked = line.acked;
     for (const [a, b, n] of line.handed || []) this.handOver(a + ">" + b, n);
     this.put(line);
-    for (const told of line.queues || []) {
-      const queue = getOrMake(this.queues, told.class, () => []);
-      queue.push(...told.in || []);
-      queue.splice(0, told.out || 0);
+    for (const reported of line.queues || []) {
+      const queue = getOrMake(this.queues, reported.class, () => []);
+      queue.push(...reported.in || []);
+      queue.splice(0, reported.out || 0);
     }
-    for (const told of line.pipes || []) this.moveThroughPipe(line, told);
-    for (const told of line.sites || []) this.sites.set(told.at, told);
+    for (const reported of line.pipes || []) this.moveThroughPipe(line, reported);
+    for (const reported of line.sites || []) this.sites.set(reported.at, reported);
     if (line.do === "redeclare") this.list++;
   }
 
@@ -58,7 +58,7 @@ class State {
     const link = this.link(key), packet = this.run.packets[link.flight.splice(place - 1, 1)[0]];
     const isAck = typeof line.took === "object";
     if (!packet || (isAck ? packet.ack !== line.took.ack : packet.n !== line.took)) {
-      return this.run.fault(line.event, "another packet stands at the place that is told");
+      return this.run.fault(line.event, "another packet stands at the place that is reported");
     }
     packet.taken = line.event;
     packet.lost = verb === "lose";
@@ -78,19 +78,19 @@ class State {
     let packet = this.run.firstPacket[line.event];
     for (const [a, b, put] of line.put || []) {
       const link = this.link(a + ">" + b);
-      for (const told of put) {
-        if (told.n) link.sent = told.n;
+      for (const reported of put) {
+        if (reported.n) link.sent = reported.n;
         link.flight.push(packet++);
       }
     }
   }
 
-  moveThroughPipe(line, told) {
-    const pipe = getOrMake(this.pipes, told.at + " " + told.class, () => ({waiting: [], passed: null, last: 0, lastAt: 0}));
-    pipe.waiting.push(...told.in || []);
-    const done = pipe.waiting.splice(0, told.out || 0);
+  moveThroughPipe(line, reported) {
+    const pipe = getOrMake(this.pipes, reported.at + " " + reported.class, () => ({waiting: [], passed: null, last: 0, lastAt: 0}));
+    pipe.waiting.push(...reported.in || []);
+    const done = pipe.waiting.splice(0, reported.out || 0);
     if (done.length) Object.assign(pipe, {last: done[done.length - 1], lastAt: line.event});
-    if (told.passed !== undefined) pipe.passed = told.passed;
+    if (reported.passed !== undefined) pipe.passed = reported.passed;
   }
 
   packetsInFlight() {

@@ -49,8 +49,8 @@ function sayDelivery(view, line, from, to, say) {
 
 const RECORDS = {
   submit(view, words, say) {
-    const told = view.run.transactions.get(words[1]), lines = told ? told.lines : [];
-    say("", `A user submits ${words[1]}${told ? " at " + told.at : ""}: ${shortened(lines, 4).join("; ") || "no statement"}.`);
+    const reported = view.run.transactions.get(words[1]), lines = reported ? reported.lines : [];
+    say("", `A user submits ${words[1]}${reported ? " at " + reported.at : ""}: ${shortened(lines, 4).join("; ") || "no statement"}.`);
   },
   start(view, words, say) {
     if (words[2] !== "-") return say("strong", `${words[1]} starts in class ${words[2]}, with timestamp ${words[3]}.`);
@@ -101,9 +101,9 @@ function sayHeld(view, line, say) {
       const came = (line.pipes || []).find(pipe => pipe.at === site.at && pipe.class === head.class && pipe.in);
       if (!head.held || !came) continue;
       const link = view.run.home.get(head.class) + ">" + site.at;
-      const told = view.run.message(link, view.state.pipe(site.at, head.class).waiting[0]);
+      const reported = view.run.message(link, view.state.pipe(site.at, head.class).waiting[0]);
       const whose = joined(shortened(head.held.map(className), 3));
-      say("bad", `HELD: the changes of ${told.txn} (time ${told.time}) aren't applied yet, because the read of ${whose} that waits at ${site.at} must not see them.`);
+      say("bad", `HELD: the changes of ${reported.txn} (time ${reported.time}) aren't applied yet, because the read of ${whose} that waits at ${site.at} must not see them.`);
     }
   }
 }
@@ -120,9 +120,9 @@ function saySites(line, say) {
 function sayPut(run, line, say) {
   const put = [];
   for (const [from, to, packets] of line.put || []) {
-    for (const told of packets) if (told.n) put.push(`${messageLabel(run, from + ">" + to, told.n)} to ${to}`);
+    for (const reported of packets) if (reported.n) put.push(`${messageLabel(run, from + ">" + to, reported.n)} to ${to}`);
   }
-  const again = (line.put || []).reduce((sum, [, , packets]) => sum + packets.filter(told => typeof told === "number").length, 0);
+  const again = (line.put || []).reduce((sum, [, , packets]) => sum + packets.filter(reported => typeof reported === "number").length, 0);
   if (put.length) say("faint", `Sent: ${joined(shortened(put, 5))}.`);
   if (again) say("faint", `${plural(again, "packet")} of earlier messages ${again === 1 ? "is" : "are"} in flight again.`);
 }
