@@ -33,13 +33,13 @@ pub use Rattle.sdd_protocol.proofs.Tables.{all_at as found_member}
 pub use Rattle.sdd_protocol.specs.Protocols.{IsTable}
 pub use Rattle.sdd_protocol.specs.declared.entry.Entry.{Entry}
 pub use Rattle.sdd_verified.proofs.MadeSettles.{made_summed}
-pub use Rattle.sdd_verified.proofs.watch.run.Apart.{report_or_limit, summary_or_limit}
-pub use Rattle.sdd_verified.proofs.watch.run.world.Results.{after_ok as on_ok_then}
+pub use Rattle.sdd_verified.proofs.run.Apart.{report_or_limit, summary_or_limit}
+pub use Rattle.sdd_verified.proofs.run.world.Results.{after_ok as on_ok_then}
 pub use Rattle.sdd_verified.proofs.verify.Submissions.{lent_fit, start_fits}
 pub use Rattle.sdd_verified.specs.make.Bank.{bank}
 pub use Rattle.sdd_verified.specs.make.Turns.{workload_of}
 pub use Rattle.sdd_verified.specs.report.Names.{spaced}
-pub use Rattle.sdd_verified.specs.watch.run.Runs.{EndsAtLimit, IsReportOn}
+pub use Rattle.sdd_verified.specs.run.Runs.{EndsAtLimit, IsReportOn}
 pub use Rattle.sdd_verified.specs.script.Valid.{IsValid, IsValidTxn}
 pub use Rattle.sdd_verified.specs.script.Walk.{workload}
 pub use Rattle.sdd_verified.specs.script.declared.fault.WorkFault.{WorkFault}

@@ -6,8 +6,8 @@ use Rattle.sdd_lang.specs.base.Outside.{find_file}
 use Rattle.sdd_lang.specs.All.{Catalogue}
 use Rattle.sdd_verified.specs.script.Walk.{workload}
 use Rattle.sdd_verified.specs.script.declared.workload.Workload.{Workload}
-use Rattle.sdd_verified.specs.watch.Text.{IsInsideOf}
-use Rattle.sdd_verified.proofs.watch.Apart.{text_or_limit}
+use Rattle.sdd_watch.specs.Text.{IsInsideOf}
+use Rattle.sdd_watch.proofs.Apart.{text_or_limit}
 use Rattle.sdd_app.specs.Answer.{BlamesWorkload, catalogue_named, workload_named}
 use Rattle.sdd_app.specs.Inside.{AreNotTwo, ComesTo, ComesToInside, ComesToText, FilesAreThere, Names, NamesAreThere, NamesComeTo, names_in}
 use Rattle.sdd_app.specs.Verdict.{Answers, Explains, FaultyWorkload, IsRefusal, NoForm, Prints, Verdict, status_of}

@@ -14,7 +14,7 @@ use Rattle.sdd_verified.specs.script.declared.workload.Workload.{Workload}
 use Rattle.sdd_verified.specs.verify.Verdict as judging
 use Rattle.sdd_verified.specs.make.Bank.{bank}
 use Rattle.sdd_verified.specs.make.Turns.{workload_of}
-use Rattle.sdd_verified.specs.watch.run.Runs.{EndsAtLimit, IsReportOn, IsSummaryOn}
+use Rattle.sdd_verified.specs.run.Runs.{EndsAtLimit, IsReportOn, IsSummaryOn}
 use Rattle.sdd_verified.specs.Summaries.{TellsAllDone}
 use Rattle.sdd_app.specs.declared.listing.Listing.{Listing}
 use Rattle.sdd_app.specs.declared.listing.Listing.TheVariants as listings

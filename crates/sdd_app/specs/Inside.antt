@@ -6,7 +6,7 @@ use Rattle.sdd_lang.specs.base.declared.limits.TheConstants.{MAX_CATALOGUE_BYTES
 use Rattle.sdd_lang.specs.base.Outside.{Opened}
 use Rattle.sdd_lang.specs.All.{Catalogue, MAX_WORKLOAD_BYTES}
 use Rattle.sdd_verified.specs.script.declared.workload.Workload.{Workload}
-use Rattle.sdd_verified.specs.watch.Text.{IsInsideOf}
+use Rattle.sdd_watch.specs.Text.{IsInsideOf}
 use Rattle.sdd_app.specs.Answer.{HasFiles, OverCatalogue, OverWorkload, TellsOfRun}
 use Rattle.sdd_app.specs.Endings.{Ending, FilesRead, ToItsEnd, ToItsLimit}
 use Rattle.sdd_app.specs.Verdict.{NoForm, Verdict}

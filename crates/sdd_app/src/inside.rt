@@ -20,7 +20,7 @@ use crate::workload_file::accepted_workload;
 use sdd_lang::sdd_base::{Shelf, Sink, write_text};
 use sdd_lang::sdd_catalog::Catalogue;
 use sdd_verified::sdd_script::Workload;
-use sdd_verified::sdd_watch::inside_text;
+use sdd_watch::inside_text;
 use std::alloc::Global;
 
 /// The text of what happens inside the run of the workload.

@@ -28,8 +28,34 @@ pub use standing::Standing;
 pub use step::LineStep;
 
 // What lies below, for the crates above.
-pub use sdd_exec;
-pub use sdd_graph;
-pub use sdd_module;
-pub use sdd_module::{sdd_base, sdd_catalog, sdd_history, sdd_lang, sdd_protocol, sdd_wire};
-pub use sdd_semijoin;
+
+pub mod sdd_base {
+    pub use sdd_module::sdd_base::{
+        Change, ClassNo, Clock, Cond, Conds, DmNo, Event, FragNo, Listed, NoMemory, Pages, Parcel,
+        RelNo, Row, RowList, Site, TmNo, Ts, TxnNo,
+    };
+}
+
+pub mod sdd_catalog {
+    pub use sdd_module::sdd_catalog::Catalogue;
+}
+
+pub mod sdd_history {
+    pub use sdd_module::sdd_history::{History, Rec, Recs};
+}
+
+pub mod sdd_lang {
+    pub use sdd_module::sdd_lang::{Txn, class_for};
+}
+
+pub mod sdd_module {
+    pub use sdd_module::{Draft, Module};
+}
+
+pub mod sdd_protocol {
+    pub use sdd_module::sdd_protocol::{Table, table};
+}
+
+pub mod sdd_wire {
+    pub use sdd_module::sdd_wire::{Msg, Outcome, Outs, Spelling, WireFault, decode, encode};
+}

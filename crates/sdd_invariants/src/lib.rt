@@ -19,10 +19,54 @@ pub mod steps_laws;
 pub mod traffic_laws;
 
 // What lies below, for the crates above.
-pub use sdd_graph;
-pub use sdd_log;
-pub use sdd_log::{
-    sdd_attempt, sdd_base, sdd_catalog, sdd_dm, sdd_history, sdd_lang, sdd_module, sdd_net,
-    sdd_pipe, sdd_protocol, sdd_tm, sdd_umod, sdd_wire,
-};
-pub use sdd_semijoin;
+
+pub mod sdd_attempt {
+    pub use sdd_log::sdd_attempt::{Answer, Line, Standing};
+}
+
+pub mod sdd_base {
+    pub use sdd_log::sdd_base::{
+        Change, ClassNo, Cond, Conds, DmNo, Event, FragNo, Listed, NoMemory, Pages, Parcel, RelNo,
+        Row, RowList, Site, TmNo, Ts, TxnNo,
+    };
+}
+
+pub mod sdd_catalog {
+    pub use sdd_log::sdd_catalog::Catalogue;
+}
+
+pub mod sdd_dm {
+    pub use sdd_log::sdd_dm::{ClassNos, DataModule};
+}
+
+pub mod sdd_history {
+    pub use sdd_log::sdd_history::{History, Rec, Recs};
+}
+
+pub mod sdd_lang {
+    pub use sdd_log::sdd_lang::{Txn, class_for};
+}
+
+pub mod sdd_module {
+    pub use sdd_log::sdd_module::Module;
+}
+
+pub mod sdd_net {
+    pub use sdd_log::sdd_net::{Channel, Delivered, Flight, Net, Packet, Packets, Parcels, Spool};
+}
+
+pub mod sdd_protocol {
+    pub use sdd_log::sdd_protocol::{Table, table};
+}
+
+pub mod sdd_tm {
+    pub use sdd_log::sdd_tm::{Asked, ClassRun, TxnModule};
+}
+
+pub mod sdd_umod {
+    pub use sdd_log::sdd_umod::UModule;
+}
+
+pub mod sdd_wire {
+    pub use sdd_log::sdd_wire::{Msg, Outcome, Outs, Spelling, WireFault, decode, encode};
+}

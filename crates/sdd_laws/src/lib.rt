@@ -33,11 +33,23 @@ pub use replay_along_law::law_replay_along;
 pub use taking::{counts, outdoes};
 
 // What lies below, for the crates above.
-pub use sdd_copy;
-pub use sdd_eras;
-pub use sdd_graph;
-pub use sdd_history;
-pub use sdd_lang;
-pub use sdd_lang::{sdd_base, sdd_catalog};
-pub use sdd_order;
-pub use sdd_protocol;
+
+pub mod sdd_base {
+    pub use sdd_lang::sdd_base::{DmNo, Use};
+}
+
+pub mod sdd_catalog {
+    pub use sdd_lang::sdd_catalog::Catalogue;
+}
+
+pub mod sdd_copy {
+    pub use sdd_copy::Copies;
+}
+
+pub mod sdd_lang {
+    pub use sdd_lang::{Ref, Txn};
+}
+
+pub mod sdd_order {
+    pub use sdd_order::serial_order;
+}

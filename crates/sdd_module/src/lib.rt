@@ -13,8 +13,35 @@ pub use draft::Draft;
 pub use module::Module;
 
 // What lies below, for the crates above.
-pub use sdd_history;
-pub use sdd_lang;
-pub use sdd_lang::{sdd_base, sdd_catalog};
-pub use sdd_protocol;
-pub use sdd_wire;
+
+pub mod sdd_base {
+    pub use sdd_lang::sdd_base::{
+        Change, Changes, ClassNo, Clock, Cond, Conds, DmNo, Event, FragNo, Frags, Listed, NoMemory,
+        Pages, Parcel, RelNo, Row, RowList, Site, TmNo, Ts, TxnNo, Use, Uses, Value,
+    };
+}
+
+pub mod sdd_catalog {
+    pub use sdd_lang::sdd_catalog::Catalogue;
+}
+
+pub mod sdd_history {
+    pub use sdd_history::{History, PrintedReply, Rec, Recs};
+}
+
+pub mod sdd_lang {
+    pub use sdd_lang::{
+        Conditions, Effect, Ref, Stmt, Txn, class_for, key_of, law_rows_make_database, read_set,
+        uses,
+    };
+}
+
+pub mod sdd_protocol {
+    pub use sdd_protocol::{Table, table, undeclared_conds};
+}
+
+pub mod sdd_wire {
+    pub use sdd_wire::{
+        Msg, Outcome, Outs, Spelling, UseCounts, UseRows, ValueList, WireFault, decode, encode,
+    };
+}

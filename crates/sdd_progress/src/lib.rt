@@ -62,4 +62,3 @@ pub use succession_law::{law_few_attempts_across_lists, law_lawful, law_timely};
 pub use worked::{law_all_lost, law_late_query, law_read_and_put};
 
 // What lies below, for the crates above.
-pub use sdd_lawful;

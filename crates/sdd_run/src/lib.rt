@@ -17,9 +17,25 @@ pub use law::{law_free_answered, law_low_clocks, law_one_report, law_standings};
 pub use run::{run_report, run_summary};
 
 // What lies below, for the crates above.
-pub use sdd_lists;
-pub use sdd_make;
-pub use sdd_progress;
-pub use sdd_report;
-pub use sdd_script;
-pub use sdd_world;
+
+pub mod sdd_lists {
+    pub use sdd_lists::{Lists, lists_of};
+}
+
+pub mod sdd_make {
+    pub use sdd_make::{bank, law_workload_allowed, workload};
+}
+
+pub mod sdd_report {
+    pub use sdd_report::put_reply;
+}
+
+pub mod sdd_script {
+    pub use sdd_script::{
+        Counts, StartRows, WorkError, WorkFault, WorkRule, Workload, read_workload,
+    };
+}
+
+pub mod sdd_world {
+    pub use sdd_world::{ClassList, World, WorldEnd, data_modules, home};
+}

@@ -1,7 +1,7 @@
 ghost use Rattle.std.specs.Prelude.{ℕ, ◌≡◌, ◌≤◌, List, length};
-ghost use Rattle.sdd_watch.specs.run.Runs.{IsReportOn};
-ghost use Rattle.sdd_watch.specs.run.script.Valid.{IsValid};
-ghost use Rattle.sdd_watch.specs.run.script.declared.workload.Workload.{Workload};
+ghost use Rattle.sdd_run.specs.Runs.{IsReportOn};
+ghost use Rattle.sdd_run.specs.script.Valid.{IsValid};
+ghost use Rattle.sdd_run.specs.script.declared.workload.Workload.{Workload};
 ghost use Rattle.sdd_verify.specs.Verdict.{verdict};
 ghost use Rattle.sdd_verify.specs.declared.limits.TheConstants.{MAX_REPORT_BYTES};
 ghost use Rattle.sdd_verify.specs.declared.verdict.Verdict.TheVariants.{Yes};

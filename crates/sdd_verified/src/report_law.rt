@@ -1,9 +1,9 @@
 //! Every run has a report, or comes to the limit.
 ghost use Rattle.std.specs.Prelude.{ℕ, ◌≡◌, ◌⊎◌, List};
 ghost use Rattle.sdd_obligations.specs.All.{Catalogue, IsSoundCatalogue};
-ghost use Rattle.sdd_watch.specs.run.Runs.{EndsAtLimit, IsReportOn};
-ghost use Rattle.sdd_watch.specs.run.script.Valid.{IsValid};
-ghost use Rattle.sdd_watch.specs.run.script.declared.workload.Workload.{Workload};
+ghost use Rattle.sdd_run.specs.Runs.{EndsAtLimit, IsReportOn};
+ghost use Rattle.sdd_run.specs.script.Valid.{IsValid};
+ghost use Rattle.sdd_run.specs.script.declared.workload.Workload.{Workload};
 
 /// A law: the run of a workload has a report, or the limit ends the run, whatever the modules do and
 /// with no regard to memory.

@@ -28,6 +28,3 @@ mod watched_pipe;
 
 pub use inside::inside_text;
 pub use law::law_one_inside;
-
-// What lies below, for the crates above.
-pub use sdd_run;
