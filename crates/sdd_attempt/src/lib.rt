@@ -31,8 +31,8 @@ pub use step::LineStep;
 
 pub mod sdd_base {
     pub use sdd_module::sdd_base::{
-        Change, ClassNo, Clock, Cond, Conds, DmNo, Event, FragNo, Listed, NoMemory, Pages, Parcel,
-        RelNo, Row, RowList, Site, TmNo, Ts, TxnNo,
+        Change, ClassNo, Clock, Conds, DmNo, Event, FragNo, Listed, NoMemory, Pages, Parcel, Row,
+        Site, TmNo, Ts, TxnNo,
     };
 }
 
@@ -41,7 +41,7 @@ pub mod sdd_catalog {
 }
 
 pub mod sdd_history {
-    pub use sdd_module::sdd_history::{History, Rec, Recs};
+    pub use sdd_module::sdd_history::Rec;
 }
 
 pub mod sdd_lang {
@@ -57,5 +57,5 @@ pub mod sdd_protocol {
 }
 
 pub mod sdd_wire {
-    pub use sdd_module::sdd_wire::{Msg, Outcome, Outs, Spelling, WireFault, decode, encode};
+    pub use sdd_module::sdd_wire::{Msg, Outcome, Spelling};
 }

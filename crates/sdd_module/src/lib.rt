@@ -17,7 +17,7 @@ pub use module::Module;
 pub mod sdd_base {
     pub use sdd_lang::sdd_base::{
         Change, Changes, ClassNo, Clock, Cond, Conds, DmNo, Event, FragNo, Frags, Listed, NoMemory,
-        Pages, Parcel, RelNo, Row, RowList, Site, TmNo, Ts, TxnNo, Use, Uses, Value,
+        Pages, Parcel, RelNo, Row, Site, TmNo, Ts, TxnNo, Use, Uses, Value,
     };
 }
 
@@ -26,7 +26,7 @@ pub mod sdd_catalog {
 }
 
 pub mod sdd_history {
-    pub use sdd_history::{History, PrintedReply, Rec, Recs};
+    pub use sdd_history::{PrintedReply, Rec};
 }
 
 pub mod sdd_lang {
@@ -41,7 +41,5 @@ pub mod sdd_protocol {
 }
 
 pub mod sdd_wire {
-    pub use sdd_wire::{
-        Msg, Outcome, Outs, Spelling, UseCounts, UseRows, ValueList, WireFault, decode, encode,
-    };
+    pub use sdd_wire::{Msg, Outcome, Spelling, UseCounts, UseRows, ValueList};
 }

@@ -18,13 +18,13 @@ pub mod shipped_laws;
 // What lies below, for the crates above.
 
 pub mod sdd_attempt {
-    pub use sdd_invariants::sdd_attempt::{Answer, Line, Standing};
+    pub use sdd_invariants::sdd_attempt::{Answer, Line};
 }
 
 pub mod sdd_base {
     pub use sdd_invariants::sdd_base::{
-        Change, ClassNo, Cond, Conds, DmNo, Event, FragNo, Listed, NoMemory, Pages, Parcel, RelNo,
-        Row, RowList, Site, TmNo, Ts, TxnNo,
+        Change, ClassNo, Conds, DmNo, Event, FragNo, Listed, NoMemory, Pages, Parcel, Row, Site,
+        TmNo, Ts, TxnNo,
     };
 }
 
@@ -41,21 +41,11 @@ pub mod sdd_dm {
 }
 
 pub mod sdd_history {
-    pub use sdd_invariants::sdd_history::{History, Rec, Recs};
-}
-
-pub mod sdd_lang {
-    pub use sdd_invariants::sdd_lang::{Txn, class_for};
-}
-
-pub mod sdd_module {
-    pub use sdd_invariants::sdd_module::Module;
+    pub use sdd_invariants::sdd_history::Rec;
 }
 
 pub mod sdd_net {
-    pub use sdd_invariants::sdd_net::{
-        Channel, Delivered, Flight, Net, Packet, Packets, Parcels, Spool,
-    };
+    pub use sdd_invariants::sdd_net::{Packet, Packets};
 }
 
 pub mod sdd_order {
@@ -75,5 +65,5 @@ pub mod sdd_umod {
 }
 
 pub mod sdd_wire {
-    pub use sdd_invariants::sdd_wire::{Msg, Outcome, Outs, Spelling, WireFault, decode, encode};
+    pub use sdd_invariants::sdd_wire::{Msg, Spelling};
 }

@@ -1,6 +1,6 @@
 -- The names of std, of the crates below and of this crate's definitions that its proofs cite. Declares nothing.
 pub use Rattle.sdd_acyclic.proofs.EachTable.{each_table}
-pub use Rattle.sdd_obligations.proofs.Done.{count_join, done}
+pub use Rattle.sdd_obligations.proofs.needs.Done.{count_join, done}
 pub use Rattle.sdd_obligations.proofs.Linking.{lawful_part as lawful_before}
 pub use Rattle.sdd_obligations.proofs.base.Membership.{Contains-cases, Contains-here, Contains-later, Contains-nil}
 pub use Rattle.sdd_obligations.proofs.invariants.Bools.{neither_left, neither_right}

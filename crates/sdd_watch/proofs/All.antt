@@ -19,7 +19,8 @@ pub use Rattle.sdd_inside.specs.declared.standing.Head.{Head}
 pub use Rattle.sdd_inside.specs.declared.standing.Head.TheVariants.{Waits}
 pub use Rattle.sdd_inside.specs.declared.standing.Question.{Question}
 pub use Rattle.sdd_inside.specs.declared.standing.SiteState.{SiteState}
-pub use Rattle.sdd_obligations.proofs.OfNext.{IsThere, link_of_links}
+pub use Rattle.sdd_obligations.proofs.SitesAndLinks.{link_of_links}
+pub use Rattle.sdd_obligations.proofs.needs.OfNext.{IsThere}
 pub use Rattle.sdd_obligations.proofs.ReadSent.{site_sym as same_back}
 pub use Rattle.sdd_obligations.proofs.Sources.{source_is_home}
 pub use Rattle.sdd_obligations.proofs.Submitting.{le_true}

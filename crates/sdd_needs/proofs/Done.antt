@@ -1,6 +1,6 @@
 -- What is done of the events, as a lawful log tells it: which modules are down then, and how many lists were put in force.
-use Rattle.sdd_obligations.proofs.All.{AllFewTicks, AtEach, Bool, Deliver, Down, Event, Input, IsLawful, List, Log, Lose, Mark, Redeclare, Redeclares, Repeat, Resend, Round, Settle, Some, Submit, Tick, TurnsNone, Up, [], after_mark, all_links, ap, append_assoc, arith, calls_of, down_from, each_of_round, false, from_event, is_down, is_down_after, left, mark_from, mark_is_next, mark_of, quiet, redeclares, redeclares_in, refl, round, subst, suc, sym, tail_of, true, turned_by, ℕ, ◌++◌, ◌+◌, ◌∙◌, ◌∷◌, ◌≡◌}
-use Rattle.sdd_obligations.proofs.OfNext.{of_next}
+use Rattle.sdd_needs.proofs.All.{AllFewTicks, AtEach, Bool, Deliver, Down, Event, Input, IsLawful, List, Log, Lose, Mark, Redeclare, Redeclares, Repeat, Resend, Round, Settle, Some, Submit, Tick, TurnsNone, Up, [], after_mark, all_links, ap, append_assoc, arith, calls_of, down_from, each_of_round, false, from_event, is_down, is_down_after, left, mark_from, mark_is_next, mark_of, quiet, redeclares, redeclares_in, refl, round, subst, suc, sym, tail_of, true, turned_by, ℕ, ◌++◌, ◌+◌, ◌∙◌, ◌∷◌, ◌≡◌}
+use Rattle.sdd_needs.proofs.OfNext.{of_next}
 
 -- parts of lists of events
 

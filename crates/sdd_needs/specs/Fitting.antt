@@ -1,14 +1,17 @@
--- What the modules of the system ask, by the kind of their site, and all that is needed of what is given.
-use Rattle.std.specs.Prelude.{ℕ, ◌/◌, ◌<◌, ◌^◌, List, None, Option, Some}
-use Rattle.sdd_invariants.specs.All.{AreSubmittedOnce, Attempt, Bases, Catalogue, D, Era, FitsSite, Input, Msg, Row, Rows, ServesIfLast, Setting, Site, T, Txn, U, active, number_of, without}
-use Rattle.sdd_laws.specs.All.{IsEraOf}
-use Rattle.sdd_invariants.specs.dm.Fits as dm
-use Rattle.sdd_invariants.specs.tm.Fits as tm
-use Rattle.sdd_invariants.specs.umod.Fits as um
-use Rattle.sdd_obligations.specs.Bounds.{AllFewTicks}
-use Rattle.sdd_obligations.specs.Fitting.{FitsInput}
-use Rattle.sdd_obligations.specs.Reading.{HasEras}
-use Rattle.sdd_invariants.specs.site_module.SiteLog as site
+-- What the modules of the system ask of messages, transactions, ticks and further class lists, by the kind of their site.
+use Rattle.std.specs.Prelude.{ℕ, ◌/◌, ◌<◌, ◌^◌}
+use Rattle.sdd_eras.specs.EraOf.{IsEraOf}
+use Rattle.sdd_log.specs.attempt.Fits.{FitsSite}
+use Rattle.sdd_log.specs.base.declared.site.Site.{Site}
+use Rattle.sdd_log.specs.base.declared.site.Site.TheVariants.{D, T, U}
+use Rattle.sdd_log.specs.catalog.Catalogue.{Catalogue}
+use Rattle.sdd_log.specs.lang.declared.transaction.Txn.{Txn}
+use Rattle.sdd_log.specs.site_module.SiteLog.{Bases, Era, Setting}
+use Rattle.sdd_log.specs.wire.declared.msg.Msg.{Msg}
+use Rattle.sdd_log.specs.dm.Fits as dm
+use Rattle.sdd_log.specs.tm.Fits as tm
+use Rattle.sdd_log.specs.umod.Fits as um
+use Rattle.sdd_log.specs.site_module.SiteLog as site
 
 -- what a message has to meet, and what a transaction with its number
 abbrev pub Fitting : Type 1
@@ -53,20 +56,3 @@ fits_tick at = fits_tick_at FitsTick at
 pub record FitsEra (whole : Catalogue) (next : Era) (t : ℕ) : Type 0 where
   pub early : t / 64 < 2 ^ 57
   pub era : IsEraOf whole next.catalogue
-
--- with the last ROWS the rows serve the attempt's database
-
-abbrev pub ServedBy : Setting → Bases → Option Attempt → Site → List (ℕ × Row) → Type 0
-ServedBy s bases None from rows = Unit {0}
-ServedBy s bases (Some a) from rows = ServesIfLast s bases a rows (without a.exchange.lacks (number_of from))
-
-abbrev pub IsServedAt : Setting → Bases → site.Log → Site → Msg → Type 0
-IsServedAt s bases log from (Rows ts class rows) = ServedBy s bases (active s class.0 log) from rows
-IsServedAt s bases log from _ = Unit {0}
-
--- all that is needed of what is given
-pub record IsGood (g : Input) : Type 0 where
-  pub given : FitsInput g
-  pub eras : HasEras g
-  pub few_ticks : AllFewTicks g.events
-  pub once : AreSubmittedOnce g.events

@@ -1,6 +1,8 @@
 -- What is so after events of a schedule: how many class lists they put in force, and which modules are down.
 use Rattle.std.specs.Prelude.{ℕ, suc, Bool, List, [], ◌∷◌, false}
-use Rattle.sdd_invariants.specs.All.{Event, Redeclare, turned_by}
+use Rattle.sdd_log.specs.base.declared.event.Event.{Event}
+use Rattle.sdd_log.specs.base.declared.event.Event.TheVariants.{Redeclare}
+use Rattle.sdd_log.specs.Traffic.{turned_by}
 
 -- how many further class lists the events put in force
 abbrev pub redeclares_in : List Event → ℕ
