@@ -7,7 +7,6 @@ pub mod CleanWords
 pub mod EachMarked
 pub mod FirstLines
 pub mod GivenValues
-pub mod HasReport
 pub mod ListAt
 pub mod MadeSettles
 pub mod Moved
