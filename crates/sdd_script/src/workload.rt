@@ -21,14 +21,3 @@ pub struct Workload {
     pub lists: ClassLists,
     pub events: Events,
 }
-
-impl Workload {
-    ghost use Rattle.sdd_script.specs.Redeclaring.{has_lists};
-
-    /// Whether it declares class lists. Without them no event is a `redeclare`. Takes no memory.
-    pub fn has_lists(&self) -> bool
-        ensures { result ≡ has_lists self.now }
-    {
-        !self.lists.as_slice().is_empty()
-    }
-}

@@ -90,26 +90,9 @@ impl<'a> TxnModule<'a> {
         self.parts.standing(number)
     }
 
-    /// Takes a new transaction, and then makes each act that is due, one after the other, until
-    /// none is: it returns what these send and record, after the record of the submission. Out
-    /// of memory it takes nothing more. Costs, before these acts, what `class_for` does.
-    pub fn submit(&mut self, number: TxnNo, txn: &Txn) -> Result<Outcome, NoMemory>
-        requires lives { IsTrue self.old.live }
-        requires represents { (setting : Setting) × (bases : Bases) × (log : Log)
-            × Represents self.old setting log × FitsSubmit setting bases log number.0 txn.now }
-        ensures law { IfOk result (λ outcome. (setting : Setting) (bases : Bases) (log : Log)
-            → Represents self.old setting log → FitsSubmit setting bases log number.0 txn.now
-            → (recs : List Record) × (outcome.recs ≡ Submit number ∷ recs)
-            × Does (next setting bases) (Submits number.0 txn.now ∷ log) recs outcome.out
-            (Represents self.new setting)) }
-        ensures lives_on { IfOk result (λ _. IsTrue self.new.live) }
-        ensures dies { OnErr result (¬ IsTrue self.new.live) }
-    {
-        let class = self.parts.class_for(txn);
-        self.submit_in_class(number, txn, class)
-    }
-
-    /// The same for a transaction whose class by the list in force is known.
+    /// Takes a new transaction, whose class by the list in force is given, and then makes each act
+    /// that is due, one after the other, until none is: it returns what these send and record,
+    /// after the record of the submission. Out of memory it takes nothing more.
     pub fn submit_in_class(
         &mut self,
         number: TxnNo,
