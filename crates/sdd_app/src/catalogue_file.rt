@@ -10,8 +10,7 @@ ghost use Rattle.sdd_app.specs.Verdict.{AtFault, ComesOfFiles, Explains};
 
 use crate::status::Status;
 use sdd_catread::read_catalogue;
-use sdd_lang::sdd_base::{MAX_CATALOGUE_BYTES, Shelf, read_file};
-use sdd_lang::sdd_catalog::Catalogue;
+use sdd_lang::{Catalogue, MAX_CATALOGUE_BYTES, Shelf, read_file};
 use std::alloc::Global;
 
 /// Reads a file to its end, or one byte past the limit.

@@ -12,7 +12,7 @@ ghost use Rattle.sdd_app.specs.Verdict.{Answers, AtFault, ComesOfFiles, Explains
 use crate::catalogue_file::read_named;
 use crate::status::Status;
 use sdd_control::{ControlScript, read_control, write_report};
-use sdd_lang::sdd_base::{MAX_WORKLOAD_BYTES, Pages, Shelf};
+use sdd_lang::{MAX_WORKLOAD_BYTES, Pages, Shelf};
 use std::alloc::Global;
 
 /// The script that the bytes give.

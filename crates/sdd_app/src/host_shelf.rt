@@ -1,6 +1,6 @@
 ghost use Rattle.std.specs.Prelude.{◌<◌, ◌≤◌, None, IfSome, length};
 
-use sdd_lang::sdd_base::{Failed, FileNo, Shelf};
+use sdd_lang::{Failed, FileNo, Shelf};
 use std::fs;
 use std::io::Read;
 use std::rt::Files;

@@ -1,6 +1,6 @@
 ghost use Rattle.std.specs.Prelude.{None};
 
-use sdd_lang::sdd_base::{Failed, Sink};
+use sdd_lang::{Failed, Sink};
 use std::io::Write;
 
 /// A stream of the system. Nothing is said of what it took.

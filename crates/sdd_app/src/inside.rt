@@ -17,9 +17,8 @@ use crate::catalogue_file::accepted_catalogue;
 use crate::status::Status;
 use crate::telling::tell_inside;
 use crate::workload_file::accepted_workload;
-use sdd_lang::sdd_base::{Shelf, Sink, write_text};
-use sdd_lang::sdd_catalog::Catalogue;
-use sdd_verified::sdd_script::Workload;
+use sdd_lang::{Catalogue, Shelf, Sink, write_text};
+use sdd_verified::Workload;
 use sdd_watch::inside_text;
 use std::alloc::Global;
 

@@ -14,10 +14,8 @@ ghost use Rattle.sdd_app.specs.Verdict.{Answers, AtFault, ComesOfFiles};
 use crate::catalogue_file::{accepted_catalogue, read_named};
 use crate::status::Status;
 use crate::workload_file::accepted_workload;
-use sdd_lang::sdd_base::{NoMemory, Pages, Shelf};
-use sdd_lang::sdd_catalog::Catalogue;
-use sdd_verified::sdd_script::Workload;
-use sdd_verified::sdd_verify::{MAX_REPORT_BYTES, Verdict, verify};
+use sdd_lang::{Catalogue, NoMemory, Pages, Shelf};
+use sdd_verified::{MAX_REPORT_BYTES, Verdict, Workload, verify};
 use sdd_words::{put, put_count};
 use std::alloc::Global;
 

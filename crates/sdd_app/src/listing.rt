@@ -13,8 +13,7 @@ use crate::check::counts;
 use crate::edges::{graph_text, table_text};
 use crate::status::Status;
 use sdd_advise::advice_text;
-use sdd_lang::sdd_base::{NoMemory, Pages, Shelf};
-use sdd_lang::sdd_catalog::Catalogue;
+use sdd_lang::{Catalogue, NoMemory, Pages, Shelf};
 use sdd_protocol::table;
 use std::alloc::Global;
 

@@ -6,11 +6,8 @@ ghost use Rattle.sdd_app.specs.Answer.{ComesToMade, ComesToSummary};
 ghost use Rattle.sdd_app.specs.Verdict.{Answers, AtFault, ComesOfFiles};
 
 use crate::status::Status;
-use sdd_lang::sdd_base::Pages;
-use sdd_lang::sdd_catalog::Catalogue;
-use sdd_verified::sdd_make::{bank, law_workload_allowed, workload};
-use sdd_verified::sdd_run::run_summary;
-use sdd_verified::sdd_script::Workload;
+use sdd_lang::{Catalogue, Pages};
+use sdd_verified::{Workload, bank, law_workload_allowed, run_summary, workload};
 use std::alloc::Global;
 
 /// The summary of the run of the workload.

@@ -18,7 +18,7 @@ use crate::made_input::make_answer;
 use crate::status::Status;
 use crate::telling::tell;
 use crate::workload_answer::{plain_answer, run_answer};
-use sdd_lang::sdd_base::{Pages, Shelf, Sink, write_pages};
+use sdd_lang::{Pages, Shelf, Sink, write_pages};
 use std::alloc::Global;
 
 /// The text that the command prints, or the status of a call that prints none.

@@ -1,10 +1,8 @@
 ghost use Rattle.std.specs.Prelude.{◌≡◌};
 ghost use Rattle.sdd_app.specs.Status.{number_of_status};
 
-use sdd_lang::sdd_base::{NoMemory, ReadError};
-use sdd_lang::sdd_catalog::{CatError, CatFault};
-use sdd_verified::sdd_script::{WorkError, WorkFault};
-use sdd_verified::sdd_world::WorldEnd;
+use sdd_lang::{CatError, CatFault, NoMemory, ReadError};
+use sdd_verified::{WorkError, WorkFault, WorldEnd};
 
 /// How a call ended.
 #[derive(Clone, Copy, PartialEq, Eq)]

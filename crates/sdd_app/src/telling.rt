@@ -5,9 +5,8 @@ ghost use Rattle.sdd_app.specs.Status.{part_word, number_word, rule_word, counte
 
 use crate::status::Status;
 use itoa::Buffer;
-use sdd_lang::sdd_base::{Sink, write_text};
-use sdd_lang::sdd_catalog::{CatFault, CatRule, Counted, Part};
-use sdd_verified::sdd_script::{Counts, WorkFault, WorkRule};
+use sdd_lang::{CatFault, CatRule, Counted, Part, Sink, write_text};
+use sdd_verified::{Counts, WorkFault, WorkRule};
 
 const USAGE: &[u8] =
     b"usage: sdd1 check CAT | graph CAT | table CAT | run CAT WORK | plain CAT WORK | make SEED N | control FILE | verify CAT WORK REPORT | advise CAT\n";

@@ -13,10 +13,8 @@ use crate::catalogue_file::accepted_catalogue;
 use crate::serially::serial_text;
 use crate::status::Status;
 use crate::workload_file::accepted_workload;
-use sdd_lang::sdd_base::{Pages, Shelf};
-use sdd_lang::sdd_catalog::Catalogue;
-use sdd_verified::sdd_run::run_report;
-use sdd_verified::sdd_script::Workload;
+use sdd_lang::{Catalogue, Pages, Shelf};
+use sdd_verified::{Workload, run_report};
 use std::alloc::Global;
 
 /// The report on the run of the workload.

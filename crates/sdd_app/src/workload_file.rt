@@ -11,9 +11,8 @@ ghost use Rattle.sdd_app.specs.Verdict.{AtFault, ComesOfFiles, Explains};
 
 use crate::catalogue_file::read_named;
 use crate::status::Status;
-use sdd_lang::sdd_base::{MAX_WORKLOAD_BYTES, Shelf};
-use sdd_lang::sdd_catalog::Catalogue;
-use sdd_verified::sdd_script::{Workload, read_workload};
+use sdd_lang::{Catalogue, MAX_WORKLOAD_BYTES, Shelf};
+use sdd_verified::{Workload, read_workload};
 use std::alloc::Global;
 
 /// The workload that the bytes give for the catalogue.

@@ -28,34 +28,8 @@ pub use standing::Standing;
 pub use step::LineStep;
 
 // What lies below, for the crates above.
-
-pub mod sdd_base {
-    pub use sdd_module::sdd_base::{
-        Change, ClassNo, Clock, Conds, DmNo, Event, FragNo, Listed, NoMemory, Pages, Parcel, Row,
-        Site, TmNo, Ts, TxnNo,
-    };
-}
-
-pub mod sdd_catalog {
-    pub use sdd_module::sdd_catalog::Catalogue;
-}
-
-pub mod sdd_history {
-    pub use sdd_module::sdd_history::Rec;
-}
-
-pub mod sdd_lang {
-    pub use sdd_module::sdd_lang::{Txn, class_for};
-}
-
-pub mod sdd_module {
-    pub use sdd_module::{Draft, Module};
-}
-
-pub mod sdd_protocol {
-    pub use sdd_module::sdd_protocol::{Table, table};
-}
-
-pub mod sdd_wire {
-    pub use sdd_module::sdd_wire::{Msg, Outcome, Spelling};
-}
+pub use sdd_module::{
+    Catalogue, Change, ClassNo, Clock, Conds, DmNo, Draft, Event, FragNo, Listed, Module, Msg,
+    NoMemory, Outcome, Pages, Parcel, Rec, Row, Site, Spelling, Table, TmNo, Ts, Txn, TxnNo,
+    class_for, table,
+};

@@ -1,4 +1,4 @@
-use sdd_script::sdd_base::{Listed, NoMemory, Parcel};
+use sdd_script::{Listed, NoMemory, Parcel};
 
 /// An event. Site 0 is the committer, and sites from 1 on are its backups.
 #[derive(Clone, Copy)]

@@ -13,7 +13,7 @@ use crate::message::Message;
 use crate::note::Note;
 use crate::state::{State, pair};
 use crate::value::Val;
-use sdd_script::sdd_base::NoMemory;
+use sdd_script::NoMemory;
 
 /// Says to another site that this one has stopped; a site says it not to itself.
 fn say_gone(links: &mut Links, site: u32, other: u32) -> Result<(), NoMemory>

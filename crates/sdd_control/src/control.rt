@@ -7,7 +7,7 @@ use crate::act::Act;
 use crate::note::Note;
 use crate::state::State;
 use crate::value::Val;
-use sdd_script::sdd_base::NoMemory;
+use sdd_script::NoMemory;
 use std::alloc::Global;
 use std::marker::Model;
 

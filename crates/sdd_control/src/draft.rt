@@ -3,7 +3,7 @@ ghost use Rattle.sdd_control.specs.declared.stage.Stage.TheVariants.{First};
 
 use crate::act::{Act, Acts};
 use crate::stage::Stage;
-use sdd_script::sdd_base::NoMemory;
+use sdd_script::NoMemory;
 use std::alloc::Global;
 use std::marker::Model;
 

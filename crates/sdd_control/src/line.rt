@@ -10,9 +10,9 @@ use crate::fault::{LineError, must, refuse, require};
 use crate::key::{Key, key_of};
 use crate::limits::{MAX_BACKUPS, MAX_WRITES};
 use crate::stage::{Head, Stage};
-use sdd_script::sdd_base::MAX_EVENTS;
-use sdd_script::sdd_words::{Token, Tokens, are_sound, is_free, number_in, text_of, words_of};
-use sdd_script::{Counts, WorkRule};
+use sdd_script::{
+    Counts, MAX_EVENTS, Token, Tokens, WorkRule, are_sound, is_free, number_in, text_of, words_of,
+};
 use std::alloc::Global;
 
 fn within(least: u32, most: u32, number: i64) -> Option<u32>

@@ -1,7 +1,7 @@
 ghost use Rattle.std.specs.Prelude.{◌≡◌, ◌<◌, ◌++◌, ◌∷◌, [], length, drop, IfOk, OnOk, replicate, slice_get, slice_index_or, slice_set};
 
 use crate::message::Message;
-use sdd_script::sdd_base::NoMemory;
+use sdd_script::NoMemory;
 use std::alloc::Global;
 use std::collections::VecDeque;
 use std::marker::Model;

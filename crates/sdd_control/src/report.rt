@@ -12,8 +12,7 @@ use crate::control::Control;
 use crate::note::Note;
 use crate::script::ControlScript;
 use crate::value::Val;
-use sdd_script::sdd_base::{Bytes, NoMemory};
-use sdd_script::sdd_words::{put, put_count};
+use sdd_script::{Bytes, NoMemory, put, put_count};
 use std::alloc::Global;
 
 fn put_value(out: &mut Vec<u8>, val: Val) -> Result<(), NoMemory>

@@ -12,7 +12,7 @@ use crate::message::Message;
 use crate::note::Note;
 use crate::table::Table;
 use crate::value::Val;
-use sdd_script::sdd_base::NoMemory;
+use sdd_script::NoMemory;
 use std::alloc::Global;
 
 /// The most sites: the committer and its backups.

@@ -1,6 +1,6 @@
 ghost use Rattle.std.specs.Prelude.{◌≡◌, ◌<◌, length, IfOk, replicate, slice_index_or, slice_set};
 
-use sdd_script::sdd_base::NoMemory;
+use sdd_script::NoMemory;
 use std::alloc::Global;
 use std::marker::Model;
 

@@ -6,7 +6,7 @@ ghost use Rattle.sdd_copy.specs.Copies.{is_here, items_at, with_change, held_in,
 ghost use Rattle.sdd_copy.specs.Items.{written, dated};
 
 use crate::frag_copy::FragCopy;
-use sdd_lang::sdd_base::{Change, Changes, FragNo, NoMemory, Ts};
+use sdd_lang::{Change, Changes, FragNo, NoMemory, Ts};
 use std::alloc::Global;
 use std::marker::Model;
 

@@ -7,8 +7,7 @@ ghost use Rattle.sdd_copy.specs.Keyed.{is_within, rows_meeting};
 
 use crate::kept_items::KeptItems;
 use crate::near::meets_all;
-use sdd_lang::Keys;
-use sdd_lang::sdd_base::{Change, NoMemory, Parcel, Restriction, Row, Ts};
+use sdd_lang::{Change, Keys, NoMemory, Parcel, Restriction, Row, Ts};
 use std::alloc::Global;
 use std::marker::Model;
 

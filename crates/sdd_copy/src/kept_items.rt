@@ -9,8 +9,9 @@ ghost use Rattle.sdd_copy.specs.Items.{written, initial, is_newer, row_in, row_o
 ghost use Rattle.sdd_copy.specs.Keyed.{HasKey, IsNear, is_within, one_at};
 
 use crate::near::are_of_keys;
-use sdd_lang::sdd_base::{Change, NoMemory, Parcel, Restriction, Row, Ts, Value};
-use sdd_lang::{Keys, allowed_keys, value_in};
+use sdd_lang::{
+    Change, Keys, NoMemory, Parcel, Restriction, Row, Ts, Value, allowed_keys, value_in,
+};
 use std::alloc::Global;
 use std::collections::BTreeMap;
 use std::collections::btree_map::Range;

@@ -4,8 +4,7 @@ ghost use Rattle.std.specs.List.{list_all};
 ghost use Rattle.sdd_lang.specs.All.{IsOfKeys, kind_of, meets};
 ghost use Rattle.sdd_lang.specs.catalog.declared.parts.Kind.TheVariants.{Int};
 
-use sdd_lang::sdd_base::{Restriction, Row, Value};
-use sdd_lang::{compare, value_in};
+use sdd_lang::{Restriction, Row, Value, compare, value_in};
 
 fn is_met(row: &Row, restriction: &Restriction) -> bool
     ensures { result ≡ meets row.now restriction.now }

@@ -6,7 +6,7 @@ ghost use Rattle.sdd_dm.specs.Due.{is_at_least, or_zero};
 ghost use Rattle.sdd_dm.specs.Heads.{is_met_in, last_write_in, spoils_in, unmet, judge_in};
 
 use crate::step::Step;
-use sdd_module::sdd_base::{Cond, Conds, NoMemory, Parcel, Ts};
+use sdd_module::{Cond, Conds, NoMemory, Parcel, Ts};
 use sdd_pipe::Pipes;
 use std::alloc::Global;
 

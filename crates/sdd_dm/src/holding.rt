@@ -7,8 +7,7 @@ ghost use Rattle.sdd_dm.specs.Waiting.{holder_at, holders_in};
 
 use crate::hints::Hints;
 use crate::slots::waits_at;
-use sdd_module::sdd_base::{Change, ClassNo, Cond, Listed, NoMemory, Ts};
-use sdd_module::sdd_wire::Msg;
+use sdd_module::{Change, ClassNo, Cond, Listed, Msg, NoMemory, Ts};
 use sdd_pipe::{Pipes, touches};
 use std::alloc::Global;
 

@@ -10,8 +10,7 @@ use crate::hints::Hints;
 use crate::holding::is_held;
 use crate::slots::waits_at;
 use crate::step::Step;
-use sdd_module::sdd_base::{ClassNo, Cond, Conds, NoMemory, Ts};
-use sdd_module::sdd_wire::Msg;
+use sdd_module::{ClassNo, Cond, Conds, Msg, NoMemory, Ts};
 use sdd_pipe::Pipes;
 use std::alloc::Global;
 

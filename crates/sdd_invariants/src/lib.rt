@@ -19,46 +19,8 @@ pub mod steps_laws;
 pub mod traffic_laws;
 
 // What lies below, for the crates above.
-
-pub mod sdd_attempt {
-    pub use sdd_log::sdd_attempt::{Answer, Line};
-}
-
-pub mod sdd_base {
-    pub use sdd_log::sdd_base::{
-        Change, ClassNo, Conds, DmNo, Event, FragNo, Listed, NoMemory, Pages, Parcel, Row, Site,
-        TmNo, Ts, TxnNo,
-    };
-}
-
-pub mod sdd_catalog {
-    pub use sdd_log::sdd_catalog::Catalogue;
-}
-
-pub mod sdd_dm {
-    pub use sdd_log::sdd_dm::{ClassNos, DataModule};
-}
-
-pub mod sdd_history {
-    pub use sdd_log::sdd_history::Rec;
-}
-
-pub mod sdd_net {
-    pub use sdd_log::sdd_net::{Packet, Packets};
-}
-
-pub mod sdd_protocol {
-    pub use sdd_log::sdd_protocol::{Table, table};
-}
-
-pub mod sdd_tm {
-    pub use sdd_log::sdd_tm::{Asked, ClassRun, TxnModule};
-}
-
-pub mod sdd_umod {
-    pub use sdd_log::sdd_umod::UModule;
-}
-
-pub mod sdd_wire {
-    pub use sdd_log::sdd_wire::{Msg, Spelling};
-}
+pub use sdd_log::{
+    Answer, Asked, Catalogue, Change, ClassNo, ClassNos, ClassRun, Conds, DataModule, DmNo, Event,
+    FragNo, Line, Listed, Msg, NoMemory, Packet, Packets, Pages, Parcel, Rec, Row, Site, Spelling,
+    Table, TmNo, Ts, TxnModule, TxnNo, UModule, table,
+};

@@ -4,8 +4,7 @@ ghost use Rattle.sdd_laws.specs.Copied.{AreAppliedAlike};
 ghost use Rattle.sdd_laws.specs.Snapshots as snapshots;
 
 use sdd_history::Rec;
-use sdd_lang::sdd_base::{DmNo, RelNo, Row, TxnNo};
-use sdd_lang::sdd_catalog::Catalogue;
+use sdd_lang::{Catalogue, DmNo, RelNo, Row, TxnNo};
 
 /// Equal copies: two copies of a fragment are equal, each before some place of the history, where of
 /// the transactions that change the fragment the same are applied. Takes no memory.

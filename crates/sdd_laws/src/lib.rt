@@ -33,23 +33,6 @@ pub use replay_along_law::law_replay_along;
 pub use taking::counts;
 
 // What lies below, for the crates above.
-
-pub mod sdd_base {
-    pub use sdd_lang::sdd_base::{DmNo, Use};
-}
-
-pub mod sdd_catalog {
-    pub use sdd_lang::sdd_catalog::Catalogue;
-}
-
-pub mod sdd_copy {
-    pub use sdd_copy::Copies;
-}
-
-pub mod sdd_lang {
-    pub use sdd_lang::{Ref, Txn};
-}
-
-pub mod sdd_order {
-    pub use sdd_order::serial_order;
-}
+pub use sdd_copy::Copies;
+pub use sdd_lang::{Catalogue, DmNo, Ref, Txn, Use};
+pub use sdd_order::serial_order;

@@ -1,4 +1,4 @@
-use sdd_lang::sdd_base::Ts;
+use sdd_lang::Ts;
 
 /// How two committed transactions meet at a fragment.
 #[derive(Clone, Copy)]

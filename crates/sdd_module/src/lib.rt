@@ -13,33 +13,11 @@ pub use draft::Draft;
 pub use module::Module;
 
 // What lies below, for the crates above.
-
-pub mod sdd_base {
-    pub use sdd_lang::sdd_base::{
-        Change, Changes, ClassNo, Clock, Cond, Conds, DmNo, Event, FragNo, Frags, Listed, NoMemory,
-        Pages, Parcel, RelNo, Row, Site, TmNo, Ts, TxnNo, Use, Uses, Value,
-    };
-}
-
-pub mod sdd_catalog {
-    pub use sdd_lang::sdd_catalog::Catalogue;
-}
-
-pub mod sdd_history {
-    pub use sdd_history::{PrintedReply, Rec};
-}
-
-pub mod sdd_lang {
-    pub use sdd_lang::{
-        Conditions, Effect, Ref, Stmt, Txn, class_for, key_of, law_rows_make_database, read_set,
-        uses,
-    };
-}
-
-pub mod sdd_protocol {
-    pub use sdd_protocol::{Table, table, undeclared_conds};
-}
-
-pub mod sdd_wire {
-    pub use sdd_wire::{Msg, Outcome, Spelling, UseCounts, UseRows, ValueList};
-}
+pub use sdd_history::{PrintedReply, Rec};
+pub use sdd_lang::{
+    Catalogue, Change, Changes, ClassNo, Clock, Cond, Conditions, Conds, DmNo, Effect, Event,
+    FragNo, Frags, Listed, NoMemory, Pages, Parcel, Ref, RelNo, Row, Site, Stmt, TmNo, Ts, Txn,
+    TxnNo, Use, Uses, Value, class_for, key_of, law_rows_make_database, read_set, uses,
+};
+pub use sdd_protocol::{Table, table, undeclared_conds};
+pub use sdd_wire::{Msg, Outcome, Spelling, UseCounts, UseRows, ValueList};

@@ -17,25 +17,8 @@ pub use law::{law_free_answered, law_has_report, law_low_clocks, law_one_report,
 pub use run::{run_report, run_summary};
 
 // What lies below, for the crates above.
-
-pub mod sdd_lists {
-    pub use sdd_lists::{Lists, lists_of};
-}
-
-pub mod sdd_make {
-    pub use sdd_make::{bank, law_workload_allowed, workload};
-}
-
-pub mod sdd_report {
-    pub use sdd_report::put_reply;
-}
-
-pub mod sdd_script {
-    pub use sdd_script::{
-        Counts, StartRows, WorkError, WorkFault, WorkRule, Workload, read_workload,
-    };
-}
-
-pub mod sdd_world {
-    pub use sdd_world::{ClassList, World, WorldEnd, data_modules, home};
-}
+pub use sdd_lists::{Lists, lists_of};
+pub use sdd_make::{bank, law_workload_allowed, workload};
+pub use sdd_report::put_reply;
+pub use sdd_script::{Counts, StartRows, WorkError, WorkFault, WorkRule, Workload, read_workload};
+pub use sdd_world::{ClassList, World, WorldEnd, data_modules, home};

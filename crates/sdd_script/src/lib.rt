@@ -44,32 +44,15 @@ pub use workload::{ClassLists, StartRows, Txns, Workload};
 pub use write_lines::write_workload;
 
 // What lies below, for the crates above.
-
-pub mod sdd_base {
-    pub use sdd_lang::sdd_base::{
-        Bytes, Change, Changes, ClassNo, Cond, Conds, DmNo, Event, Events, FragNo, Listed,
-        MAX_EVENTS, MAX_WORKLOAD_BYTES, Name, NoMemory, Op, Parcel, RelNo, Reply, Row, Site,
-        SureSink, Text, TmNo, Ts, TxnNo, Value, write_text,
-    };
-}
-
-pub mod sdd_catalog {
-    pub use sdd_lang::sdd_catalog::{
-        CatError, Catalogue, ClassPart, ClassParts, ColumnPart, ColumnParts, CopyNos, FragmentPart,
-        FragmentParts, Kind, Names, Parts, ReadPart, ReadParts, RelationPart, RelationParts,
-    };
-}
-
-pub mod sdd_lang {
-    pub use sdd_lang::{
-        Assign, Condition, Conditions, Ref, Refs, Rels, Sets, Statements, Stmt, Txn, class_for,
-        fits, write_set,
-    };
-}
-
-pub mod sdd_words {
-    pub use sdd_words::{
-        Token, Tokens, are_sound, is_free, next_line, number_in, put, put_count, put_value,
-        put_values, text_of, words_of,
-    };
-}
+pub use sdd_lang::{
+    Assign, Bytes, CatError, Catalogue, Change, Changes, ClassNo, ClassPart, ClassParts,
+    ColumnPart, ColumnParts, Cond, Condition, Conditions, Conds, CopyNos, DmNo, Event, Events,
+    FragNo, FragmentPart, FragmentParts, Kind, Listed, MAX_EVENTS, MAX_WORKLOAD_BYTES, Name, Names,
+    NoMemory, Op, Parcel, Parts, ReadPart, ReadParts, Ref, Refs, RelNo, RelationPart,
+    RelationParts, Rels, Reply, Row, Sets, Site, Statements, Stmt, SureSink, Text, TmNo, Ts, Txn,
+    TxnNo, Value, class_for, fits, write_set, write_text,
+};
+pub use sdd_words::{
+    Token, Tokens, are_sound, is_free, next_line, number_in, put, put_count, put_value, put_values,
+    text_of, words_of,
+};

@@ -1,8 +1,6 @@
 ghost use Rattle.std.specs.Prelude.{◌≡◌};
 
-use sdd_lang::Txn;
-use sdd_lang::sdd_base::{Events, Listed, RelNo, Row};
-use sdd_lang::sdd_catalog::ClassParts;
+use sdd_lang::{ClassParts, Events, Listed, RelNo, Row, Txn};
 
 /// The initial rows, each with its relation. Of two with one key the later one stands.
 pub type StartRows = Listed<(RelNo, Row)>;

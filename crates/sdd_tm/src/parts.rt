@@ -13,13 +13,9 @@ use crate::class_run::{ClassRun, first_classes};
 use crate::message::{class_named, push_of};
 use crate::places::Places;
 use crate::step::Step;
-use sdd_attempt::Standing;
-use sdd_attempt::sdd_base::{ClassNo, Clock, NoMemory, Site, TmNo, Ts, TxnNo};
-use sdd_attempt::sdd_catalog::Catalogue;
-use sdd_attempt::sdd_lang::Txn;
-use sdd_attempt::sdd_module::Draft;
-use sdd_attempt::sdd_protocol::Table;
-use sdd_attempt::sdd_wire::Msg;
+use sdd_attempt::{
+    Catalogue, ClassNo, Clock, Draft, Msg, NoMemory, Site, Standing, Table, TmNo, Ts, Txn, TxnNo,
+};
 use std::alloc::Global;
 use std::marker::Model;
 

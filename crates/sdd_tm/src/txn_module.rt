@@ -9,14 +9,10 @@ ghost use Rattle.sdd_tm.specs.Represents.{Represents};
 
 use crate::class_run::ClassRun;
 use crate::parts::Parts;
-use sdd_attempt::Standing;
-use sdd_attempt::sdd_base::{ClassNo, NoMemory, Site, TmNo, Ts, TxnNo};
-use sdd_attempt::sdd_catalog::Catalogue;
-use sdd_attempt::sdd_history::Rec;
-use sdd_attempt::sdd_lang::Txn;
-use sdd_attempt::sdd_module::Module;
-use sdd_attempt::sdd_protocol::Table;
-use sdd_attempt::sdd_wire::{Msg, Outcome};
+use sdd_attempt::{
+    Catalogue, ClassNo, Module, Msg, NoMemory, Outcome, Rec, Site, Standing, Table, TmNo, Ts, Txn,
+    TxnNo,
+};
 use std::alloc::Global;
 use std::marker::Model;
 

@@ -16,29 +16,8 @@ pub use summary_law::{law_all_committed, law_made_all_committed};
 pub use text_law::law_one_text;
 
 // What lies below, for the crates above.
-
-pub mod sdd_make {
-    pub use sdd_run::sdd_make::{bank, law_workload_allowed, workload};
-}
-
-pub mod sdd_report {
-    pub use sdd_run::sdd_report::put_reply;
-}
-
-pub mod sdd_run {
-    pub use sdd_run::{run_report, run_summary};
-}
-
-pub mod sdd_script {
-    pub use sdd_run::sdd_script::{
-        Counts, StartRows, WorkError, WorkFault, WorkRule, Workload, read_workload,
-    };
-}
-
-pub mod sdd_verify {
-    pub use sdd_verify::{MAX_REPORT_BYTES, Verdict, verify};
-}
-
-pub mod sdd_world {
-    pub use sdd_run::sdd_world::WorldEnd;
-}
+pub use sdd_run::{
+    Counts, StartRows, WorkError, WorkFault, WorkRule, Workload, WorldEnd, bank,
+    law_workload_allowed, put_reply, read_workload, run_report, run_summary, workload,
+};
+pub use sdd_verify::{MAX_REPORT_BYTES, Verdict, verify};

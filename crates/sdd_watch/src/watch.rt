@@ -19,9 +19,8 @@ use crate::watched_pipe::{WatchedPipe, first_pipes, look_at_pipes};
 use sdd_inside::{
     Delta, Found, Happened, LinkMoment, Moment, PipeMoment, QueueMoment, RowDelta, difference,
 };
-use sdd_obligations::sdd_base::{Event, Listed, NoMemory, Site};
-use sdd_obligations::sdd_catalog::Catalogue;
-use sdd_run::sdd_world::World;
+use sdd_obligations::{Catalogue, Event, Listed, NoMemory, Site};
+use sdd_run::World;
 use std::alloc::Global;
 use std::mem;
 

@@ -11,10 +11,8 @@ use crate::both::Both;
 use crate::places::is_same;
 use crate::waiting::{Purpose, Waiting};
 use sdd_inside::{Found, LinkMoment};
-use sdd_obligations::sdd_base::{Event, Listed, NoMemory, Site};
-use sdd_obligations::sdd_net::{Packet, Packets};
-use sdd_obligations::sdd_wire::Msg;
-use sdd_run::sdd_world::World;
+use sdd_obligations::{Event, Listed, Msg, NoMemory, Packet, Packets, Site};
+use sdd_run::World;
 use std::alloc::Global;
 
 /// The messages of a link that were handed over, with their numbers: those that have a purpose.

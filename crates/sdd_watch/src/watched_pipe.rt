@@ -16,10 +16,8 @@ use crate::places::is_same;
 use crate::waiting::Purpose;
 use crate::watched_link::Arrived;
 use sdd_inside::PipeMoment;
-use sdd_obligations::sdd_base::{ClassNo, DmNo, Listed, NoMemory, Site, Ts};
-use sdd_obligations::sdd_catalog::Catalogue;
-use sdd_obligations::sdd_dm::DataModule;
-use sdd_run::sdd_world::World;
+use sdd_obligations::{Catalogue, ClassNo, DataModule, DmNo, Listed, NoMemory, Site, Ts};
+use sdd_run::World;
 use std::alloc::Global;
 
 /// The pipe of a class at a data module, as it stood when the last event was over.
