@@ -1,5 +1,6 @@
 -- A transaction that is next to be given to a module is new there, fits, and is of the module.
 use Rattle.sdd_obligations.proofs.All.{Each, Entry, FitsTxn, Input, IsLawful, IsNew, IsSmall, Log, Option, Site, Some, Submits, Submitted, T, TmNo, Txn, all_new, arith, both, class_for, contains, current_era, differ, false, is_site, lawful_permitted, local_of, mark_due, nat_le, nat_tests, next, nth_era, redeclares, refl, setting_of, site_self, submits, subst, true, txn_at, ℕ, ◌∷◌, ◌≡◌, ◌≢◌, ◌≤◌}
+use Rattle.sdd_needs.proofs.ErasInForce.{redeclared_is}
 use Rattle.sdd_needs.proofs.OfNext.{of_next}
 use Rattle.sdd_invariants.specs.logs.Due.{home_of}
 use Rattle.sdd_invariants.specs.site_module.SiteLog as site

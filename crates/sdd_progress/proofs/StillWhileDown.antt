@@ -1,8 +1,8 @@
 -- From its `down` to its `up` nothing is handed to a data module and it does nothing: its log stays as it is.
-use Rattle.sdd_progress.proofs.AllEnds.{Act, Bool, D, Does, Entry, Event, Hand, Input, IsLawful, List, Log, Mark, Msg, None, Notes, Option, Redeclare, Redeclares, Round, Settle, Site, Some, T, U, Up, [], all_links, ap, arith, calls_of, delivered, does_at, eq-eqb, false, found_at, hand_due, hand_on, handed, home_of, if◌then◌else◌, left, link_of, local_of, mark_due, mark_from, mark_of, next, next_at, next_mark, one_of, quiet, refl, round, same_is, same_site, site_due, sites, subst, sym, true, ℕ, ◌++◌, ◌∷◌, ◌≡◌, ◌≤◌}
+use Rattle.sdd_progress.proofs.AllEnds.{Act, Bool, D, Does, Entry, Event, Hand, Input, IsLawful, List, Log, Mark, Msg, None, Notes, Option, Redeclare, Redeclares, Round, Settle, Site, Some, T, U, Up, [], all_links, ap, arith, calls_of, delivered, does_at, eq-eqb, false, found_at, hand_due, hand_on, handed, if◌then◌else◌, left, link_of, local_of, mark_due, mark_from, mark_of, next, next_at, next_mark, one_of, quiet, refl, round, same_is, same_site, site_due, sites, subst, sym, true, ℕ, ◌++◌, ◌∙◌, ◌∷◌, ◌≡◌, ◌≤◌}
 use Rattle.sdd_obligations.specs.All.{Bases, Catalogue, DmNo, Submitted, Txn, base_of, class_for, greatest_bound, is_down, nth_era, redeclares, takes_part}
 use Rattle.sdd_obligations.specs.base.declared.event.Event.TheVariants.{Deliver, Down, Lose, Repeat, Resend, Submit, Tick}
-use Rattle.sdd_obligations.specs.logs.Due.{due_by, hand_number, next_in, next_number, note_if}
+use Rattle.sdd_obligations.specs.logs.Due.{due_by, hand_number, home_of, next_in, next_number, note_if}
 use Rattle.sdd_obligations.specs.logs.Locals.{txn_at, with_submit}
 use Rattle.sdd_obligations.specs.logs.Traffic.{turned_by}
 use Rattle.sdd_obligations.specs.site_module.SiteLog as site
@@ -100,7 +100,7 @@ module _ (g : Input) (d : DmNo) (l : site.Log) (idle : (b : Bases) → next_in g
 
   by_other : (log : Log) (b : Site) (act : Act) → next_at g log b ≡ Some act → local_of g (D d) log ≡ l → same_site (D d) b ≡ false
   by_other log b act due same = elim (same_site (D d) b) as (λ c. same_site (D d) b ≡ c → c ≡ false) [
-    | true ↦ λ e. let s : D d ≡ b = same_is (D d) b e in absurd (let p : next_at g log (D d) ≡ Some act = subst (λ x. next_at g log x ≡ Some act) (sym s) due in let q : next_at g log (D d) ≡ None = rw same (idle (base_of g log)) in cc)
+    | true ↦ λ e. let s : D d ≡ b = same_is (D d) b e in absurd (let p : next_at g log (D d) ≡ Some act = subst (λ x. next_at g log x ≡ Some act) (sym s) due in let q : next_at g log (D d) ≡ None = ap (λ x. next_in g (D d) (base_of g log) x) same ∙ idle (base_of g log) in cc)
     | false ↦ λ e. refl
   ] refl
 
