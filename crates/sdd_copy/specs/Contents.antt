@@ -4,7 +4,7 @@ use Rattle.std.specs.Prelude.{ℕ, nat_lt, ◌==◌, ◌≡◌, ℤ, pos, cond, 
 use Rattle.std.specs.Ordering.{int_cmp, is_eq}
 use Rattle.std.specs.BTreeSet.{insert_key}
 use Rattle.sdd_lang.specs.All.{Change, Int, Value, frag_no}
-unfoldable pub use Rattle.sdd_items.specs.Items.{Dated}
+pub use Rattle.sdd_items.specs.Items.{Dated}
 use Rattle.sdd_items.specs.Items.{initial}
 
 -- of two dated changes the one with the greater date; of equal dates the first stands

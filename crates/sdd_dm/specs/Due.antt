@@ -6,7 +6,7 @@ use Rattle.sdd_module.specs.All.{Act, Answer, Apply, Arrive, Ask, Bases, Change,
 use Rattle.sdd_module.specs.history.declared.record.Rec.TheVariants.{Reject as Rejected}
 use Rattle.sdd_copy.specs.Frozen.{values_in}
 use Rattle.sdd_pipe.specs.Pipe.{head, passed, last_write}
-unfoldable pub use Rattle.sdd_conditions.specs.Conditions.{holds, is_at_least, or_zero}
+pub use Rattle.sdd_conditions.specs.Conditions.{holds, is_at_least, or_zero}
 use Rattle.sdd_dm.specs.declared.step.Step.{Step}
 use Rattle.sdd_dm.specs.declared.step.Step.TheVariants.{Processes, Refuses, Waits}
 use Rattle.sdd_dm.specs.Copies.{frozen_at, rows_held, counts_held, all_held}

@@ -7,7 +7,7 @@ use Rattle.sdd_pipe.specs.Digest.{Digest}
 use Rattle.sdd_pipe.specs.Pipes.{pipe_at}
 use Rattle.sdd_dm.specs.declared.step.Step.{Step}
 use Rattle.sdd_dm.specs.declared.step.Step.TheVariants.{Processes, Refuses, Waits}
-unfoldable pub use Rattle.sdd_conditions.specs.Conditions.{is_met_in, last_write_in, spoiler, spoils_in, unmet}
+pub use Rattle.sdd_conditions.specs.Conditions.{is_met_in, last_write_in, spoiler, spoils_in, unmet}
 use Rattle.sdd_dm.specs.Due.{holds_back, or_zero}
 
 -- the first unprocessed message of class c, and whether it waits
