@@ -1,5 +1,5 @@
 -- The packets that a sender makes.
-use Rattle.sdd_net.proofs.All.{List, Message, Packet, [], add-zero, arith, length, length-map, map, map-append, nat_tests, numbered, ◌++◌, ◌+◌, ◌∷◌, ◌≡◌, ℕ}
+use Rattle.sdd_net.proofs.All.{List, Message, Packet, [], add-zero, arith, length, length-map, map, map-append, nat_tests, numbered, refl, ◌++◌, ◌+◌, ◌∷◌, ◌≡◌, ℕ}
 
 -- one message more is one packet more
 pub numbered-append : {M : Type 0} (k : ℕ) (ms : List M) (m : M)
