@@ -1,0 +1,134 @@
+#!/usr/bin/env python3
+"""Writes sdd1.html: both programs as WebAssembly, the page of a run and its playing form, in one file that needs no server.
+
+    web/build.py MODULES --into FILE [--commit TEXT]
+
+MODULES is the folder with sdd1.wasm and sdd1_inside.wasm, which web/modules.py makes. The parts of the page of a run are
+taken as they are; those of this folder stand behind them. TEXT is the commit that the page says it was made of; without it
+git is asked.
+"""
+import argparse
+import base64
+import gzip
+import html
+import os
+import re
+import subprocess
+import sys
+
+from repository import EXAMPLES, HERE, PAGE, ROOT
+
+import explaining_catalogue
+import explaining_workload
+from game import HINTS
+from page import SHOWN, digest, embedded
+from play import EMPTY
+
+FIRST = ["rejected_read", "bridge", "two_protocols", "held_write", "lost_packet", "undeclared", "new_kind"]    # as in examples/README.md
+PLAYED = ["play.js", "controls.js"]
+SCRIPTS = ["toml.js", "refusals.js", "program.js", "run_data.js", "game.js", "address.js", "progress.js", "form.js", "start.js"]
+MODULES = {"sdd1-module": "sdd1.wasm", "inside-module": "sdd1_inside.wasm"}
+POLICY = "default-src 'none'; style-src %s; script-src %s 'wasm-unsafe-eval'; worker-src blob:; base-uri 'none'; form-action 'none'"
+BUTTONS = """<button id="again" title="back to the catalogue and the workload">another run</button>
+  <button id="save-workload" title="saves the workload of this run as a file">save</button>
+  """
+MOST_BYTES = 1_500_000
+
+
+class Refused(Exception):
+    """Why there is no page."""
+
+
+def text_of(*path):
+    with open(os.path.join(*path), encoding="utf-8", newline="") as f:
+        return f.read()
+
+
+def part(*path):
+    return text_of(*path).rstrip("\n")
+
+
+def module(path):
+    """A module as text. What is no script needs no word in the policy."""
+    with open(path, "rb") as f:
+        return base64.b64encode(gzip.compress(f.read(), 9, mtime=0)).decode()
+
+
+def block(name, kind, text):
+    if "</script" in text.lower() or "<!--" in text:
+        raise Refused("%s would end its block" % name)
+    return '<script type="%s" id="%s">%s</script>' % (kind, name, text)
+
+
+def described_examples():
+    """What each example shows, as examples/README.md tells it."""
+    for names, words in re.findall(r"^\| (`.*?`) \| (.*?) \|$", text_of(EXAMPLES, "README.md"), re.M):
+        for name in re.findall("`(.*?)`", names):
+            yield name, words.replace("`", "")
+
+
+def examples():
+    described = dict(described_examples())
+    found = sorted(x for x in os.listdir(EXAMPLES) if os.path.exists(os.path.join(EXAMPLES, x, "workload")))
+    ordered = [x for x in FIRST if x in found] + [x for x in found if x not in FIRST]
+    return {x: [text_of(EXAMPLES, x, "catalogue.toml"), text_of(EXAMPLES, x, "workload"), described.get(x, "")] for x in ordered}
+
+
+def rules():
+    return {"workload": explaining_workload.RULES, "catalogue": explaining_catalogue.RULES, "hints": HINTS}
+
+
+def commit():
+    """The commit of the checkout, with a word where its crates aren't those of the commit."""
+    def git(*words):
+        return subprocess.run(["git", "-C", ROOT, *words], stdout=subprocess.PIPE, check=True).stdout.decode().strip()
+    try:
+        changed = " with changes in crates" if git("status", "--porcelain", "--", "crates") else ""
+        return git("rev-parse", "--short=12", "HEAD") + changed
+    except (OSError, subprocess.CalledProcessError):
+        raise Refused("git tells no commit; give one by --commit") from None
+
+
+def replaced(page, changes):
+    """The page with each text that stands in it once in place of another; what is put in is looked at no more."""
+    for old in changes:
+        if page.count(old) != 1:
+            raise Refused("page.html has changed: it has %s %d times" % (old, page.count(old)))
+    return re.sub("|".join(map(re.escape, changes)), lambda found: changes[found[0]], page)
+
+
+def built(modules, made_of):
+    script = "\n".join([part(PAGE, x) for x in SHOWN + PLAYED] + [part(HERE, x) for x in SCRIPTS])
+    style = "\n".join([part(PAGE, "style.css"), part(PAGE, "play.css"), part(HERE, "style.css")])
+    blocks = [block("examples", "application/json", embedded(examples())), block("rules", "application/json", embedded(rules())),
+              block("worker", "text/plain", part(HERE, "worker.js"))]
+    blocks += [block(name, "text/plain", module(os.path.join(modules, file))) for name, file in MODULES.items()]
+    return replaced(part(PAGE, "page.html"), {
+        "@TITLE@": "SDD-1", "@POLICY@": POLICY % (digest(style), digest(script)), "@STYLE@": style, "@DATA@": embedded(EMPTY),
+        "<body>": '<body class="starting">\n' + part(HERE, "start.html").replace("@COMMIT@", html.escape(made_of)),
+        '<h1 id="name">': BUTTONS + '<h1 id="name">',
+        "<script>@SCRIPT@": "\n".join(blocks) + "\n<script>" + script,
+    }) + "\n"
+
+
+def main():
+    asked = argparse.ArgumentParser(description=__doc__, formatter_class=argparse.RawDescriptionHelpFormatter, usage=argparse.SUPPRESS)
+    asked.add_argument("modules", metavar="MODULES")
+    asked.add_argument("--into", metavar="FILE", required=True)
+    asked.add_argument("--commit", metavar="TEXT")
+    asked = asked.parse_args()
+    try:
+        page = built(asked.modules, asked.commit or commit()).encode()
+        if len(page) > MOST_BYTES:
+            raise Refused("the page would have %d bytes; %d are the most" % (len(page), MOST_BYTES))
+        with open(asked.into, "wb") as f:
+            f.write(page)
+    except (Refused, OSError) as fault:
+        print("build.py: %s" % fault, file=sys.stderr)
+        return 2
+    print("%s: %d bytes" % (asked.into, len(page)))
+    return 0
+
+
+if __name__ == "__main__":
+    sys.exit(main())

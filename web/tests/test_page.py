@@ -1,0 +1,443 @@
+#!/usr/bin/env python3
+"""Tries sdd1.html in a headless Chromium, opened from disk.
+
+    web/tests/test_page.py PAGE --program COMMAND --inside COMMAND [--random N] [--only PART ..]
+
+COMMAND is a natively built `sdd1`, and a built `sdd1_inside`. Parts:
+
+form       examples, report, graph, refusals with their lines, files opened and saved, addresses, reload, back, keys
+stop       a long run shows how far it is, and is stopped by the button and by Escape; the next run starts
+clicks     schedules made with the mouse, whose saved files are the workloads of examples (tools/page_clicks.py)
+data       what the page shows of a run is what tools/states.py makes with the native programs: of the examples, of catalogues
+           spelled oddly, and of N random runs (50 without --random)
+pages      the pages of examples and of some random runs, event by event, forward and back (tools/page_checks.py)
+sizes      nothing is wider than the window on a phone and on two screens, light and dark
+policy     what the page may not do, it can't
+message    what a browser without memories of 64 bits shows
+first      how long the first look at the example `bank` takes (printed; at most --seconds, 10 without it)
+"""
+import argparse
+import json
+import os
+import random
+import sys
+import tempfile
+import time
+
+HERE = os.path.dirname(os.path.abspath(__file__))
+sys.path.insert(0, os.path.join(HERE, ".."))
+
+from repository import EXAMPLES  # noqa: E402
+
+import page_checks  # noqa: E402
+import page_clicks  # noqa: E402
+import states  # noqa: E402
+import test_page as page_tests  # noqa: E402
+from browser import Browser, Fault  # noqa: E402
+from make_workload import write_workload  # noqa: E402
+from page_checks import Wrong, same  # noqa: E402
+from random_calls import run_call  # noqa: E402
+
+SIZE = (1440, 900)
+SIZES = [(390, 844), (1024, 768), (1440, 900)]
+SLOW_PAGES = ["bank", "tatp", "tpcc", "ycsb", "smallbank"]         # minutes each
+ODD_CATALOGUE = """\ufeff# a comment " with \u2028 quotes
+"tms" = 0x1
+'dms' = 0b1\r
+relation = [{name = "r", key = \"\"\"
+k\"\"\", columns = [ # a comment ]
+  {"na\\u006de" = '''
+k''', kind = "int",},
+  {kind = "text" , name = "t"}]}]
+fragment = [{name = "f", relation = "r", copies = [+1,], "from" = -9_223_372_036_854_775_808}]
+[[class]]
+tm = 1
+name = \"\"\"c\\
+   d\"\"\"
+[[class.reads]]
+fragment = "f"
+at = 0o1
+"""
+PLAIN_CATALOGUE = """tms = 1
+dms = 1
+relation = [{name = "r", key = "k", columns = [{name = "k", kind = "int"}, {name = "t", kind = "text"}]}]
+fragment = [{name = "f", relation = "r", copies = [1]}]
+class = [{name = "cd", tm = 1, reads = [{fragment = "f", at = 1}]}]
+"""
+ODD_RUN = "row r 5 \"x\"\ntxn a T1\nquery 1.k from r\ndone\nsubmit a\nsettle\nend\n"
+POLICY_TRIED = """new Promise(done => {
+    const tell = text => { window.tried = text; done(); };
+    document.addEventListener("securitypolicyviolation", x => tell("refused by " + x.effectiveDirective), {once: true});
+    setTimeout(() => { try { %s; } catch {} }, 0);          // not in the words of the debugger, which may do more
+    setTimeout(() => tell("allowed"), 1500);
+})"""
+FORBIDDEN = [
+    "fetch('https://example.org/')", "fetch('data:,x')", "new Function('return 1')", "eval('1')", "new WebSocket('wss://example.org')",
+    "new Worker('data:text/javascript,0')", "import('data:text/javascript,0')", "new Image().src = 'https://example.org/x.png'",
+    "document.body.append(Object.assign(document.createElement('script'), {textContent: '0'}))",
+    "document.body.append(Object.assign(document.createElement('iframe'), {src: 'https://example.org/'}))"]
+
+
+def text_of(*path):
+    with open(os.path.join(*path), encoding="utf-8", newline="") as f:
+        return f.read()
+
+
+def example(name):
+    return [text_of(EXAMPLES, name, x) for x in ("catalogue.toml", "workload")]
+
+
+def wait_for_file(path):
+    end = time.monotonic() + 20
+    while not os.path.exists(path):
+        if time.monotonic() > end:
+            raise Wrong("no file %s was saved" % path)
+        time.sleep(0.05)
+    return text_of(path)
+
+
+class Tests:
+    def __init__(self, asked, folder, browser):
+        self.asked, self.folder, self.browser = asked, folder, browser
+        self.programs = states.find_programs(asked.program, asked.inside)
+        self.address = "file://" + os.path.abspath(asked.page)
+        self.downloads = os.path.join(folder, "saved")
+        os.makedirs(self.downloads, exist_ok=True)
+
+    def open(self, behind="", size=SIZE, dark=False):
+        self.browser.keep_downloads(self.downloads)
+        return self.browser.open(self.address + behind, *size, dark)
+
+    def fill(self, page, catalogue, workload):
+        page.tell("setTexts(%s, %s); noteForm()" % (json.dumps(catalogue), json.dumps(workload)))
+
+    def ended(self, page):
+        """Waits until nothing runs."""
+        page.wait("!progress.running && !(view.play && view.play.isBusy)", 120)
+
+    def status(self, page):
+        return page.tell("byId('status').textContent")
+
+    def saved(self, page, selector, name):
+        path = os.path.join(self.downloads, name)
+        if os.path.exists(path):
+            os.remove(path)
+        page.click(selector)
+        return wait_for_file(path)
+
+    # ---- The form. ----
+
+    def form(self):
+        checks = [self.reports, self.refused, self.files, self.addresses, self.reload_and_back, self.keys]
+        for check in checks:
+            page = self.open()
+            check(page)
+            same("faults of scripts in " + check.__name__, page.faults(), [])
+            page.close()
+        return "%d checks" % len(checks)
+
+    def reports(self, page):
+        """Each button prints what the native program prints; an example is chosen as a person does it."""
+        for name in ("bridge", "new_kind"):
+            page.tell("byId('example').value = %s; byId('example').dispatchEvent(new Event('change'))" % json.dumps(name))
+            same("the texts", page.tell("texts()"), example(name))
+            files = [os.path.join(EXAMPLES, name, x) for x in ("catalogue.toml", "workload")]
+            for word in ("run", "plain", "table", "advise", "check"):
+                page.click("[data-words=%s]" % word)
+                self.ended(page)
+                want = self.programs.tell([word] + files[:2 if word in ("run", "plain") else 1])
+                same("%s of %s" % (word, name), page.tell("byId('output').textContent"), want)
+            page.click("#show-graph")
+            self.ended(page)
+            same("graph of " + name, page.tell("byId('output').textContent"), self.programs.tell(["graph", files[0]]))
+            same("nodes drawn", page.tell("document.querySelectorAll('#drawing .node').length > 1"), True)
+        same("the saved text", self.saved(page, "#output-save", "graph.txt"), self.programs.tell(["graph", files[0]]))
+
+    def refused(self, page):
+        """A refusal shows its line, which is selected; one of a catalogue shows its part."""
+        catalogue, workload = example("rejected_read")
+        cases = [(catalogue, workload.replace("put seat 7", "put seats 7"), "#look-inside", "workload: line 7: UnknownName", "workload", 'put seats 7 "closed"'),
+                 (catalogue, workload.replace("put seat 7", "put seats 7"), "#play-anew", "workload: line 7: UnknownName", "workload", 'put seats 7 "closed"'),
+                 (catalogue, workload.replace("deliver T2 D1 1", "deliver T2 D2 1"), "[data-words=run]", "workload: line 11: BadEvent", "workload", "deliver T2 D2 1"),
+                 (catalogue.replace("to = 99", "to = 98"), workload, "[data-words=check]", "catalogue: relation 1: RangeGap", "catalogue", '[[relation]]')]
+        for given_catalogue, given_workload, selector, line, area, quoted in cases:
+            self.fill(page, given_catalogue, given_workload)
+            page.click(selector)
+            self.ended(page)
+            same("the line that is shown", self.status(page).startswith(line), True)
+            same("the line that is quoted", page.tell("document.querySelector('.quoted').textContent").startswith(quoted), True)
+            selected = page.tell("(() => { const x = byId('%s-text'); return x.value.slice(x.selectionStart, x.selectionEnd); })()" % area)
+            same("the line that is selected", selected.startswith(quoted), True)
+            same("what it means", "It means:" in self.status(page) and "What helps:" in self.status(page), True)
+
+    def files(self, page):
+        catalogue, workload = example("two_protocols")
+        paths = [os.path.join(EXAMPLES, "two_protocols", x) for x in ("catalogue.toml", "workload")]
+        root = page.ask("DOM.getDocument")["root"]["nodeId"]
+        for what, path in zip(("catalogue", "workload"), paths):
+            node = page.ask("DOM.querySelector", nodeId=root, selector="#%s-file" % what)["nodeId"]
+            page.ask("DOM.setFileInputFiles", nodeId=node, files=[path])
+        page.wait("texts()[0] === %s && texts()[1] === %s" % (json.dumps(catalogue), json.dumps(workload)))
+        same("the example's name", page.tell("byId('example').value"), "two_protocols")
+        same("the saved catalogue", self.saved(page, "#catalogue-save", "catalogue.toml"), catalogue)
+        same("the saved workload", self.saved(page, "#workload-save", "workload"), workload)
+        path = os.path.join(self.folder, "returns")
+        with open(path, "wb") as f:
+            f.write(workload.replace("\n", "\r\n").encode())
+        page.ask("DOM.setFileInputFiles", nodeId=node, files=[path])
+        page.wait("byId('status').textContent.includes('carriage returns')")
+
+    def addresses(self, page):
+        """A run is shared as an address, and one that is too long is refused; a broken one says so."""
+        catalogue, workload = example("held_write")
+        workload = workload.replace("\nend\n", "\nsettle\nend\n")
+        self.fill(page, catalogue, workload)
+        page.click("#share")
+        page.wait("!byId('shared').hidden")
+        shared = page.tell("byId('shared-address').value")
+        other = self.browser.open(shared, *SIZE)
+        other.wait("!document.body.classList.contains('starting')")
+        same("the shared texts", other.tell("texts()"), [catalogue, workload])
+        same("the shared run", other.tell("view.run.data.events"), states.read_parts(workload).events)
+        other.close()
+        broken = self.browser.open(shared.replace("run=", "run=xx"), *SIZE)
+        broken.wait("byId('status').textContent.includes('whole')")
+        same("faults of scripts", broken.faults(), [])
+        broken.close()
+        drawn = random.Random(1)
+        self.fill(page, catalogue, "".join("row a %d\n" % drawn.randrange(2**60) for _ in range(2000)) + "end\n")
+        page.click("#share")
+        page.wait("byId('status').textContent.includes('too long for an address')")
+
+    def reload_and_back(self, page):
+        """What was typed or played stands there after a reload; the browser's way back leads to the form."""
+        catalogue, workload = example("rejected_read")
+        self.fill(page, catalogue, workload.replace("settle\n", ""))
+        page.wait("location.hash.startsWith('#run=')")
+        page.click("#play")
+        page.wait("!isForm()")
+        self.ended(page)
+        page.click("#settle")
+        self.ended(page)
+        page.wait("kept.source !== '' && view.run.data.events.at(-1) === 'settle'")
+        time.sleep(0.3)
+        page.tell("window.isOld = true; location.reload()")
+        page.wait("!window.isOld && typeof view === 'object' && view && !isForm() && view.play && !view.play.isBusy")
+        same("the schedule after a reload", page.tell("view.run.data.events"), states.read_parts(workload).events)
+        page.click("#again")
+        page.wait("isForm()")
+        same("the workload in the form", page.tell("texts()[1]"), workload)
+        page.click("#look-inside")
+        page.wait("!isForm()")
+        page.tell("history.back()")
+        page.wait("isForm()")
+
+    def keys(self, page):
+        """From the form to a run and through it without a mouse."""
+        page.tell("byId('workload-text').focus()")
+        page.press("End")
+        same("keys of a run in the form", page.tell("isForm() && view.event"), 0)
+        page.ask("Input.dispatchKeyEvent", type="keyDown", key="Enter", windowsVirtualKeyCode=13, modifiers=2)
+        page.wait("!isForm()")
+        page.press("End")
+        same("the last event", page.tell("view.event === view.run.count && view.event > 0"), True)
+        seen = set()
+        for _ in range(30):
+            page.ask("Input.dispatchKeyEvent", type="rawKeyDown", key="Tab", windowsVirtualKeyCode=9)
+            page.ask("Input.dispatchKeyEvent", type="keyUp", key="Tab", windowsVirtualKeyCode=9)
+            seen.add(page.tell("document.activeElement?.id"))
+        same("buttons that Tab reaches", {"again", "next", "last", "theme"} <= seen, True)
+
+    # ---- Runs that take long. ----
+
+    def stop(self):
+        page, files = self.open(), write_workload(self.folder, "classes", 2048)
+        self.fill(page, *map(text_of, files))
+        for way in (lambda: page.click("#stop"), lambda: page.press("Escape")):
+            page.click("#look-inside")
+            page.wait("!byId('progress').hidden && /[0-9.]+ s/.test(byId('progress-text').textContent)")
+            way()
+            self.ended(page)
+            same("what is said", self.status(page), "stopped")
+            same("the progress line", page.tell("byId('progress').hidden"), True)
+        self.fill(page, *example("bridge"))
+        page.click("#look-inside")
+        page.wait("!isForm()")
+        same("faults of scripts", page.faults(), [])
+        page.close()
+        return "stopped twice"
+
+    # ---- What is shown. ----
+
+    def runs(self):
+        yield from page_tests.example_files()
+        yield "odd names", page_tests.written(self.folder, "odd", page_tests.ODD_CATALOGUE.encode(), page_tests.ODD_WORKLOAD.encode())
+        for seed in range(self.asked.random):
+            drawn = run_call(random.Random(seed)).files
+            yield "seed %d" % seed, page_tests.written(self.folder, str(seed), drawn["cat"], drawn["work"])
+
+    def data(self):
+        page, tried, refused = self.open(), 0, 0
+        ask = "runData(programs, %s, %s, 'x').then(x => JSON.stringify(x), x => x.message)"
+        for name, files in self.runs():
+            have = page.tell(ask % tuple(json.dumps(states.read_bytes(x).decode()) for x in files))
+            try:
+                want = json.loads(json.dumps(states.run_data(self.programs, *files, "x")))
+                same("data of " + name, json.loads(have), want)
+            except states.Refused as fault:
+                same("refusal of " + name, have, str(fault))
+                refused += 1
+            tried += 1
+        odd, plain = (json.loads(page.tell(ask % (json.dumps(x), json.dumps(ODD_RUN)))) for x in (ODD_CATALOGUE, PLAIN_CATALOGUE))
+        same("data of a catalogue that is spelled oddly", odd, plain)
+        page.close()
+        return "%d runs, %d of them refused" % (tried + 1, refused)
+
+    def pages(self):
+        events = 0
+        for name, files in self.runs():
+            if name in SLOW_PAGES or name.startswith("seed") and int(name[5:]) >= 10:
+                continue
+            page = self.open()
+            self.fill(page, *[states.read_bytes(x).decode() for x in files])
+            page.click("#look-inside")
+            page.wait("!isForm()")
+            page_checks.Check(page, states.run_data(self.programs, *files, "x")).whole()
+            events += page.tell("view.run.count")
+            page.close()
+        return "%d events" % events
+
+    def clicks(self):
+        examples, tried = dict(page_tests.example_files()), 0
+        page_clicks.Served = lambda *words, **more: Local(self, *words, **more)
+        for name in page_clicks.CLICKED:
+            page_clicks.whole_workload(self.browser, self.programs, self.folder, *examples[name])
+            tried += 1
+        for check, lost in ((page_clicks.earlier, "location.reload"), (page_clicks.refusals, "play.token")):
+            try:
+                check(Until(self.browser, lost), self.programs, self.folder, *examples["rejected_read"])
+            except Reached:
+                pass                            # what is left of the check is of the server
+            tried += 1
+        page_clicks.matrix(self.browser, self.programs, self.folder)
+        return "%d made with the mouse" % (tried + 1)
+
+    def sizes(self):
+        tried = 0
+        for size in SIZES:
+            for dark in (False, True):
+                for behind in ("#example=rejected_read&do=graph", "#example=bridge&do=run", "#example=lost_packet&do=inside&e=7", "#example=undeclared&do=play"):
+                    page = self.open(behind, size, dark)
+                    self.ended(page)
+                    page.wait("isForm() ? byId('output').textContent.length > 9 : view.run.count > 0", 60)
+                    what = "%s at %d by %d" % (behind, *size)
+                    same("wider than the window: " + what, page.tell("document.documentElement.scrollWidth > innerWidth"), False)
+                    same("the theme: " + what, page.tell("document.documentElement.classList.contains('dark')"), dark)
+                    same("faults: " + what, page.faults(), [])
+                    page.close()
+                    tried += 1
+        return "%d pages" % tried
+
+    # ---- Bounds. ----
+
+    def policy(self):
+        page = self.open()
+        for what in FORBIDDEN:
+            page.tell(POLICY_TRIED % what)
+            same(what, page.tell("tried").split(" ")[0], "refused")
+        page.close()
+        return "%d things refused" % len(FORBIDDEN)
+
+    def message(self):
+        page = self.browser.open("about:blank#", *SIZE)
+        page.ask("Page.addScriptToEvaluateOnNewDocument", source="WebAssembly.validate = () => false")
+        page.go_to(self.address)
+        same("the message", page.tell("!byId('cannot').hidden && [...document.querySelectorAll('.acts')].every(x => x.hidden)"), True)
+        same("faults", page.faults(), [])
+        page.close()
+        return "the message is shown"
+
+    def first(self):
+        page = self.open()
+        page.tell("byId('example').value = 'bank'; byId('example').dispatchEvent(new Event('change'))")
+        begin = time.monotonic()
+        page.click("#look-inside")
+        page.wait("!isForm() && view.run.count > 0")
+        first = time.monotonic() - begin
+        page.click("#again")
+        page.wait("isForm()")
+        begin = time.monotonic()
+        page.click("#look-inside")
+        page.wait("!isForm() && view.run.count > 0")
+        again = time.monotonic() - begin
+        page.close()
+        same("too slow", first > self.asked.seconds, False)
+        return "bank is shown after %.1f s, and again after %.1f s" % (first, again)
+
+
+class Reached(Exception):
+    pass
+
+
+class Until:
+    """A browser whose pages stop a check where it comes to a script with some words: what follows is of the server."""
+
+    def __init__(self, browser, words):
+        self.browser, self.words = browser, words
+
+    def __getattr__(self, name):
+        return getattr(self.browser, name)
+
+    def open(self, *words):
+        page = self.browser.open(*words)
+        tell = page.tell
+
+        def told(script):
+            if self.words in script:
+                raise Reached
+            return tell(script)
+        page.tell = told
+        return page
+
+
+class Local(page_clicks.Served):
+    """The playing form of sdd1.html in place of a served page."""
+
+    def __init__(self, tests, browser, _programs, catalogue, workload, folder, size=SIZE):
+        self.folder = os.path.join(folder, "downloads")
+        os.makedirs(self.folder, exist_ok=True)
+        browser.keep_downloads(self.folder)
+        self.page = browser.open(tests.address, *size)
+        tests.fill(self.page, states.read_bytes(catalogue).decode(), states.read_bytes(workload).decode() if workload else "")
+        self.page.click("#play")
+        self.page.wait("!!view.play")
+        self.settle()
+
+    def __exit__(self, *_):
+        self.page.close()
+
+
+def main():
+    parts = ["form", "stop", "clicks", "data", "pages", "sizes", "policy", "message", "first"]
+    asked = argparse.ArgumentParser(description=__doc__, formatter_class=argparse.RawDescriptionHelpFormatter, usage=argparse.SUPPRESS)
+    asked.add_argument("page", metavar="PAGE")
+    asked.add_argument("--program", metavar="COMMAND")
+    asked.add_argument("--inside", metavar="COMMAND")
+    asked.add_argument("--random", metavar="N", type=int, default=50)
+    asked.add_argument("--seconds", metavar="N", type=float, default=10)
+    asked.add_argument("--only", metavar="PART", nargs="+", choices=parts, default=parts)
+    asked = asked.parse_args()
+    bad = 0
+    with tempfile.TemporaryDirectory(prefix="test-web-") as folder, Browser(folder) as browser:
+        for part in asked.only:
+            begin, tests = time.monotonic(), Tests(asked, folder, browser)
+            try:
+                print("%s: good, %s, %.1f s" % (part, getattr(tests, part)(), time.monotonic() - begin), flush=True)
+            except (Wrong, Fault) as fault:
+                bad += 1
+                print("%s: WRONG: %s" % (part, fault), flush=True)
+    return 1 if bad else 0
+
+
+if __name__ == "__main__":
+    sys.exit(main())
