@@ -18,11 +18,10 @@ import sys
 
 from repository import EXAMPLES, HERE, PAGE, ROOT
 
-import explaining_catalogue
-import explaining_workload
-from game import HINTS
-from page import SHOWN, digest, embedded
-from play import EMPTY
+from sdd.explain import catalogue, workload
+from sdd.view.game import HINTS
+from sdd.view.page import SHOWN, digest, embedded
+from sdd.view.play import EMPTY
 
 FIRST = ["rejected_read", "bridge", "two_protocols", "held_write", "lost_packet", "undeclared", "new_kind"]    # as in examples/README.md
 PLAYED = ["play.js", "controls.js"]
@@ -75,7 +74,7 @@ def examples():
 
 
 def rules():
-    return {"workload": explaining_workload.RULES, "catalogue": explaining_catalogue.RULES, "hints": HINTS}
+    return {"workload": workload.RULES, "catalogue": catalogue.RULES, "hints": HINTS}
 
 
 def commit():

@@ -4,11 +4,11 @@ import sys
 
 HERE = os.path.dirname(os.path.abspath(__file__))
 ROOT = os.path.normpath(os.path.join(HERE, ".."))
-TOOLS = os.path.join(ROOT, "tools")
 EXAMPLES = os.path.join(ROOT, "examples")
 CASES = os.path.join(ROOT, "crates", "sdd_cases")
-PAGE = os.path.join(TOOLS, "page")              # the parts of the page of a run
+PACKAGE = os.path.join(ROOT, "python")
+PAGE = os.path.join(PACKAGE, "sdd", "view", "parts")                # the parts of the page of a run
 
-for folder in (TOOLS, ROOT):
+for folder in (os.path.join(ROOT, "tests"), os.path.join(ROOT, "tools"), PACKAGE):
     if folder not in sys.path:
         sys.path.insert(1, folder)

@@ -1,4 +1,4 @@
-// All that a page shows of a run, from the report of `sdd1` and the text of `sdd1_inside`: what states.py makes for the page
+// All that a page shows of a run, from the report of `sdd1` and the text of `sdd1_inside`: what states.py of the package makes for the page
 // that is written to a file.
 
 const MOST_EVENTS = 100000, CATALOGUE = "catalogue.toml", WORKLOAD = "workload";

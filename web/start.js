@@ -86,7 +86,6 @@ function drawnGraph(names, edges) {
 // ---- The page of a run in place of the form. ----
 
 function show(data, play, event) {
-  const isNew = isForm();
   document.body.classList.remove("starting");
   Object.assign(view, {play, selected: null, addressAt: at => `#${kept.source}&do=${play ? "play" : "inside"}&e=${at}`});
   view.opened.clear();
@@ -94,7 +93,7 @@ function show(data, play, event) {
   byId("controls").hidden = !play;
   byId("save-workload").hidden = !!play;
   drawLegend(view);
-  if (isNew) history.pushState({isRun: true}, "");
+  if (!history.state?.isRun) history.pushState({isRun: true}, "");       // so that the browser's way back leads to the form
   view.go(event ?? (play ? data.lines.length : 0));
   scrollTo(0, 0);
 }
@@ -108,7 +107,8 @@ const playGame = (isAnew, event) => attempt("the run", async () => {
   const [catalogue, workload] = texts(), game = new Game(programs, catalogue, nameOfRun(), tellProgress.tell);
   leaveAhead();
   await game.begin(workload, isAnew);
-  const changed = it => note([catalogue, it.text()], () => { if (view.play?.game === it) view.go(view.event); });
+  const tellAddress = () => { if (view.play?.game === game) history.replaceState(history.state, "", view.addressAt(view.event)); };
+  const changed = it => note([catalogue, it.text()], tellAddress);
   const play = new PlayHere(view, game, changed);
   show(game.data, play, event);
   play.take(await play.ask({do: "look"}));
