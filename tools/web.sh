@@ -3,6 +3,7 @@
 # them with the page's parts into one file that a browser opens from disk (docs/BROWSER.md).
 #
 #   tools/web.sh                     all of it, some eight minutes and 3 GB
+#   tools/web.sh --page              the page's parts alone, with the programs that web/sdd1.html has; a second
 #   tools/web.sh --modules FOLDER    takes the modules that FOLDER has, and makes the others there
 #   tools/web.sh --compare FOLDER    the same, and compares all cases of the gate and random calls with natively built
 #                                    programs: sdd1, sdd1_inside and sdd_cases.wasm, which are made in FOLDER too
@@ -16,11 +17,12 @@ refuse() { echo "web.sh: $1" >&2; exit 2; }
 modules=
 compare=
 case "${1:-}" in
-  -h | --help) sed -n '2,13p' "$0" | sed 's/^# \{0,1\}//'; exit 0 ;;
+  -h | --help) sed -n '2,14p' "$0" | sed 's/^# \{0,1\}//'; exit 0 ;;
   --modules | --compare)
     [[ $# -eq 2 ]] || refuse "$1 takes a folder (see --help)"
     modules=$2
     [[ $1 != --compare ]] || compare=yes ;;
+  --page) exec python3 -B "$root/web/build.py" "$root/web/sdd1.html" --into "$root/web/sdd1.html" ;;
   "") ;;
   *) refuse "unknown word $1 (see --help)" ;;
 esac

@@ -2,10 +2,12 @@
 """Writes sdd1.html: both programs as WebAssembly, the page of a run and its playing form, in one file that needs no server.
 
     web/build.py MODULES --into FILE [--commit TEXT]
+    web/build.py PAGE --into FILE           takes the programs and their commit from a page that was made before
+    web/build.py PAGE --check               ends with 1 where the page has other parts than stand here
 
 MODULES is the folder with sdd1.wasm and sdd1_inside.wasm, which web/modules.py makes. The parts of the page of a run are
-taken as they are; those of this folder stand behind them. TEXT is the commit that the page says it was made of; without it
-git is asked.
+taken as they are; those of this folder stand behind them. TEXT is the commit that the page says the programs were made of;
+without it git is asked.
 """
 import argparse
 import base64
@@ -78,14 +80,28 @@ def rules():
 
 
 def commit():
-    """The commit of the checkout, with a word where its crates aren't those of the commit."""
+    """The commit of the checkout, with some words where its crates aren't those of the commit."""
     def git(*words):
         return subprocess.run(["git", "-C", ROOT, *words], stdout=subprocess.PIPE, check=True).stdout.decode().strip()
     try:
-        changed = " with changes in crates" if git("status", "--porcelain", "--", "crates") else ""
+        changed = ", with changes in crates" if git("status", "--porcelain", "--", "crates") else ""
         return git("rev-parse", "--short=12", "HEAD") + changed
     except (OSError, subprocess.CalledProcessError):
         raise Refused("git tells no commit; give one by --commit") from None
+
+
+def programs_in(folder):
+    """The modules as the page has them, by the names of their elements."""
+    return {name: module(os.path.join(folder, file)) for name, file in MODULES.items()}
+
+
+def programs_of(page):
+    """The modules that a page has, and the commit that it tells."""
+    found = [re.search('<script type="text/plain" id="%s">([A-Za-z0-9+/=]+)</script>' % name, page) for name in MODULES]
+    made_of = re.search('<code id="commit">(.*?)</code>', page)
+    if not all(found) or not made_of:
+        raise Refused("this is no page that build.py wrote")
+    return dict(zip(MODULES, (x[1] for x in found))), html.unescape(made_of[1])
 
 
 def replaced(page, changes):
@@ -96,12 +112,12 @@ def replaced(page, changes):
     return re.sub("|".join(map(re.escape, changes)), lambda found: changes[found[0]], page)
 
 
-def built(modules, made_of):
+def built(programs, made_of):
     script = "\n".join([part(PAGE, x) for x in SHOWN + PLAYED] + [part(HERE, x) for x in SCRIPTS])
     style = "\n".join([part(PAGE, "style.css"), part(PAGE, "play.css"), part(HERE, "style.css")])
     blocks = [block("examples", "application/json", embedded(examples())), block("rules", "application/json", embedded(rules())),
               block("worker", "text/plain", part(HERE, "worker.js"))]
-    blocks += [block(name, "text/plain", module(os.path.join(modules, file))) for name, file in MODULES.items()]
+    blocks += [block(name, "text/plain", text) for name, text in programs.items()]
     return replaced(part(PAGE, "page.html"), {
         "@TITLE@": "SDD-1", "@POLICY@": POLICY % (digest(style), digest(script)), "@STYLE@": style, "@DATA@": embedded(EMPTY),
         "<body>": '<body class="starting">\n' + part(HERE, "start.html").replace("@COMMIT@", html.escape(made_of)),
@@ -112,12 +128,21 @@ def built(modules, made_of):
 
 def main():
     asked = argparse.ArgumentParser(description=__doc__, formatter_class=argparse.RawDescriptionHelpFormatter, usage=argparse.SUPPRESS)
-    asked.add_argument("modules", metavar="MODULES")
-    asked.add_argument("--into", metavar="FILE", required=True)
+    asked.add_argument("given", metavar="MODULES|PAGE")
+    asked.add_argument("--into", metavar="FILE")
     asked.add_argument("--commit", metavar="TEXT")
+    asked.add_argument("--check", action="store_true")
     asked = asked.parse_args()
+    is_page = os.path.isfile(asked.given)
     try:
-        page = built(asked.modules, asked.commit or commit()).encode()
+        if bool(asked.into) == asked.check or asked.check and not is_page:
+            raise Refused("give --into FILE, or --check with a page")
+        programs, made_of = programs_of(text_of(asked.given)) if is_page else (programs_in(asked.given), asked.commit or commit())
+        page = built(programs, made_of).encode()
+        if asked.check:
+            is_same = text_of(asked.given).encode() == page
+            print("%s: %s" % (asked.given, "made of these parts" if is_same else "made of other parts; tools/web.sh makes it anew"))
+            return 0 if is_same else 1
         if len(page) > MOST_BYTES:
             raise Refused("the page would have %d bytes; %d are the most" % (len(page), MOST_BYTES))
         with open(asked.into, "wb") as f:
@@ -125,7 +150,7 @@ def main():
     except (Refused, OSError) as fault:
         print("build.py: %s" % fault, file=sys.stderr)
         return 2
-    print("%s: %d bytes" % (asked.into, len(page)))
+    print("%s: %d bytes, of commit %s" % (asked.into, len(page), made_of))
     return 0
 
 

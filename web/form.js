@@ -68,12 +68,13 @@ async function shareAddress() {
   }
   const field = byId("shared-address");
   field.value = location.href.split("#")[0] + "#" + (name ? "example=" + name : "run=" + text) + "&do=inside";
+  const copied = await navigator.clipboard?.writeText(field.value).then(() => true, () => false);
+  const where = location.protocol === "file:" ? " It opens where this file lies at the same place; elsewhere put what stands behind # behind the address of the file there." : "";
+  say((copied ? "The address is copied." : "Copy the address from the field below.") + where);
   byId("shared").hidden = false;
   field.focus();
   field.select();
-  const copied = await navigator.clipboard?.writeText(field.value).then(() => true, () => false);
-  const where = location.protocol === "file:" ? " It opens where this file lies at the same place; elsewhere put what stands behind # behind the address of the file there." : "";
-  return say((copied ? "The address is copied." : "Copy the address from the field below.") + where);
+  return null;
 }
 
 // ---- Messages and texts of the programs. ----

@@ -107,7 +107,9 @@ class Tests:
 
     def open(self, behind="", size=SIZE, dark=False):
         self.browser.keep_downloads(self.downloads)
-        return self.browser.open(self.address + behind, *size, dark)
+        page = self.browser.open(self.address + behind, *size, dark)
+        page.wait("typeof kept === 'object' && kept.source !== ''")
+        return page
 
     def fill(self, page, catalogue, workload):
         page.tell("setTexts(%s, %s); noteForm()" % (json.dumps(catalogue), json.dumps(workload)))
@@ -129,13 +131,39 @@ class Tests:
     # ---- The form. ----
 
     def form(self):
-        checks = [self.reports, self.refused, self.files, self.addresses, self.reload_and_back, self.keys]
+        checks = [self.recipe, self.reports, self.refused, self.files, self.addresses, self.reload_and_back, self.keys]
         for check in checks:
             page = self.open()
             check(page)
             same("faults of scripts in " + check.__name__, page.faults(), [])
             page.close()
         return "%d checks" % len(checks)
+
+    def recipe(self, page):
+        """What the page tells to do in five minutes, as a person does it, also on a phone: a read is rejected."""
+        for width, height in (SIZE, SIZES[0]):
+            page.ask("Emulation.setDeviceMetricsOverride", width=width, height=height, deviceScaleFactor=1, mobile=False)
+            page.go_to("about:blank#")
+            page.go_to(self.address)
+            page.wait("typeof view === 'object' && view && texts()[1]")
+            page.click("summary")
+            page.click("#play-anew")
+            page.wait("!isForm()")
+            self.ended(page)
+            for name in ("sell", "close"):
+                page.tell("(() => { const x = byId('unsubmitted'); x.value = '%s'; x.dispatchEvent(new Event('change')); })()" % name)
+                page.click("#submit")
+                self.ended(page)
+            for label in ("WRITE 66", "READ 65"):
+                number = page.tell("[...document.querySelectorAll('#map .lane .chip')].find(x => x.textContent.includes('%s')).dataset.packet" % label)
+                page.click("[data-packet='%s']" % number)
+                page.click("#menu button")
+                self.ended(page)
+            same("what is said", "REJECTED" in page.tell("byId('sentences').textContent"), True)
+            page.click("#settle")
+            self.ended(page)
+            events = ["submit sell", "submit close", "deliver T2 D1 1", "deliver T1 D1 1", "settle"]
+            same("the saved schedule", states.read_parts(self.saved(page, "#save", "workload")).events, events)
 
     def reports(self, page):
         """Each button prints what the native program prints; an example is chosen as a person does it."""
@@ -409,6 +437,7 @@ class Local(page_clicks.Served):
         os.makedirs(self.folder, exist_ok=True)
         browser.keep_downloads(self.folder)
         self.page = browser.open(tests.address, *size)
+        self.page.wait("typeof kept === 'object' && kept.source !== ''")
         tests.fill(self.page, states.read_bytes(catalogue).decode(), states.read_bytes(workload).decode() if workload else "")
         self.page.click("#play")
         self.page.wait("!!view.play")
