@@ -20,7 +20,7 @@ import sys
 
 from repository import EXAMPLES, HERE, PAGE, ROOT
 
-from sdd.explain import catalogue, workload
+from sdd.explain import rules
 from sdd.view.game import HINTS
 from sdd.view.page import SHOWN, digest, embedded
 from sdd.view.play import EMPTY
@@ -75,8 +75,9 @@ def examples():
     return {x: [text_of(EXAMPLES, x, "catalogue.toml"), text_of(EXAMPLES, x, "workload"), described.get(x, "")] for x in ordered}
 
 
-def rules():
-    return {"workload": workload.RULES, "catalogue": catalogue.RULES, "hints": HINTS}
+def refusals():
+    """What is told of a refusal: by the rule; of a line, by its first word; and of a line that speaks of no file."""
+    return {"workload": rules.OF_WORKLOAD, "catalogue": rules.OF_CATALOGUE, "forms": rules.FORMS, "others": rules.WITHOUT_FILE, "hints": HINTS}
 
 
 def commit():
@@ -115,7 +116,7 @@ def replaced(page, changes):
 def built(programs, made_of):
     script = "\n".join([part(PAGE, x) for x in SHOWN + PLAYED] + [part(HERE, x) for x in SCRIPTS])
     style = "\n".join([part(PAGE, "style.css"), part(PAGE, "play.css"), part(HERE, "style.css")])
-    blocks = [block("examples", "application/json", embedded(examples())), block("rules", "application/json", embedded(rules())),
+    blocks = [block("examples", "application/json", embedded(examples())), block("rules", "application/json", embedded(refusals())),
               block("worker", "text/plain", part(HERE, "worker.js"))]
     blocks += [block(name, "text/plain", text) for name, text in programs.items()]
     return replaced(part(PAGE, "page.html"), {

@@ -88,13 +88,13 @@ function say(text, isBad = false) {
 
 // A refusal: the program's line, the line of the text of which it speaks, what the rule means and what helps.
 function sayRefusal(fault) {
-  const [catalogue, workload] = texts(), place = placeOfFault(fault, catalogue, workload), known = explanationOf(fault);
+  const [catalogue, workload] = texts(), place = placeOfFault(fault, catalogue, workload);
   say(fault, true);
   if (place) {
     byId("status").append(element("pre", "quoted", place.text || "(an empty line)"));
     showPlace(byId(place.file + "-text"), place);
   }
-  if (known) byId("status").append(element("div", "strong", `It means: ${known[0]}.`), element("div", "faint", `What helps: ${known[1]}.`));
+  for (const sentence of explanationOf(fault, place?.text)) byId("status").append(element("div", "explained", sentence));
   byId("status").scrollIntoView({block: "nearest"});
 }
 

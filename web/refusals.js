@@ -1,6 +1,7 @@
 // What a line by which a program refuses a file speaks of, and what its rule means.
 
-const RULES = JSON.parse(byId("rules").textContent);    // {workload, catalogue: rule -> [meaning, help]; hints: rule -> a few words}
+// {workload, catalogue: rule -> [meaning, help]; hints: rule -> a few words; forms: first word of a line -> its form; others}
+const RULES = JSON.parse(byId("rules").textContent);
 const FAULT_OF_WORKLOAD = /^workload: line (\d+): (.+)$/, FAULT_OF_CATALOGUE = /^catalogue: (?:top|(relation|fragment|class) (\d+)): (.+)$/;
 
 // The rule with some words on it, for one line.
@@ -24,8 +25,11 @@ function linesAt(lines, first, end) {
   return {begin: before, end: before + text.length, line: first + 1, text};
 }
 
-// What the rule means, and what helps; nothing where it isn't known.
-function explanationOf(fault) {
+// What the rule means, what helps, and the form of such a line: sentences, none where nothing is known. `text` is the line.
+function explanationOf(fault, text) {
+  if (Object.hasOwn(RULES.others, fault)) return [`It means: ${RULES.others[fault]}.`];
   const kind = fault.split(":")[0], rule = fault.split(": ").at(-1).split(" ")[0], known = RULES[kind];
-  return known && Object.hasOwn(known, rule) ? known[rule] : null;
+  if (!["workload", "catalogue"].includes(kind) || !Object.hasOwn(known, rule)) return [];
+  const [meaning, help] = known[rule], word = kind === "workload" ? (text || "").split(" ")[0] : "";
+  return [`It means: ${meaning}.`, `What helps: ${help}.`, ...Object.hasOwn(RULES.forms, word) ? [`The form: ${RULES.forms[word]}`] : []];
 }
