@@ -15,6 +15,7 @@ typedef struct { size is_good, at; } Memory;        // what an allocation gives:
 #define END_OF_LIST (-1)
 #define NO_SUCH_FILE 2      // of errno
 #define NO_SUCH_NUMBER 9
+#define NO_SUCH_PLACE 22
 #define TOO_MANY_FILES 24
 
 #define IMPORTED(name) __attribute__((import_module("page"), import_name(name)))
@@ -157,6 +158,12 @@ int rattle_errno(void) { return fault; }
 void rattle_set_errno(int number) { fault = number; }
 long __sysv_signal(int number, long handler) { return 0; }
 
+// The words for a number of errno: here the programs tell their own.
+int __xpg_strerror_r(int number, byte *into, size length) {
+  if (length) *into = 0;
+  return 0;
+}
+
 static int fails(int number) {
   fault = number;
   return -1;
@@ -196,11 +203,21 @@ static int is_readable(int number) {
 
 long read(int number, byte *into, size length) {
   if (!is_readable(number)) return fails(NO_SUCH_NUMBER);
-  size f = opened[number].file, left = files[f].length - opened[number].place;
+  size f = opened[number].file, place = opened[number].place, left = place < files[f].length ? files[f].length - place : 0;
   if (length > left) length = left;
-  __builtin_memcpy(into, files[f].content + opened[number].place, length);
+  __builtin_memcpy(into, files[f].content + place, length);
   opened[number].place += length;
   return (long)length;
+}
+
+// From the beginning (0), from where it is (1) or from the end (2).
+long lseek(int number, long by, int from) {
+  if (!is_readable(number)) return fails(NO_SUCH_NUMBER);
+  size length = files[opened[number].file].length;
+  long place = by + (from == 0 ? 0 : from == 1 ? (long)opened[number].place : (long)length);
+  if (place < 0 || from < 0 || from > 2) return fails(NO_SUCH_PLACE);
+  opened[number].place = (size)place;
+  return place;
 }
 
 int close(int number) {
