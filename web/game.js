@@ -115,15 +115,16 @@ class Game {
 
 // The playing form of the page, which asks a game in the page where that of a served page asks its server.
 class PlayHere extends Play {
-  constructor(view, game, changed) {
+  // `changed` is called with the game after each step; `during` shows what takes long.
+  constructor(view, game, changed, during) {
     super(view, "");
-    Object.assign(this, {game, changed});
+    Object.assign(this, {game, changed, during});
   }
 
   async ask(request) {
     this.isBusy = true;
     try {
-      if (request.do !== "look") await this.game.step(request);
+      if (request.do !== "look") await this.during("the run", () => this.game.step(request));
       this.changed(this.game);
       return {version: 0, since: 0, undo: this.game.done.length > 0, redo: this.game.undone.length > 0, run: this.game.data};
     } catch (fault) {

@@ -93,6 +93,7 @@ function show(data, play, event) {
   byId("controls").hidden = !play;
   byId("save-workload").hidden = !!play;
   drawLegend(view);
+  document.title = data.name + " - SDD-1";
   if (!history.state?.isRun) history.pushState({isRun: true}, "");       // so that the browser's way back leads to the form
   view.go(event ?? (play ? data.lines.length : 0));
   scrollTo(0, 0);
@@ -109,7 +110,7 @@ const playGame = (isAnew, event) => attempt("the run", async () => {
   await game.begin(workload, isAnew);
   const tellAddress = () => { if (view.play?.game === game) history.replaceState(history.state, "", view.addressAt(view.event)); };
   const changed = it => note([catalogue, it.text()], tellAddress);
-  const play = new PlayHere(view, game, changed);
+  const play = new PlayHere(view, game, changed, (what, act) => progress.during(what, act));
   show(game.data, play, event);
   play.take(await play.ask({do: "look"}));
   view.go(event ?? view.run.count);
@@ -118,10 +119,15 @@ const playGame = (isAnew, event) => attempt("the run", async () => {
 // Back to the form; what was played stands in it.
 function startAgain() {
   if (view.play) setTexts(view.play.game.catalogue, view.play.game.text());
+  showForm();
+  noteForm();
+}
+
+function showForm() {
   view.play = null;
   document.body.classList.add("starting");
+  document.title = "SDD-1";
   say("");
-  noteForm();
 }
 
 function saveSchedule() { saveFile(WORKLOAD, texts()[1]); }
@@ -145,6 +151,17 @@ async function follow(wishes) {
   if (act === "graph") return showGraph();
   if (["run", "plain", "check", "table", "advise"].includes(act)) return print(act);
   return null;
+}
+
+// The browser's ways back and forth, and an address that is pasted into a page that stands there.
+function followHistory(event) {
+  const wishes = wishesOf(location.hash), hasTexts = ["run", "example", "kept"].some(x => wishes.has(x));
+  if (event.state?.isRun) return isForm() ? follow(wishes) : null;
+  if (!isForm() && !wishes.has("do")) return startAgain();
+  if (!hasTexts) return null;
+  leaveAhead();
+  showForm();
+  return follow(wishes);
 }
 
 // Keys of the form: those of the page of a run do nothing there.
@@ -175,10 +192,7 @@ function start() {
   byId("save-workload").onclick = saveSchedule;
   byId("form-theme").onclick = () => changeTheme(view);
   for (const made of document.querySelectorAll("[data-words]")) made.onclick = () => print(made.dataset.words);
-  addEventListener("popstate", event => {
-    if (!event.state?.isRun && !isForm()) startAgain();
-    else if (event.state?.isRun && isForm()) follow(wishesOf(location.hash));
-  });
+  addEventListener("popstate", followHistory);
   return follow(wishesOf(location.hash));
 }
 

@@ -260,6 +260,13 @@ class Tests:
         page.wait("!isForm()")
         page.tell("history.back()")
         page.wait("isForm()")
+        page.tell("history.forward()")
+        page.wait("!isForm() && view.run.count > 0")
+        same("the run that is shown again", page.tell("view.run.data.events"), states.read_parts(workload).events)
+        page.tell("location.hash = 'example=bridge&do=inside&e=3'")
+        page.wait("!isForm() && view.run.data.name === 'bridge' && view.event === 3")
+        page.tell("history.back()")
+        page.wait("isForm() && byId('example').value === 'bridge'")
 
     def keys(self, page):
         """From the form to a run and through it without a mouse."""
@@ -289,12 +296,33 @@ class Tests:
             self.ended(page)
             same("what is said", self.status(page), "stopped")
             same("the progress line", page.tell("byId('progress').hidden"), True)
-        self.fill(page, *example("bridge"))
-        page.click("#look-inside")
-        page.wait("!isForm()")
+        page.click("#play-anew")
+        page.wait("!byId('progress').hidden", 60)
+        page.click("#stop")
+        self.ended(page)
+        self.stop_click(page)
         same("faults of scripts", page.faults(), [])
         page.close()
-        return "stopped twice"
+        return "stopped three times in the form, once while clicking"
+
+    def stop_click(self, page):
+        """A settle that takes long is stopped: the schedule is what it was, and what is clicked next is done."""
+        catalogue, workload = map(text_of, write_workload(self.folder, "classes", 512))
+        parts = states.read_parts(workload)
+        parts.events[:] = ["submit " + x[0].split(" ")[1] for x in parts.transactions]
+        self.fill(page, catalogue, states.spelled(parts))
+        page.click("#play")
+        page.wait("!isForm()", 120)
+        self.ended(page)
+        page.click("#settle")
+        page.wait("!byId('progress').hidden", 60)
+        page.click("#stop")
+        self.ended(page)
+        same("what is said", page.tell("byId('reported').textContent"), "stopped")
+        same("the schedule", page.tell("view.run.data.events"), parts.events)
+        page.click(".tick button")
+        self.ended(page)
+        same("the schedule", len(page.tell("view.run.data.events")), len(parts.events) + 1)
 
     # ---- What is shown. ----
 
