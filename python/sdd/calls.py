@@ -25,7 +25,7 @@ from sdd.explain.rules import WITHOUT_FILE
 from sdd.model.files import BadInput, write_text
 from sdd.model.report import read_report
 from sdd.model.words import number_between
-from sdd.programs import add_program, asked_within, find_programs, named, report_by
+from sdd.programs import add_program, asked_within, find_programs, named, report_by, report_program
 
 NAMES = {"check": ["CAT"], "graph": ["CAT"], "table": ["CAT"], "advise": ["CAT"], "run": ["CAT", "WORK"], "plain": ["CAT", "WORK"],
          "inside": ["CAT", "WORK"], "verify": ["CAT", "WORK", "REPORT"], "control": ["FILE"], "make": ["SEED", "N"]}
@@ -116,7 +116,7 @@ def main():
         programs = find_programs(asked.program, asked.inside)
         command = programs.inside if word == "inside" else programs.sdd1 + [word]
         if not asked.quiet and not (asked.inside if word == "inside" else asked.program):
-            report_by("by %s" % named(programs.inside if word == "inside" else programs.sdd1))
+            report_program(programs.inside if word == "inside" else programs.sdd1)
         answer = answer_of(command, [x.path for x in files] or words)
         if answer.status:
             return refuse(answer, files)
