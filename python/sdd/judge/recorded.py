@@ -1,0 +1,174 @@
+"""Histories: what a database replied to transactions, and what the transactions come to on one plain database.
+
+Nothing here is trusted for a yes: an order is found by whatever means, and judged by `sdd1 verify`.
+"""
+from typing import NamedTuple
+
+from sdd.judge.effects import effect
+from sdd.model.catalogue import Catalogue, Fragment, Relation
+from sdd.model.statements import Query
+from sdd.model.words import GREATEST, LEAST
+
+COMMITTED, ABORTED, UNKNOWN = "committed", "aborted", "unknown"
+NEVER = float("inf")
+
+
+class Table(NamedTuple):
+    name: str
+    columns: tuple              # names
+    kinds: tuple                # of each column `int` or `text`
+    key: int                    # the place of the key among the columns, from 0
+
+    def key_of(self, row):
+        return row[self.key]
+
+
+def catalogue_of(tables):
+    """The tables as a catalogue, each in one fragment."""
+    return Catalogue(1, 1, [Relation(x.name, list(zip(x.columns, x.kinds)), x.columns[x.key]) for x in tables.values()],
+                     [Fragment(x.name, x.name, LEAST, GREATEST, [1]) for x in tables.values()])
+
+
+class Write(NamedTuple):
+    """A row that a transaction left behind, by one statement."""
+    relation: str
+    key: int
+    row: tuple                  # None where it was deleted
+    at: float                   # when its statement was answered; None where nobody tells
+
+
+class Recorded(NamedTuple):
+    """A transaction of a history."""
+    name: str
+    outcome: str
+    session: str                # None where nobody tells
+    begin: float                # when its client began it; minus infinity where nobody tells
+    end: float                  # when the answer to its commit came; where none came or nobody tells, when it was last heard of
+    until: float                # when it was over; infinity where nobody knows
+    lines: tuple                # its statements as a workload has them
+    statements: tuple           # the same, read
+    replies: tuple              # of each query its rows, ascending and each once
+    writes: tuple
+    own_faults: tuple = ()      # where it reads another row than it wrote itself, in words
+    blind: bool = False         # whether one of its changes doesn't tell which rows it met
+
+
+class History:
+    """The tables with their first rows and those that are left, and the transactions.
+
+    `done` has those that may be part of an order: first the `sure` ones, which are in every order, then those of unknown outcome whose
+    rows nobody saw.
+    """
+
+    def __init__(self, about, tables, rows, transactions, left, source="history"):
+        self.about, self.tables, self.rows, self.left, self.source = about, tables, rows, left, source
+        self.transactions = transactions
+        self.catalogue = catalogue_of(tables)
+        self.aborted = [x for x in transactions if x.outcome == ABORTED]
+        unknown = [x for x in transactions if x.outcome == UNKNOWN]
+        seen = self.rows_seen() if unknown else set()
+        self.assumed = [x for x in unknown if any((w.relation, w.row) in seen for w in x.writes if w.row is not None)]
+        assumed = {x.name for x in self.assumed}
+        sure = [x for x in transactions if x.outcome == COMMITTED or x.name in assumed]
+        may_be = [x for x in unknown if x.name not in assumed]
+        self.done = sorted(sure, key=lambda x: (x.end, x.begin)) + sorted(may_be, key=lambda x: (x.end, x.begin))
+        self.sure = len(sure)
+        self.blind = any(x.blind for x in transactions)
+        self.timed = any(x.begin > -NEVER for x in self.done)
+
+    def rows_seen(self):
+        """Whole rows that are left, or that a query listed whole, and that nobody else wrote: who wrote them did commit."""
+        seen = {(name, row) for name, rows in self.left.items() for row in rows.values()}
+        for x in self.transactions:
+            for s, rows in queries_of(x):
+                for part, relation in enumerate(s.relations):
+                    places = {c.place: k for k, c in enumerate(s.columns) if c.part == part}
+                    if len(places) == len(self.tables[relation].columns):
+                        seen |= {(relation, tuple(row[places[c]] for c in sorted(places))) for row in rows}
+        writers = {}
+        for x in self.transactions:
+            for w in x.writes:
+                writers.setdefault((w.relation, w.row), set()).add(x.name)
+        first = {(name, row) for name, rows in self.rows.items() for row in rows.values()}
+        return {item for item in seen if len(writers.get(item, ())) == 1 and item not in first}
+
+    def effect(self, place, tables):
+        """The reply and the changes of the transaction at a place of `done`, on these tables."""
+        return effect(self.done[place].statements, tables, self.catalogue)
+
+    def explain(self, place, tables):
+        """The changes of a transaction, if it gives the reply on these tables that it got; else None."""
+        reply, changes = self.effect(place, tables)
+        return changes if reply == self.done[place].replies else None
+
+    def first_tables(self):
+        return {name: dict(rows) for name, rows in self.rows.items()}
+
+    def are_left(self, tables):
+        """Whether these rows are left, of the tables of which that is told."""
+        return all(tables[name] == rows for name, rows in self.left.items())
+
+    def explains(self, order):
+        """Whether one plain database that runs the order gives all replies and the rows left."""
+        return self.difference(order, self.rows, self.left) is None
+
+    def difference(self, order, first, left):
+        """The first thing that one plain database which begins with these rows says otherwise along the order, in words; or None."""
+        tables = {name: dict(rows) for name, rows in first.items()}
+        for place in order:
+            reply, changes = self.effect(place, tables)
+            if isinstance(reply, str):
+                return "%s would get the reply %s" % (self.done[place].name, reply)
+            for got, wanted in zip(self.done[place].replies, reply):
+                if got != wanted:
+                    return "%s found %s, and would find %s" % (self.done[place].name, but(got, wanted), but(wanted, got))
+            apply(tables, changes)
+        for name, rows in left.items():
+            if tables[name] != rows:
+                got, wanted = tuple(rows.values()), tuple(tables[name].values())
+                return "%s has %s in the end, and would have %s" % (name, but(got, wanted), but(wanted, got))
+        return None
+
+    def is_strict(self, order):
+        """Whether what was over before another began stands before it."""
+        latest = -NEVER
+        for k in order:
+            if self.done[k].until < latest:
+                return False
+            latest = max(latest, self.done[k].begin)
+        return True
+
+    def sessions(self):
+        """The places of the transactions of each session, in its order."""
+        made = {}
+        for k in sorted(range(len(self.done)), key=lambda k: (self.done[k].begin, self.done[k].end)):
+            if self.done[k].session is not None:
+                made.setdefault(self.done[k].session, []).append(k)
+        return made
+
+
+def queries_of(x):
+    """Pairs of a query of a transaction and the rows that it replied."""
+    return zip((s for s in x.statements if isinstance(s, Query)), x.replies)
+
+
+def but(rows, others, most=3):
+    """The rows that aren't among the others, a few of them, in words."""
+    shown = ["(%s)" % ", ".join(map(str, x)) for x in rows if x not in others]
+    return ", ".join(shown[:most] + (["and %d more" % (len(shown) - most)] if len(shown) > most else [])) or "no row more"
+
+
+def apply(tables, changes):
+    """Applies changes; what undoes them."""
+    undo = []
+    for (relation, key), row in changes.items():
+        undo.append((relation, key, tables[relation].get(key)))
+        put(tables, relation, key, row)
+    return undo
+
+
+def put(tables, relation, key, row):
+    if row is None:
+        tables[relation].pop(key, None)
+    else:
+        tables[relation][key] = row
