@@ -5,7 +5,7 @@
 from sdd.judge.anomaly import smallest_anomaly
 from sdd.judge.cycles import cycles, kind_of, shown
 from sdd.judge.dependencies import Graph
-from sdd.judge.orders import GaveUp, along, proposals
+from sdd.judge.orders import LAST, GaveUp, along, proposals
 from sdd.judge.recorded import UNKNOWN
 from sdd.judge.verdict import YES
 from sdd.model.files import BadInput
@@ -58,8 +58,8 @@ def certify(history, judge, steps=STEPS, folder="."):
 def look_for_order(found, judge, graph, sure, has_cycle, steps):
     history = found.history
     hopeless, judged = has_cycle and sure.ordered and along(sure) is None, []
-    for name, propose in proposals(history, graph, sure, steps):
-        if has_cycle and "along" in name or hopeless and "trying" in name:
+    for name, needs, propose in proposals(history, graph, sure, steps):
+        if has_cycle and needs == "graph" or hopeless and needs == "some":
             continue
         try:
             order = propose()
@@ -67,7 +67,7 @@ def look_for_order(found, judge, graph, sure, has_cycle, steps):
             found.said.append((name, "none was found in %d steps" % steps))
             continue
         if order is None:
-            found.exhausted |= name == "by trying"
+            found.exhausted |= name == LAST
             found.said.append((name, "there is none"))
             continue
         if order in judged:

@@ -84,16 +84,16 @@ def kind_of(graph, cycle):
     if "so" in kinds:
         return "a session doesn't see what it did" if len(cycle) == 2 else "a session goes back"
     if "rw" not in kinds:
-        return "G0 write cycle" if "wr" not in kinds else "G1c circular information flow"
+        return "write cycle (G0)" if "wr" not in kinds else "circular information flow (G1c)"
     if kinds == ["rw", "ww"] and len(items) == 1:
         return "lost update"
     if kinds.count("rw") == 1:
-        return "G-single read skew"
+        return "read skew (G-single)"
     if kinds == ["rw", "rw"]:
-        return "G2 write skew" if len(items) == 2 else "G2 crossed reads and writes of one row"
+        return "write skew (G2)" if len(items) == 2 else "crossed reads and writes of one row (G2)"
     if kinds == ["rw", "rw", "wr"] and any(not graph.history.done[k].writes for k in cycle):
-        return "G2 read-only anomaly"
-    return "G2 of %d transactions" % len(cycle)
+        return "read-only anomaly (G2)"
+    return "cycle of %d transactions (G2)" % len(cycle)
 
 
 def shown(graph, cycle):

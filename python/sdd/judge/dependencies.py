@@ -152,10 +152,10 @@ class Graph:
         shown = "%s reads %s/%s as %s" % (self.name(k), *item, " ".join(str(v) for _, v in sorted(listed)))
         aborted = next((x for x in self.history.aborted if writes(x)), None)
         if aborted is not None:
-            return "G1a aborted read", k, "%s, which %s wrote, and was aborted" % (shown, aborted.name)
+            return "aborted read (G1a)", k, "%s, which %s wrote, and was aborted" % (shown, aborted.name)
         between = next((x for n, x in enumerate(self.history.done) if n != k and writes(x)), None)
         if between is not None:
-            return "G1b intermediate read", k, "%s, which %s wrote, and overwrote itself" % (shown, between.name)
+            return "intermediate read (G1b)", k, "%s, which %s wrote, and overwrote itself" % (shown, between.name)
         return "read of a row that nobody wrote", k, shown
 
     def read_version(self, k, item, chain, first, last):

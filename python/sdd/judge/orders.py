@@ -5,6 +5,7 @@ from sdd.judge.recorded import NEVER, apply, put
 from sdd.model.statements import Query
 
 NEAR, WINDOW = 200, 24
+LAST = "by search"
 
 
 class GaveUp(Exception):
@@ -177,18 +178,20 @@ def if_strict(history, order):
 
 
 def proposals(history, graph, sure, most):
-    """Pairs of a name and a function that proposes an order, or None. `sure` is the graph that doesn't rest on times."""
+    """An order's name, what it needs (a `graph` without cycle, that `some` order may be there, or nothing), and a function that proposes it
+    or None. `sure` is the graph that doesn't rest on times."""
     firm = graph if graph.ordered and along(graph) is not None else sure
     edges = firm.edges if firm.ordered and along(firm) is not None else [{} for _ in sure.edges]
+    all_edges = sure.edges if sure.ordered and along(sure) is not None else edges
 
     def base(strict):
         return (along(graph, True) or along(sure, True) if strict else None) or along(graph) or along(sure) or by_end(history)
-    yield "by commit", lambda: by_end(history)
-    yield "by begin", lambda: by_begin(history) if history.timed else None
-    yield "along the dependencies, strictly", lambda: along(graph, strict=True)
-    yield "along the dependencies and sessions", lambda: along(graph.with_sessions())
-    yield "along the dependencies", lambda: along(graph)
-    yield "so, with readers moved, strictly", lambda: if_strict(history, with_readers_placed(history, base(True)))
-    yield "by trying, strictly", lambda: Search(history, edges, True, most).run()
-    yield "so, with readers moved", lambda: with_readers_placed(history, base(False))
-    yield "by trying", lambda: Search(history, sure.edges if sure.ordered and along(sure) is not None else edges, False, most).run()
+    yield "by commit", None, lambda: by_end(history)
+    yield "by begin", None, lambda: by_begin(history) if history.timed else None
+    yield "along the dependencies, strictly", "graph", lambda: along(graph, strict=True)
+    yield "along the dependencies, readers moved, strictly", None, lambda: if_strict(history, with_readers_placed(history, base(True)))
+    yield "by search, strictly", "some", lambda: Search(history, edges, True, most).run()
+    yield "along the dependencies and sessions", "graph", lambda: along(graph.with_sessions())
+    yield "along the dependencies", "graph", lambda: along(graph)
+    yield "along the dependencies, readers moved", None, lambda: with_readers_placed(history, base(False))
+    yield LAST, "some", lambda: Search(history, all_edges, False, most).run()

@@ -119,14 +119,15 @@ class History:
             reply, changes = self.effect(place, tables)
             if isinstance(reply, str):
                 return "%s would get the reply %s" % (self.done[place].name, reply)
-            for got, wanted in zip(self.done[place].replies, reply):
+            for (query, got), wanted in zip(queries_of(self.done[place]), reply):
                 if got != wanted:
-                    return "%s found %s, and would find %s" % (self.done[place].name, but(got, wanted), but(wanted, got))
+                    columns = [self.tables[query.relations[c.part]].columns[c.place] for c in query.columns]
+                    return "%s %s" % (self.done[place].name, unlike(columns, got, wanted, "found", "didn't find"))
             apply(tables, changes)
         for name, rows in left.items():
             if tables[name] != rows:
                 got, wanted = tuple(rows.values()), tuple(tables[name].values())
-                return "%s has %s in the end, and would have %s" % (name, but(got, wanted), but(wanted, got))
+                return "in the end %s %s" % (name, unlike(self.tables[name].columns, got, wanted, "has", "hasn't"))
         return None
 
     def is_strict(self, order):
@@ -152,10 +153,17 @@ def queries_of(x):
     return zip((s for s in x.statements if isinstance(s, Query)), x.replies)
 
 
-def but(rows, others, most=3):
-    """The rows that aren't among the others, a few of them, in words."""
-    shown = ["(%s)" % ", ".join(map(str, x)) for x in rows if x not in others]
-    return ", ".join(shown[:most] + (["and %d more" % (len(shown) - most)] if len(shown) > most else [])) or "no row more"
+def unlike(columns, got, wanted, has, lacks):
+    """In which rows a reply differs from the one that it should be, in words."""
+    more, less = ([x for x in a if x not in b] for a, b in ((got, wanted), (wanted, got)))
+    if more and less:
+        return "%s %s in place of %s" % (has, few(columns, more), few(columns, less))
+    return "%s %s, which isn't there" % (has, few(columns, more)) if more else "%s %s" % (lacks, few(columns, less))
+
+
+def few(columns, rows, most=2):
+    shown = ["(%s)" % ", ".join("%s %s" % x for x in zip(columns, row)) for row in rows[:most]]
+    return " and ".join(shown + ["%d more" % (len(rows) - most)] * (len(rows) > most))
 
 
 def apply(tables, changes):

@@ -110,8 +110,6 @@ class Body:
         self.write(table, self.key(table, step.get("key")), None, step.get("at"))
 
     def write(self, table, key, row, at):
-        if meet([(table.name, key, key)], self.changed_by_conditions()):
-            self.fault("it changes a row that an `update` or `delete` before it may have changed")
         self.own[table.name, key] = row
         self.writes.append(Write(table.name, key, row, at))
 
