@@ -4,11 +4,13 @@ import os
 import shutil
 
 from sdd.judge.cycles import kind_of, shown
+from sdd.judge.effects import is_met
 from sdd.judge.judged_files import plain, write_files
 from sdd.judge.recorded import apply
 from sdd.model.statements import Query
+from sdd.reference.plain import tuples
 
-MOST_TRANSACTIONS, MOST_WHOLE, MOST_TRIES = 6, 4, 40
+MOST_TRANSACTIONS, MOST_WHOLE, MOST_TRIES = 6, 5, 40
 
 
 class Anomaly:
@@ -63,34 +65,69 @@ def whole(history):
 
 
 def cut_out(graph, members, words):
-    """The transactions, with those whose versions they read where the first rows can't stand for them; None where these are too many."""
+    """The transactions, with those whose versions they met where the first rows can't stand for them; None where these are too many.
+
+    If an order explains the history, then it explains these, from these rows: each of them meets the version of a row that it met there, or one
+    that is alike to its conditions. So if no order of them gives their replies, none of the history does, as far as the versions' order is known.
+    """
     history, members = graph.history, set(members)
     while len(members) <= MOST_TRANSACTIONS and not members & graph.vague:
-        first, missing = first_versions(graph, members)
+        base, missing = base_of(graph, members)
         if not missing:
+            if any(may_be_joined(graph, k, base, members) for k in members):
+                return None
             places = sorted(members, key=lambda k: (history.done[k].end, k))
             tables = {name: {} for name in history.tables}
-            apply(tables, first)
+            apply(tables, {item: graph.chains[item][n].row for item, n in base.items()})
             return Anomaly(history, places, tables, rows_left(graph, members, tables), words)
         members |= missing
     return None
 
 
-def first_versions(graph, members):
-    """Of each row that members read or wrote the version to begin with; and who wrote the later ones that members read."""
-    seen = {}                               # item -> places in its chain
-    for item, n in graph.versions_read(members):
-        seen.setdefault(item, []).append(n)
-    first, missing = {}, set()
+def base_of(graph, members):
+    """Of each row that members found or wrote the place of the version to begin with; and who wrote later ones that they may have met."""
+    base = {}
     for item, chain in graph.chains.items():
-        mine = [n for n, v in enumerate(chain) if v.writer in members][:1]
-        places = [max(n - 1, 0) for n in mine] + seen.get(item, [])
-        if not places:
-            continue
-        least = min(places)
-        first[item] = chain[least].row
-        missing |= {chain[n].writer for n in seen.get(item, ()) if n > least} - members
-    return first, {k for k in missing if k >= 0}
+        written = [n for n, v in enumerate(chain) if v.writer in members]
+        if written:
+            base[item] = written[0] - 1
+    looks = [x for k in members for x in graph.met.get(k, ())]
+    for item, fits, found in looks:
+        if found and item in graph.chains and item not in base:
+            base[item] = min(fits, default=0)
+    while True:
+        missing, lower = set(), [x for item, fits, _ in looks if item in base for x in strange_versions(graph, item, fits, base[item], members)]
+        for item, p in lower:
+            if p < base[item]:
+                base[item] = p
+                break
+            missing.add(graph.chains[item][p].writer)
+        else:
+            return base, missing
+
+
+def strange_versions(graph, item, fits, b, members):
+    """Of the versions that a member may have met those in whose place the cut would show another that it can't have met."""
+    chain = graph.chains[item]
+    for p in fits:
+        shown = max(q for q in range(b, max(p, b) + 1) if q == b or chain[q].writer in members)
+        if shown not in fits:
+            yield item, p
+
+
+def may_be_joined(graph, k, base, members):
+    """Whether a join of a member might give other rows in the cut, where the rows that it didn't find have any of their versions there."""
+    for query, reply, found in graph.joined.get(k, ()):
+        parts = []
+        for part, (relation, mine) in enumerate(zip(query.relations, found)):
+            near = [(item, n) for item, b in base.items() if item[0] == relation for n, v in enumerate(graph.chains[item])
+                    if n == b or v.writer in members and v.writer != k]
+            met = {item: fits for item, fits, was_found in graph.met.get(k, ()) if was_found}
+            rows = {graph.chains[item][n].row for item, n in near if item not in mine or n in met[item]}
+            parts.append([row for row in rows if row is not None and is_met(row, query.conds, part)])
+        if {tuple(rows[c.part][c.place] for c in query.columns) for rows in tuples(parts, query.conds)} != set(reply):
+            return True
+    return False
 
 
 def rows_left(graph, members, tables):
@@ -100,4 +137,4 @@ def rows_left(graph, members, tables):
         mine = [v for v in chain if v.writer in members]
         if mine:
             apply(left, {(name, key): mine[-1].row})
-    return {} if graph.history.blind else left
+    return left if graph.ordered else {}

@@ -29,20 +29,22 @@ class Found:
         self.anomaly, self.refused = None, []   # and of each of its orders the names, what the judge says, and why
         self.faults = []            # words: a transaction's own reads, phenomena that need no cycle
         self.kinds = []             # the names of all anomalies that were met
-        self.cycle = None           # words, where a cycle was found and couldn't be cut out
+        self.cycle = None           # words, where the dependencies have a cycle
+        self.hopeless = False       # whether they have one that doesn't rest on times
         self.exhausted = False      # whether every order was tried
 
     def is_serializable(self):
         return self.order is not None
 
 
-def certify(history, judge, steps=STEPS, folder="."):
+def certify(history, judge, steps=STEPS):
     """All that is found; the files of what was judged are in the judge's folder."""
     found = Found(history)
     found.faults = ["%s: %s" % (x.name, words) for x in history.done[:history.sure] for words in x.own_faults]
     graph, sure = Graph(history), Graph(history, timed=False)
     rings = cycles(graph.edges)
     found.kinds = ["own read"] * len(found.faults) + [kind for kind, _, _ in graph.faults] + [kind_of(graph, x) for x in rings]
+    found.hopeless = bool(rings) and sure.ordered and along(sure) is None
     if not found.faults:
         look_for_order(found, judge, graph, sure, bool(rings), steps)
     if found.is_serializable():
@@ -57,9 +59,9 @@ def certify(history, judge, steps=STEPS, folder="."):
 
 def look_for_order(found, judge, graph, sure, has_cycle, steps):
     history = found.history
-    hopeless, judged = has_cycle and sure.ordered and along(sure) is None, []
+    judged = []
     for name, needs, propose in proposals(history, graph, sure, steps):
-        if has_cycle and needs == "graph" or hopeless and needs == "some":
+        if has_cycle and needs == "graph" or found.hopeless and needs == "some":
             continue
         try:
             order = propose()

@@ -9,7 +9,7 @@ import copy
 from typing import NamedTuple
 
 from sdd.judge.effects import FEW_KEYS, is_met, key_range
-from sdd.judge.recorded import NEVER, queries_of
+from sdd.judge.recorded import NEVER, few, has, queries_of
 from sdd.model.statements import Column
 from sdd.model.words import LEAST
 
@@ -34,15 +34,19 @@ class Graph:
     def __init__(self, history, timed=True):
         self.history, self.timed, self.faults, self.ordered = history, timed and history.timed, [], not history.blind
         self.edges = [{} for _ in range(history.sure)]      # to -> (kind, item)
-        self.read = {}                                      # place -> of the rows that it found the item, and the place in its chain
-        self.vague = set()                                  # places of those that found rows of which it isn't known which version they are
+        self.met = {}                                       # place -> rows that it looked at: the item, the places of versions that it may have met, whether it found it
+        self.vague = set()                                  # places of those that found or wrote rows of which it isn't known which version they met
+        self.joined = {}                                    # place -> its joins: the query, the reply, the items that it found for each part
         self.open = 0                                       # reads of which it isn't known which version they met
         self.chains = self.version_chains()
-        self.unsure = {(w.relation, w.key) for x in history.done[history.sure:] for w in x.writes}      # rows that may have more versions
+        self.unsure = {}                                    # rows that may have more versions: those of transactions of unknown outcome
+        for w in (w for x in history.done[history.sure:] for w in x.writes):
+            self.unsure.setdefault((w.relation, w.key), []).append(w.row)
         self.items = {}                                     # table -> its items
         for item in self.chains:
             self.items.setdefault(item[0], []).append(item)
         for item, chain in self.chains.items():
+            self.vague |= {v.writer for v in chain} if item in self.unsure else set()
             for a, b in zip(chain, chain[1:]):
                 self.add(a.writer, b.writer, "ww", item)
         for k, x in enumerate(history.done[:history.sure]):
@@ -66,9 +70,6 @@ class Graph:
 
     def name(self, place):
         return self.history.done[place].name
-
-    def versions_read(self, places):
-        return [x for k in places for x in self.read.get(k, ())]
 
     # Versions.
 
@@ -112,17 +113,19 @@ class Graph:
 
     def add_reads(self, k, x):
         for s, rows in queries_of(x):
-            for part, relation in enumerate(s.relations):
-                self.add_read(k, x, s, part, relation, rows)
+            found = [self.add_read(k, x, s, part, relation, rows) for part, relation in enumerate(s.relations)]
+            if len(found) > 1:
+                self.joined.setdefault(k, []).append((s, rows, found))
 
     def add_read(self, k, x, s, part, relation, rows):
+        """Adds what a part of a query tells; the items that it found."""
         key = self.history.tables[relation].key
         places = {c.place: at for at, c in enumerate(s.columns) if c.part == part}
         low, high = key_range(s, part, key)
         if key not in places and low != high:
-            self.open += len(rows)
-            self.vague |= {k} if rows else set()
-            return
+            self.open += 1
+            self.vague.add(k)
+            return set()
         found = {row[places[key]] if key in places else low for row in rows}
         for row in {tuple((c, row[at]) for c, at in places.items()) + (() if key in places else ((key, low),)) for row in rows}:
             self.add_version_read(k, x, (relation, dict(row)[key]), row)
@@ -131,25 +134,29 @@ class Graph:
             for item in near:
                 if low <= item[1] <= high and item[1] not in found and item in self.chains and item not in self.unsure:
                     self.add_absence(k, x, s, part, item)
+        return {(relation, n) for n in found}
 
     def add_version_read(self, k, x, item, listed):
         """A query lists these columns of a row."""
         chain = self.chains.get(item, [])
-        fits = [n for n, v in enumerate(chain) if v.row is not None and v.writer != k and all(v.row[c] == value for c, value in listed)]
-        if len(fits) == 1:
-            self.read.setdefault(k, []).append((item, fits[0]))
+        listed = dict(listed)
+        fits = [n for n, v in enumerate(chain) if v.row is not None and v.writer != k and has(v.row, listed)]
+        self.vague |= {k} if item in self.unsure or self.history.blind else set()
+        self.met.setdefault(k, []).append((item, fits, True))
+        if len(fits) == 1 and not any(row is not None and has(row, listed) for row in self.unsure.get(item, ())):
             self.read_version(k, item, chain, fits[0], fits[0])
         elif fits or item in self.unsure or self.history.blind:
             self.open += 1
-            self.vague.add(k)
+            self.vague |= set() if fits else {k}
         else:
             self.faults.append(self.strange_read(k, item, listed))
 
     def strange_read(self, k, item, listed):
         """Who wrote the row that no committed transaction left."""
         def writes(x):
-            return any((w.relation, w.key) == item and w.row is not None and all(w.row[c] == value for c, value in listed) for w in x.writes)
-        shown = "%s reads %s/%s as %s" % (self.name(k), *item, " ".join(str(v) for _, v in sorted(listed)))
+            return any((w.relation, w.key) == item and w.row is not None and has(w.row, listed) for w in x.writes)
+        columns = self.history.tables[item[0]].columns
+        shown = "%s reads %s/%s as %s" % (self.name(k), *item, few([columns[c] for c in listed], [tuple(listed.values())]))
         aborted = next((x for x in self.history.aborted if writes(x)), None)
         if aborted is not None:
             return "aborted read (G1a)", k, "%s, which %s wrote, and was aborted" % (shown, aborted.name)
@@ -174,7 +181,10 @@ class Graph:
         def could_see(n, v):
             later = chain[n + 1].end if n + 1 < len(chain) else NEVER
             return not self.timed or (v.at is None or v.at <= x.end) and later >= x.begin
-        fits = [n for n, v in enumerate(chain) if v.writer != k and misses(v) and could_see(n, v)]
+        unlike = [n for n, v in enumerate(chain) if v.writer != k and misses(v)]
+        if len(unlike) < len(chain):
+            self.met.setdefault(k, []).append((item, unlike, False))
+        fits = [n for n in unlike if could_see(n, chain[n])]
         if not fits or fits[-1] - fits[0] + 1 != len(fits):
             self.open += 1
             return

@@ -157,8 +157,12 @@ def shares_of(asked, transactions, pace):
 
 
 def rows_left(engine, wide):
+    """The rows of all tables at one moment."""
     keeper = engine.connect()
+    keeper.level = engine.snapshot
+    keeper.begin(False)
     made = {r.name: sorted(map(tuple, keeper.ask("SELECT * FROM " + quoted(r.name))), key=r.key_of) for r in wide.relations}
+    keeper.commit()
     keeper.close()
     return made
 

@@ -24,6 +24,7 @@ from sdd.judge.verdict import YES, Judge
 from sdd.programs import Program, add_program
 
 SERIALIZABLE, NOT_SERIALIZABLE, UNDECIDED = 0, 1, 3
+MOST_SHOWN = 6
 
 
 def lines_of(found, folder):
@@ -55,20 +56,24 @@ def words_against(found):
     yield from found.faults
     if found.anomaly is not None:
         yield found.anomaly.words
-        for order, said, why in found.refused:
+        for order, said, why in found.refused[:MOST_SHOWN]:
             yield "from the rows that they found, in the order %s: %s (%s)" % (" ".join(order), said, why)
+        more = found.refused[MOST_SHOWN:]
+        if more:
+            yield "in %d orders more: %s" % (len(more), "no" if YES not in [said for _, said, _ in more] else "not all of them no")
     elif found.cycle is not None:
         yield found.cycle
-        yield "no few transactions could be cut out of which every order is refused"
+        yield "no order agrees with this cycle" if found.hopeless else "this cycle rests on when transactions began and ended"
+        yield "no few transactions could be cut out of which `sdd1 verify` refuses every order"
     elif found.exhausted:
-        yield "every order was tried, and none explains all replies"
+        yield "every order that the dependencies leave was tried, and none explains all replies"
     yield "not serializable" if status_of(found, False) == NOT_SERIALIZABLE else "not decided: no order was found"
 
 
 def status_of(found, strict):
     if found.is_serializable():
         return NOT_SERIALIZABLE if strict and found.strict not in (None, YES) else SERIALIZABLE
-    sure = found.faults or found.exhausted or found.anomaly is not None and all(said != YES for _, said, _ in found.refused)
+    sure = found.faults or found.exhausted or found.hopeless or found.anomaly is not None and all(said != YES for _, said, _ in found.refused)
     return NOT_SERIALIZABLE if sure else UNDECIDED
 
 

@@ -15,6 +15,7 @@ class Engine:
     levels = {"autocommit": None, "read-uncommitted": "READ UNCOMMITTED", "read-committed": "READ COMMITTED", "repeatable-read": "REPEATABLE READ",
               "snapshot": "REPEATABLE READ", "serializable": "SERIALIZABLE"}
     default = "serializable"
+    snapshot = "REPEATABLE READ"                # how a transaction begins that reads all tables at one moment
 
     def __init__(self, asked):
         self.pymysql = driver("pymysql", "python3-pymysql", "MariaDB")

@@ -12,6 +12,7 @@ STANDBY_SECONDS = 60
 class Engine:
     levels = {"autocommit": None, "read-committed": "READ COMMITTED", "repeatable-read": "REPEATABLE READ", "serializable": "SERIALIZABLE"}
     default = "serializable"
+    snapshot = "REPEATABLE READ"                # how a transaction begins that reads all tables at one moment
 
     def __init__(self, asked):
         self.psycopg = driver("psycopg", "python3-psycopg", "PostgreSQL")

@@ -65,32 +65,37 @@ class History:
         self.transactions = transactions
         self.catalogue = catalogue_of(tables)
         self.aborted = [x for x in transactions if x.outcome == ABORTED]
-        unknown = [x for x in transactions if x.outcome == UNKNOWN]
-        seen = self.rows_seen() if unknown else set()
-        self.assumed = [x for x in unknown if any((w.relation, w.row) in seen for w in x.writes if w.row is not None)]
-        assumed = {x.name for x in self.assumed}
-        sure = [x for x in transactions if x.outcome == COMMITTED or x.name in assumed]
-        may_be = [x for x in unknown if x.name not in assumed]
+        sure, may_be = self.by_what_was_seen()
+        self.assumed = [x for x in sure if x.outcome == UNKNOWN]
         self.done = sorted(sure, key=lambda x: (x.end, x.begin)) + sorted(may_be, key=lambda x: (x.end, x.begin))
         self.sure = len(sure)
         self.blind = any(x.blind for x in transactions)
         self.timed = any(x.begin > -NEVER for x in self.done)
 
-    def rows_seen(self):
-        """Whole rows that are left, or that a query listed whole, and that nobody else wrote: who wrote them did commit."""
-        seen = {(name, row) for name, rows in self.left.items() for row in rows.values()}
-        for x in self.transactions:
-            for s, rows in queries_of(x):
-                for part, relation in enumerate(s.relations):
-                    places = {c.place: k for k, c in enumerate(s.columns) if c.part == part}
-                    if len(places) == len(self.tables[relation].columns):
-                        seen |= {(relation, tuple(row[places[c]] for c in sorted(places))) for row in rows}
-        writers = {}
-        for x in self.transactions:
-            for w in x.writes:
-                writers.setdefault((w.relation, w.row), set()).add(x.name)
-        first = {(name, row) for name, rows in self.rows.items() for row in rows.values()}
-        return {item for item in seen if len(writers.get(item, ())) == 1 and item not in first}
+    def by_what_was_seen(self):
+        """The transactions that surely committed, and those of unknown outcome whose rows nobody saw."""
+        sure = [x for x in self.transactions if x.outcome == COMMITTED]
+        may_be = [x for x in self.transactions if x.outcome == UNKNOWN]
+        rows = {(name, key): [row] for name, mine in self.rows.items() for key, row in mine.items()}
+        for w in (w for x in self.transactions for w in x.writes) if may_be else ():
+            rows.setdefault((w.relation, w.key), []).append(w.row)
+        seen = [(name, dict(enumerate(row))) for name, mine in self.left.items() for row in mine.values()]
+        seen += [part for x in sure for part in parts_listed(self.tables, x)] if may_be else []
+        while seen and may_be:
+            new = [x for x in may_be if any(self.saw(w, rows, seen) for w in x.writes)]
+            seen = [part for x in new for part in parts_listed(self.tables, x)]
+            sure, may_be = sure + new, [x for x in may_be if x not in new]
+        return sure, may_be
+
+    def saw(self, w, rows, seen):
+        """Whether one of the parts of rows that were seen is of this write, and can be of no other row with its key."""
+        if w.row is None:
+            return False
+        for name, listed in seen:
+            if name == w.relation and listed.get(self.tables[name].key) == w.key and has(w.row, listed):
+                if sum(row is not None and has(row, listed) for row in rows[name, w.key]) == 1:
+                    return True
+        return False
 
     def effect(self, place, tables):
         """The reply and the changes of the transaction at a place of `done`, on these tables."""
@@ -151,6 +156,19 @@ class History:
 def queries_of(x):
     """Pairs of a query of a transaction and the rows that it replied."""
     return zip((s for s in x.statements if isinstance(s, Query)), x.replies)
+
+
+def has(row, listed):
+    return all(row[c] == value for c, value in listed.items())
+
+
+def parts_listed(tables, x):
+    """Pairs of a table and the columns of a row of it that a transaction's queries list."""
+    for s, rows in queries_of(x):
+        for part, relation in enumerate(s.relations):
+            places = {c.place: k for k, c in enumerate(s.columns) if c.part == part}
+            for row in rows:
+                yield relation, {c: row[k] for c, k in places.items()}
 
 
 def unlike(columns, got, wanted, has, lacks):

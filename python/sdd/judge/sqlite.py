@@ -15,6 +15,7 @@ SHARED = "file:sdd_history?mode=memory&cache=shared"
 class Engine:
     levels = {"autocommit": None, "read-uncommitted": "BEGIN", "deferred": "BEGIN", "immediate": "BEGIN IMMEDIATE"}
     default = "deferred"
+    snapshot = "BEGIN"                 # how a transaction begins that reads all tables at one moment
 
     def __init__(self, asked):
         self.asked, self.keeper, self.folder = asked, None, None
