@@ -42,7 +42,7 @@ def draw(command, words):
 def write(folder, name, text):
     """The path of the file that is written."""
     path = os.path.join(folder, name)
-    with open(path, "w", encoding="utf-8", newline="") as f:
+    with open(path, "w", encoding="utf-8", newline="\n") as f:
         f.write(text)
     return path
 
@@ -54,7 +54,7 @@ def make(name, program, folder, check):
     made, more = ["report", "picture.svg"], ["--program", program] if program else []
     if name in MADE:
         catalogue, workload = write_workload(folder, name, MADE[name])
-        made += ["catalogue.toml", "workload"]
+        made += ["workload"] if name == "bank" else ["catalogue.toml", "workload"]      # that of the bank has comments, and is kept by hand
     if name == "sql":
         draw("from-sql", [os.path.join(mine, "bank.sql"), "--into", folder])
         made += ["catalogue.toml", "workload"]

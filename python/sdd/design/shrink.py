@@ -9,7 +9,7 @@ a catalogue and a workload after its words, and says yes by its status 0.
 Events, transactions, rows, class lists, statements and conditions are left out as long as the line
 stays; then classes, what they read and write, copies, relations and modules of the catalogue. What is left is
 the least in this sense: the line goes with each single one of these. FOLDER gets the files `catalogue.toml`
-and `workload`. The program is called some hundred times, so it has to be a built one.
+and `workload`. The program is called some hundred times; the reference answers within this process.
 """
 import hashlib
 import os
@@ -29,8 +29,6 @@ class Shrinker:
         self.asked, self.known, self.calls = asked, {}, 0
         self.paths = [os.path.join(folder, x) for x in ("catalogue.toml", "workload")]
         self.program = None if asked.command is not None else Program(asked.program)
-        if self.program and self.program.command is None:
-            raise BadInput("it calls the program some hundred times: give a built one by --program")
         self.catalogue, self.workload = text_of(asked.catalogue), text_of(asked.workload)
         if not self.holds(self.catalogue, self.workload):
             what = "the command says no" if asked.keep is None else "no line of what `run` prints has %s" % asked.keep
@@ -40,7 +38,7 @@ class Shrinker:
         key = hashlib.sha256((catalogue + "\0" + workload).encode()).digest()
         if key not in self.known:
             for path, text in zip(self.paths, (catalogue, workload)):
-                with open(path, "w", encoding="utf-8", newline="") as f:
+                with open(path, "w", encoding="utf-8", newline="\n") as f:
                     f.write(text)
             self.known[key] = self.asks()
             self.calls += 1
@@ -108,7 +106,7 @@ def main():
         shrinker.shrink()
     os.makedirs(asked.into, exist_ok=True)
     for name, text in (("catalogue.toml", shrinker.catalogue), ("workload", shrinker.workload)):
-        with open(os.path.join(asked.into, name), "w", encoding="utf-8", newline="") as f:
+        with open(os.path.join(asked.into, name), "w", encoding="utf-8", newline="\n") as f:
             f.write(text)
     if sys.stderr.isatty():
         sys.stderr.write("\r\x1b[K")
