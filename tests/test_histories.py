@@ -1,8 +1,8 @@
 """Histories get their verdicts, without a database: those of examples/, drawn ones, and faults that are planted.
 
-    python3 -m unittest tests/test_histories.py         from the clone's folder; a minute
+    python3 -m unittest tests/test_histories.py         from the clone's folder; some seconds
 
-The judge is the installed `sdd1`, or the command in SDD1, or the reference.
+The judge is the installed `sdd1`, or the command in SDD1, or the reference. With ROUNDS=10 ten times as many are drawn.
 """
 import itertools
 import os
@@ -25,6 +25,7 @@ from sdd.programs import Program  # noqa: E402
 
 FOLDER = os.path.join(os.path.dirname(os.path.abspath(__file__)), "..", "examples", "histories")
 PROGRAM = Program(os.environ.get("SDD1"))
+ROUNDS = int(os.environ.get("ROUNDS", 1))
 VERDICTS = {
     "postgres_read_committed_lost_update": "lost update",
     "postgres_read_committed_read_skew": "read skew (G-single)",
@@ -85,21 +86,21 @@ class TestExamples(unittest.TestCase):
 
 class TestDrawn(unittest.TestCase):
     def test_what_one_database_replied_is_strict(self):
-        for seed in range(40):
+        for seed in range(5 * ROUNDS):
             with self.subTest(seed):
                 found = judged(Drawn(seed, 20).history())
                 self.assertTrue(found.is_serializable(), found.said)
                 self.assertEqual((YES, YES), (found.strict, found.sessions))
 
     def test_without_times(self):
-        for seed in range(20):
+        for seed in range(4 * ROUNDS):
             with self.subTest(seed):
                 found = judged(Drawn(seed, 8, timed=False).history())
                 self.assertTrue(found.is_serializable(), found.said)
                 self.assertIsNone(found.strict)
 
     def test_unknown_outcomes_are_no_fault(self):
-        for seed in range(40):
+        for seed in range(5 * ROUNDS):
             with self.subTest(seed):
                 found = judged(Drawn(seed, 20, unknown=0.2).history())
                 self.assertNotEqual(NOT_SERIALIZABLE, status_of(found, False), (found.said, found.cycle))
@@ -107,7 +108,7 @@ class TestDrawn(unittest.TestCase):
 
     def test_small_ones_as_by_trying_all_orders(self):
         rng, counts = random.Random(1), {True: 0, False: 0}
-        for seed in range(300):
+        for seed in range(40 * ROUNDS):
             drawn = Drawn(seed, 4, timed=seed % 2 == 0, unknown=0.2 * (seed % 3 == 0))
             if drawn.plant_stale_reply(rng, rng.randint(1, 3)) is None:
                 continue
@@ -118,20 +119,20 @@ class TestDrawn(unittest.TestCase):
                 if not explained and history.sure == len(history.done):
                     self.assertEqual(NOT_SERIALIZABLE, status_of(found, False))
                 counts[explained] += 1
-        self.assertGreater(min(counts.values()), 15, counts)
+        self.assertGreater(min(counts.values()), ROUNDS, counts)
 
     def test_planted_stale_replies_are_found(self):
         """A stale reply makes the history no longer strict: no strict order may be claimed unless trying finds one."""
         rng, planted, caught = random.Random(2), 0, 0
-        for seed in range(60):
+        for seed in range(10 * ROUNDS):
             drawn = Drawn(seed, 20)
             if drawn.plant_stale_reply(rng, 8) is None:
                 continue
             planted += 1
             found = judged(drawn.history())
             caught += not found.is_serializable() or found.strict != YES
-        self.assertGreater(planted, 30)
-        self.assertGreater(caught, 0.8 * planted, "%d of %d" % (caught, planted))
+        self.assertGreater(planted, 5 * ROUNDS)
+        self.assertGreaterEqual(caught, 0.8 * planted, "%d of %d" % (caught, planted))
 
     def test_pieces(self):
         whole = Drawn(3, 20).history()

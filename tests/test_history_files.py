@@ -20,7 +20,7 @@ from sdd.judge.history_file import read_history  # noqa: E402
 from sdd.judge.judge_command import NOT_SERIALIZABLE, SERIALIZABLE, status_of  # noqa: E402
 from sdd.model.files import BadInput  # noqa: E402
 from sdd.programs import own_command  # noqa: E402
-from test_histories import FOLDER, judged  # noqa: E402
+from test_histories import FOLDER, ROUNDS, judged  # noqa: E402
 
 FIRST, TABLE = '{"history": 1}', '{"table": "t", "columns": [["id", "int"], ["x", "text"]], "key": "id", "rows": [[1, "a"]]}'
 TYPES = {"object": dict, "array": list, "string": str, "integer": int, "number": (int, float), "null": type(None)}
@@ -217,13 +217,13 @@ class TestElle(Files):
 
     def test_lists_as_by_trying_all_orders(self):
         rng, counts = random.Random(3), {True: 0, False: 0}
-        for seed in range(150):
+        for seed in range(30 * ROUNDS):
             transactions = drawn_lists(rng)
             with self.subTest(seed):
                 wanted = any(map(lists_explained, itertools.permutations([steps for _, steps in transactions])))
                 self.assertEqual(SERIALIZABLE if wanted else NOT_SERIALIZABLE, status_of(self.found(transactions), False), transactions)
                 counts[wanted] += 1
-        self.assertGreater(min(counts.values()), 15, counts)
+        self.assertGreater(min(counts.values()), 2 * ROUNDS, counts)
 
     def test_real_time(self):
         lines = [operation(0, "invoke", 0, [("append", 1, 1)]), operation(1, "ok", 0, [("append", 1, 1)]),

@@ -4,11 +4,10 @@ import os
 import shutil
 
 from sdd.judge.cycles import kind_of, shown
-from sdd.judge.effects import is_met
+from sdd.judge.effect import answer
 from sdd.judge.judged_files import plain, write_files
 from sdd.judge.recorded import apply
 from sdd.model.statements import Query
-from sdd.reference.plain import tuples
 
 MOST_TRANSACTIONS, MOST_WHOLE, MOST_TRIES = 6, 5, 40
 
@@ -29,7 +28,7 @@ class Anomaly:
     def judge(self, judge, folder):
         """For each order its names, what `sdd1 verify` says, and why, in words; the files of each order are kept."""
         shutil.rmtree(folder, ignore_errors=True)
-        used = {r for k in self.members for s in self.history.done[k].statements for r in (s.relations if isinstance(s, Query) else [s.relation])}
+        used = {r for k in self.members for s in self.history.done[k].txn.statements for r in (s.relations if isinstance(s, Query) else [s.relation])}
         tables = {name: x for name, x in self.history.tables.items() if name in used}
         for number, order in enumerate(itertools.permutations(self.members), 1):
             paths = write_files(os.path.join(folder, "order%d" % number), tables, {name: self.first[name] for name in tables},
@@ -119,13 +118,14 @@ def may_be_joined(graph, k, base, members):
     """Whether a join of a member might give other rows in the cut, where the rows that it didn't find have any of their versions there."""
     for query, reply, found in graph.joined.get(k, ()):
         parts = []
-        for part, (relation, mine) in enumerate(zip(query.relations, found)):
+        for relation, mine in zip(query.relations, found):
             near = [(item, n) for item, b in base.items() if item[0] == relation for n, v in enumerate(graph.chains[item])
                     if n == b or v.writer in members and v.writer != k]
             met = {item: fits for item, fits, was_found in graph.met.get(k, ()) if was_found}
             rows = {graph.chains[item][n].row for item, n in near if item not in mine or n in met[item]}
-            parts.append([row for row in rows if row is not None and is_met(row, query.conds, part)])
-        if {tuple(rows[c.part][c.place] for c in query.columns) for rows in tuples(parts, query.conds)} != set(reply):
+            parts.append([row for row in rows if row is not None])
+        names = tuple("part%d" % part for part in range(len(parts)))
+        if answer(query._replace(relations=names), {name: dict(enumerate(rows)) for name, rows in zip(names, parts)}) != reply:
             return True
     return False
 

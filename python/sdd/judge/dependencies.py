@@ -8,8 +8,9 @@
 import copy
 from typing import NamedTuple
 
-from sdd.judge.effects import FEW_KEYS, is_met, key_range
+from sdd.judge.effect import key_range, meets
 from sdd.judge.recorded import NEVER, few, has, queries_of
+from sdd.judge.touched import FEW_KEYS
 from sdd.model.statements import Column
 from sdd.model.words import LEAST
 
@@ -121,7 +122,7 @@ class Graph:
         """Adds what a part of a query tells; the items that it found."""
         key = self.history.tables[relation].key
         places = {c.place: at for at, c in enumerate(s.columns) if c.part == part}
-        low, high = key_range(s, part, key)
+        low, high = key_range(s.conds, part, key)
         if key not in places and low != high:
             self.open += 1
             self.vague.add(k)
@@ -176,7 +177,7 @@ class Graph:
         chain = self.chains[item]
 
         def misses(v):
-            return v.row is None or not is_met(v.row, s.conds, part)
+            return v.row is None or not meets(v.row, s.conds, part)
 
         def could_see(n, v):
             later = chain[n + 1].end if n + 1 < len(chain) else NEVER
@@ -201,7 +202,7 @@ def rows_read(history, place, item):
     table = history.tables[item[0]]
     everything = tuple(Column(0, c) for c in range(len(table.columns)))
     for s, rows in queries_of(history.done[place]):
-        low, high = key_range(s, 0, table.key)
+        low, high = key_range(s.conds, 0, table.key)
         if s.relations == (item[0],) and s.columns == everything and (low <= item[1] <= high or low == LEAST):
             mine = [row for row in rows if row[table.key] == item[1]]
             if mine or low == high == item[1]:

@@ -30,10 +30,8 @@ from sdd.judge.pace import Pace, Turns
 from sdd.judge.recorded import ABORTED, COMMITTED, UNKNOWN, Table
 from sdd.judge.session import Session
 from sdd.judge.table_sql import quoted, with_versions
-from sdd.model.catalogue import read_catalogue
 from sdd.model.files import BadInput, text_of
-from sdd.model.words import Fault
-from sdd.model.workload import read_workload
+from sdd.model.reading import catalogue_at, workload_at
 from sdd.programs import output_of, own_command
 
 MOST_NAME = 32
@@ -66,15 +64,8 @@ def read_files(paths):
         with tempfile.TemporaryDirectory(prefix="history-") as folder:
             output_of(own_command("from-sql", paths[0], "--into", folder), 60)
             return read_files([os.path.join(folder, x) for x in ("catalogue.toml", "workload")])
-    data = []
-    for path in paths:
-        with open(path, "rb") as f:
-            data.append(f.read())
-    try:
-        cat = read_catalogue(data[0])
-        return cat, read_workload(cat, data[1])
-    except Fault as fault:
-        raise BadInput("%s: `sdd explain` tells what that means" % fault.line) from None
+    cat = catalogue_at(paths[0])
+    return cat, workload_at(paths[1], cat)
 
 
 def transactions_of(work):
@@ -216,6 +207,8 @@ def main():
     asked = words_asked(sys.argv[1:])
     if len(asked.files) == 1:
         asked = words_asked(words_of_script(asked.files[0]) + sys.argv[1:])
+    if not os.path.isdir(os.path.dirname(os.path.abspath(asked.into))):
+        raise BadInput("%s: there is no such folder" % os.path.dirname(asked.into))
     cat, work = read_files(asked.files)
     parts = record_history(asked, cat, work)
     write_history(asked.into, *parts)

@@ -9,6 +9,7 @@ import math
 from sdd.judge.recorded import ABORTED, COMMITTED, NEVER, UNKNOWN, History, Recorded, Table, catalogue_of
 from sdd.judge.steps import Body
 from sdd.model.files import BadInput, text_of, write_text
+from sdd.model.statements import Txn
 from sdd.model.words import KEYWORDS, is_name
 
 VERSION = 1
@@ -119,7 +120,7 @@ class FileReader:
         self.names.add(name)
         self.made.append(Recorded(
             name, outcome, None if session is None else str(session), begin, number if end is None else end,
-            NEVER if end is None or outcome == UNKNOWN else end, lines, statements, tuple(body.replies), tuple(body.writes),
+            NEVER if end is None or outcome == UNKNOWN else end, lines, Txn(name, 1, statements), tuple(body.replies), tuple(body.writes),
             tuple(body.own_faults), body.blind))
 
     def body(self, name, steps):

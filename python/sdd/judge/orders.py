@@ -56,7 +56,7 @@ def along(graph, strict=False):
 def with_readers_placed(history, order):
     """The order with each transaction that only reads moved to a place at which its reply is explained, a strict one where there is one;
     those that change stay as they are."""
-    readers = {k for k in order if all(isinstance(s, Query) for s in history.done[k].statements)}
+    readers = {k for k in order if all(isinstance(s, Query) for s in history.done[k].txn.statements)}
     writers = [k for k in order if k not in readers]
     wanted, passed = {}, 0                      # how many that change stand before a reader
     for k in order:

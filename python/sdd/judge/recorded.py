@@ -4,7 +4,8 @@ Nothing here is trusted for a yes: an order is found by whatever means, and judg
 """
 from typing import NamedTuple
 
-from sdd.judge.effects import effect
+from sdd.judge.effect import effect
+from sdd.judge.touched import keys_near, rows_near
 from sdd.model.catalogue import Catalogue, Fragment, Relation
 from sdd.model.statements import Query
 from sdd.model.words import GREATEST, LEAST
@@ -46,7 +47,7 @@ class Recorded(NamedTuple):
     end: float                  # when the answer to its commit came; where none came or nobody tells, when it was last heard of
     until: float                # when it was over; infinity where nobody knows
     lines: tuple                # its statements as a workload has them
-    statements: tuple           # the same, read
+    txn: object                 # the same, read: a Txn
     replies: tuple              # of each query its rows, ascending and each once
     writes: tuple
     own_faults: tuple = ()      # where it reads another row than it wrote itself, in words
@@ -69,6 +70,7 @@ class History:
         self.assumed = [x for x in sure if x.outcome == UNKNOWN]
         self.done = sorted(sure, key=lambda x: (x.end, x.begin)) + sorted(may_be, key=lambda x: (x.end, x.begin))
         self.sure = len(sure)
+        self.near = [keys_near(x.txn.statements, self.catalogue) for x in self.done]
         self.blind = any(x.blind for x in transactions)
         self.timed = any(x.begin > -NEVER for x in self.done)
 
@@ -99,12 +101,12 @@ class History:
 
     def effect(self, place, tables):
         """The reply and the changes of the transaction at a place of `done`, on these tables."""
-        return effect(self.done[place].statements, tables, self.catalogue)
+        return effect(self.done[place].txn, rows_near(self.near[place], tables), self.catalogue)
 
     def explain(self, place, tables):
         """The changes of a transaction, if it gives the reply on these tables that it got; else None."""
         reply, changes = self.effect(place, tables)
-        return changes if reply == self.done[place].replies else None
+        return changes if reply.kind == "ok" and reply.queries == self.done[place].replies else None
 
     def first_tables(self):
         return {name: dict(rows) for name, rows in self.rows.items()}
@@ -122,9 +124,9 @@ class History:
         tables = {name: dict(rows) for name, rows in first.items()}
         for place in order:
             reply, changes = self.effect(place, tables)
-            if isinstance(reply, str):
-                return "%s would get the reply %s" % (self.done[place].name, reply)
-            for (query, got), wanted in zip(queries_of(self.done[place]), reply):
+            if reply.kind != "ok":
+                return "%s would get the reply %s" % (self.done[place].name, reply.kind)
+            for (query, got), wanted in zip(queries_of(self.done[place]), reply.queries):
                 if got != wanted:
                     columns = [self.tables[query.relations[c.part]].columns[c.place] for c in query.columns]
                     return "%s %s" % (self.done[place].name, unlike(columns, got, wanted, "found", "didn't find"))
@@ -155,7 +157,7 @@ class History:
 
 def queries_of(x):
     """Pairs of a query of a transaction and the rows that it replied."""
-    return zip((s for s in x.statements if isinstance(s, Query)), x.replies)
+    return zip((s for s in x.txn.statements if isinstance(s, Query)), x.replies)
 
 
 def has(row, listed):

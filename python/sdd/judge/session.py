@@ -2,14 +2,15 @@
 import random
 import time
 
-from sdd.judge.effects import effect, meet, touched_by
+from sdd.judge.effect import effect
 from sdd.judge.engines import Lost, Retry, Unknown
 from sdd.judge.recorded import ABORTED, COMMITTED, UNKNOWN
 from sdd.judge.steps import row_order
 from sdd.judge.table_sql import (delete_sql, put_sql, query_sql, rows_sql, shown, update_sql, with_listed, with_version)
+from sdd.judge.touched import meet, touched_by
 from sdd.model.files import BadInput
 from sdd.model.spelling import statement_line
-from sdd.model.statements import Assign, Column, Compare, Delete, Put, Query, Update
+from sdd.model.statements import Assign, Column, Compare, Delete, Put, Query, Txn, Update
 
 MOST_TRIES = 50
 SECONDS_DOWN = 60
@@ -163,7 +164,7 @@ class Session:
         sql, values = query_sql(self.cat, everything)
         rows = sorted(map(tuple, self.send(sql, values)), key=row_order)
         self.add(sql, values, do=statement_line(self.cat, everything), rows=rows)
-        return effect([s], {s.relation: {relation.key_of(x): x for x in rows}}, self.cat)[1]
+        return effect(Txn("", 1, (s,)), {s.relation: {relation.key_of(x): x for x in rows}}, self.cat)[1]
 
     def write(self, name, key, row):
         """Writes or deletes one row; where another transaction has deleted it since, nothing is changed, and that is recorded."""

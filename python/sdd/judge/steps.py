@@ -3,8 +3,8 @@
 All statements of a judged transaction see the rows as they were when it began. So the read of a row that the transaction wrote itself before is
 compared here, and left out; any other statement that may see what one before it changed is refused.
 """
-from sdd.judge.effects import meet, touched_by
 from sdd.judge.recorded import Write
+from sdd.judge.touched import meet, touched_by
 from sdd.model.files import BadInput
 from sdd.model.statements import STATEMENTS, Put, Query, Update
 from sdd.model.words import GREATEST, LEAST, Broken, is_key, is_quoted, is_sound, value_word, words_of

@@ -1,6 +1,6 @@
 """Histories of databases that are started here, in a scratch folder: PostgreSQL, MariaDB, SQLite, and a primary with a standby.
 
-    python3 -m unittest tests/test_databases.py          from the clone's folder; some ten minutes
+    python3 -m unittest discover -s tests/databases         from the clone's folder; some ten minutes
 
 Needed are Debian's packages postgresql, python3-psycopg, mariadb-server and python3-pymysql; what is missing is skipped with a word. The judge is
 the installed `sdd1`, or the command in SDD1, or the reference. These tests are no part of the gate.
@@ -12,7 +12,8 @@ import threading
 import unittest
 import unittest.mock
 
-sys.path.insert(0, os.path.dirname(os.path.abspath(__file__)))
+FOLDER = os.path.dirname(os.path.abspath(__file__))
+sys.path[:0] = [FOLDER, os.path.join(FOLDER, "..")]
 
 import sdd_path  # noqa: E402, F401
 from measure_levels import how, judged, workloads  # noqa: E402
@@ -25,8 +26,7 @@ from sdd.command import parser  # noqa: E402
 from sdd.programs import Program  # noqa: E402
 from servers import Mariadb, Postgres  # noqa: E402
 
-TOP = os.path.join(os.path.dirname(os.path.abspath(__file__)), "..")
-SCRIPTS = os.path.join(TOP, "examples", "histories")
+SCRIPTS = os.path.join(FOLDER, "..", "..", "examples", "histories")
 SEEDS, DRAWN = 2, 51            # 67 histories of each engine, 201 in all
 KILLED_AFTER = 60               # attempts
 

@@ -1,12 +1,12 @@
 #!/usr/bin/env python3
 """Runs many workloads on engines at their isolation levels, judges each history, and prints the table of docs/ISOLATION.md.
 
-    tests/measure_levels.py ENGINE .. [--levels LEVEL ..] [--seeds N] [--drawn N] [--into FOLDER] [--program COMMAND]
+    tests/databases/measure_levels.py ENGINE .. [--levels LEVEL ..] [--seeds N] [--drawn N] [--into FOLDER] [--program COMMAND]
 
 ENGINE is postgres, mariadb or sqlite; the first two are started here, from Debian's packages, in a scratch folder. Workloads: SmallBank 200,
 TPC-C 100, TATP 200, YCSB 200 transactions, each sent as SQL and as read, compute, write, of N seeds; and N drawn ones of 60 transactions with
 joins, ranges and deletes. A history that nothing explains is cut down to the least anomaly. With --into the histories are kept, by engine and
-level, and results.jsonl has a line for each. 100 histories take some minutes.
+level; those that are there are judged again and not run. 100 histories take some minutes.
 """
 import argparse
 import collections
@@ -14,10 +14,13 @@ import contextlib
 import json
 import os
 import random
+import sys
 import tempfile
 import time
 
-import sdd_path  # noqa: F401
+sys.path.insert(1, os.path.join(os.path.dirname(os.path.abspath(__file__)), ".."))
+
+import sdd_path  # noqa: E402, F401
 from sdd.bench import random_input
 from sdd.bench.make_workload import write_workload
 from sdd.command import count, parser, start
@@ -73,8 +76,9 @@ def workloads(seeds, count_drawn, room):
 
 
 def judged(asked, cat, work, path, program, steps=20000):
-    """Runs a workload as asked, and has its history judged: what was found."""
-    write_history(path, *record_history(asked, cat, work))
+    """Runs a workload as asked, but where its history is there already, and has it judged: what was found."""
+    if not os.path.exists(path):
+        write_history(path, *record_history(asked, cat, work))
     history = read_history(path)
     with tempfile.TemporaryDirectory(prefix="judge-") as room:
         return certify(history, Judge(history, program, room), steps)
@@ -97,8 +101,6 @@ def run_level(engine, address, level, asked, folder, program):
             found = judged(how(engine, address, level, client=client), cat, work, os.path.join(folder, name + ".jsonl"), program)
             made.append({"engine": engine, "level": level, "workload": name, "seconds": round(time.monotonic() - began, 1)} | summary(found))
             print(json.dumps({k: made[-1][k] for k in ("level", "workload", "yes", "cut", "words", "seconds")}), flush=True)
-            with open(os.path.join(folder, "..", "..", "results.jsonl"), "a", encoding="utf-8") as f:
-                f.write(json.dumps(made[-1]) + "\n")
     return made
 
 
