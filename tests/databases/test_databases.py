@@ -16,6 +16,7 @@ FOLDER = os.path.dirname(os.path.abspath(__file__))
 sys.path[:0] = [FOLDER, os.path.join(FOLDER, "..")]
 
 import sdd_path  # noqa: E402, F401
+from insert_over_delete import told  # noqa: E402
 from measure_levels import how, judged, workloads  # noqa: E402
 from sdd.judge.certify import certify  # noqa: E402
 from sdd.judge.history_command import read_files, words_of_script  # noqa: E402
@@ -93,6 +94,14 @@ class TestPostgres(Databases):
             with self.subTest(name):
                 self.assert_anomaly(words, self.script(name, level))
                 self.assert_serializable(self.script(name, "serializable"))
+
+    def test_insert_over_delete(self):
+        """As docs/ISOLATION.md tells it of PostgreSQL 15."""
+        import psycopg
+        for way in ("upsert", "insert"):
+            self.assertEqual([[(2, 2)], "1 row written", [(2, 2), (2, 7)], "committed", [(2, 7)]], told(psycopg, self.address, "REPEATABLE READ", way))
+        for level, way in (("REPEATABLE READ", "update"), ("SERIALIZABLE", "upsert"), ("SERIALIZABLE", "insert"), ("SERIALIZABLE", "update")):
+            self.assertIn("could not serialize access", told(psycopg, self.address, level, way)[-2])
 
     def test_commits_without_answer(self):
         for name, client, cat, work in workloads(1, 0, self.room.name):
