@@ -37,7 +37,7 @@ pub mod InStep
 pub mod Kept
 pub mod Limits
 pub mod Linking
-pub mod Listed
+pub mod MembersInOrder
 pub mod LowClocks
 pub mod LowLists
 pub mod Modules
