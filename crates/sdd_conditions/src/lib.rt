@@ -8,7 +8,5 @@
 mod conditions;
 mod holding;
 
-pub use conditions::{
-    all_met, first_unmet, lacks_at, last_write, place_unmet, spoiler, unmet,
-};
+pub use conditions::{all_met, first_unmet, lacks_at, last_write, place_unmet, spoiler, unmet};
 pub use holding::any_holds;
