@@ -4,8 +4,8 @@ import re
 import shutil
 import unittest
 
-import sdd_path  # noqa: F401
 from link_documents import Document, documents, faults_of
+import sdd_path  # noqa: F401
 from sdd.cli import COMMANDS
 from sdd.programs import ROOT
 
