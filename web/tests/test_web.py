@@ -16,11 +16,9 @@ policy     what the page may not do, it can't
 message    what a browser without memories of 64 bits shows
 first      how long the first look at the example `bank` takes ; more than --seconds, where they are given, is a fault
 """
-import argparse
 import json
 import os
 import random
-import sys
 import tempfile
 import time
 
@@ -29,9 +27,11 @@ from opened import SIZE, SIZES, FormChecks, Opened, StopChecks
 import page_checks
 import page_clicks
 import test_page as page_tests
-from browser import Browser, Fault
+from browser import Browser, Fault, find_browser
 from page_checks import Wrong, same
 from random_calls import run_call
+from sdd.command import count, parser, start
+from sdd.model.files import BadInput
 from sdd.view import states
 
 SLOW_PAGES = ["bank", "tatp", "tpcc", "ycsb", "smallbank"]         # minutes each
@@ -239,14 +239,19 @@ class Local(page_clicks.Served):
 
 def main():
     parts = ["form", "stop", "clicks", "data", "pages", "sizes", "policy", "message", "first"]
-    asked = argparse.ArgumentParser(description=__doc__, formatter_class=argparse.RawDescriptionHelpFormatter, usage=argparse.SUPPRESS)
+    asked = parser(__doc__)
     asked.add_argument("page", metavar="PAGE")
     asked.add_argument("--program", metavar="COMMAND")
     asked.add_argument("--inside", metavar="COMMAND")
-    asked.add_argument("--random", metavar="N", type=int, default=50)
+    asked.add_argument("--random", metavar="N", type=count, default=50)
     asked.add_argument("--seconds", metavar="N", type=float, default=float("inf"))
     asked.add_argument("--only", metavar="PART", nargs="+", choices=parts, default=parts)
     asked = asked.parse_args()
+    if not os.path.isfile(asked.page):
+        raise BadInput("%s: no such file" % asked.page)
+    if not find_browser():
+        print("skipped: there is no Chromium here (apt-get install chromium)")
+        return 0
     bad = 0
     with tempfile.TemporaryDirectory(prefix="test-web-") as folder, Browser(folder) as browser:
         for part in asked.only:
@@ -260,4 +265,4 @@ def main():
 
 
 if __name__ == "__main__":
-    sys.exit(main())
+    start(main)
