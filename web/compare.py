@@ -51,7 +51,8 @@ def fronts(case):
 class Comparison:
     def __init__(self, asked, node):
         self.asked, self.node = asked, node
-        self.pairs = {"sdd1": (self.module("sdd1"), Program("sdd1", asked.program)), "inside": (self.module("sdd1_inside"), Program("sdd1_inside", asked.inside))}
+        self.pairs = {"sdd1": (self.module("sdd1"), Program("sdd1", asked.program)),
+                      "inside": (self.module("sdd1_inside"), Program("sdd1_inside", asked.inside))}
         self.tried = self.different = 0
 
     def module(self, name):

@@ -188,7 +188,11 @@ function start() {
   byId("play-anew").onclick = () => playGame(true);
   byId("play").onclick = () => playGame(false);
   byId("show-graph").onclick = showGraph;
-  byId("again").onclick = () => (history.state?.isRun ? history.back() : startAgain());
+  byId("again").onclick = () => {
+    if (view.play?.isBusy) return;
+    if (history.state?.isRun) history.back();
+    else startAgain();
+  };
   byId("save-workload").onclick = saveSchedule;
   byId("form-theme").onclick = () => changeTheme(view);
   for (const made of document.querySelectorAll("[data-words]")) made.onclick = () => print(made.dataset.words);
