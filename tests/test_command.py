@@ -11,8 +11,8 @@ from typing import NamedTuple
 from unittest import mock
 
 import sdd_path  # noqa: F401
-from sdd import programs
 from sdd.cli import COMMANDS, main
+from sdd import programs
 from sdd.programs import ROOT
 from sdd.reference import breaking
 

@@ -17,8 +17,8 @@ from sdd.model.toml import NotToml, read_toml
 from sdd.model.words import Fault
 from sdd.model.workload import read_workload
 from sdd.programs import ROOT
-from sdd.reference import plain
 from sdd.reference.made import BANK
+from sdd.reference import plain
 
 EXAMPLES = sorted(glob.glob(os.path.join(ROOT, "examples", "*", "catalogue.toml")))
 CATALOGUE = """\

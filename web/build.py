@@ -21,7 +21,6 @@ from repository import EXAMPLES, HERE, PAGE, ROOT
 from sdd.command import parser, start
 from sdd.explain import rules
 from sdd.model.files import BadInput
-from sdd.view.game import HINTS
 from sdd.view.page import SHOWN, digest, embedded
 from sdd.view.play import EMPTY
 
@@ -73,7 +72,7 @@ def examples():
 
 def refusals():
     """What is told of a refusal: by the rule; of a line, by its first word; and of a line that speaks of no file."""
-    return {"workload": rules.OF_WORKLOAD, "catalogue": rules.OF_CATALOGUE, "forms": rules.FORMS, "others": rules.WITHOUT_FILE, "hints": HINTS}
+    return {"workload": rules.OF_WORKLOAD, "catalogue": rules.OF_CATALOGUE, "forms": rules.FORMS, "others": rules.WITHOUT_FILE}
 
 
 def commit():
