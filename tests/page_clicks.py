@@ -4,8 +4,8 @@ import os
 import threading
 import time
 
-from page_checks import Wrong, same
 import sdd_path  # noqa: F401
+from page_checks import Wrong, same
 from sdd.bench.make_workload import write_workload
 from sdd.view.game import Game
 from sdd.view.play import Server

@@ -1,11 +1,10 @@
 """Documents: each mention of one is a link, links lead somewhere, and the commands that they show are there."""
 import os
 import re
-import shutil
 import unittest
 
-from link_documents import Document, documents, faults_of
 import sdd_path  # noqa: F401
+from link_documents import Document, documents, faults_of
 from sdd.cli import COMMANDS
 from sdd.programs import ROOT
 
@@ -13,7 +12,6 @@ SHOWN = re.compile(r"(?:^ {4}|`)(?:python3 )?sdd ([a-z][a-z-]*)", re.MULTILINE)
 SCRIPT = re.compile(r"\b(?:tools|tests|python)/[\w./-]*\.(?:py|sh|toml)\b")
 
 
-@unittest.skipUnless(shutil.which("git") and os.path.exists(os.path.join(ROOT, ".git")), "this isn't a clone")
 class Documents(unittest.TestCase):
     @classmethod
     def setUpClass(cls):

@@ -16,11 +16,11 @@ import random
 import tempfile
 import time
 
+import sdd_path  # noqa: F401
 from browser import Browser, Fault, find_browser
 from page_checks import Wrong, check_page
 from page_clicks import check_clicks
 from random_calls import run_call
-import sdd_path  # noqa: F401
 from sdd.bench.make_workload import write_workload
 from sdd.command import count, parser, start
 from sdd.model.files import BadInput

@@ -47,7 +47,7 @@ class Pages(unittest.TestCase):
     def run_script(self, script):
         kept = "\n".join(x for x in script.split("\n") if not x.startswith(LEFT_OUT)).replace("/tmp/", self.room.name + "/").replace("python3 sdd", "sdd")
         done = subprocess.run(["bash", "-c", HEAD + kept], cwd=ROOT, stdout=subprocess.PIPE, stderr=subprocess.PIPE,
-                              env={**os.environ, "PYTHON": sys.executable, "ROOT": ROOT})
+                              env={**os.environ, "PATH": os.defpath, "PYTHON": sys.executable, "ROOT": ROOT})
         self.assertNotIn(b"Traceback", done.stderr)
         return done.stdout.decode().split("\n")
 

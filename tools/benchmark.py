@@ -29,8 +29,8 @@ import tempfile
 import time
 from typing import NamedTuple
 
-from measuring import Room
 import sdd_path  # noqa: F401
+from measuring import Room
 from sdd.bench.make_workload import MEASURED, write_workload
 from sdd.command import count, parser, parts_of, start
 from sdd.model.files import BadInput

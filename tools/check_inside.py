@@ -15,8 +15,8 @@ import os
 import random
 import tempfile
 
-from random_calls import run_call
 import sdd_path  # noqa: F401
+from random_calls import run_call
 from sdd.command import count, parser, start
 from sdd.model.catalogue import read_catalogue
 from sdd.model.workload import Site, read_workload

@@ -13,8 +13,8 @@ import os
 import re
 import sys
 
-import antt
 import sdd_path  # noqa: F401
+import antt
 from sdd.view.svg import label, shape, whole
 
 REPORT, MADE = ("sdd_run", "IsReportOn"), ("sdd_run", "reported")

@@ -18,8 +18,8 @@ import random
 import re
 import sys
 
-from log_examples import LOGS
 import sdd_path  # noqa: F401
+from log_examples import LOGS
 from sdd.bench import random_input
 from sdd.model.catalogue import read_catalogue
 from sdd.model.statements import Compare, Put, Query, Update
