@@ -115,6 +115,14 @@ class FormChecks(Opened):
             self.ended(page)
             same("graph of " + name, page.tell("byId('output').textContent"), self.programs.tell(["graph", files[0]]))
             same("nodes drawn", page.tell("document.querySelectorAll('#drawing .node').length === readToml(texts()[0]).class.length"), True)
+        self.fill(page, *map(text_of, write_workload(self.folder, "classes", 3)))
+        page.click("#show-graph")
+        page.wait("!progress.running && !!document.querySelector('#drawing canvas')")
+        page.click("#drawing button")
+        same("what the colours mean", page.tell("document.querySelector('#drawing button').textContent"), "colour: block")
+        self.fill(page, *example(name))
+        page.click("#show-graph")
+        self.ended(page)
         same("the saved text", self.saved(page, "#output-save", "graph.txt"), self.programs.tell(["graph", files[0]]))
 
     def refused(self, page):
