@@ -9,19 +9,18 @@ MODULES is the folder with sdd1.wasm and sdd1_inside.wasm, which web/modules.py 
 taken as they are; those of this folder stand behind them. TEXT is the commit that the page says the programs were made of;
 without it git is asked.
 """
-import argparse
 import base64
 import gzip
 import html
 import os
 import re
 import subprocess
-import sys
 
 from repository import EXAMPLES, HERE, PAGE, ROOT
 
+from sdd.command import parser, start
 from sdd.explain import rules
-from sdd.view.game import HINTS
+from sdd.model.files import BadInput
 from sdd.view.page import SHOWN, digest, embedded
 from sdd.view.play import EMPTY
 
@@ -34,10 +33,6 @@ BUTTONS = """<button id="again" title="back to the catalogue and the workload">a
   <button id="save-workload" title="saves the workload of this run as a file">save</button>
   """
 MOST_BYTES = 1_500_000
-
-
-class Refused(Exception):
-    """Why there is no page."""
 
 
 def text_of(*path):
@@ -57,7 +52,7 @@ def module(path):
 
 def block(name, kind, text):
     if "</script" in text.lower() or "<!--" in text:
-        raise Refused("%s would end its block" % name)
+        raise BadInput("%s would end its block" % name)
     return '<script type="%s" id="%s">%s</script>' % (kind, name, text)
 
 
@@ -77,7 +72,7 @@ def examples():
 
 def refusals():
     """What is told of a refusal: by the rule; of a line, by its first word; and of a line that speaks of no file."""
-    return {"workload": rules.OF_WORKLOAD, "catalogue": rules.OF_CATALOGUE, "forms": rules.FORMS, "others": rules.WITHOUT_FILE, "hints": HINTS}
+    return {"workload": rules.OF_WORKLOAD, "catalogue": rules.OF_CATALOGUE, "forms": rules.FORMS, "others": rules.WITHOUT_FILE}
 
 
 def commit():
@@ -88,7 +83,7 @@ def commit():
         changed = ", with changes in crates" if git("status", "--porcelain", "--", "crates") else ""
         return git("rev-parse", "--short=12", "HEAD") + changed
     except (OSError, subprocess.CalledProcessError):
-        raise Refused("git tells no commit; give one by --commit") from None
+        raise BadInput("git tells no commit; give one by --commit") from None
 
 
 def programs_in(folder):
@@ -101,7 +96,7 @@ def programs_of(page):
     found = [re.search('<script type="text/plain" id="%s">([A-Za-z0-9+/=]+)</script>' % name, page) for name in MODULES]
     made_of = re.search('<code id="commit">(.*?)</code>', page)
     if not all(found) or not made_of:
-        raise Refused("this is no page that build.py wrote")
+        raise BadInput("this is no page that build.py wrote")
     return dict(zip(MODULES, (x[1] for x in found))), html.unescape(made_of[1])
 
 
@@ -109,7 +104,7 @@ def replaced(page, changes):
     """The page with each text that stands in it once in place of another; what is put in is looked at no more."""
     for old in changes:
         if page.count(old) != 1:
-            raise Refused("page.html has changed: it has %s %d times" % (old, page.count(old)))
+            raise BadInput("page.html has changed: it has %s %d times" % (old, page.count(old)))
     return re.sub("|".join(map(re.escape, changes)), lambda found: changes[found[0]], page)
 
 
@@ -128,32 +123,28 @@ def built(programs, made_of):
 
 
 def main():
-    asked = argparse.ArgumentParser(description=__doc__, formatter_class=argparse.RawDescriptionHelpFormatter, usage=argparse.SUPPRESS)
+    asked = parser(__doc__)
     asked.add_argument("given", metavar="MODULES|PAGE")
     asked.add_argument("--into", metavar="FILE")
     asked.add_argument("--commit", metavar="TEXT")
     asked.add_argument("--check", action="store_true")
     asked = asked.parse_args()
     is_page = os.path.isfile(asked.given)
-    try:
-        if bool(asked.into) == asked.check or asked.check and not is_page:
-            raise Refused("give --into FILE, or --check with a page")
-        programs, made_of = programs_of(text_of(asked.given)) if is_page else (programs_in(asked.given), asked.commit or commit())
-        page = built(programs, made_of).encode()
-        if asked.check:
-            is_same = text_of(asked.given).encode() == page
-            print("%s: %s" % (asked.given, "made of these parts" if is_same else "made of other parts; tools/web.sh makes it anew"))
-            return 0 if is_same else 1
-        if len(page) > MOST_BYTES:
-            raise Refused("the page would have %d bytes; %d are the most" % (len(page), MOST_BYTES))
-        with open(asked.into, "wb") as f:
-            f.write(page)
-    except (Refused, OSError) as fault:
-        print("build.py: %s" % fault, file=sys.stderr)
-        return 2
+    if bool(asked.into) == asked.check or asked.check and not is_page:
+        raise BadInput("give --into FILE, or --check with a page")
+    programs, made_of = programs_of(text_of(asked.given)) if is_page else (programs_in(asked.given), asked.commit or commit())
+    page = built(programs, made_of).encode()
+    if asked.check:
+        is_same = text_of(asked.given).encode() == page
+        print("%s: %s" % (asked.given, "made of these parts" if is_same else "made of other parts; tools/web.sh makes it anew"))
+        return 0 if is_same else 1
+    if len(page) > MOST_BYTES:
+        raise BadInput("the page would have %d bytes; %d are the most" % (len(page), MOST_BYTES))
+    with open(asked.into, "wb") as f:
+        f.write(page)
     print("%s: %d bytes, of commit %s" % (asked.into, len(page), made_of))
     return 0
 
 
 if __name__ == "__main__":
-    sys.exit(main())
+    start(main)

@@ -14,18 +14,18 @@ random     N calls of each kind of tools/fuzz.py, from seed K on; without --rand
 The programs run under node, by the script that runs them in the page. It prints each difference, and ends with 1 where
 there is one.
 """
-import argparse
 import os
 import random
-import sys
 import time
 
-from node import Node, NoNode
+from node import Node
 from repository import CASES, EXAMPLES
 
 import make_cases
 import random_calls
 from answers import NoProgram, Program
+from sdd.command import count, parser, start
+from sdd.model.files import BadInput
 
 PARTS = ["cases", "calls", "examples", "random"]
 ON_CATALOGUE = ["check", "graph", "table", "advise"]
@@ -51,7 +51,8 @@ def fronts(case):
 class Comparison:
     def __init__(self, asked, node):
         self.asked, self.node = asked, node
-        self.pairs = {"sdd1": (self.module("sdd1"), Program("sdd1", asked.program)), "inside": (self.module("sdd1_inside"), Program("sdd1_inside", asked.inside))}
+        self.pairs = {"sdd1": (self.module("sdd1"), Program("sdd1", asked.program)),
+                      "inside": (self.module("sdd1_inside"), Program("sdd1_inside", asked.inside))}
         self.tried = self.different = 0
 
     def module(self, name):
@@ -109,12 +110,12 @@ class Comparison:
 
 
 def main():
-    asked = argparse.ArgumentParser(description=__doc__, formatter_class=argparse.RawDescriptionHelpFormatter, usage=argparse.SUPPRESS)
+    asked = parser(__doc__)
     asked.add_argument("modules", metavar="MODULES")
     asked.add_argument("--program", metavar="COMMAND", required=True)
     asked.add_argument("--inside", metavar="COMMAND", required=True)
-    asked.add_argument("--random", metavar="N", type=int, default=200)
-    asked.add_argument("--seed", metavar="K", type=int, default=0)
+    asked.add_argument("--random", metavar="N", type=count, default=200)
+    asked.add_argument("--seed", metavar="K", type=count, default=0)
     asked.add_argument("--only", metavar="PART", nargs="+", choices=PARTS, default=PARTS)
     asked = asked.parse_args()
     try:
@@ -122,12 +123,11 @@ def main():
             comparison = Comparison(asked, node)
             for part in asked.only:
                 comparison.run(part)
-    except (NoNode, NoProgram) as fault:
-        print("compare.py: %s" % fault, file=sys.stderr)
-        return 2
+    except NoProgram as fault:
+        raise BadInput(str(fault)) from None
     print("%d compared, %d different" % (comparison.tried, comparison.different))
     return 1 if comparison.different else 0
 
 
 if __name__ == "__main__":
-    sys.exit(main())
+    start(main)

@@ -3,6 +3,7 @@
 const EXAMPLES = JSON.parse(byId("examples").textContent);      // name -> [catalogue, workload, what it shows]
 const TYPING = 400;                     // milliseconds after the last key
 const KEPT = "sdd1: a catalogue and a workload";
+const OF_A_FILE = " It opens where this file lies at the same place; elsewhere put what stands behind # behind the address of the file there.";
 
 const texts = () => [byId("catalogue-text").value, byId("workload-text").value];
 
@@ -64,13 +65,13 @@ async function shareAddress() {
   say("");
   const [catalogue, workload] = texts(), {text, length} = await packedRun(catalogue, workload), name = exampleOf(catalogue, workload);
   if (!text && !name) {
-    return say(`This run is too long for an address: packed it has ${length} letters, and an address has at most ${MOST_ADDRESS}. Save the two files instead.`, true);
+    return say(`This run is too long for an address: packed it has ${length} letters, and an address has at most ${MOST_ADDRESS}. `
+      + "Save the two files instead.", true);
   }
   const field = byId("shared-address");
   field.value = location.href.split("#")[0] + "#" + (name ? "example=" + name : "run=" + text) + "&do=inside";
   const copied = await navigator.clipboard?.writeText(field.value).then(() => true, () => false);
-  const where = location.protocol === "file:" ? " It opens where this file lies at the same place; elsewhere put what stands behind # behind the address of the file there." : "";
-  say((copied ? "The address is copied." : "Copy the address from the field below.") + where);
+  say((copied ? "The address is copied." : "Copy the address from the field below.") + (location.protocol === "file:" ? OF_A_FILE : ""));
   byId("shared").hidden = false;
   field.focus();
   field.select();

@@ -10,14 +10,14 @@ environment (Debian: apt-get install lld-19).
 """
 import os
 import shutil
-import sys
 import tempfile
 import time
 
-HERE = os.path.dirname(os.path.abspath(__file__))
-sys.path.insert(0, os.path.join(HERE, "..", "tools"))
+from repository import HERE, ROOT
 
-from build_unproved import Refused, clang_of, kit_folder, plain_text, run  # noqa: E402
+from build_unproved import Refused, clang_of, kit_folder, plain_text, run
+from sdd.command import parser, start
+from sdd.model.files import BadInput
 
 PROGRAMS = ["sdd1", "sdd1_inside"]
 TARGET = "wasm64-unknown-unknown"
@@ -72,23 +72,25 @@ def build(crate, into):
         link([program, runtime], into)
 
 
-def main(words):
-    if not words or words[0].startswith("-"):
-        print(__doc__.strip(), file=sys.stdout if words[:1] in (["-h"], ["--help"]) else sys.stderr)
-        return 0 if words[:1] in (["-h"], ["--help"]) else 2
-    folder, crates = words[0], words[1:] or PROGRAMS
+def main():
+    asked = parser(__doc__)
+    asked.add_argument("into", metavar="INTO")
+    asked.add_argument("crates", metavar="CRATE", nargs="*")
+    asked = asked.parse_args()
+    crates = asked.crates or PROGRAMS
+    unknown = [x for x in crates if not os.path.isfile(os.path.join(ROOT, "crates", x, "src", "main.rt"))]
+    if unknown:
+        raise BadInput("crates/%s is no program" % unknown[0])
     try:
         linker()                        # refused before the minutes that a crate takes
-        os.makedirs(folder, exist_ok=True)
+        os.makedirs(asked.into, exist_ok=True)
         for crate in crates:
-            begin, into = time.monotonic(), os.path.join(folder, crate + ".wasm")
+            begin, into = time.monotonic(), os.path.join(asked.into, crate + ".wasm")
             build(crate, into)
             print("%s: %d bytes, %.0f s" % (into, os.path.getsize(into), time.monotonic() - begin), flush=True)
-    except (Refused, OSError) as fault:
-        print("modules.py: %s" % fault, file=sys.stderr)
-        return 2
-    return 0
+    except Refused as fault:
+        raise BadInput(str(fault)) from None
 
 
 if __name__ == "__main__":
-    sys.exit(main(sys.argv[1:]))
+    start(main)

@@ -9,24 +9,23 @@ import os
 import shutil
 import subprocess
 
+import repository  # noqa: F401
+from sdd.model.files import BadInput
+
 HERE = os.path.dirname(os.path.abspath(__file__))
 KNOWS = "process.exit(WebAssembly.validate(new Uint8Array([0, 97, 115, 109, 1, 0, 0, 0, 5, 3, 1, 4, 1])) ? 0 : 1)"
 FLAGS = [[], ["--experimental-wasm-memory64"]]      # the second before node 24
-
-
-class NoNode(Exception):
-    """Why nothing can be run."""
 
 
 def node_words():
     """The words that begin a node which knows memories of 64 bits."""
     path = shutil.which("node")
     if path is None:
-        raise NoNode("there is no node here (Debian: apt-get install nodejs)")
+        raise BadInput("there is no node here (Debian: apt-get install nodejs)")
     for flags in FLAGS:
         if subprocess.run([path, *flags, "-e", KNOWS], stdout=subprocess.DEVNULL, stderr=subprocess.DEVNULL).returncode == 0:
             return [path, *flags]
-    raise NoNode("this node knows no memory of 64 bits: 20 is the first that does")
+    raise BadInput("this node knows no memory of 64 bits: 20 is the first that does")
 
 
 class Node:
@@ -43,7 +42,7 @@ class Node:
 
     def program(self, path):
         if not os.path.isfile(path):
-            raise NoNode("%s: no such module; web/modules.py makes it" % path)
+            raise BadInput("%s: no such module; web/modules.py makes it" % path)
         return Program(self, os.path.abspath(path))
 
     def call(self, module, words, files):
@@ -52,7 +51,7 @@ class Node:
         self.process.stdin.flush()
         line = self.process.stdout.readline()
         if not line:
-            raise NoNode("node ended")
+            raise BadInput("node ended")
         answer = json.loads(line)
         return answer["status"], base64.b64decode(answer["err"]), base64.b64decode(answer["out"])
 

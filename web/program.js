@@ -23,6 +23,7 @@ class Program {
   constructor(name, id) {
     this.name = name;
     this.calls = [];                    // in the order in which the worker answers them
+    this.stops = 0;                     // how often it was stopped
     this.module = unpackedBytes(byId(id).textContent.trim()).then(bytes => WebAssembly.compile(bytes));
     this.module.catch(() => 0);         // each call reports it
   }
@@ -45,6 +46,7 @@ class Program {
 
   // Ends what is under way; the next call begins with a new worker.
   stop(why) {
+    this.stops++;
     this.worker?.terminate();
     this.worker = null;
     for (const call of this.calls.splice(0)) call.refuse(new Stopped(why));
@@ -53,7 +55,8 @@ class Program {
   // What a call ends with: {status, out, err, ms}. `files` are texts, or bytes, by their names; `tell` is told now and then how
   // many bytes of memory the run has.
   async call(words, files, {seconds = 0, tell = () => 0} = {}) {
-    const worker = await this.begun();
+    const before = this.stops, worker = await this.begun();
+    if (this.stops !== before) throw new Stopped("stopped");
     return new Promise((done, refuse) => {
       const timer = seconds ? setTimeout(() => this.stop(`the run takes longer than ${seconds} seconds`), seconds * 1000) : 0;
       const ended = act => x => { clearTimeout(timer); act(x); };

@@ -1,11 +1,11 @@
 // What a line by which a program refuses a file speaks of, and what its rule means.
 
-// {workload, catalogue: rule -> [meaning, help]; hints: rule -> a few words; forms: first word of a line -> its form; others}
+// {workload, catalogue: rule -> [meaning, help]; forms: first word of a line -> its form; others: line -> meaning}
 const RULES = JSON.parse(byId("rules").textContent);
 const FAULT_OF_WORKLOAD = /^workload: line (\d+): (.+)$/, FAULT_OF_CATALOGUE = /^catalogue: (?:top|(relation|fragment|class) (\d+)): (.+)$/;
 
-// The rule with some words on it, for one line.
-function meaningOf(rule) { return Object.hasOwn(RULES.hints, rule) ? `${rule} (${RULES.hints[rule]})` : rule; }
+// The rule of a workload with its meaning, in one line.
+function meaningOf(rule) { return Object.hasOwn(RULES.workload, rule) ? `${rule}: ${RULES.workload[rule][0]}` : rule; }
 
 // Where the fault is: {file, begin, end, line}, places in the file's text; the lines of the part where it is of a catalogue.
 function placeOfFault(fault, catalogue, workload) {

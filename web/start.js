@@ -68,19 +68,21 @@ function showGraph() {
   const [catalogue] = texts();
   return attempt("sdd1 graph", async () => {
     leaveAhead();
-    const data = await catalogueData(programs, catalogue), box = byId("drawing");
+    const data = await catalogueData(programs, catalogue);
     showOutput(data.graph.join("\n") + "\n", "graph.txt");
-    box.textContent = "";
-    box.append(...drawnGraph(data.classes.map(x => x.name), tableEdges({data})));
-    box.hidden = false;
+    drawGraphOf(data, {graphByBlock: false});
     return `conflict graph of ${data.classes.length === 1 ? "1 class" : data.classes.length + " classes"},`;
   });
 }
 
-function drawnGraph(names, edges) {
-  if (!names.length) return [element("p", "faint", "The catalogue has no classes.")];
-  if (names.length > MOST_NODES) return graphMatrix({graphByBlock: false}, names, edges, null, showGraph).slice(0, 2);
-  return [graphDrawing(names, edges, null, new Set()), element("p", "faint", "An arrow leads from who reads to who writes it. " + PROTOCOL_WORDS)];
+// `how` says what the colours of a matrix mean, which a button in it changes.
+function drawGraphOf(data, how) {
+  const box = byId("drawing"), names = data.classes.map(x => x.name), edges = tableEdges({data});
+  box.textContent = "";
+  box.hidden = false;
+  if (!names.length) return box.append(element("p", "faint", "The catalogue has no classes."));
+  if (names.length > MOST_NODES) return box.append(...graphMatrix(how, names, edges, null, () => drawGraphOf(data, how)));
+  return box.append(graphDrawing(names, edges, null, new Set()), element("p", "faint", "An arrow leads from who reads to who writes it. " + PROTOCOL_WORDS));
 }
 
 // ---- The page of a run in place of the form. ----
@@ -188,7 +190,11 @@ function start() {
   byId("play-anew").onclick = () => playGame(true);
   byId("play").onclick = () => playGame(false);
   byId("show-graph").onclick = showGraph;
-  byId("again").onclick = () => (history.state?.isRun ? history.back() : startAgain());
+  byId("again").onclick = () => {
+    if (view.play?.isBusy) return;
+    if (history.state?.isRun) history.back();
+    else startAgain();
+  };
   byId("save-workload").onclick = saveSchedule;
   byId("form-theme").onclick = () => changeTheme(view);
   for (const made of document.querySelectorAll("[data-words]")) made.onclick = () => print(made.dataset.words);

@@ -115,15 +115,25 @@ class FormChecks(Opened):
             self.ended(page)
             same("graph of " + name, page.tell("byId('output').textContent"), self.programs.tell(["graph", files[0]]))
             same("nodes drawn", page.tell("document.querySelectorAll('#drawing .node').length === readToml(texts()[0]).class.length"), True)
+        self.fill(page, *map(text_of, write_workload(self.folder, "classes", 3)))
+        page.click("#show-graph")
+        page.wait("!progress.running && !!document.querySelector('#drawing canvas')")
+        page.click("#drawing button")
+        same("what the colours mean", page.tell("document.querySelector('#drawing button').textContent"), "colour: block")
+        self.fill(page, *example(name))
+        page.click("#show-graph")
+        self.ended(page)
         same("the saved text", self.saved(page, "#output-save", "graph.txt"), self.programs.tell(["graph", files[0]]))
 
     def refused(self, page):
         """A refusal shows its line, which is selected; one of a catalogue shows its part."""
         catalogue, workload = example("rejected_read")
-        cases = [(catalogue, workload.replace("put seat 7", "put seats 7"), "#look-inside", "workload: line 7: UnknownName", "workload", 'put seats 7 "closed"'),
-                 (catalogue, workload.replace("put seat 7", "put seats 7"), "#play-anew", "workload: line 7: UnknownName", "workload", 'put seats 7 "closed"'),
-                 (catalogue, workload.replace("deliver T2 D1 1", "deliver T2 D2 1"), "[data-words=run]", "workload: line 11: BadEvent", "workload", "deliver T2 D2 1"),
-                 (catalogue.replace("to = 99", "to = 98"), workload, "[data-words=check]", "catalogue: fragment 2: RangeGap", "catalogue", '[[fragment]]\nname = "sold"')]
+        misspelled, misled = workload.replace("put seat 7", "put seats 7"), workload.replace("deliver T2 D1 1", "deliver T2 D2 1")
+        gap = catalogue.replace("to = 99", "to = 98")
+        cases = [(catalogue, misspelled, "#look-inside", "workload: line 7: UnknownName", "workload", 'put seats 7 "closed"'),
+                 (catalogue, misspelled, "#play-anew", "workload: line 7: UnknownName", "workload", 'put seats 7 "closed"'),
+                 (catalogue, misled, "[data-words=run]", "workload: line 11: BadEvent", "workload", "deliver T2 D2 1"),
+                 (gap, workload, "[data-words=check]", "catalogue: fragment 2: RangeGap", "catalogue", '[[fragment]]\nname = "sold"')]
         for given_catalogue, given_workload, selector, line, area, quoted in cases:
             self.fill(page, given_catalogue, given_workload)
             page.click(selector)

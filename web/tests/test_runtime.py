@@ -5,7 +5,6 @@
 
 It needs the kit's clang, wasm-ld and node, and takes a second.
 """
-import argparse
 import os
 import random
 import sys
@@ -15,7 +14,10 @@ HERE = os.path.dirname(os.path.abspath(__file__))
 sys.path.insert(0, os.path.join(HERE, ".."))
 
 from modules import COMPILED, Refused, clang_of, compile_runtime, kit_folder, link, run  # noqa: E402
-from node import Node, NoNode  # noqa: E402
+from node import Node  # noqa: E402
+
+from sdd.command import count, parser, start  # noqa: E402
+from sdd.model.files import BadInput  # noqa: E402
 
 BITS, HALF = 2**128, 2**64
 EDGES = [0, 1, 2, 3, HALF - 1, HALF, HALF + 1, BITS - 1, BITS // 2, BITS // 2 - 1, 10**18, 10**19, 10**38]
@@ -121,8 +123,8 @@ def table(rng):
 
 
 def main():
-    asked = argparse.ArgumentParser(description=__doc__, formatter_class=argparse.RawDescriptionHelpFormatter, usage=argparse.SUPPRESS)
-    asked.add_argument("--seed", metavar="K", type=int, default=1)
+    asked = parser(__doc__)
+    asked.add_argument("--seed", metavar="K", type=count, default=1)
     asked = asked.parse_args()
     rng = random.Random(asked.seed)
     try:
@@ -135,12 +137,11 @@ def main():
             compile_runtime(clang, runtime)
             link([program, runtime], module)
             status, err, out = node.program(module).answer([], {})
-    except (Refused, NoNode) as fault:
-        print("test_runtime.py: %s" % fault, file=sys.stderr)
-        return 2
+    except Refused as fault:
+        raise BadInput(str(fault)) from None
     print("runtime.c: %s" % ("good" if status == 0 else "WRONG: status %d %s %s" % (status, out.decode(), err.decode())))
     return 1 if status else 0
 
 
 if __name__ == "__main__":
-    sys.exit(main())
+    start(main)

@@ -16,11 +16,9 @@ policy     what the page may not do, it can't
 message    what a browser without memories of 64 bits shows
 first      how long the first look at the example `bank` takes ; more than --seconds, where they are given, is a fault
 """
-import argparse
 import json
 import os
 import random
-import sys
 import tempfile
 import time
 
@@ -29,9 +27,13 @@ from opened import SIZE, SIZES, FormChecks, Opened, StopChecks
 import page_checks
 import page_clicks
 import test_page as page_tests
-from browser import Browser, Fault
+from browser import Browser, Fault, find_browser
 from page_checks import Wrong, same
 from random_calls import run_call
+from sdd.command import count, parser, start
+from sdd.explain import rules
+from sdd.model.files import BadInput, bytes_of
+from sdd.programs import Refused
 from sdd.view import states
 
 SLOW_PAGES = ["bank", "tatp", "tpcc", "ycsb", "smallbank"]         # minutes each
@@ -99,11 +101,11 @@ class Tests(Opened):
         page, tried, refused = self.open(), 0, 0
         ask = "runData(programs, %s, %s, 'x').then(x => JSON.stringify(x), x => x.message)"
         for name, files in self.runs():
-            have = page.tell(ask % tuple(json.dumps(states.read_bytes(x).decode()) for x in files))
+            have = page.tell(ask % tuple(json.dumps(bytes_of(x).decode()) for x in files))
             try:
                 want = json.loads(json.dumps(states.run_data(self.programs, *files, "x")))
                 same("data of " + name, json.loads(have), want)
-            except states.Refused as fault:
+            except Refused as fault:
                 same("refusal of " + name, have, str(fault))
                 refused += 1
             tried += 1
@@ -118,7 +120,7 @@ class Tests(Opened):
             if name in SLOW_PAGES or name.startswith("seed") and int(name[5:]) >= 10:
                 continue
             page = self.open()
-            self.fill(page, *[states.read_bytes(x).decode() for x in files])
+            self.fill(page, *[bytes_of(x).decode() for x in files])
             page.click("#look-inside")
             page.wait("!isForm()")
             page_checks.Check(page, states.run_data(self.programs, *files, "x")).whole()
@@ -132,14 +134,36 @@ class Tests(Opened):
         for name in page_clicks.CLICKED:
             page_clicks.whole_workload(self.browser, self.programs, self.folder, *examples[name])
             tried += 1
-        for check, lost in ((page_clicks.earlier, "location.reload"), (page_clicks.refusals, "play.token")):
-            try:
-                check(Until(self.browser, lost), self.programs, self.folder, *examples["rejected_read"])
-            except Reached:
-                pass                            # what is left of the check is of the server
-            tried += 1
+        try:
+            page_clicks.earlier(Until(self.browser, "location.reload"), self.programs, self.folder, *examples["rejected_read"])
+        except Reached:
+            pass                                # what is left of the check is of the server
+        self.refused_clicks(examples["rejected_read"][0])
         page_clicks.matrix(self.browser, self.programs, self.folder)
-        return "%d made with the mouse" % (tried + 1)
+        return "%d made with the mouse" % (tried + 3)
+
+    def refused_clicks(self, catalogue):
+        """What the program refuses is told with the line that was typed, and changes nothing."""
+        with Local(self, self.browser, self.programs, catalogue, None, self.folder) as played:
+            played.write(["txn t T1", "query 1.number from seat", "put seat 1", "done"])
+            played.click("#add-submit")
+            same("what is told", played.reported_text(), "line 3, `put seat 1`: WrongKind: " + rules.OF_WORKLOAD["WrongKind"][0])
+            played.fill("#txn-text", "query 1.number from seats")
+            played.click("#add")
+            same("what is told", played.reported_text().startswith("line 2, `query 1.number from seats`: UnknownName: "), True)
+            same("the workload", played.saved(), "end\n")
+            played.fill("#txn-text", "query 1.number from seat\ndone\nend")
+            played.click("#add")
+            same("what is told", played.reported_text().startswith("`done` ends the transaction"), True)
+            played.fill("#txn-text", "query 1.number from seat")
+            played.click("#add-submit")
+            same("what is told of the class", "runs undeclared" in played.reported_text(), True)
+            played.fill("#site-T1 .tick input", "0")
+            played.click("#site-T1 .tick button")
+            same("the schedule", played.events(), ["submit t"])
+            played.click("[data-link='U>T1'] .chip", 2)
+            same("a double click", played.events(), ["submit t", "deliver U T1 1"])
+            same("faults of scripts", played.page.faults(), [])
 
     def sizes(self):
         tried = 0
@@ -228,7 +252,7 @@ class Local(page_clicks.Served):
         browser.keep_downloads(self.folder)
         self.page = browser.open(tests.address, *size)
         self.page.wait("typeof kept === 'object' && kept.source !== ''")
-        tests.fill(self.page, states.read_bytes(catalogue).decode(), states.read_bytes(workload).decode() if workload else "")
+        tests.fill(self.page, bytes_of(catalogue).decode(), bytes_of(workload).decode() if workload else "")
         self.page.click("#play")
         self.page.wait("!!view.play")
         self.settle()
@@ -239,14 +263,19 @@ class Local(page_clicks.Served):
 
 def main():
     parts = ["form", "stop", "clicks", "data", "pages", "sizes", "policy", "message", "first"]
-    asked = argparse.ArgumentParser(description=__doc__, formatter_class=argparse.RawDescriptionHelpFormatter, usage=argparse.SUPPRESS)
+    asked = parser(__doc__)
     asked.add_argument("page", metavar="PAGE")
     asked.add_argument("--program", metavar="COMMAND")
     asked.add_argument("--inside", metavar="COMMAND")
-    asked.add_argument("--random", metavar="N", type=int, default=50)
+    asked.add_argument("--random", metavar="N", type=count, default=50)
     asked.add_argument("--seconds", metavar="N", type=float, default=float("inf"))
     asked.add_argument("--only", metavar="PART", nargs="+", choices=parts, default=parts)
     asked = asked.parse_args()
+    if not os.path.isfile(asked.page):
+        raise BadInput("%s: no such file" % asked.page)
+    if not find_browser():
+        print("skipped: there is no Chromium here (apt-get install chromium)")
+        return 0
     bad = 0
     with tempfile.TemporaryDirectory(prefix="test-web-") as folder, Browser(folder) as browser:
         for part in asked.only:
@@ -260,4 +289,4 @@ def main():
 
 
 if __name__ == "__main__":
-    sys.exit(main())
+    start(main)
