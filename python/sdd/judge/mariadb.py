@@ -51,8 +51,10 @@ class Engine:
             cursor.execute("USE " + SCHEMA)
             for relation in catalogue.relations:
                 cursor.execute(create_table(relation, KINDS, KINDS["int"]) + " ENGINE = InnoDB")
+                cursor.execute("START TRANSACTION")
                 for row in rows[relation.name].values():
                     cursor.execute(insert(relation, row), row)
+                cursor.execute("COMMIT")
         one.close()
 
 
