@@ -29,7 +29,7 @@ from sdd.judge.engines import ENGINES, engine_of
 from sdd.judge.history_file import write_history
 from sdd.judge.pace import Pace, Turns
 from sdd.judge.recorded import ABORTED, COMMITTED, UNKNOWN, Table
-from sdd.judge.session import Session
+from sdd.judge.session import MOST_TRIES, Session
 from sdd.judge.table_sql import quoted, with_versions
 from sdd.model.files import BadInput, text_of
 from sdd.model.reading import catalogue_at, workload_at
@@ -44,6 +44,7 @@ class Record:
 
     def __init__(self, names):
         self.names, self.made, self.lock = set(names), [], threading.Lock()
+        self.given_up = []          # names of those that were taken back each time
 
     def add(self, transaction):
         with self.lock:
@@ -92,6 +93,7 @@ def record_history(asked, cat, work):
         run_all(asked, engine, wide, transactions, record)
         left = rows_left(engine, wide)
         about = {"engine": engine.version(), "level": asked.level, "how": "read, compute, write" if asked.client else "SQL", "sessions": asked.sessions}
+        about |= {"given_up": record.given_up} if record.given_up else {}
     finally:
         if hasattr(engine, "close"):
             engine.close()
@@ -222,3 +224,5 @@ def main():
     outcomes = [x["outcome"] for x in parts[3]]
     print("%s, %s: %d committed, %d attempts aborted, %d of unknown outcome" % (
         parts[0]["engine"], parts[0]["level"], *(outcomes.count(x) for x in (COMMITTED, ABORTED, UNKNOWN))))
+    if "given_up" in parts[0]:
+        print("%d transactions were taken back %d times, and given up" % (len(parts[0]["given_up"]), MOST_TRIES))

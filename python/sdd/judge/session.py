@@ -55,6 +55,7 @@ class Session:
             except Unknown as fault:
                 self.tell(transaction.name, UNKNOWN, str(fault))
                 return self.connect_again()
+        self.record.given_up.append(transaction.name)
 
     def roll_back(self):
         try:
