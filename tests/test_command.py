@@ -11,8 +11,8 @@ from typing import NamedTuple
 from unittest import mock
 
 import sdd_path  # noqa: F401
-from sdd import programs
 from sdd.cli import COMMANDS, main
+from sdd import programs
 from sdd.programs import ROOT
 from sdd.reference import breaking
 
@@ -142,6 +142,14 @@ class Refusals(unittest.TestCase):
                           ["play", BRIDGE[0], path], ["to-elle", REPORT, path, BRIDGE[0]]):
                 said = self.refused(words, 2, "error[UnknownName]", "work:10:8", "did you mean `look`?")
                 self.assertNotIn("line 40", said)
+
+    def test_control_file(self):
+        self.refused(["control", "-", "-q"], 4, "no line begins with stepp", "did you mean `step`?", given=b"control 2 3\nstepp 0\nend\n")
+        self.refused(["control", "-", "-q"], 4, "there are sites 0 to 2", ":3:11", given=b"control 2 3\nstep 0\ndeliver 0 5\nend\n")
+
+    def test_a_terminal_obeys_nothing(self):
+        given = content(BRIDGE[1]).replace(b"row price 1 100", b'row price 1 "\x1b[31m"')
+        self.assertNotIn("\x1b", self.refused(["run", BRIDGE[0], "-", "-q"], 4, "\u241b[31m", given=given))
 
     def test_explain(self):
         done = call("explain", "catalogue: top: NotToml", BRIDGE[1])

@@ -17,8 +17,8 @@ from sdd.model.toml import NotToml, read_toml
 from sdd.model.words import Fault
 from sdd.model.workload import read_workload
 from sdd.programs import ROOT
-from sdd.reference import plain
 from sdd.reference.made import BANK
+from sdd.reference import plain
 
 EXAMPLES = sorted(glob.glob(os.path.join(ROOT, "examples", "*", "catalogue.toml")))
 CATALOGUE = """\
@@ -115,6 +115,7 @@ class Catalogues(unittest.TestCase):
         self.refused("tm = 2\n", "", "catalogue: class 1: MissingField", "[[class]]")
         self.refused("at = 1", "at = 2", "catalogue: class 1: UnknownName", "2")
         self.refused('fragment = "prices"', 'fragment = "price"', "catalogue: class 1: UnknownName", '"price"', ("prices",))
+        self.refused("copies = [1]\n", "", "catalogue: fragment 1: MissingField", "[[fragment]]")
         self.refused("tms = 2", "tms = 0", "catalogue: top: TooFew tm", "0")
         self.refused("tms = 2", "tms = 2 data", "catalogue: top: NotToml", "data")
 

@@ -3,8 +3,8 @@
 
     tools/check_generated.py [--write]
 
-They are the cases of the gate, the worked logs, the reports and pictures of examples/, the picture of the layers, and
-the map of the proof. With --write they are made anew. A check prints what differs, and ends with 1 where something does.
+They are the cases of the gate, the worked logs, the reports and pictures of examples/, the picture of the layers, the
+map of the proof, and the parts of the page in web/, where it is there. With --write they are made anew. A check prints what differs, and ends with 1 where something does.
 Nothing is needed but Python: reports come from the reference.
 """
 import concurrent.futures
@@ -21,6 +21,7 @@ from sdd.programs import ROOT
 
 TOOLS = os.path.dirname(os.path.abspath(__file__))
 DOCS = os.path.join(ROOT, "docs")
+WEB = [os.path.join(ROOT, "web", "build.py"), os.path.join(ROOT, "web", "sdd1.html")]
 THEMSELVES = [["make_cases.py"], ["write_log_examples.py"], ["make_broken.py"], ["make_examples.py", "--program", "reference"]]
 
 
@@ -50,11 +51,21 @@ def check_maps(room):
     return check_made("layers.svg", layers) + check_made("PROOF.md", page) + check_made("proof.svg", picture)
 
 
+def check_web():
+    """The page with the programs, of which the parts that python/ and web/ have are compared."""
+    if not os.path.exists(WEB[0]):
+        return []
+    done = subprocess.run([sys.executable, *WEB, "--check"], stdout=subprocess.PIPE, stderr=subprocess.STDOUT)
+    return done.stdout.decode(errors="replace").strip().split("\n") if done.returncode else []
+
+
 def write():
     for words in THEMSELVES:
         yield run(*words)
     yield run("layers.py", "--into", os.path.join(DOCS, "layers.svg"))
     yield run("proof_map.py", "--into", os.path.join(DOCS, "PROOF.md"), "--picture", os.path.join(DOCS, "proof.svg"))
+    if check_web():
+        yield subprocess.run([os.path.join(TOOLS, "web.sh"), "--page"]).returncode, ""
 
 
 def main():
@@ -65,7 +76,7 @@ def main():
         return max(status for status, _ in write())
     with tempfile.TemporaryDirectory(prefix="generated-") as room:
         with concurrent.futures.ThreadPoolExecutor() as pool:
-            checks = [pool.submit(check_itself, *words) for words in THEMSELVES] + [pool.submit(check_maps, room)]
+            checks = [pool.submit(check_itself, *words) for words in THEMSELVES] + [pool.submit(check_maps, room), pool.submit(check_web)]
             wrong = [line for check in checks for line in check.result()]
     for line in wrong:
         print(line)

@@ -28,12 +28,15 @@ programs=(sdd1 sdd1_inside)
 pages=$prefix/share/man/man1
 notes=$prefix/share/sdd1
 # sdd1_inside takes files alone, which a shell completes by itself.
-bash_file=$prefix/share/bash-completion/completions/sdd1
-zsh_file=$prefix/share/zsh/site-functions/_sdd1
-fish_file=$prefix/share/fish/vendor_completions.d/sdd1.fish
+bash_folder=$prefix/share/bash-completion/completions
+zsh_folder=$prefix/share/zsh/site-functions
+fish_folder=$prefix/share/fish/vendor_completions.d
 
 if [[ $mode == uninstall ]]; then
-  files=("$prefix/bin/sdd" "$bash_file" "$bash_file-unproved" "$zsh_file" "$fish_file")
+  files=("$prefix/bin/sdd" "$pages/sdd.1" "$bash_folder/sdd1-unproved")
+  for name in sdd sdd1; do
+    files+=("$bash_folder/$name" "$zsh_folder/_$name" "$fish_folder/$name.fish")
+  done
   for name in "${programs[@]}"; do
     files+=("$prefix/bin/$name" "$prefix/bin/$name-unproved" "$pages/$name.1" "$notes/$name" "$notes/$name-unproved")
   done
@@ -110,9 +113,12 @@ for name in "${programs[@]}"; do
   install -Dm 644 "$root/tools/install/$name.1" "$pages/$name.1"
 done
 install -m 755 "$room/sdd" "$prefix/bin/sdd"
-install -Dm 644 "$root/tools/install/sdd1.bash" "$bash_file"
-[[ $mode == proved ]] || ln -sf sdd1 "$bash_file-unproved"
-install -Dm 644 "$root/tools/install/_sdd1" "$zsh_file"
-install -Dm 644 "$root/tools/install/sdd1.fish" "$fish_file"
+install -Dm 644 "$root/tools/install/sdd.1" "$pages/sdd.1"
+for name in sdd sdd1; do
+  install -Dm 644 "$root/tools/install/$name.bash" "$bash_folder/$name"
+  install -Dm 644 "$root/tools/install/_$name" "$zsh_folder/_$name"
+  install -Dm 644 "$root/tools/install/$name.fish" "$fish_folder/$name.fish"
+done
+[[ $mode == proved ]] || ln -sf sdd1 "$bash_folder/sdd1-unproved"
 echo "installed $prefix/bin/sdd1$ending, $prefix/bin/sdd1_inside$ending and $prefix/bin/sdd, manual pages and completions"
 [[ :$PATH: == *":$prefix/bin:"* ]] || echo "note: $prefix/bin is not on your PATH"

@@ -8,6 +8,7 @@ out. With --check nothing is written: what isn't a link, and what isn't there, i
 """
 import os
 import re
+import shutil
 import subprocess
 
 import sdd_path  # noqa: F401
@@ -22,7 +23,12 @@ MENTION = re.compile(r"(?<![\w/.-])((?:[\w.-]+/)*[\w-]+\.md)(?![\w/])")
 
 
 def documents():
-    listed = subprocess.run(["git", "-C", ROOT, "ls-files", "-z", "--cached", "--others", "--exclude-standard", "*.md"], stdout=subprocess.PIPE, check=True)
+    """The documents of the repository, by their paths from its top."""
+    words = ["git", "-C", ROOT, "ls-files", "-z", "--cached", "--others", "--exclude-standard", "*.md"]
+    listed = subprocess.run(words, stdout=subprocess.PIPE, stderr=subprocess.DEVNULL) if shutil.which("git") else None
+    if listed is None or listed.returncode:         # a copy without git
+        return sorted(os.path.relpath(os.path.join(at, x), ROOT) for at, folders, names in os.walk(ROOT) for x in names
+                      if x.endswith(".md") and not set(os.path.relpath(at, ROOT).split(os.sep)) & {"out", ".git", "build"})
     return [x for x in listed.stdout.decode().split("\0") if x and os.path.exists(os.path.join(ROOT, x))]
 
 
