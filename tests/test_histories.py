@@ -5,8 +5,10 @@
 The judge is the installed `sdd1`, or the command in SDD1, or the reference. With ROUNDS=10 ten times as many are drawn.
 """
 import itertools
+import json
 import os
 import random
+import re
 import sys
 import tempfile
 import unittest
@@ -18,7 +20,7 @@ import sdd_path  # noqa: E402, F401
 from drawn_histories import Drawn  # noqa: E402
 from sdd.judge import verdict  # noqa: E402
 from sdd.judge.certify import certify  # noqa: E402
-from sdd.judge.history_file import read_history  # noqa: E402
+from sdd.judge.history_file import FileReader, read_history  # noqa: E402
 from sdd.judge.judge_command import NOT_SERIALIZABLE, SERIALIZABLE, status_of  # noqa: E402
 from sdd.judge.verdict import YES, Judge  # noqa: E402
 from sdd.programs import Program  # noqa: E402
@@ -82,6 +84,44 @@ class TestExamples(unittest.TestCase):
                     self.assertEqual(NOT_SERIALIZABLE, status_of(found, False))
                     self.assertTrue(found.anomaly.words.startswith(wanted), found.anomaly.words)
                     self.assertTrue(all(said.startswith("no ") for _, said, _ in found.refused))
+
+
+def with_stale_read(lines, rng):
+    """The lines of a history in which one transaction that writes too reads the version before the one that it read; and its name."""
+    lines = json.loads(json.dumps(lines))
+    versions = {}
+    for table in (x for x in lines if "table" in x):
+        for row in table["rows"]:
+            versions[table["table"], row[0]] = [row]
+    steps = sorted((step.get("at", 0), k, n) for k, x in enumerate(lines) for n, step in enumerate(x.get("steps", ())) if x["outcome"] == "committed")
+    for _, k, n in steps:
+        step = lines[k]["steps"][n]
+        for row in [step["row"]] if "write" in step else step["rows"] if step.get("do", "").startswith("update") else []:
+            versions[step.get("write") or step["do"].split(" ")[1], row[0]].append(row)
+    planted = []
+    for _, k, n in steps:
+        step = lines[k]["steps"][n]
+        found = re.fullmatch(r"query .* from (\w+) where 1.id = (\d+)", step.get("do", ""))
+        mine = versions.get((found[1], int(found[2])), []) if found else []
+        if step.get("rows") and step["rows"][0] in mine[1:] and any("write" in x for x in lines[k]["steps"]):
+            planted.append((k, n, mine[mine.index(step["rows"][0]) - 1]))
+    k, n, stale = rng.choice(planted)
+    lines[k]["steps"][n]["rows"] = [stale]
+    return lines, lines[k]["transaction"]
+
+
+class TestPlanted(unittest.TestCase):
+    def test_stale_reads_in_what_databases_replied(self):
+        for name in ("postgres_serializable_smallbank", "mariadb_serializable_smallbank", "sqlite_deferred_smallbank"):
+            with open(os.path.join(FOLDER, name + ".jsonl"), encoding="utf-8") as f:
+                lines = [json.loads(x) for x in f]
+            for seed in range(2 * ROUNDS):
+                changed, transaction = with_stale_read(lines, random.Random(seed))
+                with self.subTest((name, transaction)):
+                    reader = FileReader(name, "")
+                    for line in changed:
+                        reader.add(line)
+                    self.assertEqual(NOT_SERIALIZABLE, status_of(judged(reader.history_of_lines()), False))
 
 
 class TestDrawn(unittest.TestCase):

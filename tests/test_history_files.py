@@ -210,6 +210,10 @@ class TestElle(Files):
                     found = self.found(transactions)
                     self.assertEqual(SERIALIZABLE if yes else NOT_SERIALIZABLE, status_of(found, False), (found.said, found.cycle))
 
+    def test_examples(self):
+        for name, words in (("list_append", "write skew (G2)"), ("registers", "lost update")):
+            self.assertTrue(judged(read_elle(os.path.join(FOLDER, name + ".edn"))).anomaly.words.startswith(words))
+
     def test_refused(self):
         for lines, what in ELLE_REFUSED:
             with self.subTest(what), self.assertRaisesRegex(BadInput, re.escape(what)):

@@ -42,7 +42,7 @@ DRAWN, SMALL_NUMBERS = 60, 10
 def how(engine, address, level=None, **more):
     """What `sdd history` is asked."""
     made = {"engine": engine, "address": address, "level": level, "standby": None, "sessions": 12, "rest": 3, "client": False, "turns": None,
-            "lose": 0, "seed": 1}
+            "lose": 0, "seed": 1, "times": 1}
     return argparse.Namespace(**made | more)
 
 

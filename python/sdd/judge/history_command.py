@@ -4,7 +4,7 @@
     sdd history SCRIPT.sql --into FILE ..
 
 The transactions are those that the workload submits, or those of a script that `sdd from-sql` takes. They are sent as statements of SQL, the
-queries of each first. With --client, and where a change may see what an earlier one of its transaction changed, the connection reads the rows,
+queries of each first; --times N: N times each, under names of their own. With --client, and where a change may see what an earlier one of its transaction changed, the connection reads the rows,
 computes, and writes them by their keys, as programs do that map rows to objects. What the engine takes back is tried anew, 50 times at most.
 
 --address: for PostgreSQL what libpq takes ("host=/run/postgresql dbname=shop"; without it the environment), for MariaDB words as
@@ -16,6 +16,7 @@ at all); MariaDB also snapshot and read-uncommitted; SQLite has deferred, immedi
 A line `-- sdd history WORDS` of a script has words that stand before those of the command, as `--turns` or `--client`.
 --lose: how many of the commits are sent without waiting for the answer, as a share (PostgreSQL).
 """
+import argparse
 import itertools
 import os
 import shlex
@@ -28,7 +29,7 @@ from sdd.judge.engines import ENGINES, engine_of
 from sdd.judge.history_file import write_history
 from sdd.judge.pace import Pace, Turns
 from sdd.judge.recorded import ABORTED, COMMITTED, UNKNOWN, Table
-from sdd.judge.session import Session
+from sdd.judge.session import MOST_TRIES, Session
 from sdd.judge.table_sql import quoted, with_versions
 from sdd.model.files import BadInput, text_of
 from sdd.model.reading import catalogue_at, workload_at
@@ -43,6 +44,7 @@ class Record:
 
     def __init__(self, names):
         self.names, self.made, self.lock = set(names), [], threading.Lock()
+        self.given_up = []          # names of those that were taken back each time
 
     def add(self, transaction):
         with self.lock:
@@ -68,9 +70,14 @@ def read_files(paths):
     return cat, workload_at(paths[1], cat)
 
 
-def transactions_of(work):
-    """Those that the workload submits, in that order; all of them where it submits none."""
-    return [work.txns[n - 1] for n in work.submitted()] or list(work.txns)
+def transactions_of(work, times):
+    """Those that the workload submits, in that order; all of them where it submits none. So many times, under names of their own."""
+    once = [work.txns[n - 1] for n in work.submitted()] or list(work.txns)
+    made = once if times == 1 else [x._replace(name="%s_%d" % (x.name, n)) for n in range(1, times + 1) for x in once]
+    strange = next((x.name for x in made if len(x.name) > MOST_NAME), None)
+    if strange is not None or len({x.name for x in made}) < len(made):
+        raise BadInput("--times gives a name that is too long or stands there already: %s" % (strange or "see the workload"))
+    return made
 
 
 def record_history(asked, cat, work):
@@ -79,13 +86,14 @@ def record_history(asked, cat, work):
     rows = {r.name: {} for r in wide.relations}
     for name, row in work.rows:
         rows[name][wide.relation[name].key_of(row)] = row + (0,)
-    transactions = transactions_of(work)
+    transactions = transactions_of(work, asked.times)
     try:
         engine.prepare(wide, rows)
         record = Record(x.name for x in transactions)
         run_all(asked, engine, wide, transactions, record)
         left = rows_left(engine, wide)
         about = {"engine": engine.version(), "level": asked.level, "how": "read, compute, write" if asked.client else "SQL", "sessions": asked.sessions}
+        about |= {"given_up": record.given_up} if record.given_up else {}
     finally:
         if hasattr(engine, "close"):
             engine.close()
@@ -175,7 +183,8 @@ def arguments(asked):
     asked.add_argument("--level", metavar="LEVEL")
     asked.add_argument("--sessions", metavar="N", type=count, default=12, help="connections, 12 without it")
     asked.add_argument("--rest", metavar="MS", type=count, default=3, help="the longest rest between statements, in milliseconds")
-    asked.add_argument("--client", action="store_true", help="read, compute, write")
+    asked.add_argument("--times", metavar="N", type=count, default=1, help="how many times each transaction runs")
+    asked.add_argument("--client", action=argparse.BooleanOptionalAction, default=False, help="read, compute, write")
     asked.add_argument("--turns", metavar="NAMES")
     asked.add_argument("--lose", metavar="SHARE", type=share_word, default=0)
     asked.add_argument("--seed", metavar="N", type=count, default=1, help="of the rests")
@@ -196,8 +205,8 @@ def words_asked(words):
     reader.add_argument("--into", metavar="FILE", required=True)
     arguments(reader)
     asked = reader.parse_args(words)
-    if len(asked.files) > 2 or asked.sessions == 0:
-        raise BadInput("give a catalogue and a workload, or a script in SQL, and at least one session")
+    if len(asked.files) > 2 or 0 in (asked.sessions, asked.times):
+        raise BadInput("give a catalogue and a workload, or a script in SQL, and at least one session and one time")
     if asked.lose and asked.engine != "postgres":
         raise BadInput("--lose is supported with PostgreSQL alone")
     return asked
@@ -215,3 +224,5 @@ def main():
     outcomes = [x["outcome"] for x in parts[3]]
     print("%s, %s: %d committed, %d attempts aborted, %d of unknown outcome" % (
         parts[0]["engine"], parts[0]["level"], *(outcomes.count(x) for x in (COMMITTED, ABORTED, UNKNOWN))))
+    if "given_up" in parts[0]:
+        print("%d transactions were taken back %d times, and given up" % (len(parts[0]["given_up"]), MOST_TRIES))

@@ -30,6 +30,9 @@ MOST_SHOWN = 6
 def lines_of(found, folder):
     """What was found, a line each."""
     yield counts(found.history)
+    keys = found.history.about.get("keys", {})
+    if keys:
+        yield "keys are numbered: %s" % ", ".join("%s is %s" % x for x in list(keys.items())[:MOST_SHOWN]) + (", .." if len(keys) > MOST_SHOWN else "")
     for name, said in found.said:
         yield "order %s: %s" % (name, said)
     if found.is_serializable():

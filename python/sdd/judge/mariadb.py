@@ -51,8 +51,10 @@ class Engine:
             cursor.execute("USE " + SCHEMA)
             for relation in catalogue.relations:
                 cursor.execute(create_table(relation, KINDS, KINDS["int"]) + " ENGINE = InnoDB")
+                cursor.execute("START TRANSACTION")
                 for row in rows[relation.name].values():
                     cursor.execute(insert(relation, row), row)
+                cursor.execute("COMMIT")
         one.close()
 
 
@@ -68,7 +70,7 @@ class Connection:
             self.set_snapshots(engine.asked.level == "snapshot")
 
     def set_snapshots(self, on):
-        """From 10.6.18 on, REPEATABLE READ can refuse to change a row that isn't as it was read."""
+        """Whether REPEATABLE READ refuses to change a row that isn't as it was read; older versions can't."""
         try:
             self.carried_out("SET innodb_snapshot_isolation = %s" % ("ON" if on else "OFF"), ())
         except self.engine.pymysql.err.MySQLError as fault:

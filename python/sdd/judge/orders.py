@@ -189,9 +189,9 @@ def proposals(history, graph, sure, most):
     yield "by commit", None, lambda: by_end(history)
     yield "by begin", None, lambda: by_begin(history) if history.timed else None
     yield "along the dependencies, strictly", "graph", lambda: along(graph, strict=True)
-    yield "along the dependencies, readers moved, strictly", None, lambda: if_strict(history, with_readers_placed(history, base(True)))
+    yield "along the dependencies, readers moved, strictly", "some", lambda: if_strict(history, with_readers_placed(history, base(True)))
     yield "by search, strictly", "some", lambda: Search(history, edges, True, most).run()
     yield "along the dependencies and sessions", "graph", lambda: along(graph.with_sessions())
     yield "along the dependencies", "graph", lambda: along(graph)
-    yield "along the dependencies, readers moved", None, lambda: with_readers_placed(history, base(False))
+    yield "along the dependencies, readers moved", "some", lambda: with_readers_placed(history, base(False))
     yield LAST, "some", lambda: Search(history, all_edges, False, most).run()

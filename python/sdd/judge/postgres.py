@@ -40,6 +40,7 @@ class Engine:
             there = one.execute("SELECT obj_description(oid, 'pg_namespace') FROM pg_namespace WHERE nspname = %s", [SCHEMA]).fetchone()
             if there is not None and there[0] != MARK:
                 raise BadInput("PostgreSQL: there is a schema %s which sdd history didn't make" % SCHEMA)
+            one.execute("BEGIN")
             one.execute("DROP SCHEMA IF EXISTS %s CASCADE" % SCHEMA)
             one.execute("CREATE SCHEMA %s" % SCHEMA)
             one.execute("COMMENT ON SCHEMA %s IS '%s'" % (SCHEMA, MARK))
@@ -47,6 +48,7 @@ class Engine:
                 one.execute(create_table(relation, KINDS, KINDS["int"]))
                 for row in rows[relation.name].values():
                     one.execute(insert(relation, row), row)
+            one.execute("COMMIT")
             written = one.execute("SELECT pg_current_wal_flush_lsn()").fetchone()[0]
         if self.standby:
             self.await_standby(written)

@@ -11,9 +11,11 @@ from sdd.judge.touched import meet, touched_by
 from sdd.model.files import BadInput
 from sdd.model.spelling import statement_line
 from sdd.model.statements import Assign, Column, Compare, Delete, Put, Query, Txn, Update
+from sdd.model.words import LEAST
 
 MOST_TRIES = 50
 SECONDS_DOWN = 60
+NULLS = {"int": LEAST, "text": "NULL, which nobody wrote"}
 
 
 def stand_apart(transaction, cat):
@@ -55,6 +57,7 @@ class Session:
             except Unknown as fault:
                 self.tell(transaction.name, UNKNOWN, str(fault))
                 return self.connect_again()
+        self.record.given_up.append(transaction.name)
 
     def roll_back(self):
         try:
@@ -110,8 +113,17 @@ class Session:
 
     def query(self, s):
         sql, values = query_sql(self.cat, s)
-        rows = sorted(set(map(tuple, self.send(sql, values))), key=row_order)
-        self.add(sql, values, do=statement_line(self.cat, s), rows=rows)
+        kinds = [self.cat.relation[s.relations[c.part]].columns[c.place][1] for c in s.columns]
+        self.add(sql, values, do=statement_line(self.cat, s), rows=self.told(self.send(sql, values), kinds))
+
+    def told(self, rows, kinds):
+        """Rows in their order, each once. An engine that shows what isn't committed may reply NULL in a column that has none: then a value
+        stands there that nobody writes."""
+        made = {tuple(NULLS[kind] if x is None else x for x, kind in zip(row, kinds)) for row in rows}
+        return sorted(made, key=row_order)
+
+    def told_whole(self, rows, name):
+        return self.told(rows, [kind for _, kind in self.cat.relation[name].columns])
 
     # Changes as they are.
 
@@ -126,7 +138,7 @@ class Session:
         else:
             self.send(sql, values)
             rows = self.connection.ask(*rows_sql(self.cat, self.those_written(s)))
-        self.add(sql, values, do=statement_line(self.cat, s), rows=sorted(map(tuple, rows), key=row_order))
+        self.add(sql, values, do=statement_line(self.cat, s), rows=self.told_whole(rows, s.relation))
 
     def those_written(self, update):
         """A statement about the rows that an update wrote: by their `v_`, and by their key where it was told."""
@@ -162,7 +174,7 @@ class Session:
         relation = self.cat.relation[s.relation]
         everything = Query(tuple(Column(0, k) for k in range(len(relation.columns))), (s.relation,), s.conds)
         sql, values = query_sql(self.cat, everything)
-        rows = sorted(map(tuple, self.send(sql, values)), key=row_order)
+        rows = self.told_whole(self.send(sql, values), s.relation)
         self.add(sql, values, do=statement_line(self.cat, everything), rows=rows)
         return effect(Txn("", 1, (s,)), {s.relation: {relation.key_of(x): x for x in rows}}, self.cat)[1]
 

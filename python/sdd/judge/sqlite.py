@@ -54,12 +54,14 @@ class Engine:
                 if os.path.exists(self.path + end):
                     os.remove(self.path + end)
         self.keeper = self.opened()         # a shared cache in memory lives as long as a connection
+        self.keeper.execute("BEGIN")
         self.keeper.execute("CREATE TABLE sdd_history_mark (mark TEXT)")
         self.keeper.execute("INSERT INTO sdd_history_mark VALUES (?)", [MARK])
         for relation in catalogue.relations:
             self.keeper.execute(create_table(relation, KINDS, "INTEGER"))
             for row in rows[relation.name].values():
                 self.keeper.execute(insert(relation, row).replace("%s", "?"), row)
+        self.keeper.execute("COMMIT")
 
     def demand_own(self):
         try:
