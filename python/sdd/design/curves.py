@@ -1,0 +1,81 @@
+"""The picture of timed runs: for each class or kind how its times are distributed, two designs over each other.
+
+    text = draw_curves(explored)        # a list of one or two Explored
+
+A curve tells for each time on its scale, which grows by factors, how many of 100 took at most so long; dots mark p50, p95, p99.
+"""
+import math
+
+from .latencies import ALL, PARTS, percentile
+from .latency_tables import FIELDS, short, shown
+from .needs import svg
+
+STYLE = """
+text{font:11px sans-serif;fill:#222} .head{font-weight:bold} .small{font-size:9px;fill:#666} .frame{fill:none;stroke:#bbb}
+.grid{stroke:#ddd;stroke-width:1} .first{fill:none;stroke:#1f77b4;stroke-width:1.6} .second{fill:none;stroke:#d9730d;stroke-width:1.6}
+.dot1{fill:#1f77b4} .dot2{fill:#d9730d}
+"""
+LEFT, PANEL, GAP, ROW, HIGH, TOP = 110, 250, 22, 104, 66, 62
+POINTS = 120
+
+
+class Scale:
+    """Milliseconds on a line that grows by factors of ten."""
+
+    def __init__(self, times):
+        times = [max(x, 0.1) for x in times] or [1.0]
+        self.low, self.high = math.floor(math.log10(min(times)) * 2) / 2, math.ceil(math.log10(max(times)) * 2 + 0.01) / 2
+
+    def x(self, ms):
+        return PANEL * (math.log10(max(ms, 10 ** self.low)) - self.low) / max(0.5, self.high - self.low)
+
+    def marks(self):
+        return [10.0 ** k for k in range(math.ceil(self.low), math.floor(self.high) + 1)]
+
+
+def curve(times, scale, left, bottom, style):
+    """How many of 100 took at most so long."""
+    ordered = sorted(times)
+    steps = sorted({min(len(ordered) - 1, k * len(ordered) // POINTS) for k in range(POINTS + 1)})
+    points = [(left, bottom)] + [(left + scale.x(ordered[k]), bottom - HIGH * (k + 1) / len(ordered)) for k in steps]
+    points.append((left + PANEL, bottom - HIGH))
+    path = "M%.1f %.1f " % points[0] + " ".join("H%.1f V%.1f" % p for p in points[1:])
+    return svg.shape("path", style, d=path)
+
+
+def panel(groups, field, scale, left, bottom):
+    shapes = [svg.shape("rect", "frame", x=left, y=bottom - HIGH, width=PANEL, height=HIGH)]
+    for ms in scale.marks():
+        x = left + scale.x(ms)
+        shapes += [svg.shape("line", "grid", x1=x, y1=bottom - HIGH, x2=x, y2=bottom), svg.label(x, bottom + 10, "%g" % ms, "small", text_anchor="middle")]
+    for k, group in enumerate(groups):
+        times = getattr(group, field) if group else []
+        if not times:
+            shapes.append(svg.label(left + PANEL - 4, bottom - 6 - 11 * (len(groups) - 1 - k), "none", "small", text_anchor="end"))
+            continue
+        shapes.append(curve(times, scale, left, bottom, ("first", "second")[k]))
+        for p in PARTS:
+            ms = percentile(times, p)
+            shapes.append(svg.shape("circle", "dot%d" % (k + 1), "p%d: %s ms" % (p, shown(ms)), cx=left + scale.x(ms), cy=bottom - HIGH * p / 100, r=2.5))
+        told = " ".join(shown(percentile(times, p)) for p in PARTS)
+        shapes.append(svg.label(left + PANEL - 4, bottom - 6 - 11 * (len(groups) - 1 - k), told, "small", text_anchor="end"))
+    return shapes
+
+
+def draw_curves(designs):
+    both = [x.latencies.ordered() for x in designs]
+    names = list(dict.fromkeys(x for groups in both for x in groups if x != ALL)) + [ALL]
+    shapes, width = [], LEFT + len(FIELDS) * (PANEL + GAP)
+    for k, design in enumerate(designs):
+        shapes.append(svg.shape("rect", "dot%d" % (k + 1), x=10 + 420 * k, y=8, width=10, height=10))
+        shapes.append(svg.label(26 + 420 * k, 17, "%s, %d runs" % (short(design.name), design.latencies.runs)))
+    for n, (title, field) in enumerate(FIELDS):
+        left = LEFT + n * (PANEL + GAP)
+        scale = Scale([x for groups in both for group in groups.values() for x in getattr(group, field)])
+        shapes.append(svg.label(left, TOP - 22, "%s, ms: how many of 100 took at most so long" % title if n == 0 else "%s, ms" % title, "head"))
+        shapes.append(svg.label(left + PANEL, TOP - 22, "p50 p95 p99", "small", text_anchor="end"))
+        for row, name in enumerate(names):
+            shapes += panel([x.get(name) for x in both], field, scale, left, TOP + ROW * row + HIGH)
+    for row, name in enumerate(names):
+        shapes.append(svg.label(10, TOP + ROW * row + HIGH / 2, name[:18], "head"))
+    return svg.whole(width, TOP + ROW * len(names), STYLE, shapes)

@@ -1,0 +1,88 @@
+"""What many timed runs tell of each class or kind of transaction, in milliseconds.
+
+    found = Latencies("class")
+    found.take(run)                 # a TimedRun
+    found.groups, found.pairs
+"""
+import math
+import re
+
+PARTS = (50, 95, 99)
+ALL = "all"
+
+
+class Group:
+    """The transactions of a class or a kind."""
+
+    def __init__(self):
+        self.commits = self.attempts = self.waits = 0
+        self.waited, self.queued, self.to_commit, self.others = [], [], [], set()
+        self.busy = 0.0             # the part of the time in which an attempt was under way, summed over the runs
+
+    def take(self, told):
+        self.attempts += told.attempts
+        self.waits += len(told.waits)
+        self.waited += [ms for _, _, ms in told.waits]
+        if told.committed is not None:
+            self.commits += 1
+            self.queued.append(told.started - told.submitted)
+            self.to_commit.append(told.committed - told.submitted)
+
+    def join(self, other):
+        self.commits, self.attempts, self.waits = self.commits + other.commits, self.attempts + other.attempts, self.waits + other.waits
+        for field in ("waited", "queued", "to_commit"):
+            getattr(self, field).extend(getattr(other, field))
+
+    def part(self, field, percent):
+        return percentile(getattr(self, field), percent)
+
+    def mean(self):
+        return sum(self.to_commit) / len(self.to_commit) if self.to_commit else None
+
+
+class Latencies:
+    def __init__(self, by):
+        self.by, self.groups, self.pairs, self.runs, self.drains = by, {}, {}, 0, []
+        self.messages = self.unended = 0
+
+    def take(self, run):
+        self.runs += 1
+        self.messages += run.messages
+        name_of, end = run.plans.whole.class_name, max((x.committed or 0 for x in run.told.values()), default=0)
+        for told in run.told.values():
+            cls, kind = name_of(told.plan.cls), kind_of(told.plan.name)
+            name, other = (cls, kind) if self.by == "class" else (kind, cls)
+            group = self.groups.setdefault(name, Group())
+            group.take(told)
+            group.others.add(other)
+            for _, awaited, ms in told.waits:
+                for writer in awaited:
+                    self.pairs.setdefault((name, name_of(writer)), []).append(ms)
+            if told.committed is None:
+                self.unended += 1
+                continue
+            if end:
+                group.busy += (told.committed - told.started) / end
+            if cls == "-":
+                self.drains.append(told.committed - told.submitted)
+
+    def whole(self):
+        made = Group()
+        for group in self.groups.values():
+            made.join(group)
+        return made
+
+    def ordered(self):
+        """The groups, the slowest first, and all together."""
+        slowest = sorted(self.groups.items(), key=lambda x: -(x[1].part("to_commit", 50) or 0))
+        return dict(slowest) | {ALL: self.whole()}
+
+
+def percentile(values, percent):
+    """The least value that so many of 100 don't exceed; None of none."""
+    ordered = sorted(values)
+    return ordered[max(0, math.ceil(len(ordered) * percent / 100) - 1)] if ordered else None
+
+
+def kind_of(name):
+    return re.sub(r"_?\d+$", "", name) or name
