@@ -30,15 +30,20 @@ class Explored(NamedTuple):
 
 
 class Design:
-    """The files of a design, and the plans of its transactions."""
+    """A catalogue and a workload, and the plans of its transactions."""
 
-    def __init__(self, catalogue_path, workload_path):
-        self.catalogue_path, self.workload_path = catalogue_path, workload_path
-        self.cat = read_by(lambda data: catalogue.read_catalogue(data), catalogue_path)
-        self.work = read_by(lambda data: workload.read_workload(self.cat, data), workload_path)
-        if not self.work.submitted():
-            raise BadInput("%s: it submits nothing" % workload_path)
-        self.plans = Plans(self.cat, self.work)
+    def __init__(self, catalogue_path, workload_path, cat, work):
+        self.catalogue_path, self.workload_path, self.cat, self.work = catalogue_path, workload_path, cat, work
+        self.plans = Plans(cat, work)
+
+    @staticmethod
+    def of_files(catalogue_path, workload_path):
+        return Design(catalogue_path, workload_path, *demand_read(catalogue_path, workload_path))
+
+    @staticmethod
+    def of_texts(catalogue_text, workload_text):
+        cat = refused("catalogue", catalogue.read_catalogue, catalogue_text.encode())
+        return Design("", "", cat, refused("workload", lambda data: workload.read_workload(cat, data), workload_text.encode()))
 
     def phases(self, every, rng):
         """The events with their times, which begin anew behind each settle."""
@@ -68,10 +73,22 @@ class Design:
         return read_load(self.workload_path).text(run.schedule + ["settle"])
 
 
-def read_by(read, path):
+def demand_read(catalogue_path, workload_path):
+    """The catalogue and the workload of two files, which submits something."""
+    cat = refused(catalogue_path, catalogue.read_catalogue, bytes_of(catalogue_path))
+    work = refused(workload_path, lambda data: workload.read_workload(cat, data), bytes_of(workload_path))
+    if not work.submitted():
+        raise BadInput("%s: it submits nothing" % workload_path)
+    return cat, work
+
+
+def bytes_of(path):
     text_of(path)
     with open(path, "rb") as f:
-        data = f.read()
+        return f.read()
+
+
+def refused(path, read, data):
     try:
         return read(data)
     except words.Fault as fault:
