@@ -6,12 +6,10 @@ import os
 import shlex
 import shutil
 import subprocess
-import sys
 import tempfile
 
-sys.path.insert(0, os.path.join(os.path.dirname(os.path.abspath(__file__)), ".."))
-
-from reference.commands import answer  # noqa: E402
+import sdd_path  # noqa: F401
+from sdd.reference.commands import answer
 
 ROOM = "/dev/shm" if os.path.isdir("/dev/shm") else None
 SECONDS = 120

@@ -13,7 +13,7 @@ The table goes to standard output; with --into it takes the place of what stands
 lines `<!-- benchmark: begin -->` and `<!-- benchmark: end -->`, with --note above it, which should say how
 the programs were built.
 
-The workloads are those of `tools/make_workload.py --help`, with the number that stands behind the name;
+The workloads are those of `sdd make-workload --help`, with the number that stands behind the name;
 `small` is bank.work of crates/sdd1/data. --part N takes an Nth of each. Time is that of the processor in the
 program and the system, memory the most that was in use at once, both the least of some runs (--runs, 3).
 Instructions are counted in one further run by valgrind's callgrind, in the program alone; where there is no
@@ -29,12 +29,14 @@ import tempfile
 import time
 from typing import NamedTuple
 
-from command import count, parser, parts_of, start
-from make_workload import MEASURED, write_workload
+import sdd_path  # noqa: F401
 from measuring import Room
-from program import CRATE
-from report import BadInput
+from sdd.bench.make_workload import MEASURED, write_workload
+from sdd.command import count, parser, parts_of, start
+from sdd.model.files import BadInput
+from sdd.programs import ROOT
 
+CRATE = os.path.join(ROOT, "crates", "sdd1")
 FINDS_NOTHING = "lose T1 D1 1\n"
 BEGIN, END = "<!-- benchmark: begin -->\n", "<!-- benchmark: end -->\n"
 HEAD = ["workload", "command", "events", "seconds", "MB", "million instructions", "an event"]

@@ -4,7 +4,7 @@
     tools/check_inside.py FROM TO [--inside COMMAND]
 
 For each seed from FROM up to TO, without it, a run is drawn. The text is that of COMMAND, a built
-`sdd1_inside`, and each of its lines has to be that of the reference (reference/), byte for byte; or it is
+`sdd1_inside`, and each of its lines has to be that of the reference (`sdd reference`), byte for byte; or it is
 the reference's own. It is read by its two rules alone (tools/replay.py), and behind each event what the
 reader has is compared with the world that the reference carries out: flights, acknowledgements, messages
 that are handed over, pipes, queues, sites, and rows at the end. So a line that tells a change wrongly is
@@ -15,15 +15,16 @@ import os
 import random
 import tempfile
 
-from command import count, parser, start
+import sdd_path  # noqa: F401
 from random_calls import run_call
-from reference.catalogue import read_catalogue
-from reference.inside import Watch, row_word, spelled
-from reference.links import Ack
-from reference.workload import U, Site, read_workload
-from reference.world import World
-from replay import Contradiction, Reader
-from states import output_of, words_of
+from sdd.command import count, parser, start
+from sdd.model.catalogue import read_catalogue
+from sdd.model.workload import Site, read_workload
+from sdd.programs import output_of, words_of
+from sdd.reference.inside import Watch, row_word, spelled
+from sdd.reference.links import Ack
+from sdd.reference.world import World
+from sdd.view.replay import Contradiction, Reader
 
 SECONDS = 120
 

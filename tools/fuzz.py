@@ -4,7 +4,7 @@
     tools/fuzz.py FROM TO [KIND ..] --program COMMAND [--other COMMAND] [--inside COMMAND] [--into FOLDER]
 
 For each seed from FROM up to TO, without it, and each kind (all where none is named) a call is drawn: words and files.
-The reference of this repository (reference/) answers it in this process, the program by COMMAND, and so may a third one.
+The reference of this repository (`sdd reference`) answers it in this process, the program by COMMAND, and so may a third one.
 Kind inside is for a program of its own, which takes a catalogue and a workload; it is left out without --inside.
 An answer is a status, what is written to standard error, and what standard output is. Of a call with a difference lines are
 taken away as long as there is one; what is left is printed, and with --into its files are kept in FOLDER. It ends with 1
@@ -18,8 +18,8 @@ import os
 import random
 import sys
 
-import random_calls
 from answers import NoProgram, Program, reference_answer
+import random_calls
 
 
 def difference(call, programs):

@@ -12,7 +12,8 @@ import os
 import re
 import sys
 
-from svg import label, shape, whole, width_of
+import sdd_path  # noqa: F401
+from sdd.view.svg import label, shape, whole, width_of
 
 ROOT = os.path.normpath(os.path.join(os.path.dirname(os.path.abspath(__file__)), ".."))
 STYLE = """

@@ -3,10 +3,10 @@
 
     tools/make_broken.py [--check]
 
-Each folder there is named after a rule of reference/breaking.py. Its report is what the reference prints of its
+Each folder there is named after a rule of sdd/reference/breaking.py. Its report is what the reference prints of its
 catalogue and workload with the rule broken, and its picture that of the report. Whether it is written or checked, it is
-asked that no serial order explains the report (tools/all_orders.py; of `commit-order`, that the printed order doesn't),
-that tools/check_history.py finds what is wrong, and that with all rules kept an order explains what comes out.
+asked that no serial order explains the report (sdd all-orders; of `commit-order`, that the printed order doesn't),
+that sdd check-history finds what is wrong, and that with all rules kept an order explains what comes out.
 """
 import argparse
 import os
@@ -14,14 +14,16 @@ import subprocess
 import sys
 import tempfile
 
-from all_orders import judged, read_inputs
-from reference import breaking
-from reference.commands import run_text
-from reference.verify import verdict
-from report import BadInput, read_report
+import sdd_path  # noqa: F401
+from sdd.judge.all_orders import judged, read_inputs
+from sdd.model.files import BadInput
+from sdd.model.report import read_report
+from sdd.programs import ROOT, own_command
+from sdd.reference import breaking
+from sdd.reference.commands import run_text
+from sdd.reference.verify import verdict
 
-TOOLS = os.path.dirname(os.path.abspath(__file__))
-BROKEN = os.path.normpath(os.path.join(TOOLS, "..", "examples", "broken"))
+BROKEN = os.path.join(ROOT, "examples", "broken")
 
 
 def need(holds, what):
@@ -29,9 +31,9 @@ def need(holds, what):
         raise BadInput(what)
 
 
-def script(name, *words):
-    """The status of a script of this folder, and what it prints."""
-    done = subprocess.run([sys.executable, os.path.join(TOOLS, name), *words], capture_output=True, text=True)
+def outcome(*words):
+    """The status of a call of `sdd`, and what it prints."""
+    done = subprocess.run(own_command(*words), capture_output=True, text=True)
     need(not done.stderr, done.stderr.strip())
     return done.returncode, done.stdout
 
@@ -59,8 +61,8 @@ def judge(rule, cat, work, files, room):
     is_explained = judged(read_report(report), cat, work) is not None
     need(not is_explained if rule != "commit-order" else not printed, "%s: an order explains it" % rule)
     history = os.path.join(room, "history.edn")
-    script("to_elle.py", report, workload, catalogue, "--along-order", "--into", history)
-    need(script("check_history.py", history)[0] == 1, "%s: the history has no fault" % rule)
+    outcome("to-elle", report, workload, catalogue, "--along-order", "--into", history)
+    need(outcome("check-history", history)[0] == 1, "%s: the history has no fault" % rule)
     whole = write(os.path.join(room, "whole"), report_of(cat, work, None))
     need(judged(read_report(whole), cat, work) is not None, "%s: no order explains the run with all rules kept" % rule)
 
@@ -73,7 +75,7 @@ def make(rule, check, room):
     with open(made, "rb") as f, open(report, "rb") as g:
         need(f.read() == g.read(), "%s: the report differs" % rule)
     if not check:
-        script("picture.py", report, catalogue, "--into", os.path.join(folder, "picture.svg"))
+        outcome("picture", report, catalogue, "--into", os.path.join(folder, "picture.svg"))
     judge(rule, cat, work, files, room)
 
 

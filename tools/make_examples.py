@@ -4,11 +4,11 @@
     tools/make_examples.py [--program COMMAND] [--only NAME ..] [--check]
 
 Of each example the program COMMAND (a built `sdd1`; without it `rt try`, minutes for each example) gives
-the report of its workload, or the advice on its catalogue where it has no workload; tools/picture.py
-and tools/graph_picture.py draw `picture.svg` and, where `dot` of Graphviz is installed, `graph.svg`.
+the report of its workload, or the advice on its catalogue where it has no workload; sdd picture
+and sdd graph-picture draw `picture.svg` and, where `dot` of Graphviz is installed, `graph.svg`.
 Of the example `sql` catalogue and workload are translated from its script. Of the known applications they
 are made too, with the catalogue of the first design (`first.toml`), and with `waits.svg`, in which
-tools/explore.py compares the two.
+sdd explore compares the two.
 
 With --check nothing is written, and each file that would change is reported; `graph.svg` is left out then,
 since it depends on the version of `dot` and its fonts, and `waits.svg`, since it takes long. The folder
@@ -17,16 +17,15 @@ examples/broken is that of tools/make_broken.py.
 import os
 import shutil
 import subprocess
-import sys
 import tempfile
 
-from command import parser, start
-from make_workload import APPLICATIONS, write_workload
-from program import add_program, run_program
-from report import BadInput
+import sdd_path  # noqa: F401
+from sdd.bench.make_workload import APPLICATIONS, write_workload
+from sdd.command import parser, start
+from sdd.model.files import BadInput
+from sdd.programs import ROOT, add_program, own_command, run_program
 
-TOOLS = os.path.dirname(os.path.abspath(__file__))
-EXAMPLES = os.path.join(TOOLS, "..", "examples")
+EXAMPLES = os.path.join(ROOT, "examples")
 WINDOWS = {                 # the examples of which a part is drawn
     "bank": ["--from", "3000", "--to", "3080"], "smallbank": ["--from", "60", "--to", "160"], "tatp": ["--from", "60", "--to", "160"],
     "tpcc": ["--from", "60", "--to", "160"], "ycsb": ["--from", "60", "--to", "160"],
@@ -34,8 +33,8 @@ WINDOWS = {                 # the examples of which a part is drawn
 MADE = {"bank": 300, "smallbank": 40, "tatp": 40, "tpcc": 40, "ycsb": 40}       # the made ones, with their transactions
 
 
-def draw(script, words):
-    done = subprocess.run([sys.executable, os.path.join(TOOLS, script)] + words, stdout=subprocess.DEVNULL, stderr=subprocess.PIPE)
+def draw(command, words):
+    done = subprocess.run(own_command(command) + words, stdout=subprocess.DEVNULL, stderr=subprocess.PIPE)
     if done.returncode:
         raise BadInput(done.stderr.decode(errors="replace").strip())
 
@@ -57,19 +56,19 @@ def make(name, program, folder, check):
         catalogue, workload = write_workload(folder, name, MADE[name])
         made += ["catalogue.toml", "workload"]
     if name == "sql":
-        draw("from_sql.py", [os.path.join(mine, "bank.sql"), "--into", folder])
+        draw("from-sql", [os.path.join(mine, "bank.sql"), "--into", folder])
         made += ["catalogue.toml", "workload"]
         catalogue, workload = os.path.join(folder, "catalogue.toml"), os.path.join(folder, "workload")
     if name in APPLICATIONS:
         made += compare_designs(name, program, folder, check)
     if os.path.exists(workload):
         report = write(folder, "report", run_program(program, ["run", catalogue, workload]))
-        draw("picture.py", [report, catalogue, workload, "--into", os.path.join(folder, "picture.svg")] + more + WINDOWS.get(name, []))
+        draw("picture", [report, catalogue, workload, "--into", os.path.join(folder, "picture.svg")] + more + WINDOWS.get(name, []))
     else:
         made = ["advice"]
         write(folder, "advice", run_program(program, ["advise", catalogue]))
     if shutil.which("dot") and not check:
-        draw("graph_picture.py", [catalogue, "--into", os.path.join(folder, "graph.svg")] + more)
+        draw("graph-picture", [catalogue, "--into", os.path.join(folder, "graph.svg")] + more)
         made.append("graph.svg")
     return made
 
@@ -83,7 +82,7 @@ def compare_designs(name, program, folder, check):
     if check:
         return ["first.toml"]
     words = ["--pace", "6", "--picture", os.path.join(folder, "waits.svg")] + (["--program", program] if program else [])
-    draw("explore.py", files + words)
+    draw("explore", files + words)
     return ["first.toml", "waits.svg"]
 
 

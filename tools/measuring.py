@@ -12,7 +12,8 @@ import subprocess
 import threading
 from typing import NamedTuple
 
-from report import BadInput
+import sdd_path  # noqa: F401
+from sdd.model.files import BadInput
 
 SET_CHILD_SUBREAPER = 36                    # of prctl(2): who is left by its parent becomes a child of this process
 START = 'exec 3<&0; { read go <&3; exec "$@" 3<&-; } >"$OUT" 2>"$ERRORS" & echo $!'

@@ -13,8 +13,9 @@ import os
 import re
 import sys
 
+import sdd_path  # noqa: F401
 import antt
-from svg import label, shape, whole
+from sdd.view.svg import label, shape, whole
 
 REPORT, MADE = ("sdd_run", "IsReportOn"), ("sdd_run", "reported")
 BEGIN, END = "<!-- map -->", "<!-- end of map -->"

@@ -2,10 +2,11 @@
 from dataclasses import replace
 from typing import NamedTuple
 
-import random_input as inputs
-from reference.catalogue import Class
-from reference.commands import answer
-from spelling import catalogue_text, workload_text
+import sdd_path  # noqa: F401
+from sdd.bench import random_input as inputs
+from sdd.model.catalogue import Class
+from sdd.model.spelling import catalogue_text, workload_text
+from sdd.reference.commands import answer
 
 COMMANDS = ["check", "graph", "table", "plain", "run", "make", "control", "verify", "advise"]
 STRANGE = ["", " ", "0", "-0", "007", "-1", "+1", "9223372036854775807", "9223372036854775808", "-9223372036854775808",

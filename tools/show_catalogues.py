@@ -10,8 +10,9 @@ and else `rt try`, which builds the program once for each of the three commands.
 import glob
 import os
 
-from command import parser, start
-from program import CRATE, Program, add_program, demand_text
+import sdd_path  # noqa: F401
+from sdd.command import parser, start
+from sdd.programs import ROOT, Program, add_program, demand_text
 
 COMMANDS = ["check", "graph", "table"]
 
@@ -20,7 +21,7 @@ def main():
     asked = parser(__doc__)
     add_program(asked)
     program = Program(asked.parse_args().program)
-    catalogues = sorted(glob.glob(os.path.join(CRATE, "data", "*.toml")))
+    catalogues = sorted(glob.glob(os.path.join(ROOT, "crates", "sdd1", "data", "*.toml")))
     reported = {command: program.ask_all([command, "{}"], catalogues) for command in COMMANDS}
     for k, catalogue in enumerate(catalogues):
         for command in COMMANDS:

@@ -1,5 +1,5 @@
 #!/usr/bin/env python3
-"""Writes crates/sdd_log_examples/specs: the logs of worked workloads, computed by the reference (reference/).
+"""Writes crates/sdd_log_examples/specs: the logs of worked workloads, computed by the reference (`sdd reference`).
 
     tools/write_log_examples.py [--check] [--out FOLDER]
     tools/write_log_examples.py --random FIRST COUNT --file FILE [--longest N]
@@ -18,14 +18,15 @@ import random
 import re
 import sys
 
+import sdd_path  # noqa: F401
 from log_examples import LOGS
-import random_input
-from reference.catalogue import read_catalogue
-from reference.graph import protocol_table
-from reference.redeclare import eras as eras_of
-from reference.statements import Compare, Put, Query, Update
-from reference.workload import read_workload
-from reference.world import World
+from sdd.bench import random_input
+from sdd.model.catalogue import read_catalogue
+from sdd.model.statements import Compare, Put, Query, Update
+from sdd.model.workload import read_workload
+from sdd.reference.graph import protocol_table
+from sdd.reference.redeclare import eras as eras_of
+from sdd.reference.world import World
 
 HERE = os.path.dirname(os.path.abspath(__file__))
 

@@ -1,0 +1,1 @@
+"""Choosing a design: who waits for whom, smallest runs, catalogues from SQL."""

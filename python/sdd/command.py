@@ -1,0 +1,91 @@
+"""What the commands of tools/ share: their help, and refusals in one line with status 2.
+
+    asked = parser(__doc__)
+    ..
+    if __name__ == "__main__":
+        start(main)
+"""
+import argparse
+import os
+import shlex
+import subprocess
+import sys
+
+from sdd.model.files import BadInput
+
+REFUSED = 2
+
+
+def parser(text):
+    """A reader of the command line whose help is the text, and which refuses in one line."""
+    return argparse.ArgumentParser(description=text, formatter_class=argparse.RawDescriptionHelpFormatter, usage=argparse.SUPPRESS)
+
+
+class Words(argparse.ArgumentParser):
+    """As `argparse` has it; --help prints what the script says at its head."""
+
+    def __init__(self, reported):
+        super().__init__(description=reported, formatter_class=argparse.RawDescriptionHelpFormatter, usage=argparse.SUPPRESS)
+
+    def error(self, message):
+        refuse("%s; --help tells the words" % message)
+
+
+def refuse(what):
+    print("%s: %s" % (os.path.basename(sys.argv[0]), what), file=sys.stderr)
+    sys.exit(REFUSED)
+
+
+def count(word):
+    """A whole number from 0 on, as a word of a command line."""
+    number = int(word)
+    if number < 0:
+        raise ValueError
+    return number
+
+
+count.__name__ = "count"            # what argparse calls it where it refuses a word
+
+
+def describe_fault(fault):
+    """What is wrong, in one line."""
+    if isinstance(fault, OSError) and fault.filename is not None:
+        return "%s: %s" % (fault.filename, (fault.strerror or "can't be used").lower())
+    return " ".join(str(fault).split())
+
+
+def parts_of(command):
+    """The program and the words of a command that somebody gave as one text."""
+    try:
+        parts = shlex.split(command)
+    except ValueError as fault:
+        raise BadInput("%s is no command: %s" % (command, fault)) from None
+    if not parts:
+        raise BadInput("the command is empty")
+    return parts
+
+
+def run_outside(command, words=(), **more):
+    """Runs a command, one text or a list of words; what it prints is bytes."""
+    parts = parts_of(command) if isinstance(command, str) else list(command)
+    try:
+        return subprocess.run(parts + list(words), stdout=subprocess.PIPE, stderr=subprocess.PIPE, **more)
+    except OSError as fault:
+        raise BadInput("%s doesn't run: %s" % (parts[0], (fault.strerror or "fault").lower())) from None
+
+
+def start(main):
+    """Calls `main`, and ends with its status; what it refuses is reported in one line."""
+    name = os.path.basename(sys.argv[0])
+    try:
+        status = main()
+        sys.stdout.flush()
+    except BrokenPipeError:
+        os.dup2(os.open(os.devnull, os.O_WRONLY), sys.stdout.fileno())
+        status = 1
+    except (BadInput, OSError) as fault:
+        print("%s: %s" % (name, describe_fault(fault)), file=sys.stderr)
+        status = REFUSED
+    except KeyboardInterrupt:
+        status = 130
+    sys.exit(status or 0)

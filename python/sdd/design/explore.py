@@ -1,0 +1,190 @@
+"""Runs the submissions of a workload under many schedules, and reports which transactions wait, for whom and how long.
+
+    sdd explore CATALOGUE WORKLOAD [CATALOGUE2 WORKLOAD2] [--runs N] [--seed SEED] [--pace N]
+                     [--faults PERCENT] [--by class|kind] [--picture FILE] [--program COMMAND]
+
+Each schedule submits what the workload submits, in its order, and keeps its ticks, downs, ups and settles
+between them; the deliveries are drawn from SEED. Where all schedules in which packets arrive in their
+order are no more than N, those are taken, and nothing is drawn.
+
+A table has a line for each class (`-` is that of transactions that no class covers) or for each kind of
+transaction: its name without the digits at its end.
+
+    attempts/commit   1 where no read was rejected
+    waits/attempt     how often a read of an attempt had to wait at a data module
+    waited            how long such a read waited: the median, and the worst
+    queued            how long it took from the submission to the first attempt: transactions of one class
+                      run one after the other
+    to commit         how long it took from the submission to the commit: the median, and the worst
+    rows, values      what was shipped for the committed attempt, on the average
+
+Times are in rounds. In a round each link between two sites that work delivers about one packet, so it is
+as many events as there are links; with --events times are in events. A second table has the pairs of a
+class that waits and a class for which it waits. A second design is compared with the first one side by
+side, and the changes of the protocol table are listed. The picture (SVG) has the distributions of both times.
+
+The line above the table has the packets that arrived for each commit, with their acknowledgements.
+
+--pace is how many rounds lie between two submissions, on the average (4): the less, the more transactions
+are under way at once. --faults is how many of 100 events lose, repeat or resend packets (0).
+"""
+import os
+import random
+import re
+import sys
+import tempfile
+from typing import NamedTuple
+
+from sdd.command import count, parser
+from sdd.design.covering import class_for
+from sdd.design import distributions
+from sdd.design.figures import collect_drains, collect_figures, print_comparison, print_design
+from sdd.design.observed import observe
+from sdd.design.protocols import print_changes, print_protocols, read_protocols
+from sdd.design.schedules import Manner, draw_schedule, enumerate_schedules, list_links, read_load
+from sdd.model.files import BadInput
+from sdd.model.named_catalogue import read_catalogue
+from sdd.model.named_workload import read_workload
+from sdd.programs import Program, add_program, demand_text
+
+BATCH = 50
+LAST = "lose T1 D1 1"       # finds nothing after a settle, and so tells how many events there were
+
+
+class Design(NamedTuple):
+    name: str
+    figures: dict           # class or kind -> Figures
+    pairs: dict             # class or kind that waits, class that is waited for -> times
+    drains: list            # the times of transactions that no class covers
+    protocols: dict
+    runs: int
+    complete: bool          # whether these are all schedules
+    links: int
+    transactions: int
+    packets: float          # that arrived, for each commit
+
+
+class Explorer:
+    """The runs of one design."""
+
+    def __init__(self, program, catalogue, workload, folder):
+        self.program, self.path, self.folder = program, catalogue, folder
+        self.catalogue, self.load = read_catalogue(catalogue), read_load(workload)
+        if not self.load.submitted():
+            raise BadInput("%s: it submits nothing" % workload)
+        self.links = list_links(self.catalogue, self.load, self.has_undeclared(workload))
+
+    def has_undeclared(self, workload):
+        """Whether the site of transactions that no class covers may have work; with further class lists it may."""
+        if "list" in self.load.head:
+            return True
+        transactions = read_workload(workload, self.catalogue)[1]
+        return any(class_for(transactions[x], self.catalogue) is None for x in self.load.submitted() if x in transactions)
+
+    def texts(self, schedules):
+        paths = []
+        for k, events in enumerate(schedules):
+            paths.append(os.path.join(self.folder, "work%d" % k))
+            with open(paths[-1], "w", encoding="utf-8") as f:
+                f.write(self.load.text(events + [LAST]))
+        words = ["run", self.path, "{}"]
+        return [demand_text(x, words) for x in self.program.ask_all(words, paths)]
+
+    def observed(self, schedules):
+        return [observe(x) for x in self.texts(schedules)]
+
+    def flying(self, events, links):
+        """The links with a packet in flight: a loss there finds one."""
+        text = self.texts([events + ["lose %s %s 1" % x for x in links]])[0]
+        empty = {int(x) for x in re.findall(r"^(\d+) nothing$", text, flags=re.M)}
+        return [x for k, x in enumerate(links, len(events) + 1) if k not in empty]
+
+    def schedules(self, asked):
+        """The schedules, and whether they are all."""
+        if self.program.command is not None and len(self.load.submitted()) <= 3:
+            whole = enumerate_schedules(self.load, self.links, self.flying, asked.runs)
+            if whole is not None:
+                return whole, True
+        manner = Manner(asked.pace, asked.faults / 100)
+        return [draw_schedule(self.load, self.links, random.Random("%d %d" % (asked.seed, k)), manner) for k in range(asked.runs)], False
+
+    def explore(self, asked):
+        schedules, complete = self.schedules(asked)
+        step = BATCH if self.program.command is not None else len(schedules)
+        observed = []
+        for k in range(0, len(schedules), step):
+            tell_progress("%s: %d of %d runs" % (self.path, k, len(schedules)))
+            observed += self.observed(schedules[k:k + step])
+        tell_progress("")
+        unit = 1 if asked.events else len(self.links)
+        figures, pairs = collect_figures(observed, asked.by, unit)
+        table = self.program.text(["table", self.path])
+        packets = sum(self.packets(x) for x in observed) / max(1, sum(x.commits() for x in observed))
+        return Design(self.path, figures, pairs, collect_drains(observed, unit), read_protocols(table), len(schedules), complete, len(self.links), len(self.load.submitted()), packets)
+
+    def packets(self, observed):
+        """How many packets arrived: events that found something to do, but for submissions, ticks, downs and ups."""
+        return observed.events - observed.idle - sum(x != "settle" for x in self.load.events)
+
+
+def tell_progress(text):
+    """On a terminal the line is written over the one before."""
+    if sys.stderr.isatty():
+        sys.stderr.write("\r\x1b[K" + text)
+        sys.stderr.flush()
+
+
+def positive(word):
+    number = float(word)
+    if not 0 <= number <= 1000:
+        raise ValueError
+    return number
+
+
+positive.__name__ = "number"
+
+
+def read_words():
+    asked = parser(__doc__)
+    asked.add_argument("files", metavar="FILE", nargs="+")
+    asked.add_argument("--runs", metavar="N", type=count, default=200, help="how many schedules (200)")
+    asked.add_argument("--seed", type=count, default=1, help="where the drawn numbers begin (1)")
+    asked.add_argument("--pace", metavar="N", type=positive, default=4, help="rounds between two submissions (4)")
+    asked.add_argument("--faults", metavar="PERCENT", type=positive, default=0, help="losses, repetitions, resends (0)")
+    asked.add_argument("--by", choices=["class", "kind"], help="without it kinds, where there are two designs and few kinds")
+    asked.add_argument("--events", action="store_true", help="tell events, not rounds")
+    asked.add_argument("--picture", metavar="FILE", help="draw the distributions")
+    add_program(asked)
+    asked = asked.parse_args()
+    if len(asked.files) not in (2, 4):
+        raise BadInput("it takes a catalogue and a workload, or two of each")
+    if asked.runs == 0 or asked.faults > 100:
+        raise BadInput("--runs is 1 or more, and --faults at most 100")
+    return asked
+
+
+def kinds_of(path):
+    return {re.sub(r"_?\d+$", "", x) for x in read_load(path).submitted()}
+
+
+def main():
+    asked = read_words()
+    if asked.by is None:
+        few = len(asked.files) == 4 and all(len(kinds_of(x)) <= 24 for x in asked.files[1::2])
+        asked.by = "kind" if few else "class"
+    program = Program(asked.program)
+    designs = []
+    with tempfile.TemporaryDirectory(prefix="explore-") as folder:
+        for k in range(0, len(asked.files), 2):
+            explorer = Explorer(program, asked.files[k], asked.files[k + 1], folder)
+            designs.append(explorer.explore(asked))
+    unit = "events" if asked.events else "rounds"
+    if len(designs) == 1:
+        print_design(designs[0], asked.by, unit)
+        print_protocols(designs[0].protocols)
+    else:
+        print_comparison(designs, asked.by, unit)
+        print_changes(designs[0].protocols, designs[1].protocols)
+    if asked.picture:
+        with open(asked.picture, "w", encoding="utf-8") as f:
+            f.write(distributions.draw_distributions(designs, asked.by, unit))

@@ -1,0 +1,1 @@
+"""What a refusal means, what is wrong there, and what helps."""

@@ -1,0 +1,1 @@
+"""Judging histories from outside, and with rules broken."""

@@ -1,0 +1,1 @@
+"""The files: catalogues, workloads, reports. Each is read here, and nowhere else."""

@@ -1,0 +1,118 @@
+#!/usr/bin/env python3
+"""Tries the commands of `sdd` and the scripts of tools/ on good and bad words and files.
+
+    tests/try_tools.py --program COMMAND
+
+COMMAND is a built `sdd1`. Each command, and each script that is executable, has to answer --help. Of each call below the status has
+to be the one that is given; a refusal is one line on standard error, and never a traceback. A call that does
+something else is printed, and a last line counts them; the status is 1 where there was one.
+"""
+import os
+import subprocess
+import sys
+import tempfile
+
+import sdd_path  # noqa: F401
+from sdd.cli import COMMANDS
+from sdd.command import parser, start
+from sdd.programs import add_program
+
+TOP = os.path.join(os.path.dirname(os.path.abspath(__file__)), "..")
+TOOLS = os.path.join(TOP, "tools")
+CAT, WORK, REPORT = ("examples/two_protocols/" + x for x in ("catalogue.toml", "workload", "report"))
+P = ["--program", "PROGRAM"]
+GOOD = [
+    ["make-workload", "bank", "3", "--into", "ROOM/new/bank"],
+    ["make-workload", "tpcc", "3", "--design", "owners", "--into", "ROOM/tpcc"],
+    ["explore", CAT, WORK, "--runs", "3", "--picture", "ROOM/picture.svg"] + P,
+    ["explore", CAT, WORK, CAT, WORK, "--runs", "3", "--events", "--faults", "5"] + P,
+    ["shrink", CAT, WORK, "--keep", "order", "--into", "ROOM/small"] + P,
+    ["shrink", CAT, WORK, "--command", "grep -q tally", "--into", "ROOM/small"],
+    ["explain", "workload: line 1: BadLine", CAT, WORK],
+    ["explain", "catalogue: class 1: WrongKind", CAT],
+    ["explain", "limit"],
+    ["from-sql", "examples/sql/bank.sql", "--into", "ROOM/sql"],
+    ["to-elle", REPORT, WORK, CAT, "--into", "ROOM/history"],
+    ["check-history", "ROOM/history"],
+    ["plant-faults", "--each", "1"] + P,
+    ["show_catalogues.py"] + P,
+    ["make_examples.py", "--check", "--only", "bridge", "two_protocols"] + P,
+    ["fuzz.py", "0", "3", "run", "plain"] + P,
+    ["all-orders", REPORT, WORK, CAT],
+    ["benchmark.py", "--only", "small", "--runs", "1"] + P,
+    ["benchmark.py", "--only", "bank", "rows", "largest", "--part", "100", "--beside", "PROGRAM"] + P,
+    ["measure_gate.py", "--log", "ROOM/log", "--into", "ROOM/gate", "--", "true"],
+    ["write_log_examples.py", "--check"], ["proof_map.py", "--into", "ROOM/map", "--picture", "ROOM/map.svg"], ["proof_map.py", "--unused"],
+    ["layers.py", "--into", "ROOM/layers.svg"], ["crate_paths.py", "--most", "20000"],
+    ["page", CAT, WORK, "--into", "ROOM/page.html"] + P, ["picture", REPORT, CAT, WORK, "--into", "ROOM/run.svg"] + P,
+    ["graph-picture", "examples/ycsb/catalogue.toml", "--into", "ROOM/matrix.svg"] + P, ["check_inside.py", "0", "3"],
+]
+BAD = [
+    ["make-workload"], ["make-workload", "nokind", "--into", "ROOM/x"], ["make-workload", "bank", "-5", "--into", "ROOM/x"],
+    ["make-workload", "bank", "9999", "--into", "ROOM/x"], ["make-workload", "bank", "3", "--into", "/proc/x"],
+    ["make-workload", "tpcc", "--design", "no", "--into", "ROOM/x"], ["make-workload", "bank", "--design", "no", "--into", "ROOM/x"],
+    ["explore"], ["explore", CAT], ["explore", "/no/a", "/no/b"] + P, ["explore", CAT, CAT] + P, ["explore", WORK, WORK] + P,
+    ["explore", CAT, "examples/bank/workload"] + P, ["explore", CAT, WORK, "--runs", "0"] + P, ["explore", CAT, WORK, "--program", "/no/p"],
+    ["explore", CAT, WORK, "--program", ""], ["explore", CAT, WORK, "--runs", "2", "--picture", "/no/x"] + P,
+    ["shrink"], ["shrink", CAT, WORK, "--keep", "x", "--into", "ROOM/x", "--program", "/no/p"],
+    ["shrink", CAT, WORK, "--keep", "no such line", "--into", "ROOM/x"] + P, ["shrink", "/no/a", WORK, "--keep", "x", "--into", "ROOM/x"] + P,
+    ["shrink", CAT, WORK, "--command", "/no/p", "--into", "ROOM/x"],
+    ["explain"], ["explain", "nonsense"], ["explain", "workload: line 1: BadLine"], ["explain", "catalogue: top: NotToml", "/no/a"],
+    ["from-sql"], ["from-sql", "/no/a", "--into", "ROOM/x"], ["from-sql", CAT, "--into", "ROOM/x"],
+    ["to-elle"], ["to-elle", "/no/a", WORK, CAT], ["to-elle", WORK, WORK, CAT], ["to-elle", REPORT, WORK, "examples/bank/catalogue.toml"],
+    ["check-history"], ["check-history", "/no/a"], ["check-history", CAT],
+    ["plant-faults", "--each", "x"], ["plant-faults", "--program", "/no/p"],
+    ["show_catalogues.py", "--program", "/no/p"], ["show_catalogues.py", "x"],
+    ["make_examples.py", "--only", "no"], ["make_examples.py", "--check", "--only", "bridge", "--program", "/no/p"],
+    ["compare_messages.py"], ["compare_messages.py", "x", "y"], ["fuzz.py"], ["fuzz.py", "0", "1", "nokind"] + P,
+    ["fuzz.py", "0", "1", "plain", "--program", "/no/p"], ["all-orders"], ["all-orders", "/no/a", WORK, CAT],
+    ["all-orders", REPORT, "/no/a", CAT], ["find-broken"], ["find-broken", "norule"], ["make_broken.py", "x"],
+    ["picture"], ["picture", "/no/a"], ["picture", REPORT, "examples/bank/catalogue.toml"], ["graph-picture"],
+    ["graph-picture", "/no/a"] + P, ["page"], ["page", "/no/a", "/no/b", "--into", "ROOM/x"], ["play"], ["play", "/no/a"],
+    ["page", CAT, WORK, "--into", "ROOM/x", "--inside", "/no/p"], ["check_inside.py"], ["check_inside.py", "0", "1", "--inside", "/no/p"],
+    ["benchmark.py", "--only", "nokind"], ["benchmark.py", "--only", "small", "--program", "/no/p"], ["benchmark.py", "--program", ""],
+    ["benchmark.py", "--part", "0"] + P, ["benchmark.py", "--only", "small", "--into", "README.md"] + P,
+    ["benchmark.py", "--only", "small", "--beside", "/no/p"] + P, ["measure_gate.py", "--", "/no/p"],
+    ["program.py"], ["program.py", "nonsense"], ["program.py", "check", "/no/a"],
+    ["write_log_examples.py", "x"], ["crate_paths.py", "--crates", "/no/a"], ["crate_paths.py", "--top", "nocrate"],
+]
+
+
+def try_call(words, status, room, program):
+    """What a call does that it shouldn't, in one line, or nothing."""
+    first, *rest = [x.replace("ROOM", room).replace("PROGRAM", program) for x in words]
+    called = [os.path.join(TOOLS, first)] if first.endswith(".py") else [os.path.join(TOP, "sdd"), first]
+    try:
+        done = subprocess.run([sys.executable] + called + rest, cwd=TOP, stdin=subprocess.DEVNULL,
+                              stdout=subprocess.PIPE, stderr=subprocess.PIPE, timeout=300)
+    except subprocess.TimeoutExpired:
+        return "it takes over 300 seconds"
+    errors = done.stderr.decode(errors="replace").splitlines()
+    if done.returncode != status:
+        return "status %d in place of %d: %s" % (done.returncode, status, " / ".join(errors[-1:]))
+    if status == 2 and len(errors) != 1:
+        return "%d lines on standard error" % len(errors)
+    return "a traceback" if any(x.startswith("Traceback") for x in errors) else None
+
+
+def main():
+    asked = parser(__doc__)
+    add_program(asked)
+    asked = asked.parse_args()
+    if asked.program is None:
+        asked.error("give a built sdd1 by --program")
+    scripts = sorted(x for x in os.listdir(TOOLS) if x.endswith(".py") and os.access(os.path.join(TOOLS, x), os.X_OK))
+    calls = [([x, "--help"], 0) for x in scripts + list(COMMANDS)] + [(x, 0) for x in GOOD] + [(x, 2) for x in BAD]
+    wrong = 0
+    with tempfile.TemporaryDirectory(prefix="tools-") as room:
+        for words, status in calls:
+            fault = try_call(words, status, room, asked.program)
+            if fault is not None:
+                wrong += 1
+                print("%s: %s" % (" ".join(words), fault), flush=True)
+    print("%d calls, %d do something else" % (len(calls), wrong))
+    return 1 if wrong else 0
+
+
+if __name__ == "__main__":
+    start(main)
