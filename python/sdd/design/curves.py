@@ -6,9 +6,9 @@ A curve tells for each time on its scale, which grows by factors, how many of 10
 """
 import math
 
-from .latencies import ALL, PARTS, percentile
-from .latency_tables import FIELDS, short, shown
-from .needs import svg
+from sdd.design.latencies import ALL, PARTS, percentile
+from sdd.design.latency_tables import FIELDS, short, shown
+from sdd.view import svg
 
 STYLE = """
 text{font:11px sans-serif;fill:#222} .head{font-weight:bold} .small{font-size:9px;fill:#666} .frame{fill:none;stroke:#bbb}

@@ -7,9 +7,10 @@
 import copy
 import tomllib
 
-from .milliseconds import Design, demand_read
-from .needs import BadInput, plain, text_of
-from .shrinking import format_catalogue
+from sdd.design.milliseconds import Design, demand_read
+from sdd.design.shrinking import format_catalogue
+from sdd.model.files import BadInput, text_of
+from sdd.reference import plain
 
 INSIDE = ("txn", "list")
 

@@ -36,6 +36,7 @@ import tempfile
 from typing import NamedTuple
 
 from sdd.command import count, parser
+from sdd.design import explore_times
 from sdd.design.covering import class_for
 from sdd.design import distributions
 from sdd.design.figures import collect_drains, collect_figures, print_comparison, print_design
@@ -48,6 +49,7 @@ from sdd.model.named_workload import read_workload
 from sdd.programs import Program, add_program, demand_text
 
 BATCH = 50
+USUAL_PACE = 4              # rounds between two submissions
 LAST = "lose T1 D1 1"       # finds nothing after a settle, and so tells how many events there were
 
 
@@ -105,7 +107,7 @@ class Explorer:
             whole = enumerate_schedules(self.load, self.links, self.flying, asked.runs)
             if whole is not None:
                 return whole, True
-        manner = Manner(asked.pace, asked.faults / 100)
+        manner = Manner(USUAL_PACE if asked.pace is None else asked.pace, asked.faults / 100)
         return [draw_schedule(self.load, self.links, random.Random("%d %d" % (asked.seed, k)), manner) for k in range(asked.runs)], False
 
     def explore(self, asked):
@@ -149,15 +151,17 @@ def read_words():
     asked.add_argument("files", metavar="FILE", nargs="+")
     asked.add_argument("--runs", metavar="N", type=count, default=200, help="how many schedules (200)")
     asked.add_argument("--seed", type=count, default=1, help="where the drawn numbers begin (1)")
-    asked.add_argument("--pace", metavar="N", type=positive, default=4, help="rounds between two submissions (4)")
+    asked.add_argument("--pace", metavar="N", type=positive, help="rounds between two submissions (4)")
     asked.add_argument("--faults", metavar="PERCENT", type=positive, default=0, help="losses, repetitions, resends (0)")
     asked.add_argument("--by", choices=["class", "kind"], help="without it kinds, where there are two designs and few kinds")
     asked.add_argument("--events", action="store_true", help="tell events, not rounds")
     asked.add_argument("--picture", metavar="FILE", help="draw the distributions")
+    explore_times.add_times(asked)
     add_program(asked)
     asked = asked.parse_args()
-    if len(asked.files) not in (2, 4):
-        raise BadInput("it takes a catalogue and a workload, or two of each")
+    explore_times.demand_timed(asked)
+    if len(asked.files) % 2 or len(asked.files) > 4 and not explore_times.is_timed(asked):
+        raise BadInput("it takes a catalogue and a workload, or two of each; with times of links any number")
     if asked.runs == 0 or asked.faults > 100:
         raise BadInput("--runs is 1 or more, and --faults at most 100")
     return asked
@@ -169,6 +173,9 @@ def kinds_of(path):
 
 def main():
     asked = read_words()
+    if explore_times.is_timed(asked):
+        explore_times.explore(asked, tell_progress)
+        return
     if asked.by is None:
         few = len(asked.files) == 4 and all(len(kinds_of(x)) <= 24 for x in asked.files[1::2])
         asked.by = "kind" if few else "class"

@@ -34,7 +34,9 @@ class Group:
             getattr(self, field).extend(getattr(other, field))
 
     def part(self, field, percent):
-        return percentile(getattr(self, field), percent)
+        values = getattr(self, field)
+        values.sort()               # again and again, which costs little once it is sorted
+        return percentile(values, percent)
 
     def mean(self):
         return sum(self.to_commit) / len(self.to_commit) if self.to_commit else None
@@ -44,6 +46,7 @@ class Latencies:
     def __init__(self, by):
         self.by, self.groups, self.pairs, self.runs, self.drains = by, {}, {}, 0, []
         self.messages = self.unended = 0
+        self.slowest = 0.0, 0, ""       # the longest time to commit, in which run, and of which transaction
 
     def take(self, run):
         self.runs += 1
@@ -61,6 +64,7 @@ class Latencies:
             if told.committed is None:
                 self.unended += 1
                 continue
+            self.slowest = max(self.slowest, (told.committed - told.submitted, self.runs - 1, told.plan.name))
             if end:
                 group.busy += (told.committed - told.started) / end
             if cls == "-":

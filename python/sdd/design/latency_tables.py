@@ -6,7 +6,7 @@ import csv
 import json
 import sys
 
-from .latencies import ALL, PARTS, percentile
+from sdd.design.latencies import ALL, PARTS, kind_of, percentile
 
 FIELDS = (("waited", "waited"), ("queued", "queued"), ("to commit", "to_commit"))
 MOST_PAIRS = 24
@@ -106,12 +106,12 @@ def print_two(designs):
     print()
     both = [x.latencies.ordered() for x in designs]
     names = [x for x in both[0] if x != ALL] + [x for x in both[1] if x not in both[0]] + [ALL]
-    rows = [[designs[0].latencies.by, "waits/attempt"] + heads()]
+    rows = [[designs[0].latencies.by, "", "waits/attempt"] + heads()]
     for name in names:
-        groups = [x.get(name) for x in both]
-        lines = [[per(x.waits, x.attempts)] + cells(x) if x else ["-"] * (1 + 3 * len(FIELDS)) for x in groups]
-        rows.append([name] + ["%s -> %s" % (a, b) if a != b else a for a, b in zip(*lines)])
-    print_table(rows)
+        for k, groups in enumerate(both, 1):
+            group = groups.get(name)
+            rows.append([name if k == 1 else "", str(k)] + ([per(group.waits, group.attempts)] + cells(group) if group else ["-"] * (1 + len(heads()))))
+    print_table(rows, left=2)
     for k, design in enumerate(designs, 1):
         if not design.latencies.pairs:
             print("\n%d  No read waits." % k)
@@ -124,6 +124,11 @@ def print_summary(designs):
         whole, p = design.latencies.whole(), design.protocols
         rows.append([short(design.name), "%d, %d, %d" % (p["P1"], p["P2"], p["P3"]), per(whole.waits, whole.attempts)] + cells(whole) + ["%.1f" % design.packets])
     print_table(rows)
+
+
+def kinds_of_designs(designs):
+    """The most kinds of transactions that a design has."""
+    return max(len({kind_of(design.work.txns[n - 1].name) for n in design.work.submitted()}) for design in designs)
 
 
 def short(path):

@@ -10,11 +10,13 @@ import os
 import random
 from typing import NamedTuple
 
-from .latencies import Latencies
-from .needs import BadInput, catalogue, graph, words, workload
-from .needs import read_load, text_of
-from .plans import Plans
-from .timed import TimedRun
+from sdd.design.latencies import Latencies
+from sdd.design.plans import Plans
+from sdd.design.schedules import read_load
+from sdd.design.timed import TimedRun
+from sdd.model import catalogue, words, workload
+from sdd.model.files import BadInput, text_of, write_text
+from sdd.reference import graph
 
 KEPT = ("submit", "tick", "down", "up")
 MOST_EVENTS = workload.MAX_EVENTS
@@ -98,11 +100,9 @@ def refused(path, read, data):
 def check_run(design, run, program, folder):
     """Refuses a run that the program carries out in another way, or whose report `verify` refuses."""
     paths = [os.path.join(folder, x) for x in ("timed", "report")]
-    with open(paths[0], "w", encoding="utf-8", newline="\n") as f:
-        f.write(design.text_of_run(run))
+    write_text(paths[0], design.text_of_run(run))
     text = program.text(["run", design.catalogue_path, paths[0]])
-    with open(paths[1], "w", encoding="utf-8", newline="\n") as f:
-        f.write(text)
+    write_text(paths[1], text)
     trace = text.split("\n")
     for k, line in enumerate(run.trace):
         if trace[k] != line:

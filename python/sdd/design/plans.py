@@ -8,7 +8,8 @@ conditions, the joins of its queries, and how its changes follow from the rows t
 """
 from typing import NamedTuple
 
-from .needs import exchange, graph, plain, redeclare, statements
+from sdd.model import statements
+from sdd.reference import exchange, graph, plain, redeclare
 
 MOST_ROWS = plain.MAX_REPLY_ROWS
 

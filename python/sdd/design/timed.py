@@ -9,9 +9,9 @@ schedule and the trace that `sdd1 run` prints for it: both are compared each tim
 """
 from heapq import heappop, heappush
 
-from .timed_messages import ACK
-from .timed_modules import Module, Modules
-from .timed_stores import Store, Stores
+from sdd.design.timed_messages import ACK
+from sdd.design.timed_modules import Module, Modules
+from sdd.design.timed_stores import Store, Stores
 
 SUBMIT, TICK, DOWN, UP, SERVED = range(-5, 0)      # what stands on the heap in place of a receiver
 

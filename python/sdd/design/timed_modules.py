@@ -4,8 +4,8 @@ They do what reference/transaction_module.py, attempts.py, exchange.py and undec
 """
 from collections import deque
 
-from .plans import effect_of
-from .timed_messages import ASK, DONE, FETCH, HELD, HOLD, NULL, READ, READY, REDUCE, REDUCED, REJECT, RELEASE, ROWS, SHIP, VALUES, WRITE
+from sdd.design.plans import effect_of
+from sdd.design.timed_messages import ASK, DONE, FETCH, HELD, HOLD, NULL, READ, READY, REDUCE, REDUCED, REJECT, RELEASE, ROWS, SHIP, VALUES, WRITE
 
 
 class Line:

@@ -4,7 +4,7 @@ They do what reference/data_module.py does: of what is due the first.
 """
 from collections import deque
 
-from .timed_messages import ASK, DONE, FETCH, NULL, READ, READY, REDUCED, REJECT, ROWS, SHIP, VALUES, WRITE
+from sdd.design.timed_messages import ASK, DONE, FETCH, NULL, READ, READY, REDUCED, REJECT, ROWS, SHIP, VALUES, WRITE
 
 
 class Pipe:

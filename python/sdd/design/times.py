@@ -24,7 +24,7 @@ import re
 import tomllib
 from typing import NamedTuple
 
-from .needs import BadInput, text_of
+from sdd.model.files import BadInput, text_of
 
 LINK, JITTER, EVERY, WITHIN = 20.0, 10.0, 10.0, 0.2
 SITE = re.compile(r"U|[TD]([1-9]|1[0-6])")
@@ -171,4 +171,18 @@ def near_of(word):
     return pair, ms
 
 
-near_of.__name__ = "pair of sites with its milliseconds (T1-D1=0.2)"
+def service_of(word):
+    """A word as D1=0.3."""
+    return near_of(word)
+
+
+def number_of(word):
+    number = float(word)
+    if not 0 <= number <= MOST:
+        raise ValueError
+    return number
+
+
+near_of.__name__ = "pair of sites with its milliseconds, as T1-D1=0.2"      # what argparse calls it where it refuses a word
+service_of.__name__ = "site with its milliseconds, as D1=0.3"
+number_of.__name__ = "number"
