@@ -40,6 +40,7 @@ COMMANDS = {
     "picture": Command(LOOK, "sdd.view.picture", "a report as a picture"),
     "graph-picture": Command(LOOK, "sdd.view.graph_picture", "the conflict graph as a picture"),
     "explore": Command(DESIGN, "sdd.design.explore", "who waits for whom and how long, under many schedules"),
+    "what-if": Command(DESIGN, "sdd.design.what_if", "which changes of a design save most, in words and milliseconds"),
     "shrink": Command(DESIGN, "sdd.design.shrink", "the least workload whose report still has a line"),
     "from-sql": Command(DESIGN, "sdd.design.from_sql", "a catalogue and a workload from a plain subset of SQL"),
     "to-elle": Command(JUDGE, "sdd.judge.to_elle", "a report as a history that a checker of isolation levels reads"),

@@ -5,19 +5,21 @@
     other.design()                      # a Design (milliseconds.py); BadInput where it is none
 """
 import copy
+import re
 import tomllib
 
 from sdd.design.milliseconds import Design, demand_read
 from sdd.design.shrinking import format_catalogue
+from sdd.model import catalogue, words, workload
 from sdd.model.files import BadInput, text_of
 from sdd.reference import plain
 
-INSIDE = ("txn", "list")
+WORD = re.compile(r'"(?:[^"\\]|\\.)*"|[^ ]+')
 
 
 class Transaction:
     def __init__(self, name, site, lines):
-        self.name, self.site, self.lines = name, site, lines
+        self.name, self.site, self.lines, self.origin = name, site, lines, site     # origin: where it comes from
 
 
 class Script:
@@ -27,20 +29,19 @@ class Script:
         self.rows, self.transactions, self.events = [], [], []
         mine = None
         for line in text_of(path).split("\n")[:-1]:
-            words = line.split(" ")
-            if mine is not None:
-                mine = None if line == "done" else self.add(mine, line)
-            elif words[0] == "list":
+            found = line.split(" ")
+            if mine is not None and line == "done":
+                mine = None
+            elif mine is not None:
+                mine.lines.append(line)
+            elif found[0] == "list":
                 raise BadInput("%s: further class lists aren't changed here; take them out" % path)
-            elif words[0] == "txn":
-                mine = Transaction(words[1], words[2], [])
+            elif found[0] == "txn":
+                mine = Transaction(found[1], found[2], [])
                 self.transactions.append(mine)
             else:
-                (self.rows if words[0] == "row" else self.events).append(line)
-
-    def add(self, transaction, line):
-        transaction.lines.append(line)
-        return transaction
+                (self.rows if found[0] == "row" else self.events).append(line)
+        self.events = [x for x in self.events if x.split(" ")[0] not in ("deliver", "lose", "repeat", "resend")]
 
     def text(self):
         lines = list(self.rows)
@@ -50,19 +51,34 @@ class Script:
 
 
 class Draft:
-    def __init__(self, parts, script):
-        self.parts, self.script, self.made = parts, script, None
+    def __init__(self, parts, script, works):
+        self.parts, self.script, self.works, self.made = parts, script, works, {}
 
     def changed(self):
-        return Draft(copy.deepcopy(self.parts), copy.deepcopy(self.script))
+        return Draft(copy.deepcopy(self.parts), copy.deepcopy(self.script), self.works)
 
     def catalogue_text(self):
         return format_catalogue(self.parts)
 
+    def once(self, name, make):
+        """What is worked out once: a draft isn't changed any more then."""
+        if name not in self.made:
+            self.made[name] = make()
+        return self.made[name]
+
     def design(self):
-        if self.made is None:
-            self.made = Design.of_texts(self.catalogue_text(), self.script.text())
-        return self.made
+        return self.once("design", self.make_design)
+
+    def make_design(self):
+        cat = catalogue_of(self.parts)
+        text = self.script.text()
+        key = str(self.parts["relation"]), cat.tms, text        # what the workload is read by
+        if key not in self.works:
+            try:
+                self.works[key] = workload.read_workload(cat, text.encode())
+            except words.Fault as fault:
+                raise BadInput(fault.line) from None
+        return Design("", "", cat, self.works[key])
 
     # What stands in the catalogue.
 
@@ -79,35 +95,61 @@ class Draft:
             name, k = "%s%d" % (wish[:28], k), k + 1
         return name
 
+    def drop_empty(self):
+        """Without the classes that neither read nor write."""
+        self.parts["class"] = [x for x in self.classes() if reads(x) or writes(x)]
+
     # What the transactions do.
 
     def class_of(self):
         """Transaction -> the name of its class, or None."""
-        cat, work = self.design().cat, self.design().work
-        numbers = {x.name: plain.class_for(cat, x) for x in work.txns}
-        return {name: cat.classes[n - 1].name if n else None for name, n in numbers.items()}
+        return self.once("class_of", self.make_class_of)
+
+    def make_class_of(self):
+        cat, found = self.design().cat, {}
+        for x in self.design().work.txns:
+            reading, writing = map(set, self.footprints()[x.name])
+            found[x.name] = next((c.name for c, at in zip(cat.classes, cat.reads)
+                                  if c.tm == x.tm and reading <= set(at) and writing <= set(c.writes)), None)
+        return found
+
+    def submitted(self):
+        work = self.design().work
+        return [work.txns[n - 1] for n in work.submitted()]
 
     def members(self):
         """Class -> its transactions, of those that are submitted."""
-        submitted = {self.design().work.txns[n - 1].name for n in self.design().work.submitted()}
         made = {x["name"]: [] for x in self.classes()}
-        for name, cls in self.class_of().items():
-            if cls and name in submitted:
-                made[cls].append(name)
+        for x in self.submitted():
+            if self.class_of()[x.name]:
+                made[self.class_of()[x.name]].append(x.name)
         return made
 
     def footprints(self):
         """Transaction -> the fragments that it reads, and those that it writes."""
         cat = self.design().cat
-        return {x.name: (plain.fragments_read(cat, x), plain.fragments_written(cat, x)) for x in self.design().work.txns}
+        return self.once("footprints", lambda: {
+            x.name: (plain.fragments_read(cat, x), plain.fragments_written(cat, x)) for x in self.design().work.txns})
 
     def undeclared(self):
-        return sum(x is None for x in self.class_of().values())
+        return sum(self.class_of()[x.name] is None for x in self.submitted())
+
+
+def catalogue_of(parts):
+    """The catalogue that these parts of a file make."""
+    made = catalogue.Catalogue(
+        parts["tms"], parts["dms"],
+        [catalogue.Relation(x["name"], [(c["name"], c["kind"]) for c in x["columns"]], x["key"]) for x in parts["relation"]],
+        [catalogue.Fragment(x["name"], x["relation"], x.get("from", words.LEAST), x.get("to", words.GREATEST), list(x["copies"])) for x in parts["fragment"]],
+        [catalogue.Class(x["name"], x["tm"], list(reads(x).items()), list(writes(x))) for x in parts.get("class", [])])
+    for rule, place in catalogue.faults(made):
+        raise BadInput("%s: %s" % (place, rule))
+    return made
 
 
 def read_draft(catalogue_path, workload_path):
     demand_read(catalogue_path, workload_path)
-    return Draft(tomllib.loads(text_of(catalogue_path).removeprefix("\ufeff")), Script(workload_path))
+    return Draft(tomllib.loads(text_of(catalogue_path).removeprefix("\ufeff")), Script(workload_path), {})
 
 
 def writes(cls):
@@ -121,3 +163,25 @@ def reads(cls):
 
 def set_reads(cls, at):
     cls["reads"] = [{"fragment": f, "at": d} for f, d in at.items()]
+
+
+def nearest(distances, tm, stores):
+    """Of these data modules the one that is nearest to a transaction module."""
+    return min(stores, key=lambda d: (distances.between("T%d" % tm, "D%d" % d), d))
+
+
+def fit(draft, cls, names, distances):
+    """Lets a class read and write what these transactions do, each fragment at its nearest copy or where it was read."""
+    touched, before = [draft.footprints()[x] for x in names], reads(cls)
+    order = [x["name"] for x in draft.parts["fragment"]]
+    reading, writing = ({f for pair in touched for f in pair[k]} for k in (0, 1))
+    copies = {x["name"]: x["copies"] for x in draft.parts["fragment"]}
+    set_reads(cls, {f: before[f] if before.get(f) in copies[f] else nearest(distances, cls["tm"], copies[f]) for f in order if f in reading})
+    cls["writes"] = [f for f in order if f in writing]
+
+
+def listed(names, most=4):
+    names = list(names)
+    if len(names) > most:
+        return ", ".join(names[:most - 1]) + " and %d more" % (len(names) - most + 1)
+    return names[0] if len(names) == 1 else ", ".join(names[:-1]) + " and " + names[-1]

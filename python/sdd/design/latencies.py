@@ -19,14 +19,14 @@ class Group:
         self.waited, self.queued, self.to_commit, self.others = [], [], [], set()
         self.busy = 0.0             # the part of the time in which an attempt was under way, summed over the runs
 
-    def take(self, told):
+    def take(self, told, more=0.0):
         self.attempts += told.attempts
         self.waits += len(told.waits)
         self.waited += [ms for _, _, ms in told.waits]
         if told.committed is not None:
             self.commits += 1
             self.queued.append(told.started - told.submitted)
-            self.to_commit.append(told.committed - told.submitted)
+            self.to_commit.append(told.committed - told.submitted + more)
 
     def join(self, other):
         self.commits, self.attempts, self.waits = self.commits + other.commits, self.attempts + other.attempts, self.waits + other.waits
@@ -43,7 +43,9 @@ class Group:
 
 
 class Latencies:
-    def __init__(self, by):
+    def __init__(self, by, ways=None):
+        """`ways` has transactions that come from farther away, and how long their way there and back takes."""
+        self.ways = ways or {}
         self.by, self.groups, self.pairs, self.runs, self.drains = by, {}, {}, 0, []
         self.messages = self.unended = 0
         self.slowest = 0.0, 0, ""       # the longest time to commit, in which run, and of which transaction
@@ -56,7 +58,7 @@ class Latencies:
             cls, kind = name_of(told.plan.cls), kind_of(told.plan.name)
             name, other = (cls, kind) if self.by == "class" else (kind, cls)
             group = self.groups.setdefault(name, Group())
-            group.take(told)
+            group.take(told, self.ways.get(told.plan.name, 0.0))
             group.others.add(other)
             for _, awaited, ms in told.waits:
                 for writer in awaited:

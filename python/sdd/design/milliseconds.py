@@ -114,9 +114,9 @@ def check_run(design, run, program, folder):
         raise BadInput("`verify` says %s of a timed run" % verdict)
 
 
-def explore_times(design, distances, by, runs, seed, checks=0, program=None, folder=None, tell=lambda text: None):
+def explore_times(design, distances, by, runs, seed, checks=0, program=None, folder=None, tell=lambda text: None, ways=None):
     """The figures of so many runs, of which the first `checks` are carried out by the program too."""
-    found, checked = Latencies(by), 0
+    found, checked = Latencies(by, ways), 0
     for k in range(runs):
         run = design.run(distances, "%d %d" % (seed, k), is_traced=k < checks)
         found.take(run)
