@@ -43,6 +43,8 @@ COMMANDS = {
     "what-if": Command(DESIGN, "sdd.design.what_if", "which changes of a design save most, in words and milliseconds"),
     "shrink": Command(DESIGN, "sdd.design.shrink", "the least workload whose report still has a line"),
     "from-sql": Command(DESIGN, "sdd.design.from_sql", "a catalogue and a workload from a plain subset of SQL"),
+    "grade": Command(TEACH, "sdd.teach.grade", "a report of another SDD-1, judged part by part, with the rule that it breaks"),
+    "exercise": Command(TEACH, "sdd.teach.exercise", "twelve exercises that judge what is handed in"),
     "to-elle": Command(JUDGE, "sdd.judge.to_elle", "a report as a history that a checker of isolation levels reads"),
     "check-history": Command(JUDGE, "sdd.judge.check_history", "whether such a history is serializable"),
     "plant-faults": Command(JUDGE, "sdd.judge.plant_faults", "how many planted faults these two find"),
