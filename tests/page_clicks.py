@@ -216,7 +216,7 @@ def matrix(browser, programs, folder):
     with open(workload, encoding="utf-8") as f:
         parts = read_parts(f.read())
     parts.events.clear()
-    with open(workload, "w", encoding="utf-8") as f:
+    with open(workload, "w", encoding="utf-8", newline="\n") as f:
         f.write(spelled(parts))
     with Served(browser, programs, catalogue, workload, folder) as served:
         served.click("#submit")

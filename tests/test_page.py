@@ -99,7 +99,7 @@ class Tests:
 
     def written_page(self, name, data):
         path = os.path.join(self.folder, "page.html")
-        with open(path, "w", encoding="utf-8") as f:
+        with open(path, "w", encoding="utf-8", newline="\n") as f:
             f.write(assembled(name, data, SHOWN + ["start.js"], ["style.css"])[0])
         return path
 

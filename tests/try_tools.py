@@ -4,8 +4,8 @@
     tests/try_tools.py --program COMMAND
 
 COMMAND is a built `sdd1`. Each command, and each script that is executable, has to answer --help. Of each call below the status has
-to be the one that is given; a refusal is one line on standard error, and never a traceback. A call that does
-something else is printed, and a last line counts them; the status is 1 where there was one.
+to be the one that is given; a refusal is one line on standard error, or that of a file with its place, and never a traceback. A call
+that does something else is printed, and a last line counts them; the status is 1 where there was one.
 """
 import os
 import subprocess
@@ -90,7 +90,7 @@ def try_call(words, status, room, program):
     errors = done.stderr.decode(errors="replace").splitlines()
     if done.returncode != status:
         return "status %d in place of %d: %s" % (done.returncode, status, " / ".join(errors[-1:]))
-    if status == 2 and len(errors) != 1:
+    if status == 2 and len(errors) != 1 and not errors[0].startswith("error["):
         return "%d lines on standard error" % len(errors)
     return "a traceback" if any(x.startswith("Traceback") for x in errors) else None
 

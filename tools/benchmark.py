@@ -71,7 +71,7 @@ def files_of(kind, folder, n):
     with open(given, encoding="utf-8") as f:
         text = f.read()
     workload = os.path.join(folder, "workload")
-    with open(workload, "w", encoding="utf-8") as f:
+    with open(workload, "w", encoding="utf-8", newline="\n") as f:
         f.write(text.removesuffix("end\n") + FINDS_NOTHING + "end\n")
     return [catalogue, workload]
 
@@ -193,7 +193,7 @@ def main():
     made = "Made by `tools/benchmark.py` on %d processors, %s; times are the least of %d runs. %s" % (
         os.cpu_count(), time.strftime("%Y-%m-%d"), asked.runs, asked.note)
     before, after = halves(asked.into)
-    with open(asked.into, "w", encoding="utf-8") as f:
+    with open(asked.into, "w", encoding="utf-8", newline="\n") as f:
         f.write("%s\n%s\n\n%s\n%s" % (before, made.strip(), table(rows), after))
 
 

@@ -261,17 +261,17 @@ def made(rng):
 
 def make_folder(top):
     lines = open(os.path.join(TOP, "crates.txt")).read().splitlines()
-    with open(os.path.join(top, "crates.txt"), "w") as out:
+    with open(os.path.join(top, "crates.txt"), "w", newline="\n") as out:
         for line in lines:
             if line.split(":")[0] in CRATES:
                 out.write(line + "\n")
         out.write("messages: sdd_base sdd_wire anyhow hex\n")
-    with open(os.path.join(top, "HANDLES"), "w") as out:
+    with open(os.path.join(top, "HANDLES"), "w", newline="\n") as out:
         out.write("Handles allowed: none.\n")
     os.makedirs(os.path.join(top, "crates", "messages", "src"))
     for name in CRATES:
         subprocess.run(["cp", "-a", os.path.join(TOP, "crates", name), os.path.join(top, "crates")], check=True)
-    with open(os.path.join(top, "crates", "messages", "src", "main.rt"), "w") as out:
+    with open(os.path.join(top, "crates", "messages", "src", "main.rt"), "w", newline="\n") as out:
         out.write(PROGRAM.lstrip())
     return os.path.join(top, "crates", "messages")
 
@@ -283,7 +283,7 @@ def answers_here(top, lines):
     names = []
     for first in range(0, len(lines), BATCH):
         names.append("%06d" % first)
-        with open(os.path.join(cases, names[-1]), "w") as out:
+        with open(os.path.join(cases, names[-1]), "w", newline="\n") as out:
             out.write("".join(line + "\n" for line in lines[first:first + BATCH]))
     ran = subprocess.run(["rt", "try", "--cases", cases], cwd=crate, capture_output=True, text=True)
     found, name = {}, None

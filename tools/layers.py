@@ -110,7 +110,7 @@ def main(words):
             layers = layers_of(it.read())
         made = text_of(layers) if options.text else picture_of(layers)
         if options.into:
-            with open(options.into, "w", encoding="utf-8") as it:
+            with open(options.into, "w", encoding="utf-8", newline="\n") as it:
                 it.write(made)
         else:
             print(made, end="")

@@ -49,7 +49,7 @@ def report_of(cat, work, rule):
 
 
 def write(path, text):
-    with open(path, "w", encoding="utf-8", newline="") as f:
+    with open(path, "w", encoding="utf-8", newline="\n") as f:
         f.write(text)
     return path
 

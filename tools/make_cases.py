@@ -386,7 +386,7 @@ def main():
         if asked.check:
             compare(path, lines)
             continue
-        with open(path, "w", encoding="utf-8") as f:
+        with open(path, "w", encoding="utf-8", newline="\n") as f:
             f.write("".join(x + "\n" for x in lines))
     print("%d cases, %d runs of the reference" % (len(cases), len(outside.known)))
 

@@ -42,7 +42,7 @@ def draw(command, words):
 def write(folder, name, text):
     """The path of the file that is written."""
     path = os.path.join(folder, name)
-    with open(path, "w", encoding="utf-8", newline="") as f:
+    with open(path, "w", encoding="utf-8", newline="\n") as f:
         f.write(text)
     return path
 

@@ -145,7 +145,7 @@ def main(words):
     command = command or ["rt", "ci"]
     began = time.time()
     try:
-        log = open(options.log, "w", encoding="utf-8") if options.log else None
+        log = open(options.log, "w", encoding="utf-8", newline="\n") if options.log else None
         started = subprocess.Popen(command, stdin=subprocess.DEVNULL, stdout=log, stderr=subprocess.STDOUT if log else None)
     except OSError as fault:
         print("measure_gate.py: %s: %s" % (fault.filename or command[0], fault.strerror), file=sys.stderr)
@@ -158,7 +158,7 @@ def main(words):
     used = resource.getrusage(resource.RUSAGE_CHILDREN)
     page = text_of(sampler.table(), time.time() - began, used.ru_utime + used.ru_stime, command, status)
     if options.into:
-        with open(options.into, "w", encoding="utf-8") as it:
+        with open(options.into, "w", encoding="utf-8", newline="\n") as it:
             it.write(page)
     else:
         print(page, end="")

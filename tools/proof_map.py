@@ -174,7 +174,7 @@ def put_in(path, text):
     if page.count(BEGIN) != 1 or page.count(END) != 1:
         raise Refused("%s: the map stands between `%s` and `%s`, each once" % (path, BEGIN, END))
     head, tail = page.partition(BEGIN)[0], page.partition(END)[2]
-    with open(path, "w", encoding="utf-8") as it:
+    with open(path, "w", encoding="utf-8", newline="\n") as it:
         it.write("%s%s\n%s\n%s%s" % (head, BEGIN, text, END, tail))
 
 
@@ -196,7 +196,7 @@ def main(words):
         else:
             print(text)
         if options.picture:
-            with open(options.picture, "w", encoding="utf-8") as it:
+            with open(options.picture, "w", encoding="utf-8", newline="\n") as it:
                 it.write(picture_of(rows))
     except (Refused, OSError) as fault:
         print("proof_map.py: %s" % fault, file=sys.stderr)

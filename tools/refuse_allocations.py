@@ -81,7 +81,7 @@ class Parser(argparse.ArgumentParser):
 def compiled(folder):
     """The library, built in the folder."""
     source, built = os.path.join(folder, "refuse.c"), os.path.join(folder, "refuse.so")
-    with open(source, "w", encoding="ascii") as f:
+    with open(source, "w", encoding="ascii", newline="\n") as f:
         f.write(LIBRARY)
     if shutil.which("cc") is None:
         raise BadCall("cc is missing")

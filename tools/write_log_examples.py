@@ -327,7 +327,7 @@ def text_of(about, body):
 
 
 def write(path, about, body):
-    with open(path, "w", encoding="utf-8") as out:
+    with open(path, "w", encoding="utf-8", newline="\n") as out:
         out.write(text_of(about, body))
 
 

@@ -1,24 +1,171 @@
-"""Prints what `sdd1` and `sdd1_inside` print, and ends with their status.
+"""Prints what `sdd1` and `sdd1_inside` print.
 
     sdd check | graph | table | advise CAT        sdd run | plain | inside CAT WORK
     sdd verify CAT WORK REPORT                    sdd control FILE        sdd make SEED N
 
-CAT is a catalogue, WORK a workload (docs/FORMATS.md).
+CAT is a catalogue, WORK a workload (docs/FORMATS.md); `-` is standard input. The text is that of the program to the
+byte, and so is the status, but that `verify` ends with 1 where the report is not serializable. A refusal of a file is
+printed with its place there, marked, the cause, and what helps. With --json `check`, `verify` and `run` print JSON.
+
+The program is that of --program (and --inside); else the proved one, where it is installed; else an unproved build;
+else the reference of this package, which needs Python alone and is slower. A line says which, but with --quiet.
 """
+import contextlib
+import difflib
+import json
+import os
+import shutil
 import subprocess
 import sys
+import tempfile
 
 from sdd.command import parser
-from sdd.programs import add_program, find_programs
+from sdd.explain.refusals import Given, print_refusal, refusal_of
+from sdd.explain.rules import WITHOUT_FILE
+from sdd.model.files import BadInput, write_text
+from sdd.model.report import read_report
+from sdd.model.words import number_between
+from sdd.programs import add_program, asked_within, find_programs, named, report_by
+
+NAMES = {"check": ["CAT"], "graph": ["CAT"], "table": ["CAT"], "advise": ["CAT"], "run": ["CAT", "WORK"], "plain": ["CAT", "WORK"],
+         "inside": ["CAT", "WORK"], "verify": ["CAT", "WORK", "REPORT"], "control": ["FILE"], "make": ["SEED", "N"]}
+WITH_JSON = ("check", "verify", "run")
+
+
+def read_words(word):
+    asked = parser(__doc__)
+    for name in NAMES[word]:
+        asked.add_argument(name.lower(), metavar=name)
+    add_program(asked)
+    asked.add_argument("--inside", metavar="COMMAND", help="a built `sdd1_inside`")
+    asked.add_argument("--quiet", "-q", action="store_true", help="no line says which program it is")
+    if word in WITH_JSON:
+        asked.add_argument("--json", action="store_true", help="print JSON")
+    return asked.parse_args()
+
+
+# The files.
+
+def demand_file(name):
+    """Refuses the name of a file that can't be read, and says which one may be meant."""
+    folder, last = os.path.split(name)
+    if os.path.isdir(name):
+        raise BadInput("%s: it is a folder" % name)
+    if not os.path.exists(name):
+        there = os.listdir(folder or ".") if os.path.isdir(folder or ".") else []
+        guess = difflib.get_close_matches(last, there, 1, 0.6)
+        raise BadInput("%s: no such file%s" % (name, "; did you mean %s?" % os.path.join(folder, guess[0]) if guess else ""))
+
+
+def files_of(words, room):
+    """The files as they are given to a program: standard input becomes a file."""
+    if words.count("-") > 1:
+        raise BadInput("standard input can be one of the files")
+    files = []
+    for name in words:
+        if name != "-":
+            demand_file(name)
+        elif sys.stdin.isatty():
+            raise BadInput("standard input is this terminal: redirect a file to it, or name the file")
+        files.append(Given(os.path.join(room, "stdin") if name == "-" else name, "<stdin>" if name == "-" else name))
+        if name == "-":
+            with open(files[-1].path, "wb") as f:
+                shutil.copyfileobj(sys.stdin.buffer, f)
+    return files
+
+
+# The call.
+
+class Answer:
+    """What a program says: its status, the text and the line on standard error, as bytes."""
+
+    def __init__(self, status, text, error):
+        self.status, self.text, self.error = status, text, error
+
+
+def answer_of(command, words):
+    """The program's answer; the reference answers in this process."""
+    if named(command) == "the reference":
+        outcome = asked_within(command[3:] + words)
+        return Answer(outcome.status, outcome.text.encode(), outcome.error.encode())
+    try:
+        done = subprocess.run(command + words, stdin=subprocess.DEVNULL, stdout=subprocess.PIPE, stderr=subprocess.PIPE)
+    except OSError as fault:
+        raise BadInput("%s doesn't run: %s" % (command[0], (fault.strerror or "fault").lower())) from None
+    return Answer(done.returncode, done.stdout, done.stderr)
+
+
+def refuse(answer, files):
+    """Prints why the program refuses, as far as it can be known."""
+    line = answer.error.decode(errors="replace").strip().split("\n")[-1]
+    if line.startswith(("catalogue: ", "workload: ")):
+        print_refusal(refusal_of(line, files))
+    else:
+        report_by("%s%s" % (line, ": " + WITHOUT_FILE[line] if line in WITHOUT_FILE else "") if line else "status %d" % answer.status)
+    return answer.status
 
 
 def main():
-    word = sys.argv[0].split(" ")[1]
-    asked = parser(__doc__)
-    asked.add_argument("words", metavar="WORD", nargs="*")
-    add_program(asked)
-    asked.add_argument("--inside", metavar="COMMAND", help="a built `sdd1_inside`")
-    asked = asked.parse_args()
-    programs = find_programs(asked.program, asked.inside)
-    command = programs.inside if word == "inside" else programs.sdd1 + [word]
-    return subprocess.run(command + asked.words).returncode
+    word = sys.argv[0].split(" ")[-1]
+    asked = read_words(word)
+    words = [getattr(asked, x.lower()) for x in NAMES[word]]
+    if word == "make" and (number_between(words[0], 0, 2**31 - 1) is None or number_between(words[1], 0, 2048) is None):
+        raise BadInput("SEED is a whole number from 0 to 2147483647, and N one from 0 to 2048")
+    with tempfile.TemporaryDirectory(prefix="sdd-") as room:
+        files = files_of(words, room) if word != "make" else []
+        programs = find_programs(asked.program, asked.inside)
+        command = programs.inside if word == "inside" else programs.sdd1 + [word]
+        if not asked.quiet and not (asked.inside if word == "inside" else asked.program):
+            report_by("by %s" % named(programs.inside if word == "inside" else programs.sdd1))
+        answer = answer_of(command, [x.path for x in files] or words)
+        if answer.status:
+            return refuse(answer, files)
+        text = as_json(word, answer.text.decode(), room).encode() if getattr(asked, "json", False) else answer.text
+    return put(text) or int(word == "verify" and answer.text.startswith(b"no"))
+
+
+def put(text):
+    """Writes bytes as they are; the status 7 where standard output takes only a part."""
+    try:
+        sys.stdout.buffer.write(text)
+        sys.stdout.buffer.flush()
+    except BrokenPipeError:
+        raise
+    except OSError:
+        with contextlib.suppress(OSError):
+            os.dup2(os.open(os.devnull, os.O_WRONLY), 1)        # or what is left would be written at the end
+        report_by("write fault: " + WITHOUT_FILE["write fault"])
+        return 7
+    return 0
+
+
+# JSON.
+
+def as_json(word, text, room):
+    if word == "run":
+        path = os.path.join(room, "report")
+        write_text(path, text)
+        shown = report_data(read_report(path))
+    else:
+        shown = counts_of(text) if word == "check" else verdict_of(text)
+    return json.dumps(shown, ensure_ascii=False, indent=1) + "\n"
+
+
+def counts_of(text):
+    """What `ok tms 2 dms 1 ..` says."""
+    words = text.split()[1:]
+    return dict(zip(words[::2], map(int, words[1::2])))
+
+
+def verdict_of(text):
+    words = text.split()
+    return {"serializable": words[0] == "yes", **({"line": int(words[1])} if len(words) > 1 else {})}
+
+
+def report_data(report):
+    records = [{"class" if k == "cls" else k: v for k, v in x._asdict().items() if k not in ("place", "line") and v not in (None, ())} for x in report.records]
+    return {"records": records, "order": report.order,
+            "replies": {name: {"kind": x.kind, "queries": x.queries} for name, x in report.replies.items()},
+            "shipped": {name: {"values": v, "rows": r} for name, (v, r) in report.shipped.items()},
+            "pending": [{"txn": x.txn, "kind": x.kind, "words": x.words} for x in report.pending],
+            "copies": [{"at": at, "fragment": fragment, "rows": rows} for (at, fragment), rows in report.copies.items()]}

@@ -7,12 +7,13 @@ of sdd/model/files.py with one line. The module is imported when its word is cal
 
 To add a command: write the module, and add its line.
 """
+import difflib
 import importlib
 import sys
 from typing import NamedTuple
 
-from sdd import __version__
-from sdd.command import REFUSED, start
+from sdd.command import REFUSED, start, write_plainly
+from sdd.version import version_lines
 
 
 class Command(NamedTuple):
@@ -70,13 +71,25 @@ def call(word, words):
 
 
 def main(words):
-    if words[:1] in ([], ["-h"], ["--help"], ["help"]):
+    write_plainly()
+    if not words:
+        print(help_text(), file=sys.stderr)
+        return REFUSED
+    if words[0] in ("-h", "--help", "help"):
+        if words[1:2] and words[1] in COMMANDS:
+            return call(words[1], ["--help"])
         print(help_text())
-        return 0 if words else REFUSED
-    if words[0] == "--version":
-        print("sdd %s" % __version__)
+        return 0
+    if words[0] in ("--version", "version"):
+        print("\n".join(version_lines()))
         return 0
     if words[0] not in COMMANDS:
-        print("sdd: there is no command %s; `sdd --help` lists them" % words[0], file=sys.stderr)
+        guess = difflib.get_close_matches(words[0], COMMANDS, 1, 0.6)
+        print("sdd: there is no command %s; %s" % (words[0], "did you mean %s?" % guess[0] if guess else "`sdd --help` lists them"), file=sys.stderr)
         return REFUSED
     return call(words[0], words[1:])
+
+
+def run():
+    """What an installed `sdd` calls."""
+    sys.exit(main(sys.argv[1:]))

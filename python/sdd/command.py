@@ -12,6 +12,7 @@ import subprocess
 import sys
 
 from sdd.model.files import BadInput
+from sdd.model.reading import RefusedFile
 
 REFUSED = 2
 
@@ -19,21 +20,6 @@ REFUSED = 2
 def parser(text):
     """A reader of the command line whose help is the text, and which refuses in one line."""
     return argparse.ArgumentParser(description=text, formatter_class=argparse.RawDescriptionHelpFormatter, usage=argparse.SUPPRESS)
-
-
-class Words(argparse.ArgumentParser):
-    """As `argparse` has it; --help prints what the script says at its head."""
-
-    def __init__(self, reported):
-        super().__init__(description=reported, formatter_class=argparse.RawDescriptionHelpFormatter, usage=argparse.SUPPRESS)
-
-    def error(self, message):
-        refuse("%s; --help tells the words" % message)
-
-
-def refuse(what):
-    print("%s: %s" % (os.path.basename(sys.argv[0]), what), file=sys.stderr)
-    sys.exit(REFUSED)
 
 
 def count(word):
@@ -74,15 +60,27 @@ def run_outside(command, words=(), **more):
         raise BadInput("%s doesn't run: %s" % (parts[0], (fault.strerror or "fault").lower())) from None
 
 
+def write_plainly():
+    """Makes all that is printed UTF-8 with LF alone, also where a system is used to another spelling."""
+    for stream in (sys.stdout, sys.stderr):
+        if hasattr(stream, "reconfigure"):
+            stream.reconfigure(encoding="utf-8", errors="backslashreplace", newline="\n")
+
+
 def start(main):
-    """Calls `main`, and ends with its status; what it refuses is reported in one line."""
+    """Calls `main`, and ends with its status; what it refuses is reported in one line, and a refused file with its place."""
     name = os.path.basename(sys.argv[0])
+    write_plainly()
     try:
         status = main()
         sys.stdout.flush()
     except BrokenPipeError:
         os.dup2(os.open(os.devnull, os.O_WRONLY), sys.stdout.fileno())
         status = 1
+    except RefusedFile as refused:
+        from sdd.explain.refusals import print_refusal, refusal
+        print_refusal(refusal(refused.fault.line, refused.path, refused.data, refused.fault.cause))
+        status = REFUSED
     except (BadInput, OSError) as fault:
         print("%s: %s" % (name, describe_fault(fault)), file=sys.stderr)
         status = REFUSED

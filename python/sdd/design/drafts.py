@@ -142,8 +142,8 @@ def catalogue_of(parts):
         [catalogue.Relation(x["name"], [(c["name"], c["kind"]) for c in x["columns"]], x["key"]) for x in parts["relation"]],
         [catalogue.Fragment(x["name"], x["relation"], x.get("from", words.LEAST), x.get("to", words.GREATEST), list(x["copies"])) for x in parts["fragment"]],
         [catalogue.Class(x["name"], x["tm"], list(reads(x).items()), list(writes(x))) for x in parts.get("class", [])])
-    for rule, place in catalogue.faults(made):
-        raise BadInput("%s: %s" % (place, rule))
+    for broken in catalogue.faults(made):
+        raise BadInput("%s: %s" % (broken.place, broken.rule))
     return made
 
 

@@ -36,17 +36,15 @@ import tempfile
 from typing import NamedTuple
 
 from sdd.command import count, parser
-from sdd.design import explore_times
-from sdd.design.covering import class_for
-from sdd.design import distributions
+from sdd.design import distributions, explore_times
 from sdd.design.figures import collect_drains, collect_figures, print_comparison, print_design
 from sdd.design.observed import observe
 from sdd.design.protocols import print_changes, print_protocols, read_protocols
 from sdd.design.schedules import Manner, draw_schedule, enumerate_schedules, list_links, read_load
-from sdd.model.files import BadInput
-from sdd.model.named_catalogue import read_catalogue
-from sdd.model.named_workload import read_workload
+from sdd.model.files import BadInput, write_text
+from sdd.model.reading import catalogue_at, workload_at
 from sdd.programs import Program, add_program, demand_text
+from sdd.reference.plain import class_for
 
 BATCH = 50
 USUAL_PACE = 4              # rounds between two submissions
@@ -71,24 +69,21 @@ class Explorer:
 
     def __init__(self, program, catalogue, workload, folder):
         self.program, self.path, self.folder = program, catalogue, folder
-        self.catalogue, self.load = read_catalogue(catalogue), read_load(workload)
+        self.catalogue = catalogue_at(catalogue)
+        self.work, self.load = workload_at(workload, self.catalogue), read_load(workload)
         if not self.load.submitted():
             raise BadInput("%s: it submits nothing" % workload)
-        self.links = list_links(self.catalogue, self.load, self.has_undeclared(workload))
+        self.links = list_links(self.catalogue, self.load, self.has_undeclared())
 
-    def has_undeclared(self, workload):
+    def has_undeclared(self):
         """Whether the site of transactions that no class covers may have work; with further class lists it may."""
-        if "list" in self.load.head:
-            return True
-        transactions = read_workload(workload, self.catalogue)[1]
-        return any(class_for(transactions[x], self.catalogue) is None for x in self.load.submitted() if x in transactions)
+        return bool(self.work.lists) or any(class_for(self.catalogue, self.work.txns[n - 1]) == 0 for n in self.work.submitted())
 
     def texts(self, schedules):
         paths = []
         for k, events in enumerate(schedules):
             paths.append(os.path.join(self.folder, "work%d" % k))
-            with open(paths[-1], "w", encoding="utf-8") as f:
-                f.write(self.load.text(events + [LAST]))
+            write_text(paths[-1], self.load.text(events + [LAST]))
         words = ["run", self.path, "{}"]
         return [demand_text(x, words) for x in self.program.ask_all(words, paths)]
 
@@ -103,7 +98,7 @@ class Explorer:
 
     def schedules(self, asked):
         """The schedules, and whether they are all."""
-        if self.program.command is not None and len(self.load.submitted()) <= 3:
+        if len(self.load.submitted()) <= 3:
             whole = enumerate_schedules(self.load, self.links, self.flying, asked.runs)
             if whole is not None:
                 return whole, True
@@ -112,11 +107,10 @@ class Explorer:
 
     def explore(self, asked):
         schedules, complete = self.schedules(asked)
-        step = BATCH if self.program.command is not None else len(schedules)
         observed = []
-        for k in range(0, len(schedules), step):
+        for k in range(0, len(schedules), BATCH):
             tell_progress("%s: %d of %d runs" % (self.path, k, len(schedules)))
-            observed += self.observed(schedules[k:k + step])
+            observed += self.observed(schedules[k:k + BATCH])
         tell_progress("")
         unit = 1 if asked.events else len(self.links)
         figures, pairs = collect_figures(observed, asked.by, unit)
@@ -193,5 +187,4 @@ def main():
         print_comparison(designs, asked.by, unit)
         print_changes(designs[0].protocols, designs[1].protocols)
     if asked.picture:
-        with open(asked.picture, "w", encoding="utf-8") as f:
-            f.write(distributions.draw_distributions(designs, asked.by, unit))
+        write_text(asked.picture, distributions.draw_distributions(designs, asked.by, unit))

@@ -30,11 +30,12 @@ import tempfile
 from typing import NamedTuple
 
 from sdd.command import parser
-from sdd.design.covering import class_for, read_set, write_set
 from sdd.design.sql import Column, read_script
-from sdd.model.files import BadInput
-from sdd.model.named_catalogue import GREATEST, LEAST, read_catalogue
-from sdd.model.named_workload import key_range, read_workload
+from sdd.model.files import BadInput, write_text
+from sdd.model.reading import catalogue_at, workload_at
+from sdd.model.statements import Put, Query, Txn
+from sdd.model.words import GREATEST, LEAST
+from sdd.reference.plain import class_for, fragments_read, fragments_written, keys_allowed, uses_of
 
 
 class Translator:
@@ -259,10 +260,11 @@ class Classes:
 
 def touched_by(statement, catalogue):
     """For each use a relation, and the least and the greatest key; of a put those of its row."""
-    keys = [catalogue.relations[r].key for r in statement.relations]
-    if statement.kind == "put":
-        return [(statement.relations[0], statement.row[keys[0]], statement.row[keys[0]])]
-    return [(r,) + key_range(statement.conditions, k, keys[k]) for k, r in enumerate(statement.relations)]
+    if isinstance(statement, Put):
+        key = catalogue.relation[statement.relation].key_of(statement.row)
+        return [(statement.relation, key, key)]
+    uses = uses_of(catalogue, Txn("", 0, (statement,)))
+    return [(x.relation,) + keys_allowed(catalogue.relation[x.relation], x.conds) for x in uses]
 
 
 def meet(touched, others):
@@ -271,33 +273,32 @@ def meet(touched, others):
 
 def demand_apart(translator, catalogue, transactions):
     """Refuses a statement that may see a row which one before it in its transaction changed."""
-    for x in transactions.values():
+    for x in transactions:
         lines, call = translator.lines[x.name]
         changed = []            # what was changed before: a line, and what it touched
         for s, line in zip(x.statements, lines):
             touched = touched_by(s, catalogue)
-            before = next((y for y, other in changed if s.kind != "put" and meet(touched, other)), None)
+            before = next((y for y, other in changed if not isinstance(s, Put) and meet(touched, other)), None)
             if before is not None:
                 translator.fault(line, "of the call in line %d it may see what line %d changed; put it first, or into a transaction of its own" % (
                     call, before))
-            if s.kind != "query":
+            if not isinstance(s, Query):
                 changed.append((line, touched))
 
 
 def print_classes(classes, catalogue, transactions):
     """Which class each transaction gets, and why."""
     for name, need in classes.needs.items():
-        mine = [x for x in transactions.values() if x.name.rpartition("_")[0] == name]
+        mine = [x for x in transactions if x.name.rpartition("_")[0] == name]
         print("%s at %s, %d calls" % (name, need.site, len(mine)))
         for x in need.why:
             print("  " + x)
         got = {}
         for x in mine:
-            cls = class_for(x, catalogue)
-            got.setdefault(cls.name if cls else "-", []).append(x)
+            got.setdefault(catalogue.class_name(class_for(catalogue, x)), []).append(x)
         for cls, members in got.items():
             other = "" if cls == name else " (it stands before, and covers them)" if cls != "-" else " (no class covers them)"
-            reads, writes = (sorted({f for x in members for f in of(x, catalogue)}) for of in (read_set, write_set))
+            reads, writes = (sorted({f for x in members for f in of(catalogue, x)}) for of in (fragments_read, fragments_written))
             print("  class %s%s: %d calls, which read %s and write %s" % (
                 cls, other, len(members), ", ".join(reads) or "nothing", ", ".join(writes) or "nothing"))
 
@@ -314,10 +315,9 @@ def main():
     names = ("catalogue.toml", "workload")
     with tempfile.TemporaryDirectory(prefix="sql-") as folder:
         for name, lines in zip(names, (translator.catalogue(classes.made), workload)):
-            with open(os.path.join(folder, name), "w", encoding="utf-8") as f:
-                f.write("".join(x + "\n" for x in lines))
-        catalogue = read_catalogue(os.path.join(folder, names[0]))
-        transactions = read_workload(os.path.join(folder, names[1]), catalogue)[1]
+            write_text(os.path.join(folder, name), "".join(x + "\n" for x in lines))
+        catalogue = catalogue_at(os.path.join(folder, names[0]))
+        transactions = workload_at(os.path.join(folder, names[1]), catalogue).txns
         demand_apart(translator, catalogue, transactions)
         os.makedirs(asked.into, exist_ok=True)
         for name in names:

@@ -14,8 +14,9 @@ from sdd.design.latencies import Latencies
 from sdd.design.plans import Plans
 from sdd.design.schedules import read_load
 from sdd.design.timed import TimedRun
-from sdd.model import catalogue, words, workload
-from sdd.model.files import BadInput, text_of, write_text
+from sdd.model import workload
+from sdd.model.files import BadInput, write_text
+from sdd.model.reading import catalogue_at, workload_at
 from sdd.reference import graph
 
 KEPT = ("submit", "tick", "down", "up")
@@ -41,11 +42,6 @@ class Design:
     @staticmethod
     def of_files(catalogue_path, workload_path):
         return Design(catalogue_path, workload_path, *demand_read(catalogue_path, workload_path))
-
-    @staticmethod
-    def of_texts(catalogue_text, workload_text):
-        cat = refused("catalogue", catalogue.read_catalogue, catalogue_text.encode())
-        return Design("", "", cat, refused("workload", lambda data: workload.read_workload(cat, data), workload_text.encode()))
 
     def phases(self, every, rng):
         """The events with their times, which begin anew behind each settle."""
@@ -77,24 +73,11 @@ class Design:
 
 def demand_read(catalogue_path, workload_path):
     """The catalogue and the workload of two files, which submits something."""
-    cat = refused(catalogue_path, catalogue.read_catalogue, bytes_of(catalogue_path))
-    work = refused(workload_path, lambda data: workload.read_workload(cat, data), bytes_of(workload_path))
+    cat = catalogue_at(catalogue_path)
+    work = workload_at(workload_path, cat)
     if not work.submitted():
         raise BadInput("%s: it submits nothing" % workload_path)
     return cat, work
-
-
-def bytes_of(path):
-    text_of(path)
-    with open(path, "rb") as f:
-        return f.read()
-
-
-def refused(path, read, data):
-    try:
-        return read(data)
-    except words.Fault as fault:
-        raise BadInput("%s: %s" % (path, fault.line.partition(": ")[2])) from None
 
 
 def check_run(design, run, program, folder):

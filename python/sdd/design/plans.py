@@ -43,7 +43,7 @@ class Plans:
     """The catalogue by numbers, and the plans of its transactions."""
 
     def __init__(self, cat, work):
-        self.cat, self.work, self.whole = cat, work, redeclare.whole(cat, work.lists)
+        self.cat, self.work, self.whole = cat, work, work.all_classes(cat)
         self.eras = redeclare.eras(cat, work.lists)
         self.pairs = [graph.diagonals_by_pair(graph.protocol_table(era)) for era in self.eras]
         self.made = {}

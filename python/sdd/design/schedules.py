@@ -58,7 +58,7 @@ def read_load(path):
 
 def list_links(catalogue, load, undeclared):
     """The links that messages of this load can use, both ways; those of U where it has work."""
-    modules = {x.site for x in catalogue.classes.values()} | {load.sites[x] for x in load.submitted() if x in load.sites}
+    modules = {x.site for x in catalogue.classes} | {load.sites[x] for x in load.submitted() if x in load.sites}
     stores = ["D%d" % (k + 1) for k in range(catalogue.dms)]
     pairs = [(t, d) for t in sorted(modules) for d in stores]
     if undeclared:

@@ -40,7 +40,7 @@ class Shrinker:
         key = hashlib.sha256((catalogue + "\0" + workload).encode()).digest()
         if key not in self.known:
             for path, text in zip(self.paths, (catalogue, workload)):
-                with open(path, "w", encoding="utf-8", newline="") as f:
+                with open(path, "w", encoding="utf-8", newline="\n") as f:
                     f.write(text)
             self.known[key] = self.asks()
             self.calls += 1
@@ -108,7 +108,7 @@ def main():
         shrinker.shrink()
     os.makedirs(asked.into, exist_ok=True)
     for name, text in (("catalogue.toml", shrinker.catalogue), ("workload", shrinker.workload)):
-        with open(os.path.join(asked.into, name), "w", encoding="utf-8", newline="") as f:
+        with open(os.path.join(asked.into, name), "w", encoding="utf-8", newline="\n") as f:
             f.write(text)
     if sys.stderr.isatty():
         sys.stderr.write("\r\x1b[K")

@@ -5,9 +5,9 @@ a cut of a catalogue is its parts, as TOML gives them, without one of them.
 """
 import copy
 import re
-import tomllib
 
 from sdd.model.files import BadInput
+from sdd.model.toml import NotToml, read_toml
 
 EVENTS = {"submit", "deliver", "lose", "repeat", "resend", "tick", "down", "up", "settle", "redeclare"}
 
@@ -82,8 +82,8 @@ def lines_without(lines, cuts):
 
 def parts_of_catalogue(name, text):
     try:
-        return tomllib.loads(text)
-    except tomllib.TOMLDecodeError as fault:
+        return read_toml(text.encode())
+    except NotToml as fault:
         raise BadInput("%s: not TOML: %s" % (name, fault)) from None
 
 

@@ -9,11 +9,9 @@ one such order and ends with 0; or it prints that there is none, and ends with 1
 import itertools
 
 from sdd.command import parser
-from sdd.model.catalogue import read_catalogue
+from sdd.model.reading import catalogue_at, workload_at
 from sdd.model.files import BadInput
 from sdd.model.report import read_report
-from sdd.model.words import Fault
-from sdd.model.workload import read_workload
 from sdd.reference.plain import serial
 
 MOST = 8
@@ -50,21 +48,10 @@ def judged(report, cat, work):
     return order and [work.txns[n - 1].name for n in order]
 
 
-def bytes_of(path):
-    try:
-        with open(path, "rb") as f:
-            return f.read()
-    except OSError as fault:
-        raise BadInput("%s: %s" % (path, fault.strerror.lower())) from None
-
-
 def read_inputs(catalogue, workload):
     """The catalogue and the workload of two files."""
-    try:
-        cat = read_catalogue(bytes_of(catalogue))
-        return cat, read_workload(cat, bytes_of(workload))
-    except Fault as fault:
-        raise BadInput(fault.line) from None
+    cat = catalogue_at(catalogue)
+    return cat, workload_at(workload, cat)
 
 
 def main():

@@ -19,10 +19,11 @@ from sdd.design.schedules import Manner, draw_schedule, list_links, read_load
 from sdd.judge.check_history import Graph, read_history
 from sdd.judge.planting import KINDS
 from sdd.judge.to_elle import Run, history
-from sdd.model.files import BadInput
-from sdd.model.named_catalogue import Catalogue, read_catalogue
-from sdd.model.named_workload import read_workload
+from sdd.model.files import BadInput, write_text
+from sdd.model.catalogue import Catalogue
+from sdd.model.reading import catalogue_at, workload_at
 from sdd.model.report import read_report
+from sdd.model.workload import Workload
 from sdd.programs import Program, add_program
 
 SIZE = 30                   # transactions of a run
@@ -31,8 +32,7 @@ SIZE = 30                   # transactions of a run
 class Case(NamedTuple):
     name: str
     catalogue: Catalogue
-    first: dict             # the rows of the workload
-    transactions: dict
+    work: Workload
     text: str               # the report
 
 
@@ -42,25 +42,22 @@ def make_cases(program, folder, seed, number):
     for k in range(number):
         kind, design = designs[k % len(designs)]
         paths = write_workload(folder, kind, SIZE, (seed * 1000 + k) % 2**31, design)
-        catalogue, load = read_catalogue(paths[0]), read_load(paths[1])
+        catalogue, load = catalogue_at(paths[0]), read_load(paths[1])
         events = draw_schedule(load, list_links(catalogue, load, design == "audit"), random.Random("%d %d" % (seed, k)), Manner(3, 0.02))
         if k % 3 == 2:
             events = events[:len(events) // 2]
-        with open(paths[1], "w", encoding="utf-8") as f:
-            f.write(load.text(events))
-        first, transactions = read_workload(paths[1], catalogue)
-        yield Case("%s %s %d" % (kind, design, k), catalogue, first, transactions, program.text(["run"] + paths))
+        write_text(paths[1], load.text(events))
+        work = workload_at(paths[1], catalogue)
+        yield Case("%s %s %d" % (kind, design, k), catalogue, work, program.text(["run"] + paths))
 
 
 def judge(case, text, folder):
     """What is found wrong with a report, as lines; a report that is refused has one too."""
     path = os.path.join(folder, "judged")
     try:
-        with open(path, "w", encoding="utf-8") as f:
-            f.write(text)
-        run = Run(read_report(path), case.transactions, case.first, case.catalogue)
-        with open(path, "w", encoding="utf-8") as f:
-            f.write("".join(x + "\n" for x in history(run)))
+        write_text(path, text)
+        run = Run(read_report(path), case.work, case.catalogue)
+        write_text(path, "".join(x + "\n" for x in history(run)))
         graph = Graph(read_history(path))
     except BadInput as fault:
         return ["refused: %s" % fault]
@@ -70,10 +67,9 @@ def judge(case, text, folder):
 def plant(case, kind, rng, folder):
     """A report with a fault of the kind, or None where it has no place for one."""
     path = os.path.join(folder, "true")
-    with open(path, "w", encoding="utf-8") as f:
-        f.write(case.text)
+    write_text(path, case.text)
     report = read_report(path)
-    run = Run(report, case.transactions, case.first, case.catalogue)
+    run = Run(report, case.work, case.catalogue)
     text = KINDS[kind](case.text.split("\n"), report, run, rng)
     return None if text is None or "\n".join(text) == case.text else "\n".join(text)
 

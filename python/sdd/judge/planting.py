@@ -3,7 +3,8 @@
 Each takes the lines, the report as it is read, its run (of sdd to-elle) and a generator of drawn numbers, and
 gives None where the report has no place for such a fault.
 """
-from sdd.model.named_workload import effect
+from sdd.judge.effect import effect
+from sdd.model.words import value_word
 
 FIRST_ROWS = 0
 
@@ -81,11 +82,8 @@ def add_reply_row(lines, _, __, rng):
 def answer_from_first_rows(lines, report, run, rng):
     """A transaction is answered as by the first rows of the workload."""
     blocks, found = reply_blocks(lines), []
-    first = {}
-    for relation in run.catalogue.relations:
-        first[relation] = {k: v[0].row for (r, k), v in run.versions.items() if r == relation and v[0].writer == FIRST_ROWS}
     for name in blocks:
-        reply, _ = effect(run.transactions[name], first, run.catalogue)
+        reply, _ = effect(run.transaction(name), run.first, run.catalogue)
         if reply != report.replies[name] and reply.kind == "ok":
             found.append((name, reply))
     if not found:
@@ -94,13 +92,9 @@ def answer_from_first_rows(lines, report, run, rng):
     shown = ["reply %s ok" % name]
     for k, rows in enumerate(reply.queries, 1):
         shown.append("query %d %d" % (k, len(rows)))
-        shown += ["row " + " ".join(map(format_value, row)) for row in rows]
+        shown += ["row " + " ".join(map(value_word, row)) for row in rows]
     a, b = blocks[name]
     return lines[:a] + shown + lines[b:]
-
-
-def format_value(value):
-    return '"%s"' % value.replace("\\", "\\\\").replace('"', '\\"') if isinstance(value, str) else str(value)
 
 
 def change_outcome(lines, _, __, rng):
@@ -133,14 +127,14 @@ def list_older_rows(lines, run):
     """Of each row of a copy that a transaction changed: its place, its item, and the line of the version before."""
     for k, rows in copy_blocks(lines).items():
         _, site, name, _ = lines[k].split(" ")
-        fragment = run.catalogue.fragments[name]
-        key = run.catalogue.relations[fragment.relation].key
+        fragment = run.catalogue.fragment[name]
+        key = run.catalogue.relation[fragment.relation].key_place
         applied = {n for _, n in run.applied.get(site, [])} | {FIRST_ROWS}
         for at in rows:
             item = next(x for x in run.versions if fragment.has(*x) and str(x[1]) == lines[at].split(" ")[key + 1])
             shown = [x for x in run.versions[item] if x.writer in applied]
             if len(shown) > 1 and shown[-2].row is not None and shown[-2].row != shown[-1].row:
-                yield at, item, "row " + " ".join(map(format_value, shown[-2].row))
+                yield at, item, "row " + " ".join(map(value_word, shown[-2].row))
 
 
 def lose_change_at_one(lines, _, run, rng):

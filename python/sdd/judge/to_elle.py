@@ -9,7 +9,7 @@ class, the first one the workload's rows; each class reads all copies at the end
 
 - What a transaction read: of each row that its conditions on keys leave to it, the versions that were
   applied at the module where it reads the row before it was answered there, as the report's records tell.
-- What it replied: the transaction is run again on these versions, by sdd/model/named_workload.py. Where that
+- What it replied: the transaction is run again on these versions, by sdd/judge/effect.py. Where that
   isn't the reply of the report, the history has further reads, of versions that give that reply; or
   of version -1, which nobody appends, where none do. So a wrong reply leaves its trace in the history.
 - What is in the copies: a read of each copy at which every change of its fragment is applied. Where a row
@@ -26,10 +26,9 @@ import sys
 from typing import NamedTuple
 
 from sdd.command import parser
-from sdd.design.covering import read_set
-from sdd.model.files import BadInput
-from sdd.model.named_catalogue import read_catalogue
-from sdd.model.named_workload import effect, read_workload, reads, with_lists
+from sdd.model.files import BadInput, write_text
+from sdd.judge.effect import effect, first_database, read_set, reads
+from sdd.model.reading import catalogue_at, workload_at
 from sdd.model.report import read_report
 
 FIRST_ROWS, NOBODY = 0, -1
@@ -57,15 +56,16 @@ class Committed(NamedTuple):
 class Run:
     """The committed transactions of a report, run again on what they saw."""
 
-    def __init__(self, report, transactions, first, catalogue):
-        self.report, self.catalogue, self.transactions = report, catalogue, transactions
-        self.versions = {(r, k): [Version(-1, FIRST_ROWS, row)] for r, rows in first.items() for k, row in rows.items()}
+    def __init__(self, report, work, catalogue):
+        self.report, self.work, self.catalogue, self.numbers = report, work, work.all_classes(catalogue), work.numbers()
+        self.first = first_database(work, catalogue)
+        self.versions = {(r, k): [Version(-1, FIRST_ROWS, row)] for r, rows in self.first.items() for k, row in rows.items()}
         self.starts, self.commits = report.attempts(), report.commits()
         self.applied = {}       # module -> places of applies and the transactions' numbers
         self.answered = {}      # transaction, attempt, module -> place
         for x in report.records:
             if x.kind == "apply":
-                self.applied.setdefault(x.site, []).append((x.place, self.transaction(x.txn).number))
+                self.applied.setdefault(x.site, []).append((x.place, self.number(x.txn)))
             elif x.kind == "answer":
                 self.answered[x.txn, x.attempt, x.site] = x.place
         self.committed = {}
@@ -75,19 +75,29 @@ class Run:
         for commit, changes in work.items():
             self.add(commit, seen[commit], changes)
 
-    def transaction(self, name):
-        if name not in self.transactions:
+    def number(self, name):
+        if name not in self.numbers:
             raise BadInput("the report has %s, which the workload hasn't" % name)
-        return self.transactions[name]
+        return self.numbers[name]
+
+    def transaction(self, name):
+        return self.work.txns[self.number(name) - 1]
 
     def class_of(self, commit):
         return self.starts[commit.txn, commit.attempt].cls
+
+    def module_of(self, cls, fragment):
+        """Where a class reads a fragment."""
+        module = self.catalogue.read_at(self.catalogue.number[cls], fragment) if cls in self.catalogue.number else None
+        if module is None:
+            raise BadInput("no class %s reads %s: is this the catalogue of the run?" % (cls, fragment))
+        return "D%d" % module
 
     def seen_by(self, commit):
         """For each fragment that the attempt reads, whose changes are seen there."""
         seen = {}
         for fragment in read_set(self.transaction(commit.txn), self.catalogue):
-            module = self.catalogue.read_at(self.class_of(commit), fragment)
+            module = self.module_of(self.class_of(commit), fragment)
             answered = self.answered.get((commit.txn, commit.attempt, module))
             if answered is None:
                 raise BadInput("%s#%d has no answer at %s" % (commit.txn, commit.attempt, module))
@@ -100,13 +110,13 @@ class Run:
         _, changes = effect(transaction, self.database(transaction, seen), self.catalogue)
         time = self.starts[commit.txn, commit.attempt].time
         for item, row in changes.items():
-            self.versions.setdefault(item, []).append(Version(time, transaction.number, row))
+            self.versions.setdefault(item, []).append(Version(time, self.number(commit.txn), row))
             self.versions[item].sort(key=lambda x: x.time)
         return changes
 
     def visible(self, item, seen):
         """The versions of an item that are seen, in their order."""
-        numbers = seen[self.catalogue.fragment_of(*item).name]
+        numbers = seen[self.catalogue.fragment_of(*item)]
         return [x for x in self.versions[item] if x.writer == FIRST_ROWS or x.writer in numbers]
 
     def items(self, transaction):
@@ -115,7 +125,7 @@ class Run:
         return [x for x in self.versions if any(x[0] == r and low <= x[1] <= high for r, low, high in ranges)]
 
     def database(self, transaction, seen):
-        made = {name: {} for name in self.catalogue.relations}
+        made = {name: {} for name in self.catalogue.relation}
         for item in sorted(self.items(transaction)):
             shown = self.visible(item, seen)
             if shown and shown[-1].row is not None:
@@ -137,12 +147,12 @@ class Run:
         begin = self.starts[commit.txn, 1].place
         time = self.starts[commit.txn, commit.attempt].time
         self.committed[commit.txn] = Committed(
-            transaction.number, commit.txn, self.class_of(commit), begin, commit.place, time, seen,
+            self.number(commit.txn), commit.txn, self.class_of(commit), begin, commit.place, time, seen,
             self.listed(transaction, seen), reported, changes)
 
     def explained(self, transaction, seen, reply):
         """Reads that give this reply: of what another transaction saw, of the first rows, or of all."""
-        everything = {x.number for x in self.transactions.values()}
+        everything = set(self.numbers.values())
         others = [other for _, other in self.databases]
         for other in others + [{f: set() for f in seen}, {f: everything for f in seen}]:
             cut = {f: other.get(f, seen[f]) for f in seen}
@@ -153,14 +163,14 @@ class Run:
 
     def final_reads(self):
         """The reads of each copy: all of them where all changes are applied, else those of wrong rows."""
-        for f in self.catalogue.fragments.values():
-            for site in f.copies:
+        for f in self.catalogue.fragments:
+            for site in ("D%d" % x for x in sorted(f.copies)):
                 if (site, f.name) not in self.report.copies:
                     raise BadInput("the report has no copy %s %s" % (site, f.name))
                 yield from self.copy_reads(site, f, self.report.copies[site, f.name])
 
     def copy_reads(self, site, fragment, rows):
-        key = self.catalogue.relations[fragment.relation].key
+        key = self.catalogue.relation[fragment.relation].key_place
         reported = {}
         for row in rows:
             reported.setdefault((fragment.relation, row[key]), []).append(row)
@@ -233,12 +243,10 @@ def main():
     asked.add_argument("--along-order", action="store_true", help="judge the order of the report too")
     asked.add_argument("--into", metavar="FILE", help="the history's file; without it standard output")
     asked = asked.parse_args()
-    catalogue = read_catalogue(asked.catalogue)
-    first, transactions = read_workload(asked.workload, catalogue)
-    run = Run(read_report(asked.report), transactions, first, with_lists(catalogue, asked.workload))
+    catalogue = catalogue_at(asked.catalogue)
+    run = Run(read_report(asked.report), workload_at(asked.workload, catalogue), catalogue)
     text = "".join(x + "\n" for x in history(run, asked.along_order))
     if asked.into is None:
         sys.stdout.write(text)
     else:
-        with open(asked.into, "w", encoding="utf-8") as out:
-            out.write(text)
+        write_text(asked.into, text)

@@ -7,9 +7,10 @@ doesn't stand where it may, is refused by `BadInput`, with the number of the lin
 """
 import re
 from dataclasses import dataclass, field
-from typing import NamedTuple
+from typing import NamedTuple, NoReturn
 
 from sdd.model.files import BadInput, text_of
+from sdd.model.words import Row, Scalar
 
 
 class Record(NamedTuple):
@@ -18,42 +19,42 @@ class Record(NamedTuple):
     event: int
     kind: str               # submit, start, arrive, wait, answer, reject, commit, apply, pass, nothing
     line: str               # as it stands in the report
-    txn: str = None
-    attempt: int = None
-    site: str = None        # D1 ..
-    cls: str = None         # a class's name, `-` for that of the transactions that no class covers
-    time: int = None        # a timestamp, or the time that is passed
-    upto: int = None        # start: the time of P2
-    waits: tuple = ()       # wait: pairs of a class and a time
+    txn: str | None = None
+    attempt: int | None = None
+    site: str | None = None     # D1 ..
+    cls: str | None = None      # a class's name, `-` for that of the transactions that no class covers
+    time: int | None = None     # a timestamp, or the time that is passed
+    upto: int | None = None     # start: the time of P2
+    waits: tuple[tuple[str, int], ...] = ()     # wait: pairs of a class and a time
 
 
 class Reply(NamedTuple):
-    kind: str               # ok, overflow, toomany
-    queries: tuple          # for each query its rows, as tuples of whole numbers and texts
+    kind: str                           # ok, overflow, toomany
+    queries: tuple[tuple[Row, ...], ...]    # for each query its rows
 
 
 class Pending(NamedTuple):
     txn: str
     kind: str               # queued, waits, underway
-    words: tuple
+    words: tuple[str, ...]
 
 
 @dataclass
 class Report:
-    records: list = field(default_factory=list)
-    order: list = field(default_factory=list)
-    replies: dict = field(default_factory=dict)     # transaction -> Reply
-    shipped: dict = field(default_factory=dict)     # transaction -> values, rows
-    pending: list = field(default_factory=list)
-    copies: dict = field(default_factory=dict)      # site, fragment -> rows
+    records: list[Record] = field(default_factory=list)
+    order: list[str] = field(default_factory=list)
+    replies: dict[str, Reply] = field(default_factory=dict)             # transaction -> Reply
+    shipped: dict[str, tuple[int, int]] = field(default_factory=dict)   # transaction -> values, rows
+    pending: list[Pending] = field(default_factory=list)
+    copies: dict[tuple[str, str], list[Row]] = field(default_factory=dict)      # site, fragment -> rows
 
-    def attempts(self):
+    def attempts(self) -> dict[tuple[str, int], Record]:
         """The Start of each attempt, by transaction and number."""
-        return {(x.txn, x.attempt): x for x in self.records if x.kind == "start"}
+        return {(x.txn, x.attempt): x for x in self.records if x.kind == "start" and x.txn is not None and x.attempt is not None}
 
-    def commits(self):
+    def commits(self) -> dict[str, Record]:
         """The Commit of each committed transaction."""
-        return {x.txn: x for x in self.records if x.kind == "commit"}
+        return {x.txn: x for x in self.records if x.kind == "commit" and x.txn is not None}
 
 
 NAME = r"([A-Za-z][A-Za-z0-9_]*)"
@@ -72,14 +73,14 @@ FORMS = {
     "pass": (CLASS + " " + MODULE + r" (\d+)", "cls site time"),
     "nothing": ("", ""),
 }
-NUMBERS = {"attempt", "time", "upto"}
 PENDING = {"queued": CLASS + r" (\d+)", "waits": MODULE + " " + CLASS + r" (\d+)", "underway": r"([UTD]\d*)"}
 VALUE = re.compile(r' (?:(-?\d+)|"((?:[^"\\]|\\["\\])*)")(?= |$)')
 
 
-def row_of(line):
+def row_of(line: str) -> Row | None:
     """The values behind `row`, or None."""
-    place, values = 3, []
+    place = 3
+    values: list[Scalar] = []
     while place < len(line):
         found = VALUE.match(line, place)
         if found is None:
@@ -90,7 +91,7 @@ def row_of(line):
     return tuple(values) if values else None
 
 
-def record_of(place, line):
+def record_of(place: int, line: str) -> Record | None:
     event, _, rest = line.partition(" ")
     kind, _, words = rest.partition(" ")
     if not event.isdigit() or kind not in FORMS:
@@ -99,37 +100,35 @@ def record_of(place, line):
     found = re.fullmatch(form, words)
     if found is None:
         return None
-    reported = dict(zip(names.split(), found.groups()))
-    for name in NUMBERS & reported.keys():
-        reported[name] = None if reported[name] == "-" else int(reported[name])
-    if kind == "wait":
-        words = reported["waits"].split()
-        reported["waits"] = tuple(zip(words[::2], map(int, words[1::2])))
-    return Record(place, int(event), kind, line, **reported)
+    given = dict(zip(names.split(), found.groups()))
+    attempt, time, upto = (None if given.get(x, "-") == "-" else int(given[x]) for x in ("attempt", "time", "upto"))
+    pairs = given.get("waits", "").split()
+    waits = tuple(zip(pairs[::2], map(int, pairs[1::2])))
+    return Record(place, int(event), kind, line, given.get("txn"), attempt, given.get("site"), given.get("cls"), time, upto, waits)
 
 
 class Lines:
     """The lines of a file, taken one by one."""
 
-    def __init__(self, path, text):
+    def __init__(self, path: str, text: str) -> None:
         self.path, self.lines, self.place = path, text.split("\n")[:-1], 0
 
-    def head(self):
+    def head(self) -> str:
         """The first word of the next line."""
         return self.lines[self.place].split(" ")[0] if self.place < len(self.lines) else ""
 
-    def take(self):
+    def take(self) -> str:
         self.place += 1
         if self.place > len(self.lines):
             self.fault("the file ends too early")
         return self.lines[self.place - 1]
 
-    def fault(self, what):
+    def fault(self, what: str) -> NoReturn:
         """The fault of the line that was taken last."""
         raise BadInput("%s: line %d: %s" % (self.path, self.place, what))
 
-    def rows(self, count):
-        rows = []
+    def rows(self, count: int) -> list[Row]:
+        rows: list[Row] = []
         for _ in range(count):
             row = row_of(self.take()) if self.head() == "row" else None
             if row is None:
@@ -138,14 +137,14 @@ class Lines:
         return rows
 
 
-def take_form(lines, form, what):
+def take_form(lines: Lines, form: str, what: str) -> tuple[str, ...]:
     found = re.fullmatch(form, lines.take())
     if found is None:
         lines.fault("no line of %s" % what)
     return found.groups()
 
 
-def read_report(path):
+def read_report(path: str) -> Report:
     lines = Lines(path, text_of(path))
     report = Report()
     while lines.head().isdigit():
@@ -178,17 +177,17 @@ def read_report(path):
     return report
 
 
-def take_replies(lines, report):
+def take_replies(lines: Lines, report: Report) -> None:
     while lines.head() == "reply":
         name, kind = take_form(lines, "reply %s (ok|overflow|toomany)" % NAME, "a reply")
-        queries = []
+        queries: list[tuple[Row, ...]] = []
         while lines.head() == "query":
             _, count = take_form(lines, r"query (\d+) (\d+)", "a query's answer")
             queries.append(tuple(lines.rows(int(count))))
         report.replies[name] = Reply(kind, tuple(queries))
 
 
-def judge(path, report):
+def judge(path: str, report: Report) -> None:
     """What each line takes for granted of the others."""
     starts, commits = report.attempts(), report.commits()
     submitted = {x.txn for x in report.records if x.kind == "submit"}

@@ -18,16 +18,18 @@ class Reader:
 
     def take(self, key, words):
         if self.sites is None:
-            must("BadLine", key == "control" and len(words) == 2 and are_free(words))
-            self.sites = 1 + known("BadNumber", number_between(words[0], 1, 8))
-            self.writes = known("BadNumber", number_between(words[1], 1, 64))
+            must("BadLine", key == "control" and len(words) == 2 and are_free(words), key, "the first line is `control B W`: how many backups, and writes")
+            self.sites = 1 + known("BadNumber", number_between(words[0], 1, 8), words[0], "{} isn't between 1 and 8")
+            self.writes = known("BadNumber", number_between(words[1], 1, 64), words[1], "{} isn't between 1 and 64")
         elif key == "end":
             must("BadLine", not words)
             self.ended = True
         else:
             must("BadLine", key in EVENTS and len(words) == EVENTS[key] and all(map(is_free, words)))
-            sites = [known("BadNumber", number_between(w, 0, 2**32 - 1)) for w in words]
-            must("BadEvent", all(i < self.sites for i in sites) and len(set(sites)) == len(sites))
+            sites = [known("BadNumber", number_between(w, 0, 2**32 - 1), w, "{} is no number of a site") for w in words]
+            unknown = next((w for w, i in zip(words, sites) if i >= self.sites), None)
+            must("BadEvent", unknown is None, unknown, "there are sites 0 to %d" % (self.sites - 1))
+            must("BadEvent", len(set(sites)) == len(sites), words[-1], "no link goes from a site to itself")
             must("TooMany event", len(self.events) < MAX_EVENTS)
             self.events.append((key, sites))
 
@@ -101,9 +103,15 @@ class Control:
         return "stop %d" % i
 
 
-def control_text(data):
+def read_control(data):
+    """What a control file says; a Fault tells its first fault."""
     reader = Reader()
     read_lines(data, reader.take, lambda: reader.ended)
+    return reader
+
+
+def control_text(data):
+    reader = read_control(data)
     control = Control(reader.sites, reader.writes)
     acts = {"step": control.step, "deliver": control.deliver, "stop": control.stop}
     lines = ["%d %s" % (n, acts[key](*sites)) for n, (key, sites) in enumerate(reader.events, 1)]

@@ -17,11 +17,6 @@ def eras(cat, lists):
     return found
 
 
-def whole(cat, lists):
-    """The catalogue with the classes of all lists, each with what it reads and writes."""
-    return cat.with_classes(cat.classes + [c for classes in lists for c in classes])
-
-
 def classes_submitted(cat, work):
     """The class of each submitted transaction, by the list in force when it is submitted."""
     found, catalogues, found_in = {}, eras(cat, work.lists), 0

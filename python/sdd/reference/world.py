@@ -11,7 +11,7 @@ from sdd.reference.data_module import DataModule
 from sdd.reference.links import Links
 from sdd.reference.messages import Record
 from sdd.reference.plain import class_for
-from sdd.reference.redeclare import eras, whole
+from sdd.reference.redeclare import eras
 from sdd.reference.transaction_module import TransactionModule
 from sdd.reference.undeclared_module import UndeclaredModule
 
@@ -33,7 +33,7 @@ class Happened(NamedTuple):
 class World:
     def __init__(self, cat, work, rows=None):
         """ROWS has the first rows of each data module; without it each has those of the workload."""
-        self.cat, self.work = whole(cat, work.lists), work
+        self.cat, self.work = work.all_classes(cat), work
         self.eras = eras(cat, work.lists)
         self.links, self.bases = Links(self.cat), {}
         self.sites = {U: UndeclaredModule(self.cat, self.bases)}

@@ -10,13 +10,11 @@ where the report is right to the byte, and else with 1. The reference of this pa
 from typing import NamedTuple
 
 from sdd.command import parser
-from sdd.design.milliseconds import bytes_of, refused
-from sdd.model import catalogue, workload
-from sdd.model.files import text_of
+from sdd.model.files import BadInput, text_of
+from sdd.model.reading import catalogue_at, workload_at
 from sdd.reference.order import committed_in, precedes
 from sdd.reference.report import report_text
 from sdd.reference.world import Limit, World
-from sdd.model.files import BadInput
 from sdd.teach.grading import why_wrong
 
 PARTS = ("trace", "order", "replies", "shipped", "pending", "copies", "end")
@@ -172,8 +170,8 @@ def print_faults(path, faults, right):
 
 
 def read_grader(catalogue_path, workload_path):
-    cat = refused(catalogue_path, catalogue.read_catalogue, bytes_of(catalogue_path))
-    return Grader(cat, refused(workload_path, lambda data: workload.read_workload(cat, data), bytes_of(workload_path)))
+    cat = catalogue_at(catalogue_path)
+    return Grader(cat, workload_at(workload_path, cat))
 
 
 def main():

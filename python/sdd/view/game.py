@@ -9,9 +9,10 @@ import re
 import tempfile
 from typing import NamedTuple
 
-from sdd.model.files import BadInput
+from sdd.model.files import BadInput, bytes_of, write_text
+from sdd.model.reading import catalogue_at, workload_at
 from sdd.programs import Refused
-from sdd.view.states import Parts, catalogue_data, event_data, read_bytes, read_parts, spelled
+from sdd.view.states import Parts, catalogue_data, event_data, read_parts, spelled
 
 MOST_WORKLOAD = 4 * 2**20
 MOST_EVENTS = 20_000        # of the schedule
@@ -61,15 +62,17 @@ class Game:
         self.programs, self.name, self.folder = programs, name, tempfile.TemporaryDirectory(prefix="play-")
         self.catalogue, self.workload = (os.path.join(self.folder.name, x) for x in ("catalogue.toml", "workload"))
         with open(self.catalogue, "wb") as f:
-            f.write(read_bytes(catalogue))
+            f.write(bytes_of(catalogue))
         self.parts, self.version = Parts([], [], [], []), 0
         self.done, self.undone, self.shown = [], [], []
+        catalogue_at(catalogue)
         self.known = catalogue_data(programs, self.catalogue)
         if workload:
             with open(self.workload, "wb") as f:
-                f.write(read_bytes(workload))
-            programs.tell(["run", self.catalogue, self.workload])       # refuses what is no workload
-            self.parts = read_parts(read_bytes(self.workload).decode())
+                f.write(bytes_of(workload))
+            workload_at(workload, catalogue_at(catalogue))              # or it is refused with its place
+            programs.tell(["run", self.catalogue, self.workload])
+            self.parts = read_parts(bytes_of(self.workload).decode())
         self.data = self.run()
 
     def text(self):
@@ -80,8 +83,7 @@ class Game:
         text = self.text()
         if len(text.encode()) > MOST_WORKLOAD or len(self.parts.events) > MOST_EVENTS:
             raise BadInput("the workload would be too long")
-        with open(self.workload, "w", encoding="utf-8", newline="") as f:
-            f.write(text)
+        write_text(self.workload, text)
         return event_data(self.programs, self.catalogue, self.workload, self.known, MOST_SECONDS)
 
     # Changes, done and taken back.

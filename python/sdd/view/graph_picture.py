@@ -18,7 +18,7 @@ import subprocess
 
 from sdd.command import parser
 from sdd.model.files import BadInput
-from sdd.model.named_catalogue import read_catalogue
+from sdd.model.reading import catalogue_at
 from sdd.programs import add_program, run_program
 from sdd.view.graph_matrix import matrix_of
 from sdd.view import svg
@@ -62,11 +62,11 @@ class Graphviz:
     """The graph as text for Graphviz, each thing at a place that is fixed here."""
 
     def __init__(self, catalogue, edges, protocols):
-        self.places = {name: COLUMN * k for k, name in enumerate(catalogue.classes)}
+        self.places = {x.name: COLUMN * k for k, x in enumerate(catalogue.classes)}
         self.lines = ['graph conflicts {', '  graph [layout="neato", inputscale="72", splines="line"];',
                       '  node [shape="box", style="rounded", fontname="DejaVu Sans", fontsize="10", height="0.3", margin="0.08,0.04"];',
                       '  edge [penwidth="1.6"];']
-        for x in catalogue.classes.values():
+        for x in catalogue.classes:
             self.add_node("r " + x.name, "%s reads" % x.name, x.reads, HEIGHT)
             self.add_node("w " + x.name, "%s writes" % x.name, x.writes, 0)
         self.labels = []        # rectangles that are taken: the middle, half of width and height
@@ -140,20 +140,21 @@ def main():
     add_program(asked)
     asked.add_argument("--into", metavar="FILE", help="the picture's file")
     asked = asked.parse_args()
-    catalogue = read_catalogue(asked.catalogue)
+    catalogue = catalogue_at(asked.catalogue)
     edges = list(edges_of(run_program(asked.program, ["graph", asked.catalogue])))
     protocols = protocols_of(run_program(asked.program, ["table", asked.catalogue]))
     ends = {x for _, names, _ in edges for x in names[:2]}
-    if ends - set(catalogue.classes) or len(catalogue.classes) != sum(kind == "vertical" for kind, _, _ in edges):
+    names = [x.name for x in catalogue.classes]
+    if ends - set(names) or len(catalogue.classes) != sum(kind == "vertical" for kind, _, _ in edges):
         raise BadInput("`graph` printed the graph of another catalogue")
     is_picture = bool(asked.into) and asked.into.endswith(".svg")
     if is_picture and len(catalogue.classes) > MOST_DRAWN:
-        text = matrix_of(list(catalogue.classes), edges, protocols)
+        text = matrix_of(names, edges, protocols)
     else:
         text = Graphviz(catalogue, edges, protocols).text()
         text = svg_of(text) if is_picture else text
     if not asked.into:
         return print(text, end="")
-    with open(asked.into, "w", encoding="utf-8") as f:
+    with open(asked.into, "w", encoding="utf-8", newline="\n") as f:
         f.write(text)
     return None

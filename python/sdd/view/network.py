@@ -60,12 +60,12 @@ def judge_run(report, lines):
 
 def judge_catalogue(report, catalogue, lists):
     """Refuses a catalogue that isn't that of the run; LISTS are the classes of the workload's lists."""
-    copies = {(site, x.name) for x in catalogue.fragments.values() for site in x.copies}
+    copies = {("D%d" % dm, x.name) for x in catalogue.fragments for dm in x.copies}
     if copies != set(report.copies):
         site, name = min(copies ^ set(report.copies))
         raise BadInput("the catalogue isn't that of the run: %s has a copy of %s at %s, the other one has none" % (
             "it" if (site, name) in copies else "the report", name, site))
-    unknown = {x.cls for x in report.records if x.cls} - {"-"} - set(catalogue.classes) - set(lists)
+    unknown = {x.cls for x in report.records if x.cls} - {"-"} - {x.name for x in catalogue.classes} - set(lists)
     if unknown:
         raise BadInput("the catalogue isn't that of the run: it has no class %s; one of a list is known by the WORKLOAD" % min(unknown))
 

@@ -1,6 +1,8 @@
 """Writes a page that shows every packet of a run: one HTML file, which a browser opens from disk.
 
-    sdd page CATALOGUE WORKLOAD --into FILE [--title TEXT] [--program COMMAND] [--inside COMMAND]
+    sdd page CATALOGUE WORKLOAD [--into FILE] [--title TEXT] [--program COMMAND] [--inside COMMAND]
+
+It is opened in the browser, from a temporary file, or with --into written to FILE and not opened.
 
 The page goes through the events of the run, forward and back. It shows what is in flight on each link and
 at which place, what is in each pipe and why it waits, clocks, queues and copies, and says in words what
@@ -17,11 +19,15 @@ import hashlib
 import html
 import json
 import os
+import pathlib
 import pkgutil
 import re
 import sys
+import tempfile
+import webbrowser
 
 from sdd.command import parser
+from sdd.model.files import write_text
 from sdd.programs import add_program
 from sdd.programs import find_programs
 from sdd.view.states import run_data
@@ -73,7 +79,7 @@ def main():
     asked = parser(__doc__)
     asked.add_argument("catalogue", metavar="CATALOGUE")
     asked.add_argument("workload", metavar="WORKLOAD")
-    asked.add_argument("--into", metavar="FILE", required=True, help="the page's file")
+    asked.add_argument("--into", metavar="FILE", help="the page's file; without it a temporary one, which is opened in the browser")
     asked.add_argument("--title", metavar="TEXT", help="what stands above; without it the name of the workload")
     add_programs(asked)
     asked = asked.parse_args()
@@ -81,6 +87,14 @@ def main():
     programs = find_programs(asked.program, asked.inside)
     data = run_data(programs, asked.catalogue, asked.workload, title)
     page, _ = assembled(title, data, SHOWN + ["start.js"], ["style.css"])
-    with open(asked.into, "w", encoding="utf-8") as f:
-        f.write(page)
+    path = asked.into or os.path.join(tempfile.mkdtemp(prefix="sdd-"), title_of_file(title) + ".html")
+    write_text(path, page)
     print(programs.named(), file=sys.stderr)
+    if not asked.into:
+        print(path, flush=True)
+        webbrowser.open(pathlib.Path(path).as_uri())
+
+
+def title_of_file(title):
+    """A name of a file for a title."""
+    return re.sub(r"[^A-Za-z0-9_-]+", "_", title).strip("_") or "run"

@@ -15,15 +15,14 @@ name no others. Under the pointer each mark tells its line of the report.
 import sys
 
 from sdd.command import parser
-from sdd.model.files import BadInput
-from sdd.model.named_catalogue import read_catalogue
-from sdd.model.named_workload import with_lists
+from sdd.model.files import BadInput, bytes_of
+from sdd.model.reading import catalogue_at, workload_at
 from sdd.model.report import read_report
 from sdd.programs import find_programs
 from sdd.view.lanes import APPLIES, PASSES, READS, SERVED, WAITING, Columns, Item, Lane, Trace
 from sdd.view import network
 from sdd.view.page import add_programs
-from sdd.view.states import list_classes, read_bytes, read_parts, read_text
+from sdd.view.states import list_classes, read_parts, read_text
 from sdd.view import svg
 
 MOST_COLUMNS = 120
@@ -57,14 +56,14 @@ class Picture:
     def name_lanes(self):
         """Classes, then data modules: those of the catalogue, or those that the report names."""
         report, trace = self.trace.report, self.trace
-        classes = list(self.catalogue.classes) if self.catalogue else []
+        homes = {x.name: x.site for x in self.catalogue.classes} if self.catalogue else {}
+        classes = list(homes)
         classes += [x for x in dict.fromkeys(map(trace.class_of, trace.submits)) if x not in classes and x != "-"]
         sites = {x.site for x in report.records if x.site} | {site for site, _ in report.copies}
         if self.catalogue:
             sites |= {"D%d" % (k + 1) for k in range(self.catalogue.dms)}
         for cls in classes:
-            site = self.catalogue.classes[cls].site if self.catalogue and cls in self.catalogue.classes else ""
-            self.lanes["class", cls] = Lane(cls, site)
+            self.lanes["class", cls] = Lane(cls, homes.get(cls, ""))
         if any(trace.class_of(x) == "-" for x in trace.submits):
             self.lanes["class", "-"] = Lane("no class", "U")
         for site in sorted(sites, key=lambda x: int(x[1:])):
@@ -347,7 +346,7 @@ def marks_of_run(report, asked):
     programs = find_programs(asked.program, asked.inside)
     first, lines = read_text(programs.tell_inside([asked.catalogue, asked.workload]))
     network.judge_run(report, lines)
-    parts = read_parts(read_bytes(asked.workload).decode())
+    parts = read_parts(bytes_of(asked.workload).decode())
     return network.marks_of(first, lines), [x["name"] for x in list_classes(parts)]
 
 
@@ -363,15 +362,15 @@ def main():
     add_programs(asked)
     asked = asked.parse_args()
     report = read_report(asked.report)
-    catalogue = read_catalogue(asked.catalogue) if asked.catalogue else None
+    catalogue = catalogue_at(asked.catalogue) if asked.catalogue else None
     marks, lists = marks_of_run(report, asked)
     if catalogue:
         network.judge_catalogue(report, catalogue, lists)
     if asked.workload:
-        catalogue = with_lists(catalogue, asked.workload)
+        catalogue = workload_at(asked.workload, catalogue).all_classes(catalogue)
     text = Picture(report, catalogue, marks, window(report, marks, asked.first, asked.last)).draw(asked.title)
     if not asked.into:
         return print(text, end="")
-    with open(asked.into, "w", encoding="utf-8") as f:
+    with open(asked.into, "w", encoding="utf-8", newline="\n") as f:
         f.write(text)
     return None

@@ -12,8 +12,8 @@ import os
 import tempfile
 from typing import NamedTuple
 
-from sdd.model.files import BadInput
-from sdd.model.named_catalogue import read_catalogue
+from sdd.model.files import BadInput, bytes_of
+from sdd.model.reading import catalogue_at, workload_at
 from sdd.programs import MOST_SECONDS
 from sdd.view.replay import Contradiction, Reader
 
@@ -119,21 +119,13 @@ def spelled(parts):
     return "".join(x + "\n" for x in parts.rows + blocks + parts.events + ["end"])
 
 
-def read_bytes(path):
-    try:
-        with open(path, "rb") as f:
-            return f.read()
-    except OSError as fault:
-        raise BadInput("%s: %s" % (path, fault.strerror.lower())) from None
-
-
 def catalogue_data(programs, path):
     """What a page shows of the catalogue."""
     graph, table = (programs.tell([word, path]).split("\n")[:-1] for word in ("graph", "table"))
-    catalogue = read_catalogue(path)
-    relations = [{"name": x.name, "columns": x.columns, "key": x.columns[x.key]} for x in catalogue.relations.values()]
-    fragments = [{"name": x.name, "key": catalogue.relations[x.relation].key} for x in catalogue.fragments.values()]
-    classes = [{"name": x.name, "at": x.site, "list": 0} for x in catalogue.classes.values()]
+    catalogue = catalogue_at(path)
+    relations = [{"name": x.name, "columns": x.names, "key": x.key} for x in catalogue.relations]
+    fragments = [{"name": x.name, "key": catalogue.relation[x.relation].key_place} for x in catalogue.fragments]
+    classes = [{"name": x.name, "at": x.site, "list": 0} for x in catalogue.classes]
     return {"graph": graph, "table": table, "relations": relations, "fragments": fragments, "classes": classes}
 
 
@@ -150,7 +142,7 @@ def event_data(programs, catalogue, workload, known, seconds=MOST_SECONDS):
     reported = parts_of(programs.tell(["run", catalogue, workload], seconds))
     first, lines = read_text(programs.tell_inside([catalogue, workload], seconds))
     judge(first, lines, reported, {x["name"]: x["key"] for x in known["fragments"]})
-    parts = read_parts(read_bytes(workload).decode())
+    parts = read_parts(bytes_of(workload).decode())
     transactions = [dict(zip(("name", "at"), x[0].split(" ")[1:]), lines=x[1:-1]) for x in parts.transactions]
     return {"first": first, "lines": lines, "records": reported.records, "order": reported.order,
             "replies": reported.replies, "pending": reported.pending, "transactions": transactions, "events": parts.events,
@@ -158,11 +150,12 @@ def event_data(programs, catalogue, workload, known, seconds=MOST_SECONDS):
 
 
 def run_data(programs, catalogue, workload, name):
-    """All that a page shows of a run: the files are read once, and both programs get copies of them."""
+    """All that a page shows of a run: both programs get copies of the files as they were when they were accepted."""
+    workload_at(workload, catalogue_at(catalogue))      # or it is refused with its place
     with tempfile.TemporaryDirectory(prefix="page-") as folder:
         paths = [os.path.join(folder, x) for x in ("catalogue.toml", "workload")]
         for path, given in zip(paths, (catalogue, workload)):
-            content = read_bytes(given)
+            content = bytes_of(given)
             with open(path, "wb") as f:
                 f.write(content)
         return {"name": name, **event_data(programs, *paths, catalogue_data(programs, paths[0]))}
