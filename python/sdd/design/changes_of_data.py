@@ -3,6 +3,7 @@
     for change in changes_of_data(draft, distances): ..         # Change(kind, words, draft, about)
 """
 import itertools
+import re
 
 from sdd.design.changes import Change
 from sdd.design.drafts import WORD, fit, listed, nearest, reads, set_reads, writes
@@ -89,6 +90,8 @@ def boundaries(points):
 
 def round_key(below, first):
     """The roundest key above `below` and up to `first`."""
+    if below < 0 <= first:
+        return 0
     power = 1
     while first // (power * 10) * power * 10 > below:
         power *= 10
@@ -219,7 +222,9 @@ def one_row(draft, distances):
             continue
         if len(a["columns"]) + len(b["columns"]) - 1 > 16:
             continue
-        yield Change("one row", "%s and %s in one row: they have the same keys, and are read together" % (a["name"], b["name"]), joined_rows(draft, a, b))
+        made = joined_rows(draft, a, b)
+        if made:
+            yield Change("one row", "%s and %s in one row: they have the same keys, and are read together" % (a["name"], b["name"]), made)
 
 
 def joined_rows(draft, a, b):
@@ -239,7 +244,9 @@ def joined_rows(draft, a, b):
     places = [[c["name"] for c in x["columns"]].index(x["key"]) for x in (first, second)]
     made.script.rows = joined_lines(made.script.rows, first["name"], second["name"], name, places)
     for x in made.script.transactions:
-        x.lines = [renamed(line, old, new) for line in x.lines]
+        x.lines = joined_updates([renamed(line, old, new) for line in x.lines], name, taken)
+        if x.lines is None:
+            return None
     lows = {f.get("from"): f["name"] for f in made.parts["fragment"] if f["relation"] == first["name"]}
     gone = [(f["name"], lows[f.get("from")]) for f in made.parts["fragment"] if f["relation"] == second["name"]]
     for f in made.parts["fragment"]:
@@ -250,6 +257,22 @@ def joined_rows(draft, a, b):
     made.parts["relation"] = [x for x in made.parts["relation"] if x["name"] != b["name"]]
     first.update({"name": name, "columns": columns, "key": key})
     return made
+
+
+def joined_updates(lines, relation, key):
+    """Updates of one row as one: of two the later would win. None where two might meet one row in another way."""
+    begin, made, at = "update %s set " % relation, [], {}
+    for line in lines:
+        sets, _, where = line.removeprefix(begin).partition(" where ")
+        if not line.startswith(begin):
+            made.append(line)
+        elif where in at:
+            made[at[where]] = "%s%s %s%s" % (begin, made[at[where]].removeprefix(begin).partition(" where ")[0], sets, " where " * bool(where) + where)
+        else:
+            at[where] = len(made)
+            made.append(line)
+    one_key = [bool(re.fullmatch(r"1\.%s = -?\d+" % key, x)) for x in at]
+    return made if len(at) < 2 or all(one_key) else None
 
 
 def joined_lines(rows, a, b, name, places):

@@ -33,10 +33,11 @@ class TimedRun(Modules, Stores):
         self.service, self.free, self.last_served = times.service, [0.0] * times.size, [0.0] * (times.size * times.size)
         self.heap, self.count, self.now, self.messages, self.era = [], 0, 0.0, 0, 0
         self.told, self.event = {}, 0
+        self.has_settles, self.quiet = len(phases) > 1, 0.0     # quiet: when the last acknowledgement has come
         self.trace, self.schedule, self.moments = ([], [], []) if is_traced else (None, None, None)
         self.build()
         for phase in phases:
-            begin = self.now
+            begin = max(self.now, self.quiet)
             for time, event in phase:
                 self.plan_event(begin + time, event)
             self.carry_out()
@@ -75,6 +76,8 @@ class TimedRun(Modules, Stores):
                 self.trace_delivery(sender, to, message)
             if message[0] == ACK:
                 continue
+            if self.has_settles:
+                self.quiet = max(self.quiet, self.now + self.base[to * self.size + sender])
             if to > tms:
                 self.at_store(self.stores[to - tms - 1], sender, message)
             else:
