@@ -155,7 +155,7 @@ def kept_at(draft, copies, tm, distances):
 def refit(draft, made, parts, distances):
     """The classes again, by what their transactions touch now; those that touch several parts get a class of their own."""
     segment = {part: k for new in parts.values() for k, part in enumerate(new)}
-    bare = made.changed()           # the footprints don't depend on the classes
+    bare = made                     # the footprints don't depend on the classes
     classes = []
     for cls in draft.classes():
         names = draft.members()[cls["name"]]

@@ -43,6 +43,12 @@ class Script:
                 (self.rows if found[0] == "row" else self.events).append(line)
         self.events = [x for x in self.events if x.split(" ")[0] not in ("deliver", "lose", "repeat", "resend")]
 
+    def copied(self):
+        """Another script with the same lines: a transaction gets other lines, and never has them changed in place."""
+        made = copy.copy(self)
+        made.rows, made.events, made.transactions = list(self.rows), list(self.events), [copy.copy(x) for x in self.transactions]
+        return made
+
     def text(self):
         lines = list(self.rows)
         for x in self.transactions:
@@ -50,12 +56,19 @@ class Script:
         return "".join(line + "\n" for line in lines + self.events)
 
 
+def copied(value):
+    """The parts of a catalogue once more."""
+    if isinstance(value, dict):
+        return {k: copied(x) for k, x in value.items()}
+    return [copied(x) for x in value] if isinstance(value, list) else value
+
+
 class Draft:
     def __init__(self, parts, script, works):
         self.parts, self.script, self.works, self.made = parts, script, works, {}
 
     def changed(self):
-        return Draft(copy.deepcopy(self.parts), copy.deepcopy(self.script), self.works)
+        return Draft(copied(self.parts), self.script.copied(), self.works)
 
     def catalogue_text(self):
         return format_catalogue(self.parts)
@@ -71,14 +84,21 @@ class Draft:
 
     def make_design(self):
         cat = catalogue_of(self.parts)
-        text = self.script.text()
-        key = str(self.parts["relation"]), cat.tms, text        # what the workload is read by
+        key = self.work_key()
         if key not in self.works:
             try:
-                self.works[key] = workload.read_workload(cat, text.encode())
+                self.works[key] = workload.read_workload(cat, self.script.text().encode())
             except words.Fault as fault:
                 raise BadInput(fault.line) from None
         return Design("", "", cat, self.works[key])
+
+    def work_key(self):
+        """What the workload is read by."""
+        return self.once("work_key", lambda: hash((str(self.parts["relation"]), self.parts["tms"], self.script.text())))
+
+    def key(self):
+        """What tells it from other drafts."""
+        return hash((str(self.parts), self.work_key()))
 
     # What stands in the catalogue.
 
@@ -128,8 +148,10 @@ class Draft:
     def footprints(self):
         """Transaction -> the fragments that it reads, and those that it writes."""
         cat = self.design().cat
-        return self.once("footprints", lambda: {
-            x.name: (plain.fragments_read(cat, x), plain.fragments_written(cat, x)) for x in self.design().work.txns})
+        key = "footprints", self.work_key(), str([(f.name, f.relation, f.low, f.high) for f in cat.fragments])
+        if key not in self.works:
+            self.works[key] = {x.name: (plain.fragments_read(cat, x), plain.fragments_written(cat, x)) for x in self.design().work.txns}
+        return self.works[key]
 
     def undeclared(self):
         return sum(self.class_of()[x.name] is None for x in self.submitted())

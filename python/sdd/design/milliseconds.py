@@ -17,7 +17,6 @@ from sdd.design.timed import TimedRun
 from sdd.model import workload
 from sdd.model.files import BadInput, write_text
 from sdd.model.reading import catalogue_at, workload_at
-from sdd.reference import graph
 
 KEPT = ("submit", "tick", "down", "up")
 MOST_EVENTS = workload.MAX_EVENTS
@@ -61,7 +60,7 @@ class Design:
 
     def protocols(self):
         made = {"P1": 0, "P2": 0, "P3": 0}
-        for entry in graph.protocol_table(self.cat):
+        for entry in self.plans.table:
             if entry.edge.kind == "diagonal":
                 made[entry.protocol] += 1
         return made

@@ -45,7 +45,8 @@ class Plans:
     def __init__(self, cat, work):
         self.cat, self.work, self.whole = cat, work, work.all_classes(cat)
         self.eras = redeclare.eras(cat, work.lists)
-        self.pairs = [graph.diagonals_by_pair(graph.protocol_table(era)) for era in self.eras]
+        tables = [graph.protocol_table(era) for era in self.eras]
+        self.table, self.pairs = tables[0], [graph.diagonals_by_pair(x) for x in tables]
         self.made = {}
         self.copies = {f.name: tuple(sorted(f.copies)) for f in cat.fragments}
         self.homes = [0] + [c.tm for c in self.whole.classes]

@@ -30,7 +30,7 @@ from sdd.design.milliseconds import explore_times
 from sdd.design.times import demand_sites, near_of, number_of, read_times, service_of
 from sdd.model.files import BadInput, write_text
 
-TRIED, FOLLOWED = 24, 2     # of a level's changes so many of the least P3 and P2 are run, and so many of the fastest followed
+TRIED, RUN_AGAIN, FOLLOWED = 24, 16, 2      # of a level's changes so many of the least P3 and P2 are run once, so many more often, and so many followed
 ALWAYS_RUN = ("copy", "move", "cut", "join", "one row", "trim", "order", "split")
 ALTERS = ("read less", "steps")
 NEVER_FOLLOWED = ("read less", "undeclared")
@@ -67,7 +67,7 @@ class Search:
             if change.kind in without:
                 continue
             try:
-                key = change.draft.catalogue_text() + change.draft.script.text()
+                key = change.draft.key()
                 if key in self.seen or change.kind != "undeclared" and change.draft.undeclared() > tried.draft.undeclared():
                     continue
                 self.seen.add(key)
@@ -84,8 +84,9 @@ class Search:
         for k, (_, _, change) in enumerate(found):
             if k < TRIED or change.kind in ALWAYS_RUN:
                 self.tell("%s changes so far; %d of %d further ones" % (len(tried.steps) or "no", k, len(found)))
-                made.append(self.run(change.draft, tried.steps + (change,), runs))
-        return made
+                made.append(self.run(change.draft, tried.steps + (change,), 1))
+        fast, few = sorted(made, key=lambda x: x.mean)[:RUN_AGAIN], sorted(made, key=lambda x: x.counts[:2])[:RUN_AGAIN // 4]
+        return [self.run(x.draft, x.steps, runs) for x in fast + [x for x in few if x not in fast]]
 
     def follow(self, begin, found):
         """The best design that several changes make: at each level the fastest are followed, and that of least P3 and P2."""
