@@ -189,7 +189,7 @@ def refusals(browser, programs, folder, catalogue, workload):
     with Served(browser, programs, catalogue, None, folder) as served:
         served.write(["txn t T1", "query 1.number from seat", "put seat 1", "done"])
         served.click("#add-submit")
-        same("what is reported", served.reported_text(), "line 3, `put seat 1`: WrongKind (a value of another kind than its column, or another number of values)")
+        same("what is reported", served.reported_text().startswith("line 3, `put seat 1`: WrongKind: seat has "), True)
         served.fill("#txn-text", "query 1.number from seats")
         served.click("#add")
         same("what is reported", served.reported_text().startswith("line 2, `query 1.number from seats`: UnknownName"), True)

@@ -17,6 +17,7 @@ from sdd.model.toml import NotToml, read_toml
 from sdd.model.words import Fault
 from sdd.model.workload import read_workload
 from sdd.programs import ROOT
+from sdd.reference.made import BANK
 from sdd.reference import plain
 
 EXAMPLES = sorted(glob.glob(os.path.join(ROOT, "examples", "*", "catalogue.toml")))
@@ -121,6 +122,10 @@ class Catalogues(unittest.TestCase):
         for path in EXAMPLES:
             cat = read_catalogue(content(path))
             self.assertEqual(read_catalogue(catalogue_text(cat).encode()), cat, path)
+
+    def test_bank_with_comments(self):
+        for path in ("examples/bank/catalogue.toml", "crates/sdd1/data/bank.toml"):
+            self.assertEqual(read_catalogue(content(os.path.join(ROOT, path))), BANK)
 
 
 class Workloads(unittest.TestCase):

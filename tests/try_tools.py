@@ -22,6 +22,9 @@ TOOLS = os.path.join(TOP, "tools")
 CAT, WORK, REPORT = ("examples/two_protocols/" + x for x in ("catalogue.toml", "workload", "report"))
 P = ["--program", "PROGRAM"]
 GOOD = [
+    ["check", CAT] + P, ["run", CAT, WORK, "--json"] + P, ["verify", CAT, WORK, REPORT] + P, ["inside", CAT, WORK, "--program", "reference"],
+    ["make", "5", "20"] + P, ["reference", "table", CAT], ["graph-picture", CAT] + P, ["page", CAT, WORK] + P, ["make_pyz.py", "ROOM/sdd.pyz"],
+    ["link_documents.py", "--check"], ["find-broken", "all-p1", "examples/broken/all-p1/catalogue.toml", "examples/broken/all-p1/workload", "0", "1"],
     ["make-workload", "bank", "3", "--into", "ROOM/new/bank"],
     ["make-workload", "tpcc", "3", "--design", "owners", "--into", "ROOM/tpcc"],
     ["explore", CAT, WORK, "--runs", "3", "--picture", "ROOM/picture.svg"] + P,
@@ -48,6 +51,7 @@ GOOD = [
     ["graph-picture", "examples/ycsb/catalogue.toml", "--into", "ROOM/matrix.svg"] + P, ["check_inside.py", "0", "3"],
 ]
 BAD = [
+    ["check"], ["check", "/no/a"] + P, ["check", CAT, "--program", "/no/p"], ["check", "examples", "-q"] + P, ["make", "x", "1"] + P,
     ["make-workload"], ["make-workload", "nokind", "--into", "ROOM/x"], ["make-workload", "bank", "-5", "--into", "ROOM/x"],
     ["make-workload", "bank", "9999", "--into", "ROOM/x"], ["make-workload", "bank", "3", "--into", "/proc/x"],
     ["make-workload", "tpcc", "--design", "no", "--into", "ROOM/x"], ["make-workload", "bank", "--design", "no", "--into", "ROOM/x"],

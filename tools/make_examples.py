@@ -54,7 +54,7 @@ def make(name, program, folder, check):
     made, more = ["report", "picture.svg"], ["--program", program] if program else []
     if name in MADE:
         catalogue, workload = write_workload(folder, name, MADE[name])
-        made += ["catalogue.toml", "workload"]
+        made += ["workload"] if name == "bank" else ["catalogue.toml", "workload"]      # that of the bank has comments, and is kept by hand
     if name == "sql":
         draw("from-sql", [os.path.join(mine, "bank.sql"), "--into", folder])
         made += ["catalogue.toml", "workload"]

@@ -1,7 +1,7 @@
 #!/usr/bin/env python3
 """Runs a command of the gate and prints what each crate took of it, in processor time and memory.
 
-    tools/measure_gate.py [--log FILE] [--into docs/GATE.md] [-- COMMAND ..]
+    tools/measure_gate.py [--log FILE] [--into FILE] [-- COMMAND ..]
 
 COMMAND is `rt ci` if left out, at the top of the repository. While it runs, the processes below it are looked at
 twice a second; what a process did after the last look is missing, half a second at most. A process belongs to the

@@ -22,10 +22,10 @@ import tempfile
 from sdd.command import parser
 from sdd.explain.refusals import Given, print_refusal, refusal_of
 from sdd.explain.rules import WITHOUT_FILE
-from sdd.model.files import BadInput, write_text
-from sdd.model.report import read_report
+from sdd.model.files import BadInput
+from sdd.model.report import report_of
 from sdd.model.words import number_between
-from sdd.programs import add_program, asked_within, find_programs, named, report_by
+from sdd.programs import add_program, asked_within, find_programs, named, report_by, report_program
 
 NAMES = {"check": ["CAT"], "graph": ["CAT"], "table": ["CAT"], "advise": ["CAT"], "run": ["CAT", "WORK"], "plain": ["CAT", "WORK"],
          "inside": ["CAT", "WORK"], "verify": ["CAT", "WORK", "REPORT"], "control": ["FILE"], "make": ["SEED", "N"]}
@@ -116,11 +116,11 @@ def main():
         programs = find_programs(asked.program, asked.inside)
         command = programs.inside if word == "inside" else programs.sdd1 + [word]
         if not asked.quiet and not (asked.inside if word == "inside" else asked.program):
-            report_by("by %s" % named(programs.inside if word == "inside" else programs.sdd1))
+            report_program(programs.inside if word == "inside" else programs.sdd1)
         answer = answer_of(command, [x.path for x in files] or words)
         if answer.status:
             return refuse(answer, files)
-        text = as_json(word, answer.text.decode(), room).encode() if getattr(asked, "json", False) else answer.text
+        text = as_json(word, answer.text.decode()).encode() if getattr(asked, "json", False) else answer.text
     return put(text) or int(word == "verify" and answer.text.startswith(b"no"))
 
 
@@ -141,11 +141,9 @@ def put(text):
 
 # JSON.
 
-def as_json(word, text, room):
+def as_json(word, text):
     if word == "run":
-        path = os.path.join(room, "report")
-        write_text(path, text)
-        shown = report_data(read_report(path))
+        shown = report_data(report_of("the report", text))
     else:
         shown = counts_of(text) if word == "check" else verdict_of(text)
     return json.dumps(shown, ensure_ascii=False, indent=1) + "\n"

@@ -83,6 +83,9 @@ def main(words):
     if words[0] in ("--version", "version"):
         print("\n".join(version_lines()))
         return 0
+    if words[0] == "--commands":        # for completions of shells
+        print("\n".join("%s\t%s" % (word, x.does) for word, x in COMMANDS.items()))
+        return 0
     if words[0] not in COMMANDS:
         guess = difflib.get_close_matches(words[0], COMMANDS, 1, 0.6)
         print("sdd: there is no command %s; %s" % (words[0], "did you mean %s?" % guess[0] if guess else "`sdd --help` lists them"), file=sys.stderr)

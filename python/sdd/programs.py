@@ -3,7 +3,7 @@
     program = Program(None)                 text = program.text(["run", catalogue, workload])
     programs = find_programs(None, None)    text = programs.tell_inside([catalogue, workload])
 
-They are those that were given; else the proved ones, built in this clone by the gate or installed; else an unproved
+They are those that were given, where `reference` is the reference of this package; else the proved ones, built in this clone by the gate or installed; else an unproved
 build that is installed; else the reference of this package, which needs Python alone and is slower.
 """
 import glob
@@ -22,6 +22,7 @@ ROOT = os.path.dirname(os.path.dirname(PACKAGE))        # of the clone, where th
 COMMANDS = ["check", "graph", "table", "advise", "plain", "run", "verify", "control", "make"]
 REFERENCE = "the reference"
 MOST_SECONDS = 600
+SAID: list[str] = []        # which programs are said to answer
 
 
 class Outcome(NamedTuple):
@@ -66,6 +67,8 @@ def named(words):
 
 def words_of(command, option):
     """The words of a command that was given, which must be there."""
+    if command == "reference":
+        return own_command("reference", *(["inside"] if option == "--inside" else []))
     words = shlex.split(command)
     if not words or shutil.which(words[0]) is None:
         raise BadInput("%s: no program %s" % (option, command))
@@ -76,15 +79,23 @@ def report_by(what):
     print("%s: %s" % (os.path.basename(sys.argv[0]), what), file=sys.stderr)
 
 
+def report_program(words):
+    """Says which program answers, once."""
+    line = "by %s" % (named(words) if words else REFERENCE)
+    if line not in SAID:
+        SAID.append(line)
+        report_by(line)
+
+
 # One program, asked many times.
 
 class Program:
     """`sdd1`, however it is run. Where COMMAND is None it is looked for, and a line says what was found."""
 
     def __init__(self, command=None):
-        self.command = command if command is not None else found("sdd1")
+        self.command = None if command == "reference" else command if command is not None else found("sdd1")
         if command is None:
-            report_by("by %s" % (named(self.command) if self.command else REFERENCE))
+            report_program(self.command)
 
     def ask(self, words):
         """What the program answers to these words."""
@@ -133,7 +144,7 @@ def run_program(command, words):
 
 def add_program(asked):
     """The option --program, which each command that runs `sdd1` has."""
-    asked.add_argument("--program", metavar="COMMAND", help="a built `sdd1`")
+    asked.add_argument("--program", metavar="COMMAND", help="a built `sdd1`, or `reference`")
 
 
 # Both programs, for what shows the inside of a run.
@@ -182,5 +193,5 @@ def find_programs(program, inside):
     sdd1 = words_of(program, "--program") if program else found("sdd1") or own_command("reference")
     if inside:
         return Programs(sdd1, words_of(inside, "--inside"))
-    near = beside(sdd1) if program else None
+    near = own_command("reference", "inside") if program == "reference" else beside(sdd1) if program else None
     return Programs(sdd1, near or found("sdd1_inside") or own_command("reference", "inside"))

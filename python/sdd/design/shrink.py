@@ -12,8 +12,7 @@ a catalogue and a workload after its words, and says yes by its status 0.
 Events, transactions, rows, class lists, statements and conditions are left out as long as the line
 stays; then classes, what they read and write, copies, relations and modules of the catalogue. What is left is
 the least in this sense: the line goes with each single one of these. FOLDER gets the files `catalogue.toml`
-and `workload`. The program is called some hundred times: by the reference that takes minutes, where a run takes
-a second.
+and `workload`. The program is called some hundred times; the reference answers within this process.
 """
 import hashlib
 import os

@@ -9,8 +9,8 @@ one such order and ends with 0; or it prints that there is none, and ends with 1
 import itertools
 
 from sdd.command import parser
-from sdd.model.reading import catalogue_at, workload_at
 from sdd.model.files import BadInput
+from sdd.model.reading import catalogue_at, workload_at
 from sdd.model.report import read_report
 from sdd.reference.plain import serial
 

@@ -19,8 +19,8 @@ from sdd.design.schedules import Manner, draw_schedule, list_links, read_load
 from sdd.judge.check_history import Graph, read_history
 from sdd.judge.planting import KINDS
 from sdd.judge.to_elle import Run, history
-from sdd.model.files import BadInput, write_text
 from sdd.model.catalogue import Catalogue
+from sdd.model.files import BadInput, write_text
 from sdd.model.reading import catalogue_at, workload_at
 from sdd.model.report import read_report
 from sdd.model.workload import Workload

@@ -26,8 +26,8 @@ import sys
 from typing import NamedTuple
 
 from sdd.command import parser
-from sdd.model.files import BadInput, write_text
 from sdd.judge.effect import effect, first_database, read_set, reads
+from sdd.model.files import BadInput, write_text
 from sdd.model.reading import catalogue_at, workload_at
 from sdd.model.report import read_report
 

@@ -145,7 +145,12 @@ def take_form(lines: Lines, form: str, what: str) -> tuple[str, ...]:
 
 
 def read_report(path: str) -> Report:
-    lines = Lines(path, text_of(path))
+    return report_of(path, text_of(path))
+
+
+def report_of(path: str, text: str) -> Report:
+    """The report that a text is; PATH is its name in refusals."""
+    lines = Lines(path, text)
     report = Report()
     while lines.head().isdigit():
         record = record_of(len(report.records), lines.take())

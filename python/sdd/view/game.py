@@ -9,6 +9,7 @@ import re
 import tempfile
 from typing import NamedTuple
 
+from sdd.explain.refusals import Given, refusal_of
 from sdd.model.files import BadInput, bytes_of, write_text
 from sdd.model.reading import catalogue_at, workload_at
 from sdd.programs import Refused
@@ -23,16 +24,6 @@ NAME, NUMBER = r"[A-Za-z][A-Za-z0-9_]{0,31}", r"[1-9][0-9]{0,9}"
 EVENT = re.compile("(?:submit {n}|(?:deliver|lose|repeat) {s} {s} {k}|resend {s} {s}|tick T{m} {k}|(?:down|up) D{m}|settle|redeclare)".format(
     n=NAME, s=SITE, k=NUMBER, m=MODULE))
 FAULT = re.compile(r"workload: line (\d+): (.+)")
-HINTS = {
-    "BadLine": "no form of a line; words with one space between two, texts between quotes",
-    "BadNumber": "a number is misspelled or out of range",
-    "UnknownName": "there is no such name",
-    "BadEvent": "no such site, no link between the two, or the event may not stand there",
-    "WrongKind": "a value of another kind than its column, or another number of values",
-    "KeyChanged": "an update may not change the key",
-    "DuplicateTxn": "a transaction has this name already",
-    "SubmittedTwice": "it was submitted already",
-}
 
 
 class Change(NamedTuple):
@@ -152,7 +143,8 @@ class Game:
         if not found:
             return "limit: the run would have too many events" if fault == "limit" else fault
         rule, line = found[2], int(found[1])
-        reported = "%s (%s)" % (rule, HINTS[rule]) if rule in HINTS else rule
+        refusal = refusal_of(fault, [Given(self.catalogue), Given(self.workload)])
+        reported = "; ".join(["%s: %s" % (rule, refusal.cause.what)] + [x for x in refusal.helps if x.startswith("did you mean")])
         before = len(self.parts.rows) + sum(map(len, self.parts.transactions))
         if change.transactions and before - len(change.transactions[0]) < line <= before:
             place = line - before + len(change.transactions[0])

@@ -67,7 +67,7 @@ class Graphviz:
                       '  node [shape="box", style="rounded", fontname="DejaVu Sans", fontsize="10", height="0.3", margin="0.08,0.04"];',
                       '  edge [penwidth="1.6"];']
         for x in catalogue.classes:
-            self.add_node("r " + x.name, "%s reads" % x.name, x.reads, HEIGHT)
+            self.add_node("r " + x.name, "%s reads" % x.name, dict(x.reads), HEIGHT)
             self.add_node("w " + x.name, "%s writes" % x.name, x.writes, 0)
         self.labels = []        # rectangles that are taken: the middle, half of width and height
         joined = {}             # reader, writer -> block, fragments: their diagonals lie in one block

@@ -92,7 +92,13 @@ def main():
     print(programs.named(), file=sys.stderr)
     if not asked.into:
         print(path, flush=True)
-        webbrowser.open(pathlib.Path(path).as_uri())
+        if has_screen():
+            webbrowser.open(pathlib.Path(path).as_uri())
+
+
+def has_screen():
+    """Whether a browser has a window: without one, Python would take one that fills the terminal."""
+    return sys.platform in ("win32", "darwin") or any(x in os.environ for x in ("DISPLAY", "WAYLAND_DISPLAY", "BROWSER"))
 
 
 def title_of_file(title):

@@ -14,6 +14,8 @@ from typing import NamedTuple
 
 from sdd.model.files import BadInput, bytes_of
 from sdd.model.reading import catalogue_at, workload_at
+from sdd.model.report import report_of
+from sdd.model.words import value_word
 from sdd.programs import MOST_SECONDS
 from sdd.view.replay import Contradiction, Reader
 
@@ -52,25 +54,15 @@ class Reported(NamedTuple):
     copies: dict            # site and fragment -> rows as they are spelled
 
 
-def parts_of(report):
-    lines = report.split("\n")[:-1]
-    order = next((k for k, x in enumerate(lines) if x.split(" ")[0] == "order"), None)
-    if order is None:
-        raise BadInput("`run` printed no report")
-    made, rows = Reported(lines[:order], lines[order].split(" ")[1:], [], [], {}), []
-    for line in lines[order + 1:]:
-        kind, _, rest = line.partition(" ")
-        if kind == "reply":
-            name, _, how = rest.partition(" ")
-            rows = [] if how == "ok" else [how]
-            made.replies.append((name, rows))
-        elif kind == "copy":
-            rows = made.copies.setdefault(tuple(rest.split(" ")[:2]), [])
-        elif kind == "pending":
-            made.pending.append(rest)
-        elif kind == "row":
-            rows.append(rest)
-    return made
+def parts_of(text):
+    report = report_of("what `run` printed", text)
+    replies = [(name, [row_word(row) for rows in x.queries for row in rows] if x.kind == "ok" else [x.kind]) for name, x in report.replies.items()]
+    copies = {place: [row_word(row) for row in rows] for place, rows in report.copies.items()}
+    return Reported([x.line for x in report.records], report.order, replies, [" ".join([x.txn, x.kind, *x.words]) for x in report.pending], copies)
+
+
+def row_word(row):
+    return " ".join(map(value_word, row))
 
 
 def judge(first, lines, reported, keys):

@@ -71,7 +71,7 @@ Object.assign(Play.prototype, {
     }
     map.append(menu);
     menu.style.left = Math.max(2, Math.min(place.left - origin.left, map.clientWidth - menu.offsetWidth - 4)) + map.scrollLeft + "px";
-    menu.style.top = place.bottom - origin.top + map.scrollTop + 4 + "px";
+    menu.style.top = Math.max(2, place.top - origin.top - menu.offsetHeight - 3) + map.scrollTop + "px";        // above: below lies the next lane
   },
 
   compose() {
