@@ -82,7 +82,7 @@ def boundaries(points):
             return None
         wrong = lambda k: sum(x >= k for x in below) + sum(x < k for x in above)  # noqa: E731
         best = min(candidates, key=wrong)
-        if wrong(best) > min(len(below), len(above)) / 3:
+        if wrong(best) > (len(below) + len(above)) / 3:
             return None
         keys.append(round_key(max([x for x in below + above if x < best]), best))
     return (keys, order) if keys and keys == sorted(set(keys)) else None

@@ -13,7 +13,7 @@ from sdd.view import svg
 STYLE = """
 text{font:11px sans-serif;fill:#222} .head{font-weight:bold} .small{font-size:9px;fill:#666} .frame{fill:none;stroke:#bbb}
 .grid{stroke:#ddd;stroke-width:1} .first{fill:none;stroke:#1f77b4;stroke-width:1.6} .second{fill:none;stroke:#d9730d;stroke-width:1.6}
-.dot1{fill:#1f77b4} .dot2{fill:#d9730d}
+.dot1,text.told1{fill:#1f77b4} .dot2,text.told2{fill:#d9730d} text.told1,text.told2{font-size:9px}
 """
 LEFT, PANEL, GAP, ROW, HIGH, TOP = 110, 250, 22, 104, 66, 62
 POINTS = 120
@@ -50,15 +50,14 @@ def panel(groups, field, scale, left, bottom):
         shapes += [svg.shape("line", "grid", x1=x, y1=bottom - HIGH, x2=x, y2=bottom), svg.label(x, bottom + 10, "%g" % ms, "small", text_anchor="middle")]
     for k, group in enumerate(groups):
         times = getattr(group, field) if group else []
+        told = " ".join(shown(percentile(times, p)) for p in PARTS) if times else "none"
+        shapes.append(svg.label(left + k * PANEL, bottom - HIGH - 4, told, "told%d" % (k + 1), text_anchor=("start", "end")[k]))
         if not times:
-            shapes.append(svg.label(left + PANEL - 4, bottom - 6 - 11 * (len(groups) - 1 - k), "none", "small", text_anchor="end"))
             continue
         shapes.append(curve(times, scale, left, bottom, ("first", "second")[k]))
         for p in PARTS:
             ms = percentile(times, p)
             shapes.append(svg.shape("circle", "dot%d" % (k + 1), "p%d: %s ms" % (p, shown(ms)), cx=left + scale.x(ms), cy=bottom - HIGH * p / 100, r=2.5))
-        told = " ".join(shown(percentile(times, p)) for p in PARTS)
-        shapes.append(svg.label(left + PANEL - 4, bottom - 6 - 11 * (len(groups) - 1 - k), told, "small", text_anchor="end"))
     return shapes
 
 
@@ -67,15 +66,15 @@ def draw_curves(designs):
     names = list(dict.fromkeys(x for groups in both for x in groups if x != ALL)) + [ALL]
     shapes, width = [], LEFT + len(FIELDS) * (PANEL + GAP)
     for k, design in enumerate(designs):
-        shapes.append(svg.shape("rect", "dot%d" % (k + 1), x=10 + 420 * k, y=8, width=10, height=10))
-        shapes.append(svg.label(26 + 420 * k, 17, "%s, %d runs" % (short(design.name), design.latencies.runs)))
+        shapes.append(svg.shape("rect", "dot%d" % (k + 1), x=10 + 260 * k, y=8, width=10, height=10))
+        shapes.append(svg.label(26 + 260 * k, 17, "%s, %d runs" % (short(design.name), design.latencies.runs)))
     for n, (title, field) in enumerate(FIELDS):
         left = LEFT + n * (PANEL + GAP)
         scale = Scale([x for groups in both for group in groups.values() for x in getattr(group, field)])
-        shapes.append(svg.label(left, TOP - 22, "%s, ms: how many of 100 took at most so long" % title if n == 0 else "%s, ms" % title, "head"))
-        shapes.append(svg.label(left + PANEL, TOP - 22, "p50 p95 p99", "small", text_anchor="end"))
+        shapes.append(svg.label(left, TOP - 24, "%s, ms" % title, "head"))
         for row, name in enumerate(names):
             shapes += panel([x.get(name) for x in both], field, scale, left, TOP + ROW * row + HIGH)
+    shapes.append(svg.label(width - GAP, 17, "how many of 100 took at most so long; dots and numbers: p50, p95, p99", "small", text_anchor="end"))
     for row, name in enumerate(names):
         shapes.append(svg.label(10, TOP + ROW * row + HIGH / 2, name[:18], "head"))
     return svg.whole(width, TOP + ROW * len(names), STYLE, shapes)

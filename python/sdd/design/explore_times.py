@@ -58,7 +58,7 @@ def share(runs, program):
 def explore(asked, tell):
     designs = [Design.of_files(*pair) for pair in zip(asked.files[0::2], asked.files[1::2])]
     distances = times_of(asked)
-    demand_sites(distances, [x.cat for x in designs])
+    demand_sites(asked.near, asked.service, [x.cat for x in designs])
     if asked.by is None:
         asked.by = "kind" if len(designs) == 2 and kinds_of_designs(designs) <= MANY_KINDS else "class"
     program = Program(asked.program)

@@ -63,10 +63,6 @@ class Distances(NamedTuple):
         service = [self.service.get(x, self.service.get(x[0], 0.0)) for x in sites]
         return Times(len(sites), [self.between(a, b) for a in sites for b in sites], self.jitter, service if any(service) else None)
 
-    def sites(self):
-        pairs = [x for pair in self.apart for x in pair]
-        return {x for x in [*self.places, *pairs, *self.service] if SITE.fullmatch(x)}
-
     def words(self):
         """What the times are, in one line."""
         pairs = {"%s" % "-".join(sorted(pair)): ms for pair, ms in self.apart.items()}
@@ -155,10 +151,11 @@ def every_of(arrivals, every, path):
     return amount(arrivals.get("every", EVERY), "%s: every" % path)
 
 
-def demand_sites(distances, cats):
-    """Refuses a site that none of the catalogues has."""
+def demand_sites(near, service, cats):
+    """Refuses a site of the command line that none of the catalogues has; a file may have more sites than one design needs."""
     have = {"U"} | {"T%d" % (k + 1) for cat in cats for k in range(cat.tms)} | {"D%d" % (k + 1) for cat in cats for k in range(cat.dms)}
-    strange = sorted(distances.sites() - have)
+    named = [x for pair, _ in near for x in pair.split("-")] + [x for x, _ in service if x not in ("T", "D")]
+    strange = sorted(set(named) - have)
     if strange:
         raise BadInput("the times speak of %s, which no catalogue has" % strange[0])
 

@@ -209,7 +209,7 @@ def distances_of(asked, draft):
         parts = draft.parts
         near = [("T%d-D%d" % (k, k), 0.2) for k in range(1, min(parts["tms"], parts["dms"]) + 1)]
     distances = read_times(asked.times, asked.link, near, asked.service, None, asked.every)
-    demand_sites(distances, [draft.design().cat])
+    demand_sites(asked.near, asked.service, [draft.design().cat])
     return distances
 
 
