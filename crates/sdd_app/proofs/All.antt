@@ -35,7 +35,7 @@ pub use Rattle.sdd_protocol.specs.declared.entry.Entry.{Entry}
 pub use Rattle.sdd_verified.proofs.MadeSettles.{made_summed}
 pub use Rattle.sdd_verified.proofs.run.Apart.{report_or_limit, summary_or_limit}
 pub use Rattle.sdd_verified.proofs.run.world.Results.{after_ok as on_ok_then}
-pub use Rattle.sdd_verified.proofs.verify.Submissions.{lent_fit, start_fits}
+pub use Rattle.sdd_verified.proofs.verifying.Submissions.{lent_fit, start_fits}
 pub use Rattle.sdd_verified.specs.make.Bank.{bank}
 pub use Rattle.sdd_verified.specs.make.Turns.{workload_of}
 pub use Rattle.sdd_verified.specs.report.Names.{spaced}
@@ -44,8 +44,8 @@ pub use Rattle.sdd_verified.specs.script.Valid.{IsValid, IsValidTxn}
 pub use Rattle.sdd_verified.specs.script.Walk.{workload}
 pub use Rattle.sdd_verified.specs.script.declared.fault.WorkFault.{WorkFault}
 pub use Rattle.sdd_verified.specs.script.declared.workload.Workload.{Workload}
-pub use Rattle.sdd_verified.specs.verify.declared.limits.TheConstants.{MAX_REPORT_BYTES}
-pub use Rattle.sdd_verified.specs.verify.declared.verdict.Verdict.TheVariants.{No}
+pub use Rattle.sdd_verified.specs.verifying.declared.limits.TheConstants.{MAX_REPORT_BYTES}
+pub use Rattle.sdd_verified.specs.verifying.declared.verdict.Verdict.TheVariants.{No}
 pub use Rattle.sdd_verified.specs.world.declared.ends.WorldEnd.{WorldEnd}
 pub use Rattle.std.proofs.Common.{All, Bool, Bor, Err, IfErr, IfSome, IsErrOf, IsSome, IsTrue, List, MatchOption, MatchResult, None, Ok, OnOk, Option, Result, Some, [], ap, append-nil, append_assoc, arith, bytes_eq, codes, cond, decimal, drop, false, filter_map, flat_map, inl, inr, length, length-append, lt-ltb, ltb-true, map, nat_le, nat_lt, option_map, refl, slice_index_or, string_bytes, subst, suc, sym, take, take-append-drop, take_all, true, zero, ℕ, ◌&&◌, ◌++◌, ◌+◌, ◌-◌, ◌<◌, ◌^◌, ◌∙◌, ◌∷◌, ◌≡◌, ◌≤◌, ◌⊎◌}
 pub use Rattle.std.proofs.Math.Seq.{take-append_seam}

@@ -11,7 +11,7 @@ use Rattle.sdd_control.specs.declared.script.ControlScript.{ControlScript}
 use Rattle.sdd_verified.specs.script.Walk.{workload}
 use Rattle.sdd_verified.specs.script.declared.fault.WorkFault.{WorkFault}
 use Rattle.sdd_verified.specs.script.declared.workload.Workload.{Workload}
-use Rattle.sdd_verified.specs.verify.Verdict as judging
+use Rattle.sdd_verified.specs.verifying.Verdict as judging
 use Rattle.sdd_verified.specs.make.Bank.{bank}
 use Rattle.sdd_verified.specs.make.Turns.{workload_of}
 use Rattle.sdd_verified.specs.run.Runs.{EndsAtLimit, IsReportOn, IsSummaryOn}

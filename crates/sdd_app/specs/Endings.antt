@@ -4,7 +4,7 @@ use Rattle.sdd_lang.specs.base.declared.files.ShelfFile.{ShelfFile}
 use Rattle.sdd_lang.specs.All.{MAX_WORKLOAD_BYTES}
 use Rattle.sdd_lang.specs.base.declared.limits.TheConstants.{MAX_CATALOGUE_BYTES}
 use Rattle.sdd_lang.specs.base.Outside.{Opened, find_file}
-use Rattle.sdd_verified.specs.verify.declared.limits.TheConstants.{MAX_REPORT_BYTES}
+use Rattle.sdd_verified.specs.verifying.declared.limits.TheConstants.{MAX_REPORT_BYTES}
 use Rattle.sdd_app.specs.Command.{Form, Check, Graph, Table, Run, Plain, Control, Make, Verify, Advise, files_of, form_in}
 
 pub data Ending : Type 0 where

@@ -5,7 +5,7 @@ ghost use Rattle.sdd_lang.specs.All.{MAX_WORKLOAD_BYTES};
 ghost use Rattle.sdd_lang.specs.base.declared.limits.TheConstants.{MAX_CATALOGUE_BYTES};
 ghost use Rattle.sdd_lang.specs.base.Outside.{KeepsOpen, Rose, find_file};
 ghost use Rattle.sdd_verified.specs.script.Valid.{IsValid};
-ghost use Rattle.sdd_verified.specs.verify.Verdict.{verdict};
+ghost use Rattle.sdd_verified.specs.verifying.Verdict.{verdict};
 ghost use Rattle.sdd_app.specs.Answer.{ComesToVerdict, ComesToVerify, HasFiles, HasReport, OverCatalogue};
 ghost use Rattle.sdd_app.specs.Endings.{FilesRead, IsRead, ToItsEnd, ToItsLimit};
 ghost use Rattle.sdd_app.specs.Judging.{verdict_line};

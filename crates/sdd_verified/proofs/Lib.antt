@@ -26,7 +26,7 @@ pub mod Submitting
 pub mod ValuesKept
 pub use Rattle.sdd_run.proofs.script as script
 pub use Rattle.sdd_run.proofs.report as report
-pub use Rattle.sdd_verify.proofs as verify
+pub use Rattle.sdd_verify.proofs as verifying
 pub use Rattle.sdd_run.proofs.make as make
 pub use Rattle.sdd_run.proofs.world as world
 pub use Rattle.sdd_run.proofs as run
