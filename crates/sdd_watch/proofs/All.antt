@@ -133,7 +133,7 @@ pub use Rattle.sdd_watch.specs.declared.watched_link.WatchedLink.{WatchedLink}
 pub use Rattle.sdd_watch.specs.declared.watched_pipe.WatchedPipe.{WatchedPipe}
 pub use Rattle.std.proofs.Common.{All, Bool, Err, IfOk, List, MatchOption, None, Ok, OnOk, Option, Result, SFits as FitsSigned, Some, [], add-one, ap, append-nil, append_assoc, arith, cond, drop, drop-cons, drop-drop, drop-set-lt, eq-eqb, eqb-true, false, filter, filter_map, find, flat_map, fold, if◌then◌else◌, inl, inr, is_some, le-leb, le-ltb, length, length-take-le, lt-ltb, map, map-id, max, nat_cmp, nat_le, nat_lt, not, option_map, pos, position, refl, rules, slice_get, slice_index_or as get_or, slice_set, subst, suc, sym, take, take-append-drop, take_all, true, unwrap_or, w64, zero, ℕ, ℤ, ◌&&◌, ◌*◌, ◌++◌, ◌+◌, ◌-◌, ◌/◌, ◌<◌, ◌==◌, ◌^◌, ◌||◌, ◌∙◌, ◌∷◌, ◌≡◌, ◌≢◌, ◌≤◌, ◌⊎◌}
 pub use Rattle.std.proofs.Math.Seq.{drop-append_seam, take-append_seam, take-take}
-pub use Rattle.std.proofs.lemmas.Bool.{and_left, and_parts, and_right, cases_Bool, cases_lt, lt-leb}
+pub use Rattle.std.proofs.lemmas.Bool.{and_parts, cases_Bool, cases_lt, lt-leb}
 pub use Rattle.std.proofs.lemmas.Int.{to_z-of_z}
 pub use Rattle.std.proofs.lemmas.Iterator.Adapters.{position_from-zero}
 pub use Rattle.std.proofs.lemmas.List.{drop-append-le, drop-take, drop_all, flat_map_more, get_or_default, get_or_past, length-map, map-append, take-append-le, take_more}

@@ -1,6 +1,6 @@
 -- What an event changed is reported by cut moments: of a flight by what comes after the packets that stayed, and of a
 -- pipe by what came and was processed.
-use Rattle.sdd_watch.proofs.All.{Bool, Delta, Handed, Happened, Input, List, Log, Moment, Msg, Packet, PipeDelta, Put, Site, [], all_links, all_pipes, and_left, and_right, ap, arith, came, changed_links, changed_pipes, changes, cond, difference, drop, false, filter, found_by, handed_between, if◌then◌else◌, in_flight, is_changed_link, is_changed_pipe, is_empty, is_still_link, is_still_pipe, is_taken, last_event, left_between, left_of, length, link_after, link_before, link_moment, link_of, map, moment_of, not, on_link, pipe_after, pipe_before, pipe_between, pipe_moment, put_between, queue_between, queues_of, refl, sent, sym, takes_from, true, ℕ, ◌&&◌, ◌++◌, ◌-◌, ◌==◌, ◌∙◌, ◌∷◌, ◌≡◌}
+use Rattle.sdd_watch.proofs.All.{Bool, Delta, Handed, Happened, Input, List, Log, Moment, Msg, Packet, PipeDelta, Put, Site, [], all_links, all_pipes, and_parts, ap, arith, came, changed_links, changed_pipes, changes, cond, difference, drop, false, filter, found_by, handed_between, if◌then◌else◌, in_flight, is_changed_link, is_changed_pipe, is_empty, is_still_link, is_still_pipe, is_taken, last_event, left_between, left_of, length, link_after, link_before, link_moment, link_of, map, moment_of, not, on_link, pipe_after, pipe_before, pipe_between, pipe_moment, put_between, queue_between, queues_of, refl, sent, sym, takes_from, true, ℕ, ◌&&◌, ◌++◌, ◌-◌, ◌==◌, ◌∙◌, ◌∷◌, ◌≡◌}
 use Rattle.sdd_inside.specs.Differences.{left}
 
 -- Parts that tell the same, one by one; those that pass no test tell nothing, and are left out.
@@ -38,13 +38,13 @@ still_puts : (old new : Log) (h : Happened) (l : Site × Site) → is_changed_li
 still_puts old new h l e =
     let still = still_is (is_still_link (link_before old l) (link_after old new l)) e in
     no_packets (length (sent l.0 l.1 old)) _ l.0 l.1 (link_after old new l).flight (none_left (Packet Msg) (takes_from h (link_before old l)))
-    (nothing_in (link_after old new l).flight (and_left _ _ still))
+    (nothing_in (link_after old new l).flight (and_parts _ _ still).0)
 
 still_hands : (old new : Log) (h : Happened) (l : Site × Site) → is_changed_link old new l ≡ false
     → handed_between h (link_before old l) (link_after old new l) ≡ []
 still_hands old new h l e =
     let still = still_is (is_still_link (link_before old l) (link_after old new l)) e in
-    rw (and_right (is_empty (link_after old new l).flight) _ still) refl
+    rw ((and_parts (is_empty (link_after old new l).flight) _ still).1) refl
 
 -- links
 
