@@ -1,10 +1,15 @@
 -- The names of std, of the crates below and of this crate's definitions that its proofs cite. Declares nothing.
 pub use Rattle.sdd_exec.specs.Choices.{Choice, Has, HasAll, IsComplete, NoRepeats, extended, extensions, is_taken, is_there, key_for, key_of, keyed, passes, passes_one, picked, placed, places, row_from, row_of_tuple, same_row, tie_of, ties_of, with_found}
+pub use Rattle.sdd_exec.specs.Exploring.{AreMade, AreNexts, AreNodes, IsDone, IsExplored, IsExploredAt, IsExploredBy, IsKept, IsLed, IsMade, IsNext, IsNode, IsSoundAt, StillHas, are_taken, is_seen, marks_of, places_made, places_with}
 pub use Rattle.sdd_exec.specs.Rising.{by_keys, keyed_rows, to_last, to_last_key}
 pub use Rattle.sdd_exec.specs.Serves.{AreEnoughAlong, AreHeld, IsRowOf, Serves}
 pub use Rattle.sdd_exec.specs.Sifting.{AreEnough, HasLike, IsAnswered, IsCovered, IsSieve, IsSifted, Offered, TellsAnswer, TooMany, all_rows, choices_of_part, extended_by, found_with, is_apart, joined, link_between, links_of, outs_of, pair_of, pairs_of, values_of}
 pub use Rattle.sdd_exec.specs.Snapshots.{Shipped, chosen_for, found_for, of_relation, parts_for, rows_for, with_chosen}
 pub use Rattle.sdd_exec.specs.Splicing.{Agrees, AllAlike, AllInside, Answers, AreSound, IsOutside, IsThereIn, LinksAlike, MeetsInside, OutsAlike, spliced}
+pub use Rattle.sdd_exec.specs.declared.exploring.Explored.{Explored}
+pub use Rattle.sdd_exec.specs.declared.plan.Made.{Made}
+pub use Rattle.sdd_exec.specs.declared.plan.Next.{Next}
+pub use Rattle.sdd_exec.specs.declared.plan.Node.{Node}
 pub use Rattle.sdd_exec.specs.declared.sieve.Mesh.{Mesh}
 pub use Rattle.sdd_exec.specs.declared.sieve.Sieve.{Sieve}
 pub use Rattle.sdd_exec.specs.declared.tie.Tie.{Tie}
@@ -30,7 +35,7 @@ pub use Rattle.std.proofs.lemmas.Cmp.{int_cmp_total, nat_cmp_total, tied_itself}
 pub use Rattle.std.proofs.lemmas.List.{at_drop_more, get_or-map, get_or_past, length-map, map-append, nil_from_length, take_more}
 pub use Rattle.std.proofs.lemmas.List.Concat.{flat_map-append}
 pub use Rattle.std.proofs.lemmas.List.Elements.{filter-append, filter_map-append, recursion_from_All}
-pub use Rattle.std.proofs.lemmas.List.Folds.{list_any-append}
+pub use Rattle.std.proofs.lemmas.List.Folds.{list_all-append, list_any-append}
 pub use Rattle.std.proofs.lemmas.List.FromFn.{get_or-map-range_with_len, map-range_with_len_more}
 pub use Rattle.std.proofs.lemmas.List.Sums.{fold-append}
 pub use Rattle.std.proofs.lemmas.Map.Keys.{sorted_head, sorted_tail}
@@ -42,6 +47,7 @@ pub use Rattle.std.specs.Cmp.{IsTotalOrder}
 pub use Rattle.std.specs.Cmp.Lexicographic.{lists_ties, lists_total}
 pub use Rattle.std.specs.List.{AllByRecursion, cons_option, range_with_len}
 pub use Rattle.std.specs.List.Sorted.{IsStrictlySortedBy}
+pub use Rattle.std.specs.HashSet.{contains}
 pub use Rattle.std.specs.Map.{keys_of}
 pub use Rattle.std.specs.Option.{option_map_or}
 pub use Rattle.std.specs.Ordering.{eq_by_cmp, match_ordering, ordering_reverse}

@@ -164,7 +164,7 @@ found_is_answer parts conds out kept row has =
     (picked_in_product parts c f.0) f.1 in
     subst (Has (all_rows parts conds out)) f.2 (Has-map (λ (tuple : Tuple). map (value_at tuple) out) _ (picked parts c) in_all)
 
-no_room_for : (room : ℕ) (rows xs : List Row) → room < length rows → NoRepeats rows → ((row : Row) → Has rows row → Has xs row)
+pub no_room_for : (room : ℕ) (rows xs : List Row) → room < length rows → NoRepeats rows → ((row : Row) → Has rows row → Has xs row)
     → within room (distinct xs) ≡ None
 no_room_for room rows xs more once all = grind (arith, no_more_rows, in_distinct, nat_lt, lt-ltb)
 

@@ -37,7 +37,7 @@ module _ (parts : List (List Row)) (taken : List ℕ) (part place : ℕ) (c : Ch
   value_old : (r : Ref) → is_taken taken (r.part - 1) ≡ true → value_at (picked parts d) r ≡ value_at (picked parts c) r
   value_old r old = value_agrees parts d c r (λ within. place_old (r.part - 1) within old)
 
-  there_extended : IsThereIn parts taken c → place < length (slice_index_or parts part []) → IsThereIn parts group d
+  pub there_extended : IsThereIn parts taken c → place < length (slice_index_or parts part []) → IsThereIn parts group d
   there_extended there here p within among = grind (arith, ⊎_elim, place_old, slice_index, d, slice_index_or, place_new, taken_or_new)
 
   same_met : (left right : Ref) → value_at (picked parts d) left ≡ value_at (picked parts d) right → meets (picked parts d) (Same left right) ≡ true
@@ -61,7 +61,7 @@ module _ (parts : List (List Row)) (taken : List ℕ) (part place : ℕ) (c : Ch
       (grind (arith, ⊎_elim, is_taken, same_met, value_in_picked, d, slice_index_or, place_new, keys_head, row, picked, column, value_old, eq-eqb, value_decides, taken_or_new))
       (taken_or_new taken part (left.part - 1) among)
 
-  inside_extended : (conds : List Condition) → AllInside parts taken c conds → passes part conds row ≡ true
+  pub inside_extended : (conds : List Condition) → AllInside parts taken c conds → passes part conds row ≡ true
       → key_of (ties_of taken part conds) row ≡ key_for (ties_of taken part conds) (picked parts c) → AllInside parts group d conds
   inside_extended [] inside passing keys = tt
   inside_extended (Const left op value ∷ conds) inside passing keys =

@@ -13,3 +13,7 @@ pub mod Sieves
 pub mod Inside
 pub mod Sifted
 pub mod Enough
+pub mod Explored
+pub mod Kept
+pub mod Planned
+pub mod Stepped

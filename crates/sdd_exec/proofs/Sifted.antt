@@ -3,7 +3,7 @@ use Rattle.sdd_exec.proofs.All.{Agrees, AllAlike, Answers, AreSound, Choice, Con
 use Rattle.sdd_exec.proofs.Splices.{new_in, new_out, value_in, new_there, meets_new, outs_new, links_on, outs_on}
 
 -- choices with one value in each link are alike
-alike_by_values : (parts : List (List Row)) (group : List ℕ) (d c : Choice) (conds : List Condition)
+pub alike_by_values : (parts : List (List Row)) (group : List ℕ) (d c : Choice) (conds : List Condition)
     → values_of parts (links_of group conds) d ≡ values_of parts (links_of group conds) c → AllAlike parts group d c conds
 alike_by_values parts group d c [] e = tt
 alike_by_values parts group d c (Const left op value ∷ conds) e = (tt, alike_by_values parts group d c conds e)
@@ -13,7 +13,7 @@ alike_by_values parts group d c (Same left right ∷ conds) e =
     let o : Option Ref = link_between group left right in
     let rs : List Ref = links_of group conds in (grind (arith, link_between, (alike_by_values parts group d c conds (grind arith))))
 
-outs_by_values : (parts : List (List Row)) (group : List ℕ) (d c : Choice) (out : List Ref)
+pub outs_by_values : (parts : List (List Row)) (group : List ℕ) (d c : Choice) (out : List Ref)
     → values_of parts (outs_of group out) d ≡ values_of parts (outs_of group out) c → OutsAlike parts group d c out
 outs_by_values parts group d c [] e = tt
 outs_by_values parts group d c (r ∷ out) e =

@@ -9,6 +9,7 @@ ghost use Rattle.sdd_exec.specs.Choices as joins;
 ghost use Rattle.sdd_exec.specs.Sifting as sift;
 
 use crate::choice::{Choice, choice_with_place, fill};
+use crate::exploring::find_answers;
 use crate::found::Found;
 use crate::index::{Index, index, places_of, untied_places};
 use crate::parts::Parts;
@@ -17,14 +18,11 @@ use crate::tie::{Tie, key_for, ties};
 use sdd_lang::{Condition, MAX_REPLY_ROWS, NoMemory, Ref, Row, RowList, meets_all, project};
 use std::alloc::Global;
 
-/// How many choices, of one row from each part taken so far, a step may make in any join before
-/// they are sifted. It is as many as a reply may have rows: sifting a join that makes no more costs
-/// more than it saves, since each of these choices may be an answer.
+/// How many choices, of one row from each part taken so far, a step may make before the join begins
+/// anew and looks ahead. It is as many as a reply may have rows: looking ahead in a join that makes no
+/// more costs more than it saves, since each of these choices may be an answer. It bounds the time
+/// and the memory of a join alone: what is answered is the same whatever it is.
 const FREE_CHOICES: usize = MAX_REPLY_ROWS;
-
-/// How many more it may make for each row of the parts. It allows the equalities of a join to lead
-/// from each row to a few others, and keeps the choices linear in the rows.
-const CHOICES_PER_ROW: usize = 4;
 
 /// The first part that wasn't taken; 0 where none is left.
 fn first_left(parts: usize, taken: &[usize]) -> usize
@@ -213,16 +211,6 @@ fn take(
     Ok(Reached { taken, kept })
 }
 
-/// So many choices a step may make before they are sifted. It bounds the memory of a join alone:
-/// what is answered is the same whatever it is.
-fn most_choices(parts: &Parts) -> usize {
-    let mut most = FREE_CHOICES;
-    for part in 0..parts.count() {
-        most = most.saturating_add(parts.rows(part).len().saturating_mul(CHOICES_PER_ROW));
-    }
-    most
-}
-
 /// Choices among which are all whose rows meet the conditions; None where a step makes more than so
 /// many.
 #[tactic(auto, using(crate::proofs::Complete::choice_steps))]
@@ -250,22 +238,6 @@ fn few(
     }
     let Reached { taken: _, kept } = reached;
     Ok(Some(kept))
-}
-
-/// Choices that are enough to tell the answer: as they come, or sifted where there are many.
-fn choices(
-    alloc: Global,
-    parts: &Parts,
-    conds: &[Condition],
-    out: &[Ref],
-    room: usize,
-) -> Result<Vec<Choice>, NoMemory>
-    ensures { IfOk result (λ kept. sift.TellsAnswer parts.now conds.now out.now room kept.items) }
-{
-    match few(alloc, parts, conds, most_choices(parts))? {
-        Some(kept) => Ok(kept),
-        None => sift(alloc, parts, conds, out, room),
-    }
 }
 
 /// Adds the listed columns of a tuple, where it meets the conditions.
@@ -361,7 +333,13 @@ fn answers_of_all(
     if parts.count() == 1 {
         return answers_of_one(alloc, parts.rows(0), conds, out, room);
     }
-    let kept = choices(alloc, parts, conds, out, room)?;
+    if let Some(kept) = few(alloc, parts, conds, FREE_CHOICES)? {
+        return answers(alloc, parts, conds, out, &kept, room);
+    }
+    if let Some(answer) = find_answers(alloc, parts, conds, out, room)? {
+        return Ok(answer);
+    }
+    let kept = sift(alloc, parts, conds, out, room)?;
     answers(alloc, parts, conds, out, &kept, room)
 }
 
@@ -372,8 +350,13 @@ fn answers_of_all(
 /// those that were taken, where there is one; its rows are found by a hash of the tied columns. So
 /// it costs time with the rows, the tuples that meet the equalities of the parts taken so far, and
 /// for each row that is found one comparison; a logarithmic step each, where these don't ascend.
-/// Where a step makes many choices the join begins anew and sifts them at each step: then memory
-/// follows the values in tied columns and the answers, up to `room`, and not the choices.
+/// Where a step makes more than 4,096 choices the join begins anew and goes depth first through the
+/// parts, always to one of which the choice leaves few rows; where it leaves none of any tied part
+/// it goes no further. Then it costs a look-up for each part that is tied, at each of up to 64
+/// choices a row, and memory follows the rows, for their indexes and for what is remembered of the
+/// choices that were explored. A search that isn't through by then gives up, and the choices are
+/// sifted at each step: then memory follows the values in tied columns and the answers, up to
+/// `room`, and not the choices.
 pub fn join(
     alloc: Global,
     parts: &Parts,
