@@ -61,12 +61,12 @@ def look_for_order(found, judge, graph, sure, has_cycle, steps):
     history = found.history
     judged = []
     for name, needs, propose in proposals(history, graph, sure, steps):
-        if has_cycle and needs == "graph" or found.hopeless and needs == "some":
+        if has_cycle and needs == "graph" or found.hopeless and needs == "some" or not found.hopeless and needs == "none":
             continue
         try:
             order = propose()
-        except GaveUp:
-            found.said.append((name, "none was found in %d steps" % steps))
+        except GaveUp as fault:
+            found.said.append((name, "none was found in %s steps" % fault))
             continue
         if order is None:
             found.exhausted |= name == LAST

@@ -66,7 +66,7 @@ def words_against(found):
             yield "in %d orders more: %s" % (len(more), "no" if YES not in [said for _, said, _ in more] else "not all of them no")
     elif found.cycle is not None:
         yield found.cycle
-        yield "no order agrees with this cycle" if found.hopeless else "this cycle rests on when transactions began and ended"
+        yield "no order that keeps the order of the writes agrees with it" if found.hopeless else "it rests on when transactions began and ended"
         yield "no few transactions could be cut out of which `sdd1 verify` refuses every order"
     elif found.exhausted:
         yield "every order that the dependencies leave was tried, and none explains all replies"
