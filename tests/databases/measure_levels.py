@@ -76,13 +76,13 @@ def workloads(seeds, count_drawn, room):
         yield "drawn%d" % seed, seed % 2 == 0, *drawn(seed)
 
 
-def judged(asked, cat, work, path, program, steps=20000):
-    """Runs a workload as asked, but where its history is there already, and has it judged: what was found."""
-    if not os.path.exists(path):
+def judged(asked, cat, work, path, program, kept=False):
+    """Runs a workload as asked, and has its history judged: what was found. With `kept` a history that is there isn't run again."""
+    if not kept or not os.path.exists(path):
         write_history(path, *record_history(asked, cat, work))
     history = read_history(path)
     with tempfile.TemporaryDirectory(prefix="judge-") as room:
-        return certify(history, Judge(history, program, room), steps)
+        return certify(history, Judge(history, program, room))
 
 
 def summary(found):
@@ -99,7 +99,7 @@ def run_level(engine, address, level, asked, folder, program):
     with tempfile.TemporaryDirectory(prefix="levels-") as room:
         for name, client, cat, work in workloads(asked.seeds, asked.drawn, room):
             began = time.monotonic()
-            found = judged(how(engine, address, level, client=client), cat, work, os.path.join(folder, name + ".jsonl"), program)
+            found = judged(how(engine, address, level, client=client), cat, work, os.path.join(folder, name + ".jsonl"), program, kept=True)
             made.append({"engine": engine, "level": level, "workload": name, "seconds": round(time.monotonic() - began, 1)} | summary(found))
             print(json.dumps({k: made[-1][k] for k in ("level", "workload", "yes", "cut", "words", "seconds")}), flush=True)
     return made
