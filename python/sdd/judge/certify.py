@@ -11,6 +11,7 @@ from sdd.judge.verdict import YES
 from sdd.model.files import BadInput
 
 STEPS = 20000
+NONE = "there is none"
 
 
 class Disagreement(BadInput):
@@ -70,7 +71,7 @@ def look_for_order(found, judge, graph, sure, has_cycle, steps):
             continue
         if order is None:
             found.exhausted |= name == LAST
-            found.said.append((name, "there is none"))
+            found.said.append((name, NONE))
             continue
         if order in judged:
             continue

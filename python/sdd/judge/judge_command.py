@@ -17,9 +17,10 @@ import os
 import tempfile
 
 from sdd.command import count, parser
-from sdd.judge.certify import STEPS, certify, counts
+from sdd.judge.certify import NONE, STEPS, certify, counts
 from sdd.judge.elle_history import read_elle
 from sdd.judge.history_file import read_history
+from sdd.judge.orders import LAST, OTHER_VERSIONS
 from sdd.judge.verdict import YES, Judge
 from sdd.programs import Program, add_program
 
@@ -34,7 +35,8 @@ def lines_of(found, folder):
     if keys:
         yield "keys are numbered: %s" % ", ".join("%s is %s" % x for x in list(keys.items())[:MOST_SHOWN]) + (", .." if len(keys) > MOST_SHOWN else "")
     for name, said in found.said:
-        yield "order %s: %s" % (name, said)
+        if said != NONE or name.startswith(LAST) and not name.startswith(OTHER_VERSIONS):
+            yield "order %s: %s" % (name, said)
     if found.is_serializable():
         yield "serializable" + further(found)
         if found.against_sessions:
