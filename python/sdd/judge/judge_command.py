@@ -11,7 +11,7 @@ FOLDER gets the catalogue, workload and report of each verdict, so that `sdd1 ve
 The program is the one of --program, or the one that is built or installed; or else the reference, which is slower.
 
 Status 0: serializable (with --strict: by an order in which what was over before another began stands before it). 1: not serializable (with
---strict: no strict order was found). 2: the file is refused. 3: nothing was decided: no order was found, and no anomaly could be cut out.
+--strict: no strict order was found). 2: the file is refused. 3: nothing was decided: neither an order was found nor a reason why there is none.
 """
 import os
 import tempfile
