@@ -17,12 +17,13 @@ sys.path.insert(0, os.path.dirname(os.path.abspath(__file__)))
 import sdd_path  # noqa: E402, F401
 from sdd.judge.elle_history import read_elle  # noqa: E402
 from sdd.judge.history_file import read_history  # noqa: E402
-from sdd.judge.judge_command import NOT_SERIALIZABLE, SERIALIZABLE, status_of  # noqa: E402
+from sdd.judge.judge_command import NOT_SERIALIZABLE, SERIALIZABLE, lines_of, status_of  # noqa: E402
 from sdd.model.files import BadInput  # noqa: E402
 from sdd.programs import own_command  # noqa: E402
 from test_histories import FOLDER, ROUNDS, judged  # noqa: E402
 
 FIRST, TABLE = '{"history": 1}', '{"table": "t", "columns": [["id", "int"], ["x", "text"]], "key": "id", "rows": [[1, "a"]]}'
+NOT_KEPT = ("PostgreSQL 15.18, repeatable-read", "80 transactions")      # how blocks of docs/ISOLATION.md begin
 TYPES = {"object": dict, "array": list, "string": str, "integer": int, "number": (int, float), "null": type(None)}
 
 
@@ -144,6 +145,18 @@ class TestFiles(Files):
             lines = [x[4:] for x in f.read().split("\n") if x.startswith("    {")]
         found = judged(read_history(self.file(lines)))
         self.assertTrue(found.anomaly.words.startswith("lost update"))
+
+    def test_what_the_lesson_shows(self):
+        """Each line that docs/ISOLATION.md shows of a verdict is one of the recorded histories', but for those that it doesn't keep."""
+        with open(os.path.join(FOLDER, "..", "..", "docs", "ISOLATION.md"), encoding="utf-8") as f:
+            blocks = [x.split("\n")[1:-1] for x in f.read().split("```")[1::2]]
+        shown = [x for block in blocks if "order" in "".join(block) and not block[0].startswith(NOT_KEPT) for x in block]
+        known = set()
+        for name in sorted(os.listdir(FOLDER)):
+            if name.endswith(".jsonl") and "smallbank" not in name:
+                known |= set(lines_of(judged(read_history(os.path.join(FOLDER, name))), None))
+        self.assertGreater(len(shown), 15)
+        self.assertEqual([x for x in shown if x not in known], [])
 
     def test_command(self):
         for name, words, status in (("postgres_read_committed_lost_update", [], 1), ("postgres_stale_standby", [], 0),

@@ -28,6 +28,7 @@ from sdd.judge.certify import certify
 from sdd.judge.engines import ENGINES, engine_of
 from sdd.judge.history_command import read_files, record_history
 from sdd.judge.history_file import read_history, write_history
+from sdd.judge.judge_command import NOT_SERIALIZABLE, status_of
 from sdd.judge.verdict import YES, Judge
 from sdd.model.statements import Query
 from sdd.model.workload import Event
@@ -75,13 +76,13 @@ def workloads(seeds, count_drawn, room):
         yield "drawn%d" % seed, seed % 2 == 0, *drawn(seed)
 
 
-def judged(asked, cat, work, path, program, steps=20000):
-    """Runs a workload as asked, but where its history is there already, and has it judged: what was found."""
-    if not os.path.exists(path):
+def judged(asked, cat, work, path, program, kept=False):
+    """Runs a workload as asked, and has its history judged: what was found. With `kept` a history that is there isn't run again."""
+    if not kept or not os.path.exists(path):
         write_history(path, *record_history(asked, cat, work))
     history = read_history(path)
     with tempfile.TemporaryDirectory(prefix="judge-") as room:
-        return certify(history, Judge(history, program, room), steps)
+        return certify(history, Judge(history, program, room))
 
 
 def summary(found):
@@ -89,7 +90,7 @@ def summary(found):
     return {"version": found.history.about["engine"], "committed": sum(x.outcome == "committed" for x in found.history.transactions),
             "aborted": len(found.history.aborted), "yes": found.how, "strict": found.strict, "sessions": found.sessions, "said": found.said,
             "cut": len(found.anomaly.members) if refused else None, "words": found.anomaly.words if refused else found.cycle,
-            "kinds": sorted(set(found.kinds)) if not found.is_serializable() else []}
+            "no": status_of(found, False) == NOT_SERIALIZABLE, "kinds": sorted(set(found.kinds)) if not found.is_serializable() else []}
 
 
 def run_level(engine, address, level, asked, folder, program):
@@ -98,7 +99,7 @@ def run_level(engine, address, level, asked, folder, program):
     with tempfile.TemporaryDirectory(prefix="levels-") as room:
         for name, client, cat, work in workloads(asked.seeds, asked.drawn, room):
             began = time.monotonic()
-            found = judged(how(engine, address, level, client=client), cat, work, os.path.join(folder, name + ".jsonl"), program)
+            found = judged(how(engine, address, level, client=client), cat, work, os.path.join(folder, name + ".jsonl"), program, kept=True)
             made.append({"engine": engine, "level": level, "workload": name, "seconds": round(time.monotonic() - began, 1)} | summary(found))
             print(json.dumps({k: made[-1][k] for k in ("level", "workload", "yes", "cut", "words", "seconds")}), flush=True)
     return made
@@ -107,13 +108,13 @@ def run_level(engine, address, level, asked, folder, program):
 def row_of(made):
     """A row of the table."""
     yes, no = [x for x in made if x["yes"]], [x for x in made if not x["yes"]]
-    kinds = collections.Counter("longer cycles" if k.startswith("cycle of") else k for x in no for k in x["kinds"])
+    kinds = collections.Counter(k for x in no for k in {"longer cycles" if k.startswith("cycle of") else k for k in x["kinds"]})
     ways = collections.Counter("commit" if x["yes"] == "by commit" else "search" if "search" in x["yes"] else "readers moved" if "moved" in x["yes"] else
                                "begin" if x["yes"] == "by begin" else "dependencies" for x in yes)
-    return "| %s, %s | %d | %d | %d | %s | %d | %d | %d | %s |" % (
+    return "| %s, %s | %d | %d | %d | %s | %d | %d | %d | %d | %s |" % (
         made[0]["version"], made[0]["level"], len(made), sum(x["committed"] for x in made), len(yes),
         " / ".join(str(ways[x]) for x in ("commit", "begin", "dependencies", "readers moved", "search")), sum(x["strict"] == YES for x in yes),
-        sum(x["cut"] is not None for x in no), sum(x["cut"] is None for x in no), ", ".join("%s %d" % x for x in kinds.most_common()) or "none")
+        sum(x["cut"] is not None for x in no), sum(x["cut"] is None and x["no"] for x in no), sum(not x["no"] for x in no), ", ".join("%s %d" % x for x in kinds.most_common()) or "none")
 
 
 def main():

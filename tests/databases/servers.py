@@ -13,6 +13,7 @@ import pwd
 import shutil
 import signal
 import subprocess
+import sys
 import tempfile
 import time
 
@@ -39,6 +40,7 @@ class Server:
         self.folder, self.running = None, []
 
     def __enter__(self):
+        signal.signal(signal.SIGTERM, lambda *_: sys.exit(143))       # so that who is ended ends its servers
         self.folder = tempfile.mkdtemp(prefix="server-", dir="/tmp")       # short: a socket's path has at most 107 bytes
         if not os.geteuid():
             os.chown(self.folder, unprivileged()["user"], unprivileged()["group"])

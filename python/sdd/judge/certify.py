@@ -11,6 +11,7 @@ from sdd.judge.verdict import YES
 from sdd.model.files import BadInput
 
 STEPS = 20000
+NONE = "there is none"
 
 
 class Disagreement(BadInput):
@@ -61,16 +62,16 @@ def look_for_order(found, judge, graph, sure, has_cycle, steps):
     history = found.history
     judged = []
     for name, needs, propose in proposals(history, graph, sure, steps):
-        if has_cycle and needs == "graph" or found.hopeless and needs == "some":
+        if has_cycle and needs == "graph" or found.hopeless and needs == "some" or not found.hopeless and needs == "none":
             continue
         try:
             order = propose()
-        except GaveUp:
-            found.said.append((name, "none was found in %d steps" % steps))
+        except GaveUp as fault:
+            found.said.append((name, "none was found in %s steps" % fault))
             continue
         if order is None:
             found.exhausted |= name == LAST
-            found.said.append((name, "there is none"))
+            found.said.append((name, NONE))
             continue
         if order in judged:
             continue

@@ -35,6 +35,7 @@ class Graph:
     def __init__(self, history, timed=True):
         self.history, self.timed, self.faults, self.ordered = history, timed and history.timed, [], not history.blind
         self.edges = [{} for _ in range(history.sure)]      # to -> (kind, item)
+        self.forced = [set() for _ in range(history.sure)]  # those of `wr` edges whose row was found: they don't rest on the versions' order
         self.met = {}                                       # place -> rows that it looked at: the item, the places of versions that it may have met, whether it found it
         self.vague = set()                                  # places of those that found or wrote rows of which it isn't known which version they met
         self.joined = {}                                    # place -> its joins: the query, the reply, the items that it found for each part
@@ -146,6 +147,8 @@ class Graph:
         self.met.setdefault(k, []).append((item, fits, True))
         if len(fits) == 1 and not any(row is not None and has(row, listed) for row in self.unsure.get(item, ())):
             self.read_version(k, item, chain, fits[0], fits[0])
+            if chain[fits[0]].writer != FIRST:
+                self.forced[chain[fits[0]].writer].add(k)
         elif fits or item in self.unsure or self.history.blind:
             self.open += 1
             self.vague |= set() if fits else {k}

@@ -11,15 +11,16 @@ FOLDER gets the catalogue, workload and report of each verdict, so that `sdd1 ve
 The program is the one of --program, or the one that is built or installed; or else the reference, which is slower.
 
 Status 0: serializable (with --strict: by an order in which what was over before another began stands before it). 1: not serializable (with
---strict: no strict order was found). 2: the file is refused. 3: nothing was decided: no order was found, and no anomaly could be cut out.
+--strict: no strict order was found). 2: the file is refused. 3: nothing was decided: neither an order was found nor a reason why there is none.
 """
 import os
 import tempfile
 
 from sdd.command import count, parser
-from sdd.judge.certify import STEPS, certify, counts
+from sdd.judge.certify import NONE, STEPS, certify, counts
 from sdd.judge.elle_history import read_elle
 from sdd.judge.history_file import read_history
+from sdd.judge.orders import LAST, OTHER_VERSIONS
 from sdd.judge.verdict import YES, Judge
 from sdd.programs import Program, add_program
 
@@ -34,7 +35,8 @@ def lines_of(found, folder):
     if keys:
         yield "keys are numbered: %s" % ", ".join("%s is %s" % x for x in list(keys.items())[:MOST_SHOWN]) + (", .." if len(keys) > MOST_SHOWN else "")
     for name, said in found.said:
-        yield "order %s: %s" % (name, said)
+        if said != NONE or name.startswith(LAST) and not name.startswith(OTHER_VERSIONS):
+            yield "order %s: %s" % (name, said)
     if found.is_serializable():
         yield "serializable" + further(found)
         if found.against_sessions:
@@ -66,7 +68,7 @@ def words_against(found):
             yield "in %d orders more: %s" % (len(more), "no" if YES not in [said for _, said, _ in more] else "not all of them no")
     elif found.cycle is not None:
         yield found.cycle
-        yield "no order agrees with this cycle" if found.hopeless else "this cycle rests on when transactions began and ended"
+        yield "no order that keeps the order of the writes agrees with it" if found.hopeless else "it rests on when transactions began and ended"
         yield "no few transactions could be cut out of which `sdd1 verify` refuses every order"
     elif found.exhausted:
         yield "every order that the dependencies leave was tried, and none explains all replies"

@@ -5,11 +5,12 @@ from sdd.judge.recorded import NEVER, apply, put
 from sdd.model.statements import Query
 
 NEAR, WINDOW = 200, 24
-LAST = "by search"
+LAST, OTHER_VERSIONS = "by search", "by search, rows written in another order"
+FEW_STEPS = 3000
 
 
 class GaveUp(Exception):
-    """Too many steps."""
+    """Nothing was found in so many steps, and not all was tried."""
 
 
 def by_end(history):
@@ -134,7 +135,7 @@ class Search:
         for k in candidates:
             self.steps += 1
             if self.steps > self.most:
-                raise GaveUp
+                raise GaveUp(self.most)
             changes = self.history.explain(k, self.tables)
             mark = None if changes is None else self.mark(changes)
             if changes is None or (self.placed | 1 << k, self.code ^ mark) in self.dead:
@@ -169,7 +170,7 @@ class Search:
             else:
                 stack.append((self.candidates(), step))
         if self.narrowed:
-            raise GaveUp
+            raise GaveUp(self.steps)
         return None
 
 
@@ -178,8 +179,8 @@ def if_strict(history, order):
 
 
 def proposals(history, graph, sure, most):
-    """An order's name, what it needs (a `graph` without cycle, that `some` order may be there, or nothing), and a function that proposes it
-    or None. `sure` is the graph that doesn't rest on times."""
+    """An order's name, what it needs, and a function that proposes it or None. It needs a `graph` without cycle, or that `some` order may agree
+    with the dependencies, or that `none` does, or nothing. `sure` is the graph that doesn't rest on times."""
     firm = graph if graph.ordered and along(graph) is not None else sure
     edges = firm.edges if firm.ordered and along(firm) is not None else [{} for _ in sure.edges]
     all_edges = sure.edges if sure.ordered and along(sure) is not None else edges
@@ -195,3 +196,5 @@ def proposals(history, graph, sure, most):
     yield "along the dependencies", "graph", lambda: along(graph)
     yield "along the dependencies, readers moved", "some", lambda: with_readers_placed(history, base(False))
     yield LAST, "some", lambda: Search(history, all_edges, False, most).run()
+    for words, strictly in ((", strictly", True), ("", False)):
+        yield OTHER_VERSIONS + words, "none", lambda strictly=strictly: Search(history, sure.forced, strictly, min(most, FEW_STEPS)).run()

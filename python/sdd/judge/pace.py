@@ -2,7 +2,7 @@
 import threading
 import time
 
-BLOCKED_SECONDS = 0.5
+BLOCKED_SECONDS = 2
 
 
 class Pace:
