@@ -1,6 +1,6 @@
 """Says what to change in a design: which changes leave least P3 and P2, and what each saves in milliseconds.
 
-    sdd what-if CATALOGUE WORKLOAD [--link MS] [--near T1-D1=MS ..] [--times FILE] [--every MS] [--steps N]
+    sdd what-if CATALOGUE WORKLOAD [--link MS] [--near T1-D1=MS ..] [--times FILE] [--every MS | --rate N] [--steps N]
                 [--most N] [--runs N] [--seed SEED] [--into FOLDER] [--json]
 
 Looked for are classes to be merged, split, moved to another module or declared with less; fragments to be cut
@@ -25,6 +25,7 @@ from sdd.command import count, parser
 from sdd.design.changes import changes_of_classes
 from sdd.design.changes_of_data import changes_of_data
 from sdd.design.drafts import read_draft
+from sdd.design.explore_times import every_of_words
 from sdd.design.latency_tables import shown
 from sdd.design.milliseconds import explore_times
 from sdd.design.times import demand_sites, near_of, number_of, read_times, service_of
@@ -208,7 +209,7 @@ def distances_of(asked, draft):
     if asked.times is None and not near:
         parts = draft.parts
         near = [("T%d-D%d" % (k, k), 0.2) for k in range(1, min(parts["tms"], parts["dms"]) + 1)]
-    distances = read_times(asked.times, asked.link, near, asked.service, None, asked.every)
+    distances = read_times(asked.times, asked.link, near, asked.service, None, every_of_words(asked))
     demand_sites(asked.near, asked.service, [draft.design().cat])
     return distances
 
@@ -222,6 +223,7 @@ def read_words():
     asked.add_argument("--near", metavar="T1-D1=MS", type=near_of, action="append", default=[])
     asked.add_argument("--service", metavar="D1=MS", type=service_of, action="append", default=[])
     asked.add_argument("--every", metavar="MS", type=number_of)
+    asked.add_argument("--rate", metavar="N", type=number_of)
     asked.add_argument("--steps", metavar="N", type=count, default=6)
     asked.add_argument("--most", metavar="N", type=count, default=12)
     asked.add_argument("--runs", metavar="N", type=count, default=20)
