@@ -115,6 +115,7 @@ class Catalogues(unittest.TestCase):
         self.refused("tm = 2\n", "", "catalogue: class 1: MissingField", "[[class]]")
         self.refused("at = 1", "at = 2", "catalogue: class 1: UnknownName", "2")
         self.refused('fragment = "prices"', 'fragment = "price"', "catalogue: class 1: UnknownName", '"price"', ("prices",))
+        self.refused("copies = [1]\n", "", "catalogue: fragment 1: MissingField", "[[fragment]]")
         self.refused("tms = 2", "tms = 0", "catalogue: top: TooFew tm", "0")
         self.refused("tms = 2", "tms = 2 data", "catalogue: top: NotToml", "data")
 
@@ -155,6 +156,9 @@ class Workloads(unittest.TestCase):
         self.refused("deliver T2 D1 1", "deliver T2 D1 1\r", "workload: line 6: BadNumber", "\r")
         self.refused("txn look T2", "txn look D1", "workload: line 2: BadEvent", "D1")
         self.refused("end\n", "", "workload: line 7: NoEnd", "")
+        self.refused("1.item = 1", "1.item = 1 1.cents = 2", "workload: line 3: BadLine", "1.cents")
+        self.refused("1.item = 1", "1.item is 1", "workload: line 3: BadLine", "is")
+        self.refused("1.item = 1", "1.item =", "workload: line 3: BadLine", "=")
 
     def test_same_text_again(self):
         for path in EXAMPLES:

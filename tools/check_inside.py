@@ -5,7 +5,7 @@
 
 For each seed from FROM up to TO, without it, a run is drawn. The text is that of COMMAND, a built
 `sdd1_inside`, and each of its lines has to be that of the reference (`sdd reference`), byte for byte; or it is
-the reference's own. It is read by its two rules alone (tools/replay.py), and behind each event what the
+the reference's own. It is read by its two rules alone (sdd/view/replay.py), and behind each event what the
 reader has is compared with the world that the reference carries out: flights, acknowledgements, messages
 that are handed over, pipes, queues, sites, and rows at the end. So a line that tells a change wrongly is
 found, also where program and reference tell it alike. It ends with 1 where there was a difference.

@@ -165,7 +165,7 @@ def shown(refusal, colours=False):
     place = ":%d:%d" % (cause.line, cause.begin + 1) if cause.line else ""
     width = len(str(max([k for k, _ in refusal.lines] or [0])))
     bar = paint("%s |" % (" " * width), BLUE)
-    made = ["%s: %s" % (paint("error[%s]" % refusal.rule, RED), cause.what),
+    made = ["%s: %s" % (paint("error[%s]" % refusal.rule, RED), plain(cause.what)),
             "%s %s%s" % (paint("%s-->" % (" " * width), BLUE), refusal.name, place)]
     last = None
     for k, line in refusal.lines:
@@ -174,11 +174,16 @@ def shown(refusal, colours=False):
         if k == cause.line and LONGEST > cause.begin < cause.end:
             made.append("%s %s%s" % (bar, re.sub(r"[^\t]", " ", line[:cause.begin]), paint("^" * (min(cause.end, LONGEST) - cause.begin), RED)))
         last = k
-    return made + ["%s %s: %s" % (paint(" " * width + " =", BLUE), paint("help", GREEN), x) for x in refusal.helps]
+    return made + ["%s %s: %s" % (paint(" " * width + " =", BLUE), paint("help", GREEN), plain(x)) for x in refusal.helps]
+
+
+def plain(text):
+    """The text with signs for its control characters, which a terminal would obey."""
+    return re.sub("[\x00-\x08\x0a-\x1f\x7f]", lambda found: chr(0x2400 + (ord(found[0]) if found[0] != "\x7f" else 0x21)), text)
 
 
 def cut(line):
-    text = line.rstrip("\r")
+    text = plain(line.rstrip("\r"))
     return text if len(text) <= LONGEST else text[:LONGEST] + " .."
 
 

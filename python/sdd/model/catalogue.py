@@ -193,7 +193,7 @@ class Form:
 
     def value(self, name: str) -> Value:
         if name not in self.table:
-            raise self.broken("MissingField", (), "%s is absent" % name)
+            raise self.broken("MissingField", (), "%s is absent; it stands as %s" % (name, EXAMPLES[name]))
         return self.table[name]
 
     def whole(self, name: str) -> int:
@@ -227,7 +227,8 @@ class Form:
             return Items()
         value = self.value(name)
         if not isinstance(value, Items):
-            raise self.broken("WrongKind", (name,), "%s is no array: an array stands in brackets, as %s" % (name, EXAMPLES.get(name, "[[%s]]" % name)))
+            raise self.broken("WrongKind", (name,), "%s is no array: an array stands in brackets, as %s" % (
+                name, "[[%s]]" % name if self.place == "top" else EXAMPLES[name]))
         return value
 
     def tables(self, name: str) -> Items:
@@ -238,7 +239,8 @@ class Form:
         return found
 
 
-EXAMPLES = {"copies": "copies = [1]", "columns": 'columns = [{name = "id", kind = "int"}]', "writes": 'writes = ["f"]',
+EXAMPLES = {"tms": "tms = 1", "dms": "dms = 1", "name": 'name = "n"', "key": 'key = "id"', "kind": 'kind = "int"', "relation": 'relation = "r"',
+            "tm": "tm = 1", "fragment": 'fragment = "f"', "at": "at = 1", "copies": "copies = [1]", "columns": 'columns = [{name = "id", kind = "int"}]', "writes": 'writes = ["f"]',
             "reads": 'reads = [{fragment = "f", at = 1}]'}
 
 

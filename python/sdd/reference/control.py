@@ -25,7 +25,8 @@ class Reader:
             must("BadLine", not words)
             self.ended = True
         else:
-            must("BadLine", key in EVENTS and len(words) == EVENTS[key] and all(map(is_free, words)))
+            must("BadLine", key in EVENTS, key, "no line begins with {}", [*EVENTS, "end"])
+            must("BadLine", len(words) == EVENTS[key] and all(map(is_free, words)))
             sites = [known("BadNumber", number_between(w, 0, 2**32 - 1), w, "{} is no number of a site") for w in words]
             unknown = next((w for w, i in zip(words, sites) if i >= self.sites), None)
             must("BadEvent", unknown is None, unknown, "there are sites 0 to %d" % (self.sites - 1))
