@@ -126,7 +126,7 @@ def footprint_groups(draft, cls, names):
         mine = set(touched[name][0]) | set(touched[name][1])
         near = [g for g in groups if g[0] & mine]
         groups = [g for g in groups if g not in near] + [(mine.union(*(g[0] for g in near)), [x for g in near for x in g[1]] + [name])]
-    return [g[1] for g in groups]
+    return sorted([g[1] for g in groups], key=len, reverse=True)
 
 
 def split(draft, cls, groups, distances):
