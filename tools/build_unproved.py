@@ -74,18 +74,32 @@ def caught(crate, room):
     return max(found, key=os.path.getsize)
 
 
+def kit_folder():
+    return os.path.dirname(run(["rt", "doc"]).strip())
+
+
+def clang_of(kit):
+    return os.path.join(kit, "toolchain", "bin", "clang")
+
+
+def plain_text(crate, room, as_proved):
+    """The program's module as a text for clang, in a file of the folder ROOM, without the checks of `rt try`."""
+    module = caught(crate, room)
+    text, plain = (os.path.join(room, it) for it in ("m.ll", "plain.ll"))
+    run([clang_of(kit_folder()), "-x", "ir", module, "-S", "-emit-llvm", "-Xclang", "-disable-llvm-passes", "-o", text])
+    with open(text, "rb") as lines, open(plain, "wb") as out:
+        for line in lines:
+            if not CHECKS.search(line) and not (as_proved and BOUNDS.search(line)):
+                out.write(line.replace(b" sanitize_address ", b" "))
+    os.remove(text)
+    return plain
+
+
 def build(crate, into, as_proved):
-    kit = os.path.dirname(run(["rt", "doc"]).strip())
-    clang = os.path.join(kit, "toolchain", "bin", "clang")
+    kit = kit_folder()
     with tempfile.TemporaryDirectory(prefix="build-unproved-") as room:
-        module = caught(crate, room)
-        text, plain, made = (os.path.join(room, it) for it in ("m.ll", "plain.ll", "plain.o"))
-        run([clang, "-x", "ir", module, "-S", "-emit-llvm", "-Xclang", "-disable-llvm-passes", "-o", text])
-        with open(text, "rb") as lines, open(plain, "wb") as out:
-            for line in lines:
-                if not CHECKS.search(line) and not (as_proved and BOUNDS.search(line)):
-                    out.write(line.replace(b" sanitize_address ", b" "))
-        run([clang, "--no-default-config", "-x", "ir", plain, *FLAGS, "-c", "-o", made])
+        plain, made = plain_text(crate, room, as_proved), os.path.join(room, "plain.o")
+        run([clang_of(kit), "--no-default-config", "-x", "ir", plain, *FLAGS, "-c", "-o", made])
         libraries = [os.path.join(kit, "c", it) for it in ("liblibc_c.a", "libos_c.a")]
         run(["gcc", made, "-Wl,--start-group", *libraries, "-Wl,--end-group", "-o", into])
 

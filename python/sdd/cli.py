@@ -51,6 +51,8 @@ COMMANDS = {
     "plant-faults": Command(JUDGE, "sdd.judge.plant_faults", "how many planted faults these two find"),
     "all-orders": Command(JUDGE, "sdd.judge.all_orders", "a report judged by trying every order"),
     "find-broken": Command(JUDGE, "sdd.judge.find_broken", "a schedule that goes wrong where one rule is broken"),
+    "history": Command(JUDGE, "sdd.judge.history_command", "a workload run on your own database, and what it replied"),
+    "judge": Command(JUDGE, "sdd.judge.judge_command", "whether the history of any database is serializable"),
     "make-workload": Command(MAKE, "sdd.bench.make_workload", "made workloads, and those of known applications"),
 }
 

@@ -48,7 +48,7 @@ from typing import NamedTuple
 
 from sdd.command import count, parser
 from sdd.design import distributions, explore_times
-from sdd.design.figures import collect_drains, collect_figures, print_comparison, print_design
+from sdd.design.figures import as_json, collect_drains, collect_figures, print_comparison, print_design
 from sdd.design.observed import observe
 from sdd.design.protocols import print_changes, print_protocols, read_protocols
 from sdd.design.schedules import Manner, draw_schedule, enumerate_schedules, list_links, read_load
@@ -191,7 +191,9 @@ def main():
             explorer = Explorer(program, asked.files[k], asked.files[k + 1], folder)
             designs.append(explorer.explore(asked))
     unit = "events" if asked.events else "rounds"
-    if len(designs) == 1:
+    if asked.json:
+        print(as_json(designs, asked.by, unit))
+    elif len(designs) == 1:
         print_design(designs[0], asked.by, unit)
         print_protocols(designs[0].protocols)
     else:

@@ -36,7 +36,7 @@ def is_timed(asked):
 def demand_timed(asked):
     """Refuses options of the one way with the other."""
     if not is_timed(asked):
-        given = [x for x in ("jitter", "every", "rate", "check", "worst") if getattr(asked, x) is not None] + [x for x in ("json", "csv") if getattr(asked, x)]
+        given = [x for x in ("jitter", "every", "rate", "check", "worst") if getattr(asked, x) is not None] + ["csv"] * asked.csv
         if given:
             raise BadInput("--%s is for times of links: give --link, --near or --times too" % given[0])
         return

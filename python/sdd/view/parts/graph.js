@@ -3,6 +3,7 @@
 const MOST_NODES = 12;
 const DASHES = {P1: "2 3", P2: "7 3", P3: "none"};
 const PROTOCOLS = {P1: "#888888", P2: "#56B4E9", P3: "#D55E00"};
+const PROTOCOL_WORDS = "P1, dotted: waits for nobody. P2, dashed: reads as of one time. P3, solid: sees all changes before its timestamp, and none after.";
 const BLOCKS = ["#0072B2", "#D55E00", "#009E73", "#CC79A7", "#E69F00", "#56B4E9", "#7a5195", "#8c6d31"];
 
 function tableEdges(run) {
@@ -36,9 +37,9 @@ function drawGraph(view) {
   const names = view.run.classes.filter(name => view.run.lists.get(name) === 0);
   box.textContent = "";
   byId("graph-note").textContent = noteOf(read);
-  if (names.length > MOST_NODES) return box.append(...graphMatrix(view, names, edges, read));
+  if (names.length > MOST_NODES) return box.append(...graphMatrix(view, names, edges, read, () => drawGraph(view)));
   box.append(graphDrawing(names, edges, ruling.length ? read : null, blocks));
-  box.append(element("p", "faint", "P1, dotted: waits for nobody. P2, dashed: reads as of one time. P3, solid: sees all changes before its timestamp, and none after."));
+  box.append(element("p", "faint", PROTOCOL_WORDS));
 }
 
 function noteOf(read) {
@@ -90,8 +91,9 @@ function arrowOf(edge, places, rules, isStrong) {
   return [path, shape("text", {x, y: y + 3, class: "edge", fill: colour, opacity, "font-weight": rules ? 700 : 400}, text)];
 }
 
-// Beyond a dozen classes: readers down, writers across; the colour says the protocol, or the block.
-function graphMatrix(view, names, edges, read) {
+// Beyond a dozen classes: readers down, writers across; the colour says the protocol, or the block, and `redraw` follows a
+// change of that.
+function graphMatrix(view, names, edges, read, redraw) {
   const canvas = element("canvas"), size = Math.max(5, Math.floor(416 / names.length)), pen = canvas.getContext("2d");
   const place = new Map(names.map((name, k) => [name, k])), byBlock = view.graphByBlock;
   canvas.width = canvas.height = names.length * size;
@@ -107,7 +109,7 @@ function graphMatrix(view, names, edges, read) {
     pen.strokeRect(1, place.get(read.class) * size - 1, canvas.width - 2, size + 1);
   }
   canvas.onmousemove = event => { canvas.title = cellWords(names, edges, Math.floor(event.offsetY / size), Math.floor(event.offsetX / size)); };
-  const change = button(byBlock ? "colour: block" : "colour: protocol", "", () => { view.graphByBlock = !byBlock; drawGraph(view); });
+  const change = button(byBlock ? "colour: block" : "colour: protocol", "", () => { view.graphByBlock = !byBlock; redraw(); });
   const key = element("p", "faint", byBlock ? "Readers down, writers across. Grey: no block. " : "Readers down, writers across. Grey P1, blue P2, orange P3. ");
   key.append(change);
   return [key, canvas];

@@ -18,9 +18,11 @@ class View {
     else if (event !== this.event) this.state = this.run.stateAt(event);
     if (event !== this.event && this.selected && !this.selected.site && !this.selected.cell) this.selected = null;
     this.event = event;
-    history.replaceState(null, "", "#e=" + event);
+    history.replaceState(history.state, "", this.addressAt(event));
     this.draw();
   }
+
+  addressAt(event) { return "#e=" + event; }
 
   select(what) {
     this.selected = what;
