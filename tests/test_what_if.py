@@ -115,6 +115,13 @@ class Changes(unittest.TestCase):
         fragments = {x["name"]: x["copies"] for x in cut.draft.parts["fragment"]}
         self.assertEqual([[1], [2], [1], [2]], [fragments[x] for x in ("savings_t1", "savings_t2", "checking_t1", "checking_t2")])
 
+    def test_a_class_that_is_missing(self):
+        draft, changes = self.changes("audit", NEAR + [("T3-D1", 0.2)])
+        self.assertEqual(1, draft.undeclared())
+        declared = next(x for x in changes if x.kind == "declare")
+        self.assertIn("a class for audit: its 1 transactions have none", declared.words)
+        self.assertEqual((0, "audit"), (declared.draft.undeclared(), declared.draft.classes()[0]["name"]))
+
     def test_loose_classes(self):
         """A class of two groups is split, readers go before it, fragments that are used together are one, what nobody uses goes."""
         paths = [os.path.join(self.folder, x) for x in ("catalogue.toml", "workload")]
