@@ -28,6 +28,10 @@ class Documents(unittest.TestCase):
         absent = ["%s: %s" % (x.path, name) for x in self.found for name in SCRIPT.findall(x.text) if not os.path.exists(os.path.join(ROOT, name))]
         self.assertEqual(absent, [])
 
+    def test_front_page_names_each_document(self):
+        front = next(x for x in self.found if x.path == "README.md").text
+        self.assertEqual([x.path for x in self.found if x.path.startswith("docs/") and "](%s)" % x.path not in front], [])
+
     def test_front_page_is_short(self):
         self.assertLessEqual(next(x for x in self.found if x.path == "README.md").text.count("\n"), 130)
 
