@@ -14,10 +14,68 @@ from sdd.design.changes import changes_of_classes
 from sdd.design.changes_of_data import changes_of_data, renamed, round_key
 from sdd.design.drafts import read_draft
 from sdd.design.times import read_times
+from sdd.model.files import write_text
 from sdd.reference.commands import answer, read_file
 from sdd.reference.plain import serial
 
 NEAR = [("T1-D1", 0.2), ("T2-D2", 0.2)]
+LOOSE = """
+tms = 2
+dms = 2
+[[relation]]
+name = "seat"
+columns = [{name = "id", kind = "int"}, {name = "sold", kind = "int"}]
+key = "id"
+[[relation]]
+name = "till"
+columns = [{name = "id", kind = "int"}, {name = "cents", kind = "int"}]
+key = "id"
+[[fragment]]
+name = "low"
+relation = "seat"
+to = 99
+copies = [2]
+[[fragment]]
+name = "high"
+relation = "seat"
+from = 100
+copies = [2]
+[[fragment]]
+name = "tills"
+relation = "till"
+copies = [1]
+[[class]]
+name = "work"
+tm = 1
+reads = [{fragment = "low", at = 2}, {fragment = "high", at = 2}, {fragment = "tills", at = 1}]
+writes = ["low", "high", "tills"]
+[[class]]
+name = "look"
+tm = 1
+reads = [{fragment = "low", at = 2}, {fragment = "high", at = 2}]
+[[class]]
+name = "idle"
+tm = 2
+reads = [{fragment = "tills", at = 1}]
+"""
+LOOSE_WORK = """row seat 1 0
+row seat 101 0
+row till 1 0
+txn sell1 T1
+update seat set 1.sold = 1
+done
+txn pay2 T1
+update till set 1.cents += 5 where 1.id = 1
+done
+txn look3 T1
+query 1.id from seat where 1.sold = 0
+done
+submit sell1
+submit pay2
+submit look3
+settle
+end
+"""
 
 
 class Changes(unittest.TestCase):
@@ -56,6 +114,30 @@ class Changes(unittest.TestCase):
         self.assertIn("cut at 1000", cut.words)
         fragments = {x["name"]: x["copies"] for x in cut.draft.parts["fragment"]}
         self.assertEqual([[1], [2], [1], [2]], [fragments[x] for x in ("savings_t1", "savings_t2", "checking_t1", "checking_t2")])
+
+    def test_a_class_that_is_missing(self):
+        draft, changes = self.changes("audit", NEAR + [("T3-D1", 0.2)])
+        self.assertEqual(1, draft.undeclared())
+        declared = next(x for x in changes if x.kind == "declare")
+        self.assertIn("a class for audit: its 1 transactions have none", declared.words)
+        self.assertEqual((0, "audit"), (declared.draft.undeclared(), declared.draft.classes()[0]["name"]))
+
+    def test_loose_classes(self):
+        """A class of two groups is split, readers go before it, fragments that are used together are one, what nobody uses goes."""
+        paths = [os.path.join(self.folder, x) for x in ("catalogue.toml", "workload")]
+        for path, text in zip(paths, (LOOSE, LOOSE_WORK)):
+            write_text(path, text)
+        draft, distances = read_draft(*paths), read_times(near=[("T1-D1", 0.2), ("T2-D2", 0.2)])
+        found = {}
+        for change in [*changes_of_data(draft, distances), *changes_of_classes(draft, distances)]:
+            found.setdefault(change.kind, change)
+            self.assertEqual(0, change.draft.undeclared(), change.words)
+        self.assertEqual({"work": ["sell1", "pay2", "look3"], "look": [], "idle": []}, draft.members())
+        self.assertIn("2 groups", found["split"].words)
+        self.assertEqual({"sell1": "work", "pay2": "work_2", "look3": "work"}, found["split"].draft.class_of())
+        self.assertEqual("look", found["order"].draft.class_of()["look3"])
+        self.assertEqual(["low", "tills"], [x["name"] for x in found["join"].draft.parts["fragment"]])
+        self.assertEqual(["work"], [x["name"] for x in found["trim"].draft.classes()])
 
     def test_a_copy_for_the_audit(self):
         draft, changes = self.changes("audit_class", NEAR + [("T3-D1", 0.2)])

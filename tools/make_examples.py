@@ -7,11 +7,11 @@ Of each example the program COMMAND (a built `sdd1`; without it `rt try`, minute
 the report of its workload, or the advice on its catalogue where it has no workload; sdd picture
 and sdd graph-picture draw `picture.svg` and, where `dot` of Graphviz is installed, `graph.svg`.
 Of the example `sql` catalogue and workload are translated from its script. Of the known applications they
-are made too, with the catalogue of the first design (`first.toml`), and with `waits.svg`, in which
+are made too, with the catalogue of the first design (`first.toml`), and with `waits.svg` and `times.svg`, in which
 sdd explore compares the two.
 
 With --check nothing is written, and each file that would change is reported; `graph.svg` is left out then,
-since it depends on the version of `dot` and its fonts, and `waits.svg`, since it takes long. The folder
+since it depends on the version of `dot` and its fonts, and `waits.svg` and `times.svg`, since they take long. The folder
 examples/broken is that of tools/make_broken.py.
 """
 import os
@@ -23,6 +23,7 @@ import sdd_path  # noqa: F401
 from sdd.bench.make_workload import APPLICATIONS, write_workload
 from sdd.command import parser, start
 from sdd.model.files import BadInput
+from sdd.model.reading import catalogue_at
 from sdd.programs import ROOT, add_program, own_command, run_program
 
 EXAMPLES = os.path.join(ROOT, "examples")
@@ -83,7 +84,9 @@ def compare_designs(name, program, folder, check):
         return ["first.toml"]
     words = ["--pace", "6", "--picture", os.path.join(folder, "waits.svg")] + (["--program", program] if program else [])
     draw("explore", files + words)
-    return ["first.toml", "waits.svg"]
+    near = [x for k in range(1, 5) for x in ("--near", "T%d-D%d=0.2" % (k, k))][:2 * catalogue_at(files[2]).dms]
+    draw("explore", files + words[4:] + ["--link", "20", "--runs", "50", "--by", "kind", "--picture", os.path.join(folder, "times.svg")] + near)
+    return ["first.toml", "waits.svg", "times.svg"]
 
 
 def same(a, b):

@@ -20,8 +20,22 @@ class Change(NamedTuple):
 
 
 def changes_of_classes(draft, distances):
-    for make in (merges, merges_at_modules, merges_elsewhere, moves, splits, trims, readers_first, dropped_reads, steps, without_class):
+    for make in (declares, merges, merges_at_modules, merges_elsewhere, moves, splits, trims, readers_first, dropped_reads, steps, without_class):
         yield from make(draft, distances)
+
+
+def declares(draft, distances):
+    """A class for transactions of one kind that have none."""
+    kinds = {}
+    for txn in draft.submitted():
+        if draft.class_of()[txn.name] is None:
+            kinds.setdefault((kind_of(txn.name), txn.tm), []).append(txn.name)
+    for (kind, tm), names in kinds.items():
+        made = draft.changed()
+        cls = {"name": made.free_name("class", kind), "tm": tm}
+        fit(draft, cls, names, distances)
+        made.parts["class"] = [cls] + made.classes() if not writes(cls) else made.classes() + [cls]
+        yield Change("declare", "a class for %s: its %d transactions have none, and the whole system is drained for each" % (kind, len(names)), made, "-")
 
 
 def meet(a, b):
@@ -126,7 +140,7 @@ def footprint_groups(draft, cls, names):
         mine = set(touched[name][0]) | set(touched[name][1])
         near = [g for g in groups if g[0] & mine]
         groups = [g for g in groups if g not in near] + [(mine.union(*(g[0] for g in near)), [x for g in near for x in g[1]] + [name])]
-    return [g[1] for g in groups]
+    return sorted([g[1] for g in groups], key=len, reverse=True)
 
 
 def split(draft, cls, groups, distances):

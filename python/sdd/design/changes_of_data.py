@@ -55,17 +55,23 @@ def read_at(draft, cls, fragments, d, distances):
 # Cuts.
 
 def touched_keys(draft):
-    """Relation -> the transaction modules and keys of what reads or writes one key."""
-    cat, made = draft.design().cat, {}
+    """Relation -> the transaction modules and keys of what changes one row; where one module alone does, also of what reads one."""
+    changed, touched = {}, {}
     for txn in draft.submitted():
-        for use in plain.uses_of(cat, txn):
-            low, high = plain.keys_allowed(cat.relation[use.relation], use.conds)
-            if low == high:
-                made.setdefault(use.relation, []).append((txn.tm, low))
         for s in txn.statements:
-            if isinstance(s, statements.Put):
-                made.setdefault(s.relation, []).append((txn.tm, cat.relation[s.relation].key_of(s.row)))
-    return made
+            for relation, key in keys_of(draft.design().cat, txn, s):
+                touched.setdefault(relation, []).append((txn.tm, key))
+                if not isinstance(s, statements.Query):
+                    changed.setdefault(relation, []).append((txn.tm, key))
+    return touched | {relation: points for relation, points in changed.items() if len({tm for tm, _ in points}) > 1}
+
+
+def keys_of(cat, txn, statement):
+    """Of each use of a statement that is of one key its relation and the key."""
+    if isinstance(statement, statements.Put):
+        return [(statement.relation, cat.relation[statement.relation].key_of(statement.row))]
+    found = [(x.relation, *plain.keys_allowed(cat.relation[x.relation], x.conds)) for x in plain.uses_of(cat, txn._replace(statements=(statement,)))]
+    return [(relation, low) for relation, low, high in found if low == high]
 
 
 def boundaries(points):

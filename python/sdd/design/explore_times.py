@@ -22,6 +22,7 @@ def add_times(asked):
     asked.add_argument("--jitter", metavar="PERCENT", type=number_of, help="up to so many percent more, drawn (10)")
     asked.add_argument("--service", metavar="D1=MS", type=service_of, action="append", default=[], help="how long a site handles a message; D or T for all")
     asked.add_argument("--every", metavar="MS", type=number_of, help="between two submissions, on the average (10)")
+    asked.add_argument("--rate", metavar="N", type=number_of, help="submissions in a second, in place of --every")
     asked.add_argument("--check", metavar="N", type=count, help="how many of the runs `sdd1` carries out too")
     asked.add_argument("--json", action="store_true", help="print JSON")
     asked.add_argument("--csv", action="store_true", help="print CSV, a line for each class")
@@ -35,7 +36,7 @@ def is_timed(asked):
 def demand_timed(asked):
     """Refuses options of the one way with the other."""
     if not is_timed(asked):
-        given = [x for x in ("jitter", "every", "check", "worst") if getattr(asked, x) is not None] + ["csv"] * asked.csv
+        given = [x for x in ("jitter", "every", "rate", "check", "worst") if getattr(asked, x) is not None] + ["csv"] * asked.csv
         if given:
             raise BadInput("--%s is for times of links: give --link, --near or --times too" % given[0])
         return
@@ -47,7 +48,16 @@ def demand_timed(asked):
 
 
 def times_of(asked):
-    return read_times(asked.times, asked.link, asked.near, asked.service, asked.jitter, asked.every)
+    return read_times(asked.times, asked.link, asked.near, asked.service, asked.jitter, every_of_words(asked))
+
+
+def every_of_words(asked):
+    """The milliseconds between two submissions, where the command line says them."""
+    if asked.rate is None:
+        return asked.every
+    if asked.every is not None or not asked.rate:
+        raise BadInput("--rate is more than 0, and stands in place of --every")
+    return 1000 / asked.rate
 
 
 def share(runs, program):

@@ -31,7 +31,7 @@ joined by AND. `:payer 1 TO 999` tells the values that a parameter may have; fro
 a transaction can touch. Each transaction gets a class; those that only read come first, equal ones are one.
 
 FOLDER gets `catalogue.toml` and `workload`. A file there that was edited by hand stays: the new one is written beside it,
-`catalogue.new.toml` or `workload.new`. Printed is which class each transaction gets, and why. What can't be
+`catalogue.new.toml` or `workload.new` (FOLDER/.made knows what was written). Printed is which class each transaction gets, and why. What can't be
 translated is refused with its line. So is a statement that may see what one before it in its transaction
 changed: here all statements see the database as it was when the transaction began.
 """

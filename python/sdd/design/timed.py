@@ -1,8 +1,8 @@
 """A run with the times of its links: which message arrives when, and what each transaction waited for.
 
-    run = TimedRun(plans, times, events, rng, is_traced=False)
+    run = TimedRun(plans, times, phases, rng, is_traced=False)
 
-`events` are pairs of a time in milliseconds and an event of the workload; `times` has the distances between sites and
+A phase is a list of pairs of a time in milliseconds and an event of the workload; `times` has the distances between sites and
 how long each handles a message (times.py). It does what the program does, message by message, but knows no
 acknowledgements, which nothing waits for. With `is_traced` it carries these too, and keeps the events of the
 schedule and the trace that `sdd1 run` prints for it: both are compared each time that explore runs.
@@ -34,7 +34,7 @@ class TimedRun(Modules, Stores):
         self.heap, self.count, self.now, self.messages, self.era = [], 0, 0.0, 0, 0
         self.told, self.event = {}, 0
         self.has_settles, self.quiet = len(phases) > 1, 0.0     # quiet: when the last acknowledgement has come
-        self.trace, self.schedule, self.moments = ([], [], []) if is_traced else (None, None, None)
+        self.trace, self.schedule = ([], []) if is_traced else (None, None)
         self.build()
         for phase in phases:
             begin = max(self.now, self.quiet)
@@ -116,7 +116,6 @@ class TimedRun(Modules, Stores):
     def next_event(self, line):
         self.event += 1
         self.schedule.append(line)
-        self.moments.append(self.now)
 
     def name(self, site):
         return "U" if site == 0 else "T%d" % site if site <= self.tms else "D%d" % (site - self.tms)

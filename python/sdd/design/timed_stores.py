@@ -64,13 +64,23 @@ class Stores:
 
     def work_off(self, store):
         """Does what is due at the heads of the pipes, always that of the lowest class."""
-        full = store.full
+        full, pipes = store.full, store.pipes
         while True:
             for cls in sorted(full) if len(full) > 1 else tuple(full):
-                if self.do_head(store, cls, store.pipes[cls]):
+                pipe = pipes[cls]
+                if pipe.unmet:              # a READ that may go on waiting: asked here, since it is asked most often
+                    c, time, _ = pipe.unmet[-1]
+                    came = pipes[c].came
+                    if (came[0][2] if came else pipes[c].latest) < time:
+                        continue
+                if self.do_head(store, cls, pipe):
                     break
             else:
                 return
+
+    def is_unmet(self, pipes, cond):
+        came = pipes[cond[0]].came
+        return (came[0][2] if came else pipes[cond[0]].latest) < cond[1]
 
     def do_head(self, store, cls, pipe):
         """Does what is due at the head of a pipe; whether something was."""
@@ -117,9 +127,7 @@ class Stores:
         conds, pipes = message[4], store.pipes
         if pipe.waits is not None:
             while pipe.unmet:
-                c, time, _ = pipe.unmet[-1]
-                came = pipes[c].came
-                if (came[0][2] if came else pipes[c].latest) < time:
+                if self.is_unmet(pipes, pipe.unmet[-1]):
                     return False
                 pipe.unmet.pop()
             self.end_wait(store, cls, pipe, message)

@@ -1,9 +1,9 @@
 """Says what to change in a design: which changes leave least P3 and P2, and what each saves in milliseconds.
 
-    sdd what-if CATALOGUE WORKLOAD [--link MS] [--near T1-D1=MS ..] [--times FILE] [--every MS] [--steps N]
+    sdd what-if CATALOGUE WORKLOAD [--link MS] [--near T1-D1=MS ..] [--times FILE] [--every MS | --rate N] [--steps N]
                 [--most N] [--runs N] [--seed SEED] [--into FOLDER] [--json]
 
-Looked for are classes to be merged, split, moved to another module or declared with less; fragments to be cut
+Looked for are classes that are missing, or to be merged, split, moved to another module or declared with less; fragments to be cut
 where one module's keys end, or joined; relations that fit into one row; copies nearer to their readers; reads that
 could be dropped; transactions to be done in steps. Each change gives another catalogue, and some another workload. Its
 protocols are counted, the promising ones run with the times of the links, and the list is ordered by the time from
@@ -25,13 +25,15 @@ from sdd.command import count, parser
 from sdd.design.changes import changes_of_classes
 from sdd.design.changes_of_data import changes_of_data
 from sdd.design.drafts import read_draft
+from sdd.design.explore_times import every_of_words
 from sdd.design.latency_tables import shown
 from sdd.design.milliseconds import explore_times
 from sdd.design.times import demand_sites, near_of, number_of, read_times, service_of
 from sdd.model.files import BadInput, write_text
+from sdd.reference import plain
 
 TRIED, RUN_AGAIN, FOLLOWED = 24, 16, 2      # of a level's changes so many of the least P3 and P2 are run once, so many more often, and so many followed
-ALWAYS_RUN = ("copy", "move", "cut", "join", "one row", "trim", "order", "split")
+ALWAYS_RUN = ("declare", "copy", "move", "cut", "join", "one row", "trim", "order", "split")
 ALTERS = ("read less", "steps")
 NEVER_FOLLOWED = ("read less", "undeclared")
 SAME = 0.03                 # times so near to each other count as one
@@ -114,12 +116,10 @@ class Search:
         return sorted([x for x in (self.run(x.draft, x.steps, self.asked.runs) for x in best) if better(begin, x)], key=rank)[:self.asked.most]
 
     def least(self, tried):
-        """How long a commit takes at least, on the average: there and back twice to the farthest module, and no wait."""
-        plans, total, submitted = tried.draft.design().plans, 0.0, tried.draft.design().work.submitted()
-        for n in submitted:
-            plan = plans.plan(n)
-            total += max((4 * self.distances.between("T%d" % plan.tm, "D%d" % read.module) for read in plan.reads), default=0) if plan.cls else 0
-        return total / len(submitted) * (1 + self.distances.jitter / 200)
+        """How long a commit takes at least, on the average: there and back twice to the nearest module, and no wait."""
+        submitted, stores = tried.draft.submitted(), range(1, tried.draft.parts["dms"] + 1)
+        nearest = [min(self.distances.between("T%d" % txn.tm, "D%d" % d) for d in stores) for txn in submitted if plain.uses_of(tried.draft.design().cat, txn)]
+        return 4 * sum(nearest) / len(submitted) * (1 + self.distances.jitter / 200)
 
 
 def altering(tried):
@@ -208,7 +208,7 @@ def distances_of(asked, draft):
     if asked.times is None and not near:
         parts = draft.parts
         near = [("T%d-D%d" % (k, k), 0.2) for k in range(1, min(parts["tms"], parts["dms"]) + 1)]
-    distances = read_times(asked.times, asked.link, near, asked.service, None, asked.every)
+    distances = read_times(asked.times, asked.link, near, asked.service, None, every_of_words(asked))
     demand_sites(asked.near, asked.service, [draft.design().cat])
     return distances
 
@@ -222,6 +222,7 @@ def read_words():
     asked.add_argument("--near", metavar="T1-D1=MS", type=near_of, action="append", default=[])
     asked.add_argument("--service", metavar="D1=MS", type=service_of, action="append", default=[])
     asked.add_argument("--every", metavar="MS", type=number_of)
+    asked.add_argument("--rate", metavar="N", type=number_of)
     asked.add_argument("--steps", metavar="N", type=count, default=6)
     asked.add_argument("--most", metavar="N", type=count, default=12)
     asked.add_argument("--runs", metavar="N", type=count, default=20)
