@@ -4,9 +4,9 @@
     web/modules.py INTO [CRATE ..]
 
 INTO is a folder, which gets CRATE.wasm for each crate, and CRATE.commit with the commit of which it was made; without
-crates these are sdd1 and sdd1_inside. A crate takes some four minutes of a processor. The module is caught and freed of the checks of `rt try` as tools/build_unproved.py does it, compiled for
-wasm64 by the kit's clang, and linked with runtime.c by `wasm-ld`, which is found by its name or given by WASM_LD in the
-environment (Debian: apt-get install lld-19).
+crates these are sdd1 and sdd1_inside. A crate takes some four minutes of a processor. The module is caught and freed of
+the checks of `rt try` as tools/build_unproved.py does it, compiled for wasm64 by the kit's clang, and linked with
+runtime.c by `wasm-ld`, which is found by its name or given by WASM_LD in the environment (Debian: apt-get install lld-19).
 """
 import os
 import shutil
