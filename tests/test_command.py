@@ -1,11 +1,14 @@
 """The command `sdd`: what it prints, how it ends, and how it refuses."""
+import fnmatch
 import glob
+import importlib
 import io
 import json
 import os
 import subprocess
 import sys
 import tempfile
+import tomllib
 import unittest
 from typing import NamedTuple
 from unittest import mock
@@ -176,6 +179,23 @@ class OneFile(unittest.TestCase):
 
 
 class Package(unittest.TestCase):
+    def test_each_command_has_help_and_a_call(self):
+        for word, command in COMMANDS.items():
+            module = importlib.import_module(command.module)
+            self.assertTrue(module.__doc__ and callable(module.main), word)
+            self.assertIn("sdd ", module.__doc__, word)
+            self.assertLess(len(command.does), 90, word)
+
+    def test_all_files_are_installed(self):
+        with open(os.path.join(ROOT, "pyproject.toml"), "rb") as f:
+            patterns = tomllib.load(f)["tool"]["setuptools"]["package-data"]["sdd"]
+        top = os.path.join(ROOT, "python", "sdd")
+        files = [os.path.relpath(os.path.join(at, x), top).replace(os.sep, "/") for at, _, names in os.walk(top) for x in names if "__pycache__" not in at]
+        left_out = [x for x in files if not x.endswith(".py") and not any(fnmatch.fnmatch(x, y) for y in patterns)]
+        self.assertEqual(left_out, [])
+        for at in {os.path.dirname(x) for x in files if x.endswith(".py")}:
+            self.assertIn("/".join([at, "__init__.py"]).lstrip("/"), files)
+
     def test_nothing_is_imported_but_the_standard_library(self):
         allowed = set(sys.stdlib_module_names) | {"sdd"}
         for path in glob.glob(os.path.join(ROOT, "python", "sdd", "**", "*.py"), recursive=True):

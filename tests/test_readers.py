@@ -156,6 +156,9 @@ class Workloads(unittest.TestCase):
         self.refused("deliver T2 D1 1", "deliver T2 D1 1\r", "workload: line 6: BadNumber", "\r")
         self.refused("txn look T2", "txn look D1", "workload: line 2: BadEvent", "D1")
         self.refused("end\n", "", "workload: line 7: NoEnd", "")
+        self.refused("1.item = 1", "1.item = 1 1.cents = 2", "workload: line 3: BadLine", "1.cents")
+        self.refused("1.item = 1", "1.item is 1", "workload: line 3: BadLine", "is")
+        self.refused("1.item = 1", "1.item =", "workload: line 3: BadLine", "=")
 
     def test_same_text_again(self):
         for path in EXAMPLES:

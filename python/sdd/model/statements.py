@@ -167,9 +167,13 @@ def comparisons_in(words: Sequence[str]) -> list[Sequence[str]]:
     """The words of each condition; where they have another form, the line is bad."""
     found: list[Sequence[str]] = []
     for k in range(0, len(words), 4):
-        key, left, op, right = words[k:k + 4] if len(words) >= k + 4 else ("",) * 4
-        must("BadLine", is_key(key, "and" if k else "where") and looks_like_column(left))
-        must("BadLine", not is_quoted(op) and op in OPERATORS and is_free(right))
+        wanted = "and" if k else "where"
+        must("BadLine", is_key(words[k], wanted), words[k], "`%s` belongs here, and {} stands here" % wanted)
+        must("BadLine", len(words) >= k + 4, words[-1], "a condition is a column, an operator, and a column or a value; it ends too early")
+        left, op, right = words[k + 1:k + 4]
+        must("BadLine", looks_like_column(left), left, "{} is no column; a column is written as 1.id")
+        must("BadLine", not is_quoted(op) and op in OPERATORS, op, "{} is no operator; these are =, !=, <, <=, > and >=")
+        must("BadLine", is_free(right), right, BOUND)
         found.append((left, op, right))
     return found
 
@@ -188,9 +192,12 @@ def put_of(cat: "Catalogue", words: Sequence[str]) -> Put:
 
 def query_of(cat: "Catalogue", words: Sequence[str]) -> Query:
     columns, behind = cut_at("from", words)
-    must("BadLine", behind)
+    must("BadLine", behind, None, "`from` and the relations are missing")
     relations, rest = cut_at("where", behind[1:])
-    must("BadLine", columns and all(map(looks_like_column, columns)) and are_free(relations))
+    must("BadLine", columns, behind[0], "no column stands before `from`")
+    strange = next((x for x in columns if not looks_like_column(x)), None)
+    must("BadLine", strange is None, strange, "{} is no column; a column is written as 1.id")
+    must("BadLine", are_free(relations), bound(relations), BOUND if relations else "no relation stands behind `from`")
     comparisons = comparisons_in(rest)
     out = tuple(column_of(cat, relations, w)[0] for w in columns)
     found = tuple(relation_named(cat, w).name for w in relations)
@@ -200,10 +207,12 @@ def query_of(cat: "Catalogue", words: Sequence[str]) -> Query:
 def update_of(cat: "Catalogue", words: Sequence[str]) -> Update:
     must("BadLine", len(words) >= 2 and is_key(words[1], "set") and is_free(words[0]))
     sets, rest = cut_at("where", words[2:])
-    must("BadLine", sets and len(sets) % 3 == 0)
+    must("BadLine", sets and len(sets) % 3 == 0, sets[-1] if sets else None, "an assignment is a column, = or +=, and a value; it ends too early")
     settings = [sets[k:k + 3] for k in range(0, len(sets), 3)]
     for left, op, right in settings:
-        must("BadLine", looks_like_column(left) and not is_quoted(op) and op in ("=", "+=") and is_free(right))
+        must("BadLine", looks_like_column(left), left, "{} is no column; a column is written as 1.id")
+        must("BadLine", not is_quoted(op) and op in ("=", "+="), op, "{} is neither = nor +=")
+        must("BadLine", is_free(right), right, BOUND)
     comparisons = comparisons_in(rest)
     relation = relation_named(cat, words[0])
     assigns = tuple(assign_of(cat, relation, s) for s in settings)

@@ -10,9 +10,9 @@ happens. Keys: right and left arrow for the next event and the one before, n and
 record, Home and End; # e=17 behind the address opens it at event 17.
 
 --program is a built `sdd1`, and --inside a built `sdd1_inside`, which is also found beside `sdd1`. Without
-them those built in crates/ are taken, or those on the path, or else the reference of this repository, which
-is slower; a line says which. docs/INSIDE.md has the form of what `sdd1_inside` prints. sdd play serves
-the same page, to make a schedule by clicking.
+them those built in crates/ are taken, or those on the path, or else the reference, which is slower; a line
+says which. docs/INSIDE.md has the form of what `sdd1_inside` prints. `sdd play` serves the same page, to make
+a schedule by clicking.
 """
 import base64
 import hashlib

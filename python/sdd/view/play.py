@@ -9,7 +9,7 @@ gives a file that `sdd1 run` takes. Without WORKLOAD there are no rows and no tr
 
 It listens on the loopback address alone, answers no request of another site and none without the token of
 the printed address, takes no path from a page, and writes no file but in a temporary folder. The programs
-are found as sdd page finds them. Ctrl-C ends it.
+are found as `sdd page` finds them. Ctrl-C ends it.
 """
 import http.server
 import json

@@ -1,0 +1,83 @@
+"""tools/install.sh installs all or nothing, and removes what it installed.
+
+It is tried in a copy in which `rt` and the builder are played: a played program prints the text that the repository keeps
+of its example.
+"""
+import os
+import shutil
+import stat
+import subprocess
+import sys
+import tempfile
+import unittest
+
+import sdd_path  # noqa: F401
+from sdd.model.files import write_text
+from sdd.programs import ROOT
+
+RT = '#!/bin/sh\nif [ "$1" = version ]; then echo played-kit; else exit 1; fi\n'
+BUILDER = '''\
+import os, sys
+into, name = sys.argv[1:3]
+if os.environ.get("FAILS") == name:
+    sys.exit("the builder has no memory")
+with open(into, "w", newline="\\n") as f:
+    f.write("#!/bin/sh\\ncat %s/crates/%s/stdout\\n" % (os.environ["ROOT"], name))
+os.chmod(into, 0o755)
+'''
+
+
+@unittest.skipUnless(shutil.which("bash") and os.name == "posix", "there is no bash")
+class Install(unittest.TestCase):
+    def setUp(self):
+        room = tempfile.TemporaryDirectory()
+        self.addCleanup(room.cleanup)
+        self.root, self.prefix, self.bin = (os.path.join(room.name, x) for x in ("root", "prefix", "bin"))
+        os.makedirs(os.path.join(self.root, "tools"))
+        os.makedirs(self.bin)
+        for name in ("crates", "python", os.path.join("tools", "install")):
+            os.symlink(os.path.join(ROOT, name), os.path.join(self.root, name))
+        for name in ("install.sh", "make_pyz.py", "sdd_path.py"):
+            shutil.copy(os.path.join(ROOT, "tools", name), os.path.join(self.root, "tools", name))
+        write_text(os.path.join(self.root, "tools", "build_unproved.py"), BUILDER)
+        write_text(os.path.join(self.bin, "rt"), RT)
+        os.chmod(os.path.join(self.bin, "rt"), stat.S_IRWXU)
+        os.symlink(sys.executable, os.path.join(self.bin, "python3"))
+
+    def install(self, *words, fails=""):
+        env = {**os.environ, "PATH": self.bin + os.pathsep + os.defpath, "ROOT": ROOT, "FAILS": fails}
+        return subprocess.run(["bash", os.path.join(self.root, "tools", "install.sh"), *words, self.prefix], env=env, stdin=subprocess.DEVNULL,
+                              stdout=subprocess.PIPE, stderr=subprocess.PIPE, text=True)
+
+    def installed(self):
+        return sorted(os.path.relpath(os.path.join(at, x), self.prefix) for at, _, names in os.walk(self.prefix) for x in names)
+
+    def test_all(self):
+        done = self.install("--unproved")
+        self.assertEqual((done.returncode, done.stderr), (0, ""))
+        for k in (1, 2, 3):
+            self.assertIn("step %d of 3: " % k, done.stdout)
+        there = self.installed()
+        for name in ("bin/sdd", "bin/sdd1-unproved", "bin/sdd1_inside-unproved", "share/man/man1/sdd.1", "share/sdd1/sdd1-unproved"):
+            self.assertIn(name, there)
+        version = subprocess.run([sys.executable, os.path.join(self.prefix, "bin", "sdd"), "--version"], stdout=subprocess.PIPE, text=True,
+                                 env={**os.environ, "PATH": os.path.join(self.prefix, "bin")}).stdout
+        self.assertIn("sdd1-unproved, unproved; ", version)
+        self.assertIn("played-kit", version)
+        self.assertEqual((self.install("--uninstall").returncode, self.installed()), (0, []))
+
+    def test_nothing_where_one_fails(self):
+        for name in ("sdd1", "sdd1_inside"):
+            done = self.install("--unproved", fails=name)
+            self.assertEqual((done.returncode, self.installed()), (2, []))
+            self.assertIn("the builder has no memory", done.stderr)
+            self.assertIn("so nothing was installed", done.stderr)
+
+    def test_nothing_where_the_gate_fails(self):
+        done = self.install()
+        self.assertEqual((done.returncode, self.installed()), (2, []))
+        self.assertIn("step 1 of 2: the gate", done.stdout)
+
+
+if __name__ == "__main__":
+    unittest.main()
