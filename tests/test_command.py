@@ -86,6 +86,12 @@ class Answers(unittest.TestCase):
         self.assertEqual((report["order"], report["replies"]["look"]["queries"]), (["look", "raise"], [[[1, 100]]]))
         self.assertEqual(json.loads(call("verify", "--json", *BRIDGE, REPORT).stdout), {"serializable": True})
 
+    def test_json_of_explore(self):
+        found = json.loads(call("explore", *BRIDGE, "--runs", "3", "--json").stdout)
+        self.assertEqual((found["unit"], len(found["designs"])), ("rounds", 1))
+        design = found["designs"][0]
+        self.assertEqual((design["transactions"], design["class"]["all"]["commits"], design["protocols"]["P3"]), (2, 2 * design["schedules"], 0))
+
     def test_inside_and_reference(self):
         inside = call("inside", *BRIDGE, "-q").stdout
         self.assertEqual(json.loads(inside.split(b"\n")[0])["inside"], 1)

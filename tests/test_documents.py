@@ -9,7 +9,7 @@ from sdd.cli import COMMANDS
 from sdd.programs import ROOT
 
 SHOWN = re.compile(r"(?:^ {4}|`)(?:python3 )?sdd ([a-z][a-z-]*)", re.MULTILINE)
-SCRIPT = re.compile(r"(?<![\w/.-])(?:tools|tests|python)/[\w./-]*\.(?:py|sh|toml)\b")
+SCRIPT = re.compile(r"(?<![\w/.-])(?:tools|tests|python|web)/[\w./-]*\.(?:py|sh|toml)\b")
 
 
 class Documents(unittest.TestCase):

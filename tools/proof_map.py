@@ -111,24 +111,26 @@ def rows_of(parts):
 
 
 def page_of(parts, rows):
+    """Three tables: the clauses with their lemmas, the lines of each crate that carry each, what is taken from each crate."""
     order = order_of_crates()
-    lines = ["Made by `tools/proof_map.py` from the text: %d definitions and lemmas, %d lines of them in `proofs/`." % (
-        len(parts), sum(len(it.lines) for it in parts.values() if it.kind == "proofs")), "",
-        "For each field of `IsReportOn` (`crates/%s`): the lemmas that make it, and by crate, from the top down, the lemmas that the crates above take from it (the largest three), with the lines of proof that it contributes." % one(parts, *REPORT).place, ""]
-    for name, comment, _, seeds, taken, sizes in rows:
-        lines += ["#### `%s`" % name, ""]
-        lines += [comment, ""] if comment else []
-        if not seeds:
-            lines += ["Given, or by computation: no lemma is named.", ""]
-            continue
-        lines += ["Made by %s; %d lines of proof in all." % (", ".join("`%s` (%s)" % (it.name, it.place) for it in seeds), sum(sizes.values())), ""]
-        lines += ["| crate | lemmas that are taken from it | lines |", "|---|---|---|"]
-        for crate in sorted(sizes, key=lambda it: -order.get(it, 0)):
-            most = sorted(taken.get(crate, ()), key=lambda key: (-len(antt.reached(parts, [key])), key))[:3]
-            reported = ", ".join("`%s` (%s)" % (parts[key].name, parts[key].place.partition("/")[2]) for key in most)
-            rest = len(taken.get(crate, ())) - len(most)
-            lines.append("| `%s` | %s%s | %d |" % (crate, reported or "its own", " and %d more" % rest if rest else "", sizes[crate]))
-        lines.append("")
+    made = [row for row in rows if row[3]]
+    crates = sorted({crate for row in made for crate in row[5]}, key=lambda it: -order.get(it, 0))
+    lines = ["Made by `tools/proof_map.py` from the text: %d definitions and lemmas, %d lines of them in `proofs/`. The clauses are the fields of `IsReportOn` (`crates/%s`); those that are given, or follow by computation, name no lemma: %s." % (
+        len(parts), sum(len(it.lines) for it in parts.values() if it.kind == "proofs"), one(parts, *REPORT).place,
+        ", ".join("`%s`" % row[0] for row in rows if not row[3])), "",
+        "| clause | made by | lines of proof below it |", "|---|---|---|"]
+    for name, _, _, seeds, _, sizes in made:
+        lines.append("| `%s` | %s | %d |" % (name, ", ".join("`%s` (%s)" % (it.name, it.place) for it in seeds), sum(sizes.values())))
+    lines += ["", "Which crates carry it, in lines of proof:", "", "| crate | %s |" % " | ".join("`%s`" % row[0] for row in made), "|---|%s" % ("---|" * len(made))]
+    for crate in crates:
+        lines.append("| `%s` | %s |" % (crate, " | ".join(str(row[5].get(crate, "")) for row in made)))
+    lines += ["", "What the crates above take from each, the largest three by what they rest on:", "", "| crate | lemmas | and more |", "|---|---|---|"]
+    for crate in crates:
+        taken = set().union(*(row[4].get(crate, set()) for row in made))
+        most = sorted(taken, key=lambda key: (-len(antt.reached(parts, [key])), key))[:3]
+        shown = ", ".join("`%s` (%s)" % (parts[key].name, parts[key].place.partition("/")[2]) for key in most)
+        lines.append("| `%s` | %s | %s |" % (crate, shown or "its own", len(taken) - len(most) or ""))
+    lines.append("")
     return "\n".join(lines)
 
 

@@ -41,13 +41,18 @@ COMMANDS = {
     "picture": Command(LOOK, "sdd.view.picture", "a report as a picture"),
     "graph-picture": Command(LOOK, "sdd.view.graph_picture", "the conflict graph as a picture"),
     "explore": Command(DESIGN, "sdd.design.explore", "who waits for whom and how long, under many schedules"),
+    "what-if": Command(DESIGN, "sdd.design.what_if", "which changes of a design save most, in words and milliseconds"),
     "shrink": Command(DESIGN, "sdd.design.shrink", "the least workload whose report still has a line"),
     "from-sql": Command(DESIGN, "sdd.design.from_sql", "a catalogue and a workload from a plain subset of SQL"),
+    "grade": Command(TEACH, "sdd.teach.grade", "a report of another SDD-1, judged part by part, with the rule that it breaks"),
+    "exercise": Command(TEACH, "sdd.teach.exercise", "twelve exercises that judge what is handed in"),
     "to-elle": Command(JUDGE, "sdd.judge.to_elle", "a report as a history that a checker of isolation levels reads"),
     "check-history": Command(JUDGE, "sdd.judge.check_history", "whether such a history is serializable"),
     "plant-faults": Command(JUDGE, "sdd.judge.plant_faults", "how many planted faults these two find"),
     "all-orders": Command(JUDGE, "sdd.judge.all_orders", "a report judged by trying every order"),
     "find-broken": Command(JUDGE, "sdd.judge.find_broken", "a schedule that goes wrong where one rule is broken"),
+    "history": Command(JUDGE, "sdd.judge.history_command", "a workload run on your own database, and what it replied"),
+    "judge": Command(JUDGE, "sdd.judge.judge_command", "whether the history of any database is serializable"),
     "make-workload": Command(MAKE, "sdd.bench.make_workload", "made workloads, and those of known applications"),
 }
 

@@ -1,18 +1,13 @@
 //! The program: the words, files and streams of the system, handed to the top call.
 //!
 //! What is read and printed is proved at `run_sdd1`; that the process ends with the status's number,
-//! at `exit_code`; what is said if memory runs out before that call, at `end_out_of_memory`. The
-//! adapters of the system's files and streams are proved against the same traits, which say nothing
-//! of their content: what a real file holds, and what `main` hands over and ends with, is trusted.
+//! at `exit_code`; what is said if memory runs out before that call, at `end_out_of_memory`; which bytes
+//! are read and written, at the adapters `HostShelf` and `HostSink`. What the system's own `open`, `read`
+//! and `write` do, and what `main` hands over and ends with, is trusted.
 #![tactic(auto)]
 
-ghost use Rattle.std.specs.Prelude.{◌≡◌};
-ghost use Rattle.std.specs.Process.{exit_status};
-ghost use Rattle.sdd_app.specs.Status.{line_of, number_of_status};
-ghost use Rattle.sdd_app.specs.Taking.{TakesOrFaults};
-
-use sdd_app::{HostShelf, HostSink, Status, run_sdd1, tell};
-use sdd_base::Sink;
+use sdd_app::run_sdd1;
+use sdd_shell::{HostShelf, HostSink, end_out_of_memory, exit_code};
 use std::env;
 use std::io::ErrorKind;
 use std::process::ExitCode;
@@ -20,22 +15,6 @@ use std::process::ExitCode;
 /// The number that the process ends with where a word of the command line isn't text, which is that
 /// of no status. Nothing is written then.
 const NO_WORDS: u8 = 10;
-
-/// The exit status of the process, which says how the call ended.
-fn exit_code(status: Status) -> ExitCode
-    ensures { exit_status result ≡ number_of_status status }
-{
-    ExitCode::from(status.number())
-}
-
-/// Writes that memory ran out, and gives the number that says so.
-fn end_out_of_memory<E: Sink>(err: &mut E) -> ExitCode
-    ensures code { exit_status result ≡ number_of_status Status.NoMemory }
-    ensures line { TakesOrFaults (E.sure err.old) (E.taken err.old) (E.taken err.new) (E.faults err.old) (E.faults err.new) (line_of Status.NoMemory) }
-{
-    tell(err, Status::NoMemory);
-    exit_code(Status::NoMemory)
-}
 
 fn main(rt: HostRuntime) -> ExitCode {
     let mut err = HostSink::new(rt.stderr());

@@ -7,7 +7,5 @@
 #![tactic(auto)]
 
 mod law;
-mod waiting;
 
 pub use law::{law_each_table, law_forests_leave_no_cycle, law_protocols_leave_no_cycle};
-pub use waiting::time_for;

@@ -1,57 +1,52 @@
 -- The names of std, of the crates below and of this crate's definitions that its proofs cite. Declares nothing.
-pub use Rattle.sdd_app.specs.Answer.{BlamesCatalogue, BlamesScript, BlamesWorkload, ComesTo, ComesToControl, ComesToListing, ComesToMade, ComesToPlain, ComesToReport, ComesToRun, ComesToSummary, ComesToVerdict, ComesToVerify, FilesAreThere, FilesOf, FormComesTo, IsMadeSummary, OverCatalogue, TellsOfRun, catalogue_named, control_verdict, judged_as, plain_verdict, script_named, workload_named}
+pub use Rattle.sdd_app.specs.Answer.{BlamesScript, ComesToControl, ComesToListing, ComesToMade, ComesToPlain, ComesToReport, ComesToRun, ComesToSummary, ComesToVerdict, ComesToVerify, FilesOf, FormComesTo, IsMadeSummary, control_verdict, judged_as, plain_verdict, script_named}
+pub use Rattle.sdd_app.specs.Calls.{sdd1_call}
 pub use Rattle.sdd_app.specs.Check.{class_count, module_counts, part_counts}
-pub use Rattle.sdd_app.specs.Command.{Advise, Check, Control, Form, Graph, IsForm, IsNoForm, Make, Plain, Run, Table, Verify, count_in, form_in, form_of, made, words_of}
+pub use Rattle.sdd_app.specs.Command.{Advise, Check, Control, Form, Graph, IsForm, IsNoForm, Make, Plain, Run, Table, Verify, count_in, files_of, form_of, made, words_of}
 pub use Rattle.sdd_app.specs.Edges.{graph_text, table_text}
-pub use Rattle.sdd_app.specs.Endings.{Ending, FilesRead, FormHasRoom, FormIsOver, IsRead, IsReadTo, ToItsEnd, ToItsLimit}
 pub use Rattle.sdd_app.specs.Judging.{verdict_line}
 pub use Rattle.sdd_app.specs.Serially.{names_of, replies_of, serial_text, submitted, submitted_by}
-pub use Rattle.sdd_app.specs.Taking.{TakesOrFaults}
-pub use Rattle.sdd_app.specs.Verdict.{Answers, AtFault, ComesOfFiles, Explains, FaultyCatalogue, FaultyWorkload, IsRefusal, NoForm, PastLimit, Prints, Verdict, status_of, status_of_end, status_of_reading}
 pub use Rattle.sdd_app.specs.declared.command.Command.{Command}
 pub use Rattle.sdd_app.specs.declared.listing.Listing.{Listing}
-pub use Rattle.sdd_app.specs.declared.status.Status.{Status}
-pub use Rattle.sdd_app.specs.declared.status.Status.TheVariants.{BadCatalogue, BadWorkload, Done, Limit, NoMemory, ReadFault, Usage}
-pub use Rattle.sdd_catread.specs.Faults.{broken}
-pub use Rattle.sdd_catread.specs.Form.{top}
-pub use Rattle.sdd_catread.specs.Reading.{catalogue_in}
 pub use Rattle.sdd_control.specs.Report.{report}
 pub use Rattle.sdd_control.specs.Walk.{control_script, most_bytes}
 pub use Rattle.sdd_control.specs.declared.script.ControlScript.{ControlScript}
 pub use Rattle.sdd_graph.proofs.Known.{edges_known}
 pub use Rattle.sdd_graph.specs.Edges.{IsEdgeOf}
 pub use Rattle.sdd_graph.specs.declared.edge.Edge.{Edge}
-pub use Rattle.sdd_lang.specs.All.{CatFault, Catalogue, Event, FitsStart, FitsTxn, MAX_TXNS, MAX_WORKLOAD_BYTES, Submit, database_of}
-pub use Rattle.sdd_lang.specs.base.Outside.{HasRead, KeepsOpen, Opened, ReadsTo, Rose, find_file, with_end}
+pub use Rattle.sdd_lang.specs.All.{Catalogue, Event, FitsStart, FitsTxn, MAX_TXNS, MAX_WORKLOAD_BYTES, Submit, database_of}
+pub use Rattle.sdd_lang.specs.base.Outside.{ReadsTo, find_file}
 pub use Rattle.sdd_lang.specs.base.declared.files.ShelfFile.{ShelfFile}
-pub use Rattle.sdd_lang.specs.base.declared.limits.TheConstants.{MAX_CATALOGUE_BYTES}
-pub use Rattle.sdd_lang.specs.base.declared.reading.ReadError.{ReadError}
-pub use Rattle.sdd_lang.specs.base.declared.reading.ReadError.TheVariants.{Fault}
-pub use Rattle.sdd_lang.specs.catalog.declared.fault.CatRule.TheVariants.{TooLong}
 pub use Rattle.sdd_lang.specs.declared.transaction.Txn.{Txn}
 pub use Rattle.sdd_protocol.proofs.Tables.{all_at as found_member}
 pub use Rattle.sdd_protocol.specs.Protocols.{IsTable}
 pub use Rattle.sdd_protocol.specs.declared.entry.Entry.{Entry}
+pub use Rattle.sdd_verified.proofs.run.Apart.{report_or_limit, summary_or_limit}
+pub use Rattle.sdd_verified.proofs.run.world.Results.{after_ok as on_ok_then}
+pub use Rattle.sdd_verified.specs.run.Runs.{EndsAtLimit, IsReportOn}
+pub use Rattle.sdd_shell.proofs.Calls.{IsDecided, ends_as, form_answers, no_form_answers}
+pub use Rattle.sdd_shell.proofs.FileReads.{read_gives}
+pub use Rattle.sdd_shell.proofs.Verdicts.{OverWork, blamed_work, one_of_run, one_over, one_over_work, over_at, over_there, over_work_at, over_work_there}
+pub use Rattle.sdd_shell.specs.Calls.{IsOverFiles}
+pub use Rattle.sdd_shell.specs.Endings.{HasRoom}
+pub use Rattle.sdd_shell.specs.NamedFiles.{BlamesCatalogue, BlamesWorkload, OverCatalogue, catalogue_named, workload_named}
+pub use Rattle.sdd_shell.specs.Verdict.{Answers, AtFault, Explains, FaultyWorkload, Prints, Verdict, status_of}
+pub use Rattle.sdd_shell.specs.declared.status.Status.{Status}
+pub use Rattle.sdd_shell.specs.declared.status.Status.TheVariants.{BadCatalogue, BadWorkload, ReadFault}
 pub use Rattle.sdd_verified.proofs.MadeSettles.{made_summed}
-pub use Rattle.sdd_verified.proofs.watch.run.Apart.{report_or_limit, summary_or_limit}
-pub use Rattle.sdd_verified.proofs.watch.run.world.Results.{after_ok as on_ok_then}
-pub use Rattle.sdd_verified.proofs.verify.Submissions.{lent_fit, start_fits}
+pub use Rattle.sdd_verified.proofs.verifying.Submissions.{lent_fit, start_fits}
 pub use Rattle.sdd_verified.specs.make.Bank.{bank}
 pub use Rattle.sdd_verified.specs.make.Turns.{workload_of}
 pub use Rattle.sdd_verified.specs.report.Names.{spaced}
-pub use Rattle.sdd_verified.specs.watch.run.Runs.{EndsAtLimit, IsReportOn}
 pub use Rattle.sdd_verified.specs.script.Valid.{IsValid, IsValidTxn}
 pub use Rattle.sdd_verified.specs.script.Walk.{workload}
 pub use Rattle.sdd_verified.specs.script.declared.fault.WorkFault.{WorkFault}
 pub use Rattle.sdd_verified.specs.script.declared.workload.Workload.{Workload}
-pub use Rattle.sdd_verified.specs.verify.declared.limits.TheConstants.{MAX_REPORT_BYTES}
-pub use Rattle.sdd_verified.specs.verify.declared.verdict.Verdict.TheVariants.{No}
-pub use Rattle.sdd_verified.specs.world.declared.ends.WorldEnd.{WorldEnd}
-pub use Rattle.std.proofs.Common.{All, Bool, Bor, Err, IfErr, IfSome, IsErrOf, IsSome, IsTrue, List, MatchOption, MatchResult, None, Ok, OnOk, Option, Result, Some, [], ap, append-nil, append_assoc, arith, bytes_eq, codes, cond, decimal, drop, false, filter_map, flat_map, inl, inr, length, length-append, lt-ltb, ltb-true, map, nat_le, nat_lt, option_map, refl, slice_index_or, string_bytes, subst, suc, sym, take, take-append-drop, take_all, true, zero, ℕ, ◌&&◌, ◌++◌, ◌+◌, ◌-◌, ◌<◌, ◌^◌, ◌∙◌, ◌∷◌, ◌≡◌, ◌≤◌, ◌⊎◌}
-pub use Rattle.std.proofs.Math.Seq.{take-append_seam}
+pub use Rattle.sdd_verified.specs.verifying.declared.limits.TheConstants.{MAX_REPORT_BYTES}
+pub use Rattle.sdd_verified.specs.verifying.declared.verdict.Verdict.TheVariants.{No}
+pub use Rattle.std.proofs.Common.{All, Bool, Bor, Err, IsSome, IsTrue, List, MatchResult, None, Ok, Option, Result, Some, [], ap, append_assoc, arith, bytes_eq, codes, cond, decimal, drop, false, filter_map, flat_map, inl, inr, length, lt-ltb, ltb-true, map, nat_le, nat_lt, option_map, refl, string_bytes, subst, sym, take, true, ℕ, ◌&&◌, ◌++◌, ◌+◌, ◌-◌, ◌<◌, ◌^◌, ◌∙◌, ◌∷◌, ◌≡◌, ◌≤◌}
 pub use Rattle.std.proofs.lemmas.Bool.{cases_lt, lt-leb}
 pub use Rattle.std.proofs.lemmas.Fmt.{decimal_injective, decimal_is_IsNumeral}
-pub use Rattle.std.proofs.lemmas.Grind.{flat_map-append}
 pub use Rattle.std.proofs.lemmas.List.{take_more}
 pub use Rattle.std.proofs.lemmas.List.Elements.{All-cons, All-head, All-nil, All-tail, filter_map-append}
 pub use Rattle.std.proofs.lemmas.Result.{err_from_is_err_and}

@@ -1,5 +1,5 @@
 -- The form that words have, and the words of a form.
-use Rattle.sdd_app.proofs.All.{Advise, Bool, Check, Control, Form, Graph, IsForm, IsNoForm, List, Make, None, Option, Plain, Run, Some, Table, Verify, [], ap, arith, bytes_eq, bytes_eq-Decides, codes, cond, count_in, decimal, false, made, refl, subst, sym, true, words_of, ℕ, ◌^◌, ◌∙◌, ◌∷◌, ◌≡◌}
+use Rattle.sdd_app.proofs.All.{Advise, Bool, Check, Control, Form, Graph, IsForm, IsNoForm, List, Make, None, Option, Plain, Run, Some, Table, Verify, [], ap, arith, bytes_eq, bytes_eq-Decides, codes, cond, count_in, decimal, false, made, refl, report, subst, sym, true, words_of, ℕ, ◌^◌, ◌∙◌, ◌∷◌, ◌≡◌}
 use Rattle.sdd_app.specs.Command.{form_in}
 use Rattle.sdd_app.proofs.Counts.{counted, spelled}
 

@@ -5,9 +5,6 @@ pub mod Entries
 pub mod FileReads
 pub mod Forms
 pub mod MadeSummary
-pub mod Shown
-pub mod StatusLines
 pub mod Submissions
 pub mod TextPieces
-pub mod SinksAndFiles
 pub mod Verdicts

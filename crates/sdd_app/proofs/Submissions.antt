@@ -1,5 +1,5 @@
 -- The transactions that are submitted, event by event.
-use Rattle.sdd_app.proofs.All.{All, All-cons, All-nil, Bor, Catalogue, Event, FitsStart, FitsTxn, IsValid, IsValidTxn, List, None, Option, Some, Submit, Txn, Workload, [], filter_map, filter_map-append, found_member, length, lent_fit, map, refl, slice_index_or as get_or, start_fits, submitted, submitted_by, take, take_more, ℕ, ◌++◌, ◌+◌, ◌-◌, ◌<◌, ◌∷◌, ◌≡◌}
+use Rattle.sdd_app.proofs.All.{All, All-cons, All-nil, Bor, Catalogue, Event, FitsStart, FitsTxn, IsValid, IsValidTxn, List, None, Option, Some, Submit, Txn, Workload, [], filter_map, filter_map-append, found_member, length, lent_fit, map, refl, start_fits, submitted, submitted_by, take, take_more, ℕ, ◌++◌, ◌+◌, ◌-◌, ◌<◌, ◌∷◌, ◌≡◌}
 
 -- an event adds what it gives
 pub submitted_more : (txns : List Txn) (events : List Event) (i : ℕ) (d : Event) → i < length events

@@ -1,43 +1,27 @@
--- What a call comes to, by its words and the files that they name.
-use Rattle.std.specs.Prelude.{◌≡◌, ℕ, List, Option, Some, Result, Ok, Err, IsSome, MatchOption, MatchResult}
+-- What a command comes to, by the form of its words and the files that they name.
+use Rattle.std.specs.Prelude.{◌≡◌, ℕ, List, Option, Some, Result, Ok, Err, IsSome}
 use Rattle.std.specs.Option.{option_map}
 use Rattle.sdd_lang.specs.base.declared.files.ShelfFile.{ShelfFile}
 use Rattle.sdd_lang.specs.base.Outside.{find_file}
 use Rattle.sdd_lang.specs.All.{CatFault, Catalogue}
-use Rattle.sdd_catread.specs.Reading.{catalogue_in}
 use Rattle.sdd_control.specs.Report.{report}
 use Rattle.sdd_control.specs.Walk.{control_script}
 use Rattle.sdd_control.specs.declared.script.ControlScript.{ControlScript}
-use Rattle.sdd_verified.specs.script.Walk.{workload}
 use Rattle.sdd_verified.specs.script.declared.fault.WorkFault.{WorkFault}
 use Rattle.sdd_verified.specs.script.declared.workload.Workload.{Workload}
-use Rattle.sdd_verified.specs.verify.Verdict as judging
+use Rattle.sdd_verified.specs.verifying.Verdict as judging
 use Rattle.sdd_verified.specs.make.Bank.{bank}
 use Rattle.sdd_verified.specs.make.Turns.{workload_of}
-use Rattle.sdd_verified.specs.watch.run.Runs.{EndsAtLimit, IsReportOn, IsSummaryOn}
+use Rattle.sdd_verified.specs.run.Runs.{EndsAtLimit, IsReportOn, IsSummaryOn}
 use Rattle.sdd_verified.specs.Summaries.{TellsAllDone}
 use Rattle.sdd_app.specs.declared.listing.Listing.{Listing}
 use Rattle.sdd_app.specs.declared.listing.Listing.TheVariants as listings
-use Rattle.sdd_app.specs.Command.{Form, Check, Graph, Table, Run, Plain, Control, Make, Verify, Advise, form_in}
+use Rattle.sdd_app.specs.Command.{Form, Check, Graph, Table, Run, Plain, Control, Make, Verify, Advise}
 use Rattle.sdd_app.specs.Judging.{verdict_line}
 use Rattle.sdd_app.specs.Listing.{Tells}
 use Rattle.sdd_app.specs.Serially.{serial_text}
-use Rattle.sdd_app.specs.Verdict.{Verdict, NoForm, Prints, FaultyCatalogue, FaultyWorkload, PastLimit}
-
--- the catalogue that the file of this name gives, or its first fault
-abbrev pub catalogue_named : List ShelfFile → List ℕ → Option (Result Catalogue CatFault)
-catalogue_named files name = option_map catalogue_in (find_file files name)
-
--- the workload that the file of this name gives for a catalogue, or its first fault
-abbrev pub workload_named : List ShelfFile → Catalogue → List ℕ → Option (Result Workload WorkFault)
-workload_named files cat name = option_map (workload cat) (find_file files name)
-
--- A command that begins with a catalogue: its fault is reported; with a sound one the command goes on. Where the file
--- is absent, it comes to nothing.
-abbrev pub OverCatalogue : List ShelfFile → List ℕ → (Catalogue → Verdict → Type 0) → Verdict → Type 0
-OverCatalogue files name GoesOn verdict =
-    MatchOption (catalogue_named files name) ⊥
-    (λ reading. MatchResult reading (λ cat. GoesOn cat verdict) (λ fault. verdict ≡ FaultyCatalogue fault))
+use Rattle.sdd_shell.specs.NamedFiles.{HasFiles, OverCatalogue, OverWorkload, TellsOfRun, catalogue_named, workload_named}
+use Rattle.sdd_shell.specs.Verdict.{Verdict, Prints, FaultyWorkload}
 
 -- what is listed of the catalogue is printed
 abbrev pub ComesToListing : Listing → Catalogue → Verdict → Type 0
@@ -52,26 +36,13 @@ plain_verdict cat (Err fault) = FaultyWorkload fault
 abbrev pub ComesToPlain : List ShelfFile → List ℕ → Catalogue → Verdict → Type 0
 ComesToPlain files work cat verdict = option_map (plain_verdict cat) (workload_named files cat work) ≡ Some verdict
 
--- A command that goes on with a workload: its fault is reported; with a sound one the command goes on. Where the file is
--- absent, it comes to nothing.
-abbrev pub OverWorkload : List ShelfFile → Catalogue → List ℕ → (Workload → Verdict → Type 0) → Verdict → Type 0
-OverWorkload files cat name GoesOn verdict =
-    MatchOption (workload_named files cat name) ⊥
-    (λ reading. MatchResult reading (λ work. GoesOn work verdict) (λ fault. verdict ≡ FaultyWorkload fault))
-
--- such a text about the run of a workload is printed, or the limit ends the run
-abbrev pub TellsOfRun : (List ℕ → Type 0) → Catalogue → Workload → Verdict → Type 0
-TellsOfRun IsSuch cat work (Prints text) = IsSuch text
-TellsOfRun IsSuch cat work PastLimit = EndsAtLimit cat work
-TellsOfRun IsSuch cat work verdict = ⊥
-
 -- the run of a workload is reported
 abbrev pub ComesToReport : Catalogue → Workload → Verdict → Type 0
-ComesToReport cat work verdict = TellsOfRun (IsReportOn cat work) cat work verdict
+ComesToReport cat work verdict = TellsOfRun (IsReportOn cat work) (EndsAtLimit cat work) verdict
 
 -- or it is summed up
 abbrev pub ComesToSummary : Catalogue → Workload → Verdict → Type 0
-ComesToSummary cat work verdict = TellsOfRun (IsSummaryOn cat work) cat work verdict
+ComesToSummary cat work verdict = TellsOfRun (IsSummaryOn cat work) (EndsAtLimit cat work) verdict
 
 -- The summary of the run on the bank of the workload that is made of a seed, with so many transactions: it tells that all
 -- of them are committed.
@@ -80,7 +51,7 @@ pub record IsMadeSummary (seed count : ℕ) (text : List ℕ) : Type 0 where
   pub all_committed : TellsAllDone count text
 
 abbrev pub ComesToMade : ℕ → ℕ → Verdict → Type 0
-ComesToMade seed count verdict = TellsOfRun (IsMadeSummary seed count) bank (workload_of seed count) verdict
+ComesToMade seed count verdict = TellsOfRun (IsMadeSummary seed count) (EndsAtLimit bank (workload_of seed count)) verdict
 
 abbrev pub ComesToRun : List ShelfFile → List ℕ → Catalogue → Verdict → Type 0
 ComesToRun files work cat verdict = OverWorkload files cat work (ComesToReport cat) verdict
@@ -119,18 +90,7 @@ FormComesTo files (Make seed count) verdict = ComesToMade seed count verdict
 FormComesTo files (Verify cat work report) verdict = OverCatalogue files cat (ComesToVerify files work report) verdict
 FormComesTo files (Advise cat) verdict = OverCatalogue files cat (ComesToListing listings.Advice) verdict
 
--- what a call of these words comes to
-abbrev pub ComesTo : List ShelfFile → List (List ℕ) → Verdict → Type 0
-ComesTo files words verdict = MatchOption (form_in words) (verdict ≡ NoForm) (λ form. FormComesTo files form verdict)
-
--- The files of a command that begins with a catalogue are there: that of the catalogue, and where it goes on over
--- the catalogue, that of the workload.
-abbrev pub HasFiles : List ShelfFile → List ℕ → List ℕ → (Catalogue → Type 0) → Type 0
-HasFiles files cat work GoesOn =
-    IsSome (find_file files cat)
-    × ((says : Catalogue) → catalogue_named files cat ≡ Some (Ok says) → GoesOn says → IsSome (find_file files work))
-
--- where it goes on over both, that of a report
+-- Where `verify` goes on over catalogue and workload, the file of the report is there.
 abbrev pub HasReport : List ShelfFile → List ℕ → List ℕ → List ℕ → Type 0
 HasReport files cat work report =
     (says : Catalogue) (asks : Workload) → catalogue_named files cat ≡ Some (Ok says) → workload_named files says work ≡ Some (Ok asks)
@@ -148,19 +108,7 @@ FilesOf files (Make seed count) = Unit {0}
 FilesOf files (Verify cat work report) = HasFiles files cat work (λ _. Unit {0}) × HasReport files cat work report
 FilesOf files (Advise cat) = IsSome (find_file files cat)
 
--- the files that a call of these words reads are there
-abbrev pub FilesAreThere : List ShelfFile → List (List ℕ) → Type 0
-FilesAreThere files words = MatchOption (form_in words) (Unit {0}) (FilesOf files)
-
--- what a reading of the file blames: its fault, and nothing else
-abbrev pub BlamesCatalogue : Option (Result Catalogue CatFault) → Verdict → Type 0
-BlamesCatalogue reading (FaultyCatalogue fault) = reading ≡ Some (Err fault)
-BlamesCatalogue reading verdict = ⊥
-
-abbrev pub BlamesWorkload : Option (Result Workload WorkFault) → Verdict → Type 0
-BlamesWorkload reading (FaultyWorkload fault) = reading ≡ Some (Err fault)
-BlamesWorkload reading verdict = ⊥
-
+-- what a reading of the script blames: its fault, and nothing else
 abbrev pub BlamesScript : Option (Result ControlScript WorkFault) → Verdict → Type 0
 BlamesScript reading (FaultyWorkload fault) = reading ≡ Some (Err fault)
 BlamesScript reading verdict = ⊥

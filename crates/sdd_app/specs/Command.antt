@@ -17,6 +17,10 @@ pub data Form : Type 0 where
   Verify : List ℕ → List ℕ → List ℕ → Form
   Advise : List ℕ → Form
 
+-- the line that tells the forms
+abbrev pub usage_line : List ℕ
+usage_line = codes "usage: sdd1 check CAT | graph CAT | table CAT | run CAT WORK | plain CAT WORK | make SEED N | control FILE | verify CAT WORK REPORT | advise CAT\n"
+
 -- a seed is below 2^31, and at most 2,048 transactions are made
 abbrev pub IsForm : Form → Type 0
 IsForm (Make seed count) = (seed < 2 ^ 31) × (count ≤ 2048)

@@ -1,8 +1,8 @@
 -- What `verify` prints of a report.
 use Rattle.std.specs.Prelude.{ℕ, List, ◌++◌, ◌≡◌, codes, refl}
 use Rattle.std.specs.Fmt.{decimal, digits}
-use Rattle.sdd_verified.specs.verify.declared.verdict.Verdict.{Verdict}
-use Rattle.sdd_verified.specs.verify.declared.verdict.Verdict.TheVariants.{Yes, No}
+use Rattle.sdd_verified.specs.verifying.declared.verdict.Verdict.{Verdict}
+use Rattle.sdd_verified.specs.verifying.declared.verdict.Verdict.TheVariants.{Yes, No}
 
 -- that it is verified, or the number of the first line at fault
 abbrev pub verdict_line : Verdict → List ℕ

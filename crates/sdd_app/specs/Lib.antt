@@ -1,12 +1,9 @@
 pub mod Answer
+pub mod Calls
 pub mod Check
 pub mod Command
 pub mod Edges
 pub mod Endings
-pub mod Inside
 pub mod Judging
 pub mod Listing
 pub mod Serially
-pub mod Status
-pub mod Taking
-pub mod Verdict

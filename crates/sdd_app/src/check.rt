@@ -2,8 +2,7 @@
 ghost use Rattle.std.specs.Prelude.{◌≡◌, ◌++◌, IfOk, OnOk};
 ghost use Rattle.sdd_app.specs.Check.{check_line, module_counts, part_counts, class_count};
 
-use sdd_lang::sdd_base::NoMemory;
-use sdd_lang::sdd_catalog::Catalogue;
+use sdd_lang::{Catalogue, NoMemory};
 use sdd_words::{put, put_count};
 use std::alloc::Global;
 

@@ -6,13 +6,12 @@ ghost use Rattle.sdd_lang.specs.base.Outside.{Rose, find_file};
 ghost use Rattle.sdd_control.specs.Script.{IsSoundScript};
 ghost use Rattle.sdd_control.specs.Walk.{control_script};
 ghost use Rattle.sdd_app.specs.Answer.{BlamesScript, ComesToControl, script_named};
-ghost use Rattle.sdd_app.specs.Endings.{FilesRead, IsRead, ToItsEnd, ToItsLimit};
-ghost use Rattle.sdd_app.specs.Verdict.{Answers, AtFault, ComesOfFiles, Explains};
+ghost use Rattle.sdd_shell.specs.Endings.{FilesRead, IsRead, ToItsEnd, ToItsLimit};
+ghost use Rattle.sdd_shell.specs.Verdict.{Answers, AtFault, ComesOfFiles, Explains};
 
-use crate::catalogue_file::read_named;
-use crate::status::Status;
 use sdd_control::{ControlScript, read_control, write_report};
-use sdd_lang::sdd_base::{MAX_WORKLOAD_BYTES, Pages, Shelf};
+use sdd_lang::{MAX_WORKLOAD_BYTES, Pages, Shelf};
+use sdd_shell::{Status, read_named};
 use std::alloc::Global;
 
 /// The script that the bytes give.

@@ -5,8 +5,7 @@ ghost use Rattle.sdd_protocol.specs.Protocols.{IsTable};
 ghost use Rattle.sdd_app.specs.Edges as shown;
 
 use sdd_graph::Edge;
-use sdd_lang::sdd_base::{ClassNo, FragNo, NoMemory};
-use sdd_lang::sdd_catalog::Catalogue;
+use sdd_lang::{Catalogue, ClassNo, FragNo, NoMemory};
 use sdd_protocol::{Entry, Protocol, Table};
 use sdd_words::{put, put_count};
 use std::alloc::Global;

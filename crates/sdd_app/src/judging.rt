@@ -5,19 +5,16 @@ ghost use Rattle.sdd_lang.specs.All.{MAX_WORKLOAD_BYTES};
 ghost use Rattle.sdd_lang.specs.base.declared.limits.TheConstants.{MAX_CATALOGUE_BYTES};
 ghost use Rattle.sdd_lang.specs.base.Outside.{KeepsOpen, Rose, find_file};
 ghost use Rattle.sdd_verified.specs.script.Valid.{IsValid};
-ghost use Rattle.sdd_verified.specs.verify.Verdict.{verdict};
-ghost use Rattle.sdd_app.specs.Answer.{ComesToVerdict, ComesToVerify, HasFiles, HasReport, OverCatalogue};
-ghost use Rattle.sdd_app.specs.Endings.{FilesRead, IsRead, ToItsEnd, ToItsLimit};
+ghost use Rattle.sdd_verified.specs.verifying.Verdict.{verdict};
+ghost use Rattle.sdd_app.specs.Answer.{ComesToVerdict, ComesToVerify, HasReport};
+ghost use Rattle.sdd_shell.specs.NamedFiles.{HasFiles, OverCatalogue};
+ghost use Rattle.sdd_shell.specs.Endings.{FilesRead, IsRead, ToItsEnd, ToItsLimit};
 ghost use Rattle.sdd_app.specs.Judging.{verdict_line};
-ghost use Rattle.sdd_app.specs.Verdict.{Answers, AtFault, ComesOfFiles};
+ghost use Rattle.sdd_shell.specs.Verdict.{Answers, AtFault, ComesOfFiles};
 
-use crate::catalogue_file::{accepted_catalogue, read_named};
-use crate::status::Status;
-use crate::workload_file::accepted_workload;
-use sdd_lang::sdd_base::{NoMemory, Pages, Shelf};
-use sdd_lang::sdd_catalog::Catalogue;
-use sdd_verified::sdd_script::Workload;
-use sdd_verified::sdd_verify::{MAX_REPORT_BYTES, Verdict, verify};
+use sdd_lang::{Catalogue, NoMemory, Pages, Shelf};
+use sdd_shell::{Status, accepted_catalogue, accepted_workload, read_named};
+use sdd_verified::{MAX_REPORT_BYTES, Verdict, Workload, verify};
 use sdd_words::{put, put_count};
 use std::alloc::Global;
 

@@ -11,32 +11,18 @@
 //! has its protocol (`sdd_advise`), and `verify` judges a report against one plain database
 //! (`sdd_verify`).
 //!
-//! `HostShelf` and `HostSink` are the files and streams of the system, which the programs hand in.
-//! They are proved against the same traits, `Shelf` and `Sink`, which say nothing of the files'
-//! content.
+//! How a call ends, and how its first files are read and judged, is `sdd_shell`'s.
 #![tactic(auto)]
 
-mod catalogue_file;
 mod check;
 mod command;
 mod control_file;
 mod edges;
-mod host_shelf;
-mod host_sink;
-mod inside;
 mod judging;
 mod listing;
 mod made_input;
 mod run;
 mod serially;
-mod status;
-mod telling;
 mod workload_answer;
-mod workload_file;
 
-pub use host_shelf::HostShelf;
-pub use host_sink::HostSink;
-pub use inside::run_inside;
 pub use run::run_sdd1;
-pub use status::Status;
-pub use telling::{tell, tell_inside};

@@ -3,19 +3,18 @@ ghost use Rattle.std.specs.Prelude.{◌≡◌, ◌+◌, ◌∷◌, [], ℕ, List
 ghost use Rattle.sdd_lang.specs.base.declared.files.ShelfFile.{ShelfFile};
 ghost use Rattle.sdd_lang.specs.base.declared.limits.TheConstants.{MAX_CATALOGUE_BYTES};
 ghost use Rattle.sdd_lang.specs.base.Outside.{Rose, find_file};
-ghost use Rattle.sdd_app.specs.Answer.{ComesToListing, OverCatalogue};
-ghost use Rattle.sdd_app.specs.Endings.{FilesRead, ToItsEnd, ToItsLimit};
+ghost use Rattle.sdd_app.specs.Answer.{ComesToListing};
+ghost use Rattle.sdd_shell.specs.NamedFiles.{OverCatalogue};
+ghost use Rattle.sdd_shell.specs.Endings.{FilesRead, ToItsEnd, ToItsLimit};
 ghost use Rattle.sdd_app.specs.Listing.{Tells};
-ghost use Rattle.sdd_app.specs.Verdict.{Answers, AtFault, ComesOfFiles};
+ghost use Rattle.sdd_shell.specs.Verdict.{Answers, AtFault, ComesOfFiles};
 
-use crate::catalogue_file::accepted_catalogue;
 use crate::check::counts;
 use crate::edges::{graph_text, table_text};
-use crate::status::Status;
 use sdd_advise::advice_text;
-use sdd_lang::sdd_base::{NoMemory, Pages, Shelf};
-use sdd_lang::sdd_catalog::Catalogue;
+use sdd_lang::{Catalogue, NoMemory, Pages, Shelf};
 use sdd_protocol::table;
+use sdd_shell::{Status, accepted_catalogue};
 use std::alloc::Global;
 
 /// What may be printed of a catalogue.

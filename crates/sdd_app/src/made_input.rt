@@ -3,14 +3,11 @@ ghost use Rattle.std.specs.Prelude.{◌≡◌, ◌≤◌, IfErr};
 ghost use Rattle.sdd_lang.specs.All.{MAX_TXNS};
 ghost use Rattle.sdd_verified.specs.script.Valid.{IsValid};
 ghost use Rattle.sdd_app.specs.Answer.{ComesToMade, ComesToSummary};
-ghost use Rattle.sdd_app.specs.Verdict.{Answers, AtFault, ComesOfFiles};
+ghost use Rattle.sdd_shell.specs.Verdict.{Answers, AtFault, ComesOfFiles};
 
-use crate::status::Status;
-use sdd_lang::sdd_base::Pages;
-use sdd_lang::sdd_catalog::Catalogue;
-use sdd_verified::sdd_make::{bank, law_workload_allowed, workload};
-use sdd_verified::sdd_run::run_summary;
-use sdd_verified::sdd_script::Workload;
+use sdd_lang::{Catalogue, Pages};
+use sdd_shell::Status;
+use sdd_verified::{Workload, WorldEnd, bank, law_workload_allowed, run_summary, workload};
 use std::alloc::Global;
 
 /// The summary of the run of the workload.
@@ -21,7 +18,11 @@ fn summed_up(alloc: Global, catalogue: &Catalogue, work: Workload) -> Result<Pag
     ensures no_fault { IfErr result (AtFault ⊥ ⊥) }
     ensures read { IfErr result (λ s. s ≡ Status.ReadFault → ⊥) }
 {
-    Ok(Pages::of(alloc, run_summary(alloc, catalogue, work)?))
+    match run_summary(alloc, catalogue, work) {
+        Ok(text) => Ok(Pages::of(alloc, text)),
+        Err(WorldEnd::Limit) => Err(Status::Limit),
+        Err(WorldEnd::NoMemory) => Err(Status::NoMemory),
+    }
 }
 
 /// What `make` answers: the summary of the run on the bank of the workload that is made of a seed,

@@ -6,12 +6,9 @@ ghost use Rattle.std.specs.Option.{option_copied};
 ghost use Rattle.sdd_verified.specs.report.Names.{spaced};
 ghost use Rattle.sdd_app.specs.Serially.{submitted, submitted_by, names_of, replies_of, serial_text};
 
-use sdd_lang::Txn;
-use sdd_lang::sdd_base::{Event, Name, NoMemory};
-use sdd_lang::sdd_catalog::Catalogue;
+use sdd_lang::{Catalogue, Event, Name, NoMemory, Txn};
 use sdd_plain::Plain;
-use sdd_verified::sdd_report::put_reply;
-use sdd_verified::sdd_script::{StartRows, Workload};
+use sdd_verified::{StartRows, Workload, put_reply};
 use sdd_words::put;
 use std::alloc::Global;
 

@@ -5,18 +5,15 @@ ghost use Rattle.sdd_lang.specs.All.{MAX_WORKLOAD_BYTES};
 ghost use Rattle.sdd_lang.specs.base.declared.limits.TheConstants.{MAX_CATALOGUE_BYTES};
 ghost use Rattle.sdd_lang.specs.base.Outside.{Rose};
 ghost use Rattle.sdd_verified.specs.script.Valid.{IsValid};
-ghost use Rattle.sdd_app.specs.Answer.{ComesToPlain, ComesToReport, ComesToRun, HasFiles, OverCatalogue};
-ghost use Rattle.sdd_app.specs.Endings.{FilesRead, ToItsEnd, ToItsLimit};
-ghost use Rattle.sdd_app.specs.Verdict.{Answers, AtFault, ComesOfFiles};
+ghost use Rattle.sdd_app.specs.Answer.{ComesToPlain, ComesToReport, ComesToRun};
+ghost use Rattle.sdd_shell.specs.NamedFiles.{HasFiles, OverCatalogue};
+ghost use Rattle.sdd_shell.specs.Endings.{FilesRead, ToItsEnd, ToItsLimit};
+ghost use Rattle.sdd_shell.specs.Verdict.{Answers, AtFault, ComesOfFiles};
 
-use crate::catalogue_file::accepted_catalogue;
 use crate::serially::serial_text;
-use crate::status::Status;
-use crate::workload_file::accepted_workload;
-use sdd_lang::sdd_base::{Pages, Shelf};
-use sdd_lang::sdd_catalog::Catalogue;
-use sdd_verified::sdd_run::run_report;
-use sdd_verified::sdd_script::Workload;
+use sdd_lang::{Catalogue, Pages, Shelf};
+use sdd_shell::{Status, accepted_catalogue, accepted_workload};
+use sdd_verified::{Workload, WorldEnd, run_report};
 use std::alloc::Global;
 
 /// The report on the run of the workload.
@@ -27,7 +24,11 @@ fn report_pages_of(alloc: Global, catalogue: &Catalogue, work: Workload) -> Resu
     ensures no_fault { IfErr result (AtFault ⊥ ⊥) }
     ensures read { IfErr result (λ s. s ≡ Status.ReadFault → ⊥) }
 {
-    Ok(run_report(alloc, catalogue, work)?)
+    match run_report(alloc, catalogue, work) {
+        Ok(text) => Ok(text),
+        Err(WorldEnd::Limit) => Err(Status::Limit),
+        Err(WorldEnd::NoMemory) => Err(Status::NoMemory),
+    }
 }
 
 /// What `plain` answers over the catalogue in the first file and the workload in the second.

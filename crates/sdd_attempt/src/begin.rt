@@ -8,10 +8,7 @@ use crate::exchange::Exchange;
 use crate::queued::Queued;
 use crate::reads::Beginning;
 use crate::running::Running;
-use sdd_module::Draft;
-use sdd_module::sdd_base::{ClassNo, Clock, NoMemory};
-use sdd_module::sdd_catalog::Catalogue;
-use sdd_module::sdd_protocol::Table;
+use sdd_module::{Catalogue, ClassNo, Clock, Draft, NoMemory, Table};
 use std::alloc::Global;
 
 /// Starts the next attempt of a transaction in the queue of the class: it takes a tick, and its

@@ -8,11 +8,7 @@ use crate::queued::Queued;
 use crate::running::Running;
 use crate::writes::{Committing, send_writes};
 use sdd_exec::{Snapshot, effect};
-use sdd_module::Draft;
-use sdd_module::sdd_base::{ClassNo, NoMemory, Row};
-use sdd_module::sdd_catalog::Catalogue;
-use sdd_module::sdd_history::{PrintedReply, Rec};
-use sdd_module::sdd_lang::{Effect, Txn};
+use sdd_module::{Catalogue, ClassNo, Draft, Effect, NoMemory, PrintedReply, Rec, Row, Txn};
 use std::alloc::Global;
 
 /// Commits an attempt of the class: its Commit is recorded, with its WRITEs.

@@ -3,7 +3,7 @@ ghost use Rattle.sdd_attempt.specs.Exchange.{count_of, counted, counts_for};
 ghost use Rattle.sdd_attempt.specs.Counts.{is_other, count_in, numbered};
 
 use crate::queries::Asking;
-use sdd_module::sdd_base::{DmNo, NoMemory};
+use sdd_module::{DmNo, NoMemory};
 use std::alloc::Global;
 use std::marker::Model;
 

@@ -28,8 +28,8 @@ pub use standing::Standing;
 pub use step::LineStep;
 
 // What lies below, for the crates above.
-pub use sdd_exec;
-pub use sdd_graph;
-pub use sdd_module;
-pub use sdd_module::{sdd_base, sdd_catalog, sdd_history, sdd_lang, sdd_protocol, sdd_wire};
-pub use sdd_semijoin;
+pub use sdd_module::{
+    Catalogue, Change, ClassNo, Clock, Conds, DmNo, Draft, Event, FragNo, Listed, Module, Msg,
+    NoMemory, Outcome, Pages, Parcel, Rec, Row, Site, Spelling, Table, TmNo, Ts, Txn, TxnNo,
+    class_for, table,
+};

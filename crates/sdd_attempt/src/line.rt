@@ -13,12 +13,9 @@ use crate::queued::Queued;
 use crate::running::Running;
 use crate::standing::Standing;
 use crate::step::LineStep;
-use sdd_module::Draft;
-use sdd_module::sdd_base::{ClassNo, Clock, DmNo, NoMemory, Parcel, Site, Ts, TxnNo};
-use sdd_module::sdd_catalog::Catalogue;
-use sdd_module::sdd_lang::Txn;
-use sdd_module::sdd_protocol::Table;
-use sdd_module::sdd_wire::Msg;
+use sdd_module::{
+    Catalogue, ClassNo, Clock, DmNo, Draft, Msg, NoMemory, Parcel, Site, Table, Ts, Txn, TxnNo,
+};
 use std::alloc::Global;
 use std::collections::VecDeque;
 use std::marker::Model;

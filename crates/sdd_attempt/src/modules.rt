@@ -4,8 +4,7 @@ ghost use Rattle.sdd_attempt.specs.Exchange.{module_read, without};
 ghost use Rattle.sdd_attempt.specs.Standings.{lower, lowest};
 ghost use Rattle.sdd_attempt.specs.Modules.{dm_with_use, module_of, with_use};
 
-use sdd_module::sdd_base::{DmNo, Listed, NoMemory, Site, Use};
-use sdd_module::sdd_wire::Msg;
+use sdd_module::{DmNo, Listed, Msg, NoMemory, Site, Use};
 use std::alloc::Global;
 use std::marker::Model;
 

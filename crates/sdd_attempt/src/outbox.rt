@@ -5,9 +5,7 @@ ghost use Rattle.sdd_attempt.specs.Outbox.{addressed, numbered};
 ghost use Rattle.sdd_module.specs.wire.declared.msg.Msg.TheVariants as msgs;
 
 use crate::modules::DmNos;
-use sdd_module::sdd_base::{ClassNo, DmNo, NoMemory, Parcel, Ts};
-use sdd_module::sdd_lang::Ref;
-use sdd_module::sdd_wire::{Msg, ValueList};
+use sdd_module::{ClassNo, DmNo, Msg, NoMemory, Parcel, Ref, Ts, ValueList};
 use std::alloc::Global;
 use std::collections::VecDeque;
 use std::marker::Model;

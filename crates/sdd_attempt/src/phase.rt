@@ -5,7 +5,7 @@ ghost use Rattle.sdd_attempt.specs.Room.{FitsMove, IsSmallQuery};
 ghost use Rattle.sdd_semijoin.specs.Steps.{next_move};
 
 use crate::queries::Asking;
-use sdd_module::sdd_lang::Ref;
+use sdd_module::Ref;
 use sdd_semijoin::{Move, Step, next_move};
 
 /// A move whose columns are of uses of the whole transaction.

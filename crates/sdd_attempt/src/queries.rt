@@ -3,8 +3,7 @@ ghost use Rattle.sdd_attempt.specs.Exchange.{asking_of, askings};
 ghost use Rattle.sdd_attempt.specs.Room.{IsSmallStatement, IsSmallText};
 ghost use Rattle.sdd_module.specs.All.{uses_in};
 
-use sdd_module::sdd_base::{NoMemory, Parcel};
-use sdd_module::sdd_lang::{Conditions, Stmt, Txn};
+use sdd_module::{Conditions, NoMemory, Parcel, Stmt, Txn};
 use std::alloc::Global;
 use std::collections::VecDeque;
 use std::marker::Model;

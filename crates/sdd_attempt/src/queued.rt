@@ -1,8 +1,7 @@
 ghost use Rattle.std.specs.Prelude.{◌≡◌, ◌<◌, ◌^◌, suc};
 ghost use Rattle.sdd_attempt.specs.Queues.{txn_of};
 
-use sdd_module::sdd_base::TxnNo;
-use sdd_module::sdd_lang::Txn;
+use sdd_module::{Txn, TxnNo};
 use std::marker::Model;
 
 /// A transaction in a queue.

@@ -9,15 +9,10 @@ ghost use Rattle.sdd_module.specs.history.declared.record.Rec.TheVariants as rec
 
 use crate::modules::Modules;
 use crate::queued::Queued;
-use sdd_module::Draft;
-use sdd_module::sdd_base::{
-    ClassNo, Conds, DmNo, FragNo, Frags, NoMemory, Parcel, Site, Ts, Use, Uses,
+use sdd_module::{
+    Catalogue, ClassNo, Conds, DmNo, Draft, FragNo, Frags, Msg, NoMemory, Parcel, Rec, Site, Table,
+    Ts, Use, Uses, read_set, undeclared_conds, uses,
 };
-use sdd_module::sdd_catalog::Catalogue;
-use sdd_module::sdd_history::Rec;
-use sdd_module::sdd_lang::{read_set, uses};
-use sdd_module::sdd_protocol::{Table, undeclared_conds};
-use sdd_module::sdd_wire::Msg;
 use std::alloc::Global;
 use std::marker::Model;
 

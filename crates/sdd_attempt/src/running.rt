@@ -9,9 +9,7 @@ ghost use Rattle.sdd_attempt.specs.Standings.{underway};
 use crate::exchange::Exchange;
 use crate::standing::Standing;
 use crate::step::LineStep;
-use sdd_module::Draft;
-use sdd_module::sdd_base::{ClassNo, NoMemory, Site, Ts};
-use sdd_module::sdd_wire::Msg;
+use sdd_module::{ClassNo, Draft, Msg, NoMemory, Site, Ts};
 use std::marker::Model;
 
 /// An attempt that is under way.

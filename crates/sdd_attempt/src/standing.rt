@@ -1,4 +1,4 @@
-use sdd_module::sdd_base::{ClassNo, Site, Ts};
+use sdd_module::{ClassNo, Site, Ts};
 
 /// How a site has a transaction.
 #[derive(Clone, Copy)]

@@ -2,12 +2,10 @@ ghost use Rattle.std.specs.Prelude.{◌≡◌, ◌++◌, ◌∷◌, [], filter, 
 ghost use Rattle.sdd_module.specs.All.{has_copy, numbers_to};
 ghost use Rattle.sdd_attempt.specs.Writes.{changes_at, write_of};
 
-use sdd_module::Draft;
-use sdd_module::sdd_base::{
-    Change, Changes, ClassNo, DmNo, FragNo, NoMemory, Parcel, Site, Ts, TxnNo,
+use sdd_module::{
+    Catalogue, Change, Changes, ClassNo, DmNo, Draft, FragNo, Msg, NoMemory, Parcel, Site, Ts,
+    TxnNo,
 };
-use sdd_module::sdd_catalog::Catalogue;
-use sdd_module::sdd_wire::Msg;
 use std::alloc::Global;
 
 /// An attempt that commits.

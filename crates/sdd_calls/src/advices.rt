@@ -1,7 +1,6 @@
 //! Advices, and one whose cycle is taken away.
 use sdd_advise::{Advice, Edges, advise, check_advice};
-use sdd_script::sdd_base::NoMemory;
-use sdd_script::sdd_catalog::Catalogue;
+use sdd_script::{Catalogue, NoMemory};
 use std::alloc::Global;
 
 pub fn are_judged(alloc: Global, catalogue: &Catalogue) -> Result<bool, NoMemory> {

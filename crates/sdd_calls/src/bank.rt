@@ -6,9 +6,7 @@ use crate::line::tell;
 use crate::{advices, catalogues, transactions};
 use sdd_catread::read_catalogue;
 use sdd_make::make;
-use sdd_script::sdd_base::NoMemory;
-use sdd_script::sdd_catalog::Catalogue;
-use sdd_script::{Workload, read_workload};
+use sdd_script::{Catalogue, NoMemory, Workload, read_workload};
 use std::alloc::Global;
 
 pub fn tell_calls(alloc: Global, out: &mut Vec<u8>) -> Result<(), NoMemory> {

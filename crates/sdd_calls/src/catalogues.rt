@@ -1,7 +1,6 @@
 //! Catalogues that are built of their parts, that a further class extends, and whose classes retire.
 use sdd_eras::{extend, retire};
-use sdd_script::sdd_base::{Listed, Name, NoMemory, Parcel};
-use sdd_script::sdd_catalog::{CatError, Catalogue, ClassPart, Parts};
+use sdd_script::{CatError, Catalogue, ClassPart, Listed, Name, NoMemory, Parcel, Parts};
 use std::alloc::Global;
 use std::slice;
 

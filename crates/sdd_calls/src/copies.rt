@@ -1,6 +1,6 @@
 //! A copy of a fragment to which an earlier put comes after a deletion.
 use sdd_copy::FragCopy;
-use sdd_script::sdd_base::{Change, FragNo, NoMemory, Row, Ts, Value};
+use sdd_script::{Change, FragNo, NoMemory, Row, Ts, Value};
 use std::alloc::Global;
 
 pub fn stays_deleted(alloc: Global) -> Result<bool, NoMemory> {

@@ -1,6 +1,5 @@
 //! A line that is printed.
-use sdd_script::sdd_base::NoMemory;
-use sdd_script::sdd_words::put;
+use sdd_script::{NoMemory, put};
 
 /// Puts a line: a name, and whether it holds.
 pub fn tell(out: &mut Vec<u8>, name: &[u8], holds: bool) -> Result<(), NoMemory> {

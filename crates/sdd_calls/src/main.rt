@@ -19,7 +19,7 @@ mod sinks;
 mod transactions;
 
 use line::tell;
-use sdd_script::sdd_base::NoMemory;
+use sdd_script::NoMemory;
 use std::alloc::Global;
 use std::io::{self, Write};
 

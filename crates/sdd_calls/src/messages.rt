@@ -1,5 +1,5 @@
 //! A message and its bytes, and bytes that are no message.
-use sdd_script::sdd_base::{ClassNo, NoMemory, Ts};
+use sdd_script::{ClassNo, NoMemory, Ts};
 use sdd_wire::{Msg, WireFault, decode, encode};
 use std::alloc::Global;
 

@@ -1,5 +1,5 @@
 //! Words that are names, and texts.
-use sdd_script::sdd_base::{Name, NoMemory, Text};
+use sdd_script::{Name, NoMemory, Text};
 use std::alloc::Global;
 
 /// A word that is a name, one that the formats use, and the longest name and one letter more.

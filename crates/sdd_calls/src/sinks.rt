@@ -1,5 +1,5 @@
 //! A sink that takes all of a text as long as it has room.
-use sdd_script::sdd_base::{NoMemory, SureSink, write_text};
+use sdd_script::{NoMemory, SureSink, write_text};
 use std::alloc::Global;
 
 pub fn takes_five(alloc: Global) -> Result<bool, NoMemory> {

@@ -3,10 +3,7 @@ ghost use Rattle.std.specs.Prelude.{IfOk, IsTrue};
 ghost use Rattle.sdd_script.specs.All.{IsValid};
 
 use sdd_plain::Plain;
-use sdd_script::Workload;
-use sdd_script::sdd_base::{FragNo, NoMemory};
-use sdd_script::sdd_catalog::Catalogue;
-use sdd_script::sdd_lang::{Txn, fits, write_set};
+use sdd_script::{Catalogue, FragNo, NoMemory, Txn, Workload, fits, write_set};
 use std::alloc::Global;
 
 /// Whether the first transaction writes both fragments.

@@ -4,8 +4,9 @@ ghost use Rattle.std.specs.Prelude.{◌≡◌, IsTrue};
 use crate::case::{Case, Taking};
 use crate::text::Text;
 use anyhow::{Result, anyhow};
-use sdd_app::{Status, run_sdd1};
+use sdd_app::run_sdd1;
 use sdd_base::{Bytes, CallNos, Files, MemShelf, MemSink, ShelfFile};
+use sdd_shell::Status;
 use std::alloc::Global;
 
 /// How one run differs from what its case says. A call's number 0 is that of none.

@@ -4,7 +4,7 @@ use crate::case::{Case, Each};
 use crate::printed::{put_answer, put_name, put_numbers};
 use crate::text::front;
 use anyhow::{Result, bail};
-use sdd_app::Status;
+use sdd_shell::Status;
 use std::alloc::Global;
 use std::io::Write;
 

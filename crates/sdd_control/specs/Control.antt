@@ -1,14 +1,14 @@
 -- A run of transaction control: its limits, and what has happened in it.
 use Rattle.std.specs.Prelude.{ℕ, true, List}
 use Rattle.sdd_script.specs.All.{Kept}
-use Rattle.sdd_control.specs.Log.{Log, noted}
-use Rattle.sdd_control.specs.NoteTests.{is_number}
-use Rattle.sdd_control.specs.State.{IsSized, Tracks}
-use Rattle.sdd_control.specs.Steps.{FitAll, log_after, log_of, log_with_event, note_of}
-use Rattle.sdd_control.specs.Stretches.{count_from}
-use Rattle.sdd_control.specs.declared.act.Act.{Act}
-use Rattle.sdd_control.specs.declared.note.Note.{Note}
-use Rattle.sdd_control.specs.declared.state.State.{State}
+use Rattle.sdd_backups.specs.Log.{Log, noted}
+use Rattle.sdd_backups.specs.NoteTests.{is_number}
+use Rattle.sdd_backups.specs.State.{IsSized, Tracks}
+use Rattle.sdd_backups.specs.Steps.{FitAll, log_after, log_of, log_with_event, note_of}
+use Rattle.sdd_backups.specs.Stretches.{count_from}
+use Rattle.sdd_backups.specs.declared.act.Act.{Act}
+use Rattle.sdd_backups.specs.declared.note.Note.{Note}
+use Rattle.sdd_backups.specs.declared.state.State.{State}
 
 pub record Run : Type 0 where
   pub backups : ℕ

@@ -1,14 +1,14 @@
 -- What transaction control promises, whatever happens.
 use Rattle.std.specs.Prelude.{ℕ, ◌<◌, ◌≤◌, ◌≡◌, ◌≢◌, true, false, []}
-use Rattle.sdd_control.specs.declared.act.Act.TheVariants.{Step as Send}
-use Rattle.sdd_control.specs.declared.note.Note.TheVariants.{Write, Finish, Nothing}
-use Rattle.sdd_control.specs.declared.value.Val.{Val}
-use Rattle.sdd_control.specs.declared.value.Val.TheVariants.{Unknown, All, Nought}
-use Rattle.sdd_control.specs.Links.{link}
-use Rattle.sdd_control.specs.Log.{IsNoted, Log, noted}
-use Rattle.sdd_control.specs.NoteTests.{is_number}
-use Rattle.sdd_control.specs.Standing.{finished, stopped}
-use Rattle.sdd_control.specs.Steps.{note_of}
+use Rattle.sdd_backups.specs.declared.act.Act.TheVariants.{Step as Send}
+use Rattle.sdd_backups.specs.declared.note.Note.TheVariants.{Write, Finish, Nothing}
+use Rattle.sdd_backups.specs.declared.value.Val.{Val}
+use Rattle.sdd_backups.specs.declared.value.Val.TheVariants.{Unknown, All, Nought}
+use Rattle.sdd_backups.specs.Links.{link}
+use Rattle.sdd_backups.specs.Log.{IsNoted, Log, noted}
+use Rattle.sdd_backups.specs.NoteTests.{is_number}
+use Rattle.sdd_backups.specs.Standing.{finished, stopped}
+use Rattle.sdd_backups.specs.Steps.{note_of}
 
 -- two sites that finish have one value
 abbrev pub OneValue : Log → Type 0

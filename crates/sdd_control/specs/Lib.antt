@@ -4,14 +4,6 @@ pub mod Faults
 pub mod Keys
 pub mod Laws
 pub mod LineRules
-pub mod Links
-pub mod Log
-pub mod NoteTests
 pub mod Report
 pub mod Script
-pub mod Sends
-pub mod Standing
-pub mod State
-pub mod Steps
-pub mod Stretches
 pub mod Walk

@@ -8,8 +8,8 @@ use Rattle.sdd_script.specs.declared.fault.WorkRule.{WorkRule}
 use Rattle.sdd_script.specs.declared.fault.WorkRule.TheVariants.{BadEvent, BadLine, BadNumber, NotUtf8, TooMany}
 use Rattle.sdd_script.specs.All.{Plain, Quoted, Word, is_free, is_sound, must, number_of, require, words_of, ◌>>=◌}
 use Rattle.sdd_control.specs.Keys.{key_of}
-use Rattle.sdd_control.specs.declared.act.Act.{Act}
-use Rattle.sdd_control.specs.declared.act.Act.TheVariants.{Step, Deliver, Stop}
+use Rattle.sdd_backups.specs.declared.act.Act.{Act}
+use Rattle.sdd_backups.specs.declared.act.Act.TheVariants.{Step, Deliver, Stop}
 use Rattle.sdd_control.specs.Draft.{Draft}
 use Rattle.sdd_control.specs.declared.stage.Head.{Head}
 use Rattle.sdd_control.specs.declared.stage.Stage.{Stage}

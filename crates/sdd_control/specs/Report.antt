@@ -3,14 +3,14 @@
 use Rattle.std.specs.Prelude.{ℕ, zero, suc, ◌+◌, List, [], ◌∷◌, ◌++◌, codes, Bool, true, false}
 use Rattle.std.specs.Fmt.{decimal}
 use Rattle.sdd_control.specs.Control.{Run, next_note, run_of, with_event, written}
-use Rattle.sdd_control.specs.Log.{Log}
-use Rattle.sdd_control.specs.Standing.{finished, stopped, value}
-use Rattle.sdd_control.specs.declared.act.Act.{Act}
-use Rattle.sdd_control.specs.declared.note.Note.{Note}
-use Rattle.sdd_control.specs.declared.note.Note.TheVariants as notes
+use Rattle.sdd_backups.specs.Log.{Log}
+use Rattle.sdd_backups.specs.Standing.{finished, stopped, value}
+use Rattle.sdd_backups.specs.declared.act.Act.{Act}
+use Rattle.sdd_backups.specs.declared.note.Note.{Note}
+use Rattle.sdd_backups.specs.declared.note.Note.TheVariants as notes
 use Rattle.sdd_control.specs.declared.script.ControlScript.{ControlScript}
-use Rattle.sdd_control.specs.declared.value.Val.{Val}
-use Rattle.sdd_control.specs.declared.value.Val.TheVariants.{Unknown, All, Nought}
+use Rattle.sdd_backups.specs.declared.value.Val.{Val}
+use Rattle.sdd_backups.specs.declared.value.Val.TheVariants.{Unknown, All, Nought}
 
 abbrev pub value_word : Val → List ℕ
 value_word Unknown = codes "unknown"

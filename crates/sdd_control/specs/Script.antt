@@ -1,6 +1,6 @@
 -- A script that a control file may give.
 use Rattle.std.specs.Prelude.{◌≤◌, ◌^◌, length}
-use Rattle.sdd_control.specs.Steps.{FitAll}
+use Rattle.sdd_backups.specs.Steps.{FitAll}
 use Rattle.sdd_control.specs.declared.script.ControlScript.{ControlScript}
 
 pub record IsSoundScript (script : ControlScript) : Type 0 where

@@ -6,7 +6,7 @@ use Rattle.sdd_script.specs.declared.fault.WorkRule.{WorkRule}
 use Rattle.sdd_script.specs.declared.fault.WorkRule.TheVariants.{BadLine, NoEnd, NotUtf8, TooLong}
 use Rattle.sdd_script.specs.All.{cut_lines}
 use Rattle.sdd_control.specs.LineRules.{line_rules}
-use Rattle.sdd_control.specs.declared.act.Act.{Act}
+use Rattle.sdd_backups.specs.declared.act.Act.{Act}
 use Rattle.sdd_control.specs.Draft.{Draft}
 use Rattle.sdd_control.specs.declared.stage.Stage.{Stage}
 use Rattle.sdd_control.specs.declared.stage.Stage.TheVariants.{First, Ended}

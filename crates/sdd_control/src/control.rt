@@ -1,13 +1,10 @@
 ghost use Rattle.std.specs.Prelude.{◌≡◌, ◌≤◌, [], false, IsTrue, IfOk, OnOk, OnErr};
 ghost use Rattle.sdd_control.specs.Control.{live_at, next_note, run_of, with_event, written};
-ghost use Rattle.sdd_control.specs.Standing.{finished, stopped, value};
-ghost use Rattle.sdd_control.specs.Steps.{FitsAct};
+ghost use Rattle.sdd_backups.specs.Standing.{finished, stopped, value};
+ghost use Rattle.sdd_backups.specs.Steps.{FitsAct};
 
-use crate::act::Act;
-use crate::note::Note;
-use crate::state::State;
-use crate::value::Val;
-use sdd_script::sdd_base::NoMemory;
+use sdd_backups::{Act, Note, State, Val};
+use sdd_script::NoMemory;
 use std::alloc::Global;
 use std::marker::Model;
 

@@ -1,9 +1,9 @@
 ghost use Rattle.std.specs.Prelude.{◌≡◌, ◌++◌, ◌∷◌, [], length, OnOk};
 ghost use Rattle.sdd_control.specs.declared.stage.Stage.TheVariants.{First};
 
-use crate::act::{Act, Acts};
 use crate::stage::Stage;
-use sdd_script::sdd_base::NoMemory;
+use sdd_backups::{Act, Acts};
+use sdd_script::NoMemory;
 use std::alloc::Global;
 use std::marker::Model;
 

@@ -3,8 +3,7 @@ ghost use Rattle.sdd_script.specs.All.{must, require};
 ghost use Rattle.sdd_control.specs.Faults.{GivesLine, fault_at_line};
 ghost use Rattle.sdd_control.specs.declared.fault.LineError.TheVariants.{Broken};
 
-use sdd_script::sdd_base::NoMemory;
-use sdd_script::{WorkError, WorkFault, WorkRule};
+use sdd_script::{NoMemory, WorkError, WorkFault, WorkRule};
 
 /// Why a line is not read.
 #[derive(Clone, Copy)]

@@ -1,7 +1,7 @@
 ghost use Rattle.std.specs.Prelude.{◌≡◌};
 ghost use Rattle.sdd_control.specs.Keys.{key_in, key_of};
 
-use sdd_script::sdd_words::Token;
+use sdd_script::Token;
 
 /// The first word of a line.
 #[derive(Clone, Copy)]

@@ -1,8 +1,8 @@
 //! What transaction control promises for every list of events.
 ghost use Rattle.sdd_control.specs.Laws.{AllWritten, LeaderEnds, NeverUnknown, NoneWritten, OneValue};
-ghost use Rattle.sdd_control.specs.Steps.{FitAll, log_of};
+ghost use Rattle.sdd_backups.specs.Steps.{FitAll, log_of};
 
-use crate::act::Act;
+use sdd_backups::Act;
 
 /// Two sites that finish have one value. Does nothing when it runs.
 #[tactic(auto, using(crate::proofs::Promises::one_value_of))]

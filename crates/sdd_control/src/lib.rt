@@ -1,9 +1,8 @@
 //! Transaction control: all writes of a transaction or none, though the sender stops between two.
 //!
 //! Site 0 is the committer, and the sites above it are its backups. The lowest site that hasn't
-//! stopped takes the commit to its end. `specs/` defines what is noted of each event by the events
-//! before it: how a site stands (`Standing`), the messages on each link (`Links`), what a leader
-//! sends next (`Sends`), and the note of an event (`Steps`).
+//! stopped takes the commit to its end. What is noted of each event by the events before it is
+//! defined in `sdd_backups`.
 //!
 //! What the layer above gets: `read_control` gives exactly the script that the bytes of a file give,
 //! or its first fault (`specs/Walk.antt`), and `write_report` the text that the script makes
@@ -11,8 +10,6 @@
 //! list of events what `specs/Laws.antt` says.
 #![tactic(auto)]
 
-mod act;
-mod change;
 mod control;
 mod draft;
 mod fault;
@@ -20,23 +17,14 @@ mod key;
 mod laws;
 mod limits;
 mod line;
-mod links;
-mod message;
-mod note;
 mod reading;
 mod report;
 mod script;
 mod stage;
-mod state;
-mod table;
-mod value;
 
-pub use act::{Act, Acts};
 pub use control::Control;
 pub use laws::{law_all_or_none, law_leader, law_one_value};
 pub use limits::{MAX_BACKUPS, MAX_WRITES};
-pub use note::Note;
 pub use reading::read_control;
 pub use report::write_report;
 pub use script::ControlScript;
-pub use value::Val;

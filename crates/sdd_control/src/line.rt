@@ -4,15 +4,15 @@ ghost use Rattle.sdd_script.specs.All.{number_of};
 ghost use Rattle.sdd_control.specs.Faults.{GivesLine};
 ghost use Rattle.sdd_control.specs.LineRules.{delivery_of, end_of, event_rules, head_of, head_rules, key_rules, line_rules, number_within, site_number, site_of, sound_rules, with_act, within, words_rules};
 
-use crate::act::Act;
 use crate::draft::Draft;
 use crate::fault::{LineError, must, refuse, require};
 use crate::key::{Key, key_of};
 use crate::limits::{MAX_BACKUPS, MAX_WRITES};
 use crate::stage::{Head, Stage};
-use sdd_script::sdd_base::MAX_EVENTS;
-use sdd_script::sdd_words::{Token, Tokens, are_sound, is_free, number_in, text_of, words_of};
-use sdd_script::{Counts, WorkRule};
+use sdd_backups::Act;
+use sdd_script::{
+    Counts, MAX_EVENTS, Token, Tokens, WorkRule, are_sound, is_free, number_in, text_of, words_of,
+};
 use std::alloc::Global;
 
 fn within(least: u32, most: u32, number: i64) -> Option<u32>

@@ -10,9 +10,7 @@ use crate::fault::{LineError, at_line, must, refuse};
 use crate::line::read_line;
 use crate::script::ControlScript;
 use crate::stage::Stage;
-use sdd_script::sdd_base::MAX_WORKLOAD_BYTES;
-use sdd_script::sdd_words::{next_line, text_of};
-use sdd_script::{WorkError, WorkFault, WorkRule};
+use sdd_script::{MAX_WORKLOAD_BYTES, WorkError, WorkFault, WorkRule, next_line, text_of};
 use std::alloc::Global;
 
 fn is_ended(stage: Stage) -> bool

@@ -3,17 +3,14 @@ ghost use Rattle.std.specs.Prelude.{◌≡◌, ◌+◌, ◌-◌, ◌<◌, ◌≤
 ghost use Rattle.sdd_control.specs.Control.{live_at, next_note, run_after, with_event};
 ghost use Rattle.sdd_control.specs.Report.{ending, note_line, note_lines, note_words, report, site_line, site_lines, spaced, status_words, value_word};
 ghost use Rattle.sdd_control.specs.Script.{IsSoundScript};
-ghost use Rattle.sdd_control.specs.Standing.{finished, stopped, value};
-ghost use Rattle.sdd_control.specs.Steps.{FitAll, FitsAct};
-ghost use Rattle.sdd_control.specs.declared.note.Note.TheVariants.{Tell as Telling};
+ghost use Rattle.sdd_backups.specs.Standing.{finished, stopped, value};
+ghost use Rattle.sdd_backups.specs.Steps.{FitAll, FitsAct};
+ghost use Rattle.sdd_backups.specs.declared.note.Note.TheVariants.{Tell as Telling};
 
-use crate::act::Act;
 use crate::control::Control;
-use crate::note::Note;
 use crate::script::ControlScript;
-use crate::value::Val;
-use sdd_script::sdd_base::{Bytes, NoMemory};
-use sdd_script::sdd_words::{put, put_count};
+use sdd_backups::{Act, Note, Val};
+use sdd_script::{Bytes, NoMemory, put, put_count};
 use std::alloc::Global;
 
 fn put_value(out: &mut Vec<u8>, val: Val) -> Result<(), NoMemory>

@@ -1,4 +1,4 @@
-use crate::act::Acts;
+use sdd_backups::Acts;
 
 /// What a control file gives.
 #[derive(Drop)]

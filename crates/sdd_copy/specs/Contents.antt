@@ -4,10 +4,8 @@ use Rattle.std.specs.Prelude.{ℕ, nat_lt, ◌==◌, ◌≡◌, ℤ, pos, cond, 
 use Rattle.std.specs.Ordering.{int_cmp, is_eq}
 use Rattle.std.specs.BTreeSet.{insert_key}
 use Rattle.sdd_lang.specs.All.{Change, Int, Value, frag_no}
-
--- changes, each with its date: the timestamp of its transaction, or 0 for a row that was there from the beginning
-abbrev pub Dated : Type 0
-Dated = List (ℕ × Change)
+pub use Rattle.sdd_items.specs.Items.{Dated}
+use Rattle.sdd_items.specs.Items.{initial}
 
 -- of two dated changes the one with the greater date; of equal dates the first stands
 abbrev pub newer : ℕ × Change → Option (ℕ × Change) → Option (ℕ × Change)
@@ -67,3 +65,7 @@ first_is_kept = refl
 -- a change of another fragment doesn't count
 pub other_fragment : contents 2 ((90, change_to (Some (row_of 1))) ∷ []) ≡ []
 other_fragment = refl
+
+-- of two initial rows with key 4 the later stands
+pub later_is_kept : rows_left (initial (frag_no 1) 1 (row_of 1 ∷ row_of 2 ∷ [])) ≡ (pos 4, row_of 2) ∷ []
+later_is_kept = refl

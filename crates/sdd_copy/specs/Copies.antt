@@ -4,7 +4,7 @@ use Rattle.std.specs.List.{All}
 use Rattle.std.specs.Option.{option_map}
 use Rattle.sdd_lang.specs.All.{Change, Int, Kept, Use, Value, frag_no}
 use Rattle.sdd_copy.specs.Contents.{Dated, of_fragment}
-use Rattle.sdd_copy.specs.Items.{Items, written, items_of, entries_in}
+use Rattle.sdd_items.specs.Items.{Items, written, items_of, entries_in}
 
 -- by fragment number, from 0 on, the items of the fragment's copy, or None where there is no copy
 abbrev pub Held : Type 0

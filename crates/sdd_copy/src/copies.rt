@@ -3,10 +3,10 @@ ghost use Rattle.std.specs.Option.{option_map};
 ghost use Rattle.std.specs.List.{All};
 ghost use Rattle.sdd_copy.specs.Contents.{Dated};
 ghost use Rattle.sdd_copy.specs.Copies.{is_here, items_at, with_change, held_in, IsLive, Represent};
-ghost use Rattle.sdd_copy.specs.Items.{written, dated};
+ghost use Rattle.sdd_items.specs.Items.{written, dated};
 
 use crate::frag_copy::FragCopy;
-use sdd_lang::sdd_base::{Change, Changes, FragNo, NoMemory, Ts};
+use sdd_lang::{Change, Changes, FragNo, NoMemory, Ts};
 use std::alloc::Global;
 use std::marker::Model;
 

@@ -2,13 +2,11 @@ ghost use Rattle.std.specs.Prelude.{◌≡◌, [], ◌∷◌, ◌++◌, OnOk, On
 ghost use Rattle.std.specs.Option.{option_copied};
 ghost use Rattle.sdd_lang.specs.All.{FragNo, all_keys, common};
 ghost use Rattle.sdd_copy.specs.Contents.{Dated, rows_left};
-ghost use Rattle.sdd_copy.specs.Items.{written, items_of, dated, initial, row_in, rows_in};
-ghost use Rattle.sdd_copy.specs.Keyed.{is_within, rows_meeting};
+ghost use Rattle.sdd_items.specs.Items.{written, items_of, dated, initial, row_in, rows_in};
+ghost use Rattle.sdd_items.specs.Keyed.{is_within, rows_meeting};
 
-use crate::kept_items::KeptItems;
-use crate::near::meets_all;
-use sdd_lang::Keys;
-use sdd_lang::sdd_base::{Change, NoMemory, Parcel, Restriction, Row, Ts};
+use sdd_items::{KeptItems, meets_all};
+use sdd_lang::{Change, Keys, NoMemory, Parcel, Restriction, Row, Ts};
 use std::alloc::Global;
 use std::marker::Model;
 
@@ -23,7 +21,7 @@ pub struct FragCopy {
 
 impl Model for FragCopy {
     ghost use Rattle.sdd_lang.specs.All.{Kept};
-    ghost use Rattle.sdd_copy.specs.Items.{Items};
+    ghost use Rattle.sdd_items.specs.Items.{Items};
 
     ghost Value = { Kept Items };
 

@@ -7,7 +7,7 @@ ghost use Rattle.sdd_copy.specs.Ascending.{ascend, is_after};
 ghost use Rattle.sdd_copy.specs.Frozen.{chosen, rows_for, with_keyed};
 
 use crate::copies::Copies;
-use sdd_lang::sdd_base::{NoMemory, Row, RowList, Use};
+use sdd_lang::{NoMemory, Row, RowList, Use};
 use std::alloc::Global;
 use std::collections::BTreeMap;
 

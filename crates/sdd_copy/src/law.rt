@@ -1,7 +1,7 @@
 //! What the kept items tell, and that no order of changes matters.
 ghost use Rattle.std.specs.Prelude.{◌≡◌, ℕ};
 ghost use Rattle.sdd_copy.specs.Contents.{Dated, of_fragment, contents};
-ghost use Rattle.sdd_copy.specs.Items.{items_of, entries_in};
+ghost use Rattle.sdd_items.specs.Items.{items_of, entries_in};
 ghost use Rattle.sdd_copy.specs.Copies.{Held, Represent};
 ghost use Rattle.sdd_copy.specs.Sets.{DatesDiffer, AreSame};
 

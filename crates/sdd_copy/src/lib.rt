@@ -12,9 +12,7 @@
 mod copies;
 mod frag_copy;
 mod freezing;
-mod kept_items;
 mod law;
-mod near;
 mod reducing;
 mod space;
 

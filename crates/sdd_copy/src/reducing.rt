@@ -3,8 +3,7 @@ ghost use Rattle.std.specs.Prelude.{◌≡◌, [], OnOk, IfOk, filter, map};
 ghost use Rattle.sdd_lang.specs.All.{column, with_values};
 ghost use Rattle.sdd_copy.specs.Known.{is_known, known_use};
 
-use sdd_lang::sdd_base::{NoMemory, Parcel, Row, RowList, Value};
-use sdd_lang::{copy_value, value_in};
+use sdd_lang::{NoMemory, Parcel, Row, RowList, Value, copy_value, value_in};
 use std::alloc::Global;
 use std::collections::BTreeSet;
 

@@ -7,7 +7,7 @@ ghost use Rattle.sdd_copy.specs.Frozen.{frozen_for, rows_of, values_in, reduced,
 use crate::copies::Copies;
 use crate::freezing::rows_for;
 use crate::reducing::{reduce_use, set_of, values_of};
-use sdd_lang::sdd_base::{Listed, NoMemory, Row, RowList, Ts, Use, Value};
+use sdd_lang::{Listed, NoMemory, Row, RowList, Ts, Use, Value};
 use std::alloc::Global;
 use std::collections::BTreeSet;
 use std::marker::Model;

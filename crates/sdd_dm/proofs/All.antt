@@ -1,4 +1,5 @@
 -- The names of std, of the crates below and of this crate's definitions that its proofs cite. Declares nothing.
+pub use Rattle.sdd_conditions.specs.Conditions.{is_at_least, is_met_in, spoiler, spoils_in, unmet}
 pub use Rattle.sdd_copy.proofs.Contents.{is_own}
 pub use Rattle.sdd_copy.proofs.Represented.{here_all, here_applied, here_more, represent_all, represent_applied, represent_same}
 pub use Rattle.sdd_copy.proofs.Uses.{frozen_is_held, held_for}
@@ -8,9 +9,9 @@ pub use Rattle.sdd_copy.specs.Frozen.{Frozen, counts_of, frozen_for, values_in}
 pub use Rattle.sdd_copy.specs.Items.{Items}
 pub use Rattle.sdd_copy.specs.Sets.{AreSame, DatesDiffer}
 pub use Rattle.sdd_dm.specs.Copies.{all_held, applied, changes_in, classes_of, dated, first_row, first_rows, frozen, frozen_at, frozen_handed, given_up, is_answer, is_apply, reduced_at, rows_held}
-pub use Rattle.sdd_dm.specs.Due.{IsDue, act_by, act_where, answer_of, answer_to, ask_for, by_head, by_open, done_for, due, head_due, head_step, is_at_least, is_met, judge, judged, next, open_due, spoils}
+pub use Rattle.sdd_dm.specs.Due.{IsDue, act_by, act_where, answer_of, answer_to, ask_for, by_head, by_open, done_for, due, head_due, head_step, is_met, judge, judged, next, open_due, spoils}
 pub use Rattle.sdd_dm.specs.Fits.{Ascend, IsHere, fits, with_time, write_time_of, write_times}
-pub use Rattle.sdd_dm.specs.Heads.{first_step, head_at, holds_in, is_met_in, judge_in, judged_in, of_class, spoiler, spoils_in, step_at, step_by, unmet, waits_at}
+pub use Rattle.sdd_dm.specs.Heads.{first_step, head_at, holds_in, judge_in, judged_in, of_class, step_at, step_by, waits_at}
 pub use Rattle.sdd_dm.specs.Opens.{Open, is_asked_of, opens}
 pub use Rattle.sdd_dm.specs.Pipes.{is_processing, is_wait, pipe, waits}
 pub use Rattle.sdd_dm.specs.Ranks.{IsLowest, rank_of_act}

@@ -1,11 +1,12 @@
 -- What is due at a data module. First, by class, what answers a message that asks; then, by class, what the head of a
 -- pipe may do.
-use Rattle.std.specs.Prelude.{ℕ, nat_le, ◌≡◌, ◌==◌, Bool, true, false, not, ◌&&◌, if◌then◌else◌, List, [], ◌∷◌, map, filter, length, slice_get, Option, Some, None}
+use Rattle.std.specs.Prelude.{ℕ, ◌≡◌, ◌==◌, Bool, true, false, not, ◌&&◌, if◌then◌else◌, List, [], ◌∷◌, map, filter, length, slice_get, Option, Some, None}
 use Rattle.std.specs.List.{list_any, list_all}
 use Rattle.sdd_module.specs.All.{Act, Answer, Apply, Arrive, Ask, Bases, Change, Cond, Done, Fetch, Log, Msg, Null, Pass, Read, Ready, Records, Reduce, Reduced, Reject, Rows, Sends, Setting, Ship, Site, U, Values, Wait, Write, first_some, head_of, or_else, time_at}
 use Rattle.sdd_module.specs.history.declared.record.Rec.TheVariants.{Reject as Rejected}
 use Rattle.sdd_copy.specs.Frozen.{values_in}
-use Rattle.sdd_pipe.specs.Pipe.{head, passed, last_write, touches}
+use Rattle.sdd_pipe.specs.Pipe.{head, passed, last_write}
+pub use Rattle.sdd_conditions.specs.Conditions.{holds, is_at_least, or_zero}
 use Rattle.sdd_dm.specs.declared.step.Step.{Step}
 use Rattle.sdd_dm.specs.declared.step.Step.TheVariants.{Processes, Refuses, Waits}
 use Rattle.sdd_dm.specs.Copies.{frozen_at, rows_held, counts_held, all_held}
@@ -40,18 +41,9 @@ is_met v d = passed (at_class v d.class.0).pipe d.time.0
 abbrev pub last_write_for : View → Cond → Option ℕ
 last_write_for v d = last_write d.frags (at_class v d.class.0).pipe
 
-abbrev pub is_at_least : ℕ → Option ℕ → Bool
-is_at_least t None = false
-is_at_least t (Some w) = nat_le t w
-
 -- it spoils its READ: that WRITE is at its time or later
 abbrev pub spoils : View → Cond → Bool
 spoils v d = is_at_least d.time.0 (last_write_for v d)
-
--- it holds back a WRITE of class j with timestamp w: it is on that class, at w or before, for a fragment that the WRITE
--- changes
-abbrev pub holds : ℕ → ℕ → List Change → Cond → Bool
-holds j w changes d = (d.class.0 == j) && (nat_le d.time.0 w && touches d.frags changes)
 
 abbrev pub holds_back : ℕ → ℕ → List Change → Option Msg → Bool
 holds_back j w changes (Some (Read ts class txn attempt conds uses)) = list_any (holds j w changes) conds
@@ -62,10 +54,6 @@ abbrev pub is_held : View → ℕ → ℕ → List Change → Bool
 is_held v j w changes = not (j == 0) && list_any (λ k. k.waits && holds_back j w changes (head k.pipe)) v.classes
 
 -- what a head may do
-
-abbrev pub or_zero : Option ℕ → ℕ
-or_zero None = 0
-or_zero (Some w) = w
 
 -- a READ that doesn't wait is rejected by the first condition that spoils it; else it is answered where every condition
 -- is met; else it waits for those that aren't

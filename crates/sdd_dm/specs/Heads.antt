@@ -1,13 +1,14 @@
 -- What the heads of the pipes may do, by what the module keeps of the pipes and by which heads wait. These are the words of
 -- what is due, said of digests in place of pipes.
-use Rattle.std.specs.Prelude.{ℕ, ◌==◌, Bool, true, false, not, ◌&&◌, if◌then◌else◌, List, [], ◌∷◌, filter, find, length, slice_index_or, Option, Some, None}
+use Rattle.std.specs.Prelude.{ℕ, ◌==◌, Bool, true, false, not, ◌&&◌, if◌then◌else◌, List, [], ◌∷◌, length, slice_index_or, Option, Some, None}
 use Rattle.std.specs.List.{list_any, list_all, range_with_len}
 use Rattle.sdd_module.specs.All.{Change, ClassNo, Cond, Msg, Null, Read, Write, class_no, first_some, head_of, time_at}
-use Rattle.sdd_pipe.specs.Digest.{Digest, has_passed, last_in}
+use Rattle.sdd_pipe.specs.Digest.{Digest}
 use Rattle.sdd_pipe.specs.Pipes.{pipe_at}
 use Rattle.sdd_dm.specs.declared.step.Step.{Step}
 use Rattle.sdd_dm.specs.declared.step.Step.TheVariants.{Processes, Refuses, Waits}
-use Rattle.sdd_dm.specs.Due.{is_at_least, holds_back, or_zero}
+pub use Rattle.sdd_conditions.specs.Conditions.{is_met_in, last_write_in, spoiler, spoils_in, unmet}
+use Rattle.sdd_dm.specs.Due.{holds_back, or_zero}
 
 -- the first unprocessed message of class c, and whether it waits
 abbrev pub head_at : List Digest → ℕ → Option Msg
@@ -15,23 +16,6 @@ head_at pipes c = head_of (pipe_at pipes c).unprocessed
 
 abbrev pub waits_at : List Bool → ℕ → Bool
 waits_at waits c = slice_index_or waits c false
-
--- conditions
-
-abbrev pub is_met_in : List Digest → Cond → Bool
-is_met_in pipes d = has_passed (pipe_at pipes d.class.0) d.time.0
-
-abbrev pub last_write_in : List Digest → Cond → Option ℕ
-last_write_in pipes d = last_in d.frags (pipe_at pipes d.class.0)
-
-abbrev pub spoils_in : List Digest → Cond → Bool
-spoils_in pipes d = is_at_least d.time.0 (last_write_in pipes d)
-
-abbrev pub unmet : List Digest → List Cond → List Cond
-unmet pipes conds = filter (λ d. not (is_met_in pipes d)) conds
-
-abbrev pub spoiler : List Digest → List Cond → Option Cond
-spoiler pipes conds = find (spoils_in pipes) conds
 
 -- held WRITEs
 

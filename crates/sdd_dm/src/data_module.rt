@@ -14,10 +14,9 @@ ghost use Rattle.sdd_pipe.specs.Pipes.{pipe_at};
 use crate::holding::ClassNos;
 use crate::parts::Parts;
 use sdd_copy::Copies;
-use sdd_module::Module;
-use sdd_module::sdd_base::{ClassNo, Cond, Conds, DmNo, NoMemory, RelNo, Row, Site, Ts};
-use sdd_module::sdd_catalog::Catalogue;
-use sdd_module::sdd_wire::{Msg, Outcome};
+use sdd_module::{
+    Catalogue, ClassNo, Cond, Conds, DmNo, Module, Msg, NoMemory, Outcome, RelNo, Row, Site, Ts,
+};
 use std::alloc::Global;
 use std::marker::Model;
 

@@ -8,10 +8,7 @@ ghost use Rattle.sdd_dm.specs.State.{State, frozen_of, class_of_pipe, arrived, s
 
 use crate::parts::Parts;
 use crate::slots::{put_space, reduce_space};
-use sdd_module::Draft;
-use sdd_module::sdd_base::{ClassNo, NoMemory, Site, Ts, Value};
-use sdd_module::sdd_history::Rec;
-use sdd_module::sdd_wire::{Msg, UseRows, ValueList};
+use sdd_module::{ClassNo, Draft, Msg, NoMemory, Rec, Site, Ts, UseRows, Value, ValueList};
 
 impl Parts {
     /// Takes a message: a READ, WRITE or NULL goes to the pipe of its class, and a READ is recorded;

@@ -1,4 +1,4 @@
-use sdd_module::sdd_base::{ClassNo, NoMemory};
+use sdd_module::{ClassNo, NoMemory};
 use std::alloc::Global;
 
 /// By class what kept the head of its pipe from acting when it was looked at last: of a READ that

@@ -1,35 +1,18 @@
 //! WRITEs that READs hold back.
 ghost use Rattle.std.specs.Prelude.{◌≡◌, IfOk, IsTrue, filter_map, length, is_some, true};
 ghost use Rattle.std.specs.List.{list_any, range_with_len};
-ghost use Rattle.sdd_dm.specs.Due.{holds};
 ghost use Rattle.sdd_dm.specs.Heads.{holds_in, is_held_in, waits_at};
 ghost use Rattle.sdd_dm.specs.Waiting.{holder_at, holders_in};
 
 use crate::hints::Hints;
 use crate::slots::waits_at;
-use sdd_module::sdd_base::{Change, ClassNo, Cond, Listed, NoMemory, Ts};
-use sdd_module::sdd_wire::Msg;
-use sdd_pipe::{Pipes, touches};
+use sdd_conditions::any_holds;
+use sdd_module::{Change, ClassNo, Listed, Msg, NoMemory, Ts};
+use sdd_pipe::Pipes;
 use std::alloc::Global;
 
 /// Numbers of classes.
 pub type ClassNos = Listed<ClassNo>;
-
-/// Whether a condition of a waiting READ holds back a WRITE of the class with this timestamp and
-/// these changes: it is on that class, up to the WRITE's timestamp or to a time before, for a
-/// fragment that the WRITE changes. Costs time in the fragments of the condition times the
-/// changes.
-pub fn holds(cond: &Cond, class: ClassNo, write: Ts, changes: &[Change]) -> bool
-    ensures { result ≡ holds class.0 write.0 changes.now cond.now }
-{
-    cond.class.0 == class.0 && cond.time.0 <= write.0 && touches(cond.frags.as_slice(), changes)
-}
-
-fn any_holds(conds: &[Cond], class: ClassNo, write: Ts, changes: &[Change]) -> bool
-    ensures { result ≡ list_any (holds class.0 write.0 changes.now) conds.now }
-{
-    conds.iter().any(|cond| holds(cond, class, write, changes))
-}
 
 /// Whether the head of one class is a READ that waits and holds back a WRITE of another.
 fn reader_holds(

@@ -2,16 +2,16 @@
 ghost use Rattle.std.specs.Prelude.{◌≡◌, IfOk};
 ghost use Rattle.std.specs.List.{list_all};
 ghost use Rattle.std.specs.Option.{option_copied};
-ghost use Rattle.sdd_dm.specs.Heads.{is_met_in, step_at, first_step};
+ghost use Rattle.sdd_conditions.specs.Conditions.{is_met_in};
+ghost use Rattle.sdd_dm.specs.Heads.{first_step, judge_in, step_at};
 ghost use Rattle.sdd_dm.specs.Waiting.{waiting_in, first_unmet, unmet_in};
 
-use crate::conditions::{all_met, first_unmet, judge, lacks_at, place_unmet, unmet};
 use crate::hints::Hints;
 use crate::holding::is_held;
 use crate::slots::waits_at;
 use crate::step::Step;
-use sdd_module::sdd_base::{ClassNo, Cond, Conds, NoMemory, Ts};
-use sdd_module::sdd_wire::Msg;
+use sdd_conditions::{all_met, first_unmet, lacks_at, last_write, place_unmet, spoiler, unmet};
+use sdd_module::{ClassNo, Cond, Conds, Msg, NoMemory, Ts};
 use sdd_pipe::Pipes;
 use std::alloc::Global;
 
@@ -66,6 +66,23 @@ fn step_of(
             Ok(None)
         }
         Some(_) => Ok(None),
+    }
+}
+
+/// What a READ may do that doesn't wait yet.
+fn judge(alloc: Global, pipes: &Pipes, conds: &[Cond]) -> Result<Step, NoMemory>
+    ensures { IfOk result (λ step. step ≡ judge_in pipes.now.value conds.now) }
+{
+    match spoiler(pipes, conds) {
+        Some(cond) => Ok(Step::Refuses(cond.class, last_write(pipes, cond))),
+        None => {
+            let lacking = unmet(alloc, pipes, conds)?;
+            if lacking.as_slice().is_empty() {
+                Ok(Step::Processes)
+            } else {
+                Ok(Step::Waits(lacking))
+            }
+        }
     }
 }
 

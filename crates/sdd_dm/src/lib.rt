@@ -7,7 +7,6 @@
 //! represents is defined in `specs/Represents.antt`.
 #![tactic(auto)]
 
-mod conditions;
 mod data_module;
 mod handing;
 mod hints;
@@ -15,14 +14,12 @@ mod holding;
 mod judging;
 mod law;
 mod parts;
-mod rank;
 mod slots;
 mod starting;
 mod step;
 mod stepping;
 
 pub use data_module::DataModule;
-pub use holding::{ClassNos, holds};
+pub use holding::ClassNos;
 pub use law::{law_lowest_class_is_named, law_lowest_rank_is_next};
-pub use rank::rank_of;
 pub use step::Step;

@@ -15,11 +15,10 @@ use crate::judging::{awaited_cond, first_step, unmet_conds};
 use crate::starting::{first_copies, no_spaces, no_waits, sources};
 use crate::step::Step;
 use sdd_copy::{Copies, Space};
-use sdd_module::Draft;
-use sdd_module::sdd_base::{ClassNo, Cond, Conds, DmNo, NoMemory, RelNo, Row, Site, Ts};
-use sdd_module::sdd_catalog::Catalogue;
-use sdd_module::sdd_lang::law_rows_make_database;
-use sdd_module::sdd_wire::Msg;
+use sdd_module::{
+    Catalogue, ClassNo, Cond, Conds, DmNo, Draft, Msg, NoMemory, RelNo, Row, Site, Ts,
+    law_rows_make_database,
+};
 use sdd_pipe::Pipes;
 use std::alloc::Global;
 use std::marker::Model;

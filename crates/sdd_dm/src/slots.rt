@@ -6,7 +6,7 @@ ghost use Rattle.sdd_dm.specs.Heads.{waits_at};
 ghost use Rattle.sdd_dm.specs.State.{frozen_of};
 
 use sdd_copy::Space;
-use sdd_module::sdd_base::{ClassNo, NoMemory, Ts, Value};
+use sdd_module::{ClassNo, NoMemory, Ts, Value};
 
 /// Whether the head of a class waits.
 pub fn waits_at(waits: &[bool], class: ClassNo) -> bool

@@ -7,9 +7,10 @@ ghost use Rattle.sdd_dm.specs.Copies.{first_row};
 ghost use Rattle.sdd_dm.specs.Starts.{lent, own_rows, with_own};
 
 use sdd_copy::{Copies, Space};
-use sdd_module::sdd_base::{Change, ClassNo, DmNo, FragNo, NoMemory, Parcel, RelNo, Row, Site, Ts};
-use sdd_module::sdd_catalog::Catalogue;
-use sdd_module::sdd_lang::{key_of, law_rows_make_database};
+use sdd_module::{
+    Catalogue, Change, ClassNo, DmNo, FragNo, NoMemory, Parcel, RelNo, Row, Site, Ts, key_of,
+    law_rows_make_database,
+};
 use std::alloc::Global;
 use std::collections::BTreeMap;
 

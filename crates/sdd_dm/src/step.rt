@@ -1,4 +1,4 @@
-use sdd_module::sdd_base::{ClassNo, Conds, Ts};
+use sdd_module::{ClassNo, Conds, Ts};
 
 /// What the first unprocessed message of a pipe may do.
 #[derive(Drop)]

@@ -12,10 +12,7 @@ use crate::parts::Parts;
 use crate::slots::{put_space, set_waiting};
 use crate::step::Step;
 use sdd_copy::Space;
-use sdd_module::Draft;
-use sdd_module::sdd_base::{ClassNo, Cond, Conds, NoMemory, Site, Ts, Use};
-use sdd_module::sdd_history::Rec;
-use sdd_module::sdd_wire::{Msg, UseCounts};
+use sdd_module::{ClassNo, Cond, Conds, Draft, Msg, NoMemory, Rec, Site, Ts, Use, UseCounts};
 
 impl Parts {
     /// Does what the head of a class may do.

@@ -1,7 +1,6 @@
 ghost use Rattle.std.specs.Prelude.{◌≡◌, ◌++◌, IfOk};
 
-use sdd_lang::sdd_base::{NoMemory, Parcel};
-use sdd_lang::sdd_catalog::ClassPart;
+use sdd_lang::{ClassPart, NoMemory, Parcel};
 
 /// The classes with copies of the others after them.
 pub(crate) fn with_copies(

@@ -3,8 +3,7 @@ ghost use Rattle.sdd_lang.specs.All.{TellsFirst};
 ghost use Rattle.sdd_eras.specs.AddedClasses.{faults_of_added_classes, with_added_classes, with_classes};
 
 use crate::copying::with_copies;
-use sdd_lang::sdd_base::{Listed, NoMemory};
-use sdd_lang::sdd_catalog::{CatError, Catalogue, ClassPart, Parts};
+use sdd_lang::{CatError, Catalogue, ClassPart, Listed, NoMemory, Parts};
 use std::alloc::Global;
 
 /// The catalogue with the classes after those that are there, or the first fault of these classes:

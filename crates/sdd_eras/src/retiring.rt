@@ -4,8 +4,7 @@ ghost use Rattle.sdd_eras.specs.AddedClasses.{with_classes};
 ghost use Rattle.sdd_eras.specs.Retired.{emptied_part, retired_parts};
 
 use crate::copying::with_copies;
-use sdd_lang::sdd_base::{Listed, NoMemory, Parcel};
-use sdd_lang::sdd_catalog::{CatError, Catalogue, ClassPart, Parts};
+use sdd_lang::{CatError, Catalogue, ClassPart, Listed, NoMemory, Parcel, Parts};
 use std::alloc::Global;
 
 /// The catalogue whose first so many classes read and write nothing; their numbers, names and

@@ -5,8 +5,7 @@ ghost use Rattle.sdd_lang.specs.All.{held, rows_lent};
 ghost use Rattle.sdd_exec.specs.Choices as joins;
 
 use crate::parts::Parts;
-use sdd_lang::sdd_base::{Listed, NoMemory, Row, Value};
-use sdd_lang::{Ref, value_in};
+use sdd_lang::{Listed, NoMemory, Ref, Row, Value, value_in};
 use std::alloc::Global;
 
 /// Of each part the place of one row, counted from 0. A place that isn't given is 0.

@@ -4,7 +4,7 @@ ghost use Rattle.sdd_lang.specs.All.{distinct, row_cmp};
 ghost use Rattle.sdd_exec.specs.Rising.{to_last};
 ghost use Rattle.sdd_exec.specs.Choices.{NoRepeats};
 
-use sdd_lang::sdd_base::{NoMemory, Row, RowList};
+use sdd_lang::{NoMemory, Row, RowList};
 use std::alloc::Global;
 use std::cmp::Ordering;
 use std::collections::BTreeSet;

@@ -8,9 +8,7 @@ ghost use Rattle.sdd_exec.specs.Snapshots as snapshots;
 
 use crate::snapshot::Snapshot;
 use crate::source::Shipped;
-use sdd_lang::sdd_base::NoMemory;
-use sdd_lang::sdd_catalog::Catalogue;
-use sdd_lang::{Effect, Txn, effect_over};
+use sdd_lang::{Catalogue, Effect, NoMemory, Txn, effect_over};
 use std::alloc::Global;
 
 /// The effect of a transaction on each database that the snapshot serves.

@@ -6,8 +6,7 @@ ghost use Rattle.sdd_lang.specs.All.{Value, rows_lent};
 ghost use Rattle.sdd_exec.specs.Choices as joins;
 
 use crate::tie::{Tie, key_of};
-use sdd_lang::sdd_base::{NoMemory, Row};
-use sdd_lang::{Condition, compare, value_in};
+use sdd_lang::{Condition, NoMemory, Row, compare, value_in};
 use std::alloc::Global;
 use std::collections::HashMap;
 

@@ -14,8 +14,7 @@ use crate::index::{Index, index, places_of, untied_places};
 use crate::parts::Parts;
 use crate::sifting::sift;
 use crate::tie::{Tie, key_for, ties};
-use sdd_lang::sdd_base::{MAX_REPLY_ROWS, NoMemory, Row, RowList};
-use sdd_lang::{Condition, Ref, meets_all, project};
+use sdd_lang::{Condition, MAX_REPLY_ROWS, NoMemory, Ref, Row, RowList, meets_all, project};
 use std::alloc::Global;
 
 /// How many choices, of one row from each part taken so far, a step may make in any join before

@@ -5,8 +5,7 @@ ghost use Rattle.sdd_exec.specs.Sifting as sift;
 use crate::choice::value_at;
 use crate::parts::Parts;
 use crate::tie::part_of;
-use sdd_lang::sdd_base::{NoMemory, Row};
-use sdd_lang::{Condition, Ref, copy_value};
+use sdd_lang::{Condition, NoMemory, Ref, Row, copy_value};
 use std::alloc::Global;
 
 /// Of two columns the one of a part that was taken, where the other isn't.

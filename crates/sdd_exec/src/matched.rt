@@ -5,8 +5,7 @@ ghost use Rattle.sdd_lang.specs.All.{entries_of};
 ghost use Rattle.sdd_exec.specs.Rising.{keyed_rows, by_keys, to_last_key};
 ghost use Rattle.sdd_exec.specs.Snapshots.{of_relation};
 
-use sdd_lang::sdd_base::{NoMemory, Row};
-use sdd_lang::{Entries, Entry};
+use sdd_lang::{Entries, Entry, NoMemory, Row};
 use std::alloc::Global;
 use std::cmp::Ordering;
 use std::collections::BTreeMap;

@@ -3,8 +3,7 @@ ghost use Rattle.std.specs.Prelude.{◌≡◌, ◌<◌, ◌++◌, ◌∷◌, [],
 
 use crate::links::{links, outs};
 use crate::tie::ties;
-use sdd_lang::sdd_base::NoMemory;
-use sdd_lang::{Condition, Ref};
+use sdd_lang::{Condition, NoMemory, Ref};
 use std::alloc::Global;
 
 /// The parts that were taken, and one more.

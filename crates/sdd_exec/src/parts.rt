@@ -2,7 +2,7 @@
 ghost use Rattle.std.specs.Prelude.{◌≡◌, ◌≤◌, ◌<◌, ◌++◌, ◌∷◌, [], length, slice_index_or, MatchOption, OnOk};
 ghost use Rattle.sdd_lang.specs.All.{rows_lent};
 
-use sdd_lang::sdd_base::{NoMemory, Row};
+use sdd_lang::{NoMemory, Row};
 use std::alloc::Global;
 use std::marker::Model;
 

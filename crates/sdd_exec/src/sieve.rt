@@ -11,8 +11,7 @@ use crate::choice::{Choice, choice_with_place};
 use crate::found::Found;
 use crate::links::values_of;
 use crate::parts::Parts;
-use sdd_lang::Ref;
-use sdd_lang::sdd_base::{NoMemory, Row};
+use sdd_lang::{NoMemory, Ref, Row};
 use std::alloc::Global;
 use std::collections::HashMap;
 

@@ -14,8 +14,7 @@ use crate::order::{best_part, with_part};
 use crate::parts::Parts;
 use crate::sieve::{Mesh, Sieve, is_full_for, no_choices, offer_each};
 use crate::tie::{Tie, key_for, key_of, part_of, ties};
-use sdd_lang::sdd_base::{NoMemory, Row};
-use sdd_lang::{Condition, Ref};
+use sdd_lang::{Condition, NoMemory, Ref, Row};
 use std::alloc::Global;
 
 /// What the choices of a group are told apart by.

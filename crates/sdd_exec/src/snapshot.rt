@@ -2,7 +2,7 @@ ghost use Rattle.std.specs.Prelude.{◌≡◌, true, false, [], ◌∷◌, ◌++
 ghost use Rattle.sdd_lang.specs.All.{rows_lent};
 ghost use Rattle.sdd_exec.specs.Snapshots.{rows_for};
 
-use sdd_lang::sdd_base::{NoMemory, Row};
+use sdd_lang::{NoMemory, Row};
 use std::alloc::Global;
 use std::marker::Model;
 

@@ -7,9 +7,10 @@ use crate::joins::join;
 use crate::matched::Matched;
 use crate::parts::Parts;
 use crate::snapshot::Snapshot;
-use sdd_lang::sdd_base::{NoMemory, Parcel, RelNo, Row, RowList, Value};
-use sdd_lang::sdd_catalog::Catalogue;
-use sdd_lang::{Condition, Entries, Entry, Ref, Source, meets_all, value_in};
+use sdd_lang::{
+    Catalogue, Condition, Entries, Entry, NoMemory, Parcel, Ref, RelNo, Row, RowList, Source,
+    Value, meets_all, value_in,
+};
 use std::alloc::Global;
 
 /// What a transaction's statements find in the rows that were shipped for its uses.

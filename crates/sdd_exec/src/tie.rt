@@ -4,8 +4,7 @@ ghost use Rattle.sdd_exec.specs.Choices as joins;
 
 use crate::choice::value_at;
 use crate::parts::Parts;
-use sdd_lang::sdd_base::{NoMemory, Row};
-use sdd_lang::{Condition, Ref, copy_value, value_in};
+use sdd_lang::{Condition, NoMemory, Ref, Row, copy_value, value_in};
 use std::alloc::Global;
 
 /// A column of a part that is to equal a column of a part that was taken before it.

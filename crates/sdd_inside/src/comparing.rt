@@ -9,7 +9,7 @@ use crate::delta::{Delta, Found, Handed, InFlight, PipeDelta, Put, QueueDelta};
 use crate::moment::{Happened, LinkMoment, Moment, PipeMoment, QueueMoment};
 use crate::to_json::split_head;
 use sdd_net::Packet;
-use sdd_script::sdd_base::{Event, Listed, NoMemory, Parcel, Site, TxnNo};
+use sdd_script::{Event, Listed, NoMemory, Parcel, Site, TxnNo};
 use sdd_wire::Msg;
 use std::alloc::Global;
 

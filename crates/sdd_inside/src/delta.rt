@@ -1,6 +1,6 @@
 //! What one event changed.
 use crate::standing::SiteState;
-use sdd_script::sdd_base::{Change, ClassNo, DmNo, Event, Listed, Site, Ts, TxnNo};
+use sdd_script::{Change, ClassNo, DmNo, Event, Listed, Site, Ts, TxnNo};
 use sdd_wire::Msg;
 
 /// A packet that was taken off its flight.

@@ -4,8 +4,7 @@ ghost use Rattle.std.specs.Fmt.{decimal};
 ghost use Rattle.sdd_inside.specs.Json.{hex_digit, numbered, escaped_byte, escaped, quoted};
 
 use itoa::Buffer;
-use sdd_script::sdd_base::NoMemory;
-use sdd_script::sdd_words::put;
+use sdd_script::{NoMemory, put};
 
 fn hex_digit(n: u8) -> u8
     requires { n < 16 }

@@ -7,9 +7,7 @@ ghost use Rattle.sdd_inside.specs.Words.{event_json};
 
 use crate::escape::put_quoted;
 use crate::names::txn_name;
-use sdd_script::sdd_base::{Event, NoMemory, Site, TmNo};
-use sdd_script::sdd_lang::Txn;
-use sdd_script::sdd_words::{put, put_count};
+use sdd_script::{Event, NoMemory, Site, TmNo, Txn, put, put_count};
 
 /// Puts a word after a space.
 fn put_word(out: &mut Vec<u8>, word: &[u8]) -> Result<(), NoMemory>

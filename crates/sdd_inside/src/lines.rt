@@ -14,10 +14,7 @@ use crate::to_json::{
     tell_first, tell_further, tell_list, tell_some, tell_triple, tell_two,
 };
 use sdd_report::CopyTable;
-use sdd_script::sdd_base::{Event, NoMemory};
-use sdd_script::sdd_catalog::Catalogue;
-use sdd_script::sdd_lang::Txn;
-use sdd_script::sdd_words::{put, put_count};
+use sdd_script::{Catalogue, Event, NoMemory, Txn, put, put_count};
 
 fn put_taken(out: &mut Vec<u8>, packet: &Taken) -> Result<(), NoMemory>
     ensures { OnOk result (out.new.items ≡ out.old.items ++ taken_json packet.now) }

@@ -9,10 +9,7 @@ use crate::escape::put_quoted;
 use crate::to_json::{ToJson, put_also, put_name, put_opening, tell_also, tell_list};
 use crate::words::put_attempt;
 use itoa::Buffer;
-use sdd_script::sdd_base::{Changes, ClassNo, Conds, NoMemory, Ts, TxnNo};
-use sdd_script::sdd_catalog::Catalogue;
-use sdd_script::sdd_lang::Txn;
-use sdd_script::sdd_words::{put, put_count};
+use sdd_script::{Catalogue, Changes, ClassNo, Conds, NoMemory, Ts, Txn, TxnNo, put, put_count};
 use sdd_wire::{Msg, UseCounts, UseRows, ValueList};
 
 #[tactic(auto, using(crate::proofs::Members::member_put))]

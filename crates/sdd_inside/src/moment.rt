@@ -2,7 +2,7 @@
 use crate::delta::{Found, RowDelta};
 use crate::standing::SiteState;
 use sdd_net::Packets;
-use sdd_script::sdd_base::{ClassNo, DmNo, Event, Listed, Site, Ts, TxnNo};
+use sdd_script::{ClassNo, DmNo, Event, Listed, Site, Ts, TxnNo};
 use sdd_wire::Msg;
 
 /// A link between two events.

@@ -1,5 +1,5 @@
 //! How a site stands after an event.
-use sdd_script::sdd_base::{ClassNo, Conds, DmNo, Listed, Site, TmNo, Ts, TxnNo};
+use sdd_script::{ClassNo, Conds, DmNo, Listed, Site, TmNo, Ts, TxnNo};
 
 /// What an attempt is waiting for from data modules.
 #[derive(Clone, Copy)]

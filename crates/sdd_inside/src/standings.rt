@@ -10,10 +10,7 @@ use crate::standing::{Active, DmState, Head, Phase, Question, SiteState, Stage, 
 use crate::to_json::{
     ToJson, put_also, put_if, put_name, tell_also, tell_first, tell_list, tell_some, tell_triple,
 };
-use sdd_script::sdd_base::{NoMemory, Site};
-use sdd_script::sdd_catalog::Catalogue;
-use sdd_script::sdd_lang::Txn;
-use sdd_script::sdd_words::put;
+use sdd_script::{Catalogue, NoMemory, Site, Txn, put};
 
 fn phase_word(phase: Phase) -> &'static [u8]
     ensures { result.now ≡ phase_word phase }

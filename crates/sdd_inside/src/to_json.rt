@@ -4,10 +4,7 @@ ghost use Rattle.std.specs.Fmt.{decimal};
 ghost use Rattle.sdd_script.specs.All.{Catalogue as Names, Txn as Named};
 ghost use Rattle.sdd_inside.specs.Json.{separated, further, array, pair, triple, member, also, unless_empty, if_true, unless_zero};
 
-use sdd_script::sdd_base::{Listed, NoMemory};
-use sdd_script::sdd_catalog::Catalogue;
-use sdd_script::sdd_lang::Txn;
-use sdd_script::sdd_words::{put, put_count};
+use sdd_script::{Catalogue, Listed, NoMemory, Txn, put, put_count};
 
 /// What can stand in a line.
 pub(crate) trait ToJson: Sized {

@@ -10,12 +10,10 @@ use crate::escape::{put_escaped, put_escaped_count, put_quoted};
 use crate::names::{class_word, fragment_name, txn_name};
 use crate::to_json::{ToJson, split_head, tell_pair, tell_triple};
 use itoa::Buffer;
-use sdd_script::sdd_base::{
-    Change, ClassNo, Cond, DmNo, FragNo, NoMemory, Row, Site, Ts, TxnNo, Value,
+use sdd_script::{
+    Catalogue, Change, ClassNo, Cond, DmNo, FragNo, NoMemory, Row, Site, Ts, Txn, TxnNo, Value,
+    put, put_count, put_value, put_values,
 };
-use sdd_script::sdd_catalog::Catalogue;
-use sdd_script::sdd_lang::Txn;
-use sdd_script::sdd_words::{put, put_count, put_value, put_values};
 use std::alloc::Global;
 
 impl ToJson for u32 {

@@ -19,10 +19,8 @@ pub mod steps_laws;
 pub mod traffic_laws;
 
 // What lies below, for the crates above.
-pub use sdd_graph;
-pub use sdd_log;
 pub use sdd_log::{
-    sdd_attempt, sdd_base, sdd_catalog, sdd_dm, sdd_history, sdd_lang, sdd_module, sdd_net,
-    sdd_pipe, sdd_protocol, sdd_tm, sdd_umod, sdd_wire,
+    Answer, Asked, Catalogue, Change, ClassNo, ClassNos, ClassRun, Conds, DataModule, DmNo, Event,
+    FragNo, Line, Listed, Msg, NoMemory, Packet, Packets, Pages, Parcel, Rec, Row, Site, Spelling,
+    Table, TmNo, Ts, TxnModule, TxnNo, UModule, table,
 };
-pub use sdd_semijoin;

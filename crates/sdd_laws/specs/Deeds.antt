@@ -1,7 +1,8 @@
 -- What attempts and committed transactions did at places of a history.
+pub use Rattle.sdd_history.specs.Places.{IsSubmitted}
 use Rattle.std.specs.Prelude.{ℕ, ◌-◌, ◌<◌, ◌≡◌, true, List, Option, Some, map, slice_get}
 use Rattle.sdd_lang.specs.All.{Catalogue, FragNo, class_no, contains, dm_no, has_copy, reads_at, time_at, txn_no}
-use Rattle.sdd_history.specs.declared.record.Rec.TheVariants.{Submit, Answer, Apply}
+use Rattle.sdd_history.specs.declared.record.Rec.TheVariants.{Answer, Apply}
 use Rattle.sdd_history.specs.Records.{History}
 use Rattle.sdd_lang.specs.declared.transaction.Txn.{Txn}
 use Rattle.sdd_order.specs.Attempts.{Attempt, Committed, IsAttempt, HasCommit, reads, changes}
@@ -13,9 +14,6 @@ abbrev pub txn_at : List Txn → ℕ → Option Txn
 txn_at txns n = slice_get txns (n - 1)
 
 -- records at places
-
-abbrev pub IsSubmitted : History → ℕ → ℕ → Type 0
-IsSubmitted h n k = IsRecordAt h k (Submit (txn_no n))
 
 abbrev pub IsAnswered : History → Attempt → ℕ → ℕ → Type 0
 IsAnswered h a d k = IsRecordAt h k (Answer (txn_no a.txn) a.number (dm_no d))

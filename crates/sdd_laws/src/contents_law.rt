@@ -8,7 +8,7 @@ ghost use Rattle.sdd_copy.specs.Sets.{AreSame};
 ghost use Rattle.sdd_laws.specs.Committed.{Writers, first_row, all_dated, copy_of, taken};
 ghost use Rattle.sdd_laws.specs.Values.{IsValue, ArePlaced, LeaveOneRow, AreWriters};
 
-use sdd_lang::sdd_catalog::Catalogue;
+use sdd_lang::Catalogue;
 
 /// Each item of a fragment has a value, and one alone.
 pub fn law_one_value(catalogue: &Catalogue)

@@ -1,13 +1,10 @@
-ghost use Rattle.std.specs.Prelude.{ℕ, ◌≡◌, option_map};
-ghost use Rattle.sdd_lang.specs.All.{time_at};
-ghost use Rattle.sdd_order.specs.Attempts.{attempt_of};
+ghost use Rattle.std.specs.Prelude.{ℕ, ◌≡◌};
 ghost use Rattle.sdd_order.specs.Precedence as precedence;
 ghost use Rattle.sdd_laws.specs.Copied.{AreAppliedAlike};
 ghost use Rattle.sdd_laws.specs.Snapshots as snapshots;
 
 use sdd_history::Rec;
-use sdd_lang::sdd_base::{DmNo, RelNo, Row, Ts, TxnNo};
-use sdd_lang::sdd_catalog::Catalogue;
+use sdd_lang::{Catalogue, DmNo, RelNo, Row, TxnNo};
 
 /// Equal copies: two copies of a fragment are equal, each before some place of the history, where of
 /// the transactions that change the fragment the same are applied. Takes no memory.
@@ -16,18 +13,6 @@ pub fn law_copies(catalogue: &Catalogue, rows: &[(RelNo, Row)], history: &[(u32,
         → snapshots.copy_at catalogue.now rows.now history.now a j f
         ≡ snapshots.copy_at catalogue.now rows.now history.now b k f }
 {}
-
-/// The date that an attempt gives the changes of its transaction, by its Start; other records give
-/// none, also the Apply, which names the timestamp too.
-pub fn date_of(rec: &Rec) -> Option<Ts>
-    ensures { result ≡ option_map (λ a. time_at a.ts) (attempt_of (0, rec.now)) }
-{
-    match rec {
-        Rec::Start { ts, .. } => Some(*ts),
-        Rec::Apply { .. } => None,
-        _ => None,
-    }
-}
 
 /// Whether a transaction is applied at a module before a place of the history: whether a snapshot
 /// that is taken there at that place has its changes.

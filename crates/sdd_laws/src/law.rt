@@ -13,9 +13,7 @@ ghost use Rattle.sdd_laws.specs.Rejections.{KeepsRejections};
 ghost use Rattle.sdd_laws.specs.Starts.{KeepsStarts};
 
 use sdd_history::Rec;
-use sdd_lang::sdd_base::{RelNo, Row};
-use sdd_lang::sdd_catalog::Catalogue;
-use sdd_lang::{Txn, law_puts_held, law_rows_make_database};
+use sdd_lang::{Catalogue, RelNo, Row, Txn, law_puts_held, law_rows_make_database};
 
 /// No cycle: a history that keeps its laws has no list of committed transactions, each preceding the
 /// next, that comes back to its first; so it has a serial order. Costs time in the values of the rows

@@ -25,19 +25,14 @@ pub use agreeing::law_agreeing_copies;
 pub use contents_law::{
     law_any_order, law_copy_holds_values, law_copy_takes, law_one_value, law_same_copies,
 };
-pub use copies::{date_of, is_applied, law_copies};
+pub use copies::{is_applied, law_copies};
 pub use law::{law_acyclic, law_attempts};
-pub use meeting::{Meeting, may_come_first};
+pub use meeting::Meeting;
 pub use replay::law_replay;
 pub use replay_along_law::law_replay_along;
-pub use taking::{counts, outdoes};
+pub use taking::counts;
 
 // What lies below, for the crates above.
-pub use sdd_copy;
-pub use sdd_eras;
-pub use sdd_graph;
-pub use sdd_history;
-pub use sdd_lang;
-pub use sdd_lang::{sdd_base, sdd_catalog};
-pub use sdd_order;
-pub use sdd_protocol;
+pub use sdd_copy::Copies;
+pub use sdd_lang::{Catalogue, DmNo, Ref, Txn, Use};
+pub use sdd_order::serial_order;

@@ -1,7 +1,4 @@
-ghost use Rattle.std.specs.Prelude.{◌≡◌};
-ghost use Rattle.sdd_laws.specs.Order.{may_come_first};
-
-use sdd_lang::sdd_base::Ts;
+use sdd_lang::Ts;
 
 /// How two committed transactions meet at a fragment.
 #[derive(Clone, Copy)]
@@ -12,15 +9,4 @@ pub enum Meeting {
     WriteRead(bool),
     /// The first reads it and the second changes it; whether the first saw the second.
     ReadWrite(bool),
-}
-
-/// Whether the first of two transactions that meet may stand before the second in a serial order.
-pub fn may_come_first(meeting: Meeting) -> bool
-    ensures { result ≡ may_come_first meeting }
-{
-    match meeting {
-        Meeting::Writes(first, second) => first.0 < second.0,
-        Meeting::WriteRead(seen) => seen,
-        Meeting::ReadWrite(seen) => !seen,
-    }
 }

@@ -11,9 +11,7 @@ ghost use Rattle.sdd_laws.specs.Starts.{KeepsStarts};
 
 use crate::law::texts_held;
 use sdd_history::Rec;
-use sdd_lang::sdd_base::{RelNo, Row, TxnNo};
-use sdd_lang::sdd_catalog::Catalogue;
-use sdd_lang::{Txn, law_rows_make_database};
+use sdd_lang::{Catalogue, RelNo, Row, Txn, TxnNo, law_rows_make_database};
 
 /// Replay: one plain database that runs the transactions one by one along a serial order of the
 /// history gives the replies of their Commits; and each copy at which all are applied that change

@@ -6,7 +6,7 @@ ghost use Rattle.sdd_laws.specs.Order.{IsOrder};
 ghost use Rattle.sdd_laws.specs.Recorded.{AreRecorded};
 ghost use Rattle.sdd_laws.specs.Replayed.{IsReplayed};
 
-use sdd_lang::sdd_catalog::Catalogue;
+use sdd_lang::Catalogue;
 
 /// One plain database, run along an order of the committed transactions that agrees with what they
 /// did, gives the replies and the changes of their Commits, and leaves what the copies hold. The

@@ -5,8 +5,7 @@ ghost use Rattle.sdd_eras.specs.AddedClasses.{faults_of_added_classes, with_adde
 ghost use Rattle.sdd_lists.specs.InForce.{numbered};
 
 use sdd_eras::{extend, retire};
-use sdd_script::sdd_base::{NoMemory, Parcel};
-use sdd_script::sdd_catalog::{CatError, Catalogue, ClassPart, ClassParts};
+use sdd_script::{CatError, Catalogue, ClassPart, ClassParts, NoMemory, Parcel};
 use std::alloc::Global;
 use std::mem;
 

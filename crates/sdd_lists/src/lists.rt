@@ -4,9 +4,7 @@ ghost use Rattle.sdd_lists.specs.InForce.{eras_in, whole_in};
 ghost use Rattle.sdd_script.specs.All.{IsValid};
 
 use crate::following::{eras_of, whole_of};
-use sdd_script::Workload;
-use sdd_script::sdd_base::NoMemory;
-use sdd_script::sdd_catalog::Catalogue;
+use sdd_script::{Catalogue, NoMemory, Workload};
 use std::alloc::Global;
 use std::marker::Model;
 use std::slice;

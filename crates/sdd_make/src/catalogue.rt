@@ -4,10 +4,10 @@ ghost use Rattle.sdd_script.specs.All.{IsName};
 ghost use Rattle.sdd_make.specs.Bank.{column, account, fragment, read, class, eastpay, westpay, book, transfers, bank_parts, bank, east, west};
 
 use crate::naming::name;
-use sdd_script::sdd_base::{Name, NoMemory};
-use sdd_script::sdd_catalog::{
+use sdd_script::{
     CatError, Catalogue, ClassPart, ClassParts, ColumnPart, ColumnParts, CopyNos, FragmentPart,
-    FragmentParts, Kind, Names, Parts, ReadPart, ReadParts, RelationPart, RelationParts,
+    FragmentParts, Kind, Name, Names, NoMemory, Parts, ReadPart, ReadParts, RelationPart,
+    RelationParts,
 };
 use std::alloc::Global;
 

@@ -5,9 +5,7 @@ ghost use Rattle.sdd_make.specs.Files.{parts_text, payments_text, classes_text, 
 
 use crate::catalogue::bank;
 use crate::turns::workload;
-use sdd_script::sdd_base::{Bytes, NoMemory};
-use sdd_script::sdd_words::put;
-use sdd_script::write_workload;
+use sdd_script::{Bytes, NoMemory, put, write_workload};
 use std::alloc::Global;
 
 /// The files of a made input.

@@ -3,7 +3,7 @@ ghost use Rattle.std.specs.Prelude.{◌≡◌, ◌++◌, codes, IfOk};
 ghost use Rattle.std.specs.Fmt.{decimal};
 ghost use Rattle.sdd_script.specs.All.{IsName, IsText};
 
-use sdd_script::sdd_base::{Name, NoMemory, Text};
+use sdd_script::{Name, NoMemory, Text};
 use std::alloc::Global;
 
 /// The name that a text spells.

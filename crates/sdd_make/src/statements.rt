@@ -3,9 +3,9 @@ ghost use Rattle.std.specs.Prelude.{◌≡◌, ◌<◌, IfOk};
 ghost use Rattle.sdd_make.specs.Statements.{of_account, compared, account_query, addition, payment, balances, owners, txn_at, txn_of_kind, txn_of};
 
 use crate::naming::txn_name;
-use sdd_script::sdd_base::{NoMemory, Op, RelNo, TmNo, Value};
-use sdd_script::sdd_lang::{
-    Assign, Condition, Conditions, Ref, Refs, Rels, Sets, Statements, Stmt, Txn,
+use sdd_script::{
+    Assign, Condition, Conditions, NoMemory, Op, Ref, Refs, RelNo, Rels, Sets, Statements, Stmt,
+    TmNo, Txn, Value,
 };
 use std::alloc::Global;
 

@@ -3,8 +3,7 @@ ghost use Rattle.std.specs.Prelude.{◌≡◌, ◌++◌, count_by, IfOk, OnOk};
 ghost use Rattle.sdd_make.specs.Summary.{is_commit, is_reject, is_wait, summary_of, count_line, first_counts, last_counts, summary_text};
 
 use sdd_history::Rec;
-use sdd_script::sdd_base::NoMemory;
-use sdd_script::sdd_words::{put, put_count};
+use sdd_script::{NoMemory, put, put_count};
 use std::alloc::Global;
 
 /// What a run comes to.

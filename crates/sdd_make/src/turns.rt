@@ -7,11 +7,10 @@ ghost use Rattle.sdd_make.specs.Turns.{account_row, accounts, arrival, delivery,
 use crate::naming::text;
 use crate::random::Random;
 use crate::statements::txn_of;
-use sdd_script::sdd_base::{
-    DmNo, Event, Events, Listed, NoMemory, RelNo, Row, Site, TmNo, TxnNo, Value,
+use sdd_script::{
+    ClassLists, DmNo, Event, Events, Listed, NoMemory, RelNo, Row, Site, StartRows, TmNo, Txn,
+    TxnNo, Txns, Value, Workload,
 };
-use sdd_script::sdd_lang::Txn;
-use sdd_script::{ClassLists, StartRows, Txns, Workload};
 use std::alloc::Global;
 
 /// An account with its owner and its balance.

@@ -2,7 +2,7 @@ ghost use Rattle.std.specs.Prelude.{◌≡◌, ◌++◌, ◌∷◌, [], OnOk};
 ghost use Rattle.sdd_module.specs.Notes.{nothing_noted};
 
 use sdd_history::{Rec, Recs};
-use sdd_lang::sdd_base::{NoMemory, Site};
+use sdd_lang::{NoMemory, Site};
 use sdd_wire::{Msg, Outcome, Outs};
 use std::alloc::Global;
 use std::marker::Model;

@@ -13,8 +13,11 @@ pub use draft::Draft;
 pub use module::Module;
 
 // What lies below, for the crates above.
-pub use sdd_history;
-pub use sdd_lang;
-pub use sdd_lang::{sdd_base, sdd_catalog};
-pub use sdd_protocol;
-pub use sdd_wire;
+pub use sdd_history::{PrintedReply, Rec};
+pub use sdd_lang::{
+    Catalogue, Change, Changes, ClassNo, Clock, Cond, Conditions, Conds, DmNo, Effect, Event,
+    FragNo, Frags, Listed, NoMemory, Pages, Parcel, Ref, RelNo, Row, Site, Stmt, TmNo, Ts, Txn,
+    TxnNo, Use, Uses, Value, class_for, key_of, law_rows_make_database, read_set, uses,
+};
+pub use sdd_protocol::{Table, table, undeclared_conds};
+pub use sdd_wire::{Msg, Outcome, Spelling, UseCounts, UseRows, ValueList};

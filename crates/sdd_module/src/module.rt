@@ -3,7 +3,7 @@ ghost use Rattle.sdd_module.specs.SiteLog.{Setting, Bases, Log, Act, Handed, Doe
 ghost use Rattle.sdd_wire.specs.declared.msg.Msg.{Msg};
 ghost use Rattle.sdd_lang.specs.All.{Site};
 
-use sdd_lang::sdd_base::{NoMemory, Site};
+use sdd_lang::{NoMemory, Site};
 use sdd_wire::{Msg, Outcome};
 
 /// A module of a site. It represents a log of what was handed to the site and what the site did,

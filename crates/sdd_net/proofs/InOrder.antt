@@ -1,6 +1,5 @@
 -- What a link hands on is what was put on it, from 1 to `delivered`, in order.
-use Rattle.sdd_net.proofs.All.{Bool, Call, Delivers, IsTrue, Link, List, Option, Packet, Puts, Resends, Site, [], and_parts, ap, append-nil, arith, arrives, delivered, drop, due, given_by, handed, if◌then◌else◌, is_empty, is_quiet_link, leb-true, length, link, lose, messages_of, nat_le, nat_tests, newly_delivered, put, refl, repeat, resend, same_site, sym, take, take-append-drop, take-append-le, take-take, take_all, turned, with_flight, with_packet, without_packet, ℕ, ◌&&◌, ◌++◌, ◌∙◌, ◌∷◌, ◌≡◌, ◌≤◌}
-use Rattle.sdd_net.proofs.Tops.{top_rises}
+use Rattle.sdd_net.proofs.All.{top_rises, Bool, Call, Delivers, IsTrue, Link, List, Option, Packet, Puts, Resends, Site, [], and_parts, ap, append-nil, arith, arrives, delivered, drop, due, given_by, handed, if◌then◌else◌, is_empty, is_quiet_link, leb-true, length, link, lose, messages_of, nat_le, nat_tests, newly_delivered, put, refl, repeat, resend, same_site, sym, take, take-append-drop, take-append-le, take-take, take_all, turned, with_flight, with_packet, without_packet, ℕ, ◌&&◌, ◌++◌, ◌∙◌, ◌∷◌, ◌≡◌, ◌≤◌}
 use Rattle.sdd_net.proofs.Sound.{sound, delivered_le}
 
 take-on : {A : Type 0} (j k : ℕ) (xs : List A) → j ≤ k → take j xs ++ drop j (take k xs) ≡ take k xs

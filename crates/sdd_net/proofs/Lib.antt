@@ -6,12 +6,10 @@ pub mod InOrder
 pub mod Joined
 pub mod Lists
 pub mod Matching
+pub mod Numbering
 pub mod Places
 pub mod Queues
-pub mod Receives
 pub mod Rises
 pub mod Rounds
 pub mod SiteLists
 pub mod Sound
-pub mod Tops
-pub mod Turns

@@ -1,7 +1,6 @@
 -- Each step of a channel is the step of the way for which it stands.
-use Rattle.sdd_net.proofs.All.{AreSent, Bool, Channel, HasReceived, IfOk, IsTrue, Kept, List, Matches, Message, None, OnOk, OnSome, Option, Packet, Result, Some, Way, [], acknowledged, ap, arith, drop, drop-append-le, drop-drop, is_empty, last_number, length, length-drop, max, nat_lt, nat_tests, not, numbered, received, slice_get, subst, suc, sym, true, unacked, without_at, ℕ, ◌++◌, ◌+◌, ◌-◌, ◌∙◌, ◌∷◌, ◌≡◌, ◌≤◌}
+use Rattle.sdd_net.proofs.All.{AreSent, Bool, Receives, receives, Channel, HasReceived, IfOk, IsTrue, Kept, List, Matches, Message, None, OnOk, OnSome, Option, Packet, Result, Some, Way, [], acknowledged, ap, arith, drop, drop-append-le, drop-drop, is_empty, last_number, length, length-drop, max, nat_lt, nat_tests, not, numbered, received, slice_get, subst, suc, sym, true, unacked, without_at, ℕ, ◌++◌, ◌+◌, ◌-◌, ◌∙◌, ◌∷◌, ◌≡◌, ◌≤◌}
 use Rattle.sdd_net.proofs.Lists.{get-append, without-past}
-use Rattle.sdd_net.proofs.Receives.{Receives, receives}
 
 module _ {M : Type 0} where
   -- what a sender keeps is what was sent and is not acknowledged
@@ -91,7 +90,3 @@ on_both r A B C a b f = grind (arith, nat_tests)
 pub if_on : {T E : Type 0} (r : Result T E) (A : T → Type 0) (B : T → Type 0) → IfOk r A
     → ((x : T) → A x → B x) → IfOk r B
 if_on r A B a f = grind (arith, nat_tests)
-
-pub if_both : {T E : Type 0} (r : Result T E) (A : T → Type 0) (B : Type 0) (C : T → Type 0)
-    → IfOk r A → OnOk r B → ((x : T) → A x → B → C x) → IfOk r C
-if_both r A B C a b f = grind (arith, nat_tests)

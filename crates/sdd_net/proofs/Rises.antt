@@ -1,6 +1,5 @@
 -- What is delivered on a link doesn't fall.
-use Rattle.sdd_net.proofs.All.{Call, Link, List, Option, Packet, Site, arith, delivered, link, nat_tests, with_packet, ◌∷◌, ◌≤◌}
-use Rattle.sdd_net.proofs.Tops.{top_rises}
+use Rattle.sdd_net.proofs.All.{top_rises, Call, Link, List, Option, Packet, Site, arith, delivered, link, nat_tests, with_packet, ◌∷◌, ◌≤◌}
 
 -- neither way delivers less
 abbrev Rises : {M : Type 0} → Link M → Link M → Type 0

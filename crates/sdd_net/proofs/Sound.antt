@@ -1,7 +1,6 @@
 -- What holds of every link, whatever calls were made.
-use Rattle.sdd_net.proofs.All.{Ack, All, All-append, All-cons, All-drop, All-nil, All-push, All-weaker, Call, Delivers, IsNumber, IsOf, IsSoundLink, IsSoundWay, Link, List, Loses, Message, None, Packet, Puts, Repeats, Resends, Site, Some, Way, [], arith, arrives, deliver, delivered, length, length-append, link, lose, nat_tests, numbered, on_link, packet_at, put, refl, repeat, resend, slice_get, slice_get_within, suc, top, turned, unacked, unused, with_packet, without_at, without_packet, zero, ℕ, ◌++◌, ◌+◌, ◌-◌, ◌<◌, ◌∷◌, ◌≡◌, ◌≤◌}
+use Rattle.sdd_net.proofs.All.{top_is, top_rises, Ack, All, All-append, All-cons, All-drop, All-nil, All-push, All-weaker, Call, Delivers, IsNumber, IsOf, IsSoundLink, IsSoundWay, Link, List, Loses, Message, None, Packet, Puts, Repeats, Resends, Site, Some, Way, [], arith, arrives, deliver, delivered, length, length-append, link, lose, nat_tests, numbered, on_link, packet_at, put, refl, repeat, resend, slice_get, slice_get_within, suc, top, turned, unacked, unused, with_packet, without_at, without_packet, zero, ℕ, ◌++◌, ◌+◌, ◌-◌, ◌<◌, ◌∷◌, ◌≡◌, ◌≤◌}
 use Rattle.sdd_net.proofs.Lists.{All-without_at, All-at, All-among, get-append, get-last}
-use Rattle.sdd_net.proofs.Tops.{top_is, top_rises}
 
 -- what is delivered was sent
 pub top_le : (P : ℕ → Type 0) (ns : List ℕ) (b : ℕ) → ((n : ℕ) → P n → n ≤ b) → All P ns → top ns ≤ b

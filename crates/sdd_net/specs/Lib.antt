@@ -1,5 +1,5 @@
 pub mod Links
 pub mod Mailboxes
 pub mod Nets
-pub mod Parts
+pub mod Sending
 pub mod Sound

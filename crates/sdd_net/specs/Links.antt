@@ -1,13 +1,14 @@
 -- The links of the network, as a function of the calls that were made on them. Calls are listed newest first.
 use Rattle.sdd_base.specs.Numbers.{tm_no, dm_no}
 use Rattle.sdd_base.specs.Sites.{same_site}
-use Rattle.sdd_base.specs.Words.{is_empty, contains}
-use Rattle.std.specs.Prelude.{ℕ, zero, suc, ◌+◌, ◌-◌, nat_le, nat_lt, max, ◌==◌, Bool, true, false, ◌&&◌, cond, if◌then◌else◌, List, [], ◌∷◌, ◌++◌, length, take, drop, replicate, slice_get, Option, Some, None, ◌≡◌, refl}
-use Rattle.std.specs.List.{list_any, list_all, filter_map, flat_map}
+use Rattle.sdd_base.specs.Words.{is_empty}
+use Rattle.std.specs.Prelude.{ℕ, ◌+◌, ◌-◌, nat_le, nat_lt, max, Bool, ◌&&◌, cond, if◌then◌else◌, List, [], ◌∷◌, ◌++◌, length, take, drop, replicate, slice_get, Option, Some, None, ◌≡◌, refl}
+use Rattle.std.specs.List.{list_all, filter_map, flat_map}
 use Rattle.sdd_base.specs.declared.site.Site.{Site}
 use Rattle.sdd_base.specs.declared.site.Site.TheVariants.{T, D}
 use Rattle.sdd_base.specs.declared.event.Event.{Event}
 use Rattle.sdd_base.specs.declared.event.Event.TheVariants.{Deliver, Resend}
+pub use Rattle.sdd_receiver.specs.Arrivals.{top}
 use Rattle.sdd_net.specs.declared.delivered.Delivered.{Delivered}
 use Rattle.sdd_net.specs.declared.delivered.Delivered.TheVariants.{Nothing, Acked, Messages}
 use Rattle.sdd_net.specs.declared.packet.Packet.{Packet}
@@ -39,19 +40,6 @@ unused = record { sent = []; flight = []; arrived = []; acked = 0 }
 
 abbrev pub turned : {M : Type 0} → Link M → Link M
 turned l = record { there = l.back; back = l.there }
-
--- the greatest k + j, with j at most n, such that k + 1 to k + j are all among the numbers
-abbrev pub top_from : ℕ → ℕ → List ℕ → ℕ
-top_from zero k ns = k
-top_from (suc n) k ns = elim (contains ns (suc k)) [ true ↦ top_from n (suc k) ns | false ↦ k ]
-
-abbrev pub greatest : List ℕ → ℕ
-greatest [] = 0
-greatest (n ∷ ns) = max n (greatest ns)
-
--- the greatest k such that 1 to k are all among the numbers
-abbrev pub top : List ℕ → ℕ
-top ns = top_from (greatest ns) 0 ns
 
 -- the messages 1 to `delivered` are handed to the site at the link's end
 abbrev pub delivered : {M : Type 0} → Way M → ℕ

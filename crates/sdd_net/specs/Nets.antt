@@ -11,7 +11,8 @@ use Rattle.sdd_base.specs.declared.event.Event.{Event}
 use Rattle.sdd_base.specs.declared.event.Event.TheVariants.{Deliver, Resend}
 use Rattle.sdd_net.specs.declared.channel.Channel.{Channel}
 use Rattle.sdd_net.specs.declared.placed_link.PlacedLink.{PlacedLink}
-use Rattle.sdd_net.specs.Parts.{nothing_sent, nothing_received, last_number, HasReceived}
+use Rattle.sdd_receiver.specs.Receiving.{nothing_received, HasReceived}
+use Rattle.sdd_net.specs.Sending.{nothing_sent, last_number}
 use Rattle.sdd_net.specs.Links.{Call, Way, Link, link}
 
 -- a site of a network with so many transaction modules and data modules

@@ -2,13 +2,14 @@ ghost use Rattle.std.specs.Prelude.{◌≡◌, ◌+◌, ◌-◌, ◌^◌, ◌≤
 ghost use Rattle.sdd_base.specs.Words.{is_empty};
 ghost use Rattle.sdd_net.specs.Links.{numbered};
 ghost use Rattle.sdd_net.specs.Nets.{quiet_at, resends_at};
-ghost use Rattle.sdd_net.specs.Parts.{nothing_sent, nothing_received, last_number, handed_on, received};
+ghost use Rattle.sdd_net.specs.Sending.{nothing_sent, last_number};
+ghost use Rattle.sdd_receiver.specs.Receiving.{nothing_received, handed_on, received};
 
 use crate::flight::Flight;
-use crate::packet::{Packet, Parcels};
-use crate::receiver::Receiver;
+use crate::packet::Packet;
 use crate::sender::Sender;
 use sdd_base::{MAX_LINK_MESSAGES, NoMemory, Parcel};
+use sdd_receiver::{Parcels, Receiver};
 use std::alloc::Global;
 
 /// One direction of a link: its two ends, and what is in flight between them.

@@ -1,13 +1,14 @@
 ghost use Rattle.std.specs.Prelude.{◌≡◌, ◌+◌, ◌-◌, ◌^◌, ◌≤◌, ◌<◌, [], ◌∷◌, ◌++◌, nat_lt, length, slice_get, true, false, IsTrue, IfOk, OnOk, Some, None};
 ghost use Rattle.sdd_net.specs.Links.{Way, Link, delivered, newly_delivered, packet_at, deliver, unacked, without_at, with_message, with_flight, with_arrival, with_ack, delivery};
-ghost use Rattle.sdd_net.specs.Parts.{last_number};
+ghost use Rattle.sdd_net.specs.Sending.{last_number};
 ghost use Rattle.sdd_net.specs.Sound.{IsSoundLink};
 ghost use Rattle.sdd_net.specs.Nets.{FitsWay, IsLiveAt, Changes, ArePair, ChangesPair, sent_by};
 
 use crate::channel::Channel;
 use crate::delivered::Delivered;
-use crate::packet::{Packet, Parcels};
+use crate::packet::Packet;
 use sdd_base::{MAX_LINK_MESSAGES, NoMemory, Parcel};
+use sdd_receiver::Parcels;
 
 // Each function changes the channel at one place, and its clause says which way that channel
 // represents afterwards.

@@ -1,4 +1,4 @@
-use crate::packet::Parcels;
+use sdd_receiver::Parcels;
 
 /// What a delivery did.
 #[derive(Drop)]

@@ -12,9 +12,6 @@ pub enum Packet<M> {
 /// Packets, in the order in which they are sent.
 pub type Packets<M> = Listed<Packet<M>>;
 
-/// Messages, in the order in which they were put on their link.
-pub type Parcels<M> = Listed<M>;
-
 impl<M: Parcel> Parcel for Packet<M> {
     fn copy(&self) -> Result<Self, NoMemory> {
         match self {

@@ -1,7 +1,7 @@
 ghost use Rattle.std.specs.Prelude.{◌≡◌, ◌+◌, ◌-◌, ◌^◌, ◌≤◌, ◌<◌, [], ◌∷◌, ◌++◌, length, true, false, IsTrue, IfOk, OnOk, OnErr};
 ghost use Rattle.sdd_base.specs.Words.{is_empty};
 ghost use Rattle.sdd_net.specs.Links.{numbered};
-ghost use Rattle.sdd_net.specs.Parts.{nothing_sent, last_number, acknowledged};
+ghost use Rattle.sdd_net.specs.Sending.{nothing_sent, last_number, acknowledged};
 
 use crate::packet::{Packet, Packets};
 use sdd_base::{Listed, MAX_LINK_MESSAGES, NoMemory, Parcel};
@@ -21,7 +21,7 @@ pub struct Sender<M> {
 impl<M> Model for Sender<M> {
     ghost use Rattle.std.specs.Prelude.{◌+◌, ◌^◌, ◌<◌, length};
     ghost use Rattle.sdd_base.specs.Kept.{Kept};
-    ghost use Rattle.sdd_net.specs.Parts.{Sending};
+    ghost use Rattle.sdd_net.specs.Sending.{Sending};
 
     ghost Value = { Kept (Sending M) };
 
@@ -98,7 +98,7 @@ impl<M: Parcel> Sender<M> {
     }
 
     /// A packet for each unacknowledged message, in order. Costs what their copies cost.
-    #[tactic(auto, using(crate::proofs::Turns::numbering))]
+    #[tactic(auto, using(crate::proofs::Numbering::numbering))]
     pub fn resend(&self) -> Result<Packets<M>, NoMemory>
         ensures { IfOk result (λ packets.
             packets ≡ numbered self.now.value.acked self.now.value.unacked) }

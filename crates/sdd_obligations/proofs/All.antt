@@ -78,15 +78,21 @@ pub use Rattle.sdd_laws.proofs.lang.catalog.Sound.{positive as some_class}
 pub use Rattle.sdd_laws.proofs.serial_orders.Before.{or_cases as either}
 pub use Rattle.sdd_laws.proofs.serial_orders.Members.{Contains-range}
 pub use Rattle.sdd_laws.specs.All.{ArePlaced, CopyRows, Dated, Frozen, IsEraOf, IsPlaced, Read as ReadPlace, Reject as Rejected, all_rows, attempt_of, attempts, contents, counts_of, frozen_for, is_among, keys_in, latest, newer, of_fragment, placed, reduced, row_left, row_with, rows_for, rows_of, values_in}
-pub use Rattle.sdd_obligations.specs.AfterEvents.{down_from, is_down_after, redeclares_in}
+pub use Rattle.sdd_needs.specs.AfterEvents.{down_from, is_down_after, redeclares_in}
 pub use Rattle.sdd_obligations.specs.Awaited.{AwaitsRows, IsAwaited, IsReadable, IsServable}
-pub use Rattle.sdd_obligations.specs.Bounds.{AllFewTicks, IsNumbered, IsSmall, class_starts, greatest_height, most_classes, most_sites, start_of_class}
+pub use Rattle.sdd_obligations.specs.Bounds.{IsNumbered, IsSmall, class_starts, greatest_height, most_classes, most_sites, start_of_class}
+pub use Rattle.sdd_needs.specs.Inputs.{AllFewTicks}
 pub use Rattle.sdd_obligations.specs.Contents.{AsksPhase, Tells, held_for, is_shipped, kept, question, question_of}
-pub use Rattle.sdd_obligations.specs.Fitting.{AreWritten, FitsInput, FitsText, IsItemChange}
-pub use Rattle.sdd_obligations.specs.Heights.{AllLow, HandsLow, IsLow, IsUnder, height, starts_by, ticks_of, times_of, top}
-pub use Rattle.sdd_obligations.specs.Obligations.{Obligations}
-pub use Rattle.sdd_obligations.specs.Reading.{HasEras, before_answer, copies_read}
-pub use Rattle.sdd_obligations.specs.Real.{FitsEra, IsGood, IsServedAt, ServedBy, fits_submit}
+pub use Rattle.sdd_obligations.specs.Fitting.{AreWritten, IsItemChange}
+pub use Rattle.sdd_needs.specs.Inputs.{FitsInput, FitsText}
+pub use Rattle.sdd_obligations.specs.Heights.{AllLow, HandsLow, IsLow, IsUnder, height, starts_by, times_of, top}
+pub use Rattle.sdd_needs.specs.Inputs.{ticks_of}
+pub use Rattle.sdd_needs.specs.Obligations.{Obligations}
+pub use Rattle.sdd_obligations.specs.Reading.{before_answer, copies_read}
+pub use Rattle.sdd_needs.specs.Inputs.{HasEras}
+pub use Rattle.sdd_obligations.specs.ServedRows.{IsServedAt, ServedBy}
+pub use Rattle.sdd_needs.specs.Fitting.{FitsEra, fits_submit}
+pub use Rattle.sdd_needs.specs.Inputs.{IsGoodInput}
 pub use Rattle.sdd_obligations.specs.Routes.{GoesTo, IsAnAsk, IsD, IsRouted, IsRunner, IsT}
 pub use Rattle.sdd_obligations.specs.Runnable.{IsRunnable}
 pub use Rattle.sdd_obligations.specs.Stages.{IsStage, agreed, answer_goes, flight, question_goes}

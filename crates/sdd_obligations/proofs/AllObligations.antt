@@ -1,8 +1,8 @@
 -- All that the modules ask: what is next on a lawful log fits the module to which it goes.
-use Rattle.sdd_obligations.proofs.All.{Bool, D, DmNo, Entry, FitsEra, FitsSite, Hand, Input, IsGood, IsLawful, IsRunnable, IsWithin, Log, Mark, Msg, Obligations, Redeclares, Site, Some, Submitted, T, Tick, TmNo, Txn, U, arith, base_of, clock, fits_submit, greatest_bound, height, if◌then◌else◌, lawful_permitted, local_of, next, nth_era, redeclares, setting_of, sound_whole, suc, tm_no, top, txn_at, ℕ, ◌/◌, ◌<◌, ◌^◌, ◌∷◌, ◌≡◌, ◌≤◌}
+use Rattle.sdd_obligations.proofs.All.{Bool, D, DmNo, Entry, FitsEra, FitsSite, Hand, Input, IsGoodInput, IsLawful, IsRunnable, IsWithin, Log, Mark, Msg, Obligations, Redeclares, Site, Some, Submitted, T, Tick, TmNo, Txn, U, arith, base_of, clock, fits_submit, greatest_bound, height, if◌then◌else◌, lawful_permitted, local_of, next, nth_era, redeclares, setting_of, sound_whole, suc, tm_no, top, txn_at, ℕ, ◌/◌, ◌<◌, ◌^◌, ◌∷◌, ◌≡◌, ◌≤◌}
 use Rattle.sdd_obligations.proofs.Put.{databases}
 use Rattle.sdd_obligations.proofs.Early.{clock_below, height_below, is_under}
-use Rattle.sdd_obligations.proofs.OfNext.{of_next}
+use Rattle.sdd_needs.proofs.OfNext.{of_next}
 use Rattle.sdd_obligations.proofs.Under.{div_le, greatest_le}
 use Rattle.sdd_obligations.proofs.FitsAtD.{d_fits}
 use Rattle.sdd_obligations.proofs.FitsAtT.{t_fits, u_fits}
@@ -10,12 +10,12 @@ use Rattle.sdd_obligations.proofs.Handing.{is_handed}
 use Rattle.sdd_obligations.proofs.Exchanged.{served_here, upheld_d, upheld_r}
 use Rattle.sdd_obligations.proofs.Submitting.{at_home, declared_here, home_exists, is_new}
 use Rattle.sdd_obligations.proofs.Upholding.{sends_linked}
-use Rattle.sdd_obligations.specs.Real.{fits}
+use Rattle.sdd_needs.specs.Fitting.{fits}
 
 early : (t : ℕ) → t < 2 ^ 53 → t < 2 ^ 56
 early t l = omega (arith, l)
 
-fit_of : (g : Input) → IsGood g → IsRunnable g
+fit_of : (g : Input) → IsGoodInput g → IsRunnable g
 fit_of g good =
     let w = sound_whole g.catalogue good.given.sound in
     record {
@@ -24,7 +24,7 @@ fit_of g good =
       txns_fit = λ n txn e. (good.given.txns n txn e).fits;
     }
 
-site_fits : (g : Input) (log : Log) (at : Site) (e : Entry) → IsGood g → IsLawful g log → IsWithin log → next g log ≡ Some e
+site_fits : (g : Input) (log : Log) (at : Site) (e : Entry) → IsGoodInput g → IsLawful g log → IsWithin log → next g log ≡ Some e
     → FitsSite (setting_of g at) (base_of g (e ∷ log)) (local_of g at log)
 site_fits g log at e good l w p =
     record {
@@ -32,7 +32,7 @@ site_fits g log at e good l w p =
       databases = databases g good.given (e ∷ log) (lawful_permitted g (e ∷ log) (fit_of g good).small.once (p, l));
     }
 
-hand_fits : (g : Input) → IsGood g → (log : Log) (a b : Site) (n : ℕ) (m : Msg) → IsLawful g log → IsWithin log → next g log ≡ Some (Hand a b n m)
+hand_fits : (g : Input) → IsGoodInput g → (log : Log) (a b : Site) (n : ℕ) (m : Msg) → IsLawful g log → IsWithin log → next g log ≡ Some (Hand a b n m)
     → fits b (setting_of g b) (base_of g (Hand a b n m ∷ log)) (local_of g b log) a m
 hand_fits g good log a (D d) n m l w e =
     let h = is_handed g log a (D d) n m (fit_of g good).small l w e in
@@ -56,7 +56,7 @@ hand_fits g good log a U n m l w e =
 not_d : {A : Type 0} (b : Bool) (k : TmNo) (d : DmNo) → D d ≡ (if b then U else T k) → A
 not_d b k d e = grind arith
 
-submit_fits : (g : Input) → IsGood g → (log : Log) (at : Site) (n : ℕ) (txn : Txn) → IsLawful g log → IsWithin log → next g log ≡ Some (Submitted at n)
+submit_fits : (g : Input) → IsGoodInput g → (log : Log) (at : Site) (n : ℕ) (txn : Txn) → IsLawful g log → IsWithin log → next g log ≡ Some (Submitted at n)
     → txn_at g n ≡ Some txn → fits_submit at (setting_of g at) (base_of g (Submitted at n ∷ log)) (local_of g at log) n txn
 submit_fits g good log U n txn l w e f =
     record {
@@ -78,7 +78,7 @@ submit_fits g good log (D d) n txn l w e f = grind (arith, at_home, fit_of, not_
 early_time : (h t : ℕ) → h < 2 ^ 53 → t ≤ top h → t / 64 < 2 ^ 57
 early_time h t l m = let d : t / 64 ≤ h = div_le t h m in omega (arith, l, d)
 
-redeclare_fits : (g : Input) → IsGood g → (log : Log) (t : ℕ) → IsLawful g log → IsWithin log
+redeclare_fits : (g : Input) → IsGoodInput g → (log : Log) (t : ℕ) → IsLawful g log → IsWithin log
     → next g log ≡ Some (Redeclares t) → FitsEra g.catalogue (nth_era g (suc (redeclares log))) t
 redeclare_fits g good log t l w e =
     let s = (fit_of g good).small in

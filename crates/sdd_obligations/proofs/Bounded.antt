@@ -1,9 +1,11 @@
 -- Within the limits of a run no log is higher than the greatest height.
 use Rattle.sdd_obligations.proofs.All.{Act, AllFewTicks, D, Did, Does, Each, Entry, Input, IsFair, IsLawful, IsNumbered, IsPermitted, IsSmall, IsWithin, List, Log, MAX_LINK_MESSAGES, MAX_RUN_EVENTS, MAX_TICKS, Mark, Redeclares, Site, T, U, [], all_new, ap, arith, each_local, greatest_height, handed, hands, height, home_of, lawful_permitted, length, length-append, length-map, length-range_with_len, local_of, local_step, marks, most_classes, most_sites, mul-le-mul, mul-le-mul_right, own_act, range_with_len, refl, setting_of, sites, starts, starts_by, starts_more, submits, subst, suc, suc-mul, sym, t_fair, ticks_of, trans_le, u_fair, view_of, ℕ, ◌*◌, ◌+◌, ◌<◌, ◌^◌, ◌∙◌, ◌∷◌, ◌≡◌, ◌≤◌}
 use Rattle.sdd_obligations.proofs.Counting.{site_few}
-use Rattle.sdd_obligations.proofs.Limits.{handed_few, hands_few, marks_few, submits_few}
+use Rattle.sdd_obligations.proofs.Limits.{handed_few, hands_few, submits_few}
+use Rattle.sdd_needs.proofs.FewMarks.{marks_few}
 use Rattle.sdd_obligations.proofs.NoStarts.{d_starts_not}
-use Rattle.sdd_obligations.proofs.OfNext.{IsThere, of_next, t_of_sites}
+use Rattle.sdd_obligations.proofs.SitesAndLinks.{t_of_sites}
+use Rattle.sdd_needs.proofs.OfNext.{IsThere, of_next}
 use Rattle.sdd_obligations.proofs.Sums.{total, total_le, total_le_at, total_raise, total_up}
 use Rattle.sdd_invariants.specs.site_module.SiteLog as site
 

@@ -4,7 +4,7 @@ use Rattle.sdd_obligations.proofs.EffectsHeld.{HandFits, all_items}
 use Rattle.sdd_obligations.proofs.Put.{acts_fit, databases, hands_fit}
 use Rattle.sdd_obligations.proofs.ShippedAnswered.{answer_to}
 use Rattle.sdd_obligations.proofs.Covered.{Covers, attempt_covered, class_within}
-use Rattle.sdd_obligations.proofs.Listed.{from_order, has_contains, in_order}
+use Rattle.sdd_obligations.proofs.MembersInOrder.{from_order, has_contains, in_order}
 use Rattle.sdd_obligations.proofs.Places.{IsAnswerAt}
 use Rattle.sdd_obligations.proofs.Snapped.{IsSnapped, MaySnap, each_before_answer, may_snap, snapped}
 use Rattle.sdd_obligations.proofs.ReadsFit.{same_option as read_is}

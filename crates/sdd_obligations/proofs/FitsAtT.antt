@@ -1,6 +1,6 @@
 -- What is next to be handed to a transaction module, or to U, fits there.
 use Rattle.sdd_obligations.proofs.All.{AnswersRead, Ask, Bases, ClassNo, D, DmNo, Done, Held, Input, IsD, IsSmall, IsT, IsUpheldR, IsWhole, Log, Msg, Ready, Reduced, Reject, Release, Rows, Site, T, TmNo, Ts, U, Values, arith, handed, is_verdict, local_of, number_of, own_started as own, setting_of, subst, true, ℕ, ◌-◌, ◌≡◌, ◌≤◌}
-use Rattle.sdd_obligations.proofs.OfNext.{d_of_sites, t_of_sites}
+use Rattle.sdd_obligations.proofs.SitesAndLinks.{d_of_sites, t_of_sites}
 use Rattle.sdd_obligations.proofs.Answering.{answers_read}
 use Rattle.sdd_obligations.proofs.AsksFit.{asked_class, asks_not_u}
 use Rattle.sdd_obligations.proofs.Conditions.{late}

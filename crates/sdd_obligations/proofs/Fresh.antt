@@ -1,6 +1,7 @@
 -- No WRITE that was handed to a data module has the timestamp of the one that is next.
 use Rattle.sdd_obligations.proofs.All.{Act, Change, ClassNo, D, Did, DmNo, Does, Hand, Handed, Input, IsApplyOf, IsLawful, IsNumbered, IsPermitted, IsRunner, IsSmall, List, Log, Msg, Queued, Records, Sends, Setting, Site, Some, T, Ts, TxnNo, U, Write, [], all_of, all_there, ap, append_assoc, arith, at_seam, class_puts, clock, commit_act, contains, eqb-true, false, goes_through, home, home_fair, in_left, in_pipe, inl, inr, length, local_grows, local_of, next_stamp, number_of, one_of_key, only_right, origin, permitted_before, pipe, pipe_at, place_within, refl, same_number, setting_of, sites, slice_get, start_at, start_of_active, subst, sym, true, true_or_false, with_time, write_at, write_origin, write_time_of, write_times, writes_strict, ℕ, ◌*◌, ◌++◌, ◌+◌, ◌<◌, ◌==◌, ◌∙◌, ◌∷◌, ◌≡◌, ◌≤◌}
-use Rattle.sdd_obligations.proofs.OfNext.{IsThere, of_next, t_of_sites}
+use Rattle.sdd_obligations.proofs.SitesAndLinks.{t_of_sites}
+use Rattle.sdd_needs.proofs.OfNext.{IsThere, of_next}
 use Rattle.sdd_obligations.proofs.Piping.{pipe_with}
 use Rattle.sdd_obligations.proofs.Stamped.{same_start, stamp_ticks}
 use Rattle.sdd_obligations.proofs.Linking.{lawful_part}

@@ -1,7 +1,8 @@
 -- What is next to be handed over: it was put, it goes along a link of the network, and no time in it is late.
 use Rattle.sdd_obligations.proofs.All.{AllLt, D, Hand, Input, IsLawful, IsNumbered, IsPermitted, IsRouted, IsRunner, IsSmall, IsWithin, Log, Msg, Site, Some, T, U, arith, hand_was_put, handed, is_link, lawful_permitted, link_parts, local_of, next, number_of, puts_to, sites, slice_get, times_of, true, ℕ, ◌^◌, ◌∷◌, ◌≡◌, ◌≤◌}
 use Rattle.sdd_obligations.proofs.Early.{times_below}
-use Rattle.sdd_obligations.proofs.OfNext.{IsThere, from_there, link_of_links, of_next, site_there, t_of_sites}
+use Rattle.sdd_obligations.proofs.SitesAndLinks.{from_there, link_of_links, site_there, t_of_sites}
+use Rattle.sdd_needs.proofs.OfNext.{IsThere, of_next}
 use Rattle.sdd_obligations.proofs.Routed.{routed}
 
 -- with it the log is permitted, and it is the next of those that were put on its link

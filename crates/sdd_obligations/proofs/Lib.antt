@@ -16,7 +16,6 @@ pub mod Copied
 pub mod Counting
 pub mod Covered
 pub mod DataSteps
-pub mod Done
 pub mod DonesFit
 pub mod Early
 pub mod EffectsHeld
@@ -38,14 +37,14 @@ pub mod InStep
 pub mod Kept
 pub mod Limits
 pub mod Linking
-pub mod Listed
+pub mod MembersInOrder
 pub mod LowClocks
 pub mod LowLists
 pub mod Modules
 pub mod Near
 pub mod NoRejects
 pub mod NoStarts
-pub mod OfNext
+pub mod SitesAndLinks
 pub mod Once
 pub mod Opened
 pub mod Piping
@@ -98,3 +97,4 @@ pub use Rattle.sdd_laws.proofs.serial_orders as serial_orders
 pub use Rattle.sdd_laws.proofs as laws
 pub use Rattle.sdd_invariants.proofs.logs as logs
 pub use Rattle.sdd_invariants.proofs as invariants
+pub use Rattle.sdd_needs.proofs as needs

@@ -1,16 +1,13 @@
 -- How many marks there are within the limits, how many messages on a link, and how many messages and transactions a site
 -- was handed and given.
-use Rattle.sdd_obligations.proofs.All.{AllFewTicks, Bool, Call, Did, Does, Entry, Era, Event, Hand, Handed, Input, IsAllowed, IsLawful, IsPermitted, IsWithin, Link, List, Log, MAX_LINK_MESSAGES, MAX_RUN_EVENTS, Mark, Msg, None, Option, Puts, Redeclares, Site, Some, Submits, Submitted, Txn, U, [], allowed_hand, allowed_mark, arith, both, calls_of, delivered_within, false, given_to, handed, handed_le, hands, if_way, if◌then◌else◌, length, length-append, link, local_of, local_step, made, made_by_mark, marks, neither_left, neither_right, not_past, nth_era, puts, puts_past, redeclared_entry, redeclares, refl, same_link, same_site, sends_of_act, sent, sent_grows, site_self, sites, submits, suc, true, turned, txn_at, ℕ, ◌&&◌, ◌++◌, ◌+◌, ◌∷◌, ◌≡◌, ◌≤◌}
-use Rattle.sdd_obligations.proofs.OfNext.{IsThere, from_there, of_next}
+use Rattle.sdd_obligations.proofs.All.{AllFewTicks, Bool, Call, Did, Does, Entry, Era, Event, Hand, Handed, Input, IsAllowed, IsLawful, IsPermitted, IsWithin, Link, List, Log, MAX_LINK_MESSAGES, Mark, Msg, None, Option, Puts, Redeclares, Site, Some, Submits, Submitted, Txn, U, [], allowed_hand, allowed_mark, arith, both, calls_of, delivered_within, false, given_to, handed, handed_le, hands, if_way, if◌then◌else◌, length, length-append, link, local_of, local_step, made, made_by_mark, marks, neither_left, neither_right, not_past, nth_era, puts, puts_past, redeclared_entry, redeclares, refl, same_link, same_site, sends_of_act, sent, sent_grows, site_self, sites, submits, suc, true, turned, txn_at, ℕ, ◌&&◌, ◌++◌, ◌+◌, ◌∷◌, ◌≡◌, ◌≤◌}
+use Rattle.sdd_obligations.proofs.SitesAndLinks.{from_there}
+use Rattle.sdd_needs.proofs.OfNext.{IsThere, of_next}
 use Rattle.sdd_obligations.proofs.Sums.{total, total_raise, total_up}
 use Rattle.sdd_invariants.specs.net.Links.{put}
 use Rattle.sdd_invariants.specs.site_module.SiteLog as site
 
 -- marks and messages within the limits
-
-pub marks_few : (log : Log) → IsWithin log → marks log ≤ MAX_RUN_EVENTS
-marks_few [] h = omega arith
-marks_few (e ∷ log) h = grind (arith, not_past, marks, (marks_few log h.1))
 
 abbrev AllWithin : List (Call Msg) → Type 0
 AllWithin calls = (a b : Site) → length (link a b calls).there.sent ≤ MAX_LINK_MESSAGES

@@ -1,6 +1,7 @@
 -- What an act sends goes along links of the network.
 use Rattle.sdd_obligations.proofs.All.{Act, All, All-head, All-tail, AllFewTicks, AllLinked, Attempt, Bases, Bool, Change, Class, ClassView, Cond, D, DmNo, Does, Hand, Home, Input, IsDueAt, IsLawful, IsPermitted, IsServedClass, IsWhole, List, Log, Msg, None, Open, Option, Queued, Read, Sends, Setting, Site, Some, T, TmNo, U, View, Waits, WasAsked, [], active, are_linked, arith, attempt_due, base_of, both, commit_act, counts_tm, dm_no, effect, false, filter, first_send, first_there, head, head_of, home_of, if◌then◌else◌, in_filtered, in_mapped, in_range, is_asked_of, is_link, is_over, is_site, link_back, local_of, map, modules_asked, nat_le, numbers_to, opens, or_else, place_of_hand, queue, refl, sends_of_act, setting_of, sites, slice_get, slice_index_or, start_at, start_read, subst, suc, sym, t_fair, tm_no, true, u_fair, view_of, was_handed, write_to, zero, ℕ, ◌++◌, ◌∷◌, ◌≡◌}
-use Rattle.sdd_obligations.proofs.OfNext.{IsThere, OfNext, d_of_sites, link_of_links, of_next, t_of_sites}
+use Rattle.sdd_obligations.proofs.SitesAndLinks.{d_of_sites, link_of_links, t_of_sites}
+use Rattle.sdd_needs.proofs.OfNext.{IsThere, OfNext, of_next}
 use Rattle.sdd_obligations.proofs.Going.{in_made, was_asked_of}
 use Rattle.sdd_obligations.proofs.Near.{AllNear, HasNear, IsNear, SendsNear, active_near, modules_near}
 use Rattle.sdd_obligations.proofs.Submitting.{le_true}

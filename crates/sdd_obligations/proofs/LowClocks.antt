@@ -2,7 +2,7 @@
 -- Start is an attempt.
 use Rattle.sdd_obligations.proofs.All.{AllFewTicks, Bool, Call, Deliver, Does, Down, Event, History, Input, IsLawful, IsSmall, List, Log, Lose, MAX_EVENTS, MAX_TICKS, Mark, Msg, None, Rec, Redeclares, Repeat, Resend, Round, Settle, Site, Some, Start, Submit, Tick, Up, [], after_mark, all_links, ap, arith, attempt_of, attempts, calls_of, clock, cond, cons_option, filter_map, flat_map, from_event, height, history, in_flight, left, length, link, local_of, mark_from, mark_is_next, mark_of, marks, placed, quiet, refl, replicate, resends_now, starts_by, subst, suc, suc-mul, tail_of, ticks_of, true, zero, ℕ, ◌*◌, ◌++◌, ◌+◌, ◌<◌, ◌^◌, ◌∙◌, ◌∷◌, ◌≡◌, ◌≤◌}
 use Rattle.sdd_obligations.proofs.Early.{is_under}
-use Rattle.sdd_obligations.proofs.OfNext.{of_next}
+use Rattle.sdd_needs.proofs.OfNext.{of_next}
 
 -- the ticks of events
 

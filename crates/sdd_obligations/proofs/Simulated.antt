@@ -5,7 +5,7 @@ use Rattle.sdd_obligations.proofs.HandedAnswersKeepTurns.{is_awaited}
 use Rattle.sdd_obligations.proofs.Modules.{firsts}
 use Rattle.sdd_obligations.proofs.ShippedAnswered.{answer_to, not_before, uses_at_head}
 use Rattle.sdd_obligations.proofs.Covered.{attempt_covered, class_within}
-use Rattle.sdd_obligations.proofs.Listed.{has_contains}
+use Rattle.sdd_obligations.proofs.MembersInOrder.{has_contains}
 use Rattle.sdd_obligations.proofs.Places.{IsAnswerAt}
 use Rattle.sdd_obligations.proofs.Exchanging.{IsReply, Serving, hand_serves, send_serves}
 use Rattle.sdd_obligations.proofs.Kept.{IsFrozen, IsReduced, act_keeps, hand_keeps, kept_answered}

@@ -1,6 +1,7 @@
 -- A transaction that is next to be given to a module is new there, fits, and is of the module.
-use Rattle.sdd_obligations.proofs.All.{Does, Each, Entry, Event, FitsTxn, Hand, Input, IsLawful, IsNew, IsSmall, Log, Mark, Notes, Option, Round, Site, Some, Submits, Submitted, T, TmNo, Txn, all_new, arith, both, class_for, contains, current_era, differ, false, if_way, is_site, lawful_permitted, local_of, mark_due, nat_le, nat_tests, next, nth_era, redeclares, refl, setting_of, site_self, submits, subst, true, txn_at, with_tick, ℕ, ◌∷◌, ◌≡◌, ◌≢◌, ◌≤◌}
-use Rattle.sdd_obligations.proofs.OfNext.{of_next}
+use Rattle.sdd_obligations.proofs.All.{Each, Entry, FitsTxn, Input, IsLawful, IsNew, IsSmall, Log, Option, Site, Some, Submits, Submitted, T, TmNo, Txn, all_new, arith, both, class_for, contains, current_era, differ, false, is_site, lawful_permitted, local_of, mark_due, nat_le, nat_tests, next, nth_era, redeclares, refl, setting_of, site_self, submits, subst, true, txn_at, ℕ, ◌∷◌, ◌≡◌, ◌≢◌, ◌≤◌}
+use Rattle.sdd_needs.proofs.ErasInForce.{redeclared_is}
+use Rattle.sdd_needs.proofs.OfNext.{of_next}
 use Rattle.sdd_invariants.specs.logs.Due.{home_of}
 use Rattle.sdd_invariants.specs.site_module.SiteLog as site
 
@@ -28,23 +29,6 @@ mark_home g log e p = grind (arith)
 
 pub at_home : (g : Input) (log : Log) (at : Site) (n : ℕ) → IsSmall g → IsLawful g log → next g log ≡ Some (Submitted at n) → IsAtHome g log at n
 at_home g log at n s l e = mark_home g log (Submitted at n) (of_next g log (Submitted at n) s.few_ticks l e)
-
--- the classes in force at a T are those of the log
-
-abbrev IsRedeclared : Input → ℕ → TmNo → site.Log → Type 0
-IsRedeclared g k t l = current_era (setting_of g (T t)) l ≡ nth_era g k
-
-tick_redeclared : (g : Input) (k : ℕ) (t : TmNo) (e : Event) (l : site.Log) → IsRedeclared g k t l → IsRedeclared g k t (with_tick (T t) e l)
-tick_redeclared g k t e l h = grind (arith, if_way)
-
-pub redeclared_is : (g : Input) (t : TmNo) (log : Log) → IsRedeclared g (redeclares log) t (local_of g (T t) log)
-redeclared_is g t (Mark e ∷ log) = tick_redeclared g (redeclares log) t e (local_of g (T t) log) (redeclared_is g t log)
-redeclared_is g t (Hand a b n m ∷ log) = grind (arith, if_way, redeclared_is g t log)
-redeclared_is g t (Submitted at n ∷ log) = grind (arith, if_way, redeclared_is g t log)
-redeclared_is g t (Does by act ∷ log) = grind (arith, if_way, IsRedeclared, (redeclared_is g t log))
-redeclared_is g t (Round es ∷ log) = redeclared_is g t log
-redeclared_is g t (Notes ∷ log) = redeclared_is g t log
-redeclared_is g t _ = refl
 
 -- of a declared class it goes to its own module
 

@@ -2,7 +2,8 @@
 use Rattle.sdd_obligations.proofs.All.{Act, AllFewTicks, AllLow, D, Did, Does, Entry, Event, Hand, Handed, HandsLow, Input, IsDueAt, IsLawful, IsLow, IsPermitted, IsUnder, List, Log, Mark, Msg, None, Option, Redeclared, Redeclares, Site, Some, Submitted, T, Ticked, U, [], allowed_act, allowed_hand, arith, base_of, clock, fold, greatest_bound, height, if_way, if◌then◌else◌, local_of, local_step, made, made_by_mark, map, max, puts_grow, puts_to, refl, same_site, sends_of_act, sent, sent_is, setting_of, slice_get, starts_by, subst, sym, t_fair, ticks_of, to_site, top, u_due, u_fair, with_made, ℕ, ◌*◌, ◌+◌, ◌-◌, ◌/◌, ◌∷◌, ◌≡◌, ◌≤◌}
 use Rattle.sdd_obligations.proofs.AnswersLow.{d_low}
 use Rattle.sdd_obligations.proofs.LowLists.{all_low_join, all_low_up, low_at, low_up}
-use Rattle.sdd_obligations.proofs.OfNext.{OfNext, of_next, t_of_sites}
+use Rattle.sdd_obligations.proofs.SitesAndLinks.{t_of_sites}
+use Rattle.sdd_needs.proofs.OfNext.{OfNext, of_next}
 use Rattle.sdd_obligations.proofs.SendsLow.{PutsLow, t_low, u_low}
 use Rattle.sdd_invariants.specs.site_module.SiteLog as site
 

@@ -1,6 +1,6 @@
 -- What is next on a lawful log is what modules ask.
 use Rattle.sdd_obligations.proofs.All.{Act, AllLinked, Bases, D, DmNo, Does, Hand, Input, IsLawful, IsRunnable, IsSiteOf, IsUpheldD, IsUpheldR, IsWithin, Log, Msg, Site, Some, Submitted, T, TmNo, Txn, U, allowed_act, class_for, contains, current_era, false, lawful_permitted, local_of, next, sends_of_act, setting_of, submits, txn_at, ℕ, ◌∷◌, ◌≡◌, ◌≢◌}
-use Rattle.sdd_obligations.proofs.OfNext.{of_next}
+use Rattle.sdd_needs.proofs.OfNext.{of_next}
 use Rattle.sdd_obligations.proofs.FitsAtD.{d_fits}
 use Rattle.sdd_obligations.proofs.FitsAtT.{t_fits, u_fits}
 use Rattle.sdd_obligations.proofs.Handing.{is_handed}

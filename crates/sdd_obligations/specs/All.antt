@@ -1,8 +1,9 @@
 -- The names of this crate and of those below it that the crates above cite, passed on from one place. Declares nothing.
-pub use Rattle.sdd_obligations.specs.AfterEvents.{is_down_after, redeclares_in}
-pub use Rattle.sdd_obligations.specs.Bounds.{AllFewTicks}
-pub use Rattle.sdd_obligations.specs.Fitting.{FitsInput, FitsText}
-pub use Rattle.sdd_obligations.specs.Real.{FitsEra, Fitting, FittingSubmit, IsGood, fits, fits_at, fits_submit, fits_submit_at, fits_tick}
+pub use Rattle.sdd_needs.specs.AfterEvents.{is_down_after, redeclares_in}
+pub use Rattle.sdd_needs.specs.Inputs.{AllFewTicks}
+pub use Rattle.sdd_needs.specs.Inputs.{FitsInput, FitsText}
+pub use Rattle.sdd_needs.specs.Obligations.{IsGood, good_input}
+pub use Rattle.sdd_needs.specs.Fitting.{FitsEra, Fitting, FittingSubmit, fits, fits_at, fits_submit, fits_submit_at, fits_tick}
 pub use Rattle.sdd_obligations.specs.Stages.{IsStage, agreed, answer_goes, flight, question_goes}
 pub use Rattle.sdd_obligations.specs.Turns.{Asks, MayAnswer, Replies, Turn, answers, is_answer, is_question, questions, reads_asked, rows_asked, turn_at, turn_with}
 pub use Rattle.sdd_obligations.specs.attempt.Acts.{attempt_due, commit_act, conditions_at, write_to}

@@ -1,8 +1,8 @@
 -- How high a log can be.
-use Rattle.std.specs.Prelude.{ℕ, ◌*◌, ◌+◌, ◌∷◌, ◌==◌, ◌≤◌, if◌then◌else◌, length, List, [], suc}
-use Rattle.sdd_invariants.specs.All.{Act, AreSubmittedOnce, D, Did, Event, Input, MAX_CLASSES, MAX_DMS, MAX_LINK_MESSAGES, MAX_RUN_EVENTS, MAX_TICKS, MAX_TMS, Records, Site, Start, T, U}
+use Rattle.std.specs.Prelude.{ℕ, ◌*◌, ◌+◌, ◌∷◌, ◌==◌, ◌≤◌, if◌then◌else◌, length, [], suc}
+use Rattle.sdd_invariants.specs.All.{Act, AreSubmittedOnce, D, Did, Input, MAX_CLASSES, MAX_DMS, MAX_LINK_MESSAGES, MAX_RUN_EVENTS, MAX_TICKS, MAX_TMS, Records, Site, Start, T, U}
 use Rattle.sdd_invariants.specs.site_module.SiteLog.{Log}
-use Rattle.sdd_obligations.specs.Heights.{ticks_of}
+use Rattle.sdd_needs.specs.Inputs.{AllFewTicks}
 
 -- the Starts of a class at a site
 
@@ -20,11 +20,6 @@ abbrev pub IsNumbered : Site → Type 0
 IsNumbered U = Unit {0}
 IsNumbered (T t) = 1 ≤ t.0
 IsNumbered (D d) = Unit {0}
-
--- no event lets a clock go on by more than the limit
-abbrev pub AllFewTicks : List Event → Type 0
-AllFewTicks [] = Unit {0}
-AllFewTicks (e ∷ es) = (ticks_of e ≤ MAX_TICKS) × AllFewTicks es
 
 -- What is given is small: sites, classes and ticks are within their limits, and each transaction is submitted at most
 -- once.

@@ -1,8 +1,9 @@
 -- A height of the log: no clock stands above it, and no time that a message carries is above it. Ticks and Starts alone
 -- raise it, for what pushes a clock is a time that lies below it already.
 use Rattle.std.specs.Prelude.{ℕ, ◌*◌, ◌+◌, ◌∷◌, ◌≤◌, List, [], map}
-use Rattle.sdd_invariants.specs.All.{Act, AllLe, Ask, Does, Event, Handed, Held, Input, Log, Mark, Msg, Null, Read, Records, Reject, Release, Site, Start, Tick, Write, clock, local_of, puts_to}
+use Rattle.sdd_invariants.specs.All.{Act, AllLe, Ask, Does, Handed, Held, Input, Log, Mark, Msg, Null, Read, Records, Reject, Release, Site, Start, Write, clock, local_of, puts_to}
 use Rattle.sdd_invariants.specs.site_module.SiteLog as site
+use Rattle.sdd_needs.specs.Inputs.{ticks_of}
 
 -- the times that a message carries: its own, those of a READ's conditions, and that of the write which rejects one
 abbrev pub times_of : Msg → List ℕ
@@ -18,11 +19,6 @@ times_of _ = []
 -- the last time of a clock that stands so high
 abbrev pub top : ℕ → ℕ
 top h = h * 64 + 63
-
--- by how much an event and an act raise the height
-abbrev pub ticks_of : Event → ℕ
-ticks_of (Tick t n) = n
-ticks_of _ = 0
 
 abbrev pub starts_by : Act → ℕ
 starts_by (Records c (Start txn attempt class ts p2 uses) sends) = 1

@@ -1,14 +1,12 @@
-pub mod AfterEvents
 pub mod All
 pub mod Awaited
 pub mod Bounds
 pub mod Contents
-pub mod Obligations
 pub mod Fitting
 pub mod Runnable
 pub mod Heights
 pub mod Reading
-pub mod Real
+pub mod ServedRows
 pub mod Routes
 pub mod Stages
 pub mod Turns
@@ -34,3 +32,4 @@ pub use Rattle.sdd_laws.specs as laws
 pub use Rattle.sdd_laws.specs.class_eras as class_eras
 pub use Rattle.sdd_laws.specs.copy as copy
 pub use Rattle.sdd_laws.specs.serial_orders as serial_orders
+pub use Rattle.sdd_needs.specs as needs

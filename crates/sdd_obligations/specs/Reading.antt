@@ -1,13 +1,9 @@
 -- What the copies of data modules hold when they answer an attempt's READs.
 use Rattle.std.specs.Prelude.{ℕ, [], ◌∷◌, if◌then◌else◌}
-use Rattle.sdd_invariants.specs.All.{Answer, D, Did, Input, Records, dated, dm_no, head, is_at, local_of, nth_era, pipe, setting_of}
-use Rattle.sdd_laws.specs.All.{CopyRows, IsEraOf, contents}
+use Rattle.sdd_invariants.specs.All.{Answer, D, Did, Input, Records, dated, dm_no, head, is_at, local_of, pipe, setting_of}
+use Rattle.sdd_laws.specs.All.{CopyRows, contents}
 use Rattle.sdd_invariants.specs.site_module.SiteLog.{Log}
 use Rattle.sdd_invariants.specs.logs.Entries as whole
-
--- each class list is one of the catalogue: its classes have the sets that they have there, or none
-abbrev pub HasEras : Input → Type 0
-HasEras g = (k : ℕ) → IsEraOf g.catalogue (nth_era g k).catalogue
 
 -- a data module's log before its last Answer to the attempt with this timestamp; an empty one where it made none
 abbrev pub before_answer : ℕ → Log → Log

@@ -2,7 +2,7 @@ ghost use Rattle.std.specs.Prelude.{◌≡◌, ℕ, List, map, Some};
 ghost use Rattle.std.specs.List.{All, IsDistinct};
 ghost use Rattle.std.specs.Ordering.{is_eq};
 ghost use Rattle.sdd_invariants.specs.All.{Change, ClassNo, D, DmNo, FitsChange, Input, IsDatabase, IsPermitted, Log, Site, Ts, TxnNo, Write, base_of, item_cmp, message_at, setting_of};
-ghost use Rattle.sdd_obligations.specs.Fitting.{FitsInput};
+ghost use Rattle.sdd_needs.specs.Inputs.{FitsInput};
 
 /// Each database of snapshots is a database of the catalogue.
 pub fn law_databases()

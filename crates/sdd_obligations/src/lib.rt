@@ -16,10 +16,9 @@ pub mod served_laws;
 pub mod shipped_laws;
 
 // What lies below, for the crates above.
-pub use sdd_invariants;
 pub use sdd_invariants::{
-    sdd_attempt, sdd_base, sdd_catalog, sdd_dm, sdd_graph, sdd_history, sdd_lang, sdd_log,
-    sdd_module, sdd_net, sdd_pipe, sdd_protocol, sdd_semijoin, sdd_tm, sdd_umod, sdd_wire,
+    Answer, Asked, Catalogue, Change, ClassNo, ClassNos, ClassRun, Conds, DataModule, DmNo, Event,
+    FragNo, Line, Listed, Msg, NoMemory, Packet, Packets, Pages, Parcel, Rec, Row, Site, Spelling,
+    Table, TmNo, Ts, TxnModule, TxnNo, UModule, table,
 };
-pub use sdd_laws;
-pub use sdd_laws::{sdd_copy, sdd_eras, sdd_order};
+pub use sdd_laws::{Copies, serial_order};

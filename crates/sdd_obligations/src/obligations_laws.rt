@@ -3,7 +3,7 @@ ghost use Rattle.sdd_invariants.specs.All.{Act, AllLinked, Bases, D, DmNo, Does,
 ghost use Rattle.sdd_invariants.specs.dm.Fits as dm;
 ghost use Rattle.sdd_invariants.specs.tm.Fits as tm;
 ghost use Rattle.sdd_invariants.specs.umod.Fits as um;
-ghost use Rattle.sdd_obligations.specs.Obligations.{Obligations};
+ghost use Rattle.sdd_needs.specs.Obligations.{Obligations};
 ghost use Rattle.sdd_obligations.specs.Runnable.{IsRunnable};
 ghost use Rattle.sdd_obligations.specs.Routes.{IsRouted};
 ghost use Rattle.sdd_obligations.specs.Upheld.{IsUpheldD, IsUpheldR};

@@ -1,7 +1,7 @@
 ghost use Rattle.std.specs.Prelude.{◌≡◌, ◌∷◌, ℕ, List, Some};
 ghost use Rattle.sdd_invariants.specs.All.{Attempt, ClassNo, D, DmNo, Hand, Input, IsPermitted, Log, Row, Rows, ServesIfLast, Ts, active, base_of, home, local_of, setting_of, without};
-ghost use Rattle.sdd_obligations.specs.Fitting.{FitsInput};
-ghost use Rattle.sdd_obligations.specs.Reading.{HasEras};
+ghost use Rattle.sdd_needs.specs.Inputs.{FitsInput};
+ghost use Rattle.sdd_needs.specs.Inputs.{HasEras};
 
 /// When the last ROWS of an active attempt may be handed over next, the rows that came before and
 /// these serve the database of its snapshots.

@@ -1,8 +1,9 @@
 ghost use Rattle.std.specs.Prelude.{◌≡◌, ℕ, true, Some};
 ghost use Rattle.sdd_invariants.specs.All.{Attempt, Input, IsPermitted, Log, active, base_of, home, is_over, local_of, modules_asked, setting_of};
 ghost use Rattle.sdd_serving.specs.Freezing.{HasCopies};
-ghost use Rattle.sdd_obligations.specs.Fitting.{FitsInput};
-ghost use Rattle.sdd_obligations.specs.Reading.{HasEras, copies_read};
+ghost use Rattle.sdd_needs.specs.Inputs.{FitsInput};
+ghost use Rattle.sdd_obligations.specs.Reading.{copies_read};
+ghost use Rattle.sdd_needs.specs.Inputs.{HasEras};
 
 /// Once the exchange of an active attempt is over, the database of its snapshots has the copies
 /// that the modules which it asked had just before their Answers.

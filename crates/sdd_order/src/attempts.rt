@@ -5,7 +5,7 @@ ghost use Rattle.sdd_order.specs.Attempts.{attempts, committed, is_attempt_of};
 ghost use Rattle.sdd_order.specs.Finding.{pair_cmp};
 
 use sdd_history::{PrintedReply, Rec};
-use sdd_lang::sdd_base::{Change, Changes, ClassNo, NoMemory, Ts, TxnNo, Use, Uses};
+use sdd_lang::{Change, Changes, ClassNo, NoMemory, Ts, TxnNo, Use, Uses};
 use std::alloc::Global;
 use std::collections::BTreeMap;
 use std::marker::Model;

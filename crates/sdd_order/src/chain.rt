@@ -1,7 +1,7 @@
 ghost use Rattle.std.specs.Prelude.{◌≡◌, ◌++◌, None, OnOk};
 ghost use Rattle.sdd_order.specs.Groups.{chain_after};
 
-use sdd_lang::sdd_base::NoMemory;
+use sdd_lang::NoMemory;
 
 /// Adds the links between neighbours in a list that differ.
 pub fn add_chain(links: &mut Vec<(usize, usize)>, list: &[usize]) -> Result<(), NoMemory>

@@ -2,7 +2,7 @@ ghost use Rattle.std.specs.Prelude.{◌≡◌, ◌<◌, ◌++◌, ◌∷◌, [],
 ghost use Rattle.sdd_order.specs.Groups.{groups, chains};
 
 use crate::chain::add_chain;
-use sdd_lang::sdd_base::NoMemory;
+use sdd_lang::NoMemory;
 use std::alloc::Global;
 use std::marker::Model;
 

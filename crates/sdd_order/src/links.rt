@@ -8,8 +8,7 @@ use crate::attempts::Committed;
 use crate::groups::Groups;
 use crate::reads::link_uses;
 use crate::seen::Marks;
-use sdd_lang::sdd_base::{Change, NoMemory};
-use sdd_lang::sdd_catalog::Catalogue;
+use sdd_lang::{Catalogue, Change, NoMemory};
 use std::alloc::Global;
 
 /// The links between transactions, which are numbered by their places: from each to the next of

@@ -11,8 +11,7 @@ use crate::links::find_links;
 use crate::seen::Marks;
 use crate::taking::order_of;
 use sdd_history::Rec;
-use sdd_lang::sdd_base::{NoMemory, TxnNo};
-use sdd_lang::sdd_catalog::Catalogue;
+use sdd_lang::{Catalogue, NoMemory, TxnNo};
 use std::alloc::Global;
 
 /// The serial order of what was committed: again and again the transaction with the least

@@ -8,8 +8,7 @@ ghost use Rattle.sdd_order.specs.Precedence.{module_of};
 use crate::attempts::Committed;
 use crate::groups::Groups;
 use crate::seen::Marks;
-use sdd_lang::sdd_base::{Change, DmNo, FragNo, NoMemory, Use};
-use sdd_lang::sdd_catalog::Catalogue;
+use sdd_lang::{Catalogue, Change, DmNo, FragNo, NoMemory, Use};
 
 /// Adds the links of one reader for the fragments of its uses.
 pub fn link_uses(

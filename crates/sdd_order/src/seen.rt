@@ -3,7 +3,7 @@ ghost use Rattle.std.specs.BTreeMap.{get};
 ghost use Rattle.sdd_order.specs.Finding.{pair_cmp, triple_cmp, apply_key, answer_key, Applied, Answered, AreMarks, sees};
 
 use sdd_history::Rec;
-use sdd_lang::sdd_base::{DmNo, NoMemory, TxnNo};
+use sdd_lang::{DmNo, NoMemory, TxnNo};
 use std::alloc::Global;
 use std::collections::BTreeMap;
 

@@ -3,7 +3,7 @@ ghost use Rattle.sdd_order.specs.Groups.{groups};
 ghost use Rattle.sdd_order.specs.Taking.{Links, order_of, released, link_counts, first_ready, taking};
 
 use crate::groups::Groups;
-use sdd_lang::sdd_base::NoMemory;
+use sdd_lang::NoMemory;
 use std::alloc::Global;
 use std::collections::BTreeSet;
 

@@ -4,8 +4,7 @@ ghost use Rattle.sdd_lang.specs.catalog.declared.parts.Kind.TheVariants.{Int};
 ghost use Rattle.sdd_lang.specs.All.{IsOfKeys, kind_of};
 ghost use Rattle.sdd_plain.specs.Held.{AreKeysOf};
 
-use sdd_lang::sdd_base::{NoMemory, Restriction, Value};
-use sdd_lang::{Condition, Keys, allowed_keys, restrictions_of};
+use sdd_lang::{Condition, Keys, NoMemory, Restriction, Value, allowed_keys, restrictions_of};
 use std::alloc::Global;
 
 fn is_number(value: &Value) -> bool

@@ -4,9 +4,10 @@ ghost use Rattle.sdd_lang.specs.Source.{found_in};
 
 use crate::rows::Rows;
 use sdd_exec::join;
-use sdd_lang::sdd_base::{Listed, NoMemory, RelNo, Reply, Row, RowList};
-use sdd_lang::sdd_catalog::Catalogue;
-use sdd_lang::{Condition, Effect, Entries, Ref, Source, Txn, effect_over};
+use sdd_lang::{
+    Catalogue, Condition, Effect, Entries, Listed, NoMemory, Ref, RelNo, Reply, Row, RowList,
+    Source, Txn, effect_over,
+};
 use std::alloc::Global;
 use std::marker::Model;
 

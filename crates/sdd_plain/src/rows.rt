@@ -6,9 +6,10 @@ ghost use Rattle.sdd_plain.specs.Parts.{standing};
 
 use crate::narrowing::keys_of_part;
 use sdd_exec::Parts;
-use sdd_lang::sdd_base::{Change, Changes, FragNo, NoMemory, Parcel, RelNo, Row, Value};
-use sdd_lang::sdd_catalog::Catalogue;
-use sdd_lang::{Condition, Entries, Entry, Keys, key_of, may_join, meets_all, value_in};
+use sdd_lang::{
+    Catalogue, Change, Changes, Condition, Entries, Entry, FragNo, Keys, NoMemory, Parcel, RelNo,
+    Row, Value, key_of, may_join, meets_all, value_in,
+};
 use std::alloc::Global;
 use std::collections::BTreeMap;
 use std::collections::btree_map::Range;

@@ -30,7 +30,7 @@ pub use Rattle.sdd_lawful.specs.Made.{IsMadeAt, record_of}
 pub use Rattle.sdd_obligations.proofs.QuestionsComeInTurn.{in_turn, strict_asked}
 pub use Rattle.sdd_obligations.proofs.AtTurn.{IsAtTurn, answered_last, apart, awaited, awaits, unsent}
 pub use Rattle.sdd_obligations.proofs.DataSteps.{IsDataStep, answers_read, applies, arrives, data_step, passes, refuses_read, replies, waits_for}
-pub use Rattle.sdd_obligations.proofs.Done.{AreDone, count_join, done, down_join, listed_first, settles_turn}
+pub use Rattle.sdd_obligations.proofs.needs.Done.{AreDone, count_join, done, down_join, listed_first, settles_turn}
 pub use Rattle.sdd_obligations.proofs.DonesFit.{done_fits}
 pub use Rattle.sdd_obligations.proofs.FirstSends.{IsFirstEach}
 pub use Rattle.sdd_obligations.proofs.Halves.{data_turns, home_turns, read_time}
@@ -41,7 +41,8 @@ pub use Rattle.sdd_obligations.proofs.Linking.{lawful_part as lawful_end}
 pub use Rattle.sdd_obligations.proofs.Modules.{firsts, sent_to_each, to_module}
 pub use Rattle.sdd_obligations.proofs.Near.{AllNear, HasNear, IsNear, IsNearBy, active_near, modules_near}
 pub use Rattle.sdd_obligations.proofs.NoRejects.{u_not_rejected}
-pub use Rattle.sdd_obligations.proofs.OfNext.{IsThere, site_there}
+pub use Rattle.sdd_obligations.proofs.SitesAndLinks.{site_there}
+pub use Rattle.sdd_obligations.proofs.needs.OfNext.{IsThere}
 pub use Rattle.sdd_obligations.proofs.Replying.{HasTurn, asker, asks_open, from_site}
 pub use Rattle.sdd_obligations.proofs.Sources.{home_first, source_is_home}
 pub use Rattle.sdd_obligations.proofs.ExchangesGoByTurns.{spoken}

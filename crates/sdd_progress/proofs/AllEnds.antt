@@ -1,6 +1,6 @@
 -- The names of std, of the crates below and of this crate's definitions that its proofs on the end of a run cite. Declares nothing.
 pub use Rattle.sdd_obligations.proofs.Counting.{head_taken as committed_short}
-pub use Rattle.sdd_obligations.proofs.Limits.{marks_few as few_marks}
+pub use Rattle.sdd_obligations.proofs.needs.FewMarks.{marks_few as few_marks}
 pub use Rattle.sdd_obligations.proofs.invariants.AreSteps.{idle_of}
 pub use Rattle.sdd_obligations.proofs.invariants.Bools.{and_left, and_right, same_number, same_or_not, true_or_false}
 pub use Rattle.sdd_obligations.proofs.invariants.Exchanges.{asks_next}

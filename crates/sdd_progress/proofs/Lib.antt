@@ -72,6 +72,7 @@ pub mod SinceRedeclare
 pub mod Sites
 pub mod Spoilt
 pub mod Still
+pub mod StillWhileDown
 pub mod StuckHeads
 pub mod Sums
 pub mod TableFits

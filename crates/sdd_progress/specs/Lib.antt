@@ -2,6 +2,7 @@ pub mod Answers
 pub mod AwaitedModules
 pub mod Committed
 pub mod Conditions
+pub mod Down
 pub mod Ends
 pub mod Eras
 pub mod Examples

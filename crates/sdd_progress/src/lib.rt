@@ -1,7 +1,7 @@
 //! Progress: every run ends, quiet means finished, who waits and why, few attempts are rejected, and
 //! one class list follows the other.
 //!
-//! The one contract to the layer above, in five parts.
+//! The one contract to the layer above, in six parts.
 //!
 //! - On every lawful log a round has an event, so that there are no more rounds than marks, and one
 //!   (`law_rounds_end`); once a settle has ended, nothing is in flight and everything is acknowledged
@@ -25,6 +25,7 @@
 //! - A transaction's rejected attempts are at most the Commits of other transactions
 //!   (`law_few_rejected`), so a run has at most the square of their number of attempts
 //!   (`law_few_attempts`).
+//! - From its `down` to its `up` a data module stays as it is (`law_still_while_down`).
 //! - A log may put any number of class lists in force. If each is an era of the catalogue, and no
 //!   data module was down where one was put in force, then its history keeps all laws, has no cycle
 //!   and has a serial order (`law_lawful`), and few attempts are rejected
@@ -32,6 +33,7 @@
 #![tactic(auto)]
 
 pub mod answers_laws;
+mod down_law;
 mod ending_law;
 mod few_rejected_law;
 mod few_rejected_worked;
@@ -46,6 +48,7 @@ mod rounds_law;
 mod succession_law;
 mod worked;
 
+pub use down_law::law_still_while_down;
 pub use ending_law::{law_run_ends, law_settle_ends};
 pub use few_rejected_law::{law_few_attempts, law_few_rejected, law_rejects};
 pub use few_rejected_worked::law_one_rejected;
@@ -60,6 +63,3 @@ pub use quiet_law::{
 pub use rounds_law::{law_quiet_after_settle, law_rounds, law_rounds_end};
 pub use succession_law::{law_few_attempts_across_lists, law_lawful, law_timely};
 pub use worked::{law_all_lost, law_late_query, law_read_and_put};
-
-// What lies below, for the crates above.
-pub use sdd_lawful;

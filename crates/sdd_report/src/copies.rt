@@ -6,8 +6,7 @@ ghost use Rattle.sdd_report.specs.Copies.{place_words, copy_lines, copies_lines}
 ghost use Rattle.sdd_report.specs.Replies.{row_line};
 
 use crate::words::{put_fragment, put_module, put_number};
-use sdd_lang::sdd_base::{DmNo, FragNo, Listed, NoMemory, Row, RowList};
-use sdd_lang::sdd_catalog::Catalogue;
+use sdd_lang::{Catalogue, DmNo, FragNo, Listed, NoMemory, Row, RowList};
 use sdd_words::{put, put_rows};
 
 /// The rows of the copy of a fragment at a data module, ascending by key.

@@ -2,9 +2,7 @@
 ghost use Rattle.std.specs.Prelude.{◌≡◌};
 ghost use Rattle.sdd_report.specs.Names.{class_name, class_word, fragment_name, txn_name};
 
-use sdd_lang::Txn;
-use sdd_lang::sdd_base::{ClassNo, FragNo, TxnNo};
-use sdd_lang::sdd_catalog::Catalogue;
+use sdd_lang::{Catalogue, ClassNo, FragNo, Txn, TxnNo};
 
 pub fn txn_name(txns: &[Txn], txn: TxnNo) -> &[u8]
     ensures { result.now ≡ txn_name txns.now txn.0 }

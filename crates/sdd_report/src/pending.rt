@@ -6,9 +6,7 @@ ghost use Rattle.sdd_report.specs.Pending.{why_words, pending_line, pending_line
 ghost use Rattle.sdd_report.specs.declared.pending.Why.TheVariants.{Waits as WaitsFor};
 
 use crate::words::{put_class_number, put_class_time, put_module, put_site, put_txn};
-use sdd_lang::Txn;
-use sdd_lang::sdd_base::{ClassNo, DmNo, NoMemory, Site, Ts, TxnNo};
-use sdd_lang::sdd_catalog::Catalogue;
+use sdd_lang::{Catalogue, ClassNo, DmNo, NoMemory, Site, Ts, Txn, TxnNo};
 use sdd_words::put;
 
 /// A READ that waits at a data module.

@@ -2,7 +2,7 @@
 ghost use Rattle.std.specs.Prelude.{◌≡◌, ◌++◌, OnOk};
 ghost use Rattle.sdd_report.specs.Replies.{reply_lines};
 
-use sdd_lang::sdd_base::{NoMemory, Reply};
+use sdd_lang::{NoMemory, Reply};
 use sdd_words::{put, put_outcome};
 
 /// Puts the lines of a transaction's reply after what was written before. Where memory runs out,

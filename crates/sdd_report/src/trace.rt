@@ -7,9 +7,7 @@ use crate::words::{
     put_attempt, put_class, put_class_time, put_module, put_number, put_txn, put_word,
 };
 use sdd_history::Rec;
-use sdd_lang::Txn;
-use sdd_lang::sdd_base::{ClassNo, Cond, DmNo, NoMemory, Ts, TxnNo};
-use sdd_lang::sdd_catalog::Catalogue;
+use sdd_lang::{Catalogue, ClassNo, Cond, DmNo, NoMemory, Ts, Txn, TxnNo};
 use sdd_words::{put, put_count};
 
 /// A word, and the attempt to which it happens.

@@ -5,9 +5,7 @@ ghost use Rattle.sdd_report.specs.Names.{spaced, attempt_word, class_word, fragm
 
 use crate::names::{class_word, fragment_name, txn_name};
 use itoa::Buffer;
-use sdd_lang::Txn;
-use sdd_lang::sdd_base::{ClassNo, DmNo, FragNo, NoMemory, Site, Ts, TxnNo};
-use sdd_lang::sdd_catalog::Catalogue;
+use sdd_lang::{Catalogue, ClassNo, DmNo, FragNo, NoMemory, Site, Ts, Txn, TxnNo};
 use sdd_words::{put, put_count};
 
 pub fn put_word(out: &mut Vec<u8>, word: &[u8]) -> Result<(), NoMemory>

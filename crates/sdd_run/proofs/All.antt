@@ -4,14 +4,14 @@ pub use Rattle.sdd_lists.specs.InForce.{classes_in, eras_in, whole_in}
 pub use Rattle.sdd_make.specs.Summary.{summary_of, summary_text}
 pub use Rattle.sdd_make.specs.declared.summary.Summary.{Summary}
 pub use Rattle.sdd_obligations.proofs.AtTurn.{answered_last, apart, awaited, unsent}
-pub use Rattle.sdd_obligations.proofs.Done.{count_join}
+pub use Rattle.sdd_obligations.proofs.needs.Done.{count_join}
 pub use Rattle.sdd_obligations.proofs.Halves.{home_turns}
 pub use Rattle.sdd_obligations.proofs.HandedAnswersKeepTurns.{AtTurn}
 pub use Rattle.sdd_obligations.proofs.HoldsFit.{chain_at}
 pub use Rattle.sdd_obligations.proofs.Linking.{lawful_part as lawful_end}
 pub use Rattle.sdd_obligations.proofs.LowClocks.{clock_low}
 pub use Rattle.sdd_obligations.proofs.Near.{HasNear, IsNearBy, active_near}
-pub use Rattle.sdd_obligations.proofs.OfNext.{site_there}
+pub use Rattle.sdd_obligations.proofs.SitesAndLinks.{site_there}
 pub use Rattle.sdd_obligations.proofs.ExchangesGoByTurns.{spoken}
 pub use Rattle.sdd_obligations.proofs.Starts.{small_home}
 pub use Rattle.sdd_obligations.proofs.base.Membership.{Contains-cases, Contains-here, Contains-later, Contains-nil}
@@ -43,11 +43,11 @@ pub use Rattle.sdd_obligations.proofs.net.Lists.{All-at}
 pub use Rattle.sdd_obligations.proofs.protocol.Laws.{one_table}
 pub use Rattle.sdd_obligations.proofs.serial_orders.Places.{same_start}
 pub use Rattle.sdd_obligations.proofs.serial_orders.Serial.{serial_order_is}
-pub use Rattle.sdd_obligations.specs.AfterEvents.{down_from}
-pub use Rattle.sdd_obligations.specs.All.{Act, AllFewTicks, Answer, AreAllApplied, AreSubmittedOnce, Catalogue, Class, ClassNo, ClassState, Commit, Committed, Cond, Condition, D, Deliver, DmNo, Does, Down, EndsByLimit, Era, Eras, Event, FitsCondition, FitsInput, FitsStart, FitsStatement, FragNo, Hand, HasCommit, History, Input, IsAttempt, IsAwaited, IsClass, IsClassOf, IsCommitted, IsDatabase, IsEra, IsEraOf, IsGood, IsHeld, IsLawful, IsModule, IsOrderable, IsPermitted, IsPossible, IsRecordAt, IsSerial, IsSoundCatalogue, IsSubmitted, IsTable, IsTheLog, KeepsStarts, Kept, Log, Lose, MAX_DMS, MAX_TMS, Mark, Msg, Notes, Nothing, PutsHeld, Queued, Read, Rec, Records, Redeclare, Redeclares, Reject, RelNo, Repeat, Reply, Resend, Round, Row, Setting, Settle, Site, Standing, Stmt, Submitted, T, Tick, TmCounts, Ts, Txn, TxnNo, U, Up, Use, Wait, active, after_mark, all_links, are_linked, attempt_due, attempt_of, base_of, by_event, by_mark, calls_of, class_at, class_no, committed, contains, contents, counts, database_of, dated, dm_no, due_by, event_at, hand_due, hand_on, has_copy, head, head_of, history, home, is_apply, is_empty, is_link, is_over, is_site, last_served, left, link_of, local_of, mark_from, mark_of, marks, next, next_at, note_if, nth_era, numbers_to, one_if, pipe_at, placed, queue, quiet, redeclares, redeclares_in, rows_of, run, runs, send_due, setting_of, site_due, standing_among, standing_in, submits_in, time_at, tm_no, turn_at, txn_at, txn_no, with_event}
+pub use Rattle.sdd_obligations.specs.needs.AfterEvents.{down_from}
+pub use Rattle.sdd_obligations.specs.All.{Act, AllFewTicks, Answer, AreAllApplied, AreSubmittedOnce, Catalogue, Class, ClassNo, ClassState, Commit, Committed, Cond, Condition, D, Deliver, DmNo, Does, Down, EndsByLimit, Era, Eras, Event, FitsCondition, FitsInput, FitsStart, FitsStatement, FragNo, Hand, HasCommit, History, Input, IsAttempt, IsAwaited, IsClass, IsClassOf, IsCommitted, IsDatabase, IsEra, IsEraOf, IsGood, IsHeld, IsLawful, IsModule, IsOrderable, IsPermitted, IsPossible, IsRecordAt, IsSerial, IsSoundCatalogue, IsSubmitted, IsTable, IsTheLog, KeepsStarts, Kept, Log, Lose, MAX_DMS, MAX_TMS, Mark, Msg, Notes, Nothing, PutsHeld, Queued, Read, Rec, Records, Redeclare, Redeclares, Reject, RelNo, Repeat, Reply, Resend, Rests, Round, Row, Setting, Settle, Site, Standing, Stmt, Submitted, T, Tick, TmCounts, Ts, Txn, TxnNo, U, Up, Use, Wait, active, after_mark, all_links, are_linked, attempt_due, attempt_of, base_of, by_event, by_mark, calls_of, class_at, class_no, committed, contains, contents, counts, database_of, dated, dm_no, due_by, event_at, hand_due, hand_on, has_copy, head, head_of, history, home, is_apply, is_empty, is_link, is_over, is_site, last_served, left, link_of, local_of, mark_from, mark_of, marks, next, next_at, note_if, nth_era, numbers_to, one_if, pipe_at, placed, queue, quiet, redeclares, redeclares_in, rows_of, run, runs, send_due, setting_of, site_due, standing_among, standing_in, submits_in, time_at, tm_no, turn_at, txn_at, txn_no, with_event}
 pub use Rattle.sdd_obligations.specs.Bounds.{IsSmall}
-pub use Rattle.sdd_obligations.specs.Heights.{ticks_of}
-pub use Rattle.sdd_obligations.specs.Reading.{HasEras}
+pub use Rattle.sdd_obligations.specs.needs.Inputs.{ticks_of}
+pub use Rattle.sdd_obligations.specs.needs.Inputs.{HasEras}
 pub use Rattle.sdd_obligations.specs.attempt.Lines.{Line}
 pub use Rattle.sdd_obligations.specs.attempt.Standings.{lower, lowest, or_standing, queued_at, site_of, standing_by, standing_of, underway, waiting}
 pub use Rattle.sdd_obligations.specs.base.declared.limits.TheConstants.{MAX_TICKS}

@@ -1,4 +1,5 @@
 -- What is given by a valid workload is what the modules' facts ask for, with each part of its schedule.
+use Rattle.sdd_obligations.proofs.AllObligations.{all_obligations}
 use Rattle.sdd_run.proofs.All.{All, All-at, All-cons, All-head, All-nil, All-tail, All-weaker, AllFewTicks, AreTables, Catalogue, Entry, Event, FitsInput, FitsStart, HoldsValues, IsDatabase, IsGood, IsHeld, IsSoundCatalogue, IsValid, IsValidEvent, IsValidRow, IsValidTxn, IsValue, List, MAX_TICKS, PutsHeld, RelNo, Row, Stmt, Value, Workload, [], arith, both as and_both, database_of, first_input, get_or as slice_index_or, inl, inr, le-leb, length, map, nat_le, no_database, numbers_to, refl, rows_make_database, subst, suc, sym, ticks_of, whole_in, zero, ℕ, ◌++◌, ◌-◌, ◌∷◌, ◌≡◌, ◌≤◌, ◌⊎◌}
 use Rattle.sdd_run.proofs.Allowed.{IsGoodAlong}
 use Rattle.sdd_run.proofs.ErasWithTables.{has_eras}
@@ -66,6 +67,7 @@ module _ (cat : Catalogue) (tables : List (List Entry)) (work : Workload) (sound
       few_ticks = few_ticks (whole_in cat work) (length work.txns) xs
           (front (whole_in cat work) (length work.txns) xs ys work.events e (events_valid cat work valid));
       once = once_before xs ys work.events e (once work.events valid.submitted);
+      needs = all_obligations;
     }
 
     pub good_begun : IsGood (first_input cat tables work)

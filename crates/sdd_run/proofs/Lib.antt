@@ -14,6 +14,7 @@ pub mod SameReport
 pub mod Starting
 pub mod Apart
 pub mod Goods
+pub mod HasReport
 pub mod InTurn
 pub mod Left
 pub mod Marked

@@ -1,9 +1,9 @@
 -- The history of a run has a serial order, along which one plain database gives its replies.
-use Rattle.sdd_run.proofs.All.{All-at, AllZip, AreAllApplied, AreAppliedAlike, AreFewRejected, AreTables, Attempt, Catalogue, Contains, CopyTable, Entry, IsAttempt, IsClassOf, IsFree, IsFreeClass, IsFreeInEach, IsOrderable, IsReplyOf, IsSerial, IsSoundCatalogue, IsTheLog, IsUndisturbed, IsValid, KeepsStarts, List, Log, Workload, eras_in, eras_of, few_rejected, history, input_of, length, order_of, plain_run, replies, rows_left, serial_order_is, tables_of, whole_in, ℕ, ◌≡◌}
+use Rattle.sdd_run.proofs.All.{All-at, AllZip, AreAllApplied, AreAppliedAlike, AreFewRejected, AreTables, Attempt, Catalogue, Contains, CopyTable, Entry, IsAttempt, IsClassOf, IsFree, IsFreeClass, IsFreeInEach, IsOrderable, IsReplyOf, IsSerial, IsSoundCatalogue, IsTheLog, IsUndisturbed, IsValid, KeepsStarts, List, Log, Workload, eras_in, eras_of, few_rejected, Input, IsLawful, are_eras_of, lawful_end, lawful_permitted, subst, ◌++◌, history, input_of, length, order_of, plain_run, replies, rows_left, serial_order_is, tables_of, whole_in, ℕ, ◌≡◌}
 use Rattle.sdd_run.proofs.ErasWithTables.{of_list}
 use Rattle.sdd_run.proofs.FreeAttempts.{undisturbed}
 use Rattle.sdd_run.proofs.Left.{alike_in, left_in}
-use Rattle.sdd_run.proofs.RunOf.{eras_are, fine, known_of, lists, permitted, submit_given, up}
+use Rattle.sdd_run.proofs.RunOf.{eras_are, fine, known_of, lawful_lists, lists, permitted, submit_given, up}
 use Rattle.sdd_progress.proofs.KeptEras as succession
 
 module _ (cat : Catalogue) (tables : List (List Entry)) (work : Workload) (sound : IsSoundCatalogue (whole_in cat work)) (valid : IsValid cat work)
@@ -26,10 +26,14 @@ module _ (cat : Catalogue) (tables : List (List Entry)) (work : Workload) (sound
       (fine cat tables work sound valid tabled) (permitted cat tables work sound valid tabled log the_log)
       (eras_are cat tables work sound valid tabled log the_log) serial
 
-  pub few : AreFewRejected (history log)
-  few =
-      few_rejected (input_of cat tables work) log (eras_of (input_of cat tables work) log) sound
-      (permitted cat tables work sound valid tabled log the_log) (eras_are cat tables work sound valid tabled log the_log)
+  -- at each moment
+  pub few : (later before : Log) → log ≡ later ++ before → AreFewRejected (history before)
+  few later before is =
+      let g : Input = input_of cat tables work in
+      let submits = submit_given cat tables work sound valid tabled in
+      let now : IsLawful g before = lawful_end g later before (subst (IsLawful g) is the_log.lawful) in
+      few_rejected g before (eras_of g before) sound
+      (lawful_permitted g before submits.once now) (are_eras_of g before (lawful_lists cat tables work sound valid tabled before now))
 
   free_class : (c : ℕ) → IsClassOf (whole_in cat work) c → IsFreeInEach cat work c → IsFreeClass (input_of cat tables work) c
   free_class c class free = record {

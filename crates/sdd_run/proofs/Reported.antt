@@ -9,7 +9,7 @@ use Rattle.sdd_run.proofs.Once.{each_once}
 use Rattle.sdd_run.proofs.Ordered.{alike, few, free_undisturbed, left, orderable, replayed, serial, starts}
 use Rattle.sdd_run.proofs.Reasons.{reasons_are}
 use Rattle.sdd_run.proofs.RunOf.{known_of, permitted}
-use Rattle.sdd_run.proofs.Settled.{applied, nothing_lost, quiet_behind, settled}
+use Rattle.sdd_run.proofs.Settled.{applied, nothing_lost, quiet_behind, settled, settled_before}
 use Rattle.sdd_run.proofs.WithRepliesOfOrder.{with_replies_of_order}
 
 pub if_ok : {A E : Type 0} (res : Result A E) (P Q : A → Type 0) → ((x : A) → P x → Q x) → IfOk res P → IfOk res Q
@@ -71,6 +71,7 @@ reported cat tables work log sound valid tabled the_log text is =
           (fits_given cat tables work sound valid work.events) (none_due (input_of cat tables work) log (over_at_end (input_of cat tables work) log the_log));
       quiet = quiet_behind cat tables work sound valid tabled log the_log;
       settled = settled cat tables work sound valid tabled log the_log fine along;
+      settled_before = settled_before cat tables work sound valid tabled log the_log;
       left = λ links up copy there.
           left cat tables work sound valid tabled log the_log copy there (applied cat tables work sound valid tabled log the_log links up copy there);
     }

@@ -1,7 +1,15 @@
 -- A run that a settle or a redeclare ends leaves nothing undone, where no data module is down at its end.
-use Rattle.sdd_run.proofs.All.{AllCommitted, AreAllApplied, AreTables, Attempt, Catalogue, Commit, Committed, Contains, Contains-from_filter, Contains-from_flat_map, Contains-from_map, CopyTable, D, EndsAtRest, EndsQuiet, Entry, HasCommit, HasSoundLists, History, Input, IsAtEnd, IsAttempt, IsCommitted, IsLawful, IsListed, IsOrderable, IsRecordAt, IsSerial, IsSettled, IsSoundCatalogue, IsSubmitted, IsTheLog, IsValid, List, Log, LosesNothing, None, NoneIsDown, SubmitGiven, TellsAllCommitted, TxnNo, WasCommitted, Workload, ap, applied_at_copies, dated, dm_no, has_copy, history, input_of, lawful_numbered, lawful_permitted, length, local_of, next, numbers_to, order_of, report_of, setting_of, settled_is_committed, settled_is_finished, settled_is_quiet, standing_at, standing_at_t, standing_at_u, subst, sym, table_of, tables_at, tables_of, times_in, txn_no, whole_in, with_event, ℕ, ◌≡◌, ◌⊎◌}
+use Rattle.sdd_run.proofs.All.{AllCommitted, AreAllApplied, AreTables, Attempt, Catalogue, Commit, Committed, Contains, Contains-from_filter, Contains-from_flat_map, Contains-from_map, CopyTable, D, EndsAtRest, EndsQuiet, Entry, HasCommit, HasSoundLists, History, Input, IsAtEnd, IsAttempt, IsCommitted, IsLawful, IsListed, IsOrderable, IsRecordAt, IsSerial, IsSettled, IsSoundCatalogue, IsSubmitted, IsTheLog, IsValid, List, Log, LosesNothing, None, NoneIsDown, SubmitGiven, TellsAllCommitted, TxnNo, WasCommitted, Workload, ap, applied_at_copies, dated, dm_no, has_copy, history, input_of, Rests, arith, lawful_numbered, lawful_permitted, redeclares, up_at_redeclares, ◌++◌, length, local_of, next, numbers_to, order_of, report_of, setting_of, settled_is_committed, settled_is_finished, settled_is_quiet, standing_at, standing_at_t, standing_at_u, subst, sym, table_of, tables_at, tables_of, times_in, txn_no, whole_in, with_event, ℕ, ◌≡◌, ◌⊎◌}
+use Rattle.sdd_progress.proofs.Committed.{all_committed as all_committed_of}
+use Rattle.sdd_progress.proofs.Finished.{finished}
+use Rattle.sdd_progress.proofs.IdleAtRedeclares.{idle_at_redeclares}
+use Rattle.sdd_progress.proofs.NoneWaits.{is_idle}
+use Rattle.sdd_progress.proofs.Settled.{resting_is_quiet}
 use Rattle.sdd_run.proofs.AtRest.{quiet_at_rest}
-use Rattle.sdd_run.proofs.RunOf.{lists, submit_given, up}
+use Rattle.sdd_run.proofs.Goods.{few_ticks}
+use Rattle.sdd_run.proofs.RunOf.{lawful_lists, lists, submit_given, up}
+use Rattle.sdd_run.proofs.Timely.{timely}
+use Rattle.sdd_run.proofs.Whole.{events_valid}
 use Rattle.sdd_run.proofs.Listed.{each_listed}
 use Rattle.sdd_run.proofs.Lossless.{in_one}
 use Rattle.sdd_run.proofs.NonePending.{none_pending}
@@ -50,6 +58,19 @@ module _ (cat : Catalogue) (tables : List (List Entry)) (work : Workload) (sound
 
   all_committed : EndsQuiet (input_of cat tables work) log → NoneIsDown (whole_in cat work) log → AllCommitted (history log)
   all_committed links are_up = settled_is_committed (input_of cat tables work) log current_era submits (is_settled links are_up)
+
+  -- and between two events
+  pub settled_before : (later before : Log) → log ≡ later ++ before → Rests (input_of cat tables work) before
+      → EndsQuiet (input_of cat tables work) before → NoneIsDown (whole_in cat work) before → AllCommitted (history before)
+  settled_before later before is rests links are_up =
+      let g : Input = input_of cat tables work in
+      let their = lawful_lists cat tables work sound valid tabled before rests.lawful in
+      let were_up = up_at_redeclares g before (few_ticks (whole_in cat work) (length work.txns) work.events (events_valid cat work valid))
+      rests.lawful (timely cat tables work valid tabled) in
+      let q = resting_is_quiet g before submits.once rests links are_up in
+      let last = their (redeclares before) (omega arith) in
+      let idle = is_idle g before q last (idle_at_redeclares g before submits.once rests.lawful their were_up) in
+      all_committed_of g before q.permitted their (lawful_numbered g before submits rests.lawful) (finished g before q last.fits.sound idle)
 
   pub settled : IsOrderable (whole_in cat work) (history log) → IsSerial (whole_in cat work) (history log) (order_of cat work log)
       → EndsQuiet (input_of cat tables work) log → NoneIsDown (whole_in cat work) log → TellsAllCommitted (report_of (input_of cat tables work) log)

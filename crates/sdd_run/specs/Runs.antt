@@ -2,7 +2,7 @@
 -- classes: then the whole catalogue has the classes of all lists, and one list after the other is in force, with the
 -- protocol table of its own catalogue. Without further lists the whole catalogue is the catalogue itself.
 use Rattle.std.specs.Prelude.{ℕ, ◌≡◌, List, [], ◌∷◌, ◌++◌, Contains, length, map}
-use Rattle.sdd_obligations.specs.All.{AreAllApplied, Catalogue, Committed, EndsByLimit, Era, Input, IsAttempt, IsClassOf, IsCommitted, IsOrderable, IsSerial, IsTable, IsTheLog, Log, Reply, TxnNo, history, marks, numbers_to, run}
+use Rattle.sdd_obligations.specs.All.{AreAllApplied, Catalogue, Committed, EndsByLimit, Era, Input, IsAttempt, IsClassOf, IsCommitted, IsOrderable, IsSerial, IsTable, IsTheLog, Log, Reply, Rests, TxnNo, history, marks, numbers_to, run}
 use Rattle.std.specs.List.{All, AllZip}
 use Rattle.sdd_obligations.specs.protocol.declared.entry.Entry.{Entry}
 use Rattle.sdd_script.specs.declared.workload.Workload.{Workload}
@@ -21,6 +21,7 @@ use Rattle.sdd_report.specs.declared.copies.CopyTable.{CopyTable}
 use Rattle.sdd_report.specs.declared.pending.Pending.{Pending}
 use Rattle.sdd_run.specs.Clocks.{HasLowClocks}
 use Rattle.sdd_world.specs.Copies.{rows_left, tables_of}
+use Rattle.sdd_progress.specs.Committed.{AllCommitted}
 use Rattle.sdd_progress.specs.Few.{AreFewRejected}
 use Rattle.sdd_progress.specs.Free.{IsFree}
 use Rattle.sdd_run.specs.Free.{IsUndisturbed}
@@ -96,11 +97,11 @@ pub record IsReportOn (cat : Catalogue) (work : Workload) (text : List ℕ) : Ty
   pub alike : (one two : CopyTable) → Contains (tables_of (input_of cat tables work) log) one
       → Contains (tables_of (input_of cat tables work) log) two → one.frag ≡ two.frag
       → AreAppliedAlike (history log) one.frag.0 one.dm.0 (length (history log)) two.dm.0 (length (history log)) → one.rows ≡ two.rows
-  -- No attempt of a class that lies on no simple cycle of a conflict graph waits or is rejected; and of each transaction
-  -- no more attempts are rejected than other transactions are committed.
+  -- No attempt of a class that lies on no simple cycle of a conflict graph waits or is rejected; and at each moment of the
+  -- run of each transaction no more attempts are rejected than other transactions are committed.
   pub free : (a : Attempt) → IsAttempt (history log) a → IsClassOf (whole_in cat work) a.class → IsFreeInEach cat work a.class
       → IsUndisturbed (history log) a
-  pub rejections : AreFewRejected (history log)
+  pub rejections : (later before : Log) → log ≡ later ++ before → AreFewRejected (history before)
   -- At each moment of the run each clock stands below 2^39 ticks.
   pub low_clocks : HasLowClocks (input_of cat tables work) log
   -- Each transaction that was submitted stands in the order once, or is listed as pending once, and never both.
@@ -113,6 +114,9 @@ pub record IsReportOn (cat : Catalogue) (work : Workload) (text : List ℕ) : Ty
   -- copy lists the rows that this database is left with.
   pub quiet : EndsAtRest work.events → EndsQuiet (input_of cat tables work) log
   pub settled : EndsQuiet (input_of cat tables work) log → NoneIsDown (whole_in cat work) log → TellsAllCommitted (report_of (input_of cat tables work) log)
+  -- So it is at each moment between two events.
+  pub settled_before : (later before : Log) → log ≡ later ++ before → Rests (input_of cat tables work) before
+      → EndsQuiet (input_of cat tables work) before → NoneIsDown (whole_in cat work) before → AllCommitted (history before)
   pub left : EndsQuiet (input_of cat tables work) log → NoneIsDown (whole_in cat work) log
       → (copy : CopyTable) → Contains (tables_of (input_of cat tables work) log) copy
       → copy.rows ≡ rows_left (whole_in cat work) (plain_run cat work log).1 copy.frag.0

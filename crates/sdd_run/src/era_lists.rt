@@ -6,9 +6,7 @@ ghost use Rattle.sdd_obligations.specs.All.{IsTable};
 ghost use Rattle.sdd_run.specs.Lent.{era_of_list};
 ghost use Rattle.sdd_run.specs.Runs.{eras_with_tables};
 
-use sdd_obligations::sdd_base::NoMemory;
-use sdd_obligations::sdd_catalog::Catalogue;
-use sdd_obligations::sdd_protocol::{Table, table};
+use sdd_obligations::{Catalogue, NoMemory, Table, table};
 use sdd_world::ClassList;
 use std::alloc::Global;
 

@@ -1,5 +1,5 @@
 //! What holds of every run of a workload, reported or not.
-ghost use Rattle.std.specs.Prelude.{ℕ, ◌≡◌, ◌≤◌, ◌++◌, ◌∷◌, List, None};
+ghost use Rattle.std.specs.Prelude.{ℕ, ◌≡◌, ◌≤◌, ◌++◌, ◌∷◌, ◌⊎◌, List, None};
 ghost use Rattle.sdd_obligations.specs.All.{AreSubmittedOnce, Catalogue, ClassNo, Cond, D, DmNo, FitsInput, Hand, Input, IsLawful, IsPermitted, IsSoundCatalogue, IsTheLog, Log, Read, Site, Ts, TxnNo, Use, history, local_of, marks, setting_of, site_due};
 ghost use Rattle.sdd_world.specs.Standings.{standing_of};
 ghost use Rattle.sdd_run.specs.Reasons.{IsStanding};
@@ -20,6 +20,15 @@ pub fn law_one_report()
         → IsSummaryOn catalogue work text → IsSummaryOn catalogue work other → text ≡ other }
     ensures not_both { (catalogue : Catalogue) (work : Workload) (text : List ℕ) → IsReportOn catalogue work text
         → EndsAtLimit catalogue work → ⊥ }
+{}
+
+/// A law: the run of a workload has a report and a summary, or the limit ends the run, whatever the
+/// modules do and with no regard to memory.
+pub fn law_has_report()
+    ensures report { (catalogue : Catalogue) (work : Workload) → IsSoundCatalogue catalogue → IsValid catalogue work
+        → ((text : List ℕ) × IsReportOn catalogue work text) ⊎ EndsAtLimit catalogue work }
+    ensures summary { (catalogue : Catalogue) (work : Workload) → IsValid catalogue work
+        → ((text : List ℕ) × IsSummaryOn catalogue work text) ⊎ EndsAtLimit catalogue work }
 {}
 
 /// A law: at each moment of the run of a workload each clock stands below 2^39 ticks, whether the run

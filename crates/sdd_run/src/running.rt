@@ -7,8 +7,7 @@ ghost use Rattle.sdd_run.specs.Worlds.{IsRunOf};
 
 use crate::era_lists::{first_table, further};
 use sdd_lists::Lists;
-use sdd_obligations::sdd_catalog::Catalogue;
-use sdd_obligations::sdd_protocol::Table;
+use sdd_obligations::{Catalogue, Table};
 use sdd_script::Workload;
 use sdd_world::{World, WorldEnd, carry_out, data_modules};
 use std::alloc::Global;

@@ -7,8 +7,7 @@ ghost use Rattle.sdd_world.specs.Pending.{AreAtLastHomes};
 ghost use Rattle.sdd_world.specs.Represents.{Represents};
 ghost use Rattle.sdd_world.specs.Standings.{standing_of};
 
-use sdd_obligations::sdd_base::{NoMemory, Pages};
-use sdd_obligations::sdd_order::serial_order;
+use sdd_obligations::{NoMemory, Pages, serial_order};
 use sdd_report::{Report, report_pages};
 use sdd_world::World;
 use std::alloc::Global;

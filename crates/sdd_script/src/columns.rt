@@ -11,9 +11,7 @@ use crate::few::keep_few;
 use crate::found::Found;
 use crate::naming::{column_named, columns_of, kind_of_place};
 use crate::values::{is_of_kind, read_value};
-use sdd_lang::sdd_base::{MAX_CONDITIONS, Op};
-use sdd_lang::sdd_catalog::{Catalogue, Column};
-use sdd_lang::{Condition, Ref};
+use sdd_lang::{Catalogue, Column, Condition, MAX_CONDITIONS, Op, Ref};
 use sdd_words::{
     Comparison, Comparisons, Token, is_whole_number, names_column, number_in, parts_at_point,
 };

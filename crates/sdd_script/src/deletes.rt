@@ -8,9 +8,7 @@ ghost use Rattle.sdd_script.specs.Statements.{delete_over, delete_of_parts, dele
 use crate::columns::read_conditions;
 use crate::fault::{LineError, WorkRule, must, refuse, require};
 use crate::naming::part_of;
-use sdd_lang::Stmt;
-use sdd_lang::sdd_base::{Listed, RelNo};
-use sdd_lang::sdd_catalog::Catalogue;
+use sdd_lang::{Catalogue, Listed, RelNo, Stmt};
 use sdd_words::{Comparisons, Token, Tokens, is_free, read_comparisons};
 use std::alloc::Global;
 

@@ -4,7 +4,7 @@ ghost use Rattle.sdd_lang.specs.All.{GivesReading, must, require};
 ghost use Rattle.sdd_script.specs.declared.fault.LineError.TheVariants.{Broken};
 ghost use Rattle.sdd_script.specs.Rules.{rule_in};
 
-use sdd_lang::sdd_base::{NoMemory, Parcel};
+use sdd_lang::{NoMemory, Parcel};
 use std::alloc::{AllocError, AllocFailed};
 use thiserror::Error;
 

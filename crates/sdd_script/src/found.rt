@@ -1,5 +1,4 @@
-use sdd_lang::Ref;
-use sdd_lang::sdd_catalog::Kind;
+use sdd_lang::{Kind, Ref};
 
 /// A column of a use, and its kind.
 #[derive(Clone, Copy)]

@@ -1,6 +1,6 @@
 ghost use Rattle.std.specs.Prelude.{◌≡◌, ◌++◌, ◌∷◌, [], OnOk, length};
 
-use sdd_lang::sdd_base::{Listed, NoMemory};
+use sdd_lang::{Listed, NoMemory};
 use std::alloc::Global;
 use std::marker::Model;
 

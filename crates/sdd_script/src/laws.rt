@@ -1,7 +1,7 @@
 //! The laws of reading and writing, which hold of every catalogue.
 ghost use Rattle.sdd_script.specs.Laws.{ReadsAgain, ReadsSpelling};
 
-use sdd_lang::sdd_catalog::Catalogue;
+use sdd_lang::Catalogue;
 
 /// Reading and spelling are inverse: the spelling of each workload that the catalogue allows is
 /// read as this workload, and each file that is read spells what it is read as, which the catalogue

@@ -44,6 +44,15 @@ pub use workload::{ClassLists, StartRows, Txns, Workload};
 pub use write_lines::write_workload;
 
 // What lies below, for the crates above.
-pub use sdd_lang;
-pub use sdd_lang::{sdd_base, sdd_catalog};
-pub use sdd_words;
+pub use sdd_lang::{
+    Assign, Bytes, CatError, Catalogue, Change, Changes, ClassNo, ClassPart, ClassParts,
+    ColumnPart, ColumnParts, Cond, Condition, Conditions, Conds, CopyNos, DmNo, Event, Events,
+    FragNo, FragmentPart, FragmentParts, Kind, Listed, MAX_EVENTS, MAX_WORKLOAD_BYTES, Name, Names,
+    NoMemory, Op, Parcel, Parts, ReadPart, ReadParts, Ref, Refs, RelNo, RelationPart,
+    RelationParts, Rels, Reply, Row, Sets, Site, Statements, Stmt, SureSink, Text, TmNo, Ts, Txn,
+    TxnNo, Value, class_for, fits, write_set, write_text,
+};
+pub use sdd_words::{
+    Token, Tokens, are_sound, is_free, next_line, number_in, put, put_count, put_value, put_values,
+    text_of, words_of,
+};

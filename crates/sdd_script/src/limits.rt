@@ -7,10 +7,9 @@ ghost use Rattle.sdd_script.specs.ClassLists.{one_more_class};
 ghost use Rattle.sdd_script.specs.LineRules.{one_more_row, written_with, statement_limits};
 
 use crate::fault::{Counts, LineError, WorkRule, must};
-use sdd_lang::Stmt;
-use sdd_lang::sdd_base::{
+use sdd_lang::{
     MAX_ASSIGNMENTS, MAX_CLASSES, MAX_CONDITIONS, MAX_OUTPUT_COLUMNS, MAX_ROWS, MAX_STATEMENTS,
-    MAX_USES,
+    MAX_USES, Stmt,
 };
 
 /// The most class lists of a workload.

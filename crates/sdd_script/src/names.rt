@@ -4,7 +4,7 @@ ghost use Rattle.std.specs.Str.{bytes_eq};
 ghost use Rattle.sdd_script.specs.Occurrences.{number_named};
 
 use indexmap::IndexSet;
-use sdd_lang::sdd_base::NoMemory;
+use sdd_lang::NoMemory;
 use std::alloc::Global;
 use std::marker::Model;
 

@@ -7,8 +7,7 @@ ghost use Rattle.sdd_script.specs.Rules.{rule_in};
 ghost use Rattle.sdd_script.specs.Naming.{name_of, relation_if, columns_of, key_of, name_of_relation, relation_named, relation_of, column_named, kind_of_place, name_of_fragment, fragment_named, name_of_class, class_names};
 
 use crate::fault::{LineError, WorkRule, refuse, require};
-use sdd_lang::sdd_base::{ClassNo, DmNo, FragNo, Name, RelNo};
-use sdd_lang::sdd_catalog::{Catalogue, Column, Kind, Relation};
+use sdd_lang::{Catalogue, ClassNo, Column, DmNo, FragNo, Kind, Name, RelNo, Relation};
 use sdd_words::{Token, read_name};
 use std::alloc::Global;
 

@@ -8,8 +8,7 @@ ghost use Rattle.sdd_words.specs.Words.{Plain};
 use crate::fault::{LineError, WorkRule, must, refuse, require};
 use crate::keyword::EventKey;
 use crate::names::Names;
-use sdd_lang::sdd_base::{DmNo, Event, MAX_PLACE, MAX_TICKS, Site, TmNo, TxnNo};
-use sdd_lang::sdd_catalog::Catalogue;
+use sdd_lang::{Catalogue, DmNo, Event, MAX_PLACE, MAX_TICKS, Site, TmNo, TxnNo};
 use sdd_words::{Token, Tokens, is_free, number_in, read_name};
 use std::alloc::Global;
 

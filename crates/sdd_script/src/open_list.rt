@@ -2,8 +2,7 @@ ghost use Rattle.std.specs.Prelude.{◌≡◌, ◌++◌, ◌∷◌, [], IfOk};
 ghost use Rattle.sdd_script.specs.OpenLists.{class_so_far, classes_in, no_classes, with_class, with_read, with_write, reads_in, writes_in, takes_reads, takes_writes};
 
 use crate::grown::Grown;
-use sdd_lang::sdd_base::{Name, NoMemory, TmNo};
-use sdd_lang::sdd_catalog::{ClassPart, ReadPart};
+use sdd_lang::{ClassPart, Name, NoMemory, ReadPart, TmNo};
 use std::alloc::Global;
 
 /// A class that further reads or writes may be said of.

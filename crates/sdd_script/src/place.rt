@@ -2,8 +2,7 @@ ghost use Rattle.std.specs.Prelude.{◌≡◌};
 ghost use Rattle.sdd_script.specs.Places.{takes_rows, takes_txns, takes_statements, takes_lists, takes_classes, takes_reads, takes_writes, takes_events, is_ended, open_list, reads_at, writes_at};
 
 use crate::open_list::{self, OpenList, no_classes, reads_in, writes_in};
-use sdd_lang::sdd_base::{Name, TmNo};
-use sdd_lang::sdd_catalog::ReadPart;
+use sdd_lang::{Name, ReadPart, TmNo};
 use std::alloc::Global;
 
 /// The name of a transaction and the module to which it is given.

@@ -9,9 +9,7 @@ use crate::columns::{read_column, read_conditions};
 use crate::fault::{LineError, WorkRule, must, refuse, require};
 use crate::few::keep_few;
 use crate::naming::part_of;
-use sdd_lang::sdd_base::{Listed, MAX_OUTPUT_COLUMNS, MAX_USES, NoMemory, RelNo};
-use sdd_lang::sdd_catalog::Catalogue;
-use sdd_lang::{Ref, Stmt};
+use sdd_lang::{Catalogue, Listed, MAX_OUTPUT_COLUMNS, MAX_USES, NoMemory, Ref, RelNo, Stmt};
 use sdd_words::{Comparisons, Token, Tokens, are_free, look_like_columns, read_comparisons};
 use std::alloc::Global;
 

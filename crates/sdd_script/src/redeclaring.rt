@@ -2,8 +2,7 @@
 ghost use Rattle.std.specs.Prelude.{◌≡◌, ◌==◌, count_by};
 ghost use Rattle.sdd_script.specs.Redeclaring.{is_redeclare, turned_by, is_down, some_down, may_redeclare, may_follow};
 
-use sdd_lang::sdd_base::Event;
-use sdd_lang::sdd_catalog::Catalogue;
+use sdd_lang::{Catalogue, Event};
 
 fn is_redeclare(event: Event) -> bool
     ensures { result ≡ is_redeclare event }

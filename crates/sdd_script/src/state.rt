@@ -1,9 +1,7 @@
 use crate::grown::Grown;
 use crate::names::Names;
 use crate::place::Place;
-use sdd_lang::sdd_base::{Event, RelNo, Row, TxnNo};
-use sdd_lang::sdd_catalog::ClassParts;
-use sdd_lang::{Stmt, Txn};
+use sdd_lang::{ClassParts, Event, RelNo, Row, Stmt, Txn, TxnNo};
 
 /// What the lines so far have said.
 #[derive(Drop)]

@@ -11,8 +11,7 @@ use crate::keyword::StatementKey;
 use crate::queries::read_query;
 use crate::updates::read_update;
 use crate::values::read_row;
-use sdd_lang::Stmt;
-use sdd_lang::sdd_catalog::Catalogue;
+use sdd_lang::{Catalogue, Stmt};
 use sdd_words::{Tokens, are_free, is_free};
 use std::alloc::Global;
 

@@ -11,9 +11,7 @@ use crate::few::keep_few;
 use crate::found::Found;
 use crate::naming::{key_of, part_of};
 use crate::values::{is_of_kind, read_value};
-use sdd_lang::sdd_base::{Listed, MAX_ASSIGNMENTS, RelNo};
-use sdd_lang::sdd_catalog::{Catalogue, Kind};
-use sdd_lang::{Assign, Stmt};
+use sdd_lang::{Assign, Catalogue, Kind, Listed, MAX_ASSIGNMENTS, RelNo, Stmt};
 use sdd_words::{
     Comparisons, Setting, Settings, Token, Tokens, has_key, is_free, number_in, read_comparisons,
     read_settings,

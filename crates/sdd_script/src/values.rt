@@ -11,8 +11,7 @@ ghost use Rattle.sdd_script.specs.Values.{is_of_kind, value_of, values_of, row_o
 use crate::fault::{LineError, WorkRule, must, require};
 use crate::few::keep_few;
 use crate::naming::{columns_of, kind_of_place, relation_of};
-use sdd_lang::sdd_base::{Listed, NoMemory, RelNo, Row, Text, Value};
-use sdd_lang::sdd_catalog::{Catalogue, Column, Kind};
+use sdd_lang::{Catalogue, Column, Kind, Listed, NoMemory, RelNo, Row, Text, Value};
 use sdd_words::{Token, Tokens, is_text, number_in, text_of};
 use std::alloc::Global;
 

@@ -13,8 +13,7 @@ use crate::place::Place;
 use crate::reader::read_line;
 use crate::state::State;
 use crate::workload::Workload;
-use sdd_lang::sdd_base::MAX_WORKLOAD_BYTES;
-use sdd_lang::sdd_catalog::Catalogue;
+use sdd_lang::{Catalogue, MAX_WORKLOAD_BYTES};
 use sdd_words::{next_line, text_of};
 use std::alloc::Global;
 

@@ -12,9 +12,10 @@ use crate::write_words::{
     put_assigns, put_columns, put_conditions, put_count_word, put_plain, put_relation,
     put_relations, put_row, put_site,
 };
-use sdd_lang::sdd_base::{DmNo, Event, NoMemory, RelNo, Row, Site, TmNo, Value};
-use sdd_lang::sdd_catalog::Catalogue;
-use sdd_lang::{Assign, Condition, Ref, Stmt, Txn};
+use sdd_lang::{
+    Assign, Catalogue, Condition, DmNo, Event, NoMemory, Ref, RelNo, Row, Site, Stmt, TmNo, Txn,
+    Value,
+};
 use sdd_words::put;
 use std::alloc::Global;
 

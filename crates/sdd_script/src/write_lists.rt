@@ -4,8 +4,7 @@ ghost use Rattle.sdd_lang.specs.All.{ReadPart};
 ghost use Rattle.sdd_script.specs.Spelling.{ended, class_words, reads_words, writes_words, class_bytes, list_bytes};
 
 use crate::write_words::put_plain;
-use sdd_lang::sdd_base::{Name, NoMemory};
-use sdd_lang::sdd_catalog::{ClassPart, ClassParts, ReadPart};
+use sdd_lang::{ClassPart, ClassParts, Name, NoMemory, ReadPart};
 use sdd_words::{put, put_count};
 
 fn put_class_header(out: &mut Vec<u8>, class: &ClassPart) -> Result<(), NoMemory>

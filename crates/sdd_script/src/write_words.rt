@@ -10,9 +10,7 @@ ghost use Rattle.sdd_words.specs.Words.{word_bytes, more_bytes, spaced, Plain};
 ghost use Rattle.sdd_script.specs.Spelling.{relation_word, row_words, name_of_column, column_word, condition_words, conditions_words, where_words, own_column, assign_words, sets_words, site_word, count_word};
 
 use crate::naming::{columns_of, name_of_relation};
-use sdd_lang::sdd_base::{NoMemory, Op, RelNo, Site, Value};
-use sdd_lang::sdd_catalog::{Catalogue, Column};
-use sdd_lang::{Assign, Condition, Ref};
+use sdd_lang::{Assign, Catalogue, Column, Condition, NoMemory, Op, Ref, RelNo, Site, Value};
 use sdd_words::{put, put_count, put_number, put_value, put_values};
 
 /// Puts a space and a plain word.

@@ -1,29 +1,18 @@
-ghost use Rattle.std.specs.Prelude.{◌≡◌, ◌<◌, ◌^◌, [], ◌∷◌, length, filter, option_map};
+ghost use Rattle.std.specs.Prelude.{◌≡◌, ◌<◌, ◌^◌, [], ◌∷◌, length, filter};
 ghost use Rattle.std.specs.List.{list_any};
-ghost use Rattle.sdd_semijoin.specs.Choosing.{asked_of, moves_from, fewer, best_after};
-ghost use Rattle.sdd_semijoin.specs.Steps.{rows_at, same_step, is_candidate, next_move, next_step};
+ghost use Rattle.sdd_semijoin.specs.Choosing.{moves_from, fewer, best_after};
+ghost use Rattle.sdd_semijoin.specs.Steps.{rows_at, same_step, is_candidate, next_move};
 
 use crate::moves::Move;
 use crate::step::Step;
-use sdd_lang::{Condition, Ref, Stmt};
+use sdd_lang::{Condition, Ref};
 
-/// The next reducer step of a query whose uses have these numbers of rows, once these steps are
-/// done: a step whose source has fewer rows than its target, and of such steps the first with the
-/// fewest source rows. None exactly where there is no such step, and where the statement is no
-/// query.
+/// The next reducer move of a query with these conditions, whose uses have these numbers of rows,
+/// once these steps are done: a step whose source has fewer rows than its target, and of such steps
+/// the first with the fewest source rows; with the columns that give the values and are reduced.
+/// None exactly where there is no such step.
 ///
 /// Costs time in the conditions times the steps that are done. Takes no memory.
-pub fn next_step(query: &Stmt, counts: &[u128], done: &[Step]) -> Option<Step>
-    requires { length (asked_of query.now) < 2 ^ 32 }
-    ensures { result ≡ next_step (asked_of query.now) counts.now done.now }
-{
-    match query {
-        Stmt::Query { conds, .. } => step_of(next_move(conds.as_slice(), counts, done)),
-        _ => step_of(next_move(&[], counts, done)),
-    }
-}
-
-/// The same as a move, with the columns that give the values and are reduced.
 pub fn next_move(conds: &[Condition], counts: &[u128], done: &[Step]) -> Option<Move>
     requires { length conds.now < 2 ^ 32 }
     ensures { result ≡ next_move conds.now counts.now done.now }
@@ -35,12 +24,6 @@ pub fn next_move(conds: &[Condition], counts: &[u128], done: &[Step]) -> Option<
         best = with_condition(best, number, cond, counts, done);
     }
     best
-}
-
-fn step_of(chosen: Option<Move>) -> Option<Step>
-    ensures { result ≡ option_map (λ m. m.step) chosen }
-{
-    chosen.map(|one| one.step())
 }
 
 /// The better of the best move so far and those of a condition.

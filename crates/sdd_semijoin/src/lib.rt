@@ -8,6 +8,6 @@ mod choice;
 mod moves;
 mod step;
 
-pub use choice::{next_move, next_step};
+pub use choice::next_move;
 pub use moves::Move;
 pub use step::{Step, Steps};

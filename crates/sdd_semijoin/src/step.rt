@@ -1,7 +1,7 @@
 ghost use Rattle.std.specs.Prelude.{◌≡◌};
 ghost use Rattle.sdd_semijoin.specs.Steps.{same_step};
 
-use sdd_lang::sdd_base::Listed;
+use sdd_lang::Listed;
 
 /// A reducer step of a query, by one of its conditions that is an equality between columns of two
 /// uses.

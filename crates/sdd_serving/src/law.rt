@@ -11,8 +11,7 @@ ghost use Rattle.sdd_serving.specs.Freezing.{asked_at, frozen_space, HasCopies};
 ghost use Rattle.sdd_serving.specs.Reducing.{Space, all_held};
 ghost use Rattle.sdd_serving.specs.Runs.{Stage, Runs};
 
-use sdd_laws::sdd_catalog::Catalogue;
-use sdd_laws::sdd_lang::Txn;
+use sdd_laws::{Catalogue, Txn};
 
 /// What the modules of an attempt hold serves the database that has the copies which they froze,
 /// however far a run of the exchange has come.

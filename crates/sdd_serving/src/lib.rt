@@ -8,7 +8,5 @@
 #![tactic(auto)]
 
 mod law;
-mod moves;
 
 pub use law::{law_arrival, law_exchange_follows, law_exchange_serves, law_shipped_effect};
-pub use moves::{may_reduce, names_use, source_of};

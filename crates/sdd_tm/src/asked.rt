@@ -1,4 +1,4 @@
-use sdd_attempt::sdd_base::{Site, Ts};
+use sdd_attempt::{Site, Ts};
 
 /// An ASK that has no NULL yet, as its class keeps it.
 #[derive(Clone, Copy)]

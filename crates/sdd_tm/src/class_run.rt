@@ -8,13 +8,10 @@ ghost use Rattle.sdd_tm.specs.declared.step.Step.TheVariants.{Commit, Start};
 
 use crate::asked::Asked;
 use crate::step::Step;
-use sdd_attempt::sdd_base::{ClassNo, Clock, NoMemory, Site, TmNo, Ts, TxnNo};
-use sdd_attempt::sdd_catalog::Catalogue;
-use sdd_attempt::sdd_lang::Txn;
-use sdd_attempt::sdd_module::Draft;
-use sdd_attempt::sdd_protocol::Table;
-use sdd_attempt::sdd_wire::Msg;
-use sdd_attempt::{Line, LineStep, Standing};
+use sdd_attempt::{
+    Catalogue, ClassNo, Clock, Draft, Line, LineStep, Msg, NoMemory, Site, Standing, Table, TmNo,
+    Ts, Txn, TxnNo,
+};
 use std::alloc::Global;
 use std::collections::VecDeque;
 use std::marker::Model;

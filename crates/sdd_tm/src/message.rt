@@ -2,8 +2,7 @@
 ghost use Rattle.std.specs.Prelude.{◌≡◌};
 ghost use Rattle.sdd_tm.specs.Handing as messages;
 
-use sdd_attempt::sdd_base::{ClassNo, Ts};
-use sdd_attempt::sdd_wire::Msg;
+use sdd_attempt::{ClassNo, Msg, Ts};
 
 /// The time by which a message pushes the clock.
 pub(crate) fn push_of(msg: &Msg) -> Ts

@@ -1,6 +1,6 @@
 ghost use Rattle.std.specs.Prelude.{◌≡◌, ◌≤◌, ◌<◌, ◌+◌, ◌/◌, ◌^◌, ℕ, map, length, slice_get, ◌==◌, IfOk, IfSome, OnOk, Some, None};
 ghost use Rattle.std.specs.List.{list_all};
-ghost use Rattle.sdd_attempt.specs.All.{AreTried, Bases, FitsTxn, IsAwaited, IsDatabase, Log, ServesAt, Setting, bound_of, class_for, nothing_noted, pushed, standing_among, ticked, with_due_act};
+ghost use Rattle.sdd_attempt.specs.All.{AreTried, Bases, IsAwaited, IsDatabase, Log, ServesAt, Setting, bound_of, nothing_noted, pushed, standing_among, ticked, with_due_act};
 ghost use Rattle.sdd_tm.specs.Fits.{fits, FitsSubmit};
 ghost use Rattle.sdd_tm.specs.Handing.{push_of, with_hold_message, class_handed, state_handed, state_given, class_named, place_of, one_place, all_places, touched};
 ghost use Rattle.sdd_tm.specs.State.{ClassState};
@@ -13,13 +13,9 @@ use crate::class_run::{ClassRun, first_classes};
 use crate::message::{class_named, push_of};
 use crate::places::Places;
 use crate::step::Step;
-use sdd_attempt::Standing;
-use sdd_attempt::sdd_base::{ClassNo, Clock, NoMemory, Site, TmNo, Ts, TxnNo};
-use sdd_attempt::sdd_catalog::Catalogue;
-use sdd_attempt::sdd_lang::{Txn, class_for};
-use sdd_attempt::sdd_module::Draft;
-use sdd_attempt::sdd_protocol::Table;
-use sdd_attempt::sdd_wire::Msg;
+use sdd_attempt::{
+    Catalogue, ClassNo, Clock, Draft, Msg, NoMemory, Site, Standing, Table, TmNo, Ts, Txn, TxnNo,
+};
 use std::alloc::Global;
 use std::marker::Model;
 
@@ -265,14 +261,6 @@ impl<'a> Parts<'a> {
             },
             _ => Places { from: 0, end: 0 },
         }
-    }
-
-    /// The class in which a transaction runs by the list in force.
-    pub(crate) fn class_for(&self, txn: &Txn) -> ClassNo
-        requires { FitsTxn self.now.era.catalogue txn.now }
-        ensures { result.0 ≡ class_for self.now.era.catalogue txn.now }
-    {
-        class_for(self.catalogue, txn)
     }
 
     /// Puts a transaction at the end of the queue of a class, and returns the place of that class.

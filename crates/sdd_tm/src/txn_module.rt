@@ -9,14 +9,10 @@ ghost use Rattle.sdd_tm.specs.Represents.{Represents};
 
 use crate::class_run::ClassRun;
 use crate::parts::Parts;
-use sdd_attempt::Standing;
-use sdd_attempt::sdd_base::{ClassNo, NoMemory, Site, TmNo, Ts, TxnNo};
-use sdd_attempt::sdd_catalog::Catalogue;
-use sdd_attempt::sdd_history::Rec;
-use sdd_attempt::sdd_lang::Txn;
-use sdd_attempt::sdd_module::Module;
-use sdd_attempt::sdd_protocol::Table;
-use sdd_attempt::sdd_wire::{Msg, Outcome};
+use sdd_attempt::{
+    Catalogue, ClassNo, Module, Msg, NoMemory, Outcome, Rec, Site, Standing, Table, TmNo, Ts, Txn,
+    TxnNo,
+};
 use std::alloc::Global;
 use std::marker::Model;
 
@@ -90,26 +86,9 @@ impl<'a> TxnModule<'a> {
         self.parts.standing(number)
     }
 
-    /// Takes a new transaction, and then makes each act that is due, one after the other, until
-    /// none is: it returns what these send and record, after the record of the submission. Out
-    /// of memory it takes nothing more. Costs, before these acts, what `class_for` does.
-    pub fn submit(&mut self, number: TxnNo, txn: &Txn) -> Result<Outcome, NoMemory>
-        requires lives { IsTrue self.old.live }
-        requires represents { (setting : Setting) × (bases : Bases) × (log : Log)
-            × Represents self.old setting log × FitsSubmit setting bases log number.0 txn.now }
-        ensures law { IfOk result (λ outcome. (setting : Setting) (bases : Bases) (log : Log)
-            → Represents self.old setting log → FitsSubmit setting bases log number.0 txn.now
-            → (recs : List Record) × (outcome.recs ≡ Submit number ∷ recs)
-            × Does (next setting bases) (Submits number.0 txn.now ∷ log) recs outcome.out
-            (Represents self.new setting)) }
-        ensures lives_on { IfOk result (λ _. IsTrue self.new.live) }
-        ensures dies { OnErr result (¬ IsTrue self.new.live) }
-    {
-        let class = self.parts.class_for(txn);
-        self.submit_in_class(number, txn, class)
-    }
-
-    /// The same for a transaction whose class by the list in force is known.
+    /// Takes a new transaction, whose class by the list in force is given, and then makes each act
+    /// that is due, one after the other, until none is: it returns what these send and record,
+    /// after the record of the submission. Out of memory it takes nothing more.
     pub fn submit_in_class(
         &mut self,
         number: TxnNo,

@@ -18,12 +18,10 @@ use crate::tm_count::{
     Sign, TmCount, all_hold, all_missing, any_asked_to_hold, any_on_hold, count, first_free,
     first_missing, first_on_hold,
 };
-use sdd_attempt::sdd_base::{ClassNo, Clock, NoMemory, Site, TmNo, Ts, TxnNo};
-use sdd_attempt::sdd_catalog::Catalogue;
-use sdd_attempt::sdd_lang::Txn;
-use sdd_attempt::sdd_module::Draft;
-use sdd_attempt::sdd_wire::Msg;
-use sdd_attempt::{Line, LineStep, Standing};
+use sdd_attempt::{
+    Catalogue, ClassNo, Clock, Draft, Line, LineStep, Msg, NoMemory, Site, Standing, TmNo, Ts, Txn,
+    TxnNo,
+};
 use std::alloc::Global;
 use std::marker::Model;
 

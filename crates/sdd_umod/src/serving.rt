@@ -3,7 +3,7 @@ ghost use Rattle.sdd_umod.specs.Handing.{done_after_message};
 ghost use Rattle.sdd_umod.specs.Steps.{committed, is_applied, turn};
 ghost use Rattle.sdd_umod.specs.Works.{nothing_served};
 
-use sdd_attempt::sdd_base::Ts;
+use sdd_attempt::Ts;
 use std::marker::Model;
 
 /// How many attempts committed, the timestamp of the last, and how many data modules said that

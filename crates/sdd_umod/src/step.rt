@@ -1,4 +1,4 @@
-use sdd_attempt::sdd_base::TmNo;
+use sdd_attempt::TmNo;
 
 /// What the module does next by itself.
 #[derive(Clone, Copy)]

@@ -4,7 +4,7 @@ ghost use Rattle.sdd_umod.specs.Steps.{counted, is_free, is_holding, is_kept_on_
 ghost use Rattle.sdd_umod.specs.Standing.{is_asked_to_hold, lacks_held, unheld_by};
 ghost use Rattle.sdd_umod.specs.Works.{no_counts, HasRoom, HaveRoom};
 
-use sdd_attempt::sdd_base::{NoMemory, TmNo};
+use sdd_attempt::{NoMemory, TmNo};
 use std::alloc::Global;
 use std::marker::Model;
 

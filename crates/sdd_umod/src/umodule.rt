@@ -9,13 +9,9 @@ ghost use Rattle.sdd_umod.specs.Represents.{Represents};
 ghost use Rattle.sdd_umod.specs.Steps.{is_kept_on_hold, turn};
 
 use crate::parts::Parts;
-use sdd_attempt::sdd_base::{NoMemory, Site, TmNo, Ts, TxnNo};
-use sdd_attempt::sdd_catalog::Catalogue;
-use sdd_attempt::sdd_history::Rec;
-use sdd_attempt::sdd_lang::Txn;
-use sdd_attempt::sdd_module::Module;
-use sdd_attempt::sdd_wire::{Msg, Outcome};
-use sdd_attempt::{Line, Standing};
+use sdd_attempt::{
+    Catalogue, Line, Module, Msg, NoMemory, Outcome, Rec, Site, Standing, TmNo, Ts, Txn, TxnNo,
+};
 use std::alloc::Global;
 use std::marker::Model;
 

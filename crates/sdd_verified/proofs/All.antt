@@ -1,6 +1,6 @@
 -- The names of std, of the crates below and of this crate's definitions that its proofs cite. Declares nothing.
 pub use Rattle.sdd_acyclic.proofs.EachTable.{each_table}
-pub use Rattle.sdd_obligations.proofs.Done.{count_join, done}
+pub use Rattle.sdd_obligations.proofs.needs.Done.{count_join, done}
 pub use Rattle.sdd_obligations.proofs.Linking.{lawful_part as lawful_before}
 pub use Rattle.sdd_obligations.proofs.base.Membership.{Contains-cases, Contains-here, Contains-later, Contains-nil}
 pub use Rattle.sdd_obligations.proofs.invariants.Bools.{neither_left, neither_right}
@@ -68,59 +68,59 @@ pub use Rattle.sdd_verify.specs.Replies.{replies, serial_replies}
 pub use Rattle.sdd_verify.specs.Submitted.{submitted, submitted_by, texts_of, txn_of}
 pub use Rattle.sdd_verify.specs.Verified.{IsInTurn, IsVerified, at}
 pub use Rattle.sdd_verify.specs.declared.limits.TheConstants.{MAX_REPORT_BYTES}
-pub use Rattle.sdd_watch.proofs.run.ErasWithTables.{list_at as list_at_number}
-pub use Rattle.sdd_watch.proofs.run.Goods.{few_ticks}
-pub use Rattle.sdd_watch.proofs.run.Left.{copy_rows_are}
-pub use Rattle.sdd_watch.proofs.run.Lossless.{listed_submits}
-pub use Rattle.sdd_watch.proofs.run.Marked.{named as named_by_events}
-pub use Rattle.sdd_watch.proofs.run.Ordered.{orderable, starts}
-pub use Rattle.sdd_watch.proofs.run.Reported.{reported}
-pub use Rattle.sdd_watch.proofs.run.RunOf.{eras_are, few_lists, fine, lists, permitted}
-pub use Rattle.sdd_watch.proofs.run.Settled.{quiet_behind, settled}
-pub use Rattle.sdd_watch.proofs.run.Submissions.{once}
-pub use Rattle.sdd_watch.proofs.run.class_lists.OtherClasses.{whole_over}
-pub use Rattle.sdd_watch.proofs.run.class_lists.WholeSound.{whole_named, whole_sound}
-pub use Rattle.sdd_watch.proofs.run.make.ValidEvents.{txns_count}
-pub use Rattle.sdd_watch.proofs.run.make.ValidWorkloads.{workload_valid}
-pub use Rattle.sdd_watch.proofs.run.progress.Ends.{run_ends}
-pub use Rattle.sdd_watch.proofs.run.progress.ErasOf.{index_or}
-pub use Rattle.sdd_watch.proofs.run.progress.Marked.{next_is_of_events}
-pub use Rattle.sdd_watch.proofs.run.progress.lawful.Applies.{keeps_applies}
-pub use Rattle.sdd_watch.proofs.run.progress.lawful.Effects.{keeps_answers}
-pub use Rattle.sdd_watch.proofs.run.progress.lawful.Places.{place_rises, recorded_there}
-pub use Rattle.sdd_watch.proofs.run.progress.lawful.Starts.{event_of_submit, keeps_starts}
-pub use Rattle.sdd_watch.proofs.run.progress.lawful.Submissions.{given_at, submit_in}
-pub use Rattle.sdd_watch.proofs.run.script.EventLaws.{plain_space as plain_spaceless}
-pub use Rattle.sdd_watch.proofs.run.script.NamePlaces.{place_of_name}
-pub use Rattle.sdd_watch.proofs.run.script.WordLooks.{name_fine, no_newline-append, value_fine}
-pub use Rattle.sdd_watch.specs.run.ComesBefore.{ComesBefore, IsSubmittedBefore}
-pub use Rattle.sdd_watch.specs.run.Reports.{report_of}
-pub use Rattle.sdd_watch.specs.run.Runs.{EndsAtLimit, IsReportOn, IsSummaryOn, input_of, order_of}
-pub use Rattle.sdd_watch.specs.run.Settled.{EndsQuiet, NoneIsDown}
-pub use Rattle.sdd_watch.specs.run.class_lists.InForce.{classes_in, eras_in, whole_in}
-pub use Rattle.sdd_watch.specs.run.make.Bank.{bank}
-pub use Rattle.sdd_watch.specs.run.make.Draws.{draw, shown}
-pub use Rattle.sdd_watch.specs.run.make.Summary.{is_commit, summary_of}
-pub use Rattle.sdd_watch.specs.run.make.Turns.{deliveries, delivery, drawn_events, drawn_txn, events_of, turn, turns, turns_of, txns_of, workload_of}
-pub use Rattle.sdd_watch.specs.run.progress.Committed.{AllCommitted}
-pub use Rattle.sdd_watch.specs.run.progress.Eras.{eras_of}
-pub use Rattle.sdd_watch.specs.run.progress.lawful.SoundInput.{AreErasOf, HasSoundData}
-pub use Rattle.sdd_watch.specs.run.report.Committed.{ReportedCommit, names_of, order_line, reported_of, shipped_line, shipped_of}
-pub use Rattle.sdd_watch.specs.run.report.Copies.{copies_lines, copy_lines, place_words}
-pub use Rattle.sdd_watch.specs.run.report.Names.{attempt_word, class_time, class_word, fragment_name, module_word, site_word, spaced, txn_name}
-pub use Rattle.sdd_watch.specs.run.report.Pending.{pending_line, pending_lines, why_words}
-pub use Rattle.sdd_watch.specs.run.report.Replies.{queries_from, query_lines, replies_along, reply_lines, row_line, value_bytes}
-pub use Rattle.sdd_watch.specs.run.report.Report.{Report, after_replies, report_text}
-pub use Rattle.sdd_watch.specs.run.report.Trace.{cond_words, of_attempt, of_visit, record_words, time_word, trace}
-pub use Rattle.sdd_watch.specs.run.report.declared.copies.CopyTable.{CopyTable}
-pub use Rattle.sdd_watch.specs.run.report.declared.pending.Pending.{Pending}
-pub use Rattle.sdd_watch.specs.run.report.declared.pending.Why.{Why}
-pub use Rattle.sdd_watch.specs.run.report.declared.pending.Why.TheVariants.{Queued, Underway, Waits}
-pub use Rattle.sdd_watch.specs.run.script.Valid.{AssignsValue, HoldsValues, IsValid, IsValidEvent, IsValidRow, IsValidTxn, IsValue}
-pub use Rattle.sdd_watch.specs.run.script.declared.workload.Workload.{Workload}
-pub use Rattle.sdd_watch.specs.run.world.AtSites.{standing_at}
-pub use Rattle.sdd_watch.specs.run.world.Copies.{tables_of}
-pub use Rattle.sdd_watch.specs.run.world.Standings.{standing_at_t, standing_at_u}
+pub use Rattle.sdd_run.proofs.ErasWithTables.{list_at as list_at_number}
+pub use Rattle.sdd_run.proofs.Goods.{few_ticks}
+pub use Rattle.sdd_run.proofs.Left.{copy_rows_are}
+pub use Rattle.sdd_run.proofs.Lossless.{listed_submits}
+pub use Rattle.sdd_run.proofs.Marked.{named as named_by_events}
+pub use Rattle.sdd_run.proofs.Ordered.{orderable, starts}
+pub use Rattle.sdd_run.proofs.Reported.{reported}
+pub use Rattle.sdd_run.proofs.RunOf.{eras_are, few_lists, fine, lists, permitted}
+pub use Rattle.sdd_run.proofs.Settled.{quiet_behind, settled}
+pub use Rattle.sdd_run.proofs.Submissions.{once}
+pub use Rattle.sdd_run.proofs.class_lists.OtherClasses.{whole_over}
+pub use Rattle.sdd_run.proofs.class_lists.WholeSound.{whole_named, whole_sound}
+pub use Rattle.sdd_run.proofs.make.ValidEvents.{txns_count}
+pub use Rattle.sdd_run.proofs.make.ValidWorkloads.{workload_valid}
+pub use Rattle.sdd_run.proofs.progress.Ends.{run_ends}
+pub use Rattle.sdd_run.proofs.progress.ErasOf.{index_or}
+pub use Rattle.sdd_run.proofs.progress.Marked.{next_is_of_events}
+pub use Rattle.sdd_run.proofs.progress.lawful.Applies.{keeps_applies}
+pub use Rattle.sdd_run.proofs.progress.lawful.Effects.{keeps_answers}
+pub use Rattle.sdd_run.proofs.progress.lawful.Places.{place_rises, recorded_there}
+pub use Rattle.sdd_run.proofs.progress.lawful.Starts.{event_of_submit, keeps_starts}
+pub use Rattle.sdd_run.proofs.progress.lawful.Submissions.{given_at, submit_in}
+pub use Rattle.sdd_run.proofs.script.EventLaws.{plain_space as plain_spaceless}
+pub use Rattle.sdd_run.proofs.script.NamePlaces.{place_of_name}
+pub use Rattle.sdd_run.proofs.script.WordLooks.{name_fine, no_newline-append, value_fine}
+pub use Rattle.sdd_run.specs.ComesBefore.{ComesBefore, IsSubmittedBefore}
+pub use Rattle.sdd_run.specs.Reports.{report_of}
+pub use Rattle.sdd_run.specs.Runs.{EndsAtLimit, IsReportOn, IsSummaryOn, input_of, order_of}
+pub use Rattle.sdd_run.specs.Settled.{EndsQuiet, NoneIsDown}
+pub use Rattle.sdd_run.specs.class_lists.InForce.{classes_in, eras_in, whole_in}
+pub use Rattle.sdd_run.specs.make.Bank.{bank}
+pub use Rattle.sdd_run.specs.make.Draws.{draw, shown}
+pub use Rattle.sdd_run.specs.make.Summary.{is_commit, summary_of}
+pub use Rattle.sdd_run.specs.make.Turns.{deliveries, delivery, drawn_events, drawn_txn, events_of, turn, turns, turns_of, txns_of, workload_of}
+pub use Rattle.sdd_run.specs.progress.Committed.{AllCommitted}
+pub use Rattle.sdd_run.specs.progress.Eras.{eras_of}
+pub use Rattle.sdd_run.specs.progress.lawful.SoundInput.{AreErasOf, HasSoundData}
+pub use Rattle.sdd_run.specs.report.Committed.{ReportedCommit, names_of, order_line, reported_of, shipped_line, shipped_of}
+pub use Rattle.sdd_run.specs.report.Copies.{copies_lines, copy_lines, place_words}
+pub use Rattle.sdd_run.specs.report.Names.{attempt_word, class_time, class_word, fragment_name, module_word, site_word, spaced, txn_name}
+pub use Rattle.sdd_run.specs.report.Pending.{pending_line, pending_lines, why_words}
+pub use Rattle.sdd_run.specs.report.Replies.{queries_from, query_lines, replies_along, reply_lines, row_line, value_bytes}
+pub use Rattle.sdd_run.specs.report.Report.{Report, after_replies, report_text}
+pub use Rattle.sdd_run.specs.report.Trace.{cond_words, of_attempt, of_visit, record_words, time_word, trace}
+pub use Rattle.sdd_run.specs.report.declared.copies.CopyTable.{CopyTable}
+pub use Rattle.sdd_run.specs.report.declared.pending.Pending.{Pending}
+pub use Rattle.sdd_run.specs.report.declared.pending.Why.{Why}
+pub use Rattle.sdd_run.specs.report.declared.pending.Why.TheVariants.{Queued, Underway, Waits}
+pub use Rattle.sdd_run.specs.script.Valid.{AssignsValue, HoldsValues, IsValid, IsValidEvent, IsValidRow, IsValidTxn, IsValue}
+pub use Rattle.sdd_run.specs.script.declared.workload.Workload.{Workload}
+pub use Rattle.sdd_run.specs.world.AtSites.{standing_at}
+pub use Rattle.sdd_run.specs.world.Copies.{tables_of}
+pub use Rattle.sdd_run.specs.world.Standings.{standing_at_t, standing_at_u}
 pub use Rattle.sdd_words.proofs.Spelled.{cut_again}
 pub use Rattle.sdd_words.proofs.Splits.{scan_again}
 pub use Rattle.sdd_words.specs.Lines.{AreLines, HasNoNewline, cut_lines, spelled_lines}

@@ -4,7 +4,7 @@ use Rattle.sdd_verified.proofs.AllCounted.{all_counted}
 use Rattle.sdd_verified.proofs.EachMarked.{each_submitted}
 use Rattle.sdd_verified.proofs.NoneDown.{are_up, none_down}
 use Rattle.sdd_verified.proofs.Submitting.{is_in_schedule}
-use Rattle.sdd_watch.proofs.run.Ordered.{serial}
+use Rattle.sdd_run.proofs.Ordered.{serial}
 
 module _ (cat : Catalogue) (work : Workload) (text : List ℕ) (sound : IsSoundCatalogue (whole_in cat work)) (valid : IsValid cat work)
     (all : SettleAll (length work.txns) work.events) (r : IsSummaryOn cat work text) where

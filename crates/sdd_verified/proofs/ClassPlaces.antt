@@ -2,7 +2,7 @@
 -- after the `redeclare`s before the event that submits it.
 use Rattle.sdd_verified.proofs.All.{All, All-head, All-tail, Catalogue, Event, IsValidEvent, List, None, Option, Some, Txn, [], ap, arith, class_for, classes_from, cond, eq-eqb, length, ne_eqb, one_if, redeclared, redeclares_in, refl, slice_get, slice_index_or, some_is, submits_in, submitted_by, suc, ℕ, ◌++◌, ◌+◌, ◌-◌, ◌==◌, ◌∙◌, ◌∷◌, ◌≡◌, ◌≤◌}
 use Rattle.sdd_verified.proofs.Numbered.{Submits, counted, counted_by, number_by, number_in, some_place, submits}
-use Rattle.sdd_watch.specs.run.script.Valid as scripts
+use Rattle.sdd_run.specs.script.Valid as scripts
 
 -- how many `redeclare`s stand before the event that submits transaction n, where so many stand before the events
 

@@ -7,7 +7,6 @@ pub mod CleanWords
 pub mod EachMarked
 pub mod FirstLines
 pub mod GivenValues
-pub mod HasReport
 pub mod ListAt
 pub mod MadeSettles
 pub mod Moved
@@ -25,9 +24,9 @@ pub mod Reported
 pub mod SpelledParts
 pub mod Submitting
 pub mod ValuesKept
-pub use Rattle.sdd_watch.proofs.run.script as script
-pub use Rattle.sdd_watch.proofs.run.report as report
-pub use Rattle.sdd_verify.proofs as verify
-pub use Rattle.sdd_watch.proofs.run.make as make
-pub use Rattle.sdd_watch.proofs.run.world as world
-pub use Rattle.sdd_watch.proofs as watch
+pub use Rattle.sdd_run.proofs.script as script
+pub use Rattle.sdd_run.proofs.report as report
+pub use Rattle.sdd_verify.proofs as verifying
+pub use Rattle.sdd_run.proofs.make as make
+pub use Rattle.sdd_run.proofs.world as world
+pub use Rattle.sdd_run.proofs as run

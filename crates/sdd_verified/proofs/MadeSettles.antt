@@ -3,7 +3,7 @@ use Rattle.sdd_verified.proofs.All.{Event, IsSoundCatalogue, IsSummaryOn, List, 
 use Rattle.sdd_obligations.specs.catalog.Rules.{faults_of}
 use Rattle.sdd_verified.proofs.AllSummed.{all_summed}
 use Rattle.sdd_verified.proofs.Submitting.{submits_append as submits_both}
-use Rattle.sdd_watch.specs.run.make.Draws.{next}
+use Rattle.sdd_run.specs.make.Draws.{next}
 
 -- each transaction is submitted in its turn
 submits_own : (n k rest : ℕ) → k ≡ n → 1 ≤ one_if (k == n) + rest

@@ -1,6 +1,6 @@
 -- The submitted transactions of a schedule, by their places in the order of submission, counted from 1.
 use Rattle.sdd_verified.proofs.All.{All, All-head, All-tail, Catalogue, Event, IsValidEvent, List, MatchOption, None, Option, Some, Submit, Txn, [], ap, arith, cases_eq, cond, eq-eqb, false, filter_map, inl, inr, length, member_at, ne_eqb, one_if, refl, slice_get, submits_by, submits_in, submitted_by, subst, suc, sym, true, zero, ℕ, ◌++◌, ◌+◌, ◌-◌, ◌<◌, ◌==◌, ◌∙◌, ◌∷◌, ◌≡◌, ◌≤◌}
-use Rattle.sdd_watch.specs.run.script.Valid as scripts
+use Rattle.sdd_run.specs.script.Valid as scripts
 
 -- the place of transaction n, by what an event submits and its place after the event
 abbrev pub number_by : Option ℕ → ℕ → ℕ → ℕ

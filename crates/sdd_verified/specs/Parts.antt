@@ -3,13 +3,13 @@ use Rattle.std.specs.Prelude.{ℕ, ◌+◌, List, [], ◌∷◌, ◌++◌, codes
 use Rattle.std.specs.Fmt.{decimal}
 use Rattle.sdd_obligations.specs.All.{Catalogue, Rec, Reply, Row, Txn, TxnNo}
 use Rattle.sdd_obligations.specs.base.declared.reply.Reply.TheVariants.{Rows, Overflow, TooMany}
-use Rattle.sdd_watch.specs.run.report.Committed.{ReportedCommit, reported_of}
-use Rattle.sdd_watch.specs.run.report.Copies.{place_words}
-use Rattle.sdd_watch.specs.run.report.Names.{spaced, txn_name}
-use Rattle.sdd_watch.specs.run.report.Pending.{why_words}
-use Rattle.sdd_watch.specs.run.report.Replies.{value_bytes}
-use Rattle.sdd_watch.specs.run.report.declared.copies.CopyTable.{CopyTable}
-use Rattle.sdd_watch.specs.run.report.declared.pending.Pending.{Pending}
+use Rattle.sdd_run.specs.report.Committed.{ReportedCommit, reported_of}
+use Rattle.sdd_run.specs.report.Copies.{place_words}
+use Rattle.sdd_run.specs.report.Names.{spaced, txn_name}
+use Rattle.sdd_run.specs.report.Pending.{why_words}
+use Rattle.sdd_run.specs.report.Replies.{value_bytes}
+use Rattle.sdd_run.specs.report.declared.copies.CopyTable.{CopyTable}
+use Rattle.sdd_run.specs.report.declared.pending.Pending.{Pending}
 
 -- rows
 

@@ -2,9 +2,9 @@
 use Rattle.std.specs.Prelude.{ℕ, ◌≡◌, ◌≤◌, Bool, true, false, List, [], ◌∷◌, refl}
 use Rattle.std.specs.List.{list_any}
 use Rattle.sdd_obligations.specs.All.{Down, Event, Settle, Submit, dm_no, submits_in, txn_no}
-use Rattle.sdd_watch.specs.run.make.Summary.{summary_text}
-use Rattle.sdd_watch.specs.run.make.declared.summary.Summary.{Summary}
-use Rattle.sdd_watch.specs.run.Settled.{EndsAtRest}
+use Rattle.sdd_run.specs.make.Summary.{summary_text}
+use Rattle.sdd_run.specs.make.declared.summary.Summary.{Summary}
+use Rattle.sdd_run.specs.Settled.{EndsAtRest}
 
 -- whether an event takes a data module down
 abbrev pub takes_down : Event → Bool

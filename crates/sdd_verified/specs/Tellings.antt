@@ -1,14 +1,14 @@
 -- What the text of a report gives back.
 use Rattle.std.specs.Prelude.{ℕ, ◌≡◌, List, map}
 use Rattle.sdd_obligations.specs.All.{Catalogue, Row, Txn, TxnNo}
-use Rattle.sdd_watch.specs.run.report.Committed.{names_of}
-use Rattle.sdd_watch.specs.run.report.Copies.{place_words}
-use Rattle.sdd_watch.specs.run.report.Names.{txn_name}
-use Rattle.sdd_watch.specs.run.report.declared.copies.CopyTable.{CopyTable}
-use Rattle.sdd_watch.specs.run.report.declared.pending.Pending.{Pending}
-use Rattle.sdd_watch.specs.run.Reports.{report_of}
-use Rattle.sdd_watch.specs.run.Runs.{IsReportOn, input_of, order_of, plain_run}
-use Rattle.sdd_watch.specs.run.script.declared.workload.Workload.{Workload}
+use Rattle.sdd_run.specs.report.Committed.{names_of}
+use Rattle.sdd_run.specs.report.Copies.{place_words}
+use Rattle.sdd_run.specs.report.Names.{txn_name}
+use Rattle.sdd_run.specs.report.declared.copies.CopyTable.{CopyTable}
+use Rattle.sdd_run.specs.report.declared.pending.Pending.{Pending}
+use Rattle.sdd_run.specs.Reports.{report_of}
+use Rattle.sdd_run.specs.Runs.{IsReportOn, input_of, order_of, plain_run}
+use Rattle.sdd_run.specs.script.declared.workload.Workload.{Workload}
 
 -- the names of the pending transactions, and their numbers
 abbrev pub pending_names : List Txn → List Pending → List (List ℕ)

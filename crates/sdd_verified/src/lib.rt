@@ -1,25 +1,23 @@
 //! The report on a run is verified: `verify` finds no fault in it.
 //!
 //! The contracts to the layer above are laws: `law_verified`, which joins the report on a run of
-//! `sdd_run` to the verdict of `sdd_verify`; `law_has_report`, that there is one, or the limit ends the
-//! run; `law_pending_lines`, which of its lines are of pending transactions; `law_one_text`, what
-//! can be read from its text; and of summaries `law_all_committed` and `law_made_all_committed`.
+//! `sdd_run` to the verdict of `sdd_verify`; `law_pending_lines`, which of its lines are of pending
+//! transactions; `law_one_text`, what can be read from its text; and of summaries `law_all_committed` and `law_made_all_committed`.
 #![tactic(auto)]
 
 mod law;
 mod pending_law;
-mod report_law;
 mod summary_law;
 mod text_law;
 
 pub use law::law_verified;
 pub use pending_law::law_pending_lines;
-pub use report_law::law_has_report;
 pub use summary_law::{law_all_committed, law_made_all_committed};
 pub use text_law::law_one_text;
 
 // What lies below, for the crates above.
-pub use sdd_verify;
-pub use sdd_watch;
-pub use sdd_watch::sdd_run;
-pub use sdd_watch::sdd_run::{sdd_make, sdd_report, sdd_script, sdd_world};
+pub use sdd_run::{
+    Counts, StartRows, WorkError, WorkFault, WorkRule, Workload, WorldEnd, bank,
+    law_workload_allowed, put_reply, read_workload, run_report, run_summary, workload,
+};
+pub use sdd_verify::{MAX_REPORT_BYTES, Verdict, verify};

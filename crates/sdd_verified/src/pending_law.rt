@@ -2,10 +2,10 @@
 ghost use Rattle.std.specs.Prelude.{ℕ, ◌≡◌, [], false, Contains, List, count_by, length};
 ghost use Rattle.sdd_obligations.specs.All.{Catalogue, IsSoundCatalogue};
 ghost use Rattle.sdd_obligations.specs.catalog.Naming.{AreNamed};
-ghost use Rattle.sdd_watch.specs.run.Reports.{report_of};
-ghost use Rattle.sdd_watch.specs.run.Runs.{IsReportOn, input_of};
-ghost use Rattle.sdd_watch.specs.run.script.Valid.{IsValid};
-ghost use Rattle.sdd_watch.specs.run.script.declared.workload.Workload.{Workload};
+ghost use Rattle.sdd_run.specs.Reports.{report_of};
+ghost use Rattle.sdd_run.specs.Runs.{IsReportOn, input_of};
+ghost use Rattle.sdd_run.specs.script.Valid.{IsValid};
+ghost use Rattle.sdd_run.specs.script.declared.workload.Workload.{Workload};
 ghost use Rattle.sdd_verify.specs.Lines.{lines_of};
 ghost use Rattle.sdd_verified.specs.Lines.{tells_pending};
 

@@ -1,11 +1,11 @@
 //! The summary of a run that leaves nothing undone.
 ghost use Rattle.std.specs.Prelude.{ℕ, ◌≡◌, ◌≤◌, List, length};
 ghost use Rattle.sdd_obligations.specs.All.{Catalogue, IsSoundCatalogue, MAX_TXNS};
-ghost use Rattle.sdd_watch.specs.run.make.Bank.{bank};
-ghost use Rattle.sdd_watch.specs.run.make.Turns.{workload_of};
-ghost use Rattle.sdd_watch.specs.run.Runs.{IsSummaryOn};
-ghost use Rattle.sdd_watch.specs.run.script.Valid.{IsValid};
-ghost use Rattle.sdd_watch.specs.run.script.declared.workload.Workload.{Workload};
+ghost use Rattle.sdd_run.specs.make.Bank.{bank};
+ghost use Rattle.sdd_run.specs.make.Turns.{workload_of};
+ghost use Rattle.sdd_run.specs.Runs.{IsSummaryOn};
+ghost use Rattle.sdd_run.specs.script.Valid.{IsValid};
+ghost use Rattle.sdd_run.specs.script.declared.workload.Workload.{Workload};
 ghost use Rattle.sdd_verified.specs.Summaries.{SettleAll, TellsAllDone};
 
 /// A law: where the events submit each transaction, take no data module down and end with a settle

@@ -2,9 +2,9 @@
 ghost use Rattle.std.specs.Prelude.{ℕ, ◌≡◌, List};
 ghost use Rattle.sdd_obligations.specs.All.{Catalogue, IsSoundCatalogue};
 ghost use Rattle.sdd_obligations.specs.catalog.Naming.{AreNamed};
-ghost use Rattle.sdd_watch.specs.run.Runs.{IsReportOn};
-ghost use Rattle.sdd_watch.specs.run.script.Valid.{IsValid};
-ghost use Rattle.sdd_watch.specs.run.script.declared.workload.Workload.{Workload};
+ghost use Rattle.sdd_run.specs.Runs.{IsReportOn};
+ghost use Rattle.sdd_run.specs.script.Valid.{IsValid};
+ghost use Rattle.sdd_run.specs.script.declared.workload.Workload.{Workload};
 ghost use Rattle.sdd_verified.specs.Tellings.{TellAlike, TellOfTheSame};
 
 /// A law: two reports with the same text have the same order, replies, pending transactions and

@@ -5,10 +5,7 @@ ghost use Rattle.sdd_verify.specs.Classes.{class_if, classes_from, era_at, redec
 ghost use Rattle.sdd_verify.specs.Submitted.{submitted_by};
 
 use crate::submitted::submitted_by;
-use sdd_script::Workload;
-use sdd_script::sdd_base::{Event, NoMemory};
-use sdd_script::sdd_catalog::Catalogue;
-use sdd_script::sdd_lang::{Txn, class_for};
+use sdd_script::{Catalogue, Event, NoMemory, Txn, Workload, class_for};
 use std::alloc::Global;
 
 /// The catalogue in force after so many `redeclare`s.

@@ -3,7 +3,7 @@ ghost use Rattle.std.specs.Prelude.{◌≡◌, Err};
 ghost use Rattle.sdd_script.specs.All.{GivesReading, must, require};
 ghost use Rattle.sdd_verify.specs.Flaws.{line_in};
 
-use sdd_script::sdd_base::NoMemory;
+use sdd_script::NoMemory;
 use std::alloc::AllocFailed;
 
 /// What ends the judging of a report.

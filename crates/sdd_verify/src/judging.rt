@@ -13,9 +13,7 @@ use crate::replies::pass_replies;
 use crate::submitted::Submitted;
 use crate::verdict::Verdict;
 use sdd_lists::lists_of;
-use sdd_script::Workload;
-use sdd_script::sdd_base::NoMemory;
-use sdd_script::sdd_catalog::Catalogue;
+use sdd_script::{Catalogue, NoMemory, Workload};
 use std::alloc::Global;
 
 /// Whether the report breaks no rule, or the first line at fault.

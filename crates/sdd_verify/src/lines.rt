@@ -7,7 +7,7 @@ ghost use Rattle.sdd_verify.specs.declared.limits.TheConstants.{MAX_REPORT_BYTES
 
 use crate::flaw::{Flaw, must};
 use crate::limits::MAX_REPORT_BYTES;
-use sdd_script::sdd_words::next_line;
+use sdd_script::next_line;
 
 /// Lines of a report that are left, with the number of the first of them.
 #[derive(Clone, Copy)]

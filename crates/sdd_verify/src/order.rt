@@ -10,7 +10,7 @@ ghost use Rattle.sdd_verify.specs.Submitted.{named};
 
 use crate::flaw::{Flaw, must, require};
 use crate::submitted::Submitted;
-use sdd_script::sdd_base::{NoMemory, TxnNo};
+use sdd_script::{NoMemory, TxnNo};
 use std::alloc::Global;
 use std::collections::BTreeMap;
 

@@ -7,7 +7,7 @@ ghost use Rattle.sdd_verify.specs.Numbered.{numbered};
 
 use crate::flaw::Flaw;
 use crate::lines::Lines;
-use sdd_script::sdd_words::next_line;
+use sdd_script::next_line;
 
 /// What follows this line, which has to come first.
 fn pass_line<'a>(line: &[u8], report: Lines<'a>) -> Result<Lines<'a>, Flaw>

@@ -12,10 +12,7 @@ use crate::lines::Lines;
 use crate::passing::pass;
 use sdd_plain::Plain;
 use sdd_report::put_reply;
-use sdd_script::StartRows;
-use sdd_script::sdd_base::Reply;
-use sdd_script::sdd_catalog::Catalogue;
-use sdd_script::sdd_lang::Txn;
+use sdd_script::{Catalogue, Reply, StartRows, Txn};
 use std::alloc::Global;
 
 /// What follows the lines of this reply, which have to come first.

@@ -7,9 +7,7 @@ ghost use Rattle.std.specs.Ordering.{nat_cmp};
 ghost use Rattle.sdd_script.specs.All.{MAX_EVENTS};
 ghost use Rattle.sdd_verify.specs.Submitted.{named, submitted, submitted_by, texts_of, txn_of};
 
-use sdd_script::Workload;
-use sdd_script::sdd_base::{Bytes, Event, NoMemory, TxnNo};
-use sdd_script::sdd_lang::Txn;
+use sdd_script::{Bytes, Event, NoMemory, Txn, TxnNo, Workload};
 use std::alloc::Global;
 use std::collections::BTreeMap;
 use std::marker::Model;

@@ -19,7 +19,8 @@ pub use Rattle.sdd_inside.specs.declared.standing.Head.{Head}
 pub use Rattle.sdd_inside.specs.declared.standing.Head.TheVariants.{Waits}
 pub use Rattle.sdd_inside.specs.declared.standing.Question.{Question}
 pub use Rattle.sdd_inside.specs.declared.standing.SiteState.{SiteState}
-pub use Rattle.sdd_obligations.proofs.OfNext.{IsThere, link_of_links}
+pub use Rattle.sdd_obligations.proofs.SitesAndLinks.{link_of_links}
+pub use Rattle.sdd_obligations.proofs.needs.OfNext.{IsThere}
 pub use Rattle.sdd_obligations.proofs.ReadSent.{site_sym as same_back}
 pub use Rattle.sdd_obligations.proofs.Sources.{source_is_home}
 pub use Rattle.sdd_obligations.proofs.Submitting.{le_true}
@@ -116,7 +117,7 @@ pub use Rattle.sdd_watch.specs.Moments.{all_pipes, at_event, came, link_moment, 
 pub use Rattle.sdd_watch.specs.States.{actives, head_by, phase_by, questions_to, report_head, reported_active, reported_attempt, reported_dm, reported_tm, says_applied, state_of, unapplied_of}
 pub use Rattle.sdd_watch.specs.ScheduleSoFar.{IsReported, IsTextOf, Tells, TellsBetween, TellsRound, TellsSettled}
 pub use Rattle.sdd_watch.specs.Text.{IsInsideOf, change, inside_text, line_of}
-pub use Rattle.sdd_watch.specs.Watching.{AreCommits, AreDones, IsBetween, IsMark, IsOver, IsTellable, IsToTell, IsTurn, Knows, Watches, arrived, arrived_on, foresee_act, foresee_take, foreseen_by, handed_over, is_done_at, is_on, is_taken, left_between, left_of, link_after, link_before, pipe_after, pipe_before, seen_between, taken_at, watched_link, watched_pipe}
+pub use Rattle.sdd_watch.specs.Watching.{AreCommits, AreDones, IsBetween, IsMark, IsOver, IsTellable, IsToTell, IsTurn, Knows, Watches, arrived, arrived_on, changed_links, changed_pipes, foresee_act, foresee_take, foreseen_by, handed_over, is_changed_link, is_changed_pipe, is_done_at, is_on, is_still_link, is_still_pipe, is_taken, left_between, left_of, link_after, link_before, pipe_after, pipe_before, seen_between, taken_at, watched_link, watched_pipe}
 pub use Rattle.sdd_watch.specs.declared.commits.Commits.{Commits}
 pub use Rattle.sdd_watch.specs.declared.dones.Dones.{Dones}
 pub use Rattle.sdd_watch.specs.declared.foreseen.Foreseen.{Foreseen}
@@ -132,7 +133,7 @@ pub use Rattle.sdd_watch.specs.declared.watched_link.WatchedLink.{WatchedLink}
 pub use Rattle.sdd_watch.specs.declared.watched_pipe.WatchedPipe.{WatchedPipe}
 pub use Rattle.std.proofs.Common.{All, Bool, Err, IfOk, List, MatchOption, None, Ok, OnOk, Option, Result, SFits as FitsSigned, Some, [], add-one, ap, append-nil, append_assoc, arith, cond, drop, drop-cons, drop-drop, drop-set-lt, eq-eqb, eqb-true, false, filter, filter_map, find, flat_map, fold, if◌then◌else◌, inl, inr, is_some, le-leb, le-ltb, length, length-take-le, lt-ltb, map, map-id, max, nat_cmp, nat_le, nat_lt, not, option_map, pos, position, refl, rules, slice_get, slice_index_or as get_or, slice_set, subst, suc, sym, take, take-append-drop, take_all, true, unwrap_or, w64, zero, ℕ, ℤ, ◌&&◌, ◌*◌, ◌++◌, ◌+◌, ◌-◌, ◌/◌, ◌<◌, ◌==◌, ◌^◌, ◌||◌, ◌∙◌, ◌∷◌, ◌≡◌, ◌≢◌, ◌≤◌, ◌⊎◌}
 pub use Rattle.std.proofs.Math.Seq.{drop-append_seam, take-append_seam, take-take}
-pub use Rattle.std.proofs.lemmas.Bool.{and_parts, cases_Bool, cases_lt, lt-leb}
+pub use Rattle.std.proofs.lemmas.Bool.{and_left, and_parts, and_right, cases_Bool, cases_lt, lt-leb}
 pub use Rattle.std.proofs.lemmas.Int.{to_z-of_z}
 pub use Rattle.std.proofs.lemmas.Iterator.Adapters.{position_from-zero}
 pub use Rattle.std.proofs.lemmas.List.{drop-append-le, drop-take, drop_all, flat_map_more, get_or_default, get_or_past, length-map, map-append, take-append-le, take_more}

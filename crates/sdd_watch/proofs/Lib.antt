@@ -19,6 +19,7 @@ pub mod Found
 pub mod FoundBy
 mod GivenMore
 pub mod Happening
+pub mod HasInside
 mod InRounds
 pub mod KeptBeside
 pub mod LinksLooked

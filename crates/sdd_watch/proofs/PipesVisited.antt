@@ -1,6 +1,6 @@
 -- A look at each pipe, one after the other: the pipes before the place at hand are looked at.
-use Rattle.sdd_watch.proofs.All.{D, Input, IsSiteOf, List, Log, PipeMoment, Some, WatchedPipe, [], all_pipes, ap, arith, classes_of, dm_no, drop, drop-drop, drop-set-lt, flat_map, get_or, get_or_default, in_either, in_mapped, in_range, inl, inr, le_true, length, length-map, map, numbers_to, pipe_after, pipe_before, pipes_at_module, refl, setting_of, slice_get, slice_set, subst, suc, sym, take, take_all, watched_pipe, zero, ℕ, ◌++◌, ◌+◌, ◌<◌, ◌∙◌, ◌∷◌, ◌≡◌, ◌≤◌}
-use Rattle.sdd_watch.proofs.Visited.{PlaceAt, all_changed, changed_to, mapped_last, place_at}
+use Rattle.sdd_watch.proofs.All.{D, Input, IsSiteOf, List, Log, PipeMoment, Some, WatchedPipe, [], all_pipes, ap, arith, changed_pipes, classes_of, cond, dm_no, drop, drop-drop, drop-set-lt, filter, flat_map, get_or, get_or_default, in_either, in_mapped, in_range, inl, inr, is_changed_pipe, le_true, length, length-map, map, numbers_to, pipe_after, pipe_before, pipes_at_module, refl, setting_of, slice_get, slice_set, subst, suc, sym, take, take_all, watched_pipe, zero, ℕ, ◌++◌, ◌+◌, ◌<◌, ◌∙◌, ◌∷◌, ◌≡◌, ◌≤◌}
+use Rattle.sdd_watch.proofs.Visited.{PlaceAt, all_changed, changed_to, filtered_last, place_at}
 
 -- the pipes of a run: of each data module and each class
 
@@ -44,8 +44,8 @@ first_of_drop (x ∷ xs) (y ∷ ys) (suc i) d few some e = first_of_drop xs ys i
 -- of the first so many pipes what is kept and was seen
 pub record PipesSoFar (g : Input) (old new : Log) (i : ℕ) (pipes : List WatchedPipe) (before after : List PipeMoment) : Type 0 where
   pub pipes_are : pipes ≡ changed_to (watched_pipe g old) (watched_pipe g new) i (all_pipes g)
-  pub before_are : before ≡ map (pipe_before g old new) (take i (all_pipes g))
-  pub after_are : after ≡ map (pipe_after g old new) (take i (all_pipes g))
+  pub before_are : before ≡ map (pipe_before g old new) (filter (is_changed_pipe g old new) (take i (all_pipes g)))
+  pub after_are : after ≡ map (pipe_after g old new) (filter (is_changed_pipe g old new) (take i (all_pipes g)))
 
 pub no_pipes_yet : (g : Input) (old new : Log) (pipes : List WatchedPipe) (before after : List PipeMoment)
     → pipes ≡ map (watched_pipe g old) (all_pipes g) → before ≡ [] → after ≡ [] → PipesSoFar g old new 0 pipes before after
@@ -89,9 +89,9 @@ pub pipes_more : (g : Input) (old new : Log) (begun pipes : List WatchedPipe) (i
     → begun ≡ map (watched_pipe g old) (all_pipes g) → i < length begun → PipesSoFar g old new i pipes before after → x ≡ get_or pipes i x
     → ((d c : ℕ) → IsSiteOf g (D (dm_no d)) → c ≤ length g.catalogue.classes → x ≡ watched_pipe g old (d, c) → next ≡ watched_pipe g new (d, c))
     → ((d c : ℕ) → IsSiteOf g (D (dm_no d)) → c ≤ length g.catalogue.classes → x ≡ watched_pipe g old (d, c)
-    → before2 ≡ before ++ pipe_before g old new (d, c) ∷ [])
+    → before2 ≡ before ++ cond (is_changed_pipe g old new (d, c)) (pipe_before g old new (d, c) ∷ []) [])
     → ((d c : ℕ) → IsSiteOf g (D (dm_no d)) → c ≤ length g.catalogue.classes → x ≡ watched_pipe g old (d, c)
-    → after2 ≡ after ++ pipe_after g old new (d, c) ∷ [])
+    → after2 ≡ after ++ cond (is_changed_pipe g old new (d, c)) (pipe_after g old new (d, c) ∷ []) [])
     → PipesSoFar g old new (i + 1) (slice_set pipes i next) before2 after2
 pipes_more g old new begun pipes i x next before after before2 after2 e few s is keeps b a =
     let ps : List (ℕ × ℕ) = all_pipes g in
@@ -99,17 +99,17 @@ pipes_more g old new begun pipes i x next before after before2 after2 e few s is
     let t = pipe_there g i p.place p.is_there in
     record {
       pipes_are = p.changed next (keeps p.place.0 p.place.1 t.site t.class p.stood);
-      before_are = mapped_last (pipe_before g old new) (take i ps) p.place (take (i + 1) ps) before before2 (pipe_before g old new p.place) s.before_are
+      before_are = filtered_last (is_changed_pipe g old new) (pipe_before g old new) (take i ps) p.place (take (i + 1) ps) before before2 _ s.before_are
           (b p.place.0 p.place.1 t.site t.class p.stood) refl p.further;
-      after_are = mapped_last (pipe_after g old new) (take i ps) p.place (take (i + 1) ps) after after2 (pipe_after g old new p.place) s.after_are
+      after_are = filtered_last (is_changed_pipe g old new) (pipe_after g old new) (take i ps) p.place (take (i + 1) ps) after after2 _ s.after_are
           (a p.place.0 p.place.1 t.site t.class p.stood) refl p.further;
     }
 
 -- all are looked at
 pub record PipesOver (g : Input) (old new : Log) (pipes : List WatchedPipe) (before after : List PipeMoment) : Type 0 where
   pub pipes_are : pipes ≡ map (watched_pipe g new) (all_pipes g)
-  pub before_are : before ≡ map (pipe_before g old new) (all_pipes g)
-  pub after_are : after ≡ map (pipe_after g old new) (all_pipes g)
+  pub before_are : before ≡ map (pipe_before g old new) (changed_pipes g old new)
+  pub after_are : after ≡ map (pipe_after g old new) (changed_pipes g old new)
 
 pub pipes_over : (g : Input) (old new : Log) (begun pipes : List WatchedPipe) (i : ℕ) (before after : List PipeMoment)
     → begun ≡ map (watched_pipe g old) (all_pipes g) → length begun ≤ i → PipesSoFar g old new i pipes before after
@@ -119,6 +119,6 @@ pipes_over g old new begun pipes i before after e past s =
     let all : take i (all_pipes g) ≡ all_pipes g = take_all i (all_pipes g) (omega (arith, past, n)) in
     record {
       pipes_are = s.pipes_are ∙ all_changed (watched_pipe g old) (watched_pipe g new) i (all_pipes g) (omega (arith, past, n));
-      before_are = s.before_are ∙ ap (map (pipe_before g old new)) all;
-      after_are = s.after_are ∙ ap (map (pipe_after g old new)) all;
+      before_are = s.before_are ∙ ap (λ ps. map (pipe_before g old new) (filter (is_changed_pipe g old new) ps)) all;
+      after_are = s.after_are ∙ ap (λ ps. map (pipe_after g old new) (filter (is_changed_pipe g old new) ps)) all;
     }

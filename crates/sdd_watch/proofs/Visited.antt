@@ -1,6 +1,6 @@
 -- A loop that changes each member of a list, each of which stands for a place: those before the place at hand are as they shall
 -- be, and the others still as they were.
-use Rattle.sdd_watch.proofs.All.{List, Option, Some, [], ap, arith, cons_option, drop, filter_map, filter_map-append, get_or, length, map, map-append, refl, slice_get, slice_set, subst, suc, sym, take, zero, ℕ, ◌++◌, ◌<◌, ◌∙◌, ◌∷◌, ◌≡◌, ◌≤◌}
+use Rattle.sdd_watch.proofs.All.{Bool, List, Option, Some, [], ap, arith, cond, cons_option, drop, filter, filter-append, filter_map, filter_map-append, get_or, length, map, map-append, refl, slice_get, slice_set, subst, suc, sym, take, zero, ℕ, ◌++◌, ◌<◌, ◌∙◌, ◌∷◌, ◌≡◌, ◌≤◌}
 
 -- as they are when so many are changed
 abbrev pub changed_to : {S W : Type 0} → (S → W) → (S → W) → ℕ → List S → List W
@@ -54,6 +54,18 @@ pub mapped_last : {A B : Type 0} (f : A → B) (xs : List A) (x : A) (all : List
     → made ≡ map f xs → now ≡ made ++ y ∷ [] → y ≡ f x → all ≡ xs ++ x ∷ [] → now ≡ map f all
 mapped_last f xs x all made now y e push is more =
     push ∙ ap (λ ys. ys ++ y ∷ []) e ∙ ap (λ z. map f xs ++ z ∷ []) is ∙ sym (map-append f xs (x ∷ [])) ∙ ap (map f) (sym more)
+
+-- of those places alone that pass a test
+
+filtered_one : {A B : Type 0} (t : A → Bool) (f : A → B) (x : A) → map f (filter t (x ∷ [])) ≡ cond (t x) (f x ∷ []) []
+filtered_one t f x = grind arith
+
+pub filtered_last : {A B : Type 0} (t : A → Bool) (f : A → B) (xs : List A) (x : A) (all : List A) (made now ys : List B)
+    → made ≡ map f (filter t xs) → now ≡ made ++ ys → ys ≡ cond (t x) (f x ∷ []) [] → all ≡ xs ++ x ∷ [] → now ≡ map f (filter t all)
+filtered_last t f xs x all made now ys e push is more =
+    push ∙ (λ i. e i ++ is i) ∙ ap (λ zs. map f (filter t xs) ++ zs) (sym (filtered_one t f x))
+    ∙ sym (map-append f (filter t xs) (filter t (x ∷ [])))
+    ∙ ap (map f) (sym (filter-append t xs (x ∷ []))) ∙ ap (λ zs. map f (filter t zs)) (sym more)
 
 pub picked_last : {A B : Type 0} (f : A → Option B) (xs : List A) (x : A) (all : List A) (made now : List B) (y : Option B)
     → made ≡ filter_map f xs → now ≡ made ++ cons_option y [] → y ≡ f x → all ≡ xs ++ x ∷ [] → now ≡ filter_map f all

@@ -1,5 +1,5 @@
 -- What is kept between two events of what stood where, as the log gives it when the last event was over.
-use Rattle.std.specs.Prelude.{ℕ, ◌-◌, ◌≡◌, ◌==◌, ◌&&◌, Bool, false, not, if◌then◌else◌, List, [], ◌∷◌, ◌++◌, drop, filter_map, is_some, length, map, option_map, Option, Some, None}
+use Rattle.std.specs.Prelude.{ℕ, ◌-◌, ◌≡◌, ◌==◌, ◌&&◌, Bool, false, not, if◌then◌else◌, List, [], ◌∷◌, ◌++◌, drop, filter, filter_map, is_some, length, map, option_map, Option, Some, None}
 use Rattle.std.specs.BTreeMap.{get}
 use Rattle.std.specs.BTreeSet.{contains}
 use Rattle.std.specs.List.{list_any, position}
@@ -145,6 +145,17 @@ arrived_on old new l =
 abbrev pub arrived : Input → Log → Log → List Arrived
 arrived g old new = filter_map (arrived_on old new) (all_links g)
 
+-- whether nothing is reported of a link, by its cut moments: no packet was put, and no message was handed over
+abbrev pub is_still_link : LinkMoment → LinkMoment → Bool
+is_still_link before after = is_empty after.flight && before.handed == after.handed
+
+-- the links of which something is reported
+abbrev pub is_changed_link : Log → Log → Site × Site → Bool
+is_changed_link old new l = not (is_still_link (link_before old l) (link_after old new l))
+
+abbrev pub changed_links : Input → Log → Log → List (Site × Site)
+changed_links g old new = filter (is_changed_link old new) (all_links g)
+
 -- of one link the cut moments, and what was handed over
 abbrev pub seen_between : Log → Log → Site × Site → LinkSeen
 seen_between old new l = record { before = link_before old l; after = link_after old new l; arrived = arrived_on old new l }
@@ -177,6 +188,17 @@ pipe_after g old new p =
       processed = length (pipe p.1 (local_of g (D (dm_no p.0)) new)).processed - length (pipe p.1 (local_of g (D (dm_no p.0)) old)).processed;
       passed = time_at (passed_to (pipe p.1 (local_of g (D (dm_no p.0)) new)));
     }
+
+-- whether nothing is reported of a pipe, by its cut moment after the event: nothing came, and nothing was processed
+abbrev pub is_still_pipe : PipeMoment → Bool
+is_still_pipe after = is_empty after.came && after.processed == 0
+
+-- the pipes of which something is reported
+abbrev pub is_changed_pipe : Input → Log → Log → ℕ × ℕ → Bool
+is_changed_pipe g old new p = not (is_still_pipe (pipe_after g old new p))
+
+abbrev pub changed_pipes : Input → Log → Log → List (ℕ × ℕ)
+changed_pipes g old new = filter (is_changed_pipe g old new) (all_pipes g)
 
 -- what was said and recorded
 

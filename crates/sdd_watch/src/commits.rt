@@ -7,8 +7,7 @@ ghost use Rattle.sdd_obligations.specs.All.{History};
 ghost use Rattle.sdd_watch.specs.Happens.{changes_of, committed_by, committed_in};
 ghost use Rattle.sdd_watch.specs.Watching.{AreCommits};
 
-use sdd_obligations::sdd_base::{Change, NoMemory, TxnNo};
-use sdd_obligations::sdd_history::Rec;
+use sdd_obligations::{Change, NoMemory, Rec, TxnNo};
 use std::alloc::Global;
 use std::collections::BTreeMap;
 

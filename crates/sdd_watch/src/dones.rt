@@ -8,7 +8,7 @@ ghost use Rattle.sdd_watch.specs.Looking.{says, says_one};
 
 use crate::waiting::Purpose;
 use crate::watched_link::Arrived;
-use sdd_obligations::sdd_base::{DmNo, NoMemory, Site, Ts};
+use sdd_obligations::{DmNo, NoMemory, Site, Ts};
 use std::alloc::Global;
 use std::collections::BTreeSet;
 

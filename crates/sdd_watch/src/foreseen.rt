@@ -7,10 +7,8 @@ ghost use Rattle.sdd_watch.specs.Happens.{arrived_of, found_by, taken};
 ghost use Rattle.sdd_watch.specs.Watching.{IsTellable, foresee_act, foresee_take, foreseen_by, taken_at};
 
 use sdd_inside::{Found, Taken};
-use sdd_obligations::sdd_base::{Event, Site};
-use sdd_obligations::sdd_net::Packet;
-use sdd_obligations::sdd_wire::Spelling;
-use sdd_run::sdd_world::World;
+use sdd_obligations::{Event, Packet, Site, Spelling};
+use sdd_run::World;
 
 /// What an event is about to find.
 #[derive(Drop)]

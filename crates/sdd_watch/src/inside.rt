@@ -12,13 +12,10 @@ use crate::schedule::carry_out;
 use crate::teller::Teller;
 use crate::watch::Watch;
 use sdd_inside::put_beginning;
-use sdd_obligations::sdd_base::{Event, NoMemory};
-use sdd_obligations::sdd_catalog::Catalogue;
-use sdd_obligations::sdd_protocol::Table;
-use sdd_run::sdd_lists::{Lists, lists_of};
-use sdd_run::sdd_script::Workload;
-use sdd_run::sdd_world::{World, WorldEnd, data_modules};
-use sdd_run::{first_table, further, tables_of};
+use sdd_obligations::{Catalogue, Event, NoMemory, Table};
+use sdd_run::{
+    Lists, Workload, World, WorldEnd, data_modules, first_table, further, lists_of, tables_of,
+};
 use std::alloc::Global;
 
 /// What is reported before the first event.

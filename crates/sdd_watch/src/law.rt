@@ -1,7 +1,8 @@
 //! What a text of what happens inside a run is.
-ghost use Rattle.std.specs.Prelude.{ℕ, ◌≡◌, List};
+ghost use Rattle.std.specs.Prelude.{ℕ, ◌≡◌, ◌⊎◌, List};
 ghost use Rattle.sdd_obligations.specs.All.{Catalogue};
 ghost use Rattle.sdd_run.specs.Runs.{EndsAtLimit};
+ghost use Rattle.sdd_run.specs.script.Valid.{IsValid};
 ghost use Rattle.sdd_run.specs.script.declared.workload.Workload.{Workload};
 ghost use Rattle.sdd_watch.specs.Text.{IsInsideOf};
 
@@ -12,4 +13,11 @@ pub fn law_one_inside()
         → IsInsideOf catalogue work other → text ≡ other }
     ensures not_both { (catalogue : Catalogue) (work : Workload) (text : List ℕ) → IsInsideOf catalogue work text
         → EndsAtLimit catalogue work → ⊥ }
+{}
+
+/// A law: the run of a workload has a text of what happens inside it, or the limit ends the run, whatever
+/// the modules do and with no regard to memory.
+pub fn law_has_inside()
+    ensures { (catalogue : Catalogue) (work : Workload) → IsValid catalogue work
+        → ((text : List ℕ) × IsInsideOf catalogue work text) ⊎ EndsAtLimit catalogue work }
 {}

@@ -1,7 +1,8 @@
 //! What happens inside a run, event by event, and the text of it.
 //!
 //! The contract to the layer above: `inside_text` is the text of the run of a workload on a catalogue,
-//! one line for each event, or the limit ends that run; there is one such text (`law_one_inside`).
+//! one line for each event, or the limit ends that run; there is such a text (`law_has_inside`), and
+//! one only (`law_one_inside`).
 //!
 //! `Watch` keeps what stood where when the last event was over, by numbers where a list is long; what
 //! an event changed is read from the world after it. So an event costs what it changes, the queues,
@@ -27,7 +28,4 @@ mod watched_link;
 mod watched_pipe;
 
 pub use inside::inside_text;
-pub use law::law_one_inside;
-
-// What lies below, for the crates above.
-pub use sdd_run;
+pub use law::{law_has_inside, law_one_inside};

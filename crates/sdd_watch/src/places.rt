@@ -3,7 +3,7 @@ ghost use Rattle.std.specs.Prelude.{◌≡◌, ◌++◌, ◌≤◌, cond, Some, 
 ghost use Rattle.std.specs.List.{filter_map};
 ghost use Rattle.sdd_obligations.specs.All.{MAX_DMS, MAX_TMS, are_linked as are_linked_by, links, same_site, sites};
 
-use sdd_obligations::sdd_base::{DmNo, NoMemory, Site, TmNo};
+use sdd_obligations::{DmNo, NoMemory, Site, TmNo};
 use std::alloc::Global;
 
 /// Whether two sites are the same.

@@ -6,10 +6,8 @@ ghost use Rattle.sdd_watch.specs.Looking.{queue_in, queue_of};
 ghost use Rattle.sdd_watch.specs.Moments.{queues_at, queues_of};
 
 use sdd_inside::QueueMoment;
-use sdd_obligations::sdd_attempt::Line;
-use sdd_obligations::sdd_base::{Listed, NoMemory, TmNo};
-use sdd_obligations::sdd_tm::ClassRun;
-use sdd_run::sdd_world::World;
+use sdd_obligations::{ClassRun, Line, Listed, NoMemory, TmNo};
+use sdd_run::World;
 use std::alloc::Global;
 
 /// The queue of a line.

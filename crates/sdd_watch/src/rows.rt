@@ -10,11 +10,8 @@ ghost use Rattle.sdd_watch.specs.Watching.{AreCommits, IsBetween};
 
 use crate::commits::Commits;
 use sdd_inside::RowDelta;
-use sdd_obligations::sdd_base::{Change, DmNo, FragNo, NoMemory, Parcel, Row, TxnNo};
-use sdd_obligations::sdd_catalog::Catalogue;
-use sdd_obligations::sdd_copy::Copies;
-use sdd_obligations::sdd_history::Rec;
-use sdd_run::sdd_world::World;
+use sdd_obligations::{Catalogue, Change, Copies, DmNo, FragNo, NoMemory, Parcel, Rec, Row, TxnNo};
+use sdd_run::World;
 use std::alloc::Global;
 
 /// Whether a data module has a copy of a fragment, whose number is taken as 1 at least, since

@@ -8,8 +8,8 @@ ghost use Rattle.sdd_watch.specs.ScheduleSoFar.{IsReported, IsTextOf, TellsBetwe
 use crate::foreseen::{Foreseen, foresee};
 use crate::teller::Teller;
 use crate::watch::Turn;
-use sdd_obligations::sdd_base::Event;
-use sdd_run::sdd_world::{ClassList, World, WorldEnd};
+use sdd_obligations::Event;
+use sdd_run::{ClassList, World, WorldEnd};
 use std::collections::VecDeque;
 
 /// Carries out an event of the schedule that is no settle and no redeclare, and tells it. It has this

@@ -13,14 +13,11 @@ ghost use Rattle.sdd_watch.specs.Keeping.{IsLineInOrder, active_in, active_of, h
 ghost use Rattle.sdd_watch.specs.States.{data_sites, lacks_in, phase_by, report_head, reported_dm, reported_tm, reported_u, stage_at, stage_by, state_of, unapplied_last, unapplied_of};
 
 use sdd_inside::{Active, DmState, Head, Phase, Question, SiteState, Stage, TmState, UState};
-use sdd_obligations::sdd_attempt::{Answer, Line};
-use sdd_obligations::sdd_base::{
-    ClassNo, Conds, DmNo, Listed, NoMemory, Parcel, Site, TmNo, Ts, TxnNo,
+use sdd_obligations::{
+    Answer, Asked, ClassNo, ClassNos, ClassRun, Conds, DataModule, DmNo, Line, Listed, NoMemory,
+    Parcel, Site, TmNo, Ts, TxnModule, TxnNo, UModule,
 };
-use sdd_obligations::sdd_dm::{ClassNos, DataModule};
-use sdd_obligations::sdd_tm::{Asked, ClassRun, TxnModule};
-use sdd_obligations::sdd_umod::UModule;
-use sdd_run::sdd_world::World;
+use sdd_run::World;
 use std::alloc::Global;
 use std::collections::VecDeque;
 

@@ -14,8 +14,8 @@ use crate::places::is_same;
 use crate::states::state;
 use crate::watched_link::Arrived;
 use sdd_inside::{Found, SiteState};
-use sdd_obligations::sdd_base::{Event, NoMemory, Site, TxnNo};
-use sdd_run::sdd_world::{World, home};
+use sdd_obligations::{Event, NoMemory, Site, TxnNo};
+use sdd_run::{World, home};
 use std::alloc::Global;
 
 fn is_something(found: &Found) -> bool

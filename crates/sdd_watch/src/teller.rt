@@ -8,9 +8,8 @@ ghost use Rattle.sdd_watch.specs.Watching.{IsToTell, Watches};
 use crate::foreseen::{Foreseen, find_outcome};
 use crate::watch::{Turn, Watch};
 use sdd_inside::put_line;
-use sdd_obligations::sdd_base::NoMemory;
-use sdd_obligations::sdd_catalog::Catalogue;
-use sdd_run::sdd_world::World;
+use sdd_obligations::{Catalogue, NoMemory};
+use sdd_run::World;
 
 /// What is reported so far, and what was where when that was over.
 #[derive(Drop)]

@@ -19,9 +19,8 @@ use crate::watched_pipe::{WatchedPipe, first_pipes, look_at_pipes};
 use sdd_inside::{
     Delta, Found, Happened, LinkMoment, Moment, PipeMoment, QueueMoment, RowDelta, difference,
 };
-use sdd_obligations::sdd_base::{Event, Listed, NoMemory, Site};
-use sdd_obligations::sdd_catalog::Catalogue;
-use sdd_run::sdd_world::World;
+use sdd_obligations::{Catalogue, Event, Listed, NoMemory, Site};
+use sdd_run::World;
 use std::alloc::Global;
 use std::mem;
 
@@ -121,20 +120,17 @@ impl Watch {
         })
     }
 
-    /// The queues before an event and after it.
+    /// The queues before an event, which are taken from the watch, and after it.
     fn queues(&mut self, world: &World<'_>) -> Result<Both<QueueMoment>, NoMemory>
         requires { (g : Input) × (log : Log) × Calm world.now g log }
         ensures before { IfOk result (λ parts. parts.before ≡ self.old.queues) }
         ensures after { IfOk result (λ parts. (g : Input) (log : Log) → Calm world.now g log
             → parts.after.items ≡ queues_of g log) }
-        ensures kept { OnOk result ((g : Input) (log : Log) → Calm world.now g log
-            → self.new.queues.items ≡ queues_of g log) }
         ensures others { OnOk result (self.new ≡ record self.old { queues = self.new.queues }) }
     {
         let after = all_queues(self.alloc, world)?;
-        let kept = all_queues(self.alloc, world)?;
         Ok(Both {
-            before: mem::replace(&mut self.queues, kept),
+            before: mem::replace(&mut self.queues, Vec::new(self.alloc)),
             after,
         })
     }
@@ -166,6 +162,7 @@ impl Watch {
         let happened = self.describe_event(world, turn, found, arrived.as_slice())?;
         let (before, after) = moments(links, queues, pipes);
         let delta = difference(self.alloc, happened, &before, &after)?;
+        self.queues = after.queues.into_vec();
         Ok(delta)
     }
 

@@ -1,20 +1,18 @@
 //! Links, as they stood when an event was over.
-ghost use Rattle.std.specs.Prelude.{◌≡◌, ◌++◌, ◌∷◌, [], map, IfOk, OnOk};
+ghost use Rattle.std.specs.Prelude.{◌≡◌, ◌++◌, ◌∷◌, [], cond, map, not, IfOk, OnOk};
 ghost use Rattle.std.specs.List.{cons_option};
 ghost use Rattle.sdd_obligations.specs.All.{Input, IsLinkOf, Log, Site as Place, all_links};
 ghost use Rattle.sdd_inside.specs.Differences.{is_of_link, takes_one};
 ghost use Rattle.sdd_watch.specs.Awaiting.{behind};
 ghost use Rattle.sdd_watch.specs.Looking.{advanced, arrived_with, seen_with};
-ghost use Rattle.sdd_watch.specs.Watching.{IsOver, arrived, is_taken, left_of, link_after, link_before, seen_between, watched_link};
+ghost use Rattle.sdd_watch.specs.Watching.{IsOver, arrived, changed_links, is_still_link, is_taken, left_of, link_after, link_before, seen_between, watched_link};
 
 use crate::both::Both;
 use crate::places::is_same;
 use crate::waiting::{Purpose, Waiting};
 use sdd_inside::{Found, LinkMoment};
-use sdd_obligations::sdd_base::{Event, Listed, NoMemory, Site};
-use sdd_obligations::sdd_net::{Packet, Packets};
-use sdd_obligations::sdd_wire::Msg;
-use sdd_run::sdd_world::World;
+use sdd_obligations::{Event, Listed, Msg, NoMemory, Packet, Packets, Site};
+use sdd_run::World;
 use std::alloc::Global;
 
 /// The messages of a link that were handed over, with their numbers: those that have a purpose.
@@ -197,13 +195,42 @@ impl WatchedLink {
     }
 }
 
+/// Adds the moments of a link, where something is reported of it.
+fn add_changed(
+    moments: &mut Both<LinkMoment>,
+    before: LinkMoment,
+    after: LinkMoment,
+) -> Result<(), NoMemory>
+    ensures before { OnOk result (moments.new.before.items
+        ≡ moments.old.before.items ++ cond (not (is_still_link before after)) (before ∷ []) []) }
+    ensures after { OnOk result (moments.new.after.items
+        ≡ moments.old.after.items ++ cond (not (is_still_link before after)) (after ∷ []) []) }
+{
+    if is_still_link(&before, &after) {
+        return Ok(());
+    }
+    moments.add(before, after)
+}
+
+/// Whether no packet was put and no message handed over.
+fn is_still_link(before: &LinkMoment, after: &LinkMoment) -> bool
+    ensures { result ≡ is_still_link before.now after.now }
+{
+    match after.flight.as_slice() {
+        [] => before.handed == after.handed,
+        _ => false,
+    }
+}
+
 impl OnLinks {
     /// Adds what was seen of a link.
     fn add(&mut self, seen: LinkSeen) -> Result<(), NoMemory>
         ensures before { OnOk result (self.new.moments.before.items
-            ≡ self.old.moments.before.items ++ seen.before ∷ []) }
+            ≡ self.old.moments.before.items
+            ++ cond (not (is_still_link seen.before seen.after)) (seen.before ∷ []) []) }
         ensures after { OnOk result (self.new.moments.after.items
-            ≡ self.old.moments.after.items ++ seen.after ∷ []) }
+            ≡ self.old.moments.after.items
+            ++ cond (not (is_still_link seen.before seen.after)) (seen.after ∷ []) []) }
         ensures arrived { OnOk result (self.new.arrived.items
             ≡ self.old.arrived.items ++ cons_option seen.arrived []) }
     {
@@ -212,7 +239,7 @@ impl OnLinks {
             after,
             arrived,
         } = seen;
-        self.moments.add(before, after)?;
+        add_changed(&mut self.moments, before, after)?;
         match arrived {
             Some(one) => {
                 self.arrived.push(one)?;
@@ -223,7 +250,8 @@ impl OnLinks {
     }
 }
 
-/// Looks at all links once an event is carried out.
+/// Looks at all links once an event is carried out. The moments are of those of which something is
+/// reported.
 pub(crate) fn look_at_links(
     alloc: Global,
     world: &World<'_>,
@@ -237,11 +265,11 @@ pub(crate) fn look_at_links(
     ensures before { IfOk result (λ seen. (g : Input) (old new : Log)
         → IsOver g old new world.now event.now found.now
         → links.old ≡ map (watched_link old) (all_links g)
-        → seen.moments.before.items ≡ map (link_before old) (all_links g)) }
+        → seen.moments.before.items ≡ map (link_before old) (changed_links g old new)) }
     ensures after { IfOk result (λ seen. (g : Input) (old new : Log)
         → IsOver g old new world.now event.now found.now
         → links.old ≡ map (watched_link old) (all_links g)
-        → seen.moments.after.items ≡ map (link_after old new) (all_links g)) }
+        → seen.moments.after.items ≡ map (link_after old new) (changed_links g old new)) }
     ensures arrived { IfOk result (λ seen. (g : Input) (old new : Log)
         → IsOver g old new world.now event.now found.now
         → links.old ≡ map (watched_link old) (all_links g)

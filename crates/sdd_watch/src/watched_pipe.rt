@@ -1,5 +1,5 @@
 //! Pipes of data modules, as they stood when an event was over.
-ghost use Rattle.std.specs.Prelude.{◌≡◌, ◌≤◌, ◌++◌, ◌+◌, ◌-◌, ◌∷◌, [], ℕ, filter_map, find, length, map, IfOk, OnOk};
+ghost use Rattle.std.specs.Prelude.{◌≡◌, ◌≤◌, ◌++◌, ◌+◌, ◌-◌, ◌∷◌, [], ℕ, cond, filter_map, find, length, map, not, IfOk, OnOk};
 ghost use Rattle.std.specs.Option.{option_copied};
 ghost use Rattle.sdd_obligations.specs.All.{D, Input, IsSiteOf, Log, dm_no, time_at};
 ghost use Rattle.sdd_obligations.specs.dm.Due.{or_zero};
@@ -9,17 +9,15 @@ ghost use Rattle.sdd_run.specs.world.Represents.{Calm};
 ghost use Rattle.sdd_watch.specs.Awaiting.{number_for};
 ghost use Rattle.sdd_watch.specs.Looking.{messages_in, numbers_for};
 ghost use Rattle.sdd_watch.specs.Moments.{all_pipes, pipes_at_module, source};
-ghost use Rattle.sdd_watch.specs.Watching.{IsBetween, arrived as all_arrived, is_on, pipe_after, pipe_before, watched_pipe};
+ghost use Rattle.sdd_watch.specs.Watching.{IsBetween, arrived as all_arrived, changed_pipes, is_changed_pipe, is_on, is_still_pipe, pipe_after, pipe_before, watched_pipe};
 
 use crate::both::Both;
 use crate::places::is_same;
 use crate::waiting::Purpose;
 use crate::watched_link::Arrived;
 use sdd_inside::PipeMoment;
-use sdd_obligations::sdd_base::{ClassNo, DmNo, Listed, NoMemory, Site, Ts};
-use sdd_obligations::sdd_catalog::Catalogue;
-use sdd_obligations::sdd_dm::DataModule;
-use sdd_run::sdd_world::World;
+use sdd_obligations::{Catalogue, ClassNo, DataModule, DmNo, Listed, NoMemory, Site, Ts};
+use sdd_run::World;
 use std::alloc::Global;
 
 /// The pipe of a class at a data module, as it stood when the last event was over.
@@ -146,12 +144,14 @@ impl WatchedPipe {
             → IsBetween g old new → arrived.now ≡ all_arrived g old new
             → (d c : ℕ) → IsSiteOf g (D (dm_no d)) → c ≤ length g.catalogue.classes
             → self.old ≡ watched_pipe g old (d, c)
-            → parts.new.before.items ≡ parts.old.before.items ++ pipe_before g old new (d, c) ∷ []) }
+            → parts.new.before.items ≡ parts.old.before.items
+            ++ cond (is_changed_pipe g old new (d, c)) (pipe_before g old new (d, c) ∷ []) []) }
         ensures after { OnOk result ((g : Input) (old new : Log) → Calm world.now g new
             → IsBetween g old new → arrived.now ≡ all_arrived g old new
             → (d c : ℕ) → IsSiteOf g (D (dm_no d)) → c ≤ length g.catalogue.classes
             → self.old ≡ watched_pipe g old (d, c)
-            → parts.new.after.items ≡ parts.old.after.items ++ pipe_after g old new (d, c) ∷ []) }
+            → parts.new.after.items ≡ parts.old.after.items
+            ++ cond (is_changed_pipe g old new (d, c)) (pipe_after g old new (d, c) ∷ []) []) }
     {
         let sites = world.sites();
         let module = sites.data_module(self.dm);
@@ -162,7 +162,7 @@ impl WatchedPipe {
         let before = self.moment(Vec::new(alloc), 0, passed);
         let after = self.moment(came, processed, passed);
         self.unprocessed = unprocessed;
-        parts.add(before, after)?;
+        add_changed(parts, before, after)?;
         Ok(())
     }
 
@@ -184,6 +184,33 @@ impl WatchedPipe {
             passed,
         }
     }
+}
+
+/// Whether nothing came and nothing was processed.
+fn is_still_pipe(after: &PipeMoment) -> bool
+    ensures { result ≡ is_still_pipe after.now }
+{
+    match after.came.as_slice() {
+        [] => after.processed == 0,
+        _ => false,
+    }
+}
+
+/// Adds the moments of a pipe, where something is reported of it.
+fn add_changed(
+    parts: &mut Both<PipeMoment>,
+    before: PipeMoment,
+    after: PipeMoment,
+) -> Result<(), NoMemory>
+    ensures before { OnOk result (parts.new.before.items
+        ≡ parts.old.before.items ++ cond (not (is_still_pipe after)) (before ∷ []) []) }
+    ensures after { OnOk result (parts.new.after.items
+        ≡ parts.old.after.items ++ cond (not (is_still_pipe after)) (after ∷ []) []) }
+{
+    if is_still_pipe(&after) {
+        return Ok(());
+    }
+    parts.add(before, after)
 }
 
 /// The site that runs a class.
@@ -231,7 +258,8 @@ pub(crate) fn first_pipes(
     Ok(pipes)
 }
 
-/// Looks at all pipes once an event is carried out, where these messages were handed over.
+/// Looks at all pipes once an event is carried out, where these messages were handed over. The
+/// moments are of those of which something is reported.
 pub(crate) fn look_at_pipes(
     alloc: Global,
     world: &World<'_>,
@@ -243,11 +271,11 @@ pub(crate) fn look_at_pipes(
     ensures before { IfOk result (λ parts. (g : Input) (old new : Log) → Calm world.now g new
         → IsBetween g old new → arrived.now ≡ all_arrived g old new
         → pipes.old ≡ map (watched_pipe g old) (all_pipes g)
-        → parts.before.items ≡ map (pipe_before g old new) (all_pipes g)) }
+        → parts.before.items ≡ map (pipe_before g old new) (changed_pipes g old new)) }
     ensures after { IfOk result (λ parts. (g : Input) (old new : Log) → Calm world.now g new
         → IsBetween g old new → arrived.now ≡ all_arrived g old new
         → pipes.old ≡ map (watched_pipe g old) (all_pipes g)
-        → parts.after.items ≡ map (pipe_after g old new) (all_pipes g)) }
+        → parts.after.items ≡ map (pipe_after g old new) (changed_pipes g old new)) }
     ensures kept { OnOk result ((g : Input) (old new : Log) → Calm world.now g new
         → IsBetween g old new → arrived.now ≡ all_arrived g old new
         → pipes.old ≡ map (watched_pipe g old) (all_pipes g)

@@ -1,62 +1,60 @@
 -- The names of std, of the crates below and of this crate's definitions that its proofs cite. Declares nothing.
-pub use Rattle.sdd_obligations.proofs.AllObligations.{all_obligations}
-pub use Rattle.sdd_obligations.proofs.Done.{count_join, redeclares_left}
-pub use Rattle.sdd_obligations.proofs.Limits.{marks_few as few_marks}
-pub use Rattle.sdd_obligations.proofs.Modules.{below_not as differ}
-pub use Rattle.sdd_obligations.proofs.Submitting.{redeclared_is}
-pub use Rattle.sdd_obligations.proofs.attempt.Lists.{picked_to}
-pub use Rattle.sdd_obligations.proofs.base.Opened.{slice_get-append}
-pub use Rattle.sdd_obligations.proofs.class_eras.EraFits.{fits_in_era}
-pub use Rattle.sdd_obligations.proofs.graph.Lists.{each_more, up_to}
-pub use Rattle.sdd_obligations.proofs.invariants.AreReadSteps.{class_at_place}
-pub use Rattle.sdd_obligations.proofs.invariants.logs.Steps.{other_local_hand as other_hand}
-pub use Rattle.sdd_obligations.proofs.invariants.logs.attempt.exec.Sieves.{not_true as up_of}
-pub use Rattle.sdd_obligations.proofs.invariants.logs.attempt.exec.Steps.{flat_map_same as joined_same}
-pub use Rattle.sdd_obligations.proofs.invariants.logs.dm.ByClass.{all_same}
-pub use Rattle.sdd_obligations.proofs.invariants.logs.net.Directions.{within as numbered}
-pub use Rattle.sdd_obligations.proofs.invariants.logs.net.Lists.{get-last as last_member}
-pub use Rattle.sdd_obligations.proofs.invariants.logs.net.Matching.{on_both as on_ok}
-pub use Rattle.sdd_obligations.proofs.invariants.logs.net.Queues.{no_items}
-pub use Rattle.sdd_obligations.proofs.lang.Pushdown.{and_parts}
-pub use Rattle.sdd_obligations.proofs.laws.lang.catalog.Validity.{not_false}
-pub use Rattle.sdd_obligations.proofs.logs.Acts.{calls_acts, ends_in_acts, history_acts, is_down_acts, left_acts, linked_acts, marks_acts, other_acts, own_acts, puts-append, puts_past-append}
-pub use Rattle.sdd_obligations.proofs.logs.Beginning.{next_at_first, rests_at_first}
-pub use Rattle.sdd_obligations.proofs.logs.Completing.{IsFree, IsSingle, event_left, in_round, none_left, one_more, redeclare_next, round_next, settled}
-pub use Rattle.sdd_obligations.proofs.logs.Delivering.{ack_same, delivers_ack, delivers_kept, delivers_messages, delivers_nothing, none_remains, nothing_same, remain_beside, remain_more}
-pub use Rattle.sdd_obligations.proofs.logs.EachLocal.{allowed_act}
-pub use Rattle.sdd_obligations.proofs.logs.FirstHand.{listed, none_to_hand}
-pub use Rattle.sdd_obligations.proofs.logs.Grows.{lawful_grows, next_grows}
-pub use Rattle.sdd_obligations.proofs.logs.Handing.{all_handed, first_lawful, first_next, hands_first, remain_acts, remain_other}
-pub use Rattle.sdd_obligations.proofs.logs.Links.{delivered_lose, delivered_repeat, delivered_resend, sent_stays, unacked_none, unacked_some}
-pub use Rattle.sdd_obligations.proofs.logs.Lowest.{Cut, cut_at_t, first_of_one, none_of_one, takes_of_one}
-pub use Rattle.sdd_obligations.proofs.logs.Marking.{IsNoTick, TurnsNone, handed_still, mark_local, mark_within, none_by_mark, rests_marked, rests_noted, rests_redeclared, still_none, ticked_none}
-pub use Rattle.sdd_obligations.proofs.logs.Permitted.{next_allowed}
-pub use Rattle.sdd_obligations.proofs.logs.Rounding.{each_of_round, no_events_quiet}
-pub use Rattle.sdd_obligations.proofs.logs.SpelledLinks.{delivery_map, link_map}
-pub use Rattle.sdd_obligations.proofs.logs.Steps.{after_acts}
-pub use Rattle.sdd_obligations.proofs.logs.Submitting.{acts_lawful, home_in, other_local, submits_and_acts, submitted, submitted_local, submitted_within}
-pub use Rattle.sdd_obligations.proofs.logs.Turning.{comes_up, goes_down, is_down_already, isnt_down}
-pub use Rattle.sdd_obligations.proofs.net.Deliveries.{acked_le, sent_of}
-pub use Rattle.sdd_obligations.proofs.net.Directions.{link_parts, same_here, same_is}
-pub use Rattle.sdd_obligations.proofs.net.Lists.{get-set_other, get-set_same}
-pub use Rattle.sdd_obligations.proofs.net.Sound.{sound}
-pub use Rattle.sdd_obligations.proofs.wire.MessageLaws.{message_read_back}
-pub use Rattle.sdd_obligations.specs.All.{Ack, Acked, Act, AllHanded, AllLinked, AreDue, AtEach, Bases, Call, Catalogue, ClassView, D, Deliver, Delivered, Delivers, Did, Directions, DmNo, Does, Down, EndsIn, Era, Event, Fetch, FitsEra, FitsMsg, Fitting, FittingSubmit, Hand, Handed, HasLink, History, Home, Input, IsBefore, IsDue, IsFirst, IsGood, IsLawful, IsLinkOf, IsLowest, IsPossible, IsSender, IsSiteOf, IsWithin as IsBelow, Kept, Link, Log, Lose, Loses, MAX_LINK_MESSAGES, MAX_RUN_EVENTS, Mailbox, Mark, Message, Messages, Msg, NoMemory, Notes, Nothing as Noted, Null, OnlyAt, Open, Outcome, Packet, Processes, Puts, Read, Rec, Records, Redeclare, Redeclared, Redeclares, Reduce, Remain, Repeat, Repeats, Resend, Resends, Rests, Round, Sends, Setting, Settle, Ship, Site, Submit, Submits, Submitted, T, TakesAway, TakesRounds, Tick, Ticked, TmNo, Txn, TxnNo, U, Up, View, Write, act_by, act_where, after_mark, all_links, answer_of, answer_to, arrives, base_of, beginning, bound_at, by_head, by_open, call_as, calls_of, class_for, dated, deliver, delivered, delivered_as, delivery, dm_no, due_by, empty_mailbox, fits, fits_at, fits_submit, fits_submit_at, fits_tick, from_one, given_by, greatest_bound, handed, has_copy, head, head_of, history, in_flight, index_of, is_asked_of, is_down, is_empty, is_link, is_processing, is_quiet_link, is_site, is_wait, kept_count, kept_from, left, link, link_as, link_of, links, local_of, log_after, lose, mailbox_at, marks, message_in, newly_delivered, next, next_in, note_if, nth_era, number_of, number_of_t, numbers_to, on_link, packet_as, packet_at, pipe, place_of, puts, puts_past, queue_at, quiet, records_of, records_of_act, redeclares, redeclares_in, repeat, resend, resends_now, round, rows_of, same_site, sends_of, sent_on, setting_of, settles_before, sites, spelled, takes_part, tm_no, turned, txn_at, view_of, waits, with_era, with_event, with_flight, with_packet, with_submit, without_packet}
-pub use Rattle.sdd_obligations.specs.copy.Contents.{Dated}
-pub use Rattle.sdd_obligations.specs.dm.Due.{head_step}
-pub use Rattle.sdd_obligations.specs.dm.Pipes.{waits_acted}
-pub use Rattle.sdd_obligations.specs.dm.Waiting.{conds_of, waiting_at}
-pub use Rattle.sdd_obligations.specs.dm.declared.step.Step.{Step}
-pub use Rattle.sdd_obligations.specs.dm.declared.step.Step.TheVariants.{Refuses, Waits}
-pub use Rattle.sdd_obligations.specs.history.declared.record.Rec.TheVariants.{Submit as Submission}
-pub use Rattle.sdd_obligations.specs.logs.Due.{home_of}
-pub use Rattle.sdd_obligations.specs.logs.Permitted.{IsDueAt}
-pub use Rattle.sdd_obligations.specs.net.Links.{put}
-pub use Rattle.sdd_obligations.specs.net.Mailboxes.{TakesMessage as TakesFrom}
-pub use Rattle.sdd_obligations.specs.net.Nets.{Matches}
-pub use Rattle.sdd_obligations.specs.net.Sound.{IsOf}
-pub use Rattle.sdd_obligations.specs.net.declared.delivered.Delivered.TheVariants.{Nothing}
-pub use Rattle.sdd_obligations.specs.protocol.declared.entry.Entry.{Entry}
+pub use Rattle.sdd_needs.proofs.Done.{count_join, redeclares_left}
+pub use Rattle.sdd_needs.proofs.FewMarks.{marks_few as few_marks}
+pub use Rattle.sdd_needs.proofs.ErasInForce.{redeclared_is}
+pub use Rattle.sdd_needs.proofs.attempt.Lists.{picked_to}
+pub use Rattle.sdd_needs.proofs.base.Opened.{slice_get-append}
+pub use Rattle.sdd_needs.proofs.class_eras.EraFits.{fits_in_era}
+pub use Rattle.sdd_needs.proofs.graph.Lists.{each_more, up_to}
+pub use Rattle.sdd_needs.proofs.logs.tm.Lists.{of_map as in_mapped}
+pub use Rattle.sdd_needs.proofs.logs.Steps.{other_local_hand as other_hand}
+pub use Rattle.sdd_needs.proofs.logs.attempt.exec.Sieves.{not_true as up_of}
+pub use Rattle.sdd_needs.proofs.logs.attempt.exec.Steps.{flat_map_same as joined_same}
+pub use Rattle.sdd_needs.proofs.logs.dm.ByClass.{all_same}
+pub use Rattle.sdd_needs.proofs.logs.net.Directions.{within as numbered}
+pub use Rattle.sdd_needs.proofs.logs.net.Lists.{get-last as last_member}
+pub use Rattle.sdd_needs.proofs.logs.net.Matching.{on_both as on_ok}
+pub use Rattle.sdd_needs.proofs.logs.net.Queues.{no_items}
+pub use Rattle.sdd_needs.proofs.lang.Pushdown.{and_parts}
+pub use Rattle.sdd_needs.proofs.lang.catalog.Validity.{not_false}
+pub use Rattle.sdd_needs.proofs.logs.Acts.{calls_acts, ends_in_acts, history_acts, is_down_acts, left_acts, linked_acts, marks_acts, other_acts, own_acts, puts-append, puts_past-append}
+pub use Rattle.sdd_needs.proofs.logs.Beginning.{next_at_first, rests_at_first}
+pub use Rattle.sdd_needs.proofs.logs.Completing.{IsFree, IsSingle, event_left, in_round, none_left, one_more, redeclare_next, round_next, settled}
+pub use Rattle.sdd_needs.proofs.logs.Delivering.{ack_same, delivers_ack, delivers_kept, delivers_messages, delivers_nothing, none_remains, nothing_same, remain_beside, remain_more}
+pub use Rattle.sdd_needs.proofs.logs.EachLocal.{allowed_act}
+pub use Rattle.sdd_needs.proofs.logs.FirstHand.{listed, none_to_hand}
+pub use Rattle.sdd_needs.proofs.logs.Grows.{lawful_grows, next_grows}
+pub use Rattle.sdd_needs.proofs.logs.Handing.{all_handed, first_lawful, first_next, hands_first, remain_acts, remain_other}
+pub use Rattle.sdd_needs.proofs.logs.Links.{delivered_lose, delivered_repeat, delivered_resend, sent_stays, unacked_none, unacked_some}
+pub use Rattle.sdd_needs.proofs.logs.Lowest.{Cut, cut_at_t, first_of_one, none_of_one, takes_of_one}
+pub use Rattle.sdd_needs.proofs.logs.Marking.{IsNoTick, TurnsNone, handed_still, mark_local, mark_within, none_by_mark, rests_marked, rests_noted, rests_redeclared, still_none, ticked_none}
+pub use Rattle.sdd_needs.proofs.logs.Permitted.{next_allowed}
+pub use Rattle.sdd_needs.proofs.logs.Rounding.{each_of_round, no_events_quiet}
+pub use Rattle.sdd_needs.proofs.logs.SpelledLinks.{delivery_map, link_map}
+pub use Rattle.sdd_needs.proofs.logs.Steps.{after_acts}
+pub use Rattle.sdd_needs.proofs.logs.Submitting.{acts_lawful, home_in, other_local, submits_and_acts, submitted, submitted_local, submitted_within}
+pub use Rattle.sdd_needs.proofs.logs.Turning.{comes_up, goes_down, is_down_already, isnt_down}
+pub use Rattle.sdd_needs.proofs.net.Deliveries.{acked_le, sent_of}
+pub use Rattle.sdd_needs.proofs.net.Directions.{link_parts, same_here, same_is}
+pub use Rattle.sdd_needs.proofs.net.Lists.{get-set_other, get-set_same}
+pub use Rattle.sdd_needs.proofs.net.Sound.{sound}
+pub use Rattle.sdd_needs.proofs.wire.MessageLaws.{message_read_back}
+pub use Rattle.sdd_needs.specs.All.{Ack, Acked, Act, AllHanded, AllLinked, AreDue, AtEach, Bases, Call, Catalogue, ClassView, D, Deliver, Delivered, Delivers, Did, Directions, DmNo, Does, Down, EndsIn, Era, Event, Fetch, FitsEra, FitsMsg, Fitting, FittingSubmit, Hand, Handed, HasLink, History, Home, Input, IsBefore, IsDue, IsFirst, IsGood, IsLawful, IsLinkOf, IsLowest, IsPossible, IsSender, IsSiteOf, IsWithin as IsBelow, Kept, Link, Log, Lose, Loses, MAX_LINK_MESSAGES, MAX_RUN_EVENTS, Mailbox, Mark, Message, Messages, Msg, NoMemory, Notes, Nothing as Noted, Null, OnlyAt, Open, Outcome, Packet, Processes, Puts, Read, Rec, Records, Redeclare, Redeclared, Redeclares, Reduce, Remain, Repeat, Repeats, Resend, Resends, Rests, Round, Sends, Setting, Settle, Ship, Site, Submit, Submits, Submitted, T, TakesAway, TakesRounds, Tick, Ticked, TmNo, Txn, TxnNo, U, Up, View, Write, act_by, act_where, after_mark, all_links, answer_of, answer_to, arrives, base_of, beginning, bound_at, by_head, by_open, call_as, calls_of, class_for, dated, deliver, delivered, delivered_as, delivery, dm_no, due_by, empty_mailbox, fits, fits_at, fits_submit, fits_submit_at, fits_tick, from_one, given_by, good_input, greatest_bound, handed, has_copy, head, head_of, history, in_flight, index_of, is_asked_of, is_down, is_empty, is_link, is_processing, is_quiet_link, is_site, is_wait, kept_count, kept_from, left, link, link_as, link_of, links, local_of, log_after, lose, mailbox_at, marks, message_in, newly_delivered, next, next_in, note_if, nth_era, number_of, number_of_t, numbers_to, on_link, packet_as, packet_at, pipe, place_of, puts, puts_past, queue_at, quiet, records_of, records_of_act, redeclares, redeclares_in, repeat, resend, resends_now, round, rows_of, same_site, sends_of, sent_on, setting_of, settles_before, sites, spelled, takes_part, tm_no, turned, txn_at, view_of, waits, with_era, with_event, with_flight, with_packet, with_submit, without_packet}
+pub use Rattle.sdd_needs.specs.copy.Contents.{Dated}
+pub use Rattle.sdd_needs.specs.dm.Due.{head_step}
+pub use Rattle.sdd_needs.specs.dm.Pipes.{waits_acted}
+pub use Rattle.sdd_needs.specs.dm.Waiting.{conds_of, waiting_at}
+pub use Rattle.sdd_needs.specs.dm.declared.step.Step.{Step}
+pub use Rattle.sdd_needs.specs.dm.declared.step.Step.TheVariants.{Refuses, Waits}
+pub use Rattle.sdd_needs.specs.history.declared.record.Rec.TheVariants.{Submit as Submission}
+pub use Rattle.sdd_needs.specs.logs.Due.{home_of}
+pub use Rattle.sdd_needs.specs.logs.Permitted.{IsDueAt}
+pub use Rattle.sdd_needs.specs.net.Links.{put}
+pub use Rattle.sdd_needs.specs.net.Mailboxes.{TakesMessage as TakesFrom}
+pub use Rattle.sdd_needs.specs.net.Nets.{Matches}
+pub use Rattle.sdd_needs.specs.net.Sound.{IsOf}
+pub use Rattle.sdd_needs.specs.net.declared.delivered.Delivered.TheVariants.{Nothing}
+pub use Rattle.sdd_needs.specs.protocol.declared.entry.Entry.{Entry}
 pub use Rattle.sdd_world.specs.AtSites.{At, IsClassAt, Lives, Representation, RepresentsAt}
 pub use Rattle.sdd_world.specs.Beginnings.{AllBegin, BeginsD, BeginsT, IsBegun, There}
 pub use Rattle.sdd_world.specs.Carries.{AllDelivered, AllPut, Carries, IsPacketSpelling, IsSpelling, NetValue, PacketFits, Spells, in_bytes}
@@ -83,3 +81,5 @@ pub use Rattle.std.proofs.lemmas.List.Folds.{list_any-append}
 pub use Rattle.std.proofs.lemmas.Option.{slice_get-get_or, slice_get_past}
 pub use Rattle.std.specs.BTreeSet.{contains}
 pub use Rattle.std.specs.List.{AllByRecursion, list_any, range_with_len}
+pub use Rattle.sdd_needs.specs.dm.Views.{class_view}
+pub use Rattle.std.proofs.lemmas.Bool.Decides.{nat_tests}

@@ -1,10 +1,10 @@
 -- What one module's law says of all sites.
 use Rattle.sdd_world.proofs.All.{Act, AreDue, At, Bases, Bool, D, Did, DmNo, Err, Fitting, FittingSubmit, Handed, IfOk, IsTrue, List, Lives, Msg, NoMemory, Ok, Option, Outcome, Rec, Representation, RepresentsAt, Result, Setting, Site, Some, Submission, Submits, T, TmNo, Txn, TxnNo, U, [], ap, fits_at, fits_submit_at, get-set_same, get_or as slice_index_or, log_after, next_of, refl, slice_get, slice_set, subst, suc, sym, zero, ℕ, ◌-◌, ◌∙◌, ◌∷◌, ◌≡◌}
-use Rattle.sdd_obligations.specs.site_module.SiteLog.{Does}
-use Rattle.sdd_obligations.specs.site_module.SiteLog as site
-use Rattle.sdd_obligations.specs.dm.Due as dm
-use Rattle.sdd_obligations.specs.tm.Due as tm
-use Rattle.sdd_obligations.specs.umod.Due as um
+use Rattle.sdd_needs.specs.site_module.SiteLog.{Does}
+use Rattle.sdd_needs.specs.site_module.SiteLog as site
+use Rattle.sdd_needs.specs.dm.Due as dm
+use Rattle.sdd_needs.specs.tm.Due as tm
+use Rattle.sdd_needs.specs.umod.Due as um
 
 -- the act that is due next
 abbrev pub Table : Type 0

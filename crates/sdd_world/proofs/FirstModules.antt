@@ -1,12 +1,12 @@
 -- The modules of a system before its first event: each represents the beginning of its site's log.
 use Rattle.sdd_world.proofs.All.{AllBegin, At, BeginsD, BeginsT, Catalogue, D, Entry, Input, IsBegun, IsSiteOf, Kept, List, LivesD, LivesT, LivesU, None, Option, Redeclared, Representation, RepresentsAt, Setting, Site, Some, T, There, Txn, U, [], and_parts, beginning, leb-true, nat_le, refl, rows_of, setting_of, slice_get, subst, sym, ◌-◌, ◌∷◌, ◌≡◌, ◌≤◌}
-use Rattle.sdd_obligations.specs.dm.Represents as dm
-use Rattle.sdd_obligations.specs.dm.State as dm_state
-use Rattle.sdd_obligations.specs.tm.Represents as tm
-use Rattle.sdd_obligations.specs.tm.State as tm_state
-use Rattle.sdd_obligations.specs.umod.Represents as um
-use Rattle.sdd_obligations.specs.umod.State as um_state
-use Rattle.sdd_obligations.specs.site_module.SiteLog as site
+use Rattle.sdd_needs.specs.dm.Represents as dm
+use Rattle.sdd_needs.specs.dm.State as dm_state
+use Rattle.sdd_needs.specs.tm.Represents as tm
+use Rattle.sdd_needs.specs.tm.State as tm_state
+use Rattle.sdd_needs.specs.umod.Represents as um
+use Rattle.sdd_needs.specs.umod.State as um_state
+use Rattle.sdd_needs.specs.site_module.SiteLog as site
 
 -- what the one that is found has, as what holds of it at its site
 found_at : {V : Type 0} (P : V → Type 0) (q : Representation V) (o : Option V) (s : Setting) (log : site.Log) → ((v : V) → P v → q v s log) → There P o → At q o s log

@@ -1,7 +1,7 @@
 -- A message is handed over, and its module does what is due, over plain worlds.
-use Rattle.sdd_world.proofs.All.{Act, All, AllLinked, AreDue, AreLinked, Bases, Carries, D, EndsBy, Followed, Hand, HandedOn, Handing, Input, IsFirst, IsLawful, IsPast, IsSiteOf, List, Log, MaySend, Msg, Outcome, Rec, Represent, Setting, Site, Sites, Some, Spooled, TakesAway, U, World, [], after_acts, ahead_of, all_obligations, and_right, ap, base_of, calls_acts, calls_of, dm_no, ends_in_acts, false, first_lawful, first_next, fits, handed, hands_first, history_acts, link_parts, linked_acts, local_of, log_after, map, marks, marks_acts, next, next_in, next_of, nth_era, other_acts, other_hand, own_acts, puts, puts_past, records_of, refl, remain_other, same_here, same_is, same_site, sends_of, setting_of, subst, suc, sym, true, ℕ, ◌++◌, ◌∙◌, ◌∷◌, ◌≡◌, ◌≤◌}
+use Rattle.sdd_world.proofs.All.{Act, All, AllLinked, AreDue, AreLinked, Bases, Carries, D, EndsBy, Followed, Hand, HandedOn, Handing, Input, IsFirst, IsLawful, IsPast, IsSiteOf, List, Log, MaySend, Msg, Outcome, Rec, Represent, Setting, Site, Sites, Some, Spooled, TakesAway, U, World, [], after_acts, ahead_of, good_input, and_right, ap, base_of, calls_acts, calls_of, dm_no, ends_in_acts, false, first_lawful, first_next, fits, handed, hands_first, history_acts, link_parts, linked_acts, local_of, log_after, map, marks, marks_acts, next, next_in, next_of, nth_era, other_acts, other_hand, own_acts, puts, puts_past, records_of, refl, remain_other, same_here, same_is, same_site, sends_of, setting_of, subst, suc, sym, true, ℕ, ◌++◌, ◌∙◌, ◌∷◌, ◌≡◌, ◌≤◌}
 use Rattle.sdd_world.proofs.Parting.{ahead_acts, events_before, redeclares_acts, spooled_acts, spooled_on}
-use Rattle.sdd_obligations.specs.site_module.SiteLog as site
+use Rattle.sdd_needs.specs.site_module.SiteLog as site
 
 pub due_same : (g : Input) (b : Site) (bases : Bases) (l : site.Log) (acts : List Act)
     → AreDue (next_of b (setting_of g b) bases) l acts → AreDue (next_in g b bases) l acts
@@ -34,7 +34,7 @@ module _ (w : World) (g : Input) (log : Log) (a b : Site) (m : Msg) (kept : Site
   site_here = (link_parts g.catalogue.tms g.catalogue.dms a b f.linked).to
 
   pub hand_fits : fits b (setting_of g b) (base_of g handed_log) (local_of g b log) a m
-  hand_fits = all_obligations.hand g h.parts.good log a b (suc (handed a b log)) m h.waits.lawful h.waits.within hand_next
+  hand_fits = h.parts.good.needs.hand g (good_input g h.parts.good) log a b (suc (handed a b log)) m h.waits.lawful h.waits.within hand_next
 
   pub hand_represents : Represent w.sites b (setting_of g b) (local_of g b log)
   hand_represents = h.parts.sites b site_here
@@ -75,13 +75,13 @@ module _ (w : World) (g : Input) (log : Log) (a b : Site) (m : Msg) (kept : Site
         g.catalogue.dms,
         calls_of log,
         h.parts.net,
-        rw t.sends_are (are_linked g b (sends_of t.acts) (linked_acts g b t.acts handed_log (λ l act k e. all_obligations.sends g h.parts.good l b act k e) lawful)),
+        rw t.sends_are (are_linked g b (sends_of t.acts) (linked_acts g b t.acts handed_log (λ l act k e. h.parts.good.needs.sends g (good_input g h.parts.good) l b act k e) lawful)),
       )
 
   linked_out : (s : Sites) (outcome : Outcome) → Taken s outcome → AreLinked g.catalogue.tms g.catalogue.dms b outcome.out
   linked_out s outcome t =
       let lawful : IsLawful g (after_acts b t.acts handed_log) = first_lawful g log b kept h.waits a m rest f t.acts t.due in
-      rw t.sends_are (are_linked g b (sends_of t.acts) (linked_acts g b t.acts handed_log (λ l act k e. all_obligations.sends g h.parts.good l b act k e) lawful))
+      rw t.sends_are (are_linked g b (sends_of t.acts) (linked_acts g b t.acts handed_log (λ l act k e. h.parts.good.needs.sends g (good_input g h.parts.good) l b act k e) lawful))
 
   -- where there is no number for one of its messages, the limit ends the log
   pub hand_ends : (s : Sites) (outcome : Outcome) → Taken s outcome → IsPast (record w { sites = s }) b outcome → EndsBy g

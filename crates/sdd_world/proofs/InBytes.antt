@@ -2,7 +2,7 @@
 use Rattle.sdd_world.proofs.All.{Bool, Call, Carries, Delivered, Directions, Err, Event, FitsMsg, Global, HasLink, IfOk, Kept, List, MAX_LINK_MESSAGES, Msg, NoMemory, Ok, Result, Site, Spells, Vec, acked_le, ap, delivery, delivery_map, in_bytes, index_of, is_link, length, link, link_map, links, quiet, round, sent_of, sent_on, slice_get, sound, spelled, subst, sym, true, ℕ, ◌<◌, ◌∙◌, ◌≡◌}
 use Rattle.sdd_world.proofs.Fitting.{sent_fit, delivery_fits}
 use Rattle.sdd_world.proofs.Quietness.{count_same, quiet_same, round_same}
-use Rattle.sdd_obligations.specs.All.{Represents}
+use Rattle.sdd_needs.specs.All.{Represents}
 
 -- how many messages a net counts on a link is how many were put on it
 pub count_on : (net : Kept (Directions (List ℕ))) (a b : Site) (calls : List (Call (List ℕ))) → HasLink net a b → Represents net calls

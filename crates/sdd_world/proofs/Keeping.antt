@@ -2,7 +2,7 @@
 use Rattle.sdd_world.proofs.All.{Carries, D, Deliver, DmNo, Happened, Input, IsBelow, IsLinkOf, IsSender, IsSiteOf, Keeping, KeepsFor, List, Log, Mailbox, Mark, Marked, Messages, Msg, NetValue, OnlyAt, Remain, Site, Spooled, T, U, World, [], and_left, and_right, ap, append-nil, append_assoc, arith, calls_of, delivers_kept, delivery, dm_no, eq-eqb, eqb-true, false, from_one, if◌then◌else◌, is_down, kept_from, leb-true, length, link_of, link_parts, mailbox_at, nat_le, no_items, none_of_one as no_more, not, number_of_t, numbered, refl, remain_beside, remain_more, same_is, same_site, subst, suc, sym, takes_part, true, zero, ℕ, ◌++◌, ◌<◌, ◌∙◌, ◌∷◌, ◌≡◌, ◌≢◌, ◌≤◌}
 use Rattle.sdd_world.proofs.Marking.{marked_plain}
 use Rattle.sdd_world.proofs.Parting.{spooled_on}
-use Rattle.sdd_obligations.specs.net.Mailboxes.{Puts}
+use Rattle.sdd_needs.specs.net.Mailboxes.{Puts}
 use Rattle.std.proofs.lemmas.Bool.{and_parts}
 
 -- the numbers of data modules

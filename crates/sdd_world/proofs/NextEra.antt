@@ -1,6 +1,6 @@
 -- A class list is put in force at all transaction modules, one after the other.
-use Rattle.sdd_world.proofs.All.{AllRepresent, AreRedeclared, Era, FitsEra, Input, IsSiteOf, Log, Redeclared, Represent, Setting, Site, Sites, T, TmNo, and_from, and_parts, ap, arith, cases_lt, differ, false, fold, inl, inr, le-leb, leb-true, local_of, map, max, nat_le, number_of, range_with_len, refl, same_is, same_site, setting_of, subst, suc, sym, tm_no, true, ℕ, ◌+◌, ◌-◌, ◌<◌, ◌∙◌, ◌∷◌, ◌≡◌, ◌≤◌}
-use Rattle.sdd_obligations.specs.site_module.SiteLog as site
+use Rattle.sdd_world.proofs.All.{AllRepresent, AreRedeclared, Era, FitsEra, Input, IsSiteOf, Log, Redeclared, Represent, Setting, Site, Sites, T, TmNo, and_from, and_parts, ap, arith, cases_lt, false, nat_tests, fold, inl, inr, le-leb, leb-true, local_of, map, max, nat_le, number_of, range_with_len, refl, same_is, same_site, setting_of, subst, suc, sym, tm_no, true, ℕ, ◌+◌, ◌-◌, ◌<◌, ◌==◌, ◌∙◌, ◌∷◌, ◌≡◌, ◌≤◌}
+use Rattle.sdd_needs.specs.site_module.SiteLog as site
 
 -- the transaction modules before number n represent logs with the list, all other modules for theirs
 pub record RedeclaredAt (m : Sites) (g : Input) (log : Log) (era : Era) (t n : ℕ) : Type 0 where
@@ -12,6 +12,9 @@ pub none_redeclared : (m : Sites) (g : Input) (log : Log) (era : Era) (t : ℕ) 
 none_redeclared m g log era t all = record { redeclared_at = λ k low high here. absurd (omega arith); others = λ at later here. all at here }
 
 -- transaction modules within the network
+
+differ : (a b : ℕ) → a < b → (a == b) ≡ false
+differ a b l = grind (arith, nat_tests)
 
 pub t_here : (g : Input) (n : ℕ) → 1 ≤ n → n ≤ g.catalogue.tms → IsSiteOf g (T (tm_no n))
 t_here g n low high = and_from (nat_le 1 n) (nat_le n g.catalogue.tms) (le-leb 1 n low) (le-leb n g.catalogue.tms high)

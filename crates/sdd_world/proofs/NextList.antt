@@ -1,5 +1,5 @@
 -- Another class list is put in force, once the links are quiet, over plain worlds.
-use Rattle.sdd_world.proofs.All.{AllRepresent, AreRedeclared, Carries, Catalogue, EndsBy, EndsIn, Entry, Era, Event, FitsEra, Input, IsNextList, IsSettled, List, Log, MAX_RUN_EVENTS, Redeclare, Redeclares, Redeclaring, Represent, Represents, Sites, Spooled, U, World, [], all_obligations, ap, arith, calls_of, count_join, greatest_bound, left, local_of, lt-ltb, marks, none_left, nth_era, redeclare_next, redeclares, redeclares_in, redeclares_left, refl, rests_redeclared, setting_of, settles_before, subst, suc, sym, with_era, with_event, zero, ℕ, ◌+◌, ◌∙◌, ◌∷◌, ◌≡◌, ◌≢◌}
+use Rattle.sdd_world.proofs.All.{AllRepresent, AreRedeclared, Carries, Catalogue, EndsBy, EndsIn, Entry, Era, Event, FitsEra, Input, IsNextList, IsSettled, List, Log, MAX_RUN_EVENTS, Redeclare, Redeclares, Redeclaring, Represent, Represents, Sites, Spooled, U, World, [], good_input, ap, arith, calls_of, count_join, greatest_bound, left, local_of, lt-ltb, marks, none_left, nth_era, redeclare_next, redeclares, redeclares_in, redeclares_left, refl, rests_redeclared, setting_of, settles_before, subst, suc, sym, with_era, with_event, zero, ℕ, ◌+◌, ◌∙◌, ◌∷◌, ◌≡◌, ◌≢◌}
 use Rattle.sdd_world.proofs.Parting.{spooled_on}
 use Rattle.sdd_world.proofs.Rounds.{few, free}
 
@@ -52,7 +52,7 @@ module _ (w : World) (g : Input) (log : Log) (era : Era) (f : Redeclaring w g lo
   era_fits t e =
       subst (λ x. FitsEra g.catalogue x t) f.era_is
       (subst (λ x. FitsEra g.catalogue (nth_era g (suc (redeclares log))) x) (sym e)
-      (all_obligations.redeclare g f.calm.parts.good log (greatest_bound g log) f.calm.rests.lawful f.calm.rests.within f.next_is))
+      (f.calm.parts.good.needs.redeclare g (good_input g f.calm.parts.good) log (greatest_bound g log) f.calm.rests.lawful f.calm.rests.within f.next_is))
 
   sites_redeclared : (w2 : World) (s : Sites) (t : ℕ) → t ≡ greatest_bound g log → AreRedeclared s g log era t → w2.sites ≡ s
       → AllRepresent w2.sites g (Redeclares (greatest_bound g log) ∷ log)

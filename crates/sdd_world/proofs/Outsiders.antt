@@ -1,8 +1,8 @@
 -- No READ of a class that isn't the catalogue's waits at a data module.
-use Rattle.sdd_world.proofs.All.{Act, Bool, ClassView, D, Did, DmNo, Does, Fetch, Hand, Handed, Home, Input, IsDue, IsDueAt, IsLawful, Log, Mark, Msg, None, Null, Open, Option, Processes, Read, Records, Reduce, Refuses, Sends, Setting, Ship, Site, Some, Step, Submit, Submitted, Txn, View, Waits, Write, [], act_by, act_where, allowed_act, answer_of, answer_to, ap, arith, by_head, by_open, class_at_place, conds_of, dm_no, false, filter, head, head_of, head_step, if◌then◌else◌, is_asked_of, is_processing, is_wait, length, local_of, ne_eqb, next_allowed, numbers_to, option_map, pipe, refl, same_is, same_site, setting_of, slice_get, subst, sym, true, txn_at, unmet, view_of, wait_at, wait_for, waiting_at, waits, waits_acted, waits_of, with_submit, ℕ, ◌<◌, ◌||◌, ◌∙◌, ◌∷◌, ◌≡◌}
+use Rattle.sdd_world.proofs.All.{Act, Bool, ClassView, D, Did, DmNo, Does, Fetch, Hand, Handed, Home, Input, IsDue, IsDueAt, IsLawful, Log, Mark, Msg, None, Null, Open, Option, Processes, Read, Records, Reduce, Refuses, Sends, Setting, Ship, Site, Some, Step, Submit, Submitted, Txn, View, Waits, Write, [], act_by, act_where, allowed_act, answer_of, answer_to, ap, arith, by_head, by_open, class_view, conds_of, dm_no, false, filter, head, head_of, head_step, in_mapped, if◌then◌else◌, is_asked_of, is_processing, is_wait, length, local_of, ne_eqb, next_allowed, numbers_to, option_map, range_with_len, pipe, refl, same_is, same_site, setting_of, slice_get, subst, suc, sym, true, txn_at, unmet, view_of, wait_at, wait_for, waiting_at, waits, waits_acted, waits_of, with_submit, zero, ℕ, ◌+◌, ◌<◌, ◌||◌, ◌∙◌, ◌∷◌, ◌≡◌}
 use Rattle.sdd_world.proofs.Lists.{none_chosen}
-use Rattle.sdd_obligations.specs.All.{home_of}
-use Rattle.sdd_obligations.specs.site_module.SiteLog as site
+use Rattle.sdd_needs.specs.All.{home_of}
+use Rattle.sdd_needs.specs.site_module.SiteLog as site
 
 -- an act doesn't change whether the head of a class waits
 abbrev Leaves : ℕ → Act → Type 0
@@ -48,6 +48,16 @@ acting h v k _ step = tt
 head_is : (h : Home) (v : View) (k : ℕ) (m : Option Msg) (step : Option Step) (a : Act) → act_where h v k m step ≡ Some a → IsOf k a
 head_is h v k (Some m) (Some step) a e = it_is k _ a (acting h v k m step) e
 head_is h v k _ _ a e = cc
+
+in_range : (a n k x : ℕ) → slice_get (range_with_len a n) k ≡ Some x → x < a + n
+in_range a zero k x e = cc
+in_range a (suc n) zero x e = let p : a ≡ x = cc in omega (arith, p)
+in_range a (suc n) (suc k) x e = let i = in_range (a + 1) n k x e in omega (arith, i)
+
+-- a class of the view, by its place
+class_at_place : (s : Setting) (log : site.Log) (n : ℕ) (k : ClassView) → slice_get (view_of s log).classes n ≡ Some k
+    → (c : ℕ) × (c < suc (length s.catalogue.classes)) × (class_view s log c ≡ k)
+class_at_place s log n k e = grind (arith, in_mapped, in_range)
 
 class_below : (s : Setting) (log : site.Log) (c n : ℕ) (k : ClassView) → length s.catalogue.classes < c
     → slice_get (view_of s log).classes n ≡ Some k → k.class < c

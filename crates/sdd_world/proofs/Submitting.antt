@@ -1,10 +1,10 @@
 -- A transaction is given to its module, which does what is due, over plain worlds.
-use Rattle.sdd_world.proofs.All.{Act, All, AreDue, AreLinked, Bases, Carries, EndsBy, Era, Followed, Happened, Input, IsClassAt, IsLawful, IsPast, IsSiteOf, List, Log, Mailbox, Mark, Marked, MaySend, Msg, Outcome, Rec, Represent, Setting, Site, Sites, Some, Spooled, Submission, Submit, Submits, T, Txn, TxnNo, U, World, [], acts_lawful, after_acts, all_obligations, ap, append_assoc, arith, base_of, calls_acts, calls_of, class_for, ends_in_acts, false, fits_in_era, fits_submit, get_or, history, history_acts, home_in, home_of, left_acts, linked_acts, listed, local_of, log_after, map, mark_within, marks, marks_acts, next_in, next_of, nth_era, other_acts, other_local, own_acts, puts, puts_past, records_of, redeclared_is, redeclares, refl, same_is, same_site, sends_of, setting_of, slice_get, submits_and_acts, submitted, submitted_local, submitted_within, subst, suc, sym, true, txn_at, zero, ℕ, ◌++◌, ◌-◌, ◌∙◌, ◌∷◌, ◌≡◌, ◌≤◌}
+use Rattle.sdd_world.proofs.All.{Act, All, AreDue, AreLinked, Bases, Carries, EndsBy, Era, Followed, Happened, Input, IsClassAt, IsLawful, IsPast, IsSiteOf, List, Log, Mailbox, Mark, Marked, MaySend, Msg, Outcome, Rec, Represent, Setting, Site, Sites, Some, Spooled, Submission, Submit, Submits, T, Txn, TxnNo, U, World, [], acts_lawful, after_acts, good_input, ap, append_assoc, arith, base_of, calls_acts, calls_of, class_for, ends_in_acts, false, fits_in_era, fits_submit, get_or, history, history_acts, home_in, home_of, left_acts, linked_acts, listed, local_of, log_after, map, mark_within, marks, marks_acts, next_in, next_of, nth_era, other_acts, other_local, own_acts, puts, puts_past, records_of, redeclared_is, redeclares, refl, same_is, same_site, sends_of, setting_of, slice_get, submits_and_acts, submitted, submitted_local, submitted_within, subst, suc, sym, true, txn_at, zero, ℕ, ◌++◌, ◌-◌, ◌∙◌, ◌∷◌, ◌≡◌, ◌≤◌}
 use Rattle.sdd_world.proofs.Handing.{are_linked, at_log, due_same, here_at}
 use Rattle.sdd_world.proofs.Marking.{happened}
 use Rattle.sdd_world.proofs.Parting.{events_before, later, redeclares_acts, spooled_acts, spooled_on}
-use Rattle.sdd_obligations.specs.lang.Fits.{FitsTxn}
-use Rattle.sdd_obligations.specs.site_module.SiteLog as site
+use Rattle.sdd_needs.specs.lang.Fits.{FitsTxn}
+use Rattle.sdd_needs.specs.site_module.SiteLog as site
 
 -- what is read at a place of a list is the member there
 pub read_at : {A : Type 0} (xs : List A) (i : ℕ) (x y : A) → slice_get xs i ≡ Some x → y ≡ get_or xs i y → slice_get xs i ≡ Some y
@@ -36,7 +36,7 @@ module _ (w : World) (g : Input) (log : Log) (n : TxnNo) (m : Marked w g log (Su
   lawful_here = (m.marked.next_is, m.marked.rests.lawful)
 
   home_here : IsSiteOf g home
-  home_here = all_obligations.home g m.parts.good (Mark (Submit n) ∷ log) home n.0 lawful_here refl
+  home_here = m.parts.good.needs.home g (good_input g m.parts.good) (Mark (Submit n) ∷ log) home n.0 lawful_here refl
 
   pub events_order : All {X = ℕ × Rec} (λ e. e.0 ≤ w.marks) w.history
   events_order = rw (m.marks_are, m.parts.history_is) (later (marks log) (suc (marks log)) (history log) (omega arith) (events_before log))
@@ -46,7 +46,7 @@ module _ (w : World) (g : Input) (log : Log) (n : TxnNo) (m : Marked w g log (Su
     home_is at e = e ∙ ap (λ c. home_of c (Some txn)) m.parts.catalogue_is ∙ ap (λ o. home_of (nth_era g (redeclares log)).catalogue o) (sym is)
 
     submit_fits : fits_submit home (setting_of g home) (base_of g submitted_log) (local_of g home log) n.0 txn
-    submit_fits = all_obligations.submit g m.parts.good (Mark (Submit n) ∷ log) home n.0 txn lawful_here
+    submit_fits = m.parts.good.needs.submit g (good_input g m.parts.good) (Mark (Submit n) ∷ log) home n.0 txn lawful_here
         (mark_within log (Submit n) m.marked.few, m.marked.rests.within) refl is
 
     submit_represents : Represent w.sites home (setting_of g home) (local_of g home log)
@@ -95,7 +95,7 @@ module _ (w : World) (g : Input) (log : Log) (n : TxnNo) (m : Marked w g log (Su
     linked_out : (s : Sites) (outcome : Outcome) → Taken s outcome → AreLinked g.catalogue.tms g.catalogue.dms home outcome.out
     linked_out s outcome t =
         rw t.sends_are (are_linked g home (sends_of t.acts) (linked_acts g home t.acts submitted_log
-        (λ l act k e. all_obligations.sends g m.parts.good l home act k e) (acts_lawful_here s outcome t)))
+        (λ l act k e. m.parts.good.needs.sends g (good_input g m.parts.good) l home act k e) (acts_lawful_here s outcome t)))
 
     -- it may be sent
     pub may_send : (s : Sites) (at : Site) (outcome : Outcome) → at ≡ home → Taken s outcome → MaySend (record w { sites = s }) at outcome

@@ -1,9 +1,9 @@
 -- The clock of a transaction module goes on, over plain worlds.
-use Rattle.sdd_world.proofs.All.{Happened, Input, IsSiteOf, List, Log, Mailbox, Mark, Marked, Msg, Represent, Setting, Site, Sites, Spooled, T, Tick, Ticked, TmNo, U, World, all_obligations, false, fits_tick, handed_still, local_of, refl, rests_marked, same_here, same_is, same_site, setting_of, ticked_none, true, ℕ, ◌∷◌, ◌≡◌}
+use Rattle.sdd_world.proofs.All.{Happened, Input, IsSiteOf, List, Log, Mailbox, Mark, Marked, Msg, Represent, Setting, Site, Sites, Spooled, T, Tick, Ticked, TmNo, U, World, good_input, false, fits_tick, handed_still, local_of, refl, rests_marked, same_here, same_is, same_site, setting_of, ticked_none, true, ℕ, ◌∷◌, ◌≡◌}
 use Rattle.sdd_world.proofs.Handing.{at_log, here_at}
 use Rattle.sdd_world.proofs.Marking.{happened}
 use Rattle.sdd_world.proofs.Parting.{spooled_on}
-use Rattle.sdd_obligations.specs.site_module.SiteLog as site
+use Rattle.sdd_needs.specs.site_module.SiteLog as site
 
 own_tick : (g : Input) (t : TmNo) (n : ℕ) (log : Log) → local_of g (T t) (Mark (Tick t n) ∷ log) ≡ Ticked n ∷ local_of g (T t) log
 own_tick g t n log = rw (same_here (T t)) refl
@@ -17,7 +17,7 @@ spool_ticked g t n log boxes s = spooled_on g log (Mark (Tick t n) ∷ log) boxe
 
 module _ (w : World) (g : Input) (log : Log) (t : TmNo) (n : ℕ) (m : Marked w g log (Tick t n)) where
   tick_fits : fits_tick (T t) (setting_of g (T t)) (local_of g (T t) log) n
-  tick_fits = all_obligations.tick g m.parts.good log t.0 n m.marked.rests.lawful m.marked.rests.within m.marked.next_is
+  tick_fits = m.parts.good.needs.tick g (good_input g m.parts.good) log t.0 n m.marked.rests.lawful m.marked.rests.within m.marked.next_is
 
   pub tick_asks : (setting : Setting) × (l : site.Log) × Represent w.sites (T t) setting l × fits_tick (T t) setting l n
   tick_asks = (setting_of g (T t), local_of g (T t) log, m.parts.sites (T t) m.possible.0, tick_fits)

@@ -3,7 +3,7 @@ use Rattle.sdd_world.proofs.All.{AllHanded, Bool, Carries, Cut, D, DmNo, Down, E
 use Rattle.sdd_world.proofs.Marking.{marked_noted, marked_plain}
 use Rattle.sdd_world.proofs.Keeping.{dm_within, same_dm as apart_of}
 use Rattle.sdd_world.proofs.Parting.{keeps_on as still_box}
-use Rattle.sdd_obligations.specs.All.{Waits}
+use Rattle.sdd_needs.specs.All.{Waits}
 
 -- the mailboxes as a module turns
 

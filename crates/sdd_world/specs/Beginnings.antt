@@ -1,11 +1,11 @@
 -- For which logs the modules of a system stand before its first event.
 use Rattle.std.specs.Prelude.{ℕ, ◌-◌, ◌≤◌, ◌≡◌, List, [], ◌∷◌, length, slice_get, Option, Some, None}
-use Rattle.sdd_obligations.specs.All.{Catalogue, D, Input, Kept, Redeclared, RelNo, Row, Setting, T, Txn, dm_no, nth_era, rows_of, tm_no}
-use Rattle.sdd_obligations.specs.protocol.declared.entry.Entry.{Entry}
-use Rattle.sdd_obligations.specs.dm.Represents as dm
-use Rattle.sdd_obligations.specs.dm.State as dm_state
-use Rattle.sdd_obligations.specs.tm.Represents as tm
-use Rattle.sdd_obligations.specs.tm.State as tm_state
+use Rattle.sdd_needs.specs.All.{Catalogue, D, Input, Kept, Redeclared, RelNo, Row, Setting, T, Txn, dm_no, nth_era, rows_of, tm_no}
+use Rattle.sdd_needs.specs.protocol.declared.entry.Entry.{Entry}
+use Rattle.sdd_needs.specs.dm.Represents as dm
+use Rattle.sdd_needs.specs.dm.State as dm_state
+use Rattle.sdd_needs.specs.tm.Represents as tm
+use Rattle.sdd_needs.specs.tm.State as tm_state
 
 -- the module that is looked for is there, and has this
 abbrev pub There : {V : Type 0} → (V → Type 0) → Option V → Type 0

@@ -1,7 +1,7 @@
 -- Which calls the mail represents: those that its network of spellings represents, each message spelled.
 use Rattle.std.specs.Prelude.{ℕ, ◌≡◌, IsTrue, List, [], ◌∷◌, map}
 use Rattle.std.specs.List.{AllByRecursion}
-use Rattle.sdd_obligations.specs.All.{Ack, Call, Delivered, Directions, FitsMsg, Kept, Message, Messages, Msg, Packet, Puts, Represents, call_as, delivered_as, spelled}
+use Rattle.sdd_needs.specs.All.{Ack, Call, Delivered, Directions, FitsMsg, Kept, Message, Messages, Msg, Packet, Puts, Represents, call_as, delivered_as, spelled}
 
 -- what contracts see of a mail: whether it is live, and the network of spellings
 abbrev pub NetValue : Type 0

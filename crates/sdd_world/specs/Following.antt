@@ -1,6 +1,6 @@
 -- What a module records and sends is put on the history and the network.
 use Rattle.std.specs.Prelude.{ℕ, ◌≡◌, true, false, List, ◌++◌, map}
-use Rattle.sdd_obligations.specs.All.{Call, Msg, Outcome, Site, puts, puts_past}
+use Rattle.sdd_needs.specs.All.{Call, Msg, Outcome, Site, puts, puts_past}
 use Rattle.sdd_world.specs.declared.world.World.{World}
 use Rattle.sdd_world.specs.Carries.{Carries, NetValue}
 use Rattle.sdd_world.specs.Kinds.{AreLinked}

@@ -1,6 +1,6 @@
 -- Where a site may send.
 use Rattle.std.specs.Prelude.{ℕ, ◌≡◌, true, List, [], ◌∷◌}
-use Rattle.sdd_obligations.specs.All.{Msg, Site, is_link}
+use Rattle.sdd_needs.specs.All.{Msg, Site, is_link}
 
 -- messages go along links between so many modules
 abbrev pub AreLinked : ℕ → ℕ → Site → List (Site × Msg) → Type 0

@@ -1,13 +1,13 @@
 -- For which logs the modules of all sites stand.
 use Rattle.std.specs.Prelude.{ℕ}
-use Rattle.sdd_obligations.specs.All.{Era, Input, IsSiteOf, Kept, Log, Setting, Site, local_of, setting_of, with_era}
-use Rattle.sdd_obligations.specs.site_module.SiteLog as site
-use Rattle.sdd_obligations.specs.dm.Represents as dm
-use Rattle.sdd_obligations.specs.tm.Represents as tm
-use Rattle.sdd_obligations.specs.umod.Represents as um
-use Rattle.sdd_obligations.specs.dm.State as dm_state
-use Rattle.sdd_obligations.specs.tm.State as tm_state
-use Rattle.sdd_obligations.specs.umod.State as um_state
+use Rattle.sdd_needs.specs.All.{Era, Input, IsSiteOf, Kept, Log, Setting, Site, local_of, setting_of, with_era}
+use Rattle.sdd_needs.specs.site_module.SiteLog as site
+use Rattle.sdd_needs.specs.dm.Represents as dm
+use Rattle.sdd_needs.specs.tm.Represents as tm
+use Rattle.sdd_needs.specs.umod.Represents as um
+use Rattle.sdd_needs.specs.dm.State as dm_state
+use Rattle.sdd_needs.specs.tm.State as tm_state
+use Rattle.sdd_needs.specs.umod.State as um_state
 use Rattle.sdd_world.specs.AtSites.{Lives, Representation, RepresentsAt}
 use Rattle.sdd_world.specs.declared.sites.Sites.{Sites}
 

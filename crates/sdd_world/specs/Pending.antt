@@ -4,12 +4,12 @@ use Rattle.std.specs.BTreeSet.{BTreeSet, contains}
 use Rattle.std.specs.List.{list_any}
 use Rattle.std.specs.Ordering.{nat_cmp}
 use Rattle.std.specs.Option.{option_map}
-use Rattle.sdd_obligations.specs.All.{Commit, Cond, D, History, Input, IsSubmitted, Log, Rec, Setting, Site, Standing, Submitted, TxnNo, U, dm_no, history, is_met, local_of, nth_era, numbers_to, redeclares, setting_of, txn_at, view_of}
-use Rattle.sdd_obligations.specs.history.declared.record.Rec.TheVariants.{Submit}
-use Rattle.sdd_obligations.specs.site_module.SiteLog as site
-use Rattle.sdd_obligations.specs.attempt.declared.standing.Standing.TheVariants as standings
-use Rattle.sdd_obligations.specs.dm.Waiting.{waiting_at}
-use Rattle.sdd_obligations.specs.logs.Due.{home_of}
+use Rattle.sdd_needs.specs.All.{Commit, Cond, D, History, Input, IsSubmitted, Log, Rec, Setting, Site, Standing, Submitted, TxnNo, U, dm_no, history, is_met, local_of, nth_era, numbers_to, redeclares, setting_of, txn_at, view_of}
+use Rattle.sdd_needs.specs.history.declared.record.Rec.TheVariants.{Submit}
+use Rattle.sdd_needs.specs.site_module.SiteLog as site
+use Rattle.sdd_needs.specs.attempt.declared.standing.Standing.TheVariants as standings
+use Rattle.sdd_needs.specs.dm.Waiting.{waiting_at}
+use Rattle.sdd_needs.specs.logs.Due.{home_of}
 use Rattle.sdd_report.specs.Pending.{under_way}
 use Rattle.sdd_report.specs.declared.pending.Pending.{Pending}
 use Rattle.sdd_report.specs.declared.pending.Waiting.{Waiting}

@@ -1,8 +1,8 @@
 -- Which log a world represents, between events and within one.
 use Rattle.std.specs.Prelude.{ℕ, suc, ◌≤◌, ◌≡◌, true, false, List, [], ◌∷◌, ◌++◌, length, Some, None}
-use Rattle.sdd_obligations.specs.All.{AtEach, Catalogue, D, Deliver, EndsByLimit, EndsIn, Era, Event, Input, IsGood, IsLinkOf, IsMarked, IsPossible, IsSiteOf, Log, MAX_DMS, MAX_TMS, Mailbox, Mark, Messages, Msg, Redeclares, Remain, Rests, Site, TakesRounds, Txn, U, Waits, after_mark, all_links, calls_of, delivery, dm_no, from_one, greatest_bound, history, is_down, kept_from, left, link_of, mailbox_at, marks, next, nth_era, quiet, redeclares, redeclares_in, same_site, txn_at}
-use Rattle.sdd_obligations.specs.protocol.declared.entry.Entry.{Entry}
-use Rattle.sdd_obligations.specs.lang.Fits.{FitsTxn}
+use Rattle.sdd_needs.specs.All.{AtEach, Catalogue, D, Deliver, EndsByLimit, EndsIn, Era, Event, Input, IsGood, IsLinkOf, IsMarked, IsPossible, IsSiteOf, Log, MAX_DMS, MAX_TMS, Mailbox, Mark, Messages, Msg, Redeclares, Remain, Rests, Site, TakesRounds, Txn, U, Waits, after_mark, all_links, calls_of, delivery, dm_no, from_one, greatest_bound, history, is_down, kept_from, left, link_of, mailbox_at, marks, next, nth_era, quiet, redeclares, redeclares_in, same_site, txn_at}
+use Rattle.sdd_needs.specs.protocol.declared.entry.Entry.{Entry}
+use Rattle.sdd_needs.specs.lang.Fits.{FitsTxn}
 use Rattle.sdd_world.specs.Carries.{Carries}
 use Rattle.sdd_world.specs.Modules.{AllRepresent}
 use Rattle.sdd_world.specs.declared.world.World.{World}

@@ -1,6 +1,6 @@
 -- What is given with the events of a schedule, and which schedules can be carried out.
 use Rattle.std.specs.Prelude.{Bool, true, false, ◌≡◌, List, [], ◌∷◌}
-use Rattle.sdd_obligations.specs.All.{Event, Input, IsGood, IsPossible, Redeclare, Settle, with_event}
+use Rattle.sdd_needs.specs.All.{Event, Input, IsGood, IsPossible, Redeclare, Settle, with_event}
 use Rattle.sdd_world.specs.declared.schedule.ClassList.{ClassList}
 use Rattle.sdd_world.specs.Represents.{IsNextList}
 

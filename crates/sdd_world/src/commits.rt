@@ -2,11 +2,11 @@
 ghost use Rattle.std.specs.Prelude.{◌≡◌, ◌||◌, ℕ, IfOk, OnOk};
 ghost use Rattle.std.specs.BTreeSet.{contains};
 ghost use Rattle.std.specs.Ordering.{nat_cmp};
-ghost use Rattle.sdd_obligations.specs.All.{History};
+ghost use Rattle.sdd_needs.specs.All.{History};
 ghost use Rattle.sdd_world.specs.Pending.{AreCommitted, commits};
 
-use sdd_obligations::sdd_base::NoMemory;
-use sdd_obligations::sdd_history::Rec;
+use sdd_base::NoMemory;
+use sdd_history::Rec;
 use std::alloc::Global;
 use std::collections::BTreeSet;
 

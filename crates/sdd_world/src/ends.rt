@@ -1,4 +1,4 @@
-use sdd_obligations::sdd_base::NoMemory;
+use sdd_base::NoMemory;
 use std::alloc::{AllocError, AllocFailed};
 use thiserror::Error;
 

@@ -1,13 +1,13 @@
 ghost use Rattle.std.specs.Prelude.{IfOk};
 ghost use Rattle.std.specs.List.{All};
-ghost use Rattle.sdd_obligations.specs.All.{FitsStart, IsEraOf};
+ghost use Rattle.sdd_needs.specs.All.{FitsStart, IsEraOf};
 ghost use Rattle.sdd_world.specs.Beginnings.{AllBegin, BeginsD, BeginsT};
 
-use sdd_obligations::sdd_base::{DmNo, NoMemory, RelNo, Row, TmNo};
-use sdd_obligations::sdd_catalog::Catalogue;
-use sdd_obligations::sdd_dm::DataModule;
-use sdd_obligations::sdd_protocol::Table;
-use sdd_obligations::sdd_tm::TxnModule;
+use sdd_base::{DmNo, NoMemory, RelNo, Row, TmNo};
+use sdd_catalog::Catalogue;
+use sdd_dm::DataModule;
+use sdd_protocol::Table;
+use sdd_tm::TxnModule;
 use std::alloc::Global;
 
 /// The transaction modules of the whole catalogue, where these classes of it and their protocol

@@ -1,11 +1,11 @@
 ghost use Rattle.std.specs.Prelude.{◌≡◌, drop, map, IfOk};
 ghost use Rattle.std.specs.List.{AllByRecursion};
-ghost use Rattle.sdd_obligations.specs.All.{Delivered as Handed, FitsMsg, Msg as Message, packet_as, spelled};
+ghost use Rattle.sdd_needs.specs.All.{Delivered as Handed, FitsMsg, Msg as Message, packet_as, spelled};
 ghost use Rattle.sdd_world.specs.Carries.{IsPacketSpelling, IsSpelling, PacketFits, Spells};
 
-use sdd_obligations::sdd_base::NoMemory;
-use sdd_obligations::sdd_net::{Delivered, Flight, Packet, Packets, Parcels};
-use sdd_obligations::sdd_wire::{Msg, Spelling, WireFault, decode};
+use sdd_base::NoMemory;
+use sdd_net::{Delivered, Flight, Packet, Packets, Parcels};
+use sdd_wire::{Msg, Spelling, WireFault, decode};
 use std::alloc::Global;
 
 /// What is handed on, read from its spellings.

@@ -1,14 +1,14 @@
 //! What is pending when a run ends.
 ghost use Rattle.std.specs.Prelude.{◌≡◌, ◌++◌, ◌∷◌, [], filter_map, IfOk, OnOk};
-ghost use Rattle.sdd_obligations.specs.All.{History, Input, Log};
+ghost use Rattle.sdd_needs.specs.All.{History, Input, Log};
 ghost use Rattle.sdd_world.specs.Pending.{AreCommitted, last_home, pending_as, pending_at, pending_by, reason_of};
 ghost use Rattle.sdd_world.specs.Represents.{Represents};
 ghost use Rattle.sdd_world.specs.Standings.{standing_of};
 
 use crate::commits::committed_txns;
 use crate::world::World;
-use sdd_obligations::sdd_base::{NoMemory, TxnNo};
-use sdd_obligations::sdd_history::Rec;
+use sdd_base::{NoMemory, TxnNo};
+use sdd_history::Rec;
 use sdd_report::Pending;
 use std::alloc::Global;
 use std::collections::BTreeSet;

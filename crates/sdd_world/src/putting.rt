@@ -1,13 +1,13 @@
 ghost use Rattle.std.specs.Prelude.{◌≡◌, ◌≤◌, ◌++◌, [], ◌∷◌, ℕ, List, map, true, false, All, IfOk, IsErrOf, OnOk};
-ghost use Rattle.sdd_obligations.specs.All.{Call, Msg, puts, puts_past};
+ghost use Rattle.sdd_needs.specs.All.{Call, Msg, puts, puts_past};
 ghost use Rattle.sdd_world.specs.Carries.{Carries};
 ghost use Rattle.sdd_world.specs.Kinds.{AreLinked};
 
 use crate::ends::WorldEnd;
 use crate::mail::Mail;
-use sdd_obligations::sdd_base::{NoMemory, Site};
-use sdd_obligations::sdd_history::{History, Recs};
-use sdd_obligations::sdd_wire::{Msg, Outs};
+use sdd_base::{NoMemory, Site};
+use sdd_history::{History, Recs};
+use sdd_wire::{Msg, Outs};
 use std::collections::VecDeque;
 
 /// Adds records of an event after the others.

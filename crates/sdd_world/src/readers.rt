@@ -1,6 +1,6 @@
 ghost use Rattle.std.specs.Prelude.{◌≡◌, ◌≤◌, [], ℕ, List, length, true, IfOk, IsTrue};
 ghost use Rattle.std.specs.Option.{option_copied};
-ghost use Rattle.sdd_obligations.specs.All.{Call, D, Input, IsAwaited, IsEraOf, IsGood, IsLinkOf, IsSiteOf, Log, Msg, Represent, Site, T, U, all_links, calls_of, dated, handed, has_copy, history, is_down, is_here, local_of, marks, nth_era, number_of, quiet, redeclares, setting_of};
+ghost use Rattle.sdd_needs.specs.All.{Call, D, Input, IsAwaited, IsEraOf, IsGood, IsLinkOf, IsSiteOf, Log, Msg, Represent, Site, T, U, all_links, calls_of, dated, handed, has_copy, history, is_down, is_here, local_of, marks, nth_era, number_of, quiet, redeclares, setting_of};
 ghost use Rattle.sdd_world.specs.Beginnings.{IsBegun};
 ghost use Rattle.sdd_world.specs.Carries.{Carries};
 ghost use Rattle.sdd_world.specs.Modules.{AllRepresent, LivesD, LivesT, LivesU};
@@ -11,20 +11,18 @@ use crate::mail::Mail;
 use crate::making::txn_modules;
 use crate::sites::Sites;
 use crate::world::World;
-use sdd_obligations::sdd_attempt::Standing;
-use sdd_obligations::sdd_base::{
-    ClassNo, Cond, DmNo, Event, Listed, NoMemory, Site, TmNo, Ts, TxnNo,
-};
-use sdd_obligations::sdd_catalog::Catalogue;
-use sdd_obligations::sdd_copy::Copies;
-use sdd_obligations::sdd_dm::DataModule;
-use sdd_obligations::sdd_history::History;
-use sdd_obligations::sdd_lang::Txn;
-use sdd_obligations::sdd_net::{Net, Spool};
-use sdd_obligations::sdd_protocol::Table;
-use sdd_obligations::sdd_tm::TxnModule;
-use sdd_obligations::sdd_umod::UModule;
-use sdd_obligations::sdd_wire::Spelling;
+use sdd_attempt::Standing;
+use sdd_base::{ClassNo, Cond, DmNo, Event, Listed, NoMemory, Site, TmNo, Ts, TxnNo};
+use sdd_catalog::Catalogue;
+use sdd_copy::Copies;
+use sdd_dm::DataModule;
+use sdd_history::History;
+use sdd_lang::Txn;
+use sdd_net::{Net, Spool};
+use sdd_protocol::Table;
+use sdd_tm::TxnModule;
+use sdd_umod::UModule;
+use sdd_wire::Spelling;
 use std::alloc::Global;
 
 impl<'a> World<'a> {

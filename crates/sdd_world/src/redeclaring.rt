@@ -1,13 +1,13 @@
 //! Another class list is put in force in a world, once its links are quiet.
 ghost use Rattle.std.specs.Prelude.{◌≡◌, IfOk, IsErrOf};
-ghost use Rattle.sdd_obligations.specs.All.{Input, IsGood, Log, Redeclare, with_event};
+ghost use Rattle.sdd_needs.specs.All.{Input, IsGood, Log, Redeclare, with_event};
 ghost use Rattle.sdd_world.specs.Represents.{EndsBy, IsNextList, Redeclaring, Represents};
 
 use crate::ends::WorldEnd;
 use crate::world::World;
-use sdd_obligations::sdd_base::Event;
-use sdd_obligations::sdd_catalog::Catalogue;
-use sdd_obligations::sdd_protocol::Table;
+use sdd_base::Event;
+use sdd_catalog::Catalogue;
+use sdd_protocol::Table;
 
 impl<'a> World<'a> {
     /// Puts a class list in force at all transaction modules, at the greatest bound of their

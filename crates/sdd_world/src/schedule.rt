@@ -1,13 +1,13 @@
 ghost use Rattle.std.specs.Prelude.{◌≡◌, IfOk, IsErrOf};
-ghost use Rattle.sdd_obligations.specs.All.{Input, Log, Redeclare, with_event};
+ghost use Rattle.sdd_needs.specs.All.{Input, Log, Redeclare, with_event};
 ghost use Rattle.sdd_world.specs.Represents.{EndsBy, Represents};
 ghost use Rattle.sdd_world.specs.Schedules.{AreAllowed, IsAllowed, lists_after, with_events};
 
 use crate::ends::WorldEnd;
 use crate::world::World;
-use sdd_obligations::sdd_base::Event;
-use sdd_obligations::sdd_catalog::Catalogue;
-use sdd_obligations::sdd_protocol::Table;
+use sdd_base::Event;
+use sdd_catalog::Catalogue;
+use sdd_protocol::Table;
 use std::collections::VecDeque;
 
 /// A class list as it is put in force: the catalogue that has them, with its protocol table.

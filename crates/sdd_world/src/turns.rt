@@ -1,13 +1,13 @@
 //! The events of a settle or a redeclare, carried out one by one.
 ghost use Rattle.std.specs.Prelude.{◌≡◌, ◌∷◌, List, suc, true, false, IfOk, IsErrOf, MatchOption};
-ghost use Rattle.sdd_obligations.specs.All.{Event as Happening, Input, IsGood, Log, Redeclare, Round, TakesRounds, all_links, calls_of, quiet, with_event};
+ghost use Rattle.sdd_needs.specs.All.{Event as Happening, Input, IsGood, Log, Redeclare, Round, TakesRounds, all_links, calls_of, quiet, with_event};
 ghost use Rattle.sdd_world.specs.Represents.{EndsBy, IsNextList, IsSettled, Represents, Rounding, Settling, events_of};
 
 use crate::ends::WorldEnd;
 use crate::world::World;
-use sdd_obligations::sdd_base::{Event, NoMemory};
-use sdd_obligations::sdd_catalog::Catalogue;
-use sdd_obligations::sdd_protocol::Table;
+use sdd_base::{Event, NoMemory};
+use sdd_catalog::Catalogue;
+use sdd_protocol::Table;
 
 impl<'a> World<'a> {
     /// Adds a `Settle` or a `Redeclare` to the events that were given: rounds are next, until the

@@ -1,14 +1,14 @@
 //! Why a transaction is pending.
 ghost use Rattle.std.specs.Prelude.{◌≡◌, ◌≤◌, ◌++◌, ◌∷◌, [], ℕ, filter_map, length, IfOk, OnOk};
-ghost use Rattle.sdd_obligations.specs.All.{D, Input, IsSiteOf, Log};
+ghost use Rattle.sdd_needs.specs.All.{D, Input, IsSiteOf, Log};
 ghost use Rattle.sdd_world.specs.Pending.{last_home, reason_of, wait_at, waits_of, why_of};
 ghost use Rattle.sdd_world.specs.Represents.{Represents};
 ghost use Rattle.sdd_world.specs.Standings.{standing_of};
 
 use crate::homes::home;
 use crate::world::World;
-use sdd_obligations::sdd_attempt::Standing;
-use sdd_obligations::sdd_base::{ClassNo, DmNo, NoMemory, Site, Ts, TxnNo};
+use sdd_attempt::Standing;
+use sdd_base::{ClassNo, DmNo, NoMemory, Site, Ts, TxnNo};
 use sdd_report::{Waiting, Why, under_way};
 use std::alloc::Global;
 

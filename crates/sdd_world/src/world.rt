@@ -1,5 +1,5 @@
 ghost use Rattle.std.specs.Prelude.{◌≡◌, ◌<◌, ◌≤◌, All, ◌++◌, [], ◌∷◌, true, false, ℕ, List, Some, IfOk, OnOk, IsErrOf, MatchOption};
-ghost use Rattle.sdd_obligations.specs.All.{D, Deliver, Down, Event, Input, IsFirst, IsGood, IsLinkOf, IsPossible, IsSiteOf, Log, Lose, Msg, Repeat, Resend, Settle, Site, Submit, TakesAway, Tick, U, Up, all_links, calls_of, from_one, history, is_down, kept_from, mailbox_at, quiet, takes_part, with_event};
+ghost use Rattle.sdd_needs.specs.All.{D, Deliver, Down, Event, Input, IsFirst, IsGood, IsLinkOf, IsPossible, IsSiteOf, Log, Lose, Msg, Repeat, Resend, Settle, Site, Submit, TakesAway, Tick, U, Up, all_links, calls_of, from_one, history, is_down, kept_from, mailbox_at, quiet, takes_part, with_event};
 ghost use Rattle.sdd_world.specs.declared.world.World.{World};
 ghost use Rattle.sdd_world.specs.Following.{MaySend, Followed, IsPast};
 ghost use Rattle.sdd_world.specs.Represents.{ahead_of, Arrives, Before, EndsBy, HandedOn, Handing, Happened, IsSettled, Keeping, Marked, Rising, Risen, Settles, Settling, Spooled, Represents};
@@ -9,12 +9,12 @@ use crate::homes::home_in;
 use crate::mail::Mail;
 use crate::putting::{record_all, send_all};
 use crate::sites::Sites;
-use sdd_obligations::sdd_base::{DmNo, Event, Listed, NoMemory, Site, TmNo, TxnNo};
-use sdd_obligations::sdd_catalog::Catalogue;
-use sdd_obligations::sdd_history::{History, Rec};
-use sdd_obligations::sdd_lang::{Txn, class_for};
-use sdd_obligations::sdd_net::{Delivered, Parcels, Spool};
-use sdd_obligations::sdd_wire::{Msg, Outcome};
+use sdd_base::{DmNo, Event, Listed, NoMemory, Site, TmNo, TxnNo};
+use sdd_catalog::Catalogue;
+use sdd_history::{History, Rec};
+use sdd_lang::{Txn, class_for};
+use sdd_net::{Delivered, Parcels, Spool};
+use sdd_wire::{Msg, Outcome};
 use std::collections::VecDeque;
 
 /// The modules of all sites, the network between them, the messages that are kept for modules

@@ -1,9 +1,20 @@
 """Runs the submissions of a workload under many schedules, and reports which transactions wait, for whom and how long.
 
+    sdd explore CATALOGUE WORKLOAD [CATALOGUE2 WORKLOAD2 ..] (--link MS | --near T1-D1=MS .. | --times FILE) [--service D1=MS ..]
+                     [--every MS] [--jitter PERCENT] [--runs N] [--seed SEED] [--by class|kind] [--check N]
+                     [--json | --csv] [--picture FILE] [--worst FILE] [--program COMMAND]
     sdd explore CATALOGUE WORKLOAD [CATALOGUE2 WORKLOAD2] [--runs N] [--seed SEED] [--pace N]
                      [--faults PERCENT] [--by class|kind] [--picture FILE] [--program COMMAND]
 
-Each schedule submits what the workload submits, in its order, and keeps its ticks, downs, ups and settles
+In the first form the links have times, and all figures are milliseconds, with p50, p95 and p99. A message takes --link (20) between
+two sites, or what --near says of these two, and up to --jitter percent more (10); a site handles one message after the other, each in
+--service; submissions come at random, --every milliseconds apart on the average (10). --times is a TOML file of all that, with places
+(the head of sdd/design/times.py has its form; docs/DESIGN.md an example). The table has what reads waited that had to, what transactions
+queued before they began, and how long it took from the submission to the commit; `busy` is the part of the time in which the class had
+an attempt under way. Two designs stand below each other, more in a line each. --check is how many of the runs `sdd1` carries out
+too, whose trace has to be the same, and whose report is verified: a fiftieth. --worst writes the run with the slowest transaction.
+
+In the second form times are in rounds. Each schedule submits what the workload submits, in its order, and keeps its ticks, downs, ups and settles
 between them; the deliveries are drawn from SEED. Where all schedules in which packets arrive in their
 order are no more than N, those are taken, and nothing is drawn.
 
@@ -36,8 +47,8 @@ import tempfile
 from typing import NamedTuple
 
 from sdd.command import count, parser
-from sdd.design import distributions
-from sdd.design.figures import collect_drains, collect_figures, print_comparison, print_design
+from sdd.design import distributions, explore_times
+from sdd.design.figures import as_json, collect_drains, collect_figures, print_comparison, print_design
 from sdd.design.observed import observe
 from sdd.design.protocols import print_changes, print_protocols, read_protocols
 from sdd.design.schedules import Manner, draw_schedule, enumerate_schedules, list_links, read_load
@@ -47,6 +58,7 @@ from sdd.programs import Program, add_program, demand_text
 from sdd.reference.plain import class_for
 
 BATCH = 50
+USUAL_PACE = 4              # rounds between two submissions
 LAST = "lose T1 D1 1"       # finds nothing after a settle, and so tells how many events there were
 
 
@@ -101,7 +113,7 @@ class Explorer:
             whole = enumerate_schedules(self.load, self.links, self.flying, asked.runs)
             if whole is not None:
                 return whole, True
-        manner = Manner(asked.pace, asked.faults / 100)
+        manner = Manner(USUAL_PACE if asked.pace is None else asked.pace, asked.faults / 100)
         return [draw_schedule(self.load, self.links, random.Random("%d %d" % (asked.seed, k)), manner) for k in range(asked.runs)], False
 
     def explore(self, asked):
@@ -144,15 +156,17 @@ def read_words():
     asked.add_argument("files", metavar="FILE", nargs="+")
     asked.add_argument("--runs", metavar="N", type=count, default=200, help="how many schedules (200)")
     asked.add_argument("--seed", type=count, default=1, help="where the drawn numbers begin (1)")
-    asked.add_argument("--pace", metavar="N", type=positive, default=4, help="rounds between two submissions (4)")
+    asked.add_argument("--pace", metavar="N", type=positive, help="rounds between two submissions (4)")
     asked.add_argument("--faults", metavar="PERCENT", type=positive, default=0, help="losses, repetitions, resends (0)")
     asked.add_argument("--by", choices=["class", "kind"], help="without it kinds, where there are two designs and few kinds")
     asked.add_argument("--events", action="store_true", help="tell events, not rounds")
     asked.add_argument("--picture", metavar="FILE", help="draw the distributions")
+    explore_times.add_times(asked)
     add_program(asked)
     asked = asked.parse_args()
-    if len(asked.files) not in (2, 4):
-        raise BadInput("it takes a catalogue and a workload, or two of each")
+    explore_times.demand_timed(asked)
+    if len(asked.files) % 2 or len(asked.files) > 4 and not explore_times.is_timed(asked):
+        raise BadInput("it takes a catalogue and a workload, or two of each; with times of links any number")
     if asked.runs == 0 or asked.faults > 100:
         raise BadInput("--runs is 1 or more, and --faults at most 100")
     return asked
@@ -164,6 +178,9 @@ def kinds_of(path):
 
 def main():
     asked = read_words()
+    if explore_times.is_timed(asked):
+        explore_times.explore(asked, tell_progress)
+        return
     if asked.by is None:
         few = len(asked.files) == 4 and all(len(kinds_of(x)) <= 24 for x in asked.files[1::2])
         asked.by = "kind" if few else "class"
@@ -174,7 +191,9 @@ def main():
             explorer = Explorer(program, asked.files[k], asked.files[k + 1], folder)
             designs.append(explorer.explore(asked))
     unit = "events" if asked.events else "rounds"
-    if len(designs) == 1:
+    if asked.json:
+        print(as_json(designs, asked.by, unit))
+    elif len(designs) == 1:
         print_design(designs[0], asked.by, unit)
         print_protocols(designs[0].protocols)
     else:

@@ -2,6 +2,7 @@
 
     figures, pairs = collect_figures(observed, "class", 18)
 """
+import json
 import re
 
 COLUMNS = ["attempts", "attempts/commit", "waits/attempt", "waited: median", "worst", "queued: median", "to commit: median", "worst", "rows", "values"]
@@ -32,6 +33,31 @@ class Figures:
                 format_time(median(self.waited)), format_time(max(self.waited, default=None)),
                 format_time(median(self.queued)), format_time(median(self.latencies)), format_time(max(self.latencies, default=None)),
                 per(self.rows, self.commits, "%.1f"), per(self.values, self.commits, "%.1f")]
+
+
+    def numbers(self):
+        """The same as numbers, for JSON; null where there is none."""
+        per = lambda x, of: round(x / of, 3) if of else None  # noqa: E731
+        both = lambda times: {"median": rounded(median(times)), "worst": rounded(max(times, default=None))}  # noqa: E731
+        return {"attempts": self.attempts, "commits": self.commits, "attempts_per_commit": per(self.attempts, self.commits),
+                "waits_per_attempt": per(self.waits, self.attempts), "waited": both(self.waited), "queued": both(self.queued),
+                "to_commit": both(self.latencies), "rows": per(self.rows, self.commits), "values": per(self.values, self.commits)}
+
+
+def rounded(number):
+    return None if number is None else round(number, 3)
+
+
+def as_json(designs, by, unit):
+    made = []
+    for x in designs:
+        pairs = [{"who": a, "whom": b, "reads": len(times), "median": rounded(median([t for t in times if t is not None]))}
+                 for (a, b), times in x.pairs.items()]
+        counts = {p: sum(y == p for y in x.protocols.values()) for p in ("P1", "P2", "P3")}
+        made.append({"catalogue": x.name, "schedules": x.runs, "all_schedules": x.complete, "transactions": x.transactions, "links": x.links,
+                     "packets_per_commit": rounded(x.packets), "protocols": counts, by: {name: g.numbers() for name, g in x.figures.items()},
+                     "pairs": pairs, "drains": {"count": len(x.drains), "median": rounded(median(x.drains))}})
+    return json.dumps({"unit": unit, "designs": made}, indent=1)
 
 
 def median(values):

@@ -1,6 +1,6 @@
 """Translates a plain subset of SQL to a catalogue and a workload.
 
-    sdd from-sql SCRIPT --into FOLDER
+    sdd from-sql SCRIPT --into FOLDER [--classes module]
 
 SCRIPT has tables with the data modules that keep them, rows, transactions with parameters, and calls of
 them in the order of their submission:
@@ -15,22 +15,35 @@ them in the order of their submission:
     COMMIT;
     CALL pay(1, 2, 30);
 
+Of many rows and calls a line each is enough:
+
+    INSERT INTO account VALUES (1 TO 20, 'x', 100);         -- a row for each key
+    TRANSACTION pay(:payer 1 TO 999, :payee 1 TO 999, :amount 1 TO 50 ZIPF, :way IN ('cash', 'card')) AT T1 IN desk;
+    DRAW 80 (pay 35, look 65) SEED 7;                       -- 80 calls, 35 of 100 of them pay
+
+DRAW takes the values of a parameter from its range or list, those with ZIPF small ones more often; of a parameter that is a key
+the keys of rows, and of one that is a new row's key the next free one. Transactions with IN and one name share a class
+of this name, which queues them at their module; --classes module gives all that change something at a module one class.
+
 A table without PARTITION BY is one fragment, and has AT D1 after its columns. Statements are SELECT with
 joins by =, INSERT with all columns, UPDATE that sets a column to a value or adds to it, DELETE; conditions are
 joined by AND. `:payer 1 TO 999` tells the values that a parameter may have; from these follows which fragments
 a transaction can touch. Each transaction gets a class; those that only read come first, equal ones are one.
 
-FOLDER gets `catalogue.toml` and `workload`. Printed is which class each transaction gets, and why. What can't be
+FOLDER gets `catalogue.toml` and `workload`. A file there that was edited by hand stays: the new one is written beside it,
+`catalogue.new.toml` or `workload.new`. Printed is which class each transaction gets, and why. What can't be
 translated is refused with its line. So is a statement that may see what one before it in its transaction
 changed: here all statements see the database as it was when the transaction began.
 """
 import os
-import shutil
 import tempfile
 from typing import NamedTuple
 
 from sdd.command import parser
-from sdd.design.sql import Column, read_script
+from sdd.design.drawn_calls import Drawn
+from sdd.design.kept_files import write_kept
+from sdd.design.sql import read_script
+from sdd.design.sql_parts import Column, Draw, Token
 from sdd.model.files import BadInput, write_text
 from sdd.model.reading import catalogue_at, workload_at
 from sdd.model.statements import Put, Query, Txn
@@ -47,8 +60,28 @@ class Translator:
             ends = [end for _, end, _ in x.fragments]
             if any(b is not None and b <= a for a, b in zip(ends, ends[1:])):
                 self.fault(x.line, "the partitions of %s don't ascend" % x.name)
+        self.script.rows[:] = [s._replace(values=[y for x in s.values for y in self.spread(s, x)]) for s in self.script.rows]
         self.copies = {name: copies for x in self.script.tables.values() for name, _, copies in x.fragments}
         self.lines = {}         # transaction -> of each of its lines that of the script, and that of its call
+
+    def spread(self, s, values):
+        """A row with a span in place of its key is one for each key."""
+        spans = [k for k, x in enumerate(values) if x.kind == "span"]
+        if not spans:
+            return [values]
+        table = self.table(s.tables[0][1], s.line)
+        names = s.columns or [x for x, _ in table.columns]
+        if len(values) != len(names) or [names[k] for k in spans] != [table.key]:
+            self.fault(values[spans[0]].line, "only the key %s of %s can be a span" % (table.key, table.name))
+        low, _, high = values[spans[0]].text.split(" ")
+        at = spans[0]
+        return [values[:at] + [Token("number", str(k), s.line)] + values[at + 1:] for k in range(int(low), int(high) + 1)]
+
+    def calls(self):
+        """The calls, in their order, with those that are drawn."""
+        drawn = Drawn(self)
+        for x in self.script.calls:
+            yield from drawn.calls(x) if isinstance(x, Draw) else [x]
 
     def fault(self, line, what):
         raise BadInput("%s: line %d: %s" % (self.path, line, what))
@@ -137,7 +170,7 @@ class Translator:
     def workload(self):
         lines = ["row " + x for s in self.script.rows for x in self.rows(s, {})]
         events, counts = [], {}
-        for name, values, line in self.script.calls:
+        for name, values, line in self.calls():
             if name not in self.script.procedures:
                 self.fault(line, "there is no transaction %s" % name)
             procedure = self.script.procedures[name]
@@ -154,6 +187,8 @@ class Translator:
         if len(values) != len(procedure.parameters):
             self.fault(line, "%s has %d parameters" % (procedure.name, len(procedure.parameters)))
         for parameter, value in zip(procedure.parameters, values):
+            if parameter.choices and (int(value.text) if value.kind == "number" else value.text) not in parameter.choices:
+                self.fault(line, "%s is none of the values of %s" % (value.text, parameter.name))
             if parameter.low is not None and not (value.kind == "number" and parameter.low <= int(value.text) <= parameter.high):
                 self.fault(line, "%s isn't in the range of %s, %d to %d" % (value.text, parameter.name, parameter.low, parameter.high))
         return {parameter.name: value for parameter, value in zip(procedure.parameters, values)}
@@ -191,12 +226,28 @@ class Needed(NamedTuple):
 class Classes:
     """The classes that the transactions of a script need."""
 
-    def __init__(self, translator):
+    def __init__(self, translator, by_module=False):
         self.of, self.made = translator, []
         self.needs = {x.name: self.need(x) for x in translator.script.procedures.values()}
-        for x in sorted(self.needs.values(), key=lambda x: bool(x.writes)):
+        self.shares = {x.name: x.cls for x in translator.script.procedures.values() if x.cls}       # transaction -> class
+        if by_module:
+            changing = [x for x in self.needs.values() if x.writes]
+            self.shares |= {x.name: "at_" + x.site.lower() for x in changing if x.name not in self.shares}
+        for x in sorted(self.joined(), key=lambda x: bool(x.writes)):
             if not any((y.site, y.reads, y.writes) == (x.site, x.reads, x.writes) for y in self.made):
                 self.made.append(x)
+
+    def joined(self):
+        """The needs of each class, where several transactions share one."""
+        made = {}
+        for name, need in self.needs.items():
+            cls = self.shares.get(name, name)
+            mine = made.get(cls)
+            if mine and mine.site != need.site:
+                self.of.fault(self.of.script.procedures[name].line, "the class %s is at %s already, and %s is at %s" % (cls, mine.site, name, need.site))
+            reads, writes = (set(getattr(need, x)) | set(getattr(mine, x) if mine else ()) for x in ("reads", "writes"))
+            made[cls] = Needed(cls, need.site, self.ordered(reads), self.ordered(writes), self.modules(reads), [])
+        return list(made.values())
 
     def need(self, procedure):
         reads, writes, why = set(), set(), []
@@ -297,7 +348,7 @@ def print_classes(classes, catalogue, transactions):
         for x in mine:
             got.setdefault(catalogue.class_name(class_for(catalogue, x)), []).append(x)
         for cls, members in got.items():
-            other = "" if cls == name else " (it stands before, and covers them)" if cls != "-" else " (no class covers them)"
+            other = "" if cls == classes.shares.get(name, name) else " (it stands before, and covers them)" if cls != "-" else " (no class covers them)"
             reads, writes = (sorted({f for x in members for f in of(catalogue, x)}) for of in (fragments_read, fragments_written))
             print("  class %s%s: %d calls, which read %s and write %s" % (
                 cls, other, len(members), ", ".join(reads) or "nothing", ", ".join(writes) or "nothing"))
@@ -307,11 +358,12 @@ def main():
     asked = parser(__doc__)
     asked.add_argument("script", metavar="SCRIPT")
     asked.add_argument("--into", metavar="FOLDER", required=True)
+    asked.add_argument("--classes", choices=["module"], help="one class for all that change something at a module")
     asked = asked.parse_args()
     translator = Translator(asked.script)
     if not translator.script.tables:
         raise BadInput("%s: it has no table" % asked.script)
-    workload, classes = translator.workload(), Classes(translator)
+    workload, classes = translator.workload(), Classes(translator, asked.classes == "module")
     names = ("catalogue.toml", "workload")
     with tempfile.TemporaryDirectory(prefix="sql-") as folder:
         for name, lines in zip(names, (translator.catalogue(classes.made), workload)):
@@ -319,7 +371,7 @@ def main():
         catalogue = catalogue_at(os.path.join(folder, names[0]))
         transactions = workload_at(os.path.join(folder, names[1]), catalogue).txns
         demand_apart(translator, catalogue, transactions)
-        os.makedirs(asked.into, exist_ok=True)
-        for name in names:
-            shutil.copyfile(os.path.join(folder, name), os.path.join(asked.into, name))
+    told = write_kept(asked.into, {name: "".join(x + "\n" for x in lines) for name, lines in zip(names, (translator.catalogue(classes.made), workload))})
     print_classes(classes, catalogue, transactions)
+    for line in told:
+        print(line)

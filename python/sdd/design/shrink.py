@@ -1,9 +1,12 @@
 """Looks for the least workload and catalogue whose report still has a line.
 
-    sdd shrink CATALOGUE WORKLOAD (--keep TEXT | --command COMMAND) --into FOLDER [--program COMMAND]
+    sdd shrink CATALOGUE WORKLOAD (--keep TEXT [--keep TEXT ..] | --command COMMAND) --into FOLDER
+               [--any-class] [--program COMMAND]
 
-With --keep, a line of what `run` prints has to contain TEXT: of the report, or the one line of a refusal.
-Take no number of an event into TEXT, since these change. With --command, COMMAND is called with the paths of
+With --keep, a line of what `run` prints has to contain TEXT: of the report, or the one line of a refusal; of several
+--keep each has such a line. Take no number of an event into TEXT, since these change. A transaction keeps the class in
+which it runs, or what is left might show something else: a wait of a transaction that no class covers any more. With
+--any-class it may get another, or none. With --command, COMMAND is called with the paths of
 a catalogue and a workload after its words, and says yes by its status 0.
 
 Events, transactions, rows, class lists, statements and conditions are left out as long as the line
@@ -30,9 +33,11 @@ class Shrinker:
         self.paths = [os.path.join(folder, x) for x in ("catalogue.toml", "workload")]
         self.program = None if asked.command is not None else Program(asked.program)
         self.catalogue, self.workload = text_of(asked.catalogue), text_of(asked.workload)
+        self.classes = None         # transactions with the classes in which they run
         if not self.holds(self.catalogue, self.workload):
-            what = "the command says no" if asked.keep is None else "no line of what `run` prints has %s" % asked.keep
-            raise BadInput("%s of these two files" % what)
+            raise BadInput("%s of these two files" % self.what_lacks())
+        if self.program and not asked.any_class:
+            self.classes = set(self.starts(self.tell()))
 
     def holds(self, catalogue, workload):
         key = hashlib.sha256((catalogue + "\0" + workload).encode()).digest()
@@ -49,8 +54,27 @@ class Shrinker:
     def asks(self):
         if self.program is None:
             return run_outside(parts_of(self.asked.command), self.paths).returncode == 0
+        lines = self.tell()
+        return self.lacking(lines) is None and (self.classes is None or set(self.starts(lines)) <= self.classes)
+
+    def tell(self):
+        """What `run` prints for the files as they are now."""
         reported = self.program.ask(["run"] + self.paths)
-        return any(self.asked.keep in line for line in (reported.text + reported.error).split("\n"))
+        return (reported.text + reported.error).split("\n")
+
+    def lacking(self, lines):
+        """The first text that no line has."""
+        return next((x for x in self.asked.keep if not any(x in line for line in lines)), None)
+
+    def what_lacks(self):
+        return "the command says no" if self.program is None else "no line of what `run` prints has %s" % self.lacking(self.tell())
+
+    def starts(self, lines):
+        """Of each start the transaction and its class."""
+        for line in lines:
+            words = line.split(" ")
+            if len(words) == 6 and words[1] == "start":
+                yield words[2].partition("#")[0], words[3]
 
     def cut_workload(self):
         """Leaves out parts of the workload, large ones first; whether one was."""
@@ -95,8 +119,9 @@ def main():
     asked.add_argument("catalogue", metavar="CATALOGUE")
     asked.add_argument("workload", metavar="WORKLOAD")
     which = asked.add_mutually_exclusive_group(required=True)
-    which.add_argument("--keep", metavar="TEXT", help="what a line of the report has to contain")
+    which.add_argument("--keep", metavar="TEXT", action="append", help="what a line of the report has to contain; again and again")
     which.add_argument("--command", metavar="COMMAND", help="what says yes of the two files")
+    asked.add_argument("--any-class", action="store_true", help="a transaction may get another class, or none")
     asked.add_argument("--into", metavar="FOLDER", required=True)
     add_program(asked)
     asked = asked.parse_args()

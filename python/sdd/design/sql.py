@@ -1,12 +1,12 @@
-"""A plain subset of SQL, read for sdd from-sql: tables, rows, transactions with parameters, and calls.
+"""A plain subset of SQL, read for sdd from-sql: tables, rows, transactions with parameters, calls, and calls to be drawn.
 
     script = read_script(path)
 
 What isn't in the subset is refused by `BadInput`, with the number of the line.
 """
 import re
-from typing import NamedTuple
 
+from sdd.design.sql_parts import Column, Condition, Draw, Parameter, Procedure, Script, Statement, Table, Token
 from sdd.model.files import BadInput, text_of
 
 TOKEN = re.compile(r"\s+|--[^\n]*|(?P<text>'(?:[^']|'')*')|(?P<number>-?\d+(?![\w.]))|(?P<param>:[A-Za-z]\w*)|(?P<word>[A-Za-z_]\w*)"
@@ -22,64 +22,9 @@ STRANGE = {"OR": "there is no OR; write two statements", "NOT": "there is no NOT
            "AVG": "nothing is counted or summed", "IF": "there are no conditions between statements"}
 
 
-class Token(NamedTuple):
-    kind: str               # text, number, param, word, sign, end
-    text: str
-    line: int
-
-
-class Parameter(NamedTuple):
-    name: str
-    low: int                # its domain; None where none is reported
-    high: int
-
-
-class Column(NamedTuple):
-    table: str              # or an alias; None where none is reported
-    name: str
-
-
-class Condition(NamedTuple):
-    left: Column
-    op: str
-    right: object           # a Column, a Token of a value or of a parameter
-
-
-class Statement(NamedTuple):
-    kind: str               # select, insert, update, delete
-    line: int
-    tables: list            # pairs of an alias and a table
-    columns: list           # of a select Columns, or "*"; of an insert their names
-    values: list            # of an insert tokens; of an update triples of a column, the sign, a token
-    conditions: list
-
-
-class Procedure(NamedTuple):
-    name: str
-    line: int
-    site: str
-    parameters: list
-    statements: list
-
-
-class Table(NamedTuple):
-    name: str
-    line: int
-    columns: list           # pairs of a name and a kind
-    key: str
-    fragments: list         # name, the first key after it (None: no end), copies
-
-
-class Script(NamedTuple):
-    tables: dict
-    rows: list              # Statements
-    procedures: dict
-    calls: list             # name, tokens, line
-
-
 class Reader:
     def __init__(self, path):
-        self.path, self.tokens, self.at = path, [], 0
+        self.path, self.tokens, self.at, self.is_row = path, [], 0, False
         text, place, line = text_of(path), 0, 1
         while place < len(text):
             found = TOKEN.match(text, place)
@@ -149,14 +94,18 @@ class Reader:
                 table = self.table(line)
                 made.tables[table.name] = table
             elif self.peek().text.upper() == "INSERT":
+                self.is_row = True
                 made.rows.append(self.statement())
+                self.is_row = False
             elif self.has("TRANSACTION"):
                 procedure = self.procedure(line)
                 made.procedures[procedure.name] = procedure
             elif self.has("CALL"):
                 made.calls.append(self.call(line))
+            elif self.has("DRAW"):
+                made.calls.append(self.draw(line))
             else:
-                self.fault("%s begins none of CREATE TABLE, INSERT, TRANSACTION and CALL" % self.peek().text)
+                self.fault("%s begins none of CREATE TABLE, INSERT, TRANSACTION, CALL and DRAW" % self.peek().text)
         return made
 
     def table(self, line):
@@ -221,18 +170,56 @@ class Reader:
             self.demand(")")
         self.demand("AT")
         site = self.site("T")
+        cls = self.name() if self.has("IN") else None
         self.demand(";")
         while not self.has("COMMIT", ";"):
             statements.append(self.statement())
-        return Procedure(name, line, site, parameters, statements)
+        return Procedure(name, line, site, parameters, statements, cls)
 
     def parameter(self):
         name = self.next("param").text
+        if self.has("IN"):
+            return self.choices(name)
         if self.peek().kind != "number":
             return Parameter(name, None, None)
+        low, high = self.span()
+        return Parameter(name, low, high, (), self.has("ZIPF"))
+
+    def span(self):
+        """Two numbers with TO between, of which the second isn't less."""
         low = int(self.next("number").text)
         self.demand("TO")
-        return Parameter(name, low, int(self.next("number").text))
+        token = self.next("number")
+        if int(token.text) < low:
+            self.fault("%d TO %s has no number" % (low, token.text), token)
+        return low, int(token.text)
+
+    def choices(self, name):
+        """A parameter with the values that it may have: numbers, or texts."""
+        self.demand("(")
+        tokens = self.listed(lambda: self.next("text", "number"))
+        self.demand(")")
+        if len({x.kind for x in tokens}) > 1:
+            self.fault("%s has numbers and texts" % name, tokens[0])
+        is_number = tokens[0].kind == "number"
+        values = tuple(int(x.text) if is_number else x.text for x in tokens)
+        return Parameter(name, *((min(values), max(values)) if is_number else (None, None)), values, self.has("ZIPF"))
+
+    def draw(self, line):
+        """DRAW 80 (book 35, pay 25) SEED 7;"""
+        count, parts, seed = int(self.next("number").text), [], 1
+        self.demand("(")
+        while True:
+            parts.append((self.name(), int(self.next("number").text)))
+            if not self.has(","):
+                break
+        self.demand(")")
+        if self.has("SEED"):
+            seed = int(self.next("number").text)
+        self.demand(";")
+        if count < 1 or min(x for _, x in parts) < 1:
+            self.fault("a DRAW has 1 call or more, and so has each part", Token("word", "", line))
+        return Draw(count, parts, seed, line)
 
     def call(self, line):
         name, values = self.name(), []
@@ -297,10 +284,17 @@ class Reader:
         return Statement("insert", line, [(name, name)], columns, self.listed(self.row), [])
 
     def row(self):
+        """The values of a row; of rows of the database the key may be a span, as 1 TO 50."""
         self.demand("(")
-        made = self.listed(self.value)
+        made = self.listed(self.spanned if self.is_row else self.value)
         self.demand(")")
         return made
+
+    def spanned(self):
+        if self.tokens[self.at + 1].text.upper() != "TO":
+            return self.value()
+        token = self.peek()
+        return Token("span", "%d TO %d" % self.span(), token.line)
 
     def update(self, line):
         name = self.name()

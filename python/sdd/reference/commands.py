@@ -2,6 +2,7 @@
 
     sdd reference [--break RULE] WORD ..        RULE is one of those of sdd/reference/breaking.py
     sdd reference inside CAT WORK               the states of a run, as JSON lines (sdd/reference/inside.py)
+    sdd reference robust CAT | needs CAT        what `sdd1_ask` answers (sdd/reference/ask.py)
 
 From words and files it makes a status, a line on standard error, and a text. Words are judged first, then the catalogue, then the workload, then the report. Definition: docs/FORMATS.md, "Words";
 crates/sdd_app/specs/Answer.antt, Command.antt.
@@ -13,6 +14,7 @@ from sdd.model.catalogue import read_catalogue
 from sdd.model.words import Fault, number_between
 from sdd.model.workload import read_workload
 from sdd.reference.advise import advice_text
+from sdd.reference import ask
 from sdd.reference import breaking
 from sdd.reference.control import control_text
 from sdd.reference.graph import graph_text, table_text
@@ -32,7 +34,7 @@ def check_text(cat):
         cat.tms, cat.dms, len(cat.relations), len(cat.fragments), len(cat.classes))
 
 
-OF_CATALOGUE = {"check": check_text, "graph": graph_text, "table": table_text, "advise": advice_text}
+OF_CATALOGUE = {"check": check_text, "graph": graph_text, "table": table_text, "advise": advice_text, **ask.OF_CATALOGUE}
 
 
 def run_text(cat, work):

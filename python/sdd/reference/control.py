@@ -1,7 +1,7 @@
 """Transaction control: a committer, site 0, and backups that take over, so that all writes are made or none.
 
 The lowest site that hasn't stopped leads once it has learnt that all below it have; what it sends next is the first of
-four things that fits. Definition: docs/FORMATS.md, "The control file"; crates/sdd_control/specs.
+four things that fits. Definition: docs/FORMATS.md, "The control file"; crates/sdd_backups/specs, sdd_control/specs.
 """
 from sdd.model.words import are_free, is_free, must, known, number_between, read_lines
 

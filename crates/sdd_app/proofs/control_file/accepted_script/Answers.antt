@@ -1,7 +1,9 @@
 use Rattle.sdd_app.proofs.All.{BlamesScript, Explains, MAX_WORKLOAD_BYTES, Ok, ReadFault, Some, control_script, err_from_is_err_and, script_named, ◌≡◌}
-use Rattle.sdd_app.proofs.FileReads.{script_gives, accepted_script_short, on_ok_by, if_err_more, read_to_end, read_to_limit}
-use Rattle.sdd_app.proofs.Verdicts.{explains_more}
-use Rattle.sdd_app.proofs.AtFault.{script_at, err_by, silent_at}
+use Rattle.sdd_app.proofs.FileReads.{script_gives, accepted_script_short}
+use Rattle.sdd_shell.proofs.FileReads.{on_ok_by, if_err_more, read_to_end, read_to_limit}
+use Rattle.sdd_shell.proofs.Verdicts.{explains_more}
+use Rattle.sdd_app.proofs.AtFault.{script_at}
+use Rattle.sdd_shell.proofs.AtFault.{err_by, silent_at}
 use Rattle.sdd_app.proofs.control_file.accepted_script.Goals as goal
 
 pub returns-in_err-bytes-clause-answered : goal.returns-in_err-bytes-clause-answered

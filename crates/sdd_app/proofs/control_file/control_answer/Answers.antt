@@ -1,6 +1,7 @@
 use Rattle.sdd_app.proofs.All.{BlamesScript, ComesToControl, err_from_is_err_and, script_named}
-use Rattle.sdd_app.proofs.Verdicts.{explains_more, blamed_control, reports_control, one_ended}
-use Rattle.sdd_app.proofs.AtFault.{at_more}
+use Rattle.sdd_app.proofs.Verdicts.{blamed_control, reports_control}
+use Rattle.sdd_shell.proofs.Verdicts.{explains_more, one_ended}
+use Rattle.sdd_shell.proofs.AtFault.{at_more}
 use Rattle.sdd_app.proofs.control_file.control_answer.Goals as goal
 
 pub returns-in_err-script-clause-answered : goal.returns-in_err-script-clause-answered

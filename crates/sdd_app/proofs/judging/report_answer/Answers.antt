@@ -1,7 +1,8 @@
-use Rattle.sdd_app.proofs.All.{ComesToVerdict, MAX_REPORT_BYTES, Prints, Some, ap, err_from_is_err_and, find_file, judged_as, sym, ◌∙◌}
-use Rattle.sdd_app.proofs.FileReads.{long_reports, read_gives, read_to_limit}
-use Rattle.sdd_app.proofs.Verdicts.{explains_more}
-use Rattle.sdd_app.proofs.AtFault.{silent_at}
+use Rattle.sdd_app.proofs.All.{ComesToVerdict, MAX_REPORT_BYTES, Prints, Some, ap, err_from_is_err_and, find_file, judged_as, report, sym, ◌∙◌}
+use Rattle.sdd_app.proofs.FileReads.{long_reports}
+use Rattle.sdd_shell.proofs.FileReads.{read_gives, read_to_limit}
+use Rattle.sdd_shell.proofs.Verdicts.{explains_more}
+use Rattle.sdd_shell.proofs.AtFault.{silent_at}
 use Rattle.sdd_app.proofs.judging.report_answer.Goals as goal
 
 pub returns-in_err-bytes-clause-answered : goal.returns-in_err-bytes-clause-answered

@@ -1,6 +1,7 @@
-use Rattle.sdd_app.proofs.All.{BlamesCatalogue, BlamesWorkload, ComesToVerdict, ComesToVerify, MAX_REPORT_BYTES, OverCatalogue, Prints, catalogue_named, err_from_is_err_and, workload_named, ◌+◌, ◌∙◌}
-use Rattle.sdd_app.proofs.Verdicts.{explains_more, blamed, goes_on, blamed_verify, judges_report, three_ended, one_ended, two_ended}
-use Rattle.sdd_app.proofs.AtFault.{at_more}
+use Rattle.sdd_app.proofs.All.{BlamesCatalogue, BlamesWorkload, ComesToVerdict, ComesToVerify, MAX_REPORT_BYTES, OverCatalogue, Prints, catalogue_named, err_from_is_err_and, report, workload, workload_named, ◌+◌, ◌∙◌}
+use Rattle.sdd_app.proofs.Verdicts.{blamed_verify, judges_report}
+use Rattle.sdd_shell.proofs.Verdicts.{explains_more, blamed, goes_on, three_ended, one_ended, two_ended}
+use Rattle.sdd_shell.proofs.AtFault.{at_more}
 use Rattle.sdd_app.proofs.judging.verify_answer.Goals as goal
 
 pub returns-in_err-catalogue-clause-answered : goal.returns-in_err-catalogue-clause-answered

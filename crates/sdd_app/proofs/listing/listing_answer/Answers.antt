@@ -1,6 +1,6 @@
 use Rattle.sdd_app.proofs.All.{BlamesCatalogue, ComesToListing, OverCatalogue, Prints, catalogue_named, err_from_is_err_and}
-use Rattle.sdd_app.proofs.Verdicts.{explains_more, blamed, goes_on, one_ended}
-use Rattle.sdd_app.proofs.AtFault.{at_more}
+use Rattle.sdd_shell.proofs.Verdicts.{explains_more, blamed, goes_on, one_ended}
+use Rattle.sdd_shell.proofs.AtFault.{at_more}
 use Rattle.sdd_app.proofs.listing.listing_answer.Goals as goal
 
 pub returns-in_err-catalogue-clause-answered : goal.returns-in_err-catalogue-clause-answered

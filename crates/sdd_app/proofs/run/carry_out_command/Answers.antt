@@ -1,7 +1,8 @@
 use Rattle.sdd_app.proofs.All.{IsForm, arith, form_of, refl, subst, ℕ, ◌+◌, ◌≡◌}
-use Rattle.sdd_app.proofs.Verdicts.{answers_so, surely_so, none_read}
-use Rattle.sdd_app.proofs.AtFault.{at_more}
-use Rattle.sdd_app.proofs.FileReads.{if_err_more}
+use Rattle.sdd_app.proofs.Verdicts.{answers_so, surely_so}
+use Rattle.sdd_shell.proofs.Verdicts.{none_read}
+use Rattle.sdd_shell.proofs.AtFault.{at_more}
+use Rattle.sdd_shell.proofs.FileReads.{if_err_more}
 use Rattle.sdd_app.proofs.run.carry_out_command.Goals as goal
 
 two : (free : ℕ) → free + 2 ≡ free + 1 + 1

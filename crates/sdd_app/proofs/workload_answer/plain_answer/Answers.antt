@@ -1,6 +1,7 @@
-use Rattle.sdd_app.proofs.All.{BlamesCatalogue, BlamesWorkload, ComesToPlain, OverCatalogue, Prints, catalogue_named, err_from_is_err_and, workload_named, ◌+◌, ◌∙◌}
-use Rattle.sdd_app.proofs.Verdicts.{explains_more, blamed, goes_on, blamed_plain, replies_plain, two_ended, one_ended}
-use Rattle.sdd_app.proofs.AtFault.{at_more}
+use Rattle.sdd_app.proofs.All.{BlamesCatalogue, BlamesWorkload, ComesToPlain, OverCatalogue, Prints, catalogue_named, err_from_is_err_and, workload, workload_named, ◌+◌, ◌∙◌}
+use Rattle.sdd_app.proofs.Verdicts.{blamed_plain, replies_plain}
+use Rattle.sdd_shell.proofs.Verdicts.{explains_more, blamed, goes_on, two_ended, one_ended}
+use Rattle.sdd_shell.proofs.AtFault.{at_more}
 use Rattle.sdd_app.proofs.workload_answer.plain_answer.Goals as goal
 
 pub returns-in_err-catalogue-clause-answered : goal.returns-in_err-catalogue-clause-answered

@@ -1,5 +1,5 @@
-use Rattle.sdd_net.proofs.All.{ap, ◌∙◌}
-use Rattle.sdd_net.proofs.Matching.{message_received, received_matches, if_on, if_both}
+use Rattle.sdd_net.proofs.All.{if_both, ap, ◌∙◌}
+use Rattle.sdd_net.proofs.Matching.{message_received, received_matches, if_on}
 use Rattle.sdd_net.proofs.Places.{fits_there, changes}
 use Rattle.sdd_net.proofs.channels.receive_at.Goals as goal
 

@@ -1,5 +1,5 @@
 use Rattle.sdd_net.proofs.All.{arith, length-append}
-use Rattle.sdd_net.proofs.Turns.{numbered_more}
+use Rattle.sdd_net.proofs.Numbering.{numbered_more}
 use Rattle.sdd_net.proofs.sender.Sender.resend.Goals as goal
 
 pub loop-msg-preserved : goal.loop-msg-preserved

@@ -62,7 +62,7 @@ returns-clause-kept c = λ g old new over at were.
       links = ap (λ (w : Watch). w.links.items) c.in_ok-happened.ensures.others ∙ ap (λ (w : Watch). w.links.items) c.in_ok-queues.ensures.others
           ∙ written_back (watched_link old) (watched_link new) (all_links g) c.args.self.now.links.items c.look_at_links.new.links c.args.self.now.links.len
           (omega (arith, c.args.self.now.links.ok.0)) were.links (c.in_ok-seen.ensures.kept g old new over links);
-      queues = ap (λ (w : Watch). w.queues.items) c.in_ok-happened.ensures.others ∙ c.in_ok-queues.ensures.kept g new over.calm;
+      queues = c.into_vec.ensures ∙ ap (λ (m : Moment). m.queues) c.moments-before.ensures.after ∙ c.in_ok-queues.ensures.after g new over.calm;
       pipes = ap (λ (w : Watch). w.pipes.items) c.in_ok-happened.ensures.others
           ∙ written_back (watched_pipe g old) (watched_pipe g new) (all_pipes g) c.queues.new.self.pipes.items c.look_at_pipes.new.pipes
           c.queues.new.self.pipes.len (omega (arith, c.queues.new.self.pipes.ok.0))

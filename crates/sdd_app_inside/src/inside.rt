@@ -1,0 +1,126 @@
+//! The call of the program that shows what happens inside a run.
+ghost use Rattle.std.specs.Prelude.{◌≡◌, ◌+◌, ◌∷◌, [], ℕ, List, map, string_bytes, OnOk, IfErr, IfNone, IfSome, Some};
+ghost use Rattle.sdd_lang.specs.base.declared.files.ShelfFile.{ShelfFile};
+ghost use Rattle.sdd_lang.specs.base.declared.limits.TheConstants.{MAX_CATALOGUE_BYTES};
+ghost use Rattle.sdd_lang.specs.base.Outside.{Rose};
+ghost use Rattle.sdd_lang.specs.All.{MAX_WORKLOAD_BYTES};
+ghost use Rattle.sdd_script.specs.Valid.{IsValid};
+ghost use Rattle.sdd_shell.specs.Calls.{AnswersAs, EndsAs};
+ghost use Rattle.sdd_shell.specs.Endings.{FilesRead, ToItsEnd, ToItsLimit};
+ghost use Rattle.sdd_shell.specs.NamedFiles.{HasFiles, OverCatalogue};
+ghost use Rattle.sdd_shell.specs.States.{shelf_by, sink_by};
+ghost use Rattle.sdd_shell.specs.Verdict.{Answers, AtFault, ComesOfFiles};
+ghost use Rattle.sdd_app_inside.specs.Inside.{AreNotTwo, ComesToInside, ComesToText, inside_call};
+
+use sdd_lang::{Catalogue, Pages, Shelf, Sink};
+use sdd_run::WorldEnd;
+use sdd_script::Workload;
+use sdd_shell::{Status, accepted_catalogue, accepted_workload, end_call};
+use sdd_watch::inside_text;
+use std::alloc::Global;
+
+const USAGE: &[u8] = b"usage: sdd1_inside CAT WORK\n";
+
+/// The text of what happens inside the run of the workload.
+fn inside_pages(alloc: Global, catalogue: &Catalogue, work: Workload) -> Result<Pages, Status>
+    requires { IsValid catalogue.now work }
+    ensures answered { Answers result (λ v. v) (ComesToInside catalogue.now work) }
+    ensures errors { IfErr result ComesOfFiles }
+    ensures no_fault { IfErr result (AtFault ⊥ ⊥) }
+    ensures read { IfErr result (λ s. s ≡ Status.ReadFault → ⊥) }
+{
+    match inside_text(alloc, catalogue, work) {
+        Ok(text) => Ok(Pages::of(alloc, text)),
+        Err(WorldEnd::Limit) => Err(Status::Limit),
+        Err(WorldEnd::NoMemory) => Err(Status::NoMemory),
+    }
+}
+
+/// The text over the catalogue in the first file and the workload in the second.
+fn inside_answer<S: Shelf>(
+    alloc: Global,
+    shelf: &mut S,
+    catalogue: &str,
+    workload: &str,
+) -> Result<Pages, Status>
+    ensures answered { (fs : List ShelfFile) → S.files shelf.old ≡ Some fs
+        → Answers result (λ v. v) (OverCatalogue fs catalogue.now (ComesToText fs workload.now)) }
+    ensures ended { OnOk result (FilesRead (S.files shelf.old) (S.is_open shelf.old) (S.is_open shelf.new) (S.opened shelf.new)
+        (ToItsEnd catalogue.now ∷ ToItsEnd workload.now ∷ [])) }
+    ensures at_fault { IfErr result (AtFault
+        (FilesRead (S.files shelf.old) (S.is_open shelf.old) (S.is_open shelf.new) (S.opened shelf.new)
+        (ToItsLimit MAX_CATALOGUE_BYTES catalogue.now ∷ []))
+        (FilesRead (S.files shelf.old) (S.is_open shelf.old) (S.is_open shelf.new) (S.opened shelf.new)
+        (ToItsEnd catalogue.now ∷ ToItsLimit MAX_WORKLOAD_BYTES workload.now ∷ []))) }
+    ensures fault { IfErr result (λ s. s ≡ Status.ReadFault → Rose (S.faults shelf.old) (S.faults shelf.new)) }
+    ensures errors { IfErr result ComesOfFiles }
+    ensures surely { (free : ℕ) (fs : List ShelfFile) → S.sure shelf.old (free + 1 + 1) → S.files shelf.old ≡ Some fs
+        → HasFiles fs catalogue.now workload.now (λ _. Unit {0})
+        → IfErr result (λ s. s ≡ Status.ReadFault → ⊥) × (S.faults shelf.new ≡ S.faults shelf.old) }
+{
+    let catalogue = accepted_catalogue(alloc, shelf, catalogue)?;
+    let work = accepted_workload(alloc, shelf, workload, &catalogue)?;
+    let text = inside_pages(alloc, &catalogue, work)?;
+    Ok(text)
+}
+
+/// The names of two files.
+#[derive(Clone, Copy)]
+struct Pair<'a> {
+    catalogue: &'a str,
+    workload: &'a str,
+}
+
+/// The two words that there are.
+fn pair_of<'a>(words: &'a [String]) -> Option<Pair<'a>>
+    ensures found { IfSome result (λ pair. map string_bytes words.now ≡ pair.catalogue.now ∷ pair.workload.now ∷ []) }
+    ensures none { IfNone result (AreNotTwo (map string_bytes words.now)) }
+{
+    match words {
+        [catalogue, workload] => Some(Pair {
+            catalogue: catalogue.as_str(),
+            workload: workload.as_str(),
+        }),
+        _ => None,
+    }
+}
+
+/// The text for the words, or the status of a call that prints none.
+fn answer<S: Shelf>(alloc: Global, words: &[String], shelf: &mut S) -> Result<Pages, Status>
+    ensures answers { AnswersAs inside_call (map string_bytes words.now)
+        (shelf_by S.files S.is_open S.opened S.faults S.sure shelf.old)
+        (shelf_by S.files S.is_open S.opened S.faults S.sure shelf.new) result }
+    ensures untouched { AreNotTwo (map string_bytes words.now) → shelf.new ≡ shelf.old }
+{
+    match pair_of(words) {
+        None => Err(Status::Usage),
+        Some(pair) => inside_answer(alloc, shelf, pair.catalogue, pair.workload),
+    }
+}
+
+/// Does all that the program does which shows what happens inside a run: takes the words after the
+/// program's name, reads the two files that they name from the shelf, writes the whole text to `out` or
+/// else the status's line to `err`.
+///
+/// The words are judged first, then the catalogue is read and judged, then the workload. Nothing is
+/// written before the text is whole. Costs what the events cost, for each of them a look at each link,
+/// queue and pipe; and the text.
+pub fn run_inside<S: Shelf, O: Sink, E: Sink>(
+    alloc: Global,
+    words: &[String],
+    shelf: &mut S,
+    out: &mut O,
+    err: &mut E,
+) -> Status
+    // What each status says of the words, the files, the text and the line: the fields of `EndsAs`.
+    ensures ends { EndsAs inside_call (map string_bytes words.now)
+        (shelf_by S.files S.is_open S.opened S.faults S.sure shelf.old)
+        (shelf_by S.files S.is_open S.opened S.faults S.sure shelf.new)
+        (sink_by O.taken O.faults O.sure out.old) (sink_by O.taken O.faults O.sure out.new)
+        (sink_by E.taken E.faults E.sure err.old) (sink_by E.taken E.faults E.sure err.new) result }
+
+    // Words that aren't two leave the shelf as it was.
+    ensures untouched { AreNotTwo (map string_bytes words.now) → shelf.new ≡ shelf.old }
+{
+    end_call(answer(alloc, words, shelf), USAGE, out, err)
+}

@@ -1,0 +1,11 @@
+pub mod Enough
+pub mod Examples
+pub mod Flags
+pub mod Naming
+pub mod Needed
+pub mod Needs
+pub mod Reaching
+pub mod Robust
+pub mod Tasks
+pub mod Texts
+pub mod Waiting

@@ -1,0 +1,4 @@
+mod All
+pub mod Nothing
+pub mod Queues
+pub mod Walks

@@ -1,5 +1,0 @@
-use Rattle.sdd_control.proofs.All.{[], map, replicate, ◌≡◌}
-use Rattle.sdd_control.proofs.links.Links.new.Given as goal
-
-abbrev pub invariant-fill : goal.invariant-fill
-invariant-fill l = map (λ q. q.items) l.queues.items ≡ replicate l.counter []

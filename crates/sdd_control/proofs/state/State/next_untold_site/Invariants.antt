@@ -1,7 +1,0 @@
-use Rattle.sdd_control.proofs.All.{first_from, untold_in, ◌+◌, ◌-◌, ◌≡◌}
-use Rattle.sdd_control.proofs.state.State.next_untold_site.Given as goal
-
-abbrev pub invariant-higher : goal.invariant-higher
-invariant-higher l =
-    first_from (untold_in l.self l.site) (l.site + 1) (l.self.backups - l.site)
-    ≡ first_from (untold_in l.self l.site) l.other (l.self.backups + 1 - l.other)

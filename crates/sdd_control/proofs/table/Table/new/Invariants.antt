@@ -1,5 +1,0 @@
-use Rattle.sdd_control.proofs.All.{replicate, ◌≡◌}
-use Rattle.sdd_control.proofs.table.Table.new.Given as goal
-
-abbrev pub invariant-fill : goal.invariant-fill
-invariant-fill g l = l.items.items ≡ replicate l.counter l.item

@@ -1,0 +1,4 @@
+mod All
+pub mod OneKey
+pub mod Ranges
+pub mod Writing

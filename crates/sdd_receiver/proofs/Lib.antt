@@ -1,0 +1,6 @@
+mod All
+pub mod Lists
+pub mod Receives
+pub mod Results
+pub mod Tops
+pub mod Turns

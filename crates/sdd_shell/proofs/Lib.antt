@@ -1,0 +1,6 @@
+mod All
+pub mod AtFault
+pub mod Calls
+pub mod FileReads
+pub mod Sinks
+pub mod Verdicts

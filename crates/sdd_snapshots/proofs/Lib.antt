@@ -1,0 +1,5 @@
+mod All
+pub mod NoThird
+pub mod OneTime
+pub mod Theorems
+pub mod Worked

@@ -1,0 +1,4 @@
+pub mod Examples
+pub mod Runs
+pub mod Thirds
+pub mod Theorems

@@ -1,0 +1,171 @@
+"""A run with the times of its links: which message arrives when, and what each transaction waited for.
+
+    run = TimedRun(plans, times, events, rng, is_traced=False)
+
+`events` are pairs of a time in milliseconds and an event of the workload; `times` has the distances between sites and
+how long each handles a message (times.py). It does what the program does, message by message, but knows no
+acknowledgements, which nothing waits for. With `is_traced` it carries these too, and keeps the events of the
+schedule and the trace that `sdd1 run` prints for it: both are compared each time that explore runs.
+"""
+from heapq import heappop, heappush
+
+from sdd.design.timed_messages import ACK
+from sdd.design.timed_modules import Module, Modules
+from sdd.design.timed_stores import Store, Stores
+
+SUBMIT, TICK, DOWN, UP, SERVED = range(-5, 0)      # what stands on the heap in place of a receiver
+
+
+class Told:
+    """What a run tells of one transaction; times in milliseconds."""
+    __slots__ = ("plan", "submitted", "started", "committed", "attempts", "waits")
+
+    def __init__(self, plan, submitted):
+        self.plan, self.submitted, self.started, self.committed, self.attempts, self.waits = plan, submitted, None, None, 0, []
+
+
+class TimedRun(Modules, Stores):
+    def __init__(self, plans, times, phases, rng, is_traced=False):
+        """`phases` are lists of such events; each begins once all of the one before has ended."""
+        self.plans, self.random, self.jitter = plans, rng.random, times.jitter / 100
+        self.tms, self.size, self.base = plans.cat.tms, times.size, times.base
+        self.last = [0.0] * (times.size * times.size)
+        self.service, self.free, self.last_served = times.service, [0.0] * times.size, [0.0] * (times.size * times.size)
+        self.heap, self.count, self.now, self.messages, self.era = [], 0, 0.0, 0, 0
+        self.told, self.event = {}, 0
+        self.has_settles, self.quiet = len(phases) > 1, 0.0     # quiet: when the last acknowledgement has come
+        self.trace, self.schedule, self.moments = ([], [], []) if is_traced else (None, None, None)
+        self.build()
+        for phase in phases:
+            begin = max(self.now, self.quiet)
+            for time, event in phase:
+                self.plan_event(begin + time, event)
+            self.carry_out()
+
+    def build(self):
+        homes = self.plans.homes
+        self.modules = [Module(0, 0, [0])] + [
+            Module(t, t, [c for c in range(1, len(homes)) if homes[c] == t]) for t in range(1, self.tms + 1)]
+        self.stores = [Store(self.tms + d, d, len(homes) - 1, copies) for d, copies in enumerate(self.plans.first_rows(), 1)]
+        self.dones, self.commits, self.undeclared_time = 0, 0, 0
+        self.hold_counts, self.held_counts, self.release_counts = ([0] * (self.tms + 1) for _ in range(3))
+
+    # Time.
+
+    def plan_event(self, time, event):
+        if event.word == "redeclare":
+            self.redeclare()
+            return
+        self.count += 1
+        kind = {"submit": SUBMIT, "tick": TICK, "down": DOWN, "up": UP}[event.word]
+        heappush(self.heap, (time, self.count, kind, 0, event))
+
+    def carry_out(self):
+        heap, tms, service = self.heap, self.tms, self.service
+        while heap:
+            self.now, _, to, sender, message = heappop(heap)
+            if to < 0 and to != SERVED:
+                self.do(to, message)
+                continue
+            if to == SERVED:
+                to, message = message
+            elif service is not None:
+                self.serve(to, sender, message)
+                continue
+            if self.trace is not None:
+                self.trace_delivery(sender, to, message)
+            if message[0] == ACK:
+                continue
+            if self.has_settles:
+                self.quiet = max(self.quiet, self.now + self.base[to * self.size + sender])
+            if to > tms:
+                self.at_store(self.stores[to - tms - 1], sender, message)
+            else:
+                self.at_module(self.modules[to], sender, message)
+
+    def serve(self, to, sender, message):
+        """A site handles its messages one after the other; an acknowledgement takes it no time."""
+        link = sender * self.size + to
+        if message[0] == ACK:
+            done = max(self.now, self.last_served[link])
+        else:
+            done = self.free[to] = max(self.now, self.free[to]) + self.service[to]
+            self.last_served[link] = done
+        self.count += 1
+        heappush(self.heap, (done, self.count, SERVED, sender, (to, message)))
+
+    def send(self, a, b, message):
+        link = a * self.size + b
+        time = self.now + self.base[link] * (1 + self.jitter * self.random())
+        if time < self.last[link]:
+            time = self.last[link]
+        self.last[link] = time
+        self.count += 1
+        self.messages += 1
+        heappush(self.heap, (time, self.count, b, a, message))
+
+    def trace_delivery(self, a, b, message):
+        self.next_event("deliver %s %s 1" % (self.name(a), self.name(b)))
+        if message[0] == ACK:
+            return
+        link = b * self.size + a
+        self.last[link] = max(self.last[link], self.now + self.base[link])
+        self.count += 1
+        heappush(self.heap, (self.last[link], self.count, a, b, (ACK,)))
+
+    def next_event(self, line):
+        self.event += 1
+        self.schedule.append(line)
+        self.moments.append(self.now)
+
+    def name(self, site):
+        return "U" if site == 0 else "T%d" % site if site <= self.tms else "D%d" % (site - self.tms)
+
+    def record(self, *words):
+        self.trace.append(" ".join(map(str, (self.event,) + words)))
+
+    def class_name(self, cls):
+        return self.plans.whole.class_name(cls)
+
+    # Events of the workload.
+
+    def do(self, kind, event):
+        if self.trace is not None:
+            self.next_event(event.words(self.plans.work.txns))
+        if kind == SUBMIT:
+            self.submit(event.txn)
+        elif kind == TICK:
+            self.modules[event.a.number].ticks += event.n
+        else:
+            self.turn(self.stores[event.a.number - 1], kind == DOWN)
+
+    def submit(self, number):
+        plan = self.plans.plan(number, self.era)
+        if self.trace is not None:
+            self.record("submit", plan.name)
+        self.told[number] = Told(plan, self.now)
+        module = self.modules[plan.tm]
+        module.by_class[plan.cls].queue.append([plan, 0])
+        if plan.cls:
+            self.start_next(module)
+        else:
+            self.serve_undeclared()
+
+    def turn(self, store, is_down):
+        """A data module that is down takes no messages; what arrived meanwhile comes once it is up, link by link."""
+        if store.is_down == is_down and self.trace is not None:
+            self.record("nothing")
+        store.is_down = is_down
+        if not is_down:
+            held, store.held_back = store.held_back, {}
+            for sender in sorted(held):
+                for message in held[sender]:
+                    self.at_store(store, sender, message)
+
+    def redeclare(self):
+        self.era += 1
+        if self.trace is not None:
+            self.next_event("redeclare")
+        time = max(x.bound() for x in self.modules[1:])
+        for module in self.modules[1:]:
+            module.push(time)
