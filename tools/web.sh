@@ -26,6 +26,8 @@ case "${1:-}" in
   "") ;;
   *) refuse "unknown word $1 (see --help)" ;;
 esac
+command -v rt >/dev/null || refuse "rt, the command of the Rattle kit, is not on the path"
+git -C "$root" rev-parse HEAD >/dev/null 2>&1 || refuse "this is no clone: the page has to tell its commit"
 if [[ -z $modules ]]; then
   modules=$(mktemp -d "${TMPDIR:-/tmp}/web-XXXXXX")
   trap 'rm -rf "$modules"' EXIT
@@ -37,11 +39,7 @@ crates=(sdd1 sdd1_inside)
 for crate in "${crates[@]}"; do
   [[ -f $modules/$crate.wasm ]] || python3 -B "$root/web/modules.py" "$modules" "$crate"
 done
-if command -v node >/dev/null; then
-  python3 -B "$root/web/tests/try_modules.py" "$modules"
-else
-  echo "web.sh: there is no node, so the modules weren't tried" >&2
-fi
+python3 -B "$root/web/tests/try_modules.py" "$modules"
 python3 -B "$root/web/build.py" "$modules" --into "$root/web/sdd1.html"
 
 [[ -n $compare ]] || exit 0

@@ -6,17 +6,16 @@
     web/build.py PAGE --check               ends with 1 where the page has other parts than stand here
 
 MODULES is the folder with sdd1.wasm and sdd1_inside.wasm, which web/modules.py makes. The parts of the page of a run are
-taken as they are; those of this folder stand behind them. TEXT is the commit that the page says the programs were made of;
-without it git is asked.
+taken as they are; those of this folder stand behind them. TEXT is the commit that the page says the programs were made of,
+in place of that which modules.py noted.
 """
 import base64
 import gzip
 import html
 import os
 import re
-import subprocess
 
-from repository import EXAMPLES, HERE, PAGE, ROOT
+from repository import EXAMPLES, HERE, PAGE
 
 from sdd.command import parser, start
 from sdd.explain import rules
@@ -75,20 +74,17 @@ def refusals():
     return {"workload": rules.OF_WORKLOAD, "catalogue": rules.OF_CATALOGUE, "forms": rules.FORMS, "others": rules.WITHOUT_FILE}
 
 
-def commit():
-    """The commit of the checkout, with some words where its crates aren't those of the commit."""
-    def git(*words):
-        return subprocess.run(["git", "-C", ROOT, *words], stdout=subprocess.PIPE, check=True).stdout.decode().strip()
-    try:
-        changed = ", with changes in crates" if git("status", "--porcelain", "--", "crates") else ""
-        return git("rev-parse", "--short=12", "HEAD") + changed
-    except (OSError, subprocess.CalledProcessError):
-        raise BadInput("git tells no commit; give one by --commit") from None
-
-
 def programs_in(folder):
     """The modules as the page has them, by the names of their elements."""
     return {name: module(os.path.join(folder, file)) for name, file in MODULES.items()}
+
+
+def commit_in(folder):
+    """The commit of which the modules were made, as modules.py noted it."""
+    found = {text_of(folder, file.replace(".wasm", ".commit")).strip() for file in MODULES.values()}
+    if len(found) > 1:
+        raise BadInput("the modules in %s are of two commits: %s" % (folder, " and ".join(sorted(found))))
+    return found.pop()
 
 
 def programs_of(page):
@@ -132,7 +128,7 @@ def main():
     is_page = os.path.isfile(asked.given)
     if bool(asked.into) == asked.check or asked.check and not is_page:
         raise BadInput("give --into FILE, or --check with a page")
-    programs, made_of = programs_of(text_of(asked.given)) if is_page else (programs_in(asked.given), asked.commit or commit())
+    programs, made_of = programs_of(text_of(asked.given)) if is_page else (programs_in(asked.given), asked.commit or commit_in(asked.given))
     page = built(programs, made_of).encode()
     if asked.check:
         is_same = text_of(asked.given).encode() == page

@@ -3,17 +3,17 @@
 
     web/modules.py INTO [CRATE ..]
 
-INTO is a folder, which gets CRATE.wasm for each crate; without crates these are sdd1 and sdd1_inside. A crate takes some
-three minutes. The module is caught and freed of the checks of `rt try` as tools/build_unproved.py does it, compiled for
-wasm64 by the kit's clang, and linked with runtime.c by `wasm-ld`, which is found by its name or given by WASM_LD in the
-environment (Debian: apt-get install lld-19).
+INTO is a folder, which gets CRATE.wasm for each crate, and CRATE.commit with the commit of which it was made; without
+crates these are sdd1 and sdd1_inside. A crate takes some four minutes of a processor. The module is caught and freed of
+the checks of `rt try` as tools/build_unproved.py does it, compiled for wasm64 by the kit's clang, and linked with
+runtime.c by `wasm-ld`, which is found by its name or given by WASM_LD in the environment (Debian: apt-get install lld-19).
 """
 import os
 import shutil
 import tempfile
 import time
 
-from repository import HERE, ROOT
+from repository import HERE, ROOT, commit
 
 from build_unproved import Refused, clang_of, kit_folder, plain_text, run
 from sdd.command import parser, start
@@ -85,8 +85,10 @@ def main():
         linker()                        # refused before the minutes that a crate takes
         os.makedirs(asked.into, exist_ok=True)
         for crate in crates:
-            begin, into = time.monotonic(), os.path.join(asked.into, crate + ".wasm")
+            begin, into, made_of = time.monotonic(), os.path.join(asked.into, crate + ".wasm"), commit()
             build(crate, into)
+            with open(os.path.join(asked.into, crate + ".commit"), "w", encoding="utf-8") as f:
+                f.write(made_of + "\n")
             print("%s: %d bytes, %.0f s" % (into, os.path.getsize(into), time.monotonic() - begin), flush=True)
     except Refused as fault:
         raise BadInput(str(fault)) from None

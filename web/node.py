@@ -17,15 +17,19 @@ KNOWS = "process.exit(WebAssembly.validate(new Uint8Array([0, 97, 115, 109, 1, 0
 FLAGS = [[], ["--experimental-wasm-memory64"]]      # the second before node 24
 
 
+class NoNode(BadInput):
+    """Why there is no node that can run the programs."""
+
+
 def node_words():
     """The words that begin a node which knows memories of 64 bits."""
     path = shutil.which("node")
     if path is None:
-        raise BadInput("there is no node here (Debian: apt-get install nodejs)")
+        raise NoNode("there is no node here (Debian: apt-get install nodejs)")
     for flags in FLAGS:
         if subprocess.run([path, *flags, "-e", KNOWS], stdout=subprocess.DEVNULL, stderr=subprocess.DEVNULL).returncode == 0:
             return [path, *flags]
-    raise BadInput("this node knows no memory of 64 bits: 20 is the first that does")
+    raise NoNode("this node knows no memory of 64 bits: 20 is the first that does")
 
 
 class Node:

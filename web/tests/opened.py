@@ -10,6 +10,7 @@ sys.path.insert(0, os.path.join(HERE, ".."))
 
 from repository import EXAMPLES  # noqa: E402
 
+from browser import Fault  # noqa: E402
 from page_checks import Wrong, same  # noqa: E402
 from sdd.bench.make_workload import write_workload  # noqa: E402
 from sdd.programs import find_programs  # noqa: E402
@@ -35,6 +36,18 @@ def wait_for_file(path):
             raise Wrong("no file %s was saved" % path)
         time.sleep(0.05)
     return text_of(path)
+
+
+def wait_through(page, script):
+    """Waits for what is true after the page was loaded anew; while that is under way nothing can be asked."""
+    end = time.monotonic() + 60
+    while True:
+        try:
+            return page.wait(script)
+        except Fault:
+            if time.monotonic() > end:
+                raise
+            time.sleep(0.1)
 
 
 class Opened:
@@ -75,30 +88,25 @@ class FormChecks(Opened):
     """What a person does in the form."""
 
     def recipe(self, page):
-        """What the page tells to do in five minutes, as a person does it, also on a phone: a read is rejected."""
-        for width, height in (SIZE, SIZES[0]):
-            page.ask("Emulation.setDeviceMetricsOverride", width=width, height=height, deviceScaleFactor=1, mobile=False)
-            page.go_to("about:blank#")
-            page.go_to(self.address)
-            page.wait("typeof view === 'object' && view && texts()[1]")
-            page.click("summary")
-            page.click("#play-anew")
-            page.wait("!isForm()")
+        """What the page tells to do in five minutes, as a person does it: a read is rejected."""
+        page.click("summary")
+        page.click("#play-anew")
+        page.wait("!isForm()")
+        self.ended(page)
+        for name in ("sell", "close"):
+            page.tell("(() => { const x = byId('unsubmitted'); x.value = '%s'; x.dispatchEvent(new Event('change')); })()" % name)
+            page.click("#submit")
             self.ended(page)
-            for name in ("sell", "close"):
-                page.tell("(() => { const x = byId('unsubmitted'); x.value = '%s'; x.dispatchEvent(new Event('change')); })()" % name)
-                page.click("#submit")
-                self.ended(page)
-            for label in ("WRITE 66", "READ 65"):
-                number = page.tell("[...document.querySelectorAll('#map .lane .chip')].find(x => x.textContent.includes('%s')).dataset.packet" % label)
-                page.click("[data-packet='%s']" % number)
-                page.click("#menu button")
-                self.ended(page)
-            same("what is said", "REJECTED" in page.tell("byId('sentences').textContent"), True)
-            page.click("#settle")
+        for label in ("WRITE 66", "READ 65"):
+            number = page.tell("[...document.querySelectorAll('#map .lane .chip')].find(x => x.textContent.includes('%s')).dataset.packet" % label)
+            page.click("[data-packet='%s']" % number)
+            page.click("#menu button")
             self.ended(page)
-            events = ["submit sell", "submit close", "deliver T2 D1 1", "deliver T1 D1 1", "settle"]
-            same("the saved schedule", states.read_parts(self.saved(page, "#save", "workload")).events, events)
+        same("what is said", "REJECTED" in page.tell("byId('sentences').textContent"), True)
+        page.click("#settle")
+        self.ended(page)
+        events = ["submit sell", "submit close", "deliver T2 D1 1", "deliver T1 D1 1", "settle"]
+        same("the saved schedule", states.read_parts(self.saved(page, "#save", "workload")).events, events)
 
     def reports(self, page):
         """Each button prints what the native program prints; an example is chosen as a person does it."""
@@ -195,8 +203,8 @@ class FormChecks(Opened):
         self.ended(page)
         page.wait("kept.source !== '' && view.run.data.events.at(-1) === 'settle'")
         time.sleep(0.3)
-        page.tell("window.isOld = true; location.reload()")
-        page.wait("!window.isOld && typeof view === 'object' && view && !isForm() && view.play && !view.play.isBusy")
+        page.tell("window.isOld = true; setTimeout(() => location.reload(), 0)")
+        wait_through(page, "!window.isOld && typeof view === 'object' && !!view && !isForm() && !!view.play && !view.play.isBusy")
         same("the schedule after a reload", page.tell("view.run.data.events"), states.read_parts(workload).events)
         page.click("#again")
         page.wait("isForm()")

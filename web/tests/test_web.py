@@ -77,9 +77,10 @@ FORBIDDEN = [
 class Tests(Opened):
     def form(self):
         checks = FormChecks(self.asked, self.folder, self.browser)
-        tried = [checks.recipe, checks.reports, checks.refused, checks.files, checks.addresses, checks.reload_and_back, checks.keys]
-        for check in tried:
-            page = self.open()
+        tried = [(checks.recipe, SIZES[0])] + [(x, SIZE) for x in (
+            checks.recipe, checks.reports, checks.refused, checks.files, checks.addresses, checks.reload_and_back, checks.keys)]
+        for check, size in tried:
+            page = self.open(size=size)
             check(page)
             same("faults of scripts in " + check.__name__, page.faults(), [])
             page.close()
