@@ -96,6 +96,9 @@ class Answers(unittest.TestCase):
         inside = call("inside", *BRIDGE, "-q").stdout
         self.assertEqual(json.loads(inside.split(b"\n")[0])["inside"], 1)
         self.assertEqual(call("reference", "inside", *BRIDGE).stdout, inside)
+        for word in ("robust", "needs"):
+            self.assertEqual(call(word, BRIDGE[0], "-q").stdout, call("reference", word, BRIDGE[0]).stdout)
+        self.assertEqual(call("robust", BRIDGE[0], "-q").stdout, b"snapshot isolation: enough\n")
         self.assertNotEqual(call("reference", "--break", "commit-order", "run", *BRIDGE).stdout, b"")
 
     def test_version_and_help(self):

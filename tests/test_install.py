@@ -55,10 +55,10 @@ class Install(unittest.TestCase):
     def test_all(self):
         done = self.install("--unproved")
         self.assertEqual((done.returncode, done.stderr), (0, ""))
-        for k in (1, 2, 3):
-            self.assertIn("step %d of 3: " % k, done.stdout)
+        for k in (1, 2, 3, 4):
+            self.assertIn("step %d of 4: " % k, done.stdout)
         there = self.installed()
-        for name in ("bin/sdd", "bin/sdd1-unproved", "bin/sdd1_inside-unproved", "share/man/man1/sdd.1", "share/sdd1/sdd1-unproved"):
+        for name in ("bin/sdd", "bin/sdd1-unproved", "bin/sdd1_inside-unproved", "bin/sdd1_ask-unproved", "share/man/man1/sdd.1", "share/sdd1/sdd1-unproved"):
             self.assertIn(name, there)
         version = subprocess.run([sys.executable, os.path.join(self.prefix, "bin", "sdd"), "--version"], stdout=subprocess.PIPE, text=True,
                                  env={**os.environ, "PATH": os.path.join(self.prefix, "bin")}).stdout
@@ -67,7 +67,7 @@ class Install(unittest.TestCase):
         self.assertEqual((self.install("--uninstall").returncode, self.installed()), (0, []))
 
     def test_nothing_where_one_fails(self):
-        for name in ("sdd1", "sdd1_inside"):
+        for name in ("sdd1", "sdd1_inside", "sdd1_ask"):
             done = self.install("--unproved", fails=name)
             self.assertEqual((done.returncode, self.installed()), (2, []))
             self.assertIn("the builder has no memory", done.stderr)

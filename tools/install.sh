@@ -1,8 +1,8 @@
 #!/usr/bin/env bash
-# Installs sdd1 and sdd1_inside, and the command sdd: the programs, manual pages, and completions for bash, zsh and fish.
+# Installs sdd1, sdd1_inside and sdd1_ask, and the command sdd: the programs, manual pages, and completions for bash, zsh and fish.
 #
 #   tools/install.sh [PREFIX]               passes the gate (rt ci), which builds the programs, and installs them (86 minutes, 7.3 GB)
-#   tools/install.sh --unproved [PREFIX]    builds them without their proof, in some 8 minutes, as sdd1-unproved and sdd1_inside-unproved
+#   tools/install.sh --unproved [PREFIX]    builds them without their proof, in some 10 minutes, as sdd1-unproved and so on
 #   tools/install.sh --uninstall [PREFIX]   removes what either of them installed
 #
 # PREFIX is ~/.local if left out. Times are those of a machine with four processors that does nothing else. All is built and
@@ -24,7 +24,7 @@ esac
 prefix=${1:-$HOME/.local}
 [[ $prefix == /* ]] || prefix=$PWD/$prefix
 
-programs=(sdd1 sdd1_inside)
+programs=(sdd1 sdd1_inside sdd1_ask)
 pages=$prefix/share/man/man1
 notes=$prefix/share/sdd1
 # sdd1_inside takes files alone, which a shell completes by itself.
@@ -54,7 +54,7 @@ room=$(mktemp -d) || refuse "no folder for what is built"
 trap 'rm -rf "$room"' EXIT
 
 # step TEXT COMMAND ..: says what is done, does it, and says how long it took; where it fails nothing is installed.
-steps=$([[ $mode == unproved ]] && echo 3 || echo 2)
+steps=$([[ $mode == unproved ]] && echo 4 || echo 2)
 step_number=0
 step() {
   local text=$1 begin=$SECONDS
@@ -86,6 +86,7 @@ prints() {
 finish() {
   prints sdd1 run own.toml put_and_query.work || return 1
   prints sdd1_inside lost_packet.toml lost_packet.work || return 1
+  prints sdd1_ask needs held.toml || return 1
   python3 "$root/tools/make_pyz.py" "$room/sdd"
 }
 
@@ -120,5 +121,5 @@ for name in sdd sdd1; do
   install -Dm 644 "$root/tools/install/$name.fish" "$fish_folder/$name.fish"
 done
 [[ $mode == proved ]] || ln -sf sdd1 "$bash_folder/sdd1-unproved"
-echo "installed $prefix/bin/sdd1$ending, $prefix/bin/sdd1_inside$ending and $prefix/bin/sdd, manual pages and completions"
+echo "installed $prefix/bin/sdd1$ending, sdd1_inside$ending and sdd1_ask$ending beside it, and $prefix/bin/sdd, manual pages and completions"
 [[ :$PATH: == *":$prefix/bin:"* ]] || echo "note: $prefix/bin is not on your PATH"

@@ -1,13 +1,14 @@
-"""Prints what `sdd1` and `sdd1_inside` print.
+"""Prints what `sdd1`, `sdd1_inside` and `sdd1_ask` print.
 
     sdd check | graph | table | advise CAT        sdd run | plain | inside CAT WORK
     sdd verify CAT WORK REPORT                    sdd control FILE        sdd make SEED N
+    sdd robust | needs CAT
 
 CAT is a catalogue, WORK a workload (docs/FORMATS.md); `-` is standard input. The text is that of the program to the
 byte, and so is the status, but that `verify` ends with 1 where the report is not serializable. A refusal of a file is
 printed with its place there, marked, the cause, and what helps. With --json `check`, `verify` and `run` print JSON.
 
-The program is that of --program (and --inside); else the proved one, where it is installed; else an unproved build;
+The program is that of --program (and --inside; for `robust` and `needs` the `sdd1_ask` beside it); else the proved one, where it is installed; else an unproved build;
 else the reference of this package, which needs Python alone and is slower. A line says which, but with --quiet.
 """
 import contextlib
@@ -25,11 +26,12 @@ from sdd.explain.rules import WITHOUT_FILE
 from sdd.model.files import BadInput
 from sdd.model.report import report_of
 from sdd.model.words import number_between
-from sdd.programs import add_program, asked_within, find_programs, named, report_by, report_program
+from sdd.programs import add_program, asked_within, find_ask, find_programs, named, report_by, report_program
 
 NAMES = {"check": ["CAT"], "graph": ["CAT"], "table": ["CAT"], "advise": ["CAT"], "run": ["CAT", "WORK"], "plain": ["CAT", "WORK"],
-         "inside": ["CAT", "WORK"], "verify": ["CAT", "WORK", "REPORT"], "control": ["FILE"], "make": ["SEED", "N"]}
+         "inside": ["CAT", "WORK"], "robust": ["CAT"], "needs": ["CAT"], "verify": ["CAT", "WORK", "REPORT"], "control": ["FILE"], "make": ["SEED", "N"]}
 WITH_JSON = ("check", "verify", "run")
+QUESTIONS = ("robust", "needs")
 
 
 def read_words(word):
@@ -76,6 +78,14 @@ def files_of(words, room):
 
 # The call.
 
+def program_of(word, asked):
+    """The words that begin the program's command, and those that follow them."""
+    if word in QUESTIONS:
+        return find_ask(asked.program), [word]
+    programs = find_programs(asked.program, asked.inside)
+    return (programs.inside, []) if word == "inside" else (programs.sdd1, [word])
+
+
 class Answer:
     """What a program says: its status, the text and the line on standard error, as bytes."""
 
@@ -113,11 +123,10 @@ def main():
         raise BadInput("SEED is a whole number from 0 to 2147483647, and N one from 0 to 2048")
     with tempfile.TemporaryDirectory(prefix="sdd-") as room:
         files = files_of(words, room) if word != "make" else []
-        programs = find_programs(asked.program, asked.inside)
-        command = programs.inside if word == "inside" else programs.sdd1 + [word]
+        program, rest = program_of(word, asked)
         if not asked.quiet and not (asked.inside if word == "inside" else asked.program):
-            report_program(programs.inside if word == "inside" else programs.sdd1)
-        answer = answer_of(command, [x.path for x in files] or words)
+            report_program(program)
+        answer = answer_of(program + rest, [x.path for x in files] or words)
         if answer.status:
             return refuse(answer, files)
         text = as_json(word, answer.text.decode()).encode() if getattr(asked, "json", False) else answer.text

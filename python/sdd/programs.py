@@ -1,4 +1,4 @@
-"""The programs that answer: `sdd1` and `sdd1_inside`.
+"""The programs that answer: `sdd1`, `sdd1_inside` and `sdd1_ask`.
 
     program = Program(None)                 text = program.text(["run", catalogue, workload])
     programs = find_programs(None, None)    text = programs.tell_inside([catalogue, workload])
@@ -180,11 +180,11 @@ def output_of(command, seconds):
     return done.stdout.decode()
 
 
-def beside(sdd1):
-    """The `sdd1_inside` in the folder of an `sdd1`, by the same ending where its name has one."""
+def beside(sdd1, other):
+    """The program `other` in the folder of an `sdd1`, by the same ending where its name has one."""
     folder, name = os.path.split(shutil.which(sdd1[0]))
     ending = name.removeprefix("sdd1") if name.startswith("sdd1") else ""
-    there = (os.path.join(folder, "sdd1_inside" + x) for x in (ending, ""))
+    there = (os.path.join(folder, other + x) for x in (ending, ""))
     return next(([x] for x in there if os.access(x, os.X_OK)), None)
 
 
@@ -193,5 +193,13 @@ def find_programs(program, inside):
     sdd1 = words_of(program, "--program") if program else found("sdd1") or own_command("reference")
     if inside:
         return Programs(sdd1, words_of(inside, "--inside"))
-    near = own_command("reference", "inside") if program == "reference" else beside(sdd1) if program else None
+    near = own_command("reference", "inside") if program == "reference" else beside(sdd1, "sdd1_inside") if program else None
     return Programs(sdd1, near or found("sdd1_inside") or own_command("reference", "inside"))
+
+
+def find_ask(program):
+    """The words that begin a command of `sdd1_ask`: the one beside a given `sdd1`, the one found, or the reference."""
+    if program == "reference":
+        return own_command("reference")
+    near = beside(words_of(program, "--program"), "sdd1_ask") if program else None
+    return near or found("sdd1_ask") or own_command("reference")
