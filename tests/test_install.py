@@ -1,4 +1,4 @@
-"""tools/install.sh installs all or nothing, and removes what it installed.
+"""tools/install.sh installs all or nothing, and removes what it installed; tools/release.sh makes an archive of it.
 
 It is tried in a copy in which `rt` and the builder are played: a played program prints the text that the repository keeps
 of its example.
@@ -8,6 +8,7 @@ import shutil
 import stat
 import subprocess
 import sys
+import tarfile
 import tempfile
 import unittest
 
@@ -44,10 +45,13 @@ class Install(unittest.TestCase):
         os.chmod(os.path.join(self.bin, "rt"), stat.S_IRWXU)
         os.symlink(sys.executable, os.path.join(self.bin, "python3"))
 
-    def install(self, *words, fails=""):
+    def call(self, script, *words, fails=""):
         env = {**os.environ, "PATH": self.bin + os.pathsep + os.defpath, "ROOT": ROOT, "FAILS": fails}
-        return subprocess.run(["bash", os.path.join(self.root, "tools", "install.sh"), *words, self.prefix], env=env, stdin=subprocess.DEVNULL,
+        return subprocess.run(["bash", os.path.join(self.root, "tools", script), *words], env=env, stdin=subprocess.DEVNULL,
                               stdout=subprocess.PIPE, stderr=subprocess.PIPE, text=True)
+
+    def install(self, *words, fails=""):
+        return self.call("install.sh", *words, self.prefix, fails=fails)
 
     def installed(self):
         return sorted(os.path.relpath(os.path.join(at, x), self.prefix) for at, _, names in os.walk(self.prefix) for x in names)
@@ -77,6 +81,32 @@ class Install(unittest.TestCase):
         done = self.install()
         self.assertEqual((done.returncode, self.installed()), (2, []))
         self.assertIn("step 1 of 2: the gate", done.stdout)
+
+    def commit(self):
+        """Makes the copy a clone, with a file for each thing that an archive has."""
+        for name in ("examples/one/catalogue.toml", "docs/ONE.md", "web/sdd1.html", "README.md", "CHANGELOG.md", "CITATION.cff", "LICENSE-MIT", "LICENSE-APACHE"):
+            os.makedirs(os.path.dirname(os.path.join(self.root, name)), exist_ok=True)
+            write_text(os.path.join(self.root, name), name)
+        git = ["git", "-C", self.root, "-c", "user.name=played", "-c", "user.email=played@example.org"]
+        for words in (["init", "-q"], ["add", "-A"], ["commit", "-q", "-m", "all"]):
+            subprocess.run(git + words, check=True, stdout=subprocess.PIPE, stderr=subprocess.PIPE)
+
+    @unittest.skipUnless(all(map(shutil.which, ("git", "gzip", "sha256sum", "tar"))) and sys.platform == "linux", "there is no git, gzip, sha256sum or tar")
+    def test_release(self):
+        shutil.copy(os.path.join(ROOT, "tools", "release.sh"), os.path.join(self.root, "tools", "release.sh"))
+        self.assertIn("this is no clone", self.call("release.sh", "--unproved", self.prefix).stderr)
+        self.commit()
+        done = self.call("release.sh", "--unproved", self.prefix)
+        self.assertEqual((done.returncode, done.stderr), (0, ""))
+        archive, total = self.installed()
+        self.assertTrue(archive.endswith("-unproved.tar.gz") and total == archive + ".sha256", archive)
+        with tarfile.open(os.path.join(self.prefix, archive)) as made:
+            names = {x.split("/", 1)[1] for x in made.getnames() if "/" in x}
+        for name in ("bin/sdd", "bin/sdd1-unproved", "bin/sdd1_ask-unproved", "examples/one/catalogue.toml", "docs/ONE.md", "web/sdd1.html", "LICENSE-MIT", "COMMIT"):
+            self.assertIn(name, names)
+        self.assertEqual(subprocess.run(["sha256sum", "-c", total], cwd=self.prefix, stdout=subprocess.PIPE).returncode, 0)
+        write_text(os.path.join(self.root, "README.md"), "changed")
+        self.assertIn("something here isn't committed", self.call("release.sh", "--unproved", self.prefix).stderr)
 
 
 if __name__ == "__main__":
