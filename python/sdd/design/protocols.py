@@ -2,25 +2,14 @@
 
     protocols = read_protocols(text)
 """
-import re
-
-from sdd.model.files import BadInput
+from sdd.view.graph_picture import protocols_of
 
 MOST = 24                   # of more pairs of a reader and a writer these are reported
-NAME = r"([A-Za-z][A-Za-z0-9_]*)"
-READ = re.compile("%s reads %s at (D\\d+) writer %s (P[123]) block (\\d+|-)" % (NAME, NAME, NAME))
 
 
 def read_protocols(text):
     """Of each reader, fragment and writer the protocol."""
-    made = {}
-    for line in text.splitlines():
-        found = READ.fullmatch(line)
-        if not found:
-            raise BadInput("`table` printed no read: %s" % line)
-        reader, fragment, _, writer, protocol, _ = found.groups()
-        made[reader, fragment, writer] = protocol
-    return made
+    return {(reader, fragment, writer): protocol for (reader, writer, fragment), (_, protocol) in protocols_of(text).items()}
 
 
 def count_protocols(protocols):
