@@ -20,6 +20,8 @@ def add_times(asked):
     asked.add_argument("--link", metavar="MS", type=number_of, help="milliseconds between two sites (20)")
     asked.add_argument("--near", metavar="T1-D1=MS", type=near_of, action="append", default=[], help="between two sites; again and again")
     asked.add_argument("--jitter", metavar="PERCENT", type=number_of, help="up to so many percent more, drawn (10)")
+    asked.add_argument("--loss", metavar="PERCENT", type=number_of, help="of 100 packets so many are lost (0)")
+    asked.add_argument("--resend", metavar="MS", type=number_of, help="what isn't acknowledged after so long is sent again (200)")
     asked.add_argument("--service", metavar="D1=MS", type=service_of, action="append", default=[], help="how long a site handles a message; D or T for all")
     asked.add_argument("--every", metavar="MS", type=number_of, help="between two submissions, on the average (10)")
     asked.add_argument("--rate", metavar="N", type=number_of, help="submissions in a second, in place of --every")
@@ -36,7 +38,7 @@ def is_timed(asked):
 def demand_timed(asked):
     """Refuses options of the one way with the other."""
     if not is_timed(asked):
-        given = [x for x in ("jitter", "every", "rate", "check", "worst") if getattr(asked, x) is not None] + ["csv"] * asked.csv
+        given = [x for x in ("jitter", "loss", "resend", "every", "rate", "check", "worst") if getattr(asked, x) is not None] + ["csv"] * asked.csv
         if given:
             raise BadInput("--%s is for times of links: give --link, --near or --times too" % given[0])
         return
@@ -48,7 +50,7 @@ def demand_timed(asked):
 
 
 def times_of(asked):
-    return read_times(asked.times, asked.link, asked.near, asked.service, asked.jitter, every_of_words(asked))
+    return read_times(asked.times, asked.link, asked.near, asked.service, asked.jitter, every_of_words(asked), asked.loss, asked.resend)
 
 
 def every_of_words(asked):

@@ -47,12 +47,12 @@ class Latencies:
         """`ways` has transactions that come from farther away, and how long their way there and back takes."""
         self.ways = ways or {}
         self.by, self.groups, self.pairs, self.runs, self.drains = by, {}, {}, 0, []
-        self.messages = self.unended = 0
+        self.packets = self.unended = 0
         self.slowest = 0.0, 0, ""       # the longest time to commit, in which run, and of which transaction
 
     def take(self, run):
         self.runs += 1
-        self.messages += run.messages
+        self.packets += run.packets()
         name_of, end = run.plans.whole.class_name, max((x.committed or 0 for x in run.told.values()), default=0)
         for told in run.told.values():
             cls, kind = name_of(told.plan.cls), kind_of(told.plan.name)

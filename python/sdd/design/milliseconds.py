@@ -14,6 +14,7 @@ from sdd.design.latencies import Latencies
 from sdd.design.plans import Plans
 from sdd.design.schedules import read_load
 from sdd.design.timed import TimedRun
+from sdd.design.timed_links import LinkedRun
 from sdd.model import workload
 from sdd.model.files import BadInput, write_text
 from sdd.model.reading import catalogue_at, workload_at
@@ -56,7 +57,8 @@ class Design:
 
     def run(self, distances, seed, is_traced=False):
         rng = random.Random(seed)
-        return TimedRun(self.plans, distances.for_catalogue(self.cat), self.phases(distances.every, rng), rng, is_traced)
+        parts = self.plans, distances.for_catalogue(self.cat), self.phases(distances.every, rng), rng
+        return LinkedRun(*parts, is_traced) if is_traced or distances.loss else TimedRun(*parts)
 
     def protocols(self):
         made = {"P1": 0, "P2": 0, "P3": 0}
@@ -108,5 +110,5 @@ def explore_times(design, distances, by, runs, seed, checks=0, program=None, fol
         if k % 20 == 0:
             tell("%s: %d of %d runs" % (design.catalogue_path, k, runs))
     commits = sum(x.commits for x in found.groups.values())
-    packets = 2 * found.messages / max(1, commits)
+    packets = found.packets / max(1, commits)
     return Explored(design.catalogue_path, found, design.protocols(), len(design.work.submitted()), packets, checked)

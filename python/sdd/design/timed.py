@@ -1,19 +1,17 @@
 """A run with the times of its links: which message arrives when, and what each transaction waited for.
 
-    run = TimedRun(plans, times, phases, rng, is_traced=False)
+    run = TimedRun(plans, times, phases, rng)
 
 A phase is a list of pairs of a time in milliseconds and an event of the workload; `times` has the distances between sites and
 how long each handles a message (times.py). It does what the program does, message by message, but knows no
-acknowledgements, which nothing waits for. With `is_traced` it carries these too, and keeps the events of the
-schedule and the trace that `sdd1 run` prints for it: both are compared each time that explore runs.
+acknowledgements, which nothing waits for where no packet is lost. timed_links.py knows them, and packets that are lost.
 """
 from heapq import heappop, heappush
 
-from sdd.design.timed_messages import ACK
 from sdd.design.timed_modules import Module, Modules
 from sdd.design.timed_stores import Store, Stores
 
-SUBMIT, TICK, DOWN, UP, SERVED = range(-5, 0)      # what stands on the heap in place of a receiver
+SUBMIT, TICK, DOWN, UP, SERVED, RESEND = range(-6, 0)      # what stands on the heap in place of a receiver
 
 
 class Told:
@@ -25,16 +23,17 @@ class Told:
 
 
 class TimedRun(Modules, Stores):
-    def __init__(self, plans, times, phases, rng, is_traced=False):
+    trace = None            # timed_links.py keeps one
+
+    def __init__(self, plans, times, phases, rng):
         """`phases` are lists of such events; each begins once all of the one before has ended."""
         self.plans, self.random, self.jitter = plans, rng.random, times.jitter / 100
         self.tms, self.size, self.base = plans.cat.tms, times.size, times.base
-        self.last = [0.0] * (times.size * times.size)
-        self.service, self.free, self.last_served = times.service, [0.0] * times.size, [0.0] * (times.size * times.size)
+        self.last = [0.0] * (times.size * times.size)           # when the packet that was sent last on a link arrives
+        self.service, self.free = times.service, [0.0] * times.size
         self.heap, self.count, self.now, self.messages, self.era = [], 0, 0.0, 0, 0
-        self.told, self.event = {}, 0
+        self.told = {}
         self.has_settles, self.quiet = len(phases) > 1, 0.0     # quiet: when the last acknowledgement has come
-        self.trace, self.schedule = ([], []) if is_traced else (None, None)
         self.build()
         for phase in phases:
             begin = max(self.now, self.quiet)
@@ -55,82 +54,59 @@ class TimedRun(Modules, Stores):
     def plan_event(self, time, event):
         if event.word == "redeclare":
             self.redeclare()
-            return
+        else:
+            self.push(time, {"submit": SUBMIT, "tick": TICK, "down": DOWN, "up": UP}[event.word], 0, event)
+
+    def push(self, time, to, sender, message):
         self.count += 1
-        kind = {"submit": SUBMIT, "tick": TICK, "down": DOWN, "up": UP}[event.word]
-        heappush(self.heap, (time, self.count, kind, 0, event))
+        heappush(self.heap, (time, self.count, to, sender, message))
 
     def carry_out(self):
-        heap, tms, service = self.heap, self.tms, self.service
+        heap, service = self.heap, self.service
         while heap:
             self.now, _, to, sender, message = heappop(heap)
-            if to < 0 and to != SERVED:
-                self.do(to, message)
-                continue
-            if to == SERVED:
-                to, message = message
-            elif service is not None:
-                self.serve(to, sender, message)
-                continue
-            if self.trace is not None:
-                self.trace_delivery(sender, to, message)
-            if message[0] == ACK:
-                continue
-            if self.has_settles:
-                self.quiet = max(self.quiet, self.now + self.base[to * self.size + sender])
-            if to > tms:
-                self.at_store(self.stores[to - tms - 1], sender, message)
+            if to >= 0:
+                if service is None:
+                    self.receive(to, sender, message)
+                else:
+                    self.serve(to, sender, message)
+            elif to == SERVED:
+                self.receive(message[0], sender, message[1])
             else:
-                self.at_module(self.modules[to], sender, message)
+                self.do(to, message)
+
+    def receive(self, to, sender, message):
+        if self.has_settles:
+            self.quiet = max(self.quiet, self.now + self.base[to * self.size + sender])
+        if to > self.tms:
+            self.at_store(self.stores[to - self.tms - 1], sender, message)
+        else:
+            self.at_module(self.modules[to], sender, message)
 
     def serve(self, to, sender, message):
-        """A site handles its messages one after the other; an acknowledgement takes it no time."""
-        link = sender * self.size + to
-        if message[0] == ACK:
-            done = max(self.now, self.last_served[link])
-        else:
-            done = self.free[to] = max(self.now, self.free[to]) + self.service[to]
-            self.last_served[link] = done
-        self.count += 1
-        heappush(self.heap, (done, self.count, SERVED, sender, (to, message)))
+        """A site handles its messages one after the other."""
+        done = self.free[to] = max(self.now, self.free[to]) + self.service[to]
+        self.push(done, SERVED, sender, (to, message))
 
     def send(self, a, b, message):
         link = a * self.size + b
         time = self.now + self.base[link] * (1 + self.jitter * self.random())
-        if time < self.last[link]:
-            time = self.last[link]
-        self.last[link] = time
-        self.count += 1
+        last = self.last
+        if time < last[link]:
+            time = last[link]
+        else:
+            last[link] = time
+        self.count = count = self.count + 1
         self.messages += 1
-        heappush(self.heap, (time, self.count, b, a, message))
+        heappush(self.heap, (time, count, b, a, message))
 
-    def trace_delivery(self, a, b, message):
-        self.next_event("deliver %s %s 1" % (self.name(a), self.name(b)))
-        if message[0] == ACK:
-            return
-        link = b * self.size + a
-        self.last[link] = max(self.last[link], self.now + self.base[link])
-        self.count += 1
-        heappush(self.heap, (self.last[link], self.count, a, b, (ACK,)))
-
-    def next_event(self, line):
-        self.event += 1
-        self.schedule.append(line)
-
-    def name(self, site):
-        return "U" if site == 0 else "T%d" % site if site <= self.tms else "D%d" % (site - self.tms)
-
-    def record(self, *words):
-        self.trace.append(" ".join(map(str, (self.event,) + words)))
-
-    def class_name(self, cls):
-        return self.plans.whole.class_name(cls)
+    def packets(self):
+        """How many packets arrived: a message and its acknowledgement each."""
+        return 2 * self.messages
 
     # Events of the workload.
 
     def do(self, kind, event):
-        if self.trace is not None:
-            self.next_event(event.words(self.plans.work.txns))
         if kind == SUBMIT:
             self.submit(event.txn)
         elif kind == TICK:
@@ -163,8 +139,6 @@ class TimedRun(Modules, Stores):
 
     def redeclare(self):
         self.era += 1
-        if self.trace is not None:
-            self.next_event("redeclare")
         time = max(x.bound() for x in self.modules[1:])
         for module in self.modules[1:]:
             module.push(time)

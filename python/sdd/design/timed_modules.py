@@ -49,27 +49,28 @@ class Modules:
     """What a run does at its transaction modules."""
 
     def at_module(self, module, sender, message):
-        kind, cls, time = message[0], message[1], message[2]
-        if kind in (ASK, RELEASE, HELD):
-            module.push(time)
-        if kind == HOLD:
+        kind = message[0]
+        if kind == ASK:
+            self.asked(module, module.by_class[message[1]], sender, message[2])
+        elif kind == HOLD:
             module.holds += 1
             self.tell_held(module)
         elif kind == RELEASE:
+            module.push(message[2])
             module.releases += 1
             self.start_next(module)
-        elif kind in (HELD, DONE):
-            self.undeclared(sender, kind, time)
-        elif kind == ASK:
-            self.asked(module, module.by_class[cls], sender, time)
+        elif kind == HELD or kind == DONE:
+            self.undeclared(module, sender, kind, message[2])
         else:
-            self.answered(module, module.by_class[cls], sender, message)
+            self.answered(module, module.by_class[message[1]], sender, message)
 
     def asked(self, module, line, sender, time):
-        if line.attempt is None:
-            self.send(module.site, sender, (NULL, line.cls, module.bound()))
-        elif line.attempt.time >= time:
-            self.send(module.site, sender, (NULL, line.cls, line.attempt.time))
+        module.push(time)
+        attempt = line.attempt
+        if attempt is None:
+            self.send(module.site, sender, (NULL, line.cls, module.ticks * 64 + 63))
+        elif attempt.time >= time:
+            self.send(module.site, sender, (NULL, line.cls, attempt.time))
         else:
             line.asks.append(sender)
 
@@ -171,15 +172,21 @@ class Modules:
         self.told[plan.number].committed = self.now
         if self.trace is not None:
             self.record("commit", "%s#%d" % (plan.name, attempt.number))
-        changes, copies = effect_of(plan, attempt.held), self.plans.copies
-        for store in self.stores:
-            here = [(f, key, row) for (f, key), row in changes.items() if store.number in copies[f]]
-            if here or plan.cls == 0:
-                self.send(module.site, store.site, (WRITE, plan.cls, attempt.time, plan, here))
+        self.write(module, plan, attempt.time, effect_of(plan, attempt.held))
         if plan.cls:
             self.is_idle(module, line)
         else:
             self.commits, self.undeclared_time, self.dones = self.commits + 1, attempt.time, 0
+
+    def write(self, module, plan, time, changes):
+        """Sends to each data module what changes there; an undeclared transaction writes at all of them, if only nothing."""
+        if not changes and plan.cls:
+            return
+        copies = self.plans.copies
+        for store in self.stores:
+            here = [(f, key, row) for (f, key), row in changes.items() if store.number in copies[f]]
+            if here or plan.cls == 0:
+                self.send(module.site, store.site, (WRITE, plan.cls, time, plan, here))
 
     def is_idle(self, module, line):
         """Nothing of the class is under way: who asked gets an answer."""
@@ -195,8 +202,9 @@ class Modules:
 
     # Undeclared transactions.
 
-    def undeclared(self, sender, kind, time):
+    def undeclared(self, module, sender, kind, time):
         if kind == HELD:
+            module.push(time)
             self.held_counts[sender] += 1
         elif time == self.undeclared_time:
             self.dones += 1

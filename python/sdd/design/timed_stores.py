@@ -19,13 +19,17 @@ class Pipe:
 
 
 class Store:
-    """A data module."""
-    __slots__ = ("site", "number", "pipes", "copies", "full", "waiting", "is_down", "held_back")
+    """A data module.
+
+    Between two messages nothing is due: each pipe is empty, or its head is a READ that waits or a WRITE that is held.
+    """
+    __slots__ = ("site", "number", "pipes", "copies", "awaiting", "waiting", "held", "is_down", "held_back")
 
     def __init__(self, site, number, classes, copies):
         self.site, self.number, self.copies = site, number, copies
         self.pipes = [Pipe() for _ in range(classes + 1)]
-        self.full, self.waiting = set(), set()          # classes whose pipe has a head, and whose head is a READ that waits
+        self.awaiting = [set() for _ in range(classes + 1)]     # of each class the classes whose READ waits for it next
+        self.waiting, self.held = set(), set()                  # classes whose head is a READ that waits, or a WRITE that is held
         self.is_down, self.held_back = False, {}
 
 
@@ -40,13 +44,18 @@ class Stores:
         if kind > NULL:
             self.answer_question(store, sender, message)
             return
+        pipe = store.pipes[cls]
+        if kind == NULL and not pipe.came and self.trace is None:       # two of three messages are such: passed at once
+            if message[2] > pipe.latest:
+                pipe.latest = message[2]
+            if store.awaiting[cls]:
+                self.work_off(store, set(store.awaiting[cls]))
+            return
         if kind == READ and self.trace is not None:
             self.record("arrive", "%s#%d" % (message[3].plan.name, message[3].number), "D%d" % store.number)
-        pipe = store.pipes[cls]
         pipe.came.append(message)
         if len(pipe.came) == 1:
-            store.full.add(cls)
-            self.work_off(store)
+            self.work_off(store, {cls} | store.awaiting[cls])
 
     def answer_question(self, store, sender, message):
         kind, cls, time, attempt = message[:4]
@@ -62,47 +71,39 @@ class Stores:
             reply = (REDUCED, cls, time)
         self.send(store.site, sender, reply)
 
-    def work_off(self, store):
-        """Does what is due at the heads of the pipes, always that of the lowest class."""
-        full, pipes = store.full, store.pipes
-        while True:
-            for cls in sorted(full) if len(full) > 1 else tuple(full):
-                pipe = pipes[cls]
-                if pipe.unmet:              # a READ that may go on waiting: asked here, since it is asked most often
-                    c, time, _ = pipe.unmet[-1]
-                    came = pipes[c].came
-                    if (came[0][2] if came else pipes[c].latest) < time:
-                        continue
-                if self.do_head(store, cls, pipe):
-                    break
+    def work_off(self, store, due):
+        """Does what is due at the heads of the pipes, always that of the lowest class; only these classes can have any."""
+        while due:
+            cls = min(due)
+            pipe = store.pipes[cls]
+            if pipe.came and self.do_head(store, cls, pipe):
+                due |= store.awaiting[cls]
+                if store.held:
+                    due |= store.held
             else:
-                return
-
-    def is_unmet(self, pipes, cond):
-        came = pipes[cond[0]].came
-        return (came[0][2] if came else pipes[cond[0]].latest) < cond[1]
+                due.remove(cls)
 
     def do_head(self, store, cls, pipe):
         """Does what is due at the head of a pipe; whether something was."""
         message = pipe.came[0]
         kind = message[0]
         if kind == READ:
-            return self.do_read(store, cls, pipe, message)
+            return self.go_on_waiting(store, cls, pipe, message) if pipe.unmet else self.do_read(store, cls, pipe, message)
         if kind == WRITE:
             if store.waiting and cls and self.is_held(store, message):
+                store.held.add(cls)
                 return False
+            store.held.discard(cls)
             self.apply(store, cls, pipe, message)
         elif self.trace is not None:
             self.record("pass", self.class_name(cls), "D%d" % store.number, message[2])
-        self.process(store, cls, pipe, message[2])
+        self.process(pipe, message[2])
         return True
 
-    def process(self, store, cls, pipe, time):
+    def process(self, pipe, time):
         pipe.came.popleft()
         if time > pipe.latest:
             pipe.latest = time
-        if not pipe.came:
-            store.full.discard(cls)
 
     def is_held(self, store, message):
         """Whether a READ waits here that must not see the WRITE."""
@@ -125,21 +126,13 @@ class Stores:
 
     def do_read(self, store, cls, pipe, message):
         conds, pipes = message[4], store.pipes
-        if pipe.waits is not None:
-            while pipe.unmet:
-                if self.is_unmet(pipes, pipe.unmet[-1]):
-                    return False
-                pipe.unmet.pop()
-            self.end_wait(store, cls, pipe, message)
-            self.answer(store, cls, pipe, message)
-            return True
-        lacking = [c for c in conds if pipes[c[0]].passed() < c[1]]
         for c, time, fragments in conds:
             written = pipes[c].written
             last = max((written[f] for f in fragments if f in written), default=None) if written else None
             if last is not None and last >= time:
                 self.reject(store, cls, pipe, message, c, last)
                 return True
+        lacking = [c for c in conds if pipes[c[0]].passed() < c[1]]
         if lacking:
             self.wait(store, cls, pipe, message, lacking)
         else:
@@ -147,18 +140,33 @@ class Stores:
         return True
 
     def wait(self, store, cls, pipe, message, lacking):
-        pipe.waits, pipe.unmet = (self.now, tuple(c[0] for c in lacking)), list(lacking)
+        pipe.waits, pipe.unmet = (self.now, tuple([c[0] for c in lacking])), lacking
         store.waiting.add(cls)
+        store.awaiting[lacking[-1][0]].add(cls)
         if self.trace is not None:
             self.record("wait", self.attempt_name(message), "D%d" % store.number, *[x for c in lacking for x in (self.class_name(c[0]), c[1])])
+        homes = self.plans.homes
         for c, time, _ in lacking:
-            self.send(store.site, self.plans.homes[c], (ASK, c, time))
+            self.send(store.site, homes[c], (ASK, c, time))
 
-    def end_wait(self, store, cls, pipe, message):
-        since, awaited = pipe.waits
-        pipe.waits = None
+    def go_on_waiting(self, store, cls, pipe, message):
+        """Answers a READ that waits once all its conditions are met; a condition that is met stays so."""
+        unmet, pipes, before = pipe.unmet, store.pipes, pipe.unmet[-1][0]
+        while unmet:
+            awaited, time, _ = unmet[-1]
+            came = pipes[awaited].came
+            if (came[0][2] if came else pipes[awaited].latest) < time:
+                if awaited != before:
+                    store.awaiting[before].discard(cls)
+                    store.awaiting[awaited].add(cls)
+                return False
+            unmet.pop()
+        store.awaiting[before].discard(cls)
         store.waiting.discard(cls)
+        since, awaited = pipe.waits
         self.told[message[3].plan.number].waits.append((store.number, awaited, self.now - since))
+        self.answer(store, cls, pipe, message)
+        return True
 
     def attempt_name(self, message):
         return "%s#%d" % (message[3].plan.name, message[3].number)
@@ -166,14 +174,14 @@ class Stores:
     def reject(self, store, cls, pipe, message, by, last):
         if self.trace is not None:
             self.record("reject", self.attempt_name(message), "D%d" % store.number, self.class_name(by), last)
-        self.process(store, cls, pipe, message[2])
+        self.process(pipe, message[2])
         self.send(store.site, self.plans.homes[cls], (REJECT, cls, message[2], by, last))
 
     def answer(self, store, cls, pipe, message):
         attempt = message[3]
         if self.trace is not None:
             self.record("answer", self.attempt_name(message), "D%d" % store.number)
-        self.process(store, cls, pipe, message[2])
+        self.process(pipe, message[2])
         joined = bool(attempt.plan.moves)
         for use in message[5]:
             rows = self.rows_for(store, use)
@@ -187,11 +195,16 @@ class Stores:
 
     def rows_for(self, store, use):
         """Pairs of a fragment and a row."""
-        found = []
+        found, key, conds = [], use.key, use.conds
         for fragment in use.fragments:
             copy = store.copies[fragment]
-            items = [copy[use.key]] if use.key in copy else () if use.key is not None else list(copy.values())
+            items = copy.values() if key is None else (copy[key],) if key in copy else ()
             for _, row in items:
-                if row is not None and all(test(row[place], value) for place, test, value in use.conds):
+                if row is None:
+                    continue
+                for place, test, value in conds:
+                    if not test(row[place], value):
+                        break
+                else:
                     found.append((fragment, row))
         return found

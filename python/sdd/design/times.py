@@ -7,6 +7,8 @@ The file is TOML, and each part of it may be left out:
 
     link = 20                   # between two sites of which nothing below speaks
     jitter = 10                 # each message takes up to so many percent more
+    loss = 0                    # of 100 packets so many are lost
+    resend = 200                # what isn't acknowledged after so long is sent again
     [places]
     north = ["T1", "D1"]        # sites that stand together
     south = ["T2", "D2"]
@@ -26,11 +28,13 @@ from typing import NamedTuple
 
 from sdd.model.files import BadInput, text_of
 
-LINK, JITTER, EVERY, WITHIN = 20.0, 10.0, 10.0, 0.2
+LINK, JITTER, EVERY, WITHIN, LOSS = 20.0, 10.0, 10.0, 0.2, 0.0
+RESEND = 200.0              # the least that TCP waits for, as Linux has it
 SITE = re.compile(r"U|[TD]([1-9]|1[0-6])")
 NAME = re.compile(r"[A-Za-z]\w*")
-PARTS = {"link", "jitter", "places", "distances", "service", "arrivals"}
+PARTS = {"link", "jitter", "loss", "resend", "places", "distances", "service", "arrivals"}
 MOST = 1e6
+MOST_LOSS = 50.0            # percent; with more a run takes for ever
 
 
 class Times(NamedTuple):
@@ -39,6 +43,8 @@ class Times(NamedTuple):
     base: list              # of a message from a to b, at a * size + b
     jitter: float           # percent
     service: list           # of each site; None where all are 0
+    loss: float             # percent of the packets
+    patience: list          # how long a to b waits for an acknowledgement, at a * size + b
 
 
 class Distances(NamedTuple):
@@ -49,6 +55,8 @@ class Distances(NamedTuple):
     apart: dict             # frozenset of two places or of two sites -> milliseconds
     service: dict           # site, or T or D -> milliseconds
     every: float
+    loss: float
+    resend: float
 
     def between(self, a, b):
         here, there = self.places.get(a), self.places.get(b)
@@ -61,7 +69,9 @@ class Distances(NamedTuple):
     def for_catalogue(self, cat):
         sites = ["U"] + ["T%d" % (k + 1) for k in range(cat.tms)] + ["D%d" % (k + 1) for k in range(cat.dms)]
         service = [self.service.get(x, self.service.get(x[0], 0.0)) for x in sites]
-        return Times(len(sites), [self.between(a, b) for a in sites for b in sites], self.jitter, service if any(service) else None)
+        base = [self.between(a, b) for a in sites for b in sites]
+        patience = [max(self.resend, 4 * x * (1 + self.jitter / 100)) for x in base]       # twice the way there and back
+        return Times(len(sites), base, self.jitter, service if any(service) else None, self.loss, patience)
 
     def words(self):
         """What the times are, in one line."""
@@ -69,17 +79,18 @@ class Distances(NamedTuple):
         near = ["within a place %g" % self.within] if self.places else []
         near += ["%s %g" % x for x in list(pairs.items())[:8]] + [".."] * (len(pairs) > 8)
         service = ["%s handles a message in %g" % x for x in self.service.items()]
+        lost = ["%g%% of the packets are lost, and sent again after %g" % (self.loss, self.resend)] if self.loss else []
         return "; ".join(["a link takes %g ms" % self.link + "".join(", " + x for x in near), "up to %g%% more" % self.jitter,
-                          *service, "a transaction each %g ms" % self.every])
+                          *lost, *service, "a transaction each %g ms" % self.every])
 
 
-def amount(value, where, least=0.0):
+def amount(value, where, least=0.0, most=MOST):
     try:
         number = float(value)
     except (TypeError, ValueError):
-        raise BadInput("%s: %s is no number of milliseconds" % (where, value)) from None
-    if not least <= number <= MOST or isinstance(value, bool):
-        raise BadInput("%s: %s isn't between %g and %g" % (where, value, least, MOST))
+        raise BadInput("%s: %s is no number" % (where, value)) from None
+    if not least <= number <= most or isinstance(value, bool):
+        raise BadInput("%s: %s isn't between %g and %g" % (where, value, least, most))
     return number
 
 
@@ -114,7 +125,7 @@ def places_of(parts, path):
     return made
 
 
-def read_times(path=None, link=None, near=(), service=(), jitter=None, every=None):
+def read_times(path=None, link=None, near=(), service=(), jitter=None, every=None, loss=None, resend=None):
     """The distances of a file, where there is one; words of the command line count before it."""
     where = path or "the words"
     try:
@@ -134,9 +145,10 @@ def read_times(path=None, link=None, near=(), service=(), jitter=None, every=Non
         if site not in ("T", "D") and not SITE.fullmatch(site):
             raise BadInput("%s: service: %s is no site, nor T or D for all of these" % (where, site))
         served[site] = amount(ms, "%s: service of %s" % (where, site))
-    return Distances(amount(parts.get("link", LINK) if link is None else link, "link"),
-                     amount(parts.get("jitter", JITTER) if jitter is None else jitter, "jitter"),
-                     places, within, apart, served, every_of(table(parts, "arrivals", path), every, path))
+    first = lambda given, name, usual: parts.get(name, usual) if given is None else given  # noqa: E731
+    return Distances(amount(first(link, "link", LINK), "link"), amount(first(jitter, "jitter", JITTER), "jitter"),
+                     places, within, apart, served, every_of(table(parts, "arrivals", path), every, path),
+                     amount(first(loss, "loss", LOSS), "loss", most=MOST_LOSS), amount(first(resend, "resend", RESEND), "resend", least=1.0))
 
 
 def every_of(arrivals, every, path):
