@@ -45,7 +45,7 @@ class Group:
 class Latencies:
     def __init__(self, by, ways=None):
         """`ways` has transactions that come from farther away, and how long their way there and back takes."""
-        self.ways = ways or {}
+        self.ways, self.known = ways or {}, {}
         self.by, self.groups, self.pairs, self.runs, self.drains = by, {}, {}, 0, []
         self.packets = self.unended = 0
         self.slowest = 0.0, 0, ""       # the longest time to commit, in which run, and of which transaction
@@ -55,22 +55,31 @@ class Latencies:
         self.packets += run.packets()
         name_of, end = run.plans.whole.class_name, max((x.committed or 0 for x in run.told.values()), default=0)
         for told in run.told.values():
-            cls, kind = name_of(told.plan.cls), kind_of(told.plan.name)
-            name, other = (cls, kind) if self.by == "class" else (kind, cls)
-            group = self.groups.setdefault(name, Group())
-            group.take(told, self.ways.get(told.plan.name, 0.0))
-            group.others.add(other)
+            plan, (name, group) = told.plan, self.group_of(told.plan, name_of)
+            group.take(told, self.ways.get(plan.name, 0.0))
             for _, awaited, ms in told.waits:
                 for writer in awaited:
                     self.pairs.setdefault((name, name_of(writer)), []).append(ms)
             if told.committed is None:
                 self.unended += 1
                 continue
-            self.slowest = max(self.slowest, (told.committed - told.submitted, self.runs - 1, told.plan.name))
+            took = told.committed - told.submitted
+            if took >= self.slowest[0]:
+                self.slowest = max(self.slowest, (took, self.runs - 1, plan.name))
             if end:
                 group.busy += (told.committed - told.started) / end
-            if cls == "-":
-                self.drains.append(told.committed - told.submitted)
+            if not plan.cls:
+                self.drains.append(took)
+
+    def group_of(self, plan, name_of):
+        """The name of the class or the kind of a transaction, and its group."""
+        if (plan.cls, plan.name) not in self.known:
+            cls, kind = name_of(plan.cls), kind_of(plan.name)
+            name, other = (cls, kind) if self.by == "class" else (kind, cls)
+            group = self.groups.setdefault(name, Group())
+            group.others.add(other)
+            self.known[plan.cls, plan.name] = name, group
+        return self.known[plan.cls, plan.name]
 
     def whole(self):
         made = Group()

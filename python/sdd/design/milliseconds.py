@@ -53,7 +53,7 @@ class Design:
             elif event.word in KEPT:
                 time += rng.expovariate(1 / every) if event.word == "submit" and every else 0.0
                 made[-1].append((time, event))
-        return made
+        return [x for x in made if x]
 
     def run(self, distances, seed, is_traced=False):
         rng = random.Random(seed)

@@ -50,6 +50,7 @@ class Plans:
         self.made = {}
         self.copies = {f.name: tuple(sorted(f.copies)) for f in cat.fragments}
         self.homes = [0] + [c.tm for c in self.whole.classes]
+        self.rows = self.rows_of(work)
 
     def plan(self, number, era=0):
         if (number, era) not in self.made:
@@ -57,9 +58,12 @@ class Plans:
         return self.made[number, era]
 
     def first_rows(self):
-        """Of each data module its copies: fragment -> key -> date and row."""
+        """Of each data module its copies, anew for each run: fragment -> key -> date and row."""
+        return [{fragment: rows.copy() for fragment, rows in module.items()} for module in self.rows]
+
+    def rows_of(self, work):
         modules = [{f.name: {} for f in self.cat.fragments if d in f.copies} for d in range(1, self.cat.dms + 1)]
-        for relation, row in self.work.rows:
+        for relation, row in work.rows:
             key = self.cat.relation[relation].key_of(row)
             fragment = self.cat.fragment_of(relation, key)
             for d in self.copies[fragment]:
@@ -113,7 +117,7 @@ def effect_of(plan, held):
 
     `held` has for each use pairs of a fragment and a row. A transaction that fails changes nothing.
     """
-    if has_too_many(plan, held):
+    if not plan.changes or has_too_many(plan, held):
         return {}
     changes = {}
     try:

@@ -62,18 +62,22 @@ class TimedRun(Modules, Stores):
         heappush(self.heap, (time, self.count, to, sender, message))
 
     def carry_out(self):
-        heap, service = self.heap, self.service
+        heap, takers = self.heap, self.takers()
         while heap:
             self.now, _, to, sender, message = heappop(heap)
             if to >= 0:
-                if service is None:
-                    self.receive(to, sender, message)
-                else:
-                    self.serve(to, sender, message)
+                take, site = takers[to]
+                take(site, sender, message)
             elif to == SERVED:
                 self.receive(message[0], sender, message[1])
             else:
                 self.do(to, message)
+
+    def takers(self):
+        """By the numbers of sites: what is called where something arrives, and its first word."""
+        if self.service is not None or self.has_settles:
+            return [(self.receive if self.service is None else self.serve, to) for to in range(self.size)]
+        return [(self.at_module, x) for x in self.modules] + [(self.at_store, x) for x in self.stores]
 
     def receive(self, to, sender, message):
         if self.has_settles:

@@ -38,6 +38,9 @@ class LinkedRun(TimedRun):
 
     # Packets.
 
+    def takers(self):
+        return [(self.receive if self.service is None else self.serve, to) for to in range(self.size)]
+
     def send(self, a, b, message):
         link = a * self.size + b
         way = self.ways[link]

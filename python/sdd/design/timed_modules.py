@@ -65,7 +65,8 @@ class Modules:
             self.answered(module, module.by_class[message[1]], sender, message)
 
     def asked(self, module, line, sender, time):
-        module.push(time)
+        if time >> 6 > module.ticks:
+            module.ticks = time >> 6
         attempt = line.attempt
         if attempt is None:
             self.send(module.site, sender, (NULL, line.cls, module.ticks * 64 + 63))

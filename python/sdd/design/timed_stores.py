@@ -84,7 +84,7 @@ class Stores:
                 due.remove(cls)
 
     def do_head(self, store, cls, pipe):
-        """Does what is due at the head of a pipe; whether something was."""
+        """Does what is due at the head of a pipe; whether the head is worked off."""
         message = pipe.came[0]
         kind = message[0]
         if kind == READ:
@@ -135,8 +135,8 @@ class Stores:
         lacking = [c for c in conds if pipes[c[0]].passed() < c[1]]
         if lacking:
             self.wait(store, cls, pipe, message, lacking)
-        else:
-            self.answer(store, cls, pipe, message)
+            return False
+        self.answer(store, cls, pipe, message)
         return True
 
     def wait(self, store, cls, pipe, message, lacking):
