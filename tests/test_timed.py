@@ -55,11 +55,11 @@ def drawn_design(seed):
     return rng, Design("", "", cat, work._replace(events=events))
 
 
-def drawn_distances(rng, cat):
+def drawn_distances(rng, cat, loss=None, resend=None):
     sites = ["T%d" % (k + 1) for k in range(cat.tms)], ["D%d" % (k + 1) for k in range(cat.dms)]
     near = [("%s-%s" % (t, d), rng.choice([0, 0.2, 5, 20])) for t in sites[0] for d in sites[1]]
     service = [(x, rng.choice([0, 0.5, 3])) for part in sites for x in part] if rng.random() < 0.5 else []
-    return read_times(None, 20, near, service, rng.choice([0, 10, 50]), rng.choice([1, 10, 100]))
+    return read_times(None, 20, near, service, rng.choice([0, 10, 50]), rng.choice([1, 10, 100]), loss, resend)
 
 
 def event_of(line, numbers):
@@ -72,22 +72,47 @@ def event_of(line, numbers):
 
 
 class Runs(unittest.TestCase):
+    def is_of_reference(self, design, timed, seed):
+        events = [event_of(x, design.work.numbers()) for x in timed.schedule] + [Event("settle")]
+        world = run(design.cat, design.work._replace(events=events))
+        self.assertEqual([trace_line(world, x) for x in world.records], timed.trace, seed)
+
     def test_random_runs_are_those_of_the_reference(self):
         for seed in range(150):
             rng, design = drawn_design(seed)
-            timed = design.run(drawn_distances(rng, design.cat), seed, is_traced=True)
-            events = [event_of(x, design.work.numbers()) for x in timed.schedule] + [Event("settle")]
-            world = run(design.cat, design.work._replace(events=events))
-            self.assertEqual([trace_line(world, x) for x in world.records], timed.trace, seed)
+            self.is_of_reference(design, design.run(drawn_distances(rng, design.cat), seed, is_traced=True), seed)
+
+    def test_random_runs_with_losses_are_those_of_the_reference(self):
+        words = set()
+        for seed in range(100):
+            rng, design = drawn_design(seed)
+            distances = drawn_distances(rng, design.cat, rng.choice([1, 10, 40]), rng.choice([1, 50, 500]))
+            timed = design.run(distances, seed, is_traced=True)
+            self.is_of_reference(design, timed, seed)
+            words |= {x.split(" ")[0] for x in timed.schedule}
+        self.assertLessEqual({"lose", "resend", "deliver", "submit", "redeclare", "down"}, words)
 
     def test_a_trace_changes_no_times(self):
-        """Acknowledgements hold nothing up, so that runs without them have the same times."""
-        for seed in range(40):
+        """Acknowledgements hold nothing up where nothing is lost, so that runs without them have the same times."""
+        for seed in range(60):
             rng, design = drawn_design(seed)
-            distances = drawn_distances(rng, design.cat)
+            distances = drawn_distances(rng, design.cat, rng.choice([0, 0, 20]))
             both = [design.run(distances, seed, x) for x in (False, True)]
             told = [[(n, x.submitted, x.started, x.committed, x.waits) for n, x in y.told.items()] for y in both]
             self.assertEqual(*told, seed)
+            self.assertEqual(both[0].packets(), both[1].packets(), seed)
+
+    def test_a_packet_is_lost_and_sent_again(self):
+        """A lost packet costs the time until it is sent again, with all behind it; the write at T1 commits at once."""
+        design = Design.of_files(*(os.path.join(EXAMPLES, "bridge", x) for x in ("catalogue.toml", "workload")))
+        took = set()
+        for seed in range(60):
+            timed = design.run(read_times(None, 20, [near_of("T2-D1=3")], [], 0, 10, 20, 100), seed, is_traced=True)
+            took.add(round(timed.told[2].committed - timed.told[2].submitted, 6))
+            self.assertAlmostEqual(timed.told[1].committed, timed.told[1].submitted)
+        self.assertIn(12, took)
+        self.assertIn(112, took)
+        self.assertEqual(12, min(took))
 
     def test_times_by_hand(self):
         """A READ, READY, SHIP and ROWS between T2 and D1; a write at T1 commits at once."""
@@ -122,7 +147,8 @@ class Times(unittest.TestCase):
         for before, after, what in (
                 ("north-south", "north-west", "names no two sites"), ("T2-D1", "T2-D17", "names no two sites"), ("rate = 50", "rate = 0", "isn't between"),
                 ("link = 20", "lnk = 20", "has no part lnk"), ('"T2", "D2"', '"T2", "D1"', "stands in north and in south"), ("D2 = 0.3", "E = 1", "E is no site"),
-                ("within = 0.5", 'within = "far"', "is no number"), ("rate = 50", "rate = 50\nevery = 1", "one of them"), ("jitter = 0", "jitter =", "not TOML")):
+                ("within = 0.5", 'within = "far"', "is no number"), ("rate = 50", "rate = 50\nevery = 1", "one of them"), ("jitter = 0", "loss = 51", "isn't between 0 and 50"),
+                ("jitter = 0", "resend = 0", "isn't between 1 and"), ("jitter = 0", "jitter =", "not TOML")):
             self.assertIn(before, PLACES)
             write_text(self.path, PLACES.replace(before, after))
             with self.assertRaisesRegex(BadInput, what):
@@ -160,9 +186,20 @@ class Explores(unittest.TestCase):
             self.assertTrue(apart["kind"]["all"]["to_commit_p95"] < 2 < 100 < first["kind"]["all"]["to_commit_p50"])
             self.assertEqual(1 + 7 + 8, len(self.call(*files, *near, "--csv", "--check", "0").splitlines()))
 
+    def test_losses(self):
+        """Losses make a run slower, and each drawn run is one that the program carries out."""
+        files = [os.path.join(EXAMPLES, "smallbank", x) for x in ("catalogue.toml", "workload")]
+        slow = []
+        for loss in "0", "5":
+            told = json.loads(self.call(*files, "--link", "20", "--every", "100", "--runs", "4", "--check", "1", "--loss", loss, "--program", "reference", "--json"))
+            design = told["designs"][0]
+            slow.append((design["kind" if "kind" in design else "class"]["all"]["to_commit_p99"], design["packets_per_commit"]))
+            self.assertEqual(1, design["checked"])
+        self.assertTrue(slow[0] < slow[1], slow)
+
     def test_refusals(self):
         files = [os.path.join(EXAMPLES, "bridge", x) for x in ("catalogue.toml", "workload")]
-        for words, what in ((["--every", "5"], "times of links"), (["--link", "5", "--pace", "3"], "for rounds"), (["--link", "5", "--json", "--csv"], "one of them"),
+        for words, what in ((["--every", "5"], "times of links"), (["--loss", "5"], "times of links"), (["--link", "5", "--loss", "60"], "isn't between"), (["--link", "5", "--pace", "3"], "for rounds"), (["--link", "5", "--json", "--csv"], "one of them"),
                             (["--near", "T9-D1=1"], "speak of T9"), (["--near", "T1-T1-D1=3"], "no two sites")):
             with self.assertRaisesRegex(BadInput, what):
                 self.call(*files, *words)

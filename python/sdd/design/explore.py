@@ -1,14 +1,15 @@
 """Runs the submissions of a workload under many schedules, and reports which transactions wait, for whom and how long.
 
     sdd explore CATALOGUE WORKLOAD [CATALOGUE2 WORKLOAD2 ..] (--link MS | --near T1-D1=MS .. | --times FILE) [--service D1=MS ..]
-                     [--every MS | --rate N] [--jitter PERCENT] [--runs N] [--seed SEED] [--by class|kind] [--check N]
+                     [--every MS | --rate N] [--jitter PERCENT] [--loss PERCENT] [--resend MS] [--runs N] [--seed SEED] [--by class|kind] [--check N]
                      [--json | --csv] [--picture FILE] [--worst FILE] [--program COMMAND]
     sdd explore CATALOGUE WORKLOAD [CATALOGUE2 WORKLOAD2] [--runs N] [--seed SEED] [--pace N]
                      [--faults PERCENT] [--by class|kind] [--picture FILE] [--program COMMAND]
 
 In the first form the links have times, and all figures are milliseconds, with p50, p95 and p99. A message takes --link (20) between
 two sites, or what --near says of these two, and up to --jitter percent more (10); a site handles one message after the other, each in
---service; submissions come at random, --every milliseconds apart on the average (10), or --rate in a second. --times is a TOML file of all that, with places
+--service; submissions come at random, --every milliseconds apart on the average (10), or --rate in a second. Of 100 packets --loss are
+lost (0), and what isn't acknowledged after --resend milliseconds (200) is sent again. --times is a TOML file of all that, with places
 (the head of sdd/design/times.py has its form; docs/DESIGN.md an example). The table has what reads waited that had to, what transactions
 queued before they began, and how long it took from the submission to the commit; `busy` is the part of the time in which the class had
 an attempt under way. Two designs stand below each other, more in a line each. --check is how many of the runs `sdd1` carries out
