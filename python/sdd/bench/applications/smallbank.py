@@ -136,6 +136,12 @@ class Accounts:
     def add(self, account, number, customer):
         return add("balance", account, number, customer) if self.joined else add(account, "bal", number, customer)
 
+    def take_both(self, number, customer):
+        """Takes as much from both accounts. One row is changed by one statement: each sees the rows from before the transaction."""
+        if self.joined:
+            return ["update balance set 1.savings += %d 1.checking += %d where 1.id = %d" % (-number, -number, customer)]
+        return [add("savings", "bal", -number, customer), add("checking", "bal", -number, customer)]
+
     def look(self, customer):
         if self.joined:
             return [look("balance", "savings checking", customer)]
@@ -158,8 +164,7 @@ def steps_of(kind, accounts, a, b, amount):
         return accounts.look(a) + [accounts.add("checking", -amount, a)], []
     if kind == "payment":
         return [accounts.add("checking", -amount, a)], [accounts.add("checking", amount, b)]
-    both = [accounts.add("savings", -amount, a), accounts.add("checking", -amount, a)]
-    return both, [accounts.add("checking", 2 * amount, b)]
+    return accounts.take_both(amount, a), [accounts.add("checking", 2 * amount, b)]
 
 
 def make(n, seed, design):

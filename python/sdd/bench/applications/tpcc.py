@@ -1,12 +1,14 @@
 """The five transactions of TPC-C, small: two warehouses with two districts each, five customers a district, ten items.
 
 Keys: district = warehouse * 100 + number, customer = district * 1000 + number, stock = warehouse * 1000 + item,
-order = district * 10000 + number, order line = order * 10 + number. The client counts the orders of a district.
+order = district * 10000 + number, order line = order * 10 + number. The client counts the orders of a district. A delivery takes
+the oldest open order that it can see: of those that were there before, since no client knows which others are there by then.
 """
 from sdd.bench.applications.base import Catalogue, Workload, add, look, put
 from sdd.bench.drawing import Random
 
-WAREHOUSES, DISTRICTS, CUSTOMERS, ITEMS, ORDERS, LINES = 2, 2, 5, 10, 3, 3
+WAREHOUSES, DISTRICTS, CUSTOMERS, ITEMS, LINES = 2, 2, 5, 10, 3
+LEAST_ORDERS, FOR_EACH_ORDER = 3, 20    # a district begins with an open order for each so many transactions, more than are delivered
 MIX = [(45, "neworder"), (43, "payment"), (4, "status"), (4, "delivery"), (4, "level")]
 PARTED = {                  # of each relation that is cut by warehouse the first key of the second one
     "warehouse": 2, "district": 200, "customer": 200000, "history": 1000000, "stock": 2000, "orders": 2000000, "neworder": 2000000,
@@ -114,11 +116,12 @@ USUAL = "beside"
 class Shop:
     """Draws transactions, and knows what the clients know: the orders of each district."""
 
-    def __init__(self, seed, design):
+    def __init__(self, n, seed, design):
+        self.first_orders = max(LEAST_ORDERS, n // FOR_EACH_ORDER)
         self.random, self.design, self.split = Random(seed), design, design in ("owners", "queued", "beside")
         self.catalogue = DESIGNS[design]()
         self.work = Workload(self.catalogue, seed)
-        self.orders, self.open, self.payments = {}, {}, 0      # of each district all orders, and those to deliver
+        self.orders, self.open, self.payments = {}, {}, 0      # of each district all orders, and those before the run that are to be delivered
 
     def add_rows(self):
         rows = {name: [] for name in (BY_OWNER if self.split else COLUMNS)}
@@ -127,7 +130,7 @@ class Shop:
             rows["warehouse"].append((w, 7) if self.split else (w, 7, 0))
             rows["stock"] += [(w * 1000 + i, 50 + i, 0) for i in range(1, ITEMS + 1)]
             for d in range(w * 100 + 1, w * 100 + DISTRICTS + 1):
-                rows["district"].append((d, ORDERS + 1) if self.split else (d, ORDERS + 1, 0))
+                rows["district"].append((d, self.first_orders + 1) if self.split else (d, self.first_orders + 1, 0))
                 if self.split:
                     rows["taking"].append((d, 0))
                 self.add_customers(rows, d)
@@ -141,13 +144,13 @@ class Shop:
             if self.split:
                 rows["balance"].append((c, -10, 10))
         self.orders[d], self.open[d] = [], []
-        for n in range(1, ORDERS + 1):
-            order, customer = d * 10000 + n, d * 1000 + n
+        for n in range(1, self.first_orders + 1):
+            order, customer, item = d * 10000 + n, d * 1000 + 1 + (n - 1) % CUSTOMERS, 1 + (n - 1) % ITEMS
             self.orders[d].append((order, customer, 30))
             self.open[d].append((order, customer, 30))
             rows["orders"].append((order, customer, 0))
             rows["neworder"].append((order, 1))
-            rows["orderline"].append((order * 10 + 1, d // 100 * 1000 + n, 3, 30, 0))
+            rows["orderline"].append((order * 10 + 1, d // 100 * 1000 + item, 3, 30, 0))
 
     def district(self):
         return (1 + self.random.draw(WAREHOUSES)) * 100 + 1 + self.random.draw(DISTRICTS)
@@ -174,7 +177,6 @@ class Shop:
                       "update stock set 1.qty += %d 1.ytd += %d where 1.id = %d" % (-qty, qty, stock),
                       put("orderline", order * 10 + k, stock, qty, qty * (5 + item), 0)]
         self.orders[d].append((order, c, total))
-        self.open[d].append((order, c, total))
         return steps + [put("orders", order, c, 0), put("neworder", order, LINES)], home, remote
 
     def payment(self):
@@ -201,7 +203,7 @@ class Shop:
             order * 10, order * 10 + 9)], d // 100, False
 
     def delivery(self):
-        """Of each district of a warehouse the oldest order that isn't delivered."""
+        """Of each district of a warehouse the oldest order that was there before and isn't delivered."""
         home, carrier, steps = 1 + self.random.draw(WAREHOUSES), 1 + self.random.draw(9), []
         for d in range(home * 100 + 1, home * 100 + DISTRICTS + 1):
             if self.open[d]:
@@ -221,7 +223,7 @@ class Shop:
 
 
 def make(n, seed, design):
-    shop = Shop(seed, design)
+    shop = Shop(n, seed, design)
     shop.add_rows()
     for _ in range(n):
         kind = shop.random.weighted(MIX)

@@ -1,0 +1,62 @@
+#!/usr/bin/env python3
+"""Tries on PostgreSQL what `sdd robust` says of SmallBank: with both accounts in one row, and in two.
+
+    tests/databases/measure_promise.py [--histories N] [--size N] [--level LEVEL] [--into FOLDER] [--program COMMAND]
+
+Of each of the two designs N histories (200) of as many transactions (200) are run from 12 connections at REPEATABLE READ, which is snapshot
+isolation there, and judged. PostgreSQL is started here, from Debian's packages, in a scratch folder. With --into the histories are kept; those
+that are there are judged again and not run.
+"""
+import contextlib
+import json
+import os
+import sys
+import tempfile
+
+sys.path.insert(1, os.path.dirname(os.path.abspath(__file__)))
+
+from measure_levels import how, judged, row_of, summary  # noqa: E402
+from sdd.bench.make_workload import write_workload  # noqa: E402
+from sdd.command import count, parser, start  # noqa: E402
+from sdd.judge.history_command import read_files  # noqa: E402
+from sdd.programs import Program, add_program  # noqa: E402
+from servers import Postgres  # noqa: E402
+
+DESIGNS = {"one row": "apart", "two rows": "first"}
+
+
+def run_design(design, asked, address, folder, program):
+    made = []
+    os.makedirs(folder, exist_ok=True)
+    with tempfile.TemporaryDirectory(prefix="promise-") as room:
+        for seed in range(1, asked.histories + 1):
+            paths = write_workload(os.path.join(room, str(seed)), "smallbank", asked.size, seed, design=design)
+            found = judged(how("postgres", address, asked.level, seed=seed, rest=1), *read_files(paths), os.path.join(folder, "%d.jsonl" % seed), program, kept=True)
+            made.append({"engine": "postgres", "level": asked.level} | summary(found))
+            print(json.dumps({"design": design, "seed": seed} | {k: made[-1][k] for k in ("yes", "no", "cut", "words", "kinds")}), flush=True)
+    return made
+
+
+def main():
+    asked = parser(__doc__)
+    asked.add_argument("--histories", metavar="N", type=count, default=200)
+    asked.add_argument("--size", metavar="N", type=count, default=200)
+    asked.add_argument("--level", default="repeatable-read")
+    asked.add_argument("--into", metavar="FOLDER")
+    add_program(asked)
+    asked = asked.parse_args()
+    if Postgres.missing():
+        print("skipped: %s" % Postgres.missing())
+        return 0
+    program, rows = Program(asked.program), []
+    with contextlib.ExitStack() as stack:
+        room = asked.into or stack.enter_context(tempfile.TemporaryDirectory(prefix="promise-"))
+        address = stack.enter_context(Postgres()).address
+        for words, design in DESIGNS.items():
+            rows.append("%s (%s): %s" % (words, design, row_of(run_design(design, asked, address, os.path.join(room, design), program))))
+    print("\n".join(rows))
+    return 0
+
+
+if __name__ == "__main__":
+    start(main)
