@@ -18,7 +18,8 @@ import time
 NAMES = ["chromium", "chromium-browser", "google-chrome"]
 WORDS = ["--headless=new", "--no-sandbox", "--remote-debugging-pipe", "--disable-gpu", "--hide-scrollbars", "--no-first-run",
          "--disable-extensions", "--disable-background-networking", "--disable-component-update", "--force-color-profile=srgb", "about:blank"]
-KEYS = {"ArrowRight": 39, "ArrowLeft": 37, "Home": 36, "End": 35, "PageUp": 33, "PageDown": 34, "Escape": 27, "Enter": 13, "Tab": 9}
+KEYS = {"ArrowRight": 39, "ArrowLeft": 37, "Home": 36, "End": 35, "PageUp": 33, "PageDown": 34, "Escape": 27, "Enter": 13, "Tab": 9, "ArrowDown": 40}
+CTRL = 2
 
 
 def find_browser(given=None):
@@ -157,9 +158,16 @@ class Page:
             for k in range(1, count + 1) if kind == "mousePressed" else (count,):
                 self.ask("Input.dispatchMouseEvent", type=kind, x=place["x"], y=place["y"], button="left", clickCount=k)
 
-    def press(self, key):
-        words = {"key": key, "windowsVirtualKeyCode": KEYS.get(key, ord(key[0].upper()))}
-        if key not in KEYS:
+    def processor_time(self):
+        """How many seconds of a processor the page has taken; the first call begins to count."""
+        self.ask("Performance.enable", timeDomain="threadTicks")
+        return {x["name"]: x["value"] for x in self.ask("Performance.getMetrics")["metrics"]}["TaskDuration"]
+
+    def press(self, key, ctrl=False):
+        words = {"key": key, "windowsVirtualKeyCode": KEYS.get(key, ord(key[0].upper())), "modifiers": CTRL if ctrl else 0}
+        if key == "Enter":
+            words["text"] = "\r"                # without it no button is pressed
+        elif key not in KEYS and not ctrl:
             words["text"] = key
         self.ask("Input.dispatchKeyEvent", type="keyDown", **words)
         self.ask("Input.dispatchKeyEvent", type="keyUp", **words)

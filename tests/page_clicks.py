@@ -17,13 +17,13 @@ CLICKED = ["rejected_read", "held_write", "lost_packet", "undeclared"]
 class Served:
     """A page of a server of its own."""
 
-    def __init__(self, browser, programs, catalogue, workload, folder, size=(1600, 1000)):
+    def __init__(self, browser, programs, catalogue, workload, folder, size=(1600, 1000), dark=False):
         self.server = Server(Game(programs, catalogue, workload, "a test"), 0)
         threading.Thread(target=self.server.serve_forever, daemon=True).start()
         self.folder = os.path.join(folder, "downloads")
         os.makedirs(self.folder, exist_ok=True)
         browser.keep_downloads(self.folder)
-        self.page = browser.open(self.server.address(), *size)
+        self.page = browser.open(self.server.address(), *size, dark)
         self.settle()
 
     def __enter__(self):

@@ -1,13 +1,15 @@
 #!/usr/bin/env python3
 """Tries the pages of sdd page and sdd play in a headless Chromium.
 
-    tests/test_page.py [--program COMMAND] [--inside COMMAND] [--random N] [--seed K] [--browser COMMAND] [--only PART ..]
+    tests/test_page.py [--program COMMAND] [--inside COMMAND] [--random N] [--seed K] [--browser COMMAND] [--only PART ..] [--shots FOLDER]
 
 Parts: `pages` opens the pages of examples/, `random` those of N random runs (50 without --random), from
 seed K on, and `large` one of 16 by 16 sites. Each goes through all events, compares what is shown with
 what the text of the events says, goes back, and compares what is shown at the end with the report.
-`clicks` makes schedules with the mouse, which must be the workloads of examples, byte for byte. `pictures`,
-which has to be named, writes those of docs/pictures anew.
+`clicks` makes schedules with the mouse, which must be the workloads of examples, byte for byte. `room` looks
+at pages as large as a projector, a laptop and a phone show them, light and dark, makes schedules by keyboard
+alone, and measures how long a key takes in a run of 7,000 events; with --shots FOLDER it keeps pictures.
+`pictures`, which has to be named, writes those of docs/pictures anew.
 Where there is no Chromium the script says so, and ends with status 0. Programs are found as sdd page
 finds them.
 """
@@ -20,6 +22,7 @@ import sdd_path  # noqa: F401
 from browser import Browser, Fault, find_browser
 from page_checks import Wrong, check_page
 from page_clicks import check_clicks
+from page_room import Room
 from random_calls import run_call
 from sdd.bench.make_workload import write_workload
 from sdd.command import count, parser, start
@@ -95,7 +98,7 @@ def pictured(folder):
 class Tests:
     def __init__(self, asked, folder, browser):
         self.programs, self.folder, self.browser = find_programs(asked.program, asked.inside), folder, browser
-        self.seeds, self.bad, self.tried, self.events = range(asked.seed, asked.seed + asked.random), 0, 0, 0
+        self.shots, self.seeds, self.bad, self.tried, self.events = asked.shots, range(asked.seed, asked.seed + asked.random), 0, 0, 0
 
     def written_page(self, name, data):
         path = os.path.join(self.folder, "page.html")
@@ -146,12 +149,19 @@ class Tests:
         for name, check in check_clicks(self.browser, self.programs, self.folder, dict(example_files())):
             self.tell("clicks of " + name, check)
 
+    def room(self):
+        if self.shots:
+            os.makedirs(self.shots, exist_ok=True)
+        for name, check in Room(self.browser, self.programs, self.folder, dict(example_files()), self.written_page, self.shots).checks():
+            self.tell(name, check)
+
 
 def main():
-    asked, parts = parser(__doc__), ["pages", "random", "large", "clicks", "pictures"]
+    asked, parts = parser(__doc__), ["pages", "random", "large", "clicks", "room", "pictures"]
     add_programs(asked)
     asked.add_argument("--random", metavar="N", type=count, default=50, help="how many random runs")
     asked.add_argument("--seed", metavar="K", type=count, default=0, help="the first seed")
+    asked.add_argument("--shots", metavar="FOLDER", help="where `room` keeps pictures")
     asked.add_argument("--browser", metavar="COMMAND", help="Chromium, where it isn't found by its name")
     asked.add_argument("--only", metavar="PART", nargs="+", choices=parts, default=parts[:-1], help="these parts alone: " + " ".join(parts))
     asked = asked.parse_args()

@@ -83,7 +83,7 @@ async function shareAddress() {
 function say(text, isBad = false) {
   const box = byId("status");
   box.textContent = text;
-  box.className = isBad ? "bad" : "faint";
+  box.className = isBad ? "gone" : "faint";
   for (const id of ["output", "drawing", "output-acts", "shared"]) byId(id).hidden = true;
 }
 

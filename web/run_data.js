@@ -71,7 +71,7 @@ async function catalogueData(programs, catalogue) {
   return {
     graph, table,
     relations: relation.map(x => ({name: x.name, columns: columns.get(x.name), key: x.key})),
-    fragments: fragment.map(x => ({name: x.name, key: columns.get(x.relation).indexOf(keys.get(x.relation))})),
+    fragments: fragment.map(x => ({name: x.name, relation: x.relation, key: columns.get(x.relation).indexOf(keys.get(x.relation))})),
     classes: list.map(x => ({name: x.name, at: "T" + x.tm, list: 0})),
   };
 }

@@ -9,6 +9,7 @@ import re
 import tempfile
 from typing import NamedTuple
 
+from sdd.design.sql_statements import workload_statements
 from sdd.explain.refusals import Given, refusal_of
 from sdd.model.files import BadInput, bytes_of, write_text
 from sdd.model.reading import catalogue_at, workload_at
@@ -56,12 +57,12 @@ class Game:
             f.write(bytes_of(catalogue))
         self.parts, self.version = Parts([], [], [], []), 0
         self.done, self.undone, self.shown = [], [], []
-        catalogue_at(catalogue)
+        self.read_catalogue = catalogue_at(catalogue)
         self.known = catalogue_data(programs, self.catalogue)
         if workload:
             with open(self.workload, "wb") as f:
                 f.write(bytes_of(workload))
-            workload_at(workload, catalogue_at(catalogue))              # or it is refused with its place
+            workload_at(workload, self.read_catalogue)              # or it is refused with its place
             programs.tell(["run", self.catalogue, self.workload])
             self.parts = read_parts(bytes_of(self.workload).decode())
         self.data = self.run()
@@ -105,6 +106,7 @@ class Game:
             lines = ask.get("text")
             wanted(isinstance(lines, list) and 2 <= len(lines) <= MOST_LINES and all(map(is_line, lines)))
             wanted(lines[0].startswith("txn ") and lines[-1] == "done" and "done" not in lines[:-1])
+            lines = [lines[0], *workload_statements(self.read_catalogue, lines[1:-1]), "done"]
             put = ["submit " + lines[0].split(" ")[1]] if ask.get("submit") is True else []
             return Change(len(events), [], put, [lines])
         wanted(kind == "row" and is_line(ask.get("text")))

@@ -116,7 +116,7 @@ def catalogue_data(programs, path):
     graph, table = (programs.tell([word, path]).split("\n")[:-1] for word in ("graph", "table"))
     catalogue = catalogue_at(path)
     relations = [{"name": x.name, "columns": x.names, "key": x.key} for x in catalogue.relations]
-    fragments = [{"name": x.name, "key": catalogue.relation[x.relation].key_place} for x in catalogue.fragments]
+    fragments = [{"name": x.name, "relation": x.relation, "key": catalogue.relation[x.relation].key_place} for x in catalogue.fragments]
     classes = [{"name": x.name, "at": x.site, "list": 0} for x in catalogue.classes]
     return {"graph": graph, "table": table, "relations": relations, "fragments": fragments, "classes": classes}
 

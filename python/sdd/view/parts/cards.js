@@ -75,7 +75,9 @@ function transactionModule(view, site, head, body) {
     mark.title = "An undeclared transaction wants to run: what runs here comes to its end, and nothing new starts.";
     head.append(mark);
   }
-  body.append(element("div", "faint", `clock ${reported.clock}; the next start gets ${(reported.clock + 1) * 64 + number}`));
+  const clock = element("div", "faint", `clock ${reported.clock}; the next start gets ${(reported.clock + 1) * 64 + number}`);
+  clock.title = `A timestamp is the ticks of the clock times 64, and the number of the module, here ${number}.`;
+  body.append(clock);
   const classes = site === "U" ? ["-"] : view.run.classesOf(site, view.state.list);
   for (const cls of view.run.classes) {
     const isBusy = view.state.queue(cls).length && view.run.home.get(cls) === site;
@@ -92,7 +94,7 @@ function classRow(view, site, reported, cls) {
   const row = element("div", "class-row"), active = (reported.active || []).find(x => x.class === cls);
   const queue = view.state.queue(cls), rest = active ? queue.slice(1) : queue;
   row.append(element("b", "", className(cls)));
-  if (active) row.append(element("span", "attempt", `${active.txn} @${active.time}`), element("span", "faint", `${active.phase}; waits for ${(active.lacks || []).join(" ")}`));
+  if (active) row.append(attemptOf(active), element("span", "faint", `${active.phase}; waits for ${(active.lacks || []).join(" ")}`));
   else if (site === "U" && reported.phase !== "idle") row.append(element("span", "faint", `${reported.phase}; waits for ${(reported.lacks || []).join(" ")}`));
   else row.append(element("span", "faint", "idle"));
   const key = "queue " + cls, most = view.opened.has(key) ? rest.length : 4;
@@ -101,12 +103,18 @@ function classRow(view, site, reported, cls) {
   return row;
 }
 
+function attemptOf({txn, time}) {
+  const made = element("span", "attempt", `${txn} @${time}`);
+  made.title = `${txn} runs with timestamp ${time}`;
+  return made;
+}
+
 function dataModule(view, site, line, card, head, body) {
   const reported = view.state.site(site);
   head.append(element("small", "", "data module"));
   if (reported.down) {
     card.classList.add("down");
-    head.append(element("span", "state", "DOWN"));
+    head.append(element("span", "state gone", "DOWN"));
   }
   if (view.play) head.append(view.play.downButton(site, reported.down));
   body.append(...pipeRows(view, site, reported, line));
@@ -136,6 +144,7 @@ function pipeRow(view, site, cls, pipe, head, isWanted, line) {
   row.title = `The pipe of class ${className(cls)} at ${site}: its messages are processed in order, the head (at the right) first`;
   const passed = pipe && pipe.passed !== null ? "passed " + pipe.passed : "nothing yet";
   row.append(element("span", "pipe-class", className(cls)), element("span", "passed", passed), messages);
+  if (pipe && pipe.passed !== null) row.children[1].title = `No change of ${className(cls)} with a time up to ${pipe.passed} is still to come to ${site}.`;
   for (const n of (pipe ? pipe.waiting : []).slice(-MOST_PACKETS * 2).reverse()) {
     const made = messageChip(view, link, n);
     if (came.has(n)) made.classList.add("fresh");
@@ -165,9 +174,12 @@ function copyRows(view, copy) {
   const key = copy.at + " " + copy.fragment, most = view.opened.has(key) ? Infinity : MOST_ROWS;
   const made = element("div", "copy"), rows = copy.rows(view.event, most), count = copy.count(view.event);
   made.dataset.copy = key;
-  made.append(element("b", "", copy.fragment));
+  const columns = view.run.columnsOf(copy.fragment);
+  made.append(element("b", "", copy.fragment), element("span", "faint columns-of", columns.join(" ")));
   for (const {key: of, row, isNew} of rows) {
-    made.append(element("span", isNew ? "row changed" : "row", row === null ? `${of} deleted` : row));
+    const shown = element("span", isNew ? "row changed" : "row", row === null ? `${of} deleted` : row);
+    if (row !== null) shown.title = valuesOf(row).map((value, k) => `${columns[k]} ${value}`).join(", ");
+    made.append(shown);
   }
   const shown = rows.filter(({row}) => row !== null).length;
   if (count > shown) made.append(button(`${count - shown} more`, "more", () => view.open(key)));

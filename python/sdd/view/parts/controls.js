@@ -1,5 +1,17 @@
 // What can be clicked in a page that is served, and the form for a transaction of one's own.
 
+// Where a menu of this size covers nothing that may be clicked next: above the packet, beside it, or below.
+function placeOfMenu(map, at, width, height) {
+  const box = at.getBoundingClientRect(), ground = map.getBoundingClientRect();
+  const others = [...map.querySelectorAll("button")].filter(x => x !== at && !x.closest("#menu")).map(x => x.getBoundingClientRect());
+  const middle = box.top + (box.height - height) / 2;
+  const places = [[box.left, box.top - height - 3], [box.right + 4, middle], [box.left - width - 4, middle], [box.left, box.bottom + 3],
+    [box.right - width, box.top - height - 3], [box.right - width, box.bottom + 3]].map(([x, y]) => [
+    Math.max(ground.left + 2, Math.min(x, ground.left + map.clientWidth - width - 4)), Math.max(ground.top + 2, Math.min(y, ground.top + map.clientHeight - height - 2))]);
+  const covers = ([x, y]) => [box, ...others].filter(r => r.left < x + width && x < r.right && r.top < y + height && y < r.bottom).length;
+  return places.reduce((a, b) => (covers(b) < covers(a) ? b : a));
+}
+
 Object.assign(Play.prototype, {
   tools() {
     const box = element("div"), names = this.unsubmitted(), choice = element("select");
@@ -62,7 +74,7 @@ Object.assign(Play.prototype, {
   placeMenu(map) {
     const id = this.view.selected?.packet, at = id === undefined ? null : map.querySelector(`[data-packet="${id}"]`);
     if (!at) return;
-    const menu = element("div"), place = at.getBoundingClientRect(), origin = map.getBoundingClientRect();
+    const menu = element("div"), origin = map.getBoundingClientRect();
     menu.id = "menu";
     for (const verb of ["deliver", "lose", "repeat"]) {
       const made = button(verb, "", () => this.act(verb, id));
@@ -70,8 +82,9 @@ Object.assign(Play.prototype, {
       menu.append(made);
     }
     map.append(menu);
-    menu.style.left = Math.max(2, Math.min(place.left - origin.left, map.clientWidth - menu.offsetWidth - 4)) + map.scrollLeft + "px";
-    menu.style.top = Math.max(2, place.top - origin.top - menu.offsetHeight - 3) + map.scrollTop + "px";        // above: below lies the next lane
+    const [x, y] = placeOfMenu(map, at, menu.offsetWidth, menu.offsetHeight);
+    menu.style.left = x - origin.left + map.scrollLeft + "px";
+    menu.style.top = y - origin.top + map.scrollTop + "px";
   },
 
   compose() {
@@ -85,7 +98,7 @@ Object.assign(Play.prototype, {
     Object.assign(row, {id: "row-text", size: 40, placeholder: this.exampleRow(), disabled: this.view.run.data.events.length > 0});
     const line = (...parts) => { const made = element("div"); made.append(...parts); form.append(made); };
     const act = (id, label, made) => Object.assign(button(label, "", made), {id, type: "button"});
-    line("txn ", name, " ", at, element("span", "faint", " its statements, one a line:"));
+    line("txn ", name, " ", at, element("span", "faint", " its statements, one a line, or SQL:"));
     line(text);
     line(act("add-submit", "add and submit", () => this.addTransaction(name.value, at.value, text.value, true)), " ",
       act("add", "add", () => this.addTransaction(name.value, at.value, text.value, false)), " ", act("close", "close", () => this.closeForm()));
@@ -122,7 +135,8 @@ Object.assign(Play.prototype, {
   formsOfStatements() {
     const made = element("pre"), relations = this.view.run.data.relations.map(r => `${r.name}: ${r.columns.join(" ")} (key ${r.key})`);
     made.textContent = ["put REL VALUE ..", "query 1.COLUMN .. from REL .. where 1.COLUMN <= VALUE and 1.COLUMN = 2.COLUMN",
-      "update REL set 1.COLUMN = VALUE where ..     (or += NUMBER)", "delete REL where ..", "", ...relations].join("\n");
+      "update REL set 1.COLUMN = VALUE where ..     (or += NUMBER)", "delete REL where ..",
+      "or SELECT COLUMN, .. FROM REL WHERE ..; INSERT INTO REL VALUES (..); UPDATE REL SET ..; DELETE FROM REL WHERE ..", "", ...relations].join("\n");
     return made;
   },
 

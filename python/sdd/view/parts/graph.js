@@ -16,22 +16,27 @@ function tableEdges(run) {
 // The READ that the event speaks of, or that is selected, or that waits.
 function readInView(view) {
   const chosen = view.selected?.n ? view.run.message(view.selected.link, view.selected.n) : null;
-  if (chosen?.kind === "READ") return chosen;
+  if (chosen?.kind === "READ") return {...chosen, isWaiting: waitsAt(view, view.selected.link.split(">")[1], chosen)};
   for (const {words} of view.run.recordsAt.get(view.event) || []) {
     const read = ["arrive", "wait", "answer", "reject"].includes(words[0]) && view.run.reads.get(words[1] + " " + words[2]);
-    if (read) return read;
+    if (read) return {...read, isWaiting: waitsAt(view, words[2], read)};
   }
   for (const dm of view.run.dms) {
     for (const head of view.state.site(dm).heads || []) {
       const pipe = view.state.pipe(dm, head.class);
-      if (head.waits && pipe) return view.run.message(view.run.home.get(head.class) + ">" + dm, pipe.waiting[0]);
+      if (head.waits && pipe) return {...view.run.message(view.run.home.get(head.class) + ">" + dm, pipe.waiting[0]), isWaiting: true};
     }
   }
   return null;
 }
 
+function waitsAt(view, dm, read) {
+  return (view.state.site(dm).heads || []).some(head => head.waits && head.class === read.class);
+}
+
 function drawGraph(view) {
   const box = byId("graph"), edges = view.run.tableEdges ??= tableEdges(view.run), read = readInView(view);
+  if (view.isDrawn("graph", read?.txn, read?.class, read?.isWaiting, view.graphByBlock, document.documentElement.className)) return;
   const ruling = edges.filter(edge => edge.reader === read?.class);
   const blocks = new Set(ruling.map(edge => edge.block).filter(block => block !== "-"));
   const names = view.run.classes.filter(name => view.run.lists.get(name) === 0);
@@ -41,6 +46,9 @@ function drawGraph(view) {
   box.append(graphDrawing(names, edges, ruling.length ? read : null, blocks));
   box.append(element("p", "faint", PROTOCOL_WORDS));
 }
+
+// Red where the read waits; it is at work else.
+function inkOfRead(read) { return read?.isWaiting ? "var(--bad)" : "var(--asks)"; }
 
 function noteOf(read) {
   if (!read) return "an arrow leads from who reads to who writes it";
@@ -66,12 +74,12 @@ function graphDrawing(names, edges, read, blocks) {
   for (const edge of edges) getOrMake(joined, edge.reader + " " + edge.writer, () => ({...edge, fragments: []})).fragments.push(edge.fragment);
   for (const edge of joined.values()) {
     const rules = read?.class === edge.reader, isNear = blocks.has(edge.block);
-    if (places.has(edge.reader) && places.has(edge.writer)) drawing.append(...arrowOf(edge, places, rules, !read || rules || isNear));
+    if (places.has(edge.reader) && places.has(edge.writer)) drawing.append(...arrowOf(edge, places, rules && inkOfRead(read), !read || rules || isNear));
   }
   for (const [name, [x, y]] of places) {
     const text = name.length > 18 ? name.slice(0, 16) + ".." : name, half = text.length * 3.6 + 8, isReader = read?.class === name;
     drawing.append(shape("rect", {x: x - half, y: y - 10, width: 2 * half, height: 20, rx: 5, fill: isReader ? "var(--selected)" : "var(--card)",
-      stroke: isReader ? "var(--bad)" : "var(--ink)", "stroke-width": isReader ? 2 : 1}));
+      stroke: isReader ? inkOfRead(read) : "var(--ink)", "stroke-width": isReader ? 2 : 1}));
     const node = shape("text", {x, y: y + 4, class: "node"}, text);
     node.append(shape("title", {}, name));
     drawing.append(node);
@@ -83,7 +91,7 @@ function arrowOf(edge, places, rules, isStrong) {
   const [x1, y1] = places.get(edge.reader), [x2, y2] = places.get(edge.writer), length = Math.hypot(x2 - x1, y2 - y1);
   const mx = (x1 + x2) / 2 - (y2 - y1) / length * 18, my = (y1 + y2) / 2 + (x2 - x1) / length * 18;
   const at = t => [x1 * (1 - t) ** 2 + 2 * mx * t * (1 - t) + x2 * t * t, y1 * (1 - t) ** 2 + 2 * my * t * (1 - t) + y2 * t * t];
-  const colour = rules ? "var(--bad)" : "var(--faint)", opacity = isStrong ? 1 : 0.35, [x, y] = at(0.4);
+  const colour = rules || "var(--faint)", opacity = isStrong ? 1 : 0.35, [x, y] = at(0.4);
   const path = shape("path", {d: `M${at(0.16)}Q${mx},${my} ${at(0.84)}`, fill: "none", stroke: colour, "stroke-width": rules ? 2.6 : isStrong ? 1.6 : 1,
     "stroke-dasharray": DASHES[edge.protocol], opacity, "marker-end": "url(#graph-arrow)"});
   const text = `${edge.protocol} ${shortened(edge.fragments, 2).join(", ")}`;
@@ -104,7 +112,7 @@ function graphMatrix(view, names, edges, read, redraw) {
     pen.fillRect(place.get(writer) * size, place.get(reader) * size, size - 1, size - 1);
   }
   if (read && place.has(read.class)) {
-    pen.strokeStyle = colourOf("--bad");
+    pen.strokeStyle = colourOf(read.isWaiting ? "--bad" : "--asks");
     pen.lineWidth = 2;
     pen.strokeRect(1, place.get(read.class) * size - 1, canvas.width - 2, size + 1);
   }

@@ -2,12 +2,13 @@
 
 class View {
   constructor(data) {
-    Object.assign(this, {selected: null, opened: new Set(), graphByBlock: false, play: null});
+    Object.assign(this, {selected: null, opened: new Set(), graphByBlock: false, play: null, drawn: new Map()});
     this.load(data);
   }
 
   load(data) {
     this.run = new Run(data);
+    this.drawn.clear();
     this.event = 0;
     this.state = this.run.stateAt(0);
   }
@@ -16,7 +17,7 @@ class View {
     event = Math.max(0, Math.min(this.run.count, event));
     if (event === this.event + 1) this.state.apply(this.run.lines[event - 1]);
     else if (event !== this.event) this.state = this.run.stateAt(event);
-    if (event !== this.event && this.selected && !this.selected.site && !this.selected.cell) this.selected = null;
+    if (event !== this.event && (this.selected?.packet !== undefined || this.selected?.n)) this.selected = null;
     this.event = event;
     history.replaceState(history.state, "", this.addressAt(event));
     this.draw();
@@ -27,6 +28,15 @@ class View {
   select(what) {
     this.selected = what;
     this.draw();
+  }
+
+  // Whether a part of the page stands there as it would be drawn now: most events change little, and to draw all of the page
+  // anew takes longer than a key may.
+  isDrawn(part, ...key) {
+    const text = key.join();
+    if (this.drawn.get(part) === text) return true;
+    this.drawn.set(part, text);
+    return false;
   }
 
   // Shows all of what stands cut short: the packets of a link, the rows of a copy, the serial order.
@@ -48,6 +58,7 @@ class View {
     drawSelection(this);
     drawTimeline(this);
     drawOrder(this);
+    drawAnswers(this);
     drawTrace(this);
     drawGraph(this);
     this.play?.draw();
@@ -79,15 +90,25 @@ function listenToKeys(view) {
     n: () => view.go(view.nextRecord(1)), p: () => view.go(view.nextRecord(-1)),
     PageDown: () => view.go(view.event + 25), PageUp: () => view.go(view.event - 25),
     Home: () => view.go(0), End: () => view.go(view.run.count),
-    t: () => changeTheme(view), Escape: () => view.select(null),
+    t: () => changeTheme(view), Escape: () => view.select(null), ...roomKeys(view),
   };
   addEventListener("keydown", event => {
-    if (event.target.matches("input, textarea, select") || event.ctrlKey || event.altKey || event.metaKey) return;
-    const act = keys[event.key] || view.play?.keys[event.key];
+    if (event.target.matches("input, textarea, select") || event.altKey) return;
+    const act = event.ctrlKey || event.metaKey ? keyOfUndo(view, event) : byId("help").open ? helpKeys[event.key] : keys[event.key] || view.play?.keys[event.key];
+    if (event.key === " " && event.target.matches("button")) return;           // the button is pressed
     if (!act) return;
     event.preventDefault();
     act();
   });
+}
+
+// While keys and words are shown the others rest; Escape closes them by itself.
+const helpKeys = {"?": () => byId("help").close()};
+
+// Ctrl-Z takes a change of a served page back, Ctrl-Y or Ctrl-Shift-Z does it again.
+function keyOfUndo(view, event) {
+  const key = event.key.toLowerCase();
+  return key === "z" ? view.play?.keys[event.shiftKey ? "y" : "u"] : key === "y" ? view.play?.keys.y : undefined;
 }
 
 function listenToButtons(view) {
@@ -110,5 +131,6 @@ function begin(data, wishes) {
   listenToKeys(view);
   listenToButtons(view);
   listenToTimeline(view);
+  listenToRoom(view);
   return view;
 }

@@ -36,7 +36,7 @@ function columnHead(view, site, line) {
   const heads = (reported.heads || []).length;
   head.append(element("div", "small", waiting ? `${waiting} in pipes` : ""));
   if (heads) head.append(element("div", "state", heads + (heads > 1 ? " wait" : " waits")));
-  if (reported.down) head.append(element("div", "state", "DOWN"));
+  if (reported.down) head.append(element("div", "state gone", "DOWN"));
   return head;
 }
 

@@ -70,7 +70,7 @@ function wayOf(scene, packet) {
   const x1 = x(packet.put), y1 = y(packet.from), x2 = isOver ? x(packet.taken) : Math.min(x(view.event + 0.6), x(scene.last));
   const y2 = y1 + (y(packet.to) - y1) * (isLost ? 0.6 : isOver ? 1 : 0.55), colour = `var(${LINES[kind] || "--rows"})`;
   const dash = isLost ? "4 3" : !isOver || kind === "ASK" ? "2 3" : packet.again ? "6 2" : "none";
-  const line = shape("path", {d: `M${x1},${y1}L${x2},${y2}`, stroke: isLost ? "var(--bad)" : colour, "stroke-width": isAck ? 1 : 2, "stroke-dasharray": dash, fill: "none"});
+  const line = shape("path", {d: `M${x1},${y1}L${x2},${y2}`, stroke: isLost ? "var(--gone)" : colour, "stroke-width": isAck ? 1 : 2, "stroke-dasharray": dash, fill: "none"});
   line.append(shape("title", {}, `${labelOf(view.run, packet)} from ${packet.from} to ${packet.to}, sent at event ${packet.put}` +
     (isOver ? `, ${isLost ? "lost" : "delivered"} at event ${packet.taken}` : ", in flight")));
   const shapes = [line];

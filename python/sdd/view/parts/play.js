@@ -116,7 +116,7 @@ class Play {
   }
 
   reportedLine() {
-    const line = element("div", this.isBad ? "bad" : "", this.question ? this.question.text : this.reported);
+    const line = element("div", this.isBad ? "gone" : "", this.question ? this.question.text : this.reported);
     line.id = "reported";
     if (!this.question) return line;
     const no = () => { this.question = null; this.view.draw(); };

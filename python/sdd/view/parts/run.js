@@ -13,6 +13,8 @@ class Run {
     this.lists = new Map(data.classes.map(c => [c.name, c.list]));
     this.transactions = new Map(data.transactions.map(t => [t.name, t]));
     this.replies = new Map(data.replies);
+    this.columns = new Map(data.relations.map(r => [r.name, r.columns]));
+    this.relations = new Map(data.fragments.map(f => [f.name, f.relation]));
     this.usesU = this.lines.some(line => (line.queues || []).some(q => q.class === "-"));
     this.isSmall = this.tms.length <= 4 && this.dms.length <= 4;
     this.faults = [];
@@ -98,6 +100,8 @@ class Run {
     }
     for (const copy of this.copies.values()) copy.close();
   }
+
+  columnsOf(fragment) { return this.columns.get(this.relations.get(fragment)) || []; }
 
   copiesAt(site) { return [...this.copies.values()].filter(copy => copy.at === site); }
 

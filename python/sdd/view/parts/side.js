@@ -1,6 +1,6 @@
 // What stands beside the map: what happens, what is selected, the serial order and the trace.
 
-const MOST_NAMES = 60, RECORDS_AROUND = 40;
+const MOST_NAMES = 60, RECORDS_AROUND = 40, RECORD_STYLES = {wait: "bad ", reject: "gone "};
 
 function drawHeader(view) {
   const line = view.run.lineAt(view.event);
@@ -28,6 +28,7 @@ function drawSelection(view) {
   box.hidden = !chosen;
   if (!chosen) return;
   if (chosen.cell) return drawCell(view, box, chosen.cell);
+  if (chosen.txn) return drawTransaction(view, box, chosen.txn);
   if (chosen.site) return box.append(element("h3", "", chosen.site), element("p", "faint", `The card of ${chosen.site} stands below the matrix.`));
   const packet = view.run.packets[chosen.packet], link = view.state.links.get(chosen.link);
   box.append(element("h3", "", packet ? "packet" : "message"));
@@ -67,6 +68,7 @@ function drawCell(view, box, [site, other]) {
 function drawOrder(view) {
   const box = byId("order"), names = view.run.data.order, isDone = name => view.run.commits.get(name) <= view.event;
   const most = view.opened.has("order") ? names.length : MOST_NAMES;
+  if (view.isDrawn("order", names.filter(isDone).length, most)) return;
   box.textContent = "";
   for (const name of names.slice(0, most)) box.append(element("span", isDone(name) ? "placed done" : "placed", name));
   if (names.length > most) box.append(button("+" + (names.length - most), "more", () => view.open("order")));
@@ -77,11 +79,12 @@ function drawTrace(view) {
   const box = byId("trace"), run = view.run, upTo = run.recordsUpTo(view.event);
   const first = Math.max(0, upTo - RECORDS_AROUND), last = Math.min(run.records.length, upTo + RECORDS_AROUND);
   let current = null;
+  if (view.isDrawn("trace", upTo, run.recordsAt.has(view.event))) return;
   box.textContent = "";
   if (first) box.append(element("div", "later", plural(first, "record") + " before"));
   for (let k = first; k < last; k++) {
     const record = run.records[k], style = record.event === view.event ? "now" : record.event > view.event ? "later" : "";
-    const row = element("div", record.words[0] === "reject" ? "bad " + style : style, record.text);
+    const row = element("div", (RECORD_STYLES[record.words[0]] || "") + style, record.text);
     row.onclick = () => view.go(record.event);
     box.append(row);
     if (k === upTo - 1) current = row;

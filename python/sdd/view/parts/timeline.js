@@ -1,7 +1,7 @@
 // The timeline: a bar for each event, as high as what follows from it; to click, and to drag.
 
 const HEIGHTS = {reject: 34, lose: 30, down: 30, up: 30, commit: 28, wait: 24, start: 20, apply: 18, answer: 16, submit: 14};
-const BARS = {reject: "--bad", lose: "--bad", down: "--bad", up: "--faint", commit: "--hold", wait: "--ask", start: "--asks", apply: "--write", answer: "--rows"};
+const BARS = {reject: "--gone", lose: "--gone", down: "--gone", up: "--faint", commit: "--hold", wait: "--bad", start: "--asks", apply: "--write", answer: "--rows"};
 
 // The most telling thing of an event.
 function kindOfEvent(run, line) {

@@ -1,4 +1,5 @@
-// What an event means, in sentences: {style, text}. Styles: "" plain, "strong", "bad" for what delays, "faint".
+// What an event means, in sentences: {style, text}. Styles: "" plain, "strong", "bad" for what waits, "gone" for what is lost, rejected or
+// down, "faint".
 
 function sentencesOf(view, line) {
   const said = [], say = (style, text) => said.push({style, text});
@@ -19,7 +20,7 @@ function sayEvent(view, line, say) {
   if (verb === "repeat") say("", "The network repeats this packet: the copy flies behind all others of the link.");
   if (verb === "resend") say("", `${from} sends everything again that ${to} hasn't acknowledged.`);
   if (verb === "tick") say("", `The clock of ${from} goes on by ${to}.`);
-  if (verb === "down") say("bad", `${from} goes down. Messages for it are kept, and none gets lost.`);
+  if (verb === "down") say("gone", `${from} goes down. Messages for it are kept, and none gets lost.`);
   if (verb === "up") say("strong", `${from} comes up, and is handed what was kept for it.`);
   if (verb === "redeclare") say("strong", "The next class list is in force.");
 }
@@ -32,7 +33,7 @@ function takenPacket(run, line) {
 
 function sayLoss(view, line, say) {
   const packet = takenPacket(view.run, line);
-  say("bad", `Lost: ${describePacket(view.run, packet)}`.replace(/\.?$/, "."));
+  say("gone", `Lost: ${describePacket(view.run, packet)}`.replace(/\.?$/, "."));
   if (packet.n) say("", `${packet.from} still counts it as unacknowledged, so a resend sends it again.`);
 }
 
@@ -70,7 +71,7 @@ const RECORDS = {
   reject(view, words, say) {
     const read = view.run.reads.get(words[1] + " " + words[2]), name = words[1].split("#")[0];
     const cond = read?.conds.find(([cls]) => cls === words[3]), upTo = cond ? ` It may only see changes of ${className(words[3])} before ${cond[1]},` : " But";
-    say("bad", `REJECTED: ${words[1]} came too late to ${words[2]}.${upTo} ${cond ? "but " : ""}one with time ${words[4]} was applied already, and the old row is gone.`);
+    say("gone", `REJECTED: ${words[1]} came too late to ${words[2]}.${upTo} ${cond ? "but " : ""}one with time ${words[4]} was applied already, and the old row is gone.`);
     say("", `${read ? read.from : "Its module"} will start ${name} again, with a time after ${words[4]}.`);
   },
   commit(view, words, say) {
