@@ -128,7 +128,7 @@ def main():
             report_program(program)
         answer = answer_of(program + rest, [x.path for x in files] or words)
         if answer.status:
-            return refuse(answer, files)
+            return refuse(answer, files[:2])            # a refusal is of the catalogue or the workload, and never of a report
         text = as_json(word, answer.text.decode()).encode() if getattr(asked, "json", False) else answer.text
     return put(text) or int(word == "verify" and answer.text.startswith(b"no"))
 

@@ -22,6 +22,7 @@ import tempfile
 from sdd.command import parser, parts_of, run_outside
 from sdd.design.shrinking import catalogue_cuts, lines_without, parts_of_catalogue, format_catalogue, workload_cuts
 from sdd.model.files import BadInput, text_of
+from sdd.model.reading import catalogue_at, workload_at
 from sdd.programs import Program, add_program
 
 
@@ -125,6 +126,8 @@ def main():
     asked.add_argument("--into", metavar="FOLDER", required=True)
     add_program(asked)
     asked = asked.parse_args()
+    if asked.keep:
+        workload_at(asked.workload, catalogue_at(asked.catalogue))      # or it is refused with its place; a command may want a faulty one
     with tempfile.TemporaryDirectory(prefix="shrink-") as folder:
         shrinker = Shrinker(asked, folder)
         before = [x.count("\n") for x in (shrinker.workload, shrinker.catalogue)]

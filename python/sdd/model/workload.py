@@ -246,9 +246,8 @@ class Reader:
         return Site(word[0], number or 0)
 
     def module(self, word: str, kind: str) -> Site:
-        site = self.site(word)
-        must("BadEvent", site.kind == kind, word, "{} is no data module" if kind == "D" else "{} is no transaction module")
-        return site
+        must("BadEvent", word[:1] not in "UTD" or word[:1] == kind, word, "{} is no data module" if kind == "D" else "{} is no transaction module")
+        return self.site(word)
 
     def number(self, word: str) -> int:
         if number_of(word) is None:

@@ -363,12 +363,11 @@ def main():
     asked = asked.parse_args()
     report = read_report(asked.report)
     catalogue = catalogue_at(asked.catalogue) if asked.catalogue else None
+    whole = workload_at(asked.workload, catalogue).all_classes(catalogue) if asked.workload else catalogue
     marks, lists = marks_of_run(report, asked)
     if catalogue:
         network.judge_catalogue(report, catalogue, lists)
-    if asked.workload:
-        catalogue = workload_at(asked.workload, catalogue).all_classes(catalogue)
-    text = Picture(report, catalogue, marks, window(report, marks, asked.first, asked.last)).draw(asked.title)
+    text = Picture(report, whole, marks, window(report, marks, asked.first, asked.last)).draw(asked.title)
     if not asked.into:
         return print(text, end="")
     with open(asked.into, "w", encoding="utf-8", newline="\n") as f:
