@@ -84,8 +84,13 @@ def pinned_by(parts, texts):
 
 
 def linked(part, text, shown):
-    """The text as HTML, in which each word that is shown on the page is a link."""
+    """The text as HTML, in which each word that is shown on the page is a link; words of comments are none."""
     names = {key[3]: key for key in part.uses if key in shown}
+    lines = text.split("\n")
+    return "\n".join(html.escape(x) if x.lstrip().startswith("--") else linked_line(x, names) for x in lines)
+
+
+def linked_line(text, names):
     out, at = [], 0
     for found in antt.WORD.finditer(text):
         word = found[0]
