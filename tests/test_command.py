@@ -20,6 +20,7 @@ from sdd.programs import ROOT
 from sdd.reference import breaking
 
 BRIDGE = [os.path.join(ROOT, "examples", "bridge", x) for x in ("catalogue.toml", "workload")]
+TWO_PROTOCOLS = os.path.join(ROOT, "examples", "two_protocols", "catalogue.toml")
 REPORT = os.path.join(ROOT, "examples", "bridge", "report")
 ALONE = {"PATH": "/nowhere", "NO_COLOR": "1"}     # no program is found on the path
 KEPT = ["bridge", "held_write", "lost_packet", "new_kind", "rejected_read", "two_protocols", "undeclared"]
@@ -86,6 +87,19 @@ class Answers(unittest.TestCase):
         self.assertEqual((report["order"], report["replies"]["look"]["queries"]), (["look", "raise"], [[[1, 100]]]))
         self.assertEqual(json.loads(call("verify", "--json", *BRIDGE, REPORT).stdout), {"serializable": True})
 
+    def test_json_of_other_answers(self):
+        def shown(word, *words):
+            return json.loads(call(word, "--json", *words).stdout)
+        self.assertIn({"kind": "diagonal", "reader": "shop", "writer": "editor", "fragment": "prices", "block": None}, shown("graph", BRIDGE[0])["edges"])
+        self.assertEqual(shown("table", BRIDGE[0])["reads"],
+                         [{"reader": "shop", "fragment": "prices", "at": "D1", "writer": "editor", "protocol": "P1", "block": None}])
+        self.assertEqual(shown("robust", BRIDGE[0]), {"enough": True})
+        self.assertEqual(shown("robust", TWO_PROTOCOLS), {"enough": False, "reader": "southward", "fragment": "north", "writer": "northward"})
+        self.assertEqual(shown("needs", BRIDGE[0])["classes"]["editor"]["attempt"], ["T1"])
+        self.assertEqual(shown("make", "1", "2")["committed"], 2)
+        plain = shown("plain", *BRIDGE)
+        self.assertEqual((plain["order"], plain["replies"]["look"]), (["raise", "look"], {"kind": "ok", "queries": [[[1, 120]]]}))
+
     def test_json_of_explore(self):
         found = json.loads(call("explore", *BRIDGE, "--runs", "3", "--json").stdout)
         self.assertEqual((found["unit"], len(found["designs"])), ("rounds", 1))
@@ -104,7 +118,7 @@ class Answers(unittest.TestCase):
     def test_version_and_help(self):
         lines = call("--version").stdout.decode().split("\n")
         self.assertRegex(lines[0], r"^sdd \d+\.\d+\.\d+")
-        self.assertEqual(lines[1], "sdd1: the reference")
+        self.assertEqual(lines[1:4], ["%s: the reference" % x for x in ("sdd1", "sdd1_inside", "sdd1_ask")])
         shown = call("--help").stdout.decode()
         for word in COMMANDS:
             self.assertIn("    %s " % word, shown)

@@ -16,16 +16,19 @@ import sdd_path  # noqa: F401
 from sdd.model.files import write_text
 from sdd.programs import ROOT
 
+LIBC = "malloc is libc's; with mimalloc"
+QUIET = "print('played')\n"                 # what other scripts are replaced by
 RT = '#!/bin/sh\nif [ "$1" = version ]; then echo played-kit; else exit 1; fi\n'
 BUILDER = '''\
 import os, sys
-into, name = sys.argv[1:3]
+into, name = sys.argv[-2:]
 if os.environ.get("FAILS") == name:
     sys.exit("the builder has no memory")
 with open(into, "w", newline="\\n") as f:
     f.write("#!/bin/sh\\ncat %s/crates/%s/stdout\\n" % (os.environ["ROOT"], name))
 os.chmod(into, 0o755)
 '''
+SITE = "import os, sys\nos.makedirs(sys.argv[1])\nopen(os.path.join(sys.argv[1], 'index.html'), 'w').close()\n"
 
 
 @unittest.skipUnless(shutil.which("bash") and os.name == "posix", "there is no bash")
@@ -41,6 +44,8 @@ class Install(unittest.TestCase):
         for name in ("install.sh", "make_pyz.py", "sdd_path.py"):
             shutil.copy(os.path.join(ROOT, "tools", name), os.path.join(self.root, "tools", name))
         write_text(os.path.join(self.root, "tools", "build_unproved.py"), BUILDER)
+        for name in ("try_cases.py", "fuzz.py"):
+            write_text(os.path.join(self.root, "tools", name), QUIET)
         write_text(os.path.join(self.bin, "rt"), RT)
         os.chmod(os.path.join(self.bin, "rt"), stat.S_IRWXU)
         os.symlink(sys.executable, os.path.join(self.bin, "python3"))
@@ -67,7 +72,9 @@ class Install(unittest.TestCase):
         version = subprocess.run([sys.executable, os.path.join(self.prefix, "bin", "sdd"), "--version"], stdout=subprocess.PIPE, text=True,
                                  env={**os.environ, "PATH": os.path.join(self.prefix, "bin")}).stdout
         self.assertIn("sdd1-unproved, unproved; ", version)
-        self.assertIn("played-kit", version)
+        self.assertIn("played-kit, malloc of libc", version)
+        self.assertIn(LIBC, done.stdout)
+        self.assertNotIn(LIBC, self.install("--unproved", "--libc").stdout)
         self.assertEqual((self.install("--uninstall").returncode, self.installed()), (0, []))
 
     def test_nothing_where_one_fails(self):
@@ -95,11 +102,18 @@ class Install(unittest.TestCase):
     def test_release(self):
         shutil.copy(os.path.join(ROOT, "tools", "release.sh"), os.path.join(self.root, "tools", "release.sh"))
         self.assertIn("this is no clone", self.call("release.sh", "--unproved", self.prefix).stderr)
+        write_text(os.path.join(self.root, "tools", "make_site.py"), "import sys\nsys.exit('no library')\n")
+        self.commit()
+        self.assertIn("no library\nrelease.sh: there is no site", self.call("release.sh", "--unproved", self.prefix).stderr)
+        write_text(os.path.join(self.root, "tools", "make_site.py"), SITE)
         self.commit()
         done = self.call("release.sh", "--unproved", self.prefix)
         self.assertEqual((done.returncode, done.stderr), (0, ""))
-        archive, total = self.installed()
+        archive, total, site, total_of_site = self.installed()
         self.assertTrue(archive.endswith("-unproved.tar.gz") and total == archive + ".sha256", archive)
+        self.assertTrue(site.endswith("-site.tar.gz") and total_of_site == site + ".sha256", site)
+        with tarfile.open(os.path.join(self.prefix, site)) as made:
+            self.assertIn(site.removesuffix(".tar.gz") + "/index.html", made.getnames())
         with tarfile.open(os.path.join(self.prefix, archive)) as made:
             names = {x.split("/", 1)[1] for x in made.getnames() if "/" in x}
         for name in ("bin/sdd", "bin/sdd1-unproved", "bin/sdd1_ask-unproved", "examples/one/catalogue.toml", "docs/ONE.md", "web/sdd1.html", "LICENSE-MIT", "COMMIT"):

@@ -82,7 +82,8 @@ class Toml(unittest.TestCase):
 
     def test_what_is_no_toml(self):
         for text, rest in ((b"a = \n", "\n"), (b"a = 1 2\n", "2\n"), (b"a = 01\n", "01\n"), (b'a = "x\n', '"x\n'), (b"a = 1\na = 2\n", "a = 2\n"),
-                           (b"[a]\n[[a]]\n", "[[a]]\n"), (b"a = {b = 1\n", ""), (b"a = 1\n\xff\n", "")):
+                           (b"[a]\n[[a]]\n", "[[a]]\n"), (b"a = {b = 1\n", ""), (b"a = 1\n\xff\n", ""),
+                           (b"a = " + b"1" * 5000, "1" * 5000)):
             with self.assertRaises(NotToml) as caught:
                 read_toml(text)
             self.assertEqual(caught.exception.text[caught.exception.at:], rest, text)

@@ -1,7 +1,7 @@
 #!/usr/bin/env python3
 """Builds `sdd1` (or another program of the repository) optimised, without its proof, in some minutes.
 
-    tools/build_unproved.py [--as-proved] INTO [CRATE]
+    tools/build_unproved.py [--as-proved] [--libc] INTO [CRATE]
 
 INTO is the file of the program; CRATE is `sdd1` if left out. Nothing is proved by this: it serves for trying and for
 measuring. With --as-proved the tests of bounds are left out too, as the proof leaves them out: such a program takes about
@@ -9,33 +9,22 @@ as many instructions as the one that the proof builds, and does anything at all 
 an end. Without it, it stops there, and takes a tenth more, for a catalogue twice as many.
 
 `rt try` compiles a whole program to one module for clang, with checks that stop a program which breaks a contract.
-This catches the module, takes those checks away, and compiles it with the compiler of the kit. It needs `rt` and `gcc`.
+This catches the module, takes those checks away, and compiles it with the compiler of the kit. It is linked as
+tools/link_program.py says, whose word --libc is. It needs `rt` and `gcc`.
 """
 import os
 import re
 import subprocess
-import sys
 import tempfile
 import time
 
-ROOT = os.path.normpath(os.path.join(os.path.dirname(os.path.abspath(__file__)), ".."))
+from link_program import Refused, kit_folder, link, run
+from sdd.command import parser, start
+from sdd.programs import ROOT
+
 CHECKS = re.compile(rb"call void @\"rattle-llvm-checks::|llvm\.memset\.p0\.i64\(ptr %r[0-9]+, i8 -86,")
 BOUNDS = re.compile(rb"call void @llvm\.trap\(\)")
 FLAGS = ["-O3", "-march=x86-64", "-fno-vectorize", "-fno-slp-vectorize"]
-
-
-class Refused(Exception):
-    """Why there is no program."""
-
-
-def run(words, **how):
-    try:
-        done = subprocess.run(words, stdout=subprocess.PIPE, stderr=subprocess.STDOUT, **how)
-    except OSError as fault:
-        raise Refused("%s doesn't run: %s" % (words[0], fault.strerror)) from None
-    if done.returncode:
-        raise Refused("%s: status %d: %s" % (os.path.basename(words[0]), done.returncode, done.stdout.decode(errors="replace")[-400:].strip()))
-    return done.stdout.decode(errors="replace")
 
 
 def modules_in(folder):
@@ -74,10 +63,6 @@ def caught(crate, room):
     return max(found, key=os.path.getsize)
 
 
-def kit_folder():
-    return os.path.dirname(run(["rt", "doc"]).strip())
-
-
 def clang_of(kit):
     return os.path.join(kit, "toolchain", "bin", "clang")
 
@@ -95,37 +80,27 @@ def plain_text(crate, room, as_proved):
     return plain
 
 
-def build(crate, into, as_proved):
-    kit = kit_folder()
+def build(crate, into, as_proved, with_libc):
+    """Writes the program; returns whose malloc it has."""
     with tempfile.TemporaryDirectory(prefix="build-unproved-") as room:
         plain, made = plain_text(crate, room, as_proved), os.path.join(room, "plain.o")
-        run([clang_of(kit), "--no-default-config", "-x", "ir", plain, *FLAGS, "-c", "-o", made])
-        libraries = [os.path.join(kit, "c", it) for it in ("liblibc_c.a", "libos_c.a")]
-        run(["gcc", made, "-Wl,--start-group", *libraries, "-Wl,--end-group", "-o", into])
+        run([clang_of(kit_folder()), "--no-default-config", "-x", "ir", plain, *FLAGS, "-c", "-o", made])
+        return link(made, into, with_libc)
 
 
-def main(words):
-    if not words or words[0] in ("-h", "--help"):
-        print(__doc__.strip(), file=sys.stdout if words[:1] in (["-h"], ["--help"]) else sys.stderr)
-        return 0 if words[:1] in (["-h"], ["--help"]) else 2
-    as_proved = words[0] == "--as-proved"
-    words = words[as_proved:]
-    if not 1 <= len(words) <= 2:
-        print(__doc__.strip(), file=sys.stderr)
-        return 2
-    crate = words[1] if len(words) == 2 else "sdd1"
-    into = os.path.abspath(words[0])
-    try:
-        if not os.path.isfile(os.path.join(ROOT, "crates", crate, "src", "main.rt")):
-            raise Refused("crates/%s is no program" % crate)
-        os.makedirs(os.path.dirname(into), exist_ok=True)
-        build(crate, into, as_proved)
-    except (Refused, OSError) as fault:
-        print("build_unproved.py: %s" % fault, file=sys.stderr)
-        return 2
-    print(into)
-    return 0
+def main():
+    asked = parser(__doc__)
+    asked.add_argument("--as-proved", action="store_true", help="without the tests of bounds")
+    asked.add_argument("--libc", action="store_true", help="with libc's malloc, though mimalloc is there")
+    asked.add_argument("into", metavar="INTO")
+    asked.add_argument("crate", metavar="CRATE", nargs="?", default="sdd1")
+    asked = asked.parse_args()
+    if not os.path.isfile(os.path.join(ROOT, "crates", asked.crate, "src", "main.rt")):
+        raise Refused("crates/%s is no program" % asked.crate)
+    into = os.path.abspath(asked.into)
+    os.makedirs(os.path.dirname(into), exist_ok=True)
+    print("%s: malloc of %s" % (into, build(asked.crate, into, asked.as_proved, asked.libc)))
 
 
 if __name__ == "__main__":
-    sys.exit(main(sys.argv[1:]))
+    start(main)

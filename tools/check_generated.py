@@ -4,7 +4,8 @@
     tools/check_generated.py [--write]
 
 They are the cases of the gate, the worked logs, the reports and pictures of examples/, the picture of the layers, the
-map of the proof, and the parts of the page in web/, where it is there. With --write they are made anew. A check prints what differs, and ends with 1 where something does.
+map of the proof, the tables of docs/CHECK.md, and the parts of the page in web/, where it is there. With --write they are made
+anew. A check prints what differs, and ends with 1 where something does.
 Nothing is needed but Python: reports come from the reference.
 """
 import concurrent.futures
@@ -22,7 +23,8 @@ from sdd.programs import ROOT
 TOOLS = os.path.dirname(os.path.abspath(__file__))
 DOCS = os.path.join(ROOT, "docs")
 WEB = [os.path.join(ROOT, "web", "build.py"), os.path.join(ROOT, "web", "sdd1.html")]
-THEMSELVES = [["make_cases.py"], ["write_log_examples.py"], ["make_broken.py"], ["make_examples.py", "--program", "reference"]]
+THEMSELVES = [["make_cases.py"], ["write_log_examples.py"], ["make_broken.py"], ["check_tables.py"],
+              ["make_examples.py", "--program", "reference"]]
 
 
 def run(script, *words):

@@ -1,25 +1,31 @@
 #!/usr/bin/env bash
 # Installs sdd1, sdd1_inside and sdd1_ask, and the command sdd: the programs, manual pages, and completions for bash, zsh and fish.
 #
-#   tools/install.sh [PREFIX]               passes the gate (rt ci), which builds the programs, and installs them (86 minutes, 7.3 GB)
-#   tools/install.sh --unproved [PREFIX]    builds them without their proof, in some 10 minutes, as sdd1-unproved and so on
+#   tools/install.sh [--libc] [PREFIX]      passes the gate (rt ci), which builds the programs, and installs them (86 minutes, 7.3 GB)
+#   tools/install.sh --unproved ..          builds them without their proof, in some 10 minutes, as sdd1-unproved and so on
 #   tools/install.sh --uninstall [PREFIX]   removes what either of them installed
 #
 # PREFIX is ~/.local if left out. Times are those of a machine with four processors that does nothing else. All is built and
 # checked first and then put in place together; where anything fails, nothing is installed.
+# Where gcc finds mimalloc (Debian: apt-get install libmimalloc2.0), the objects that the gate proved are linked with it in the
+# place of libc's malloc, which saves up to four of ten instructions; the programs then need it to run. --libc does without.
 # Needs the kit's rt and python3; --unproved also gcc. The command sdd alone needs no kit: pip install .
 set -euo pipefail
 root=$(cd "$(dirname "$0")/.." && pwd)
-usage() { sed -n '2,11p' "$0" | sed 's/^# \{0,1\}//'; }
+usage() { sed -n '2,13p' "$0" | sed 's/^# \{0,1\}//'; }
 refuse() { echo "install.sh: $1" >&2; exit 2; }
 
 mode=proved
-case "${1:-}" in
-  -h | --help) usage; exit 0 ;;
-  --unproved) mode=unproved; shift ;;
-  --uninstall) mode=uninstall; shift ;;
-  -*) refuse "unknown word $1 (see --help)" ;;
-esac
+libc=()
+while [[ ${1:-} == -* ]]; do
+  case "$1" in
+    -h | --help) usage; exit 0 ;;
+    --unproved | --uninstall) mode=${1#--} ;;
+    --libc) libc=(--libc) ;;
+    *) refuse "unknown word $1 (see --help)" ;;
+  esac
+  shift
+done
 [[ $# -le 1 ]] || refuse "too many words (see --help)"
 prefix=${1:-$HOME/.local}
 [[ $prefix == /* ]] || prefix=$PWD/$prefix
@@ -72,9 +78,20 @@ gate() {
   (cd "$root" && rt ci) || return 1
   for name in "${programs[@]}"; do
     [[ -x $root/crates/$name/out/$name ]] || { echo "$name was not built"; return 1; }
-    install -m 755 "$root/crates/$name/out/$name" "$room/$name"
+    take "$name" || return 1
   done
 }
+
+# A program of the gate as it built it, or its object linked with mimalloc.
+take() {
+  local built=$root/crates/$1/out/$1
+  install -m 755 "$built" "$room/$1"
+  [[ ${#libc[@]} -eq 0 && -f $built.o ]] && command -v gcc >/dev/null || return 0
+  python3 "$root/tools/link_program.py" "$built.o" "$room/linked" || return 1
+  ! has_mimalloc "$room/linked" || mv "$room/linked" "$room/$1"
+}
+
+has_mimalloc() { grep -aqF libmimalloc.so "$1"; }
 
 # One example of each: the program has to print the text that the repository keeps of it.
 prints() {
@@ -83,10 +100,17 @@ prints() {
   (cd "$data/data" && "$room/$name$ending" "$@") | cmp - "$data/stdout" || { echo "$name doesn't print the text of its example"; return 1; }
 }
 
+# Each case of the gate as a call, and some random calls: with the allocator that the programs have here.
+answers() {
+  python3 "$root/tools/try_cases.py" --program "$room/sdd1$ending" || return 1
+  python3 "$root/tools/fuzz.py" 0 10 --program "$room/sdd1$ending" --inside "$room/sdd1_inside$ending"
+}
+
 finish() {
   prints sdd1 run own.toml put_and_query.work || return 1
   prints sdd1_inside lost_packet.toml lost_packet.work || return 1
   prints sdd1_ask needs held.toml || return 1
+  answers || return 1
   python3 "$root/tools/make_pyz.py" "$room/sdd"
 }
 
@@ -94,22 +118,24 @@ ending=
 if [[ $mode == unproved ]]; then
   ending=-unproved
   for name in "${programs[@]}"; do
-    step "building $name without its proof (some 4 minutes)" python3 "$root/tools/build_unproved.py" "$room/$name$ending" "$name"
+    step "building $name without its proof (some 4 minutes)" python3 "$root/tools/build_unproved.py" "${libc[@]}" "$room/$name$ending" "$name"
   done
 else
   step "the gate, rt ci: every proof, and the programs (86 minutes)" gate
 fi
-step "an example of each program, and the command sdd (seconds)" finish
+step "examples, all cases and random calls by these programs, and the command sdd (a minute)" finish
 
 # All is there: now it is put in place.
 kit=$(rt version 2>/dev/null | head -n 1 || true)
 commit=$(git -C "$root" describe --always --dirty 2>/dev/null || true)
+malloc=libc
+! has_mimalloc "$room/sdd1$ending" || malloc=mimalloc
 for name in "${programs[@]}"; do
   install -m 755 "$room/$name$ending" "$prefix/bin/.$name$ending.new"
 done
 for name in "${programs[@]}"; do
   mv -f "$prefix/bin/.$name$ending.new" "$prefix/bin/$name$ending"
-  printf '%s\n' ${commit:+"commit $commit"} ${kit:+"$kit"} >"$room/note"
+  printf '%s\n' ${commit:+"commit $commit"} ${kit:+"$kit"} "malloc of $malloc" >"$room/note"
   install -Dm 644 "$room/note" "$notes/$name$ending"
   install -Dm 644 "$root/tools/install/$name.1" "$pages/$name.1"
 done
@@ -122,4 +148,9 @@ for name in sdd sdd1; do
 done
 [[ $mode == proved ]] || ln -sf sdd1 "$bash_folder/sdd1-unproved"
 echo "installed $prefix/bin/sdd1$ending, sdd1_inside$ending and sdd1_ask$ending beside it, and $prefix/bin/sdd, manual pages and completions"
+if [[ $malloc == mimalloc ]]; then
+  echo "malloc is that of mimalloc, which they need to run; with --libc it is libc's"
+elif [[ ${#libc[@]} -eq 0 ]]; then
+  echo "malloc is libc's; with mimalloc (Debian: libmimalloc2.0) they take up to four of ten instructions less"
+fi
 [[ :$PATH: == *":$prefix/bin:"* ]] || echo "note: $prefix/bin is not on your PATH"

@@ -31,6 +31,7 @@ LIBRARY = r"""
 extern void *__libc_malloc(size_t);
 extern void *__libc_calloc(size_t, size_t);
 extern void *__libc_realloc(void *, size_t);
+extern void __libc_free(void *);
 
 static long made, first = -1, last;
 static int counting, reported;
@@ -53,6 +54,7 @@ static int is_refused(void) {
 void *malloc(size_t size) { return is_refused() ? NULL : __libc_malloc(size); }
 void *calloc(size_t count, size_t size) { return is_refused() ? NULL : __libc_calloc(count, size); }
 void *realloc(void *old, size_t size) { return is_refused() ? NULL : __libc_realloc(old, size); }
+void free(void *old) { __libc_free(old); }          /* or a program with another allocator would free with that */
 
 __attribute__((destructor)) static void tell(void) {
     char digits[24];

@@ -84,8 +84,13 @@ def pinned_by(parts, texts):
 
 
 def linked(part, text, shown):
-    """The text as HTML, in which each word that is shown on the page is a link."""
+    """The text as HTML, in which each word that is shown on the page is a link; words of comments are none."""
     names = {key[3]: key for key in part.uses if key in shown}
+    lines = text.split("\n")
+    return "\n".join(html.escape(x) if x.lstrip().startswith("--") else linked_line(x, names) for x in lines)
+
+
+def linked_line(text, names):
     out, at = [], 0
     for found in antt.WORD.finditer(text):
         word = found[0]
@@ -121,17 +126,30 @@ def entry(part, text, shown, users, note):
     yield "<pre>%s</pre>" % linked(part, text, shown)
 
 
-def page(parts, order, summary):
+def page(parts, order, summary, above=""):
+    """The lines of the page; ABOVE is HTML that stands before its heading."""
     texts = texts_of(parts)
     named, by_logs = pinned_by(parts, texts)
     shown, users = set(order), users_of(parts, order)
     name = html.escape(order[0][3])
     marked = sum(1 for key in order if key in named or key in by_logs)
     yield "<!doctype html><html lang=en><meta charset=utf-8><meta name=viewport content=\"width=device-width\">"
-    yield "<title>%s</title><style>%s</style><h1>What <code>%s</code> says</h1>" % (name, STYLE, name)
+    yield "<title>%s</title><style>%s</style>%s<h1>What <code>%s</code> says</h1>" % (name, STYLE, above, name)
     yield "<p>%s: all that has to be read, besides the words of the standard library. A worked example names %d of them, or the worked logs compute them.</p>" % (html.escape(summary), marked)
     for key in order:
         yield from entry(parts[key], texts[key], shown, users[key], mark(key, named, by_logs))
+
+
+def root_of(parts, crate, name):
+    """The definition of this name in the crate, or None."""
+    return next((key for key in sorted(parts) if key[0] == crate and is_definition(key) and key[3] == name), None)
+
+
+def summary_of(parts, order):
+    """How much there is to read, and how much of it in each crate."""
+    by_crate = collections.Counter(key[0] for key in order)
+    lines = sum(1 for key in order for line in parts[key].lines if line.strip())
+    return "%d definitions, %d lines, in %d crates" % (len(order), lines, len(by_crate)), by_crate
 
 
 def main():
@@ -143,14 +161,12 @@ def main():
         parser.error("a crate and a name are expected, or nothing")
     crate, name = given.words or ("sdd_run", "IsReportOn")
     parts, _ = antt.read_all()
-    root = next((key for key in sorted(parts) if key[0] == crate and is_definition(key) and key[3] == name), None)
+    root = root_of(parts, crate, name)
     if root is None:
         print("statement.py: %s has no definition %s" % (crate, name), file=sys.stderr)
         return 2
     order = reached(parts, [root])
-    by_crate = collections.Counter(key[0] for key in order)
-    lines = sum(1 for key in order for line in parts[key].lines if line.strip())
-    summary = "%d definitions, %d lines, in %d crates" % (len(order), lines, len(by_crate))
+    summary, by_crate = summary_of(parts, order)
     if given.into:
         with open(given.into, "w", encoding="utf-8", newline="\n") as out:
             out.write("\n".join(page(parts, order, summary)) + "\n")

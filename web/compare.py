@@ -21,8 +21,8 @@ import time
 from node import Node
 from repository import CASES, EXAMPLES
 
-import make_cases
 import random_calls
+import try_cases
 from answers import NoProgram, Program
 from sdd.command import count, parser, start
 from sdd.model.files import BadInput
@@ -34,18 +34,6 @@ ON_CATALOGUE = ["check", "graph", "table", "advise"]
 def read(*path):
     with open(os.path.join(*path), "rb") as f:
         return f.read()
-
-
-def fronts(case):
-    """The files of each run of a case: those that are cut, once for each cut."""
-    kind, _, name = case.each.partition(" ")
-    if kind not in ("cut", "cut-byte"):
-        yield case.files
-        return
-    data = case.files[name]
-    pieces = data.splitlines(keepends=True) if kind == "cut" else [data[k:k + 1] for k in range(len(data))]
-    for k in range(len(pieces) + 1):
-        yield {**case.files, name: b"".join(pieces[:k])}
 
 
 class Comparison:
@@ -80,9 +68,8 @@ class Comparison:
         print("cases: the text of %d cases" % (want.count(b"\ncase ") + want.startswith(b"case ")))
 
     def calls(self):
-        for case in make_cases.read_all(make_cases.kept_texts()):
-            for files in fronts(case):
-                self.same("case " + case.name, "sdd1", case.words, files)
+        for name, words, files in try_cases.calls():
+            self.same("case " + name, "sdd1", words, files)
 
     def examples(self):
         for name in sorted(os.listdir(EXAMPLES)):

@@ -15,7 +15,8 @@ import time
 
 from repository import HERE, ROOT, commit
 
-from build_unproved import Refused, clang_of, kit_folder, plain_text, run
+from build_unproved import clang_of, plain_text
+from link_program import Refused, kit_folder, run
 from sdd.command import parser, start
 from sdd.model.files import BadInput
 
@@ -81,17 +82,14 @@ def main():
     unknown = [x for x in crates if not os.path.isfile(os.path.join(ROOT, "crates", x, "src", "main.rt"))]
     if unknown:
         raise BadInput("crates/%s is no program" % unknown[0])
-    try:
-        linker()                        # refused before the minutes that a crate takes
-        os.makedirs(asked.into, exist_ok=True)
-        for crate in crates:
-            begin, into, made_of = time.monotonic(), os.path.join(asked.into, crate + ".wasm"), commit()
-            build(crate, into)
-            with open(os.path.join(asked.into, crate + ".commit"), "w", encoding="utf-8") as f:
-                f.write(made_of + "\n")
-            print("%s: %d bytes, %.0f s" % (into, os.path.getsize(into), time.monotonic() - begin), flush=True)
-    except Refused as fault:
-        raise BadInput(str(fault)) from None
+    linker()                            # refused before the minutes that a crate takes
+    os.makedirs(asked.into, exist_ok=True)
+    for crate in crates:
+        begin, into, made_of = time.monotonic(), os.path.join(asked.into, crate + ".wasm"), commit()
+        build(crate, into)
+        with open(os.path.join(asked.into, crate + ".commit"), "w", encoding="utf-8") as f:
+            f.write(made_of + "\n")
+        print("%s: %d bytes, %.0f s" % (into, os.path.getsize(into), time.monotonic() - begin), flush=True)
 
 
 if __name__ == "__main__":

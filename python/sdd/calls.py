@@ -6,14 +6,15 @@
 
 CAT is a catalogue, WORK a workload (docs/FORMATS.md); `-` is standard input. The text is that of the program to the
 byte, and so is the status, but that `verify` ends with 1 where the report is not serializable. A refusal of a file is
-printed with its place there, marked, the cause, and what helps. With --json `check`, `verify` and `run` print JSON.
+printed with its place there, marked, the cause, and what helps. With --json all but `advise`, `inside` and `control` print
+JSON (`inside` always does).
 
-The program is that of --program (and --inside; for `robust` and `needs` the `sdd1_ask` beside it); else the proved one, where it is installed; else an unproved build;
-else the reference of this package, which needs Python alone and is slower. A line says which, but with --quiet.
+The program is that of --program (and --inside; for `robust` and `needs` the `sdd1_ask` beside it); else the proved one,
+where it is installed; else an unproved build; else the reference of this package, which needs Python alone and is slower. A
+line says which, but with --quiet.
 """
 import contextlib
 import difflib
-import json
 import os
 import shutil
 import subprocess
@@ -23,14 +24,13 @@ import tempfile
 from sdd.command import parser
 from sdd.explain.refusals import Given, print_refusal, refusal_of
 from sdd.explain.rules import WITHOUT_FILE
+from sdd.json_answers import SHOWN, as_json
 from sdd.model.files import BadInput
-from sdd.model.report import report_of
 from sdd.model.words import number_between
 from sdd.programs import add_program, asked_within, find_ask, find_programs, named, report_by, report_program
 
 NAMES = {"check": ["CAT"], "graph": ["CAT"], "table": ["CAT"], "advise": ["CAT"], "run": ["CAT", "WORK"], "plain": ["CAT", "WORK"],
          "inside": ["CAT", "WORK"], "robust": ["CAT"], "needs": ["CAT"], "verify": ["CAT", "WORK", "REPORT"], "control": ["FILE"], "make": ["SEED", "N"]}
-WITH_JSON = ("check", "verify", "run")
 QUESTIONS = ("robust", "needs")
 
 
@@ -41,7 +41,7 @@ def read_words(word):
     add_program(asked)
     asked.add_argument("--inside", metavar="COMMAND", help="a built `sdd1_inside`")
     asked.add_argument("--quiet", "-q", action="store_true", help="no line says which program it is")
-    if word in WITH_JSON:
+    if word in SHOWN:
         asked.add_argument("--json", action="store_true", help="print JSON")
     return asked.parse_args()
 
@@ -146,33 +146,3 @@ def put(text):
         report_by("write fault: " + WITHOUT_FILE["write fault"])
         return 7
     return 0
-
-
-# JSON.
-
-def as_json(word, text):
-    if word == "run":
-        shown = report_data(report_of("the report", text))
-    else:
-        shown = counts_of(text) if word == "check" else verdict_of(text)
-    return json.dumps(shown, ensure_ascii=False, indent=1) + "\n"
-
-
-def counts_of(text):
-    """What `ok tms 2 dms 1 ..` says."""
-    words = text.split()[1:]
-    return dict(zip(words[::2], map(int, words[1::2])))
-
-
-def verdict_of(text):
-    words = text.split()
-    return {"serializable": words[0] == "yes", **({"line": int(words[1])} if len(words) > 1 else {})}
-
-
-def report_data(report):
-    records = [{"class" if k == "cls" else k: v for k, v in x._asdict().items() if k not in ("place", "line") and v not in (None, ())} for x in report.records]
-    return {"records": records, "order": report.order,
-            "replies": {name: {"kind": x.kind, "queries": x.queries} for name, x in report.replies.items()},
-            "shipped": {name: {"values": v, "rows": r} for name, (v, r) in report.shipped.items()},
-            "pending": [{"txn": x.txn, "kind": x.kind, "words": x.words} for x in report.pending],
-            "copies": [{"at": at, "fragment": fragment, "rows": rows} for (at, fragment), rows in report.copies.items()]}

@@ -1,7 +1,7 @@
 """What `sdd --version` prints: the version, the commit where it is known, and which programs answer.
 
 The gate's script of installation, tools/install.sh, leaves a file beside the programs that says of which commit and by
-which kit they were built; tools/make_pyz.py leaves the commit in a file of the package.
+which kit they were built, and whose malloc they have; tools/make_pyz.py leaves the commit in a file of the package.
 """
 import os
 import shutil
@@ -12,6 +12,7 @@ from sdd import __version__
 from sdd.programs import PACKAGE, ROOT, built, found, named, own_command
 
 COMMIT = os.path.join(PACKAGE, "commit")        # in a package that isn't in a clone
+NAMES = ("sdd1", "sdd1_inside", "sdd1_ask")
 
 
 def output_of(*command):
@@ -43,7 +44,7 @@ def note_of(program):
 
 
 def line_of(name):
-    """Of one of both programs: where it is, whether it is proved, and of what it was built."""
+    """Of one of the programs: where it is, whether it is proved, and of what it was built."""
     words = found(name)
     if words is None:
         return "%s: %s" % (name, named(own_command("reference")))
@@ -57,5 +58,5 @@ def line_of(name):
 
 def version_lines():
     commit = commit_of_package()
-    return ["sdd %s%s" % (__version__, " (%s)" % commit if commit else ""), line_of("sdd1"), line_of("sdd1_inside"),
+    return ["sdd %s%s" % (__version__, " (%s)" % commit if commit else ""), *map(line_of, NAMES),
             "python: %s" % sys.version.split()[0]]

@@ -182,6 +182,16 @@ def report_of(path: str, text: str) -> Report:
     return report
 
 
+def plain_of(path: str, text: str) -> tuple[list[str], dict[str, Reply]]:
+    """The order and the replies that `plain` prints; PATH is the text's name in refusals."""
+    lines, report = Lines(path, text), Report()
+    report.order = lines.take().split(" ")[1:]
+    take_replies(lines, report)
+    if lines.take() != "end":
+        lines.fault("not the end of the replies")
+    return report.order, report.replies
+
+
 def take_replies(lines: Lines, report: Report) -> None:
     while lines.head() == "reply":
         name, kind = take_form(lines, "reply %s (ok|overflow|toomany)" % NAME, "a reply")

@@ -11,6 +11,7 @@ from typing import NamedTuple, Union
 MAX_DEPTH = 80
 CONTROL = re.compile("[\x00-\x08\x0b-\x1f\x7f]")
 BARE_KEY = re.compile("[A-Za-z0-9_-]+")
+LONGEST_NUMBER = 64          # letters; 64 bits with underscores have 40, and Python reads no 4,301 digits
 NUMBERS = [(re.compile(r"[+-]?(0|[1-9](_?[0-9])*)"), 10), (re.compile("0x[0-9A-Fa-f](_?[0-9A-Fa-f])*"), 16),
            (re.compile("0o[0-7](_?[0-7])*"), 8), (re.compile("0b[01](_?[01])*"), 2)]
 FLOAT = re.compile(r"[+-]?((0|[1-9](_?[0-9])*)(\.[0-9](_?[0-9])*)?([eE][+-]?[0-9](_?[0-9])*)?|inf|nan)")
@@ -243,7 +244,8 @@ class Reader:
         self.at += len(word)
         for form, base in NUMBERS:
             if form.fullmatch(word):
-                number = int(word.replace("_", ""), base)
+                is_long = base == 10 and len(word) > LONGEST_NUMBER
+                number = 2**63 if is_long else int(word.replace("_", ""), base)
                 if not -2**63 <= number < 2**63:
                     raise self.fault("a number has at most 64 bits", begin)
                 return number

@@ -46,16 +46,18 @@ def edges_of(text):
         yield kind, found.groups()[:-1], found.groups()[-1]
 
 
-def protocols_of(text):
-    """The lines of `table`: of each reader, fragment and writer the module and the protocol."""
-    made = {}
+def reads_of(text):
+    """The lines of `table`: reader, fragment, module, writer, protocol and block."""
     for line in text.splitlines():
         found = READ.fullmatch(line)
         if not found:
             raise BadInput("`table` printed no read: %s" % line)
-        reader, fragment, module, writer, protocol, _ = found.groups()
-        made[reader, writer, fragment] = module, protocol
-    return made
+        yield found.groups()
+
+
+def protocols_of(text):
+    """The lines of `table`: of each reader, fragment and writer the module and the protocol."""
+    return {(reader, writer, fragment): (module, protocol) for reader, fragment, module, writer, protocol, _ in reads_of(text)}
 
 
 class Graphviz:

@@ -64,6 +64,12 @@ def assembled(title, data, scripts, styles, more=""):
     return re.sub("@(TITLE|DATA|SCRIPT|STYLE|POLICY)@", lambda found: reported[found[1]], part("page.html")) + "\n", reported["POLICY"]
 
 
+def page_of(programs, catalogue, workload, title):
+    """The page of a run."""
+    page, _ = assembled(title, run_data(programs, catalogue, workload, title), SHOWN + ["start.js"], ["style.css"])
+    return page
+
+
 def name_of(workload):
     """A run's name: that of its file, or of its folder where the file is called `workload`."""
     folder, name = os.path.split(os.path.abspath(workload))
@@ -85,8 +91,7 @@ def main():
     asked = asked.parse_args()
     title = asked.title or name_of(asked.workload)
     programs = find_programs(asked.program, asked.inside)
-    data = run_data(programs, asked.catalogue, asked.workload, title)
-    page, _ = assembled(title, data, SHOWN + ["start.js"], ["style.css"])
+    page = page_of(programs, asked.catalogue, asked.workload, title)
     path = asked.into or os.path.join(tempfile.mkdtemp(prefix="sdd-"), title_of_file(title) + ".html")
     write_text(path, page)
     print(programs.named(), file=sys.stderr)
