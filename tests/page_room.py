@@ -27,12 +27,12 @@ RED = """(() => {
   const probe = document.createElement("i"), odd = [];
   probe.style.setProperty("color", "var(--bad)");
   document.body.append(probe);
-  const red = getComputedStyle(probe).color;
+  const red = getComputedStyle(probe).color, waits = view.run.dms.some(dm => (view.state.site(dm).heads || []).some(head => head.waits));
   probe.remove();
   for (const x of document.querySelectorAll("body *")) {
     const style = getComputedStyle(x), own = [...x.childNodes].some(y => y.nodeType === 3 && y.textContent.trim());
     const isRed = own && style.color === red && x.namespaceURI.endsWith("xhtml") || x instanceof SVGElement && x.tagName !== "g" && (style.fill === red && x.tagName === "text" || style.stroke === red);
-    if (isRed && (/\\b(Lost|REJECTED|reject|DOWN)\\b/.test(x.textContent) || !x.closest(".bad, .state, .wanted, .mark-wait, #waits, #graph"))) odd.push(x.textContent || x.tagName);
+    if (isRed && (/\\b(Lost|REJECTED|reject|DOWN)\\b/.test(x.textContent) || !x.closest(".bad, .state, .wanted, .mark-wait, #waits" + (waits ? ", #graph" : "")))) odd.push(x.textContent || x.tagName);
   }
   return odd;
 })()"""

@@ -54,10 +54,14 @@ def along(graph, strict=False):
     return order if len(order) == len(done) else None
 
 
+def only_reads(history, k):
+    return all(isinstance(s, Query) for s in history.done[k].txn.statements)
+
+
 def with_readers_placed(history, order):
     """The order with each transaction that only reads moved to a place at which its reply is explained, a strict one where there is one;
     those that change stay as they are."""
-    readers = {k for k in order if all(isinstance(s, Query) for s in history.done[k].txn.statements)}
+    readers = {k for k in order if only_reads(history, k)}
     writers = [k for k in order if k not in readers]
     wanted, passed = {}, 0                      # how many that change stand before a reader
     for k in order:
@@ -97,8 +101,10 @@ def best_place(history, k, writers, places, wanted):
 class Search:
     """Tries to place the transactions one after the other, each where it gives its reply.
 
-    The ones that may come next stand behind all of `edges`, and with `strict` they began before each that is left was over. A set of
-    transactions placed with the rows that they leave isn't tried again where it led nowhere. Of those of unknown outcome some may be left out.
+    The ones that may come next stand behind all of `edges`, and with `strict` they began before each that is left was over. One that only
+    reads is placed as soon as it gives its reply, and nothing else is tried there: an order that has it later still holds when it is moved
+    forward, since it changes nothing. A set of transactions placed with the rows that they leave isn't tried again where it led nowhere.
+    Of those of unknown outcome some may be left out.
     """
 
     def __init__(self, history, edges, strict, most):
@@ -111,6 +117,7 @@ class Search:
         self.ends = sorted(range(len(history.done)), key=lambda k: history.done[k].end)
         self.untils = sorted(range(history.sure), key=lambda k: history.done[k].until)
         self.tables, self.order, self.placed, self.code, self.dead = history.first_tables(), [], 0, 0, set()
+        self.readers = {k for k in range(history.sure) if only_reads(history, k)}
         self.narrowed = False               # whether some that might come next weren't tried
 
     def candidates(self):
@@ -119,10 +126,17 @@ class Search:
         if self.strict:
             limit = next((done[k].until for k in self.untils if not self.placed >> k & 1), NEVER)
         may = [k for k in left if self.before[k] & ~self.placed == 0 and done[k].begin <= limit]
+        at_once = next((k for k in may if k in self.readers and self.is_explained(k)), None)
+        if at_once is not None:
+            return iter([at_once])
         if not self.strict and len(may) > WINDOW:
             self.narrowed = True
             may = may[:WINDOW]
         return iter(may)
+
+    def is_explained(self, k):
+        self.steps += 1
+        return self.history.explain(k, self.tables) is not None
 
     def mark(self, changes):
         made = 0
