@@ -1,6 +1,6 @@
 """What a transaction may read and change: columns of the rows of relations from one key to another.
 
-Definition: docs/ISOLATION.md, "Transactions"; crates/sdd_robust_laws/specs/Accesses.antt.
+Definition: docs/ISOLATION.md, "Is snapshot isolation enough for yours?"; crates/sdd_robust_laws/specs/Accesses.antt.
 """
 from typing import NamedTuple
 

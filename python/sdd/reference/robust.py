@@ -2,8 +2,8 @@
 
 They are shown robust where none of them can be a pivot: one that misses the change of a first transaction, while a last
 one, which conflicts link with the first, misses its own. Else short runs are carried out, and that one is told whose
-replies and rows no order gives. Definition: docs/FORMATS.md, "What `sdd1_ask` prints"; crates/sdd_robust_laws/specs/
-Shown.antt, Runs.antt; crates/sdd_robust/specs/Candidates.antt, Trials.antt.
+replies and rows no order gives. Definition: docs/ISOLATION.md, "Is snapshot isolation enough for yours?";
+crates/sdd_robust_laws/specs/Shown.antt, Runs.antt.
 """
 from itertools import islice, permutations
 from typing import NamedTuple
